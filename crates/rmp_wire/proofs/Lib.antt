@@ -1,0 +1,9 @@
+pub mod Canon
+pub mod Examples
+pub mod Heads
+pub mod Lists
+pub mod Markers
+pub mod Spellings
+pub mod Taken
+pub mod Unique
+pub mod Whole

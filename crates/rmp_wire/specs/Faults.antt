@@ -1,0 +1,16 @@
+-- What a fault of a sink or a source shows.
+use Rattle.std.specs.Prelude.{◌≡◌, ℤ, Option, None}
+use Rattle.std.specs.declared.io.ErrorKind.{ErrorKind}
+use Rattle.rmp_wire.specs.declared.error.IoFault.{IoFault}
+
+-- `fault.kind()`
+abbrev pub fault_kind : IoFault → ErrorKind
+fault_kind fault = fault.kind
+
+-- `fault.raw_os_error()`
+abbrev pub fault_code : IoFault → Option ℤ
+fault_code fault = fault.os_error
+
+-- a fault of this kind that has no number of the system's
+abbrev pub IsPlain : ErrorKind → IoFault → Type 0
+IsPlain kind fault = (fault_kind fault ≡ kind) × (fault_code fault ≡ None)

@@ -1,0 +1,6 @@
+pub mod Faults
+pub mod Heads
+pub mod Msg
+pub mod Spelling
+pub mod Stored
+pub mod Taking

@@ -1,0 +1,101 @@
+-- How a message is spelled: in any widths, and canonically.
+use Rattle.std.specs.Prelude.{◌≡◌, ℕ, ◌<◌, List, [], ◌++◌, length, ⊤}
+use Rattle.std.specs.List.{AllByRecursion}
+use Rattle.rmp_wire.specs.declared.head.Head.{Head}
+use Rattle.rmp_wire.specs.declared.head.Head.TheVariants.{Nil, Truth, Whole, F32Bits, F64Bits, Text, Bin, Array, Map, Ext}
+use Rattle.rmp_wire.specs.Heads.{IsHead, canon_head, fits_head}
+use Rattle.rmp_wire.specs.Msg.{Msg, nil, truth, whole, float32, float64, text, bin, list, map, extension, Msgs, no_items, item, Pairs, no_pairs, pair, count, count_pairs}
+
+abbrev pub IsBytes : List ℕ → Type 0
+IsBytes bytes = AllByRecursion (λ b. b < 256) bytes
+
+-- bytes of which P holds, and then bytes of which Q does
+pub record Joined (P Q : List ℕ → Type 0) (whole : List ℕ) : Type 0 where
+  pub first : List ℕ
+  pub second : List ℕ
+  pub is_first : P first
+  pub is_second : Q second
+  pub is_whole : whole ≡ first ++ second
+
+-- the content of a text, of bytes and of an extension
+abbrev pub IsContent : List ℕ → List ℕ → Type 0
+IsContent s content = (content ≡ s) × IsBytes s
+
+-- These bytes spell the message: one of its heads, and then its content, or a spelling of each part in order.
+abbrev mutual
+  pub Spells : List ℕ → Msg → Type 0
+  Spells b nil = IsHead Nil b
+  Spells b (truth t) = IsHead (Truth t) b
+  Spells b (whole z) = IsHead (Whole z) b
+  Spells b (float32 n) = IsHead (F32Bits n) b
+  Spells b (float64 n) = IsHead (F64Bits n) b
+  Spells b (text s) = Joined (IsHead (Text (length s))) (IsContent s) b
+  Spells b (bin s) = Joined (IsHead (Bin (length s))) (IsContent s) b
+  Spells b (list ms) = Joined (IsHead (Array (count ms))) (λ rest. SpellsAll rest ms) b
+  Spells b (map ps) = Joined (IsHead (Map (count_pairs ps))) (λ rest. SpellsPairs rest ps) b
+  Spells b (extension tag s) = Joined (IsHead (Ext (length s) tag)) (IsContent s) b
+
+  pub SpellsAll : List ℕ → Msgs → Type 0
+  SpellsAll b no_items = b ≡ []
+  SpellsAll b (item m ms) = Joined (λ first. Spells first m) (λ rest. SpellsAll rest ms) b
+
+  pub SpellsPairs : List ℕ → Pairs → Type 0
+  SpellsPairs b no_pairs = b ≡ []
+  SpellsPairs b (pair k v ps) = Joined (λ first. Spells first k) (Joined (λ second. Spells second v) (λ rest. SpellsPairs rest ps)) b
+
+-- The spelling whose every head is the canonical one.
+abbrev mutual
+  pub canon : Msg → List ℕ
+  canon nil = canon_head Nil
+  canon (truth t) = canon_head (Truth t)
+  canon (whole z) = canon_head (Whole z)
+  canon (float32 n) = canon_head (F32Bits n)
+  canon (float64 n) = canon_head (F64Bits n)
+  canon (text s) = canon_head (Text (length s)) ++ s
+  canon (bin s) = canon_head (Bin (length s)) ++ s
+  canon (list ms) = canon_head (Array (count ms)) ++ canon_all ms
+  canon (map ps) = canon_head (Map (count_pairs ps)) ++ canon_pairs ps
+  canon (extension tag s) = canon_head (Ext (length s) tag) ++ s
+
+  pub canon_all : Msgs → List ℕ
+  canon_all no_items = []
+  canon_all (item m ms) = canon m ++ canon_all ms
+
+  pub canon_pairs : Pairs → List ℕ
+  canon_pairs no_pairs = []
+  canon_pairs (pair k v ps) = canon k ++ (canon v ++ canon_pairs ps)
+
+-- Each number, length, tag and byte is in the range that a head or a byte has room for.
+abbrev mutual
+  pub Fits : Msg → Type 0
+  Fits nil = fits_head Nil
+  Fits (truth t) = fits_head (Truth t)
+  Fits (whole z) = fits_head (Whole z)
+  Fits (float32 n) = fits_head (F32Bits n)
+  Fits (float64 n) = fits_head (F64Bits n)
+  Fits (text s) = fits_head (Text (length s)) × IsBytes s
+  Fits (bin s) = fits_head (Bin (length s)) × IsBytes s
+  Fits (list ms) = fits_head (Array (count ms)) × FitsAll ms
+  Fits (map ps) = fits_head (Map (count_pairs ps)) × FitsPairs ps
+  Fits (extension tag s) = fits_head (Ext (length s) tag) × IsBytes s
+
+  pub FitsAll : Msgs → Type 0
+  FitsAll no_items = ⊤
+  FitsAll (item m ms) = Fits m × FitsAll ms
+
+  pub FitsPairs : Pairs → Type 0
+  FitsPairs no_pairs = ⊤
+  FitsPairs (pair k v ps) = Fits k × Fits v × FitsPairs ps
+
+-- what a head of the message says
+abbrev pub head_of : Msg → Head
+head_of nil = Nil
+head_of (truth t) = Truth t
+head_of (whole z) = Whole z
+head_of (float32 n) = F32Bits n
+head_of (float64 n) = F64Bits n
+head_of (text s) = Text (length s)
+head_of (bin s) = Bin (length s)
+head_of (list ms) = Array (count ms)
+head_of (map ps) = Map (count_pairs ps)
+head_of (extension tag s) = Ext (length s) tag

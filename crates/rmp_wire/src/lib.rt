@@ -1,0 +1,10 @@
+//! The bytes of MessagePack: markers, heads, and what stands behind them.
+#![tactic(auto)]
+
+pub mod error;
+pub mod head;
+pub mod marker;
+
+pub use error::{IoFault, MarkerReadError, ValueReadError, ValueWriteError};
+pub use head::Head;
+pub use marker::Marker;

@@ -1,0 +1,147 @@
+//! The first byte of a message.
+ghost use Rattle.std.specs.Prelude.{◌≡◌};
+ghost use Rattle.rmp_wire.specs.Taking.{marker_of, byte_of};
+
+/// What the first byte of a message says (the MessagePack specification's "Formats", "Overview").
+///
+/// The payload of the five fixed markers is the number or length that the byte itself holds.
+#[derive(Clone, Copy, Debug, PartialEq, Eq)]
+pub enum Marker {
+    /// A number from 0 to 127.
+    FixPos(u8),
+    /// A number from -32 to -1.
+    FixNeg(i8),
+    /// A map of up to 15 pairs.
+    FixMap(u8),
+    /// A list of up to 15 messages.
+    FixArray(u8),
+    /// A text of up to 31 bytes.
+    FixStr(u8),
+    Null,
+    /// The byte c1, which opens no message.
+    Reserved,
+    False,
+    True,
+    Bin8,
+    Bin16,
+    Bin32,
+    Ext8,
+    Ext16,
+    Ext32,
+    F32,
+    F64,
+    U8,
+    U16,
+    U32,
+    U64,
+    I8,
+    I16,
+    I32,
+    I64,
+    FixExt1,
+    FixExt2,
+    FixExt4,
+    FixExt8,
+    FixExt16,
+    Str8,
+    Str16,
+    Str32,
+    Array16,
+    Array32,
+    Map16,
+    Map32,
+}
+
+impl Marker {
+    /// The marker that a byte is.
+    #[tactic(auto, unfolding(crate::specs::Taking::marker_of))]
+    pub fn from_u8(byte: u8) -> Marker
+        ensures { result ≡ marker_of byte }
+    {
+        match byte {
+            0x00..=0x7f => Marker::FixPos(byte),
+            0x80..=0x8f => Marker::FixMap(byte - 0x80),
+            0x90..=0x9f => Marker::FixArray(byte - 0x90),
+            0xa0..=0xbf => Marker::FixStr(byte - 0xa0),
+            0xc0 => Marker::Null,
+            0xc1 => Marker::Reserved,
+            0xc2 => Marker::False,
+            0xc3 => Marker::True,
+            0xc4 => Marker::Bin8,
+            0xc5 => Marker::Bin16,
+            0xc6 => Marker::Bin32,
+            0xc7 => Marker::Ext8,
+            0xc8 => Marker::Ext16,
+            0xc9 => Marker::Ext32,
+            0xca => Marker::F32,
+            0xcb => Marker::F64,
+            0xcc => Marker::U8,
+            0xcd => Marker::U16,
+            0xce => Marker::U32,
+            0xcf => Marker::U64,
+            0xd0 => Marker::I8,
+            0xd1 => Marker::I16,
+            0xd2 => Marker::I32,
+            0xd3 => Marker::I64,
+            0xd4 => Marker::FixExt1,
+            0xd5 => Marker::FixExt2,
+            0xd6 => Marker::FixExt4,
+            0xd7 => Marker::FixExt8,
+            0xd8 => Marker::FixExt16,
+            0xd9 => Marker::Str8,
+            0xda => Marker::Str16,
+            0xdb => Marker::Str32,
+            0xdc => Marker::Array16,
+            0xdd => Marker::Array32,
+            0xde => Marker::Map16,
+            0xdf => Marker::Map32,
+            0xe0..=0xff => Marker::FixNeg(byte.cast_signed()),
+        }
+    }
+
+    /// The byte of a marker. A payload out of its range gives its low bits.
+    #[tactic(auto, unfolding(crate::specs::Taking::byte_of))]
+    pub fn to_u8(self) -> u8
+        ensures { result ≡ byte_of self }
+    {
+        match self {
+            Marker::FixPos(n) => n % 0x80,
+            Marker::FixNeg(n) => 0xe0 + n.cast_unsigned() % 0x20,
+            Marker::FixMap(n) => 0x80 + n % 0x10,
+            Marker::FixArray(n) => 0x90 + n % 0x10,
+            Marker::FixStr(n) => 0xa0 + n % 0x20,
+            Marker::Null => 0xc0,
+            Marker::Reserved => 0xc1,
+            Marker::False => 0xc2,
+            Marker::True => 0xc3,
+            Marker::Bin8 => 0xc4,
+            Marker::Bin16 => 0xc5,
+            Marker::Bin32 => 0xc6,
+            Marker::Ext8 => 0xc7,
+            Marker::Ext16 => 0xc8,
+            Marker::Ext32 => 0xc9,
+            Marker::F32 => 0xca,
+            Marker::F64 => 0xcb,
+            Marker::U8 => 0xcc,
+            Marker::U16 => 0xcd,
+            Marker::U32 => 0xce,
+            Marker::U64 => 0xcf,
+            Marker::I8 => 0xd0,
+            Marker::I16 => 0xd1,
+            Marker::I32 => 0xd2,
+            Marker::I64 => 0xd3,
+            Marker::FixExt1 => 0xd4,
+            Marker::FixExt2 => 0xd5,
+            Marker::FixExt4 => 0xd6,
+            Marker::FixExt8 => 0xd7,
+            Marker::FixExt16 => 0xd8,
+            Marker::Str8 => 0xd9,
+            Marker::Str16 => 0xda,
+            Marker::Str32 => 0xdb,
+            Marker::Array16 => 0xdc,
+            Marker::Array32 => 0xdd,
+            Marker::Map16 => 0xde,
+            Marker::Map32 => 0xdf,
+        }
+    }
+}
