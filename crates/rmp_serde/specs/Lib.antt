@@ -1,0 +1,5 @@
+pub mod ReadErrors
+pub mod TreeFalls
+pub mod View
+pub mod Words
+pub mod WriteErrors

@@ -1,0 +1,6 @@
+//! Reading.
+mod error;
+mod text;
+
+pub use error::Error;
+pub use text::{OwnText, Text};

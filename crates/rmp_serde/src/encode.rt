@@ -1,0 +1,4 @@
+//! Writing.
+mod error;
+
+pub use error::Error;

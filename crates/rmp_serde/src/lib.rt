@@ -1,0 +1,9 @@
+//! MessagePack for typed values, with the one canonical spelling.
+#![tactic(auto)]
+
+pub mod decode;
+pub mod encode;
+mod value;
+
+pub use rmp_wire::Marker;
+pub use value::{Kind, Value};

@@ -1,0 +1,51 @@
+//! A message of any kind, as a tree.
+mod kind;
+
+pub use kind::Kind;
+use std::marker::Model;
+
+/// A message of any kind, as a tree.
+///
+/// Contracts see it as the message tree itself, every length and number of which has room in a head (`Fits`).
+#[cycle(value)]
+#[derive(Drop)]
+pub struct Value {
+    pub(crate) node: Node,
+}
+
+#[cycle(value)]
+#[derive(Drop)]
+pub(crate) enum Node {
+    Nil,
+    Truth(bool),
+    Whole(i128),
+    F32(u32),
+    F64(u64),
+    Text(String),
+    Bytes(Vec<u8>),
+    List(Vec<Value>),
+    Map(Vec<(Value, Value)>),
+    Ext(i8, Vec<u8>),
+}
+
+impl Model for Value {
+    ghost use Rattle.rmp_wire.specs.Msg.{Msg, depth};
+    ghost use Rattle.rmp_wire.specs.Spelling.{Fits};
+    ghost use Rattle.rmp_wire.specs.Stored.{msg_code};
+
+    ghost Value = { Msg };
+
+    ghost coded = { msg_code };
+
+    ghost use Rattle.rmp_serde.specs.View.{node_view};
+
+    ghost view = { λ a. node_view a.node };
+
+    ghost invariant = { λ a. Fits (node_view a.node) };
+
+    ghost size = { depth };
+
+    ghost use Rattle.rmp_serde.specs.TreeFalls.{falls};
+
+    ghost size_decreases = { λ a h. falls a.node };
+}
