@@ -3,6 +3,7 @@
 
 pub mod decode;
 pub mod encode;
+pub mod laws;
 mod value;
 
 pub use rmp_wire::Marker;

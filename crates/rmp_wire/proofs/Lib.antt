@@ -1,4 +1,5 @@
 pub mod Canon
+pub mod Canonical
 pub mod Examples
 pub mod Heads
 pub mod Lists

@@ -1,3 +1,4 @@
+pub mod Canonical
 pub mod Faults
 pub mod Heads
 pub mod Msg

@@ -1,0 +1,39 @@
+//! The laws of the grammar, over the definitions alone. Each stands on the contract of a function that does nothing.
+//!
+//! A caller uses a law by calling its function: what the call ensures is the law, for every argument.
+
+ghost use Rattle.std.specs.Prelude.{◌≡◌, ◌≤◌, ◌↔◌, ℕ, List, ◌++◌, length};
+ghost use Rattle.rmp_wire.specs.declared.head.Head.{Head};
+ghost use Rattle.rmp_wire.specs.Heads.{IsHead, canon_head, fits_head};
+ghost use Rattle.rmp_wire.specs.Canonical.{IsCanonicalHead, IsCanonical};
+ghost use Rattle.rmp_wire.specs.Msg.{Msg};
+ghost use Rattle.rmp_wire.specs.Spelling.{Spells, canon, Fits, IsBytes};
+
+/// No head begins a different head: where two stand at the beginning of one input, they are the same.
+pub fn no_head_begins_another()
+    ensures { (h k : Head) (a b x y : List ℕ) → IsHead h a → IsHead k b → a ++ x ≡ b ++ y → (h ≡ k) × (a ≡ b) × (x ≡ y) }
+{}
+
+/// At most one beginning of an input spells a message, whatever follows it, and it spells one tree.
+pub fn at_most_one_message()
+    ensures { (a b x y : List ℕ) (m n : Msg) → Spells a m → Spells b n → a ++ x ≡ b ++ y → (a ≡ b) × (m ≡ n) × (x ≡ y) }
+{}
+
+/// The table of canonical heads gives the one head that no other is shorter than, and of a number from 0 on the one
+/// without a sign.
+pub fn canonical_head()
+    ensures { (h : Head) (a : List ℕ) → IsCanonicalHead h a ↔ (fits_head h × (a ≡ canon_head h)) }
+{}
+
+/// Each tree that fits has exactly one canonical spelling. It is a spelling of the tree, and no spelling is shorter.
+pub fn canonical_spelling()
+    ensures one { (b : List ℕ) (m : Msg) → IsCanonical b m ↔ (Fits m × (b ≡ canon m)) }
+    ensures spells { (m : Msg) → Fits m → Spells (canon m) m }
+    ensures least { (b : List ℕ) (m : Msg) → Spells b m → length (canon m) ≤ length b }
+{}
+
+/// What is spelled fits, and is spelled by bytes.
+pub fn spelled_fits()
+    ensures fits { (b : List ℕ) (m : Msg) → Spells b m → Fits m }
+    ensures bytes { (b : List ℕ) (m : Msg) → Spells b m → IsBytes b }
+{}
