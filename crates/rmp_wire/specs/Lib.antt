@@ -2,6 +2,8 @@ pub mod Canonical
 pub mod Faults
 pub mod Heads
 pub mod Msg
+pub mod Settings
 pub mod Spelling
 pub mod Stored
 pub mod Taking
+pub mod Types
