@@ -54,9 +54,11 @@ pub enum Marker {
 
 impl Marker {
     /// The marker that a byte is.
-    #[tactic(auto, unfolding(crate::specs::Taking::marker_of))]
+    #[tactic(auto, unfolding(crate::specs::Taking::marker_of, crate::specs::Taking::byte_of))]
     pub fn from_u8(byte: u8) -> Marker
-        ensures { result ≡ marker_of byte }
+        ensures marker { result ≡ marker_of byte }
+        // `to_u8` gives the byte back.
+        ensures round { byte_of result ≡ byte }
     {
         match byte {
             0x00..=0x7f => Marker::FixPos(byte),
