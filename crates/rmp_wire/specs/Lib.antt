@@ -4,3 +4,5 @@ pub mod Msg
 pub mod Spelling
 pub mod Stored
 pub mod Taking
+pub mod Sinks
+pub mod Writing
