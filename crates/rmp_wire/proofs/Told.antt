@@ -1,14 +1,14 @@
 -- What follows from what a sink was told, and how writes of pieces join.
-use Rattle.std.proofs.Common.{◌≡◌, ◌≢◌, ℕ, zero, suc, ◌≤◌, ◌+◌, ◌-◌, ◌<◌, List, [], ◌∷◌, ◌++◌, length, take, drop, Option, None, Some, refl, sym, ◌∙◌, ap, subst, arith, append_assoc, append-nil}
+use Rattle.std.proofs.Common.{◌≡◌, ◌≢◌, ℕ, zero, suc, ◌≤◌, ◌+◌, ◌-◌, ◌<◌, List, length, take, drop, Option, refl, sym, subst, arith}
 use Rattle.std.proofs.Math.Seq.{take-add}
-use Rattle.std.proofs.lemmas.List.{take-append-drop, take_rest, length-append, length-take}
+use Rattle.std.proofs.lemmas.List.{take-append-drop, take_rest, length-take}
 use Rattle.std.proofs.lemmas.Bool.Decides.{nat_tests}
-use Rattle.std.specs.Io.KnownBytes.{Appends, Keeps}
-use Rattle.std.proofs.KnownBytes.{Appends-trans, Appends-kept}
-use Rattle.std.specs.Prelude.{Bool, Result, Ok, Err}
+use Rattle.std.specs.Io.KnownBytes.{Appends}
+use Rattle.std.proofs.KnownBytes.{Appends-trans}
+use Rattle.std.specs.Prelude.{Bool, Ok, Err}
 use Rattle.rmp_wire.specs.declared.error.IoFault.{IoFault}
 use Rattle.rmp_wire.specs.declared.error.ValueWriteError.{ValueWriteError}
-use Rattle.rmp_wire.specs.declared.error.ValueWriteError.TheVariants.{InvalidMarkerWrite, InvalidDataWrite, OutOfMemory}
+use Rattle.rmp_wire.specs.declared.error.ValueWriteError.TheVariants.{InvalidDataWrite}
 use Rattle.rmp_wire.specs.Sinks.{next_fault, stopped_after, StopsAfter, PutsPart, Puts}
 
 -- a count moves at a fault

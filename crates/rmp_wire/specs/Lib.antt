@@ -6,3 +6,4 @@ pub mod Stored
 pub mod Taking
 pub mod Sinks
 pub mod Writing
+pub mod SliceSink

@@ -9,4 +9,4 @@ pub mod sink;
 pub use error::{IoFault, MarkerReadError, ValueReadError, ValueWriteError};
 pub use head::Head;
 pub use marker::Marker;
-pub use sink::{Sink, SinkFault};
+pub use sink::{Sink, SinkFault, SliceSink};

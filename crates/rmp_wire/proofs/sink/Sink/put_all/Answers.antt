@@ -1,4 +1,4 @@
-use Rattle.std.proofs.Common.{◌+◌, length-take, length-drop, arith, ap, ◌∙◌}
+use Rattle.std.proofs.Common.{length-take, length-drop, arith, ap, ◌∙◌}
 use Rattle.rmp_wire.specs.Sinks.{next_fault}
 use Rattle.rmp_wire.proofs.Told.{next_differs, take_further, take_same, part_of_take, puts_part, puts_fault}
 use Rattle.std.proofs.KnownBytes.{Appends-kept}
