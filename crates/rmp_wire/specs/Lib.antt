@@ -7,3 +7,6 @@ pub mod Spelling
 pub mod Stored
 pub mod Taking
 pub mod Types
+pub mod Sinks
+pub mod Writing
+pub mod SliceSink
