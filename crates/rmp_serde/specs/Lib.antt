@@ -1,3 +1,4 @@
+pub mod Parts
 pub mod ReadErrors
 pub mod TreeFalls
 pub mod View

@@ -6,4 +6,4 @@ pub mod encode;
 mod value;
 
 pub use rmp_wire::Marker;
-pub use value::{Kind, Value};
+pub use value::{Kind, Value, ValueRef};

@@ -1,7 +1,9 @@
 //! A message of any kind, as a tree.
 mod kind;
+mod reference;
 
 pub use kind::Kind;
+pub use reference::ValueRef;
 use std::marker::Model;
 
 /// A message of any kind, as a tree.
