@@ -1,8 +1,8 @@
 -- The parts of a tree whose items or pairs lie in a vector.
-use Rattle.std.proofs.Common.{ℕ, ◌≡◌, ◌∙◌, ap, ◌<◌, ◌≤◌, List, length, get_or, Some, None, refl}
+use Rattle.std.proofs.Common.{ℕ, zero, suc, ◌≡◌, ◌∙◌, ap, ◌<◌, ◌≤◌, List, [], ◌∷◌, length, get_or, Some, None, refl, arith}
 use Rattle.std.specs.Prelude.{slice_get}
 use Rattle.std.proofs.lemmas.Option.{slice_get_read, slice_get_past}
-use Rattle.rmp_wire.specs.Msg.{Msg, count, count_pairs, items_of, pairs_of, msgs, pairs}
+use Rattle.rmp_wire.specs.Msg.{Msg, items_of, pairs_of, msgs, pairs, depth, depth_all, depth_pairs}
 use Rattle.rmp_wire.proofs.Lists.{items_of-msgs, pairs_of-pairs, count-msgs, count_pairs-pairs}
 
 pub item_at : (xs : List Msg) (i : ℕ) (x : Msg) → i < length xs → x ≡ get_or xs i x → slice_get (items_of (msgs xs)) i ≡ Some x
@@ -18,3 +18,20 @@ pub pair_past : (ps : List (Msg × Msg)) (i : ℕ) → length ps ≤ i → slice
 pair_past ps i h = ap (λ qs. slice_get qs i) (pairs_of-pairs ps) ∙ slice_get_past ps i h
 
 pub ruleset counts = (count-msgs, count_pairs-pairs)
+
+-- ---- a part is no deeper than all of them
+
+pub item_depth : (xs : List Msg) (i : ℕ) (x : Msg) → i < length xs → x ≡ get_or xs i x → depth x ≤ depth_all (msgs xs)
+item_depth [] i x h e = absurd (omega arith)
+item_depth (y ∷ ys) zero x h e = rw e (omega arith)
+item_depth (y ∷ ys) (suc i) x h e = omega (arith, item_depth ys i x (omega arith) e)
+
+pub key_depth : (ps : List (Msg × Msg)) (i : ℕ) (d : Msg × Msg) → i < length ps → depth (get_or ps i d).0 ≤ depth_pairs (pairs ps)
+key_depth [] i d h = absurd (omega arith)
+key_depth (q ∷ qs) zero d h = omega arith
+key_depth (q ∷ qs) (suc i) d h = omega (arith, key_depth qs i d (omega arith))
+
+pub value_depth : (ps : List (Msg × Msg)) (i : ℕ) (d : Msg × Msg) → i < length ps → depth (get_or ps i d).1 ≤ depth_pairs (pairs ps)
+value_depth [] i d h = absurd (omega arith)
+value_depth (q ∷ qs) zero d h = omega arith
+value_depth (q ∷ qs) (suc i) d h = omega (arith, value_depth qs i d (omega arith))

@@ -1,3 +1,5 @@
+pub mod Equal
+pub mod EqualLaws
 pub mod Parts
 pub mod ReadErrors
 pub mod TreeFalls

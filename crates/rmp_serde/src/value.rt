@@ -1,4 +1,5 @@
 //! A message of any kind, as a tree.
+mod equal;
 mod kind;
 mod reference;
 
