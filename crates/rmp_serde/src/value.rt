@@ -52,3 +52,4 @@ impl Model for Value {
 
     ghost size_decreases = { λ a h. falls a.node };
 }
+

@@ -1,0 +1,60 @@
+-- How the writes of a tree's parts join.
+use Rattle.std.proofs.Common.{◌≡◌, ℕ, ◌+◌, ◌<◌, List, [], ◌∷◌, ◌++◌, length, take, drop, Option, refl, sym, ◌∙◌, ap, subst, arith, append_assoc}
+use Rattle.std.proofs.lemmas.List.{length-append}
+use Rattle.std.specs.Io.KnownBytes.{Appends}
+use Rattle.std.proofs.KnownBytes.{Appends-trans}
+use Rattle.std.specs.Prelude.{Bool, Result, Ok, Err}
+use Rattle.rmp_wire.specs.declared.error.ValueWriteError.{ValueWriteError}
+use Rattle.rmp_wire.specs.declared.error.ValueWriteError.TheVariants.{InvalidMarkerWrite, InvalidDataWrite, OutOfMemory}
+use Rattle.rmp_wire.specs.Sinks.{StopsAfter, Puts}
+use Rattle.rmp_serde.specs.TreeWrites.{StopsWithin, TakesPart, TakesTree}
+
+part_of : {A : Type 0} {m : Bool} {bytes : List ℕ} {a b : Option (List ℕ)} {f g : ℕ} {e : ValueWriteError} → TakesPart m bytes a b f g e → TakesTree {A = A} m bytes a b f g (Err e)
+part_of p = record { whole = tt; sound = tt; stops = p }
+
+all_of : {A : Type 0} {m : Bool} {bytes : List ℕ} {a b : Option (List ℕ)} {f g : ℕ} {u : A} → Appends a b bytes → g ≡ f → TakesTree m bytes a b f g (Ok u)
+all_of p h = record { whole = p; sound = h; stops = tt }
+
+within : (m : Bool) (f g : ℕ) (part : List ℕ) (e : ValueWriteError) → StopsAfter m f g part e → StopsWithin m f g part e
+within m f g part (InvalidMarkerWrite fault) c = c.1
+within m f g part (InvalidDataWrite fault) c = c
+within m f g part OutOfMemory c = c
+
+-- a write of one item is a write of a tree
+pub tree_of_puts : {A : Type 0} {m : Bool} {bytes : List ℕ} {a b : Option (List ℕ)} {f g : ℕ} {r : Result A ValueWriteError} → Puts m bytes a b f g r → TakesTree m bytes a b f g r
+tree_of_puts {r = Ok u} p = all_of p.whole p.sound
+tree_of_puts {m} {f} {g} {r = Err e} p =
+    part_of (record { part = p.stops.part; rest = p.stops.rest; split = p.stops.split; appended = p.stops.appended; cause = within m f g p.stops.part e p.stops.cause })
+
+-- the same write, of bytes that are equal
+pub takes_as : {A : Type 0} {m : Bool} {bs cs : List ℕ} {a b : Option (List ℕ)} {f g : ℕ} {r : Result A ValueWriteError} → bs ≡ cs → TakesTree m bs a b f g r → TakesTree m cs a b f g r
+takes_as {m} {a} {b} {f} {g} {r} e p = subst (λ l. TakesTree m l a b f g r) e p
+
+later : (m : Bool) (f g h : ℕ) (bs part : List ℕ) (e : ValueWriteError) → g ≡ f → StopsWithin m g h part e → StopsWithin m f h (bs ++ part) e
+later m f g h bs part (InvalidMarkerWrite fault) same c = λ q. c (q ∙ sym same)
+later m f g h bs part (InvalidDataWrite fault) same c = (omega (arith, length-append bs part), λ q. c.1 (q ∙ sym same))
+later m f g h bs part OutOfMemory same c = (c.0 ∙ same, c.1)
+
+-- one part was taken whole, and then another was written
+pub takes_then : {A B : Type 0} {m : Bool} {bs cs : List ℕ} {a b c : Option (List ℕ)} {f g h : ℕ} {u : B} {r : Result A ValueWriteError}
+    → TakesTree m bs a b f g (Ok u) → TakesTree m cs b c g h r → TakesTree m (bs ++ cs) a c f h r
+takes_then {m} {bs} {cs} {a} {b} {c} {f} {g} {h} {r = Ok u} p q = all_of (Appends-trans a b c bs cs p.whole q.whole) (q.sound ∙ p.sound)
+takes_then {m} {bs} {cs} {a} {b} {c} {f} {g} {h} {r = Err e} p q =
+    part_of (record {
+      part = bs ++ q.stops.part;
+      rest = q.stops.rest;
+      split = ap (λ l. bs ++ l) q.stops.split ∙ sym (append_assoc bs q.stops.part q.stops.rest);
+      appended = Appends-trans a b c bs q.stops.part p.whole q.stops.appended;
+      cause = later m f g h bs q.stops.part e p.sound q.stops.cause;
+    })
+
+-- one part was not taken whole, and more was to come
+pub takes_stop : {A B : Type 0} {m : Bool} {bs : List ℕ} {a b : Option (List ℕ)} {f g : ℕ} {e : ValueWriteError} (cs : List ℕ) → TakesTree {A = A} m bs a b f g (Err e) → TakesTree {A = B} m (bs ++ cs) a b f g (Err e)
+takes_stop cs p =
+    part_of (record {
+      part = p.stops.part;
+      rest = p.stops.rest ++ cs;
+      split = ap (λ l. l ++ cs) p.stops.split ∙ append_assoc p.stops.part p.stops.rest cs;
+      appended = p.stops.appended;
+      cause = p.stops.cause;
+    })
