@@ -2,6 +2,7 @@
 mod equal;
 mod kind;
 mod reference;
+mod write;
 
 pub use kind::Kind;
 pub use reference::ValueRef;
