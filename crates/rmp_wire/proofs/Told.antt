@@ -11,7 +11,7 @@ use Rattle.rmp_wire.specs.declared.error.ValueWriteError.{ValueWriteError}
 use Rattle.rmp_wire.specs.declared.error.ValueWriteError.TheVariants.{InvalidDataWrite}
 use Rattle.rmp_wire.specs.Sinks.{next_fault, stopped_after, StopsAfter, PutsPart, Puts}
 
--- a count moves at a fault
+-- a count changes at a fault
 pub next_differs : (n m : ℕ) → m ≡ next_fault n → m ≢ n
 next_differs n m e h = omega (arith, e, h)
 
@@ -41,13 +41,13 @@ pub part_of_take : (m : Bool) (bytes : List ℕ) (a b : Option (List ℕ)) (f g 
 part_of_take m bytes a b f g i e p cause = record { part = take i bytes; rest = drop i bytes; split = sym (take-append-drop i bytes); appended = p; cause = cause }
 
 -- a fault after so many bytes
-pub stops_at : (m : Bool) (bytes : List ℕ) (f g i : ℕ) (fault : IoFault) → i ≤ length bytes → g ≢ f → StopsAfter m f g (take i bytes) (stopped_after i fault)
+pub stops_at : (m : Bool) (bytes : List ℕ) (f g i : ℕ) (fault : IoFault) → i ≤ length bytes → g ≡ next_fault f → StopsAfter m f g (take i bytes) (stopped_after i fault)
 stops_at m bytes f g zero fault h moved = (refl, moved)
 stops_at m bytes f g (suc i) fault h moved =
     let is : InvalidDataWrite fault ≡ stopped_after (suc i) fault = grind (arith, nat_tests) in
     let some : 0 < length (take (suc i) bytes) = omega (arith, length-take (suc i) bytes) in
     subst (StopsAfter m f g (take (suc i) bytes)) is (some, moved)
 
-pub puts_fault : {A : Type 0} (m : Bool) (bytes : List ℕ) (a b : Option (List ℕ)) (f g i : ℕ) (fault : IoFault) (e : ValueWriteError) → i ≤ length bytes → Appends a b (take i bytes) → g ≢ f → e ≡ stopped_after i fault
+pub puts_fault : {A : Type 0} (m : Bool) (bytes : List ℕ) (a b : Option (List ℕ)) (f g i : ℕ) (fault : IoFault) (e : ValueWriteError) → i ≤ length bytes → Appends a b (take i bytes) → g ≡ next_fault f → e ≡ stopped_after i fault
     → Puts {A = A} m bytes a b f g (Err e)
 puts_fault m bytes a b f g i fault e h p moved is = puts_part (part_of_take m bytes a b f g i e p (subst (StopsAfter m f g (take i bytes)) (sym is) (stops_at m bytes f g i fault h moved)))

@@ -11,7 +11,7 @@ use Rattle.rmp_wire.specs.declared.head.Head.{Head}
 use Rattle.rmp_wire.specs.declared.head.Head.TheVariants.{Nil, Truth, Whole, F32Bits, F64Bits, Text, Bin, Array, Map, Ext}
 use Rattle.std.proofs.lemmas.Bool.Decides.{nat_tests}
 use Rattle.std.proofs.Common.{true, false, pos, negsuc}
-use Rattle.rmp_wire.specs.Sinks.{StopsAfter, Puts}
+use Rattle.rmp_wire.specs.Sinks.{next_fault, StopsAfter, Puts}
 use Rattle.rmp_wire.proofs.Told.{puts_done, puts_part}
 
 -- the same write, of bytes that are equal
@@ -20,8 +20,8 @@ puts_as {m} {a} {b} {f} {g} {r} e p = subst (λ l. Puts m l a b f g r) e p
 
 -- why a second piece stopped is why both did
 stops_later : (m : Bool) (f g h : ℕ) (bs part : List ℕ) (e : ValueWriteError) → 0 < length bs → g ≡ f → StopsAfter m g h part e → StopsAfter m f h (bs ++ part) (past_first e)
-stops_later m f g h bs part (InvalidMarkerWrite fault) some same c = (omega (arith, length-append bs part), λ q. c.1 (q ∙ sym same))
-stops_later m f g h bs part (InvalidDataWrite fault) some same c = (omega (arith, length-append bs part), λ q. c.1 (q ∙ sym same))
+stops_later m f g h bs part (InvalidMarkerWrite fault) some same c = (omega (arith, length-append bs part), c.1 ∙ ap next_fault same)
+stops_later m f g h bs part (InvalidDataWrite fault) some same c = (omega (arith, length-append bs part), c.1 ∙ ap next_fault same)
 stops_later m f g h bs part OutOfMemory some same c = (c.0 ∙ same, c.1)
 
 -- two pieces were taken whole, one after the other

@@ -1,5 +1,5 @@
 -- What a sink does with the bytes that it is given.
-use Rattle.std.specs.Prelude.{◌≡◌, ◌≢◌, ℕ, ◌+◌, ◌%◌, ◌^◌, ◌<◌, ◌++◌, Bool, IsTrue, List, [], length, Option, Result, Ok, Err, OnOk, IfErr, if◌then◌else◌, ◌==◌}
+use Rattle.std.specs.Prelude.{◌≡◌, ℕ, ◌+◌, ◌%◌, ◌^◌, ◌<◌, ◌++◌, Bool, IsTrue, List, [], length, Option, Result, Ok, Err, OnOk, IfErr, if◌then◌else◌, ◌==◌}
 use Rattle.std.specs.Io.KnownBytes.{Appends}
 use Rattle.rmp_wire.specs.declared.sink.SinkFault.{SinkFault}
 use Rattle.rmp_wire.specs.declared.sink.SinkFault.TheVariants.{Io, Memory}
@@ -22,10 +22,10 @@ PutCounts takes_memory old new piece (Err Memory) = (new ≡ old) × IsTrue take
 abbrev pub stopped_after : ℕ → IoFault → ValueWriteError
 stopped_after taken fault = if taken == 0 then InvalidMarkerWrite fault else InvalidDataWrite fault
 
--- why a write stopped once `part` of its bytes was taken: by a fault before the first byte or after it, or since memory was refused
+-- why a write stopped once `part` of its bytes was taken: by one fault, before the first byte or after it, or since memory was refused
 abbrev pub StopsAfter : Bool → ℕ → ℕ → List ℕ → ValueWriteError → Type 0
-StopsAfter takes_memory old new part (InvalidMarkerWrite fault) = (part ≡ []) × (new ≢ old)
-StopsAfter takes_memory old new part (InvalidDataWrite fault) = (0 < length part) × (new ≢ old)
+StopsAfter takes_memory old new part (InvalidMarkerWrite fault) = (part ≡ []) × (new ≡ next_fault old)
+StopsAfter takes_memory old new part (InvalidDataWrite fault) = (0 < length part) × (new ≡ next_fault old)
 StopsAfter takes_memory old new part OutOfMemory = (new ≡ old) × IsTrue takes_memory
 
 -- a beginning of the bytes was taken, and no more of them

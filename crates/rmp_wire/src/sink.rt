@@ -117,7 +117,7 @@ impl Sink for Vec<u8> {
 }
 
 /// A sink that takes what fits into a slice, from its front on, and then nothing more.
-#[derive(Drop)]
+#[derive(Debug, Drop)]
 pub struct SliceSink<'a> {
     buf: &'a mut [u8],
     at: usize,
