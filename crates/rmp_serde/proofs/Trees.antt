@@ -26,12 +26,12 @@ item_depth [] i x h e = absurd (omega arith)
 item_depth (y ∷ ys) zero x h e = rw e (omega arith)
 item_depth (y ∷ ys) (suc i) x h e = omega (arith, item_depth ys i x (omega arith) e)
 
-pub key_depth : (ps : List (Msg × Msg)) (i : ℕ) (d : Msg × Msg) → i < length ps → depth (get_or ps i d).0 ≤ depth_pairs (pairs ps)
-key_depth [] i d h = absurd (omega arith)
-key_depth (q ∷ qs) zero d h = omega arith
-key_depth (q ∷ qs) (suc i) d h = omega (arith, key_depth qs i d (omega arith))
+pub key_depth : (ps : List (Msg × Msg)) (i : ℕ) (p : Msg × Msg) → i < length ps → p ≡ get_or ps i p → depth p.0 ≤ depth_pairs (pairs ps)
+key_depth [] i p h e = absurd (omega arith)
+key_depth (q ∷ qs) zero p h e = rw e (omega arith)
+key_depth (q ∷ qs) (suc i) p h e = omega (arith, key_depth qs i p (omega arith) e)
 
-pub value_depth : (ps : List (Msg × Msg)) (i : ℕ) (d : Msg × Msg) → i < length ps → depth (get_or ps i d).1 ≤ depth_pairs (pairs ps)
-value_depth [] i d h = absurd (omega arith)
-value_depth (q ∷ qs) zero d h = omega arith
-value_depth (q ∷ qs) (suc i) d h = omega (arith, value_depth qs i d (omega arith))
+pub value_depth : (ps : List (Msg × Msg)) (i : ℕ) (p : Msg × Msg) → i < length ps → p ≡ get_or ps i p → depth p.1 ≤ depth_pairs (pairs ps)
+value_depth [] i p h e = absurd (omega arith)
+value_depth (q ∷ qs) zero p h e = rw e (omega arith)
+value_depth (q ∷ qs) (suc i) p h e = omega (arith, value_depth qs i p (omega arith) e)

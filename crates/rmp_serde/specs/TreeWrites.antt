@@ -1,15 +1,16 @@
 -- What a write of a whole tree leaves in its sink.
-use Rattle.std.specs.Prelude.{◌≡◌, ◌≢◌, ℕ, ◌<◌, ◌++◌, Bool, IsTrue, List, length, Option, Result, OnOk, IfErr}
+use Rattle.std.specs.Prelude.{◌≡◌, ℕ, ◌<◌, ◌++◌, Bool, IsTrue, List, length, Option, Result, OnOk, IfErr}
 use Rattle.std.specs.Io.KnownBytes.{Appends}
+use Rattle.rmp_wire.specs.Sinks.{next_fault}
 use Rattle.rmp_wire.specs.declared.sink.Sink.{Ghosts}
 use Rattle.rmp_wire.specs.declared.error.ValueWriteError.{ValueWriteError}
 use Rattle.rmp_wire.specs.declared.error.ValueWriteError.TheVariants.{InvalidMarkerWrite, InvalidDataWrite, OutOfMemory}
 
--- Why a write stopped once `part` of the bytes was taken: by a fault before the first byte of one of the tree's
+-- Why a write stopped once `part` of the bytes was taken: by one fault, before the first byte of one of the tree's
 -- messages or behind it, or since memory was refused.
 abbrev pub StopsWithin : Bool → ℕ → ℕ → List ℕ → ValueWriteError → Type 0
-StopsWithin takes_memory old new part (InvalidMarkerWrite fault) = new ≢ old
-StopsWithin takes_memory old new part (InvalidDataWrite fault) = (0 < length part) × (new ≢ old)
+StopsWithin takes_memory old new part (InvalidMarkerWrite fault) = new ≡ next_fault old
+StopsWithin takes_memory old new part (InvalidDataWrite fault) = (0 < length part) × (new ≡ next_fault old)
 StopsWithin takes_memory old new part OutOfMemory = (new ≡ old) × IsTrue takes_memory
 
 -- a beginning of the bytes was taken, and no more of them

@@ -6,6 +6,7 @@ mod write;
 
 pub use kind::Kind;
 pub use reference::ValueRef;
+pub(crate) use write::write_value;
 use std::marker::Model;
 
 /// A message of any kind, as a tree.

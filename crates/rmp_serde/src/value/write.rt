@@ -29,7 +29,7 @@ fn write_whole<W: Sink>(sink: &mut W, number: i128) -> Result<(), ValueWriteErro
 
 // The canonical spelling of a value. Texts and bytes go out from where they lie.
 #[cycle(writing)]
-#[tactic(auto, unfolding(rmp_wire::specs::Heads::fits_head))]
+#[tactic(auto, using(crate::proofs::Trees::counts), unfolding(rmp_wire::specs::Heads::fits_head))]
 pub(crate) fn write_value<W: Sink>(sink: &mut W, value: &Value) -> Result<(), ValueWriteError>
     ensures writes { WritesTree W.Sink (canon value.now) sink.old sink.new result }
     ensures place { W.place sink.new ≡ W.place sink.old }

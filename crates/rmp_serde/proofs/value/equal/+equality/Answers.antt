@@ -1,4 +1,4 @@
-use Rattle.std.proofs.Common.{sym, ap, ◌∙◌, arith}
+use Rattle.std.proofs.Common.{sym, ap, get_or, ◌∙◌, arith}
 use Rattle.rmp_serde.specs.View.{node_view}
 use Rattle.rmp_serde.proofs.Same.{lists_same, maps_same}
 use Rattle.rmp_serde.proofs.Trees.{item_depth, key_depth, value_depth}
@@ -20,7 +20,7 @@ pub same_items-same-requires : goal.same_items-same-requires
 same_items-same-requires t c = (omega (arith, item_depth c.args.a.now c.loop-i.i c.index-a-i.result (omega arith) c.index-a-i.is), tt)
 
 pub same_pairs-same-requires : goal.same_pairs-same-requires
-same_pairs-same-requires t c = (omega (arith, key_depth c.args.a.now c.loop-i.i c.index-a-i.result (omega arith)), tt)
+same_pairs-same-requires t c = (omega (arith, key_depth c.args.a.now c.loop-i.i _ (omega arith) (ap (get_or c.args.a.now c.loop-i.i) c.index-a-i.is)), tt)
 
 pub same_pairs-same-requires-else-not-same : goal.same_pairs-same-requires-else-not-same
-same_pairs-same-requires-else-not-same t c = (omega (arith, value_depth c.args.a.now c.loop-i.i c.index-a-i-else-not-same.result (omega arith)), tt)
+same_pairs-same-requires-else-not-same t c = (omega (arith, value_depth c.args.a.now c.loop-i.i _ (omega arith) (ap (get_or c.args.a.now c.loop-i.i) c.index-a-i-else-not-same.is)), tt)
