@@ -6,5 +6,6 @@ pub mod encode;
 pub mod laws;
 mod value;
 
+pub use encode::to_vec;
 pub use rmp_wire::Marker;
-pub use value::{Kind, Value};
+pub use value::{Kind, Value, ValueRef};

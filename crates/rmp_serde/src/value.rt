@@ -1,7 +1,12 @@
 //! A message of any kind, as a tree.
+mod equal;
 mod kind;
+mod reference;
+mod write;
 
 pub use kind::Kind;
+pub use reference::ValueRef;
+pub(crate) use write::write_value;
 use std::marker::Model;
 
 /// A message of any kind, as a tree.
@@ -49,3 +54,4 @@ impl Model for Value {
 
     ghost size_decreases = { λ a h. falls a.node };
 }
+

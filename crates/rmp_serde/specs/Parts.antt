@@ -1,0 +1,69 @@
+-- The parts of a tree.
+use Rattle.std.specs.Prelude.{ℕ, ℤ, Bool, List, Option, Some, None, slice_get}
+use Rattle.rmp_wire.specs.Msg.{Msg, nil, truth, whole, float32, float64, text, bin, list, map, extension, count, count_pairs, items_of, pairs_of}
+use Rattle.rmp_serde.specs.declared.value.kind.Kind.{Kind}
+use Rattle.rmp_serde.specs.declared.value.kind.Kind.TheVariants as kinds
+use Rattle.rmp_serde.specs.declared.value.reference.ValueRef.{ValueRef}
+
+-- the tree that a reference leads to
+abbrev pub tree : ValueRef → Msg
+tree v = v.value.now
+
+abbrev pub kind_of : Msg → Kind
+kind_of nil = kinds.Nil
+kind_of (truth t) = kinds.Truth
+kind_of (whole z) = kinds.Whole
+kind_of (float32 n) = kinds.F32
+kind_of (float64 n) = kinds.F64
+kind_of (text s) = kinds.Text
+kind_of (bin s) = kinds.Bytes
+kind_of (list ms) = kinds.List
+kind_of (map ps) = kinds.Map
+kind_of (extension tag s) = kinds.Ext
+
+abbrev pub truth_of : Msg → Option Bool
+truth_of (truth t) = Some t
+truth_of _ = None
+
+abbrev pub whole_of : Msg → Option ℤ
+whole_of (whole z) = Some z
+whole_of _ = None
+
+-- the bits of a float of 32 bits
+abbrev pub float32_of : Msg → Option ℕ
+float32_of (float32 n) = Some n
+float32_of _ = None
+
+-- the bits of a float of 64 bits
+abbrev pub float64_of : Msg → Option ℕ
+float64_of (float64 n) = Some n
+float64_of _ = None
+
+abbrev pub text_of : Msg → Option (List ℕ)
+text_of (text s) = Some s
+text_of _ = None
+
+abbrev pub bytes_of : Msg → Option (List ℕ)
+bytes_of (bin s) = Some s
+bytes_of _ = None
+
+-- an extension's type and its bytes
+abbrev pub extension_of : Msg → Option (ℤ × List ℕ)
+extension_of (extension tag s) = Some (tag, s)
+extension_of _ = None
+
+-- how many items a list has, or pairs a map; 0 where it is neither
+abbrev pub parts_count : Msg → ℕ
+parts_count (list ms) = count ms
+parts_count (map ps) = count_pairs ps
+parts_count _ = 0
+
+-- a list's item at an index from 0
+abbrev pub item_of : Msg → ℕ → Option Msg
+item_of (list ms) i = slice_get (items_of ms) i
+item_of _ i = None
+
+-- the key and the value of a map's pair at an index from 0
+abbrev pub pair_of : Msg → ℕ → Option (Msg × Msg)
+pair_of (map ps) i = slice_get (pairs_of ps) i
+pair_of _ i = None
