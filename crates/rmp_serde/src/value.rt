@@ -1,7 +1,10 @@
 //! A message of any kind, as a tree.
+mod head;
 mod kind;
+mod read;
 
 pub use kind::Kind;
+pub use read::{LIMIT, from_slice};
 use std::marker::Model;
 
 /// A message of any kind, as a tree.

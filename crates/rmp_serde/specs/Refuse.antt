@@ -1,0 +1,115 @@
+-- Why a read is refused, and where.
+use Rattle.std.specs.Prelude.{◌≡◌, ◌<◌, ◌+◌, ◌*◌, ℕ, suc, List, [], ◌∷◌, ◌++◌, ◌⊎◌, length, ⊤}
+use Rattle.std.specs.Str.{IsUtf8}
+use Rattle.std.specs.declared.io.ErrorKind.TheVariants.{UnexpectedEof}
+use Rattle.rmp_wire.specs.declared.head.Head.{Head}
+use Rattle.rmp_wire.specs.declared.head.Head.TheVariants.{Text, Bin, Array, Map, Ext}
+use Rattle.rmp_wire.specs.declared.marker.Marker.{Marker}
+use Rattle.rmp_wire.specs.declared.marker.Marker.TheVariants.{Reserved}
+use Rattle.rmp_wire.specs.Faults.{IsPlain}
+use Rattle.rmp_wire.specs.Heads.{IsHead}
+use Rattle.rmp_wire.specs.Msg.{Msg}
+use Rattle.rmp_serde.specs.Read.{TakesHead, TakesAll}
+use Rattle.rmp_serde.specs.declared.decode.error.Error.{Error}
+use Rattle.rmp_serde.specs.declared.decode.error.Error.TheVariants as errors
+
+-- A message is wanted at a place of the input, inside of so many open lists and maps. In a map of n pairs, 2 * n messages stand in a row.
+pub data Wanted : ℕ → List ℕ → List ℕ → Type 0 where
+  first : {input : List ℕ} → Wanted 0 input input
+  in_list : {k n : ℕ} {ms : List Msg} {input behind after place : List ℕ} → TakesHead (Array n) input behind → TakesAll ms behind after → length ms < n
+      → Wanted k after place → Wanted (suc k) input place
+  in_map : {k n : ℕ} {ms : List Msg} {input behind after place : List ℕ} → TakesHead (Map n) input behind → TakesAll ms behind after → length ms < 2 * n
+      → Wanted k after place → Wanted (suc k) input place
+
+-- the input ends inside of a head: what is left is a beginning of one, with a byte at least
+pub record HeadIsCut (place : List ℕ) : Type 0 where
+  pub head : Head
+  pub missing : List ℕ
+  pub begun : 0 < length place
+  pub cut : 0 < length missing
+  pub is_head : IsHead head (place ++ missing)
+
+-- the byte c1, which opens no message
+pub record IsReserved (m : Marker) (place : List ℕ) : Type 0 where
+  pub behind : List ℕ
+  pub begins : place ≡ 0xc1 ∷ behind
+  pub marker : m ≡ Reserved
+
+-- how many bytes of content stand behind a head
+abbrev pub content_len : Head → ℕ
+content_len (Text n) = n
+content_len (Bin n) = n
+content_len (Ext n tag) = n
+content_len _ = 0
+
+-- the input ends inside of the content of a text, of bytes or of an extension
+pub record ContentIsCut (place : List ℕ) : Type 0 where
+  pub head : Head
+  pub behind : List ℕ
+  pub opens : TakesHead head place behind
+  pub cut : length behind < content_len head
+
+-- a whole text that isn't UTF-8
+pub record TextIsInvalid (place : List ℕ) : Type 0 where
+  pub text : List ℕ
+  pub behind : List ℕ
+  pub rest : List ℕ
+  pub opens : TakesHead (Text (length text)) place behind
+  pub content : behind ≡ text ++ rest
+  pub invalid : ¬ IsUtf8 text
+
+-- the head of a list or a map
+abbrev pub Nests : Head → Type 0
+Nests (Array n) = ⊤
+Nests (Map n) = ⊤
+Nests _ = ⊥
+
+-- a list or a map opens
+pub record OpensNest (place : List ℕ) : Type 0 where
+  pub head : Head
+  pub behind : List ℕ
+  pub opens : TakesHead head place behind
+  pub nests : Nests head
+
+-- the error of an end inside of a message
+abbrev pub IsDataEnd : Error → Type 0
+IsDataEnd (errors.InvalidDataRead fault) = IsPlain UnexpectedEof fault
+IsDataEnd _ = ⊥
+
+-- what is wrong with the head at a place
+abbrev pub IsHeadReason : Error → List ℕ → Type 0
+IsHeadReason (errors.InvalidMarkerRead fault) place = IsPlain UnexpectedEof fault × (place ≡ [])
+IsHeadReason (errors.InvalidDataRead fault) place = IsPlain UnexpectedEof fault × HeadIsCut place
+IsHeadReason (errors.TypeMismatch m) place = IsReserved m place
+IsHeadReason _ place = ⊥
+
+-- what is wrong with the message at a place, where so many lists and maps, less one, may still open
+abbrev pub IsReason : ℕ → Error → List ℕ → Type 0
+IsReason left (errors.InvalidMarkerRead fault) place = IsPlain UnexpectedEof fault × (place ≡ [])
+IsReason left (errors.InvalidDataRead fault) place = IsPlain UnexpectedEof fault × (HeadIsCut place ⊎ ContentIsCut place)
+IsReason left (errors.TypeMismatch m) place = IsReserved m place
+IsReason left (errors.Utf8Error e) place = TextIsInvalid place
+IsReason left errors.DepthLimitExceeded place = (left ≡ 1) × OpensNest place
+IsReason left errors.OutOfMemory place = ⊤
+IsReason left _ place = ⊥
+
+-- the first thing that is wrong
+pub record Refusal (limit : ℕ) (e : Error) (input : List ℕ) : Type 0 where
+  pub open_nests : ℕ
+  pub left : ℕ
+  pub place : List ℕ
+  pub within : open_nests + left ≡ limit
+  pub wanted : Wanted open_nests input place
+  pub reason : IsReason left e place
+
+-- the first thing that is wrong where n messages are wanted in a row: it comes after fewer whole ones
+pub record RowRefusal (limit n : ℕ) (e : Error) (input : List ℕ) : Type 0 where
+  pub before : List Msg
+  pub place : List ℕ
+  pub taken : TakesAll before input place
+  pub fewer : length before < n
+  pub refusal : Refusal limit e place
+
+-- the first thing that is wrong behind that head
+abbrev pub RefusedBehind : ℕ → Head → Error → List ℕ → Type 0
+RefusedBehind limit head e behind = (input : List ℕ) → TakesHead head input behind → Refusal limit e input
