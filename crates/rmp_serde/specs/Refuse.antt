@@ -2,11 +2,12 @@
 use Rattle.std.specs.Prelude.{◌≡◌, ◌<◌, ◌+◌, ◌*◌, ℕ, suc, List, [], ◌∷◌, ◌++◌, ◌⊎◌, length, ⊤}
 use Rattle.std.specs.Str.{IsUtf8}
 use Rattle.std.specs.declared.io.ErrorKind.TheVariants.{UnexpectedEof}
+use Rattle.rmp_wire.specs.declared.error.IoFault.{IoFault}
 use Rattle.rmp_wire.specs.declared.head.Head.{Head}
 use Rattle.rmp_wire.specs.declared.head.Head.TheVariants.{Text, Bin, Array, Map, Ext}
 use Rattle.rmp_wire.specs.declared.marker.Marker.{Marker}
 use Rattle.rmp_wire.specs.declared.marker.Marker.TheVariants.{Reserved}
-use Rattle.rmp_wire.specs.Faults.{IsPlain}
+use Rattle.rmp_wire.specs.Faults.{fault_kind}
 use Rattle.rmp_wire.specs.Heads.{IsHead}
 use Rattle.rmp_wire.specs.Msg.{Msg}
 use Rattle.rmp_serde.specs.Read.{TakesHead, TakesAll}
@@ -71,22 +72,26 @@ pub record OpensNest (place : List ℕ) : Type 0 where
   pub opens : TakesHead head place behind
   pub nests : Nests head
 
+-- the fault of an input that ended
+abbrev pub IsEnd : IoFault → Type 0
+IsEnd fault = fault_kind fault ≡ UnexpectedEof
+
 -- the error of an end inside of a message
 abbrev pub IsDataEnd : Error → Type 0
-IsDataEnd (errors.InvalidDataRead fault) = IsPlain UnexpectedEof fault
+IsDataEnd (errors.InvalidDataRead fault) = IsEnd fault
 IsDataEnd _ = ⊥
 
 -- what is wrong with the head at a place
 abbrev pub IsHeadReason : Error → List ℕ → Type 0
-IsHeadReason (errors.InvalidMarkerRead fault) place = IsPlain UnexpectedEof fault × (place ≡ [])
-IsHeadReason (errors.InvalidDataRead fault) place = IsPlain UnexpectedEof fault × HeadIsCut place
+IsHeadReason (errors.InvalidMarkerRead fault) place = IsEnd fault × (place ≡ [])
+IsHeadReason (errors.InvalidDataRead fault) place = IsEnd fault × HeadIsCut place
 IsHeadReason (errors.TypeMismatch m) place = IsReserved m place
 IsHeadReason _ place = ⊥
 
 -- what is wrong with the message at a place, where so many lists and maps, less one, may still open
 abbrev pub IsReason : ℕ → Error → List ℕ → Type 0
-IsReason left (errors.InvalidMarkerRead fault) place = IsPlain UnexpectedEof fault × (place ≡ [])
-IsReason left (errors.InvalidDataRead fault) place = IsPlain UnexpectedEof fault × (HeadIsCut place ⊎ ContentIsCut place)
+IsReason left (errors.InvalidMarkerRead fault) place = IsEnd fault × (place ≡ [])
+IsReason left (errors.InvalidDataRead fault) place = IsEnd fault × (HeadIsCut place ⊎ ContentIsCut place)
 IsReason left (errors.TypeMismatch m) place = IsReserved m place
 IsReason left (errors.Utf8Error e) place = TextIsInvalid place
 IsReason left errors.DepthLimitExceeded place = (left ≡ 1) × OpensNest place

@@ -1,11 +1,12 @@
 //! Reads a value, in whatever widths it is spelled.
-ghost use Rattle.std.specs.Prelude.{◌≡◌, ◌<◌, ◌+◌, ◌*◌, ◌++◌, length, vec_len, IfOk, IfErr, IsErr, ◌↔◌, string_bytes};
+ghost use Rattle.std.specs.Prelude.{◌≡◌, ◌≢◌, ◌<◌, ◌+◌, ◌*◌, ◌++◌, length, vec_len, IfOk, IfErr, IsErr, ◌↔◌, string_bytes};
 ghost use Rattle.std.specs.Str.{IsUtf8};
-ghost use Rattle.rmp_wire.specs.Msg.{list, map, msgs, pairs};
+ghost use Rattle.rmp_wire.specs.Msg.{Msg, list, map, msgs, pairs};
 ghost use Rattle.rmp_wire.specs.Spelling.{IsBytes};
 ghost use Rattle.rmp_serde.specs.Read.{Takes, TakesAll, Completes, IsReadable, Begins, in_row};
 ghost use Rattle.rmp_serde.specs.Refuse.{IsDataEnd, Refusal, RowRefusal, RefusedBehind};
 ghost use Rattle.rmp_serde.specs.View.{node_view};
+ghost use Rattle.rmp_serde.specs.declared.decode.error.Error.TheVariants as errors;
 
 use super::head::next_head;
 use super::{Node, Value};
@@ -158,6 +159,8 @@ pub fn from_slice(alloc: Global, input: &[u8]) -> Result<Value, Error>
     ensures readable { IfOk result (λ v. IsReadable LIMIT v) }
     // Each refusal has its reason at the first place where the input is wrong.
     ensures err { IfErr result (λ e. Refusal LIMIT e input.now) }
+    // Where memory wasn't refused, the input begins with no message that nests below the limit and whose texts are UTF-8.
+    ensures refused { IfErr result (λ e. e ≢ errors.OutOfMemory → (m : Msg) → Begins m input.now → IsReadable LIMIT m → ⊥) }
 {
     let mut rest = input;
     read_value(alloc, &mut rest, LIMIT)
