@@ -1,5 +1,5 @@
 -- What a head and the content behind it spell.
-use Rattle.std.proofs.Common.{◌≡◌, ℕ, ◌+◌, ◌*◌, ◌<◌, List, [], ◌∷◌, ◌++◌, length, ap, sym, refl, ◌∙◌, arith, subst, append_assoc, ℤ}
+use Rattle.std.proofs.Common.{◌≡◌, ℕ, ◌-◌, ◌*◌, ◌<◌, ◌≤◌, List, [], ◌∷◌, ◌++◌, length, ap, sym, refl, ◌∙◌, arith, subst, append_assoc, ℤ}
 use Rattle.std.proofs.lemmas.List.{append-nil}
 use Rattle.rmp_wire.specs.declared.head.Head.{Head}
 use Rattle.rmp_wire.specs.declared.head.Head.TheVariants.{Text, Bin, Array, Map, Ext}
@@ -8,7 +8,7 @@ use Rattle.rmp_wire.specs.Msg.{Msg, text, bin, list, map, extension, depth_all, 
 use Rattle.rmp_wire.specs.Spelling.{IsBytes, Joined, IsContent, Spells, SpellsAll, SpellsPairs, Fits}
 use Rattle.rmp_wire.proofs.Lists.{count-msgs, count_pairs-pairs}
 use Rattle.rmp_wire.proofs.Spellings.{spells_fits}
-use Rattle.rmp_serde.specs.Read.{Takes, TakesAll, Completes, IsReadable, ItemsUtf8, PairsUtf8, AllTextsUtf8, in_row}
+use Rattle.rmp_serde.specs.Read.{Takes, TakesAll, Completes, IsReadable, AreReadable, ItemsUtf8, PairsUtf8, AllTextsUtf8, in_row}
 
 pub Fits-from_takes : {m : Msg} {input rest : List ℕ} → Takes m input rest → Fits m
 Fits-from_takes {m} t = spells_fits m t.bytes t.spelled
@@ -102,26 +102,32 @@ depth_all-push : (ms : List Msg) (m : Msg) (d : ℕ) → depth_all (msgs ms) < d
 depth_all-push [] m d h k = omega arith
 depth_all-push (x ∷ xs) m d h k = omega (arith, depth_all-push xs m d (omega arith) k)
 
-depth_pairs-push : (ps : List (Msg × Msg)) (k v : Msg) (d : ℕ) → depth_pairs (pairs ps) < d → depth k < d → depth v < d → depth_pairs (pairs (ps ++ (k, v) ∷ [])) < d
-depth_pairs-push [] k v d h i j = omega arith
-depth_pairs-push (p ∷ ps) k v d h i j = omega (arith, depth_pairs-push ps k v d (omega arith) i j)
-
 ItemsUtf8-push : (ms : List Msg) (m : Msg) → ItemsUtf8 (msgs ms) → AllTextsUtf8 m → ItemsUtf8 (msgs (ms ++ m ∷ []))
 ItemsUtf8-push [] m h k = (k, tt)
 ItemsUtf8-push (x ∷ xs) m h k = (h.0, ItemsUtf8-push xs m h.1 k)
 
-PairsUtf8-push : (ps : List (Msg × Msg)) (k v : Msg) → PairsUtf8 (pairs ps) → AllTextsUtf8 k → AllTextsUtf8 v → PairsUtf8 (pairs (ps ++ (k, v) ∷ []))
-PairsUtf8-push [] k v h i j = (i, j, tt)
-PairsUtf8-push (p ∷ ps) k v h i j = (h.0, h.1, PairsUtf8-push ps k v h.2 i j)
-
-pub readable_item : {m : Msg} (ms : List Msg) (room : ℕ) → IsReadable (room + 1) (list (msgs ms)) → IsReadable room m → IsReadable (room + 1) (list (msgs (ms ++ m ∷ [])))
-readable_item {m} ms room h k = record {
-  nested = omega (arith, depth_all-push ms m room (omega (arith, h.nested)) k.nested);
+pub AreReadable-push : (ms : List Msg) (m : Msg) (limit : ℕ) → AreReadable limit ms → IsReadable limit m → AreReadable limit (ms ++ m ∷ [])
+AreReadable-push ms m limit h k = record {
+  nested = omega (arith, depth_all-push ms m limit (omega (arith, h.nested)) k.nested);
   utf8 = ItemsUtf8-push ms m h.utf8 k.utf8;
 }
 
-pub readable_pair : {k v : Msg} (ps : List (Msg × Msg)) (room : ℕ) → IsReadable (room + 1) (map (pairs ps)) → IsReadable room k → IsReadable room v → IsReadable (room + 1) (map (pairs (ps ++ (k, v) ∷ [])))
-readable_pair {k} {v} ps room h i j = record {
-  nested = omega (arith, depth_pairs-push ps k v room (omega (arith, h.nested)) i.nested j.nested);
-  utf8 = PairsUtf8-push ps k v h.utf8 i.utf8 j.utf8;
-}
+pub AreReadable-push_pair : (ps : List (Msg × Msg)) (k v : Msg) (limit : ℕ) → AreReadable limit (in_row ps) → IsReadable limit k → IsReadable limit v → AreReadable limit (in_row (ps ++ (k, v) ∷ []))
+AreReadable-push_pair ps k v limit h i j =
+    subst (AreReadable limit) (sym (in_row-push ps k v)) (AreReadable-push (in_row ps ++ k ∷ []) v limit (AreReadable-push (in_row ps) k limit h i) j)
+
+-- ---- a list and a map of readable messages
+
+pub readable_list : (ms : List Msg) (room : ℕ) → 0 < room → AreReadable (room - 1) ms → IsReadable room (list (msgs ms))
+readable_list ms room h r = record { nested = omega (arith, r.nested); utf8 = r.utf8 }
+
+depth-in_row : (ps : List (Msg × Msg)) → depth_pairs (pairs ps) ≤ depth_all (msgs (in_row ps))
+depth-in_row [] = omega arith
+depth-in_row (p ∷ ps) = omega (arith, depth-in_row ps)
+
+utf8-in_row : (ps : List (Msg × Msg)) → ItemsUtf8 (msgs (in_row ps)) → PairsUtf8 (pairs ps)
+utf8-in_row [] h = tt
+utf8-in_row (p ∷ ps) h = (h.0, h.1.0, utf8-in_row ps h.1.1)
+
+pub readable_map : (ps : List (Msg × Msg)) (room : ℕ) → 0 < room → AreReadable (room - 1) (in_row ps) → IsReadable room (map (pairs ps))
+readable_map ps room h r = record { nested = omega (arith, r.nested, depth-in_row ps); utf8 = utf8-in_row ps r.utf8 }

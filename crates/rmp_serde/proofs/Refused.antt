@@ -1,5 +1,5 @@
 -- An input that is refused for a reason begins with no message that is readable.
-use Rattle.std.proofs.Common.{◌≡◌, ◌≢◌, ◌∙◌, sym, ap, subst, ℕ, suc, ◌+◌, ◌*◌, ◌<◌, ◌≤◌, List, [], ◌∷◌, ◌++◌, length, take, Option, Some, None, refl, arith, append_assoc, inl, inr}
+use Rattle.std.proofs.Common.{◌≡◌, ◌≢◌, ◌∙◌, sym, ap, subst, ℕ, suc, ◌*◌, ◌<◌, ◌≤◌, List, [], ◌∷◌, ◌++◌, length, take, Option, Some, None, refl, arith, append_assoc, inl, inr}
 use Rattle.std.proofs.lemmas.List.{length-append, take_at, append-nil}
 use Rattle.rmp_wire.specs.declared.head.Head.{Head}
 use Rattle.rmp_wire.specs.declared.head.Head.TheVariants.{Nil, Truth, Whole, F32Bits, F64Bits, Text, Bin, Array, Map, Ext}
@@ -200,18 +200,13 @@ row_at : {n d : ℕ} {before : List Msg} {behind place : List ℕ} → Row n d b
 row_at {n} {d} {before} {behind} {place} r t l =
     next_in_row before r.all d behind place r.bytes r.rest t (omega (arith, r.number)) r.spelled r.split r.nested r.utf8
 
-readable_at : {limit : ℕ} {place : List ℕ} (left : ℕ) → limit ≡ left → ReadableAt limit place → ReadableAt left place
-readable_at {limit} {place} left e r = subst (λ d. ReadableAt d place) e r
-
 -- a readable message at the front has a readable one at each place where one is wanted
-wanted_at : {k : ℕ} {input place : List ℕ} → Wanted k input place → (left : ℕ) → ReadableAt (k + left) input → ReadableAt left place
-wanted_at first left r = readable_at left (omega arith) r
-wanted_at (in_list {k} {n} {ms} {input} {behind} {after} {place} t all fewer w) left r =
-    let r' : ReadableAt (suc (k + left)) input = readable_at (suc (k + left)) (omega arith) r in
-    wanted_at w left (row_at (list_row r'.message n (k + left) behind (behind_head t r'.begins) r'.readable) all fewer)
-wanted_at (in_map {k} {n} {ms} {input} {behind} {after} {place} t all fewer w) left r =
-    let r' : ReadableAt (suc (k + left)) input = readable_at (suc (k + left)) (omega arith) r in
-    wanted_at w left (row_at (map_row r'.message n (k + left) behind (behind_head t r'.begins) r'.readable) all fewer)
+wanted_at : {limit left : ℕ} {input place : List ℕ} → Wanted limit left input place → ReadableAt limit input → ReadableAt left place
+wanted_at first r = r
+wanted_at (in_list {limit} {left} {n} {ms} {input} {behind} {after} {place} t all readable fewer w) r =
+    wanted_at w (row_at (list_row r.message n limit behind (behind_head t r.begins) r.readable) all fewer)
+wanted_at (in_map {limit} {left} {n} {ms} {input} {behind} {after} {place} t all readable fewer w) r =
+    wanted_at w (row_at (map_row r.message n limit behind (behind_head t r.begins) r.readable) all fewer)
 
 -- ---- no reason stands where a readable message does
 
@@ -306,5 +301,4 @@ no_reason left errors.DepthLimitExceeded place u r h = not_nest r.begins (subst 
 no_reason left errors.OutOfMemory place u r h = u refl
 
 pub nothing_readable : (limit : ℕ) (e : Error) (input : List ℕ) → Refusal limit e input → e ≢ errors.OutOfMemory → (m : Msg) → Begins m input → IsReadable limit m → ⊥
-nothing_readable limit e input h u m b r =
-    no_reason h.left e h.place u (wanted_at h.wanted h.left (readable_at (h.open_nests + h.left) (sym h.within) (record { message = m; begins = b; readable = r }))) h.reason
+nothing_readable limit e input h u m b r = no_reason h.left e h.place u (wanted_at h.wanted (record { message = m; begins = b; readable = r })) h.reason

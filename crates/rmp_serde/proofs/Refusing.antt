@@ -22,30 +22,29 @@ reason_from_head left errors.DepthLimitExceeded place h = absurd h
 reason_from_head left errors.OutOfMemory place h = absurd h
 
 pub refused_here : (room : ℕ) (e : Error) (input : List ℕ) → IsReason room e input → Refusal room e input
-refused_here room e input h = record { open_nests = 0; left = room; place = input; within = omega arith; wanted = first; reason = h }
+refused_here room e input h = record { left = room; place = input; wanted = first; reason = h }
 
 pub refused_at_head : (room : ℕ) (e : Error) (input : List ℕ) → IsHeadReason e input → Refusal room e input
 refused_at_head room e input h = refused_here room e input (reason_from_head room e input h)
 
+one_level : (room : ℕ) → 0 < room → suc (room - 1) ≡ room
+one_level room h = omega arith
+
 pub refused_in_list : {head : Head} {n : ℕ} {behind : List ℕ} (room : ℕ) (e : Error) → 0 < room → head ≡ heads.Array n → RowRefusal (room - 1) n e behind → RefusedBehind room head e behind
-refused_in_list {head} {n} {behind} room e positive is r = λ input t. record {
-  open_nests = suc r.refusal.open_nests;
+refused_in_list {head} {n} {behind} room e positive is r = λ input t. subst (λ limit. Refusal limit e input) (one_level room positive) (record {
   left = r.refusal.left;
   place = r.refusal.place;
-  within = omega (arith, r.refusal.within);
-  wanted = in_list {ms = r.before} (subst (λ x. TakesHead x input behind) is t) r.taken r.fewer r.refusal.wanted;
+  wanted = in_list {ms = r.before} (subst (λ x. TakesHead x input behind) is t) r.taken r.readable r.fewer r.refusal.wanted;
   reason = r.refusal.reason;
-}
+})
 
 pub refused_in_map : {head : Head} {n : ℕ} {behind : List ℕ} (room : ℕ) (e : Error) → 0 < room → head ≡ heads.Map n → RowRefusal (room - 1) (2 * n) e behind → RefusedBehind room head e behind
-refused_in_map {head} {n} {behind} room e positive is r = λ input t. record {
-  open_nests = suc r.refusal.open_nests;
+refused_in_map {head} {n} {behind} room e positive is r = λ input t. subst (λ limit. Refusal limit e input) (one_level room positive) (record {
   left = r.refusal.left;
   place = r.refusal.place;
-  within = omega (arith, r.refusal.within);
-  wanted = in_map {ms = r.before} (subst (λ x. TakesHead x input behind) is t) r.taken r.fewer r.refusal.wanted;
+  wanted = in_map {ms = r.before} (subst (λ x. TakesHead x input behind) is t) r.taken r.readable r.fewer r.refusal.wanted;
   reason = r.refusal.reason;
-}
+})
 
 pub refused_content : {head k : Head} {behind : List ℕ} (room : ℕ) (e : Error) → head ≡ k → IsDataEnd e → length behind < content_len k → RefusedBehind room head e behind
 refused_content {head} {k} {behind} room (errors.InvalidDataRead x) is d h = λ input t.

@@ -1,5 +1,5 @@
 -- What a read takes from its input.
-use Rattle.std.specs.Prelude.{◌≡◌, ℕ, ◌<◌, List, [], ◌∷◌, ◌++◌, ⊤}
+use Rattle.std.specs.Prelude.{◌≡◌, ℕ, suc, ◌<◌, List, [], ◌∷◌, ◌++◌, ⊤}
 use Rattle.std.specs.Str.{IsUtf8}
 use Rattle.rmp_wire.specs.declared.head.Head.{Head}
 use Rattle.rmp_wire.specs.Heads.{IsHead}
@@ -60,6 +60,10 @@ abbrev mutual
 pub record IsReadable (limit : ℕ) (m : Msg) : Type 0 where
   pub nested : depth m < limit
   pub utf8 : AllTextsUtf8 m
+
+-- each of the messages nests below the limit, and their texts are UTF-8: so is a list of them, one level up
+abbrev pub AreReadable : ℕ → List Msg → Type 0
+AreReadable limit ms = IsReadable (suc limit) (list (msgs ms))
 
 -- behind that head stands what makes it this message, and then the rest
 abbrev pub Completes : Head → Msg → List ℕ → List ℕ → Type 0

@@ -1,5 +1,5 @@
 -- Why a read is refused, and where.
-use Rattle.std.specs.Prelude.{◌≡◌, ◌<◌, ◌+◌, ◌*◌, ℕ, suc, List, [], ◌∷◌, ◌++◌, ◌⊎◌, length, ⊤}
+use Rattle.std.specs.Prelude.{◌≡◌, ◌<◌, ◌*◌, ℕ, suc, List, [], ◌∷◌, ◌++◌, ◌⊎◌, length, ⊤}
 use Rattle.std.specs.Str.{IsUtf8}
 use Rattle.std.specs.declared.io.ErrorKind.TheVariants.{UnexpectedEof}
 use Rattle.rmp_wire.specs.declared.error.IoFault.{IoFault}
@@ -10,17 +10,18 @@ use Rattle.rmp_wire.specs.declared.marker.Marker.TheVariants.{Reserved}
 use Rattle.rmp_wire.specs.Faults.{fault_kind}
 use Rattle.rmp_wire.specs.Heads.{IsHead}
 use Rattle.rmp_wire.specs.Msg.{Msg}
-use Rattle.rmp_serde.specs.Read.{TakesHead, TakesAll}
+use Rattle.rmp_serde.specs.Read.{TakesHead, TakesAll, AreReadable}
 use Rattle.rmp_serde.specs.declared.decode.error.Error.{Error}
 use Rattle.rmp_serde.specs.declared.decode.error.Error.TheVariants as errors
 
--- A message is wanted at a place of the input, inside of so many open lists and maps. In a map of n pairs, 2 * n messages stand in a row.
-pub data Wanted : ℕ → List ℕ → List ℕ → Type 0 where
-  first : {input : List ℕ} → Wanted 0 input input
-  in_list : {k n : ℕ} {ms : List Msg} {input behind after place : List ℕ} → TakesHead (Array n) input behind → TakesAll ms behind after → length ms < n
-      → Wanted k after place → Wanted (suc k) input place
-  in_map : {k n : ℕ} {ms : List Msg} {input behind after place : List ℕ} → TakesHead (Map n) input behind → TakesAll ms behind after → length ms < 2 * n
-      → Wanted k after place → Wanted (suc k) input place
+-- A message is wanted at a place of the input, behind readable messages and inside of open lists and maps. The first number is the limit at the input,
+-- the second at the place: it falls by one at each list and map. In a map of n pairs, 2 * n messages stand in a row.
+pub data Wanted : ℕ → ℕ → List ℕ → List ℕ → Type 0 where
+  first : {limit : ℕ} {input : List ℕ} → Wanted limit limit input input
+  in_list : {limit left n : ℕ} {ms : List Msg} {input behind after place : List ℕ} → TakesHead (Array n) input behind → TakesAll ms behind after → AreReadable limit ms → length ms < n
+      → Wanted limit left after place → Wanted (suc limit) left input place
+  in_map : {limit left n : ℕ} {ms : List Msg} {input behind after place : List ℕ} → TakesHead (Map n) input behind → TakesAll ms behind after → AreReadable limit ms → length ms < 2 * n
+      → Wanted limit left after place → Wanted (suc limit) left input place
 
 -- the input ends inside of a head: what is left is a beginning of one, with a byte at least
 pub record HeadIsCut (place : List ℕ) : Type 0 where
@@ -88,7 +89,7 @@ IsHeadReason (errors.InvalidDataRead fault) place = IsEnd fault × HeadIsCut pla
 IsHeadReason (errors.TypeMismatch m) place = IsReserved m place
 IsHeadReason _ place = ⊥
 
--- what is wrong with the message at a place, where so many lists and maps, less one, may still open
+-- what is wrong with the message at a place, where lists and maps have to nest less deep than the number
 abbrev pub IsReason : ℕ → Error → List ℕ → Type 0
 IsReason left (errors.InvalidMarkerRead fault) place = IsEnd fault × (place ≡ [])
 IsReason left (errors.InvalidDataRead fault) place = IsEnd fault × (HeadIsCut place ⊎ ContentIsCut place)
@@ -100,18 +101,17 @@ IsReason left _ place = ⊥
 
 -- the first thing that is wrong
 pub record Refusal (limit : ℕ) (e : Error) (input : List ℕ) : Type 0 where
-  pub open_nests : ℕ
   pub left : ℕ
   pub place : List ℕ
-  pub within : open_nests + left ≡ limit
-  pub wanted : Wanted open_nests input place
+  pub wanted : Wanted limit left input place
   pub reason : IsReason left e place
 
--- the first thing that is wrong where n messages are wanted in a row: it comes after fewer whole ones
+-- the first thing that is wrong where n messages are wanted in a row: it comes after fewer readable ones
 pub record RowRefusal (limit n : ℕ) (e : Error) (input : List ℕ) : Type 0 where
   pub before : List Msg
   pub place : List ℕ
   pub taken : TakesAll before input place
+  pub readable : AreReadable limit before
   pub fewer : length before < n
   pub refusal : Refusal limit e place
 

@@ -1,9 +1,9 @@
 //! Reads a value, in whatever widths it is spelled.
 ghost use Rattle.std.specs.Prelude.{◌≡◌, ◌≢◌, ◌<◌, ◌+◌, ◌*◌, ◌++◌, length, vec_len, IfOk, IfErr, IsErr, ◌↔◌, string_bytes};
 ghost use Rattle.std.specs.Str.{IsUtf8};
-ghost use Rattle.rmp_wire.specs.Msg.{Msg, list, map, msgs, pairs};
+ghost use Rattle.rmp_wire.specs.Msg.{Msg};
 ghost use Rattle.rmp_wire.specs.Spelling.{IsBytes};
-ghost use Rattle.rmp_serde.specs.Read.{Takes, TakesAll, Completes, IsReadable, Begins, in_row};
+ghost use Rattle.rmp_serde.specs.Read.{Takes, TakesAll, Completes, IsReadable, AreReadable, Begins, in_row};
 ghost use Rattle.rmp_serde.specs.Refuse.{IsDataEnd, Refusal, RowRefusal, RefusedBehind};
 ghost use Rattle.rmp_serde.specs.View.{node_view};
 ghost use Rattle.rmp_serde.specs.declared.decode.error.Error.TheVariants as errors;
@@ -112,7 +112,7 @@ fn read_items(alloc: Global, len: u32, rest: &mut &[u8], room: u32) -> Result<Ve
     requires { 0 < room }
     ensures ok { IfOk result (λ items. TakesAll items.items rest.old.now rest.new.now) }
     ensures len { IfOk result (λ items. length items.items ≡ len) }
-    ensures readable { IfOk result (λ items. IsReadable (room + 1) (list (msgs items.items))) }
+    ensures readable { IfOk result (λ items. AreReadable room items.items) }
     ensures err { IfErr result (λ e. RowRefusal room len e rest.old.now) }
 {
     let mut items = Vec::new(alloc);
@@ -134,7 +134,7 @@ fn read_pairs(
     requires { 0 < room }
     ensures ok { IfOk result (λ pairs. TakesAll (in_row pairs.items) rest.old.now rest.new.now) }
     ensures len { IfOk result (λ pairs. length pairs.items ≡ len) }
-    ensures readable { IfOk result (λ found. IsReadable (room + 1) (map (pairs found.items))) }
+    ensures readable { IfOk result (λ pairs. AreReadable room (in_row pairs.items)) }
     ensures err { IfErr result (λ e. RowRefusal room (2 * len) e rest.old.now) }
 {
     let mut found = Vec::new(alloc);

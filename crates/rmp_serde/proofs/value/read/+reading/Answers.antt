@@ -3,7 +3,7 @@ use Rattle.std.proofs.lemmas.List.{length-append}
 use Rattle.rmp_serde.specs.Read.{in_row}
 use Rattle.std.proofs.lemmas.Grind.{common_steps}
 use Rattle.std.proofs.lemmas.Result.{err_from_is_err_and}
-use Rattle.rmp_serde.proofs.Completing.{Fits-from_takes, text_completes, bin_completes, ext_completes, list_completes, map_completes, TakesAll-push, TakesAll-push_pair, readable_item, readable_pair, length-in_row}
+use Rattle.rmp_serde.proofs.Completing.{Fits-from_takes, text_completes, bin_completes, ext_completes, list_completes, map_completes, TakesAll-push, TakesAll-push_pair, AreReadable-push, AreReadable-push_pair, readable_list, readable_map, length-in_row}
 use Rattle.rmp_serde.proofs.Refusing.{refused_at_head, refused_here, refused_in_list, refused_in_map, refused_content, refused_text, refused_nest, refused_memory}
 use Rattle.rmp_serde.proofs.value.read.+reading.Goals as goal
 
@@ -14,6 +14,7 @@ read_items-returns-in_err-push-clause-err t c =
       before = c.loop.items.items;
       place = c.loop.rest.now;
       taken = c.loop.invariant.taken;
+      readable = c.loop.invariant.readable;
       fewer = omega (arith, c.loop.invariant.counted, c.loop-test.true);
       refusal = refused_here c.args.room _ c.loop.rest.now tt;
     })
@@ -24,7 +25,7 @@ read_items-loop-preserved t c =
     record {
       counted = grind (arith, common_steps);
       taken = rw e (TakesAll-push c.loop.invariant.taken c.in_ok-item.ensures.ok);
-      readable = rw e (readable_item c.loop.items.items c.args.room c.loop.invariant.readable c.in_ok-item.ensures.readable);
+      readable = rw e (AreReadable-push c.loop.items.items c.in_ok-item.item c.args.room c.loop.invariant.readable c.in_ok-item.ensures.readable);
     }
 
 pub read_node-returns-in_err-take_content-in-Text-clause-err : goal.read_node-returns-in_err-take_content-in-Text-clause-err
@@ -114,6 +115,7 @@ read_pairs-returns-in_err-key-clause-err t c =
       before = _;
       place = c.loop.rest.now;
       taken = c.loop.invariant.taken;
+      readable = c.loop.invariant.readable;
       fewer = omega (arith, length-in_row c.loop.found.items, c.loop.invariant.counted, c.loop-test.true);
       refusal = c.in_err-key.ensures.err;
     })
@@ -125,6 +127,7 @@ read_pairs-returns-in_err-value-clause-err t c =
       before = in_row c.loop.found.items ++ c.in_ok-key.key ∷ [];
       place = c.read_value.new.rest.now;
       taken = TakesAll-push c.loop.invariant.taken c.in_ok-key.ensures.ok;
+      readable = AreReadable-push (in_row c.loop.found.items) c.in_ok-key.key c.args.room c.loop.invariant.readable c.in_ok-key.ensures.readable;
       fewer = omega (arith, length-append (in_row c.loop.found.items) (c.in_ok-key.key ∷ []), length-in_row c.loop.found.items, c.loop.invariant.counted, c.loop-test.true);
       refusal = c.in_err-value.ensures.err;
     })
@@ -136,6 +139,7 @@ read_pairs-returns-in_err-push-clause-err t c =
       before = _;
       place = c.loop.rest.now;
       taken = c.loop.invariant.taken;
+      readable = c.loop.invariant.readable;
       fewer = omega (arith, length-in_row c.loop.found.items, c.loop.invariant.counted, c.loop-test.true);
       refusal = refused_here c.args.room _ c.loop.rest.now tt;
     })
@@ -146,7 +150,7 @@ read_pairs-loop-preserved t c =
     record {
       counted = grind (arith, common_steps);
       taken = rw e (TakesAll-push_pair c.loop.found.items c.loop.invariant.taken c.in_ok-key.ensures.ok c.in_ok-value.ensures.ok);
-      readable = rw e (readable_pair c.loop.found.items c.args.room c.loop.invariant.readable c.in_ok-key.ensures.readable c.in_ok-value.ensures.readable);
+      readable = rw e (AreReadable-push_pair c.loop.found.items c.in_ok-key.key c.in_ok-value.value c.args.room c.loop.invariant.readable c.in_ok-key.ensures.readable c.in_ok-value.ensures.readable);
     }
 
 pub read_value-returns-in_err-head-clause-err : goal.read_value-returns-in_err-head-clause-err
@@ -156,3 +160,9 @@ read_value-returns-in_err-head-clause-err t c =
 
 pub read_value-invariant_of-result : goal.read_value-invariant_of-result
 read_value-invariant_of-result t c = Fits-from_takes (c.in_ok-node.ensures.ok _ c.in_ok-head.ensures.ok)
+
+pub read_node-returns-in_ok-read_items-in-Array-clause-readable : goal.read_node-returns-in_ok-read_items-in-Array-clause-readable
+read_node-returns-in_ok-read_items-in-Array-clause-readable t c = readable_list _ c.args.room c.requires c.in_ok-read_items-in-Array.ensures.readable
+
+pub read_node-returns-in_ok-read_pairs-in-Map-clause-readable : goal.read_node-returns-in_ok-read_pairs-in-Map-clause-readable
+read_node-returns-in_ok-read_pairs-in-Map-clause-readable t c = readable_map _ c.args.room c.requires c.in_ok-read_pairs-in-Map.ensures.readable

@@ -1,6 +1,5 @@
 use Rattle.std.proofs.Common.{◌≡◌, ◌+◌, ◌*◌, length}
-use Rattle.rmp_wire.specs.Msg.{list, map, msgs, pairs}
-use Rattle.rmp_serde.specs.Read.{TakesAll, IsReadable, in_row}
+use Rattle.rmp_serde.specs.Read.{TakesAll, AreReadable, in_row}
 use Rattle.rmp_serde.proofs.value.read.+reading.Given as goal
 
 abbrev pub decreases-read_items : goal.decreases-read_items
@@ -19,12 +18,12 @@ abbrev pub invariant-read_items-loop : goal.invariant-read_items-loop
 invariant-read_items-loop l = record {
   counted : length l.items.items ≡ l.counter;
   taken : TakesAll l.items.items l.fn.rest.now l.rest.now;
-  readable : IsReadable (l.room + 1) (list (msgs l.items.items));
+  readable : AreReadable l.room l.items.items;
 }
 
 abbrev pub invariant-read_pairs-loop : goal.invariant-read_pairs-loop
 invariant-read_pairs-loop l = record {
   counted : length l.found.items ≡ l.counter;
   taken : TakesAll (in_row l.found.items) l.fn.rest.now l.rest.now;
-  readable : IsReadable (l.room + 1) (map (pairs l.found.items));
+  readable : AreReadable l.room (in_row l.found.items);
 }
