@@ -1,7 +1,9 @@
 pub mod Equal
 pub mod EqualLaws
 pub mod Parts
+pub mod Read
 pub mod ReadErrors
+pub mod Refuse
 pub mod TreeFalls
 pub mod TreeWrites
 pub mod View

@@ -6,6 +6,7 @@ pub mod encode;
 pub mod laws;
 mod value;
 
+pub use decode::from_slice;
 pub use encode::to_vec;
 pub use rmp_wire::Marker;
 pub use value::{Kind, Value, ValueRef};

@@ -1,10 +1,13 @@
 //! A message of any kind, as a tree.
 mod equal;
+mod head;
 mod kind;
+mod read;
 mod reference;
 mod write;
 
 pub use kind::Kind;
+pub use read::{LIMIT, from_slice};
 pub use reference::ValueRef;
 pub(crate) use write::write_value;
 use std::marker::Model;
