@@ -1,4 +1,8 @@
 //! The engine: lines of hex in, lines of text out.
+ghost use Rattle.std.specs.Prelude.{◌≡◌, ◌++◌, ◌∷◌, [], All, IsTrue, IfOk, OnOk, OnErr, string_bytes};
+ghost use Rattle.mpcanon.specs.Lines.{lines_in, digits_in, IsHex};
+ghost use Rattle.mpcanon.specs.Output.{AddsLines};
+
 use crate::tree_text::{write_hex, write_tree};
 use hex::FromHexError;
 use rmp_serde::decode::Error;
@@ -64,7 +68,9 @@ fn name_of(error: &Error) -> &'static str {
 }
 
 // The digits of a line: all but one carriage return at its end, and the spaces and tabs anywhere.
-fn digits_of(alloc: Global, line: &[u8]) -> Result<Vec<u8>, AllocError> {
+fn digits_of(alloc: Global, line: &[u8]) -> Result<Vec<u8>, AllocError>
+    ensures digits { IfOk result (λ v. v.items ≡ digits_in line.now) }
+{
     let line = line.strip_suffix(b"\r").unwrap_or(line);
     line.iter()
         .copied()
@@ -73,19 +79,27 @@ fn digits_of(alloc: Global, line: &[u8]) -> Result<Vec<u8>, AllocError> {
 }
 
 // Appends a text and the end of its line.
-fn push_line(out: &mut Vec<u8>, mut text: String) -> Result<(), AllocError> {
+fn push_line(out: &mut Vec<u8>, mut text: String) -> Result<(), AllocError>
+    ensures ok { OnOk result (out.new.items ≡ out.old.items ++ string_bytes text ++ 10 ∷ []) }
+    ensures err { OnErr result (out.new.items ≡ out.old.items) }
+{
     text.push('\n')?;
     out.extend_from_slice(text.as_bytes())
 }
 
 // Prints a refusal.
-fn refuse(alloc: Global, out: &mut Vec<u8>, refusal: Refusal) -> Result<bool, RunFault> {
+fn refuse(alloc: Global, out: &mut Vec<u8>, refusal: Refusal) -> Result<bool, RunFault>
+    ensures refused { IfOk result (λ accepted. ¬ IsTrue accepted) }
+    ensures lines { AddsLines out.old.items out.new.items }
+{
     push_line(out, format!(in alloc; "{refusal}")?)?;
     Ok(false)
 }
 
 // Prints the first message of a line's bytes, and says whether there is one.
-fn run_message(alloc: Global, bytes: &[u8], out: &mut Vec<u8>) -> Result<bool, RunFault> {
+fn run_message(alloc: Global, bytes: &[u8], out: &mut Vec<u8>) -> Result<bool, RunFault>
+    ensures lines { AddsLines out.old.items out.new.items }
+{
     let value = match from_slice(alloc, bytes) {
         Ok(value) => value,
         Err(Error::OutOfMemory) => return Err(RunFault::Memory),
@@ -102,7 +116,12 @@ fn run_message(alloc: Global, bytes: &[u8], out: &mut Vec<u8>) -> Result<bool, R
 }
 
 // Prints what a line comes to, and says whether nothing in it was refused.
-fn run_line(alloc: Global, line: &[u8], out: &mut Vec<u8>) -> Result<bool, RunFault> {
+fn run_line(alloc: Global, line: &[u8], out: &mut Vec<u8>) -> Result<bool, RunFault>
+    ensures hex { IfOk result (λ accepted. IsTrue accepted → IsHex line.now) }
+    ensures empty { digits_in line.now ≡ [] → IfOk result IsTrue }
+    ensures silent { digits_in line.now ≡ [] → out.new.items ≡ out.old.items }
+    ensures lines { AddsLines out.old.items out.new.items }
+{
     let digits = digits_of(alloc, line)?;
     if digits.is_empty() {
         return Ok(true);
@@ -119,7 +138,12 @@ fn run_line(alloc: Global, line: &[u8], out: &mut Vec<u8>) -> Result<bool, RunFa
 /// A line ends at a line feed, and the last one may lack it. One carriage return at a line's end is dropped, and spaces
 /// and tabs anywhere. A line that is then empty prints nothing; the rest is read as hex, and its first message as a
 /// value.
-pub fn run(alloc: Global, input: &[u8], out: &mut Vec<u8>) -> Result<bool, RunFault> {
+pub fn run(alloc: Global, input: &[u8], out: &mut Vec<u8>) -> Result<bool, RunFault>
+    // Where nothing is refused, each line is hex.
+    ensures hex { IfOk result (λ accepted. IsTrue accepted → All IsHex (lines_in input.now)) }
+    // However the run ends, what was there before stays, and whole lines follow it.
+    ensures lines { AddsLines out.old.items out.new.items }
+{
     let mut accepted = true;
     for line in input.split(|byte| *byte == b'\n') {
         if !run_line(alloc, line, out)? {
