@@ -106,11 +106,11 @@ fn run_message(alloc: Global, bytes: &[u8], out: &mut Vec<u8>) -> Result<bool, R
         Err(error) => return refuse(alloc, out, Refusal::Message(0, error)),
     };
     let mut text = String::new(alloc);
-    write_tree(&mut text, value.root())?;
+    write_tree(alloc, &mut text, value.root())?;
     text.push(' ')?;
     // What has been read nests within the writer's limit, so that only memory can be wanting.
     let canonical = to_vec(alloc, &value).map_err(|_| RunFault::Memory)?;
-    write_hex(&mut text, canonical.as_slice())?;
+    write_hex(alloc, &mut text, canonical.as_slice())?;
     push_line(out, text)?;
     Ok(true)
 }
@@ -152,3 +152,6 @@ pub fn run(alloc: Global, input: &[u8], out: &mut Vec<u8>) -> Result<bool, RunFa
     }
     Ok(accepted)
 }
+
+#[cfg(test)]
+mod tests;
