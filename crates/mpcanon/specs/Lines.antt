@@ -1,5 +1,5 @@
 -- The lines of the input.
-use Rattle.std.specs.Prelude.{ℕ, ◌==◌, ◌||◌, Bool, not, List, filter, IsOk}
+use Rattle.std.specs.Prelude.{◌≡◌, ℕ, ◌==◌, ◌||◌, Bool, not, List, [], filter, IsOk}
 use Rattle.std.specs.List.{slice_split}
 use Rattle.std.specs.Str.Lines.{strip_carriage_return}
 use Rattle.hex.specs.Hex.{decode_of}
@@ -16,6 +16,10 @@ is_blank b = b == 32 || b == 9
 abbrev pub digits_in : List ℕ → List ℕ
 digits_in line = filter (λ b. not (is_blank b)) (strip_carriage_return line)
 
--- the line is hex, or empty
+-- no digits stand in the line
+abbrev pub IsBlank : List ℕ → Type 0
+IsBlank line = digits_in line ≡ []
+
+-- the line is hex, or blank
 abbrev pub IsHex : List ℕ → Type 0
 IsHex line = IsOk (decode_of (digits_in line))

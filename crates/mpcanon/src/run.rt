@@ -1,6 +1,6 @@
 //! The engine: lines of hex in, lines of text out.
 ghost use Rattle.std.specs.Prelude.{◌≡◌, ◌++◌, ◌∷◌, [], All, IsTrue, IfOk, OnOk, OnErr, string_bytes};
-ghost use Rattle.mpcanon.specs.Lines.{lines_in, digits_in, IsHex};
+ghost use Rattle.mpcanon.specs.Lines.{lines_in, digits_in, IsBlank, IsHex};
 ghost use Rattle.mpcanon.specs.Output.{AddsLines};
 
 use crate::tree_text::{write_hex, write_tree};
@@ -118,8 +118,8 @@ fn run_message(alloc: Global, bytes: &[u8], out: &mut Vec<u8>) -> Result<bool, R
 // Prints what a line comes to, and says whether nothing in it was refused.
 fn run_line(alloc: Global, line: &[u8], out: &mut Vec<u8>) -> Result<bool, RunFault>
     ensures hex { IfOk result (λ accepted. IsTrue accepted → IsHex line.now) }
-    ensures empty { digits_in line.now ≡ [] → IfOk result IsTrue }
-    ensures silent { digits_in line.now ≡ [] → out.new.items ≡ out.old.items }
+    ensures blank { IfOk result (λ accepted. IsBlank line.now → IsTrue accepted) }
+    ensures silent { IsBlank line.now → out.new.items ≡ out.old.items }
     ensures lines { AddsLines out.old.items out.new.items }
 {
     let digits = digits_of(alloc, line)?;
@@ -141,6 +141,9 @@ fn run_line(alloc: Global, line: &[u8], out: &mut Vec<u8>) -> Result<bool, RunFa
 pub fn run(alloc: Global, input: &[u8], out: &mut Vec<u8>) -> Result<bool, RunFault>
     // Where nothing is refused, each line is hex.
     ensures hex { IfOk result (λ accepted. IsTrue accepted → All IsHex (lines_in input.now)) }
+    // Blank lines are accepted, and print nothing.
+    ensures blank { IfOk result (λ accepted. All IsBlank (lines_in input.now) → IsTrue accepted) }
+    ensures silent { OnOk result (All IsBlank (lines_in input.now) → out.new.items ≡ out.old.items) }
     // However the run ends, what was there before stays, and whole lines follow it.
     ensures lines { AddsLines out.old.items out.new.items }
 {
