@@ -1,10 +1,14 @@
 pub mod Canon
 pub mod Canonical
 pub mod Examples
+pub mod HeadReads
 pub mod Heads
 pub mod Lists
 pub mod Markers
 pub mod Pieces
+pub mod NextReads
+pub mod Reading
+pub mod Sources
 pub mod Spellings
 pub mod Taken
 pub mod Told

@@ -8,6 +8,8 @@ pub mod marker;
 pub mod sink;
 pub mod types;
 pub mod write;
+pub mod read;
+pub mod source;
 
 pub use error::{IoFault, MarkerReadError, ValueReadError, ValueWriteError};
 pub use head::Head;
@@ -22,3 +24,5 @@ pub use write::{
 
 #[cfg(test)]
 mod tests;
+pub use read::{next_head, read_head, read_marker};
+pub use source::Source;
