@@ -165,3 +165,6 @@ pub fn from_slice(alloc: Global, input: &[u8]) -> Result<Value, Error>
     let mut rest = input;
     read_value(alloc, &mut rest, LIMIT)
 }
+
+#[cfg(test)]
+mod tests;
