@@ -5,8 +5,8 @@ pub mod HeadReads
 pub mod Heads
 pub mod Lists
 pub mod Markers
-pub mod Pieces
 pub mod NextReads
+pub mod Pieces
 pub mod Reading
 pub mod Sources
 pub mod Spellings

@@ -2,13 +2,13 @@ pub mod Canonical
 pub mod Faults
 pub mod Heads
 pub mod Msg
-pub mod Settings
 pub mod Reading
+pub mod Settings
+pub mod Sinks
+pub mod SliceSink
 pub mod Sources
 pub mod Spelling
 pub mod Stored
 pub mod Taking
 pub mod Types
-pub mod Sinks
 pub mod Writing
-pub mod SliceSink

@@ -1,20 +1,22 @@
-//! The bytes of MessagePack: markers, heads, and what stands behind them.
+//! The bytes of MessagePack: markers and heads, what they are written into and read from, and small types.
 #![tactic(auto)]
 
 pub mod config;
 pub mod error;
 pub mod head;
 pub mod marker;
+pub mod read;
 pub mod sink;
+pub mod source;
 pub mod types;
 pub mod write;
-pub mod read;
-pub mod source;
 
 pub use error::{IoFault, MarkerReadError, ValueReadError, ValueWriteError};
 pub use head::Head;
 pub use marker::Marker;
+pub use read::{next_head, read_head, read_marker};
 pub use sink::{Sink, SinkFault, SliceSink};
+pub use source::Source;
 pub use types::{ByteBuf, Bytes, Ext, F32Bits, F64Bits, MSGPACK_EXT_STRUCT_NAME};
 pub use write::{
     write_array_len, write_bin, write_bin_len, write_bool, write_content, write_ext_meta,
@@ -24,5 +26,3 @@ pub use write::{
 
 #[cfg(test)]
 mod tests;
-pub use read::{next_head, read_head, read_marker};
-pub use source::Source;
