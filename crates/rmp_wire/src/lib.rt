@@ -12,8 +12,9 @@ pub use head::Head;
 pub use marker::Marker;
 pub use sink::{Sink, SinkFault, SliceSink};
 pub use write::{
-    write_array_len, write_bin, write_bin_len, write_bool, write_content, write_ext_meta, write_f32_bits,
-    write_f64_bits, write_map_len, write_nil, write_sint, write_str, write_str_len, write_uint,
+    write_array_len, write_bin, write_bin_len, write_bool, write_content, write_ext_meta,
+    write_f32_bits, write_f64_bits, write_map_len, write_nil, write_sint, write_str, write_str_len,
+    write_uint,
 };
 
 #[cfg(test)]

@@ -172,17 +172,29 @@ fn into_a_slice(rt: HostRuntime) -> Result<(), Fail> {
     let mut buf = [9u8; 3];
     let mut sink = SliceSink::new(&mut buf);
     let fault = IoFault::from(io::ErrorKind::WriteZero);
-    assert_eq!(rt; write_uint(&mut sink, 100500), Err(ValueWriteError::InvalidDataWrite(fault)));
+    assert_eq!(rt;
+        write_uint(&mut sink, 100500),
+        Err(ValueWriteError::InvalidDataWrite(fault))
+    );
     assert_eq!(rt; sink.written(), 3);
-    assert_eq!(rt; write_nil(&mut sink), Err(ValueWriteError::InvalidMarkerWrite(fault)));
-    assert_eq!(rt; write_str(&mut sink, ""), Err(ValueWriteError::InvalidMarkerWrite(fault)));
+    assert_eq!(rt;
+        write_nil(&mut sink),
+        Err(ValueWriteError::InvalidMarkerWrite(fault))
+    );
+    assert_eq!(rt;
+        write_str(&mut sink, ""),
+        Err(ValueWriteError::InvalidMarkerWrite(fault))
+    );
     drop(sink);
     assert_eq!(rt; buf, [0xce, 0, 1]);
 
     let mut buf = [9u8; 4];
     let mut sink = SliceSink::new(&mut buf);
     assert_eq!(rt; write_str(&mut sink, "ab"), Ok(()));
-    assert_eq!(rt; write_str(&mut sink, "c"), Err(ValueWriteError::InvalidDataWrite(fault)));
+    assert_eq!(rt;
+        write_str(&mut sink, "c"),
+        Err(ValueWriteError::InvalidDataWrite(fault))
+    );
     drop(sink);
     assert_eq!(rt; buf, *b"\xa2ab\xa1");
     Ok(())
@@ -190,15 +202,29 @@ fn into_a_slice(rt: HostRuntime) -> Result<(), Fail> {
 
 #[test]
 fn into_other_sinks(rt: HostRuntime) -> Result<(), Fail> {
-    let mut sink = Trickle { bytes: Vec::new(rt.alloc()) };
+    let mut sink = Trickle {
+        bytes: Vec::new(rt.alloc()),
+    };
     write_uint(&mut sink, 100500)?;
     write_str(&mut &mut sink, "no")?;
-    assert_eq!(rt; sink.bytes.as_slice(), b"\xce\x00\x01\x88\x94\xa2no".as_slice());
+    assert_eq!(rt;
+        sink.bytes.as_slice(),
+        b"\xce\x00\x01\x88\x94\xa2no".as_slice()
+    );
 
-    let mut sink = Closing { taken: None, faults: 0 };
+    let mut sink = Closing {
+        taken: None,
+        faults: 0,
+    };
     let fault = IoFault::from(io::ErrorKind::BrokenPipe);
-    assert_eq!(rt; write_uint(&mut sink, 100500), Err(ValueWriteError::InvalidDataWrite(fault)));
-    assert_eq!(rt; write_nil(&mut sink), Err(ValueWriteError::InvalidMarkerWrite(fault)));
+    assert_eq!(rt;
+        write_uint(&mut sink, 100500),
+        Err(ValueWriteError::InvalidDataWrite(fault))
+    );
+    assert_eq!(rt;
+        write_nil(&mut sink),
+        Err(ValueWriteError::InvalidMarkerWrite(fault))
+    );
     assert_eq!(rt; sink.taken, Some(0xce));
     assert_eq!(rt; sink.faults, 2);
     Ok(())

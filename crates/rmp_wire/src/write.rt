@@ -4,6 +4,7 @@
 //! where they lie. A fault before an item's first byte is `InvalidMarkerWrite`, and a later one `InvalidDataWrite`; no
 //! call goes on after a fault.
 #![tactic(auto, unfolding(crate::specs::Heads::canon_head, crate::specs::Taking::byte_of))]
+
 ghost use Rattle.std.specs.Prelude.{◌≡◌, ℕ, ◌<◌, ◌^◌, [], ◌∷◌, ◌++◌, length, pos};
 ghost use Rattle.std.specs.Int.{w8, w16, w32, w64, to_be_bytes};
 ghost use Rattle.rmp_wire.specs.Heads.{canon_head};
