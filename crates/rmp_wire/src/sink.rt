@@ -1,5 +1,6 @@
 //! Where bytes are put.
-ghost use Rattle.std.specs.Prelude.{◌≡◌, ◌≢◌, ℕ, ◌+◌, ◌≤◌, ◌<◌, ◌++◌, Bool, true, false, List, [], ◌∷◌, length, take, drop, Option, None, Some, IfOk, OnOk, OnErr, IsOk, IsTrue, ◌↔◌, min};
+ghost use Rattle.std.specs.Prelude.{◌≡◌, ℕ, ◌≤◌, ◌++◌, ◌↔◌, Bool, true, false, List, [], ◌∷◌, length, take, drop, min};
+ghost use Rattle.std.specs.Prelude.{Option, None, Some, IfOk, IsOk};
 ghost use Rattle.std.specs.Borrow.{GName};
 ghost use Rattle.std.specs.Io.KnownBytes.{WriteAppends};
 ghost use Rattle.rmp_wire.specs.Sinks.{PutCounts, Puts, stopped_after};
@@ -7,7 +8,7 @@ ghost use Rattle.rmp_wire.specs.Sinks.{PutCounts, Puts, stopped_after};
 use crate::error::{IoFault, ValueWriteError};
 use std::io;
 
-/// Why a sink took no byte.
+/// Why a sink took no byte of a piece.
 #[derive(Debug, Drop)]
 pub enum SinkFault {
     /// The sink failed.
@@ -16,7 +17,10 @@ pub enum SinkFault {
     Memory,
 }
 
-/// Where bytes are put.
+/// Where bytes are put, a piece at a time.
+///
+/// A sink that fails takes nothing of that piece, and counts one fault. Room that has run out is a fault as well: it is
+/// the answer `Ok(0)` to a piece that isn't empty. Memory that is refused is no fault. What can't fail counts none.
 pub trait Sink {
     /// Whether the sink takes memory, which it may be refused.
     const TAKES_MEMORY: bool;
@@ -33,15 +37,22 @@ pub trait Sink {
     // The references that the sink writes through.
     ghost place: { Self → List GName } = { λ _. [] };
 
+    /// Takes the first bytes of the piece, and says how many.
+    ///
+    /// `Io` where the sink failed, and `Memory` where a sink that takes memory was refused it.
     fn put(&mut self, piece: &[u8]) -> Result<usize, SinkFault>
         ensures count { IfOk result (λ n. n ≤ length piece.now) }
         ensures bytes { WriteAppends (told self.old) (told self.new) result piece.now }
         ensures counts { PutCounts takes_memory (faults self.old) (faults self.new) piece.now result }
         ensures place { place self.new ≡ place self.old };
 
-    /// Puts the whole piece.
+    /// Puts the piece until it is whole, and stops at the first fault.
+    ///
+    /// `InvalidMarkerWrite` where the piece's first byte wasn't taken, and `InvalidDataWrite` where it was; room that has
+    /// run out is a fault of the kind `WriteZero`. `OutOfMemory` where memory was refused.
     fn put_all(&mut self, piece: &[u8]) -> Result<(), ValueWriteError>
-        ensures writes { Puts takes_memory piece.now (told self.old) (told self.new) (faults self.old) (faults self.new) result }
+        ensures writes { Puts takes_memory piece.now (told self.old) (told self.new)
+            (faults self.old) (faults self.new) result }
         ensures place { place self.new ≡ place self.old }
     {
         let mut at = 0;
@@ -199,7 +210,8 @@ impl Sink for SliceSink<'_> {
 
     #[inline(always)]
     fn put_all(&mut self, piece: &[u8]) -> Result<(), ValueWriteError>
-        ensures writes { Puts false piece.now (Some (written_bytes self.old)) (Some (written_bytes self.new)) (slice_faults self.old) (slice_faults self.new) result }
+        ensures writes { Puts false piece.now (Some (written_bytes self.old)) (Some (written_bytes self.new))
+            (slice_faults self.old) (slice_faults self.new) result }
         ensures place { slice_name self.new ∷ [] ≡ slice_name self.old ∷ [] }
         ensures fits { IsOk result ↔ (length piece.now ≤ length (unwritten self.old)) }
         ensures rest { unwritten self.new ≡ drop (length piece.now) (unwritten self.old) }

@@ -1,3 +1,7 @@
+ghost use Rattle.std.specs.Prelude.{◌≡◌, IfOk, take, pos};
+ghost use Rattle.rmp_wire.specs.Heads.{canon_head};
+ghost use Rattle.rmp_wire.specs.declared.head.Head.TheVariants.{Whole};
+
 use super::*;
 use std::io;
 use std::mem::size_of;
@@ -55,6 +59,15 @@ impl Sink for Closing {
         self.faults = self.faults.wrapping_add(1);
         Err(SinkFault::Io(io::Error::from(io::ErrorKind::BrokenPipe)))
     }
+}
+
+// What a caller that owns the slice knows of it once the sink is gone.
+fn spell_into(buf: &mut [u8], n: u64) -> Result<usize, ValueWriteError>
+    ensures { IfOk result (λ len. take len buf.new ≡ canon_head (Whole (pos n))) }
+{
+    let mut sink = SliceSink::new(buf);
+    write_uint(&mut sink, n)?;
+    Ok(sink.written())
 }
 
 #[test]
@@ -187,6 +200,10 @@ fn into_a_slice(rt: HostRuntime) -> Result<(), Fail> {
     );
     drop(sink);
     assert_eq!(rt; buf, [0xce, 0, 1]);
+
+    let mut buf = [9u8; 5];
+    assert_eq!(rt; spell_into(&mut buf, 300), Ok(3));
+    assert_eq!(rt; buf, [0xcd, 0x01, 0x2c, 9, 9]);
 
     let mut buf = [9u8; 4];
     let mut sink = SliceSink::new(&mut buf);
