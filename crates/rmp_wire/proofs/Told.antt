@@ -25,9 +25,6 @@ take_further a b c bs i n p q =
 pub take_same : (a b c : Option (List ℕ)) (bs : List ℕ) (i n : ℕ) → n ≡ 0 → Appends a b (take i bs) → Appends b c (take n (take (length bs - i) (drop i bs))) → Appends a c (take i bs)
 take_same a b c bs i n none p q = subst (λ k. Appends a c (take k bs)) (omega (arith, none)) (take_further a b c bs i n p q)
 
-pub appends_as : (a b : Option (List ℕ)) (x y : List ℕ) → x ≡ y → Appends a b x → Appends a b y
-appends_as a b x y e p = subst (Appends a b) e p
-
 -- ---- how a write of a piece ends
 
 pub puts_done : {A : Type 0} {m : Bool} {bytes : List ℕ} {a b : Option (List ℕ)} {f g : ℕ} {u : A} → Appends a b bytes → g ≡ f → Puts m bytes a b f g (Ok u)
