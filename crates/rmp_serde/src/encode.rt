@@ -6,9 +6,8 @@ ghost use Rattle.rmp_serde.specs.declared.encode.error.Error.TheVariants as erro
 
 mod error;
 
+use crate::value::{Value, write_value};
 pub use error::Error;
-
-use crate::value::{write_value, Value};
 use std::alloc::Global;
 
 /// The canonical spelling of a value, the shortest that it has.

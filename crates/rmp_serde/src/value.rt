@@ -9,8 +9,8 @@ mod write;
 pub use kind::Kind;
 pub use read::{LIMIT, from_slice};
 pub use reference::ValueRef;
-pub(crate) use write::write_value;
 use std::marker::Model;
+pub(crate) use write::write_value;
 
 /// A message of any kind, as a tree.
 ///
@@ -58,3 +58,5 @@ impl Model for Value {
     ghost size_decreases = { λ a h. falls a.node };
 }
 
+#[cfg(test)]
+mod tests;
