@@ -149,10 +149,12 @@ none_behind m s (Some p) h e f =
     let t : Took p.0 (byte_of m) s p.1 = head_after_took m s p.0 p.1 h e in
     absurd (f p.0 t.rest p.1 t.split t.is_head)
 
-pub marker_reason : (input after : List ℕ) (fault : IoFault) → FailsMarker (Some input) (Some after) 0 0 fault → IsHeadReason (errors.InvalidMarkerRead fault) input
+pub marker_reason : (input after : List ℕ) (fault : IoFault) → FailsMarker (Some input) (Some after) 0 0 fault
+    → IsHeadReason (errors.InvalidMarkerRead fault) input
 marker_reason input after fault f = (f.end refl, f.none_ahead refl)
 
-pub head_reason : (m : Marker) (e : ValueReadError) (input behind after : List ℕ) → IsBytes input → TakesMarker m (Some input) (Some behind) → FailsHead m (Some behind) (Some after) 0 0 e
+pub head_reason : (m : Marker) (e : ValueReadError) (input behind after : List ℕ) → IsBytes input
+    → TakesMarker m (Some input) (Some behind) → FailsHead m (Some behind) (Some after) 0 0 e
     → (m ≡ marker.Reserved → ◌≡◌ {A = Result Head ValueReadError} (Err e) (Err (wire.TypeMismatch marker.Reserved))) → IsHeadReason (error_of e) input
 head_reason m (wire.InvalidMarkerRead fault) input behind after bs t f r = absurd f
 head_reason m (wire.InvalidDataRead fault) input behind after bs t f r =
@@ -164,7 +166,8 @@ head_reason m (wire.TypeMismatch k) input behind after bs t f r =
     let byte : t.byte ≡ 0xc1 = reserved_byte t.byte t.is_byte (sym t.is_marker ∙ f.0) in
     record { behind = behind; begins = t.taken ∙ ap (λ b. b ∷ behind) byte; marker = f.1 }
 
-pub head_taken : (m : Marker) (h : Head) (input behind after : List ℕ) → TakesMarker m (Some input) (Some behind) → TakesRest m h (Some behind) (Some after) → TakesHead h input after
+pub head_taken : (m : Marker) (h : Head) (input behind after : List ℕ) → TakesMarker m (Some input) (Some behind)
+    → TakesRest m h (Some behind) (Some after) → TakesHead h input after
 head_taken m h input behind after t u =
     let byte : t.byte ≡ byte_of m = sym (ap byte_of t.is_marker ∙ byte_of-marker_of t.byte t.is_byte) in
     record { bytes = byte_of m ∷ u.rest; spelled = u.is_head; taken = t.taken ∙ ap (λ b. b ∷ behind) byte ∙ ap (λ s. byte_of m ∷ s) u.taken }
