@@ -1,5 +1,5 @@
 -- Where no head stands at the front, the input ends inside of one, or begins with c1.
-use Rattle.std.proofs.Common.{Fits, ◌≡◌, ◌≢◌, ◌∙◌, sym, ap, subst, ℕ, suc, ◌+◌, ◌<◌, ◌≤◌, List, [], ◌∷◌, ◌++◌, length, take, drop, get_or, Option, Some, None, refl, arith, false, nat_lt, pos, inl, inr}
+use Rattle.std.proofs.Common.{Fits, ◌≡◌, ◌≢◌, ◌∙◌, sym, ap, subst, ℕ, suc, ◌+◌, ◌<◌, ◌≤◌, List, [], ◌∷◌, ◌++◌, length, take, drop, get_or, Option, Some, None, refl, arith, false, nat_lt, pos, inl, inr, Result, Err}
 use Rattle.std.specs.Int.{Width, w8, w16, w32, w64, from_be_bytes, byte_len, cast_signed}
 use Rattle.std.proofs.lemmas.List.{length-append, length-drop, take-append-le, take-append-drop, take_at}
 use Rattle.std.proofs.lemmas.Bool.{le-ltb, cases_lt}
@@ -12,9 +12,15 @@ use Rattle.rmp_wire.specs.Spelling.{IsBytes}
 use Rattle.rmp_wire.specs.Taking.{marker_of, byte_of, take_number, take_tag, take_then, take_map, head_after, take_head}
 use Rattle.rmp_wire.proofs.Heads.{take_head_takes}
 use Rattle.rmp_wire.proofs.Markers.{byte_of-marker_of}
-use Rattle.rmp_wire.proofs.Taken.{TookHead, take_head_took}
+use Rattle.rmp_wire.proofs.Taken.{Took, head_after_took, TookHead, take_head_took}
 use Rattle.rmp_serde.specs.Read.{TakesHead}
-use Rattle.rmp_serde.specs.Refuse.{HeadIsCut, IsReserved}
+use Rattle.rmp_serde.specs.Refuse.{HeadIsCut, IsHeadReason}
+use Rattle.rmp_serde.specs.ReadErrors.{error_of}
+use Rattle.rmp_serde.specs.declared.decode.error.Error.TheVariants as errors
+use Rattle.rmp_wire.specs.declared.error.IoFault.{IoFault}
+use Rattle.rmp_wire.specs.declared.error.ValueReadError.{ValueReadError}
+use Rattle.rmp_wire.specs.declared.error.ValueReadError.TheVariants as wire
+use Rattle.rmp_wire.specs.Reading.{TakesMarker, FailsMarker, TakesHead as TakesRest, IsCut, FailsHead}
 
 -- ---- long bytes have a head at the front
 
@@ -133,25 +139,35 @@ pub bytes_from : (s : List ℕ) → ((i : ℕ) → Fits w8 (get_or s i 0)) → I
 bytes_from [] h = tt
 bytes_from (b ∷ s) h = (omega (arith, h 0), bytes_from s (λ i. h (suc i)))
 
-taken_head : (b : ℕ) (s : List ℕ) (h : Head) (x : List ℕ) → IsBytes (b ∷ s) → head_after (marker_of b) s ≡ Some (h, x) → TakesHead h (b ∷ s) x
-unfolding take_head
-taken_head b s h x bs e =
-    let took : TookHead h (b ∷ s) x = take_head_took (b ∷ s) h x bs e in
-    record { bytes = took.head; spelled = took.is_head; taken = took.split }
-
 reserved_byte : (b : ℕ) → b < 256 → marker_of b ≡ marker.Reserved → b ≡ 0xc1
 unfolding byte_of
 reserved_byte b h e = sym (byte_of-marker_of b h) ∙ ap byte_of e
 
-pub head_is_reserved : (b : ℕ) (s place : List ℕ) (m : Marker) → IsBytes place → place ≡ b ∷ s → m ≡ marker_of b → m ≡ marker.Reserved → IsReserved m place
-head_is_reserved b s place m h e is r =
-    let first : b < 256 = (subst IsBytes e h).0 in
-    record { behind = s; begins = e ∙ ap (λ k. k ∷ s) (reserved_byte b first (sym is ∙ r)); marker = r }
+none_behind : (m : Marker) (s : List ℕ) (r : Option (Head × List ℕ)) → IsBytes s → head_after m s ≡ r → IsCut m (Some s) → r ≡ None
+none_behind m s None h e f = refl
+none_behind m s (Some p) h e f =
+    let t : Took p.0 (byte_of m) s p.1 = head_after_took m s p.0 p.1 h e in
+    absurd (f p.0 t.rest p.1 t.split t.is_head)
 
-pub head_is_cut : (b : ℕ) (s place : List ℕ) (m : Marker) → IsBytes place → place ≡ b ∷ s → m ≡ marker_of b → m ≢ marker.Reserved → None ≡ head_after m s → HeadIsCut place
-head_is_cut b s place m h e is r none =
-    subst HeadIsCut (sym e) (cut_head b s (subst IsBytes e h) (λ k. r (is ∙ k)) (sym (none ∙ ap (λ k. head_after k s) is)))
+pub marker_reason : (input after : List ℕ) (fault : IoFault) → FailsMarker (Some input) (Some after) 0 0 fault
+    → IsHeadReason (errors.InvalidMarkerRead fault) input
+marker_reason input after fault f = (f.end refl, f.none_ahead refl)
 
-pub head_is_taken : (b : ℕ) (s place : List ℕ) (m : Marker) (head : Head) (x : List ℕ) → IsBytes place → place ≡ b ∷ s → m ≡ marker_of b → Some (head, x) ≡ head_after m s → TakesHead head place x
-head_is_taken b s place m head x h e is some =
-    subst (λ p. TakesHead head p x) (sym e) (taken_head b s head x (subst IsBytes e h) (sym (some ∙ ap (λ k. head_after k s) is)))
+pub head_reason : (m : Marker) (e : ValueReadError) (input behind after : List ℕ) → IsBytes input
+    → TakesMarker m (Some input) (Some behind) → FailsHead m (Some behind) (Some after) 0 0 e
+    → (m ≡ marker.Reserved → ◌≡◌ {A = Result Head ValueReadError} (Err e) (Err (wire.TypeMismatch marker.Reserved))) → IsHeadReason (error_of e) input
+head_reason m (wire.InvalidMarkerRead fault) input behind after bs t f r = absurd f
+head_reason m (wire.InvalidDataRead fault) input behind after bs t f r =
+    let whole : IsBytes (t.byte ∷ behind) = subst IsBytes t.taken bs in
+    let named : m ≢ marker.Reserved = λ k. let e : ◌≡◌ {A = Result Head ValueReadError} (Err (wire.InvalidDataRead fault)) (Err (wire.TypeMismatch marker.Reserved)) = r k in cc in
+    let none : head_after m behind ≡ None = none_behind m behind (head_after m behind) whole.1 refl (f.cut refl) in
+    (f.end refl, subst HeadIsCut (sym t.taken) (cut_head t.byte behind whole (λ k. named (t.is_marker ∙ k)) (ap (λ k. head_after k behind) (sym t.is_marker) ∙ none)))
+head_reason m (wire.TypeMismatch k) input behind after bs t f r =
+    let byte : t.byte ≡ 0xc1 = reserved_byte t.byte t.is_byte (sym t.is_marker ∙ f.0) in
+    record { behind = behind; begins = t.taken ∙ ap (λ b. b ∷ behind) byte; marker = f.1 }
+
+pub head_taken : (m : Marker) (h : Head) (input behind after : List ℕ) → TakesMarker m (Some input) (Some behind)
+    → TakesRest m h (Some behind) (Some after) → TakesHead h input after
+head_taken m h input behind after t u =
+    let byte : t.byte ≡ byte_of m = sym (ap byte_of t.is_marker ∙ byte_of-marker_of t.byte t.is_byte) in
+    record { bytes = byte_of m ∷ u.rest; spelled = u.is_head; taken = t.taken ∙ ap (λ b. b ∷ behind) byte ∙ ap (λ s. byte_of m ∷ s) u.taken }

@@ -175,7 +175,8 @@ record ReadableAt (limit : ℕ) (place : List ℕ) : Type 0 where
   begins : Begins message place
   readable : IsReadable limit message
 
-next_in_row : (before : List Msg) (all : Msgs) (d : ℕ) (input place bytes rest : List ℕ) → TakesAll before input place → length before < count all → SpellsAll bytes all → input ≡ bytes ++ rest
+next_in_row : (before : List Msg) (all : Msgs) (d : ℕ) (input place bytes rest : List ℕ) → TakesAll before input place
+    → length before < count all → SpellsAll bytes all → input ≡ bytes ++ rest
     → depth_all all < d → ItemsUtf8 all → ReadableAt d place
 next_in_row [] no_items d input place bytes rest t l s e n u = absurd (omega arith)
 next_in_row (x ∷ xs) no_items d input place bytes rest t l s e n u = absurd (omega arith)
@@ -196,7 +197,8 @@ next_in_row (x ∷ xs) (item m ms) d input place bytes rest t l s e n u =
     let once : (j.first ≡ s.first) × (x ≡ m) × (j.second ++ place ≡ s.second ++ rest) = spelled_once x m j.first s.first (j.second ++ place) (s.second ++ rest) j.is_first s.is_first (sym left ∙ right) in
     next_in_row xs ms d (j.second ++ place) place s.second rest (record { bytes = j.second; spelled = j.is_second; taken = refl }) (omega arith) s.is_second once.2 (omega arith) u.1
 
-row_at : {n d : ℕ} {before : List Msg} {behind place : List ℕ} → Row n d behind → TakesAll before behind place → length before < n → ReadableAt d place
+row_at : {n d : ℕ} {before : List Msg} {behind place : List ℕ} → Row n d behind → TakesAll before behind place → length before < n
+    → ReadableAt d place
 row_at {n} {d} {before} {behind} {place} r t l =
     next_in_row before r.all d behind place r.bytes r.rest t (omega (arith, r.number)) r.spelled r.split r.nested r.utf8
 
@@ -300,5 +302,6 @@ no_reason left (errors.Utf8Error n) place u r h = not_invalid left r.begins r.re
 no_reason left errors.DepthLimitExceeded place u r h = not_nest r.begins (subst (λ d. IsReadable d r.message) h.0 r.readable) h.1
 no_reason left errors.OutOfMemory place u r h = u refl
 
-pub nothing_readable : (limit : ℕ) (e : Error) (input : List ℕ) → Refusal limit e input → e ≢ errors.OutOfMemory → (m : Msg) → Begins m input → IsReadable limit m → ⊥
+pub nothing_readable : (limit : ℕ) (e : Error) (input : List ℕ) → Refusal limit e input → e ≢ errors.OutOfMemory → (m : Msg)
+    → Begins m input → IsReadable limit m → ⊥
 nothing_readable limit e input h u m b r = no_reason h.left e h.place u (wanted_at h.wanted (record { message = m; begins = b; readable = r })) h.reason

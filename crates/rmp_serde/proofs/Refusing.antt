@@ -30,7 +30,8 @@ refused_at_head room e input h = refused_here room e input (reason_from_head roo
 one_level : (room : ℕ) → 0 < room → suc (room - 1) ≡ room
 one_level room h = omega arith
 
-pub refused_in_list : {head : Head} {n : ℕ} {behind : List ℕ} (room : ℕ) (e : Error) → 0 < room → head ≡ heads.Array n → RowRefusal (room - 1) n e behind → RefusedBehind room head e behind
+pub refused_in_list : {head : Head} {n : ℕ} {behind : List ℕ} (room : ℕ) (e : Error) → 0 < room → head ≡ heads.Array n
+    → RowRefusal (room - 1) n e behind → RefusedBehind room head e behind
 refused_in_list {head} {n} {behind} room e positive is r = λ input t. subst (λ limit. Refusal limit e input) (one_level room positive) (record {
   left = r.refusal.left;
   place = r.refusal.place;
@@ -38,7 +39,8 @@ refused_in_list {head} {n} {behind} room e positive is r = λ input t. subst (λ
   reason = r.refusal.reason;
 })
 
-pub refused_in_map : {head : Head} {n : ℕ} {behind : List ℕ} (room : ℕ) (e : Error) → 0 < room → head ≡ heads.Map n → RowRefusal (room - 1) (2 * n) e behind → RefusedBehind room head e behind
+pub refused_in_map : {head : Head} {n : ℕ} {behind : List ℕ} (room : ℕ) (e : Error) → 0 < room → head ≡ heads.Map n
+    → RowRefusal (room - 1) (2 * n) e behind → RefusedBehind room head e behind
 refused_in_map {head} {n} {behind} room e positive is r = λ input t. subst (λ limit. Refusal limit e input) (one_level room positive) (record {
   left = r.refusal.left;
   place = r.refusal.place;
@@ -46,7 +48,8 @@ refused_in_map {head} {n} {behind} room e positive is r = λ input t. subst (λ 
   reason = r.refusal.reason;
 })
 
-pub refused_content : {head k : Head} {behind : List ℕ} (room : ℕ) (e : Error) → head ≡ k → IsDataEnd e → length behind < content_len k → RefusedBehind room head e behind
+pub refused_content : {head k : Head} {behind : List ℕ} (room : ℕ) (e : Error) → head ≡ k → IsDataEnd e → length behind < content_len k
+    → RefusedBehind room head e behind
 refused_content {head} {k} {behind} room (errors.InvalidDataRead x) is d h = λ input t.
     refused_here room (errors.InvalidDataRead x) input (d, inr (record { head = k; behind = behind; opens = subst (λ y. TakesHead y input behind) is t; cut = h }))
 refused_content room (errors.InvalidMarkerRead x) is d h = absurd d
@@ -59,7 +62,8 @@ refused_content room (errors.Utf8Error m) is d h = absurd d
 refused_content room errors.DepthLimitExceeded is d h = absurd d
 refused_content room errors.OutOfMemory is d h = absurd d
 
-pub refused_text : {head : Head} {n : ℕ} {behind : List ℕ} {x : Utf8Error} (room : ℕ) (s rest : List ℕ) → head ≡ heads.Text n → behind ≡ s ++ rest → length s ≡ n → ¬ IsUtf8 s → RefusedBehind room head (errors.Utf8Error x) behind
+pub refused_text : {head : Head} {n : ℕ} {behind : List ℕ} {x : Utf8Error} (room : ℕ) (s rest : List ℕ) → head ≡ heads.Text n
+    → behind ≡ s ++ rest → length s ≡ n → ¬ IsUtf8 s → RefusedBehind room head (errors.Utf8Error x) behind
 refused_text {head} {n} {behind} {x} room s rest is taken len bad = λ input t.
     refused_here room (errors.Utf8Error x) input (record {
       text = s;
@@ -70,7 +74,8 @@ refused_text {head} {n} {behind} {x} room s rest is taken len bad = λ input t.
       invalid = bad;
     })
 
-pub refused_nest : {head k : Head} {behind : List ℕ} (room : ℕ) → head ≡ k → Nests k → room ≡ 1 → RefusedBehind room head errors.DepthLimitExceeded behind
+pub refused_nest : {head k : Head} {behind : List ℕ} (room : ℕ) → head ≡ k → Nests k → room ≡ 1
+    → RefusedBehind room head errors.DepthLimitExceeded behind
 refused_nest {head} {k} {behind} room is nests h = λ input t.
     refused_here room errors.DepthLimitExceeded input (h, record { head = k; behind = behind; opens = subst (λ y. TakesHead y input behind) is t; nests = nests })
 

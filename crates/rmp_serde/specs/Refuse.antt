@@ -14,13 +14,15 @@ use Rattle.rmp_serde.specs.Read.{TakesHead, TakesAll, AreReadable}
 use Rattle.rmp_serde.specs.declared.decode.error.Error.{Error}
 use Rattle.rmp_serde.specs.declared.decode.error.Error.TheVariants as errors
 
--- A message is wanted at a place of the input, behind readable messages and inside of open lists and maps. The first number is the limit at the input,
--- the second at the place: it falls by one at each list and map. In a map of n pairs, 2 * n messages stand in a row.
+-- A message is wanted at a place of the input, behind readable messages and inside of open lists and maps. The first number is the limit at the
+-- input, the second at the place: it falls by one at each list and map. In a map of n pairs, 2 * n messages stand in a row.
 pub data Wanted : ℕ → ℕ → List ℕ → List ℕ → Type 0 where
   first : {limit : ℕ} {input : List ℕ} → Wanted limit limit input input
-  in_list : {limit left n : ℕ} {ms : List Msg} {input behind after place : List ℕ} → TakesHead (Array n) input behind → TakesAll ms behind after → AreReadable limit ms → length ms < n
+  in_list : {limit left n : ℕ} {ms : List Msg} {input behind after place : List ℕ} → TakesHead (Array n) input behind
+      → TakesAll ms behind after → AreReadable limit ms → length ms < n
       → Wanted limit left after place → Wanted (suc limit) left input place
-  in_map : {limit left n : ℕ} {ms : List Msg} {input behind after place : List ℕ} → TakesHead (Map n) input behind → TakesAll ms behind after → AreReadable limit ms → length ms < 2 * n
+  in_map : {limit left n : ℕ} {ms : List Msg} {input behind after place : List ℕ} → TakesHead (Map n) input behind
+      → TakesAll ms behind after → AreReadable limit ms → length ms < 2 * n
       → Wanted limit left after place → Wanted (suc limit) left input place
 
 -- the input ends inside of a head: what is left is a beginning of one, with a byte at least
