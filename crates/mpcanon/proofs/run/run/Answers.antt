@@ -1,4 +1,4 @@
-use Rattle.std.proofs.Common.{eqb, tests, rules, arith, sym, ◌∙◌, refl, ◌≡◌, List, ℕ, All, map, Bor}
+use Rattle.std.proofs.Common.{eqb, tests, rules, sym, ◌∙◌, ◌≡◌, List, ℕ, map, Bor}
 use Rattle.std.proofs.lemmas.Iterator.Consumers.{YieldsList-end}
 use Rattle.std.proofs.lemmas.Iterator.Splits.{YieldsList-from_slice_split}
 use Rattle.mpcanon.specs.Lines.{lines_in, IsBlank, IsHex}

@@ -1,4 +1,4 @@
-use Rattle.std.proofs.Common.{◌≡◌, List, All, IsTrue, map, Bor}
+use Rattle.std.proofs.Common.{◌≡◌, All, IsTrue, map}
 use Rattle.mpcanon.specs.Lines.{IsBlank, IsHex}
 use Rattle.mpcanon.specs.Output.{AddsLines}
 use Rattle.mpcanon.proofs.run.run.Given as goal

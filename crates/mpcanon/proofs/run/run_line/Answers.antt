@@ -1,4 +1,4 @@
-use Rattle.std.proofs.Common.{rules, arith, ◌≡◌, length}
+use Rattle.std.proofs.Common.{rules, ◌≡◌, length}
 use Rattle.mpcanon.proofs.Reading.{no_digits_hex}
 use Rattle.mpcanon.proofs.run.run_line.Goals as goal
 
