@@ -1,3 +1,4 @@
+pub use Rattle.rmp_wire.specs.Msg
 pub mod Equal
 pub mod EqualLaws
 pub mod Parts

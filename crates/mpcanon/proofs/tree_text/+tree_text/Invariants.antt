@@ -1,6 +1,6 @@
 -- A part of a list or a map is less deep than the whole, and `write_tree` hands the whole itself on.
 use Rattle.std.proofs.Common.{◌+◌, ◌*◌}
-use Rattle.rmp_wire.specs.Msg.{depth}
+use Rattle.rmp_serde.specs.Msg.{depth}
 use Rattle.rmp_serde.specs.Parts.{tree}
 use Rattle.mpcanon.proofs.tree_text.+tree_text.Given as goal
 
