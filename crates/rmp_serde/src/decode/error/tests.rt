@@ -58,5 +58,5 @@ fn is_small(rt: HostRuntime) {
         size_of::<Error>(),
         size_of::<Result<u8, Error>>(),
     );
-    assert_eq!(rt; sizes, (48, 56, 64));
+    assert_eq!(rt; sizes, (32, 40, 48));
 }
