@@ -67,13 +67,14 @@ takes_next m h old mid new t u = record {
   taken = Consumes-trans old mid new (byte_of m ∷ []) u.rest (byte_taken m old mid t) u.taken;
 }
 
-fails_after : (m : Marker) (old mid new : Option (List ℕ)) (before between after : ℕ) (e : ValueReadError) → Consumes old mid (byte_of m ∷ []) → between ≡ before → FailsHead m mid new between after e → FailsNext old new before after e
-fails_after m old mid new before between after (InvalidMarkerRead f) c same t = absurd t
-fails_after m old mid new before between after (InvalidDataRead f) c same t = record {
+fails_after : (m : Marker) (old mid new : Option (List ℕ)) (before between after : ℕ) (e : ValueReadError) → Consumes old mid (byte_of m ∷ []) → between ≡ before
+    → (m ≡ Reserved → ◌≡◌ {A = Result Head ValueReadError} (Err e) (Err (TypeMismatch Reserved))) → FailsHead m mid new between after e → FailsNext old new before after e
+fails_after m old mid new before between after (InvalidMarkerRead f) c same only t = absurd t
+fails_after m old mid new before between after (InvalidDataRead f) c same only t = record {
   none = λ q. no_head_cut m old mid c (t.cut (q ∙ sym same));
-  leaves = (record { marker = m; part = t.part.part; short = t.part.short; taken = Consumes-trans old mid new (byte_of m ∷ []) t.part.part c t.part.taken }, λ q. t.end (q ∙ sym same));
+  leaves = (record { marker = m; opens = λ is. let wrong = only is in absurd (cc); part = t.part.part; short = t.part.short; taken = Consumes-trans old mid new (byte_of m ∷ []) t.part.part c t.part.taken }, λ q. t.end (q ∙ sym same));
 }
-fails_after m old mid new before between after (TypeMismatch k) c same t = record {
+fails_after m old mid new before between after (TypeMismatch k) c same only t = record {
   none = λ q. no_head_cut m old mid c (subst (λ n. IsCut n mid) (sym t.0) (reserved_cut mid));
   leaves = (t.1, subst (λ n. Consumes old new (byte_of n ∷ [])) t.0 (Consumes-kept old mid new (byte_of m ∷ []) c t.2), t.3 ∙ same);
 }
@@ -89,7 +90,7 @@ module _ {S : Type 0} (g : Ghosts S) where
   pub fails_at_head : (m : Marker) (e : ValueReadError) (r : Result (Marker × Head) ValueReadError) (old mid new : S) → r ≡ Err e → ReadsMarker g old mid (Ok m) → ReadsHead g m mid new (Err e) → ReadsNext g old new r
   fails_at_head m e r old mid new was t u =
       subst (ReadsNext g old new) (sym was)
-      (record { ok = tt; sound = tt; err = fails_after m _ (g.ahead mid) _ _ (g.faults mid) _ e (byte_taken m (g.ahead old) (g.ahead mid) t.ok) t.sound u.err; place = u.place ∙ t.place })
+      (record { ok = tt; sound = tt; err = fails_after m _ (g.ahead mid) _ _ (g.faults mid) _ e (byte_taken m (g.ahead old) (g.ahead mid) t.ok) t.sound u.reserved u.err; place = u.place ∙ t.place })
 
 -- ---- the same by the functions that take a head
 

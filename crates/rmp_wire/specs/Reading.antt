@@ -1,5 +1,5 @@
 -- What reading a marker or a head takes of the bytes ahead, and what it means where none could be read.
-use Rattle.std.specs.Prelude.{◌≡◌, ℕ, ◌<◌, ◌^◌, List, [], ◌∷◌, ◌++◌, length, ℤ, FitsSigned, Option, IfSome, Result, Err, IfOk, OnOk, IfErr}
+use Rattle.std.specs.Prelude.{◌≡◌, ◌≢◌, ℕ, ◌<◌, ◌^◌, List, [], ◌∷◌, ◌++◌, length, ℤ, FitsSigned, Option, IfSome, Result, Err, IfOk, OnOk, IfErr}
 use Rattle.std.specs.Int.{Width, w8, to_be_bytes, byte_len}
 use mir.Val.{bits}
 use Rattle.std.specs.Io.KnownBytes.{Consumes, Keeps, IsAtEnd}
@@ -74,6 +74,7 @@ NoHead ahead = IfSome ahead (λ xs. (h : Head) (x rest : List ℕ) → xs ≡ x 
 -- of the bytes ahead a marker's byte and a part of its head were taken
 pub record TakesNextPart (old new : Option (List ℕ)) : Type 0 where
   pub marker : Marker
+  pub opens : marker ≢ Reserved
   pub part : List ℕ
   pub short : (h : Head) (x : List ℕ) → IsHead h (byte_of marker ∷ x) → length part < length x
   pub taken : Consumes old new (byte_of marker ∷ part)
