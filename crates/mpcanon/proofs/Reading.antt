@@ -1,6 +1,6 @@
 -- Lines and their digits.
-use Rattle.std.proofs.Common.{◌≡◌, ℕ, List, [], ◌∷◌, ◌++◌, All, map, suc, length, sym, arith}
-use Rattle.std.proofs.lemmas.List.{map-append}
+use Rattle.std.proofs.Common.{◌≡◌, ℕ, ◌+◌, ◌<◌, ◌≤◌, List, [], ◌∷◌, ◌++◌, All, map, take, get_or, suc, length, sym, ap, subst, ◌∙◌, arith}
+use Rattle.std.proofs.lemmas.List.{map_more, take_all}
 use Rattle.std.proofs.lemmas.List.Elements.{All-push, All-cons}
 use Rattle.hex.specs.Hex.{decode_pairs}
 use Rattle.mpcanon.specs.Lines.{digits_in, IsHex}
@@ -11,11 +11,7 @@ unfolding decode_pairs
 no_digits_hex line [] e h = rw (sym e)
 no_digits_hex line (x ∷ xs) e h = absurd (omega arith)
 
--- one more element
-pub All-map-push : {A B : Type 0} (P : B → Type 0) (v : A → B) (xs : List A) (x : A) → All P (map v xs) → P (v x) → All P (map v (xs ++ x ∷ []))
-All-map-push P v xs x h p = rw map-append (All-push P (map v xs) (v x) h p)
-
-abbrev Split : {B : Type 0} → (B → Type 0) → List B → B → Type 0
+abbrev pub Split : {B : Type 0} → (B → Type 0) → List B → B → Type 0
 Split P ys y = All P ys × P y
 
 All-split : {B : Type 0} (P : B → Type 0) (ys : List B) (y : B) → All P (ys ++ y ∷ []) → Split P ys y
@@ -24,9 +20,19 @@ All-split P (x ∷ xs) y h =
     let t = All-split P xs y (λ k d lt. h (suc k) d (omega (arith, lt))) in
     (All-cons P x xs (h 0 x (omega arith)) t.0, t.1)
 
--- one element less
-pub All-map-front : {A B : Type 0} (P : B → Type 0) (v : A → B) (xs : List A) (x : A) → All P (map v (xs ++ x ∷ [])) → All P (map v xs)
-All-map-front P v xs x h = (All-split P (map v xs) (v x) (rw map-append at h)).0
+module _ {A B : Type 0} (P : B → Type 0) (v : A → B) (xs : List A) (i : ℕ) (d : A) (within : i < length xs) where
+  -- one more element
+  pub All-more : All P (map v (take i xs)) → P (v (get_or xs i d)) → All P (map v (take (i + 1) xs))
+  All-more h p = subst (All P) (sym (map_more v xs i d within)) (All-push P (map v (take i xs)) (v (get_or xs i d)) h p)
 
-pub All-map-last : {A B : Type 0} (P : B → Type 0) (v : A → B) (xs : List A) (x : A) → All P (map v (xs ++ x ∷ [])) → P (v x)
-All-map-last P v xs x h = (All-split P (map v xs) (v x) (rw map-append at h)).1
+  -- one element less, and the last one
+  pub All-less : All P (map v (take (i + 1) xs)) → Split P (map v (take i xs)) (v (get_or xs i d))
+  All-less h = All-split P (map v (take i xs)) (v (get_or xs i d)) (subst (All P) (map_more v xs i d within) h)
+
+pub All-front : {A B : Type 0} (P : B → Type 0) (v : A → B) (xs : List A) (i : ℕ) → i < length xs → All P (map v (take (i + 1) xs)) → All P (map v (take i xs))
+All-front P v [] i within h = absurd (omega arith)
+All-front P v (x ∷ xs) i within h = (All-less P v (x ∷ xs) i x within h).0
+
+-- all were gone over
+pub all_taken : {A B : Type 0} (v : A → B) (i : ℕ) (xs items : List A) (all : List B) → length xs ≤ i → xs ≡ items → map v items ≡ all → map v (take i xs) ≡ all
+all_taken v i xs items all past same are = ap (map v) (take_all i xs past ∙ same) ∙ are

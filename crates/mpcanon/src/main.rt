@@ -27,7 +27,7 @@ fn serve(rt: &(impl Input + Print + AllocGlobal)) -> Result<bool, RunFault> {
         .read_to_end(&mut input)
         .map_err(RunFault::Input)?;
     let mut out = Vec::new(rt.alloc());
-    let accepted = run::run(rt.alloc(), input.as_slice(), &mut out)?;
+    let accepted = run::run(rt.alloc(), &mut input.as_slice(), &mut out)?;
     let mut writer = io::writer(rt);
     writer.write_all(out.as_slice()).map_err(RunFault::Output)?;
     writer.flush().map_err(RunFault::Output)?;

@@ -1,14 +1,20 @@
 //! The engine: lines of hex in, lines of text out.
-ghost use Rattle.std.specs.Prelude.{◌≡◌, ◌++◌, ◌∷◌, [], All, IsTrue, IfOk, OnOk, OnErr, string_bytes};
+ghost use Rattle.std.specs.Prelude.{◌≡◌, ◌++◌, ◌∷◌, [], All, map, IsTrue, IfOk, OnOk, IfErr, IfSome, string_bytes};
+ghost use Rattle.std.specs.Io.KnownBytes.{Appends, Consumes};
+ghost use Rattle.mpcanon.specs.Input.{StopsReading, ReadsInput};
 ghost use Rattle.mpcanon.specs.Lines.{lines_in, digits_in, IsBlank, IsHex};
-ghost use Rattle.mpcanon.specs.Output.{AddsLines};
+ghost use Rattle.mpcanon.specs.Output.{PrintsLines, PrintsRun};
 
 use crate::tree_text::{write_hex, write_tree};
 use hex::FromHexError;
 use rmp_serde::decode::Error;
+use rmp_serde::wire::{Sink, Source, ValueWriteError};
 use rmp_serde::{from_slice, to_vec};
 use std::alloc::{AllocError, AllocFailed, Global};
 use std::{fmt, io};
+
+// How many bytes of the input are pulled at a time, at most.
+const CHUNK: usize = 4096;
 
 /// Why a run ended early.
 #[derive(Debug, Drop)]
@@ -17,17 +23,25 @@ pub enum RunFault {
     Input(io::Error),
     /// The output couldn't be written.
     Output(io::Error),
-    /// Memory was wanting.
+    /// Memory was wanting, here or in the output.
     Memory,
 }
 
 impl From<AllocError> for RunFault {
+    ghost use Rattle.mpcanon.specs.declared.run.RunFault.TheVariants.{Memory};
+
+    ghost from_gives = { λ _ fault. fault ≡ Memory };
+
     fn from(_e: AllocError) -> RunFault {
         RunFault::Memory
     }
 }
 
 impl<T: Drop> From<AllocFailed<T>> for RunFault {
+    ghost use Rattle.mpcanon.specs.declared.run.RunFault.TheVariants.{Memory};
+
+    ghost from_gives = { λ _ fault. fault ≡ Memory };
+
     fn from(_e: AllocFailed<T>) -> RunFault {
         RunFault::Memory
     }
@@ -78,82 +92,137 @@ fn digits_of(alloc: Global, line: &[u8]) -> Result<Vec<u8>, AllocError>
         .collect(alloc)
 }
 
-// Appends a text and the end of its line.
-fn push_line(out: &mut Vec<u8>, mut text: String) -> Result<(), AllocError>
-    ensures ok { OnOk result (out.new.items ≡ out.old.items ++ string_bytes text ++ 10 ∷ []) }
-    ensures err { OnErr result (out.new.items ≡ out.old.items) }
+// Reads the source to its end.
+fn read_to_end<R: Source>(alloc: Global, source: &mut R) -> Result<Vec<u8>, RunFault>
+    ensures taken { IfOk result (λ v. Consumes (R.ahead source.old) (R.ahead source.new) v.items) }
+    ensures whole { IfOk result (λ v. IfSome (R.ahead source.old) (λ input. v.items ≡ input)) }
+    ensures sound { OnOk result (R.faults source.new ≡ R.faults source.old) }
+    ensures stops { IfErr result (StopsReading (R.faults source.old) (R.faults source.new)) }
+    ensures place { R.place source.new ≡ R.place source.old }
+{
+    let mut input = Vec::new(alloc);
+    let mut chunk = [0; CHUNK];
+    loop {
+        match source.pull(&mut chunk) {
+            Ok(0) => return Ok(input),
+            Ok(n) => input.extend_from_slice(&chunk[..n])?,
+            Err(e) => return Err(RunFault::Input(e)),
+        }
+    }
+}
+
+// Prints a text and the end of its line, as one piece.
+fn print_line<W: Sink>(sink: &mut W, mut text: String) -> Result<(), RunFault>
+    ensures line { OnOk result (Appends (W.told sink.old) (W.told sink.new) (string_bytes text ++ 10 ∷ [])) }
+    ensures prints { PrintsLines W.Sink sink.old sink.new result }
 {
     text.push('\n')?;
-    out.extend_from_slice(text.as_bytes())
+    match sink.put_all(text.as_bytes()) {
+        Ok(()) => Ok(()),
+        Err(ValueWriteError::InvalidMarkerWrite(e)) => Err(RunFault::Output(io::Error::from(e))),
+        Err(ValueWriteError::InvalidDataWrite(e)) => Err(RunFault::Output(io::Error::from(e))),
+        Err(ValueWriteError::OutOfMemory) => Err(RunFault::Memory),
+    }
 }
 
 // Prints a refusal.
-fn refuse(alloc: Global, out: &mut Vec<u8>, refusal: Refusal) -> Result<bool, RunFault>
+fn refuse<W: Sink>(alloc: Global, sink: &mut W, refusal: Refusal) -> Result<bool, RunFault>
     ensures refused { IfOk result (λ accepted. ¬ IsTrue accepted) }
-    ensures lines { AddsLines out.old.items out.new.items }
+    ensures prints { PrintsLines W.Sink sink.old sink.new result }
 {
-    push_line(out, format!(in alloc; "{refusal}")?)?;
+    print_line(sink, format!(in alloc; "{refusal}")?)?;
     Ok(false)
 }
 
 // Prints the first message of a line's bytes, and says whether there is one.
-fn run_message(alloc: Global, bytes: &[u8], out: &mut Vec<u8>) -> Result<bool, RunFault>
-    ensures lines { AddsLines out.old.items out.new.items }
+fn run_message<W: Sink>(alloc: Global, bytes: &[u8], sink: &mut W) -> Result<bool, RunFault>
+    ensures prints { PrintsLines W.Sink sink.old sink.new result }
 {
     let value = match from_slice(alloc, bytes) {
         Ok(value) => value,
         Err(Error::OutOfMemory) => return Err(RunFault::Memory),
-        Err(error) => return refuse(alloc, out, Refusal::Message(0, error)),
+        Err(error) => return refuse(alloc, sink, Refusal::Message(0, error)),
     };
     let mut text = String::new(alloc);
     write_tree(alloc, &mut text, value.root())?;
     text.push(' ')?;
     // What has been read nests within the writer's limit, so that only memory can be wanting.
-    let canonical = to_vec(alloc, &value).map_err(|_| RunFault::Memory)?;
+    let Ok(canonical) = to_vec(alloc, &value) else {
+        return Err(RunFault::Memory);
+    };
     write_hex(alloc, &mut text, canonical.as_slice())?;
-    push_line(out, text)?;
+    print_line(sink, text)?;
     Ok(true)
 }
 
 // Prints what a line comes to, and says whether nothing in it was refused.
-fn run_line(alloc: Global, line: &[u8], out: &mut Vec<u8>) -> Result<bool, RunFault>
+fn run_line<W: Sink>(alloc: Global, line: &[u8], sink: &mut W) -> Result<bool, RunFault>
     ensures hex { IfOk result (λ accepted. IsTrue accepted → IsHex line.now) }
     ensures blank { IfOk result (λ accepted. IsBlank line.now → IsTrue accepted) }
-    ensures silent { IsBlank line.now → out.new.items ≡ out.old.items }
-    ensures lines { AddsLines out.old.items out.new.items }
+    ensures silent { IsBlank line.now → W.told sink.new ≡ W.told sink.old }
+    ensures prints { PrintsLines W.Sink sink.old sink.new result }
 {
     let digits = digits_of(alloc, line)?;
     if digits.is_empty() {
         return Ok(true);
     }
     match hex::decode(alloc, digits.as_slice()) {
-        Ok(bytes) => run_message(alloc, bytes.as_slice(), out),
+        Ok(bytes) => run_message(alloc, bytes.as_slice(), sink),
         Err(FromHexError::OutOfMemory) => Err(RunFault::Memory),
-        Err(_) => refuse(alloc, out, Refusal::Hex),
+        Err(_) => refuse(alloc, sink, Refusal::Hex),
     }
+}
+
+// The lines of the input.
+fn lines_of<'a>(alloc: Global, input: &'a [u8]) -> Result<Vec<&'a [u8]>, AllocError>
+    ensures lines { IfOk result (λ v. map (λ line. line.now) v.items ≡ lines_in input.now) }
+{
+    input.split(|byte| *byte == b'\n').collect(alloc)
+}
+
+// Prints what each line comes to, and says whether nothing was refused.
+fn run_lines<W: Sink>(alloc: Global, input: &[u8], sink: &mut W) -> Result<bool, RunFault>
+    ensures hex { IfOk result (λ accepted. IsTrue accepted → All IsHex (lines_in input.now)) }
+    ensures blank { IfOk result (λ accepted. All IsBlank (lines_in input.now) → IsTrue accepted) }
+    ensures silent { OnOk result (All IsBlank (lines_in input.now) → W.told sink.new ≡ W.told sink.old) }
+    ensures prints { PrintsLines W.Sink sink.old sink.new result }
+{
+    let lines = lines_of(alloc, input)?;
+    let mut accepted = true;
+    for line in &lines {
+        if !run_line(alloc, line, sink)? {
+            accepted = false;
+        }
+    }
+    Ok(accepted)
 }
 
 /// Prints what each line of the input comes to, and says whether nothing was refused.
 ///
 /// A line ends at a line feed, and the last one may lack it. One carriage return at a line's end is dropped, and spaces
 /// and tabs anywhere. A line that is then empty prints nothing; the rest is read as hex, and its first message as a
-/// value.
-pub fn run(alloc: Global, input: &[u8], out: &mut Vec<u8>) -> Result<bool, RunFault>
+/// value. The source is read to its end before the first line is printed, and each line is one piece for the sink.
+///
+/// # Errors
+/// `Input` at the source's first fault, and nothing is printed then. `Output` at the sink's first fault. `Memory` where
+/// memory was refused, to the sink or here.
+pub fn run<R: Source, W: Sink>(alloc: Global, source: &mut R, sink: &mut W) -> Result<bool, RunFault>
     // Where nothing is refused, each line is hex.
-    ensures hex { IfOk result (λ accepted. IsTrue accepted → All IsHex (lines_in input.now)) }
+    ensures hex { IfOk result (λ accepted. IfSome (R.ahead source.old)
+        (λ input. IsTrue accepted → All IsHex (lines_in input))) }
     // Blank lines are accepted, and print nothing.
-    ensures blank { IfOk result (λ accepted. All IsBlank (lines_in input.now) → IsTrue accepted) }
-    ensures silent { OnOk result (All IsBlank (lines_in input.now) → out.new.items ≡ out.old.items) }
-    // However the run ends, what was there before stays, and whole lines follow it.
-    ensures lines { AddsLines out.old.items out.new.items }
+    ensures blank { IfOk result (λ accepted. IfSome (R.ahead source.old)
+        (λ input. All IsBlank (lines_in input) → IsTrue accepted)) }
+    ensures silent { OnOk result (IfSome (R.ahead source.old)
+        (λ input. All IsBlank (lines_in input) → W.told sink.new ≡ W.told sink.old)) }
+    // The input is read to its end, or to the source's first fault.
+    ensures reads { ReadsInput R.Source source.old source.new result }
+    // However the run ends, what was there before stays, and whole lines follow it, or a beginning of whole lines where
+    // the sink stopped.
+    ensures prints { PrintsRun W.Sink sink.old sink.new result }
 {
-    let mut accepted = true;
-    for line in input.split(|byte| *byte == b'\n') {
-        if !run_line(alloc, line, out)? {
-            accepted = false;
-        }
-    }
-    Ok(accepted)
+    let input = read_to_end(alloc, source)?;
+    run_lines(alloc, input.as_slice(), sink)
 }
 
 #[cfg(test)]

@@ -8,5 +8,6 @@ mod value;
 
 pub use decode::from_slice;
 pub use encode::to_vec;
+pub use rmp_wire as wire;
 pub use rmp_wire::Marker;
 pub use value::{Kind, Value, ValueRef};

@@ -1,42 +1,41 @@
-use Rattle.std.proofs.Common.{eqb, tests, rules, sym, ◌∙◌, ◌≡◌, List, ℕ, map, Bor}
-use Rattle.std.proofs.lemmas.Iterator.Consumers.{YieldsList-end}
-use Rattle.std.proofs.lemmas.Iterator.Splits.{YieldsList-from_slice_split}
+use Rattle.std.proofs.Common.{IsTrue, All, IfSome, ◌≡◌}
+use Rattle.std.proofs.lemmas.Result.{err_from_is_err_and, IfOk-weaker, on_ok_weaker}
 use Rattle.mpcanon.specs.Lines.{lines_in, IsBlank, IsHex}
-use Rattle.mpcanon.proofs.Printing.{adds_both}
-use Rattle.mpcanon.proofs.Reading.{All-map-push, All-map-front, All-map-last}
+use Rattle.mpcanon.proofs.Printing.{run_prints, unread_prints, printing_reads, unread_reads, on_input}
 use Rattle.mpcanon.proofs.run.run.Goals as goal
 
-pub returns-in_err-run_line-clause-lines : goal.returns-in_err-run_line-clause-lines
-returns-in_err-run_line-clause-lines c = adds_both c.loop-line.invariant.lines c.run_line.ensures.lines
+pub returns-in_err-input-clause-reads : goal.returns-in_err-input-clause-reads
+returns-in_err-input-clause-reads g c =
+    let p = err_from_is_err_and c.from_residual.result c.from_residual.ensures.1 in
+    rw (p.1, p.2) (unread_reads g.R.Source _ c.in_err-input.ensures.stops c.read_to_end.ensures.place)
 
-pub loop-line-preserved-then-not-branch : goal.loop-line-preserved-then-not-branch
-loop-line-preserved-then-not-branch c =
-    let v = λ (x : Bor (List ℕ)). x.now in record {
-      hex = λ e. search rules;
-      blank = λ h. rw c.if-not-branch.true at (c.in_ok-run_line.ensures.blank (All-map-last IsBlank v c.loop-line.yielded c.in-Some.line h));
-      silent = λ h. c.run_line.ensures.silent (All-map-last IsBlank v c.loop-line.yielded c.in-Some.line h) ∙ c.loop-line.invariant.silent (All-map-front IsBlank v c.loop-line.yielded c.in-Some.line h);
-      lines = adds_both c.loop-line.invariant.lines c.run_line.ensures.lines;
-    }
-
-pub loop-line-preserved : goal.loop-line-preserved
-loop-line-preserved c =
-    let v = λ (x : Bor (List ℕ)). x.now in record {
-      hex = λ e. All-map-push IsHex v c.loop-line.yielded c.in-Some.line (c.loop-line.invariant.hex e) (search rules);
-      blank = λ h. c.loop-line.invariant.blank (All-map-front IsBlank v c.loop-line.yielded c.in-Some.line h);
-      silent = λ h. c.run_line.ensures.silent (All-map-last IsBlank v c.loop-line.yielded c.in-Some.line h) ∙ c.loop-line.invariant.silent (All-map-front IsBlank v c.loop-line.yielded c.in-Some.line h);
-      lines = adds_both c.loop-line.invariant.lines c.run_line.ensures.lines;
-    }
-
--- what the loop has gone over is every line
-every_line : (c : goal.In-None) → map (λ (x : Bor (List ℕ)). x.now) c.loop-line.yielded ≡ lines_in c.args.input.now
-every_line c =
-    (YieldsList-end (YieldsList-from_slice_split _ (λ b. eqb b 10) c.args.input.now (cc) (cc) (cc) (λ x b q k. search (rules, tests))) c.loop-line.yielded _ c.loop-line.yielded_by _ _ c.in-None.is c.next.ensures.steps).0
+pub returns-in_err-input-clause-prints : goal.returns-in_err-input-clause-prints
+returns-in_err-input-clause-prints g c =
+    let p = err_from_is_err_and c.from_residual.result c.from_residual.ensures.1 in
+    rw (p.1, p.2) (unread_prints g.W.Sink c.args.sink.now _ _ _ c.in_err-input.ensures.stops)
 
 pub returns-clause-hex : goal.returns-clause-hex
-returns-clause-hex c = rw (sym (every_line c)) c.loop-line.invariant.hex
+returns-clause-hex g c =
+    IfOk-weaker c.run_lines.result (λ accepted. IsTrue accepted → All IsHex (lines_in c.as_slice.result.now)) _
+    (λ accepted h. on_input _ _ (λ input. IsTrue accepted → All IsHex (lines_in input)) c.in_ok-input.ensures.whole (rw c.as_slice.ensures.value at h))
+    c.run_lines.ensures.hex
 
 pub returns-clause-blank : goal.returns-clause-blank
-returns-clause-blank c = λ h. c.loop-line.invariant.blank (rw (every_line c) h)
+returns-clause-blank g c =
+    IfOk-weaker c.run_lines.result (λ accepted. All IsBlank (lines_in c.as_slice.result.now) → IsTrue accepted) _
+    (λ accepted h. on_input _ _ (λ input. All IsBlank (lines_in input) → IsTrue accepted) c.in_ok-input.ensures.whole (rw c.as_slice.ensures.value at h))
+    c.run_lines.ensures.blank
 
 pub returns-clause-silent : goal.returns-clause-silent
-returns-clause-silent c = λ h. c.loop-line.invariant.silent (rw (every_line c) h)
+returns-clause-silent g c =
+    let told = g.W.Sink.told in
+    on_ok_weaker c.run_lines.result
+    (λ h. on_input _ _ (λ input. All IsBlank (lines_in input) → told c.run_lines.new.sink ≡ told c.args.sink.now) c.in_ok-input.ensures.whole (rw c.as_slice.ensures.value at h))
+    c.run_lines.ensures.silent
+
+pub returns-clause-reads : goal.returns-clause-reads
+returns-clause-reads g c =
+    printing_reads g.W.Sink g.R.Source c.run_lines.result (on_input _ _ _ c.in_ok-input.ensures.whole c.in_ok-input.ensures.taken) c.in_ok-input.ensures.sound c.read_to_end.ensures.place c.run_lines.ensures.prints
+
+pub returns-clause-prints : goal.returns-clause-prints
+returns-clause-prints g c = run_prints g.W.Sink c.run_lines.result c.run_lines.ensures.prints
