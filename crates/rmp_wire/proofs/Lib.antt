@@ -6,5 +6,6 @@ pub mod Lists
 pub mod Markers
 pub mod Spellings
 pub mod Taken
+pub mod Told
 pub mod Unique
 pub mod Whole

@@ -5,3 +5,6 @@ pub mod Msg
 pub mod Spelling
 pub mod Stored
 pub mod Taking
+pub mod Sinks
+pub mod Writing
+pub mod SliceSink

@@ -4,7 +4,9 @@
 pub mod error;
 pub mod head;
 pub mod marker;
+pub mod sink;
 
 pub use error::{IoFault, MarkerReadError, ValueReadError, ValueWriteError};
 pub use head::Head;
 pub use marker::Marker;
+pub use sink::{Sink, SinkFault, SliceSink};
