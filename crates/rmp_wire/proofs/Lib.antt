@@ -4,8 +4,10 @@ pub mod Examples
 pub mod Heads
 pub mod Lists
 pub mod Markers
+pub mod Pieces
 pub mod Spellings
 pub mod Taken
 pub mod Told
 pub mod Unique
 pub mod Whole
+pub mod Writing

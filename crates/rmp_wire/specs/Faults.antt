@@ -2,6 +2,8 @@
 use Rattle.std.specs.Prelude.{◌≡◌, ℤ, Option, None}
 use Rattle.std.specs.declared.io.ErrorKind.{ErrorKind}
 use Rattle.rmp_wire.specs.declared.error.IoFault.{IoFault}
+use Rattle.rmp_wire.specs.declared.error.ValueWriteError.{ValueWriteError}
+use Rattle.rmp_wire.specs.declared.error.ValueWriteError.TheVariants.{InvalidMarkerWrite, InvalidDataWrite, OutOfMemory}
 
 -- `fault.kind()`
 abbrev pub fault_kind : IoFault → ErrorKind
@@ -14,3 +16,9 @@ fault_code fault = fault.os_error
 -- a fault of this kind that has no number of the system's
 abbrev pub IsPlain : ErrorKind → IoFault → Type 0
 IsPlain kind fault = (fault_kind fault ≡ kind) × (fault_code fault ≡ None)
+
+-- the same failure, where bytes of the item were taken before it
+abbrev pub past_first : ValueWriteError → ValueWriteError
+past_first (InvalidMarkerWrite fault) = InvalidDataWrite fault
+past_first (InvalidDataWrite fault) = InvalidDataWrite fault
+past_first OutOfMemory = OutOfMemory

@@ -88,6 +88,21 @@ pub enum ValueWriteError {
     OutOfMemory,
 }
 
+impl ValueWriteError {
+    ghost use Rattle.rmp_wire.specs.Faults.{past_first};
+
+    /// The same failure, where bytes of the item were taken before the piece that failed.
+    #[inline(always)]
+    pub fn past_first(self) -> ValueWriteError
+        ensures { result ≡ past_first self }
+    {
+        match self {
+            ValueWriteError::InvalidMarkerWrite(fault) => ValueWriteError::InvalidDataWrite(fault),
+            other => other,
+        }
+    }
+}
+
 /// Why the first byte of a message couldn't be read: the input's end, or the source's fault. It prints its own name.
 #[derive(Clone, Copy, Debug, PartialEq, Eq, Error)]
 #[error("MarkerReadError")]

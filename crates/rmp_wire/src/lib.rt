@@ -5,6 +5,7 @@ pub mod error;
 pub mod head;
 pub mod marker;
 pub mod sink;
+pub mod write;
 
 pub use error::{IoFault, MarkerReadError, ValueReadError, ValueWriteError};
 pub use head::Head;

@@ -1,0 +1,283 @@
+//! Writes of single items, each in its canonical spelling, into any sink.
+//!
+//! A head goes out as one piece of a size that each branch knows, cut from one number. A text and bytes go out from
+//! where they lie. A fault before an item's first byte is `InvalidMarkerWrite`, and a later one `InvalidDataWrite`; no
+//! call goes on after a fault.
+#![tactic(auto, unfolding(crate::specs::Heads::canon_head, crate::specs::Taking::byte_of))]
+ghost use Rattle.std.specs.Prelude.{◌≡◌, ℕ, ◌<◌, ◌^◌, [], ◌∷◌, ◌++◌, length, pos};
+ghost use Rattle.std.specs.Int.{w8, w16, w32, w64, to_be_bytes};
+ghost use Rattle.rmp_wire.specs.Heads.{canon_head};
+ghost use Rattle.rmp_wire.specs.Msg.{text, bin};
+ghost use Rattle.rmp_wire.specs.Spelling.{canon};
+ghost use Rattle.rmp_wire.specs.Taking.{byte_of};
+ghost use Rattle.rmp_wire.specs.Writing.{Writes, WritesContent};
+ghost use Rattle.rmp_wire.specs.declared.head.Head.TheVariants.{Nil, Truth, Whole, F32Bits, F64Bits, Text, Bin, Array, Map, Ext};
+
+use crate::error::ValueWriteError;
+use crate::marker::Marker;
+use crate::sink::Sink;
+
+// ---- a marker, and a number of so many bits behind it
+
+#[inline(always)]
+fn put_marker<W: Sink>(sink: &mut W, marker: Marker) -> Result<(), ValueWriteError>
+    ensures writes { Writes W.Sink (byte_of marker ∷ []) sink.old sink.new result }
+    ensures place { W.place sink.new ≡ W.place sink.old }
+{
+    sink.put_all(&[marker.to_u8()])
+}
+
+#[inline(always)]
+fn put_8<W: Sink>(sink: &mut W, marker: Marker, n: u8) -> Result<(), ValueWriteError>
+    ensures writes { Writes W.Sink (byte_of marker ∷ to_be_bytes w8 n) sink.old sink.new result }
+    ensures place { W.place sink.new ≡ W.place sink.old }
+{
+    let piece = (u16::from(marker.to_u8()) << 8 | u16::from(n)).to_be_bytes();
+    sink.put_all(&piece)
+}
+
+#[inline(always)]
+fn put_16<W: Sink>(sink: &mut W, marker: Marker, n: u16) -> Result<(), ValueWriteError>
+    ensures writes { Writes W.Sink (byte_of marker ∷ to_be_bytes w16 n) sink.old sink.new result }
+    ensures place { W.place sink.new ≡ W.place sink.old }
+{
+    let piece = (u32::from(marker.to_u8()) << 16 | u32::from(n)).to_be_bytes();
+    sink.put_all(&piece[1..])
+}
+
+#[inline(always)]
+fn put_32<W: Sink>(sink: &mut W, marker: Marker, n: u32) -> Result<(), ValueWriteError>
+    ensures writes { Writes W.Sink (byte_of marker ∷ to_be_bytes w32 n) sink.old sink.new result }
+    ensures place { W.place sink.new ≡ W.place sink.old }
+{
+    let piece = (u64::from(marker.to_u8()) << 32 | u64::from(n)).to_be_bytes();
+    sink.put_all(&piece[3..])
+}
+
+#[inline(always)]
+fn put_64<W: Sink>(sink: &mut W, marker: Marker, n: u64) -> Result<(), ValueWriteError>
+    ensures writes { Writes W.Sink (byte_of marker ∷ to_be_bytes w64 n) sink.old sink.new result }
+    ensures place { W.place sink.new ≡ W.place sink.old }
+{
+    let piece = (u128::from(marker.to_u8()) << 64 | u128::from(n)).to_be_bytes();
+    sink.put_all(&piece[7..])
+}
+
+/// Writes nil.
+#[inline(always)]
+pub fn write_nil<W: Sink>(sink: &mut W) -> Result<(), ValueWriteError>
+    ensures writes { Writes W.Sink (canon_head Nil) sink.old sink.new result }
+    ensures place { W.place sink.new ≡ W.place sink.old }
+{
+    put_marker(sink, Marker::Null)
+}
+
+/// Writes a truth value.
+#[inline(always)]
+pub fn write_bool<W: Sink>(sink: &mut W, b: bool) -> Result<(), ValueWriteError>
+    ensures writes { Writes W.Sink (canon_head (Truth b)) sink.old sink.new result }
+    ensures place { W.place sink.new ≡ W.place sink.old }
+{
+    if b {
+        return put_marker(sink, Marker::True);
+    }
+    put_marker(sink, Marker::False)
+}
+
+/// Writes a number from 0 on, in its shortest spelling.
+#[inline(always)]
+pub fn write_uint<W: Sink>(sink: &mut W, n: u64) -> Result<(), ValueWriteError>
+    ensures writes { Writes W.Sink (canon_head (Whole (pos n))) sink.old sink.new result }
+    ensures place { W.place sink.new ≡ W.place sink.old }
+{
+    if n < 128 {
+        return put_marker(sink, Marker::FixPos(n as u8));
+    }
+    if n < 1 << 8 {
+        return put_8(sink, Marker::U8, n as u8);
+    }
+    if n < 1 << 16 {
+        return put_16(sink, Marker::U16, n as u16);
+    }
+    if n < 1 << 32 {
+        return put_32(sink, Marker::U32, n as u32);
+    }
+    put_64(sink, Marker::U64, n)
+}
+
+/// Writes a whole number in its shortest spelling. From 0 on it is the unsigned one.
+#[inline(always)]
+pub fn write_sint<W: Sink>(sink: &mut W, z: i64) -> Result<(), ValueWriteError>
+    ensures writes { Writes W.Sink (canon_head (Whole z)) sink.old sink.new result }
+    ensures place { W.place sink.new ≡ W.place sink.old }
+{
+    if z >= 0 {
+        return write_uint(sink, z.cast_unsigned());
+    }
+    if z >= -32 {
+        return put_marker(sink, Marker::FixNeg(z as i8));
+    }
+    if z >= i64::from(i8::MIN) {
+        return put_8(sink, Marker::I8, (z as i8).cast_unsigned());
+    }
+    if z >= i64::from(i16::MIN) {
+        return put_16(sink, Marker::I16, (z as i16).cast_unsigned());
+    }
+    if z >= i64::from(i32::MIN) {
+        return put_32(sink, Marker::I32, (z as i32).cast_unsigned());
+    }
+    put_64(sink, Marker::I64, z.cast_unsigned())
+}
+
+/// Writes a float of 32 bits, from its bits.
+#[inline(always)]
+pub fn write_f32_bits<W: Sink>(sink: &mut W, bits: u32) -> Result<(), ValueWriteError>
+    ensures writes { Writes W.Sink (canon_head (F32Bits bits)) sink.old sink.new result }
+    ensures place { W.place sink.new ≡ W.place sink.old }
+{
+    put_32(sink, Marker::F32, bits)
+}
+
+/// Writes a float of 64 bits, from its bits.
+#[inline(always)]
+pub fn write_f64_bits<W: Sink>(sink: &mut W, bits: u64) -> Result<(), ValueWriteError>
+    ensures writes { Writes W.Sink (canon_head (F64Bits bits)) sink.old sink.new result }
+    ensures place { W.place sink.new ≡ W.place sink.old }
+{
+    put_64(sink, Marker::F64, bits)
+}
+
+/// Writes the head of a text of so many bytes.
+#[inline(always)]
+pub fn write_str_len<W: Sink>(sink: &mut W, len: u32) -> Result<(), ValueWriteError>
+    ensures writes { Writes W.Sink (canon_head (Text len)) sink.old sink.new result }
+    ensures place { W.place sink.new ≡ W.place sink.old }
+{
+    if len < 32 {
+        return put_marker(sink, Marker::FixStr(len as u8));
+    }
+    if len < 1 << 8 {
+        return put_8(sink, Marker::Str8, len as u8);
+    }
+    if len < 1 << 16 {
+        return put_16(sink, Marker::Str16, len as u16);
+    }
+    put_32(sink, Marker::Str32, len)
+}
+
+/// Writes the head of so many bytes.
+#[inline(always)]
+pub fn write_bin_len<W: Sink>(sink: &mut W, len: u32) -> Result<(), ValueWriteError>
+    ensures writes { Writes W.Sink (canon_head (Bin len)) sink.old sink.new result }
+    ensures place { W.place sink.new ≡ W.place sink.old }
+{
+    if len < 1 << 8 {
+        return put_8(sink, Marker::Bin8, len as u8);
+    }
+    if len < 1 << 16 {
+        return put_16(sink, Marker::Bin16, len as u16);
+    }
+    put_32(sink, Marker::Bin32, len)
+}
+
+/// Writes the head of a list of so many messages.
+#[inline(always)]
+pub fn write_array_len<W: Sink>(sink: &mut W, len: u32) -> Result<(), ValueWriteError>
+    ensures writes { Writes W.Sink (canon_head (Array len)) sink.old sink.new result }
+    ensures place { W.place sink.new ≡ W.place sink.old }
+{
+    if len < 16 {
+        return put_marker(sink, Marker::FixArray(len as u8));
+    }
+    if len < 1 << 16 {
+        return put_16(sink, Marker::Array16, len as u16);
+    }
+    put_32(sink, Marker::Array32, len)
+}
+
+/// Writes the head of a map of so many pairs.
+#[inline(always)]
+pub fn write_map_len<W: Sink>(sink: &mut W, len: u32) -> Result<(), ValueWriteError>
+    ensures writes { Writes W.Sink (canon_head (Map len)) sink.old sink.new result }
+    ensures place { W.place sink.new ≡ W.place sink.old }
+{
+    if len < 16 {
+        return put_marker(sink, Marker::FixMap(len as u8));
+    }
+    if len < 1 << 16 {
+        return put_16(sink, Marker::Map16, len as u16);
+    }
+    put_32(sink, Marker::Map32, len)
+}
+
+// An extension's marker with a length of 16 bits behind it, and the tag.
+#[inline(always)]
+fn put_ext_16<W: Sink>(sink: &mut W, len: u16, tag: u8) -> Result<(), ValueWriteError>
+    ensures writes { Writes W.Sink (0xc8 ∷ (to_be_bytes w16 len ++ tag ∷ [])) sink.old sink.new result }
+    ensures place { W.place sink.new ≡ W.place sink.old }
+{
+    let piece = (0xc8_0000_00 | u32::from(len) << 8 | u32::from(tag)).to_be_bytes();
+    sink.put_all(&piece)
+}
+
+#[inline(always)]
+fn put_ext_32<W: Sink>(sink: &mut W, len: u32, tag: u8) -> Result<(), ValueWriteError>
+    ensures writes { Writes W.Sink (0xc9 ∷ (to_be_bytes w32 len ++ tag ∷ [])) sink.old sink.new result }
+    ensures place { W.place sink.new ≡ W.place sink.old }
+{
+    let piece = (0xc9_0000_0000_00 | u64::from(len) << 8 | u64::from(tag)).to_be_bytes();
+    sink.put_all(&piece[2..])
+}
+
+/// Writes the head of an extension of so many bytes, and its tag.
+#[inline(always)]
+pub fn write_ext_meta<W: Sink>(sink: &mut W, len: u32, tag: i8) -> Result<(), ValueWriteError>
+    ensures writes { Writes W.Sink (canon_head (Ext len tag)) sink.old sink.new result }
+    ensures place { W.place sink.new ≡ W.place sink.old }
+{
+    let tag = tag.cast_unsigned();
+    match len {
+        1 => put_8(sink, Marker::FixExt1, tag),
+        2 => put_8(sink, Marker::FixExt2, tag),
+        4 => put_8(sink, Marker::FixExt4, tag),
+        8 => put_8(sink, Marker::FixExt8, tag),
+        16 => put_8(sink, Marker::FixExt16, tag),
+        0..=0xff => put_16(sink, Marker::Ext8, (len as u16) << 8 | u16::from(tag)),
+        0x100..=0xffff => put_ext_16(sink, len as u16, tag),
+        _ => put_ext_32(sink, len, tag),
+    }
+}
+
+/// Writes bytes that stand behind a head, from where they lie. A fault is `InvalidDataWrite`.
+#[inline(always)]
+pub fn write_content<W: Sink>(sink: &mut W, content: &[u8]) -> Result<(), ValueWriteError>
+    ensures writes { WritesContent W.Sink content.now sink.old sink.new result }
+    ensures place { W.place sink.new ≡ W.place sink.old }
+{
+    match sink.put_all(content) {
+        Ok(()) => Ok(()),
+        Err(e) => Err(e.past_first()),
+    }
+}
+
+/// Writes a text. It goes out from where it lies.
+#[inline(always)]
+pub fn write_str<W: Sink>(sink: &mut W, s: &str) -> Result<(), ValueWriteError>
+    requires { length s.now < 2 ^ 32 }
+    ensures writes { Writes W.Sink (canon (text s.now)) sink.old sink.new result }
+    ensures place { W.place sink.new ≡ W.place sink.old }
+{
+    write_str_len(sink, s.len() as u32)?;
+    write_content(sink, s.as_bytes())
+}
+
+/// Writes bytes. They go out from where they lie.
+#[inline(always)]
+pub fn write_bin<W: Sink>(sink: &mut W, bytes: &[u8]) -> Result<(), ValueWriteError>
+    requires { length bytes.now < 2 ^ 32 }
+    ensures writes { Writes W.Sink (canon (bin bytes.now)) sink.old sink.new result }
+    ensures place { W.place sink.new ≡ W.place sink.old }
+{
+    write_bin_len(sink, bytes.len() as u32)?;
+    write_content(sink, bytes)
+}
