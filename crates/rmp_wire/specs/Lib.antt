@@ -2,9 +2,11 @@ pub mod Canonical
 pub mod Faults
 pub mod Heads
 pub mod Msg
+pub mod Settings
 pub mod Spelling
 pub mod Stored
 pub mod Taking
 pub mod Sinks
 pub mod Writing
 pub mod SliceSink
+pub mod Types

@@ -1,4 +1,4 @@
--- How a message is spelled: in any widths, and canonically.
+-- How a message is spelled: in any widths, and canonically. (MessagePack specification, "Formats" and "Serialization".)
 use Rattle.std.specs.Prelude.{◌≡◌, ℕ, ◌<◌, List, [], ◌++◌, length, ⊤}
 use Rattle.std.specs.List.{AllByRecursion}
 use Rattle.rmp_wire.specs.declared.head.Head.{Head}

@@ -1,13 +1,16 @@
 //! The bytes of MessagePack: markers, heads, and what stands behind them.
 #![tactic(auto)]
 
+pub mod config;
 pub mod error;
 pub mod head;
 pub mod marker;
 pub mod sink;
 pub mod write;
+pub mod types;
 
 pub use error::{IoFault, MarkerReadError, ValueReadError, ValueWriteError};
 pub use head::Head;
 pub use marker::Marker;
 pub use sink::{Sink, SinkFault, SliceSink};
+pub use types::{ByteBuf, Bytes, Ext, F32Bits, F64Bits, MSGPACK_EXT_STRUCT_NAME};
