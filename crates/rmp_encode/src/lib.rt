@@ -1,0 +1,13 @@
+//! Writing typed values in the canonical spelling of MessagePack.
+#![tactic(auto)]
+
+pub mod error;
+pub mod ser;
+pub mod serializer;
+pub mod settings;
+pub mod underlying;
+
+pub use error::Error;
+pub use ser::Serialize;
+pub use serializer::Serializer;
+pub use underlying::UnderlyingWrite;
