@@ -38,6 +38,10 @@ module _ {W : Type 0} (g : Ghosts W) where
       (record { part = w.stops.part; appended = w.stops.appended })
       (fails_by g.takes_memory P _ _ w.stops.part e w.stops.cause)
 
+  -- a head
+  pub wire_head : (bs : List ℕ) {old new : W} (r : Result (Unit {0}) ValueWriteError) {answer : Result (Unit {0}) Error} → answer ≡ answer_of r → Writes g bs old new r → WritesPart g g.takes_memory (Unit {0}) bs old new answer
+  wire_head bs {old} {new} r {answer} is w = subst (WritesPart g g.takes_memory (Unit {0}) bs old new) (sym is) (wire_part (Unit {0}) bs r tt w)
+
   -- a message that fits, of which the wire wrote the canonical spelling
   pub wire_tree : (m : Msg) {old new : W} (r : Result (Unit {0}) ValueWriteError) {answer : Result (Unit {0}) Error} → answer ≡ answer_of r → Fits m → Writes g (canon m) old new r → WritesTree g g.takes_memory (Some m) old new answer
   unfolding HasTree spell

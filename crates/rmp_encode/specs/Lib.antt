@@ -3,3 +3,6 @@ pub mod Trees
 pub mod Errors
 pub mod Ser
 pub mod Writes
+pub mod Sizes
+pub mod Going
+pub mod Opens

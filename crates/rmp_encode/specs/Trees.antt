@@ -8,7 +8,7 @@ use Rattle.rmp_wire.specs.Spelling.{canon, Fits}
 use Rattle.rmp_encode.specs.declared.settings.Settings.{Settings}
 use Rattle.rmp_wire.specs.declared.config.BytesMode.{BytesMode}
 use Rattle.rmp_wire.specs.declared.config.BytesMode.TheVariants.{Normal, ForceIterables, ForceAll}
-use Rattle.rmp_encode.specs.Data.{Data, byte, sequence, slice, tuple, Parts, no_parts, part, byte_in, lower}
+use Rattle.rmp_encode.specs.Data.{Data, byte, sequence, slice, tuple, mapping, Parts, no_parts, part, Entries, no_entries, entry, byte_in, lower}
 
 -- a tree is there, and each number and length in it fits its head
 unfoldable pub HasTree : Option Msg → Type 0
@@ -38,6 +38,17 @@ parts_of (Some d ∷ ds) = option_map (part d) (parts_of ds)
 
 unfoldable pub sequence_of : List (Option Data) → Option Data
 sequence_of ds = option_map sequence (parts_of ds)
+
+-- the entries of a map, from its keys and values in turn, refused where one is or where the last key has no value
+abbrev pub entries_of : List (Option Data) → Option Entries
+entries_of [] = Some no_entries
+entries_of (None ∷ ds) = None
+entries_of (Some k ∷ []) = None
+entries_of (Some k ∷ (None ∷ ds)) = None
+entries_of (Some k ∷ (Some v ∷ ds)) = option_map (entry k v) (entries_of ds)
+
+unfoldable pub mapping_of : List (Option Data) → Option Data
+mapping_of ds = option_map mapping (entries_of ds)
 
 unfoldable pub slice_of : List (Option Data) → Option Data
 slice_of ds = option_map slice (parts_of ds)

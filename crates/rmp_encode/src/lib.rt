@@ -4,10 +4,12 @@
 pub mod error;
 pub mod ser;
 pub mod serializer;
+pub mod series;
 pub mod settings;
 pub mod underlying;
 
 pub use error::Error;
 pub use ser::Serialize;
 pub use serializer::Serializer;
+pub use series::MaybeUnknownLengthCompound;
 pub use underlying::UnderlyingWrite;

@@ -1,8 +1,9 @@
 //! A serializer over a sink.
-ghost use Rattle.std.specs.Prelude.{◌≡◌, ◌^◌, ◌<◌, true, false, Some, pos, length, encode_utf8};
+ghost use Rattle.std.specs.Prelude.{◌≡◌, ◌^◌, ◌<◌, true, false, [], Some, pos, length, encode_utf8};
 ghost use Rattle.std.specs.Borrow.{sem};
 ghost use Rattle.rmp_wire.specs.Msg.{nil, truth, whole, float32, float64, text, bin};
 ghost use Rattle.rmp_encode.specs.Errors.{answer_of};
+ghost use Rattle.rmp_encode.specs.Going.{head_at};
 ghost use Rattle.rmp_encode.specs.Ser.{sink_of, settings_of, LendsSink};
 ghost use Rattle.rmp_encode.specs.Writes.{Keeps, WritesPart, WritesTree, StaysAtRefusal};
 
@@ -13,7 +14,7 @@ use rmp_wire::config::{
     StructTupleConfig,
 };
 use rmp_wire::write::{
-    write_bin, write_bool, write_f32_bits, write_f64_bits, write_nil, write_sint, write_str,
+    write_array_len, write_bin, write_bool, write_f32_bits, write_f64_bits, write_map_len, write_nil, write_sint, write_str,
     write_uint,
 };
 use rmp_wire::{Sink, ValueWriteError};
@@ -166,6 +167,26 @@ impl<W: Sink, C: SerializerConfig> Serializer<W, C> {
         self.with_settings(settings)
     }
 
+    // The same settings over another sink.
+    pub(crate) fn over<V>(&self, wr: V) -> Serializer<V, C>
+        ensures sink { sink_of result ≡ wr }
+        ensures settings { settings_of result ≡ settings_of self.now }
+    {
+        Serializer {
+            wr,
+            alloc: self.alloc,
+            settings: self.settings,
+            config: PhantomData,
+        }
+    }
+
+    // A vector that holds nothing.
+    pub(crate) fn empty(&self) -> Vec<u8>
+        ensures { result.items ≡ [] }
+    {
+        Vec::new(self.alloc)
+    }
+
     fn with_settings<D>(self, settings: Settings) -> Serializer<W, D>
         ensures sink { sink_of result ≡ sink_of self }
         ensures settings { settings_of result ≡ settings }
@@ -180,6 +201,29 @@ impl<W: Sink, C: SerializerConfig> Serializer<W, C> {
 }
 
 impl<W: Sink, C: SerializerConfig> Serializer<W, C> {
+    // Puts bytes that stand behind a head.
+    #[inline(always)]
+    pub(crate) fn put(&mut self, piece: &[u8]) -> Result<(), Error>
+        ensures writes { WritesPart W.Sink W.takes_memory (Unit {0}) piece.now (sink_of self.old) (sink_of self.new) result }
+        ensures keeps { Keeps W.Sink self.old self.new }
+    {
+        match self.wr.put_all(piece) {
+            Ok(()) => Ok(()),
+            Err(e) => Err(Error::from(e.past_first())),
+        }
+    }
+
+    #[inline(always)]
+    pub(crate) fn put_head(&mut self, pairs: bool, n: u32) -> Result<(), Error>
+        ensures writes { WritesPart W.Sink W.takes_memory (Unit {0}) (head_at pairs n) (sink_of self.old) (sink_of self.new) result }
+        ensures keeps { Keeps W.Sink self.old self.new }
+    {
+        if pairs {
+            return answer(write_map_len(&mut self.wr, n));
+        }
+        answer(write_array_len(&mut self.wr, n))
+    }
+
     /// Writes nil.
     #[inline(always)]
     pub fn serialize_unit(&mut self) -> Result<(), Error>
