@@ -4,3 +4,6 @@ pub mod Lists
 pub mod Going
 pub mod Keeping
 pub mod OpenSteps
+pub mod Packing
+pub mod TupleSteps
+pub mod Numbers

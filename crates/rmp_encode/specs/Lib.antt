@@ -6,3 +6,5 @@ pub mod Writes
 pub mod Sizes
 pub mod Going
 pub mod Opens
+pub mod Tuples
+pub mod Slices

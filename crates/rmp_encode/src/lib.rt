@@ -6,10 +6,13 @@ pub mod ser;
 pub mod serializer;
 pub mod series;
 pub mod settings;
+mod slice;
+pub mod tuple;
 pub mod underlying;
 
 pub use error::Error;
 pub use ser::Serialize;
 pub use serializer::Serializer;
 pub use series::MaybeUnknownLengthCompound;
+pub use tuple::Tuple;
 pub use underlying::UnderlyingWrite;

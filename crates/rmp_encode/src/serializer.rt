@@ -5,6 +5,7 @@ ghost use Rattle.rmp_wire.specs.Msg.{nil, truth, whole, float32, float64, text, 
 ghost use Rattle.rmp_encode.specs.Errors.{answer_of};
 ghost use Rattle.rmp_encode.specs.Going.{head_at};
 ghost use Rattle.rmp_encode.specs.Ser.{sink_of, settings_of, LendsSink};
+ghost use Rattle.rmp_encode.specs.Trees.{number_head};
 ghost use Rattle.rmp_encode.specs.Writes.{Keeps, WritesPart, WritesTree, StaysAtRefusal};
 
 use crate::error::Error;
@@ -222,6 +223,15 @@ impl<W: Sink, C: SerializerConfig> Serializer<W, C> {
             return answer(write_map_len(&mut self.wr, n));
         }
         answer(write_array_len(&mut self.wr, n))
+    }
+
+    // A byte as a number.
+    #[inline(always)]
+    pub(crate) fn put_byte(&mut self, n: u8) -> Result<(), Error>
+        ensures writes { WritesPart W.Sink W.takes_memory (Unit {0}) (number_head n) (sink_of self.old) (sink_of self.new) result }
+        ensures keeps { Keeps W.Sink self.old self.new }
+    {
+        answer(write_uint(&mut self.wr, u64::from(n)))
     }
 
     /// Writes nil.
