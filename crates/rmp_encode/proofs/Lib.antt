@@ -7,3 +7,4 @@ pub mod OpenSteps
 pub mod Packing
 pub mod TupleSteps
 pub mod Numbers
+pub mod Filling

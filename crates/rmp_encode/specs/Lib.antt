@@ -8,3 +8,4 @@ pub mod Going
 pub mod Opens
 pub mod Tuples
 pub mod Slices
+pub mod Compounds

@@ -1,6 +1,7 @@
 //! Writing typed values in the canonical spelling of MessagePack.
 #![tactic(auto)]
 
+pub mod compound;
 pub mod error;
 pub mod ser;
 pub mod serializer;
@@ -10,6 +11,7 @@ mod slice;
 pub mod tuple;
 pub mod underlying;
 
+pub use compound::Compound;
 pub use error::Error;
 pub use ser::Serialize;
 pub use serializer::Serializer;

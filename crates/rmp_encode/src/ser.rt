@@ -11,9 +11,11 @@ use rmp_wire::Sink;
 use rmp_wire::config::SerializerConfig;
 
 mod bytes;
+mod lists;
 mod numbers;
 mod pointers;
 mod texts;
+mod tuples;
 
 /// What can be written.
 pub trait Serialize {
