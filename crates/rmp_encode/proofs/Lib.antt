@@ -8,3 +8,4 @@ pub mod Packing
 pub mod TupleSteps
 pub mod Numbers
 pub mod Filling
+pub mod Spelled

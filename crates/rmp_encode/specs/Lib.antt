@@ -9,3 +9,4 @@ pub mod Opens
 pub mod Tuples
 pub mod Slices
 pub mod Compounds
+pub mod Calls

@@ -8,8 +8,11 @@ pub mod serializer;
 pub mod series;
 pub mod settings;
 mod slice;
+#[cfg(test)]
+mod tests;
 pub mod tuple;
 pub mod underlying;
+pub mod whole;
 
 pub use compound::Compound;
 pub use error::Error;
@@ -18,3 +21,4 @@ pub use serializer::Serializer;
 pub use series::MaybeUnknownLengthCompound;
 pub use tuple::Tuple;
 pub use underlying::UnderlyingWrite;
+pub use whole::{to_vec, to_vec_named, write, write_named};

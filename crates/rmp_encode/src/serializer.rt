@@ -61,6 +61,25 @@ impl<W: Sink> Serializer<W> {
     }
 }
 
+impl<W: Sink> Serializer<W, StructMapConfig<DefaultConfig>> {
+    // A serializer with the default settings, but structs are maps from the names of their fields.
+    pub(crate) fn named(alloc: Global, wr: W) -> Serializer<W, StructMapConfig<DefaultConfig>>
+        ensures sink { sink_of result ≡ wr }
+        ensures settings { settings_of result ≡ record { named = true; human = false; bytes = BytesMode.Normal } }
+    {
+        Serializer {
+            wr,
+            alloc,
+            settings: Settings {
+                named: true,
+                human: false,
+                bytes: BytesMode::Normal,
+            },
+            config: PhantomData,
+        }
+    }
+}
+
 impl<W: Sink, C: SerializerConfig> Serializer<W, C> {
     /// The sink.
     pub fn get_ref(&self) -> &W
