@@ -1,7 +1,7 @@
 -- What a writer of the wire wrote, as the law of a write says it.
-use Rattle.std.proofs.Common.{◌≡◌, ℕ, ◌<◌, ◌≤◌, ◌^◌, List, [], ◌∷◌, length, Bool, Some, suc, sym, ◌∙◌, subst, arith, get_or}
+use Rattle.std.proofs.Common.{◌≡◌, ℕ, ◌<◌, ◌≤◌, ◌^◌, List, [], ◌∷◌, ◌++◌, ap, length, Bool, Some, suc, sym, ◌∙◌, subst, arith, get_or}
 use Rattle.std.specs.Prelude.{Result, Ok, Err, ℤ, pos, negsuc, FitsSigned}
-use Rattle.std.specs.Int.{w64}
+use Rattle.std.specs.Int.{w8, w64}
 use Rattle.std.specs.Borrow.{Bor}
 use Rattle.std.proofs.lemmas.Int.{to_z-of_z}
 use mir.Val.{to_z, of_z}
@@ -9,7 +9,7 @@ use mir.Syntax.{Width}
 use Rattle.rmp_wire.specs.declared.sink.Sink.{Ghosts}
 use Rattle.rmp_wire.specs.declared.error.ValueWriteError.{ValueWriteError}
 use Rattle.rmp_wire.specs.declared.error.ValueWriteError.TheVariants as wire
-use Rattle.rmp_wire.specs.Msg.{Msg, whole, text, bin}
+use Rattle.rmp_wire.specs.Msg.{Msg, whole, text, bin, extension}
 use Rattle.rmp_wire.specs.declared.head.Head.TheVariants.{Whole}
 use Rattle.rmp_wire.specs.Heads.{canon_head, fits_head}
 use Rattle.rmp_wire.specs.Sinks.{StopsAfter}
@@ -18,9 +18,9 @@ use Rattle.rmp_wire.specs.Writing.{Writes}
 use Rattle.rmp_encode.specs.declared.error.Error.{Error}
 use Rattle.rmp_encode.specs.declared.error.Error.TheVariants.{InvalidDataModel}
 use Rattle.rmp_encode.specs.Errors.{IsReason, error_of, answer_of}
-use Rattle.rmp_encode.specs.Trees.{HasTree, spell}
+use Rattle.rmp_encode.specs.Trees.{HasTree, spell, ext_head}
 use Rattle.rmp_encode.specs.Writes.{FailsBy, WritesPart, WritesTree}
-use Rattle.rmp_encode.proofs.Parts.{part_done, part_failed, part_refused}
+use Rattle.rmp_encode.proofs.Parts.{part_as, part_done, part_failed, part_refused}
 
 -- why a write stopped, as an error of this crate
 fails_by : (m : Bool) (P : Type 0) (old new : ℕ) (part : List ℕ) (e : ValueWriteError) → StopsAfter m old new part e → FailsBy m P old new (error_of e)
@@ -78,3 +78,15 @@ module _ {W : Type 0} (g : Ghosts W) where
   -- a signed number that the wire wrote, from its bits
   pub signed_tree : (z z' : ℤ) {old new : W} (r : Result (Unit {0}) ValueWriteError) {answer : Result (Unit {0}) Error} → z ≡ z' → FitsSigned w64 z' → answer ≡ answer_of r → Writes g (canon_head (Whole z)) old new r → WritesTree g g.takes_memory (Some (whole z')) old new answer
   signed_tree z z' {old} {new} r e f is w = wire_tree g (whole z') r is (signed_fits z' f) (subst (λ n. Writes g (canon_head (Whole n)) old new r) e w)
+
+  -- an extension, from its head and its bytes
+  pub ext_as : {m : Bool} {P : Type 0} {old new : W} {r : Result (Unit {0}) Error} (n : ℕ) (z z' : ℤ) → z ≡ z' → WritesPart g m P (ext_head n z) old new r → WritesPart g m P (ext_head n z') old new r
+  ext_as {m} {P} {old} {new} {r} n z z' e w = subst (λ t. WritesPart g m P (ext_head n t) old new r) e w
+
+  pub ext_tree : {m : Bool} {old new : W} {r : Result (Unit {0}) Error} (tag : ℤ) (s : List ℕ) (n : ℕ) → n ≡ length s → n < 2 ^ 32 → FitsSigned w8 tag → IsBytes s → WritesPart g m (Unit {0} × Unit {0}) (ext_head n tag ++ s) old new r → WritesTree g m (Some (extension tag s)) old new r
+  unfolding HasTree spell fits_head
+  ext_tree tag s n e lt f b w = part_as g (λ t. t) (λ _. ((subst (λ k. k < 2 ^ 32) e lt, f), b)) (λ _. (tt, tt)) (λ _. ap (λ k. ext_head k tag ++ s) e) w
+
+  pub ext_too_long : (m : Bool) (tag : ℤ) (s : List ℕ) (w : W) (t : Bor (List ℕ)) → IsReason t.now → 2 ^ 32 ≤ length s → WritesTree g {A = Unit {0}} m (Some (extension tag s)) w w (Err (InvalidDataModel t))
+  unfolding HasTree fits_head
+  ext_too_long m tag s w t is le = part_refused g m (HasTree (Some (extension tag s))) (spell (Some (extension tag s))) w t is (λ h. let k = h.0.0 in omega (arith, k, le))

@@ -8,7 +8,7 @@ use Rattle.rmp_wire.specs.Spelling.{Fits, FitsAll, FitsPairs, canon, canon_all, 
 use Rattle.rmp_encode.specs.declared.settings.Settings.{Settings}
 use Rattle.rmp_encode.specs.Data.{Data, Parts, part, sequence, Entries, entry, mapping, lower, lower_parts, lower_entries}
 use Rattle.rmp_encode.specs.Going.{AreMany, head_at, open_of}
-use Rattle.rmp_encode.specs.Trees.{Has, HasTree, array_head, map_head, byte_of, parts_of, entries_of, sequence_of, mapping_of, spell, spelling, tree_of}
+use Rattle.rmp_encode.specs.Trees.{Has, HasTree, array_head, map_head, byte_of, parts_of, entries_of, in_turn, sequence_of, mapping_of, spell, spelling, tree_of}
 
 -- what the data of a list say of its parts
 unfoldable pub Tells : Settings → List (Option Data) → Option Parts → Type 0
@@ -127,3 +127,8 @@ map_byte_at (Some es) = refl
 pub mapping_no_byte : (ds : List (Option Data)) → byte_of (mapping_of ds) ≡ None
 unfolding mapping_of
 mapping_no_byte ds = map_byte_at (entries_of ds)
+
+-- keys and values in turn are twice as many as the entries
+pub length-in_turn : {K V : Type 0} (k : K → Option Data) (v : V → Option Data) (es : List (K × V)) (n : ℕ) → length es ≡ n → length (in_turn k v es) ≡ n + n
+length-in_turn k v [] n e = omega (arith, e)
+length-in_turn k v (x ∷ es) n e = let r = length-in_turn k v es (length es) refl in omega (arith, e, r)

@@ -1,7 +1,7 @@
 -- A list or a map of a known length or an unknown one, from what its state says.
 use Rattle.std.proofs.Common.{◌≡◌, ℕ, ◌+◌, ◌<◌, ◌≤◌, ◌^◌, List, [], ◌∷◌, ◌++◌, length, Bool, true, false, Option, None, Some, refl, sym, ◌∙◌, ap, subst, arith}
 use Rattle.std.specs.Borrow.{Bor}
-use Rattle.std.specs.Prelude.{Result, Ok, Err, OnErr}
+use Rattle.std.specs.Prelude.{Result, Ok, Err, OnErr, IfErr}
 use Rattle.std.specs.declared.vec.Vec.{Vec}
 use Rattle.std.specs.declared.alloc.Global.{Global}
 use Rattle.rmp_wire.specs.declared.sink.Sink.{Ghosts}
@@ -102,6 +102,10 @@ never_refused m n k old new (InvalidDataModel t) h = absurd (h.1 tt)
 never_refused m n k old new DepthLimitExceeded h = tt
 never_refused m n k old new (Syntax t) h = tt
 never_refused m n k old new OutOfMemory h = tt
+
+pub never_refused_by : {S : Type 0} (m : Bool) (n k : ℕ) (old new : S) (r : Result (Unit {0}) Error) → IfErr r (FailsBy m (Unit {0}) n k) → StaysAtRefusal old new r
+never_refused_by m n k old new (Ok u) h = tt
+never_refused_by m n k old new (Err e) h = never_refused m n k old new e h
 
 -- a buffer never holds too many
 pub never_past : {W C : Type 0} (g : Ghosts W) {pairs : Bool} {old : Serializer W C} {all rest : List (Option Data)} {count : ℕ} {b : Serializer (Vec ℕ Global) C} {now : Serializer W C} (p : Bool) → p ≡ pairs → most p < count → IsKeepingAt g pairs old all rest count b now → ⊥

@@ -1,7 +1,7 @@
 -- The message tree of a value, which is none where the type refuses the value, and the tree's spelling.
-use Rattle.std.specs.Prelude.{ℕ, pos, List, [], ◌∷◌, Bool, true, false, Option, None, Some, IsSomeAnd}
+use Rattle.std.specs.Prelude.{ℕ, ℤ, pos, List, [], ◌∷◌, Bool, true, false, Option, None, Some, IsSomeAnd}
 use Rattle.std.specs.Option.{option_map}
-use Rattle.rmp_wire.specs.declared.head.Head.TheVariants.{Whole, Bin, Array, Map}
+use Rattle.rmp_wire.specs.declared.head.Head.TheVariants.{Whole, Array, Map, Ext}
 use Rattle.rmp_wire.specs.Heads.{canon_head}
 use Rattle.rmp_wire.specs.Msg.{Msg}
 use Rattle.rmp_wire.specs.Spelling.{canon, Fits}
@@ -47,6 +47,11 @@ entries_of (Some k ∷ []) = None
 entries_of (Some k ∷ (None ∷ ds)) = None
 entries_of (Some k ∷ (Some v ∷ ds)) = option_map (entry k v) (entries_of ds)
 
+-- keys and values in turn
+abbrev pub in_turn : {K V : Type 0} → (K → Option Data) → (V → Option Data) → List (K × V) → List (Option Data)
+in_turn k v [] = []
+in_turn k v (e ∷ es) = k e.0 ∷ (v e.1 ∷ in_turn k v es)
+
 unfoldable pub mapping_of : List (Option Data) → Option Data
 mapping_of ds = option_map mapping (entries_of ds)
 
@@ -76,15 +81,15 @@ forces_slices Normal = false
 forces_slices ForceIterables = true
 forces_slices ForceAll = true
 
--- the canonical heads of a list, a map, bytes, and a number from 0 on
+-- the canonical heads of a list, a map, a number from 0 on, and an extension
 abbrev pub array_head : ℕ → List ℕ
 array_head n = canon_head (Array n)
 
 abbrev pub map_head : ℕ → List ℕ
 map_head n = canon_head (Map n)
 
-abbrev pub bin_head : ℕ → List ℕ
-bin_head n = canon_head (Bin n)
-
 abbrev pub number_head : ℕ → List ℕ
 number_head n = canon_head (Whole (pos n))
+
+abbrev pub ext_head : ℕ → ℤ → List ℕ
+ext_head n tag = canon_head (Ext n tag)

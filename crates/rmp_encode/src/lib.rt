@@ -3,6 +3,7 @@
 
 pub mod compound;
 pub mod error;
+pub mod extension;
 pub mod ser;
 pub mod serializer;
 pub mod series;
@@ -16,6 +17,7 @@ pub mod whole;
 
 pub use compound::Compound;
 pub use error::Error;
+pub use extension::{ExtFieldSerializer, ExtSerializer};
 pub use ser::Serialize;
 pub use serializer::Serializer;
 pub use series::MaybeUnknownLengthCompound;

@@ -11,6 +11,7 @@ use rmp_wire::Sink;
 use rmp_wire::config::SerializerConfig;
 
 mod bytes;
+mod collections;
 mod lists;
 mod numbers;
 mod pointers;

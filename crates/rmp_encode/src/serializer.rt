@@ -1,11 +1,11 @@
 //! A serializer over a sink.
 ghost use Rattle.std.specs.Prelude.{◌≡◌, ◌^◌, ◌<◌, true, false, [], Some, pos, length, encode_utf8};
 ghost use Rattle.std.specs.Borrow.{sem};
-ghost use Rattle.rmp_wire.specs.Msg.{nil, truth, whole, float32, float64, text, bin};
+ghost use Rattle.rmp_wire.specs.Msg.{nil, truth, whole, float32, float64, text, bin, extension};
 ghost use Rattle.rmp_encode.specs.Errors.{answer_of};
 ghost use Rattle.rmp_encode.specs.Going.{head_at};
 ghost use Rattle.rmp_encode.specs.Ser.{sink_of, settings_of, LendsSink};
-ghost use Rattle.rmp_encode.specs.Trees.{number_head};
+ghost use Rattle.rmp_encode.specs.Trees.{ext_head, number_head};
 ghost use Rattle.rmp_encode.specs.Writes.{Keeps, WritesPart, WritesTree, StaysAtRefusal};
 
 use crate::error::Error;
@@ -15,7 +15,7 @@ use rmp_wire::config::{
     StructTupleConfig,
 };
 use rmp_wire::write::{
-    write_array_len, write_bin, write_bool, write_f32_bits, write_f64_bits, write_map_len, write_nil, write_sint, write_str,
+    write_array_len, write_bin, write_bool, write_ext_meta, write_f32_bits, write_f64_bits, write_map_len, write_nil, write_sint, write_str,
     write_uint,
 };
 use rmp_wire::{Sink, ValueWriteError};
@@ -394,5 +394,26 @@ impl<W: Sink, C: SerializerConfig> Serializer<W, C> {
             return Err(Error::InvalidDataModel("length past 32 bits"));
         }
         answer(write_bin(&mut self.wr, bytes))
+    }
+
+    // Writes an extension.
+    pub(crate) fn put_extension(&mut self, tag: i8, bytes: &[u8]) -> Result<(), Error>
+        ensures writes { WritesTree W.Sink W.takes_memory (Some (extension tag bytes.now)) (sink_of self.old) (sink_of self.new) result }
+        ensures keeps { Keeps W.Sink self.old self.new }
+        ensures refused { StaysAtRefusal self.old self.new result }
+    {
+        if bytes.len() > u32::MAX as usize {
+            return Err(Error::InvalidDataModel("length past 32 bits"));
+        }
+        self.put_ext_head(bytes.len() as u32, tag)?;
+        self.put(bytes)
+    }
+
+    #[inline(always)]
+    fn put_ext_head(&mut self, len: u32, tag: i8) -> Result<(), Error>
+        ensures writes { WritesPart W.Sink W.takes_memory (Unit {0}) (ext_head len tag) (sink_of self.old) (sink_of self.new) result }
+        ensures keeps { Keeps W.Sink self.old self.new }
+    {
+        answer(write_ext_meta(&mut self.wr, len, tag))
     }
 }

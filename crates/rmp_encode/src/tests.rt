@@ -1,10 +1,13 @@
 //! Rows of values and their bytes.
+ghost use Rattle.std.specs.Prelude.{true};
+
 use crate::error::Error;
 use crate::ser::Serialize;
 use crate::serializer::Serializer;
 use crate::whole::{to_vec, write};
 use rmp_wire::config::BytesMode;
-use rmp_wire::{Sink, SinkFault, SliceSink, ValueWriteError};
+use rmp_wire::{ByteBuf, Bytes, Ext, F32Bits, F64Bits, Sink, SinkFault, SliceSink, ValueWriteError};
+use std::collections::{BTreeMap, BTreeSet, VecDeque};
 use std::test::Fail;
 
 // Whether a value is written as these bytes.
@@ -80,6 +83,82 @@ fn unknown_lengths(rt: HostRuntime) -> Result<(), Fail> {
         se.into_inner().as_slice(),
         b"\x92\x92\x01\xcc\xc8\x05\x81\x07\xa1x\x81\x07\xa1x".as_slice()
     );
+    Ok(())
+}
+
+#[test]
+fn maps(rt: HostRuntime) -> Result<(), Fail> {
+    let mut names = BTreeMap::new(rt.alloc());
+    names.insert(0u8, "le")?;
+    names.insert(1u8, "x")?;
+    assert!(rt; is_written(&rt, &names, b"\x82\x00\xa2le\x01\xa1x")?);
+    let mut set = BTreeSet::new(rt.alloc());
+    set.insert(7u16)?;
+    set.insert(5u16)?;
+    assert!(rt; is_written(&rt, &set, b"\x92\x05\x07")?);
+    let mut queue = VecDeque::new(rt.alloc());
+    queue.push_back(1u8)?;
+    queue.push_front(200u8)?;
+    assert!(rt; is_forced(&rt, BytesMode::ForceAll, &queue, b"\x92\xcc\xc8\x01")?);
+    Ok(())
+}
+
+#[test]
+fn extensions(rt: HostRuntime) -> Result<(), Fail> {
+    let mut se = Serializer::new(rt.alloc(), Vec::new(rt.alloc()));
+    se.extension().tag(2).bytes(b"\x05")?;
+    se.extension().tag(2).bytes(b"")?;
+    se.extension().tag(2).bytes(b"\x01\x02\x03")?;
+    assert_eq!(rt;
+        se.into_inner().as_slice(),
+        b"\xd4\x02\x05\xc7\x00\x02\xc7\x03\x02\x01\x02\x03".as_slice()
+    );
+    let time = Ext::new(-1, vec![in rt.alloc(); 5u8]?);
+    assert!(rt; is_written(&rt, &time, b"\xd4\xff\x05")?);
+    Ok(())
+}
+
+#[test]
+fn bytes_and_bits(rt: HostRuntime) -> Result<(), Fail> {
+    assert!(rt; is_written(&rt, &Bytes::new(b"\x01\x02"), b"\xc4\x02\x01\x02")?);
+    let owned = ByteBuf::new(vec![in rt.alloc(); 9u8]?);
+    assert!(rt; is_written(&rt, &owned, b"\xc4\x01\x09")?);
+    assert!(rt; is_written(&rt, &F32Bits(0x3f800000), b"\xca\x3f\x80\x00\x00")?);
+    assert!(rt; is_written(&rt, &F64Bits(1), b"\xcb\x00\x00\x00\x00\x00\x00\x00\x01")?);
+    Ok(())
+}
+
+// A sink that takes one byte a call.
+#[derive(Drop)]
+struct Trickle {
+    bytes: Vec<u8>,
+}
+
+impl Sink for Trickle {
+    const TAKES_MEMORY: bool = true;
+
+    ghost takes_memory = { true };
+
+    ghost faults = { λ _. 0 };
+
+    fn put(&mut self, piece: &[u8]) -> Result<usize, SinkFault> {
+        let Some(first) = piece.first() else {
+            return Ok(0);
+        };
+        match self.bytes.push(*first) {
+            Ok(()) => Ok(1),
+            Err(_) => Err(SinkFault::Memory),
+        }
+    }
+}
+
+#[test]
+fn one_byte_a_call(rt: HostRuntime) -> Result<(), Fail> {
+    let mut sink = Trickle {
+        bytes: Vec::new(rt.alloc()),
+    };
+    write(rt.alloc(), &mut sink, &(42u32, 100500u32))?;
+    assert_eq!(rt; sink.bytes.as_slice(), b"\x92\x2a\xce\x00\x01\x88\x94".as_slice());
     Ok(())
 }
 
