@@ -144,11 +144,7 @@ impl<W: Sink, C: SerializerConfig> Serializer<W, C> {
         ensures sink { sink_of result ≡ sink_of self }
         ensures settings { settings_of result ≡ record (settings_of self) { named = true } }
     {
-        let settings = Settings {
-            named: true,
-            ..self.settings
-        };
-        self.with_settings(settings)
+        self.with_names(true)
     }
 
     /// The same, where structs are lists.
@@ -156,11 +152,7 @@ impl<W: Sink, C: SerializerConfig> Serializer<W, C> {
         ensures sink { sink_of result ≡ sink_of self }
         ensures settings { settings_of result ≡ record (settings_of self) { named = false } }
     {
-        let settings = Settings {
-            named: false,
-            ..self.settings
-        };
-        self.with_settings(settings)
+        self.with_names(false)
     }
 
     /// The same, where values are written for humans.
@@ -168,11 +160,7 @@ impl<W: Sink, C: SerializerConfig> Serializer<W, C> {
         ensures sink { sink_of result ≡ sink_of self }
         ensures settings { settings_of result ≡ record (settings_of self) { human = true } }
     {
-        let settings = Settings {
-            human: true,
-            ..self.settings
-        };
-        self.with_settings(settings)
+        self.with_readable(true)
     }
 
     /// The same, where values are written compactly.
@@ -180,11 +168,7 @@ impl<W: Sink, C: SerializerConfig> Serializer<W, C> {
         ensures sink { sink_of result ≡ sink_of self }
         ensures settings { settings_of result ≡ record (settings_of self) { human = false } }
     {
-        let settings = Settings {
-            human: false,
-            ..self.settings
-        };
-        self.with_settings(settings)
+        self.with_readable(false)
     }
 
     // The same settings over another sink.
@@ -205,6 +189,28 @@ impl<W: Sink, C: SerializerConfig> Serializer<W, C> {
         ensures { result.items ≡ [] }
     {
         Vec::new(self.alloc)
+    }
+
+    fn with_names<D>(self, named: bool) -> Serializer<W, D>
+        ensures sink { sink_of result ≡ sink_of self }
+        ensures settings { settings_of result ≡ record (settings_of self) { named = named } }
+    {
+        let settings = Settings {
+            named,
+            ..self.settings
+        };
+        self.with_settings(settings)
+    }
+
+    fn with_readable<D>(self, human: bool) -> Serializer<W, D>
+        ensures sink { sink_of result ≡ sink_of self }
+        ensures settings { settings_of result ≡ record (settings_of self) { human = human } }
+    {
+        let settings = Settings {
+            human,
+            ..self.settings
+        };
+        self.with_settings(settings)
     }
 
     fn with_settings<D>(self, settings: Settings) -> Serializer<W, D>
