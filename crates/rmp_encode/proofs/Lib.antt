@@ -1,11 +1,11 @@
-pub mod Parts
-pub mod Leaves
-pub mod Lists
+pub mod Filling
 pub mod Going
 pub mod Keeping
+pub mod Leaves
+pub mod Lists
+pub mod Numbers
 pub mod OpenSteps
 pub mod Packing
-pub mod TupleSteps
-pub mod Numbers
-pub mod Filling
+pub mod Parts
 pub mod Spelled
+pub mod TupleSteps
