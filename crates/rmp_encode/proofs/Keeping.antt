@@ -1,0 +1,120 @@
+-- What a list or a map of unknown length has kept, step by step.
+use Rattle.std.proofs.Common.{◌≡◌, ℕ, ◌+◌, ◌<◌, ◌≤◌, ◌^◌, List, [], ◌∷◌, ◌++◌, length, length-append, true, Option, refl, sym, ◌∙◌, ap, subst, arith, append_assoc, append-nil}
+use Rattle.std.specs.Borrow.{Bor}
+use Rattle.std.specs.Prelude.{Result, Err, Bool, false}
+use Rattle.std.specs.declared.vec.Vec.{Vec}
+use Rattle.std.specs.declared.alloc.Global.{Global}
+use Rattle.std.specs.List.{flat_map, AllByRecursion}
+use Rattle.std.proofs.lemmas.Grind.{flat_map-append}
+use Rattle.rmp_encode.specs.declared.settings.Settings.{Settings}
+use Rattle.rmp_wire.specs.declared.sink.Sink.{Ghosts}
+use Rattle.rmp_encode.specs.declared.serializer.Serializer.{Serializer}
+use Rattle.rmp_encode.specs.declared.error.Error.{Error}
+use Rattle.rmp_encode.specs.declared.error.Error.TheVariants.{InvalidValueWrite, UnknownLength, InvalidDataModel, DepthLimitExceeded, Syntax, OutOfMemory}
+use Rattle.rmp_encode.specs.Data.{Data}
+use Rattle.rmp_encode.specs.Errors.{IsReason}
+use Rattle.rmp_encode.specs.Sizes.{most, size_at}
+use Rattle.rmp_encode.specs.Trees.{Has, spelling, tree_of}
+use Rattle.rmp_encode.specs.Ser.{sink_of, settings_of}
+use Rattle.rmp_encode.specs.Writes.{FailsBy, WritesPart, WritesTree}
+use Rattle.rmp_encode.specs.Going.{AreMany, head_at, open_of, IsKeepingAt}
+use Rattle.rmp_encode.proofs.Parts.{part_nothing, part_as}
+use Rattle.rmp_encode.proofs.Lists.{open_may, open_can, open_text}
+use Rattle.rmp_encode.proofs.Going.{all_append, all_back}
+
+-- a cause where the buffer has no faults
+pub cause_of : (P Q : Type 0) (n : ℕ) (e : Error) → (Q → P) → FailsBy true P 0 0 e → FailsBy true Q n n e
+cause_of P Q n (InvalidValueWrite e) f h = absurd (h refl)
+cause_of P Q n UnknownLength f h = h
+cause_of P Q n (InvalidDataModel t) f h = (h.0, λ q. h.1 (f q), refl)
+cause_of P Q n DepthLimitExceeded f h = h
+cause_of P Q n (Syntax t) f h = (λ q. h.0 (f q), refl)
+cause_of P Q n OutOfMemory f h = (refl, refl)
+
+-- the number in the head
+size_is : (pairs : Bool) (n : ℕ) (all : List (Option Data)) → AreMany pairs n all → size_at pairs (length all) ≡ n
+size_is true n all e = omega (arith, e)
+size_is false n all e = e
+
+size_fits : (pairs : Bool) (n k : ℕ) (all : List (Option Data)) → AreMany pairs n all → length all ≡ k → k ≤ most pairs → n < 2 ^ 32
+size_fits true n k all e l lt = omega (arith, e, l, lt)
+size_fits false n k all e l lt = omega (arith, e, l, lt)
+
+size_past : (pairs : Bool) (n k : ℕ) (all : List (Option Data)) → AreMany pairs n all → k < length all → most pairs ≤ k → n < 2 ^ 32 → ⊥
+size_past true n k all e l lt h = omega (arith, e, l, lt, h)
+size_past false n k all e l lt h = omega (arith, e, l, lt, h)
+
+some_most : (pairs : Bool) → 0 ≤ most pairs
+some_most true = omega arith
+some_most false = omega arith
+
+module _ (pairs : Bool) {W C : Type 0} (g : Ghosts W) where
+  -- nothing is kept yet
+  pub keeping_opened : (old : Serializer W C) (b : Serializer (Vec ℕ Global) C) → settings_of b ≡ settings_of old → (sink_of b).items ≡ [] → (n : ℕ) (all : List (Option Data)) → AreMany pairs n all → IsKeepingAt g pairs old all all 0 b old
+  keeping_opened old b st e n all many = record {
+    size = n;
+    many = many;
+    front = [];
+    split = refl;
+    count_is = refl;
+    fits = some_most pairs;
+    same = refl;
+    settings = st;
+    have = tt;
+    bytes = e;
+  }
+
+  -- nothing reached the sink
+  pub kept_back : (old last : Serializer W C) (all : List (Option Data)) (P : Type 0) (e : Error) → last ≡ old → (Has (settings_of old) (open_of pairs all) → P) → FailsBy true P 0 0 e → WritesTree g {A = Unit {0}} true (tree_of (settings_of old) (open_of pairs all)) (sink_of old) (sink_of last) (Err e)
+  kept_back old last all P e same f h =
+      subst (λ l. WritesTree g {A = Unit {0}} true (tree_of (settings_of old) (open_of pairs all)) (sink_of old) (sink_of l) (Err e)) (sym same)
+      (part_nothing g true _ _ (sink_of old) e (cause_of P (Has (settings_of old) (open_of pairs all)) _ e f h))
+
+  -- the part is refused, since no head has room for one more
+  pub too_many : (x : Option Data) (count : ℕ) (b : Serializer (Vec ℕ Global) C) (now : Serializer W C) (t : Bor (List ℕ)) → IsReason t.now → most pairs ≤ count
+      → (old : Serializer W C) (all rest : List (Option Data)) → IsKeepingAt g pairs old all (x ∷ rest) count b now → WritesTree g {A = Unit {0}} true (tree_of (settings_of old) (open_of pairs all)) (sink_of old) (sink_of now) (Err (InvalidDataModel t))
+  too_many x count b now t is full old all rest h =
+      kept_back old now all ⊥ (InvalidDataModel t) h.same
+      (λ k. let lt = (open_can pairs (settings_of old) h.size all h.many k).0 in let e : length all ≡ length h.front + length (x ∷ rest) = ap length h.split ∙ length-append h.front (x ∷ rest) in size_past pairs h.size count all h.many (omega (arith, e, h.count_is)) full lt)
+      (is, λ x. x, refl)
+
+  -- the part failed
+  pub keep_err : (d : Settings → Option Data) (count : ℕ) (b : Serializer (Vec ℕ Global) C) (now : Serializer W C) (e : Error)
+      → FailsBy true (Has (settings_of b) (d (settings_of b))) 0 0 e
+      → (old : Serializer W C) (all rest : List (Option Data)) → IsKeepingAt g pairs old all (d (settings_of old) ∷ rest) count b now → WritesTree g {A = Unit {0}} true (tree_of (settings_of old) (open_of pairs all)) (sink_of old) (sink_of now) (Err e)
+  keep_err d count b now e w old all rest h =
+      let s = settings_of old in
+      kept_back old now all (Has s (d s)) e h.same (λ k. (all_back (Has s) h.front (d s ∷ rest) (subst (AllByRecursion (Has s)) h.split (open_can pairs s h.size all h.many k).1)).0) (subst (λ t. FailsBy true (Has t (d t)) 0 0 e) h.settings w)
+
+  -- the part was kept
+  pub keep_ok : (d : Settings → Option Data) (count count' : ℕ) (b b' : Serializer (Vec ℕ Global) C) (now : Serializer W C) → count' ≡ count + 1 → count' ≤ most pairs → settings_of b' ≡ settings_of b
+      → Has (settings_of b) (d (settings_of b)) → (sink_of b').items ≡ (sink_of b).items ++ spelling (settings_of b) (d (settings_of b))
+      → (old : Serializer W C) (all rest : List (Option Data)) → IsKeepingAt g pairs old all (d (settings_of old) ∷ rest) count b now → IsKeepingAt g pairs old all rest count' b' now
+  keep_ok d count count' b b' now more lt st has bytes old all rest h =
+      let s = settings_of old in
+      let has' : Has s (d s) = subst (λ t. Has t (d t)) h.settings has in
+      let bytes' : (sink_of b').items ≡ (sink_of b).items ++ spelling s (d s) = subst (λ t. (sink_of b').items ≡ (sink_of b).items ++ spelling t (d t)) h.settings bytes in
+      record {
+        size = h.size;
+        many = h.many;
+        front = h.front ++ d s ∷ [];
+        split = h.split ∙ sym (append_assoc h.front (d s ∷ []) rest);
+        count_is = omega (arith, more, h.count_is, length-append h.front (d s ∷ []));
+        fits = lt;
+        same = h.same;
+        settings = st ∙ h.settings;
+        have = all_append (Has s) h.front (d s ∷ []) h.have (has', tt);
+        bytes = bytes' ∙ ap (λ l. l ++ spelling s (d s)) h.bytes ∙ sym (flat_map-append (spelling s) h.front (d s ∷ []) ∙ ap (λ l. flat_map (spelling s) h.front ++ l) (append-nil (spelling s (d s))));
+      }
+
+  -- the head and the buffer were written
+  pub keeping_ends : (count : ℕ) (b : Serializer (Vec ℕ Global) C) (now : Serializer W C) {last : W} {r : Result (Unit {0}) Error} → WritesPart g g.takes_memory (Unit {0} × Unit {0}) (head_at pairs (size_at pairs count) ++ (sink_of b).items) (sink_of now) last r
+      → (old : Serializer W C) (all : List (Option Data)) → IsKeepingAt g pairs old all [] count b now → WritesTree g g.takes_memory (tree_of (settings_of old) (open_of pairs all)) (sink_of old) last r
+  keeping_ends count b now {last} {r} w old all h =
+      let s = settings_of old in
+      let is : all ≡ h.front = h.split ∙ append-nil h.front in
+      let n : length all ≡ count = ap length is ∙ sym h.count_is in
+      let size : size_at pairs count ≡ h.size = ap (size_at pairs) (sym n) ∙ size_is pairs h.size all h.many in
+      let w' : WritesPart g g.takes_memory (Unit {0} × Unit {0}) (head_at pairs (size_at pairs count) ++ (sink_of b).items) (sink_of old) last r = subst (λ x. WritesPart g g.takes_memory (Unit {0} × Unit {0}) (head_at pairs (size_at pairs count) ++ (sink_of b).items) (sink_of x) last r) h.same w in
+      part_as g (λ t. t) (λ _. open_may pairs s h.size all h.many (size_fits pairs h.size count all h.many n h.fits) (subst (AllByRecursion (Has s)) (sym is) h.have)) (λ _. (tt, tt))
+      (λ p. ap (λ k. head_at pairs k ++ (sink_of b).items) size ∙ ap (λ l. head_at pairs h.size ++ l) (h.bytes ∙ ap (flat_map (spelling s)) (sym is)) ∙ open_text pairs s h.size all h.many p) w'

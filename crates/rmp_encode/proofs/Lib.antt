@@ -1,0 +1,11 @@
+pub mod Parts
+pub mod Leaves
+pub mod Lists
+pub mod Going
+pub mod Keeping
+pub mod OpenSteps
+pub mod Packing
+pub mod TupleSteps
+pub mod Numbers
+pub mod Filling
+pub mod Spelled

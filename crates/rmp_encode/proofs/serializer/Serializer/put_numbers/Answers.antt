@@ -1,0 +1,18 @@
+use Rattle.std.proofs.Common.{arith, refl, rules}
+use Rattle.std.proofs.lemmas.Result.{err_from_is_err_and}
+use Rattle.rmp_encode.specs.Trees.{number_head}
+use Rattle.rmp_encode.proofs.Going.{keeps_then}
+use Rattle.rmp_encode.proofs.Numbers.{number_more, number_fails}
+use Rattle.rmp_encode.proofs.serializer.Serializer.put_numbers.Goals as goal
+
+pub returns-in_err-put_byte-clause-writes : goal.returns-in_err-put_byte-clause-writes
+returns-in_err-put_byte-clause-writes g c =
+    let p = err_from_is_err_and c.from_residual.result c.from_residual.ensures.1 in
+    rw (p.1, p.2) (number_fails g.W.Sink number_head c.args.bytes.now c.loop-b.b-index _ c.loop-b-test.true c.loop-b.invariant.writes c.in_err-put_byte.ensures.writes)
+
+pub loop-b-preserved : goal.loop-b-preserved
+loop-b-preserved g c = record {
+  within = omega arith;
+  keeps = keeps_then g.W.Sink c.loop-b.invariant.keeps c.put_byte.ensures.keeps;
+  writes = number_more g.W.Sink number_head c.args.bytes.now c.loop-b.b-index _ c.loop-b-test.true c.loop-b.invariant.writes c.in_ok-put_byte.ensures.writes;
+}

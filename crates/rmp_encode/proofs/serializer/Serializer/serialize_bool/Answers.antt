@@ -1,0 +1,7 @@
+use Rattle.rmp_wire.specs.Heads.{fits_head}
+use Rattle.rmp_encode.proofs.Leaves.{wire_tree}
+use Rattle.rmp_encode.proofs.serializer.Serializer.serialize_bool.Goals as goal
+
+pub returns-clause-writes : goal.returns-clause-writes
+unfolding fits_head
+returns-clause-writes g c = wire_tree g.W.Sink _ c.write_bool.result c.answer.ensures (tt) c.write_bool.ensures.writes

@@ -1,0 +1,47 @@
+use Rattle.std.proofs.Common.{◌<◌, refl, arith, rules, true, false, sym}
+use Rattle.std.proofs.lemmas.Result.{err_from_is_err_and}
+use Rattle.rmp_encode.specs.Going.{open_of}
+use Rattle.rmp_encode.specs.Sizes.{most, size_at}
+use Rattle.rmp_encode.proofs.Parts.{part_then, part_stops}
+use Rattle.rmp_encode.proofs.Going.{at_closes}
+use Rattle.rmp_encode.proofs.Keeping.{keeping_ends}
+use Rattle.rmp_encode.proofs.OpenSteps.{none_state, some_state, kind_as, never_past}
+use Rattle.rmp_encode.proofs.series.MaybeUnknownLengthCompound+W+C.end.Goals as goal
+
+pub returns-in_default-clause-writes : goal.returns-in_default-clause-writes
+unfolding open_of
+returns-in_default-clause-writes g c = λ old all h. at_closes false g.W.Sink _ old all _ _ _ (none_state g.W.Sink c.in_default.is h)
+
+pub returns-then-past-clause-writes : goal.returns-then-past-clause-writes
+returns-then-past-clause-writes g c = λ old all h.
+    let past : most c.args.self.pairs < c.args.self.count = search rules in
+    absurd (never_past g.W.Sink c.args.self.pairs h.kind past (some_state g.W.Sink c.in-Some.buffer c.in-Some.is h))
+
+pub returns-in_err-put_head-clause-writes : goal.returns-in_err-put_head-clause-writes
+unfolding open_of
+returns-in_err-put_head-clause-writes g c =
+    let p = err_from_is_err_and c.from_residual.result c.from_residual.ensures.1 in
+    rw (p.1, p.2) (λ old all h. keeping_ends false g.W.Sink _ c.in-Some.buffer c.args.self.se.now (kind_as g.W.Sink (λ b. size_at b c.args.self.count) _ c.args.self.pairs false h.kind (part_stops g.W.Sink {Q = Unit {0}} _ (rw c.size-n.ensures at c.in_err-put_head.ensures.writes))) old all (some_state g.W.Sink c.in-Some.buffer c.in-Some.is h))
+
+pub returns-clause-writes : goal.returns-clause-writes
+unfolding open_of
+returns-clause-writes g c = λ old all h. keeping_ends false g.W.Sink _ c.in-Some.buffer c.args.self.se.now (kind_as g.W.Sink (λ b. size_at b c.args.self.count) _ c.args.self.pairs false h.kind (part_then g.W.Sink (rw c.size-n.ensures at c.in_ok-put_head.ensures.writes) (rw (c.as_slice.ensures.value, c.into_inner-bytes.ensures) at c.put.ensures.writes))) old all (some_state g.W.Sink c.in-Some.buffer c.in-Some.is h)
+
+pub returns-in_default-clause-writes_map : goal.returns-in_default-clause-writes_map
+unfolding open_of
+returns-in_default-clause-writes_map g c = λ old all h. at_closes true g.W.Sink _ old all _ _ _ (none_state g.W.Sink c.in_default.is h)
+
+pub returns-then-past-clause-writes_map : goal.returns-then-past-clause-writes_map
+returns-then-past-clause-writes_map g c = λ old all h.
+    let past : most c.args.self.pairs < c.args.self.count = search rules in
+    absurd (never_past g.W.Sink c.args.self.pairs h.kind past (some_state g.W.Sink c.in-Some.buffer c.in-Some.is h))
+
+pub returns-in_err-put_head-clause-writes_map : goal.returns-in_err-put_head-clause-writes_map
+unfolding open_of
+returns-in_err-put_head-clause-writes_map g c =
+    let p = err_from_is_err_and c.from_residual.result c.from_residual.ensures.1 in
+    rw (p.1, p.2) (λ old all h. keeping_ends true g.W.Sink _ c.in-Some.buffer c.args.self.se.now (kind_as g.W.Sink (λ b. size_at b c.args.self.count) _ c.args.self.pairs true h.kind (part_stops g.W.Sink {Q = Unit {0}} _ (rw c.size-n.ensures at c.in_err-put_head.ensures.writes))) old all (some_state g.W.Sink c.in-Some.buffer c.in-Some.is h))
+
+pub returns-clause-writes_map : goal.returns-clause-writes_map
+unfolding open_of
+returns-clause-writes_map g c = λ old all h. keeping_ends true g.W.Sink _ c.in-Some.buffer c.args.self.se.now (kind_as g.W.Sink (λ b. size_at b c.args.self.count) _ c.args.self.pairs true h.kind (part_then g.W.Sink (rw c.size-n.ensures at c.in_ok-put_head.ensures.writes) (rw (c.as_slice.ensures.value, c.into_inner-bytes.ensures) at c.put.ensures.writes))) old all (some_state g.W.Sink c.in-Some.buffer c.in-Some.is h)

@@ -1,0 +1,12 @@
+pub mod Data
+pub mod Trees
+pub mod Errors
+pub mod Ser
+pub mod Writes
+pub mod Sizes
+pub mod Going
+pub mod Opens
+pub mod Tuples
+pub mod Slices
+pub mod Compounds
+pub mod Calls

@@ -1,0 +1,58 @@
+-- What a write does to a sink and a serializer.
+use Rattle.std.specs.Prelude.{◌≡◌, ◌≢◌, ℕ, ◌++◌, Bool, IsTrue, List, Option, Result, Ok, Err, OnOk, OnErr, IfErr}
+use Rattle.std.specs.Io.KnownBytes.{Appends}
+use Rattle.rmp_wire.specs.declared.sink.Sink.{Ghosts}
+use Rattle.rmp_wire.specs.Msg.{Msg}
+use Rattle.rmp_encode.specs.declared.serializer.Serializer.{Serializer}
+use Rattle.rmp_encode.specs.declared.error.Error.{Error}
+use Rattle.rmp_encode.specs.declared.error.Error.TheVariants.{InvalidValueWrite, UnknownLength, InvalidDataModel, DepthLimitExceeded, Syntax, OutOfMemory}
+use Rattle.rmp_encode.specs.Errors.{IsReason}
+use Rattle.rmp_encode.specs.Ser.{sink_of, settings_of}
+use Rattle.rmp_encode.specs.Trees.{HasTree, spell}
+
+-- the old bytes stand in front of what a sink tells
+pub record AppendsSome (old new : Option (List ℕ)) : Type 0 where
+  pub part : List ℕ
+  pub appended : Appends old new part
+
+-- the told bytes grew by a beginning of these
+pub record AppendsPart (old new : Option (List ℕ)) (bs : List ℕ) : Type 0 where
+  pub part : List ℕ
+  pub rest : List ℕ
+  pub split : bs ≡ part ++ rest
+  pub appended : Appends old new part
+
+-- The causes of an error, where P says that there is something to write: a fault of the sink was counted, or there is nothing to write, or
+-- memory was refused, if m says that memory may be taken.
+abbrev pub FailsBy : Bool → Type 0 → ℕ → ℕ → Error → Type 0
+FailsBy m P old new (InvalidValueWrite e) = new ≢ old
+FailsBy m P old new UnknownLength = ⊥
+FailsBy m P old new (InvalidDataModel t) = IsReason t.now × ¬ P × (new ≡ old)
+FailsBy m P old new DepthLimitExceeded = ⊥
+FailsBy m P old new (Syntax t) = ¬ P × (new ≡ old)
+FailsBy m P old new OutOfMemory = IsTrue m × (new ≡ old)
+
+-- what is refused for its length leaves all as it was
+abbrev pub StaysAtRefusal : {A S : Type 0} → S → S → Result A Error → Type 0
+StaysAtRefusal old new (Ok u) = Unit {0}
+StaysAtRefusal old new (Err (InvalidDataModel t)) = new ≡ old
+StaysAtRefusal old new (Err e) = Unit {0}
+
+module _ {W : Type 0} (g : Ghosts W) where
+  -- At `Ok` P holds and bs was appended. At an error there is a cause, the old bytes stand in front, and under P a beginning of bs was appended.
+  pub record WritesPart {A : Type 0} (m : Bool) (P : Type 0) (bs : List ℕ) (old new : W) (r : Result A Error) : Type 0 where
+    pub may : OnOk r P
+    pub whole : OnOk r (Appends (g.told old) (g.told new) bs)
+    pub no_fault : OnOk r (g.faults new ≡ g.faults old)
+    pub part : OnErr r (P → AppendsPart (g.told old) (g.told new) bs)
+    pub front : OnErr r (AppendsSome (g.told old) (g.told new))
+    pub cause : IfErr r (FailsBy m P (g.faults old) (g.faults new))
+
+  -- the canonical spelling of the tree, if one is there that fits
+  abbrev pub WritesTree : {A : Type 0} → Bool → Option Msg → W → W → Result A Error → Type 0
+  WritesTree m t = WritesPart m (HasTree t) (spell t)
+
+  -- settings stay, and where the bytes go
+  pub record Keeps {C : Type 0} (old new : Serializer W C) : Type 0 where
+    pub settings : settings_of new ≡ settings_of old
+    pub place : g.place (sink_of new) ≡ g.place (sink_of old)

@@ -1,0 +1,79 @@
+//! Tuple structs, whose elements are written in order.
+ghost use Rattle.std.specs.Prelude.{◌≡◌, ◌+◌, ◌<◌, [], true, IfOk, OnOk, IsOk, length};
+ghost use Rattle.std.specs.Borrow.{sem};
+ghost use Rattle.rmp_encode.specs.Compounds.{FillingRests, IsFilling, Fills};
+ghost use Rattle.rmp_encode.specs.Ser.{sink_of, settings_of};
+ghost use Rattle.rmp_encode.specs.Trees.{tree_of, sequence_of};
+ghost use Rattle.rmp_encode.specs.Writes.{Keeps, WritesTree};
+
+use crate::error::Error;
+use crate::ser::Serialize;
+use crate::serializer::Serializer;
+use rmp_wire::Sink;
+use rmp_wire::config::SerializerConfig;
+
+/// The elements of a tuple struct that are still to be written.
+#[derive(Drop)]
+pub struct Compound<'a, W, C> {
+    se: &'a mut Serializer<W, C>,
+    left: usize,
+}
+
+impl<W: Sink, C: SerializerConfig> Serializer<W, C> {
+    /// Opens a tuple struct of so many elements. A number of 2 ^ 32 or more is refused, and nothing is written.
+    pub fn serialize_tuple_struct(
+        &mut self,
+        _name: &'static str,
+        len: usize,
+    ) -> Result<Compound<'_, W, C>, Error>
+        ensures* refused { sem 𝓛 (FillingRests W.row C.row W.Sink self.entry len result) }
+        ensures same_reference { IfOk result (λ q. q.se.ghost_name ≡ self.entry.ghost_name) }
+        ensures left { IfOk result (λ q. q.left ≡ len) }
+        ensures opened { IfOk result (λ q. (all : _) → length all ≡ len → IsFilling W.Sink self.old all all q) }
+        ensures keeps { IfOk result (λ q. Keeps W.Sink self.old q.se.now) }
+    {
+        if len > u32::MAX as usize {
+            return Err(Error::InvalidDataModel("length past 32 bits"));
+        }
+        self.put_head(false, len as u32)?;
+        Ok(Compound {
+            se: self,
+            left: len,
+        })
+    }
+}
+
+impl<'a, W: Sink, C: SerializerConfig> Compound<'a, W, C> {
+    /// Writes the next element.
+    #[inline(always)]
+    pub fn serialize_element<T: Serialize>(&mut self, value: &T) -> Result<(), Error>
+        requires { 0 < self.old.left }
+        ensures same_reference { self.new.se.ghost_name ≡ self.old.se.ghost_name }
+        ensures left { self.new.left + 1 ≡ self.old.left }
+        ensures writes { Fills W.Sink (λ s. T.data_of value.now s.human) self.old self.new result }
+        ensures keeps { Keeps W.Sink self.old.se.now self.new.se.now }
+        ensures value { OnOk result (T.is_value value.now) }
+    {
+        self.left -= 1;
+        value.serialize(&mut *self.se)
+    }
+
+    /// How many elements haven't begun.
+    pub fn left(&self) -> usize
+        ensures { result ≡ self.now.left }
+    {
+        self.left
+    }
+
+    /// Ends the tuple struct. Nothing is written.
+    pub fn end(self) -> Result<(), Error>
+        requires { self.left ≡ 0 }
+        ensures ok { IsOk result }
+        ensures writes { (old : _) (all : _) → IsFilling W.Sink old all [] self.entry → WritesTree W.Sink true (tree_of (settings_of old) (sequence_of all)) (sink_of old) (sink_of self.exit.0.now) result }
+        ensures stays { self.exit.0.now ≡ self.entry.se.now }
+        ensures keeps { Keeps W.Sink self.entry.se.now self.exit.0.now }
+    {
+        let Compound { se: _, left: _ } = self;
+        Ok(())
+    }
+}

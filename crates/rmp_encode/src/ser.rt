@@ -1,0 +1,42 @@
+//! What can be written.
+ghost use Rattle.std.specs.Prelude.{◌≡◌, Bool, true, Option, OnOk, OnSome};
+ghost use Rattle.rmp_encode.specs.Data.{Data};
+ghost use Rattle.rmp_encode.specs.Trees.{tree_of, byte_of};
+ghost use Rattle.rmp_encode.specs.Ser.{sink_of, settings_of};
+ghost use Rattle.rmp_encode.specs.Writes.{Keeps, WritesTree};
+
+use crate::error::Error;
+use crate::serializer::Serializer;
+use rmp_wire::Sink;
+use rmp_wire::config::SerializerConfig;
+
+mod bytes;
+mod collections;
+mod lists;
+mod numbers;
+mod pointers;
+mod texts;
+mod tuples;
+
+/// What can be written.
+pub trait Serialize {
+    // What the value is, as a serializer sees it that writes for humans or not. None: the type refuses the value.
+    ghost data_of: { Self → Bool → Option Data };
+
+    // What is known of a value of the type.
+    ghost is_value: { Self → Type 0 };
+
+    /// Writes the value.
+    fn serialize<W: Sink, C: SerializerConfig>(
+        &self,
+        se: &mut Serializer<W, C>,
+    ) -> Result<(), Error>
+        ensures writes { WritesTree W.Sink true (tree_of (settings_of se.old) (data_of self.now (settings_of se.old).human)) (sink_of se.old) (sink_of se.new) result }
+        ensures keeps { Keeps W.Sink se.old se.new }
+        ensures value { OnOk result (is_value self.now) };
+
+    /// The number, exactly where the value is written by one call of `serialize_u8`.
+    fn as_u8(&self, human: bool) -> Option<u8>
+        ensures byte { result ≡ byte_of (data_of self.now human) }
+        ensures value { OnSome result (is_value self.now) };
+}

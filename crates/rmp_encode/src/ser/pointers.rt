@@ -1,0 +1,44 @@
+//! What is written as what it points to.
+use crate::error::Error;
+use crate::ser::Serialize;
+use crate::serializer::Serializer;
+use rmp_wire::Sink;
+use rmp_wire::config::SerializerConfig;
+
+impl<T: Serialize> Serialize for &T {
+    ghost data_of = { λ v human. T.data_of v.now human };
+
+    ghost is_value = { λ v. T.is_value v.now };
+
+    #[inline(always)]
+    fn serialize<W: Sink, C: SerializerConfig>(
+        &self,
+        se: &mut Serializer<W, C>,
+    ) -> Result<(), Error> {
+        (**self).serialize(se)
+    }
+
+    #[inline(always)]
+    fn as_u8(&self, human: bool) -> Option<u8> {
+        (**self).as_u8(human)
+    }
+}
+
+impl<T: Serialize> Serialize for Box<T> {
+    ghost data_of = { λ v human. T.data_of v.value human };
+
+    ghost is_value = { λ v. T.is_value v.value };
+
+    #[inline(always)]
+    fn serialize<W: Sink, C: SerializerConfig>(
+        &self,
+        se: &mut Serializer<W, C>,
+    ) -> Result<(), Error> {
+        (**self).serialize(se)
+    }
+
+    #[inline(always)]
+    fn as_u8(&self, human: bool) -> Option<u8> {
+        (**self).as_u8(human)
+    }
+}

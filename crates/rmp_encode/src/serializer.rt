@@ -1,0 +1,425 @@
+//! A serializer over a sink.
+ghost use Rattle.std.specs.Prelude.{◌≡◌, ◌^◌, ◌<◌, true, false, [], Some, pos, length, encode_utf8};
+ghost use Rattle.std.specs.Borrow.{sem};
+ghost use Rattle.rmp_wire.specs.Msg.{nil, truth, whole, float32, float64, text, bin, extension};
+ghost use Rattle.rmp_encode.specs.Errors.{answer_of};
+ghost use Rattle.rmp_encode.specs.Going.{head_at};
+ghost use Rattle.rmp_encode.specs.Ser.{sink_of, settings_of, LendsSink};
+ghost use Rattle.rmp_encode.specs.Trees.{ext_head, number_head};
+ghost use Rattle.rmp_encode.specs.Writes.{Keeps, WritesPart, WritesTree, StaysAtRefusal};
+
+use crate::error::Error;
+use crate::settings::Settings;
+use rmp_wire::config::{
+    BinaryConfig, BytesMode, DefaultConfig, HumanReadableConfig, SerializerConfig, StructMapConfig,
+    StructTupleConfig,
+};
+use rmp_wire::write::{
+    write_array_len, write_bin, write_bool, write_ext_meta, write_f32_bits, write_f64_bits, write_map_len, write_nil, write_sint, write_str,
+    write_uint,
+};
+use rmp_wire::{Sink, ValueWriteError};
+use std::alloc::Global;
+use std::marker::PhantomData;
+
+/// Writes values into a sink, each in its canonical spelling.
+#[derive(Drop)]
+pub struct Serializer<W, C = DefaultConfig> {
+    wr: W,
+    alloc: Global,
+    settings: Settings,
+    config: PhantomData<C>,
+}
+
+// The answer of a write, from the wire's.
+#[inline(always)]
+pub(crate) fn answer(r: Result<(), ValueWriteError>) -> Result<(), Error>
+    ensures { result ≡ answer_of r }
+{
+    match r {
+        Ok(()) => Ok(()),
+        Err(e) => Err(Error::from(e)),
+    }
+}
+
+impl<W: Sink> Serializer<W> {
+    /// A serializer with the default settings: structs are lists, values are written compactly, and no list is made bytes.
+    pub fn new(alloc: Global, wr: W) -> Serializer<W>
+        ensures sink { sink_of result ≡ wr }
+        ensures settings { settings_of result ≡ record { named = false; human = false; bytes = BytesMode.Normal } }
+    {
+        Serializer {
+            wr,
+            alloc,
+            settings: Settings {
+                named: false,
+                human: false,
+                bytes: BytesMode::Normal,
+            },
+            config: PhantomData,
+        }
+    }
+}
+
+impl<W: Sink> Serializer<W, StructMapConfig<DefaultConfig>> {
+    // A serializer with the default settings, but structs are maps from the names of their fields.
+    pub(crate) fn named(alloc: Global, wr: W) -> Serializer<W, StructMapConfig<DefaultConfig>>
+        ensures sink { sink_of result ≡ wr }
+        ensures settings { settings_of result ≡ record { named = true; human = false; bytes = BytesMode.Normal } }
+    {
+        Serializer {
+            wr,
+            alloc,
+            settings: Settings {
+                named: true,
+                human: false,
+                bytes: BytesMode::Normal,
+            },
+            config: PhantomData,
+        }
+    }
+}
+
+impl<W: Sink, C: SerializerConfig> Serializer<W, C> {
+    /// The sink.
+    pub fn get_ref(&self) -> &W
+        ensures { result.now ≡ sink_of self.now }
+    {
+        &self.wr
+    }
+
+    /// The sink, to be changed.
+    pub fn get_mut(&mut self) -> &mut W
+        ensures* writes_back { sem 𝓛 (LendsSink W.row C.row self.entry result) }
+        ensures value { result.now ≡ sink_of self.old }
+    {
+        &mut self.wr
+    }
+
+    /// The sink, given back.
+    pub fn into_inner(self) -> W
+        ensures { result ≡ sink_of self }
+    {
+        self.wr
+    }
+
+    /// Whether values are written for humans.
+    #[inline(always)]
+    pub fn is_human_readable(&self) -> bool
+        ensures { result ≡ (settings_of self.now).human }
+    {
+        self.settings.human
+    }
+
+    /// Whether structs are maps from names.
+    #[inline(always)]
+    pub fn is_named(&self) -> bool
+        ensures { result ≡ (settings_of self.now).named }
+    {
+        self.settings.named
+    }
+
+    /// Which lists of `u8` are written as bytes.
+    #[inline(always)]
+    pub fn bytes(&self) -> BytesMode
+        ensures { result ≡ (settings_of self.now).bytes }
+    {
+        self.settings.bytes
+    }
+
+    /// The same with this mode.
+    pub fn with_bytes(self, mode: BytesMode) -> Serializer<W, C>
+        ensures sink { sink_of result ≡ sink_of self }
+        ensures settings { settings_of result ≡ record (settings_of self) { bytes = mode } }
+    {
+        let settings = Settings {
+            bytes: mode,
+            ..self.settings
+        };
+        self.with_settings(settings)
+    }
+
+    /// The same, where structs are maps from names.
+    pub fn with_struct_map(self) -> Serializer<W, StructMapConfig<C>>
+        ensures sink { sink_of result ≡ sink_of self }
+        ensures settings { settings_of result ≡ record (settings_of self) { named = true } }
+    {
+        self.with_names(true)
+    }
+
+    /// The same, where structs are lists.
+    pub fn with_struct_tuple(self) -> Serializer<W, StructTupleConfig<C>>
+        ensures sink { sink_of result ≡ sink_of self }
+        ensures settings { settings_of result ≡ record (settings_of self) { named = false } }
+    {
+        self.with_names(false)
+    }
+
+    /// The same, where values are written for humans.
+    pub fn with_human_readable(self) -> Serializer<W, HumanReadableConfig<C>>
+        ensures sink { sink_of result ≡ sink_of self }
+        ensures settings { settings_of result ≡ record (settings_of self) { human = true } }
+    {
+        self.with_readable(true)
+    }
+
+    /// The same, where values are written compactly.
+    pub fn with_binary(self) -> Serializer<W, BinaryConfig<C>>
+        ensures sink { sink_of result ≡ sink_of self }
+        ensures settings { settings_of result ≡ record (settings_of self) { human = false } }
+    {
+        self.with_readable(false)
+    }
+
+    // The same settings over another sink.
+    pub(crate) fn over<V>(&self, wr: V) -> Serializer<V, C>
+        ensures sink { sink_of result ≡ wr }
+        ensures settings { settings_of result ≡ settings_of self.now }
+    {
+        Serializer {
+            wr,
+            alloc: self.alloc,
+            settings: self.settings,
+            config: PhantomData,
+        }
+    }
+
+    // A vector that holds nothing.
+    pub(crate) fn empty(&self) -> Vec<u8>
+        ensures { result.items ≡ [] }
+    {
+        Vec::new(self.alloc)
+    }
+
+    fn with_names<D>(self, named: bool) -> Serializer<W, D>
+        ensures sink { sink_of result ≡ sink_of self }
+        ensures settings { settings_of result ≡ record (settings_of self) { named = named } }
+    {
+        let settings = Settings {
+            named,
+            ..self.settings
+        };
+        self.with_settings(settings)
+    }
+
+    fn with_readable<D>(self, human: bool) -> Serializer<W, D>
+        ensures sink { sink_of result ≡ sink_of self }
+        ensures settings { settings_of result ≡ record (settings_of self) { human = human } }
+    {
+        let settings = Settings {
+            human,
+            ..self.settings
+        };
+        self.with_settings(settings)
+    }
+
+    fn with_settings<D>(self, settings: Settings) -> Serializer<W, D>
+        ensures sink { sink_of result ≡ sink_of self }
+        ensures settings { settings_of result ≡ settings }
+    {
+        Serializer {
+            wr: self.wr,
+            alloc: self.alloc,
+            settings,
+            config: PhantomData,
+        }
+    }
+}
+
+impl<W: Sink, C: SerializerConfig> Serializer<W, C> {
+    // Puts bytes that stand behind a head.
+    #[inline(always)]
+    pub(crate) fn put(&mut self, piece: &[u8]) -> Result<(), Error>
+        ensures writes { WritesPart W.Sink W.takes_memory (Unit {0}) piece.now (sink_of self.old) (sink_of self.new) result }
+        ensures keeps { Keeps W.Sink self.old self.new }
+    {
+        match self.wr.put_all(piece) {
+            Ok(()) => Ok(()),
+            Err(e) => Err(Error::from(e.past_first())),
+        }
+    }
+
+    #[inline(always)]
+    pub(crate) fn put_head(&mut self, pairs: bool, n: u32) -> Result<(), Error>
+        ensures writes { WritesPart W.Sink W.takes_memory (Unit {0}) (head_at pairs n) (sink_of self.old) (sink_of self.new) result }
+        ensures keeps { Keeps W.Sink self.old self.new }
+    {
+        if pairs {
+            return answer(write_map_len(&mut self.wr, n));
+        }
+        answer(write_array_len(&mut self.wr, n))
+    }
+
+    // A byte as a number.
+    #[inline(always)]
+    pub(crate) fn put_byte(&mut self, n: u8) -> Result<(), Error>
+        ensures writes { WritesPart W.Sink W.takes_memory (Unit {0}) (number_head n) (sink_of self.old) (sink_of self.new) result }
+        ensures keeps { Keeps W.Sink self.old self.new }
+    {
+        answer(write_uint(&mut self.wr, u64::from(n)))
+    }
+
+    /// Writes nil.
+    #[inline(always)]
+    pub fn serialize_unit(&mut self) -> Result<(), Error>
+        ensures writes { WritesTree W.Sink W.takes_memory (Some nil) (sink_of self.old) (sink_of self.new) result }
+        ensures keeps { Keeps W.Sink self.old self.new }
+    {
+        answer(write_nil(&mut self.wr))
+    }
+
+    /// Writes a truth value.
+    #[inline(always)]
+    pub fn serialize_bool(&mut self, b: bool) -> Result<(), Error>
+        ensures writes { WritesTree W.Sink W.takes_memory (Some (truth b)) (sink_of self.old) (sink_of self.new) result }
+        ensures keeps { Keeps W.Sink self.old self.new }
+    {
+        answer(write_bool(&mut self.wr, b))
+    }
+
+    /// Writes a whole number.
+    #[inline(always)]
+    pub fn serialize_u8(&mut self, n: u8) -> Result<(), Error>
+        ensures writes { WritesTree W.Sink W.takes_memory (Some (whole (pos n))) (sink_of self.old) (sink_of self.new) result }
+        ensures keeps { Keeps W.Sink self.old self.new }
+    {
+        answer(write_uint(&mut self.wr, u64::from(n)))
+    }
+
+    /// Writes a whole number.
+    #[inline(always)]
+    pub fn serialize_u16(&mut self, n: u16) -> Result<(), Error>
+        ensures writes { WritesTree W.Sink W.takes_memory (Some (whole (pos n))) (sink_of self.old) (sink_of self.new) result }
+        ensures keeps { Keeps W.Sink self.old self.new }
+    {
+        answer(write_uint(&mut self.wr, u64::from(n)))
+    }
+
+    /// Writes a whole number.
+    #[inline(always)]
+    pub fn serialize_u32(&mut self, n: u32) -> Result<(), Error>
+        ensures writes { WritesTree W.Sink W.takes_memory (Some (whole (pos n))) (sink_of self.old) (sink_of self.new) result }
+        ensures keeps { Keeps W.Sink self.old self.new }
+    {
+        answer(write_uint(&mut self.wr, u64::from(n)))
+    }
+
+    /// Writes a whole number.
+    #[inline(always)]
+    pub fn serialize_u64(&mut self, n: u64) -> Result<(), Error>
+        ensures writes { WritesTree W.Sink W.takes_memory (Some (whole (pos n))) (sink_of self.old) (sink_of self.new) result }
+        ensures keeps { Keeps W.Sink self.old self.new }
+    {
+        answer(write_uint(&mut self.wr, n))
+    }
+
+    /// Writes a whole number.
+    #[inline(always)]
+    pub fn serialize_i8(&mut self, n: i8) -> Result<(), Error>
+        ensures writes { WritesTree W.Sink W.takes_memory (Some (whole n)) (sink_of self.old) (sink_of self.new) result }
+        ensures keeps { Keeps W.Sink self.old self.new }
+    {
+        self.serialize_i64(i64::from(n))
+    }
+
+    /// Writes a whole number.
+    #[inline(always)]
+    pub fn serialize_i16(&mut self, n: i16) -> Result<(), Error>
+        ensures writes { WritesTree W.Sink W.takes_memory (Some (whole n)) (sink_of self.old) (sink_of self.new) result }
+        ensures keeps { Keeps W.Sink self.old self.new }
+    {
+        self.serialize_i64(i64::from(n))
+    }
+
+    /// Writes a whole number.
+    #[inline(always)]
+    pub fn serialize_i32(&mut self, n: i32) -> Result<(), Error>
+        ensures writes { WritesTree W.Sink W.takes_memory (Some (whole n)) (sink_of self.old) (sink_of self.new) result }
+        ensures keeps { Keeps W.Sink self.old self.new }
+    {
+        self.serialize_i64(i64::from(n))
+    }
+
+    /// Writes a whole number.
+    #[inline(always)]
+    pub fn serialize_i64(&mut self, n: i64) -> Result<(), Error>
+        ensures writes { WritesTree W.Sink W.takes_memory (Some (whole n)) (sink_of self.old) (sink_of self.new) result }
+        ensures keeps { Keeps W.Sink self.old self.new }
+    {
+        answer(write_sint(&mut self.wr, n))
+    }
+
+    /// Writes a float of 32 bits, from its bits.
+    #[inline(always)]
+    pub fn serialize_f32_bits(&mut self, bits: u32) -> Result<(), Error>
+        ensures writes { WritesTree W.Sink W.takes_memory (Some (float32 bits)) (sink_of self.old) (sink_of self.new) result }
+        ensures keeps { Keeps W.Sink self.old self.new }
+    {
+        answer(write_f32_bits(&mut self.wr, bits))
+    }
+
+    /// Writes a float of 64 bits, from its bits.
+    #[inline(always)]
+    pub fn serialize_f64_bits(&mut self, bits: u64) -> Result<(), Error>
+        ensures writes { WritesTree W.Sink W.takes_memory (Some (float64 bits)) (sink_of self.old) (sink_of self.new) result }
+        ensures keeps { Keeps W.Sink self.old self.new }
+    {
+        answer(write_f64_bits(&mut self.wr, bits))
+    }
+
+    /// Writes a character as the text of its bytes in UTF-8.
+    pub fn serialize_char(&mut self, c: char) -> Result<(), Error>
+        ensures writes { WritesTree W.Sink W.takes_memory (Some (text (encode_utf8 c))) (sink_of self.old) (sink_of self.new) result }
+        ensures keeps { Keeps W.Sink self.old self.new }
+    {
+        let mut room = [0; 4];
+        self.serialize_str(c.encode_utf8(&mut room))
+    }
+
+    /// Writes a text. One of 2 ^ 32 bytes or more is refused, and nothing is written.
+    #[inline(always)]
+    pub fn serialize_str(&mut self, s: &str) -> Result<(), Error>
+        ensures writes { WritesTree W.Sink W.takes_memory (Some (text s.now)) (sink_of self.old) (sink_of self.new) result }
+        ensures keeps { Keeps W.Sink self.old self.new }
+        ensures refused { StaysAtRefusal self.old self.new result }
+    {
+        if s.len() > u32::MAX as usize {
+            return Err(Error::InvalidDataModel("length past 32 bits"));
+        }
+        answer(write_str(&mut self.wr, s))
+    }
+
+    /// Writes bytes. 2 ^ 32 of them or more are refused, and nothing is written.
+    #[inline(always)]
+    pub fn serialize_bytes(&mut self, bytes: &[u8]) -> Result<(), Error>
+        ensures writes { WritesTree W.Sink W.takes_memory (Some (bin bytes.now)) (sink_of self.old) (sink_of self.new) result }
+        ensures keeps { Keeps W.Sink self.old self.new }
+        ensures refused { StaysAtRefusal self.old self.new result }
+    {
+        if bytes.len() > u32::MAX as usize {
+            return Err(Error::InvalidDataModel("length past 32 bits"));
+        }
+        answer(write_bin(&mut self.wr, bytes))
+    }
+
+    // Writes an extension.
+    pub(crate) fn put_extension(&mut self, tag: i8, bytes: &[u8]) -> Result<(), Error>
+        ensures writes { WritesTree W.Sink W.takes_memory (Some (extension tag bytes.now)) (sink_of self.old) (sink_of self.new) result }
+        ensures keeps { Keeps W.Sink self.old self.new }
+        ensures refused { StaysAtRefusal self.old self.new result }
+    {
+        if bytes.len() > u32::MAX as usize {
+            return Err(Error::InvalidDataModel("length past 32 bits"));
+        }
+        self.put_ext_head(bytes.len() as u32, tag)?;
+        self.put(bytes)
+    }
+
+    #[inline(always)]
+    fn put_ext_head(&mut self, len: u32, tag: i8) -> Result<(), Error>
+        ensures writes { WritesPart W.Sink W.takes_memory (Unit {0}) (ext_head len tag) (sink_of self.old) (sink_of self.new) result }
+        ensures keeps { Keeps W.Sink self.old self.new }
+    {
+        answer(write_ext_meta(&mut self.wr, len, tag))
+    }
+}

@@ -1,0 +1,183 @@
+//! Tuples, whose elements are written as bytes where the mode and the table say so.
+ghost use Rattle.std.specs.Prelude.{◌≡◌, ◌+◌, ◌<◌, [], nat_le, map, All, true, false, OnOk, IfOk, length};
+ghost use Rattle.std.specs.Borrow.{sem};
+ghost use Rattle.std.specs.List.{list_any, flat_map};
+ghost use Rattle.rmp_wire.specs.declared.config.BytesMode.TheVariants.{ForceAll};
+ghost use Rattle.rmp_encode.specs.Data.{packs_tuple};
+ghost use Rattle.rmp_encode.specs.Ser.{sink_of, settings_of};
+ghost use Rattle.rmp_encode.specs.Trees.{tree_of, tuple_of, forces_all, number_head};
+ghost use Rattle.rmp_encode.specs.Tuples.{IsTupling, GoesTuple, TupleRests};
+ghost use Rattle.rmp_encode.specs.Writes.{Keeps, WritesPart, WritesTree};
+
+use crate::error::Error;
+use crate::ser::Serialize;
+use crate::serializer::Serializer;
+use rmp_wire::Sink;
+use rmp_wire::config::{BytesMode, SerializerConfig};
+
+/// The elements of a tuple that are still to be written.
+///
+/// Under the mode that forces all, elements that are `u8` are kept until one is none, or until the end.
+pub struct Tuple<'a, W, C, P = Option<Vec<u8>>> {
+    se: &'a mut Serializer<W, C>,
+    kept: P,
+    len: u32,
+    left: usize,
+}
+
+impl<W, C, P: Drop> Drop for Tuple<'_, W, C, P> {
+    fn drop(self)
+        ensures { self.exit.0.now ≡ self.entry.se.now }
+    {
+        let Tuple {
+            se: _,
+            kept: _,
+            len: _,
+            left: _,
+        } = self;
+    }
+}
+
+fn any_high(bytes: &[u8]) -> bool
+    ensures { result ≡ list_any (nat_le 128) bytes.now }
+{
+    for b in bytes {
+        if *b >= 128 {
+            return true;
+        }
+    }
+    false
+}
+
+// Whether a tuple of these bytes is written as bytes, under the mode that forces all.
+#[tactic(auto, unfolding(crate::specs::Data::packs_tuple))]
+pub(crate) fn packs(bytes: &[u8]) -> bool
+    ensures { result ≡ packs_tuple ForceAll bytes.now }
+{
+    if bytes.is_empty() {
+        return false;
+    }
+    if bytes.len() >= 16 {
+        return true;
+    }
+    any_high(bytes)
+}
+
+impl<W: Sink, C: SerializerConfig> Serializer<W, C> {
+    // Each byte as a number.
+    pub(crate) fn put_numbers(&mut self, bytes: &[u8]) -> Result<(), Error>
+        ensures writes { WritesPart W.Sink W.takes_memory (Unit {0}) (flat_map number_head bytes.now) (sink_of self.old) (sink_of self.new) result }
+        ensures keeps { Keeps W.Sink self.old self.new }
+    {
+        for b in bytes {
+            self.put_byte(*b)?;
+        }
+        Ok(())
+    }
+
+    fn forces_all(&self) -> bool
+        ensures { result ≡ forces_all (settings_of self.now).bytes }
+    {
+        match self.bytes() {
+            BytesMode::ForceAll => true,
+            BytesMode::Normal | BytesMode::ForceIterables => false,
+        }
+    }
+
+    /// Opens a tuple of so many elements. A number of 2 ^ 32 or more is refused, and nothing is written.
+    pub fn serialize_tuple(&mut self, len: usize) -> Result<Tuple<'_, W, C>, Error>
+        ensures* refused { sem 𝓛 (TupleRests W.row C.row W.Sink self.entry len result) }
+        ensures same_reference { IfOk result (λ q. q.se.ghost_name ≡ self.entry.ghost_name) }
+        ensures left { IfOk result (λ q. q.left ≡ len) }
+        ensures opened { IfOk result (λ q. (all : _) → length all ≡ len → IsTupling W.Sink self.old all all q) }
+        ensures keeps { IfOk result (λ q. Keeps W.Sink self.old q.se.now) }
+    {
+        if len > u32::MAX as usize {
+            return Err(Error::InvalidDataModel("length past 32 bits"));
+        }
+        if self.forces_all() {
+            let kept = self.empty();
+            return Ok(Tuple {
+                se: self,
+                kept: Some(kept),
+                len: len as u32,
+                left: len,
+            });
+        }
+        self.put_head(false, len as u32)?;
+        Ok(Tuple {
+            se: self,
+            kept: None,
+            len: len as u32,
+            left: len,
+        })
+    }
+}
+
+impl<'a, W: Sink, C: SerializerConfig> Tuple<'a, W, C> {
+    /// Writes the next element, or keeps it.
+    #[inline(always)]
+    pub fn serialize_element<T: Serialize>(&mut self, value: &T) -> Result<(), Error>
+        requires { 0 < self.old.left }
+        ensures same_reference { self.new.se.ghost_name ≡ self.old.se.ghost_name }
+        ensures left { self.new.left + 1 ≡ self.old.left }
+        ensures writes { GoesTuple W.Sink (λ s. T.data_of value.now s.human) self.old self.new result }
+        ensures keeps { Keeps W.Sink self.old.se.now self.new.se.now }
+        ensures value { OnOk result (T.is_value value.now) }
+    {
+        self.left -= 1;
+        let Some(kept) = &mut self.kept else {
+            return value.serialize(&mut *self.se);
+        };
+        if let Some(b) = value.as_u8(self.se.is_human_readable()) {
+            return match kept.push(b) {
+                Ok(()) => Ok(()),
+                Err(_) => Err(Error::OutOfMemory),
+            };
+        }
+        self.se.put_head(false, self.len)?;
+        self.se.put_numbers(kept.as_slice())?;
+        self.kept = None;
+        value.serialize(&mut *self.se)
+    }
+
+    /// How many elements haven't begun.
+    pub fn left(&self) -> usize
+        ensures { result ≡ self.now.left }
+    {
+        self.left
+    }
+
+    /// Ends the tuple. What was kept is written.
+    pub fn end(self) -> Result<(), Error>
+        requires { self.left ≡ 0 }
+        ensures writes { (old : _) (all : _) → IsTupling W.Sink old all [] self.entry → WritesTree W.Sink W.takes_memory (tree_of (settings_of old) (tuple_of all)) (sink_of old) (sink_of self.exit.0.now) result }
+        ensures keeps { Keeps W.Sink self.entry.se.now self.exit.0.now }
+    {
+        let Tuple { se, kept, len, left: _ } = self;
+        let Some(bytes) = kept else {
+            return Ok(());
+        };
+        if packs(bytes.as_slice()) {
+            return se.serialize_bytes(bytes.as_slice());
+        }
+        se.put_head(false, len)?;
+        se.put_numbers(bytes.as_slice())
+    }
+}
+
+// A tuple of values of one type.
+pub(crate) fn put_tuple<W: Sink, C: SerializerConfig, T: Serialize>(
+    se: &mut Serializer<W, C>,
+    values: &[T],
+) -> Result<(), Error>
+    ensures writes { WritesTree W.Sink true (tree_of (settings_of se.old) (tuple_of (map (λ x. T.data_of x (settings_of se.old).human) values.now))) (sink_of se.old) (sink_of se.new) result }
+    ensures keeps { Keeps W.Sink se.old se.new }
+    ensures value { OnOk result (All T.is_value values.now) }
+{
+    let mut tup = se.serialize_tuple(values.len())?;
+    for value in values {
+        tup.serialize_element(value)?;
+    }
+    tup.end()
+}

@@ -1,0 +1,61 @@
+//! Whole values, into a sink or into a vector.
+ghost use Rattle.std.specs.Prelude.{◌≡◌, true, false, OnOk, IfOk, IfErr};
+ghost use Rattle.rmp_encode.specs.Calls.{default_settings, named_settings, IsSpelled, ToVecFails};
+ghost use Rattle.rmp_encode.specs.Trees.{tree_of, spell};
+ghost use Rattle.rmp_encode.specs.Writes.{WritesTree};
+
+use crate::error::Error;
+use crate::ser::Serialize;
+use crate::serializer::Serializer;
+use rmp_wire::Sink;
+use std::alloc::Global;
+
+/// Writes a value into a sink. Structs are lists.
+///
+/// At an error the sink holds what it held before, and behind it a beginning of the spelling, if there is one.
+pub fn write<W: Sink, T: Serialize>(alloc: Global, wr: &mut W, value: &T) -> Result<(), Error>
+    ensures writes { WritesTree W.Sink true (tree_of default_settings (T.data_of value.now false)) wr.old wr.new result }
+    ensures spelled { OnOk result (IsSpelled (tree_of default_settings (T.data_of value.now false)) (spell (tree_of default_settings (T.data_of value.now false)))) }
+    ensures place { W.place wr.new ≡ W.place wr.old }
+    ensures value { OnOk result (T.is_value value.now) }
+{
+    let mut se = Serializer::new(alloc, wr);
+    value.serialize(&mut se)
+}
+
+/// Writes a value into a sink. Structs are maps from the names of their fields.
+pub fn write_named<W: Sink, T: Serialize>(
+    alloc: Global,
+    wr: &mut W,
+    value: &T,
+) -> Result<(), Error>
+    ensures writes { WritesTree W.Sink true (tree_of named_settings (T.data_of value.now false)) wr.old wr.new result }
+    ensures spelled { OnOk result (IsSpelled (tree_of named_settings (T.data_of value.now false)) (spell (tree_of named_settings (T.data_of value.now false)))) }
+    ensures place { W.place wr.new ≡ W.place wr.old }
+    ensures value { OnOk result (T.is_value value.now) }
+{
+    let mut se = Serializer::named(alloc, wr);
+    value.serialize(&mut se)
+}
+
+/// The canonical spelling of a value. Structs are lists.
+pub fn to_vec<T: Serialize>(alloc: Global, value: &T) -> Result<Vec<u8>, Error>
+    ensures bytes { IfOk result (λ v. IsSpelled (tree_of default_settings (T.data_of value.now false)) v.items) }
+    ensures value { OnOk result (T.is_value value.now) }
+    ensures err { IfErr result (ToVecFails (tree_of default_settings (T.data_of value.now false))) }
+{
+    let mut se = Serializer::new(alloc, Vec::new(alloc));
+    value.serialize(&mut se)?;
+    Ok(se.into_inner())
+}
+
+/// The canonical spelling of a value. Structs are maps from the names of their fields.
+pub fn to_vec_named<T: Serialize>(alloc: Global, value: &T) -> Result<Vec<u8>, Error>
+    ensures bytes { IfOk result (λ v. IsSpelled (tree_of named_settings (T.data_of value.now false)) v.items) }
+    ensures value { OnOk result (T.is_value value.now) }
+    ensures err { IfErr result (ToVecFails (tree_of named_settings (T.data_of value.now false))) }
+{
+    let mut se = Serializer::named(alloc, Vec::new(alloc));
+    value.serialize(&mut se)?;
+    Ok(se.into_inner())
+}
