@@ -12,7 +12,3 @@ pub mod Stored
 pub mod Taking
 pub mod Types
 pub mod Writing
-pub mod Sinks
-pub mod Writing
-pub mod SliceSink
-pub mod Types

@@ -10,7 +10,6 @@ pub mod sink;
 pub mod source;
 pub mod types;
 pub mod write;
-pub mod types;
 
 pub use error::{IoFault, MarkerReadError, ValueReadError, ValueWriteError};
 pub use head::Head;
@@ -27,5 +26,3 @@ pub use write::{
 
 #[cfg(test)]
 mod tests;
-pub use sink::{Sink, SinkFault, SliceSink};
-pub use types::{ByteBuf, Bytes, Ext, F32Bits, F64Bits, MSGPACK_EXT_STRUCT_NAME};
