@@ -15,6 +15,7 @@ use Rattle.rmp_wire.specs.Heads.{canon_head, fits_head}
 use Rattle.rmp_wire.specs.Sinks.{StopsAfter}
 use Rattle.rmp_wire.specs.Spelling.{canon, Fits, IsBytes}
 use Rattle.rmp_wire.specs.Writing.{Writes}
+use Rattle.rmp_wire.proofs.Told.{next_differs}
 use Rattle.rmp_encode.specs.declared.error.Error.{Error}
 use Rattle.rmp_encode.specs.declared.error.Error.TheVariants.{InvalidDataModel}
 use Rattle.rmp_encode.specs.Errors.{IsReason, error_of, answer_of}
@@ -24,8 +25,8 @@ use Rattle.rmp_encode.proofs.Parts.{part_as, part_done, part_failed, part_refuse
 
 -- why a write stopped, as an error of this crate
 fails_by : (m : Bool) (P : Type 0) (old new : ℕ) (part : List ℕ) (e : ValueWriteError) → StopsAfter m old new part e → FailsBy m P old new (error_of e)
-fails_by m P old new part (wire.InvalidMarkerWrite fault) c = c.1
-fails_by m P old new part (wire.InvalidDataWrite fault) c = c.1
+fails_by m P old new part (wire.InvalidMarkerWrite fault) c = next_differs old new c.1
+fails_by m P old new part (wire.InvalidDataWrite fault) c = next_differs old new c.1
 fails_by m P old new part wire.OutOfMemory c = (c.1, c.0)
 
 module _ {W : Type 0} (g : Ghosts W) where
