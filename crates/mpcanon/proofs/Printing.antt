@@ -1,5 +1,5 @@
 -- Lines, one after another, and how printing stops.
-use Rattle.std.proofs.Common.{◌≡◌, ℕ, List, [], ◌∷◌, ◌++◌, ◌⊎◌, inl, inr, refl, sym, ap, ◌∙◌, subst, append_assoc, append-nil}
+use Rattle.std.proofs.Common.{◌≡◌, ℕ, List, [], ◌∷◌, ◌++◌, inl, inr, refl, sym, ap, ◌∙◌, subst, append_assoc, append-nil}
 use Rattle.std.specs.Prelude.{Option, None, Some, IfSome, Result, Ok, Err}
 use Rattle.std.specs.Io.KnownBytes.{Appends, Consumes}
 use Rattle.std.proofs.KnownBytes.{Appends-nil, Appends-trans}
@@ -12,7 +12,7 @@ use Rattle.rmp_wire.specs.Sinks.{next_fault, PutsPart}
 use Rattle.mpcanon.specs.declared.run.RunFault.{RunFault}
 use Rattle.mpcanon.specs.declared.run.RunFault.TheVariants.{Input, Output, Memory}
 use Rattle.mpcanon.specs.Input.{StopsReading, CountsInput, ReadsInput}
-use Rattle.mpcanon.specs.Output.{EndsLine, IsLines, PutsLines, PutsBeginning, FailsOutput, LacksMemory, StopsPrinting, StopsRun, PrintsLines, PrintsRun}
+use Rattle.mpcanon.specs.Output.{IsLines, PutsLines, PutsBeginning, FailsOutput, LacksMemory, StopsPrinting, StopsRun, PrintsLines, PrintsRun}
 
 lines_append : (a b : List ℕ) → IsLines a → IsLines b → IsLines (a ++ b)
 lines_append a b (inl e) (inl f) = inl (rw (e, f) refl)

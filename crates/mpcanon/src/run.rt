@@ -206,7 +206,11 @@ fn run_lines<W: Sink>(alloc: Global, input: &[u8], sink: &mut W) -> Result<bool,
 /// # Errors
 /// `Input` at the source's first fault, and nothing is printed then. `Output` at the sink's first fault. `Memory` where
 /// memory was refused, to the sink or here.
-pub fn run<R: Source, W: Sink>(alloc: Global, source: &mut R, sink: &mut W) -> Result<bool, RunFault>
+pub fn run<R: Source, W: Sink>(
+    alloc: Global,
+    source: &mut R,
+    sink: &mut W,
+) -> Result<bool, RunFault>
     // Where nothing is refused, each line is hex.
     ensures hex { IfOk result (λ accepted. IfSome (R.ahead source.old)
         (λ input. IsTrue accepted → All IsHex (lines_in input))) }

@@ -7,6 +7,7 @@ use std::process::Abort;
 
 // Three lines, and what they print.
 const LINES: &str = "92cd0005d90161\n2A c3\n93c0c2d3ffffffffffffffdf\n";
+
 const PRINTED: &str = "[5,t:61] 9205a161\n42 2a\n[nil,false,-33] 93c0c2d0df\n";
 
 // Gives one byte a pull, and fails once it was pulled so many times.
@@ -129,7 +130,11 @@ const ROWS: [(&str, &str); 21] = [
     ("", ""),
 ];
 
-fn check_from<R: Source>(rt: &(impl AllocGlobal + Abort), source: &mut R, want: &str) -> Result<(), RunFault> {
+fn check_from<R: Source>(
+    rt: &(impl AllocGlobal + Abort),
+    source: &mut R,
+    want: &str,
+) -> Result<(), RunFault> {
     let mut out = Vec::new(rt.alloc());
     let accepted = run(rt.alloc(), source, &mut out)?;
     assert!(rt; out.as_slice() == want.as_bytes(), "for {want:?}");
@@ -198,7 +203,8 @@ fn a_source_that_fails(rt: HostRuntime) -> Result<(), RunFault> {
         let mut source = Drip::new(LINES, pulls);
         let mut out = Vec::new(rt.alloc());
         let answer = run(rt.alloc(), &mut source, &mut out);
-        let is_input = matches!(&answer, Err(RunFault::Input(e)) if e.kind() == ErrorKind::TimedOut);
+        let is_input =
+            matches!(&answer, Err(RunFault::Input(e)) if e.kind() == ErrorKind::TimedOut);
         assert!(rt; is_input, "after {pulls}");
         assert!(rt; out.is_empty(), "after {pulls}");
         assert_eq!(rt; source.faults, 1, "after {pulls}");
@@ -218,7 +224,10 @@ fn a_sink_that_fails(rt: HostRuntime) -> Result<(), RunFault> {
         let is_output =
             matches!(&answer, Err(RunFault::Output(e)) if e.kind() == ErrorKind::BrokenPipe);
         assert!(rt; is_output, "after {puts}");
-        assert!(rt; PRINTED.as_bytes().get(..puts) == Some(sink.bytes.as_slice()), "after {puts}");
+        assert!(rt;
+            PRINTED.as_bytes().get(..puts) == Some(sink.bytes.as_slice()),
+            "after {puts}"
+        );
         assert_eq!(rt; sink.faults, 1, "after {puts}");
     }
     let mut sink = Trickle::new(rt.alloc(), PRINTED.len());

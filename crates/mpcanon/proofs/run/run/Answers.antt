@@ -1,4 +1,4 @@
-use Rattle.std.proofs.Common.{IsTrue, All, IfSome, ◌≡◌}
+use Rattle.std.proofs.Common.{IsTrue, All, ◌≡◌}
 use Rattle.std.proofs.lemmas.Result.{err_from_is_err_and, IfOk-weaker, on_ok_weaker}
 use Rattle.mpcanon.specs.Lines.{lines_in, IsBlank, IsHex}
 use Rattle.mpcanon.proofs.Printing.{run_prints, unread_prints, printing_reads, unread_reads, on_input}

@@ -1,6 +1,6 @@
 use Rattle.std.proofs.Common.{rules, subst, ◌∙◌, ◌≡◌, ◌<◌, ◌+◌, IsTrue, All, List, ℕ, map, take, length, Bor, arith}
 use Rattle.std.proofs.lemmas.Result.{err_from_is_err_and}
-use Rattle.mpcanon.specs.Lines.{lines_in, IsBlank, IsHex}
+use Rattle.mpcanon.specs.Lines.{IsBlank, IsHex}
 use Rattle.mpcanon.proofs.Printing.{puts_both, prints_after}
 use Rattle.mpcanon.proofs.Reading.{All-more, All-less, All-front, all_taken}
 use Rattle.mpcanon.proofs.run.run_lines.Goals as goal
@@ -22,14 +22,14 @@ loop-line-preserved g c =
     let lines = puts_both g.W.Sink c.loop-line.invariant.lines c.in_ok-run_line.ensures.prints.whole in
     let place = c.run_line.ensures.prints.place ∙ c.loop-line.invariant.place in
     elim c.if-not-branch.branch [
-      then-not-branch w ↦ rw w.accepted-is (record {
+      | then-not-branch w ↦ rw w.accepted-is (record {
         hex = λ e. search rules;
         blank = λ h. rw w.if-not-branch.true at (c.in_ok-run_line.ensures.blank (All-less IsBlank v xs i _ within h).1);
         silent = silent;
         lines = lines;
         place = place;
       })
-    | else-not-branch w ↦ rw w.accepted-is (record {
+      | else-not-branch w ↦ rw w.accepted-is (record {
         hex = λ e. All-more IsHex v xs i _ within (c.loop-line.invariant.hex e) (c.in_ok-run_line.ensures.hex (search rules));
         blank = λ h. c.loop-line.invariant.blank (All-front IsBlank v xs i within h);
         silent = silent;
