@@ -4,6 +4,7 @@ pub mod Examples
 pub mod Heads
 pub mod Lists
 pub mod Markers
+pub mod Sources
 pub mod Spellings
 pub mod Taken
 pub mod Unique

@@ -3,6 +3,7 @@ pub mod Faults
 pub mod Heads
 pub mod Msg
 pub mod Settings
+pub mod Sources
 pub mod Spelling
 pub mod Stored
 pub mod Taking

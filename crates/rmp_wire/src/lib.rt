@@ -6,8 +6,10 @@ pub mod error;
 pub mod head;
 pub mod marker;
 pub mod types;
+pub mod source;
 
 pub use error::{IoFault, MarkerReadError, ValueReadError, ValueWriteError};
 pub use head::Head;
 pub use marker::Marker;
 pub use types::{ByteBuf, Bytes, Ext, F32Bits, F64Bits, MSGPACK_EXT_STRUCT_NAME};
+pub use source::Source;
