@@ -2,7 +2,9 @@ pub mod Canonical
 pub mod Faults
 pub mod Heads
 pub mod Msg
+pub mod RefReader
 pub mod Settings
+pub mod Slices
 pub mod Sources
 pub mod Spelling
 pub mod Stored
