@@ -38,23 +38,23 @@ take_number_64 n x h = take_number_gives w64 (to_be_bytes w64 n) x n refl (from_
 
 -- ---- the markers that hold a number
 
-marker_pos : (n : ℕ) → n < 128 → marker_of n ≡ marker.FixPos n
+pub marker_pos : (n : ℕ) → n < 128 → marker_of n ≡ marker.FixPos n
 unfolding marker_of
 marker_pos n h = grind (arith, nat_tests)
 
-marker_map : (n : ℕ) → n < 16 → marker_of (0x80 + n) ≡ marker.FixMap n
+pub marker_map : (n : ℕ) → n < 16 → marker_of (0x80 + n) ≡ marker.FixMap n
 unfolding marker_of
 marker_map n h = grind (arith, nat_tests)
 
-marker_array : (n : ℕ) → n < 16 → marker_of (0x90 + n) ≡ marker.FixArray n
+pub marker_array : (n : ℕ) → n < 16 → marker_of (0x90 + n) ≡ marker.FixArray n
 unfolding marker_of
 marker_array n h = grind (arith, nat_tests)
 
-marker_str : (n : ℕ) → n < 32 → marker_of (0xa0 + n) ≡ marker.FixStr n
+pub marker_str : (n : ℕ) → n < 32 → marker_of (0xa0 + n) ≡ marker.FixStr n
 unfolding marker_of
 marker_str n h = grind (arith, nat_tests)
 
-marker_neg : (n : ℕ) → n < 32 → marker_of (0xff - n) ≡ marker.FixNeg (negsuc n)
+pub marker_neg : (n : ℕ) → n < 32 → marker_of (0xff - n) ≡ marker.FixNeg (negsuc n)
 unfolding marker_of
 marker_neg n h = grind (arith, nat_tests)
 

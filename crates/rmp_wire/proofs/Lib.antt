@@ -1,9 +1,12 @@
 pub mod Canon
 pub mod Canonical
 pub mod Examples
+pub mod HeadReads
 pub mod Heads
 pub mod Lists
 pub mod Markers
+pub mod NextReads
+pub mod Reading
 pub mod Sources
 pub mod Spellings
 pub mod Taken

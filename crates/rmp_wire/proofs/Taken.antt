@@ -48,21 +48,21 @@ record Number (w : Width) (s : List ℕ) (n : ℕ) (x : List ℕ) : Type 0 where
   below : n < 2 ^ bits w
   split : s ≡ to_be_bytes w n ++ x
 
-abbrev Spelled : Width → Type 0
+abbrev pub Spelled : Width → Type 0
 Spelled w = (bs : List ℕ) (n : ℕ) → length bs ≡ byte_len w → IsBytes bs → n ≡ from_be_bytes w bs → (n < 2 ^ bits w) × (to_be_bytes w n ≡ bs)
 
-spelled_8 : Spelled w8
+pub spelled_8 : Spelled w8
 spelled_8 [] n l h e = absurd (omega arith)
 spelled_8 (b ∷ []) n l h e = (omega arith, ap (λ k. k ∷ []) (omega arith))
 spelled_8 (b ∷ c ∷ s) n l h e = absurd (omega arith)
 
-spelled_16 : Spelled w16
+pub spelled_16 : Spelled w16
 spelled_16 bs n l h e = (omega (arith, small bs h 0, small bs h 1), be_bytes_2 bs n l (small bs h) e)
 
-spelled_32 : Spelled w32
+pub spelled_32 : Spelled w32
 spelled_32 bs n l h e = (omega (arith, small bs h 0, small bs h 1, small bs h 2, small bs h 3), be_bytes_4 bs n l (small bs h) e)
 
-spelled_64 : Spelled w64
+pub spelled_64 : Spelled w64
 spelled_64 bs n l h e =
     (omega (arith, small bs h 0, small bs h 1, small bs h 2, small bs h 3, small bs h 4, small bs h 5, small bs h 6, small bs h 7), be_bytes_8 bs n l (small bs h) e)
 
@@ -85,22 +85,22 @@ pub record Took (h : Head) (b : ℕ) (s x : List ℕ) : Type 0 where
   pub is_head : IsHead h (b ∷ rest)
   pub split : s ≡ rest ++ x
 
-signed_head : (z : ℤ) (a : List ℕ) → SignedAny z a → IsHead (Whole z) a
+pub signed_head : (z : ℤ) (a : List ℕ) → SignedAny z a → IsHead (Whole z) a
 unfolding IsHead
 signed_head (pos n) a f = inr (inr (inr (inr (inr f))))
 signed_head (negsuc n) a f = inr f
 
-fits_signed : (w : Width) (n : ℕ) → n < 2 ^ bits w → FitsSigned w (cast_signed w n)
+pub fits_signed : (w : Width) (n : ℕ) → n < 2 ^ bits w → FitsSigned w (cast_signed w n)
 fits_signed w8 n h = grind (arith, ints)
 fits_signed w16 n h = grind (arith, ints)
 fits_signed w32 n h = grind (arith, ints)
 fits_signed w64 n h = grind (arith, ints)
 fits_signed w128 n h = grind (arith, ints)
 
-signed_made : (b : ℕ) (w : Width) (n : ℕ) → n < 2 ^ bits w → Signed b w (cast_signed w n) (b ∷ to_be_bytes w n)
+pub signed_made : (b : ℕ) (w : Width) (n : ℕ) → n < 2 ^ bits w → Signed b w (cast_signed w n) (b ∷ to_be_bytes w n)
 signed_made b w n h = (fits_signed w n h, ap (λ k. b ∷ to_be_bytes w k) (sym (of_z-to_z w n h)))
 
-tag_made : (t : ℕ) → t < 256 → (t % 256) ∷ [] ≡ tag_byte (cast_signed w8 t) ∷ []
+pub tag_made : (t : ℕ) → t < 256 → (t % 256) ∷ [] ≡ tag_byte (cast_signed w8 t) ∷ []
 tag_made t h = ap (λ k. k ∷ []) (let e : t % 256 ≡ t = omega arith in e ∙ sym (of_z-to_z w8 t h))
 
 took_wide : (w : Width) → Spelled w → (f : ℕ → Head) (b : ℕ) → ((n : ℕ) → n < 2 ^ bits w → IsHead (f n) (b ∷ to_be_bytes w n)) → (s : List ℕ) (h : Head) (x : List ℕ) → IsBytes s

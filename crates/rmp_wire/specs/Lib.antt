@@ -5,6 +5,7 @@ pub mod Msg
 pub mod RefReader
 pub mod Settings
 pub mod Slices
+pub mod Reading
 pub mod Sources
 pub mod Spelling
 pub mod Stored
