@@ -1,9 +1,10 @@
 //! Sources that answer whole pieces of their bytes, lent where they can be.
-ghost use Rattle.std.specs.Prelude.{◌≡◌, ℕ, Bool, true, false, Option, Some, IfOk, OnErr, length, IsTrue, ◌↔◌};
+ghost use Rattle.std.specs.Prelude.{◌≡◌, ℕ, Bool, true, false, Option, Some, IfOk, IfSome, OnErr, MatchOption, length, ◌<◌, ◌++◌};
 ghost use Rattle.std.specs.Borrow.{sem};
 ghost use Rattle.std.specs.Io.BufRead.{Rests};
 ghost use Rattle.rmp_wire.specs.Slices.{reference_bytes, is_lent, SliceRead};
 ghost use Rattle.rmp_wire.specs.Sources.{Takes, TakesInto};
+ghost use Rattle.rmp_wire.specs.Spelling.{IsBytes};
 
 #[cfg(test)]
 mod tests;
@@ -61,6 +62,7 @@ pub trait ReadSlice<'de>: Source {
         ensures* after { sem 𝓛 (Rests Self.row self.entry (λ new. SliceRead (Self.ahead self.old) (Self.ahead new) (Self.faults self.old) (Self.faults new) len result
             × leaves self.old new len result × (Self.place new ≡ Self.place self.old))) }
         ensures count { IfOk result (λ r. length (reference_bytes r) ≡ len) }
+        ensures bytes { IfOk result (λ r. IsBytes (reference_bytes r)) }
         ensures kind { IfOk result (λ r. is_lent r ≡ lends) };
 }
 
@@ -159,12 +161,24 @@ impl<'a> ReadSlice<'a> for ReadRefReader<'a> {
 
     #[inline(always)]
     fn read_slice<'b>(&'b mut self, len: usize) -> Result<Reference<'a, 'b>, SourceFault> {
-        let all = self.rest;
-        if len > all.len() {
-            return Err(SourceFault::Io(io::Error::from(ErrorKind::UnexpectedEof)));
+        match split_front(self.rest, len) {
+            Some((front, rest)) => {
+                self.rest = rest;
+                Ok(Reference::Borrowed(front))
+            }
+            None => Err(SourceFault::Io(io::Error::from(ErrorKind::UnexpectedEof))),
         }
-        let (front, rest) = all.split_at(len);
-        self.rest = rest;
-        Ok(Reference::Borrowed(front))
     }
+}
+
+// The first `len` bytes and the rest, where there are so many.
+#[inline(always)]
+fn split_front(all: &[u8], len: usize) -> Option<(&[u8], &[u8])>
+    ensures parts { MatchOption result (length all.now < len) (λ p. (length p.0.now ≡ len) × (all.now ≡ p.0.now ++ p.1.now)) }
+    ensures bytes { IfSome result (λ p. IsBytes p.0.now) }
+{
+    if len > all.len() {
+        return None;
+    }
+    Some(all.split_at(len))
 }
