@@ -9,3 +9,4 @@ pub mod Refusals
 pub mod Rows
 pub mod Seqs
 pub mod Texts
+pub mod Whole

@@ -1,15 +1,18 @@
 //! The reader of typed values, and the types that it reads.
-ghost use Rattle.std.specs.Prelude.{◌≡◌, ◌+◌, ◌-◌, ◌<◌, ◌≤◌, ℕ, ℤ, List, true, false, Bool, Option, None, Some, IfSome, IfOk, IfErr, OnOk, OnErr, MatchResult};
-ghost use Rattle.rmp_wire.specs.Msg.{Msg};
+ghost use Rattle.std.specs.Prelude.{◌≡◌, ◌≢◌, true, false, Bool, Option, IfOk, IfErr};
+ghost use Rattle.rmp_wire.specs.Spelling.{Spells};
 ghost use Rattle.rmp_decode.specs.State.{left, faults_of, room_of, reader_of, config_of, is_failed, kept_of, failed_of};
-ghost use Rattle.rmp_decode.specs.Law.{Lawful, ReadsHead};
+ghost use Rattle.rmp_decode.specs.Law.{Begins, Readable, Lawful, ReadsHead};
 ghost use Rattle.rmp_decode.specs.declared.de.Kept.TheVariants.{Nothing};
 
 mod kinds;
 mod numbers;
 mod pieces;
 pub mod seq;
+#[cfg(test)]
+mod tests;
 mod texts;
+mod tuples;
 
 use crate::error::Error;
 use crate::text::Text;
@@ -155,4 +158,35 @@ pub trait Deserialize<'de, R: ReadSlice<'de>>: Sized + Drop {
     /// What stands for a field that isn't there, if anything does.
     fn missing() -> Option<Self>
         ensures { result ≡ absent };
+}
+
+/// Reads the value that a beginning of the input spells. What follows isn't looked at.
+///
+/// # Errors
+/// Any error but `OutOfMemory` says that no beginning of the input spells a message that the type reads.
+pub fn from_slice<'de, T: Deserialize<'de, ReadRefReader<'de>>>(
+    alloc: Global,
+    input: &'de [u8],
+) -> Result<T, Error>
+    // The value is the reading of a tree that a beginning of the input spells.
+    ensures ok { IfOk result (λ v. Begins Spells (λ m. T.reads false true m v) 1024 input.now) }
+    // A refusal that isn't for memory means that no beginning spells a tree that the type reads.
+    ensures err { IfErr result (λ e. e ≢ Error.OutOfMemory → Begins Spells (Readable (T.reads false true)) 1024 input.now → ⊥) }
+{
+    let mut de = Deserializer::from_read_ref(alloc, input);
+    T::deserialize(&mut de)
+}
+
+/// The same as `from_slice`.
+///
+/// # Errors
+/// As `from_slice`.
+pub fn from_read_ref<'de, T: Deserialize<'de, ReadRefReader<'de>>>(
+    alloc: Global,
+    input: &'de [u8],
+) -> Result<T, Error>
+    ensures ok { IfOk result (λ v. Begins Spells (λ m. T.reads false true m v) 1024 input.now) }
+    ensures err { IfErr result (λ e. e ≢ Error.OutOfMemory → Begins Spells (Readable (T.reads false true)) 1024 input.now → ⊥) }
+{
+    from_slice(alloc, input)
 }
