@@ -6,9 +6,9 @@ use Rattle.rmp_wire.specs.declared.source.Source.{Ghosts}
 use Rattle.rmp_wire.specs.Msg.{Msg, Msgs, no_items, item, count, depth, depth_all}
 use Rattle.rmp_wire.specs.Spelling.{Spells}
 use Rattle.rmp_decode.specs.Law.{Refuses, Readable, Explains, Lawful}
-use Rattle.rmp_decode.specs.Seq.{OfRow, IsSeq, SpellsIn, SpellsRow, RefusesRow, levels, inner_of, IsOpen, Opens, FailsToOpen, TakesElement, FailsToTake, FailsElement}
+use Rattle.rmp_decode.specs.Seq.{OfRow, IsSeq, SpellsIn, SpellsRow, RefusesRow, levels, inner_of, IsOpen, Opens, FailsToOpen, TakesElement, FailsToTake, FailsElement, Run, TakesParts, FailsParts}
 use Rattle.rmp_decode.specs.State.{left, faults_of, room_of, kept_bytes, Stays}
-use Rattle.rmp_decode.specs.Rows.{ReadsEach}
+use Rattle.rmp_decode.specs.Rows.{ReadsEach, AndThen, NoMore}
 use Rattle.rmp_decode.specs.declared.de.Deserializer.{Deserializer}
 use Rattle.rmp_decode.specs.declared.de.seq.SeqAccess.{SeqAccess}
 use Rattle.rmp_decode.specs.declared.error.Error.{Error}
@@ -16,20 +16,6 @@ use Rattle.rmp_decode.specs.declared.error.Error.TheVariants.{OutOfMemory}
 use Rattle.rmp_decode.proofs.Laws.{stays_refl, stays_then}
 use Rattle.rmp_decode.proofs.Refusals.{refuses_narrower}
 use Rattle.rmp_decode.proofs.Rows.{push, append, count-push, depth-push, row-push, rest_refused, element_refused, count_refused, row_whole, whole_row, readable_row, is_seq}
-
--- these elements were read so far
-pub record Run {R C : Type 0} (g : Ghosts R) (start now : SeqAccess R C) (ms : Msgs) : Type 0 where
-  pub bytes : List ℕ
-  pub takes : Consumes (left g start.de.now) (left g now.de.now) bytes
-  pub spelled : SpellsRow (SpellsIn start.bytes) bytes ms
-  pub fits : depth_all ms < inner_of start
-  pub many : count ms + now.left ≡ start.left
-  pub same_reference : now.de.ghost_name ≡ start.de.ghost_name
-  pub inner : now.inner ≡ start.inner
-  pub bytes_same : now.bytes ≡ start.bytes
-  pub stays : Stays g start.de.now now.de.now
-  pub faults_same : faults_of g now.de.now ≡ faults_of g start.de.now
-  pub still : IsOpen now
 
 pub run_start : {R C : Type 0} (g : Ghosts R) (s : SeqAccess R C) → IsOpen s → Run g s s no_items
 run_start g s o = record {
@@ -167,6 +153,56 @@ module _ {R C V : Type 0} (g : Ghosts R) (Q : V → Msgs → Type 0) (old : Dese
         too_many : 0 < mid.left → ((m : Msg) (ks : Msgs) (v : V) → Q v (append ms (item m ks)) → ⊥) → (ks : Msgs) → (v : V) × Q v (append ms ks) → count ks ≡ mid.left → ⊥
         too_many l f no_items h c = omega arith
         too_many l f (item m ks) h c = f m ks h.0 h.1
+
+-- ---- parts of several types
+
+module _ {R C V : Type 0} (g : Ghosts R) (Q : V → Msgs → Type 0) (start mid : SeqAccess R C) (ms : Msgs) (r : Run g start mid ms) where
+  pub parts_refused : (now : SeqAccess R C) (e : Error) → Stays g mid.de.now now.de.now → now.de.now.failed ≡ true
+      → Explains e (faults_of g mid.de.now) (faults_of g now.de.now) (RefusesRow (SpellsIn start.bytes) (λ ks. (v : V) × Q v (append ms ks)) (inner_of start) mid.left (left g mid.de.now)) → FailsParts g Q start now e
+  parts_refused now e s f x = record {
+    stays = stays_then g start.de.now mid.de.now now.de.now r.stays s;
+    failed = f;
+    err = λ n k. rest_refused start.bytes (λ ks. (v : V) × Q v ks) (inner_of start) mid.left start.left (left g start.de.now) (left g mid.de.now) ms r.bytes r.takes r.spelled r.many (x n (k ∙ sym r.faults_same));
+  }
+
+  -- there was no element that would do, or none at all
+  pub parts_element : {A : Type 0} (reads : Msg → A → Type 0) (now : SeqAccess R C) (e : Error) → FailsElement g reads mid now e → now.de.now.failed ≡ true
+      → ((m : Msg) (ks : Msgs) (v : V) → Q v (append ms (item m ks)) → Readable reads m) → ((v : V) → Q v (append ms no_items) → ⊥) → FailsParts g Q start now e
+  parts_element reads now e f d proj some = parts_refused now e f.stays d (λ n k. elim f.err [
+    | inl z ↦ count_refused (SpellsIn start.bytes) (λ ks. (v : V) × Q v (append ms ks)) (inner_of start) mid.left (left g mid.de.now) (none_left some z)
+    | inr p ↦
+        let r0 = p.1 n k in
+        let r1 = subst (λ z. Refuses (SpellsIn z) (Readable reads) (inner_of mid) (left g mid.de.now)) r.bytes_same r0 in
+        let r2 = subst (λ z. Refuses (SpellsIn start.bytes) (Readable reads) (max 1 z) (left g mid.de.now)) r.inner r1 in
+        element_refused (SpellsIn start.bytes) (λ ks. (v : V) × Q v (append ms ks)) (Readable reads) (inner_of start) mid.left (left g mid.de.now) p.0 (λ m ks h. proj m ks h.0 h.1) r2
+  ])
+    where
+    none_left : ((v : V) → Q v (append ms no_items) → ⊥) → mid.left ≡ 0 → (ks : Msgs) → (v : V) × Q v (append ms ks) → count ks ≡ mid.left → ⊥
+    none_left f z no_items h c = f h.0 h.1
+    none_left f z (item m ks) h c = omega arith
+
+-- a list none of whose rows has such parts
+pub seq_parts : {R C V : Type 0} (g : Ghosts R) (Q : V → Msgs → Type 0) (old : Deserializer R C) (start now : SeqAccess R C) (o : Opens g old start) (last : Deserializer R C) (e : Error) → FailsParts g Q start now e → last ≡ now.de.now
+    → Lawful g (λ m v. OfRow (Q v) m) old last (Err e)
+seq_parts g Q old start now o last e f q = seq_refused g Q old start start no_items o (run_start g start o.opened) last e (rw q f.stays) (ap (λ (z : Deserializer _ _). z.failed) q ∙ f.failed) (λ n k. f.err n (ap (faults_of g) (sym q) ∙ k))
+
+-- how many items there are
+count-append : (ms ks : Msgs) → count (append ms ks) ≡ count ms + count ks
+count-append no_items ks = omega arith
+count-append (item m ms) ks = let i = count-append ms ks in omega arith
+
+pub no_more_count : (ms : Msgs) → NoMore ms → count ms ≡ 0
+no_more_count no_items h = refl
+no_more_count (item m ms) h = absurd h
+
+pub and_then_count : (P : Msg → Type 0) (Q : Msgs → Type 0) (n : ℕ) → ((ms : Msgs) → Q ms → count ms ≡ n) → (ms : Msgs) → AndThen P Q ms → count ms ≡ suc n
+and_then_count P Q n f no_items h = absurd h
+and_then_count P Q n f (item m ms) h = ap suc (f ms h.1)
+
+-- there are more elements than the parts are
+pub seq_over : {R C V : Type 0} (g : Ghosts R) (Q : V → Msgs → Type 0) (old : Deserializer R C) (start mid : SeqAccess R C) (ms : Msgs) (o : Opens g old start) (r : Run g start mid ms) (last : Deserializer R C) (e : Error) → 0 < mid.left → last ≡ mid.de.now
+    → (n : ℕ) → ((v : V) (ks : Msgs) → Q v ks → count ks ≡ n) → (v : V) → Q v ms → Lawful g (λ m v. OfRow (Q v) m) old last (Err e)
+seq_over g Q old start mid ms o r last e l q n f v h = seq_more g Q old start mid ms o r last e l q (λ m ks w i. let a = f v ms h in let b = f w (append ms (item m ks)) i in omega (arith, count-append ms (item m ks)))
 
 -- ---- rows of one type
 

@@ -158,3 +158,31 @@ pub record BeginsRow (spells : List ℕ → Msg → Type 0) (P : Msgs → Type 0
 -- where the bytes are told, none of their beginnings is such
 unfoldable pub RefusesRow : (List ℕ → Msg → Type 0) → (Msgs → Type 0) → ℕ → ℕ → Option (List ℕ) → Type 0
 RefusesRow spells P room n known = IfSome known (λ xs. BeginsRow spells P room n xs → ⊥)
+
+-- ---- elements of several types, one after another
+
+-- these elements were read so far
+pub record Run {R C : Type 0} (g : Ghosts R) (start now : SeqAccess R C) (ms : Msgs) : Type 0 where
+  pub bytes : List ℕ
+  pub takes : Consumes (left g start.de.now) (left g now.de.now) bytes
+  pub spelled : SpellsRow (SpellsIn start.bytes) bytes ms
+  pub fits : depth_all ms < inner_of start
+  pub many : count ms + now.left ≡ start.left
+  pub same_reference : now.de.ghost_name ≡ start.de.ghost_name
+  pub inner : now.inner ≡ start.inner
+  pub bytes_same : now.bytes ≡ start.bytes
+  pub stays : Stays g start.de.now now.de.now
+  pub faults_same : faults_of g now.de.now ≡ faults_of g start.de.now
+  pub still : IsOpen now
+
+-- elements were read, and together they are read as v
+pub record TakesParts {R C V : Type 0} (g : Ghosts R) (Q : V → Msgs → Type 0) (old new : SeqAccess R C) (v : V) : Type 0 where
+  pub trees : Msgs
+  pub run : Run g old new trees
+  pub value : Q v trees
+
+-- no row of elements that is to come has such parts
+pub record FailsParts {R C V : Type 0} (g : Ghosts R) (Q : V → Msgs → Type 0) (old new : SeqAccess R C) (e : Error) : Type 0 where
+  pub stays : Stays g old.de.now new.de.now
+  pub failed : new.de.now.failed ≡ true
+  pub err : Explains e (faults_of g old.de.now) (faults_of g new.de.now) (RefusesRow (SpellsIn old.bytes) (λ ms. (v : V) × Q v ms) (inner_of old) old.left (left g old.de.now))

@@ -26,6 +26,9 @@ config_of d = d.config
 abbrev pub is_failed : {R C : Type 0} → Deserializer R C → Bool
 is_failed d = d.failed
 
+abbrev pub limit_of : {R C : Type 0} → Deserializer R C → ℕ
+limit_of d = d.room
+
 abbrev pub kept_of : {R C : Type 0} → Deserializer R C → Kept
 kept_of d = d.kept
 

@@ -1,7 +1,7 @@
 //! The reader of typed values, and the types that it reads.
 ghost use Rattle.std.specs.Prelude.{◌≡◌, ◌≢◌, true, false, Bool, Option, IfOk, IfErr};
 ghost use Rattle.rmp_wire.specs.Spelling.{Spells};
-ghost use Rattle.rmp_decode.specs.State.{left, faults_of, room_of, reader_of, config_of, is_failed, kept_of, failed_of};
+ghost use Rattle.rmp_decode.specs.State.{left, faults_of, room_of, reader_of, config_of, is_failed, kept_of, limit_of, failed_of};
 ghost use Rattle.rmp_decode.specs.Law.{Begins, Readable, Lawful, ReadsHead};
 ghost use Rattle.rmp_decode.specs.declared.de.Kept.TheVariants.{Nothing};
 
@@ -100,6 +100,46 @@ impl<R, C> Deserializer<R, C> {
     {
         self.failed = true;
         error
+    }
+}
+
+impl<R, C: SerializerConfig> Deserializer<R, C> {
+    ghost use Rattle.rmp_wire.specs.Settings.{readable_inner, binary_inner};
+
+    /// The same reader, for which types that have a form for people are read from it.
+    pub fn with_human_readable(self) -> Deserializer<R, HumanReadableConfig<C>>
+        ensures config { readable_inner (config_of result) ≡ config_of self }
+        ensures reader { reader_of result ≡ reader_of self }
+        ensures kept { kept_of result ≡ kept_of self }
+        ensures failed { is_failed result ≡ is_failed self }
+        ensures room { limit_of result ≡ limit_of self }
+    {
+        Deserializer {
+            reader: self.reader,
+            config: HumanReadableConfig::new(self.config),
+            alloc: self.alloc,
+            kept: self.kept,
+            room: self.room,
+            failed: self.failed,
+        }
+    }
+
+    /// The same reader, for which types that have a compact form are read from it.
+    pub fn with_binary(self) -> Deserializer<R, BinaryConfig<C>>
+        ensures config { binary_inner (config_of result) ≡ config_of self }
+        ensures reader { reader_of result ≡ reader_of self }
+        ensures kept { kept_of result ≡ kept_of self }
+        ensures failed { is_failed result ≡ is_failed self }
+        ensures room { limit_of result ≡ limit_of self }
+    {
+        Deserializer {
+            reader: self.reader,
+            config: BinaryConfig::new(self.config),
+            alloc: self.alloc,
+            kept: self.kept,
+            room: self.room,
+            failed: self.failed,
+        }
     }
 }
 

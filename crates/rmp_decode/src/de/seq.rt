@@ -92,6 +92,33 @@ impl<R: Source, C: SerializerConfig> Deserializer<R, C> {
         }
     }
 
+    /// Opens a list, or bytes as the list of their numbers, for a tuple. The tuple's own reading says how many elements it
+    /// wants, so `len` isn't looked at.
+    ///
+    /// # Errors
+    /// As `deserialize_seq`.
+    #[inline(always)]
+    pub fn deserialize_tuple(&mut self, _len: usize) -> Result<SeqAccess<'_, R, C>, Error>
+        ensures* refused { sem 𝓛 (RestsIfErr (the_row R.row C.row) self.entry (λ s. s.de.ghost_name) result (λ last. IfErr result (FailsToOpen R.Source self.old last))) }
+        ensures same_reference { IfOk result (λ s. s.de.ghost_name ≡ self.entry.ghost_name) }
+        ensures opened { IfOk result (Opens R.Source self.old) }
+    {
+        self.deserialize_seq()
+    }
+
+    /// The same for a struct without names of fields. Its name isn't written.
+    ///
+    /// # Errors
+    /// As `deserialize_seq`.
+    #[inline(always)]
+    pub fn deserialize_tuple_struct(&mut self, _name: &str, _len: usize) -> Result<SeqAccess<'_, R, C>, Error>
+        ensures* refused { sem 𝓛 (RestsIfErr (the_row R.row C.row) self.entry (λ s. s.de.ghost_name) result (λ last. IfErr result (FailsToOpen R.Source self.old last))) }
+        ensures same_reference { IfOk result (λ s. s.de.ghost_name ≡ self.entry.ghost_name) }
+        ensures opened { IfOk result (Opens R.Source self.old) }
+    {
+        self.deserialize_seq()
+    }
+
     // Takes a byte, and keeps it back as a number.
     #[inline(always)]
     fn keep_byte(&mut self) -> Result<(), Error>
@@ -293,6 +320,27 @@ impl<'de, R: ReadSlice<'de>, T: Deserialize<'de, R>> Deserialize<'de, R> for Vec
     }
 
     fn missing() -> Option<Vec<T>> {
+        None
+    }
+}
+
+impl<'de, R: ReadSlice<'de>, T: Deserialize<'de, R>> Deserialize<'de, R> for Box<T> {
+    ghost reads = { λ human lends m b. T.reads human lends m b.value };
+
+    ghost absent = { None };
+
+    fn deserialize<C: SerializerConfig>(de: &mut Deserializer<R, C>) -> Result<Box<T>, Error> {
+        let value = match T::deserialize(de) {
+            Ok(value) => value,
+            Err(e) => return Err(e),
+        };
+        match Box::new(de.alloc(), value) {
+            Ok(boxed) => Ok(boxed),
+            Err(_) => Err(de.refuse(Error::OutOfMemory)),
+        }
+    }
+
+    fn missing() -> Option<Box<T>> {
         None
     }
 }

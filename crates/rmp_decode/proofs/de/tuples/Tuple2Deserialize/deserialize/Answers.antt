@@ -1,8 +1,8 @@
 use Rattle.std.proofs.Common.{◌≡◌, ◌∙◌, subst, rules}
-use Rattle.rmp_wire.specs.Msg.{Msgs, no_items, item}
+use Rattle.rmp_wire.specs.Msg.{Msgs}
 use Rattle.rmp_decode.specs.Rows.{AndThen, NoMore}
-use Rattle.rmp_decode.specs.Seq.{TakesElement, FailsElement}
-use Rattle.rmp_decode.proofs.Seqs.{run_start, run_step, seq_unopened, seq_element, seq_more, seq_done}
+use Rattle.rmp_decode.specs.Seq.{TakesParts, FailsParts}
+use Rattle.rmp_decode.proofs.Seqs.{seq_unopened, seq_parts, seq_over, seq_done, and_then_count, no_more_count}
 use Rattle.rmp_decode.proofs.de.tuples.Tuple2Deserialize.deserialize.Goals as goal
 
 via : {A : Type 0} {x z : A} (y : A) → x ≡ y → y ≡ z → x ≡ z
@@ -13,44 +13,25 @@ returns-in-Err g c =
     let Q : g.row.A.Denot × g.row.B.Denot → Msgs → Type 0 = λ v ms. AndThen (λ k. g.A.Deserialize.reads (g.C.SerializerConfig.human c.args.de.now.config) g.R.ReadSlice.lends k v.0) (AndThen (λ k. g.B.Deserialize.reads (g.C.SerializerConfig.human c.args.de.now.config) g.R.ReadSlice.lends k v.1) NoMore) ms in
     seq_unopened g.R.Source Q _ _ _ (rw c.in-Err.is at c.deserialize_seq.follows.holds-at-none)
 
-pub returns-in-Err-element : goal.returns-in-Err-element
-returns-in-Err-element g c =
+pub returns-in-Err-parts_2 : goal.returns-in-Err-parts_2
+returns-in-Err-parts_2 g c =
     let Q : g.row.A.Denot × g.row.B.Denot → Msgs → Type 0 = λ v ms. AndThen (λ k. g.A.Deserialize.reads (g.C.SerializerConfig.human c.args.de.now.config) g.R.ReadSlice.lends k v.0) (AndThen (λ k. g.B.Deserialize.reads (g.C.SerializerConfig.human c.args.de.now.config) g.R.ReadSlice.lends k v.1) NoMore) ms in
     let o = c.in-Ok.ensures.opened in
-    let r0 = run_start g.R.Source c.in-Ok.seq o.opened in
-    let f = subst (λ z. FailsElement g.R.Source (g.A.Deserialize.reads (g.C.SerializerConfig.human z) g.R.ReadSlice.lends) c.in-Ok.seq c.element.new.self c.in-Err-element.e) (r0.stays.config ∙ o.stays.config) (c.in-Err-element.ensures.err r0.still) in
-    seq_element g.R.Source Q _ c.in-Ok.seq c.in-Ok.seq no_items o r0 _ (g.A.Deserialize.reads (g.C.SerializerConfig.human c.args.de.now.config) g.R.ReadSlice.lends) c.element.new.self _ f (c.element.ensures.marked r0.still.marked) (search rules) (λ m ks v h. (v.0, h.0)) (λ v h. h)
-
-pub returns-in-Err-element-2 : goal.returns-in-Err-element-2
-returns-in-Err-element-2 g c =
-    let Q : g.row.A.Denot × g.row.B.Denot → Msgs → Type 0 = λ v ms. AndThen (λ k. g.A.Deserialize.reads (g.C.SerializerConfig.human c.args.de.now.config) g.R.ReadSlice.lends k v.0) (AndThen (λ k. g.B.Deserialize.reads (g.C.SerializerConfig.human c.args.de.now.config) g.R.ReadSlice.lends k v.1) NoMore) ms in
-    let o = c.in-Ok.ensures.opened in
-    let r0 = run_start g.R.Source c.in-Ok.seq o.opened in
-    let t1 = subst (λ z. TakesElement g.R.Source (g.A.Deserialize.reads (g.C.SerializerConfig.human z) g.R.ReadSlice.lends) c.in-Ok.seq c.element.new.self c.in-Ok-element.a) (r0.stays.config ∙ o.stays.config) (c.in-Ok-element.ensures.ok r0.still) in
-    let r1 = run_step g.R.Source _ c.in-Ok.seq c.in-Ok.seq c.element.new.self no_items c.in-Ok-element.a r0 t1 c.element.ensures.same_reference in
-    let f = subst (λ z. FailsElement g.R.Source (g.B.Deserialize.reads (g.C.SerializerConfig.human z) g.R.ReadSlice.lends) c.element.new.self c.element-2.new.self c.in-Err-element-2.e) (r1.stays.config ∙ o.stays.config) (c.in-Err-element-2.ensures.err r1.still) in
-    seq_element g.R.Source Q _ c.in-Ok.seq c.element.new.self (item t1.tree no_items) o r1 _ (g.B.Deserialize.reads (g.C.SerializerConfig.human c.args.de.now.config) g.R.ReadSlice.lends) c.element-2.new.self _ f (c.element-2.ensures.marked r1.still.marked) (search rules) (λ m ks v h. (v.1, h.1.0)) (λ v h. h.1)
+    let f = subst (λ z. FailsParts g.R.Source (λ (v : g.row.A.Denot × g.row.B.Denot) ms. AndThen (λ k. g.A.Deserialize.reads (g.C.SerializerConfig.human z) g.R.ReadSlice.lends k v.0) (AndThen (λ k. g.B.Deserialize.reads (g.C.SerializerConfig.human z) g.R.ReadSlice.lends k v.1) NoMore) ms) c.in-Ok.seq c.parts_2.new.self c.in-Err-parts_2.e) o.stays.config c.in-Err-parts_2.ensures.err in
+    seq_parts g.R.Source Q _ c.in-Ok.seq c.parts_2.new.self o _ _ f (search rules)
 
 pub returns-in-Ok-end : goal.returns-in-Ok-end
 returns-in-Ok-end g c =
     let Q : g.row.A.Denot × g.row.B.Denot → Msgs → Type 0 = λ v ms. AndThen (λ k. g.A.Deserialize.reads (g.C.SerializerConfig.human c.args.de.now.config) g.R.ReadSlice.lends k v.0) (AndThen (λ k. g.B.Deserialize.reads (g.C.SerializerConfig.human c.args.de.now.config) g.R.ReadSlice.lends k v.1) NoMore) ms in
     let o = c.in-Ok.ensures.opened in
-    let r0 = run_start g.R.Source c.in-Ok.seq o.opened in
-    let t1 = subst (λ z. TakesElement g.R.Source (g.A.Deserialize.reads (g.C.SerializerConfig.human z) g.R.ReadSlice.lends) c.in-Ok.seq c.element.new.self c.in-Ok-element.a) (r0.stays.config ∙ o.stays.config) (c.in-Ok-element.ensures.ok r0.still) in
-    let r1 = run_step g.R.Source _ c.in-Ok.seq c.in-Ok.seq c.element.new.self no_items c.in-Ok-element.a r0 t1 c.element.ensures.same_reference in
-    let t2 = subst (λ z. TakesElement g.R.Source (g.B.Deserialize.reads (g.C.SerializerConfig.human z) g.R.ReadSlice.lends) c.element.new.self c.element-2.new.self c.in-Ok-element-2.b) (r1.stays.config ∙ o.stays.config) (c.in-Ok-element-2.ensures.ok r1.still) in
-    let r2 = run_step g.R.Source _ c.in-Ok.seq c.element.new.self c.element-2.new.self (item t1.tree no_items) c.in-Ok-element-2.b r1 t2 c.element-2.ensures.same_reference in
-    let e = c.in-Ok-end.ensures.ok r2.still in
-    seq_done g.R.Source Q _ c.in-Ok.seq c.element-2.new.self (item t1.tree (item t2.tree no_items)) o r2 _ _ (t1.value, (t2.value, tt)) e.0 (via c.end.new.self.0 (search rules) e.1)
+    let t = subst (λ z. TakesParts g.R.Source (λ (v : g.row.A.Denot × g.row.B.Denot) ms. AndThen (λ k. g.A.Deserialize.reads (g.C.SerializerConfig.human z) g.R.ReadSlice.lends k v.0) (AndThen (λ k. g.B.Deserialize.reads (g.C.SerializerConfig.human z) g.R.ReadSlice.lends k v.1) NoMore) ms) c.in-Ok.seq c.parts_2.new.self c.in-Ok-parts_2.parts) o.stays.config c.in-Ok-parts_2.ensures.ok in
+    let e = c.in-Ok-end.ensures.ok t.run.still in
+    seq_done g.R.Source Q _ c.in-Ok.seq c.parts_2.new.self t.trees o t.run _ _ t.value e.0 (via c.end.new.self.0 (search rules) e.1)
 
 pub returns-in-Err-end : goal.returns-in-Err-end
 returns-in-Err-end g c =
     let Q : g.row.A.Denot × g.row.B.Denot → Msgs → Type 0 = λ v ms. AndThen (λ k. g.A.Deserialize.reads (g.C.SerializerConfig.human c.args.de.now.config) g.R.ReadSlice.lends k v.0) (AndThen (λ k. g.B.Deserialize.reads (g.C.SerializerConfig.human c.args.de.now.config) g.R.ReadSlice.lends k v.1) NoMore) ms in
     let o = c.in-Ok.ensures.opened in
-    let r0 = run_start g.R.Source c.in-Ok.seq o.opened in
-    let t1 = subst (λ z. TakesElement g.R.Source (g.A.Deserialize.reads (g.C.SerializerConfig.human z) g.R.ReadSlice.lends) c.in-Ok.seq c.element.new.self c.in-Ok-element.a) (r0.stays.config ∙ o.stays.config) (c.in-Ok-element.ensures.ok r0.still) in
-    let r1 = run_step g.R.Source _ c.in-Ok.seq c.in-Ok.seq c.element.new.self no_items c.in-Ok-element.a r0 t1 c.element.ensures.same_reference in
-    let t2 = subst (λ z. TakesElement g.R.Source (g.B.Deserialize.reads (g.C.SerializerConfig.human z) g.R.ReadSlice.lends) c.element.new.self c.element-2.new.self c.in-Ok-element-2.b) (r1.stays.config ∙ o.stays.config) (c.in-Ok-element-2.ensures.ok r1.still) in
-    let r2 = run_step g.R.Source _ c.in-Ok.seq c.element.new.self c.element-2.new.self (item t1.tree no_items) c.in-Ok-element-2.b r1 t2 c.element-2.ensures.same_reference in
-    let e = c.in-Err-end.ensures.err r2.still in
-    seq_more g.R.Source Q _ c.in-Ok.seq c.element-2.new.self (item t1.tree (item t2.tree no_items)) o r2 _ _ e.0 (via c.end.new.self.0 (search rules) e.1) (λ m ks v h. h.1.1)
+    let t = subst (λ z. TakesParts g.R.Source (λ (v : g.row.A.Denot × g.row.B.Denot) ms. AndThen (λ k. g.A.Deserialize.reads (g.C.SerializerConfig.human z) g.R.ReadSlice.lends k v.0) (AndThen (λ k. g.B.Deserialize.reads (g.C.SerializerConfig.human z) g.R.ReadSlice.lends k v.1) NoMore) ms) c.in-Ok.seq c.parts_2.new.self c.in-Ok-parts_2.parts) o.stays.config c.in-Ok-parts_2.ensures.ok in
+    let e = c.in-Err-end.ensures.err t.run.still in
+    seq_over g.R.Source Q _ c.in-Ok.seq c.parts_2.new.self t.trees o t.run _ _ e.0 (via c.end.new.self.0 (search rules) e.1) 2 (λ v ms h. and_then_count _ _ _ (and_then_count _ _ _ no_more_count) ms h) _ t.value
