@@ -177,9 +177,9 @@ module _ {R C V : Type 0} (g : Ghosts R) (Q : V → Msgs → Type 0) (start mid 
         element_refused (SpellsIn start.bytes) (λ ks. (v : V) × Q v (append ms ks)) (Readable reads) (inner_of start) mid.left (left g mid.de.now) p.0 (λ m ks h. proj m ks h.0 h.1) r2
   ])
     where
-    none_left : ((v : V) → Q v (append ms no_items) → ⊥) → mid.left ≡ 0 → (ks : Msgs) → (v : V) × Q v (append ms ks) → count ks ≡ mid.left → ⊥
-    none_left f z no_items h c = f h.0 h.1
-    none_left f z (item m ks) h c = omega arith
+      none_left : ((v : V) → Q v (append ms no_items) → ⊥) → mid.left ≡ 0 → (ks : Msgs) → (v : V) × Q v (append ms ks) → count ks ≡ mid.left → ⊥
+      none_left f z no_items h c = f h.0 h.1
+      none_left f z (item m ks) h c = omega arith
 
 -- a list none of whose rows has such parts
 pub seq_parts : {R C V : Type 0} (g : Ghosts R) (Q : V → Msgs → Type 0) (old : Deserializer R C) (start now : SeqAccess R C) (o : Opens g old start) (last : Deserializer R C) (e : Error) → FailsParts g Q start now e → last ≡ now.de.now

@@ -14,6 +14,7 @@ use crate::error::Error;
 use crate::text::Text;
 use rmp_wire::config::SerializerConfig;
 use rmp_wire::{Head, ReadSlice, Source};
+use std::collections::VecDeque;
 
 /// The elements of a list that is being read, or the numbers of bytes.
 ///
@@ -111,7 +112,11 @@ impl<R: Source, C: SerializerConfig> Deserializer<R, C> {
     /// # Errors
     /// As `deserialize_seq`.
     #[inline(always)]
-    pub fn deserialize_tuple_struct(&mut self, _name: &str, _len: usize) -> Result<SeqAccess<'_, R, C>, Error>
+    pub fn deserialize_tuple_struct(
+        &mut self,
+        _name: &str,
+        _len: usize,
+    ) -> Result<SeqAccess<'_, R, C>, Error>
         ensures* refused { sem 𝓛 (RestsIfErr (the_row R.row C.row) self.entry (λ s. s.de.ghost_name) result (λ last. IfErr result (FailsToOpen R.Source self.old last))) }
         ensures same_reference { IfOk result (λ s. s.de.ghost_name ≡ self.entry.ghost_name) }
         ensures opened { IfOk result (Opens R.Source self.old) }
@@ -341,6 +346,29 @@ impl<'de, R: ReadSlice<'de>, T: Deserialize<'de, R>> Deserialize<'de, R> for Box
     }
 
     fn missing() -> Option<Box<T>> {
+        None
+    }
+}
+
+impl<'de, R: ReadSlice<'de>, T: Deserialize<'de, R>> Deserialize<'de, R> for VecDeque<T> {
+    ghost use Rattle.rmp_decode.specs.Rows.{ReadsEach};
+    ghost use Rattle.rmp_decode.specs.Seq.{OfRow};
+
+    ghost reads = { λ human lends m v. OfRow (λ ms. ReadsEach (T.reads human lends) ms v.items) m };
+
+    ghost absent = { None };
+
+    fn deserialize<C: SerializerConfig>(de: &mut Deserializer<R, C>) -> Result<VecDeque<T>, Error> {
+        let mut items = VecDeque::new(de.alloc());
+        let mut seq = de.deserialize_seq()?;
+        while let Some(item) = seq.next_element()? {
+            items.push_back(item)?;
+        }
+        seq.end()?;
+        Ok(items)
+    }
+
+    fn missing() -> Option<VecDeque<T>> {
         None
     }
 }

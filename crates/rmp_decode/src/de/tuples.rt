@@ -13,7 +13,9 @@ use rmp_wire::{ReadSlice, Source};
 impl<'x, R: Source, C: SerializerConfig> SeqAccess<'x, R, C> {
     // Reads the 2 elements of a tuple.
     #[inline(always)]
-    fn parts_2<'de, A: Deserialize<'de, R>, B: Deserialize<'de, R>>(&mut self) -> Result<(A, B), Error>
+    fn parts_2<'de, A: Deserialize<'de, R>, B: Deserialize<'de, R>>(
+        &mut self,
+    ) -> Result<(A, B), Error>
     where
         R: ReadSlice<'de>,
         requires { IsOpen self.old }
@@ -33,7 +35,8 @@ impl<'x, R: Source, C: SerializerConfig> SeqAccess<'x, R, C> {
     }
 }
 
-impl<'de, R: ReadSlice<'de>, A: Deserialize<'de, R>, B: Deserialize<'de, R>> Deserialize<'de, R> for (A, B) {
+impl<'de, R: ReadSlice<'de>, A: Deserialize<'de, R>, B: Deserialize<'de, R>> Deserialize<'de, R>
+    for (A, B) {
     ghost reads = { λ human lends m v. OfRow (AndThen (λ k. A.reads human lends k v.0) (AndThen (λ k. B.reads human lends k v.1) NoMore)) m };
 
     ghost absent = { None };
@@ -61,7 +64,9 @@ impl<'de, R: ReadSlice<'de>, A: Deserialize<'de, R>, B: Deserialize<'de, R>> Des
 impl<'x, R: Source, C: SerializerConfig> SeqAccess<'x, R, C> {
     // Reads the 3 elements of a tuple.
     #[inline(always)]
-    fn parts_3<'de, A: Deserialize<'de, R>, B: Deserialize<'de, R>, D: Deserialize<'de, R>>(&mut self) -> Result<(A, B, D), Error>
+    fn parts_3<'de, A: Deserialize<'de, R>, B: Deserialize<'de, R>, D: Deserialize<'de, R>>(
+        &mut self,
+    ) -> Result<(A, B, D), Error>
     where
         R: ReadSlice<'de>,
         requires { IsOpen self.old }
@@ -85,7 +90,13 @@ impl<'x, R: Source, C: SerializerConfig> SeqAccess<'x, R, C> {
     }
 }
 
-impl<'de, R: ReadSlice<'de>, A: Deserialize<'de, R>, B: Deserialize<'de, R>, D: Deserialize<'de, R>> Deserialize<'de, R> for (A, B, D) {
+impl<
+    'de,
+    R: ReadSlice<'de>,
+    A: Deserialize<'de, R>,
+    B: Deserialize<'de, R>,
+    D: Deserialize<'de, R>,
+> Deserialize<'de, R> for (A, B, D) {
     ghost reads = { λ human lends m v. OfRow (AndThen (λ k. A.reads human lends k v.0) (AndThen (λ k. B.reads human lends k v.1) (AndThen (λ k. D.reads human lends k v.2) NoMore))) m };
 
     ghost absent = { None };
@@ -113,7 +124,13 @@ impl<'de, R: ReadSlice<'de>, A: Deserialize<'de, R>, B: Deserialize<'de, R>, D: 
 impl<'x, R: Source, C: SerializerConfig> SeqAccess<'x, R, C> {
     // Reads the 4 elements of a tuple.
     #[inline(always)]
-    fn parts_4<'de, A: Deserialize<'de, R>, B: Deserialize<'de, R>, D: Deserialize<'de, R>, E: Deserialize<'de, R>>(&mut self) -> Result<(A, B, D, E), Error>
+    fn parts_4<
+        'de,
+        A: Deserialize<'de, R>,
+        B: Deserialize<'de, R>,
+        D: Deserialize<'de, R>,
+        E: Deserialize<'de, R>,
+    >(&mut self) -> Result<(A, B, D, E), Error>
     where
         R: ReadSlice<'de>,
         requires { IsOpen self.old }
@@ -141,12 +158,21 @@ impl<'x, R: Source, C: SerializerConfig> SeqAccess<'x, R, C> {
     }
 }
 
-impl<'de, R: ReadSlice<'de>, A: Deserialize<'de, R>, B: Deserialize<'de, R>, D: Deserialize<'de, R>, E: Deserialize<'de, R>> Deserialize<'de, R> for (A, B, D, E) {
+impl<
+    'de,
+    R: ReadSlice<'de>,
+    A: Deserialize<'de, R>,
+    B: Deserialize<'de, R>,
+    D: Deserialize<'de, R>,
+    E: Deserialize<'de, R>,
+> Deserialize<'de, R> for (A, B, D, E) {
     ghost reads = { λ human lends m v. OfRow (AndThen (λ k. A.reads human lends k v.0) (AndThen (λ k. B.reads human lends k v.1) (AndThen (λ k. D.reads human lends k v.2) (AndThen (λ k. E.reads human lends k v.3) NoMore)))) m };
 
     ghost absent = { None };
 
-    fn deserialize<C: SerializerConfig>(de: &mut Deserializer<R, C>) -> Result<(A, B, D, E), Error> {
+    fn deserialize<C: SerializerConfig>(
+        de: &mut Deserializer<R, C>,
+    ) -> Result<(A, B, D, E), Error> {
         let mut seq = match de.deserialize_seq() {
             Ok(seq) => seq,
             Err(e) => return Err(e),
@@ -169,7 +195,14 @@ impl<'de, R: ReadSlice<'de>, A: Deserialize<'de, R>, B: Deserialize<'de, R>, D: 
 impl<'x, R: Source, C: SerializerConfig> SeqAccess<'x, R, C> {
     // Reads the 5 elements of a tuple.
     #[inline(always)]
-    fn parts_5<'de, A: Deserialize<'de, R>, B: Deserialize<'de, R>, D: Deserialize<'de, R>, E: Deserialize<'de, R>, F: Deserialize<'de, R>>(&mut self) -> Result<(A, B, D, E, F), Error>
+    fn parts_5<
+        'de,
+        A: Deserialize<'de, R>,
+        B: Deserialize<'de, R>,
+        D: Deserialize<'de, R>,
+        E: Deserialize<'de, R>,
+        F: Deserialize<'de, R>,
+    >(&mut self) -> Result<(A, B, D, E, F), Error>
     where
         R: ReadSlice<'de>,
         requires { IsOpen self.old }
@@ -201,12 +234,22 @@ impl<'x, R: Source, C: SerializerConfig> SeqAccess<'x, R, C> {
     }
 }
 
-impl<'de, R: ReadSlice<'de>, A: Deserialize<'de, R>, B: Deserialize<'de, R>, D: Deserialize<'de, R>, E: Deserialize<'de, R>, F: Deserialize<'de, R>> Deserialize<'de, R> for (A, B, D, E, F) {
+impl<
+    'de,
+    R: ReadSlice<'de>,
+    A: Deserialize<'de, R>,
+    B: Deserialize<'de, R>,
+    D: Deserialize<'de, R>,
+    E: Deserialize<'de, R>,
+    F: Deserialize<'de, R>,
+> Deserialize<'de, R> for (A, B, D, E, F) {
     ghost reads = { λ human lends m v. OfRow (AndThen (λ k. A.reads human lends k v.0) (AndThen (λ k. B.reads human lends k v.1) (AndThen (λ k. D.reads human lends k v.2) (AndThen (λ k. E.reads human lends k v.3) (AndThen (λ k. F.reads human lends k v.4) NoMore))))) m };
 
     ghost absent = { None };
 
-    fn deserialize<C: SerializerConfig>(de: &mut Deserializer<R, C>) -> Result<(A, B, D, E, F), Error> {
+    fn deserialize<C: SerializerConfig>(
+        de: &mut Deserializer<R, C>,
+    ) -> Result<(A, B, D, E, F), Error> {
         let mut seq = match de.deserialize_seq() {
             Ok(seq) => seq,
             Err(e) => return Err(e),
@@ -229,7 +272,15 @@ impl<'de, R: ReadSlice<'de>, A: Deserialize<'de, R>, B: Deserialize<'de, R>, D: 
 impl<'x, R: Source, C: SerializerConfig> SeqAccess<'x, R, C> {
     // Reads the 6 elements of a tuple.
     #[inline(always)]
-    fn parts_6<'de, A: Deserialize<'de, R>, B: Deserialize<'de, R>, D: Deserialize<'de, R>, E: Deserialize<'de, R>, F: Deserialize<'de, R>, G: Deserialize<'de, R>>(&mut self) -> Result<(A, B, D, E, F, G), Error>
+    fn parts_6<
+        'de,
+        A: Deserialize<'de, R>,
+        B: Deserialize<'de, R>,
+        D: Deserialize<'de, R>,
+        E: Deserialize<'de, R>,
+        F: Deserialize<'de, R>,
+        G: Deserialize<'de, R>,
+    >(&mut self) -> Result<(A, B, D, E, F, G), Error>
     where
         R: ReadSlice<'de>,
         requires { IsOpen self.old }
@@ -265,12 +316,23 @@ impl<'x, R: Source, C: SerializerConfig> SeqAccess<'x, R, C> {
     }
 }
 
-impl<'de, R: ReadSlice<'de>, A: Deserialize<'de, R>, B: Deserialize<'de, R>, D: Deserialize<'de, R>, E: Deserialize<'de, R>, F: Deserialize<'de, R>, G: Deserialize<'de, R>> Deserialize<'de, R> for (A, B, D, E, F, G) {
+impl<
+    'de,
+    R: ReadSlice<'de>,
+    A: Deserialize<'de, R>,
+    B: Deserialize<'de, R>,
+    D: Deserialize<'de, R>,
+    E: Deserialize<'de, R>,
+    F: Deserialize<'de, R>,
+    G: Deserialize<'de, R>,
+> Deserialize<'de, R> for (A, B, D, E, F, G) {
     ghost reads = { λ human lends m v. OfRow (AndThen (λ k. A.reads human lends k v.0) (AndThen (λ k. B.reads human lends k v.1) (AndThen (λ k. D.reads human lends k v.2) (AndThen (λ k. E.reads human lends k v.3) (AndThen (λ k. F.reads human lends k v.4) (AndThen (λ k. G.reads human lends k v.5) NoMore)))))) m };
 
     ghost absent = { None };
 
-    fn deserialize<C: SerializerConfig>(de: &mut Deserializer<R, C>) -> Result<(A, B, D, E, F, G), Error> {
+    fn deserialize<C: SerializerConfig>(
+        de: &mut Deserializer<R, C>,
+    ) -> Result<(A, B, D, E, F, G), Error> {
         let mut seq = match de.deserialize_seq() {
             Ok(seq) => seq,
             Err(e) => return Err(e),
