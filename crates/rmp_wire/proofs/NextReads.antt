@@ -67,7 +67,7 @@ takes_next m h old mid new t u = record {
   taken = Consumes-trans old mid new (byte_of m ∷ []) u.rest (byte_taken m old mid t) u.taken;
 }
 
-fails_after : (m : Marker) (old mid new : Option (List ℕ)) (before between after : ℕ) (e : ValueReadError) → Consumes old mid (byte_of m ∷ []) → between ≡ before
+pub fails_after : (m : Marker) (old mid new : Option (List ℕ)) (before between after : ℕ) (e : ValueReadError) → Consumes old mid (byte_of m ∷ []) → between ≡ before
     → (m ≡ Reserved → ◌≡◌ {A = Result Head ValueReadError} (Err e) (Err (TypeMismatch Reserved))) → FailsHead m mid new between after e → FailsNext old new before after e
 fails_after m old mid new before between after (InvalidMarkerRead f) c same only t = absurd t
 fails_after m old mid new before between after (InvalidDataRead f) c same only t = record {

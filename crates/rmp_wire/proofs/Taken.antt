@@ -25,6 +25,10 @@ small [] h i = omega arith
 small (b ∷ s) h zero = h.0
 small (b ∷ s) h (suc i) = small s h.1 i
 
+pub bytes_from : (s : List ℕ) → ((k : ℕ) → get_or s k 0 < 256) → IsBytes s
+bytes_from [] f = tt
+bytes_from (b ∷ s) f = (f 0, bytes_from s (λ k. f (suc k)))
+
 pub bytes_parts : (a b : List ℕ) → IsBytes (a ++ b) → IsBytes a × IsBytes b
 bytes_parts [] b h = (tt, h)
 bytes_parts (x ∷ a) b h = let r : IsBytes a × IsBytes b = bytes_parts a b h.1 in ((h.0, r.0), r.1)

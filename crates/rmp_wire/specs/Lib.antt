@@ -3,9 +3,11 @@ pub mod Faults
 pub mod Heads
 pub mod Msg
 pub mod Reading
+pub mod RefReader
 pub mod Settings
 pub mod Sinks
 pub mod SliceSink
+pub mod Slices
 pub mod Sources
 pub mod Spelling
 pub mod Stored

@@ -7,6 +7,7 @@ pub mod head;
 pub mod marker;
 pub mod read;
 pub mod sink;
+pub mod slice;
 pub mod source;
 pub mod types;
 pub mod write;
@@ -16,6 +17,7 @@ pub use head::Head;
 pub use marker::Marker;
 pub use read::{next_head, read_head, read_marker};
 pub use sink::{Sink, SinkFault, SliceSink};
+pub use slice::{ReadRefReader, ReadSlice, Reference, SourceFault};
 pub use source::Source;
 pub use types::{ByteBuf, Bytes, Ext, F32Bits, F64Bits, MSGPACK_EXT_STRUCT_NAME};
 pub use write::{

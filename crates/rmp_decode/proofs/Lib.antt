@@ -1,0 +1,12 @@
+pub mod ByteParts
+pub mod Contents
+pub mod HeadTaken
+pub mod Laws
+pub mod Leaves
+pub mod Numbers
+pub mod Opening
+pub mod Refusals
+pub mod Rows
+pub mod Seqs
+pub mod Texts
+pub mod Whole

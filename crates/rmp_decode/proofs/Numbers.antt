@@ -1,0 +1,29 @@
+-- What is read of numbers, texts and bytes.
+use Rattle.std.proofs.Common.{◌≡◌, ℕ, ℤ, pos, ◌≤ℤ◌, arith, List, Bool, true, false}
+use Rattle.rmp_decode.specs.Kinds.{raw_msg}
+use Rattle.std.proofs.lemmas.Int.{ints}
+use Rattle.rmp_wire.specs.Msg.{whole}
+use Rattle.rmp_decode.specs.Law.{Readable}
+use Rattle.rmp_decode.specs.Read.{IsUnsigned, IsSigned}
+
+pub unsigned_within : (most : ℕ) (z : ℤ) → Readable (IsUnsigned most) (whole z) → (pos 0 ≤ℤ z) × (z ≤ℤ pos most)
+unsigned_within most z r =
+    let same = r.1.0 in
+    let e : z ≡ pos r.0 = cc in
+    let l = r.1.1 in
+    rw e (omega (arith, ints), omega (arith, ints))
+
+pub signed_within : (least most z : ℤ) → Readable (IsSigned least most) (whole z) → (least ≤ℤ z) × (z ≤ℤ most)
+signed_within least most z r =
+    let same = r.1.0 in
+    let e : z ≡ r.0 = cc in
+    rw e (r.1.1, r.1.2)
+
+pub raw_same : (t u : Bool) (s r : List ℕ) → raw_msg t s ≡ raw_msg u r → s ≡ r
+raw_same true true s r e = cc
+raw_same true false s r e = absurd (cc)
+raw_same false true s r e = absurd (cc)
+raw_same false false s r e = cc
+
+pub not_both : (b : Bool) → b ≡ false → b ≡ true → ⊥
+not_both b p q = cc

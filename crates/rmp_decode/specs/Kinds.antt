@@ -1,0 +1,36 @@
+-- What a head holds, where it is of one kind.
+use Rattle.std.specs.Prelude.{◌≡◌, ℕ, List, Bool, true, false, Option, MatchOption}
+use Rattle.rmp_wire.specs.Msg.{Msg, text, bin}
+use Rattle.rmp_wire.specs.declared.head.Head.{Head}
+use Rattle.rmp_wire.specs.declared.head.Head.TheVariants.{Nil, Truth, Whole, F32Bits, F64Bits, Text, Bin, Array, Map, Ext}
+use Rattle.rmp_wire.specs.declared.marker.Marker.{Marker}
+use Rattle.rmp_decode.specs.declared.error.Error.{Error}
+use Rattle.rmp_decode.specs.declared.error.Error.TheVariants.{Syntax, TypeMismatch}
+use Rattle.rmp_decode.specs.declared.text.Text.TheVariants.{InvalidType}
+
+-- the head is of the kind, and holds this, or it is of no such kind
+abbrev pub Finds : {A : Type 0} → (Head → A → Type 0) → Head → Option A → Type 0
+Finds {A} Is h found = MatchOption found ((a : A) → Is h a → ⊥) (Is h)
+
+-- how a message of another kind is refused where a truth, a number or the bits of a float is wanted
+abbrev pub other_kind : Marker → Head → Error
+other_kind m Nil = Syntax InvalidType
+other_kind m (Truth t) = Syntax InvalidType
+other_kind m (Whole z) = Syntax InvalidType
+other_kind m (F32Bits n) = Syntax InvalidType
+other_kind m (F64Bits n) = Syntax InvalidType
+other_kind m (Text n) = TypeMismatch m
+other_kind m (Bin n) = TypeMismatch m
+other_kind m (Array n) = TypeMismatch m
+other_kind m (Map n) = TypeMismatch m
+other_kind m (Ext n tag) = TypeMismatch m
+
+-- a text, or bytes
+abbrev pub raw_msg : Bool → List ℕ → Msg
+raw_msg true s = text s
+raw_msg false s = bin s
+
+-- the head of a text, or of bytes
+abbrev pub raw_head : Bool → ℕ → Head
+raw_head true n = Text n
+raw_head false n = Bin n

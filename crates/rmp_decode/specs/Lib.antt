@@ -1,0 +1,9 @@
+pub mod Kinds
+pub mod Law
+pub mod Pieces
+pub mod Read
+pub mod ReadErrors
+pub mod Rows
+pub mod Seq
+pub mod State
+pub mod Words

@@ -1,0 +1,55 @@
+-- What contracts see of a `Deserializer`.
+use Rattle.std.specs.Prelude.{◌≡◌, ℕ, max, Bool, true, List, [], ◌∷◌, Option, pos}
+use Rattle.std.specs.Io.KnownBytes.{prepend_known}
+use Rattle.rmp_wire.specs.declared.head.Head.TheVariants.{Whole}
+use Rattle.rmp_wire.specs.declared.source.Source.{Ghosts}
+use Rattle.rmp_wire.specs.Heads.{canon_head}
+use Rattle.rmp_wire.specs.Taking.{byte_of}
+use Rattle.rmp_decode.specs.declared.de.Deserializer.{Deserializer}
+use Rattle.rmp_decode.specs.declared.de.Kept.{Kept}
+use Rattle.rmp_decode.specs.declared.de.Kept.TheVariants.{Nothing, First, Number}
+
+-- the bytes that stand for what was kept back
+abbrev pub kept_bytes : Kept → List ℕ
+kept_bytes Nothing = []
+kept_bytes (First m) = byte_of m ∷ []
+kept_bytes (Number n) = canon_head (Whole (pos n))
+
+-- what the reader reads from
+abbrev pub reader_of : {R C : Type 0} → Deserializer R C → R
+reader_of d = d.reader
+
+abbrev pub config_of : {R C : Type 0} → Deserializer R C → C
+config_of d = d.config
+
+-- a read failed, or is under way
+abbrev pub is_failed : {R C : Type 0} → Deserializer R C → Bool
+is_failed d = d.failed
+
+abbrev pub limit_of : {R C : Type 0} → Deserializer R C → ℕ
+limit_of d = d.room
+
+abbrev pub kept_of : {R C : Type 0} → Deserializer R C → Kept
+kept_of d = d.kept
+
+-- what was kept back, and then what the source has ahead, where that is told
+abbrev pub left : {R C : Type 0} → Ghosts R → Deserializer R C → Option (List ℕ)
+left g d = prepend_known (kept_bytes d.kept) (g.ahead d.reader)
+
+-- how many faults the source had
+abbrev pub faults_of : {R C : Type 0} → Ghosts R → Deserializer R C → ℕ
+faults_of g d = g.faults d.reader
+
+-- a message may be read that nests below this
+abbrev pub room_of : {R C : Type 0} → Deserializer R C → ℕ
+room_of d = max 1 d.room
+
+-- the settings, the room and the source's own place stay
+pub record Stays {R C : Type 0} (g : Ghosts R) (old new : Deserializer R C) : Type 0 where
+  pub config : new.config ≡ old.config
+  pub room : new.room ≡ old.room
+  pub place : g.place new.reader ≡ g.place old.reader
+
+-- the same, failed for good
+abbrev pub failed_of : {R C : Type 0} → Deserializer R C → Deserializer R C
+failed_of d = record d { failed = true }

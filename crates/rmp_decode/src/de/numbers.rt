@@ -1,0 +1,432 @@
+//! Truths, numbers, the bits of floats, and nil.
+ghost use Rattle.std.specs.Prelude.{◌≡◌, None, pos, negsuc};
+ghost use Rattle.rmp_wire.specs.Msg.{Msg};
+ghost use Rattle.rmp_decode.specs.Law.{Lawful};
+ghost use Rattle.rmp_decode.specs.Read.{IsUnsigned, IsSigned};
+
+use crate::de::kinds::{f32_bits_in, f64_bits_in, nil_in, other_kind, truth_in, whole_in};
+use crate::de::{Deserialize, Deserializer};
+use crate::error::Error;
+use crate::text::Text;
+use rmp_wire::config::SerializerConfig;
+use rmp_wire::{F32Bits, F64Bits, ReadSlice, Source};
+
+impl<R: Source, C: SerializerConfig> Deserializer<R, C> {
+    /// Reads a truth.
+    #[inline(always)]
+    pub fn deserialize_bool(&mut self) -> Result<bool, Error>
+        ensures { Lawful R.Source (λ m t. m ≡ Msg.truth t) self.old self.new result }
+    {
+        match self.head() {
+            Ok((marker, head)) => match truth_in(head) {
+                Some(t) => {
+                    self.failed = false;
+                    Ok(t)
+                }
+                None => Err(other_kind(marker, head)),
+            },
+            Err(e) => Err(e),
+        }
+    }
+
+    /// Reads the bits of a float of 32 bits.
+    #[inline(always)]
+    pub fn deserialize_f32_bits(&mut self) -> Result<u32, Error>
+        ensures { Lawful R.Source (λ m n. m ≡ Msg.float32 n) self.old self.new result }
+    {
+        match self.head() {
+            Ok((marker, head)) => match f32_bits_in(head) {
+                Some(bits) => {
+                    self.failed = false;
+                    Ok(bits)
+                }
+                None => Err(other_kind(marker, head)),
+            },
+            Err(e) => Err(e),
+        }
+    }
+
+    /// Reads the bits of a float of 64 bits.
+    #[inline(always)]
+    pub fn deserialize_f64_bits(&mut self) -> Result<u64, Error>
+        ensures { Lawful R.Source (λ m n. m ≡ Msg.float64 n) self.old self.new result }
+    {
+        match self.head() {
+            Ok((marker, head)) => match f64_bits_in(head) {
+                Some(bits) => {
+                    self.failed = false;
+                    Ok(bits)
+                }
+                None => Err(other_kind(marker, head)),
+            },
+            Err(e) => Err(e),
+        }
+    }
+
+    /// Reads nil.
+    #[inline(always)]
+    pub fn deserialize_unit(&mut self) -> Result<(), Error>
+        ensures { Lawful R.Source (λ m _. m ≡ Msg.nil) self.old self.new result }
+    {
+        match self.head() {
+            Ok((_, head)) => match nil_in(head) {
+                Some(()) => {
+                    self.failed = false;
+                    Ok(())
+                }
+                None => Err(Error::Syntax(Text::InvalidType)),
+            },
+            Err(e) => Err(e),
+        }
+    }
+
+    // A number without a sign, of any width, up to `most`.
+    #[inline(always)]
+    fn unsigned(&mut self, most: u64) -> Result<u64, Error>
+        ensures { Lawful R.Source (IsUnsigned most) self.old self.new result }
+    {
+        match self.head() {
+            Ok((marker, head)) => match whole_in(head) {
+                Some(z) => {
+                    if z < 0 || z > i128::from(most) {
+                        return Err(Error::Syntax(Text::InvalidValue));
+                    }
+                    self.failed = false;
+                    Ok(z as u64)
+                }
+                None => Err(other_kind(marker, head)),
+            },
+            Err(e) => Err(e),
+        }
+    }
+
+    // A number of any width between two others.
+    #[inline(always)]
+    fn signed(&mut self, least: i64, most: i64) -> Result<i64, Error>
+        ensures { Lawful R.Source (IsSigned least most) self.old self.new result }
+    {
+        match self.head() {
+            Ok((marker, head)) => match whole_in(head) {
+                Some(z) => {
+                    if z < i128::from(least) || z > i128::from(most) {
+                        return Err(Error::Syntax(Text::InvalidValue));
+                    }
+                    self.failed = false;
+                    Ok(z as i64)
+                }
+                None => Err(other_kind(marker, head)),
+            },
+            Err(e) => Err(e),
+        }
+    }
+
+    /// Reads a number from 0 to 255, of any width and with or without a sign.
+    #[inline(always)]
+    pub fn deserialize_u8(&mut self) -> Result<u8, Error>
+        ensures { Lawful R.Source (IsUnsigned 255) self.old self.new result }
+    {
+        match self.unsigned(255) {
+            Ok(n) => Ok(n as u8),
+            Err(e) => Err(e),
+        }
+    }
+
+    /// Reads a number from 0 to 65535, of any width and with or without a sign.
+    #[inline(always)]
+    pub fn deserialize_u16(&mut self) -> Result<u16, Error>
+        ensures { Lawful R.Source (IsUnsigned 65535) self.old self.new result }
+    {
+        match self.unsigned(65535) {
+            Ok(n) => Ok(n as u16),
+            Err(e) => Err(e),
+        }
+    }
+
+    /// Reads a number from 0 to 4294967295, of any width and with or without a sign.
+    #[inline(always)]
+    pub fn deserialize_u32(&mut self) -> Result<u32, Error>
+        ensures { Lawful R.Source (IsUnsigned 4294967295) self.old self.new result }
+    {
+        match self.unsigned(4294967295) {
+            Ok(n) => Ok(n as u32),
+            Err(e) => Err(e),
+        }
+    }
+
+    /// Reads a number from 0 to 18446744073709551615, of any width and with or without a sign.
+    #[inline(always)]
+    pub fn deserialize_u64(&mut self) -> Result<u64, Error>
+        ensures { Lawful R.Source (IsUnsigned 18446744073709551615) self.old self.new result }
+    {
+        match self.unsigned(18446744073709551615) {
+            Ok(n) => Ok(n),
+            Err(e) => Err(e),
+        }
+    }
+
+    /// Reads a number from -128 to 127, of any width and with or without a sign.
+    #[inline(always)]
+    pub fn deserialize_i8(&mut self) -> Result<i8, Error>
+        ensures { Lawful R.Source (IsSigned (negsuc 127) (pos 127)) self.old self.new result }
+    {
+        match self.signed(i8::MIN as i64, i8::MAX as i64) {
+            Ok(z) => Ok(z as i8),
+            Err(e) => Err(e),
+        }
+    }
+
+    /// Reads a number from -32768 to 32767, of any width and with or without a sign.
+    #[inline(always)]
+    pub fn deserialize_i16(&mut self) -> Result<i16, Error>
+        ensures { Lawful R.Source (IsSigned (negsuc 32767) (pos 32767)) self.old self.new result }
+    {
+        match self.signed(i16::MIN as i64, i16::MAX as i64) {
+            Ok(z) => Ok(z as i16),
+            Err(e) => Err(e),
+        }
+    }
+
+    /// Reads a number from -2147483648 to 2147483647, of any width and with or without a sign.
+    #[inline(always)]
+    pub fn deserialize_i32(&mut self) -> Result<i32, Error>
+        ensures { Lawful R.Source (IsSigned (negsuc 2147483647) (pos 2147483647)) self.old self.new result }
+    {
+        match self.signed(i32::MIN as i64, i32::MAX as i64) {
+            Ok(z) => Ok(z as i32),
+            Err(e) => Err(e),
+        }
+    }
+
+    /// Reads a number from -9223372036854775808 to 9223372036854775807, of any width and with or without a sign.
+    #[inline(always)]
+    pub fn deserialize_i64(&mut self) -> Result<i64, Error>
+        ensures { Lawful R.Source (IsSigned (negsuc 9223372036854775807) (pos 9223372036854775807)) self.old self.new result }
+    {
+        match self.signed(i64::MIN, i64::MAX) {
+            Ok(z) => Ok(z),
+            Err(e) => Err(e),
+        }
+    }
+}
+
+impl<'de, R: ReadSlice<'de>> Deserialize<'de, R> for bool {
+    ghost reads = { λ human lends m t. m ≡ Msg.truth t };
+
+    ghost absent = { None };
+
+    #[inline(always)]
+    fn deserialize<C: SerializerConfig>(de: &mut Deserializer<R, C>) -> Result<bool, Error> {
+        de.deserialize_bool()
+    }
+
+    fn missing() -> Option<bool> {
+        None
+    }
+}
+
+impl<'de, R: ReadSlice<'de>> Deserialize<'de, R> for u8 {
+    ghost reads = { λ human lends. IsUnsigned 255 };
+
+    ghost absent = { None };
+
+    #[inline(always)]
+    fn deserialize<C: SerializerConfig>(de: &mut Deserializer<R, C>) -> Result<u8, Error> {
+        de.deserialize_u8()
+    }
+
+    fn missing() -> Option<u8> {
+        None
+    }
+}
+
+impl<'de, R: ReadSlice<'de>> Deserialize<'de, R> for u16 {
+    ghost reads = { λ human lends. IsUnsigned 65535 };
+
+    ghost absent = { None };
+
+    #[inline(always)]
+    fn deserialize<C: SerializerConfig>(de: &mut Deserializer<R, C>) -> Result<u16, Error> {
+        de.deserialize_u16()
+    }
+
+    fn missing() -> Option<u16> {
+        None
+    }
+}
+
+impl<'de, R: ReadSlice<'de>> Deserialize<'de, R> for u32 {
+    ghost reads = { λ human lends. IsUnsigned 4294967295 };
+
+    ghost absent = { None };
+
+    #[inline(always)]
+    fn deserialize<C: SerializerConfig>(de: &mut Deserializer<R, C>) -> Result<u32, Error> {
+        de.deserialize_u32()
+    }
+
+    fn missing() -> Option<u32> {
+        None
+    }
+}
+
+impl<'de, R: ReadSlice<'de>> Deserialize<'de, R> for u64 {
+    ghost reads = { λ human lends. IsUnsigned 18446744073709551615 };
+
+    ghost absent = { None };
+
+    #[inline(always)]
+    fn deserialize<C: SerializerConfig>(de: &mut Deserializer<R, C>) -> Result<u64, Error> {
+        de.deserialize_u64()
+    }
+
+    fn missing() -> Option<u64> {
+        None
+    }
+}
+
+impl<'de, R: ReadSlice<'de>> Deserialize<'de, R> for i8 {
+    ghost reads = { λ human lends. IsSigned (negsuc 127) (pos 127) };
+
+    ghost absent = { None };
+
+    #[inline(always)]
+    fn deserialize<C: SerializerConfig>(de: &mut Deserializer<R, C>) -> Result<i8, Error> {
+        de.deserialize_i8()
+    }
+
+    fn missing() -> Option<i8> {
+        None
+    }
+}
+
+impl<'de, R: ReadSlice<'de>> Deserialize<'de, R> for i16 {
+    ghost reads = { λ human lends. IsSigned (negsuc 32767) (pos 32767) };
+
+    ghost absent = { None };
+
+    #[inline(always)]
+    fn deserialize<C: SerializerConfig>(de: &mut Deserializer<R, C>) -> Result<i16, Error> {
+        de.deserialize_i16()
+    }
+
+    fn missing() -> Option<i16> {
+        None
+    }
+}
+
+impl<'de, R: ReadSlice<'de>> Deserialize<'de, R> for i32 {
+    ghost reads = { λ human lends. IsSigned (negsuc 2147483647) (pos 2147483647) };
+
+    ghost absent = { None };
+
+    #[inline(always)]
+    fn deserialize<C: SerializerConfig>(de: &mut Deserializer<R, C>) -> Result<i32, Error> {
+        de.deserialize_i32()
+    }
+
+    fn missing() -> Option<i32> {
+        None
+    }
+}
+
+impl<'de, R: ReadSlice<'de>> Deserialize<'de, R> for i64 {
+    ghost reads = { λ human lends. IsSigned (negsuc 9223372036854775807) (pos 9223372036854775807) };
+
+    ghost absent = { None };
+
+    #[inline(always)]
+    fn deserialize<C: SerializerConfig>(de: &mut Deserializer<R, C>) -> Result<i64, Error> {
+        de.deserialize_i64()
+    }
+
+    fn missing() -> Option<i64> {
+        None
+    }
+}
+
+impl<'de, R: ReadSlice<'de>> Deserialize<'de, R> for usize {
+    ghost reads = { λ human lends. IsUnsigned 18446744073709551615 };
+
+    ghost absent = { None };
+
+    #[inline(always)]
+    fn deserialize<C: SerializerConfig>(de: &mut Deserializer<R, C>) -> Result<usize, Error> {
+        match de.deserialize_u64() {
+            Ok(n) => Ok(n as usize),
+            Err(e) => Err(e),
+        }
+    }
+
+    fn missing() -> Option<usize> {
+        None
+    }
+}
+
+impl<'de, R: ReadSlice<'de>> Deserialize<'de, R> for isize {
+    ghost reads = { λ human lends. IsSigned (negsuc 9223372036854775807) (pos 9223372036854775807) };
+
+    ghost absent = { None };
+
+    #[inline(always)]
+    fn deserialize<C: SerializerConfig>(de: &mut Deserializer<R, C>) -> Result<isize, Error> {
+        match de.deserialize_i64() {
+            Ok(z) => Ok(z as isize),
+            Err(e) => Err(e),
+        }
+    }
+
+    fn missing() -> Option<isize> {
+        None
+    }
+}
+
+impl<'de, R: ReadSlice<'de>> Deserialize<'de, R> for F32Bits {
+    ghost reads = { λ human lends m v. m ≡ Msg.float32 v.0 };
+
+    ghost absent = { None };
+
+    #[inline(always)]
+    fn deserialize<C: SerializerConfig>(de: &mut Deserializer<R, C>) -> Result<F32Bits, Error> {
+        match de.deserialize_f32_bits() {
+            Ok(bits) => Ok(F32Bits(bits)),
+            Err(e) => Err(e),
+        }
+    }
+
+    fn missing() -> Option<F32Bits> {
+        None
+    }
+}
+
+impl<'de, R: ReadSlice<'de>> Deserialize<'de, R> for F64Bits {
+    ghost reads = { λ human lends m v. m ≡ Msg.float64 v.0 };
+
+    ghost absent = { None };
+
+    #[inline(always)]
+    fn deserialize<C: SerializerConfig>(de: &mut Deserializer<R, C>) -> Result<F64Bits, Error> {
+        match de.deserialize_f64_bits() {
+            Ok(bits) => Ok(F64Bits(bits)),
+            Err(e) => Err(e),
+        }
+    }
+
+    fn missing() -> Option<F64Bits> {
+        None
+    }
+}
+
+impl<'de, R: ReadSlice<'de>> Deserialize<'de, R> for () {
+    ghost reads = { λ human lends m _. m ≡ Msg.nil };
+
+    ghost absent = { None };
+
+    #[inline(always)]
+    fn deserialize<C: SerializerConfig>(de: &mut Deserializer<R, C>) -> Result<(), Error> {
+        de.deserialize_unit()
+    }
+
+    fn missing() -> Option<()> {
+        None
+    }
+}

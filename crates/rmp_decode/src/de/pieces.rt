@@ -1,0 +1,95 @@
+//! Pieces of the input: lent, copied, or looked at in place.
+ghost use Rattle.std.specs.Prelude.{◌≡◌, ◌≢◌, ◌++◌, ℕ, List, true, false, IfSome, IfOk, IfErr, OnOk, MatchOption, length, encode_utf8};
+ghost use Rattle.std.specs.Char.{IsScalar};
+ghost use Rattle.std.specs.Io.KnownBytes.{Consumes};
+ghost use Rattle.rmp_wire.specs.Sources.{IsShort};
+ghost use Rattle.rmp_wire.specs.Spelling.{IsBytes};
+ghost use Rattle.rmp_decode.specs.Law.{Explains};
+ghost use Rattle.rmp_decode.specs.Pieces.{StartsWithNoChar};
+
+use crate::error::Error;
+use crate::text::Text;
+use rmp_wire::{IoFault, ReadSlice, Reference, SourceFault};
+use std::alloc::Global;
+use std::str;
+
+// The error of a source's fault after a message's first byte.
+#[inline(always)]
+fn error_of(fault: SourceFault) -> Error
+    ensures { Rattle.rmp_decode.specs.Pieces.Blamed fault result }
+{
+    match fault {
+        SourceFault::Io(e) => Error::InvalidDataRead(IoFault::from(e)),
+        SourceFault::Memory => Error::OutOfMemory,
+    }
+}
+
+// The next bytes, lent for the input's whole life where the source lends.
+#[inline(always)]
+pub(crate) fn lent<'de, R: ReadSlice<'de>>(
+    reader: &mut R,
+    len: usize,
+) -> Result<Option<&'de [u8]>, Error>
+    ensures ok { IfOk result (λ o. MatchOption o (R.lends ≡ false)
+        (λ s. (R.lends ≡ true) × (length s.now ≡ len) × IsBytes s.now × Consumes (R.ahead reader.old) (R.ahead reader.new) s.now)) }
+    ensures sound { OnOk result (R.faults reader.new ≡ R.faults reader.old) }
+    ensures err { IfErr result (λ e. Explains e (R.faults reader.old) (R.faults reader.new) (IsShort len (R.ahead reader.old))) }
+    ensures place { R.place reader.new ≡ R.place reader.old }
+{
+    match reader.read_slice(len) {
+        Ok(Reference::Borrowed(s)) => Ok(Some(s)),
+        Ok(Reference::Copied(_)) => Ok(None),
+        Err(e) => Err(error_of(e)),
+    }
+}
+
+// The next bytes, in a vector.
+pub(crate) fn owned<'de, R: ReadSlice<'de>>(
+    alloc: Global,
+    reader: &mut R,
+    len: usize,
+) -> Result<Vec<u8>, Error>
+    ensures ok { IfOk result (λ v. (length v.items ≡ len) × IsBytes v.items × Consumes (R.ahead reader.old) (R.ahead reader.new) v.items) }
+    ensures sound { OnOk result (R.faults reader.new ≡ R.faults reader.old) }
+    ensures err { IfErr result (λ e. Explains e (R.faults reader.old) (R.faults reader.new) (IsShort len (R.ahead reader.old))) }
+    ensures place { R.place reader.new ≡ R.place reader.old }
+{
+    let mut v = Vec::new(alloc);
+    match reader.read_slice(len) {
+        Ok(r) => match v.extend_from_slice(r.as_bytes()) {
+            Ok(()) => Ok(v),
+            Err(_) => Err(Error::OutOfMemory),
+        },
+        Err(e) => Err(error_of(e)),
+    }
+}
+
+// The one character that bytes are the UTF-8 of.
+fn char_of(bytes: &[u8]) -> Result<char, Error>
+    ensures ok { IfOk result (λ c. IsScalar c × (bytes.now ≡ encode_utf8 c)) }
+    ensures err { IfErr result (λ _. (c : ℕ) → IsScalar c → bytes.now ≢ encode_utf8 c) }
+{
+    match str::from_utf8(bytes) {
+        Ok(text) => match text.parse::<char>() {
+            Ok(c) => Ok(c),
+            Err(_) => Err(Error::Syntax(Text::InvalidValue)),
+        },
+        Err(e) => Err(Error::Utf8Error(e)),
+    }
+}
+
+// The next bytes, as one character.
+pub(crate) fn next_char<'de, R: ReadSlice<'de>>(reader: &mut R, len: usize) -> Result<char, Error>
+    ensures ok { IfOk result (λ c. IsScalar c × (length (encode_utf8 c) ≡ len) × IsBytes (encode_utf8 c) × Consumes (R.ahead reader.old) (R.ahead reader.new) (encode_utf8 c)) }
+    ensures sound { OnOk result (R.faults reader.new ≡ R.faults reader.old) }
+    ensures err { IfErr result (λ e. Explains e (R.faults reader.old) (R.faults reader.new) (StartsWithNoChar len (R.ahead reader.old))) }
+    ensures place { R.place reader.new ≡ R.place reader.old }
+{
+    match reader.read_slice(len) {
+        Ok(r) => match char_of(r.as_bytes()) {
+            Ok(c) => Ok(c),
+            Err(e) => Err(e),
+        },
+        Err(e) => Err(error_of(e)),
+    }
+}

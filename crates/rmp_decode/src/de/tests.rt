@@ -1,0 +1,120 @@
+use crate::{Deserializer, Error, Text, from_slice};
+use rmp_wire::Marker;
+use std::io::ErrorKind;
+
+#[test]
+fn numbers(rt: HostRuntime) {
+    let read: Result<u32, Error> = from_slice(rt.alloc(), &[0xd1, 0x01, 0x2c]);
+    assert!(rt; matches!(&read, Ok(300)));
+    let read: Result<u8, Error> = from_slice(rt.alloc(), &[0xcf, 0, 0, 0, 0, 0, 0, 0, 0x2a]);
+    assert!(rt; matches!(&read, Ok(42)));
+    let read: Result<i8, Error> = from_slice(
+        rt.alloc(),
+        &[0xd3, 0xff, 0xff, 0xff, 0xff, 0xff, 0xff, 0xff, 0x80],
+    );
+    assert!(rt; matches!(&read, Ok(-128)));
+    let read: Result<u32, Error> = from_slice(
+        rt.alloc(),
+        &[0xcf, 0xff, 0xff, 0xff, 0xff, 0xff, 0xff, 0xff, 0xff],
+    );
+    assert!(rt; matches!(&read, Err(Error::Syntax(Text::InvalidValue))));
+    let read: Result<u32, Error> = from_slice(rt.alloc(), &[0xc3]);
+    assert!(rt; matches!(&read, Err(Error::Syntax(Text::InvalidType))));
+    let read: Result<bool, Error> = from_slice(rt.alloc(), &[0xa1, 0x21]);
+    assert!(rt; matches!(&read, Err(Error::TypeMismatch(Marker::FixStr(1)))));
+    let read: Result<char, Error> = from_slice(rt.alloc(), &[0xa1, 0x21]);
+    assert!(rt; matches!(&read, Ok('!')));
+    let read: Result<char, Error> = from_slice(rt.alloc(), &[0xa2, 0x21, 0x21]);
+    assert!(rt; matches!(&read, Err(Error::Syntax(Text::InvalidValue))));
+}
+
+#[test]
+fn a_failed_reader_stays_failed(rt: HostRuntime) {
+    let mut de = Deserializer::from_read_ref(rt.alloc(), &[0xc1, 0x05]);
+    assert!(rt;
+        matches!(
+            &de.deserialize_unit(),
+            Err(Error::TypeMismatch(Marker::Reserved))
+        )
+    );
+    assert!(rt;
+        matches!(
+            &de.deserialize_u8(),
+            Err(Error::Uncategorized(Text::FailedBefore))
+        )
+    );
+    assert_eq!(rt; de.remaining_slice(), [5u8].as_slice());
+}
+
+#[test]
+fn a_pair(rt: HostRuntime) {
+    let input = [
+        0x92, 0x2a, 0xaa, 0x74, 0x68, 0x65, 0x20, 0x41, 0x6e, 0x73, 0x77, 0x65, 0x72,
+    ];
+    let read: Result<(u32, String), Error> = from_slice(rt.alloc(), &input);
+    match read {
+        Ok((n, text)) => {
+            assert_eq!(rt; n, 42);
+            assert_eq!(rt; text.as_str(), "the Answer");
+        }
+        Err(_) => assert!(rt; false),
+    }
+    let read: Result<(u32, &str), Error> = from_slice(rt.alloc(), &input);
+    match read {
+        Ok((_, text)) => assert_eq!(rt; text, "the Answer"),
+        Err(_) => assert!(rt; false),
+    }
+}
+
+#[test]
+fn counts_of_pairs(rt: HostRuntime) {
+    for input in [[0xc4u8, 3, 1, 2, 3].as_slice(), [0x93, 1, 2, 3].as_slice()] {
+        let read: Result<(u8, u8), Error> = from_slice(rt.alloc(), input);
+        assert!(rt; matches!(&read, Err(Error::LengthMismatch(2))));
+    }
+    let read: Result<(u8, u8), Error> = from_slice(rt.alloc(), &[0xc4, 2, 1, 2]);
+    assert!(rt; matches!(&read, Ok((1, 2))));
+    let read: Result<(u8, u8), Error> = from_slice(rt.alloc(), &[0x91, 1]);
+    assert!(rt; matches!(&read, Err(Error::Syntax(Text::InvalidLength))));
+    let read: Result<(u8, u8), Error> = from_slice(rt.alloc(), &[0xc4, 2, 1]);
+    match read {
+        Err(Error::InvalidDataRead(e)) => assert!(rt; e.kind() == ErrorKind::UnexpectedEof),
+        _ => assert!(rt; false),
+    }
+}
+
+#[test]
+fn lists(rt: HostRuntime) {
+    let read: Result<Vec<u16>, Error> = from_slice(rt.alloc(), &[0xc4, 2, 1, 0xc8]);
+    match read {
+        Ok(items) => assert_eq!(rt; items.as_slice(), [1u16, 200].as_slice()),
+        Err(_) => assert!(rt; false),
+    }
+    let read: Result<Vec<u8>, Error> = from_slice(rt.alloc(), &[0xdd, 0xff, 0xff, 0xff, 0xff]);
+    assert!(rt; matches!(&read, Err(Error::InvalidMarkerRead(_))));
+    let read: Result<Vec<Vec<u8>>, Error> = from_slice(rt.alloc(), &[0x92, 0x90, 0xc4, 1, 7]);
+    match read {
+        Ok(rows) => {
+            assert_eq!(rt; rows.len(), 2);
+            assert_eq!(rt; rows[1].as_slice(), [7u8].as_slice());
+        }
+        Err(_) => assert!(rt; false),
+    }
+}
+
+#[test]
+fn bytes(rt: HostRuntime) {
+    let input = [0xc6, 0, 0, 0, 5, 0x61, 0x62];
+    let mut de = Deserializer::from_read_ref(rt.alloc(), &input);
+    assert!(rt; matches!(&de.deserialize_bytes(), Err(Error::InvalidDataRead(_))));
+    assert_eq!(rt; de.remaining_slice(), [0x61u8, 0x62].as_slice());
+    let read: Result<&[u8], Error> = from_slice(rt.alloc(), &[0xa2, 0xff, 0xfe]);
+    match read {
+        Ok(bytes) => assert_eq!(rt; bytes, [0xffu8, 0xfe].as_slice()),
+        Err(_) => assert!(rt; false),
+    }
+    let read: Result<String, Error> = from_slice(rt.alloc(), &[0xa1, 0xff]);
+    assert!(rt; matches!(&read, Err(Error::Utf8Error(_))));
+    let read: Result<String, Error> = from_slice(rt.alloc(), &[0xc4, 1, 0xff]);
+    assert!(rt; matches!(&read, Err(Error::Syntax(Text::InvalidValue))));
+}

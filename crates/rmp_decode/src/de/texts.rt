@@ -1,0 +1,229 @@
+//! Texts, characters and bytes.
+ghost use Rattle.std.specs.Prelude.{◌≡◌, true, None};
+ghost use Rattle.std.specs.String.{string_bytes};
+ghost use Rattle.rmp_decode.specs.Law.{Lawful};
+ghost use Rattle.rmp_decode.specs.Kinds.{raw_msg};
+ghost use Rattle.rmp_decode.specs.Read.{IsRaw, IsString, IsChar};
+
+use crate::de::kinds::{raw_in, text_in};
+use crate::de::pieces::{lent, next_char, owned};
+use crate::de::{Deserialize, Deserializer};
+use crate::error::Error;
+use crate::text::Text;
+use rmp_wire::config::SerializerConfig;
+use rmp_wire::{Bytes, ReadSlice, Source};
+use std::str;
+use std::str::Utf8Error;
+
+// The refusal of bytes that aren't UTF-8.
+fn not_utf8(is_text: bool, e: Utf8Error) -> Error {
+    if is_text {
+        Error::Utf8Error(e)
+    } else {
+        Error::Syntax(Text::InvalidValue)
+    }
+}
+
+impl<R: Source, C: SerializerConfig> Deserializer<R, C> {
+    // The bytes of a text or of bytes, lent, and whether they are a text's.
+    #[inline(always)]
+    fn lent_raw<'de>(&mut self) -> Result<(bool, &'de [u8]), Error>
+    where
+        R: ReadSlice<'de>,
+        ensures { Lawful R.Source (λ m p. (R.lends ≡ true) × (m ≡ raw_msg p.0 p.1.now)) self.old self.new result }
+    {
+        match self.head() {
+            Ok((_, head)) => match raw_in(head) {
+                Some((is_text, len)) => match lent(&mut self.reader, len as usize) {
+                    Ok(Some(bytes)) => {
+                        self.failed = false;
+                        Ok((is_text, bytes))
+                    }
+                    Ok(None) => Err(Error::Syntax(Text::InvalidType)),
+                    Err(e) => Err(e),
+                },
+                None => Err(Error::Syntax(Text::InvalidType)),
+            },
+            Err(e) => Err(e),
+        }
+    }
+
+    // The bytes of a text or of bytes, in a vector, and whether they are a text's.
+    fn owned_raw<'de>(&mut self) -> Result<(bool, Vec<u8>), Error>
+    where
+        R: ReadSlice<'de>,
+        ensures { Lawful R.Source (λ m p. m ≡ raw_msg p.0 p.1.items) self.old self.new result }
+    {
+        match self.head() {
+            Ok((_, head)) => match raw_in(head) {
+                Some((is_text, len)) => match owned(self.alloc, &mut self.reader, len as usize) {
+                    Ok(bytes) => {
+                        self.failed = false;
+                        Ok((is_text, bytes))
+                    }
+                    Err(e) => Err(e),
+                },
+                None => Err(Error::Syntax(Text::InvalidType)),
+            },
+            Err(e) => Err(e),
+        }
+    }
+
+    /// Reads a text of one character.
+    ///
+    /// # Errors
+    /// `Utf8Error` for a text that isn't UTF-8, and `Syntax("invalid value")` for one of another count of characters.
+    pub fn deserialize_char<'de>(&mut self) -> Result<char, Error>
+    where
+        R: ReadSlice<'de>,
+        ensures { Lawful R.Source IsChar self.old self.new result }
+    {
+        match self.head() {
+            Ok((_, head)) => match text_in(head) {
+                Some(len) => match next_char(&mut self.reader, len as usize) {
+                    Ok(c) => {
+                        self.failed = false;
+                        Ok(c)
+                    }
+                    Err(e) => Err(e),
+                },
+                None => Err(Error::Syntax(Text::InvalidType)),
+            },
+            Err(e) => Err(e),
+        }
+    }
+
+    /// Reads the bytes of a text, which may be no UTF-8, or of bytes, and lends them for the input's whole life.
+    ///
+    /// # Errors
+    /// `Syntax("invalid type")` where the source doesn't lend.
+    #[inline(always)]
+    pub fn deserialize_bytes<'de>(&mut self) -> Result<&'de [u8], Error>
+    where
+        R: ReadSlice<'de>,
+        ensures { Lawful R.Source (λ m s. (R.lends ≡ true) × IsRaw m s.now) self.old self.new result }
+    {
+        match self.lent_raw() {
+            Ok((_, bytes)) => Ok(bytes),
+            Err(e) => Err(e),
+        }
+    }
+
+    /// Reads a text, or bytes that are UTF-8, and lends it for the input's whole life.
+    ///
+    /// # Errors
+    /// `Syntax("invalid type")` where the source doesn't lend; `Utf8Error` for a text that isn't UTF-8, and
+    /// `Syntax("invalid value")` for bytes that aren't.
+    #[inline(always)]
+    pub fn deserialize_str<'de>(&mut self) -> Result<&'de str, Error>
+    where
+        R: ReadSlice<'de>,
+        ensures { Lawful R.Source (λ m s. (R.lends ≡ true) × IsString m s.now) self.old self.new result }
+    {
+        match self.lent_raw() {
+            Ok((is_text, bytes)) => match str::from_utf8(bytes) {
+                Ok(s) => Ok(s),
+                Err(e) => Err(self.refuse(not_utf8(is_text, e))),
+            },
+            Err(e) => Err(e),
+        }
+    }
+
+    /// Reads a text, or bytes that are UTF-8.
+    ///
+    /// # Errors
+    /// `Utf8Error` for a text that isn't UTF-8, and `Syntax("invalid value")` for bytes that aren't.
+    pub fn deserialize_string<'de>(&mut self) -> Result<String, Error>
+    where
+        R: ReadSlice<'de>,
+        ensures { Lawful R.Source (λ m s. IsRaw m (string_bytes s)) self.old self.new result }
+    {
+        match self.owned_raw() {
+            Ok((is_text, bytes)) => match String::from_utf8(bytes) {
+                Ok(s) => Ok(s),
+                Err(e) => Err(self.refuse(not_utf8(is_text, e.utf8_error()))),
+            },
+            Err(e) => Err(e),
+        }
+    }
+}
+
+impl<'de, R: ReadSlice<'de>> Deserialize<'de, R> for char {
+    ghost reads = { λ human lends. IsChar };
+
+    ghost absent = { None };
+
+    #[inline(always)]
+    fn deserialize<C: SerializerConfig>(de: &mut Deserializer<R, C>) -> Result<char, Error> {
+        de.deserialize_char()
+    }
+
+    fn missing() -> Option<char> {
+        None
+    }
+}
+
+impl<'de, R: ReadSlice<'de>> Deserialize<'de, R> for String {
+    ghost reads = { λ human lends m s. IsRaw m (string_bytes s) };
+
+    ghost absent = { None };
+
+    #[inline(always)]
+    fn deserialize<C: SerializerConfig>(de: &mut Deserializer<R, C>) -> Result<String, Error> {
+        de.deserialize_string()
+    }
+
+    fn missing() -> Option<String> {
+        None
+    }
+}
+
+impl<'de, R: ReadSlice<'de>> Deserialize<'de, R> for &'de str {
+    ghost reads = { λ human lends m s. (lends ≡ true) × IsString m s.now };
+
+    ghost absent = { None };
+
+    #[inline(always)]
+    fn deserialize<C: SerializerConfig>(de: &mut Deserializer<R, C>) -> Result<&'de str, Error> {
+        de.deserialize_str()
+    }
+
+    fn missing() -> Option<&'de str> {
+        None
+    }
+}
+
+impl<'de, R: ReadSlice<'de>> Deserialize<'de, R> for &'de [u8] {
+    ghost reads = { λ human lends m s. (lends ≡ true) × IsRaw m s.now };
+
+    ghost absent = { None };
+
+    #[inline(always)]
+    fn deserialize<C: SerializerConfig>(de: &mut Deserializer<R, C>) -> Result<&'de [u8], Error> {
+        de.deserialize_bytes()
+    }
+
+    fn missing() -> Option<&'de [u8]> {
+        None
+    }
+}
+
+impl<'de, R: ReadSlice<'de>> Deserialize<'de, R> for Bytes<'de> {
+    ghost use Rattle.rmp_wire.specs.Types.{bytes_of};
+
+    ghost reads = { λ human lends m s. (lends ≡ true) × IsRaw m (bytes_of s) };
+
+    ghost absent = { None };
+
+    #[inline(always)]
+    fn deserialize<C: SerializerConfig>(de: &mut Deserializer<R, C>) -> Result<Bytes<'de>, Error> {
+        match de.deserialize_bytes() {
+            Ok(bytes) => Ok(Bytes::new(bytes)),
+            Err(e) => Err(e),
+        }
+    }
+
+    fn missing() -> Option<Bytes<'de>> {
+        None
+    }
+}

@@ -1,0 +1,353 @@
+//! Tuples, from lists of as many elements, or bytes of as many.
+ghost use Rattle.std.specs.Prelude.{◌≡◌, None, IfOk, IfErr};
+ghost use Rattle.rmp_decode.specs.Rows.{AndThen, NoMore};
+ghost use Rattle.rmp_decode.specs.Seq.{OfRow, IsOpen, TakesParts, FailsParts, lender_of};
+ghost use Rattle.rmp_decode.specs.State.{config_of};
+
+use crate::de::seq::SeqAccess;
+use crate::de::{Deserialize, Deserializer};
+use crate::error::Error;
+use rmp_wire::config::SerializerConfig;
+use rmp_wire::{ReadSlice, Source};
+
+impl<'x, R: Source, C: SerializerConfig> SeqAccess<'x, R, C> {
+    // Reads the 2 elements of a tuple.
+    #[inline(always)]
+    fn parts_2<'de, A: Deserialize<'de, R>, B: Deserialize<'de, R>>(
+        &mut self,
+    ) -> Result<(A, B), Error>
+    where
+        R: ReadSlice<'de>,
+        requires { IsOpen self.old }
+        ensures same_reference { self.new.de.ghost_name ≡ self.old.de.ghost_name }
+        ensures ok { IfOk result (TakesParts R.Source (λ v ms. AndThen (λ k. A.reads (C.human (config_of (lender_of self.old))) R.lends k v.0) (AndThen (λ k. B.reads (C.human (config_of (lender_of self.old))) R.lends k v.1) NoMore) ms) self.old self.new) }
+        ensures err { IfErr result (FailsParts {V = A × B} R.Source (λ v ms. AndThen (λ k. A.reads (C.human (config_of (lender_of self.old))) R.lends k v.0) (AndThen (λ k. B.reads (C.human (config_of (lender_of self.old))) R.lends k v.1) NoMore) ms) self.old self.new) }
+    {
+        let a = match self.element() {
+            Ok(a) => a,
+            Err(e) => return Err(e),
+        };
+        let b = match self.element() {
+            Ok(b) => b,
+            Err(e) => return Err(e),
+        };
+        Ok((a, b))
+    }
+}
+
+impl<'de, R: ReadSlice<'de>, A: Deserialize<'de, R>, B: Deserialize<'de, R>> Deserialize<'de, R>
+    for (A, B) {
+    ghost reads = { λ human lends m v. OfRow (AndThen (λ k. A.reads human lends k v.0) (AndThen (λ k. B.reads human lends k v.1) NoMore)) m };
+
+    ghost absent = { None };
+
+    fn deserialize<C: SerializerConfig>(de: &mut Deserializer<R, C>) -> Result<(A, B), Error> {
+        let mut seq = match de.deserialize_seq() {
+            Ok(seq) => seq,
+            Err(e) => return Err(e),
+        };
+        let parts = match seq.parts_2() {
+            Ok(parts) => parts,
+            Err(e) => return Err(e),
+        };
+        match seq.end() {
+            Ok(()) => Ok(parts),
+            Err(e) => Err(e),
+        }
+    }
+
+    fn missing() -> Option<(A, B)> {
+        None
+    }
+}
+
+impl<'x, R: Source, C: SerializerConfig> SeqAccess<'x, R, C> {
+    // Reads the 3 elements of a tuple.
+    #[inline(always)]
+    fn parts_3<'de, A: Deserialize<'de, R>, B: Deserialize<'de, R>, D: Deserialize<'de, R>>(
+        &mut self,
+    ) -> Result<(A, B, D), Error>
+    where
+        R: ReadSlice<'de>,
+        requires { IsOpen self.old }
+        ensures same_reference { self.new.de.ghost_name ≡ self.old.de.ghost_name }
+        ensures ok { IfOk result (TakesParts R.Source (λ v ms. AndThen (λ k. A.reads (C.human (config_of (lender_of self.old))) R.lends k v.0) (AndThen (λ k. B.reads (C.human (config_of (lender_of self.old))) R.lends k v.1) (AndThen (λ k. D.reads (C.human (config_of (lender_of self.old))) R.lends k v.2) NoMore)) ms) self.old self.new) }
+        ensures err { IfErr result (FailsParts {V = A × B × D} R.Source (λ v ms. AndThen (λ k. A.reads (C.human (config_of (lender_of self.old))) R.lends k v.0) (AndThen (λ k. B.reads (C.human (config_of (lender_of self.old))) R.lends k v.1) (AndThen (λ k. D.reads (C.human (config_of (lender_of self.old))) R.lends k v.2) NoMore)) ms) self.old self.new) }
+    {
+        let a = match self.element() {
+            Ok(a) => a,
+            Err(e) => return Err(e),
+        };
+        let b = match self.element() {
+            Ok(b) => b,
+            Err(e) => return Err(e),
+        };
+        let d = match self.element() {
+            Ok(d) => d,
+            Err(e) => return Err(e),
+        };
+        Ok((a, b, d))
+    }
+}
+
+impl<
+    'de,
+    R: ReadSlice<'de>,
+    A: Deserialize<'de, R>,
+    B: Deserialize<'de, R>,
+    D: Deserialize<'de, R>,
+> Deserialize<'de, R> for (A, B, D) {
+    ghost reads = { λ human lends m v. OfRow (AndThen (λ k. A.reads human lends k v.0) (AndThen (λ k. B.reads human lends k v.1) (AndThen (λ k. D.reads human lends k v.2) NoMore))) m };
+
+    ghost absent = { None };
+
+    fn deserialize<C: SerializerConfig>(de: &mut Deserializer<R, C>) -> Result<(A, B, D), Error> {
+        let mut seq = match de.deserialize_seq() {
+            Ok(seq) => seq,
+            Err(e) => return Err(e),
+        };
+        let parts = match seq.parts_3() {
+            Ok(parts) => parts,
+            Err(e) => return Err(e),
+        };
+        match seq.end() {
+            Ok(()) => Ok(parts),
+            Err(e) => Err(e),
+        }
+    }
+
+    fn missing() -> Option<(A, B, D)> {
+        None
+    }
+}
+
+impl<'x, R: Source, C: SerializerConfig> SeqAccess<'x, R, C> {
+    // Reads the 4 elements of a tuple.
+    #[inline(always)]
+    fn parts_4<
+        'de,
+        A: Deserialize<'de, R>,
+        B: Deserialize<'de, R>,
+        D: Deserialize<'de, R>,
+        E: Deserialize<'de, R>,
+    >(&mut self) -> Result<(A, B, D, E), Error>
+    where
+        R: ReadSlice<'de>,
+        requires { IsOpen self.old }
+        ensures same_reference { self.new.de.ghost_name ≡ self.old.de.ghost_name }
+        ensures ok { IfOk result (TakesParts R.Source (λ v ms. AndThen (λ k. A.reads (C.human (config_of (lender_of self.old))) R.lends k v.0) (AndThen (λ k. B.reads (C.human (config_of (lender_of self.old))) R.lends k v.1) (AndThen (λ k. D.reads (C.human (config_of (lender_of self.old))) R.lends k v.2) (AndThen (λ k. E.reads (C.human (config_of (lender_of self.old))) R.lends k v.3) NoMore))) ms) self.old self.new) }
+        ensures err { IfErr result (FailsParts {V = A × B × D × E} R.Source (λ v ms. AndThen (λ k. A.reads (C.human (config_of (lender_of self.old))) R.lends k v.0) (AndThen (λ k. B.reads (C.human (config_of (lender_of self.old))) R.lends k v.1) (AndThen (λ k. D.reads (C.human (config_of (lender_of self.old))) R.lends k v.2) (AndThen (λ k. E.reads (C.human (config_of (lender_of self.old))) R.lends k v.3) NoMore))) ms) self.old self.new) }
+    {
+        let a = match self.element() {
+            Ok(a) => a,
+            Err(e) => return Err(e),
+        };
+        let b = match self.element() {
+            Ok(b) => b,
+            Err(e) => return Err(e),
+        };
+        let d = match self.element() {
+            Ok(d) => d,
+            Err(e) => return Err(e),
+        };
+        let e = match self.element() {
+            Ok(e) => e,
+            Err(e) => return Err(e),
+        };
+        Ok((a, b, d, e))
+    }
+}
+
+impl<
+    'de,
+    R: ReadSlice<'de>,
+    A: Deserialize<'de, R>,
+    B: Deserialize<'de, R>,
+    D: Deserialize<'de, R>,
+    E: Deserialize<'de, R>,
+> Deserialize<'de, R> for (A, B, D, E) {
+    ghost reads = { λ human lends m v. OfRow (AndThen (λ k. A.reads human lends k v.0) (AndThen (λ k. B.reads human lends k v.1) (AndThen (λ k. D.reads human lends k v.2) (AndThen (λ k. E.reads human lends k v.3) NoMore)))) m };
+
+    ghost absent = { None };
+
+    fn deserialize<C: SerializerConfig>(
+        de: &mut Deserializer<R, C>,
+    ) -> Result<(A, B, D, E), Error> {
+        let mut seq = match de.deserialize_seq() {
+            Ok(seq) => seq,
+            Err(e) => return Err(e),
+        };
+        let parts = match seq.parts_4() {
+            Ok(parts) => parts,
+            Err(e) => return Err(e),
+        };
+        match seq.end() {
+            Ok(()) => Ok(parts),
+            Err(e) => Err(e),
+        }
+    }
+
+    fn missing() -> Option<(A, B, D, E)> {
+        None
+    }
+}
+
+impl<'x, R: Source, C: SerializerConfig> SeqAccess<'x, R, C> {
+    // Reads the 5 elements of a tuple.
+    #[inline(always)]
+    fn parts_5<
+        'de,
+        A: Deserialize<'de, R>,
+        B: Deserialize<'de, R>,
+        D: Deserialize<'de, R>,
+        E: Deserialize<'de, R>,
+        F: Deserialize<'de, R>,
+    >(&mut self) -> Result<(A, B, D, E, F), Error>
+    where
+        R: ReadSlice<'de>,
+        requires { IsOpen self.old }
+        ensures same_reference { self.new.de.ghost_name ≡ self.old.de.ghost_name }
+        ensures ok { IfOk result (TakesParts R.Source (λ v ms. AndThen (λ k. A.reads (C.human (config_of (lender_of self.old))) R.lends k v.0) (AndThen (λ k. B.reads (C.human (config_of (lender_of self.old))) R.lends k v.1) (AndThen (λ k. D.reads (C.human (config_of (lender_of self.old))) R.lends k v.2) (AndThen (λ k. E.reads (C.human (config_of (lender_of self.old))) R.lends k v.3) (AndThen (λ k. F.reads (C.human (config_of (lender_of self.old))) R.lends k v.4) NoMore)))) ms) self.old self.new) }
+        ensures err { IfErr result (FailsParts {V = A × B × D × E × F} R.Source (λ v ms. AndThen (λ k. A.reads (C.human (config_of (lender_of self.old))) R.lends k v.0) (AndThen (λ k. B.reads (C.human (config_of (lender_of self.old))) R.lends k v.1) (AndThen (λ k. D.reads (C.human (config_of (lender_of self.old))) R.lends k v.2) (AndThen (λ k. E.reads (C.human (config_of (lender_of self.old))) R.lends k v.3) (AndThen (λ k. F.reads (C.human (config_of (lender_of self.old))) R.lends k v.4) NoMore)))) ms) self.old self.new) }
+    {
+        let a = match self.element() {
+            Ok(a) => a,
+            Err(e) => return Err(e),
+        };
+        let b = match self.element() {
+            Ok(b) => b,
+            Err(e) => return Err(e),
+        };
+        let d = match self.element() {
+            Ok(d) => d,
+            Err(e) => return Err(e),
+        };
+        let e = match self.element() {
+            Ok(e) => e,
+            Err(e) => return Err(e),
+        };
+        let f = match self.element() {
+            Ok(f) => f,
+            Err(e) => return Err(e),
+        };
+        Ok((a, b, d, e, f))
+    }
+}
+
+impl<
+    'de,
+    R: ReadSlice<'de>,
+    A: Deserialize<'de, R>,
+    B: Deserialize<'de, R>,
+    D: Deserialize<'de, R>,
+    E: Deserialize<'de, R>,
+    F: Deserialize<'de, R>,
+> Deserialize<'de, R> for (A, B, D, E, F) {
+    ghost reads = { λ human lends m v. OfRow (AndThen (λ k. A.reads human lends k v.0) (AndThen (λ k. B.reads human lends k v.1) (AndThen (λ k. D.reads human lends k v.2) (AndThen (λ k. E.reads human lends k v.3) (AndThen (λ k. F.reads human lends k v.4) NoMore))))) m };
+
+    ghost absent = { None };
+
+    fn deserialize<C: SerializerConfig>(
+        de: &mut Deserializer<R, C>,
+    ) -> Result<(A, B, D, E, F), Error> {
+        let mut seq = match de.deserialize_seq() {
+            Ok(seq) => seq,
+            Err(e) => return Err(e),
+        };
+        let parts = match seq.parts_5() {
+            Ok(parts) => parts,
+            Err(e) => return Err(e),
+        };
+        match seq.end() {
+            Ok(()) => Ok(parts),
+            Err(e) => Err(e),
+        }
+    }
+
+    fn missing() -> Option<(A, B, D, E, F)> {
+        None
+    }
+}
+
+impl<'x, R: Source, C: SerializerConfig> SeqAccess<'x, R, C> {
+    // Reads the 6 elements of a tuple.
+    #[inline(always)]
+    fn parts_6<
+        'de,
+        A: Deserialize<'de, R>,
+        B: Deserialize<'de, R>,
+        D: Deserialize<'de, R>,
+        E: Deserialize<'de, R>,
+        F: Deserialize<'de, R>,
+        G: Deserialize<'de, R>,
+    >(&mut self) -> Result<(A, B, D, E, F, G), Error>
+    where
+        R: ReadSlice<'de>,
+        requires { IsOpen self.old }
+        ensures same_reference { self.new.de.ghost_name ≡ self.old.de.ghost_name }
+        ensures ok { IfOk result (TakesParts R.Source (λ v ms. AndThen (λ k. A.reads (C.human (config_of (lender_of self.old))) R.lends k v.0) (AndThen (λ k. B.reads (C.human (config_of (lender_of self.old))) R.lends k v.1) (AndThen (λ k. D.reads (C.human (config_of (lender_of self.old))) R.lends k v.2) (AndThen (λ k. E.reads (C.human (config_of (lender_of self.old))) R.lends k v.3) (AndThen (λ k. F.reads (C.human (config_of (lender_of self.old))) R.lends k v.4) (AndThen (λ k. G.reads (C.human (config_of (lender_of self.old))) R.lends k v.5) NoMore))))) ms) self.old self.new) }
+        ensures err { IfErr result (FailsParts {V = A × B × D × E × F × G} R.Source (λ v ms. AndThen (λ k. A.reads (C.human (config_of (lender_of self.old))) R.lends k v.0) (AndThen (λ k. B.reads (C.human (config_of (lender_of self.old))) R.lends k v.1) (AndThen (λ k. D.reads (C.human (config_of (lender_of self.old))) R.lends k v.2) (AndThen (λ k. E.reads (C.human (config_of (lender_of self.old))) R.lends k v.3) (AndThen (λ k. F.reads (C.human (config_of (lender_of self.old))) R.lends k v.4) (AndThen (λ k. G.reads (C.human (config_of (lender_of self.old))) R.lends k v.5) NoMore))))) ms) self.old self.new) }
+    {
+        let a = match self.element() {
+            Ok(a) => a,
+            Err(e) => return Err(e),
+        };
+        let b = match self.element() {
+            Ok(b) => b,
+            Err(e) => return Err(e),
+        };
+        let d = match self.element() {
+            Ok(d) => d,
+            Err(e) => return Err(e),
+        };
+        let e = match self.element() {
+            Ok(e) => e,
+            Err(e) => return Err(e),
+        };
+        let f = match self.element() {
+            Ok(f) => f,
+            Err(e) => return Err(e),
+        };
+        let g = match self.element() {
+            Ok(g) => g,
+            Err(e) => return Err(e),
+        };
+        Ok((a, b, d, e, f, g))
+    }
+}
+
+impl<
+    'de,
+    R: ReadSlice<'de>,
+    A: Deserialize<'de, R>,
+    B: Deserialize<'de, R>,
+    D: Deserialize<'de, R>,
+    E: Deserialize<'de, R>,
+    F: Deserialize<'de, R>,
+    G: Deserialize<'de, R>,
+> Deserialize<'de, R> for (A, B, D, E, F, G) {
+    ghost reads = { λ human lends m v. OfRow (AndThen (λ k. A.reads human lends k v.0) (AndThen (λ k. B.reads human lends k v.1) (AndThen (λ k. D.reads human lends k v.2) (AndThen (λ k. E.reads human lends k v.3) (AndThen (λ k. F.reads human lends k v.4) (AndThen (λ k. G.reads human lends k v.5) NoMore)))))) m };
+
+    ghost absent = { None };
+
+    fn deserialize<C: SerializerConfig>(
+        de: &mut Deserializer<R, C>,
+    ) -> Result<(A, B, D, E, F, G), Error> {
+        let mut seq = match de.deserialize_seq() {
+            Ok(seq) => seq,
+            Err(e) => return Err(e),
+        };
+        let parts = match seq.parts_6() {
+            Ok(parts) => parts,
+            Err(e) => return Err(e),
+        };
+        match seq.end() {
+            Ok(()) => Ok(parts),
+            Err(e) => Err(e),
+        }
+    }
+
+    fn missing() -> Option<(A, B, D, E, F, G)> {
+        None
+    }
+}

@@ -1,0 +1,11 @@
+//! Reads typed values from the bytes of MessagePack.
+#![tactic(auto)]
+
+pub mod de;
+pub mod error;
+pub mod text;
+
+pub use de::seq::SeqAccess;
+pub use de::{Deserialize, Deserializer, from_read_ref, from_slice};
+pub use error::Error;
+pub use text::Text;

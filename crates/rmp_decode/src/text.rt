@@ -1,0 +1,91 @@
+//! Why something was refused, in words.
+ghost use Rattle.std.specs.Prelude.{◌≡◌, ◌≤◌, length, take, IsUtf8};
+
+use std::fmt::{Debug, Display};
+use std::{fmt, str};
+
+/// Why something was refused, in words: one of the reader's own texts, or a type's.
+///
+/// A type's own text has at most 30 bytes, which lie in the value itself, so that no refusal takes memory.
+#[derive(Clone, Copy)]
+pub enum Text {
+    FailedBefore,
+    InvalidType,
+    InvalidValue,
+    InvalidLength,
+    UnknownVariant,
+    DuplicateField,
+    MissingField,
+    ReadByExt,
+    Own(OwnText),
+}
+
+/// A type's own text.
+#[derive(Clone, Copy)]
+pub struct OwnText {
+    bytes: [u8; 30],
+    len: usize,
+    ghost within: { len ≤ 30 },
+    ghost utf8: { ∥ IsUtf8 (take len bytes) ∥₁ },
+}
+
+impl OwnText {
+    ghost use Rattle.rmp_decode.specs.Words.{own_words};
+
+    fn new(text: &str) -> OwnText
+        requires { length text.now ≤ 30 }
+        ensures { own_words result ≡ text.now }
+    {
+        let mut bytes = [0; 30];
+        let len = text.len();
+        bytes[..len].copy_from_slice(text.as_bytes());
+        OwnText { bytes, len }
+    }
+
+    fn as_str(&self) -> &str
+        ensures { result.now ≡ own_words self.now }
+    {
+        str::from_utf8(&self.bytes[..self.len]).unwrap()
+    }
+}
+
+impl Text {
+    ghost use Rattle.rmp_decode.specs.Words.{words};
+
+    /// A type's own words, of at most 30 bytes.
+    pub fn new(text: &str) -> Text
+        requires { length text.now ≤ 30 }
+        ensures { words result ≡ text.now }
+    {
+        Text::Own(OwnText::new(text))
+    }
+
+    /// The words.
+    pub fn as_str(&self) -> &str
+        ensures { result.now ≡ words self.now }
+    {
+        match self {
+            Text::FailedBefore => "failed before",
+            Text::InvalidType => "invalid type",
+            Text::InvalidValue => "invalid value",
+            Text::InvalidLength => "invalid length",
+            Text::UnknownVariant => "unknown variant",
+            Text::DuplicateField => "duplicate field",
+            Text::MissingField => "missing field",
+            Text::ReadByExt => "extensions are read by deserialize_ext",
+            Text::Own(own) => own.as_str(),
+        }
+    }
+}
+
+impl Display for Text {
+    fn fmt<W: fmt::Write>(&self, f: &mut fmt::Formatter<W>) -> fmt::Result {
+        f.write_str(self.as_str())
+    }
+}
+
+impl Debug for Text {
+    fn fmt<W: fmt::Write>(&self, f: &mut fmt::Formatter<W>) -> fmt::Result {
+        write!(f, "{:?}", self.as_str())
+    }
+}

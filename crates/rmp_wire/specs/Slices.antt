@@ -1,0 +1,27 @@
+-- What a call that answers a piece of the input gives.
+use Rattle.std.specs.Prelude.{◌≡◌, ℕ, ◌<◌, Bool, true, false, List, Option, IfSome, Result, length, MatchResult}
+use Rattle.std.specs.Io.KnownBytes.{Consumes}
+use Rattle.rmp_wire.specs.declared.slice.Reference.{Reference}
+use Rattle.rmp_wire.specs.declared.slice.Reference.TheVariants.{Borrowed, Copied}
+use Rattle.rmp_wire.specs.declared.slice.SourceFault.{SourceFault}
+use Rattle.rmp_wire.specs.declared.slice.SourceFault.TheVariants.{Io, Memory}
+use Rattle.rmp_wire.specs.Sources.{IsShort}
+
+-- the bytes, wherever they lie
+abbrev pub reference_bytes : Reference → List ℕ
+reference_bytes (Borrowed s) = s.now
+reference_bytes (Copied s) = s.now
+
+-- whether they are lent for as long as the input lies in memory
+abbrev pub is_lent : Reference → Bool
+is_lent (Borrowed s) = true
+is_lent (Copied s) = false
+
+-- a fault that isn't want of memory comes of the source, or of fewer bytes than were asked for
+abbrev pub Blames : SourceFault → ℕ → ℕ → Option (List ℕ) → ℕ → Type 0
+Blames Memory before after ahead len = Unit {0}
+Blames (Io e) before after ahead len = after ≡ before → IsShort len ahead
+
+-- the bytes were taken with no fault of the source (it counts them: before, after), or the error is blamed
+abbrev pub SliceRead : Option (List ℕ) → Option (List ℕ) → ℕ → ℕ → ℕ → Result Reference SourceFault → Type 0
+SliceRead old new before after len r = MatchResult r (λ s. Consumes old new (reference_bytes s) × (after ≡ before)) (λ e. Blames e before after old len)

@@ -1,0 +1,184 @@
+//! Sources that answer whole pieces of their bytes, lent where they can be.
+ghost use Rattle.std.specs.Prelude.{◌≡◌, ℕ, Bool, true, false, Option, Some, IfOk, IfSome, OnErr, MatchOption, length, ◌<◌, ◌++◌};
+ghost use Rattle.std.specs.Borrow.{sem};
+ghost use Rattle.std.specs.Io.BufRead.{Rests};
+ghost use Rattle.rmp_wire.specs.Slices.{reference_bytes, is_lent, SliceRead};
+ghost use Rattle.rmp_wire.specs.Sources.{Takes, TakesInto};
+ghost use Rattle.rmp_wire.specs.Spelling.{IsBytes};
+
+#[cfg(test)]
+mod tests;
+
+use crate::error::IoFault;
+use crate::source::Source;
+use std::io;
+use std::io::ErrorKind;
+
+/// Bytes of the input: lent for as long as the input lies in memory, or copied, and there until the next read.
+#[derive(Clone, Copy, Debug, PartialEq)]
+pub enum Reference<'b, 'c> {
+    Borrowed(&'b [u8]),
+    Copied(&'c [u8]),
+}
+
+impl<'b, 'c> Reference<'b, 'c> {
+    /// The bytes, wherever they lie.
+    pub fn as_bytes(&self) -> &[u8]
+        ensures { result.now ≡ reference_bytes self.now }
+    {
+        match self {
+            Reference::Borrowed(bytes) => bytes,
+            Reference::Copied(bytes) => bytes,
+        }
+    }
+}
+
+/// Why a piece of the input couldn't be had.
+#[derive(Debug, Drop)]
+pub enum SourceFault {
+    /// The source failed, or, with `UnexpectedEof`, too few bytes are ahead.
+    Io(io::Error),
+    /// Memory for a copy was refused.
+    Memory,
+}
+
+/// A source that answers a whole piece of its bytes at once.
+pub trait ReadSlice<'de>: Source {
+    ghost use Rattle.std.specs.Prelude.{Result};
+    ghost use Rattle.rmp_wire.specs.declared.slice.Reference.{Reference};
+    ghost use Rattle.rmp_wire.specs.declared.slice.SourceFault.{SourceFault};
+
+    // Whether it lends its bytes.
+    ghost lends: { Bool };
+
+    // What else a call with this count leaves, beside what is said of every source.
+    ghost leaves: { Self → Self → ℕ → Result Reference SourceFault → Type 0 };
+
+    /// Takes `len` bytes from the front of those ahead.
+    ///
+    /// # Errors
+    /// `Io` with `UnexpectedEof` where fewer are ahead, and else the source's fault; `Memory` where a copy found no room.
+    fn read_slice<'a>(&'a mut self, len: usize) -> Result<Reference<'de, 'a>, SourceFault>
+        ensures* after { sem 𝓛 (Rests Self.row self.entry (λ new. SliceRead (Self.ahead self.old) (Self.ahead new) (Self.faults self.old) (Self.faults new) len result
+            × leaves self.old new len result × (Self.place new ≡ Self.place self.old))) }
+        ensures count { IfOk result (λ r. length (reference_bytes r) ≡ len) }
+        ensures bytes { IfOk result (λ r. IsBytes (reference_bytes r)) }
+        ensures kind { IfOk result (λ r. is_lent r ≡ lends) };
+}
+
+/// Lends parts of a slice for as long as the slice lies in memory.
+#[derive(Clone, Copy, Debug)]
+pub struct ReadRefReader<'a> {
+    rest: &'a [u8],
+    whole: &'a [u8],
+}
+
+impl<'a> ReadRefReader<'a> {
+    ghost use Rattle.rmp_wire.specs.RefReader.{rest_of, whole_of};
+
+    /// Reads `whole` from its beginning.
+    pub fn new(whole: &'a [u8]) -> ReadRefReader<'a>
+        ensures rest { rest_of result ≡ whole.now }
+        ensures whole { whole_of result ≡ whole.now }
+    {
+        ReadRefReader { rest: whole, whole }
+    }
+
+    /// The slice that it was made of.
+    pub fn whole(&self) -> &'a [u8]
+        ensures { result.now ≡ whole_of self.now }
+    {
+        self.whole
+    }
+
+    /// What it hasn't taken yet.
+    pub fn remaining_slice(&self) -> &'a [u8]
+        ensures { result.now ≡ rest_of self.now }
+    {
+        self.rest
+    }
+}
+
+/// The bytes of the slice, in order. A call that fails leaves them as they were.
+impl<'a> Source for ReadRefReader<'a> {
+    ghost use Rattle.rmp_wire.specs.RefReader.{rest_of};
+
+    ghost ahead = { λ r. Some (rest_of r) };
+
+    ghost faults = { λ _. 0 };
+
+    fn pull(&mut self, buf: &mut [u8]) -> Result<usize, io::Error> {
+        Source::pull(&mut self.rest, buf)
+    }
+
+    #[inline(always)]
+    fn pull_exact(&mut self, buf: &mut [u8]) -> Result<(), IoFault>
+        ensures bytes { TakesInto buf.new (Some (rest_of self.old)) (Some (rest_of self.new)) 0 0 result }
+        ensures stays { OnErr result (rest_of self.new ≡ rest_of self.old) }
+    {
+        self.rest.pull_exact(buf)
+    }
+
+    #[inline(always)]
+    fn take_1(&mut self) -> Result<[u8; 1], IoFault>
+        ensures bytes { Takes 1 (Some (rest_of self.old)) (Some (rest_of self.new)) 0 0 result }
+        ensures stays { OnErr result (rest_of self.new ≡ rest_of self.old) }
+    {
+        self.rest.take_1()
+    }
+
+    #[inline(always)]
+    fn take_2(&mut self) -> Result<[u8; 2], IoFault>
+        ensures bytes { Takes 2 (Some (rest_of self.old)) (Some (rest_of self.new)) 0 0 result }
+        ensures stays { OnErr result (rest_of self.new ≡ rest_of self.old) }
+    {
+        self.rest.take_2()
+    }
+
+    #[inline(always)]
+    fn take_4(&mut self) -> Result<[u8; 4], IoFault>
+        ensures bytes { Takes 4 (Some (rest_of self.old)) (Some (rest_of self.new)) 0 0 result }
+        ensures stays { OnErr result (rest_of self.new ≡ rest_of self.old) }
+    {
+        self.rest.take_4()
+    }
+
+    #[inline(always)]
+    fn take_8(&mut self) -> Result<[u8; 8], IoFault>
+        ensures bytes { Takes 8 (Some (rest_of self.old)) (Some (rest_of self.new)) 0 0 result }
+        ensures stays { OnErr result (rest_of self.new ≡ rest_of self.old) }
+    {
+        self.rest.take_8()
+    }
+}
+
+impl<'a> ReadSlice<'a> for ReadRefReader<'a> {
+    ghost use Rattle.rmp_wire.specs.RefReader.{rest_of};
+
+    ghost lends = { true };
+
+    ghost leaves = { λ old new len r. OnErr r (rest_of new ≡ rest_of old) };
+
+    #[inline(always)]
+    fn read_slice<'b>(&'b mut self, len: usize) -> Result<Reference<'a, 'b>, SourceFault> {
+        match split_front(self.rest, len) {
+            Some((front, rest)) => {
+                self.rest = rest;
+                Ok(Reference::Borrowed(front))
+            }
+            None => Err(SourceFault::Io(io::Error::from(ErrorKind::UnexpectedEof))),
+        }
+    }
+}
+
+// The first `len` bytes and the rest, where there are so many.
+#[inline(always)]
+fn split_front(all: &[u8], len: usize) -> Option<(&[u8], &[u8])>
+    ensures parts { MatchOption result (length all.now < len) (λ p. (length p.0.now ≡ len) × (all.now ≡ p.0.now ++ p.1.now)) }
+    ensures bytes { IfSome result (λ p. IsBytes p.0.now) }
+{
+    if len > all.len() {
+        return None;
+    }
+    Some(all.split_at(len))
+}
