@@ -79,7 +79,7 @@ module _ {R C : Type 0} (g : Ghosts R) (old new : Deserializer R C) (fresh : old
     clean = tt;
     fresh = tt;
     sound = tt;
-    err = λ o n q. no_head (left g old) (rw k ((fails_after m _ (g.ahead old.reader) _ _ (g.faults old.reader) _ e (kept_first (byte_of m ∷ []) (g.ahead old.reader)) refl r.err).none q));
+    err = λ o n q. no_head (left g old) (rw k ((fails_after m _ (g.ahead old.reader) _ _ (g.faults old.reader) _ e (kept_first (byte_of m ∷ []) (g.ahead old.reader)) refl r.reserved r.err).none q));
     failed = failed;
     before = λ f. absurd cc;
     stays = record { config = config; room = room; place = r.place };
