@@ -1,0 +1,11 @@
+use Rattle.rmp_serde.proofs.Lowering.{value_tree, value_spelled, value_only}
+use Rattle.rmp_serde.proofs.laws.value_is_its_tree.Goals as goal
+
+pub returns-clause-tree : goal.returns-clause-tree
+returns-clause-tree c = value_tree
+
+pub returns-clause-bytes : goal.returns-clause-bytes
+returns-clause-bytes c = value_spelled
+
+pub returns-clause-only : goal.returns-clause-only
+returns-clause-only c = value_only
