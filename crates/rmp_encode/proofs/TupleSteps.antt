@@ -112,7 +112,7 @@ module _ {W C : Type 0} (g : Ghosts W) where
           left_is = h.left_is;
           keeps = subst (λ x. Keeps g x mid) h.same k;
           writes = part_as g (λ _. refl) (λ _. (h.fits, h.have)) (λ _. (tt, tt)) (λ _. ap (λ l. head_at false len ++ l) (sym (numbers_text s kept)))
-          (subst (λ x. WritesPart g g.takes_memory (Unit {0} × Unit {0}) (head_at false len ++ flat_map number_head kept) (sink_of x) (sink_of mid) (Ok u)) h.same w);
+              (subst (λ x. WritesPart g g.takes_memory (Unit {0} × Unit {0}) (head_at false len ++ flat_map number_head kept) (sink_of x) (sink_of mid) (Ok u)) h.same w);
         };
       }
 

@@ -39,10 +39,7 @@ impl<'a, W: Sink, C: SerializerConfig> ExtSerializer<'a, W, C> {
         ensures stays { result.se.now ≡ self.entry.se.now }
         ensures tag { result.tag ≡ tag }
     {
-        ExtFieldSerializer {
-            se: self.se,
-            tag,
-        }
+        ExtFieldSerializer { se: self.se, tag }
     }
 }
 

@@ -15,8 +15,8 @@ use rmp_wire::config::{
     StructTupleConfig,
 };
 use rmp_wire::write::{
-    write_array_len, write_bin, write_bool, write_ext_meta, write_f32_bits, write_f64_bits, write_map_len, write_nil, write_sint, write_str,
-    write_uint,
+    write_array_len, write_bin, write_bool, write_ext_meta, write_f32_bits, write_f64_bits,
+    write_map_len, write_nil, write_sint, write_str, write_uint,
 };
 use rmp_wire::{Sink, ValueWriteError};
 use std::alloc::Global;

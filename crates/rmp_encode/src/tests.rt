@@ -6,7 +6,9 @@ use crate::ser::Serialize;
 use crate::serializer::Serializer;
 use crate::whole::{to_vec, write};
 use rmp_wire::config::BytesMode;
-use rmp_wire::{ByteBuf, Bytes, Ext, F32Bits, F64Bits, Sink, SinkFault, SliceSink, ValueWriteError};
+use rmp_wire::{
+    ByteBuf, Bytes, Ext, F32Bits, F64Bits, Sink, SinkFault, SliceSink, ValueWriteError,
+};
 use std::collections::{BTreeMap, BTreeSet, VecDeque};
 use std::test::Fail;
 
@@ -32,7 +34,13 @@ fn is_forced<T: Serialize>(
 fn values(rt: HostRuntime) -> Result<(), Fail> {
     assert!(rt; is_written(&rt, &(42u32, "the Answer"), b"\x92\x2a\xaathe Answer")?);
     let numbers = vec![in rt.alloc(); 127i64, 128, 300, -32, -33, -129]?;
-    assert!(rt; is_written(&rt, &numbers, b"\x96\x7f\xcc\x80\xcd\x01\x2c\xe0\xd0\xdf\xd1\xff\x7f")?);
+    assert!(rt;
+        is_written(
+            &rt,
+            &numbers,
+            b"\x96\x7f\xcc\x80\xcd\x01\x2c\xe0\xd0\xdf\xd1\xff\x7f"
+        )?
+    );
     assert!(rt; is_written(&rt, &(), b"\xc0")?);
     assert!(rt; is_written(&rt, &(true, false), b"\x92\xc3\xc2")?);
     assert!(rt; is_written(&rt, &('x', 'é'), b"\x92\xa1x\xa2\xc3\xa9")?);
@@ -52,14 +60,42 @@ fn one_serializer(rt: HostRuntime) -> Result<(), Fail> {
 
 #[test]
 fn forced_bytes(rt: HostRuntime) -> Result<(), Fail> {
-    assert!(rt; is_forced(&rt, BytesMode::ForceAll, &(1u8, 100u8, 200u8, 254u8), b"\xc4\x04\x01\x64\xc8\xfe")?);
-    assert!(rt; is_forced(&rt, BytesMode::ForceAll, &(1u8, 2u8, 3u8, 127u8), b"\x94\x01\x02\x03\x7f")?);
-    assert!(rt; is_forced(&rt, BytesMode::ForceAll, &(42u32, 100500u32), b"\x92\x2a\xce\x00\x01\x88\x94")?);
+    assert!(rt;
+        is_forced(
+            &rt,
+            BytesMode::ForceAll,
+            &(1u8, 100u8, 200u8, 254u8),
+            b"\xc4\x04\x01\x64\xc8\xfe"
+        )?
+    );
+    assert!(rt;
+        is_forced(
+            &rt,
+            BytesMode::ForceAll,
+            &(1u8, 2u8, 3u8, 127u8),
+            b"\x94\x01\x02\x03\x7f"
+        )?
+    );
+    assert!(rt;
+        is_forced(
+            &rt,
+            BytesMode::ForceAll,
+            &(42u32, 100500u32),
+            b"\x92\x2a\xce\x00\x01\x88\x94"
+        )?
+    );
     let none: Vec<u8> = Vec::new(rt.alloc());
     assert!(rt; is_forced(&rt, BytesMode::ForceAll, &none, b"\x90")?);
     let some = vec![in rt.alloc(); 1u8, 2]?;
     assert!(rt; is_forced(&rt, BytesMode::ForceIterables, &some, b"\xc4\x02\x01\x02")?);
-    assert!(rt; is_forced(&rt, BytesMode::ForceIterables, &[1u8, 200u8], b"\x92\x01\xcc\xc8")?);
+    assert!(rt;
+        is_forced(
+            &rt,
+            BytesMode::ForceIterables,
+            &[1u8, 200u8],
+            b"\x92\x01\xcc\xc8"
+        )?
+    );
     assert!(rt; is_forced(&rt, BytesMode::Normal, &some, b"\x92\x01\x02")?);
     Ok(())
 }
@@ -158,7 +194,10 @@ fn one_byte_a_call(rt: HostRuntime) -> Result<(), Fail> {
         bytes: Vec::new(rt.alloc()),
     };
     write(rt.alloc(), &mut sink, &(42u32, 100500u32))?;
-    assert_eq!(rt; sink.bytes.as_slice(), b"\x92\x2a\xce\x00\x01\x88\x94".as_slice());
+    assert_eq!(rt;
+        sink.bytes.as_slice(),
+        b"\x92\x2a\xce\x00\x01\x88\x94".as_slice()
+    );
     Ok(())
 }
 
@@ -167,11 +206,21 @@ fn full_sinks(rt: HostRuntime) -> Result<(), Fail> {
     let mut nothing = [0u8; 0];
     let mut sink = SliceSink::new(&mut nothing);
     let refused = write(rt.alloc(), &mut sink, &());
-    assert!(rt; matches!(&refused, Err(Error::InvalidValueWrite(ValueWriteError::InvalidMarkerWrite(_)))));
+    assert!(rt;
+        matches!(
+            &refused,
+            Err(Error::InvalidValueWrite(ValueWriteError::InvalidMarkerWrite(_)))
+        )
+    );
     let mut four = [0u8; 4];
     let mut sink = SliceSink::new(&mut four);
     let cut = write(rt.alloc(), &mut sink, &(42u32, 100500u32));
-    assert!(rt; matches!(&cut, Err(Error::InvalidValueWrite(ValueWriteError::InvalidDataWrite(_)))));
+    assert!(rt;
+        matches!(
+            &cut,
+            Err(Error::InvalidValueWrite(ValueWriteError::InvalidDataWrite(_)))
+        )
+    );
     assert_eq!(rt; four.as_slice(), b"\x92\x2a\xce\x00".as_slice());
     Ok(())
 }

@@ -154,7 +154,12 @@ impl<'a, W: Sink, C: SerializerConfig> Tuple<'a, W, C> {
         ensures writes { (old : _) (all : _) → IsTupling W.Sink old all [] self.entry → WritesTree W.Sink W.takes_memory (tree_of (settings_of old) (tuple_of all)) (sink_of old) (sink_of self.exit.0.now) result }
         ensures keeps { Keeps W.Sink self.entry.se.now self.exit.0.now }
     {
-        let Tuple { se, kept, len, left: _ } = self;
+        let Tuple {
+            se,
+            kept,
+            len,
+            left: _,
+        } = self;
         let Some(bytes) = kept else {
             return Ok(());
         };

@@ -24,11 +24,7 @@ pub fn write<W: Sink, T: Serialize>(alloc: Global, wr: &mut W, value: &T) -> Res
 }
 
 /// Writes a value into a sink. Structs are maps from the names of their fields.
-pub fn write_named<W: Sink, T: Serialize>(
-    alloc: Global,
-    wr: &mut W,
-    value: &T,
-) -> Result<(), Error>
+pub fn write_named<W: Sink, T: Serialize>(alloc: Global, wr: &mut W, value: &T) -> Result<(), Error>
     ensures writes { WritesTree W.Sink true (tree_of named_settings (T.data_of value.now false)) wr.old wr.new result }
     ensures spelled { OnOk result (IsSpelled (tree_of named_settings (T.data_of value.now false)) (spell (tree_of named_settings (T.data_of value.now false)))) }
     ensures place { W.place wr.new ≡ W.place wr.old }

@@ -8,8 +8,9 @@ use Rattle.rmp_wire.specs.Msg.{Msg, nil, truth, whole, float32, float64, text, b
 use Rattle.rmp_wire.specs.Spelling.{canon, Fits, Spells}
 use Rattle.rmp_wire.proofs.Told.{next_differs}
 use Rattle.rmp_encode.specs.declared.error.Error.{Error}
+use Rattle.rmp_encode.specs.declared.error.Error.TheVariants as errors
 use Rattle.rmp_encode.specs.declared.settings.Settings.{Settings}
-use Rattle.rmp_encode.specs.Calls.{IsSpelled}
+use Rattle.rmp_encode.specs.Calls.{IsSpelled, ToVecFails}
 use Rattle.rmp_encode.specs.Data.{lower, lower_parts, lower_entries}
 use Rattle.rmp_encode.specs.Errors.{error_of, answer_of}
 use Rattle.rmp_encode.specs.Trees.{HasTree, spell, byte_of, tree_of}
@@ -21,6 +22,7 @@ use Rattle.rmp_serde.specs.ValueData.{value_data, values_data, pairs_data}
 
 mutual
   unfolding lower value_data
+
   pub lower_value : (s : Settings) (m : Msg) → lower s (value_data m) ≡ m
   lower_value s nil = refl
   lower_value s (truth t) = refl
@@ -59,6 +61,19 @@ value_spelled s m b h = h.canonical ∙ ap canon (some_is (sym h.is ∙ value_tr
 
 pub value_only : (s : Settings) (m n : Msg) (b : List ℕ) → IsSpelled (tree_of s (Some (value_data m))) b → Spells b n → n ≡ m
 value_only s m n b h spells = h.only n spells ∙ some_is (sym h.is ∙ value_tree s m)
+
+-- a tree that fits isn't refused
+has_value : (s : Settings) (m : Msg) → Fits m → HasTree (tree_of s (Some (value_data m)))
+unfolding HasTree
+has_value s m fits = subst HasTree (sym (value_tree s m)) fits
+
+pub value_fails : (s : Settings) (m : Msg) (e : Error) → Fits m → ToVecFails (tree_of s (Some (value_data m))) e → e ≡ errors.OutOfMemory
+value_fails s m (errors.InvalidValueWrite e) fits h = absurd h
+value_fails s m errors.UnknownLength fits h = absurd h
+value_fails s m (errors.InvalidDataModel t) fits h = absurd (h.1 (has_value s m fits))
+value_fails s m errors.DepthLimitExceeded fits h = absurd h
+value_fails s m (errors.Syntax t) fits h = absurd (h (has_value s m fits))
+value_fails s m errors.OutOfMemory fits h = refl
 
 -- a value is no byte, for what it is told as
 pub value_no_byte : (m : Msg) → None ≡ byte_of (Some (value_data m))

@@ -9,6 +9,5 @@ mod value;
 pub use decode::from_slice;
 pub use encode::{Serializer, to_vec, to_vec_named};
 pub use rmp_wire as wire;
-pub use rmp_wire::Marker;
-pub use rmp_wire::config;
+pub use rmp_wire::{Marker, config};
 pub use value::{Kind, Value, ValueRef};

@@ -98,7 +98,8 @@ impl<T1: Serialize, T2: Serialize, T3: Serialize, T4: Serialize> Serialize for (
     }
 }
 
-impl<T1: Serialize, T2: Serialize, T3: Serialize, T4: Serialize, T5: Serialize> Serialize for (T1, T2, T3, T4, T5) {
+impl<T1: Serialize, T2: Serialize, T3: Serialize, T4: Serialize, T5: Serialize> Serialize
+    for (T1, T2, T3, T4, T5) {
     ghost data_of = { λ v human. tuple_of (T1.data_of v.0 human ∷ T2.data_of v.1 human ∷ T3.data_of v.2 human ∷ T4.data_of v.3 human ∷ T5.data_of v.4 human ∷ []) };
 
     ghost is_value = { λ v. T1.is_value v.0 × T2.is_value v.1 × T3.is_value v.2 × T4.is_value v.3 × T5.is_value v.4 };
@@ -123,7 +124,14 @@ impl<T1: Serialize, T2: Serialize, T3: Serialize, T4: Serialize, T5: Serialize> 
     }
 }
 
-impl<T1: Serialize, T2: Serialize, T3: Serialize, T4: Serialize, T5: Serialize, T6: Serialize> Serialize for (T1, T2, T3, T4, T5, T6) {
+impl<
+    T1: Serialize,
+    T2: Serialize,
+    T3: Serialize,
+    T4: Serialize,
+    T5: Serialize,
+    T6: Serialize,
+> Serialize for (T1, T2, T3, T4, T5, T6) {
     ghost data_of = { λ v human. tuple_of (T1.data_of v.0 human ∷ T2.data_of v.1 human ∷ T3.data_of v.2 human ∷ T4.data_of v.3 human ∷ T5.data_of v.4 human ∷ T6.data_of v.5 human ∷ []) };
 
     ghost is_value = { λ v. T1.is_value v.0 × T2.is_value v.1 × T3.is_value v.2 × T4.is_value v.3 × T5.is_value v.4 × T6.is_value v.5 };
@@ -149,7 +157,15 @@ impl<T1: Serialize, T2: Serialize, T3: Serialize, T4: Serialize, T5: Serialize, 
     }
 }
 
-impl<T1: Serialize, T2: Serialize, T3: Serialize, T4: Serialize, T5: Serialize, T6: Serialize, T7: Serialize> Serialize for (T1, T2, T3, T4, T5, T6, T7) {
+impl<
+    T1: Serialize,
+    T2: Serialize,
+    T3: Serialize,
+    T4: Serialize,
+    T5: Serialize,
+    T6: Serialize,
+    T7: Serialize,
+> Serialize for (T1, T2, T3, T4, T5, T6, T7) {
     ghost data_of = { λ v human. tuple_of (T1.data_of v.0 human ∷ T2.data_of v.1 human ∷ T3.data_of v.2 human ∷ T4.data_of v.3 human ∷ T5.data_of v.4 human ∷ T6.data_of v.5 human ∷ T7.data_of v.6 human ∷ []) };
 
     ghost is_value = { λ v. T1.is_value v.0 × T2.is_value v.1 × T3.is_value v.2 × T4.is_value v.3 × T5.is_value v.4 × T6.is_value v.5 × T7.is_value v.6 };
@@ -176,7 +192,16 @@ impl<T1: Serialize, T2: Serialize, T3: Serialize, T4: Serialize, T5: Serialize, 
     }
 }
 
-impl<T1: Serialize, T2: Serialize, T3: Serialize, T4: Serialize, T5: Serialize, T6: Serialize, T7: Serialize, T8: Serialize> Serialize for (T1, T2, T3, T4, T5, T6, T7, T8) {
+impl<
+    T1: Serialize,
+    T2: Serialize,
+    T3: Serialize,
+    T4: Serialize,
+    T5: Serialize,
+    T6: Serialize,
+    T7: Serialize,
+    T8: Serialize,
+> Serialize for (T1, T2, T3, T4, T5, T6, T7, T8) {
     ghost data_of = { λ v human. tuple_of (T1.data_of v.0 human ∷ T2.data_of v.1 human ∷ T3.data_of v.2 human ∷ T4.data_of v.3 human ∷ T5.data_of v.4 human ∷ T6.data_of v.5 human ∷ T7.data_of v.6 human ∷ T8.data_of v.7 human ∷ []) };
 
     ghost is_value = { λ v. T1.is_value v.0 × T2.is_value v.1 × T3.is_value v.2 × T4.is_value v.3 × T5.is_value v.4 × T6.is_value v.5 × T7.is_value v.6 × T8.is_value v.7 };

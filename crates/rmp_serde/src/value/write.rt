@@ -94,10 +94,8 @@ impl Serialize for Value {
         se: &mut Serializer<W, C>,
     ) -> Result<(), Error> {
         let _ = &self.node;
-        match write_value(se.get_mut(), self) {
-            Ok(()) => Ok(()),
-            Err(e) => Err(Error::from(e)),
-        }
+        write_value(se.get_mut(), self)?;
+        Ok(())
     }
 
     #[tactic(auto, using(crate::proofs::Lowering::value_no_byte))]

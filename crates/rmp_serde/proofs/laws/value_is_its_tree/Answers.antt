@@ -1,4 +1,4 @@
-use Rattle.rmp_serde.proofs.Lowering.{value_tree, value_spelled, value_only}
+use Rattle.rmp_serde.proofs.Lowering.{value_tree, value_spelled, value_only, value_fails}
 use Rattle.rmp_serde.proofs.laws.value_is_its_tree.Goals as goal
 
 pub returns-clause-tree : goal.returns-clause-tree
@@ -9,3 +9,6 @@ returns-clause-bytes c = value_spelled
 
 pub returns-clause-only : goal.returns-clause-only
 returns-clause-only c = value_only
+
+pub returns-clause-memory : goal.returns-clause-memory
+returns-clause-memory c = value_fails

@@ -45,19 +45,19 @@ pub returns-in_err-serialize_element-clause-keeps : goal.returns-in_err-serializ
 returns-in_err-serialize_element-clause-keeps g c = keeps_last g.W.Sink (search rules) (keeps_then g.W.Sink c.loop-item.invariant.keeps c.serialize_element.ensures.keeps)
 
 pub end-requires : goal.end-requires
-end-requires g c = 
-    let none : deque_iter_rest c.loop-item.item-iterator ≡ [] = grind (arith, common_steps, c.in-None.ensures.steps.0) in 
+end-requires g c =
+    let none : deque_iter_rest c.loop-item.item-iterator ≡ [] = grind (arith, common_steps, c.in-None.ensures.steps.0) in
     ends g.W.Sink (still_open g.W.Sink (ap (map (λ x. g.T.Serialize.data_of x (settings_of c.args.se.now).human)) none) c.loop-item.invariant.writing)
 
 pub returns-clause-writes : goal.returns-clause-writes
-returns-clause-writes g c = 
-    let none : deque_iter_rest c.loop-item.item-iterator ≡ [] = grind (arith, common_steps, c.in-None.ensures.steps.0) in 
+returns-clause-writes g c =
+    let none : deque_iter_rest c.loop-item.item-iterator ≡ [] = grind (arith, common_steps, c.in-None.ensures.steps.0) in
     part_memory g.W.Sink (rests_at g.W.Sink (search rules) (c.end.ensures.writes c.args.se.now _ (still_open g.W.Sink (ap (map (λ x. g.T.Serialize.data_of x (settings_of c.args.se.now).human)) none) c.loop-item.invariant.writing)))
 
 pub returns-clause-keeps : goal.returns-clause-keeps
 returns-clause-keeps g c = keeps_last g.W.Sink (search rules) (keeps_then g.W.Sink c.loop-item.invariant.keeps c.end.ensures.keeps)
 
 pub returns-clause-value : goal.returns-clause-value
-returns-clause-value g c = 
-    let none : deque_iter_rest c.loop-item.item-iterator ≡ [] = grind (arith, common_steps, c.in-None.ensures.steps.0) in 
+returns-clause-value g c =
+    let none : deque_iter_rest c.loop-item.item-iterator ≡ [] = grind (arith, common_steps, c.in-None.ensures.steps.0) in
     on_ok _ (c.loop-item.invariant.values (subst (All g.T.Serialize.is_value) (sym none) (All-nil g.T.Serialize.is_value)))
