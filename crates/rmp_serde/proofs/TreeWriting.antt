@@ -1,5 +1,5 @@
 -- How the writes of a tree's parts join.
-use Rattle.std.proofs.Common.{to_z, of_z, ◌≡◌, ℕ, zero, suc, ℤ, get_or, ◌+◌, ◌<◌, List, [], ◌∷◌, ◌++◌, length, take, drop, Option, refl, sym, ◌∙◌, ap, subst, arith, append_assoc}
+use Rattle.std.proofs.Common.{to_z, of_z, ◌≡◌, ℕ, zero, suc, ℤ, get_or, ◌<◌, List, [], ◌∷◌, ◌++◌, length, take, drop, Option, sym, ◌∙◌, ap, subst, arith, append_assoc}
 use Rattle.std.proofs.lemmas.List.{length-append}
 use Rattle.std.proofs.lemmas.Int.{to_z-of_z}
 use Rattle.std.specs.Int.{w8}

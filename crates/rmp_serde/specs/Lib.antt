@@ -1,4 +1,16 @@
 pub use Rattle.rmp_wire.specs.Msg
+pub use Rattle.rmp_encode.specs.Calls
+pub use Rattle.rmp_encode.specs.Compounds
+pub use Rattle.rmp_encode.specs.Data
+pub use Rattle.rmp_encode.specs.Errors
+pub use Rattle.rmp_encode.specs.Going
+pub use Rattle.rmp_encode.specs.Opens
+pub use Rattle.rmp_encode.specs.Ser
+pub use Rattle.rmp_encode.specs.Sizes
+pub use Rattle.rmp_encode.specs.Slices
+pub use Rattle.rmp_encode.specs.Trees
+pub use Rattle.rmp_encode.specs.Tuples
+pub use Rattle.rmp_encode.specs.Writes
 pub mod Equal
 pub mod EqualLaws
 pub mod Parts
@@ -7,6 +19,6 @@ pub mod ReadErrors
 pub mod Refuse
 pub mod TreeFalls
 pub mod TreeWrites
+pub mod ValueData
 pub mod View
 pub mod Words
-pub mod WriteErrors

@@ -2,12 +2,18 @@
 //!
 //! A caller uses a law by calling its function: what the call ensures is the law, for every argument.
 
-ghost use Rattle.std.specs.Prelude.{◌≡◌, ◌≤◌, ◌↔◌, ℕ, List, ◌++◌, length};
+ghost use Rattle.std.specs.Prelude.{◌≡◌, ◌≤◌, ◌↔◌, ℕ, List, ◌++◌, length, Some};
 ghost use Rattle.rmp_wire.specs.declared.head.Head.{Head};
 ghost use Rattle.rmp_wire.specs.Heads.{IsHead, canon_head, fits_head};
 ghost use Rattle.rmp_wire.specs.Canonical.{IsCanonicalHead, IsCanonical};
 ghost use Rattle.rmp_wire.specs.Msg.{Msg};
 ghost use Rattle.rmp_wire.specs.Spelling.{Spells, canon, Fits, IsBytes};
+ghost use Rattle.rmp_encode.specs.Calls.{IsSpelled, ToVecFails};
+ghost use Rattle.rmp_encode.specs.Trees.{tree_of};
+ghost use Rattle.rmp_encode.specs.declared.error.Error.{Error};
+ghost use Rattle.rmp_encode.specs.declared.error.Error.TheVariants as errors;
+ghost use Rattle.rmp_encode.specs.declared.settings.Settings.{Settings};
+ghost use Rattle.rmp_serde.specs.ValueData.{value_data};
 
 /// No head begins a different head: where two stand at the beginning of one input, they are the same.
 pub fn no_head_begins_another()
@@ -36,4 +42,13 @@ pub fn canonical_spelling()
 pub fn spelled_fits()
     ensures fits { (b : List ℕ) (m : Msg) → Spells b m → Fits m }
     ensures bytes { (b : List ℕ) (m : Msg) → Spells b m → IsBytes b }
+{}
+
+/// What a `Value` lowers to is its own tree, whatever the settings. So where `to_vec` answers `Ok` for a `Value`, the
+/// bytes are the canonical spelling of its tree, and spell no other. `to_vec` fails only for want of memory.
+pub fn value_is_its_tree()
+    ensures tree { (s : Settings) (m : Msg) → tree_of s (Some (value_data m)) ≡ Some m }
+    ensures bytes { (s : Settings) (m : Msg) (b : List ℕ) → IsSpelled (tree_of s (Some (value_data m))) b → b ≡ canon m }
+    ensures only { (s : Settings) (m n : Msg) (b : List ℕ) → IsSpelled (tree_of s (Some (value_data m))) b → Spells b n → n ≡ m }
+    ensures memory { (s : Settings) (m : Msg) (e : Error) → Fits m → ToVecFails (tree_of s (Some (value_data m))) e → e ≡ errors.OutOfMemory }
 {}

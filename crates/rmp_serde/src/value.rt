@@ -10,7 +10,6 @@ pub use kind::Kind;
 pub use read::{LIMIT, from_slice};
 pub use reference::ValueRef;
 use std::marker::Model;
-pub(crate) use write::write_value;
 
 /// A message of any kind, as a tree.
 ///

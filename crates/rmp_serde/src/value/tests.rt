@@ -1,6 +1,8 @@
 use super::{Kind, Value, ValueRef};
+use crate::config::BytesMode;
 use crate::decode::{Error, from_slice};
-use crate::encode::to_vec;
+use crate::encode::{Serialize, Serializer, to_vec, to_vec_named, write};
+use std::test::Fail;
 
 // A list of a message of each kind, in the kinds' order, spelled canonically.
 const ALL_KINDS: [u8; 41] = [
@@ -100,6 +102,31 @@ fn the_spelling_that_is_written_is_canonical(rt: HostRuntime) -> Result<(), Erro
         let all = from_slice(rt.alloc(), spelling)?;
         assert!(rt; to_vec(rt.alloc(), &all).is_ok_and(|bytes| bytes.as_slice() == &ALL_KINDS[..]));
     }
+    Ok(())
+}
+
+// A number in a value is no `u8`, so that it is never made bytes.
+#[test]
+fn values_are_written_among_others(rt: HostRuntime) -> Result<(), Fail> {
+    let value = from_slice(rt.alloc(), &[0xcc, 0xc8])?;
+    let pair = (&value, 200u8);
+    assert_eq!(rt;
+        to_vec(rt.alloc(), &pair)?.as_slice(),
+        b"\x92\xcc\xc8\xcc\xc8".as_slice()
+    );
+    assert_eq!(rt;
+        to_vec_named(rt.alloc(), &value)?.as_slice(),
+        b"\xcc\xc8".as_slice()
+    );
+    let mut se = Serializer::new(rt.alloc(), Vec::new(rt.alloc())).with_bytes(BytesMode::ForceAll);
+    [200u8; 16].serialize(&mut se)?;
+    [&value, &value].serialize(&mut se)?;
+    let bytes = se.into_inner();
+    assert!(rt; bytes.starts_with(b"\xc4\x10\xc8"));
+    assert!(rt; bytes.ends_with(b"\xc8\x92\xcc\xc8\xcc\xc8"));
+    let mut sink = Vec::new(rt.alloc());
+    write(rt.alloc(), &mut sink, &value)?;
+    assert_eq!(rt; sink.as_slice(), b"\xcc\xc8".as_slice());
     Ok(())
 }
 

@@ -1,13 +1,16 @@
 //! Writes the canonical spelling of a value.
-ghost use Rattle.std.specs.Prelude.{◌≡◌, ◌++◌};
+ghost use Rattle.std.specs.Prelude.{◌≡◌, ◌++◌, Some};
 ghost use Rattle.std.specs.List.{flat_map};
 ghost use Rattle.rmp_wire.specs.Heads.{canon_head, fits_head};
-ghost use Rattle.rmp_wire.specs.Spelling.{canon};
+ghost use Rattle.rmp_wire.specs.Spelling.{canon, Fits};
 ghost use Rattle.rmp_wire.specs.Writing.{Writes};
 ghost use Rattle.rmp_wire.specs.declared.head.Head.TheVariants.{Whole};
 ghost use Rattle.rmp_serde.specs.TreeWrites.{WritesTree};
+ghost use Rattle.rmp_serde.specs.ValueData.{value_data};
 
 use crate::value::{Node, Value};
+use rmp_encode::{Error, Serialize, Serializer};
+use rmp_wire::config::SerializerConfig;
 use rmp_wire::write::{
     write_array_len, write_bin, write_bool, write_content, write_ext_meta, write_f32_bits,
     write_f64_bits, write_map_len, write_nil, write_sint, write_str, write_uint,
@@ -79,4 +82,24 @@ fn write_pairs<W: Sink>(sink: &mut W, pairs: &[(Value, Value)]) -> Result<(), Va
         write_value(sink, value)?;
     }
     Ok(())
+}
+
+impl Serialize for Value {
+    ghost data_of = { λ v _. Some (value_data v) };
+
+    ghost is_value = { Fits };
+
+    fn serialize<W: Sink, C: SerializerConfig>(
+        &self,
+        se: &mut Serializer<W, C>,
+    ) -> Result<(), Error> {
+        let _ = &self.node;
+        write_value(se.get_mut(), self)?;
+        Ok(())
+    }
+
+    #[tactic(auto, using(crate::proofs::Lowering::value_no_byte))]
+    fn as_u8(&self, _human: bool) -> Option<u8> {
+        None
+    }
 }

@@ -1,0 +1,112 @@
+-- A value lowers to its own tree, and what a write of it leaves is what a serializer asks for.
+use Rattle.std.proofs.Common.{◌≡◌, ℕ, List, Bool, true, Option, None, Some, refl, sym, ◌∙◌, ap, subst}
+use Rattle.std.specs.Prelude.{Result, Ok, Err}
+use Rattle.rmp_wire.specs.declared.sink.Sink.{Ghosts}
+use Rattle.rmp_wire.specs.declared.error.ValueWriteError.{ValueWriteError}
+use Rattle.rmp_wire.specs.declared.error.ValueWriteError.TheVariants as wire
+use Rattle.rmp_wire.specs.Msg.{Msg, nil, truth, whole, float32, float64, text, bin, list, map, extension, Msgs, no_items, item, Pairs, no_pairs, pair}
+use Rattle.rmp_wire.specs.Spelling.{canon, Fits, Spells}
+use Rattle.rmp_wire.proofs.Told.{next_differs}
+use Rattle.rmp_encode.specs.declared.error.Error.{Error}
+use Rattle.rmp_encode.specs.declared.error.Error.TheVariants as errors
+use Rattle.rmp_encode.specs.declared.settings.Settings.{Settings}
+use Rattle.rmp_encode.specs.Calls.{IsSpelled, ToVecFails}
+use Rattle.rmp_encode.specs.Data.{lower, lower_parts, lower_entries}
+use Rattle.rmp_encode.specs.Errors.{error_of, answer_of}
+use Rattle.rmp_encode.specs.Trees.{HasTree, spell, byte_of, tree_of}
+use Rattle.rmp_encode.specs.Writes as encode
+use Rattle.rmp_encode.specs.Writes.{FailsBy, WritesPart}
+use Rattle.rmp_encode.proofs.Parts.{part_done, part_failed}
+use Rattle.rmp_serde.specs.TreeWrites.{StopsWithin, WritesTree}
+use Rattle.rmp_serde.specs.ValueData.{value_data, values_data, pairs_data}
+
+mutual
+  unfolding lower value_data
+
+  pub lower_value : (s : Settings) (m : Msg) → lower s (value_data m) ≡ m
+  lower_value s nil = refl
+  lower_value s (truth t) = refl
+  lower_value s (whole z) = refl
+  lower_value s (float32 n) = refl
+  lower_value s (float64 n) = refl
+  lower_value s (text t) = refl
+  lower_value s (bin t) = refl
+  lower_value s (list ms) = ap list (lower_values s ms)
+  lower_value s (map ps) = ap map (lower_pairs s ps)
+  lower_value s (extension tag t) = refl
+
+  lower_values : (s : Settings) (ms : Msgs) → lower_parts s (values_data ms) ≡ ms
+  lower_values s no_items = refl
+  lower_values s (item m ms) = λ i. item (lower_value s m i) (lower_values s ms i)
+
+  lower_pairs : (s : Settings) (ps : Pairs) → lower_entries s (pairs_data ps) ≡ ps
+  lower_pairs s no_pairs = refl
+  lower_pairs s (pair k v ps) = λ i. pair (lower_value s k i) (lower_value s v i) (lower_pairs s ps i)
+
+-- the tree of a value
+pub value_tree : (s : Settings) (m : Msg) → tree_of s (Some (value_data m)) ≡ Some m
+value_tree s m = ap Some (lower_value s m)
+
+tree_or : Msg → Option Msg → Msg
+tree_or m None = m
+tree_or m (Some n) = n
+
+some_is : {a b : Msg} → Some a ≡ Some b → a ≡ b
+unfolding tree_or
+some_is {a} {b} e = ap (tree_or a) e
+
+-- bytes that spell what a value lowers to
+pub value_spelled : (s : Settings) (m : Msg) (b : List ℕ) → IsSpelled (tree_of s (Some (value_data m))) b → b ≡ canon m
+value_spelled s m b h = h.canonical ∙ ap canon (some_is (sym h.is ∙ value_tree s m))
+
+pub value_only : (s : Settings) (m n : Msg) (b : List ℕ) → IsSpelled (tree_of s (Some (value_data m))) b → Spells b n → n ≡ m
+value_only s m n b h spells = h.only n spells ∙ some_is (sym h.is ∙ value_tree s m)
+
+-- a tree that fits isn't refused
+has_value : (s : Settings) (m : Msg) → Fits m → HasTree (tree_of s (Some (value_data m)))
+unfolding HasTree
+has_value s m fits = subst HasTree (sym (value_tree s m)) fits
+
+pub value_fails : (s : Settings) (m : Msg) (e : Error) → Fits m → ToVecFails (tree_of s (Some (value_data m))) e → e ≡ errors.OutOfMemory
+value_fails s m (errors.InvalidValueWrite e) fits h = absurd h
+value_fails s m errors.UnknownLength fits h = absurd h
+value_fails s m (errors.InvalidDataModel t) fits h = absurd (h.1 (has_value s m fits))
+value_fails s m errors.DepthLimitExceeded fits h = absurd h
+value_fails s m (errors.Syntax t) fits h = absurd (h (has_value s m fits))
+value_fails s m errors.OutOfMemory fits h = refl
+
+-- a value is no byte, for what it is told as
+pub value_no_byte : (m : Msg) → None ≡ byte_of (Some (value_data m))
+unfolding value_data
+value_no_byte nil = refl
+value_no_byte (truth t) = refl
+value_no_byte (whole z) = refl
+value_no_byte (float32 n) = refl
+value_no_byte (float64 n) = refl
+value_no_byte (text t) = refl
+value_no_byte (bin t) = refl
+value_no_byte (list ms) = refl
+value_no_byte (map ps) = refl
+value_no_byte (extension tag t) = refl
+
+-- why a write stopped, as an error of a serializer
+fails_by : (m : Bool) (P : Type 0) (old new : ℕ) (part : List ℕ) (e : ValueWriteError) → StopsWithin m old new part e → FailsBy true P old new (error_of e)
+fails_by m P old new part (wire.InvalidMarkerWrite fault) c = next_differs old new c
+fails_by m P old new part (wire.InvalidDataWrite fault) c = next_differs old new c.1
+fails_by m P old new part wire.OutOfMemory c = (refl, c.0)
+
+module _ {W : Type 0} (g : Ghosts W) where
+  wire_part : (P : Type 0) (bs : List ℕ) {old new : W} (r : Result (Unit {0}) ValueWriteError) → P → WritesTree g bs old new r → WritesPart g true P bs old new (answer_of r)
+  wire_part P bs (Ok u) p w = part_done g true P bs _ _ u p w.whole w.sound
+  wire_part P bs (Err e) p w =
+      part_failed g true P bs _ _ (error_of e)
+      (λ _. record { part = w.stops.part; rest = w.stops.rest; split = w.stops.split; appended = w.stops.appended })
+      (record { part = w.stops.part; appended = w.stops.appended })
+      (fails_by g.takes_memory P _ _ w.stops.part e w.stops.cause)
+
+  -- a value that fits, of which the canonical spelling was written
+  pub value_writes : (s : Settings) (m : Msg) {old new : W} (r : Result (Unit {0}) ValueWriteError) {answer : Result (Unit {0}) Error} → answer ≡ answer_of r → Fits m → WritesTree g (canon m) old new r → encode.WritesTree g true (tree_of s (Some (value_data m))) old new answer
+  unfolding HasTree spell
+  value_writes s m {old} {new} r {answer} is fits w =
+      subst (λ t. encode.WritesTree g true t old new answer) (sym (value_tree s m))
+      (subst (encode.WritesTree g true (Some m) old new) (sym is) (wire_part (Fits m) (canon m) r fits w))
