@@ -7,9 +7,6 @@ pub mod laws;
 mod value;
 
 pub use decode::from_slice;
-pub use encode::to_vec;
-pub use rmp_wire as wire;
-pub use rmp_wire::Marker;
 pub use encode::{Serializer, to_vec, to_vec_named};
 pub use rmp_wire as wire;
 pub use rmp_wire::{Marker, config};
