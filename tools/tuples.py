@@ -7,7 +7,7 @@ MOST = 8
 
 
 def implementation(n):
-    kinds = [f"T{i + 1}" for i in range(n)]
+    kinds = [f"E{i + 1}" for i in range(n)]
     bounds = ", ".join(f"{k}: Serialize" for k in kinds)
     of = f"({kinds[0]},)" if n == 1 else f"({', '.join(kinds)})"
     data = " ∷ ".join(f"{k}.data_of v.{i} human" for i, k in enumerate(kinds))

@@ -8,10 +8,10 @@ use crate::serializer::Serializer;
 use rmp_wire::Sink;
 use rmp_wire::config::SerializerConfig;
 
-impl<T1: Serialize> Serialize for (T1,) {
-    ghost data_of = { λ v human. tuple_of (T1.data_of v.0 human ∷ []) };
+impl<E1: Serialize> Serialize for (E1,) {
+    ghost data_of = { λ v human. tuple_of (E1.data_of v.0 human ∷ []) };
 
-    ghost is_value = { λ v. T1.is_value v.0 };
+    ghost is_value = { λ v. E1.is_value v.0 };
 
     fn serialize<W: Sink, C: SerializerConfig>(
         &self,
@@ -29,10 +29,10 @@ impl<T1: Serialize> Serialize for (T1,) {
     }
 }
 
-impl<T1: Serialize, T2: Serialize> Serialize for (T1, T2) {
-    ghost data_of = { λ v human. tuple_of (T1.data_of v.0 human ∷ T2.data_of v.1 human ∷ []) };
+impl<E1: Serialize, E2: Serialize> Serialize for (E1, E2) {
+    ghost data_of = { λ v human. tuple_of (E1.data_of v.0 human ∷ E2.data_of v.1 human ∷ []) };
 
-    ghost is_value = { λ v. T1.is_value v.0 × T2.is_value v.1 };
+    ghost is_value = { λ v. E1.is_value v.0 × E2.is_value v.1 };
 
     fn serialize<W: Sink, C: SerializerConfig>(
         &self,
@@ -51,10 +51,10 @@ impl<T1: Serialize, T2: Serialize> Serialize for (T1, T2) {
     }
 }
 
-impl<T1: Serialize, T2: Serialize, T3: Serialize> Serialize for (T1, T2, T3) {
-    ghost data_of = { λ v human. tuple_of (T1.data_of v.0 human ∷ T2.data_of v.1 human ∷ T3.data_of v.2 human ∷ []) };
+impl<E1: Serialize, E2: Serialize, E3: Serialize> Serialize for (E1, E2, E3) {
+    ghost data_of = { λ v human. tuple_of (E1.data_of v.0 human ∷ E2.data_of v.1 human ∷ E3.data_of v.2 human ∷ []) };
 
-    ghost is_value = { λ v. T1.is_value v.0 × T2.is_value v.1 × T3.is_value v.2 };
+    ghost is_value = { λ v. E1.is_value v.0 × E2.is_value v.1 × E3.is_value v.2 };
 
     fn serialize<W: Sink, C: SerializerConfig>(
         &self,
@@ -74,10 +74,10 @@ impl<T1: Serialize, T2: Serialize, T3: Serialize> Serialize for (T1, T2, T3) {
     }
 }
 
-impl<T1: Serialize, T2: Serialize, T3: Serialize, T4: Serialize> Serialize for (T1, T2, T3, T4) {
-    ghost data_of = { λ v human. tuple_of (T1.data_of v.0 human ∷ T2.data_of v.1 human ∷ T3.data_of v.2 human ∷ T4.data_of v.3 human ∷ []) };
+impl<E1: Serialize, E2: Serialize, E3: Serialize, E4: Serialize> Serialize for (E1, E2, E3, E4) {
+    ghost data_of = { λ v human. tuple_of (E1.data_of v.0 human ∷ E2.data_of v.1 human ∷ E3.data_of v.2 human ∷ E4.data_of v.3 human ∷ []) };
 
-    ghost is_value = { λ v. T1.is_value v.0 × T2.is_value v.1 × T3.is_value v.2 × T4.is_value v.3 };
+    ghost is_value = { λ v. E1.is_value v.0 × E2.is_value v.1 × E3.is_value v.2 × E4.is_value v.3 };
 
     fn serialize<W: Sink, C: SerializerConfig>(
         &self,
@@ -98,11 +98,11 @@ impl<T1: Serialize, T2: Serialize, T3: Serialize, T4: Serialize> Serialize for (
     }
 }
 
-impl<T1: Serialize, T2: Serialize, T3: Serialize, T4: Serialize, T5: Serialize> Serialize
-    for (T1, T2, T3, T4, T5) {
-    ghost data_of = { λ v human. tuple_of (T1.data_of v.0 human ∷ T2.data_of v.1 human ∷ T3.data_of v.2 human ∷ T4.data_of v.3 human ∷ T5.data_of v.4 human ∷ []) };
+impl<E1: Serialize, E2: Serialize, E3: Serialize, E4: Serialize, E5: Serialize> Serialize
+    for (E1, E2, E3, E4, E5) {
+    ghost data_of = { λ v human. tuple_of (E1.data_of v.0 human ∷ E2.data_of v.1 human ∷ E3.data_of v.2 human ∷ E4.data_of v.3 human ∷ E5.data_of v.4 human ∷ []) };
 
-    ghost is_value = { λ v. T1.is_value v.0 × T2.is_value v.1 × T3.is_value v.2 × T4.is_value v.3 × T5.is_value v.4 };
+    ghost is_value = { λ v. E1.is_value v.0 × E2.is_value v.1 × E3.is_value v.2 × E4.is_value v.3 × E5.is_value v.4 };
 
     fn serialize<W: Sink, C: SerializerConfig>(
         &self,
@@ -125,16 +125,16 @@ impl<T1: Serialize, T2: Serialize, T3: Serialize, T4: Serialize, T5: Serialize> 
 }
 
 impl<
-    T1: Serialize,
-    T2: Serialize,
-    T3: Serialize,
-    T4: Serialize,
-    T5: Serialize,
-    T6: Serialize,
-> Serialize for (T1, T2, T3, T4, T5, T6) {
-    ghost data_of = { λ v human. tuple_of (T1.data_of v.0 human ∷ T2.data_of v.1 human ∷ T3.data_of v.2 human ∷ T4.data_of v.3 human ∷ T5.data_of v.4 human ∷ T6.data_of v.5 human ∷ []) };
+    E1: Serialize,
+    E2: Serialize,
+    E3: Serialize,
+    E4: Serialize,
+    E5: Serialize,
+    E6: Serialize,
+> Serialize for (E1, E2, E3, E4, E5, E6) {
+    ghost data_of = { λ v human. tuple_of (E1.data_of v.0 human ∷ E2.data_of v.1 human ∷ E3.data_of v.2 human ∷ E4.data_of v.3 human ∷ E5.data_of v.4 human ∷ E6.data_of v.5 human ∷ []) };
 
-    ghost is_value = { λ v. T1.is_value v.0 × T2.is_value v.1 × T3.is_value v.2 × T4.is_value v.3 × T5.is_value v.4 × T6.is_value v.5 };
+    ghost is_value = { λ v. E1.is_value v.0 × E2.is_value v.1 × E3.is_value v.2 × E4.is_value v.3 × E5.is_value v.4 × E6.is_value v.5 };
 
     fn serialize<W: Sink, C: SerializerConfig>(
         &self,
@@ -158,17 +158,17 @@ impl<
 }
 
 impl<
-    T1: Serialize,
-    T2: Serialize,
-    T3: Serialize,
-    T4: Serialize,
-    T5: Serialize,
-    T6: Serialize,
-    T7: Serialize,
-> Serialize for (T1, T2, T3, T4, T5, T6, T7) {
-    ghost data_of = { λ v human. tuple_of (T1.data_of v.0 human ∷ T2.data_of v.1 human ∷ T3.data_of v.2 human ∷ T4.data_of v.3 human ∷ T5.data_of v.4 human ∷ T6.data_of v.5 human ∷ T7.data_of v.6 human ∷ []) };
+    E1: Serialize,
+    E2: Serialize,
+    E3: Serialize,
+    E4: Serialize,
+    E5: Serialize,
+    E6: Serialize,
+    E7: Serialize,
+> Serialize for (E1, E2, E3, E4, E5, E6, E7) {
+    ghost data_of = { λ v human. tuple_of (E1.data_of v.0 human ∷ E2.data_of v.1 human ∷ E3.data_of v.2 human ∷ E4.data_of v.3 human ∷ E5.data_of v.4 human ∷ E6.data_of v.5 human ∷ E7.data_of v.6 human ∷ []) };
 
-    ghost is_value = { λ v. T1.is_value v.0 × T2.is_value v.1 × T3.is_value v.2 × T4.is_value v.3 × T5.is_value v.4 × T6.is_value v.5 × T7.is_value v.6 };
+    ghost is_value = { λ v. E1.is_value v.0 × E2.is_value v.1 × E3.is_value v.2 × E4.is_value v.3 × E5.is_value v.4 × E6.is_value v.5 × E7.is_value v.6 };
 
     fn serialize<W: Sink, C: SerializerConfig>(
         &self,
@@ -193,18 +193,18 @@ impl<
 }
 
 impl<
-    T1: Serialize,
-    T2: Serialize,
-    T3: Serialize,
-    T4: Serialize,
-    T5: Serialize,
-    T6: Serialize,
-    T7: Serialize,
-    T8: Serialize,
-> Serialize for (T1, T2, T3, T4, T5, T6, T7, T8) {
-    ghost data_of = { λ v human. tuple_of (T1.data_of v.0 human ∷ T2.data_of v.1 human ∷ T3.data_of v.2 human ∷ T4.data_of v.3 human ∷ T5.data_of v.4 human ∷ T6.data_of v.5 human ∷ T7.data_of v.6 human ∷ T8.data_of v.7 human ∷ []) };
+    E1: Serialize,
+    E2: Serialize,
+    E3: Serialize,
+    E4: Serialize,
+    E5: Serialize,
+    E6: Serialize,
+    E7: Serialize,
+    E8: Serialize,
+> Serialize for (E1, E2, E3, E4, E5, E6, E7, E8) {
+    ghost data_of = { λ v human. tuple_of (E1.data_of v.0 human ∷ E2.data_of v.1 human ∷ E3.data_of v.2 human ∷ E4.data_of v.3 human ∷ E5.data_of v.4 human ∷ E6.data_of v.5 human ∷ E7.data_of v.6 human ∷ E8.data_of v.7 human ∷ []) };
 
-    ghost is_value = { λ v. T1.is_value v.0 × T2.is_value v.1 × T3.is_value v.2 × T4.is_value v.3 × T5.is_value v.4 × T6.is_value v.5 × T7.is_value v.6 × T8.is_value v.7 };
+    ghost is_value = { λ v. E1.is_value v.0 × E2.is_value v.1 × E3.is_value v.2 × E4.is_value v.3 × E5.is_value v.4 × E6.is_value v.5 × E7.is_value v.6 × E8.is_value v.7 };
 
     fn serialize<W: Sink, C: SerializerConfig>(
         &self,
