@@ -1,2 +1,4 @@
+pub mod LeafTexts
+pub mod PartTexts
 pub mod Printing
 pub mod Reading

@@ -1,6 +1,8 @@
 //! A message as text.
-ghost use Rattle.std.specs.Prelude.{◌≡◌, ◌++◌, OnOk, string_bytes};
+ghost use Rattle.std.specs.Prelude.{◌≡◌, ◌≢◌, ◌++◌, OnOk, string_bytes};
 ghost use Rattle.hex.specs.Hex.{encode_lower};
+ghost use Rattle.rmp_serde.specs.Parts.{tree, kind_of};
+ghost use Rattle.mpcanon.specs.TreeText.{tree_text};
 
 use rmp_serde::{Kind, ValueRef};
 use std::alloc::{AllocError, Global};
@@ -8,7 +10,9 @@ use std::alloc::{AllocError, Global};
 /// Appends a message's tree to a text: `nil`, `true`, a decimal number, `f32:` or `f64:` and the bits in hex, `t:` or `b:`
 /// and bytes in hex, `[a,b]`, `{k=v,k=v}`, or `x(TAG):` and bytes in hex.
 #[cycle(tree_text)]
-pub fn write_tree(alloc: Global, text: &mut String, value: ValueRef<'_>) -> Result<(), AllocError> {
+pub fn write_tree(alloc: Global, text: &mut String, value: ValueRef<'_>) -> Result<(), AllocError>
+    ensures { OnOk result (string_bytes text.new ≡ string_bytes text.old ++ tree_text (tree value.entry)) }
+{
     match value.kind() {
         Kind::List => write_list(alloc, text, value),
         Kind::Map => write_map(alloc, text, value),
@@ -17,45 +21,57 @@ pub fn write_tree(alloc: Global, text: &mut String, value: ValueRef<'_>) -> Resu
 }
 
 #[cycle(tree_text)]
-fn write_list(alloc: Global, text: &mut String, list: ValueRef<'_>) -> Result<(), AllocError> {
-    text.push('[')?;
+fn write_list(alloc: Global, text: &mut String, list: ValueRef<'_>) -> Result<(), AllocError>
+    requires { kind_of (tree list) ≡ Kind.List }
+    ensures { OnOk result (string_bytes text.new ≡ string_bytes text.old ++ tree_text (tree list.entry)) }
+{
+    text.push_str("[")?;
     for i in 0..list.len() {
         if i > 0 {
-            text.push(',')?;
+            text.push_str(",")?;
         }
         if let Some(item) = list.item(i) {
             write_tree(alloc, text, item)?;
         }
     }
-    text.push(']')
+    text.push_str("]")
 }
 
 #[cycle(tree_text)]
-fn write_map(alloc: Global, text: &mut String, map: ValueRef<'_>) -> Result<(), AllocError> {
-    text.push('{')?;
+fn write_map(alloc: Global, text: &mut String, map: ValueRef<'_>) -> Result<(), AllocError>
+    requires { kind_of (tree map) ≡ Kind.Map }
+    ensures { OnOk result (string_bytes text.new ≡ string_bytes text.old ++ tree_text (tree map.entry)) }
+{
+    text.push_str("{")?;
     for i in 0..map.len() {
         if i > 0 {
-            text.push(',')?;
+            text.push_str(",")?;
         }
         if let Some((key, value)) = map.pair(i) {
             write_tree(alloc, text, key)?;
-            text.push('=')?;
+            text.push_str("=")?;
             write_tree(alloc, text, value)?;
         }
     }
-    text.push('}')
+    text.push_str("}")
 }
 
 // Appends a message that has no parts.
-fn write_leaf(alloc: Global, text: &mut String, leaf: ValueRef<'_>) -> Result<(), AllocError> {
+fn write_leaf(alloc: Global, text: &mut String, leaf: ValueRef<'_>) -> Result<(), AllocError>
+    requires list { kind_of (tree leaf) ≢ Kind.List }
+    requires map { kind_of (tree leaf) ≢ Kind.Map }
+    ensures { OnOk result (string_bytes text.new ≡ string_bytes text.old ++ tree_text (tree leaf.entry)) }
+{
     if let Some(truth) = leaf.as_truth() {
         write!(text, "{truth}")
     } else if let Some(number) = leaf.as_whole() {
         write!(text, "{number}")
     } else if let Some(bits) = leaf.as_f32_bits() {
-        write!(text, "f32:{bits:08x}")
+        text.push_str("f32:")?;
+        write_hex(alloc, text, &bits.to_be_bytes())
     } else if let Some(bits) = leaf.as_f64_bits() {
-        write!(text, "f64:{bits:016x}")
+        text.push_str("f64:")?;
+        write_hex(alloc, text, &bits.to_be_bytes())
     } else if let Some(characters) = leaf.as_str() {
         text.push_str("t:")?;
         write_hex(alloc, text, characters.as_bytes())
