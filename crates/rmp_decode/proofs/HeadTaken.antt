@@ -1,5 +1,5 @@
 -- What the beginning of a read takes, with or without something kept back.
-use Rattle.std.proofs.Common.{◌≡◌, ◌∙◌, sym, ap, subst, refl, ℕ, ℤ, pos, ◌<◌, ◌^◌, arith, List, [], ◌∷◌, ◌++◌, Option, None, Some, Bool, true, false, Ok, Err}
+use Rattle.std.proofs.Common.{◌≡◌, sym, ap, subst, refl, ℕ, ℤ, pos, ◌<◌, ◌≤◌, arith, List, [], ◌∷◌, Option, None, Some, true, false, Ok, Err}
 use Rattle.std.specs.Io.KnownBytes.{Consumes, prepend_known}
 use Rattle.std.proofs.KnownBytes.{Consumes-trans}
 use Rattle.std.proofs.lemmas.List.{append-nil}
@@ -8,17 +8,20 @@ use Rattle.rmp_wire.specs.declared.head.Head.{Head}
 use Rattle.rmp_wire.specs.declared.head.Head.TheVariants.{Whole}
 use Rattle.rmp_wire.specs.declared.marker.Marker.{Marker}
 use Rattle.rmp_wire.specs.declared.source.Source.{Ghosts}
-use Rattle.rmp_wire.specs.Heads.{canon_head, fits_head}
-use Rattle.rmp_wire.specs.Reading.{ReadsHead as WireHead, ReadsNext}
-use Rattle.rmp_wire.specs.Taking.{byte_of}
+use Rattle.rmp_wire.specs.Heads.{IsHead, canon_head, fits_head}
+use Rattle.rmp_wire.specs.declared.marker.Marker.TheVariants.{FixPos, U8}
+use Rattle.rmp_wire.specs.Reading.{ReadsHead as WireHead, ReadsNext, FailsNext}
+use Rattle.rmp_wire.specs.Taking.{byte_of, marker_of}
 use Rattle.rmp_wire.proofs.Canon.{canon_is_head}
 use Rattle.rmp_wire.proofs.NextReads.{fails_after}
 use Rattle.rmp_decode.specs.Law.{ReadsHead}
-use Rattle.rmp_decode.specs.State.{left, kept_bytes, Stays}
+use Rattle.rmp_decode.specs.ReadErrors.{error_of}
+use Rattle.rmp_decode.specs.State.{left}
 use Rattle.rmp_decode.specs.declared.de.Deserializer.{Deserializer}
 use Rattle.rmp_decode.specs.declared.de.Kept.TheVariants.{Nothing, First, Number}
 use Rattle.rmp_decode.specs.declared.error.Error.{Error}
 use Rattle.rmp_decode.proofs.Contents.{bare}
+use Rattle.rmp_decode.proofs.Exactness.{stands_known, number_stands, ends_none}
 use Rattle.rmp_decode.proofs.Refusals.{no_head}
 
 pub kept_first : (bs : List ℕ) (known : Option (List ℕ)) → Consumes (prepend_known bs known) known bs
@@ -34,70 +37,83 @@ module _ {R C : Type 0} (g : Ghosts R) (old new : Deserializer R C) (fresh : old
   pub head_next : (p : Marker × Head) → old.kept ≡ Nothing → ReadsNext g old.reader new.reader (Ok p) → ReadsHead g old new (Ok p)
   head_next p k r = record {
     ok = record { bytes = byte_of p.0 ∷ r.ok.rest; takes = rw (bare g old k, bare g new clean) r.ok.taken; goes_on = record { more = byte_of p.0 ∷ r.ok.rest; whole = rw k refl }; is_head = r.ok.is_head };
+    marked = rw (bare g old k) (stands_known p.0 p.1 (byte_of p.0) r.ok.rest (g.ahead old.reader) (g.ahead new.reader) r.ok.taken (sym r.ok.is_marker) r.ok.is_head);
     clean = clean;
     fresh = fresh;
     sound = r.sound;
     err = λ _. tt;
+    ends = λ _. tt;
     failed = failed;
     before = λ f. absurd cc;
     stays = record { config = config; room = room; place = r.place };
   }
 
-  pub no_head_next : (e : ValueReadError) (f : Error) → old.kept ≡ Nothing → ReadsNext g old.reader new.reader (Err e) → ReadsHead g old new (Err f)
-  no_head_next e f k r = record {
+  pub no_head_next : (e : ValueReadError) (f : Error) → f ≡ error_of e → old.kept ≡ Nothing → ReadsNext g old.reader new.reader (Err e) → ReadsHead g old new (Err f)
+  no_head_next e f i k r = record {
     ok = tt;
+    marked = tt;
     clean = tt;
     fresh = tt;
     sound = tt;
     err = λ o n q. no_head (left g old) (rw (bare g old k) (r.err.none q));
+    ends = λ o. rw (bare g old k, i) (ends_none (g.ahead old.reader) (g.ahead new.reader) _ _ e r.err);
     failed = failed;
     before = λ f. absurd cc;
     stays = record { config = config; room = room; place = r.place };
   }
 
   -- a head's first byte was kept back
-  pub head_behind : (m : Marker) (h : Head) → old.kept ≡ First m → WireHead g m old.reader new.reader (Ok h) → ReadsHead g old new (Ok (m, h))
-  head_behind m h k r = record {
+  pub head_behind : (b : ℕ) (m : Marker) (h : Head) → m ≡ marker_of b → byte_of m ≡ b → old.kept ≡ First b → WireHead g m old.reader new.reader (Ok h) → ReadsHead g old new (Ok (m, h))
+  head_behind b m h i w k r = record {
     ok = record {
       bytes = byte_of m ∷ r.ok.rest;
-      takes = rw (k, bare g new clean) (Consumes-trans _ (g.ahead old.reader) _ (byte_of m ∷ []) r.ok.rest (kept_first (byte_of m ∷ []) (g.ahead old.reader)) r.ok.taken);
-      goes_on = record { more = r.ok.rest; whole = rw k refl };
+      takes = rw (k, bare g new clean, w) (Consumes-trans _ (g.ahead old.reader) _ (b ∷ []) r.ok.rest (kept_first (b ∷ []) (g.ahead old.reader)) r.ok.taken);
+      goes_on = record { more = r.ok.rest; whole = rw (k, w) refl };
       is_head = r.ok.is_head;
     };
+    marked = rw k (stands_known m h b r.ok.rest (prepend_known (b ∷ []) (g.ahead old.reader)) (g.ahead new.reader) (Consumes-trans _ (g.ahead old.reader) _ (b ∷ []) r.ok.rest (kept_first (b ∷ []) (g.ahead old.reader)) r.ok.taken) i (subst (λ z. IsHead h (z ∷ r.ok.rest)) w r.ok.is_head));
     clean = clean;
     fresh = fresh;
     sound = r.sound;
     err = λ _. tt;
+    ends = λ _. tt;
     failed = failed;
     before = λ f. absurd cc;
     stays = record { config = config; room = room; place = r.place };
   }
 
-  pub no_head_behind : (m : Marker) (e : ValueReadError) (f : Error) → old.kept ≡ First m → WireHead g m old.reader new.reader (Err e) → ReadsHead g old new (Err f)
-  no_head_behind m e f k r = record {
+  pub no_head_behind : (b : ℕ) (m : Marker) (e : ValueReadError) (f : Error) → byte_of m ≡ b → f ≡ error_of e → old.kept ≡ First b → WireHead g m old.reader new.reader (Err e) → ReadsHead g old new (Err f)
+  no_head_behind b m e f w i k r = record {
     ok = tt;
+    marked = tt;
     clean = tt;
     fresh = tt;
     sound = tt;
-    err = λ o n q. no_head (left g old) (rw k ((fails_after m _ (g.ahead old.reader) _ _ (g.faults old.reader) _ e (kept_first (byte_of m ∷ []) (g.ahead old.reader)) refl r.reserved r.err).none q));
+    err = λ o n q. no_head (left g old) (rw k (fails.none q));
+    ends = λ o. rw (k, i) (ends_none (prepend_known (b ∷ []) (g.ahead old.reader)) (g.ahead new.reader) _ _ e fails);
     failed = failed;
     before = λ f. absurd cc;
     stays = record { config = config; room = room; place = r.place };
   }
+    where
+      fails : FailsNext (prepend_known (b ∷ []) (g.ahead old.reader)) (g.ahead new.reader) (g.faults old.reader) (g.faults new.reader) e
+      fails = fails_after m _ (g.ahead old.reader) _ _ (g.faults old.reader) _ e (subst (λ z. Consumes (prepend_known (b ∷ []) (g.ahead old.reader)) (g.ahead old.reader) (z ∷ [])) (sym w) (kept_first (b ∷ []) (g.ahead old.reader))) refl r.reserved r.err
 
   -- a number was kept back, which stands for a message
-  pub head_number : (m : Marker) (z : ℤ) (n : ℕ) → z ≡ pos n → n < 256 → old.kept ≡ Number n → new.reader ≡ old.reader → ReadsHead g old new (Ok (m, Whole z))
-  head_number m z n e l k q = rw e (record {
+  pub head_number : (m : Marker) (z : ℤ) (n : ℕ) → z ≡ pos n → n < 256 → (n < 128 → m ≡ FixPos n) → (128 ≤ n → m ≡ U8) → old.kept ≡ Number n → new.reader ≡ old.reader → ReadsHead g old new (Ok (m, Whole z))
+  head_number m z n e l small wide k q = rw e (record {
     ok = record {
       bytes = canon_head (Whole (pos n));
       takes = rw (k, bare g new clean, q) (kept_first (canon_head (Whole (pos n))) (g.ahead old.reader));
       goes_on = record { more = []; whole = rw k (sym (append-nil (canon_head (Whole (pos n))))) };
       is_head = canon_is_head (Whole (pos n)) (fits_byte n l);
     };
+    marked = rw k (number_stands n l (fits_byte n l) m small wide (g.ahead old.reader));
     clean = clean;
     fresh = fresh;
     sound = ap g.faults q;
     err = λ _. tt;
+    ends = λ _. tt;
     failed = failed;
     before = λ f. absurd cc;
     stays = record { config = config; room = room; place = ap g.place q };

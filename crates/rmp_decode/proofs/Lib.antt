@@ -1,5 +1,6 @@
 pub mod ByteParts
 pub mod Contents
+pub mod Exactness
 pub mod HeadTaken
 pub mod Laws
 pub mod Leaves

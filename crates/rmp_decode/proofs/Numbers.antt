@@ -1,6 +1,9 @@
 -- What is read of numbers, texts and bytes.
-use Rattle.std.proofs.Common.{◌≡◌, ℕ, ℤ, pos, ◌≤ℤ◌, arith, List, Bool, true, false}
-use Rattle.rmp_decode.specs.Kinds.{raw_msg}
+use Rattle.std.proofs.Common.{◌≡◌, ℕ, ℤ, pos, ◌≤ℤ◌, arith, List, Bool, true, false, refl}
+use Rattle.rmp_wire.specs.declared.head.Head.{Head}
+use Rattle.rmp_wire.specs.declared.head.Head.TheVariants.{Nil, Truth, Whole, F32Bits, F64Bits, Text, Bin, Array, Map, Ext}
+use Rattle.rmp_wire.specs.declared.marker.Marker.{Marker}
+use Rattle.rmp_decode.specs.Kinds.{raw_msg, other_kind, other_number}
 use Rattle.std.proofs.lemmas.Int.{ints}
 use Rattle.rmp_wire.specs.Msg.{whole}
 use Rattle.rmp_decode.specs.Law.{Readable}
@@ -27,3 +30,16 @@ raw_same false false s r e = cc
 
 pub not_both : (b : Bool) → b ≡ false → b ≡ true → ⊥
 not_both b p q = cc
+
+-- another kind than a number
+pub not_whole : (m : Marker) (h : Head) → ((z : ℤ) → h ≡ Whole z → ⊥) → other_kind m h ≡ other_number m h
+not_whole m (Whole z) n = absurd (n z refl)
+not_whole m Nil n = refl
+not_whole m (Truth t) n = refl
+not_whole m (F32Bits k) n = refl
+not_whole m (F64Bits k) n = refl
+not_whole m (Text k) n = refl
+not_whole m (Bin k) n = refl
+not_whole m (Array k) n = refl
+not_whole m (Map k) n = refl
+not_whole m (Ext k tag) n = refl

@@ -1,12 +1,12 @@
 -- What a head holds, where it is of one kind.
-use Rattle.std.specs.Prelude.{◌≡◌, ℕ, List, Bool, true, false, Option, MatchOption}
+use Rattle.std.specs.Prelude.{ℕ, List, Bool, true, false, Option, MatchOption}
 use Rattle.rmp_wire.specs.Msg.{Msg, text, bin}
 use Rattle.rmp_wire.specs.declared.head.Head.{Head}
 use Rattle.rmp_wire.specs.declared.head.Head.TheVariants.{Nil, Truth, Whole, F32Bits, F64Bits, Text, Bin, Array, Map, Ext}
 use Rattle.rmp_wire.specs.declared.marker.Marker.{Marker}
 use Rattle.rmp_decode.specs.declared.error.Error.{Error}
 use Rattle.rmp_decode.specs.declared.error.Error.TheVariants.{Syntax, TypeMismatch}
-use Rattle.rmp_decode.specs.declared.text.Text.TheVariants.{InvalidType}
+use Rattle.rmp_decode.specs.declared.text.Text.TheVariants.{InvalidType, InvalidValue}
 
 -- the head is of the kind, and holds this, or it is of no such kind
 abbrev pub Finds : {A : Type 0} → (Head → A → Type 0) → Head → Option A → Type 0
@@ -24,6 +24,15 @@ other_kind m (Bin n) = TypeMismatch m
 other_kind m (Array n) = TypeMismatch m
 other_kind m (Map n) = TypeMismatch m
 other_kind m (Ext n tag) = TypeMismatch m
+
+-- how a message is refused where a number in a range is wanted, by its kind or since it is out of the range
+abbrev pub other_number : Marker → Head → Error
+other_number m (Whole z) = Syntax InvalidValue
+other_number m h = other_kind m h
+
+-- how a message of another kind is refused where nil is wanted
+abbrev pub not_nil : Marker → Head → Error
+not_nil m h = Syntax InvalidType
 
 -- a text, or bytes
 abbrev pub raw_msg : Bool → List ℕ → Msg

@@ -1,5 +1,5 @@
 -- What a read gives, and what it refuses.
-use Rattle.std.specs.Prelude.{◌≡◌, ◌≢◌, ℕ, ◌<◌, true, false, List, [], ◌++◌, Option, IfSome, Result, IfErr, IfOk, OnOk, OnErr, MatchResult}
+use Rattle.std.specs.Prelude.{◌≡◌, ◌≢◌, ℕ, ◌<◌, true, false, List, ◌++◌, Option, IfSome, Result, IfErr, IfOk, OnOk, OnErr, MatchResult}
 use Rattle.std.specs.Io.KnownBytes.{Consumes}
 use Rattle.rmp_wire.specs.declared.head.Head.{Head}
 use Rattle.rmp_wire.specs.declared.marker.Marker.{Marker}
@@ -7,6 +7,7 @@ use Rattle.rmp_wire.specs.declared.source.Source.{Ghosts}
 use Rattle.rmp_wire.specs.Heads.{IsHead}
 use Rattle.rmp_wire.specs.Msg.{Msg, depth}
 use Rattle.rmp_wire.specs.Spelling.{Spells}
+use Rattle.rmp_decode.specs.Exact.{Stands, EndsExactly}
 use Rattle.rmp_decode.specs.State.{left, faults_of, room_of, kept_bytes, Stays}
 use Rattle.rmp_decode.specs.declared.de.Deserializer.{Deserializer}
 use Rattle.rmp_decode.specs.declared.de.Kept.TheVariants.{Nothing}
@@ -83,10 +84,13 @@ pub record TakesHead {R C : Type 0} (g : Ghosts R) (h : Head) (old new : Deseria
 -- What the beginning of each read does: a head is taken, or no message begins there.
 pub record ReadsHead {R C : Type 0} (g : Ghosts R) (old new : Deserializer R C) (result : Result (Marker × Head) Error) : Type 0 where
   pub ok : IfOk result (λ p. TakesHead g p.1 old new)
+  -- the marker is that of the first byte that was left, where it is told
+  pub marked : IfOk result (λ p. IfSome (left g old) (Stands p.0 p.1))
   pub clean : OnOk result (new.kept ≡ Nothing)
   pub fresh : OnOk result (old.failed ≡ false)
   pub sound : OnOk result (faults_of g new ≡ faults_of g old)
   pub err : old.failed ≡ false → IfErr result (λ e. Explains e (faults_of g old) (faults_of g new) (NoMessage (left g old)))
+  pub ends : old.failed ≡ false → IfErr result (EndsExactly (faults_of g old) (faults_of g new) (left g old))
   pub failed : new.failed ≡ true
   pub before : old.failed ≡ true → MatchResult result (λ _. ⊥) IsFailedBefore × (new ≡ old)
   pub stays : Stays g old new

@@ -1,3 +1,4 @@
+pub mod Exact
 pub mod Kinds
 pub mod Law
 pub mod Pieces

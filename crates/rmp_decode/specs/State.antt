@@ -4,7 +4,6 @@ use Rattle.std.specs.Io.KnownBytes.{prepend_known}
 use Rattle.rmp_wire.specs.declared.head.Head.TheVariants.{Whole}
 use Rattle.rmp_wire.specs.declared.source.Source.{Ghosts}
 use Rattle.rmp_wire.specs.Heads.{canon_head}
-use Rattle.rmp_wire.specs.Taking.{byte_of}
 use Rattle.rmp_decode.specs.declared.de.Deserializer.{Deserializer}
 use Rattle.rmp_decode.specs.declared.de.Kept.{Kept}
 use Rattle.rmp_decode.specs.declared.de.Kept.TheVariants.{Nothing, First, Number}
@@ -12,7 +11,7 @@ use Rattle.rmp_decode.specs.declared.de.Kept.TheVariants.{Nothing, First, Number
 -- the bytes that stand for what was kept back
 abbrev pub kept_bytes : Kept → List ℕ
 kept_bytes Nothing = []
-kept_bytes (First m) = byte_of m ∷ []
+kept_bytes (First b) = b ∷ []
 kept_bytes (Number n) = canon_head (Whole (pos n))
 
 -- what the reader reads from

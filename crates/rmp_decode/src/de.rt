@@ -1,5 +1,5 @@
 //! The reader of typed values, and the types that it reads.
-ghost use Rattle.std.specs.Prelude.{◌≡◌, ◌≢◌, true, false, Bool, Option, IfOk, IfErr};
+ghost use Rattle.std.specs.Prelude.{◌≡◌, ◌≢◌, ◌<◌, ◌≤◌, true, false, Bool, Option, IfOk, IfErr};
 ghost use Rattle.rmp_wire.specs.Spelling.{Spells};
 ghost use Rattle.rmp_decode.specs.State.{left, faults_of, room_of, reader_of, config_of, is_failed, kept_of, limit_of, failed_of};
 ghost use Rattle.rmp_decode.specs.Law.{Begins, Readable, Lawful, ReadsHead};
@@ -29,7 +29,7 @@ const DEFAULT_DEPTH: u32 = 1024;
 pub enum Kept {
     Nothing,
     /// The first byte of the next message, which was looked at.
-    First(Marker),
+    First(u8),
     /// A number that stands for the next message: a byte of bytes that are read as a list.
     Number(u8),
 }
@@ -165,8 +165,9 @@ impl<R: Source, C: SerializerConfig> Deserializer<R, C> {
                 Ok(next) => Ok(next),
                 Err(e) => Err(Error::from(e)),
             },
-            Kept::First(marker) => {
+            Kept::First(byte) => {
                 self.kept = Kept::Nothing;
+                let marker = Marker::from_u8(byte);
                 match read_head(marker, &mut self.reader) {
                     Ok(head) => Ok((marker, head)),
                     Err(e) => Err(Error::from(e)),
@@ -174,9 +175,22 @@ impl<R: Source, C: SerializerConfig> Deserializer<R, C> {
             }
             Kept::Number(n) => {
                 self.kept = Kept::Nothing;
-                Ok((Marker::U8, Head::Whole(i128::from(n))))
+                Ok((number_marker(n), Head::Whole(i128::from(n))))
             }
         }
+    }
+}
+
+// The marker of the canonical head of a byte that is read as a number.
+#[inline(always)]
+fn number_marker(n: u8) -> Marker
+    ensures small { n < 128 → result ≡ Marker.FixPos n }
+    ensures wide { 128 ≤ n → result ≡ Marker.U8 }
+{
+    if n < 0x80 {
+        Marker::FixPos(n)
+    } else {
+        Marker::U8
     }
 }
 

@@ -29,6 +29,34 @@ fn numbers(rt: HostRuntime) {
 }
 
 #[test]
+fn refusals_of_one_head(rt: HostRuntime) {
+    for input in [[0xc0u8].as_slice(), &[0xc2], &[0xca, 0, 0, 0, 0]] {
+        let read: Result<u8, Error> = from_slice(rt.alloc(), input);
+        assert!(rt; matches!(&read, Err(Error::Syntax(Text::InvalidType))));
+    }
+    for input in [[0xffu8].as_slice(), &[0xcd, 1, 0], &[0xd0, 0x80]] {
+        let read: Result<u8, Error> = from_slice(rt.alloc(), input);
+        assert!(rt; matches!(&read, Err(Error::Syntax(Text::InvalidValue))));
+    }
+    let read: Result<u8, Error> = from_slice(rt.alloc(), &[0xd4, 0xff, 5]);
+    assert!(rt; matches!(&read, Err(Error::TypeMismatch(Marker::FixExt1))));
+    let read: Result<bool, Error> = from_slice(rt.alloc(), &[0x93]);
+    assert!(rt; matches!(&read, Err(Error::TypeMismatch(Marker::FixArray(3)))));
+    let read: Result<(), Error> = from_slice(rt.alloc(), &[0xc4, 0]);
+    assert!(rt; matches!(&read, Err(Error::Syntax(Text::InvalidType))));
+    let read: Result<i64, Error> = from_slice(rt.alloc(), &[0xc1]);
+    assert!(rt; matches!(&read, Err(Error::TypeMismatch(Marker::Reserved))));
+    match from_slice::<i64>(rt.alloc(), &[]) {
+        Err(Error::InvalidMarkerRead(e)) => assert!(rt; e.kind() == ErrorKind::UnexpectedEof),
+        _ => assert!(rt; false),
+    }
+    match from_slice::<i64>(rt.alloc(), &[0xd2, 0, 0]) {
+        Err(Error::InvalidDataRead(e)) => assert!(rt; e.kind() == ErrorKind::UnexpectedEof),
+        _ => assert!(rt; false),
+    }
+}
+
+#[test]
 fn a_failed_reader_stays_failed(rt: HostRuntime) {
     let mut de = Deserializer::from_read_ref(rt.alloc(), &[0xc1, 0x05]);
     assert!(rt;

@@ -1,0 +1,146 @@
+-- Which error comes where one head is wanted.
+use Rattle.std.proofs.Common.{◌≡◌, ◌∙◌, sym, ap, subst, refl, ℕ, pos, ◌<◌, ◌≤◌, arith, List, [], ◌∷◌, ◌++◌, Option, None, Some, IfSome, nat_lt, true, false}
+use Rattle.std.proofs.Common.{inl, inr}
+use Rattle.std.proofs.lemmas.Bool.{cases_lt, lt-ltb, le-ltb}
+use Rattle.std.specs.Io.KnownBytes.{Consumes, prepend_known}
+use Rattle.std.specs.Int.{w8, to_be_bytes}
+use Rattle.rmp_wire.specs.declared.error.ValueReadError.{ValueReadError}
+use Rattle.rmp_wire.specs.declared.error.ValueReadError.TheVariants as wire
+use Rattle.rmp_wire.specs.declared.head.Head.{Head}
+use Rattle.rmp_wire.specs.declared.head.Head.TheVariants.{Whole}
+use Rattle.rmp_wire.specs.declared.marker.Marker.{Marker}
+use Rattle.rmp_wire.specs.declared.marker.Marker.TheVariants as marker
+use Rattle.rmp_wire.specs.Heads.{IsHead, canon_head, fits_head}
+use Rattle.rmp_wire.specs.Reading.{NoHead, FailsNext}
+use Rattle.rmp_wire.specs.Taking.{byte_of, marker_of}
+use Rattle.rmp_wire.proofs.Canon.{canon_is_head}
+use Rattle.rmp_wire.proofs.Heads.{heads_apart, marker_pos}
+use Rattle.rmp_decode.specs.Exact.{Stands, NoneStands, Ends, RefusesExactly, EndsExactly}
+use Rattle.rmp_decode.specs.ReadErrors.{error_of}
+use Rattle.rmp_decode.specs.declared.error.Error.{Error}
+use Rattle.rmp_decode.specs.declared.error.Error.TheVariants.{TypeMismatch}
+
+-- ---- a head that stands at the front
+
+pub stands_known : (m : Marker) (h : Head) (b : ℕ) (behind : List ℕ) (known k : Option (List ℕ)) → Consumes known k (b ∷ behind) → m ≡ marker_of b → IsHead h (b ∷ behind) → IfSome known (Stands m h)
+stands_known m h b behind None k c e i = tt
+stands_known m h b behind (Some xs) None c e i = absurd c
+stands_known m h b behind (Some xs) (Some ys) c e i = record { byte = b; behind = behind; rest = ys; front = c; is_marker = e; is_head = i }
+
+-- at most one does
+stand_once : (m n : Marker) (h k : Head) (xs : List ℕ) → Stands m h xs → Stands n k xs → (m ≡ n) × (h ≡ k)
+stand_once m n h k xs s t =
+    let u = heads_apart h k (s.byte ∷ s.behind) (t.byte ∷ t.behind) s.rest t.rest s.is_head t.is_head (sym s.front ∙ t.front) in
+    let bytes = u.1 in
+    let first : s.byte ≡ t.byte = cc in
+    (s.is_marker ∙ ap marker_of first ∙ sym t.is_marker, u.0)
+
+-- the canonical head of a byte
+record ByteHead (m : Marker) (head : List ℕ) : Type 0 where
+  pub byte : ℕ
+  pub behind : List ℕ
+  pub is : head ≡ byte ∷ behind
+  pub is_marker : m ≡ marker_of byte
+
+byte_head : (n : ℕ) → n < 256 → (m : Marker) → (n < 128 → m ≡ marker.FixPos n) → (128 ≤ n → m ≡ marker.U8) → ByteHead m (canon_head (Whole (pos n)))
+unfolding canon_head marker_of
+byte_head n l m small wide = elim (cases_lt n 128) [
+  | inl lt ↦ let yes : nat_lt n 128 ≡ true = lt-ltb n 128 lt in record { byte = n; behind = []; is = rw yes refl; is_marker = small lt ∙ sym (marker_pos n lt) }
+  | inr ge ↦
+      let no : nat_lt n 128 ≡ false = le-ltb n 128 ge in
+      let yes : nat_lt n 256 ≡ true = lt-ltb n 256 l in
+      record { byte = 0xcc; behind = to_be_bytes w8 n; is = rw (no, yes) refl; is_marker = wide ge }
+]
+
+pub number_stands : (n : ℕ) → n < 256 → fits_head (Whole (pos n)) → (m : Marker) → (n < 128 → m ≡ marker.FixPos n) → (128 ≤ n → m ≡ marker.U8) → (known : Option (List ℕ)) → IfSome (prepend_known (canon_head (Whole (pos n))) known) (Stands m (Whole (pos n)))
+number_stands n l f m small wide None = tt
+number_stands n l f m small wide (Some ys) =
+    let b = byte_head n l m small wide in
+    record { byte = b.byte; behind = b.behind; rest = ys; front = ap (λ z. z ++ ys) b.is; is_marker = b.is_marker; is_head = subst (IsHead (Whole (pos n))) b.is (canon_is_head (Whole (pos n)) f) }
+
+-- ---- the error
+
+pub exact_head : (table : Marker → Head → Error) (before after : ℕ) (known : Option (List ℕ)) (m : Marker) (h : Head) (e : Error) → IfSome known (Stands m h) → e ≡ table m h → RefusesExactly table before after known e
+unfolding RefusesExactly
+exact_head table before after None m h e s q = λ _. tt
+exact_head table before after (Some xs) m h e s q = λ _. record {
+  stands = λ n k t. let u = stand_once n m k h xs t s in q ∙ ap (λ z. table z h) (sym u.0) ∙ ap (table n) (sym u.1);
+  ends = λ none. absurd (none m h s);
+}
+
+pub exact_none : (table : Marker → Head → Error) (before after : ℕ) (known : Option (List ℕ)) (e : Error) → EndsExactly before after known e → RefusesExactly table before after known e
+unfolding RefusesExactly EndsExactly
+exact_none table before after None e s = λ _. tt
+exact_none table before after (Some xs) e s = λ same. record { stands = λ m h t. absurd ((s same).0 m h t); ends = λ _. (s same).1 }
+
+-- ---- no head
+
+reserved_byte : (m : Marker) → byte_of m ≡ 0xc1 → m ≡ marker.Reserved
+unfolding byte_of
+reserved_byte (marker.FixPos n) e = absurd (omega arith)
+reserved_byte (marker.FixMap n) e = absurd (omega arith)
+reserved_byte (marker.FixArray n) e = absurd (omega arith)
+reserved_byte (marker.FixStr n) e = absurd (omega arith)
+reserved_byte (marker.FixNeg z) e = absurd (omega arith)
+reserved_byte marker.Null e = absurd (omega arith)
+reserved_byte marker.Reserved e = refl
+reserved_byte marker.False e = absurd (omega arith)
+reserved_byte marker.True e = absurd (omega arith)
+reserved_byte marker.Bin8 e = absurd (omega arith)
+reserved_byte marker.Bin16 e = absurd (omega arith)
+reserved_byte marker.Bin32 e = absurd (omega arith)
+reserved_byte marker.Ext8 e = absurd (omega arith)
+reserved_byte marker.Ext16 e = absurd (omega arith)
+reserved_byte marker.Ext32 e = absurd (omega arith)
+reserved_byte marker.F32 e = absurd (omega arith)
+reserved_byte marker.F64 e = absurd (omega arith)
+reserved_byte marker.U8 e = absurd (omega arith)
+reserved_byte marker.U16 e = absurd (omega arith)
+reserved_byte marker.U32 e = absurd (omega arith)
+reserved_byte marker.U64 e = absurd (omega arith)
+reserved_byte marker.I8 e = absurd (omega arith)
+reserved_byte marker.I16 e = absurd (omega arith)
+reserved_byte marker.I32 e = absurd (omega arith)
+reserved_byte marker.I64 e = absurd (omega arith)
+reserved_byte marker.FixExt1 e = absurd (omega arith)
+reserved_byte marker.FixExt2 e = absurd (omega arith)
+reserved_byte marker.FixExt4 e = absurd (omega arith)
+reserved_byte marker.FixExt8 e = absurd (omega arith)
+reserved_byte marker.FixExt16 e = absurd (omega arith)
+reserved_byte marker.Str8 e = absurd (omega arith)
+reserved_byte marker.Str16 e = absurd (omega arith)
+reserved_byte marker.Str32 e = absurd (omega arith)
+reserved_byte marker.Array16 e = absurd (omega arith)
+reserved_byte marker.Array32 e = absurd (omega arith)
+reserved_byte marker.Map16 e = absurd (omega arith)
+reserved_byte marker.Map32 e = absurd (omega arith)
+
+not_begun : (xs : List ℕ) (b : ℕ) (part : List ℕ) (new : Option (List ℕ)) → xs ≡ [] → Consumes (Some xs) new (b ∷ part) → ⊥
+not_begun xs b part None e c = c
+not_begun xs b part (Some ys) e c = let u : ◌≡◌ {A = List ℕ} [] (b ∷ (part ++ ys)) = sym e ∙ c in absurd (cc)
+
+same_first : (a b : ℕ) (xs part : List ℕ) (new : Option (List ℕ)) → Consumes (Some (a ∷ xs)) new (b ∷ part) → a ≡ b
+same_first a b xs part None c = absurd c
+same_first a b xs part (Some ys) c = let u : a ∷ xs ≡ b ∷ (part ++ ys) = c in cc
+
+none_stands : (xs : List ℕ) → NoHead (Some xs) → NoneStands xs
+none_stands xs n m h s = n h (s.byte ∷ s.behind) s.rest s.front s.is_head
+
+ends_known : (xs : List ℕ) (new : Option (List ℕ)) (before after : ℕ) (e : ValueReadError) → after ≡ before → FailsNext (Some xs) new before after e → Ends xs (error_of e)
+unfolding byte_of
+ends_known [] new before after (wire.InvalidMarkerRead f) q r = r.leaves.end q
+ends_known [] new before after (wire.InvalidDataRead f) q r = let t = r.leaves.0 in absurd (not_begun [] (byte_of t.marker) t.part new refl t.taken)
+ends_known [] new before after (wire.TypeMismatch k) q r = absurd (not_begun [] (byte_of marker.Reserved) [] new refl r.leaves.1)
+ends_known (b ∷ xs) new before after (wire.InvalidMarkerRead f) q r = let u : ◌≡◌ {A = List ℕ} (b ∷ xs) [] = r.leaves.none_ahead q in absurd (cc)
+ends_known (b ∷ xs) new before after (wire.InvalidDataRead f) q r =
+    let t = r.leaves.0 in
+    let same = same_first b (byte_of t.marker) xs t.part new t.taken in
+    (λ e. absurd (t.opens (reserved_byte t.marker (sym same ∙ e))), λ _. r.leaves.1 q)
+ends_known (b ∷ xs) new before after (wire.TypeMismatch k) q r =
+    let same : b ≡ 0xc1 = same_first b 0xc1 xs [] new r.leaves.1 in
+    (λ _. ap TypeMismatch r.leaves.0, λ n. absurd (n same))
+
+pub ends_none : (known new : Option (List ℕ)) (before after : ℕ) (e : ValueReadError) → FailsNext known new before after e → EndsExactly before after known (error_of e)
+unfolding EndsExactly
+ends_none None new before after e r = λ _. tt
+ends_none (Some xs) new before after e r = λ q. (none_stands xs (r.none q), ends_known xs new before after e q r)
