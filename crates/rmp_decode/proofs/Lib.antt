@@ -4,6 +4,8 @@ pub mod Exactness
 pub mod HeadTaken
 pub mod Laws
 pub mod Leaves
+pub mod MapOpening
+pub mod Maps
 pub mod Numbers
 pub mod Opening
 pub mod Refusals

@@ -1,6 +1,8 @@
 pub mod Exact
 pub mod Kinds
 pub mod Law
+pub mod Maps
+pub mod Parts
 pub mod Pieces
 pub mod Read
 pub mod ReadErrors

@@ -6,6 +6,7 @@ ghost use Rattle.rmp_decode.specs.Law.{Begins, Readable, Lawful, ReadsHead};
 ghost use Rattle.rmp_decode.specs.declared.de.Kept.TheVariants.{Nothing};
 
 mod kinds;
+pub mod map;
 mod numbers;
 mod pieces;
 pub mod seq;

@@ -1,5 +1,6 @@
 use crate::{Deserializer, Error, Text, from_slice};
 use rmp_wire::Marker;
+use std::collections::BTreeMap;
 use std::io::ErrorKind;
 
 #[test]
@@ -145,4 +146,65 @@ fn bytes(rt: HostRuntime) {
     assert!(rt; matches!(&read, Err(Error::Utf8Error(_))));
     let read: Result<String, Error> = from_slice(rt.alloc(), &[0xc4, 1, 0xff]);
     assert!(rt; matches!(&read, Err(Error::Syntax(Text::InvalidValue))));
+}
+
+#[test]
+fn maps(rt: HostRuntime) {
+    let read: Result<BTreeMap<u8, u8>, Error> = from_slice(rt.alloc(), &[0x82, 1, 5, 1, 6]);
+    match read {
+        Ok(entries) => {
+            assert_eq!(rt; entries.len(), 1);
+            assert!(rt; entries.get(&1u8) == Some(&6));
+        }
+        Err(_) => assert!(rt; false),
+    }
+    let read: Result<BTreeMap<u8, u8>, Error> = from_slice(rt.alloc(), &[0x90]);
+    assert!(rt; matches!(&read, Err(Error::Syntax(Text::InvalidType))));
+    let read: Result<BTreeMap<u8, u8>, Error> = from_slice(
+        rt.alloc(),
+        &[0xdf, 0xff, 0xff, 0xff, 0xff],
+    );
+    assert!(rt; matches!(&read, Err(Error::InvalidMarkerRead(_))));
+    let read: Result<BTreeMap<u8, bool>, Error> = from_slice(rt.alloc(), &[0x81, 1, 2]);
+    assert!(rt; matches!(&read, Err(Error::Syntax(Text::InvalidType))));
+}
+
+#[test]
+fn pairs_one_by_one(rt: HostRuntime) {
+    let mut de = Deserializer::from_read_ref(rt.alloc(), &[0x82, 1, 0xc3, 2, 0xc2, 7]);
+    let mut map = match de.deserialize_map() {
+        Ok(map) => map,
+        Err(_) => return,
+    };
+    assert_eq!(rt; map.left(), 2);
+    let key: Result<Option<u8>, Error> = map.next_key();
+    assert!(rt; matches!(&key, Ok(Some(1))));
+    assert!(rt; map.owes_value());
+    assert_eq!(rt; map.left(), 1);
+    let value: Result<bool, Error> = map.next_value();
+    assert!(rt; matches!(&value, Ok(true)));
+    assert!(rt; !map.owes_value());
+    assert!(rt; matches!(&map.end(), Err(Error::LengthMismatch(1))));
+    assert!(rt;
+        matches!(
+            &de.deserialize_u8(),
+            Err(Error::Uncategorized(Text::FailedBefore))
+        )
+    );
+}
+
+#[test]
+fn a_map_that_is_dropped_leaves_the_reader_failed(rt: HostRuntime) {
+    let mut de = Deserializer::from_read_ref(rt.alloc(), &[0x80, 7]);
+    match de.deserialize_map() {
+        Ok(map) => drop(map),
+        Err(_) => return,
+    }
+    assert!(rt;
+        matches!(
+            &de.deserialize_u8(),
+            Err(Error::Uncategorized(Text::FailedBefore))
+        )
+    );
+    assert_eq!(rt; de.remaining_slice(), [7u8].as_slice());
 }

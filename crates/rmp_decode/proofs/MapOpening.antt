@@ -1,0 +1,66 @@
+-- When no map can be opened.
+use Rattle.std.proofs.Common.{◌≡◌, ◌∙◌, sym, refl, ℕ, ◌<◌, ◌≤◌, arith, Ok, Err}
+use Rattle.rmp_wire.specs.declared.head.Head.{Head}
+use Rattle.rmp_wire.specs.declared.head.Head.TheVariants.{Map}
+use Rattle.rmp_wire.specs.declared.marker.Marker.{Marker}
+use Rattle.rmp_wire.specs.declared.source.Source.{Ghosts}
+use Rattle.rmp_wire.specs.Msg.{Msg, nil, truth, whole, float32, float64, text, bin, list, map, extension, count_pairs, depth}
+use Rattle.rmp_wire.specs.Spelling.{head_of}
+use Rattle.rmp_decode.specs.Law.{ReadsHead}
+use Rattle.rmp_decode.specs.Maps.{IsMap, FailsToOpenMap}
+use Rattle.rmp_decode.specs.State.{left, room_of}
+use Rattle.rmp_decode.specs.declared.de.Deserializer.{Deserializer}
+use Rattle.rmp_decode.specs.declared.error.Error.{Error}
+use Rattle.rmp_decode.proofs.Refusals.{refuses_none, refuses_head, refuses_by, same_head}
+
+map_head_of : (m : Msg) → IsMap m → (n : ℕ) × (head_of m ≡ Map n)
+map_head_of nil i = absurd i
+map_head_of (truth t) i = absurd i
+map_head_of (whole z) i = absurd i
+map_head_of (float32 n) i = absurd i
+map_head_of (float64 n) i = absurd i
+map_head_of (text s) i = absurd i
+map_head_of (bin s) i = absurd i
+map_head_of (list ms) i = absurd i
+map_head_of (map ps) i = (count_pairs ps, refl)
+map_head_of (extension tag s) i = absurd i
+
+-- a map nests
+map_nests : (m : Msg) (n : ℕ) → head_of m ≡ Map n → 0 < depth m
+map_nests nil n e = absurd (cc)
+map_nests (truth t) n e = absurd (cc)
+map_nests (whole z) n e = absurd (cc)
+map_nests (float32 k) n e = absurd (cc)
+map_nests (float64 k) n e = absurd (cc)
+map_nests (text s) n e = absurd (cc)
+map_nests (bin s) n e = absurd (cc)
+map_nests (list ms) n e = absurd (cc)
+map_nests (map ps) n e = omega arith
+map_nests (extension tag s) n e = absurd (cc)
+
+module _ {R C : Type 0} (g : Ghosts R) (old new : Deserializer R C) (e : Error) where
+  pub no_map_begins : ReadsHead g old new (Err e) → FailsToOpenMap g old new e
+  no_map_begins h = record { failed = h.failed; stays = h.stays; before = h.before; err = λ o n k. refuses_none _ _ _ (h.err o n k) }
+
+  module _ (p : Marker × Head) (h : ReadsHead g old new (Ok p)) where
+    -- another kind was there
+    pub no_map : ((n : ℕ) → p.1 ≡ Map n → ⊥) → FailsToOpenMap g old new e
+    no_map f = record {
+      failed = h.failed;
+      stays = h.stays;
+      before = λ b. absurd (let o = h.fresh in cc);
+      err = λ _ _ _. refuses_head IsMap (room_of old) (left g old) (left g new) h.ok.bytes p.1 h.ok.takes h.ok.is_head (λ m i q. let a = map_head_of m i in f a.0 (sym q ∙ a.1));
+    }
+
+    -- a map would nest too deep
+    pub map_too_deep : (n : ℕ) → p.1 ≡ Map n → room_of old ≤ 1 → FailsToOpenMap g old new e
+    map_too_deep n i l = record {
+      failed = h.failed;
+      stays = h.stays;
+      before = λ b. absurd (let o = h.fresh in cc);
+      err = λ _ _ _. refuses_by IsMap (room_of old) (left g old) (left g new) h.ok.bytes h.ok.takes (λ ys q a.
+          let u = same_head a.tree p.1 a.bytes h.ok.bytes a.rest ys a.spelled h.ok.is_head (sym a.front) in
+          let d = map_nests a.tree n (u.0 ∙ i) in
+          let f = a.fits in
+          omega arith);
+    }

@@ -1,0 +1,125 @@
+-- What an access to the pairs of a map does to the `Deserializer` that it borrows.
+use Rattle.std.specs.Prelude.{◌≡◌, ℕ, ◌+◌, max, Bool, true, false, List, [], ◌∷◌}
+use Rattle.std.specs.BTreeMap.{insert_entry}
+use Rattle.std.specs.declared.cmp.Ordering.{Ordering}
+use Rattle.rmp_wire.specs.declared.head.Head.TheVariants.{Map}
+use Rattle.rmp_wire.specs.declared.source.Source.{Ghosts}
+use Rattle.rmp_wire.specs.Msg.{Msg, nil, truth, whole, float32, float64, text, bin, list, map, extension, Pairs, no_pairs, pair}
+use Rattle.rmp_wire.specs.Spelling.{Spells}
+use Rattle.rmp_decode.specs.Law.{TakesHead, Refuses, Explains, IsFailedBefore}
+use Rattle.rmp_decode.specs.Parts.{TakesPart}
+use Rattle.rmp_decode.specs.State.{left, faults_of, room_of, Stays}
+use Rattle.rmp_decode.specs.declared.de.Deserializer.{Deserializer}
+use Rattle.rmp_decode.specs.declared.de.Kept.TheVariants.{Nothing}
+use Rattle.rmp_decode.specs.declared.de.map.MapAccess.{MapAccess}
+use Rattle.rmp_decode.specs.declared.error.Error.{Error}
+
+-- ---- what types read of the pairs of a map
+
+-- a map whose pairs are such
+abbrev pub OfMap : (Pairs → Type 0) → Msg → Type 0
+OfMap Q nil = ⊥
+OfMap Q (truth t) = ⊥
+OfMap Q (whole z) = ⊥
+OfMap Q (float32 n) = ⊥
+OfMap Q (float64 n) = ⊥
+OfMap Q (text s) = ⊥
+OfMap Q (bin s) = ⊥
+OfMap Q (list ms) = ⊥
+OfMap Q (map ps) = Q ps
+OfMap Q (extension tag s) = ⊥
+
+abbrev pub IsMap : Msg → Type 0
+IsMap m = OfMap (λ ps. Unit {0}) m
+
+-- each pair is read as the key and the value at its place
+abbrev pub ReadsPairs : {K V : Type 0} → (Msg → K → Type 0) → (Msg → V → Type 0) → Pairs → List (K × V) → Type 0
+ReadsPairs keys values no_pairs [] = Unit {0}
+ReadsPairs keys values (pair k v ps) (e ∷ es) = keys k e.0 × values v e.1 × ReadsPairs keys values ps es
+ReadsPairs keys values no_pairs (e ∷ es) = ⊥
+ReadsPairs keys values (pair k v ps) [] = ⊥
+
+-- the entries es after the insertion of each of these: of equal keys the first stays, with the last value
+abbrev pub insert_all : {K V : Type 0} → (K → K → Ordering) → List (K × V) → List (K × V) → List (K × V)
+insert_all cmp es [] = es
+insert_all cmp es (n ∷ ns) = insert_all cmp (insert_entry cmp es n.0 n.1) ns
+
+-- a map whose pairs, inserted in turn, are these entries
+abbrev pub ReadsEntries : {K V : Type 0} → (K → K → Ordering) → (Msg → K → Type 0) → (Msg → V → Type 0) → List (K × V) → Msg → Type 0
+ReadsEntries {K} {V} cmp keys values es m = OfMap (λ ps. (ns : List (K × V)) × ReadsPairs keys values ps ns × (es ≡ insert_all cmp [] ns)) m
+
+-- ---- the access
+
+-- how many pairs haven't begun
+abbrev pub pairs_left : {R C : Type 0} → MapAccess R C → ℕ
+pairs_left a = a.left
+
+-- how many there were at first
+abbrev pub pairs_in : {R C : Type 0} → MapAccess R C → ℕ
+pairs_in a = a.count
+
+-- a key was read, and its value not yet
+abbrev pub owes_value : {R C : Type 0} → MapAccess R C → Bool
+owes_value a = a.owes
+
+-- no call of the access has failed
+abbrev pub is_map_sound : {R C : Type 0} → MapAccess R C → Bool
+is_map_sound a = a.sound
+
+-- what it borrows
+abbrev pub map_lender : {R C : Type 0} → MapAccess R C → Deserializer R C
+map_lender a = a.de.now
+
+-- a key or a value may be read that nests below this
+abbrev pub map_inner : {R C : Type 0} → MapAccess R C → ℕ
+map_inner a = max 1 a.inner
+
+-- the next part is a key, unless a call has failed
+abbrev pub AtKey : {R C : Type 0} → MapAccess R C → Type 0
+AtKey a = a.sound ≡ true → a.owes ≡ false
+
+-- the next part is the value of the key that was read, unless a call has failed
+abbrev pub AtValue : {R C : Type 0} → MapAccess R C → Type 0
+AtValue a = a.sound ≡ true → a.owes ≡ true
+
+-- no call of the access has failed, and the reader is marked failed until the access ends
+pub record IsMapOpen {R C : Type 0} (a : MapAccess R C) : Type 0 where
+  pub sound : a.sound ≡ true
+  pub marked : a.de.now.failed ≡ true
+  pub clean : a.de.now.kept ≡ Nothing
+
+-- the head of a map was taken
+pub record OpensMap {R C : Type 0} (g : Ghosts R) (old : Deserializer R C) (a : MapAccess R C) : Type 0 where
+  pub fresh : old.failed ≡ false
+  pub head : TakesHead g (Map a.left) old a.de.now
+  pub count : a.count ≡ a.left
+  pub at_key : a.owes ≡ false
+  pub room : room_of old ≡ map_inner a + 1
+  pub stays : Stays g old a.de.now
+  pub faults_same : faults_of g a.de.now ≡ faults_of g old
+  pub opened : IsMapOpen a
+
+-- no map could be opened
+pub record FailsToOpenMap {R C : Type 0} (g : Ghosts R) (old new : Deserializer R C) (e : Error) : Type 0 where
+  pub failed : new.failed ≡ true
+  pub stays : Stays g old new
+  pub before : old.failed ≡ true → IsFailedBefore e × (new ≡ old)
+  pub err : old.failed ≡ false → Explains e (faults_of g old) (faults_of g new) (Refuses Spells IsMap (room_of old) (left g old))
+
+-- the next key was read
+pub record TakesKey {R C K : Type 0} (g : Ghosts R) (reads : Msg → K → Type 0) (old new : MapAccess R C) (k : K) : Type 0 where
+  pub part : TakesPart g reads (map_inner old) old.de.now new.de.now k
+  pub fewer : old.left ≡ new.left + 1
+  pub owes : new.owes ≡ true
+  pub count : new.count ≡ old.count
+  pub inner : new.inner ≡ old.inner
+  pub still : IsMapOpen new
+
+-- its value was read
+pub record TakesValue {R C V : Type 0} (g : Ghosts R) (reads : Msg → V → Type 0) (old new : MapAccess R C) (v : V) : Type 0 where
+  pub part : TakesPart g reads (map_inner old) old.de.now new.de.now v
+  pub same_left : new.left ≡ old.left
+  pub owes : new.owes ≡ false
+  pub count : new.count ≡ old.count
+  pub inner : new.inner ≡ old.inner
+  pub still : IsMapOpen new
