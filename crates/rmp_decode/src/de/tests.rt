@@ -1,5 +1,5 @@
 use crate::{Deserializer, Error, Text, from_slice};
-use rmp_wire::Marker;
+use rmp_wire::{Ext, Marker};
 use std::collections::BTreeMap;
 use std::io::ErrorKind;
 
@@ -206,5 +206,40 @@ fn a_map_that_is_dropped_leaves_the_reader_failed(rt: HostRuntime) {
             Err(Error::Uncategorized(Text::FailedBefore))
         )
     );
+    assert_eq!(rt; de.remaining_slice(), [7u8].as_slice());
+}
+
+#[test]
+fn extensions(rt: HostRuntime) {
+    let read: Result<Ext, Error> = from_slice(rt.alloc(), &[0xc7, 0, 2]);
+    match read {
+        Ok(ext) => {
+            assert_eq!(rt; ext.tag(), 2);
+            assert!(rt; ext.as_bytes().is_empty());
+        }
+        Err(_) => assert!(rt; false),
+    }
+    for input in [
+        [0xd4u8, 0xff, 5].as_slice(),
+        [0xc8, 0, 1, 0xff, 5].as_slice(),
+    ] {
+        let read: Result<Ext, Error> = from_slice(rt.alloc(), input);
+        match read {
+            Ok(ext) => {
+                assert_eq!(rt; ext.tag(), -1);
+                assert_eq!(rt; ext.as_bytes(), [5u8].as_slice());
+            }
+            Err(_) => assert!(rt; false),
+        }
+    }
+    let read: Result<Ext, Error> = from_slice(rt.alloc(), &[0x92, 1, 2]);
+    assert!(rt; matches!(&read, Err(Error::TypeMismatch(Marker::FixArray(2)))));
+    let read: Result<Ext, Error> = from_slice(rt.alloc(), &[0xc9, 0xff, 0xff, 0xff, 0xff, 5]);
+    assert!(rt; matches!(&read, Err(Error::InvalidDataRead(_))));
+    let mut de = Deserializer::from_read_ref(rt.alloc(), &[0xd5, 0x80, 1, 2, 7]);
+    match de.deserialize_ext() {
+        Ok(ext) => assert_eq!(rt; ext.tag(), -128),
+        Err(_) => assert!(rt; false),
+    }
     assert_eq!(rt; de.remaining_slice(), [7u8].as_slice());
 }
