@@ -1,3 +1,4 @@
+pub mod Buffers
 pub mod ByteParts
 pub mod Contents
 pub mod Exactness

@@ -28,7 +28,7 @@ seq_head_of (map ps) i = absurd i
 seq_head_of (extension tag s) i = absurd i
 
 -- a list nests
-nests : (m : Msg) (n : ℕ) → head_of m ≡ Array n → 0 < depth m
+pub nests : (m : Msg) (n : ℕ) → head_of m ≡ Array n → 0 < depth m
 nests nil n e = absurd (cc)
 nests (truth t) n e = absurd (cc)
 nests (whole z) n e = absurd (cc)

@@ -9,6 +9,8 @@ ghost use Rattle.rmp_decode.specs.Seq.{seq_head, Opens, FailsToOpen, IsOpen, Tak
 ghost use Rattle.rmp_decode.specs.State.{faults_of, room_of, config_of, is_failed, kept_of, Stays};
 ghost use Rattle.rmp_decode.specs.declared.de.Kept.TheVariants.{Nothing};
 
+mod buffers;
+
 use crate::de::{Deserialize, Deserializer, Kept};
 use crate::error::Error;
 use crate::text::Text;

@@ -1,5 +1,5 @@
 use crate::{Deserializer, Error, Text, from_slice};
-use rmp_wire::{Ext, Marker};
+use rmp_wire::{ByteBuf, Ext, Marker};
 use std::collections::BTreeMap;
 use std::io::ErrorKind;
 
@@ -242,4 +242,29 @@ fn extensions(rt: HostRuntime) {
         Err(_) => assert!(rt; false),
     }
     assert_eq!(rt; de.remaining_slice(), [7u8].as_slice());
+}
+
+#[test]
+fn buffers(rt: HostRuntime) {
+    for input in [
+        [0xa2u8, 0xff, 0xfe].as_slice(),
+        [0xc4, 2, 0xff, 0xfe].as_slice(),
+        [0x92, 0xcc, 0xff, 0xcd, 0, 0xfe].as_slice(),
+    ] {
+        let read: Result<ByteBuf, Error> = from_slice(rt.alloc(), input);
+        match read {
+            Ok(bytes) => assert_eq!(rt; bytes.as_bytes(), [0xffu8, 0xfe].as_slice()),
+            Err(_) => assert!(rt; false),
+        }
+    }
+    let input = [0xc6, 0, 0, 0, 5, 0x61, 0x62];
+    let mut de = Deserializer::from_read_ref(rt.alloc(), &input);
+    assert!(rt; matches!(&de.deserialize_byte_buf(), Err(Error::InvalidDataRead(_))));
+    assert_eq!(rt; de.remaining_slice(), [0x61u8, 0x62].as_slice());
+    let read: Result<ByteBuf, Error> = from_slice(rt.alloc(), &[0x91, 0xcd, 1, 0]);
+    assert!(rt; matches!(&read, Err(Error::Syntax(Text::InvalidValue))));
+    let read: Result<ByteBuf, Error> = from_slice(rt.alloc(), &[0x91, 0xa0]);
+    assert!(rt; matches!(&read, Err(Error::TypeMismatch(Marker::FixStr(0)))));
+    let read: Result<ByteBuf, Error> = from_slice(rt.alloc(), &[0x80]);
+    assert!(rt; matches!(&read, Err(Error::Syntax(Text::InvalidType))));
 }
