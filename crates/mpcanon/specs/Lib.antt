@@ -1,4 +1,6 @@
 pub mod Input
 pub mod Lines
+pub mod Messages
 pub mod Output
+pub mod Refusals
 pub mod TreeText

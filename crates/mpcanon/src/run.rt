@@ -3,13 +3,15 @@ ghost use Rattle.std.specs.Prelude.{◌≡◌, ◌++◌, ◌∷◌, [], All, map
 ghost use Rattle.std.specs.Io.KnownBytes.{Appends, Consumes};
 ghost use Rattle.mpcanon.specs.Input.{StopsReading, ReadsInput};
 ghost use Rattle.mpcanon.specs.Lines.{lines_in, digits_in, IsBlank, IsHex};
+ghost use Rattle.mpcanon.specs.Messages.{message_text, error_name};
 ghost use Rattle.mpcanon.specs.Output.{PrintsLines, PrintsRun};
+ghost use Rattle.mpcanon.specs.Refusals.{refusal_text};
 
 use crate::tree_text::{write_hex, write_tree};
 use hex::FromHexError;
 use rmp_serde::decode::Error;
 use rmp_serde::wire::{Sink, Source, ValueWriteError};
-use rmp_serde::{from_slice, to_vec};
+use rmp_serde::{Value, from_slice, to_vec};
 use std::alloc::{AllocError, AllocFailed, Global};
 use std::{fmt, io};
 
@@ -57,6 +59,11 @@ enum Refusal {
 }
 
 impl fmt::Display for Refusal {
+    ghost use Rattle.std.specs.Prelude.{Some};
+    ghost use Rattle.mpcanon.specs.Refusals.{refusal_text};
+
+    ghost output = { λ r. Some (refusal_text r) };
+
     fn fmt<W: fmt::Write>(&self, f: &mut fmt::Formatter<W>) -> fmt::Result {
         match self {
             Refusal::Hex => write!(f, "refused: hex"),
@@ -66,7 +73,9 @@ impl fmt::Display for Refusal {
 }
 
 // The name of an error's variant.
-fn name_of(error: &Error) -> &'static str {
+fn name_of(error: &Error) -> &'static str
+    ensures { result.now ≡ error_name error.now }
+{
     match error {
         Error::InvalidMarkerRead(_) => "InvalidMarkerRead",
         Error::InvalidDataRead(_) => "InvalidDataRead",
@@ -128,10 +137,27 @@ fn print_line<W: Sink>(sink: &mut W, mut text: String) -> Result<(), RunFault>
 // Prints a refusal.
 fn refuse<W: Sink>(alloc: Global, sink: &mut W, refusal: Refusal) -> Result<bool, RunFault>
     ensures refused { IfOk result (λ accepted. ¬ IsTrue accepted) }
+    ensures line { OnOk result (Appends (W.told sink.old) (W.told sink.new) (refusal_text refusal ++ 10 ∷ [])) }
     ensures prints { PrintsLines W.Sink sink.old sink.new result }
 {
     print_line(sink, format!(in alloc; "{refusal}")?)?;
     Ok(false)
+}
+
+// A message's tree and its canonical spelling in hex.
+fn text_of(alloc: Global, value: &Value) -> Result<String, RunFault>
+    ensures text { IfOk result (λ text. string_bytes text ≡ message_text value.now) }
+    ensures memory { IfErr result (λ fault. fault ≡ RunFault.Memory) }
+{
+    let mut text = String::new(alloc);
+    write_tree(alloc, &mut text, value.root())?;
+    text.push_str(" ")?;
+    // What has been read nests within the writer's limit, so that only memory can be wanting.
+    let Ok(canonical) = to_vec(alloc, value) else {
+        return Err(RunFault::Memory);
+    };
+    write_hex(alloc, &mut text, canonical.as_slice())?;
+    Ok(text)
 }
 
 // Prints the first message of a line's bytes, and says whether there is one.
@@ -143,15 +169,7 @@ fn run_message<W: Sink>(alloc: Global, bytes: &[u8], sink: &mut W) -> Result<boo
         Err(Error::OutOfMemory) => return Err(RunFault::Memory),
         Err(error) => return refuse(alloc, sink, Refusal::Message(0, error)),
     };
-    let mut text = String::new(alloc);
-    write_tree(alloc, &mut text, value.root())?;
-    text.push(' ')?;
-    // What has been read nests within the writer's limit, so that only memory can be wanting.
-    let Ok(canonical) = to_vec(alloc, &value) else {
-        return Err(RunFault::Memory);
-    };
-    write_hex(alloc, &mut text, canonical.as_slice())?;
-    print_line(sink, text)?;
+    print_line(sink, text_of(alloc, &value)?)?;
     Ok(true)
 }
 
