@@ -1,3 +1,4 @@
+pub mod Arrays
 pub mod Buffers
 pub mod ByteParts
 pub mod Contents
@@ -12,5 +13,6 @@ pub mod Opening
 pub mod Refusals
 pub mod Rows
 pub mod Seqs
+pub mod Sets
 pub mod Texts
 pub mod Whole

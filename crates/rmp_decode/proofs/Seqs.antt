@@ -187,7 +187,7 @@ pub seq_parts : {R C V : Type 0} (g : Ghosts R) (Q : V → Msgs → Type 0) (old
 seq_parts g Q old start now o last e f q = seq_refused g Q old start start no_items o (run_start g start o.opened) last e (rw q f.stays) (ap (λ (z : Deserializer _ _). z.failed) q ∙ f.failed) (λ n k. f.err n (ap (faults_of g) (sym q) ∙ k))
 
 -- how many items there are
-count-append : (ms ks : Msgs) → count (append ms ks) ≡ count ms + count ks
+pub count-append : (ms ks : Msgs) → count (append ms ks) ≡ count ms + count ks
 count-append no_items ks = omega arith
 count-append (item m ms) ks = let i = count-append ms ks in omega arith
 

@@ -9,5 +9,6 @@ pub mod Read
 pub mod ReadErrors
 pub mod Rows
 pub mod Seq
+pub mod Sets
 pub mod State
 pub mod Words

@@ -5,12 +5,14 @@ ghost use Rattle.rmp_decode.specs.State.{left, faults_of, room_of, reader_of, co
 ghost use Rattle.rmp_decode.specs.Law.{Begins, Readable, Lawful, ReadsHead};
 ghost use Rattle.rmp_decode.specs.declared.de.Kept.TheVariants.{Nothing};
 
+mod arrays;
 mod ext;
 mod kinds;
 pub mod map;
 mod numbers;
 mod pieces;
 pub mod seq;
+mod sets;
 #[cfg(test)]
 mod tests;
 mod texts;

@@ -1,6 +1,6 @@
 use crate::{Deserializer, Error, Text, from_slice};
 use rmp_wire::{ByteBuf, Ext, Marker};
-use std::collections::BTreeMap;
+use std::collections::{BTreeMap, BTreeSet, VecDeque};
 use std::io::ErrorKind;
 
 #[test]
@@ -267,4 +267,51 @@ fn buffers(rt: HostRuntime) {
     assert!(rt; matches!(&read, Err(Error::TypeMismatch(Marker::FixStr(0)))));
     let read: Result<ByteBuf, Error> = from_slice(rt.alloc(), &[0x80]);
     assert!(rt; matches!(&read, Err(Error::Syntax(Text::InvalidType))));
+}
+
+#[test]
+fn elements_in_other_hands(rt: HostRuntime) {
+    let input = [0x92, 1, 2];
+    let read: Result<VecDeque<u8>, Error> = from_slice(rt.alloc(), &input);
+    match read {
+        Ok(items) => {
+            assert_eq!(rt; items.len(), 2);
+            assert!(rt; items.get(0) == Some(&1));
+            assert!(rt; items.get(1) == Some(&2));
+        }
+        Err(_) => assert!(rt; false),
+    }
+    let read: Result<Box<Vec<u8>>, Error> = from_slice(rt.alloc(), &input);
+    match read {
+        Ok(items) => assert_eq!(rt; items.as_slice(), [1u8, 2].as_slice()),
+        Err(_) => assert!(rt; false),
+    }
+    let read: Result<BTreeSet<u8>, Error> = from_slice(rt.alloc(), &[0x94, 2, 1, 2, 1]);
+    match read {
+        Ok(items) => {
+            assert_eq!(rt; items.len(), 2);
+            assert!(rt; items.contains(&1u8));
+            assert!(rt; items.contains(&2u8));
+        }
+        Err(_) => assert!(rt; false),
+    }
+    let read: Result<BTreeSet<u8>, Error> = from_slice(rt.alloc(), &input);
+    match read {
+        Ok(items) => assert_eq!(rt; items.len(), 2),
+        Err(_) => assert!(rt; false),
+    }
+}
+
+#[test]
+fn arrays(rt: HostRuntime) {
+    for input in [[0x92u8, 1, 2].as_slice(), [0xc4, 2, 1, 2].as_slice()] {
+        let read: Result<[u8; 2], Error> = from_slice(rt.alloc(), input);
+        assert!(rt; matches!(&read, Ok([1, 2])));
+        let read: Result<[u8; 3], Error> = from_slice(rt.alloc(), input);
+        assert!(rt; matches!(&read, Err(Error::Syntax(Text::InvalidLength))));
+        let read: Result<[u8; 1], Error> = from_slice(rt.alloc(), input);
+        assert!(rt; matches!(&read, Err(Error::LengthMismatch(1))));
+    }
+    let read: Result<[u8; 0], Error> = from_slice(rt.alloc(), &[0x90]);
+    assert!(rt; matches!(&read, Ok([])));
 }
