@@ -15,4 +15,5 @@ pub mod Rows
 pub mod Seqs
 pub mod Sets
 pub mod Texts
+pub mod Tuples
 pub mod Whole

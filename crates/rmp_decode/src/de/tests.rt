@@ -315,3 +315,27 @@ fn arrays(rt: HostRuntime) {
     let read: Result<[u8; 0], Error> = from_slice(rt.alloc(), &[0x90]);
     assert!(rt; matches!(&read, Ok([])));
 }
+
+#[test]
+fn tuples_of_other_sizes(rt: HostRuntime) {
+    let read: Result<(u8,), Error> = from_slice(rt.alloc(), &[0x91, 7]);
+    assert!(rt; matches!(&read, Ok((7,))));
+    let read: Result<(u8,), Error> = from_slice(rt.alloc(), &[0xc4, 1, 7]);
+    assert!(rt; matches!(&read, Ok((7,))));
+    let read: Result<(u8,), Error> = from_slice(rt.alloc(), &[0x90]);
+    assert!(rt; matches!(&read, Err(Error::Syntax(Text::InvalidLength))));
+    let read: Result<(u8,), Error> = from_slice(rt.alloc(), &[0x92, 7, 8]);
+    assert!(rt; matches!(&read, Err(Error::LengthMismatch(1))));
+    let read: Result<(u8, u8, u8, u8, u8, u8, bool), Error> = from_slice(
+        rt.alloc(),
+        &[0x97, 1, 2, 3, 4, 5, 6, 0xc3],
+    );
+    assert!(rt; matches!(&read, Ok((1, 2, 3, 4, 5, 6, true))));
+    let input = [0x98, 1, 2, 3, 4, 5, 6, 0xc3, 0xa1, 0x21];
+    let read: Result<(u8, u8, u8, u8, u8, u8, bool, char), Error> = from_slice(rt.alloc(), &input);
+    assert!(rt; matches!(&read, Ok((1, 2, 3, 4, 5, 6, true, '!'))));
+    let read: Result<(u8, u8, u8, u8, u8, u8, u8, char), Error> = from_slice(rt.alloc(), &input);
+    assert!(rt; matches!(&read, Err(Error::Syntax(Text::InvalidType))));
+    let read: Result<(u8, u8, u8, u8, u8, u8, bool), Error> = from_slice(rt.alloc(), &input);
+    assert!(rt; matches!(&read, Err(Error::LengthMismatch(7))));
+}

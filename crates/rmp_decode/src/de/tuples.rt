@@ -1,6 +1,6 @@
-//! Tuples, from lists of as many elements, or bytes of as many.
+//! Tuples, from lists of as many elements, or bytes of as many. Written by tools/read_tuples.py.
 ghost use Rattle.std.specs.Prelude.{◌≡◌, None, IfOk, IfErr};
-ghost use Rattle.rmp_decode.specs.Rows.{AndThen, NoMore};
+ghost use Rattle.rmp_decode.specs.Rows.{AndThen, Anything, NoMore};
 ghost use Rattle.rmp_decode.specs.Seq.{OfRow, IsOpen, TakesParts, FailsParts, lender_of};
 ghost use Rattle.rmp_decode.specs.State.{config_of};
 
@@ -9,6 +9,31 @@ use crate::de::{Deserialize, Deserializer};
 use crate::error::Error;
 use rmp_wire::config::SerializerConfig;
 use rmp_wire::{ReadSlice, Source};
+
+impl<'de, R: ReadSlice<'de>, A: Deserialize<'de, R>> Deserialize<'de, R> for (A,) {
+    ghost reads = { λ human lends m v. OfRow (AndThen (λ k. A.reads human lends k v.0) NoMore) m };
+
+    ghost absent = { None };
+
+    fn deserialize<C: SerializerConfig>(de: &mut Deserializer<R, C>) -> Result<(A,), Error> {
+        let mut seq = match de.deserialize_seq() {
+            Ok(seq) => seq,
+            Err(e) => return Err(e),
+        };
+        let a = match seq.element() {
+            Ok(a) => a,
+            Err(e) => return Err(e),
+        };
+        match seq.end() {
+            Ok(()) => Ok((a,)),
+            Err(e) => Err(e),
+        }
+    }
+
+    fn missing() -> Option<(A,)> {
+        None
+    }
+}
 
 impl<'x, R: Source, C: SerializerConfig> SeqAccess<'x, R, C> {
     // Reads the 2 elements of a tuple.
@@ -21,7 +46,7 @@ impl<'x, R: Source, C: SerializerConfig> SeqAccess<'x, R, C> {
         requires { IsOpen self.old }
         ensures same_reference { self.new.de.ghost_name ≡ self.old.de.ghost_name }
         ensures ok { IfOk result (TakesParts R.Source (λ v ms. AndThen (λ k. A.reads (C.human (config_of (lender_of self.old))) R.lends k v.0) (AndThen (λ k. B.reads (C.human (config_of (lender_of self.old))) R.lends k v.1) NoMore) ms) self.old self.new) }
-        ensures err { IfErr result (FailsParts {V = A × B} R.Source (λ v ms. AndThen (λ k. A.reads (C.human (config_of (lender_of self.old))) R.lends k v.0) (AndThen (λ k. B.reads (C.human (config_of (lender_of self.old))) R.lends k v.1) NoMore) ms) self.old self.new) }
+        ensures err { IfErr result (FailsParts {V = A × B} R.Source (λ v ms. AndThen (λ k. A.reads (C.human (config_of (lender_of self.old))) R.lends k v.0) (AndThen (λ k. B.reads (C.human (config_of (lender_of self.old))) R.lends k v.1) Anything) ms) self.old self.new) }
     {
         let a = match self.element() {
             Ok(a) => a,
@@ -72,14 +97,10 @@ impl<'x, R: Source, C: SerializerConfig> SeqAccess<'x, R, C> {
         requires { IsOpen self.old }
         ensures same_reference { self.new.de.ghost_name ≡ self.old.de.ghost_name }
         ensures ok { IfOk result (TakesParts R.Source (λ v ms. AndThen (λ k. A.reads (C.human (config_of (lender_of self.old))) R.lends k v.0) (AndThen (λ k. B.reads (C.human (config_of (lender_of self.old))) R.lends k v.1) (AndThen (λ k. D.reads (C.human (config_of (lender_of self.old))) R.lends k v.2) NoMore)) ms) self.old self.new) }
-        ensures err { IfErr result (FailsParts {V = A × B × D} R.Source (λ v ms. AndThen (λ k. A.reads (C.human (config_of (lender_of self.old))) R.lends k v.0) (AndThen (λ k. B.reads (C.human (config_of (lender_of self.old))) R.lends k v.1) (AndThen (λ k. D.reads (C.human (config_of (lender_of self.old))) R.lends k v.2) NoMore)) ms) self.old self.new) }
+        ensures err { IfErr result (FailsParts {V = A × B × D} R.Source (λ v ms. AndThen (λ k. A.reads (C.human (config_of (lender_of self.old))) R.lends k v.0) (AndThen (λ k. B.reads (C.human (config_of (lender_of self.old))) R.lends k v.1) (AndThen (λ k. D.reads (C.human (config_of (lender_of self.old))) R.lends k v.2) Anything)) ms) self.old self.new) }
     {
-        let a = match self.element() {
-            Ok(a) => a,
-            Err(e) => return Err(e),
-        };
-        let b = match self.element() {
-            Ok(b) => b,
+        let (a, b) = match self.parts_2() {
+            Ok(parts) => parts,
             Err(e) => return Err(e),
         };
         let d = match self.element() {
@@ -136,18 +157,10 @@ impl<'x, R: Source, C: SerializerConfig> SeqAccess<'x, R, C> {
         requires { IsOpen self.old }
         ensures same_reference { self.new.de.ghost_name ≡ self.old.de.ghost_name }
         ensures ok { IfOk result (TakesParts R.Source (λ v ms. AndThen (λ k. A.reads (C.human (config_of (lender_of self.old))) R.lends k v.0) (AndThen (λ k. B.reads (C.human (config_of (lender_of self.old))) R.lends k v.1) (AndThen (λ k. D.reads (C.human (config_of (lender_of self.old))) R.lends k v.2) (AndThen (λ k. E.reads (C.human (config_of (lender_of self.old))) R.lends k v.3) NoMore))) ms) self.old self.new) }
-        ensures err { IfErr result (FailsParts {V = A × B × D × E} R.Source (λ v ms. AndThen (λ k. A.reads (C.human (config_of (lender_of self.old))) R.lends k v.0) (AndThen (λ k. B.reads (C.human (config_of (lender_of self.old))) R.lends k v.1) (AndThen (λ k. D.reads (C.human (config_of (lender_of self.old))) R.lends k v.2) (AndThen (λ k. E.reads (C.human (config_of (lender_of self.old))) R.lends k v.3) NoMore))) ms) self.old self.new) }
+        ensures err { IfErr result (FailsParts {V = A × B × D × E} R.Source (λ v ms. AndThen (λ k. A.reads (C.human (config_of (lender_of self.old))) R.lends k v.0) (AndThen (λ k. B.reads (C.human (config_of (lender_of self.old))) R.lends k v.1) (AndThen (λ k. D.reads (C.human (config_of (lender_of self.old))) R.lends k v.2) (AndThen (λ k. E.reads (C.human (config_of (lender_of self.old))) R.lends k v.3) Anything))) ms) self.old self.new) }
     {
-        let a = match self.element() {
-            Ok(a) => a,
-            Err(e) => return Err(e),
-        };
-        let b = match self.element() {
-            Ok(b) => b,
-            Err(e) => return Err(e),
-        };
-        let d = match self.element() {
-            Ok(d) => d,
+        let (a, b, d) = match self.parts_3() {
+            Ok(parts) => parts,
             Err(e) => return Err(e),
         };
         let e = match self.element() {
@@ -208,22 +221,10 @@ impl<'x, R: Source, C: SerializerConfig> SeqAccess<'x, R, C> {
         requires { IsOpen self.old }
         ensures same_reference { self.new.de.ghost_name ≡ self.old.de.ghost_name }
         ensures ok { IfOk result (TakesParts R.Source (λ v ms. AndThen (λ k. A.reads (C.human (config_of (lender_of self.old))) R.lends k v.0) (AndThen (λ k. B.reads (C.human (config_of (lender_of self.old))) R.lends k v.1) (AndThen (λ k. D.reads (C.human (config_of (lender_of self.old))) R.lends k v.2) (AndThen (λ k. E.reads (C.human (config_of (lender_of self.old))) R.lends k v.3) (AndThen (λ k. F.reads (C.human (config_of (lender_of self.old))) R.lends k v.4) NoMore)))) ms) self.old self.new) }
-        ensures err { IfErr result (FailsParts {V = A × B × D × E × F} R.Source (λ v ms. AndThen (λ k. A.reads (C.human (config_of (lender_of self.old))) R.lends k v.0) (AndThen (λ k. B.reads (C.human (config_of (lender_of self.old))) R.lends k v.1) (AndThen (λ k. D.reads (C.human (config_of (lender_of self.old))) R.lends k v.2) (AndThen (λ k. E.reads (C.human (config_of (lender_of self.old))) R.lends k v.3) (AndThen (λ k. F.reads (C.human (config_of (lender_of self.old))) R.lends k v.4) NoMore)))) ms) self.old self.new) }
+        ensures err { IfErr result (FailsParts {V = A × B × D × E × F} R.Source (λ v ms. AndThen (λ k. A.reads (C.human (config_of (lender_of self.old))) R.lends k v.0) (AndThen (λ k. B.reads (C.human (config_of (lender_of self.old))) R.lends k v.1) (AndThen (λ k. D.reads (C.human (config_of (lender_of self.old))) R.lends k v.2) (AndThen (λ k. E.reads (C.human (config_of (lender_of self.old))) R.lends k v.3) (AndThen (λ k. F.reads (C.human (config_of (lender_of self.old))) R.lends k v.4) Anything)))) ms) self.old self.new) }
     {
-        let a = match self.element() {
-            Ok(a) => a,
-            Err(e) => return Err(e),
-        };
-        let b = match self.element() {
-            Ok(b) => b,
-            Err(e) => return Err(e),
-        };
-        let d = match self.element() {
-            Ok(d) => d,
-            Err(e) => return Err(e),
-        };
-        let e = match self.element() {
-            Ok(e) => e,
+        let (a, b, d, e) = match self.parts_4() {
+            Ok(parts) => parts,
             Err(e) => return Err(e),
         };
         let f = match self.element() {
@@ -286,26 +287,10 @@ impl<'x, R: Source, C: SerializerConfig> SeqAccess<'x, R, C> {
         requires { IsOpen self.old }
         ensures same_reference { self.new.de.ghost_name ≡ self.old.de.ghost_name }
         ensures ok { IfOk result (TakesParts R.Source (λ v ms. AndThen (λ k. A.reads (C.human (config_of (lender_of self.old))) R.lends k v.0) (AndThen (λ k. B.reads (C.human (config_of (lender_of self.old))) R.lends k v.1) (AndThen (λ k. D.reads (C.human (config_of (lender_of self.old))) R.lends k v.2) (AndThen (λ k. E.reads (C.human (config_of (lender_of self.old))) R.lends k v.3) (AndThen (λ k. F.reads (C.human (config_of (lender_of self.old))) R.lends k v.4) (AndThen (λ k. G.reads (C.human (config_of (lender_of self.old))) R.lends k v.5) NoMore))))) ms) self.old self.new) }
-        ensures err { IfErr result (FailsParts {V = A × B × D × E × F × G} R.Source (λ v ms. AndThen (λ k. A.reads (C.human (config_of (lender_of self.old))) R.lends k v.0) (AndThen (λ k. B.reads (C.human (config_of (lender_of self.old))) R.lends k v.1) (AndThen (λ k. D.reads (C.human (config_of (lender_of self.old))) R.lends k v.2) (AndThen (λ k. E.reads (C.human (config_of (lender_of self.old))) R.lends k v.3) (AndThen (λ k. F.reads (C.human (config_of (lender_of self.old))) R.lends k v.4) (AndThen (λ k. G.reads (C.human (config_of (lender_of self.old))) R.lends k v.5) NoMore))))) ms) self.old self.new) }
+        ensures err { IfErr result (FailsParts {V = A × B × D × E × F × G} R.Source (λ v ms. AndThen (λ k. A.reads (C.human (config_of (lender_of self.old))) R.lends k v.0) (AndThen (λ k. B.reads (C.human (config_of (lender_of self.old))) R.lends k v.1) (AndThen (λ k. D.reads (C.human (config_of (lender_of self.old))) R.lends k v.2) (AndThen (λ k. E.reads (C.human (config_of (lender_of self.old))) R.lends k v.3) (AndThen (λ k. F.reads (C.human (config_of (lender_of self.old))) R.lends k v.4) (AndThen (λ k. G.reads (C.human (config_of (lender_of self.old))) R.lends k v.5) Anything))))) ms) self.old self.new) }
     {
-        let a = match self.element() {
-            Ok(a) => a,
-            Err(e) => return Err(e),
-        };
-        let b = match self.element() {
-            Ok(b) => b,
-            Err(e) => return Err(e),
-        };
-        let d = match self.element() {
-            Ok(d) => d,
-            Err(e) => return Err(e),
-        };
-        let e = match self.element() {
-            Ok(e) => e,
-            Err(e) => return Err(e),
-        };
-        let f = match self.element() {
-            Ok(f) => f,
+        let (a, b, d, e, f) = match self.parts_5() {
+            Ok(parts) => parts,
             Err(e) => return Err(e),
         };
         let g = match self.element() {
@@ -348,6 +333,146 @@ impl<
     }
 
     fn missing() -> Option<(A, B, D, E, F, G)> {
+        None
+    }
+}
+
+impl<'x, R: Source, C: SerializerConfig> SeqAccess<'x, R, C> {
+    // Reads the 7 elements of a tuple.
+    #[inline(always)]
+    fn parts_7<
+        'de,
+        A: Deserialize<'de, R>,
+        B: Deserialize<'de, R>,
+        D: Deserialize<'de, R>,
+        E: Deserialize<'de, R>,
+        F: Deserialize<'de, R>,
+        G: Deserialize<'de, R>,
+        H: Deserialize<'de, R>,
+    >(&mut self) -> Result<(A, B, D, E, F, G, H), Error>
+    where
+        R: ReadSlice<'de>,
+        requires { IsOpen self.old }
+        ensures same_reference { self.new.de.ghost_name ≡ self.old.de.ghost_name }
+        ensures ok { IfOk result (TakesParts R.Source (λ v ms. AndThen (λ k. A.reads (C.human (config_of (lender_of self.old))) R.lends k v.0) (AndThen (λ k. B.reads (C.human (config_of (lender_of self.old))) R.lends k v.1) (AndThen (λ k. D.reads (C.human (config_of (lender_of self.old))) R.lends k v.2) (AndThen (λ k. E.reads (C.human (config_of (lender_of self.old))) R.lends k v.3) (AndThen (λ k. F.reads (C.human (config_of (lender_of self.old))) R.lends k v.4) (AndThen (λ k. G.reads (C.human (config_of (lender_of self.old))) R.lends k v.5) (AndThen (λ k. H.reads (C.human (config_of (lender_of self.old))) R.lends k v.6) NoMore)))))) ms) self.old self.new) }
+        ensures err { IfErr result (FailsParts {V = A × B × D × E × F × G × H} R.Source (λ v ms. AndThen (λ k. A.reads (C.human (config_of (lender_of self.old))) R.lends k v.0) (AndThen (λ k. B.reads (C.human (config_of (lender_of self.old))) R.lends k v.1) (AndThen (λ k. D.reads (C.human (config_of (lender_of self.old))) R.lends k v.2) (AndThen (λ k. E.reads (C.human (config_of (lender_of self.old))) R.lends k v.3) (AndThen (λ k. F.reads (C.human (config_of (lender_of self.old))) R.lends k v.4) (AndThen (λ k. G.reads (C.human (config_of (lender_of self.old))) R.lends k v.5) (AndThen (λ k. H.reads (C.human (config_of (lender_of self.old))) R.lends k v.6) Anything)))))) ms) self.old self.new) }
+    {
+        let (a, b, d, e, f, g) = match self.parts_6() {
+            Ok(parts) => parts,
+            Err(e) => return Err(e),
+        };
+        let h = match self.element() {
+            Ok(h) => h,
+            Err(e) => return Err(e),
+        };
+        Ok((a, b, d, e, f, g, h))
+    }
+}
+
+impl<
+    'de,
+    R: ReadSlice<'de>,
+    A: Deserialize<'de, R>,
+    B: Deserialize<'de, R>,
+    D: Deserialize<'de, R>,
+    E: Deserialize<'de, R>,
+    F: Deserialize<'de, R>,
+    G: Deserialize<'de, R>,
+    H: Deserialize<'de, R>,
+> Deserialize<'de, R> for (A, B, D, E, F, G, H) {
+    ghost reads = { λ human lends m v. OfRow (AndThen (λ k. A.reads human lends k v.0) (AndThen (λ k. B.reads human lends k v.1) (AndThen (λ k. D.reads human lends k v.2) (AndThen (λ k. E.reads human lends k v.3) (AndThen (λ k. F.reads human lends k v.4) (AndThen (λ k. G.reads human lends k v.5) (AndThen (λ k. H.reads human lends k v.6) NoMore))))))) m };
+
+    ghost absent = { None };
+
+    fn deserialize<C: SerializerConfig>(
+        de: &mut Deserializer<R, C>,
+    ) -> Result<(A, B, D, E, F, G, H), Error> {
+        let mut seq = match de.deserialize_seq() {
+            Ok(seq) => seq,
+            Err(e) => return Err(e),
+        };
+        let parts = match seq.parts_7() {
+            Ok(parts) => parts,
+            Err(e) => return Err(e),
+        };
+        match seq.end() {
+            Ok(()) => Ok(parts),
+            Err(e) => Err(e),
+        }
+    }
+
+    fn missing() -> Option<(A, B, D, E, F, G, H)> {
+        None
+    }
+}
+
+impl<'x, R: Source, C: SerializerConfig> SeqAccess<'x, R, C> {
+    // Reads the 8 elements of a tuple.
+    #[inline(always)]
+    fn parts_8<
+        'de,
+        A: Deserialize<'de, R>,
+        B: Deserialize<'de, R>,
+        D: Deserialize<'de, R>,
+        E: Deserialize<'de, R>,
+        F: Deserialize<'de, R>,
+        G: Deserialize<'de, R>,
+        H: Deserialize<'de, R>,
+        I: Deserialize<'de, R>,
+    >(&mut self) -> Result<(A, B, D, E, F, G, H, I), Error>
+    where
+        R: ReadSlice<'de>,
+        requires { IsOpen self.old }
+        ensures same_reference { self.new.de.ghost_name ≡ self.old.de.ghost_name }
+        ensures ok { IfOk result (TakesParts R.Source (λ v ms. AndThen (λ k. A.reads (C.human (config_of (lender_of self.old))) R.lends k v.0) (AndThen (λ k. B.reads (C.human (config_of (lender_of self.old))) R.lends k v.1) (AndThen (λ k. D.reads (C.human (config_of (lender_of self.old))) R.lends k v.2) (AndThen (λ k. E.reads (C.human (config_of (lender_of self.old))) R.lends k v.3) (AndThen (λ k. F.reads (C.human (config_of (lender_of self.old))) R.lends k v.4) (AndThen (λ k. G.reads (C.human (config_of (lender_of self.old))) R.lends k v.5) (AndThen (λ k. H.reads (C.human (config_of (lender_of self.old))) R.lends k v.6) (AndThen (λ k. I.reads (C.human (config_of (lender_of self.old))) R.lends k v.7) NoMore))))))) ms) self.old self.new) }
+        ensures err { IfErr result (FailsParts {V = A × B × D × E × F × G × H × I} R.Source (λ v ms. AndThen (λ k. A.reads (C.human (config_of (lender_of self.old))) R.lends k v.0) (AndThen (λ k. B.reads (C.human (config_of (lender_of self.old))) R.lends k v.1) (AndThen (λ k. D.reads (C.human (config_of (lender_of self.old))) R.lends k v.2) (AndThen (λ k. E.reads (C.human (config_of (lender_of self.old))) R.lends k v.3) (AndThen (λ k. F.reads (C.human (config_of (lender_of self.old))) R.lends k v.4) (AndThen (λ k. G.reads (C.human (config_of (lender_of self.old))) R.lends k v.5) (AndThen (λ k. H.reads (C.human (config_of (lender_of self.old))) R.lends k v.6) (AndThen (λ k. I.reads (C.human (config_of (lender_of self.old))) R.lends k v.7) Anything))))))) ms) self.old self.new) }
+    {
+        let (a, b, d, e, f, g, h) = match self.parts_7() {
+            Ok(parts) => parts,
+            Err(e) => return Err(e),
+        };
+        let i = match self.element() {
+            Ok(i) => i,
+            Err(e) => return Err(e),
+        };
+        Ok((a, b, d, e, f, g, h, i))
+    }
+}
+
+impl<
+    'de,
+    R: ReadSlice<'de>,
+    A: Deserialize<'de, R>,
+    B: Deserialize<'de, R>,
+    D: Deserialize<'de, R>,
+    E: Deserialize<'de, R>,
+    F: Deserialize<'de, R>,
+    G: Deserialize<'de, R>,
+    H: Deserialize<'de, R>,
+    I: Deserialize<'de, R>,
+> Deserialize<'de, R> for (A, B, D, E, F, G, H, I) {
+    ghost reads = { λ human lends m v. OfRow (AndThen (λ k. A.reads human lends k v.0) (AndThen (λ k. B.reads human lends k v.1) (AndThen (λ k. D.reads human lends k v.2) (AndThen (λ k. E.reads human lends k v.3) (AndThen (λ k. F.reads human lends k v.4) (AndThen (λ k. G.reads human lends k v.5) (AndThen (λ k. H.reads human lends k v.6) (AndThen (λ k. I.reads human lends k v.7) NoMore)))))))) m };
+
+    ghost absent = { None };
+
+    fn deserialize<C: SerializerConfig>(
+        de: &mut Deserializer<R, C>,
+    ) -> Result<(A, B, D, E, F, G, H, I), Error> {
+        let mut seq = match de.deserialize_seq() {
+            Ok(seq) => seq,
+            Err(e) => return Err(e),
+        };
+        let parts = match seq.parts_8() {
+            Ok(parts) => parts,
+            Err(e) => return Err(e),
+        };
+        match seq.end() {
+            Ok(()) => Ok(parts),
+            Err(e) => Err(e),
+        }
+    }
+
+    fn missing() -> Option<(A, B, D, E, F, G, H, I)> {
         None
     }
 }

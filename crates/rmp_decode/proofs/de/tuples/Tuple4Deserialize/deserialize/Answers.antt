@@ -1,8 +1,9 @@
 use Rattle.std.proofs.Common.{◌≡◌, ◌∙◌, subst, rules}
 use Rattle.rmp_wire.specs.Msg.{Msgs}
-use Rattle.rmp_decode.specs.Rows.{AndThen, NoMore}
+use Rattle.rmp_decode.specs.Rows.{AndThen, NoMore, Anything}
 use Rattle.rmp_decode.specs.Seq.{TakesParts, FailsParts}
 use Rattle.rmp_decode.proofs.Seqs.{seq_unopened, seq_parts, seq_over, seq_done, and_then_count, no_more_count}
+use Rattle.rmp_decode.proofs.Tuples.{keep, anything, parts_narrower}
 use Rattle.rmp_decode.proofs.de.tuples.Tuple4Deserialize.deserialize.Goals as goal
 
 via : {A : Type 0} {x z : A} (y : A) → x ≡ y → y ≡ z → x ≡ z
@@ -17,8 +18,8 @@ pub returns-in-Err-parts_4 : goal.returns-in-Err-parts_4
 returns-in-Err-parts_4 g c =
     let Q : g.row.A.Denot × g.row.B.Denot × g.row.D.Denot × g.row.E.Denot → Msgs → Type 0 = λ v ms. AndThen (λ k. g.A.Deserialize.reads (g.C.SerializerConfig.human c.args.de.now.config) g.R.ReadSlice.lends k v.0) (AndThen (λ k. g.B.Deserialize.reads (g.C.SerializerConfig.human c.args.de.now.config) g.R.ReadSlice.lends k v.1) (AndThen (λ k. g.D.Deserialize.reads (g.C.SerializerConfig.human c.args.de.now.config) g.R.ReadSlice.lends k v.2) (AndThen (λ k. g.E.Deserialize.reads (g.C.SerializerConfig.human c.args.de.now.config) g.R.ReadSlice.lends k v.3) NoMore))) ms in
     let o = c.in-Ok.ensures.opened in
-    let f = subst (λ z. FailsParts g.R.Source (λ (v : g.row.A.Denot × g.row.B.Denot × g.row.D.Denot × g.row.E.Denot) ms. AndThen (λ k. g.A.Deserialize.reads (g.C.SerializerConfig.human z) g.R.ReadSlice.lends k v.0) (AndThen (λ k. g.B.Deserialize.reads (g.C.SerializerConfig.human z) g.R.ReadSlice.lends k v.1) (AndThen (λ k. g.D.Deserialize.reads (g.C.SerializerConfig.human z) g.R.ReadSlice.lends k v.2) (AndThen (λ k. g.E.Deserialize.reads (g.C.SerializerConfig.human z) g.R.ReadSlice.lends k v.3) NoMore))) ms) c.in-Ok.seq c.parts_4.new.self c.in-Err-parts_4.e) o.stays.config c.in-Err-parts_4.ensures.err in
-    seq_parts g.R.Source Q _ c.in-Ok.seq c.parts_4.new.self o _ _ f (search rules)
+    let f = subst (λ z. FailsParts g.R.Source (λ (v : g.row.A.Denot × g.row.B.Denot × g.row.D.Denot × g.row.E.Denot) ms. AndThen (λ k. g.A.Deserialize.reads (g.C.SerializerConfig.human z) g.R.ReadSlice.lends k v.0) (AndThen (λ k. g.B.Deserialize.reads (g.C.SerializerConfig.human z) g.R.ReadSlice.lends k v.1) (AndThen (λ k. g.D.Deserialize.reads (g.C.SerializerConfig.human z) g.R.ReadSlice.lends k v.2) (AndThen (λ k. g.E.Deserialize.reads (g.C.SerializerConfig.human z) g.R.ReadSlice.lends k v.3) Anything))) ms) c.in-Ok.seq c.parts_4.new.self c.in-Err-parts_4.e) o.stays.config c.in-Err-parts_4.ensures.err in
+    seq_parts g.R.Source Q _ c.in-Ok.seq c.parts_4.new.self o _ _ (parts_narrower g.R.Source _ Q _ _ _ (λ v ms h. (v, (keep _ _ _ (keep _ _ _ (keep _ _ _ (keep _ _ _ (anything _))))) ms h)) f) (search rules)
 
 pub returns-in-Ok-end : goal.returns-in-Ok-end
 returns-in-Ok-end g c =
@@ -34,4 +35,4 @@ returns-in-Err-end g c =
     let o = c.in-Ok.ensures.opened in
     let t = subst (λ z. TakesParts g.R.Source (λ (v : g.row.A.Denot × g.row.B.Denot × g.row.D.Denot × g.row.E.Denot) ms. AndThen (λ k. g.A.Deserialize.reads (g.C.SerializerConfig.human z) g.R.ReadSlice.lends k v.0) (AndThen (λ k. g.B.Deserialize.reads (g.C.SerializerConfig.human z) g.R.ReadSlice.lends k v.1) (AndThen (λ k. g.D.Deserialize.reads (g.C.SerializerConfig.human z) g.R.ReadSlice.lends k v.2) (AndThen (λ k. g.E.Deserialize.reads (g.C.SerializerConfig.human z) g.R.ReadSlice.lends k v.3) NoMore))) ms) c.in-Ok.seq c.parts_4.new.self c.in-Ok-parts_4.parts) o.stays.config c.in-Ok-parts_4.ensures.ok in
     let e = c.in-Err-end.ensures.err t.run.still in
-    seq_over g.R.Source Q _ c.in-Ok.seq c.parts_4.new.self t.trees o t.run _ _ e.0 (via c.end.new.self.0 (search rules) e.1) 4 (λ v ms h. and_then_count _ _ _ (and_then_count _ _ _ (and_then_count _ _ _ (and_then_count _ _ _ no_more_count))) ms h) _ t.value
+    seq_over g.R.Source Q _ c.in-Ok.seq c.parts_4.new.self t.trees o t.run _ _ e.0 (via c.end.new.self.0 (search rules) e.1) 4 (λ v ms h. (and_then_count _ _ _ (and_then_count _ _ _ (and_then_count _ _ _ (and_then_count _ _ _ no_more_count)))) ms h) _ t.value

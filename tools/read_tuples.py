@@ -1,0 +1,292 @@
+#!/usr/bin/env python3
+"""Writes the implementations of `Deserialize` for tuples of one to eight elements, and their answers.
+
+A tuple of n elements is read as one of n - 1 and one element more, so that each proof is as long as the tuple. Run `rt fmt`
+in the crate afterwards.
+"""
+import os
+
+CRATE = os.path.join(os.path.dirname(os.path.abspath(__file__)), "..", "crates", "rmp_decode")
+KINDS = "ABDEFGHI"
+MOST = len(KINDS)
+HERE = "(C.human (config_of (lender_of self.old)))"
+
+
+def names(n):
+    return [k.lower() for k in KINDS[:n]]
+
+
+def tuple_of(parts):
+    return f"({parts[0]},)" if len(parts) == 1 else f"({', '.join(parts)})"
+
+
+def bounds(n):
+    return ", ".join(f"{k}: Deserialize<'de, R>" for k in KINDS[:n])
+
+
+# Each element is read as the part at its place, and then this holds of the rest.
+def each(n, human, end, reads=lambda k, human: f"{k}.reads {human} R.lends", value="v"):
+    text = end
+    for i in reversed(range(n)):
+        part = f"AndThen (λ k. {reads(KINDS[i], human)} k {value}.{i}) "
+        text = part + (text if text in ("NoMore", "Anything") else f"({text})")
+    return text
+
+
+def element(name):
+    return f"""        let {name} = match self.element() {{
+            Ok({name}) => {name},
+            Err(e) => return Err(e),
+        }};
+"""
+
+
+def parts(n):
+    if n == 2:
+        first = element("a")
+    else:
+        first = f"""        let {tuple_of(names(n - 1))} = match self.parts_{n - 1}() {{
+            Ok(parts) => parts,
+            Err(e) => return Err(e),
+        }};
+"""
+    return f"""
+impl<'x, R: Source, C: SerializerConfig> SeqAccess<'x, R, C> {{
+    // Reads the {n} elements of a tuple.
+    #[inline(always)]
+    fn parts_{n}<'de, {bounds(n)}>(&mut self) -> Result<{tuple_of(KINDS[:n])}, Error>
+    where
+        R: ReadSlice<'de>,
+        requires {{ IsOpen self.old }}
+        ensures same_reference {{ self.new.de.ghost_name ≡ self.old.de.ghost_name }}
+        ensures ok {{ IfOk result (TakesParts R.Source (λ v ms. {each(n, HERE, "NoMore")} ms) self.old self.new) }}
+        ensures err {{ IfErr result (FailsParts {{V = {" × ".join(KINDS[:n])}}} R.Source (λ v ms. {each(n, HERE, "Anything")} ms) self.old self.new) }}
+    {{
+{first}{element(names(n)[-1])}        Ok({tuple_of(names(n))})
+    }}
+}}
+"""
+
+
+def implementation(n):
+    kinds = tuple_of(KINDS[:n])
+    name, value, read = ("parts", "parts", f"parts_{n}") if n > 1 else ("a", "(a,)", "element")
+    return f"""
+impl<'de, R: ReadSlice<'de>, {bounds(n)}> Deserialize<'de, R> for {kinds} {{
+    ghost reads = {{ λ human lends m v. OfRow ({each(n, "human lends", "NoMore", lambda k, h: f"{k}.reads {h}")}) m }};
+
+    ghost absent = {{ None }};
+
+    fn deserialize<C: SerializerConfig>(de: &mut Deserializer<R, C>) -> Result<{kinds}, Error> {{
+        let mut seq = match de.deserialize_seq() {{
+            Ok(seq) => seq,
+            Err(e) => return Err(e),
+        }};
+        let {name} = match seq.{read}() {{
+            Ok({name}) => {name},
+            Err(e) => return Err(e),
+        }};
+        match seq.end() {{
+            Ok(()) => Ok({value}),
+            Err(e) => Err(e),
+        }}
+    }}
+
+    fn missing() -> Option<{kinds}> {{
+        None
+    }}
+}}
+"""
+
+
+# How the type's parts are read, in an answer.
+def reading(k, human):
+    return f"g.{k}.Deserialize.reads (g.C.SerializerConfig.human {human}) g.R.ReadSlice.lends"
+
+
+# A lemma for each element before the last, around one for the last.
+def around(n, step, last):
+    text = last
+    for _ in range(n):
+        text = f"({step} {text})"
+    return text
+
+
+def parts_answers(n):
+    last = KINDS[n - 1]
+    var = last.lower()
+    path = f"Rattle.rmp_decode.proofs.de.seq.SeqAccess.parts_{n}"
+    start = "c.args.self.now"
+    if n == 2:
+        mid, now, ok, err = "c.element.new.self", "c.element-2.new.self", "c.in-Ok-element", "c.in-Err-element"
+        second = "element-2"
+        take = f"""    let s = run_start g.R.Source {start} c.requires in
+    let t1 = subst (λ z. TakesElement g.R.Source ({reading("A", "z")}) {start} {mid} c.in-Ok.a) s.stays.config (c.in-Ok.ensures.ok s.still) in
+    let run = run_step g.R.Source _ {start} {start} {mid} no_items c.in-Ok.a s t1 c.element.ensures.same_reference in
+"""
+        trees = "(item t1.tree no_items)"
+    else:
+        mid, now, ok, err = f"c.parts_{n - 1}.new.self", "c.element.new.self", "c.in-Ok-element", "c.in-Err-element"
+        second = "element"
+        take = f"""    let t = c.in-Ok.ensures.ok in
+    let run = t.run in
+"""
+        trees = "t.trees"
+    before = f"v.{n - 1}"
+    text = f"""use Rattle.std.proofs.Common.{{◌≡◌, subst}}
+use Rattle.rmp_wire.specs.Msg.{{Msgs, no_items, item}}
+use Rattle.rmp_decode.specs.Seq.{{TakesElement, FailsElement}}
+use Rattle.rmp_decode.proofs.Rows.{{push}}
+use Rattle.rmp_decode.proofs.Seqs.{{run_start, run_step, parts_element}}
+use Rattle.rmp_decode.proofs.Tuples.{{keep, anything, extend, extend_end, walk, next, lacks, parts_narrower}}
+use {path}.Goals as goal
+"""
+    if n == 2:
+        text += f"""
+pub returns-in-Err-clause-err : goal.returns-in-Err-clause-err
+returns-in-Err-clause-err g c =
+    let s = run_start g.R.Source {start} c.requires in
+    let f = subst (λ z. FailsElement g.R.Source ({reading("A", "z")}) {start} c.element.new.self c.in-Err.e) s.stays.config (c.in-Err.ensures.err s.still) in
+    parts_element g.R.Source _ {start} {start} no_items s ({reading("A", start + ".de.now.config")}) c.element.new.self _ f (c.element.ensures.marked s.still.marked) (λ m ks v h. (v.0, h.0)) (λ v h. h)
+"""
+    else:
+        shorter = ", ".join(f"v.{i}" for i in range(n - 1))
+        text += f"""
+pub returns-in-Err-clause-err : goal.returns-in-Err-clause-err
+returns-in-Err-clause-err g c = parts_narrower g.R.Source _ _ _ _ _ (λ v ms h. (({shorter}), {around(n - 1, "keep _ _ _", "(anything _)")} ms h)) c.in-Err.ensures.err
+"""
+    if n == 2:
+        part, some, made = "h.1.0", "h.1", "(t1.value, (x.value, tt))"
+    else:
+        part = f"{around(n - 1, 'walk _ _ _ _ (item m ks)', '(next _ _ m ks)')} t.trees t.value h"
+        some = f"{around(n - 1, 'walk _ _ _ _ no_items', '(lacks _ _)')} t.trees t.value h"
+        made = f"{around(n - 1, 'extend _ _ _ x.tree', '(extend_end _ x.tree x.value)')} t.trees t.value"
+    return text + f"""
+pub returns-in-Err-element-clause-err : goal.returns-in-Err-element-clause-err
+returns-in-Err-element-clause-err g c =
+{take}    let f = subst (λ z. FailsElement g.R.Source ({reading(last, "z")}) {mid} {now} {err}.e) run.stays.config ({err}.ensures.err run.still) in
+    parts_element g.R.Source _ {start} {mid} {trees} run ({reading(last, start + ".de.now.config")}) {now} _ f (c.{second}.ensures.marked run.still.marked) (λ m ks v h. ({before}, {part})) (λ v h. {some})
+
+pub returns-clause-ok : goal.returns-clause-ok
+returns-clause-ok g c =
+{take}    let x = subst (λ z. TakesElement g.R.Source ({reading(last, "z")}) {mid} {now} {ok}.{var}) run.stays.config ({ok}.ensures.ok run.still) in
+    record {{ trees = push {trees} x.tree; run = run_step g.R.Source _ {start} {mid} {now} {trees} {ok}.{var} run x c.{second}.ensures.same_reference; value = {made} }}
+"""
+
+
+def count(n):
+    return around(n, "and_then_count _ _ _", "no_more_count")
+
+
+def answers(n):
+    path = f"Rattle.rmp_decode.proofs.de.tuples.Tuple{n}Deserialize.deserialize"
+    q = "(λ v ms. " + each(n, "c.args.de.now.config", "NoMore", reading) + " ms)"
+    kinds = " × ".join(f"g.row.{k}.Denot" for k in KINDS[:n])
+    now = f"c.parts_{n}.new.self"
+    wanted = f"    let Q : {kinds} → Msgs → Type 0 = {q[1:-1]} in\n"
+    at = lambda end: f"(λ (v : {kinds}) ms. " + each(n, "z", end, reading) + " ms)"
+    took = f"""    let o = c.in-Ok.ensures.opened in
+    let t = subst (λ z. TakesParts g.R.Source {at("NoMore")} c.in-Ok.seq {now} c.in-Ok-parts_{n}.parts) o.stays.config c.in-Ok-parts_{n}.ensures.ok in
+"""
+    return f"""use Rattle.std.proofs.Common.{{◌≡◌, ◌∙◌, subst, rules}}
+use Rattle.rmp_wire.specs.Msg.{{Msgs}}
+use Rattle.rmp_decode.specs.Rows.{{AndThen, NoMore, Anything}}
+use Rattle.rmp_decode.specs.Seq.{{TakesParts, FailsParts}}
+use Rattle.rmp_decode.proofs.Seqs.{{seq_unopened, seq_parts, seq_over, seq_done, and_then_count, no_more_count}}
+use Rattle.rmp_decode.proofs.Tuples.{{keep, anything, parts_narrower}}
+use {path}.Goals as goal
+
+via : {{A : Type 0}} {{x z : A}} (y : A) → x ≡ y → y ≡ z → x ≡ z
+via y p q = p ∙ q
+
+pub returns-in-Err : goal.returns-in-Err
+returns-in-Err g c =
+{wanted}    seq_unopened g.R.Source Q _ _ _ (rw c.in-Err.is at c.deserialize_seq.follows.holds-at-none)
+
+pub returns-in-Err-parts_{n} : goal.returns-in-Err-parts_{n}
+returns-in-Err-parts_{n} g c =
+{wanted}    let o = c.in-Ok.ensures.opened in
+    let f = subst (λ z. FailsParts g.R.Source {at("Anything")} c.in-Ok.seq {now} c.in-Err-parts_{n}.e) o.stays.config c.in-Err-parts_{n}.ensures.err in
+    seq_parts g.R.Source Q _ c.in-Ok.seq {now} o _ _ (parts_narrower g.R.Source _ Q _ _ _ (λ v ms h. (v, {around(n, "keep _ _ _", "(anything _)")} ms h)) f) (search rules)
+
+pub returns-in-Ok-end : goal.returns-in-Ok-end
+returns-in-Ok-end g c =
+{wanted}{took}    let e = c.in-Ok-end.ensures.ok t.run.still in
+    seq_done g.R.Source Q _ c.in-Ok.seq {now} t.trees o t.run _ _ t.value e.0 (via c.end.new.self.0 (search rules) e.1)
+
+pub returns-in-Err-end : goal.returns-in-Err-end
+returns-in-Err-end g c =
+{wanted}{took}    let e = c.in-Err-end.ensures.err t.run.still in
+    seq_over g.R.Source Q _ c.in-Ok.seq {now} t.trees o t.run _ _ e.0 (via c.end.new.self.0 (search rules) e.1) {n} (λ v ms h. {count(n)} ms h) _ t.value
+"""
+
+
+def single():
+    path = "Rattle.rmp_decode.proofs.de.tuples.Tuple1Deserialize.deserialize"
+    wanted = f"    let Q : record {{ 0 : g.row.A.Denot }} → Msgs → Type 0 = λ v ms. {each(1, 'c.args.de.now.config', 'NoMore', reading)} ms in\n"
+    seq, now = "c.in-Ok.seq", "c.element.new.self"
+    start = f"""    let o = c.in-Ok.ensures.opened in
+    let s = run_start g.R.Source {seq} o.opened in
+"""
+    took = f"""{start}    let t = subst (λ z. TakesElement g.R.Source ({reading("A", "z")}) {seq} {now} c.in-Ok-element.a) o.stays.config (c.in-Ok-element.ensures.ok s.still) in
+    let r = run_step g.R.Source _ {seq} {seq} {now} no_items c.in-Ok-element.a s t c.element.ensures.same_reference in
+"""
+    return f"""use Rattle.std.proofs.Common.{{◌≡◌, ◌∙◌, subst, rules}}
+use Rattle.rmp_wire.specs.Msg.{{Msgs, no_items, item}}
+use Rattle.rmp_decode.specs.Rows.{{AndThen, NoMore}}
+use Rattle.rmp_decode.specs.Seq.{{TakesElement, FailsElement}}
+use Rattle.rmp_decode.proofs.Seqs.{{run_start, run_step, seq_unopened, seq_element, seq_over, seq_done, and_then_count, no_more_count}}
+use {path}.Goals as goal
+
+via : {{A : Type 0}} {{x z : A}} (y : A) → x ≡ y → y ≡ z → x ≡ z
+via y p q = p ∙ q
+
+pub returns-in-Err : goal.returns-in-Err
+returns-in-Err g c =
+{wanted}    seq_unopened g.R.Source Q _ _ _ (rw c.in-Err.is at c.deserialize_seq.follows.holds-at-none)
+
+pub returns-in-Err-element : goal.returns-in-Err-element
+returns-in-Err-element g c =
+{wanted}{start}    let f = subst (λ z. FailsElement g.R.Source ({reading("A", "z")}) {seq} {now} c.in-Err-element.e) o.stays.config (c.in-Err-element.ensures.err s.still) in
+    seq_element g.R.Source Q _ {seq} {seq} no_items o s _ ({reading("A", "c.args.de.now.config")}) {now} _ f (c.element.ensures.marked s.still.marked) (search rules) (λ m ks v h. (v.0, h.0)) (λ v h. h)
+
+pub returns-in-Ok-end : goal.returns-in-Ok-end
+returns-in-Ok-end g c =
+{wanted}{took}    let e = c.in-Ok-end.ensures.ok r.still in
+    seq_done g.R.Source Q _ {seq} {now} (item t.tree no_items) o r _ _ (t.value, tt) e.0 (via c.end.new.self.0 (search rules) e.1)
+
+pub returns-in-Err-end : goal.returns-in-Err-end
+returns-in-Err-end g c =
+{wanted}{took}    let e = c.in-Err-end.ensures.err r.still in
+    seq_over g.R.Source Q _ {seq} {now} (item t.tree no_items) o r _ _ e.0 (via c.end.new.self.0 (search rules) e.1) 1 (λ v ms h. {count(1)} ms h) (record {{ 0 = c.in-Ok-element.a }}) (t.value, tt)
+"""
+
+
+def write(text, *path):
+    place = os.path.join(CRATE, *path)
+    os.makedirs(os.path.dirname(place), exist_ok=True)
+    with open(place, "w") as out:
+        out.write(text)
+
+
+def main():
+    source = """//! Tuples, from lists of as many elements, or bytes of as many. Written by tools/read_tuples.py.
+ghost use Rattle.std.specs.Prelude.{◌≡◌, None, IfOk, IfErr};
+ghost use Rattle.rmp_decode.specs.Rows.{AndThen, Anything, NoMore};
+ghost use Rattle.rmp_decode.specs.Seq.{OfRow, IsOpen, TakesParts, FailsParts, lender_of};
+ghost use Rattle.rmp_decode.specs.State.{config_of};
+
+use crate::de::seq::SeqAccess;
+use crate::de::{Deserialize, Deserializer};
+use crate::error::Error;
+use rmp_wire::config::SerializerConfig;
+use rmp_wire::{ReadSlice, Source};
+""" + implementation(1) + "".join(parts(n) + implementation(n) for n in range(2, MOST + 1))
+    write(source, "src", "de", "tuples.rt")
+    write(single(), "proofs", "de", "tuples", "Tuple1Deserialize", "deserialize", "Answers.antt")
+    for n in range(2, MOST + 1):
+        write(parts_answers(n), "proofs", "de", "seq", "SeqAccess", f"parts_{n}", "Answers.antt")
+        write(answers(n), "proofs", "de", "tuples", f"Tuple{n}Deserialize", "deserialize", "Answers.antt")
+
+
+main()
