@@ -14,6 +14,8 @@ pub mod Refusals
 pub mod Rows
 pub mod Seqs
 pub mod Sets
+pub mod Skipping
 pub mod Texts
 pub mod Tuples
 pub mod Whole
+pub mod Withs

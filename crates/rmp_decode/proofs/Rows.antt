@@ -88,7 +88,7 @@ count_refused spells P room n (Some xs) f = λ a. f a.trees a.holds a.many
 
 -- ---- a row behind its head
 
-listed : (ms : Msgs) (b : List ℕ) → SpellsAll b ms → SpellsRow Spells b ms
+pub listed : (ms : Msgs) (b : List ℕ) → SpellsAll b ms → SpellsRow Spells b ms
 listed no_items b s = s
 listed (item m ms) b s = record { first = s.first; second = s.second; is_first = s.is_first; is_second = listed ms s.second s.is_second; is_whole = s.is_whole }
 

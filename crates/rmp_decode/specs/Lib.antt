@@ -10,5 +10,7 @@ pub mod ReadErrors
 pub mod Rows
 pub mod Seq
 pub mod Sets
+pub mod Skip
 pub mod State
+pub mod With
 pub mod Words

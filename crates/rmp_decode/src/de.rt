@@ -7,12 +7,16 @@ ghost use Rattle.rmp_decode.specs.declared.de.Kept.TheVariants.{Nothing};
 
 mod arrays;
 mod ext;
+mod contents;
 mod kinds;
 pub mod map;
 mod numbers;
+#[cfg(test)]
+mod part_tests;
 mod pieces;
 pub mod seq;
 mod sets;
+mod skip;
 #[cfg(test)]
 mod tests;
 mod texts;
@@ -20,6 +24,7 @@ mod tuples;
 
 use crate::error::Error;
 use crate::text::Text;
+pub use contents::{ReadContent, Slices};
 use rmp_wire::config::{BinaryConfig, DefaultConfig, HumanReadableConfig, SerializerConfig};
 use rmp_wire::read::{next_head, read_head};
 use rmp_wire::{Head, Marker, ReadRefReader, ReadSlice, Source};

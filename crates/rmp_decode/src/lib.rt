@@ -7,6 +7,6 @@ pub mod text;
 
 pub use de::map::MapAccess;
 pub use de::seq::SeqAccess;
-pub use de::{Deserialize, Deserializer, from_read_ref, from_slice};
+pub use de::{Deserialize, Deserializer, ReadContent, Slices, from_read_ref, from_slice};
 pub use error::Error;
 pub use text::Text;

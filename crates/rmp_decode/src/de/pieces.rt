@@ -15,7 +15,7 @@ use std::str;
 
 // The error of a source's fault after a message's first byte.
 #[inline(always)]
-fn error_of(fault: SourceFault) -> Error
+pub(crate) fn error_of(fault: SourceFault) -> Error
     ensures { Rattle.rmp_decode.specs.Pieces.Blamed fault result }
 {
     match fault {

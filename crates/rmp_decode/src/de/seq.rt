@@ -10,6 +10,7 @@ ghost use Rattle.rmp_decode.specs.State.{faults_of, room_of, config_of, is_faile
 ghost use Rattle.rmp_decode.specs.declared.de.Kept.TheVariants.{Nothing};
 
 mod buffers;
+mod with;
 
 use crate::de::{Deserialize, Deserializer, Kept};
 use crate::error::Error;

@@ -1,0 +1,70 @@
+-- What passing over messages takes.
+use Rattle.std.specs.Prelude.{◌≡◌, ℕ, ◌*◌, ◌<◌, Bool, true, false, List, length, Option, Result, OnOk, OnErr, IfErr}
+use Rattle.std.specs.Io.KnownBytes.{Consumes}
+use Rattle.rmp_wire.specs.declared.head.Head.{Head}
+use Rattle.rmp_wire.specs.declared.head.Head.TheVariants.{Nil, Truth, Whole, F32Bits, F64Bits, Text, Bin, Array, Map, Ext}
+use Rattle.rmp_wire.specs.declared.source.Source.{Ghosts}
+use Rattle.rmp_wire.specs.Msg.{Msg, Msgs, count, depth_all}
+use Rattle.rmp_wire.specs.Spelling.{Spells, IsBytes}
+use Rattle.rmp_decode.specs.Law.{Explains}
+use Rattle.rmp_decode.specs.Seq.{SpellsRow, RefusesRow}
+use Rattle.rmp_decode.specs.State.{left, faults_of, Stays}
+use Rattle.rmp_decode.specs.declared.de.Deserializer.{Deserializer}
+use Rattle.rmp_decode.specs.declared.de.Kept.TheVariants.{Nothing}
+use Rattle.rmp_decode.specs.declared.error.Error.{Error}
+
+-- every tree is passed over
+abbrev pub any_tree : Msg → Unit {0} → Type 0
+any_tree m u = Unit {0}
+
+abbrev pub any_row : Msgs → Type 0
+any_row ms = Unit {0}
+
+-- the head of a list, or of a map
+abbrev pub parts_head : Bool → ℕ → Head
+parts_head true n = Map n
+parts_head false n = Array n
+
+-- how many messages stand behind it
+abbrev pub parts_count : Bool → ℕ → ℕ
+parts_count true n = 2 * n
+parts_count false n = n
+
+-- how many bytes of content stand behind the head of a leaf
+abbrev pub content_len : Head → ℕ
+content_len Nil = 0
+content_len (Truth t) = 0
+content_len (Whole z) = 0
+content_len (F32Bits n) = 0
+content_len (F64Bits n) = 0
+content_len (Text n) = n
+content_len (Bin n) = n
+content_len (Array n) = 0
+content_len (Map n) = 0
+content_len (Ext n tag) = n
+
+-- so many bytes were taken
+pub record Passes (len : ℕ) (old new : Option (List ℕ)) : Type 0 where
+  pub bytes : List ℕ
+  pub long : length bytes ≡ len
+  pub are_bytes : IsBytes bytes
+  pub taken : Consumes old new bytes
+
+-- so many messages were taken, one after another
+pub record PassesRow {R C : Type 0} (g : Ghosts R) (room n : ℕ) (old new : Deserializer R C) : Type 0 where
+  pub bytes : List ℕ
+  pub trees : Msgs
+  pub takes : Consumes (left g old) (left g new) bytes
+  pub spelled : SpellsRow Spells bytes trees
+  pub many : count trees ≡ n
+  pub fits : depth_all trees < room
+
+-- What passing over n messages does that nest below the room.
+pub record SkipsRow {R C : Type 0} (g : Ghosts R) (room n : ℕ) (old new : Deserializer R C) (result : Result (Unit {0}) Error) : Type 0 where
+  pub ok : OnOk result (PassesRow g room n old new)
+  pub ready : OnOk result (new.failed ≡ false)
+  pub clean : OnOk result (new.kept ≡ Nothing)
+  pub sound : OnOk result (faults_of g new ≡ faults_of g old)
+  pub err : IfErr result (λ e. Explains e (faults_of g old) (faults_of g new) (RefusesRow Spells any_row room n (left g old)))
+  pub failed : OnErr result (new.failed ≡ true)
+  pub stays : Stays g old new

@@ -1,0 +1,64 @@
+-- What an access lends to a function that reads a part, and how it answers by what that function answers.
+use Rattle.std.specs.Prelude.{◌≡◌, ◌+◌, ◌<◌, ℕ, Bool, true, false, Result, Ok, Err, Option, Some, OnOk, MatchResult, if◌then◌else◌}
+use Rattle.std.specs.Borrow.{MutBor}
+use Rattle.std.specs.Fn.{Once, FnOnceTakesAtMut, FnOnceReturnsAtMut}
+use Rattle.std.specs.Io.KnownBytes.{IsAtEnd}
+use Rattle.rmp_wire.specs.declared.source.Source.{Ghosts}
+use Rattle.rmp_decode.specs.Law.{Explains}
+use Rattle.rmp_decode.specs.Seq.{KeepsByte}
+use Rattle.rmp_decode.specs.State.{faults_of, Stays}
+use Rattle.rmp_decode.specs.declared.de.Deserializer.{Deserializer}
+use Rattle.rmp_decode.specs.declared.de.seq.SeqAccess.{SeqAccess}
+use Rattle.rmp_decode.specs.declared.error.Error.{Error}
+use Rattle.rmp_decode.specs.declared.error.Error.TheVariants.{Uncategorized}
+use Rattle.rmp_decode.specs.declared.text.Text.TheVariants.{FailedBefore}
+
+-- functions that read a part from a reader
+abbrev pub Reading : (F R C X : Type 0) → Type 1
+Reading F R C X = Once F (MutBor (Deserializer R C) × Unit {0}) (Result X Error × (MutBor (Deserializer R C) × Unit {0}))
+
+-- a byte of bytes is kept back as the number that is to be read
+pub record OffersByte {R C : Type 0} (g : Ghosts R) (old new : Deserializer R C) : Type 0 where
+  pub keeps : KeepsByte g old new
+  pub stays : Stays g old new
+  pub faults_same : faults_of g new ≡ faults_of g old
+
+-- the next part of bytes, or of a list
+abbrev pub OffersPart : {R C : Type 0} → Ghosts R → Bool → Deserializer R C → Deserializer R C → Type 0
+OffersPart g true old new = OffersByte g old new
+OffersPart g false old new = new ≡ old
+
+-- the reader as the next part is read from it: ready, with the part's room
+pub record Lends {R C : Type 0} (g : Ghosts R) (s : SeqAccess R C) (d : Deserializer R C) : Type 0 where
+  pub from : Deserializer R C
+  pub offers : OffersPart g s.bytes s.de.now from
+  pub lent : d ≡ record from { room = s.inner; failed = false }
+
+-- f may be called on the next part
+abbrev pub CanRead : {F R C X : Type 0} → Ghosts R → Reading F R C X → F → SeqAccess R C → Type 0
+CanRead {F} {R} {C} g once f s = (d : Deserializer R C) → Lends g s d → FnOnceTakesAtMut once f d
+
+-- The next part was offered to f, once. An answer of f that leaves the reader failed counts as a failure.
+pub record PartRead {F R C X : Type 0} (g : Ghosts R) (once : Reading F R C X) (f : F) (old new : SeqAccess R C) (result : Result (Option X) Error) : Type 0 where
+  pub lent : Deserializer R C
+  pub gave : Result X Error
+  pub rest : Deserializer R C
+  pub lends : Lends g old lent
+  pub called : FnOnceReturnsAtMut once f lent gave rest
+  pub answers : MatchResult gave (λ x. result ≡ (if rest.failed then Err (Uncategorized FailedBefore) else Ok (Some x))) (λ e. result ≡ Err e)
+  pub keeps : new.de.now ≡ record rest { room = old.de.now.room; failed = true }
+  pub fewer : OnOk result (old.left ≡ new.left + 1)
+
+-- The bytes ended before the part, and f wasn't called.
+pub record PartMissing {R C X : Type 0} (g : Ghosts R) (old new : SeqAccess R C) (result : Result (Option X) Error) : Type 0 where
+  pub bytes : old.bytes ≡ true
+  pub error : Error
+  pub answers : result ≡ Err error
+  pub stays : Stays g old.de.now new.de.now
+  pub err : Explains error (faults_of g old.de.now) (faults_of g new.de.now) (IsAtEnd (g.ahead old.de.now.reader))
+
+-- the part's counts but that of what is left stay
+pub record SameList {R C : Type 0} (old new : SeqAccess R C) : Type 0 where
+  pub count : new.count ≡ old.count
+  pub inner : new.inner ≡ old.inner
+  pub bytes : new.bytes ≡ old.bytes

@@ -1,0 +1,61 @@
+//! Content of texts, bytes and extensions, as functions that call themselves take it.
+ghost use Rattle.std.specs.Prelude.{◌≡◌, OnOk, IfOk, IfErr, length};
+ghost use Rattle.std.specs.Io.KnownBytes.{Consumes};
+ghost use Rattle.rmp_wire.specs.Sources.{IsShort};
+ghost use Rattle.rmp_wire.specs.Spelling.{IsBytes};
+ghost use Rattle.rmp_decode.specs.Law.{Explains};
+ghost use Rattle.rmp_decode.specs.Skip.{Passes};
+
+use crate::de::pieces::{error_of, owned};
+use crate::error::Error;
+use rmp_wire::{ReadSlice, Source};
+use std::alloc::Global;
+use std::marker::PhantomData;
+
+/// How content is taken from a reader. A function that calls itself may have no bound that names a lifetime, so it has this
+/// one in place of `ReadSlice`, and is called with `Slices`.
+pub trait ReadContent<R: Source> {
+    /// Passes over the next bytes, where they lie.
+    ///
+    /// # Errors
+    /// `InvalidDataRead` where they end too soon or the source failed, and `OutOfMemory`.
+    fn pass(reader: &mut R, len: usize) -> Result<(), Error>
+        ensures ok { OnOk result (Passes len (R.ahead reader.old) (R.ahead reader.new)) }
+        ensures sound { OnOk result (R.faults reader.new ≡ R.faults reader.old) }
+        ensures err { IfErr result (λ e. Explains e (R.faults reader.old) (R.faults reader.new) (IsShort len (R.ahead reader.old))) }
+        ensures place { R.place reader.new ≡ R.place reader.old };
+
+    /// Takes the next bytes into a vector.
+    ///
+    /// # Errors
+    /// As `pass`.
+    fn take(alloc: Global, reader: &mut R, len: usize) -> Result<Vec<u8>, Error>
+        ensures ok { IfOk result (λ v. (length v.items ≡ len) × IsBytes v.items × Consumes (R.ahead reader.old) (R.ahead reader.new) v.items) }
+        ensures sound { OnOk result (R.faults reader.new ≡ R.faults reader.old) }
+        ensures err { IfErr result (λ e. Explains e (R.faults reader.old) (R.faults reader.new) (IsShort len (R.ahead reader.old))) }
+        ensures place { R.place reader.new ≡ R.place reader.old };
+}
+
+/// The content of readers that answer slices.
+#[derive(Clone, Copy, Debug)]
+pub struct Slices<'de> {
+    of: PhantomData<&'de [u8]>,
+}
+
+impl<'de, R: ReadSlice<'de>> ReadContent<R> for Slices<'de> {
+    #[inline(always)]
+    fn pass(reader: &mut R, len: usize) -> Result<(), Error> {
+        match reader.read_slice(len) {
+            Ok(piece) => {
+                let _bytes = piece.as_bytes();
+                Ok(())
+            }
+            Err(e) => Err(error_of(e)),
+        }
+    }
+
+    #[inline(always)]
+    fn take(alloc: Global, reader: &mut R, len: usize) -> Result<Vec<u8>, Error> {
+        owned(alloc, reader, len)
+    }
+}

@@ -1,0 +1,124 @@
+//! Messages that are passed over.
+ghost use Rattle.std.specs.Prelude.{◌≡◌, ◌-◌, true, false};
+ghost use Rattle.rmp_decode.specs.Kinds.{Finds};
+ghost use Rattle.rmp_decode.specs.Law.{Lawful};
+ghost use Rattle.rmp_decode.specs.Skip.{parts_head, content_len, SkipsRow, any_tree, parts_count};
+ghost use Rattle.rmp_decode.specs.State.{is_failed, kept_of, room_of};
+ghost use Rattle.rmp_decode.specs.declared.de.Kept.TheVariants.{Nothing};
+
+use crate::de::Deserializer;
+use crate::de::contents::{ReadContent, Slices};
+use crate::error::Error;
+use rmp_wire::config::SerializerConfig;
+use rmp_wire::{Head, ReadSlice, Source};
+
+// Whether it is a map, and how many items or pairs follow.
+#[inline(always)]
+fn parts_in(head: Head) -> Option<(bool, u32)>
+    ensures { Finds (λ h p. h ≡ parts_head p.0 p.1) head result }
+{
+    match head {
+        Head::Array(n) => Some((false, n)),
+        Head::Map(n) => Some((true, n)),
+        _ => None,
+    }
+}
+
+// How many bytes of content follow the head of a leaf.
+#[inline(always)]
+fn content_in(head: Head) -> u32
+    ensures { result ≡ content_len head }
+{
+    match head {
+        Head::Text(n) | Head::Bin(n) | Head::Ext(n, _) => n,
+        _ => 0,
+    }
+}
+
+// How many messages follow the head of a list or a map: of a map two a pair.
+#[inline(always)]
+fn messages(is_map: bool, n: u32) -> u64
+    ensures { result ≡ parts_count is_map n }
+{
+    if is_map {
+        2 * u64::from(n)
+    } else {
+        u64::from(n)
+    }
+}
+
+// Passes over one message.
+#[cycle(skipping)]
+fn skip<R: Source, C: SerializerConfig, P: ReadContent<R>>(
+    de: &mut Deserializer<R, C>,
+) -> Result<(), Error>
+    ensures { Lawful R.Source any_tree de.old de.new result }
+{
+    match de.head() {
+        Ok((_, head)) => match parts_in(head) {
+            Some((is_map, n)) => skip_parts::<R, C, P>(de, messages(is_map, n)),
+            None => match P::pass(&mut de.reader, content_in(head) as usize) {
+                Ok(()) => {
+                    de.failed = false;
+                    Ok(())
+                }
+                Err(e) => Err(e),
+            },
+        },
+        Err(e) => Err(e),
+    }
+}
+
+// Passes over the parts of a list or a map whose head was taken.
+#[cycle(skipping)]
+fn skip_parts<R: Source, C: SerializerConfig, P: ReadContent<R>>(
+    de: &mut Deserializer<R, C>,
+    count: u64,
+) -> Result<(), Error>
+    requires failed { is_failed de.old ≡ true }
+    requires clean { kept_of de.old ≡ Nothing }
+    ensures { SkipsRow R.Source (room_of de.old - 1) count de.old de.new result }
+{
+    let outer = de.room;
+    if outer <= 1 {
+        return Err(Error::DepthLimitExceeded);
+    }
+    de.room = outer - 1;
+    de.failed = false;
+    let skipped = skip_row::<R, C, P>(de, count);
+    de.room = outer;
+    skipped
+}
+
+// Passes over messages that stand one after another.
+#[cycle(skipping)]
+fn skip_row<R: Source, C: SerializerConfig, P: ReadContent<R>>(
+    de: &mut Deserializer<R, C>,
+    count: u64,
+) -> Result<(), Error>
+    requires fresh { is_failed de.old ≡ false }
+    requires clean { kept_of de.old ≡ Nothing }
+    ensures { SkipsRow R.Source (room_of de.old) count de.old de.new result }
+{
+    for _ in 0..count {
+        match skip::<R, C, P>(de) {
+            Ok(()) => {}
+            Err(e) => return Err(e),
+        }
+    }
+    Ok(())
+}
+
+impl<R: Source, C: SerializerConfig> Deserializer<R, C> {
+    /// Passes over one message of any kind. Its texts may be no UTF-8, and its content isn't copied where the source lends.
+    ///
+    /// # Errors
+    /// `DepthLimitExceeded` at a list or map in it that would nest too deep.
+    pub fn deserialize_ignored_any<'de>(&mut self) -> Result<(), Error>
+    where
+        R: ReadSlice<'de>,
+        ensures { Lawful R.Source any_tree self.old self.new result }
+    {
+        skip::<R, C, Slices<'de>>(self)
+    }
+}
