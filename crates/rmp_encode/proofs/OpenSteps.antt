@@ -1,7 +1,7 @@
 -- A list or a map of a known length or an unknown one, from what its state says.
 use Rattle.std.proofs.Common.{◌≡◌, ℕ, ◌+◌, ◌<◌, ◌≤◌, ◌^◌, List, [], ◌∷◌, ◌++◌, length, Bool, true, false, Option, None, Some, refl, sym, ◌∙◌, ap, subst, arith}
 use Rattle.std.specs.Borrow.{Bor}
-use Rattle.std.specs.Prelude.{Result, Ok, Err, OnErr, IfErr}
+use Rattle.std.specs.Prelude.{Result, Ok, Err, OnOk, OnErr, IfErr}
 use Rattle.std.specs.declared.vec.Vec.{Vec}
 use Rattle.std.specs.declared.alloc.Global.{Global}
 use Rattle.rmp_wire.specs.declared.sink.Sink.{Ghosts}
@@ -12,7 +12,7 @@ use Rattle.rmp_encode.specs.declared.error.Error.TheVariants.{InvalidValueWrite,
 use Rattle.rmp_encode.specs.Data.{Data}
 use Rattle.rmp_encode.specs.Errors.{IsReason}
 use Rattle.rmp_encode.specs.Going.{AreMany, head_at, open_of, IsWritingAt, IsKeepingAt}
-use Rattle.rmp_encode.specs.Opens.{Open, IsLong, IsMapLong, IsPaired, IsGoing, IsOpen, IsMapOpen, IsOpenAt, FailsOpen, FailsMap, Goes, left_of, left_at, MayTake, MayEnd}
+use Rattle.rmp_encode.specs.Opens.{Open, IsLong, IsMapLong, IsPaired, IsGoing, IsOpen, IsMapOpen, IsOpenAt, FailsOpen, FailsMap, Goes, left_of, left_at, owed_at, MayTake, MayEnd}
 use Rattle.rmp_encode.specs.Sizes.{most, size_at}
 use Rattle.rmp_encode.specs.Ser.{sink_of, settings_of}
 use Rattle.rmp_encode.specs.Trees.{tree_of, sequence_of, mapping_of}
@@ -89,6 +89,28 @@ module _ {W C : Type 0} (g : Ghosts W) where
 -- a count that may take one more
 pub before : {B : Type 0} (b : Option B) (n : ℕ) → b ≡ None → MayTake (left_at b n) → 0 < n
 before b n e h = subst (λ x. MayTake (left_at x n)) e h
+
+-- a value that is owed may come
+pub owed_takes : {B : Type 0} (pairs : Bool) (b : Option B) (n : ℕ) → owed_at pairs n ≡ 1 → MayTake (left_at b n)
+owed_takes true None n e = omega (arith, e)
+owed_takes true (Some b) n e = tt
+owed_takes false None n e = absurd cc
+owed_takes false (Some b) n e = tt
+
+-- what a map owes after a part, from what it owed before
+pub turned : (pairs pairs' : Bool) (n n' k : ℕ) → pairs ≡ true → pairs' ≡ pairs → owed_at true n + owed_at true n' ≡ 1 → owed_at pairs n + k ≡ 1 → owed_at pairs' n' ≡ k
+turned true true n n' k is same t e = omega (arith, t, e)
+turned true false n n' k is same t e = absurd cc
+turned false pairs' n n' k is same t e = absurd cc
+
+-- a list owes nothing
+pub list_owes : (pairs : Bool) (n : ℕ) → pairs ≡ false → owed_at pairs n ≡ 0
+list_owes true n is = absurd cc
+list_owes false n is = refl
+
+pub on_ok_as : {A E P Q : Type 0} (r : Result A E) → (P → Q) → OnOk r P → OnOk r Q
+on_ok_as (Ok x) f h = f h
+on_ok_as (Err e) f h = tt
 
 -- the same kind
 pub kind_as : {W : Type 0} (g : Ghosts W) {m : Bool} {P : Type 0} (n : Bool → ℕ) (bs : List ℕ) {old new : W} {r : Result (Unit {0}) Error} (b c : Bool) → b ≡ c → WritesPart g m P (head_at b (n b) ++ bs) old new r → WritesPart g m P (head_at c (n c) ++ bs) old new r

@@ -1,6 +1,6 @@
 -- What a contract sees of a tuple struct that is open.
 use Rattle.std.specs.Prelude.{◌≡◌, ℕ, ◌∷◌, true, false, List, length, Option, Result, Err, IfErr, MatchResult}
-use Rattle.std.specs.Borrow.{Fml, RattleType, MutBor, RestsIfErr}
+use Rattle.std.specs.Borrow.{Fml, GName, RattleType, MutBor, RestsIfErr}
 use Rattle.rmp_wire.specs.declared.sink.Sink.{Ghosts}
 use Rattle.rmp_encode.specs.declared.compound.Compound.{Compound}
 use Rattle.rmp_encode.specs.declared.error.Error.{Error}
@@ -12,6 +12,18 @@ use Rattle.rmp_encode.specs.Going.{IsWritingAt}
 use Rattle.rmp_encode.specs.Ser.{sink_of, settings_of}
 use Rattle.rmp_encode.specs.Trees.{sequence_of, tree_of}
 use Rattle.rmp_encode.specs.Writes.{Keeps, WritesTree, StaysAtRefusal}
+
+module _ {W C : Type 0} where
+  -- the serializer that it writes into, and the reference to it
+  abbrev pub inside : Compound W C → Serializer W C
+  inside q = q.se.now
+
+  abbrev pub reference : Compound W C → GName
+  reference q = q.se.ghost_name
+
+  -- how many elements haven't begun
+  abbrev pub left_of : Compound W C → ℕ
+  left_of q = q.left
 
 module _ {W C : Type 0} (g : Ghosts W) where
   -- of the tuple struct `all` of values, opened at old, `rest` is still to come

@@ -2,6 +2,7 @@ pub mod Calls
 pub mod Compounds
 pub mod Data
 pub mod Errors
+pub mod Extensions
 pub mod Going
 pub mod Opens
 pub mod Ser

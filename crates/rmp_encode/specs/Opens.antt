@@ -1,6 +1,6 @@
 -- What a contract sees of a list or a map that is open, of a known length or an unknown one.
-use Rattle.std.specs.Prelude.{◌≡◌, ℕ, ◌+◌, ◌<◌, ◌-◌, ◌∷◌, Bool, true, false, List, length, Option, None, Some, Result, Err, IfErr, MatchResult}
-use Rattle.std.specs.Borrow.{Fml, RattleType, MutBor, RestsIfErr}
+use Rattle.std.specs.Prelude.{◌≡◌, ℕ, ◌+◌, ◌<◌, ◌-◌, ◌%◌, ◌∷◌, [], Bool, true, false, List, length, Option, None, Some, Result, Err, IfErr, MatchResult}
+use Rattle.std.specs.Borrow.{Fml, GName, RattleType, MutBor, RestsIfErr}
 use Rattle.std.specs.declared.vec.Vec.{Vec}
 use Rattle.std.specs.declared.alloc.Global.{Global}
 use Rattle.rmp_wire.specs.declared.sink.Sink.{Ghosts}
@@ -12,12 +12,20 @@ use Rattle.rmp_encode.specs.declared.settings.Settings.{Settings}
 use Rattle.rmp_encode.specs.Data.{Data}
 use Rattle.rmp_encode.specs.Going.{AreMany, IsWritingAt, IsKeepingAt, open_of}
 use Rattle.rmp_encode.specs.Ser.{sink_of, settings_of}
+use Rattle.rmp_encode.specs.Sizes.{size_at}
 use Rattle.rmp_encode.specs.Trees.{tree_of, sequence_of, mapping_of}
 use Rattle.rmp_encode.specs.Writes.{Keeps, WritesTree, StaysAtRefusal}
 
 -- the compound's own type, with its buffer
 abbrev pub Open : Type 0 → Type 0 → Type 0
 Open W C = MaybeUnknownLengthCompound W C (Option (Serializer (Vec ℕ Global) C))
+
+-- the serializer that it writes into, and the reference to it
+abbrev pub inside : {W C : Type 0} → Open W C → Serializer W C
+inside q = q.se.now
+
+abbrev pub reference : {W C : Type 0} → Open W C → GName
+reference q = q.se.ghost_name
 
 -- how many parts haven't begun, where that is known
 abbrev pub left_at : {B : Type 0} → Option B → ℕ → Option ℕ
@@ -30,6 +38,22 @@ left_of q = left_at q.buffer q.count
 -- a map is open, and no list
 abbrev pub is_map : {W C : Type 0} → Open W C → Bool
 is_map q = q.pairs
+
+-- how many elements or pairs haven't begun, where that is known
+abbrev pub not_begun_at : Bool → Option ℕ → Option ℕ
+not_begun_at pairs None = None
+not_begun_at pairs (Some n) = Some (size_at pairs n)
+
+abbrev pub not_begun : {W C : Type 0} → Open W C → Option ℕ
+not_begun q = not_begun_at q.pairs (left_of q)
+
+-- how many values a map owes its keys: one behind a key, and none behind a value
+abbrev pub owed_at : Bool → ℕ → ℕ
+owed_at true n = n % 2
+owed_at false n = 0
+
+abbrev pub owed : {W C : Type 0} → Open W C → ℕ
+owed q = owed_at q.pairs q.count
 
 -- how many parts a map of so many pairs has
 abbrev pub twice : Option ℕ → Option ℕ
@@ -118,6 +142,15 @@ module _ {W C : Type 0} (g : Ghosts W) where
   GoesOnMap d q q' r =
       (old : Serializer W C) (all rest : List (Option Data)) → IsMapOpen old all (d (settings_of old) ∷ rest) q
       → MatchResult r (λ _. IsMapOpen old all rest q') (λ e. WritesTree g {A = Unit {0}} true (tree_of (settings_of old) (mapping_of all)) (sink_of old) (sink_of q'.se.now) (Err e))
+
+  -- what the end of a list promises, and of a map
+  abbrev pub EndsList : Open W C → W → Result (Unit {0}) Error → Type 0
+  EndsList q last r =
+      (old : Serializer W C) (all : List (Option Data)) → IsOpen old all [] q → WritesTree g g.takes_memory (tree_of (settings_of old) (sequence_of all)) (sink_of old) last r
+
+  abbrev pub EndsMap : Open W C → W → Result (Unit {0}) Error → Type 0
+  EndsMap q last r =
+      (old : Serializer W C) (all : List (Option Data)) → IsMapOpen old all [] q → WritesTree g g.takes_memory (tree_of (settings_of old) (mapping_of all)) (sink_of old) last r
 
 module _ (W C : RattleType) (g : Ghosts W.Denot) where
   abbrev pub OpenRests : MutBor (Serializer W.Denot C.Denot) → Option ℕ → Result (Open W.Denot C.Denot) Error → Fml

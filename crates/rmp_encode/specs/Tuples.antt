@@ -1,7 +1,7 @@
 -- What a contract sees of a tuple that is open.
 use Rattle.std.specs.Prelude.{◌≡◌, ℕ, ◌<◌, ◌^◌, ◌++◌, ◌∷◌, true, false, List, length, map, Option, None, Some, Result, Err, IfErr, MatchResult}
 use Rattle.std.specs.List.{AllByRecursion}
-use Rattle.std.specs.Borrow.{Fml, RattleType, MutBor, RestsIfErr}
+use Rattle.std.specs.Borrow.{Fml, GName, RattleType, MutBor, RestsIfErr}
 use Rattle.std.specs.declared.vec.Vec.{Vec}
 use Rattle.std.specs.declared.alloc.Global.{Global}
 use Rattle.rmp_wire.specs.declared.sink.Sink.{Ghosts}
@@ -20,6 +20,18 @@ use Rattle.rmp_encode.specs.Going.{IsWritingAt}
 -- the tuple's own type, with what it keeps
 abbrev pub OpenTuple : Type 0 → Type 0 → Type 0
 OpenTuple W C = Tuple W C (Option (Vec ℕ Global))
+
+module _ {W C : Type 0} where
+  -- the serializer that it writes into, and the reference to it
+  abbrev pub inside : OpenTuple W C → Serializer W C
+  inside q = q.se.now
+
+  abbrev pub reference : OpenTuple W C → GName
+  reference q = q.se.ghost_name
+
+  -- how many elements haven't begun
+  abbrev pub left_of : OpenTuple W C → ℕ
+  left_of q = q.left
 
 module _ {W C : Type 0} (g : Ghosts W) where
   -- its tree is the list, and what went before was written

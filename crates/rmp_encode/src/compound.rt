@@ -1,7 +1,7 @@
 //! Tuple structs, whose elements are written in order.
 ghost use Rattle.std.specs.Prelude.{◌≡◌, ◌+◌, ◌<◌, [], true, IfOk, OnOk, IsOk, length};
 ghost use Rattle.std.specs.Borrow.{sem};
-ghost use Rattle.rmp_encode.specs.Compounds.{FillingRests, IsFilling, Fills};
+ghost use Rattle.rmp_encode.specs.Compounds.{inside, reference, left_of, FillingRests, IsFilling, Fills};
 ghost use Rattle.rmp_encode.specs.Ser.{sink_of, settings_of};
 ghost use Rattle.rmp_encode.specs.Trees.{tree_of, sequence_of};
 ghost use Rattle.rmp_encode.specs.Writes.{Keeps, WritesTree};
@@ -27,10 +27,10 @@ impl<W: Sink, C: SerializerConfig> Serializer<W, C> {
         len: usize,
     ) -> Result<Compound<'_, W, C>, Error>
         ensures* refused { sem 𝓛 (FillingRests W.row C.row W.Sink self.entry len result) }
-        ensures same_reference { IfOk result (λ q. q.se.ghost_name ≡ self.entry.ghost_name) }
-        ensures left { IfOk result (λ q. q.left ≡ len) }
+        ensures same_reference { IfOk result (λ q. reference q ≡ self.entry.ghost_name) }
+        ensures left { IfOk result (λ q. left_of q ≡ len) }
         ensures opened { IfOk result (λ q. (all : _) → length all ≡ len → IsFilling W.Sink self.old all all q) }
-        ensures keeps { IfOk result (λ q. Keeps W.Sink self.old q.se.now) }
+        ensures keeps { IfOk result (λ q. Keeps W.Sink self.old (inside q)) }
     {
         if len > u32::MAX as usize {
             return Err(Error::InvalidDataModel("length past 32 bits"));
@@ -47,11 +47,11 @@ impl<'a, W: Sink, C: SerializerConfig> Compound<'a, W, C> {
     /// Writes the next element.
     #[inline(always)]
     pub fn serialize_element<T: Serialize>(&mut self, value: &T) -> Result<(), Error>
-        requires { 0 < self.old.left }
-        ensures same_reference { self.new.se.ghost_name ≡ self.old.se.ghost_name }
-        ensures left { self.new.left + 1 ≡ self.old.left }
+        requires { 0 < left_of self.old }
+        ensures same_reference { reference self.new ≡ reference self.old }
+        ensures left { left_of self.new + 1 ≡ left_of self.old }
         ensures writes { Fills W.Sink (λ s. T.data_of value.now s.human) self.old self.new result }
-        ensures keeps { Keeps W.Sink self.old.se.now self.new.se.now }
+        ensures keeps { Keeps W.Sink (inside self.old) (inside self.new) }
         ensures value { OnOk result (T.is_value value.now) }
     {
         self.left -= 1;
@@ -60,18 +60,18 @@ impl<'a, W: Sink, C: SerializerConfig> Compound<'a, W, C> {
 
     /// How many elements haven't begun.
     pub fn left(&self) -> usize
-        ensures { result ≡ self.now.left }
+        ensures { result ≡ left_of self.now }
     {
         self.left
     }
 
     /// Ends the tuple struct. Nothing is written.
     pub fn end(self) -> Result<(), Error>
-        requires { self.left ≡ 0 }
+        requires { left_of self ≡ 0 }
         ensures ok { IsOk result }
         ensures writes { (old : _) (all : _) → IsFilling W.Sink old all [] self.entry → WritesTree W.Sink true (tree_of (settings_of old) (sequence_of all)) (sink_of old) (sink_of self.exit.0.now) result }
-        ensures stays { self.exit.0.now ≡ self.entry.se.now }
-        ensures keeps { Keeps W.Sink self.entry.se.now self.exit.0.now }
+        ensures stays { self.exit.0.now ≡ inside self.entry }
+        ensures keeps { Keeps W.Sink (inside self.entry) self.exit.0.now }
     {
         let Compound { se: _, left: _ } = self;
         Ok(())

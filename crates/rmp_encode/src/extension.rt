@@ -1,6 +1,7 @@
 //! Extensions: a type, and then the bytes.
 ghost use Rattle.std.specs.Prelude.{◌≡◌, Some};
 ghost use Rattle.rmp_wire.specs.Msg.{extension};
+ghost use Rattle.rmp_encode.specs.Extensions.{inside, reference, tagged_inside, tagged_reference, type_of};
 ghost use Rattle.rmp_encode.specs.Ser.{sink_of};
 ghost use Rattle.rmp_encode.specs.Writes.{Keeps, WritesTree, StaysAtRefusal};
 
@@ -25,8 +26,8 @@ pub struct ExtFieldSerializer<'a, W, C> {
 impl<W: Sink, C: SerializerConfig> Serializer<W, C> {
     /// Opens an extension. Nothing is written.
     pub fn extension(&mut self) -> ExtSerializer<'_, W, C>
-        ensures same_reference { result.se.ghost_name ≡ self.entry.ghost_name }
-        ensures stays { result.se.now ≡ self.old }
+        ensures same_reference { reference result ≡ self.entry.ghost_name }
+        ensures stays { inside result ≡ self.old }
     {
         ExtSerializer { se: self }
     }
@@ -35,9 +36,9 @@ impl<W: Sink, C: SerializerConfig> Serializer<W, C> {
 impl<'a, W: Sink, C: SerializerConfig> ExtSerializer<'a, W, C> {
     /// Tells the type. Nothing is written.
     pub fn tag(self, tag: i8) -> ExtFieldSerializer<'a, W, C>
-        ensures same_reference { result.se.ghost_name ≡ self.entry.se.ghost_name }
-        ensures stays { result.se.now ≡ self.entry.se.now }
-        ensures tag { result.tag ≡ tag }
+        ensures same_reference { tagged_reference result ≡ reference self.entry }
+        ensures stays { tagged_inside result ≡ inside self.entry }
+        ensures tag { type_of result ≡ tag }
     {
         ExtFieldSerializer { se: self.se, tag }
     }
@@ -46,9 +47,9 @@ impl<'a, W: Sink, C: SerializerConfig> ExtSerializer<'a, W, C> {
 impl<'a, W: Sink, C: SerializerConfig> ExtFieldSerializer<'a, W, C> {
     /// Writes the extension. 2 ^ 32 bytes or more are refused, and nothing is written.
     pub fn bytes(self, bytes: &[u8]) -> Result<(), Error>
-        ensures writes { WritesTree W.Sink W.takes_memory (Some (extension self.entry.tag bytes.now)) (sink_of self.entry.se.now) (sink_of self.exit.0.now) result }
-        ensures keeps { Keeps W.Sink self.entry.se.now self.exit.0.now }
-        ensures refused { StaysAtRefusal self.entry.se.now self.exit.0.now result }
+        ensures writes { WritesTree W.Sink W.takes_memory (Some (extension (type_of self.entry) bytes.now)) (sink_of (tagged_inside self.entry)) (sink_of self.exit.0.now) result }
+        ensures keeps { Keeps W.Sink (tagged_inside self.entry) self.exit.0.now }
+        ensures refused { StaysAtRefusal (tagged_inside self.entry) self.exit.0.now result }
     {
         let ExtFieldSerializer { se, tag } = self;
         se.put_extension(tag, bytes)

@@ -1,5 +1,5 @@
 //! Lists and maps of a known length, or of an unknown one, whose parts wait in a buffer until its end.
-ghost use Rattle.std.specs.Prelude.{◌≡◌, ◌≤◌, ◌<◌, ◌^◌, [], Bool, true, false, OnOk, IfOk, Some, None};
+ghost use Rattle.std.specs.Prelude.{◌≡◌, ◌+◌, ◌≤◌, ◌<◌, ◌^◌, [], Bool, true, false, OnOk, IfOk, Some, None};
 ghost use Rattle.std.specs.Borrow.{sem};
 ghost use Rattle.rmp_encode.specs.Ser.{sink_of, settings_of};
 ghost use Rattle.rmp_encode.specs.Sizes.{most, size_at};
@@ -46,6 +46,13 @@ fn most(pairs: bool) -> u64
     if pairs { (1 << 33) - 1 } else { (1 << 32) - 1 }
 }
 
+// How many elements or pairs so many parts are.
+fn whole(pairs: bool, parts: u64) -> u64
+    ensures { result ≡ size_at pairs parts }
+{
+    if pairs { parts / 2 } else { parts }
+}
+
 // The number that the head of so many parts says.
 fn size(pairs: bool, count: u64) -> u32
     requires { count ≤ most pairs }
@@ -58,7 +65,7 @@ fn size(pairs: bool, count: u64) -> u32
 }
 
 impl<W: Sink, C: SerializerConfig> Serializer<W, C> {
-    ghost use Rattle.rmp_encode.specs.Opens.{left_of, twice, IsLong, IsMapLong, IsOpen, IsMapOpen, OpenRests, MapRests, Stays};
+    ghost use Rattle.rmp_encode.specs.Opens.{inside, reference, left_of, is_map, owed, twice, IsLong, IsMapLong, IsOpen, IsMapOpen, OpenRests, MapRests, Stays};
 
     // A serializer with the same settings into an empty buffer.
     fn buffer(&self) -> Serializer<Vec<u8>, C>
@@ -76,11 +83,13 @@ impl<W: Sink, C: SerializerConfig> Serializer<W, C> {
         len: Option<usize>,
     ) -> Result<MaybeUnknownLengthCompound<'_, W, C>, Error>
         ensures* refused { sem 𝓛 (OpenRests W.row C.row W.Sink self.entry len result) }
-        ensures same_reference { IfOk result (λ q. q.se.ghost_name ≡ self.entry.ghost_name) }
+        ensures same_reference { IfOk result (λ q. reference q ≡ self.entry.ghost_name) }
+        ensures kind { IfOk result (λ q. is_map q ≡ false) }
+        ensures owed { IfOk result (λ q. owed q ≡ 0) }
         ensures left { IfOk result (λ q. left_of q ≡ len) }
         ensures opened { IfOk result (λ q. (all : _) → IsLong len all → IsOpen W.Sink self.old all all q) }
-        ensures stays { IfOk result (λ q. Stays len self.old q.se.now) }
-        ensures keeps { IfOk result (λ q. Keeps W.Sink self.old q.se.now) }
+        ensures stays { IfOk result (λ q. Stays len self.old (inside q)) }
+        ensures keeps { IfOk result (λ q. Keeps W.Sink self.old (inside q)) }
     {
         let Some(n) = len else {
             let buffer = self.buffer();
@@ -111,11 +120,13 @@ impl<W: Sink, C: SerializerConfig> Serializer<W, C> {
         len: Option<usize>,
     ) -> Result<MaybeUnknownLengthCompound<'_, W, C>, Error>
         ensures* refused { sem 𝓛 (MapRests W.row C.row W.Sink self.entry len result) }
-        ensures same_reference { IfOk result (λ q. q.se.ghost_name ≡ self.entry.ghost_name) }
+        ensures same_reference { IfOk result (λ q. reference q ≡ self.entry.ghost_name) }
+        ensures kind { IfOk result (λ q. is_map q ≡ true) }
+        ensures owed { IfOk result (λ q. owed q ≡ 0) }
         ensures left { IfOk result (λ q. left_of q ≡ twice len) }
         ensures opened { IfOk result (λ q. (all : _) → IsMapLong len all → IsMapOpen W.Sink self.old all all q) }
-        ensures stays { IfOk result (λ q. Stays len self.old q.se.now) }
-        ensures keeps { IfOk result (λ q. Keeps W.Sink self.old q.se.now) }
+        ensures stays { IfOk result (λ q. Stays len self.old (inside q)) }
+        ensures keeps { IfOk result (λ q. Keeps W.Sink self.old (inside q)) }
     {
         let Some(n) = len else {
             let buffer = self.buffer();
@@ -140,18 +151,19 @@ impl<W: Sink, C: SerializerConfig> Serializer<W, C> {
 }
 
 impl<'a, W: Sink, C: SerializerConfig> MaybeUnknownLengthCompound<'a, W, C> {
-    ghost use Rattle.rmp_encode.specs.Opens.{left_of, is_map, one_less, MayTake, MayEnd, IsOpen, IsMapOpen, Goes, GoesOn, GoesOnMap, Stays};
+    ghost use Rattle.rmp_encode.specs.Opens.{inside, reference, left_of, not_begun, is_map, owed, owed_at, one_less, MayTake, MayEnd, Goes, GoesOn, GoesOnMap, EndsList, EndsMap, Stays};
 
     // Writes a part, or keeps it.
     #[inline(always)]
     fn put_part<T: Serialize>(&mut self, value: &T) -> Result<(), Error>
         requires { MayTake (left_of self.old) }
-        ensures same_reference { self.new.se.ghost_name ≡ self.old.se.ghost_name }
+        ensures same_reference { reference self.new ≡ reference self.old }
         ensures left { left_of self.new ≡ one_less (left_of self.old) }
         ensures kind { is_map self.new ≡ is_map self.old }
+        ensures turn { OnOk result (owed_at true self.old.count + owed_at true self.new.count ≡ 1) }
         ensures writes { (pairs : Bool) → Goes W.Sink pairs (λ s. T.data_of value.now s.human) self.old self.new result }
-        ensures stays { Stays (left_of self.old) self.old.se.now self.new.se.now }
-        ensures keeps { Keeps W.Sink self.old.se.now self.new.se.now }
+        ensures stays { Stays (left_of self.old) (inside self.old) (inside self.new) }
+        ensures keeps { Keeps W.Sink (inside self.old) (inside self.new) }
         ensures value { OnOk result (T.is_value value.now) }
     {
         match &mut self.buffer {
@@ -174,26 +186,33 @@ impl<'a, W: Sink, C: SerializerConfig> MaybeUnknownLengthCompound<'a, W, C> {
     /// Writes the next element of a list.
     #[inline(always)]
     pub fn serialize_element<T: Serialize>(&mut self, value: &T) -> Result<(), Error>
-        requires { MayTake (left_of self.old) }
-        ensures same_reference { self.new.se.ghost_name ≡ self.old.se.ghost_name }
+        requires kind { is_map self.old ≡ false }
+        requires room { MayTake (left_of self.old) }
+        ensures same_reference { reference self.new ≡ reference self.old }
+        ensures kind { is_map self.new ≡ false }
+        ensures owed { owed self.new ≡ 0 }
         ensures left { left_of self.new ≡ one_less (left_of self.old) }
         ensures writes { GoesOn W.Sink (λ s. T.data_of value.now s.human) self.old self.new result }
-        ensures stays { Stays (left_of self.old) self.old.se.now self.new.se.now }
-        ensures keeps { Keeps W.Sink self.old.se.now self.new.se.now }
+        ensures stays { Stays (left_of self.old) (inside self.old) (inside self.new) }
+        ensures keeps { Keeps W.Sink (inside self.old) (inside self.new) }
         ensures value { OnOk result (T.is_value value.now) }
     {
         self.put_part(value)
     }
 
-    /// Writes the next key of a map.
+    /// Writes the next key of a map. Its value has to follow.
     #[inline(always)]
     pub fn serialize_key<T: Serialize>(&mut self, key: &T) -> Result<(), Error>
-        requires { MayTake (left_of self.old) }
-        ensures same_reference { self.new.se.ghost_name ≡ self.old.se.ghost_name }
+        requires kind { is_map self.old ≡ true }
+        requires turn { owed self.old ≡ 0 }
+        requires room { MayTake (left_of self.old) }
+        ensures same_reference { reference self.new ≡ reference self.old }
+        ensures kind { is_map self.new ≡ true }
+        ensures owed { OnOk result (owed self.new ≡ 1) }
         ensures left { left_of self.new ≡ one_less (left_of self.old) }
         ensures writes { GoesOnMap W.Sink (λ s. T.data_of key.now s.human) self.old self.new result }
-        ensures stays { Stays (left_of self.old) self.old.se.now self.new.se.now }
-        ensures keeps { Keeps W.Sink self.old.se.now self.new.se.now }
+        ensures stays { Stays (left_of self.old) (inside self.old) (inside self.new) }
+        ensures keeps { Keeps W.Sink (inside self.old) (inside self.new) }
         ensures value { OnOk result (T.is_value key.now) }
     {
         self.put_part(key)
@@ -202,33 +221,37 @@ impl<'a, W: Sink, C: SerializerConfig> MaybeUnknownLengthCompound<'a, W, C> {
     /// Writes the value of the last key.
     #[inline(always)]
     pub fn serialize_value<T: Serialize>(&mut self, value: &T) -> Result<(), Error>
-        requires { MayTake (left_of self.old) }
-        ensures same_reference { self.new.se.ghost_name ≡ self.old.se.ghost_name }
+        requires kind { is_map self.old ≡ true }
+        requires turn { owed self.old ≡ 1 }
+        ensures same_reference { reference self.new ≡ reference self.old }
+        ensures kind { is_map self.new ≡ true }
+        ensures owed { OnOk result (owed self.new ≡ 0) }
         ensures left { left_of self.new ≡ one_less (left_of self.old) }
         ensures writes { GoesOnMap W.Sink (λ s. T.data_of value.now s.human) self.old self.new result }
-        ensures stays { Stays (left_of self.old) self.old.se.now self.new.se.now }
-        ensures keeps { Keeps W.Sink self.old.se.now self.new.se.now }
+        ensures stays { Stays (left_of self.old) (inside self.old) (inside self.new) }
+        ensures keeps { Keeps W.Sink (inside self.old) (inside self.new) }
         ensures value { OnOk result (T.is_value value.now) }
     {
         self.put_part(value)
     }
 
-    /// How many parts haven't begun, where that is known: elements, or keys and values.
-    pub fn left(&self) -> Option<u64>
-        ensures { result ≡ left_of self.now }
+    /// How many elements or pairs haven't begun, where their number was told.
+    pub fn left(&self) -> Option<usize>
+        ensures { result ≡ not_begun self.now }
     {
         match &self.buffer {
-            None => Some(self.count),
+            None => Some(whole(self.pairs, self.count) as usize),
             Some(_) => None,
         }
     }
 
     /// Ends the list or the map. What waits in a buffer is written behind its head.
     pub fn end(self) -> Result<(), Error>
-        requires { MayEnd (left_of self) }
-        ensures writes { (old : _) (all : _) → IsOpen W.Sink old all [] self.entry → WritesTree W.Sink W.takes_memory (tree_of (settings_of old) (sequence_of all)) (sink_of old) (sink_of self.exit.0.now) result }
-        ensures writes_map { (old : _) (all : _) → IsMapOpen W.Sink old all [] self.entry → WritesTree W.Sink W.takes_memory (tree_of (settings_of old) (mapping_of all)) (sink_of old) (sink_of self.exit.0.now) result }
-        ensures keeps { Keeps W.Sink self.entry.se.now self.exit.0.now }
+        requires turn { owed self ≡ 0 }
+        requires whole { MayEnd (left_of self) }
+        ensures writes { EndsList W.Sink self.entry (sink_of self.exit.0.now) result }
+        ensures writes_map { EndsMap W.Sink self.entry (sink_of self.exit.0.now) result }
+        ensures keeps { Keeps W.Sink (inside self.entry) self.exit.0.now }
     {
         let MaybeUnknownLengthCompound {
             se,

@@ -6,7 +6,7 @@ ghost use Rattle.rmp_wire.specs.declared.config.BytesMode.TheVariants.{ForceAll}
 ghost use Rattle.rmp_encode.specs.Data.{packs_tuple};
 ghost use Rattle.rmp_encode.specs.Ser.{sink_of, settings_of};
 ghost use Rattle.rmp_encode.specs.Trees.{tree_of, tuple_of, forces_all, number_head};
-ghost use Rattle.rmp_encode.specs.Tuples.{IsTupling, GoesTuple, TupleRests};
+ghost use Rattle.rmp_encode.specs.Tuples.{inside, reference, left_of, IsTupling, GoesTuple, TupleRests};
 ghost use Rattle.rmp_encode.specs.Writes.{Keeps, WritesPart, WritesTree};
 
 use crate::error::Error;
@@ -87,10 +87,10 @@ impl<W: Sink, C: SerializerConfig> Serializer<W, C> {
     /// Opens a tuple of so many elements. A number of 2 ^ 32 or more is refused, and nothing is written.
     pub fn serialize_tuple(&mut self, len: usize) -> Result<Tuple<'_, W, C>, Error>
         ensures* refused { sem 𝓛 (TupleRests W.row C.row W.Sink self.entry len result) }
-        ensures same_reference { IfOk result (λ q. q.se.ghost_name ≡ self.entry.ghost_name) }
-        ensures left { IfOk result (λ q. q.left ≡ len) }
+        ensures same_reference { IfOk result (λ q. reference q ≡ self.entry.ghost_name) }
+        ensures left { IfOk result (λ q. left_of q ≡ len) }
         ensures opened { IfOk result (λ q. (all : _) → length all ≡ len → IsTupling W.Sink self.old all all q) }
-        ensures keeps { IfOk result (λ q. Keeps W.Sink self.old q.se.now) }
+        ensures keeps { IfOk result (λ q. Keeps W.Sink self.old (inside q)) }
     {
         if len > u32::MAX as usize {
             return Err(Error::InvalidDataModel("length past 32 bits"));
@@ -118,11 +118,11 @@ impl<'a, W: Sink, C: SerializerConfig> Tuple<'a, W, C> {
     /// Writes the next element, or keeps it.
     #[inline(always)]
     pub fn serialize_element<T: Serialize>(&mut self, value: &T) -> Result<(), Error>
-        requires { 0 < self.old.left }
-        ensures same_reference { self.new.se.ghost_name ≡ self.old.se.ghost_name }
-        ensures left { self.new.left + 1 ≡ self.old.left }
+        requires { 0 < left_of self.old }
+        ensures same_reference { reference self.new ≡ reference self.old }
+        ensures left { left_of self.new + 1 ≡ left_of self.old }
         ensures writes { GoesTuple W.Sink (λ s. T.data_of value.now s.human) self.old self.new result }
-        ensures keeps { Keeps W.Sink self.old.se.now self.new.se.now }
+        ensures keeps { Keeps W.Sink (inside self.old) (inside self.new) }
         ensures value { OnOk result (T.is_value value.now) }
     {
         self.left -= 1;
@@ -143,16 +143,16 @@ impl<'a, W: Sink, C: SerializerConfig> Tuple<'a, W, C> {
 
     /// How many elements haven't begun.
     pub fn left(&self) -> usize
-        ensures { result ≡ self.now.left }
+        ensures { result ≡ left_of self.now }
     {
         self.left
     }
 
     /// Ends the tuple. What was kept is written.
     pub fn end(self) -> Result<(), Error>
-        requires { self.left ≡ 0 }
+        requires { left_of self ≡ 0 }
         ensures writes { (old : _) (all : _) → IsTupling W.Sink old all [] self.entry → WritesTree W.Sink W.takes_memory (tree_of (settings_of old) (tuple_of all)) (sink_of old) (sink_of self.exit.0.now) result }
-        ensures keeps { Keeps W.Sink self.entry.se.now self.exit.0.now }
+        ensures keeps { Keeps W.Sink (inside self.entry) self.exit.0.now }
     {
         let Tuple {
             se,

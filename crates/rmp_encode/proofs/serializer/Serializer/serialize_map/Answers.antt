@@ -12,6 +12,8 @@ returns-in_default g c = (
   record {
     refused = tt;
     same_reference = refl;
+    kind = refl;
+    owed = refl;
     left = ap twice (sym c.in_default.is);
     opened = λ all e. record { kind = refl; state = let p : IsPaired all = subst (λ l. IsMapLong l all) c.in_default.is e in keeping_opened true g.W.Sink c.args.self.now _ c.buffer-buffer.ensures.settings c.buffer-buffer.ensures.empty p.size all p.many };
     stays = rw c.in_default.is refl;
@@ -55,6 +57,8 @@ returns g c = (
   record {
     refused = tt;
     same_reference = refl;
+    kind = refl;
+    owed = omega arith;
     left = ap twice (sym c.in-Some.is);
     opened = λ all e. let long = subst (λ l. IsMapLong l all) c.in-Some.is e in record { kind = refl; state = at_opened true g.W.Sink c.args.self.now _ c.in-Some.n _ (omega arith) c.put_head.ensures.keeps c.in_ok-put_head.ensures.writes _ all long (sym long) };
     stays = rw c.in-Some.is tt;

@@ -12,6 +12,8 @@ returns-in_default g c = (
   record {
     refused = tt;
     same_reference = refl;
+    kind = refl;
+    owed = refl;
     left = sym c.in_default.is;
     opened = λ all e. record { kind = refl; state = keeping_opened false g.W.Sink c.args.self.now _ c.buffer-buffer.ensures.settings c.buffer-buffer.ensures.empty _ all refl };
     stays = rw c.in_default.is refl;
@@ -55,6 +57,8 @@ returns g c = (
   record {
     refused = tt;
     same_reference = refl;
+    kind = refl;
+    owed = refl;
     left = sym c.in-Some.is;
     opened = λ all e. let long = subst (λ l. IsLong l all) c.in-Some.is e in record { kind = refl; state = at_opened false g.W.Sink c.args.self.now _ c.in-Some.n _ (omega arith) c.put_head.ensures.keeps c.in_ok-put_head.ensures.writes _ all long (sym long) };
     stays = rw c.in-Some.is tt;

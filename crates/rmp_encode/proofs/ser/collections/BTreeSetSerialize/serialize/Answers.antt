@@ -18,17 +18,21 @@ loop-item-init g c =
     let all = c.into_iter-item-iterator.ensures.into_iter_gives.0 in
     record {
       same = refl;
+      kind = c.in_ok-seq.ensures.kind;
+      owed = c.in_ok-seq.ensures.owed;
       writing = still_open g.W.Sink (ap (map (λ x. g.T.Serialize.data_of x (settings_of c.args.se.now).human)) (sym all)) (c.in_ok-seq.ensures.opened _ (length-map _ _ ∙ search rules));
       keeps = c.in_ok-seq.ensures.keeps;
       values = λ h. subst (All g.T.Serialize.is_value) all h;
     }
 
 pub serialize_element-requires : goal.serialize_element-requires
-serialize_element-requires g c = takes g.W.Sink (still_open g.W.Sink (ap (map (λ x. g.T.Serialize.data_of x (settings_of c.args.se.now).human)) c.in-Some.ensures.steps) c.loop-item.invariant.writing)
+serialize_element-requires g c = record { kind = c.loop-item.invariant.kind; room = takes g.W.Sink (still_open g.W.Sink (ap (map (λ x. g.T.Serialize.data_of x (settings_of c.args.se.now).human)) c.in-Some.ensures.steps) c.loop-item.invariant.writing) }
 
 pub loop-item-preserved : goal.loop-item-preserved
 loop-item-preserved g c = record {
   same = c.serialize_element.ensures.same_reference ∙ c.loop-item.invariant.same;
+  kind = c.serialize_element.ensures.kind;
+  owed = c.serialize_element.ensures.owed;
   writing = c.in_ok-serialize_element.ensures.writes c.args.se.now _ _ (still_open g.W.Sink (ap (map (λ x. g.T.Serialize.data_of x (settings_of c.args.se.now).human)) c.in-Some.ensures.steps) c.loop-item.invariant.writing);
   keeps = keeps_then g.W.Sink c.loop-item.invariant.keeps c.serialize_element.ensures.keeps;
   values = λ h. c.loop-item.invariant.values (subst (All g.T.Serialize.is_value) (sym c.in-Some.ensures.steps) (All-cons g.T.Serialize.is_value _ _ c.in_ok-serialize_element.ensures.value h));
@@ -43,7 +47,7 @@ pub returns-in_err-serialize_element-clause-keeps : goal.returns-in_err-serializ
 returns-in_err-serialize_element-clause-keeps g c = keeps_last g.W.Sink (search rules) (keeps_then g.W.Sink c.loop-item.invariant.keeps c.serialize_element.ensures.keeps)
 
 pub end-requires : goal.end-requires
-end-requires g c = ends g.W.Sink (still_open g.W.Sink (ap (map (λ x. g.T.Serialize.data_of x (settings_of c.args.se.now).human)) c.in-None.ensures.steps.0) c.loop-item.invariant.writing)
+end-requires g c = record { turn = c.loop-item.invariant.owed; whole = ends g.W.Sink (still_open g.W.Sink (ap (map (λ x. g.T.Serialize.data_of x (settings_of c.args.se.now).human)) c.in-None.ensures.steps.0) c.loop-item.invariant.writing) }
 
 pub returns-clause-writes : goal.returns-clause-writes
 returns-clause-writes g c = part_memory g.W.Sink (rests_at g.W.Sink (search rules) (c.end.ensures.writes c.args.se.now _ (still_open g.W.Sink (ap (map (λ x. g.T.Serialize.data_of x (settings_of c.args.se.now).human)) c.in-None.ensures.steps.0) c.loop-item.invariant.writing)))
