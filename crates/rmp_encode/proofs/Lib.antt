@@ -1,3 +1,4 @@
+pub mod Alike
 pub mod Filling
 pub mod Going
 pub mod Keeping

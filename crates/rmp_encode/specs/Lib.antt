@@ -4,6 +4,7 @@ pub mod Data
 pub mod Errors
 pub mod Extensions
 pub mod Going
+pub mod Laws
 pub mod Opens
 pub mod Ser
 pub mod Sizes

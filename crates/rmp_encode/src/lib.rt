@@ -4,6 +4,7 @@
 pub mod compound;
 pub mod error;
 pub mod extension;
+pub mod laws;
 pub mod ser;
 pub mod serializer;
 pub mod series;
