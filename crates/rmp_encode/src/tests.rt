@@ -12,6 +12,9 @@ use rmp_wire::{
 use std::collections::{BTreeMap, BTreeSet, VecDeque};
 use std::test::Fail;
 
+mod calls;
+mod implementations;
+
 // Whether a value is written as these bytes.
 fn is_written<T: Serialize>(rt: &HostRuntime, value: &T, want: &[u8]) -> Result<bool, Fail> {
     let bytes = to_vec(rt.alloc(), value)?;
