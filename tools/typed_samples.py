@@ -12,7 +12,7 @@ TOP = os.path.join(os.path.dirname(os.path.abspath(__file__)), "..")
 SAMPLE = os.path.join(TOP, "tests", "samples", "typed_write.txt")
 CRATE = os.path.join(TOP, "crates", "typed_samples")
 # How many values a function has at most, and how many lines its statements take, about.
-VALUES, LINES = 4, 26
+VALUES, LINES = 4, 22
 
 SETTINGS = {
     "default": "Default",
@@ -136,7 +136,7 @@ class Body:
             if name in ("VecDeque", "BTreeMap", "BTreeSet"):
                 self.uses.add(f"std::collections::{name}")
             if name in ("UnkSeq", "UnkMap"):
-                self.uses.add(f"crate::unknown::{name}")
+                self.uses.add(f"sample_types::{name}")
             return f"{name}<{', '.join(self.ours(k) for k in inner)}>"
         return kind
 
@@ -261,10 +261,10 @@ class Body:
             body = value if value.startswith("(0..") else inside(value, "BTreeMap::from(", ")")
             return self.map_of(inner, body)
         if name == "UnkSeq":
-            self.uses.add("crate::unknown::UnkSeq")
+            self.uses.add("sample_types::UnkSeq")
             return f"UnkSeq {{ items: {self.vec(inner[0], inside(value, 'UnkSeq(', ')'))} }}"
         if name == "UnkMap":
-            self.uses.add("crate::unknown::UnkMap")
+            self.uses.add("sample_types::UnkMap")
             return f"UnkMap {{ entries: {self.map_of(inner, inside(value, 'UnkMap(', ')'))} }}"
         raise Absent(kind)
 

@@ -8,7 +8,6 @@ mod fault;
 mod row;
 mod rows;
 mod tuple_struct;
-mod unknown;
 
 use fault::Fault;
 use row::Rows;

@@ -1,7 +1,7 @@
 //! Lists and maps of unknown length. Written by tools/typed_samples.py.
 use crate::fault::Fault;
 use crate::row::{Rows, Setting};
-use crate::unknown::{UnkMap, UnkSeq};
+use sample_types::{UnkMap, UnkSeq};
 use std::alloc::Global;
 use std::collections::{BTreeMap, VecDeque};
 
@@ -80,31 +80,35 @@ fn rows_2(alloc: Global, rows: &mut Rows) -> Result<(), Fault> {
         &[Setting::NamedTuple, Setting::Human],
         &UnkMap { entries: value_2 },
     )?;
-    let mut value_3: BTreeMap<&str, (u8, u8)> = BTreeMap::new(alloc);
-    value_3.insert("b", (1u8, 200u8))?;
-    let mut value_4: BTreeMap<&str, UnkMap<&str, (u8, u8)>> = BTreeMap::new(alloc);
-    value_4.insert("a", UnkMap { entries: value_3 })?;
-    rows.add(
-        "UnkMap<&str, UnkMap<&str, (u8, u8)>>",
-        "UnkMap(vec![(\"a\", UnkMap(vec![(\"b\", (1, 200))]))])",
-        &[Setting::Named, Setting::NamedTuple],
-        &UnkMap { entries: value_4 },
-    )?;
     Ok(())
 }
 
 fn rows_3(alloc: Global, rows: &mut Rows) -> Result<(), Fault> {
-    let mut value_1: BTreeMap<u16, u16> = BTreeMap::new(alloc);
+    let mut value_1: BTreeMap<&str, (u8, u8)> = BTreeMap::new(alloc);
+    value_1.insert("b", (1u8, 200u8))?;
+    let mut value_2: BTreeMap<&str, UnkMap<&str, (u8, u8)>> = BTreeMap::new(alloc);
+    value_2.insert("a", UnkMap { entries: value_1 })?;
+    rows.add(
+        "UnkMap<&str, UnkMap<&str, (u8, u8)>>",
+        "UnkMap(vec![(\"a\", UnkMap(vec![(\"b\", (1, 200))]))])",
+        &[Setting::Named, Setting::NamedTuple],
+        &UnkMap { entries: value_2 },
+    )?;
+    let mut value_3: BTreeMap<u16, u16> = BTreeMap::new(alloc);
     for i in 0..16 {
-        value_1.insert(i, i)?;
+        value_3.insert(i, i)?;
     }
     rows.add(
         "UnkMap<u16, u16>",
         "UnkMap((0..16).map(|i| (i, i)))",
         &[Setting::NamedTuple, Setting::Human],
-        &UnkMap { entries: value_1 },
+        &UnkMap { entries: value_3 },
     )?;
-    let value_2: Vec<u8> = Vec::new(alloc);
+    Ok(())
+}
+
+fn rows_4(alloc: Global, rows: &mut Rows) -> Result<(), Fault> {
+    let value_1: Vec<u8> = Vec::new(alloc);
     rows.add(
         "[UnkSeq<u8>; 2]",
         "[UnkSeq(vec![200]), UnkSeq(vec![])]",
@@ -113,7 +117,7 @@ fn rows_3(alloc: Global, rows: &mut Rows) -> Result<(), Fault> {
             UnkSeq {
                 items: vec![in alloc; 200u8]?,
             },
-            UnkSeq { items: value_2 },
+            UnkSeq { items: value_1 },
         ],
     )?;
     Ok(())
@@ -124,5 +128,6 @@ pub fn all(alloc: Global, rows: &mut Rows) -> Result<(), Fault> {
     rows_1(alloc, rows)?;
     rows_2(alloc, rows)?;
     rows_3(alloc, rows)?;
+    rows_4(alloc, rows)?;
     Ok(())
 }

@@ -3,7 +3,7 @@ use Rattle.std.proofs.Common.{◌≡◌, ◌≤◌, map, take, drop, All, length
 use Rattle.rmp_encode.specs.Ser.{settings_of}
 use Rattle.rmp_encode.specs.Writes.{Keeps}
 use Rattle.rmp_encode.specs.Opens.{IsOpen}
-use Rattle.typed_samples.proofs.unknown.list_of.Given as goal
+use Rattle.sample_types.proofs.unknown.list_of.Given as goal
 
 abbrev pub invariant-loop-value : goal.invariant-loop-value
 invariant-loop-value g l = record {

@@ -4,9 +4,9 @@ ghost use Rattle.rmp_encode.specs.Ser.{sink_of, settings_of};
 ghost use Rattle.rmp_encode.specs.Trees.{tree_of, sequence_of, mapping_of, in_turn};
 ghost use Rattle.rmp_encode.specs.Writes.{Keeps, WritesTree};
 
-use rmp_serde::config::SerializerConfig;
-use rmp_serde::encode::{Error, Serialize, Serializer};
-use rmp_serde::wire::Sink;
+use rmp_encode::{Error, Serialize, Serializer};
+use rmp_wire::Sink;
+use rmp_wire::config::SerializerConfig;
 use std::collections::BTreeMap;
 
 /// A list whose length isn't told.

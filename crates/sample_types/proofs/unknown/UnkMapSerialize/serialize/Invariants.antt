@@ -4,7 +4,7 @@ use Rattle.rmp_encode.specs.Opens.{IsMapOpen}
 use Rattle.rmp_encode.specs.Ser.{settings_of}
 use Rattle.rmp_encode.specs.Trees.{in_turn}
 use Rattle.rmp_encode.specs.Writes.{Keeps}
-use Rattle.typed_samples.proofs.unknown.UnkMapSerialize.serialize.Given as goal
+use Rattle.sample_types.proofs.unknown.UnkMapSerialize.serialize.Given as goal
 
 abbrev pub invariant-loop-key : goal.invariant-loop-key
 invariant-loop-key g l = record {

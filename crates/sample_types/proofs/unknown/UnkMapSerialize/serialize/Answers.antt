@@ -7,7 +7,7 @@ use Rattle.rmp_encode.proofs.Going.{keeps_then, keeps_last, on_ok}
 use Rattle.rmp_encode.proofs.Lists.{length-in_turn}
 use Rattle.rmp_encode.proofs.OpenSteps.{refuses_map, takes, ends, still_open}
 use Rattle.rmp_encode.proofs.Parts.{rests_at, part_memory}
-use Rattle.typed_samples.proofs.unknown.UnkMapSerialize.serialize.Goals as goal
+use Rattle.sample_types.proofs.unknown.UnkMapSerialize.serialize.Goals as goal
 
 pub returns-in_err-map-clause-writes : goal.returns-in_err-map-clause-writes
 returns-in_err-map-clause-writes g c =
