@@ -190,7 +190,7 @@ fn reads(name: &'static str, heads: Vec<Vec<u8>>, said: &[u64]) -> Load {
     }
 }
 
-/// Runs what the arguments name: `names`, one a line; `time`, nanoseconds for one element of each load in that order; or
+/// Runs what the arguments name: `names`, one a line; `counts`, how many elements each load has; `time`, nanoseconds for one element of each load in that order; or
 /// `load NAME REPS`, one load so many times and nothing else, for a count of instructions.
 pub fn main(calls: &Calls) {
     let arguments: Vec<String> = env::args().skip(1).collect();
@@ -198,6 +198,7 @@ pub fn main(calls: &Calls) {
     let loads = loads();
     match words[..] {
         ["names"] => loads.iter().for_each(|load| println!("{}", load.name)),
+        ["counts"] => loads.iter().for_each(|_| println!("{COUNT}")),
         ["time"] => loads
             .iter()
             .for_each(|load| println!("{:.3}", load.time(calls))),
@@ -209,7 +210,7 @@ pub fn main(calls: &Calls) {
             load.run(calls, reps.parse().expect("a number of rounds"));
         }
         _ => {
-            eprintln!("usage: names | time | load NAME REPS");
+            eprintln!("usage: names | counts | time | load NAME REPS");
             exit(2);
         }
     }

@@ -1,0 +1,206 @@
+//! Measures the same loads over the original, the crate rmp-serde, written as crates/bench_encode and crates/bench_decode are.
+
+use rmp_serde::from_slice;
+use serde::de::{Deserializer, MapAccess, SeqAccess, Visitor};
+use serde::ser::{SerializeMap, Serializer};
+use serde::{Deserialize, Serialize};
+use serde_bytes::Bytes;
+use std::fmt;
+
+#[path = "../../loads.rs"]
+mod loads;
+
+fn main() {
+    loads::main(&loads::Calls {
+        write_numbers: |numbers, reps| rounds(&numbers.to_vec(), reps),
+        write_rows,
+        write_texts,
+        write_entries,
+        write_bytes: |data, reps| rounds(&Bytes::new(data), reps),
+        write_value,
+        read_numbers: reads::<Vec<u32>>,
+        read_rows: reads::<Vec<Vec<u32>>>,
+        read_texts: reads::<Vec<String>>,
+        read_lent_texts,
+        read_entries: reads::<Vec<(String, u16)>>,
+        read_lent_entries,
+    });
+}
+
+#[derive(Serialize)]
+struct Entry(String, u16);
+
+#[inline(never)]
+fn rounds<T: Serialize>(value: &T, reps: u32) -> usize {
+    let mut out = Vec::new();
+    for _ in 0..reps {
+        out.clear();
+        if rmp_serde::encode::write(&mut out, value).is_err() {
+            return 0;
+        }
+    }
+    out.len()
+}
+
+fn write_rows(numbers: &[u32], reps: u32) -> usize {
+    let rows: Vec<Vec<u32>> = numbers.chunks_exact(10).map(<[u32]>::to_vec).collect();
+    rounds(&rows, reps)
+}
+
+fn text_of(bytes: &[u8]) -> String {
+    String::from_utf8(bytes.to_vec()).expect("a text")
+}
+
+fn write_texts(data: &[u8], reps: u32) -> usize {
+    let texts: Vec<String> = data.chunks_exact(10).map(text_of).collect();
+    rounds(&texts, reps)
+}
+
+fn write_entries(data: &[u8], reps: u32) -> usize {
+    let entry = |bytes: &[u8]| {
+        Entry(
+            text_of(&bytes[..10]),
+            u16::from_be_bytes([bytes[10], bytes[11]]),
+        )
+    };
+    let entries: Vec<Entry> = data.chunks_exact(12).map(entry).collect();
+    rounds(&entries, reps)
+}
+
+fn write_value(data: &[u8], reps: u32) -> usize {
+    let value: Value = from_slice(data).expect("a message");
+    rounds(&value, reps)
+}
+
+/// A list that is counted.
+trait Counted {
+    fn count(&self) -> usize;
+}
+
+impl<T> Counted for Vec<T> {
+    fn count(&self) -> usize {
+        self.len()
+    }
+}
+
+#[inline(never)]
+fn reads<T: for<'de> Deserialize<'de> + Counted>(data: &[u8], reps: u32) -> usize {
+    let mut sum: usize = 0;
+    for _ in 0..reps {
+        if let Ok(items) = from_slice::<T>(data) {
+            sum = sum.wrapping_add(items.count());
+        }
+    }
+    sum
+}
+
+#[inline(never)]
+fn read_lent_texts(data: &[u8], reps: u32) -> usize {
+    let mut sum: usize = 0;
+    for _ in 0..reps {
+        if let Ok(items) = from_slice::<Vec<&str>>(data) {
+            sum = sum.wrapping_add(items.len());
+        }
+    }
+    sum
+}
+
+#[inline(never)]
+fn read_lent_entries(data: &[u8], reps: u32) -> usize {
+    let mut sum: usize = 0;
+    for _ in 0..reps {
+        if let Ok(items) = from_slice::<Vec<(&str, u16)>>(data) {
+            sum = sum.wrapping_add(items.len());
+        }
+    }
+    sum
+}
+
+/// A message of the kinds that the loads have. The original has no such type of its own.
+enum Value {
+    Nil,
+    Truth(bool),
+    Whole(u64),
+    F64(f64),
+    Text(String),
+    Bytes(Vec<u8>),
+    List(Vec<Value>),
+    Map(Vec<(Value, Value)>),
+}
+
+impl Serialize for Value {
+    fn serialize<S: Serializer>(&self, serializer: S) -> Result<S::Ok, S::Error> {
+        match self {
+            Value::Nil => serializer.serialize_unit(),
+            Value::Truth(b) => serializer.serialize_bool(*b),
+            Value::Whole(n) => serializer.serialize_u64(*n),
+            Value::F64(f) => serializer.serialize_f64(*f),
+            Value::Text(text) => serializer.serialize_str(text),
+            Value::Bytes(bytes) => serializer.serialize_bytes(bytes),
+            Value::List(items) => serializer.collect_seq(items),
+            Value::Map(pairs) => {
+                let mut map = serializer.serialize_map(Some(pairs.len()))?;
+                for (key, value) in pairs {
+                    map.serialize_entry(key, value)?;
+                }
+                map.end()
+            }
+        }
+    }
+}
+
+struct ValueVisitor;
+
+impl<'de> Visitor<'de> for ValueVisitor {
+    type Value = Value;
+
+    fn expecting(&self, f: &mut fmt::Formatter<'_>) -> fmt::Result {
+        f.write_str("a message")
+    }
+
+    fn visit_unit<E>(self) -> Result<Value, E> {
+        Ok(Value::Nil)
+    }
+
+    fn visit_bool<E>(self, b: bool) -> Result<Value, E> {
+        Ok(Value::Truth(b))
+    }
+
+    fn visit_u64<E>(self, n: u64) -> Result<Value, E> {
+        Ok(Value::Whole(n))
+    }
+
+    fn visit_f64<E>(self, f: f64) -> Result<Value, E> {
+        Ok(Value::F64(f))
+    }
+
+    fn visit_str<E>(self, text: &str) -> Result<Value, E> {
+        Ok(Value::Text(text.to_owned()))
+    }
+
+    fn visit_bytes<E>(self, bytes: &[u8]) -> Result<Value, E> {
+        Ok(Value::Bytes(bytes.to_vec()))
+    }
+
+    fn visit_seq<A: SeqAccess<'de>>(self, mut seq: A) -> Result<Value, A::Error> {
+        let mut items = Vec::new();
+        while let Some(item) = seq.next_element()? {
+            items.push(item);
+        }
+        Ok(Value::List(items))
+    }
+
+    fn visit_map<A: MapAccess<'de>>(self, mut map: A) -> Result<Value, A::Error> {
+        let mut pairs = Vec::new();
+        while let Some(pair) = map.next_entry()? {
+            pairs.push(pair);
+        }
+        Ok(Value::Map(pairs))
+    }
+}
+
+impl<'de> Deserialize<'de> for Value {
+    fn deserialize<D: Deserializer<'de>>(deserializer: D) -> Result<Value, D::Error> {
+        deserializer.deserialize_any(ValueVisitor)
+    }
+}

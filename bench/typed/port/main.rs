@@ -1,0 +1,39 @@
+//! Measures the proved code: the exports of crates/bench_encode and crates/bench_decode.
+
+#[path = "../loads.rs"]
+mod loads;
+
+unsafe extern "C" {
+    fn bench_encode_numbers(numbers: *const u32, count: usize, reps: u32) -> usize;
+    fn bench_encode_rows(numbers: *const u32, count: usize, reps: u32) -> usize;
+    fn bench_encode_texts(data: *const u8, count: usize, reps: u32) -> usize;
+    fn bench_encode_entries(data: *const u8, count: usize, reps: u32) -> usize;
+    fn bench_encode_bytes(data: *const u8, count: usize, reps: u32) -> usize;
+    fn bench_encode_value(data: *const u8, count: usize, reps: u32) -> usize;
+    fn bench_decode_numbers(data: *const u8, count: usize, reps: u32) -> usize;
+    fn bench_decode_rows(data: *const u8, count: usize, reps: u32) -> usize;
+    fn bench_decode_texts(data: *const u8, count: usize, reps: u32) -> usize;
+    fn bench_decode_lent_texts(data: *const u8, count: usize, reps: u32) -> usize;
+    fn bench_decode_entries(data: *const u8, count: usize, reps: u32) -> usize;
+    fn bench_decode_lent_entries(data: *const u8, count: usize, reps: u32) -> usize;
+}
+
+fn main() {
+    // SAFETY: each export reads a slice, which it is given as a pointer and a length, and keeps nothing of it.
+    loads::main(&loads::Calls {
+        write_numbers: |n, reps| unsafe { bench_encode_numbers(n.as_ptr(), n.len(), reps) },
+        write_rows: |n, reps| unsafe { bench_encode_rows(n.as_ptr(), n.len(), reps) },
+        write_texts: |d, reps| unsafe { bench_encode_texts(d.as_ptr(), d.len(), reps) },
+        write_entries: |d, reps| unsafe { bench_encode_entries(d.as_ptr(), d.len(), reps) },
+        write_bytes: |d, reps| unsafe { bench_encode_bytes(d.as_ptr(), d.len(), reps) },
+        write_value: |d, reps| unsafe { bench_encode_value(d.as_ptr(), d.len(), reps) },
+        read_numbers: |d, reps| unsafe { bench_decode_numbers(d.as_ptr(), d.len(), reps) },
+        read_rows: |d, reps| unsafe { bench_decode_rows(d.as_ptr(), d.len(), reps) },
+        read_texts: |d, reps| unsafe { bench_decode_texts(d.as_ptr(), d.len(), reps) },
+        read_lent_texts: |d, reps| unsafe { bench_decode_lent_texts(d.as_ptr(), d.len(), reps) },
+        read_entries: |d, reps| unsafe { bench_decode_entries(d.as_ptr(), d.len(), reps) },
+        read_lent_entries: |d, reps| unsafe {
+            bench_decode_lent_entries(d.as_ptr(), d.len(), reps)
+        },
+    });
+}
