@@ -1,3 +1,4 @@
+pub mod Anything
 pub mod Arrays
 pub mod Buffers
 pub mod ByteParts

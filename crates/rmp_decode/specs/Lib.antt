@@ -1,3 +1,4 @@
+pub mod Anys
 pub mod Buffers
 pub mod Exact
 pub mod Kinds

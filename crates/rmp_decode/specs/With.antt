@@ -8,6 +8,7 @@ use Rattle.rmp_decode.specs.Law.{Explains}
 use Rattle.rmp_decode.specs.Seq.{KeepsByte}
 use Rattle.rmp_decode.specs.State.{faults_of, Stays}
 use Rattle.rmp_decode.specs.declared.de.Deserializer.{Deserializer}
+use Rattle.rmp_decode.specs.declared.de.map.MapAccess.{MapAccess}
 use Rattle.rmp_decode.specs.declared.de.seq.SeqAccess.{SeqAccess}
 use Rattle.rmp_decode.specs.declared.error.Error.{Error}
 use Rattle.rmp_decode.specs.declared.error.Error.TheVariants.{Uncategorized}
@@ -62,3 +63,39 @@ pub record SameList {R C : Type 0} (old new : SeqAccess R C) : Type 0 where
   pub count : new.count ≡ old.count
   pub inner : new.inner ≡ old.inner
   pub bytes : new.bytes ≡ old.bytes
+
+-- ---- keys and values
+
+-- the reader as a part is read from it that nests below the room
+abbrev pub part_reader : {R C : Type 0} → Deserializer R C → ℕ → Deserializer R C
+part_reader d inner = record d { room = inner; failed = false }
+
+-- the room of a map's parts
+abbrev pub part_room : {R C : Type 0} → MapAccess R C → ℕ
+part_room a = a.inner
+
+-- The part was offered to f, once. An answer of f that leaves the reader failed counts as a failure.
+pub record PartGiven {F R C X : Type 0} (once : Reading F R C X) (f : F) (inner : ℕ) (old new : Deserializer R C) (result : Result X Error) : Type 0 where
+  pub gave : Result X Error
+  pub rest : Deserializer R C
+  pub called : FnOnceReturnsAtMut once f (part_reader old inner) gave rest
+  pub answers : MatchResult gave (λ x. result ≡ (if rest.failed then Err (Uncategorized FailedBefore) else Ok x)) (λ e. result ≡ Err e)
+  pub keeps : new ≡ record rest { room = old.room; failed = true }
+
+-- the next key was offered to f
+pub record KeyRead {F R C X : Type 0} (once : Reading F R C X) (f : F) (old new : MapAccess R C) (result : Result (Option X) Error) : Type 0 where
+  pub given : Result X Error
+  pub part : PartGiven once f old.inner old.de.now new.de.now given
+  pub answers : MatchResult given (λ x. result ≡ Ok (Some x)) (λ e. result ≡ Err e)
+  pub fewer : OnOk result (old.left ≡ new.left + 1)
+  pub owes : OnOk result (new.owes ≡ true)
+  pub count : new.count ≡ old.count
+  pub inner : new.inner ≡ old.inner
+
+-- the value of the last key was offered to f
+pub record ValueRead {F R C X : Type 0} (once : Reading F R C X) (f : F) (old new : MapAccess R C) (result : Result X Error) : Type 0 where
+  pub part : PartGiven once f old.inner old.de.now new.de.now result
+  pub left : new.left ≡ old.left
+  pub owes : OnOk result (new.owes ≡ false)
+  pub count : new.count ≡ old.count
+  pub inner : new.inner ≡ old.inner

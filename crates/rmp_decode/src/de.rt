@@ -5,9 +5,10 @@ ghost use Rattle.rmp_decode.specs.State.{left, faults_of, room_of, reader_of, co
 ghost use Rattle.rmp_decode.specs.Law.{Begins, Readable, Lawful, ReadsHead};
 ghost use Rattle.rmp_decode.specs.declared.de.Kept.TheVariants.{Nothing};
 
+pub mod any;
 mod arrays;
-mod ext;
 mod contents;
+mod ext;
 mod kinds;
 pub mod map;
 mod numbers;

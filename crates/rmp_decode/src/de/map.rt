@@ -9,6 +9,8 @@ ghost use Rattle.rmp_decode.specs.Parts.{TakesPart, FailsPart};
 ghost use Rattle.rmp_decode.specs.State.{faults_of, config_of, is_failed, kept_of, Stays};
 ghost use Rattle.rmp_decode.specs.declared.de.Kept.TheVariants.{Nothing};
 
+mod with;
+
 use crate::de::{Deserialize, Deserializer};
 use crate::error::Error;
 use crate::text::Text;
@@ -21,12 +23,12 @@ use std::collections::BTreeMap;
 /// While it stands the reader counts as failed; `end` makes it ready again, and one that is dropped before leaves it failed.
 #[derive(Drop)]
 pub struct MapAccess<'x, R, C> {
-    de: &'x mut Deserializer<R, C>,
-    left: u32,
-    count: u32,
-    inner: u32,
-    owes: bool,
-    sound: bool,
+    pub(crate) de: &'x mut Deserializer<R, C>,
+    pub(crate) left: u32,
+    pub(crate) count: u32,
+    pub(crate) inner: u32,
+    pub(crate) owes: bool,
+    pub(crate) sound: bool,
 }
 
 // How many pairs follow.

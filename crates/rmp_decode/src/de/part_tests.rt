@@ -1,4 +1,4 @@
-use crate::{Deserializer, Error, Text};
+use crate::{Any, Deserializer, Error, Slices, Text};
 use rmp_wire::config::SerializerConfig;
 use rmp_wire::{Marker, Source};
 
@@ -120,4 +120,93 @@ fn how_deep_is_passed_over(rt: HostRuntime) {
             Err(Error::DepthLimitExceeded)
         )
     );
+}
+
+#[test]
+fn leaves_of_any_kind(rt: HostRuntime) {
+    let input = [0xc0, 0xc3, 0xd1, 0xff, 0x00, 0xca, 0x7f, 0x7f, 0xff, 0xff];
+    let mut de = Deserializer::from_read_ref(rt.alloc(), &input);
+    match de.deserialize_any() {
+        Ok(Any::Nil(leaf)) => leaf.value(),
+        _ => assert!(rt; false),
+    }
+    match de.deserialize_any() {
+        Ok(Any::Truth(leaf)) => assert!(rt; leaf.value()),
+        _ => assert!(rt; false),
+    }
+    match de.deserialize_any() {
+        Ok(Any::Whole(leaf)) => assert!(rt; leaf.value() == -256),
+        _ => assert!(rt; false),
+    }
+    match de.deserialize_any() {
+        Ok(Any::F32Bits(leaf)) => {
+            let e = leaf.refuse(Error::Syntax(Text::InvalidType));
+            assert!(rt; matches!(&e, Error::Syntax(Text::InvalidType)));
+        }
+        _ => assert!(rt; false),
+    }
+    let next = de.deserialize_bool();
+    assert!(rt; matches!(&next, Err(Error::Uncategorized(Text::FailedBefore))));
+}
+
+#[test]
+fn contents_of_any_kind(rt: HostRuntime) {
+    let input = [0xa2u8, 0xff, 0x41, 0xc4, 1, 7, 0xd4, 0xff, 9, 0xd9, 5, 1];
+    let mut de = Deserializer::from_read_ref(rt.alloc(), &input);
+    match de.deserialize_any() {
+        Ok(Any::Text(raw)) => {
+            assert!(rt; raw.size() == 2);
+            match raw.lend() {
+                Ok(bytes) => assert_eq!(rt; bytes, [0xffu8, 0x41].as_slice()),
+                Err(_) => assert!(rt; false),
+            }
+        }
+        _ => assert!(rt; false),
+    }
+    match de.deserialize_any() {
+        Ok(Any::Bytes(raw)) => match raw.take::<Slices<'_>>() {
+            Ok(bytes) => assert_eq!(rt; bytes.as_slice(), [7u8].as_slice()),
+            Err(_) => assert!(rt; false),
+        },
+        _ => assert!(rt; false),
+    }
+    match de.deserialize_any() {
+        Ok(Any::Ext(raw)) => {
+            assert!(rt; raw.tag() == -1);
+            match raw.lend() {
+                Ok(bytes) => assert_eq!(rt; bytes, [9u8].as_slice()),
+                Err(_) => assert!(rt; false),
+            }
+        }
+        _ => assert!(rt; false),
+    }
+    match de.deserialize_any() {
+        Ok(Any::Text(raw)) => assert!(rt; matches!(&raw.lend(), Err(Error::InvalidDataRead(_)))),
+        _ => assert!(rt; false),
+    }
+}
+
+#[test]
+fn lists_and_maps_of_any_kind(rt: HostRuntime) {
+    let mut de = Deserializer::from_read_ref(rt.alloc(), &[0x91, 5, 0x81, 6, 7, 0x91, 0x90]);
+    match de.deserialize_any() {
+        Ok(Any::Seq(mut seq)) => {
+            assert!(rt; matches!(&seq.next_element_with(small), Ok(Some(5))));
+            assert!(rt; seq.end().is_ok());
+        }
+        _ => assert!(rt; false),
+    }
+    match de.deserialize_any() {
+        Ok(Any::Map(mut map)) => {
+            assert!(rt; matches!(&map.next_key_with(small), Ok(Some(6))));
+            assert!(rt; matches!(&map.next_value_with(small), Ok(7)));
+            assert!(rt; matches!(&map.next_key_with(small), Ok(None)));
+            assert!(rt; map.end().is_ok());
+        }
+        _ => assert!(rt; false),
+    }
+    match de.deserialize_any() {
+        Ok(Any::Seq(seq)) => assert!(rt; matches!(&seq.end(), Err(Error::LengthMismatch(0)))),
+        _ => assert!(rt; false),
+    }
 }

@@ -24,12 +24,12 @@ use std::collections::VecDeque;
 /// While it stands the reader counts as failed; `end` makes it ready again, and one that is dropped before leaves it failed.
 #[derive(Drop)]
 pub struct SeqAccess<'x, R, C> {
-    de: &'x mut Deserializer<R, C>,
-    left: u32,
-    count: u32,
-    inner: u32,
-    bytes: bool,
-    sound: bool,
+    pub(crate) de: &'x mut Deserializer<R, C>,
+    pub(crate) left: u32,
+    pub(crate) count: u32,
+    pub(crate) inner: u32,
+    pub(crate) bytes: bool,
+    pub(crate) sound: bool,
 }
 
 // Whether it is bytes, and how many elements follow.

@@ -14,7 +14,7 @@ use rmp_wire::{Head, ReadSlice, Source};
 
 // Whether it is a map, and how many items or pairs follow.
 #[inline(always)]
-fn parts_in(head: Head) -> Option<(bool, u32)>
+pub(crate) fn parts_in(head: Head) -> Option<(bool, u32)>
     ensures { Finds (λ h p. h ≡ parts_head p.0 p.1) head result }
 {
     match head {

@@ -1,0 +1,54 @@
+-- When no message of any kind can be opened, and what its content makes of it.
+use Rattle.std.proofs.Common.{◌≡◌, ◌∙◌, sym, ap, subst, refl, ℕ, ◌<◌, ◌≤◌, arith, List, ◌++◌, Bool, true, false, Ok, Err}
+use Rattle.rmp_wire.specs.declared.head.Head.{Head}
+use Rattle.rmp_wire.specs.declared.marker.Marker.{Marker}
+use Rattle.rmp_wire.specs.declared.source.Source.{Ghosts}
+use Rattle.rmp_wire.specs.Msg.{Msg, nil, truth, whole, float32, float64, text, bin, list, map, extension, depth}
+use Rattle.rmp_wire.specs.Spelling.{head_of}
+use Rattle.rmp_decode.specs.Anys.{FailsToOpenAny}
+use Rattle.rmp_decode.specs.Law.{ReadsHead}
+use Rattle.rmp_decode.specs.Skip.{parts_head}
+use Rattle.rmp_decode.specs.State.{left, room_of}
+use Rattle.rmp_decode.specs.declared.de.Deserializer.{Deserializer}
+use Rattle.rmp_decode.specs.declared.error.Error.{Error}
+use Rattle.rmp_decode.proofs.Refusals.{refuses_none, refuses_by, same_head}
+
+-- a list or a map nests
+parts_nest : (is_map : Bool) (m : Msg) (n : ℕ) → head_of m ≡ parts_head is_map n → 0 < depth m
+parts_nest true nil n e = absurd (cc)
+parts_nest true (truth t) n e = absurd (cc)
+parts_nest true (whole z) n e = absurd (cc)
+parts_nest true (float32 k) n e = absurd (cc)
+parts_nest true (float64 k) n e = absurd (cc)
+parts_nest true (text s) n e = absurd (cc)
+parts_nest true (bin s) n e = absurd (cc)
+parts_nest true (list ms) n e = omega arith
+parts_nest true (map ps) n e = omega arith
+parts_nest true (extension tag s) n e = absurd (cc)
+parts_nest false nil n e = absurd (cc)
+parts_nest false (truth t) n e = absurd (cc)
+parts_nest false (whole z) n e = absurd (cc)
+parts_nest false (float32 k) n e = absurd (cc)
+parts_nest false (float64 k) n e = absurd (cc)
+parts_nest false (text s) n e = absurd (cc)
+parts_nest false (bin s) n e = absurd (cc)
+parts_nest false (list ms) n e = omega arith
+parts_nest false (map ps) n e = omega arith
+parts_nest false (extension tag s) n e = absurd (cc)
+
+module _ {R C : Type 0} (g : Ghosts R) (old new : Deserializer R C) (e : Error) where
+  pub any_missing : ReadsHead g old new (Err e) → FailsToOpenAny g old new e
+  any_missing h = record { failed = h.failed; stays = h.stays; before = h.before; err = λ o n k. refuses_none _ _ _ (h.err o n k) }
+
+  -- a list or a map would nest too deep
+  pub any_too_deep : (p : Marker × Head) (q : Bool × ℕ) → ReadsHead g old new (Ok p) → p.1 ≡ parts_head q.0 q.1 → room_of old ≤ 1 → FailsToOpenAny g old new e
+  any_too_deep p q h i l = record {
+    failed = h.failed;
+    stays = h.stays;
+    before = λ f. absurd (let o = h.fresh in cc);
+    err = λ _ _ _. refuses_by (λ m. Unit {0}) (room_of old) (left g old) (left g new) h.ok.bytes h.ok.takes (λ ys w a.
+        let u = same_head a.tree p.1 a.bytes h.ok.bytes a.rest ys a.spelled h.ok.is_head (sym a.front) in
+        let d = parts_nest q.0 a.tree q.1 (u.0 ∙ i) in
+        let f = a.fits in
+        omega arith);
+  }

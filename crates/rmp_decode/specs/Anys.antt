@@ -1,0 +1,95 @@
+-- What reading a message of any kind gives.
+use Rattle.std.specs.Prelude.{◌≡◌, ℕ, ℤ, true, false, List, length, Option, Ok}
+use Rattle.std.specs.Borrow.{GName}
+use Rattle.std.specs.Io.KnownBytes.{Consumes}
+use Rattle.rmp_wire.specs.declared.head.Head.{Head}
+use Rattle.rmp_wire.specs.declared.head.Head.TheVariants as head
+use Rattle.rmp_wire.specs.declared.marker.Marker.{Marker}
+use Rattle.rmp_wire.specs.declared.source.Source.{Ghosts}
+use Rattle.rmp_wire.specs.Msg.{Msg, nil, truth, whole, float32, float64}
+use Rattle.rmp_wire.specs.Sources.{IsShort}
+use Rattle.rmp_wire.specs.Spelling.{Spells, IsBytes}
+use Rattle.rmp_decode.specs.Law.{Lawful, ReadsHead, Refuses, Explains, IsFailedBefore}
+use Rattle.rmp_decode.specs.Maps.{OpensMap}
+use Rattle.rmp_decode.specs.Seq.{Opens}
+use Rattle.rmp_decode.specs.State.{left, faults_of, room_of, Stays}
+use Rattle.rmp_decode.specs.declared.de.Deserializer.{Deserializer}
+use Rattle.rmp_decode.specs.declared.de.any.Any.{Any}
+use Rattle.rmp_decode.specs.declared.de.any.Any.TheVariants as any
+use Rattle.rmp_decode.specs.declared.de.any.Leaf.{Leaf}
+use Rattle.rmp_decode.specs.declared.de.any.RawAccess.{RawAccess}
+use Rattle.rmp_decode.specs.declared.error.Error.{Error}
+
+-- `leaf.value()`
+abbrev pub leaf_value : {R C T : Type 0} → Leaf R C T → T
+leaf_value a = a.value
+
+-- the reader that read it
+abbrev pub leaf_lender : {R C T : Type 0} → Leaf R C T → Deserializer R C
+leaf_lender a = a.de.now
+
+-- how many bytes are still to be read
+abbrev pub raw_len : {R C : Type 0} → RawAccess R C → ℕ
+raw_len a = a.len
+
+-- the type of an extension
+abbrev pub raw_tag : {R C : Type 0} → RawAccess R C → ℤ
+raw_tag a = a.tag
+
+-- the reader before them
+abbrev pub raw_lender : {R C : Type 0} → RawAccess R C → Deserializer R C
+raw_lender a = a.de.now
+
+-- the reference to the reader
+abbrev pub any_name : {R C : Type 0} → Any R C → GName
+any_name (any.Nil a) = a.de.ghost_name
+any_name (any.Truth a) = a.de.ghost_name
+any_name (any.Whole a) = a.de.ghost_name
+any_name (any.F32Bits a) = a.de.ghost_name
+any_name (any.F64Bits a) = a.de.ghost_name
+any_name (any.Text a) = a.de.ghost_name
+any_name (any.Bytes a) = a.de.ghost_name
+any_name (any.Seq a) = a.de.ghost_name
+any_name (any.Map a) = a.de.ghost_name
+any_name (any.Ext a) = a.de.ghost_name
+
+-- this head was taken, and the content behind it wasn't
+pub record OpensRaw {R C : Type 0} (g : Ghosts R) (h : Head) (old : Deserializer R C) (a : RawAccess R C) : Type 0 where
+  pub marker : Marker
+  pub begun : ReadsHead g old a.de.now (Ok (marker, h))
+
+-- a leaf was read whole, and of another message what opens it was taken
+abbrev pub OpensAny : {R C : Type 0} → Ghosts R → Deserializer R C → Any R C → Type 0
+OpensAny g old (any.Nil a) = Lawful g (λ m v. m ≡ nil) old a.de.now (Ok a.value)
+OpensAny g old (any.Truth a) = Lawful g (λ m v. m ≡ truth v) old a.de.now (Ok a.value)
+OpensAny g old (any.Whole a) = Lawful g (λ m v. m ≡ whole v) old a.de.now (Ok a.value)
+OpensAny g old (any.F32Bits a) = Lawful g (λ m v. m ≡ float32 v) old a.de.now (Ok a.value)
+OpensAny g old (any.F64Bits a) = Lawful g (λ m v. m ≡ float64 v) old a.de.now (Ok a.value)
+OpensAny g old (any.Text a) = OpensRaw g (head.Text a.len) old a
+OpensAny g old (any.Bytes a) = OpensRaw g (head.Bin a.len) old a
+OpensAny g old (any.Seq a) = Opens g old a × (a.bytes ≡ false)
+OpensAny g old (any.Map a) = OpensMap g old a
+OpensAny g old (any.Ext a) = OpensRaw g (head.Ext a.len a.tag) old a
+
+-- no message that nests below the room begins there
+pub record FailsToOpenAny {R C : Type 0} (g : Ghosts R) (old new : Deserializer R C) (e : Error) : Type 0 where
+  pub failed : new.failed ≡ true
+  pub stays : Stays g old new
+  pub before : old.failed ≡ true → IsFailedBefore e × (new ≡ old)
+  pub err : old.failed ≡ false → Explains e (faults_of g old) (faults_of g new) (Refuses Spells (λ m. Unit {0}) (room_of old) (left g old))
+
+-- the content was taken, and the reader is ready
+pub record TakesContent {R C : Type 0} (g : Ghosts R) (len : ℕ) (old new : Deserializer R C) (s : List ℕ) : Type 0 where
+  pub long : length s ≡ len
+  pub are_bytes : IsBytes s
+  pub taken : Consumes (g.ahead old.reader) (g.ahead new.reader) s
+  pub kept : new.kept ≡ old.kept
+  pub ready : new.failed ≡ false
+  pub sound : faults_of g new ≡ faults_of g old
+  pub stays : Stays g old new
+
+-- too little of it was there
+pub record FailsContent {R C : Type 0} (g : Ghosts R) (len : ℕ) (old new : Deserializer R C) (e : Error) : Type 0 where
+  pub failed : new.failed ≡ old.failed
+  pub stays : Stays g old new
+  pub err : Explains e (faults_of g old) (faults_of g new) (IsShort len (g.ahead old.reader))
