@@ -9,6 +9,7 @@ pub mod any;
 mod arrays;
 mod contents;
 mod ext;
+mod heads;
 mod kinds;
 pub mod map;
 mod numbers;
@@ -23,11 +24,11 @@ mod tests;
 mod texts;
 mod tuples;
 
+use crate::de::heads::{next_head, rest_of_head};
 use crate::error::Error;
 use crate::text::Text;
 pub use contents::{ReadContent, Slices};
 use rmp_wire::config::{BinaryConfig, DefaultConfig, HumanReadableConfig, SerializerConfig};
-use rmp_wire::read::{next_head, read_head};
 use rmp_wire::{Head, Marker, ReadRefReader, ReadSlice, Source};
 use std::alloc::Global;
 
@@ -178,7 +179,7 @@ impl<R: Source, C: SerializerConfig> Deserializer<R, C> {
             Kept::First(byte) => {
                 self.kept = Kept::Nothing;
                 let marker = Marker::from_u8(byte);
-                match read_head(marker, &mut self.reader) {
+                match rest_of_head(marker, &mut self.reader) {
                     Ok(head) => Ok((marker, head)),
                     Err(e) => Err(Error::from(e)),
                 }

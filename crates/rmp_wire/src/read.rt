@@ -86,8 +86,12 @@ pub fn next_head<S: Source>(source: &mut S) -> Result<(Marker, Head), ValueReadE
     Ok((marker, head))
 }
 
+/// Takes a number of 8 bits, the highest byte first: what stands behind the first byte of many heads.
+///
+/// # Errors
+/// `InvalidDataRead` where the source failed, or with `UnexpectedEof` where fewer bytes are ahead.
 #[inline(always)]
-fn number_8<S: Source>(source: &mut S) -> Result<u8, ValueReadError>
+pub fn number_8<S: Source>(source: &mut S) -> Result<u8, ValueReadError>
     ensures reads { ReadsNumber S.Source w8 source.old source.new result }
 {
     match source.take_1() {
@@ -96,8 +100,12 @@ fn number_8<S: Source>(source: &mut S) -> Result<u8, ValueReadError>
     }
 }
 
+/// Takes a number of 16 bits, the highest byte first: what stands behind the first byte of many heads.
+///
+/// # Errors
+/// `InvalidDataRead` where the source failed, or with `UnexpectedEof` where fewer bytes are ahead.
 #[inline(always)]
-fn number_16<S: Source>(source: &mut S) -> Result<u16, ValueReadError>
+pub fn number_16<S: Source>(source: &mut S) -> Result<u16, ValueReadError>
     ensures reads { ReadsNumber S.Source w16 source.old source.new result }
 {
     match source.take_2() {
@@ -106,8 +114,12 @@ fn number_16<S: Source>(source: &mut S) -> Result<u16, ValueReadError>
     }
 }
 
+/// Takes a number of 32 bits, the highest byte first: what stands behind the first byte of many heads.
+///
+/// # Errors
+/// `InvalidDataRead` where the source failed, or with `UnexpectedEof` where fewer bytes are ahead.
 #[inline(always)]
-fn number_32<S: Source>(source: &mut S) -> Result<u32, ValueReadError>
+pub fn number_32<S: Source>(source: &mut S) -> Result<u32, ValueReadError>
     ensures reads { ReadsNumber S.Source w32 source.old source.new result }
 {
     match source.take_4() {

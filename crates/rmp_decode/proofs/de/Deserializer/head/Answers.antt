@@ -11,13 +11,13 @@ returns-in-Ok g c = head_next g.R.Source _ _ c.if-self.false refl c.in-Nothing.i
 pub returns-in-Err : goal.returns-in-Err
 returns-in-Err g c = no_head_next g.R.Source _ _ c.if-self.false refl c.in-Nothing.is refl refl _ _ (search rules) c.in-Nothing.is c.in-Err.ensures.reads
 
-pub returns-in-Err-read_head : goal.returns-in-Err-read_head
-returns-in-Err-read_head g c = no_head_behind g.R.Source _ _ c.if-self.false refl refl refl refl c.in-First.byte _ _ _ c.from_u8-marker.ensures.round (search rules) c.in-First.is c.in-Err-read_head.ensures.reads
+pub returns-in-Err-rest_of_head : goal.returns-in-Err-rest_of_head
+returns-in-Err-rest_of_head g c = no_head_behind g.R.Source _ _ c.if-self.false refl refl refl refl c.in-First.byte _ _ _ c.from_u8-marker.ensures.round (search rules) c.in-First.is c.in-Err-rest_of_head.ensures.reads
 
 pub returns-in-Number : goal.returns-in-Number
 returns-in-Number g c =
     let e : c.from-in-Number.result ≡ pos c.in-Number.n = search rules in
     head_number g.R.Source _ _ c.if-self.false refl refl refl refl _ _ c.in-Number.n (rw e (to_z-of_z w128 (pos c.in-Number.n) (fits_unsigned c.in-Number.n (search rules)))) (search rules) c.number_marker.ensures.small c.number_marker.ensures.wide c.in-Number.is refl
 
-pub returns-in-Ok-read_head : goal.returns-in-Ok-read_head
-returns-in-Ok-read_head g c = head_behind g.R.Source _ _ c.if-self.false refl refl refl refl c.in-First.byte _ _ c.from_u8-marker.ensures.marker c.from_u8-marker.ensures.round c.in-First.is c.in-Ok-read_head.ensures.reads
+pub returns-in-Ok-rest_of_head : goal.returns-in-Ok-rest_of_head
+returns-in-Ok-rest_of_head g c = head_behind g.R.Source _ _ c.if-self.false refl refl refl refl c.in-First.byte _ _ c.from_u8-marker.ensures.marker c.from_u8-marker.ensures.round c.in-First.is c.in-Ok-rest_of_head.ensures.reads
