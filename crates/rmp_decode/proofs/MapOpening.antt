@@ -1,16 +1,20 @@
 -- When no map can be opened.
-use Rattle.std.proofs.Common.{◌≡◌, ◌∙◌, sym, refl, ℕ, ◌<◌, ◌≤◌, arith, Ok, Err}
+use Rattle.std.proofs.Common.{◌≡◌, ◌∙◌, sym, ap, refl, ℕ, ◌<◌, ◌≤◌, arith, Ok, Err}
 use Rattle.rmp_wire.specs.declared.head.Head.{Head}
+use Rattle.rmp_wire.specs.declared.head.Head.TheVariants as head
 use Rattle.rmp_wire.specs.declared.head.Head.TheVariants.{Map}
 use Rattle.rmp_wire.specs.declared.marker.Marker.{Marker}
 use Rattle.rmp_wire.specs.declared.source.Source.{Ghosts}
 use Rattle.rmp_wire.specs.Msg.{Msg, nil, truth, whole, float32, float64, text, bin, list, map, extension, count_pairs, depth}
 use Rattle.rmp_wire.specs.Spelling.{head_of}
 use Rattle.rmp_decode.specs.Law.{ReadsHead}
-use Rattle.rmp_decode.specs.Maps.{IsMap, FailsToOpenMap}
+use Rattle.rmp_decode.specs.Maps.{IsMap, not_map, FailsToOpenMap}
 use Rattle.rmp_decode.specs.State.{left, room_of}
 use Rattle.rmp_decode.specs.declared.de.Deserializer.{Deserializer}
 use Rattle.rmp_decode.specs.declared.error.Error.{Error}
+use Rattle.rmp_decode.specs.declared.error.Error.TheVariants.{DepthLimitExceeded, Syntax}
+use Rattle.rmp_decode.specs.declared.text.Text.TheVariants.{InvalidType}
+use Rattle.rmp_decode.proofs.Exactness.{exact_head, exact_none}
 use Rattle.rmp_decode.proofs.Refusals.{refuses_none, refuses_head, refuses_by, same_head}
 
 map_head_of : (m : Msg) → IsMap m → (n : ℕ) × (head_of m ≡ Map n)
@@ -38,29 +42,43 @@ map_nests (list ms) n e = absurd (cc)
 map_nests (map ps) n e = omega arith
 map_nests (extension tag s) n e = absurd (cc)
 
+other_than_map : (m : Marker) (h : Head) → ((n : ℕ) → h ≡ Map n → ⊥) → not_map m h ≡ Syntax InvalidType
+other_than_map m head.Nil f = refl
+other_than_map m (head.Truth t) f = refl
+other_than_map m (head.Whole z) f = refl
+other_than_map m (head.F32Bits n) f = refl
+other_than_map m (head.F64Bits n) f = refl
+other_than_map m (head.Text n) f = refl
+other_than_map m (head.Bin n) f = refl
+other_than_map m (head.Array n) f = refl
+other_than_map m (head.Map n) f = absurd (f n refl)
+other_than_map m (head.Ext n tag) f = refl
+
 module _ {R C : Type 0} (g : Ghosts R) (old new : Deserializer R C) (e : Error) where
   pub no_map_begins : ReadsHead g old new (Err e) → FailsToOpenMap g old new e
-  no_map_begins h = record { failed = h.failed; stays = h.stays; before = h.before; err = λ o n k. refuses_none _ _ _ (h.err o n k) }
+  no_map_begins h = record { failed = h.failed; stays = h.stays; before = h.before; err = λ o n k. refuses_none _ _ _ (h.err o n k); exact = λ o. exact_none not_map _ _ _ e (h.ends o) }
 
   module _ (p : Marker × Head) (h : ReadsHead g old new (Ok p)) where
     -- another kind was there
-    pub no_map : ((n : ℕ) → p.1 ≡ Map n → ⊥) → FailsToOpenMap g old new e
-    no_map f = record {
+    pub no_map : ((n : ℕ) → p.1 ≡ Map n → ⊥) → e ≡ Syntax InvalidType → FailsToOpenMap g old new e
+    no_map f i = record {
       failed = h.failed;
       stays = h.stays;
       before = λ b. absurd (let o = h.fresh in cc);
-      err = λ _ _ _. refuses_head IsMap (room_of old) (left g old) (left g new) h.ok.bytes p.1 h.ok.takes h.ok.is_head (λ m i q. let a = map_head_of m i in f a.0 (sym q ∙ a.1));
+      err = λ _ _ _. refuses_head IsMap (room_of old) (left g old) (left g new) h.ok.bytes p.1 h.ok.takes h.ok.is_head (λ m j q. let a = map_head_of m j in f a.0 (sym q ∙ a.1));
+      exact = λ _. exact_head not_map _ _ _ p.0 p.1 e h.marked (i ∙ sym (other_than_map p.0 p.1 f));
     }
 
     -- a map would nest too deep
-    pub map_too_deep : (n : ℕ) → p.1 ≡ Map n → room_of old ≤ 1 → FailsToOpenMap g old new e
-    map_too_deep n i l = record {
+    pub map_too_deep : (n : ℕ) → p.1 ≡ Map n → room_of old ≤ 1 → e ≡ DepthLimitExceeded → FailsToOpenMap g old new e
+    map_too_deep n i l d = record {
       failed = h.failed;
       stays = h.stays;
       before = λ b. absurd (let o = h.fresh in cc);
       err = λ _ _ _. refuses_by IsMap (room_of old) (left g old) (left g new) h.ok.bytes h.ok.takes (λ ys q a.
           let u = same_head a.tree p.1 a.bytes h.ok.bytes a.rest ys a.spelled h.ok.is_head (sym a.front) in
-          let d = map_nests a.tree n (u.0 ∙ i) in
+          let below = map_nests a.tree n (u.0 ∙ i) in
           let f = a.fits in
           omega arith);
+      exact = λ _. exact_head not_map _ _ _ p.0 p.1 e h.marked (d ∙ ap (not_map p.0) (sym i));
     }

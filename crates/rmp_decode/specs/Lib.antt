@@ -4,6 +4,7 @@ pub mod Exact
 pub mod Kinds
 pub mod Law
 pub mod Maps
+pub mod Others
 pub mod Parts
 pub mod Pieces
 pub mod Read

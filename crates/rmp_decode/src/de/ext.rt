@@ -1,8 +1,10 @@
 //! Extensions.
-ghost use Rattle.std.specs.Prelude.{◌≡◌, None};
+ghost use Rattle.std.specs.Prelude.{◌≡◌, None, IfErr, false};
+ghost use Rattle.rmp_decode.specs.Others.{IsExtHead, RefusesOthers, not_ext};
 ghost use Rattle.rmp_decode.specs.Kinds.{Finds};
 ghost use Rattle.rmp_decode.specs.Law.{Lawful};
 ghost use Rattle.rmp_decode.specs.Read.{IsExt};
+ghost use Rattle.rmp_decode.specs.State.{left, faults_of, is_failed};
 
 use crate::de::pieces::owned;
 use crate::de::{Deserialize, Deserializer};
@@ -29,7 +31,8 @@ impl<R: Source, C: SerializerConfig> Deserializer<R, C> {
     pub fn deserialize_ext<'de>(&mut self) -> Result<Ext, Error>
     where
         R: ReadSlice<'de>,
-        ensures { Lawful R.Source IsExt self.old self.new result }
+        ensures law { Lawful R.Source IsExt self.old self.new result }
+        ensures exact { is_failed self.old ≡ false → IfErr result (RefusesOthers IsExtHead not_ext (faults_of R.Source self.old) (faults_of R.Source self.new) (left R.Source self.old)) }
     {
         match self.head() {
             Ok((marker, head)) => match ext_in(head) {

@@ -1,12 +1,13 @@
 //! Bytes of its own: from a text, from bytes, or from a list of numbers.
-ghost use Rattle.std.specs.Prelude.{◌≡◌, ◌≤◌, true, None, IfOk, IfErr};
+ghost use Rattle.std.specs.Prelude.{◌≡◌, ◌≤◌, true, false, None, IfOk, IfErr};
 ghost use Rattle.std.specs.Borrow.{sem, RestsIfErr};
 ghost use Rattle.rmp_wire.specs.Types.{buffer_bytes};
 ghost use Rattle.rmp_decode.specs.Buffers.{IsBuffer, AfterHead, IsBehind};
 ghost use Rattle.rmp_decode.specs.contracts.de.Deserializer.{the_row};
+ghost use Rattle.rmp_decode.specs.Others.{IsBufferHead, RefusesOthers, not_buffer};
 ghost use Rattle.rmp_decode.specs.Kinds.{Finds};
 ghost use Rattle.rmp_decode.specs.Law.{Lawful};
-ghost use Rattle.rmp_decode.specs.State.{is_failed, kept_of};
+ghost use Rattle.rmp_decode.specs.State.{left, faults_of, is_failed, kept_of};
 ghost use Rattle.rmp_decode.specs.declared.de.Kept.TheVariants.{Nothing};
 
 use crate::de::kinds::raw_in;
@@ -38,7 +39,8 @@ impl<R: Source, C: SerializerConfig> Deserializer<R, C> {
     pub fn deserialize_byte_buf<'de>(&mut self) -> Result<Vec<u8>, Error>
     where
         R: ReadSlice<'de>,
-        ensures { Lawful R.Source (λ m v. IsBuffer m v.items) self.old self.new result }
+        ensures law { Lawful R.Source (λ m v. IsBuffer m v.items) self.old self.new result }
+        ensures exact { is_failed self.old ≡ false → IfErr result (RefusesOthers IsBufferHead not_buffer (faults_of R.Source self.old) (faults_of R.Source self.new) (left R.Source self.old)) }
     {
         match self.head() {
             Ok((_, head)) => match raw_in(head) {

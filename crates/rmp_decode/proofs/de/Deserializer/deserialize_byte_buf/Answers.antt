@@ -1,26 +1,43 @@
-use Rattle.std.proofs.Common.{◌≡◌, ◌∙◌, sym, ap, subst, refl, List, ℕ, Bool, true, false, Ok}
+use Rattle.std.proofs.Common.{◌≡◌, ◌∙◌, sym, ap, subst, refl, List, ℕ, Bool, true, false, Result, Ok, Err, IfErr}
 use Rattle.rmp_wire.specs.Msg.{Msg}
 use Rattle.rmp_decode.specs.Buffers.{IsBuffer}
 use Rattle.rmp_decode.specs.Law.{ReadsHead}
 use Rattle.rmp_decode.proofs.Buffers.{raw_buffer, no_buffer}
 use Rattle.rmp_decode.proofs.Contents.{raw_content, content_read, content_short}
+use Rattle.rmp_decode.proofs.Others.{others_head, others_wanted, others_none, raw_wanted}
 use Rattle.rmp_decode.proofs.Laws.{refused_none, refused_head}
 use Rattle.rmp_decode.proofs.de.Deserializer.deserialize_byte_buf.Goals as goal
 
-pub returns-in-Ok-owned : goal.returns-in-Ok-owned
-returns-in-Ok-owned g c =
+pub returns-in-Ok-owned-clause-law : goal.returns-in-Ok-owned-clause-law
+returns-in-Ok-owned-clause-law g c =
     let o = c.in-Ok-owned.ensures.ok in
     content_read (raw_content c.in-Some.field-0-0) g.R.Source _ c.args.self.now c.head.new.self _ (c.in-Ok.field-0-0, c.in-Ok.head) c.in-Ok.ensures c.in-Ok-owned.bytes.items c.in-Some.len _ c.in-Some.ensures o.0 o.1 o.2 refl refl c.in-Ok-owned.ensures.sound (record { config = refl; room = refl; place = c.in-Ok-owned.ensures.place }) (raw_buffer c.in-Some.field-0-0 c.in-Ok-owned.bytes.items)
 
-pub returns-in-Err-owned : goal.returns-in-Err-owned
-returns-in-Err-owned g c =
+pub returns-in-Err-owned-clause-law : goal.returns-in-Err-owned-clause-law
+returns-in-Err-owned-clause-law g c =
     content_short (raw_content c.in-Some.field-0-0) g.R.Source _ c.args.self.now c.head.new.self _ (c.in-Ok.field-0-0, c.in-Ok.head) c.in-Ok.ensures c.in-Some.len _ c.in-Some.ensures c.in-Err-owned.ensures.err c.in-Ok.ensures.failed (record { config = refl; room = refl; place = c.in-Err-owned.ensures.place })
 
-pub returns-in-None-list_in : goal.returns-in-None-list_in
-returns-in-None-list_in g c = refused_head g.R.Source _ c.args.self.now _ (c.in-Ok.field-0-0, c.in-Ok.head) _ c.in-Ok.ensures (λ m r i. no_buffer m r.0.items c.in-Ok.head r.1 i c.in-None.ensures c.in-None-list_in.ensures)
+pub returns-in-None-list_in-clause-law : goal.returns-in-None-list_in-clause-law
+returns-in-None-list_in-clause-law g c = refused_head g.R.Source _ c.args.self.now _ (c.in-Ok.field-0-0, c.in-Ok.head) _ c.in-Ok.ensures (λ m r i. no_buffer m r.0.items c.in-Ok.head r.1 i c.in-None.ensures c.in-None-list_in.ensures)
 
-pub returns-in-Err : goal.returns-in-Err
-returns-in-Err g c = refused_none _ _ _ _ _ c.in-Err.ensures
+pub returns-in-Err-clause-law : goal.returns-in-Err-clause-law
+returns-in-Err-clause-law g c = refused_none _ _ _ _ _ c.in-Err.ensures
 
-pub returns-in-Some-list_in : goal.returns-in-Some-list_in
-returns-in-Some-list_in g c = c.byte_list.ensures c.args.self.now c.in-Ok.field-0-0 (subst (λ h. ReadsHead g.R.Source c.args.self.now c.head.new.self (Ok (c.in-Ok.field-0-0, h))) c.in-Some-list_in.ensures c.in-Ok.ensures)
+pub returns-in-Some-list_in-clause-law : goal.returns-in-Some-list_in-clause-law
+returns-in-Some-list_in-clause-law g c = c.byte_list.ensures c.args.self.now c.in-Ok.field-0-0 (subst (λ h. ReadsHead g.R.Source c.args.self.now c.head.new.self (Ok (c.in-Ok.field-0-0, h))) c.in-Some-list_in.ensures c.in-Ok.ensures)
+
+pub returns-in-Err-owned-clause-exact : goal.returns-in-Err-owned-clause-exact
+returns-in-Err-owned-clause-exact g c = λ _. others_wanted _ _ _ _ _ c.in-Ok.field-0-0 c.in-Ok.head _ c.in-Ok.ensures.marked (raw_wanted _ _ _ c.in-Some.ensures)
+
+pub returns-in-None-list_in-clause-exact : goal.returns-in-None-list_in-clause-exact
+returns-in-None-list_in-clause-exact g c = λ _. others_head _ _ _ _ _ c.in-Ok.field-0-0 c.in-Ok.head _ c.in-Ok.ensures.marked refl
+
+on_err : {A E : Type 0} {P : E → Type 0} (r : Result A E) → ((e : E) → P e) → IfErr r P
+on_err (Ok a) f = tt
+on_err (Err e) f = f e
+
+pub returns-in-Some-list_in-clause-exact : goal.returns-in-Some-list_in-clause-exact
+returns-in-Some-list_in-clause-exact g c = λ _. on_err c.byte_list.result (λ e. others_wanted _ _ _ _ _ c.in-Ok.field-0-0 c.in-Ok.head e c.in-Ok.ensures.marked (rw c.in-Some-list_in.ensures tt))
+
+pub returns-in-Err-clause-exact : goal.returns-in-Err-clause-exact
+returns-in-Err-clause-exact g c = λ o. others_none _ _ _ _ _ _ (c.in-Err.ensures.ends o)
