@@ -133,13 +133,14 @@ def parts_answers(n):
 """
         trees = "t.trees"
     before = f"v.{n - 1}"
-    text = f"""use Rattle.std.proofs.Common.{{◌≡◌, subst}}
-use Rattle.rmp_wire.specs.Msg.{{Msgs, no_items, item}}
+    lists = "run_start, run_step, parts_element" if n == 2 else "run_step, parts_element"
+    shapes = "" if n == 2 else "use Rattle.rmp_decode.proofs.Tuples.{keep, anything, extend, extend_end, walk, next, lacks, parts_narrower}\n"
+    text = f"""use Rattle.std.proofs.Common.{{subst}}
+use Rattle.rmp_wire.specs.Msg.{{no_items, item}}
 use Rattle.rmp_decode.specs.Seq.{{TakesElement, FailsElement}}
 use Rattle.rmp_decode.proofs.Rows.{{push}}
-use Rattle.rmp_decode.proofs.Seqs.{{run_start, run_step, parts_element}}
-use Rattle.rmp_decode.proofs.Tuples.{{keep, anything, extend, extend_end, walk, next, lacks, parts_narrower}}
-use {path}.Goals as goal
+use Rattle.rmp_decode.proofs.Seqs.{{{lists}}}
+{shapes}use {path}.Goals as goal
 """
     if n == 2:
         text += f"""

@@ -1,12 +1,12 @@
 -- Bytes from a text, from bytes, or from a list of numbers.
-use Rattle.std.proofs.Common.{◌≡◌, ◌∙◌, sym, ap, subst, refl, ℕ, pos, ◌+◌, ◌<◌, ◌≤◌, max, arith, List, [], ◌∷◌, ◌++◌, Option, None, Some, Bool, true, false, Ok, Err, Vec, Global}
+use Rattle.std.proofs.Common.{◌≡◌, ◌∙◌, sym, ap, refl, ℕ, pos, ◌≤◌, arith, List, [], ◌∷◌, Option, None, Some, Bool, true, false, Ok, Err, Vec, Global}
 use Rattle.std.specs.Io.KnownBytes.{Consumes}
 use Rattle.rmp_wire.specs.declared.head.Head.{Head}
 use Rattle.rmp_wire.specs.declared.head.Head.TheVariants.{Array}
 use Rattle.rmp_wire.specs.declared.marker.Marker.{Marker}
 use Rattle.rmp_wire.specs.declared.source.Source.{Ghosts}
 use Rattle.rmp_wire.specs.Heads.{IsHead}
-use Rattle.rmp_wire.specs.Msg.{Msg, nil, truth, whole, float32, float64, text, bin, list, map, extension, Msgs, no_items, item}
+use Rattle.rmp_wire.specs.Msg.{Msg, nil, truth, whole, float32, float64, text, bin, list, map, extension, Msgs}
 use Rattle.rmp_wire.specs.Spelling.{Spells, head_of}
 use Rattle.rmp_decode.specs.Buffers.{IsBuffer, IsBehind}
 use Rattle.rmp_decode.specs.Kinds.{raw_head, raw_msg}

@@ -11,6 +11,7 @@ pub mod MapOpening
 pub mod Maps
 pub mod Numbers
 pub mod Opening
+pub mod Orders
 pub mod Others
 pub mod Refusals
 pub mod Rows

@@ -1,6 +1,10 @@
 -- What the read of a map says, from what its opening, its keys, its values and its end say.
-use Rattle.std.proofs.Common.{◌≡◌, ◌∙◌, sym, ap, subst, refl, ℕ, suc, ◌+◌, ◌<◌, max, arith, List, [], ◌∷◌, ◌++◌, Bool, true, false, Option, None, Some, Ok, Err, append_assoc}
-use Rattle.std.specs.BTreeMap.{insert_entry}
+use Rattle.std.proofs.Common.{◌≡◌, ◌∙◌, sym, ap, subst, refl, ℕ, suc, ◌+◌, ◌<◌, max, arith, List, [], ◌∷◌, ◌++◌, Bool, true, false, cond, Option, None, Some, Ok, Err, append_assoc}
+use Rattle.std.specs.BTreeMap.{insert_entry, is_at}
+use Rattle.std.specs.Cmp.{IsTotalOrder}
+use Rattle.std.specs.List.Sorted.{IsStrictlySortedBy}
+use Rattle.std.specs.Map.{keys_of, lookup}
+use Rattle.std.specs.Ordering.{is_eq}
 use Rattle.std.specs.declared.cmp.Ordering.{Ordering}
 use Rattle.std.specs.Io.KnownBytes.{Consumes}
 use Rattle.std.proofs.KnownBytes.{Consumes-nil, Consumes-trans}
@@ -11,7 +15,7 @@ use Rattle.rmp_wire.specs.Msg.{Msg, nil, truth, whole, float32, float64, text, b
 use Rattle.rmp_wire.specs.Spelling.{Spells, SpellsPairs, head_of}
 use Rattle.rmp_wire.proofs.Heads.{heads_apart}
 use Rattle.rmp_decode.specs.Law.{Refuses, Readable, Explains, Lawful}
-use Rattle.rmp_decode.specs.Maps.{OfMap, IsMap, ReadsPairs, insert_all, map_inner, IsMapOpen, OpensMap, FailsToOpenMap, TakesKey, TakesValue}
+use Rattle.rmp_decode.specs.Maps.{OfMap, IsMap, ReadsPairs, Collects, map_inner, IsMapOpen, OpensMap, FailsToOpenMap, TakesKey, TakesValue}
 use Rattle.rmp_decode.specs.Parts.{TakesPart, FailsPart}
 use Rattle.rmp_decode.specs.Seq.{SpellsRow, BeginsRow, RefusesRow}
 use Rattle.rmp_decode.specs.State.{left, faults_of, room_of, kept_bytes, Stays}
@@ -20,6 +24,7 @@ use Rattle.rmp_decode.specs.declared.de.map.MapAccess.{MapAccess}
 use Rattle.rmp_decode.specs.declared.error.Error.{Error}
 use Rattle.rmp_decode.specs.declared.error.Error.TheVariants.{OutOfMemory}
 use Rattle.rmp_decode.proofs.Laws.{stays_refl, stays_then}
+use Rattle.rmp_decode.proofs.Orders.{entries_none, entries_more}
 use Rattle.rmp_decode.proofs.Refusals.{refuses_narrower, same_head}
 use Rattle.rmp_decode.proofs.Rows.{push, append, count-push, depth-push, row-push, rest_refused, element_refused, count_refused}
 
@@ -283,10 +288,6 @@ pairs-push keys values no_pairs m n (e ∷ es) k v r p q = absurd r
 pairs-push keys values (pair a b ps) m n [] k v r p q = absurd r
 pairs-push keys values (pair a b ps) m n (e ∷ es) k v r p q = (r.0, r.1, pairs-push keys values ps m n es k v r.2 p q)
 
-pub insert_all-push : {K V : Type 0} (cmp : K → K → Ordering) (es ns : List (K × V)) (k : K) (v : V) → insert_all cmp es (ns ++ (k, v) ∷ []) ≡ insert_entry cmp (insert_all cmp es ns) k v
-insert_all-push cmp es [] k v = refl
-insert_all-push cmp es (n ∷ ns) k v = insert_all-push cmp (insert_entry cmp es n.0 n.1) ns k v
-
 -- the key that comes next, where there is one
 pub key_next : {K V : Type 0} (keys : Msg → K → Type 0) (values : Msg → V → Type 0) (ps qs : Pairs) (m : Msg) (ks : Msgs) (es : List (K × V)) → flat qs ≡ append (flat ps) (item m ks) → ReadsPairs keys values qs es → Readable keys m
 key_next keys values no_pairs no_pairs m ks es e r = absurd (cc)
@@ -324,15 +325,16 @@ entries_step g keys values start mid key now es k v r p m q n =
 pub record Gathers {R C K V : Type 0} (g : Ghosts R) (cmp : K → K → Ordering) (keys : Msg → K → Type 0) (values : Msg → V → Type 0) (start now : MapAccess R C) (es : List (K × V)) : Type 0 where
   pub pairs : List (K × V)
   pub read : Entries g keys values start now pairs
-  pub gathered : es ≡ insert_all cmp [] pairs
+  pub gathered : Collects cmp pairs es
 
-pub gathers_start : {R C K V : Type 0} (g : Ghosts R) (cmp : K → K → Ordering) (keys : Msg → K → Type 0) (values : Msg → V → Type 0) (a : MapAccess R C) (es : List (K × V)) → a.owes ≡ false → IsMapOpen a → es ≡ [] → Gathers g cmp keys values a a es
-gathers_start g cmp keys values a es w o e = record { pairs = []; read = entries_start g keys values a w o; gathered = e }
+module _ {R C K V : Type 0} (g : Ghosts R) {cmp : K → K → Ordering} (o : IsTotalOrder cmp) (keys : Msg → K → Type 0) (values : Msg → V → Type 0) where
+  pub gathers_start : (a : MapAccess R C) (es : List (K × V)) → a.owes ≡ false → IsMapOpen a → es ≡ [] → Gathers g cmp keys values a a es
+  gathers_start a es w p e = record { pairs = []; read = entries_start g keys values a w p; gathered = entries_none o es e }
 
-pub gathers_step : {R C K V : Type 0} (g : Ghosts R) (cmp : K → K → Ordering) (keys : Msg → K → Type 0) (values : Msg → V → Type 0) (start mid key now : MapAccess R C) (es fs : List (K × V)) (k : K) (v : V) → Gathers g cmp keys values start mid es
-    → TakesKey g keys mid key k → key.de.ghost_name ≡ mid.de.ghost_name → TakesValue g values key now v → now.de.ghost_name ≡ key.de.ghost_name → fs ≡ insert_entry cmp es k v → Gathers g cmp keys values start now fs
-gathers_step g cmp keys values start mid key now es fs k v r p m q n e = record {
-  pairs = r.pairs ++ (k, v) ∷ [];
-  read = entries_step g keys values start mid key now r.pairs k v r.read p m q n;
-  gathered = e ∙ ap (λ z. insert_entry cmp z k v) r.gathered ∙ sym (insert_all-push cmp [] r.pairs k v);
-}
+  pub gathers_step : (start mid key now : MapAccess R C) (es fs : List (K × V)) (k : K) (v : V) → Gathers g cmp keys values start mid es → TakesKey g keys mid key k → key.de.ghost_name ≡ mid.de.ghost_name → TakesValue g values key now v → now.de.ghost_name ≡ key.de.ghost_name → fs ≡ insert_entry cmp es k v
+      → IsStrictlySortedBy cmp (keys_of fs) → ((q : K) → lookup (is_at (cmp q)) fs ≡ cond (is_eq (cmp k q)) (Some v) (lookup (is_at (cmp q)) es)) → Gathers g cmp keys values start now fs
+  gathers_step start mid key now es fs k v r p m q n e s u = record {
+    pairs = r.pairs ++ (k, v) ∷ [];
+    read = entries_step g keys values start mid key now r.pairs k v r.read p m q n;
+    gathered = entries_more o r.pairs es fs k v r.gathered e s u;
+  }

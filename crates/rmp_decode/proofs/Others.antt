@@ -1,5 +1,5 @@
 -- Which error comes where some heads are wanted.
-use Rattle.std.proofs.Common.{◌≡◌, ◌∙◌, sym, subst, ℕ, List, [], ◌∷◌, Option, None, Some, IfSome, Bool, true, false}
+use Rattle.std.proofs.Common.{◌≡◌, ◌∙◌, sym, subst, ℕ, List, ◌∷◌, Option, None, Some, IfSome, Bool, true, false}
 use Rattle.rmp_wire.specs.declared.head.Head.{Head}
 use Rattle.rmp_wire.specs.declared.marker.Marker.{Marker}
 use Rattle.rmp_wire.proofs.Heads.{heads_apart}

@@ -1,5 +1,5 @@
 -- Elements of several types, one after another.
-use Rattle.std.proofs.Common.{◌≡◌, ◌∙◌, sym, ap, subst, refl, ℕ, List, [], ◌∷◌, ◌++◌, Option, None, Some, IfSome}
+use Rattle.std.proofs.Common.{ℕ, List, Option, None, Some}
 use Rattle.rmp_wire.specs.declared.source.Source.{Ghosts}
 use Rattle.rmp_wire.specs.Msg.{Msg, Msgs, no_items, item}
 use Rattle.rmp_decode.specs.Rows.{AndThen, Anything, NoMore}

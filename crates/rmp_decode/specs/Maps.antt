@@ -1,6 +1,8 @@
 -- What an access to the pairs of a map does to the `Deserializer` that it borrows.
-use Rattle.std.specs.Prelude.{◌≡◌, ℕ, ◌+◌, max, Bool, true, false, List, [], ◌∷◌}
-use Rattle.std.specs.BTreeMap.{insert_entry}
+use Rattle.std.specs.Prelude.{◌≡◌, ℕ, ◌+◌, max, Bool, true, false, List, [], ◌∷◌, reverse}
+use Rattle.std.specs.BTreeMap.{is_at}
+use Rattle.std.specs.List.Sorted.{IsStrictlySortedBy}
+use Rattle.std.specs.Map.{keys_of, lookup, lookup_key}
 use Rattle.std.specs.declared.cmp.Ordering.{Ordering}
 use Rattle.rmp_wire.specs.declared.head.Head.{Head}
 use Rattle.rmp_wire.specs.declared.head.Head.TheVariants.{Map}
@@ -44,14 +46,15 @@ ReadsPairs keys values (pair k v ps) (e ∷ es) = keys k e.0 × values v e.1 × 
 ReadsPairs keys values no_pairs (e ∷ es) = ⊥
 ReadsPairs keys values (pair k v ps) [] = ⊥
 
--- the entries es after the insertion of each of these: of equal keys the first stays, with the last value
-abbrev pub insert_all : {K V : Type 0} → (K → K → Ordering) → List (K × V) → List (K × V) → List (K × V)
-insert_all cmp es [] = es
-insert_all cmp es (n ∷ ns) = insert_all cmp (insert_entry cmp es n.0 n.1) ns
+-- the entries that pairs make: in the keys' order, and of equal keys the first, with the last value
+pub record Collects {K V : Type 0} (cmp : K → K → Ordering) (pairs entries : List (K × V)) : Type 0 where
+  pub ordered : IsStrictlySortedBy cmp (keys_of entries)
+  pub first : (q : K) → lookup_key (is_at (cmp q)) entries ≡ lookup_key (is_at (cmp q)) pairs
+  pub last : (q : K) → lookup (is_at (cmp q)) entries ≡ lookup (is_at (cmp q)) (reverse pairs)
 
--- a map whose pairs, inserted in turn, are these entries
+-- a map whose pairs make these entries
 abbrev pub ReadsEntries : {K V : Type 0} → (K → K → Ordering) → (Msg → K → Type 0) → (Msg → V → Type 0) → List (K × V) → Msg → Type 0
-ReadsEntries {K} {V} cmp keys values es m = OfMap (λ ps. (ns : List (K × V)) × ReadsPairs keys values ps ns × (es ≡ insert_all cmp [] ns)) m
+ReadsEntries {K} {V} cmp keys values es m = OfMap (λ ps. (ns : List (K × V)) × ReadsPairs keys values ps ns × Collects cmp ns es) m
 
 -- ---- the access
 

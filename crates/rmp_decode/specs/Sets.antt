@@ -1,16 +1,18 @@
 -- What types read of the items of a list, where equal ones are one.
-use Rattle.std.specs.Prelude.{◌≡◌, List, [], ◌∷◌}
-use Rattle.std.specs.BTreeSet.{insert_key}
+use Rattle.std.specs.Prelude.{◌≡◌, List}
+use Rattle.std.specs.BTreeMap.{is_at}
+use Rattle.std.specs.List.{find}
+use Rattle.std.specs.List.Sorted.{IsStrictlySortedBy}
 use Rattle.std.specs.declared.cmp.Ordering.{Ordering}
 use Rattle.rmp_wire.specs.Msg.{Msg}
 use Rattle.rmp_decode.specs.Rows.{ReadsEach}
 use Rattle.rmp_decode.specs.Seq.{OfRow}
 
--- the keys ks after the insertion of each of these: of equal ones the first stays
-abbrev pub insert_keys : {K : Type 0} → (K → K → Ordering) → List K → List K → List K
-insert_keys cmp ks [] = ks
-insert_keys cmp ks (n ∷ ns) = insert_keys cmp (insert_key cmp ks n) ns
+-- the keys that elements make: in order, and of equal ones the first
+pub record CollectsKeys {K : Type 0} (cmp : K → K → Ordering) (elements keys : List K) : Type 0 where
+  pub ordered : IsStrictlySortedBy cmp keys
+  pub first : (q : K) → find (is_at (cmp q)) keys ≡ find (is_at (cmp q)) elements
 
--- a list or bytes whose elements, inserted in turn, are these keys
+-- a list or bytes whose elements make these keys
 abbrev pub ReadsKeys : {K : Type 0} → (K → K → Ordering) → (Msg → K → Type 0) → List K → Msg → Type 0
-ReadsKeys {K} cmp reads ks m = OfRow (λ ms. (ns : List K) × ReadsEach reads ms ns × (ks ≡ insert_keys cmp [] ns)) m
+ReadsKeys {K} cmp reads ks m = OfRow (λ ms. (ns : List K) × ReadsEach reads ms ns × CollectsKeys cmp ns ks) m

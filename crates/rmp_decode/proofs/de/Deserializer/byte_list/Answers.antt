@@ -6,7 +6,7 @@ use Rattle.rmp_decode.specs.Read.{IsUnsigned}
 use Rattle.rmp_decode.specs.Rows.{ReadsEach}
 use Rattle.rmp_decode.specs.Seq.{OfRow, IsOpen}
 use Rattle.rmp_decode.proofs.Buffers.{lawful_err_at, buffer_done, row_of_buffer, opened_behind, list_too_deep}
-use Rattle.rmp_decode.proofs.Seqs.{Values, values_start, values_step, each_next, seq_take, seq_unkept}
+use Rattle.rmp_decode.proofs.Seqs.{values_start, values_step, each_next, seq_take, seq_unkept}
 use Rattle.rmp_decode.proofs.de.Deserializer.byte_list.Goals as goal
 
 via : {A : Type 0} {x z : A} (y : A) → x ≡ y → y ≡ z → x ≡ z

@@ -1,6 +1,4 @@
-use Rattle.std.proofs.Common.{◌≡◌, ◌∙◌, sym, ap, subst, refl, List, ℕ, Bool, true, false, Result, Ok, Err, IfErr}
-use Rattle.rmp_wire.specs.Msg.{Msg}
-use Rattle.rmp_decode.specs.Buffers.{IsBuffer}
+use Rattle.std.proofs.Common.{subst, refl, Result, Ok, Err, IfErr}
 use Rattle.rmp_decode.specs.Law.{ReadsHead}
 use Rattle.rmp_decode.proofs.Buffers.{raw_buffer, no_buffer}
 use Rattle.rmp_decode.proofs.Contents.{raw_content, content_read, content_short}

@@ -1,4 +1,4 @@
-use Rattle.std.proofs.Common.{◌≡◌, arith, refl}
+use Rattle.std.proofs.Common.{arith, refl}
 use Rattle.rmp_decode.proofs.MapOpening.{no_map_begins, no_map, map_too_deep}
 use Rattle.rmp_decode.proofs.de.Deserializer.open_map.Goals as goal
 

@@ -1,4 +1,4 @@
-use Rattle.std.proofs.Common.{◌≡◌, ◌∙◌, subst, arith}
+use Rattle.std.proofs.Common.{◌∙◌, subst, arith}
 use Rattle.rmp_decode.specs.Seq.{TakesElement, FailsElement}
 use Rattle.rmp_decode.proofs.Arrays.{filled_start, filled_step, filled_fails, filled_whole}
 use Rattle.rmp_decode.proofs.de.seq.SeqAccess.fill.Goals as goal

@@ -1,8 +1,8 @@
-use Rattle.std.proofs.Common.{◌≡◌, subst}
-use Rattle.rmp_wire.specs.Msg.{Msgs, no_items, item}
+use Rattle.std.proofs.Common.{subst}
+use Rattle.rmp_wire.specs.Msg.{no_items, item}
 use Rattle.rmp_decode.specs.Seq.{TakesElement, FailsElement}
 use Rattle.rmp_decode.proofs.Rows.{push}
-use Rattle.rmp_decode.proofs.Seqs.{run_start, run_step, parts_element}
+use Rattle.rmp_decode.proofs.Seqs.{run_step, parts_element}
 use Rattle.rmp_decode.proofs.Tuples.{keep, anything, extend, extend_end, walk, next, lacks, parts_narrower}
 use Rattle.rmp_decode.proofs.de.seq.SeqAccess.parts_7.Goals as goal
 

@@ -1,9 +1,9 @@
-use Rattle.std.proofs.Common.{◌≡◌, sym, ◌∙◌, ap, subst, arith, refl, rules, false, List, [], Option, None, Some, IfNone, Global}
+use Rattle.std.proofs.Common.{◌≡◌, sym, ◌∙◌, ap, subst, arith, refl, rules, false, List, Option, None, Some, IfNone, Global}
 use Rattle.std.proofs.lemmas.Result.{err_from_is_err_and}
 use Rattle.std.specs.declared.collections.BTreeSet.{BTreeSet}
 use Rattle.rmp_decode.specs.Rows.{ReadsEach}
 use Rattle.rmp_decode.specs.Seq.{IsOpen, TakesElement, FailsToTake}
-use Rattle.rmp_decode.specs.Sets.{insert_keys}
+use Rattle.rmp_decode.specs.Sets.{CollectsKeys}
 use Rattle.rmp_decode.proofs.Seqs.{values_step, each_next, seq_unopened, seq_done, seq_take, seq_unkept}
 use Rattle.rmp_decode.proofs.Sets.{keys_start, keys_step}
 use Rattle.rmp_decode.proofs.de.sets.BTreeSetDeserialize.deserialize.Goals as goal
@@ -14,10 +14,10 @@ via y p q = p ∙ q
 pub returns-in_err-seq : goal.returns-in_err-seq
 returns-in_err-seq g c =
     let p = err_from_is_err_and c.from_residual.result c.from_residual.ensures.1 in
-    rw (p.1, p.2) (seq_unopened g.R.Source (λ (v : BTreeSet g.row.T.Denot Global) ms. (ns : List g.row.T.Denot) × ReadsEach (g.T.Deserialize.reads (g.C.SerializerConfig.human c.args.de.now.config) g.R.ReadSlice.lends) ms ns × (v.keys ≡ insert_keys g.T.Ord.cmp [] ns)) _ _ _ (rw c.in_err-seq.was at c.deserialize_seq.follows.holds-at-none))
+    rw (p.1, p.2) (seq_unopened g.R.Source (λ (v : BTreeSet g.row.T.Denot Global) ms. (ns : List g.row.T.Denot) × ReadsEach (g.T.Deserialize.reads (g.C.SerializerConfig.human c.args.de.now.config) g.R.ReadSlice.lends) ms ns × CollectsKeys g.T.Ord.cmp ns v.keys) _ _ _ (rw c.in_err-seq.was at c.deserialize_seq.follows.holds-at-none))
 
 pub loop-items-init : goal.loop-items-init
-loop-items-init g c = keys_start _ _ _ _ _ c.in_ok-seq.ensures.opened.opened c.new-items.ensures.empty
+loop-items-init g c = keys_start _ g.met.T.Ord.total _ _ _ c.in_ok-seq.ensures.opened.opened c.new-items.ensures.empty
 
 pub returns-in_err-item : goal.returns-in_err-item
 returns-in_err-item g c =
@@ -26,7 +26,7 @@ returns-in_err-item g c =
     let e = r.read.run.stays.config ∙ o.stays.config in
     let p = err_from_is_err_and c.from_residual-in_err-item.result c.from_residual-in_err-item.ensures.1 in
     let f = subst (λ z. FailsToTake g.R.Source (g.T.Deserialize.reads (g.C.SerializerConfig.human z) g.R.ReadSlice.lends) c.loop-items.seq c.next_element.new.self c.in_err-item.field-0.0) e (c.in_err-item.ensures.err r.read.run.still) in
-    rw (p.1, p.2) (seq_take g.R.Source (λ (v : BTreeSet g.row.T.Denot Global) ms. (ns : List g.row.T.Denot) × ReadsEach (g.T.Deserialize.reads (g.C.SerializerConfig.human c.args.de.now.config) g.R.ReadSlice.lends) ms ns × (v.keys ≡ insert_keys g.T.Ord.cmp [] ns)) _ c.in_ok-seq.seq c.loop-items.seq r.read.trees o r.read.run _ _ c.next_element.new.self _ f (c.in_err-item.ensures.marked r.read.run.still.marked) (search rules) (λ m ks v h. each_next _ r.read.trees m ks h.0 h.1))
+    rw (p.1, p.2) (seq_take g.R.Source (λ (v : BTreeSet g.row.T.Denot Global) ms. (ns : List g.row.T.Denot) × ReadsEach (g.T.Deserialize.reads (g.C.SerializerConfig.human c.args.de.now.config) g.R.ReadSlice.lends) ms ns × CollectsKeys g.T.Ord.cmp ns v.keys) _ c.in_ok-seq.seq c.loop-items.seq r.read.trees o r.read.run _ _ c.next_element.new.self _ f (c.in_err-item.ensures.marked r.read.run.still.marked) (search rules) (λ m ks v h. each_next _ r.read.trees m ks h.0 h.1))
 
 pub returns-in_err-insert : goal.returns-in_err-insert
 returns-in_err-insert g c =
@@ -36,7 +36,7 @@ returns-in_err-insert g c =
     let t = subst (λ z. TakesElement g.R.Source (g.T.Deserialize.reads (g.C.SerializerConfig.human z) g.R.ReadSlice.lends) c.loop-items.seq c.next_element.new.self c.in-Some.item) e (rw c.in-Some.is at (c.in_ok-item.ensures.some r.read.run.still)) in
     let x = err_from_is_err_and c.from_residual-in_err-insert.result c.from_residual-in_err-insert.ensures.1 in
     let s = values_step g.R.Source _ c.in_ok-seq.seq c.loop-items.seq c.next_element.new.self r.elements c.in-Some.item r.read t c.next_element.ensures.same_reference in
-    rw (x.1, x.2) (seq_unkept g.R.Source (λ (v : BTreeSet g.row.T.Denot Global) ms. (ns : List g.row.T.Denot) × ReadsEach (g.T.Deserialize.reads (g.C.SerializerConfig.human c.args.de.now.config) g.R.ReadSlice.lends) ms ns × (v.keys ≡ insert_keys g.T.Ord.cmp [] ns)) _ c.in_ok-seq.seq c.next_element.new.self s.trees o s.run _ (search rules))
+    rw (x.1, x.2) (seq_unkept g.R.Source (λ (v : BTreeSet g.row.T.Denot Global) ms. (ns : List g.row.T.Denot) × ReadsEach (g.T.Deserialize.reads (g.C.SerializerConfig.human c.args.de.now.config) g.R.ReadSlice.lends) ms ns × CollectsKeys g.T.Ord.cmp ns v.keys) _ c.in_ok-seq.seq c.next_element.new.self s.trees o s.run _ (search rules))
 
 pub loop-items-preserved : goal.loop-items-preserved
 loop-items-preserved g c =
@@ -44,7 +44,7 @@ loop-items-preserved g c =
     let o = c.in_ok-seq.ensures.opened in
     let e = r.read.run.stays.config ∙ o.stays.config in
     let t = subst (λ z. TakesElement g.R.Source (g.T.Deserialize.reads (g.C.SerializerConfig.human z) g.R.ReadSlice.lends) c.loop-items.seq c.next_element.new.self c.in-Some.item) e (rw c.in-Some.is at (c.in_ok-item.ensures.some r.read.run.still)) in
-    keys_step g.R.Source _ _ c.in_ok-seq.seq c.loop-items.seq c.next_element.new.self _ _ c.in-Some.item r t c.next_element.ensures.same_reference c.in_ok-insert.ensures.keys
+    keys_step g.R.Source g.met.T.Ord.total _ c.in_ok-seq.seq c.loop-items.seq c.next_element.new.self _ _ c.in-Some.item r t c.next_element.ensures.same_reference c.in_ok-insert.ensures.keys c.insert.ensures.ordered
 
 pub loop-items-smaller : goal.loop-items-smaller
 loop-items-smaller g c =
@@ -69,5 +69,5 @@ returns g c =
     let r = c.loop-items.invariant in
     let n = at_none c.in_ok-item.field-0 (search rules) (c.in_ok-item.ensures.none r.read.run.still) in
     let e = (c.in_ok-end.ensures.ok (subst IsOpen (sym n.1) r.read.run.still)).1 in
-    seq_done g.R.Source (λ (v : BTreeSet g.row.T.Denot Global) ms. (ns : List g.row.T.Denot) × ReadsEach (g.T.Deserialize.reads (g.C.SerializerConfig.human c.args.de.now.config) g.R.ReadSlice.lends) ms ns × (v.keys ≡ insert_keys g.T.Ord.cmp [] ns)) _ c.in_ok-seq.seq c.loop-items.seq r.read.trees c.in_ok-seq.ensures.opened r.read.run _ _ (r.elements, r.read.values, r.gathered) n.0
+    seq_done g.R.Source (λ (v : BTreeSet g.row.T.Denot Global) ms. (ns : List g.row.T.Denot) × ReadsEach (g.T.Deserialize.reads (g.C.SerializerConfig.human c.args.de.now.config) g.R.ReadSlice.lends) ms ns × CollectsKeys g.T.Ord.cmp ns v.keys) _ c.in_ok-seq.seq c.loop-items.seq r.read.trees c.in_ok-seq.ensures.opened r.read.run _ _ (r.elements, r.read.values, r.gathered) n.0
     (via c.end.new.self.0 (search rules) (e ∙ ap (λ s. record s.de.now { failed = false }) n.1))
