@@ -339,3 +339,22 @@ fn tuples_of_other_sizes(rt: HostRuntime) {
     let read: Result<(u8, u8, u8, u8, u8, u8, bool), Error> = from_slice(rt.alloc(), &input);
     assert!(rt; matches!(&read, Err(Error::LengthMismatch(7))));
 }
+
+#[test]
+fn maps_that_end_too_soon(rt: HostRuntime) {
+    for input in [
+        [0x82u8].as_slice(),
+        &[0x82, 1],
+        &[0x82, 1, 5],
+        &[0x82, 1, 5, 1],
+    ] {
+        let read: Result<BTreeMap<u8, u8>, Error> = from_slice(rt.alloc(), input);
+        assert!(rt; matches!(&read, Err(Error::InvalidMarkerRead(_))));
+    }
+    for input in [[0xdeu8, 0].as_slice(), &[0x81, 0xcc], &[0x81, 1, 0xcd, 0]] {
+        let read: Result<BTreeMap<u8, u8>, Error> = from_slice(rt.alloc(), input);
+        assert!(rt; matches!(&read, Err(Error::InvalidDataRead(_))));
+    }
+    let read: Result<BTreeMap<u8, u8>, Error> = from_slice(rt.alloc(), &[0x81, 0xc1, 0]);
+    assert!(rt; matches!(&read, Err(Error::TypeMismatch(Marker::Reserved))));
+}
