@@ -1,5 +1,5 @@
 -- The same parts give the same bytes.
-use Rattle.std.proofs.Common.{◌≡◌, ℕ, List, Bool, Option, sym, subst}
+use Rattle.std.proofs.Common.{◌≡◌, List, Bool, Option, sym, subst}
 use Rattle.std.specs.Io.KnownBytes.{Appends}
 use Rattle.rmp_wire.specs.declared.sink.Sink.{Ghosts}
 use Rattle.rmp_encode.specs.declared.serializer.Serializer.{Serializer}

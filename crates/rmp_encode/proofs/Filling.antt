@@ -1,6 +1,6 @@
 -- A tuple struct, from what its state says.
-use Rattle.std.proofs.Common.{◌≡◌, ℕ, ◌+◌, List, [], ◌∷◌, length, Bool, true, false, Option, subst}
-use Rattle.std.specs.Prelude.{Result, Ok, Err, OnErr, MatchResult}
+use Rattle.std.proofs.Common.{◌≡◌, ℕ, ◌+◌, List, [], length, Bool, true, false, Option, subst}
+use Rattle.std.specs.Prelude.{Result, Ok, Err, OnErr}
 use Rattle.rmp_wire.specs.declared.sink.Sink.{Ghosts}
 use Rattle.rmp_encode.specs.declared.compound.Compound.{Compound}
 use Rattle.rmp_encode.specs.declared.error.Error.{Error}

@@ -4,7 +4,7 @@ use Rattle.std.specs.List.{flat_map, AllByRecursion}
 use Rattle.std.specs.Option.{option_map}
 use Rattle.rmp_wire.specs.Heads.{fits_head}
 use Rattle.rmp_wire.specs.Msg.{count, count_pairs}
-use Rattle.rmp_wire.specs.Spelling.{Fits, FitsAll, FitsPairs, canon, canon_all, canon_pairs}
+use Rattle.rmp_wire.specs.Spelling.{FitsAll, FitsPairs, canon, canon_all, canon_pairs}
 use Rattle.rmp_encode.specs.declared.settings.Settings.{Settings}
 use Rattle.rmp_encode.specs.Data.{Data, Parts, part, sequence, Entries, entry, mapping, lower, lower_parts, lower_entries}
 use Rattle.rmp_encode.specs.Going.{AreMany, head_at, open_of}

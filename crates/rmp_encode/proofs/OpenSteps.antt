@@ -1,5 +1,5 @@
 -- A list or a map of a known length or an unknown one, from what its state says.
-use Rattle.std.proofs.Common.{◌≡◌, ℕ, ◌+◌, ◌<◌, ◌≤◌, ◌^◌, List, [], ◌∷◌, ◌++◌, length, Bool, true, false, Option, None, Some, refl, sym, ◌∙◌, ap, subst, arith}
+use Rattle.std.proofs.Common.{◌≡◌, ℕ, ◌+◌, ◌<◌, ◌≤◌, ◌^◌, List, [], ◌∷◌, ◌++◌, length, Bool, true, false, Option, None, Some, refl, sym, ◌∙◌, subst, arith}
 use Rattle.std.specs.Borrow.{Bor}
 use Rattle.std.specs.Prelude.{Result, Ok, Err, OnOk, OnErr, IfErr}
 use Rattle.std.specs.declared.vec.Vec.{Vec}
@@ -11,14 +11,13 @@ use Rattle.rmp_encode.specs.declared.error.Error.{Error}
 use Rattle.rmp_encode.specs.declared.error.Error.TheVariants.{InvalidValueWrite, UnknownLength, InvalidDataModel, DepthLimitExceeded, Syntax, OutOfMemory}
 use Rattle.rmp_encode.specs.Data.{Data}
 use Rattle.rmp_encode.specs.Errors.{IsReason}
-use Rattle.rmp_encode.specs.Going.{AreMany, head_at, open_of, IsWritingAt, IsKeepingAt}
-use Rattle.rmp_encode.specs.Opens.{Open, IsLong, IsMapLong, IsPaired, IsGoing, IsOpen, IsMapOpen, IsOpenAt, FailsOpen, FailsMap, Goes, left_of, left_at, owed_at, MayTake, MayEnd}
-use Rattle.rmp_encode.specs.Sizes.{most, size_at}
+use Rattle.rmp_encode.specs.Going.{head_at, open_of, IsWritingAt, IsKeepingAt}
+use Rattle.rmp_encode.specs.Opens.{Open, IsLong, IsMapLong, IsGoing, IsOpenAt, FailsOpen, FailsMap, Goes, left_of, left_at, owed_at, MayTake, MayEnd}
+use Rattle.rmp_encode.specs.Sizes.{most}
 use Rattle.rmp_encode.specs.Ser.{sink_of, settings_of}
 use Rattle.rmp_encode.specs.Trees.{tree_of, sequence_of, mapping_of}
 use Rattle.rmp_encode.specs.Writes.{FailsBy, Keeps, StaysAtRefusal, WritesPart, WritesTree}
-use Rattle.rmp_encode.proofs.Going.{at_opened, at_not_opened, at_too_long, at_goes_ok, at_goes_err, at_closes}
-use Rattle.rmp_encode.proofs.Keeping.{keeping_opened, keeping_ends, keep_ok}
+use Rattle.rmp_encode.proofs.Going.{at_not_opened, at_too_long, at_goes_ok, at_goes_err}
 
 module _ {W C : Type 0} (g : Ghosts W) where
   -- the list wasn't opened

@@ -1,5 +1,5 @@
 -- What the bytes of a whole value are.
-use Rattle.std.proofs.Common.{◌≡◌, ◌≢◌, ℕ, List, [], Bool, true, Option, None, Some, ◌++◌, refl, sym, ◌∙◌, ap, subst}
+use Rattle.std.proofs.Common.{◌≡◌, ℕ, List, [], true, Option, None, Some, ◌++◌, refl, sym, ◌∙◌, ap, subst}
 use Rattle.std.specs.Prelude.{Result, Ok, Err, OnOk}
 use Rattle.rmp_wire.specs.Msg.{Msg}
 use Rattle.rmp_wire.proofs.Spellings.{canon_spells, canon_least}

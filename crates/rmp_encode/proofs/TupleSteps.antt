@@ -1,11 +1,11 @@
 -- A tuple, from what its state says.
-use Rattle.std.proofs.Common.{◌≡◌, ℕ, ◌+◌, ◌<◌, ◌≤◌, ◌^◌, List, [], ◌∷◌, ◌++◌, length, length-append, map, Bool, true, false, Option, None, Some, refl, sym, ◌∙◌, ap, subst, arith, append_assoc, append-nil}
+use Rattle.std.proofs.Common.{◌≡◌, ℕ, ◌+◌, ◌<◌, ◌≤◌, ◌^◌, List, [], ◌∷◌, ◌++◌, length, map, Bool, true, false, Option, None, Some, refl, sym, ◌∙◌, ap, subst, arith, append_assoc, append-nil}
 use Rattle.std.specs.Borrow.{Bor}
 use Rattle.std.specs.Prelude.{Result, Ok, Err, OnErr, MatchResult}
 use Rattle.std.specs.List.{flat_map, AllByRecursion}
 use Rattle.std.specs.declared.vec.Vec.{Vec}
 use Rattle.std.specs.declared.alloc.Global.{Global}
-use Rattle.std.proofs.lemmas.List.{length-map, map-append}
+use Rattle.std.proofs.lemmas.List.{map-append}
 use Rattle.rmp_encode.specs.declared.settings.Settings.{Settings}
 use Rattle.rmp_wire.specs.declared.config.BytesMode.TheVariants.{ForceAll}
 use Rattle.rmp_wire.specs.declared.sink.Sink.{Ghosts}
@@ -13,15 +13,15 @@ use Rattle.rmp_encode.specs.declared.serializer.Serializer.{Serializer}
 use Rattle.rmp_encode.specs.declared.error.Error.{Error}
 use Rattle.rmp_encode.specs.declared.error.Error.TheVariants.{InvalidDataModel, OutOfMemory}
 use Rattle.std.proofs.lemmas.Grind.{flat_map-append}
-use Rattle.rmp_encode.specs.Data.{Data, byte, lower, packs_tuple}
+use Rattle.rmp_encode.specs.Data.{Data, lower, packs_tuple}
 use Rattle.rmp_encode.specs.Trees.{Has, HasTree, a_byte, array_head, byte_of, forces_all, number_head, sequence_of, spell, spelling, tree_of, tuple_of}
 use Rattle.rmp_wire.specs.Msg.{Msg, bin}
 use Rattle.rmp_wire.specs.Heads.{fits_head}
 use Rattle.rmp_encode.specs.Ser.{sink_of, settings_of}
 use Rattle.rmp_encode.specs.Writes.{Keeps, WritesPart, WritesTree}
-use Rattle.rmp_encode.specs.Going.{head_at, open_of, IsWritingAt}
+use Rattle.rmp_encode.specs.Going.{head_at, open_of}
 use Rattle.rmp_encode.specs.Errors.{IsReason}
-use Rattle.rmp_encode.specs.Tuples.{OpenTuple, IsListing, IsProbing, IsTupling, IsTuplingAt, FailsTuple, GoesTuple}
+use Rattle.rmp_encode.specs.Tuples.{OpenTuple, IsListing, IsProbing, IsTupling, IsTuplingAt, FailsTuple}
 use Rattle.rmp_encode.proofs.Parts.{part_as, part_stops, part_nothing, part_refused}
 use Rattle.rmp_encode.proofs.Lists.{list_may, list_can, list_text}
 use Rattle.rmp_encode.proofs.Going.{all_append, all_back, at_opened, at_not_opened, at_goes, at_closes}

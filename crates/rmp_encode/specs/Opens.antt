@@ -21,11 +21,15 @@ abbrev pub Open : Type 0 → Type 0 → Type 0
 Open W C = MaybeUnknownLengthCompound W C (Option (Serializer (Vec ℕ Global) C))
 
 -- the serializer that it writes into, and the reference to it
-abbrev pub inside : {W C : Type 0} → Open W C → Serializer W C
+abbrev pub inside : {W C P : Type 0} → MaybeUnknownLengthCompound W C P → Serializer W C
 inside q = q.se.now
 
 abbrev pub reference : {W C : Type 0} → Open W C → GName
 reference q = q.se.ghost_name
+
+-- how many parts haven't begun where there is no buffer, and how many wait in one
+abbrev pub counted : {W C : Type 0} → Open W C → ℕ
+counted q = q.count
 
 -- how many parts haven't begun, where that is known
 abbrev pub left_at : {B : Type 0} → Option B → ℕ → Option ℕ

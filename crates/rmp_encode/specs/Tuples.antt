@@ -23,7 +23,7 @@ OpenTuple W C = Tuple W C (Option (Vec ℕ Global))
 
 module _ {W C : Type 0} where
   -- the serializer that it writes into, and the reference to it
-  abbrev pub inside : OpenTuple W C → Serializer W C
+  abbrev pub inside : {P : Type 0} → Tuple W C P → Serializer W C
   inside q = q.se.now
 
   abbrev pub reference : OpenTuple W C → GName

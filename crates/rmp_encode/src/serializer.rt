@@ -171,6 +171,11 @@ impl<W: Sink, C: SerializerConfig> Serializer<W, C> {
         self.with_readable(false)
     }
 
+    /// Changes nothing: writing has no limit on nesting.
+    pub fn unstable_set_max_depth(&mut self, _depth: usize)
+        ensures { self.new ≡ self.old }
+    {}
+
     // The same settings over another sink.
     pub(crate) fn over<V>(&self, wr: V) -> Serializer<V, C>
         ensures sink { sink_of result ≡ wr }

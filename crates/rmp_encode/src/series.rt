@@ -26,8 +26,10 @@ pub struct MaybeUnknownLengthCompound<'a, W, C, P = Option<Serializer<Vec<u8>, C
 }
 
 impl<W, C, P: Drop> Drop for MaybeUnknownLengthCompound<'_, W, C, P> {
+    ghost use Rattle.rmp_encode.specs.Opens.{inside};
+
     fn drop(self)
-        ensures { self.exit.0.now ≡ self.entry.se.now }
+        ensures { self.exit.0.now ≡ inside self.entry }
     {
         let MaybeUnknownLengthCompound {
             se: _,
@@ -151,7 +153,7 @@ impl<W: Sink, C: SerializerConfig> Serializer<W, C> {
 }
 
 impl<'a, W: Sink, C: SerializerConfig> MaybeUnknownLengthCompound<'a, W, C> {
-    ghost use Rattle.rmp_encode.specs.Opens.{inside, reference, left_of, not_begun, is_map, owed, owed_at, one_less, MayTake, MayEnd, Goes, GoesOn, GoesOnMap, EndsList, EndsMap, Stays};
+    ghost use Rattle.rmp_encode.specs.Opens.{inside, reference, counted, left_of, not_begun, is_map, owed, owed_at, one_less, MayTake, MayEnd, Goes, GoesOn, GoesOnMap, EndsList, EndsMap, Stays};
 
     // Writes a part, or keeps it.
     #[inline(always)]
@@ -160,7 +162,7 @@ impl<'a, W: Sink, C: SerializerConfig> MaybeUnknownLengthCompound<'a, W, C> {
         ensures same_reference { reference self.new ≡ reference self.old }
         ensures left { left_of self.new ≡ one_less (left_of self.old) }
         ensures kind { is_map self.new ≡ is_map self.old }
-        ensures turn { OnOk result (owed_at true self.old.count + owed_at true self.new.count ≡ 1) }
+        ensures turn { OnOk result (owed_at true (counted self.old) + owed_at true (counted self.new) ≡ 1) }
         ensures writes { (pairs : Bool) → Goes W.Sink pairs (λ s. T.data_of value.now s.human) self.old self.new result }
         ensures stays { Stays (left_of self.old) (inside self.old) (inside self.new) }
         ensures keeps { Keeps W.Sink (inside self.old) (inside self.new) }

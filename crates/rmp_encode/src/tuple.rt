@@ -27,7 +27,7 @@ pub struct Tuple<'a, W, C, P = Option<Vec<u8>>> {
 
 impl<W, C, P: Drop> Drop for Tuple<'_, W, C, P> {
     fn drop(self)
-        ensures { self.exit.0.now ≡ self.entry.se.now }
+        ensures { self.exit.0.now ≡ inside self.entry }
     {
         let Tuple {
             se: _,

@@ -51,6 +51,7 @@ fn settings(rt: HostRuntime) -> Result<(), Fail> {
 #[test]
 fn sinks(rt: HostRuntime) -> Result<(), Fail> {
     let mut se = Serializer::new(rt.alloc(), Vec::new(rt.alloc()));
+    se.unstable_set_max_depth(1);
     se.serialize_unit()?;
     UnderlyingWrite::get_mut(&mut se).push(7)?;
     assert_eq!(rt;

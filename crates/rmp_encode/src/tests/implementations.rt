@@ -195,3 +195,25 @@ fn unknown_lengths_of_items(rt: HostRuntime) -> Result<(), Fail> {
     assert!(rt; is_forced(&rt, BytesMode::ForceAll, &nested, b"\x92\x91\x01\x90")?);
     Ok(())
 }
+
+#[test]
+fn unknown_lengths_in_one_another(rt: HostRuntime) -> Result<(), Fail> {
+    let pairs = Uncounted(vec![in rt.alloc(); (1u8, 200u8)]?);
+    let mut inner = BTreeMap::new(rt.alloc());
+    inner.insert("b", pairs)?;
+    let maps = Uncounted(vec![in rt.alloc(); inner]?);
+    let mut se = Serializer::new(rt.alloc(), Vec::new(rt.alloc())).with_bytes(BytesMode::ForceAll);
+    let mut map = se.serialize_map(None)?;
+    map.serialize_key(&"a")?;
+    map.serialize_value(&maps)?;
+    map.serialize_key(&"c")?;
+    map.serialize_value(&1u8)?;
+    map.end()?;
+    let empty = se.serialize_map(None)?;
+    empty.end()?;
+    assert_eq!(rt;
+        se.into_inner().as_slice(),
+        b"\x82\xa1a\x91\x81\xa1b\x91\xc4\x02\x01\xc8\xa1c\x01\x80".as_slice()
+    );
+    Ok(())
+}

@@ -1,4 +1,4 @@
-use Rattle.std.proofs.Common.{refl, arith, rules, sym, ◌∙◌, ap, map, All}
+use Rattle.std.proofs.Common.{rules, sym, ◌∙◌, map, All}
 use Rattle.std.proofs.lemmas.List.{length-map}
 use Rattle.rmp_encode.specs.Ser.{settings_of}
 use Rattle.rmp_encode.proofs.Packing.{slice_mode, slice_empty, slice_plain_by, slice_tree, probed_none, probed_some, bytes_more}

@@ -1,6 +1,5 @@
-use Rattle.std.proofs.Common.{rules, arith, sym, ◌∙◌, subst, All}
+use Rattle.std.proofs.Common.{rules, arith, sym, ◌∙◌, subst}
 use Rattle.std.proofs.lemmas.List.Elements.{All-more}
-use Rattle.std.proofs.lemmas.List.{take_all}
 use Rattle.rmp_encode.proofs.Packing.{one_isnt, one_is}
 use Rattle.rmp_encode.proofs.serializer.Serializer.probe.Goals as goal
 

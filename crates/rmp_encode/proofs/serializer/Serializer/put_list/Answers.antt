@@ -1,4 +1,4 @@
-use Rattle.std.proofs.Common.{rules, ◌∙◌, arith}
+use Rattle.std.proofs.Common.{rules, ◌∙◌}
 use Rattle.std.proofs.lemmas.List.{length-map}
 use Rattle.rmp_encode.proofs.serializer.Serializer.put_list.Goals as goal
 

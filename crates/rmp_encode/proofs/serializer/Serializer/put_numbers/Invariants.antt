@@ -1,4 +1,4 @@
-use Rattle.std.proofs.Common.{◌≡◌, ◌≤◌, take, length}
+use Rattle.std.proofs.Common.{◌≤◌, take, length}
 use Rattle.std.specs.List.{flat_map}
 use Rattle.rmp_encode.specs.Trees.{number_head}
 use Rattle.rmp_encode.specs.Ser.{sink_of}

@@ -1,6 +1,6 @@
-use Rattle.std.proofs.Common.{rules, arith, refl, subst, sym, ap, inl, false}
+use Rattle.std.proofs.Common.{rules, arith, refl, subst, sym, inl, false}
 use Rattle.std.proofs.lemmas.Result.{err_from_is_err_and}
-use Rattle.rmp_encode.specs.Opens.{IsLong, IsPaired, twice}
+use Rattle.rmp_encode.specs.Opens.{IsLong}
 use Rattle.rmp_encode.proofs.Going.{at_opened}
 use Rattle.rmp_encode.proofs.Keeping.{keeping_opened}
 use Rattle.rmp_encode.proofs.OpenSteps.{list_too_long, list_not_opened, never_refused}

@@ -1,4 +1,4 @@
-use Rattle.std.proofs.Common.{◌<◌, refl, arith, rules, true, false, sym}
+use Rattle.std.proofs.Common.{◌<◌, rules, true, false}
 use Rattle.std.proofs.lemmas.Result.{err_from_is_err_and}
 use Rattle.rmp_encode.specs.Going.{open_of}
 use Rattle.rmp_encode.specs.Sizes.{most, size_at}

@@ -1,4 +1,4 @@
-use Rattle.std.proofs.Common.{◌≡◌, ◌≤◌, ◌+◌, refl, arith, rules, subst, inl}
+use Rattle.std.proofs.Common.{◌≤◌, ◌+◌, refl, arith, rules, subst, inl}
 use Rattle.std.proofs.lemmas.Result.{err_from_is_err_and}
 use Rattle.rmp_encode.specs.Sizes.{most}
 use Rattle.rmp_encode.proofs.Keeping.{too_many, keep_err, keep_ok}

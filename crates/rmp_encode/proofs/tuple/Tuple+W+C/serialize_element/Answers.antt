@@ -3,7 +3,7 @@ use Rattle.std.proofs.lemmas.Result.{err_from_is_err_and}
 use Rattle.rmp_encode.specs.Trees.{byte_of}
 use Rattle.rmp_encode.proofs.Parts.{part_then, part_stops}
 use Rattle.rmp_encode.proofs.Going.{keeps_then}
-use Rattle.rmp_encode.proofs.TupleSteps.{probe_more, probe_full, spilled, not_spilled, tuple_goes, list_state, probe_state}
+use Rattle.rmp_encode.proofs.TupleSteps.{probe_more, spilled, not_spilled, tuple_goes, list_state, probe_state}
 use Rattle.rmp_encode.proofs.tuple.Tuple+W+C.serialize_element.Goals as goal
 
 pub returns-in_default-clause-writes : goal.returns-in_default-clause-writes

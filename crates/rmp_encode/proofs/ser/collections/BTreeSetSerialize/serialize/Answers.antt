@@ -1,4 +1,4 @@
-use Rattle.std.proofs.Common.{◌≡◌, [], rules, arith, refl, sym, ◌∙◌, ap, subst, map, All}
+use Rattle.std.proofs.Common.{rules, refl, sym, ◌∙◌, ap, subst, map, All}
 use Rattle.std.proofs.lemmas.List.{length-map}
 use Rattle.std.proofs.lemmas.List.Elements.{All-nil, All-cons}
 use Rattle.std.proofs.lemmas.Result.{err_from_is_err_and}
