@@ -17,6 +17,8 @@ pub loop-value-init : goal.loop-value-init
 loop-value-init g c = record {
   same = refl;
   within = omega arith;
+  kind = c.in_ok-seq.ensures.kind;
+  owed = c.in_ok-seq.ensures.owed;
   writing = c.in_ok-seq.ensures.opened _ tt;
   keeps = c.in_ok-seq.ensures.keeps;
   values = search rules;
@@ -25,7 +27,7 @@ loop-value-init g c = record {
 pub serialize_element-requires : goal.serialize_element-requires
 serialize_element-requires g c =
     let rest = map_rest (λ x. g.T.Serialize.data_of x (settings_of c.args.se.now).human) c.args.values.now c.loop-value.value-index c.value-item.result c.loop-value-test.true c.value-item.is in
-    takes g.W.Sink (still_open g.W.Sink rest c.loop-value.invariant.writing)
+    record { kind = c.loop-value.invariant.kind; room = takes g.W.Sink (still_open g.W.Sink rest c.loop-value.invariant.writing) }
 
 pub loop-value-preserved : goal.loop-value-preserved
 loop-value-preserved g c =
@@ -33,6 +35,8 @@ loop-value-preserved g c =
     record {
       same = c.serialize_element.ensures.same_reference ∙ c.loop-value.invariant.same;
       within = omega arith;
+      kind = c.serialize_element.ensures.kind;
+      owed = c.serialize_element.ensures.owed;
       writing = c.in_ok-serialize_element.ensures.writes c.args.se.now _ _ (still_open g.W.Sink rest c.loop-value.invariant.writing);
       keeps = keeps_then g.W.Sink c.loop-value.invariant.keeps c.serialize_element.ensures.keeps;
       values = All-more g.T.Serialize.is_value _ _ c.value-item.result c.loop-value-test.true c.loop-value.invariant.values (subst g.T.Serialize.is_value c.value-item.is c.in_ok-serialize_element.ensures.value);
@@ -50,7 +54,7 @@ returns-in_err-serialize_element-clause-keeps g c = keeps_last g.W.Sink (search 
 pub end-requires : goal.end-requires
 end-requires g c =
     let rest = map_rest_none (λ x. g.T.Serialize.data_of x (settings_of c.args.se.now).human) c.args.values.now c.loop-value.value-index c.loop-value-test.false in
-    ends g.W.Sink (still_open g.W.Sink rest c.loop-value.invariant.writing)
+    record { turn = c.loop-value.invariant.owed; whole = ends g.W.Sink (still_open g.W.Sink rest c.loop-value.invariant.writing) }
 
 pub returns-clause-writes : goal.returns-clause-writes
 returns-clause-writes g c =

@@ -19,13 +19,15 @@ loop-key-init g c =
     let all = c.into_iter-key-iterator.ensures.into_iter_gives.0 in
     record {
       same = refl;
+      kind = c.in_ok-map.ensures.kind;
+      owed = c.in_ok-map.ensures.owed;
       writing = still_open g.W.Sink (ap (in_turn (λ k. g.K.Serialize.data_of k (settings_of c.args.se.now).human) (λ x. g.V.Serialize.data_of x (settings_of c.args.se.now).human)) (sym all)) (c.in_ok-map.ensures.opened _ (record { size = length c.args.self.now.entries.entries; many = length-in_turn (λ k. g.K.Serialize.data_of k (settings_of c.args.se.now).human) (λ x. g.V.Serialize.data_of x (settings_of c.args.se.now).human) c.args.self.now.entries.entries _ refl }));
       keeps = c.in_ok-map.ensures.keeps;
       values = λ h. subst (All (λ e. g.K.Serialize.is_value e.0 × g.V.Serialize.is_value e.1)) all h;
     }
 
 pub serialize_key-requires : goal.serialize_key-requires
-serialize_key-requires g c = takes g.W.Sink (still_open g.W.Sink (ap (in_turn (λ k. g.K.Serialize.data_of k (settings_of c.args.se.now).human) (λ x. g.V.Serialize.data_of x (settings_of c.args.se.now).human)) c.in-Some.ensures.steps) c.loop-key.invariant.writing)
+serialize_key-requires g c = record { kind = c.loop-key.invariant.kind; turn = c.loop-key.invariant.owed; room = takes g.W.Sink (still_open g.W.Sink (ap (in_turn (λ k. g.K.Serialize.data_of k (settings_of c.args.se.now).human) (λ x. g.V.Serialize.data_of x (settings_of c.args.se.now).human)) c.in-Some.ensures.steps) c.loop-key.invariant.writing) }
 
 pub returns-in_err-serialize_key-clause-writes : goal.returns-in_err-serialize_key-clause-writes
 returns-in_err-serialize_key-clause-writes g c =
@@ -36,7 +38,7 @@ pub returns-in_err-serialize_key-clause-keeps : goal.returns-in_err-serialize_ke
 returns-in_err-serialize_key-clause-keeps g c = keeps_last g.W.Sink (search rules) (keeps_then g.W.Sink c.loop-key.invariant.keeps c.serialize_key.ensures.keeps)
 
 pub serialize_value-requires : goal.serialize_value-requires
-serialize_value-requires g c = takes g.W.Sink (c.in_ok-serialize_key.ensures.writes c.args.se.now _ _ (still_open g.W.Sink (ap (in_turn (λ k. g.K.Serialize.data_of k (settings_of c.args.se.now).human) (λ x. g.V.Serialize.data_of x (settings_of c.args.se.now).human)) c.in-Some.ensures.steps) c.loop-key.invariant.writing))
+serialize_value-requires g c = record { kind = c.serialize_key.ensures.kind; turn = c.in_ok-serialize_key.ensures.owed }
 
 pub returns-in_err-serialize_value-clause-writes : goal.returns-in_err-serialize_value-clause-writes
 returns-in_err-serialize_value-clause-writes g c =
@@ -49,13 +51,15 @@ returns-in_err-serialize_value-clause-keeps g c = keeps_last g.W.Sink (search ru
 pub loop-key-preserved : goal.loop-key-preserved
 loop-key-preserved g c = record {
   same = c.serialize_value.ensures.same_reference ∙ c.serialize_key.ensures.same_reference ∙ c.loop-key.invariant.same;
+  kind = c.serialize_value.ensures.kind;
+  owed = c.in_ok-serialize_value.ensures.owed;
   writing = c.in_ok-serialize_value.ensures.writes c.args.se.now _ _ (c.in_ok-serialize_key.ensures.writes c.args.se.now _ _ (still_open g.W.Sink (ap (in_turn (λ k. g.K.Serialize.data_of k (settings_of c.args.se.now).human) (λ x. g.V.Serialize.data_of x (settings_of c.args.se.now).human)) c.in-Some.ensures.steps) c.loop-key.invariant.writing));
   keeps = keeps_then g.W.Sink (keeps_then g.W.Sink c.loop-key.invariant.keeps c.serialize_key.ensures.keeps) c.serialize_value.ensures.keeps;
   values = λ h. c.loop-key.invariant.values (subst (All (λ e. g.K.Serialize.is_value e.0 × g.V.Serialize.is_value e.1)) (sym c.in-Some.ensures.steps) (All-cons (λ e. g.K.Serialize.is_value e.0 × g.V.Serialize.is_value e.1) (c.in-Some.key.now, c.in-Some.value.now) _ (c.in_ok-serialize_key.ensures.value, c.in_ok-serialize_value.ensures.value) h));
 }
 
 pub end-requires : goal.end-requires
-end-requires g c = ends g.W.Sink (still_open g.W.Sink (ap (in_turn (λ k. g.K.Serialize.data_of k (settings_of c.args.se.now).human) (λ x. g.V.Serialize.data_of x (settings_of c.args.se.now).human)) c.in-None.ensures.steps.0) c.loop-key.invariant.writing)
+end-requires g c = record { turn = c.loop-key.invariant.owed; whole = ends g.W.Sink (still_open g.W.Sink (ap (in_turn (λ k. g.K.Serialize.data_of k (settings_of c.args.se.now).human) (λ x. g.V.Serialize.data_of x (settings_of c.args.se.now).human)) c.in-None.ensures.steps.0) c.loop-key.invariant.writing) }
 
 pub returns-clause-writes : goal.returns-clause-writes
 returns-clause-writes g c = part_memory g.W.Sink (rests_at g.W.Sink (search rules) (c.end.ensures.writes_map c.args.se.now _ (still_open g.W.Sink (ap (in_turn (λ k. g.K.Serialize.data_of k (settings_of c.args.se.now).human) (λ x. g.V.Serialize.data_of x (settings_of c.args.se.now).human)) c.in-None.ensures.steps.0) c.loop-key.invariant.writing)))
