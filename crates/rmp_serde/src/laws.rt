@@ -15,6 +15,8 @@ ghost use Rattle.rmp_encode.specs.declared.error.Error.TheVariants as errors;
 ghost use Rattle.rmp_encode.specs.declared.settings.Settings.{Settings};
 ghost use Rattle.rmp_serde.specs.ValueData.{value_data};
 
+pub use rmp_encode::laws::known_and_unknown_lengths;
+
 /// No head begins a different head: where two stand at the beginning of one input, they are the same.
 pub fn no_head_begins_another()
     ensures { (h k : Head) (a b x y : List ℕ) → IsHead h a → IsHead k b → a ++ x ≡ b ++ y → (h ≡ k) × (a ≡ b) × (x ≡ y) }
