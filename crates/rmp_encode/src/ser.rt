@@ -1,5 +1,6 @@
 //! What can be written.
-ghost use Rattle.std.specs.Prelude.{◌≡◌, Bool, true, Option, OnOk, OnSome};
+ghost use Rattle.std.specs.Prelude.{◌≡◌, ◌||◌, Bool, true, Option, OnOk, OnSome};
+ghost use Rattle.rmp_encode.specs.declared.settings.Settings.{Settings};
 ghost use Rattle.rmp_encode.specs.Data.{Data};
 ghost use Rattle.rmp_encode.specs.Trees.{tree_of, byte_of};
 ghost use Rattle.rmp_encode.specs.Ser.{sink_of, settings_of};
@@ -26,12 +27,15 @@ pub trait Serialize {
     // What is known of a value of the type.
     ghost is_value: { Self → Type 0 };
 
+    // Whether writing a value of the type may take memory under these settings, whatever the sink takes.
+    ghost takes_memory: { Settings → Bool } = { λ _. true };
+
     /// Writes the value.
     fn serialize<W: Sink, C: SerializerConfig>(
         &self,
         se: &mut Serializer<W, C>,
     ) -> Result<(), Error>
-        ensures writes { WritesTree W.Sink true (tree_of (settings_of se.old) (data_of self.now (settings_of se.old).human)) (sink_of se.old) (sink_of se.new) result }
+        ensures writes { WritesTree W.Sink (takes_memory (settings_of se.old) || W.takes_memory) (tree_of (settings_of se.old) (data_of self.now (settings_of se.old).human)) (sink_of se.old) (sink_of se.new) result }
         ensures keeps { Keeps W.Sink se.old se.new }
         ensures value { OnOk result (is_value self.now) };
 

@@ -1,5 +1,5 @@
 //! Whole values, into a sink or into a vector.
-ghost use Rattle.std.specs.Prelude.{◌≡◌, true, false, OnOk, IfOk, IfErr};
+ghost use Rattle.std.specs.Prelude.{◌≡◌, ◌||◌, true, false, OnOk, IfOk, IfErr};
 ghost use Rattle.rmp_encode.specs.Calls.{default_settings, named_settings, IsSpelled, ToVecFails};
 ghost use Rattle.rmp_encode.specs.Trees.{tree_of, spell};
 ghost use Rattle.rmp_encode.specs.Writes.{WritesTree};
@@ -14,7 +14,7 @@ use std::alloc::Global;
 ///
 /// At an error the sink holds what it held before, and behind it a beginning of the spelling, if there is one.
 pub fn write<W: Sink, T: Serialize>(alloc: Global, wr: &mut W, value: &T) -> Result<(), Error>
-    ensures writes { WritesTree W.Sink true (tree_of default_settings (T.data_of value.now false)) wr.old wr.new result }
+    ensures writes { WritesTree W.Sink (T.takes_memory default_settings || W.takes_memory) (tree_of default_settings (T.data_of value.now false)) wr.old wr.new result }
     ensures spelled { OnOk result (IsSpelled (tree_of default_settings (T.data_of value.now false)) (spell (tree_of default_settings (T.data_of value.now false)))) }
     ensures place { W.place wr.new ≡ W.place wr.old }
     ensures value { OnOk result (T.is_value value.now) }
@@ -25,7 +25,7 @@ pub fn write<W: Sink, T: Serialize>(alloc: Global, wr: &mut W, value: &T) -> Res
 
 /// Writes a value into a sink. Structs are maps from the names of their fields.
 pub fn write_named<W: Sink, T: Serialize>(alloc: Global, wr: &mut W, value: &T) -> Result<(), Error>
-    ensures writes { WritesTree W.Sink true (tree_of named_settings (T.data_of value.now false)) wr.old wr.new result }
+    ensures writes { WritesTree W.Sink (T.takes_memory named_settings || W.takes_memory) (tree_of named_settings (T.data_of value.now false)) wr.old wr.new result }
     ensures spelled { OnOk result (IsSpelled (tree_of named_settings (T.data_of value.now false)) (spell (tree_of named_settings (T.data_of value.now false)))) }
     ensures place { W.place wr.new ≡ W.place wr.old }
     ensures value { OnOk result (T.is_value value.now) }

@@ -1,7 +1,7 @@
 //! Bytes, the bits of floats, and extensions.
 #![tactic(auto, unfolding(crate::specs::Data::lower), using(crate::proofs::Parts::part_memory))]
 
-ghost use Rattle.std.specs.Prelude.{◌<◌, ◌^◌, Some};
+ghost use Rattle.std.specs.Prelude.{◌<◌, ◌^◌, Some, false};
 ghost use Rattle.rmp_wire.specs.Types.{bytes_of, buffer_bytes, tag_of, ext_bytes};
 ghost use Rattle.rmp_encode.specs.Data.{bytes, extension, float32, float64};
 
@@ -15,6 +15,8 @@ impl Serialize for F32Bits {
     ghost data_of = { λ v _. Some (float32 v.0) };
 
     ghost is_value = { λ v. v.0 < 2 ^ 32 };
+
+    ghost takes_memory = { λ _. false };
 
     #[inline(always)]
     fn serialize<W: Sink, C: SerializerConfig>(
@@ -35,6 +37,8 @@ impl Serialize for F64Bits {
 
     ghost is_value = { λ v. v.0 < 2 ^ 64 };
 
+    ghost takes_memory = { λ _. false };
+
     #[inline(always)]
     fn serialize<W: Sink, C: SerializerConfig>(
         &self,
@@ -53,6 +57,8 @@ impl Serialize for Bytes<'_> {
     ghost data_of = { λ v _. Some (bytes (bytes_of v)) };
 
     ghost is_value = { λ v. Unit {0} };
+
+    ghost takes_memory = { λ _. false };
 
     #[inline(always)]
     fn serialize<W: Sink, C: SerializerConfig>(
@@ -73,6 +79,8 @@ impl Serialize for ByteBuf {
 
     ghost is_value = { λ v. Unit {0} };
 
+    ghost takes_memory = { λ _. false };
+
     #[inline(always)]
     fn serialize<W: Sink, C: SerializerConfig>(
         &self,
@@ -91,6 +99,8 @@ impl Serialize for Ext {
     ghost data_of = { λ v _. Some (extension (tag_of v) (ext_bytes v)) };
 
     ghost is_value = { λ v. Unit {0} };
+
+    ghost takes_memory = { λ _. false };
 
     #[inline(always)]
     fn serialize<W: Sink, C: SerializerConfig>(

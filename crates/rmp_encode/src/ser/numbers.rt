@@ -1,7 +1,7 @@
 //! Truth values and numbers.
 #![tactic(auto, unfolding(crate::specs::Data::lower), using(crate::proofs::Parts::part_memory))]
 
-ghost use Rattle.std.specs.Prelude.{◌<◌, ◌^◌, Some, pos, FitsSigned};
+ghost use Rattle.std.specs.Prelude.{◌<◌, ◌^◌, Some, pos, FitsSigned, false};
 ghost use Rattle.std.specs.Int.{w8, w16, w32, w64};
 ghost use Rattle.rmp_encode.specs.Data.{byte, truth, whole, unit};
 
@@ -15,6 +15,8 @@ impl Serialize for () {
     ghost data_of = { λ v _. Some (unit) };
 
     ghost is_value = { λ v. Unit {0} };
+
+    ghost takes_memory = { λ _. false };
 
     #[inline(always)]
     fn serialize<W: Sink, C: SerializerConfig>(
@@ -35,6 +37,8 @@ impl Serialize for bool {
 
     ghost is_value = { λ v. Unit {0} };
 
+    ghost takes_memory = { λ _. false };
+
     #[inline(always)]
     fn serialize<W: Sink, C: SerializerConfig>(
         &self,
@@ -53,6 +57,8 @@ impl Serialize for u8 {
     ghost data_of = { λ v _. Some (byte v) };
 
     ghost is_value = { λ v. v < 2 ^ 8 };
+
+    ghost takes_memory = { λ _. false };
 
     #[inline(always)]
     fn serialize<W: Sink, C: SerializerConfig>(
@@ -73,6 +79,8 @@ impl Serialize for u16 {
 
     ghost is_value = { λ v. v < 2 ^ 16 };
 
+    ghost takes_memory = { λ _. false };
+
     #[inline(always)]
     fn serialize<W: Sink, C: SerializerConfig>(
         &self,
@@ -91,6 +99,8 @@ impl Serialize for u32 {
     ghost data_of = { λ v _. Some (whole (pos v)) };
 
     ghost is_value = { λ v. v < 2 ^ 32 };
+
+    ghost takes_memory = { λ _. false };
 
     #[inline(always)]
     fn serialize<W: Sink, C: SerializerConfig>(
@@ -111,6 +121,8 @@ impl Serialize for u64 {
 
     ghost is_value = { λ v. v < 2 ^ 64 };
 
+    ghost takes_memory = { λ _. false };
+
     #[inline(always)]
     fn serialize<W: Sink, C: SerializerConfig>(
         &self,
@@ -129,6 +141,8 @@ impl Serialize for usize {
     ghost data_of = { λ v _. Some (whole (pos v)) };
 
     ghost is_value = { λ v. v < 2 ^ 64 };
+
+    ghost takes_memory = { λ _. false };
 
     #[inline(always)]
     fn serialize<W: Sink, C: SerializerConfig>(
@@ -149,6 +163,8 @@ impl Serialize for i8 {
 
     ghost is_value = { λ v. FitsSigned w8 v };
 
+    ghost takes_memory = { λ _. false };
+
     #[inline(always)]
     fn serialize<W: Sink, C: SerializerConfig>(
         &self,
@@ -167,6 +183,8 @@ impl Serialize for i16 {
     ghost data_of = { λ v _. Some (whole v) };
 
     ghost is_value = { λ v. FitsSigned w16 v };
+
+    ghost takes_memory = { λ _. false };
 
     #[inline(always)]
     fn serialize<W: Sink, C: SerializerConfig>(
@@ -187,6 +205,8 @@ impl Serialize for i32 {
 
     ghost is_value = { λ v. FitsSigned w32 v };
 
+    ghost takes_memory = { λ _. false };
+
     #[inline(always)]
     fn serialize<W: Sink, C: SerializerConfig>(
         &self,
@@ -206,6 +226,8 @@ impl Serialize for i64 {
 
     ghost is_value = { λ v. FitsSigned w64 v };
 
+    ghost takes_memory = { λ _. false };
+
     #[inline(always)]
     fn serialize<W: Sink, C: SerializerConfig>(
         &self,
@@ -224,6 +246,8 @@ impl Serialize for isize {
     ghost data_of = { λ v _. Some (whole v) };
 
     ghost is_value = { λ v. FitsSigned w64 v };
+
+    ghost takes_memory = { λ _. false };
 
     #[inline(always)]
     fn serialize<W: Sink, C: SerializerConfig>(

@@ -10,6 +10,8 @@ impl<T: Serialize> Serialize for &T {
 
     ghost is_value = { λ v. T.is_value v.now };
 
+    ghost takes_memory = { T.takes_memory };
+
     #[inline(always)]
     fn serialize<W: Sink, C: SerializerConfig>(
         &self,
@@ -28,6 +30,8 @@ impl<T: Serialize> Serialize for Box<T> {
     ghost data_of = { λ v human. T.data_of v.value human };
 
     ghost is_value = { λ v. T.is_value v.value };
+
+    ghost takes_memory = { T.takes_memory };
 
     #[inline(always)]
     fn serialize<W: Sink, C: SerializerConfig>(

@@ -1,7 +1,7 @@
 //! Characters and texts.
 #![tactic(auto, unfolding(crate::specs::Data::lower), using(crate::proofs::Parts::part_memory))]
 
-ghost use Rattle.std.specs.Prelude.{Some, IsUtf8, string_bytes};
+ghost use Rattle.std.specs.Prelude.{Some, IsUtf8, string_bytes, false};
 ghost use Rattle.std.specs.Char.{IsScalar};
 ghost use Rattle.rmp_encode.specs.Data.{char, text};
 
@@ -15,6 +15,8 @@ impl Serialize for char {
     ghost data_of = { λ v _. Some (char v) };
 
     ghost is_value = { IsScalar };
+
+    ghost takes_memory = { λ _. false };
 
     #[inline(always)]
     fn serialize<W: Sink, C: SerializerConfig>(
@@ -35,6 +37,8 @@ impl Serialize for String {
 
     ghost is_value = { λ v. IsUtf8 (string_bytes v) };
 
+    ghost takes_memory = { λ _. false };
+
     #[inline(always)]
     fn serialize<W: Sink, C: SerializerConfig>(
         &self,
@@ -53,6 +57,8 @@ impl Serialize for &str {
     ghost data_of = { λ v _. Some (text v.now) };
 
     ghost is_value = { λ v. IsUtf8 v.now };
+
+    ghost takes_memory = { λ _. false };
 
     #[inline(always)]
     fn serialize<W: Sink, C: SerializerConfig>(

@@ -1,13 +1,13 @@
 use Rattle.std.proofs.Common.{refl, arith, rules, sym, ◌∙◌, ap}
 use Rattle.std.proofs.lemmas.Result.{err_from_is_err_and}
 use Rattle.rmp_encode.specs.Trees.{byte_of}
-use Rattle.rmp_encode.proofs.Parts.{part_then, part_stops}
+use Rattle.rmp_encode.proofs.Parts.{part_then, part_stops, part_memory}
 use Rattle.rmp_encode.proofs.Going.{keeps_then}
 use Rattle.rmp_encode.proofs.TupleSteps.{probe_more, spilled, not_spilled, tuple_goes, list_state, probe_state}
 use Rattle.rmp_encode.proofs.tuple.Tuple+W+C.serialize_element.Goals as goal
 
 pub returns-in_default-clause-writes : goal.returns-in_default-clause-writes
-returns-in_default-clause-writes g c = λ old all rest h. tuple_goes g.W.Sink (λ s. g.T.Serialize.data_of c.args.value.now s.human) c.args.self.now.left c.args.self.now.se.now _ c.serialize.result c.in_default.is (omega arith) c.serialize.ensures.keeps c.serialize.ensures.writes old all rest (list_state g.W.Sink c.in_default.is h)
+returns-in_default-clause-writes g c = λ old all rest h. tuple_goes g.W.Sink (λ s. g.T.Serialize.data_of c.args.value.now s.human) c.args.self.now.left c.args.self.now.se.now _ c.serialize.result c.in_default.is (omega arith) c.serialize.ensures.keeps (part_memory g.W.Sink c.serialize.ensures.writes) old all rest (list_state g.W.Sink c.in_default.is h)
 
 pub returns-in-Ok-clause-writes : goal.returns-in-Ok-clause-writes
 returns-in-Ok-clause-writes g c =
@@ -29,5 +29,5 @@ returns-in_err-put_numbers-clause-writes g c =
 pub returns-clause-writes : goal.returns-clause-writes
 returns-clause-writes g c =
     let isnt = sym (c.as_u8.ensures.byte ∙ ap (λ h. byte_of (g.T.Serialize.data_of c.args.value.now h)) c.is_human_readable.ensures) ∙ c.in_default-as_u8.is in
-    λ old all rest h. tuple_goes g.W.Sink (λ s. g.T.Serialize.data_of c.args.value.now s.human) c.args.self.now.left c.put_numbers.new.self _ c.serialize-2.result refl (omega arith) c.serialize-2.ensures.keeps c.serialize-2.ensures.writes old all rest
+    λ old all rest h. tuple_goes g.W.Sink (λ s. g.T.Serialize.data_of c.args.value.now s.human) c.args.self.now.left c.put_numbers.new.self _ c.serialize-2.result refl (omega arith) c.serialize-2.ensures.keeps (part_memory g.W.Sink c.serialize-2.ensures.writes) old all rest
     (spilled g.W.Sink (λ s. g.T.Serialize.data_of c.args.value.now s.human) c.in-Some.kept.items _ c.args.self.now.left c.args.self.now.se.now c.put_numbers.new.self _ isnt (keeps_then g.W.Sink c.put_head.ensures.keeps c.put_numbers.ensures.keeps) (part_then g.W.Sink c.in_ok-put_head.ensures.writes (rw c.as_slice.ensures.value at c.in_ok-put_numbers.ensures.writes)) old all rest (probe_state g.W.Sink c.in-Some.kept c.in-Some.is h))
