@@ -4,6 +4,8 @@
 pub mod decode;
 pub mod encode;
 pub mod laws;
+#[cfg(test)]
+mod own_type;
 mod value;
 
 pub use decode::from_slice;
