@@ -90,23 +90,23 @@ value_no_byte (map ps) = refl
 value_no_byte (extension tag t) = refl
 
 -- why a write stopped, as an error of a serializer
-fails_by : (m : Bool) (P : Type 0) (old new : ℕ) (part : List ℕ) (e : ValueWriteError) → StopsWithin m old new part e → FailsBy true P old new (error_of e)
+fails_by : (m : Bool) (P : Type 0) (old new : ℕ) (part : List ℕ) (e : ValueWriteError) → StopsWithin m old new part e → FailsBy m P old new (error_of e)
 fails_by m P old new part (wire.InvalidMarkerWrite fault) c = next_differs old new c
 fails_by m P old new part (wire.InvalidDataWrite fault) c = next_differs old new c.1
-fails_by m P old new part wire.OutOfMemory c = (refl, c.0)
+fails_by m P old new part wire.OutOfMemory c = (c.1, c.0)
 
 module _ {W : Type 0} (g : Ghosts W) where
-  wire_part : (P : Type 0) (bs : List ℕ) {old new : W} (r : Result (Unit {0}) ValueWriteError) → P → WritesTree g bs old new r → WritesPart g true P bs old new (answer_of r)
-  wire_part P bs (Ok u) p w = part_done g true P bs _ _ u p w.whole w.sound
+  wire_part : (P : Type 0) (bs : List ℕ) {old new : W} (r : Result (Unit {0}) ValueWriteError) → P → WritesTree g bs old new r → WritesPart g g.takes_memory P bs old new (answer_of r)
+  wire_part P bs (Ok u) p w = part_done g g.takes_memory P bs _ _ u p w.whole w.sound
   wire_part P bs (Err e) p w =
-      part_failed g true P bs _ _ (error_of e)
+      part_failed g g.takes_memory P bs _ _ (error_of e)
       (λ _. record { part = w.stops.part; rest = w.stops.rest; split = w.stops.split; appended = w.stops.appended })
       (record { part = w.stops.part; appended = w.stops.appended })
       (fails_by g.takes_memory P _ _ w.stops.part e w.stops.cause)
 
   -- a value that fits, of which the canonical spelling was written
-  pub value_writes : (s : Settings) (m : Msg) {old new : W} (r : Result (Unit {0}) ValueWriteError) {answer : Result (Unit {0}) Error} → answer ≡ answer_of r → Fits m → WritesTree g (canon m) old new r → encode.WritesTree g true (tree_of s (Some (value_data m))) old new answer
+  pub value_writes : (s : Settings) (m : Msg) {old new : W} (r : Result (Unit {0}) ValueWriteError) {answer : Result (Unit {0}) Error} → answer ≡ answer_of r → Fits m → WritesTree g (canon m) old new r → encode.WritesTree g g.takes_memory (tree_of s (Some (value_data m))) old new answer
   unfolding HasTree spell
   value_writes s m {old} {new} r {answer} is fits w =
-      subst (λ t. encode.WritesTree g true t old new answer) (sym (value_tree s m))
-      (subst (encode.WritesTree g true (Some m) old new) (sym is) (wire_part (Fits m) (canon m) r fits w))
+      subst (λ t. encode.WritesTree g g.takes_memory t old new answer) (sym (value_tree s m))
+      (subst (encode.WritesTree g g.takes_memory (Some m) old new) (sym is) (wire_part (Fits m) (canon m) r fits w))

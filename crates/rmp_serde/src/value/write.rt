@@ -1,5 +1,5 @@
 //! Writes the canonical spelling of a value.
-ghost use Rattle.std.specs.Prelude.{◌≡◌, ◌++◌, Some};
+ghost use Rattle.std.specs.Prelude.{◌≡◌, ◌++◌, false, Some};
 ghost use Rattle.std.specs.List.{flat_map};
 ghost use Rattle.rmp_wire.specs.Heads.{canon_head, fits_head};
 ghost use Rattle.rmp_wire.specs.Spelling.{canon, Fits};
@@ -88,6 +88,8 @@ impl Serialize for Value {
     ghost data_of = { λ v _. Some (value_data v) };
 
     ghost is_value = { Fits };
+
+    ghost takes_memory = { λ _. false };
 
     fn serialize<W: Sink, C: SerializerConfig>(
         &self,
