@@ -1,5 +1,5 @@
 //! A tuple struct.
-ghost use Rattle.std.specs.Prelude.{◌<◌, ◌^◌, ◌∷◌, [], Some, pos, IsUtf8, string_bytes};
+ghost use Rattle.std.specs.Prelude.{◌<◌, ◌^◌, ◌∷◌, [], Some, pos, IsUtf8, string_bytes, false};
 ghost use Rattle.rmp_encode.specs.Data.{text, whole};
 ghost use Rattle.rmp_encode.specs.Trees.{sequence_of};
 
@@ -15,6 +15,8 @@ impl Serialize for Entry {
     ghost data_of = { λ v _. sequence_of (Some (text (string_bytes v.0)) ∷ (Some (whole (pos v.1)) ∷ [])) };
 
     ghost is_value = { λ v. IsUtf8 (string_bytes v.0) × (v.1 < 2 ^ 16) };
+
+    ghost takes_memory = { λ _. false };
 
     fn serialize<W: Sink, C: SerializerConfig>(
         &self,

@@ -13,14 +13,15 @@ use Rattle.rmp_encode.specs.Ser.{sink_of, settings_of}
 use Rattle.rmp_encode.specs.Trees.{sequence_of, tree_of}
 use Rattle.rmp_encode.specs.Writes.{Keeps, WritesTree}
 use Rattle.rmp_encode.proofs.Going.{at_goes_ok, at_goes_err, at_closes}
+use Rattle.rmp_encode.proofs.Parts.{part_memory}
 
 module _ {W C : Type 0} (g : Ghosts W) where
   -- an element was written, or failed
-  pub fills : (d : Settings → Option Data) (q q' : Compound W C) (r : Result (Unit {0}) Error) → q'.left + 1 ≡ q.left → Keeps g q.se.now q'.se.now
-      → WritesTree g true (tree_of (settings_of q.se.now) (d (settings_of q.se.now))) (sink_of q.se.now) (sink_of q'.se.now) r → Fills g d q q' r
+  pub fills : (m : Bool) (d : Settings → Option Data) (q q' : Compound W C) (r : Result (Unit {0}) Error) → q'.left + 1 ≡ q.left → Keeps g q.se.now q'.se.now
+      → WritesTree g m (tree_of (settings_of q.se.now) (d (settings_of q.se.now))) (sink_of q.se.now) (sink_of q'.se.now) r → Fills g m d q q' r
   unfolding open_of
-  fills d q q' (Ok u) l k w = λ old all rest h. record { state = at_goes_ok false g d q.left q'.left q.se.now q'.se.now u l k w old all rest h.state }
-  fills d q q' (Err e) l k w = λ old all rest h. at_goes_err false g d q.left q.se.now q'.se.now e w old all rest h.state
+  fills m d q q' (Ok u) l k w = λ old all rest h. record { state = at_goes_ok false g d q.left q'.left q.se.now q'.se.now u l k (part_memory g w) old all rest h.state }
+  fills m d q q' (Err e) l k w = λ old all rest h. at_goes_err false g m d q.left q.se.now q'.se.now e w old all rest h.state
 
   -- nothing is to come
   pub filled : (m : Bool) (old : Serializer W C) (all : List (Option Data)) (q : Compound W C) (u : Unit {0}) → IsFilling g old all [] q → WritesTree g m (tree_of (settings_of old) (sequence_of all)) (sink_of old) (sink_of q.se.now) (Ok u)

@@ -17,7 +17,7 @@ use Rattle.rmp_encode.specs.Ser.{sink_of, settings_of}
 use Rattle.rmp_encode.specs.Trees.{Has, spelling, tree_of}
 use Rattle.rmp_encode.specs.Writes.{Keeps, WritesPart, WritesTree}
 use Rattle.rmp_encode.proofs.Lists.{open_may, open_can, open_text}
-use Rattle.rmp_encode.proofs.Parts.{part_as, part_any, part_then, part_stops, part_refused}
+use Rattle.rmp_encode.proofs.Parts.{part_as, part_any, part_memory, part_then, part_stops, part_refused}
 
 module _ {X : Type 0} (P : X → Type 0) where
   pub all_append : (xs ys : List X) → AllByRecursion P xs → AllByRecursion P ys → AllByRecursion P (xs ++ ys)
@@ -92,13 +92,13 @@ module _ (pairs : Bool) {W C : Type 0} (g : Ghosts W) where
       }
 
   -- a part failed
-  pub at_goes_err : (d : Settings → Option Data) (left : ℕ) (now now' : Serializer W C) (e : Error)
-      → WritesTree g {A = Unit {0}} true (tree_of (settings_of now) (d (settings_of now))) (sink_of now) (sink_of now') (Err e)
-      → (old : Serializer W C) (all rest : List (Option Data)) → IsWritingAt g pairs old all (d (settings_of old) ∷ rest) left now → WritesTree g {A = Unit {0}} true (tree_of (settings_of old) (open_of pairs all)) (sink_of old) (sink_of now') (Err e)
-  at_goes_err d left now now' e w old all rest h =
+  pub at_goes_err : (m : Bool) (d : Settings → Option Data) (left : ℕ) (now now' : Serializer W C) (e : Error)
+      → WritesTree g {A = Unit {0}} m (tree_of (settings_of now) (d (settings_of now))) (sink_of now) (sink_of now') (Err e)
+      → (old : Serializer W C) (all rest : List (Option Data)) → IsWritingAt g pairs old all (d (settings_of old) ∷ rest) left now → WritesTree g {A = Unit {0}} m (tree_of (settings_of old) (open_of pairs all)) (sink_of old) (sink_of now') (Err e)
+  at_goes_err m d left now now' e w old all rest h =
       let s = settings_of old in
       let head = head_at pairs h.size in
-      let w' : WritesPart g {A = Unit {0}} true (Has s (d s)) (spelling s (d s)) (sink_of now) (sink_of now') (Err e) = subst (λ t. WritesPart g {A = Unit {0}} true (Has t (d t)) (spelling t (d t)) (sink_of now) (sink_of now') (Err e)) h.keeps.settings w in
+      let w' : WritesPart g {A = Unit {0}} m (Has s (d s)) (spelling s (d s)) (sink_of now) (sink_of now') (Err e) = subst (λ t. WritesPart g {A = Unit {0}} m (Has t (d t)) (spelling t (d t)) (sink_of now) (sink_of now') (Err e)) h.keeps.settings w in
       let text : ((head ++ flat_map (spelling s) h.front) ++ spelling s (d s)) ++ flat_map (spelling s) rest ≡ head ++ flat_map (spelling s) all =
       append_assoc (head ++ flat_map (spelling s) h.front) (spelling s (d s)) (flat_map (spelling s) rest) ∙ append_assoc head (flat_map (spelling s) h.front) _ ∙ ap (λ k. head ++ k) (sym (flat_map-append (spelling s) h.front (d s ∷ rest)) ∙ ap (flat_map (spelling s)) (sym h.split)) in
       let all_may : AllByRecursion (Has s) (h.front ++ d s ∷ rest) → AllByRecursion (Has s) all = subst (AllByRecursion (Has s)) (sym h.split) in
@@ -107,15 +107,15 @@ module _ (pairs : Bool) {W C : Type 0} (g : Ghosts W) where
       (λ p. open_may pairs s h.size all h.many p.0.0.0 (all_may (all_append (Has s) h.front (d s ∷ rest) p.0.0.1 (p.0.1, p.1))))
       (λ p. let k = open_can pairs s h.size all h.many p in let back = all_back (Has s) h.front (d s ∷ rest) (all_can k.1) in (((k.0, all_front (Has s) h.front (d s ∷ rest) (all_can k.1)), back.0), back.1))
       (λ p. text ∙ open_text pairs s h.size all h.many p)
-      (part_stops g {B = Unit {0}} {Q = AllByRecursion (Has s) rest} (flat_map (spelling s) rest) (part_then g h.writes w'))
+      (part_stops g {B = Unit {0}} {Q = AllByRecursion (Has s) rest} (flat_map (spelling s) rest) (part_then g (part_any g m (tt {0}) h.writes) w'))
 
   -- both
-  pub at_goes : (d : Settings → Option Data) (left left' : ℕ) (now now' : Serializer W C) (r : Result (Unit {0}) Error) → left' + 1 ≡ left → Keeps g now now'
-      → WritesTree g true (tree_of (settings_of now) (d (settings_of now))) (sink_of now) (sink_of now') r
+  pub at_goes : (m : Bool) (d : Settings → Option Data) (left left' : ℕ) (now now' : Serializer W C) (r : Result (Unit {0}) Error) → left' + 1 ≡ left → Keeps g now now'
+      → WritesTree g m (tree_of (settings_of now) (d (settings_of now))) (sink_of now) (sink_of now') r
       → (old : Serializer W C) (all rest : List (Option Data)) → IsWritingAt g pairs old all (d (settings_of old) ∷ rest) left now
-      → MatchResult r (λ _. IsWritingAt g pairs old all rest left' now') (λ e. WritesTree g {A = Unit {0}} true (tree_of (settings_of old) (open_of pairs all)) (sink_of old) (sink_of now') (Err e))
-  at_goes d left left' now now' (Ok u) l k w = at_goes_ok d left left' now now' u l k w
-  at_goes d left left' now now' (Err e) l k w = at_goes_err d left now now' e w
+      → MatchResult r (λ _. IsWritingAt g pairs old all rest left' now') (λ e. WritesTree g {A = Unit {0}} m (tree_of (settings_of old) (open_of pairs all)) (sink_of old) (sink_of now') (Err e))
+  at_goes m d left left' now now' (Ok u) l k w = at_goes_ok d left left' now now' u l k (part_memory g w)
+  at_goes m d left left' now now' (Err e) l k w = at_goes_err m d left now now' e w
 
   -- nothing is to come
   pub at_closes : (m : Bool) (old : Serializer W C) (all : List (Option Data)) (left : ℕ) (now : Serializer W C) (u : Unit {0}) → IsWritingAt g pairs old all [] left now → WritesTree g m (tree_of (settings_of old) (open_of pairs all)) (sink_of old) (sink_of now) (Ok u)

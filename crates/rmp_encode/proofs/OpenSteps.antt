@@ -60,7 +60,7 @@ module _ {W C : Type 0} (g : Ghosts W) where
   pub none_goes : (pairs : Bool) (d : Settings → Option Data) (q q' : Open W C) (r : Result (Unit {0}) Error) → q.buffer ≡ None → q'.buffer ≡ None → q'.pairs ≡ q.pairs → q'.count + 1 ≡ q.count → Keeps g q.se.now q'.se.now
       → WritesTree g true (tree_of (settings_of q.se.now) (d (settings_of q.se.now))) (sink_of q.se.now) (sink_of q'.se.now) r → Goes g pairs d q q' r
   none_goes pairs d q q' (Ok u) e e' z l k w = λ old all rest h. none_open (z ∙ h.kind) e' (at_goes_ok pairs g d q.count q'.count q.se.now q'.se.now u l k w old all rest (none_state e h))
-  none_goes pairs d q q' (Err x) e e' z l k w = λ old all rest h. at_goes_err pairs g d q.count q.se.now q'.se.now x w old all rest (none_state e h)
+  none_goes pairs d q q' (Err x) e e' z l k w = λ old all rest h. at_goes_err pairs g true d q.count q.se.now q'.se.now x w old all rest (none_state e h)
 
   -- the same values are to come
   pub still_open : {pairs : Bool} {old : Serializer W C} {all rest rest' : List (Option Data)} {q : Open W C} → rest ≡ rest' → IsGoing g pairs old all rest q → IsGoing g pairs old all rest' q

@@ -140,8 +140,8 @@ module _ {W C : Type 0} (g : Ghosts W) where
       → (old : Serializer W C) (all rest : List (Option Data)) → IsListing g old all (d (settings_of old) ∷ rest) left now
       → MatchResult r (λ _. IsListing g old all rest left' now') (λ e. WritesTree g {A = Unit {0}} true (tree_of (settings_of old) (tuple_of all)) (sink_of old) (sink_of now') (Err e))
   unfolding open_of
-  listing_goes d left left' now now' (Ok u) l k w old all rest h = record { plain = h.plain; writing = at_goes false g d left left' now now' (Ok u) l k w old all rest h.writing }
-  listing_goes d left left' now now' (Err e) l k w old all rest h = as_tree g h.plain (at_goes false g d left left' now now' (Err e) l k w old all rest h.writing)
+  listing_goes d left left' now now' (Ok u) l k w old all rest h = record { plain = h.plain; writing = at_goes false g true d left left' now now' (Ok u) l k w old all rest h.writing }
+  listing_goes d left left' now now' (Err e) l k w old all rest h = as_tree g h.plain (at_goes false g true d left left' now now' (Err e) l k w old all rest h.writing)
 
   -- nothing is to come
   pub listing_ends : (m : Bool) (left : ℕ) (now : Serializer W C) (u : Unit {0}) (old : Serializer W C) (all : List (Option Data)) → IsListing g old all [] left now → WritesTree g m (tree_of (settings_of old) (tuple_of all)) (sink_of old) (sink_of now) (Ok u)

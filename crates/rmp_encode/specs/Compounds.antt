@@ -1,5 +1,5 @@
 -- What a contract sees of a tuple struct that is open.
-use Rattle.std.specs.Prelude.{◌≡◌, ℕ, ◌∷◌, true, false, List, length, Option, Result, Err, IfErr, MatchResult}
+use Rattle.std.specs.Prelude.{◌≡◌, ℕ, ◌∷◌, Bool, true, false, List, length, Option, Result, Err, IfErr, MatchResult}
 use Rattle.std.specs.Borrow.{Fml, GName, RattleType, MutBor, RestsIfErr}
 use Rattle.rmp_wire.specs.declared.sink.Sink.{Ghosts}
 use Rattle.rmp_encode.specs.declared.compound.Compound.{Compound}
@@ -36,11 +36,11 @@ module _ {W C : Type 0} (g : Ghosts W) where
     pub refused : StaysAtRefusal old last r
     pub writes : (all : List (Option Data)) → length all ≡ len → IfErr r (λ e. WritesTree g {A = Unit {0}} g.takes_memory (tree_of (settings_of old) (sequence_of all)) (sink_of old) (sink_of last) (Err e))
 
-  -- an element is written
-  abbrev pub Fills : (Settings → Option Data) → Compound W C → Compound W C → Result (Unit {0}) Error → Type 0
-  Fills d q q' r =
+  -- an element is written, where m says that memory may be taken
+  abbrev pub Fills : Bool → (Settings → Option Data) → Compound W C → Compound W C → Result (Unit {0}) Error → Type 0
+  Fills m d q q' r =
       (old : Serializer W C) (all rest : List (Option Data)) → IsFilling old all (d (settings_of old) ∷ rest) q
-      → MatchResult r (λ _. IsFilling old all rest q') (λ e. WritesTree g {A = Unit {0}} true (tree_of (settings_of old) (sequence_of all)) (sink_of old) (sink_of q'.se.now) (Err e))
+      → MatchResult r (λ _. IsFilling old all rest q') (λ e. WritesTree g {A = Unit {0}} m (tree_of (settings_of old) (sequence_of all)) (sink_of old) (sink_of q'.se.now) (Err e))
 
 module _ (W C : RattleType) (g : Ghosts W.Denot) where
   abbrev pub FillingRests : MutBor (Serializer W.Denot C.Denot) → ℕ → Result (Compound W.Denot C.Denot) Error → Fml

@@ -1,5 +1,5 @@
 //! Tuple structs, whose elements are written in order.
-ghost use Rattle.std.specs.Prelude.{◌≡◌, ◌+◌, ◌<◌, [], true, IfOk, OnOk, IsOk, length};
+ghost use Rattle.std.specs.Prelude.{◌≡◌, ◌+◌, ◌<◌, ◌||◌, [], true, IfOk, OnOk, IsOk, length};
 ghost use Rattle.std.specs.Borrow.{sem};
 ghost use Rattle.rmp_encode.specs.Compounds.{inside, reference, left_of, FillingRests, IsFilling, Fills};
 ghost use Rattle.rmp_encode.specs.Ser.{sink_of, settings_of};
@@ -50,7 +50,7 @@ impl<'a, W: Sink, C: SerializerConfig> Compound<'a, W, C> {
         requires { 0 < left_of self.old }
         ensures same_reference { reference self.new ≡ reference self.old }
         ensures left { left_of self.new + 1 ≡ left_of self.old }
-        ensures writes { Fills W.Sink (λ s. T.data_of value.now s.human) self.old self.new result }
+        ensures writes { Fills W.Sink (T.takes_memory (settings_of (inside self.old)) || W.takes_memory) (λ s. T.data_of value.now s.human) self.old self.new result }
         ensures keeps { Keeps W.Sink (inside self.old) (inside self.new) }
         ensures value { OnOk result (T.is_value value.now) }
     {
@@ -69,7 +69,7 @@ impl<'a, W: Sink, C: SerializerConfig> Compound<'a, W, C> {
     pub fn end(self) -> Result<(), Error>
         requires { left_of self ≡ 0 }
         ensures ok { IsOk result }
-        ensures writes { (old : _) (all : _) → IsFilling W.Sink old all [] self.entry → WritesTree W.Sink true (tree_of (settings_of old) (sequence_of all)) (sink_of old) (sink_of self.exit.0.now) result }
+        ensures writes { (old : _) (all : _) → IsFilling W.Sink old all [] self.entry → WritesTree W.Sink W.takes_memory (tree_of (settings_of old) (sequence_of all)) (sink_of old) (sink_of self.exit.0.now) result }
         ensures stays { self.exit.0.now ≡ inside self.entry }
         ensures keeps { Keeps W.Sink (inside self.entry) self.exit.0.now }
     {

@@ -1,5 +1,5 @@
 //! A tuple struct.
-ghost use Rattle.std.specs.Prelude.{[], ◌∷◌};
+ghost use Rattle.std.specs.Prelude.{[], ◌∷◌, false};
 ghost use Rattle.rmp_encode.specs.Trees.{sequence_of};
 
 use rmp_serde::config::SerializerConfig;
@@ -17,6 +17,8 @@ impl Serialize for TupleS {
     ghost data_of = { λ v _. sequence_of (Some (byte v.0) ∷ (Some (whole (pos v.1)) ∷ [])) };
 
     ghost is_value = { λ v. (v.0 < 2 ^ 8) × (v.1 < 2 ^ 16) };
+
+    ghost takes_memory = { λ _. false };
 
     fn serialize<W: Sink, C: SerializerConfig>(
         &self,

@@ -1,5 +1,5 @@
 //! A tuple struct that is written part by part, and read as a tuple.
-ghost use Rattle.std.specs.Prelude.{◌∷◌, ◌<◌, ◌^◌, [], None, Some, pos, IsUtf8, string_bytes};
+ghost use Rattle.std.specs.Prelude.{◌∷◌, ◌<◌, ◌^◌, [], false, None, Some, pos, IsUtf8, string_bytes};
 ghost use Rattle.rmp_encode.specs.Data.{text, whole};
 ghost use Rattle.rmp_encode.specs.Trees.{sequence_of};
 ghost use Rattle.rmp_decode.specs.Read.{IsRaw, IsUnsigned};
@@ -20,6 +20,8 @@ impl Serialize for Point {
     ghost data_of = { λ v _. sequence_of (Some (whole (pos v.0)) ∷ (Some (text (string_bytes v.1)) ∷ [])) };
 
     ghost is_value = { λ v. (v.0 < 2 ^ 32) × IsUtf8 (string_bytes v.1) };
+
+    ghost takes_memory = { λ _. false };
 
     fn serialize<W: Sink, C: SerializerConfig>(
         &self,
