@@ -40,7 +40,7 @@ pub enum Job {
     Write,
     /// Lists and maps of unknown length, in one another, are written, and bytes are made of what may be bytes.
     WriteUnknown,
-    /// A list of texts with lists is read.
+    /// A list of maps from texts to lists is read.
     Read,
     /// A list is read that claims 2 ^ 32 - 1 elements and has none.
     ReadClaim,

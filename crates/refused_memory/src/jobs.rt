@@ -65,13 +65,16 @@ pub fn write_unknown(rt: &(impl Print + AllocGlobal), value: &NestedUnknown) -> 
     print_written(rt, forced(rt.alloc(), value))
 }
 
-/// Reads a list of texts with lists in wide spellings, and prints it or the error.
+/// Reads a list of maps from texts to lists, in wide spellings, and prints it or the error.
 pub fn read(rt: &(impl Print + AllocGlobal)) -> Result<(), Fault> {
     let input =
-        b"\xdd\x00\x00\x00\x02\x92\xd9\x02ab\xdc\x00\x02\x01\xcd\x01\x2c\x92\xa1c\xc4\x01\xc8";
-    let read: Result<Vec<(String, Vec<u16>)>, rmp_decode::Error> = from_slice(rt.alloc(), input);
+        b"\xdd\x00\x00\x00\x02\xde\x00\x01\xd9\x02ab\xdc\x00\x02\x01\xcd\x01\x2c\x82\xa1c\xc4\x01\xc8\xa1d\x90";
+    let read: Result<Vec<BTreeMap<String, Vec<u16>>>, rmp_decode::Error> = from_slice(
+        rt.alloc(),
+        input,
+    );
     match read {
-        Ok(items) => println!(rt; "{items:?}")?,
+        Ok(maps) => println!(rt; "{maps:?}")?,
         Err(e) => println!(rt; "{e}")?,
     }
     Ok(())
