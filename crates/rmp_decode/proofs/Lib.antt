@@ -1,3 +1,4 @@
+pub mod AnyReads
 pub mod Anything
 pub mod Arrays
 pub mod Buffers
@@ -8,6 +9,7 @@ pub mod HeadTaken
 pub mod Laws
 pub mod Leaves
 pub mod MapOpening
+pub mod MapWiths
 pub mod Maps
 pub mod Numbers
 pub mod Opening

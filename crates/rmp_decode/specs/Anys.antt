@@ -1,5 +1,5 @@
 -- What reading a message of any kind gives.
-use Rattle.std.specs.Prelude.{◌≡◌, ℕ, ℤ, true, false, List, length, Option, Ok}
+use Rattle.std.specs.Prelude.{◌≡◌, ℕ, ℤ, true, false, List, ◌++◌, length, Option, IfSome, Ok, IsUtf8}
 use Rattle.std.specs.Borrow.{GName}
 use Rattle.std.specs.Io.KnownBytes.{Consumes}
 use Rattle.rmp_wire.specs.declared.head.Head.{Head}
@@ -93,3 +93,13 @@ pub record FailsContent {R C : Type 0} (g : Ghosts R) (len : ℕ) (old new : Des
   pub failed : new.failed ≡ old.failed
   pub stays : Stays g old new
   pub err : Explains e (faults_of g old) (faults_of g new) (IsShort len (g.ahead old.reader))
+
+-- where the bytes are told, they don't begin with so many that are UTF-8
+abbrev pub StartsWithNoText : ℕ → Option (List ℕ) → Type 0
+StartsWithNoText len known = IfSome known (λ xs. (s r : List ℕ) → xs ≡ s ++ r → length s ≡ len → IsUtf8 s → ⊥)
+
+-- it was no text
+pub record FailsText {R C : Type 0} (g : Ghosts R) (len : ℕ) (old new : Deserializer R C) (e : Error) : Type 0 where
+  pub failed : new.failed ≡ old.failed
+  pub stays : Stays g old new
+  pub err : Explains e (faults_of g old) (faults_of g new) (StartsWithNoText len (g.ahead old.reader))

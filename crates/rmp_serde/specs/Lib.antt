@@ -20,5 +20,6 @@ pub mod Refuse
 pub mod TreeFalls
 pub mod TreeWrites
 pub mod ValueData
+pub mod ValueReads
 pub mod View
 pub mod Words

@@ -1,4 +1,5 @@
 //! A message of any kind, as a tree.
+mod deserialize;
 mod equal;
 mod head;
 mod kind;

@@ -1,8 +1,9 @@
 //! A message of any kind.
 ghost use Rattle.std.specs.Prelude.{◌≡◌, ◌<◌, false, true, ℕ, Bool, Ok, IfOk, IfErr};
 ghost use Rattle.std.specs.Borrow.{sem, RestsIfErr};
+ghost use Rattle.std.specs.String.{string_bytes};
 ghost use Rattle.rmp_decode.specs.contracts.de.Deserializer.{the_row};
-ghost use Rattle.rmp_decode.specs.Anys.{any_name, OpensAny, FailsToOpenAny, leaf_value, leaf_lender, raw_len, raw_tag, raw_lender, TakesContent, FailsContent};
+ghost use Rattle.rmp_decode.specs.Anys.{any_name, OpensAny, FailsToOpenAny, leaf_value, leaf_lender, raw_len, raw_tag, raw_lender, TakesContent, FailsContent, FailsText};
 ghost use Rattle.rmp_decode.specs.Law.{ReadsHead};
 ghost use Rattle.rmp_decode.specs.Skip.{parts_head};
 ghost use Rattle.rmp_decode.specs.State.{failed_of, is_failed};
@@ -90,6 +91,32 @@ impl<'x, R: Source, C: SerializerConfig> RawAccess<'x, R, C> {
 }
 
 impl<'x, R: Source, C: SerializerConfig> RawAccess<'x, R, C> {
+    /// Takes the bytes as a text.
+    ///
+    /// # Errors
+    /// `Utf8Error` where they aren't UTF-8, and otherwise as `take`.
+    #[inline(always)]
+    pub fn text<P: ReadContent<R>>(self) -> Result<String, Error>
+        ensures ok { IfOk result (λ t. TakesContent R.Source (raw_len self.entry) (raw_lender self.entry) self.exit.0.now (string_bytes t)) }
+        ensures err { IfErr result (FailsText R.Source (raw_len self.entry) (raw_lender self.entry) self.exit.0.now) }
+    {
+        let RawAccess {
+            de,
+            len: size,
+            tag: _,
+        } = self;
+        match P::take(de.alloc, &mut de.reader, size as usize) {
+            Ok(bytes) => match String::from_utf8(bytes) {
+                Ok(text) => {
+                    de.failed = false;
+                    Ok(text)
+                }
+                Err(e) => Err(Error::Utf8Error(e.utf8_error())),
+            },
+            Err(e) => Err(e),
+        }
+    }
+
     /// Lends the bytes for the input's whole life.
     ///
     /// # Errors

@@ -1,0 +1,142 @@
+-- A type that reads messages of several kinds, from what an opening of any kind says.
+use Rattle.std.proofs.Common.{◌≡◌, ◌∙◌, sym, ap, subst, refl, ℕ, ◌+◌, ◌<◌, ◌≤◌, max, arith, List, [], ◌∷◌, ◌++◌, length, Option, None, Some, IfSome, Bool, true, false, Ok, Err, append_assoc}
+use Rattle.std.proofs.lemmas.List.{length-append}
+use Rattle.std.specs.Io.KnownBytes.{Consumes}
+use Rattle.std.specs.Prelude.{IsUtf8}
+use Rattle.std.proofs.KnownBytes.{Consumes-trans}
+use Rattle.rmp_wire.specs.declared.head.Head.{Head}
+use Rattle.rmp_wire.specs.declared.head.Head.TheVariants as head
+use Rattle.rmp_wire.specs.declared.marker.Marker.{Marker}
+use Rattle.rmp_wire.specs.declared.source.Source.{Ghosts}
+use Rattle.rmp_wire.specs.Heads.{IsHead}
+use Rattle.rmp_wire.specs.Msg.{Msg, text, list, Msgs, count, depth_all}
+use Rattle.rmp_wire.specs.Sources.{IsShort}
+use Rattle.rmp_wire.specs.Spelling.{Spells, head_of}
+use Rattle.rmp_decode.specs.Anys.{FailsToOpenAny, OpensRaw, TakesContent, FailsContent, FailsText, StartsWithNoText}
+use Rattle.rmp_decode.specs.Law.{Begins, Refuses, Readable, Lawful, TakesHead, ReadsHead}
+use Rattle.rmp_decode.specs.Seq.{SpellsRow, SpellsIn, Opens, Run, seq_head, levels, inner_of}
+use Rattle.rmp_decode.specs.State.{left, faults_of, room_of, kept_bytes, Stays}
+use Rattle.rmp_decode.specs.declared.de.Deserializer.{Deserializer}
+use Rattle.rmp_decode.specs.declared.de.any.RawAccess.{RawAccess}
+use Rattle.rmp_decode.specs.declared.de.seq.SeqAccess.{SeqAccess}
+use Rattle.rmp_decode.specs.declared.error.Error.{Error}
+use Rattle.rmp_decode.proofs.Contents.{Content, text_content, content_read, content_short, content_refused}
+use Rattle.rmp_decode.proofs.Refusals.{refuses_narrower, same_head}
+use Rattle.rmp_decode.proofs.Rows.{in_list}
+
+-- nothing could be opened
+pub any_unopened : {R C V : Type 0} (g : Ghosts R) (reads : Msg → V → Type 0) (old last : Deserializer R C) (e : Error) → FailsToOpenAny g old last e → Lawful g reads old last (Err e)
+any_unopened g reads old last e f = record {
+  ok = tt;
+  ready = tt;
+  clean = tt;
+  sound = tt;
+  failed = f.failed;
+  before = f.before;
+  stays = f.stays;
+  err = λ o n k. refuses_narrower Spells (λ m. Unit {0}) _ _ _ (λ m r. tt) (f.err o n k);
+}
+
+-- what is refused of the messages under a head that stands there
+refuses_under : (Q P : Msg → Type 0) (room : ℕ) (known k : Option (List ℕ)) (b : List ℕ) (h : Head) → Consumes known k b → IsHead h b → ((m : Msg) → head_of m ≡ h → P m → Q m) → Refuses Spells Q room known → Refuses Spells P room known
+unfolding Refuses
+refuses_under Q P room None k b h t i f r = tt
+refuses_under Q P room (Some xs) None b h t i f r = absurd t
+refuses_under Q P room (Some xs) (Some ys) b h t i f r = λ a.
+    r (record { bytes = a.bytes; rest = a.rest; tree = a.tree; front = a.front; spelled = a.spelled; fits = a.fits; holds = f a.tree (same_head a.tree h a.bytes b a.rest ys a.spelled i (sym a.front ∙ t)).0 a.holds })
+
+-- a refusal of one kind is one of all kinds, where a head of it stands there
+pub lawful_under : {R C V W : Type 0} (g : Ghosts R) (reads : Msg → V → Type 0) (reads' : Msg → W → Type 0) (old mid new : Deserializer R C) (h : Head) (e : Error) → TakesHead g h old mid → ((m : Msg) → head_of m ≡ h → Readable reads' m → Readable reads m) → Lawful g reads old new (Err e) → Lawful g reads' old new (Err e)
+lawful_under g reads reads' old mid new h e t f l = record {
+  ok = tt;
+  ready = tt;
+  clean = tt;
+  sound = tt;
+  err = λ o n k. refuses_under (Readable reads) (Readable reads') _ (left g old) (left g mid) t.bytes h t.takes t.is_head f (l.err o n k);
+  failed = l.failed;
+  before = l.before;
+  stays = l.stays;
+}
+
+-- ---- lists
+
+-- how a list's items stand
+as_list : (b : Bool) (bytes : List ℕ) (ms : Msgs) → b ≡ false → SpellsRow (SpellsIn b) bytes ms → SpellsRow Spells bytes ms
+as_list true bytes ms e s = absurd (cc)
+as_list false bytes ms e s = s
+
+list_head : (b : Bool) (n : ℕ) (x : List ℕ) → b ≡ false → IsHead (seq_head b n) x → IsHead (head.Array n) x
+list_head true n x e i = absurd (cc)
+list_head false n x e i = i
+
+list_level : (b : Bool) → b ≡ false → levels b ≡ 1
+list_level true e = absurd (cc)
+list_level false e = refl
+
+-- the list is whole
+pub list_read : {R C V : Type 0} (g : Ghosts R) (reads : Msg → V → Type 0) (old : Deserializer R C) (start mid : SeqAccess R C) (ms : Msgs) (o : Opens g old start) (r : Run g start mid ms) (last : Deserializer R C) (v : V)
+    → start.bytes ≡ false → reads (list ms) v → mid.left ≡ 0 → last ≡ record mid.de.now { failed = false } → Lawful g reads old last (Ok v)
+list_read g reads old start mid ms o r last v b q z e =
+    let many : count ms ≡ start.left = omega (arith, r.many) in
+    let level = list_level start.bytes b in
+    rw e (record {
+      ok = record {
+        bytes = o.head.bytes ++ r.bytes;
+        tree = list ms;
+        takes = Consumes-trans _ _ _ o.head.bytes r.bytes o.head.takes r.takes;
+        goes_on = record { more = o.head.goes_on.more ++ r.bytes; whole = ap (λ t. t ++ r.bytes) o.head.goes_on.whole ∙ append_assoc (kept_bytes old.kept) o.head.goes_on.more r.bytes };
+        spelled = record { first = o.head.bytes; second = r.bytes; is_first = subst (λ n. IsHead (head.Array n) o.head.bytes) (sym many) (list_head start.bytes start.left o.head.bytes b o.head.is_head); is_second = in_list ms r.bytes (as_list start.bytes r.bytes ms b r.spelled); is_whole = refl };
+        fits = omega (arith, r.fits, o.room, level);
+        value = q;
+      };
+      ready = refl;
+      clean = r.still.clean;
+      sound = r.faults_same ∙ o.faults_same;
+      err = λ _. tt;
+      failed = tt;
+      before = λ h. absurd (let f = o.fresh in cc);
+      stays = record { config = r.stays.config ∙ o.stays.config; room = r.stays.room ∙ o.stays.room; place = r.stays.place ∙ o.stays.place };
+    })
+
+-- ---- content
+
+module _ {R C V : Type 0} {make : List ℕ → Msg} {heads : ℕ → Head} (content : Content make heads) (g : Ghosts R) (reads : Msg → V → Type 0) (old last : Deserializer R C) (a : RawAccess R C) (o : OpensRaw g (heads a.len) old a) where
+  pub raw_read : (s : List ℕ) (v : V) → TakesContent g a.len a.de.now last s → reads (make s) v → Lawful g reads old last (Ok v)
+  raw_read s v t r = content_read content g reads old a.de.now last (o.marker, heads a.len) o.begun s a.len v refl t.long t.are_bytes t.taken t.kept t.ready t.sound t.stays r
+
+  pub raw_short : (e : Error) → FailsContent g a.len a.de.now last e → Lawful g reads old last (Err e)
+  raw_short e t = content_short content g reads old a.de.now last (o.marker, heads a.len) o.begun a.len e refl t.err (t.failed ∙ o.begun.failed) t.stays
+
+-- ---- texts
+
+same_front : (s t x y : List ℕ) → length s ≡ length t → s ++ x ≡ t ++ y → s ≡ t
+same_front [] [] x y l e = refl
+same_front [] (b ∷ t) x y l e = absurd (omega arith)
+same_front (a ∷ s) [] x y l e = absurd (omega arith)
+same_front (a ∷ s) (b ∷ t) x y l e =
+    let i : length s ≡ length t = omega arith in
+    let rest : s ++ x ≡ t ++ y = cc in
+    let u = same_front s t x y i rest in
+    cc
+
+-- the bytes that stand there aren't UTF-8
+pub no_text : (n : ℕ) (known k : Option (List ℕ)) (bytes : List ℕ) → Consumes known k bytes → length bytes ≡ n → (IsUtf8 bytes → ⊥) → StartsWithNoText n known
+no_text n None k bytes c l f = tt
+no_text n (Some xs) None bytes c l f = absurd c
+no_text n (Some xs) (Some ys) bytes c l f = λ s r e m u. f (subst IsUtf8 (same_front s bytes r ys (m ∙ sym l) (sym e ∙ c)) u)
+
+-- too few bytes stand there
+pub short_text : (n : ℕ) (known : Option (List ℕ)) → IsShort n known → StartsWithNoText n known
+short_text n None h = tt
+short_text n (Some xs) h = λ s r e m u. let long = ap length e ∙ length-append s r in omega (arith, long, m, h)
+
+text_under : (n : ℕ) (known : Option (List ℕ)) → StartsWithNoText n known → IfSome known (λ ys. (s r : List ℕ) → ys ≡ s ++ r → length s ≡ n → Readable (λ m t. (m ≡ text t) × IsUtf8 t) (text s) → ⊥)
+text_under n None h = tt
+text_under n (Some xs) h = λ s r e m t. let p = t.1.0 in let same : s ≡ t.0 = cc in h s r e m (subst IsUtf8 (sym same) t.1.1)
+
+-- a text was wanted there, and its bytes are none
+pub raw_not_text : {R C V : Type 0} (g : Ghosts R) (reads : Msg → V → Type 0) (old last : Deserializer R C) (a : RawAccess R C) (o : OpensRaw g (head.Text a.len) old a) (e : Error) → FailsText g a.len a.de.now last e
+    → ((m : Msg) → head_of m ≡ head.Text a.len → Readable reads m → Readable (λ m t. (m ≡ text t) × IsUtf8 t) m) → Lawful g reads old last (Err e)
+raw_not_text g reads old last a o e t f =
+    lawful_under g (λ m t. (m ≡ text t) × IsUtf8 t) reads old a.de.now last (head.Text a.len) e o.begun.ok f
+    (content_refused text_content g (λ m t. (m ≡ text t) × IsUtf8 t) old a.de.now last (o.marker, head.Text a.len) o.begun a.len e refl (λ m r. (r.0, r.1.0)) (λ n k. text_under a.len (g.ahead a.de.now.reader) (t.err n k)) (t.failed ∙ o.begun.failed) t.stays)

@@ -1,0 +1,19 @@
+use Rattle.std.proofs.Common.{◌≡◌, refl}
+use Rattle.rmp_decode.proofs.AnyReads.{no_text, short_text}
+use Rattle.rmp_decode.proofs.de.any.RawAccess.text.Goals as goal
+use Rattle.rmp_decode.proofs.de.any.RawAccess.text.Goals.{in-Ok+in-Ok-from_utf8, in-Ok+in-Err-from_utf8, in-Err}
+
+pub returns-clause-err : goal.returns-clause-err
+returns-clause-err g c = elim c.match-take.branch [
+  | in-Ok+in-Ok-from_utf8 w ↦ rw w.result-is tt
+  | in-Ok+in-Err-from_utf8 w ↦ rw (w.result-is, w.de-is) (record {
+    failed = refl;
+    stays = record { config = refl; room = refl; place = w.in-Ok.ensures.place };
+    err = λ n k. let o = w.in-Ok.ensures.ok in no_text c.args.self.len _ _ w.in-Ok.bytes.items o.2 o.0 (λ u. let no = w.in-Err-from_utf8.ensures.succeeds u in absurd (cc));
+  })
+  | in-Err w ↦ rw (w.result-is, w.de-is) (record {
+    failed = refl;
+    stays = record { config = refl; room = refl; place = w.in-Err.ensures.place };
+    err = λ n k. short_text c.args.self.len _ (w.in-Err.ensures.err n k);
+  })
+]
