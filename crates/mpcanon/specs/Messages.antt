@@ -4,8 +4,8 @@ use Rattle.std.specs.Fmt.{decimal}
 use Rattle.hex.specs.Hex.{encode_lower}
 use Rattle.rmp_wire.specs.Spelling.{canon}
 use Rattle.rmp_serde.specs.Msg.{Msg}
-use Rattle.rmp_serde.specs.declared.decode.error.Error.{Error}
-use Rattle.rmp_serde.specs.declared.decode.error.Error.TheVariants.{InvalidMarkerRead, InvalidDataRead, TypeMismatch, OutOfRange, LengthMismatch, Uncategorized, Syntax, Utf8Error, DepthLimitExceeded, OutOfMemory}
+use Rattle.rmp_decode.specs.declared.error.Error.{Error}
+use Rattle.rmp_decode.specs.declared.error.Error.TheVariants.{InvalidMarkerRead, InvalidDataRead, TypeMismatch, OutOfRange, LengthMismatch, Uncategorized, Syntax, Utf8Error, DepthLimitExceeded, OutOfMemory}
 use Rattle.mpcanon.specs.TreeText.{tree_text}
 
 -- a message's tree, and its canonical spelling in hex

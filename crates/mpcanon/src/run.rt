@@ -164,7 +164,7 @@ fn text_of(alloc: Global, value: &Value) -> Result<String, RunFault>
 fn run_message<W: Sink>(alloc: Global, bytes: &[u8], sink: &mut W) -> Result<bool, RunFault>
     ensures prints { PrintsLines W.Sink sink.old sink.new result }
 {
-    let value = match from_slice(alloc, bytes) {
+    let value = match from_slice::<Value>(alloc, bytes) {
         Ok(value) => value,
         Err(Error::OutOfMemory) => return Err(RunFault::Memory),
         Err(error) => return refuse(alloc, sink, Refusal::Message(0, error)),

@@ -88,3 +88,6 @@ impl<T: Drop> From<AllocFailed<T>> for Error {
         Error::OutOfMemory
     }
 }
+
+#[cfg(test)]
+mod tests;

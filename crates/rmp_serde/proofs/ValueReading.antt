@@ -35,7 +35,7 @@ use Rattle.rmp_decode.specs.Maps.{OfMap, ReadsPairs, OpensMap, map_inner, TakesK
 use Rattle.rmp_decode.specs.Rows.{ReadsEach}
 use Rattle.rmp_decode.specs.Seq.{OfRow, seq_head, Opens, IsOpen, TakesElement, FailsToTake}
 use Rattle.rmp_serde.specs.Read.{AllTextsUtf8, ItemsUtf8, PairsUtf8}
-use Rattle.rmp_serde.specs.ValueReads.{reads_value}
+use Rattle.rmp_serde.specs.Read.{reads_value}
 
 -- ---- items
 

@@ -15,11 +15,7 @@ pub mod Equal
 pub mod EqualLaws
 pub mod Parts
 pub mod Read
-pub mod ReadErrors
-pub mod Refuse
 pub mod TreeFalls
 pub mod TreeWrites
 pub mod ValueData
-pub mod ValueReads
 pub mod View
-pub mod Words

@@ -1,7 +1,7 @@
 //! Reading.
-mod error;
-mod text;
-
-pub use crate::value::{LIMIT, from_slice};
-pub use error::Error;
-pub use text::{OwnText, Text};
+pub use crate::value::read_value;
+pub use rmp_decode::text::{OwnText, Text};
+pub use rmp_decode::{
+    Any, Deserialize, Deserializer, Error, Leaf, MapAccess, RawAccess, ReadContent, SeqAccess,
+    Slices, from_read_ref, from_slice,
+};

@@ -1,14 +1,12 @@
 //! A message of any kind, as a tree.
-mod deserialize;
 mod equal;
-mod head;
 mod kind;
 mod read;
 mod reference;
 mod write;
 
 pub use kind::Kind;
-pub use read::{LIMIT, from_slice};
+pub use read::read_value;
 pub use reference::ValueRef;
 use std::marker::Model;
 

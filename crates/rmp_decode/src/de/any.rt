@@ -74,7 +74,7 @@ impl<'x, R: Source, C: SerializerConfig> RawAccess<'x, R, C> {
     ///
     /// # Errors
     /// `InvalidDataRead` where they end too soon or the source failed, and `OutOfMemory`.
-    #[inline(always)]
+    #[inline(never)]
     pub fn take<P: ReadContent<R>>(self) -> Result<Vec<u8>, Error>
         ensures ok { IfOk result (λ v. TakesContent R.Source (raw_len self.entry) (raw_lender self.entry) self.exit.0.now v.items) }
         ensures err { IfErr result (FailsContent R.Source (raw_len self.entry) (raw_lender self.entry) self.exit.0.now) }
@@ -95,7 +95,7 @@ impl<'x, R: Source, C: SerializerConfig> RawAccess<'x, R, C> {
     ///
     /// # Errors
     /// `Utf8Error` where they aren't UTF-8, and otherwise as `take`.
-    #[inline(always)]
+    #[inline(never)]
     pub fn text<P: ReadContent<R>>(self) -> Result<String, Error>
         ensures ok { IfOk result (λ t. TakesContent R.Source (raw_len self.entry) (raw_lender self.entry) self.exit.0.now (string_bytes t)) }
         ensures err { IfErr result (FailsText R.Source (raw_len self.entry) (raw_lender self.entry) self.exit.0.now) }
@@ -121,7 +121,7 @@ impl<'x, R: Source, C: SerializerConfig> RawAccess<'x, R, C> {
     ///
     /// # Errors
     /// `InvalidDataRead` where they end too soon or the source failed, and `Syntax("invalid type")` where it doesn't lend.
-    #[inline(always)]
+    #[inline(never)]
     pub fn lend<'de>(self) -> Result<&'de [u8], Error>
     where
         R: ReadSlice<'de>,
@@ -184,7 +184,7 @@ impl<R: Source, C: SerializerConfig> Deserializer<R, C> {
     ///
     /// # Errors
     /// `DepthLimitExceeded` for a list or map that would nest too deep.
-    #[inline(always)]
+    #[inline(never)]
     pub fn deserialize_any(&mut self) -> Result<Any<'_, R, C>, Error>
         ensures* refused { sem 𝓛 (RestsIfErr (the_row R.row C.row) self.entry any_name result (λ last. IfErr result (FailsToOpenAny R.Source self.old last))) }
         ensures same_reference { IfOk result (λ a. any_name a ≡ self.entry.ghost_name) }

@@ -53,7 +53,7 @@ fn item(list: &Value, at: usize) -> ValueRef<'_> {
 
 #[test]
 fn each_call_answers_for_its_own_kind(rt: HostRuntime) -> Result<(), Error> {
-    let all = from_slice(rt.alloc(), &ALL_KINDS)?;
+    let all = from_slice::<Value>(rt.alloc(), &ALL_KINDS)?;
     assert_eq!(rt; all.root().len(), KINDS.len());
     for (at, kind) in KINDS.iter().enumerate() {
         let part = item(&all, at);
@@ -67,7 +67,7 @@ fn each_call_answers_for_its_own_kind(rt: HostRuntime) -> Result<(), Error> {
 
 #[test]
 fn each_leaf_gives_its_content(rt: HostRuntime) -> Result<(), Error> {
-    let all = from_slice(rt.alloc(), &ALL_KINDS)?;
+    let all = from_slice::<Value>(rt.alloc(), &ALL_KINDS)?;
     assert_eq!(rt; item(&all, 1).as_truth(), Some(true));
     assert_eq!(rt; item(&all, 2).as_whole(), Some(-33));
     assert_eq!(rt; item(&all, 3).as_f32_bits(), Some(0x3f80_0000));
@@ -80,7 +80,7 @@ fn each_leaf_gives_its_content(rt: HostRuntime) -> Result<(), Error> {
 
 #[test]
 fn lists_and_maps_give_their_parts(rt: HostRuntime) -> Result<(), Error> {
-    let all = from_slice(rt.alloc(), &ALL_KINDS)?;
+    let all = from_slice::<Value>(rt.alloc(), &ALL_KINDS)?;
     let (list, map) = (item(&all, 7), item(&all, 8));
     assert_eq!(rt; list.len(), 2);
     assert_eq!(rt;
@@ -99,7 +99,7 @@ fn lists_and_maps_give_their_parts(rt: HostRuntime) -> Result<(), Error> {
 #[test]
 fn the_spelling_that_is_written_is_canonical(rt: HostRuntime) -> Result<(), Error> {
     for spelling in [&ALL_KINDS[..], &WIDE[..]] {
-        let all = from_slice(rt.alloc(), spelling)?;
+        let all = from_slice::<Value>(rt.alloc(), spelling)?;
         assert!(rt; to_vec(rt.alloc(), &all).is_ok_and(|bytes| bytes.as_slice() == &ALL_KINDS[..]));
     }
     Ok(())
@@ -108,7 +108,7 @@ fn the_spelling_that_is_written_is_canonical(rt: HostRuntime) -> Result<(), Erro
 // A number in a value is no `u8`, so that it is never made bytes.
 #[test]
 fn values_are_written_among_others(rt: HostRuntime) -> Result<(), Fail> {
-    let value = from_slice(rt.alloc(), &[0xcc, 0xc8])?;
+    let value = from_slice::<Value>(rt.alloc(), &[0xcc, 0xc8])?;
     let pair = (&value, 200u8);
     assert_eq!(rt;
         to_vec(rt.alloc(), &pair)?.as_slice(),
@@ -149,10 +149,15 @@ const NEIGHBOURS: [&[u8]; 11] = [
 fn values_are_equal_where_their_trees_are(rt: HostRuntime) -> Result<(), Error> {
     for (i, a) in NEIGHBOURS.iter().enumerate() {
         for (j, b) in NEIGHBOURS.iter().enumerate() {
-            let (a, b) = (from_slice(rt.alloc(), a)?, from_slice(rt.alloc(), b)?);
+            let (a, b) = (
+                from_slice::<Value>(rt.alloc(), a)?,
+                from_slice::<Value>(rt.alloc(), b)?,
+            );
             assert_eq!(rt; a == b, i == j, "{i} and {j}");
         }
     }
-    assert!(rt; from_slice(rt.alloc(), &ALL_KINDS)? == from_slice(rt.alloc(), &WIDE)?);
+    assert!(rt;
+        from_slice::<Value>(rt.alloc(), &ALL_KINDS)? == from_slice::<Value>(rt.alloc(), &WIDE)?
+    );
     Ok(())
 }

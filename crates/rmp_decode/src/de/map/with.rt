@@ -47,7 +47,7 @@ impl<'x, R: Source, C: SerializerConfig> MapAccess<'x, R, C> {
     ///
     /// # Errors
     /// Those of `f`, and `Uncategorized("failed before")` where `f` answered `Ok` and left its reader failed.
-    #[inline(always)]
+    #[inline(never)]
     pub fn next_key_with<X: Drop, F>(&mut self, f: F) -> Result<Option<X>, Error>
     where
         F: FnOnce(&mut Deserializer<R, C>) -> Result<X, Error>,
@@ -83,7 +83,7 @@ impl<'x, R: Source, C: SerializerConfig> MapAccess<'x, R, C> {
     ///
     /// # Errors
     /// As `next_key_with`.
-    #[inline(always)]
+    #[inline(never)]
     pub fn next_value_with<X: Drop, F>(&mut self, f: F) -> Result<X, Error>
     where
         F: FnOnce(&mut Deserializer<R, C>) -> Result<X, Error>,

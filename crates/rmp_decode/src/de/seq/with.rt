@@ -15,7 +15,7 @@ use rmp_wire::config::SerializerConfig;
 
 impl<'x, R: Source, C: SerializerConfig> SeqAccess<'x, R, C> {
     // Takes the next byte of bytes and keeps it back; a list's next element stands ready.
-    #[inline(always)]
+    #[inline(never)]
     fn offer(&mut self) -> Result<(), Error>
         ensures same_reference { self.new.de.ghost_name ≡ self.old.de.ghost_name }
         ensures ok { OnOk result (OffersPart R.Source (in_bytes self.old) (lender_of self.old) (lender_of self.new)) }
@@ -44,7 +44,7 @@ impl<'x, R: Source, C: SerializerConfig> SeqAccess<'x, R, C> {
     /// # Errors
     /// Those of `f`, and `Uncategorized("failed before")` where `f` answered `Ok` and left its reader failed. Where the
     /// bytes of a list of numbers end too soon, `InvalidDataRead`, and `f` isn't called.
-    #[inline(always)]
+    #[inline(never)]
     pub fn next_element_with<X: Drop, F>(&mut self, f: F) -> Result<Option<X>, Error>
     where
         F: FnOnce(&mut Deserializer<R, C>) -> Result<X, Error>,

@@ -1,5 +1,6 @@
 use super::*;
-use std::alloc::AllocError;
+use crate::decode::from_slice;
+use std::alloc::{AllocError, Global};
 use std::test::Fail;
 
 // Writes a value in a notation of this test alone.
@@ -37,7 +38,7 @@ fn show(out: &mut String, value: &Value) -> Result<(), AllocError> {
 // What a read answers: the value, or the error's text.
 fn shown(alloc: Global, input: &[u8]) -> Result<String, AllocError> {
     let mut out = String::new(alloc);
-    match from_slice(alloc, input) {
+    match from_slice::<Value>(alloc, input) {
         Ok(value) => show(&mut out, &value)?,
         Err(e) => write!(out, "{e}")?,
     }
@@ -166,7 +167,7 @@ fn keeps_the_limit(rt: HostRuntime) -> Result<(), Fail> {
     ];
     for (opening, end) in rows {
         assert!(rt;
-            from_slice(alloc, &nested(alloc, 1022, opening, end)?).is_ok(),
+            from_slice::<Value>(alloc, &nested(alloc, 1022, opening, end)?).is_ok(),
             "at {opening:?}"
         );
         assert_eq!(rt;
@@ -176,7 +177,7 @@ fn keeps_the_limit(rt: HostRuntime) -> Result<(), Fail> {
         );
     }
     // A leaf has no depth, and what a list holds isn't looked at where the list is too deep.
-    assert!(rt; from_slice(alloc, &nested(alloc, 1023, &[0x91], &[0xc4, 0x00])?).is_ok());
+    assert!(rt; from_slice::<Value>(alloc, &nested(alloc, 1023, &[0x91], &[0xc4, 0x00])?).is_ok());
     assert_eq!(rt;
         shown(alloc, &nested(alloc, 1023, &[0x91], &[0x91, 0xc1])?)?.as_str(),
         TOO_DEEP

@@ -1,8 +1,8 @@
 use Rattle.std.proofs.Common.{◌+◌, ◌*◌}
 use Rattle.rmp_decode.proofs.Maps.{Entries}
 use Rattle.rmp_decode.proofs.Seqs.{Values}
-use Rattle.rmp_serde.specs.ValueReads.{reads_value}
-use Rattle.rmp_serde.proofs.value.deserialize.+fn-read_value-next_element_with+fn-read_value-next_key_with+fn-read_value-next_value_with+read_value.Given as goal
+use Rattle.rmp_serde.specs.Read.{reads_value}
+use Rattle.rmp_serde.proofs.value.read.+fn-read_value-next_element_with+fn-read_value-next_key_with+fn-read_value-next_value_with+read_value.Given as goal
 
 abbrev pub decreases-next_element_with : goal.decreases-next_element_with
 decreases-next_element_with g l = 2 * l.de.now.room + 1

@@ -11,9 +11,9 @@ use Rattle.rmp_decode.proofs.AnyReads.{any_unopened, raw_short, raw_not_text}
 use Rattle.rmp_decode.proofs.Contents.{bin_content, ext_content}
 use Rattle.rmp_decode.proofs.Maps.{entries_start, entries_step}
 use Rattle.rmp_decode.proofs.Seqs.{values_start, values_step}
-use Rattle.rmp_serde.specs.ValueReads.{reads_value}
+use Rattle.rmp_serde.specs.Read.{reads_value}
 use Rattle.rmp_serde.proofs.ValueReading.{whole_back, tag_back, some_if, some_if_err, none_left, never_none, never_none_key, item_taken, item_refused, key_read, key_refused, value_read, value_refused, list_value, list_refused, map_value, map_key_refused, map_value_refused, value_fits, leaf_fits, at_last, ends_at, text_value, bin_value, ext_value, text_utf8}
-use Rattle.rmp_serde.proofs.value.deserialize.+fn-read_value-next_element_with+fn-read_value-next_key_with+fn-read_value-next_value_with+read_value.Goals as goal
+use Rattle.rmp_serde.proofs.value.read.+fn-read_value-next_element_with+fn-read_value-next_key_with+fn-read_value-next_value_with+read_value.Goals as goal
 
 pub returns-in_err-leaf : goal.returns-in_err-leaf
 returns-in_err-leaf g t c =
