@@ -2,5 +2,6 @@ pub mod Input
 pub mod Lines
 pub mod Messages
 pub mod Output
+pub mod Prints
 pub mod Refusals
 pub mod TreeText

@@ -1,17 +1,18 @@
 //! The engine: lines of hex in, lines of text out.
-ghost use Rattle.std.specs.Prelude.{◌≡◌, ◌++◌, ◌∷◌, [], All, map, IsTrue, IfOk, OnOk, IfErr, IfSome, string_bytes};
+ghost use Rattle.std.specs.Prelude.{◌≡◌, ◌≢◌, false, map, IfOk, OnOk, IfErr, IfSome, string_bytes};
 ghost use Rattle.std.specs.Io.KnownBytes.{Appends, Consumes};
 ghost use Rattle.mpcanon.specs.Input.{StopsReading, ReadsInput};
-ghost use Rattle.mpcanon.specs.Lines.{lines_in, digits_in, IsBlank, IsHex};
-ghost use Rattle.mpcanon.specs.Messages.{message_text, error_name};
+ghost use Rattle.mpcanon.specs.Lines.{lines_in, digits_in};
+ghost use Rattle.mpcanon.specs.Messages.{message_text, refused_text, error_name, no_hex_text};
 ghost use Rattle.mpcanon.specs.Output.{PrintsLines, PrintsRun};
+ghost use Rattle.mpcanon.specs.Prints.{line, PrintsMessages, PrintsLine, PrintsAll, Puts};
 ghost use Rattle.mpcanon.specs.Refusals.{refusal_text};
 
 use crate::tree_text::{write_hex, write_tree};
 use hex::FromHexError;
-use rmp_serde::decode::Error;
+use rmp_decode::{Deserialize, Deserializer, Error};
 use rmp_serde::wire::{Sink, Source, ValueWriteError};
-use rmp_serde::{Value, from_slice, to_vec};
+use rmp_serde::{Value, to_vec};
 use std::alloc::{AllocError, AllocFailed, Global};
 use std::{fmt, io};
 
@@ -60,6 +61,7 @@ enum Refusal {
 
 impl fmt::Display for Refusal {
     ghost use Rattle.std.specs.Prelude.{Some};
+    ghost use Rattle.mpcanon.specs.Prints.{line, PrintsMessages, PrintsLine, PrintsAll, Puts};
     ghost use Rattle.mpcanon.specs.Refusals.{refusal_text};
 
     ghost output = { λ r. Some (refusal_text r) };
@@ -122,7 +124,7 @@ fn read_to_end<R: Source>(alloc: Global, source: &mut R) -> Result<Vec<u8>, RunF
 
 // Prints a text and the end of its line, as one piece.
 fn print_line<W: Sink>(sink: &mut W, mut text: String) -> Result<(), RunFault>
-    ensures line { OnOk result (Appends (W.told sink.old) (W.told sink.new) (string_bytes text ++ 10 ∷ [])) }
+    ensures line { OnOk result (Appends (W.told sink.old) (W.told sink.new) (line (string_bytes text))) }
     ensures prints { PrintsLines W.Sink sink.old sink.new result }
 {
     text.push('\n')?;
@@ -136,12 +138,30 @@ fn print_line<W: Sink>(sink: &mut W, mut text: String) -> Result<(), RunFault>
 
 // Prints a refusal.
 fn refuse<W: Sink>(alloc: Global, sink: &mut W, refusal: Refusal) -> Result<bool, RunFault>
-    ensures refused { IfOk result (λ accepted. ¬ IsTrue accepted) }
-    ensures line { OnOk result (Appends (W.told sink.old) (W.told sink.new) (refusal_text refusal ++ 10 ∷ [])) }
+    ensures refused { IfOk result (λ accepted. accepted ≡ false) }
+    ensures line { OnOk result (Appends (W.told sink.old) (W.told sink.new) (line (refusal_text refusal))) }
     ensures prints { PrintsLines W.Sink sink.old sink.new result }
 {
     print_line(sink, format!(in alloc; "{refusal}")?)?;
     Ok(false)
+}
+
+// Prints the refusal of what stands at a place of a line's bytes.
+fn refuse_message<W: Sink>(
+    alloc: Global,
+    sink: &mut W,
+    place: usize,
+    error: Error,
+) -> Result<bool, RunFault>
+    ensures memory { OnOk result (error ≢ Error.OutOfMemory) }
+    ensures refused { IfOk result (λ accepted. accepted ≡ false) }
+    ensures line { OnOk result (Appends (W.told sink.old) (W.told sink.new) (line (refused_text place error))) }
+    ensures prints { PrintsLines W.Sink sink.old sink.new result }
+{
+    match error {
+        Error::OutOfMemory => Err(RunFault::Memory),
+        other => refuse(alloc, sink, Refusal::Message(place, other)),
+    }
 }
 
 // A message's tree and its canonical spelling in hex.
@@ -160,34 +180,52 @@ fn text_of(alloc: Global, value: &Value) -> Result<String, RunFault>
     Ok(text)
 }
 
-// Prints the first message of a line's bytes, and says whether there is one.
-fn run_message<W: Sink>(alloc: Global, bytes: &[u8], sink: &mut W) -> Result<bool, RunFault>
+// Prints the refusal of a line that isn't hex.
+fn refuse_hex<W: Sink>(alloc: Global, sink: &mut W, error: FromHexError) -> Result<bool, RunFault>
+    ensures hex { OnOk result (error ≢ FromHexError.OutOfMemory) }
+    ensures refused { IfOk result (λ accepted. accepted ≡ false) }
+    ensures line { OnOk result (Appends (W.told sink.old) (W.told sink.new) (line no_hex_text)) }
     ensures prints { PrintsLines W.Sink sink.old sink.new result }
 {
-    let value = match from_slice::<Value>(alloc, bytes) {
-        Ok(value) => value,
-        Err(Error::OutOfMemory) => return Err(RunFault::Memory),
-        Err(error) => return refuse(alloc, sink, Refusal::Message(0, error)),
-    };
-    print_line(sink, text_of(alloc, &value)?)?;
+    match error {
+        FromHexError::OutOfMemory => Err(RunFault::Memory),
+        _ => refuse(alloc, sink, Refusal::Hex),
+    }
+}
+
+// The same of a message that isn't needed any more.
+fn text_of_owned(alloc: Global, value: Value) -> Result<String, RunFault>
+    ensures text { IfOk result (λ text. string_bytes text ≡ message_text value) }
+    ensures memory { IfErr result (λ fault. fault ≡ RunFault.Memory) }
+{
+    text_of(alloc, &value)
+}
+
+// Prints the messages of a line's bytes, up to the first refusal, and says whether there was none.
+fn run_messages<W: Sink>(alloc: Global, bytes: &[u8], sink: &mut W) -> Result<bool, RunFault>
+    ensures shown { IfOk result (λ accepted. Puts W.Sink (λ out. PrintsMessages bytes.now out accepted) sink.old sink.new) }
+    ensures prints { PrintsLines W.Sink sink.old sink.new result }
+{
+    let mut de = Deserializer::from_read_ref(alloc, bytes);
+    while !de.remaining_slice().is_empty() {
+        let place = bytes.len() - de.remaining_slice().len();
+        match Value::deserialize(&mut de) {
+            Ok(value) => print_line(sink, text_of_owned(alloc, value)?)?,
+            Err(error) => return refuse_message(alloc, sink, place, error),
+        }
+    }
     Ok(true)
 }
 
 // Prints what a line comes to, and says whether nothing in it was refused.
 fn run_line<W: Sink>(alloc: Global, line: &[u8], sink: &mut W) -> Result<bool, RunFault>
-    ensures hex { IfOk result (λ accepted. IsTrue accepted → IsHex line.now) }
-    ensures blank { IfOk result (λ accepted. IsBlank line.now → IsTrue accepted) }
-    ensures silent { IsBlank line.now → W.told sink.new ≡ W.told sink.old }
+    ensures shown { IfOk result (λ accepted. Puts W.Sink (λ out. PrintsLine line.now out accepted) sink.old sink.new) }
     ensures prints { PrintsLines W.Sink sink.old sink.new result }
 {
     let digits = digits_of(alloc, line)?;
-    if digits.is_empty() {
-        return Ok(true);
-    }
     match hex::decode(alloc, digits.as_slice()) {
-        Ok(bytes) => run_message(alloc, bytes.as_slice(), sink),
-        Err(FromHexError::OutOfMemory) => Err(RunFault::Memory),
-        Err(_) => refuse(alloc, sink, Refusal::Hex),
+        Ok(bytes) => run_messages(alloc, bytes.as_slice(), sink),
+        Err(e) => refuse_hex(alloc, sink, e),
     }
 }
 
@@ -200,17 +238,13 @@ fn lines_of<'a>(alloc: Global, input: &'a [u8]) -> Result<Vec<&'a [u8]>, AllocEr
 
 // Prints what each line comes to, and says whether nothing was refused.
 fn run_lines<W: Sink>(alloc: Global, input: &[u8], sink: &mut W) -> Result<bool, RunFault>
-    ensures hex { IfOk result (λ accepted. IsTrue accepted → All IsHex (lines_in input.now)) }
-    ensures blank { IfOk result (λ accepted. All IsBlank (lines_in input.now) → IsTrue accepted) }
-    ensures silent { OnOk result (All IsBlank (lines_in input.now) → W.told sink.new ≡ W.told sink.old) }
+    ensures shown { IfOk result (λ accepted. Puts W.Sink (λ out. PrintsAll (lines_in input.now) out accepted) sink.old sink.new) }
     ensures prints { PrintsLines W.Sink sink.old sink.new result }
 {
     let lines = lines_of(alloc, input)?;
     let mut accepted = true;
     for line in &lines {
-        if !run_line(alloc, line, sink)? {
-            accepted = false;
-        }
+        accepted &= run_line(alloc, line, sink)?;
     }
     Ok(accepted)
 }
@@ -229,14 +263,9 @@ pub fn run<R: Source, W: Sink>(
     source: &mut R,
     sink: &mut W,
 ) -> Result<bool, RunFault>
-    // Where nothing is refused, each line is hex.
-    ensures hex { IfOk result (λ accepted. IfSome (R.ahead source.old)
-        (λ input. IsTrue accepted → All IsHex (lines_in input))) }
-    // Blank lines are accepted, and print nothing.
-    ensures blank { IfOk result (λ accepted. IfSome (R.ahead source.old)
-        (λ input. All IsBlank (lines_in input) → IsTrue accepted)) }
-    ensures silent { OnOk result (IfSome (R.ahead source.old)
-        (λ input. All IsBlank (lines_in input) → W.told sink.new ≡ W.told sink.old)) }
+    // Each line is printed as its definition says, and the answer is whether nothing was refused.
+    ensures shown { IfOk result (λ accepted. IfSome (R.ahead source.old)
+        (λ input. Puts W.Sink (λ out. PrintsAll (lines_in input) out accepted) sink.old sink.new)) }
     // The input is read to its end, or to the source's first fault.
     ensures reads { ReadsInput R.Source source.old source.new result }
     // However the run ends, what was there before stays, and whole lines follow it, or a beginning of whole lines where

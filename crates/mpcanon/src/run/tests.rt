@@ -5,10 +5,10 @@ use rmp_serde::wire::SinkFault;
 use std::io::ErrorKind;
 use std::process::Abort;
 
-// Three lines, and what they print.
+// Three lines, of which the second has two messages, and what they print.
 const LINES: &str = "92cd0005d90161\n2A c3\n93c0c2d3ffffffffffffffdf\n";
 
-const PRINTED: &str = "[5,t:61] 9205a161\n42 2a\n[nil,false,-33] 93c0c2d0df\n";
+const PRINTED: &str = "[5,t:61] 9205a161\n42 2a\ntrue c3\n[nil,false,-33] 93c0c2d0df\n";
 
 // Gives one byte a pull, and fails once it was pulled so many times.
 #[derive(Drop)]

@@ -1,6 +1,7 @@
-use Rattle.std.proofs.Common.{IsTrue, All, ◌≡◌}
-use Rattle.std.proofs.lemmas.Result.{err_from_is_err_and, IfOk-weaker, on_ok_weaker}
-use Rattle.mpcanon.specs.Lines.{lines_in, IsBlank, IsHex}
+use Rattle.std.proofs.Common.{Bool, List, ℕ}
+use Rattle.std.proofs.lemmas.Result.{err_from_is_err_and, IfOk-weaker}
+use Rattle.mpcanon.specs.Lines.{lines_in}
+use Rattle.mpcanon.specs.Prints.{PrintsAll, Puts}
 use Rattle.mpcanon.proofs.Printing.{run_prints, unread_prints, printing_reads, unread_reads, on_input}
 use Rattle.mpcanon.proofs.run.run.Goals as goal
 
@@ -14,24 +15,12 @@ returns-in_err-input-clause-prints g c =
     let p = err_from_is_err_and c.from_residual.result c.from_residual.ensures.1 in
     rw (p.1, p.2) (unread_prints g.W.Sink c.args.sink.now _ _ _ c.in_err-input.ensures.stops)
 
-pub returns-clause-hex : goal.returns-clause-hex
-returns-clause-hex g c =
-    IfOk-weaker c.run_lines.result (λ accepted. IsTrue accepted → All IsHex (lines_in c.as_slice.result.now)) _
-    (λ accepted h. on_input _ _ (λ input. IsTrue accepted → All IsHex (lines_in input)) c.in_ok-input.ensures.whole (rw c.as_slice.ensures.value at h))
-    c.run_lines.ensures.hex
-
-pub returns-clause-blank : goal.returns-clause-blank
-returns-clause-blank g c =
-    IfOk-weaker c.run_lines.result (λ accepted. All IsBlank (lines_in c.as_slice.result.now) → IsTrue accepted) _
-    (λ accepted h. on_input _ _ (λ input. All IsBlank (lines_in input) → IsTrue accepted) c.in_ok-input.ensures.whole (rw c.as_slice.ensures.value at h))
-    c.run_lines.ensures.blank
-
-pub returns-clause-silent : goal.returns-clause-silent
-returns-clause-silent g c =
-    let told = g.W.Sink.told in
-    on_ok_weaker c.run_lines.result
-    (λ h. on_input _ _ (λ input. All IsBlank (lines_in input) → told c.run_lines.new.sink ≡ told c.args.sink.now) c.in_ok-input.ensures.whole (rw c.as_slice.ensures.value at h))
-    c.run_lines.ensures.silent
+pub returns-clause-shown : goal.returns-clause-shown
+returns-clause-shown g c =
+    let shown : Bool → List ℕ → Type 0 = λ accepted input. Puts g.W.Sink (λ out. PrintsAll (lines_in input) out accepted) c.args.sink.now c.run_lines.new.sink in
+    IfOk-weaker c.run_lines.result (λ accepted. shown accepted c.as_slice.result.now) _
+    (λ accepted h. on_input _ _ (shown accepted) c.in_ok-input.ensures.whole (rw c.as_slice.ensures.value at h))
+    c.run_lines.ensures.shown
 
 pub returns-clause-reads : goal.returns-clause-reads
 returns-clause-reads g c =
