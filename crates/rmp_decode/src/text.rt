@@ -24,7 +24,7 @@ pub enum Text {
 #[derive(Clone, Copy)]
 pub struct OwnText {
     bytes: [u8; 30],
-    len: usize,
+    len: u8,
     ghost within: { len ≤ 30 },
     ghost utf8: { ∥ IsUtf8 (take len bytes) ∥₁ },
 }
@@ -37,15 +37,17 @@ impl OwnText {
         ensures { own_words result ≡ text.now }
     {
         let mut bytes = [0; 30];
-        let len = text.len();
-        bytes[..len].copy_from_slice(text.as_bytes());
-        OwnText { bytes, len }
+        bytes[..text.len()].copy_from_slice(text.as_bytes());
+        OwnText {
+            bytes,
+            len: text.len() as u8,
+        }
     }
 
     fn as_str(&self) -> &str
         ensures { result.now ≡ own_words self.now }
     {
-        str::from_utf8(&self.bytes[..self.len]).unwrap()
+        str::from_utf8(&self.bytes[..usize::from(self.len)]).unwrap()
     }
 }
 
