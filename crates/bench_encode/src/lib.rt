@@ -8,7 +8,7 @@ mod entry;
 
 use entry::Entry;
 use rmp_encode::{Error, Serialize, write};
-use rmp_serde::from_slice;
+use rmp_serde::{Value, from_slice};
 use rmp_wire::Bytes;
 use std::alloc::{AllocError, Global};
 
@@ -98,7 +98,7 @@ pub extern "C" fn bench_encode_bytes(alloc: Global, data: &[u8], reps: u32) -> u
 /// Writes the message that `data` spells, as a value of any kind.
 #[unsafe(no_mangle)]
 pub extern "C" fn bench_encode_value(alloc: Global, data: &[u8], reps: u32) -> usize {
-    let Ok(value) = from_slice(alloc, data) else {
+    let Ok(value) = from_slice::<Value>(alloc, data) else {
         return 0;
     };
     rounds(alloc, &value, reps).unwrap_or(0)

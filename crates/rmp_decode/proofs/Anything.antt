@@ -5,12 +5,14 @@ use Rattle.rmp_wire.specs.declared.marker.Marker.{Marker}
 use Rattle.rmp_wire.specs.declared.source.Source.{Ghosts}
 use Rattle.rmp_wire.specs.Msg.{Msg, nil, truth, whole, float32, float64, text, bin, list, map, extension, depth}
 use Rattle.rmp_wire.specs.Spelling.{head_of}
-use Rattle.rmp_decode.specs.Anys.{FailsToOpenAny}
+use Rattle.rmp_decode.specs.Anys.{FailsToOpenAny, too_deep}
 use Rattle.rmp_decode.specs.Law.{ReadsHead}
 use Rattle.rmp_decode.specs.Skip.{parts_head}
 use Rattle.rmp_decode.specs.State.{left, room_of}
 use Rattle.rmp_decode.specs.declared.de.Deserializer.{Deserializer}
 use Rattle.rmp_decode.specs.declared.error.Error.{Error}
+use Rattle.rmp_decode.specs.declared.error.Error.TheVariants.{DepthLimitExceeded}
+use Rattle.rmp_decode.proofs.Exactness.{exact_head, exact_none}
 use Rattle.rmp_decode.proofs.Refusals.{refuses_none, refuses_by, same_head}
 
 -- a list or a map nests
@@ -38,11 +40,11 @@ parts_nest false (extension tag s) n e = absurd (cc)
 
 module _ {R C : Type 0} (g : Ghosts R) (old new : Deserializer R C) (e : Error) where
   pub any_missing : ReadsHead g old new (Err e) → FailsToOpenAny g old new e
-  any_missing h = record { failed = h.failed; stays = h.stays; before = h.before; err = λ o n k. refuses_none _ _ _ (h.err o n k) }
+  any_missing h = record { failed = h.failed; stays = h.stays; before = h.before; err = λ o n k. refuses_none _ _ _ (h.err o n k); exact = λ o. exact_none too_deep _ _ (left g old) e (h.ends o) }
 
   -- a list or a map would nest too deep
-  pub any_too_deep : (p : Marker × Head) (q : Bool × ℕ) → ReadsHead g old new (Ok p) → p.1 ≡ parts_head q.0 q.1 → room_of old ≤ 1 → FailsToOpenAny g old new e
-  any_too_deep p q h i l = record {
+  pub any_too_deep : (p : Marker × Head) (q : Bool × ℕ) → ReadsHead g old new (Ok p) → p.1 ≡ parts_head q.0 q.1 → room_of old ≤ 1 → e ≡ DepthLimitExceeded → FailsToOpenAny g old new e
+  any_too_deep p q h i l is = record {
     failed = h.failed;
     stays = h.stays;
     before = λ f. absurd (let o = h.fresh in cc);
@@ -51,4 +53,5 @@ module _ {R C : Type 0} (g : Ghosts R) (old new : Deserializer R C) (e : Error) 
         let d = parts_nest q.0 a.tree q.1 (u.0 ∙ i) in
         let f = a.fits in
         omega arith);
+    exact = λ _. exact_head too_deep _ _ (left g old) p.0 p.1 e h.marked is;
   }

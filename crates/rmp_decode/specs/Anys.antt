@@ -9,6 +9,7 @@ use Rattle.rmp_wire.specs.declared.source.Source.{Ghosts}
 use Rattle.rmp_wire.specs.Msg.{Msg, nil, truth, whole, float32, float64}
 use Rattle.rmp_wire.specs.Sources.{IsShort}
 use Rattle.rmp_wire.specs.Spelling.{Spells, IsBytes}
+use Rattle.rmp_decode.specs.Exact.{RefusesExactly}
 use Rattle.rmp_decode.specs.Law.{Lawful, ReadsHead, Refuses, Explains, IsFailedBefore}
 use Rattle.rmp_decode.specs.Maps.{OpensMap}
 use Rattle.rmp_decode.specs.Seq.{Opens}
@@ -19,6 +20,7 @@ use Rattle.rmp_decode.specs.declared.de.any.Any.TheVariants as any
 use Rattle.rmp_decode.specs.declared.de.any.Leaf.{Leaf}
 use Rattle.rmp_decode.specs.declared.de.any.RawAccess.{RawAccess}
 use Rattle.rmp_decode.specs.declared.error.Error.{Error}
+use Rattle.rmp_decode.specs.declared.error.Error.TheVariants.{DepthLimitExceeded}
 
 -- `leaf.value()`
 abbrev pub leaf_value : {R C T : Type 0} → Leaf R C T → T
@@ -71,12 +73,17 @@ OpensAny g old (any.Seq a) = Opens g old a × (a.bytes ≡ false)
 OpensAny g old (any.Map a) = OpensMap g old a
 OpensAny g old (any.Ext a) = OpensRaw g (head.Ext a.len a.tag) old a
 
+-- a message whose head stands there is refused only where it is a list or a map that would nest too deep
+abbrev pub too_deep : Marker → Head → Error
+too_deep m h = DepthLimitExceeded
+
 -- no message that nests below the room begins there
 pub record FailsToOpenAny {R C : Type 0} (g : Ghosts R) (old new : Deserializer R C) (e : Error) : Type 0 where
   pub failed : new.failed ≡ true
   pub stays : Stays g old new
   pub before : old.failed ≡ true → IsFailedBefore e × (new ≡ old)
   pub err : old.failed ≡ false → Explains e (faults_of g old) (faults_of g new) (Refuses Spells (λ m. Unit {0}) (room_of old) (left g old))
+  pub exact : old.failed ≡ false → RefusesExactly too_deep (faults_of g old) (faults_of g new) (left g old) e
 
 -- the content was taken, and the reader is ready
 pub record TakesContent {R C : Type 0} (g : Ghosts R) (len : ℕ) (old new : Deserializer R C) (s : List ℕ) : Type 0 where
