@@ -220,6 +220,9 @@ class Body:
         if kind == "TupleS":
             self.uses.add("crate::tuple_struct::TupleS")
             return value
+        if kind == "NewU8":
+            self.uses.add("sample_types::NewU8")
+            return value
         if kind.startswith("(") and kind.endswith(")"):
             kinds, parts = split(kind[1:-1]), split(value[1:-1])
             made = [self.value(k, p) for k, p in zip(kinds, parts, strict=True)]

@@ -52,6 +52,6 @@ impl<'a, W: Sink, C: SerializerConfig> ExtFieldSerializer<'a, W, C> {
         ensures refused { StaysAtRefusal (tagged_inside self.entry) self.exit.0.now result }
     {
         let ExtFieldSerializer { se, tag } = self;
-        se.put_extension(tag, bytes)
+        se.serialize_ext(tag, bytes)
     }
 }

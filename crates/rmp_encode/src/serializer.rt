@@ -407,8 +407,12 @@ impl<W: Sink, C: SerializerConfig> Serializer<W, C> {
         answer(write_bin(&mut self.wr, bytes))
     }
 
-    // Writes an extension.
-    pub(crate) fn put_extension(&mut self, tag: i8, bytes: &[u8]) -> Result<(), Error>
+    /// Writes an extension: its type, from -128 to 127, and its bytes. 2 ^ 32 bytes or more are refused, and nothing is
+    /// written.
+    ///
+    /// This is an own call. It does what `extension().tag(t).bytes(b)` does, in one step, so that a type that is written by it
+    /// can say what becomes of its serializer.
+    pub fn serialize_ext(&mut self, tag: i8, bytes: &[u8]) -> Result<(), Error>
         ensures writes { WritesTree W.Sink W.takes_memory (Some (extension tag bytes.now)) (sink_of self.old) (sink_of self.new) result }
         ensures keeps { Keeps W.Sink self.old self.new }
         ensures refused { StaysAtRefusal self.old self.new result }

@@ -1,6 +1,8 @@
 //! Types that the samples need and users write by hand.
 #![tactic(auto)]
 
+mod newtype;
 mod unknown;
 
+pub use newtype::NewU8;
 pub use unknown::{UnkMap, UnkSeq};

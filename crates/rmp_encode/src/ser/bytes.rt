@@ -107,7 +107,7 @@ impl Serialize for Ext {
         &self,
         se: &mut Serializer<W, C>,
     ) -> Result<(), Error> {
-        se.put_extension(self.tag(), self.as_bytes())
+        se.serialize_ext(self.tag(), self.as_bytes())
     }
 
     #[inline(always)]

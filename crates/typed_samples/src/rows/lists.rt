@@ -1,6 +1,7 @@
 //! Vectors and slices. Written by tools/typed_samples.py.
 use crate::fault::Fault;
 use crate::row::{Rows, Setting};
+use sample_types::NewU8;
 use std::alloc::Global;
 
 fn rows_1(alloc: Global, rows: &mut Rows) -> Result<(), Fault> {
@@ -98,6 +99,12 @@ fn rows_4(alloc: Global, rows: &mut Rows) -> Result<(), Fault> {
         &[Setting::NamedForceIterables],
         &vec![in alloc; Box::new(alloc, 200u8)?, Box::new(alloc, 1u8)?]?,
     )?;
+    rows.add(
+        "Vec<NewU8>",
+        "vec![NewU8(1), NewU8(200)]",
+        &[Setting::NamedForceIterables],
+        &vec![in alloc; NewU8(1), NewU8(200)]?,
+    )?;
     let value_1: Vec<u8> = Vec::new(alloc);
     rows.add(
         "Vec<Vec<u8>>",
@@ -107,16 +114,16 @@ fn rows_4(alloc: Global, rows: &mut Rows) -> Result<(), Fault> {
     )?;
     let value_2: Vec<Vec<u8>> = Vec::new(alloc);
     rows.add("Vec<Vec<u8>>", "vec![]", &[Setting::TupleNamed], &value_2)?;
+    Ok(())
+}
+
+fn rows_5(alloc: Global, rows: &mut Rows) -> Result<(), Fault> {
     rows.add(
         "Vec<String>",
         "vec![s(\"a\"), s(\"\")]",
         &[Setting::TupleNamed],
         &vec![in alloc; String::from_str(alloc, "a")?, String::from_str(alloc, "")?]?,
     )?;
-    Ok(())
-}
-
-fn rows_5(alloc: Global, rows: &mut Rows) -> Result<(), Fault> {
     rows.add(
         "Vec<(u8, u8)>",
         "vec![(1, 200), (3, 4)]",

@@ -2,6 +2,7 @@
 use crate::fault::Fault;
 use crate::row::{Rows, Setting};
 use crate::tuple_struct::TupleS;
+use sample_types::NewU8;
 use std::alloc::Global;
 
 fn rows_1(alloc: Global, rows: &mut Rows) -> Result<(), Fault> {
@@ -81,6 +82,18 @@ fn rows_4(alloc: Global, rows: &mut Rows) -> Result<(), Fault> {
         &(200u8, -1i8, true, 'x', String::from_str(alloc, "y")?),
     )?;
     rows.add(
+        "(NewU8, NewU8)",
+        "(NewU8(200), NewU8(201))",
+        &[
+            Setting::Default,
+            Setting::NamedTuple,
+            Setting::Human,
+            Setting::ForceAll,
+            Setting::NamedForceIterables,
+        ],
+        &(NewU8(200), NewU8(201)),
+    )?;
+    rows.add(
         "(&u8, Box<u8>)",
         "(&200, Box::new(1))",
         &[Setting::NamedTuple, Setting::NamedForceAll],
@@ -92,16 +105,16 @@ fn rows_4(alloc: Global, rows: &mut Rows) -> Result<(), Fault> {
         &[Setting::NamedForceIterables],
         &([1u8, 2u8], 200u8),
     )?;
+    Ok(())
+}
+
+fn rows_5(alloc: Global, rows: &mut Rows) -> Result<(), Fault> {
     rows.add(
         "(u8, (u8, u8))",
         "(200, (1, 200))",
         &[Setting::NamedForceIterables],
         &(200u8, (1u8, 200u8)),
     )?;
-    Ok(())
-}
-
-fn rows_5(alloc: Global, rows: &mut Rows) -> Result<(), Fault> {
     rows.add(
         "(u8, (u8, u8))",
         "(3, (4, 5))",
@@ -120,16 +133,16 @@ fn rows_5(alloc: Global, rows: &mut Rows) -> Result<(), Fault> {
         &[Setting::NamedForceIterables],
         &(vec![in alloc; 1u8, 200u8]?, vec![in alloc; 1u16]?),
     )?;
+    Ok(())
+}
+
+fn rows_6(alloc: Global, rows: &mut Rows) -> Result<(), Fault> {
     rows.add(
         "Box<Vec<u8>>",
         "Box::new(vec![200])",
         &[Setting::ForceAll],
         &Box::new(alloc, vec![in alloc; 200u8]?)?,
     )?;
-    Ok(())
-}
-
-fn rows_6(rows: &mut Rows) -> Result<(), Fault> {
     rows.add(
         "&(u8, u8)",
         "&(200, 1)",
@@ -146,6 +159,6 @@ pub fn all(alloc: Global, rows: &mut Rows) -> Result<(), Fault> {
     rows_3(rows)?;
     rows_4(alloc, rows)?;
     rows_5(alloc, rows)?;
-    rows_6(rows)?;
+    rows_6(alloc, rows)?;
     Ok(())
 }

@@ -5,7 +5,7 @@ use Rattle.std.proofs.lemmas.Result.{err_from_is_err_and}
 use Rattle.rmp_encode.proofs.Leaves.{ext_too_long, ext_tree, ext_as, bytes_from}
 use Rattle.rmp_encode.proofs.OpenSteps.{never_refused, never_refused_by}
 use Rattle.rmp_encode.proofs.Parts.{part_then, part_stops}
-use Rattle.rmp_encode.proofs.serializer.Serializer.put_extension.Goals as goal
+use Rattle.rmp_encode.proofs.serializer.Serializer.serialize_ext.Goals as goal
 
 pub returns-then-bytes-clause-writes : goal.returns-then-bytes-clause-writes
 returns-then-bytes-clause-writes g c = ext_too_long g.W.Sink _ c.args.tag c.args.bytes.now _ _ (inl refl) (omega arith)
