@@ -8,7 +8,7 @@ pub mod laws;
 mod own_type;
 mod value;
 
-pub use decode::from_slice;
+pub use decode::{Deserializer, from_read_ref, from_slice};
 pub use encode::{Serializer, to_vec, to_vec_named};
 pub use rmp_wire as wire;
 pub use rmp_wire::{Marker, config};
