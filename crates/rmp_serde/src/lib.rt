@@ -3,6 +3,8 @@
 
 pub mod decode;
 pub mod encode;
+#[cfg(test)]
+mod example;
 pub mod laws;
 #[cfg(test)]
 mod own_type;
