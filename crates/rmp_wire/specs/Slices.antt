@@ -1,6 +1,8 @@
 -- What a call that answers a piece of the input gives.
 use Rattle.std.specs.Prelude.{◌≡◌, ℕ, ◌<◌, Bool, true, false, List, Option, IfSome, Result, length, MatchResult}
 use Rattle.std.specs.Io.KnownBytes.{Consumes}
+use Rattle.std.specs.IoError.{error_kind}
+use Rattle.std.specs.declared.io.ErrorKind.TheVariants.{UnexpectedEof}
 use Rattle.rmp_wire.specs.declared.slice.Reference.{Reference}
 use Rattle.rmp_wire.specs.declared.slice.Reference.TheVariants.{Borrowed, Copied}
 use Rattle.rmp_wire.specs.declared.slice.SourceFault.{SourceFault}
@@ -17,10 +19,10 @@ abbrev pub is_lent : Reference → Bool
 is_lent (Borrowed s) = true
 is_lent (Copied s) = false
 
--- a fault that isn't want of memory comes of the source, or of fewer bytes than were asked for
+-- a fault that isn't want of memory comes of the source, or says that the input ended, where fewer bytes are ahead than were asked for
 abbrev pub Blames : SourceFault → ℕ → ℕ → Option (List ℕ) → ℕ → Type 0
 Blames Memory before after ahead len = Unit {0}
-Blames (Io e) before after ahead len = after ≡ before → IsShort len ahead
+Blames (Io e) before after ahead len = after ≡ before → IsShort len ahead × (error_kind e ≡ UnexpectedEof)
 
 -- the bytes were taken with no fault of the source (it counts them: before, after), or the error is blamed
 abbrev pub SliceRead : Option (List ℕ) → Option (List ℕ) → ℕ → ℕ → ℕ → Result Reference SourceFault → Type 0
