@@ -2,6 +2,7 @@
 use Rattle.std.proofs.Common.{◌≡◌, ◌∙◌, sym, ap, subst, refl, ℕ, ◌<◌, ◌≤◌, arith, List, ◌++◌, length, Option, None, Some, Bool, true, false, Ok, Err}
 use Rattle.std.specs.Io.KnownBytes.{Consumes}
 use Rattle.rmp_wire.specs.declared.head.Head.{Head}
+use Rattle.rmp_wire.specs.declared.head.Head.TheVariants as head
 use Rattle.rmp_wire.specs.declared.head.Head.TheVariants.{Array}
 use Rattle.rmp_wire.specs.declared.marker.Marker.{Marker}
 use Rattle.rmp_wire.specs.declared.source.Source.{Ghosts}
@@ -9,10 +10,13 @@ use Rattle.rmp_wire.specs.Heads.{IsHead}
 use Rattle.rmp_wire.specs.Msg.{Msg, nil, truth, whole, float32, float64, text, bin, list, map, extension, count, depth}
 use Rattle.rmp_wire.specs.Spelling.{Spells, head_of}
 use Rattle.rmp_decode.specs.Law.{Refuses, ReadsHead}
-use Rattle.rmp_decode.specs.Seq.{IsSeq, seq_head, FailsToOpen}
+use Rattle.rmp_decode.specs.Seq.{IsSeq, seq_head, not_seq, FailsToOpen}
 use Rattle.rmp_decode.specs.State.{left, room_of, Stays}
 use Rattle.rmp_decode.specs.declared.de.Deserializer.{Deserializer}
 use Rattle.rmp_decode.specs.declared.error.Error.{Error}
+use Rattle.rmp_decode.specs.declared.error.Error.TheVariants.{DepthLimitExceeded, Syntax}
+use Rattle.rmp_decode.specs.declared.text.Text.TheVariants.{InvalidType}
+use Rattle.rmp_decode.proofs.Exactness.{exact_head, exact_none}
 use Rattle.rmp_decode.proofs.Refusals.{refuses_none, refuses_head, refuses_by, same_head}
 
 seq_head_of : (m : Msg) → IsSeq m → (p : Bool × ℕ) × (head_of m ≡ seq_head p.0 p.1)
@@ -40,29 +44,43 @@ nests (list ms) n e = omega arith
 nests (map ps) n e = absurd (cc)
 nests (extension tag s) n e = absurd (cc)
 
+other_than_seq : (m : Marker) (h : Head) → ((p : Bool × ℕ) → h ≡ seq_head p.0 p.1 → ⊥) → not_seq m h ≡ Syntax InvalidType
+other_than_seq m head.Nil f = refl
+other_than_seq m (head.Truth t) f = refl
+other_than_seq m (head.Whole z) f = refl
+other_than_seq m (head.F32Bits n) f = refl
+other_than_seq m (head.F64Bits n) f = refl
+other_than_seq m (head.Text n) f = refl
+other_than_seq m (head.Bin n) f = refl
+other_than_seq m (head.Array n) f = absurd (f (false, n) refl)
+other_than_seq m (head.Map n) f = refl
+other_than_seq m (head.Ext n tag) f = refl
+
 module _ {R C : Type 0} (g : Ghosts R) (old new : Deserializer R C) (e : Error) where
   pub fails_to_begin : ReadsHead g old new (Err e) → FailsToOpen g old new e
-  fails_to_begin h = record { failed = h.failed; stays = h.stays; before = h.before; err = λ o n k. refuses_none _ _ _ (h.err o n k) }
+  fails_to_begin h = record { failed = h.failed; stays = h.stays; before = h.before; err = λ o n k. refuses_none _ _ _ (h.err o n k); exact = λ o. exact_none not_seq _ _ _ e (h.ends o) }
 
   module _ (p : Marker × Head) (h : ReadsHead g old new (Ok p)) where
     -- another kind was there
-    pub no_seq : ((a : Bool × ℕ) → p.1 ≡ seq_head a.0 a.1 → ⊥) → FailsToOpen g old new e
-    no_seq n = record {
+    pub no_seq : ((a : Bool × ℕ) → p.1 ≡ seq_head a.0 a.1 → ⊥) → e ≡ Syntax InvalidType → FailsToOpen g old new e
+    no_seq n is = record {
       failed = h.failed;
       stays = h.stays;
       before = λ f. absurd (let o = h.fresh in cc);
       err = λ _ _ _. refuses_head IsSeq (room_of old) (left g old) (left g new) h.ok.bytes p.1 h.ok.takes h.ok.is_head (λ m i q. let a = seq_head_of m i in n a.0 (sym q ∙ a.1));
+      exact = λ _. exact_head not_seq _ _ _ p.0 p.1 e h.marked (is ∙ sym (other_than_seq p.0 p.1 n));
     }
 
     -- a list would nest too deep
-    pub too_deep : (n : ℕ) → p.1 ≡ Array n → room_of old ≤ 1 → FailsToOpen g old new e
-    too_deep n i l = record {
+    pub too_deep : (n : ℕ) → p.1 ≡ Array n → room_of old ≤ 1 → e ≡ DepthLimitExceeded → FailsToOpen g old new e
+    too_deep n i l d = record {
       failed = h.failed;
       stays = h.stays;
       before = λ f. absurd (let o = h.fresh in cc);
       err = λ _ _ _. refuses_by IsSeq (room_of old) (left g old) (left g new) h.ok.bytes h.ok.takes (λ ys q a.
           let u = same_head a.tree p.1 a.bytes h.ok.bytes a.rest ys a.spelled h.ok.is_head (sym a.front) in
-          let d = nests a.tree n (u.0 ∙ i) in
+          let below = nests a.tree n (u.0 ∙ i) in
           let f = a.fits in
           omega arith);
+      exact = λ _. exact_head not_seq _ _ _ p.0 p.1 e h.marked (d ∙ ap (not_seq p.0) (sym i));
     }

@@ -3,15 +3,19 @@ use Rattle.std.specs.Prelude.{◌≡◌, ◌⊎◌, ℕ, suc, ◌+◌, ◌<◌, 
 use Rattle.std.specs.Io.KnownBytes.{Consumes}
 use Rattle.rmp_wire.specs.declared.head.Head.{Head}
 use Rattle.rmp_wire.specs.declared.head.Head.TheVariants.{Array, Bin}
+use Rattle.rmp_wire.specs.declared.marker.Marker.{Marker}
 use Rattle.rmp_wire.specs.declared.source.Source.{Ghosts}
 use Rattle.rmp_wire.specs.Msg.{Msg, nil, truth, whole, float32, float64, text, bin, list, map, extension, Msgs, no_items, item, count, depth, depth_all}
 use Rattle.rmp_wire.specs.Spelling.{Spells, Joined}
+use Rattle.rmp_decode.specs.Exact.{RefusesExactly}
 use Rattle.rmp_decode.specs.Law.{TakesHead, Refuses, Readable, Explains, IsFailedBefore}
 use Rattle.rmp_decode.specs.State.{left, faults_of, room_of, Stays}
 use Rattle.rmp_decode.specs.declared.de.Deserializer.{Deserializer}
 use Rattle.rmp_decode.specs.declared.de.Kept.TheVariants.{Nothing, Number}
 use Rattle.rmp_decode.specs.declared.de.seq.SeqAccess.{SeqAccess}
 use Rattle.rmp_decode.specs.declared.error.Error.{Error}
+use Rattle.rmp_decode.specs.declared.error.Error.TheVariants.{DepthLimitExceeded, Syntax}
+use Rattle.rmp_decode.specs.declared.text.Text.TheVariants.{InvalidType}
 
 -- the numbers that bytes are
 abbrev pub numbers : List ℕ → Msgs
@@ -96,12 +100,18 @@ pub record Opens {R C : Type 0} (g : Ghosts R) (old : Deserializer R C) (s : Seq
   pub faults_same : faults_of g s.de.now ≡ faults_of g old
   pub opened : IsOpen s
 
+-- how a message that isn't opened as a list is refused: another kind, or a list that would nest too deep (bytes are always opened)
+abbrev pub not_seq : Marker → Head → Error
+not_seq m (Array n) = DepthLimitExceeded
+not_seq m h = Syntax InvalidType
+
 -- no list could be opened
 pub record FailsToOpen {R C : Type 0} (g : Ghosts R) (old new : Deserializer R C) (e : Error) : Type 0 where
   pub failed : new.failed ≡ true
   pub stays : Stays g old new
   pub before : old.failed ≡ true → IsFailedBefore e × (new ≡ old)
   pub err : old.failed ≡ false → Explains e (faults_of g old) (faults_of g new) (Refuses Spells IsSeq (room_of old) (left g old))
+  pub exact : old.failed ≡ false → RefusesExactly not_seq (faults_of g old) (faults_of g new) (left g old) e
 
 -- the next element was read
 pub record TakesElement {R C V : Type 0} (g : Ghosts R) (reads : Msg → V → Type 0) (old new : SeqAccess R C) (v : V) : Type 0 where
