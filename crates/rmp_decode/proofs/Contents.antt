@@ -22,7 +22,7 @@ use Rattle.rmp_decode.proofs.Laws.{refused, refused_head, stays_then}
 use Rattle.rmp_wire.proofs.Heads.{heads_apart}
 use Rattle.rmp_decode.specs.Law.{Refuses}
 use Rattle.rmp_decode.specs.State.{room_of}
-use Rattle.rmp_decode.proofs.Refusals.{content_of, refuses_short, refuses_by}
+use Rattle.rmp_decode.proofs.Refusals.{content_of, refuses_short, refuses_by, refuses_all}
 
 -- with nothing kept back, what is left is what the source has ahead
 bare_known : (known : Option (List ℕ)) → prepend_known [] known ≡ known
@@ -121,6 +121,11 @@ module _ {R C V : Type 0} {make : List ℕ → Msg} {heads : ℕ → Head} (cont
   content_short n e i x f st = refused g reads old new e h.fresh f (stays_then g old mid new h.stays st) (λ o k.
       let s : IsShort n (left g mid) = rw (bare g mid h.clean) (x o (k ∙ sym h.sound)) in
       refuses_short (Readable reads) _ n (left g old) (left g mid) h.ok.bytes p.1 h.ok.takes h.ok.is_head s (λ m r q. content.fills m n (q ∙ i)))
+
+  -- too few bytes are behind the head, or the source doesn't lend, and only what is lent is read
+  pub content_lent : (lends : Bool) (n : ℕ) (e : Error) → p.1 ≡ heads n → ((m : Msg) → Readable reads m → lends ≡ true) → (lends ≡ true → Explains e (g.faults mid.reader) (g.faults new.reader) (IsShort n (g.ahead mid.reader))) → new.failed ≡ true → Stays g mid new → Lawful g reads old new (Err e)
+  content_lent true n e i l x f st = content_short n e i (x refl) f st
+  content_lent false n e i l x f st = refused g reads old new e h.fresh f (stays_then g old mid new h.stays st) (λ _ _. refuses_all Spells (Readable reads) _ _ (λ m r. absurd (let no = l m r in cc)))
 
   -- another kind was there
   pub content_missed : (e : Error) → ((n : ℕ) → p.1 ≡ heads n → ⊥) → ((m : Msg) → Readable reads m → (s : List ℕ) × (m ≡ make s)) → new ≡ mid → Lawful g reads old new (Err e)

@@ -28,7 +28,7 @@ stands_known m h b behind (Some xs) None c e i = absurd c
 stands_known m h b behind (Some xs) (Some ys) c e i = record { byte = b; behind = behind; rest = ys; front = c; is_marker = e; is_head = i }
 
 -- at most one does
-stand_once : (m n : Marker) (h k : Head) (xs : List ℕ) → Stands m h xs → Stands n k xs → (m ≡ n) × (h ≡ k)
+pub stand_once : (m n : Marker) (h k : Head) (xs : List ℕ) → Stands m h xs → Stands n k xs → (m ≡ n) × (h ≡ k)
 stand_once m n h k xs s t =
     let u = heads_apart h k (s.byte ∷ s.behind) (t.byte ∷ t.behind) s.rest t.rest s.is_head t.is_head (sym s.front ∙ t.front) in
     let bytes = u.1 in

@@ -3,6 +3,7 @@ pub mod Anything
 pub mod Arrays
 pub mod Buffers
 pub mod ByteParts
+pub mod ContentErrors
 pub mod Contents
 pub mod Exactness
 pub mod HeadTaken
@@ -14,7 +15,6 @@ pub mod Maps
 pub mod Numbers
 pub mod Opening
 pub mod Orders
-pub mod Others
 pub mod Refusals
 pub mod Rows
 pub mod Seqs

@@ -12,9 +12,10 @@ use Rattle.rmp_wire.specs.Msg.{Msg, nil, truth, whole, float32, float64, text, b
 use Rattle.rmp_wire.specs.Sources.{IsShort}
 use Rattle.rmp_wire.specs.Spelling.{Spells, SpellsPairs, IsBytes, head_of, Joined}
 use Rattle.rmp_wire.proofs.Heads.{heads_apart}
+use Rattle.rmp_decode.specs.Kinds.{content_len}
 use Rattle.rmp_decode.specs.Law.{Begins, Refuses, Readable, Explains, Lawful, ReadsHead}
 use Rattle.rmp_decode.specs.Seq.{SpellsRow, BeginsRow, RefusesRow}
-use Rattle.rmp_decode.specs.Skip.{any_tree, any_row, parts_head, parts_count, content_len, Passes, PassesRow, SkipsRow}
+use Rattle.rmp_decode.specs.Skip.{any_tree, any_row, parts_head, parts_count, Passes, PassesRow, SkipsRow}
 use Rattle.rmp_decode.specs.State.{left, faults_of, room_of, kept_bytes, Stays}
 use Rattle.rmp_decode.specs.declared.de.Deserializer.{Deserializer}
 use Rattle.rmp_decode.specs.declared.de.Kept.TheVariants.{Nothing}

@@ -8,7 +8,7 @@ use Rattle.rmp_wire.specs.declared.head.Head.{Head}
 use Rattle.rmp_wire.specs.declared.marker.Marker.{Marker}
 use Rattle.rmp_wire.specs.declared.marker.Marker.TheVariants.{Reserved}
 use Rattle.rmp_decode.specs.declared.error.Error.{Error}
-use Rattle.rmp_decode.specs.declared.error.Error.TheVariants.{InvalidMarkerRead, InvalidDataRead, TypeMismatch}
+use Rattle.rmp_decode.specs.declared.error.Error.TheVariants.{InvalidMarkerRead, InvalidDataRead, TypeMismatch, Utf8Error}
 
 -- a head stands whole at the front, under this marker
 pub record Stands (m : Marker) (h : Head) (xs : List ℕ) : Type 0 where
@@ -32,6 +32,11 @@ IsMarkerEnd _ = ⊥
 abbrev pub IsDataEnd : Error → Type 0
 IsDataEnd (InvalidDataRead fault) = fault_kind fault ≡ UnexpectedEof
 IsDataEnd _ = ⊥
+
+-- a text isn't UTF-8
+abbrev pub IsUtf8Error : Error → Type 0
+IsUtf8Error (Utf8Error why) = Unit {0}
+IsUtf8Error _ = ⊥
 
 -- the error where no head stands whole at the front: the bytes end before it, the byte c1 is there, or they end inside of it
 abbrev pub Ends : List ℕ → Error → Type 0

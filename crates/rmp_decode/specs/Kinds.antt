@@ -43,3 +43,16 @@ raw_msg false s = bin s
 abbrev pub raw_head : Bool → ℕ → Head
 raw_head true n = Text n
 raw_head false n = Bin n
+
+-- how many bytes of content stand behind the head of a leaf
+abbrev pub content_len : Head → ℕ
+content_len Nil = 0
+content_len (Truth t) = 0
+content_len (Whole z) = 0
+content_len (F32Bits n) = 0
+content_len (F64Bits n) = 0
+content_len (Text n) = n
+content_len (Bin n) = n
+content_len (Array n) = 0
+content_len (Map n) = 0
+content_len (Ext n tag) = n

@@ -1,10 +1,10 @@
 pub mod Anys
 pub mod Buffers
+pub mod Content
 pub mod Exact
 pub mod Kinds
 pub mod Law
 pub mod Maps
-pub mod Others
 pub mod Parts
 pub mod Pieces
 pub mod Read

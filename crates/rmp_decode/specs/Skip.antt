@@ -2,7 +2,7 @@
 use Rattle.std.specs.Prelude.{◌≡◌, ℕ, ◌*◌, ◌<◌, Bool, true, false, List, length, Option, Result, OnOk, OnErr, IfErr}
 use Rattle.std.specs.Io.KnownBytes.{Consumes}
 use Rattle.rmp_wire.specs.declared.head.Head.{Head}
-use Rattle.rmp_wire.specs.declared.head.Head.TheVariants.{Nil, Truth, Whole, F32Bits, F64Bits, Text, Bin, Array, Map, Ext}
+use Rattle.rmp_wire.specs.declared.head.Head.TheVariants.{Array, Map}
 use Rattle.rmp_wire.specs.declared.source.Source.{Ghosts}
 use Rattle.rmp_wire.specs.Msg.{Msg, Msgs, count, depth_all}
 use Rattle.rmp_wire.specs.Spelling.{Spells, IsBytes}
@@ -29,19 +29,6 @@ parts_head false n = Array n
 abbrev pub parts_count : Bool → ℕ → ℕ
 parts_count true n = 2 * n
 parts_count false n = n
-
--- how many bytes of content stand behind the head of a leaf
-abbrev pub content_len : Head → ℕ
-content_len Nil = 0
-content_len (Truth t) = 0
-content_len (Whole z) = 0
-content_len (F32Bits n) = 0
-content_len (F64Bits n) = 0
-content_len (Text n) = n
-content_len (Bin n) = n
-content_len (Array n) = 0
-content_len (Map n) = 0
-content_len (Ext n tag) = n
 
 -- so many bytes were taken
 pub record Passes (len : ℕ) (old new : Option (List ℕ)) : Type 0 where

@@ -1,6 +1,6 @@
 //! Extensions.
 ghost use Rattle.std.specs.Prelude.{◌≡◌, None, IfErr, false};
-ghost use Rattle.rmp_decode.specs.Others.{IsExtHead, RefusesOthers, not_ext};
+ghost use Rattle.rmp_decode.specs.Content.{IsExtHead, RefusesContent, never_refused, not_ext};
 ghost use Rattle.rmp_decode.specs.Kinds.{Finds};
 ghost use Rattle.rmp_decode.specs.Law.{Lawful};
 ghost use Rattle.rmp_decode.specs.Read.{IsExt};
@@ -32,7 +32,7 @@ impl<R: Source, C: SerializerConfig> Deserializer<R, C> {
     where
         R: ReadSlice<'de>,
         ensures law { Lawful R.Source IsExt self.old self.new result }
-        ensures exact { is_failed self.old ≡ false → IfErr result (RefusesOthers IsExtHead not_ext (faults_of R.Source self.old) (faults_of R.Source self.new) (left R.Source self.old)) }
+        ensures exact { is_failed self.old ≡ false → IfErr result (RefusesContent IsExtHead not_ext never_refused (faults_of R.Source self.old) (faults_of R.Source self.new) (left R.Source self.old)) }
     {
         match self.head() {
             Ok((marker, head)) => match ext_in(head) {

@@ -4,12 +4,15 @@ ghost use Rattle.std.specs.Char.{IsScalar};
 ghost use Rattle.std.specs.Io.KnownBytes.{Consumes};
 ghost use Rattle.rmp_wire.specs.Sources.{IsShort};
 ghost use Rattle.rmp_wire.specs.Spelling.{IsBytes};
+ghost use Rattle.rmp_decode.specs.Content.{not_bytes, not_char, not_lent};
+ghost use Rattle.rmp_decode.specs.Exact.{IsDataEnd};
+ghost use Rattle.rmp_decode.specs.Kinds.{raw_head};
 ghost use Rattle.rmp_decode.specs.Law.{Explains};
-ghost use Rattle.rmp_decode.specs.Pieces.{StartsWithNoChar};
+ghost use Rattle.rmp_decode.specs.Pieces.{StartsWithNoChar, RefusesPiece};
 
 use crate::error::Error;
 use crate::text::Text;
-use rmp_wire::{IoFault, ReadSlice, Reference, SourceFault};
+use rmp_wire::{Head, IoFault, ReadSlice, Reference, SourceFault};
 use std::alloc::Global;
 use std::str;
 
@@ -34,11 +37,48 @@ pub(crate) fn lent<'de, R: ReadSlice<'de>>(
         (λ s. (R.lends ≡ true) × (length s.now ≡ len) × IsBytes s.now × Consumes (R.ahead reader.old) (R.ahead reader.new) s.now)) }
     ensures sound { OnOk result (R.faults reader.new ≡ R.faults reader.old) }
     ensures err { IfErr result (λ e. Explains e (R.faults reader.old) (R.faults reader.new) (IsShort len (R.ahead reader.old))) }
+    ensures end { IfErr result (λ e. Explains e (R.faults reader.old) (R.faults reader.new) (IsDataEnd e)) }
     ensures place { R.place reader.new ≡ R.place reader.old }
 {
     match reader.read_slice(len) {
         Ok(Reference::Borrowed(s)) => Ok(Some(s)),
         Ok(Reference::Copied(_)) => Ok(None),
+        Err(e) => Err(error_of(e)),
+    }
+}
+
+// The refusal of a text or of bytes that can't be lent.
+#[inline(never)]
+fn not_lent(is_text: bool, bytes: &[u8]) -> Error
+    ensures { not_lent (raw_head is_text (length bytes.now)) bytes.now result }
+{
+    if is_text {
+        match str::from_utf8(bytes) {
+            Ok(_) => Error::Syntax(Text::InvalidType),
+            Err(e) => Error::Utf8Error(e),
+        }
+    } else {
+        Error::Syntax(Text::InvalidType)
+    }
+}
+
+// The content of a text or of bytes, lent for the input's whole life; where the source doesn't lend, it is refused.
+#[inline(always)]
+pub(crate) fn lent_content<'de, R: ReadSlice<'de>>(
+    reader: &mut R,
+    is_text: bool,
+    len: usize,
+) -> Result<&'de [u8], Error>
+    ensures lends { OnOk result (R.lends ≡ true) }
+    ensures ok { IfOk result (λ s. (length s.now ≡ len) × IsBytes s.now × Consumes (R.ahead reader.old) (R.ahead reader.new) s.now) }
+    ensures sound { OnOk result (R.faults reader.new ≡ R.faults reader.old) }
+    ensures err { R.lends ≡ true → IfErr result (λ e. Explains e (R.faults reader.old) (R.faults reader.new) (IsShort len (R.ahead reader.old))) }
+    ensures exact { IfErr result (λ e. Explains e (R.faults reader.old) (R.faults reader.new) (RefusesPiece len (not_bytes R.lends (raw_head is_text len)) (R.ahead reader.old) e)) }
+    ensures place { R.place reader.new ≡ R.place reader.old }
+{
+    match reader.read_slice(len) {
+        Ok(Reference::Borrowed(s)) => Ok(s),
+        Ok(Reference::Copied(s)) => Err(not_lent(is_text, s)),
         Err(e) => Err(error_of(e)),
     }
 }
@@ -52,6 +92,7 @@ pub(crate) fn owned<'de, R: ReadSlice<'de>>(
     ensures ok { IfOk result (λ v. (length v.items ≡ len) × IsBytes v.items × Consumes (R.ahead reader.old) (R.ahead reader.new) v.items) }
     ensures sound { OnOk result (R.faults reader.new ≡ R.faults reader.old) }
     ensures err { IfErr result (λ e. Explains e (R.faults reader.old) (R.faults reader.new) (IsShort len (R.ahead reader.old))) }
+    ensures end { IfErr result (λ e. Explains e (R.faults reader.old) (R.faults reader.new) (IsDataEnd e)) }
     ensures place { R.place reader.new ≡ R.place reader.old }
 {
     let mut v = Vec::new(alloc);
@@ -68,6 +109,7 @@ pub(crate) fn owned<'de, R: ReadSlice<'de>>(
 fn char_of(bytes: &[u8]) -> Result<char, Error>
     ensures ok { IfOk result (λ c. IsScalar c × (bytes.now ≡ encode_utf8 c)) }
     ensures err { IfErr result (λ _. (c : ℕ) → IsScalar c → bytes.now ≢ encode_utf8 c) }
+    ensures exact { IfErr result (not_char (Head.Text (length bytes.now)) bytes.now) }
 {
     match str::from_utf8(bytes) {
         Ok(text) => match text.parse::<char>() {
@@ -83,6 +125,7 @@ pub(crate) fn next_char<'de, R: ReadSlice<'de>>(reader: &mut R, len: usize) -> R
     ensures ok { IfOk result (λ c. IsScalar c × (length (encode_utf8 c) ≡ len) × IsBytes (encode_utf8 c) × Consumes (R.ahead reader.old) (R.ahead reader.new) (encode_utf8 c)) }
     ensures sound { OnOk result (R.faults reader.new ≡ R.faults reader.old) }
     ensures err { IfErr result (λ e. Explains e (R.faults reader.old) (R.faults reader.new) (StartsWithNoChar len (R.ahead reader.old))) }
+    ensures exact { IfErr result (λ e. Explains e (R.faults reader.old) (R.faults reader.new) (RefusesPiece len (not_char (Head.Text len)) (R.ahead reader.old) e)) }
     ensures place { R.place reader.new ≡ R.place reader.old }
 {
     match reader.read_slice(len) {

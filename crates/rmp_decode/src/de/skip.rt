@@ -1,8 +1,8 @@
 //! Messages that are passed over.
 ghost use Rattle.std.specs.Prelude.{◌≡◌, ◌-◌, true, false};
-ghost use Rattle.rmp_decode.specs.Kinds.{Finds};
+ghost use Rattle.rmp_decode.specs.Kinds.{Finds, content_len};
 ghost use Rattle.rmp_decode.specs.Law.{Lawful};
-ghost use Rattle.rmp_decode.specs.Skip.{parts_head, content_len, SkipsRow, any_tree, parts_count};
+ghost use Rattle.rmp_decode.specs.Skip.{parts_head, SkipsRow, any_tree, parts_count};
 ghost use Rattle.rmp_decode.specs.State.{is_failed, kept_of, room_of};
 ghost use Rattle.rmp_decode.specs.declared.de.Kept.TheVariants.{Nothing};
 

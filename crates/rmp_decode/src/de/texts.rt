@@ -1,12 +1,15 @@
 //! Texts, characters and bytes.
-ghost use Rattle.std.specs.Prelude.{◌≡◌, true, None};
+ghost use Rattle.std.specs.Prelude.{◌≡◌, true, false, None, IfErr};
 ghost use Rattle.std.specs.String.{string_bytes};
+ghost use Rattle.rmp_decode.specs.Content.{IsTextHead, IsRawHead, RefusesContent, not_raw, never_refused, not_char, not_string, not_str, not_bytes};
+ghost use Rattle.rmp_decode.specs.Exact.{IsUtf8Error};
 ghost use Rattle.rmp_decode.specs.Law.{Lawful};
 ghost use Rattle.rmp_decode.specs.Kinds.{raw_msg};
 ghost use Rattle.rmp_decode.specs.Read.{IsRaw, IsString, IsChar};
+ghost use Rattle.rmp_decode.specs.State.{left, faults_of, is_failed};
 
 use crate::de::kinds::{raw_in, text_in};
-use crate::de::pieces::{lent, next_char, owned};
+use crate::de::pieces::{lent_content, next_char, owned};
 use crate::de::{Deserialize, Deserializer};
 use crate::error::Error;
 use crate::text::Text;
@@ -16,7 +19,10 @@ use std::str;
 use std::str::Utf8Error;
 
 // The refusal of bytes that aren't UTF-8.
-fn not_utf8(is_text: bool, e: Utf8Error) -> Error {
+fn not_utf8(is_text: bool, e: Utf8Error) -> Error
+    ensures text { is_text ≡ true → IsUtf8Error result }
+    ensures bytes { is_text ≡ false → result ≡ Error.Syntax Text.InvalidValue }
+{
     if is_text {
         Error::Utf8Error(e)
     } else {
@@ -30,18 +36,20 @@ impl<R: Source, C: SerializerConfig> Deserializer<R, C> {
     fn lent_raw<'de>(&mut self) -> Result<(bool, &'de [u8]), Error>
     where
         R: ReadSlice<'de>,
-        ensures { Lawful R.Source (λ m p. (R.lends ≡ true) × (m ≡ raw_msg p.0 p.1.now)) self.old self.new result }
+        ensures law { Lawful R.Source (λ m p. (R.lends ≡ true) × (m ≡ raw_msg p.0 p.1.now)) self.old self.new result }
+        ensures exact { is_failed self.old ≡ false → IfErr result (RefusesContent IsRawHead not_raw (not_bytes R.lends) (faults_of R.Source self.old) (faults_of R.Source self.new) (left R.Source self.old)) }
     {
         match self.head() {
             Ok((_, head)) => match raw_in(head) {
-                Some((is_text, len)) => match lent(&mut self.reader, len as usize) {
-                    Ok(Some(bytes)) => {
-                        self.failed = false;
-                        Ok((is_text, bytes))
+                Some((is_text, len)) => {
+                    match lent_content(&mut self.reader, is_text, len as usize) {
+                        Ok(bytes) => {
+                            self.failed = false;
+                            Ok((is_text, bytes))
+                        }
+                        Err(e) => Err(e),
                     }
-                    Ok(None) => Err(Error::Syntax(Text::InvalidType)),
-                    Err(e) => Err(e),
-                },
+                }
                 None => Err(Error::Syntax(Text::InvalidType)),
             },
             Err(e) => Err(e),
@@ -52,7 +60,8 @@ impl<R: Source, C: SerializerConfig> Deserializer<R, C> {
     fn owned_raw<'de>(&mut self) -> Result<(bool, Vec<u8>), Error>
     where
         R: ReadSlice<'de>,
-        ensures { Lawful R.Source (λ m p. m ≡ raw_msg p.0 p.1.items) self.old self.new result }
+        ensures law { Lawful R.Source (λ m p. m ≡ raw_msg p.0 p.1.items) self.old self.new result }
+        ensures exact { is_failed self.old ≡ false → IfErr result (RefusesContent IsRawHead not_raw never_refused (faults_of R.Source self.old) (faults_of R.Source self.new) (left R.Source self.old)) }
     {
         match self.head() {
             Ok((_, head)) => match raw_in(head) {
@@ -76,7 +85,8 @@ impl<R: Source, C: SerializerConfig> Deserializer<R, C> {
     pub fn deserialize_char<'de>(&mut self) -> Result<char, Error>
     where
         R: ReadSlice<'de>,
-        ensures { Lawful R.Source IsChar self.old self.new result }
+        ensures law { Lawful R.Source IsChar self.old self.new result }
+        ensures exact { is_failed self.old ≡ false → IfErr result (RefusesContent IsTextHead not_raw not_char (faults_of R.Source self.old) (faults_of R.Source self.new) (left R.Source self.old)) }
     {
         match self.head() {
             Ok((_, head)) => match text_in(head) {
@@ -96,12 +106,13 @@ impl<R: Source, C: SerializerConfig> Deserializer<R, C> {
     /// Reads the bytes of a text, which may be no UTF-8, or of bytes, and lends them for the input's whole life.
     ///
     /// # Errors
-    /// `Syntax("invalid type")` where the source doesn't lend.
+    /// Where the source doesn't lend, `Utf8Error` for a text that isn't UTF-8, and else `Syntax("invalid type")`.
     #[inline(always)]
     pub fn deserialize_bytes<'de>(&mut self) -> Result<&'de [u8], Error>
     where
         R: ReadSlice<'de>,
-        ensures { Lawful R.Source (λ m s. (R.lends ≡ true) × IsRaw m s.now) self.old self.new result }
+        ensures law { Lawful R.Source (λ m s. (R.lends ≡ true) × IsRaw m s.now) self.old self.new result }
+        ensures exact { is_failed self.old ≡ false → IfErr result (RefusesContent IsRawHead not_raw (not_bytes R.lends) (faults_of R.Source self.old) (faults_of R.Source self.new) (left R.Source self.old)) }
     {
         match self.lent_raw() {
             Ok((_, bytes)) => Ok(bytes),
@@ -112,13 +123,14 @@ impl<R: Source, C: SerializerConfig> Deserializer<R, C> {
     /// Reads a text, or bytes that are UTF-8, and lends it for the input's whole life.
     ///
     /// # Errors
-    /// `Syntax("invalid type")` where the source doesn't lend; `Utf8Error` for a text that isn't UTF-8, and
-    /// `Syntax("invalid value")` for bytes that aren't.
+    /// `Utf8Error` for a text that isn't UTF-8, and `Syntax("invalid value")` for bytes that aren't. Where the source doesn't
+    /// lend, bytes and a text that is UTF-8 are `Syntax("invalid type")`.
     #[inline(always)]
     pub fn deserialize_str<'de>(&mut self) -> Result<&'de str, Error>
     where
         R: ReadSlice<'de>,
-        ensures { Lawful R.Source (λ m s. (R.lends ≡ true) × IsString m s.now) self.old self.new result }
+        ensures law { Lawful R.Source (λ m s. (R.lends ≡ true) × IsString m s.now) self.old self.new result }
+        ensures exact { is_failed self.old ≡ false → IfErr result (RefusesContent IsRawHead not_raw (not_str R.lends) (faults_of R.Source self.old) (faults_of R.Source self.new) (left R.Source self.old)) }
     {
         match self.lent_raw() {
             Ok((is_text, bytes)) => match str::from_utf8(bytes) {
@@ -136,7 +148,8 @@ impl<R: Source, C: SerializerConfig> Deserializer<R, C> {
     pub fn deserialize_string<'de>(&mut self) -> Result<String, Error>
     where
         R: ReadSlice<'de>,
-        ensures { Lawful R.Source (λ m s. IsRaw m (string_bytes s)) self.old self.new result }
+        ensures law { Lawful R.Source (λ m s. IsRaw m (string_bytes s)) self.old self.new result }
+        ensures exact { is_failed self.old ≡ false → IfErr result (RefusesContent IsRawHead not_raw not_string (faults_of R.Source self.old) (faults_of R.Source self.new) (left R.Source self.old)) }
     {
         match self.owned_raw() {
             Ok((is_text, bytes)) => match String::from_utf8(bytes) {

@@ -4,7 +4,7 @@ ghost use Rattle.std.specs.Borrow.{sem, RestsIfErr};
 ghost use Rattle.rmp_wire.specs.Types.{buffer_bytes};
 ghost use Rattle.rmp_decode.specs.Buffers.{IsBuffer, AfterHead, IsBehind};
 ghost use Rattle.rmp_decode.specs.contracts.de.Deserializer.{the_row};
-ghost use Rattle.rmp_decode.specs.Others.{IsBufferHead, RefusesOthers, not_buffer};
+ghost use Rattle.rmp_decode.specs.Content.{IsBufferHead, RefusesContent, not_raw, not_buffer};
 ghost use Rattle.rmp_decode.specs.Kinds.{Finds};
 ghost use Rattle.rmp_decode.specs.Law.{Lawful};
 ghost use Rattle.rmp_decode.specs.State.{left, faults_of, is_failed, kept_of};
@@ -40,7 +40,7 @@ impl<R: Source, C: SerializerConfig> Deserializer<R, C> {
     where
         R: ReadSlice<'de>,
         ensures law { Lawful R.Source (λ m v. IsBuffer m v.items) self.old self.new result }
-        ensures exact { is_failed self.old ≡ false → IfErr result (RefusesOthers IsBufferHead not_buffer (faults_of R.Source self.old) (faults_of R.Source self.new) (left R.Source self.old)) }
+        ensures exact { is_failed self.old ≡ false → IfErr result (RefusesContent IsBufferHead not_raw not_buffer (faults_of R.Source self.old) (faults_of R.Source self.new) (left R.Source self.old)) }
     {
         match self.head() {
             Ok((_, head)) => match raw_in(head) {

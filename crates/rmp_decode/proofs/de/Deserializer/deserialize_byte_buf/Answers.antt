@@ -1,8 +1,11 @@
 use Rattle.std.proofs.Common.{subst, refl, Result, Ok, Err, IfErr}
+use Rattle.rmp_wire.specs.declared.head.Head.TheVariants.{Array}
+use Rattle.rmp_decode.specs.Content.{IsBufferHead, not_raw, not_buffer}
+use Rattle.rmp_decode.specs.Kinds.{raw_head}
 use Rattle.rmp_decode.specs.Law.{ReadsHead}
 use Rattle.rmp_decode.proofs.Buffers.{raw_buffer, no_buffer}
+use Rattle.rmp_decode.proofs.ContentErrors.{content_error, content_other, content_none, content_apart, piece_ended, raw_len, buffer_wanted, no_buffer_head}
 use Rattle.rmp_decode.proofs.Contents.{raw_content, content_read, content_short}
-use Rattle.rmp_decode.proofs.Others.{others_head, others_wanted, others_none, raw_wanted}
 use Rattle.rmp_decode.proofs.Laws.{refused_none, refused_head}
 use Rattle.rmp_decode.proofs.de.Deserializer.deserialize_byte_buf.Goals as goal
 
@@ -25,17 +28,18 @@ pub returns-in-Some-list_in-clause-law : goal.returns-in-Some-list_in-clause-law
 returns-in-Some-list_in-clause-law g c = c.byte_list.ensures c.args.self.now c.in-Ok.field-0-0 (subst (λ h. ReadsHead g.R.Source c.args.self.now c.head.new.self (Ok (c.in-Ok.field-0-0, h))) c.in-Some-list_in.ensures c.in-Ok.ensures)
 
 pub returns-in-Err-owned-clause-exact : goal.returns-in-Err-owned-clause-exact
-returns-in-Err-owned-clause-exact g c = λ _. others_wanted _ _ _ _ _ c.in-Ok.field-0-0 c.in-Ok.head _ c.in-Ok.ensures.marked (raw_wanted _ _ _ c.in-Some.ensures)
+returns-in-Err-owned-clause-exact g c = λ _.
+    content_error g.R.Source IsBufferHead not_raw not_buffer c.args.self.now c.head.new.self _ (c.in-Ok.field-0-0, c.in-Ok.head) (raw_head c.in-Some.field-0-0 c.in-Some.len) c.in-Some.len _ c.in-Ok.ensures c.in-Some.ensures (raw_len c.in-Some.field-0-0 c.in-Some.len) (buffer_wanted c.in-Some.field-0-0 c.in-Some.len) (piece_ended _ _ _ _ _ _ c.in-Err-owned.ensures.err c.in-Err-owned.ensures.end)
 
 pub returns-in-None-list_in-clause-exact : goal.returns-in-None-list_in-clause-exact
-returns-in-None-list_in-clause-exact g c = λ _. others_head _ _ _ _ _ c.in-Ok.field-0-0 c.in-Ok.head _ c.in-Ok.ensures.marked refl
+returns-in-None-list_in-clause-exact g c = λ _. content_other IsBufferHead not_raw not_buffer _ _ _ c.in-Ok.field-0-0 c.in-Ok.head _ c.in-Ok.ensures.marked (no_buffer_head c.in-Ok.head c.in-None.ensures c.in-None-list_in.ensures) refl
 
 on_err : {A E : Type 0} {P : E → Type 0} (r : Result A E) → ((e : E) → P e) → IfErr r P
 on_err (Ok a) f = tt
 on_err (Err e) f = f e
 
 pub returns-in-Some-list_in-clause-exact : goal.returns-in-Some-list_in-clause-exact
-returns-in-Some-list_in-clause-exact g c = λ _. on_err c.byte_list.result (λ e. others_wanted _ _ _ _ _ c.in-Ok.field-0-0 c.in-Ok.head e c.in-Ok.ensures.marked (rw c.in-Some-list_in.ensures tt))
+returns-in-Some-list_in-clause-exact g c = λ _. on_err c.byte_list.result (λ e. content_apart IsBufferHead not_raw not_buffer _ _ _ c.in-Ok.field-0-0 c.in-Ok.head (Array c.in-Some-list_in.len) e c.in-Ok.ensures.marked c.in-Some-list_in.ensures refl tt (λ s. tt))
 
 pub returns-in-Err-clause-exact : goal.returns-in-Err-clause-exact
-returns-in-Err-clause-exact g c = λ o. others_none _ _ _ _ _ _ (c.in-Err.ensures.ends o)
+returns-in-Err-clause-exact g c = λ o. content_none IsBufferHead not_raw not_buffer _ _ _ _ (c.in-Err.ensures.ends o)

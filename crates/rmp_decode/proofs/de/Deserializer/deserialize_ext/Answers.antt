@@ -1,8 +1,10 @@
 use Rattle.std.proofs.Common.{◌≡◌, ◌∙◌, sym, ap, refl, rules, length}
+use Rattle.rmp_wire.specs.declared.head.Head.TheVariants.{Ext}
 use Rattle.rmp_wire.specs.Spelling.{head_of}
 use Rattle.rmp_wire.specs.Types.{tag_of, ext_bytes}
+use Rattle.rmp_decode.specs.Content.{IsExtHead, not_ext, never_refused}
 use Rattle.rmp_decode.proofs.Contents.{ext_content, content_read, content_short}
-use Rattle.rmp_decode.proofs.Others.{others_head, others_wanted, others_none}
+use Rattle.rmp_decode.proofs.ContentErrors.{content_error, content_other, content_none, piece_ended, no_ext_head}
 use Rattle.rmp_decode.proofs.Laws.{refused_none, refused_head}
 use Rattle.rmp_decode.proofs.de.Deserializer.deserialize_ext.Goals as goal
 
@@ -23,10 +25,11 @@ pub returns-in-Err-clause-law : goal.returns-in-Err-clause-law
 returns-in-Err-clause-law g c = refused_none _ _ _ _ _ c.in-Err.ensures
 
 pub returns-in-Err-owned-clause-exact : goal.returns-in-Err-owned-clause-exact
-returns-in-Err-owned-clause-exact g c = λ _. others_wanted _ _ _ _ _ c.in-Ok.marker c.in-Ok.head _ c.in-Ok.ensures.marked (rw c.in-Some.ensures tt)
+returns-in-Err-owned-clause-exact g c = λ _.
+    content_error g.R.Source IsExtHead not_ext never_refused c.args.self.now c.head.new.self _ (c.in-Ok.marker, c.in-Ok.head) (Ext c.in-Some.len c.in-Some.tag) c.in-Some.len _ c.in-Ok.ensures c.in-Some.ensures refl tt (piece_ended _ _ _ _ _ _ c.in-Err-owned.ensures.err c.in-Err-owned.ensures.end)
 
 pub returns-in-None-clause-exact : goal.returns-in-None-clause-exact
-returns-in-None-clause-exact g c = λ _. others_head _ _ _ _ _ c.in-Ok.marker c.in-Ok.head _ c.in-Ok.ensures.marked refl
+returns-in-None-clause-exact g c = λ _. content_other IsExtHead not_ext never_refused _ _ _ c.in-Ok.marker c.in-Ok.head _ c.in-Ok.ensures.marked (no_ext_head c.in-Ok.head c.in-None.ensures) refl
 
 pub returns-in-Err-clause-exact : goal.returns-in-Err-clause-exact
-returns-in-Err-clause-exact g c = λ o. others_none _ _ _ _ _ _ (c.in-Err.ensures.ends o)
+returns-in-Err-clause-exact g c = λ o. content_none IsExtHead not_ext never_refused _ _ _ _ (c.in-Err.ensures.ends o)

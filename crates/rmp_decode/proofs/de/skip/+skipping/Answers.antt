@@ -1,5 +1,6 @@
 use Rattle.std.proofs.Common.{◌≡◌, ◌-◌, subst, refl}
-use Rattle.rmp_decode.specs.Skip.{SkipsRow, Passes, content_len}
+use Rattle.rmp_decode.specs.Kinds.{content_len}
+use Rattle.rmp_decode.specs.Skip.{SkipsRow, Passes}
 use Rattle.rmp_wire.specs.Sources.{IsShort}
 use Rattle.rmp_decode.specs.State.{room_of}
 use Rattle.rmp_decode.proofs.Laws.{refused_none}

@@ -1,0 +1,272 @@
+-- Which error comes where a head and the content behind it are wanted.
+use Rattle.std.proofs.Common.{◌≡◌, ◌≢◌, ◌∙◌, sym, ap, subst, refl, ℕ, ℤ, ◌+◌, ◌<◌, ◌≤◌, arith, List, [], ◌∷◌, ◌++◌, length, Option, None, Some, IfSome, Bool, true, false, Ok, append_assoc}
+use Rattle.std.proofs.lemmas.List.{length-append}
+use Rattle.std.specs.Io.KnownBytes.{Consumes, prepend_known}
+use Rattle.std.specs.Prelude.{encode_utf8, IsUtf8}
+use Rattle.rmp_wire.specs.declared.head.Head.{Head}
+use Rattle.rmp_wire.specs.declared.head.Head.TheVariants as head
+use Rattle.rmp_wire.specs.declared.marker.Marker.{Marker}
+use Rattle.rmp_wire.specs.declared.source.Source.{Ghosts}
+use Rattle.rmp_wire.specs.declared.slice.SourceFault.{SourceFault}
+use Rattle.rmp_wire.specs.declared.slice.SourceFault.TheVariants.{Io, Memory}
+use Rattle.rmp_wire.specs.Heads.{IsHead, canon_head}
+use Rattle.rmp_wire.specs.Msg.{Msg}
+use Rattle.rmp_wire.specs.Slices.{Blames}
+use Rattle.rmp_wire.specs.Sources.{IsShort}
+use Rattle.rmp_wire.specs.Spelling.{Spells}
+use Rattle.rmp_wire.specs.Taking.{marker_of}
+use Rattle.rmp_wire.proofs.Canon.{canon_head_least}
+use Rattle.rmp_wire.proofs.Heads.{heads_apart}
+use Rattle.rmp_wire.proofs.Writing.{head_some}
+use Rattle.rmp_decode.specs.Content.{ExactOfContent, RefusesContent, IsTextHead, IsRawHead, IsBufferHead, IsExtHead, not_lent, not_bytes, not_string, not_str}
+use Rattle.rmp_decode.specs.Exact.{Stands, EndsExactly, IsDataEnd, IsUtf8Error}
+use Rattle.rmp_decode.specs.Kinds.{raw_head, raw_msg, content_len}
+use Rattle.rmp_decode.specs.Law.{Explains, ReadsHead, Reads}
+use Rattle.rmp_decode.specs.Pieces.{Blamed, StartsWithNoChar, ExactOfPiece, RefusesPiece}
+use Rattle.rmp_decode.specs.State.{left, faults_of}
+use Rattle.rmp_decode.specs.declared.de.Deserializer.{Deserializer}
+use Rattle.rmp_decode.specs.declared.error.Error.{Error}
+use Rattle.rmp_decode.specs.declared.error.Error.TheVariants.{Syntax}
+use Rattle.rmp_decode.specs.declared.text.Text.TheVariants.{InvalidValue}
+use Rattle.rmp_decode.proofs.Contents.{bare, raw_content}
+use Rattle.rmp_decode.proofs.Exactness.{stand_once, stands_known}
+
+-- ---- pieces
+
+pub same_front : (s t x y : List ℕ) → length s ≡ length t → s ++ x ≡ t ++ y → s ≡ t
+same_front [] [] x y l e = refl
+same_front [] (b ∷ t) x y l e = absurd (omega arith)
+same_front (a ∷ s) [] x y l e = absurd (omega arith)
+same_front (a ∷ s) (b ∷ t) x y l e =
+    let i : length s ≡ length t = omega arith in
+    let rest : s ++ x ≡ t ++ y = cc in
+    let u = same_front s t x y i rest in
+    cc
+
+module _ (n : ℕ) (refused : List ℕ → Error → Type 0) where
+  -- too few bytes are there
+  pub piece_cut : (known : Option (List ℕ)) (e : Error) → IsShort n known → IsDataEnd e → RefusesPiece n refused known e
+  unfolding RefusesPiece
+  piece_cut None e h d = tt
+  piece_cut (Some xs) e h d = record { cut = λ _. d; whole = λ s r q l. absurd (let long = ap length q ∙ length-append s r in omega (arith, long, l, h)) }
+
+  -- they are there, and refused
+  pub piece_whole : (known k : Option (List ℕ)) (bytes : List ℕ) (e : Error) → Consumes known k bytes → length bytes ≡ n → refused bytes e → RefusesPiece n refused known e
+  unfolding RefusesPiece
+  piece_whole None k bytes e c l f = tt
+  piece_whole (Some xs) None bytes e c l f = absurd c
+  piece_whole (Some xs) (Some ys) bytes e c l f = record {
+    cut = λ h. absurd (let long = ap length c ∙ length-append bytes ys in omega (arith, long, l, h));
+    whole = λ s r q m. subst (λ z. refused z e) (same_front bytes s ys r (l ∙ sym m) (sym c ∙ q)) f;
+  }
+
+-- the input ended within it
+pub piece_ended : (n : ℕ) (refused : List ℕ → Error → Type 0) (before after : ℕ) (known : Option (List ℕ)) (e : Error) → Explains e before after (IsShort n known) → Explains e before after (IsDataEnd e) → Explains e before after (RefusesPiece n refused known e)
+piece_ended n refused before after known e s d = λ m k. piece_cut n refused known e (s m k) (d m k)
+
+-- a source's fault is want of memory, a fault that is counted, or the end of the input
+pub piece_blamed : (n : ℕ) (refused : List ℕ → Error → Type 0) (fault : SourceFault) (before after : ℕ) (known : Option (List ℕ)) (e : Error) → Blames fault before after known n → Blamed fault e → Explains e before after (RefusesPiece n refused known e)
+piece_blamed n refused Memory before after known e s b = λ m _. absurd (m b)
+piece_blamed n refused (Io cause) before after known e s b = λ _ k. let x = s k in piece_cut n refused known e x.0 (b.1 x.1)
+
+short_char : (n : ℕ) (known : Option (List ℕ)) → IsShort n known → StartsWithNoChar n known
+short_char n None h = tt
+short_char n (Some xs) h = λ c r _ m q. absurd (let long = ap length q ∙ length-append (encode_utf8 c) r in omega (arith, long, m, h))
+
+pub char_blamed : (n : ℕ) (fault : SourceFault) (before after : ℕ) (known : Option (List ℕ)) (e : Error) → Blames fault before after known n → Blamed fault e → Explains e before after (StartsWithNoChar n known)
+char_blamed n Memory before after known e s b = λ m _. absurd (m b)
+char_blamed n (Io cause) before after known e s b = λ _ k. short_char n known (s k).0
+
+-- a source that doesn't lend
+pub unlent : (lends t : Bool) (n m : ℕ) (s : List ℕ) (e : Error) → lends ≡ false → not_lent (raw_head t n) s e → not_bytes lends (raw_head t m) s e
+unlent true t n m s e l q = absurd (cc)
+unlent false true n m s e l q = q
+unlent false false n m s e l q = q
+
+-- what is refused so is refused in a wider way
+pub piece_wider : (n : ℕ) (refused wider : List ℕ → Error → Type 0) (known : Option (List ℕ)) (e : Error) → ((s : List ℕ) → refused s e → wider s e) → RefusesPiece n refused known e → RefusesPiece n wider known e
+unfolding RefusesPiece
+piece_wider n refused wider None e f p = tt
+piece_wider n refused wider (Some xs) e f p = record { cut = p.cut; whole = λ s r q l. f s (p.whole s r q l) }
+
+-- ---- heads and content
+
+module _ (wanted : Head → Type 0) (other : Marker → Head → Error) (refused : Head → List ℕ → Error → Type 0) (before after : ℕ) where
+  -- no head stands at the front
+  pub content_none : (known : Option (List ℕ)) (e : Error) → EndsExactly before after known e → RefusesContent wanted other refused before after known e
+  unfolding RefusesContent EndsExactly
+  content_none None e s = λ _ _. tt
+  content_none (Some xs) e s = λ _ k. record {
+    others = λ m h t _. absurd ((s k).0 m h t);
+    cut = λ h _ t. absurd ((s k).0 t.marker h t.stands);
+    whole = λ h c _ t. absurd ((s k).0 t.marker h t.stands);
+    ends = λ _. (s k).1;
+  }
+
+  -- another one does
+  pub content_other : (known : Option (List ℕ)) (m : Marker) (h : Head) (e : Error) → IfSome known (Stands m h) → (wanted h → ⊥) → e ≡ other m h → RefusesContent wanted other refused before after known e
+  unfolding RefusesContent
+  content_other None m h e s f q = λ _ _. tt
+  content_other (Some xs) m h e s f q = λ _ _. record {
+    others = λ n k t _. let u = stand_once n m k h xs t s in q ∙ ap (λ z. other z h) (sym u.0) ∙ ap (other n) (sym u.1);
+    cut = λ k w t. absurd (f (subst wanted (stand_once t.marker m k h xs t.stands s).1 w));
+    whole = λ k c w t. absurd (f (subst wanted (stand_once t.marker m k h xs t.stands s).1 w));
+    ends = λ none. absurd (none m h s);
+  }
+
+  -- a wanted one does, and what is behind it is refused
+  pub content_behind : (known k : Option (List ℕ)) (b : List ℕ) (m : Marker) (h : Head) (e : Error) → Consumes known k b → IsHead h b → IfSome known (Stands m h) → wanted h → Explains e before after (RefusesPiece (content_len h) (refused h) k e) → RefusesContent wanted other refused before after known e
+  unfolding RefusesContent RefusesPiece
+  content_behind None k b m h e c i s w r = λ _ _. tt
+  content_behind (Some xs) None b m h e c i s w r = absurd c
+  content_behind (Some xs) (Some ys) b m h e c i s w r = λ n q.
+      let p = r n q in
+      record {
+        others = λ m' h' t f. absurd (f (subst wanted (stand_once m m' h h' xs s t).1 w));
+        cut = λ h' _ t.
+            let t0 = t.stands in
+            let short = t.short in
+            let u = heads_apart h' h (t0.byte ∷ t0.behind) b t0.rest ys t0.is_head i (sym t0.front ∙ c) in
+            p.cut (omega (arith, short, ap content_len u.0, ap length u.2));
+        whole = λ h' s' _ t.
+            let t0 = t.stands in
+            let u = heads_apart h' h (t0.byte ∷ t0.behind) b t0.rest ys t0.is_head i (sym t0.front ∙ c) in
+            subst (λ z. refused z s' e) (sym u.0) (p.whole s' t.behind (sym u.2 ∙ t.content) (t.long ∙ ap content_len u.0));
+        ends = λ none. absurd (none m h s);
+      }
+
+  -- a wanted one does that has no content of its own
+  pub content_apart : (known : Option (List ℕ)) (m : Marker) (h k : Head) (e : Error) → IfSome known (Stands m h) → h ≡ k → content_len k ≡ 0 → wanted k → ((s : List ℕ) → refused k s e) → RefusesContent wanted other refused before after known e
+  unfolding RefusesContent
+  content_apart None m h k e s i z w f = λ _ _. tt
+  content_apart (Some xs) m h k e s i z w f = λ _ _. record {
+    others = λ n j t n0. absurd (n0 (subst wanted (sym i ∙ sym (stand_once n m j h xs t s).1) w));
+    cut = λ j _ t. absurd (let short = t.short in let u = (stand_once t.marker m j h xs t.stands s).1 ∙ i in omega (arith, short, z, ap content_len u));
+    whole = λ j c _ t. subst (λ y. refused y c e) (sym ((stand_once t.marker m j h xs t.stands s).1 ∙ i)) (f c);
+    ends = λ none. absurd (none m h s);
+  }
+
+-- a wider way to refuse whole content
+pub content_wider : (wanted : Head → Type 0) (other : Marker → Head → Error) (refused wider : Head → List ℕ → Error → Type 0) (before after : ℕ) (known : Option (List ℕ)) (e : Error) → ((h : Head) (s : List ℕ) → wanted h → refused h s e → wider h s e)
+    → RefusesContent wanted other refused before after known e → RefusesContent wanted other wider before after known e
+unfolding RefusesContent
+content_wider wanted other refused wider before after None e f r = λ _ _. tt
+content_wider wanted other refused wider before after (Some xs) e f r = λ n k. let x = r n k in record { others = x.others; cut = x.cut; whole = λ h s w t. f h s w (x.whole h s w t); ends = x.ends }
+
+-- a head's first byte
+some_byte : (b : List ℕ) → 0 < length b → (x : ℕ) × (y : List ℕ) × (b ≡ x ∷ y)
+some_byte [] l = absurd (omega arith)
+some_byte (x ∷ y) l = (x, y, refl)
+
+stands_some : (h : Head) (b : List ℕ) (known k : Option (List ℕ)) → IsHead h b → Consumes known k b → (m : Marker) × IfSome known (Stands m h)
+stands_some h b known k i c =
+    let t = some_byte b (omega (arith, canon_head_least h b i, head_some h)) in
+    let front = t.2 in
+    (marker_of t.0, stands_known (marker_of t.0) h t.0 t.1 known k (subst (Consumes known k) front c) refl (subst (IsHead h) front i))
+
+split_known : (known k : Option (List ℕ)) (a s : List ℕ) → Consumes known k (a ++ s) → Consumes known (prepend_known s k) a
+split_known None k a s c = tt
+split_known (Some xs) None a s c = absurd c
+split_known (Some xs) (Some ys) a s c = c ∙ append_assoc a s ys
+
+front_known : (k : Option (List ℕ)) (s : List ℕ) → Consumes (prepend_known s k) k s
+front_known None s = tt
+front_known (Some xs) s = refl
+
+pub raw_len : (t : Bool) (n : ℕ) → content_len (raw_head t n) ≡ n
+raw_len true n = refl
+raw_len false n = refl
+
+-- ---- heads that aren't wanted
+
+pub no_text_head : (h : Head) → ((n : ℕ) → h ≡ head.Text n → ⊥) → IsTextHead h → ⊥
+no_text_head head.Nil f w = w
+no_text_head (head.Truth t) f w = w
+no_text_head (head.Whole z) f w = w
+no_text_head (head.F32Bits n) f w = w
+no_text_head (head.F64Bits n) f w = w
+no_text_head (head.Text n) f w = f n refl
+no_text_head (head.Bin n) f w = w
+no_text_head (head.Array n) f w = w
+no_text_head (head.Map n) f w = w
+no_text_head (head.Ext n tag) f w = w
+
+pub no_raw_head : (h : Head) → ((p : Bool × ℕ) → h ≡ raw_head p.0 p.1 → ⊥) → IsRawHead h → ⊥
+no_raw_head head.Nil f w = w
+no_raw_head (head.Truth t) f w = w
+no_raw_head (head.Whole z) f w = w
+no_raw_head (head.F32Bits n) f w = w
+no_raw_head (head.F64Bits n) f w = w
+no_raw_head (head.Text n) f w = f (true, n) refl
+no_raw_head (head.Bin n) f w = f (false, n) refl
+no_raw_head (head.Array n) f w = w
+no_raw_head (head.Map n) f w = w
+no_raw_head (head.Ext n tag) f w = w
+
+pub no_buffer_head : (h : Head) → ((p : Bool × ℕ) → h ≡ raw_head p.0 p.1 → ⊥) → ((n : ℕ) → h ≡ head.Array n → ⊥) → IsBufferHead h → ⊥
+no_buffer_head head.Nil f g w = w
+no_buffer_head (head.Truth t) f g w = w
+no_buffer_head (head.Whole z) f g w = w
+no_buffer_head (head.F32Bits n) f g w = w
+no_buffer_head (head.F64Bits n) f g w = w
+no_buffer_head (head.Text n) f g w = f (true, n) refl
+no_buffer_head (head.Bin n) f g w = f (false, n) refl
+no_buffer_head (head.Array n) f g w = g n refl
+no_buffer_head (head.Map n) f g w = w
+no_buffer_head (head.Ext n tag) f g w = w
+
+pub no_ext_head : (h : Head) → ((p : ℕ × ℤ) → h ≡ head.Ext p.0 p.1 → ⊥) → IsExtHead h → ⊥
+no_ext_head head.Nil f w = w
+no_ext_head (head.Truth t) f w = w
+no_ext_head (head.Whole z) f w = w
+no_ext_head (head.F32Bits n) f w = w
+no_ext_head (head.F64Bits n) f w = w
+no_ext_head (head.Text n) f w = w
+no_ext_head (head.Bin n) f w = w
+no_ext_head (head.Array n) f w = w
+no_ext_head (head.Map n) f w = w
+no_ext_head (head.Ext n tag) f w = f (n, tag) refl
+
+-- ---- texts and bytes
+
+pub raw_wanted : (t : Bool) (n : ℕ) → IsRawHead (raw_head t n)
+raw_wanted true n = tt
+raw_wanted false n = tt
+
+pub buffer_wanted : (t : Bool) (n : ℕ) → IsBufferHead (raw_head t n)
+buffer_wanted true n = tt
+buffer_wanted false n = tt
+
+module _ {R C : Type 0} (g : Ghosts R) (wanted : Head → Type 0) (other : Marker → Head → Error) (refused : Head → List ℕ → Error → Type 0) (old mid : Deserializer R C) (after : ℕ) where
+  -- a wanted head was taken, and its content refused
+  pub content_error : (p : Marker × Head) (h : Head) (n : ℕ) (e : Error) → ReadsHead g old mid (Ok p) → p.1 ≡ h → content_len h ≡ n → wanted h → Explains e (g.faults mid.reader) after (RefusesPiece n (refused h) (g.ahead mid.reader) e)
+      → RefusesContent wanted other refused (faults_of g old) after (left g old) e
+  content_error p h n e r i l w x =
+      content_behind wanted other refused (faults_of g old) after (left g old) (left g mid) r.ok.bytes p.0 p.1 e r.ok.takes r.ok.is_head r.marked (subst wanted (sym i) w) (λ o k.
+      rw (bare g mid r.clean, i, l) (x o (k ∙ sym r.sound)))
+
+  -- a text or bytes were taken whole, and then refused
+  pub content_refused_after : {V : Type 0} (reads : Msg → V → Type 0) (v : V) (t : Bool) (s : List ℕ) (e : Error) (r : Reads g reads old mid v) → r.tree ≡ raw_msg t s → wanted (raw_head t (length s)) → refused (raw_head t (length s)) s e
+      → RefusesContent wanted other refused (faults_of g old) after (left g old) e
+  content_refused_after reads v t s e r q w f =
+      let j = (raw_content t).opens s r.bytes (subst (Spells r.bytes) q r.spelled) in
+      let h = raw_head t (length s) in
+      let same : r.bytes ≡ j.first ++ s = j.is_whole ∙ ap (λ z. j.first ++ z) j.is_second.0 in
+      let taken = split_known (left g old) (left g mid) j.first s (subst (Consumes (left g old) (left g mid)) same r.takes) in
+      let m = stands_some h j.first (left g old) (prepend_known s (left g mid)) j.is_first taken in
+      content_behind wanted other refused (faults_of g old) after (left g old) (prepend_known s (left g mid)) j.first m.0 h e taken j.is_first m.1 w (λ _ _.
+      piece_whole (content_len h) (refused h) (prepend_known s (left g mid)) (left g mid) s e (front_known (left g mid) s) (sym (raw_len t (length s))) f)
+
+-- ---- whole content that isn't UTF-8
+
+pub not_utf8_string : (t : Bool) (n : ℕ) (s : List ℕ) (e : Error) → (IsUtf8 s → ⊥) → (t ≡ true → IsUtf8Error e) → (t ≡ false → e ≡ Syntax InvalidValue) → not_string (raw_head t n) s e
+not_utf8_string true n s e f a b = (f, a refl)
+not_utf8_string false n s e f a b = (f, b refl)
+
+pub not_utf8_str : (lends t : Bool) (n : ℕ) (s : List ℕ) (e : Error) → lends ≡ true → (IsUtf8 s → ⊥) → (t ≡ true → IsUtf8Error e) → (t ≡ false → e ≡ Syntax InvalidValue) → not_str lends (raw_head t n) s e
+not_utf8_str true t n s e l f a b = not_utf8_string t n s e f a b
+not_utf8_str false t n s e l f a b = absurd (cc)
+
+pub str_wider : (lends : Bool) (h : Head) (s : List ℕ) (e : Error) → not_bytes lends h s e → not_str lends h s e
+str_wider true h s e q = absurd q
+str_wider false h s e q = q

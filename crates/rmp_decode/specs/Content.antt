@@ -1,0 +1,108 @@
+-- Which error a read answers that wants a head and the content behind it, by what stands at the front of the bytes.
+use Rattle.std.specs.Prelude.{◌≡◌, ◌<◌, ℕ, Bool, true, false, List, ◌++◌, length, Option, IfSome, IsUtf8}
+use Rattle.rmp_wire.specs.declared.head.Head.{Head}
+use Rattle.rmp_wire.specs.declared.head.Head.TheVariants.{Text, Bin, Array, Ext}
+use Rattle.rmp_wire.specs.declared.marker.Marker.{Marker}
+use Rattle.rmp_decode.specs.Exact.{Stands, NoneStands, Ends, IsDataEnd, IsUtf8Error}
+use Rattle.rmp_decode.specs.Kinds.{content_len}
+use Rattle.rmp_decode.specs.Law.{Explains}
+use Rattle.rmp_decode.specs.declared.error.Error.{Error}
+use Rattle.rmp_decode.specs.declared.error.Error.TheVariants.{Syntax, TypeMismatch}
+use Rattle.rmp_decode.specs.declared.text.Text.TheVariants.{InvalidType, InvalidValue}
+
+-- the head stands at the front, and behind it fewer bytes than it says
+pub record StandsCut (h : Head) (xs : List ℕ) : Type 0 where
+  pub marker : Marker
+  pub stands : Stands marker h xs
+  pub short : length stands.rest < content_len h
+
+-- the head stands at the front, and behind it the whole content s
+pub record StandsWhole (h : Head) (s xs : List ℕ) : Type 0 where
+  pub marker : Marker
+  pub stands : Stands marker h xs
+  pub behind : List ℕ
+  pub content : stands.rest ≡ s ++ behind
+  pub long : length s ≡ content_len h
+
+-- The error is the one for a head that isn't wanted, says that the input ended within the content of one that is, is the one for that content where it is whole, or says why no head stands at the front.
+pub record ExactOfContent (wanted : Head → Type 0) (other : Marker → Head → Error) (refused : Head → List ℕ → Error → Type 0) (xs : List ℕ) (e : Error) : Type 0 where
+  pub others : (m : Marker) (h : Head) → Stands m h xs → (wanted h → ⊥) → e ≡ other m h
+  pub cut : (h : Head) → wanted h → StandsCut h xs → IsDataEnd e
+  pub whole : (h : Head) (s : List ℕ) → wanted h → StandsWhole h s xs → refused h s e
+  pub ends : NoneStands xs → Ends xs e
+
+-- Exactly which error it is, unless memory was short or the source had a fault (it counts them: before, after), where the bytes are told.
+unfoldable pub RefusesContent : (Head → Type 0) → (Marker → Head → Error) → (Head → List ℕ → Error → Type 0) → ℕ → ℕ → Option (List ℕ) → Error → Type 0
+RefusesContent wanted other refused before after known e = Explains e before after (IfSome known (λ xs. ExactOfContent wanted other refused xs e))
+
+-- ---- which heads are wanted
+
+-- a text
+abbrev pub IsTextHead : Head → Type 0
+IsTextHead (Text n) = Unit {0}
+IsTextHead h = ⊥
+
+-- a text or bytes
+abbrev pub IsRawHead : Head → Type 0
+IsRawHead (Text n) = Unit {0}
+IsRawHead (Bin n) = Unit {0}
+IsRawHead h = ⊥
+
+-- a text, bytes or a list
+abbrev pub IsBufferHead : Head → Type 0
+IsBufferHead (Array n) = Unit {0}
+IsBufferHead h = IsRawHead h
+
+-- an extension
+abbrev pub IsExtHead : Head → Type 0
+IsExtHead (Ext n tag) = Unit {0}
+IsExtHead h = ⊥
+
+-- ---- how a message of another kind is refused
+
+-- where a text, bytes, or bytes of its own are wanted
+abbrev pub not_raw : Marker → Head → Error
+not_raw m h = Syntax InvalidType
+
+-- where an extension is wanted
+abbrev pub not_ext : Marker → Head → Error
+not_ext m h = TypeMismatch m
+
+-- ---- how whole content is refused
+
+-- it isn't
+abbrev pub never_refused : Head → List ℕ → Error → Type 0
+never_refused h s e = ⊥
+
+-- one answer for UTF-8, another for what isn't
+abbrev pub ByUtf8 : List ℕ → Type 0 → Type 0 → Type 0
+ByUtf8 s valid invalid = (IsUtf8 s → valid) × ((IsUtf8 s → ⊥) → invalid)
+
+-- a text where one of a single character is wanted
+abbrev pub not_char : Head → List ℕ → Error → Type 0
+not_char h s e = ByUtf8 s (e ≡ Syntax InvalidValue) (IsUtf8Error e)
+
+-- a text or bytes where they have to be UTF-8: only where they aren't
+abbrev pub not_string : Head → List ℕ → Error → Type 0
+not_string (Text n) s e = (IsUtf8 s → ⊥) × IsUtf8Error e
+not_string h s e = (IsUtf8 s → ⊥) × (e ≡ Syntax InvalidValue)
+
+-- a text or bytes that can't be lent, where they have to be
+abbrev pub not_lent : Head → List ℕ → Error → Type 0
+not_lent (Text n) s e = ByUtf8 s (e ≡ Syntax InvalidType) (IsUtf8Error e)
+not_lent h s e = e ≡ Syntax InvalidType
+
+-- a text or bytes where they have to be lent, by whether the source lends
+abbrev pub not_bytes : Bool → Head → List ℕ → Error → Type 0
+not_bytes true h s e = ⊥
+not_bytes false h s e = not_lent h s e
+
+-- where they have to be UTF-8, too
+abbrev pub not_str : Bool → Head → List ℕ → Error → Type 0
+not_str true h s e = not_string h s e
+not_str false h s e = not_lent h s e
+
+-- a text or bytes aren't, where bytes of its own are wanted; the items of a list are refused each on its own
+abbrev pub not_buffer : Head → List ℕ → Error → Type 0
+not_buffer (Array n) s e = Unit {0}
+not_buffer h s e = ⊥
