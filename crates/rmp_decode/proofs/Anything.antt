@@ -1,18 +1,18 @@
 -- When no message of any kind can be opened, and what its content makes of it.
-use Rattle.std.proofs.Common.{◌≡◌, ◌∙◌, sym, ap, subst, refl, ℕ, ◌<◌, ◌≤◌, arith, List, ◌++◌, Bool, true, false, Ok, Err}
+use Rattle.std.proofs.Common.{◌≡◌, ◌∙◌, sym, ap, subst, refl, ℕ, ◌<◌, ◌≤◌, inl, inr, arith, List, ◌++◌, Bool, true, false, Option, Some, None, IfSome, Ok, Err}
 use Rattle.rmp_wire.specs.declared.head.Head.{Head}
 use Rattle.rmp_wire.specs.declared.marker.Marker.{Marker}
 use Rattle.rmp_wire.specs.declared.source.Source.{Ghosts}
 use Rattle.rmp_wire.specs.Msg.{Msg, nil, truth, whole, float32, float64, text, bin, list, map, extension, depth}
 use Rattle.rmp_wire.specs.Spelling.{head_of}
-use Rattle.rmp_decode.specs.Anys.{FailsToOpenAny, too_deep}
+use Rattle.rmp_decode.specs.Anys.{OpensParts, UnopenedFor, RefusesAny, FailsToOpenAny}
+use Rattle.rmp_decode.specs.Exact.{Stands, EndsExactly}
 use Rattle.rmp_decode.specs.Law.{ReadsHead}
 use Rattle.rmp_decode.specs.Skip.{parts_head}
 use Rattle.rmp_decode.specs.State.{left, room_of}
 use Rattle.rmp_decode.specs.declared.de.Deserializer.{Deserializer}
 use Rattle.rmp_decode.specs.declared.error.Error.{Error}
 use Rattle.rmp_decode.specs.declared.error.Error.TheVariants.{DepthLimitExceeded}
-use Rattle.rmp_decode.proofs.Exactness.{exact_head, exact_none}
 use Rattle.rmp_decode.proofs.Refusals.{refuses_none, refuses_by, same_head}
 
 -- a list or a map nests
@@ -38,9 +38,19 @@ parts_nest false (list ms) n e = omega arith
 parts_nest false (map ps) n e = omega arith
 parts_nest false (extension tag s) n e = absurd (cc)
 
+any_none : (room before after : ℕ) (known : Option (List ℕ)) (e : Error) → EndsExactly before after known e → RefusesAny room before after known e
+unfolding RefusesAny EndsExactly
+any_none room before after None e s = λ _. tt
+any_none room before after (Some xs) e s = λ same. inl (s same)
+
+any_deep : (room before after : ℕ) (known : Option (List ℕ)) (m : Marker) (is_map : Bool) (n : ℕ) (e : Error) → IfSome known (Stands m (parts_head is_map n)) → room ≡ 1 → e ≡ DepthLimitExceeded → RefusesAny room before after known e
+unfolding RefusesAny
+any_deep room before after None m is_map n e s l is = λ _. tt
+any_deep room before after (Some xs) m is_map n e s l is = λ _. inr (record { is_map = is_map; len = n; marker = m; stands = s }, l, is)
+
 module _ {R C : Type 0} (g : Ghosts R) (old new : Deserializer R C) (e : Error) where
   pub any_missing : ReadsHead g old new (Err e) → FailsToOpenAny g old new e
-  any_missing h = record { failed = h.failed; stays = h.stays; before = h.before; err = λ o n k. refuses_none _ _ _ (h.err o n k); exact = λ o. exact_none too_deep _ _ (left g old) e (h.ends o) }
+  any_missing h = record { failed = h.failed; stays = h.stays; before = h.before; err = λ o n k. refuses_none _ _ _ (h.err o n k); exact = λ o. any_none (room_of old) _ _ (left g old) e (h.ends o) }
 
   -- a list or a map would nest too deep
   pub any_too_deep : (p : Marker × Head) (q : Bool × ℕ) → ReadsHead g old new (Ok p) → p.1 ≡ parts_head q.0 q.1 → room_of old ≤ 1 → e ≡ DepthLimitExceeded → FailsToOpenAny g old new e
@@ -53,5 +63,5 @@ module _ {R C : Type 0} (g : Ghosts R) (old new : Deserializer R C) (e : Error) 
         let d = parts_nest q.0 a.tree q.1 (u.0 ∙ i) in
         let f = a.fits in
         omega arith);
-    exact = λ _. exact_head too_deep _ _ (left g old) p.0 p.1 e h.marked is;
+    exact = λ _. any_deep (room_of old) _ _ (left g old) p.0 q.0 q.1 e (subst (λ t. IfSome (left g old) (Stands p.0 t)) i h.marked) (omega arith) is;
   }

@@ -19,7 +19,7 @@ part_ok (Ok x) true v m = absurd (cc)
 part_ok (Ok x) false v m = cc
 part_ok (Err e) failed v m = absurd (cc)
 
-part_err : {X : Type 0} (gave : Result X Error) (failed : Bool) (e : Error) → MatchResult gave (λ x. ◌≡◌ {A = Result X Error} (Err e) (if failed then Err (Uncategorized FailedBefore) else Ok x)) (λ d. ◌≡◌ {A = Result X Error} (Err e) (Err d)) → ((x : X) → gave ≡ Ok x → failed ≡ false)
+pub part_err : {X : Type 0} (gave : Result X Error) (failed : Bool) (e : Error) → MatchResult gave (λ x. ◌≡◌ {A = Result X Error} (Err e) (if failed then Err (Uncategorized FailedBefore) else Ok x)) (λ d. ◌≡◌ {A = Result X Error} (Err e) (Err d)) → ((x : X) → gave ≡ Ok x → failed ≡ false)
     → gave ≡ Err e
 part_err (Ok x) true e m f = let w : true ≡ false = f x refl in absurd (cc)
 part_err (Ok x) false e m f = absurd (cc)
@@ -29,7 +29,7 @@ key_ok : {X : Type 0} (given : Result X Error) (v : X) → MatchResult given (λ
 key_ok (Ok x) v m = cc
 key_ok (Err e) v m = absurd (cc)
 
-key_err : {X : Type 0} (given : Result X Error) (e : Error) → MatchResult given (λ x. ◌≡◌ {A = Result (Option X) Error} (Err e) (Ok (Some x))) (λ d. ◌≡◌ {A = Result (Option X) Error} (Err e) (Err d)) → given ≡ Err e
+pub key_err : {X : Type 0} (given : Result X Error) (e : Error) → MatchResult given (λ x. ◌≡◌ {A = Result (Option X) Error} (Err e) (Ok (Some x))) (λ d. ◌≡◌ {A = Result (Option X) Error} (Err e) (Err d)) → given ≡ Err e
 key_err (Ok x) e m = absurd (cc)
 key_err (Err d) e m = cc
 

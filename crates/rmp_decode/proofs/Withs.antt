@@ -75,7 +75,7 @@ given_ok (Ok x) true v m = absurd (cc)
 given_ok (Ok x) false v m = cc
 given_ok (Err e) failed v m = absurd (cc)
 
-given_err : {X : Type 0} (gave : Result X Error) (failed : Bool) (e : Error) → MatchResult gave (λ x. ◌≡◌ {A = Result (Option X) Error} (Err e) (if failed then Err (Uncategorized FailedBefore) else Ok (Some x))) (λ d. ◌≡◌ {A = Result (Option X) Error} (Err e) (Err d)) → ((x : X) → gave ≡ Ok x → failed ≡ false)
+pub given_err : {X : Type 0} (gave : Result X Error) (failed : Bool) (e : Error) → MatchResult gave (λ x. ◌≡◌ {A = Result (Option X) Error} (Err e) (if failed then Err (Uncategorized FailedBefore) else Ok (Some x))) (λ d. ◌≡◌ {A = Result (Option X) Error} (Err e) (Err d)) → ((x : X) → gave ≡ Ok x → failed ≡ false)
     → gave ≡ Err e
 given_err (Ok x) true e m f = let w : true ≡ false = f x refl in absurd (cc)
 given_err (Ok x) false e m f = absurd (cc)

@@ -1,5 +1,5 @@
 -- What reading a message of any kind gives.
-use Rattle.std.specs.Prelude.{◌≡◌, ℕ, ℤ, true, false, List, ◌++◌, length, Option, IfSome, Ok, IsUtf8}
+use Rattle.std.specs.Prelude.{◌≡◌, ◌⊎◌, ℕ, ℤ, Bool, true, false, List, ◌++◌, length, Option, IfSome, Ok, IsUtf8}
 use Rattle.std.specs.Borrow.{GName}
 use Rattle.std.specs.Io.KnownBytes.{Consumes}
 use Rattle.rmp_wire.specs.declared.head.Head.{Head}
@@ -9,10 +9,13 @@ use Rattle.rmp_wire.specs.declared.source.Source.{Ghosts}
 use Rattle.rmp_wire.specs.Msg.{Msg, nil, truth, whole, float32, float64}
 use Rattle.rmp_wire.specs.Sources.{IsShort}
 use Rattle.rmp_wire.specs.Spelling.{Spells, IsBytes}
-use Rattle.rmp_decode.specs.Exact.{RefusesExactly}
+use Rattle.rmp_decode.specs.Content.{not_string}
+use Rattle.rmp_decode.specs.Exact.{Stands, NoneStands, Ends, IsDataEnd}
 use Rattle.rmp_decode.specs.Law.{Lawful, ReadsHead, Refuses, Explains, IsFailedBefore}
 use Rattle.rmp_decode.specs.Maps.{OpensMap}
+use Rattle.rmp_decode.specs.Pieces.{RefusesPiece}
 use Rattle.rmp_decode.specs.Seq.{Opens}
+use Rattle.rmp_decode.specs.Skip.{parts_head}
 use Rattle.rmp_decode.specs.State.{left, faults_of, room_of, Stays}
 use Rattle.rmp_decode.specs.declared.de.Deserializer.{Deserializer}
 use Rattle.rmp_decode.specs.declared.de.any.Any.{Any}
@@ -73,9 +76,20 @@ OpensAny g old (any.Seq a) = Opens g old a × (a.bytes ≡ false)
 OpensAny g old (any.Map a) = OpensMap g old a
 OpensAny g old (any.Ext a) = OpensRaw g (head.Ext a.len a.tag) old a
 
--- a message whose head stands there is refused only where it is a list or a map that would nest too deep
-abbrev pub too_deep : Marker → Head → Error
-too_deep m h = DepthLimitExceeded
+-- a list or a map opens at the front
+pub record OpensParts (xs : List ℕ) : Type 0 where
+  pub is_map : Bool
+  pub len : ℕ
+  pub marker : Marker
+  pub stands : Stands marker (parts_head is_map len) xs
+
+-- why no message can be opened: no head stands whole at the front, or a list or a map opens there and there is no room for one
+abbrev pub UnopenedFor : ℕ → List ℕ → Error → Type 0
+UnopenedFor room xs e = (NoneStands xs × Ends xs e) ⊎ (OpensParts xs × (room ≡ 1) × (e ≡ DepthLimitExceeded))
+
+-- Exactly which error it is, where the bytes are told and the source had no fault (it counts them: before, after).
+unfoldable pub RefusesAny : ℕ → ℕ → ℕ → Option (List ℕ) → Error → Type 0
+RefusesAny room before after known e = after ≡ before → IfSome known (λ xs. UnopenedFor room xs e)
 
 -- no message that nests below the room begins there
 pub record FailsToOpenAny {R C : Type 0} (g : Ghosts R) (old new : Deserializer R C) (e : Error) : Type 0 where
@@ -83,7 +97,7 @@ pub record FailsToOpenAny {R C : Type 0} (g : Ghosts R) (old new : Deserializer 
   pub stays : Stays g old new
   pub before : old.failed ≡ true → IsFailedBefore e × (new ≡ old)
   pub err : old.failed ≡ false → Explains e (faults_of g old) (faults_of g new) (Refuses Spells (λ m. Unit {0}) (room_of old) (left g old))
-  pub exact : old.failed ≡ false → RefusesExactly too_deep (faults_of g old) (faults_of g new) (left g old) e
+  pub exact : old.failed ≡ false → RefusesAny (room_of old) (faults_of g old) (faults_of g new) (left g old) e
 
 -- the content was taken, and the reader is ready
 pub record TakesContent {R C : Type 0} (g : Ghosts R) (len : ℕ) (old new : Deserializer R C) (s : List ℕ) : Type 0 where
@@ -95,18 +109,20 @@ pub record TakesContent {R C : Type 0} (g : Ghosts R) (len : ℕ) (old new : Des
   pub sound : faults_of g new ≡ faults_of g old
   pub stays : Stays g old new
 
--- too little of it was there
+-- too little of it was there, and the error says that the input ended
 pub record FailsContent {R C : Type 0} (g : Ghosts R) (len : ℕ) (old new : Deserializer R C) (e : Error) : Type 0 where
   pub failed : new.failed ≡ old.failed
   pub stays : Stays g old new
   pub err : Explains e (faults_of g old) (faults_of g new) (IsShort len (g.ahead old.reader))
+  pub exact : Explains e (faults_of g old) (faults_of g new) (IsDataEnd e)
 
 -- where the bytes are told, they don't begin with so many that are UTF-8
 abbrev pub StartsWithNoText : ℕ → Option (List ℕ) → Type 0
 StartsWithNoText len known = IfSome known (λ xs. (s r : List ℕ) → xs ≡ s ++ r → length s ≡ len → IsUtf8 s → ⊥)
 
--- it was no text
+-- it was no text, and which error says so
 pub record FailsText {R C : Type 0} (g : Ghosts R) (len : ℕ) (old new : Deserializer R C) (e : Error) : Type 0 where
   pub failed : new.failed ≡ old.failed
   pub stays : Stays g old new
   pub err : Explains e (faults_of g old) (faults_of g new) (StartsWithNoText len (g.ahead old.reader))
+  pub exact : Explains e (faults_of g old) (faults_of g new) (RefusesPiece len (not_string (head.Text len)) (g.ahead old.reader) e)

@@ -3,6 +3,7 @@ ghost use Rattle.std.specs.Prelude.{◌≡◌, OnOk, IfOk, IfErr, length};
 ghost use Rattle.std.specs.Io.KnownBytes.{Consumes};
 ghost use Rattle.rmp_wire.specs.Sources.{IsShort};
 ghost use Rattle.rmp_wire.specs.Spelling.{IsBytes};
+ghost use Rattle.rmp_decode.specs.Exact.{IsDataEnd};
 ghost use Rattle.rmp_decode.specs.Law.{Explains};
 ghost use Rattle.rmp_decode.specs.Skip.{Passes};
 
@@ -33,6 +34,7 @@ pub trait ReadContent<R: Source> {
         ensures ok { IfOk result (λ v. (length v.items ≡ len) × IsBytes v.items × Consumes (R.ahead reader.old) (R.ahead reader.new) v.items) }
         ensures sound { OnOk result (R.faults reader.new ≡ R.faults reader.old) }
         ensures err { IfErr result (λ e. Explains e (R.faults reader.old) (R.faults reader.new) (IsShort len (R.ahead reader.old))) }
+        ensures end { IfErr result (λ e. Explains e (R.faults reader.old) (R.faults reader.new) (IsDataEnd e)) }
         ensures place { R.place reader.new ≡ R.place reader.old };
 }
 
