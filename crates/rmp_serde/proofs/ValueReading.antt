@@ -34,12 +34,12 @@ use Rattle.rmp_decode.specs.declared.text.Text.TheVariants.{FailedBefore}
 use Rattle.rmp_decode.specs.Maps.{OfMap, ReadsPairs, OpensMap, map_inner, TakesKey, TakesValue}
 use Rattle.rmp_decode.specs.Rows.{ReadsEach}
 use Rattle.rmp_decode.specs.Seq.{OfRow, seq_head, Opens, IsOpen, TakesElement, FailsToTake}
-use Rattle.rmp_serde.specs.Read.{AllTextsUtf8, ItemsUtf8, PairsUtf8}
+use Rattle.rmp_serde.specs.Read.{ItemsUtf8, PairsUtf8}
 use Rattle.rmp_serde.specs.Read.{reads_value}
 
 -- ---- items
 
-each_is : (ms : Msgs) (vs : List Msg) → ReadsEach reads_value ms vs → (msgs vs ≡ ms) × ItemsUtf8 ms
+pub each_is : (ms : Msgs) (vs : List Msg) → ReadsEach reads_value ms vs → (msgs vs ≡ ms) × ItemsUtf8 ms
 each_is no_items [] r = (refl, tt)
 each_is no_items (v ∷ vs) r = absurd r
 each_is (item m ms) [] r = absurd r
@@ -69,7 +69,7 @@ list_row n (extension tag s) e r = absurd (cc)
 
 -- ---- pairs
 
-pairs_are : (ps : Pairs) (es : List (Msg × Msg)) → ReadsPairs reads_value reads_value ps es → (pairs es ≡ ps) × PairsUtf8 ps
+pub pairs_are : (ps : Pairs) (es : List (Msg × Msg)) → ReadsPairs reads_value reads_value ps es → (pairs es ≡ ps) × PairsUtf8 ps
 pairs_are no_pairs [] r = (refl, tt)
 pairs_are no_pairs (e ∷ es) r = absurd r
 pairs_are (pair k v ps) [] r = absurd r
@@ -143,7 +143,7 @@ ext_value g old last a tag s e o t = raw_read (ext_content a.tag) g reads_value 
 
 -- ---- parts by the function itself
 
-lent_law : {F R C : Type 0} (g : Ghosts R) (once : Reading F R C Msg) (f : F) → ((p q : MutBor (Deserializer R C)) (r : Result Msg Error) → once.post f (p, tt) (r, (q, tt)) → Lawful g reads_value p.now q.now r)
+pub lent_law : {F R C : Type 0} (g : Ghosts R) (once : Reading F R C Msg) (f : F) → ((p q : MutBor (Deserializer R C)) (r : Result Msg Error) → once.post f (p, tt) (r, (q, tt)) → Lawful g reads_value p.now q.now r)
     → (d rest : Deserializer R C) (gave : Result Msg Error) → FnOnceReturnsAtMut once f d gave rest → Lawful g reads_value d rest gave
 lent_law g once f law d rest gave c =
     let l = law c.shown c.left gave c.met in

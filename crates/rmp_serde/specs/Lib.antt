@@ -15,6 +15,7 @@ pub mod Equal
 pub mod EqualLaws
 pub mod Parts
 pub mod Read
+pub mod Refuse
 pub mod TreeFalls
 pub mod TreeWrites
 pub mod ValueData
