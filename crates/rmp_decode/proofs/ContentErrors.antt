@@ -1,5 +1,5 @@
 -- Which error comes where a head and the content behind it are wanted.
-use Rattle.std.proofs.Common.{◌≡◌, ◌≢◌, ◌∙◌, sym, ap, subst, refl, ℕ, ℤ, ◌+◌, ◌<◌, ◌≤◌, arith, List, [], ◌∷◌, ◌++◌, length, Option, None, Some, IfSome, Bool, true, false, Ok, append_assoc}
+use Rattle.std.proofs.Common.{◌≡◌, ◌∙◌, sym, ap, subst, refl, ℕ, ℤ, ◌<◌, arith, List, [], ◌∷◌, ◌++◌, length, Option, None, Some, IfSome, Bool, true, false, Ok, append_assoc}
 use Rattle.std.proofs.lemmas.List.{length-append}
 use Rattle.std.specs.Io.KnownBytes.{Consumes, prepend_known}
 use Rattle.std.specs.Prelude.{encode_utf8, IsUtf8}
@@ -9,7 +9,7 @@ use Rattle.rmp_wire.specs.declared.marker.Marker.{Marker}
 use Rattle.rmp_wire.specs.declared.source.Source.{Ghosts}
 use Rattle.rmp_wire.specs.declared.slice.SourceFault.{SourceFault}
 use Rattle.rmp_wire.specs.declared.slice.SourceFault.TheVariants.{Io, Memory}
-use Rattle.rmp_wire.specs.Heads.{IsHead, canon_head}
+use Rattle.rmp_wire.specs.Heads.{IsHead}
 use Rattle.rmp_wire.specs.Msg.{Msg}
 use Rattle.rmp_wire.specs.Slices.{Blames}
 use Rattle.rmp_wire.specs.Sources.{IsShort}
@@ -18,11 +18,11 @@ use Rattle.rmp_wire.specs.Taking.{marker_of}
 use Rattle.rmp_wire.proofs.Canon.{canon_head_least}
 use Rattle.rmp_wire.proofs.Heads.{heads_apart}
 use Rattle.rmp_wire.proofs.Writing.{head_some}
-use Rattle.rmp_decode.specs.Content.{ExactOfContent, RefusesContent, IsTextHead, IsRawHead, IsBufferHead, IsExtHead, not_lent, not_bytes, not_string, not_str}
+use Rattle.rmp_decode.specs.Content.{RefusesContent, IsTextHead, IsRawHead, IsBufferHead, IsExtHead, not_lent, not_bytes, not_string, not_str}
 use Rattle.rmp_decode.specs.Exact.{Stands, EndsExactly, IsDataEnd, IsUtf8Error}
 use Rattle.rmp_decode.specs.Kinds.{raw_head, raw_msg, content_len}
 use Rattle.rmp_decode.specs.Law.{Explains, ReadsHead, Reads}
-use Rattle.rmp_decode.specs.Pieces.{Blamed, StartsWithNoChar, ExactOfPiece, RefusesPiece}
+use Rattle.rmp_decode.specs.Pieces.{Blamed, StartsWithNoChar, RefusesPiece}
 use Rattle.rmp_decode.specs.State.{left, faults_of}
 use Rattle.rmp_decode.specs.declared.de.Deserializer.{Deserializer}
 use Rattle.rmp_decode.specs.declared.error.Error.{Error}

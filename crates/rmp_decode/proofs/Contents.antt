@@ -1,5 +1,5 @@
 -- Messages that are a head and bytes behind it.
-use Rattle.std.proofs.Common.{◌≡◌, ℕ, ℤ, ◌<◌, ◌≤◌, List, [], ◌++◌, length, refl, sym, ◌∙◌, ap, subst, arith, Bool, true, false, Option, None, Some, IfSome, Ok, Err}
+use Rattle.std.proofs.Common.{◌≡◌, ℕ, ℤ, ◌≤◌, List, [], ◌++◌, length, refl, sym, ◌∙◌, ap, subst, arith, Bool, true, false, Option, None, Some, IfSome, Ok, Err}
 use Rattle.std.specs.Io.KnownBytes.{Consumes, prepend_known}
 use Rattle.std.proofs.KnownBytes.{Consumes-trans}
 use Rattle.std.proofs.lemmas.List.{append_assoc}
@@ -12,16 +12,13 @@ use Rattle.rmp_wire.specs.Msg.{Msg, nil, truth, whole, float32, float64, text, b
 use Rattle.rmp_wire.specs.Sources.{IsShort}
 use Rattle.rmp_wire.specs.Spelling.{Spells, head_of, Joined, IsContent, IsBytes}
 use Rattle.rmp_decode.specs.Kinds.{raw_msg, raw_head}
-use Rattle.rmp_decode.specs.Law.{Readable, Lawful, Explains, ReadsHead, GoesOn}
+use Rattle.rmp_decode.specs.Law.{Readable, Lawful, Explains, ReadsHead}
 use Rattle.rmp_decode.specs.State.{left, faults_of, Stays, kept_bytes}
 use Rattle.rmp_decode.specs.declared.de.Deserializer.{Deserializer}
-use Rattle.rmp_decode.specs.declared.de.Kept.{Kept}
-use Rattle.rmp_decode.specs.declared.de.Kept.TheVariants.{Nothing, First, Number}
+use Rattle.rmp_decode.specs.declared.de.Kept.TheVariants.{Nothing}
 use Rattle.rmp_decode.specs.declared.error.Error.{Error}
 use Rattle.rmp_decode.proofs.Laws.{refused, refused_head, stays_then}
 use Rattle.rmp_wire.proofs.Heads.{heads_apart}
-use Rattle.rmp_decode.specs.Law.{Refuses}
-use Rattle.rmp_decode.specs.State.{room_of}
 use Rattle.rmp_decode.proofs.Refusals.{content_of, refuses_short, refuses_by, refuses_all}
 
 -- with nothing kept back, what is left is what the source has ahead

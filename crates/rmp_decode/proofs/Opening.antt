@@ -1,17 +1,15 @@
 -- When no list can be opened.
-use Rattle.std.proofs.Common.{◌≡◌, ◌∙◌, sym, ap, subst, refl, ℕ, ◌<◌, ◌≤◌, arith, List, ◌++◌, length, Option, None, Some, Bool, true, false, Ok, Err}
-use Rattle.std.specs.Io.KnownBytes.{Consumes}
+use Rattle.std.proofs.Common.{◌≡◌, ◌∙◌, sym, ap, refl, ℕ, ◌<◌, ◌≤◌, arith, length, Bool, true, false, Ok, Err}
 use Rattle.rmp_wire.specs.declared.head.Head.{Head}
 use Rattle.rmp_wire.specs.declared.head.Head.TheVariants as head
 use Rattle.rmp_wire.specs.declared.head.Head.TheVariants.{Array}
 use Rattle.rmp_wire.specs.declared.marker.Marker.{Marker}
 use Rattle.rmp_wire.specs.declared.source.Source.{Ghosts}
-use Rattle.rmp_wire.specs.Heads.{IsHead}
 use Rattle.rmp_wire.specs.Msg.{Msg, nil, truth, whole, float32, float64, text, bin, list, map, extension, count, depth}
-use Rattle.rmp_wire.specs.Spelling.{Spells, head_of}
-use Rattle.rmp_decode.specs.Law.{Refuses, ReadsHead}
+use Rattle.rmp_wire.specs.Spelling.{head_of}
+use Rattle.rmp_decode.specs.Law.{ReadsHead}
 use Rattle.rmp_decode.specs.Seq.{IsSeq, seq_head, not_seq, FailsToOpen}
-use Rattle.rmp_decode.specs.State.{left, room_of, Stays}
+use Rattle.rmp_decode.specs.State.{left, room_of}
 use Rattle.rmp_decode.specs.declared.de.Deserializer.{Deserializer}
 use Rattle.rmp_decode.specs.declared.error.Error.{Error}
 use Rattle.rmp_decode.specs.declared.error.Error.TheVariants.{DepthLimitExceeded, Syntax}

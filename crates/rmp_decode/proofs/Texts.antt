@@ -7,6 +7,7 @@ use Rattle.rmp_wire.specs.Msg.{Msg, text}
 use Rattle.rmp_decode.specs.Law.{Readable}
 use Rattle.rmp_decode.specs.Pieces.{StartsWithNoChar}
 use Rattle.rmp_decode.specs.Read.{IsChar}
+use Rattle.rmp_decode.proofs.ContentErrors.{same_front}
 
 same_text : {s r : List ℕ} → text s ≡ text r → s ≡ r
 same_text e = cc
@@ -14,16 +15,6 @@ same_text e = cc
 pub no_char : (n : ℕ) (known : Option (List ℕ)) → StartsWithNoChar n known → IfSome known (λ ys. (s r : List ℕ) → ys ≡ s ++ r → length s ≡ n → Readable IsChar (text s) → ⊥)
 no_char n None f = tt
 no_char n (Some ys) f = λ s r e l q. let t = same_text q.1.0 in f q.0 r q.1.1 (ap length (sym t) ∙ l) (e ∙ ap (λ z. z ++ r) t)
-
-same_front : (t s x y : List ℕ) → length t ≡ length s → t ++ x ≡ s ++ y → t ≡ s
-same_front [] [] x y l e = refl
-same_front [] (b ∷ s) x y l e = absurd (omega arith)
-same_front (a ∷ t) [] x y l e = absurd (omega arith)
-same_front (a ∷ t) (b ∷ s) x y l e =
-    let i : length t ≡ length s = omega arith in
-    let rest : t ++ x ≡ s ++ y = cc in
-    let u = same_front t s x y i rest in
-    cc
 
 pub no_such_char : (n : ℕ) (known k : Option (List ℕ)) (bytes : List ℕ) → Consumes known k bytes → length bytes ≡ n → ((c : ℕ) → IsScalar c → bytes ≡ encode_utf8 c → ⊥) → StartsWithNoChar n known
 no_such_char n None k bytes p l f = tt

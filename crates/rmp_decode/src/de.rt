@@ -21,6 +21,8 @@ mod sets;
 mod skip;
 #[cfg(test)]
 mod tests;
+#[cfg(test)]
+mod text_tests;
 mod texts;
 mod tuples;
 

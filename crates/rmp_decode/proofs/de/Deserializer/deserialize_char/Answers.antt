@@ -1,4 +1,4 @@
-use Rattle.std.proofs.Common.{◌≡◌, refl}
+use Rattle.std.proofs.Common.{refl}
 use Rattle.std.specs.Prelude.{encode_utf8}
 use Rattle.rmp_wire.specs.declared.head.Head.TheVariants.{Text}
 use Rattle.rmp_decode.specs.Content.{IsTextHead, not_raw, not_char}

@@ -1,4 +1,4 @@
-use Rattle.std.proofs.Common.{◌≡◌, ◌∙◌, sym, subst, List, ℕ, length}
+use Rattle.std.proofs.Common.{◌∙◌, sym, subst, length}
 use Rattle.std.specs.Prelude.{IsUtf8}
 use Rattle.rmp_decode.specs.Content.{IsRawHead, not_raw, not_bytes, not_str}
 use Rattle.rmp_decode.proofs.ContentErrors.{content_refused_after, content_wider, raw_wanted, not_utf8_str, str_wider}

@@ -1,4 +1,4 @@
-use Rattle.std.proofs.Common.{◌≡◌, ◌∙◌, sym, subst, List, ℕ, length}
+use Rattle.std.proofs.Common.{◌∙◌, sym, subst, length}
 use Rattle.std.specs.Prelude.{IsUtf8}
 use Rattle.std.specs.String.{string_bytes, string_vec}
 use Rattle.std.proofs.lemmas.Str.{IsUtf8-string_bytes}

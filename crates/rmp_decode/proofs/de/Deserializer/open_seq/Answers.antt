@@ -1,4 +1,4 @@
-use Rattle.std.proofs.Common.{◌≡◌, ◌∙◌, ap, arith, refl, Bool}
+use Rattle.std.proofs.Common.{◌∙◌, ap, arith, refl, Bool}
 use Rattle.rmp_decode.specs.Seq.{seq_head}
 use Rattle.rmp_decode.proofs.Opening.{fails_to_begin, no_seq, too_deep}
 use Rattle.rmp_decode.proofs.de.Deserializer.open_seq.Goals as goal

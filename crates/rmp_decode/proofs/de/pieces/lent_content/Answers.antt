@@ -1,4 +1,4 @@
-use Rattle.std.proofs.Common.{◌≡◌, sym, rules, length}
+use Rattle.std.proofs.Common.{rules, length}
 use Rattle.rmp_decode.specs.Content.{not_bytes}
 use Rattle.rmp_decode.specs.Kinds.{raw_head}
 use Rattle.rmp_decode.proofs.ContentErrors.{piece_whole, piece_blamed, unlent}

@@ -1,4 +1,4 @@
-use Rattle.std.proofs.Common.{◌≡◌, ◌∙◌, sym, rules, length}
+use Rattle.std.proofs.Common.{sym, rules}
 use Rattle.rmp_wire.specs.declared.head.Head.TheVariants.{Text}
 use Rattle.rmp_decode.specs.Content.{not_char}
 use Rattle.rmp_decode.proofs.ContentErrors.{piece_whole, piece_blamed, char_blamed}
