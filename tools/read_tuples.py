@@ -118,60 +118,42 @@ def parts_answers(n):
     path = f"Rattle.rmp_decode.proofs.de.seq.SeqAccess.parts_{n}"
     start = "c.args.self.now"
     if n == 2:
-        mid, now, ok, err = "c.element.new.self", "c.element-2.new.self", "c.in-Ok-element", "c.in-Err-element"
-        second = "element-2"
-        take = f"""    let s = run_start g.R.Source {start} c.requires in
-    let t1 = subst (λ z. TakesElement g.R.Source ({reading("A", "z")}) {start} {mid} c.in-Ok.a) s.stays.config (c.in-Ok.ensures.ok s.still) in
-    let run = run_step g.R.Source _ {start} {start} {mid} no_items c.in-Ok.a s t1 c.element.ensures.same_reference in
+        mid, second = "c.element.new.self", "element-2"
+        first = f"part_read g.R.Source (λ z. {reading('A', 'z')}) (λ v ms. AndThen (λ k. {reading('A', start + '.de.now.config')} k v) NoMore ms)"
+        taken = f"{first} {start} {start} {mid} no_items (run_start g.R.Source {start} c.requires) c.in-Ok.a c.in-Ok.a c.in-Ok.ensures.ok c.element.ensures.same_reference (λ m h. (h, tt))"
+        refused = f"""part_refused g.R.Source (λ z. {reading("A", "z")}) _ {start} {start} {mid} no_items (run_start g.R.Source {start} c.requires) c.in-Err.e c.in-Err.ensures.err c.element.ensures.marked (λ m ks v h. (v.0, h.0)) (λ v h. h)"""
+        uses = """use Rattle.rmp_wire.specs.Msg.{no_items, item}
+use Rattle.rmp_decode.specs.Rows.{AndThen, NoMore}
+use Rattle.rmp_decode.proofs.Seqs.{run_start}
 """
-        trees = "(item t1.tree no_items)"
+        lemmas = "part_read, part_refused"
     else:
-        mid, now, ok, err = f"c.parts_{n - 1}.new.self", "c.element.new.self", "c.in-Ok-element", "c.in-Err-element"
-        second = "element"
-        take = f"""    let t = c.in-Ok.ensures.ok in
-    let run = t.run in
-"""
-        trees = "t.trees"
-    before = f"v.{n - 1}"
-    lists = "run_start, run_step, parts_element" if n == 2 else "run_step, parts_element"
-    shapes = "" if n == 2 else "use Rattle.rmp_decode.proofs.Tuples.{keep, anything, extend, extend_end, walk, next, lacks, parts_narrower}\n"
-    text = f"""use Rattle.std.proofs.Common.{{subst}}
-use Rattle.rmp_wire.specs.Msg.{{no_items, item}}
-use Rattle.rmp_decode.specs.Seq.{{TakesElement, FailsElement}}
-use Rattle.rmp_decode.proofs.Rows.{{push}}
-use Rattle.rmp_decode.proofs.Seqs.{{{lists}}}
-{shapes}use {path}.Goals as goal
-"""
-    if n == 2:
-        text += f"""
-pub returns-in-Err-clause-err : goal.returns-in-Err-clause-err
-returns-in-Err-clause-err g c =
-    let s = run_start g.R.Source {start} c.requires in
-    let f = subst (λ z. FailsElement g.R.Source ({reading("A", "z")}) {start} c.element.new.self c.in-Err.e) s.stays.config (c.in-Err.ensures.err s.still) in
-    parts_element g.R.Source _ {start} {start} no_items s ({reading("A", start + ".de.now.config")}) c.element.new.self _ f (c.element.ensures.marked s.still.marked) (λ m ks v h. (v.0, h.0)) (λ v h. h)
-"""
-    else:
+        mid, second = f"c.parts_{n - 1}.new.self", "element"
+        taken = "c.in-Ok.ensures.ok"
         shorter = ", ".join(f"v.{i}" for i in range(n - 1))
-        text += f"""
+        refused = f"parts_narrower g.R.Source _ _ _ _ _ (λ v ms h. (({shorter}), {around(n - 1, 'keep _ _ _', '(anything _)')} ms h)) c.in-Err.ensures.err"
+        uses = "use Rattle.rmp_wire.specs.Msg.{no_items, item}\n"
+        lemmas = "keep, anything, parts_narrower, part_read, part_refused"
+    now = f"c.{second}.new.self"
+    part = f"{around(n - 1, 'walk _ _ _ _ (item m ks)', '(next _ _ m ks)')} t.trees t.value h"
+    some = f"{around(n - 1, 'walk _ _ _ _ no_items', '(lacks _ _)')} t.trees t.value h"
+    made = f"{around(n - 1, 'extend _ _ _ m', '(extend_end _ m h)')} t.trees t.value"
+    at = f"g.R.Source (λ z. {reading(last, 'z')}) _ {start} {mid} {now} t.trees t.run"
+    return f"""{uses}use Rattle.rmp_decode.proofs.Tuples.{{{lemmas}, extend, extend_end, walk, next, lacks}}
+use {path}.Goals as goal
+
 pub returns-in-Err-clause-err : goal.returns-in-Err-clause-err
-returns-in-Err-clause-err g c = parts_narrower g.R.Source _ _ _ _ _ (λ v ms h. (({shorter}), {around(n - 1, "keep _ _ _", "(anything _)")} ms h)) c.in-Err.ensures.err
-"""
-    if n == 2:
-        part, some, made = "h.1.0", "h.1", "(t1.value, (x.value, tt))"
-    else:
-        part = f"{around(n - 1, 'walk _ _ _ _ (item m ks)', '(next _ _ m ks)')} t.trees t.value h"
-        some = f"{around(n - 1, 'walk _ _ _ _ no_items', '(lacks _ _)')} t.trees t.value h"
-        made = f"{around(n - 1, 'extend _ _ _ x.tree', '(extend_end _ x.tree x.value)')} t.trees t.value"
-    return text + f"""
+returns-in-Err-clause-err g c = {refused}
+
 pub returns-in-Err-element-clause-err : goal.returns-in-Err-element-clause-err
 returns-in-Err-element-clause-err g c =
-{take}    let f = subst (λ z. FailsElement g.R.Source ({reading(last, "z")}) {mid} {now} {err}.e) run.stays.config ({err}.ensures.err run.still) in
-    parts_element g.R.Source _ {start} {mid} {trees} run ({reading(last, start + ".de.now.config")}) {now} _ f (c.{second}.ensures.marked run.still.marked) (λ m ks v h. ({before}, {part})) (λ v h. {some})
+    let t = {taken} in
+    part_refused {at} c.in-Err-element.e c.in-Err-element.ensures.err c.{second}.ensures.marked (λ m ks v h. (v.{n - 1}, {part})) (λ v h. {some})
 
 pub returns-clause-ok : goal.returns-clause-ok
 returns-clause-ok g c =
-{take}    let x = subst (λ z. TakesElement g.R.Source ({reading(last, "z")}) {mid} {now} {ok}.{var}) run.stays.config ({ok}.ensures.ok run.still) in
-    record {{ trees = push {trees} x.tree; run = run_step g.R.Source _ {start} {mid} {now} {trees} {ok}.{var} run x c.{second}.ensures.same_reference; value = {made} }}
+    let t = {taken} in
+    part_read {at} c.in-Ok-element.{var} _ c.in-Ok-element.ensures.ok c.{second}.ensures.same_reference (λ m h. {made})
 """
 
 
@@ -189,16 +171,13 @@ def answers(n):
     took = f"""    let o = c.in-Ok.ensures.opened in
     let t = subst (λ z. TakesParts g.R.Source {at("NoMore")} c.in-Ok.seq {now} c.in-Ok-parts_{n}.parts) o.stays.config c.in-Ok-parts_{n}.ensures.ok in
 """
-    return f"""use Rattle.std.proofs.Common.{{◌≡◌, ◌∙◌, subst, rules}}
+    return f"""use Rattle.std.proofs.Common.{{subst, rules}}
 use Rattle.rmp_wire.specs.Msg.{{Msgs}}
 use Rattle.rmp_decode.specs.Rows.{{AndThen, NoMore, Anything}}
 use Rattle.rmp_decode.specs.Seq.{{TakesParts, FailsParts}}
-use Rattle.rmp_decode.proofs.Seqs.{{seq_unopened, seq_parts, seq_over, seq_done, and_then_count, no_more_count}}
+use Rattle.rmp_decode.proofs.Seqs.{{seq_unopened, seq_parts, seq_over, seq_done, and_then_count, no_more_count, via}}
 use Rattle.rmp_decode.proofs.Tuples.{{keep, anything, parts_narrower}}
 use {path}.Goals as goal
-
-via : {{A : Type 0}} {{x z : A}} (y : A) → x ≡ y → y ≡ z → x ≡ z
-via y p q = p ∙ q
 
 pub returns-in-Err : goal.returns-in-Err
 returns-in-Err g c =
@@ -232,15 +211,12 @@ def single():
     took = f"""{start}    let t = subst (λ z. TakesElement g.R.Source ({reading("A", "z")}) {seq} {now} c.in-Ok-element.a) o.stays.config (c.in-Ok-element.ensures.ok s.still) in
     let r = run_step g.R.Source _ {seq} {seq} {now} no_items c.in-Ok-element.a s t c.element.ensures.same_reference in
 """
-    return f"""use Rattle.std.proofs.Common.{{◌≡◌, ◌∙◌, subst, rules}}
+    return f"""use Rattle.std.proofs.Common.{{subst, rules}}
 use Rattle.rmp_wire.specs.Msg.{{Msgs, no_items, item}}
 use Rattle.rmp_decode.specs.Rows.{{AndThen, NoMore}}
 use Rattle.rmp_decode.specs.Seq.{{TakesElement, FailsElement}}
-use Rattle.rmp_decode.proofs.Seqs.{{run_start, run_step, seq_unopened, seq_element, seq_over, seq_done, and_then_count, no_more_count}}
+use Rattle.rmp_decode.proofs.Seqs.{{run_start, run_step, seq_unopened, seq_element, seq_over, seq_done, and_then_count, no_more_count, via}}
 use {path}.Goals as goal
-
-via : {{A : Type 0}} {{x z : A}} (y : A) → x ≡ y → y ≡ z → x ≡ z
-via y p q = p ∙ q
 
 pub returns-in-Err : goal.returns-in-Err
 returns-in-Err g c =

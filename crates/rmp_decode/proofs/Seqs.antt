@@ -17,6 +17,10 @@ use Rattle.rmp_decode.proofs.Laws.{stays_refl, stays_then}
 use Rattle.rmp_decode.proofs.Refusals.{refuses_narrower}
 use Rattle.rmp_decode.proofs.Rows.{push, append, count-push, depth-push, row-push, rest_refused, element_refused, count_refused, row_whole, whole_row, readable_row, is_seq}
 
+-- a chain through what is named
+pub via : {A : Type 0} {x z : A} (y : A) → x ≡ y → y ≡ z → x ≡ z
+via y p q = p ∙ q
+
 pub run_start : {R C : Type 0} (g : Ghosts R) (s : SeqAccess R C) → IsOpen s → Run g s s no_items
 run_start g s o = record {
   bytes = [];

@@ -1,13 +1,15 @@
 -- Elements of several types, one after another.
-use Rattle.std.proofs.Common.{ℕ, List, Option, None, Some}
+use Rattle.std.proofs.Common.{◌≡◌, subst, ℕ, List, Option, None, Some, true}
 use Rattle.rmp_wire.specs.declared.source.Source.{Ghosts}
 use Rattle.rmp_wire.specs.Msg.{Msg, Msgs, no_items, item}
 use Rattle.rmp_decode.specs.Rows.{AndThen, Anything, NoMore}
-use Rattle.rmp_decode.specs.Seq.{SpellsIn, RefusesRow, inner_of, FailsParts}
+use Rattle.rmp_decode.specs.Law.{Readable}
+use Rattle.rmp_decode.specs.Seq.{SpellsIn, RefusesRow, inner_of, IsOpen, TakesElement, FailsElement, Run, TakesParts, FailsParts}
 use Rattle.rmp_decode.specs.State.{left}
 use Rattle.rmp_decode.specs.declared.de.seq.SeqAccess.{SeqAccess}
 use Rattle.rmp_decode.specs.declared.error.Error.{Error}
 use Rattle.rmp_decode.proofs.Rows.{push, append}
+use Rattle.rmp_decode.proofs.Seqs.{run_step, parts_element}
 
 -- what holds of the rest holds behind one item more
 pub keep : (P : Msg → Type 0) (Q Q' : Msgs → Type 0) → ((ms : Msgs) → Q ms → Q' ms) → (ms : Msgs) → AndThen P Q ms → AndThen P Q' ms
@@ -51,3 +53,18 @@ parts_narrower g Q Q' old new e f x = record {
   failed = x.failed;
   err = λ n k. row_narrower (SpellsIn old.bytes) (λ ms. (v : _) × Q v ms) (λ ms. (w : _) × Q' w ms) (inner_of old) old.left (left g old.de.now) (λ ms h. f h.0 ms h.1) (x.err n k);
 }
+
+-- one element more, behind the parts that were read
+module _ {R C V W : Type 0} (g : Ghosts R) (reads : C → Msg → V → Type 0) (Q : W → Msgs → Type 0) (start mid now : SeqAccess R C) (ms : Msgs) (r : Run g start mid ms) where
+  pub part_read : (v : V) (w : W) → (IsOpen mid → TakesElement g (reads mid.de.now.config) mid now v) → now.de.ghost_name ≡ mid.de.ghost_name
+      → ((m : Msg) → reads start.de.now.config m v → Q w (push ms m)) → TakesParts g Q start now w
+  part_read v w took n holds =
+      let x = subst (λ z. TakesElement g (reads z) mid now v) r.stays.config (took r.still) in
+      record { trees = push ms x.tree; run = run_step g (reads start.de.now.config) start mid now ms v r x n; value = holds x.tree x.value }
+
+  -- there was none, or it was refused
+  pub part_refused : (e : Error) → (IsOpen mid → FailsElement g (reads mid.de.now.config) mid now e) → (mid.de.now.failed ≡ true → now.de.now.failed ≡ true)
+      → ((m : Msg) (ks : Msgs) (w : W) → Q w (append ms (item m ks)) → Readable (reads start.de.now.config) m) → ((w : W) → Q w (append ms no_items) → ⊥) → FailsParts g Q start now e
+  part_refused e fails marked proj some =
+      let f = subst (λ z. FailsElement g (reads z) mid now e) r.stays.config (fails r.still) in
+      parts_element g Q start mid ms r (reads start.de.now.config) now e f (marked r.still.marked) proj some

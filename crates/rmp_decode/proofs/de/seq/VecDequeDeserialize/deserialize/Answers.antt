@@ -1,13 +1,10 @@
-use Rattle.std.proofs.Common.{◌≡◌, sym, ◌∙◌, ap, subst, arith, refl, rules, false, Option, None, Some, IfNone, Global}
+use Rattle.std.proofs.Common.{◌≡◌, sym, ◌∙◌, ap, subst, refl, rules, false, Option, None, Some, IfNone, Global}
 use Rattle.std.proofs.lemmas.Result.{err_from_is_err_and}
 use Rattle.std.specs.declared.collections.VecDeque.{VecDeque}
 use Rattle.rmp_decode.specs.Rows.{ReadsEach}
 use Rattle.rmp_decode.specs.Seq.{IsOpen, TakesElement, FailsToTake}
-use Rattle.rmp_decode.proofs.Seqs.{Values, values_start, values_step, each_next, seq_unopened, seq_done, seq_take, seq_unkept}
+use Rattle.rmp_decode.proofs.Seqs.{values_start, values_step, each_next, seq_unopened, seq_done, seq_take, via}
 use Rattle.rmp_decode.proofs.de.seq.VecDequeDeserialize.deserialize.Goals as goal
-
-via : {A : Type 0} {x z : A} (y : A) → x ≡ y → y ≡ z → x ≡ z
-via y p q = p ∙ q
 
 pub returns-in_err-seq : goal.returns-in_err-seq
 returns-in_err-seq g c =

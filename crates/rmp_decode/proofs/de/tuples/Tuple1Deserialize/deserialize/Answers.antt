@@ -1,12 +1,9 @@
-use Rattle.std.proofs.Common.{◌≡◌, ◌∙◌, subst, rules}
+use Rattle.std.proofs.Common.{subst, rules}
 use Rattle.rmp_wire.specs.Msg.{Msgs, no_items, item}
 use Rattle.rmp_decode.specs.Rows.{AndThen, NoMore}
 use Rattle.rmp_decode.specs.Seq.{TakesElement, FailsElement}
-use Rattle.rmp_decode.proofs.Seqs.{run_start, run_step, seq_unopened, seq_element, seq_over, seq_done, and_then_count, no_more_count}
+use Rattle.rmp_decode.proofs.Seqs.{run_start, run_step, seq_unopened, seq_element, seq_over, seq_done, and_then_count, no_more_count, via}
 use Rattle.rmp_decode.proofs.de.tuples.Tuple1Deserialize.deserialize.Goals as goal
-
-via : {A : Type 0} {x z : A} (y : A) → x ≡ y → y ≡ z → x ≡ z
-via y p q = p ∙ q
 
 pub returns-in-Err : goal.returns-in-Err
 returns-in-Err g c =

@@ -1,13 +1,10 @@
-use Rattle.std.proofs.Common.{◌≡◌, ◌∙◌, subst, rules}
+use Rattle.std.proofs.Common.{subst, rules}
 use Rattle.rmp_wire.specs.Msg.{Msgs}
 use Rattle.rmp_decode.specs.Rows.{AndThen, NoMore, Anything}
 use Rattle.rmp_decode.specs.Seq.{TakesParts, FailsParts}
-use Rattle.rmp_decode.proofs.Seqs.{seq_unopened, seq_parts, seq_over, seq_done, and_then_count, no_more_count}
+use Rattle.rmp_decode.proofs.Seqs.{seq_unopened, seq_parts, seq_over, seq_done, and_then_count, no_more_count, via}
 use Rattle.rmp_decode.proofs.Tuples.{keep, anything, parts_narrower}
 use Rattle.rmp_decode.proofs.de.tuples.Tuple5Deserialize.deserialize.Goals as goal
-
-via : {A : Type 0} {x z : A} (y : A) → x ≡ y → y ≡ z → x ≡ z
-via y p q = p ∙ q
 
 pub returns-in-Err : goal.returns-in-Err
 returns-in-Err g c =
