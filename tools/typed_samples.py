@@ -137,6 +137,9 @@ class Body:
                 self.uses.add(f"std::collections::{name}")
             if name in ("UnkSeq", "UnkMap"):
                 self.uses.add(f"sample_types::{name}")
+            if kind == "Option<u8>":
+                self.uses.add("sample_types::OptionalByte")
+                return "OptionalByte"
             return f"{name}<{', '.join(self.ours(k) for k in inner)}>"
         return kind
 
@@ -223,6 +226,8 @@ class Body:
         if kind == "NewU8":
             self.uses.add("sample_types::NewU8")
             return value
+        if kind == "Option<u8>":
+            return f"{self.ours(kind)}({value})"
         if kind.startswith("(") and kind.endswith(")"):
             kinds, parts = split(kind[1:-1]), split(value[1:-1])
             made = [self.value(k, p) for k, p in zip(kinds, parts, strict=True)]
@@ -244,8 +249,6 @@ class Body:
         if kind.startswith("&["):
             made = self.slice(kind[2:-1], inside(value, "&", ""))
             return f"{self.let(made, kind=f'[{kind[2:-1]}; 0]') if made == '[]' else made}.as_slice()"
-        if kind.startswith("&&"):
-            raise Absent("the checker doesn't cover a `Vec` of references to references")
         if kind.startswith("&"):
             return f"&{self.value(kind[1:], inside(value, '&', ''))}"
         name, inner = of_generic(kind)
@@ -297,9 +300,14 @@ def sample():
 
 def statements(kind, value, rows):
     body = Body()
-    made = body.value(kind, value)
+    call = "add"
+    if kind.startswith("Vec<&&"):
+        # The list is made where its elements are references to a type parameter: the checker doesn't follow it otherwise.
+        call, made = "add_lent", body.value(kind[5:-1], inside(value, "vec![&", "]"))
+    else:
+        made = body.value(kind, value)
     settings = ", ".join(f"Setting::{SETTINGS[setting]}" for setting, _ in rows)
-    body.lines.append(f"rows.add({quoted(kind)}, {quoted(value)}, &[{settings}], &{made})?;")
+    body.lines.append(f"rows.{call}({quoted(kind)}, {quoted(value)}, &[{settings}], &{made})?;")
     return body
 
 

@@ -2,7 +2,9 @@
 #![tactic(auto)]
 
 mod newtype;
+mod optional;
 mod unknown;
 
 pub use newtype::NewU8;
+pub use optional::OptionalByte;
 pub use unknown::{UnkMap, UnkSeq};

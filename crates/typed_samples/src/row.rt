@@ -114,6 +114,18 @@ impl Rows {
         Ok(())
     }
 
+    /// The same, where the value is a list of one reference to what is given.
+    pub fn add_lent<T: Serialize>(
+        &mut self,
+        kind: &str,
+        shown: &str,
+        settings: &[Setting],
+        item: &T,
+    ) -> Result<(), Fault> {
+        let list = vec![in self.alloc; item]?;
+        self.add(kind, shown, settings, &list)
+    }
+
     fn line(
         &mut self,
         kind: &str,

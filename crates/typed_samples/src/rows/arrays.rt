@@ -1,6 +1,7 @@
 //! Arrays. Written by tools/typed_samples.py.
 use crate::fault::Fault;
 use crate::row::{Rows, Setting};
+use sample_types::OptionalByte;
 use std::alloc::Global;
 
 fn rows_1(rows: &mut Rows) -> Result<(), Fault> {
@@ -42,15 +43,27 @@ fn rows_2(rows: &mut Rows) -> Result<(), Fault> {
         &[1u16, 200u16],
     )?;
     rows.add(
+        "[Option<u8>; 2]",
+        "[Some(200), None]",
+        &[Setting::NamedTuple],
+        &[OptionalByte(Some(200)), OptionalByte(None)],
+    )?;
+    Ok(())
+}
+
+fn rows_3(rows: &mut Rows) -> Result<(), Fault> {
+    rows.add(
+        "[Option<u8>; 2]",
+        "[Some(200), Some(201)]",
+        &[Setting::ForceIterables, Setting::ForceAll],
+        &[OptionalByte(Some(200)), OptionalByte(Some(201))],
+    )?;
+    rows.add(
         "[[u8; 2]; 2]",
         "[[1, 200], [3, 4]]",
         &[Setting::Named, Setting::Human],
         &[[1u8, 200u8], [3u8, 4u8]],
     )?;
-    Ok(())
-}
-
-fn rows_3(alloc: Global, rows: &mut Rows) -> Result<(), Fault> {
     rows.add(
         "[(); 2]",
         "[(), ()]",
@@ -59,12 +72,16 @@ fn rows_3(alloc: Global, rows: &mut Rows) -> Result<(), Fault> {
     )?;
     let value_1: [(); 0] = [];
     rows.add("[(); 0]", "[]", &[Setting::ForceAll], &value_1)?;
-    let value_2: Vec<u8> = Vec::new(alloc);
+    Ok(())
+}
+
+fn rows_4(alloc: Global, rows: &mut Rows) -> Result<(), Fault> {
+    let value_1: Vec<u8> = Vec::new(alloc);
     rows.add(
         "[Vec<u8>; 2]",
         "[vec![200], vec![]]",
         &[Setting::ForceAll],
-        &[vec![in alloc; 200u8]?, value_2],
+        &[vec![in alloc; 200u8]?, value_1],
     )?;
     Ok(())
 }
@@ -73,6 +90,7 @@ fn rows_3(alloc: Global, rows: &mut Rows) -> Result<(), Fault> {
 pub fn all(alloc: Global, rows: &mut Rows) -> Result<(), Fault> {
     rows_1(rows)?;
     rows_2(rows)?;
-    rows_3(alloc, rows)?;
+    rows_3(rows)?;
+    rows_4(alloc, rows)?;
     Ok(())
 }

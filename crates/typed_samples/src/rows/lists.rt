@@ -1,7 +1,7 @@
 //! Vectors and slices. Written by tools/typed_samples.py.
 use crate::fault::Fault;
 use crate::row::{Rows, Setting};
-use sample_types::NewU8;
+use sample_types::{NewU8, OptionalByte};
 use std::alloc::Global;
 
 fn rows_1(alloc: Global, rows: &mut Rows) -> Result<(), Fault> {
@@ -99,6 +99,40 @@ fn rows_4(alloc: Global, rows: &mut Rows) -> Result<(), Fault> {
         &[Setting::NamedForceIterables],
         &vec![in alloc; Box::new(alloc, 200u8)?, Box::new(alloc, 1u8)?]?,
     )?;
+    rows.add_lent(
+        "Vec<&&u8>",
+        "vec![&&200]",
+        &[Setting::NamedForceIterables],
+        &&200u8,
+    )?;
+    rows.add(
+        "Vec<Option<u8>>",
+        "vec![Some(1)]",
+        &[Setting::Named],
+        &vec![in alloc; OptionalByte(Some(1))]?,
+    )?;
+    rows.add(
+        "Vec<Option<u8>>",
+        "vec![Some(200), None]",
+        &[Setting::Named],
+        &vec![in alloc; OptionalByte(Some(200)), OptionalByte(None)]?,
+    )?;
+    Ok(())
+}
+
+fn rows_5(alloc: Global, rows: &mut Rows) -> Result<(), Fault> {
+    rows.add(
+        "Vec<Option<u8>>",
+        "vec![Some(200), Some(201)]",
+        &[Setting::ForceIterables, Setting::ForceAll],
+        &vec![in alloc; OptionalByte(Some(200)), OptionalByte(Some(201))]?,
+    )?;
+    rows.add(
+        "&[Option<u8>]",
+        "&[Some(200), Some(201)]",
+        &[Setting::ForceIterables, Setting::ForceAll],
+        &[OptionalByte(Some(200)), OptionalByte(Some(201))].as_slice(),
+    )?;
     rows.add(
         "Vec<NewU8>",
         "vec![NewU8(1), NewU8(200)]",
@@ -112,12 +146,12 @@ fn rows_4(alloc: Global, rows: &mut Rows) -> Result<(), Fault> {
         &[Setting::ForceAll],
         &vec![in alloc; vec![in alloc; 1u8, 2u8]?, value_1]?,
     )?;
-    let value_2: Vec<Vec<u8>> = Vec::new(alloc);
-    rows.add("Vec<Vec<u8>>", "vec![]", &[Setting::TupleNamed], &value_2)?;
     Ok(())
 }
 
-fn rows_5(alloc: Global, rows: &mut Rows) -> Result<(), Fault> {
+fn rows_6(alloc: Global, rows: &mut Rows) -> Result<(), Fault> {
+    let value_1: Vec<Vec<u8>> = Vec::new(alloc);
+    rows.add("Vec<Vec<u8>>", "vec![]", &[Setting::TupleNamed], &value_1)?;
     rows.add(
         "Vec<String>",
         "vec![s(\"a\"), s(\"\")]",
@@ -140,5 +174,6 @@ pub fn all(alloc: Global, rows: &mut Rows) -> Result<(), Fault> {
     rows_3(alloc, rows)?;
     rows_4(alloc, rows)?;
     rows_5(alloc, rows)?;
+    rows_6(alloc, rows)?;
     Ok(())
 }

@@ -2,10 +2,22 @@
 use crate::fault::Fault;
 use crate::row::{Rows, Setting};
 use crate::tuple_struct::TupleS;
-use sample_types::NewU8;
+use sample_types::{NewU8, OptionalByte};
 use std::alloc::Global;
 
 fn rows_1(alloc: Global, rows: &mut Rows) -> Result<(), Fault> {
+    rows.add(
+        "Option<u8>",
+        "None",
+        &[Setting::NamedTuple],
+        &OptionalByte(None),
+    )?;
+    rows.add(
+        "Option<u8>",
+        "Some(200)",
+        &[Setting::NamedTuple, Setting::NamedForceAll],
+        &OptionalByte(Some(200)),
+    )?;
     rows.add(
         "Box<u8>",
         "Box::new(200)",
@@ -17,6 +29,16 @@ fn rows_1(alloc: Global, rows: &mut Rows) -> Result<(), Fault> {
         "&200",
         &[Setting::Human, Setting::ForceIterables],
         &&200u8,
+    )?;
+    Ok(())
+}
+
+fn rows_2(alloc: Global, rows: &mut Rows) -> Result<(), Fault> {
+    rows.add(
+        "Box<Option<u8>>",
+        "Box::new(None)",
+        &[Setting::Default],
+        &Box::new(alloc, OptionalByte(None))?,
     )?;
     rows.add(
         "(u8,)",
@@ -30,11 +52,11 @@ fn rows_1(alloc: Global, rows: &mut Rows) -> Result<(), Fault> {
         &[Setting::NamedForceIterables],
         &(1u8, 2u8),
     )?;
+    rows.add("(u8, u8)", "(1, 200)", &[Setting::Named], &(1u8, 200u8))?;
     Ok(())
 }
 
-fn rows_2(rows: &mut Rows) -> Result<(), Fault> {
-    rows.add("(u8, u8)", "(1, 200)", &[Setting::Named], &(1u8, 200u8))?;
+fn rows_3(rows: &mut Rows) -> Result<(), Fault> {
     rows.add("(u8, u8)", "(127, 128)", &[Setting::Named], &(127u8, 128u8))?;
     rows.add(
         "(u8, u8, u8, u8)",
@@ -48,16 +70,16 @@ fn rows_2(rows: &mut Rows) -> Result<(), Fault> {
         &[Setting::Default],
         &(42u32, 100500u32),
     )?;
-    Ok(())
-}
-
-fn rows_3(rows: &mut Rows) -> Result<(), Fault> {
     rows.add(
         "(u8, u16)",
         "(200, 1)",
         &[Setting::NamedForceAll],
         &(200u8, 1u16),
     )?;
+    Ok(())
+}
+
+fn rows_4(alloc: Global, rows: &mut Rows) -> Result<(), Fault> {
     rows.add("(u16, u8)", "(1, 200)", &[Setting::Named], &(1u16, 200u8))?;
     rows.add(
         "(u8, u8, u8, u8, u8, u8, u8, u8)",
@@ -71,16 +93,16 @@ fn rows_3(rows: &mut Rows) -> Result<(), Fault> {
         &[Setting::Default, Setting::Named, Setting::ForceAll],
         &(1u8, 2u8, 3u8, 4u8, 5u8, 6u8, 7u8, 128u8),
     )?;
-    Ok(())
-}
-
-fn rows_4(alloc: Global, rows: &mut Rows) -> Result<(), Fault> {
     rows.add(
         "(u8, i8, bool, char, String)",
         "(200, -1, true, 'x', s(\"y\"))",
         &[Setting::Human, Setting::NamedForceAll],
         &(200u8, -1i8, true, 'x', String::from_str(alloc, "y")?),
     )?;
+    Ok(())
+}
+
+fn rows_5(alloc: Global, rows: &mut Rows) -> Result<(), Fault> {
     rows.add(
         "(NewU8, NewU8)",
         "(NewU8(200), NewU8(201))",
@@ -94,21 +116,33 @@ fn rows_4(alloc: Global, rows: &mut Rows) -> Result<(), Fault> {
         &(NewU8(200), NewU8(201)),
     )?;
     rows.add(
+        "(Option<u8>, Option<u8>)",
+        "(Some(200), None)",
+        &[Setting::TupleNamed, Setting::NamedForceAll],
+        &(OptionalByte(Some(200)), OptionalByte(None)),
+    )?;
+    rows.add(
+        "(Option<u8>, Option<u8>)",
+        "(Some(200), Some(201))",
+        &[Setting::NamedForceIterables, Setting::NamedForceAll],
+        &(OptionalByte(Some(200)), OptionalByte(Some(201))),
+    )?;
+    rows.add(
         "(&u8, Box<u8>)",
         "(&200, Box::new(1))",
         &[Setting::NamedTuple, Setting::NamedForceAll],
         &(&200u8, Box::new(alloc, 1u8)?),
     )?;
+    Ok(())
+}
+
+fn rows_6(rows: &mut Rows) -> Result<(), Fault> {
     rows.add(
         "([u8; 2], u8)",
         "([1, 2], 200)",
         &[Setting::NamedForceIterables],
         &([1u8, 2u8], 200u8),
     )?;
-    Ok(())
-}
-
-fn rows_5(alloc: Global, rows: &mut Rows) -> Result<(), Fault> {
     rows.add(
         "(u8, (u8, u8))",
         "(200, (1, 200))",
@@ -127,16 +161,16 @@ fn rows_5(alloc: Global, rows: &mut Rows) -> Result<(), Fault> {
         &[Setting::NamedForceAll],
         &TupleS(200, 300),
     )?;
+    Ok(())
+}
+
+fn rows_7(alloc: Global, rows: &mut Rows) -> Result<(), Fault> {
     rows.add(
         "(Vec<u8>, Vec<u16>)",
         "(vec![1, 200], vec![1])",
         &[Setting::NamedForceIterables],
         &(vec![in alloc; 1u8, 200u8]?, vec![in alloc; 1u16]?),
     )?;
-    Ok(())
-}
-
-fn rows_6(alloc: Global, rows: &mut Rows) -> Result<(), Fault> {
     rows.add(
         "Box<Vec<u8>>",
         "Box::new(vec![200])",
@@ -155,10 +189,11 @@ fn rows_6(alloc: Global, rows: &mut Rows) -> Result<(), Fault> {
 /// Pointers, tuples and tuple structs.
 pub fn all(alloc: Global, rows: &mut Rows) -> Result<(), Fault> {
     rows_1(alloc, rows)?;
-    rows_2(rows)?;
+    rows_2(alloc, rows)?;
     rows_3(rows)?;
     rows_4(alloc, rows)?;
     rows_5(alloc, rows)?;
-    rows_6(alloc, rows)?;
+    rows_6(rows)?;
+    rows_7(alloc, rows)?;
     Ok(())
 }
