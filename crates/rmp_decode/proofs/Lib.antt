@@ -6,6 +6,7 @@ pub mod ByteParts
 pub mod ContentErrors
 pub mod Contents
 pub mod Exactness
+pub mod Fronts
 pub mod HeadTaken
 pub mod Laws
 pub mod Leaves

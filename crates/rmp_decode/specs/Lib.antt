@@ -2,6 +2,7 @@ pub mod Anys
 pub mod Buffers
 pub mod Content
 pub mod Exact
+pub mod Fronts
 pub mod Kinds
 pub mod Law
 pub mod Maps

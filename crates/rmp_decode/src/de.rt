@@ -9,6 +9,7 @@ pub mod any;
 mod arrays;
 mod contents;
 mod ext;
+mod fronts;
 mod heads;
 mod kinds;
 pub mod map;

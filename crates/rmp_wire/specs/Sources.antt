@@ -1,5 +1,5 @@
 -- What calls take of the bytes ahead of a source.
-use Rattle.std.specs.Prelude.{◌≡◌, ℕ, ◌<◌, ◌⊎◌, List, length, Option, IfSome, Result, IfOk, OnOk, IfErr}
+use Rattle.std.specs.Prelude.{◌≡◌, ℕ, ◌<◌, ◌⊎◌, List, ◌++◌, length, Option, IfSome, Result, IfOk, OnOk, IfErr}
 use Rattle.std.specs.Io.KnownBytes.{Consumes, Keeps, IsAtEnd}
 use Rattle.std.specs.declared.io.ErrorKind.TheVariants.{UnexpectedEof}
 use Rattle.rmp_wire.specs.declared.error.IoFault.{IoFault}
@@ -8,6 +8,16 @@ use Rattle.rmp_wire.specs.Faults.{fault_kind}
 -- fewer than n bytes are ahead, where they are told
 abbrev pub IsShort : ℕ → Option (List ℕ) → Type 0
 IsShort n ahead = IfSome ahead (λ xs. length xs < n)
+
+-- these bytes are a beginning of those ahead, where they are told
+abbrev pub IsFront : List ℕ → Option (List ℕ) → Type 0
+IsFront front ahead = IfSome ahead (λ xs. (rest : List ℕ) × (xs ≡ front ++ rest))
+
+-- just n bytes were taken
+pub record Skips (n : ℕ) (old new : Option (List ℕ)) : Type 0 where
+  pub bytes : List ℕ
+  pub long : length bytes ≡ n
+  pub taken : Consumes old new bytes
 
 -- a beginning of the bytes ahead was taken, of fewer than n bytes
 pub record TakesPart (n : ℕ) (old new : Option (List ℕ)) : Type 0 where

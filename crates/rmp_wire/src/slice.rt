@@ -112,6 +112,16 @@ impl<'a> Source for ReadRefReader<'a> {
     }
 
     #[inline(always)]
+    fn front(&self) -> &[u8] {
+        self.rest
+    }
+
+    #[inline(always)]
+    fn skip(&mut self, len: usize) -> bool {
+        Source::skip(&mut self.rest, len)
+    }
+
+    #[inline(always)]
     fn pull_exact(&mut self, buf: &mut [u8]) -> Result<(), IoFault>
         ensures bytes { TakesInto buf.new (Some (rest_of self.old)) (Some (rest_of self.new)) 0 0 result }
         ensures stays { OnErr result (rest_of self.new ≡ rest_of self.old) }

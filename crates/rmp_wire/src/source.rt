@@ -1,8 +1,8 @@
 //! Where bytes come from.
-ghost use Rattle.std.specs.Prelude.{◌≡◌, ◌≢◌, ℕ, List, [], ◌∷◌, Option, Some, IfOk, OnOk, OnErr, take, length, ◌<◌, ◌≤◌};
+ghost use Rattle.std.specs.Prelude.{◌≡◌, ◌≢◌, ℕ, List, [], ◌∷◌, Option, Some, IfOk, OnOk, OnErr, IsTrue, false, take, length, ◌<◌, ◌≤◌};
 ghost use Rattle.std.specs.Borrow.{GName};
 ghost use Rattle.std.specs.Io.KnownBytes.{Keeps, Consumes, IsAtEnd};
-ghost use Rattle.rmp_wire.specs.Sources.{Takes, TakesInto};
+ghost use Rattle.rmp_wire.specs.Sources.{IsFront, Skips, Takes, TakesInto};
 
 use crate::error::IoFault;
 use std::io;
@@ -34,6 +34,24 @@ pub trait Source {
         ensures kept { OnErr result (Keeps (ahead self.old) (ahead self.new)) }
         ensures fault { OnErr result (faults self.new ≢ faults self.old) }
         ensures place { place self.new ≡ place self.old };
+
+    /// Looks at bytes ahead that lie in memory, without taking them: a beginning of those ahead, and none where there is
+    /// nothing to look at.
+    fn front(&self) -> &[u8]
+        ensures bytes { IsFront result.now (ahead self.now) }
+    {
+        &[]
+    }
+
+    /// Takes so many bytes where they lie in memory, and says whether it did. Else nothing was taken.
+    fn skip(&mut self, _len: usize) -> bool
+        ensures bytes { IsTrue result → Skips _len (ahead self.old) (ahead self.new) }
+        ensures sound { IsTrue result → faults self.new ≡ faults self.old }
+        ensures place { IsTrue result → place self.new ≡ place self.old }
+        ensures kept { result ≡ false → self.new ≡ self.old }
+    {
+        false
+    }
 
     /// Fills `buf` from the bytes ahead.
     ///
@@ -108,6 +126,16 @@ impl<S: Source> Source for &mut S {
     }
 
     #[inline(always)]
+    fn front(&self) -> &[u8] {
+        Source::front(&**self)
+    }
+
+    #[inline(always)]
+    fn skip(&mut self, len: usize) -> bool {
+        Source::skip(&mut **self, len)
+    }
+
+    #[inline(always)]
     fn pull_exact(&mut self, buf: &mut [u8]) -> Result<(), IoFault> {
         Source::pull_exact(&mut **self, buf)
     }
@@ -146,6 +174,22 @@ impl Source for &[u8] {
         buf[..n].copy_from_slice(front);
         *self = rest;
         Ok(n)
+    }
+
+    #[inline(always)]
+    fn front(&self) -> &[u8] {
+        *self
+    }
+
+    #[inline(always)]
+    fn skip(&mut self, len: usize) -> bool {
+        let all: &[u8] = *self;
+        if len > all.len() {
+            return false;
+        }
+        let (_, rest) = all.split_at(len);
+        *self = rest;
+        true
     }
 
     fn pull_exact(&mut self, buf: &mut [u8]) -> Result<(), IoFault>

@@ -93,6 +93,21 @@ impl<R: Source, C: SerializerConfig> Deserializer<R, C> {
         ensures law { Lawful R.Source (IsUnsigned most) self.old self.new result }
         ensures exact { is_failed self.old ≡ false → IfErr result (RefusesExactly other_number (faults_of R.Source self.old) (faults_of R.Source self.new) (left R.Source self.old)) }
     {
+        match self.unsigned_front(most) {
+            Some(n) => {
+                self.failed = false;
+                Ok(n)
+            }
+            None => self.headed_unsigned(most),
+        }
+    }
+
+    // The same, by a call, so that the reads into which the common heads go stay small.
+    #[inline(never)]
+    fn headed_unsigned(&mut self, most: u64) -> Result<u64, Error>
+        ensures law { Lawful R.Source (IsUnsigned most) self.old self.new result }
+        ensures exact { is_failed self.old ≡ false → IfErr result (RefusesExactly other_number (faults_of R.Source self.old) (faults_of R.Source self.new) (left R.Source self.old)) }
+    {
         match self.head() {
             Ok((marker, head)) => match whole_in(head) {
                 Some(z) => {

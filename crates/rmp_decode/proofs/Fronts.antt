@@ -1,0 +1,152 @@
+-- A head that lies in memory whole is the one that stands at the front of what is left.
+use Rattle.std.proofs.Common.{◌≡◌, ◌∙◌, sym, ap, subst, refl, rules, arith, ℕ, suc, ◌+◌, ◌-◌, ◌*◌, ◌%◌, ◌^◌, ◌<◌, ◌≤◌, pos, inl, inr, List, [], ◌∷◌, ◌++◌, length, take, drop, get_or, append_assoc, Option, None, Some, true, false, Ok}
+use Rattle.std.proofs.lemmas.List.{take_all}
+use Rattle.std.proofs.lemmas.Nat.{be_bytes_2, be_bytes_4, be_bytes_8}
+use Rattle.std.specs.Io.KnownBytes.{Consumes}
+use Rattle.std.specs.Int.{Width, w8, w16, w32, w64, to_be_bytes}
+use Rattle.rmp_wire.specs.declared.head.Head.{Head}
+use Rattle.rmp_wire.specs.declared.head.Head.TheVariants.{Whole}
+use Rattle.rmp_wire.specs.declared.source.Source.{Ghosts}
+use Rattle.rmp_wire.specs.Heads.{IsHead}
+use Rattle.rmp_wire.specs.Sources.{IsFront, Skips}
+use Rattle.rmp_wire.specs.Taking.{marker_of}
+use Rattle.rmp_decode.specs.Fronts.{StandsIn, TakesFront}
+use Rattle.rmp_decode.specs.declared.de.Deserializer.{Deserializer}
+use Rattle.rmp_decode.specs.declared.de.Kept.TheVariants.{Nothing}
+use Rattle.rmp_decode.proofs.Contents.{bare}
+use Rattle.rmp_decode.proofs.Exactness.{stands_known}
+use Rattle.rmp_decode.proofs.ContentErrors.{same_front}
+
+-- the bytes that were taken are the head's
+front_consumed : (n : ℕ) (h : Head) (front : List ℕ) (known k : Option (List ℕ)) → IsFront front known → (s : StandsIn n h front) → Skips n known k → Consumes known k (s.stands.byte ∷ s.stands.behind)
+front_consumed n h front None k f s c = tt
+front_consumed n h front (Some xs) None f s c = absurd c.taken
+front_consumed n h front (Some xs) (Some ys) f s c =
+    let head : List ℕ = s.stands.byte ∷ s.stands.behind in
+    let split : xs ≡ head ++ (s.stands.rest ++ f.0) = f.1 ∙ ap (λ t. t ++ f.0) s.stands.front ∙ append_assoc head s.stands.rest f.0 in
+    let same : c.bytes ≡ head = same_front c.bytes head ys (s.stands.rest ++ f.0) (c.long ∙ sym s.long) (sym c.taken ∙ split) in
+    subst (λ b. xs ≡ b ++ ys) same c.taken
+
+module _ {R C : Type 0} (g : Ghosts R) (old new : Deserializer R C) where
+  pub front_taken : (n : ℕ) (h : Head) (front : List ℕ) → old.failed ≡ false → old.kept ≡ Nothing → new.failed ≡ true → new.kept ≡ Nothing → new.config ≡ old.config → new.room ≡ old.room
+      → IsFront front (g.ahead old.reader) → StandsIn n h front → Skips n (g.ahead old.reader) (g.ahead new.reader) → g.faults new.reader ≡ g.faults old.reader → g.place new.reader ≡ g.place old.reader → TakesFront g h old new
+  front_taken n h front fresh kept failed clean config room f s c sound place =
+      let at = s.stands in
+      let taken = front_consumed n h front (g.ahead old.reader) (g.ahead new.reader) f s c in
+      record {
+        marker = s.marker;
+        begun = record {
+          ok = record { bytes = at.byte ∷ at.behind; takes = rw (bare g old kept, bare g new clean) taken; goes_on = record { more = at.byte ∷ at.behind; whole = rw kept refl }; is_head = at.is_head };
+          marked = rw (bare g old kept) (stands_known s.marker h at.byte at.behind (g.ahead old.reader) (g.ahead new.reader) taken at.is_marker at.is_head);
+          clean = clean;
+          fresh = fresh;
+          sound = sound;
+          err = λ _. tt;
+          ends = λ _. tt;
+          failed = failed;
+          before = λ f. absurd cc;
+          stays = record { config = config; room = room; place = place };
+        };
+      }
+
+-- ---- numbers at the front
+
+-- the bytes behind the first
+abbrev behind : List ℕ → List ℕ
+behind xs = take (length xs - 1) (drop 1 xs)
+
+behind_is : (x : ℕ) (ys : List ℕ) → behind (x ∷ ys) ≡ ys
+behind_is x ys = let l : length (x ∷ ys) - 1 ≡ length ys = omega arith in rw l (take_all (length ys) ys (omega arith))
+
+-- a number stands behind a marker
+wide_stands : (w : Width) (x n : ℕ) (bs rest : List ℕ) → to_be_bytes w n ≡ bs → IsHead (Whole (pos n)) (x ∷ to_be_bytes w n) → StandsIn (length (x ∷ bs)) (Whole (pos n)) (x ∷ (bs ++ rest))
+wide_stands w x n bs rest e h = record {
+  marker = marker_of x;
+  stands = record { byte = x; behind = bs; rest = rest; front = refl; is_marker = refl; is_head = subst (λ b. IsHead (Whole (pos n)) (x ∷ b)) e h };
+  long = refl;
+}
+
+pub small_stands : (xs : List ℕ) (n : ℕ) → 1 ≤ length xs → get_or xs 0 0 < 128 → n ≡ get_or xs 0 0 → StandsIn 1 (Whole (pos n)) xs
+unfolding IsHead
+small_stands [] n l b e = absurd (omega arith)
+small_stands (x ∷ xs) n l b e = record {
+  marker = marker_of x;
+  stands = record { byte = x; behind = []; rest = xs; front = refl; is_marker = refl; is_head = inl (omega arith, ap (λ t. t ∷ []) (sym e)) };
+  long = refl;
+}
+
+eight : (x n : ℕ) (ys : List ℕ) → x ≡ 0xcc → 1 ≤ length ys → n ≡ get_or ys 0 0 → n < 256 → StandsIn 2 (Whole (pos n)) (x ∷ ys)
+unfolding IsHead
+eight x n [] e l s b = absurd (omega arith)
+eight x n (a ∷ ys) e l s b =
+    let low : n % 256 ≡ a = omega arith in
+    let same : to_be_bytes w8 n ≡ a ∷ [] = ap (λ t. t ∷ []) low in
+    wide_stands w8 x n (a ∷ []) ys same (inr (inl (omega arith, ap (λ t. t ∷ to_be_bytes w8 n) e)))
+
+sixteen : (x n : ℕ) (ys : List ℕ) → x ≡ 0xcd → 2 ≤ length ys → n ≡ get_or ys 0 0 * 256 + get_or ys 1 0 → ((i : ℕ) → get_or ys i 0 < 256) → StandsIn 3 (Whole (pos n)) (x ∷ ys)
+unfolding IsHead
+sixteen x n [] e l s f = absurd (omega arith)
+sixteen x n (a ∷ []) e l s f = absurd (omega arith)
+sixteen x n (a ∷ b ∷ ys) e l s f =
+    let high : a < 256 = f 0 in
+    let low : b < 256 = f 1 in
+    let same : to_be_bytes w16 n ≡ a ∷ b ∷ [] = be_bytes_2 (a ∷ b ∷ []) n refl (λ i. search rules) (omega arith) in
+    wide_stands w16 x n (a ∷ b ∷ []) ys same (inr (inr (inl (omega arith, ap (λ t. t ∷ to_be_bytes w16 n) e))))
+
+pub stands_8 : (xs : List ℕ) (n : ℕ) → 1 ≤ length xs → get_or xs 0 0 ≡ 0xcc → 1 ≤ length (behind xs) → n ≡ get_or (behind xs) 0 0 → ((i : ℕ) → get_or xs i 0 < 256) → StandsIn 2 (Whole (pos n)) xs
+stands_8 [] n l e m s f = absurd (omega arith)
+stands_8 (x ∷ ys) n l e m s f = eight x n ys e (rw (behind_is x ys) at m) (rw (behind_is x ys) at s) (omega (arith, s, rw (behind_is x ys) at s, f 1))
+
+pub stands_16 : (xs : List ℕ) (n : ℕ) → 1 ≤ length xs → get_or xs 0 0 ≡ 0xcd → 2 ≤ length (behind xs) → n ≡ get_or (behind xs) 0 0 * 256 + get_or (behind xs) 1 0 → ((i : ℕ) → get_or xs i 0 < 256) → StandsIn 3 (Whole (pos n)) xs
+stands_16 [] n l e m s f = absurd (omega arith)
+stands_16 (x ∷ ys) n l e m s f = sixteen x n ys e (rw (behind_is x ys) at m) (rw (behind_is x ys) at s) (λ i. f (suc i))
+
+thirty_two : (x n : ℕ) (ys : List ℕ) → x ≡ 0xce → 4 ≤ length ys → n ≡ get_or ys 0 0 * 0x1000000 + get_or ys 1 0 * 0x10000 + get_or ys 2 0 * 0x100 + get_or ys 3 0 → ((i : ℕ) → get_or ys i 0 < 256) → StandsIn 5 (Whole (pos n)) (x ∷ ys)
+unfolding IsHead
+thirty_two x n [] e l s f = absurd (omega arith)
+thirty_two x n (a ∷ []) e l s f = absurd (omega arith)
+thirty_two x n (a ∷ b ∷ []) e l s f = absurd (omega arith)
+thirty_two x n (a ∷ b ∷ c ∷ []) e l s f = absurd (omega arith)
+thirty_two x n (a ∷ b ∷ c ∷ d ∷ ys) e l s f =
+    let p : a < 256 = f 0 in
+    let q : b < 256 = f 1 in
+    let r : c < 256 = f 2 in
+    let t : d < 256 = f 3 in
+    let same : to_be_bytes w32 n ≡ a ∷ b ∷ c ∷ d ∷ [] = be_bytes_4 (a ∷ b ∷ c ∷ d ∷ []) n refl (λ i. search rules) (omega arith) in
+    wide_stands w32 x n (a ∷ b ∷ c ∷ d ∷ []) ys same (inr (inr (inr (inl (omega arith, ap (λ t. t ∷ to_be_bytes w32 n) e)))))
+
+sixty_four : (x n : ℕ) (ys : List ℕ) → x ≡ 0xcf → 8 ≤ length ys → n < 2 ^ 64
+    → n ≡ get_or ys 0 0 * 0x100000000000000 + get_or ys 1 0 * 0x1000000000000 + get_or ys 2 0 * 0x10000000000 + get_or ys 3 0 * 0x100000000 + get_or ys 4 0 * 0x1000000 + get_or ys 5 0 * 0x10000 + get_or ys 6 0 * 0x100 + get_or ys 7 0
+    → ((i : ℕ) → get_or ys i 0 < 256) → StandsIn 9 (Whole (pos n)) (x ∷ ys)
+unfolding IsHead
+sixty_four x n [] e l h s f = absurd (omega arith)
+sixty_four x n (a ∷ []) e l h s f = absurd (omega arith)
+sixty_four x n (a ∷ b ∷ []) e l h s f = absurd (omega arith)
+sixty_four x n (a ∷ b ∷ c ∷ []) e l h s f = absurd (omega arith)
+sixty_four x n (a ∷ b ∷ c ∷ d ∷ []) e l h s f = absurd (omega arith)
+sixty_four x n (a ∷ b ∷ c ∷ d ∷ i ∷ []) e l h s f = absurd (omega arith)
+sixty_four x n (a ∷ b ∷ c ∷ d ∷ i ∷ j ∷ []) e l h s f = absurd (omega arith)
+sixty_four x n (a ∷ b ∷ c ∷ d ∷ i ∷ j ∷ k ∷ []) e l h s f = absurd (omega arith)
+sixty_four x n (a ∷ b ∷ c ∷ d ∷ i ∷ j ∷ k ∷ m ∷ ys) e l h s f =
+    let f0 : a < 256 = f 0 in
+    let f1 : b < 256 = f 1 in
+    let f2 : c < 256 = f 2 in
+    let f3 : d < 256 = f 3 in
+    let f4 : i < 256 = f 4 in
+    let f5 : j < 256 = f 5 in
+    let f6 : k < 256 = f 6 in
+    let f7 : m < 256 = f 7 in
+    let bs : List ℕ = a ∷ b ∷ c ∷ d ∷ i ∷ j ∷ k ∷ m ∷ [] in
+    let same : to_be_bytes w64 n ≡ bs = be_bytes_8 bs n refl (λ i. search rules) (omega arith) in
+    wide_stands w64 x n bs ys same (inr (inr (inr (inr (inl (h, ap (λ t. t ∷ to_be_bytes w64 n) e))))))
+
+pub stands_32 : (xs : List ℕ) (n : ℕ) → 1 ≤ length xs → get_or xs 0 0 ≡ 0xce → 4 ≤ length (behind xs) → n ≡ get_or (behind xs) 0 0 * 0x1000000 + get_or (behind xs) 1 0 * 0x10000 + get_or (behind xs) 2 0 * 0x100 + get_or (behind xs) 3 0 → ((i : ℕ) → get_or xs i 0 < 256)
+    → StandsIn 5 (Whole (pos n)) xs
+stands_32 [] n l e m s f = absurd (omega arith)
+stands_32 (x ∷ ys) n l e m s f = thirty_two x n ys e (rw (behind_is x ys) at m) (rw (behind_is x ys) at s) (λ i. f (suc i))
+
+pub stands_64 : (xs : List ℕ) (n : ℕ) → 1 ≤ length xs → get_or xs 0 0 ≡ 0xcf → 8 ≤ length (behind xs) → n < 2 ^ 64
+    → n ≡ get_or (behind xs) 0 0 * 0x100000000000000 + get_or (behind xs) 1 0 * 0x1000000000000 + get_or (behind xs) 2 0 * 0x10000000000 + get_or (behind xs) 3 0 * 0x100000000 + get_or (behind xs) 4 0 * 0x1000000 + get_or (behind xs) 5 0 * 0x10000 + get_or (behind xs) 6 0 * 0x100 + get_or (behind xs) 7 0
+    → ((i : ℕ) → get_or xs i 0 < 256) → StandsIn 9 (Whole (pos n)) xs
+stands_64 [] n l e m h s f = absurd (omega arith)
+stands_64 (x ∷ ys) n l e m h s f = sixty_four x n ys e (rw (behind_is x ys) at m) h (rw (behind_is x ys) at s) (λ i. f (suc i))

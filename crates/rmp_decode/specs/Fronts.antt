@@ -1,0 +1,19 @@
+-- Heads that lie in memory whole.
+use Rattle.std.specs.Prelude.{◌≡◌, ℕ, List, ◌∷◌, length, Ok}
+use Rattle.rmp_wire.specs.declared.head.Head.{Head}
+use Rattle.rmp_wire.specs.declared.marker.Marker.{Marker}
+use Rattle.rmp_wire.specs.declared.source.Source.{Ghosts}
+use Rattle.rmp_decode.specs.Exact.{Stands}
+use Rattle.rmp_decode.specs.Law.{ReadsHead}
+use Rattle.rmp_decode.specs.declared.de.Deserializer.{Deserializer}
+
+-- this head of n bytes stands at the front
+pub record StandsIn (n : ℕ) (h : Head) (xs : List ℕ) : Type 0 where
+  pub marker : Marker
+  pub stands : Stands marker h xs
+  pub long : length (stands.byte ∷ stands.behind) ≡ n
+
+-- this head was taken, under some marker
+pub record TakesFront {R C : Type 0} (g : Ghosts R) (h : Head) (old new : Deserializer R C) : Type 0 where
+  pub marker : Marker
+  pub begun : ReadsHead g old new (Ok (marker, h))

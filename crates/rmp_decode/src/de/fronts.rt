@@ -1,0 +1,79 @@
+//! Heads that lie in memory whole, read where they lie.
+ghost use Rattle.std.specs.Prelude.{◌≡◌, ◌≤◌, pos, true, false, IfSome, IfNone};
+ghost use Rattle.rmp_decode.specs.Fronts.{StandsIn, TakesFront};
+ghost use Rattle.rmp_decode.specs.State.{is_failed, kept_of};
+ghost use Rattle.rmp_decode.specs.declared.de.Kept.TheVariants.{Nothing};
+
+use crate::de::{Deserializer, Kept};
+use rmp_wire::{Head, Source};
+use rmp_wire::config::SerializerConfig;
+
+// A number without a sign whose head stands at the front, and the count of the head's bytes.
+#[inline(always)]
+fn unsigned_at(front: &[u8]) -> Option<(u64, usize)>
+    ensures { IfSome result (λ p. StandsIn p.1 (Head.Whole (pos p.0)) front.now) }
+{
+    match front {
+        [first, behind @ ..] => match first {
+            0x00..=0x7f => Some((u64::from(*first), 1)),
+            0xcc => match behind {
+                [a, ..] => Some((u64::from(*a), 2)),
+                _ => None,
+            },
+            0xcd => match behind {
+                [a, b, ..] => Some((u64::from(u16::from_be_bytes([*a, *b])), 3)),
+                _ => None,
+            },
+            0xce => match behind {
+                [a, b, c, d, ..] => Some((u64::from(u32::from_be_bytes([*a, *b, *c, *d])), 5)),
+                _ => None,
+            },
+            0xcf => match behind {
+                [a, b, c, d, e, f, g, h, ..] => {
+                    Some((u64::from_be_bytes([*a, *b, *c, *d, *e, *f, *g, *h]), 9))
+                }
+                _ => None,
+            },
+            _ => None,
+        },
+        _ => None,
+    }
+}
+
+impl<R: Source, C: SerializerConfig> Deserializer<R, C> {
+    // Whether the next message begins with the bytes ahead of the source: nothing was kept back, and no read failed.
+    #[inline(always)]
+    fn begins_ahead(&self) -> bool
+        ensures fresh { result ≡ true → is_failed self.now ≡ false }
+        ensures clean { result ≡ true → kept_of self.now ≡ Nothing }
+    {
+        match self.kept {
+            Kept::Nothing => !self.failed,
+            _ => false,
+        }
+    }
+
+    // Takes the head of a number without a sign, up to `most`, where it lies in memory whole, and leaves this failed until
+    // the number is answered. Else nothing is taken.
+    #[inline(always)]
+    pub(crate) fn unsigned_front(&mut self, most: u64) -> Option<u64>
+        ensures within { IfSome result (λ n. n ≤ most) }
+        ensures taken { IfSome result (λ n. TakesFront R.Source (Head.Whole (pos n)) self.old self.new) }
+        ensures kept { IfNone result (self.new ≡ self.old) }
+    {
+        if !self.begins_ahead() {
+            return None;
+        }
+        match unsigned_at(self.reader.front()) {
+            Some((n, len)) => {
+                if n <= most && self.reader.skip(len) {
+                    self.failed = true;
+                    Some(n)
+                } else {
+                    None
+                }
+            }
+            None => None,
+        }
+    }
+}
