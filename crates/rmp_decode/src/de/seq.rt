@@ -1,5 +1,5 @@
 //! Lists, and bytes as the lists of their numbers, element by element.
-ghost use Rattle.std.specs.Prelude.{◌≡◌, ◌-◌, ◌<◌, true, false, None, IfSome, IfNone, IfOk, IfErr, OnOk, OnErr, MatchResult};
+ghost use Rattle.std.specs.Prelude.{◌≡◌, ◌-◌, ◌<◌, ◌++◌, ◌∷◌, [], is_ok, if◌then◌else◌, true, false, None, IfSome, IfNone, IfOk, IfErr, OnOk, OnErr, MatchResult};
 ghost use Rattle.std.specs.Borrow.{sem, RestsIfErr};
 ghost use Rattle.std.specs.Io.KnownBytes.{IsAtEnd};
 ghost use Rattle.rmp_decode.specs.contracts.de.Deserializer.{the_row};
@@ -17,6 +17,7 @@ use crate::error::Error;
 use crate::text::Text;
 use rmp_wire::config::SerializerConfig;
 use rmp_wire::{Head, ReadSlice, Source};
+use std::alloc::AllocFailed;
 use std::collections::VecDeque;
 
 /// The elements of a list that is being read, or the numbers of bytes.
@@ -309,6 +310,28 @@ impl<'x, R: Source, C: SerializerConfig> SeqAccess<'x, R, C> {
     }
 }
 
+// Appends an element, of which so many more are to come. Only once there is a first one does it make room for them.
+#[inline(always)]
+fn append<T>(items: &mut Vec<T>, item: T, left: u32) -> Result<(), AllocFailed<T>>
+    ensures { items.new.items ≡ (if is_ok result then items.old.items ++ item ∷ [] else items.old.items) }
+{
+    if items.len() == items.capacity() {
+        make_first_room(items, left);
+    }
+    items.push(item)
+}
+
+// Makes room for the first elements, of at most 16, so that a short list is never moved. Where memory is refused the
+// append that follows asks for less.
+#[inline(never)]
+fn make_first_room<T>(items: &mut Vec<T>, left: u32)
+    ensures { items.new.items ≡ items.old.items }
+{
+    if items.is_empty() {
+        let _made = items.reserve(left.min(15) as usize + 1);
+    }
+}
+
 impl<'de, R: ReadSlice<'de>, T: Deserialize<'de, R>> Deserialize<'de, R> for Vec<T> {
     ghost use Rattle.rmp_decode.specs.Rows.{ReadsEach};
     ghost use Rattle.rmp_decode.specs.Seq.{OfRow};
@@ -321,7 +344,7 @@ impl<'de, R: ReadSlice<'de>, T: Deserialize<'de, R>> Deserialize<'de, R> for Vec
         let mut items = Vec::new(de.alloc());
         let mut seq = de.deserialize_seq()?;
         while let Some(item) = seq.next_element()? {
-            items.push(item)?;
+            append(&mut items, item, seq.left())?;
         }
         seq.end()?;
         Ok(items)

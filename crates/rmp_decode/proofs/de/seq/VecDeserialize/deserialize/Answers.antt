@@ -19,7 +19,7 @@ loop-items-preserved g c =
     let e = r.run.stays.config ∙ c.in_ok-seq.ensures.opened.stays.config in
     let t = rw c.in-Some.is at (c.in_ok-item.ensures.some r.run.still) in
     let t' = subst (λ z. TakesElement g.R.Source (g.T.Deserialize.reads (g.C.SerializerConfig.human z) g.R.ReadSlice.lends) c.loop-items.seq c.next_element.new.self c.in-Some.item) e t in
-    rw c.in_ok-push.ensures.items (values_step _ _ _ c.loop-items.seq c.next_element.new.self c.loop-items.items.items c.in-Some.item r t' c.next_element.ensures.same_reference)
+    rw c.in_ok-append.ensures (values_step _ _ _ c.loop-items.seq c.next_element.new.self c.loop-items.items.items c.in-Some.item r t' c.next_element.ensures.same_reference)
 
 pub returns-in_err-item : goal.returns-in_err-item
 returns-in_err-item g c =
