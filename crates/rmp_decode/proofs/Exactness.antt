@@ -15,7 +15,7 @@ use Rattle.rmp_wire.specs.Reading.{NoHead, FailsNext}
 use Rattle.rmp_wire.specs.Taking.{byte_of, marker_of}
 use Rattle.rmp_wire.proofs.Canon.{canon_is_head}
 use Rattle.rmp_wire.proofs.Heads.{heads_apart, marker_pos}
-use Rattle.rmp_decode.specs.Exact.{Stands, NoneStands, Ends, RefusesExactly, EndsExactly}
+use Rattle.rmp_decode.specs.Exact.{Stands, NoneStands, Ends, RefusesExactly, RefusesBy, EndsExactly}
 use Rattle.rmp_decode.specs.ReadErrors.{error_of}
 use Rattle.rmp_decode.specs.declared.error.Error.{Error}
 use Rattle.rmp_decode.specs.declared.error.Error.TheVariants.{TypeMismatch}
@@ -72,6 +72,19 @@ pub exact_none : (table : Marker → Head → Error) (before after : ℕ) (known
 unfolding RefusesExactly EndsExactly
 exact_none table before after None e s = λ _. tt
 exact_none table before after (Some xs) e s = λ same. record { stands = λ m h t. absurd ((s same).0 m h t); ends = λ _. (s same).1 }
+
+pub by_head : (table : Marker → Head → Error → Type 0) (before after : ℕ) (known : Option (List ℕ)) (m : Marker) (h : Head) (e : Error) → IfSome known (Stands m h) → table m h e → RefusesBy table before after known e
+unfolding RefusesBy
+by_head table before after None m h e s q = λ _. tt
+by_head table before after (Some xs) m h e s q = λ _. record {
+  stands = λ n k t. let u = stand_once n m k h xs t s in subst (λ z. table n z e) (sym u.1) (subst (λ z. table z h e) (sym u.0) q);
+  ends = λ none. absurd (none m h s);
+}
+
+pub by_none : (table : Marker → Head → Error → Type 0) (before after : ℕ) (known : Option (List ℕ)) (e : Error) → EndsExactly before after known e → RefusesBy table before after known e
+unfolding RefusesBy EndsExactly
+by_none table before after None e s = λ _. tt
+by_none table before after (Some xs) e s = λ same. record { stands = λ m h t. absurd ((s same).0 m h t); ends = λ _. (s same).1 }
 
 -- ---- no head
 

@@ -1,5 +1,5 @@
 -- When no map can be opened.
-use Rattle.std.proofs.Common.{◌≡◌, ◌∙◌, sym, ap, refl, ℕ, ◌<◌, ◌≤◌, arith, Ok, Err}
+use Rattle.std.proofs.Common.{◌≡◌, ◌∙◌, sym, subst, refl, ℕ, ◌<◌, ◌≤◌, arith, Ok, Err}
 use Rattle.rmp_wire.specs.declared.head.Head.{Head}
 use Rattle.rmp_wire.specs.declared.head.Head.TheVariants as head
 use Rattle.rmp_wire.specs.declared.head.Head.TheVariants.{Map}
@@ -14,7 +14,7 @@ use Rattle.rmp_decode.specs.declared.de.Deserializer.{Deserializer}
 use Rattle.rmp_decode.specs.declared.error.Error.{Error}
 use Rattle.rmp_decode.specs.declared.error.Error.TheVariants.{DepthLimitExceeded, Syntax}
 use Rattle.rmp_decode.specs.declared.text.Text.TheVariants.{InvalidType}
-use Rattle.rmp_decode.proofs.Exactness.{exact_head, exact_none}
+use Rattle.rmp_decode.proofs.Exactness.{by_head, by_none}
 use Rattle.rmp_decode.proofs.Refusals.{refuses_none, refuses_head, refuses_by, same_head}
 
 map_head_of : (m : Msg) → IsMap m → (n : ℕ) × (head_of m ≡ Map n)
@@ -42,21 +42,21 @@ map_nests (list ms) n e = absurd (cc)
 map_nests (map ps) n e = omega arith
 map_nests (extension tag s) n e = absurd (cc)
 
-other_than_map : (m : Marker) (h : Head) → ((n : ℕ) → h ≡ Map n → ⊥) → not_map m h ≡ Syntax InvalidType
-other_than_map m head.Nil f = refl
-other_than_map m (head.Truth t) f = refl
-other_than_map m (head.Whole z) f = refl
-other_than_map m (head.F32Bits n) f = refl
-other_than_map m (head.F64Bits n) f = refl
-other_than_map m (head.Text n) f = refl
-other_than_map m (head.Bin n) f = refl
-other_than_map m (head.Array n) f = refl
-other_than_map m (head.Map n) f = absurd (f n refl)
-other_than_map m (head.Ext n tag) f = refl
+other_than_map : (room : ℕ) (m : Marker) (h : Head) (e : Error) → ((n : ℕ) → h ≡ Map n → ⊥) → e ≡ Syntax InvalidType → not_map room m h e
+other_than_map room m head.Nil e f i = i
+other_than_map room m (head.Truth t) e f i = i
+other_than_map room m (head.Whole z) e f i = i
+other_than_map room m (head.F32Bits n) e f i = i
+other_than_map room m (head.F64Bits n) e f i = i
+other_than_map room m (head.Text n) e f i = i
+other_than_map room m (head.Bin n) e f i = i
+other_than_map room m (head.Array n) e f i = i
+other_than_map room m (head.Map n) e f i = absurd (f n refl)
+other_than_map room m (head.Ext n tag) e f i = i
 
 module _ {R C : Type 0} (g : Ghosts R) (old new : Deserializer R C) (e : Error) where
   pub no_map_begins : ReadsHead g old new (Err e) → FailsToOpenMap g old new e
-  no_map_begins h = record { failed = h.failed; stays = h.stays; before = h.before; err = λ o n k. refuses_none _ _ _ (h.err o n k); exact = λ o. exact_none not_map _ _ _ e (h.ends o) }
+  no_map_begins h = record { failed = h.failed; stays = h.stays; before = h.before; err = λ o n k. refuses_none _ _ _ (h.err o n k); exact = λ o. by_none (not_map (room_of old)) _ _ _ e (h.ends o) }
 
   module _ (p : Marker × Head) (h : ReadsHead g old new (Ok p)) where
     -- another kind was there
@@ -66,7 +66,7 @@ module _ {R C : Type 0} (g : Ghosts R) (old new : Deserializer R C) (e : Error) 
       stays = h.stays;
       before = λ b. absurd (let o = h.fresh in cc);
       err = λ _ _ _. refuses_head IsMap (room_of old) (left g old) (left g new) h.ok.bytes p.1 h.ok.takes h.ok.is_head (λ m j q. let a = map_head_of m j in f a.0 (sym q ∙ a.1));
-      exact = λ _. exact_head not_map _ _ _ p.0 p.1 e h.marked (i ∙ sym (other_than_map p.0 p.1 f));
+      exact = λ _. by_head (not_map (room_of old)) _ _ _ p.0 p.1 e h.marked (other_than_map (room_of old) p.0 p.1 e f i);
     }
 
     -- a map would nest too deep
@@ -80,5 +80,5 @@ module _ {R C : Type 0} (g : Ghosts R) (old new : Deserializer R C) (e : Error) 
           let below = map_nests a.tree n (u.0 ∙ i) in
           let f = a.fits in
           omega arith);
-      exact = λ _. exact_head not_map _ _ _ p.0 p.1 e h.marked (d ∙ ap (not_map p.0) (sym i));
+      exact = λ _. by_head (not_map (room_of old)) _ _ _ p.0 p.1 e h.marked (subst (λ z. not_map (room_of old) p.0 z e) (sym i) (omega (arith, l), d));
     }

@@ -1,5 +1,5 @@
 -- When no list can be opened.
-use Rattle.std.proofs.Common.{◌≡◌, ◌∙◌, sym, ap, refl, ℕ, ◌<◌, ◌≤◌, arith, length, Bool, true, false, Ok, Err}
+use Rattle.std.proofs.Common.{◌≡◌, ◌∙◌, sym, subst, refl, ℕ, ◌<◌, ◌≤◌, arith, length, Bool, true, false, Ok, Err}
 use Rattle.rmp_wire.specs.declared.head.Head.{Head}
 use Rattle.rmp_wire.specs.declared.head.Head.TheVariants as head
 use Rattle.rmp_wire.specs.declared.head.Head.TheVariants.{Array}
@@ -14,7 +14,7 @@ use Rattle.rmp_decode.specs.declared.de.Deserializer.{Deserializer}
 use Rattle.rmp_decode.specs.declared.error.Error.{Error}
 use Rattle.rmp_decode.specs.declared.error.Error.TheVariants.{DepthLimitExceeded, Syntax}
 use Rattle.rmp_decode.specs.declared.text.Text.TheVariants.{InvalidType}
-use Rattle.rmp_decode.proofs.Exactness.{exact_head, exact_none}
+use Rattle.rmp_decode.proofs.Exactness.{by_head, by_none}
 use Rattle.rmp_decode.proofs.Refusals.{refuses_none, refuses_head, refuses_by, same_head}
 
 seq_head_of : (m : Msg) → IsSeq m → (p : Bool × ℕ) × (head_of m ≡ seq_head p.0 p.1)
@@ -42,21 +42,21 @@ nests (list ms) n e = omega arith
 nests (map ps) n e = absurd (cc)
 nests (extension tag s) n e = absurd (cc)
 
-other_than_seq : (m : Marker) (h : Head) → ((p : Bool × ℕ) → h ≡ seq_head p.0 p.1 → ⊥) → not_seq m h ≡ Syntax InvalidType
-other_than_seq m head.Nil f = refl
-other_than_seq m (head.Truth t) f = refl
-other_than_seq m (head.Whole z) f = refl
-other_than_seq m (head.F32Bits n) f = refl
-other_than_seq m (head.F64Bits n) f = refl
-other_than_seq m (head.Text n) f = refl
-other_than_seq m (head.Bin n) f = refl
-other_than_seq m (head.Array n) f = absurd (f (false, n) refl)
-other_than_seq m (head.Map n) f = refl
-other_than_seq m (head.Ext n tag) f = refl
+other_than_seq : (room : ℕ) (m : Marker) (h : Head) (e : Error) → ((p : Bool × ℕ) → h ≡ seq_head p.0 p.1 → ⊥) → e ≡ Syntax InvalidType → not_seq room m h e
+other_than_seq room m head.Nil e f i = i
+other_than_seq room m (head.Truth t) e f i = i
+other_than_seq room m (head.Whole z) e f i = i
+other_than_seq room m (head.F32Bits n) e f i = i
+other_than_seq room m (head.F64Bits n) e f i = i
+other_than_seq room m (head.Text n) e f i = i
+other_than_seq room m (head.Bin n) e f i = absurd (f (true, n) refl)
+other_than_seq room m (head.Array n) e f i = absurd (f (false, n) refl)
+other_than_seq room m (head.Map n) e f i = i
+other_than_seq room m (head.Ext n tag) e f i = i
 
 module _ {R C : Type 0} (g : Ghosts R) (old new : Deserializer R C) (e : Error) where
   pub fails_to_begin : ReadsHead g old new (Err e) → FailsToOpen g old new e
-  fails_to_begin h = record { failed = h.failed; stays = h.stays; before = h.before; err = λ o n k. refuses_none _ _ _ (h.err o n k); exact = λ o. exact_none not_seq _ _ _ e (h.ends o) }
+  fails_to_begin h = record { failed = h.failed; stays = h.stays; before = h.before; err = λ o n k. refuses_none _ _ _ (h.err o n k); exact = λ o. by_none (not_seq (room_of old)) _ _ _ e (h.ends o) }
 
   module _ (p : Marker × Head) (h : ReadsHead g old new (Ok p)) where
     -- another kind was there
@@ -66,7 +66,7 @@ module _ {R C : Type 0} (g : Ghosts R) (old new : Deserializer R C) (e : Error) 
       stays = h.stays;
       before = λ f. absurd (let o = h.fresh in cc);
       err = λ _ _ _. refuses_head IsSeq (room_of old) (left g old) (left g new) h.ok.bytes p.1 h.ok.takes h.ok.is_head (λ m i q. let a = seq_head_of m i in n a.0 (sym q ∙ a.1));
-      exact = λ _. exact_head not_seq _ _ _ p.0 p.1 e h.marked (is ∙ sym (other_than_seq p.0 p.1 n));
+      exact = λ _. by_head (not_seq (room_of old)) _ _ _ p.0 p.1 e h.marked (other_than_seq (room_of old) p.0 p.1 e n is);
     }
 
     -- a list would nest too deep
@@ -80,5 +80,5 @@ module _ {R C : Type 0} (g : Ghosts R) (old new : Deserializer R C) (e : Error) 
           let below = nests a.tree n (u.0 ∙ i) in
           let f = a.fits in
           omega arith);
-      exact = λ _. exact_head not_seq _ _ _ p.0 p.1 e h.marked (d ∙ ap (not_seq p.0) (sym i));
+      exact = λ _. by_head (not_seq (room_of old)) _ _ _ p.0 p.1 e h.marked (subst (λ z. not_seq (room_of old) p.0 z e) (sym i) (omega (arith, l), d));
     }

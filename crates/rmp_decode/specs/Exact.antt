@@ -43,14 +43,22 @@ abbrev pub Ends : List ℕ → Error → Type 0
 Ends [] e = IsMarkerEnd e
 Ends (b ∷ xs) e = (b ≡ 0xc1 → e ≡ TypeMismatch Reserved) × (b ≢ 0xc1 → IsDataEnd e)
 
--- the error is the one that the table has for the head that stands at the front, or says why none does
-pub record Exact (table : Marker → Head → Error) (xs : List ℕ) (e : Error) : Type 0 where
-  pub stands : (m : Marker) (h : Head) → Stands m h xs → e ≡ table m h
+-- the error is one that the table allows for the head that stands at the front, or says why none does
+pub record ExactBy (table : Marker → Head → Error → Type 0) (xs : List ℕ) (e : Error) : Type 0 where
+  pub stands : (m : Marker) (h : Head) → Stands m h xs → table m h e
   pub ends : NoneStands xs → Ends xs e
+
+-- the same of a table that has one error for each head
+abbrev pub Exact : (Marker → Head → Error) → List ℕ → Error → Type 0
+Exact table xs e = ExactBy (λ m h e. e ≡ table m h) xs e
 
 -- Exactly which error it is, where the bytes are told and the source had no fault (it counts them: before, after).
 unfoldable pub RefusesExactly : (Marker → Head → Error) → ℕ → ℕ → Option (List ℕ) → Error → Type 0
 RefusesExactly table before after known e = after ≡ before → IfSome known (λ xs. Exact table xs e)
+
+-- the same of a table that allows errors
+unfoldable pub RefusesBy : (Marker → Head → Error → Type 0) → ℕ → ℕ → Option (List ℕ) → Error → Type 0
+RefusesBy table before after known e = after ≡ before → IfSome known (λ xs. ExactBy table xs e)
 
 -- the same where no head could be taken
 unfoldable pub EndsExactly : ℕ → ℕ → Option (List ℕ) → Error → Type 0

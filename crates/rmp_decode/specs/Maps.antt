@@ -10,7 +10,7 @@ use Rattle.rmp_wire.specs.declared.marker.Marker.{Marker}
 use Rattle.rmp_wire.specs.declared.source.Source.{Ghosts}
 use Rattle.rmp_wire.specs.Msg.{Msg, nil, truth, whole, float32, float64, text, bin, list, map, extension, Pairs, no_pairs, pair}
 use Rattle.rmp_wire.specs.Spelling.{Spells}
-use Rattle.rmp_decode.specs.Exact.{RefusesExactly}
+use Rattle.rmp_decode.specs.Exact.{RefusesBy}
 use Rattle.rmp_decode.specs.Law.{TakesHead, Refuses, Explains, IsFailedBefore}
 use Rattle.rmp_decode.specs.Parts.{TakesPart}
 use Rattle.rmp_decode.specs.State.{left, faults_of, room_of, Stays}
@@ -107,10 +107,10 @@ pub record OpensMap {R C : Type 0} (g : Ghosts R) (old : Deserializer R C) (a : 
   pub faults_same : faults_of g a.de.now ≡ faults_of g old
   pub opened : IsMapOpen a
 
--- how a message that isn't opened as a map is refused: another kind, or a map that would nest too deep
-abbrev pub not_map : Marker → Head → Error
-not_map m (Map n) = DepthLimitExceeded
-not_map m h = Syntax InvalidType
+-- how a message is refused where a map is wanted, by the room: a map only where no level is left, and another kind
+abbrev pub not_map : ℕ → Marker → Head → Error → Type 0
+not_map room m (Map n) e = (room ≡ 1) × (e ≡ DepthLimitExceeded)
+not_map room m h e = e ≡ Syntax InvalidType
 
 -- no map could be opened
 pub record FailsToOpenMap {R C : Type 0} (g : Ghosts R) (old new : Deserializer R C) (e : Error) : Type 0 where
@@ -118,7 +118,7 @@ pub record FailsToOpenMap {R C : Type 0} (g : Ghosts R) (old new : Deserializer 
   pub stays : Stays g old new
   pub before : old.failed ≡ true → IsFailedBefore e × (new ≡ old)
   pub err : old.failed ≡ false → Explains e (faults_of g old) (faults_of g new) (Refuses Spells IsMap (room_of old) (left g old))
-  pub exact : old.failed ≡ false → RefusesExactly not_map (faults_of g old) (faults_of g new) (left g old) e
+  pub exact : old.failed ≡ false → RefusesBy (not_map (room_of old)) (faults_of g old) (faults_of g new) (left g old) e
 
 -- the next key was read
 pub record TakesKey {R C K : Type 0} (g : Ghosts R) (reads : Msg → K → Type 0) (old new : MapAccess R C) (k : K) : Type 0 where

@@ -7,7 +7,7 @@ use Rattle.rmp_wire.specs.declared.marker.Marker.{Marker}
 use Rattle.rmp_wire.specs.declared.source.Source.{Ghosts}
 use Rattle.rmp_wire.specs.Msg.{Msg, nil, truth, whole, float32, float64, text, bin, list, map, extension, Msgs, no_items, item, count, depth, depth_all}
 use Rattle.rmp_wire.specs.Spelling.{Spells, Joined}
-use Rattle.rmp_decode.specs.Exact.{RefusesExactly}
+use Rattle.rmp_decode.specs.Exact.{RefusesBy}
 use Rattle.rmp_decode.specs.Law.{TakesHead, Refuses, Readable, Explains, IsFailedBefore}
 use Rattle.rmp_decode.specs.State.{left, faults_of, room_of, Stays}
 use Rattle.rmp_decode.specs.declared.de.Deserializer.{Deserializer}
@@ -100,10 +100,11 @@ pub record Opens {R C : Type 0} (g : Ghosts R) (old : Deserializer R C) (s : Seq
   pub faults_same : faults_of g s.de.now ≡ faults_of g old
   pub opened : IsOpen s
 
--- how a message that isn't opened as a list is refused: another kind, or a list that would nest too deep (bytes are always opened)
-abbrev pub not_seq : Marker → Head → Error
-not_seq m (Array n) = DepthLimitExceeded
-not_seq m h = Syntax InvalidType
+-- how a message is refused where a list is wanted, by the room: a list only where no level is left, bytes never, and another kind
+abbrev pub not_seq : ℕ → Marker → Head → Error → Type 0
+not_seq room m (Array n) e = (room ≡ 1) × (e ≡ DepthLimitExceeded)
+not_seq room m (Bin n) e = ⊥
+not_seq room m h e = e ≡ Syntax InvalidType
 
 -- no list could be opened
 pub record FailsToOpen {R C : Type 0} (g : Ghosts R) (old new : Deserializer R C) (e : Error) : Type 0 where
@@ -111,7 +112,7 @@ pub record FailsToOpen {R C : Type 0} (g : Ghosts R) (old new : Deserializer R C
   pub stays : Stays g old new
   pub before : old.failed ≡ true → IsFailedBefore e × (new ≡ old)
   pub err : old.failed ≡ false → Explains e (faults_of g old) (faults_of g new) (Refuses Spells IsSeq (room_of old) (left g old))
-  pub exact : old.failed ≡ false → RefusesExactly not_seq (faults_of g old) (faults_of g new) (left g old) e
+  pub exact : old.failed ≡ false → RefusesBy (not_seq (room_of old)) (faults_of g old) (faults_of g new) (left g old) e
 
 -- the next element was read
 pub record TakesElement {R C V : Type 0} (g : Ghosts R) (reads : Msg → V → Type 0) (old new : SeqAccess R C) (v : V) : Type 0 where
