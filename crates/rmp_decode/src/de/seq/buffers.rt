@@ -7,7 +7,7 @@ ghost use Rattle.rmp_decode.specs.contracts.de.Deserializer.{the_row};
 ghost use Rattle.rmp_decode.specs.Content.{IsBufferHead, RefusesContent, not_raw, not_buffer};
 ghost use Rattle.rmp_decode.specs.Kinds.{Finds};
 ghost use Rattle.rmp_decode.specs.Law.{Lawful};
-ghost use Rattle.rmp_decode.specs.State.{left, faults_of, is_failed, kept_of};
+ghost use Rattle.rmp_decode.specs.State.{left, faults_of, room_of, is_failed, kept_of};
 ghost use Rattle.rmp_decode.specs.declared.de.Kept.TheVariants.{Nothing};
 
 use crate::de::kinds::raw_in;
@@ -40,7 +40,7 @@ impl<R: Source, C: SerializerConfig> Deserializer<R, C> {
     where
         R: ReadSlice<'de>,
         ensures law { Lawful R.Source (λ m v. IsBuffer m v.items) self.old self.new result }
-        ensures exact { is_failed self.old ≡ false → IfErr result (RefusesContent IsBufferHead not_raw not_buffer (faults_of R.Source self.old) (faults_of R.Source self.new) (left R.Source self.old)) }
+        ensures exact { is_failed self.old ≡ false → IfErr result (RefusesContent IsBufferHead not_raw (not_buffer (room_of self.old)) (faults_of R.Source self.old) (faults_of R.Source self.new) (left R.Source self.old)) }
     {
         match self.head() {
             Ok((_, head)) => match raw_in(head) {
@@ -63,7 +63,7 @@ impl<R: Source, C: SerializerConfig> Deserializer<R, C> {
     // Opens a list whose head was taken.
     #[inline(always)]
     fn open_behind(&mut self, len: u32) -> Result<SeqAccess<'_, R, C>, Error>
-        ensures* refused { sem 𝓛 (RestsIfErr (the_row R.row C.row) self.entry (λ s. s.de.ghost_name) result (λ last. IfErr result (λ _. (self.old.room ≤ 1) × (last ≡ self.old)))) }
+        ensures* refused { sem 𝓛 (RestsIfErr (the_row R.row C.row) self.entry (λ s. s.de.ghost_name) result (λ last. IfErr result (λ e. (self.old.room ≤ 1) × (last ≡ self.old) × (e ≡ Error.DepthLimitExceeded)))) }
         ensures same_reference { IfOk result (λ s. s.de.ghost_name ≡ self.entry.ghost_name) }
         ensures opened { IfOk result (IsBehind len self.old) }
     {
@@ -87,7 +87,8 @@ impl<R: Source, C: SerializerConfig> Deserializer<R, C> {
         R: ReadSlice<'de>,
         requires marked { is_failed self.old ≡ true }
         requires clean { kept_of self.old ≡ Nothing }
-        ensures { AfterHead R.Source (λ m v. IsBuffer m v.items) (Head.Array len) self.old self.new result }
+        ensures law { AfterHead R.Source (λ m v. IsBuffer m v.items) (Head.Array len) self.old self.new result }
+        ensures deep { self.old.room ≤ 1 → IfErr result (λ e. e ≡ Error.DepthLimitExceeded) }
     {
         let mut items = Vec::new(self.alloc);
         let mut seq = self.open_behind(len)?;

@@ -12,8 +12,8 @@ use Rattle.rmp_decode.proofs.de.Deserializer.byte_list.Goals as goal
 via : {A : Type 0} {x z : A} (y : A) → x ≡ y → y ≡ z → x ≡ z
 via y p q = p ∙ q
 
-pub returns-in_err-seq : goal.returns-in_err-seq
-returns-in_err-seq g c = λ old m h.
+pub returns-in_err-seq-clause-law : goal.returns-in_err-seq-clause-law
+returns-in_err-seq-clause-law g c = λ old m h.
     let p = err_from_is_err_and c.from_residual.result c.from_residual.ensures.1 in
     let f = rw c.in_err-seq.was at c.open_behind.follows.holds-at-none in
     rw (p.1, f.1) (list_too_deep g.R.Source (λ t v. IsBuffer t v.items) old c.args.self.now m c.args.len _ h f.0)
@@ -29,8 +29,8 @@ loop-items-preserved g c =
     let t = rw c.in-Some.is at (c.in_ok-item.ensures.some r.run.still) in
     rw c.in_ok-push.ensures.items (values_step _ _ _ c.loop-items.seq c.next_element.new.self c.loop-items.items.items c.in-Some.item r t c.next_element.ensures.same_reference)
 
-pub returns-in_err-item : goal.returns-in_err-item
-returns-in_err-item g c = λ old m h.
+pub returns-in_err-item-clause-law : goal.returns-in_err-item-clause-law
+returns-in_err-item-clause-law g c = λ old m h.
     let r = c.loop-items.invariant in
     let o = opened_behind g.R.Source old c.args.self.now m c.args.len c.in_ok-seq.seq h c.in_ok-seq.ensures.opened in
     let p = err_from_is_err_and c.from_residual-in_err-item.result c.from_residual-in_err-item.ensures.1 in
@@ -38,8 +38,8 @@ returns-in_err-item g c = λ old m h.
     rw (p.1, p.2) (lawful_err_at g.R.Source (λ t (v : Vec ℕ Global). OfRow (λ ms. ReadsEach (IsUnsigned 255) ms v.items) t) (λ t v. IsBuffer t v.items) old c.args.self.now _ (m, Array c.args.len) _ h (λ t b e. (b.0, row_of_buffer t b.0.items c.args.len b.1 e))
     (seq_take g.R.Source (λ (v : Vec ℕ Global) ms. ReadsEach (IsUnsigned 255) ms v.items) old c.in_ok-seq.seq c.loop-items.seq r.trees o r.run _ _ c.next_element.new.self _ f (c.in_err-item.ensures.marked r.run.still.marked) (search rules) (λ m ks v h. each_next _ r.trees m ks v.items h)))
 
-pub returns-in_err-push : goal.returns-in_err-push
-returns-in_err-push g c = λ old m h.
+pub returns-in_err-push-clause-law : goal.returns-in_err-push-clause-law
+returns-in_err-push-clause-law g c = λ old m h.
     let r = c.loop-items.invariant in
     let o = opened_behind g.R.Source old c.args.self.now m c.args.len c.in_ok-seq.seq h c.in_ok-seq.ensures.opened in
     let p = err_from_is_err_and c.from_residual-in_err-push.result c.from_residual-in_err-push.ensures.1 in
@@ -52,16 +52,16 @@ at_none : {T P : Type 0} (o : Option T) → ((x : T) → o ≡ Some x → ⊥) �
 at_none None n p = p
 at_none (Some x) n p = absurd (n x refl)
 
-pub returns-in_err-end : goal.returns-in_err-end
-returns-in_err-end g c =
+pub returns-in_err-end-clause-law : goal.returns-in_err-end-clause-law
+returns-in_err-end-clause-law g c =
     let r = c.loop-items.invariant in
     let n = at_none c.in_ok-item.field-0 (search rules) (c.in_ok-item.ensures.none r.run.still) in
     let h = c.in_err-end.ensures.err (subst IsOpen (sym n.1) r.run.still) in
     let left = ap (λ s. s.left) n.1 in
     absurd (omega (arith, h.0, n.0, left))
 
-pub returns : goal.returns
-returns g c = λ old m h.
+pub returns-clause-law : goal.returns-clause-law
+returns-clause-law g c = λ old m h.
     let r = c.loop-items.invariant in
     let o = opened_behind g.R.Source old c.args.self.now m c.args.len c.in_ok-seq.seq h c.in_ok-seq.ensures.opened in
     let n = at_none c.in_ok-item.field-0 (search rules) (c.in_ok-item.ensures.none r.run.still) in

@@ -1,8 +1,10 @@
-use Rattle.std.proofs.Common.{subst, refl, Result, Ok, Err, IfErr}
+use Rattle.std.proofs.Common.{◌≡◌, ◌≤◌, ℕ, max, arith, subst, refl, Result, Ok, Err, IfErr}
 use Rattle.rmp_wire.specs.declared.head.Head.TheVariants.{Array}
 use Rattle.rmp_decode.specs.Content.{IsBufferHead, not_raw, not_buffer}
 use Rattle.rmp_decode.specs.Kinds.{raw_head}
 use Rattle.rmp_decode.specs.Law.{ReadsHead}
+use Rattle.rmp_decode.specs.State.{room_of}
+use Rattle.rmp_decode.specs.declared.error.Error.TheVariants.{DepthLimitExceeded}
 use Rattle.rmp_decode.proofs.Buffers.{raw_buffer, no_buffer}
 use Rattle.rmp_decode.proofs.ContentErrors.{content_error, content_other, content_none, content_apart, piece_ended, raw_len, buffer_wanted, no_buffer_head}
 use Rattle.rmp_decode.proofs.Contents.{raw_content, content_read, content_short}
@@ -25,21 +27,29 @@ pub returns-in-Err-clause-law : goal.returns-in-Err-clause-law
 returns-in-Err-clause-law g c = refused_none _ _ _ _ _ c.in-Err.ensures
 
 pub returns-in-Some-list_in-clause-law : goal.returns-in-Some-list_in-clause-law
-returns-in-Some-list_in-clause-law g c = c.byte_list.ensures c.args.self.now c.in-Ok.field-0-0 (subst (λ h. ReadsHead g.R.Source c.args.self.now c.head.new.self (Ok (c.in-Ok.field-0-0, h))) c.in-Some-list_in.ensures c.in-Ok.ensures)
+returns-in-Some-list_in-clause-law g c = c.byte_list.ensures.law c.args.self.now c.in-Ok.field-0-0 (subst (λ h. ReadsHead g.R.Source c.args.self.now c.head.new.self (Ok (c.in-Ok.field-0-0, h))) c.in-Some-list_in.ensures c.in-Ok.ensures)
 
 pub returns-in-Err-owned-clause-exact : goal.returns-in-Err-owned-clause-exact
 returns-in-Err-owned-clause-exact g c = λ _.
-    content_error g.R.Source IsBufferHead not_raw not_buffer c.args.self.now c.head.new.self _ (c.in-Ok.field-0-0, c.in-Ok.head) (raw_head c.in-Some.field-0-0 c.in-Some.len) c.in-Some.len _ c.in-Ok.ensures c.in-Some.ensures (raw_len c.in-Some.field-0-0 c.in-Some.len) (buffer_wanted c.in-Some.field-0-0 c.in-Some.len) (piece_ended _ _ _ _ _ _ c.in-Err-owned.ensures.err c.in-Err-owned.ensures.end)
+    content_error g.R.Source IsBufferHead not_raw (not_buffer (room_of c.args.self.now)) c.args.self.now c.head.new.self _ (c.in-Ok.field-0-0, c.in-Ok.head) (raw_head c.in-Some.field-0-0 c.in-Some.len) c.in-Some.len _ c.in-Ok.ensures c.in-Some.ensures (raw_len c.in-Some.field-0-0 c.in-Some.len) (buffer_wanted c.in-Some.field-0-0 c.in-Some.len) (piece_ended _ _ _ _ _ _ c.in-Err-owned.ensures.err c.in-Err-owned.ensures.end)
 
 pub returns-in-None-list_in-clause-exact : goal.returns-in-None-list_in-clause-exact
-returns-in-None-list_in-clause-exact g c = λ _. content_other IsBufferHead not_raw not_buffer _ _ _ c.in-Ok.field-0-0 c.in-Ok.head _ c.in-Ok.ensures.marked (no_buffer_head c.in-Ok.head c.in-None.ensures c.in-None-list_in.ensures) refl
+returns-in-None-list_in-clause-exact g c = λ _. content_other IsBufferHead not_raw (not_buffer (room_of c.args.self.now)) _ _ _ c.in-Ok.field-0-0 c.in-Ok.head _ c.in-Ok.ensures.marked (no_buffer_head c.in-Ok.head c.in-None.ensures c.in-None-list_in.ensures) refl
 
-on_err : {A E : Type 0} {P : E → Type 0} (r : Result A E) → ((e : E) → P e) → IfErr r P
-on_err (Ok a) f = tt
-on_err (Err e) f = f e
+on_err : {A E : Type 0} {P Q : E → Type 0} (r : Result A E) → IfErr r Q → ((e : E) → Q e → P e) → IfErr r P
+on_err (Ok a) q f = tt
+on_err (Err e) q f = f e q
+
+one_room : (old mid : ℕ) → mid ≡ old → max 1 old ≡ 1 → mid ≤ 1
+one_room old mid e o = omega (arith, e, o)
+
+-- what holds of an error where this does
+under : {A E D : Type 0} (Q : E → Type 0) (r : Result A E) → (D → IfErr r Q) → IfErr r (λ e. D → Q e)
+under Q (Ok a) f = tt
+under Q (Err e) f = f
 
 pub returns-in-Some-list_in-clause-exact : goal.returns-in-Some-list_in-clause-exact
-returns-in-Some-list_in-clause-exact g c = λ _. on_err c.byte_list.result (λ e. content_apart IsBufferHead not_raw not_buffer _ _ _ c.in-Ok.field-0-0 c.in-Ok.head (Array c.in-Some-list_in.len) e c.in-Ok.ensures.marked c.in-Some-list_in.ensures refl tt (λ s. tt))
+returns-in-Some-list_in-clause-exact g c = λ _. on_err c.byte_list.result (under (λ e. e ≡ DepthLimitExceeded) c.byte_list.result c.byte_list.ensures.deep) (λ e d. content_apart IsBufferHead not_raw (not_buffer (room_of c.args.self.now)) _ _ _ c.in-Ok.field-0-0 c.in-Ok.head (Array c.in-Some-list_in.len) e c.in-Ok.ensures.marked c.in-Some-list_in.ensures refl tt (λ s. λ o. d (one_room c.args.self.now.room c.head.new.self.room c.in-Ok.ensures.stays.room o)))
 
 pub returns-in-Err-clause-exact : goal.returns-in-Err-clause-exact
-returns-in-Err-clause-exact g c = λ o. content_none IsBufferHead not_raw not_buffer _ _ _ _ (c.in-Err.ensures.ends o)
+returns-in-Err-clause-exact g c = λ o. content_none IsBufferHead not_raw (not_buffer (room_of c.args.self.now)) _ _ _ _ (c.in-Err.ensures.ends o)
