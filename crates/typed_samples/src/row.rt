@@ -1,6 +1,6 @@
 //! A row of the sample: a value, written in a setting.
-ghost use Rattle.std.specs.Prelude.{◌≡◌, [], IfOk};
-ghost use Rattle.rmp_encode.specs.Calls.{IsSpelled};
+ghost use Rattle.std.specs.Prelude.{◌≡◌, [], IfOk, IfErr};
+ghost use Rattle.rmp_encode.specs.Calls.{IsSpelled, ToVecFails};
 ghost use Rattle.rmp_encode.specs.Ser.{sink_of, settings_of};
 ghost use Rattle.rmp_encode.specs.Trees.{tree_of};
 ghost use Rattle.typed_samples.specs.Settings.{settings_in};
@@ -49,7 +49,8 @@ fn written<C: SerializerConfig, T: Serialize>(
     value: &T,
 ) -> Result<Vec<u8>, Error>
     requires { (sink_of se).items ≡ [] }
-    ensures { IfOk result (λ v. IsSpelled (tree_of (settings_of se) (T.data_of value.now (settings_of se).human)) v.items) }
+    ensures bytes { IfOk result (λ v. IsSpelled (tree_of (settings_of se) (T.data_of value.now (settings_of se).human)) v.items) }
+    ensures err { IfErr result (ToVecFails (tree_of (settings_of se) (T.data_of value.now (settings_of se).human))) }
 {
     value.serialize(&mut se)?;
     Ok(se.into_inner())
@@ -57,7 +58,8 @@ fn written<C: SerializerConfig, T: Serialize>(
 
 // What a value is written as in a setting.
 fn spelling<T: Serialize>(alloc: Global, setting: Setting, value: &T) -> Result<Vec<u8>, Error>
-    ensures { IfOk result (λ v. IsSpelled (tree_of (settings_in setting) (T.data_of value.now (settings_in setting).human)) v.items) }
+    ensures bytes { IfOk result (λ v. IsSpelled (tree_of (settings_in setting) (T.data_of value.now (settings_in setting).human)) v.items) }
+    ensures err { IfErr result (ToVecFails (tree_of (settings_in setting) (T.data_of value.now (settings_in setting).human))) }
 {
     let se = Serializer::new(alloc, Vec::new(alloc));
     match setting {
