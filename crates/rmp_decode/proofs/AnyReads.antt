@@ -130,7 +130,7 @@ pub short_text : (n : ℕ) (known : Option (List ℕ)) → IsShort n known → S
 short_text n None h = tt
 short_text n (Some xs) h = λ s r e m u. let long = ap length e ∙ length-append s r in omega (arith, long, m, h)
 
-text_under : (n : ℕ) (known : Option (List ℕ)) → StartsWithNoText n known → IfSome known (λ ys. (s r : List ℕ) → ys ≡ s ++ r → length s ≡ n → Readable (λ m t. (m ≡ text t) × IsUtf8 t) (text s) → ⊥)
+pub text_under : (n : ℕ) (known : Option (List ℕ)) → StartsWithNoText n known → IfSome known (λ ys. (s r : List ℕ) → ys ≡ s ++ r → length s ≡ n → Readable (λ m t. (m ≡ text t) × IsUtf8 t) (text s) → ⊥)
 text_under n None h = tt
 text_under n (Some xs) h = λ s r e m t. let p = t.1.0 in let same : s ≡ t.0 = cc in h s r e m (subst IsUtf8 (sym same) t.1.1)
 

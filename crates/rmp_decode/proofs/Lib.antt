@@ -21,6 +21,7 @@ pub mod Rows
 pub mod Seqs
 pub mod Sets
 pub mod Skipping
+pub mod Strings
 pub mod Texts
 pub mod Tuples
 pub mod Whole

@@ -1,11 +1,14 @@
 -- Which error a read answers that wants a head and the content behind it, by what stands at the front of the bytes.
-use Rattle.std.specs.Prelude.{◌≡◌, ◌<◌, ℕ, Bool, true, false, List, ◌++◌, length, Option, IfSome, IsUtf8}
+use Rattle.std.specs.Prelude.{◌≡◌, ◌<◌, ℕ, Bool, true, false, List, ◌++◌, length, Option, IfSome, Ok, IsUtf8}
 use Rattle.rmp_wire.specs.declared.head.Head.{Head}
 use Rattle.rmp_wire.specs.declared.head.Head.TheVariants.{Text, Bin, Array, Ext}
 use Rattle.rmp_wire.specs.declared.marker.Marker.{Marker}
+use Rattle.rmp_wire.specs.declared.source.Source.{Ghosts}
 use Rattle.rmp_decode.specs.Exact.{Stands, NoneStands, Ends, IsDataEnd, IsUtf8Error}
 use Rattle.rmp_decode.specs.Kinds.{content_len}
-use Rattle.rmp_decode.specs.Law.{Explains}
+use Rattle.rmp_decode.specs.Law.{Explains, ReadsHead}
+use Rattle.rmp_decode.specs.State.{left, faults_of}
+use Rattle.rmp_decode.specs.declared.de.Deserializer.{Deserializer}
 use Rattle.rmp_decode.specs.declared.error.Error.{Error}
 use Rattle.rmp_decode.specs.declared.error.Error.TheVariants.{DepthLimitExceeded, Syntax, TypeMismatch}
 use Rattle.rmp_decode.specs.declared.text.Text.TheVariants.{InvalidType, InvalidValue}
@@ -34,6 +37,11 @@ pub record ExactOfContent (wanted : Head → Type 0) (other : Marker → Head �
 -- Exactly which error it is, unless memory was short or the source had a fault (it counts them: before, after), where the bytes are told.
 unfoldable pub RefusesContent : (Head → Type 0) → (Marker → Head → Error) → (Head → List ℕ → Error → Type 0) → ℕ → ℕ → Option (List ℕ) → Error → Type 0
 RefusesContent wanted other refused before after known e = Explains e before after (IfSome known (λ xs. ExactOfContent wanted other refused xs e))
+
+-- the same of the rest of a read, whose beginning took this head
+abbrev pub RefusesBehind : {R C : Type 0} → Ghosts R → (Head → Type 0) → (Marker → Head → Error) → (Head → List ℕ → Error → Type 0) → Head → Deserializer R C → Deserializer R C → Error → Type 0
+RefusesBehind {R} {C} g wanted other refused h mid new e =
+    (old : Deserializer R C) (m : Marker) → ReadsHead g old mid (Ok (m, h)) → RefusesContent wanted other refused (faults_of g old) (faults_of g new) (left g old) e
 
 -- ---- which heads are wanted
 

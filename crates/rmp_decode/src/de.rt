@@ -20,6 +20,7 @@ mod pieces;
 pub mod seq;
 mod sets;
 mod skip;
+mod strings;
 #[cfg(test)]
 mod tests;
 #[cfg(test)]

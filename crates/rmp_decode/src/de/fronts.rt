@@ -40,6 +40,24 @@ fn unsigned_at(front: &[u8]) -> Option<(u64, usize)>
     }
 }
 
+// A text whose head stands at the front: the count of its bytes, and of the head's.
+#[inline(always)]
+fn text_at(front: &[u8]) -> Option<(u32, usize)>
+    ensures { IfSome result (λ p. StandsIn p.1 (Head.Text p.0) front.now) }
+{
+    match front {
+        [first, behind @ ..] => match first {
+            0xa0..=0xbf => Some((u32::from(*first - 0xa0), 1)),
+            0xd9 => match behind {
+                [a, ..] => Some((u32::from(*a), 2)),
+                _ => None,
+            },
+            _ => None,
+        },
+        _ => None,
+    }
+}
+
 impl<R: Source, C: SerializerConfig> Deserializer<R, C> {
     // Whether the next message begins with the bytes ahead of the source: nothing was kept back, and no read failed.
     #[inline(always)]
@@ -67,6 +85,29 @@ impl<R: Source, C: SerializerConfig> Deserializer<R, C> {
         match unsigned_at(self.reader.front()) {
             Some((n, len)) => {
                 if n <= most && self.reader.skip(len) {
+                    self.failed = true;
+                    Some(n)
+                } else {
+                    None
+                }
+            }
+            None => None,
+        }
+    }
+
+    // Takes the head of a text where it lies in memory whole, and leaves this failed until the text is read. Else nothing
+    // is taken.
+    #[inline(always)]
+    pub(crate) fn text_front(&mut self) -> Option<u32>
+        ensures taken { IfSome result (λ n. TakesFront R.Source (Head.Text n) self.old self.new) }
+        ensures kept { IfNone result (self.new ≡ self.old) }
+    {
+        if !self.begins_ahead() {
+            return None;
+        }
+        match text_at(self.reader.front()) {
+            Some((n, len)) => {
+                if self.reader.skip(len) {
                     self.failed = true;
                     Some(n)
                 } else {

@@ -1,0 +1,43 @@
+-- A text that is read into memory of its own at once.
+use Rattle.std.proofs.Common.{◌≡◌, ap, refl, ℕ, List, length, Option, Bool, true, false, Ok, Err, String, Global}
+use Rattle.std.specs.Prelude.{IsUtf8}
+use Rattle.std.specs.String.{string_bytes}
+use Rattle.std.proofs.lemmas.Str.{IsUtf8-string_bytes}
+use Rattle.rmp_wire.specs.declared.head.Head.TheVariants as head
+use Rattle.rmp_wire.specs.declared.marker.Marker.{Marker}
+use Rattle.rmp_wire.specs.declared.source.Source.{Ghosts}
+use Rattle.rmp_wire.specs.declared.slice.SourceFault.{SourceFault}
+use Rattle.rmp_wire.specs.declared.slice.SourceFault.TheVariants.{Io, Memory}
+use Rattle.rmp_wire.specs.Msg.{Msg, text}
+use Rattle.rmp_wire.specs.Slices.{Blames}
+use Rattle.rmp_wire.specs.Spelling.{head_of}
+use Rattle.rmp_decode.specs.Anys.{StartsWithNoText}
+use Rattle.rmp_decode.specs.Kinds.{raw_msg}
+use Rattle.rmp_decode.specs.Law.{Readable, Lawful, ReadsHead, Explains}
+use Rattle.rmp_decode.specs.Pieces.{Blamed}
+use Rattle.rmp_decode.specs.Read.{IsRaw}
+use Rattle.rmp_decode.specs.State.{Stays}
+use Rattle.rmp_decode.specs.declared.de.Deserializer.{Deserializer}
+use Rattle.rmp_decode.specs.declared.error.Error.{Error}
+use Rattle.rmp_decode.proofs.AnyReads.{lawful_under, short_text, text_under}
+use Rattle.rmp_decode.proofs.Contents.{text_content, content_refused}
+
+-- a source's fault is want of memory, a fault that is counted, or the end of the input
+pub text_blamed : (n : ℕ) (fault : SourceFault) (before after : ℕ) (known : Option (List ℕ)) (e : Error) → Blames fault before after known n → Blamed fault e → Explains e before after (StartsWithNoText n known)
+text_blamed n Memory before after known e s b = λ m _. absurd (m b)
+text_blamed n (Io cause) before after known e s b = λ _ k. short_text n known (s k).0
+
+as_text : (b : Bool) (n : ℕ) (m : Msg) (t : List ℕ) → head_of m ≡ head.Text n → m ≡ raw_msg b t → m ≡ text t
+as_text true n m t h e = e
+as_text false n m t h e = let u : head_of m ≡ head.Bin (length t) = ap head_of e in absurd (cc)
+
+-- under the head of a text only a text is read
+string_under : (n : ℕ) (m : Msg) → head_of m ≡ head.Text n → Readable (λ k (s : String Global). IsRaw k (string_bytes s)) m → Readable (λ k t. (k ≡ text t) × IsUtf8 t) m
+string_under n m h r = (string_bytes r.0, (as_text r.1.0 n m (string_bytes r.0) h r.1.1, IsUtf8-string_bytes r.0))
+
+-- the bytes behind the head of a text are none
+pub string_refused : {R C : Type 0} (g : Ghosts R) (old mid new : Deserializer R C) (m : Marker) (n : ℕ) (e : Error) → ReadsHead g old mid (Ok (m, head.Text n)) → Explains e (g.faults mid.reader) (g.faults new.reader) (StartsWithNoText n (g.ahead mid.reader)) → new.failed ≡ true → Stays g mid new
+    → Lawful g (λ k (s : String Global). IsRaw k (string_bytes s)) old new (Err e)
+string_refused g old mid new m n e h x d st =
+    lawful_under g (λ k t. (k ≡ text t) × IsUtf8 t) (λ k (s : String Global). IsRaw k (string_bytes s)) old mid new (head.Text n) e h.ok (string_under n)
+    (content_refused text_content g (λ k t. (k ≡ text t) × IsUtf8 t) old mid new (m, head.Text n) h n e refl (λ k r. (r.0, r.1.0)) (λ o q. text_under n (g.ahead mid.reader) (x o q)) d st)
