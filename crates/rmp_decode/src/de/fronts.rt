@@ -5,8 +5,8 @@ ghost use Rattle.rmp_decode.specs.State.{is_failed, kept_of};
 ghost use Rattle.rmp_decode.specs.declared.de.Kept.TheVariants.{Nothing};
 
 use crate::de::{Deserializer, Kept};
-use rmp_wire::{Head, Source};
 use rmp_wire::config::SerializerConfig;
+use rmp_wire::{Head, Source};
 
 // A number without a sign whose head stands at the front, and the count of the head's bytes.
 #[inline(always)]

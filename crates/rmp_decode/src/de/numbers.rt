@@ -102,7 +102,7 @@ impl<R: Source, C: SerializerConfig> Deserializer<R, C> {
         }
     }
 
-    // The same, by a call, so that the reads into which the common heads go stay small.
+    // The same by way of `head`, by a call.
     #[inline(never)]
     fn headed_unsigned(&mut self, most: u64) -> Result<u64, Error>
         ensures law { Lawful R.Source (IsUnsigned most) self.old self.new result }

@@ -145,6 +145,7 @@ impl<R: Source, C: SerializerConfig> Deserializer<R, C> {
     ///
     /// # Errors
     /// `Utf8Error` for a text that isn't UTF-8, and `Syntax("invalid value")` for bytes that aren't.
+    #[inline(always)]
     pub fn deserialize_string<'de>(&mut self) -> Result<String, Error>
     where
         R: ReadSlice<'de>,
@@ -153,13 +154,24 @@ impl<R: Source, C: SerializerConfig> Deserializer<R, C> {
     {
         match self.text_front() {
             Some(len) => self.string_behind(len),
-            None => match self.owned_raw() {
-                Ok((is_text, bytes)) => match String::from_utf8(bytes) {
-                    Ok(s) => Ok(s),
-                    Err(e) => Err(self.refuse(not_utf8(is_text, e.utf8_error()))),
-                },
-                Err(e) => Err(e),
+            None => self.headed_string(),
+        }
+    }
+
+    // The same by way of `head`, by a call.
+    #[inline(never)]
+    fn headed_string<'de>(&mut self) -> Result<String, Error>
+    where
+        R: ReadSlice<'de>,
+        ensures law { Lawful R.Source (λ m s. IsRaw m (string_bytes s)) self.old self.new result }
+        ensures exact { is_failed self.old ≡ false → IfErr result (RefusesContent IsRawHead not_raw not_string (faults_of R.Source self.old) (faults_of R.Source self.new) (left R.Source self.old)) }
+    {
+        match self.owned_raw() {
+            Ok((is_text, bytes)) => match String::from_utf8(bytes) {
+                Ok(s) => Ok(s),
+                Err(e) => Err(self.refuse(not_utf8(is_text, e.utf8_error()))),
             },
+            Err(e) => Err(e),
         }
     }
 }

@@ -1,4 +1,5 @@
 use crate::slice::{ReadRefReader, ReadSlice, Reference, SourceFault};
+use crate::source::Source;
 use std::io::ErrorKind;
 
 #[test]
@@ -35,4 +36,18 @@ fn references_differ(rt: HostRuntime) {
     assert!(rt; lent != copied);
     assert!(rt; lent != Reference::Borrowed(&[1, 3]));
     assert_eq!(rt; copied.as_bytes(), bytes.as_slice());
+}
+
+#[test]
+fn front_and_skip(rt: HostRuntime) {
+    let input = [7u8, 8, 9];
+    let mut reader = ReadRefReader::new(&input);
+    assert_eq!(rt; reader.front(), input.as_slice());
+    assert!(rt; reader.skip(2));
+    assert_eq!(rt; reader.front(), [9u8].as_slice());
+    assert!(rt; !reader.skip(2));
+    let mut rest: &[u8] = &input;
+    let mut source = &mut rest;
+    assert!(rt; source.skip(1));
+    assert_eq!(rt; source.front(), [8u8, 9].as_slice());
 }

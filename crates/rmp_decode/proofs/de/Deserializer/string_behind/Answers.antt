@@ -1,4 +1,4 @@
-use Rattle.std.proofs.Common.{◌≡◌, refl, true}
+use Rattle.std.proofs.Common.{refl, true}
 use Rattle.std.specs.String.{string_bytes}
 use Rattle.rmp_wire.specs.declared.head.Head.TheVariants.{Text}
 use Rattle.rmp_decode.specs.Content.{IsRawHead, not_raw, not_string}

@@ -1,4 +1,4 @@
-use Rattle.std.proofs.Common.{◌∙◌, rules}
+use Rattle.std.proofs.Common.{rules}
 use Rattle.rmp_decode.proofs.Fronts.{text_held, text_8}
 use Rattle.rmp_decode.proofs.de.fronts.text_at.Goals as goal
 
