@@ -57,7 +57,8 @@ pub record Enters (room : ℕ) (xs : List ℕ) : Type 0 where
   pub before : BeginsRow Spells ItemsUtf8 room many parts.stands.rest
   pub fewer : many < parts_count parts.is_map parts.len
 
--- The error says what is wrong first where a message is wanted that nests below the room: at the front, or behind such messages of a list or a map.
+-- The error names the first thing that is wrong, where a message is wanted that nests below the room: it is wrong at the front, or inside of a list or
+-- a map that opens there, behind messages of it that are readable.
 pub data Refusal : ℕ → Error → List ℕ → Type 0 where
   here : {room : ℕ} {e : Error} {xs : List ℕ} → IsWrong room e xs → Refusal room e xs
   inside : {room : ℕ} {e : Error} {xs : List ℕ} → (enters : Enters room xs) → Refusal room e enters.before.rest → Refusal (suc room) e xs

@@ -19,7 +19,9 @@ use std::alloc::Global;
 /// Reads a message of any kind whose texts are UTF-8. The content of texts, bytes and extensions is taken by `P`.
 ///
 /// # Errors
-/// `Utf8Error` at a text that isn't UTF-8, and `DepthLimitExceeded` at a list or map that would nest too deep.
+/// That of the first thing that is wrong: `InvalidMarkerRead` where the input ends before a message that is wanted,
+/// `InvalidDataRead` where it ends inside of a head or of content, `TypeMismatch` at the byte c1, `Utf8Error` at a text that isn't
+/// UTF-8, and `DepthLimitExceeded` at a list or map that would nest too deep. `OutOfMemory` at any place.
 #[cycle(reading)]
 pub fn read_value<R: Source, C: SerializerConfig, P: ReadContent<R>>(
     de: &mut Deserializer<R, C>,
@@ -177,15 +179,13 @@ impl Value {
     /// says of each refusal what is wrong, and where.
     ///
     /// # Errors
-    /// That of the first thing that is wrong: `InvalidMarkerRead` where the input ends before a message that is wanted,
-    /// `InvalidDataRead` where it ends inside of a head or of content, `TypeMismatch` at the byte c1, `Utf8Error` at a text that isn't
-    /// UTF-8, and `DepthLimitExceeded` at a list or map that would nest too deep. `OutOfMemory` at any place.
+    /// As `read_value`.
     pub fn from_slice<'de>(alloc: Global, input: &'de [u8]) -> Result<Value, Error>
         // A beginning of the input spells the value, which nests below the limit; its texts are UTF-8.
         ensures ok { IfOk result (λ v. Begins Spells (λ m. reads_value m v) 1024 input.now) }
-        // A refusal that isn't for memory means that no beginning spells such a message.
+        // A refusal that isn't for memory means that no beginning spells such a message,
         ensures err { IfErr result (λ e. e ≢ Error.OutOfMemory → Begins Spells (Readable reads_value) 1024 input.now → ⊥) }
-        // It names the first thing that is wrong.
+        // and names the first thing that is wrong.
         ensures refusal { IfErr result (λ e. e ≢ Error.OutOfMemory → Refusal 1024 e input.now) }
     {
         let mut de = Deserializer::from_read_ref(alloc, input);

@@ -35,14 +35,18 @@ fn show(out: &mut String, value: &Value) -> Result<(), AllocError> {
     }
 }
 
-// What a read answers: the value, or the error's text.
-fn shown(alloc: Global, input: &[u8]) -> Result<String, AllocError> {
+// What a read answered: the value, or the error's text.
+fn told(alloc: Global, read: Result<Value, Error>) -> Result<String, AllocError> {
     let mut out = String::new(alloc);
-    match from_slice::<Value>(alloc, input) {
+    match read {
         Ok(value) => show(&mut out, &value)?,
         Err(e) => write!(out, "{e}")?,
     }
     Ok(out)
+}
+
+fn shown(alloc: Global, input: &[u8]) -> Result<String, AllocError> {
+    told(alloc, from_slice(alloc, input))
 }
 
 #[test]
@@ -95,6 +99,8 @@ fn reads_in_any_widths(rt: HostRuntime) -> Result<(), Fail> {
     ];
     for (input, want) in rows {
         assert_eq!(rt; shown(rt.alloc(), input)?.as_str(), want, "at {input:?}");
+        let alone = told(rt.alloc(), Value::from_slice(rt.alloc(), input))?;
+        assert_eq!(rt; alone.as_str(), want, "at {input:?}");
     }
     // The keys stand in their order, and one may stand twice.
     assert_eq!(rt;
@@ -141,6 +147,8 @@ fn refuses(rt: HostRuntime) -> Result<(), Fail> {
     ];
     for (input, want) in rows {
         assert_eq!(rt; shown(rt.alloc(), input)?.as_str(), want, "at {input:?}");
+        let alone = told(rt.alloc(), Value::from_slice(rt.alloc(), input))?;
+        assert_eq!(rt; alone.as_str(), want, "at {input:?}");
     }
     Ok(())
 }
