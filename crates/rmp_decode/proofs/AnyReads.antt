@@ -1,21 +1,20 @@
 -- A type that reads messages of several kinds, from what an opening of any kind says.
-use Rattle.std.proofs.Common.{◌≡◌, ◌∙◌, sym, ap, subst, refl, ℕ, ◌+◌, ◌<◌, ◌≤◌, max, arith, List, [], ◌∷◌, ◌++◌, length, Option, None, Some, IfSome, Bool, true, false, Ok, Err, append_assoc}
+use Rattle.std.proofs.Common.{◌≡◌, ◌∙◌, sym, ap, subst, refl, ℕ, arith, List, [], ◌∷◌, ◌++◌, length, Option, None, Some, IfSome, Bool, true, false, Ok, Err, append_assoc}
 use Rattle.std.proofs.lemmas.List.{length-append}
 use Rattle.std.specs.Io.KnownBytes.{Consumes}
 use Rattle.std.specs.Prelude.{IsUtf8}
 use Rattle.std.proofs.KnownBytes.{Consumes-trans}
 use Rattle.rmp_wire.specs.declared.head.Head.{Head}
 use Rattle.rmp_wire.specs.declared.head.Head.TheVariants as head
-use Rattle.rmp_wire.specs.declared.marker.Marker.{Marker}
 use Rattle.rmp_wire.specs.declared.source.Source.{Ghosts}
 use Rattle.rmp_wire.specs.Heads.{IsHead}
-use Rattle.rmp_wire.specs.Msg.{Msg, text, list, Msgs, count, depth_all}
+use Rattle.rmp_wire.specs.Msg.{Msg, text, list, Msgs, count}
 use Rattle.rmp_wire.specs.Sources.{IsShort}
 use Rattle.rmp_wire.specs.Spelling.{Spells, head_of}
 use Rattle.rmp_decode.specs.Anys.{FailsToOpenAny, OpensRaw, TakesContent, FailsContent, FailsText, StartsWithNoText}
-use Rattle.rmp_decode.specs.Law.{Begins, Refuses, Readable, Lawful, TakesHead, ReadsHead}
-use Rattle.rmp_decode.specs.Seq.{SpellsRow, SpellsIn, Opens, Run, seq_head, levels, inner_of}
-use Rattle.rmp_decode.specs.State.{left, faults_of, room_of, kept_bytes, Stays}
+use Rattle.rmp_decode.specs.Law.{Refuses, Readable, Lawful, TakesHead}
+use Rattle.rmp_decode.specs.Seq.{SpellsRow, SpellsIn, Opens, Run, seq_head, levels}
+use Rattle.rmp_decode.specs.State.{left, kept_bytes}
 use Rattle.rmp_decode.specs.declared.de.Deserializer.{Deserializer}
 use Rattle.rmp_decode.specs.declared.de.any.RawAccess.{RawAccess}
 use Rattle.rmp_decode.specs.declared.de.seq.SeqAccess.{SeqAccess}

@@ -1,11 +1,11 @@
 -- When no message of any kind can be opened, and what its content makes of it.
-use Rattle.std.proofs.Common.{◌≡◌, ◌∙◌, sym, ap, subst, refl, ℕ, ◌<◌, ◌≤◌, inl, inr, arith, List, ◌++◌, Bool, true, false, Option, Some, None, IfSome, Ok, Err}
+use Rattle.std.proofs.Common.{◌≡◌, ◌∙◌, sym, subst, ℕ, ◌<◌, ◌≤◌, inl, inr, arith, List, Bool, true, false, Option, Some, None, IfSome, Ok, Err}
 use Rattle.rmp_wire.specs.declared.head.Head.{Head}
 use Rattle.rmp_wire.specs.declared.marker.Marker.{Marker}
 use Rattle.rmp_wire.specs.declared.source.Source.{Ghosts}
 use Rattle.rmp_wire.specs.Msg.{Msg, nil, truth, whole, float32, float64, text, bin, list, map, extension, depth}
 use Rattle.rmp_wire.specs.Spelling.{head_of}
-use Rattle.rmp_decode.specs.Anys.{OpensParts, UnopenedFor, RefusesAny, FailsToOpenAny}
+use Rattle.rmp_decode.specs.Anys.{RefusesAny, FailsToOpenAny}
 use Rattle.rmp_decode.specs.Exact.{Stands, EndsExactly}
 use Rattle.rmp_decode.specs.Law.{ReadsHead}
 use Rattle.rmp_decode.specs.Skip.{parts_head}

@@ -6,7 +6,7 @@ use Rattle.rmp_wire.specs.declared.head.Head.{Head}
 use Rattle.rmp_wire.specs.declared.head.Head.TheVariants as head
 use Rattle.rmp_wire.specs.declared.marker.Marker.{Marker}
 use Rattle.rmp_wire.specs.declared.source.Source.{Ghosts}
-use Rattle.rmp_wire.specs.Msg.{Msg, nil, truth, whole, float32, float64}
+use Rattle.rmp_wire.specs.Msg.{nil, truth, whole, float32, float64}
 use Rattle.rmp_wire.specs.Sources.{IsShort}
 use Rattle.rmp_wire.specs.Spelling.{Spells, IsBytes}
 use Rattle.rmp_decode.specs.Content.{not_string}

@@ -1,4 +1,4 @@
-use Rattle.std.proofs.Common.{◌≡◌, refl}
+use Rattle.std.proofs.Common.{refl}
 use Rattle.rmp_wire.specs.declared.head.Head.TheVariants.{Text}
 use Rattle.rmp_decode.specs.Content.{not_string}
 use Rattle.rmp_decode.proofs.AnyReads.{no_text, short_text}
