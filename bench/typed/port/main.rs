@@ -5,6 +5,11 @@ mod loads;
 
 unsafe extern "C" {
     fn bench_encode_numbers(numbers: *const u32, count: usize, reps: u32) -> usize;
+    fn bench_encode_counted(numbers: *const u32, count: usize, reps: u32) -> usize;
+    fn bench_encode_uncounted(numbers: *const u32, count: usize, reps: u32) -> usize;
+    fn bench_encode_tuple(numbers: *const u32, count: usize, reps: u32) -> usize;
+    fn bench_encode_values(numbers: *const u32, count: usize, reps: u32) -> usize;
+    fn bench_encode_wire(numbers: *const u32, count: usize, reps: u32) -> usize;
     fn bench_encode_rows(numbers: *const u32, count: usize, reps: u32) -> usize;
     fn bench_encode_texts(data: *const u8, count: usize, reps: u32) -> usize;
     fn bench_encode_entries(data: *const u8, count: usize, reps: u32) -> usize;
@@ -22,6 +27,11 @@ fn main() {
     // SAFETY: each export reads a slice, which it is given as a pointer and a length, and keeps nothing of it.
     loads::main(&loads::Calls {
         write_numbers: |n, reps| unsafe { bench_encode_numbers(n.as_ptr(), n.len(), reps) },
+        write_counted: |n, reps| unsafe { bench_encode_counted(n.as_ptr(), n.len(), reps) },
+        write_uncounted: |n, reps| unsafe { bench_encode_uncounted(n.as_ptr(), n.len(), reps) },
+        write_tuple: |n, reps| unsafe { bench_encode_tuple(n.as_ptr(), n.len(), reps) },
+        write_values: |n, reps| unsafe { bench_encode_values(n.as_ptr(), n.len(), reps) },
+        write_wire: |n, reps| unsafe { bench_encode_wire(n.as_ptr(), n.len(), reps) },
         write_rows: |n, reps| unsafe { bench_encode_rows(n.as_ptr(), n.len(), reps) },
         write_texts: |d, reps| unsafe { bench_encode_texts(d.as_ptr(), d.len(), reps) },
         write_entries: |d, reps| unsafe { bench_encode_entries(d.as_ptr(), d.len(), reps) },

@@ -5,9 +5,11 @@
 #![tactic(auto)]
 
 mod entry;
+mod parts;
 
 use entry::Entry;
-use rmp_encode::{Error, Serialize, write};
+use parts::{write_counted, write_tuple, write_uncounted, write_values, write_wire};
+use rmp_encode::{Error, Serialize, Serializer, write};
 use rmp_serde::{Value, from_slice};
 use rmp_wire::Bytes;
 use std::alloc::{AllocError, Global};
@@ -28,6 +30,71 @@ pub extern "C" fn bench_encode_numbers(alloc: Global, numbers: &[u32], reps: u32
         return 0;
     };
     rounds(alloc, &numbers, reps).unwrap_or(0)
+}
+
+/// Writes a list of numbers whose length is told, element by element.
+#[unsafe(no_mangle)]
+pub extern "C" fn bench_encode_counted(alloc: Global, numbers: &[u32], reps: u32) -> usize {
+    let mut se = Serializer::new(alloc, Vec::new(alloc));
+    for _ in 0..reps {
+        se.get_mut().clear();
+        if write_counted(&mut se, numbers).is_err() {
+            return 0;
+        }
+    }
+    se.get_ref().len()
+}
+
+/// Writes a list of numbers whose length isn't told, element by element.
+#[unsafe(no_mangle)]
+pub extern "C" fn bench_encode_uncounted(alloc: Global, numbers: &[u32], reps: u32) -> usize {
+    let mut se = Serializer::new(alloc, Vec::new(alloc));
+    for _ in 0..reps {
+        se.get_mut().clear();
+        if write_uncounted(&mut se, numbers).is_err() {
+            return 0;
+        }
+    }
+    se.get_ref().len()
+}
+
+/// Writes a list of numbers as a tuple, element by element.
+#[unsafe(no_mangle)]
+pub extern "C" fn bench_encode_tuple(alloc: Global, numbers: &[u32], reps: u32) -> usize {
+    let mut se = Serializer::new(alloc, Vec::new(alloc));
+    for _ in 0..reps {
+        se.get_mut().clear();
+        if write_tuple(&mut se, numbers).is_err() {
+            return 0;
+        }
+    }
+    se.get_ref().len()
+}
+
+/// Writes a list of numbers by the calls of single values, behind its head.
+#[unsafe(no_mangle)]
+pub extern "C" fn bench_encode_values(alloc: Global, numbers: &[u32], reps: u32) -> usize {
+    let mut se = Serializer::new(alloc, Vec::new(alloc));
+    for _ in 0..reps {
+        se.get_mut().clear();
+        if write_values(&mut se, numbers).is_err() {
+            return 0;
+        }
+    }
+    se.get_ref().len()
+}
+
+/// Writes a list of numbers by the wire's calls alone: its head, and each number.
+#[unsafe(no_mangle)]
+pub extern "C" fn bench_encode_wire(alloc: Global, numbers: &[u32], reps: u32) -> usize {
+    let mut out = Vec::new(alloc);
+    for _ in 0..reps {
+        out.clear();
+        if write_wire(&mut out, numbers).is_err() {
+            return 0;
+        }
+    }
+    out.len()
 }
 
 /// Writes a list of lists of ten numbers each.

@@ -1,8 +1,10 @@
 //! Measures the same loads over the original, the crate rmp-serde, written as crates/bench_encode and crates/bench_decode are.
 
+use rmp::encode::{write_array_len, write_uint};
+use rmp_serde::encode::Error;
 use rmp_serde::from_slice;
 use serde::de::{Deserializer, MapAccess, SeqAccess, Visitor};
-use serde::ser::{SerializeMap, Serializer};
+use serde::ser::{SerializeMap, SerializeSeq, SerializeTuple, Serializer};
 use serde::{Deserialize, Serialize};
 use serde_bytes::Bytes;
 use std::fmt;
@@ -13,6 +15,13 @@ mod loads;
 fn main() {
     loads::main(&loads::Calls {
         write_numbers: |numbers, reps| rounds(&numbers.to_vec(), reps),
+        write_counted: |numbers, reps| {
+            rounds_of(reps, |out| write_list(out, Some(numbers.len()), numbers))
+        },
+        write_uncounted: |numbers, reps| rounds_of(reps, |out| write_list(out, None, numbers)),
+        write_tuple: |numbers, reps| rounds_of(reps, |out| write_tuple(out, numbers)),
+        write_values: |numbers, reps| rounds_of(reps, |out| write_values(out, numbers)),
+        write_wire: |numbers, reps| rounds_of(reps, |out| write_wire(out, numbers)),
         write_rows,
         write_texts,
         write_entries,
@@ -40,6 +49,53 @@ fn rounds<T: Serialize>(value: &T, reps: u32) -> usize {
         }
     }
     out.len()
+}
+
+#[inline(never)]
+fn rounds_of(reps: u32, write: impl Fn(&mut Vec<u8>) -> Result<(), Error>) -> usize {
+    let mut out = Vec::new();
+    for _ in 0..reps {
+        out.clear();
+        if write(&mut out).is_err() {
+            return 0;
+        }
+    }
+    out.len()
+}
+
+fn write_list(out: &mut Vec<u8>, len: Option<usize>, numbers: &[u32]) -> Result<(), Error> {
+    let mut serializer = rmp_serde::Serializer::new(out);
+    let mut seq = serializer.serialize_seq(len)?;
+    for n in numbers {
+        seq.serialize_element(n)?;
+    }
+    SerializeSeq::end(seq)
+}
+
+fn write_tuple(out: &mut Vec<u8>, numbers: &[u32]) -> Result<(), Error> {
+    let mut serializer = rmp_serde::Serializer::new(out);
+    let mut tuple = serializer.serialize_tuple(numbers.len())?;
+    for n in numbers {
+        tuple.serialize_element(n)?;
+    }
+    tuple.end()
+}
+
+fn write_values(out: &mut Vec<u8>, numbers: &[u32]) -> Result<(), Error> {
+    let mut serializer = rmp_serde::Serializer::new(out);
+    write_array_len(serializer.get_mut(), numbers.len() as u32)?;
+    for n in numbers {
+        serializer.serialize_u32(*n)?;
+    }
+    Ok(())
+}
+
+fn write_wire(out: &mut Vec<u8>, numbers: &[u32]) -> Result<(), Error> {
+    write_array_len(out, numbers.len() as u32)?;
+    for n in numbers {
+        write_uint(out, (*n).into())?;
+    }
+    Ok(())
 }
 
 fn write_rows(numbers: &[u32], reps: u32) -> usize {
