@@ -105,10 +105,10 @@ impl Random {
         (self.next() >> 32) % n
     }
 
-    /// So many numbers, each of the width that is picked for it.
-    pub fn numbers(&mut self, count: usize, pick: fn(&mut Random) -> u64) -> Vec<u64> {
+    /// So many numbers, each of the width that is picked by a number of 32 bits.
+    pub fn numbers(&mut self, count: usize, pick: fn(u64) -> u64) -> Vec<u64> {
         let number = |_| {
-            let width = pick(self);
+            let width = pick(self.next() >> 32);
             number_of_width(width, self.next())
         };
         (0..count).map(number).collect()

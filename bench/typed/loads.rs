@@ -108,7 +108,7 @@ fn spelled_mixture(count: usize, random: &mut Random) -> Vec<u8> {
 }
 
 /// A million numbers of up to 32 bits.
-fn million(random: &mut Random, pick: fn(&mut Random) -> u64) -> Vec<u32> {
+fn million(random: &mut Random, pick: fn(u64) -> u64) -> Vec<u32> {
     let numbers = random.numbers(1_000_000, pick);
     numbers.into_iter().map(|n| n as u32).collect()
 }
@@ -116,7 +116,7 @@ fn million(random: &mut Random, pick: fn(&mut Random) -> u64) -> Vec<u32> {
 fn loads() -> Vec<Load<Calls>> {
     let mut random = Random::new();
     let small = million(&mut random, |_| 0);
-    let mixed = million(&mut random, |random| random.below(4));
+    let mixed = million(&mut random, |r| r % 4);
     let wide = million(&mut random, |_| 3);
     let texts: Vec<u8> = (b'0'..=b'9').cycle().take(1_000_000).collect();
     let entries: Vec<u8> = (0..100_000)

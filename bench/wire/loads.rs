@@ -56,7 +56,7 @@ fn spelled(numbers: &[u64]) -> Vec<u8> {
 fn loads() -> Vec<Load<Calls>> {
     let mut random = Random::new();
     let small = random.numbers(COUNT, |_| 0);
-    let mixed = random.numbers(COUNT, |random| random.below(5));
+    let mixed = random.numbers(COUNT, |r| r % 5);
     let wide = random.numbers(COUNT, |_| 4);
     let kinds = (0..COUNT).map(|_| KINDS[random.below(KINDS.len() as u64) as usize]);
     let (kinds, said): (Vec<&[u8]>, Vec<u64>) = kinds.unzip();
