@@ -1,4 +1,6 @@
 //! Why the rows weren't read to their end.
+ghost use Rattle.std.specs.Prelude.{◌≡◌};
+
 use std::alloc::{AllocError, AllocFailed};
 use std::io;
 use thiserror::Error;
@@ -16,18 +18,30 @@ pub enum Fault {
 }
 
 impl From<io::Error> for Fault {
+    ghost use Rattle.read_samples.specs.declared.fault.Fault.TheVariants.{Io};
+
+    ghost from_gives = { λ _ fault. fault ≡ Io };
+
     fn from(_e: io::Error) -> Fault {
         Fault::Io
     }
 }
 
 impl From<AllocError> for Fault {
+    ghost use Rattle.read_samples.specs.declared.fault.Fault.TheVariants.{Memory};
+
+    ghost from_gives = { λ _ fault. fault ≡ Memory };
+
     fn from(_e: AllocError) -> Fault {
         Fault::Memory
     }
 }
 
 impl<T: Drop> From<AllocFailed<T>> for Fault {
+    ghost use Rattle.read_samples.specs.declared.fault.Fault.TheVariants.{Memory};
+
+    ghost from_gives = { λ _ fault. fault ≡ Memory };
+
     fn from(_e: AllocFailed<T>) -> Fault {
         Fault::Memory
     }
