@@ -1,4 +1,6 @@
 //! Why the sample couldn't be printed.
+ghost use Rattle.std.specs.Prelude.{◌≡◌};
+
 use rmp_serde::{decode, encode};
 use std::alloc::{AllocError, AllocFailed};
 use std::io;
@@ -19,6 +21,10 @@ pub enum Fault {
 }
 
 impl From<encode::Error> for Fault {
+    ghost use Rattle.typed_samples.specs.Faults.{fault_of};
+
+    ghost from_gives = { λ e fault. fault ≡ fault_of e };
+
     fn from(e: encode::Error) -> Fault {
         match e {
             encode::Error::OutOfMemory => Fault::Memory,
@@ -37,18 +43,30 @@ impl From<decode::Error> for Fault {
 }
 
 impl From<io::Error> for Fault {
+    ghost use Rattle.typed_samples.specs.declared.fault.Fault.TheVariants.{Output};
+
+    ghost from_gives = { λ _ fault. fault ≡ Output };
+
     fn from(_e: io::Error) -> Fault {
         Fault::Output
     }
 }
 
 impl From<AllocError> for Fault {
+    ghost use Rattle.typed_samples.specs.declared.fault.Fault.TheVariants.{Memory};
+
+    ghost from_gives = { λ _ fault. fault ≡ Memory };
+
     fn from(_e: AllocError) -> Fault {
         Fault::Memory
     }
 }
 
 impl<T: Drop> From<AllocFailed<T>> for Fault {
+    ghost use Rattle.typed_samples.specs.declared.fault.Fault.TheVariants.{Memory};
+
+    ghost from_gives = { λ _ fault. fault ≡ Memory };
+
     fn from(_e: AllocFailed<T>) -> Fault {
         Fault::Memory
     }
