@@ -1,9 +1,9 @@
 //! Sources that answer whole pieces of their bytes, lent where they can be.
-ghost use Rattle.std.specs.Prelude.{◌≡◌, ℕ, Bool, true, false, Option, Some, IfOk, IfSome, OnErr, MatchOption, length, ◌<◌, ◌++◌};
+ghost use Rattle.std.specs.Prelude.{◌≡◌, ℕ, Bool, true, false, Option, Some, IfOk, IfSome, IsTrue, OnErr, MatchOption, length, ◌<◌, ◌++◌};
 ghost use Rattle.std.specs.Borrow.{sem};
 ghost use Rattle.std.specs.Io.BufRead.{Rests};
 ghost use Rattle.rmp_wire.specs.Slices.{reference_bytes, is_lent, SliceRead};
-ghost use Rattle.rmp_wire.specs.Sources.{Takes, TakesInto};
+ghost use Rattle.rmp_wire.specs.Sources.{IsFront, Skips, Takes, TakesInto};
 ghost use Rattle.rmp_wire.specs.Spelling.{IsBytes};
 
 #[cfg(test)]
@@ -112,13 +112,20 @@ impl<'a> Source for ReadRefReader<'a> {
     }
 
     #[inline(always)]
-    fn front(&self) -> &[u8] {
-        self.rest
+    fn front(&self) -> &[u8]
+        ensures bytes { IsFront result.now (Some (rest_of self.now)) }
+        ensures all { result.now ≡ rest_of self.now }
+    {
+        self.rest.front()
     }
 
     #[inline(always)]
-    fn skip(&mut self, len: usize) -> bool {
-        Source::skip(&mut self.rest, len)
+    fn skip(&mut self, len: usize) -> bool
+        ensures bytes { IsTrue result → Skips len (Some (rest_of self.old)) (Some (rest_of self.new)) }
+        ensures short { result ≡ false → length (rest_of self.old) < len }
+        ensures kept { result ≡ false → self.new ≡ self.old }
+    {
+        self.rest.skip(len)
     }
 
     #[inline(always)]

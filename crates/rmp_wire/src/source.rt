@@ -177,12 +177,19 @@ impl Source for &[u8] {
     }
 
     #[inline(always)]
-    fn front(&self) -> &[u8] {
+    fn front(&self) -> &[u8]
+        ensures bytes { IsFront result.now (Some self.now.now) }
+        ensures all { result.now ≡ self.now.now }
+    {
         *self
     }
 
     #[inline(always)]
-    fn skip(&mut self, len: usize) -> bool {
+    fn skip(&mut self, len: usize) -> bool
+        ensures bytes { IsTrue result → Skips len (Some self.old.now) (Some self.new.now) }
+        ensures short { result ≡ false → length self.old.now < len }
+        ensures kept { result ≡ false → self.new ≡ self.old }
+    {
         let all: &[u8] = *self;
         if len > all.len() {
             return false;
