@@ -10,7 +10,7 @@ ghost use Rattle.mpcanon.specs.Refusals.{refusal_text};
 
 use crate::tree_text::{write_hex, write_tree};
 use hex::FromHexError;
-use rmp_decode::{Deserialize, Deserializer, Error};
+use rmp_decode::{Deserializer, Error};
 use rmp_serde::wire::{Sink, Source, ValueWriteError};
 use rmp_serde::{Value, to_vec};
 use std::alloc::{AllocError, AllocFailed, Global};
@@ -209,7 +209,7 @@ fn run_messages<W: Sink>(alloc: Global, bytes: &[u8], sink: &mut W) -> Result<bo
     let mut de = Deserializer::from_read_ref(alloc, bytes);
     while !de.remaining_slice().is_empty() {
         let place = bytes.len() - de.remaining_slice().len();
-        match Value::deserialize(&mut de) {
+        match Value::read(&mut de) {
             Ok(value) => print_line(sink, text_of_owned(alloc, value)?)?,
             Err(error) => return refuse_message(alloc, sink, place, error),
         }
@@ -252,8 +252,9 @@ fn run_lines<W: Sink>(alloc: Global, input: &[u8], sink: &mut W) -> Result<bool,
 /// Prints what each line of the input comes to, and says whether nothing was refused.
 ///
 /// A line ends at a line feed, and the last one may lack it. One carriage return at a line's end is dropped, and spaces
-/// and tabs anywhere. A line that is then empty prints nothing; the rest is read as hex, and its first message as a
-/// value. The source is read to its end before the first line is printed, and each line is one piece for the sink.
+/// and tabs anywhere. A line that is then empty prints nothing; the rest is read as hex, and its messages as values: each
+/// prints a line, and the first that is refused prints where it stands, and the name of the error that says what is wrong
+/// there first. The source is read to its end before the first line is printed, and each line is one piece for the sink.
 ///
 /// # Errors
 /// `Input` at the source's first fault, and nothing is printed then. `Output` at the sink's first fault. `Memory` where

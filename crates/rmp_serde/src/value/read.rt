@@ -19,9 +19,7 @@ use std::alloc::Global;
 /// Reads a message of any kind whose texts are UTF-8. The content of texts, bytes and extensions is taken by `P`.
 ///
 /// # Errors
-/// That of the first thing that is wrong: `InvalidMarkerRead` where the input ends before a message that is wanted,
-/// `InvalidDataRead` where it ends inside of a head or of content, `TypeMismatch` at the byte c1, `Utf8Error` at a text that isn't
-/// UTF-8, and `DepthLimitExceeded` at a list or map that would nest too deep. `OutOfMemory` at any place.
+/// As `Value::read`.
 #[cycle(reading)]
 pub fn read_value<R: Source, C: SerializerConfig, P: ReadContent<R>>(
     de: &mut Deserializer<R, C>,
@@ -179,7 +177,7 @@ impl Value {
     /// says of each refusal what is wrong, and where.
     ///
     /// # Errors
-    /// As `read_value`.
+    /// As `read`.
     pub fn from_slice<'de>(alloc: Global, input: &'de [u8]) -> Result<Value, Error>
         // A beginning of the input spells the value, which nests below the limit; its texts are UTF-8.
         ensures ok { IfOk result (λ v. Begins Spells (λ m. reads_value m v) 1024 input.now) }
@@ -191,6 +189,21 @@ impl Value {
         let mut de = Deserializer::from_read_ref(alloc, input);
         read_value::<ReadRefReader<'de>, DefaultConfig, Slices<'de>>(&mut de)
     }
+
+    /// Reads the next value. It does the same as `deserialize`, and says of each refusal what is wrong, and where.
+    ///
+    /// # Errors
+    /// That of the first thing that is wrong: `InvalidMarkerRead` where the input ends before a message that is wanted,
+    /// `InvalidDataRead` where it ends inside of a head or of content, `TypeMismatch` at the byte c1, `Utf8Error` at a text that
+    /// isn't UTF-8, and `DepthLimitExceeded` at a list or map that would nest too deep. `OutOfMemory` at any place.
+    pub fn read<'de, R: ReadSlice<'de>, C: SerializerConfig>(
+        de: &mut Deserializer<R, C>,
+    ) -> Result<Value, Error>
+        ensures law { Lawful R.Source reads_value de.old de.new result }
+        ensures refusal { IfErr result (RefusesValue R.Source de.old de.new) }
+    {
+        read_value::<R, C, Slices<'de>>(de)
+    }
 }
 
 impl<'de, R: ReadSlice<'de>> Deserialize<'de, R> for Value {
@@ -199,7 +212,7 @@ impl<'de, R: ReadSlice<'de>> Deserialize<'de, R> for Value {
     ghost absent = { None };
 
     fn deserialize<C: SerializerConfig>(de: &mut Deserializer<R, C>) -> Result<Value, Error> {
-        read_value::<R, C, Slices<'de>>(de)
+        Value::read(de)
     }
 
     fn missing() -> Option<Value> {
