@@ -1,5 +1,5 @@
 -- A type that reads messages of several kinds, from what an opening of any kind says.
-use Rattle.std.proofs.Common.{◌≡◌, ◌∙◌, sym, ap, subst, refl, ℕ, arith, List, [], ◌∷◌, ◌++◌, length, Option, None, Some, IfSome, Bool, true, false, Ok, Err, append_assoc}
+use Rattle.std.proofs.Common.{◌≡◌, ◌∙◌, sym, ap, subst, refl, ℕ, arith, List, ◌++◌, length, Option, None, Some, IfSome, Bool, true, false, Ok, Err, append_assoc}
 use Rattle.std.proofs.lemmas.List.{length-append}
 use Rattle.std.specs.Io.KnownBytes.{Consumes}
 use Rattle.std.specs.Prelude.{IsUtf8}
@@ -19,6 +19,7 @@ use Rattle.rmp_decode.specs.declared.de.Deserializer.{Deserializer}
 use Rattle.rmp_decode.specs.declared.de.any.RawAccess.{RawAccess}
 use Rattle.rmp_decode.specs.declared.de.seq.SeqAccess.{SeqAccess}
 use Rattle.rmp_decode.specs.declared.error.Error.{Error}
+use Rattle.rmp_decode.proofs.ContentErrors.{same_front}
 use Rattle.rmp_decode.proofs.Contents.{Content, text_content, content_read, content_short, content_refused}
 use Rattle.rmp_decode.proofs.Refusals.{refuses_narrower, same_head}
 use Rattle.rmp_decode.proofs.Rows.{in_list}
@@ -107,16 +108,6 @@ module _ {R C V : Type 0} {make : List ℕ → Msg} {heads : ℕ → Head} (cont
   raw_short e t = content_short content g reads old a.de.now last (o.marker, heads a.len) o.begun a.len e refl t.err (t.failed ∙ o.begun.failed) t.stays
 
 -- ---- texts
-
-same_front : (s t x y : List ℕ) → length s ≡ length t → s ++ x ≡ t ++ y → s ≡ t
-same_front [] [] x y l e = refl
-same_front [] (b ∷ t) x y l e = absurd (omega arith)
-same_front (a ∷ s) [] x y l e = absurd (omega arith)
-same_front (a ∷ s) (b ∷ t) x y l e =
-    let i : length s ≡ length t = omega arith in
-    let rest : s ++ x ≡ t ++ y = cc in
-    let u = same_front s t x y i rest in
-    cc
 
 -- the bytes that stand there aren't UTF-8
 pub no_text : (n : ℕ) (known k : Option (List ℕ)) (bytes : List ℕ) → Consumes known k bytes → length bytes ≡ n → (IsUtf8 bytes → ⊥) → StartsWithNoText n known

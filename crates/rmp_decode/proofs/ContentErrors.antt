@@ -95,8 +95,8 @@ module _ (wanted : Head → Type 0) (other : Marker → Head → Error) (refused
   -- no head stands at the front
   pub content_none : (known : Option (List ℕ)) (e : Error) → EndsExactly before after known e → RefusesContent wanted other refused before after known e
   unfolding RefusesContent EndsExactly
-  content_none None e s = λ _ _. tt
-  content_none (Some xs) e s = λ _ k. record {
+  content_none None e s = λ _. tt
+  content_none (Some xs) e s = λ k. record {
     others = λ m h t _. absurd ((s k).0 m h t);
     cut = λ h _ t. absurd ((s k).0 t.marker h t.stands);
     whole = λ h c _ t. absurd ((s k).0 t.marker h t.stands);
@@ -106,8 +106,8 @@ module _ (wanted : Head → Type 0) (other : Marker → Head → Error) (refused
   -- another one does
   pub content_other : (known : Option (List ℕ)) (m : Marker) (h : Head) (e : Error) → IfSome known (Stands m h) → (wanted h → ⊥) → e ≡ other m h → RefusesContent wanted other refused before after known e
   unfolding RefusesContent
-  content_other None m h e s f q = λ _ _. tt
-  content_other (Some xs) m h e s f q = λ _ _. record {
+  content_other None m h e s f q = λ _. tt
+  content_other (Some xs) m h e s f q = λ _. record {
     others = λ n k t _. let u = stand_once n m k h xs t s in q ∙ ap (λ z. other z h) (sym u.0) ∙ ap (other n) (sym u.1);
     cut = λ k w t. absurd (f (subst wanted (stand_once t.marker m k h xs t.stands s).1 w));
     whole = λ k c w t. absurd (f (subst wanted (stand_once t.marker m k h xs t.stands s).1 w));
@@ -117,18 +117,19 @@ module _ (wanted : Head → Type 0) (other : Marker → Head → Error) (refused
   -- a wanted one does, and what is behind it is refused
   pub content_behind : (known k : Option (List ℕ)) (b : List ℕ) (m : Marker) (h : Head) (e : Error) → Consumes known k b → IsHead h b → IfSome known (Stands m h) → wanted h → Explains e before after (RefusesPiece (content_len h) (refused h) k e) → RefusesContent wanted other refused before after known e
   unfolding RefusesContent RefusesPiece
-  content_behind None k b m h e c i s w r = λ _ _. tt
+  content_behind None k b m h e c i s w r = λ _. tt
   content_behind (Some xs) None b m h e c i s w r = absurd c
-  content_behind (Some xs) (Some ys) b m h e c i s w r = λ n q.
-      let p = r n q in
+  content_behind (Some xs) (Some ys) b m h e c i s w r = λ q.
       record {
         others = λ m' h' t f. absurd (f (subst wanted (stand_once m m' h h' xs s t).1 w));
-        cut = λ h' _ t.
+        cut = λ h' _ t n.
+            let p = r n q in
             let t0 = t.stands in
             let short = t.short in
             let u = heads_apart h' h (t0.byte ∷ t0.behind) b t0.rest ys t0.is_head i (sym t0.front ∙ c) in
             p.cut (omega (arith, short, ap content_len u.0, ap length u.2));
-        whole = λ h' s' _ t.
+        whole = λ h' s' _ t n.
+            let p = r n q in
             let t0 = t.stands in
             let u = heads_apart h' h (t0.byte ∷ t0.behind) b t0.rest ys t0.is_head i (sym t0.front ∙ c) in
             subst (λ z. refused z s' e) (sym u.0) (p.whole s' t.behind (sym u.2 ∙ t.content) (t.long ∙ ap content_len u.0));
@@ -138,11 +139,11 @@ module _ (wanted : Head → Type 0) (other : Marker → Head → Error) (refused
   -- a wanted one does that has no content of its own
   pub content_apart : (known : Option (List ℕ)) (m : Marker) (h k : Head) (e : Error) → IfSome known (Stands m h) → h ≡ k → content_len k ≡ 0 → wanted k → ((s : List ℕ) → refused k s e) → RefusesContent wanted other refused before after known e
   unfolding RefusesContent
-  content_apart None m h k e s i z w f = λ _ _. tt
-  content_apart (Some xs) m h k e s i z w f = λ _ _. record {
+  content_apart None m h k e s i z w f = λ _. tt
+  content_apart (Some xs) m h k e s i z w f = λ _. record {
     others = λ n j t n0. absurd (n0 (subst wanted (sym i ∙ sym (stand_once n m j h xs t s).1) w));
     cut = λ j _ t. absurd (let short = t.short in let u = (stand_once t.marker m j h xs t.stands s).1 ∙ i in omega (arith, short, z, ap content_len u));
-    whole = λ j c _ t. subst (λ y. refused y c e) (sym ((stand_once t.marker m j h xs t.stands s).1 ∙ i)) (f c);
+    whole = λ j c _ t _. subst (λ y. refused y c e) (sym ((stand_once t.marker m j h xs t.stands s).1 ∙ i)) (f c);
     ends = λ none. absurd (none m h s);
   }
 
@@ -150,8 +151,8 @@ module _ (wanted : Head → Type 0) (other : Marker → Head → Error) (refused
 pub content_wider : (wanted : Head → Type 0) (other : Marker → Head → Error) (refused wider : Head → List ℕ → Error → Type 0) (before after : ℕ) (known : Option (List ℕ)) (e : Error) → ((h : Head) (s : List ℕ) → wanted h → refused h s e → wider h s e)
     → RefusesContent wanted other refused before after known e → RefusesContent wanted other wider before after known e
 unfolding RefusesContent
-content_wider wanted other refused wider before after None e f r = λ _ _. tt
-content_wider wanted other refused wider before after (Some xs) e f r = λ n k. let x = r n k in record { others = x.others; cut = x.cut; whole = λ h s w t. f h s w (x.whole h s w t); ends = x.ends }
+content_wider wanted other refused wider before after None e f r = λ _. tt
+content_wider wanted other refused wider before after (Some xs) e f r = λ k. let x = r k in record { others = x.others; cut = x.cut; whole = λ h s w t n. f h s w (x.whole h s w t n); ends = x.ends }
 
 -- a head's first byte
 some_byte : (b : List ℕ) → 0 < length b → (x : ℕ) × (y : List ℕ) × (b ≡ x ∷ y)

@@ -1,16 +1,16 @@
 -- Which error a read answers that wants a head and the content behind it, by what stands at the front of the bytes.
-use Rattle.std.specs.Prelude.{◌≡◌, ◌<◌, ℕ, Bool, true, false, List, ◌++◌, length, Option, IfSome, Ok, IsUtf8}
+use Rattle.std.specs.Prelude.{◌≡◌, ◌≢◌, ◌<◌, ℕ, Bool, true, false, List, ◌++◌, length, Option, IfSome, Ok, IsUtf8}
 use Rattle.rmp_wire.specs.declared.head.Head.{Head}
 use Rattle.rmp_wire.specs.declared.head.Head.TheVariants.{Text, Bin, Array, Ext}
 use Rattle.rmp_wire.specs.declared.marker.Marker.{Marker}
 use Rattle.rmp_wire.specs.declared.source.Source.{Ghosts}
 use Rattle.rmp_decode.specs.Exact.{Stands, NoneStands, Ends, IsDataEnd, IsUtf8Error}
 use Rattle.rmp_decode.specs.Kinds.{content_len}
-use Rattle.rmp_decode.specs.Law.{Explains, ReadsHead}
+use Rattle.rmp_decode.specs.Law.{ReadsHead}
 use Rattle.rmp_decode.specs.State.{left, faults_of}
 use Rattle.rmp_decode.specs.declared.de.Deserializer.{Deserializer}
 use Rattle.rmp_decode.specs.declared.error.Error.{Error}
-use Rattle.rmp_decode.specs.declared.error.Error.TheVariants.{DepthLimitExceeded, Syntax, TypeMismatch}
+use Rattle.rmp_decode.specs.declared.error.Error.TheVariants.{DepthLimitExceeded, OutOfMemory, Syntax, TypeMismatch}
 use Rattle.rmp_decode.specs.declared.text.Text.TheVariants.{InvalidType, InvalidValue}
 
 -- the head stands at the front, and behind it fewer bytes than it says
@@ -27,16 +27,16 @@ pub record StandsWhole (h : Head) (s xs : List ℕ) : Type 0 where
   pub content : stands.rest ≡ s ++ behind
   pub long : length s ≡ content_len h
 
--- The error is the one for a head that isn't wanted, says that the input ended within the content of one that is, is the one for that content where it is whole, or says why no head stands at the front.
+-- The error is the one for a head that isn't wanted, says that the input ended within the content of one that is, is the one for that content where it is whole, or says why no head stands at the front. Where content is wanted memory may be short instead, and nowhere else.
 pub record ExactOfContent (wanted : Head → Type 0) (other : Marker → Head → Error) (refused : Head → List ℕ → Error → Type 0) (xs : List ℕ) (e : Error) : Type 0 where
   pub others : (m : Marker) (h : Head) → Stands m h xs → (wanted h → ⊥) → e ≡ other m h
-  pub cut : (h : Head) → wanted h → StandsCut h xs → IsDataEnd e
-  pub whole : (h : Head) (s : List ℕ) → wanted h → StandsWhole h s xs → refused h s e
+  pub cut : (h : Head) → wanted h → StandsCut h xs → e ≢ OutOfMemory → IsDataEnd e
+  pub whole : (h : Head) (s : List ℕ) → wanted h → StandsWhole h s xs → e ≢ OutOfMemory → refused h s e
   pub ends : NoneStands xs → Ends xs e
 
--- Exactly which error it is, unless memory was short or the source had a fault (it counts them: before, after), where the bytes are told.
+-- Exactly which error it is, where the bytes are told and the source had no fault (it counts them: before, after).
 unfoldable pub RefusesContent : (Head → Type 0) → (Marker → Head → Error) → (Head → List ℕ → Error → Type 0) → ℕ → ℕ → Option (List ℕ) → Error → Type 0
-RefusesContent wanted other refused before after known e = Explains e before after (IfSome known (λ xs. ExactOfContent wanted other refused xs e))
+RefusesContent wanted other refused before after known e = after ≡ before → IfSome known (λ xs. ExactOfContent wanted other refused xs e)
 
 -- the same of the rest of a read, whose beginning took this head
 abbrev pub RefusesBehind : {R C : Type 0} → Ghosts R → (Head → Type 0) → (Marker → Head → Error) → (Head → List ℕ → Error → Type 0) → Head → Deserializer R C → Deserializer R C → Error → Type 0
