@@ -43,6 +43,7 @@ module _ {R C : Type 0} (g : Ghosts R) (old new : Deserializer R C) where
           sound = sound;
           err = λ _. tt;
           ends = λ _. tt;
+          memory = tt;
           failed = failed;
           before = λ f. absurd cc;
           stays = record { config = config; room = room; place = place };

@@ -1,9 +1,10 @@
 -- What the beginning of a read takes, with or without something kept back.
-use Rattle.std.proofs.Common.{◌≡◌, sym, ap, subst, refl, ℕ, ℤ, pos, ◌<◌, ◌≤◌, arith, List, [], ◌∷◌, Option, None, Some, true, false, Ok, Err}
+use Rattle.std.proofs.Common.{◌≡◌, ◌∙◌, sym, ap, subst, refl, ℕ, ℤ, pos, ◌<◌, ◌≤◌, arith, List, [], ◌∷◌, Option, None, Some, true, false, Ok, Err}
 use Rattle.std.specs.Io.KnownBytes.{Consumes, prepend_known}
 use Rattle.std.proofs.KnownBytes.{Consumes-trans}
 use Rattle.std.proofs.lemmas.List.{append-nil}
 use Rattle.rmp_wire.specs.declared.error.ValueReadError.{ValueReadError}
+use Rattle.rmp_wire.specs.declared.error.ValueReadError.TheVariants as wire
 use Rattle.rmp_wire.specs.declared.head.Head.{Head}
 use Rattle.rmp_wire.specs.declared.head.Head.TheVariants.{Whole}
 use Rattle.rmp_wire.specs.declared.marker.Marker.{Marker}
@@ -20,6 +21,7 @@ use Rattle.rmp_decode.specs.State.{left}
 use Rattle.rmp_decode.specs.declared.de.Deserializer.{Deserializer}
 use Rattle.rmp_decode.specs.declared.de.Kept.TheVariants.{Nothing, First, Number}
 use Rattle.rmp_decode.specs.declared.error.Error.{Error}
+use Rattle.rmp_decode.specs.declared.error.Error.TheVariants.{OutOfMemory}
 use Rattle.rmp_decode.proofs.Contents.{bare}
 use Rattle.rmp_decode.proofs.Exactness.{stands_known, number_stands, ends_none}
 use Rattle.rmp_decode.proofs.Refusals.{no_head}
@@ -32,6 +34,12 @@ pub fits_byte : (n : ℕ) → n < 256 → fits_head (Whole (pos n))
 unfolding fits_head
 fits_byte n h = omega arith
 
+-- no error of the wire is want of memory
+no_memory : (e : ValueReadError) → error_of e ≡ OutOfMemory → ⊥
+no_memory (wire.InvalidMarkerRead fault) q = absurd cc
+no_memory (wire.InvalidDataRead fault) q = absurd cc
+no_memory (wire.TypeMismatch marker) q = absurd cc
+
 module _ {R C : Type 0} (g : Ghosts R) (old new : Deserializer R C) (fresh : old.failed ≡ false) (failed : new.failed ≡ true) (clean : new.kept ≡ Nothing) (config : new.config ≡ old.config) (room : new.room ≡ old.room) where
   -- nothing was kept back, and a head was taken
   pub head_next : (p : Marker × Head) → old.kept ≡ Nothing → ReadsNext g old.reader new.reader (Ok p) → ReadsHead g old new (Ok p)
@@ -43,6 +51,7 @@ module _ {R C : Type 0} (g : Ghosts R) (old new : Deserializer R C) (fresh : old
     sound = r.sound;
     err = λ _. tt;
     ends = λ _. tt;
+    memory = tt;
     failed = failed;
     before = λ f. absurd cc;
     stays = record { config = config; room = room; place = r.place };
@@ -57,6 +66,7 @@ module _ {R C : Type 0} (g : Ghosts R) (old new : Deserializer R C) (fresh : old
     sound = tt;
     err = λ o n q. no_head (left g old) (rw (bare g old k) (r.err.none q));
     ends = λ o. rw (bare g old k, i) (ends_none (g.ahead old.reader) (g.ahead new.reader) _ _ e r.err);
+    memory = λ m. no_memory e (sym i ∙ m);
     failed = failed;
     before = λ f. absurd cc;
     stays = record { config = config; room = room; place = r.place };
@@ -77,6 +87,7 @@ module _ {R C : Type 0} (g : Ghosts R) (old new : Deserializer R C) (fresh : old
     sound = r.sound;
     err = λ _. tt;
     ends = λ _. tt;
+    memory = tt;
     failed = failed;
     before = λ f. absurd cc;
     stays = record { config = config; room = room; place = r.place };
@@ -91,6 +102,7 @@ module _ {R C : Type 0} (g : Ghosts R) (old new : Deserializer R C) (fresh : old
     sound = tt;
     err = λ o n q. no_head (left g old) (rw k (fails.none q));
     ends = λ o. rw (k, i) (ends_none (prepend_known (b ∷ []) (g.ahead old.reader)) (g.ahead new.reader) _ _ e fails);
+    memory = λ m. no_memory e (sym i ∙ m);
     failed = failed;
     before = λ f. absurd cc;
     stays = record { config = config; room = room; place = r.place };
@@ -114,6 +126,7 @@ module _ {R C : Type 0} (g : Ghosts R) (old new : Deserializer R C) (fresh : old
     sound = ap g.faults q;
     err = λ _. tt;
     ends = λ _. tt;
+    memory = tt;
     failed = failed;
     before = λ f. absurd cc;
     stays = record { config = config; room = room; place = ap g.place q };

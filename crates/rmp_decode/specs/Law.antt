@@ -91,6 +91,8 @@ pub record ReadsHead {R C : Type 0} (g : Ghosts R) (old new : Deserializer R C) 
   pub sound : OnOk result (faults_of g new ≡ faults_of g old)
   pub err : old.failed ≡ false → IfErr result (λ e. Explains e (faults_of g old) (faults_of g new) (NoMessage (left g old)))
   pub ends : old.failed ≡ false → IfErr result (EndsExactly (faults_of g old) (faults_of g new) (left g old))
+  -- a head takes no memory
+  pub memory : IfErr result (λ e. e ≢ OutOfMemory)
   pub failed : new.failed ≡ true
   pub before : old.failed ≡ true → MatchResult result (λ _. ⊥) IsFailedBefore × (new ≡ old)
   pub stays : Stays g old new

@@ -1,5 +1,5 @@
 //! Sources that answer whole pieces of their bytes, lent where they can be.
-ghost use Rattle.std.specs.Prelude.{◌≡◌, ℕ, Bool, true, false, Option, Some, IfOk, IfSome, IsTrue, OnErr, MatchOption, length, ◌<◌, ◌++◌};
+ghost use Rattle.std.specs.Prelude.{◌≡◌, ◌≢◌, ℕ, Bool, true, false, Option, Some, IfOk, IfErr, IfSome, IsTrue, OnErr, MatchOption, length, ◌<◌, ◌++◌};
 ghost use Rattle.std.specs.Borrow.{sem};
 ghost use Rattle.std.specs.Io.BufRead.{Rests};
 ghost use Rattle.rmp_wire.specs.Slices.{reference_bytes, is_lent, SliceRead};
@@ -47,8 +47,9 @@ pub trait ReadSlice<'de>: Source {
     ghost use Rattle.std.specs.Prelude.{Result};
     ghost use Rattle.rmp_wire.specs.declared.slice.Reference.{Reference};
     ghost use Rattle.rmp_wire.specs.declared.slice.SourceFault.{SourceFault};
+    ghost use Rattle.rmp_wire.specs.declared.slice.SourceFault.TheVariants.{Memory};
 
-    // Whether it lends its bytes.
+    // Whether it lends its bytes. One that does takes no memory.
     ghost lends: { Bool };
 
     // What else a call with this count leaves, beside what is said of every source.
@@ -63,7 +64,8 @@ pub trait ReadSlice<'de>: Source {
             × leaves self.old new len result × (Self.place new ≡ Self.place self.old))) }
         ensures count { IfOk result (λ r. length (reference_bytes r) ≡ len) }
         ensures bytes { IfOk result (λ r. IsBytes (reference_bytes r)) }
-        ensures kind { IfOk result (λ r. is_lent r ≡ lends) };
+        ensures kind { IfOk result (λ r. is_lent r ≡ lends) }
+        ensures memory { lends ≡ true → IfErr result (λ e. e ≢ Memory) };
 }
 
 /// Lends parts of a slice for as long as the slice lies in memory.

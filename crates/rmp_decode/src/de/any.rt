@@ -1,5 +1,5 @@
 //! A message of any kind.
-ghost use Rattle.std.specs.Prelude.{◌≡◌, ◌<◌, false, true, ℕ, Bool, Ok, IfOk, IfErr};
+ghost use Rattle.std.specs.Prelude.{◌≡◌, ◌≢◌, ◌<◌, false, true, ℕ, Bool, Ok, IfOk, IfErr};
 ghost use Rattle.std.specs.Borrow.{sem, RestsIfErr};
 ghost use Rattle.std.specs.String.{string_bytes};
 ghost use Rattle.rmp_decode.specs.contracts.de.Deserializer.{the_row};
@@ -117,7 +117,7 @@ impl<'x, R: Source, C: SerializerConfig> RawAccess<'x, R, C> {
         }
     }
 
-    /// Lends the bytes for the input's whole life.
+    /// Lends the bytes for the input's whole life, without memory.
     ///
     /// # Errors
     /// `InvalidDataRead` where they end too soon or the source failed, and `Syntax("invalid type")` where it doesn't lend.
@@ -128,6 +128,7 @@ impl<'x, R: Source, C: SerializerConfig> RawAccess<'x, R, C> {
         ensures lends { IfOk result (λ _. R.lends ≡ true) }
         ensures ok { IfOk result (λ s. TakesContent R.Source (raw_len self.entry) (raw_lender self.entry) self.exit.0.now s.now) }
         ensures err { R.lends ≡ true → IfErr result (FailsContent R.Source (raw_len self.entry) (raw_lender self.entry) self.exit.0.now) }
+        ensures memory { R.lends ≡ true → IfErr result (λ e. e ≢ Error.OutOfMemory) }
         ensures copies { R.lends ≡ false → IfErr result (λ _. is_failed self.exit.0.now ≡ is_failed (raw_lender self.entry)) }
     {
         let RawAccess { de, len, tag: _ } = self;

@@ -38,6 +38,7 @@ pub(crate) fn lent<'de, R: ReadSlice<'de>>(
     ensures sound { OnOk result (R.faults reader.new ≡ R.faults reader.old) }
     ensures err { IfErr result (λ e. Explains e (R.faults reader.old) (R.faults reader.new) (IsShort len (R.ahead reader.old))) }
     ensures end { IfErr result (λ e. Explains e (R.faults reader.old) (R.faults reader.new) (IsDataEnd e)) }
+    ensures memory { R.lends ≡ true → IfErr result (λ e. e ≢ Error.OutOfMemory) }
     ensures place { R.place reader.new ≡ R.place reader.old }
 {
     match reader.read_slice(len) {
@@ -74,6 +75,7 @@ pub(crate) fn lent_content<'de, R: ReadSlice<'de>>(
     ensures sound { OnOk result (R.faults reader.new ≡ R.faults reader.old) }
     ensures err { R.lends ≡ true → IfErr result (λ e. Explains e (R.faults reader.old) (R.faults reader.new) (IsShort len (R.ahead reader.old))) }
     ensures exact { IfErr result (λ e. Explains e (R.faults reader.old) (R.faults reader.new) (RefusesPiece len (not_bytes R.lends (raw_head is_text len)) (R.ahead reader.old) e)) }
+    ensures memory { R.lends ≡ true → IfErr result (λ e. e ≢ Error.OutOfMemory) }
     ensures place { R.place reader.new ≡ R.place reader.old }
 {
     match reader.read_slice(len) {
@@ -126,6 +128,7 @@ pub(crate) fn next_char<'de, R: ReadSlice<'de>>(reader: &mut R, len: usize) -> R
     ensures sound { OnOk result (R.faults reader.new ≡ R.faults reader.old) }
     ensures err { IfErr result (λ e. Explains e (R.faults reader.old) (R.faults reader.new) (StartsWithNoChar len (R.ahead reader.old))) }
     ensures exact { IfErr result (λ e. Explains e (R.faults reader.old) (R.faults reader.new) (RefusesPiece len (not_char (Head.Text len)) (R.ahead reader.old) e)) }
+    ensures memory { R.lends ≡ true → IfErr result (λ e. e ≢ Error.OutOfMemory) }
     ensures place { R.place reader.new ≡ R.place reader.old }
 {
     match reader.read_slice(len) {

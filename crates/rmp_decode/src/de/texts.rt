@@ -1,5 +1,5 @@
 //! Texts, characters and bytes.
-ghost use Rattle.std.specs.Prelude.{◌≡◌, true, false, None, IfErr};
+ghost use Rattle.std.specs.Prelude.{◌≡◌, ◌≢◌, true, false, None, IfErr};
 ghost use Rattle.std.specs.String.{string_bytes};
 ghost use Rattle.rmp_decode.specs.Content.{IsTextHead, IsRawHead, RefusesContent, not_raw, never_refused, not_char, not_string, not_str, not_bytes};
 ghost use Rattle.rmp_decode.specs.Exact.{IsUtf8Error};
@@ -38,6 +38,7 @@ impl<R: Source, C: SerializerConfig> Deserializer<R, C> {
         R: ReadSlice<'de>,
         ensures law { Lawful R.Source (λ m p. (R.lends ≡ true) × (m ≡ raw_msg p.0 p.1.now)) self.old self.new result }
         ensures exact { is_failed self.old ≡ false → IfErr result (RefusesContent IsRawHead not_raw (not_bytes R.lends) (faults_of R.Source self.old) (faults_of R.Source self.new) (left R.Source self.old)) }
+        ensures memory { R.lends ≡ true → IfErr result (λ e. e ≢ Error.OutOfMemory) }
     {
         match self.head() {
             Ok((_, head)) => match raw_in(head) {
@@ -87,6 +88,7 @@ impl<R: Source, C: SerializerConfig> Deserializer<R, C> {
         R: ReadSlice<'de>,
         ensures law { Lawful R.Source IsChar self.old self.new result }
         ensures exact { is_failed self.old ≡ false → IfErr result (RefusesContent IsTextHead not_raw not_char (faults_of R.Source self.old) (faults_of R.Source self.new) (left R.Source self.old)) }
+        ensures memory { R.lends ≡ true → IfErr result (λ e. e ≢ Error.OutOfMemory) }
     {
         match self.head() {
             Ok((_, head)) => match text_in(head) {
@@ -103,7 +105,7 @@ impl<R: Source, C: SerializerConfig> Deserializer<R, C> {
         }
     }
 
-    /// Reads the bytes of a text, which may be no UTF-8, or of bytes, and lends them for the input's whole life.
+    /// Reads the bytes of a text, which may be no UTF-8, or of bytes, and lends them for the input's whole life, without memory.
     ///
     /// # Errors
     /// Where the source doesn't lend, `Utf8Error` for a text that isn't UTF-8, and else `Syntax("invalid type")`.
@@ -113,6 +115,7 @@ impl<R: Source, C: SerializerConfig> Deserializer<R, C> {
         R: ReadSlice<'de>,
         ensures law { Lawful R.Source (λ m s. (R.lends ≡ true) × IsRaw m s.now) self.old self.new result }
         ensures exact { is_failed self.old ≡ false → IfErr result (RefusesContent IsRawHead not_raw (not_bytes R.lends) (faults_of R.Source self.old) (faults_of R.Source self.new) (left R.Source self.old)) }
+        ensures memory { R.lends ≡ true → IfErr result (λ e. e ≢ Error.OutOfMemory) }
     {
         match self.lent_raw() {
             Ok((_, bytes)) => Ok(bytes),
@@ -120,7 +123,7 @@ impl<R: Source, C: SerializerConfig> Deserializer<R, C> {
         }
     }
 
-    /// Reads a text, or bytes that are UTF-8, and lends it for the input's whole life.
+    /// Reads a text, or bytes that are UTF-8, and lends it for the input's whole life, without memory.
     ///
     /// # Errors
     /// `Utf8Error` for a text that isn't UTF-8, and `Syntax("invalid value")` for bytes that aren't. Where the source doesn't
@@ -131,6 +134,7 @@ impl<R: Source, C: SerializerConfig> Deserializer<R, C> {
         R: ReadSlice<'de>,
         ensures law { Lawful R.Source (λ m s. (R.lends ≡ true) × IsString m s.now) self.old self.new result }
         ensures exact { is_failed self.old ≡ false → IfErr result (RefusesContent IsRawHead not_raw (not_str R.lends) (faults_of R.Source self.old) (faults_of R.Source self.new) (left R.Source self.old)) }
+        ensures memory { R.lends ≡ true → IfErr result (λ e. e ≢ Error.OutOfMemory) }
     {
         match self.lent_raw() {
             Ok((is_text, bytes)) => match str::from_utf8(bytes) {
