@@ -20,9 +20,11 @@ pub mod Refusals
 pub mod Rows
 pub mod Seqs
 pub mod Sets
+pub mod SkipErrors
 pub mod Skipping
 pub mod Strings
 pub mod Texts
 pub mod Tuples
 pub mod Whole
 pub mod Withs
+pub mod Wrong

@@ -10,6 +10,7 @@ pub mod Parts
 pub mod Pieces
 pub mod Read
 pub mod ReadErrors
+pub mod Refuse
 pub mod Rows
 pub mod Seq
 pub mod Sets

@@ -1,6 +1,6 @@
 -- Why a value is refused, from what was taken before and what was refused then.
-use Rattle.std.proofs.Common.{◌≡◌, ◌∙◌, sym, ap, subst, refl, ℕ, suc, ◌+◌, ◌<◌, ◌⊎◌, inl, inr, max, arith, List, [], ◌∷◌, ◌++◌, length, take, drop, Option, Some, None, Bool, true, false, Result, Ok, Err}
-use Rattle.std.proofs.lemmas.Bool.{cases_eq, cases_lt}
+use Rattle.std.proofs.Common.{◌≡◌, ◌∙◌, sym, ap, subst, refl, ℕ, ◌+◌, ◌<◌, ◌⊎◌, inl, inr, max, arith, List, ◌++◌, length, take, drop, Option, Some, None, Bool, true, false, Result, Ok, Err}
+use Rattle.std.proofs.lemmas.Bool.{cases_lt}
 use Rattle.std.proofs.lemmas.List.{length-take-le, take-append-drop}
 use Rattle.std.specs.Borrow.{MutBor}
 use Rattle.std.specs.Fn.{FnOnceReturnsAtMut}
@@ -13,14 +13,14 @@ use Rattle.rmp_wire.specs.Heads.{IsHead}
 use Rattle.rmp_wire.specs.Msg.{Msg, Msgs, no_items, item, Pairs, no_pairs, pair, count, depth_all}
 use Rattle.rmp_wire.specs.Sources.{IsShort}
 use Rattle.rmp_wire.specs.Spelling.{Spells}
-use Rattle.rmp_wire.specs.Taking.{marker_of, take_head}
-use Rattle.rmp_wire.proofs.Heads.{take_head_takes}
-use Rattle.rmp_decode.specs.Anys.{RefusesAny, FailsToOpenAny, OpensAny, OpensRaw, FailsContent, FailsText}
+use Rattle.rmp_wire.specs.Taking.{marker_of}
+use Rattle.rmp_decode.specs.Anys.{FailsToOpenAny, OpensAny, OpensRaw, FailsContent, FailsText}
 use Rattle.rmp_decode.specs.Content.{not_string}
-use Rattle.rmp_decode.specs.Exact.{Stands, NoneStands, Ends, IsMarkerEnd, IsDataEnd, IsUtf8Error}
+use Rattle.rmp_decode.specs.Exact.{IsUtf8Error}
 use Rattle.rmp_decode.specs.Kinds.{content_len}
 use Rattle.rmp_decode.specs.Law.{Explains, Lawful}
 use Rattle.rmp_decode.specs.Maps.{OpensMap, map_inner, TakesKey}
+use Rattle.rmp_decode.specs.Refuse.{IsWrong, Refusal, here, RefusedFor}
 use Rattle.rmp_decode.specs.Seq.{SpellsRow, SpellsIn, seq_head, levels, Opens, inner_of}
 use Rattle.rmp_decode.specs.Skip.{parts_head, parts_count}
 use Rattle.rmp_decode.specs.Pieces.{RefusesPiece}
@@ -39,37 +39,27 @@ use Rattle.rmp_decode.proofs.MapWiths.{part_err, key_err}
 use Rattle.rmp_decode.proofs.Rows.{push}
 use Rattle.rmp_decode.proofs.Seqs.{Values}
 use Rattle.rmp_decode.proofs.Withs.{given_err}
+use Rattle.rmp_decode.proofs.Wrong.{wrong_data, wrong_any, wrong_content, wrong_row, wrong_nest, Front, front_of, stands}
 use Rattle.rmp_serde.proofs.ValueReading.{each_is, pairs_are, lent_law}
 use Rattle.rmp_serde.specs.Read.{AllTextsUtf8, ItemsUtf8, PairsUtf8, reads_value}
-use Rattle.rmp_serde.specs.Refuse.{HeadIsCut, ContentIsCut, TextIsInvalid, IsWrong, Refusal, here, inside, RefusedFor, RefusesValue, RefusesOpened}
+use Rattle.rmp_serde.specs.Refuse.{TextIsInvalid, IsWrongValue, RefusesValue, RefusesOpened}
 
 -- ---- what is wrong at the front
 
-wrong_marker : (room : ℕ) (e : Error) (xs : List ℕ) → xs ≡ [] → IsMarkerEnd e → IsWrong room e xs
-wrong_marker room (errors.InvalidMarkerRead x) xs z h = (h, z)
-wrong_marker room (errors.InvalidDataRead x) xs z h = absurd h
-wrong_marker room (errors.TypeMismatch m) xs z h = absurd h
-wrong_marker room errors.OutOfRange xs z h = absurd h
-wrong_marker room (errors.LengthMismatch n) xs z h = absurd h
-wrong_marker room (errors.Uncategorized n) xs z h = absurd h
-wrong_marker room (errors.Syntax n) xs z h = absurd h
-wrong_marker room (errors.Utf8Error n) xs z h = absurd h
-wrong_marker room errors.DepthLimitExceeded xs z h = absurd h
-wrong_marker room errors.OutOfMemory xs z h = absurd h
+-- what is wrong with any message is wrong with a value
+wider : (room : ℕ) (e : Error) (xs : List ℕ) → IsWrong room e xs → IsWrongValue room e xs
+wider room (errors.InvalidMarkerRead x) xs w = w
+wider room (errors.InvalidDataRead x) xs w = w
+wider room (errors.TypeMismatch m) xs w = w
+wider room errors.OutOfRange xs w = w
+wider room (errors.LengthMismatch n) xs w = w
+wider room (errors.Uncategorized n) xs w = w
+wider room (errors.Syntax n) xs w = w
+wider room (errors.Utf8Error n) xs w = absurd w
+wider room errors.DepthLimitExceeded xs w = w
+wider room errors.OutOfMemory xs w = w
 
-wrong_data : (room : ℕ) (e : Error) (xs : List ℕ) → HeadIsCut xs ⊎ ContentIsCut xs → IsDataEnd e → IsWrong room e xs
-wrong_data room (errors.InvalidMarkerRead x) xs c h = absurd h
-wrong_data room (errors.InvalidDataRead x) xs c h = (h, c)
-wrong_data room (errors.TypeMismatch m) xs c h = absurd h
-wrong_data room errors.OutOfRange xs c h = absurd h
-wrong_data room (errors.LengthMismatch n) xs c h = absurd h
-wrong_data room (errors.Uncategorized n) xs c h = absurd h
-wrong_data room (errors.Syntax n) xs c h = absurd h
-wrong_data room (errors.Utf8Error n) xs c h = absurd h
-wrong_data room errors.DepthLimitExceeded xs c h = absurd h
-wrong_data room errors.OutOfMemory xs c h = absurd h
-
-wrong_text : (room : ℕ) (e : Error) (xs : List ℕ) → TextIsInvalid xs → IsUtf8Error e → IsWrong room e xs
+wrong_text : (room : ℕ) (e : Error) (xs : List ℕ) → TextIsInvalid xs → IsUtf8Error e → IsWrongValue room e xs
 wrong_text room (errors.InvalidMarkerRead x) xs c h = absurd h
 wrong_text room (errors.InvalidDataRead x) xs c h = absurd h
 wrong_text room (errors.TypeMismatch m) xs c h = absurd h
@@ -81,65 +71,20 @@ wrong_text room (errors.Utf8Error n) xs c h = c
 wrong_text room errors.DepthLimitExceeded xs c h = absurd h
 wrong_text room errors.OutOfMemory xs c h = absurd h
 
-wrong_end : (room : ℕ) (e : Error) (xs : List ℕ) → NoneStands xs → Ends xs e → IsWrong room e xs
-wrong_end room e [] n h = wrong_marker room e [] refl h
-wrong_end room e (b ∷ xs) n h = elim (cases_eq b 0xc1) [
-  | inl same ↦ subst (λ z. IsWrong room z (b ∷ xs)) (sym (h.0 same)) (refl, record { behind = xs; front = ap (λ z. z ∷ xs) same })
-  | inr other ↦ wrong_data room e (b ∷ xs) (inl (record { byte = b; behind = xs; front = refl; opens = other; none = n })) (h.1 other)
-]
-
--- nothing could be opened
-wrong_any : (room before after : ℕ) (known : Option (List ℕ)) (e : Error) → after ≡ before → RefusesAny room before after known e → RefusedFor room e known
-unfolding RefusesAny RefusedFor
-wrong_any room before after None e q r = tt
-wrong_any room before after (Some xs) e q r = elim (r q) [
-  | inl p ↦ here (wrong_end room e xs p.0 p.1)
-  | inr p ↦ here (subst (λ z. IsWrong room z xs) (sym p.2) (p.1, p.0))
-]
-
--- ---- what is wrong behind a head
-
--- a head has a byte at least
-head_some : (h : Head) → IsHead h [] → ⊥
-unfolding take_head
-head_some h i = let u : ◌≡◌ {A = Option (Head × List ℕ)} None (Some (h, [])) = take_head_takes h [] [] i in cc
-
--- a head that stands at the front
-record Front (h : Head) (xs ys : List ℕ) : Type 0 where
-  byte : ℕ
-  behind : List ℕ
-  front : xs ≡ (byte ∷ behind) ++ ys
-  is_head : IsHead h (byte ∷ behind)
-
-front_of : (h : Head) (bytes xs ys : List ℕ) → xs ≡ bytes ++ ys → IsHead h bytes → Front h xs ys
-front_of h [] xs ys t i = absurd (head_some h i)
-front_of h (b ∷ behind) xs ys t i = record { byte = b; behind = behind; front = t; is_head = i }
-
-abbrev stands : {h : Head} {xs ys : List ℕ} (f : Front h xs ys) → Stands (marker_of f.byte) h xs
-stands {h} {xs} {ys} f = record { byte = f.byte; behind = f.behind; rest = ys; front = f.front; is_marker = refl; is_head = f.is_head }
-
-wrong_content : (room : ℕ) (known k : Option (List ℕ)) (bytes : List ℕ) (h : Head) (e : Error) → Consumes known k bytes → IsHead h bytes → IsShort (content_len h) k → IsDataEnd e → RefusedFor room e known
-unfolding RefusedFor
-wrong_content room None k bytes h e t i s d = tt
-wrong_content room (Some xs) None bytes h e t i s d = absurd t
-wrong_content room (Some xs) (Some ys) bytes h e t i s d =
-    let f : Front h xs ys = front_of h bytes xs ys t i in
-    here (wrong_data room e xs (inr (h, record { marker = marker_of f.byte; stands = stands f; short = s })) d)
-
-wrong_utf8 : (room : ℕ) (s rest xs ys bytes : List ℕ) (e : Error) → xs ≡ bytes ++ ys → IsHead (head.Text (length s)) bytes → ys ≡ s ++ rest → (IsUtf8 s → ⊥) → IsUtf8Error e → Refusal room e xs
+wrong_utf8 : (room : ℕ) (s rest xs ys bytes : List ℕ) (e : Error) → xs ≡ bytes ++ ys → IsHead (head.Text (length s)) bytes → ys ≡ s ++ rest → (IsUtf8 s → ⊥) → IsUtf8Error e → Refusal IsWrongValue ItemsUtf8 room e xs
 wrong_utf8 room s rest xs ys bytes e t i q u d =
     let f : Front (head.Text (length s)) xs ys = front_of (head.Text (length s)) bytes xs ys t i in
     here (wrong_text room e xs (record { text = s; stands = record { marker = marker_of f.byte; stands = stands f; behind = rest; content = q; long = refl }; invalid = u }) d)
 
 -- the content of a text was refused
-wrong_piece : (room len : ℕ) (known k : Option (List ℕ)) (bytes : List ℕ) (e : Error) → Consumes known k bytes → IsHead (head.Text len) bytes → RefusesPiece len (not_string (head.Text len)) k e → RefusedFor room e known
+wrong_piece : (room len : ℕ) (known k : Option (List ℕ)) (bytes : List ℕ) (e : Error) → Consumes known k bytes → IsHead (head.Text len) bytes → RefusesPiece len (not_string (head.Text len)) k e → RefusedFor IsWrongValue ItemsUtf8 room e known
 unfolding RefusesPiece RefusedFor
 wrong_piece room len None k bytes e t i p = tt
 wrong_piece room len (Some xs) None bytes e t i p = absurd t
 wrong_piece room len (Some xs) (Some ys) bytes e t i p = elim (cases_lt (length ys) len) [
   | inl short ↦
       let f : Front (head.Text len) xs ys = front_of (head.Text len) bytes xs ys t i in
-      here (wrong_data room e xs (inr (head.Text len, record { marker = marker_of f.byte; stands = stands f; short = short })) (p.cut short))
+      here (wider room e xs (wrong_data room e xs (inr (head.Text len, record { marker = marker_of f.byte; stands = stands f; short = short })) (p.cut short)))
   | inr enough ↦
       let s : List ℕ = take len ys in
       let split : ys ≡ s ++ drop len ys = sym (take-append-drop len ys) in
@@ -150,31 +95,20 @@ wrong_piece room len (Some xs) (Some ys) bytes e t i p = elim (cases_lt (length 
 
 -- a list or a map was opened, and some of its messages were read
 wrong_inside : (outer room : ℕ) (is_map : Bool) (len : ℕ) (known mid k : Option (List ℕ)) (bytes row : List ℕ) (ms : Msgs) (e : Error) → Consumes known mid bytes → IsHead (parts_head is_map len) bytes → Consumes mid k row → SpellsRow Spells row ms → depth_all ms < room → ItemsUtf8 ms
-    → count ms < parts_count is_map len → outer ≡ room + 1 → RefusedFor room e k → RefusedFor outer e known
-unfolding RefusedFor
-wrong_inside outer room is_map len None mid k bytes row ms e t i u s d n c w r = tt
-wrong_inside outer room is_map len (Some xs) None k bytes row ms e t i u s d n c w r = absurd t
-wrong_inside outer room is_map len (Some xs) (Some ys) None bytes row ms e t i u s d n c w r = absurd u
-wrong_inside outer room is_map len (Some xs) (Some ys) (Some zs) bytes row ms e t i u s d n c w r =
-    let f : Front (parts_head is_map len) xs ys = front_of (parts_head is_map len) bytes xs ys t i in
-    let is : suc room ≡ outer = omega (arith, w) in
-    subst (λ z. Refusal z e xs) is (inside (record {
-      parts = record { is_map = is_map; len = len; marker = marker_of f.byte; stands = stands f };
-      many = count ms;
-      before = record { bytes = row; rest = zs; trees = ms; front = u; spelled = s; many = refl; fits = d; holds = n };
-      fewer = c;
-    }) r)
+    → count ms < parts_count is_map len → outer ≡ room + 1 → RefusedFor IsWrongValue ItemsUtf8 room e k → RefusedFor IsWrongValue ItemsUtf8 outer e known
+wrong_inside outer room is_map len known mid k bytes row ms e t i u s d n c w r =
+    wrong_nest IsWrongValue ItemsUtf8 outer room is_map len known mid bytes e t i w (wrong_row IsWrongValue ItemsUtf8 room (parts_count is_map len) mid k row ms e u s d n c r)
 
 module _ {R C : Type 0} (g : Ghosts R) (old last : Deserializer R C) (e : Error) where
   pub any_wrong : FailsToOpenAny g old last e → RefusesValue g old last e
-  any_wrong f = λ o n k. wrong_any (room_of old) (faults_of g old) (faults_of g last) (left g old) e k (f.exact o)
+  any_wrong f = λ o n k. wrong_any IsWrongValue ItemsUtf8 wider (room_of old) (faults_of g old) (faults_of g last) (left g old) e k (f.exact o)
 
   module _ (a : RawAccess R C) (h : Head) (o : OpensRaw g h old a) where
     pub content_wrong : content_len h ≡ a.len → FailsContent g a.len a.de.now last e → RefusesValue g old last e
     content_wrong l f = λ _ n k.
         let same = k ∙ sym o.begun.sound in
         let short : IsShort (content_len h) (left g a.de.now) = rw (bare g a.de.now o.begun.clean, l) (f.err n same) in
-        wrong_content (room_of old) (left g old) (left g a.de.now) o.begun.ok.bytes h e o.begun.ok.takes o.begun.ok.is_head short (f.exact n same)
+        wrong_content IsWrongValue ItemsUtf8 wider (room_of old) (left g old) (left g a.de.now) o.begun.ok.bytes h e o.begun.ok.takes o.begun.ok.is_head short (f.exact n same)
 
   pub text_wrong : (a : RawAccess R C) (o : OpensRaw g (head.Text a.len) old a) → FailsText g a.len a.de.now last e → RefusesValue g old last e
   text_wrong a o f = λ _ n k.
@@ -197,14 +131,14 @@ module _ {F R C : Type 0} (g : Ghosts R) {once : Reading F R C Msg} {f : F} (law
       let from = subst (λ (z : Deserializer R C). IfErr gave (RefusesValue g z c.left.now)) c.shows l in
       subst (λ (z : Deserializer R C). IfErr gave (RefusesValue g d z)) c.leaves from
 
-  part_wrong : (inner : ℕ) (old new : Deserializer R C) (e : Error) → PartGiven once f inner old new (Err e) → Explains e (faults_of g old) (faults_of g new) (RefusedFor (max 1 inner) e (left g old))
+  part_wrong : (inner : ℕ) (old new : Deserializer R C) (e : Error) → PartGiven once f inner old new (Err e) → Explains e (faults_of g old) (faults_of g new) (RefusedFor IsWrongValue ItemsUtf8 (max 1 inner) e (left g old))
   part_wrong inner old new e p = λ n q.
       let l = lent_law g once f law (part_reader old inner) p.rest p.gave p.called in
       let is = part_err p.gave p.rest.failed e p.answers (λ x i. let k = subst (λ (z : Result Msg Error). Lawful g reads_value (part_reader old inner) p.rest z) i l in k.ready) in
       let w = subst (λ (z : Result Msg Error). IfErr z (RefusesValue g (part_reader old inner) p.rest)) is (lent_says (part_reader old inner) p.rest p.gave p.called) in
       w refl n (ap (faults_of g) (sym p.keeps) ∙ q)
 
-  pub item_wrong : (old new : SeqAccess R C) (e : Error) → old.bytes ≡ false → PartRead g once f old new (Err e) ⊎ PartMissing {X = Msg} g old new (Err e) → Explains e (faults_of g old.de.now) (faults_of g new.de.now) (RefusedFor (inner_of old) e (left g old.de.now))
+  pub item_wrong : (old new : SeqAccess R C) (e : Error) → old.bytes ≡ false → PartRead g once f old new (Err e) ⊎ PartMissing {X = Msg} g old new (Err e) → Explains e (faults_of g old.de.now) (faults_of g new.de.now) (RefusedFor IsWrongValue ItemsUtf8 (inner_of old) e (left g old.de.now))
   item_wrong old new e b (inr m) = let w = m.bytes in absurd (cc)
   item_wrong old new e b (inl p) = λ n q.
       let l = lent_law g once f law p.lent p.rest p.gave p.called in
@@ -215,10 +149,10 @@ module _ {F R C : Type 0} (g : Ghosts R) {once : Reading F R C Msg} {f : F} (law
       let w2 = subst (λ (z : Deserializer R C). RefusesValue g (record z { room = old.inner; failed = false }) p.rest e) from w1 in
       w2 refl n (ap (faults_of g) (sym p.keeps) ∙ q)
 
-  pub key_wrong : (old new : MapAccess R C) (e : Error) → KeyRead once f old new (Err e) → Explains e (faults_of g old.de.now) (faults_of g new.de.now) (RefusedFor (map_inner old) e (left g old.de.now))
+  pub key_wrong : (old new : MapAccess R C) (e : Error) → KeyRead once f old new (Err e) → Explains e (faults_of g old.de.now) (faults_of g new.de.now) (RefusedFor IsWrongValue ItemsUtf8 (map_inner old) e (left g old.de.now))
   key_wrong old new e k = part_wrong old.inner old.de.now new.de.now e (subst (λ (z : Result Msg Error). PartGiven once f old.inner old.de.now new.de.now z) (key_err k.given e k.answers) k.part)
 
-  pub value_wrong : (old new : MapAccess R C) (e : Error) → ValueRead once f old new (Err e) → Explains e (faults_of g old.de.now) (faults_of g new.de.now) (RefusedFor (map_inner old) e (left g old.de.now))
+  pub value_wrong : (old new : MapAccess R C) (e : Error) → ValueRead once f old new (Err e) → Explains e (faults_of g old.de.now) (faults_of g new.de.now) (RefusedFor IsWrongValue ItemsUtf8 (map_inner old) e (left g old.de.now))
   value_wrong old new e k = part_wrong old.inner old.de.now new.de.now e k.part
 
 -- ---- lists and maps
@@ -233,7 +167,7 @@ push_utf8 (item m ms) k u p = (u.0, push_utf8 ms k u.1 p)
 
 module _ {R C : Type 0} (g : Ghosts R) (old : Deserializer R C) (e : Error) where
   pub list_wrong : (start mid : SeqAccess R C) (last : Deserializer R C) (vs : List Msg) → Opens g old start × (start.bytes ≡ false) → Values g reads_value start mid vs → 0 < mid.left
-      → Explains e (faults_of g mid.de.now) (faults_of g last) (RefusedFor (inner_of mid) e (left g mid.de.now)) → RefusesValue g old last e
+      → Explains e (faults_of g mid.de.now) (faults_of g last) (RefusedFor IsWrongValue ItemsUtf8 (inner_of mid) e (left g mid.de.now)) → RefusesValue g old last e
   list_wrong start mid last vs o r some w = λ _ n k.
       let x = w n (k ∙ sym o.0.faults_same ∙ sym r.run.faults_same) in
       let inner : mid.inner ≡ start.inner = r.run.inner in
@@ -241,25 +175,25 @@ module _ {R C : Type 0} (g : Ghosts R) (old : Deserializer R C) (e : Error) wher
       wrong_inside (room_of old) (inner_of start) false start.left (left g old) (left g start.de.now) (left g mid.de.now) o.0.head.bytes r.run.bytes r.trees e
       o.0.head.takes (subst (λ b. IsHead (seq_head b start.left) o.0.head.bytes) o.1 o.0.head.is_head)
       r.run.takes (subst (λ b. SpellsRow (SpellsIn b) r.run.bytes r.trees) o.1 r.run.spelled) r.run.fits (each_is r.trees vs r.values).1
-      (omega (arith, r.run.many, some)) (omega (arith, o.0.room, level)) (subst (λ z. RefusedFor (max 1 z) e (left g mid.de.now)) inner x)
+      (omega (arith, r.run.many, some)) (omega (arith, o.0.room, level)) (subst (λ z. RefusedFor IsWrongValue ItemsUtf8 (max 1 z) e (left g mid.de.now)) inner x)
 
   module _ (start : MapAccess R C) (o : OpensMap g old start) where
     row_wrong : (mid : MapAccess R C) (last : Deserializer R C) (ms : Msgs) → MapRun g start mid ms → ItemsUtf8 ms → 0 < to_come mid
-        → Explains e (faults_of g mid.de.now) (faults_of g last) (RefusedFor (map_inner mid) e (left g mid.de.now)) → RefusesValue g old last e
+        → Explains e (faults_of g mid.de.now) (faults_of g last) (RefusedFor IsWrongValue ItemsUtf8 (map_inner mid) e (left g mid.de.now)) → RefusesValue g old last e
     row_wrong mid last ms r u some w = λ _ n k.
         let x = w n (k ∙ sym o.faults_same ∙ sym r.faults_same) in
         let inner : mid.inner ≡ start.inner = r.inner in
         let key : owed start.owes ≡ 0 = ap owed o.at_key in
         wrong_inside (room_of old) (map_inner start) true start.left (left g old) (left g start.de.now) (left g mid.de.now) o.head.bytes r.bytes ms e
         o.head.takes o.head.is_head r.takes r.spelled r.fits u
-        (omega (arith, r.many, some, key)) (omega (arith, o.room)) (subst (λ z. RefusedFor (max 1 z) e (left g mid.de.now)) inner x)
+        (omega (arith, r.many, some, key)) (omega (arith, o.room)) (subst (λ z. RefusedFor IsWrongValue ItemsUtf8 (max 1 z) e (left g mid.de.now)) inner x)
 
     module _ (mid : MapAccess R C) (es : List (Msg × Msg)) (r : Entries g reads_value reads_value start mid es) where
-      pub map_key_wrong : (last : Deserializer R C) → 0 < mid.left → Explains e (faults_of g mid.de.now) (faults_of g last) (RefusedFor (map_inner mid) e (left g mid.de.now)) → RefusesValue g old last e
+      pub map_key_wrong : (last : Deserializer R C) → 0 < mid.left → Explains e (faults_of g mid.de.now) (faults_of g last) (RefusedFor IsWrongValue ItemsUtf8 (map_inner mid) e (left g mid.de.now)) → RefusesValue g old last e
       map_key_wrong last some w = row_wrong mid last (flat r.trees) r.run (pairs_utf8 r.trees (pairs_are r.trees es r.reads).1) (omega (arith, some)) w
 
       pub map_value_wrong : (key : MapAccess R C) (last : Deserializer R C) (k : Msg) → TakesKey g reads_value mid key k → key.de.ghost_name ≡ mid.de.ghost_name
-          → Explains e (faults_of g key.de.now) (faults_of g last) (RefusedFor (map_inner key) e (left g key.de.now)) → RefusesValue g old last e
+          → Explains e (faults_of g key.de.now) (faults_of g last) (RefusedFor IsWrongValue ItemsUtf8 (map_inner key) e (left g key.de.now)) → RefusesValue g old last e
       map_value_wrong key last k p q w =
           let half = map_key g reads_value start mid key (flat r.trees) k r.run r.at_key p q in
           let utf8 = push_utf8 (flat r.trees) p.part.tree (pairs_utf8 r.trees (pairs_are r.trees es r.reads).1) p.part.value.1 in
@@ -267,6 +201,6 @@ module _ {R C : Type 0} (g : Ghosts R) (old : Deserializer R C) (e : Error) wher
 
 -- ---- known bytes
 
-pub first_wrong : (room limit : ℕ) (e : Error) (known : Option (List ℕ)) (xs : List ℕ) → room ≡ limit → known ≡ Some xs → RefusedFor room e known → Refusal limit e xs
+pub first_wrong : (room limit : ℕ) (e : Error) (known : Option (List ℕ)) (xs : List ℕ) → room ≡ limit → known ≡ Some xs → RefusedFor IsWrongValue ItemsUtf8 room e known → Refusal IsWrongValue ItemsUtf8 limit e xs
 unfolding RefusedFor
 first_wrong room limit e known xs r k w = let s = rw (r, k) at w in s

@@ -24,6 +24,7 @@ pub trait ReadContent<R: Source> {
         ensures ok { OnOk result (Passes len (R.ahead reader.old) (R.ahead reader.new)) }
         ensures sound { OnOk result (R.faults reader.new ≡ R.faults reader.old) }
         ensures err { IfErr result (λ e. Explains e (R.faults reader.old) (R.faults reader.new) (IsShort len (R.ahead reader.old))) }
+        ensures end { IfErr result (λ e. Explains e (R.faults reader.old) (R.faults reader.new) (IsDataEnd e)) }
         ensures place { R.place reader.new ≡ R.place reader.old };
 
     /// Takes the next bytes into a vector.

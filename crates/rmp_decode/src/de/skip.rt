@@ -1,8 +1,9 @@
 //! Messages that are passed over.
-ghost use Rattle.std.specs.Prelude.{◌≡◌, ◌-◌, true, false};
+ghost use Rattle.std.specs.Prelude.{◌≡◌, ◌-◌, ◌<◌, true, false, IfErr};
 ghost use Rattle.rmp_decode.specs.Kinds.{Finds, content_len};
 ghost use Rattle.rmp_decode.specs.Law.{Lawful};
-ghost use Rattle.rmp_decode.specs.Skip.{parts_head, SkipsRow, any_tree, parts_count};
+ghost use Rattle.rmp_decode.specs.Refuse.{IsWrong, RefusesFirst, RefusesRowFirst};
+ghost use Rattle.rmp_decode.specs.Skip.{parts_head, SkipsRow, any_tree, any_row, parts_count};
 ghost use Rattle.rmp_decode.specs.State.{is_failed, kept_of, room_of};
 ghost use Rattle.rmp_decode.specs.declared.de.Kept.TheVariants.{Nothing};
 
@@ -52,7 +53,8 @@ fn messages(is_map: bool, n: u32) -> u64
 fn skip<R: Source, C: SerializerConfig, P: ReadContent<R>>(
     de: &mut Deserializer<R, C>,
 ) -> Result<(), Error>
-    ensures { Lawful R.Source any_tree de.old de.new result }
+    ensures law { Lawful R.Source any_tree de.old de.new result }
+    ensures exact { IfErr result (RefusesFirst R.Source IsWrong any_row de.old de.new) }
 {
     match de.head() {
         Ok((_, head)) => match parts_in(head) {
@@ -77,7 +79,9 @@ fn skip_parts<R: Source, C: SerializerConfig, P: ReadContent<R>>(
 ) -> Result<(), Error>
     requires failed { is_failed de.old ≡ true }
     requires clean { kept_of de.old ≡ Nothing }
-    ensures { SkipsRow R.Source (room_of de.old - 1) count de.old de.new result }
+    ensures law { SkipsRow R.Source (room_of de.old - 1) count de.old de.new result }
+    ensures deep { IfErr result (λ e. room_of de.old ≡ 1 → e ≡ Error.DepthLimitExceeded) }
+    ensures exact { IfErr result (λ e. 1 < room_of de.old → RefusesRowFirst R.Source IsWrong any_row (room_of de.old - 1) count de.old de.new e) }
 {
     let outer = de.room;
     if outer <= 1 {
@@ -98,7 +102,8 @@ fn skip_row<R: Source, C: SerializerConfig, P: ReadContent<R>>(
 ) -> Result<(), Error>
     requires fresh { is_failed de.old ≡ false }
     requires clean { kept_of de.old ≡ Nothing }
-    ensures { SkipsRow R.Source (room_of de.old) count de.old de.new result }
+    ensures law { SkipsRow R.Source (room_of de.old) count de.old de.new result }
+    ensures exact { IfErr result (RefusesRowFirst R.Source IsWrong any_row (room_of de.old) count de.old de.new) }
 {
     for _ in 0..count {
         match skip::<R, C, P>(de) {
@@ -113,11 +118,15 @@ impl<R: Source, C: SerializerConfig> Deserializer<R, C> {
     /// Passes over one message of any kind. Its texts may be no UTF-8, and its content isn't copied where the source lends.
     ///
     /// # Errors
-    /// `DepthLimitExceeded` at a list or map in it that would nest too deep.
+    /// That of the first thing that is wrong: `InvalidMarkerRead` where the input ends before a message that is wanted,
+    /// `InvalidDataRead` where it ends inside of a head or of content, `TypeMismatch` at the byte c1, and `DepthLimitExceeded`
+    /// at a list or map that would nest too deep. `OutOfMemory` where a source is refused memory for content.
     pub fn deserialize_ignored_any<'de>(&mut self) -> Result<(), Error>
     where
         R: ReadSlice<'de>,
-        ensures { Lawful R.Source any_tree self.old self.new result }
+        ensures law { Lawful R.Source any_tree self.old self.new result }
+        // An error names the first thing that is wrong.
+        ensures exact { IfErr result (RefusesFirst R.Source IsWrong any_row self.old self.new) }
     {
         skip::<R, C, Slices<'de>>(self)
     }

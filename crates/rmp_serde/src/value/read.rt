@@ -5,8 +5,9 @@ ghost use Rattle.rmp_decode.specs.Law.{Lawful};
 ghost use Rattle.rmp_decode.specs.Maps.{IsMapOpen, AtKey, pairs_left, map_lender};
 ghost use Rattle.rmp_decode.specs.Seq.{IsOpen, left_in, lender_of};
 ghost use Rattle.rmp_decode.specs.declared.de.any.Any.TheVariants as any;
-ghost use Rattle.rmp_serde.specs.Read.{reads_value, IsOpened, Finishes, Completes};
-ghost use Rattle.rmp_serde.specs.Refuse.{Refusal, RefusesValue, RefusesOpened};
+ghost use Rattle.rmp_decode.specs.Refuse.{Refusal};
+ghost use Rattle.rmp_serde.specs.Read.{reads_value, ItemsUtf8, IsOpened, Finishes, Completes};
+ghost use Rattle.rmp_serde.specs.Refuse.{IsWrongValue, RefusesValue, RefusesOpened};
 
 use crate::value::{Node, Value};
 use rmp_decode::{
@@ -184,7 +185,7 @@ impl Value {
         // A refusal that isn't for memory means that no beginning spells such a message,
         ensures err { IfErr result (λ e. e ≢ Error.OutOfMemory → Begins Spells (Readable reads_value) 1024 input.now → ⊥) }
         // and names the first thing that is wrong.
-        ensures refusal { IfErr result (λ e. e ≢ Error.OutOfMemory → Refusal 1024 e input.now) }
+        ensures refusal { IfErr result (λ e. e ≢ Error.OutOfMemory → Refusal IsWrongValue ItemsUtf8 1024 e input.now) }
     {
         let mut de = Deserializer::from_read_ref(alloc, input);
         read_value::<ReadRefReader<'de>, DefaultConfig, Slices<'de>>(&mut de)
