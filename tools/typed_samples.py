@@ -221,7 +221,7 @@ class Body:
         if kind == "Value":
             return self.any_value(value)
         if kind == "TupleS":
-            self.uses.add("crate::tuple_struct::TupleS")
+            self.uses.add("sample_types::TupleS")
             return value
         if kind == "NewU8":
             self.uses.add("sample_types::NewU8")

@@ -3,10 +3,11 @@ use crate::answer::row;
 use crate::fault::Fault;
 use rmp_serde::Value;
 use rmp_serde::wire::{ByteBuf, Bytes, Ext, F32Bits, F64Bits};
+use sample_types::{TupleS, TupleS0};
 use std::alloc::Global;
 use std::collections::{BTreeMap, BTreeSet, VecDeque};
 
-// Reads one of the numbers, texts, bytes and values.
+// Reads one of the numbers, texts, bytes, values and tuple structs.
 fn leaves(alloc: Global, kind: &str, bytes: &[u8]) -> Result<String, Fault> {
     match kind {
         "bool" => row::<bool>(alloc, bytes),
@@ -30,6 +31,8 @@ fn leaves(alloc: Global, kind: &str, bytes: &[u8]) -> Result<String, Fault> {
         "Value" => row::<Value>(alloc, bytes),
         "&str" => row::<&str>(alloc, bytes),
         "Bytes" => row::<Bytes>(alloc, bytes),
+        "TupleS" => row::<TupleS>(alloc, bytes),
+        "TupleS0" => row::<TupleS0>(alloc, bytes),
         _ => Err(Fault::NoType),
     }
 }

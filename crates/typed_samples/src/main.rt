@@ -7,7 +7,6 @@
 mod fault;
 mod row;
 mod rows;
-mod tuple_struct;
 
 use fault::Fault;
 use row::Rows;

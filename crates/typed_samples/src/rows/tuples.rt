@@ -1,8 +1,7 @@
 //! Pointers, tuples and tuple structs. Written by tools/typed_samples.py.
 use crate::fault::Fault;
 use crate::row::{Rows, Setting};
-use crate::tuple_struct::TupleS;
-use sample_types::{NewU8, OptionalByte};
+use sample_types::{NewU8, OptionalByte, TupleS};
 use std::alloc::Global;
 
 fn rows_1(alloc: Global, rows: &mut Rows) -> Result<(), Fault> {

@@ -2,7 +2,7 @@ use Rattle.std.proofs.Common.{rules, refl}
 use Rattle.std.proofs.lemmas.Result.{err_from_is_err_and}
 use Rattle.rmp_encode.proofs.Filling.{refuses_filling}
 use Rattle.rmp_encode.proofs.Parts.{rests_at}
-use Rattle.typed_samples.proofs.tuple_struct.TupleSSerialize.serialize.Goals as goal
+use Rattle.sample_types.proofs.tuple_struct.TupleSSerialize.serialize.Goals as goal
 
 pub returns-in_err-parts-clause-writes : goal.returns-in_err-parts-clause-writes
 returns-in_err-parts-clause-writes g c =
