@@ -12,7 +12,7 @@ use Rattle.rmp_encode.specs.declared.error.Error.{Error}
 use Rattle.rmp_encode.specs.declared.error.Error.TheVariants.{InvalidDataModel}
 use Rattle.rmp_encode.specs.Data.{Data}
 use Rattle.rmp_encode.specs.Errors.{IsReason}
-use Rattle.rmp_encode.specs.Going.{AreMany, head_at, open_of, IsWritingAt}
+use Rattle.rmp_encode.specs.Going.{AreMany, head_at, open_of, IsWritingAt, IsWritten, Begins}
 use Rattle.rmp_encode.specs.Ser.{sink_of, settings_of}
 use Rattle.rmp_encode.specs.Trees.{Has, spelling, tree_of}
 use Rattle.rmp_encode.specs.Writes.{Keeps, WritesPart, WritesTree}
@@ -127,3 +127,28 @@ module _ (pairs : Bool) {W C : Type 0} (g : Ghosts W) where
   -- what is too long is refused
   pub at_too_long : (m : Bool) (old : Serializer W C) (n : ℕ) (t : Bor (List ℕ)) → IsReason t.now → 2 ^ 32 ≤ n → (all : List (Option Data)) → AreMany pairs n all → WritesTree g {A = Unit {0}} m (tree_of (settings_of old) (open_of pairs all)) (sink_of old) (sink_of old) (Err (InvalidDataModel t))
   at_too_long m old n t is le all e = part_refused g m _ _ (sink_of old) t is (λ h. let k = (open_can pairs (settings_of old) n all e h).0 in omega (arith, k, le))
+
+  -- the head of what is written at once, or its failure
+  pub begins : (old now : Serializer W C) (n : ℕ) (r : Result (Unit {0}) Error) → n < 2 ^ 32 → Keeps g old now → WritesPart g g.takes_memory (Unit {0}) (head_at pairs n) (sink_of old) (sink_of now) r → Begins g pairs n old now r
+  begins old now n (Ok u) lt k w = λ all e. at_opened old now n u lt k w (length all) all e refl
+  begins old now n (Err x) lt k w = λ all e. at_not_opened old now n x lt w all e
+
+  -- the same parts are to come
+  pub still_written : (old : Serializer W C) (all rest some : List (Option Data)) (now : Serializer W C) → some ≡ rest → IsWritten g pairs old all some now → IsWritten g pairs old all rest now
+  still_written old all rest some now e h = subst (λ l. IsWritten g pairs old all l now) e h
+
+  -- a part was written behind it
+  pub next_ok : (d : Settings → Option Data) {m : Bool} (now now' : Serializer W C) (u : Unit {0}) → Keeps g now now' → WritesTree g m (tree_of (settings_of now) (d (settings_of now))) (sink_of now) (sink_of now') (Ok u)
+      → (old : Serializer W C) (all rest some : List (Option Data)) → some ≡ d (settings_of old) ∷ rest → IsWritten g pairs old all some now → IsWritten g pairs old all rest now'
+  next_ok d {m} now now' u k w old all rest some e h =
+      at_goes_ok d (length (d (settings_of old) ∷ rest)) (length rest) now now' u (omega arith) k (part_memory g w) old all rest (still_written old all _ some now e h)
+
+  -- a part failed
+  pub next_err : (d : Settings → Option Data) {m : Bool} (now now' : Serializer W C) (x : Error) → WritesTree g {A = Unit {0}} m (tree_of (settings_of now) (d (settings_of now))) (sink_of now) (sink_of now') (Err x)
+      → (old : Serializer W C) (all rest some : List (Option Data)) → some ≡ d (settings_of old) ∷ rest → IsWritten g pairs old all some now → WritesTree g {A = Unit {0}} true (tree_of (settings_of old) (open_of pairs all)) (sink_of old) (sink_of now') (Err x)
+  next_err d {m} now now' x w old all rest some e h =
+      at_goes_err true d (length (d (settings_of old) ∷ rest)) now now' x (part_memory g w) old all rest (still_written old all _ some now e h)
+
+  -- the last part was written
+  pub none_next : (old : Serializer W C) (all rest : List (Option Data)) (now : Serializer W C) (u : Unit {0}) → rest ≡ [] → IsWritten g pairs old all rest now → WritesTree g true (tree_of (settings_of old) (open_of pairs all)) (sink_of old) (sink_of now) (Ok u)
+  none_next old all rest now u e h = at_closes true old all 0 now u (still_written old all [] rest now e h)

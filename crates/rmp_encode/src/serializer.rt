@@ -3,7 +3,7 @@ ghost use Rattle.std.specs.Prelude.{◌≡◌, ◌^◌, ◌<◌, true, false, []
 ghost use Rattle.std.specs.Borrow.{sem};
 ghost use Rattle.rmp_wire.specs.Msg.{nil, truth, whole, float32, float64, text, bin, extension};
 ghost use Rattle.rmp_encode.specs.Errors.{answer_of};
-ghost use Rattle.rmp_encode.specs.Going.{head_at};
+ghost use Rattle.rmp_encode.specs.Going.{head_at, Begins};
 ghost use Rattle.rmp_encode.specs.Ser.{sink_of, settings_of, LendsSink};
 ghost use Rattle.rmp_encode.specs.Trees.{ext_head, number_head};
 ghost use Rattle.rmp_encode.specs.Writes.{Keeps, WritesPart, WritesTree, StaysAtRefusal};
@@ -253,6 +253,19 @@ impl<W: Sink, C: SerializerConfig> Serializer<W, C> {
             return answer(write_map_len(&mut self.wr, n));
         }
         answer(write_array_len(&mut self.wr, n))
+    }
+
+    // The head of a list of so many values, or of a map of so many pairs, which the caller writes right behind it. A number of
+    // 2 ^ 32 or more is refused, and nothing is written.
+    #[inline(always)]
+    pub(crate) fn put_len(&mut self, pairs: bool, len: usize) -> Result<(), Error>
+        ensures begins { Begins W.Sink pairs len self.old self.new result }
+        ensures keeps { Keeps W.Sink self.old self.new }
+    {
+        if len > u32::MAX as usize {
+            return Err(Error::InvalidDataModel("length past 32 bits"));
+        }
+        self.put_head(pairs, len as u32)
     }
 
     // A byte as a number.

@@ -1,7 +1,6 @@
 //! The items of a slice or a `Vec`, which are written as bytes where the mode says so.
 ghost use Rattle.std.specs.Prelude.{◌≡◌, ◌+◌, ◌<◌, [], ◌∷◌, map, All, true, OnOk, IfOk, IfErr, length};
 ghost use Rattle.rmp_encode.specs.declared.error.Error.TheVariants.{OutOfMemory};
-ghost use Rattle.rmp_encode.specs.Opens.{IsLong};
 ghost use Rattle.rmp_encode.specs.Ser.{sink_of, settings_of};
 ghost use Rattle.rmp_encode.specs.Slices.{Probed};
 ghost use Rattle.rmp_encode.specs.Trees.{tree_of, sequence_of, slice_of, forces_slices};
@@ -39,12 +38,17 @@ impl<W: Sink, C: SerializerConfig> Serializer<W, C> {
         Ok(Some(bytes))
     }
 
-    fn put_list<T: Serialize>(&mut self, values: &[T]) -> Result<(), Error>
+    // A list of values, which are never made bytes.
+    pub(crate) fn put_list<T: Serialize>(&mut self, values: &[T]) -> Result<(), Error>
         ensures writes { WritesTree W.Sink true (tree_of (settings_of self.old) (sequence_of (map (λ x. T.data_of x (settings_of self.old).human) values.now))) (sink_of self.old) (sink_of self.new) result }
         ensures keeps { Keeps W.Sink self.old self.new }
         ensures value { OnOk result (All T.is_value values.now) }
     {
-        list_of(self, Some(values.len()), values)
+        self.put_len(false, values.len())?;
+        for value in values {
+            value.serialize(self)?;
+        }
+        Ok(())
     }
 
     /// Writes the items of a slice.
@@ -67,22 +71,4 @@ impl<W: Sink, C: SerializerConfig> Serializer<W, C> {
         };
         self.serialize_bytes(bytes.as_slice())
     }
-}
-
-// A list of values, whose number is told or not.
-pub(crate) fn list_of<W: Sink, C: SerializerConfig, T: Serialize>(
-    se: &mut Serializer<W, C>,
-    len: Option<usize>,
-    values: &[T],
-) -> Result<(), Error>
-    requires { IsLong len (map (λ x. T.data_of x (settings_of se.old).human) values.now) }
-    ensures writes { WritesTree W.Sink true (tree_of (settings_of se.old) (sequence_of (map (λ x. T.data_of x (settings_of se.old).human) values.now))) (sink_of se.old) (sink_of se.new) result }
-    ensures keeps { Keeps W.Sink se.old se.new }
-    ensures value { OnOk result (All T.is_value values.now) }
-{
-    let mut seq = se.serialize_seq(len)?;
-    for value in values {
-        seq.serialize_element(value)?;
-    }
-    seq.end()
 }

@@ -180,6 +180,9 @@ pub(crate) fn put_tuple<W: Sink, C: SerializerConfig, T: Serialize>(
     ensures keeps { Keeps W.Sink se.old se.new }
     ensures value { OnOk result (All T.is_value values.now) }
 {
+    if !se.forces_all() {
+        return se.put_list(values);
+    }
     let mut tup = se.serialize_tuple(values.len())?;
     for value in values {
         tup.serialize_element(value)?;

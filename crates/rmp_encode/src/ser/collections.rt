@@ -18,11 +18,11 @@ impl<T: Serialize> Serialize for VecDeque<T> {
         &self,
         se: &mut Serializer<W, C>,
     ) -> Result<(), Error> {
-        let mut seq = se.serialize_seq(Some(self.len()))?;
+        se.put_len(false, self.len())?;
         for item in self {
-            seq.serialize_element(item)?;
+            item.serialize(se)?;
         }
-        seq.end()
+        Ok(())
     }
 
     #[tactic(auto, using(crate::proofs::Lists::sequence_no_byte))]
@@ -41,11 +41,11 @@ impl<T: Serialize + Ord> Serialize for BTreeSet<T> {
         &self,
         se: &mut Serializer<W, C>,
     ) -> Result<(), Error> {
-        let mut seq = se.serialize_seq(Some(self.len()))?;
+        se.put_len(false, self.len())?;
         for item in self {
-            seq.serialize_element(item)?;
+            item.serialize(se)?;
         }
-        seq.end()
+        Ok(())
     }
 
     #[tactic(auto, using(crate::proofs::Lists::sequence_no_byte))]
@@ -64,12 +64,12 @@ impl<K: Serialize + Ord, V: Serialize> Serialize for BTreeMap<K, V> {
         &self,
         se: &mut Serializer<W, C>,
     ) -> Result<(), Error> {
-        let mut map = se.serialize_map(Some(self.len()))?;
+        se.put_len(true, self.len())?;
         for (key, value) in self {
-            map.serialize_key(key)?;
-            map.serialize_value(value)?;
+            key.serialize(se)?;
+            value.serialize(se)?;
         }
-        map.end()
+        Ok(())
     }
 
     #[tactic(auto, using(crate::proofs::Lists::mapping_no_byte))]

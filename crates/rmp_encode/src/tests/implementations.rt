@@ -1,12 +1,13 @@
 //! Each implementation of `Serialize`, by rows of values and their bytes.
-ghost use Rattle.std.specs.Prelude.{map, All};
-ghost use Rattle.rmp_encode.specs.Trees.{sequence_of};
+ghost use Rattle.std.specs.Prelude.{true, map, All, OnOk};
+ghost use Rattle.rmp_encode.specs.Ser.{sink_of, settings_of};
+ghost use Rattle.rmp_encode.specs.Trees.{tree_of, sequence_of};
+ghost use Rattle.rmp_encode.specs.Writes.{Keeps, WritesTree};
 
 use super::{is_forced, is_written};
 use crate::error::Error;
 use crate::ser::Serialize;
 use crate::serializer::Serializer;
-use crate::slice::list_of;
 use rmp_wire::config::{BytesMode, SerializerConfig};
 use rmp_wire::{ByteBuf, Bytes, Ext, F32Bits, F64Bits, Sink};
 use std::collections::{BTreeMap, BTreeSet, VecDeque};
@@ -150,6 +151,22 @@ fn modes(rt: HostRuntime) -> Result<(), Fail> {
     Ok(())
 }
 
+// A list of values, whose number isn't told.
+fn list_of<W: Sink, C: SerializerConfig, T: Serialize>(
+    se: &mut Serializer<W, C>,
+    values: &[T],
+) -> Result<(), Error>
+    ensures writes { WritesTree W.Sink true (tree_of (settings_of se.old) (sequence_of (map (λ x. T.data_of x (settings_of se.old).human) values.now))) (sink_of se.old) (sink_of se.new) result }
+    ensures keeps { Keeps W.Sink se.old se.new }
+    ensures value { OnOk result (All T.is_value values.now) }
+{
+    let mut seq = se.serialize_seq(None)?;
+    for value in values {
+        seq.serialize_element(value)?;
+    }
+    seq.end()
+}
+
 // Items that are written as a list of unknown length.
 #[derive(Drop)]
 struct Uncounted<T>(Vec<T>);
@@ -163,7 +180,7 @@ impl<T: Serialize> Serialize for Uncounted<T> {
         &self,
         se: &mut Serializer<W, C>,
     ) -> Result<(), Error> {
-        list_of(se, None, self.0.as_slice())
+        list_of(se, self.0.as_slice())
     }
 
     #[tactic(auto, using(crate::proofs::Lists::sequence_no_byte))]

@@ -1,13 +1,17 @@
-use Rattle.std.proofs.Common.{rules, arith, refl, ◌∙◌, subst, All}
+use Rattle.std.proofs.Common.{rules, arith, refl, sym, ◌∙◌, subst, All}
 use Rattle.std.proofs.lemmas.List.{take_all}
 use Rattle.std.proofs.lemmas.List.Elements.{All-more}
 use Rattle.std.proofs.lemmas.Result.{err_from_is_err_and}
 use Rattle.rmp_encode.specs.Ser.{settings_of}
 use Rattle.rmp_encode.proofs.Parts.{rests_at, part_memory}
 use Rattle.rmp_encode.proofs.Going.{map_rest, map_rest_none, keeps_then, keeps_last, on_ok}
-use Rattle.rmp_encode.proofs.TupleSteps.{refuses_tuple, still_tuple, tuple_left}
+use Rattle.rmp_encode.proofs.Packing.{plain_mode}
+use Rattle.rmp_encode.proofs.TupleSteps.{as_tree, refuses_tuple, still_tuple, tuple_left}
 use Rattle.std.proofs.lemmas.List.{length-map}
 use Rattle.rmp_encode.proofs.tuple.put_tuple.Goals as goal
+
+pub returns-then-not-forces_all-clause-writes : goal.returns-then-not-forces_all-clause-writes
+returns-then-not-forces_all-clause-writes g c = as_tree g.W.Sink (plain_mode (settings_of c.args.se.now) _ (sym c.forces_all.ensures ∙ search rules)) c.put_list.ensures.writes
 
 pub returns-in_err-tup-clause-writes : goal.returns-in_err-tup-clause-writes
 returns-in_err-tup-clause-writes g c =

@@ -1,6 +1,6 @@
--- The entries that the iterator has left are still to come, through the same serializer.
-use Rattle.std.proofs.Common.{◌≡◌, true, All}
-use Rattle.rmp_encode.specs.Opens.{IsMapOpen, is_map, owed}
+-- The head was written, and the entries up to those that the iterator has left.
+use Rattle.std.proofs.Common.{true, All}
+use Rattle.rmp_encode.specs.Going.{IsWritten}
 use Rattle.rmp_encode.specs.Ser.{settings_of}
 use Rattle.rmp_encode.specs.Trees.{in_turn}
 use Rattle.rmp_encode.specs.Writes.{Keeps}
@@ -8,10 +8,7 @@ use Rattle.rmp_encode.proofs.ser.collections.BTreeMapSerialize.serialize.Given a
 
 abbrev pub invariant-loop-key : goal.invariant-loop-key
 invariant-loop-key g l = record {
-  same : l.map.se.ghost_name ≡ l.initial.map.se.ghost_name;
-  kind : is_map l.map ≡ true;
-  owed : owed l.map ≡ 0;
-  writing : IsMapOpen g.W.Sink l.fn.se (in_turn (λ k. g.K.Serialize.data_of k (settings_of l.fn.se).human) (λ x. g.V.Serialize.data_of x (settings_of l.fn.se).human) l.fn.self.entries) (in_turn (λ k. g.K.Serialize.data_of k (settings_of l.fn.se).human) (λ x. g.V.Serialize.data_of x (settings_of l.fn.se).human) l.key-iterator) l.map;
-  keeps : Keeps g.W.Sink l.fn.se l.map.se.now;
+  writing : IsWritten g.W.Sink true l.fn.se (in_turn (λ k. g.K.Serialize.data_of k (settings_of l.fn.se).human) (λ x. g.V.Serialize.data_of x (settings_of l.fn.se).human) l.fn.self.entries) (in_turn (λ k. g.K.Serialize.data_of k (settings_of l.fn.se).human) (λ x. g.V.Serialize.data_of x (settings_of l.fn.se).human) l.key-iterator) l.se;
+  keeps : Keeps g.W.Sink l.fn.se l.se;
   values : All (λ e. g.K.Serialize.is_value e.0 × g.V.Serialize.is_value e.1) l.key-iterator → All (λ e. g.K.Serialize.is_value e.0 × g.V.Serialize.is_value e.1) l.fn.self.entries;
 }

@@ -1,17 +1,14 @@
--- The elements that the iterator has left are still to come, through the same serializer.
-use Rattle.std.proofs.Common.{◌≡◌, false, map, All}
+-- The head was written, and the values up to those that the iterator has left.
+use Rattle.std.proofs.Common.{false, map, All}
 use Rattle.std.specs.VecDeque.Iter.{deque_iter_rest}
-use Rattle.rmp_encode.specs.Opens.{IsOpen, is_map, owed}
+use Rattle.rmp_encode.specs.Going.{IsWritten}
 use Rattle.rmp_encode.specs.Ser.{settings_of}
 use Rattle.rmp_encode.specs.Writes.{Keeps}
 use Rattle.rmp_encode.proofs.ser.collections.VecDequeSerialize.serialize.Given as goal
 
 abbrev pub invariant-loop-item : goal.invariant-loop-item
 invariant-loop-item g l = record {
-  same : l.seq.se.ghost_name ≡ l.initial.seq.se.ghost_name;
-  kind : is_map l.seq ≡ false;
-  owed : owed l.seq ≡ 0;
-  writing : IsOpen g.W.Sink l.fn.se (map (λ x. g.T.Serialize.data_of x (settings_of l.fn.se).human) l.fn.self.items) (map (λ x. g.T.Serialize.data_of x (settings_of l.fn.se).human) (deque_iter_rest l.item-iterator)) l.seq;
-  keeps : Keeps g.W.Sink l.fn.se l.seq.se.now;
+  writing : IsWritten g.W.Sink false l.fn.se (map (λ x. g.T.Serialize.data_of x (settings_of l.fn.se).human) l.fn.self.items) (map (λ x. g.T.Serialize.data_of x (settings_of l.fn.se).human) (deque_iter_rest l.item-iterator)) l.se;
+  keeps : Keeps g.W.Sink l.fn.se l.se;
   values : All g.T.Serialize.is_value (deque_iter_rest l.item-iterator) → All g.T.Serialize.is_value l.fn.self.items;
 }

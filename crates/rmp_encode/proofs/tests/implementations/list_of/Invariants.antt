@@ -3,7 +3,7 @@ use Rattle.std.proofs.Common.{◌≡◌, false, ◌≤◌, map, take, drop, All,
 use Rattle.rmp_encode.specs.Ser.{settings_of}
 use Rattle.rmp_encode.specs.Writes.{Keeps}
 use Rattle.rmp_encode.specs.Opens.{IsOpen, is_map, owed}
-use Rattle.rmp_encode.proofs.slice.list_of.Given as goal
+use Rattle.rmp_encode.proofs.tests.implementations.list_of.Given as goal
 
 abbrev pub invariant-loop-value : goal.invariant-loop-value
 invariant-loop-value g l = record {

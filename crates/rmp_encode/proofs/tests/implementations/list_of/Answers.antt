@@ -6,12 +6,12 @@ use Rattle.rmp_encode.specs.Ser.{settings_of}
 use Rattle.rmp_encode.proofs.Parts.{rests_at, part_memory}
 use Rattle.rmp_encode.proofs.Going.{map_rest, map_rest_none, keeps_then, keeps_last, on_ok}
 use Rattle.rmp_encode.proofs.OpenSteps.{refuses_open, takes, ends, still_open}
-use Rattle.rmp_encode.proofs.slice.list_of.Goals as goal
+use Rattle.rmp_encode.proofs.tests.implementations.list_of.Goals as goal
 
 pub returns-in_err-seq-clause-writes : goal.returns-in_err-seq-clause-writes
 returns-in_err-seq-clause-writes g c =
     let p = err_from_is_err_and c.from_residual.result c.from_residual.ensures.1 in
-    rw (p.1, p.2) (part_memory g.W.Sink (refuses_open g.W.Sink c.args.se.now _ _ _ _ _ c.in_err-seq.was c.serialize_seq.follows.holds-at-none c.requires))
+    rw (p.1, p.2) (part_memory g.W.Sink (refuses_open g.W.Sink c.args.se.now _ _ _ _ _ c.in_err-seq.was c.serialize_seq.follows.holds-at-none tt))
 
 pub loop-value-init : goal.loop-value-init
 loop-value-init g c = record {
@@ -19,7 +19,7 @@ loop-value-init g c = record {
   within = omega arith;
   kind = c.in_ok-seq.ensures.kind;
   owed = c.in_ok-seq.ensures.owed;
-  writing = c.in_ok-seq.ensures.opened _ c.requires;
+  writing = c.in_ok-seq.ensures.opened _ tt;
   keeps = c.in_ok-seq.ensures.keeps;
   values = search rules;
 }
