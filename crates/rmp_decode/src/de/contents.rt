@@ -1,5 +1,5 @@
 //! Content of texts, bytes and extensions, as functions that call themselves take it.
-ghost use Rattle.std.specs.Prelude.{◌≡◌, OnOk, IfOk, IfErr, length};
+ghost use Rattle.std.specs.Prelude.{◌≡◌, ◌≢◌, Bool, true, OnOk, IfOk, IfErr, length};
 ghost use Rattle.std.specs.Io.KnownBytes.{Consumes};
 ghost use Rattle.rmp_wire.specs.Sources.{IsShort};
 ghost use Rattle.rmp_wire.specs.Spelling.{IsBytes};
@@ -16,15 +16,19 @@ use std::marker::PhantomData;
 /// How content is taken from a reader. A function that calls itself may have no bound that names a lifetime, so it has this
 /// one in place of `ReadSlice`, and is called with `Slices`.
 pub trait ReadContent<R: Source> {
+    // Whether content is passed over without memory.
+    ghost lends: { Bool };
+
     /// Passes over the next bytes, where they lie.
     ///
     /// # Errors
-    /// `InvalidDataRead` where they end too soon or the source failed, and `OutOfMemory`.
+    /// `InvalidDataRead` where they end too soon or the source failed, and `OutOfMemory`, unless it lends.
     fn pass(reader: &mut R, len: usize) -> Result<(), Error>
         ensures ok { OnOk result (Passes len (R.ahead reader.old) (R.ahead reader.new)) }
         ensures sound { OnOk result (R.faults reader.new ≡ R.faults reader.old) }
         ensures err { IfErr result (λ e. Explains e (R.faults reader.old) (R.faults reader.new) (IsShort len (R.ahead reader.old))) }
         ensures end { IfErr result (λ e. Explains e (R.faults reader.old) (R.faults reader.new) (IsDataEnd e)) }
+        ensures memory { lends ≡ true → IfErr result (λ e. e ≢ Error.OutOfMemory) }
         ensures place { R.place reader.new ≡ R.place reader.old };
 
     /// Takes the next bytes into a vector.
@@ -46,6 +50,8 @@ pub struct Slices<'de> {
 }
 
 impl<'de, R: ReadSlice<'de>> ReadContent<R> for Slices<'de> {
+    ghost lends = { R.lends };
+
     #[inline(always)]
     fn pass(reader: &mut R, len: usize) -> Result<(), Error> {
         match reader.read_slice(len) {

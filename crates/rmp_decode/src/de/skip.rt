@@ -1,5 +1,5 @@
 //! Messages that are passed over.
-ghost use Rattle.std.specs.Prelude.{◌≡◌, ◌-◌, ◌<◌, true, false, IfErr};
+ghost use Rattle.std.specs.Prelude.{◌≡◌, ◌≢◌, ◌-◌, ◌<◌, true, false, IfErr};
 ghost use Rattle.rmp_decode.specs.Kinds.{Finds, content_len};
 ghost use Rattle.rmp_decode.specs.Law.{Lawful};
 ghost use Rattle.rmp_decode.specs.Refuse.{IsWrong, RefusesFirst, RefusesRowFirst};
@@ -55,6 +55,7 @@ fn skip<R: Source, C: SerializerConfig, P: ReadContent<R>>(
 ) -> Result<(), Error>
     ensures law { Lawful R.Source any_tree de.old de.new result }
     ensures exact { IfErr result (RefusesFirst R.Source IsWrong any_row de.old de.new) }
+    ensures memory { P.lends ≡ true → IfErr result (λ e. e ≢ Error.OutOfMemory) }
 {
     match de.head() {
         Ok((_, head)) => match parts_in(head) {
@@ -82,6 +83,7 @@ fn skip_parts<R: Source, C: SerializerConfig, P: ReadContent<R>>(
     ensures law { SkipsRow R.Source (room_of de.old - 1) count de.old de.new result }
     ensures deep { IfErr result (λ e. room_of de.old ≡ 1 → e ≡ Error.DepthLimitExceeded) }
     ensures exact { IfErr result (λ e. 1 < room_of de.old → RefusesRowFirst R.Source IsWrong any_row (room_of de.old - 1) count de.old de.new e) }
+    ensures memory { P.lends ≡ true → IfErr result (λ e. e ≢ Error.OutOfMemory) }
 {
     let outer = de.room;
     if outer <= 1 {
@@ -104,6 +106,7 @@ fn skip_row<R: Source, C: SerializerConfig, P: ReadContent<R>>(
     requires clean { kept_of de.old ≡ Nothing }
     ensures law { SkipsRow R.Source (room_of de.old) count de.old de.new result }
     ensures exact { IfErr result (RefusesRowFirst R.Source IsWrong any_row (room_of de.old) count de.old de.new) }
+    ensures memory { P.lends ≡ true → IfErr result (λ e. e ≢ Error.OutOfMemory) }
 {
     for _ in 0..count {
         match skip::<R, C, P>(de) {
@@ -127,6 +130,8 @@ impl<R: Source, C: SerializerConfig> Deserializer<R, C> {
         ensures law { Lawful R.Source any_tree self.old self.new result }
         // An error names the first thing that is wrong.
         ensures exact { IfErr result (RefusesFirst R.Source IsWrong any_row self.old self.new) }
+        // Where the source lends, no memory is taken.
+        ensures memory { R.lends ≡ true → IfErr result (λ e. e ≢ Error.OutOfMemory) }
     {
         skip::<R, C, Slices<'de>>(self)
     }
