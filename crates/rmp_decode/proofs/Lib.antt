@@ -1,6 +1,7 @@
 pub mod AnyReads
 pub mod Anything
 pub mod Arrays
+pub mod BufferErrors
 pub mod Buffers
 pub mod ByteParts
 pub mod ContentErrors

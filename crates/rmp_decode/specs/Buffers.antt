@@ -1,15 +1,22 @@
 -- Bytes from a text, from bytes, or from a list of numbers.
-use Rattle.std.specs.Prelude.{◌≡◌, ℕ, ◌+◌, ◌<◌, List, Result, Ok, true, false}
+use Rattle.std.specs.Prelude.{◌≡◌, ◌⊎◌, ℕ, ◌+◌, ◌<◌, ◌≤◌, List, IfSome, Result, Ok, true, false}
 use Rattle.rmp_wire.specs.declared.head.Head.{Head}
 use Rattle.rmp_wire.specs.declared.marker.Marker.{Marker}
 use Rattle.rmp_wire.specs.declared.source.Source.{Ghosts}
-use Rattle.rmp_wire.specs.Msg.{Msg, nil, truth, whole, float32, float64, text, bin, list, map, extension}
-use Rattle.rmp_decode.specs.Law.{Lawful, ReadsHead}
+use Rattle.rmp_wire.specs.declared.head.Head.TheVariants.{Array}
+use Rattle.rmp_wire.specs.Msg.{Msg, Msgs, nil, truth, whole, float32, float64, text, bin, list, map, extension}
+use Rattle.rmp_wire.specs.Spelling.{Spells}
+use Rattle.rmp_decode.specs.Exact.{Stands, Exact}
+use Rattle.rmp_decode.specs.Kinds.{other_number}
+use Rattle.rmp_decode.specs.Law.{Begins, Readable, Lawful, ReadsHead}
 use Rattle.rmp_decode.specs.Read.{IsUnsigned}
 use Rattle.rmp_decode.specs.Rows.{ReadsEach}
+use Rattle.rmp_decode.specs.Seq.{BeginsRow}
+use Rattle.rmp_decode.specs.State.{left, faults_of, room_of}
 use Rattle.rmp_decode.specs.declared.de.Deserializer.{Deserializer}
 use Rattle.rmp_decode.specs.declared.de.seq.SeqAccess.{SeqAccess}
 use Rattle.rmp_decode.specs.declared.error.Error.{Error}
+use Rattle.rmp_decode.specs.declared.error.Error.TheVariants.{DepthLimitExceeded, OutOfMemory}
 
 -- the bytes of a text, which may be no UTF-8, or of bytes, or a list of as many numbers up to 255
 abbrev pub IsBuffer : Msg → List ℕ → Type 0
@@ -37,3 +44,32 @@ pub record IsBehind {R C : Type 0} (len : ℕ) (mid : Deserializer R C) (s : Seq
   pub inner : s.inner + 1 ≡ mid.room
   pub list : s.bytes ≡ false
   pub sound : s.sound ≡ true
+
+-- ---- which error comes of a list
+
+-- numbers up to 255
+abbrev pub AreBytes : Msgs → Type 0
+AreBytes ms = (b : List ℕ) × ReadsEach (IsUnsigned 255) ms b
+
+-- no number up to 255 stands whole at the front
+abbrev pub NoByte : List ℕ → Type 0
+NoByte xs = Begins Spells (Readable (IsUnsigned 255)) 1 xs → ⊥
+
+-- Of n items that are wanted some stand whole at the front and are numbers up to 255. The next one isn't, and is refused as `deserialize_u8` refuses it; or memory was short for the last of these.
+pub record RefusesItem (n : ℕ) (e : Error) (xs : List ℕ) : Type 0 where
+  pub many : ℕ
+  pub before : BeginsRow Spells AreBytes 1 many xs
+  pub refused : ((many < n) × NoByte before.rest × Exact other_number before.rest e) ⊎ ((0 < many) × (many ≤ n) × (e ≡ OutOfMemory))
+
+-- the same of what was left, where the bytes are told and the source had no fault
+unfoldable pub RefusesItems : {R C : Type 0} → Ghosts R → ℕ → Deserializer R C → Deserializer R C → Error → Type 0
+RefusesItems g n old new e = faults_of g new ≡ faults_of g old → IfSome (left g old) (RefusesItem n e)
+
+-- A list at the front is refused as a whole where no level is left, by the room, and else at one of its items.
+pub record RefusesListOf (room n : ℕ) (e : Error) (behind : List ℕ) : Type 0 where
+  pub deep : room ≡ 1 → e ≡ DepthLimitExceeded
+  pub item : 1 < room → RefusesItem n e behind
+
+-- the same of what was left, where the bytes are told and the source had no fault
+unfoldable pub RefusesList : {R C : Type 0} → Ghosts R → Deserializer R C → Deserializer R C → Error → Type 0
+RefusesList g old new e = faults_of g new ≡ faults_of g old → IfSome (left g old) (λ xs. (m : Marker) (n : ℕ) → (s : Stands m (Array n) xs) → RefusesListOf (room_of old) n e s.rest)

@@ -10,7 +10,7 @@ use Rattle.rmp_decode.specs.Law.{ReadsHead}
 use Rattle.rmp_decode.specs.State.{left, faults_of}
 use Rattle.rmp_decode.specs.declared.de.Deserializer.{Deserializer}
 use Rattle.rmp_decode.specs.declared.error.Error.{Error}
-use Rattle.rmp_decode.specs.declared.error.Error.TheVariants.{DepthLimitExceeded, OutOfMemory, Syntax, TypeMismatch}
+use Rattle.rmp_decode.specs.declared.error.Error.TheVariants.{OutOfMemory, Syntax, TypeMismatch}
 use Rattle.rmp_decode.specs.declared.text.Text.TheVariants.{InvalidType, InvalidValue}
 
 -- the head stands at the front, and behind it fewer bytes than it says
@@ -110,7 +110,7 @@ abbrev pub not_str : Bool → Head → List ℕ → Error → Type 0
 not_str true h s e = not_string h s e
 not_str false h s e = not_lent h s e
 
--- a text or bytes aren't, where bytes of its own are wanted; a list is where no level is left, by the room, and its items are each on its own
-abbrev pub not_buffer : ℕ → Head → List ℕ → Error → Type 0
-not_buffer room (Array n) s e = room ≡ 1 → e ≡ DepthLimitExceeded
-not_buffer room h s e = ⊥
+-- a text or bytes aren't, where bytes of its own are wanted; how a list is, isn't said here
+abbrev pub not_buffer : Head → List ℕ → Error → Type 0
+not_buffer (Array n) s e = Unit {0}
+not_buffer h s e = ⊥

@@ -1,13 +1,16 @@
 //! Bytes of its own: from a text, from bytes, or from a list of numbers.
-ghost use Rattle.std.specs.Prelude.{◌≡◌, ◌≤◌, true, false, None, IfOk, IfErr};
+ghost use Rattle.std.specs.Prelude.{◌≡◌, ◌≤◌, ◌<◌, true, false, None, IfOk, IfErr, IfSome, IfNone};
 ghost use Rattle.std.specs.Borrow.{sem, RestsIfErr};
 ghost use Rattle.rmp_wire.specs.Types.{buffer_bytes};
-ghost use Rattle.rmp_decode.specs.Buffers.{IsBuffer, AfterHead, IsBehind};
+ghost use Rattle.rmp_decode.specs.Buffers.{IsBuffer, AfterHead, IsBehind, RefusesItems, RefusesList};
 ghost use Rattle.rmp_decode.specs.contracts.de.Deserializer.{the_row};
 ghost use Rattle.rmp_decode.specs.Content.{IsBufferHead, RefusesContent, not_raw, not_buffer};
-ghost use Rattle.rmp_decode.specs.Kinds.{Finds};
+ghost use Rattle.rmp_decode.specs.Exact.{RefusesExactly};
+ghost use Rattle.rmp_decode.specs.Kinds.{Finds, other_number};
 ghost use Rattle.rmp_decode.specs.Law.{Lawful};
-ghost use Rattle.rmp_decode.specs.State.{left, faults_of, room_of, is_failed, kept_of};
+ghost use Rattle.rmp_decode.specs.Read.{IsUnsigned};
+ghost use Rattle.rmp_decode.specs.Seq.{IsOpen, TakesElement, FailsToTake, left_in, in_bytes, lender_of};
+ghost use Rattle.rmp_decode.specs.State.{left, faults_of, is_failed, kept_of};
 ghost use Rattle.rmp_decode.specs.declared.de.Kept.TheVariants.{Nothing};
 
 use crate::de::kinds::raw_in;
@@ -40,7 +43,9 @@ impl<R: Source, C: SerializerConfig> Deserializer<R, C> {
     where
         R: ReadSlice<'de>,
         ensures law { Lawful R.Source (λ m v. IsBuffer m v.items) self.old self.new result }
-        ensures exact { is_failed self.old ≡ false → IfErr result (RefusesContent IsBufferHead not_raw (not_buffer (room_of self.old)) (faults_of R.Source self.old) (faults_of R.Source self.new) (left R.Source self.old)) }
+        ensures exact { is_failed self.old ≡ false → IfErr result (RefusesContent IsBufferHead not_raw not_buffer (faults_of R.Source self.old) (faults_of R.Source self.new) (left R.Source self.old)) }
+        // A list is refused as a whole where it would nest too deep, and else at an item.
+        ensures list { is_failed self.old ≡ false → IfErr result (RefusesList R.Source self.old self.new) }
     {
         match self.head() {
             Ok((_, head)) => match raw_in(head) {
@@ -82,21 +87,51 @@ impl<R: Source, C: SerializerConfig> Deserializer<R, C> {
     }
 
     // The numbers of a list whose head was taken.
-    fn byte_list<'de>(&mut self, len: u32) -> Result<Vec<u8>, Error>
-    where
-        R: ReadSlice<'de>,
+    fn byte_list(&mut self, len: u32) -> Result<Vec<u8>, Error>
         requires marked { is_failed self.old ≡ true }
         requires clean { kept_of self.old ≡ Nothing }
         ensures law { AfterHead R.Source (λ m v. IsBuffer m v.items) (Head.Array len) self.old self.new result }
-        ensures deep { self.old.room ≤ 1 → IfErr result (λ e. e ≡ Error.DepthLimitExceeded) }
+        ensures deep { IfErr result (λ e. self.old.room ≤ 1 → e ≡ Error.DepthLimitExceeded) }
+        ensures items { IfErr result (λ e. 1 < self.old.room → RefusesItems R.Source len self.old self.new e) }
     {
         let mut items = Vec::new(self.alloc);
         let mut seq = self.open_behind(len)?;
-        while let Some(item) = seq.next_element::<u8>()? {
+        while let Some(item) = seq.next_number()? {
             items.push(item)?;
         }
         seq.end()?;
         Ok(items)
+    }
+}
+
+impl<'x, R: Source, C: SerializerConfig> SeqAccess<'x, R, C> {
+    // Reads the next item of a list as `deserialize_u8` does, if there is one.
+    #[inline(always)]
+    fn next_number(&mut self) -> Result<Option<u8>, Error>
+        requires list { in_bytes self.old ≡ false }
+        ensures same_reference { self.new.de.ghost_name ≡ self.old.de.ghost_name }
+        ensures none { IsOpen self.old → IfOk result (λ o. IfNone o ((left_in self.old ≡ 0) × (self.new ≡ self.old))) }
+        ensures some { IsOpen self.old → IfOk result (λ o. IfSome o (TakesElement R.Source (IsUnsigned 255) self.old self.new)) }
+        ensures err { IsOpen self.old → IfErr result (FailsToTake R.Source (IsUnsigned 255) self.old self.new) }
+        ensures exact { IfErr result (RefusesExactly other_number (faults_of R.Source (lender_of self.old)) (faults_of R.Source (lender_of self.new)) (left R.Source (lender_of self.old))) }
+        ensures marked { is_failed (lender_of self.old) ≡ true → is_failed (lender_of self.new) ≡ true }
+    {
+        if self.left == 0 {
+            return Ok(None);
+        }
+        let outer = self.de.room;
+        self.de.room = self.inner;
+        self.de.failed = false;
+        let number = self.de.deserialize_u8();
+        self.de.room = outer;
+        self.de.failed = true;
+        match number {
+            Ok(n) => {
+                self.left -= 1;
+                Ok(Some(n))
+            }
+            Err(e) => Err(e),
+        }
     }
 }
 

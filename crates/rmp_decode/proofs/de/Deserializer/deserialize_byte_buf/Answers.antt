@@ -1,10 +1,10 @@
-use Rattle.std.proofs.Common.{◌≡◌, ◌≤◌, ℕ, max, arith, subst, refl, Result, Ok, Err, IfErr}
+use Rattle.std.proofs.Common.{◌∙◌, sym, subst, refl, Result, Ok, Err, IfErr}
 use Rattle.rmp_wire.specs.declared.head.Head.TheVariants.{Array}
 use Rattle.rmp_decode.specs.Content.{IsBufferHead, not_raw, not_buffer}
 use Rattle.rmp_decode.specs.Kinds.{raw_head}
 use Rattle.rmp_decode.specs.Law.{ReadsHead}
-use Rattle.rmp_decode.specs.State.{room_of}
-use Rattle.rmp_decode.specs.declared.error.Error.TheVariants.{DepthLimitExceeded}
+use Rattle.rmp_decode.specs.declared.error.Error.{Error}
+use Rattle.rmp_decode.proofs.BufferErrors.{list_none, list_other, list_behind, raw_no_list}
 use Rattle.rmp_decode.proofs.Buffers.{raw_buffer, no_buffer}
 use Rattle.rmp_decode.proofs.ContentErrors.{content_error, content_other, content_none, content_apart, piece_ended, raw_len, buffer_wanted, no_buffer_head}
 use Rattle.rmp_decode.proofs.Contents.{raw_content, content_read, content_short}
@@ -31,25 +31,31 @@ returns-in-Some-list_in-clause-law g c = c.byte_list.ensures.law c.args.self.now
 
 pub returns-in-Err-owned-clause-exact : goal.returns-in-Err-owned-clause-exact
 returns-in-Err-owned-clause-exact g c = λ _.
-    content_error g.R.Source IsBufferHead not_raw (not_buffer (room_of c.args.self.now)) c.args.self.now c.head.new.self _ (c.in-Ok.field-0-0, c.in-Ok.head) (raw_head c.in-Some.field-0-0 c.in-Some.len) c.in-Some.len _ c.in-Ok.ensures c.in-Some.ensures (raw_len c.in-Some.field-0-0 c.in-Some.len) (buffer_wanted c.in-Some.field-0-0 c.in-Some.len) (piece_ended _ _ _ _ _ _ c.in-Err-owned.ensures.err c.in-Err-owned.ensures.end)
+    content_error g.R.Source IsBufferHead not_raw not_buffer c.args.self.now c.head.new.self _ (c.in-Ok.field-0-0, c.in-Ok.head) (raw_head c.in-Some.field-0-0 c.in-Some.len) c.in-Some.len _ c.in-Ok.ensures c.in-Some.ensures (raw_len c.in-Some.field-0-0 c.in-Some.len) (buffer_wanted c.in-Some.field-0-0 c.in-Some.len) (piece_ended _ _ _ _ _ _ c.in-Err-owned.ensures.err c.in-Err-owned.ensures.end)
 
 pub returns-in-None-list_in-clause-exact : goal.returns-in-None-list_in-clause-exact
-returns-in-None-list_in-clause-exact g c = λ _. content_other IsBufferHead not_raw (not_buffer (room_of c.args.self.now)) _ _ _ c.in-Ok.field-0-0 c.in-Ok.head _ c.in-Ok.ensures.marked (no_buffer_head c.in-Ok.head c.in-None.ensures c.in-None-list_in.ensures) refl
+returns-in-None-list_in-clause-exact g c = λ _. content_other IsBufferHead not_raw not_buffer _ _ _ c.in-Ok.field-0-0 c.in-Ok.head _ c.in-Ok.ensures.marked (no_buffer_head c.in-Ok.head c.in-None.ensures c.in-None-list_in.ensures) refl
 
-on_err : {A E : Type 0} {P Q : E → Type 0} (r : Result A E) → IfErr r Q → ((e : E) → Q e → P e) → IfErr r P
-on_err (Ok a) q f = tt
-on_err (Err e) q f = f e q
-
-one_room : (old mid : ℕ) → mid ≡ old → max 1 old ≡ 1 → mid ≤ 1
-one_room old mid e o = omega (arith, e, o)
-
--- what holds of an error where this does
-under : {A E D : Type 0} (Q : E → Type 0) (r : Result A E) → (D → IfErr r Q) → IfErr r (λ e. D → Q e)
-under Q (Ok a) f = tt
-under Q (Err e) f = f
+under_list : {A : Type 0} (r : Result A Error) {P : Error → Type 0} → ((e : Error) → P e) → IfErr r P
+under_list (Ok a) f = tt
+under_list (Err e) f = f e
 
 pub returns-in-Some-list_in-clause-exact : goal.returns-in-Some-list_in-clause-exact
-returns-in-Some-list_in-clause-exact g c = λ _. on_err c.byte_list.result (under (λ e. e ≡ DepthLimitExceeded) c.byte_list.result c.byte_list.ensures.deep) (λ e d. content_apart IsBufferHead not_raw (not_buffer (room_of c.args.self.now)) _ _ _ c.in-Ok.field-0-0 c.in-Ok.head (Array c.in-Some-list_in.len) e c.in-Ok.ensures.marked c.in-Some-list_in.ensures refl tt (λ s. λ o. d (one_room c.args.self.now.room c.head.new.self.room c.in-Ok.ensures.stays.room o)))
+returns-in-Some-list_in-clause-exact g c = λ _. under_list c.byte_list.result (λ e. content_apart IsBufferHead not_raw not_buffer _ _ _ c.in-Ok.field-0-0 c.in-Ok.head (Array c.in-Some-list_in.len) e c.in-Ok.ensures.marked c.in-Some-list_in.ensures refl tt (λ s. tt))
 
 pub returns-in-Err-clause-exact : goal.returns-in-Err-clause-exact
-returns-in-Err-clause-exact g c = λ o. content_none IsBufferHead not_raw (not_buffer (room_of c.args.self.now)) _ _ _ _ (c.in-Err.ensures.ends o)
+returns-in-Err-clause-exact g c = λ o. content_none IsBufferHead not_raw not_buffer _ _ _ _ (c.in-Err.ensures.ends o)
+
+-- ---- a list
+
+pub returns-in-Err-owned-clause-list : goal.returns-in-Err-owned-clause-list
+returns-in-Err-owned-clause-list g c = λ _. list_other g.R.Source c.args.self.now _ _ c.in-Ok.field-0-0 c.in-Ok.head c.in-Ok.ensures.marked (λ n e. raw_no_list c.in-Some.field-0-0 c.in-Some.len n (sym c.in-Some.ensures ∙ e))
+
+pub returns-in-Some-list_in-clause-list : goal.returns-in-Some-list_in-clause-list
+returns-in-Some-list_in-clause-list g c = λ _. list_behind g.R.Source c.args.self.now c.head.new.self _ c.in-Ok.field-0-0 c.in-Ok.head c.in-Some-list_in.len c.byte_list.result c.in-Ok.ensures c.in-Some-list_in.ensures c.byte_list.ensures.deep c.byte_list.ensures.items
+
+pub returns-in-None-list_in-clause-list : goal.returns-in-None-list_in-clause-list
+returns-in-None-list_in-clause-list g c = λ _. list_other g.R.Source c.args.self.now _ _ c.in-Ok.field-0-0 c.in-Ok.head c.in-Ok.ensures.marked c.in-None-list_in.ensures
+
+pub returns-in-Err-clause-list : goal.returns-in-Err-clause-list
+returns-in-Err-clause-list g c = λ o. list_none g.R.Source c.args.self.now _ _ (c.in-Err.ensures.ends o)
