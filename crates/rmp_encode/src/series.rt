@@ -11,6 +11,7 @@ use crate::ser::Serialize;
 use crate::serializer::Serializer;
 use rmp_wire::Sink;
 use rmp_wire::config::SerializerConfig;
+use std::mem;
 
 /// The elements of a list, or the keys and values of a map, that are still to be written.
 ///
@@ -156,6 +157,9 @@ impl<'a, W: Sink, C: SerializerConfig> MaybeUnknownLengthCompound<'a, W, C> {
     ghost use Rattle.rmp_encode.specs.Opens.{inside, reference, counted, left_of, not_begun, is_map, owed, owed_at, one_less, MayTake, MayEnd, Goes, GoesOn, GoesOnMap, EndsList, EndsMap, Stays};
 
     // Writes a part, or keeps it.
+    //
+    // The buffer is moved out while a part is written into it. So no reference into the compound is handed on, and a compound
+    // that has no buffer can stay in registers.
     #[inline(always)]
     fn put_part<T: Serialize>(&mut self, value: &T) -> Result<(), Error>
         requires { MayTake (left_of self.old) }
@@ -178,9 +182,17 @@ impl<'a, W: Sink, C: SerializerConfig> MaybeUnknownLengthCompound<'a, W, C> {
                 if full {
                     return Err(Error::InvalidDataModel("length past 32 bits"));
                 }
-                value.serialize(buffer)?;
-                self.count += 1;
-                Ok(())
+                let empty = self.se.buffer();
+                let mut kept = mem::replace(buffer, empty);
+                let result = value.serialize(&mut kept);
+                *buffer = kept;
+                match result {
+                    Ok(()) => {
+                        self.count += 1;
+                        Ok(())
+                    }
+                    Err(e) => Err(e),
+                }
             }
         }
     }
