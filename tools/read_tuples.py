@@ -78,7 +78,7 @@ impl<'de, R: ReadSlice<'de>, {bounds(n)}> Deserialize<'de, R> for {kinds} {{
     ghost absent = {{ None }};
 
     fn deserialize<C: SerializerConfig>(de: &mut Deserializer<R, C>) -> Result<{kinds}, Error> {{
-        let mut seq = match de.deserialize_seq() {{
+        let mut seq = match de.deserialize_tuple({n}) {{
             Ok(seq) => seq,
             Err(e) => return Err(e),
         }};
@@ -181,7 +181,7 @@ use {path}.Goals as goal
 
 pub returns-in-Err : goal.returns-in-Err
 returns-in-Err g c =
-{wanted}    seq_unopened g.R.Source Q _ _ _ (rw c.in-Err.is at c.deserialize_seq.follows.holds-at-none)
+{wanted}    seq_unopened g.R.Source Q _ _ _ (rw c.in-Err.is at c.deserialize_tuple.follows.holds-at-none)
 
 pub returns-in-Err-parts_{n} : goal.returns-in-Err-parts_{n}
 returns-in-Err-parts_{n} g c =
@@ -220,7 +220,7 @@ use {path}.Goals as goal
 
 pub returns-in-Err : goal.returns-in-Err
 returns-in-Err g c =
-{wanted}    seq_unopened g.R.Source Q _ _ _ (rw c.in-Err.is at c.deserialize_seq.follows.holds-at-none)
+{wanted}    seq_unopened g.R.Source Q _ _ _ (rw c.in-Err.is at c.deserialize_tuple.follows.holds-at-none)
 
 pub returns-in-Err-element : goal.returns-in-Err-element
 returns-in-Err-element g c =

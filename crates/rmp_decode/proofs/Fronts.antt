@@ -5,7 +5,7 @@ use Rattle.std.proofs.lemmas.Nat.{be_bytes_2, be_bytes_4, be_bytes_8}
 use Rattle.std.specs.Io.KnownBytes.{Consumes}
 use Rattle.std.specs.Int.{Width, w8, w16, w32, w64, to_be_bytes}
 use Rattle.rmp_wire.specs.declared.head.Head.{Head}
-use Rattle.rmp_wire.specs.declared.head.Head.TheVariants.{Whole, Text}
+use Rattle.rmp_wire.specs.declared.head.Head.TheVariants.{Whole, Text, Array}
 use Rattle.rmp_wire.specs.declared.source.Source.{Ghosts}
 use Rattle.rmp_wire.specs.Heads.{IsHead}
 use Rattle.rmp_wire.specs.Sources.{IsFront, Skips}
@@ -180,3 +180,16 @@ text_eight x n (a ∷ ys) e l s b =
 pub text_8 : (xs : List ℕ) (n : ℕ) → 1 ≤ length xs → get_or xs 0 0 ≡ 0xd9 → 1 ≤ length (behind xs) → n ≡ get_or (behind xs) 0 0 → ((i : ℕ) → get_or xs i 0 < 256) → StandsIn 2 (Text n) xs
 text_8 [] n l e m s f = absurd (omega arith)
 text_8 (x ∷ ys) n l e m s f = text_eight x n ys e (rw (behind_is x ys) at m) (rw (behind_is x ys) at s) (omega (arith, s, rw (behind_is x ys) at s, f 1))
+
+-- ---- lists at the front
+
+pub list_held : (xs : List ℕ) (n : ℕ) → 1 ≤ length xs → 0x90 ≤ get_or xs 0 0 → get_or xs 0 0 < 0xa0 → n ≡ get_or xs 0 0 - 0x90 → StandsIn 1 (Array n) xs
+unfolding IsHead
+list_held [] n l b t e = absurd (omega arith)
+list_held (x ∷ xs) n l b t e =
+    let same : x ≡ 0x90 + n = omega arith in
+    record {
+      marker = marker_of x;
+      stands = record { byte = x; behind = []; rest = xs; front = refl; is_marker = refl; is_head = inl (omega arith, ap (λ t. t ∷ []) same) };
+      long = refl;
+    }

@@ -1,5 +1,5 @@
 //! Heads that lie in memory whole, read where they lie.
-ghost use Rattle.std.specs.Prelude.{◌≡◌, ◌≤◌, pos, true, false, IfSome, IfNone};
+ghost use Rattle.std.specs.Prelude.{◌≡◌, ◌<◌, ◌≤◌, pos, true, false, IfSome, IfNone};
 ghost use Rattle.rmp_decode.specs.Fronts.{StandsIn, TakesFront};
 ghost use Rattle.rmp_decode.specs.State.{is_failed, kept_of};
 ghost use Rattle.rmp_decode.specs.declared.de.Kept.TheVariants.{Nothing};
@@ -58,6 +58,20 @@ fn text_at(front: &[u8]) -> Option<(u32, usize)>
     }
 }
 
+// A list of up to 15 elements whose head, of one byte, stands at the front: the count of its elements.
+#[inline(always)]
+fn list_at(front: &[u8]) -> Option<u32>
+    ensures { IfSome result (λ n. StandsIn 1 (Head.Array n) front.now) }
+{
+    match front {
+        [first, ..] => match first {
+            0x90..=0x9f => Some(u32::from(*first - 0x90)),
+            _ => None,
+        },
+        _ => None,
+    }
+}
+
 impl<R: Source, C: SerializerConfig> Deserializer<R, C> {
     // Whether the next message begins with the bytes ahead of the source: nothing was kept back, and no read failed.
     #[inline(always)]
@@ -108,6 +122,30 @@ impl<R: Source, C: SerializerConfig> Deserializer<R, C> {
         match text_at(self.reader.front()) {
             Some((n, len)) => {
                 if self.reader.skip(len) {
+                    self.failed = true;
+                    Some(n)
+                } else {
+                    None
+                }
+            }
+            None => None,
+        }
+    }
+
+    // Takes the head of a list of up to 15 elements that may nest, where it lies in memory, and leaves this failed until the
+    // list is read. Else nothing is taken.
+    #[inline(always)]
+    pub(crate) fn list_front(&mut self) -> Option<u32>
+        ensures deep { IfSome result (λ _. 1 < self.old.room) }
+        ensures taken { IfSome result (λ n. TakesFront R.Source (Head.Array n) self.old self.new) }
+        ensures kept { IfNone result (self.new ≡ self.old) }
+    {
+        if self.room <= 1 || !self.begins_ahead() {
+            return None;
+        }
+        match list_at(self.reader.front()) {
+            Some(n) => {
+                if self.reader.skip(1) {
                     self.failed = true;
                     Some(n)
                 } else {

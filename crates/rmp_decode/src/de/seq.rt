@@ -73,6 +73,39 @@ impl<R: Source, C: SerializerConfig> Deserializer<R, C> {
         }
     }
 
+    // The same, by a call.
+    #[inline(never)]
+    fn headed_seq(&mut self) -> Result<(bool, u32), Error>
+        ensures ok { IfOk result (λ p. TakesHead R.Source (seq_head p.0 p.1) self.old self.new) }
+        ensures deep { IfOk result (λ p. p.0 ≡ false → 1 < self.old.room) }
+        ensures stays { Stays R.Source self.old self.new }
+        ensures sound { OnOk result (faults_of R.Source self.new ≡ faults_of R.Source self.old) }
+        ensures fresh { OnOk result (is_failed self.old ≡ false) }
+        ensures clean { OnOk result (kept_of self.new ≡ Nothing) }
+        ensures failed { is_failed self.new ≡ true }
+        ensures err { IfErr result (FailsToOpen R.Source self.old self.new) }
+    {
+        self.open_seq()
+    }
+
+    // The same, of a list that is likely to be short: its head is read where it lies.
+    #[inline(always)]
+    fn open_tuple(&mut self) -> Result<(bool, u32), Error>
+        ensures ok { IfOk result (λ p. TakesHead R.Source (seq_head p.0 p.1) self.old self.new) }
+        ensures deep { IfOk result (λ p. p.0 ≡ false → 1 < self.old.room) }
+        ensures stays { Stays R.Source self.old self.new }
+        ensures sound { OnOk result (faults_of R.Source self.new ≡ faults_of R.Source self.old) }
+        ensures fresh { OnOk result (is_failed self.old ≡ false) }
+        ensures clean { OnOk result (kept_of self.new ≡ Nothing) }
+        ensures failed { is_failed self.new ≡ true }
+        ensures err { IfErr result (FailsToOpen R.Source self.old self.new) }
+    {
+        match self.list_front() {
+            Some(len) => Ok((false, len)),
+            None => self.headed_seq(),
+        }
+    }
+
     /// Opens a list, or bytes as the list of their numbers.
     ///
     /// # Errors
@@ -108,7 +141,18 @@ impl<R: Source, C: SerializerConfig> Deserializer<R, C> {
         ensures same_reference { IfOk result (λ s. s.de.ghost_name ≡ self.entry.ghost_name) }
         ensures opened { IfOk result (Opens R.Source self.old) }
     {
-        self.deserialize_seq()
+        let room = self.room;
+        match self.open_tuple() {
+            Ok((bytes, left)) => Ok(SeqAccess {
+                de: self,
+                left,
+                count: left,
+                inner: inner_room(room, bytes),
+                bytes,
+                sound: true,
+            }),
+            Err(e) => Err(e),
+        }
     }
 
     /// The same for a struct without names of fields. Its name isn't written.
@@ -119,13 +163,13 @@ impl<R: Source, C: SerializerConfig> Deserializer<R, C> {
     pub fn deserialize_tuple_struct(
         &mut self,
         _name: &str,
-        _len: usize,
+        len: usize,
     ) -> Result<SeqAccess<'_, R, C>, Error>
         ensures* refused { sem 𝓛 (RestsIfErr (the_row R.row C.row) self.entry (λ s. s.de.ghost_name) result (λ last. IfErr result (FailsToOpen R.Source self.old last))) }
         ensures same_reference { IfOk result (λ s. s.de.ghost_name ≡ self.entry.ghost_name) }
         ensures opened { IfOk result (Opens R.Source self.old) }
     {
-        self.deserialize_seq()
+        self.deserialize_tuple(len)
     }
 
     // Takes a byte, and keeps it back as a number.

@@ -16,7 +16,7 @@ impl<'de, R: ReadSlice<'de>, A: Deserialize<'de, R>> Deserialize<'de, R> for (A,
     ghost absent = { None };
 
     fn deserialize<C: SerializerConfig>(de: &mut Deserializer<R, C>) -> Result<(A,), Error> {
-        let mut seq = match de.deserialize_seq() {
+        let mut seq = match de.deserialize_tuple(1) {
             Ok(seq) => seq,
             Err(e) => return Err(e),
         };
@@ -67,7 +67,7 @@ impl<'de, R: ReadSlice<'de>, A: Deserialize<'de, R>, B: Deserialize<'de, R>> Des
     ghost absent = { None };
 
     fn deserialize<C: SerializerConfig>(de: &mut Deserializer<R, C>) -> Result<(A, B), Error> {
-        let mut seq = match de.deserialize_seq() {
+        let mut seq = match de.deserialize_tuple(2) {
             Ok(seq) => seq,
             Err(e) => return Err(e),
         };
@@ -123,7 +123,7 @@ impl<
     ghost absent = { None };
 
     fn deserialize<C: SerializerConfig>(de: &mut Deserializer<R, C>) -> Result<(A, B, D), Error> {
-        let mut seq = match de.deserialize_seq() {
+        let mut seq = match de.deserialize_tuple(3) {
             Ok(seq) => seq,
             Err(e) => return Err(e),
         };
@@ -186,7 +186,7 @@ impl<
     fn deserialize<C: SerializerConfig>(
         de: &mut Deserializer<R, C>,
     ) -> Result<(A, B, D, E), Error> {
-        let mut seq = match de.deserialize_seq() {
+        let mut seq = match de.deserialize_tuple(4) {
             Ok(seq) => seq,
             Err(e) => return Err(e),
         };
@@ -251,7 +251,7 @@ impl<
     fn deserialize<C: SerializerConfig>(
         de: &mut Deserializer<R, C>,
     ) -> Result<(A, B, D, E, F), Error> {
-        let mut seq = match de.deserialize_seq() {
+        let mut seq = match de.deserialize_tuple(5) {
             Ok(seq) => seq,
             Err(e) => return Err(e),
         };
@@ -318,7 +318,7 @@ impl<
     fn deserialize<C: SerializerConfig>(
         de: &mut Deserializer<R, C>,
     ) -> Result<(A, B, D, E, F, G), Error> {
-        let mut seq = match de.deserialize_seq() {
+        let mut seq = match de.deserialize_tuple(6) {
             Ok(seq) => seq,
             Err(e) => return Err(e),
         };
@@ -387,7 +387,7 @@ impl<
     fn deserialize<C: SerializerConfig>(
         de: &mut Deserializer<R, C>,
     ) -> Result<(A, B, D, E, F, G, H), Error> {
-        let mut seq = match de.deserialize_seq() {
+        let mut seq = match de.deserialize_tuple(7) {
             Ok(seq) => seq,
             Err(e) => return Err(e),
         };
@@ -458,7 +458,7 @@ impl<
     fn deserialize<C: SerializerConfig>(
         de: &mut Deserializer<R, C>,
     ) -> Result<(A, B, D, E, F, G, H, I), Error> {
-        let mut seq = match de.deserialize_seq() {
+        let mut seq = match de.deserialize_tuple(8) {
             Ok(seq) => seq,
             Err(e) => return Err(e),
         };

@@ -8,7 +8,7 @@ use Rattle.rmp_decode.proofs.de.tuples.Tuple1Deserialize.deserialize.Goals as go
 pub returns-in-Err : goal.returns-in-Err
 returns-in-Err g c =
     let Q : record { 0 : g.row.A.Denot } → Msgs → Type 0 = λ v ms. AndThen (λ k. g.A.Deserialize.reads (g.C.SerializerConfig.human c.args.de.now.config) g.R.ReadSlice.lends k v.0) NoMore ms in
-    seq_unopened g.R.Source Q _ _ _ (rw c.in-Err.is at c.deserialize_seq.follows.holds-at-none)
+    seq_unopened g.R.Source Q _ _ _ (rw c.in-Err.is at c.deserialize_tuple.follows.holds-at-none)
 
 pub returns-in-Err-element : goal.returns-in-Err-element
 returns-in-Err-element g c =

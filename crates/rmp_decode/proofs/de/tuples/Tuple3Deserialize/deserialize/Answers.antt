@@ -9,7 +9,7 @@ use Rattle.rmp_decode.proofs.de.tuples.Tuple3Deserialize.deserialize.Goals as go
 pub returns-in-Err : goal.returns-in-Err
 returns-in-Err g c =
     let Q : g.row.A.Denot × g.row.B.Denot × g.row.D.Denot → Msgs → Type 0 = λ v ms. AndThen (λ k. g.A.Deserialize.reads (g.C.SerializerConfig.human c.args.de.now.config) g.R.ReadSlice.lends k v.0) (AndThen (λ k. g.B.Deserialize.reads (g.C.SerializerConfig.human c.args.de.now.config) g.R.ReadSlice.lends k v.1) (AndThen (λ k. g.D.Deserialize.reads (g.C.SerializerConfig.human c.args.de.now.config) g.R.ReadSlice.lends k v.2) NoMore)) ms in
-    seq_unopened g.R.Source Q _ _ _ (rw c.in-Err.is at c.deserialize_seq.follows.holds-at-none)
+    seq_unopened g.R.Source Q _ _ _ (rw c.in-Err.is at c.deserialize_tuple.follows.holds-at-none)
 
 pub returns-in-Err-parts_3 : goal.returns-in-Err-parts_3
 returns-in-Err-parts_3 g c =

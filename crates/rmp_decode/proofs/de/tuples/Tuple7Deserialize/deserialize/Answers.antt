@@ -9,7 +9,7 @@ use Rattle.rmp_decode.proofs.de.tuples.Tuple7Deserialize.deserialize.Goals as go
 pub returns-in-Err : goal.returns-in-Err
 returns-in-Err g c =
     let Q : g.row.A.Denot × g.row.B.Denot × g.row.D.Denot × g.row.E.Denot × g.row.F.Denot × g.row.G.Denot × g.row.H.Denot → Msgs → Type 0 = λ v ms. AndThen (λ k. g.A.Deserialize.reads (g.C.SerializerConfig.human c.args.de.now.config) g.R.ReadSlice.lends k v.0) (AndThen (λ k. g.B.Deserialize.reads (g.C.SerializerConfig.human c.args.de.now.config) g.R.ReadSlice.lends k v.1) (AndThen (λ k. g.D.Deserialize.reads (g.C.SerializerConfig.human c.args.de.now.config) g.R.ReadSlice.lends k v.2) (AndThen (λ k. g.E.Deserialize.reads (g.C.SerializerConfig.human c.args.de.now.config) g.R.ReadSlice.lends k v.3) (AndThen (λ k. g.F.Deserialize.reads (g.C.SerializerConfig.human c.args.de.now.config) g.R.ReadSlice.lends k v.4) (AndThen (λ k. g.G.Deserialize.reads (g.C.SerializerConfig.human c.args.de.now.config) g.R.ReadSlice.lends k v.5) (AndThen (λ k. g.H.Deserialize.reads (g.C.SerializerConfig.human c.args.de.now.config) g.R.ReadSlice.lends k v.6) NoMore)))))) ms in
-    seq_unopened g.R.Source Q _ _ _ (rw c.in-Err.is at c.deserialize_seq.follows.holds-at-none)
+    seq_unopened g.R.Source Q _ _ _ (rw c.in-Err.is at c.deserialize_tuple.follows.holds-at-none)
 
 pub returns-in-Err-parts_7 : goal.returns-in-Err-parts_7
 returns-in-Err-parts_7 g c =
