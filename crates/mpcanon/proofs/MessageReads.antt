@@ -20,7 +20,7 @@ use Rattle.rmp_decode.specs.declared.error.Error.TheVariants.{OutOfMemory}
 use Rattle.rmp_decode.proofs.Contents.{bare}
 use Rattle.rmp_serde.specs.Msg.{Msg, nil, depth}
 use Rattle.rmp_serde.specs.Read.{reads_value, ItemsUtf8}
-use Rattle.rmp_serde.specs.Refuse.{IsWrongValue, RefusesValue}
+use Rattle.rmp_serde.specs.Refuse.{UnreadFor, RefusesValue}
 use Rattle.mpcanon.specs.Messages.{message_text, refused_text}
 use Rattle.mpcanon.specs.Output.{PrintsLines}
 use Rattle.mpcanon.specs.declared.run.RunFault.{RunFault}
@@ -70,17 +70,17 @@ module _ {C : Type 0} (h : Ghosts ReadRefReader) (tells : TellsRest h) (old new 
       refuses (record { bytes = b; rest = rest; tree = m; front = is; spelled = s; fits = subst (λ n. depth m < max 1 n) (sym room) acc.nested; holds = (m, (refl, acc.utf8)) })
 
   -- and the error names what is wrong
-  pub names_wrong : (e : Error) → e ≢ OutOfMemory → RefusesValue h old new e → old.failed ≡ false → Refusal IsWrongValue ItemsUtf8 1024 e (rest_of old.reader)
+  pub names_wrong : (e : Error) → RefusesValue h old new e → old.failed ≡ false → Refusal UnreadFor ItemsUtf8 1024 e (rest_of old.reader)
   unfolding RefusedFor
-  names_wrong e n x ready =
-      let refused = subst (λ o. RefusedFor IsWrongValue ItemsUtf8 (room_of old) e o) (ahead_is old kept) (x ready n (tells.sound new.reader old.reader)) in
-      subst (λ n. Refusal IsWrongValue ItemsUtf8 (max 1 n) e (rest_of old.reader)) room refused
+  names_wrong e x ready =
+      let refused = subst (λ o. RefusedFor UnreadFor ItemsUtf8 (room_of old) e o) (ahead_is old kept) (x ready (tells.sound new.reader old.reader)) in
+      subst (λ n. Refusal UnreadFor ItemsUtf8 (max 1 n) e (rest_of old.reader)) room refused
 
 -- a failure says the same whatever the answer would have been
 pub prints_failed : {A B W : Type 0} (g : Sinks W) {old new : W} {e : RunFault} → PrintsLines {A = A} g old new (Err e) → PrintsLines {A = B} g old new (Err e)
 prints_failed g p = record { whole = tt; stops = p.stops; place = p.place }
 
-pub message_refused : {W : Type 0} (g : Sinks W) (bytes rest : List ℕ) (place : ℕ) (e : Error) (r : Result Bool RunFault) {old mid : W} (new : W) → SoFar g bytes rest old mid → place ≡ length bytes - length rest → (e ≢ OutOfMemory → NoneBegins rest) → (e ≢ OutOfMemory → Refusal IsWrongValue ItemsUtf8 1024 e rest) → OnOk r (e ≢ OutOfMemory) → IfOk r (λ a. a ≡ false)
+pub message_refused : {W : Type 0} (g : Sinks W) (bytes rest : List ℕ) (place : ℕ) (e : Error) (r : Result Bool RunFault) {old mid : W} (new : W) → SoFar g bytes rest old mid → place ≡ length bytes - length rest → (e ≢ OutOfMemory → NoneBegins rest) → Refusal UnreadFor ItemsUtf8 1024 e rest → OnOk r (e ≢ OutOfMemory) → IfOk r (λ a. a ≡ false)
     → OnOk r (Appends (g.told mid) (g.told new) (line (refused_text place e))) → IfOk r (λ a. Puts g (λ out. PrintsMessages bytes out a) old new)
-message_refused g bytes rest place e (Ok a) {old} new p at none wrong n f appended = subst (λ x. Puts g (λ out. PrintsMessages bytes out x) old new) (sym f) (then_refused g bytes rest place e p at (none n) (wrong n) appended)
+message_refused g bytes rest place e (Ok a) {old} new p at none wrong n f appended = subst (λ x. Puts g (λ out. PrintsMessages bytes out x) old new) (sym f) (then_refused g bytes rest place e p at (none n) wrong appended)
 message_refused g bytes rest place e (Err x) new p at none wrong n f appended = tt

@@ -15,7 +15,7 @@ use Rattle.rmp_wire.specs.Spelling.{Spells}
 use Rattle.rmp_wire.proofs.Lists.{spells_more}
 use Rattle.rmp_serde.specs.Msg.{Msg}
 use Rattle.rmp_serde.specs.Read.{ItemsUtf8}
-use Rattle.rmp_serde.specs.Refuse.{IsWrongValue}
+use Rattle.rmp_serde.specs.Refuse.{UnreadFor}
 use Rattle.rmp_decode.specs.Refuse.{Refusal}
 use Rattle.rmp_decode.specs.declared.error.Error.{Error}
 use Rattle.std.proofs.lemmas.List.{length-append}
@@ -140,7 +140,7 @@ module _ {W : Type 0} (g : Ghosts W) where
   all_read bytes (x ∷ xs) p e = absurd (omega arith)
 
   -- what is left begins with no message, and its refusal was printed
-  pub then_refused : (bytes rest : List ℕ) (place : ℕ) (e : Error) {old mid new : W} → SoFar g bytes rest old mid → place ≡ length bytes - length rest → NoneBegins rest → Refusal IsWrongValue ItemsUtf8 1024 e rest → Appends (g.told mid) (g.told new) (line (refused_text place e)) → Puts g (λ out. PrintsMessages bytes out false) old new
+  pub then_refused : (bytes rest : List ℕ) (place : ℕ) (e : Error) {old mid new : W} → SoFar g bytes rest old mid → place ≡ length bytes - length rest → NoneBegins rest → Refusal UnreadFor ItemsUtf8 1024 e rest → Appends (g.told mid) (g.told new) (line (refused_text place e)) → Puts g (λ out. PrintsMessages bytes out false) old new
   then_refused bytes rest place e p at none wrong appended = record {
     out = p.puts.out ++ line (refused_text place e);
     appended = Appends-trans _ _ _ p.puts.out (line (refused_text place e)) p.puts.appended appended;

@@ -7,7 +7,7 @@ use Rattle.rmp_wire.specs.Spelling.{Spells, SpellsAll}
 use Rattle.rmp_wire.specs.declared.sink.Sink.{Ghosts}
 use Rattle.rmp_serde.specs.Msg.{Msg, msgs, depth}
 use Rattle.rmp_serde.specs.Read.{AllTextsUtf8, ItemsUtf8}
-use Rattle.rmp_serde.specs.Refuse.{IsWrongValue}
+use Rattle.rmp_serde.specs.Refuse.{UnreadFor}
 use Rattle.rmp_decode.specs.Refuse.{Refusal}
 use Rattle.rmp_decode.specs.declared.error.Error.{Error}
 use Rattle.mpcanon.specs.Lines.{digits_in}
@@ -36,7 +36,7 @@ pub record HoldsMessages (ms : List Msg) (bytes front rest : List ℕ) : Type 0 
 pub record RefusesAt (place : ℕ) (rest out : List ℕ) : Type 0 where
   pub error : Error
   pub none : NoneBegins rest
-  pub wrong : Refusal IsWrongValue ItemsUtf8 1024 error rest
+  pub wrong : Refusal UnreadFor ItemsUtf8 1024 error rest
   pub shown : out ≡ line (refused_text place error)
 
 -- how the messages of a line end: nothing is left, or no message begins there

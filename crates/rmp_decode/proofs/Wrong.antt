@@ -3,6 +3,7 @@ use Rattle.std.proofs.Common.{◌≡◌, ◌≢◌, sym, ap, subst, refl, ℕ, s
 use Rattle.std.proofs.lemmas.Bool.{cases_eq}
 use Rattle.std.specs.Io.KnownBytes.{Consumes}
 use Rattle.rmp_wire.specs.declared.head.Head.{Head}
+use Rattle.rmp_wire.specs.declared.marker.Marker.{Marker}
 use Rattle.rmp_wire.specs.Heads.{IsHead}
 use Rattle.rmp_wire.specs.Msg.{Msgs, count, depth_all}
 use Rattle.rmp_wire.specs.Sources.{IsShort}
@@ -112,15 +113,6 @@ module _ (wrong : ℕ → Error → List ℕ → Type 0) (readable : Msgs → Ty
       let f : Front h xs ys = front_of h bytes xs ys t i in
       here (wider room e xs (wrong_data room e xs (inr (h, record { marker = marker_of f.byte; stands = stands f; short = s })) d))
 
-  -- memory was short for it
-  pub wrong_memory : (room : ℕ) (known k : Option (List ℕ)) (bytes : List ℕ) (h : Head) → Consumes known k bytes → IsHead h bytes → ((q : Bool × ℕ) → h ≡ parts_head q.0 q.1 → ⊥) → RefusedFor wrong readable room errors.OutOfMemory known
-  unfolding RefusedFor
-  wrong_memory room None k bytes h t i n = tt
-  wrong_memory room (Some xs) None bytes h t i n = absurd t
-  wrong_memory room (Some xs) (Some ys) bytes h t i n =
-      let f : Front h xs ys = front_of h bytes xs ys t i in
-      here (wider room errors.OutOfMemory xs (record { head = h; marker = marker_of f.byte; stands = stands f; no_parts = n }))
-
   -- a list or a map would nest too deep
   pub wrong_deep : (room : ℕ) (is_map : Bool) (len : ℕ) (known k : Option (List ℕ)) (bytes : List ℕ) → Consumes known k bytes → IsHead (parts_head is_map len) bytes → room ≡ 1 → RefusedFor wrong readable room errors.DepthLimitExceeded known
   unfolding RefusedFor
@@ -130,9 +122,16 @@ module _ (wrong : ℕ → Error → List ℕ → Type 0) (readable : Msgs → Ty
       let f : Front (parts_head is_map len) xs ys = front_of (parts_head is_map len) bytes xs ys t i in
       here (wider room errors.DepthLimitExceeded xs (o, record { is_map = is_map; len = len; marker = marker_of f.byte; stands = stands f }))
 
--- ---- inside of a list or a map
-
 module _ (wrong : ℕ → Error → List ℕ → Type 0) (readable : Msgs → Type 0) where
+  -- memory was short for what is behind a head
+  pub wrong_memory : (room : ℕ) (known k : Option (List ℕ)) (bytes : List ℕ) (h : Head) → Consumes known k bytes → IsHead h bytes → ((xs : List ℕ) (m : Marker) → Stands m h xs → wrong room errors.OutOfMemory xs) → RefusedFor wrong readable room errors.OutOfMemory known
+  unfolding RefusedFor
+  wrong_memory room None k bytes h t i f = tt
+  wrong_memory room (Some xs) None bytes h t i f = absurd t
+  wrong_memory room (Some xs) (Some ys) bytes h t i f = let u : Front h xs ys = front_of h bytes xs ys t i in here (f xs (marker_of u.byte) (stands u))
+
+  -- ---- inside of a list or a map
+
   -- some messages were read, and the next one is refused
   pub wrong_row : (room n : ℕ) (mid k : Option (List ℕ)) (row : List ℕ) (ms : Msgs) (e : Error) → Consumes mid k row → SpellsRow Spells row ms → depth_all ms < room → readable ms → count ms < n → RefusedFor wrong readable room e k → RowRefusedFor wrong readable room n e mid
   unfolding RefusedFor RowRefusedFor

@@ -33,6 +33,14 @@ pub record IsReserved (xs : List ℕ) : Type 0 where
   pub behind : List ℕ
   pub front : xs ≡ 0xc1 ∷ behind
 
+-- what is wrong with the message that is wanted at the front, and has to nest below the room, by the error that says so
+abbrev pub IsWrong : ℕ → Error → List ℕ → Type 0
+IsWrong room (InvalidMarkerRead fault) xs = IsMarkerEnd (InvalidMarkerRead fault) × (xs ≡ [])
+IsWrong room (InvalidDataRead fault) xs = IsDataEnd (InvalidDataRead fault) × (HeadIsCut xs ⊎ ContentIsCut xs)
+IsWrong room (TypeMismatch marker) xs = (marker ≡ Reserved) × IsReserved xs
+IsWrong room DepthLimitExceeded xs = (room ≡ 1) × OpensParts xs
+IsWrong room _ xs = ⊥
+
 -- a leaf opens at the front
 pub record OpensLeaf (xs : List ℕ) : Type 0 where
   pub head : Head
@@ -40,14 +48,10 @@ pub record OpensLeaf (xs : List ℕ) : Type 0 where
   pub stands : Stands marker head xs
   pub no_parts : (q : Bool × ℕ) → head ≡ parts_head q.0 q.1 → ⊥
 
--- what is wrong with the message that is wanted at the front, and has to nest below the room, by the error that says so; memory is short only where the content of a leaf is wanted
-abbrev pub IsWrong : ℕ → Error → List ℕ → Type 0
-IsWrong room (InvalidMarkerRead fault) xs = IsMarkerEnd (InvalidMarkerRead fault) × (xs ≡ [])
-IsWrong room (InvalidDataRead fault) xs = IsDataEnd (InvalidDataRead fault) × (HeadIsCut xs ⊎ ContentIsCut xs)
-IsWrong room (TypeMismatch marker) xs = (marker ≡ Reserved) × IsReserved xs
-IsWrong room DepthLimitExceeded xs = (room ≡ 1) × OpensParts xs
-IsWrong room OutOfMemory xs = OpensLeaf xs
-IsWrong room _ xs = ⊥
+-- why the message at the front can't be passed over: what is wrong with it, or memory was short, where the content of a leaf is wanted
+abbrev pub UnpassedFor : ℕ → Error → List ℕ → Type 0
+UnpassedFor room OutOfMemory xs = OpensLeaf xs
+UnpassedFor room e xs = IsWrong room e xs
 
 -- A list or a map opens at the front, and some of its messages stand whole behind it, but not all: they nest below the room, and are readable.
 pub record Enters (readable : Msgs → Type 0) (room : ℕ) (xs : List ℕ) : Type 0 where

@@ -2,7 +2,7 @@
 ghost use Rattle.std.specs.Prelude.{◌≡◌, ◌≢◌, ◌-◌, ◌<◌, true, false, IfErr};
 ghost use Rattle.rmp_decode.specs.Kinds.{Finds, content_len};
 ghost use Rattle.rmp_decode.specs.Law.{Lawful};
-ghost use Rattle.rmp_decode.specs.Refuse.{IsWrong, RefusesFirst, RefusesRowFirst};
+ghost use Rattle.rmp_decode.specs.Refuse.{UnpassedFor, RefusesFirst, RefusesRowFirst};
 ghost use Rattle.rmp_decode.specs.Skip.{parts_head, SkipsRow, any_tree, any_row, parts_count};
 ghost use Rattle.rmp_decode.specs.State.{is_failed, kept_of, room_of};
 ghost use Rattle.rmp_decode.specs.declared.de.Kept.TheVariants.{Nothing};
@@ -54,7 +54,7 @@ fn skip<R: Source, C: SerializerConfig, P: ReadContent<R>>(
     de: &mut Deserializer<R, C>,
 ) -> Result<(), Error>
     ensures law { Lawful R.Source any_tree de.old de.new result }
-    ensures exact { IfErr result (RefusesFirst R.Source IsWrong any_row de.old de.new) }
+    ensures exact { IfErr result (RefusesFirst R.Source UnpassedFor any_row de.old de.new) }
     ensures memory { P.lends ≡ true → IfErr result (λ e. e ≢ Error.OutOfMemory) }
 {
     match de.head() {
@@ -82,7 +82,7 @@ fn skip_parts<R: Source, C: SerializerConfig, P: ReadContent<R>>(
     requires clean { kept_of de.old ≡ Nothing }
     ensures law { SkipsRow R.Source (room_of de.old - 1) count de.old de.new result }
     ensures deep { IfErr result (λ e. room_of de.old ≡ 1 → e ≡ Error.DepthLimitExceeded) }
-    ensures exact { IfErr result (λ e. 1 < room_of de.old → RefusesRowFirst R.Source IsWrong any_row (room_of de.old - 1) count de.old de.new e) }
+    ensures exact { IfErr result (λ e. 1 < room_of de.old → RefusesRowFirst R.Source UnpassedFor any_row (room_of de.old - 1) count de.old de.new e) }
     ensures memory { P.lends ≡ true → IfErr result (λ e. e ≢ Error.OutOfMemory) }
 {
     let outer = de.room;
@@ -105,7 +105,7 @@ fn skip_row<R: Source, C: SerializerConfig, P: ReadContent<R>>(
     requires fresh { is_failed de.old ≡ false }
     requires clean { kept_of de.old ≡ Nothing }
     ensures law { SkipsRow R.Source (room_of de.old) count de.old de.new result }
-    ensures exact { IfErr result (RefusesRowFirst R.Source IsWrong any_row (room_of de.old) count de.old de.new) }
+    ensures exact { IfErr result (RefusesRowFirst R.Source UnpassedFor any_row (room_of de.old) count de.old de.new) }
     ensures memory { P.lends ≡ true → IfErr result (λ e. e ≢ Error.OutOfMemory) }
 {
     for _ in 0..count {
@@ -129,7 +129,7 @@ impl<R: Source, C: SerializerConfig> Deserializer<R, C> {
         R: ReadSlice<'de>,
         ensures law { Lawful R.Source any_tree self.old self.new result }
         // An error names the first thing that is wrong.
-        ensures exact { IfErr result (RefusesFirst R.Source IsWrong any_row self.old self.new) }
+        ensures exact { IfErr result (RefusesFirst R.Source UnpassedFor any_row self.old self.new) }
         // Where the source lends, no memory is taken.
         ensures memory { R.lends ≡ true → IfErr result (λ e. e ≢ Error.OutOfMemory) }
     {

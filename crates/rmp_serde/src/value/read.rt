@@ -7,7 +7,7 @@ ghost use Rattle.rmp_decode.specs.Seq.{IsOpen, left_in, lender_of};
 ghost use Rattle.rmp_decode.specs.declared.de.any.Any.TheVariants as any;
 ghost use Rattle.rmp_decode.specs.Refuse.{Refusal};
 ghost use Rattle.rmp_serde.specs.Read.{reads_value, ItemsUtf8, IsOpened, Finishes, Completes};
-ghost use Rattle.rmp_serde.specs.Refuse.{IsWrongValue, RefusesValue, RefusesOpened};
+ghost use Rattle.rmp_serde.specs.Refuse.{UnreadFor, RefusesValue, RefusesOpened};
 
 use crate::value::{Node, Value};
 use rmp_decode::{
@@ -184,8 +184,8 @@ impl Value {
         ensures ok { IfOk result (λ v. Begins Spells (λ m. reads_value m v) 1024 input.now) }
         // A refusal that isn't for memory means that no beginning spells such a message,
         ensures err { IfErr result (λ e. e ≢ Error.OutOfMemory → Begins Spells (Readable reads_value) 1024 input.now → ⊥) }
-        // and names the first thing that is wrong.
-        ensures refusal { IfErr result (λ e. e ≢ Error.OutOfMemory → Refusal IsWrongValue ItemsUtf8 1024 e input.now) }
+        // and each names the first thing that is wrong, or where memory was short.
+        ensures refusal { IfErr result (λ e. Refusal UnreadFor ItemsUtf8 1024 e input.now) }
     {
         let mut de = Deserializer::from_read_ref(alloc, input);
         read_value::<ReadRefReader<'de>, DefaultConfig, Slices<'de>>(&mut de)
@@ -196,7 +196,8 @@ impl Value {
     /// # Errors
     /// That of the first thing that is wrong: `InvalidMarkerRead` where the input ends before a message that is wanted,
     /// `InvalidDataRead` where it ends inside of a head or of content, `TypeMismatch` at the byte c1, `Utf8Error` at a text that
-    /// isn't UTF-8, and `DepthLimitExceeded` at a list or map that would nest too deep. `OutOfMemory` at any place.
+    /// isn't UTF-8, and `DepthLimitExceeded` at a list or map that would nest too deep. `OutOfMemory` at the content of a text, of
+    /// bytes or of an extension, and at a list or map.
     pub fn read<'de, R: ReadSlice<'de>, C: SerializerConfig>(
         de: &mut Deserializer<R, C>,
     ) -> Result<Value, Error>

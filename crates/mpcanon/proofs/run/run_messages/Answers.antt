@@ -36,7 +36,7 @@ returns-in-Err g c =
     record {
       shown = message_refused g.W.Sink c.args.bytes.now _ _ c.in-Err.error c.refuse_message.result _ inv.read (search rules)
           (λ n. none_begins slice_source (record { ahead = λ r. refl; sound = λ r s. refl }) c.loop-de.de c.read.new.de inv.kept inv.room c.in-Err.error n (c.in-Err.ensures.law.err inv.ready))
-          (λ n. names_wrong slice_source (record { ahead = λ r. refl; sound = λ r s. refl }) c.loop-de.de c.read.new.de inv.kept inv.room c.in-Err.error n c.in-Err.ensures.refusal inv.ready)
+          (names_wrong slice_source (record { ahead = λ r. refl; sound = λ r s. refl }) c.loop-de.de c.read.new.de inv.kept inv.room c.in-Err.error c.in-Err.ensures.refusal inv.ready)
           c.refuse_message.ensures.memory c.refuse_message.ensures.refused c.refuse_message.ensures.line;
       prints = prints_after g.W.Sink c.refuse_message.result inv.lines inv.place c.refuse_message.ensures.prints;
     }

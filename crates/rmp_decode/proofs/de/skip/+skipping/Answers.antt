@@ -3,7 +3,7 @@ use Rattle.rmp_decode.specs.Skip.{SkipsRow, Passes, any_row}
 use Rattle.rmp_wire.specs.Sources.{IsShort}
 use Rattle.rmp_decode.specs.State.{room_of}
 use Rattle.rmp_decode.proofs.Laws.{refused_none}
-use Rattle.rmp_decode.specs.Refuse.{IsWrong, RefusesRowFirst}
+use Rattle.rmp_decode.specs.Refuse.{UnpassedFor, RefusesRowFirst}
 use Rattle.rmp_decode.proofs.SkipErrors.{none_wrong, leaf_wrong, nest_wrong, passed_wrong}
 use Rattle.rmp_decode.proofs.Skipping.{nest, skipped_leaf, skipped_short, no_room, passed_none, passed_more, passed_refused}
 use Rattle.rmp_decode.proofs.de.skip.+skipping.Goals as goal
@@ -43,7 +43,7 @@ skip_row-loop-preserved g t c = passed_more g.R.Source c.loop.counter c.args.de.
 pub skip-returns-in-Some-clause-exact : goal.skip-returns-in-Some-clause-exact
 skip-returns-in-Some-clause-exact g t c =
     nest_wrong g.R.Source c.args.de.now c.head.new.self c.skip_parts.new.de (c.in-Ok.field-0-0, c.in-Ok.head) c.in-Ok.ensures c.in-Some.is_map c.in-Some.n _ c.in-Some.ensures c.skip_parts.ensures.deep
-    (subst (λ z. IfErr c.skip_parts.result (λ e. 1 < room_of c.head.new.self → RefusesRowFirst g.R.Source IsWrong any_row (room_of c.head.new.self - 1) z c.head.new.self c.skip_parts.new.de e)) c.messages.ensures c.skip_parts.ensures.exact)
+    (subst (λ z. IfErr c.skip_parts.result (λ e. 1 < room_of c.head.new.self → RefusesRowFirst g.R.Source UnpassedFor any_row (room_of c.head.new.self - 1) z c.head.new.self c.skip_parts.new.de e)) c.messages.ensures c.skip_parts.ensures.exact)
 
 pub skip-returns-in-Err-pass-clause-exact : goal.skip-returns-in-Err-pass-clause-exact
 skip-returns-in-Err-pass-clause-exact g t c =

@@ -18,4 +18,4 @@ returns-clause-err c =
 pub returns-clause-refusal : goal.returns-clause-refusal
 returns-clause-refusal c =
     let d = c.from_read_ref-de.ensures in
-    IfErr-weaker c.read_value.result _ _ (λ e h n. first_wrong _ 1024 e _ c.args.input.now d.room (known_left _ _ _ d.kept d.rest) (h d.ready n refl)) c.read_value.ensures.refusal
+    IfErr-weaker c.read_value.result _ _ (λ e h. first_wrong _ 1024 e _ c.args.input.now d.room (known_left _ _ _ d.kept d.rest) (h d.ready refl)) c.read_value.ensures.refusal

@@ -8,7 +8,7 @@ use Rattle.rmp_decode.proofs.AnyReads.{any_unopened}
 use Rattle.rmp_decode.proofs.Maps.{entries_start, entries_step}
 use Rattle.rmp_decode.proofs.Seqs.{values_start, values_step}
 use Rattle.rmp_serde.specs.Read.{reads_value}
-use Rattle.rmp_serde.proofs.Refusing.{any_wrong, opened_says, item_wrong, key_wrong, value_wrong, list_wrong, map_key_wrong, map_value_wrong}
+use Rattle.rmp_serde.proofs.Refusing.{any_wrong, opened_says, item_wrong, key_wrong, value_wrong, list_wrong, map_key_wrong, map_value_wrong, list_short, map_short}
 use Rattle.rmp_serde.proofs.ValueReading.{whole_back, some_if, some_if_err, none_left, never_none, never_none_key, item_taken, item_refused, key_read, key_refused, value_read, value_refused, list_value, list_refused, map_value, map_key_refused, map_value_refused, value_fits, leaf_fits}
 use Rattle.rmp_serde.proofs.value.read.+reading.Goals as goal
 
@@ -36,6 +36,11 @@ read_items-returns-in_err-item-clause-refusal g t c =
     let list : c.loop-items.seq.bytes ≡ false = r.run.bytes_same ∙ o.1 in
     list_wrong g.R.Source old _ c.args.seq.now c.loop-items.seq c.next_element_with.new.self.de.now c.loop-items.items.items o r some
     (item_wrong g.R.Source (λ p q r h. h.0) (λ p q r h. h.1) c.loop-items.seq c.next_element_with.new.self _ list (e.part r.run.still.sound some)))
+
+pub read_items-returns-in_err-push-clause-refusal : goal.read_items-returns-in_err-push-clause-refusal
+read_items-returns-in_err-push-clause-refusal g t c =
+    let p = err_from_is_err_and c.from_residual-in_err-push.result c.from_residual-in_err-push.ensures.1 in
+    rw (p.1, p.2) (λ old o. list_short g.R.Source old c.next_element_with.new.self.de.now c.args.seq.now o)
 
 pub read_items-loop-items-preserved : goal.read_items-loop-items-preserved
 read_items-loop-items-preserved g t c =
@@ -102,6 +107,11 @@ read_pairs-returns-in_err-value-clause-refusal g t c =
     rw (p.1, p.2) (λ old o.
     map_value_wrong g.R.Source old _ c.args.map.now o c.loop-found.map c.loop-found.found.items r c.next_key_with.new.self c.next_value_with.new.self.de.now c.in-Some.key k e.same_reference
     (value_wrong g.R.Source (λ p q r h. h.0) (λ p q r h. h.1) c.next_key_with.new.self c.next_value_with.new.self _ (c.in_err-value.ensures.part e.still)))
+
+pub read_pairs-returns-in_err-push-clause-refusal : goal.read_pairs-returns-in_err-push-clause-refusal
+read_pairs-returns-in_err-push-clause-refusal g t c =
+    let p = err_from_is_err_and c.from_residual-in_err-push.result c.from_residual-in_err-push.ensures.1 in
+    rw (p.1, p.2) (λ old o. map_short g.R.Source old c.next_value_with.new.self.de.now c.args.map.now o)
 
 pub read_pairs-loop-found-preserved : goal.read_pairs-loop-found-preserved
 read_pairs-loop-found-preserved g t c =

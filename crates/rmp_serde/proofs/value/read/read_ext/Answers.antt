@@ -1,4 +1,4 @@
-use Rattle.std.proofs.Common.{◌≡◌, ◌∙◌, sym, ap, subst, refl, to_z, of_z}
+use Rattle.std.proofs.Common.{◌≡◌, ◌∙◌, sym, ap, subst, refl, inr, to_z, of_z}
 use Rattle.std.specs.Int.{w8}
 use Rattle.rmp_wire.specs.Msg.{extension}
 use Rattle.rmp_wire.specs.Spelling.{Fits}
@@ -29,4 +29,4 @@ pub returns-in-Err-clause-law : goal.returns-in-Err-clause-law
 returns-in-Err-clause-law g c = λ old o. raw_short (ext_content c.args.raw.tag) g.R.Source reads_value old c.take.new.self.0 c.args.raw o c.in-Err.e c.in-Err.ensures.err
 
 pub returns-in-Err-clause-refusal : goal.returns-in-Err-clause-refusal
-returns-in-Err-clause-refusal g c = λ old o. content_wrong g.R.Source old c.take.new.self.0 c.in-Err.e c.args.raw (head.Ext c.args.raw.len c.args.raw.tag) o refl c.in-Err.ensures.err
+returns-in-Err-clause-refusal g c = λ old o. content_wrong g.R.Source old c.take.new.self.0 c.in-Err.e c.args.raw (head.Ext c.args.raw.len c.args.raw.tag) (inr tt) o refl c.in-Err.ensures.err
