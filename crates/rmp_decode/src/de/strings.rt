@@ -18,33 +18,8 @@ use rmp_wire::{Head, ReadSlice, Source};
 use std::alloc::Global;
 use std::str;
 
-// The next bytes as a text, which is looked at where they lie and copied once.
-#[inline(always)]
-fn owned_text<'de, R: ReadSlice<'de>>(
-    alloc: Global,
-    reader: &mut R,
-    len: usize,
-) -> Result<String, Error>
-    ensures ok { IfOk result (λ s. (length (string_bytes s) ≡ len) × IsBytes (string_bytes s) × Consumes (R.ahead reader.old) (R.ahead reader.new) (string_bytes s)) }
-    ensures sound { OnOk result (R.faults reader.new ≡ R.faults reader.old) }
-    ensures err { IfErr result (λ e. Explains e (R.faults reader.old) (R.faults reader.new) (StartsWithNoText len (R.ahead reader.old))) }
-    ensures exact { IfErr result (λ e. Explains e (R.faults reader.old) (R.faults reader.new) (RefusesPiece len (not_string (Head.Text len)) (R.ahead reader.old) e)) }
-    ensures place { R.place reader.new ≡ R.place reader.old }
-{
-    match reader.read_slice(len) {
-        Ok(piece) => match str::from_utf8(piece.as_bytes()) {
-            Ok(s) => match String::from_str(alloc, s) {
-                Ok(text) => Ok(text),
-                Err(_) => Err(Error::OutOfMemory),
-            },
-            Err(e) => Err(Error::Utf8Error(e)),
-        },
-        Err(e) => Err(error_of(e)),
-    }
-}
-
 impl<R: Source, C: SerializerConfig> Deserializer<R, C> {
-    // Reads the text behind a head that was taken, of so many bytes.
+    // Reads the text behind a head that was taken, of so many bytes. They are looked at where they lie and copied once.
     #[inline(never)]
     pub(crate) fn string_behind<'de>(&mut self, len: u32) -> Result<String, Error>
     where
@@ -52,12 +27,18 @@ impl<R: Source, C: SerializerConfig> Deserializer<R, C> {
         ensures law { AfterHead R.Source (λ m s. IsRaw m (string_bytes s)) (Head.Text len) self.old self.new result }
         ensures exact { IfErr result (RefusesBehind R.Source IsRawHead not_raw not_string (Head.Text len) self.old self.new) }
     {
-        match owned_text(self.alloc, &mut self.reader, len as usize) {
-            Ok(text) => {
-                self.failed = false;
-                Ok(text)
-            }
-            Err(e) => Err(e),
+        match self.reader.read_slice(len as usize) {
+            Ok(piece) => match str::from_utf8(piece.as_bytes()) {
+                Ok(s) => match String::from_str(self.alloc, s) {
+                    Ok(text) => {
+                        self.failed = false;
+                        Ok(text)
+                    }
+                    Err(_) => Err(Error::OutOfMemory),
+                },
+                Err(e) => Err(Error::Utf8Error(e)),
+            },
+            Err(e) => Err(error_of(e)),
         }
     }
 }
