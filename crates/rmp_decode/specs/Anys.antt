@@ -23,7 +23,8 @@ use Rattle.rmp_decode.specs.declared.de.any.Any.TheVariants as any
 use Rattle.rmp_decode.specs.declared.de.any.Leaf.{Leaf}
 use Rattle.rmp_decode.specs.declared.de.any.RawAccess.{RawAccess}
 use Rattle.rmp_decode.specs.declared.error.Error.{Error}
-use Rattle.rmp_decode.specs.declared.error.Error.TheVariants.{DepthLimitExceeded}
+use Rattle.rmp_decode.specs.declared.error.Error.TheVariants.{DepthLimitExceeded, Syntax}
+use Rattle.rmp_decode.specs.declared.text.Text.TheVariants.{InvalidType}
 
 -- `leaf.value()`
 abbrev pub leaf_value : {R C T : Type 0} → Leaf R C T → T
@@ -115,6 +116,12 @@ pub record FailsContent {R C : Type 0} (g : Ghosts R) (len : ℕ) (old new : Des
   pub stays : Stays g old new
   pub err : Explains e (faults_of g old) (faults_of g new) (IsShort len (g.ahead old.reader))
   pub exact : Explains e (faults_of g old) (faults_of g new) (IsDataEnd e)
+
+-- the source doesn't lend, or too little of it was there
+pub record FailsToLend {R C : Type 0} (g : Ghosts R) (len : ℕ) (old new : Deserializer R C) (e : Error) : Type 0 where
+  pub failed : new.failed ≡ old.failed
+  pub stays : Stays g old new
+  pub exact : (e ≡ Syntax InvalidType) ⊎ FailsContent g len old new e
 
 -- where the bytes are told, they don't begin with so many that are UTF-8
 abbrev pub StartsWithNoText : ℕ → Option (List ℕ) → Type 0

@@ -3,10 +3,10 @@ ghost use Rattle.std.specs.Prelude.{◌≡◌, ◌≢◌, ◌<◌, false, true, 
 ghost use Rattle.std.specs.Borrow.{sem, RestsIfErr};
 ghost use Rattle.std.specs.String.{string_bytes};
 ghost use Rattle.rmp_decode.specs.contracts.de.Deserializer.{the_row};
-ghost use Rattle.rmp_decode.specs.Anys.{any_name, OpensAny, FailsToOpenAny, leaf_value, leaf_lender, raw_len, raw_tag, raw_lender, TakesContent, FailsContent, FailsText};
+ghost use Rattle.rmp_decode.specs.Anys.{any_name, OpensAny, FailsToOpenAny, leaf_value, leaf_lender, raw_len, raw_tag, raw_lender, TakesContent, FailsContent, FailsToLend, FailsText};
 ghost use Rattle.rmp_decode.specs.Law.{ReadsHead};
 ghost use Rattle.rmp_decode.specs.Skip.{parts_head};
-ghost use Rattle.rmp_decode.specs.State.{failed_of, is_failed};
+ghost use Rattle.rmp_decode.specs.State.{failed_of};
 
 use crate::de::Deserializer;
 use crate::de::contents::ReadContent;
@@ -129,7 +129,7 @@ impl<'x, R: Source, C: SerializerConfig> RawAccess<'x, R, C> {
         ensures ok { IfOk result (λ s. TakesContent R.Source (raw_len self.entry) (raw_lender self.entry) self.exit.0.now s.now) }
         ensures err { R.lends ≡ true → IfErr result (FailsContent R.Source (raw_len self.entry) (raw_lender self.entry) self.exit.0.now) }
         ensures memory { R.lends ≡ true → IfErr result (λ e. e ≢ Error.OutOfMemory) }
-        ensures copies { R.lends ≡ false → IfErr result (λ _. is_failed self.exit.0.now ≡ is_failed (raw_lender self.entry)) }
+        ensures copies { R.lends ≡ false → IfErr result (FailsToLend R.Source (raw_len self.entry) (raw_lender self.entry) self.exit.0.now) }
     {
         let RawAccess { de, len, tag: _ } = self;
         match lent(&mut de.reader, len as usize) {
