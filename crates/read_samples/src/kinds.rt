@@ -91,6 +91,7 @@ fn tuples(alloc: Global, kind: &str, bytes: &[u8]) -> Result<String, Fault> {
         "(u8,u8,u8,u8,u8,u8,u8,u8)" => row::<(u8, u8, u8, u8, u8, u8, u8, u8)>(alloc, bytes),
         "[();2]" => row::<[(); 2]>(alloc, bytes),
         "[[u8;2];2]" => row::<[[u8; 2]; 2]>(alloc, bytes),
+        "[BTreeMap<u8,u8>;1]" => row::<[BTreeMap<u8, u8>; 1]>(alloc, bytes),
         "(&str,Bytes)" => row::<(&str, Bytes)>(alloc, bytes),
         _ => Err(Fault::NoType),
     }

@@ -17,6 +17,7 @@ pub mod Maps
 pub mod Numbers
 pub mod Opening
 pub mod Orders
+pub mod Places
 pub mod Refusals
 pub mod Rows
 pub mod Seqs

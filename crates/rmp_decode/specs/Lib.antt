@@ -1,4 +1,5 @@
 pub mod Anys
+pub mod Arrays
 pub mod Buffers
 pub mod Content
 pub mod Exact

@@ -317,6 +317,33 @@ fn arrays(rt: HostRuntime) {
 }
 
 #[test]
+fn arrays_of_collections(rt: HostRuntime) {
+    let read: Result<[Vec<u8>; 2], Error> = from_slice(rt.alloc(), &[0x92, 0x91, 5, 0xc4, 2, 6, 7]);
+    match read {
+        Ok([first, second]) => {
+            assert_eq!(rt; first.as_slice(), [5u8].as_slice());
+            assert_eq!(rt; second.as_slice(), [6u8, 7].as_slice());
+        }
+        Err(_) => assert!(rt; false),
+    }
+    let read: Result<[BTreeMap<u8, u8>; 2], Error> = from_slice(
+        rt.alloc(),
+        &[0x92, 0x81, 1, 2, 0x80],
+    );
+    match read {
+        Ok([first, second]) => {
+            assert_eq!(rt; first.get(&1u8), Some(&2u8));
+            assert_eq!(rt; second.len(), 0);
+        }
+        Err(_) => assert!(rt; false),
+    }
+    let read: Result<[Vec<u8>; 2], Error> = from_slice(rt.alloc(), &[0x92, 0x91, 5, 6]);
+    assert!(rt; matches!(&read, Err(Error::Syntax(Text::InvalidType))));
+    let read: Result<[Vec<u8>; 2], Error> = from_slice(rt.alloc(), &[0x93, 0x90, 0x90, 0x90]);
+    assert!(rt; matches!(&read, Err(Error::LengthMismatch(2))));
+}
+
+#[test]
 fn tuples_of_other_sizes(rt: HostRuntime) {
     let read: Result<(u8,), Error> = from_slice(rt.alloc(), &[0x91, 7]);
     assert!(rt; matches!(&read, Ok((7,))));
