@@ -87,9 +87,10 @@ impl<'de, R: ReadSlice<'de>, {bounds(n)}> Deserialize<'de, R> for {kinds} {{
             Err(e) => return Err(e),
         }};
         match seq.end() {{
-            Ok(()) => Ok({value}),
-            Err(e) => Err(e),
+            Ok(()) => {{}}
+            Err(e) => return Err(e),
         }}
+        Ok({value})
     }}
 
     fn missing() -> Option<{kinds}> {{
@@ -189,8 +190,8 @@ returns-in-Err-parts_{n} g c =
     let f = subst (λ z. FailsParts g.R.Source {at("Anything")} c.in-Ok.seq {now} c.in-Err-parts_{n}.e) o.stays.config c.in-Err-parts_{n}.ensures.err in
     seq_parts g.R.Source Q _ c.in-Ok.seq {now} o _ _ (parts_narrower g.R.Source _ Q _ _ _ (λ v ms h. (v, {around(n, "keep _ _ _", "(anything _)")} ms h)) f) (search rules)
 
-pub returns-in-Ok-end : goal.returns-in-Ok-end
-returns-in-Ok-end g c =
+pub returns : goal.returns
+returns g c =
 {wanted}{took}    let e = c.in-Ok-end.ensures.ok t.run.still in
     seq_done g.R.Source Q _ c.in-Ok.seq {now} t.trees o t.run _ _ t.value e.0 (via c.end.new.self.0 (search rules) e.1)
 
@@ -227,8 +228,8 @@ returns-in-Err-element g c =
 {wanted}{start}    let f = subst (λ z. FailsElement g.R.Source ({reading("A", "z")}) {seq} {now} c.in-Err-element.e) o.stays.config (c.in-Err-element.ensures.err s.still) in
     seq_element g.R.Source Q _ {seq} {seq} no_items o s _ ({reading("A", "c.args.de.now.config")}) {now} _ f (c.element.ensures.marked s.still.marked) (search rules) (λ m ks v h. (v.0, h.0)) (λ v h. h)
 
-pub returns-in-Ok-end : goal.returns-in-Ok-end
-returns-in-Ok-end g c =
+pub returns : goal.returns
+returns g c =
 {wanted}{took}    let e = c.in-Ok-end.ensures.ok r.still in
     seq_done g.R.Source Q _ {seq} {now} (item t.tree no_items) o r _ _ (t.value, tt) e.0 (via c.end.new.self.0 (search rules) e.1)
 

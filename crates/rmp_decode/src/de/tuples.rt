@@ -25,9 +25,10 @@ impl<'de, R: ReadSlice<'de>, A: Deserialize<'de, R>> Deserialize<'de, R> for (A,
             Err(e) => return Err(e),
         };
         match seq.end() {
-            Ok(()) => Ok((a,)),
-            Err(e) => Err(e),
+            Ok(()) => {}
+            Err(e) => return Err(e),
         }
+        Ok((a,))
     }
 
     fn missing() -> Option<(A,)> {
@@ -76,9 +77,10 @@ impl<'de, R: ReadSlice<'de>, A: Deserialize<'de, R>, B: Deserialize<'de, R>> Des
             Err(e) => return Err(e),
         };
         match seq.end() {
-            Ok(()) => Ok(parts),
-            Err(e) => Err(e),
+            Ok(()) => {}
+            Err(e) => return Err(e),
         }
+        Ok(parts)
     }
 
     fn missing() -> Option<(A, B)> {
@@ -132,9 +134,10 @@ impl<
             Err(e) => return Err(e),
         };
         match seq.end() {
-            Ok(()) => Ok(parts),
-            Err(e) => Err(e),
+            Ok(()) => {}
+            Err(e) => return Err(e),
         }
+        Ok(parts)
     }
 
     fn missing() -> Option<(A, B, D)> {
@@ -195,9 +198,10 @@ impl<
             Err(e) => return Err(e),
         };
         match seq.end() {
-            Ok(()) => Ok(parts),
-            Err(e) => Err(e),
+            Ok(()) => {}
+            Err(e) => return Err(e),
         }
+        Ok(parts)
     }
 
     fn missing() -> Option<(A, B, D, E)> {
@@ -260,9 +264,10 @@ impl<
             Err(e) => return Err(e),
         };
         match seq.end() {
-            Ok(()) => Ok(parts),
-            Err(e) => Err(e),
+            Ok(()) => {}
+            Err(e) => return Err(e),
         }
+        Ok(parts)
     }
 
     fn missing() -> Option<(A, B, D, E, F)> {
@@ -327,9 +332,10 @@ impl<
             Err(e) => return Err(e),
         };
         match seq.end() {
-            Ok(()) => Ok(parts),
-            Err(e) => Err(e),
+            Ok(()) => {}
+            Err(e) => return Err(e),
         }
+        Ok(parts)
     }
 
     fn missing() -> Option<(A, B, D, E, F, G)> {
@@ -396,9 +402,10 @@ impl<
             Err(e) => return Err(e),
         };
         match seq.end() {
-            Ok(()) => Ok(parts),
-            Err(e) => Err(e),
+            Ok(()) => {}
+            Err(e) => return Err(e),
         }
+        Ok(parts)
     }
 
     fn missing() -> Option<(A, B, D, E, F, G, H)> {
@@ -467,9 +474,10 @@ impl<
             Err(e) => return Err(e),
         };
         match seq.end() {
-            Ok(()) => Ok(parts),
-            Err(e) => Err(e),
+            Ok(()) => {}
+            Err(e) => return Err(e),
         }
+        Ok(parts)
     }
 
     fn missing() -> Option<(A, B, D, E, F, G, H, I)> {

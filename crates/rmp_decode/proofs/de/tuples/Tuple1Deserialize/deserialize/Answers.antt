@@ -18,8 +18,8 @@ returns-in-Err-element g c =
     let f = subst (λ z. FailsElement g.R.Source (g.A.Deserialize.reads (g.C.SerializerConfig.human z) g.R.ReadSlice.lends) c.in-Ok.seq c.element.new.self c.in-Err-element.e) o.stays.config (c.in-Err-element.ensures.err s.still) in
     seq_element g.R.Source Q _ c.in-Ok.seq c.in-Ok.seq no_items o s _ (g.A.Deserialize.reads (g.C.SerializerConfig.human c.args.de.now.config) g.R.ReadSlice.lends) c.element.new.self _ f (c.element.ensures.marked s.still.marked) (search rules) (λ m ks v h. (v.0, h.0)) (λ v h. h)
 
-pub returns-in-Ok-end : goal.returns-in-Ok-end
-returns-in-Ok-end g c =
+pub returns : goal.returns
+returns g c =
     let Q : record { 0 : g.row.A.Denot } → Msgs → Type 0 = λ v ms. AndThen (λ k. g.A.Deserialize.reads (g.C.SerializerConfig.human c.args.de.now.config) g.R.ReadSlice.lends k v.0) NoMore ms in
     let o = c.in-Ok.ensures.opened in
     let s = run_start g.R.Source c.in-Ok.seq o.opened in

@@ -18,8 +18,8 @@ returns-in-Err-parts_4 g c =
     let f = subst (λ z. FailsParts g.R.Source (λ (v : g.row.A.Denot × g.row.B.Denot × g.row.D.Denot × g.row.E.Denot) ms. AndThen (λ k. g.A.Deserialize.reads (g.C.SerializerConfig.human z) g.R.ReadSlice.lends k v.0) (AndThen (λ k. g.B.Deserialize.reads (g.C.SerializerConfig.human z) g.R.ReadSlice.lends k v.1) (AndThen (λ k. g.D.Deserialize.reads (g.C.SerializerConfig.human z) g.R.ReadSlice.lends k v.2) (AndThen (λ k. g.E.Deserialize.reads (g.C.SerializerConfig.human z) g.R.ReadSlice.lends k v.3) Anything))) ms) c.in-Ok.seq c.parts_4.new.self c.in-Err-parts_4.e) o.stays.config c.in-Err-parts_4.ensures.err in
     seq_parts g.R.Source Q _ c.in-Ok.seq c.parts_4.new.self o _ _ (parts_narrower g.R.Source _ Q _ _ _ (λ v ms h. (v, (keep _ _ _ (keep _ _ _ (keep _ _ _ (keep _ _ _ (anything _))))) ms h)) f) (search rules)
 
-pub returns-in-Ok-end : goal.returns-in-Ok-end
-returns-in-Ok-end g c =
+pub returns : goal.returns
+returns g c =
     let Q : g.row.A.Denot × g.row.B.Denot × g.row.D.Denot × g.row.E.Denot → Msgs → Type 0 = λ v ms. AndThen (λ k. g.A.Deserialize.reads (g.C.SerializerConfig.human c.args.de.now.config) g.R.ReadSlice.lends k v.0) (AndThen (λ k. g.B.Deserialize.reads (g.C.SerializerConfig.human c.args.de.now.config) g.R.ReadSlice.lends k v.1) (AndThen (λ k. g.D.Deserialize.reads (g.C.SerializerConfig.human c.args.de.now.config) g.R.ReadSlice.lends k v.2) (AndThen (λ k. g.E.Deserialize.reads (g.C.SerializerConfig.human c.args.de.now.config) g.R.ReadSlice.lends k v.3) NoMore))) ms in
     let o = c.in-Ok.ensures.opened in
     let t = subst (λ z. TakesParts g.R.Source (λ (v : g.row.A.Denot × g.row.B.Denot × g.row.D.Denot × g.row.E.Denot) ms. AndThen (λ k. g.A.Deserialize.reads (g.C.SerializerConfig.human z) g.R.ReadSlice.lends k v.0) (AndThen (λ k. g.B.Deserialize.reads (g.C.SerializerConfig.human z) g.R.ReadSlice.lends k v.1) (AndThen (λ k. g.D.Deserialize.reads (g.C.SerializerConfig.human z) g.R.ReadSlice.lends k v.2) (AndThen (λ k. g.E.Deserialize.reads (g.C.SerializerConfig.human z) g.R.ReadSlice.lends k v.3) NoMore))) ms) c.in-Ok.seq c.parts_4.new.self c.in-Ok-parts_4.parts) o.stays.config c.in-Ok-parts_4.ensures.ok in
