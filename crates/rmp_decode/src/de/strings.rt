@@ -1,13 +1,8 @@
 //! Texts whose head lies in memory whole, taken into memory of their own at once.
-ghost use Rattle.std.specs.Prelude.{◌≡◌, IfOk, IfErr, OnOk, length};
-ghost use Rattle.std.specs.Io.KnownBytes.{Consumes};
+ghost use Rattle.std.specs.Prelude.{IfErr};
 ghost use Rattle.std.specs.String.{string_bytes};
-ghost use Rattle.rmp_wire.specs.Spelling.{IsBytes};
-ghost use Rattle.rmp_decode.specs.Anys.{StartsWithNoText};
 ghost use Rattle.rmp_decode.specs.Buffers.{AfterHead};
 ghost use Rattle.rmp_decode.specs.Content.{RefusesBehind, IsRawHead, not_raw, not_string};
-ghost use Rattle.rmp_decode.specs.Law.{Explains};
-ghost use Rattle.rmp_decode.specs.Pieces.{RefusesPiece};
 ghost use Rattle.rmp_decode.specs.Read.{IsRaw};
 
 use crate::de::Deserializer;
@@ -15,7 +10,6 @@ use crate::de::pieces::error_of;
 use crate::error::Error;
 use rmp_wire::config::SerializerConfig;
 use rmp_wire::{Head, ReadSlice, Source};
-use std::alloc::Global;
 use std::str;
 
 impl<R: Source, C: SerializerConfig> Deserializer<R, C> {
@@ -27,18 +21,19 @@ impl<R: Source, C: SerializerConfig> Deserializer<R, C> {
         ensures law { AfterHead R.Source (λ m s. IsRaw m (string_bytes s)) (Head.Text len) self.old self.new result }
         ensures exact { IfErr result (RefusesBehind R.Source IsRawHead not_raw not_string (Head.Text len) self.old self.new) }
     {
-        match self.reader.read_slice(len as usize) {
-            Ok(piece) => match str::from_utf8(piece.as_bytes()) {
-                Ok(s) => match String::from_str(self.alloc, s) {
-                    Ok(text) => {
-                        self.failed = false;
-                        Ok(text)
-                    }
-                    Err(_) => Err(Error::OutOfMemory),
-                },
-                Err(e) => Err(Error::Utf8Error(e)),
-            },
-            Err(e) => Err(error_of(e)),
-        }
+        let piece = match self.reader.read_slice(len as usize) {
+            Ok(piece) => piece,
+            Err(e) => return Err(error_of(e)),
+        };
+        let s = match str::from_utf8(piece.as_bytes()) {
+            Ok(s) => s,
+            Err(e) => return Err(Error::Utf8Error(e)),
+        };
+        let text = match String::from_str(self.alloc, s) {
+            Ok(text) => text,
+            Err(_) => return Err(Error::OutOfMemory),
+        };
+        self.failed = false;
+        Ok(text)
     }
 }

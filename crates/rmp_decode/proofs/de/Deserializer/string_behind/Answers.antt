@@ -8,8 +8,8 @@ use Rattle.rmp_decode.proofs.Contents.{text_content, content_read}
 use Rattle.rmp_decode.proofs.Strings.{string_refused, text_blamed}
 use Rattle.rmp_decode.proofs.de.Deserializer.string_behind.Goals as goal
 
-pub returns-in-Ok-from_str-clause-law : goal.returns-in-Ok-from_str-clause-law
-returns-in-Ok-from_str-clause-law g c = λ old m h.
+pub returns-clause-law : goal.returns-clause-law
+returns-clause-law g c = λ old m h.
     content_read text_content g.R.Source _ old c.args.self.now _ (m, _) h (string_bytes c.in-Ok-from_str.text) c.args.len _ refl (search rules) (search rules) (search rules) refl refl (search rules) (record { config = refl; room = refl; place = search rules }) (true, refl)
 
 pub returns-in-Err-from_str-clause-exact : goal.returns-in-Err-from_str-clause-exact
