@@ -159,9 +159,12 @@ some_byte : (b : List ℕ) → 0 < length b → (x : ℕ) × (y : List ℕ) × (
 some_byte [] l = absurd (omega arith)
 some_byte (x ∷ y) l = (x, y, refl)
 
+pub head_byte : (h : Head) (b : List ℕ) → IsHead h b → (x : ℕ) × (y : List ℕ) × (b ≡ x ∷ y)
+head_byte h b i = some_byte b (omega (arith, canon_head_least h b i, head_some h))
+
 stands_some : (h : Head) (b : List ℕ) (known k : Option (List ℕ)) → IsHead h b → Consumes known k b → (m : Marker) × IfSome known (Stands m h)
 stands_some h b known k i c =
-    let t = some_byte b (omega (arith, canon_head_least h b i, head_some h)) in
+    let t = head_byte h b i in
     let front = t.2 in
     (marker_of t.0, stands_known (marker_of t.0) h t.0 t.1 known k (subst (Consumes known k) front c) refl (subst (IsHead h) front i))
 

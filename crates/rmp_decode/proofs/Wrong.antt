@@ -1,5 +1,5 @@
 -- What is wrong with a message, from what was taken before and what was refused then.
-use Rattle.std.proofs.Common.{◌≡◌, ◌≢◌, sym, ap, subst, refl, ℕ, suc, ◌+◌, ◌<◌, ◌⊎◌, inl, inr, arith, List, [], ◌∷◌, ◌++◌, Option, Some, None, Bool}
+use Rattle.std.proofs.Common.{◌≡◌, ◌≢◌, ◌∙◌, sym, ap, subst, refl, ℕ, suc, ◌+◌, ◌<◌, ◌⊎◌, inl, inr, arith, List, [], ◌∷◌, ◌++◌, Option, Some, None, Bool}
 use Rattle.std.proofs.lemmas.Bool.{cases_eq}
 use Rattle.std.specs.Io.KnownBytes.{Consumes}
 use Rattle.rmp_wire.specs.declared.head.Head.{Head}
@@ -8,8 +8,7 @@ use Rattle.rmp_wire.specs.Heads.{IsHead}
 use Rattle.rmp_wire.specs.Msg.{Msgs, count, depth_all}
 use Rattle.rmp_wire.specs.Sources.{IsShort}
 use Rattle.rmp_wire.specs.Spelling.{Spells}
-use Rattle.rmp_wire.specs.Taking.{marker_of, take_head}
-use Rattle.rmp_wire.proofs.Heads.{take_head_takes}
+use Rattle.rmp_wire.specs.Taking.{marker_of}
 use Rattle.rmp_decode.specs.Anys.{RefusesAny}
 use Rattle.rmp_decode.specs.Exact.{Stands, NoneStands, Ends, EndsExactly, IsMarkerEnd, IsDataEnd}
 use Rattle.rmp_decode.specs.Kinds.{content_len}
@@ -18,6 +17,7 @@ use Rattle.rmp_decode.specs.Seq.{SpellsRow}
 use Rattle.rmp_decode.specs.Skip.{parts_head, parts_count}
 use Rattle.rmp_decode.specs.declared.error.Error.{Error}
 use Rattle.rmp_decode.specs.declared.error.Error.TheVariants as errors
+use Rattle.rmp_decode.proofs.ContentErrors.{head_byte}
 
 -- ---- what is wrong at the front
 
@@ -67,11 +67,6 @@ is_memory errors.OutOfMemory = inl refl
 
 -- ---- a head that stands at the front
 
--- it has a byte at least
-head_some : (h : Head) → IsHead h [] → ⊥
-unfolding take_head
-head_some h i = let u : ◌≡◌ {A = Option (Head × List ℕ)} None (Some (h, [])) = take_head_takes h [] [] i in cc
-
 pub record Front (h : Head) (xs ys : List ℕ) : Type 0 where
   pub byte : ℕ
   pub behind : List ℕ
@@ -79,8 +74,7 @@ pub record Front (h : Head) (xs ys : List ℕ) : Type 0 where
   pub is_head : IsHead h (byte ∷ behind)
 
 pub front_of : (h : Head) (bytes xs ys : List ℕ) → xs ≡ bytes ++ ys → IsHead h bytes → Front h xs ys
-front_of h [] xs ys t i = absurd (head_some h i)
-front_of h (b ∷ behind) xs ys t i = record { byte = b; behind = behind; front = t; is_head = i }
+front_of h bytes xs ys t i = let b = head_byte h bytes i in record { byte = b.0; behind = b.1; front = t ∙ ap (λ z. z ++ ys) b.2; is_head = subst (IsHead h) b.2 i }
 
 abbrev pub stands : {h : Head} {xs ys : List ℕ} (f : Front h xs ys) → Stands (marker_of f.byte) h xs
 stands {h} {xs} {ys} f = record { byte = f.byte; behind = f.behind; rest = ys; front = f.front; is_marker = refl; is_head = f.is_head }
