@@ -81,6 +81,7 @@ impl<W: Sink, C: SerializerConfig> Serializer<W, C> {
     /// Opens a list of so many elements, or of a number that isn't known yet.
     ///
     /// A number of 2 ^ 32 or more is refused, and nothing is written.
+    #[inline(always)]
     pub fn serialize_seq(
         &mut self,
         len: Option<usize>,
@@ -118,6 +119,7 @@ impl<W: Sink, C: SerializerConfig> Serializer<W, C> {
     /// Opens a map of so many pairs, or of a number that isn't known yet.
     ///
     /// A number of 2 ^ 32 or more is refused, and nothing is written.
+    #[inline(always)]
     pub fn serialize_map(
         &mut self,
         len: Option<usize>,
@@ -260,6 +262,7 @@ impl<'a, W: Sink, C: SerializerConfig> MaybeUnknownLengthCompound<'a, W, C> {
     }
 
     /// Ends the list or the map. What waits in a buffer is written behind its head.
+    #[inline(always)]
     pub fn end(self) -> Result<(), Error>
         requires turn { owed self ≡ 0 }
         requires whole { MayEnd (left_of self) }

@@ -85,6 +85,7 @@ impl<W: Sink, C: SerializerConfig> Serializer<W, C> {
     }
 
     /// Opens a tuple of so many elements. A number of 2 ^ 32 or more is refused, and nothing is written.
+    #[inline(always)]
     pub fn serialize_tuple(&mut self, len: usize) -> Result<Tuple<'_, W, C>, Error>
         ensures* refused { sem 𝓛 (TupleRests W.row C.row W.Sink self.entry len result) }
         ensures same_reference { IfOk result (λ q. reference q ≡ self.entry.ghost_name) }
@@ -149,6 +150,7 @@ impl<'a, W: Sink, C: SerializerConfig> Tuple<'a, W, C> {
     }
 
     /// Ends the tuple. What was kept is written.
+    #[inline(always)]
     pub fn end(self) -> Result<(), Error>
         requires { left_of self ≡ 0 }
         ensures writes { (old : _) (all : _) → IsTupling W.Sink old all [] self.entry → WritesTree W.Sink W.takes_memory (tree_of (settings_of old) (tuple_of all)) (sink_of old) (sink_of self.exit.0.now) result }
