@@ -27,10 +27,11 @@ pub record Filled {R C V : Type 0} (g : Ghosts R) (reads : Msg → V → Type 0)
   pub values : List V
   pub held : map (λ v. Some v) values ≡ take i places
   pub read : Values g reads start now values
+  pub count : now.count ≡ start.count
 
 module _ {R C V : Type 0} (g : Ghosts R) (reads : Msg → V → Type 0) where
   pub filled_start : (s : SeqAccess R C) (ps : List (Option V)) → IsOpen s → Filled g reads s s ps 0
-  filled_start s ps o = record { within = omega arith; values = []; held = refl; read = values_start g reads s o }
+  filled_start s ps o = record { within = omega arith; values = []; held = refl; read = values_start g reads s o; count = refl }
 
   pub filled_step : (start mid now : SeqAccess R C) (ps : List (Option V)) (i : ℕ) (v : V) → i < length ps → Filled g reads start mid ps i → TakesElement g reads mid now v → now.de.ghost_name ≡ mid.de.ghost_name → Filled g reads start now (slice_set ps i (Some v)) (i + 1)
   filled_step start mid now ps i v l f t n = record {
@@ -38,6 +39,7 @@ module _ {R C V : Type 0} (g : Ghosts R) (reads : Msg → V → Type 0) where
     values = f.values ++ v ∷ [];
     held = map_push (λ v. Some v) f.values v ∙ ap (λ z. z ++ Some v ∷ []) f.held ∙ sym (take_more_set ps i (Some v) l);
     read = values_step g reads start mid now f.values v f.read t n;
+    count = t.count ∙ f.count;
   }
 
   -- as many were read

@@ -1,7 +1,7 @@
 //! Arrays, from lists of as many elements, or bytes of as many.
 ghost use Rattle.std.specs.Prelude.{◌≡◌, ◌<◌, true, false, None, Some, IsSome, OnOk, IfErr, All, map, length, slice_index_or, slice_set};
 ghost use Rattle.rmp_decode.specs.Arrays.{PlacesFit, Exactly, TakesPlaces};
-ghost use Rattle.rmp_decode.specs.Seq.{OfRow, IsOpen, FailsParts, lender_of};
+ghost use Rattle.rmp_decode.specs.Seq.{OfRow, IsOpen, FailsParts, count_in, lender_of};
 ghost use Rattle.rmp_decode.specs.State.{config_of};
 
 use crate::de::seq::SeqAccess;
@@ -54,6 +54,7 @@ impl<'x, R: Source, C: SerializerConfig> SeqAccess<'x, R, C> {
         requires { IsOpen self.old }
         ensures same_reference { self.new.de.ghost_name ≡ self.old.de.ghost_name }
         ensures ok { OnOk result (TakesPlaces R.Source (length places.old) (T.reads (C.human (config_of (lender_of self.old))) R.lends) self.old self.new places.new) }
+        ensures count { OnOk result (count_in self.new ≡ count_in self.old) }
         ensures err { IfErr result (FailsParts R.Source (Exactly (length places.old) (T.reads (C.human (config_of (lender_of self.old))) R.lends)) self.old self.new) }
     {
         let mut i = 0;
