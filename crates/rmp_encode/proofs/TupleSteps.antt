@@ -21,7 +21,7 @@ use Rattle.rmp_encode.specs.Ser.{sink_of, settings_of}
 use Rattle.rmp_encode.specs.Writes.{Keeps, WritesPart, WritesTree}
 use Rattle.rmp_encode.specs.Going.{head_at, open_of}
 use Rattle.rmp_encode.specs.Errors.{IsReason}
-use Rattle.rmp_encode.specs.Tuples.{OpenTuple, IsListing, IsProbing, IsTupling, IsTuplingAt, FailsTuple}
+use Rattle.rmp_encode.specs.Tuples.{OpenTuple, IsListing, IsProbing, IsTupling, IsTuplingAt, FailsTuple, kept_at, kept_of}
 use Rattle.rmp_encode.proofs.Parts.{part_as, part_stops, part_nothing, part_refused}
 use Rattle.rmp_encode.proofs.Lists.{list_may, list_can, list_text}
 use Rattle.rmp_encode.proofs.Going.{all_append, all_back, at_opened, at_not_opened, at_goes, at_closes}
@@ -46,6 +46,16 @@ module _ {W : Type 0} (g : Ghosts W) where
 text_of : (s : Settings) (ds : List (Option Data)) (n : ℕ) → n ≡ length ds → HasTree (tree_of s (sequence_of ds)) → head_at false n ++ flat_map (spelling s) ds ≡ spell (tree_of s (sequence_of ds))
 unfolding head_at
 text_of s ds n e h = ap (λ k. array_head k ++ flat_map (spelling s) ds) e ∙ list_text s ds h
+
+-- what is kept, from the fields
+pub kept_none : {B : Type 0} (k : Option B) (probing : Bool) → k ≡ None → kept_at k probing ≡ None
+kept_none k probing is = ap (λ b. kept_at b probing) is
+
+pub kept_no_more : {B : Type 0} {k : Option B} {probing : Bool} (v : B) → k ≡ Some v → probing ≡ false → kept_at k probing ≡ None
+kept_no_more {B} {k} {probing} v is ended = ap (λ b. kept_at b probing) is ∙ ap (kept_at (Some v)) ended
+
+pub kept_some : {B : Type 0} {k : Option B} {probing : Bool} (v : B) → k ≡ Some v → probing ≡ true → kept_at k probing ≡ Some v
+kept_some {B} {k} {probing} v is goes = ap (λ b. kept_at b probing) is ∙ ap (kept_at (Some v)) goes
 
 module _ {W C : Type 0} (g : Ghosts W) where
   pub listing_opened : (old now : Serializer W C) (n : ℕ) (u : Unit {0}) → forces_all (settings_of old).bytes ≡ false → n < 2 ^ 32 → Keeps g old now → WritesPart g g.takes_memory (Unit {0}) (head_at false n) (sink_of old) (sink_of now) (Ok u) → (all : List (Option Data)) → length all ≡ n → IsListing g old all all n now
@@ -170,17 +180,20 @@ module _ {W C : Type 0} (g : Ghosts W) where
       (subst (λ x. WritesPart g g.takes_memory (Unit {0} × Unit {0}) (head_at false len ++ flat_map number_head kept) (sink_of x) last r) h.same w))
 
   -- the state, where nothing is kept, and where something may be
-  pub list_state : {old : Serializer W C} {all rest : List (Option Data)} {q : OpenTuple W C} → q.kept ≡ None → IsTupling g old all rest q → IsListing g old all rest q.left q.se.now
+  pub list_state : {old : Serializer W C} {all rest : List (Option Data)} {q : OpenTuple W C} → kept_of q ≡ None → IsTupling g old all rest q → IsListing g old all rest q.left q.se.now
   list_state {old} {all} {rest} {q} e h = subst (λ b. IsTuplingAt g old all rest b q.len q.left q.se.now) e h.state
 
-  pub probe_state : {old : Serializer W C} {all rest : List (Option Data)} {q : OpenTuple W C} (v : Vec ℕ Global) → q.kept ≡ Some v → IsTupling g old all rest q → IsProbing g old all rest v.items q.len q.left q.se.now
+  pub probe_state : {old : Serializer W C} {all rest : List (Option Data)} {q : OpenTuple W C} (v : Vec ℕ Global) → kept_of q ≡ Some v → IsTupling g old all rest q → IsProbing g old all rest v.items q.len q.left q.se.now
   probe_state {old} {all} {rest} {q} v e h = subst (λ b. IsTuplingAt g old all rest b q.len q.left q.se.now) e h.state
 
-  in_list : {old : Serializer W C} {all rest : List (Option Data)} {q : OpenTuple W C} → q.kept ≡ None → IsListing g old all rest q.left q.se.now → IsTupling g old all rest q
+  in_list : {old : Serializer W C} {all rest : List (Option Data)} {q : OpenTuple W C} → kept_of q ≡ None → IsListing g old all rest q.left q.se.now → IsTupling g old all rest q
   in_list {old} {all} {rest} {q} e h = record { state = subst (λ b. IsTuplingAt g old all rest b q.len q.left q.se.now) (sym e) h }
 
+  pub in_probe : {old : Serializer W C} {all rest : List (Option Data)} {q : OpenTuple W C} (v : Vec ℕ Global) → kept_of q ≡ Some v → IsProbing g old all rest v.items q.len q.left q.se.now → IsTupling g old all rest q
+  in_probe {old} {all} {rest} {q} v e h = record { state = subst (λ b. IsTuplingAt g old all rest b q.len q.left q.se.now) (sym e) h }
+
   -- an element went to the sink, as the tuple's state says
-  pub tuple_goes : (d : Settings → Option Data) (left : ℕ) (now : Serializer W C) (q' : OpenTuple W C) (r : Result (Unit {0}) Error) → q'.kept ≡ None → q'.left + 1 ≡ left → Keeps g now q'.se.now
+  pub tuple_goes : (d : Settings → Option Data) (left : ℕ) (now : Serializer W C) (q' : OpenTuple W C) (r : Result (Unit {0}) Error) → kept_of q' ≡ None → q'.left + 1 ≡ left → Keeps g now q'.se.now
       → WritesTree g true (tree_of (settings_of now) (d (settings_of now))) (sink_of now) (sink_of q'.se.now) r
       → (old : Serializer W C) (all rest : List (Option Data)) → IsListing g old all (d (settings_of old) ∷ rest) left now
       → MatchResult r (λ _. IsTupling g old all rest q') (λ e. WritesTree g {A = Unit {0}} true (tree_of (settings_of old) (tuple_of all)) (sink_of old) (sink_of q'.se.now) (Err e))
@@ -196,7 +209,7 @@ module _ {W C : Type 0} (g : Ghosts W) where
 
   -- as many haven't begun as are to come
   pub tuple_left : {old : Serializer W C} {all rest : List (Option Data)} {q : OpenTuple W C} → IsTupling g old all rest q → q.left ≡ length rest
-  tuple_left {old} {all} {rest} {q} h = left_at old all rest q.kept q.len q.left q.se.now h.state
+  tuple_left {old} {all} {rest} {q} h = left_at old all rest (kept_of q) q.len q.left q.se.now h.state
 
   -- the tuple wasn't opened
   pub refuses_tuple : (old last : Serializer W C) (n : ℕ) (all : List (Option Data)) (r : Result (OpenTuple W C) Error) (e : Error) → r ≡ Err e → OnErr r (FailsTuple g old n r last) → length all ≡ n → WritesTree g {A = Unit {0}} g.takes_memory (tree_of (settings_of old) (tuple_of all)) (sink_of old) (sink_of last) (Err e)

@@ -1,5 +1,5 @@
 -- What a contract sees of a tuple that is open.
-use Rattle.std.specs.Prelude.{◌≡◌, ℕ, ◌<◌, ◌^◌, ◌++◌, ◌∷◌, true, false, List, length, map, Option, None, Some, Result, Err, IfErr, MatchResult}
+use Rattle.std.specs.Prelude.{◌≡◌, ℕ, ◌<◌, ◌^◌, ◌++◌, ◌∷◌, Bool, true, false, List, length, map, Option, None, Some, Result, Err, IfErr, MatchResult}
 use Rattle.std.specs.List.{AllByRecursion}
 use Rattle.std.specs.Borrow.{Fml, GName, RattleType, MutBor, RestsIfErr}
 use Rattle.std.specs.declared.vec.Vec.{Vec}
@@ -21,6 +21,12 @@ use Rattle.rmp_encode.specs.Going.{IsWritingAt}
 abbrev pub OpenTuple : Type 0 → Type 0 → Type 0
 OpenTuple W C = Tuple W C (Option (Vec ℕ Global))
 
+-- the bytes that are kept, where the elements so far were all bytes
+abbrev pub kept_at : {B : Type 0} → Option B → Bool → Option B
+kept_at None probing = None
+kept_at (Some b) true = Some b
+kept_at (Some b) false = None
+
 module _ {W C : Type 0} where
   -- the serializer that it writes into, and the reference to it
   abbrev pub inside : {P : Type 0} → Tuple W C P → Serializer W C
@@ -32,6 +38,9 @@ module _ {W C : Type 0} where
   -- how many elements haven't begun
   abbrev pub left_of : OpenTuple W C → ℕ
   left_of q = q.left
+
+  abbrev pub kept_of : OpenTuple W C → Option (Vec ℕ Global)
+  kept_of q = kept_at q.kept q.probing
 
 module _ {W C : Type 0} (g : Ghosts W) where
   -- its tree is the list, and what went before was written
@@ -55,7 +64,7 @@ module _ {W C : Type 0} (g : Ghosts W) where
 
   -- of the tuple `all` of values, opened at old, `rest` is still to come
   pub record IsTupling (old : Serializer W C) (all rest : List (Option Data)) (q : OpenTuple W C) : Type 0 where
-    pub state : IsTuplingAt old all rest q.kept q.len q.left q.se.now
+    pub state : IsTuplingAt old all rest (kept_of q) q.len q.left q.se.now
 
   -- what the serializer is left as where the tuple isn't opened
   pub record FailsTuple {A : Type 0} (old : Serializer W C) (len : ℕ) (r : Result A Error) (last : Serializer W C) : Type 0 where

@@ -14,13 +14,17 @@ use crate::ser::Serialize;
 use crate::serializer::Serializer;
 use rmp_wire::Sink;
 use rmp_wire::config::{BytesMode, SerializerConfig};
+use std::mem;
 
 /// The elements of a tuple that are still to be written.
 ///
 /// Under the mode that forces all, elements that are `u8` are kept until one is none, or until the end.
 pub struct Tuple<'a, W, C, P = Option<Vec<u8>>> {
     se: &'a mut Serializer<W, C>,
+    // `Some` under that mode, and `None` under the others, from the opening to `end`: the compiler can test for it once
     kept: P,
+    // the elements so far were all `u8`, and are kept
+    probing: bool,
     len: u32,
     left: usize,
 }
@@ -32,6 +36,7 @@ impl<W, C, P: Drop> Drop for Tuple<'_, W, C, P> {
         let Tuple {
             se: _,
             kept: _,
+            probing: _,
             len: _,
             left: _,
         } = self;
@@ -101,6 +106,7 @@ impl<W: Sink, C: SerializerConfig> Serializer<W, C> {
             return Ok(Tuple {
                 se: self,
                 kept: Some(kept),
+                probing: true,
                 len: len as u32,
                 left: len,
             });
@@ -109,6 +115,7 @@ impl<W: Sink, C: SerializerConfig> Serializer<W, C> {
         Ok(Tuple {
             se: self,
             kept: None,
+            probing: false,
             len: len as u32,
             left: len,
         })
@@ -117,6 +124,8 @@ impl<W: Sink, C: SerializerConfig> Serializer<W, C> {
 
 impl<'a, W: Sink, C: SerializerConfig> Tuple<'a, W, C> {
     /// Writes the next element, or keeps it.
+    //
+    // What is kept is moved out while it grows, so that no reference into the tuple is handed on.
     #[inline(always)]
     pub fn serialize_element<T: Serialize>(&mut self, value: &T) -> Result<(), Error>
         requires { 0 < left_of self.old }
@@ -130,15 +139,23 @@ impl<'a, W: Sink, C: SerializerConfig> Tuple<'a, W, C> {
         let Some(kept) = &mut self.kept else {
             return value.serialize(&mut *self.se);
         };
+        if !self.probing {
+            return value.serialize(&mut *self.se);
+        }
         if let Some(b) = value.as_u8(self.se.is_human_readable()) {
-            return match kept.push(b) {
+            let empty = self.se.empty();
+            let mut bytes = mem::replace(kept, empty);
+            let pushed = bytes.push(b);
+            *kept = bytes;
+            return match pushed {
                 Ok(()) => Ok(()),
                 Err(_) => Err(Error::OutOfMemory),
             };
         }
         self.se.put_head(false, self.len)?;
         self.se.put_numbers(kept.as_slice())?;
-        self.kept = None;
+        *kept = self.se.empty();
+        self.probing = false;
         value.serialize(&mut *self.se)
     }
 
@@ -159,12 +176,16 @@ impl<'a, W: Sink, C: SerializerConfig> Tuple<'a, W, C> {
         let Tuple {
             se,
             kept,
+            probing,
             len,
             left: _,
         } = self;
         let Some(bytes) = kept else {
             return Ok(());
         };
+        if !probing {
+            return Ok(());
+        }
         if packs(bytes.as_slice()) {
             return se.serialize_bytes(bytes.as_slice());
         }
