@@ -1,5 +1,5 @@
 -- A byte of bytes that is read as a number.
-use Rattle.std.proofs.Common.{◌≡◌, ◌∙◌, sym, ap, subst, refl, ℕ, pos, ◌<◌, max, arith, List, [], ◌∷◌, ◌++◌, Option, None, Some, IfSome, true}
+use Rattle.std.proofs.Common.{◌≡◌, ◌∙◌, sym, ap, subst, ℕ, pos, ◌<◌, List, [], ◌∷◌, ◌++◌, Option, None, Some}
 use Rattle.std.proofs.lemmas.List.{append-nil, append_cancel_left}
 use Rattle.std.specs.Io.KnownBytes.{Consumes, IsAtEnd, prepend_known}
 use Rattle.rmp_wire.specs.declared.head.Head.TheVariants.{Whole}
@@ -9,11 +9,11 @@ use Rattle.rmp_wire.specs.Msg.{Msg, whole}
 use Rattle.rmp_wire.specs.Spelling.{Spells}
 use Rattle.rmp_wire.proofs.Canon.{canon_is_head}
 use Rattle.rmp_wire.proofs.Unique.{spelled_once}
-use Rattle.rmp_decode.specs.Law.{Begins, Refuses, Readable, Reads, GoesOn}
+use Rattle.rmp_decode.specs.Law.{Refuses, Reads}
 use Rattle.rmp_decode.specs.Seq.{SpellsByte, KeepsByte}
 use Rattle.rmp_decode.specs.State.{left, kept_bytes}
 use Rattle.rmp_decode.specs.declared.de.Deserializer.{Deserializer}
-use Rattle.rmp_decode.specs.declared.de.Kept.TheVariants.{Nothing, Number}
+use Rattle.rmp_decode.specs.declared.de.Kept.TheVariants.{Nothing}
 use Rattle.rmp_decode.proofs.Contents.{bare}
 use Rattle.rmp_decode.proofs.HeadTaken.{fits_byte}
 

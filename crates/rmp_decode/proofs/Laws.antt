@@ -1,6 +1,5 @@
 -- What a read's result says, put together from what its steps say.
-use Rattle.std.proofs.Common.{◌≡◌, ◌≢◌, ℕ, ◌<◌, ◌≤◌, List, length, refl, sym, ◌∙◌, ap, subst, arith, Option, Some, true, false, Ok, Err, MatchResult}
-use Rattle.std.specs.Io.KnownBytes.{Consumes}
+use Rattle.std.proofs.Common.{◌≡◌, ℕ, List, refl, ◌∙◌, arith, true, false, Ok, Err}
 use Rattle.rmp_wire.specs.declared.head.Head.{Head}
 use Rattle.rmp_wire.specs.declared.marker.Marker.{Marker}
 use Rattle.rmp_wire.specs.declared.source.Source.{Ghosts}
@@ -8,10 +7,9 @@ use Rattle.rmp_wire.specs.Heads.{IsHead}
 use Rattle.rmp_wire.specs.Msg.{Msg, depth}
 use Rattle.rmp_wire.specs.Spelling.{Spells, head_of}
 use Rattle.rmp_decode.specs.State.{left, faults_of, room_of, Stays}
-use Rattle.rmp_decode.specs.Law.{Refuses, Readable, NoMessage, Lawful, Explains, IsFailedBefore, Reads, ReadsHead}
+use Rattle.rmp_decode.specs.Law.{Refuses, Readable, Lawful, Explains, ReadsHead}
 use Rattle.rmp_decode.specs.declared.de.Deserializer.{Deserializer}
 use Rattle.rmp_decode.specs.declared.error.Error.{Error}
-use Rattle.rmp_decode.specs.declared.error.Error.TheVariants.{OutOfMemory}
 use Rattle.rmp_decode.proofs.Refusals.{refuses_none, refuses_other, refuses_head, refuses_narrower}
 
 pub stays_refl : {R C : Type 0} (g : Ghosts R) (d : Deserializer R C) → Stays g d d

@@ -1,5 +1,5 @@
 -- Messages that are their head.
-use Rattle.std.proofs.Common.{◌≡◌, ℕ, ℤ, ◌<◌, ◌≤◌, List, refl, sym, ◌∙◌, ap, subst, Bool, false, Ok, Err}
+use Rattle.std.proofs.Common.{◌≡◌, ℕ, List, refl, sym, ◌∙◌, ap, subst, false, Ok, Err}
 use Rattle.rmp_wire.specs.declared.head.Head.{Head}
 use Rattle.rmp_wire.specs.declared.head.Head.TheVariants as head
 use Rattle.rmp_wire.specs.declared.marker.Marker.{Marker}

@@ -1,12 +1,11 @@
 -- What a function that an access calls makes of the next key or value.
-use Rattle.std.proofs.Common.{◌≡◌, ◌∙◌, sym, ap, subst, refl, ℕ, ◌<◌, max, Option, Some, Bool, true, false, Result, Ok, Err, MatchResult, if◌then◌else◌}
+use Rattle.std.proofs.Common.{◌≡◌, sym, subst, refl, ℕ, max, Option, Some, Bool, true, false, Result, Ok, Err, MatchResult, if◌then◌else◌}
 use Rattle.std.specs.Fn.{FnOnceReturnsAtMut}
 use Rattle.rmp_wire.specs.declared.source.Source.{Ghosts}
 use Rattle.rmp_wire.specs.Msg.{Msg}
 use Rattle.rmp_decode.specs.Law.{Lawful}
 use Rattle.rmp_decode.specs.Maps.{map_inner, TakesKey, TakesValue}
 use Rattle.rmp_decode.specs.Parts.{TakesPart, FailsPart}
-use Rattle.rmp_decode.specs.State.{faults_of, left, Stays}
 use Rattle.rmp_decode.specs.With.{Reading, part_reader, PartGiven, KeyRead, ValueRead}
 use Rattle.rmp_decode.specs.declared.de.Deserializer.{Deserializer}
 use Rattle.rmp_decode.specs.declared.de.map.MapAccess.{MapAccess}

@@ -1,12 +1,11 @@
 -- What the read of a list says, from what its opening, its elements and its end say.
-use Rattle.std.proofs.Common.{◌≡◌, ◌≢◌, ◌∙◌, sym, ap, subst, refl, ℕ, suc, ◌+◌, ◌<◌, ◌≤◌, ◌⊎◌, inl, inr, max, arith, List, [], ◌∷◌, ◌++◌, Option, true, false, Ok, Err, append_assoc}
-use Rattle.std.specs.Io.KnownBytes.{Consumes}
+use Rattle.std.proofs.Common.{◌≡◌, ◌∙◌, sym, ap, subst, refl, ℕ, suc, ◌+◌, ◌<◌, inl, inr, max, arith, List, [], ◌∷◌, ◌++◌, true, false, Ok, Err, append_assoc}
 use Rattle.std.proofs.KnownBytes.{Consumes-nil, Consumes-trans}
 use Rattle.rmp_wire.specs.declared.source.Source.{Ghosts}
-use Rattle.rmp_wire.specs.Msg.{Msg, Msgs, no_items, item, count, depth, depth_all}
+use Rattle.rmp_wire.specs.Msg.{Msg, Msgs, no_items, item, count}
 use Rattle.rmp_wire.specs.Spelling.{Spells}
 use Rattle.rmp_decode.specs.Law.{Refuses, Readable, Explains, Lawful}
-use Rattle.rmp_decode.specs.Seq.{OfRow, IsSeq, SpellsIn, SpellsRow, RefusesRow, levels, inner_of, IsOpen, Opens, FailsToOpen, TakesElement, FailsToTake, FailsElement, Run, TakesParts, FailsParts}
+use Rattle.rmp_decode.specs.Seq.{OfRow, IsSeq, SpellsIn, RefusesRow, inner_of, IsOpen, Opens, FailsToOpen, TakesElement, FailsToTake, FailsElement, Run, FailsParts}
 use Rattle.rmp_decode.specs.State.{left, faults_of, room_of, kept_bytes, Stays}
 use Rattle.rmp_decode.specs.Rows.{ReadsEach, AndThen, NoMore}
 use Rattle.rmp_decode.specs.declared.de.Deserializer.{Deserializer}

@@ -1,5 +1,5 @@
 -- What passing over a message says.
-use Rattle.std.proofs.Common.{◌≡◌, ◌∙◌, sym, ap, subst, refl, ℕ, zero, suc, ◌+◌, ◌-◌, ◌*◌, ◌<◌, ◌≤◌, max, arith, List, [], ◌∷◌, ◌++◌, length, Option, None, Some, IfSome, Bool, true, false, Result, Ok, Err, append_assoc}
+use Rattle.std.proofs.Common.{◌≡◌, ◌∙◌, sym, ap, subst, refl, ℕ, zero, suc, ◌+◌, ◌-◌, ◌*◌, ◌<◌, ◌≤◌, max, arith, List, [], ◌∷◌, ◌++◌, length, Option, None, Some, Bool, true, false, Result, Ok, Err, append_assoc}
 use Rattle.std.proofs.lemmas.List.{append-nil}
 use Rattle.std.specs.Io.KnownBytes.{Consumes}
 use Rattle.std.proofs.KnownBytes.{Consumes-nil, Consumes-trans}
@@ -10,10 +10,10 @@ use Rattle.rmp_wire.specs.declared.source.Source.{Ghosts}
 use Rattle.rmp_wire.specs.Heads.{IsHead}
 use Rattle.rmp_wire.specs.Msg.{Msg, nil, truth, whole, float32, float64, text, bin, list, map, extension, Msgs, no_items, item, Pairs, no_pairs, pair, count, count_pairs, depth, depth_all, depth_pairs}
 use Rattle.rmp_wire.specs.Sources.{IsShort}
-use Rattle.rmp_wire.specs.Spelling.{Spells, SpellsPairs, IsBytes, head_of, Joined}
+use Rattle.rmp_wire.specs.Spelling.{Spells, SpellsPairs, IsBytes, head_of}
 use Rattle.rmp_wire.proofs.Heads.{heads_apart}
 use Rattle.rmp_decode.specs.Kinds.{content_len}
-use Rattle.rmp_decode.specs.Law.{Begins, Refuses, Readable, Explains, Lawful, ReadsHead}
+use Rattle.rmp_decode.specs.Law.{Refuses, Readable, Explains, Lawful, ReadsHead}
 use Rattle.rmp_decode.specs.Seq.{SpellsRow, BeginsRow, RefusesRow}
 use Rattle.rmp_decode.specs.Skip.{any_tree, any_row, parts_head, parts_count, Passes, PassesRow, SkipsRow}
 use Rattle.rmp_decode.specs.State.{left, faults_of, room_of, kept_bytes, Stays}

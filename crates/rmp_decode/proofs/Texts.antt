@@ -1,9 +1,9 @@
 -- Characters at the front of the bytes, and bytes that are read from the input.
-use Rattle.std.proofs.Common.{◌≡◌, ◌∙◌, sym, ap, subst, ℕ, List, [], ◌∷◌, ◌++◌, length, Option, None, Some, IfSome, refl, arith}
+use Rattle.std.proofs.Common.{◌≡◌, ◌∙◌, sym, ap, ℕ, List, ◌++◌, length, Option, None, Some, IfSome}
 use Rattle.std.specs.Char.{IsScalar}
 use Rattle.std.specs.Io.KnownBytes.{Consumes}
 use Rattle.std.specs.Prelude.{encode_utf8}
-use Rattle.rmp_wire.specs.Msg.{Msg, text}
+use Rattle.rmp_wire.specs.Msg.{text}
 use Rattle.rmp_decode.specs.Law.{Readable}
 use Rattle.rmp_decode.specs.Pieces.{StartsWithNoChar}
 use Rattle.rmp_decode.specs.Read.{IsChar}

@@ -1,16 +1,14 @@
 -- What a read from the beginning of known bytes says.
-use Rattle.std.proofs.Common.{◌≡◌, ◌≢◌, ◌∙◌, sym, ap, refl, ℕ, List, [], ◌∷◌, ◌++◌, Option, None, Some, IfSome, false, Ok, Err}
+use Rattle.std.proofs.Common.{◌≡◌, ◌∙◌, ap, ℕ, List, ◌++◌, Option, None, Some}
 use Rattle.std.specs.Io.KnownBytes.{Consumes, prepend_known}
 use Rattle.rmp_wire.specs.declared.source.Source.{Ghosts}
 use Rattle.rmp_wire.specs.Msg.{Msg}
 use Rattle.rmp_wire.specs.Spelling.{Spells}
-use Rattle.rmp_decode.specs.Law.{Begins, Refuses, Readable, Lawful, Reads}
+use Rattle.rmp_decode.specs.Law.{Begins, Refuses, Reads}
 use Rattle.rmp_decode.specs.State.{left, room_of, kept_bytes}
 use Rattle.rmp_decode.specs.declared.de.Deserializer.{Deserializer}
 use Rattle.rmp_decode.specs.declared.de.Kept.{Kept}
 use Rattle.rmp_decode.specs.declared.de.Kept.TheVariants.{Nothing}
-use Rattle.rmp_decode.specs.declared.error.Error.{Error}
-use Rattle.rmp_decode.specs.declared.error.Error.TheVariants.{OutOfMemory}
 
 -- with nothing kept back, all that is known ahead is left
 pub known_left : (k : Kept) (ys xs : List ℕ) → k ≡ Nothing → ys ≡ xs → prepend_known (kept_bytes k) (Some ys) ≡ Some xs

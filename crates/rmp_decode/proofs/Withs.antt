@@ -1,5 +1,5 @@
 -- What a function that an access calls makes of the next element.
-use Rattle.std.proofs.Common.{◌≡◌, ◌∙◌, sym, ap, subst, refl, ℕ, pos, ◌+◌, ◌<◌, max, arith, ◌⊎◌, inl, inr, List, [], ◌∷◌, Option, Some, Bool, true, false, Result, Ok, Err, MatchResult, if◌then◌else◌}
+use Rattle.std.proofs.Common.{◌≡◌, ◌∙◌, sym, ap, subst, refl, ℕ, pos, ◌<◌, max, arith, ◌⊎◌, inl, inr, List, [], ◌∷◌, Option, Some, Bool, true, false, Result, Ok, Err, MatchResult, if◌then◌else◌}
 use Rattle.std.specs.Fn.{FnOnceReturnsAtMut}
 use Rattle.std.specs.Io.KnownBytes.{Consumes}
 use Rattle.rmp_wire.specs.declared.source.Source.{Ghosts}

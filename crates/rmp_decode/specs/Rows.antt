@@ -1,5 +1,5 @@
 -- What types read of the items of a list.
-use Rattle.std.specs.Prelude.{◌≡◌, List, [], ◌∷◌}
+use Rattle.std.specs.Prelude.{List, [], ◌∷◌}
 use Rattle.rmp_wire.specs.Msg.{Msg, Msgs, no_items, item}
 
 -- each item is read as the value at its place

@@ -1,5 +1,5 @@
 -- What a contract sees of a tuple struct that is open.
-use Rattle.std.specs.Prelude.{◌≡◌, ℕ, ◌∷◌, Bool, true, false, List, length, Option, Result, Err, IfErr, MatchResult}
+use Rattle.std.specs.Prelude.{◌≡◌, ℕ, ◌∷◌, Bool, false, List, length, Option, Result, Err, IfErr, MatchResult}
 use Rattle.std.specs.Borrow.{Fml, GName, RattleType, MutBor, RestsIfErr}
 use Rattle.rmp_wire.specs.declared.sink.Sink.{Ghosts}
 use Rattle.rmp_encode.specs.declared.compound.Compound.{Compound}

@@ -1,4 +1,4 @@
-use Rattle.std.proofs.Common.{◌≡◌, ◌<◌, refl, subst, arith, true, false}
+use Rattle.std.proofs.Common.{◌<◌, refl, subst, arith, true, false}
 use Rattle.rmp_decode.specs.Law.{TakesHead}
 use Rattle.rmp_decode.proofs.de.Deserializer.deserialize_any.Goals as goal
 

@@ -1,4 +1,4 @@
-use Rattle.std.proofs.Common.{◌≡◌, refl, arith}
+use Rattle.std.proofs.Common.{refl, arith}
 use Rattle.rmp_decode.proofs.Anything.{any_missing, any_too_deep}
 use Rattle.rmp_decode.proofs.de.Deserializer.open_any.Goals as goal
 

@@ -1,4 +1,4 @@
-use Rattle.std.proofs.Common.{◌≡◌, refl}
+use Rattle.std.proofs.Common.{refl}
 use Rattle.rmp_decode.proofs.de.Deserializer.part_with.Goals as goal
 
 pub returns-in-Err : goal.returns-in-Err

@@ -1,4 +1,4 @@
-use Rattle.std.proofs.Common.{◌≡◌, ◌+◌, ◌*◌}
+use Rattle.std.proofs.Common.{◌+◌, ◌*◌}
 use Rattle.rmp_decode.proofs.Skipping.{Passed}
 use Rattle.rmp_decode.proofs.de.skip.+skipping.Given as goal
 

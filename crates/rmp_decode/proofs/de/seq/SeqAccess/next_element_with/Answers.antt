@@ -1,5 +1,4 @@
-use Rattle.std.proofs.Common.{◌≡◌, ◌<◌, sym, ap, arith, refl, rules, inl, true, false}
-use Rattle.rmp_decode.proofs.Withs.{with_taken}
+use Rattle.std.proofs.Common.{ap, arith, refl, rules, inl, true, false}
 use Rattle.rmp_decode.proofs.de.seq.SeqAccess.next_element_with.Goals as goal
 
 pub f-given-requires : goal.f-given-requires

@@ -1,5 +1,5 @@
-use Rattle.std.proofs.Common.{◌≡◌, ◌∙◌, refl, sym, false, arith, subst, ◌∷◌, [], pos, List, ℕ, max}
-use Rattle.rmp_wire.specs.Msg.{Msg, whole}
+use Rattle.std.proofs.Common.{◌∙◌, refl, sym, false, arith, subst, ◌∷◌, [], pos, max}
+use Rattle.rmp_wire.specs.Msg.{whole}
 use Rattle.rmp_decode.specs.Law.{Readable, Refuses}
 use Rattle.rmp_decode.specs.Seq.{SpellsByte}
 use Rattle.rmp_decode.specs.State.{left}
