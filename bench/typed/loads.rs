@@ -34,6 +34,17 @@ pub struct Calls {
     pub read_lent_texts: OfBytes,
     pub read_entries: OfBytes,
     pub read_lent_entries: OfBytes,
+    /// The same reads, of which each takes canonical heads alone.
+    pub strict_numbers: OfBytes,
+    pub strict_rows: OfBytes,
+    pub strict_texts: OfBytes,
+    pub strict_lent_texts: OfBytes,
+    pub strict_entries: OfBytes,
+    pub strict_lent_entries: OfBytes,
+    /// A whole message is passed over, and answered as one.
+    pub skip: OfBytes,
+    /// Whether a whole message is spelled canonically: the bytes of those that are.
+    pub check: OfBytes,
 }
 
 /// The head of a list.
@@ -135,7 +146,108 @@ fn loads() -> Vec<Load<Calls>> {
     loads.extend(reads_of_numbers(&small, &mixed, &wide));
     loads.extend(reads_of_texts(&texts, &entries));
     loads.extend(writes_by_parts(&small, &mixed, &wide));
+    loads.extend(strict_reads(&small, &mixed, &wide, &texts, &entries));
+    loads.extend(skips(&mixed, &texts, &mixture));
+    loads.extend(checks(&small, &mixed, &texts, &mixture));
     loads
+}
+
+/// The reads once more, strictly.
+fn strict_reads(
+    small: &[u32],
+    mixed: &[u32],
+    wide: &[u32],
+    texts: &[u8],
+    entries: &[u8],
+) -> Vec<Load<Calls>> {
+    let (texts, entries) = (spelled_texts(texts), spelled_entries(entries));
+    let numbers = |name, numbers: &[u32]| {
+        let spelled = spelled_numbers(numbers);
+        reads(name, |calls| calls.strict_numbers, spelled, numbers.len())
+    };
+    let rows = spelled_rows(mixed);
+    vec![
+        numbers("strict, small numbers", small),
+        numbers("strict, mixed numbers", mixed),
+        numbers("strict, wide numbers", wide),
+        reads(
+            "strict, rows of ten numbers",
+            |c| c.strict_rows,
+            rows,
+            100_000,
+        ),
+        reads("strict, texts", |c| c.strict_texts, texts.clone(), 100_000),
+        reads(
+            "strict, lent texts",
+            |c| c.strict_lent_texts,
+            texts,
+            100_000,
+        ),
+        reads(
+            "strict, pairs with a text",
+            |c| c.strict_entries,
+            entries.clone(),
+            100_000,
+        ),
+        reads(
+            "strict, pairs with a lent text",
+            |c| c.strict_lent_entries,
+            entries,
+            100_000,
+        ),
+    ]
+}
+
+/// Bytes of a hundred, of which there are so many.
+fn spelled_bins(count: usize) -> Vec<u8> {
+    let mut out = Vec::new();
+    list(&mut out, count);
+    for _ in 0..count {
+        out.extend([0xc4, 100]);
+        out.extend([7; 100]);
+    }
+    out
+}
+
+/// Lists of one item, seven in one another, of which there are so many.
+fn spelled_nests(count: usize) -> Vec<u8> {
+    let mut out = Vec::new();
+    list(&mut out, count);
+    for _ in 0..count {
+        out.extend([0x91, 0x91, 0x91, 0x91, 0x91, 0x91, 0x91, 0xc0]);
+    }
+    out
+}
+
+fn skips(mixed: &[u32], texts: &[u8], mixture: &[u8]) -> Vec<Load<Calls>> {
+    let skip = |name, count, data| load(name, count, |c: &Calls| c.skip, data, Answer::Sum(1));
+    vec![
+        skip("skip, mixed numbers", mixed.len(), spelled_numbers(mixed)),
+        skip("skip, rows of ten numbers", 100_000, spelled_rows(mixed)),
+        skip("skip, texts", 100_000, spelled_texts(texts)),
+        skip("skip, bytes", 100_000, spelled_bins(100_000)),
+        skip("skip, any kind", 100_000, mixture.to_vec()),
+        skip(
+            "skip, seven lists in one another",
+            100_000,
+            spelled_nests(100_000),
+        ),
+    ]
+}
+
+fn checks(small: &[u32], mixed: &[u32], texts: &[u8], mixture: &[u8]) -> Vec<Load<Calls>> {
+    let check = |name, count, data: Vec<u8>| {
+        let bytes = Answer::Sum(data.len() as u64);
+        load(name, count, |c: &Calls| c.check, data, bytes)
+    };
+    vec![
+        check("check, small numbers", small.len(), spelled_numbers(small)),
+        check("check, mixed numbers", mixed.len(), spelled_numbers(mixed)),
+        check("check, rows of ten numbers", 100_000, spelled_rows(mixed)),
+        check("check, texts", 100_000, spelled_texts(texts)),
+        check("check, bytes", 100_000, spelled_bins(100_000)),
+        check("check, any kind", 100_000, mixture.to_vec()),
+    ]
 }
 
 fn writes_of_many(mixed: &[u32], texts: &[u8], entries: &[u8], mixture: &[u8]) -> Vec<Load<Calls>> {

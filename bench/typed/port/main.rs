@@ -21,6 +21,14 @@ unsafe extern "C" {
     fn bench_decode_lent_texts(data: *const u8, count: usize, reps: u32) -> usize;
     fn bench_decode_entries(data: *const u8, count: usize, reps: u32) -> usize;
     fn bench_decode_lent_entries(data: *const u8, count: usize, reps: u32) -> usize;
+    fn bench_decode_strict_numbers(data: *const u8, count: usize, reps: u32) -> usize;
+    fn bench_decode_strict_rows(data: *const u8, count: usize, reps: u32) -> usize;
+    fn bench_decode_strict_texts(data: *const u8, count: usize, reps: u32) -> usize;
+    fn bench_decode_strict_lent_texts(data: *const u8, count: usize, reps: u32) -> usize;
+    fn bench_decode_strict_entries(data: *const u8, count: usize, reps: u32) -> usize;
+    fn bench_decode_strict_lent_entries(data: *const u8, count: usize, reps: u32) -> usize;
+    fn bench_decode_skip(data: *const u8, count: usize, reps: u32) -> usize;
+    fn bench_decode_check(data: *const u8, count: usize, reps: u32) -> usize;
 }
 
 fn main() {
@@ -45,5 +53,17 @@ fn main() {
         read_lent_entries: |d, reps| unsafe {
             bench_decode_lent_entries(d.as_ptr(), d.len(), reps)
         },
+        strict_numbers: |d, reps| unsafe { bench_decode_strict_numbers(d.as_ptr(), d.len(), reps) },
+        strict_rows: |d, reps| unsafe { bench_decode_strict_rows(d.as_ptr(), d.len(), reps) },
+        strict_texts: |d, reps| unsafe { bench_decode_strict_texts(d.as_ptr(), d.len(), reps) },
+        strict_lent_texts: |d, reps| unsafe {
+            bench_decode_strict_lent_texts(d.as_ptr(), d.len(), reps)
+        },
+        strict_entries: |d, reps| unsafe { bench_decode_strict_entries(d.as_ptr(), d.len(), reps) },
+        strict_lent_entries: |d, reps| unsafe {
+            bench_decode_strict_lent_entries(d.as_ptr(), d.len(), reps)
+        },
+        skip: |d, reps| unsafe { bench_decode_skip(d.as_ptr(), d.len(), reps) },
+        check: |d, reps| unsafe { bench_decode_check(d.as_ptr(), d.len(), reps) },
     });
 }

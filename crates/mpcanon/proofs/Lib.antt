@@ -1,6 +1,12 @@
+pub mod Arguments
+pub mod Checked
+pub mod Early
 pub mod LeafTexts
 pub mod PartTexts
 pub mod MessageReads
+pub mod OneCheck
+pub mod OneOutput
+pub mod OneRefusal
 pub mod Printing
 pub mod Reading
 pub mod Shown

@@ -9,8 +9,8 @@ use Rattle.rmp_wire.specs.declared.error.ValueWriteError.TheVariants.{InvalidMar
 use Rattle.rmp_wire.specs.declared.sink.Sink.{Ghosts}
 use Rattle.rmp_wire.specs.declared.source.Source.{Ghosts as Sources}
 use Rattle.rmp_wire.specs.Sinks.{next_fault, PutsPart}
-use Rattle.mpcanon.specs.declared.run.RunFault.{RunFault}
-use Rattle.mpcanon.specs.declared.run.RunFault.TheVariants.{Input, Output, Memory}
+use Rattle.mpcanon.specs.declared.lines.RunFault.{RunFault}
+use Rattle.mpcanon.specs.declared.lines.RunFault.TheVariants.{Input, Output, Memory}
 use Rattle.mpcanon.specs.Input.{StopsReading, CountsInput, ReadsInput}
 use Rattle.mpcanon.specs.Output.{IsLines, PutsLines, PutsBeginning, FailsOutput, LacksMemory, StopsPrinting, StopsRun, PrintsLines, PrintsRun}
 

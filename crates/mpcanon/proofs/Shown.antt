@@ -1,11 +1,11 @@
 -- What lines and messages print, one more at a time.
-use Rattle.std.proofs.Common.{arith, ◌≡◌, ℕ, ◌+◌, ◌-◌, ◌<◌, Bool, true, false, List, [], ◌∷◌, ◌++◌, inl, inr, map, take, get_or, length, refl, sym, ap, ◌∙◌, subst, append-nil, append_assoc}
+use Rattle.std.proofs.Common.{arith, ◌≡◌, ◌≢◌, ℕ, ◌+◌, ◌-◌, ◌<◌, Bool, true, false, List, [], ◌∷◌, ◌++◌, inl, inr, map, take, get_or, length, refl, sym, ap, ◌∙◌, subst, append-nil, append_assoc}
 use Rattle.std.specs.Prelude.{◌&&◌, ◌⊎◌, ◌≢◌, flat_map, Result, Ok, Err, OnOk, IfOk}
 use Rattle.std.specs.Io.KnownBytes.{Appends}
 use Rattle.hex.specs.Hex.{decode_of}
 use Rattle.hex.specs.declared.error.FromHexError.{FromHexError}
 use Rattle.hex.specs.declared.error.FromHexError.TheVariants.{OutOfMemory}
-use Rattle.mpcanon.specs.declared.run.RunFault.{RunFault}
+use Rattle.mpcanon.specs.declared.lines.RunFault.{RunFault}
 use Rattle.mpcanon.specs.Lines.{digits_in}
 use Rattle.std.proofs.KnownBytes.{Appends-nil, Appends-trans}
 use Rattle.std.proofs.lemmas.List.{map_more}
@@ -18,6 +18,7 @@ use Rattle.rmp_serde.specs.Read.{ItemsUtf8}
 use Rattle.rmp_serde.specs.Refuse.{UnreadFor}
 use Rattle.rmp_decode.specs.Refuse.{Refusal}
 use Rattle.rmp_decode.specs.declared.error.Error.{Error}
+use Rattle.rmp_decode.specs.declared.error.Error.TheVariants as errors
 use Rattle.std.proofs.lemmas.List.{length-append}
 use Rattle.mpcanon.specs.Messages.{message_text, refused_text, no_hex_text}
 use Rattle.mpcanon.specs.Prints.{line, IsAccepted, NoneBegins, HoldsMessages, PrintsMessages, PrintsDecoded, PrintsLine, PrintsAll, Puts}
@@ -31,9 +32,9 @@ and_true true = refl
 and_true false = refl
 
 -- one line more
-pub prints_more : (ls : List (List ℕ)) (l out : List ℕ) (a : Bool) (more : List ℕ) (b : Bool) → PrintsAll ls out a → PrintsLine l more b → PrintsAll (ls ++ l ∷ []) (out ++ more) (a && b)
+pub prints_more : (shows : List ℕ → List ℕ → Bool → Type 0) (ls : List (List ℕ)) (l out : List ℕ) (a : Bool) (more : List ℕ) (b : Bool) → PrintsAll shows ls out a → PrintsLine shows l more b → PrintsAll shows (ls ++ l ∷ []) (out ++ more) (a && b)
 unfolding PrintsAll
-prints_more [] l out a more b p q = record {
+prints_more shows [] l out a more b p q = record {
   first = more;
   second = [];
   first_accepted = b;
@@ -43,59 +44,68 @@ prints_more [] l out a more b p q = record {
   printed = ap (λ s. s ++ more) p.0 ∙ sym (append-nil more);
   both = ap (λ x. x && b) p.1 ∙ sym (and_true b);
 }
-prints_more (k ∷ ks) l out a more b p q = record {
+prints_more shows (k ∷ ks) l out a more b p q = record {
   first = p.first;
   second = p.second ++ more;
   first_accepted = p.first_accepted;
   second_accepted = p.second_accepted && b;
   prints_first = p.prints_first;
-  prints_second = prints_more ks l p.second p.second_accepted more b p.prints_second q;
+  prints_second = prints_more shows ks l p.second p.second_accepted more b p.prints_second q;
   printed = ap (λ s. s ++ more) p.printed ∙ append_assoc p.first p.second more;
   both = ap (λ x. x && b) p.both ∙ and_assoc p.first_accepted p.second_accepted b;
 }
 
-pub prints_none : PrintsAll [] [] true
+pub prints_none : (shows : List ℕ → List ℕ → Bool → Type 0) → PrintsAll shows [] [] true
 unfolding PrintsAll
-prints_none = (refl, refl)
+prints_none shows = (refl, refl)
 
-module _ {W : Type 0} (g : Ghosts W) where
-  pub puts_nothing : (s : W) → Puts g (λ out. PrintsAll [] out true) s s
-  puts_nothing s = record { out = []; appended = Appends-nil (g.told s); shown = prints_none }
+module _ {W : Type 0} (g : Ghosts W) (shows : List ℕ → List ℕ → Bool → Type 0) where
+  pub puts_nothing : (s : W) → Puts g (λ out. PrintsAll shows [] out true) s s
+  puts_nothing s = record { out = []; appended = Appends-nil (g.told s); shown = prints_none shows }
 
   -- one line more is printed
-  pub puts_more : {A : Type 0} (v : A → List ℕ) (xs : List A) (i : ℕ) (d : A) {old mid new : W} (a b : Bool) → i < length xs → Puts g (λ out. PrintsAll (map v (take i xs)) out a) old mid → Puts g (λ out. PrintsLine (v (get_or xs i d)) out b) mid new
-      → Puts g (λ out. PrintsAll (map v (take (i + 1) xs)) out (a && b)) old new
+  pub puts_more : {A : Type 0} (v : A → List ℕ) (xs : List A) (i : ℕ) (d : A) {old mid new : W} (a b : Bool) → i < length xs → Puts g (λ out. PrintsAll shows (map v (take i xs)) out a) old mid → Puts g (λ out. PrintsLine shows (v (get_or xs i d)) out b) mid new
+      → Puts g (λ out. PrintsAll shows (map v (take (i + 1) xs)) out (a && b)) old new
   puts_more v xs i d a b within p q = record {
     out = p.out ++ q.out;
     appended = Appends-trans _ _ _ p.out q.out p.appended q.appended;
-    shown = subst (λ ls. PrintsAll ls (p.out ++ q.out) (a && b)) (sym (map_more v xs i d within)) (prints_more (map v (take i xs)) (v (get_or xs i d)) p.out a q.out b p.shown q.shown);
+    shown = subst (λ ls. PrintsAll shows ls (p.out ++ q.out) (a && b)) (sym (map_more v xs i d within)) (prints_more shows (map v (take i xs)) (v (get_or xs i d)) p.out a q.out b p.shown q.shown);
   }
 
-  pub puts_weaker : {P Q : List ℕ → Type 0} {old new : W} → Puts g P old new → ((out : List ℕ) → P out → Q out) → Puts g Q old new
-  puts_weaker p f = record { out = p.out; appended = p.appended; shown = f p.out p.shown }
+pub puts_weaker : {W : Type 0} (g : Ghosts W) {P Q : List ℕ → Type 0} {old new : W} → Puts g P old new → ((out : List ℕ) → P out → Q out) → Puts g Q old new
+puts_weaker g p f = record { out = p.out; appended = p.appended; shown = f p.out p.shown }
 
 -- ---- lines
 
--- what the bytes of a line print
-pub line_holds : (text bytes out : List ℕ) (a : Bool) → decode_of (digits_in text) ≡ Ok bytes → PrintsMessages bytes out a → PrintsLine text out a
-unfolding PrintsLine
-line_holds text bytes out a e p = subst (λ r. PrintsDecoded r out a) (sym e) p
+module _ (shows : List ℕ → List ℕ → Bool → Type 0) where
+  -- what the bytes of a line print
+  pub line_holds : (text bytes out : List ℕ) (a : Bool) → decode_of (digits_in text) ≡ Ok bytes → shows bytes out a → PrintsLine shows text out a
+  unfolding PrintsLine
+  line_holds text bytes out a e p = subst (λ r. PrintsDecoded shows r out a) (sym e) p
 
-pub line_refused : (text : List ℕ) (e : FromHexError) (a : Bool) → decode_of (digits_in text) ≡ Err e → a ≡ false → PrintsLine text (line no_hex_text) a
-unfolding PrintsLine
-line_refused text e a is f = subst (λ r. PrintsDecoded r (line no_hex_text) a) (sym is) (refl, f)
+  pub line_refused : (text : List ℕ) (e : FromHexError) (a : Bool) → decode_of (digits_in text) ≡ Err e → a ≡ false → PrintsLine shows text (line no_hex_text) a
+  unfolding PrintsLine
+  line_refused text e a is f = subst (λ r. PrintsDecoded shows r (line no_hex_text) a) (sym is) (refl, f)
 
-pub hex_refused : {W : Type 0} (g : Ghosts W) (old new : W) (text : List ℕ) (e : FromHexError) (r : Result Bool RunFault) → (e ≡ OutOfMemory) ⊎ (decode_of (digits_in text) ≡ Err e) → OnOk r (e ≢ OutOfMemory) → IfOk r (λ a. a ≡ false) → OnOk r (Appends (g.told old) (g.told new) (line no_hex_text))
-    → IfOk r (λ a. Puts g (λ out. PrintsLine text out a) old new)
-hex_refused g old new text e (Ok a) (inl m) n f p = absurd (n m)
-hex_refused g old new text e (Ok a) (inr d) n f p = record { out = line no_hex_text; appended = p; shown = line_refused text e a d f }
-hex_refused g old new text e (Err x) s n f p = tt
+  pub hex_refused : {W : Type 0} (g : Ghosts W) (old new : W) (text : List ℕ) (e : FromHexError) (r : Result Bool RunFault) → (e ≡ OutOfMemory) ⊎ (decode_of (digits_in text) ≡ Err e) → OnOk r (e ≢ OutOfMemory) → IfOk r (λ a. a ≡ false) → OnOk r (Appends (g.told old) (g.told new) (line no_hex_text))
+      → IfOk r (λ a. Puts g (λ out. PrintsLine shows text out a) old new)
+  hex_refused g old new text e (Ok a) (inl m) n f p = absurd (n m)
+  hex_refused g old new text e (Ok a) (inr d) n f p = record { out = line no_hex_text; appended = p; shown = line_refused text e a d f }
+  hex_refused g old new text e (Err x) s n f p = tt
 
 -- ---- messages of one line
 
-flat_more : {A : Type 0} (f : A → List ℕ) (xs : List A) (x : A) → flat_map f (xs ++ x ∷ []) ≡ flat_map f xs ++ f x
+pub flat_more : {A : Type 0} (f : A → List ℕ) (xs : List A) (x : A) → flat_map f (xs ++ x ∷ []) ≡ flat_map f xs ++ f x
 flat_more f [] x = append-nil (f x)
 flat_more f (y ∷ ys) x = ap (λ s. f y ++ s) (flat_more f ys x) ∙ sym (append_assoc (f y) (flat_map f ys) (f x))
+
+-- one message more
+pub holds_more : {ms : List Msg} (bytes : List ℕ) {front rest rest' : List ℕ} (b : List ℕ) (m : Msg) → HoldsMessages ms bytes front rest → rest ≡ b ++ rest' → Spells b m → IsAccepted m → HoldsMessages (ms ++ m ∷ []) bytes (front ++ b) rest'
+holds_more {ms} bytes {front} {rest} {rest'} b m h e spelled accepted = record {
+  split = h.split ∙ ap (λ s. front ++ s) e ∙ sym (append_assoc front b rest');
+  spelled = spells_more ms m front b h.spelled spelled;
+  accepted = All-push IsAccepted ms m h.accepted accepted;
+}
 
 -- what was printed for the messages so far, and what is left of the line
 pub record SoFar {W : Type 0} (g : Ghosts W) (bytes rest : List ℕ) (old new : W) : Type 0 where
@@ -118,11 +128,7 @@ module _ {W : Type 0} (g : Ghosts W) where
   message_more bytes {rest} {rest'} b m {old} {mid} {new} p e spelled accepted appended = record {
     messages = p.messages ++ m ∷ [];
     front = p.front ++ b;
-    holds = record {
-      split = p.holds.split ∙ ap (λ s. p.front ++ s) e ∙ sym (append_assoc p.front b rest');
-      spelled = spells_more p.messages m p.front b p.holds.spelled spelled;
-      accepted = All-push IsAccepted p.messages m p.holds.accepted accepted;
-    };
+    holds = holds_more bytes b m p.holds e spelled accepted;
     puts = record {
       out = p.puts.out ++ line (message_text m);
       appended = Appends-trans _ _ _ p.puts.out (line (message_text m)) p.puts.appended appended;
@@ -140,8 +146,8 @@ module _ {W : Type 0} (g : Ghosts W) where
   all_read bytes (x ∷ xs) p e = absurd (omega arith)
 
   -- what is left begins with no message, and its refusal was printed
-  pub then_refused : (bytes rest : List ℕ) (place : ℕ) (e : Error) {old mid new : W} → SoFar g bytes rest old mid → place ≡ length bytes - length rest → NoneBegins rest → Refusal UnreadFor ItemsUtf8 1024 e rest → Appends (g.told mid) (g.told new) (line (refused_text place e)) → Puts g (λ out. PrintsMessages bytes out false) old new
-  then_refused bytes rest place e p at none wrong appended = record {
+  pub then_refused : (bytes rest : List ℕ) (place : ℕ) (e : Error) {old mid new : W} → SoFar g bytes rest old mid → place ≡ length bytes - length rest → 0 < length rest → e ≢ errors.OutOfMemory → NoneBegins rest → Refusal false (UnreadFor false) ItemsUtf8 1024 e rest → Appends (g.told mid) (g.told new) (line (refused_text place e)) → Puts g (λ out. PrintsMessages bytes out false) old new
+  then_refused bytes rest place e p at more kept none wrong appended = record {
     out = p.puts.out ++ line (refused_text place e);
     appended = Appends-trans _ _ _ p.puts.out (line (refused_text place e)) p.puts.appended appended;
     shown = record {
@@ -150,7 +156,7 @@ module _ {W : Type 0} (g : Ghosts W) where
       rest = rest;
       last = line (refused_text place e);
       holds = p.holds;
-      ends = record { error = e; none = none; wrong = wrong; shown = ap (λ n. line (refused_text n e)) here };
+      ends = record { error = e; some = more; no_memory = kept; none = none; wrong = wrong; shown = ap (λ n. line (refused_text n e)) here };
       printed = ap (λ s. s ++ line (refused_text place e)) p.puts.shown;
     };
   }

@@ -2,8 +2,8 @@
 use Rattle.std.specs.Prelude.{◌≡◌, ◌≢◌, ℕ, IfSome, Result, OnOk, IfErr}
 use Rattle.std.specs.Io.KnownBytes.{Consumes}
 use Rattle.rmp_wire.specs.declared.source.Source.{Ghosts}
-use Rattle.mpcanon.specs.declared.run.RunFault.{RunFault}
-use Rattle.mpcanon.specs.declared.run.RunFault.TheVariants.{Input, Output, Memory}
+use Rattle.mpcanon.specs.declared.lines.RunFault.{RunFault}
+use Rattle.mpcanon.specs.declared.lines.RunFault.TheVariants.{Input, Output, Memory}
 
 -- the source's count of faults moves where the input failed, and nowhere else
 abbrev pub CountsInput : ℕ → ℕ → RunFault → Type 0

@@ -5,7 +5,7 @@ use Rattle.hex.specs.Hex.{encode_lower}
 use Rattle.rmp_wire.specs.Spelling.{canon}
 use Rattle.rmp_serde.specs.Msg.{Msg}
 use Rattle.rmp_decode.specs.declared.error.Error.{Error}
-use Rattle.rmp_decode.specs.declared.error.Error.TheVariants.{InvalidMarkerRead, InvalidDataRead, TypeMismatch, OutOfRange, LengthMismatch, Uncategorized, Syntax, Utf8Error, DepthLimitExceeded, OutOfMemory}
+use Rattle.rmp_decode.specs.declared.error.Error.TheVariants.{InvalidMarkerRead, InvalidDataRead, TypeMismatch, OutOfRange, LengthMismatch, Uncategorized, Syntax, Utf8Error, DepthLimitExceeded, OutOfMemory, NotCanonical}
 use Rattle.mpcanon.specs.TreeText.{tree_text}
 
 -- a message's tree, and its canonical spelling in hex
@@ -24,6 +24,7 @@ error_name (Syntax text) = codes "Syntax"
 error_name (Utf8Error e) = codes "Utf8Error"
 error_name DepthLimitExceeded = codes "DepthLimitExceeded"
 error_name OutOfMemory = codes "OutOfMemory"
+error_name NotCanonical = codes "NotCanonical"
 
 -- a message that is refused, at a place of the line's bytes
 abbrev pub refused_text : ℕ → Error → List ℕ
@@ -32,3 +33,11 @@ refused_text at e = codes "refused at " ++ decimal at ++ codes ": " ++ error_nam
 -- a line that isn't hex
 abbrev pub no_hex_text : List ℕ
 no_hex_text = codes "refused: hex"
+
+-- a message that is spelled canonically, in so many bytes
+abbrev pub canonical_text : ℕ → List ℕ
+canonical_text n = codes "canonical " ++ decimal n
+
+-- a head that isn't canonical, at a place of the line's bytes
+abbrev pub fault_text : ℕ → List ℕ
+fault_text at = codes "fault at " ++ decimal at

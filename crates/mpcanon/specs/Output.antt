@@ -3,8 +3,8 @@ use Rattle.std.specs.Prelude.{◌≡◌, ℕ, List, [], ◌∷◌, ◌++◌, ◌
 use Rattle.std.specs.Io.KnownBytes.{Appends}
 use Rattle.rmp_wire.specs.declared.sink.Sink.{Ghosts}
 use Rattle.rmp_wire.specs.Sinks.{next_fault}
-use Rattle.mpcanon.specs.declared.run.RunFault.{RunFault}
-use Rattle.mpcanon.specs.declared.run.RunFault.TheVariants.{Input, Output, Memory}
+use Rattle.mpcanon.specs.declared.lines.RunFault.{RunFault}
+use Rattle.mpcanon.specs.declared.lines.RunFault.TheVariants.{Input, Output, Memory}
 
 -- a line feed ends these bytes
 pub record EndsLine (bytes : List ℕ) : Type 0 where

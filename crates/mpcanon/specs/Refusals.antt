@@ -1,9 +1,10 @@
 -- Why a line, or a message in it, is refused, as text.
 use Rattle.std.specs.Prelude.{ℕ, List}
-use Rattle.mpcanon.specs.declared.run.Refusal.{Refusal}
-use Rattle.mpcanon.specs.declared.run.Refusal.TheVariants.{Hex, Message}
-use Rattle.mpcanon.specs.Messages.{no_hex_text, refused_text}
+use Rattle.mpcanon.specs.declared.lines.Refusal.{Refusal}
+use Rattle.mpcanon.specs.declared.lines.Refusal.TheVariants.{Hex, Message, Fault}
+use Rattle.mpcanon.specs.Messages.{no_hex_text, refused_text, fault_text}
 
 abbrev pub refusal_text : Refusal → List ℕ
 refusal_text Hex = no_hex_text
 refusal_text (Message at e) = refused_text at e
+refusal_text (Fault at) = fault_text at

@@ -18,6 +18,7 @@ fn refused(alloc: Global, error: &Error) -> Result<String, Fault> {
         Error::Utf8Error(_) => String::from_str(alloc, "Err Utf8Error"),
         Error::DepthLimitExceeded => String::from_str(alloc, "Err DepthLimitExceeded"),
         Error::OutOfMemory => return Err(Fault::Memory),
+        Error::NotCanonical => String::from_str(alloc, "Err NotCanonical"),
     };
     Ok(said?)
 }

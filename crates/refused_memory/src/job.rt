@@ -58,6 +58,12 @@ pub enum Job {
     Read,
     /// A list is read that claims 2 ^ 32 - 1 elements and has none.
     ReadClaim,
+    /// Lists and maps in one another are passed over.
+    Skip,
+    /// An empty list is passed over.
+    SkipEmpty,
+    /// Lists in one another are checked.
+    Check,
 }
 
 impl Job {
@@ -77,6 +83,9 @@ impl Job {
             "write-unknown" => Ok((Job::WriteUnknown, count)),
             "read" => Ok((Job::Read, count)),
             "read-claim" => Ok((Job::ReadClaim, count)),
+            "skip" => Ok((Job::Skip, count)),
+            "skip-empty" => Ok((Job::SkipEmpty, count)),
+            "check" => Ok((Job::Check, count)),
             _ => Err(Fault::NoJob),
         }
     }

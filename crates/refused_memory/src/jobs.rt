@@ -1,7 +1,8 @@
 //! What the jobs do. None of them allocates for what it prints.
 use crate::job::Fault;
-use rmp_decode::from_slice;
+use rmp_decode::{Deserializer, from_slice};
 use rmp_encode::{Error, Serialize, Serializer, to_vec};
+use rmp_serde::{Canon, check_canonical};
 use rmp_wire::config::BytesMode;
 use sample_types::{UnkMap, UnkSeq};
 use std::alloc::Global;
@@ -85,6 +86,26 @@ pub fn read_claim(rt: &(impl Print + AllocGlobal)) -> Result<(), Fault> {
     let read: Result<Vec<u8>, rmp_decode::Error> = from_slice(rt.alloc(), b"\xdd\xff\xff\xff\xff");
     match read {
         Ok(items) => println!(rt; "{items:?}")?,
+        Err(e) => println!(rt; "{e}")?,
+    }
+    Ok(())
+}
+
+/// Passes over the message at the front of the input, and prints what is left in hex, or the error.
+pub fn skip(rt: &(impl Print + AllocGlobal), input: &[u8]) -> Result<(), Fault> {
+    let mut de = Deserializer::from_read_ref(rt.alloc(), input);
+    match de.deserialize_ignored_any() {
+        Ok(()) => println!(rt; "{} left", de.remaining_slice().len())?,
+        Err(e) => println!(rt; "{e}")?,
+    }
+    Ok(())
+}
+
+/// Checks lists in one another, and prints what comes of it.
+pub fn check(rt: &(impl Print + AllocGlobal)) -> Result<(), Fault> {
+    match check_canonical(rt.alloc(), b"\x92\x91\x91\x05\x92\xa1a\xd9\x01b") {
+        Ok(Canon::Whole(len)) => println!(rt; "canonical {len}")?,
+        Ok(Canon::Fault(at)) => println!(rt; "fault at {at}")?,
         Err(e) => println!(rt; "{e}")?,
     }
     Ok(())

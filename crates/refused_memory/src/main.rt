@@ -42,5 +42,17 @@ fn main(rt: HostRuntime) -> Result<(), Fault> {
             allocate(rt.alloc(), count)?;
             jobs::read_claim(&rt)
         }
+        Job::Skip => {
+            allocate(rt.alloc(), count)?;
+            jobs::skip(&rt, b"\x92\x81\x05\x91\xa1a\xdc\x00\x01\xc0")
+        }
+        Job::SkipEmpty => {
+            allocate(rt.alloc(), count)?;
+            jobs::skip(&rt, b"\x90")
+        }
+        Job::Check => {
+            allocate(rt.alloc(), count)?;
+            jobs::check(&rt)
+        }
     }
 }

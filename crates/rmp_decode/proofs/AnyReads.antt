@@ -7,10 +7,10 @@ use Rattle.std.proofs.KnownBytes.{Consumes-trans}
 use Rattle.rmp_wire.specs.declared.head.Head.{Head}
 use Rattle.rmp_wire.specs.declared.head.Head.TheVariants as head
 use Rattle.rmp_wire.specs.declared.source.Source.{Ghosts}
-use Rattle.rmp_wire.specs.Heads.{IsHead}
+use Rattle.rmp_wire.specs.Canonical.{heads_of, SpellsAs}
 use Rattle.rmp_wire.specs.Msg.{Msg, text, list, Msgs, count}
 use Rattle.rmp_wire.specs.Sources.{IsShort}
-use Rattle.rmp_wire.specs.Spelling.{Spells, head_of}
+use Rattle.rmp_wire.specs.Spelling.{head_of}
 use Rattle.rmp_decode.specs.Anys.{FailsToOpenAny, OpensRaw, TakesContent, FailsContent, FailsText, StartsWithNoText}
 use Rattle.rmp_decode.specs.Law.{Refuses, Readable, Lawful, TakesHead}
 use Rattle.rmp_decode.specs.Seq.{SpellsRow, SpellsIn, Opens, Run, seq_head, levels}
@@ -34,16 +34,16 @@ any_unopened g reads old last e f = record {
   failed = f.failed;
   before = f.before;
   stays = f.stays;
-  err = λ o n k. refuses_narrower Spells (λ m. Unit {0}) _ _ _ (λ m r. tt) (f.err o n k);
+  err = λ o n k. refuses_narrower (SpellsAs old.strict) (λ m. Unit {0}) _ _ _ (λ m r. tt) (f.err o n k);
 }
 
 -- what is refused of the messages under a head that stands there
-refuses_under : (Q P : Msg → Type 0) (room : ℕ) (known k : Option (List ℕ)) (b : List ℕ) (h : Head) → Consumes known k b → IsHead h b → ((m : Msg) → head_of m ≡ h → P m → Q m) → Refuses Spells Q room known → Refuses Spells P room known
+refuses_under : (w : Bool) (Q P : Msg → Type 0) (room : ℕ) (known k : Option (List ℕ)) (b : List ℕ) (h : Head) → Consumes known k b → heads_of w h b → ((m : Msg) → head_of m ≡ h → P m → Q m) → Refuses (SpellsAs w) Q room known → Refuses (SpellsAs w) P room known
 unfolding Refuses
-refuses_under Q P room None k b h t i f r = tt
-refuses_under Q P room (Some xs) None b h t i f r = absurd t
-refuses_under Q P room (Some xs) (Some ys) b h t i f r = λ a.
-    r (record { bytes = a.bytes; rest = a.rest; tree = a.tree; front = a.front; spelled = a.spelled; fits = a.fits; holds = f a.tree (same_head a.tree h a.bytes b a.rest ys a.spelled i (sym a.front ∙ t)).0 a.holds })
+refuses_under w Q P room None k b h t i f r = tt
+refuses_under w Q P room (Some xs) None b h t i f r = absurd t
+refuses_under w Q P room (Some xs) (Some ys) b h t i f r = λ a.
+    r (record { bytes = a.bytes; rest = a.rest; tree = a.tree; front = a.front; spelled = a.spelled; fits = a.fits; holds = f a.tree (same_head _ a.tree h a.bytes b a.rest ys a.spelled i (sym a.front ∙ t)).0 a.holds })
 
 -- a refusal of one kind is one of all kinds, where a head of it stands there
 pub lawful_under : {R C V W : Type 0} (g : Ghosts R) (reads : Msg → V → Type 0) (reads' : Msg → W → Type 0) (old mid new : Deserializer R C) (h : Head) (e : Error) → TakesHead g h old mid → ((m : Msg) → head_of m ≡ h → Readable reads' m → Readable reads m) → Lawful g reads old new (Err e) → Lawful g reads' old new (Err e)
@@ -52,7 +52,7 @@ lawful_under g reads reads' old mid new h e t f l = record {
   ready = tt;
   clean = tt;
   sound = tt;
-  err = λ o n k. refuses_under (Readable reads) (Readable reads') _ (left g old) (left g mid) t.bytes h t.takes t.is_head f (l.err o n k);
+  err = λ o n k. refuses_under old.strict (Readable reads) (Readable reads') _ (left g old) (left g mid) t.bytes h t.takes t.is_head f (l.err o n k);
   failed = l.failed;
   before = l.before;
   stays = l.stays;
@@ -61,13 +61,13 @@ lawful_under g reads reads' old mid new h e t f l = record {
 -- ---- lists
 
 -- how a list's items stand
-as_list : (b : Bool) (bytes : List ℕ) (ms : Msgs) → b ≡ false → SpellsRow (SpellsIn b) bytes ms → SpellsRow Spells bytes ms
-as_list true bytes ms e s = absurd (cc)
-as_list false bytes ms e s = s
+as_list : (w b : Bool) (bytes : List ℕ) (ms : Msgs) → b ≡ false → SpellsRow (SpellsIn w b) bytes ms → SpellsRow (SpellsAs w) bytes ms
+as_list w true bytes ms e s = absurd (cc)
+as_list w false bytes ms e s = s
 
-list_head : (b : Bool) (n : ℕ) (x : List ℕ) → b ≡ false → IsHead (seq_head b n) x → IsHead (head.Array n) x
-list_head true n x e i = absurd (cc)
-list_head false n x e i = i
+list_head : (w b : Bool) (n : ℕ) (x : List ℕ) → b ≡ false → heads_of w (seq_head b n) x → heads_of w (head.Array n) x
+list_head w true n x e i = absurd (cc)
+list_head w false n x e i = i
 
 list_level : (b : Bool) → b ≡ false → levels b ≡ 1
 list_level true e = absurd (cc)
@@ -85,7 +85,7 @@ list_read g reads old start mid ms o r last v b q z e =
         tree = list ms;
         takes = Consumes-trans _ _ _ o.head.bytes r.bytes o.head.takes r.takes;
         goes_on = record { more = o.head.goes_on.more ++ r.bytes; whole = ap (λ t. t ++ r.bytes) o.head.goes_on.whole ∙ append_assoc (kept_bytes old.kept) o.head.goes_on.more r.bytes };
-        spelled = record { first = o.head.bytes; second = r.bytes; is_first = subst (λ n. IsHead (head.Array n) o.head.bytes) (sym many) (list_head start.bytes start.left o.head.bytes b o.head.is_head); is_second = in_list ms r.bytes (as_list start.bytes r.bytes ms b r.spelled); is_whole = refl };
+        spelled = record { first = o.head.bytes; second = r.bytes; is_first = subst (λ n. heads_of old.strict (head.Array n) o.head.bytes) (sym many) (list_head old.strict start.bytes start.left o.head.bytes b o.head.is_head); is_second = in_list old.strict ms r.bytes (subst (λ z. SpellsRow (SpellsAs z) r.bytes ms) o.stays.strict (as_list start.de.now.strict start.bytes r.bytes ms b r.spelled)); is_whole = refl };
         fits = omega (arith, r.fits, o.room, level);
         value = q;
       };
@@ -95,7 +95,7 @@ list_read g reads old start mid ms o r last v b q z e =
       err = λ _. tt;
       failed = tt;
       before = λ h. absurd (let f = o.fresh in cc);
-      stays = record { config = r.stays.config ∙ o.stays.config; room = r.stays.room ∙ o.stays.room; place = r.stays.place ∙ o.stays.place };
+      stays = record { config = r.stays.config ∙ o.stays.config; room = r.stays.room ∙ o.stays.room; strict = r.stays.strict ∙ o.stays.strict; place = r.stays.place ∙ o.stays.place };
     })
 
 -- ---- content

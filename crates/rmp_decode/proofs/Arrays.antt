@@ -43,7 +43,7 @@ module _ {R C V : Type 0} (g : Ghosts R) (reads : Msg → V → Type 0) where
   }
 
   -- as many were read
-  filled_count : (start mid : SeqAccess R C) (ps : List (Option V)) (i : ℕ) (f : Filled g reads start mid ps i) → count f.read.trees ≡ i
+  pub filled_count : (start mid : SeqAccess R C) (ps : List (Option V)) (i : ℕ) (f : Filled g reads start mid ps i) → count f.read.trees ≡ i
   filled_count start mid ps i f =
       let long = length-map f.values (λ v. Some v) in
       let same = ap length f.held in

@@ -5,9 +5,9 @@ use Rattle.rmp_wire.specs.declared.head.Head.{Head}
 use Rattle.rmp_wire.specs.declared.head.Head.TheVariants.{Array}
 use Rattle.rmp_wire.specs.declared.marker.Marker.{Marker}
 use Rattle.rmp_wire.specs.declared.source.Source.{Ghosts}
-use Rattle.rmp_wire.specs.Heads.{IsHead}
+use Rattle.rmp_wire.specs.Canonical.{heads_of, SpellsAs}
 use Rattle.rmp_wire.specs.Msg.{Msg, nil, truth, whole, float32, float64, text, bin, list, map, extension, Msgs}
-use Rattle.rmp_wire.specs.Spelling.{Spells, head_of}
+use Rattle.rmp_wire.specs.Spelling.{head_of}
 use Rattle.rmp_decode.specs.Buffers.{IsBuffer, IsBehind}
 use Rattle.rmp_decode.specs.Kinds.{raw_head, raw_msg}
 use Rattle.rmp_decode.specs.Law.{Refuses, Readable, Lawful, ReadsHead}
@@ -24,12 +24,12 @@ use Rattle.rmp_decode.proofs.Seqs.{seq_done}
 use Rattle.rmp_decode.proofs.Refusals.{refuses_by, same_head}
 
 -- a type that reads no more under this head than another refuses what that one does
-refuses_at : (P Q : Msg → Type 0) (room : ℕ) (known k : Option (List ℕ)) (b : List ℕ) (h : Head) → Consumes known k b → IsHead h b → ((m : Msg) → Q m → head_of m ≡ h → P m) → Refuses Spells P room known → Refuses Spells Q room known
+refuses_at : (w : Bool) (P Q : Msg → Type 0) (room : ℕ) (known k : Option (List ℕ)) (b : List ℕ) (h : Head) → Consumes known k b → heads_of w h b → ((m : Msg) → Q m → head_of m ≡ h → P m) → Refuses (SpellsAs w) P room known → Refuses (SpellsAs w) Q room known
 unfolding Refuses
-refuses_at P Q room None k b h t i f r = tt
-refuses_at P Q room (Some xs) None b h t i f r = absurd t
-refuses_at P Q room (Some xs) (Some ys) b h t i f r = λ a.
-    let u = same_head a.tree h a.bytes b a.rest ys a.spelled i (sym a.front ∙ t) in
+refuses_at w P Q room None k b h t i f r = tt
+refuses_at w P Q room (Some xs) None b h t i f r = absurd t
+refuses_at w P Q room (Some xs) (Some ys) b h t i f r = λ a.
+    let u = same_head _ a.tree h a.bytes b a.rest ys a.spelled i (sym a.front ∙ t) in
     r (record { bytes = a.bytes; rest = a.rest; tree = a.tree; front = a.front; spelled = a.spelled; fits = a.fits; holds = f a.tree a.holds u.0 })
 
 pub lawful_err_at : {R C V W : Type 0} (g : Ghosts R) (reads : Msg → V → Type 0) (reads' : Msg → W → Type 0) (old mid new : Deserializer R C) (p : Marker × Head) (e : Error) → ReadsHead g old mid (Ok p) → ((m : Msg) → Readable reads' m → head_of m ≡ p.1 → Readable reads m)
@@ -39,7 +39,7 @@ lawful_err_at g reads reads' old mid new p e h f l = record {
   ready = tt;
   clean = tt;
   sound = tt;
-  err = λ o n k. refuses_at (Readable reads) (Readable reads') _ _ (left g mid) h.ok.bytes p.1 h.ok.takes h.ok.is_head f (l.err o n k);
+  err = λ o n k. refuses_at old.strict (Readable reads) (Readable reads') _ _ (left g mid) h.ok.bytes p.1 h.ok.takes h.ok.is_head f (l.err o n k);
   failed = l.failed;
   before = l.before;
   stays = l.stays;
@@ -111,8 +111,8 @@ opened_behind g old mid m len s h b =
 pub list_too_deep : {R C V : Type 0} (g : Ghosts R) (reads : Msg → V → Type 0) (old mid : Deserializer R C) (m : Marker) (len : ℕ) (e : Error) → ReadsHead g old mid (Ok (m, Array len)) → mid.room ≤ 1 → Lawful g reads old mid (Err e)
 list_too_deep g reads old mid m len e h l =
     let room : mid.room ≡ old.room = h.stays.room in
-    refused g reads old mid e h.fresh h.failed h.stays (λ _ _. refuses_by (Readable reads) (room_of old) (left g old) (left g mid) h.ok.bytes h.ok.takes (λ ys q a.
-    let u = same_head a.tree (Array len) a.bytes h.ok.bytes a.rest ys a.spelled h.ok.is_head (sym a.front) in
+    refused g reads old mid e h.fresh h.failed h.stays (λ _ _. refuses_by _ (Readable reads) (room_of old) (left g old) (left g mid) h.ok.bytes h.ok.takes (λ ys q a.
+    let u = same_head _ a.tree (Array len) a.bytes h.ok.bytes a.rest ys a.spelled h.ok.is_head (sym a.front) in
     let d = nests a.tree len u.0 in
     let f = a.fits in
     omega (arith, room)))

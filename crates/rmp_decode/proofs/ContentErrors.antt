@@ -9,14 +9,13 @@ use Rattle.rmp_wire.specs.declared.marker.Marker.{Marker}
 use Rattle.rmp_wire.specs.declared.source.Source.{Ghosts}
 use Rattle.rmp_wire.specs.declared.slice.SourceFault.{SourceFault}
 use Rattle.rmp_wire.specs.declared.slice.SourceFault.TheVariants.{Io, Memory}
-use Rattle.rmp_wire.specs.Heads.{IsHead}
+use Rattle.rmp_wire.specs.Canonical.{heads_of, SpellsAs}
 use Rattle.rmp_wire.specs.Msg.{Msg}
 use Rattle.rmp_wire.specs.Slices.{Blames}
 use Rattle.rmp_wire.specs.Sources.{IsShort}
-use Rattle.rmp_wire.specs.Spelling.{Spells}
 use Rattle.rmp_wire.specs.Taking.{marker_of}
 use Rattle.rmp_wire.proofs.Canon.{canon_head_least}
-use Rattle.rmp_wire.proofs.Heads.{heads_apart}
+use Rattle.rmp_wire.proofs.Strict.{any_width, heads_apart_as}
 use Rattle.rmp_wire.proofs.Writing.{head_some}
 use Rattle.rmp_decode.specs.Content.{RefusesContent, IsTextHead, IsRawHead, IsBufferHead, IsExtHead, not_lent, not_bytes, not_string, not_str}
 use Rattle.rmp_decode.specs.Exact.{Stands, EndsExactly, IsDataEnd, IsUtf8Error}
@@ -91,9 +90,9 @@ piece_wider n refused wider (Some xs) e f p = record { cut = p.cut; whole = λ s
 
 -- ---- heads and content
 
-module _ (wanted : Head → Type 0) (other : Marker → Head → Error) (refused : Head → List ℕ → Error → Type 0) (before after : ℕ) where
+module _ (strict : Bool) (wanted : Head → Type 0) (other : Marker → Head → Error) (refused : Head → List ℕ → Error → Type 0) (before after : ℕ) where
   -- no head stands at the front
-  pub content_none : (known : Option (List ℕ)) (e : Error) → EndsExactly before after known e → RefusesContent wanted other refused before after known e
+  pub content_none : (known : Option (List ℕ)) (e : Error) → EndsExactly strict before after known e → RefusesContent strict wanted other refused before after known e
   unfolding RefusesContent EndsExactly
   content_none None e s = λ _. tt
   content_none (Some xs) e s = λ k. record {
@@ -104,69 +103,69 @@ module _ (wanted : Head → Type 0) (other : Marker → Head → Error) (refused
   }
 
   -- another one does
-  pub content_other : (known : Option (List ℕ)) (m : Marker) (h : Head) (e : Error) → IfSome known (Stands m h) → (wanted h → ⊥) → e ≡ other m h → RefusesContent wanted other refused before after known e
+  pub content_other : (known : Option (List ℕ)) (m : Marker) (h : Head) (e : Error) → IfSome known (Stands strict m h) → (wanted h → ⊥) → e ≡ other m h → RefusesContent strict wanted other refused before after known e
   unfolding RefusesContent
   content_other None m h e s f q = λ _. tt
   content_other (Some xs) m h e s f q = λ _. record {
-    others = λ n k t _. let u = stand_once n m k h xs t s in q ∙ ap (λ z. other z h) (sym u.0) ∙ ap (other n) (sym u.1);
-    cut = λ k w t. absurd (f (subst wanted (stand_once t.marker m k h xs t.stands s).1 w));
-    whole = λ k c w t. absurd (f (subst wanted (stand_once t.marker m k h xs t.stands s).1 w));
+    others = λ n k t _. let u = stand_once _ n m k h xs t s in q ∙ ap (λ z. other z h) (sym u.0) ∙ ap (other n) (sym u.1);
+    cut = λ k w t. absurd (f (subst wanted (stand_once _ t.marker m k h xs t.stands s).1 w));
+    whole = λ k c w t. absurd (f (subst wanted (stand_once _ t.marker m k h xs t.stands s).1 w));
     ends = λ none. absurd (none m h s);
   }
 
   -- a wanted one does, and what is behind it is refused
-  pub content_behind : (known k : Option (List ℕ)) (b : List ℕ) (m : Marker) (h : Head) (e : Error) → Consumes known k b → IsHead h b → IfSome known (Stands m h) → wanted h → Explains e before after (RefusesPiece (content_len h) (refused h) k e) → RefusesContent wanted other refused before after known e
+  pub content_behind : (known k : Option (List ℕ)) (b : List ℕ) (m : Marker) (h : Head) (e : Error) → Consumes known k b → heads_of strict h b → IfSome known (Stands strict m h) → wanted h → Explains e before after (RefusesPiece (content_len h) (refused h) k e) → RefusesContent strict wanted other refused before after known e
   unfolding RefusesContent RefusesPiece
   content_behind None k b m h e c i s w r = λ _. tt
   content_behind (Some xs) None b m h e c i s w r = absurd c
   content_behind (Some xs) (Some ys) b m h e c i s w r = λ q.
       record {
-        others = λ m' h' t f. absurd (f (subst wanted (stand_once m m' h h' xs s t).1 w));
+        others = λ m' h' t f. absurd (f (subst wanted (stand_once _ m m' h h' xs s t).1 w));
         cut = λ h' _ t n.
             let p = r n q in
             let t0 = t.stands in
             let short = t.short in
-            let u = heads_apart h' h (t0.byte ∷ t0.behind) b t0.rest ys t0.is_head i (sym t0.front ∙ c) in
+            let u = heads_apart_as strict h' h (t0.byte ∷ t0.behind) b t0.rest ys t0.is_head i (sym t0.front ∙ c) in
             p.cut (omega (arith, short, ap content_len u.0, ap length u.2));
         whole = λ h' s' _ t n.
             let p = r n q in
             let t0 = t.stands in
-            let u = heads_apart h' h (t0.byte ∷ t0.behind) b t0.rest ys t0.is_head i (sym t0.front ∙ c) in
+            let u = heads_apart_as strict h' h (t0.byte ∷ t0.behind) b t0.rest ys t0.is_head i (sym t0.front ∙ c) in
             subst (λ z. refused z s' e) (sym u.0) (p.whole s' t.behind (sym u.2 ∙ t.content) (t.long ∙ ap content_len u.0));
         ends = λ none. absurd (none m h s);
       }
 
   -- a wanted one does that has no content of its own
-  pub content_apart : (known : Option (List ℕ)) (m : Marker) (h k : Head) (e : Error) → IfSome known (Stands m h) → h ≡ k → content_len k ≡ 0 → wanted k → ((s : List ℕ) → refused k s e) → RefusesContent wanted other refused before after known e
+  pub content_apart : (known : Option (List ℕ)) (m : Marker) (h k : Head) (e : Error) → IfSome known (Stands strict m h) → h ≡ k → content_len k ≡ 0 → wanted k → ((s : List ℕ) → refused k s e) → RefusesContent strict wanted other refused before after known e
   unfolding RefusesContent
   content_apart None m h k e s i z w f = λ _. tt
   content_apart (Some xs) m h k e s i z w f = λ _. record {
-    others = λ n j t n0. absurd (n0 (subst wanted (sym i ∙ sym (stand_once n m j h xs t s).1) w));
-    cut = λ j _ t. absurd (let short = t.short in let u = (stand_once t.marker m j h xs t.stands s).1 ∙ i in omega (arith, short, z, ap content_len u));
-    whole = λ j c _ t _. subst (λ y. refused y c e) (sym ((stand_once t.marker m j h xs t.stands s).1 ∙ i)) (f c);
+    others = λ n j t n0. absurd (n0 (subst wanted (sym i ∙ sym (stand_once _ n m j h xs t s).1) w));
+    cut = λ j _ t. absurd (let short = t.short in let u = (stand_once _ t.marker m j h xs t.stands s).1 ∙ i in omega (arith, short, z, ap content_len u));
+    whole = λ j c _ t _. subst (λ y. refused y c e) (sym ((stand_once _ t.marker m j h xs t.stands s).1 ∙ i)) (f c);
     ends = λ none. absurd (none m h s);
   }
 
 -- a wider way to refuse whole content
-pub content_wider : (wanted : Head → Type 0) (other : Marker → Head → Error) (refused wider : Head → List ℕ → Error → Type 0) (before after : ℕ) (known : Option (List ℕ)) (e : Error) → ((h : Head) (s : List ℕ) → wanted h → refused h s e → wider h s e)
-    → RefusesContent wanted other refused before after known e → RefusesContent wanted other wider before after known e
+pub content_wider : (strict : Bool) (wanted : Head → Type 0) (other : Marker → Head → Error) (refused wider : Head → List ℕ → Error → Type 0) (before after : ℕ) (known : Option (List ℕ)) (e : Error) → ((h : Head) (s : List ℕ) → wanted h → refused h s e → wider h s e)
+    → RefusesContent strict wanted other refused before after known e → RefusesContent strict wanted other wider before after known e
 unfolding RefusesContent
-content_wider wanted other refused wider before after None e f r = λ _. tt
-content_wider wanted other refused wider before after (Some xs) e f r = λ k. let x = r k in record { others = x.others; cut = x.cut; whole = λ h s w t n. f h s w (x.whole h s w t n); ends = x.ends }
+content_wider strict wanted other refused wider before after None e f r = λ _. tt
+content_wider strict wanted other refused wider before after (Some xs) e f r = λ k. let x = r k in record { others = x.others; cut = x.cut; whole = λ h s w t n. f h s w (x.whole h s w t n); ends = x.ends }
 
 -- a head's first byte
 some_byte : (b : List ℕ) → 0 < length b → (x : ℕ) × (y : List ℕ) × (b ≡ x ∷ y)
 some_byte [] l = absurd (omega arith)
 some_byte (x ∷ y) l = (x, y, refl)
 
-pub head_byte : (h : Head) (b : List ℕ) → IsHead h b → (x : ℕ) × (y : List ℕ) × (b ≡ x ∷ y)
-head_byte h b i = some_byte b (omega (arith, canon_head_least h b i, head_some h))
+pub head_byte : (strict : Bool) (h : Head) (b : List ℕ) → heads_of strict h b → (x : ℕ) × (y : List ℕ) × (b ≡ x ∷ y)
+head_byte strict h b i = some_byte b (omega (arith, canon_head_least h b (any_width strict h b i), head_some h))
 
-stands_some : (h : Head) (b : List ℕ) (known k : Option (List ℕ)) → IsHead h b → Consumes known k b → (m : Marker) × IfSome known (Stands m h)
-stands_some h b known k i c =
-    let t = head_byte h b i in
+stands_some : (strict : Bool) (h : Head) (b : List ℕ) (known k : Option (List ℕ)) → heads_of strict h b → Consumes known k b → (m : Marker) × IfSome known (Stands strict m h)
+stands_some strict h b known k i c =
+    let t = head_byte strict h b i in
     let front = t.2 in
-    (marker_of t.0, stands_known (marker_of t.0) h t.0 t.1 known k (subst (Consumes known k) front c) refl (subst (IsHead h) front i))
+    (marker_of t.0, stands_known _ (marker_of t.0) h t.0 t.1 known k (subst (Consumes known k) front c) refl (subst (heads_of strict h) front i))
 
 split_known : (known k : Option (List ℕ)) (a s : List ℕ) → Consumes known k (a ++ s) → Consumes known (prepend_known s k) a
 split_known None k a s c = tt
@@ -244,21 +243,21 @@ buffer_wanted false n = tt
 module _ {R C : Type 0} (g : Ghosts R) (wanted : Head → Type 0) (other : Marker → Head → Error) (refused : Head → List ℕ → Error → Type 0) (old mid : Deserializer R C) (after : ℕ) where
   -- a wanted head was taken, and its content refused
   pub content_error : (p : Marker × Head) (h : Head) (n : ℕ) (e : Error) → ReadsHead g old mid (Ok p) → p.1 ≡ h → content_len h ≡ n → wanted h → Explains e (g.faults mid.reader) after (RefusesPiece n (refused h) (g.ahead mid.reader) e)
-      → RefusesContent wanted other refused (faults_of g old) after (left g old) e
+      → RefusesContent old.strict wanted other refused (faults_of g old) after (left g old) e
   content_error p h n e r i l w x =
-      content_behind wanted other refused (faults_of g old) after (left g old) (left g mid) r.ok.bytes p.0 p.1 e r.ok.takes r.ok.is_head r.marked (subst wanted (sym i) w) (λ o k.
+      content_behind old.strict wanted other refused (faults_of g old) after (left g old) (left g mid) r.ok.bytes p.0 p.1 e r.ok.takes r.ok.is_head r.marked (subst wanted (sym i) w) (λ o k.
       rw (bare g mid r.clean, i, l) (x o (k ∙ sym r.sound)))
 
   -- a text or bytes were taken whole, and then refused
   pub content_refused_after : {V : Type 0} (reads : Msg → V → Type 0) (v : V) (t : Bool) (s : List ℕ) (e : Error) (r : Reads g reads old mid v) → r.tree ≡ raw_msg t s → wanted (raw_head t (length s)) → refused (raw_head t (length s)) s e
-      → RefusesContent wanted other refused (faults_of g old) after (left g old) e
+      → RefusesContent old.strict wanted other refused (faults_of g old) after (left g old) e
   content_refused_after reads v t s e r q w f =
-      let j = (raw_content t).opens s r.bytes (subst (Spells r.bytes) q r.spelled) in
+      let j = (raw_content t).opens old.strict s r.bytes (subst (SpellsAs old.strict r.bytes) q r.spelled) in
       let h = raw_head t (length s) in
       let same : r.bytes ≡ j.first ++ s = j.is_whole ∙ ap (λ z. j.first ++ z) j.is_second.0 in
       let taken = split_known (left g old) (left g mid) j.first s (subst (Consumes (left g old) (left g mid)) same r.takes) in
-      let m = stands_some h j.first (left g old) (prepend_known s (left g mid)) j.is_first taken in
-      content_behind wanted other refused (faults_of g old) after (left g old) (prepend_known s (left g mid)) j.first m.0 h e taken j.is_first m.1 w (λ _ _.
+      let m = stands_some old.strict h j.first (left g old) (prepend_known s (left g mid)) j.is_first taken in
+      content_behind old.strict wanted other refused (faults_of g old) after (left g old) (prepend_known s (left g mid)) j.first m.0 h e taken j.is_first m.1 w (λ _ _.
       piece_whole (content_len h) (refused h) (prepend_known s (left g mid)) (left g mid) s e (front_known (left g mid) s) (sym (raw_len t (length s))) f)
 
 -- ---- whole content that isn't UTF-8

@@ -7,10 +7,10 @@ use Rattle.rmp_wire.specs.declared.head.Head.{Head}
 use Rattle.rmp_wire.specs.declared.head.Head.TheVariants as head
 use Rattle.rmp_wire.specs.declared.marker.Marker.{Marker}
 use Rattle.rmp_wire.specs.declared.source.Source.{Ghosts}
-use Rattle.rmp_wire.specs.Heads.{IsHead}
+use Rattle.rmp_wire.specs.Canonical.{heads_of, SpellsAs}
 use Rattle.rmp_wire.specs.Msg.{Msg, nil, truth, whole, float32, float64, text, bin, list, map, extension, depth}
 use Rattle.rmp_wire.specs.Sources.{IsShort}
-use Rattle.rmp_wire.specs.Spelling.{Spells, head_of, Joined, IsContent, IsBytes}
+use Rattle.rmp_wire.specs.Spelling.{head_of, Joined, IsContent, IsBytes}
 use Rattle.rmp_decode.specs.Kinds.{raw_msg, raw_head}
 use Rattle.rmp_decode.specs.Law.{Readable, Lawful, Explains, ReadsHead}
 use Rattle.rmp_decode.specs.State.{left, faults_of, Stays, kept_bytes}
@@ -18,7 +18,7 @@ use Rattle.rmp_decode.specs.declared.de.Deserializer.{Deserializer}
 use Rattle.rmp_decode.specs.declared.de.Kept.TheVariants.{Nothing}
 use Rattle.rmp_decode.specs.declared.error.Error.{Error}
 use Rattle.rmp_decode.proofs.Laws.{refused, refused_head, stays_then}
-use Rattle.rmp_wire.proofs.Heads.{heads_apart}
+use Rattle.rmp_wire.proofs.Strict.{heads_apart_as}
 use Rattle.rmp_decode.proofs.Refusals.{content_of, refuses_short, refuses_by, refuses_all}
 
 -- with nothing kept back, what is left is what the source has ahead
@@ -32,9 +32,9 @@ bare g d e = ap (λ k. prepend_known (kept_bytes k) (g.ahead d.reader)) e ∙ ba
 -- a kind of message that is a head and bytes
 pub record Content (make : List ℕ → Msg) (heads : ℕ → Head) : Type 0 where
   pub is : (s : List ℕ) → head_of (make s) ≡ heads (length s)
-  pub spells : (s b : List ℕ) → Joined (IsHead (heads (length s))) (IsContent s) b → Spells b (make s)
+  pub spells : (w : Bool) (s b : List ℕ) → Joined (heads_of w (heads (length s))) (IsContent s) b → SpellsAs w b (make s)
   pub flat : (s : List ℕ) → depth (make s) ≡ 0
-  pub opens : (s b : List ℕ) → Spells b (make s) → Joined (IsHead (heads (length s))) (IsContent s) b
+  pub opens : (w : Bool) (s b : List ℕ) → SpellsAs w b (make s) → Joined (heads_of w (heads (length s))) (IsContent s) b
   pub same : (n k : ℕ) → heads n ≡ heads k → n ≡ k
   pub fills : (m : Msg) (n : ℕ) → head_of m ≡ heads n → n ≤ length (content_of m)
 
@@ -75,13 +75,13 @@ ext_fills t (map ps) n e = absurd (cc)
 ext_fills t (extension tag s) n e = let u : length s ≡ n = cc in omega arith
 
 pub text_content : Content text head.Text
-text_content = record { is = λ s. refl; spells = λ s b j. j; flat = λ s. refl; opens = λ s b j. j; same = λ n k e. cc; fills = text_fills }
+text_content = record { is = λ s. refl; spells = λ w s b j. j; flat = λ s. refl; opens = λ w s b j. j; same = λ n k e. cc; fills = text_fills }
 
 pub bin_content : Content bin head.Bin
-bin_content = record { is = λ s. refl; spells = λ s b j. j; flat = λ s. refl; opens = λ s b j. j; same = λ n k e. cc; fills = bin_fills }
+bin_content = record { is = λ s. refl; spells = λ w s b j. j; flat = λ s. refl; opens = λ w s b j. j; same = λ n k e. cc; fills = bin_fills }
 
 pub ext_content : (tag : ℤ) → Content (extension tag) (λ n. head.Ext n tag)
-ext_content tag = record { is = λ s. refl; spells = λ s b j. j; flat = λ s. refl; opens = λ s b j. j; same = λ n k e. cc; fills = ext_fills tag }
+ext_content tag = record { is = λ s. refl; spells = λ w s b j. j; flat = λ s. refl; opens = λ w s b j. j; same = λ n k e. cc; fills = ext_fills tag }
 
 pub raw_content : (t : Bool) → Content (raw_msg t) (raw_head t)
 raw_content true = text_content
@@ -100,7 +100,7 @@ module _ {R C V : Type 0} {make : List ℕ → Msg} {heads : ℕ → Head} (cont
           tree = make s;
           takes = rw (bare g new clean) (Consumes-trans _ _ _ _ _ first c);
           goes_on = record { more = h.ok.goes_on.more ++ s; whole = ap (λ z. z ++ s) h.ok.goes_on.whole ∙ append_assoc (kept_bytes old.kept) h.ok.goes_on.more s };
-          spelled = content.spells s (h.ok.bytes ++ s) (record { first = h.ok.bytes; second = s; is_first = subst (λ j. IsHead j h.ok.bytes) (e ∙ ap heads (sym l)) h.ok.is_head; is_second = (refl, b); is_whole = refl });
+          spelled = content.spells old.strict s (h.ok.bytes ++ s) (record { first = h.ok.bytes; second = s; is_first = subst (λ j. heads_of old.strict j h.ok.bytes) (e ∙ ap heads (sym l)) h.ok.is_head; is_second = (refl, b); is_whole = refl });
           fits = omega (arith, content.flat s);
           value = r;
         };
@@ -117,12 +117,12 @@ module _ {R C V : Type 0} {make : List ℕ → Msg} {heads : ℕ → Head} (cont
   pub content_short : (n : ℕ) (e : Error) → p.1 ≡ heads n → Explains e (g.faults mid.reader) (g.faults new.reader) (IsShort n (g.ahead mid.reader)) → new.failed ≡ true → Stays g mid new → Lawful g reads old new (Err e)
   content_short n e i x f st = refused g reads old new e h.fresh f (stays_then g old mid new h.stays st) (λ o k.
       let s : IsShort n (left g mid) = rw (bare g mid h.clean) (x o (k ∙ sym h.sound)) in
-      refuses_short (Readable reads) _ n (left g old) (left g mid) h.ok.bytes p.1 h.ok.takes h.ok.is_head s (λ m r q. content.fills m n (q ∙ i)))
+      refuses_short _ (Readable reads) _ n (left g old) (left g mid) h.ok.bytes p.1 h.ok.takes h.ok.is_head s (λ m r q. content.fills m n (q ∙ i)))
 
   -- too few bytes are behind the head, or the source doesn't lend, and only what is lent is read
   pub content_lent : (lends : Bool) (n : ℕ) (e : Error) → p.1 ≡ heads n → ((m : Msg) → Readable reads m → lends ≡ true) → (lends ≡ true → Explains e (g.faults mid.reader) (g.faults new.reader) (IsShort n (g.ahead mid.reader))) → new.failed ≡ true → Stays g mid new → Lawful g reads old new (Err e)
   content_lent true n e i l x f st = content_short n e i (x refl) f st
-  content_lent false n e i l x f st = refused g reads old new e h.fresh f (stays_then g old mid new h.stays st) (λ _ _. refuses_all Spells (Readable reads) _ _ (λ m r. absurd (let no = l m r in cc)))
+  content_lent false n e i l x f st = refused g reads old new e h.fresh f (stays_then g old mid new h.stays st) (λ _ _. refuses_all (SpellsAs old.strict) (Readable reads) _ _ (λ m r. absurd (let no = l m r in cc)))
 
   -- another kind was there
   pub content_missed : (e : Error) → ((n : ℕ) → p.1 ≡ heads n → ⊥) → ((m : Msg) → Readable reads m → (s : List ℕ) × (m ≡ make s)) → new ≡ mid → Lawful g reads old new (Err e)
@@ -133,12 +133,12 @@ module _ {R C V : Type 0} {make : List ℕ → Msg} {heads : ℕ → Head} (cont
       → Explains e (g.faults mid.reader) (g.faults new.reader) (IfSome (g.ahead mid.reader) (λ ys. (s r : List ℕ) → ys ≡ s ++ r → length s ≡ n → Readable reads (make s) → ⊥)) → new.failed ≡ true → Stays g mid new → Lawful g reads old new (Err e)
   content_refused n e i f x d st = refused g reads old new e h.fresh d (stays_then g old mid new h.stays st) (λ o k.
       let none : IfSome (left g mid) (λ ys. (s r : List ℕ) → ys ≡ s ++ r → length s ≡ n → Readable reads (make s) → ⊥) = rw (bare g mid h.clean) (x o (k ∙ sym h.sound)) in
-      refuses_by (Readable reads) _ (left g old) (left g mid) h.ok.bytes h.ok.takes (λ ys q a.
+      refuses_by _ (Readable reads) _ (left g old) (left g mid) h.ok.bytes h.ok.takes (λ ys q a.
       let t = f a.tree a.holds in
       let t0 = t.0 in
       let same_tree = t.1 in
-      let j = content.opens t0 a.bytes (subst (Spells a.bytes) same_tree a.spelled) in
+      let j = content.opens old.strict t0 a.bytes (subst (SpellsAs old.strict a.bytes) same_tree a.spelled) in
       let split : j.first ++ (j.second ++ a.rest) ≡ h.ok.bytes ++ ys = sym (append_assoc j.first j.second a.rest) ∙ ap (λ z. z ++ a.rest) (sym j.is_whole) ∙ sym a.front in
-      let u = heads_apart (heads (length t0)) p.1 j.first h.ok.bytes (j.second ++ a.rest) ys j.is_first h.ok.is_head split in
+      let u = heads_apart_as old.strict (heads (length t0)) p.1 j.first h.ok.bytes (j.second ++ a.rest) ys j.is_first h.ok.is_head split in
       let at : (s r : List ℕ) → ys ≡ s ++ r → length s ≡ n → Readable reads (make s) → ⊥ = rw q at none in
       at t0 a.rest (sym u.2 ∙ ap (λ z. z ++ a.rest) j.is_second.0) (content.same _ _ (u.0 ∙ i)) (subst (Readable reads) same_tree a.holds)))

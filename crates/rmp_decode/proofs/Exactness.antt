@@ -1,5 +1,5 @@
 -- Which error comes where one head is wanted.
-use Rattle.std.proofs.Common.{◌≡◌, ◌∙◌, sym, ap, subst, refl, ℕ, pos, ◌<◌, ◌≤◌, arith, List, [], ◌∷◌, ◌++◌, Option, None, Some, IfSome, nat_lt, true, false}
+use Rattle.std.proofs.Common.{◌≡◌, ◌∙◌, sym, ap, subst, refl, ℕ, pos, negsuc, ◌<◌, ◌≤◌, arith, List, [], ◌∷◌, ◌++◌, Option, None, Some, IfSome, nat_lt, Bool, true, false}
 use Rattle.std.proofs.Common.{inl, inr}
 use Rattle.std.proofs.lemmas.Bool.{cases_lt, lt-ltb, le-ltb}
 use Rattle.std.specs.Io.KnownBytes.{Consumes, prepend_known}
@@ -7,30 +7,31 @@ use Rattle.std.specs.Int.{w8, to_be_bytes}
 use Rattle.rmp_wire.specs.declared.error.ValueReadError.{ValueReadError}
 use Rattle.rmp_wire.specs.declared.error.ValueReadError.TheVariants as wire
 use Rattle.rmp_wire.specs.declared.head.Head.{Head}
-use Rattle.rmp_wire.specs.declared.head.Head.TheVariants.{Whole}
+use Rattle.rmp_wire.specs.declared.head.Head.TheVariants.{Nil, Truth, Whole, F32Bits, F64Bits, Text, Bin, Array, Map, Ext}
 use Rattle.rmp_wire.specs.declared.marker.Marker.{Marker}
 use Rattle.rmp_wire.specs.declared.marker.Marker.TheVariants as marker
+use Rattle.rmp_wire.specs.Canonical.{heads_of}
 use Rattle.rmp_wire.specs.Heads.{IsHead, canon_head, fits_head}
 use Rattle.rmp_wire.specs.Reading.{NoHead, FailsNext}
 use Rattle.rmp_wire.specs.Taking.{byte_of, marker_of}
-use Rattle.rmp_wire.proofs.Canon.{canon_is_head}
 use Rattle.rmp_wire.proofs.Heads.{heads_apart, marker_pos}
+use Rattle.rmp_wire.proofs.Strict.{any_width, canon_in, heads_apart_as}
 use Rattle.rmp_decode.specs.Exact.{Stands, NoneStands, Ends, RefusesExactly, RefusesBy, EndsExactly}
 use Rattle.rmp_decode.specs.ReadErrors.{error_of}
 use Rattle.rmp_decode.specs.declared.error.Error.{Error}
-use Rattle.rmp_decode.specs.declared.error.Error.TheVariants.{TypeMismatch}
+use Rattle.rmp_decode.specs.declared.error.Error.TheVariants.{TypeMismatch, NotCanonical}
 
 -- ---- a head that stands at the front
 
-pub stands_known : (m : Marker) (h : Head) (b : ℕ) (behind : List ℕ) (known k : Option (List ℕ)) → Consumes known k (b ∷ behind) → m ≡ marker_of b → IsHead h (b ∷ behind) → IfSome known (Stands m h)
-stands_known m h b behind None k c e i = tt
-stands_known m h b behind (Some xs) None c e i = absurd c
-stands_known m h b behind (Some xs) (Some ys) c e i = record { byte = b; behind = behind; rest = ys; front = c; is_marker = e; is_head = i }
+pub stands_known : (s : Bool) (m : Marker) (h : Head) (b : ℕ) (behind : List ℕ) (known k : Option (List ℕ)) → Consumes known k (b ∷ behind) → m ≡ marker_of b → heads_of s h (b ∷ behind) → IfSome known (Stands s m h)
+stands_known s m h b behind None k c e i = tt
+stands_known s m h b behind (Some xs) None c e i = absurd c
+stands_known s m h b behind (Some xs) (Some ys) c e i = record { byte = b; behind = behind; rest = ys; front = c; is_marker = e; is_head = i }
 
 -- at most one does
-pub stand_once : (m n : Marker) (h k : Head) (xs : List ℕ) → Stands m h xs → Stands n k xs → (m ≡ n) × (h ≡ k)
-stand_once m n h k xs s t =
-    let u = heads_apart h k (s.byte ∷ s.behind) (t.byte ∷ t.behind) s.rest t.rest s.is_head t.is_head (sym s.front ∙ t.front) in
+pub stand_once : (strict : Bool) (m n : Marker) (h k : Head) (xs : List ℕ) → Stands strict m h xs → Stands strict n k xs → (m ≡ n) × (h ≡ k)
+stand_once strict m n h k xs s t =
+    let u = heads_apart_as strict h k (s.byte ∷ s.behind) (t.byte ∷ t.behind) s.rest t.rest s.is_head t.is_head (sym s.front ∙ t.front) in
     let bytes = u.1 in
     let first : s.byte ≡ t.byte = cc in
     (s.is_marker ∙ ap marker_of first ∙ sym t.is_marker, u.0)
@@ -52,43 +53,43 @@ byte_head n l m small wide = elim (cases_lt n 128) [
       record { byte = 0xcc; behind = to_be_bytes w8 n; is = rw (no, yes) refl; is_marker = wide ge }
 ]
 
-pub number_stands : (n : ℕ) → n < 256 → fits_head (Whole (pos n)) → (m : Marker) → (n < 128 → m ≡ marker.FixPos n) → (128 ≤ n → m ≡ marker.U8) → (known : Option (List ℕ)) → IfSome (prepend_known (canon_head (Whole (pos n))) known) (Stands m (Whole (pos n)))
-number_stands n l f m small wide None = tt
-number_stands n l f m small wide (Some ys) =
+pub number_stands : (s : Bool) (n : ℕ) → n < 256 → fits_head (Whole (pos n)) → (m : Marker) → (n < 128 → m ≡ marker.FixPos n) → (128 ≤ n → m ≡ marker.U8) → (known : Option (List ℕ)) → IfSome (prepend_known (canon_head (Whole (pos n))) known) (Stands s m (Whole (pos n)))
+number_stands s n l f m small wide None = tt
+number_stands s n l f m small wide (Some ys) =
     let b = byte_head n l m small wide in
-    record { byte = b.byte; behind = b.behind; rest = ys; front = ap (λ z. z ++ ys) b.is; is_marker = b.is_marker; is_head = subst (IsHead (Whole (pos n))) b.is (canon_is_head (Whole (pos n)) f) }
+    record { byte = b.byte; behind = b.behind; rest = ys; front = ap (λ z. z ++ ys) b.is; is_marker = b.is_marker; is_head = subst (heads_of s (Whole (pos n))) b.is (canon_in s (Whole (pos n)) f) }
 
 -- ---- the error
 
-pub exact_head : (table : Marker → Head → Error) (before after : ℕ) (known : Option (List ℕ)) (m : Marker) (h : Head) (e : Error) → IfSome known (Stands m h) → e ≡ table m h → RefusesExactly table before after known e
+pub exact_head : (s : Bool) (table : Marker → Head → Error) (before after : ℕ) (known : Option (List ℕ)) (m : Marker) (h : Head) (e : Error) → IfSome known (Stands s m h) → e ≡ table m h → RefusesExactly s table before after known e
 unfolding RefusesExactly
-exact_head table before after None m h e s q = λ _. tt
-exact_head table before after (Some xs) m h e s q = λ _. record {
-  stands = λ n k t. let u = stand_once n m k h xs t s in q ∙ ap (λ z. table z h) (sym u.0) ∙ ap (table n) (sym u.1);
+exact_head w table before after None m h e s q = λ _. tt
+exact_head w table before after (Some xs) m h e s q = λ _. record {
+  stands = λ n k t. let u = stand_once _ n m k h xs t s in q ∙ ap (λ z. table z h) (sym u.0) ∙ ap (table n) (sym u.1);
   ends = λ none. absurd (none m h s);
 }
 
-pub exact_none : (table : Marker → Head → Error) (before after : ℕ) (known : Option (List ℕ)) (e : Error) → EndsExactly before after known e → RefusesExactly table before after known e
+pub exact_none : (s : Bool) (table : Marker → Head → Error) (before after : ℕ) (known : Option (List ℕ)) (e : Error) → EndsExactly s before after known e → RefusesExactly s table before after known e
 unfolding RefusesExactly EndsExactly
-exact_none table before after None e s = λ _. tt
-exact_none table before after (Some xs) e s = λ same. record { stands = λ m h t. absurd ((s same).0 m h t); ends = λ _. (s same).1 }
+exact_none w table before after None e s = λ _. tt
+exact_none w table before after (Some xs) e s = λ same. record { stands = λ m h t. absurd ((s same).0 m h t); ends = λ _. (s same).1 }
 
-pub by_head : (table : Marker → Head → Error → Type 0) (before after : ℕ) (known : Option (List ℕ)) (m : Marker) (h : Head) (e : Error) → IfSome known (Stands m h) → table m h e → RefusesBy table before after known e
+pub by_head : (s : Bool) (table : Marker → Head → Error → Type 0) (before after : ℕ) (known : Option (List ℕ)) (m : Marker) (h : Head) (e : Error) → IfSome known (Stands s m h) → table m h e → RefusesBy s table before after known e
 unfolding RefusesBy
-by_head table before after None m h e s q = λ _. tt
-by_head table before after (Some xs) m h e s q = λ _. record {
-  stands = λ n k t. let u = stand_once n m k h xs t s in subst (λ z. table n z e) (sym u.1) (subst (λ z. table z h e) (sym u.0) q);
+by_head w table before after None m h e s q = λ _. tt
+by_head w table before after (Some xs) m h e s q = λ _. record {
+  stands = λ n k t. let u = stand_once _ n m k h xs t s in subst (λ z. table n z e) (sym u.1) (subst (λ z. table z h e) (sym u.0) q);
   ends = λ none. absurd (none m h s);
 }
 
-pub by_none : (table : Marker → Head → Error → Type 0) (before after : ℕ) (known : Option (List ℕ)) (e : Error) → EndsExactly before after known e → RefusesBy table before after known e
+pub by_none : (s : Bool) (table : Marker → Head → Error → Type 0) (before after : ℕ) (known : Option (List ℕ)) (e : Error) → EndsExactly s before after known e → RefusesBy s table before after known e
 unfolding RefusesBy EndsExactly
-by_none table before after None e s = λ _. tt
-by_none table before after (Some xs) e s = λ same. record { stands = λ m h t. absurd ((s same).0 m h t); ends = λ _. (s same).1 }
+by_none w table before after None e s = λ _. tt
+by_none w table before after (Some xs) e s = λ same. record { stands = λ m h t. absurd ((s same).0 m h t); ends = λ _. (s same).1 }
 
 -- ---- no head
 
-reserved_byte : (m : Marker) → byte_of m ≡ 0xc1 → m ≡ marker.Reserved
+pub reserved_byte : (m : Marker) → byte_of m ≡ 0xc1 → m ≡ marker.Reserved
 unfolding byte_of
 reserved_byte (marker.FixPos n) e = absurd (omega arith)
 reserved_byte (marker.FixMap n) e = absurd (omega arith)
@@ -136,24 +137,58 @@ same_first : (a b : ℕ) (xs part : List ℕ) (new : Option (List ℕ)) → Cons
 same_first a b xs part None c = absurd c
 same_first a b xs part (Some ys) c = let u : a ∷ xs ≡ b ∷ (part ++ ys) = c in cc
 
-none_stands : (xs : List ℕ) → NoHead (Some xs) → NoneStands xs
-none_stands xs n m h s = n h (s.byte ∷ s.behind) s.rest s.front s.is_head
+none_stands : (strict : Bool) (xs : List ℕ) → NoHead (Some xs) → NoneStands strict xs
+none_stands strict xs n m h s = n h (s.byte ∷ s.behind) s.rest s.front (any_width strict h (s.byte ∷ s.behind) s.is_head)
 
-ends_known : (xs : List ℕ) (new : Option (List ℕ)) (before after : ℕ) (e : ValueReadError) → after ≡ before → FailsNext (Some xs) new before after e → Ends xs (error_of e)
+ends_known : (xs : List ℕ) (new : Option (List ℕ)) (before after : ℕ) (e : ValueReadError) → after ≡ before → FailsNext (Some xs) new before after e → NoneStands false xs → Ends xs (error_of e)
 unfolding byte_of
-ends_known [] new before after (wire.InvalidMarkerRead f) q r = r.leaves.end q
-ends_known [] new before after (wire.InvalidDataRead f) q r = let t = r.leaves.0 in absurd (not_begun [] (byte_of t.marker) t.part new refl t.taken)
-ends_known [] new before after (wire.TypeMismatch k) q r = absurd (not_begun [] (byte_of marker.Reserved) [] new refl r.leaves.1)
-ends_known (b ∷ xs) new before after (wire.InvalidMarkerRead f) q r = let u : ◌≡◌ {A = List ℕ} (b ∷ xs) [] = r.leaves.none_ahead q in absurd (cc)
-ends_known (b ∷ xs) new before after (wire.InvalidDataRead f) q r =
+ends_known [] new before after (wire.InvalidMarkerRead f) q r none = r.leaves.end q
+ends_known [] new before after (wire.InvalidDataRead f) q r none = let t = r.leaves.0 in absurd (not_begun [] (byte_of t.marker) t.part new refl t.taken)
+ends_known [] new before after (wire.TypeMismatch k) q r none = absurd (not_begun [] (byte_of marker.Reserved) [] new refl r.leaves.1)
+ends_known (b ∷ xs) new before after (wire.InvalidMarkerRead f) q r none = let u : ◌≡◌ {A = List ℕ} (b ∷ xs) [] = r.leaves.none_ahead q in absurd (cc)
+ends_known (b ∷ xs) new before after (wire.InvalidDataRead f) q r none =
     let t = r.leaves.0 in
     let same = same_first b (byte_of t.marker) xs t.part new t.taken in
-    (λ e. absurd (t.opens (reserved_byte t.marker (sym same ∙ e))), λ _. r.leaves.1 q)
-ends_known (b ∷ xs) new before after (wire.TypeMismatch k) q r =
+    (λ e. absurd (t.opens (reserved_byte t.marker (sym same ∙ e))), λ _. inl (none, r.leaves.1 q))
+ends_known (b ∷ xs) new before after (wire.TypeMismatch k) q r none =
     let same : b ≡ 0xc1 = same_first b 0xc1 xs [] new r.leaves.1 in
     (λ _. ap TypeMismatch r.leaves.0, λ n. absurd (n same))
 
-pub ends_none : (known new : Option (List ℕ)) (before after : ℕ) (e : ValueReadError) → FailsNext known new before after e → EndsExactly before after known (error_of e)
+pub ends_none : (s : Bool) (known new : Option (List ℕ)) (before after : ℕ) (e : ValueReadError) → FailsNext known new before after e → EndsExactly s before after known (error_of e)
 unfolding EndsExactly
-ends_none None new before after e r = λ _. tt
-ends_none (Some xs) new before after e r = λ q. (none_stands xs (r.none q), ends_known xs new before after e q r)
+ends_none s None new before after e r = λ _. tt
+ends_none s (Some xs) new before after e r = λ q. (none_stands s xs (r.none q), ends_known xs new before after e q r (none_stands false xs (r.none q)))
+
+-- ---- a head that isn't canonical
+
+-- no head begins with the byte c1
+not_reserved : (h : Head) (b : ℕ) (x : List ℕ) → IsHead h (b ∷ x) → b ≡ 0xc1 → ⊥
+unfolding IsHead
+not_reserved Nil b x i e = grind arith
+not_reserved (Truth false) b x i e = grind arith
+not_reserved (Truth true) b x i e = grind arith
+not_reserved (Whole (pos n)) b x i e = grind arith
+not_reserved (Whole (negsuc n)) b x i e = grind arith
+not_reserved (F32Bits n) b x i e = grind arith
+not_reserved (F64Bits n) b x i e = grind arith
+not_reserved (Text n) b x i e = grind arith
+not_reserved (Bin n) b x i e = grind arith
+not_reserved (Array n) b x i e = grind arith
+not_reserved (Map n) b x i e = grind arith
+not_reserved (Ext n tag) b x i e = grind arith
+
+-- another head of some width stands there, so none that is allowed does
+pub wide_stands_none : (strict : Bool) (h : Head) (b : ℕ) (behind xs ys : List ℕ) → xs ≡ (b ∷ behind) ++ ys → IsHead h (b ∷ behind) → (heads_of strict h (b ∷ behind) → ⊥) → NoneStands strict xs
+wide_stands_none strict h b behind xs ys c i n = λ m k s.
+    let u = heads_apart k h (s.byte ∷ s.behind) (b ∷ behind) s.rest ys (any_width strict k (s.byte ∷ s.behind) s.is_head) i (sym s.front ∙ c) in
+    n (subst (λ z. heads_of strict z (b ∷ behind)) u.0 (subst (heads_of strict k) u.1 s.is_head))
+
+pub ends_wide : (s : Bool) (before after : ℕ) (known k : Option (List ℕ)) (h : Head) (b : ℕ) (behind : List ℕ) → Consumes known k (b ∷ behind) → IsHead h (b ∷ behind) → (heads_of s h (b ∷ behind) → ⊥) → EndsExactly s before after known NotCanonical
+unfolding EndsExactly
+ends_wide s before after None k h b behind c i n = λ _. tt
+ends_wide s before after (Some xs) None h b behind c i n = absurd c
+ends_wide s before after (Some xs) (Some ys) h b behind c i n = λ _. (
+  wide_stands_none s h b behind xs ys c i n,
+  subst (λ z. Ends z NotCanonical) (sym c)
+      (λ e. absurd (not_reserved h b behind i e), λ _. inr (record { marker = marker_of b; head = h; stands = record { byte = b; behind = behind; rest = ys; front = refl; is_marker = refl; is_head = i } }, refl)),
+)

@@ -1,5 +1,6 @@
 -- A head that lies in memory whole is the one that stands at the front of what is left.
-use Rattle.std.proofs.Common.{◌≡◌, ◌∙◌, sym, ap, subst, refl, rules, arith, ℕ, suc, ◌+◌, ◌-◌, ◌*◌, ◌%◌, ◌^◌, ◌<◌, ◌≤◌, pos, inl, inr, List, [], ◌∷◌, ◌++◌, length, take, drop, get_or, append_assoc, Option, None, Some, true, false}
+use Rattle.std.proofs.Common.{◌≡◌, ◌∙◌, sym, ap, subst, refl, rules, arith, ℕ, suc, ◌+◌, ◌-◌, ◌*◌, ◌%◌, ◌^◌, ◌<◌, ◌≤◌, pos, inl, inr, List, [], ◌∷◌, ◌++◌, length, take, drop, get_or, append_assoc, Option, None, Some, Bool, true, false, nat_lt}
+use Rattle.std.proofs.lemmas.Bool.{lt-ltb}
 use Rattle.std.proofs.lemmas.List.{take_all}
 use Rattle.std.proofs.lemmas.Nat.{be_bytes_2, be_bytes_4, be_bytes_8}
 use Rattle.std.specs.Io.KnownBytes.{Consumes}
@@ -7,9 +8,12 @@ use Rattle.std.specs.Int.{Width, w8, w16, w32, w64, to_be_bytes}
 use Rattle.rmp_wire.specs.declared.head.Head.{Head}
 use Rattle.rmp_wire.specs.declared.head.Head.TheVariants.{Whole, Text, Array}
 use Rattle.rmp_wire.specs.declared.source.Source.{Ghosts}
-use Rattle.rmp_wire.specs.Heads.{IsHead}
+use Rattle.rmp_wire.specs.Canonical.{heads_of}
+use Rattle.rmp_wire.specs.Heads.{IsHead, canon_head}
 use Rattle.rmp_wire.specs.Sources.{IsFront, Skips}
 use Rattle.rmp_wire.specs.Taking.{marker_of}
+use Rattle.rmp_wire.proofs.Canon.{head_fits}
+use Rattle.rmp_wire.proofs.Strict.{canon_in}
 use Rattle.rmp_decode.specs.Fronts.{StandsIn, TakesFront}
 use Rattle.rmp_decode.specs.declared.de.Deserializer.{Deserializer}
 use Rattle.rmp_decode.specs.declared.de.Kept.TheVariants.{Nothing}
@@ -18,26 +22,26 @@ use Rattle.rmp_decode.proofs.Exactness.{stands_known}
 use Rattle.rmp_decode.proofs.ContentErrors.{same_front}
 
 -- the bytes that were taken are the head's
-front_consumed : (n : ℕ) (h : Head) (front : List ℕ) (known k : Option (List ℕ)) → IsFront front known → (s : StandsIn n h front) → Skips n known k → Consumes known k (s.stands.byte ∷ s.stands.behind)
-front_consumed n h front None k f s c = tt
-front_consumed n h front (Some xs) None f s c = absurd c.taken
-front_consumed n h front (Some xs) (Some ys) f s c =
+front_consumed : (w : Bool) (n : ℕ) (h : Head) (front : List ℕ) (known k : Option (List ℕ)) → IsFront front known → (s : StandsIn w n h front) → Skips n known k → Consumes known k (s.stands.byte ∷ s.stands.behind)
+front_consumed w n h front None k f s c = tt
+front_consumed w n h front (Some xs) None f s c = absurd c.taken
+front_consumed w n h front (Some xs) (Some ys) f s c =
     let head : List ℕ = s.stands.byte ∷ s.stands.behind in
     let split : xs ≡ head ++ (s.stands.rest ++ f.0) = f.1 ∙ ap (λ t. t ++ f.0) s.stands.front ∙ append_assoc head s.stands.rest f.0 in
     let same : c.bytes ≡ head = same_front c.bytes head ys (s.stands.rest ++ f.0) (c.long ∙ sym s.long) (sym c.taken ∙ split) in
     subst (λ b. xs ≡ b ++ ys) same c.taken
 
 module _ {R C : Type 0} (g : Ghosts R) (old new : Deserializer R C) where
-  pub front_taken : (n : ℕ) (h : Head) (front : List ℕ) → old.failed ≡ false → old.kept ≡ Nothing → new.failed ≡ true → new.kept ≡ Nothing → new.config ≡ old.config → new.room ≡ old.room
-      → IsFront front (g.ahead old.reader) → StandsIn n h front → Skips n (g.ahead old.reader) (g.ahead new.reader) → g.faults new.reader ≡ g.faults old.reader → g.place new.reader ≡ g.place old.reader → TakesFront g h old new
-  front_taken n h front fresh kept failed clean config room f s c sound place =
+  pub front_taken : (n : ℕ) (h : Head) (front : List ℕ) → old.failed ≡ false → old.kept ≡ Nothing → new.failed ≡ true → new.kept ≡ Nothing → new.config ≡ old.config → new.room ≡ old.room → new.strict ≡ old.strict
+      → IsFront front (g.ahead old.reader) → StandsIn old.strict n h front → Skips n (g.ahead old.reader) (g.ahead new.reader) → g.faults new.reader ≡ g.faults old.reader → g.place new.reader ≡ g.place old.reader → TakesFront g h old new
+  front_taken n h front fresh kept failed clean config room strict f s c sound place =
       let at = s.stands in
-      let taken = front_consumed n h front (g.ahead old.reader) (g.ahead new.reader) f s c in
+      let taken = front_consumed old.strict n h front (g.ahead old.reader) (g.ahead new.reader) f s c in
       record {
         marker = s.marker;
         begun = record {
           ok = record { bytes = at.byte ∷ at.behind; takes = rw (bare g old kept, bare g new clean) taken; goes_on = record { more = at.byte ∷ at.behind; whole = rw kept refl }; is_head = at.is_head };
-          marked = rw (bare g old kept) (stands_known s.marker h at.byte at.behind (g.ahead old.reader) (g.ahead new.reader) taken at.is_marker at.is_head);
+          marked = rw (bare g old kept) (stands_known _ s.marker h at.byte at.behind (g.ahead old.reader) (g.ahead new.reader) taken at.is_marker at.is_head);
           clean = clean;
           fresh = fresh;
           sound = sound;
@@ -46,37 +50,63 @@ module _ {R C : Type 0} (g : Ghosts R) (old new : Deserializer R C) where
           memory = tt;
           failed = failed;
           before = λ f. absurd cc;
-          stays = record { config = config; room = room; place = place };
+          stays = record { config = config; room = room; strict = strict; place = place };
         };
       }
 
 -- ---- numbers at the front
 
 -- the bytes behind the first
-abbrev behind : List ℕ → List ℕ
+abbrev pub behind : List ℕ → List ℕ
 behind xs = take (length xs - 1) (drop 1 xs)
 
-behind_is : (x : ℕ) (ys : List ℕ) → behind (x ∷ ys) ≡ ys
+pub behind_is : (x : ℕ) (ys : List ℕ) → behind (x ∷ ys) ≡ ys
 behind_is x ys = let l : length (x ∷ ys) - 1 ≡ length ys = omega arith in rw l (take_all (length ys) ys (omega arith))
 
+-- where any width may be read, what stands there is such a head
+pub any_stands : (w : Bool) (n : ℕ) (h : Head) (xs : List ℕ) → w ≡ false → StandsIn false n h xs → StandsIn w n h xs
+any_stands w n h xs e s = subst (λ z. StandsIn z n h xs) (sym e) s
+
 -- a number stands behind a marker
-wide_stands : (w : Width) (x n : ℕ) (bs rest : List ℕ) → to_be_bytes w n ≡ bs → IsHead (Whole (pos n)) (x ∷ to_be_bytes w n) → StandsIn (length (x ∷ bs)) (Whole (pos n)) (x ∷ (bs ++ rest))
+wide_stands : (w : Width) (x n : ℕ) (bs rest : List ℕ) → to_be_bytes w n ≡ bs → IsHead (Whole (pos n)) (x ∷ to_be_bytes w n) → StandsIn false (length (x ∷ bs)) (Whole (pos n)) (x ∷ (bs ++ rest))
 wide_stands w x n bs rest e h = record {
   marker = marker_of x;
   stands = record { byte = x; behind = bs; rest = rest; front = refl; is_marker = refl; is_head = subst (λ b. IsHead (Whole (pos n)) (x ∷ b)) e h };
   long = refl;
 }
 
-pub small_stands : (xs : List ℕ) (n : ℕ) → 1 ≤ length xs → get_or xs 0 0 < 128 → n ≡ get_or xs 0 0 → StandsIn 1 (Whole (pos n)) xs
+-- a head of one byte is canonical
+one_byte : (w : Bool) (h : Head) (b : ℕ) → IsHead h (b ∷ []) → canon_head h ≡ b ∷ [] → heads_of w h (b ∷ [])
+one_byte w h b i e = subst (heads_of w h) e (canon_in w h (head_fits h (b ∷ []) i))
+
+small_head : (w : Bool) (x n : ℕ) → n < 128 → n ≡ x → heads_of w (Whole (pos n)) (x ∷ [])
+unfolding IsHead canon_head
+small_head w x n l e =
+    let yes : nat_lt n 128 ≡ true = lt-ltb n 128 l in
+    one_byte w (Whole (pos n)) x (inl (l, ap (λ t. t ∷ []) (sym e))) (rw yes (ap (λ t. t ∷ []) e))
+
+text_head : (w : Bool) (x n : ℕ) → n < 32 → x ≡ 0xa0 + n → heads_of w (Text n) (x ∷ [])
+unfolding IsHead canon_head
+text_head w x n l e =
+    let yes : nat_lt n 32 ≡ true = lt-ltb n 32 l in
+    one_byte w (Text n) x (inl (l, ap (λ t. t ∷ []) e)) (rw yes (ap (λ t. t ∷ []) (sym e)))
+
+list_head : (w : Bool) (x n : ℕ) → n < 16 → x ≡ 0x90 + n → heads_of w (Array n) (x ∷ [])
+unfolding IsHead canon_head
+list_head w x n l e =
+    let yes : nat_lt n 16 ≡ true = lt-ltb n 16 l in
+    one_byte w (Array n) x (inl (l, ap (λ t. t ∷ []) e)) (rw yes (ap (λ t. t ∷ []) (sym e)))
+
+pub small_stands : (w : Bool) (xs : List ℕ) (n : ℕ) → 1 ≤ length xs → get_or xs 0 0 < 128 → n ≡ get_or xs 0 0 → StandsIn w 1 (Whole (pos n)) xs
 unfolding IsHead
-small_stands [] n l b e = absurd (omega arith)
-small_stands (x ∷ xs) n l b e = record {
+small_stands w [] n l b e = absurd (omega arith)
+small_stands w (x ∷ xs) n l b e = record {
   marker = marker_of x;
-  stands = record { byte = x; behind = []; rest = xs; front = refl; is_marker = refl; is_head = inl (omega arith, ap (λ t. t ∷ []) (sym e)) };
+  stands = record { byte = x; behind = []; rest = xs; front = refl; is_marker = refl; is_head = small_head w x n (omega arith) e };
   long = refl;
 }
 
-eight : (x n : ℕ) (ys : List ℕ) → x ≡ 0xcc → 1 ≤ length ys → n ≡ get_or ys 0 0 → n < 256 → StandsIn 2 (Whole (pos n)) (x ∷ ys)
+eight : (x n : ℕ) (ys : List ℕ) → x ≡ 0xcc → 1 ≤ length ys → n ≡ get_or ys 0 0 → n < 256 → StandsIn false 2 (Whole (pos n)) (x ∷ ys)
 unfolding IsHead
 eight x n [] e l s b = absurd (omega arith)
 eight x n (a ∷ ys) e l s b =
@@ -84,7 +114,7 @@ eight x n (a ∷ ys) e l s b =
     let same : to_be_bytes w8 n ≡ a ∷ [] = ap (λ t. t ∷ []) low in
     wide_stands w8 x n (a ∷ []) ys same (inr (inl (omega arith, ap (λ t. t ∷ to_be_bytes w8 n) e)))
 
-sixteen : (x n : ℕ) (ys : List ℕ) → x ≡ 0xcd → 2 ≤ length ys → n ≡ get_or ys 0 0 * 256 + get_or ys 1 0 → ((i : ℕ) → get_or ys i 0 < 256) → StandsIn 3 (Whole (pos n)) (x ∷ ys)
+sixteen : (x n : ℕ) (ys : List ℕ) → x ≡ 0xcd → 2 ≤ length ys → n ≡ get_or ys 0 0 * 256 + get_or ys 1 0 → ((i : ℕ) → get_or ys i 0 < 256) → StandsIn false 3 (Whole (pos n)) (x ∷ ys)
 unfolding IsHead
 sixteen x n [] e l s f = absurd (omega arith)
 sixteen x n (a ∷ []) e l s f = absurd (omega arith)
@@ -94,15 +124,15 @@ sixteen x n (a ∷ b ∷ ys) e l s f =
     let same : to_be_bytes w16 n ≡ a ∷ b ∷ [] = be_bytes_2 (a ∷ b ∷ []) n refl (λ i. search rules) (omega arith) in
     wide_stands w16 x n (a ∷ b ∷ []) ys same (inr (inr (inl (omega arith, ap (λ t. t ∷ to_be_bytes w16 n) e))))
 
-pub stands_8 : (xs : List ℕ) (n : ℕ) → 1 ≤ length xs → get_or xs 0 0 ≡ 0xcc → 1 ≤ length (behind xs) → n ≡ get_or (behind xs) 0 0 → ((i : ℕ) → get_or xs i 0 < 256) → StandsIn 2 (Whole (pos n)) xs
+pub stands_8 : (xs : List ℕ) (n : ℕ) → 1 ≤ length xs → get_or xs 0 0 ≡ 0xcc → 1 ≤ length (behind xs) → n ≡ get_or (behind xs) 0 0 → ((i : ℕ) → get_or xs i 0 < 256) → StandsIn false 2 (Whole (pos n)) xs
 stands_8 [] n l e m s f = absurd (omega arith)
 stands_8 (x ∷ ys) n l e m s f = eight x n ys e (rw (behind_is x ys) at m) (rw (behind_is x ys) at s) (omega (arith, s, rw (behind_is x ys) at s, f 1))
 
-pub stands_16 : (xs : List ℕ) (n : ℕ) → 1 ≤ length xs → get_or xs 0 0 ≡ 0xcd → 2 ≤ length (behind xs) → n ≡ get_or (behind xs) 0 0 * 256 + get_or (behind xs) 1 0 → ((i : ℕ) → get_or xs i 0 < 256) → StandsIn 3 (Whole (pos n)) xs
+pub stands_16 : (xs : List ℕ) (n : ℕ) → 1 ≤ length xs → get_or xs 0 0 ≡ 0xcd → 2 ≤ length (behind xs) → n ≡ get_or (behind xs) 0 0 * 256 + get_or (behind xs) 1 0 → ((i : ℕ) → get_or xs i 0 < 256) → StandsIn false 3 (Whole (pos n)) xs
 stands_16 [] n l e m s f = absurd (omega arith)
 stands_16 (x ∷ ys) n l e m s f = sixteen x n ys e (rw (behind_is x ys) at m) (rw (behind_is x ys) at s) (λ i. f (suc i))
 
-thirty_two : (x n : ℕ) (ys : List ℕ) → x ≡ 0xce → 4 ≤ length ys → n ≡ get_or ys 0 0 * 0x1000000 + get_or ys 1 0 * 0x10000 + get_or ys 2 0 * 0x100 + get_or ys 3 0 → ((i : ℕ) → get_or ys i 0 < 256) → StandsIn 5 (Whole (pos n)) (x ∷ ys)
+thirty_two : (x n : ℕ) (ys : List ℕ) → x ≡ 0xce → 4 ≤ length ys → n ≡ get_or ys 0 0 * 0x1000000 + get_or ys 1 0 * 0x10000 + get_or ys 2 0 * 0x100 + get_or ys 3 0 → ((i : ℕ) → get_or ys i 0 < 256) → StandsIn false 5 (Whole (pos n)) (x ∷ ys)
 unfolding IsHead
 thirty_two x n [] e l s f = absurd (omega arith)
 thirty_two x n (a ∷ []) e l s f = absurd (omega arith)
@@ -118,7 +148,7 @@ thirty_two x n (a ∷ b ∷ c ∷ d ∷ ys) e l s f =
 
 sixty_four : (x n : ℕ) (ys : List ℕ) → x ≡ 0xcf → 8 ≤ length ys → n < 2 ^ 64
     → n ≡ get_or ys 0 0 * 0x100000000000000 + get_or ys 1 0 * 0x1000000000000 + get_or ys 2 0 * 0x10000000000 + get_or ys 3 0 * 0x100000000 + get_or ys 4 0 * 0x1000000 + get_or ys 5 0 * 0x10000 + get_or ys 6 0 * 0x100 + get_or ys 7 0
-    → ((i : ℕ) → get_or ys i 0 < 256) → StandsIn 9 (Whole (pos n)) (x ∷ ys)
+    → ((i : ℕ) → get_or ys i 0 < 256) → StandsIn false 9 (Whole (pos n)) (x ∷ ys)
 unfolding IsHead
 sixty_four x n [] e l h s f = absurd (omega arith)
 sixty_four x n (a ∷ []) e l h s f = absurd (omega arith)
@@ -142,30 +172,30 @@ sixty_four x n (a ∷ b ∷ c ∷ d ∷ i ∷ j ∷ k ∷ m ∷ ys) e l h s f =
     wide_stands w64 x n bs ys same (inr (inr (inr (inr (inl (h, ap (λ t. t ∷ to_be_bytes w64 n) e))))))
 
 pub stands_32 : (xs : List ℕ) (n : ℕ) → 1 ≤ length xs → get_or xs 0 0 ≡ 0xce → 4 ≤ length (behind xs) → n ≡ get_or (behind xs) 0 0 * 0x1000000 + get_or (behind xs) 1 0 * 0x10000 + get_or (behind xs) 2 0 * 0x100 + get_or (behind xs) 3 0 → ((i : ℕ) → get_or xs i 0 < 256)
-    → StandsIn 5 (Whole (pos n)) xs
+    → StandsIn false 5 (Whole (pos n)) xs
 stands_32 [] n l e m s f = absurd (omega arith)
 stands_32 (x ∷ ys) n l e m s f = thirty_two x n ys e (rw (behind_is x ys) at m) (rw (behind_is x ys) at s) (λ i. f (suc i))
 
 pub stands_64 : (xs : List ℕ) (n : ℕ) → 1 ≤ length xs → get_or xs 0 0 ≡ 0xcf → 8 ≤ length (behind xs) → n < 2 ^ 64
     → n ≡ get_or (behind xs) 0 0 * 0x100000000000000 + get_or (behind xs) 1 0 * 0x1000000000000 + get_or (behind xs) 2 0 * 0x10000000000 + get_or (behind xs) 3 0 * 0x100000000 + get_or (behind xs) 4 0 * 0x1000000 + get_or (behind xs) 5 0 * 0x10000 + get_or (behind xs) 6 0 * 0x100 + get_or (behind xs) 7 0
-    → ((i : ℕ) → get_or xs i 0 < 256) → StandsIn 9 (Whole (pos n)) xs
+    → ((i : ℕ) → get_or xs i 0 < 256) → StandsIn false 9 (Whole (pos n)) xs
 stands_64 [] n l e m h s f = absurd (omega arith)
 stands_64 (x ∷ ys) n l e m h s f = sixty_four x n ys e (rw (behind_is x ys) at m) h (rw (behind_is x ys) at s) (λ i. f (suc i))
 
 -- ---- texts at the front
 
-pub text_held : (xs : List ℕ) (n : ℕ) → 1 ≤ length xs → 0xa0 ≤ get_or xs 0 0 → get_or xs 0 0 < 0xc0 → n ≡ get_or xs 0 0 - 0xa0 → StandsIn 1 (Text n) xs
+pub text_held : (w : Bool) (xs : List ℕ) (n : ℕ) → 1 ≤ length xs → 0xa0 ≤ get_or xs 0 0 → get_or xs 0 0 < 0xc0 → n ≡ get_or xs 0 0 - 0xa0 → StandsIn w 1 (Text n) xs
 unfolding IsHead
-text_held [] n l b t e = absurd (omega arith)
-text_held (x ∷ xs) n l b t e =
+text_held w [] n l b t e = absurd (omega arith)
+text_held w (x ∷ xs) n l b t e =
     let same : x ≡ 0xa0 + n = omega arith in
     record {
       marker = marker_of x;
-      stands = record { byte = x; behind = []; rest = xs; front = refl; is_marker = refl; is_head = inl (omega arith, ap (λ t. t ∷ []) same) };
+      stands = record { byte = x; behind = []; rest = xs; front = refl; is_marker = refl; is_head = text_head w x n (omega arith) same };
       long = refl;
     }
 
-text_eight : (x n : ℕ) (ys : List ℕ) → x ≡ 0xd9 → 1 ≤ length ys → n ≡ get_or ys 0 0 → n < 256 → StandsIn 2 (Text n) (x ∷ ys)
+text_eight : (x n : ℕ) (ys : List ℕ) → x ≡ 0xd9 → 1 ≤ length ys → n ≡ get_or ys 0 0 → n < 256 → StandsIn false 2 (Text n) (x ∷ ys)
 unfolding IsHead
 text_eight x n [] e l s b = absurd (omega arith)
 text_eight x n (a ∷ ys) e l s b =
@@ -177,19 +207,19 @@ text_eight x n (a ∷ ys) e l s b =
       long = refl;
     }
 
-pub text_8 : (xs : List ℕ) (n : ℕ) → 1 ≤ length xs → get_or xs 0 0 ≡ 0xd9 → 1 ≤ length (behind xs) → n ≡ get_or (behind xs) 0 0 → ((i : ℕ) → get_or xs i 0 < 256) → StandsIn 2 (Text n) xs
+pub text_8 : (xs : List ℕ) (n : ℕ) → 1 ≤ length xs → get_or xs 0 0 ≡ 0xd9 → 1 ≤ length (behind xs) → n ≡ get_or (behind xs) 0 0 → ((i : ℕ) → get_or xs i 0 < 256) → StandsIn false 2 (Text n) xs
 text_8 [] n l e m s f = absurd (omega arith)
 text_8 (x ∷ ys) n l e m s f = text_eight x n ys e (rw (behind_is x ys) at m) (rw (behind_is x ys) at s) (omega (arith, s, rw (behind_is x ys) at s, f 1))
 
 -- ---- lists at the front
 
-pub list_held : (xs : List ℕ) (n : ℕ) → 1 ≤ length xs → 0x90 ≤ get_or xs 0 0 → get_or xs 0 0 < 0xa0 → n ≡ get_or xs 0 0 - 0x90 → StandsIn 1 (Array n) xs
+pub list_held : (w : Bool) (xs : List ℕ) (n : ℕ) → 1 ≤ length xs → 0x90 ≤ get_or xs 0 0 → get_or xs 0 0 < 0xa0 → n ≡ get_or xs 0 0 - 0x90 → StandsIn w 1 (Array n) xs
 unfolding IsHead
-list_held [] n l b t e = absurd (omega arith)
-list_held (x ∷ xs) n l b t e =
+list_held w [] n l b t e = absurd (omega arith)
+list_held w (x ∷ xs) n l b t e =
     let same : x ≡ 0x90 + n = omega arith in
     record {
       marker = marker_of x;
-      stands = record { byte = x; behind = []; rest = xs; front = refl; is_marker = refl; is_head = inl (omega arith, ap (λ t. t ∷ []) same) };
+      stands = record { byte = x; behind = []; rest = xs; front = refl; is_marker = refl; is_head = list_head w x n (omega arith) same };
       long = refl;
     }

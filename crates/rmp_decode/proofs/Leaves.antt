@@ -1,12 +1,12 @@
 -- Messages that are their head.
-use Rattle.std.proofs.Common.{◌≡◌, ℕ, List, refl, sym, ◌∙◌, ap, subst, false, Ok, Err}
+use Rattle.std.proofs.Common.{◌≡◌, ℕ, List, refl, sym, ◌∙◌, ap, subst, Bool, false, Ok, Err}
 use Rattle.rmp_wire.specs.declared.head.Head.{Head}
 use Rattle.rmp_wire.specs.declared.head.Head.TheVariants as head
 use Rattle.rmp_wire.specs.declared.marker.Marker.{Marker}
 use Rattle.rmp_wire.specs.declared.source.Source.{Ghosts}
-use Rattle.rmp_wire.specs.Heads.{IsHead}
+use Rattle.rmp_wire.specs.Canonical.{heads_of, SpellsAs}
 use Rattle.rmp_wire.specs.Msg.{Msg, nil, truth, whole, float32, float64, depth}
-use Rattle.rmp_wire.specs.Spelling.{Spells, head_of}
+use Rattle.rmp_wire.specs.Spelling.{head_of}
 use Rattle.rmp_decode.specs.Law.{Readable, Lawful, ReadsHead}
 use Rattle.rmp_decode.specs.declared.de.Deserializer.{Deserializer}
 use Rattle.rmp_decode.specs.declared.error.Error.{Error}
@@ -15,28 +15,28 @@ use Rattle.rmp_decode.proofs.Laws.{refused_head, refused_leaf, answered_leaf}
 -- a kind of message that is its head
 pub record Leaf {A : Type 0} (make : A → Msg) (heads : A → Head) : Type 0 where
   pub is : (a : A) → head_of (make a) ≡ heads a
-  pub spells : (a : A) (b : List ℕ) → IsHead (heads a) b → Spells b (make a)
+  pub spells : (s : Bool) (a : A) (b : List ℕ) → heads_of s (heads a) b → SpellsAs s b (make a)
   pub flat : (a : A) → depth (make a) ≡ 0
 
 pub nil_leaf : Leaf (λ (u : Unit {0}). nil) (λ u. head.Nil)
-nil_leaf = record { is = λ a. refl; spells = λ a b h. h; flat = λ a. refl }
+nil_leaf = record { is = λ a. refl; spells = λ s a b h. h; flat = λ a. refl }
 
 pub truth_leaf : Leaf truth head.Truth
-truth_leaf = record { is = λ a. refl; spells = λ a b h. h; flat = λ a. refl }
+truth_leaf = record { is = λ a. refl; spells = λ s a b h. h; flat = λ a. refl }
 
 pub whole_leaf : Leaf whole head.Whole
-whole_leaf = record { is = λ a. refl; spells = λ a b h. h; flat = λ a. refl }
+whole_leaf = record { is = λ a. refl; spells = λ s a b h. h; flat = λ a. refl }
 
 pub float32_leaf : Leaf float32 head.F32Bits
-float32_leaf = record { is = λ a. refl; spells = λ a b h. h; flat = λ a. refl }
+float32_leaf = record { is = λ a. refl; spells = λ s a b h. h; flat = λ a. refl }
 
 pub float64_leaf : Leaf float64 head.F64Bits
-float64_leaf = record { is = λ a. refl; spells = λ a b h. h; flat = λ a. refl }
+float64_leaf = record { is = λ a. refl; spells = λ s a b h. h; flat = λ a. refl }
 
 module _ {R C A V : Type 0} {make : A → Msg} {heads : A → Head} (leaf : Leaf make heads) (g : Ghosts R) (reads : Msg → V → Type 0) (old mid : Deserializer R C) (p : Marker × Head) (h : ReadsHead g old mid (Ok p)) where
   -- it was there, and is read so
   pub leaf_read : (new : Deserializer R C) (a : A) (v : V) → p.1 ≡ heads a → new ≡ record mid { failed = false } → reads (make a) v → Lawful g reads old new (Ok v)
-  leaf_read new a v e q r = answered_leaf g reads old mid new p (make a) v h q (λ b i. leaf.spells a b (subst (λ k. IsHead k b) e i)) (leaf.flat a) r
+  leaf_read new a v e q r = answered_leaf g reads old mid new p (make a) v h q (λ b i. leaf.spells old.strict a b (subst (λ k. heads_of old.strict k b) e i)) (leaf.flat a) r
 
   -- another kind was there
   pub leaf_missed : (e : Error) → ((a : A) → p.1 ≡ heads a → ⊥) → ((m : Msg) → Readable reads m → (a : A) × (m ≡ make a)) → Lawful g reads old mid (Err e)
@@ -44,4 +44,4 @@ module _ {R C A V : Type 0} {make : A → Msg} {heads : A → Head} (leaf : Leaf
 
   -- it was there, and isn't read
   pub leaf_refused : (a : A) (e : Error) → p.1 ≡ heads a → (Readable reads (make a) → ⊥) → Lawful g reads old mid (Err e)
-  leaf_refused a e i n = refused_leaf g reads old mid p e (make a) h (λ b k. leaf.spells a b (subst (λ j. IsHead j b) i k)) n
+  leaf_refused a e i n = refused_leaf g reads old mid p e (make a) h (λ b k. leaf.spells old.strict a b (subst (λ j. heads_of old.strict j b) i k)) n

@@ -10,10 +10,10 @@ use Rattle.std.specs.Io.KnownBytes.{Consumes}
 use Rattle.std.proofs.KnownBytes.{Consumes-nil, Consumes-trans}
 use Rattle.rmp_wire.specs.declared.head.Head.TheVariants.{Map}
 use Rattle.rmp_wire.specs.declared.source.Source.{Ghosts}
-use Rattle.rmp_wire.specs.Heads.{IsHead}
+use Rattle.rmp_wire.specs.Canonical.{heads_of, SpellsAs}
 use Rattle.rmp_wire.specs.Msg.{Msg, nil, truth, whole, float32, float64, text, bin, list, map, extension, Msgs, no_items, item, Pairs, no_pairs, pair, count, count_pairs, depth, depth_all, depth_pairs}
-use Rattle.rmp_wire.specs.Spelling.{Spells, SpellsPairs, head_of}
-use Rattle.rmp_wire.proofs.Heads.{heads_apart}
+use Rattle.rmp_wire.specs.Spelling.{PairsSpelledBy, head_of}
+use Rattle.rmp_wire.proofs.Strict.{heads_apart_as}
 use Rattle.rmp_decode.specs.Law.{Refuses, Readable, Explains, Lawful}
 use Rattle.rmp_decode.specs.Maps.{OfMap, IsMap, ReadsPairs, Collects, map_inner, IsMapOpen, OpensMap, FailsToOpenMap, TakesKey, TakesValue}
 use Rattle.rmp_decode.specs.Parts.{TakesPart, FailsPart}
@@ -42,31 +42,31 @@ pub flat-push : (ps : Pairs) (m n : Msg) → push (push (flat ps) m) n ≡ flat 
 flat-push no_pairs m n = refl
 flat-push (pair k v ps) m n = ap (λ z. item k (item v z)) (flat-push ps m n)
 
-count-flat : (ps : Pairs) → count (flat ps) ≡ count_pairs ps + count_pairs ps
+pub count-flat : (ps : Pairs) → count (flat ps) ≡ count_pairs ps + count_pairs ps
 count-flat no_pairs = refl
 count-flat (pair k v ps) = let i = count-flat ps in omega arith
 
-depth-flat : (ps : Pairs) → depth_all (flat ps) ≡ depth_pairs ps
+pub depth-flat : (ps : Pairs) → depth_all (flat ps) ≡ depth_pairs ps
 depth-flat no_pairs = refl
 depth-flat (pair k v ps) = let i = depth-flat ps in omega arith
 
-in_row : (ps : Pairs) (b : List ℕ) → SpellsPairs b ps → SpellsRow Spells b (flat ps)
-in_row no_pairs b s = s
-in_row (pair k v ps) b s = record {
+in_row : (w : Bool) (ps : Pairs) (b : List ℕ) → PairsSpelledBy (heads_of w) b ps → SpellsRow (SpellsAs w) b (flat ps)
+in_row w no_pairs b s = s
+in_row w (pair k v ps) b s = record {
   first = s.first;
   second = s.second;
   is_first = s.is_first;
-  is_second = record { first = s.is_second.first; second = s.is_second.second; is_first = s.is_second.is_first; is_second = in_row ps s.is_second.second s.is_second.is_second; is_whole = s.is_second.is_whole };
+  is_second = record { first = s.is_second.first; second = s.is_second.second; is_first = s.is_second.is_first; is_second = in_row w ps s.is_second.second s.is_second.is_second; is_whole = s.is_second.is_whole };
   is_whole = s.is_whole;
 }
 
-in_pairs : (ps : Pairs) (b : List ℕ) → SpellsRow Spells b (flat ps) → SpellsPairs b ps
-in_pairs no_pairs b s = s
-in_pairs (pair k v ps) b s = record {
+pub in_pairs : (w : Bool) (ps : Pairs) (b : List ℕ) → SpellsRow (SpellsAs w) b (flat ps) → PairsSpelledBy (heads_of w) b ps
+in_pairs w no_pairs b s = s
+in_pairs w (pair k v ps) b s = record {
   first = s.first;
   second = s.second;
   is_first = s.is_first;
-  is_second = record { first = s.is_second.first; second = s.is_second.second; is_first = s.is_second.is_first; is_second = in_pairs ps s.is_second.second s.is_second.is_second; is_whole = s.is_second.is_whole };
+  is_second = record { first = s.is_second.first; second = s.is_second.second; is_first = s.is_second.is_first; is_second = in_pairs w ps s.is_second.second s.is_second.is_second; is_whole = s.is_second.is_whole };
   is_whole = s.is_whole;
 }
 
@@ -74,31 +74,31 @@ in_pairs (pair k v ps) b s = record {
 abbrev pub Flat : (Pairs → Type 0) → Msgs → Type 0
 Flat Q ms = (ps : Pairs) × (flat ps ≡ ms) × Q ps
 
-inside_map : (Q : Pairs → Type 0) (room n : ℕ) (m : Msg) (a x y : List ℕ) → OfMap Q m → Spells a m → depth m < room + 1 → head_of m ≡ Map n → ((c : List ℕ) → ((d : List ℕ) → a ≡ d ++ c → IsHead (head_of m) d → c ++ x ≡ y)) → BeginsRow Spells (Flat Q) room (n + n) y
-inside_map Q room n nil a x y o s d e f = absurd o
-inside_map Q room n (truth t) a x y o s d e f = absurd o
-inside_map Q room n (whole z) a x y o s d e f = absurd o
-inside_map Q room n (float32 k) a x y o s d e f = absurd o
-inside_map Q room n (float64 k) a x y o s d e f = absurd o
-inside_map Q room n (text t) a x y o s d e f = absurd o
-inside_map Q room n (bin t) a x y o s d e f = absurd o
-inside_map Q room n (list ms) a x y o s d e f = absurd o
-inside_map Q room n (map ps) a x y o s d e f =
+inside_map : (w : Bool) (Q : Pairs → Type 0) (room n : ℕ) (m : Msg) (a x y : List ℕ) → OfMap Q m → SpellsAs w a m → depth m < room + 1 → head_of m ≡ Map n → ((c : List ℕ) → ((d : List ℕ) → a ≡ d ++ c → heads_of w (head_of m) d → c ++ x ≡ y)) → BeginsRow (SpellsAs w) (Flat Q) room (n + n) y
+inside_map w Q room n nil a x y o s d e f = absurd o
+inside_map w Q room n (truth t) a x y o s d e f = absurd o
+inside_map w Q room n (whole z) a x y o s d e f = absurd o
+inside_map w Q room n (float32 k) a x y o s d e f = absurd o
+inside_map w Q room n (float64 k) a x y o s d e f = absurd o
+inside_map w Q room n (text t) a x y o s d e f = absurd o
+inside_map w Q room n (bin t) a x y o s d e f = absurd o
+inside_map w Q room n (list ms) a x y o s d e f = absurd o
+inside_map w Q room n (map ps) a x y o s d e f =
     let same : count_pairs ps ≡ n = cc in
-    record { bytes = s.second; rest = x; trees = flat ps; front = sym (f s.second s.first s.is_whole s.is_first); spelled = in_row ps s.second s.is_second; many = omega (arith, count-flat ps, same); fits = omega (arith, d, depth-flat ps); holds = (ps, refl, o) }
-inside_map Q room n (extension tag t) a x y o s d e f = absurd o
+    record { bytes = s.second; rest = x; trees = flat ps; front = sym (f s.second s.first s.is_whole s.is_first); spelled = in_row w ps s.second s.is_second; many = omega (arith, count-flat ps, same); fits = omega (arith, d, depth-flat ps); holds = (ps, refl, o) }
+inside_map w Q room n (extension tag t) a x y o s d e f = absurd o
 
 -- where no row is accepted behind the head, no map is before it
-map_row_refused : (Q : Pairs → Type 0) (outer room n : ℕ) (known k : Option (List ℕ)) (b : List ℕ) → Consumes known k b → IsHead (Map n) b → outer ≡ room + 1 → RefusesRow Spells (Flat Q) room (n + n) k → Refuses Spells (OfMap Q) outer known
+map_row_refused : (w : Bool) (Q : Pairs → Type 0) (outer room n : ℕ) (known k : Option (List ℕ)) (b : List ℕ) → Consumes known k b → heads_of w (Map n) b → outer ≡ room + 1 → RefusesRow (SpellsAs w) (Flat Q) room (n + n) k → Refuses (SpellsAs w) (OfMap Q) outer known
 unfolding Refuses RefusesRow
-map_row_refused Q outer room n None k b t i w r = tt
-map_row_refused Q outer room n (Some xs) None b t i w r = absurd t
-map_row_refused Q outer room n (Some xs) (Some ys) b t i w r = λ a.
+map_row_refused w Q outer room n None k b t i l r = tt
+map_row_refused w Q outer room n (Some xs) None b t i l r = absurd t
+map_row_refused w Q outer room n (Some xs) (Some ys) b t i l r = λ a.
     let split : a.bytes ++ a.rest ≡ b ++ ys = sym a.front ∙ t in
-    let u = same_head a.tree (Map n) a.bytes b a.rest ys a.spelled i split in
-    let fits = rw w at a.fits in
-    r (inside_map Q room n a.tree a.bytes a.rest ys a.holds a.spelled fits u.0
-    (λ c d e j. (heads_apart (head_of a.tree) (Map n) d b (c ++ a.rest) ys j i (sym (append_assoc d c a.rest) ∙ ap (λ z. z ++ a.rest) (sym e) ∙ split)).2))
+    let u = same_head _ a.tree (Map n) a.bytes b a.rest ys a.spelled i split in
+    let fits = rw l at a.fits in
+    r (inside_map w Q room n a.tree a.bytes a.rest ys a.holds a.spelled fits u.0
+    (λ c d e j. (heads_apart_as w (head_of a.tree) (Map n) d b (c ++ a.rest) ys j i (sym (append_assoc d c a.rest) ∙ ap (λ z. z ++ a.rest) (sym e) ∙ split)).2))
 
 -- a value that reads the pairs
 readable_map : {V : Type 0} (Q : V → Pairs → Type 0) (m : Msg) → (v : V) × OfMap (Q v) m → OfMap (λ ps. (v : V) × Q v ps) m
@@ -135,14 +135,14 @@ owed false = 0
 abbrev pub to_come : {R C : Type 0} → MapAccess R C → ℕ
 to_come a = a.left + a.left + owed a.owes
 
-settled : {R C : Type 0} (a : MapAccess R C) → a.owes ≡ false → to_come a ≡ a.left + a.left
+pub settled : {R C : Type 0} (a : MapAccess R C) → a.owes ≡ false → to_come a ≡ a.left + a.left
 settled a e = omega (arith, ap owed e)
 
 -- these were read so far
 pub record MapRun {R C : Type 0} (g : Ghosts R) (start now : MapAccess R C) (ms : Msgs) : Type 0 where
   pub bytes : List ℕ
   pub takes : Consumes (left g start.de.now) (left g now.de.now) bytes
-  pub spelled : SpellsRow Spells bytes ms
+  pub spelled : SpellsRow (SpellsAs start.de.now.strict) bytes ms
   pub fits : depth_all ms < map_inner start
   pub many : count ms + to_come now ≡ to_come start
   pub same_reference : now.de.ghost_name ≡ start.de.ghost_name
@@ -172,7 +172,7 @@ map_part g reads start mid now ms v r t c i o n =
     record {
       bytes = r.bytes ++ t.bytes;
       takes = Consumes-trans _ _ _ r.bytes t.bytes r.takes t.takes;
-      spelled = row-push Spells ms t.tree r.bytes t.bytes r.spelled t.spelled;
+      spelled = row-push (SpellsAs start.de.now.strict) ms t.tree r.bytes t.bytes r.spelled (subst (λ z. SpellsAs z t.bytes t.tree) r.stays.strict t.spelled);
       fits = depth-push ms t.tree (map_inner start) r.fits (omega (arith, room, t.fits));
       many = omega (arith, count-push ms t.tree, r.many, c);
       same_reference = n ∙ r.same_reference;
@@ -206,7 +206,7 @@ module _ {R C V : Type 0} (g : Ghosts R) (Q : V → Pairs → Type 0) (old : Des
     failed = f.failed;
     before = f.before;
     stays = f.stays;
-    err = λ o n k. refuses_narrower Spells IsMap _ _ _ (is_map Q) (f.err o n k);
+    err = λ o n k. refuses_narrower (SpellsAs old.strict) IsMap _ _ _ (is_map Q) (f.err o n k);
   }
 
   module _ (start mid : MapAccess R C) (o : OpensMap g old start) (last : Deserializer R C) where
@@ -221,7 +221,7 @@ module _ {R C V : Type 0} (g : Ghosts R) (Q : V → Pairs → Type 0) (old : Des
             tree = map ps;
             takes = Consumes-trans _ _ _ o.head.bytes r.bytes o.head.takes r.takes;
             goes_on = record { more = o.head.goes_on.more ++ r.bytes; whole = ap (λ t. t ++ r.bytes) o.head.goes_on.whole ∙ append_assoc (kept_bytes old.kept) o.head.goes_on.more r.bytes };
-            spelled = record { first = o.head.bytes; second = r.bytes; is_first = subst (λ n. IsHead (Map n) o.head.bytes) (sym many) o.head.is_head; is_second = in_pairs ps r.bytes r.spelled; is_whole = refl };
+            spelled = record { first = o.head.bytes; second = r.bytes; is_first = subst (λ n. heads_of old.strict (Map n) o.head.bytes) (sym many) o.head.is_head; is_second = in_pairs old.strict ps r.bytes (subst (λ z. SpellsRow (SpellsAs z) r.bytes (flat ps)) o.stays.strict r.spelled); is_whole = refl };
             fits = omega (arith, r.fits, o.room, depth-flat ps);
             value = q;
           };
@@ -231,13 +231,13 @@ module _ {R C V : Type 0} (g : Ghosts R) (Q : V → Pairs → Type 0) (old : Des
           err = λ _. tt;
           failed = tt;
           before = λ h. absurd (let f = o.fresh in cc);
-          stays = record { config = r.stays.config ∙ o.stays.config; room = r.stays.room ∙ o.stays.room; place = r.stays.place ∙ o.stays.place };
+          stays = record { config = r.stays.config ∙ o.stays.config; room = r.stays.room ∙ o.stays.room; strict = r.stays.strict ∙ o.stays.strict; place = r.stays.place ∙ o.stays.place };
         })
 
     module _ (ms : Msgs) (r : MapRun g start mid ms) where
       -- none of the keys and values that are to come would do
       pub map_refused : (e : Error) → Stays g mid.de.now last → last.failed ≡ true
-          → Explains e (faults_of g mid.de.now) (faults_of g last) (RefusesRow Spells (λ ks. Flat (λ ps. (v : V) × Q v ps) (append ms ks)) (map_inner start) (to_come mid) (left g mid.de.now)) → Lawful g (λ m v. OfMap (Q v) m) old last (Err e)
+          → Explains e (faults_of g mid.de.now) (faults_of g last) (RefusesRow (SpellsAs start.de.now.strict) (λ ks. Flat (λ ps. (v : V) × Q v ps) (append ms ks)) (map_inner start) (to_come mid) (left g mid.de.now)) → Lawful g (λ m v. OfMap (Q v) m) old last (Err e)
       map_refused e s f x = record {
         ok = tt;
         ready = tt;
@@ -248,9 +248,9 @@ module _ {R C V : Type 0} (g : Ghosts R) (Q : V → Pairs → Type 0) (old : Des
         before = λ h. absurd (let p = o.fresh in cc);
         err = λ _ n k.
             let rest = x n (k ∙ sym o.faults_same ∙ sym r.faults_same) in
-            let row = rest_refused false (Flat (λ ps. (v : V) × Q v ps)) (map_inner start) (to_come mid) (start.left + start.left) (left g start.de.now) (left g mid.de.now) ms r.bytes r.takes r.spelled (r.many ∙ settled start o.at_key) rest in
-            refuses_narrower Spells (OfMap (λ ps. (v : V) × Q v ps)) _ _ _ (readable_map Q)
-            (map_row_refused (λ ps. (v : V) × Q v ps) (room_of old) (map_inner start) start.left (left g old) (left g start.de.now) o.head.bytes o.head.takes o.head.is_head o.room row);
+            let row = rest_refused start.de.now.strict false (Flat (λ ps. (v : V) × Q v ps)) (map_inner start) (to_come mid) (start.left + start.left) (left g start.de.now) (left g mid.de.now) ms r.bytes r.takes r.spelled (r.many ∙ settled start o.at_key) rest in
+            refuses_narrower (SpellsAs old.strict) (OfMap (λ ps. (v : V) × Q v ps)) _ _ _ (readable_map Q)
+            (map_row_refused old.strict (λ ps. (v : V) × Q v ps) (room_of old) (map_inner start) start.left (left g old) (left g start.de.now) o.head.bytes o.head.takes o.head.is_head o.room (subst (λ z. RefusesRow (SpellsAs z) (Flat (λ ps. (v : V) × Q v ps)) (map_inner start) (start.left + start.left) (left g start.de.now)) o.stays.strict row));
       }
 
       -- memory was short
@@ -262,12 +262,12 @@ module _ {R C V : Type 0} (g : Ghosts R) (Q : V → Pairs → Type 0) (old : Des
           → ((m : Msg) (ks : Msgs) (v : V) (ps : Pairs) → flat ps ≡ append ms (item m ks) → Q v ps → Readable reads m) → Lawful g (λ m v. OfMap (Q v) m) old last (Err e)
       map_take reads now e some f q proj = map_refused e (rw q f.stays) (ap (λ (z : Deserializer R C). z.failed) q ∙ f.failed) (λ n k.
           let r0 = f.err n (ap (faults_of g) (sym q) ∙ k) in
-          let r1 = subst (λ z. Refuses Spells (Readable reads) (max 1 z) (left g mid.de.now)) r.inner r0 in
-          element_refused Spells (λ ks. Flat (λ ps. (v : V) × Q v ps) (append ms ks)) (Readable reads) (map_inner start) (to_come mid) (left g mid.de.now) some (λ m ks h. proj m ks h.2.0 h.0 h.1 h.2.1) r1)
+          let r1 = subst (λ z. Refuses (SpellsAs z) (Readable reads) (map_inner start) (left g mid.de.now)) r.stays.strict (subst (λ z. Refuses (SpellsAs mid.de.now.strict) (Readable reads) (max 1 z) (left g mid.de.now)) r.inner r0) in
+          element_refused (SpellsAs start.de.now.strict) (λ ks. Flat (λ ps. (v : V) × Q v ps) (append ms ks)) (Readable reads) (map_inner start) (to_come mid) (left g mid.de.now) some (λ m ks h. proj m ks h.2.0 h.0 h.1 h.2.1) r1)
 
       -- there are more pairs than are wanted
       pub map_more : (e : Error) → 0 < mid.left → last ≡ mid.de.now → ((m : Msg) (ks : Msgs) (v : V) (ps : Pairs) → flat ps ≡ append ms (item m ks) → Q v ps → ⊥) → Lawful g (λ m v. OfMap (Q v) m) old last (Err e)
-      map_more e l q f = map_refused e (rw q (stays_refl g mid.de.now)) (ap (λ (z : Deserializer R C). z.failed) q ∙ r.still.marked) (λ n k. count_refused Spells (λ ks. Flat (λ ps. (v : V) × Q v ps) (append ms ks)) (map_inner start) (to_come mid) (left g mid.de.now) (too_many l f))
+      map_more e l q f = map_refused e (rw q (stays_refl g mid.de.now)) (ap (λ (z : Deserializer R C). z.failed) q ∙ r.still.marked) (λ n k. count_refused (SpellsAs start.de.now.strict) (λ ks. Flat (λ ps. (v : V) × Q v ps) (append ms ks)) (map_inner start) (to_come mid) (left g mid.de.now) (too_many l f))
         where
           too_many : 0 < mid.left → ((m : Msg) (ks : Msgs) (v : V) (ps : Pairs) → flat ps ≡ append ms (item m ks) → Q v ps → ⊥) → (ks : Msgs) → Flat (λ ps. (v : V) × Q v ps) (append ms ks) → count ks ≡ to_come mid → ⊥
           too_many l f no_items h c = omega arith

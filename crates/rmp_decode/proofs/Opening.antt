@@ -56,7 +56,7 @@ other_than_seq room m (head.Ext n tag) e f i = i
 
 module _ {R C : Type 0} (g : Ghosts R) (old new : Deserializer R C) (e : Error) where
   pub fails_to_begin : ReadsHead g old new (Err e) → FailsToOpen g old new e
-  fails_to_begin h = record { failed = h.failed; stays = h.stays; before = h.before; err = λ o n k. refuses_none _ _ _ (h.err o n k); exact = λ o. by_none (not_seq (room_of old)) _ _ _ e (h.ends o) }
+  fails_to_begin h = record { failed = h.failed; stays = h.stays; before = h.before; err = λ o n k. refuses_none _ _ _ _ (h.err o n k); memory = h.memory; exact = λ o. by_none _ (not_seq (room_of old)) _ _ _ e (h.ends o) }
 
   module _ (p : Marker × Head) (h : ReadsHead g old new (Ok p)) where
     -- another kind was there
@@ -65,8 +65,9 @@ module _ {R C : Type 0} (g : Ghosts R) (old new : Deserializer R C) (e : Error) 
       failed = h.failed;
       stays = h.stays;
       before = λ f. absurd (let o = h.fresh in cc);
-      err = λ _ _ _. refuses_head IsSeq (room_of old) (left g old) (left g new) h.ok.bytes p.1 h.ok.takes h.ok.is_head (λ m i q. let a = seq_head_of m i in n a.0 (sym q ∙ a.1));
-      exact = λ _. by_head (not_seq (room_of old)) _ _ _ p.0 p.1 e h.marked (other_than_seq (room_of old) p.0 p.1 e n is);
+      err = λ _ _ _. refuses_head _ IsSeq (room_of old) (left g old) (left g new) h.ok.bytes p.1 h.ok.takes h.ok.is_head (λ m i q. let a = seq_head_of m i in n a.0 (sym q ∙ a.1));
+      memory = λ q. absurd (let q' = is in cc);
+      exact = λ _. by_head _ (not_seq (room_of old)) _ _ _ p.0 p.1 e h.marked (other_than_seq (room_of old) p.0 p.1 e n is);
     }
 
     -- a list would nest too deep
@@ -75,10 +76,11 @@ module _ {R C : Type 0} (g : Ghosts R) (old new : Deserializer R C) (e : Error) 
       failed = h.failed;
       stays = h.stays;
       before = λ f. absurd (let o = h.fresh in cc);
-      err = λ _ _ _. refuses_by IsSeq (room_of old) (left g old) (left g new) h.ok.bytes h.ok.takes (λ ys q a.
-          let u = same_head a.tree p.1 a.bytes h.ok.bytes a.rest ys a.spelled h.ok.is_head (sym a.front) in
+      err = λ _ _ _. refuses_by _ IsSeq (room_of old) (left g old) (left g new) h.ok.bytes h.ok.takes (λ ys q a.
+          let u = same_head _ a.tree p.1 a.bytes h.ok.bytes a.rest ys a.spelled h.ok.is_head (sym a.front) in
           let below = nests a.tree n (u.0 ∙ i) in
           let f = a.fits in
           omega arith);
-      exact = λ _. by_head (not_seq (room_of old)) _ _ _ p.0 p.1 e h.marked (subst (λ z. not_seq (room_of old) p.0 z e) (sym i) (omega (arith, l), d));
+      memory = λ q. absurd (let q' = d in cc);
+      exact = λ _. by_head _ (not_seq (room_of old)) _ _ _ p.0 p.1 e h.marked (subst (λ z. not_seq (room_of old) p.0 z e) (sym i) (omega (arith, l), d));
     }

@@ -1,14 +1,15 @@
 -- When nothing at the front of the bytes is accepted.
-use Rattle.std.proofs.Common.{◌≡◌, ◌≤◌, ◌<◌, ℕ, List, [], ◌++◌, length, refl, sym, ◌∙◌, ap, subst, arith, append_assoc, Option, None, Some, IfSome}
+use Rattle.std.proofs.Common.{◌≡◌, ◌≤◌, ◌<◌, ℕ, List, [], ◌++◌, length, refl, sym, ◌∙◌, ap, subst, arith, append_assoc, Option, None, Some, IfSome, Bool}
 use Rattle.std.proofs.lemmas.List.{append-nil, length-append}
 use Rattle.std.specs.Io.KnownBytes.{Consumes}
 use Rattle.rmp_wire.specs.declared.head.Head.{Head}
+use Rattle.rmp_wire.specs.Canonical.{heads_of, SpellsAs}
 use Rattle.rmp_wire.specs.Heads.{IsHead}
 use Rattle.rmp_wire.specs.Msg.{Msg, nil, truth, whole, float32, float64, text, bin, list, map, extension}
 use Rattle.rmp_wire.specs.Sources.{IsShort}
-use Rattle.rmp_wire.specs.Spelling.{Spells, head_of}
+use Rattle.rmp_wire.specs.Spelling.{head_of}
 use Rattle.rmp_wire.proofs.Heads.{heads_apart}
-use Rattle.rmp_wire.proofs.Unique.{spelled_once}
+use Rattle.rmp_wire.proofs.Strict.{any_width, heads_apart_as, spelled_once_as}
 use Rattle.rmp_decode.specs.Law.{Begins, Refuses, NoMessage}
 
 -- what stands behind the head of a leaf
@@ -25,17 +26,17 @@ content_of (map ps) = []
 content_of (extension tag s) = s
 
 -- a spelling begins with its message's head
-pub record Opened (m : Msg) (a : List ℕ) : Type 0 where
+pub record Opened (s : Bool) (m : Msg) (a : List ℕ) : Type 0 where
   pub head : List ℕ
   pub rest : List ℕ
-  pub is_head : IsHead (head_of m) head
+  pub is_head : heads_of s (head_of m) head
   pub split : a ≡ head ++ rest
   pub long : length (content_of m) ≤ length rest
 
-alone : (m : Msg) (a : List ℕ) → IsHead (head_of m) a → content_of m ≡ [] → Opened m a
+alone : {s : Bool} (m : Msg) (a : List ℕ) → heads_of s (head_of m) a → content_of m ≡ [] → Opened s m a
 alone m a h e = record { head = a; rest = []; is_head = h; split = sym (append-nil a); long = omega (arith, ap length e) }
 
-pub opened : (m : Msg) (a : List ℕ) → Spells a m → Opened m a
+pub opened : {s : Bool} (m : Msg) (a : List ℕ) → SpellsAs s a m → Opened s m a
 opened nil a s = alone nil a s refl
 opened (truth t) a s = alone (truth t) a s refl
 opened (whole z) a s = alone (whole z) a s refl
@@ -48,44 +49,55 @@ opened (map ps) a s = record { head = s.first; rest = s.second; is_head = s.is_f
 opened (extension tag t) a s = record { head = s.first; rest = s.second; is_head = s.is_first; split = s.is_whole; long = omega (arith, ap length s.is_second.0) }
 
 -- where a head stands at the front, a message that stands there begins with it
-pub same_head : (m : Msg) (h : Head) (a b x y : List ℕ) → Spells a m → IsHead h b → a ++ x ≡ b ++ y → (head_of m ≡ h) × (length (content_of m) ≤ length y)
-same_head m h a b x y s i e =
-    let o = opened m a s in
+pub same_head : (s : Bool) (m : Msg) (h : Head) (a b x y : List ℕ) → SpellsAs s a m → heads_of s h b → a ++ x ≡ b ++ y → (head_of m ≡ h) × (length (content_of m) ≤ length y)
+same_head s m h a b x y p i e =
+    let o = opened m a p in
     let split : o.head ++ (o.rest ++ x) ≡ b ++ y = sym (append_assoc o.head o.rest x) ∙ ap (λ t. t ++ x) (sym o.split) ∙ e in
-    let u = heads_apart (head_of m) h o.head b (o.rest ++ x) y o.is_head i split in
+    let u = heads_apart_as s (head_of m) h o.head b (o.rest ++ x) y o.is_head i split in
     (u.0, omega (arith, o.long, length-append o.rest x, ap length u.2))
 
 -- where no head begins, no message does
-pub no_head : (known : Option (List ℕ)) → IfSome known (λ xs. (h : Head) (x rest : List ℕ) → xs ≡ x ++ rest → IsHead h x → ⊥) → NoMessage known
+pub no_head : (s : Bool) (known : Option (List ℕ)) → IfSome known (λ xs. (h : Head) (x rest : List ℕ) → xs ≡ x ++ rest → IsHead h x → ⊥) → NoMessage s known
 unfolding NoMessage
-no_head None p = tt
-no_head (Some xs) p = λ m b r e s. let o = opened m b s in p (head_of m) o.head (o.rest ++ r) (e ∙ ap (λ t. t ++ r) o.split ∙ append_assoc o.head o.rest r) o.is_head
+no_head s None p = tt
+no_head s (Some xs) p = λ m b r e t. let o = opened m b t in p (head_of m) o.head (o.rest ++ r) (e ∙ ap (λ t. t ++ r) o.split ∙ append_assoc o.head o.rest r) (any_width s (head_of m) o.head o.is_head)
 
-module _ (P : Msg → Type 0) (room : ℕ) where
-  pub refuses_by : (known k : Option (List ℕ)) (b : List ℕ) → Consumes known k b → ((ys : List ℕ) → k ≡ Some ys → Begins Spells P room (b ++ ys) → ⊥) → Refuses Spells P room known
+-- where a head stands that isn't allowed, no message does
+pub no_wide : (s : Bool) (known k : Option (List ℕ)) (b : List ℕ) (h : Head) → Consumes known k b → IsHead h b → (heads_of s h b → ⊥) → NoMessage s known
+unfolding NoMessage
+no_wide s None k b h t i n = tt
+no_wide s (Some xs) None b h t i n = absurd t
+no_wide s (Some xs) (Some ys) b h t i n = λ m c r e p.
+    let o = opened m c p in
+    let split : o.head ++ (o.rest ++ r) ≡ b ++ ys = sym (append_assoc o.head o.rest r) ∙ ap (λ z. z ++ r) (sym o.split) ∙ sym e ∙ t in
+    let u = heads_apart (head_of m) h o.head b (o.rest ++ r) ys (any_width s (head_of m) o.head o.is_head) i split in
+    n (subst (λ z. heads_of s z b) u.0 (subst (heads_of s (head_of m)) u.1 o.is_head))
+
+module _ (s : Bool) (P : Msg → Type 0) (room : ℕ) where
+  pub refuses_by : (known k : Option (List ℕ)) (b : List ℕ) → Consumes known k b → ((ys : List ℕ) → k ≡ Some ys → Begins (SpellsAs s) P room (b ++ ys) → ⊥) → Refuses (SpellsAs s) P room known
   unfolding Refuses
   refuses_by None k b p q = tt
   refuses_by (Some xs) None b p q = absurd p
-  refuses_by (Some xs) (Some ys) b p q = subst (λ z. Begins Spells P room z → ⊥) (sym p) (q ys refl)
+  refuses_by (Some xs) (Some ys) b p q = subst (λ z. Begins (SpellsAs s) P room z → ⊥) (sym p) (q ys refl)
 
-  pub refuses_none : (known : Option (List ℕ)) → NoMessage known → Refuses Spells P room known
+  pub refuses_none : (known : Option (List ℕ)) → NoMessage s known → Refuses (SpellsAs s) P room known
   unfolding Refuses NoMessage
   refuses_none None p = tt
   refuses_none (Some xs) p = λ a. p a.tree a.bytes a.rest a.front a.spelled
 
   -- a message was there, and it is none of those that are wanted
-  pub refuses_other : (known k : Option (List ℕ)) (b : List ℕ) (m : Msg) → Consumes known k b → Spells b m → (P m → ⊥) → Refuses Spells P room known
-  refuses_other known k b m p s n = refuses_by known k b p (λ ys _ a. n (subst P (spelled_once a.tree m a.bytes b a.rest ys a.spelled s (sym a.front)).1 a.holds))
+  pub refuses_other : (known k : Option (List ℕ)) (b : List ℕ) (m : Msg) → Consumes known k b → SpellsAs s b m → (P m → ⊥) → Refuses (SpellsAs s) P room known
+  refuses_other known k b m p t n = refuses_by known k b p (λ ys _ a. n (subst P (spelled_once_as s a.tree m a.bytes b a.rest ys a.spelled t (sym a.front)).1 a.holds))
 
   -- a head was there, and it opens none of those that are wanted
-  pub refuses_head : (known k : Option (List ℕ)) (b : List ℕ) (h : Head) → Consumes known k b → IsHead h b → ((m : Msg) → P m → head_of m ≡ h → ⊥) → Refuses Spells P room known
-  refuses_head known k b h p i n = refuses_by known k b p (λ ys _ a. n a.tree a.holds (same_head a.tree h a.bytes b a.rest ys a.spelled i (sym a.front)).0)
+  pub refuses_head : (known k : Option (List ℕ)) (b : List ℕ) (h : Head) → Consumes known k b → heads_of s h b → ((m : Msg) → P m → head_of m ≡ h → ⊥) → Refuses (SpellsAs s) P room known
+  refuses_head known k b h p i n = refuses_by known k b p (λ ys _ a. n a.tree a.holds (same_head _ a.tree h a.bytes b a.rest ys a.spelled i (sym a.front)).0)
 
   -- fewer bytes stand behind the head than each of those that are wanted has there
-  pub refuses_short : (n : ℕ) (known k : Option (List ℕ)) (b : List ℕ) (h : Head) → Consumes known k b → IsHead h b → IsShort n k → ((m : Msg) → P m → head_of m ≡ h → n ≤ length (content_of m)) → Refuses Spells P room known
-  refuses_short n known k b h p i s f = refuses_by known k b p (λ ys e a.
-      let u = same_head a.tree h a.bytes b a.rest ys a.spelled i (sym a.front) in
-      let short : length ys < n = rw e at s in
+  pub refuses_short : (n : ℕ) (known k : Option (List ℕ)) (b : List ℕ) (h : Head) → Consumes known k b → heads_of s h b → IsShort n k → ((m : Msg) → P m → head_of m ≡ h → n ≤ length (content_of m)) → Refuses (SpellsAs s) P room known
+  refuses_short n known k b h p i l f = refuses_by known k b p (λ ys e a.
+      let u = same_head _ a.tree h a.bytes b a.rest ys a.spelled i (sym a.front) in
+      let short : length ys < n = rw e at l in
       let long = f a.tree a.holds u.0 in
       let most = u.1 in
       omega arith)

@@ -3,9 +3,9 @@ use Rattle.std.proofs.Common.{◌≡◌, ◌∙◌, sym, ap, subst, refl, ℕ, s
 use Rattle.std.proofs.KnownBytes.{Consumes-nil, Consumes-trans}
 use Rattle.rmp_wire.specs.declared.source.Source.{Ghosts}
 use Rattle.rmp_wire.specs.Msg.{Msg, Msgs, no_items, item, count}
-use Rattle.rmp_wire.specs.Spelling.{Spells}
+use Rattle.rmp_wire.specs.Canonical.{SpellsAs}
 use Rattle.rmp_decode.specs.Law.{Refuses, Readable, Explains, Lawful}
-use Rattle.rmp_decode.specs.Seq.{OfRow, IsSeq, SpellsIn, RefusesRow, inner_of, IsOpen, Opens, FailsToOpen, TakesElement, FailsToTake, FailsElement, Run, FailsParts}
+use Rattle.rmp_decode.specs.Seq.{OfRow, IsSeq, SpellsIn, SpellsRow, RefusesRow, inner_of, IsOpen, Opens, FailsToOpen, TakesElement, FailsToTake, FailsElement, Run, FailsParts}
 use Rattle.rmp_decode.specs.State.{left, faults_of, room_of, kept_bytes, Stays}
 use Rattle.rmp_decode.specs.Rows.{ReadsEach, AndThen, NoMore}
 use Rattle.rmp_decode.specs.declared.de.Deserializer.{Deserializer}
@@ -28,6 +28,7 @@ run_start g s o = record {
   fits = omega arith;
   many = omega arith;
   same_reference = refl;
+  count_same = refl;
   inner = refl;
   bytes_same = refl;
   stays = stays_refl g s.de.now;
@@ -41,10 +42,11 @@ run_step g reads start mid now ms v r t n =
     record {
       bytes = r.bytes ++ t.bytes;
       takes = Consumes-trans _ _ _ r.bytes t.bytes r.takes t.takes;
-      spelled = row-push (SpellsIn start.bytes) ms t.tree r.bytes t.bytes r.spelled (subst (λ z. SpellsIn z t.bytes t.tree) r.bytes_same t.spelled);
+      spelled = row-push (SpellsIn start.de.now.strict start.bytes) ms t.tree r.bytes t.bytes r.spelled (subst (λ z. SpellsIn z start.bytes t.bytes t.tree) r.stays.strict (subst (λ z. SpellsIn mid.de.now.strict z t.bytes t.tree) r.bytes_same t.spelled));
       fits = depth-push ms t.tree (inner_of start) r.fits (omega (arith, room, t.fits));
       many = omega (arith, count-push ms t.tree, r.many, t.fewer);
       same_reference = n ∙ r.same_reference;
+      count_same = t.count ∙ r.count_same;
       inner = t.inner ∙ r.inner;
       bytes_same = t.bytes_same ∙ r.bytes_same;
       stays = stays_then g start.de.now mid.de.now now.de.now r.stays t.stays;
@@ -62,7 +64,7 @@ module _ {R C V : Type 0} (g : Ghosts R) (Q : V → Msgs → Type 0) (old : Dese
     failed = f.failed;
     before = f.before;
     stays = f.stays;
-    err = λ o n k. refuses_narrower Spells IsSeq _ _ _ (is_seq Q) (f.err o n k);
+    err = λ o n k. refuses_narrower (SpellsAs old.strict) IsSeq _ _ _ (is_seq Q) (f.err o n k);
   }
 
   module _ (start mid : SeqAccess R C) (ms : Msgs) (o : Opens g old start) (r : Run g start mid ms) (last : Deserializer R C) where
@@ -70,7 +72,7 @@ module _ {R C V : Type 0} (g : Ghosts R) (Q : V → Msgs → Type 0) (old : Dese
     pub seq_done : (v : V) → Q v ms → mid.left ≡ 0 → last ≡ record mid.de.now { failed = false } → Lawful g (λ m v. OfRow (Q v) m) old last (Ok v)
     seq_done v q z e =
         let many : count ms ≡ start.left = omega (arith, r.many) in
-        let w = whole_row start.bytes (Q v) ms start.left o.head.bytes r.bytes o.head.is_head r.spelled many q in
+        let w = whole_row old.strict start.bytes (Q v) ms start.left o.head.bytes r.bytes o.head.is_head (subst (λ z. SpellsRow (SpellsIn z start.bytes) r.bytes ms) o.stays.strict r.spelled) many q in
         rw e (record {
           ok = record {
             bytes = o.head.bytes ++ r.bytes;
@@ -87,12 +89,12 @@ module _ {R C V : Type 0} (g : Ghosts R) (Q : V → Msgs → Type 0) (old : Dese
           err = λ _. tt;
           failed = tt;
           before = λ h. absurd (let f = o.fresh in cc);
-          stays = record { config = r.stays.config ∙ o.stays.config; room = r.stays.room ∙ o.stays.room; place = r.stays.place ∙ o.stays.place };
+          stays = record { config = r.stays.config ∙ o.stays.config; room = r.stays.room ∙ o.stays.room; strict = r.stays.strict ∙ o.stays.strict; place = r.stays.place ∙ o.stays.place };
         })
 
     -- none of the elements that are to come would do
     pub seq_refused : (e : Error) → Stays g mid.de.now last → last.failed ≡ true
-        → Explains e (faults_of g mid.de.now) (faults_of g last) (RefusesRow (SpellsIn start.bytes) (λ ks. (v : V) × Q v (append ms ks)) (inner_of start) mid.left (left g mid.de.now)) → Lawful g (λ m v. OfRow (Q v) m) old last (Err e)
+        → Explains e (faults_of g mid.de.now) (faults_of g last) (RefusesRow (SpellsIn start.de.now.strict start.bytes) (λ ks. (v : V) × Q v (append ms ks)) (inner_of start) mid.left (left g mid.de.now)) → Lawful g (λ m v. OfRow (Q v) m) old last (Err e)
     seq_refused e s f x = record {
       ok = tt;
       ready = tt;
@@ -103,9 +105,10 @@ module _ {R C V : Type 0} (g : Ghosts R) (Q : V → Msgs → Type 0) (old : Dese
       before = λ h. absurd (let p = o.fresh in cc);
       err = λ _ n k.
           let rest = x n (k ∙ sym o.faults_same ∙ sym r.faults_same) in
-          let row = rest_refused start.bytes (λ ks. (v : V) × Q v ks) (inner_of start) mid.left start.left (left g start.de.now) (left g mid.de.now) ms r.bytes r.takes r.spelled r.many rest in
-          refuses_narrower Spells (OfRow (λ ks. (v : V) × Q v ks)) _ _ _ (readable_row Q)
-          (row_whole start.bytes (λ ks. (v : V) × Q v ks) (room_of old) (inner_of start) start.left (left g old) (left g start.de.now) o.head.bytes o.head.takes o.head.is_head o.room (omega arith) row);
+          let row = rest_refused start.de.now.strict start.bytes (λ ks. (v : V) × Q v ks) (inner_of start) mid.left start.left (left g start.de.now) (left g mid.de.now) ms r.bytes r.takes r.spelled r.many rest in
+          refuses_narrower (SpellsAs old.strict) (OfRow (λ ks. (v : V) × Q v ks)) _ _ _ (readable_row Q)
+          (row_whole old.strict start.bytes (λ ks. (v : V) × Q v ks) (room_of old) (inner_of start) start.left (left g old) (left g start.de.now) o.head.bytes o.head.takes o.head.is_head o.room (omega arith)
+          (subst (λ z. RefusesRow (SpellsIn z start.bytes) (λ ks. (v : V) × Q v ks) (inner_of start) start.left (left g start.de.now)) o.stays.strict row));
     }
 
     -- memory was short
@@ -128,12 +131,13 @@ module _ {R C V : Type 0} (g : Ghosts R) (Q : V → Msgs → Type 0) (old : Dese
     pub seq_element : {A : Type 0} (reads : Msg → A → Type 0) (now : SeqAccess R C) (e : Error) → FailsElement g reads mid now e → now.de.now.failed ≡ true → last ≡ now.de.now
         → ((m : Msg) (ks : Msgs) (v : V) → Q v (append ms (item m ks)) → Readable reads m) → ((v : V) → Q v (append ms no_items) → ⊥) → Lawful g (λ m v. OfRow (Q v) m) old last (Err e)
     seq_element reads now e f d q proj some = seq_refused e (rw q f.stays) (ap (λ (z : Deserializer R C). z.failed) q ∙ d) (λ n k. elim f.err [
-      | inl z ↦ count_refused (SpellsIn start.bytes) (λ ks. (v : V) × Q v (append ms ks)) (inner_of start) mid.left (left g mid.de.now) (none_left some z)
+      | inl z ↦ count_refused (SpellsIn start.de.now.strict start.bytes) (λ ks. (v : V) × Q v (append ms ks)) (inner_of start) mid.left (left g mid.de.now) (none_left some z)
       | inr p ↦
           let r0 = p.1 n (ap (faults_of g) (sym q) ∙ k) in
-          let r1 = subst (λ z. Refuses (SpellsIn z) (Readable reads) (inner_of mid) (left g mid.de.now)) r.bytes_same r0 in
-          let r2 = subst (λ z. Refuses (SpellsIn start.bytes) (Readable reads) (max 1 z) (left g mid.de.now)) r.inner r1 in
-          element_refused (SpellsIn start.bytes) (λ ks. (v : V) × Q v (append ms ks)) (Readable reads) (inner_of start) mid.left (left g mid.de.now) p.0 (λ m ks h. proj m ks h.0 h.1) r2
+          let rs = subst (λ z. Refuses (SpellsIn z mid.bytes) (Readable reads) (inner_of mid) (left g mid.de.now)) r.stays.strict r0 in
+          let r1 = subst (λ z. Refuses (SpellsIn start.de.now.strict z) (Readable reads) (inner_of mid) (left g mid.de.now)) r.bytes_same rs in
+          let r2 = subst (λ z. Refuses (SpellsIn start.de.now.strict start.bytes) (Readable reads) (max 1 z) (left g mid.de.now)) r.inner r1 in
+          element_refused (SpellsIn start.de.now.strict start.bytes) (λ ks. (v : V) × Q v (append ms ks)) (Readable reads) (inner_of start) mid.left (left g mid.de.now) p.0 (λ m ks h. proj m ks h.0 h.1) r2
     ])
       where
         none_left : ((v : V) → Q v (append ms no_items) → ⊥) → mid.left ≡ 0 → (ks : Msgs) → (v : V) × Q v (append ms ks) → count ks ≡ mid.left → ⊥
@@ -145,13 +149,14 @@ module _ {R C V : Type 0} (g : Ghosts R) (Q : V → Msgs → Type 0) (old : Dese
         → ((m : Msg) (ks : Msgs) (v : V) → Q v (append ms (item m ks)) → Readable reads m) → Lawful g (λ m v. OfRow (Q v) m) old last (Err e)
     seq_take reads now e f d q proj = seq_refused e (rw q f.stays) (ap (λ (z : Deserializer R C). z.failed) q ∙ d) (λ n k.
         let r0 = f.err n (ap (faults_of g) (sym q) ∙ k) in
-        let r1 = subst (λ z. Refuses (SpellsIn z) (Readable reads) (inner_of mid) (left g mid.de.now)) r.bytes_same r0 in
-        let r2 = subst (λ z. Refuses (SpellsIn start.bytes) (Readable reads) (max 1 z) (left g mid.de.now)) r.inner r1 in
-        element_refused (SpellsIn start.bytes) (λ ks. (v : V) × Q v (append ms ks)) (Readable reads) (inner_of start) mid.left (left g mid.de.now) f.some (λ m ks h. proj m ks h.0 h.1) r2)
+        let rs = subst (λ z. Refuses (SpellsIn z mid.bytes) (Readable reads) (inner_of mid) (left g mid.de.now)) r.stays.strict r0 in
+        let r1 = subst (λ z. Refuses (SpellsIn start.de.now.strict z) (Readable reads) (inner_of mid) (left g mid.de.now)) r.bytes_same rs in
+        let r2 = subst (λ z. Refuses (SpellsIn start.de.now.strict start.bytes) (Readable reads) (max 1 z) (left g mid.de.now)) r.inner r1 in
+        element_refused (SpellsIn start.de.now.strict start.bytes) (λ ks. (v : V) × Q v (append ms ks)) (Readable reads) (inner_of start) mid.left (left g mid.de.now) f.some (λ m ks h. proj m ks h.0 h.1) r2)
 
     -- there are more elements than are wanted
     pub seq_more : (e : Error) → 0 < mid.left → last ≡ mid.de.now → ((m : Msg) (ks : Msgs) (v : V) → Q v (append ms (item m ks)) → ⊥) → Lawful g (λ m v. OfRow (Q v) m) old last (Err e)
-    seq_more e l q f = seq_refused e (rw q (stays_refl g mid.de.now)) (ap (λ (z : Deserializer R C). z.failed) q ∙ r.still.marked) (λ n k. count_refused (SpellsIn start.bytes) (λ ks. (v : V) × Q v (append ms ks)) (inner_of start) mid.left (left g mid.de.now) (too_many l f))
+    seq_more e l q f = seq_refused e (rw q (stays_refl g mid.de.now)) (ap (λ (z : Deserializer R C). z.failed) q ∙ r.still.marked) (λ n k. count_refused (SpellsIn start.de.now.strict start.bytes) (λ ks. (v : V) × Q v (append ms ks)) (inner_of start) mid.left (left g mid.de.now) (too_many l f))
       where
         too_many : 0 < mid.left → ((m : Msg) (ks : Msgs) (v : V) → Q v (append ms (item m ks)) → ⊥) → (ks : Msgs) → (v : V) × Q v (append ms ks) → count ks ≡ mid.left → ⊥
         too_many l f no_items h c = omega arith
@@ -161,23 +166,24 @@ module _ {R C V : Type 0} (g : Ghosts R) (Q : V → Msgs → Type 0) (old : Dese
 
 module _ {R C V : Type 0} (g : Ghosts R) (Q : V → Msgs → Type 0) (start mid : SeqAccess R C) (ms : Msgs) (r : Run g start mid ms) where
   pub parts_refused : (now : SeqAccess R C) (e : Error) → Stays g mid.de.now now.de.now → now.de.now.failed ≡ true
-      → Explains e (faults_of g mid.de.now) (faults_of g now.de.now) (RefusesRow (SpellsIn start.bytes) (λ ks. (v : V) × Q v (append ms ks)) (inner_of start) mid.left (left g mid.de.now)) → FailsParts g Q start now e
+      → Explains e (faults_of g mid.de.now) (faults_of g now.de.now) (RefusesRow (SpellsIn start.de.now.strict start.bytes) (λ ks. (v : V) × Q v (append ms ks)) (inner_of start) mid.left (left g mid.de.now)) → FailsParts g Q start now e
   parts_refused now e s f x = record {
     stays = stays_then g start.de.now mid.de.now now.de.now r.stays s;
     failed = f;
-    err = λ n k. rest_refused start.bytes (λ ks. (v : V) × Q v ks) (inner_of start) mid.left start.left (left g start.de.now) (left g mid.de.now) ms r.bytes r.takes r.spelled r.many (x n (k ∙ sym r.faults_same));
+    err = λ n k. rest_refused start.de.now.strict start.bytes (λ ks. (v : V) × Q v ks) (inner_of start) mid.left start.left (left g start.de.now) (left g mid.de.now) ms r.bytes r.takes r.spelled r.many (x n (k ∙ sym r.faults_same));
   }
 
   -- there was no element that would do, or none at all
   pub parts_element : {A : Type 0} (reads : Msg → A → Type 0) (now : SeqAccess R C) (e : Error) → FailsElement g reads mid now e → now.de.now.failed ≡ true
       → ((m : Msg) (ks : Msgs) (v : V) → Q v (append ms (item m ks)) → Readable reads m) → ((v : V) → Q v (append ms no_items) → ⊥) → FailsParts g Q start now e
   parts_element reads now e f d proj some = parts_refused now e f.stays d (λ n k. elim f.err [
-    | inl z ↦ count_refused (SpellsIn start.bytes) (λ ks. (v : V) × Q v (append ms ks)) (inner_of start) mid.left (left g mid.de.now) (none_left some z)
+    | inl z ↦ count_refused (SpellsIn start.de.now.strict start.bytes) (λ ks. (v : V) × Q v (append ms ks)) (inner_of start) mid.left (left g mid.de.now) (none_left some z)
     | inr p ↦
         let r0 = p.1 n k in
-        let r1 = subst (λ z. Refuses (SpellsIn z) (Readable reads) (inner_of mid) (left g mid.de.now)) r.bytes_same r0 in
-        let r2 = subst (λ z. Refuses (SpellsIn start.bytes) (Readable reads) (max 1 z) (left g mid.de.now)) r.inner r1 in
-        element_refused (SpellsIn start.bytes) (λ ks. (v : V) × Q v (append ms ks)) (Readable reads) (inner_of start) mid.left (left g mid.de.now) p.0 (λ m ks h. proj m ks h.0 h.1) r2
+        let rs = subst (λ z. Refuses (SpellsIn z mid.bytes) (Readable reads) (inner_of mid) (left g mid.de.now)) r.stays.strict r0 in
+        let r1 = subst (λ z. Refuses (SpellsIn start.de.now.strict z) (Readable reads) (inner_of mid) (left g mid.de.now)) r.bytes_same rs in
+        let r2 = subst (λ z. Refuses (SpellsIn start.de.now.strict start.bytes) (Readable reads) (max 1 z) (left g mid.de.now)) r.inner r1 in
+        element_refused (SpellsIn start.de.now.strict start.bytes) (λ ks. (v : V) × Q v (append ms ks)) (Readable reads) (inner_of start) mid.left (left g mid.de.now) p.0 (λ m ks h. proj m ks h.0 h.1) r2
   ])
     where
       none_left : ((v : V) → Q v (append ms no_items) → ⊥) → mid.left ≡ 0 → (ks : Msgs) → (v : V) × Q v (append ms ks) → count ks ≡ mid.left → ⊥

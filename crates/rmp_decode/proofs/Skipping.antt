@@ -1,21 +1,21 @@
 -- What passing over a message says.
-use Rattle.std.proofs.Common.{◌≡◌, ◌∙◌, sym, ap, subst, refl, ℕ, zero, suc, ◌+◌, ◌-◌, ◌*◌, ◌<◌, ◌≤◌, max, arith, List, [], ◌∷◌, ◌++◌, length, Option, None, Some, Bool, true, false, Result, Ok, Err, append_assoc}
+use Rattle.std.proofs.Common.{◌≡◌, ◌∙◌, sym, ap, subst, refl, ℕ, zero, suc, ◌-◌, ◌*◌, ◌<◌, ◌≤◌, max, arith, List, [], ◌∷◌, ◌++◌, length, Option, None, Some, Bool, true, false, Result, Ok, Err, append_assoc}
 use Rattle.std.proofs.lemmas.List.{append-nil}
 use Rattle.std.specs.Io.KnownBytes.{Consumes}
-use Rattle.std.proofs.KnownBytes.{Consumes-nil, Consumes-trans}
+use Rattle.std.proofs.KnownBytes.{Consumes-trans}
 use Rattle.rmp_wire.specs.declared.head.Head.{Head}
 use Rattle.rmp_wire.specs.declared.head.Head.TheVariants.{Nil, Truth, Whole, F32Bits, F64Bits, Text, Bin, Array, Map, Ext}
 use Rattle.rmp_wire.specs.declared.marker.Marker.{Marker}
 use Rattle.rmp_wire.specs.declared.source.Source.{Ghosts}
-use Rattle.rmp_wire.specs.Heads.{IsHead}
+use Rattle.rmp_wire.specs.Canonical.{heads_of, SpellsAs}
 use Rattle.rmp_wire.specs.Msg.{Msg, nil, truth, whole, float32, float64, text, bin, list, map, extension, Msgs, no_items, item, Pairs, no_pairs, pair, count, count_pairs, depth, depth_all, depth_pairs}
 use Rattle.rmp_wire.specs.Sources.{IsShort}
-use Rattle.rmp_wire.specs.Spelling.{Spells, SpellsPairs, IsBytes, head_of}
-use Rattle.rmp_wire.proofs.Heads.{heads_apart}
+use Rattle.rmp_wire.specs.Spelling.{PairsSpelledBy, IsBytes, head_of}
+use Rattle.rmp_wire.proofs.Strict.{heads_apart_as}
 use Rattle.rmp_decode.specs.Kinds.{content_len}
 use Rattle.rmp_decode.specs.Law.{Refuses, Readable, Explains, Lawful, ReadsHead}
 use Rattle.rmp_decode.specs.Seq.{SpellsRow, BeginsRow, RefusesRow}
-use Rattle.rmp_decode.specs.Skip.{any_tree, any_row, parts_head, parts_count, Passes, PassesRow, SkipsRow}
+use Rattle.rmp_decode.specs.Skip.{any_tree, any_row, parts_head, parts_count, Passes, SkipsRow}
 use Rattle.rmp_decode.specs.State.{left, faults_of, room_of, kept_bytes, Stays}
 use Rattle.rmp_decode.specs.declared.de.Deserializer.{Deserializer}
 use Rattle.rmp_decode.specs.declared.de.Kept.TheVariants.{Nothing}
@@ -23,12 +23,12 @@ use Rattle.rmp_decode.specs.declared.error.Error.{Error}
 use Rattle.rmp_decode.proofs.Contents.{bare}
 use Rattle.rmp_decode.proofs.Laws.{refused, stays_then, stays_refl}
 use Rattle.rmp_decode.proofs.Refusals.{content_of, refuses_short, refuses_by, same_head}
-use Rattle.rmp_decode.proofs.Rows.{push, append, count-push, depth-push, row-push, rest_refused, element_refused, in_list, listed}
+use Rattle.rmp_decode.proofs.Rows.{in_list, listed}
 
 -- ---- leaves
 
 -- the message that is a leaf's head and content
-abbrev leaf_of : Head → List ℕ → Msg
+abbrev pub leaf_of : Head → List ℕ → Msg
 leaf_of Nil s = nil
 leaf_of (Truth t) s = truth t
 leaf_of (Whole z) s = whole z
@@ -40,7 +40,7 @@ leaf_of (Array n) s = nil
 leaf_of (Map n) s = nil
 leaf_of (Ext n tag) s = extension tag s
 
-leaf_flat : (h : Head) (s : List ℕ) → depth (leaf_of h s) ≡ 0
+pub leaf_flat : (h : Head) (s : List ℕ) → depth (leaf_of h s) ≡ 0
 leaf_flat Nil s = refl
 leaf_flat (Truth t) s = refl
 leaf_flat (Whole z) s = refl
@@ -56,22 +56,22 @@ no_bytes : (s : List ℕ) → length s ≡ 0 → s ≡ []
 no_bytes [] e = refl
 no_bytes (b ∷ s) e = absurd (omega arith)
 
-alone : (h : Head) (b s : List ℕ) → IsHead h b → length s ≡ 0 → IsHead h (b ++ s)
-alone h b s i l = subst (IsHead h) (sym (append-nil b) ∙ ap (λ z. b ++ z) (sym (no_bytes s l))) i
+alone : (w : Bool) (h : Head) (b s : List ℕ) → heads_of w h b → length s ≡ 0 → heads_of w h (b ++ s)
+alone w h b s i l = subst (heads_of w h) (sym (append-nil b) ∙ ap (λ z. b ++ z) (sym (no_bytes s l))) i
 
-leaf_spelled : (h : Head) (b s : List ℕ) → ((p : Bool × ℕ) → h ≡ parts_head p.0 p.1 → ⊥) → IsHead h b → length s ≡ content_len h → IsBytes s → Spells (b ++ s) (leaf_of h s)
-leaf_spelled Nil b s n i l a = alone Nil b s i l
-leaf_spelled (Truth t) b s n i l a = alone (Truth t) b s i l
-leaf_spelled (Whole z) b s n i l a = alone (Whole z) b s i l
-leaf_spelled (F32Bits k) b s n i l a = alone (F32Bits k) b s i l
-leaf_spelled (F64Bits k) b s n i l a = alone (F64Bits k) b s i l
-leaf_spelled (Text k) b s n i l a = record { first = b; second = s; is_first = subst (λ z. IsHead (Text z) b) (sym l) i; is_second = (refl, a); is_whole = refl }
-leaf_spelled (Bin k) b s n i l a = record { first = b; second = s; is_first = subst (λ z. IsHead (Bin z) b) (sym l) i; is_second = (refl, a); is_whole = refl }
-leaf_spelled (Array k) b s n i l a = absurd (n (false, k) refl)
-leaf_spelled (Map k) b s n i l a = absurd (n (true, k) refl)
-leaf_spelled (Ext k tag) b s n i l a = record { first = b; second = s; is_first = subst (λ z. IsHead (Ext z tag) b) (sym l) i; is_second = (refl, a); is_whole = refl }
+pub leaf_spelled : (w : Bool) (h : Head) (b s : List ℕ) → ((p : Bool × ℕ) → h ≡ parts_head p.0 p.1 → ⊥) → heads_of w h b → length s ≡ content_len h → IsBytes s → SpellsAs w (b ++ s) (leaf_of h s)
+leaf_spelled w Nil b s n i l a = alone w Nil b s i l
+leaf_spelled w (Truth t) b s n i l a = alone w (Truth t) b s i l
+leaf_spelled w (Whole z) b s n i l a = alone w (Whole z) b s i l
+leaf_spelled w (F32Bits k) b s n i l a = alone w (F32Bits k) b s i l
+leaf_spelled w (F64Bits k) b s n i l a = alone w (F64Bits k) b s i l
+leaf_spelled w (Text k) b s n i l a = record { first = b; second = s; is_first = subst (λ z. heads_of w (Text z) b) (sym l) i; is_second = (refl, a); is_whole = refl }
+leaf_spelled w (Bin k) b s n i l a = record { first = b; second = s; is_first = subst (λ z. heads_of w (Bin z) b) (sym l) i; is_second = (refl, a); is_whole = refl }
+leaf_spelled w (Array k) b s n i l a = absurd (n (false, k) refl)
+leaf_spelled w (Map k) b s n i l a = absurd (n (true, k) refl)
+leaf_spelled w (Ext k tag) b s n i l a = record { first = b; second = s; is_first = subst (λ z. heads_of w (Ext z tag) b) (sym l) i; is_second = (refl, a); is_whole = refl }
 
-content_fills : (m : Msg) → content_len (head_of m) ≤ length (content_of m)
+pub content_fills : (m : Msg) → content_len (head_of m) ≤ length (content_of m)
 content_fills nil = omega arith
 content_fills (truth t) = omega arith
 content_fills (whole z) = omega arith
@@ -86,41 +86,41 @@ content_fills (extension tag s) = omega arith
 -- ---- lists and maps as rows
 
 -- keys and values in turn
-abbrev in_turn : Pairs → Msgs
+abbrev pub in_turn : Pairs → Msgs
 in_turn no_pairs = no_items
 in_turn (pair k v ps) = item k (item v (in_turn ps))
 
-count-in_turn : (ps : Pairs) → count (in_turn ps) ≡ 2 * count_pairs ps
+pub count-in_turn : (ps : Pairs) → count (in_turn ps) ≡ 2 * count_pairs ps
 count-in_turn no_pairs = refl
 count-in_turn (pair k v ps) = let i = count-in_turn ps in omega arith
 
-depth-in_turn : (ps : Pairs) → depth_all (in_turn ps) ≡ depth_pairs ps
+pub depth-in_turn : (ps : Pairs) → depth_all (in_turn ps) ≡ depth_pairs ps
 depth-in_turn no_pairs = refl
 depth-in_turn (pair k v ps) = let i = depth-in_turn ps in omega arith
 
-turned : (ps : Pairs) (b : List ℕ) → SpellsPairs b ps → SpellsRow Spells b (in_turn ps)
-turned no_pairs b s = s
-turned (pair k v ps) b s = record {
+pub turned : (w : Bool) (ps : Pairs) (b : List ℕ) → PairsSpelledBy (heads_of w) b ps → SpellsRow (SpellsAs w) b (in_turn ps)
+turned w no_pairs b s = s
+turned w (pair k v ps) b s = record {
   first = s.first;
   second = s.second;
   is_first = s.is_first;
-  is_second = record { first = s.is_second.first; second = s.is_second.second; is_first = s.is_second.is_first; is_second = turned ps s.is_second.second s.is_second.is_second; is_whole = s.is_second.is_whole };
+  is_second = record { first = s.is_second.first; second = s.is_second.second; is_first = s.is_second.is_first; is_second = turned w ps s.is_second.second s.is_second.is_second; is_whole = s.is_second.is_whole };
   is_whole = s.is_whole;
 }
 
 -- an even row is that of some pairs
-record Paired (ms : Msgs) (n : ℕ) (b : List ℕ) : Type 0 where
+pub record Paired (w : Bool) (ms : Msgs) (n : ℕ) (b : List ℕ) : Type 0 where
   pub pairs : Pairs
   pub is : ms ≡ in_turn pairs
   pub many : count_pairs pairs ≡ n
-  pub spelled : SpellsPairs b pairs
+  pub spelled : PairsSpelledBy (heads_of w) b pairs
 
-paired : (ms : Msgs) (n : ℕ) (b : List ℕ) → count ms ≡ 2 * n → SpellsRow Spells b ms → Paired ms n b
-paired no_items n b c s = record { pairs = no_pairs; is = refl; many = omega arith; spelled = s }
-paired (item k no_items) n b c s = absurd (omega arith)
-paired (item k (item v ms)) zero b c s = absurd (omega arith)
-paired (item k (item v ms)) (suc n) b c s =
-    let r = paired ms n s.is_second.second (omega arith) s.is_second.is_second in
+pub paired : (w : Bool) (ms : Msgs) (n : ℕ) (b : List ℕ) → count ms ≡ 2 * n → SpellsRow (SpellsAs w) b ms → Paired w ms n b
+paired w no_items n b c s = record { pairs = no_pairs; is = refl; many = omega arith; spelled = s }
+paired w (item k no_items) n b c s = absurd (omega arith)
+paired w (item k (item v ms)) zero b c s = absurd (omega arith)
+paired w (item k (item v ms)) (suc n) b c s =
+    let r = paired w ms n s.is_second.second (omega arith) s.is_second.is_second in
     record {
       pairs = pair k v r.pairs;
       is = ap (λ z. item k (item v z)) r.is;
@@ -135,66 +135,66 @@ paired (item k (item v ms)) (suc n) b c s =
     }
 
 -- a list or a map, from its head and its parts
-record Nest (ms : Msgs) (bytes : List ℕ) : Type 0 where
+pub record Nest (w : Bool) (ms : Msgs) (bytes : List ℕ) : Type 0 where
   pub tree : Msg
-  pub spelled : Spells bytes tree
+  pub spelled : SpellsAs w bytes tree
   pub deep : depth tree ≡ suc (depth_all ms)
 
-nest_of : (is_map : Bool) (n : ℕ) (ms : Msgs) (head bytes : List ℕ) → IsHead (parts_head is_map n) head → SpellsRow Spells bytes ms → count ms ≡ parts_count is_map n → Nest ms (head ++ bytes)
-nest_of true n ms head bytes i s c =
-    let p = paired ms n bytes c s in
+pub nest_of : (w is_map : Bool) (n : ℕ) (ms : Msgs) (head bytes : List ℕ) → heads_of w (parts_head is_map n) head → SpellsRow (SpellsAs w) bytes ms → count ms ≡ parts_count is_map n → Nest w ms (head ++ bytes)
+nest_of w true n ms head bytes i s c =
+    let p = paired w ms n bytes c s in
     record {
       tree = map p.pairs;
-      spelled = record { first = head; second = bytes; is_first = subst (λ z. IsHead (Map z) head) (sym p.many) i; is_second = p.spelled; is_whole = refl };
+      spelled = record { first = head; second = bytes; is_first = subst (λ z. heads_of w (Map z) head) (sym p.many) i; is_second = p.spelled; is_whole = refl };
       deep = ap suc (sym (depth-in_turn p.pairs) ∙ ap depth_all (sym p.is));
     }
-nest_of false n ms head bytes i s c =
-    record { tree = list ms; spelled = record { first = head; second = bytes; is_first = subst (λ z. IsHead (Array z) head) (sym c) i; is_second = in_list ms bytes s; is_whole = refl }; deep = refl }
+nest_of w false n ms head bytes i s c =
+    record { tree = list ms; spelled = record { first = head; second = bytes; is_first = subst (λ z. heads_of w (Array z) head) (sym c) i; is_second = in_list w ms bytes s; is_whole = refl }; deep = refl }
 
-parts_of : (is_map : Bool) (m : Msg) (n room : ℕ) (a x y : List ℕ) → Spells a m → head_of m ≡ parts_head is_map n → depth m < room → ((d c : List ℕ) → a ≡ d ++ c → IsHead (head_of m) d → c ++ x ≡ y) → BeginsRow Spells any_row (room - 1) (parts_count is_map n) y
-parts_of true nil n room a x y s e d f = absurd (cc)
-parts_of true (truth t) n room a x y s e d f = absurd (cc)
-parts_of true (whole z) n room a x y s e d f = absurd (cc)
-parts_of true (float32 k) n room a x y s e d f = absurd (cc)
-parts_of true (float64 k) n room a x y s e d f = absurd (cc)
-parts_of true (text t) n room a x y s e d f = absurd (cc)
-parts_of true (bin t) n room a x y s e d f = absurd (cc)
-parts_of true (list ms) n room a x y s e d f = absurd (cc)
-parts_of true (map ps) n room a x y s e d f =
+parts_of : (w is_map : Bool) (m : Msg) (n room : ℕ) (a x y : List ℕ) → SpellsAs w a m → head_of m ≡ parts_head is_map n → depth m < room → ((d c : List ℕ) → a ≡ d ++ c → heads_of w (head_of m) d → c ++ x ≡ y) → BeginsRow (SpellsAs w) any_row (room - 1) (parts_count is_map n) y
+parts_of w true nil n room a x y s e d f = absurd (cc)
+parts_of w true (truth t) n room a x y s e d f = absurd (cc)
+parts_of w true (whole z) n room a x y s e d f = absurd (cc)
+parts_of w true (float32 k) n room a x y s e d f = absurd (cc)
+parts_of w true (float64 k) n room a x y s e d f = absurd (cc)
+parts_of w true (text t) n room a x y s e d f = absurd (cc)
+parts_of w true (bin t) n room a x y s e d f = absurd (cc)
+parts_of w true (list ms) n room a x y s e d f = absurd (cc)
+parts_of w true (map ps) n room a x y s e d f =
     let same : count_pairs ps ≡ n = cc in
     record {
       bytes = s.second;
       rest = x;
       trees = in_turn ps;
       front = sym (f s.first s.second s.is_whole s.is_first);
-      spelled = turned ps s.second s.is_second;
+      spelled = turned w ps s.second s.is_second;
       many = count-in_turn ps ∙ ap (λ z. 2 * z) same;
       fits = omega (arith, depth-in_turn ps, d);
       holds = tt;
     }
-parts_of true (extension tag t) n room a x y s e d f = absurd (cc)
-parts_of false nil n room a x y s e d f = absurd (cc)
-parts_of false (truth t) n room a x y s e d f = absurd (cc)
-parts_of false (whole z) n room a x y s e d f = absurd (cc)
-parts_of false (float32 k) n room a x y s e d f = absurd (cc)
-parts_of false (float64 k) n room a x y s e d f = absurd (cc)
-parts_of false (text t) n room a x y s e d f = absurd (cc)
-parts_of false (bin t) n room a x y s e d f = absurd (cc)
-parts_of false (list ms) n room a x y s e d f =
+parts_of w true (extension tag t) n room a x y s e d f = absurd (cc)
+parts_of w false nil n room a x y s e d f = absurd (cc)
+parts_of w false (truth t) n room a x y s e d f = absurd (cc)
+parts_of w false (whole z) n room a x y s e d f = absurd (cc)
+parts_of w false (float32 k) n room a x y s e d f = absurd (cc)
+parts_of w false (float64 k) n room a x y s e d f = absurd (cc)
+parts_of w false (text t) n room a x y s e d f = absurd (cc)
+parts_of w false (bin t) n room a x y s e d f = absurd (cc)
+parts_of w false (list ms) n room a x y s e d f =
     let same : count ms ≡ n = cc in
-    record { bytes = s.second; rest = x; trees = ms; front = sym (f s.first s.second s.is_whole s.is_first); spelled = listed ms s.second s.is_second; many = same; fits = omega (arith, d); holds = tt }
-parts_of false (map ps) n room a x y s e d f = absurd (cc)
-parts_of false (extension tag t) n room a x y s e d f = absurd (cc)
+    record { bytes = s.second; rest = x; trees = ms; front = sym (f s.first s.second s.is_whole s.is_first); spelled = listed w ms s.second s.is_second; many = same; fits = omega (arith, d); holds = tt }
+parts_of w false (map ps) n room a x y s e d f = absurd (cc)
+parts_of w false (extension tag t) n room a x y s e d f = absurd (cc)
 
 -- where no row stands behind the head, no message stands before it
-parts_refused : (is_map : Bool) (P : Msg → Type 0) (n room : ℕ) (known k : Option (List ℕ)) (b : List ℕ) → Consumes known k b → IsHead (parts_head is_map n) b → RefusesRow Spells any_row (room - 1) (parts_count is_map n) k → Refuses Spells P room known
+pub parts_refused : (w is_map : Bool) (P : Msg → Type 0) (n room : ℕ) (known k : Option (List ℕ)) (b : List ℕ) → Consumes known k b → heads_of w (parts_head is_map n) b → RefusesRow (SpellsAs w) any_row (room - 1) (parts_count is_map n) k → Refuses (SpellsAs w) P room known
 unfolding RefusesRow
-parts_refused is_map P n room known k b t i r = refuses_by P room known k b t (λ ys e a.
+parts_refused w is_map P n room known k b t i r = refuses_by w P room known k b t (λ ys e a.
     let split : a.bytes ++ a.rest ≡ b ++ ys = sym a.front in
-    let u = same_head a.tree (parts_head is_map n) a.bytes b a.rest ys a.spelled i split in
-    let none : BeginsRow Spells any_row (room - 1) (parts_count is_map n) ys → ⊥ = rw e at r in
-    none (parts_of is_map a.tree n room a.bytes a.rest ys a.spelled u.0 a.fits
-    (λ d c q j. (heads_apart (head_of a.tree) (parts_head is_map n) d b (c ++ a.rest) ys j i (sym (append_assoc d c a.rest) ∙ ap (λ z. z ++ a.rest) (sym q) ∙ split)).2)))
+    let u = same_head _ a.tree (parts_head is_map n) a.bytes b a.rest ys a.spelled i split in
+    let none : BeginsRow (SpellsAs w) any_row (room - 1) (parts_count is_map n) ys → ⊥ = rw e at r in
+    none (parts_of w is_map a.tree n room a.bytes a.rest ys a.spelled u.0 a.fits
+    (λ d c q j. (heads_apart_as w (head_of a.tree) (parts_head is_map n) d b (c ++ a.rest) ys j i (sym (append_assoc d c a.rest) ∙ ap (λ z. z ++ a.rest) (sym q) ∙ split)).2)))
 
 -- ---- the answers
 
@@ -210,7 +210,7 @@ module _ {R C : Type 0} (g : Ghosts R) (old mid new : Deserializer R C) (p : Mar
           tree = leaf_of p.1 c.bytes;
           takes = rw (bare g new clean) (Consumes-trans _ _ _ _ _ first c.taken);
           goes_on = record { more = h.ok.goes_on.more ++ c.bytes; whole = ap (λ z. z ++ c.bytes) h.ok.goes_on.whole ∙ append_assoc (kept_bytes old.kept) h.ok.goes_on.more c.bytes };
-          spelled = leaf_spelled p.1 h.ok.bytes c.bytes n h.ok.is_head c.long c.are_bytes;
+          spelled = leaf_spelled old.strict p.1 h.ok.bytes c.bytes n h.ok.is_head c.long c.are_bytes;
           fits = omega (arith, leaf_flat p.1 c.bytes);
           value = tt;
         };
@@ -227,13 +227,13 @@ module _ {R C : Type 0} (g : Ghosts R) (old mid new : Deserializer R C) (p : Mar
   pub skipped_short : (e : Error) → Explains e (g.faults mid.reader) (g.faults new.reader) (IsShort (content_len p.1) (g.ahead mid.reader)) → new.failed ≡ true → Stays g mid new → Lawful g any_tree old new (Err e)
   skipped_short e x f st = refused g any_tree old new e h.fresh f (stays_then g old mid new h.stays st) (λ o k.
       let s : IsShort (content_len p.1) (left g mid) = rw (bare g mid h.clean) (x o (k ∙ sym h.sound)) in
-      refuses_short (Readable any_tree) _ (content_len p.1) (left g old) (left g mid) h.ok.bytes p.1 h.ok.takes h.ok.is_head s (λ m r q. subst (λ z. content_len z ≤ length (content_of m)) q (content_fills m)))
+      refuses_short _ (Readable any_tree) _ (content_len p.1) (left g old) (left g mid) h.ok.bytes p.1 h.ok.takes h.ok.is_head s (λ m r q. subst (λ z. content_len z ≤ length (content_of m)) q (content_fills m)))
 
   -- a list or a map was passed over
   pub skipped_nest : (is_map : Bool) (n : ℕ) → p.1 ≡ parts_head is_map n → SkipsRow g (room_of mid - 1) (parts_count is_map n) mid new (Ok tt) → Lawful g any_tree old new (Ok tt)
   skipped_nest is_map n i s =
       let r = s.ok in
-      let w = nest_of is_map n r.trees h.ok.bytes r.bytes (subst (λ z. IsHead z h.ok.bytes) i h.ok.is_head) r.spelled r.many in
+      let w = nest_of old.strict is_map n r.trees h.ok.bytes r.bytes (subst (λ z. heads_of old.strict z h.ok.bytes) i h.ok.is_head) (subst (λ z. SpellsRow (SpellsAs z) r.bytes r.trees) h.stays.strict r.spelled) r.many in
       let room : room_of mid ≡ room_of old = ap (λ z. max 1 z) h.stays.room in
       record {
         ok = record {
@@ -258,8 +258,8 @@ module _ {R C : Type 0} (g : Ghosts R) (old mid new : Deserializer R C) (p : Mar
   unskipped_nest is_map n e i s = refused g any_tree old new e h.fresh s.failed (stays_then g old mid new h.stays s.stays) (λ o k.
       let room : room_of mid ≡ room_of old = ap (λ z. max 1 z) h.stays.room in
       let r = s.err o (k ∙ sym h.sound) in
-      parts_refused is_map (Readable any_tree) n (room_of old) (left g old) (left g mid) h.ok.bytes h.ok.takes (subst (λ z. IsHead z h.ok.bytes) i h.ok.is_head)
-      (subst (λ z. RefusesRow Spells any_row (z - 1) (parts_count is_map n) (left g mid)) room r))
+      parts_refused old.strict is_map (Readable any_tree) n (room_of old) (left g old) (left g mid) h.ok.bytes h.ok.takes (subst (λ z. heads_of old.strict z h.ok.bytes) i h.ok.is_head)
+      (subst (λ z. RefusesRow (SpellsAs z) any_row (room_of old - 1) (parts_count is_map n) (left g mid)) h.stays.strict (subst (λ z. RefusesRow (SpellsAs mid.strict) any_row (z - 1) (parts_count is_map n) (left g mid)) room r)))
 
   pub nest : (is_map : Bool) (n : ℕ) (r : Result (Unit {0}) Error) → p.1 ≡ parts_head is_map n → SkipsRow g (room_of mid - 1) (parts_count is_map n) mid new r → Lawful g any_tree old new r
   nest is_map n (Ok u) i s = skipped_nest is_map n i s
@@ -267,62 +267,11 @@ module _ {R C : Type 0} (g : Ghosts R) (old mid new : Deserializer R C) (p : Mar
 
 -- ---- the loop
 
--- so many were passed over so far
-pub record Passed {R C : Type 0} (g : Ghosts R) (n : ℕ) (start now : Deserializer R C) : Type 0 where
-  pub row : PassesRow g (room_of start) n start now
-  pub ready : now.failed ≡ false
-  pub clean : now.kept ≡ Nothing
-  pub sound : faults_of g now ≡ faults_of g start
-  pub stays : Stays g start now
-
-pub passed_none : {R C : Type 0} (g : Ghosts R) (d : Deserializer R C) → d.failed ≡ false → d.kept ≡ Nothing → Passed g 0 d d
-passed_none g d f k = record { row = record { bytes = []; trees = no_items; takes = Consumes-nil (left g d); spelled = refl; many = refl; fits = omega arith }; ready = f; clean = k; sound = refl; stays = stays_refl g d }
-
-module _ {R C : Type 0} (g : Ghosts R) (n : ℕ) (start mid new : Deserializer R C) (d : Passed g n start mid) where
-  pub passed_more : Lawful g any_tree mid new (Ok tt) → Passed g (n + 1) start new
-  passed_more l =
-      let r = l.ok in
-      let room : mid.room ≡ start.room = d.stays.room in
-      record {
-        row = record {
-          bytes = d.row.bytes ++ r.bytes;
-          trees = push d.row.trees r.tree;
-          takes = Consumes-trans _ _ _ _ _ d.row.takes r.takes;
-          spelled = row-push Spells d.row.trees r.tree d.row.bytes r.bytes d.row.spelled r.spelled;
-          many = omega (arith, count-push d.row.trees r.tree, d.row.many);
-          fits = depth-push d.row.trees r.tree (room_of start) d.row.fits (omega (arith, room, r.fits));
-        };
-        ready = l.ready;
-        clean = l.clean;
-        sound = l.sound ∙ d.sound;
-        stays = stays_then g start mid new d.stays l.stays;
-      }
-
-  pub passed_refused : (all : ℕ) (e : Error) → n < all → Lawful g any_tree mid new (Err e) → SkipsRow g (room_of start) all start new (Err e)
-  passed_refused all e more l =
-      let room : room_of mid ≡ room_of start = ap (λ z. max 1 z) d.stays.room in
-      record {
-        ok = tt;
-        ready = tt;
-        clean = tt;
-        sound = tt;
-        err = λ o k.
-            let r0 = l.err d.ready o (k ∙ sym d.sound) in
-            let r1 = subst (λ z. Refuses Spells (Readable any_tree) z (left g mid)) room r0 in
-            rest_refused false any_row (room_of start) (all - n) all (left g start) (left g mid) d.row.trees d.row.bytes d.row.takes d.row.spelled (omega (arith, d.row.many, more))
-            (element_refused Spells (λ ks. any_row (append d.row.trees ks)) (Readable any_tree) (room_of start) (all - n) (left g mid) (omega (arith, more)) (λ m ks w. (tt, tt)) r1);
-        failed = l.failed;
-        stays = stays_then g start mid new d.stays l.stays;
-      }
-
-  pub passed_all : (all : ℕ) → n ≡ all → mid ≡ new → SkipsRow g (room_of start) all start mid (Ok tt)
-  passed_all all e q = subst (λ z. SkipsRow g (room_of start) z start mid (Ok tt)) e (record { ok = d.row; ready = d.ready; clean = d.clean; sound = d.sound; err = tt; failed = tt; stays = d.stays })
-
 -- no room for a list or a map
 pub no_room : {R C : Type 0} (g : Ghosts R) (n : ℕ) (d : Deserializer R C) (e : Error) → d.failed ≡ true → d.room ≤ 1 → SkipsRow g (room_of d - 1) n d d (Err e)
 unfolding RefusesRow
 no_room g n d e f l = record { ok = tt; ready = tt; clean = tt; sound = tt; err = λ _ _. none_fit (left g d); failed = f; stays = stays_refl g d }
   where
-    none_fit : (known : Option (List ℕ)) → RefusesRow Spells any_row (room_of d - 1) n known
+    none_fit : (known : Option (List ℕ)) → RefusesRow (SpellsAs d.strict) any_row (room_of d - 1) n known
     none_fit None = tt
     none_fit (Some xs) = λ a. let b = a.fits in omega arith

@@ -51,7 +51,7 @@ pub parts_narrower : {R C V W : Type 0} (g : Ghosts R) (Q : V → Msgs → Type 
 parts_narrower g Q Q' old new e f x = record {
   stays = x.stays;
   failed = x.failed;
-  err = λ n k. row_narrower (SpellsIn old.bytes) (λ ms. (v : _) × Q v ms) (λ ms. (w : _) × Q' w ms) (inner_of old) old.left (left g old.de.now) (λ ms h. f h.0 ms h.1) (x.err n k);
+  err = λ n k. row_narrower (SpellsIn old.de.now.strict old.bytes) (λ ms. (v : _) × Q v ms) (λ ms. (w : _) × Q' w ms) (inner_of old) old.left (left g old.de.now) (λ ms h. f h.0 ms h.1) (x.err n k);
 }
 
 -- one element more, behind the parts that were read

@@ -3,6 +3,7 @@ use Rattle.std.proofs.Common.{◌≡◌, ◌∙◌, sym, ap, subst, refl, ℕ, p
 use Rattle.std.specs.Fn.{FnOnceReturnsAtMut}
 use Rattle.std.specs.Io.KnownBytes.{Consumes}
 use Rattle.rmp_wire.specs.declared.source.Source.{Ghosts}
+use Rattle.rmp_wire.specs.Canonical.{SpellsAs}
 use Rattle.rmp_wire.specs.Msg.{Msg, whole, depth}
 use Rattle.rmp_decode.specs.Law.{Refuses, Readable, Explains, Lawful}
 use Rattle.rmp_decode.specs.Seq.{SpellsIn, inner_of, IsOpen, TakesElement, FailsToTake}
@@ -23,7 +24,7 @@ pub record Taken {R C X : Type 0} (g : Ghosts R) (reads : Msg → X → Type 0) 
   pub bytes : List ℕ
   pub tree : Msg
   pub takes : Consumes (left g old) (left g new) bytes
-  pub spelled : SpellsIn in_bytes bytes tree
+  pub spelled : SpellsIn old.strict in_bytes bytes tree
   pub fits : depth tree < room
   pub value : reads tree v
   pub stays : Stays g old new
@@ -41,7 +42,7 @@ module _ {R C X : Type 0} (g : Ghosts R) (reads : Msg → X → Type 0) (old fro
         spelled = record { byte = t.byte; small = t.small; alone = refl; number = refl };
         fits = omega arith;
         value = t.value;
-        stays = record { config = l.stays.config ∙ o.stays.config; room = refl; place = l.stays.place ∙ o.stays.place };
+        stays = record { config = l.stays.config ∙ o.stays.config; room = refl; strict = l.stays.strict ∙ o.stays.strict; place = l.stays.place ∙ o.stays.place };
         faults_same = l.sound ∙ o.faults_same;
         clean = l.clean;
       }
@@ -51,22 +52,22 @@ module _ {R C X : Type 0} (g : Ghosts R) (reads : Msg → X → Type 0) (old fro
         bytes = r.bytes;
         tree = r.tree;
         takes = subst (λ (z : Deserializer R C). Consumes (left g z) (left g rest) r.bytes) o r.takes;
-        spelled = r.spelled;
+        spelled = subst (λ (z : Deserializer R C). SpellsAs z.strict r.bytes r.tree) o r.spelled;
         fits = r.fits;
         value = r.value;
-        stays = record { config = l.stays.config ∙ ap (λ (z : Deserializer R C). z.config) o; room = refl; place = l.stays.place ∙ ap (λ (z : Deserializer R C). g.place z.reader) o };
+        stays = record { config = l.stays.config ∙ ap (λ (z : Deserializer R C). z.config) o; room = refl; strict = l.stays.strict ∙ ap (λ (z : Deserializer R C). z.strict) o; place = l.stays.place ∙ ap (λ (z : Deserializer R C). g.place z.reader) o };
         faults_same = l.sound ∙ ap (faults_of g) o;
         clean = l.clean;
       }
 
   refused_stays : (in_bytes : Bool) (e : Error) → OffersPart g in_bytes old from → Lawful g reads (record from { room = inner; failed = false }) rest (Err e) → Stays g old (record rest { room = old.room; failed = true })
-  refused_stays true e o l = record { config = l.stays.config ∙ o.stays.config; room = refl; place = l.stays.place ∙ o.stays.place }
-  refused_stays false e o l = record { config = l.stays.config ∙ ap (λ (z : Deserializer R C). z.config) o; room = refl; place = l.stays.place ∙ ap (λ (z : Deserializer R C). g.place z.reader) o }
+  refused_stays true e o l = record { config = l.stays.config ∙ o.stays.config; room = refl; strict = l.stays.strict ∙ o.stays.strict; place = l.stays.place ∙ o.stays.place }
+  refused_stays false e o l = record { config = l.stays.config ∙ ap (λ (z : Deserializer R C). z.config) o; room = refl; strict = l.stays.strict ∙ ap (λ (z : Deserializer R C). z.strict) o; place = l.stays.place ∙ ap (λ (z : Deserializer R C). g.place z.reader) o }
 
   refused_part : (in_bytes : Bool) (e : Error) → OffersPart g in_bytes old from → Lawful g reads (record from { room = inner; failed = false }) rest (Err e)
-      → Explains e (faults_of g old) (faults_of g rest) (Refuses (SpellsIn in_bytes) (Readable reads) (max 1 inner) (left g old))
+      → Explains e (faults_of g old) (faults_of g rest) (Refuses (SpellsIn old.strict in_bytes) (Readable reads) (max 1 inner) (left g old))
   refused_part true e o l = λ n q. number_refused g old from (record from { room = inner; failed = false }) clean o.keeps refl refl (Readable reads) (max 1 inner) (omega arith) (l.err refl n (q ∙ sym o.faults_same))
-  refused_part false e o l = λ n q. subst (λ (z : Deserializer R C). Refuses (SpellsIn false) (Readable reads) (max 1 inner) (left g z)) o (l.err refl n (q ∙ sym (ap (faults_of g) o)))
+  refused_part false e o l = λ n q. subst (λ (z : Deserializer R C). Refuses (SpellsAs z.strict) (Readable reads) (max 1 inner) (left g z)) o (l.err refl n (q ∙ sym (ap (faults_of g) o)))
 
 -- ---- over the answers
 
@@ -117,7 +118,7 @@ module _ {F R C X : Type 0} (g : Ghosts R) (once : Reading F R C X) (f : F) (rea
       record {
         some = some;
         stays = m.stays;
-        err = λ n q. subst (λ b. Refuses (SpellsIn b) (Readable reads) (inner_of old) (left g old.de.now)) (sym m.bytes) (number_missing g old.de.now (Readable reads) (inner_of old) o.clean (m.err (λ z. n (sym same_error ∙ z)) q));
+        err = λ n q. subst (λ b. Refuses (SpellsIn old.de.now.strict b) (Readable reads) (inner_of old) (left g old.de.now)) (sym m.bytes) (number_missing g old.de.now (Readable reads) (inner_of old) o.clean (m.err (λ z. n (sym same_error ∙ z)) q));
       }
   with_refused e some (inl p) =
       let lent = p.lends.lent in

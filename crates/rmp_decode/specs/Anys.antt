@@ -8,7 +8,8 @@ use Rattle.rmp_wire.specs.declared.marker.Marker.{Marker}
 use Rattle.rmp_wire.specs.declared.source.Source.{Ghosts}
 use Rattle.rmp_wire.specs.Msg.{nil, truth, whole, float32, float64}
 use Rattle.rmp_wire.specs.Sources.{IsShort}
-use Rattle.rmp_wire.specs.Spelling.{Spells, IsBytes}
+use Rattle.rmp_wire.specs.Canonical.{SpellsAs}
+use Rattle.rmp_wire.specs.Spelling.{IsBytes}
 use Rattle.rmp_decode.specs.Content.{not_string}
 use Rattle.rmp_decode.specs.Exact.{Stands, NoneStands, Ends, IsDataEnd}
 use Rattle.rmp_decode.specs.Law.{Lawful, ReadsHead, Refuses, Explains, IsFailedBefore}
@@ -78,27 +79,27 @@ OpensAny g old (any.Map a) = OpensMap g old a
 OpensAny g old (any.Ext a) = OpensRaw g (head.Ext a.len a.tag) old a
 
 -- a list or a map opens at the front
-pub record OpensParts (xs : List ℕ) : Type 0 where
+pub record OpensParts (strict : Bool) (xs : List ℕ) : Type 0 where
   pub is_map : Bool
   pub len : ℕ
   pub marker : Marker
-  pub stands : Stands marker (parts_head is_map len) xs
+  pub stands : Stands strict marker (parts_head is_map len) xs
 
 -- why no message can be opened: no head stands whole at the front, or a list or a map opens there and there is no room for one
-abbrev pub UnopenedFor : ℕ → List ℕ → Error → Type 0
-UnopenedFor room xs e = (NoneStands xs × Ends xs e) ⊎ (OpensParts xs × (room ≡ 1) × (e ≡ DepthLimitExceeded))
+abbrev pub UnopenedFor : Bool → ℕ → List ℕ → Error → Type 0
+UnopenedFor strict room xs e = (NoneStands strict xs × Ends xs e) ⊎ (OpensParts strict xs × (room ≡ 1) × (e ≡ DepthLimitExceeded))
 
 -- Exactly which error it is, where the bytes are told and the source had no fault (it counts them: before, after).
-unfoldable pub RefusesAny : ℕ → ℕ → ℕ → Option (List ℕ) → Error → Type 0
-RefusesAny room before after known e = after ≡ before → IfSome known (λ xs. UnopenedFor room xs e)
+unfoldable pub RefusesAny : Bool → ℕ → ℕ → ℕ → Option (List ℕ) → Error → Type 0
+RefusesAny strict room before after known e = after ≡ before → IfSome known (λ xs. UnopenedFor strict room xs e)
 
 -- no message that nests below the room begins there
 pub record FailsToOpenAny {R C : Type 0} (g : Ghosts R) (old new : Deserializer R C) (e : Error) : Type 0 where
   pub failed : new.failed ≡ true
   pub stays : Stays g old new
   pub before : old.failed ≡ true → IsFailedBefore e × (new ≡ old)
-  pub err : old.failed ≡ false → Explains e (faults_of g old) (faults_of g new) (Refuses Spells (λ m. Unit {0}) (room_of old) (left g old))
-  pub exact : old.failed ≡ false → RefusesAny (room_of old) (faults_of g old) (faults_of g new) (left g old) e
+  pub err : old.failed ≡ false → Explains e (faults_of g old) (faults_of g new) (Refuses (SpellsAs old.strict) (λ m. Unit {0}) (room_of old) (left g old))
+  pub exact : old.failed ≡ false → RefusesAny old.strict (room_of old) (faults_of g old) (faults_of g new) (left g old) e
 
 -- the content was taken, and the reader is ready
 pub record TakesContent {R C : Type 0} (g : Ghosts R) (len : ℕ) (old new : Deserializer R C) (s : List ℕ) : Type 0 where

@@ -1,11 +1,11 @@
 -- Bytes from a text, from bytes, or from a list of numbers.
-use Rattle.std.specs.Prelude.{◌≡◌, ◌⊎◌, ℕ, ◌+◌, ◌<◌, ◌≤◌, List, IfSome, Result, Ok, true, false}
+use Rattle.std.specs.Prelude.{◌≡◌, ◌⊎◌, ℕ, ◌+◌, ◌<◌, ◌≤◌, Bool, List, Option, IfSome, Result, Ok, true, false}
 use Rattle.rmp_wire.specs.declared.head.Head.{Head}
 use Rattle.rmp_wire.specs.declared.marker.Marker.{Marker}
 use Rattle.rmp_wire.specs.declared.source.Source.{Ghosts}
 use Rattle.rmp_wire.specs.declared.head.Head.TheVariants.{Array}
 use Rattle.rmp_wire.specs.Msg.{Msg, Msgs, nil, truth, whole, float32, float64, text, bin, list, map, extension}
-use Rattle.rmp_wire.specs.Spelling.{Spells}
+use Rattle.rmp_wire.specs.Canonical.{SpellsAs}
 use Rattle.rmp_decode.specs.Exact.{Stands, Exact}
 use Rattle.rmp_decode.specs.Kinds.{other_number}
 use Rattle.rmp_decode.specs.Law.{Begins, Readable, Lawful, ReadsHead}
@@ -52,24 +52,28 @@ abbrev pub AreBytes : Msgs → Type 0
 AreBytes ms = (b : List ℕ) × ReadsEach (IsUnsigned 255) ms b
 
 -- no number up to 255 stands whole at the front
-abbrev pub NoByte : List ℕ → Type 0
-NoByte xs = Begins Spells (Readable (IsUnsigned 255)) 1 xs → ⊥
+abbrev pub NoByte : Bool → List ℕ → Type 0
+NoByte strict xs = Begins (SpellsAs strict) (Readable (IsUnsigned 255)) 1 xs → ⊥
 
 -- Of n items that are wanted some stand whole at the front and are numbers up to 255. The next one isn't, and is refused as `deserialize_u8` refuses it; or memory was short for the last of these.
-pub record RefusesItem (n : ℕ) (e : Error) (xs : List ℕ) : Type 0 where
+pub record RefusesItem (strict : Bool) (n : ℕ) (e : Error) (xs : List ℕ) : Type 0 where
   pub many : ℕ
-  pub before : BeginsRow Spells AreBytes 1 many xs
-  pub refused : ((many < n) × NoByte before.rest × Exact other_number before.rest e) ⊎ ((0 < many) × (many ≤ n) × (e ≡ OutOfMemory))
+  pub before : BeginsRow (SpellsAs strict) AreBytes 1 many xs
+  pub refused : ((many < n) × NoByte strict before.rest × Exact strict other_number before.rest e) ⊎ ((0 < many) × (many ≤ n) × (e ≡ OutOfMemory))
 
 -- the same of what was left, where the bytes are told and the source had no fault
 unfoldable pub RefusesItems : {R C : Type 0} → Ghosts R → ℕ → Deserializer R C → Deserializer R C → Error → Type 0
-RefusesItems g n old new e = faults_of g new ≡ faults_of g old → IfSome (left g old) (RefusesItem n e)
+RefusesItems g n old new e = faults_of g new ≡ faults_of g old → IfSome (left g old) (RefusesItem old.strict n e)
 
 -- A list at the front is refused as a whole where no level is left, by the room, and else at one of its items.
-pub record RefusesListOf (room n : ℕ) (e : Error) (behind : List ℕ) : Type 0 where
+pub record RefusesListOf (strict : Bool) (room n : ℕ) (e : Error) (behind : List ℕ) : Type 0 where
   pub deep : room ≡ 1 → e ≡ DepthLimitExceeded
-  pub item : 1 < room → RefusesItem n e behind
+  pub item : 1 < room → RefusesItem strict n e behind
 
 -- the same of what was left, where the bytes are told and the source had no fault
-unfoldable pub RefusesList : {R C : Type 0} → Ghosts R → Deserializer R C → Deserializer R C → Error → Type 0
-RefusesList g old new e = faults_of g new ≡ faults_of g old → IfSome (left g old) (λ xs. (m : Marker) (n : ℕ) → (s : Stands m (Array n) xs) → RefusesListOf (room_of old) n e s.rest)
+unfoldable pub RefusesListIn : Bool → ℕ → ℕ → ℕ → Option (List ℕ) → Error → Type 0
+RefusesListIn strict room before after known e = after ≡ before → IfSome known (λ xs. (m : Marker) (n : ℕ) → (s : Stands strict m (Array n) xs) → RefusesListOf strict room n e s.rest)
+
+-- the same of a reader that was in one state and is in another then
+abbrev pub RefusesList : {R C : Type 0} → Ghosts R → Deserializer R C → Deserializer R C → Error → Type 0
+RefusesList g old new e = RefusesListIn old.strict (room_of old) (faults_of g old) (faults_of g new) (left g old) e

@@ -1,5 +1,5 @@
 -- Which error a read answers that wants a head and the content behind it, by what stands at the front of the bytes.
-use Rattle.std.specs.Prelude.{◌≡◌, ◌≢◌, ◌<◌, ℕ, Bool, true, false, List, ◌++◌, length, Option, IfSome, Ok, IsUtf8}
+use Rattle.std.specs.Prelude.{◌≡◌, ◌≢◌, ◌<◌, ℕ, Bool, true, false, List, ◌++◌, length, Option, IfSome, Result, Ok, IfErr, IsUtf8}
 use Rattle.rmp_wire.specs.declared.head.Head.{Head}
 use Rattle.rmp_wire.specs.declared.head.Head.TheVariants.{Text, Bin, Array, Ext}
 use Rattle.rmp_wire.specs.declared.marker.Marker.{Marker}
@@ -14,34 +14,38 @@ use Rattle.rmp_decode.specs.declared.error.Error.TheVariants.{OutOfMemory, Synta
 use Rattle.rmp_decode.specs.declared.text.Text.TheVariants.{InvalidType, InvalidValue}
 
 -- the head stands at the front, and behind it fewer bytes than it says
-pub record StandsCut (h : Head) (xs : List ℕ) : Type 0 where
+pub record StandsCut (strict : Bool) (h : Head) (xs : List ℕ) : Type 0 where
   pub marker : Marker
-  pub stands : Stands marker h xs
+  pub stands : Stands strict marker h xs
   pub short : length stands.rest < content_len h
 
 -- the head stands at the front, and behind it the whole content s
-pub record StandsWhole (h : Head) (s xs : List ℕ) : Type 0 where
+pub record StandsWhole (strict : Bool) (h : Head) (s xs : List ℕ) : Type 0 where
   pub marker : Marker
-  pub stands : Stands marker h xs
+  pub stands : Stands strict marker h xs
   pub behind : List ℕ
   pub content : stands.rest ≡ s ++ behind
   pub long : length s ≡ content_len h
 
 -- The error is the one for a head that isn't wanted, says that the input ended within the content of one that is, is the one for that content where it is whole, or says why no head stands at the front. Where content is wanted memory may be short instead, and nowhere else.
-pub record ExactOfContent (wanted : Head → Type 0) (other : Marker → Head → Error) (refused : Head → List ℕ → Error → Type 0) (xs : List ℕ) (e : Error) : Type 0 where
-  pub others : (m : Marker) (h : Head) → Stands m h xs → (wanted h → ⊥) → e ≡ other m h
-  pub cut : (h : Head) → wanted h → StandsCut h xs → e ≢ OutOfMemory → IsDataEnd e
-  pub whole : (h : Head) (s : List ℕ) → wanted h → StandsWhole h s xs → e ≢ OutOfMemory → refused h s e
-  pub ends : NoneStands xs → Ends xs e
+pub record ExactOfContent (strict : Bool) (wanted : Head → Type 0) (other : Marker → Head → Error) (refused : Head → List ℕ → Error → Type 0) (xs : List ℕ) (e : Error) : Type 0 where
+  pub others : (m : Marker) (h : Head) → Stands strict m h xs → (wanted h → ⊥) → e ≡ other m h
+  pub cut : (h : Head) → wanted h → StandsCut strict h xs → e ≢ OutOfMemory → IsDataEnd e
+  pub whole : (h : Head) (s : List ℕ) → wanted h → StandsWhole strict h s xs → e ≢ OutOfMemory → refused h s e
+  pub ends : NoneStands strict xs → Ends xs e
 
 -- Exactly which error it is, where the bytes are told and the source had no fault (it counts them: before, after).
-unfoldable pub RefusesContent : (Head → Type 0) → (Marker → Head → Error) → (Head → List ℕ → Error → Type 0) → ℕ → ℕ → Option (List ℕ) → Error → Type 0
-RefusesContent wanted other refused before after known e = after ≡ before → IfSome known (λ xs. ExactOfContent wanted other refused xs e)
+unfoldable pub RefusesContent : Bool → (Head → Type 0) → (Marker → Head → Error) → (Head → List ℕ → Error → Type 0) → ℕ → ℕ → Option (List ℕ) → Error → Type 0
+RefusesContent strict wanted other refused before after known e = after ≡ before → IfSome known (λ xs. ExactOfContent strict wanted other refused xs e)
+
+-- the same of what a ready reader answers that was in one state and is in another then
+abbrev pub RefusesLeaf : {R C V : Type 0} → Ghosts R → (Head → Type 0) → (Marker → Head → Error) → (Head → List ℕ → Error → Type 0) → Deserializer R C → Deserializer R C → Result V Error → Type 0
+RefusesLeaf g wanted other refused old new result = old.failed ≡ false → IfErr result (RefusesContent old.strict wanted other refused (faults_of g old) (faults_of g new) (left g old))
 
 -- the same of the rest of a read, whose beginning took this head
 abbrev pub RefusesBehind : {R C : Type 0} → Ghosts R → (Head → Type 0) → (Marker → Head → Error) → (Head → List ℕ → Error → Type 0) → Head → Deserializer R C → Deserializer R C → Error → Type 0
 RefusesBehind {R} {C} g wanted other refused h mid new e =
-    (old : Deserializer R C) (m : Marker) → ReadsHead g old mid (Ok (m, h)) → RefusesContent wanted other refused (faults_of g old) (faults_of g new) (left g old) e
+    (old : Deserializer R C) (m : Marker) → ReadsHead g old mid (Ok (m, h)) → RefusesContent old.strict wanted other refused (faults_of g old) (faults_of g new) (left g old) e
 
 -- ---- which heads are wanted
 

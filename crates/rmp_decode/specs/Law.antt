@@ -1,12 +1,11 @@
 -- What a read gives, and what it refuses.
-use Rattle.std.specs.Prelude.{◌≡◌, ◌≢◌, ℕ, ◌<◌, true, false, List, ◌++◌, Option, IfSome, Result, IfErr, IfOk, OnOk, OnErr, MatchResult}
+use Rattle.std.specs.Prelude.{◌≡◌, ◌≢◌, ℕ, ◌<◌, Bool, true, false, List, ◌++◌, Option, IfSome, Result, IfErr, IfOk, OnOk, OnErr, MatchResult}
 use Rattle.std.specs.Io.KnownBytes.{Consumes}
 use Rattle.rmp_wire.specs.declared.head.Head.{Head}
 use Rattle.rmp_wire.specs.declared.marker.Marker.{Marker}
 use Rattle.rmp_wire.specs.declared.source.Source.{Ghosts}
-use Rattle.rmp_wire.specs.Heads.{IsHead}
+use Rattle.rmp_wire.specs.Canonical.{heads_of, SpellsAs}
 use Rattle.rmp_wire.specs.Msg.{Msg, depth}
-use Rattle.rmp_wire.specs.Spelling.{Spells}
 use Rattle.rmp_decode.specs.Exact.{Stands, EndsExactly}
 use Rattle.rmp_decode.specs.State.{left, faults_of, room_of, kept_bytes, Stays}
 use Rattle.rmp_decode.specs.declared.de.Deserializer.{Deserializer}
@@ -34,8 +33,8 @@ unfoldable pub Refuses : (List ℕ → Msg → Type 0) → (Msg → Type 0) → 
 Refuses spells P room known = IfSome known (λ xs. Begins spells P room xs → ⊥)
 
 -- where the bytes are told, no message begins there
-unfoldable pub NoMessage : Option (List ℕ) → Type 0
-NoMessage known = IfSome known (λ xs. (m : Msg) (b r : List ℕ) → xs ≡ b ++ r → Spells b m → ⊥)
+unfoldable pub NoMessage : Bool → Option (List ℕ) → Type 0
+NoMessage strict known = IfSome known (λ xs. (m : Msg) (b r : List ℕ) → xs ≡ b ++ r → SpellsAs strict b m → ⊥)
 
 -- A refusal says that nothing was there to accept, unless memory was short or the source had a fault (it counts them: before, after).
 abbrev pub Explains : Error → ℕ → ℕ → Type 0 → Type 0
@@ -56,7 +55,7 @@ pub record Reads {R C V : Type 0} (g : Ghosts R) (reads : Msg → V → Type 0) 
   pub tree : Msg
   pub takes : Consumes (left g old) (left g new) bytes
   pub goes_on : GoesOn (kept_bytes old.kept) bytes
-  pub spelled : Spells bytes tree
+  pub spelled : SpellsAs old.strict bytes tree
   pub fits : depth tree < room_of old
   pub value : reads tree v
 
@@ -68,7 +67,7 @@ pub record Lawful {R C V : Type 0} (g : Ghosts R) (reads : Msg → V → Type 0)
   pub clean : OnOk result (new.kept ≡ Nothing)
   pub sound : OnOk result (faults_of g new ≡ faults_of g old)
   -- a refusal means that there is none
-  pub err : old.failed ≡ false → IfErr result (λ e. Explains e (faults_of g old) (faults_of g new) (Refuses Spells (Readable reads) (room_of old) (left g old)))
+  pub err : old.failed ≡ false → IfErr result (λ e. Explains e (faults_of g old) (faults_of g new) (Refuses (SpellsAs old.strict) (Readable reads) (room_of old) (left g old)))
   pub failed : OnErr result (new.failed ≡ true)
   -- after a failure nothing is taken
   pub before : old.failed ≡ true → MatchResult result (λ _. ⊥) IsFailedBefore × (new ≡ old)
@@ -79,18 +78,18 @@ pub record TakesHead {R C : Type 0} (g : Ghosts R) (h : Head) (old new : Deseria
   pub bytes : List ℕ
   pub takes : Consumes (left g old) (left g new) bytes
   pub goes_on : GoesOn (kept_bytes old.kept) bytes
-  pub is_head : IsHead h bytes
+  pub is_head : heads_of old.strict h bytes
 
 -- What the beginning of each read does: a head is taken, or no message begins there.
 pub record ReadsHead {R C : Type 0} (g : Ghosts R) (old new : Deserializer R C) (result : Result (Marker × Head) Error) : Type 0 where
   pub ok : IfOk result (λ p. TakesHead g p.1 old new)
   -- the marker is that of the first byte that was left, where it is told
-  pub marked : IfOk result (λ p. IfSome (left g old) (Stands p.0 p.1))
+  pub marked : IfOk result (λ p. IfSome (left g old) (Stands old.strict p.0 p.1))
   pub clean : OnOk result (new.kept ≡ Nothing)
   pub fresh : OnOk result (old.failed ≡ false)
   pub sound : OnOk result (faults_of g new ≡ faults_of g old)
-  pub err : old.failed ≡ false → IfErr result (λ e. Explains e (faults_of g old) (faults_of g new) (NoMessage (left g old)))
-  pub ends : old.failed ≡ false → IfErr result (EndsExactly (faults_of g old) (faults_of g new) (left g old))
+  pub err : old.failed ≡ false → IfErr result (λ e. Explains e (faults_of g old) (faults_of g new) (NoMessage old.strict (left g old)))
+  pub ends : old.failed ≡ false → IfErr result (EndsExactly old.strict (faults_of g old) (faults_of g new) (left g old))
   -- a head takes no memory
   pub memory : IfErr result (λ e. e ≢ OutOfMemory)
   pub failed : new.failed ≡ true

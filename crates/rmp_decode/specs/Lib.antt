@@ -1,3 +1,4 @@
+pub mod Allowed
 pub mod Anys
 pub mod Arrays
 pub mod Buffers
@@ -6,12 +7,15 @@ pub mod Exact
 pub mod Fronts
 pub mod Kinds
 pub mod Law
+pub mod MapRefusing
 pub mod Maps
+pub mod Open
 pub mod Parts
 pub mod Pieces
 pub mod Read
 pub mod ReadErrors
 pub mod Refuse
+pub mod Refusing
 pub mod Rows
 pub mod Seq
 pub mod Sets

@@ -9,7 +9,7 @@ use Rattle.rmp_wire.specs.declared.head.Head.TheVariants.{Map}
 use Rattle.rmp_wire.specs.declared.marker.Marker.{Marker}
 use Rattle.rmp_wire.specs.declared.source.Source.{Ghosts}
 use Rattle.rmp_wire.specs.Msg.{Msg, nil, truth, whole, float32, float64, text, bin, list, map, extension, Pairs, no_pairs, pair}
-use Rattle.rmp_wire.specs.Spelling.{Spells}
+use Rattle.rmp_wire.specs.Canonical.{SpellsAs}
 use Rattle.rmp_decode.specs.Exact.{RefusesBy}
 use Rattle.rmp_decode.specs.Law.{TakesHead, Refuses, Explains, IsFailedBefore}
 use Rattle.rmp_decode.specs.Parts.{TakesPart}
@@ -117,8 +117,8 @@ pub record FailsToOpenMap {R C : Type 0} (g : Ghosts R) (old new : Deserializer 
   pub failed : new.failed ≡ true
   pub stays : Stays g old new
   pub before : old.failed ≡ true → IsFailedBefore e × (new ≡ old)
-  pub err : old.failed ≡ false → Explains e (faults_of g old) (faults_of g new) (Refuses Spells IsMap (room_of old) (left g old))
-  pub exact : old.failed ≡ false → RefusesBy (not_map (room_of old)) (faults_of g old) (faults_of g new) (left g old) e
+  pub err : old.failed ≡ false → Explains e (faults_of g old) (faults_of g new) (Refuses (SpellsAs old.strict) IsMap (room_of old) (left g old))
+  pub exact : old.failed ≡ false → RefusesBy old.strict (not_map (room_of old)) (faults_of g old) (faults_of g new) (left g old) e
 
 -- the next key was read
 pub record TakesKey {R C K : Type 0} (g : Ghosts R) (reads : Msg → K → Type 0) (old new : MapAccess R C) (k : K) : Type 0 where

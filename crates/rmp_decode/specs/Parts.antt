@@ -3,7 +3,7 @@ use Rattle.std.specs.Prelude.{◌≡◌, ℕ, ◌<◌, true, List}
 use Rattle.std.specs.Io.KnownBytes.{Consumes}
 use Rattle.rmp_wire.specs.declared.source.Source.{Ghosts}
 use Rattle.rmp_wire.specs.Msg.{Msg, depth}
-use Rattle.rmp_wire.specs.Spelling.{Spells}
+use Rattle.rmp_wire.specs.Canonical.{SpellsAs}
 use Rattle.rmp_decode.specs.Law.{Refuses, Readable, Explains}
 use Rattle.rmp_decode.specs.State.{left, faults_of, Stays}
 use Rattle.rmp_decode.specs.declared.de.Deserializer.{Deserializer}
@@ -15,7 +15,7 @@ pub record TakesPart {R C V : Type 0} (g : Ghosts R) (reads : Msg → V → Type
   pub bytes : List ℕ
   pub tree : Msg
   pub takes : Consumes (left g old) (left g new) bytes
-  pub spelled : Spells bytes tree
+  pub spelled : SpellsAs old.strict bytes tree
   pub fits : depth tree < inner
   pub value : reads tree v
   pub stays : Stays g old new
@@ -27,4 +27,4 @@ pub record TakesPart {R C V : Type 0} (g : Ghosts R) (reads : Msg → V → Type
 pub record FailsPart {R C V : Type 0} (g : Ghosts R) (reads : Msg → V → Type 0) (inner : ℕ) (old new : Deserializer R C) (e : Error) : Type 0 where
   pub stays : Stays g old new
   pub failed : new.failed ≡ true
-  pub err : Explains e (faults_of g old) (faults_of g new) (Refuses Spells (Readable reads) inner (left g old))
+  pub err : Explains e (faults_of g old) (faults_of g new) (Refuses (SpellsAs old.strict) (Readable reads) inner (left g old))

@@ -1,12 +1,13 @@
 -- What an access to the elements of a list does to the `Deserializer` that it borrows.
-use Rattle.std.specs.Prelude.{◌≡◌, ◌⊎◌, ℕ, ◌+◌, ◌<◌, max, Bool, true, false, List, [], ◌∷◌, ◌++◌, Option, IfSome, pos}
+use Rattle.std.specs.Prelude.{◌≡◌, ◌≢◌, ◌⊎◌, ℕ, ◌+◌, ◌<◌, max, Bool, true, false, List, [], ◌∷◌, ◌++◌, Option, IfSome, pos}
 use Rattle.std.specs.Io.KnownBytes.{Consumes}
 use Rattle.rmp_wire.specs.declared.head.Head.{Head}
 use Rattle.rmp_wire.specs.declared.head.Head.TheVariants.{Array, Bin}
 use Rattle.rmp_wire.specs.declared.marker.Marker.{Marker}
 use Rattle.rmp_wire.specs.declared.source.Source.{Ghosts}
 use Rattle.rmp_wire.specs.Msg.{Msg, nil, truth, whole, float32, float64, text, bin, list, map, extension, Msgs, no_items, item, count, depth, depth_all}
-use Rattle.rmp_wire.specs.Spelling.{Spells, Joined}
+use Rattle.rmp_wire.specs.Canonical.{SpellsAs}
+use Rattle.rmp_wire.specs.Spelling.{Joined}
 use Rattle.rmp_decode.specs.Exact.{RefusesBy}
 use Rattle.rmp_decode.specs.Law.{TakesHead, Refuses, Readable, Explains, IsFailedBefore}
 use Rattle.rmp_decode.specs.State.{left, faults_of, room_of, Stays}
@@ -14,7 +15,7 @@ use Rattle.rmp_decode.specs.declared.de.Deserializer.{Deserializer}
 use Rattle.rmp_decode.specs.declared.de.Kept.TheVariants.{Nothing, Number}
 use Rattle.rmp_decode.specs.declared.de.seq.SeqAccess.{SeqAccess}
 use Rattle.rmp_decode.specs.declared.error.Error.{Error}
-use Rattle.rmp_decode.specs.declared.error.Error.TheVariants.{DepthLimitExceeded, Syntax}
+use Rattle.rmp_decode.specs.declared.error.Error.TheVariants.{DepthLimitExceeded, OutOfMemory, Syntax}
 use Rattle.rmp_decode.specs.declared.text.Text.TheVariants.{InvalidType}
 
 -- the numbers that bytes are
@@ -50,10 +51,10 @@ pub record SpellsByte (bytes : List ℕ) (m : Msg) : Type 0 where
   pub alone : bytes ≡ byte ∷ []
   pub number : m ≡ whole (pos byte)
 
--- how an element stands in bytes, or in a list
-abbrev pub SpellsIn : Bool → List ℕ → Msg → Type 0
-SpellsIn true = SpellsByte
-SpellsIn false = Spells
+-- how an element stands in bytes, or in a list, by whether reading is strict
+abbrev pub SpellsIn : Bool → Bool → List ℕ → Msg → Type 0
+SpellsIn strict true = SpellsByte
+SpellsIn strict false = SpellsAs strict
 
 -- bytes open no level
 abbrev pub levels : Bool → ℕ
@@ -111,15 +112,16 @@ pub record FailsToOpen {R C : Type 0} (g : Ghosts R) (old new : Deserializer R C
   pub failed : new.failed ≡ true
   pub stays : Stays g old new
   pub before : old.failed ≡ true → IsFailedBefore e × (new ≡ old)
-  pub err : old.failed ≡ false → Explains e (faults_of g old) (faults_of g new) (Refuses Spells IsSeq (room_of old) (left g old))
-  pub exact : old.failed ≡ false → RefusesBy (not_seq (room_of old)) (faults_of g old) (faults_of g new) (left g old) e
+  pub err : old.failed ≡ false → Explains e (faults_of g old) (faults_of g new) (Refuses (SpellsAs old.strict) IsSeq (room_of old) (left g old))
+  pub memory : e ≢ OutOfMemory
+  pub exact : old.failed ≡ false → RefusesBy old.strict (not_seq (room_of old)) (faults_of g old) (faults_of g new) (left g old) e
 
 -- the next element was read
 pub record TakesElement {R C V : Type 0} (g : Ghosts R) (reads : Msg → V → Type 0) (old new : SeqAccess R C) (v : V) : Type 0 where
   pub bytes : List ℕ
   pub tree : Msg
   pub takes : Consumes (left g old.de.now) (left g new.de.now) bytes
-  pub spelled : SpellsIn old.bytes bytes tree
+  pub spelled : SpellsIn old.de.now.strict old.bytes bytes tree
   pub fits : depth tree < inner_of old
   pub value : reads tree v
   pub fewer : old.left ≡ new.left + 1
@@ -134,12 +136,12 @@ pub record TakesElement {R C V : Type 0} (g : Ghosts R) (reads : Msg → V → T
 pub record FailsToTake {R C V : Type 0} (g : Ghosts R) (reads : Msg → V → Type 0) (old new : SeqAccess R C) (e : Error) : Type 0 where
   pub some : 0 < old.left
   pub stays : Stays g old.de.now new.de.now
-  pub err : Explains e (faults_of g old.de.now) (faults_of g new.de.now) (Refuses (SpellsIn old.bytes) (Readable reads) (inner_of old) (left g old.de.now))
+  pub err : Explains e (faults_of g old.de.now) (faults_of g new.de.now) (Refuses (SpellsIn old.de.now.strict old.bytes) (Readable reads) (inner_of old) (left g old.de.now))
 
 -- there was no element, or it was refused
 pub record FailsElement {R C V : Type 0} (g : Ghosts R) (reads : Msg → V → Type 0) (old new : SeqAccess R C) (e : Error) : Type 0 where
   pub stays : Stays g old.de.now new.de.now
-  pub err : (old.left ≡ 0) ⊎ ((0 < old.left) × Explains e (faults_of g old.de.now) (faults_of g new.de.now) (Refuses (SpellsIn old.bytes) (Readable reads) (inner_of old) (left g old.de.now)))
+  pub err : (old.left ≡ 0) ⊎ ((0 < old.left) × Explains e (faults_of g old.de.now) (faults_of g new.de.now) (Refuses (SpellsIn old.de.now.strict old.bytes) (Readable reads) (inner_of old) (left g old.de.now)))
 
 -- a byte was taken, and is kept back as a number
 pub record KeepsByte {R C : Type 0} (g : Ghosts R) (old new : Deserializer R C) : Type 0 where
@@ -176,10 +178,11 @@ RefusesRow spells P room n known = IfSome known (λ xs. BeginsRow spells P room 
 pub record Run {R C : Type 0} (g : Ghosts R) (start now : SeqAccess R C) (ms : Msgs) : Type 0 where
   pub bytes : List ℕ
   pub takes : Consumes (left g start.de.now) (left g now.de.now) bytes
-  pub spelled : SpellsRow (SpellsIn start.bytes) bytes ms
+  pub spelled : SpellsRow (SpellsIn start.de.now.strict start.bytes) bytes ms
   pub fits : depth_all ms < inner_of start
   pub many : count ms + now.left ≡ start.left
   pub same_reference : now.de.ghost_name ≡ start.de.ghost_name
+  pub count_same : now.count ≡ start.count
   pub inner : now.inner ≡ start.inner
   pub bytes_same : now.bytes ≡ start.bytes
   pub stays : Stays g start.de.now now.de.now
@@ -196,4 +199,4 @@ pub record TakesParts {R C V : Type 0} (g : Ghosts R) (Q : V → Msgs → Type 0
 pub record FailsParts {R C V : Type 0} (g : Ghosts R) (Q : V → Msgs → Type 0) (old new : SeqAccess R C) (e : Error) : Type 0 where
   pub stays : Stays g old.de.now new.de.now
   pub failed : new.de.now.failed ≡ true
-  pub err : Explains e (faults_of g old.de.now) (faults_of g new.de.now) (RefusesRow (SpellsIn old.bytes) (λ ms. (v : V) × Q v ms) (inner_of old) old.left (left g old.de.now))
+  pub err : Explains e (faults_of g old.de.now) (faults_of g new.de.now) (RefusesRow (SpellsIn old.de.now.strict old.bytes) (λ ms. (v : V) × Q v ms) (inner_of old) old.left (left g old.de.now))

@@ -5,7 +5,8 @@ use Rattle.rmp_wire.specs.declared.head.Head.{Head}
 use Rattle.rmp_wire.specs.declared.head.Head.TheVariants.{Array, Map}
 use Rattle.rmp_wire.specs.declared.source.Source.{Ghosts}
 use Rattle.rmp_wire.specs.Msg.{Msg, Msgs, count, depth_all}
-use Rattle.rmp_wire.specs.Spelling.{Spells, IsBytes}
+use Rattle.rmp_wire.specs.Canonical.{SpellsAs}
+use Rattle.rmp_wire.specs.Spelling.{IsBytes}
 use Rattle.rmp_decode.specs.Law.{Explains}
 use Rattle.rmp_decode.specs.Seq.{SpellsRow, RefusesRow}
 use Rattle.rmp_decode.specs.State.{left, faults_of, Stays}
@@ -42,7 +43,7 @@ pub record PassesRow {R C : Type 0} (g : Ghosts R) (room n : ℕ) (old new : Des
   pub bytes : List ℕ
   pub trees : Msgs
   pub takes : Consumes (left g old) (left g new) bytes
-  pub spelled : SpellsRow Spells bytes trees
+  pub spelled : SpellsRow (SpellsAs old.strict) bytes trees
   pub many : count trees ≡ n
   pub fits : depth_all trees < room
 
@@ -52,6 +53,6 @@ pub record SkipsRow {R C : Type 0} (g : Ghosts R) (room n : ℕ) (old new : Dese
   pub ready : OnOk result (new.failed ≡ false)
   pub clean : OnOk result (new.kept ≡ Nothing)
   pub sound : OnOk result (faults_of g new ≡ faults_of g old)
-  pub err : IfErr result (λ e. Explains e (faults_of g old) (faults_of g new) (RefusesRow Spells any_row room n (left g old)))
+  pub err : IfErr result (λ e. Explains e (faults_of g old) (faults_of g new) (RefusesRow (SpellsAs old.strict) any_row room n (left g old)))
   pub failed : OnErr result (new.failed ≡ true)
   pub stays : Stays g old new

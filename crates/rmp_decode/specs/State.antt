@@ -1,5 +1,6 @@
 -- What contracts see of a `Deserializer`.
 use Rattle.std.specs.Prelude.{◌≡◌, ℕ, max, Bool, true, List, [], ◌∷◌, Option, pos}
+use Rattle.std.specs.declared.alloc.Global.{Global}
 use Rattle.std.specs.Io.KnownBytes.{prepend_known}
 use Rattle.rmp_wire.specs.declared.head.Head.TheVariants.{Whole}
 use Rattle.rmp_wire.specs.declared.source.Source.{Ghosts}
@@ -21,12 +22,20 @@ reader_of d = d.reader
 abbrev pub config_of : {R C : Type 0} → Deserializer R C → C
 config_of d = d.config
 
+-- where its memory comes from
+abbrev pub alloc_of : {R C : Type 0} → Deserializer R C → Global
+alloc_of d = d.alloc
+
 -- a read failed, or is under way
 abbrev pub is_failed : {R C : Type 0} → Deserializer R C → Bool
 is_failed d = d.failed
 
 abbrev pub limit_of : {R C : Type 0} → Deserializer R C → ℕ
 limit_of d = d.room
+
+-- only canonical heads are taken
+abbrev pub is_strict : {R C : Type 0} → Deserializer R C → Bool
+is_strict d = d.strict
 
 abbrev pub kept_of : {R C : Type 0} → Deserializer R C → Kept
 kept_of d = d.kept
@@ -43,11 +52,16 @@ faults_of g d = g.faults d.reader
 abbrev pub room_of : {R C : Type 0} → Deserializer R C → ℕ
 room_of d = max 1 d.room
 
--- the settings, the room and the source's own place stay
+-- the settings, the room, the strictness and the source's own place stay
 pub record Stays {R C : Type 0} (g : Ghosts R) (old new : Deserializer R C) : Type 0 where
   pub config : new.config ≡ old.config
   pub room : new.room ≡ old.room
+  pub strict : new.strict ≡ old.strict
   pub place : g.place new.reader ≡ g.place old.reader
+
+-- the same, strict or not
+abbrev pub strict_of : {R C : Type 0} → Deserializer R C → Bool → Deserializer R C
+strict_of d s = record d { strict = s }
 
 -- the same, failed for good
 abbrev pub failed_of : {R C : Type 0} → Deserializer R C → Deserializer R C

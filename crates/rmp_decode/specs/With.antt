@@ -4,6 +4,7 @@ use Rattle.std.specs.Borrow.{MutBor}
 use Rattle.std.specs.Fn.{Once, FnOnceTakesAtMut, FnOnceReturnsAtMut}
 use Rattle.std.specs.Io.KnownBytes.{IsAtEnd}
 use Rattle.rmp_wire.specs.declared.source.Source.{Ghosts}
+use Rattle.rmp_decode.specs.Exact.{IsDataEnd}
 use Rattle.rmp_decode.specs.Law.{Explains}
 use Rattle.rmp_decode.specs.Seq.{KeepsByte}
 use Rattle.rmp_decode.specs.State.{faults_of, Stays}
@@ -57,6 +58,7 @@ pub record PartMissing {R C X : Type 0} (g : Ghosts R) (old new : SeqAccess R C)
   pub answers : result ≡ Err error
   pub stays : Stays g old.de.now new.de.now
   pub err : Explains error (faults_of g old.de.now) (faults_of g new.de.now) (IsAtEnd (g.ahead old.de.now.reader))
+  pub end : faults_of g new.de.now ≡ faults_of g old.de.now → IsDataEnd error
 
 -- the part's counts but that of what is left stay
 pub record SameList {R C : Type 0} (old new : SeqAccess R C) : Type 0 where

@@ -1,8 +1,10 @@
 //! The reader of typed values, and the types that it reads.
-ghost use Rattle.std.specs.Prelude.{◌≡◌, ◌≢◌, ◌<◌, ◌≤◌, true, false, Bool, Option, IfOk, IfErr};
+ghost use Rattle.std.specs.Prelude.{◌≡◌, ◌≢◌, Some, ◌<◌, ◌≤◌, true, false, Bool, Option, IfOk, IfErr};
+ghost use Rattle.rmp_wire.specs.Canonical.{IsCanonical};
 ghost use Rattle.rmp_wire.specs.Spelling.{Spells};
-ghost use Rattle.rmp_decode.specs.State.{left, faults_of, room_of, reader_of, config_of, is_failed, kept_of, limit_of, failed_of};
+ghost use Rattle.rmp_decode.specs.State.{left, faults_of, room_of, reader_of, alloc_of, config_of, is_failed, kept_of, limit_of, failed_of, is_strict, strict_of};
 ghost use Rattle.rmp_decode.specs.Law.{Begins, Readable, Lawful, ReadsHead};
+ghost use Rattle.rmp_decode.specs.Refusing.{slice_setting};
 ghost use Rattle.rmp_decode.specs.declared.de.Kept.TheVariants.{Nothing};
 
 pub mod any;
@@ -61,17 +63,21 @@ pub struct Deserializer<R, C = DefaultConfig> {
     kept: Kept,
     room: u32,
     failed: bool,
+    strict: bool,
 }
 
 impl<'de> Deserializer<ReadRefReader<'de>, DefaultConfig> {
-    ghost use Rattle.rmp_wire.specs.RefReader.{rest_of};
+    ghost use Rattle.rmp_wire.specs.RefReader.{rest_of, whole_of};
 
     /// Reads from a slice, whose texts and bytes it lends. What it needs memory for comes from `alloc`.
     pub fn from_read_ref(alloc: Global, input: &'de [u8]) -> Self
         ensures rest { rest_of (reader_of result) ≡ input.now }
+        ensures whole { whole_of (reader_of result) ≡ input.now }
+        ensures alloc { alloc_of result ≡ alloc }
         ensures kept { kept_of result ≡ Nothing }
         ensures room { room_of result ≡ 1024 }
         ensures ready { is_failed result ≡ false }
+        ensures lenient { is_strict result ≡ false }
     {
         Deserializer {
             reader: ReadRefReader::new(input),
@@ -80,12 +86,20 @@ impl<'de> Deserializer<ReadRefReader<'de>, DefaultConfig> {
             kept: Kept::Nothing,
             room: DEFAULT_DEPTH,
             failed: false,
+            strict: false,
         }
     }
 }
 
 impl<'de, C> Deserializer<ReadRefReader<'de>, C> {
-    ghost use Rattle.rmp_wire.specs.RefReader.{rest_of};
+    ghost use Rattle.rmp_wire.specs.RefReader.{rest_of, whole_of};
+
+    /// The whole slice that it reads from, which stays as it reads on.
+    pub fn get_ref(&self) -> &'de [u8]
+        ensures { result.now ≡ whole_of (reader_of self.now) }
+    {
+        self.reader.whole()
+    }
 
     /// What its source has ahead.
     pub fn remaining_slice(&self) -> &'de [u8]
@@ -97,15 +111,24 @@ impl<'de, C> Deserializer<ReadRefReader<'de>, C> {
 
 impl<R, C> Deserializer<R, C> {
     /// What it reads from.
-    pub fn get_ref(&self) -> &R
+    pub fn reader(&self) -> &R
         ensures { result.now ≡ reader_of self.now }
     {
         &self.reader
     }
 
     /// Where its memory comes from.
-    pub fn alloc(&self) -> Global {
+    pub fn alloc(&self) -> Global
+        ensures { result ≡ alloc_of self.now }
+    {
         self.alloc
+    }
+
+    /// Sets whether only canonical heads are read: those that `Serializer` writes. At first heads of any width are.
+    pub fn set_strict(&mut self, strict: bool)
+        ensures { self.new ≡ strict_of self.old strict }
+    {
+        self.strict = strict;
     }
 
     /// Fails this for good, and answers the error: what a type does that refuses what it has read.
@@ -125,9 +148,11 @@ impl<R, C: SerializerConfig> Deserializer<R, C> {
     pub fn with_human_readable(self) -> Deserializer<R, HumanReadableConfig<C>>
         ensures config { readable_inner (config_of result) ≡ config_of self }
         ensures reader { reader_of result ≡ reader_of self }
+        ensures alloc { alloc_of result ≡ alloc_of self }
         ensures kept { kept_of result ≡ kept_of self }
         ensures failed { is_failed result ≡ is_failed self }
         ensures room { limit_of result ≡ limit_of self }
+        ensures strict { is_strict result ≡ is_strict self }
     {
         Deserializer {
             reader: self.reader,
@@ -136,6 +161,7 @@ impl<R, C: SerializerConfig> Deserializer<R, C> {
             kept: self.kept,
             room: self.room,
             failed: self.failed,
+            strict: self.strict,
         }
     }
 
@@ -143,9 +169,11 @@ impl<R, C: SerializerConfig> Deserializer<R, C> {
     pub fn with_binary(self) -> Deserializer<R, BinaryConfig<C>>
         ensures config { binary_inner (config_of result) ≡ config_of self }
         ensures reader { reader_of result ≡ reader_of self }
+        ensures alloc { alloc_of result ≡ alloc_of self }
         ensures kept { kept_of result ≡ kept_of self }
         ensures failed { is_failed result ≡ is_failed self }
         ensures room { limit_of result ≡ limit_of self }
+        ensures strict { is_strict result ≡ is_strict self }
     {
         Deserializer {
             reader: self.reader,
@@ -154,6 +182,7 @@ impl<R, C: SerializerConfig> Deserializer<R, C> {
             kept: self.kept,
             room: self.room,
             failed: self.failed,
+            strict: self.strict,
         }
     }
 }
@@ -176,14 +205,14 @@ impl<R: Source, C: SerializerConfig> Deserializer<R, C> {
         }
         self.failed = true;
         match self.kept {
-            Kept::Nothing => match next_head(&mut self.reader) {
+            Kept::Nothing => match next_head(self.strict, &mut self.reader) {
                 Ok(next) => Ok(next),
                 Err(e) => Err(Error::from(e)),
             },
             Kept::First(byte) => {
                 self.kept = Kept::Nothing;
                 let marker = Marker::from_u8(byte);
-                match rest_of_head(marker, &mut self.reader) {
+                match rest_of_head(self.strict, marker, &mut self.reader) {
                     Ok(head) => Ok((marker, head)),
                     Err(e) => Err(Error::from(e)),
                 }
@@ -212,6 +241,7 @@ fn number_marker(n: u8) -> Marker
 /// A type that can be read.
 pub trait Deserialize<'de, R: ReadSlice<'de>>: Sized + Drop {
     ghost use Rattle.rmp_wire.specs.Msg.{Msg};
+    ghost use Rattle.rmp_decode.specs.Refusing.{Setting, Refusals, RefusesAs, any_refusal};
 
     // Which trees are read as which values, by whether the format is for people to read and whether the source lends its
     // bytes.
@@ -220,9 +250,18 @@ pub trait Deserialize<'de, R: ReadSlice<'de>>: Sized + Drop {
     // What stands for a field that isn't there, if anything does.
     ghost absent: { Option Self };
 
+    // What is known of the error of a read of a ready reader, by what the read depends on, how many faults the source had before
+    // and after, and what was left.
+    ghost refuses: { Setting → Refusals } = { λ _. any_refusal };
+
+    // Whether a read may answer that memory was short, by whether the source lends its bytes.
+    ghost takes_memory: { Bool → Bool } = { λ _. true };
+
     /// Reads one message.
     fn deserialize<C: SerializerConfig>(de: &mut Deserializer<R, C>) -> Result<Self, Error>
-        ensures { Lawful R.Source (reads (C.human (config_of de.old)) R.lends) de.old de.new result };
+        ensures law { Lawful R.Source (reads (C.human (config_of de.old)) R.lends) de.old de.new result }
+        ensures refused { RefusesAs R.Source (C.human (config_of de.old)) R.lends refuses de.old de.new result }
+        ensures memory { takes_memory R.lends ≡ false → IfErr result (λ e. e ≢ Error.OutOfMemory) };
 
     /// What stands for a field that isn't there, if anything does.
     fn missing() -> Option<Self>
@@ -241,8 +280,31 @@ pub fn from_slice<'de, T: Deserialize<'de, ReadRefReader<'de>>>(
     ensures ok { IfOk result (λ v. Begins Spells (λ m. T.reads false true m v) 1024 input.now) }
     // A refusal that isn't for memory means that no beginning spells a tree that the type reads.
     ensures err { IfErr result (λ e. e ≢ Error.OutOfMemory → Begins Spells (Readable (T.reads false true)) 1024 input.now → ⊥) }
+    // Where the type says which error names what is wrong, it is that one.
+    ensures refused { IfErr result (T.refuses (slice_setting false) 0 0 (Some input.now)) }
+    ensures memory { T.takes_memory true ≡ false → IfErr result (λ e. e ≢ Error.OutOfMemory) }
 {
     let mut de = Deserializer::from_read_ref(alloc, input);
+    T::deserialize(&mut de)
+}
+
+/// Reads the value that a beginning of the input spells canonically: each of its heads has to be the one that is written. What
+/// follows isn't looked at.
+///
+/// # Errors
+/// Any error but `OutOfMemory` says that no beginning of the input is the canonical spelling of a message that the type reads.
+pub fn from_slice_strict<'de, T: Deserialize<'de, ReadRefReader<'de>>>(
+    alloc: Global,
+    input: &'de [u8],
+) -> Result<T, Error>
+    ensures ok { IfOk result (λ v. Begins IsCanonical (λ m. T.reads false true m v) 1024 input.now) }
+    ensures err { IfErr result (λ e. e ≢ Error.OutOfMemory → Begins IsCanonical (Readable (T.reads false true)) 1024 input.now → ⊥) }
+    // Where the type says which error names what is wrong, it is that one.
+    ensures refused { IfErr result (T.refuses (slice_setting true) 0 0 (Some input.now)) }
+    ensures memory { T.takes_memory true ≡ false → IfErr result (λ e. e ≢ Error.OutOfMemory) }
+{
+    let mut de = Deserializer::from_read_ref(alloc, input);
+    de.set_strict(true);
     T::deserialize(&mut de)
 }
 
@@ -256,6 +318,9 @@ pub fn from_read_ref<'de, T: Deserialize<'de, ReadRefReader<'de>>>(
 ) -> Result<T, Error>
     ensures ok { IfOk result (λ v. Begins Spells (λ m. T.reads false true m v) 1024 input.now) }
     ensures err { IfErr result (λ e. e ≢ Error.OutOfMemory → Begins Spells (Readable (T.reads false true)) 1024 input.now → ⊥) }
+    // Where the type says which error names what is wrong, it is that one.
+    ensures refused { IfErr result (T.refuses (slice_setting false) 0 0 (Some input.now)) }
+    ensures memory { T.takes_memory true ≡ false → IfErr result (λ e. e ≢ Error.OutOfMemory) }
 {
     from_slice(alloc, input)
 }

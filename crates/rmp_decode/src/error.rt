@@ -41,6 +41,9 @@ pub enum Error {
     /// Memory was refused.
     #[error("out of memory")]
     OutOfMemory,
+    /// A head that isn't the canonical one, while only those are read.
+    #[error("not canonical")]
+    NotCanonical,
 }
 
 impl From<MarkerReadError> for Error {

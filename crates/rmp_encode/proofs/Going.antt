@@ -145,10 +145,10 @@ module _ (pairs : Bool) {W C : Type 0} (g : Ghosts W) where
 
   -- a part failed
   pub next_err : (d : Settings → Option Data) {m : Bool} (now now' : Serializer W C) (x : Error) → WritesTree g {A = Unit {0}} m (tree_of (settings_of now) (d (settings_of now))) (sink_of now) (sink_of now') (Err x)
-      → (old : Serializer W C) (all rest some : List (Option Data)) → some ≡ d (settings_of old) ∷ rest → IsWritten g pairs old all some now → WritesTree g {A = Unit {0}} true (tree_of (settings_of old) (open_of pairs all)) (sink_of old) (sink_of now') (Err x)
+      → (old : Serializer W C) (all rest some : List (Option Data)) → some ≡ d (settings_of old) ∷ rest → IsWritten g pairs old all some now → WritesTree g {A = Unit {0}} m (tree_of (settings_of old) (open_of pairs all)) (sink_of old) (sink_of now') (Err x)
   next_err d {m} now now' x w old all rest some e h =
-      at_goes_err true d (length (d (settings_of old) ∷ rest)) now now' x (part_memory g w) old all rest (still_written old all _ some now e h)
+      at_goes_err m d (length (d (settings_of old) ∷ rest)) now now' x w old all rest (still_written old all _ some now e h)
 
   -- the last part was written
-  pub none_next : (old : Serializer W C) (all rest : List (Option Data)) (now : Serializer W C) (u : Unit {0}) → rest ≡ [] → IsWritten g pairs old all rest now → WritesTree g true (tree_of (settings_of old) (open_of pairs all)) (sink_of old) (sink_of now) (Ok u)
-  none_next old all rest now u e h = at_closes true old all 0 now u (still_written old all [] rest now e h)
+  pub none_next : {m : Bool} (old : Serializer W C) (all rest : List (Option Data)) (now : Serializer W C) (u : Unit {0}) → rest ≡ [] → IsWritten g pairs old all rest now → WritesTree g m (tree_of (settings_of old) (open_of pairs all)) (sink_of old) (sink_of now) (Ok u)
+  none_next {m} old all rest now u e h = at_closes m old all 0 now u (still_written old all [] rest now e h)

@@ -7,6 +7,7 @@ use Rattle.std.specs.declared.alloc.Global.{Global}
 use Rattle.std.specs.List.{flat_map, AllByRecursion}
 use Rattle.std.proofs.lemmas.Grind.{flat_map-append}
 use Rattle.rmp_encode.specs.declared.settings.Settings.{Settings}
+use Rattle.rmp_wire.specs.declared.error.ValueWriteError.TheVariants as wire
 use Rattle.rmp_wire.specs.declared.sink.Sink.{Ghosts}
 use Rattle.rmp_encode.specs.declared.serializer.Serializer.{Serializer}
 use Rattle.rmp_encode.specs.declared.error.Error.{Error}
@@ -24,7 +25,9 @@ use Rattle.rmp_encode.proofs.Going.{all_append, all_back}
 
 -- a cause where the buffer has no faults
 pub cause_of : (P Q : Type 0) (n : ℕ) (e : Error) → (Q → P) → FailsBy true P 0 0 e → FailsBy true Q n n e
-cause_of P Q n (InvalidValueWrite e) f h = absurd (h refl)
+cause_of P Q n (InvalidValueWrite (wire.InvalidMarkerWrite fault)) f h = absurd (h refl)
+cause_of P Q n (InvalidValueWrite (wire.InvalidDataWrite fault)) f h = absurd (h refl)
+cause_of P Q n (InvalidValueWrite wire.OutOfMemory) f h = h
 cause_of P Q n UnknownLength f h = h
 cause_of P Q n (InvalidDataModel t) f h = (h.0, λ q. h.1 (f q), refl)
 cause_of P Q n DepthLimitExceeded f h = h
@@ -108,13 +111,13 @@ module _ (pairs : Bool) {W C : Type 0} (g : Ghosts W) where
       }
 
   -- the head and the buffer were written
-  pub keeping_ends : (count : ℕ) (b : Serializer (Vec ℕ Global) C) (now : Serializer W C) {last : W} {r : Result (Unit {0}) Error} → WritesPart g g.takes_memory (Unit {0} × Unit {0}) (head_at pairs (size_at pairs count) ++ (sink_of b).items) (sink_of now) last r
+  pub keeping_ends : {P : Type 0} (p : P) (count : ℕ) (b : Serializer (Vec ℕ Global) C) (now : Serializer W C) {last : W} {r : Result (Unit {0}) Error} → WritesPart g g.takes_memory P (head_at pairs (size_at pairs count) ++ (sink_of b).items) (sink_of now) last r
       → (old : Serializer W C) (all : List (Option Data)) → IsKeepingAt g pairs old all [] count b now → WritesTree g g.takes_memory (tree_of (settings_of old) (open_of pairs all)) (sink_of old) last r
-  keeping_ends count b now {last} {r} w old all h =
+  keeping_ends {P} p count b now {last} {r} w old all h =
       let s = settings_of old in
       let is : all ≡ h.front = h.split ∙ append-nil h.front in
       let n : length all ≡ count = ap length is ∙ sym h.count_is in
       let size : size_at pairs count ≡ h.size = ap (size_at pairs) (sym n) ∙ size_is pairs h.size all h.many in
-      let w' : WritesPart g g.takes_memory (Unit {0} × Unit {0}) (head_at pairs (size_at pairs count) ++ (sink_of b).items) (sink_of old) last r = subst (λ x. WritesPart g g.takes_memory (Unit {0} × Unit {0}) (head_at pairs (size_at pairs count) ++ (sink_of b).items) (sink_of x) last r) h.same w in
-      part_as g (λ t. t) (λ _. open_may pairs s h.size all h.many (size_fits pairs h.size count all h.many n h.fits) (subst (AllByRecursion (Has s)) (sym is) h.have)) (λ _. (tt, tt))
+      let w' : WritesPart g g.takes_memory P (head_at pairs (size_at pairs count) ++ (sink_of b).items) (sink_of old) last r = subst (λ x. WritesPart g g.takes_memory P (head_at pairs (size_at pairs count) ++ (sink_of b).items) (sink_of x) last r) h.same w in
+      part_as g (λ t. t) (λ _. open_may pairs s h.size all h.many (size_fits pairs h.size count all h.many n h.fits) (subst (AllByRecursion (Has s)) (sym is) h.have)) (λ _. p)
       (λ p. ap (λ k. head_at pairs k ++ (sink_of b).items) size ∙ ap (λ l. head_at pairs h.size ++ l) (h.bytes ∙ ap (flat_map (spelling s)) (sym is)) ∙ open_text pairs s h.size all h.many p) w'

@@ -3,6 +3,7 @@ use Rattle.std.proofs.Common.{◌≡◌, ℕ, ◌<◌, ◌≤◌, ◌^◌, List,
 use Rattle.std.specs.Prelude.{Result, Ok, Err, ℤ, pos, negsuc, FitsSigned}
 use Rattle.std.specs.Int.{w8, w64}
 use Rattle.std.specs.Borrow.{Bor}
+use Rattle.std.specs.Io.KnownBytes.{Appends}
 use Rattle.std.proofs.lemmas.Int.{to_z-of_z}
 use mir.Val.{to_z, of_z}
 use mir.Syntax.{Width}
@@ -16,11 +17,14 @@ use Rattle.rmp_wire.specs.Sinks.{StopsAfter}
 use Rattle.rmp_wire.specs.Spelling.{canon, Fits, IsBytes}
 use Rattle.rmp_wire.specs.Writing.{Writes}
 use Rattle.rmp_wire.proofs.Told.{next_differs}
+use Rattle.rmp_wire.proofs.Writing.{puts_both, puts_then_stop}
+use Rattle.rmp_wire.specs.Faults.{past_first}
 use Rattle.rmp_encode.specs.declared.error.Error.{Error}
+use Rattle.rmp_encode.specs.declared.error.Error.TheVariants as errors
 use Rattle.rmp_encode.specs.declared.error.Error.TheVariants.{InvalidDataModel}
 use Rattle.rmp_encode.specs.Errors.{IsReason, error_of, answer_of}
 use Rattle.rmp_encode.specs.Trees.{HasTree, spell, ext_head}
-use Rattle.rmp_encode.specs.Writes.{FailsBy, WritesPart, WritesTree}
+use Rattle.rmp_encode.specs.Writes.{FailsBy, HasBegun, NeverMarker, NoneAtMarker, WritesBehind, WritesPart, WritesTree}
 use Rattle.rmp_encode.proofs.Parts.{part_as, part_done, part_failed, part_refused}
 
 -- why a write stopped, as an error of this crate
@@ -29,15 +33,59 @@ fails_by m P old new part (wire.InvalidMarkerWrite fault) c = next_differs old n
 fails_by m P old new part (wire.InvalidDataWrite fault) c = next_differs old new c.1
 fails_by m P old new part wire.OutOfMemory c = (c.1, c.0)
 
+-- how far an item got, by the error's name
+begun_by : (m : Bool) (old new : ℕ) (part : List ℕ) (e : ValueWriteError) → StopsAfter m old new part e → HasBegun (error_of e) part
+begun_by m old new part (wire.InvalidMarkerWrite fault) c = tt
+begun_by m old new part (wire.InvalidDataWrite fault) c = c.0
+begun_by m old new part wire.OutOfMemory c = tt
+
+-- a fault behind an item's first byte
+pub past_marker : (e : ValueWriteError) → NeverMarker {A = Unit {0}} (Err (error_of (past_first e)))
+past_marker (wire.InvalidMarkerWrite fault) = tt
+past_marker (wire.InvalidDataWrite fault) = tt
+past_marker wire.OutOfMemory = tt
+
 module _ {W : Type 0} (g : Ghosts W) where
+  none_by : (e : ValueWriteError) (bs : List ℕ) {old new : W} → Writes {A = Unit {0}} g bs old new (Err e) → NoneAtMarker g {A = Unit {0}} old new (Err (error_of e))
+  none_by (wire.InvalidMarkerWrite fault) bs {old} {new} w = subst (Appends (g.told old) (g.told new)) w.stops.cause.0 w.stops.appended
+  none_by (wire.InvalidDataWrite fault) bs w = tt
+  none_by wire.OutOfMemory bs w = tt
+
+  none_at : (bs : List ℕ) {old new : W} (r : Result (Unit {0}) ValueWriteError) → Writes g bs old new r → NoneAtMarker g old new (answer_of r)
+  none_at bs (Ok u) w = tt
+  none_at bs (Err e) w = none_by e bs w
+
+  -- one item that the wire wrote: what its error says of the first byte
+  pub wire_marker : (bs : List ℕ) {old new : W} (r : Result (Unit {0}) ValueWriteError) {answer : Result (Unit {0}) Error} → answer ≡ answer_of r → Writes g bs old new r → NoneAtMarker g old new answer
+  wire_marker bs {old} {new} r {answer} is w = subst (NoneAtMarker g old new) (sym is) (none_at bs r w)
+
+  -- what is never said of an item isn't said wrongly
+  pub none_by_never : {A : Type 0} (old new : W) (r : Result A Error) → NeverMarker r → NoneAtMarker g old new r
+  none_by_never old new (Ok u) h = tt
+  none_by_never old new (Err (errors.InvalidValueWrite (wire.InvalidMarkerWrite fault))) h = absurd h
+  none_by_never old new (Err (errors.InvalidValueWrite (wire.InvalidDataWrite fault))) h = tt
+  none_by_never old new (Err (errors.InvalidValueWrite wire.OutOfMemory)) h = tt
+  none_by_never old new (Err errors.UnknownLength) h = tt
+  none_by_never old new (Err (errors.InvalidDataModel t)) h = tt
+  none_by_never old new (Err errors.DepthLimitExceeded) h = tt
+  none_by_never old new (Err (errors.Syntax t)) h = tt
+  none_by_never old new (Err errors.OutOfMemory) h = tt
+
   -- bytes that the wire wrote
   pub wire_part : (P : Type 0) (bs : List ℕ) {old new : W} (r : Result (Unit {0}) ValueWriteError) → P → Writes g bs old new r → WritesPart g g.takes_memory P bs old new (answer_of r)
   wire_part P bs {old} {new} (Ok u) p w = part_done g g.takes_memory P bs old new u p w.whole w.sound
   wire_part P bs {old} {new} (Err e) p w =
       part_failed g g.takes_memory P bs old new (error_of e)
       (λ _. record { part = w.stops.part; rest = w.stops.rest; split = w.stops.split; appended = w.stops.appended })
-      (record { part = w.stops.part; appended = w.stops.appended })
+      (record { part = w.stops.part; appended = w.stops.appended; begun = begun_by g.takes_memory _ _ w.stops.part e w.stops.cause })
       (fails_by g.takes_memory P _ _ w.stops.part e w.stops.cause)
+
+  -- a piece behind a head
+  pub piece_ok : (piece : List ℕ) {mid new : W} (u : Unit {0}) → Writes {A = Unit {0}} g piece mid new (Ok u) → WritesBehind g piece mid new (Ok tt)
+  piece_ok piece {mid} {new} u w = λ front old some p. wire_part (Unit {0}) (front ++ piece) (Ok tt) tt (puts_both {B = Unit {0}} {u = tt} (record { whole = p.whole; sound = p.no_fault; stops = tt }) w)
+
+  pub piece_err : (piece : List ℕ) {mid new : W} (e : ValueWriteError) → Writes {A = Unit {0}} g piece mid new (Err e) → WritesBehind g piece mid new (Err (error_of (past_first e)))
+  piece_err piece {mid} {new} e w = λ front old some p. wire_part (Unit {0}) (front ++ piece) (Err (past_first e)) tt (puts_then_stop {B = Unit {0}} {u = tt} some (record { whole = p.whole; sound = p.no_fault; stops = tt }) w)
 
   -- a head
   pub wire_head : (bs : List ℕ) {old new : W} (r : Result (Unit {0}) ValueWriteError) {answer : Result (Unit {0}) Error} → answer ≡ answer_of r → Writes g bs old new r → WritesPart g g.takes_memory (Unit {0}) bs old new answer
@@ -84,9 +132,9 @@ module _ {W : Type 0} (g : Ghosts W) where
   pub ext_as : {m : Bool} {P : Type 0} {old new : W} {r : Result (Unit {0}) Error} (n : ℕ) (z z' : ℤ) → z ≡ z' → WritesPart g m P (ext_head n z) old new r → WritesPart g m P (ext_head n z') old new r
   ext_as {m} {P} {old} {new} {r} n z z' e w = subst (λ t. WritesPart g m P (ext_head n t) old new r) e w
 
-  pub ext_tree : {m : Bool} {old new : W} {r : Result (Unit {0}) Error} (tag : ℤ) (s : List ℕ) (n : ℕ) → n ≡ length s → n < 2 ^ 32 → FitsSigned w8 tag → IsBytes s → WritesPart g m (Unit {0} × Unit {0}) (ext_head n tag ++ s) old new r → WritesTree g m (Some (extension tag s)) old new r
+  pub ext_tree : {m : Bool} {P : Type 0} {old new : W} {r : Result (Unit {0}) Error} → P → (tag : ℤ) (s : List ℕ) (n : ℕ) → n ≡ length s → n < 2 ^ 32 → FitsSigned w8 tag → IsBytes s → WritesPart g m P (ext_head n tag ++ s) old new r → WritesTree g m (Some (extension tag s)) old new r
   unfolding HasTree spell fits_head
-  ext_tree tag s n e lt f b w = part_as g (λ t. t) (λ _. ((subst (λ k. k < 2 ^ 32) e lt, f), b)) (λ _. (tt, tt)) (λ _. ap (λ k. ext_head k tag ++ s) e) w
+  ext_tree p tag s n e lt f b w = part_as g (λ t. t) (λ _. ((subst (λ k. k < 2 ^ 32) e lt, f), b)) (λ _. p) (λ _. ap (λ k. ext_head k tag ++ s) e) w
 
   pub ext_too_long : (m : Bool) (tag : ℤ) (s : List ℕ) (w : W) (t : Bor (List ℕ)) → IsReason t.now → 2 ^ 32 ≤ length s → WritesTree g {A = Unit {0}} m (Some (extension tag s)) w w (Err (InvalidDataModel t))
   unfolding HasTree fits_head

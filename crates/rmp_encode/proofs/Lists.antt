@@ -2,7 +2,9 @@
 use Rattle.std.proofs.Common.{◌≡◌, ℕ, zero, suc, ◌+◌, ◌<◌, ◌^◌, List, [], ◌∷◌, ◌++◌, length, Bool, true, false, Option, None, Some, refl, sym, ◌∙◌, ap, subst, arith}
 use Rattle.std.specs.List.{flat_map, AllByRecursion}
 use Rattle.std.specs.Option.{option_map}
+use Rattle.rmp_wire.proofs.Writing.{head_some}
 use Rattle.rmp_wire.specs.Heads.{fits_head}
+use Rattle.rmp_wire.specs.declared.head.Head.TheVariants.{Array, Map}
 use Rattle.rmp_wire.specs.Msg.{count, count_pairs}
 use Rattle.rmp_wire.specs.Spelling.{FitsAll, FitsPairs, canon, canon_all, canon_pairs}
 use Rattle.rmp_encode.specs.declared.settings.Settings.{Settings}
@@ -109,6 +111,12 @@ pub open_text : (pairs : Bool) (s : Settings) (n : ℕ) (ds : List (Option Data)
 unfolding open_of mapping_of head_at
 open_text true s n ds e h = map_text_at s n ds (entries_of ds) (tells_pairs s n ds e) h
 open_text false s n ds e h = ap (λ k. array_head k ++ flat_map (spelling s) ds) (sym e) ∙ list_text s ds h
+
+-- a head has a first byte
+pub head_at_some : (pairs : Bool) (n : ℕ) → 0 < length (head_at pairs n)
+unfolding head_at
+head_at_some true n = head_some (Map n)
+head_at_some false n = head_some (Array n)
 
 byte_at : (o : Option Parts) → byte_of (option_map sequence o) ≡ None
 byte_at None = refl

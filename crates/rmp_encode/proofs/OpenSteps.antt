@@ -12,11 +12,12 @@ use Rattle.rmp_encode.specs.declared.error.Error.TheVariants.{InvalidValueWrite,
 use Rattle.rmp_encode.specs.Data.{Data}
 use Rattle.rmp_encode.specs.Errors.{IsReason}
 use Rattle.rmp_encode.specs.Going.{head_at, open_of, IsWritingAt, IsKeepingAt}
-use Rattle.rmp_encode.specs.Opens.{Open, IsLong, IsMapLong, IsGoing, IsOpenAt, FailsOpen, FailsMap, Goes, left_of, left_at, owed_at, MayTake, MayEnd}
+use Rattle.rmp_encode.specs.Opens.{Open, IsLong, IsMapLong, IsGoing, IsOpenAt, FailsOpen, FailsMap, left_of, left_at, owed_at, MayTake, MayEnd}
 use Rattle.rmp_encode.specs.Sizes.{most}
 use Rattle.rmp_encode.specs.Ser.{sink_of, settings_of}
 use Rattle.rmp_encode.specs.Trees.{tree_of, sequence_of, mapping_of}
 use Rattle.rmp_encode.specs.Writes.{FailsBy, Keeps, StaysAtRefusal, WritesPart, WritesTree}
+use Rattle.rmp_encode.proofs.Parts.{part_memory}
 use Rattle.rmp_encode.proofs.Going.{at_not_opened, at_too_long, at_goes_ok, at_goes_err}
 
 module _ {W C : Type 0} (g : Ghosts W) where
@@ -53,14 +54,20 @@ module _ {W C : Type 0} (g : Ghosts W) where
   pub some_state : {pairs : Bool} {old : Serializer W C} {all rest : List (Option Data)} {q : Open W C} (b : Serializer (Vec ℕ Global) C) → q.buffer ≡ Some b → IsGoing g pairs old all rest q → IsKeepingAt g pairs old all rest q.count b q.se.now
   some_state {pairs} {old} {all} {rest} {q} b e h = subst (λ b. IsOpenAt g pairs old all rest b q.count q.se.now) e h.state
 
-  none_open : {pairs : Bool} {old : Serializer W C} {all rest : List (Option Data)} {q : Open W C} → q.pairs ≡ pairs → q.buffer ≡ None → IsWritingAt g pairs old all rest q.count q.se.now → IsGoing g pairs old all rest q
-  none_open {pairs} {old} {all} {rest} {q} k e h = record { kind = k; state = subst (λ b. IsOpenAt g pairs old all rest b q.count q.se.now) (sym e) h }
+  none_open : {pairs : Bool} {old : Serializer W C} {all rest : List (Option Data)} {q : Open W C} → q.sound ≡ true → q.pairs ≡ pairs → q.buffer ≡ None → IsWritingAt g pairs old all rest q.count q.se.now → IsGoing g pairs old all rest q
+  none_open {pairs} {old} {all} {rest} {q} s k e h = record { sound = s; kind = k; state = subst (λ b. IsOpenAt g pairs old all rest b q.count q.se.now) (sym e) h }
 
   -- a part went to the sink
-  pub none_goes : (pairs : Bool) (d : Settings → Option Data) (q q' : Open W C) (r : Result (Unit {0}) Error) → q.buffer ≡ None → q'.buffer ≡ None → q'.pairs ≡ q.pairs → q'.count + 1 ≡ q.count → Keeps g q.se.now q'.se.now
-      → WritesTree g true (tree_of (settings_of q.se.now) (d (settings_of q.se.now))) (sink_of q.se.now) (sink_of q'.se.now) r → Goes g pairs d q q' r
-  none_goes pairs d q q' (Ok u) e e' z l k w = λ old all rest h. none_open (z ∙ h.kind) e' (at_goes_ok pairs g d q.count q'.count q.se.now q'.se.now u l k w old all rest (none_state e h))
-  none_goes pairs d q q' (Err x) e e' z l k w = λ old all rest h. at_goes_err pairs g true d q.count q.se.now q'.se.now x w old all rest (none_state e h)
+  pub none_goes_ok : {m : Bool} (pairs : Bool) (d : Settings → Option Data) (q q' : Open W C) (u : Unit {0}) → q.buffer ≡ None → q'.sound ≡ true → q'.buffer ≡ None → q'.pairs ≡ q.pairs → q'.count + 1 ≡ q.count → Keeps g q.se.now q'.se.now
+      → WritesTree g m (tree_of (settings_of q.se.now) (d (settings_of q.se.now))) (sink_of q.se.now) (sink_of q'.se.now) (Ok u)
+      → (old : Serializer W C) (all rest : List (Option Data)) → IsGoing g pairs old all (d (settings_of old) ∷ rest) q → IsGoing g pairs old all rest q'
+  none_goes_ok pairs d q q' u e s e' z l k w = λ old all rest h. none_open s (z ∙ h.kind) e' (at_goes_ok pairs g d q.count q'.count q.se.now q'.se.now u l k (part_memory g w) old all rest (none_state e h))
+
+  -- a part failed there
+  pub none_goes_err : (m pairs : Bool) (d : Settings → Option Data) (q : Open W C) (last : Serializer W C) (e : Error) → q.buffer ≡ None
+      → WritesTree g {A = Unit {0}} m (tree_of (settings_of q.se.now) (d (settings_of q.se.now))) (sink_of q.se.now) (sink_of last) (Err e)
+      → (old : Serializer W C) (all rest : List (Option Data)) → IsGoing g pairs old all (d (settings_of old) ∷ rest) q → WritesTree g {A = Unit {0}} m (tree_of (settings_of old) (open_of pairs all)) (sink_of old) (sink_of last) (Err e)
+  none_goes_err m pairs d q last x e w = λ old all rest h. at_goes_err pairs g m d q.count q.se.now last x w old all rest (none_state e h)
 
   -- the same values are to come
   pub still_open : {pairs : Bool} {old : Serializer W C} {all rest rest' : List (Option Data)} {q : Open W C} → rest ≡ rest' → IsGoing g pairs old all rest q → IsGoing g pairs old all rest' q

@@ -1,6 +1,7 @@
 -- What the bytes of a whole value are.
 use Rattle.std.proofs.Common.{◌≡◌, ℕ, List, [], true, Option, None, Some, ◌++◌, refl, sym, ◌∙◌, ap, subst}
 use Rattle.std.specs.Prelude.{Result, Ok, Err, OnOk}
+use Rattle.rmp_wire.specs.declared.error.ValueWriteError.TheVariants as wire
 use Rattle.rmp_wire.specs.Msg.{Msg}
 use Rattle.rmp_wire.proofs.Spellings.{canon_spells, canon_least}
 use Rattle.rmp_wire.proofs.Unique.{spelled_once}
@@ -30,7 +31,9 @@ spelled_as t bytes h e = subst (IsSpelled t) (sym e) (spelled t h)
 
 -- a `Vec` has no faults
 pub to_vec_fails : (t : Option Msg) (e : Error) → FailsBy true (HasTree t) 0 0 e → ToVecFails t e
-to_vec_fails t (InvalidValueWrite e) h = h refl
+to_vec_fails t (InvalidValueWrite (wire.InvalidMarkerWrite fault)) h = h refl
+to_vec_fails t (InvalidValueWrite (wire.InvalidDataWrite fault)) h = h refl
+to_vec_fails t (InvalidValueWrite wire.OutOfMemory) h = h
 to_vec_fails t UnknownLength h = h
 to_vec_fails t (InvalidDataModel d) h = (h.0, h.1)
 to_vec_fails t DepthLimitExceeded h = h

@@ -186,19 +186,19 @@ module _ {W C : Type 0} (g : Ghosts W) where
   pub probe_state : {old : Serializer W C} {all rest : List (Option Data)} {q : OpenTuple W C} (v : Vec ℕ Global) → kept_of q ≡ Some v → IsTupling g old all rest q → IsProbing g old all rest v.items q.len q.left q.se.now
   probe_state {old} {all} {rest} {q} v e h = subst (λ b. IsTuplingAt g old all rest b q.len q.left q.se.now) e h.state
 
-  in_list : {old : Serializer W C} {all rest : List (Option Data)} {q : OpenTuple W C} → kept_of q ≡ None → IsListing g old all rest q.left q.se.now → IsTupling g old all rest q
-  in_list {old} {all} {rest} {q} e h = record { state = subst (λ b. IsTuplingAt g old all rest b q.len q.left q.se.now) (sym e) h }
+  in_list : {old : Serializer W C} {all rest : List (Option Data)} {q : OpenTuple W C} → q.sound ≡ true → kept_of q ≡ None → IsListing g old all rest q.left q.se.now → IsTupling g old all rest q
+  in_list {old} {all} {rest} {q} s e h = record { sound = s; state = subst (λ b. IsTuplingAt g old all rest b q.len q.left q.se.now) (sym e) h }
 
-  pub in_probe : {old : Serializer W C} {all rest : List (Option Data)} {q : OpenTuple W C} (v : Vec ℕ Global) → kept_of q ≡ Some v → IsProbing g old all rest v.items q.len q.left q.se.now → IsTupling g old all rest q
-  in_probe {old} {all} {rest} {q} v e h = record { state = subst (λ b. IsTuplingAt g old all rest b q.len q.left q.se.now) (sym e) h }
+  pub in_probe : {old : Serializer W C} {all rest : List (Option Data)} {q : OpenTuple W C} (v : Vec ℕ Global) → q.sound ≡ true → kept_of q ≡ Some v → IsProbing g old all rest v.items q.len q.left q.se.now → IsTupling g old all rest q
+  in_probe {old} {all} {rest} {q} v s e h = record { sound = s; state = subst (λ b. IsTuplingAt g old all rest b q.len q.left q.se.now) (sym e) h }
 
   -- an element went to the sink, as the tuple's state says
-  pub tuple_goes : (d : Settings → Option Data) (left : ℕ) (now : Serializer W C) (q' : OpenTuple W C) (r : Result (Unit {0}) Error) → kept_of q' ≡ None → q'.left + 1 ≡ left → Keeps g now q'.se.now
+  pub tuple_goes : (d : Settings → Option Data) (left : ℕ) (now : Serializer W C) (q' : OpenTuple W C) (r : Result (Unit {0}) Error) → q'.sound ≡ true → kept_of q' ≡ None → q'.left + 1 ≡ left → Keeps g now q'.se.now
       → WritesTree g true (tree_of (settings_of now) (d (settings_of now))) (sink_of now) (sink_of q'.se.now) r
       → (old : Serializer W C) (all rest : List (Option Data)) → IsListing g old all (d (settings_of old) ∷ rest) left now
       → MatchResult r (λ _. IsTupling g old all rest q') (λ e. WritesTree g {A = Unit {0}} true (tree_of (settings_of old) (tuple_of all)) (sink_of old) (sink_of q'.se.now) (Err e))
-  tuple_goes d left now q' (Ok u) e l k w old all rest h = in_list e (listing_goes d left q'.left now q'.se.now (Ok u) l k w old all rest h)
-  tuple_goes d left now q' (Err x) e l k w old all rest h = listing_goes d left q'.left now q'.se.now (Err x) l k w old all rest h
+  tuple_goes d left now q' (Ok u) s e l k w old all rest h = in_list s e (listing_goes d left q'.left now q'.se.now (Ok u) l k w old all rest h)
+  tuple_goes d left now q' (Err x) s e l k w old all rest h = listing_goes d left q'.left now q'.se.now (Err x) l k w old all rest h
 
   pub still_tuple : {old : Serializer W C} {all rest rest' : List (Option Data)} {q : OpenTuple W C} → rest ≡ rest' → IsTupling g old all rest q → IsTupling g old all rest' q
   still_tuple {old} {all} {rest} {rest'} {q} e h = subst (λ ds. IsTupling g old all ds q) e h

@@ -1,5 +1,5 @@
 -- What a contract sees of a tuple struct that is open.
-use Rattle.std.specs.Prelude.{◌≡◌, ℕ, ◌∷◌, Bool, false, List, length, Option, Result, Err, IfErr, MatchResult}
+use Rattle.std.specs.Prelude.{◌≡◌, ℕ, ◌≤◌, ◌^◌, ◌∷◌, Bool, true, false, List, length, Option, Result, Err, IfErr, MatchResult}
 use Rattle.std.specs.Borrow.{Fml, GName, RattleType, MutBor, RestsIfErr}
 use Rattle.rmp_wire.specs.declared.sink.Sink.{Ghosts}
 use Rattle.rmp_encode.specs.declared.compound.Compound.{Compound}
@@ -25,15 +25,21 @@ module _ {W C : Type 0} where
   abbrev pub left_of : Compound W C → ℕ
   left_of q = q.left
 
+  -- no call answered an error
+  abbrev pub is_sound : Compound W C → Bool
+  is_sound q = q.sound
+
 module _ {W C : Type 0} (g : Ghosts W) where
   -- of the tuple struct `all` of values, opened at old, `rest` is still to come
   pub record IsFilling (old : Serializer W C) (all rest : List (Option Data)) (q : Compound W C) : Type 0 where
+    pub sound : q.sound ≡ true
     pub state : IsWritingAt g false old all rest q.left q.se.now
 
   -- what the serializer is left as where the tuple struct isn't opened
   pub record FailsFilling {A : Type 0} (old : Serializer W C) (len : ℕ) (r : Result A Error) (last : Serializer W C) : Type 0 where
     pub keeps : Keeps g old last
     pub refused : StaysAtRefusal old last r
+    pub long : 2 ^ 32 ≤ len → last ≡ old
     pub writes : (all : List (Option Data)) → length all ≡ len → IfErr r (λ e. WritesTree g {A = Unit {0}} g.takes_memory (tree_of (settings_of old) (sequence_of all)) (sink_of old) (sink_of last) (Err e))
 
   -- an element is written, where m says that memory may be taken

@@ -1,5 +1,5 @@
 -- What a contract sees of a list or a map that is open, of a known length or an unknown one.
-use Rattle.std.specs.Prelude.{◌≡◌, ℕ, ◌+◌, ◌<◌, ◌-◌, ◌%◌, ◌∷◌, [], Bool, true, false, List, length, Option, None, Some, Result, Err, IfErr, MatchResult}
+use Rattle.std.specs.Prelude.{◌≡◌, ℕ, ◌+◌, ◌<◌, ◌≤◌, ◌^◌, ◌-◌, ◌%◌, ◌∷◌, [], Bool, true, false, List, length, Option, None, Some, Result, Err, IfErr, MatchResult}
 use Rattle.std.specs.Borrow.{Fml, GName, RattleType, MutBor, RestsIfErr}
 use Rattle.std.specs.declared.vec.Vec.{Vec}
 use Rattle.std.specs.declared.alloc.Global.{Global}
@@ -38,6 +38,10 @@ left_at (Some b) n = None
 
 abbrev pub left_of : {W C : Type 0} → Open W C → Option ℕ
 left_of q = left_at q.buffer q.count
+
+-- no call answered an error
+abbrev pub is_sound : {W C : Type 0} → Open W C → Bool
+is_sound q = q.sound
 
 -- a map is open, and no list
 abbrev pub is_map : {W C : Type 0} → Open W C → Bool
@@ -94,6 +98,11 @@ abbrev pub IsMapLong : Option ℕ → List (Option Data) → Type 0
 IsMapLong None all = IsPaired all
 IsMapLong (Some n) all = length all ≡ n + n
 
+-- more elements or pairs were told than a head has room for
+abbrev pub IsPast : Option ℕ → Type 0
+IsPast None = ⊥
+IsPast (Some n) = 2 ^ 32 ≤ n
+
 -- where the length is unknown, the serializer stays
 abbrev pub Stays : {S : Type 0} → Option ℕ → S → S → Type 0
 Stays None old new = new ≡ old
@@ -106,6 +115,7 @@ module _ {W C : Type 0} (g : Ghosts W) where
 
   -- of the parts `all` of a map or a list, opened at old, `rest` is still to come
   pub record IsGoing (pairs : Bool) (old : Serializer W C) (all rest : List (Option Data)) (q : Open W C) : Type 0 where
+    pub sound : q.sound ≡ true
     pub kind : q.pairs ≡ pairs
     pub state : IsOpenAt pairs old all rest q.buffer q.count q.se.now
 
@@ -121,12 +131,14 @@ module _ {W C : Type 0} (g : Ghosts W) where
   pub record FailsOpen {A : Type 0} (old : Serializer W C) (len : Option ℕ) (r : Result A Error) (last : Serializer W C) : Type 0 where
     pub keeps : Keeps g old last
     pub refused : StaysAtRefusal old last r
+    pub long : IsPast len → last ≡ old
     pub writes : (all : List (Option Data)) → IsLong len all → IfErr r (λ e. WritesTree g {A = Unit {0}} g.takes_memory (tree_of (settings_of old) (sequence_of all)) (sink_of old) (sink_of last) (Err e))
 
   -- the same of a map
   pub record FailsMap {A : Type 0} (old : Serializer W C) (len : Option ℕ) (r : Result A Error) (last : Serializer W C) : Type 0 where
     pub keeps : Keeps g old last
     pub refused : StaysAtRefusal old last r
+    pub long : IsPast len → last ≡ old
     pub writes : (all : List (Option Data)) → IsMapLong len all → IfErr r (λ e. WritesTree g {A = Unit {0}} g.takes_memory (tree_of (settings_of old) (mapping_of all)) (sink_of old) (sink_of last) (Err e))
 
   -- a part is written, or kept

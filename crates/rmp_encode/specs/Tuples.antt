@@ -1,5 +1,5 @@
 -- What a contract sees of a tuple that is open.
-use Rattle.std.specs.Prelude.{◌≡◌, ℕ, ◌<◌, ◌^◌, ◌++◌, ◌∷◌, Bool, true, false, List, length, map, Option, None, Some, Result, Err, IfErr, MatchResult}
+use Rattle.std.specs.Prelude.{◌≡◌, ℕ, ◌<◌, ◌≤◌, ◌^◌, ◌++◌, ◌∷◌, Bool, true, false, List, length, map, Option, None, Some, Result, Err, IfErr, MatchResult}
 use Rattle.std.specs.List.{AllByRecursion}
 use Rattle.std.specs.Borrow.{Fml, GName, RattleType, MutBor, RestsIfErr}
 use Rattle.std.specs.declared.vec.Vec.{Vec}
@@ -39,6 +39,10 @@ module _ {W C : Type 0} where
   abbrev pub left_of : OpenTuple W C → ℕ
   left_of q = q.left
 
+  -- no call answered an error
+  abbrev pub is_sound : OpenTuple W C → Bool
+  is_sound q = q.sound
+
   abbrev pub kept_of : OpenTuple W C → Option (Vec ℕ Global)
   kept_of q = kept_at q.kept q.probing
 
@@ -64,12 +68,14 @@ module _ {W C : Type 0} (g : Ghosts W) where
 
   -- of the tuple `all` of values, opened at old, `rest` is still to come
   pub record IsTupling (old : Serializer W C) (all rest : List (Option Data)) (q : OpenTuple W C) : Type 0 where
+    pub sound : q.sound ≡ true
     pub state : IsTuplingAt old all rest (kept_of q) q.len q.left q.se.now
 
   -- what the serializer is left as where the tuple isn't opened
   pub record FailsTuple {A : Type 0} (old : Serializer W C) (len : ℕ) (r : Result A Error) (last : Serializer W C) : Type 0 where
     pub keeps : Keeps g old last
     pub refused : StaysAtRefusal old last r
+    pub long : 2 ^ 32 ≤ len → last ≡ old
     pub writes : (all : List (Option Data)) → length all ≡ len → IfErr r (λ e. WritesTree g {A = Unit {0}} g.takes_memory (tree_of (settings_of old) (tuple_of all)) (sink_of old) (sink_of last) (Err e))
 
   -- an element is written, or kept

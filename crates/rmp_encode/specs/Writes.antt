@@ -1,6 +1,7 @@
 -- What a write does to a sink and a serializer.
-use Rattle.std.specs.Prelude.{◌≡◌, ◌≢◌, ℕ, ◌++◌, Bool, IsTrue, List, Option, Result, Ok, Err, OnOk, OnErr, IfErr}
+use Rattle.std.specs.Prelude.{◌≡◌, ◌≢◌, ℕ, ◌<◌, ◌++◌, Bool, IsTrue, List, [], length, Option, Result, Ok, Err, OnOk, OnErr, IfErr}
 use Rattle.std.specs.Io.KnownBytes.{Appends}
+use Rattle.rmp_wire.specs.declared.error.ValueWriteError.TheVariants as wire
 use Rattle.rmp_wire.specs.declared.sink.Sink.{Ghosts}
 use Rattle.rmp_wire.specs.Msg.{Msg}
 use Rattle.rmp_encode.specs.declared.serializer.Serializer.{Serializer}
@@ -10,10 +11,16 @@ use Rattle.rmp_encode.specs.Errors.{IsReason}
 use Rattle.rmp_encode.specs.Ser.{sink_of, settings_of}
 use Rattle.rmp_encode.specs.Trees.{HasTree, spell}
 
--- the old bytes stand in front of what a sink tells
-pub record AppendsSome (old new : Option (List ℕ)) : Type 0 where
+-- where an error says that the first byte of an item was taken, something was
+abbrev pub HasBegun : Error → List ℕ → Type 0
+HasBegun (InvalidValueWrite (wire.InvalidDataWrite fault)) part = 0 < length part
+HasBegun e part = Unit {0}
+
+-- the old bytes stand in front of what a sink tells at an error
+pub record AppendsSome (e : Error) (old new : Option (List ℕ)) : Type 0 where
   pub part : List ℕ
   pub appended : Appends old new part
+  pub begun : HasBegun e part
 
 -- the told bytes grew by a beginning of these
 pub record AppendsPart (old new : Option (List ℕ)) (bs : List ℕ) : Type 0 where
@@ -25,12 +32,18 @@ pub record AppendsPart (old new : Option (List ℕ)) (bs : List ℕ) : Type 0 wh
 -- The causes of an error, where P says that there is something to write: a fault of the sink was counted, or there is nothing to write, or
 -- memory was refused, if m says that memory may be taken.
 abbrev pub FailsBy : Bool → Type 0 → ℕ → ℕ → Error → Type 0
-FailsBy m P old new (InvalidValueWrite e) = new ≢ old
+FailsBy m P old new (InvalidValueWrite wire.OutOfMemory) = ⊥
+FailsBy m P old new (InvalidValueWrite fault) = new ≢ old
 FailsBy m P old new UnknownLength = ⊥
 FailsBy m P old new (InvalidDataModel t) = IsReason t.now × ¬ P × (new ≡ old)
 FailsBy m P old new DepthLimitExceeded = ⊥
 FailsBy m P old new (Syntax t) = ¬ P × (new ≡ old)
 FailsBy m P old new OutOfMemory = IsTrue m × (new ≡ old)
+
+-- no error says that the first byte of an item wasn't taken
+abbrev pub NeverMarker : {A : Type 0} → Result A Error → Type 0
+NeverMarker (Err (InvalidValueWrite (wire.InvalidMarkerWrite fault))) = ⊥
+NeverMarker r = Unit {0}
 
 -- what is refused for its length leaves all as it was
 abbrev pub StaysAtRefusal : {A S : Type 0} → S → S → Result A Error → Type 0
@@ -45,8 +58,19 @@ module _ {W : Type 0} (g : Ghosts W) where
     pub whole : OnOk r (Appends (g.told old) (g.told new) bs)
     pub no_fault : OnOk r (g.faults new ≡ g.faults old)
     pub part : OnErr r (P → AppendsPart (g.told old) (g.told new) bs)
-    pub front : OnErr r (AppendsSome (g.told old) (g.told new))
+    pub front : IfErr r (λ e. AppendsSome e (g.told old) (g.told new))
     pub cause : IfErr r (FailsBy m P (g.faults old) (g.faults new))
+
+  -- a piece behind bytes that went out before it: with those, whichever they are, it is a write of both
+  abbrev pub WritesBehind : List ℕ → W → W → Result (Unit {0}) Error → Type 0
+  WritesBehind bs mid new r =
+      (front : List ℕ) (old : W) → 0 < length front → WritesPart {A = Unit {0}} g.takes_memory (Unit {0}) front old mid (Ok tt)
+      → WritesPart g.takes_memory (Unit {0}) (front ++ bs) old new r
+
+  -- of one item: where an error says that its first byte wasn't taken, nothing was
+  abbrev pub NoneAtMarker : {A : Type 0} → W → W → Result A Error → Type 0
+  NoneAtMarker old new (Err (InvalidValueWrite (wire.InvalidMarkerWrite fault))) = Appends (g.told old) (g.told new) []
+  NoneAtMarker old new r = Unit {0}
 
   -- the canonical spelling of the tree, if one is there that fits
   abbrev pub WritesTree : {A : Type 0} → Bool → Option Msg → W → W → Result A Error → Type 0

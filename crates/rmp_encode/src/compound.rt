@@ -1,7 +1,7 @@
 //! Tuple structs, whose elements are written in order.
-ghost use Rattle.std.specs.Prelude.{◌≡◌, ◌+◌, ◌<◌, ◌||◌, [], true, IfOk, OnOk, IsOk, length};
+ghost use Rattle.std.specs.Prelude.{◌≡◌, ◌+◌, ◌<◌, ◌||◌, [], true, false, IfOk, OnOk, OnErr, IsOk, length};
 ghost use Rattle.std.specs.Borrow.{sem};
-ghost use Rattle.rmp_encode.specs.Compounds.{inside, reference, left_of, FillingRests, IsFilling, Fills};
+ghost use Rattle.rmp_encode.specs.Compounds.{inside, reference, left_of, is_sound, FillingRests, IsFilling, Fills};
 ghost use Rattle.rmp_encode.specs.Ser.{sink_of, settings_of};
 ghost use Rattle.rmp_encode.specs.Trees.{tree_of, sequence_of};
 ghost use Rattle.rmp_encode.specs.Writes.{Keeps, WritesTree};
@@ -13,10 +13,14 @@ use rmp_wire::Sink;
 use rmp_wire::config::SerializerConfig;
 
 /// The elements of a tuple struct that are still to be written.
+///
+/// Once a call answers an error, the tuple struct isn't sound any more, and no further call may be asked of it: it is dropped.
 #[derive(Drop)]
 pub struct Compound<'a, W, C> {
     se: &'a mut Serializer<W, C>,
     left: usize,
+    // no call answered an error
+    sound: bool,
 }
 
 impl<W: Sink, C: SerializerConfig> Serializer<W, C> {
@@ -29,6 +33,7 @@ impl<W: Sink, C: SerializerConfig> Serializer<W, C> {
         ensures* refused { sem 𝓛 (FillingRests W.row C.row W.Sink self.entry len result) }
         ensures same_reference { IfOk result (λ q. reference q ≡ self.entry.ghost_name) }
         ensures left { IfOk result (λ q. left_of q ≡ len) }
+        ensures sound { IfOk result (λ q. is_sound q ≡ true) }
         ensures opened { IfOk result (λ q. (all : _) → length all ≡ len → IsFilling W.Sink self.old all all q) }
         ensures keeps { IfOk result (λ q. Keeps W.Sink self.old (inside q)) }
     {
@@ -39,23 +44,33 @@ impl<W: Sink, C: SerializerConfig> Serializer<W, C> {
         Ok(Compound {
             se: self,
             left: len,
+            sound: true,
         })
     }
 }
 
 impl<'a, W: Sink, C: SerializerConfig> Compound<'a, W, C> {
-    /// Writes the next element.
+    /// Writes the next element. An error leaves the tuple struct unsound.
     #[inline(always)]
     pub fn serialize_element<T: Serialize>(&mut self, value: &T) -> Result<(), Error>
-        requires { 0 < left_of self.old }
+        requires sound { is_sound self.old ≡ true }
+        requires room { 0 < left_of self.old }
         ensures same_reference { reference self.new ≡ reference self.old }
         ensures left { left_of self.new + 1 ≡ left_of self.old }
+        ensures sound { OnOk result (is_sound self.new ≡ true) }
+        ensures broken { OnErr result (is_sound self.new ≡ false) }
         ensures writes { Fills W.Sink (T.takes_memory (settings_of (inside self.old)) || W.takes_memory) (λ s. T.data_of value.now s.human) self.old self.new result }
         ensures keeps { Keeps W.Sink (inside self.old) (inside self.new) }
         ensures value { OnOk result (T.is_value value.now) }
     {
         self.left -= 1;
-        value.serialize(&mut *self.se)
+        match value.serialize(&mut *self.se) {
+            Ok(()) => Ok(()),
+            Err(e) => {
+                self.sound = false;
+                Err(e)
+            }
+        }
     }
 
     /// How many elements haven't begun.
@@ -65,15 +80,27 @@ impl<'a, W: Sink, C: SerializerConfig> Compound<'a, W, C> {
         self.left
     }
 
-    /// Ends the tuple struct. Nothing is written.
+    /// Whether no call has answered an error.
+    pub fn is_sound(&self) -> bool
+        ensures { result ≡ is_sound self.now }
+    {
+        self.sound
+    }
+
+    /// Ends the tuple struct, where no call has answered an error. Nothing is written.
     pub fn end(self) -> Result<(), Error>
-        requires { left_of self ≡ 0 }
+        requires sound { is_sound self ≡ true }
+        requires whole { left_of self ≡ 0 }
         ensures ok { IsOk result }
         ensures writes { (old : _) (all : _) → IsFilling W.Sink old all [] self.entry → WritesTree W.Sink W.takes_memory (tree_of (settings_of old) (sequence_of all)) (sink_of old) (sink_of self.exit.0.now) result }
         ensures stays { self.exit.0.now ≡ inside self.entry }
         ensures keeps { Keeps W.Sink (inside self.entry) self.exit.0.now }
     {
-        let Compound { se: _, left: _ } = self;
+        let Compound {
+            se: _,
+            left: _,
+            sound: _,
+        } = self;
         Ok(())
     }
 }

@@ -9,13 +9,14 @@ use thiserror::Error;
 /// Why a write failed.
 #[derive(Debug, Drop, Error)]
 pub enum Error {
-    /// The sink failed.
+    /// The sink failed: before it took the first byte of an item (`InvalidMarkerWrite`), or after it (`InvalidDataWrite`). What
+    /// waited in a buffer for its number is one item with its head.
     #[error("invalid value write: {0}")]
     InvalidValueWrite(ValueWriteError),
     /// Never answered: lists and maps of unknown length are counted first.
     #[error("attempt to serialize struct, sequence or map with unknown length")]
     UnknownLength,
-    /// The value has no message tree, for the reason that is given.
+    /// A length is past 32 bits, as the text says.
     #[error("serialize data model is invalid: {0}")]
     InvalidDataModel(&'static str),
     /// Never answered.

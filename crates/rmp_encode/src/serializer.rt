@@ -1,12 +1,12 @@
 //! A serializer over a sink.
-ghost use Rattle.std.specs.Prelude.{◌≡◌, ◌^◌, ◌<◌, true, false, [], Some, pos, length, encode_utf8};
+ghost use Rattle.std.specs.Prelude.{◌≡◌, ◌^◌, ◌<◌, ◌≤◌, OnOk, true, false, [], Some, pos, length, encode_utf8};
 ghost use Rattle.std.specs.Borrow.{sem};
 ghost use Rattle.rmp_wire.specs.Msg.{nil, truth, whole, float32, float64, text, bin, extension};
 ghost use Rattle.rmp_encode.specs.Errors.{answer_of};
 ghost use Rattle.rmp_encode.specs.Going.{head_at, Begins};
 ghost use Rattle.rmp_encode.specs.Ser.{sink_of, settings_of, LendsSink};
 ghost use Rattle.rmp_encode.specs.Trees.{ext_head, number_head};
-ghost use Rattle.rmp_encode.specs.Writes.{Keeps, WritesPart, WritesTree, StaysAtRefusal};
+ghost use Rattle.rmp_encode.specs.Writes.{Keeps, NoneAtMarker, NeverMarker, WritesBehind, WritesPart, WritesTree, StaysAtRefusal};
 
 use crate::error::Error;
 use crate::settings::Settings;
@@ -23,6 +23,10 @@ use std::alloc::Global;
 use std::marker::PhantomData;
 
 /// Writes values into a sink, each in its canonical spelling.
+///
+/// A fault of the sink is named by the item that it broke off: `InvalidMarkerWrite` where nothing of it was taken, and
+/// `InvalidDataWrite` where its first byte was. A value whose length is past 32 bits is refused by `InvalidDataModel`, and nothing
+/// of it is written.
 #[derive(Drop)]
 pub struct Serializer<W, C = DefaultConfig> {
     wr: W,
@@ -232,10 +236,11 @@ impl<W: Sink, C: SerializerConfig> Serializer<W, C> {
 }
 
 impl<W: Sink, C: SerializerConfig> Serializer<W, C> {
-    // Puts bytes that stand behind a head.
+    // Puts bytes that stand behind a head. A fault is `InvalidDataWrite`.
     #[inline(always)]
     pub(crate) fn put(&mut self, piece: &[u8]) -> Result<(), Error>
-        ensures writes { WritesPart W.Sink W.takes_memory (Unit {0}) piece.now (sink_of self.old) (sink_of self.new) result }
+        ensures writes { WritesBehind W.Sink piece.now (sink_of self.old) (sink_of self.new) result }
+        ensures marker { NeverMarker result }
         ensures keeps { Keeps W.Sink self.old self.new }
     {
         match self.wr.put_all(piece) {
@@ -247,6 +252,7 @@ impl<W: Sink, C: SerializerConfig> Serializer<W, C> {
     #[inline(always)]
     pub(crate) fn put_head(&mut self, pairs: bool, n: u32) -> Result<(), Error>
         ensures writes { WritesPart W.Sink W.takes_memory (Unit {0}) (head_at pairs n) (sink_of self.old) (sink_of self.new) result }
+        ensures marker { NoneAtMarker W.Sink (sink_of self.old) (sink_of self.new) result }
         ensures keeps { Keeps W.Sink self.old self.new }
     {
         if pairs {
@@ -261,6 +267,8 @@ impl<W: Sink, C: SerializerConfig> Serializer<W, C> {
     pub(crate) fn put_len(&mut self, pairs: bool, len: usize) -> Result<(), Error>
         ensures begins { Begins W.Sink pairs len self.old self.new result }
         ensures keeps { Keeps W.Sink self.old self.new }
+        ensures refused { 2 ^ 32 ≤ len → self.new ≡ self.old }
+        ensures long { 2 ^ 32 ≤ len → OnOk result ⊥ }
     {
         if len > u32::MAX as usize {
             return Err(Error::InvalidDataModel("length past 32 bits"));
@@ -281,6 +289,7 @@ impl<W: Sink, C: SerializerConfig> Serializer<W, C> {
     #[inline(always)]
     pub fn serialize_unit(&mut self) -> Result<(), Error>
         ensures writes { WritesTree W.Sink W.takes_memory (Some nil) (sink_of self.old) (sink_of self.new) result }
+        ensures marker { NoneAtMarker W.Sink (sink_of self.old) (sink_of self.new) result }
         ensures keeps { Keeps W.Sink self.old self.new }
     {
         answer(write_nil(&mut self.wr))
@@ -290,6 +299,7 @@ impl<W: Sink, C: SerializerConfig> Serializer<W, C> {
     #[inline(always)]
     pub fn serialize_bool(&mut self, b: bool) -> Result<(), Error>
         ensures writes { WritesTree W.Sink W.takes_memory (Some (truth b)) (sink_of self.old) (sink_of self.new) result }
+        ensures marker { NoneAtMarker W.Sink (sink_of self.old) (sink_of self.new) result }
         ensures keeps { Keeps W.Sink self.old self.new }
     {
         answer(write_bool(&mut self.wr, b))
@@ -299,6 +309,7 @@ impl<W: Sink, C: SerializerConfig> Serializer<W, C> {
     #[inline(always)]
     pub fn serialize_u8(&mut self, n: u8) -> Result<(), Error>
         ensures writes { WritesTree W.Sink W.takes_memory (Some (whole (pos n))) (sink_of self.old) (sink_of self.new) result }
+        ensures marker { NoneAtMarker W.Sink (sink_of self.old) (sink_of self.new) result }
         ensures keeps { Keeps W.Sink self.old self.new }
     {
         answer(write_uint(&mut self.wr, u64::from(n)))
@@ -308,6 +319,7 @@ impl<W: Sink, C: SerializerConfig> Serializer<W, C> {
     #[inline(always)]
     pub fn serialize_u16(&mut self, n: u16) -> Result<(), Error>
         ensures writes { WritesTree W.Sink W.takes_memory (Some (whole (pos n))) (sink_of self.old) (sink_of self.new) result }
+        ensures marker { NoneAtMarker W.Sink (sink_of self.old) (sink_of self.new) result }
         ensures keeps { Keeps W.Sink self.old self.new }
     {
         answer(write_uint(&mut self.wr, u64::from(n)))
@@ -317,6 +329,7 @@ impl<W: Sink, C: SerializerConfig> Serializer<W, C> {
     #[inline(always)]
     pub fn serialize_u32(&mut self, n: u32) -> Result<(), Error>
         ensures writes { WritesTree W.Sink W.takes_memory (Some (whole (pos n))) (sink_of self.old) (sink_of self.new) result }
+        ensures marker { NoneAtMarker W.Sink (sink_of self.old) (sink_of self.new) result }
         ensures keeps { Keeps W.Sink self.old self.new }
     {
         answer(write_uint(&mut self.wr, u64::from(n)))
@@ -326,6 +339,7 @@ impl<W: Sink, C: SerializerConfig> Serializer<W, C> {
     #[inline(always)]
     pub fn serialize_u64(&mut self, n: u64) -> Result<(), Error>
         ensures writes { WritesTree W.Sink W.takes_memory (Some (whole (pos n))) (sink_of self.old) (sink_of self.new) result }
+        ensures marker { NoneAtMarker W.Sink (sink_of self.old) (sink_of self.new) result }
         ensures keeps { Keeps W.Sink self.old self.new }
     {
         answer(write_uint(&mut self.wr, n))
@@ -335,6 +349,7 @@ impl<W: Sink, C: SerializerConfig> Serializer<W, C> {
     #[inline(always)]
     pub fn serialize_i8(&mut self, n: i8) -> Result<(), Error>
         ensures writes { WritesTree W.Sink W.takes_memory (Some (whole n)) (sink_of self.old) (sink_of self.new) result }
+        ensures marker { NoneAtMarker W.Sink (sink_of self.old) (sink_of self.new) result }
         ensures keeps { Keeps W.Sink self.old self.new }
     {
         self.serialize_i64(i64::from(n))
@@ -344,6 +359,7 @@ impl<W: Sink, C: SerializerConfig> Serializer<W, C> {
     #[inline(always)]
     pub fn serialize_i16(&mut self, n: i16) -> Result<(), Error>
         ensures writes { WritesTree W.Sink W.takes_memory (Some (whole n)) (sink_of self.old) (sink_of self.new) result }
+        ensures marker { NoneAtMarker W.Sink (sink_of self.old) (sink_of self.new) result }
         ensures keeps { Keeps W.Sink self.old self.new }
     {
         self.serialize_i64(i64::from(n))
@@ -353,6 +369,7 @@ impl<W: Sink, C: SerializerConfig> Serializer<W, C> {
     #[inline(always)]
     pub fn serialize_i32(&mut self, n: i32) -> Result<(), Error>
         ensures writes { WritesTree W.Sink W.takes_memory (Some (whole n)) (sink_of self.old) (sink_of self.new) result }
+        ensures marker { NoneAtMarker W.Sink (sink_of self.old) (sink_of self.new) result }
         ensures keeps { Keeps W.Sink self.old self.new }
     {
         self.serialize_i64(i64::from(n))
@@ -362,6 +379,7 @@ impl<W: Sink, C: SerializerConfig> Serializer<W, C> {
     #[inline(always)]
     pub fn serialize_i64(&mut self, n: i64) -> Result<(), Error>
         ensures writes { WritesTree W.Sink W.takes_memory (Some (whole n)) (sink_of self.old) (sink_of self.new) result }
+        ensures marker { NoneAtMarker W.Sink (sink_of self.old) (sink_of self.new) result }
         ensures keeps { Keeps W.Sink self.old self.new }
     {
         answer(write_sint(&mut self.wr, n))
@@ -371,6 +389,7 @@ impl<W: Sink, C: SerializerConfig> Serializer<W, C> {
     #[inline(always)]
     pub fn serialize_f32_bits(&mut self, bits: u32) -> Result<(), Error>
         ensures writes { WritesTree W.Sink W.takes_memory (Some (float32 bits)) (sink_of self.old) (sink_of self.new) result }
+        ensures marker { NoneAtMarker W.Sink (sink_of self.old) (sink_of self.new) result }
         ensures keeps { Keeps W.Sink self.old self.new }
     {
         answer(write_f32_bits(&mut self.wr, bits))
@@ -380,6 +399,7 @@ impl<W: Sink, C: SerializerConfig> Serializer<W, C> {
     #[inline(always)]
     pub fn serialize_f64_bits(&mut self, bits: u64) -> Result<(), Error>
         ensures writes { WritesTree W.Sink W.takes_memory (Some (float64 bits)) (sink_of self.old) (sink_of self.new) result }
+        ensures marker { NoneAtMarker W.Sink (sink_of self.old) (sink_of self.new) result }
         ensures keeps { Keeps W.Sink self.old self.new }
     {
         answer(write_f64_bits(&mut self.wr, bits))
@@ -388,18 +408,21 @@ impl<W: Sink, C: SerializerConfig> Serializer<W, C> {
     /// Writes a character as the text of its bytes in UTF-8.
     pub fn serialize_char(&mut self, c: char) -> Result<(), Error>
         ensures writes { WritesTree W.Sink W.takes_memory (Some (text (encode_utf8 c))) (sink_of self.old) (sink_of self.new) result }
+        ensures marker { NoneAtMarker W.Sink (sink_of self.old) (sink_of self.new) result }
         ensures keeps { Keeps W.Sink self.old self.new }
     {
         let mut room = [0; 4];
         self.serialize_str(c.encode_utf8(&mut room))
     }
 
-    /// Writes a text. One of 2 ^ 32 bytes or more is refused, and nothing is written.
+    /// Writes a text. One of 2 ^ 32 bytes or more is refused, in the words `length past 32 bits`, and nothing is written.
     #[inline(always)]
     pub fn serialize_str(&mut self, s: &str) -> Result<(), Error>
         ensures writes { WritesTree W.Sink W.takes_memory (Some (text s.now)) (sink_of self.old) (sink_of self.new) result }
+        ensures marker { NoneAtMarker W.Sink (sink_of self.old) (sink_of self.new) result }
         ensures keeps { Keeps W.Sink self.old self.new }
         ensures refused { StaysAtRefusal self.old self.new result }
+        ensures long { 2 ^ 32 ≤ length s.now → self.new ≡ self.old }
     {
         if s.len() > u32::MAX as usize {
             return Err(Error::InvalidDataModel("length past 32 bits"));
@@ -411,8 +434,10 @@ impl<W: Sink, C: SerializerConfig> Serializer<W, C> {
     #[inline(always)]
     pub fn serialize_bytes(&mut self, bytes: &[u8]) -> Result<(), Error>
         ensures writes { WritesTree W.Sink W.takes_memory (Some (bin bytes.now)) (sink_of self.old) (sink_of self.new) result }
+        ensures marker { NoneAtMarker W.Sink (sink_of self.old) (sink_of self.new) result }
         ensures keeps { Keeps W.Sink self.old self.new }
         ensures refused { StaysAtRefusal self.old self.new result }
+        ensures long { 2 ^ 32 ≤ length bytes.now → self.new ≡ self.old }
     {
         if bytes.len() > u32::MAX as usize {
             return Err(Error::InvalidDataModel("length past 32 bits"));
@@ -427,8 +452,10 @@ impl<W: Sink, C: SerializerConfig> Serializer<W, C> {
     /// can say what becomes of its serializer.
     pub fn serialize_ext(&mut self, tag: i8, bytes: &[u8]) -> Result<(), Error>
         ensures writes { WritesTree W.Sink W.takes_memory (Some (extension tag bytes.now)) (sink_of self.old) (sink_of self.new) result }
+        ensures marker { NoneAtMarker W.Sink (sink_of self.old) (sink_of self.new) result }
         ensures keeps { Keeps W.Sink self.old self.new }
         ensures refused { StaysAtRefusal self.old self.new result }
+        ensures long { 2 ^ 32 ≤ length bytes.now → self.new ≡ self.old }
     {
         if bytes.len() > u32::MAX as usize {
             return Err(Error::InvalidDataModel("length past 32 bits"));
@@ -440,6 +467,7 @@ impl<W: Sink, C: SerializerConfig> Serializer<W, C> {
     #[inline(always)]
     fn put_ext_head(&mut self, len: u32, tag: i8) -> Result<(), Error>
         ensures writes { WritesPart W.Sink W.takes_memory (Unit {0}) (ext_head len tag) (sink_of self.old) (sink_of self.new) result }
+        ensures marker { NoneAtMarker W.Sink (sink_of self.old) (sink_of self.new) result }
         ensures keeps { Keeps W.Sink self.old self.new }
     {
         answer(write_ext_meta(&mut self.wr, len, tag))

@@ -1,10 +1,10 @@
 //! Lists and maps of a known length, or of an unknown one, whose parts wait in a buffer until its end.
-ghost use Rattle.std.specs.Prelude.{◌≡◌, ◌+◌, ◌≤◌, ◌<◌, ◌^◌, [], Bool, true, false, OnOk, IfOk, Some, None};
+ghost use Rattle.std.specs.Prelude.{◌≡◌, ◌+◌, ◌≤◌, ◌<◌, ◌^◌, [], Bool, true, false, OnOk, OnErr, IfOk, Some, None};
 ghost use Rattle.std.specs.Borrow.{sem};
 ghost use Rattle.rmp_encode.specs.Ser.{sink_of, settings_of};
 ghost use Rattle.rmp_encode.specs.Sizes.{most, size_at};
 ghost use Rattle.rmp_encode.specs.Trees.{tree_of, sequence_of, mapping_of};
-ghost use Rattle.rmp_encode.specs.Writes.{Keeps, WritesPart, WritesTree};
+ghost use Rattle.rmp_encode.specs.Writes.{Keeps, NoneAtMarker, WritesPart, WritesTree};
 
 use crate::error::Error;
 use crate::ser::Serialize;
@@ -17,6 +17,8 @@ use std::mem;
 ///
 /// Where the length was told, each part is written at once. Where it wasn't, the parts are written into a buffer, and the head and the
 /// buffer at the end.
+///
+/// Once a call answers an error, the list or the map isn't sound any more, and no further call may be asked of it: it is dropped.
 pub struct MaybeUnknownLengthCompound<'a, W, C, P = Option<Serializer<Vec<u8>, C>>> {
     se: &'a mut Serializer<W, C>,
     buffer: P,
@@ -24,6 +26,8 @@ pub struct MaybeUnknownLengthCompound<'a, W, C, P = Option<Serializer<Vec<u8>, C
     count: u64,
     // a map is open, whose parts are its keys and values in turn
     pairs: bool,
+    // no call answered an error
+    sound: bool,
 }
 
 impl<W, C, P: Drop> Drop for MaybeUnknownLengthCompound<'_, W, C, P> {
@@ -37,6 +41,7 @@ impl<W, C, P: Drop> Drop for MaybeUnknownLengthCompound<'_, W, C, P> {
             buffer: _,
             count: _,
             pairs: _,
+            sound: _,
         } = self;
     }
 }
@@ -68,7 +73,7 @@ fn size(pairs: bool, count: u64) -> u32
 }
 
 impl<W: Sink, C: SerializerConfig> Serializer<W, C> {
-    ghost use Rattle.rmp_encode.specs.Opens.{inside, reference, left_of, is_map, owed, twice, IsLong, IsMapLong, IsOpen, IsMapOpen, OpenRests, MapRests, Stays};
+    ghost use Rattle.rmp_encode.specs.Opens.{inside, reference, left_of, is_map, is_sound, owed, twice, IsLong, IsMapLong, IsOpen, IsMapOpen, OpenRests, MapRests, Stays};
 
     // A serializer with the same settings into an empty buffer.
     fn buffer(&self) -> Serializer<Vec<u8>, C>
@@ -90,6 +95,7 @@ impl<W: Sink, C: SerializerConfig> Serializer<W, C> {
         ensures same_reference { IfOk result (λ q. reference q ≡ self.entry.ghost_name) }
         ensures kind { IfOk result (λ q. is_map q ≡ false) }
         ensures owed { IfOk result (λ q. owed q ≡ 0) }
+        ensures sound { IfOk result (λ q. is_sound q ≡ true) }
         ensures left { IfOk result (λ q. left_of q ≡ len) }
         ensures opened { IfOk result (λ q. (all : _) → IsLong len all → IsOpen W.Sink self.old all all q) }
         ensures stays { IfOk result (λ q. Stays len self.old (inside q)) }
@@ -102,6 +108,7 @@ impl<W: Sink, C: SerializerConfig> Serializer<W, C> {
                 buffer: Some(buffer),
                 count: 0,
                 pairs: false,
+                sound: true,
             });
         };
         if n > u32::MAX as usize {
@@ -113,6 +120,7 @@ impl<W: Sink, C: SerializerConfig> Serializer<W, C> {
             buffer: None,
             count: n as u64,
             pairs: false,
+            sound: true,
         })
     }
 
@@ -128,6 +136,7 @@ impl<W: Sink, C: SerializerConfig> Serializer<W, C> {
         ensures same_reference { IfOk result (λ q. reference q ≡ self.entry.ghost_name) }
         ensures kind { IfOk result (λ q. is_map q ≡ true) }
         ensures owed { IfOk result (λ q. owed q ≡ 0) }
+        ensures sound { IfOk result (λ q. is_sound q ≡ true) }
         ensures left { IfOk result (λ q. left_of q ≡ twice len) }
         ensures opened { IfOk result (λ q. (all : _) → IsMapLong len all → IsMapOpen W.Sink self.old all all q) }
         ensures stays { IfOk result (λ q. Stays len self.old (inside q)) }
@@ -140,6 +149,7 @@ impl<W: Sink, C: SerializerConfig> Serializer<W, C> {
                 buffer: Some(buffer),
                 count: 0,
                 pairs: true,
+                sound: true,
             });
         };
         if n > u32::MAX as usize {
@@ -151,12 +161,13 @@ impl<W: Sink, C: SerializerConfig> Serializer<W, C> {
             buffer: None,
             count: n as u64 + n as u64,
             pairs: true,
+            sound: true,
         })
     }
 }
 
 impl<'a, W: Sink, C: SerializerConfig> MaybeUnknownLengthCompound<'a, W, C> {
-    ghost use Rattle.rmp_encode.specs.Opens.{inside, reference, counted, left_of, not_begun, is_map, owed, owed_at, one_less, MayTake, MayEnd, Goes, GoesOn, GoesOnMap, EndsList, EndsMap, Stays};
+    ghost use Rattle.rmp_encode.specs.Opens.{inside, reference, counted, left_of, not_begun, is_map, is_sound, owed, owed_at, one_less, MayTake, MayEnd, Goes, GoesOn, GoesOnMap, EndsList, EndsMap, Stays};
 
     // Writes a part, or keeps it.
     //
@@ -164,7 +175,10 @@ impl<'a, W: Sink, C: SerializerConfig> MaybeUnknownLengthCompound<'a, W, C> {
     // that has no buffer can stay in registers.
     #[inline(always)]
     fn put_part<T: Serialize>(&mut self, value: &T) -> Result<(), Error>
-        requires { MayTake (left_of self.old) }
+        requires sound { is_sound self.old ≡ true }
+        requires room { MayTake (left_of self.old) }
+        ensures sound { OnOk result (is_sound self.new ≡ true) }
+        ensures broken { OnErr result (is_sound self.new ≡ false) }
         ensures same_reference { reference self.new ≡ reference self.old }
         ensures left { left_of self.new ≡ one_less (left_of self.old) }
         ensures kind { is_map self.new ≡ is_map self.old }
@@ -177,11 +191,18 @@ impl<'a, W: Sink, C: SerializerConfig> MaybeUnknownLengthCompound<'a, W, C> {
         match &mut self.buffer {
             None => {
                 self.count -= 1;
-                value.serialize(&mut *self.se)
+                match value.serialize(&mut *self.se) {
+                    Ok(()) => Ok(()),
+                    Err(e) => {
+                        self.sound = false;
+                        Err(e)
+                    }
+                }
             }
             Some(buffer) => {
                 let full = self.count >= most(self.pairs);
                 if full {
+                    self.sound = false;
                     return Err(Error::InvalidDataModel("length past 32 bits"));
                 }
                 let empty = self.se.buffer();
@@ -193,18 +214,24 @@ impl<'a, W: Sink, C: SerializerConfig> MaybeUnknownLengthCompound<'a, W, C> {
                         self.count += 1;
                         Ok(())
                     }
-                    Err(e) => Err(e),
+                    Err(e) => {
+                        self.sound = false;
+                        Err(e)
+                    }
                 }
             }
         }
     }
 
-    /// Writes the next element of a list.
+    /// Writes the next element of a list. An error leaves the list unsound.
     #[inline(always)]
     pub fn serialize_element<T: Serialize>(&mut self, value: &T) -> Result<(), Error>
+        requires sound { is_sound self.old ≡ true }
         requires kind { is_map self.old ≡ false }
         requires room { MayTake (left_of self.old) }
         ensures same_reference { reference self.new ≡ reference self.old }
+        ensures sound { OnOk result (is_sound self.new ≡ true) }
+        ensures broken { OnErr result (is_sound self.new ≡ false) }
         ensures kind { is_map self.new ≡ false }
         ensures owed { owed self.new ≡ 0 }
         ensures left { left_of self.new ≡ one_less (left_of self.old) }
@@ -216,13 +243,16 @@ impl<'a, W: Sink, C: SerializerConfig> MaybeUnknownLengthCompound<'a, W, C> {
         self.put_part(value)
     }
 
-    /// Writes the next key of a map. Its value has to follow.
+    /// Writes the next key of a map. Its value has to follow. An error leaves the map unsound.
     #[inline(always)]
     pub fn serialize_key<T: Serialize>(&mut self, key: &T) -> Result<(), Error>
+        requires sound { is_sound self.old ≡ true }
         requires kind { is_map self.old ≡ true }
         requires turn { owed self.old ≡ 0 }
         requires room { MayTake (left_of self.old) }
         ensures same_reference { reference self.new ≡ reference self.old }
+        ensures sound { OnOk result (is_sound self.new ≡ true) }
+        ensures broken { OnErr result (is_sound self.new ≡ false) }
         ensures kind { is_map self.new ≡ true }
         ensures owed { OnOk result (owed self.new ≡ 1) }
         ensures left { left_of self.new ≡ one_less (left_of self.old) }
@@ -234,12 +264,15 @@ impl<'a, W: Sink, C: SerializerConfig> MaybeUnknownLengthCompound<'a, W, C> {
         self.put_part(key)
     }
 
-    /// Writes the value of the last key.
+    /// Writes the value of the last key. An error leaves the map unsound.
     #[inline(always)]
     pub fn serialize_value<T: Serialize>(&mut self, value: &T) -> Result<(), Error>
+        requires sound { is_sound self.old ≡ true }
         requires kind { is_map self.old ≡ true }
         requires turn { owed self.old ≡ 1 }
         ensures same_reference { reference self.new ≡ reference self.old }
+        ensures sound { OnOk result (is_sound self.new ≡ true) }
+        ensures broken { OnErr result (is_sound self.new ≡ false) }
         ensures kind { is_map self.new ≡ true }
         ensures owed { OnOk result (owed self.new ≡ 0) }
         ensures left { left_of self.new ≡ one_less (left_of self.old) }
@@ -261,13 +294,25 @@ impl<'a, W: Sink, C: SerializerConfig> MaybeUnknownLengthCompound<'a, W, C> {
         }
     }
 
-    /// Ends the list or the map. What waits in a buffer is written behind its head.
+    /// Whether no call has answered an error.
+    pub fn is_sound(&self) -> bool
+        ensures { result ≡ is_sound self.now }
+    {
+        self.sound
+    }
+
+    /// Ends the list or the map, where no call has answered an error. What waits in a buffer is written behind its head.
+    ///
+    /// Head and buffer are one item: a fault of the sink is `InvalidMarkerWrite` where it took nothing of them, and `InvalidDataWrite`
+    /// where it took a beginning.
     #[inline(always)]
     pub fn end(self) -> Result<(), Error>
+        requires sound { is_sound self ≡ true }
         requires turn { owed self ≡ 0 }
         requires whole { MayEnd (left_of self) }
         ensures writes { EndsList W.Sink self.entry (sink_of self.exit.0.now) result }
         ensures writes_map { EndsMap W.Sink self.entry (sink_of self.exit.0.now) result }
+        ensures marker { NoneAtMarker W.Sink (sink_of (inside self.entry)) (sink_of self.exit.0.now) result }
         ensures keeps { Keeps W.Sink (inside self.entry) self.exit.0.now }
     {
         let MaybeUnknownLengthCompound {
@@ -275,6 +320,7 @@ impl<'a, W: Sink, C: SerializerConfig> MaybeUnknownLengthCompound<'a, W, C> {
             buffer,
             count,
             pairs,
+            sound: _,
         } = self;
         let Some(buffer) = buffer else {
             return Ok(());

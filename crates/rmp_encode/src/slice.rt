@@ -1,5 +1,5 @@
 //! The items of a slice or a `Vec`, which are written as bytes where the mode says so.
-ghost use Rattle.std.specs.Prelude.{◌≡◌, ◌+◌, ◌<◌, [], ◌∷◌, map, All, true, OnOk, IfOk, IfErr, length};
+ghost use Rattle.std.specs.Prelude.{◌≡◌, ◌^◌, ◌≤◌, ◌+◌, ◌<◌, ◌||◌, [], ◌∷◌, map, All, true, OnOk, IfOk, IfErr, length};
 ghost use Rattle.rmp_encode.specs.declared.error.Error.TheVariants.{OutOfMemory};
 ghost use Rattle.rmp_encode.specs.Ser.{sink_of, settings_of};
 ghost use Rattle.rmp_encode.specs.Slices.{Probed};
@@ -38,10 +38,11 @@ impl<W: Sink, C: SerializerConfig> Serializer<W, C> {
         Ok(Some(bytes))
     }
 
-    // A list of values, which are never made bytes.
+    // A list of values, which are never made bytes. 2 ^ 32 of them or more are refused, and nothing is written.
     pub(crate) fn put_list<T: Serialize>(&mut self, values: &[T]) -> Result<(), Error>
-        ensures writes { WritesTree W.Sink true (tree_of (settings_of self.old) (sequence_of (map (λ x. T.data_of x (settings_of self.old).human) values.now))) (sink_of self.old) (sink_of self.new) result }
+        ensures writes { WritesTree W.Sink (T.takes_memory (settings_of self.old) || W.takes_memory) (tree_of (settings_of self.old) (sequence_of (map (λ x. T.data_of x (settings_of self.old).human) values.now))) (sink_of self.old) (sink_of self.new) result }
         ensures keeps { Keeps W.Sink self.old self.new }
+        ensures refused { 2 ^ 32 ≤ length values.now → self.new ≡ self.old }
         ensures value { OnOk result (All T.is_value values.now) }
     {
         self.put_len(false, values.len())?;
@@ -53,10 +54,12 @@ impl<W: Sink, C: SerializerConfig> Serializer<W, C> {
 
     /// Writes the items of a slice.
     ///
-    /// Under the modes that force bytes, items that are all `u8` are bytes, where there are some.
+    /// Under the modes that force bytes, items that are all `u8` are bytes, where there are some. In the mode `Normal` no memory is
+    /// taken but by the items and the sink. 2 ^ 32 items or more are refused, and nothing is written.
     pub fn collect_seq<T: Serialize>(&mut self, values: &[T]) -> Result<(), Error>
-        ensures writes { WritesTree W.Sink true (tree_of (settings_of self.old) (slice_of (map (λ x. T.data_of x (settings_of self.old).human) values.now))) (sink_of self.old) (sink_of self.new) result }
+        ensures writes { WritesTree W.Sink ((forces_slices (settings_of self.old).bytes || T.takes_memory (settings_of self.old)) || W.takes_memory) (tree_of (settings_of self.old) (slice_of (map (λ x. T.data_of x (settings_of self.old).human) values.now))) (sink_of self.old) (sink_of self.new) result }
         ensures keeps { Keeps W.Sink self.old self.new }
+        ensures refused { 2 ^ 32 ≤ length values.now → self.new ≡ self.old }
         ensures value { OnOk result (All T.is_value values.now) }
     {
         if !self.forces_slices() {

@@ -1,12 +1,12 @@
 //! Tuples, whose elements are written as bytes where the mode and the table say so.
-ghost use Rattle.std.specs.Prelude.{◌≡◌, ◌+◌, ◌<◌, [], nat_le, map, All, true, false, OnOk, IfOk, length};
+ghost use Rattle.std.specs.Prelude.{◌≡◌, ◌^◌, ◌≤◌, ◌+◌, ◌<◌, ◌||◌, [], nat_le, map, All, true, false, OnOk, OnErr, IfOk, length};
 ghost use Rattle.std.specs.Borrow.{sem};
 ghost use Rattle.std.specs.List.{list_any, flat_map};
 ghost use Rattle.rmp_wire.specs.declared.config.BytesMode.TheVariants.{ForceAll};
 ghost use Rattle.rmp_encode.specs.Data.{packs_tuple};
 ghost use Rattle.rmp_encode.specs.Ser.{sink_of, settings_of};
 ghost use Rattle.rmp_encode.specs.Trees.{tree_of, tuple_of, forces_all, number_head};
-ghost use Rattle.rmp_encode.specs.Tuples.{inside, reference, left_of, IsTupling, GoesTuple, TupleRests};
+ghost use Rattle.rmp_encode.specs.Tuples.{inside, reference, left_of, is_sound, IsTupling, GoesTuple, TupleRests};
 ghost use Rattle.rmp_encode.specs.Writes.{Keeps, WritesPart, WritesTree};
 
 use crate::error::Error;
@@ -19,6 +19,8 @@ use std::mem;
 /// The elements of a tuple that are still to be written.
 ///
 /// Under the mode that forces all, elements that are `u8` are kept until one is none, or until the end.
+///
+/// Once a call answers an error, the tuple isn't sound any more, and no further call may be asked of it: it is dropped.
 pub struct Tuple<'a, W, C, P = Option<Vec<u8>>> {
     se: &'a mut Serializer<W, C>,
     // `Some` under that mode, and `None` under the others, from the opening to `end`: the compiler can test for it once
@@ -27,6 +29,8 @@ pub struct Tuple<'a, W, C, P = Option<Vec<u8>>> {
     probing: bool,
     len: u32,
     left: usize,
+    // no call answered an error
+    sound: bool,
 }
 
 impl<W, C, P: Drop> Drop for Tuple<'_, W, C, P> {
@@ -39,6 +43,7 @@ impl<W, C, P: Drop> Drop for Tuple<'_, W, C, P> {
             probing: _,
             len: _,
             left: _,
+            sound: _,
         } = self;
     }
 }
@@ -95,6 +100,7 @@ impl<W: Sink, C: SerializerConfig> Serializer<W, C> {
         ensures* refused { sem 𝓛 (TupleRests W.row C.row W.Sink self.entry len result) }
         ensures same_reference { IfOk result (λ q. reference q ≡ self.entry.ghost_name) }
         ensures left { IfOk result (λ q. left_of q ≡ len) }
+        ensures sound { IfOk result (λ q. is_sound q ≡ true) }
         ensures opened { IfOk result (λ q. (all : _) → length all ≡ len → IsTupling W.Sink self.old all all q) }
         ensures keeps { IfOk result (λ q. Keeps W.Sink self.old (inside q)) }
     {
@@ -109,6 +115,7 @@ impl<W: Sink, C: SerializerConfig> Serializer<W, C> {
                 probing: true,
                 len: len as u32,
                 left: len,
+                sound: true,
             });
         }
         self.put_head(false, len as u32)?;
@@ -118,19 +125,43 @@ impl<W: Sink, C: SerializerConfig> Serializer<W, C> {
             probing: false,
             len: len as u32,
             left: len,
+            sound: true,
         })
     }
 }
 
 impl<'a, W: Sink, C: SerializerConfig> Tuple<'a, W, C> {
-    /// Writes the next element, or keeps it.
+    /// Writes the next element, or keeps it. An error leaves the tuple unsound.
+    #[inline(always)]
+    pub fn serialize_element<T: Serialize>(&mut self, value: &T) -> Result<(), Error>
+        requires sound { is_sound self.old ≡ true }
+        requires room { 0 < left_of self.old }
+        ensures same_reference { reference self.new ≡ reference self.old }
+        ensures left { left_of self.new + 1 ≡ left_of self.old }
+        ensures sound { OnOk result (is_sound self.new ≡ true) }
+        ensures broken { OnErr result (is_sound self.new ≡ false) }
+        ensures writes { GoesTuple W.Sink (λ s. T.data_of value.now s.human) self.old self.new result }
+        ensures keeps { Keeps W.Sink (inside self.old) (inside self.new) }
+        ensures value { OnOk result (T.is_value value.now) }
+    {
+        match self.put_element(value) {
+            Ok(()) => Ok(()),
+            Err(e) => {
+                self.sound = false;
+                Err(e)
+            }
+        }
+    }
+
+    // Writes the next element, or keeps it, whatever becomes of the tuple at an error.
     //
     // What is kept is moved out while it grows, so that no reference into the tuple is handed on.
     #[inline(always)]
-    pub fn serialize_element<T: Serialize>(&mut self, value: &T) -> Result<(), Error>
+    fn put_element<T: Serialize>(&mut self, value: &T) -> Result<(), Error>
         requires { 0 < left_of self.old }
         ensures same_reference { reference self.new ≡ reference self.old }
         ensures left { left_of self.new + 1 ≡ left_of self.old }
+        ensures sound { is_sound self.new ≡ is_sound self.old }
         ensures writes { GoesTuple W.Sink (λ s. T.data_of value.now s.human) self.old self.new result }
         ensures keeps { Keeps W.Sink (inside self.old) (inside self.new) }
         ensures value { OnOk result (T.is_value value.now) }
@@ -166,10 +197,18 @@ impl<'a, W: Sink, C: SerializerConfig> Tuple<'a, W, C> {
         self.left
     }
 
-    /// Ends the tuple. What was kept is written.
+    /// Whether no call has answered an error.
+    pub fn is_sound(&self) -> bool
+        ensures { result ≡ is_sound self.now }
+    {
+        self.sound
+    }
+
+    /// Ends the tuple, where no call has answered an error. What was kept is written.
     #[inline(always)]
     pub fn end(self) -> Result<(), Error>
-        requires { left_of self ≡ 0 }
+        requires sound { is_sound self ≡ true }
+        requires whole { left_of self ≡ 0 }
         ensures writes { (old : _) (all : _) → IsTupling W.Sink old all [] self.entry → WritesTree W.Sink W.takes_memory (tree_of (settings_of old) (tuple_of all)) (sink_of old) (sink_of self.exit.0.now) result }
         ensures keeps { Keeps W.Sink (inside self.entry) self.exit.0.now }
     {
@@ -179,6 +218,7 @@ impl<'a, W: Sink, C: SerializerConfig> Tuple<'a, W, C> {
             probing,
             len,
             left: _,
+            sound: _,
         } = self;
         let Some(bytes) = kept else {
             return Ok(());
@@ -194,13 +234,14 @@ impl<'a, W: Sink, C: SerializerConfig> Tuple<'a, W, C> {
     }
 }
 
-// A tuple of values of one type.
+// A tuple of values of one type. 2 ^ 32 of them or more are refused, and nothing is written.
 pub(crate) fn put_tuple<W: Sink, C: SerializerConfig, T: Serialize>(
     se: &mut Serializer<W, C>,
     values: &[T],
 ) -> Result<(), Error>
-    ensures writes { WritesTree W.Sink true (tree_of (settings_of se.old) (tuple_of (map (λ x. T.data_of x (settings_of se.old).human) values.now))) (sink_of se.old) (sink_of se.new) result }
+    ensures writes { WritesTree W.Sink ((forces_all (settings_of se.old).bytes || T.takes_memory (settings_of se.old)) || W.takes_memory) (tree_of (settings_of se.old) (tuple_of (map (λ x. T.data_of x (settings_of se.old).human) values.now))) (sink_of se.old) (sink_of se.new) result }
     ensures keeps { Keeps W.Sink se.old se.new }
+    ensures refused { 2 ^ 32 ≤ length values.now → se.new ≡ se.old }
     ensures value { OnOk result (All T.is_value values.now) }
 {
     if !se.forces_all() {

@@ -15,7 +15,7 @@ use Rattle.rmp_encode.specs.Data.{lower, lower_parts, lower_entries}
 use Rattle.rmp_encode.specs.Errors.{error_of, answer_of}
 use Rattle.rmp_encode.specs.Trees.{HasTree, spell, byte_of, tree_of}
 use Rattle.rmp_encode.specs.Writes as encode
-use Rattle.rmp_encode.specs.Writes.{FailsBy, WritesPart}
+use Rattle.rmp_encode.specs.Writes.{FailsBy, HasBegun, WritesPart}
 use Rattle.rmp_encode.proofs.Parts.{part_done, part_failed}
 use Rattle.rmp_serde.specs.TreeWrites.{StopsWithin, WritesTree}
 use Rattle.rmp_serde.specs.ValueData.{value_data, values_data, pairs_data}
@@ -95,13 +95,19 @@ fails_by m P old new part (wire.InvalidMarkerWrite fault) c = next_differs old n
 fails_by m P old new part (wire.InvalidDataWrite fault) c = next_differs old new c.1
 fails_by m P old new part wire.OutOfMemory c = (c.1, c.0)
 
+-- a byte was taken, where the error says so
+begun_by : (m : Bool) (old new : ℕ) (part : List ℕ) (e : ValueWriteError) → StopsWithin m old new part e → HasBegun (error_of e) part
+begun_by m old new part (wire.InvalidMarkerWrite fault) c = tt
+begun_by m old new part (wire.InvalidDataWrite fault) c = c.0
+begun_by m old new part wire.OutOfMemory c = tt
+
 module _ {W : Type 0} (g : Ghosts W) where
   wire_part : (P : Type 0) (bs : List ℕ) {old new : W} (r : Result (Unit {0}) ValueWriteError) → P → WritesTree g bs old new r → WritesPart g g.takes_memory P bs old new (answer_of r)
   wire_part P bs (Ok u) p w = part_done g g.takes_memory P bs _ _ u p w.whole w.sound
   wire_part P bs (Err e) p w =
       part_failed g g.takes_memory P bs _ _ (error_of e)
       (λ _. record { part = w.stops.part; rest = w.stops.rest; split = w.stops.split; appended = w.stops.appended })
-      (record { part = w.stops.part; appended = w.stops.appended })
+      (record { part = w.stops.part; appended = w.stops.appended; begun = begun_by g.takes_memory _ _ w.stops.part e w.stops.cause })
       (fails_by g.takes_memory P _ _ w.stops.part e w.stops.cause)
 
   -- a value that fits, of which the canonical spelling was written

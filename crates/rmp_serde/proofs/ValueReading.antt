@@ -10,6 +10,7 @@ use Rattle.std.specs.Prelude.{IsUtf8}
 use Rattle.rmp_wire.specs.declared.head.Head.TheVariants as head
 use Rattle.rmp_wire.specs.Msg.{Msg, nil, truth, whole, float32, float64, text, bin, list, map, extension, Msgs, no_items, item, Pairs, no_pairs, pair, items_of, pairs_of, msgs, pairs}
 use Rattle.rmp_wire.proofs.Spellings.{spells_fits}
+use Rattle.rmp_wire.proofs.Strict.{spells_any}
 use Rattle.rmp_wire.specs.declared.source.Source.{Ghosts}
 use Rattle.rmp_wire.specs.Spelling.{Spells, Fits, head_of}
 use Rattle.rmp_decode.proofs.AnyReads.{raw_read, list_read, lawful_under}
@@ -122,10 +123,10 @@ text_utf8 n (extension tag s) e r = absurd (cc)
 -- ---- what fits
 
 pub value_fits : {R C : Type 0} (g : Ghosts R) (old last : Deserializer R C) (v : Msg) → Lawful g reads_value old last (Ok v) → Fits v
-value_fits g old last v l = let r = l.ok in subst Fits (sym r.value.0) (spells_fits r.tree r.bytes r.spelled)
+value_fits g old last v l = let r = l.ok in subst Fits (sym r.value.0) (spells_fits r.tree r.bytes (spells_any old.strict r.tree r.bytes r.spelled))
 
 pub leaf_fits : {R C V : Type 0} (g : Ghosts R) (make : V → Msg) (old last : Deserializer R C) (v : V) → Lawful g (λ m x. m ≡ make x) old last (Ok v) → Fits (make v)
-leaf_fits g make old last v l = let r = l.ok in spells_fits (make v) r.bytes (subst (Spells r.bytes) r.value r.spelled)
+leaf_fits g make old last v l = let r = l.ok in spells_fits (make v) r.bytes (subst (Spells r.bytes) r.value (spells_any old.strict r.tree r.bytes r.spelled))
 
 pub at_last : {R C V : Type 0} (g : Ghosts R) (reads : Msg → V → Type 0) (old l last : Deserializer R C) (r : Result V Error) → Lawful g reads old l r → last ≡ l → Lawful g reads old last r
 at_last g reads old l last r p e = subst (λ (z : Deserializer _ _). Lawful g reads old z r) (sym e) p

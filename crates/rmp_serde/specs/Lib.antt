@@ -14,8 +14,10 @@ pub use Rattle.rmp_encode.specs.Writes
 pub mod Equal
 pub mod EqualLaws
 pub mod Parts
+pub mod Places
 pub mod Read
 pub mod Refuse
+pub mod Short
 pub mod TreeFalls
 pub mod TreeWrites
 pub mod ValueData

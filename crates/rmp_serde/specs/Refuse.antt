@@ -1,5 +1,5 @@
 -- Why a read of a value is refused, and where.
-use Rattle.std.specs.Prelude.{ℕ, ◌<◌, ◌⊎◌, List, length, IsUtf8}
+use Rattle.std.specs.Prelude.{ℕ, ◌<◌, ◌⊎◌, Bool, List, length, IsUtf8}
 use Rattle.rmp_wire.specs.declared.head.Head.{Head}
 use Rattle.rmp_wire.specs.declared.head.Head.TheVariants.{Text}
 use Rattle.rmp_wire.specs.declared.marker.Marker.{Marker}
@@ -15,23 +15,23 @@ use Rattle.rmp_decode.specs.declared.error.Error.TheVariants.{OutOfMemory, Utf8E
 use Rattle.rmp_serde.specs.Read.{ItemsUtf8}
 
 -- a text stands whole at the front that isn't UTF-8
-pub record TextIsInvalid (xs : List ℕ) : Type 0 where
+pub record TextIsInvalid (strict : Bool) (xs : List ℕ) : Type 0 where
   pub text : List ℕ
-  pub stands : StandsWhole (Text (length text)) text xs
+  pub stands : StandsWhole strict (Text (length text)) text xs
   pub invalid : IsUtf8 text → ⊥
 
 -- a text, bytes or an extension opens at the front
-pub record OpensContent (xs : List ℕ) : Type 0 where
+pub record OpensContent (strict : Bool) (xs : List ℕ) : Type 0 where
   pub head : Head
   pub marker : Marker
-  pub stands : Stands marker head xs
+  pub stands : Stands strict marker head xs
   pub has_content : IsRawHead head ⊎ IsExtHead head
 
 -- Why the value at the front can't be read: a text isn't UTF-8, memory was short for content or for the messages of a list or a map, or what is wrong with any message.
-abbrev pub UnreadFor : ℕ → Error → List ℕ → Type 0
-UnreadFor room (Utf8Error why) xs = TextIsInvalid xs
-UnreadFor room OutOfMemory xs = OpensContent xs ⊎ ((1 < room) × OpensParts xs)
-UnreadFor room e xs = IsWrong room e xs
+abbrev pub UnreadFor : Bool → ℕ → Error → List ℕ → Type 0
+UnreadFor strict room (Utf8Error why) xs = TextIsInvalid strict xs
+UnreadFor strict room OutOfMemory xs = OpensContent strict xs ⊎ ((1 < room) × OpensParts strict xs)
+UnreadFor strict room e xs = IsWrong strict room e xs
 
 -- What a refusal of a ready reader says, unless the source had a fault: the messages before are those whose texts are UTF-8.
 abbrev pub RefusesValue : {R C : Type 0} → Ghosts R → Deserializer R C → Deserializer R C → Error → Type 0

@@ -13,6 +13,7 @@ ghost use Rattle.rmp_encode.specs.Trees.{tree_of};
 ghost use Rattle.rmp_encode.specs.declared.error.Error.{Error};
 ghost use Rattle.rmp_encode.specs.declared.error.Error.TheVariants as errors;
 ghost use Rattle.rmp_encode.specs.declared.settings.Settings.{Settings};
+ghost use Rattle.rmp_serde.specs.Places.{IsWhole, IsFault};
 ghost use Rattle.rmp_serde.specs.ValueData.{value_data};
 
 pub use rmp_encode::laws::known_and_unknown_lengths;
@@ -40,6 +41,14 @@ pub fn canonical_spelling()
     ensures least { (b : List ℕ) (m : Msg) → Spells b m → length (canon m) ≤ length b }
 {}
 
+/// What a strict read takes, the canonical spelling of a tree, a lenient one takes too, as the same tree; and what is written,
+/// which is that spelling, a strict read takes.
+pub fn strict_reading()
+    ensures lenient { (b : List ℕ) (m : Msg) → IsCanonical b m → Spells b m }
+    ensures one { (a b x y : List ℕ) (m n : Msg) → IsCanonical a m → Spells b n → a ++ x ≡ b ++ y → (a ≡ b) × (m ≡ n) × (x ≡ y) }
+    ensures written { (m : Msg) → Fits m → IsCanonical (canon m) m }
+{}
+
 /// What is spelled fits, and is spelled by bytes.
 pub fn spelled_fits()
     ensures fits { (b : List ℕ) (m : Msg) → Spells b m → Fits m }
@@ -53,4 +62,12 @@ pub fn value_is_its_tree()
     ensures bytes { (s : Settings) (m : Msg) (b : List ℕ) → IsSpelled (tree_of s (Some (value_data m))) b → b ≡ canon m }
     ensures only { (s : Settings) (m n : Msg) (b : List ℕ) → IsSpelled (tree_of s (Some (value_data m))) b → Spells b n → n ≡ m }
     ensures memory { (s : Settings) (m : Msg) (e : Error) → Fits m → ToVecFails (tree_of s (Some (value_data m))) e → e ≡ errors.OutOfMemory }
+{}
+
+/// A checker of canonical spellings has one answer for an input: at most one length is that of a whole message, at most one
+/// place is at fault, and never are there both.
+pub fn one_canonical_answer()
+    ensures whole { (input : List ℕ) (m n : ℕ) → IsWhole input m → IsWhole input n → m ≡ n }
+    ensures fault { (input : List ℕ) (p q : ℕ) → IsFault input p → IsFault input q → p ≡ q }
+    ensures never_both { (input : List ℕ) (n p : ℕ) → IsWhole input n → IsFault input p → ⊥ }
 {}

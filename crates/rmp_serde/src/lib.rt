@@ -1,6 +1,7 @@
 //! MessagePack for typed values, with the one canonical spelling.
 #![tactic(auto)]
 
+mod check;
 pub mod decode;
 pub mod encode;
 #[cfg(test)]
@@ -10,7 +11,8 @@ pub mod laws;
 mod own_type;
 mod value;
 
-pub use decode::{Deserializer, from_read_ref, from_slice};
+pub use check::{Canon, check_canonical};
+pub use decode::{Deserializer, from_read_ref, from_slice, from_slice_strict};
 pub use encode::{Serializer, to_vec, to_vec_named};
 pub use rmp_wire as wire;
 pub use rmp_wire::{Marker, config};

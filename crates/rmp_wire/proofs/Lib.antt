@@ -10,6 +10,7 @@ pub mod Pieces
 pub mod Reading
 pub mod Sources
 pub mod Spellings
+pub mod Strict
 pub mod Taken
 pub mod Told
 pub mod Unique

@@ -1,9 +1,15 @@
 -- What calls take of the bytes ahead of a source.
 use Rattle.std.specs.Prelude.{◌≡◌, ℕ, ◌<◌, ◌⊎◌, List, ◌++◌, length, Option, IfSome, Result, IfOk, OnOk, IfErr}
+use Rattle.std.specs.Borrow.{GName}
 use Rattle.std.specs.Io.KnownBytes.{Consumes, Keeps, IsAtEnd}
 use Rattle.std.specs.declared.io.ErrorKind.TheVariants.{UnexpectedEof}
 use Rattle.rmp_wire.specs.declared.error.IoFault.{IoFault}
 use Rattle.rmp_wire.specs.Faults.{fault_kind}
+
+-- what stays of a source while it is read: a reference that it reads through, or a slice that it was made of
+pub data Place : Type 0 where
+  through : GName → Place
+  made_of : List ℕ → Place
 
 -- fewer than n bytes are ahead, where they are told
 abbrev pub IsShort : ℕ → Option (List ℕ) → Type 0

@@ -21,27 +21,38 @@ pub record Joined (P Q : List ℕ → Type 0) (whole : List ℕ) : Type 0 where
 abbrev pub IsContent : List ℕ → List ℕ → Type 0
 IsContent s content = (content ≡ s) × IsBytes s
 
--- These bytes spell the message: one of its heads, and then its content, or a spelling of each part in order.
-abbrev mutual
-  pub Spells : List ℕ → Msg → Type 0
-  Spells b nil = IsHead Nil b
-  Spells b (truth t) = IsHead (Truth t) b
-  Spells b (whole z) = IsHead (Whole z) b
-  Spells b (float32 n) = IsHead (F32Bits n) b
-  Spells b (float64 n) = IsHead (F64Bits n) b
-  Spells b (text s) = Joined (IsHead (Text (length s))) (IsContent s) b
-  Spells b (bin s) = Joined (IsHead (Bin (length s))) (IsContent s) b
-  Spells b (list ms) = Joined (IsHead (Array (count ms))) (λ rest. SpellsAll rest ms) b
-  Spells b (map ps) = Joined (IsHead (Map (count_pairs ps))) (λ rest. SpellsPairs rest ps) b
-  Spells b (extension tag s) = Joined (IsHead (Ext (length s) tag)) (IsContent s) b
+-- These bytes spell the message, where heads are these: one of its heads, and then its content, or a spelling of each part in order.
+module _ (heads : Head → List ℕ → Type 0) where
+  abbrev mutual
+    pub SpelledBy : List ℕ → Msg → Type 0
+    SpelledBy b nil = heads Nil b
+    SpelledBy b (truth t) = heads (Truth t) b
+    SpelledBy b (whole z) = heads (Whole z) b
+    SpelledBy b (float32 n) = heads (F32Bits n) b
+    SpelledBy b (float64 n) = heads (F64Bits n) b
+    SpelledBy b (text s) = Joined (heads (Text (length s))) (IsContent s) b
+    SpelledBy b (bin s) = Joined (heads (Bin (length s))) (IsContent s) b
+    SpelledBy b (list ms) = Joined (heads (Array (count ms))) (λ rest. AllSpelledBy rest ms) b
+    SpelledBy b (map ps) = Joined (heads (Map (count_pairs ps))) (λ rest. PairsSpelledBy rest ps) b
+    SpelledBy b (extension tag s) = Joined (heads (Ext (length s) tag)) (IsContent s) b
 
-  pub SpellsAll : List ℕ → Msgs → Type 0
-  SpellsAll b no_items = b ≡ []
-  SpellsAll b (item m ms) = Joined (λ first. Spells first m) (λ rest. SpellsAll rest ms) b
+    pub AllSpelledBy : List ℕ → Msgs → Type 0
+    AllSpelledBy b no_items = b ≡ []
+    AllSpelledBy b (item m ms) = Joined (λ first. SpelledBy first m) (λ rest. AllSpelledBy rest ms) b
 
-  pub SpellsPairs : List ℕ → Pairs → Type 0
-  SpellsPairs b no_pairs = b ≡ []
-  SpellsPairs b (pair k v ps) = Joined (λ first. Spells first k) (Joined (λ second. Spells second v) (λ rest. SpellsPairs rest ps)) b
+    pub PairsSpelledBy : List ℕ → Pairs → Type 0
+    PairsSpelledBy b no_pairs = b ≡ []
+    PairsSpelledBy b (pair k v ps) = Joined (λ first. SpelledBy first k) (Joined (λ second. SpelledBy second v) (λ rest. PairsSpelledBy rest ps)) b
+
+-- in any widths
+abbrev pub Spells : List ℕ → Msg → Type 0
+Spells = SpelledBy IsHead
+
+abbrev pub SpellsAll : List ℕ → Msgs → Type 0
+SpellsAll = AllSpelledBy IsHead
+
+abbrev pub SpellsPairs : List ℕ → Pairs → Type 0
+SpellsPairs = PairsSpelledBy IsHead
 
 -- The spelling whose every head is the canonical one.
 abbrev mutual

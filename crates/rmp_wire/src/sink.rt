@@ -1,6 +1,6 @@
 //! Where bytes are put.
 ghost use Rattle.std.specs.Prelude.{◌≡◌, ℕ, ◌≤◌, ◌++◌, ◌↔◌, Bool, true, false, List, [], ◌∷◌, length, take, drop, min};
-ghost use Rattle.std.specs.Prelude.{Option, None, Some, IfOk, IsOk};
+ghost use Rattle.std.specs.Prelude.{Option, None, Some, IfOk, IfErr, IsOk};
 ghost use Rattle.std.specs.Borrow.{GName};
 ghost use Rattle.std.specs.Io.KnownBytes.{WriteAppends};
 ghost use Rattle.rmp_wire.specs.Sinks.{PutCounts, Puts, stopped_after};
@@ -111,7 +111,13 @@ impl Sink for Vec<u8> {
 
     ghost faults = { λ _. 0 };
 
-    fn put(&mut self, piece: &[u8]) -> Result<usize, SinkFault> {
+    fn put(&mut self, piece: &[u8]) -> Result<usize, SinkFault>
+        ensures count { IfOk result (λ n. n ≤ length piece.now) }
+        ensures bytes { WriteAppends (Some self.old.items) (Some self.new.items) result piece.now }
+        ensures counts { PutCounts true 0 0 piece.now result }
+        ensures whole { IfOk result (λ n. n ≡ length piece.now) }
+        ensures memory { IfErr result (λ e. e ≡ SinkFault.Memory) }
+    {
         match self.extend_from_slice(piece) {
             Ok(()) => Ok(piece.len()),
             Err(_) => Err(SinkFault::Memory),

@@ -101,13 +101,15 @@ impl<'a> ReadRefReader<'a> {
     }
 }
 
-/// The bytes of the slice, in order. A call that fails leaves them as they were.
+/// The bytes of the slice, in order. A call that fails leaves them as they were, and `whole` stays.
 impl<'a> Source for ReadRefReader<'a> {
-    ghost use Rattle.rmp_wire.specs.RefReader.{rest_of};
+    ghost use Rattle.rmp_wire.specs.RefReader.{rest_of, whole_of, place_of};
 
     ghost ahead = { λ r. Some (rest_of r) };
 
     ghost faults = { λ _. 0 };
+
+    ghost place = { place_of };
 
     fn pull(&mut self, buf: &mut [u8]) -> Result<usize, io::Error> {
         Source::pull(&mut self.rest, buf)
@@ -126,6 +128,7 @@ impl<'a> Source for ReadRefReader<'a> {
         ensures bytes { IsTrue result → Skips len (Some (rest_of self.old)) (Some (rest_of self.new)) }
         ensures short { result ≡ false → length (rest_of self.old) < len }
         ensures kept { result ≡ false → self.new ≡ self.old }
+        ensures place { IsTrue result → place_of self.new ≡ place_of self.old }
     {
         self.rest.skip(len)
     }
@@ -134,6 +137,7 @@ impl<'a> Source for ReadRefReader<'a> {
     fn pull_exact(&mut self, buf: &mut [u8]) -> Result<(), IoFault>
         ensures bytes { TakesInto buf.new (Some (rest_of self.old)) (Some (rest_of self.new)) 0 0 result }
         ensures stays { OnErr result (rest_of self.new ≡ rest_of self.old) }
+        ensures whole { whole_of self.new ≡ whole_of self.old }
     {
         self.rest.pull_exact(buf)
     }
@@ -142,6 +146,7 @@ impl<'a> Source for ReadRefReader<'a> {
     fn take_1(&mut self) -> Result<[u8; 1], IoFault>
         ensures bytes { Takes 1 (Some (rest_of self.old)) (Some (rest_of self.new)) 0 0 result }
         ensures stays { OnErr result (rest_of self.new ≡ rest_of self.old) }
+        ensures whole { whole_of self.new ≡ whole_of self.old }
     {
         self.rest.take_1()
     }
@@ -150,6 +155,7 @@ impl<'a> Source for ReadRefReader<'a> {
     fn take_2(&mut self) -> Result<[u8; 2], IoFault>
         ensures bytes { Takes 2 (Some (rest_of self.old)) (Some (rest_of self.new)) 0 0 result }
         ensures stays { OnErr result (rest_of self.new ≡ rest_of self.old) }
+        ensures whole { whole_of self.new ≡ whole_of self.old }
     {
         self.rest.take_2()
     }
@@ -158,6 +164,7 @@ impl<'a> Source for ReadRefReader<'a> {
     fn take_4(&mut self) -> Result<[u8; 4], IoFault>
         ensures bytes { Takes 4 (Some (rest_of self.old)) (Some (rest_of self.new)) 0 0 result }
         ensures stays { OnErr result (rest_of self.new ≡ rest_of self.old) }
+        ensures whole { whole_of self.new ≡ whole_of self.old }
     {
         self.rest.take_4()
     }
@@ -166,6 +173,7 @@ impl<'a> Source for ReadRefReader<'a> {
     fn take_8(&mut self) -> Result<[u8; 8], IoFault>
         ensures bytes { Takes 8 (Some (rest_of self.old)) (Some (rest_of self.new)) 0 0 result }
         ensures stays { OnErr result (rest_of self.new ≡ rest_of self.old) }
+        ensures whole { whole_of self.new ≡ whole_of self.old }
     {
         self.rest.take_8()
     }

@@ -1,8 +1,7 @@
 //! Where bytes come from.
 ghost use Rattle.std.specs.Prelude.{◌≡◌, ◌≢◌, ℕ, List, [], ◌∷◌, Option, Some, IfOk, OnOk, OnErr, IsTrue, false, take, length, ◌<◌, ◌≤◌};
-ghost use Rattle.std.specs.Borrow.{GName};
 ghost use Rattle.std.specs.Io.KnownBytes.{Keeps, Consumes, IsAtEnd};
-ghost use Rattle.rmp_wire.specs.Sources.{IsFront, Skips, Takes, TakesInto};
+ghost use Rattle.rmp_wire.specs.Sources.{IsFront, Place, Skips, Takes, TakesInto};
 
 use crate::error::IoFault;
 use std::io;
@@ -19,8 +18,8 @@ pub trait Source {
     // How many faults there were.
     ghost faults: { Self → ℕ };
 
-    // The references that the source reads through.
-    ghost place: { Self → List GName } = { λ _. [] };
+    // What stays of the source while it is read: the references that it reads through, and the slice that it was made of.
+    ghost place: { Self → List Place } = { λ _. [] };
 
     /// Moves bytes from the front of those ahead into the front of `buf`, and says how many.
     ///
@@ -115,11 +114,13 @@ pub trait Source {
 }
 
 impl<S: Source> Source for &mut S {
+    ghost use Rattle.rmp_wire.specs.Sources.Place.{through};
+
     ghost ahead = { λ s. S.ahead s.now };
 
     ghost faults = { λ s. S.faults s.now };
 
-    ghost place = { λ s. s.ghost_name ∷ S.place s.now };
+    ghost place = { λ s. through s.ghost_name ∷ S.place s.now };
 
     fn pull(&mut self, buf: &mut [u8]) -> Result<usize, io::Error> {
         Source::pull(&mut **self, buf)

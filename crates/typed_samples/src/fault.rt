@@ -11,9 +11,11 @@ use thiserror::Error;
 pub enum Fault {
     #[error("a value was refused")]
     Write,
-    /// The message that a `Value` is read from.
+    /// The message that a `Value` is read from, or what was written, read strictly.
     #[error("a message was refused")]
     Read,
+    #[error("what was written isn't written again")]
+    Again,
     #[error("the output failed")]
     Output,
     #[error("out of memory")]

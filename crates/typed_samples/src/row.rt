@@ -8,6 +8,7 @@ ghost use Rattle.typed_samples.specs.Settings.{settings_in};
 use crate::fault::Fault;
 use rmp_serde::config::{BytesMode, SerializerConfig};
 use rmp_serde::encode::{Error, Serialize, Serializer};
+use rmp_serde::{Value, from_slice_strict, to_vec};
 use std::alloc::{AllocError, Global};
 
 /// A setting of a serializer: what the default one is wrapped in.
@@ -81,6 +82,16 @@ fn spelling<T: Serialize>(alloc: Global, setting: Setting, value: &T) -> Result<
     }
 }
 
+// Reads what was written strictly, as a message of any kind, and writes that again: the same bytes.
+fn read_again(alloc: Global, bytes: &[u8]) -> Result<(), Fault> {
+    let message: Value = from_slice_strict(alloc, bytes)?;
+    if to_vec(alloc, &message)?.as_slice() == bytes {
+        Ok(())
+    } else {
+        Err(Fault::Again)
+    }
+}
+
 /// The rows so far, one a line.
 #[derive(Drop)]
 pub struct Rows {
@@ -111,6 +122,7 @@ impl Rows {
     ) -> Result<(), Fault> {
         for setting in settings {
             let bytes = spelling(self.alloc, *setting, value)?;
+            read_again(self.alloc, bytes.as_slice())?;
             self.line(kind, shown, setting.words(), bytes.as_slice())?;
         }
         Ok(())

@@ -3,7 +3,7 @@
 use rmp::encode::{write_array_len, write_uint};
 use rmp_serde::encode::Error;
 use rmp_serde::from_slice;
-use serde::de::{Deserializer, MapAccess, SeqAccess, Visitor};
+use serde::de::{Deserializer, IgnoredAny, MapAccess, SeqAccess, Visitor};
 use serde::ser::{SerializeMap, SerializeSeq, SerializeTuple, Serializer};
 use serde::{Deserialize, Serialize};
 use serde_bytes::Bytes;
@@ -33,6 +33,16 @@ fn main() {
         read_lent_texts,
         read_entries: reads::<Vec<(String, u16)>>,
         read_lent_entries,
+        // The original has no strict reading: it reads heads of any width here too.
+        strict_numbers: reads::<Vec<u32>>,
+        strict_rows: reads::<Vec<Vec<u32>>>,
+        strict_texts: reads::<Vec<String>>,
+        strict_lent_texts: read_lent_texts,
+        strict_entries: reads::<Vec<(String, u16)>>,
+        strict_lent_entries: read_lent_entries,
+        skip,
+        // Nor has it a checker: it passes over the message.
+        check: |data, reps| skip(data, reps) * data.len(),
     });
 }
 
@@ -126,6 +136,17 @@ fn write_entries(data: &[u8], reps: u32) -> usize {
 fn write_value(data: &[u8], reps: u32) -> usize {
     let value: Value = from_slice(data).expect("a message");
     rounds(&value, reps)
+}
+
+#[inline(never)]
+fn skip(data: &[u8], reps: u32) -> usize {
+    let mut sum: usize = 0;
+    for _ in 0..reps {
+        if from_slice::<IgnoredAny>(data).is_ok() {
+            sum = sum.wrapping_add(1);
+        }
+    }
+    sum
 }
 
 /// A list that is counted.

@@ -2,7 +2,8 @@ ghost use Rattle.std.specs.Prelude.{Some, true};
 
 use super::*;
 use rmp_serde::wire::SinkFault;
-use std::io::ErrorKind;
+use std::alloc::AllocError;
+use std::io::{self, ErrorKind};
 use std::process::Abort;
 
 // Three lines, of which the second has two messages, and what they print.

@@ -1,8 +1,9 @@
 //! Arrays, from lists of as many elements, or bytes of as many.
-ghost use Rattle.std.specs.Prelude.{◌≡◌, ◌<◌, true, false, None, Some, IsSome, OnOk, IfErr, All, map, length, slice_index_or, slice_set};
+ghost use Rattle.std.specs.Prelude.{◌≡◌, ◌≢◌, ◌<◌, true, false, None, Some, IsSome, OnOk, IfErr, All, map, length, slice_index_or, slice_set};
 ghost use Rattle.rmp_decode.specs.Arrays.{PlacesFit, Exactly, TakesPlaces};
-ghost use Rattle.rmp_decode.specs.Seq.{OfRow, IsOpen, FailsParts, count_in, lender_of};
-ghost use Rattle.rmp_decode.specs.State.{config_of};
+ghost use Rattle.rmp_decode.specs.Refusing.{OneWanted, element_setting};
+ghost use Rattle.rmp_decode.specs.Seq.{OfRow, IsOpen, FailsParts, count_in, in_bytes, left_in, lender_of};
+ghost use Rattle.rmp_decode.specs.State.{left, faults_of, config_of};
 
 use crate::de::seq::SeqAccess;
 use crate::de::{Deserialize, Deserializer};
@@ -55,6 +56,8 @@ impl<'x, R: Source, C: SerializerConfig> SeqAccess<'x, R, C> {
         ensures same_reference { self.new.de.ghost_name ≡ self.old.de.ghost_name }
         ensures ok { OnOk result (TakesPlaces R.Source (length places.old) (T.reads (C.human (config_of (lender_of self.old))) R.lends) self.old self.new places.new) }
         ensures count { OnOk result (count_in self.new ≡ count_in self.old) }
+        ensures refused { IfErr result (OneWanted (length places.old) T.reads T.refuses (in_bytes self.old) (element_setting (C.human (config_of (lender_of self.old))) R.lends self.old) (faults_of R.Source (lender_of self.old)) (faults_of R.Source (lender_of self.new)) (left_in self.old) (left R.Source (lender_of self.old))) }
+        ensures memory { T.takes_memory R.lends ≡ false → IfErr result (λ e. e ≢ Error.OutOfMemory) }
         ensures err { IfErr result (FailsParts R.Source (Exactly (length places.old) (T.reads (C.human (config_of (lender_of self.old))) R.lends)) self.old self.new) }
     {
         let mut i = 0;
@@ -72,9 +75,16 @@ impl<'x, R: Source, C: SerializerConfig> SeqAccess<'x, R, C> {
 
 impl<'de, R: ReadSlice<'de>, T: Deserialize<'de, R>, const N: usize> Deserialize<'de, R>
     for [T; N] {
+    ghost use Rattle.std.specs.Prelude.{◌⊎◌};
+    ghost use Rattle.rmp_decode.specs.Refusing.{RefusesTimes};
+    ghost use Rattle.rmp_decode.specs.declared.error.Error.TheVariants.{OutOfMemory};
+
     ghost reads = { λ human lends m v. OfRow (Exactly N (T.reads human lends) v) m };
 
     ghost absent = { None };
+
+    // Memory is short where so many places don't fit into it.
+    ghost refuses = { λ s before after known e. ((PlacesFit T.row N → ⊥) × (e ≡ OutOfMemory)) ⊎ RefusesTimes N T.reads T.refuses s before after known e };
 
     fn deserialize<C: SerializerConfig>(de: &mut Deserializer<R, C>) -> Result<[T; N], Error> {
         let mut seq = match de.deserialize_tuple(N) {

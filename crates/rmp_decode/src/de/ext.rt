@@ -1,10 +1,10 @@
 //! Extensions.
 ghost use Rattle.std.specs.Prelude.{◌≡◌, None, IfErr, false};
-ghost use Rattle.rmp_decode.specs.Content.{IsExtHead, RefusesContent, never_refused, not_ext};
+ghost use Rattle.rmp_decode.specs.Content.{IsExtHead, RefusesContent, RefusesLeaf, never_refused, not_ext};
 ghost use Rattle.rmp_decode.specs.Kinds.{Finds};
 ghost use Rattle.rmp_decode.specs.Law.{Lawful};
 ghost use Rattle.rmp_decode.specs.Read.{IsExt};
-ghost use Rattle.rmp_decode.specs.State.{left, faults_of, is_failed};
+ghost use Rattle.rmp_decode.specs.State.{left, faults_of, is_failed, is_strict};
 
 use crate::de::pieces::owned;
 use crate::de::{Deserialize, Deserializer};
@@ -32,7 +32,7 @@ impl<R: Source, C: SerializerConfig> Deserializer<R, C> {
     where
         R: ReadSlice<'de>,
         ensures law { Lawful R.Source IsExt self.old self.new result }
-        ensures exact { is_failed self.old ≡ false → IfErr result (RefusesContent IsExtHead not_ext never_refused (faults_of R.Source self.old) (faults_of R.Source self.new) (left R.Source self.old)) }
+        ensures exact { RefusesLeaf R.Source IsExtHead not_ext never_refused self.old self.new result }
     {
         match self.head() {
             Ok((marker, head)) => match ext_in(head) {
@@ -54,6 +54,8 @@ impl<'de, R: ReadSlice<'de>> Deserialize<'de, R> for Ext {
     ghost reads = { λ human lends. IsExt };
 
     ghost absent = { None };
+
+    ghost refuses = { λ s. RefusesContent s.strict IsExtHead not_ext never_refused };
 
     #[inline(always)]
     fn deserialize<C: SerializerConfig>(de: &mut Deserializer<R, C>) -> Result<Ext, Error> {

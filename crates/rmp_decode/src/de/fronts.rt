@@ -1,34 +1,90 @@
 //! Heads that lie in memory whole, read where they lie.
-ghost use Rattle.std.specs.Prelude.{◌≡◌, ◌<◌, ◌≤◌, pos, true, false, IfSome, IfNone};
+ghost use Rattle.std.specs.Prelude.{◌≡◌, ◌<◌, ◌≤◌, pos, true, false, Bool, IfSome, IfNone, IfOk, IfErr};
 ghost use Rattle.rmp_decode.specs.Fronts.{StandsIn, TakesFront};
+ghost use Rattle.rmp_decode.specs.Law.{ReadsHead};
 ghost use Rattle.rmp_decode.specs.State.{is_failed, kept_of};
 ghost use Rattle.rmp_decode.specs.declared.de.Kept.TheVariants.{Nothing};
 
+mod kinds;
+
+use crate::de::fronts::kinds::head_at;
 use crate::de::{Deserializer, Kept};
+use crate::error::Error;
 use rmp_wire::config::SerializerConfig;
 use rmp_wire::{Head, Source};
 
-// A number without a sign whose head stands at the front, and the count of the head's bytes.
+// Whether a number or a length may stand in a format that is meant for those from `least` on. Where reading isn't strict each may.
 #[inline(always)]
-fn unsigned_at(front: &[u8]) -> Option<(u64, usize)>
-    ensures { IfSome result (λ p. StandsIn p.1 (Head.Whole (pos p.0)) front.now) }
+fn may_stand(n: u64, least: u64, strict: bool) -> bool
+    ensures { result ≡ true → strict ≡ true → least ≤ n }
+{
+    !strict || n >= least
+}
+
+// A number that was read, and the count of its head's bytes, where it is one from `least` on.
+#[inline(always)]
+fn from_least(n: u64, len: usize, least: u64) -> Option<(u64, usize)>
+    ensures { IfSome result (λ p. (p.0 ≡ n) × (p.1 ≡ len) × (least ≤ n)) }
+{
+    if n >= least { Some((n, len)) } else { None }
+}
+
+// A number without a sign in the canonical format, where that isn't one byte, and the count of the head's bytes.
+#[inline(always)]
+fn canonical_wide_at(front: &[u8]) -> Option<(u64, usize)>
+    ensures { IfSome result (λ p. StandsIn true p.1 (Head.Whole (pos p.0)) front.now) }
+{
+    match front {
+        [first, behind @ ..] => match first {
+            0xcc => match behind {
+                [a, ..] => from_least(u64::from(*a), 2, 0x80),
+                _ => None,
+            },
+            0xcd => match behind {
+                [a, b, ..] => from_least(u64::from(u16::from_be_bytes([*a, *b])), 3, 1 << 8),
+                _ => None,
+            },
+            0xce => match behind {
+                [a, b, c, d, ..] => {
+                    from_least(u64::from(u32::from_be_bytes([*a, *b, *c, *d])), 5, 1 << 16)
+                }
+                _ => None,
+            },
+            0xcf => match behind {
+                [a, b, c, d, e, f, g, h, ..] => {
+                    let n = u64::from_be_bytes([*a, *b, *c, *d, *e, *f, *g, *h]);
+                    from_least(n, 9, 1 << 32)
+                }
+                _ => None,
+            },
+            _ => None,
+        },
+        _ => None,
+    }
+}
+
+// A number without a sign whose head stands at the front, and the count of the head's bytes: a head of one byte, which is
+// canonical, or of any width where reading isn't strict.
+#[inline(always)]
+fn unsigned_at(front: &[u8], strict: bool) -> Option<(u64, usize)>
+    ensures { IfSome result (λ p. StandsIn strict p.1 (Head.Whole (pos p.0)) front.now) }
 {
     match front {
         [first, behind @ ..] => match first {
             0x00..=0x7f => Some((u64::from(*first), 1)),
-            0xcc => match behind {
+            0xcc if !strict => match behind {
                 [a, ..] => Some((u64::from(*a), 2)),
                 _ => None,
             },
-            0xcd => match behind {
+            0xcd if !strict => match behind {
                 [a, b, ..] => Some((u64::from(u16::from_be_bytes([*a, *b])), 3)),
                 _ => None,
             },
-            0xce => match behind {
+            0xce if !strict => match behind {
                 [a, b, c, d, ..] => Some((u64::from(u32::from_be_bytes([*a, *b, *c, *d])), 5)),
                 _ => None,
             },
-            0xcf => match behind {
+            0xcf if !strict => match behind {
                 [a, b, c, d, e, f, g, h, ..] => {
                     Some((u64::from_be_bytes([*a, *b, *c, *d, *e, *f, *g, *h]), 9))
                 }
@@ -42,14 +98,20 @@ fn unsigned_at(front: &[u8]) -> Option<(u64, usize)>
 
 // A text whose head stands at the front: the count of its bytes, and of the head's.
 #[inline(always)]
-fn text_at(front: &[u8]) -> Option<(u32, usize)>
-    ensures { IfSome result (λ p. StandsIn p.1 (Head.Text p.0) front.now) }
+fn text_at(front: &[u8], strict: bool) -> Option<(u32, usize)>
+    ensures { IfSome result (λ p. StandsIn strict p.1 (Head.Text p.0) front.now) }
 {
     match front {
         [first, behind @ ..] => match first {
             0xa0..=0xbf => Some((u32::from(*first - 0xa0), 1)),
             0xd9 => match behind {
-                [a, ..] => Some((u32::from(*a), 2)),
+                [a, ..] => {
+                    if may_stand(u64::from(*a), 32, strict) {
+                        Some((u32::from(*a), 2))
+                    } else {
+                        None
+                    }
+                }
                 _ => None,
             },
             _ => None,
@@ -61,7 +123,7 @@ fn text_at(front: &[u8]) -> Option<(u32, usize)>
 // A list of up to 15 elements whose head, of one byte, stands at the front: the count of its elements.
 #[inline(always)]
 fn list_at(front: &[u8]) -> Option<u32>
-    ensures { IfSome result (λ n. StandsIn 1 (Head.Array n) front.now) }
+    ensures { IfSome result (λ n. (strict : Bool) → StandsIn strict 1 (Head.Array n) front.now) }
 {
     match front {
         [first, ..] => match first {
@@ -96,9 +158,32 @@ impl<R: Source, C: SerializerConfig> Deserializer<R, C> {
         if !self.begins_ahead() {
             return None;
         }
-        match unsigned_at(self.reader.front()) {
+        match unsigned_at(self.reader.front(), self.strict) {
             Some((n, len)) => {
                 if n <= most && self.reader.skip(len) {
+                    self.failed = true;
+                    Some(n)
+                } else {
+                    None
+                }
+            }
+            None => None,
+        }
+    }
+
+    // The same of a canonical head that isn't one byte, where reading is strict.
+    #[inline(always)]
+    pub(crate) fn strict_unsigned_front(&mut self, most: u64) -> Option<u64>
+        ensures within { IfSome result (λ n. n ≤ most) }
+        ensures taken { IfSome result (λ n. TakesFront R.Source (Head.Whole (pos n)) self.old self.new) }
+        ensures kept { IfNone result (self.new ≡ self.old) }
+    {
+        if !self.strict || !self.begins_ahead() {
+            return None;
+        }
+        match canonical_wide_at(self.reader.front()) {
+            Some((n, len)) => {
+                if most >= n && self.reader.skip(len) {
                     self.failed = true;
                     Some(n)
                 } else {
@@ -119,7 +204,7 @@ impl<R: Source, C: SerializerConfig> Deserializer<R, C> {
         if !self.begins_ahead() {
             return None;
         }
-        match text_at(self.reader.front()) {
+        match text_at(self.reader.front(), self.strict) {
             Some((n, len)) => {
                 if self.reader.skip(len) {
                     self.failed = true;
@@ -153,6 +238,53 @@ impl<R: Source, C: SerializerConfig> Deserializer<R, C> {
                 }
             }
             None => None,
+        }
+    }
+
+    // Takes a head of any kind but an extension where it lies in memory whole, and leaves this failed until the message is
+    // read. Else nothing is taken.
+    #[inline(always)]
+    pub(crate) fn head_front(&mut self) -> Option<Head>
+        ensures taken { IfSome result (λ h. TakesFront R.Source h self.old self.new) }
+        ensures kept { IfNone result (self.new ≡ self.old) }
+    {
+        if !self.begins_ahead() {
+            return None;
+        }
+        match head_at(self.reader.front(), self.strict) {
+            Some((head, len)) => {
+                if self.reader.skip(len) {
+                    self.failed = true;
+                    Some(head)
+                } else {
+                    None
+                }
+            }
+            None => None,
+        }
+    }
+
+    // Takes a head of any kind, where it lies or by way of `head`, and leaves this failed until the message is read.
+    #[inline(always)]
+    pub(crate) fn any_head(&mut self) -> Result<Head, Error>
+        ensures ok { IfOk result (λ h. TakesFront R.Source h self.old self.new) }
+        ensures err { IfErr result (λ e. ReadsHead R.Source self.old self.new (Err e)) }
+    {
+        match self.head_front() {
+            Some(head) => Ok(head),
+            None => self.headed(),
+        }
+    }
+
+    // The same by way of `head`, by a call.
+    #[inline(never)]
+    fn headed(&mut self) -> Result<Head, Error>
+        ensures ok { IfOk result (λ h. TakesFront R.Source h self.old self.new) }
+        ensures err { IfErr result (λ e. ReadsHead R.Source self.old self.new (Err e)) }
+    {
+        match self.head() {
+            Ok((_, head)) => Ok(head),
+            Err(e) => Err(e),
         }
     }
 }

@@ -1,5 +1,5 @@
 //! What a head holds, where it is of one kind.
-ghost use Rattle.std.specs.Prelude.{◌≡◌, ℕ};
+ghost use Rattle.std.specs.Prelude.{◌≡◌, ◌≢◌, ℕ};
 ghost use Rattle.rmp_decode.specs.Kinds.{Finds, raw_head, other_kind};
 
 use crate::error::Error;
@@ -80,7 +80,8 @@ pub(crate) fn text_in(head: Head) -> Option<u32>
 
 // The refusal of a message of another kind where a truth, a number or the bits of a float is wanted.
 pub(crate) fn other_kind(marker: Marker, head: Head) -> Error
-    ensures { result ≡ other_kind marker head }
+    ensures same { result ≡ other_kind marker head }
+    ensures memory { result ≢ Error.OutOfMemory }
 {
     match head {
         Head::Nil | Head::Truth(_) | Head::Whole(_) | Head::F32Bits(_) | Head::F64Bits(_) => {

@@ -1,9 +1,10 @@
 //! Maps, key by key and value by value.
-ghost use Rattle.std.specs.Prelude.{◌≡◌, ◌-◌, ◌<◌, true, false, None, IfSome, IfNone, IfOk, IfErr, OnOk, OnErr, MatchResult, max};
+ghost use Rattle.std.specs.Prelude.{◌≡◌, ◌≢◌, ◌-◌, ◌<◌, true, false, None, IfSome, IfNone, IfOk, IfErr, OnOk, OnErr, MatchResult, max};
 ghost use Rattle.std.specs.Borrow.{sem, RestsIfErr};
 ghost use Rattle.rmp_decode.specs.contracts.de.Deserializer.{the_row};
 ghost use Rattle.rmp_decode.specs.Kinds.{Finds};
 ghost use Rattle.rmp_decode.specs.Law.{IsFailedBefore, TakesHead};
+ghost use Rattle.rmp_decode.specs.MapRefusing.{PartRefused, EntryRefused, KeyRefused};
 ghost use Rattle.rmp_decode.specs.Maps.{OpensMap, FailsToOpenMap, IsMapOpen, AtKey, AtValue, TakesKey, TakesValue, pairs_left, pairs_in, owes_value, is_map_sound, map_lender, map_inner};
 ghost use Rattle.rmp_decode.specs.Parts.{TakesPart, FailsPart};
 ghost use Rattle.rmp_decode.specs.State.{faults_of, config_of, is_failed, kept_of, Stays};
@@ -100,6 +101,8 @@ impl<R: Source, C: SerializerConfig> Deserializer<R, C> {
         R: ReadSlice<'de>,
         ensures ok { IfOk result (TakesPart R.Source (T.reads (C.human (config_of self.old)) R.lends) (max 1 inner) self.old self.new) }
         ensures err { IfErr result (FailsPart R.Source (T.reads (C.human (config_of self.old)) R.lends) (max 1 inner) self.old self.new) }
+        ensures refused { IfErr result (PartRefused R.Source (C.human (config_of self.old)) R.lends T.refuses (max 1 inner) self.old self.new) }
+        ensures memory { T.takes_memory R.lends ≡ false → IfErr result (λ e. e ≢ Error.OutOfMemory) }
     {
         let outer = self.room;
         self.room = inner;
@@ -143,6 +146,8 @@ impl<'x, R: Source, C: SerializerConfig> MapAccess<'x, R, C> {
         ensures none { IfOk result (λ o. IfNone o ((pairs_left self.old ≡ 0) × (self.new ≡ self.old))) }
         ensures some { IfOk result (λ o. IfSome o (TakesKey R.Source (K.reads (C.human (config_of (map_lender self.old))) R.lends) self.old self.new)) }
         ensures err { is_map_sound self.old ≡ true → IfErr result (λ e. (0 < pairs_left self.old) × FailsPart R.Source (K.reads (C.human (config_of (map_lender self.old))) R.lends) (map_inner self.old) (map_lender self.old) (map_lender self.new) e) }
+        ensures refused { is_map_sound self.old ≡ true → IfErr result (KeyRefused R.Source (C.human (config_of (map_lender self.old))) R.lends K.refuses self.old self.new) }
+        ensures memory { K.takes_memory R.lends ≡ false → IfErr result (λ e. e ≢ Error.OutOfMemory) }
         ensures failed { OnErr result (is_map_sound self.new ≡ false) }
         ensures before { is_map_sound self.old ≡ false → MatchResult result (λ _. ⊥) IsFailedBefore × (self.new ≡ self.old) }
     {
@@ -173,6 +178,8 @@ impl<'x, R: Source, C: SerializerConfig> MapAccess<'x, R, C> {
         ensures same_reference { self.new.de.ghost_name ≡ self.old.de.ghost_name }
         ensures ok { IfOk result (TakesValue R.Source (V.reads (C.human (config_of (map_lender self.old))) R.lends) self.old self.new) }
         ensures err { is_map_sound self.old ≡ true → IfErr result (FailsPart R.Source (V.reads (C.human (config_of (map_lender self.old))) R.lends) (map_inner self.old) (map_lender self.old) (map_lender self.new)) }
+        ensures refused { is_map_sound self.old ≡ true → IfErr result (EntryRefused R.Source (C.human (config_of (map_lender self.old))) R.lends V.refuses self.old self.new) }
+        ensures memory { V.takes_memory R.lends ≡ false → IfErr result (λ e. e ≢ Error.OutOfMemory) }
         ensures failed { OnErr result (is_map_sound self.new ≡ false) }
         ensures before { is_map_sound self.old ≡ false → MatchResult result (λ _. ⊥) IsFailedBefore × (self.new ≡ self.old) }
     {
@@ -226,11 +233,14 @@ impl<'de, R: ReadSlice<'de>, K: Deserialize<'de, R> + Ord, V: Deserialize<'de, R
     'de,
     R,
 > for BTreeMap<K, V> {
+    ghost use Rattle.rmp_decode.specs.MapRefusing.{RefusesPairs};
     ghost use Rattle.rmp_decode.specs.Maps.{ReadsEntries};
 
     ghost reads = { λ human lends m v. ReadsEntries K.cmp (K.reads human lends) (V.reads human lends) v.entries m };
 
     ghost absent = { None };
+
+    ghost refuses = { RefusesPairs K.reads V.reads K.refuses V.refuses };
 
     fn deserialize<C: SerializerConfig>(
         de: &mut Deserializer<R, C>,

@@ -1,11 +1,11 @@
 //! Truths, numbers, the bits of floats, and nil.
-ghost use Rattle.std.specs.Prelude.{◌≡◌, None, pos, negsuc, false, IfErr};
+ghost use Rattle.std.specs.Prelude.{◌≡◌, ◌≢◌, None, pos, negsuc, false, IfErr};
 ghost use Rattle.rmp_wire.specs.Msg.{Msg};
-ghost use Rattle.rmp_decode.specs.Exact.{RefusesExactly};
+ghost use Rattle.rmp_decode.specs.Exact.{RefusesExactly, RefusesHead};
 ghost use Rattle.rmp_decode.specs.Kinds.{other_kind, other_number, not_nil};
 ghost use Rattle.rmp_decode.specs.Law.{Lawful};
 ghost use Rattle.rmp_decode.specs.Read.{IsUnsigned, IsSigned};
-ghost use Rattle.rmp_decode.specs.State.{left, faults_of, is_failed};
+ghost use Rattle.rmp_decode.specs.State.{left, faults_of, is_failed, is_strict};
 
 use crate::de::kinds::{f32_bits_in, f64_bits_in, nil_in, other_kind, truth_in, whole_in};
 use crate::de::{Deserialize, Deserializer};
@@ -19,7 +19,8 @@ impl<R: Source, C: SerializerConfig> Deserializer<R, C> {
     #[inline(always)]
     pub fn deserialize_bool(&mut self) -> Result<bool, Error>
         ensures law { Lawful R.Source (λ m t. m ≡ Msg.truth t) self.old self.new result }
-        ensures exact { is_failed self.old ≡ false → IfErr result (RefusesExactly other_kind (faults_of R.Source self.old) (faults_of R.Source self.new) (left R.Source self.old)) }
+        ensures exact { RefusesHead R.Source other_kind self.old self.new result }
+        ensures memory { IfErr result (λ e. e ≢ Error.OutOfMemory) }
     {
         match self.head() {
             Ok((marker, head)) => match truth_in(head) {
@@ -37,7 +38,8 @@ impl<R: Source, C: SerializerConfig> Deserializer<R, C> {
     #[inline(always)]
     pub fn deserialize_f32_bits(&mut self) -> Result<u32, Error>
         ensures law { Lawful R.Source (λ m n. m ≡ Msg.float32 n) self.old self.new result }
-        ensures exact { is_failed self.old ≡ false → IfErr result (RefusesExactly other_kind (faults_of R.Source self.old) (faults_of R.Source self.new) (left R.Source self.old)) }
+        ensures exact { RefusesHead R.Source other_kind self.old self.new result }
+        ensures memory { IfErr result (λ e. e ≢ Error.OutOfMemory) }
     {
         match self.head() {
             Ok((marker, head)) => match f32_bits_in(head) {
@@ -55,7 +57,8 @@ impl<R: Source, C: SerializerConfig> Deserializer<R, C> {
     #[inline(always)]
     pub fn deserialize_f64_bits(&mut self) -> Result<u64, Error>
         ensures law { Lawful R.Source (λ m n. m ≡ Msg.float64 n) self.old self.new result }
-        ensures exact { is_failed self.old ≡ false → IfErr result (RefusesExactly other_kind (faults_of R.Source self.old) (faults_of R.Source self.new) (left R.Source self.old)) }
+        ensures exact { RefusesHead R.Source other_kind self.old self.new result }
+        ensures memory { IfErr result (λ e. e ≢ Error.OutOfMemory) }
     {
         match self.head() {
             Ok((marker, head)) => match f64_bits_in(head) {
@@ -73,7 +76,8 @@ impl<R: Source, C: SerializerConfig> Deserializer<R, C> {
     #[inline(always)]
     pub fn deserialize_unit(&mut self) -> Result<(), Error>
         ensures law { Lawful R.Source (λ m _. m ≡ Msg.nil) self.old self.new result }
-        ensures exact { is_failed self.old ≡ false → IfErr result (RefusesExactly not_nil (faults_of R.Source self.old) (faults_of R.Source self.new) (left R.Source self.old)) }
+        ensures exact { RefusesHead R.Source not_nil self.old self.new result }
+        ensures memory { IfErr result (λ e. e ≢ Error.OutOfMemory) }
     {
         match self.head() {
             Ok((_, head)) => match nil_in(head) {
@@ -91,9 +95,26 @@ impl<R: Source, C: SerializerConfig> Deserializer<R, C> {
     #[inline(always)]
     fn unsigned(&mut self, most: u64) -> Result<u64, Error>
         ensures law { Lawful R.Source (IsUnsigned most) self.old self.new result }
-        ensures exact { is_failed self.old ≡ false → IfErr result (RefusesExactly other_number (faults_of R.Source self.old) (faults_of R.Source self.new) (left R.Source self.old)) }
+        ensures exact { RefusesHead R.Source other_number self.old self.new result }
+        ensures memory { IfErr result (λ e. e ≢ Error.OutOfMemory) }
     {
         match self.unsigned_front(most) {
+            Some(n) => {
+                self.failed = false;
+                Ok(n)
+            }
+            None => self.called_unsigned(most),
+        }
+    }
+
+    // The same by a call: where reading is strict, from where the head lies.
+    #[inline(never)]
+    fn called_unsigned(&mut self, most: u64) -> Result<u64, Error>
+        ensures law { Lawful R.Source (IsUnsigned most) self.old self.new result }
+        ensures exact { RefusesHead R.Source other_number self.old self.new result }
+        ensures memory { IfErr result (λ e. e ≢ Error.OutOfMemory) }
+    {
+        match self.strict_unsigned_front(most) {
             Some(n) => {
                 self.failed = false;
                 Ok(n)
@@ -102,11 +123,12 @@ impl<R: Source, C: SerializerConfig> Deserializer<R, C> {
         }
     }
 
-    // The same by way of `head`, by a call.
-    #[inline(never)]
+    // The same by way of `head`.
+    #[inline(always)]
     fn headed_unsigned(&mut self, most: u64) -> Result<u64, Error>
         ensures law { Lawful R.Source (IsUnsigned most) self.old self.new result }
-        ensures exact { is_failed self.old ≡ false → IfErr result (RefusesExactly other_number (faults_of R.Source self.old) (faults_of R.Source self.new) (left R.Source self.old)) }
+        ensures exact { RefusesHead R.Source other_number self.old self.new result }
+        ensures memory { IfErr result (λ e. e ≢ Error.OutOfMemory) }
     {
         match self.head() {
             Ok((marker, head)) => match whole_in(head) {
@@ -127,7 +149,8 @@ impl<R: Source, C: SerializerConfig> Deserializer<R, C> {
     #[inline(always)]
     fn signed(&mut self, least: i64, most: i64) -> Result<i64, Error>
         ensures law { Lawful R.Source (IsSigned least most) self.old self.new result }
-        ensures exact { is_failed self.old ≡ false → IfErr result (RefusesExactly other_number (faults_of R.Source self.old) (faults_of R.Source self.new) (left R.Source self.old)) }
+        ensures exact { RefusesHead R.Source other_number self.old self.new result }
+        ensures memory { IfErr result (λ e. e ≢ Error.OutOfMemory) }
     {
         match self.head() {
             Ok((marker, head)) => match whole_in(head) {
@@ -148,7 +171,8 @@ impl<R: Source, C: SerializerConfig> Deserializer<R, C> {
     #[inline(always)]
     pub fn deserialize_u8(&mut self) -> Result<u8, Error>
         ensures law { Lawful R.Source (IsUnsigned 255) self.old self.new result }
-        ensures exact { is_failed self.old ≡ false → IfErr result (RefusesExactly other_number (faults_of R.Source self.old) (faults_of R.Source self.new) (left R.Source self.old)) }
+        ensures exact { RefusesHead R.Source other_number self.old self.new result }
+        ensures memory { IfErr result (λ e. e ≢ Error.OutOfMemory) }
     {
         match self.unsigned(255) {
             Ok(n) => Ok(n as u8),
@@ -160,7 +184,8 @@ impl<R: Source, C: SerializerConfig> Deserializer<R, C> {
     #[inline(always)]
     pub fn deserialize_u16(&mut self) -> Result<u16, Error>
         ensures law { Lawful R.Source (IsUnsigned 65535) self.old self.new result }
-        ensures exact { is_failed self.old ≡ false → IfErr result (RefusesExactly other_number (faults_of R.Source self.old) (faults_of R.Source self.new) (left R.Source self.old)) }
+        ensures exact { RefusesHead R.Source other_number self.old self.new result }
+        ensures memory { IfErr result (λ e. e ≢ Error.OutOfMemory) }
     {
         match self.unsigned(65535) {
             Ok(n) => Ok(n as u16),
@@ -172,7 +197,8 @@ impl<R: Source, C: SerializerConfig> Deserializer<R, C> {
     #[inline(always)]
     pub fn deserialize_u32(&mut self) -> Result<u32, Error>
         ensures law { Lawful R.Source (IsUnsigned 4294967295) self.old self.new result }
-        ensures exact { is_failed self.old ≡ false → IfErr result (RefusesExactly other_number (faults_of R.Source self.old) (faults_of R.Source self.new) (left R.Source self.old)) }
+        ensures exact { RefusesHead R.Source other_number self.old self.new result }
+        ensures memory { IfErr result (λ e. e ≢ Error.OutOfMemory) }
     {
         match self.unsigned(4294967295) {
             Ok(n) => Ok(n as u32),
@@ -184,7 +210,8 @@ impl<R: Source, C: SerializerConfig> Deserializer<R, C> {
     #[inline(always)]
     pub fn deserialize_u64(&mut self) -> Result<u64, Error>
         ensures law { Lawful R.Source (IsUnsigned 18446744073709551615) self.old self.new result }
-        ensures exact { is_failed self.old ≡ false → IfErr result (RefusesExactly other_number (faults_of R.Source self.old) (faults_of R.Source self.new) (left R.Source self.old)) }
+        ensures exact { RefusesHead R.Source other_number self.old self.new result }
+        ensures memory { IfErr result (λ e. e ≢ Error.OutOfMemory) }
     {
         match self.unsigned(18446744073709551615) {
             Ok(n) => Ok(n),
@@ -196,7 +223,8 @@ impl<R: Source, C: SerializerConfig> Deserializer<R, C> {
     #[inline(always)]
     pub fn deserialize_i8(&mut self) -> Result<i8, Error>
         ensures law { Lawful R.Source (IsSigned (negsuc 127) (pos 127)) self.old self.new result }
-        ensures exact { is_failed self.old ≡ false → IfErr result (RefusesExactly other_number (faults_of R.Source self.old) (faults_of R.Source self.new) (left R.Source self.old)) }
+        ensures exact { RefusesHead R.Source other_number self.old self.new result }
+        ensures memory { IfErr result (λ e. e ≢ Error.OutOfMemory) }
     {
         match self.signed(i8::MIN as i64, i8::MAX as i64) {
             Ok(z) => Ok(z as i8),
@@ -208,7 +236,8 @@ impl<R: Source, C: SerializerConfig> Deserializer<R, C> {
     #[inline(always)]
     pub fn deserialize_i16(&mut self) -> Result<i16, Error>
         ensures law { Lawful R.Source (IsSigned (negsuc 32767) (pos 32767)) self.old self.new result }
-        ensures exact { is_failed self.old ≡ false → IfErr result (RefusesExactly other_number (faults_of R.Source self.old) (faults_of R.Source self.new) (left R.Source self.old)) }
+        ensures exact { RefusesHead R.Source other_number self.old self.new result }
+        ensures memory { IfErr result (λ e. e ≢ Error.OutOfMemory) }
     {
         match self.signed(i16::MIN as i64, i16::MAX as i64) {
             Ok(z) => Ok(z as i16),
@@ -220,7 +249,8 @@ impl<R: Source, C: SerializerConfig> Deserializer<R, C> {
     #[inline(always)]
     pub fn deserialize_i32(&mut self) -> Result<i32, Error>
         ensures law { Lawful R.Source (IsSigned (negsuc 2147483647) (pos 2147483647)) self.old self.new result }
-        ensures exact { is_failed self.old ≡ false → IfErr result (RefusesExactly other_number (faults_of R.Source self.old) (faults_of R.Source self.new) (left R.Source self.old)) }
+        ensures exact { RefusesHead R.Source other_number self.old self.new result }
+        ensures memory { IfErr result (λ e. e ≢ Error.OutOfMemory) }
     {
         match self.signed(i32::MIN as i64, i32::MAX as i64) {
             Ok(z) => Ok(z as i32),
@@ -232,7 +262,8 @@ impl<R: Source, C: SerializerConfig> Deserializer<R, C> {
     #[inline(always)]
     pub fn deserialize_i64(&mut self) -> Result<i64, Error>
         ensures law { Lawful R.Source (IsSigned (negsuc 9223372036854775807) (pos 9223372036854775807)) self.old self.new result }
-        ensures exact { is_failed self.old ≡ false → IfErr result (RefusesExactly other_number (faults_of R.Source self.old) (faults_of R.Source self.new) (left R.Source self.old)) }
+        ensures exact { RefusesHead R.Source other_number self.old self.new result }
+        ensures memory { IfErr result (λ e. e ≢ Error.OutOfMemory) }
     {
         match self.signed(i64::MIN, i64::MAX) {
             Ok(z) => Ok(z),
@@ -245,6 +276,10 @@ impl<'de, R: ReadSlice<'de>> Deserialize<'de, R> for bool {
     ghost reads = { λ human lends m t. m ≡ Msg.truth t };
 
     ghost absent = { None };
+
+    ghost refuses = { λ s. RefusesExactly s.strict other_kind };
+
+    ghost takes_memory = { λ _. false };
 
     #[inline(always)]
     fn deserialize<C: SerializerConfig>(de: &mut Deserializer<R, C>) -> Result<bool, Error> {
@@ -261,6 +296,10 @@ impl<'de, R: ReadSlice<'de>> Deserialize<'de, R> for u8 {
 
     ghost absent = { None };
 
+    ghost refuses = { λ s. RefusesExactly s.strict other_number };
+
+    ghost takes_memory = { λ _. false };
+
     #[inline(always)]
     fn deserialize<C: SerializerConfig>(de: &mut Deserializer<R, C>) -> Result<u8, Error> {
         de.deserialize_u8()
@@ -275,6 +314,10 @@ impl<'de, R: ReadSlice<'de>> Deserialize<'de, R> for u16 {
     ghost reads = { λ human lends. IsUnsigned 65535 };
 
     ghost absent = { None };
+
+    ghost refuses = { λ s. RefusesExactly s.strict other_number };
+
+    ghost takes_memory = { λ _. false };
 
     #[inline(always)]
     fn deserialize<C: SerializerConfig>(de: &mut Deserializer<R, C>) -> Result<u16, Error> {
@@ -291,6 +334,10 @@ impl<'de, R: ReadSlice<'de>> Deserialize<'de, R> for u32 {
 
     ghost absent = { None };
 
+    ghost refuses = { λ s. RefusesExactly s.strict other_number };
+
+    ghost takes_memory = { λ _. false };
+
     #[inline(always)]
     fn deserialize<C: SerializerConfig>(de: &mut Deserializer<R, C>) -> Result<u32, Error> {
         de.deserialize_u32()
@@ -305,6 +352,10 @@ impl<'de, R: ReadSlice<'de>> Deserialize<'de, R> for u64 {
     ghost reads = { λ human lends. IsUnsigned 18446744073709551615 };
 
     ghost absent = { None };
+
+    ghost refuses = { λ s. RefusesExactly s.strict other_number };
+
+    ghost takes_memory = { λ _. false };
 
     #[inline(always)]
     fn deserialize<C: SerializerConfig>(de: &mut Deserializer<R, C>) -> Result<u64, Error> {
@@ -321,6 +372,10 @@ impl<'de, R: ReadSlice<'de>> Deserialize<'de, R> for i8 {
 
     ghost absent = { None };
 
+    ghost refuses = { λ s. RefusesExactly s.strict other_number };
+
+    ghost takes_memory = { λ _. false };
+
     #[inline(always)]
     fn deserialize<C: SerializerConfig>(de: &mut Deserializer<R, C>) -> Result<i8, Error> {
         de.deserialize_i8()
@@ -335,6 +390,10 @@ impl<'de, R: ReadSlice<'de>> Deserialize<'de, R> for i16 {
     ghost reads = { λ human lends. IsSigned (negsuc 32767) (pos 32767) };
 
     ghost absent = { None };
+
+    ghost refuses = { λ s. RefusesExactly s.strict other_number };
+
+    ghost takes_memory = { λ _. false };
 
     #[inline(always)]
     fn deserialize<C: SerializerConfig>(de: &mut Deserializer<R, C>) -> Result<i16, Error> {
@@ -351,6 +410,10 @@ impl<'de, R: ReadSlice<'de>> Deserialize<'de, R> for i32 {
 
     ghost absent = { None };
 
+    ghost refuses = { λ s. RefusesExactly s.strict other_number };
+
+    ghost takes_memory = { λ _. false };
+
     #[inline(always)]
     fn deserialize<C: SerializerConfig>(de: &mut Deserializer<R, C>) -> Result<i32, Error> {
         de.deserialize_i32()
@@ -366,6 +429,10 @@ impl<'de, R: ReadSlice<'de>> Deserialize<'de, R> for i64 {
 
     ghost absent = { None };
 
+    ghost refuses = { λ s. RefusesExactly s.strict other_number };
+
+    ghost takes_memory = { λ _. false };
+
     #[inline(always)]
     fn deserialize<C: SerializerConfig>(de: &mut Deserializer<R, C>) -> Result<i64, Error> {
         de.deserialize_i64()
@@ -380,6 +447,10 @@ impl<'de, R: ReadSlice<'de>> Deserialize<'de, R> for usize {
     ghost reads = { λ human lends. IsUnsigned 18446744073709551615 };
 
     ghost absent = { None };
+
+    ghost refuses = { λ s. RefusesExactly s.strict other_number };
+
+    ghost takes_memory = { λ _. false };
 
     #[inline(always)]
     fn deserialize<C: SerializerConfig>(de: &mut Deserializer<R, C>) -> Result<usize, Error> {
@@ -399,6 +470,10 @@ impl<'de, R: ReadSlice<'de>> Deserialize<'de, R> for isize {
 
     ghost absent = { None };
 
+    ghost refuses = { λ s. RefusesExactly s.strict other_number };
+
+    ghost takes_memory = { λ _. false };
+
     #[inline(always)]
     fn deserialize<C: SerializerConfig>(de: &mut Deserializer<R, C>) -> Result<isize, Error> {
         match de.deserialize_i64() {
@@ -416,6 +491,10 @@ impl<'de, R: ReadSlice<'de>> Deserialize<'de, R> for F32Bits {
     ghost reads = { λ human lends m v. m ≡ Msg.float32 v.0 };
 
     ghost absent = { None };
+
+    ghost refuses = { λ s. RefusesExactly s.strict other_kind };
+
+    ghost takes_memory = { λ _. false };
 
     #[inline(always)]
     fn deserialize<C: SerializerConfig>(de: &mut Deserializer<R, C>) -> Result<F32Bits, Error> {
@@ -435,6 +514,10 @@ impl<'de, R: ReadSlice<'de>> Deserialize<'de, R> for F64Bits {
 
     ghost absent = { None };
 
+    ghost refuses = { λ s. RefusesExactly s.strict other_kind };
+
+    ghost takes_memory = { λ _. false };
+
     #[inline(always)]
     fn deserialize<C: SerializerConfig>(de: &mut Deserializer<R, C>) -> Result<F64Bits, Error> {
         match de.deserialize_f64_bits() {
@@ -452,6 +535,10 @@ impl<'de, R: ReadSlice<'de>> Deserialize<'de, R> for () {
     ghost reads = { λ human lends m _. m ≡ Msg.nil };
 
     ghost absent = { None };
+
+    ghost refuses = { λ s. RefusesExactly s.strict not_nil };
+
+    ghost takes_memory = { λ _. false };
 
     #[inline(always)]
     fn deserialize<C: SerializerConfig>(de: &mut Deserializer<R, C>) -> Result<(), Error> {

@@ -102,6 +102,28 @@ fn what_cannot_be_passed_over(rt: HostRuntime) {
 }
 
 #[test]
+fn lists_in_lists_are_passed_over(rt: HostRuntime) {
+    let input = [0x92u8, 0x81, 0x05, 0x90, 0xc0, 0x2a];
+    let mut de = Deserializer::from_read_ref(rt.alloc(), &input);
+    assert!(rt; de.deserialize_ignored_any().is_ok());
+    assert!(rt; matches!(&de.deserialize_u8(), Ok(0x2a)));
+    let mut de = Deserializer::from_read_ref(rt.alloc(), &[0x92, 0x91, 0x91, 0xc0, 0xc1]);
+    assert!(rt;
+        matches!(
+            &de.deserialize_ignored_any(),
+            Err(Error::TypeMismatch(Marker::Reserved))
+        )
+    );
+    let mut de = Deserializer::from_read_ref(rt.alloc(), &[0xdf, 0xff, 0xff, 0xff, 0xff]);
+    assert!(rt;
+        matches!(
+            &de.deserialize_ignored_any(),
+            Err(Error::InvalidMarkerRead(_))
+        )
+    );
+}
+
+#[test]
 fn how_deep_is_passed_over(rt: HostRuntime) {
     let deepest = [0x91u8; 1022];
     let mut nested = Vec::new(rt.alloc());

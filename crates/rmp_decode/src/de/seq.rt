@@ -1,12 +1,14 @@
 //! Lists, and bytes as the lists of their numbers, element by element.
-ghost use Rattle.std.specs.Prelude.{◌≡◌, ◌-◌, ◌<◌, ◌++◌, ◌∷◌, [], is_ok, if◌then◌else◌, true, false, None, IfSome, IfNone, IfOk, IfErr, OnOk, OnErr, MatchResult};
+ghost use Rattle.std.specs.Prelude.{◌≡◌, ◌≢◌, ◌-◌, ◌<◌, ◌++◌, ◌∷◌, [], is_ok, if◌then◌else◌, true, false, None, IfSome, IfNone, IfOk, IfErr, OnOk, OnErr, MatchResult};
 ghost use Rattle.std.specs.Borrow.{sem, RestsIfErr};
 ghost use Rattle.std.specs.Io.KnownBytes.{IsAtEnd};
 ghost use Rattle.rmp_decode.specs.contracts.de.Deserializer.{the_row};
 ghost use Rattle.rmp_decode.specs.Kinds.{Finds};
 ghost use Rattle.rmp_decode.specs.Law.{Explains, IsFailedBefore, TakesHead};
-ghost use Rattle.rmp_decode.specs.Seq.{seq_head, Opens, FailsToOpen, IsOpen, TakesElement, FailsToTake, FailsElement, KeepsByte, left_in, count_in, in_bytes, is_sound, lender_of};
-ghost use Rattle.rmp_decode.specs.State.{faults_of, room_of, config_of, is_failed, kept_of, Stays};
+ghost use Rattle.rmp_decode.specs.Exact.{IsDataEnd};
+ghost use Rattle.rmp_decode.specs.Refusing.{element_setting, ElementRefused, WhereSome, Wanted};
+ghost use Rattle.rmp_decode.specs.Seq.{seq_head, inner_of, Opens, FailsToOpen, IsOpen, TakesElement, FailsToTake, FailsElement, KeepsByte, left_in, count_in, in_bytes, is_sound, lender_of};
+ghost use Rattle.rmp_decode.specs.State.{left, faults_of, room_of, config_of, is_failed, kept_of, Stays};
 ghost use Rattle.rmp_decode.specs.declared.de.Kept.TheVariants.{Nothing};
 
 mod buffers;
@@ -180,6 +182,8 @@ impl<R: Source, C: SerializerConfig> Deserializer<R, C> {
         ensures stays { Stays R.Source self.old self.new }
         ensures failed { is_failed self.new ≡ is_failed self.old }
         ensures err { IfErr result (λ e. Explains e (faults_of R.Source self.old) (faults_of R.Source self.new) (IsAtEnd (R.ahead self.old.reader))) }
+        ensures end { IfErr result (λ e. faults_of R.Source self.new ≡ faults_of R.Source self.old → IsDataEnd e) }
+        ensures memory { IfErr result (λ e. e ≢ Error.OutOfMemory) }
     {
         match self.reader.take_1() {
             Ok(bytes) => {
@@ -217,6 +221,8 @@ impl<'x, R: Source, C: SerializerConfig> SeqAccess<'x, R, C> {
         ensures same_reference { self.new.de.ghost_name ≡ self.old.de.ghost_name }
         ensures ok { IsOpen self.old → IfOk result (TakesElement R.Source (T.reads (C.human (config_of (lender_of self.old))) R.lends) self.old self.new) }
         ensures err { IsOpen self.old → IfErr result (FailsToTake R.Source (T.reads (C.human (config_of (lender_of self.old))) R.lends) self.old self.new) }
+        ensures refused { IsOpen self.old → IfErr result (T.refuses (element_setting (C.human (config_of (lender_of self.old))) R.lends self.old) (faults_of R.Source (lender_of self.old)) (faults_of R.Source (lender_of self.new)) (left R.Source (lender_of self.old))) }
+        ensures memory { T.takes_memory R.lends ≡ false → IfErr result (λ e. e ≢ Error.OutOfMemory) }
         ensures failed { OnErr result (is_sound self.new ≡ false) }
         ensures marked { is_failed (lender_of self.old) ≡ true → is_failed (lender_of self.new) ≡ true }
     {
@@ -224,9 +230,9 @@ impl<'x, R: Source, C: SerializerConfig> SeqAccess<'x, R, C> {
         self.sound = false;
         self.de.room = self.inner;
         self.de.failed = false;
-        let element = T::deserialize(self.de);
+        let item = T::deserialize(self.de);
         self.de.room = outer;
-        match element {
+        match item {
             Ok(v) => {
                 self.left -= 1;
                 self.de.failed = true;
@@ -247,6 +253,8 @@ impl<'x, R: Source, C: SerializerConfig> SeqAccess<'x, R, C> {
         ensures same_reference { self.new.de.ghost_name ≡ self.old.de.ghost_name }
         ensures ok { IsOpen self.old → IfOk result (TakesElement R.Source (T.reads (C.human (config_of (lender_of self.old))) R.lends) self.old self.new) }
         ensures err { IsOpen self.old → IfErr result (FailsToTake R.Source (T.reads (C.human (config_of (lender_of self.old))) R.lends) self.old self.new) }
+        ensures refused { IsOpen self.old → IfErr result (ElementRefused R.Source (C.human (config_of (lender_of self.old))) R.lends T.refuses self.old self.new (left R.Source (lender_of self.old))) }
+        ensures memory { T.takes_memory R.lends ≡ false → IfErr result (λ e. e ≢ Error.OutOfMemory) }
         ensures failed { OnErr result (is_sound self.new ≡ false) }
         ensures marked { is_failed (lender_of self.old) ≡ true → is_failed (lender_of self.new) ≡ true }
     {
@@ -280,6 +288,8 @@ impl<'x, R: Source, C: SerializerConfig> SeqAccess<'x, R, C> {
         ensures none { IsOpen self.old → IfOk result (λ o. IfNone o ((left_in self.old ≡ 0) × (self.new ≡ self.old))) }
         ensures some { IsOpen self.old → IfOk result (λ o. IfSome o (TakesElement R.Source (T.reads (C.human (config_of (lender_of self.old))) R.lends) self.old self.new)) }
         ensures err { IsOpen self.old → IfErr result (FailsToTake R.Source (T.reads (C.human (config_of (lender_of self.old))) R.lends) self.old self.new) }
+        ensures refused { IsOpen self.old → IfErr result (WhereSome (ElementRefused R.Source (C.human (config_of (lender_of self.old))) R.lends T.refuses self.old self.new) (left_in self.old) (left R.Source (lender_of self.old))) }
+        ensures memory { T.takes_memory R.lends ≡ false → IfErr result (λ e. e ≢ Error.OutOfMemory) }
         ensures failed { OnErr result (is_sound self.new ≡ false) }
         ensures marked { is_failed (lender_of self.old) ≡ true → is_failed (lender_of self.new) ≡ true }
         ensures before { is_sound self.old ≡ false → MatchResult result (λ _. ⊥) IsFailedBefore × (self.new ≡ self.old) }
@@ -312,6 +322,9 @@ impl<'x, R: Source, C: SerializerConfig> SeqAccess<'x, R, C> {
         ensures same_reference { self.new.de.ghost_name ≡ self.old.de.ghost_name }
         ensures ok { IsOpen self.old → IfOk result (TakesElement R.Source (T.reads (C.human (config_of (lender_of self.old))) R.lends) self.old self.new) }
         ensures err { IsOpen self.old → IfErr result (FailsElement R.Source (T.reads (C.human (config_of (lender_of self.old))) R.lends) self.old self.new) }
+        ensures refused { IsOpen self.old → IfErr result (Wanted (ElementRefused R.Source (C.human (config_of (lender_of self.old))) R.lends T.refuses self.old self.new) (left_in self.old) (left R.Source (lender_of self.old))) }
+        ensures memory { T.takes_memory R.lends ≡ false → IfErr result (λ e. e ≢ Error.OutOfMemory) }
+        ensures failed { OnErr result (is_sound self.new ≡ false) }
         ensures marked { is_failed (lender_of self.old) ≡ true → is_failed (lender_of self.new) ≡ true }
         ensures before { is_sound self.old ≡ false → MatchResult result (λ _. ⊥) IsFailedBefore × (self.new ≡ self.old) }
     {
@@ -377,12 +390,16 @@ fn make_first_room<T>(items: &mut Vec<T>, left: u32)
 }
 
 impl<'de, R: ReadSlice<'de>, T: Deserialize<'de, R>> Deserialize<'de, R> for Vec<T> {
+    ghost use Rattle.std.specs.Prelude.{List};
+    ghost use Rattle.rmp_decode.specs.Refusing.{RefusesEach};
     ghost use Rattle.rmp_decode.specs.Rows.{ReadsEach};
     ghost use Rattle.rmp_decode.specs.Seq.{OfRow};
 
     ghost reads = { λ human lends m v. OfRow (λ ms. ReadsEach (T.reads human lends) ms v.items) m };
 
     ghost absent = { None };
+
+    ghost refuses = { RefusesEach T.reads T.refuses };
 
     fn deserialize<C: SerializerConfig>(de: &mut Deserializer<R, C>) -> Result<Vec<T>, Error> {
         let mut items = Vec::new(de.alloc());
@@ -400,9 +417,13 @@ impl<'de, R: ReadSlice<'de>, T: Deserialize<'de, R>> Deserialize<'de, R> for Vec
 }
 
 impl<'de, R: ReadSlice<'de>, T: Deserialize<'de, R>> Deserialize<'de, R> for Box<T> {
+    ghost use Rattle.rmp_decode.specs.Refusing.{RefusesBoxed};
+
     ghost reads = { λ human lends m b. T.reads human lends m b.value };
 
     ghost absent = { None };
+
+    ghost refuses = { RefusesBoxed T.reads T.refuses };
 
     fn deserialize<C: SerializerConfig>(de: &mut Deserializer<R, C>) -> Result<Box<T>, Error> {
         let value = match T::deserialize(de) {
@@ -421,12 +442,16 @@ impl<'de, R: ReadSlice<'de>, T: Deserialize<'de, R>> Deserialize<'de, R> for Box
 }
 
 impl<'de, R: ReadSlice<'de>, T: Deserialize<'de, R>> Deserialize<'de, R> for VecDeque<T> {
+    ghost use Rattle.std.specs.Prelude.{List};
+    ghost use Rattle.rmp_decode.specs.Refusing.{RefusesEach};
     ghost use Rattle.rmp_decode.specs.Rows.{ReadsEach};
     ghost use Rattle.rmp_decode.specs.Seq.{OfRow};
 
     ghost reads = { λ human lends m v. OfRow (λ ms. ReadsEach (T.reads human lends) ms v.items) m };
 
     ghost absent = { None };
+
+    ghost refuses = { RefusesEach T.reads T.refuses };
 
     fn deserialize<C: SerializerConfig>(de: &mut Deserializer<R, C>) -> Result<VecDeque<T>, Error> {
         let mut items = VecDeque::new(de.alloc());

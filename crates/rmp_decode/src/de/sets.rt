@@ -1,5 +1,7 @@
 //! Sets, from lists or bytes.
-ghost use Rattle.std.specs.Prelude.{None};
+ghost use Rattle.std.specs.Prelude.{None, List};
+ghost use Rattle.rmp_decode.specs.Refusing.{RefusesEach};
+ghost use Rattle.rmp_decode.specs.Rows.{ReadsEach};
 ghost use Rattle.rmp_decode.specs.Sets.{ReadsKeys};
 
 use crate::de::{Deserialize, Deserializer};
@@ -12,6 +14,8 @@ impl<'de, R: ReadSlice<'de>, T: Deserialize<'de, R> + Ord> Deserialize<'de, R> f
     ghost reads = { λ human lends m v. ReadsKeys T.cmp (T.reads human lends) v.keys m };
 
     ghost absent = { None };
+
+    ghost refuses = { RefusesEach T.reads T.refuses };
 
     fn deserialize<C: SerializerConfig>(de: &mut Deserializer<R, C>) -> Result<BTreeSet<T>, Error> {
         let mut items = BTreeSet::new(de.alloc());

@@ -1,10 +1,10 @@
 //! Messages that are passed over.
-ghost use Rattle.std.specs.Prelude.{◌≡◌, ◌≢◌, ◌-◌, ◌<◌, true, false, IfErr};
+ghost use Rattle.std.specs.Prelude.{◌≡◌, ◌-◌, ◌<◌, true, IfErr, IfSome};
 ghost use Rattle.rmp_decode.specs.Kinds.{Finds, content_len};
 ghost use Rattle.rmp_decode.specs.Law.{Lawful};
-ghost use Rattle.rmp_decode.specs.Refuse.{UnpassedFor, RefusesFirst, RefusesRowFirst};
+ghost use Rattle.rmp_decode.specs.Refuse.{UnpassedFor, OpensSome, RefusesFirst, RefusesRowFirst};
 ghost use Rattle.rmp_decode.specs.Skip.{parts_head, SkipsRow, any_tree, any_row, parts_count};
-ghost use Rattle.rmp_decode.specs.State.{is_failed, kept_of, room_of};
+ghost use Rattle.rmp_decode.specs.State.{is_failed, is_strict, kept_of, left, room_of};
 ghost use Rattle.rmp_decode.specs.declared.de.Kept.TheVariants.{Nothing};
 
 use crate::de::Deserializer;
@@ -39,7 +39,8 @@ fn content_in(head: Head) -> u32
 // How many messages follow the head of a list or a map: of a map two a pair.
 #[inline(always)]
 fn messages(is_map: bool, n: u32) -> u64
-    ensures { result ≡ parts_count is_map n }
+    ensures same { result ≡ parts_count is_map n }
+    ensures below { result < 8589934592 }
 {
     if is_map {
         2 * u64::from(n)
@@ -49,16 +50,15 @@ fn messages(is_map: bool, n: u32) -> u64
 }
 
 // Passes over one message.
-#[cycle(skipping)]
 fn skip<R: Source, C: SerializerConfig, P: ReadContent<R>>(
     de: &mut Deserializer<R, C>,
 ) -> Result<(), Error>
     ensures law { Lawful R.Source any_tree de.old de.new result }
-    ensures exact { IfErr result (RefusesFirst R.Source UnpassedFor any_row de.old de.new) }
-    ensures memory { P.lends ≡ true → IfErr result (λ e. e ≢ Error.OutOfMemory) }
+    ensures exact { IfErr result (RefusesFirst R.Source (UnpassedFor P.lends) any_row de.old de.new) }
+    ensures memory { P.lends ≡ true → IfErr result (λ e. e ≡ Error.OutOfMemory → IfSome (left R.Source de.old) (OpensSome (is_strict de.old))) }
 {
-    match de.head() {
-        Ok((_, head)) => match parts_in(head) {
+    match de.any_head() {
+        Ok(head) => match parts_in(head) {
             Some((is_map, n)) => skip_parts::<R, C, P>(de, messages(is_map, n)),
             None => match P::pass(&mut de.reader, content_in(head) as usize) {
                 Ok(()) => {
@@ -72,8 +72,7 @@ fn skip<R: Source, C: SerializerConfig, P: ReadContent<R>>(
     }
 }
 
-// Passes over the parts of a list or a map whose head was taken.
-#[cycle(skipping)]
+// Passes over the parts of a list or a map whose head was taken, and over all that stands in them.
 fn skip_parts<R: Source, C: SerializerConfig, P: ReadContent<R>>(
     de: &mut Deserializer<R, C>,
     count: u64,
@@ -82,39 +81,57 @@ fn skip_parts<R: Source, C: SerializerConfig, P: ReadContent<R>>(
     requires clean { kept_of de.old ≡ Nothing }
     ensures law { SkipsRow R.Source (room_of de.old - 1) count de.old de.new result }
     ensures deep { IfErr result (λ e. room_of de.old ≡ 1 → e ≡ Error.DepthLimitExceeded) }
-    ensures exact { IfErr result (λ e. 1 < room_of de.old → RefusesRowFirst R.Source UnpassedFor any_row (room_of de.old - 1) count de.old de.new e) }
-    ensures memory { P.lends ≡ true → IfErr result (λ e. e ≢ Error.OutOfMemory) }
+    ensures exact { IfErr result (λ e. 1 < room_of de.old → RefusesRowFirst R.Source (UnpassedFor P.lends) any_row (room_of de.old - 1) count de.old de.new e) }
+    ensures memory { P.lends ≡ true → IfErr result (λ e. e ≡ Error.OutOfMemory → 0 < count) }
 {
-    let outer = de.room;
-    if outer <= 1 {
+    if de.room <= 1 {
         return Err(Error::DepthLimitExceeded);
     }
-    de.room = outer - 1;
-    de.failed = false;
-    let skipped = skip_row::<R, C, P>(de, count);
-    de.room = outer;
-    skipped
-}
-
-// Passes over messages that stand one after another.
-#[cycle(skipping)]
-fn skip_row<R: Source, C: SerializerConfig, P: ReadContent<R>>(
-    de: &mut Deserializer<R, C>,
-    count: u64,
-) -> Result<(), Error>
-    requires fresh { is_failed de.old ≡ false }
-    requires clean { kept_of de.old ≡ Nothing }
-    ensures law { SkipsRow R.Source (room_of de.old) count de.old de.new result }
-    ensures exact { IfErr result (RefusesRowFirst R.Source UnpassedFor any_row (room_of de.old) count de.old de.new) }
-    ensures memory { P.lends ≡ true → IfErr result (λ e. e ≢ Error.OutOfMemory) }
-{
-    for _ in 0..count {
-        match skip::<R, C, P>(de) {
-            Ok(()) => {}
-            Err(e) => return Err(e),
+    // What the innermost list or map still wants nests below this.
+    let mut room = de.room - 1;
+    let mut wanted = count;
+    // What those that stand open around it still want, the outermost first.
+    let mut outer: Vec<u64> = Vec::new(de.alloc);
+    'parts: loop {
+        if wanted == 0 {
+            match outer.pop() {
+                Some(n) => {
+                    wanted = n;
+                    room += 1;
+                }
+                None => {
+                    de.failed = false;
+                    return Ok(());
+                }
+            }
+        } else {
+            wanted -= 1;
+            de.failed = false;
+            match de.any_head() {
+                Ok(head) => match parts_in(head) {
+                    Some((is_map, n)) => {
+                        if room <= 1 {
+                            return Err(Error::DepthLimitExceeded);
+                        }
+                        let inner = messages(is_map, n);
+                        if inner > 0 {
+                            match outer.push(wanted) {
+                                Ok(()) => {}
+                                Err(_) => return Err(Error::OutOfMemory),
+                            }
+                            room -= 1;
+                            wanted = inner;
+                        }
+                    }
+                    None => match P::pass(&mut de.reader, content_in(head) as usize) {
+                        Ok(()) => {}
+                        Err(e) => return Err(e),
+                    },
+                },
+                Err(e) => return Err(e),
+            }
         }
     }
-    Ok(())
 }
 
 impl<R: Source, C: SerializerConfig> Deserializer<R, C> {
@@ -129,9 +146,9 @@ impl<R: Source, C: SerializerConfig> Deserializer<R, C> {
         R: ReadSlice<'de>,
         ensures law { Lawful R.Source any_tree self.old self.new result }
         // An error names the first thing that is wrong.
-        ensures exact { IfErr result (RefusesFirst R.Source UnpassedFor any_row self.old self.new) }
-        // Where the source lends, no memory is taken.
-        ensures memory { R.lends ≡ true → IfErr result (λ e. e ≢ Error.OutOfMemory) }
+        ensures exact { IfErr result (RefusesFirst R.Source (UnpassedFor R.lends) any_row self.old self.new) }
+        // Where the source lends, memory is taken for a list or a map alone that isn't empty.
+        ensures memory { R.lends ≡ true → IfErr result (λ e. e ≡ Error.OutOfMemory → IfSome (left R.Source self.old) (OpensSome (is_strict self.old))) }
     {
         skip::<R, C, Slices<'de>>(self)
     }

@@ -1,4 +1,4 @@
-use crate::{Deserializer, Error, Text, from_slice};
+use crate::{Deserializer, Error, Text, from_slice, from_slice_strict};
 use rmp_wire::{ByteBuf, Ext, Marker};
 use std::collections::{BTreeMap, BTreeSet, VecDeque};
 use std::io::ErrorKind;
@@ -384,4 +384,50 @@ fn maps_that_end_too_soon(rt: HostRuntime) {
     }
     let read: Result<BTreeMap<u8, u8>, Error> = from_slice(rt.alloc(), &[0x81, 0xc1, 0]);
     assert!(rt; matches!(&read, Err(Error::TypeMismatch(Marker::Reserved))));
+}
+
+#[test]
+fn strictly(rt: HostRuntime) {
+    let read: Result<(u8, String), Error> = from_slice_strict(
+        rt.alloc(),
+        &[0x92, 0x05, 0xa1, 0x61],
+    );
+    assert!(rt; matches!(&read, Ok((5, _))));
+    let read: Result<(u8, String), Error> = from_slice_strict(
+        rt.alloc(),
+        &[0x92, 0x05, 0xd9, 0x01, 0x61],
+    );
+    assert!(rt; matches!(&read, Err(Error::NotCanonical)));
+    let read: Result<(u8, String), Error> = from_slice_strict(
+        rt.alloc(),
+        &[0x92, 0xcc, 0x05, 0xa1, 0x61],
+    );
+    assert!(rt; matches!(&read, Err(Error::NotCanonical)));
+    let read: Result<BTreeMap<u8, u8>, Error> = from_slice_strict(rt.alloc(), &[0xde, 0, 0]);
+    assert!(rt; matches!(&read, Err(Error::NotCanonical)));
+    let read: Result<i8, Error> = from_slice_strict(rt.alloc(), &[0xd0, 0x05]);
+    assert!(rt; matches!(&read, Err(Error::NotCanonical)));
+    let read: Result<Ext, Error> = from_slice_strict(rt.alloc(), &[0xc7, 0x01, 0x02, 0x05]);
+    assert!(rt; matches!(&read, Err(Error::NotCanonical)));
+    // A byte of bytes counts as canonical, and their head is tested.
+    let read: Result<Vec<u16>, Error> = from_slice_strict(rt.alloc(), &[0xc4, 0x02, 0x01, 0xc8]);
+    assert!(rt; matches!(&read, Ok(_)));
+    let read: Result<Vec<u16>, Error> = from_slice_strict(
+        rt.alloc(),
+        &[0xc5, 0x00, 0x02, 0x01, 0xc8],
+    );
+    assert!(rt; matches!(&read, Err(Error::NotCanonical)));
+}
+
+#[test]
+fn strictly_or_not(rt: HostRuntime) {
+    let mut de = Deserializer::from_read_ref(rt.alloc(), &[0x91, 0xcc, 0x05, 0x91, 0xcc, 0x05]);
+    let read = de.deserialize_ignored_any();
+    assert!(rt; matches!(&read, Ok(())));
+    de.set_strict(true);
+    let read = de.deserialize_ignored_any();
+    assert!(rt; matches!(&read, Err(Error::NotCanonical)));
+    de.set_strict(false);
+    let read = de.deserialize_ignored_any();
+    assert!(rt; matches!(&read, Err(Error::Uncategorized(Text::FailedBefore))));
 }

@@ -63,6 +63,7 @@ fn read_by_copying(rt: HostRuntime, input: &[u8]) -> Deserializer<Copying<'_>, D
         kept: Kept::Nothing,
         room: 8,
         failed: false,
+        strict: false,
     }
 }
 

@@ -1,12 +1,12 @@
 //! Texts, characters and bytes.
-ghost use Rattle.std.specs.Prelude.{◌≡◌, ◌≢◌, true, false, None, IfErr};
+ghost use Rattle.std.specs.Prelude.{◌≡◌, ◌≢◌, if◌then◌else◌, true, false, None, IfErr};
 ghost use Rattle.std.specs.String.{string_bytes};
-ghost use Rattle.rmp_decode.specs.Content.{IsTextHead, IsRawHead, RefusesContent, not_raw, never_refused, not_char, not_string, not_str, not_bytes};
+ghost use Rattle.rmp_decode.specs.Content.{IsTextHead, IsRawHead, RefusesContent, RefusesLeaf, not_raw, never_refused, not_char, not_string, not_str, not_bytes};
 ghost use Rattle.rmp_decode.specs.Exact.{IsUtf8Error};
 ghost use Rattle.rmp_decode.specs.Law.{Lawful};
 ghost use Rattle.rmp_decode.specs.Kinds.{raw_msg};
 ghost use Rattle.rmp_decode.specs.Read.{IsRaw, IsString, IsChar};
-ghost use Rattle.rmp_decode.specs.State.{left, faults_of, is_failed};
+ghost use Rattle.rmp_decode.specs.State.{left, faults_of, is_failed, is_strict};
 
 use crate::de::kinds::{raw_in, text_in};
 use crate::de::pieces::{lent_content, next_char, owned};
@@ -37,7 +37,7 @@ impl<R: Source, C: SerializerConfig> Deserializer<R, C> {
     where
         R: ReadSlice<'de>,
         ensures law { Lawful R.Source (λ m p. (R.lends ≡ true) × (m ≡ raw_msg p.0 p.1.now)) self.old self.new result }
-        ensures exact { is_failed self.old ≡ false → IfErr result (RefusesContent IsRawHead not_raw (not_bytes R.lends) (faults_of R.Source self.old) (faults_of R.Source self.new) (left R.Source self.old)) }
+        ensures exact { RefusesLeaf R.Source IsRawHead not_raw (not_bytes R.lends) self.old self.new result }
         ensures memory { R.lends ≡ true → IfErr result (λ e. e ≢ Error.OutOfMemory) }
     {
         match self.head() {
@@ -62,7 +62,7 @@ impl<R: Source, C: SerializerConfig> Deserializer<R, C> {
     where
         R: ReadSlice<'de>,
         ensures law { Lawful R.Source (λ m p. m ≡ raw_msg p.0 p.1.items) self.old self.new result }
-        ensures exact { is_failed self.old ≡ false → IfErr result (RefusesContent IsRawHead not_raw never_refused (faults_of R.Source self.old) (faults_of R.Source self.new) (left R.Source self.old)) }
+        ensures exact { RefusesLeaf R.Source IsRawHead not_raw never_refused self.old self.new result }
     {
         match self.head() {
             Ok((_, head)) => match raw_in(head) {
@@ -87,7 +87,7 @@ impl<R: Source, C: SerializerConfig> Deserializer<R, C> {
     where
         R: ReadSlice<'de>,
         ensures law { Lawful R.Source IsChar self.old self.new result }
-        ensures exact { is_failed self.old ≡ false → IfErr result (RefusesContent IsTextHead not_raw not_char (faults_of R.Source self.old) (faults_of R.Source self.new) (left R.Source self.old)) }
+        ensures exact { RefusesLeaf R.Source IsTextHead not_raw not_char self.old self.new result }
         ensures memory { R.lends ≡ true → IfErr result (λ e. e ≢ Error.OutOfMemory) }
     {
         match self.head() {
@@ -114,7 +114,7 @@ impl<R: Source, C: SerializerConfig> Deserializer<R, C> {
     where
         R: ReadSlice<'de>,
         ensures law { Lawful R.Source (λ m s. (R.lends ≡ true) × IsRaw m s.now) self.old self.new result }
-        ensures exact { is_failed self.old ≡ false → IfErr result (RefusesContent IsRawHead not_raw (not_bytes R.lends) (faults_of R.Source self.old) (faults_of R.Source self.new) (left R.Source self.old)) }
+        ensures exact { RefusesLeaf R.Source IsRawHead not_raw (not_bytes R.lends) self.old self.new result }
         ensures memory { R.lends ≡ true → IfErr result (λ e. e ≢ Error.OutOfMemory) }
     {
         match self.lent_raw() {
@@ -133,7 +133,7 @@ impl<R: Source, C: SerializerConfig> Deserializer<R, C> {
     where
         R: ReadSlice<'de>,
         ensures law { Lawful R.Source (λ m s. (R.lends ≡ true) × IsString m s.now) self.old self.new result }
-        ensures exact { is_failed self.old ≡ false → IfErr result (RefusesContent IsRawHead not_raw (not_str R.lends) (faults_of R.Source self.old) (faults_of R.Source self.new) (left R.Source self.old)) }
+        ensures exact { RefusesLeaf R.Source IsRawHead not_raw (not_str R.lends) self.old self.new result }
         ensures memory { R.lends ≡ true → IfErr result (λ e. e ≢ Error.OutOfMemory) }
     {
         match self.lent_raw() {
@@ -154,7 +154,7 @@ impl<R: Source, C: SerializerConfig> Deserializer<R, C> {
     where
         R: ReadSlice<'de>,
         ensures law { Lawful R.Source (λ m s. IsRaw m (string_bytes s)) self.old self.new result }
-        ensures exact { is_failed self.old ≡ false → IfErr result (RefusesContent IsRawHead not_raw not_string (faults_of R.Source self.old) (faults_of R.Source self.new) (left R.Source self.old)) }
+        ensures exact { RefusesLeaf R.Source IsRawHead not_raw not_string self.old self.new result }
     {
         match self.text_front() {
             Some(len) => self.string_behind(len),
@@ -168,7 +168,7 @@ impl<R: Source, C: SerializerConfig> Deserializer<R, C> {
     where
         R: ReadSlice<'de>,
         ensures law { Lawful R.Source (λ m s. IsRaw m (string_bytes s)) self.old self.new result }
-        ensures exact { is_failed self.old ≡ false → IfErr result (RefusesContent IsRawHead not_raw not_string (faults_of R.Source self.old) (faults_of R.Source self.new) (left R.Source self.old)) }
+        ensures exact { RefusesLeaf R.Source IsRawHead not_raw not_string self.old self.new result }
     {
         match self.owned_raw() {
             Ok((is_text, bytes)) => match String::from_utf8(bytes) {
@@ -185,6 +185,10 @@ impl<'de, R: ReadSlice<'de>> Deserialize<'de, R> for char {
 
     ghost absent = { None };
 
+    ghost refuses = { λ s. RefusesContent s.strict IsTextHead not_raw not_char };
+
+    ghost takes_memory = { λ lends. if lends then false else true };
+
     #[inline(always)]
     fn deserialize<C: SerializerConfig>(de: &mut Deserializer<R, C>) -> Result<char, Error> {
         de.deserialize_char()
@@ -199,6 +203,8 @@ impl<'de, R: ReadSlice<'de>> Deserialize<'de, R> for String {
     ghost reads = { λ human lends m s. IsRaw m (string_bytes s) };
 
     ghost absent = { None };
+
+    ghost refuses = { λ s. RefusesContent s.strict IsRawHead not_raw not_string };
 
     #[inline(always)]
     fn deserialize<C: SerializerConfig>(de: &mut Deserializer<R, C>) -> Result<String, Error> {
@@ -215,6 +221,10 @@ impl<'de, R: ReadSlice<'de>> Deserialize<'de, R> for &'de str {
 
     ghost absent = { None };
 
+    ghost refuses = { λ s. RefusesContent s.strict IsRawHead not_raw (not_str s.lends) };
+
+    ghost takes_memory = { λ lends. if lends then false else true };
+
     #[inline(always)]
     fn deserialize<C: SerializerConfig>(de: &mut Deserializer<R, C>) -> Result<&'de str, Error> {
         de.deserialize_str()
@@ -229,6 +239,10 @@ impl<'de, R: ReadSlice<'de>> Deserialize<'de, R> for &'de [u8] {
     ghost reads = { λ human lends m s. (lends ≡ true) × IsRaw m s.now };
 
     ghost absent = { None };
+
+    ghost refuses = { λ s. RefusesContent s.strict IsRawHead not_raw (not_bytes s.lends) };
+
+    ghost takes_memory = { λ lends. if lends then false else true };
 
     #[inline(always)]
     fn deserialize<C: SerializerConfig>(de: &mut Deserializer<R, C>) -> Result<&'de [u8], Error> {
@@ -246,6 +260,10 @@ impl<'de, R: ReadSlice<'de>> Deserialize<'de, R> for Bytes<'de> {
     ghost reads = { λ human lends m s. (lends ≡ true) × IsRaw m (bytes_of s) };
 
     ghost absent = { None };
+
+    ghost refuses = { λ s. RefusesContent s.strict IsRawHead not_raw (not_bytes s.lends) };
+
+    ghost takes_memory = { λ lends. if lends then false else true };
 
     #[inline(always)]
     fn deserialize<C: SerializerConfig>(de: &mut Deserializer<R, C>) -> Result<Bytes<'de>, Error> {

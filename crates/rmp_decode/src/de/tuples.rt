@@ -1,5 +1,6 @@
 //! Tuples, from lists of as many elements, or bytes of as many. Written by tools/read_tuples.py.
-ghost use Rattle.std.specs.Prelude.{◌≡◌, None, IfOk, IfErr};
+ghost use Rattle.std.specs.Prelude.{◌≡◌, ◌≢◌, ◌||◌, false, None, List, [], ◌∷◌, IfOk, IfErr};
+ghost use Rattle.rmp_decode.specs.Refusing.{part_of, RefusesTuple, PartsRefused};
 ghost use Rattle.rmp_decode.specs.Rows.{AndThen, Anything, NoMore};
 ghost use Rattle.rmp_decode.specs.Seq.{OfRow, IsOpen, TakesParts, FailsParts, lender_of};
 ghost use Rattle.rmp_decode.specs.State.{config_of};
@@ -14,6 +15,10 @@ impl<'de, R: ReadSlice<'de>, A: Deserialize<'de, R>> Deserialize<'de, R> for (A,
     ghost reads = { λ human lends m v. OfRow (AndThen (λ k. A.reads human lends k v.0) NoMore) m };
 
     ghost absent = { None };
+
+    ghost refuses = { RefusesTuple (part_of A.reads A.refuses ∷ []) };
+
+    ghost takes_memory = { λ lends. A.takes_memory lends };
 
     fn deserialize<C: SerializerConfig>(de: &mut Deserializer<R, C>) -> Result<(A,), Error> {
         let mut seq = match de.deserialize_tuple(1) {
@@ -48,6 +53,8 @@ impl<'x, R: Source, C: SerializerConfig> SeqAccess<'x, R, C> {
         ensures same_reference { self.new.de.ghost_name ≡ self.old.de.ghost_name }
         ensures ok { IfOk result (TakesParts R.Source (λ v ms. AndThen (λ k. A.reads (C.human (config_of (lender_of self.old))) R.lends k v.0) (AndThen (λ k. B.reads (C.human (config_of (lender_of self.old))) R.lends k v.1) NoMore) ms) self.old self.new) }
         ensures err { IfErr result (FailsParts {V = A × B} R.Source (λ v ms. AndThen (λ k. A.reads (C.human (config_of (lender_of self.old))) R.lends k v.0) (AndThen (λ k. B.reads (C.human (config_of (lender_of self.old))) R.lends k v.1) Anything) ms) self.old self.new) }
+        ensures refused { IfErr result (PartsRefused R.Source (C.human (config_of (lender_of self.old))) R.lends (part_of A.reads A.refuses ∷ part_of B.reads B.refuses ∷ []) self.old self.new) }
+        ensures memory { (A.takes_memory R.lends || B.takes_memory R.lends) ≡ false → IfErr result (λ e. e ≢ Error.OutOfMemory) }
     {
         let a = match self.element() {
             Ok(a) => a,
@@ -66,6 +73,10 @@ impl<'de, R: ReadSlice<'de>, A: Deserialize<'de, R>, B: Deserialize<'de, R>> Des
     ghost reads = { λ human lends m v. OfRow (AndThen (λ k. A.reads human lends k v.0) (AndThen (λ k. B.reads human lends k v.1) NoMore)) m };
 
     ghost absent = { None };
+
+    ghost refuses = { RefusesTuple (part_of A.reads A.refuses ∷ part_of B.reads B.refuses ∷ []) };
+
+    ghost takes_memory = { λ lends. A.takes_memory lends || B.takes_memory lends };
 
     fn deserialize<C: SerializerConfig>(de: &mut Deserializer<R, C>) -> Result<(A, B), Error> {
         let mut seq = match de.deserialize_tuple(2) {
@@ -100,6 +111,8 @@ impl<'x, R: Source, C: SerializerConfig> SeqAccess<'x, R, C> {
         ensures same_reference { self.new.de.ghost_name ≡ self.old.de.ghost_name }
         ensures ok { IfOk result (TakesParts R.Source (λ v ms. AndThen (λ k. A.reads (C.human (config_of (lender_of self.old))) R.lends k v.0) (AndThen (λ k. B.reads (C.human (config_of (lender_of self.old))) R.lends k v.1) (AndThen (λ k. D.reads (C.human (config_of (lender_of self.old))) R.lends k v.2) NoMore)) ms) self.old self.new) }
         ensures err { IfErr result (FailsParts {V = A × B × D} R.Source (λ v ms. AndThen (λ k. A.reads (C.human (config_of (lender_of self.old))) R.lends k v.0) (AndThen (λ k. B.reads (C.human (config_of (lender_of self.old))) R.lends k v.1) (AndThen (λ k. D.reads (C.human (config_of (lender_of self.old))) R.lends k v.2) Anything)) ms) self.old self.new) }
+        ensures refused { IfErr result (PartsRefused R.Source (C.human (config_of (lender_of self.old))) R.lends (part_of A.reads A.refuses ∷ part_of B.reads B.refuses ∷ part_of D.reads D.refuses ∷ []) self.old self.new) }
+        ensures memory { (A.takes_memory R.lends || B.takes_memory R.lends || D.takes_memory R.lends) ≡ false → IfErr result (λ e. e ≢ Error.OutOfMemory) }
     {
         let (a, b) = match self.parts_2() {
             Ok(parts) => parts,
@@ -123,6 +136,10 @@ impl<
     ghost reads = { λ human lends m v. OfRow (AndThen (λ k. A.reads human lends k v.0) (AndThen (λ k. B.reads human lends k v.1) (AndThen (λ k. D.reads human lends k v.2) NoMore))) m };
 
     ghost absent = { None };
+
+    ghost refuses = { RefusesTuple (part_of A.reads A.refuses ∷ part_of B.reads B.refuses ∷ part_of D.reads D.refuses ∷ []) };
+
+    ghost takes_memory = { λ lends. A.takes_memory lends || B.takes_memory lends || D.takes_memory lends };
 
     fn deserialize<C: SerializerConfig>(de: &mut Deserializer<R, C>) -> Result<(A, B, D), Error> {
         let mut seq = match de.deserialize_tuple(3) {
@@ -161,6 +178,8 @@ impl<'x, R: Source, C: SerializerConfig> SeqAccess<'x, R, C> {
         ensures same_reference { self.new.de.ghost_name ≡ self.old.de.ghost_name }
         ensures ok { IfOk result (TakesParts R.Source (λ v ms. AndThen (λ k. A.reads (C.human (config_of (lender_of self.old))) R.lends k v.0) (AndThen (λ k. B.reads (C.human (config_of (lender_of self.old))) R.lends k v.1) (AndThen (λ k. D.reads (C.human (config_of (lender_of self.old))) R.lends k v.2) (AndThen (λ k. E.reads (C.human (config_of (lender_of self.old))) R.lends k v.3) NoMore))) ms) self.old self.new) }
         ensures err { IfErr result (FailsParts {V = A × B × D × E} R.Source (λ v ms. AndThen (λ k. A.reads (C.human (config_of (lender_of self.old))) R.lends k v.0) (AndThen (λ k. B.reads (C.human (config_of (lender_of self.old))) R.lends k v.1) (AndThen (λ k. D.reads (C.human (config_of (lender_of self.old))) R.lends k v.2) (AndThen (λ k. E.reads (C.human (config_of (lender_of self.old))) R.lends k v.3) Anything))) ms) self.old self.new) }
+        ensures refused { IfErr result (PartsRefused R.Source (C.human (config_of (lender_of self.old))) R.lends (part_of A.reads A.refuses ∷ part_of B.reads B.refuses ∷ part_of D.reads D.refuses ∷ part_of E.reads E.refuses ∷ []) self.old self.new) }
+        ensures memory { (A.takes_memory R.lends || B.takes_memory R.lends || D.takes_memory R.lends || E.takes_memory R.lends) ≡ false → IfErr result (λ e. e ≢ Error.OutOfMemory) }
     {
         let (a, b, d) = match self.parts_3() {
             Ok(parts) => parts,
@@ -185,6 +204,10 @@ impl<
     ghost reads = { λ human lends m v. OfRow (AndThen (λ k. A.reads human lends k v.0) (AndThen (λ k. B.reads human lends k v.1) (AndThen (λ k. D.reads human lends k v.2) (AndThen (λ k. E.reads human lends k v.3) NoMore)))) m };
 
     ghost absent = { None };
+
+    ghost refuses = { RefusesTuple (part_of A.reads A.refuses ∷ part_of B.reads B.refuses ∷ part_of D.reads D.refuses ∷ part_of E.reads E.refuses ∷ []) };
+
+    ghost takes_memory = { λ lends. A.takes_memory lends || B.takes_memory lends || D.takes_memory lends || E.takes_memory lends };
 
     fn deserialize<C: SerializerConfig>(
         de: &mut Deserializer<R, C>,
@@ -226,6 +249,8 @@ impl<'x, R: Source, C: SerializerConfig> SeqAccess<'x, R, C> {
         ensures same_reference { self.new.de.ghost_name ≡ self.old.de.ghost_name }
         ensures ok { IfOk result (TakesParts R.Source (λ v ms. AndThen (λ k. A.reads (C.human (config_of (lender_of self.old))) R.lends k v.0) (AndThen (λ k. B.reads (C.human (config_of (lender_of self.old))) R.lends k v.1) (AndThen (λ k. D.reads (C.human (config_of (lender_of self.old))) R.lends k v.2) (AndThen (λ k. E.reads (C.human (config_of (lender_of self.old))) R.lends k v.3) (AndThen (λ k. F.reads (C.human (config_of (lender_of self.old))) R.lends k v.4) NoMore)))) ms) self.old self.new) }
         ensures err { IfErr result (FailsParts {V = A × B × D × E × F} R.Source (λ v ms. AndThen (λ k. A.reads (C.human (config_of (lender_of self.old))) R.lends k v.0) (AndThen (λ k. B.reads (C.human (config_of (lender_of self.old))) R.lends k v.1) (AndThen (λ k. D.reads (C.human (config_of (lender_of self.old))) R.lends k v.2) (AndThen (λ k. E.reads (C.human (config_of (lender_of self.old))) R.lends k v.3) (AndThen (λ k. F.reads (C.human (config_of (lender_of self.old))) R.lends k v.4) Anything)))) ms) self.old self.new) }
+        ensures refused { IfErr result (PartsRefused R.Source (C.human (config_of (lender_of self.old))) R.lends (part_of A.reads A.refuses ∷ part_of B.reads B.refuses ∷ part_of D.reads D.refuses ∷ part_of E.reads E.refuses ∷ part_of F.reads F.refuses ∷ []) self.old self.new) }
+        ensures memory { (A.takes_memory R.lends || B.takes_memory R.lends || D.takes_memory R.lends || E.takes_memory R.lends || F.takes_memory R.lends) ≡ false → IfErr result (λ e. e ≢ Error.OutOfMemory) }
     {
         let (a, b, d, e) = match self.parts_4() {
             Ok(parts) => parts,
@@ -251,6 +276,10 @@ impl<
     ghost reads = { λ human lends m v. OfRow (AndThen (λ k. A.reads human lends k v.0) (AndThen (λ k. B.reads human lends k v.1) (AndThen (λ k. D.reads human lends k v.2) (AndThen (λ k. E.reads human lends k v.3) (AndThen (λ k. F.reads human lends k v.4) NoMore))))) m };
 
     ghost absent = { None };
+
+    ghost refuses = { RefusesTuple (part_of A.reads A.refuses ∷ part_of B.reads B.refuses ∷ part_of D.reads D.refuses ∷ part_of E.reads E.refuses ∷ part_of F.reads F.refuses ∷ []) };
+
+    ghost takes_memory = { λ lends. A.takes_memory lends || B.takes_memory lends || D.takes_memory lends || E.takes_memory lends || F.takes_memory lends };
 
     fn deserialize<C: SerializerConfig>(
         de: &mut Deserializer<R, C>,
@@ -293,6 +322,8 @@ impl<'x, R: Source, C: SerializerConfig> SeqAccess<'x, R, C> {
         ensures same_reference { self.new.de.ghost_name ≡ self.old.de.ghost_name }
         ensures ok { IfOk result (TakesParts R.Source (λ v ms. AndThen (λ k. A.reads (C.human (config_of (lender_of self.old))) R.lends k v.0) (AndThen (λ k. B.reads (C.human (config_of (lender_of self.old))) R.lends k v.1) (AndThen (λ k. D.reads (C.human (config_of (lender_of self.old))) R.lends k v.2) (AndThen (λ k. E.reads (C.human (config_of (lender_of self.old))) R.lends k v.3) (AndThen (λ k. F.reads (C.human (config_of (lender_of self.old))) R.lends k v.4) (AndThen (λ k. G.reads (C.human (config_of (lender_of self.old))) R.lends k v.5) NoMore))))) ms) self.old self.new) }
         ensures err { IfErr result (FailsParts {V = A × B × D × E × F × G} R.Source (λ v ms. AndThen (λ k. A.reads (C.human (config_of (lender_of self.old))) R.lends k v.0) (AndThen (λ k. B.reads (C.human (config_of (lender_of self.old))) R.lends k v.1) (AndThen (λ k. D.reads (C.human (config_of (lender_of self.old))) R.lends k v.2) (AndThen (λ k. E.reads (C.human (config_of (lender_of self.old))) R.lends k v.3) (AndThen (λ k. F.reads (C.human (config_of (lender_of self.old))) R.lends k v.4) (AndThen (λ k. G.reads (C.human (config_of (lender_of self.old))) R.lends k v.5) Anything))))) ms) self.old self.new) }
+        ensures refused { IfErr result (PartsRefused R.Source (C.human (config_of (lender_of self.old))) R.lends (part_of A.reads A.refuses ∷ part_of B.reads B.refuses ∷ part_of D.reads D.refuses ∷ part_of E.reads E.refuses ∷ part_of F.reads F.refuses ∷ part_of G.reads G.refuses ∷ []) self.old self.new) }
+        ensures memory { (A.takes_memory R.lends || B.takes_memory R.lends || D.takes_memory R.lends || E.takes_memory R.lends || F.takes_memory R.lends || G.takes_memory R.lends) ≡ false → IfErr result (λ e. e ≢ Error.OutOfMemory) }
     {
         let (a, b, d, e, f) = match self.parts_5() {
             Ok(parts) => parts,
@@ -319,6 +350,10 @@ impl<
     ghost reads = { λ human lends m v. OfRow (AndThen (λ k. A.reads human lends k v.0) (AndThen (λ k. B.reads human lends k v.1) (AndThen (λ k. D.reads human lends k v.2) (AndThen (λ k. E.reads human lends k v.3) (AndThen (λ k. F.reads human lends k v.4) (AndThen (λ k. G.reads human lends k v.5) NoMore)))))) m };
 
     ghost absent = { None };
+
+    ghost refuses = { RefusesTuple (part_of A.reads A.refuses ∷ part_of B.reads B.refuses ∷ part_of D.reads D.refuses ∷ part_of E.reads E.refuses ∷ part_of F.reads F.refuses ∷ part_of G.reads G.refuses ∷ []) };
+
+    ghost takes_memory = { λ lends. A.takes_memory lends || B.takes_memory lends || D.takes_memory lends || E.takes_memory lends || F.takes_memory lends || G.takes_memory lends };
 
     fn deserialize<C: SerializerConfig>(
         de: &mut Deserializer<R, C>,
@@ -362,6 +397,8 @@ impl<'x, R: Source, C: SerializerConfig> SeqAccess<'x, R, C> {
         ensures same_reference { self.new.de.ghost_name ≡ self.old.de.ghost_name }
         ensures ok { IfOk result (TakesParts R.Source (λ v ms. AndThen (λ k. A.reads (C.human (config_of (lender_of self.old))) R.lends k v.0) (AndThen (λ k. B.reads (C.human (config_of (lender_of self.old))) R.lends k v.1) (AndThen (λ k. D.reads (C.human (config_of (lender_of self.old))) R.lends k v.2) (AndThen (λ k. E.reads (C.human (config_of (lender_of self.old))) R.lends k v.3) (AndThen (λ k. F.reads (C.human (config_of (lender_of self.old))) R.lends k v.4) (AndThen (λ k. G.reads (C.human (config_of (lender_of self.old))) R.lends k v.5) (AndThen (λ k. H.reads (C.human (config_of (lender_of self.old))) R.lends k v.6) NoMore)))))) ms) self.old self.new) }
         ensures err { IfErr result (FailsParts {V = A × B × D × E × F × G × H} R.Source (λ v ms. AndThen (λ k. A.reads (C.human (config_of (lender_of self.old))) R.lends k v.0) (AndThen (λ k. B.reads (C.human (config_of (lender_of self.old))) R.lends k v.1) (AndThen (λ k. D.reads (C.human (config_of (lender_of self.old))) R.lends k v.2) (AndThen (λ k. E.reads (C.human (config_of (lender_of self.old))) R.lends k v.3) (AndThen (λ k. F.reads (C.human (config_of (lender_of self.old))) R.lends k v.4) (AndThen (λ k. G.reads (C.human (config_of (lender_of self.old))) R.lends k v.5) (AndThen (λ k. H.reads (C.human (config_of (lender_of self.old))) R.lends k v.6) Anything)))))) ms) self.old self.new) }
+        ensures refused { IfErr result (PartsRefused R.Source (C.human (config_of (lender_of self.old))) R.lends (part_of A.reads A.refuses ∷ part_of B.reads B.refuses ∷ part_of D.reads D.refuses ∷ part_of E.reads E.refuses ∷ part_of F.reads F.refuses ∷ part_of G.reads G.refuses ∷ part_of H.reads H.refuses ∷ []) self.old self.new) }
+        ensures memory { (A.takes_memory R.lends || B.takes_memory R.lends || D.takes_memory R.lends || E.takes_memory R.lends || F.takes_memory R.lends || G.takes_memory R.lends || H.takes_memory R.lends) ≡ false → IfErr result (λ e. e ≢ Error.OutOfMemory) }
     {
         let (a, b, d, e, f, g) = match self.parts_6() {
             Ok(parts) => parts,
@@ -389,6 +426,10 @@ impl<
     ghost reads = { λ human lends m v. OfRow (AndThen (λ k. A.reads human lends k v.0) (AndThen (λ k. B.reads human lends k v.1) (AndThen (λ k. D.reads human lends k v.2) (AndThen (λ k. E.reads human lends k v.3) (AndThen (λ k. F.reads human lends k v.4) (AndThen (λ k. G.reads human lends k v.5) (AndThen (λ k. H.reads human lends k v.6) NoMore))))))) m };
 
     ghost absent = { None };
+
+    ghost refuses = { RefusesTuple (part_of A.reads A.refuses ∷ part_of B.reads B.refuses ∷ part_of D.reads D.refuses ∷ part_of E.reads E.refuses ∷ part_of F.reads F.refuses ∷ part_of G.reads G.refuses ∷ part_of H.reads H.refuses ∷ []) };
+
+    ghost takes_memory = { λ lends. A.takes_memory lends || B.takes_memory lends || D.takes_memory lends || E.takes_memory lends || F.takes_memory lends || G.takes_memory lends || H.takes_memory lends };
 
     fn deserialize<C: SerializerConfig>(
         de: &mut Deserializer<R, C>,
@@ -433,6 +474,8 @@ impl<'x, R: Source, C: SerializerConfig> SeqAccess<'x, R, C> {
         ensures same_reference { self.new.de.ghost_name ≡ self.old.de.ghost_name }
         ensures ok { IfOk result (TakesParts R.Source (λ v ms. AndThen (λ k. A.reads (C.human (config_of (lender_of self.old))) R.lends k v.0) (AndThen (λ k. B.reads (C.human (config_of (lender_of self.old))) R.lends k v.1) (AndThen (λ k. D.reads (C.human (config_of (lender_of self.old))) R.lends k v.2) (AndThen (λ k. E.reads (C.human (config_of (lender_of self.old))) R.lends k v.3) (AndThen (λ k. F.reads (C.human (config_of (lender_of self.old))) R.lends k v.4) (AndThen (λ k. G.reads (C.human (config_of (lender_of self.old))) R.lends k v.5) (AndThen (λ k. H.reads (C.human (config_of (lender_of self.old))) R.lends k v.6) (AndThen (λ k. I.reads (C.human (config_of (lender_of self.old))) R.lends k v.7) NoMore))))))) ms) self.old self.new) }
         ensures err { IfErr result (FailsParts {V = A × B × D × E × F × G × H × I} R.Source (λ v ms. AndThen (λ k. A.reads (C.human (config_of (lender_of self.old))) R.lends k v.0) (AndThen (λ k. B.reads (C.human (config_of (lender_of self.old))) R.lends k v.1) (AndThen (λ k. D.reads (C.human (config_of (lender_of self.old))) R.lends k v.2) (AndThen (λ k. E.reads (C.human (config_of (lender_of self.old))) R.lends k v.3) (AndThen (λ k. F.reads (C.human (config_of (lender_of self.old))) R.lends k v.4) (AndThen (λ k. G.reads (C.human (config_of (lender_of self.old))) R.lends k v.5) (AndThen (λ k. H.reads (C.human (config_of (lender_of self.old))) R.lends k v.6) (AndThen (λ k. I.reads (C.human (config_of (lender_of self.old))) R.lends k v.7) Anything))))))) ms) self.old self.new) }
+        ensures refused { IfErr result (PartsRefused R.Source (C.human (config_of (lender_of self.old))) R.lends (part_of A.reads A.refuses ∷ part_of B.reads B.refuses ∷ part_of D.reads D.refuses ∷ part_of E.reads E.refuses ∷ part_of F.reads F.refuses ∷ part_of G.reads G.refuses ∷ part_of H.reads H.refuses ∷ part_of I.reads I.refuses ∷ []) self.old self.new) }
+        ensures memory { (A.takes_memory R.lends || B.takes_memory R.lends || D.takes_memory R.lends || E.takes_memory R.lends || F.takes_memory R.lends || G.takes_memory R.lends || H.takes_memory R.lends || I.takes_memory R.lends) ≡ false → IfErr result (λ e. e ≢ Error.OutOfMemory) }
     {
         let (a, b, d, e, f, g, h) = match self.parts_7() {
             Ok(parts) => parts,
@@ -461,6 +504,10 @@ impl<
     ghost reads = { λ human lends m v. OfRow (AndThen (λ k. A.reads human lends k v.0) (AndThen (λ k. B.reads human lends k v.1) (AndThen (λ k. D.reads human lends k v.2) (AndThen (λ k. E.reads human lends k v.3) (AndThen (λ k. F.reads human lends k v.4) (AndThen (λ k. G.reads human lends k v.5) (AndThen (λ k. H.reads human lends k v.6) (AndThen (λ k. I.reads human lends k v.7) NoMore)))))))) m };
 
     ghost absent = { None };
+
+    ghost refuses = { RefusesTuple (part_of A.reads A.refuses ∷ part_of B.reads B.refuses ∷ part_of D.reads D.refuses ∷ part_of E.reads E.refuses ∷ part_of F.reads F.refuses ∷ part_of G.reads G.refuses ∷ part_of H.reads H.refuses ∷ part_of I.reads I.refuses ∷ []) };
+
+    ghost takes_memory = { λ lends. A.takes_memory lends || B.takes_memory lends || D.takes_memory lends || E.takes_memory lends || F.takes_memory lends || G.takes_memory lends || H.takes_memory lends || I.takes_memory lends };
 
     fn deserialize<C: SerializerConfig>(
         de: &mut Deserializer<R, C>,

@@ -1,6 +1,11 @@
 //! Queues, sets and maps.
-ghost use Rattle.std.specs.Prelude.{map, All};
-ghost use Rattle.rmp_encode.specs.Trees.{sequence_of, mapping_of, in_turn};
+//!
+//! Writing them takes no memory but by their elements and the sink. 2 ^ 32 elements or pairs or more are refused, and nothing is
+//! written.
+ghost use Rattle.std.specs.Prelude.{◌≡◌, ◌^◌, ◌≤◌, ◌||◌, map, length, All, OnOk};
+ghost use Rattle.rmp_encode.specs.Ser.{sink_of, settings_of};
+ghost use Rattle.rmp_encode.specs.Trees.{tree_of, sequence_of, mapping_of, in_turn};
+ghost use Rattle.rmp_encode.specs.Writes.{Keeps, WritesTree};
 
 use crate::error::Error;
 use crate::ser::Serialize;
@@ -14,10 +19,17 @@ impl<T: Serialize> Serialize for VecDeque<T> {
 
     ghost is_value = { λ v. All T.is_value v.items };
 
+    ghost takes_memory = { T.takes_memory };
+
     fn serialize<W: Sink, C: SerializerConfig>(
         &self,
         se: &mut Serializer<W, C>,
-    ) -> Result<(), Error> {
+    ) -> Result<(), Error>
+        ensures writes { WritesTree W.Sink (T.takes_memory (settings_of se.old) || W.takes_memory) (tree_of (settings_of se.old) (sequence_of (map (λ x. T.data_of x (settings_of se.old).human) self.now.items))) (sink_of se.old) (sink_of se.new) result }
+        ensures keeps { Keeps W.Sink se.old se.new }
+        ensures refused { 2 ^ 32 ≤ length self.now.items → se.new ≡ se.old }
+        ensures value { OnOk result (All T.is_value self.now.items) }
+    {
         se.put_len(false, self.len())?;
         for item in self {
             item.serialize(se)?;
@@ -37,10 +49,17 @@ impl<T: Serialize + Ord> Serialize for BTreeSet<T> {
 
     ghost is_value = { λ v. All T.is_value v.keys };
 
+    ghost takes_memory = { T.takes_memory };
+
     fn serialize<W: Sink, C: SerializerConfig>(
         &self,
         se: &mut Serializer<W, C>,
-    ) -> Result<(), Error> {
+    ) -> Result<(), Error>
+        ensures writes { WritesTree W.Sink (T.takes_memory (settings_of se.old) || W.takes_memory) (tree_of (settings_of se.old) (sequence_of (map (λ x. T.data_of x (settings_of se.old).human) self.now.keys))) (sink_of se.old) (sink_of se.new) result }
+        ensures keeps { Keeps W.Sink se.old se.new }
+        ensures refused { 2 ^ 32 ≤ length self.now.keys → se.new ≡ se.old }
+        ensures value { OnOk result (All T.is_value self.now.keys) }
+    {
         se.put_len(false, self.len())?;
         for item in self {
             item.serialize(se)?;
@@ -60,10 +79,17 @@ impl<K: Serialize + Ord, V: Serialize> Serialize for BTreeMap<K, V> {
 
     ghost is_value = { λ v. All (λ e. K.is_value e.0 × V.is_value e.1) v.entries };
 
+    ghost takes_memory = { λ s. K.takes_memory s || V.takes_memory s };
+
     fn serialize<W: Sink, C: SerializerConfig>(
         &self,
         se: &mut Serializer<W, C>,
-    ) -> Result<(), Error> {
+    ) -> Result<(), Error>
+        ensures writes { WritesTree W.Sink ((K.takes_memory (settings_of se.old) || V.takes_memory (settings_of se.old)) || W.takes_memory) (tree_of (settings_of se.old) (mapping_of (in_turn (λ k. K.data_of k (settings_of se.old).human) (λ x. V.data_of x (settings_of se.old).human) self.now.entries))) (sink_of se.old) (sink_of se.new) result }
+        ensures keeps { Keeps W.Sink se.old se.new }
+        ensures refused { 2 ^ 32 ≤ length self.now.entries → se.new ≡ se.old }
+        ensures value { OnOk result (All (λ e. K.is_value e.0 × V.is_value e.1) self.now.entries) }
+    {
         se.put_len(true, self.len())?;
         for (key, value) in self {
             key.serialize(se)?;

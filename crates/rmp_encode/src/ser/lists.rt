@@ -1,6 +1,11 @@
 //! Vectors, slices and arrays.
-ghost use Rattle.std.specs.Prelude.{map, All};
-ghost use Rattle.rmp_encode.specs.Trees.{slice_of, tuple_of};
+//!
+//! In the mode `Normal` writing them takes no memory but by their elements and the sink. A vector or a slice of 2 ^ 32 elements or
+//! more is refused, and nothing is written.
+ghost use Rattle.std.specs.Prelude.{◌≡◌, ◌^◌, ◌≤◌, ◌||◌, map, length, All, OnOk};
+ghost use Rattle.rmp_encode.specs.Ser.{sink_of, settings_of};
+ghost use Rattle.rmp_encode.specs.Trees.{tree_of, slice_of, tuple_of, forces_all, forces_slices};
+ghost use Rattle.rmp_encode.specs.Writes.{Keeps, WritesTree};
 
 use crate::error::Error;
 use crate::ser::Serialize;
@@ -14,10 +19,17 @@ impl<T: Serialize> Serialize for Vec<T> {
 
     ghost is_value = { λ v. All T.is_value v.items };
 
+    ghost takes_memory = { λ s. forces_slices s.bytes || T.takes_memory s };
+
     fn serialize<W: Sink, C: SerializerConfig>(
         &self,
         se: &mut Serializer<W, C>,
-    ) -> Result<(), Error> {
+    ) -> Result<(), Error>
+        ensures writes { WritesTree W.Sink ((forces_slices (settings_of se.old).bytes || T.takes_memory (settings_of se.old)) || W.takes_memory) (tree_of (settings_of se.old) (slice_of (map (λ x. T.data_of x (settings_of se.old).human) self.now.items))) (sink_of se.old) (sink_of se.new) result }
+        ensures keeps { Keeps W.Sink se.old se.new }
+        ensures refused { 2 ^ 32 ≤ length self.now.items → se.new ≡ se.old }
+        ensures value { OnOk result (All T.is_value self.now.items) }
+    {
         se.collect_seq(self.as_slice())
     }
 
@@ -33,10 +45,17 @@ impl<T: Serialize> Serialize for &[T] {
 
     ghost is_value = { λ v. All T.is_value v.now };
 
+    ghost takes_memory = { λ s. forces_slices s.bytes || T.takes_memory s };
+
     fn serialize<W: Sink, C: SerializerConfig>(
         &self,
         se: &mut Serializer<W, C>,
-    ) -> Result<(), Error> {
+    ) -> Result<(), Error>
+        ensures writes { WritesTree W.Sink ((forces_slices (settings_of se.old).bytes || T.takes_memory (settings_of se.old)) || W.takes_memory) (tree_of (settings_of se.old) (slice_of (map (λ x. T.data_of x (settings_of se.old).human) self.now.now))) (sink_of se.old) (sink_of se.new) result }
+        ensures keeps { Keeps W.Sink se.old se.new }
+        ensures refused { 2 ^ 32 ≤ length self.now.now → se.new ≡ se.old }
+        ensures value { OnOk result (All T.is_value self.now.now) }
+    {
         se.collect_seq(self)
     }
 
@@ -51,6 +70,8 @@ impl<T: Serialize, const N: usize> Serialize for [T; N] {
     ghost data_of = { λ v human. tuple_of (map (λ x. T.data_of x human) v) };
 
     ghost is_value = { λ v. All T.is_value v };
+
+    ghost takes_memory = { λ s. forces_all s.bytes || T.takes_memory s };
 
     fn serialize<W: Sink, C: SerializerConfig>(
         &self,

@@ -1,9 +1,13 @@
 //! The calls of a serializer and of what it opens.
+ghost use Rattle.std.specs.Prelude.{false};
+
 use crate::error::Error;
 use crate::serializer::Serializer;
 use crate::underlying::UnderlyingWrite;
 use crate::whole::{to_vec_named, write_named};
 use rmp_wire::config::BytesMode;
+use rmp_wire::{Sink, SinkFault, ValueWriteError};
+use std::io;
 use std::test::Fail;
 
 #[test]
@@ -150,5 +154,75 @@ fn too_long(rt: HostRuntime) -> Result<(), Fail> {
     };
     assert!(rt; fields);
     assert!(rt; se.get_ref().is_empty());
+    Ok(())
+}
+
+// A sink that has room for so many bytes.
+#[derive(Drop)]
+struct Narrow {
+    room: usize,
+    faults: u64,
+}
+
+impl Sink for Narrow {
+    const TAKES_MEMORY: bool = false;
+
+    ghost takes_memory = { false };
+
+    ghost faults = { λ sink. sink.faults };
+
+    fn put(&mut self, piece: &[u8]) -> Result<usize, SinkFault> {
+        if self.room == 0 {
+            self.faults = self.faults.wrapping_add(1);
+            return Err(SinkFault::Io(io::Error::from(io::ErrorKind::WriteZero)));
+        }
+        let n = piece.len().min(self.room);
+        self.room -= n;
+        Ok(n)
+    }
+}
+
+#[test]
+fn broken_off(rt: HostRuntime) -> Result<(), Fail> {
+    let mut se = Serializer::new(rt.alloc(), Narrow { room: 1, faults: 0 });
+    let mut list = se.serialize_seq(Some(1))?;
+    assert!(rt; list.is_sound());
+    assert!(rt; list.serialize_element(&1u8).is_err());
+    assert!(rt; !list.is_sound());
+    let mut se = Serializer::new(rt.alloc(), Narrow { room: 1, faults: 0 });
+    let mut tuple = se.serialize_tuple(1)?;
+    assert!(rt; tuple.is_sound());
+    assert!(rt; tuple.serialize_element(&1u8).is_err());
+    assert!(rt; !tuple.is_sound());
+    let mut se = Serializer::new(rt.alloc(), Narrow { room: 1, faults: 0 });
+    let mut fields = se.serialize_tuple_struct("One", 1)?;
+    assert!(rt; fields.is_sound());
+    assert!(rt; fields.serialize_element(&1u8).is_err());
+    assert!(rt; !fields.is_sound());
+    Ok(())
+}
+
+#[test]
+fn no_room_at_the_end(rt: HostRuntime) -> Result<(), Fail> {
+    let mut se = Serializer::new(rt.alloc(), Narrow { room: 0, faults: 0 });
+    let mut list = se.serialize_seq(None)?;
+    list.serialize_element(&1u8)?;
+    let answer = list.end();
+    assert!(rt;
+        matches!(
+            &answer,
+            Err(Error::InvalidValueWrite(ValueWriteError::InvalidMarkerWrite(_)))
+        )
+    );
+    let mut se = Serializer::new(rt.alloc(), Narrow { room: 1, faults: 0 });
+    let mut list = se.serialize_seq(None)?;
+    list.serialize_element(&1u8)?;
+    let answer = list.end();
+    assert!(rt;
+        matches!(
+            &answer,
+            Err(Error::InvalidValueWrite(ValueWriteError::InvalidDataWrite(_)))
+        )
+    );
     Ok(())
 }

@@ -1,5 +1,5 @@
 //! Reads a value, in whatever widths it is spelled.
-ghost use Rattle.std.specs.Prelude.{◌≡◌, ◌≢◌, None, OnOk, IfOk, IfErr};
+ghost use Rattle.std.specs.Prelude.{◌≡◌, ◌≢◌, false, None, OnOk, IfOk, IfErr};
 ghost use Rattle.rmp_wire.specs.Msg.{list, map as map_of, msgs, pairs};
 ghost use Rattle.rmp_decode.specs.Law.{Lawful};
 ghost use Rattle.rmp_decode.specs.Maps.{IsMapOpen, AtKey, pairs_left, map_lender};
@@ -185,7 +185,7 @@ impl Value {
         // A refusal that isn't for memory means that no beginning spells such a message,
         ensures err { IfErr result (λ e. e ≢ Error.OutOfMemory → Begins Spells (Readable reads_value) 1024 input.now → ⊥) }
         // and each names the first thing that is wrong, or where memory was short.
-        ensures refusal { IfErr result (λ e. Refusal UnreadFor ItemsUtf8 1024 e input.now) }
+        ensures refusal { IfErr result (λ e. Refusal false (UnreadFor false) ItemsUtf8 1024 e input.now) }
     {
         let mut de = Deserializer::from_read_ref(alloc, input);
         read_value::<ReadRefReader<'de>, DefaultConfig, Slices<'de>>(&mut de)
@@ -209,9 +209,13 @@ impl Value {
 }
 
 impl<'de, R: ReadSlice<'de>> Deserialize<'de, R> for Value {
+    ghost use Rattle.rmp_decode.specs.Refuse.{RefusedFor};
+
     ghost reads = { λ human lends. reads_value };
 
     ghost absent = { None };
+
+    ghost refuses = { λ s before after known e. after ≡ before → RefusedFor s.strict (UnreadFor s.strict) ItemsUtf8 s.room e known };
 
     fn deserialize<C: SerializerConfig>(de: &mut Deserializer<R, C>) -> Result<Value, Error> {
         Value::read(de)

@@ -1,7 +1,7 @@
 -- Each message takes bytes of the line. The reader stands ready behind those that were read.
 use Rattle.std.proofs.Common.{◌≡◌, false, length}
 use Rattle.rmp_wire.specs.RefReader.{rest_of}
-use Rattle.rmp_decode.specs.State.{reader_of, kept_of, limit_of, is_failed}
+use Rattle.rmp_decode.specs.State.{reader_of, kept_of, limit_of, is_failed, is_strict}
 use Rattle.rmp_decode.specs.declared.de.Kept.TheVariants.{Nothing}
 use Rattle.mpcanon.specs.Output.{PutsLines}
 use Rattle.mpcanon.proofs.Shown.{SoFar}
@@ -15,6 +15,7 @@ invariant-loop-de g l = record {
   read : SoFar g.W.Sink l.fn.bytes (rest_of (reader_of l.de)) l.fn.sink l.sink;
   kept : kept_of l.de ≡ Nothing;
   room : limit_of l.de ≡ 1024;
+  lenient : is_strict l.de ≡ false;
   ready : is_failed l.de ≡ false;
   lines : PutsLines g.W.Sink l.fn.sink l.sink;
   place : g.W.Sink.place l.sink ≡ g.W.Sink.place l.fn.sink;

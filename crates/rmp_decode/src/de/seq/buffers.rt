@@ -2,15 +2,15 @@
 ghost use Rattle.std.specs.Prelude.{◌≡◌, ◌≤◌, ◌<◌, true, false, None, IfOk, IfErr, IfSome, IfNone};
 ghost use Rattle.std.specs.Borrow.{sem, RestsIfErr};
 ghost use Rattle.rmp_wire.specs.Types.{buffer_bytes};
-ghost use Rattle.rmp_decode.specs.Buffers.{IsBuffer, AfterHead, IsBehind, RefusesItems, RefusesList};
+ghost use Rattle.rmp_decode.specs.Buffers.{IsBuffer, AfterHead, IsBehind, RefusesItems, RefusesListIn, RefusesList};
 ghost use Rattle.rmp_decode.specs.contracts.de.Deserializer.{the_row};
-ghost use Rattle.rmp_decode.specs.Content.{IsBufferHead, RefusesContent, not_raw, not_buffer};
+ghost use Rattle.rmp_decode.specs.Content.{IsBufferHead, RefusesContent, RefusesLeaf, not_raw, not_buffer};
 ghost use Rattle.rmp_decode.specs.Exact.{RefusesExactly};
 ghost use Rattle.rmp_decode.specs.Kinds.{Finds, other_number};
 ghost use Rattle.rmp_decode.specs.Law.{Lawful};
 ghost use Rattle.rmp_decode.specs.Read.{IsUnsigned};
 ghost use Rattle.rmp_decode.specs.Seq.{IsOpen, TakesElement, FailsToTake, left_in, in_bytes, lender_of};
-ghost use Rattle.rmp_decode.specs.State.{left, faults_of, is_failed, kept_of};
+ghost use Rattle.rmp_decode.specs.State.{left, faults_of, is_failed, kept_of, is_strict};
 ghost use Rattle.rmp_decode.specs.declared.de.Kept.TheVariants.{Nothing};
 
 use crate::de::kinds::raw_in;
@@ -43,7 +43,7 @@ impl<R: Source, C: SerializerConfig> Deserializer<R, C> {
     where
         R: ReadSlice<'de>,
         ensures law { Lawful R.Source (λ m v. IsBuffer m v.items) self.old self.new result }
-        ensures exact { is_failed self.old ≡ false → IfErr result (RefusesContent IsBufferHead not_raw not_buffer (faults_of R.Source self.old) (faults_of R.Source self.new) (left R.Source self.old)) }
+        ensures exact { RefusesLeaf R.Source IsBufferHead not_raw not_buffer self.old self.new result }
         // A list is refused as a whole where it would nest too deep, and else at an item.
         ensures list { is_failed self.old ≡ false → IfErr result (RefusesList R.Source self.old self.new) }
     {
@@ -113,7 +113,7 @@ impl<'x, R: Source, C: SerializerConfig> SeqAccess<'x, R, C> {
         ensures none { IsOpen self.old → IfOk result (λ o. IfNone o ((left_in self.old ≡ 0) × (self.new ≡ self.old))) }
         ensures some { IsOpen self.old → IfOk result (λ o. IfSome o (TakesElement R.Source (IsUnsigned 255) self.old self.new)) }
         ensures err { IsOpen self.old → IfErr result (FailsToTake R.Source (IsUnsigned 255) self.old self.new) }
-        ensures exact { IfErr result (RefusesExactly other_number (faults_of R.Source (lender_of self.old)) (faults_of R.Source (lender_of self.new)) (left R.Source (lender_of self.old))) }
+        ensures exact { IfErr result (RefusesExactly (is_strict (lender_of self.old)) other_number (faults_of R.Source (lender_of self.old)) (faults_of R.Source (lender_of self.new)) (left R.Source (lender_of self.old))) }
         ensures marked { is_failed (lender_of self.old) ≡ true → is_failed (lender_of self.new) ≡ true }
     {
         if self.left == 0 {
@@ -139,6 +139,8 @@ impl<'de, R: ReadSlice<'de>> Deserialize<'de, R> for ByteBuf {
     ghost reads = { λ human lends m b. IsBuffer m (buffer_bytes b) };
 
     ghost absent = { None };
+
+    ghost refuses = { λ s before after known e. RefusesContent s.strict IsBufferHead not_raw not_buffer before after known e × RefusesListIn s.strict s.room before after known e };
 
     #[inline(always)]
     fn deserialize<C: SerializerConfig>(de: &mut Deserializer<R, C>) -> Result<ByteBuf, Error> {

@@ -1,6 +1,7 @@
 //! Elements that a function reads, as the types that lead back to themselves want.
 ghost use Rattle.std.specs.Prelude.{◌≡◌, ◌<◌, ◌⊎◌, true, false, Ok, None, OnOk, OnErr, IfErr, MatchResult};
 ghost use Rattle.std.specs.Io.KnownBytes.{IsAtEnd};
+ghost use Rattle.rmp_decode.specs.Exact.{IsDataEnd};
 ghost use Rattle.rmp_decode.specs.Law.{Explains, IsFailedBefore};
 ghost use Rattle.rmp_decode.specs.Seq.{left_in, is_sound, in_bytes, lender_of};
 ghost use Rattle.rmp_decode.specs.State.{faults_of, is_failed, Stays};
@@ -27,6 +28,7 @@ impl<'x, R: Source, C: SerializerConfig> SeqAccess<'x, R, C> {
         ensures stays { Stays R.Source (lender_of self.old) (lender_of self.new) }
         ensures failed { is_failed (lender_of self.new) ≡ is_failed (lender_of self.old) }
         ensures err { IfErr result (λ e. Explains e (faults_of R.Source (lender_of self.old)) (faults_of R.Source (lender_of self.new)) (IsAtEnd (R.ahead (lender_of self.old).reader))) }
+        ensures end { IfErr result (λ e. faults_of R.Source (lender_of self.new) ≡ faults_of R.Source (lender_of self.old) → IsDataEnd e) }
     {
         self.sound = false;
         if !self.bytes {

@@ -1,5 +1,5 @@
 use super::*;
-use crate::decode::from_slice;
+use crate::decode::{from_slice, from_slice_strict};
 use std::alloc::{AllocError, Global};
 use std::test::Fail;
 
@@ -196,4 +196,31 @@ fn keeps_the_limit(rt: HostRuntime) -> Result<(), Fail> {
         "IO error while reading data: unexpected end of file"
     );
     Ok(())
+}
+
+// What a strict read of the input answers.
+fn strictly(alloc: Global, input: &[u8]) -> Result<String, AllocError> {
+    told(alloc, from_slice_strict(alloc, input))
+}
+
+#[test]
+fn only_canonical_heads_are_read_strictly(rt: HostRuntime) {
+    let alloc = rt.alloc();
+    let read = strictly(alloc, &[0x92, 0x05, 0xa1, 0x61]);
+    assert_eq!(rt; read.expect(&rt, "memory").as_str(), "[5;'a';]");
+    for input in [
+        &[0xde, 0, 0][..],
+        &[0xd0, 0x05],
+        &[0xc7, 0x01, 0x02, 0x05],
+        &[0x92, 0x05, 0xd9, 0x01, 0x61],
+        &[0xd1, 0x01, 0x2c],
+        &[0x81, 0xa1, 0x61, 0x91, 0xcc, 0x05],
+        &[0xdc, 0, 0],
+        &[0xc5, 0, 0],
+    ] {
+        let read = strictly(alloc, input);
+        assert_eq!(rt; read.expect(&rt, "memory").as_str(), "not canonical");
+        let lenient: Result<Value, Error> = from_slice(alloc, input);
+        assert!(rt; lenient.is_ok());
+    }
 }

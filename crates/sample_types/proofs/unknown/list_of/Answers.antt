@@ -27,7 +27,7 @@ loop-value-init g c = record {
 pub serialize_element-requires : goal.serialize_element-requires
 serialize_element-requires g c =
     let rest = map_rest (λ x. g.T.Serialize.data_of x (settings_of c.args.se.now).human) c.args.values.now c.loop-value.value-index c.value-item.result c.loop-value-test.true c.value-item.is in
-    record { kind = c.loop-value.invariant.kind; room = takes g.W.Sink (still_open g.W.Sink rest c.loop-value.invariant.writing) }
+    record { sound = c.loop-value.invariant.writing.sound; kind = c.loop-value.invariant.kind; room = takes g.W.Sink (still_open g.W.Sink rest c.loop-value.invariant.writing) }
 
 pub loop-value-preserved : goal.loop-value-preserved
 loop-value-preserved g c =
@@ -54,7 +54,7 @@ returns-in_err-serialize_element-clause-keeps g c = keeps_last g.W.Sink (search 
 pub end-requires : goal.end-requires
 end-requires g c =
     let rest = map_rest_none (λ x. g.T.Serialize.data_of x (settings_of c.args.se.now).human) c.args.values.now c.loop-value.value-index c.loop-value-test.false in
-    record { turn = c.loop-value.invariant.owed; whole = ends g.W.Sink (still_open g.W.Sink rest c.loop-value.invariant.writing) }
+    record { sound = c.loop-value.invariant.writing.sound; turn = c.loop-value.invariant.owed; whole = ends g.W.Sink (still_open g.W.Sink rest c.loop-value.invariant.writing) }
 
 pub returns-clause-writes : goal.returns-clause-writes
 returns-clause-writes g c =

@@ -21,4 +21,4 @@ returns-in-Err-from_utf8-clause-exact g c = λ _.
     (rw c.refuse.ensures.same (not_utf8_str g.R.ReadSlice.lends c.in-Ok.is_text (length c.in-Ok.bytes.now) c.in-Ok.bytes.now _ r.value.0 c.in-Err-from_utf8.ensures.cases.0 c.not_utf8.ensures.text c.not_utf8.ensures.bytes))
 
 pub returns-in-Err-clause-exact : goal.returns-in-Err-clause-exact
-returns-in-Err-clause-exact g c = λ o. content_wider IsRawHead not_raw (not_bytes g.R.ReadSlice.lends) (not_str g.R.ReadSlice.lends) _ _ _ _ (λ h s _ q. str_wider g.R.ReadSlice.lends h s _ q) (c.in-Err.ensures.exact o)
+returns-in-Err-clause-exact g c = λ o. content_wider _ IsRawHead not_raw (not_bytes g.R.ReadSlice.lends) (not_str g.R.ReadSlice.lends) _ _ _ _ (λ h s _ q. str_wider g.R.ReadSlice.lends h s _ q) (c.in-Err.ensures.exact o)

@@ -23,4 +23,4 @@ returns-in-Err-from_utf8-clause-exact g c = λ _.
     (rw c.refuse.ensures.same (not_utf8_string c.in-Ok.is_text (length c.in-Ok.bytes.items) c.in-Ok.bytes.items _ (λ u. let no = c.in-Err-from_utf8.ensures.succeeds u in absurd (cc)) c.not_utf8.ensures.text c.not_utf8.ensures.bytes))
 
 pub returns-in-Err-clause-exact : goal.returns-in-Err-clause-exact
-returns-in-Err-clause-exact g c = λ o. content_wider IsRawHead not_raw never_refused not_string _ _ _ _ (λ h s _ q. absurd q) (c.in-Err.ensures.exact o)
+returns-in-Err-clause-exact g c = λ o. content_wider _ IsRawHead not_raw never_refused not_string _ _ _ _ (λ h s _ q. absurd q) (c.in-Err.ensures.exact o)

@@ -1,8 +1,11 @@
 use Rattle.std.proofs.Common.{arith}
 use Rattle.rmp_wire.specs.Heads.{fits_head}
-use Rattle.rmp_encode.proofs.Leaves.{wire_tree}
+use Rattle.rmp_encode.proofs.Leaves.{wire_tree, wire_marker}
 use Rattle.rmp_encode.proofs.serializer.Serializer.serialize_f64_bits.Goals as goal
 
 pub returns-clause-writes : goal.returns-clause-writes
 unfolding fits_head
 returns-clause-writes g c = wire_tree g.W.Sink _ c.write_f64_bits.result c.answer.ensures (omega arith) c.write_f64_bits.ensures.writes
+
+pub returns-clause-marker : goal.returns-clause-marker
+returns-clause-marker g c = wire_marker g.W.Sink _ c.write_f64_bits.result c.answer.ensures c.write_f64_bits.ensures.writes

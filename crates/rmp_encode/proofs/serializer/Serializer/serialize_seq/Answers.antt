@@ -1,6 +1,6 @@
-use Rattle.std.proofs.Common.{rules, arith, refl, subst, sym, inl, false}
+use Rattle.std.proofs.Common.{◌≤◌, ◌^◌, rules, arith, refl, subst, sym, false}
 use Rattle.std.proofs.lemmas.Result.{err_from_is_err_and}
-use Rattle.rmp_encode.specs.Opens.{IsLong}
+use Rattle.rmp_encode.specs.Opens.{IsLong, IsPast}
 use Rattle.rmp_encode.proofs.Going.{at_opened}
 use Rattle.rmp_encode.proofs.Keeping.{keeping_opened}
 use Rattle.rmp_encode.proofs.OpenSteps.{list_too_long, list_not_opened, never_refused}
@@ -14,8 +14,9 @@ returns-in_default g c = (
     same_reference = refl;
     kind = refl;
     owed = refl;
+    sound = refl;
     left = sym c.in_default.is;
-    opened = λ all e. record { kind = refl; state = keeping_opened false g.W.Sink c.args.self.now _ c.buffer-buffer.ensures.settings c.buffer-buffer.ensures.empty _ all refl };
+    opened = λ all e. record { sound = refl; kind = refl; state = keeping_opened false g.W.Sink c.args.self.now _ c.buffer-buffer.ensures.settings c.buffer-buffer.ensures.empty _ all refl };
     stays = rw c.in_default.is refl;
     keeps = record { settings = refl; place = refl };
   },
@@ -29,7 +30,8 @@ returns-then-n g c = (
     record {
       keeps = record { settings = refl; place = refl };
       refused = refl;
-      writes = λ all e. list_too_long g.W.Sink _ c.args.self.now c.in-Some.n _ (inl refl) (omega arith) all (subst (λ l. IsLong l all) c.in-Some.is e);
+      long = λ _. refl;
+      writes = λ all e. list_too_long g.W.Sink _ c.args.self.now c.in-Some.n _ refl (omega arith) all (subst (λ l. IsLong l all) c.in-Some.is e);
     },
   ),
   search rules,
@@ -45,6 +47,7 @@ returns-in_err-put_head g c =
         record {
           keeps = c.put_head.ensures.keeps;
           refused = never_refused g.W.Sink.takes_memory _ _ _ _ _ c.in_err-put_head.ensures.writes.cause;
+          long = λ h. let p : 2 ^ 32 ≤ c.in-Some.n = subst IsPast c.in-Some.is h in absurd (omega (arith, p));
           writes = λ all e. list_not_opened g.W.Sink c.args.self.now c.put_head.new.self c.in-Some.n _ (omega arith) c.in_err-put_head.ensures.writes all (subst (λ l. IsLong l all) c.in-Some.is e);
         },
       ),
@@ -59,8 +62,9 @@ returns g c = (
     same_reference = refl;
     kind = refl;
     owed = refl;
+    sound = refl;
     left = sym c.in-Some.is;
-    opened = λ all e. let long = subst (λ l. IsLong l all) c.in-Some.is e in record { kind = refl; state = at_opened false g.W.Sink c.args.self.now _ c.in-Some.n _ (omega arith) c.put_head.ensures.keeps c.in_ok-put_head.ensures.writes _ all long (sym long) };
+    opened = λ all e. let long = subst (λ l. IsLong l all) c.in-Some.is e in record { sound = refl; kind = refl; state = at_opened false g.W.Sink c.args.self.now _ c.in-Some.n _ (omega arith) c.put_head.ensures.keeps c.in_ok-put_head.ensures.writes _ all long (sym long) };
     stays = rw c.in-Some.is tt;
     keeps = c.put_head.ensures.keeps;
   },

@@ -1,4 +1,4 @@
-use Rattle.std.proofs.Common.{rules, arith, refl, inl, sym, false}
+use Rattle.std.proofs.Common.{rules, arith, refl, sym, false}
 use Rattle.std.proofs.lemmas.Result.{err_from_is_err_and}
 use Rattle.rmp_encode.proofs.Going.{at_opened}
 use Rattle.rmp_encode.proofs.OpenSteps.{list_too_long, list_not_opened, never_refused}
@@ -12,7 +12,8 @@ returns-then-len g c = (
     record {
       keeps = record { settings = refl; place = refl };
       refused = refl;
-      writes = λ all e. list_too_long g.W.Sink _ c.args.self.now c.args.len _ (inl refl) (omega arith) all e;
+      long = λ _. refl;
+      writes = λ all e. list_too_long g.W.Sink _ c.args.self.now c.args.len _ refl (omega arith) all e;
     },
   ),
   search rules,
@@ -28,6 +29,7 @@ returns-in_err-put_head g c =
         record {
           keeps = c.put_head.ensures.keeps;
           refused = never_refused g.W.Sink.takes_memory _ _ _ _ _ c.in_err-put_head.ensures.writes.cause;
+          long = λ h. absurd (omega (arith, h));
           writes = λ all e. list_not_opened g.W.Sink c.args.self.now c.put_head.new.self c.args.len _ (omega arith) c.in_err-put_head.ensures.writes all e;
         },
       ),
@@ -37,5 +39,5 @@ returns-in_err-put_head g c =
 pub returns : goal.returns
 returns g c = (
   (refl, λ _. refl, tt),
-  (refl, (refl, (λ all e. record { state = at_opened false g.W.Sink c.args.self.now _ c.args.len _ (omega arith) c.put_head.ensures.keeps c.in_ok-put_head.ensures.writes _ all e (sym e) }, c.put_head.ensures.keeps))),
+  (refl, (refl, (refl, (λ all e. record { sound = refl; state = at_opened false g.W.Sink c.args.self.now _ c.args.len _ (omega arith) c.put_head.ensures.keeps c.in_ok-put_head.ensures.writes _ all e (sym e) }, c.put_head.ensures.keeps)))),
 )

@@ -27,7 +27,7 @@ loop-key-init g c =
     }
 
 pub serialize_key-requires : goal.serialize_key-requires
-serialize_key-requires g c = record { kind = c.loop-key.invariant.kind; turn = c.loop-key.invariant.owed; room = takes g.W.Sink (still_open g.W.Sink (ap (in_turn (λ k. g.K.Serialize.data_of k (settings_of c.args.se.now).human) (λ x. g.V.Serialize.data_of x (settings_of c.args.se.now).human)) c.in-Some.ensures.steps) c.loop-key.invariant.writing) }
+serialize_key-requires g c = record { sound = c.loop-key.invariant.writing.sound; kind = c.loop-key.invariant.kind; turn = c.loop-key.invariant.owed; room = takes g.W.Sink (still_open g.W.Sink (ap (in_turn (λ k. g.K.Serialize.data_of k (settings_of c.args.se.now).human) (λ x. g.V.Serialize.data_of x (settings_of c.args.se.now).human)) c.in-Some.ensures.steps) c.loop-key.invariant.writing) }
 
 pub returns-in_err-serialize_key-clause-writes : goal.returns-in_err-serialize_key-clause-writes
 returns-in_err-serialize_key-clause-writes g c =
@@ -38,7 +38,7 @@ pub returns-in_err-serialize_key-clause-keeps : goal.returns-in_err-serialize_ke
 returns-in_err-serialize_key-clause-keeps g c = keeps_last g.W.Sink (search rules) (keeps_then g.W.Sink c.loop-key.invariant.keeps c.serialize_key.ensures.keeps)
 
 pub serialize_value-requires : goal.serialize_value-requires
-serialize_value-requires g c = record { kind = c.serialize_key.ensures.kind; turn = c.in_ok-serialize_key.ensures.owed }
+serialize_value-requires g c = record { sound = c.in_ok-serialize_key.ensures.sound; kind = c.serialize_key.ensures.kind; turn = c.in_ok-serialize_key.ensures.owed }
 
 pub returns-in_err-serialize_value-clause-writes : goal.returns-in_err-serialize_value-clause-writes
 returns-in_err-serialize_value-clause-writes g c =
@@ -59,7 +59,7 @@ loop-key-preserved g c = record {
 }
 
 pub end-requires : goal.end-requires
-end-requires g c = record { turn = c.loop-key.invariant.owed; whole = ends g.W.Sink (still_open g.W.Sink (ap (in_turn (λ k. g.K.Serialize.data_of k (settings_of c.args.se.now).human) (λ x. g.V.Serialize.data_of x (settings_of c.args.se.now).human)) c.in-None.ensures.steps.0) c.loop-key.invariant.writing) }
+end-requires g c = record { sound = c.loop-key.invariant.writing.sound; turn = c.loop-key.invariant.owed; whole = ends g.W.Sink (still_open g.W.Sink (ap (in_turn (λ k. g.K.Serialize.data_of k (settings_of c.args.se.now).human) (λ x. g.V.Serialize.data_of x (settings_of c.args.se.now).human)) c.in-None.ensures.steps.0) c.loop-key.invariant.writing) }
 
 pub returns-clause-writes : goal.returns-clause-writes
 returns-clause-writes g c = part_memory g.W.Sink (rests_at g.W.Sink (search rules) (c.end.ensures.writes_map c.args.se.now _ (still_open g.W.Sink (ap (in_turn (λ k. g.K.Serialize.data_of k (settings_of c.args.se.now).human) (λ x. g.V.Serialize.data_of x (settings_of c.args.se.now).human)) c.in-None.ensures.steps.0) c.loop-key.invariant.writing)))

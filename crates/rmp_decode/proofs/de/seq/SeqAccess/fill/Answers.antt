@@ -1,5 +1,6 @@
 use Rattle.std.proofs.Common.{◌∙◌, subst, arith}
 use Rattle.rmp_decode.specs.Seq.{TakesElement, FailsElement}
+use Rattle.rmp_decode.proofs.ArrayRefusings.{filled_refused}
 use Rattle.rmp_decode.proofs.Arrays.{filled_start, filled_step, filled_fails, filled_whole}
 use Rattle.rmp_decode.proofs.de.seq.SeqAccess.fill.Goals as goal
 
@@ -26,3 +27,8 @@ returns-clause-same_reference g c = c.loop-i.invariant.read.run.same_reference
 
 pub returns-clause-ok : goal.returns-clause-ok
 returns-clause-ok g c = filled_whole g.R.Source _ c.args.self.now c.loop-i.self c.loop-i.places c.loop-i.i _ (let f = c.loop-i-test.false in omega arith) c.loop-i.auto.places c.loop-i.invariant
+
+pub returns-in-Err-clause-refused : goal.returns-in-Err-clause-refused
+returns-in-Err-clause-refused g c =
+    filled_refused g.R.Source g.C.SerializerConfig.human g.R.ReadSlice.lends g.T.Deserialize.reads g.T.Deserialize.refuses c.args.self.now c.loop-i.self c.element.new.self c.loop-i.places c.loop-i.i _ _ c.loop-i-test.true c.loop-i.auto.places c.loop-i.invariant
+    (c.in-Err.ensures.refused c.loop-i.invariant.read.run.still)

@@ -5,14 +5,14 @@ use Rattle.std.proofs.lemmas.Result.{err_from_is_err_and}
 use Rattle.rmp_encode.specs.Going.{open_of}
 use Rattle.rmp_encode.specs.Ser.{settings_of}
 use Rattle.rmp_encode.proofs.Going.{keeps_then, still_written, next_ok, next_err, none_next}
-use Rattle.rmp_encode.proofs.Parts.{part_memory}
+use Rattle.rmp_encode.proofs.Parts.{part_or, part_settings}
 use Rattle.rmp_encode.proofs.ser.collections.BTreeSetSerialize.serialize.Goals as goal
 
 pub returns-in_err-put_len-clause-writes : goal.returns-in_err-put_len-clause-writes
 unfolding open_of
 returns-in_err-put_len-clause-writes g c =
     let p = err_from_is_err_and c.from_residual.result c.from_residual.ensures.1 in
-    rw (p.1, p.2) (part_memory g.W.Sink (c.in_err-put_len.ensures.begins _ (length-map _ _ ∙ search rules)))
+    rw (p.1, p.2) (part_or g.W.Sink _ (c.in_err-put_len.ensures.begins _ (length-map _ _ ∙ search rules)))
 
 pub loop-item-init : goal.loop-item-init
 loop-item-init g c =
@@ -34,7 +34,7 @@ pub returns-in_err-serialize-clause-writes : goal.returns-in_err-serialize-claus
 unfolding open_of
 returns-in_err-serialize-clause-writes g c =
     let p = err_from_is_err_and c.from_residual-in_err-serialize.result c.from_residual-in_err-serialize.ensures.1 in
-    rw (p.1, p.2) (next_err false g.W.Sink (λ s. g.T.Serialize.data_of c.in-Some.item.now s.human) c.loop-item.se c.serialize.new.se _ c.in_err-serialize.ensures.writes c.args.se.now _ _ _ (ap (map (λ x. g.T.Serialize.data_of x (settings_of c.args.se.now).human)) c.in-Some.ensures.steps) c.loop-item.invariant.writing)
+    rw (p.1, p.2) (part_settings g.W.Sink g.T.Serialize.takes_memory _ c.loop-item.invariant.keeps.settings (next_err false g.W.Sink (λ s. g.T.Serialize.data_of c.in-Some.item.now s.human) c.loop-item.se c.serialize.new.se _ c.in_err-serialize.ensures.writes c.args.se.now _ _ _ (ap (map (λ x. g.T.Serialize.data_of x (settings_of c.args.se.now).human)) c.in-Some.ensures.steps) c.loop-item.invariant.writing))
 
 pub returns-in_err-serialize-clause-keeps : goal.returns-in_err-serialize-clause-keeps
 returns-in_err-serialize-clause-keeps g c = keeps_then g.W.Sink c.loop-item.invariant.keeps c.serialize.ensures.keeps

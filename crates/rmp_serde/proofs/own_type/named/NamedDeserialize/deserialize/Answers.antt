@@ -14,25 +14,25 @@ via y p q = p ∙ q
 abbrev parts : Named → Msgs → Type 0
 parts v = AndThen (λ k. IsUnsigned 4294967295 k v.0) (AndThen (λ k. IsRaw k (string_bytes v.1)) NoMore)
 
-pub returns-in-Err : goal.returns-in-Err
-returns-in-Err g c = seq_unopened g.R.Source parts _ _ _ (rw c.in-Err.is at c.deserialize_tuple_struct.follows.holds-at-none)
+pub returns-in-Err-clause-law : goal.returns-in-Err-clause-law
+returns-in-Err-clause-law g c = seq_unopened g.R.Source parts _ _ _ (rw c.in-Err.is at c.deserialize_tuple_struct.follows.holds-at-none)
 
-pub returns-in-Err-element : goal.returns-in-Err-element
-returns-in-Err-element g c =
+pub returns-in-Err-element-clause-law : goal.returns-in-Err-element-clause-law
+returns-in-Err-element-clause-law g c =
     let o = c.in-Ok.ensures.opened in
     let s = run_start g.R.Source c.in-Ok.seq o.opened in
     seq_element g.R.Source parts _ c.in-Ok.seq c.in-Ok.seq no_items o s _ (IsUnsigned 4294967295) c.element.new.self _ (c.in-Err-element.ensures.err s.still) (c.element.ensures.marked s.still.marked) (search rules) (λ m ks v h. (v.0, h.0)) (λ v h. h)
 
-pub returns-in-Err-element-2 : goal.returns-in-Err-element-2
-returns-in-Err-element-2 g c =
+pub returns-in-Err-element-2-clause-law : goal.returns-in-Err-element-2-clause-law
+returns-in-Err-element-2-clause-law g c =
     let o = c.in-Ok.ensures.opened in
     let s = run_start g.R.Source c.in-Ok.seq o.opened in
     let t = c.in-Ok-element.ensures.ok s.still in
     let r = run_step g.R.Source _ c.in-Ok.seq c.in-Ok.seq c.element.new.self no_items c.in-Ok-element.number s t c.element.ensures.same_reference in
     seq_element g.R.Source parts _ c.in-Ok.seq c.element.new.self (item t.tree no_items) o r _ (λ m (s : _). IsRaw m (string_bytes s)) c.element-2.new.self _ (c.in-Err-element-2.ensures.err r.still) (c.element-2.ensures.marked r.still.marked) (search rules) (λ m ks v h. (v.1, h.1.0)) (λ v h. h.1)
 
-pub returns-in-Ok-end : goal.returns-in-Ok-end
-returns-in-Ok-end g c =
+pub returns-in-Ok-end-clause-law : goal.returns-in-Ok-end-clause-law
+returns-in-Ok-end-clause-law g c =
     let o = c.in-Ok.ensures.opened in
     let s = run_start g.R.Source c.in-Ok.seq o.opened in
     let t = c.in-Ok-element.ensures.ok s.still in
@@ -42,8 +42,8 @@ returns-in-Ok-end g c =
     let e = c.in-Ok-end.ensures.ok q.still in
     seq_done g.R.Source parts _ c.in-Ok.seq c.element-2.new.self (item t.tree (item u.tree no_items)) o q _ _ (t.value, (u.value, tt)) e.0 (via c.end.new.self.0 (search rules) e.1)
 
-pub returns-in-Err-end : goal.returns-in-Err-end
-returns-in-Err-end g c =
+pub returns-in-Err-end-clause-law : goal.returns-in-Err-end-clause-law
+returns-in-Err-end-clause-law g c =
     let o = c.in-Ok.ensures.opened in
     let s = run_start g.R.Source c.in-Ok.seq o.opened in
     let t = c.in-Ok-element.ensures.ok s.still in

@@ -1,8 +1,0 @@
-use Rattle.std.proofs.lemmas.Result.{err_from_is_err_and}
-use Rattle.mpcanon.proofs.Printing.{prints_none}
-use Rattle.mpcanon.proofs.run.refuse.Goals as goal
-
-pub returns-in_err-format-clause-prints : goal.returns-in_err-format-clause-prints
-returns-in_err-format-clause-prints g c =
-    let p = err_from_is_err_and c.from_residual.result c.from_residual.ensures.1 in
-    rw (p.1, p.2) (prints_none g.W.Sink c.args.sink.now)

@@ -1,0 +1,101 @@
+//! Whether an input is spelled canonically, and where it isn't.
+ghost use Rattle.std.specs.Prelude.{◌≡◌, ◌≢◌, ◌↔◌, ◌<◌, ℕ, Ok, IfErr};
+ghost use Rattle.rmp_decode.specs.Kinds.{content_len};
+ghost use Rattle.rmp_serde.specs.Places.{IsWhole, IsFault, Stops, NextNode, parts_behind};
+
+mod short;
+
+use crate::check::short::{LONGEST, short_nodes};
+use rmp_decode::Error;
+use rmp_wire::{Head, IoFault, Source, is_canonical, next_head};
+use std::alloc::Global;
+use std::io::ErrorKind;
+
+/// What a check of an input finds.
+#[derive(Clone, Copy, Debug, PartialEq)]
+pub enum Canon {
+    /// The input begins with the canonical spelling of a message, of so many bytes.
+    Whole(usize),
+    /// At this place stands the first head that isn't the canonical one of its kind and number.
+    Fault(usize),
+}
+
+// How many bytes of content stand behind a head.
+fn content_in(head: &Head) -> u32
+    ensures { result ≡ content_len head.now }
+{
+    match head {
+        Head::Text(len) | Head::Bin(len) | Head::Ext(len, _) => *len,
+        _ => 0,
+    }
+}
+
+// How many messages stand behind a head.
+fn parts_in(head: &Head) -> u64
+    ensures { result ≡ parts_behind head.now }
+{
+    match head {
+        Head::Array(len) => u64::from(*len),
+        Head::Map(len) => 2 * u64::from(*len),
+        _ => 0,
+    }
+}
+
+// Takes a canonical head and its content, and says how many messages stand behind it. `None` where a head stands whole
+// that isn't canonical: nothing was taken then.
+fn next_node(left: &mut &[u8]) -> Result<Option<u64>, Error>
+    ensures { NextNode left.old.now left.new.now result }
+{
+    let mut rest: &[u8] = *left;
+    let (marker, head) = next_head(&mut rest)?;
+    if !is_canonical(marker, &head) {
+        return Ok(None);
+    }
+    if !rest.skip(content_in(&head) as usize) {
+        return Err(Error::InvalidDataRead(IoFault::from(ErrorKind::UnexpectedEof)));
+    }
+    *left = rest;
+    Ok(Some(parts_in(&head)))
+}
+
+/// Whether the input begins with the canonical spelling of a message, and of how many bytes, or where the first head
+/// stands that isn't canonical, whatever follows it.
+///
+/// Lists and maps may nest as deep as they like, and texts may be no UTF-8. What follows the message isn't looked at. It takes
+/// no memory, from `_alloc` or elsewhere.
+///
+/// # Errors
+/// Where no such head comes before it: `InvalidMarkerRead` where the input ends before a message that is wanted, `InvalidDataRead`
+/// where it ends inside of a head or of content, and `TypeMismatch` at the byte c1.
+pub fn check_canonical(_alloc: Global, input: &[u8]) -> Result<Canon, Error>
+    // `Whole` exactly where a beginning of the input is the canonical spelling of a message,
+    ensures whole { (n : ℕ) → (result ≡ Ok (Canon.Whole n)) ↔ IsWhole input.now n }
+    // `Fault` exactly where a head that isn't canonical stands where a message of a canonical spelling begins,
+    ensures fault { (p : ℕ) → (result ≡ Ok (Canon.Fault p)) ↔ IsFault input.now p }
+    // and an error says what is wrong at some such place.
+    ensures stops { IfErr result (Stops input.now) }
+    ensures memory { IfErr result (λ e. e ≢ Error.OutOfMemory) }
+{
+    let len = input.len();
+    let mut left: &[u8] = input;
+    // How many messages are still to come in all the lists and maps that stand open. There are never more than the input has
+    // bytes, or the input ends before they do: so the number may stop growing where it has no room to.
+    let mut wanted: u64 = 1;
+    while wanted > 0 {
+        let most = wanted.min(left.len() as u64 / LONGEST);
+        let (taken, passed, parts) = short_nodes(left, most);
+        if passed > 0 {
+            left = &left[taken..];
+            wanted = (wanted - passed).saturating_add(parts);
+        } else {
+            match next_node(&mut left)? {
+                Some(parts) => wanted = (wanted - 1).saturating_add(parts),
+                None => return Ok(Canon::Fault(len - left.len())),
+            }
+        }
+    }
+    Ok(Canon::Whole(len - left.len()))
+}
+
+#[cfg(test)]
+mod tests;
