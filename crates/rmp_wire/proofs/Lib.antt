@@ -1,5 +1,7 @@
 pub mod Canon
 pub mod Canonical
+pub mod Copying
+pub mod Cursors
 pub mod Examples
 pub mod HeadReads
 pub mod Heads

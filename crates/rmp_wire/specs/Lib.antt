@@ -1,4 +1,6 @@
+pub mod Buffered
 pub mod Canonical
+pub mod Copying
 pub mod Faults
 pub mod Heads
 pub mod Msg
@@ -11,6 +13,7 @@ pub mod Slices
 pub mod Sources
 pub mod Spelling
 pub mod Stored
+pub mod Streams
 pub mod Taking
 pub mod Types
 pub mod Writing

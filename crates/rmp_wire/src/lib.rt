@@ -1,6 +1,7 @@
 //! The bytes of MessagePack: markers and heads, what they are written into and read from, and small types.
 #![tactic(auto)]
 
+pub mod buffered;
 pub mod config;
 pub mod error;
 pub mod head;
@@ -10,17 +11,20 @@ pub mod shortest;
 pub mod sink;
 pub mod slice;
 pub mod source;
+pub mod stream;
 pub mod types;
 pub mod write;
 
+pub use buffered::BufSource;
 pub use error::{IoFault, MarkerReadError, ValueReadError, ValueWriteError};
 pub use head::Head;
 pub use marker::Marker;
 pub use read::{next_head, read_head, read_marker};
 pub use shortest::is_canonical;
 pub use sink::{Sink, SinkFault, SliceSink};
-pub use slice::{ReadRefReader, ReadSlice, Reference, SourceFault};
+pub use slice::{ReadReader, ReadRefReader, ReadSlice, Reference, SourceFault};
 pub use source::Source;
+pub use stream::{IoSink, IoSource};
 pub use types::{ByteBuf, Bytes, Ext, F32Bits, F64Bits, MSGPACK_EXT_STRUCT_NAME};
 pub use write::{
     write_array_len, write_bin, write_bin_len, write_bool, write_content, write_ext_meta,

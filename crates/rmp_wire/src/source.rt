@@ -3,6 +3,8 @@ ghost use Rattle.std.specs.Prelude.{◌≡◌, ◌≢◌, ℕ, List, [], ◌∷�
 ghost use Rattle.std.specs.Io.KnownBytes.{Keeps, Consumes, IsAtEnd};
 ghost use Rattle.rmp_wire.specs.Sources.{IsFront, Place, Skips, Takes, TakesInto};
 
+mod cursor;
+
 use crate::error::IoFault;
 use std::io;
 use std::io::ErrorKind;

@@ -1,0 +1,136 @@
+//! Cursors over bytes in memory.
+ghost use Rattle.std.specs.Prelude.{◌≡◌, ◌+◌, ◌-◌, ◌<◌, ◌≤◌, ◌++◌, [], ◌∷◌, Some, IfOk, IsTrue, OnErr, drop, take, length, min, true, ◌⊎◌};
+ghost use Rattle.std.specs.Io.Cursor.{cursor_inner, cursor_position};
+ghost use Rattle.rmp_wire.specs.Sources.{IsFront, Skips};
+ghost use Rattle.rmp_wire.specs.Sources.Place.{made_of};
+
+use crate::error::IoFault;
+use crate::source::Source;
+use std::io;
+use std::io::{Cursor, ErrorKind};
+
+// The bytes from a place on: none where it lies past the end.
+#[inline(always)]
+fn behind(all: &[u8], place: u64) -> &[u8]
+    ensures bytes { result.now ≡ drop place all.now }
+    ensures count { length result.now ≡ length all.now - place }
+{
+    let start = (place as usize).min(all.len());
+    &all[start..]
+}
+
+// Copies bytes from a place on into the front of `buf`, and says how many.
+#[inline(always)]
+fn copy_from(all: &[u8], place: u64, buf: &mut [u8]) -> usize
+    ensures size { length buf.new ≡ length buf.old }
+    ensures count { result ≡ min (length buf.new) (length all.now - place) }
+    ensures bytes { drop place all.now ≡ take result buf.new ++ drop (place + result) all.now }
+{
+    let ahead = behind(all, place);
+    let n = buf.len().min(ahead.len());
+    buf[..n].copy_from_slice(&ahead[..n]);
+    n
+}
+
+// Whether so many bytes lie from a place on.
+#[inline(always)]
+fn holds(all: &[u8], place: u64, len: usize) -> bool
+    ensures enough { result ≡ true → len ≤ length all.now - place }
+    ensures few { IsTrue result ⊎ (length all.now - place < len) }
+    ensures skips { result ≡ true → Skips len (Some (drop place all.now)) (Some (drop (place + len) all.now)) }
+{
+    if len > behind(all, place).len() {
+        return false;
+    }
+    true
+}
+
+/// The bytes from the cursor's position on, in order. A call that fails leaves the cursor as it was.
+impl Source for Cursor<&[u8]> {
+    ghost ahead = { λ c. Some (drop (cursor_position c) (cursor_inner c).now) };
+
+    ghost faults = { λ _. 0 };
+
+    ghost place = { λ c. made_of (cursor_inner c).now ∷ [] };
+
+    fn pull(&mut self, buf: &mut [u8]) -> Result<usize, io::Error> {
+        let at = self.position();
+        let n = copy_from(self.get_ref(), at, buf);
+        self.set_position(at + n as u64);
+        Ok(n)
+    }
+
+    #[inline(always)]
+    fn front(&self) -> &[u8]
+        ensures bytes { IsFront result.now (Some (drop (cursor_position self.now) (cursor_inner self.now).now)) }
+        ensures all { result.now ≡ drop (cursor_position self.now) (cursor_inner self.now).now }
+    {
+        behind(self.get_ref(), self.position())
+    }
+
+    #[inline(always)]
+    fn skip(&mut self, len: usize) -> bool {
+        let at = self.position();
+        let fits = holds(self.get_ref(), at, len);
+        if fits {
+            self.set_position(at + len as u64);
+        }
+        fits
+    }
+
+    #[inline(always)]
+    fn pull_exact(&mut self, buf: &mut [u8]) -> Result<(), IoFault> {
+        let at = self.position();
+        if !holds(self.get_ref(), at, buf.len()) {
+            return Err(IoFault::from(ErrorKind::UnexpectedEof));
+        }
+        let n = copy_from(self.get_ref(), at, buf);
+        self.set_position(at + n as u64);
+        Ok(())
+    }
+}
+
+/// The bytes from the cursor's position on, in order. A call that fails leaves the cursor as it was.
+impl Source for Cursor<Vec<u8>> {
+    ghost ahead = { λ c. Some (drop (cursor_position c) (cursor_inner c).items) };
+
+    ghost faults = { λ _. 0 };
+
+    ghost place = { λ c. made_of (cursor_inner c).items ∷ [] };
+
+    fn pull(&mut self, buf: &mut [u8]) -> Result<usize, io::Error> {
+        let at = self.position();
+        let n = copy_from(self.get_ref().as_slice(), at, buf);
+        self.set_position(at + n as u64);
+        Ok(n)
+    }
+
+    #[inline(always)]
+    fn front(&self) -> &[u8]
+        ensures bytes { IsFront result.now (Some (drop (cursor_position self.now) (cursor_inner self.now).items)) }
+        ensures all { result.now ≡ drop (cursor_position self.now) (cursor_inner self.now).items }
+    {
+        behind(self.get_ref().as_slice(), self.position())
+    }
+
+    #[inline(always)]
+    fn skip(&mut self, len: usize) -> bool {
+        let at = self.position();
+        let fits = holds(self.get_ref().as_slice(), at, len);
+        if fits {
+            self.set_position(at + len as u64);
+        }
+        fits
+    }
+
+    #[inline(always)]
+    fn pull_exact(&mut self, buf: &mut [u8]) -> Result<(), IoFault> {
+        let at = self.position();
+        if !holds(self.get_ref().as_slice(), at, buf.len()) {
+            return Err(IoFault::from(ErrorKind::UnexpectedEof));
+        }
+        let n = copy_from(self.get_ref().as_slice(), at, buf);
+        self.set_position(at + n as u64);
+        Ok(())
+    }
+}
