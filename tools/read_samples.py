@@ -1,5 +1,4 @@
-#!/usr/bin/env python3
-"""Writes the stdin and the stdout of crates/read_samples, from tests/samples/typed_read.txt.
+"""What crates/test_samples reads, from tests/samples/typed_read.txt. typed_samples.py writes it.
 
 A line of the sample has a type, bytes in hex, what the Rust crate answers from a slice and from a reader, what the rules give
 for the port from a slice and from a reader, and how the two compare. The rows of the types that src/kinds.rt names are taken,
@@ -9,13 +8,13 @@ import os
 import re
 
 TOP = os.path.join(os.path.dirname(os.path.abspath(__file__)), "..")
-CRATE = os.path.join(TOP, "crates", "read_samples")
+KINDS = os.path.join(TOP, "crates", "test_samples", "src", "kinds.rt")
 SAMPLE = os.path.join(TOP, "tests", "samples", "typed_read.txt")
 
 
 def kinds():
     """The types that the program reads."""
-    with open(os.path.join(CRATE, "src", "kinds.rt"), encoding="utf-8") as source:
+    with open(KINDS, encoding="utf-8") as source:
         return set(re.findall(r'^ +"([^"]+)" =>', source.read(), re.M))
 
 
@@ -27,14 +26,8 @@ def rows(kinds):
                 yield fields[0], fields[1], fields[4]
 
 
-def main():
+def asked_and_answered():
+    """The lines of the program's input, and what it must print for them."""
     found = list(rows(kinds()))
-    with open(os.path.join(CRATE, "stdin"), "w", encoding="utf-8") as out:
-        out.writelines(f"{kind} | {digits}\n" for kind, digits, _ in found)
-    with open(os.path.join(CRATE, "stdout"), "w", encoding="utf-8") as out:
-        out.writelines(f"{kind} | {digits} | {answer}\n" for kind, digits, answer in found)
-    print(f"{len(found)} rows")
-
-
-if __name__ == "__main__":
-    main()
+    asked = [f"{kind} | {digits}\n" for kind, digits, _ in found]
+    return asked, [f"{kind} | {digits} | {answer}\n" for kind, digits, answer in found]

@@ -1,12 +1,15 @@
 #!/usr/bin/env python3
 """Writes the implementations of `Deserialize` for tuples of one to eight elements, and their answers.
 
+    tools/read_tuples.py [FOLDER]     writes below this folder in place of the repository's top
+
 A tuple of n elements is read as one of n - 1 and one element more, so that each proof is as long as the tuple. Run `rt fmt`
 in the crate afterwards.
 """
 import os
+import sys
 
-CRATE = os.path.join(os.path.dirname(os.path.abspath(__file__)), "..", "crates", "rmp_decode")
+TOP = os.path.join(os.path.dirname(os.path.abspath(__file__)), "..")
 KINDS = "ABDEFGHI"
 MOST = len(KINDS)
 HERE = "(C.human (config_of (lender_of self.old)))"
@@ -152,18 +155,20 @@ def around(n, step, last):
 def parts_answers(n):
     last = KINDS[n - 1]
     var = last.lower()
-    path = f"Rattle.rmp_decode.proofs.de.seq.SeqAccess.parts_{n}"
+    path = f"Rattle.rmp_decode.proofs.access.seq.SeqAccess.parts_{n}"
     start = "c.args.self.now"
     if n == 2:
         mid, second = "c.element.new.self", "element-2"
         first = f"part_read g.R.Source (λ z. {reading('A', 'z')}) (λ v ms. AndThen (λ k. {reading('A', start + '.de.now.config')} k v) NoMore ms)"
         taken = f"{first} {start} {start} {mid} no_items (run_start g.R.Source {start} c.requires) c.in-Ok.a c.in-Ok.a c.in-Ok.ensures.ok c.element.ensures.same_reference (λ m h. (h, tt))"
         refused = f"""part_refused g.R.Source (λ z. {reading("A", "z")}) _ {start} {start} {mid} no_items (run_start g.R.Source {start} c.requires) c.in-Err.e c.in-Err.ensures.err c.element.ensures.marked (λ m ks v h. (v.0, h.0)) (λ v h. h)"""
-        uses = """use Rattle.rmp_wire.specs.Msg.{no_items, item}
+        uses = """use Rattle.std.proofs.Common.{[]}
+use Rattle.rmp_wire.specs.Msg.{no_items, item}
 use Rattle.rmp_decode.specs.Rows.{AndThen, NoMore}
 use Rattle.rmp_decode.proofs.Seqs.{run_start}
 """
         lemmas = "part_read, part_refused"
+        refusings = "held_first, held_last, next_refused"
         values = lambda i: "c.in-Ok.a"
         earlier = ""
     else:
@@ -171,8 +176,11 @@ use Rattle.rmp_decode.proofs.Seqs.{run_start}
         taken = "c.in-Ok.ensures.ok"
         shorter = ", ".join(f"v.{i}" for i in range(n - 1))
         refused = f"parts_narrower g.R.Source _ _ _ _ _ (λ v ms h. (({shorter}), {around(n - 1, 'keep _ _ _', '(anything _)')} ms h)) c.in-Err.ensures.err"
-        uses = "use Rattle.rmp_wire.specs.Msg.{no_items, item}\n"
+        uses = """use Rattle.std.proofs.Common.{[], ◌∷◌}
+use Rattle.rmp_wire.specs.Msg.{no_items, item}
+"""
         lemmas = "keep, anything, parts_narrower, part_read, part_refused"
+        refusings = "held_first, held_last, more_wanted, next_refused"
         values = lambda i: f"c.in-Ok.parts.{i}"
         earlier = f"""
 pub returns-in-Err-clause-refused : goal.returns-in-Err-clause-refused
@@ -183,9 +191,8 @@ returns-in-Err-clause-refused g c = more_wanted g.R.Source _ _ ({parts_in(KINDS[
     some = f"{around(n - 1, 'walk _ _ _ _ no_items', '(lacks _ _)')} t.trees t.value h"
     made = f"{around(n - 1, 'extend _ _ _ m', '(extend_end _ m h)')} t.trees t.value"
     at = f"g.R.Source (λ z. {reading(last, 'z')}) _ {start} {mid} {now} t.trees t.run"
-    return f"""use Rattle.std.proofs.Common.{{[], ◌∷◌}}
-{uses}use Rattle.rmp_decode.specs.Refusing.{{element_setting, part_of}}
-use Rattle.rmp_decode.proofs.Refusings.{{held_first, held_last, more_wanted, next_refused}}
+    return f"""{uses}use Rattle.rmp_decode.specs.Refusing.{{element_setting, part_of}}
+use Rattle.rmp_decode.proofs.Refusings.{{{refusings}}}
 use Rattle.rmp_decode.proofs.Tuples.{{{lemmas}, extend, extend_end, walk, next, lacks}}
 use {path}.Goals as goal
 
@@ -318,9 +325,9 @@ returns-in-Err-end-clause-refused g c = λ _.
 
 
 def write(text, *path):
-    place = os.path.join(CRATE, *path)
+    place = os.path.join(sys.argv[1] if len(sys.argv) > 1 else TOP, "crates", "rmp_decode", *path)
     os.makedirs(os.path.dirname(place), exist_ok=True)
-    with open(place, "w") as out:
+    with open(place, "w", encoding="utf-8") as out:
         out.write(text)
 
 
@@ -332,8 +339,9 @@ ghost use Rattle.rmp_decode.specs.Rows.{AndThen, Anything, NoMore};
 ghost use Rattle.rmp_decode.specs.Seq.{OfRow, IsOpen, TakesParts, FailsParts, lender_of};
 ghost use Rattle.rmp_decode.specs.State.{config_of};
 
-use crate::de::seq::SeqAccess;
-use crate::de::{Deserialize, Deserializer};
+use crate::access::seq::SeqAccess;
+use crate::de::Deserialize;
+use crate::deserializer::Deserializer;
 use crate::error::Error;
 use rmp_wire::config::SerializerConfig;
 use rmp_wire::{ReadSlice, Source};
@@ -341,7 +349,7 @@ use rmp_wire::{ReadSlice, Source};
     write(source, "src", "de", "tuples.rt")
     write(single(), "proofs", "de", "tuples", "Tuple1Deserialize", "deserialize", "Answers.antt")
     for n in range(2, MOST + 1):
-        write(parts_answers(n), "proofs", "de", "seq", "SeqAccess", f"parts_{n}", "Answers.antt")
+        write(parts_answers(n), "proofs", "access", "seq", "SeqAccess", f"parts_{n}", "Answers.antt")
         write(answers(n), "proofs", "de", "tuples", f"Tuple{n}Deserialize", "deserialize", "Answers.antt")
 
 

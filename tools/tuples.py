@@ -1,9 +1,20 @@
 #!/usr/bin/env python3
-"""Writes the implementations of `Serialize` for tuples of one to eight elements, and their answers."""
-import os
+"""Writes the implementations of `Serialize` for tuples of one to eight elements, and their answers.
 
-CRATE = os.path.join(os.path.dirname(os.path.abspath(__file__)), "..", "crates", "rmp_encode")
+    tools/tuples.py [FOLDER]      writes below this folder in place of the repository's top
+
+Run `rt fmt` in the crate afterwards.
+"""
+import os
+import sys
+
+TOP = os.path.join(os.path.dirname(os.path.abspath(__file__)), "..")
 MOST = 8
+
+
+# The list of these.
+def listed(words):
+    return "(" + " ∷ (".join(words) + " ∷ []" + ")" * len(words)
 
 
 def implementation(n):
@@ -12,12 +23,15 @@ def implementation(n):
     of = f"({kinds[0]},)" if n == 1 else f"({', '.join(kinds)})"
     data = " ∷ ".join(f"{k}.data_of v.{i} human" for i, k in enumerate(kinds))
     value = " × ".join(f"{k}.is_value v.{i}" for i, k in enumerate(kinds))
+    memory = listed([f"{k}.takes_memory s" for k in kinds])
     elements = "\n".join(f"        tup.serialize_element(&self.{i})?;" for i in range(n))
     return f"""
 impl<{bounds}> Serialize for {of} {{
     ghost data_of = {{ λ v human. tuple_of ({data} ∷ []) }};
 
     ghost is_value = {{ λ v. {value} }};
+
+    ghost takes_memory = {{ λ s. forces_all s.bytes || one_of {memory} }};
 
     fn serialize<W: Sink, C: SerializerConfig>(
         &self,
@@ -48,18 +62,26 @@ def state(i):
     return f"(c.in_ok-{call(i - 1)}.ensures.writes _ _ _ {state(i - 1)})"
 
 
+# That memory may be taken where the element at i of n may take it.
+def memory(i, n):
+    each = listed([f"g.E{k + 1}.Serialize.takes_memory (settings_of c.args.se.now)" for k in range(n)])
+    return f"(or_one_of (forces_all (settings_of c.args.se.now).bytes) g.W.Sink.takes_memory {each} {i})"
+
+
 def answers(n):
     path = f"Rattle.rmp_encode.proofs.ser.tuples.Tuple{n}Serialize.serialize"
-    text = f"""use Rattle.std.proofs.Common.{{rules, refl}}
+    text = f"""use Rattle.std.proofs.Common.{{rules, refl, ◌∷◌, []}}
 use Rattle.std.proofs.lemmas.Result.{{err_from_is_err_and}}
-use Rattle.rmp_encode.proofs.Parts.{{rests_at, part_memory}}
-use Rattle.rmp_encode.proofs.TupleSteps.{{refuses_tuple}}
+use Rattle.rmp_encode.specs.Ser.{{settings_of}}
+use Rattle.rmp_encode.specs.Trees.{{forces_all}}
+use Rattle.rmp_encode.proofs.Going.{{unopened}}
+use Rattle.rmp_encode.proofs.Parts.{{rests_at, part_or, part_takes, or_one_of}}
 use {path}.Goals as goal
 
 pub returns-in_err-tup-clause-writes : goal.returns-in_err-tup-clause-writes
 returns-in_err-tup-clause-writes g c =
     let p = err_from_is_err_and c.from_residual.result c.from_residual.ensures.1 in
-    rw (p.1, p.2) (part_memory g.W.Sink (refuses_tuple g.W.Sink c.args.se.now _ {n} _ _ _ c.in_err-tup.was c.serialize_tuple.follows.holds-at-none refl))
+    rw (p.1, p.2) (part_or g.W.Sink _ (unopened g.W.Sink _ _ _ c.args.se.now _ _ _ _ c.in_err-tup.was c.serialize_tuple.follows.holds-at-none refl))
 """
     for i in range(n):
         goal = f"returns-in_err-{call(i)}-clause-writes"
@@ -67,19 +89,30 @@ returns-in_err-tup-clause-writes g c =
 pub {goal} : goal.{goal}
 {goal} g c =
     let p = err_from_is_err_and c.from_residual-in_err-{call(i)}.result c.from_residual-in_err-{call(i)}.ensures.1 in
-    rw (p.1, p.2) (rests_at g.W.Sink (search rules) (c.in_err-{call(i)}.ensures.writes c.args.se.now _ _ {state(i)}))
+    rw (p.1, p.2) (part_takes g.W.Sink _ {memory(i, n)}
+    (rests_at g.W.Sink (search rules) (c.in_err-{call(i)}.ensures.writes c.args.se.now _ _ {state(i)})))
 """
     return text + f"""
 pub returns-clause-writes : goal.returns-clause-writes
 returns-clause-writes g c =
-    part_memory g.W.Sink (rests_at g.W.Sink (search rules) (c.end.ensures.writes c.args.se.now _ {state(n)}))
+    part_or g.W.Sink _ (rests_at g.W.Sink (search rules) (c.end.ensures.writes c.args.se.now _ {state(n)}))
 """
+
+
+def write(text, *path):
+    place = os.path.join(sys.argv[1] if len(sys.argv) > 1 else TOP, "crates", "rmp_encode", *path)
+    os.makedirs(os.path.dirname(place), exist_ok=True)
+    with open(place, "w", encoding="utf-8") as out:
+        out.write(text)
 
 
 def main():
     source = """//! Tuples of one to eight elements. Written by tools/tuples.py.
-ghost use Rattle.std.specs.Prelude.{◌∷◌, []};
-ghost use Rattle.rmp_encode.specs.Trees.{tuple_of};
+//!
+//! In the modes `Normal` and `ForceIterables` writing them takes no memory but by their elements and the sink.
+ghost use Rattle.std.specs.Prelude.{◌∷◌, ◌||◌, []};
+ghost use Rattle.rmp_encode.specs.Sizes.{one_of};
+ghost use Rattle.rmp_encode.specs.Trees.{forces_all, tuple_of};
 
 use crate::error::Error;
 use crate::ser::Serialize;
@@ -87,13 +120,10 @@ use crate::serializer::Serializer;
 use rmp_wire::Sink;
 use rmp_wire::config::SerializerConfig;
 """ + "".join(implementation(n) for n in range(1, MOST + 1))
-    with open(os.path.join(CRATE, "src", "ser", "tuples.rt"), "w") as out:
-        out.write(source)
+    write(source, "src", "ser", "tuples.rt")
     for n in range(1, MOST + 1):
-        folder = os.path.join(CRATE, "proofs", "ser", "tuples", f"Tuple{n}Serialize", "serialize")
-        os.makedirs(folder, exist_ok=True)
-        with open(os.path.join(folder, "Answers.antt"), "w") as out:
-            out.write(answers(n))
+        write(answers(n), "proofs", "ser", "tuples", f"Tuple{n}Serialize", "serialize", "Answers.antt")
 
 
-main()
+if __name__ == "__main__":
+    main()

@@ -1,16 +1,21 @@
 #!/usr/bin/env python3
-"""Writes the rows of crates/typed_samples and its stdout, from tests/samples/typed_write.txt.
+"""Writes the rows of crates/test_samples, its stdin and its stdout, from tests/samples/typed_write.txt and typed_read.txt.
+
+    tools/typed_samples.py [FOLDER]   writes below this folder in place of the repository's top
 
 A line of the sample has a type, a value, a setting, the bytes that the Rust crate writes, and '=' or the bytes that the rules
-give, all as they stand in Rust. A row is made for each type that the port has. `rt fmt` in the crate lays the rows out.
+give, all as they stand in Rust. A row is made for each type that the port has. `rt fmt` in the crate lays the rows out. Of what is read read_samples.py
+tells.
 """
 import os
 import re
 import sys
 
+sys.dont_write_bytecode = True
+import read_samples
+
 TOP = os.path.join(os.path.dirname(os.path.abspath(__file__)), "..")
 SAMPLE = os.path.join(TOP, "tests", "samples", "typed_write.txt")
-CRATE = os.path.join(TOP, "crates", "typed_samples")
 # How many values a function has at most, and how many lines its statements take, about.
 VALUES, LINES = 4, 22
 
@@ -136,9 +141,9 @@ class Body:
             if name in ("VecDeque", "BTreeMap", "BTreeSet"):
                 self.uses.add(f"std::collections::{name}")
             if name in ("UnkSeq", "UnkMap"):
-                self.uses.add(f"sample_types::{name}")
+                self.uses.add(f"test_types::{name}")
             if kind == "Option<u8>":
-                self.uses.add("sample_types::OptionalByte")
+                self.uses.add("test_types::OptionalByte")
                 return "OptionalByte"
             return f"{name}<{', '.join(self.ours(k) for k in inner)}>"
         return kind
@@ -221,10 +226,10 @@ class Body:
         if kind == "Value":
             return self.any_value(value)
         if kind == "TupleS":
-            self.uses.add("sample_types::TupleS")
+            self.uses.add("test_types::TupleS")
             return value
         if kind == "NewU8":
-            self.uses.add("sample_types::NewU8")
+            self.uses.add("test_types::NewU8")
             return value
         if kind == "Option<u8>":
             return f"{self.ours(kind)}({value})"
@@ -267,10 +272,10 @@ class Body:
             body = value if value.startswith("(0..") else inside(value, "BTreeMap::from(", ")")
             return self.map_of(inner, body)
         if name == "UnkSeq":
-            self.uses.add("sample_types::UnkSeq")
+            self.uses.add("test_types::UnkSeq")
             return f"UnkSeq {{ items: {self.vec(inner[0], inside(value, 'UnkSeq(', ')'))} }}"
         if name == "UnkMap":
-            self.uses.add("sample_types::UnkMap")
+            self.uses.add("test_types::UnkMap")
             return f"UnkMap {{ entries: {self.map_of(inner, inside(value, 'UnkMap(', ')'))} }}"
         raise Absent(kind)
 
@@ -354,7 +359,8 @@ def main():
         name = next(name for name, _, pattern in MODULES if re.fullmatch(pattern, kind))
         bodies[name].append(body)
         printed[name] += [f"{kind} | {value} | {setting} | {wrote}\n" for setting, wrote in rows]
-    folder = os.path.join(CRATE, "src", "rows")
+    crate = os.path.join(sys.argv[1] if len(sys.argv) > 1 else TOP, "crates", "test_samples")
+    folder = os.path.join(crate, "src", "rows")
     os.makedirs(folder, exist_ok=True)
     calls = []
     for name, about, _ in MODULES:
@@ -366,12 +372,15 @@ def main():
     text = ["//! The rows of the sample. Written by tools/typed_samples.py.", *(f"mod {name};" for name in names), ""]
     text += ["use crate::fault::Fault;", "use crate::row::Rows;", "use std::alloc::Global;", ""]
     text += ["/// Adds each row.", "pub fn all(alloc: Global, rows: &mut Rows) -> Result<(), Fault> {", *calls, "Ok(())", "}"]
-    with open(os.path.join(CRATE, "src", "rows.rt"), "w", encoding="utf-8") as file:
+    with open(os.path.join(crate, "src", "rows.rt"), "w", encoding="utf-8") as file:
         file.write("\n".join(text) + "\n")
     lines = [line for name, _, _ in MODULES for line in printed[name]]
-    with open(os.path.join(CRATE, "stdout"), "w", encoding="utf-8") as file:
-        file.writelines(lines)
-    print(f"{len(lines)} rows; {absent} rows of the sample are left out", file=sys.stderr)
+    asked, answered = read_samples.asked_and_answered()
+    with open(os.path.join(crate, "stdin"), "w", encoding="utf-8") as file:
+        file.writelines(asked)
+    with open(os.path.join(crate, "stdout"), "w", encoding="utf-8") as file:
+        file.writelines(lines + answered)
+    print(f"{len(lines)} rows are written, and {absent} of the sample left out; {len(answered)} are read", file=sys.stderr)
 
 
 if __name__ == "__main__":

@@ -15,8 +15,8 @@ use Rattle.rmp_wire.proofs.Unique.{spelled_once}
 use Rattle.rmp_decode.specs.Law.{Begins, Readable, Reads, Refuses, Explains}
 use Rattle.rmp_decode.specs.Refuse.{Refusal, RefusedFor}
 use Rattle.rmp_decode.specs.State.{left, faults_of, room_of}
-use Rattle.rmp_decode.specs.declared.de.Deserializer.{Deserializer}
-use Rattle.rmp_decode.specs.declared.de.Kept.TheVariants.{Nothing}
+use Rattle.rmp_decode.specs.declared.deserializer.Deserializer.{Deserializer}
+use Rattle.rmp_decode.specs.declared.deserializer.Kept.TheVariants.{Nothing}
 use Rattle.rmp_decode.specs.declared.error.Error.{Error}
 use Rattle.rmp_decode.specs.declared.error.Error.TheVariants.{OutOfMemory}
 use Rattle.rmp_decode.proofs.Contents.{bare}

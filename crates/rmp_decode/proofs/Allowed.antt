@@ -19,8 +19,8 @@ use Rattle.rmp_wire.proofs.NextReads.{reads_next, fails_at_marker, fails_at_head
 use Rattle.rmp_wire.proofs.Strict.{test_passed}
 use Rattle.rmp_decode.specs.Allowed.{AllAllowed, BehindAllowed, FailsBehind, FailsNextAllowed}
 use Rattle.rmp_decode.specs.ReadErrors.{of_wire}
-use Rattle.rmp_decode.specs.declared.de.heads.HeadError.{HeadError}
-use Rattle.rmp_decode.specs.declared.de.heads.HeadError.TheVariants as heads
+use Rattle.rmp_decode.specs.declared.deserializer.heads.HeadError.{HeadError}
+use Rattle.rmp_decode.specs.declared.deserializer.heads.HeadError.TheVariants as heads
 
 -- a head whose first byte opens the canonical one may be read
 opened_allowed : (w : Bool) (m : Marker) (h : Head) → Opens (byte_of m) (canon_head h) → AllAllowed w m h

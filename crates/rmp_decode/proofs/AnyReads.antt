@@ -15,9 +15,9 @@ use Rattle.rmp_decode.specs.Anys.{FailsToOpenAny, OpensRaw, TakesContent, FailsC
 use Rattle.rmp_decode.specs.Law.{Refuses, Readable, Lawful, TakesHead}
 use Rattle.rmp_decode.specs.Seq.{SpellsRow, SpellsIn, Opens, Run, seq_head, levels}
 use Rattle.rmp_decode.specs.State.{left, kept_bytes}
-use Rattle.rmp_decode.specs.declared.de.Deserializer.{Deserializer}
-use Rattle.rmp_decode.specs.declared.de.any.RawAccess.{RawAccess}
-use Rattle.rmp_decode.specs.declared.de.seq.SeqAccess.{SeqAccess}
+use Rattle.rmp_decode.specs.declared.deserializer.Deserializer.{Deserializer}
+use Rattle.rmp_decode.specs.declared.access.any.RawAccess.{RawAccess}
+use Rattle.rmp_decode.specs.declared.access.seq.SeqAccess.{SeqAccess}
 use Rattle.rmp_decode.specs.declared.error.Error.{Error}
 use Rattle.rmp_decode.proofs.ContentErrors.{same_front}
 use Rattle.rmp_decode.proofs.Contents.{Content, text_content, content_read, content_short, content_refused}

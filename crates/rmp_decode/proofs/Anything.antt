@@ -10,7 +10,7 @@ use Rattle.rmp_decode.specs.Exact.{Stands, EndsExactly}
 use Rattle.rmp_decode.specs.Law.{ReadsHead}
 use Rattle.rmp_decode.specs.Skip.{parts_head}
 use Rattle.rmp_decode.specs.State.{left, room_of}
-use Rattle.rmp_decode.specs.declared.de.Deserializer.{Deserializer}
+use Rattle.rmp_decode.specs.declared.deserializer.Deserializer.{Deserializer}
 use Rattle.rmp_decode.specs.declared.error.Error.{Error}
 use Rattle.rmp_decode.specs.declared.error.Error.TheVariants.{DepthLimitExceeded}
 use Rattle.rmp_decode.proofs.Refusals.{refuses_none, refuses_by, same_head}

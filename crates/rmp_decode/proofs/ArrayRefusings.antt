@@ -6,8 +6,8 @@ use Rattle.rmp_decode.specs.Arrays.{TakesPlaces}
 use Rattle.rmp_decode.specs.Refusing.{Setting, Refusals, setting_of, element_setting, ElementRefused, Wanted, Excess, Behind, EachRead, OneWanted, RefusesTimes}
 use Rattle.rmp_decode.specs.Seq.{SpellsIn, SpellsRow, Opens}
 use Rattle.rmp_decode.specs.State.{left, faults_of}
-use Rattle.rmp_decode.specs.declared.de.Deserializer.{Deserializer}
-use Rattle.rmp_decode.specs.declared.de.seq.SeqAccess.{SeqAccess}
+use Rattle.rmp_decode.specs.declared.deserializer.Deserializer.{Deserializer}
+use Rattle.rmp_decode.specs.declared.access.seq.SeqAccess.{SeqAccess}
 use Rattle.rmp_decode.specs.declared.error.Error.{Error}
 use Rattle.rmp_decode.specs.declared.error.Error.TheVariants.{LengthMismatch}
 use Rattle.rmp_decode.proofs.Arrays.{Filled, filled_count, count_each}

@@ -8,8 +8,8 @@ use Rattle.rmp_decode.specs.Arrays.{Exactly, TakesPlaces}
 use Rattle.rmp_decode.specs.Rows.{ReadsEach}
 use Rattle.rmp_decode.specs.Law.{Lawful}
 use Rattle.rmp_decode.specs.Seq.{OfRow, Opens, FailsToOpen, IsOpen, TakesElement, FailsElement, FailsParts}
-use Rattle.rmp_decode.specs.declared.de.Deserializer.{Deserializer}
-use Rattle.rmp_decode.specs.declared.de.seq.SeqAccess.{SeqAccess}
+use Rattle.rmp_decode.specs.declared.deserializer.Deserializer.{Deserializer}
+use Rattle.rmp_decode.specs.declared.access.seq.SeqAccess.{SeqAccess}
 use Rattle.rmp_decode.specs.declared.error.Error.{Error}
 use Rattle.rmp_decode.proofs.Rows.{append}
 use Rattle.rmp_decode.proofs.Seqs.{Values, values_start, values_step, each_next, parts_element, count-append, seq_unopened, seq_parts, seq_done, seq_over}

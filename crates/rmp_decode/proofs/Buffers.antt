@@ -15,8 +15,8 @@ use Rattle.rmp_decode.specs.Read.{IsUnsigned}
 use Rattle.rmp_decode.specs.Rows.{ReadsEach}
 use Rattle.rmp_decode.specs.Seq.{numbers, OfRow, Opens, Run}
 use Rattle.rmp_decode.specs.State.{left, room_of}
-use Rattle.rmp_decode.specs.declared.de.Deserializer.{Deserializer}
-use Rattle.rmp_decode.specs.declared.de.seq.SeqAccess.{SeqAccess}
+use Rattle.rmp_decode.specs.declared.deserializer.Deserializer.{Deserializer}
+use Rattle.rmp_decode.specs.declared.access.seq.SeqAccess.{SeqAccess}
 use Rattle.rmp_decode.specs.declared.error.Error.{Error}
 use Rattle.rmp_decode.proofs.Laws.{refused, lawful_ok}
 use Rattle.rmp_decode.proofs.Opening.{nests}

@@ -13,8 +13,8 @@ use Rattle.rmp_decode.specs.Law.{Refuses, Reads, Explains}
 use Rattle.rmp_decode.specs.Refusing.{Refusals, RefusedIn}
 use Rattle.rmp_decode.specs.Seq.{SpellsByte, KeepsByte}
 use Rattle.rmp_decode.specs.State.{left, faults_of, kept_bytes}
-use Rattle.rmp_decode.specs.declared.de.Deserializer.{Deserializer}
-use Rattle.rmp_decode.specs.declared.de.Kept.TheVariants.{Nothing}
+use Rattle.rmp_decode.specs.declared.deserializer.Deserializer.{Deserializer}
+use Rattle.rmp_decode.specs.declared.deserializer.Kept.TheVariants.{Nothing}
 use Rattle.rmp_decode.specs.declared.error.Error.{Error}
 use Rattle.rmp_decode.specs.declared.error.Error.TheVariants.{OutOfMemory}
 use Rattle.rmp_decode.proofs.Contents.{bare}

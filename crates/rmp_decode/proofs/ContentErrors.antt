@@ -23,7 +23,7 @@ use Rattle.rmp_decode.specs.Kinds.{raw_head, raw_msg, content_len}
 use Rattle.rmp_decode.specs.Law.{Explains, ReadsHead, Reads}
 use Rattle.rmp_decode.specs.Pieces.{Blamed, StartsWithNoChar, RefusesPiece}
 use Rattle.rmp_decode.specs.State.{left, faults_of}
-use Rattle.rmp_decode.specs.declared.de.Deserializer.{Deserializer}
+use Rattle.rmp_decode.specs.declared.deserializer.Deserializer.{Deserializer}
 use Rattle.rmp_decode.specs.declared.error.Error.{Error}
 use Rattle.rmp_decode.specs.declared.error.Error.TheVariants.{Syntax}
 use Rattle.rmp_decode.specs.declared.text.Text.TheVariants.{InvalidValue}

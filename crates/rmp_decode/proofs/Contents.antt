@@ -14,8 +14,8 @@ use Rattle.rmp_wire.specs.Spelling.{head_of, Joined, IsContent, IsBytes}
 use Rattle.rmp_decode.specs.Kinds.{raw_msg, raw_head}
 use Rattle.rmp_decode.specs.Law.{Readable, Lawful, Explains, ReadsHead}
 use Rattle.rmp_decode.specs.State.{left, faults_of, Stays, kept_bytes}
-use Rattle.rmp_decode.specs.declared.de.Deserializer.{Deserializer}
-use Rattle.rmp_decode.specs.declared.de.Kept.TheVariants.{Nothing}
+use Rattle.rmp_decode.specs.declared.deserializer.Deserializer.{Deserializer}
+use Rattle.rmp_decode.specs.declared.deserializer.Kept.TheVariants.{Nothing}
 use Rattle.rmp_decode.specs.declared.error.Error.{Error}
 use Rattle.rmp_decode.proofs.Laws.{refused, refused_head, stays_then}
 use Rattle.rmp_wire.proofs.Strict.{heads_apart_as}

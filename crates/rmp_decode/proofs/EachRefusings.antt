@@ -6,8 +6,8 @@ use Rattle.rmp_decode.specs.Refusing.{Setting, Refusals, setting_of, RefusedIn, 
 use Rattle.rmp_decode.specs.Rows.{ReadsEach}
 use Rattle.rmp_decode.specs.Seq.{SpellsIn, SpellsRow, Opens, TakesElement}
 use Rattle.rmp_decode.specs.State.{left, faults_of}
-use Rattle.rmp_decode.specs.declared.de.Deserializer.{Deserializer}
-use Rattle.rmp_decode.specs.declared.de.seq.SeqAccess.{SeqAccess}
+use Rattle.rmp_decode.specs.declared.deserializer.Deserializer.{Deserializer}
+use Rattle.rmp_decode.specs.declared.access.seq.SeqAccess.{SeqAccess}
 use Rattle.rmp_decode.specs.declared.error.Error.TheVariants.{OutOfMemory}
 use Rattle.rmp_decode.proofs.Refusings.{behind_head}
 use Rattle.rmp_decode.proofs.Seqs.{Values, values_step}

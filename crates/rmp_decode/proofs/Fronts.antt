@@ -15,8 +15,8 @@ use Rattle.rmp_wire.specs.Taking.{marker_of}
 use Rattle.rmp_wire.proofs.Canon.{head_fits}
 use Rattle.rmp_wire.proofs.Strict.{canon_in}
 use Rattle.rmp_decode.specs.Fronts.{StandsIn, TakesFront}
-use Rattle.rmp_decode.specs.declared.de.Deserializer.{Deserializer}
-use Rattle.rmp_decode.specs.declared.de.Kept.TheVariants.{Nothing}
+use Rattle.rmp_decode.specs.declared.deserializer.Deserializer.{Deserializer}
+use Rattle.rmp_decode.specs.declared.deserializer.Kept.TheVariants.{Nothing}
 use Rattle.rmp_decode.proofs.Contents.{bare}
 use Rattle.rmp_decode.proofs.Exactness.{stands_known}
 use Rattle.rmp_decode.proofs.ContentErrors.{same_front}

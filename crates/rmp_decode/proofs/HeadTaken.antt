@@ -20,10 +20,10 @@ use Rattle.rmp_decode.specs.Allowed.{FailsNextAllowed, FailsBehind}
 use Rattle.rmp_decode.specs.Law.{ReadsHead}
 use Rattle.rmp_decode.specs.ReadErrors.{error_of, head_error_of}
 use Rattle.rmp_decode.specs.State.{left}
-use Rattle.rmp_decode.specs.declared.de.Deserializer.{Deserializer}
-use Rattle.rmp_decode.specs.declared.de.Kept.TheVariants.{Nothing, First, Number}
-use Rattle.rmp_decode.specs.declared.de.heads.HeadError.{HeadError}
-use Rattle.rmp_decode.specs.declared.de.heads.HeadError.TheVariants as heads
+use Rattle.rmp_decode.specs.declared.deserializer.Deserializer.{Deserializer}
+use Rattle.rmp_decode.specs.declared.deserializer.Kept.TheVariants.{Nothing, First, Number}
+use Rattle.rmp_decode.specs.declared.deserializer.heads.HeadError.{HeadError}
+use Rattle.rmp_decode.specs.declared.deserializer.heads.HeadError.TheVariants as heads
 use Rattle.rmp_decode.specs.declared.error.Error.{Error}
 use Rattle.rmp_decode.specs.declared.error.Error.TheVariants.{OutOfMemory, NotCanonical}
 use Rattle.rmp_decode.proofs.Contents.{bare}

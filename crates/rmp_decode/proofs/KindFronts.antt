@@ -1,5 +1,5 @@
 -- Heads of any kind but an extension that lie in memory whole.
-use Rattle.std.proofs.Common.{◌≡◌, ◌∙◌, sym, ap, subst, refl, rules, arith, ℕ, suc, ◌+◌, ◌-◌, ◌*◌, ◌%◌, ◌^◌, ◌<◌, ◌≤◌, pos, inl, inr, List, [], ◌∷◌, ◌++◌, length, get_or, Bool, true, false, Option, None, Some, IfSome, nat_lt, le-ltb, lt-ltb}
+use Rattle.std.proofs.Common.{◌≡◌, ◌∙◌, sym, ap, subst, refl, rules, arith, ℕ, suc, ◌+◌, ◌-◌, ◌*◌, ◌%◌, ◌^◌, ◌<◌, ◌≤◌, pos, inl, inr, List, [], ◌∷◌, ◌++◌, length, get_or, Bool, true, false, nat_lt, le-ltb, lt-ltb}
 use Rattle.std.proofs.lemmas.Int.{ints, to_z-of_z}
 use Rattle.std.proofs.lemmas.Nat.{be_bytes_2, be_bytes_4, be_bytes_8}
 use Rattle.std.specs.Int.{Width, w8, w16, w32, w64, w128, to_be_bytes, cast_signed}
@@ -298,12 +298,6 @@ allowed_stands w n h xs a s =
 pub opened_stands : (w : Bool) (n : ℕ) (h : Head) (xs : List ℕ) → (w ≡ true → Opens (get_or xs 0 0) (canon_head h)) → StandsIn false n h xs → StandsIn w n h xs
 opened_stands false n h xs o s = s
 opened_stands true n h xs o s = allowed_stands true n h xs (λ rest i. test_passed h (get_or xs 0 0) rest i (o refl)) s
-
-pub least_stands : (xs : List ℕ) (n len least : ℕ) (r : Option (ℕ × ℕ)) → IfSome r (λ p. (p.0 ≡ n) × (p.1 ≡ len) × (least ≤ n)) → StandsIn false len (Whole (pos n)) xs → (least ≤ n → Opens (get_or xs 0 0) (canon_head (Whole (pos n))))
-    → IfSome r (λ p. StandsIn true p.1 (Whole (pos p.0)) xs)
-least_stands xs n len least None h s o = tt
-least_stands xs n len least (Some p) h s o =
-    subst (λ k. StandsIn true k (Whole (pos p.0)) xs) (sym h.1) (subst (λ k. StandsIn true len (Whole (pos k)) xs) (sym h.0) (opened_stands true len (Whole (pos n)) xs (λ _. o h.2) s))
 
 -- which byte opens the canonical head of a number
 pub opens_8 : (b n : ℕ) → b ≡ 0xcc → 0x80 ≤ n → n < 2 ^ 8 → Opens b (canon_head (Whole (pos n)))

@@ -10,7 +10,7 @@ use Rattle.rmp_wire.specs.Spelling.{head_of}
 use Rattle.rmp_decode.specs.Law.{ReadsHead}
 use Rattle.rmp_decode.specs.Maps.{IsMap, not_map, FailsToOpenMap}
 use Rattle.rmp_decode.specs.State.{left, room_of}
-use Rattle.rmp_decode.specs.declared.de.Deserializer.{Deserializer}
+use Rattle.rmp_decode.specs.declared.deserializer.Deserializer.{Deserializer}
 use Rattle.rmp_decode.specs.declared.error.Error.{Error}
 use Rattle.rmp_decode.specs.declared.error.Error.TheVariants.{DepthLimitExceeded, Syntax}
 use Rattle.rmp_decode.specs.declared.text.Text.TheVariants.{InvalidType}
@@ -30,7 +30,7 @@ map_head_of (map ps) i = (count_pairs ps, refl)
 map_head_of (extension tag s) i = absurd i
 
 -- a map nests
-map_nests : (m : Msg) (n : ℕ) → head_of m ≡ Map n → 0 < depth m
+pub map_nests : (m : Msg) (n : ℕ) → head_of m ≡ Map n → 0 < depth m
 map_nests nil n e = absurd (cc)
 map_nests (truth t) n e = absurd (cc)
 map_nests (whole z) n e = absurd (cc)

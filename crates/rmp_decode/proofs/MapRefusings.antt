@@ -9,8 +9,8 @@ use Rattle.rmp_decode.specs.Maps.{map_inner, OpensMap, TakesKey, TakesValue, Rea
 use Rattle.rmp_decode.specs.Refusing.{Setting, Refusals, setting_of, inside}
 use Rattle.rmp_decode.specs.Seq.{SpellsRow}
 use Rattle.rmp_decode.specs.State.{left, faults_of}
-use Rattle.rmp_decode.specs.declared.de.Deserializer.{Deserializer}
-use Rattle.rmp_decode.specs.declared.de.map.MapAccess.{MapAccess}
+use Rattle.rmp_decode.specs.declared.deserializer.Deserializer.{Deserializer}
+use Rattle.rmp_decode.specs.declared.access.map.MapAccess.{MapAccess}
 use Rattle.rmp_decode.specs.declared.error.Error.{Error}
 use Rattle.rmp_decode.specs.declared.error.Error.TheVariants.{OutOfMemory}
 use Rattle.rmp_decode.proofs.Settings.{setting_same}

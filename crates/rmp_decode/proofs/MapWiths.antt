@@ -7,8 +7,8 @@ use Rattle.rmp_decode.specs.Law.{Lawful}
 use Rattle.rmp_decode.specs.Maps.{map_inner, TakesKey, TakesValue}
 use Rattle.rmp_decode.specs.Parts.{TakesPart, FailsPart}
 use Rattle.rmp_decode.specs.With.{Reading, part_reader, PartGiven, KeyRead, ValueRead}
-use Rattle.rmp_decode.specs.declared.de.Deserializer.{Deserializer}
-use Rattle.rmp_decode.specs.declared.de.map.MapAccess.{MapAccess}
+use Rattle.rmp_decode.specs.declared.deserializer.Deserializer.{Deserializer}
+use Rattle.rmp_decode.specs.declared.access.map.MapAccess.{MapAccess}
 use Rattle.rmp_decode.specs.declared.error.Error.{Error}
 use Rattle.rmp_decode.specs.declared.error.Error.TheVariants.{Uncategorized}
 use Rattle.rmp_decode.specs.declared.text.Text.TheVariants.{FailedBefore}
@@ -24,7 +24,7 @@ part_err (Ok x) true e m f = let w : true ≡ false = f x refl in absurd (cc)
 part_err (Ok x) false e m f = absurd (cc)
 part_err (Err d) failed e m f = cc
 
-key_ok : {X : Type 0} (given : Result X Error) (v : X) → MatchResult given (λ x. ◌≡◌ {A = Result (Option X) Error} (Ok (Some v)) (Ok (Some x))) (λ e. ◌≡◌ {A = Result (Option X) Error} (Ok (Some v)) (Err e)) → given ≡ Ok v
+pub key_ok : {X : Type 0} (given : Result X Error) (v : X) → MatchResult given (λ x. ◌≡◌ {A = Result (Option X) Error} (Ok (Some v)) (Ok (Some x))) (λ e. ◌≡◌ {A = Result (Option X) Error} (Ok (Some v)) (Err e)) → given ≡ Ok v
 key_ok (Ok x) v m = cc
 key_ok (Err e) v m = absurd (cc)
 
@@ -33,7 +33,7 @@ key_err (Ok x) e m = absurd (cc)
 key_err (Err d) e m = cc
 
 module _ {F R C X : Type 0} (g : Ghosts R) (once : Reading F R C X) (f : F) (reads : Msg → X → Type 0) where
-  part_taken : (inner : ℕ) (old new : Deserializer R C) (v : X) → ((rest : Deserializer R C) (gave : Result X Error) → FnOnceReturnsAtMut once f (part_reader old inner) gave rest → Lawful g reads (part_reader old inner) rest gave)
+  pub part_taken : (inner : ℕ) (old new : Deserializer R C) (v : X) → ((rest : Deserializer R C) (gave : Result X Error) → FnOnceReturnsAtMut once f (part_reader old inner) gave rest → Lawful g reads (part_reader old inner) rest gave)
       → PartGiven once f inner old new (Ok v) → TakesPart g reads (max 1 inner) old new v
   part_taken inner old new v law p =
       let given = part_ok p.gave p.rest.failed v p.answers in
@@ -43,6 +43,7 @@ module _ {F R C X : Type 0} (g : Ghosts R) (once : Reading F R C X) (f : F) (rea
         bytes = r.bytes;
         tree = r.tree;
         takes = r.takes;
+        goes_on = r.goes_on;
         spelled = r.spelled;
         fits = r.fits;
         value = r.value;
@@ -52,7 +53,7 @@ module _ {F R C X : Type 0} (g : Ghosts R) (once : Reading F R C X) (f : F) (rea
         marked = refl;
       })
 
-  part_fails : (inner : ℕ) (old new : Deserializer R C) (e : Error) → ((rest : Deserializer R C) (gave : Result X Error) → FnOnceReturnsAtMut once f (part_reader old inner) gave rest → Lawful g reads (part_reader old inner) rest gave)
+  pub part_fails : (inner : ℕ) (old new : Deserializer R C) (e : Error) → ((rest : Deserializer R C) (gave : Result X Error) → FnOnceReturnsAtMut once f (part_reader old inner) gave rest → Lawful g reads (part_reader old inner) rest gave)
       → PartGiven once f inner old new (Err e) → FailsPart g reads (max 1 inner) old new e
   part_fails inner old new e law p =
       let l0 = law p.rest p.gave p.called in

@@ -8,8 +8,8 @@ use Rattle.rmp_decode.specs.Refusing.{Setting, setting_of, element_setting, insi
 use Rattle.rmp_decode.specs.Rows.{AndThen, NoMore}
 use Rattle.rmp_decode.specs.Seq.{SpellsIn, SpellsRow, Opens, Run, inner_of}
 use Rattle.rmp_decode.specs.State.{left, faults_of}
-use Rattle.rmp_decode.specs.declared.de.Deserializer.{Deserializer}
-use Rattle.rmp_decode.specs.declared.de.seq.SeqAccess.{SeqAccess}
+use Rattle.rmp_decode.specs.declared.deserializer.Deserializer.{Deserializer}
+use Rattle.rmp_decode.specs.declared.access.seq.SeqAccess.{SeqAccess}
 use Rattle.rmp_decode.specs.declared.error.Error.{Error}
 use Rattle.rmp_decode.specs.declared.error.Error.TheVariants.{LengthMismatch}
 use Rattle.rmp_decode.proofs.Settings.{element_behind, behind_opened}

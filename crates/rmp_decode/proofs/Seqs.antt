@@ -8,8 +8,8 @@ use Rattle.rmp_decode.specs.Law.{Refuses, Readable, Explains, Lawful}
 use Rattle.rmp_decode.specs.Seq.{OfRow, IsSeq, SpellsIn, SpellsRow, RefusesRow, inner_of, IsOpen, Opens, FailsToOpen, TakesElement, FailsToTake, FailsElement, Run, FailsParts}
 use Rattle.rmp_decode.specs.State.{left, faults_of, room_of, kept_bytes, Stays}
 use Rattle.rmp_decode.specs.Rows.{ReadsEach, AndThen, NoMore}
-use Rattle.rmp_decode.specs.declared.de.Deserializer.{Deserializer}
-use Rattle.rmp_decode.specs.declared.de.seq.SeqAccess.{SeqAccess}
+use Rattle.rmp_decode.specs.declared.deserializer.Deserializer.{Deserializer}
+use Rattle.rmp_decode.specs.declared.access.seq.SeqAccess.{SeqAccess}
 use Rattle.rmp_decode.specs.declared.error.Error.{Error}
 use Rattle.rmp_decode.specs.declared.error.Error.TheVariants.{OutOfMemory}
 use Rattle.rmp_decode.proofs.Laws.{stays_refl, stays_then}

@@ -8,7 +8,7 @@ use Rattle.rmp_wire.specs.declared.source.Source.{Ghosts}
 use Rattle.rmp_wire.specs.Msg.{Msg}
 use Rattle.rmp_decode.specs.Seq.{IsOpen, TakesElement}
 use Rattle.rmp_decode.specs.Sets.{CollectsKeys}
-use Rattle.rmp_decode.specs.declared.de.seq.SeqAccess.{SeqAccess}
+use Rattle.rmp_decode.specs.declared.access.seq.SeqAccess.{SeqAccess}
 use Rattle.rmp_decode.proofs.Orders.{keys_none, keys_more}
 use Rattle.rmp_decode.proofs.Seqs.{Values, values_start, values_step}
 

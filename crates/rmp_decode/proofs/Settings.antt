@@ -5,8 +5,8 @@ use Rattle.rmp_wire.specs.Msg.{Msgs}
 use Rattle.rmp_decode.specs.Refusing.{Setting, Refusals, setting_of, element_setting, inside, RefusedIn, ElementRefused}
 use Rattle.rmp_decode.specs.Seq.{Opens, Run, inner_of}
 use Rattle.rmp_decode.specs.State.{faults_of}
-use Rattle.rmp_decode.specs.declared.de.Deserializer.{Deserializer}
-use Rattle.rmp_decode.specs.declared.de.seq.SeqAccess.{SeqAccess}
+use Rattle.rmp_decode.specs.declared.deserializer.Deserializer.{Deserializer}
+use Rattle.rmp_decode.specs.declared.access.seq.SeqAccess.{SeqAccess}
 use Rattle.rmp_decode.specs.declared.error.Error.{Error}
 
 made : Bool → Bool → Bool → ℕ → Setting

@@ -12,7 +12,7 @@ use Rattle.rmp_decode.specs.Law.{Explains, ReadsHead}
 use Rattle.rmp_decode.specs.Refuse.{IsWrong, OpensSome, UnpassedFor, RefusedFor, RowRefusedFor, RefusesFirst, RefusesRowFirst}
 use Rattle.rmp_decode.specs.Skip.{any_row, parts_head, parts_count}
 use Rattle.rmp_decode.specs.State.{left, faults_of, room_of}
-use Rattle.rmp_decode.specs.declared.de.Deserializer.{Deserializer}
+use Rattle.rmp_decode.specs.declared.deserializer.Deserializer.{Deserializer}
 use Rattle.rmp_decode.specs.declared.error.Error.{Error}
 use Rattle.rmp_decode.specs.declared.error.Error.TheVariants as errors
 use Rattle.rmp_decode.proofs.Contents.{bare}

@@ -18,8 +18,8 @@ use Rattle.rmp_decode.specs.Refuse.{UnpassedFor, RowRefusal, RefusedFor, RowRefu
 use Rattle.rmp_decode.specs.Seq.{SpellsRow, RefusesRow}
 use Rattle.rmp_decode.specs.Skip.{any_tree, any_row, parts_head, parts_count, Passes, SkipsRow}
 use Rattle.rmp_decode.specs.State.{left, faults_of, room_of, Stays}
-use Rattle.rmp_decode.specs.declared.de.Deserializer.{Deserializer}
-use Rattle.rmp_decode.specs.declared.de.Kept.TheVariants.{Nothing}
+use Rattle.rmp_decode.specs.declared.deserializer.Deserializer.{Deserializer}
+use Rattle.rmp_decode.specs.declared.deserializer.Kept.TheVariants.{Nothing}
 use Rattle.rmp_decode.specs.declared.error.Error.{Error}
 use Rattle.rmp_decode.specs.declared.error.Error.TheVariants as errors
 use Rattle.rmp_decode.proofs.Contents.{bare}

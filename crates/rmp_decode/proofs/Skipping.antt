@@ -17,8 +17,8 @@ use Rattle.rmp_decode.specs.Law.{Refuses, Readable, Explains, Lawful, ReadsHead}
 use Rattle.rmp_decode.specs.Seq.{SpellsRow, BeginsRow, RefusesRow}
 use Rattle.rmp_decode.specs.Skip.{any_tree, any_row, parts_head, parts_count, Passes, SkipsRow}
 use Rattle.rmp_decode.specs.State.{left, faults_of, room_of, kept_bytes, Stays}
-use Rattle.rmp_decode.specs.declared.de.Deserializer.{Deserializer}
-use Rattle.rmp_decode.specs.declared.de.Kept.TheVariants.{Nothing}
+use Rattle.rmp_decode.specs.declared.deserializer.Deserializer.{Deserializer}
+use Rattle.rmp_decode.specs.declared.deserializer.Kept.TheVariants.{Nothing}
 use Rattle.rmp_decode.specs.declared.error.Error.{Error}
 use Rattle.rmp_decode.proofs.Contents.{bare}
 use Rattle.rmp_decode.proofs.Laws.{refused, stays_then, stays_refl}

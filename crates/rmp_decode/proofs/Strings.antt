@@ -17,7 +17,7 @@ use Rattle.rmp_decode.specs.Law.{Readable, Lawful, ReadsHead, Explains}
 use Rattle.rmp_decode.specs.Pieces.{Blamed}
 use Rattle.rmp_decode.specs.Read.{IsRaw}
 use Rattle.rmp_decode.specs.State.{Stays}
-use Rattle.rmp_decode.specs.declared.de.Deserializer.{Deserializer}
+use Rattle.rmp_decode.specs.declared.deserializer.Deserializer.{Deserializer}
 use Rattle.rmp_decode.specs.declared.error.Error.{Error}
 use Rattle.rmp_decode.proofs.AnyReads.{lawful_under, short_text, text_under}
 use Rattle.rmp_decode.proofs.Contents.{text_content, content_refused}

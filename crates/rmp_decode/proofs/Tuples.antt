@@ -6,7 +6,7 @@ use Rattle.rmp_decode.specs.Rows.{AndThen, Anything, NoMore}
 use Rattle.rmp_decode.specs.Law.{Readable}
 use Rattle.rmp_decode.specs.Seq.{SpellsIn, RefusesRow, inner_of, IsOpen, TakesElement, FailsElement, Run, TakesParts, FailsParts}
 use Rattle.rmp_decode.specs.State.{left}
-use Rattle.rmp_decode.specs.declared.de.seq.SeqAccess.{SeqAccess}
+use Rattle.rmp_decode.specs.declared.access.seq.SeqAccess.{SeqAccess}
 use Rattle.rmp_decode.specs.declared.error.Error.{Error}
 use Rattle.rmp_decode.proofs.Rows.{push, append}
 use Rattle.rmp_decode.proofs.Seqs.{run_step, parts_element}
@@ -41,7 +41,7 @@ pub lacks : (P : Msg → Type 0) (Q : Msgs → Type 0) (ms : Msgs) → NoMore ms
 lacks P Q no_items h k = k
 lacks P Q (item n ms) h k = absurd h
 
-row_narrower : (spells : List ℕ → Msg → Type 0) (P Q : Msgs → Type 0) (room n : ℕ) (known : Option (List ℕ)) → ((ms : Msgs) → Q ms → P ms) → RefusesRow spells P room n known → RefusesRow spells Q room n known
+pub row_narrower : (spells : List ℕ → Msg → Type 0) (P Q : Msgs → Type 0) (room n : ℕ) (known : Option (List ℕ)) → ((ms : Msgs) → Q ms → P ms) → RefusesRow spells P room n known → RefusesRow spells Q room n known
 unfolding RefusesRow
 row_narrower spells P Q room n None f r = tt
 row_narrower spells P Q room n (Some xs) f r = λ a. r (record { bytes = a.bytes; rest = a.rest; trees = a.trees; front = a.front; spelled = a.spelled; many = a.many; fits = a.fits; holds = f a.trees a.holds })

@@ -7,9 +7,9 @@ use Rattle.rmp_wire.specs.Canonical.{SpellsAs}
 use Rattle.rmp_decode.specs.Law.{Begins, Refuses, Reads}
 use Rattle.rmp_decode.specs.Refusing.{Setting, Refusals, setting_of, slice_setting}
 use Rattle.rmp_decode.specs.State.{left, room_of, kept_bytes}
-use Rattle.rmp_decode.specs.declared.de.Deserializer.{Deserializer}
-use Rattle.rmp_decode.specs.declared.de.Kept.{Kept}
-use Rattle.rmp_decode.specs.declared.de.Kept.TheVariants.{Nothing}
+use Rattle.rmp_decode.specs.declared.deserializer.Deserializer.{Deserializer}
+use Rattle.rmp_decode.specs.declared.deserializer.Kept.{Kept}
+use Rattle.rmp_decode.specs.declared.deserializer.Kept.TheVariants.{Nothing}
 use Rattle.rmp_decode.specs.declared.error.Error.{Error}
 
 -- with nothing kept back, all that is known ahead is left

@@ -1,5 +1,5 @@
 -- Which error an access answers whose part a function reads.
-use Rattle.std.proofs.Common.{◌≡◌, sym, ap, subst, refl, ℕ, ◌⊎◌, inl, inr, Bool, true, false, Result, Err}
+use Rattle.std.proofs.Common.{◌≡◌, sym, ap, subst, refl, ℕ, ◌⊎◌, inl, inr, Bool, true, Result, Err}
 use Rattle.std.specs.Fn.{FnOnceReturnsAtMut}
 use Rattle.rmp_wire.specs.declared.source.Source.{Ghosts}
 use Rattle.rmp_wire.specs.Msg.{Msg}
@@ -8,44 +8,14 @@ use Rattle.rmp_decode.specs.MapRefusing.{EntryRefused}
 use Rattle.rmp_decode.specs.Refusing.{Setting, Refusals, setting_of, element_setting, RefusesAs, RefusedIn, ElementRefused}
 use Rattle.rmp_decode.specs.Seq.{IsOpen}
 use Rattle.rmp_decode.specs.State.{left, faults_of}
-use Rattle.rmp_decode.specs.With.{Reading, OffersPart, Lends, PartRead, PartMissing, part_reader, PartGiven, KeyRead, ValueRead}
-use Rattle.rmp_decode.specs.declared.de.Deserializer.{Deserializer}
-use Rattle.rmp_decode.specs.declared.de.Kept.TheVariants.{Nothing}
-use Rattle.rmp_decode.specs.declared.de.map.MapAccess.{MapAccess}
-use Rattle.rmp_decode.specs.declared.de.seq.SeqAccess.{SeqAccess}
+use Rattle.rmp_decode.specs.With.{Reading, Lends, PartRead, PartMissing, part_reader, PartGiven, KeyRead, ValueRead}
+use Rattle.rmp_decode.specs.declared.deserializer.Deserializer.{Deserializer}
+use Rattle.rmp_decode.specs.declared.access.map.MapAccess.{MapAccess}
+use Rattle.rmp_decode.specs.declared.access.seq.SeqAccess.{SeqAccess}
 use Rattle.rmp_decode.specs.declared.error.Error.{Error}
-use Rattle.rmp_decode.proofs.ByteParts.{number_ended, number_wrong}
+use Rattle.rmp_decode.proofs.ByteParts.{number_ended}
 use Rattle.rmp_decode.proofs.MapWiths.{part_err, key_err}
-use Rattle.rmp_decode.proofs.Settings.{setting_same}
-use Rattle.rmp_decode.proofs.Withs.{given_err}
-
-module _ {R C : Type 0} (g : Ghosts R) (human : C → Bool) (lends : Bool) (P : Setting → Refusals) (old from : Deserializer R C) (inner after : ℕ) (e : Error) (clean : old.kept ≡ Nothing) where
-  offered : (in_bytes : Bool) → OffersPart g in_bytes old from → P (setting_of (human from.config) lends (part_reader from inner)) (faults_of g from) after (left g from) e
-      → RefusedIn in_bytes (P (setting_of (human old.config) lends (part_reader old inner))) (faults_of g old) after (left g old) e
-  offered true o p =
-      let s' : setting_of (human from.config) lends (part_reader from inner) ≡ setting_of (human old.config) lends (part_reader old inner) = setting_same human lends (part_reader from inner) (part_reader old inner) _ _ o.stays.config o.stays.strict refl in
-      number_wrong g (P (setting_of (human old.config) lends (part_reader old inner))) e old clean from (part_reader from inner) o.keeps refl refl o.faults_same after (subst (λ z. P z (faults_of g from) after (left g from) e) s' p)
-  offered false o p = subst (λ (z : Deserializer R C). P (setting_of (human z.config) lends (part_reader z inner)) (faults_of g z) after (left g z) e) o p
-
-module _ {F R C X : Type 0} (g : Ghosts R) (once : Reading F R C X) (f : F) (human : C → Bool) (lends : Bool) (reads : Msg → X → Type 0) (P : Setting → Refusals) (old new : SeqAccess R C) (o : IsOpen old)
-    (law : (d rest : Deserializer R C) (gave : Result X Error) → Lends g old d → FnOnceReturnsAtMut once f d gave rest → Lawful g reads d rest gave)
-    (which : (d rest : Deserializer R C) (gave : Result X Error) → Lends g old d → FnOnceReturnsAtMut once f d gave rest → RefusesAs g (human d.config) lends P d rest gave) where
-  -- as f refused the next element, or the end of the bytes
-  pub element_named : (e : Error) → PartRead g once f old new (Err e) ⊎ PartMissing {X = X} g old new (Err e) → ElementRefused g (human old.de.now.config) lends P old new (left g old.de.now) e
-  element_named e (inr m) =
-      let w = m.answers in
-      let same : m.error ≡ e = cc in
-      let ends = number_ended g (P (element_setting (human old.de.now.config) lends old)) m.error old.de.now o.clean (faults_of g new.de.now) m.end m.err in
-      subst (λ b. RefusedIn b (P (element_setting (human old.de.now.config) lends old)) (faults_of g old.de.now) (faults_of g new.de.now) (left g old.de.now) e) (sym m.bytes)
-      (subst (λ z. RefusedIn true (P (element_setting (human old.de.now.config) lends old)) (faults_of g old.de.now) (faults_of g new.de.now) (left g old.de.now) z) same ends)
-  element_named e (inl p) =
-      let l = law p.lent p.rest p.gave p.lends p.called in
-      let given = given_err p.gave p.rest.failed e p.answers (λ x is. let k = subst (λ (z : Result X Error). Lawful g reads p.lent p.rest z) is l in k.ready) in
-      let w = subst (λ (z : Result X Error). RefusesAs g (human p.lent.config) lends P p.lent p.rest z) given (which p.lent p.rest p.gave p.lends p.called) in
-      let w' = subst (λ (z : Deserializer R C). RefusesAs {V = X} g (human z.config) lends P z p.rest (Err e)) p.lends.lent w in
-      let after : faults_of g p.rest ≡ faults_of g new.de.now = ap (faults_of g) (sym p.keeps) in
-      offered g human lends P old.de.now p.lends.from old.inner (faults_of g new.de.now) e o.clean old.bytes p.lends.offers
-      (subst (λ z. P (setting_of (human p.lends.from.config) lends (part_reader p.lends.from old.inner)) (faults_of g p.lends.from) z (left g p.lends.from) e) after (w' refl))
+use Rattle.rmp_decode.proofs.Offered.{offered}
 
 module _ {F R C X : Type 0} (g : Ghosts R) (once : Reading F R C X) (f : F) (human : C → Bool) (lends : Bool) (reads : Msg → X → Type 0) (P : Setting → Refusals) where
   part_named : (inner : ℕ) (old new : Deserializer R C) (e : Error) → ((rest : Deserializer R C) (gave : Result X Error) → FnOnceReturnsAtMut once f (part_reader old inner) gave rest → Lawful g reads (part_reader old inner) rest gave)
@@ -66,3 +36,20 @@ module _ {F R C X : Type 0} (g : Ghosts R) (once : Reading F R C X) (f : F) (hum
     -- as f refused the value
     pub value_named : (e : Error) → ValueRead once f old new (Err e) → EntryRefused g (human old.de.now.config) lends P old new e
     value_named e v = part_named old.inner old.de.now new.de.now e law which v.part
+
+module _ {F R C X : Type 0} (g : Ghosts R) (once : Reading F R C X) (f : F) (human : C → Bool) (lends : Bool) (reads : Msg → X → Type 0) (P : Setting → Refusals) (old new : SeqAccess R C) (o : IsOpen old)
+    (law : (d rest : Deserializer R C) (gave : Result X Error) → Lends g old d → FnOnceReturnsAtMut once f d gave rest → Lawful g reads d rest gave)
+    (which : (d rest : Deserializer R C) (gave : Result X Error) → Lends g old d → FnOnceReturnsAtMut once f d gave rest → RefusesAs g (human d.config) lends P d rest gave) where
+  -- as f refused the next element, or the end of the bytes
+  pub element_named : (e : Error) → PartRead g once f old new (Err e) ⊎ PartMissing {X = X} g old new (Err e) → ElementRefused g (human old.de.now.config) lends P old new (left g old.de.now) e
+  element_named e (inr m) =
+      let w = m.answers in
+      let same : m.error ≡ e = cc in
+      let ends = number_ended g (P (element_setting (human old.de.now.config) lends old)) m.error old.de.now o.clean (faults_of g new.de.now) m.end m.err in
+      subst (λ b. RefusedIn b (P (element_setting (human old.de.now.config) lends old)) (faults_of g old.de.now) (faults_of g new.de.now) (left g old.de.now) e) (sym m.bytes)
+      (subst (λ z. RefusedIn true (P (element_setting (human old.de.now.config) lends old)) (faults_of g old.de.now) (faults_of g new.de.now) (left g old.de.now) z) same ends)
+  element_named e (inl p) =
+      let given = subst (λ (z : Result X Error). PartGiven once f old.inner p.from new.de.now z) (key_err p.given e p.answers) p.part in
+      let lent : Lends g old (part_reader p.from old.inner) = record { from = p.from; offers = p.offers; lent = refl } in
+      offered g human lends P old.de.now p.from old.inner (faults_of g new.de.now) e o.clean old.bytes p.offers
+      (part_named g once f human lends reads P old.inner p.from new.de.now e (λ rest gave c. law (part_reader p.from old.inner) rest gave lent c) (λ rest gave c. which (part_reader p.from old.inner) rest gave lent c) given)

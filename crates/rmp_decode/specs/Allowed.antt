@@ -8,8 +8,8 @@ use Rattle.rmp_wire.specs.Canonical.{heads_of}
 use Rattle.rmp_wire.specs.Heads.{IsHead}
 use Rattle.rmp_wire.specs.Reading.{ReadsHead, ReadsNext}
 use Rattle.rmp_wire.specs.Taking.{byte_of}
-use Rattle.rmp_decode.specs.declared.de.heads.HeadError.{HeadError}
-use Rattle.rmp_decode.specs.declared.de.heads.HeadError.TheVariants.{InvalidMarkerRead, InvalidDataRead, TypeMismatch, NotCanonical}
+use Rattle.rmp_decode.specs.declared.deserializer.heads.HeadError.{HeadError}
+use Rattle.rmp_decode.specs.declared.deserializer.heads.HeadError.TheVariants.{InvalidMarkerRead, InvalidDataRead, TypeMismatch, NotCanonical}
 
 -- under this marker each head of that kind and number may be read, or none
 abbrev pub AllAllowed : Bool → Marker → Head → Type 0

@@ -18,11 +18,11 @@ use Rattle.rmp_decode.specs.Pieces.{RefusesPiece}
 use Rattle.rmp_decode.specs.Seq.{Opens}
 use Rattle.rmp_decode.specs.Skip.{parts_head}
 use Rattle.rmp_decode.specs.State.{left, faults_of, room_of, Stays}
-use Rattle.rmp_decode.specs.declared.de.Deserializer.{Deserializer}
-use Rattle.rmp_decode.specs.declared.de.any.Any.{Any}
-use Rattle.rmp_decode.specs.declared.de.any.Any.TheVariants as any
-use Rattle.rmp_decode.specs.declared.de.any.Leaf.{Leaf}
-use Rattle.rmp_decode.specs.declared.de.any.RawAccess.{RawAccess}
+use Rattle.rmp_decode.specs.declared.deserializer.Deserializer.{Deserializer}
+use Rattle.rmp_decode.specs.declared.access.any.Any.{Any}
+use Rattle.rmp_decode.specs.declared.access.any.Any.TheVariants as any
+use Rattle.rmp_decode.specs.declared.access.any.Leaf.{Leaf}
+use Rattle.rmp_decode.specs.declared.access.any.RawAccess.{RawAccess}
 use Rattle.rmp_decode.specs.declared.error.Error.{Error}
 use Rattle.rmp_decode.specs.declared.error.Error.TheVariants.{DepthLimitExceeded, Syntax}
 use Rattle.rmp_decode.specs.declared.text.Text.TheVariants.{InvalidType}

@@ -7,7 +7,7 @@ use Rattle.rmp_wire.specs.declared.source.Source.{Ghosts}
 use Rattle.rmp_wire.specs.Msg.{Msg, Msgs}
 use Rattle.rmp_decode.specs.Rows.{ReadsEach}
 use Rattle.rmp_decode.specs.Seq.{TakesParts}
-use Rattle.rmp_decode.specs.declared.de.seq.SeqAccess.{SeqAccess}
+use Rattle.rmp_decode.specs.declared.access.seq.SeqAccess.{SeqAccess}
 
 -- so many places fit in memory, each of which holds a value of the type or none
 abbrev pub PlacesFit : RattleType → ℕ → Type 0

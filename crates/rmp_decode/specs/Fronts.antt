@@ -5,7 +5,7 @@ use Rattle.rmp_wire.specs.declared.marker.Marker.{Marker}
 use Rattle.rmp_wire.specs.declared.source.Source.{Ghosts}
 use Rattle.rmp_decode.specs.Exact.{Stands}
 use Rattle.rmp_decode.specs.Law.{ReadsHead}
-use Rattle.rmp_decode.specs.declared.de.Deserializer.{Deserializer}
+use Rattle.rmp_decode.specs.declared.deserializer.Deserializer.{Deserializer}
 
 -- this head of n bytes stands at the front
 pub record StandsIn (strict : Bool) (n : ℕ) (h : Head) (xs : List ℕ) : Type 0 where

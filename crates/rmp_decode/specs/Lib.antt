@@ -4,12 +4,16 @@ pub mod Arrays
 pub mod Buffers
 pub mod Content
 pub mod Exact
+pub mod FieldRefusing
+pub mod Fields
 pub mod Fronts
 pub mod Kinds
 pub mod Law
 pub mod MapRefusing
 pub mod Maps
+pub mod Names
 pub mod Open
+pub mod Options
 pub mod Parts
 pub mod Pieces
 pub mod Read
@@ -21,5 +25,9 @@ pub mod Seq
 pub mod Sets
 pub mod Skip
 pub mod State
+pub mod VariantNames
+pub mod Variants
+pub mod Units
+pub mod Wide
 pub mod With
 pub mod Words

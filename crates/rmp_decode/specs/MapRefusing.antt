@@ -11,8 +11,8 @@ use Rattle.rmp_decode.specs.Law.{Readable}
 use Rattle.rmp_decode.specs.Maps.{map_inner, not_map, ReadsPairs}
 use Rattle.rmp_decode.specs.Refusing.{Setting, Refusals, setting_of, inside, IsMemory, BehindMessage}
 use Rattle.rmp_decode.specs.State.{left, faults_of}
-use Rattle.rmp_decode.specs.declared.de.Deserializer.{Deserializer}
-use Rattle.rmp_decode.specs.declared.de.map.MapAccess.{MapAccess}
+use Rattle.rmp_decode.specs.declared.deserializer.Deserializer.{Deserializer}
+use Rattle.rmp_decode.specs.declared.access.map.MapAccess.{MapAccess}
 use Rattle.rmp_decode.specs.declared.error.Error.{Error}
 
 -- a part that nests below this is refused so

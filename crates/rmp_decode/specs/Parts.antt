@@ -4,10 +4,10 @@ use Rattle.std.specs.Io.KnownBytes.{Consumes}
 use Rattle.rmp_wire.specs.declared.source.Source.{Ghosts}
 use Rattle.rmp_wire.specs.Msg.{Msg, depth}
 use Rattle.rmp_wire.specs.Canonical.{SpellsAs}
-use Rattle.rmp_decode.specs.Law.{Refuses, Readable, Explains}
-use Rattle.rmp_decode.specs.State.{left, faults_of, Stays}
-use Rattle.rmp_decode.specs.declared.de.Deserializer.{Deserializer}
-use Rattle.rmp_decode.specs.declared.de.Kept.TheVariants.{Nothing}
+use Rattle.rmp_decode.specs.Law.{Refuses, Readable, Explains, GoesOn}
+use Rattle.rmp_decode.specs.State.{left, faults_of, kept_bytes, Stays}
+use Rattle.rmp_decode.specs.declared.deserializer.Deserializer.{Deserializer}
+use Rattle.rmp_decode.specs.declared.deserializer.Kept.TheVariants.{Nothing}
 use Rattle.rmp_decode.specs.declared.error.Error.{Error}
 
 -- a part was taken that nests below this, and the reader is marked failed until the access ends
@@ -15,6 +15,7 @@ pub record TakesPart {R C V : Type 0} (g : Ghosts R) (reads : Msg → V → Type
   pub bytes : List ℕ
   pub tree : Msg
   pub takes : Consumes (left g old) (left g new) bytes
+  pub goes_on : GoesOn (kept_bytes old.kept) bytes
   pub spelled : SpellsAs old.strict bytes tree
   pub fits : depth tree < inner
   pub value : reads tree v

@@ -1,8 +1,8 @@
 -- The errors of reading that come from the wire.
 use Rattle.rmp_wire.specs.declared.error.ValueReadError.{ValueReadError}
 use Rattle.rmp_wire.specs.declared.error.ValueReadError.TheVariants as wire
-use Rattle.rmp_decode.specs.declared.de.heads.HeadError.{HeadError}
-use Rattle.rmp_decode.specs.declared.de.heads.HeadError.TheVariants as heads
+use Rattle.rmp_decode.specs.declared.deserializer.heads.HeadError.{HeadError}
+use Rattle.rmp_decode.specs.declared.deserializer.heads.HeadError.TheVariants as heads
 use Rattle.rmp_decode.specs.declared.error.Error.{Error}
 use Rattle.rmp_decode.specs.declared.error.Error.TheVariants as errors
 

@@ -12,7 +12,7 @@ use Rattle.rmp_decode.specs.Exact.{Stands, NoneStands, OtherWidth, IsMarkerEnd, 
 use Rattle.rmp_decode.specs.Seq.{BeginsRow}
 use Rattle.rmp_decode.specs.Skip.{parts_head, parts_count}
 use Rattle.rmp_decode.specs.State.{left, faults_of, room_of}
-use Rattle.rmp_decode.specs.declared.de.Deserializer.{Deserializer}
+use Rattle.rmp_decode.specs.declared.deserializer.Deserializer.{Deserializer}
 use Rattle.rmp_decode.specs.declared.error.Error.{Error}
 use Rattle.rmp_decode.specs.declared.error.Error.TheVariants.{InvalidMarkerRead, InvalidDataRead, TypeMismatch, DepthLimitExceeded, OutOfMemory, NotCanonical}
 

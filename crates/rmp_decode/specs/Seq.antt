@@ -11,9 +11,9 @@ use Rattle.rmp_wire.specs.Spelling.{Joined}
 use Rattle.rmp_decode.specs.Exact.{RefusesBy}
 use Rattle.rmp_decode.specs.Law.{TakesHead, Refuses, Readable, Explains, IsFailedBefore}
 use Rattle.rmp_decode.specs.State.{left, faults_of, room_of, Stays}
-use Rattle.rmp_decode.specs.declared.de.Deserializer.{Deserializer}
-use Rattle.rmp_decode.specs.declared.de.Kept.TheVariants.{Nothing, Number}
-use Rattle.rmp_decode.specs.declared.de.seq.SeqAccess.{SeqAccess}
+use Rattle.rmp_decode.specs.declared.deserializer.Deserializer.{Deserializer}
+use Rattle.rmp_decode.specs.declared.deserializer.Kept.TheVariants.{Nothing, Number}
+use Rattle.rmp_decode.specs.declared.access.seq.SeqAccess.{SeqAccess}
 use Rattle.rmp_decode.specs.declared.error.Error.{Error}
 use Rattle.rmp_decode.specs.declared.error.Error.TheVariants.{DepthLimitExceeded, OutOfMemory, Syntax}
 use Rattle.rmp_decode.specs.declared.text.Text.TheVariants.{InvalidType}

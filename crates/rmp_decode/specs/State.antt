@@ -5,9 +5,9 @@ use Rattle.std.specs.Io.KnownBytes.{prepend_known}
 use Rattle.rmp_wire.specs.declared.head.Head.TheVariants.{Whole}
 use Rattle.rmp_wire.specs.declared.source.Source.{Ghosts}
 use Rattle.rmp_wire.specs.Heads.{canon_head}
-use Rattle.rmp_decode.specs.declared.de.Deserializer.{Deserializer}
-use Rattle.rmp_decode.specs.declared.de.Kept.{Kept}
-use Rattle.rmp_decode.specs.declared.de.Kept.TheVariants.{Nothing, First, Number}
+use Rattle.rmp_decode.specs.declared.deserializer.Deserializer.{Deserializer}
+use Rattle.rmp_decode.specs.declared.deserializer.Kept.{Kept}
+use Rattle.rmp_decode.specs.declared.deserializer.Kept.TheVariants.{Nothing, First, Number}
 
 -- the bytes that stand for what was kept back
 abbrev pub kept_bytes : Kept → List ℕ

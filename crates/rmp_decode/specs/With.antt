@@ -8,9 +8,9 @@ use Rattle.rmp_decode.specs.Exact.{IsDataEnd}
 use Rattle.rmp_decode.specs.Law.{Explains}
 use Rattle.rmp_decode.specs.Seq.{KeepsByte}
 use Rattle.rmp_decode.specs.State.{faults_of, Stays}
-use Rattle.rmp_decode.specs.declared.de.Deserializer.{Deserializer}
-use Rattle.rmp_decode.specs.declared.de.map.MapAccess.{MapAccess}
-use Rattle.rmp_decode.specs.declared.de.seq.SeqAccess.{SeqAccess}
+use Rattle.rmp_decode.specs.declared.deserializer.Deserializer.{Deserializer}
+use Rattle.rmp_decode.specs.declared.access.map.MapAccess.{MapAccess}
+use Rattle.rmp_decode.specs.declared.access.seq.SeqAccess.{SeqAccess}
 use Rattle.rmp_decode.specs.declared.error.Error.{Error}
 use Rattle.rmp_decode.specs.declared.error.Error.TheVariants.{Uncategorized}
 use Rattle.rmp_decode.specs.declared.text.Text.TheVariants.{FailedBefore}
@@ -19,62 +19,9 @@ use Rattle.rmp_decode.specs.declared.text.Text.TheVariants.{FailedBefore}
 abbrev pub Reading : (F R C X : Type 0) → Type 1
 Reading F R C X = Once F (MutBor (Deserializer R C) × Unit {0}) (Result X Error × (MutBor (Deserializer R C) × Unit {0}))
 
--- a byte of bytes is kept back as the number that is to be read
-pub record OffersByte {R C : Type 0} (g : Ghosts R) (old new : Deserializer R C) : Type 0 where
-  pub keeps : KeepsByte g old new
-  pub stays : Stays g old new
-  pub faults_same : faults_of g new ≡ faults_of g old
-
--- the next part of bytes, or of a list
-abbrev pub OffersPart : {R C : Type 0} → Ghosts R → Bool → Deserializer R C → Deserializer R C → Type 0
-OffersPart g true old new = OffersByte g old new
-OffersPart g false old new = new ≡ old
-
--- the reader as the next part is read from it: ready, with the part's room
-pub record Lends {R C : Type 0} (g : Ghosts R) (s : SeqAccess R C) (d : Deserializer R C) : Type 0 where
-  pub from : Deserializer R C
-  pub offers : OffersPart g s.bytes s.de.now from
-  pub lent : d ≡ record from { room = s.inner; failed = false }
-
--- f may be called on the next part
-abbrev pub CanRead : {F R C X : Type 0} → Ghosts R → Reading F R C X → F → SeqAccess R C → Type 0
-CanRead {F} {R} {C} g once f s = (d : Deserializer R C) → Lends g s d → FnOnceTakesAtMut once f d
-
--- The next part was offered to f, once. An answer of f that leaves the reader failed counts as a failure.
-pub record PartRead {F R C X : Type 0} (g : Ghosts R) (once : Reading F R C X) (f : F) (old new : SeqAccess R C) (result : Result (Option X) Error) : Type 0 where
-  pub lent : Deserializer R C
-  pub gave : Result X Error
-  pub rest : Deserializer R C
-  pub lends : Lends g old lent
-  pub called : FnOnceReturnsAtMut once f lent gave rest
-  pub answers : MatchResult gave (λ x. result ≡ (if rest.failed then Err (Uncategorized FailedBefore) else Ok (Some x))) (λ e. result ≡ Err e)
-  pub keeps : new.de.now ≡ record rest { room = old.de.now.room; failed = true }
-  pub fewer : OnOk result (old.left ≡ new.left + 1)
-
--- The bytes ended before the part, and f wasn't called.
-pub record PartMissing {R C X : Type 0} (g : Ghosts R) (old new : SeqAccess R C) (result : Result (Option X) Error) : Type 0 where
-  pub bytes : old.bytes ≡ true
-  pub error : Error
-  pub answers : result ≡ Err error
-  pub stays : Stays g old.de.now new.de.now
-  pub err : Explains error (faults_of g old.de.now) (faults_of g new.de.now) (IsAtEnd (g.ahead old.de.now.reader))
-  pub end : faults_of g new.de.now ≡ faults_of g old.de.now → IsDataEnd error
-
--- the part's counts but that of what is left stay
-pub record SameList {R C : Type 0} (old new : SeqAccess R C) : Type 0 where
-  pub count : new.count ≡ old.count
-  pub inner : new.inner ≡ old.inner
-  pub bytes : new.bytes ≡ old.bytes
-
--- ---- keys and values
-
 -- the reader as a part is read from it that nests below the room
 abbrev pub part_reader : {R C : Type 0} → Deserializer R C → ℕ → Deserializer R C
 part_reader d inner = record d { room = inner; failed = false }
-
--- the room of a map's parts
-abbrev pub part_room : {R C : Type 0} → MapAccess R C → ℕ
-part_room a = a.inner
 
 -- The part was offered to f, once. An answer of f that leaves the reader failed counts as a failure.
 pub record PartGiven {F R C X : Type 0} (once : Reading F R C X) (f : F) (inner : ℕ) (old new : Deserializer R C) (result : Result X Error) : Type 0 where
@@ -83,6 +30,59 @@ pub record PartGiven {F R C X : Type 0} (once : Reading F R C X) (f : F) (inner 
   pub called : FnOnceReturnsAtMut once f (part_reader old inner) gave rest
   pub answers : MatchResult gave (λ x. result ≡ (if rest.failed then Err (Uncategorized FailedBefore) else Ok x)) (λ e. result ≡ Err e)
   pub keeps : new ≡ record rest { room = old.room; failed = true }
+
+-- ---- elements
+
+-- a byte of bytes is kept back as the number that is to be read
+pub record OffersByte {R C : Type 0} (g : Ghosts R) (old new : Deserializer R C) : Type 0 where
+  pub keeps : KeepsByte g old new
+  pub stays : Stays g old new
+  pub faults_same : faults_of g new ≡ faults_of g old
+
+-- the next element of bytes, or of a list
+abbrev pub OffersPart : {R C : Type 0} → Ghosts R → Bool → Deserializer R C → Deserializer R C → Type 0
+OffersPart g true old new = OffersByte g old new
+OffersPart g false old new = new ≡ old
+
+-- the reader as the next element is read from it
+pub record Lends {R C : Type 0} (g : Ghosts R) (s : SeqAccess R C) (d : Deserializer R C) : Type 0 where
+  pub from : Deserializer R C
+  pub offers : OffersPart g s.bytes s.de.now from
+  pub lent : d ≡ part_reader from s.inner
+
+-- f may be called on the next element
+abbrev pub CanRead : {F R C X : Type 0} → Ghosts R → Reading F R C X → F → SeqAccess R C → Type 0
+CanRead {F} {R} {C} g once f s = (d : Deserializer R C) → Lends g s d → FnOnceTakesAtMut once f d
+
+-- the next element was offered to f
+pub record PartRead {F R C X : Type 0} (g : Ghosts R) (once : Reading F R C X) (f : F) (old new : SeqAccess R C) (result : Result (Option X) Error) : Type 0 where
+  pub from : Deserializer R C
+  pub offers : OffersPart g old.bytes old.de.now from
+  pub given : Result X Error
+  pub part : PartGiven once f old.inner from new.de.now given
+  pub answers : MatchResult given (λ x. result ≡ Ok (Some x)) (λ e. result ≡ Err e)
+  pub fewer : OnOk result (old.left ≡ new.left + 1)
+
+-- The bytes ended before the element, and f wasn't called.
+pub record PartMissing {R C X : Type 0} (g : Ghosts R) (old new : SeqAccess R C) (result : Result (Option X) Error) : Type 0 where
+  pub bytes : old.bytes ≡ true
+  pub error : Error
+  pub answers : result ≡ Err error
+  pub stays : Stays g old.de.now new.de.now
+  pub err : Explains error (faults_of g old.de.now) (faults_of g new.de.now) (IsAtEnd (g.ahead old.de.now.reader))
+  pub end : faults_of g new.de.now ≡ faults_of g old.de.now → IsDataEnd error
+
+-- the list's counts but that of what is left stay
+pub record SameList {R C : Type 0} (old new : SeqAccess R C) : Type 0 where
+  pub count : new.count ≡ old.count
+  pub inner : new.inner ≡ old.inner
+  pub bytes : new.bytes ≡ old.bytes
+
+-- ---- keys and values
+
+-- the room of a map's parts
+abbrev pub part_room : {R C : Type 0} → MapAccess R C → ℕ
+part_room a = a.inner
 
 -- the next key was offered to f
 pub record KeyRead {F R C X : Type 0} (once : Reading F R C X) (f : F) (old new : MapAccess R C) (result : Result (Option X) Error) : Type 0 where

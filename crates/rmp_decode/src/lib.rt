@@ -1,15 +1,19 @@
 //! Reads typed values from the bytes of MessagePack.
 #![tactic(auto)]
 
-pub mod de;
-pub mod error;
-pub mod text;
+mod access;
+mod content;
+mod de;
+mod deserializer;
+mod error;
+mod text;
 
-pub use de::any::{Any, Leaf, RawAccess};
-pub use de::map::MapAccess;
-pub use de::seq::SeqAccess;
-pub use de::{
-    Deserialize, Deserializer, ReadContent, Slices, from_read_ref, from_slice, from_slice_strict,
-};
+pub use access::any::{Any, Leaf, RawAccess};
+pub use access::map::MapAccess;
+pub use access::seq::SeqAccess;
+pub use access::variant::Variant;
+pub use content::{ReadContent, Slices};
+pub use de::{Deserialize, from_read_ref, from_slice, from_slice_strict};
+pub use deserializer::Deserializer;
 pub use error::Error;
-pub use text::Text;
+pub use text::{OwnText, Text};

@@ -22,7 +22,7 @@ module _ {W : Type 0} (g : Ghosts W) where
 
 module _ {W C : Type 0} (g : Ghosts W) where
   pub lists_same : (s t : Serializer W C) (all : List (Option Data)) (x y : W) → settings_of s ≡ settings_of t → IsListWritten g s all x → IsListWritten g t all y → AppendSame (g.told (sink_of s)) (g.told x) (g.told (sink_of t)) (g.told y)
-  lists_same s t all x y e h k = written_twice g g.takes_memory _ (settings_of s) (settings_of t) e (h.ended s all h.handed) (k.ended t all k.handed)
+  lists_same s t all x y e h k = written_twice g g.takes_memory _ (settings_of s) (settings_of t) e (h.ended s _ h.handed) (k.ended t _ k.handed)
 
   pub maps_same : (s t : Serializer W C) (all : List (Option Data)) (x y : W) → settings_of s ≡ settings_of t → IsMapWritten g s all x → IsMapWritten g t all y → AppendSame (g.told (sink_of s)) (g.told x) (g.told (sink_of t)) (g.told y)
-  maps_same s t all x y e h k = written_twice g g.takes_memory _ (settings_of s) (settings_of t) e (h.ended s all h.handed) (k.ended t all k.handed)
+  maps_same s t all x y e h k = written_twice g g.takes_memory _ (settings_of s) (settings_of t) e (h.ended s _ h.handed) (k.ended t _ k.handed)

@@ -1,23 +1,22 @@
--- What a list or a map that is open has written, step by step, whatever compound holds it.
-use Rattle.std.proofs.Common.{◌≡◌, ℕ, ◌+◌, ◌<◌, ◌≤◌, ◌^◌, List, [], ◌∷◌, ◌++◌, length, map, drop, get_or, drop_of_length-le, Bool, true, Option, refl, sym, ◌∙◌, ap, subst, arith, append_assoc, append-nil}
-use Rattle.std.specs.Borrow.{Bor}
-use Rattle.std.specs.Prelude.{Result, Ok, Err, OnOk, MatchResult}
+-- What was opened has written, step by step, whatever compound holds it.
+use Rattle.std.proofs.Common.{◌≡◌, ℕ, ◌+◌, ◌<◌, ◌≤◌, List, [], ◌∷◌, ◌++◌, length, map, drop, get_or, drop_of_length-le, Bool, true, Option, refl, sym, ◌∙◌, ap, subst, append_assoc, append-nil}
+use Rattle.std.specs.Prelude.{Result, Ok, Err, OnOk, OnErr, IfErr}
 use Rattle.std.specs.List.{flat_map, AllByRecursion}
 use Rattle.std.proofs.lemmas.List.{flat_map_more, drop_more}
 use Rattle.std.proofs.lemmas.Grind.{flat_map-append}
+use Rattle.rmp_wire.specs.Msg.{Msg}
 use Rattle.rmp_wire.specs.declared.sink.Sink.{Ghosts}
 use Rattle.rmp_encode.specs.declared.settings.Settings.{Settings}
 use Rattle.rmp_encode.specs.declared.serializer.Serializer.{Serializer}
 use Rattle.rmp_encode.specs.declared.error.Error.{Error}
-use Rattle.rmp_encode.specs.declared.error.Error.TheVariants.{InvalidDataModel}
+use Rattle.rmp_encode.specs.declared.error.Error.TheVariants.{InvalidValueWrite, UnknownLength, InvalidDataModel, DepthLimitExceeded, Syntax, OutOfMemory}
 use Rattle.rmp_encode.specs.Data.{Data}
-use Rattle.rmp_encode.specs.Errors.{IsReason}
-use Rattle.rmp_encode.specs.Going.{AreMany, head_at, open_of, IsWritingAt, IsWritten, Begins}
+use Rattle.rmp_encode.specs.Errors.{IsTooLong}
+use Rattle.rmp_encode.specs.Going.{IsMadeOf, IsWriting, Begins, Goes, FailsToOpen}
 use Rattle.rmp_encode.specs.Ser.{sink_of, settings_of}
-use Rattle.rmp_encode.specs.Trees.{Has, spelling, tree_of}
-use Rattle.rmp_encode.specs.Writes.{Keeps, WritesPart, WritesTree}
-use Rattle.rmp_encode.proofs.Lists.{open_may, open_can, open_text}
-use Rattle.rmp_encode.proofs.Parts.{part_as, part_any, part_memory, part_then, part_stops, part_refused}
+use Rattle.rmp_encode.specs.Trees.{Has, HasTree, spell, spelling, tree_of}
+use Rattle.rmp_encode.specs.Writes.{FailsBy, Keeps, StaysAtRefusal, WritesPart, WritesTree}
+use Rattle.rmp_encode.proofs.Parts.{part_as, part_any, part_then, part_stops, part_refused}
 
 module _ {X : Type 0} (P : X → Type 0) where
   pub all_append : (xs ys : List X) → AllByRecursion P xs → AllByRecursion P ys → AllByRecursion P (xs ++ ys)
@@ -52,103 +51,114 @@ module _ {W C : Type 0} (g : Ghosts W) where
   pub keeps_last : {a b c : Serializer W C} → c ≡ b → Keeps g a b → Keeps g a c
   keeps_last {a} {b} {c} e k = subst (λ l. Keeps g a l) (sym e) k
 
-module _ (pairs : Bool) {W C : Type 0} (g : Ghosts W) where
-  -- the head was written
-  pub at_opened : (old now : Serializer W C) (n : ℕ) (u : Unit {0}) → n < 2 ^ 32 → Keeps g old now → WritesPart g g.takes_memory (Unit {0}) (head_at pairs n) (sink_of old) (sink_of now) (Ok u)
-      → (left : ℕ) (all : List (Option Data)) → AreMany pairs n all → left ≡ length all → IsWritingAt g pairs old all all left now
-  at_opened old now n u lt k w left all e l = record {
-    size = n;
-    many = e;
-    front = [];
-    split = refl;
-    left_is = l;
-    keeps = k;
-    writes = part_as g (λ _. refl) (λ _. (lt, tt)) (λ _. tt) (λ _. sym (append-nil (head_at pairs n))) w;
-  }
+-- what a tree is made of
+pub made_as : {s : Settings} {t t' : Option Msg} {P : Type 0} {head : List ℕ} {parts : List (Option Data)} → t ≡ t' → IsMadeOf s t' P head parts → IsMadeOf s t P head parts
+made_as {s} {t} {t'} {P} {head} {parts} e h = subst (λ x. IsMadeOf s x P head parts) (sym e) h
 
-  -- the head failed
-  pub at_not_opened : (old last : Serializer W C) (n : ℕ) (e : Error) → n < 2 ^ 32 → WritesPart g {A = Unit {0}} g.takes_memory (Unit {0}) (head_at pairs n) (sink_of old) (sink_of last) (Err e)
-      → (all : List (Option Data)) → AreMany pairs n all → WritesTree g {A = Unit {0}} g.takes_memory (tree_of (settings_of old) (open_of pairs all)) (sink_of old) (sink_of last) (Err e)
-  at_not_opened old last n e lt w all l =
-      let s = settings_of old in
-      part_as g (λ t. t) (λ p. open_may pairs s n all l lt p.1) (λ p. (tt, (open_can pairs s n all l p).1)) (λ p. open_text pairs s n all l p)
-      (part_stops g {B = Unit {0}} {Q = AllByRecursion (Has s) all} (flat_map (spelling s) all) w)
+pub made_sure : {s : Settings} {t : Option Msg} {P : Type 0} {head : List ℕ} {parts : List (Option Data)} → P → IsMadeOf s t P head parts → IsMadeOf s t (Unit {0}) head parts
+made_sure p h = record { may = λ _ a. h.may p a; can = λ a. (tt, (h.can a).1); text = h.text }
 
-  -- a part was written
-  pub at_goes_ok : (d : Settings → Option Data) (left left' : ℕ) (now now' : Serializer W C) (u : Unit {0}) → left' + 1 ≡ left → Keeps g now now'
-      → WritesTree g {A = Unit {0}} true (tree_of (settings_of now) (d (settings_of now))) (sink_of now) (sink_of now') (Ok u)
-      → (old : Serializer W C) (all rest : List (Option Data)) → IsWritingAt g pairs old all (d (settings_of old) ∷ rest) left now → IsWritingAt g pairs old all rest left' now'
-  at_goes_ok d left left' now now' u l k w old all rest h =
-      let s = settings_of old in
-      let w' : WritesPart g true (Has s (d s)) (spelling s (d s)) (sink_of now) (sink_of now') (Ok u) = subst (λ t. WritesPart g true (Has t (d t)) (spelling t (d t)) (sink_of now) (sink_of now') (Ok u)) h.keeps.settings w in
-      record {
-        size = h.size;
-        many = h.many;
-        front = h.front ++ d s ∷ [];
-        split = h.split ∙ sym (append_assoc h.front (d s ∷ []) rest);
-        left_is = omega (arith, l, h.left_is);
-        keeps = keeps_then g h.keeps k;
-        writes = part_as g (λ t. t) (λ p. (p.0.0, all_append (Has s) h.front (d s ∷ []) p.0.1 (p.1, tt))) (λ p. ((p.0, all_front (Has s) h.front (d s ∷ []) p.1), (all_back (Has s) h.front (d s ∷ []) p.1).0)) (λ _. flat_map_more (spelling s) (head_at pairs h.size) h.front (d s)) (part_then g h.writes w');
-      }
+pub made_of : {s : Settings} {t : Option Msg} {P : Type 0} {head : List ℕ} {parts parts' : List (Option Data)} → parts ≡ parts' → IsMadeOf s t P head parts → IsMadeOf s t P head parts'
+made_of {s} {t} {P} {head} {parts} {parts'} e h = subst (IsMadeOf s t P head) e h
 
-  -- a part failed
-  pub at_goes_err : (m : Bool) (d : Settings → Option Data) (left : ℕ) (now now' : Serializer W C) (e : Error)
-      → WritesTree g {A = Unit {0}} m (tree_of (settings_of now) (d (settings_of now))) (sink_of now) (sink_of now') (Err e)
-      → (old : Serializer W C) (all rest : List (Option Data)) → IsWritingAt g pairs old all (d (settings_of old) ∷ rest) left now → WritesTree g {A = Unit {0}} m (tree_of (settings_of old) (open_of pairs all)) (sink_of old) (sink_of now') (Err e)
-  at_goes_err m d left now now' e w old all rest h =
-      let s = settings_of old in
-      let head = head_at pairs h.size in
-      let w' : WritesPart g {A = Unit {0}} m (Has s (d s)) (spelling s (d s)) (sink_of now) (sink_of now') (Err e) = subst (λ t. WritesPart g {A = Unit {0}} m (Has t (d t)) (spelling t (d t)) (sink_of now) (sink_of now') (Err e)) h.keeps.settings w in
-      let text : ((head ++ flat_map (spelling s) h.front) ++ spelling s (d s)) ++ flat_map (spelling s) rest ≡ head ++ flat_map (spelling s) all =
-      append_assoc (head ++ flat_map (spelling s) h.front) (spelling s (d s)) (flat_map (spelling s) rest) ∙ append_assoc head (flat_map (spelling s) h.front) _ ∙ ap (λ k. head ++ k) (sym (flat_map-append (spelling s) h.front (d s ∷ rest)) ∙ ap (flat_map (spelling s)) (sym h.split)) in
-      let all_may : AllByRecursion (Has s) (h.front ++ d s ∷ rest) → AllByRecursion (Has s) all = subst (AllByRecursion (Has s)) (sym h.split) in
-      let all_can : AllByRecursion (Has s) all → AllByRecursion (Has s) (h.front ++ d s ∷ rest) = subst (AllByRecursion (Has s)) h.split in
-      part_as g (λ t. t)
-      (λ p. open_may pairs s h.size all h.many p.0.0.0 (all_may (all_append (Has s) h.front (d s ∷ rest) p.0.0.1 (p.0.1, p.1))))
-      (λ p. let k = open_can pairs s h.size all h.many p in let back = all_back (Has s) h.front (d s ∷ rest) (all_can k.1) in (((k.0, all_front (Has s) h.front (d s ∷ rest) (all_can k.1)), back.0), back.1))
-      (λ p. text ∙ open_text pairs s h.size all h.many p)
-      (part_stops g {B = Unit {0}} {Q = AllByRecursion (Has s) rest} (flat_map (spelling s) rest) (part_then g (part_any g m (tt {0}) h.writes) w'))
+module _ {W : Type 0} (g : Ghosts W) where
+  -- its head and all of its parts were written, or the last of them failed
+  pub made_ended : {m : Bool} (s : Settings) (t : Option Msg) {head : List ℕ} {parts : List (Option Data)} {old new : W} {r : Result (Unit {0}) Error} → IsMadeOf s t (Unit {0}) head parts
+      → WritesPart g m (AllByRecursion (Has s) parts) (head ++ flat_map (spelling s) parts) old new r → WritesTree g m t old new r
+  made_ended s t h w = part_as g (λ x. x) (h.may tt) (λ a. (h.can a).1) h.text w
 
-  -- both
-  pub at_goes : (m : Bool) (d : Settings → Option Data) (left left' : ℕ) (now now' : Serializer W C) (r : Result (Unit {0}) Error) → left' + 1 ≡ left → Keeps g now now'
-      → WritesTree g m (tree_of (settings_of now) (d (settings_of now))) (sink_of now) (sink_of now') r
-      → (old : Serializer W C) (all rest : List (Option Data)) → IsWritingAt g pairs old all (d (settings_of old) ∷ rest) left now
-      → MatchResult r (λ _. IsWritingAt g pairs old all rest left' now') (λ e. WritesTree g {A = Unit {0}} m (tree_of (settings_of old) (open_of pairs all)) (sink_of old) (sink_of now') (Err e))
-  at_goes m d left left' now now' (Ok u) l k w = at_goes_ok d left left' now now' u l k (part_memory g w)
-  at_goes m d left left' now now' (Err e) l k w = at_goes_err m d left now now' e w
+  -- its head or some part of it failed
+  pub made_stopped : {m : Bool} (s : Settings) (t : Option Msg) {head : List ℕ} (front rest : List (Option Data)) {old new : W} {e : Error} → IsMadeOf s t (Unit {0}) head (front ++ rest)
+      → WritesPart g {A = Unit {0}} m (AllByRecursion (Has s) front) (head ++ flat_map (spelling s) front) old new (Err e) → WritesTree g {A = Unit {0}} m t old new (Err e)
+  made_stopped s t {head} front rest h w =
+      made_ended s t h (part_as g (λ x. x) (λ a. all_append (Has s) front rest a.0 a.1) (λ a. (all_front (Has s) front rest a, all_back (Has s) front rest a)) (λ _. append_assoc head (flat_map (spelling s) front) (flat_map (spelling s) rest) ∙ ap (λ l. head ++ l) (sym (flat_map-append (spelling s) front rest)))
+      (part_stops g {B = Unit {0}} {Q = AllByRecursion (Has s) rest} (flat_map (spelling s) rest) w))
 
-  -- nothing is to come
-  pub at_closes : (m : Bool) (old : Serializer W C) (all : List (Option Data)) (left : ℕ) (now : Serializer W C) (u : Unit {0}) → IsWritingAt g pairs old all [] left now → WritesTree g m (tree_of (settings_of old) (open_of pairs all)) (sink_of old) (sink_of now) (Ok u)
-  at_closes m old all left now u h =
-      let s = settings_of old in
-      let is : all ≡ h.front = h.split ∙ append-nil h.front in
-      part_any g m u (part_as g (λ t. t) (λ p. open_may pairs s h.size all h.many p.0 (subst (AllByRecursion (Has s)) (sym is) p.1)) (λ p. let k = open_can pairs s h.size all h.many p in (k.0, subst (AllByRecursion (Has s)) is k.1)) (λ p. ap (λ l. head_at pairs h.size ++ flat_map (spelling s) l) (sym is) ∙ open_text pairs s h.size all h.many p) h.writes)
+module _ {W C : Type 0} (g : Ghosts W) where
+  -- the head was written, or failed
+  pub begins : {P : Type 0} (head : List ℕ) (old now : Serializer W C) (r : Result (Unit {0}) Error) → P → Keeps g old now → WritesPart g g.takes_memory (Unit {0}) head (sink_of old) (sink_of now) r → Begins g P head old now r
+  begins head old now (Ok u) p k w = λ t parts h. record { head = head; front = []; made = made_sure p h; keeps = k; writes = part_as g (λ _. refl) (λ _. tt) (λ _. tt) (λ _. sym (append-nil head)) (part_any g true tt w) }
+  begins head old now (Err e) p k w = λ t parts h. made_stopped g (settings_of old) t [] parts (made_sure p h) (part_as g (λ x. x) (λ _. tt) (λ _. tt) (λ _. sym (append-nil head)) w)
 
   -- what is too long is refused
-  pub at_too_long : (m : Bool) (old : Serializer W C) (n : ℕ) (t : Bor (List ℕ)) → IsReason t.now → 2 ^ 32 ≤ n → (all : List (Option Data)) → AreMany pairs n all → WritesTree g {A = Unit {0}} m (tree_of (settings_of old) (open_of pairs all)) (sink_of old) (sink_of old) (Err (InvalidDataModel t))
-  at_too_long m old n t is le all e = part_refused g m _ _ (sink_of old) t is (λ h. let k = (open_can pairs (settings_of old) n all e h).0 in omega (arith, k, le))
+  pub begins_not : {P : Type 0} (head : List ℕ) (old : Serializer W C) (e : Error) → IsTooLong e → ¬ P → Begins g P head old old (Err e)
+  begins_not head old e is not = λ t parts h. part_refused g g.takes_memory (HasTree t) (spell t) (sink_of old) e is (λ a. not (h.can a).0)
 
-  -- the head of what is written at once, or its failure
-  pub begins : (old now : Serializer W C) (n : ℕ) (r : Result (Unit {0}) Error) → n < 2 ^ 32 → Keeps g old now → WritesPart g g.takes_memory (Unit {0}) (head_at pairs n) (sink_of old) (sink_of now) r → Begins g pairs n old now r
-  begins old now n (Ok u) lt k w = λ all e. at_opened old now n u lt k w (length all) all e refl
-  begins old now n (Err x) lt k w = λ all e. at_not_opened old now n x lt w all e
+  -- what went before, and then one part
+  with_next : (m : Bool) (d : Settings → Option Data) {now : Serializer W C} (now' : Serializer W C) {r : Result (Unit {0}) Error} {old : Serializer W C} {t : Option Msg} {rest : List (Option Data)} (h : IsWriting g old t (d (settings_of old) ∷ rest) now)
+      → WritesTree g m (tree_of (settings_of now) (d (settings_of now))) (sink_of now) (sink_of now') r
+      → WritesPart g m (AllByRecursion (Has (settings_of old)) (h.front ++ d (settings_of old) ∷ [])) (h.head ++ flat_map (spelling (settings_of old)) (h.front ++ d (settings_of old) ∷ [])) (sink_of old) (sink_of now') r
+  with_next m d {now} now' {r} {old} {t} {rest} h w =
+      let s = settings_of old in
+      let w' : WritesPart g m (Has s (d s)) (spelling s (d s)) (sink_of now) (sink_of now') r = subst (λ z. WritesPart g m (Has z (d z)) (spelling z (d z)) (sink_of now) (sink_of now') r) h.keeps.settings w in
+      part_as g (λ x. x) (λ p. all_append (Has s) h.front (d s ∷ []) p.0 (p.1, tt)) (λ a. (all_front (Has s) h.front (d s ∷ []) a, (all_back (Has s) h.front (d s ∷ []) a).0)) (λ _. flat_map_more (spelling s) h.head h.front (d s)) (part_then g (part_any g m (tt {0}) h.writes) w')
+
+  -- a part was written, or failed
+  pub goes : (m : Settings → Bool) (d : Settings → Option Data) (now now' : Serializer W C) (r : Result (Unit {0}) Error) → Keeps g now now'
+      → WritesTree g (m (settings_of now)) (tree_of (settings_of now) (d (settings_of now))) (sink_of now) (sink_of now') r
+      → Goes g (IsWriting g) (λ n. n) m (λ s. d s ∷ []) now now' r
+  goes m d now now' (Ok u) k w old t rest h = record {
+    head = h.head;
+    front = h.front ++ d (settings_of old) ∷ [];
+    made = made_of (sym (append_assoc h.front (d (settings_of old) ∷ []) rest)) h.made;
+    keeps = keeps_then g h.keeps k;
+    writes = with_next true d now' h (part_any g true (tt {0}) w);
+  }
+  goes m d now now' (Err e) k w old t rest h =
+      made_stopped g (settings_of old) t (h.front ++ d (settings_of old) ∷ []) rest (made_of (sym (append_assoc h.front (d (settings_of old) ∷ []) rest)) h.made)
+      (with_next (m (settings_of old)) d now' h (subst (λ z. WritesTree g {A = Unit {0}} (m z) (tree_of (settings_of now) (d (settings_of now))) (sink_of now) (sink_of now') (Err e)) h.keeps.settings w))
+
+  -- nothing is to come
+  pub closes : (m : Bool) (old : Serializer W C) (t : Option Msg) (now : Serializer W C) (u : Unit {0}) → IsWriting g old t [] now → WritesTree g m t (sink_of old) (sink_of now) (Ok u)
+  closes m old t now u h = made_ended g (settings_of old) t (made_of (append-nil h.front) h.made) (part_any g m u h.writes)
 
   -- the same parts are to come
-  pub still_written : (old : Serializer W C) (all rest some : List (Option Data)) (now : Serializer W C) → some ≡ rest → IsWritten g pairs old all some now → IsWritten g pairs old all rest now
-  still_written old all rest some now e h = subst (λ l. IsWritten g pairs old all l now) e h
+  pub still_written : {old : Serializer W C} {t : Option Msg} {some rest : List (Option Data)} {now : Serializer W C} → some ≡ rest → IsWriting g old t some now → IsWriting g old t rest now
+  still_written {old} {t} {some} {rest} {now} e h = subst (λ l. IsWriting g old t l now) e h
 
-  -- a part was written behind it
+  -- of several parts, as a loop has them: one more was written, one failed, and none is left
   pub next_ok : (d : Settings → Option Data) {m : Bool} (now now' : Serializer W C) (u : Unit {0}) → Keeps g now now' → WritesTree g m (tree_of (settings_of now) (d (settings_of now))) (sink_of now) (sink_of now') (Ok u)
-      → (old : Serializer W C) (all rest some : List (Option Data)) → some ≡ d (settings_of old) ∷ rest → IsWritten g pairs old all some now → IsWritten g pairs old all rest now'
-  next_ok d {m} now now' u k w old all rest some e h =
-      at_goes_ok d (length (d (settings_of old) ∷ rest)) (length rest) now now' u (omega arith) k (part_memory g w) old all rest (still_written old all _ some now e h)
+      → (old : Serializer W C) (t : Option Msg) (rest some : List (Option Data)) → some ≡ d (settings_of old) ∷ rest → IsWriting g old t some now → IsWriting g old t rest now'
+  next_ok d {m} now now' u k w old t rest some e h = goes (λ _. m) d now now' (Ok u) k w old t rest (still_written e h)
 
-  -- a part failed
-  pub next_err : (d : Settings → Option Data) {m : Bool} (now now' : Serializer W C) (x : Error) → WritesTree g {A = Unit {0}} m (tree_of (settings_of now) (d (settings_of now))) (sink_of now) (sink_of now') (Err x)
-      → (old : Serializer W C) (all rest some : List (Option Data)) → some ≡ d (settings_of old) ∷ rest → IsWritten g pairs old all some now → WritesTree g {A = Unit {0}} m (tree_of (settings_of old) (open_of pairs all)) (sink_of old) (sink_of now') (Err x)
-  next_err d {m} now now' x w old all rest some e h =
-      at_goes_err m d (length (d (settings_of old) ∷ rest)) now now' x w old all rest (still_written old all _ some now e h)
+  pub next_err : (m : Settings → Bool) (d : Settings → Option Data) (now now' : Serializer W C) (x : Error) → Keeps g now now' → WritesTree g {A = Unit {0}} (m (settings_of now)) (tree_of (settings_of now) (d (settings_of now))) (sink_of now) (sink_of now') (Err x)
+      → (old : Serializer W C) (t : Option Msg) (rest some : List (Option Data)) → some ≡ d (settings_of old) ∷ rest → IsWriting g old t some now → WritesTree g {A = Unit {0}} (m (settings_of old)) t (sink_of old) (sink_of now') (Err x)
+  next_err m d now now' x k w old t rest some e h = goes m d now now' (Err x) k w old t rest (still_written e h)
 
-  -- the last part was written
-  pub none_next : {m : Bool} (old : Serializer W C) (all rest : List (Option Data)) (now : Serializer W C) (u : Unit {0}) → rest ≡ [] → IsWritten g pairs old all rest now → WritesTree g m (tree_of (settings_of old) (open_of pairs all)) (sink_of old) (sink_of now) (Ok u)
-  none_next {m} old all rest now u e h = at_closes m old all 0 now u (still_written old all [] rest now e h)
+  pub none_next : {m : Bool} (old : Serializer W C) (t : Option Msg) (rest : List (Option Data)) (now : Serializer W C) (u : Unit {0}) → rest ≡ [] → IsWriting g old t rest now → WritesTree g m t (sink_of old) (sink_of now) (Ok u)
+  none_next {m} old t rest now u e h = closes m old t now u (still_written e h)
+
+  -- all that was to come was written, or some of it failed
+  pub all_written : (m : Settings → Bool) (parts : Settings → List (Option Data)) (now now' : Serializer W C) (r : Result (Unit {0}) Error) → Goes g (IsWriting g) (λ n. n) m parts now now' r
+      → (old : Serializer W C) (t : Option Msg) → IsWriting g old t (parts (settings_of old)) now → WritesTree g (m (settings_of old)) t (sink_of old) (sink_of now') r
+  all_written m parts now now' (Ok u) w old t h = closes (m (settings_of old)) old t now' u (w old t [] (still_written (sym (append-nil (parts (settings_of old)))) h))
+  all_written m parts now now' (Err e) w old t h = w old t [] (still_written (sym (append-nil (parts (settings_of old)))) h)
+
+  -- nothing was opened
+  pub unopened : {A X : Type 0} (P : Type 0) (may : X → Type 0) (value : X → Option Data) (old last : Serializer W C) (all : X) (r : Result A Error) (e : Error) → r ≡ Err e → OnErr r (FailsToOpen g P may value old r last) → may all
+      → WritesTree g {A = Unit {0}} g.takes_memory (tree_of (settings_of old) (value all)) (sink_of old) (sink_of last) (Err e)
+  unopened {A} {X} P may value old last all r e is h l =
+      let f : FailsToOpen g {A = A} P may value old (Err e) last = subst (λ k. OnErr k (FailsToOpen g P may value old k last)) is h in
+      f.writes all l
+
+-- what can't be refused isn't
+pub never_refused : {S : Type 0} (m : Bool) (n k : ℕ) (old new : S) (e : Error) → FailsBy m (Unit {0}) n k e → StaysAtRefusal {A = Unit {0}} old new (Err e)
+never_refused m n k old new (InvalidValueWrite e) h = tt
+never_refused m n k old new UnknownLength h = tt
+never_refused m n k old new (InvalidDataModel t) h = absurd (h.1 tt)
+never_refused m n k old new DepthLimitExceeded h = tt
+never_refused m n k old new (Syntax t) h = tt
+never_refused m n k old new OutOfMemory h = tt
+
+pub never_refused_by : {S : Type 0} (m : Bool) (n k : ℕ) (old new : S) (r : Result (Unit {0}) Error) → IfErr r (FailsBy m (Unit {0}) n k) → StaysAtRefusal old new r
+never_refused_by m n k old new (Ok u) h = tt
+never_refused_by m n k old new (Err e) h = never_refused m n k old new e h
+
+-- what is refused for its length leaves all as it was
+pub stays_refused : {S : Type 0} (old : S) (e : Error) → IsTooLong e → StaysAtRefusal {A = Unit {0}} old old (Err e)
+stays_refused old (InvalidDataModel t) is = (is, refl)
+stays_refused old (InvalidValueWrite e) is = absurd is
+stays_refused old UnknownLength is = absurd is
+stays_refused old DepthLimitExceeded is = absurd is
+stays_refused old (Syntax t) is = absurd is
+stays_refused old OutOfMemory is = absurd is

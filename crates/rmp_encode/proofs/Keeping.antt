@@ -1,6 +1,5 @@
 -- What a list or a map of unknown length has kept, step by step.
-use Rattle.std.proofs.Common.{◌≡◌, ℕ, ◌+◌, ◌<◌, ◌≤◌, ◌^◌, List, [], ◌∷◌, ◌++◌, length, length-append, true, Option, refl, sym, ◌∙◌, ap, subst, arith, append_assoc, append-nil}
-use Rattle.std.specs.Borrow.{Bor}
+use Rattle.std.proofs.Common.{inl, ◌≡◌, ℕ, ◌+◌, ◌<◌, ◌≤◌, ◌^◌, List, [], ◌∷◌, ◌++◌, length, length-append, true, Option, refl, sym, ◌∙◌, ap, subst, arith, append_assoc, append-nil}
 use Rattle.std.specs.Prelude.{Result, Err, Bool, false}
 use Rattle.std.specs.declared.vec.Vec.{Vec}
 use Rattle.std.specs.declared.alloc.Global.{Global}
@@ -8,20 +7,21 @@ use Rattle.std.specs.List.{flat_map, AllByRecursion}
 use Rattle.std.proofs.lemmas.Grind.{flat_map-append}
 use Rattle.rmp_encode.specs.declared.settings.Settings.{Settings}
 use Rattle.rmp_wire.specs.declared.error.ValueWriteError.TheVariants as wire
+use Rattle.rmp_wire.specs.Msg.{Msg}
 use Rattle.rmp_wire.specs.declared.sink.Sink.{Ghosts}
 use Rattle.rmp_encode.specs.declared.serializer.Serializer.{Serializer}
 use Rattle.rmp_encode.specs.declared.error.Error.{Error}
 use Rattle.rmp_encode.specs.declared.error.Error.TheVariants.{InvalidValueWrite, UnknownLength, InvalidDataModel, DepthLimitExceeded, Syntax, OutOfMemory}
 use Rattle.rmp_encode.specs.Data.{Data}
-use Rattle.rmp_encode.specs.Errors.{IsReason}
+use Rattle.rmp_encode.specs.Errors.{IsTooLong}
 use Rattle.rmp_encode.specs.Sizes.{most, size_at}
-use Rattle.rmp_encode.specs.Trees.{Has, spelling, tree_of}
+use Rattle.rmp_encode.specs.Trees.{Has, HasTree, spell, spelling, tree_of}
 use Rattle.rmp_encode.specs.Ser.{sink_of, settings_of}
 use Rattle.rmp_encode.specs.Writes.{FailsBy, WritesPart, WritesTree}
 use Rattle.rmp_encode.specs.Going.{AreMany, head_at, open_of, IsKeepingAt}
 use Rattle.rmp_encode.proofs.Parts.{part_nothing, part_as}
-use Rattle.rmp_encode.proofs.Lists.{open_may, open_can, open_text}
-use Rattle.rmp_encode.proofs.Going.{all_append, all_back}
+use Rattle.rmp_encode.proofs.Lists.{made, open_can}
+use Rattle.rmp_encode.proofs.Going.{all_append, all_back, made_as, made_ended, made_sure}
 
 -- a cause where the buffer has no faults
 pub cause_of : (P Q : Type 0) (n : ℕ) (e : Error) → (Q → P) → FailsBy true P 0 0 e → FailsBy true Q n n e
@@ -33,6 +33,14 @@ cause_of P Q n (InvalidDataModel t) f h = (h.0, λ q. h.1 (f q), refl)
 cause_of P Q n DepthLimitExceeded f h = h
 cause_of P Q n (Syntax t) f h = (λ q. h.0 (f q), refl)
 cause_of P Q n OutOfMemory f h = (refl, refl)
+
+refusal : (e : Error) → IsTooLong e → FailsBy true ⊥ 0 0 e
+refusal (InvalidDataModel t) is = (inl is, λ x. x, refl)
+refusal (InvalidValueWrite e) is = absurd is
+refusal UnknownLength is = absurd is
+refusal DepthLimitExceeded is = absurd is
+refusal (Syntax t) is = absurd is
+refusal OutOfMemory is = absurd is
 
 -- the number in the head
 size_is : (pairs : Bool) (n : ℕ) (all : List (Option Data)) → AreMany pairs n all → size_at pairs (length all) ≡ n
@@ -53,12 +61,13 @@ some_most false = omega arith
 
 module _ (pairs : Bool) {W C : Type 0} (g : Ghosts W) where
   -- nothing is kept yet
-  pub keeping_opened : (old : Serializer W C) (b : Serializer (Vec ℕ Global) C) → settings_of b ≡ settings_of old → (sink_of b).items ≡ [] → (n : ℕ) (all : List (Option Data)) → AreMany pairs n all → IsKeepingAt g pairs old all all 0 b old
+  pub keeping_opened : (old : Serializer W C) (b : Serializer (Vec ℕ Global) C) → settings_of b ≡ settings_of old → (sink_of b).items ≡ []
+      → (n : ℕ) (all : List (Option Data)) → AreMany pairs n all → IsKeepingAt g pairs old (tree_of (settings_of old) (open_of pairs all)) all 0 b old
   keeping_opened old b st e n all many = record {
     size = n;
-    many = many;
     front = [];
-    split = refl;
+    tree = refl;
+    many = many;
     count_is = refl;
     fits = some_most pairs;
     same = refl;
@@ -68,40 +77,47 @@ module _ (pairs : Bool) {W C : Type 0} (g : Ghosts W) where
   }
 
   -- nothing reached the sink
-  pub kept_back : (old last : Serializer W C) (all : List (Option Data)) (P : Type 0) (e : Error) → last ≡ old → (Has (settings_of old) (open_of pairs all) → P) → FailsBy true P 0 0 e → WritesTree g {A = Unit {0}} true (tree_of (settings_of old) (open_of pairs all)) (sink_of old) (sink_of last) (Err e)
-  kept_back old last all P e same f h =
-      subst (λ l. WritesTree g {A = Unit {0}} true (tree_of (settings_of old) (open_of pairs all)) (sink_of old) (sink_of l) (Err e)) (sym same)
-      (part_nothing g true _ _ (sink_of old) e (cause_of P (Has (settings_of old) (open_of pairs all)) _ e f h))
+  kept_back : (m : Bool) (old last : Serializer W C) (t : Option Msg) (P : Type 0) (e : Error) → last ≡ old → (HasTree t → P) → m ≡ true → FailsBy true P 0 0 e
+      → WritesTree g {A = Unit {0}} m t (sink_of old) (sink_of last) (Err e)
+  kept_back m old last t P e same f is h =
+      subst (λ n. WritesTree g {A = Unit {0}} n t (sink_of old) (sink_of last) (Err e)) (sym is)
+      (subst (λ l. WritesTree g {A = Unit {0}} true t (sink_of old) (sink_of l) (Err e)) (sym same)
+      (part_nothing g true (HasTree t) (spell t) (sink_of old) e (cause_of P (HasTree t) _ e f h)))
+
+  -- what fits, of a tree that is made of kept parts
+  can_keep : {old : Serializer W C} {t : Option Msg} {rest : List (Option Data)} {count : ℕ} {b : Serializer (Vec ℕ Global) C} {now : Serializer W C} (h : IsKeepingAt g pairs old t rest count b now)
+      → HasTree t → (h.size < 2 ^ 32) × AllByRecursion (Has (settings_of old)) (h.front ++ rest)
+  can_keep {old} {t} {rest} h k = open_can pairs (settings_of old) h.size (h.front ++ rest) h.many (subst HasTree h.tree k)
 
   -- the part is refused, since no head has room for one more
-  pub too_many : (x : Option Data) (count : ℕ) (b : Serializer (Vec ℕ Global) C) (now : Serializer W C) (t : Bor (List ℕ)) → IsReason t.now → most pairs ≤ count
-      → (old : Serializer W C) (all rest : List (Option Data)) → IsKeepingAt g pairs old all (x ∷ rest) count b now → WritesTree g {A = Unit {0}} true (tree_of (settings_of old) (open_of pairs all)) (sink_of old) (sink_of now) (Err (InvalidDataModel t))
-  too_many x count b now t is full old all rest h =
-      kept_back old now all ⊥ (InvalidDataModel t) h.same
-      (λ k. let lt = (open_can pairs (settings_of old) h.size all h.many k).0 in let e : length all ≡ length h.front + length (x ∷ rest) = ap length h.split ∙ length-append h.front (x ∷ rest) in size_past pairs h.size count all h.many (omega (arith, e, h.count_is)) full lt)
-      (is, λ x. x, refl)
+  pub too_many : (m : Bool) (x : Option Data) (count : ℕ) (b : Serializer (Vec ℕ Global) C) (now : Serializer W C) (e : Error) → IsTooLong e → m ≡ true → most pairs ≤ count
+      → (old : Serializer W C) (t : Option Msg) (rest : List (Option Data)) → IsKeepingAt g pairs old t (x ∷ rest) count b now → WritesTree g {A = Unit {0}} m t (sink_of old) (sink_of now) (Err e)
+  too_many m x count b now e is taken full old t rest h =
+      kept_back m old now t ⊥ e h.same
+      (λ k. let lt = (can_keep h k).0 in let n = length-append h.front (x ∷ rest) in size_past pairs h.size count (h.front ++ x ∷ rest) h.many (omega (arith, n, h.count_is)) full lt)
+      taken (refusal e is)
 
   -- the part failed
-  pub keep_err : (d : Settings → Option Data) (count : ℕ) (b : Serializer (Vec ℕ Global) C) (now : Serializer W C) (e : Error)
-      → FailsBy true (Has (settings_of b) (d (settings_of b))) 0 0 e
-      → (old : Serializer W C) (all rest : List (Option Data)) → IsKeepingAt g pairs old all (d (settings_of old) ∷ rest) count b now → WritesTree g {A = Unit {0}} true (tree_of (settings_of old) (open_of pairs all)) (sink_of old) (sink_of now) (Err e)
-  keep_err d count b now e w old all rest h =
+  pub keep_err : (m : Bool) (d : Settings → Option Data) (count : ℕ) (b : Serializer (Vec ℕ Global) C) (now : Serializer W C) (e : Error) → m ≡ true → FailsBy true (Has (settings_of b) (d (settings_of b))) 0 0 e
+      → (old : Serializer W C) (t : Option Msg) (rest : List (Option Data)) → IsKeepingAt g pairs old t (d (settings_of old) ∷ rest) count b now → WritesTree g {A = Unit {0}} m t (sink_of old) (sink_of now) (Err e)
+  keep_err m d count b now e taken w old t rest h =
       let s = settings_of old in
-      kept_back old now all (Has s (d s)) e h.same (λ k. (all_back (Has s) h.front (d s ∷ rest) (subst (AllByRecursion (Has s)) h.split (open_can pairs s h.size all h.many k).1)).0) (subst (λ t. FailsBy true (Has t (d t)) 0 0 e) h.settings w)
+      kept_back m old now t (Has s (d s)) e h.same (λ k. (all_back (Has s) h.front (d s ∷ rest) (can_keep h k).1).0) taken (subst (λ z. FailsBy true (Has z (d z)) 0 0 e) h.settings w)
 
   -- the part was kept
   pub keep_ok : (d : Settings → Option Data) (count count' : ℕ) (b b' : Serializer (Vec ℕ Global) C) (now : Serializer W C) → count' ≡ count + 1 → count' ≤ most pairs → settings_of b' ≡ settings_of b
       → Has (settings_of b) (d (settings_of b)) → (sink_of b').items ≡ (sink_of b).items ++ spelling (settings_of b) (d (settings_of b))
-      → (old : Serializer W C) (all rest : List (Option Data)) → IsKeepingAt g pairs old all (d (settings_of old) ∷ rest) count b now → IsKeepingAt g pairs old all rest count' b' now
-  keep_ok d count count' b b' now more lt st has bytes old all rest h =
+      → (old : Serializer W C) (t : Option Msg) (rest : List (Option Data)) → IsKeepingAt g pairs old t (d (settings_of old) ∷ rest) count b now → IsKeepingAt g pairs old t rest count' b' now
+  keep_ok d count count' b b' now more lt st has bytes old t rest h =
       let s = settings_of old in
-      let has' : Has s (d s) = subst (λ t. Has t (d t)) h.settings has in
-      let bytes' : (sink_of b').items ≡ (sink_of b).items ++ spelling s (d s) = subst (λ t. (sink_of b').items ≡ (sink_of b).items ++ spelling t (d t)) h.settings bytes in
+      let has' : Has s (d s) = subst (λ z. Has z (d z)) h.settings has in
+      let bytes' : (sink_of b').items ≡ (sink_of b).items ++ spelling s (d s) = subst (λ z. (sink_of b').items ≡ (sink_of b).items ++ spelling z (d z)) h.settings bytes in
+      let all : h.front ++ d s ∷ rest ≡ (h.front ++ d s ∷ []) ++ rest = sym (append_assoc h.front (d s ∷ []) rest) in
       record {
         size = h.size;
-        many = h.many;
         front = h.front ++ d s ∷ [];
-        split = h.split ∙ sym (append_assoc h.front (d s ∷ []) rest);
+        tree = h.tree ∙ ap (λ l. tree_of s (open_of pairs l)) all;
+        many = subst (AreMany pairs h.size) all h.many;
         count_is = omega (arith, more, h.count_is, length-append h.front (d s ∷ []));
         fits = lt;
         same = h.same;
@@ -112,12 +128,11 @@ module _ (pairs : Bool) {W C : Type 0} (g : Ghosts W) where
 
   -- the head and the buffer were written
   pub keeping_ends : {P : Type 0} (p : P) (count : ℕ) (b : Serializer (Vec ℕ Global) C) (now : Serializer W C) {last : W} {r : Result (Unit {0}) Error} → WritesPart g g.takes_memory P (head_at pairs (size_at pairs count) ++ (sink_of b).items) (sink_of now) last r
-      → (old : Serializer W C) (all : List (Option Data)) → IsKeepingAt g pairs old all [] count b now → WritesTree g g.takes_memory (tree_of (settings_of old) (open_of pairs all)) (sink_of old) last r
-  keeping_ends {P} p count b now {last} {r} w old all h =
+      → (old : Serializer W C) (t : Option Msg) → IsKeepingAt g pairs old t [] count b now → WritesTree g g.takes_memory t (sink_of old) last r
+  keeping_ends {P} p count b now {last} {r} w old t h =
       let s = settings_of old in
-      let is : all ≡ h.front = h.split ∙ append-nil h.front in
-      let n : length all ≡ count = ap length is ∙ sym h.count_is in
-      let size : size_at pairs count ≡ h.size = ap (size_at pairs) (sym n) ∙ size_is pairs h.size all h.many in
+      let many : AreMany pairs h.size h.front = subst (AreMany pairs h.size) (append-nil h.front) h.many in
+      let size : size_at pairs count ≡ h.size = ap (size_at pairs) h.count_is ∙ size_is pairs h.size h.front many in
       let w' : WritesPart g g.takes_memory P (head_at pairs (size_at pairs count) ++ (sink_of b).items) (sink_of old) last r = subst (λ x. WritesPart g g.takes_memory P (head_at pairs (size_at pairs count) ++ (sink_of b).items) (sink_of x) last r) h.same w in
-      part_as g (λ t. t) (λ _. open_may pairs s h.size all h.many (size_fits pairs h.size count all h.many n h.fits) (subst (AllByRecursion (Has s)) (sym is) h.have)) (λ _. p)
-      (λ p. ap (λ k. head_at pairs k ++ (sink_of b).items) size ∙ ap (λ l. head_at pairs h.size ++ l) (h.bytes ∙ ap (flat_map (spelling s)) (sym is)) ∙ open_text pairs s h.size all h.many p) w'
+      let is_made = made_as (h.tree ∙ ap (λ l. tree_of s (open_of pairs l)) (append-nil h.front)) (made_sure (size_fits pairs h.size count h.front many (sym h.count_is) h.fits) (made pairs s h.size h.front many)) in
+      made_ended g s t is_made (part_as g (λ x. x) (λ _. h.have) (λ _. p) (λ _. ap (λ k. head_at pairs k ++ (sink_of b).items) size ∙ ap (λ l. head_at pairs h.size ++ l) h.bytes) w')

@@ -2,7 +2,6 @@
 use Rattle.std.proofs.Common.{◌≡◌, ℕ, ◌<◌, ◌≤◌, ◌^◌, List, [], ◌∷◌, ◌++◌, ap, length, Bool, Some, suc, sym, ◌∙◌, subst, arith, get_or}
 use Rattle.std.specs.Prelude.{Result, Ok, Err, ℤ, pos, negsuc, FitsSigned}
 use Rattle.std.specs.Int.{w8, w64}
-use Rattle.std.specs.Borrow.{Bor}
 use Rattle.std.specs.Io.KnownBytes.{Appends}
 use Rattle.std.proofs.lemmas.Int.{to_z-of_z}
 use mir.Val.{to_z, of_z}
@@ -21,8 +20,7 @@ use Rattle.rmp_wire.proofs.Writing.{puts_both, puts_then_stop}
 use Rattle.rmp_wire.specs.Faults.{past_first}
 use Rattle.rmp_encode.specs.declared.error.Error.{Error}
 use Rattle.rmp_encode.specs.declared.error.Error.TheVariants as errors
-use Rattle.rmp_encode.specs.declared.error.Error.TheVariants.{InvalidDataModel}
-use Rattle.rmp_encode.specs.Errors.{IsReason, error_of, answer_of}
+use Rattle.rmp_encode.specs.Errors.{IsTooLong, error_of, answer_of}
 use Rattle.rmp_encode.specs.Trees.{HasTree, spell, ext_head}
 use Rattle.rmp_encode.specs.Writes.{FailsBy, HasBegun, NeverMarker, NoneAtMarker, WritesBehind, WritesPart, WritesTree}
 use Rattle.rmp_encode.proofs.Parts.{part_as, part_done, part_failed, part_refused}
@@ -97,13 +95,13 @@ module _ {W : Type 0} (g : Ghosts W) where
   wire_tree m {old} {new} r {answer} is fits w = subst (WritesTree g g.takes_memory (Some m) old new) (sym is) (wire_part (Fits m) (canon m) r fits w)
 
   -- a text and bytes that are too long
-  pub text_too_long : (m : Bool) (s : List ℕ) (w : W) (t : Bor (List ℕ)) → IsReason t.now → 2 ^ 32 ≤ length s → WritesTree g {A = Unit {0}} m (Some (text s)) w w (Err (InvalidDataModel t))
+  pub text_too_long : (m : Bool) (s : List ℕ) (w : W) (e : Error) → IsTooLong e → 2 ^ 32 ≤ length s → WritesTree g {A = Unit {0}} m (Some (text s)) w w (Err e)
   unfolding HasTree fits_head
-  text_too_long m s w t is le = part_refused g m (HasTree (Some (text s))) (spell (Some (text s))) w t is (λ h. let k = h.0 in omega (arith, k, le))
+  text_too_long m s w e is le = part_refused g m (HasTree (Some (text s))) (spell (Some (text s))) w e is (λ h. let k = h.0 in omega (arith, k, le))
 
-  pub bin_too_long : (m : Bool) (s : List ℕ) (w : W) (t : Bor (List ℕ)) → IsReason t.now → 2 ^ 32 ≤ length s → WritesTree g {A = Unit {0}} m (Some (bin s)) w w (Err (InvalidDataModel t))
+  pub bin_too_long : (m : Bool) (s : List ℕ) (w : W) (e : Error) → IsTooLong e → 2 ^ 32 ≤ length s → WritesTree g {A = Unit {0}} m (Some (bin s)) w w (Err e)
   unfolding HasTree fits_head
-  bin_too_long m s w t is le = part_refused g m (HasTree (Some (bin s))) (spell (Some (bin s))) w t is (λ h. let k = h.0 in omega (arith, k, le))
+  bin_too_long m s w e is le = part_refused g m (HasTree (Some (bin s))) (spell (Some (bin s))) w e is (λ h. let k = h.0 in omega (arith, k, le))
 
 -- a signed number of up to 64 bits fits
 pub signed_fits : (z : ℤ) → FitsSigned w64 z → Fits (whole z)
@@ -136,6 +134,6 @@ module _ {W : Type 0} (g : Ghosts W) where
   unfolding HasTree spell fits_head
   ext_tree p tag s n e lt f b w = part_as g (λ t. t) (λ _. ((subst (λ k. k < 2 ^ 32) e lt, f), b)) (λ _. p) (λ _. ap (λ k. ext_head k tag ++ s) e) w
 
-  pub ext_too_long : (m : Bool) (tag : ℤ) (s : List ℕ) (w : W) (t : Bor (List ℕ)) → IsReason t.now → 2 ^ 32 ≤ length s → WritesTree g {A = Unit {0}} m (Some (extension tag s)) w w (Err (InvalidDataModel t))
+  pub ext_too_long : (m : Bool) (tag : ℤ) (s : List ℕ) (w : W) (e : Error) → IsTooLong e → 2 ^ 32 ≤ length s → WritesTree g {A = Unit {0}} m (Some (extension tag s)) w w (Err e)
   unfolding HasTree fits_head
-  ext_too_long m tag s w t is le = part_refused g m (HasTree (Some (extension tag s))) (spell (Some (extension tag s))) w t is (λ h. let k = h.0.0 in omega (arith, k, le))
+  ext_too_long m tag s w e is le = part_refused g m (HasTree (Some (extension tag s))) (spell (Some (extension tag s))) w e is (λ h. let k = h.0.0 in omega (arith, k, le))

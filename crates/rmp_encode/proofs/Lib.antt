@@ -1,5 +1,5 @@
 pub mod Alike
-pub mod Filling
+pub mod Fields
 pub mod Going
 pub mod Keeping
 pub mod Leaves
@@ -10,3 +10,5 @@ pub mod Packing
 pub mod Parts
 pub mod Spelled
 pub mod TupleSteps
+pub mod Variants
+pub mod Wrapped

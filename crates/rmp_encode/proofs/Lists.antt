@@ -1,5 +1,5 @@
 -- The tree of a list or a map of values, from the trees of the values.
-use Rattle.std.proofs.Common.{◌≡◌, ℕ, zero, suc, ◌+◌, ◌<◌, ◌^◌, List, [], ◌∷◌, ◌++◌, length, Bool, true, false, Option, None, Some, refl, sym, ◌∙◌, ap, subst, arith}
+use Rattle.std.proofs.Common.{◌≡◌, ℕ, zero, suc, ◌+◌, ◌<◌, ◌≤◌, ◌^◌, List, [], ◌∷◌, ◌++◌, length, Bool, true, false, Option, None, Some, refl, sym, ◌∙◌, ap, subst, arith}
 use Rattle.std.specs.List.{flat_map, AllByRecursion}
 use Rattle.std.specs.Option.{option_map}
 use Rattle.rmp_wire.proofs.Writing.{head_some}
@@ -9,7 +9,7 @@ use Rattle.rmp_wire.specs.Msg.{count, count_pairs}
 use Rattle.rmp_wire.specs.Spelling.{FitsAll, FitsPairs, canon, canon_all, canon_pairs}
 use Rattle.rmp_encode.specs.declared.settings.Settings.{Settings}
 use Rattle.rmp_encode.specs.Data.{Data, Parts, part, sequence, Entries, entry, mapping, lower, lower_parts, lower_entries}
-use Rattle.rmp_encode.specs.Going.{AreMany, head_at, open_of}
+use Rattle.rmp_encode.specs.Going.{AreMany, head_at, open_of, IsMadeOf}
 use Rattle.rmp_encode.specs.Trees.{Has, HasTree, array_head, map_head, byte_of, parts_of, entries_of, in_turn, sequence_of, mapping_of, spell, spelling, tree_of}
 
 -- what the data of a list say of its parts
@@ -111,6 +111,21 @@ pub open_text : (pairs : Bool) (s : Settings) (n : ℕ) (ds : List (Option Data)
 unfolding open_of mapping_of head_at
 open_text true s n ds e h = map_text_at s n ds (entries_of ds) (tells_pairs s n ds e) h
 open_text false s n ds e h = ap (λ k. array_head k ++ flat_map (spelling s) ds) (sym e) ∙ list_text s ds h
+
+-- so it is made of its head and its parts
+pub made : (pairs : Bool) (s : Settings) (n : ℕ) (ds : List (Option Data)) → AreMany pairs n ds → IsMadeOf s (tree_of s (open_of pairs ds)) (n < 2 ^ 32) (head_at pairs n) ds
+made pairs s n ds e = record { may = open_may pairs s n ds e; can = open_can pairs s n ds e; text = open_text pairs s n ds e }
+
+pub made_list : (s : Settings) (n : ℕ) (ds : List (Option Data)) → length ds ≡ n → IsMadeOf s (tree_of s (sequence_of ds)) (n < 2 ^ 32) (head_at false n) ds
+unfolding open_of
+made_list s n ds e = made false s n ds e
+
+pub made_map : (s : Settings) (n : ℕ) (ds : List (Option Data)) → length ds ≡ n + n → IsMadeOf s (tree_of s (mapping_of ds)) (n < 2 ^ 32) (head_at true n) ds
+unfolding open_of
+made_map s n ds e = made true s n ds e
+
+pub not_less : {n m : ℕ} → ¬ (n < m) → m ≤ n
+not_less {n} {m} h = omega (arith, h)
 
 -- a head has a first byte
 pub head_at_some : (pairs : Bool) (n : ℕ) → 0 < length (head_at pairs n)

@@ -1,15 +1,15 @@
 -- How writes of parts join.
-use Rattle.std.proofs.Common.{◌≡◌, ℕ, List, [], ◌++◌, length-append, Bool, true, false, Option, refl, sym, ◌∙◌, ap, subst, append_assoc, arith}
-use Rattle.std.specs.Borrow.{Bor}
+use Rattle.std.proofs.Common.{inl, ◌≡◌, ℕ, zero, suc, List, [], ◌∷◌, ◌++◌, get_or, length-append, Bool, true, false, Option, refl, sym, ◌∙◌, ap, subst, append_assoc, arith}
 use Rattle.std.specs.Prelude.{Result, Ok, Err, IsTrue, ◌||◌}
 use Rattle.std.specs.Io.KnownBytes.{Appends}
 use Rattle.std.proofs.KnownBytes.{Appends-trans, Appends-nil}
 use Rattle.rmp_encode.specs.declared.error.Error.{Error}
 use Rattle.rmp_encode.specs.declared.error.Error.TheVariants.{InvalidValueWrite, UnknownLength, InvalidDataModel, DepthLimitExceeded, Syntax, OutOfMemory}
-use Rattle.rmp_encode.specs.Errors.{IsReason}
+use Rattle.rmp_encode.specs.Errors.{IsTooLong}
 use Rattle.rmp_wire.specs.declared.error.ValueWriteError.TheVariants as wire
 use Rattle.rmp_wire.specs.declared.sink.Sink.{Ghosts}
 use Rattle.rmp_encode.specs.declared.settings.Settings.{Settings}
+use Rattle.rmp_encode.specs.Sizes.{one_of}
 use Rattle.rmp_encode.specs.Writes.{AppendsSome, AppendsPart, FailsBy, HasBegun, WritesPart}
 
 -- a beginning of b, and more after it
@@ -84,6 +84,26 @@ pub or_second : (b c m : Bool) → IsTrue (c || m) → IsTrue ((b || c) || m)
 or_second true c m h = refl
 or_second false c m h = h
 
+or_left : (b c : Bool) → IsTrue b → IsTrue (b || c)
+or_left true c h = h
+or_left false c h = absurd cc
+
+one_at : (bs : List Bool) (i : ℕ) → IsTrue (get_or bs i false) → IsTrue (one_of bs)
+one_at [] i h = absurd cc
+one_at (b ∷ bs) zero h = or_left b (one_of bs) h
+one_at (b ∷ bs) (suc i) h = or_right b (one_of bs) (one_at bs i h)
+
+or_as : (b c m : Bool) → (IsTrue b → IsTrue c) → IsTrue (b || m) → IsTrue (c || m)
+or_as true c m f h = or_left c m (f refl)
+or_as false c m f h = or_right c m h
+
+pub or_one_of : (a m : Bool) (bs : List Bool) (i : ℕ) → IsTrue ((a || get_or bs i false) || m) → IsTrue ((a || one_of bs) || m)
+or_one_of true m bs i h = refl
+or_one_of false m bs i h = or_as (get_or bs i false) (one_of bs) m (one_at bs i) h
+
+pub one_of_or : (m : Bool) (bs : List Bool) (i : ℕ) → IsTrue (get_or bs i false || m) → IsTrue (one_of bs || m)
+one_of_or m bs i h = or_as (get_or bs i false) (one_of bs) m (one_at bs i) h
+
 pub or_given : (b c m : Bool) → b ≡ true → (b || c) || m ≡ true
 or_given b c m e = ap (λ x. (x || c) || m) e
 
@@ -116,8 +136,13 @@ module _ {W : Type 0} (g : Ghosts W) where
   part_stops {m} {P} {Q} {a} b {old} {new} {e} p = part_failed m (P × Q) (a ++ b) old new e (λ k. part_more b (p.part k.0)) p.front (fails_as m m P (P × Q) _ _ e (λ t. t) (λ k. k.0) p.cause)
 
   -- a value that is refused, before a byte is written
-  pub part_refused : {A : Type 0} (m : Bool) (P : Type 0) (a : List ℕ) (w : W) (t : Bor (List ℕ)) → IsReason t.now → ¬ P → WritesPart g {A = A} m P a w w (Err (InvalidDataModel t))
-  part_refused m P a w t is h = part_nothing m P a w (InvalidDataModel t) (is, h, refl)
+  pub part_refused : {A : Type 0} (m : Bool) (P : Type 0) (a : List ℕ) (w : W) (e : Error) → IsTooLong e → ¬ P → WritesPart g {A = A} m P a w w (Err e)
+  part_refused m P a w (InvalidDataModel t) is h = part_nothing m P a w (InvalidDataModel t) (inl is, h, refl)
+  part_refused m P a w (InvalidValueWrite e) is h = absurd is
+  part_refused m P a w UnknownLength is h = absurd is
+  part_refused m P a w DepthLimitExceeded is h = absurd is
+  part_refused m P a w (Syntax t) is h = absurd is
+  part_refused m P a w OutOfMemory is h = absurd is
 
   -- where the serializer rests with the sink that a compound left
   pub rests_at : {A : Type 0} {m : Bool} {P : Type 0} {bs : List ℕ} {old w last : W} {r : Result A Error} → last ≡ w → WritesPart g m P bs old w r → WritesPart g m P bs old last r

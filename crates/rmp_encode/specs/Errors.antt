@@ -1,5 +1,5 @@
--- The errors of writing that come from the wire, and the words of the refusal of a length.
-use Rattle.std.specs.Prelude.{◌≡◌, ℕ, List, codes, Result, Ok, Err}
+-- The errors of writing that come from the wire, and the words of the refusals.
+use Rattle.std.specs.Prelude.{◌≡◌, ◌⊎◌, ℕ, List, codes, Result, Ok, Err}
 use Rattle.rmp_wire.specs.declared.error.ValueWriteError.{ValueWriteError}
 use Rattle.rmp_wire.specs.declared.error.ValueWriteError.TheVariants as wire
 use Rattle.rmp_encode.specs.declared.error.Error.{Error}
@@ -10,9 +10,28 @@ abbrev pub error_of : ValueWriteError → Error
 error_of wire.OutOfMemory = errors.OutOfMemory
 error_of fault = errors.InvalidValueWrite fault
 
--- why a value that isn't refused has no message tree that fits: the words of the error
+-- the words where a length has no head
+abbrev pub IsLength : List ℕ → Type 0
+IsLength t = t ≡ codes "length past 32 bits"
+
+-- the words where a newtype struct has the name that stands for an extension
+abbrev pub IsNoTuple : List ℕ → Type 0
+IsNoTuple t = t ≡ codes "expected tuple"
+
+-- why a value has no message tree that fits: the words of the error
 abbrev pub IsReason : List ℕ → Type 0
-IsReason t = t ≡ codes "length past 32 bits"
+IsReason t = IsLength t ⊎ IsNoTuple t
+
+-- the refusal of a name that stands for an extension: nothing is written
+abbrev pub RefusesName : {A S : Type 0} → S → S → Result A Error → Type 0
+RefusesName old new (Ok u) = ⊥
+RefusesName old new (Err (errors.InvalidDataModel t)) = IsNoTuple t.now × (new ≡ old)
+RefusesName old new (Err e) = ⊥
+
+-- the refusal of a length
+abbrev pub IsTooLong : Error → Type 0
+IsTooLong (errors.InvalidDataModel t) = IsLength t.now
+IsTooLong e = ⊥
 
 abbrev pub answer_of : {A : Type 0} → Result A ValueWriteError → Result A Error
 answer_of (Ok x) = Ok x

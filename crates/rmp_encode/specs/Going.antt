@@ -1,17 +1,21 @@
--- What is still to come of a list or a map that is open: its parts went to the sink, or wait in a buffer. The parts of a map are its keys and
--- values in turn.
-use Rattle.std.specs.Prelude.{◌≡◌, ℕ, ◌+◌, ◌<◌, ◌≤◌, ◌^◌, ◌++◌, Bool, true, false, List, length, Option, Result, Ok, Err, MatchResult}
+-- What is still to come of what is open, whatever it is: a tree is spelled as a head and then its parts, which went to the sink, or wait in a
+-- buffer. The parts of a map are its keys and values in turn.
+use Rattle.std.specs.Prelude.{◌≡◌, ℕ, ◌+◌, ◌≤◌, ◌++◌, Bool, true, false, List, [], length, Option, Result, Ok, Err, IfErr, MatchResult}
+use Rattle.std.specs.Borrow.{Fml, GName, RattleType, MutBor, RestsIfErr}
 use Rattle.std.specs.List.{flat_map, AllByRecursion}
 use Rattle.std.specs.declared.vec.Vec.{Vec}
 use Rattle.std.specs.declared.alloc.Global.{Global}
+use Rattle.rmp_wire.specs.Msg.{Msg}
 use Rattle.rmp_wire.specs.declared.sink.Sink.{Ghosts}
 use Rattle.rmp_encode.specs.declared.serializer.Serializer.{Serializer}
+use Rattle.rmp_encode.specs.contracts.serializer.Serializer.{the_row}
+use Rattle.rmp_encode.specs.declared.settings.Settings.{Settings}
 use Rattle.rmp_encode.specs.declared.error.Error.{Error}
 use Rattle.rmp_encode.specs.Data.{Data}
 use Rattle.rmp_encode.specs.Sizes.{most}
 use Rattle.rmp_encode.specs.Ser.{sink_of, settings_of}
-use Rattle.rmp_encode.specs.Trees.{Has, spelling, array_head, map_head, sequence_of, mapping_of, tree_of}
-use Rattle.rmp_encode.specs.Writes.{Keeps, WritesPart, WritesTree}
+use Rattle.rmp_encode.specs.Trees.{Has, HasTree, spell, spelling, array_head, map_head, sequence_of, mapping_of, tree_of}
+use Rattle.rmp_encode.specs.Writes.{Keeps, StaysAtRefusal, WritesPart, WritesTree}
 
 -- it went well
 abbrev pub done : Result (Unit {0}) Error
@@ -32,36 +36,62 @@ unfoldable pub open_of : Bool → List (Option Data) → Option Data
 open_of true all = mapping_of all
 open_of false all = sequence_of all
 
+-- A tree is spelled as this head and then these parts: it is there and fits exactly where P holds and each part has a tree that fits.
+pub record IsMadeOf (s : Settings) (t : Option Msg) (P : Type 0) (head : List ℕ) (parts : List (Option Data)) : Type 0 where
+  pub may : P → AllByRecursion (Has s) parts → HasTree t
+  pub can : HasTree t → P × AllByRecursion (Has s) parts
+  pub text : HasTree t → head ++ flat_map (spelling s) parts ≡ spell t
+
+-- What is open, as its compound says it: of this tree of what was opened at this serializer, these parts are still to come.
+abbrev pub States : Type 0 → Type 0 → Type 0 → Type 1
+States W C Q = Serializer W C → Option Msg → List (Option Data) → Q → Type 0
+
 module _ {W C : Type 0} (g : Ghosts W) where
-  -- of the parts `all` of what was opened at old, `rest` is still to come, and what went before was written
-  pub record IsWritingAt (pairs : Bool) (old : Serializer W C) (all rest : List (Option Data)) (left : ℕ) (now : Serializer W C) : Type 0 where
-    pub size : ℕ
-    pub many : AreMany pairs size all
+  -- of the tree of what was opened at old, `rest` is still to come, and what went before was written
+  pub record IsWriting (old : Serializer W C) (t : Option Msg) (rest : List (Option Data)) (now : Serializer W C) : Type 0 where
+    pub head : List ℕ
     pub front : List (Option Data)
-    pub split : all ≡ front ++ rest
-    pub left_is : left ≡ length rest
+    pub made : IsMadeOf (settings_of old) t (Unit {0}) head (front ++ rest)
     pub keeps : Keeps g old now
-    pub writes : WritesPart g true ((size < 2 ^ 32) × AllByRecursion (Has (settings_of old)) front) (head_at pairs size ++ flat_map (spelling (settings_of old)) front) (sink_of old) (sink_of now) done
+    pub writes : WritesPart g true (AllByRecursion (Has (settings_of old)) front) (head ++ flat_map (spelling (settings_of old)) front) (sink_of old) (sink_of now) done
 
-  -- the same, where nothing but `rest` counts what is left
-  abbrev pub IsWritten : Bool → Serializer W C → List (Option Data) → List (Option Data) → Serializer W C → Type 0
-  IsWritten pairs old all rest now = IsWritingAt pairs old all rest (length rest) now
-
-  -- the head was written, behind which all parts are still to come; at an error nothing more comes
-  abbrev pub Begins : Bool → ℕ → Serializer W C → Serializer W C → Result (Unit {0}) Error → Type 0
-  Begins pairs n old now r =
-      (all : List (Option Data)) → AreMany pairs n all
-      → MatchResult r (λ _. IsWritten pairs old all all now) (λ e. WritesTree g {A = Unit {0}} g.takes_memory (tree_of (settings_of old) (open_of pairs all)) (sink_of old) (sink_of now) (Err e))
+  -- A head was written, behind which all parts are still to come; at an error nothing more comes. P says that the numbers in the head fit.
+  abbrev pub Begins : Type 0 → List ℕ → Serializer W C → Serializer W C → Result (Unit {0}) Error → Type 0
+  Begins P head old now r =
+      (t : Option Msg) (parts : List (Option Data)) → IsMadeOf (settings_of old) t P head parts
+      → MatchResult r (λ _. IsWriting old t parts now) (λ e. WritesTree g {A = Unit {0}} g.takes_memory t (sink_of old) (sink_of now) (Err e))
 
   -- the same, where what went before waits in a buffer, and nothing has reached the sink
-  pub record IsKeepingAt (pairs : Bool) (old : Serializer W C) (all rest : List (Option Data)) (count : ℕ) (buffer : Serializer (Vec ℕ Global) C) (now : Serializer W C) : Type 0 where
+  pub record IsKeepingAt (pairs : Bool) (old : Serializer W C) (t : Option Msg) (rest : List (Option Data)) (count : ℕ) (buffer : Serializer (Vec ℕ Global) C) (now : Serializer W C) : Type 0 where
     pub size : ℕ
-    pub many : AreMany pairs size all
     pub front : List (Option Data)
-    pub split : all ≡ front ++ rest
+    pub tree : t ≡ tree_of (settings_of old) (open_of pairs (front ++ rest))
+    pub many : AreMany pairs size (front ++ rest)
     pub count_is : count ≡ length front
     pub fits : count ≤ most pairs
     pub same : now ≡ old
     pub settings : settings_of buffer ≡ settings_of old
     pub have : AllByRecursion (Has (settings_of old)) front
     pub bytes : (sink_of buffer).items ≡ flat_map (spelling (settings_of old)) front
+
+  -- Parts are written, or kept; m says under which settings memory may be taken.
+  abbrev pub Goes : {Q : Type 0} → States W C Q → (Q → Serializer W C) → (Settings → Bool) → (Settings → List (Option Data)) → Q → Q → Result (Unit {0}) Error → Type 0
+  Goes state inside m parts q q' r =
+      (old : Serializer W C) (t : Option Msg) (rest : List (Option Data)) → state old t (parts (settings_of old) ++ rest) q
+      → MatchResult r (λ _. state old t rest q') (λ e. WritesTree g {A = Unit {0}} (m (settings_of old)) t (sink_of old) (sink_of (inside q')) (Err e))
+
+  -- nothing more is to come, and the end left this sink
+  abbrev pub Ends : {Q : Type 0} → States W C Q → Q → W → Result (Unit {0}) Error → Type 0
+  Ends state q last r = (old : Serializer W C) (t : Option Msg) → state old t [] q → WritesTree g g.takes_memory t (sink_of old) last r
+
+  -- What the serializer is left as where nothing is opened: P says that the numbers told fit, and `may` of which parts they were told.
+  pub record FailsToOpen {A X : Type 0} (P : Type 0) (may : X → Type 0) (value : X → Option Data) (old : Serializer W C) (r : Result A Error) (last : Serializer W C) : Type 0 where
+    pub keeps : Keeps g old last
+    pub refused : StaysAtRefusal old last r
+    pub long : ¬ P → last ≡ old
+    pub writes : (all : X) → may all → IfErr r (λ e. WritesTree g {A = Unit {0}} g.takes_memory (tree_of (settings_of old) (value all)) (sink_of old) (sink_of last) (Err e))
+
+module _ (W C : RattleType) (g : Ghosts W.Denot) where
+  -- the serializer is lent to what is opened, or rests as that says
+  abbrev pub Rests : {Q X : Type 0} → (Q → GName) → Type 0 → (X → Type 0) → (X → Option Data) → MutBor (Serializer W.Denot C.Denot) → Result Q Error → Fml
+  Rests reference P may value s r = RestsIfErr (the_row W C) s reference r (FailsToOpen g P may value s.now r)

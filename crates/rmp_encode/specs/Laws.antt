@@ -5,9 +5,10 @@ use Rattle.std.specs.Io.KnownBytes.{Appends}
 use Rattle.rmp_wire.specs.declared.sink.Sink.{Ghosts}
 use Rattle.rmp_encode.specs.declared.serializer.Serializer.{Serializer}
 use Rattle.rmp_encode.specs.Data.{Data}
-use Rattle.rmp_encode.specs.Going.{done}
-use Rattle.rmp_encode.specs.Opens.{Open, IsOpen, IsMapOpen, EndsList, EndsMap}
+use Rattle.rmp_encode.specs.Going.{done, Ends}
+use Rattle.rmp_encode.specs.Opens.{Open, IsOpen}
 use Rattle.rmp_encode.specs.Ser.{sink_of, settings_of}
+use Rattle.rmp_encode.specs.Trees.{mapping_of, sequence_of, tree_of}
 
 -- the same bytes were appended here and there
 pub record AppendSame (old new old' new' : Option (List ℕ)) : Type 0 where
@@ -19,14 +20,14 @@ module _ {W C : Type 0} (g : Ghosts W) where
   -- a list of these parts was opened at old, each part was handed over, and an end that went well left this sink
   pub record IsListWritten (old : Serializer W C) (all : List (Option Data)) (last : W) : Type 0 where
     pub compound : Open W C
-    pub handed : IsOpen g old all [] compound
-    pub ended : EndsList g compound last done
+    pub handed : IsOpen g old (tree_of (settings_of old) (sequence_of all)) [] compound
+    pub ended : Ends g (IsOpen g) compound last done
 
   -- the same of a map whose keys and values are these in turn
   pub record IsMapWritten (old : Serializer W C) (all : List (Option Data)) (last : W) : Type 0 where
     pub compound : Open W C
-    pub handed : IsMapOpen g old all [] compound
-    pub ended : EndsMap g compound last done
+    pub handed : IsOpen g old (tree_of (settings_of old) (mapping_of all)) [] compound
+    pub ended : Ends g (IsOpen g) compound last done
 
 -- The same parts give the same bytes, under the same settings. The law asks nothing of how either was opened.
 module _ (W C : RattleType) (g : Ghosts W.Denot) where

@@ -7,7 +7,7 @@ use Rattle.rmp_wire.specs.Msg.{Msg}
 use Rattle.rmp_encode.specs.declared.serializer.Serializer.{Serializer}
 use Rattle.rmp_encode.specs.declared.error.Error.{Error}
 use Rattle.rmp_encode.specs.declared.error.Error.TheVariants.{InvalidValueWrite, UnknownLength, InvalidDataModel, DepthLimitExceeded, Syntax, OutOfMemory}
-use Rattle.rmp_encode.specs.Errors.{IsReason}
+use Rattle.rmp_encode.specs.Errors.{IsReason, IsLength}
 use Rattle.rmp_encode.specs.Ser.{sink_of, settings_of}
 use Rattle.rmp_encode.specs.Trees.{HasTree, spell}
 
@@ -45,10 +45,10 @@ abbrev pub NeverMarker : {A : Type 0} → Result A Error → Type 0
 NeverMarker (Err (InvalidValueWrite (wire.InvalidMarkerWrite fault))) = ⊥
 NeverMarker r = Unit {0}
 
--- what is refused for its length leaves all as it was
+-- what is refused is refused for its length, and leaves all as it was
 abbrev pub StaysAtRefusal : {A S : Type 0} → S → S → Result A Error → Type 0
 StaysAtRefusal old new (Ok u) = Unit {0}
-StaysAtRefusal old new (Err (InvalidDataModel t)) = new ≡ old
+StaysAtRefusal old new (Err (InvalidDataModel t)) = IsLength t.now × (new ≡ old)
 StaysAtRefusal old new (Err e) = Unit {0}
 
 module _ {W : Type 0} (g : Ghosts W) where

@@ -1,10 +1,12 @@
-//! Tuple structs, whose elements are written in order.
-ghost use Rattle.std.specs.Prelude.{◌≡◌, ◌+◌, ◌<◌, ◌||◌, [], true, false, IfOk, OnOk, OnErr, IsOk, length};
+//! Tuple structs and structs, and the content of variants that are like them: their parts are written in order.
+ghost use Rattle.std.specs.Prelude.{◌≡◌, ◌^◌, ◌+◌, ◌<◌, ◌||◌, ◌∷◌, [], true, false, IfOk, OnOk, OnErr, IsOk, length};
 ghost use Rattle.std.specs.Borrow.{sem};
-ghost use Rattle.rmp_encode.specs.Compounds.{inside, reference, left_of, is_sound, FillingRests, IsFilling, Fills};
+ghost use Rattle.std.specs.List.{flat_map};
+ghost use Rattle.rmp_encode.specs.Compounds.{inside, reference, left_of, has_fields, is_sound, IsFilling};
+ghost use Rattle.rmp_encode.specs.Going.{Ends, Goes, Rests};
 ghost use Rattle.rmp_encode.specs.Ser.{sink_of, settings_of};
-ghost use Rattle.rmp_encode.specs.Trees.{tree_of, sequence_of};
-ghost use Rattle.rmp_encode.specs.Writes.{Keeps, WritesTree};
+ghost use Rattle.rmp_encode.specs.Trees.{tree_of, field_parts, sequence_of, structure_of};
+ghost use Rattle.rmp_encode.specs.Writes.{Keeps};
 
 use crate::error::Error;
 use crate::ser::Serialize;
@@ -12,54 +14,94 @@ use crate::serializer::Serializer;
 use rmp_wire::Sink;
 use rmp_wire::config::SerializerConfig;
 
-/// The elements of a tuple struct that are still to be written.
+/// The elements of a tuple struct, or the fields of a struct, that are still to be written. A variant's content is one of them.
 ///
-/// Once a call answers an error, the tuple struct isn't sound any more, and no further call may be asked of it: it is dropped.
+/// Once a call answers an error, the compound isn't sound any more, and no further call may be asked of it: it is dropped.
 #[derive(Drop)]
 pub struct Compound<'a, W, C> {
-    se: &'a mut Serializer<W, C>,
-    left: usize,
+    pub(crate) se: &'a mut Serializer<W, C>,
+    pub(crate) left: usize,
+    // a struct is open, whose parts are its fields
+    pub(crate) fields: bool,
     // no call answered an error
-    sound: bool,
+    pub(crate) sound: bool,
 }
 
 impl<W: Sink, C: SerializerConfig> Serializer<W, C> {
-    /// Opens a tuple struct of so many elements. A number of 2 ^ 32 or more is refused, and nothing is written.
+    /// Opens a tuple struct of so many elements, which is written as a list.
+    ///
+    /// # Errors
+    ///
+    /// `InvalidDataModel` where the number is 2 ^ 32 or more, and nothing is written; else what the sink answers.
     pub fn serialize_tuple_struct(
         &mut self,
         _name: &'static str,
         len: usize,
     ) -> Result<Compound<'_, W, C>, Error>
-        ensures* refused { sem 𝓛 (FillingRests W.row C.row W.Sink self.entry len result) }
+        ensures* refused { sem 𝓛 (Rests W.row C.row W.Sink reference (len < 2 ^ 32) (λ all. length all ≡ len) sequence_of self.entry result) }
         ensures same_reference { IfOk result (λ q. reference q ≡ self.entry.ghost_name) }
+        ensures fits { OnOk result (len < 2 ^ 32) }
         ensures left { IfOk result (λ q. left_of q ≡ len) }
+        ensures kind { IfOk result (λ q. has_fields q ≡ false) }
         ensures sound { IfOk result (λ q. is_sound q ≡ true) }
-        ensures opened { IfOk result (λ q. (all : _) → length all ≡ len → IsFilling W.Sink self.old all all q) }
+        ensures opened { IfOk result (λ q. (all : _) → length all ≡ len → IsFilling W.Sink self.old (tree_of (settings_of self.old) (sequence_of all)) all q) }
         ensures keeps { IfOk result (λ q. Keeps W.Sink self.old (inside q)) }
     {
-        if len > u32::MAX as usize {
-            return Err(Error::InvalidDataModel("length past 32 bits"));
-        }
-        self.put_head(false, len as u32)?;
+        self.put_len(false, len)?;
         Ok(Compound {
             se: self,
             left: len,
+            fields: false,
+            sound: true,
+        })
+    }
+
+    /// Opens a struct of so many fields. It is written as the list of their values, or with names as the map from their names.
+    ///
+    /// # Errors
+    ///
+    /// `InvalidDataModel` where the number is 2 ^ 32 or more, and nothing is written; else what the sink answers.
+    pub fn serialize_struct(
+        &mut self,
+        _name: &'static str,
+        len: usize,
+    ) -> Result<Compound<'_, W, C>, Error>
+        ensures* refused { sem 𝓛 (Rests W.row C.row W.Sink reference (len < 2 ^ 32) (λ fs. length fs ≡ len) structure_of self.entry result) }
+        ensures same_reference { IfOk result (λ q. reference q ≡ self.entry.ghost_name) }
+        ensures fits { OnOk result (len < 2 ^ 32) }
+        ensures left { IfOk result (λ q. left_of q ≡ len) }
+        ensures kind { IfOk result (λ q. has_fields q ≡ true) }
+        ensures sound { IfOk result (λ q. is_sound q ≡ true) }
+        ensures opened { IfOk result (λ q. (fs : _) → length fs ≡ len → IsFilling W.Sink self.old (tree_of (settings_of self.old) (structure_of fs)) (flat_map (field_parts (settings_of self.old).named) fs) q) }
+        ensures keeps { IfOk result (λ q. Keeps W.Sink self.old (inside q)) }
+    {
+        self.put_len(self.is_named(), len)?;
+        Ok(Compound {
+            se: self,
+            left: len,
+            fields: true,
             sound: true,
         })
     }
 }
 
 impl<'a, W: Sink, C: SerializerConfig> Compound<'a, W, C> {
-    /// Writes the next element. An error leaves the tuple struct unsound.
+    /// Writes the next element of a tuple struct or a tuple variant.
+    ///
+    /// # Errors
+    ///
+    /// What the element's type or the sink answers. The compound isn't sound afterwards.
     #[inline(always)]
     pub fn serialize_element<T: Serialize>(&mut self, value: &T) -> Result<(), Error>
         requires sound { is_sound self.old ≡ true }
+        requires kind { has_fields self.old ≡ false }
         requires room { 0 < left_of self.old }
         ensures same_reference { reference self.new ≡ reference self.old }
         ensures left { left_of self.new + 1 ≡ left_of self.old }
+        ensures kind { has_fields self.new ≡ has_fields self.old }
         ensures sound { OnOk result (is_sound self.new ≡ true) }
         ensures broken { OnErr result (is_sound self.new ≡ false) }
-        ensures writes { Fills W.Sink (T.takes_memory (settings_of (inside self.old)) || W.takes_memory) (λ s. T.data_of value.now s.human) self.old self.new result }
+        ensures writes { Goes W.Sink (IsFilling W.Sink) inside (λ s. T.takes_memory s || W.takes_memory) (λ s. T.data_of value.now s.human ∷ []) self.old self.new result }
         ensures keeps { Keeps W.Sink (inside self.old) (inside self.new) }
         ensures value { OnOk result (T.is_value value.now) }
     {
@@ -73,7 +115,41 @@ impl<'a, W: Sink, C: SerializerConfig> Compound<'a, W, C> {
         }
     }
 
-    /// How many elements haven't begun.
+    /// Writes the next field of a struct or a struct variant: its value, and with names its name before it.
+    ///
+    /// # Errors
+    ///
+    /// What the value's type or the sink answers, and `InvalidDataModel` where the name is written and has 2 ^ 32 bytes or more. The
+    /// compound isn't sound afterwards.
+    #[inline(always)]
+    pub fn serialize_field<T: Serialize>(
+        &mut self,
+        key: &'static str,
+        value: &T,
+    ) -> Result<(), Error>
+        requires sound { is_sound self.old ≡ true }
+        requires kind { has_fields self.old ≡ true }
+        requires room { 0 < left_of self.old }
+        ensures same_reference { reference self.new ≡ reference self.old }
+        ensures left { left_of self.new + 1 ≡ left_of self.old }
+        ensures kind { has_fields self.new ≡ has_fields self.old }
+        ensures sound { OnOk result (is_sound self.new ≡ true) }
+        ensures broken { OnErr result (is_sound self.new ≡ false) }
+        ensures writes { Goes W.Sink (IsFilling W.Sink) inside (λ s. T.takes_memory s || W.takes_memory) (λ s. field_parts s.named (key.now, T.data_of value.now s.human)) self.old self.new result }
+        ensures keeps { Keeps W.Sink (inside self.old) (inside self.new) }
+        ensures value { OnOk result (T.is_value value.now) }
+    {
+        self.left -= 1;
+        match self.se.put_field(key, value) {
+            Ok(()) => Ok(()),
+            Err(e) => {
+                self.sound = false;
+                Err(e)
+            }
+        }
+    }
+
+    /// How many elements or fields haven't begun.
     pub fn left(&self) -> usize
         ensures { result ≡ left_of self.now }
     {
@@ -87,18 +163,19 @@ impl<'a, W: Sink, C: SerializerConfig> Compound<'a, W, C> {
         self.sound
     }
 
-    /// Ends the tuple struct, where no call has answered an error. Nothing is written.
+    /// Ends what is open, where no call has answered an error. Nothing is written.
     pub fn end(self) -> Result<(), Error>
         requires sound { is_sound self ≡ true }
         requires whole { left_of self ≡ 0 }
         ensures ok { IsOk result }
-        ensures writes { (old : _) (all : _) → IsFilling W.Sink old all [] self.entry → WritesTree W.Sink W.takes_memory (tree_of (settings_of old) (sequence_of all)) (sink_of old) (sink_of self.exit.0.now) result }
+        ensures writes { Ends W.Sink (IsFilling W.Sink) self.entry (sink_of self.exit.0.now) result }
         ensures stays { self.exit.0.now ≡ inside self.entry }
         ensures keeps { Keeps W.Sink (inside self.entry) self.exit.0.now }
     {
         let Compound {
             se: _,
             left: _,
+            fields: _,
             sound: _,
         } = self;
         Ok(())

@@ -16,7 +16,7 @@ pub enum Error {
     /// Never answered: lists and maps of unknown length are counted first.
     #[error("attempt to serialize struct, sequence or map with unknown length")]
     UnknownLength,
-    /// A length is past 32 bits, as the text says.
+    /// A length is past 32 bits, or a newtype struct has the name that stands for an extension, as the text says.
     #[error("serialize data model is invalid: {0}")]
     InvalidDataModel(&'static str),
     /// Never answered.

@@ -2,9 +2,11 @@
 #![tactic(auto)]
 
 pub mod compound;
+pub mod elements;
 pub mod error;
 pub mod extension;
 pub mod laws;
+mod length;
 pub mod ser;
 pub mod serializer;
 pub mod series;
@@ -14,9 +16,11 @@ mod slice;
 mod tests;
 pub mod tuple;
 pub mod underlying;
+mod variant;
 pub mod whole;
 
 pub use compound::Compound;
+pub use elements::{Both, Eight, Elements, Five, Four, One, Seven, Six, Three};
 pub use error::Error;
 pub use extension::{ExtFieldSerializer, ExtSerializer};
 pub use ser::Serialize;

@@ -15,9 +15,11 @@ mod bytes;
 mod collections;
 mod lists;
 mod numbers;
+mod options;
 mod pointers;
 mod texts;
 mod tuples;
+mod wide;
 
 /// What can be written.
 pub trait Serialize {

@@ -1,14 +1,18 @@
 //! A serializer over a sink.
-ghost use Rattle.std.specs.Prelude.{◌≡◌, ◌^◌, ◌<◌, ◌≤◌, OnOk, true, false, [], Some, pos, length, encode_utf8};
+ghost use Rattle.std.specs.Prelude.{◌≡◌, ◌^◌, ◌<◌, ◌≤◌, ◌||◌, OnOk, true, false, [], Some, pos, length, encode_utf8};
 ghost use Rattle.std.specs.Borrow.{sem};
 ghost use Rattle.rmp_wire.specs.Msg.{nil, truth, whole, float32, float64, text, bin, extension};
 ghost use Rattle.rmp_encode.specs.Errors.{answer_of};
-ghost use Rattle.rmp_encode.specs.Going.{head_at, Begins};
+ghost use Rattle.rmp_encode.specs.Going.{head_at, Begins, Goes, IsWriting};
 ghost use Rattle.rmp_encode.specs.Ser.{sink_of, settings_of, LendsSink};
-ghost use Rattle.rmp_encode.specs.Trees.{ext_head, number_head};
+ghost use Rattle.rmp_encode.specs.Trees.{ext_head, field_parts, name_parts, number_head};
 ghost use Rattle.rmp_encode.specs.Writes.{Keeps, NoneAtMarker, NeverMarker, WritesBehind, WritesPart, WritesTree, StaysAtRefusal};
 
+mod leaves;
+
 use crate::error::Error;
+use crate::length::fits_u32;
+use crate::ser::Serialize;
 use crate::settings::Settings;
 use rmp_wire::config::{
     BinaryConfig, BytesMode, DefaultConfig, HumanReadableConfig, SerializerConfig, StructMapConfig,
@@ -265,15 +269,37 @@ impl<W: Sink, C: SerializerConfig> Serializer<W, C> {
     // 2 ^ 32 or more is refused, and nothing is written.
     #[inline(always)]
     pub(crate) fn put_len(&mut self, pairs: bool, len: usize) -> Result<(), Error>
-        ensures begins { Begins W.Sink pairs len self.old self.new result }
+        ensures begins { Begins W.Sink (len < 2 ^ 32) (head_at pairs len) self.old self.new result }
         ensures keeps { Keeps W.Sink self.old self.new }
+        ensures stays { StaysAtRefusal self.old self.new result }
         ensures refused { 2 ^ 32 ≤ len → self.new ≡ self.old }
-        ensures long { 2 ^ 32 ≤ len → OnOk result ⊥ }
+        ensures fits { OnOk result (len < 2 ^ 32) }
     {
-        if len > u32::MAX as usize {
-            return Err(Error::InvalidDataModel("length past 32 bits"));
+        let n = fits_u32(len)?;
+        self.put_head(pairs, n)
+    }
+
+    // The name of a field, where structs are written with names.
+    #[inline(always)]
+    fn put_name(&mut self, key: &str) -> Result<(), Error>
+        ensures writes { Goes W.Sink (IsWriting W.Sink) (λ se. se) (λ _. W.takes_memory) (λ s. name_parts s.named key.now) self.old self.new result }
+        ensures keeps { Keeps W.Sink self.old self.new }
+    {
+        if !self.is_named() {
+            return Ok(());
         }
-        self.put_head(pairs, len as u32)
+        self.serialize_str(key)
+    }
+
+    // A field: its value, and with names its name before it.
+    #[inline(always)]
+    pub(crate) fn put_field<T: Serialize>(&mut self, key: &str, value: &T) -> Result<(), Error>
+        ensures writes { Goes W.Sink (IsWriting W.Sink) (λ se. se) (λ s. T.takes_memory s || W.takes_memory) (λ s. field_parts s.named (key.now, T.data_of value.now s.human)) self.old self.new result }
+        ensures keeps { Keeps W.Sink self.old self.new }
+        ensures value { OnOk result (T.is_value value.now) }
+    {
+        self.put_name(key)?;
+        value.serialize(self)
     }
 
     // A byte as a number.
@@ -424,9 +450,7 @@ impl<W: Sink, C: SerializerConfig> Serializer<W, C> {
         ensures refused { StaysAtRefusal self.old self.new result }
         ensures long { 2 ^ 32 ≤ length s.now → self.new ≡ self.old }
     {
-        if s.len() > u32::MAX as usize {
-            return Err(Error::InvalidDataModel("length past 32 bits"));
-        }
+        fits_u32(s.len())?;
         answer(write_str(&mut self.wr, s))
     }
 
@@ -439,9 +463,7 @@ impl<W: Sink, C: SerializerConfig> Serializer<W, C> {
         ensures refused { StaysAtRefusal self.old self.new result }
         ensures long { 2 ^ 32 ≤ length bytes.now → self.new ≡ self.old }
     {
-        if bytes.len() > u32::MAX as usize {
-            return Err(Error::InvalidDataModel("length past 32 bits"));
-        }
+        fits_u32(bytes.len())?;
         answer(write_bin(&mut self.wr, bytes))
     }
 
@@ -457,10 +479,8 @@ impl<W: Sink, C: SerializerConfig> Serializer<W, C> {
         ensures refused { StaysAtRefusal self.old self.new result }
         ensures long { 2 ^ 32 ≤ length bytes.now → self.new ≡ self.old }
     {
-        if bytes.len() > u32::MAX as usize {
-            return Err(Error::InvalidDataModel("length past 32 bits"));
-        }
-        self.put_ext_head(bytes.len() as u32, tag)?;
+        let n = fits_u32(bytes.len())?;
+        self.put_ext_head(n, tag)?;
         self.put(bytes)
     }
 

@@ -1,12 +1,14 @@
 //! Lists and maps of a known length, or of an unknown one, whose parts wait in a buffer until its end.
-ghost use Rattle.std.specs.Prelude.{◌≡◌, ◌+◌, ◌≤◌, ◌<◌, ◌^◌, [], Bool, true, false, OnOk, OnErr, IfOk, Some, None};
+ghost use Rattle.std.specs.Prelude.{◌≡◌, ◌+◌, ◌≤◌, ◌<◌, ◌^◌, ◌||◌, ◌∷◌, [], true, false, OnOk, OnErr, IfOk, Some, None};
 ghost use Rattle.std.specs.Borrow.{sem};
+ghost use Rattle.rmp_encode.specs.Going.{Ends, Goes, Rests};
 ghost use Rattle.rmp_encode.specs.Ser.{sink_of, settings_of};
 ghost use Rattle.rmp_encode.specs.Sizes.{most, size_at};
 ghost use Rattle.rmp_encode.specs.Trees.{tree_of, sequence_of, mapping_of};
-ghost use Rattle.rmp_encode.specs.Writes.{Keeps, NoneAtMarker, WritesPart, WritesTree};
+ghost use Rattle.rmp_encode.specs.Writes.{Keeps, NoneAtMarker};
 
 use crate::error::Error;
+use crate::length::too_long;
 use crate::ser::Serialize;
 use crate::serializer::Serializer;
 use rmp_wire::Sink;
@@ -73,7 +75,7 @@ fn size(pairs: bool, count: u64) -> u32
 }
 
 impl<W: Sink, C: SerializerConfig> Serializer<W, C> {
-    ghost use Rattle.rmp_encode.specs.Opens.{inside, reference, left_of, is_map, is_sound, owed, twice, IsLong, IsMapLong, IsOpen, IsMapOpen, OpenRests, MapRests, Stays};
+    ghost use Rattle.rmp_encode.specs.Opens.{inside, reference, left_of, is_map, is_sound, owed, twice, IsLong, IsMapLong, IsOpen, MayOpen, Stays};
 
     // A serializer with the same settings into an empty buffer.
     fn buffer(&self) -> Serializer<Vec<u8>, C>
@@ -91,13 +93,14 @@ impl<W: Sink, C: SerializerConfig> Serializer<W, C> {
         &mut self,
         len: Option<usize>,
     ) -> Result<MaybeUnknownLengthCompound<'_, W, C>, Error>
-        ensures* refused { sem 𝓛 (OpenRests W.row C.row W.Sink self.entry len result) }
+        ensures* refused { sem 𝓛 (Rests W.row C.row W.Sink reference (MayOpen len) (IsLong len) sequence_of self.entry result) }
         ensures same_reference { IfOk result (λ q. reference q ≡ self.entry.ghost_name) }
         ensures kind { IfOk result (λ q. is_map q ≡ false) }
         ensures owed { IfOk result (λ q. owed q ≡ 0) }
         ensures sound { IfOk result (λ q. is_sound q ≡ true) }
+        ensures fits { OnOk result (MayOpen len) }
         ensures left { IfOk result (λ q. left_of q ≡ len) }
-        ensures opened { IfOk result (λ q. (all : _) → IsLong len all → IsOpen W.Sink self.old all all q) }
+        ensures opened { IfOk result (λ q. (all : _) → IsLong len all → IsOpen W.Sink self.old (tree_of (settings_of self.old) (sequence_of all)) all q) }
         ensures stays { IfOk result (λ q. Stays len self.old (inside q)) }
         ensures keeps { IfOk result (λ q. Keeps W.Sink self.old (inside q)) }
     {
@@ -111,10 +114,7 @@ impl<W: Sink, C: SerializerConfig> Serializer<W, C> {
                 sound: true,
             });
         };
-        if n > u32::MAX as usize {
-            return Err(Error::InvalidDataModel("length past 32 bits"));
-        }
-        self.put_head(false, n as u32)?;
+        self.put_len(false, n)?;
         Ok(MaybeUnknownLengthCompound {
             se: self,
             buffer: None,
@@ -132,13 +132,14 @@ impl<W: Sink, C: SerializerConfig> Serializer<W, C> {
         &mut self,
         len: Option<usize>,
     ) -> Result<MaybeUnknownLengthCompound<'_, W, C>, Error>
-        ensures* refused { sem 𝓛 (MapRests W.row C.row W.Sink self.entry len result) }
+        ensures* refused { sem 𝓛 (Rests W.row C.row W.Sink reference (MayOpen len) (IsMapLong len) mapping_of self.entry result) }
         ensures same_reference { IfOk result (λ q. reference q ≡ self.entry.ghost_name) }
         ensures kind { IfOk result (λ q. is_map q ≡ true) }
         ensures owed { IfOk result (λ q. owed q ≡ 0) }
         ensures sound { IfOk result (λ q. is_sound q ≡ true) }
+        ensures fits { OnOk result (MayOpen len) }
         ensures left { IfOk result (λ q. left_of q ≡ twice len) }
-        ensures opened { IfOk result (λ q. (all : _) → IsMapLong len all → IsMapOpen W.Sink self.old all all q) }
+        ensures opened { IfOk result (λ q. (all : _) → IsMapLong len all → IsOpen W.Sink self.old (tree_of (settings_of self.old) (mapping_of all)) all q) }
         ensures stays { IfOk result (λ q. Stays len self.old (inside q)) }
         ensures keeps { IfOk result (λ q. Keeps W.Sink self.old (inside q)) }
     {
@@ -152,10 +153,7 @@ impl<W: Sink, C: SerializerConfig> Serializer<W, C> {
                 sound: true,
             });
         };
-        if n > u32::MAX as usize {
-            return Err(Error::InvalidDataModel("length past 32 bits"));
-        }
-        self.put_head(true, n as u32)?;
+        self.put_len(true, n)?;
         Ok(MaybeUnknownLengthCompound {
             se: self,
             buffer: None,
@@ -167,7 +165,7 @@ impl<W: Sink, C: SerializerConfig> Serializer<W, C> {
 }
 
 impl<'a, W: Sink, C: SerializerConfig> MaybeUnknownLengthCompound<'a, W, C> {
-    ghost use Rattle.rmp_encode.specs.Opens.{inside, reference, counted, left_of, not_begun, is_map, is_sound, owed, owed_at, one_less, MayTake, MayEnd, Goes, GoesOn, GoesOnMap, EndsList, EndsMap, Stays};
+    ghost use Rattle.rmp_encode.specs.Opens.{inside, reference, counted, left_of, not_begun, is_kept, is_map, is_sound, owed, owed_at, one_less, IsOpen, MayTake, MayEnd, Stays};
 
     // Writes a part, or keeps it.
     //
@@ -183,7 +181,7 @@ impl<'a, W: Sink, C: SerializerConfig> MaybeUnknownLengthCompound<'a, W, C> {
         ensures left { left_of self.new ≡ one_less (left_of self.old) }
         ensures kind { is_map self.new ≡ is_map self.old }
         ensures turn { OnOk result (owed_at true (counted self.old) + owed_at true (counted self.new) ≡ 1) }
-        ensures writes { (pairs : Bool) → Goes W.Sink pairs (λ s. T.data_of value.now s.human) self.old self.new result }
+        ensures writes { Goes W.Sink (IsOpen W.Sink) inside (λ s. is_kept (left_of self.old) || (T.takes_memory s || W.takes_memory)) (λ s. T.data_of value.now s.human ∷ []) self.old self.new result }
         ensures stays { Stays (left_of self.old) (inside self.old) (inside self.new) }
         ensures keeps { Keeps W.Sink (inside self.old) (inside self.new) }
         ensures value { OnOk result (T.is_value value.now) }
@@ -203,7 +201,7 @@ impl<'a, W: Sink, C: SerializerConfig> MaybeUnknownLengthCompound<'a, W, C> {
                 let full = self.count >= most(self.pairs);
                 if full {
                     self.sound = false;
-                    return Err(Error::InvalidDataModel("length past 32 bits"));
+                    return Err(too_long());
                 }
                 let empty = self.se.buffer();
                 let mut kept = mem::replace(buffer, empty);
@@ -235,7 +233,7 @@ impl<'a, W: Sink, C: SerializerConfig> MaybeUnknownLengthCompound<'a, W, C> {
         ensures kind { is_map self.new ≡ false }
         ensures owed { owed self.new ≡ 0 }
         ensures left { left_of self.new ≡ one_less (left_of self.old) }
-        ensures writes { GoesOn W.Sink (λ s. T.data_of value.now s.human) self.old self.new result }
+        ensures writes { Goes W.Sink (IsOpen W.Sink) inside (λ s. is_kept (left_of self.old) || (T.takes_memory s || W.takes_memory)) (λ s. T.data_of value.now s.human ∷ []) self.old self.new result }
         ensures stays { Stays (left_of self.old) (inside self.old) (inside self.new) }
         ensures keeps { Keeps W.Sink (inside self.old) (inside self.new) }
         ensures value { OnOk result (T.is_value value.now) }
@@ -256,7 +254,7 @@ impl<'a, W: Sink, C: SerializerConfig> MaybeUnknownLengthCompound<'a, W, C> {
         ensures kind { is_map self.new ≡ true }
         ensures owed { OnOk result (owed self.new ≡ 1) }
         ensures left { left_of self.new ≡ one_less (left_of self.old) }
-        ensures writes { GoesOnMap W.Sink (λ s. T.data_of key.now s.human) self.old self.new result }
+        ensures writes { Goes W.Sink (IsOpen W.Sink) inside (λ s. is_kept (left_of self.old) || (T.takes_memory s || W.takes_memory)) (λ s. T.data_of key.now s.human ∷ []) self.old self.new result }
         ensures stays { Stays (left_of self.old) (inside self.old) (inside self.new) }
         ensures keeps { Keeps W.Sink (inside self.old) (inside self.new) }
         ensures value { OnOk result (T.is_value key.now) }
@@ -276,7 +274,7 @@ impl<'a, W: Sink, C: SerializerConfig> MaybeUnknownLengthCompound<'a, W, C> {
         ensures kind { is_map self.new ≡ true }
         ensures owed { OnOk result (owed self.new ≡ 0) }
         ensures left { left_of self.new ≡ one_less (left_of self.old) }
-        ensures writes { GoesOnMap W.Sink (λ s. T.data_of value.now s.human) self.old self.new result }
+        ensures writes { Goes W.Sink (IsOpen W.Sink) inside (λ s. is_kept (left_of self.old) || (T.takes_memory s || W.takes_memory)) (λ s. T.data_of value.now s.human ∷ []) self.old self.new result }
         ensures stays { Stays (left_of self.old) (inside self.old) (inside self.new) }
         ensures keeps { Keeps W.Sink (inside self.old) (inside self.new) }
         ensures value { OnOk result (T.is_value value.now) }
@@ -310,8 +308,7 @@ impl<'a, W: Sink, C: SerializerConfig> MaybeUnknownLengthCompound<'a, W, C> {
         requires sound { is_sound self ≡ true }
         requires turn { owed self ≡ 0 }
         requires whole { MayEnd (left_of self) }
-        ensures writes { EndsList W.Sink self.entry (sink_of self.exit.0.now) result }
-        ensures writes_map { EndsMap W.Sink self.entry (sink_of self.exit.0.now) result }
+        ensures writes { Ends W.Sink (IsOpen W.Sink) self.entry (sink_of self.exit.0.now) result }
         ensures marker { NoneAtMarker W.Sink (sink_of (inside self.entry)) (sink_of self.exit.0.now) result }
         ensures keeps { Keeps W.Sink (inside self.entry) self.exit.0.now }
     {
@@ -327,7 +324,7 @@ impl<'a, W: Sink, C: SerializerConfig> MaybeUnknownLengthCompound<'a, W, C> {
         };
         let past = count > most(pairs);
         if past {
-            return Err(Error::InvalidDataModel("length past 32 bits"));
+            return Err(too_long());
         }
         let n = size(pairs, count);
         se.put_head(pairs, n)?;

@@ -4,7 +4,7 @@ ghost use Rattle.rmp_encode.specs.declared.error.Error.TheVariants.{OutOfMemory}
 ghost use Rattle.rmp_encode.specs.Ser.{sink_of, settings_of};
 ghost use Rattle.rmp_encode.specs.Slices.{Probed};
 ghost use Rattle.rmp_encode.specs.Trees.{tree_of, sequence_of, slice_of, forces_slices};
-ghost use Rattle.rmp_encode.specs.Writes.{Keeps, WritesTree};
+ghost use Rattle.rmp_encode.specs.Writes.{Keeps, StaysAtRefusal, WritesTree};
 
 use crate::error::Error;
 use crate::ser::Serialize;
@@ -43,6 +43,7 @@ impl<W: Sink, C: SerializerConfig> Serializer<W, C> {
         ensures writes { WritesTree W.Sink (T.takes_memory (settings_of self.old) || W.takes_memory) (tree_of (settings_of self.old) (sequence_of (map (λ x. T.data_of x (settings_of self.old).human) values.now))) (sink_of self.old) (sink_of self.new) result }
         ensures keeps { Keeps W.Sink self.old self.new }
         ensures refused { 2 ^ 32 ≤ length values.now → self.new ≡ self.old }
+        ensures reason { 2 ^ 32 ≤ length values.now → StaysAtRefusal self.old self.new result }
         ensures value { OnOk result (All T.is_value values.now) }
     {
         self.put_len(false, values.len())?;
@@ -60,6 +61,7 @@ impl<W: Sink, C: SerializerConfig> Serializer<W, C> {
         ensures writes { WritesTree W.Sink ((forces_slices (settings_of self.old).bytes || T.takes_memory (settings_of self.old)) || W.takes_memory) (tree_of (settings_of self.old) (slice_of (map (λ x. T.data_of x (settings_of self.old).human) values.now))) (sink_of self.old) (sink_of self.new) result }
         ensures keeps { Keeps W.Sink self.old self.new }
         ensures refused { 2 ^ 32 ≤ length values.now → self.new ≡ self.old }
+        ensures reason { 2 ^ 32 ≤ length values.now → StaysAtRefusal self.old self.new result }
         ensures value { OnOk result (All T.is_value values.now) }
     {
         if !self.forces_slices() {

@@ -14,6 +14,8 @@ use std::test::Fail;
 
 mod calls;
 mod implementations;
+mod leaves;
+mod structs;
 
 // Whether a value is written as these bytes.
 fn is_written<T: Serialize>(rt: &HostRuntime, value: &T, want: &[u8]) -> Result<bool, Fail> {

@@ -1,15 +1,17 @@
 //! Tuples, whose elements are written as bytes where the mode and the table say so.
-ghost use Rattle.std.specs.Prelude.{◌≡◌, ◌^◌, ◌≤◌, ◌+◌, ◌<◌, ◌||◌, [], nat_le, map, All, true, false, OnOk, OnErr, IfOk, length};
+ghost use Rattle.std.specs.Prelude.{◌≡◌, ◌^◌, ◌≤◌, ◌+◌, ◌<◌, ◌||◌, ◌∷◌, [], nat_le, map, All, true, false, OnOk, OnErr, IfOk, length};
 ghost use Rattle.std.specs.Borrow.{sem};
 ghost use Rattle.std.specs.List.{list_any, flat_map};
 ghost use Rattle.rmp_wire.specs.declared.config.BytesMode.TheVariants.{ForceAll};
 ghost use Rattle.rmp_encode.specs.Data.{packs_tuple};
+ghost use Rattle.rmp_encode.specs.Going.{Ends, Goes, Rests};
 ghost use Rattle.rmp_encode.specs.Ser.{sink_of, settings_of};
 ghost use Rattle.rmp_encode.specs.Trees.{tree_of, tuple_of, forces_all, number_head};
-ghost use Rattle.rmp_encode.specs.Tuples.{inside, reference, left_of, is_sound, IsTupling, GoesTuple, TupleRests};
-ghost use Rattle.rmp_encode.specs.Writes.{Keeps, WritesPart, WritesTree};
+ghost use Rattle.rmp_encode.specs.Tuples.{inside, reference, left_of, is_sound, IsTupling};
+ghost use Rattle.rmp_encode.specs.Writes.{Keeps, WritesPart, StaysAtRefusal, WritesTree};
 
 use crate::error::Error;
+use crate::length::fits_u32;
 use crate::ser::Serialize;
 use crate::serializer::Serializer;
 use rmp_wire::Sink;
@@ -97,33 +99,32 @@ impl<W: Sink, C: SerializerConfig> Serializer<W, C> {
     /// Opens a tuple of so many elements. A number of 2 ^ 32 or more is refused, and nothing is written.
     #[inline(always)]
     pub fn serialize_tuple(&mut self, len: usize) -> Result<Tuple<'_, W, C>, Error>
-        ensures* refused { sem 𝓛 (TupleRests W.row C.row W.Sink self.entry len result) }
+        ensures* refused { sem 𝓛 (Rests W.row C.row W.Sink reference (len < 2 ^ 32) (λ all. length all ≡ len) tuple_of self.entry result) }
         ensures same_reference { IfOk result (λ q. reference q ≡ self.entry.ghost_name) }
+        ensures fits { OnOk result (len < 2 ^ 32) }
         ensures left { IfOk result (λ q. left_of q ≡ len) }
         ensures sound { IfOk result (λ q. is_sound q ≡ true) }
-        ensures opened { IfOk result (λ q. (all : _) → length all ≡ len → IsTupling W.Sink self.old all all q) }
+        ensures opened { IfOk result (λ q. (all : _) → length all ≡ len → IsTupling W.Sink self.old (tree_of (settings_of self.old) (tuple_of all)) all q) }
         ensures keeps { IfOk result (λ q. Keeps W.Sink self.old (inside q)) }
     {
-        if len > u32::MAX as usize {
-            return Err(Error::InvalidDataModel("length past 32 bits"));
-        }
+        let n = fits_u32(len)?;
         if self.forces_all() {
             let kept = self.empty();
             return Ok(Tuple {
                 se: self,
                 kept: Some(kept),
                 probing: true,
-                len: len as u32,
+                len: n,
                 left: len,
                 sound: true,
             });
         }
-        self.put_head(false, len as u32)?;
+        self.put_head(false, n)?;
         Ok(Tuple {
             se: self,
             kept: None,
             probing: false,
-            len: len as u32,
+            len: n,
             left: len,
             sound: true,
         })
@@ -140,7 +141,7 @@ impl<'a, W: Sink, C: SerializerConfig> Tuple<'a, W, C> {
         ensures left { left_of self.new + 1 ≡ left_of self.old }
         ensures sound { OnOk result (is_sound self.new ≡ true) }
         ensures broken { OnErr result (is_sound self.new ≡ false) }
-        ensures writes { GoesTuple W.Sink (λ s. T.data_of value.now s.human) self.old self.new result }
+        ensures writes { Goes W.Sink (IsTupling W.Sink) inside (λ s. (forces_all s.bytes || T.takes_memory s) || W.takes_memory) (λ s. T.data_of value.now s.human ∷ []) self.old self.new result }
         ensures keeps { Keeps W.Sink (inside self.old) (inside self.new) }
         ensures value { OnOk result (T.is_value value.now) }
     {
@@ -162,7 +163,7 @@ impl<'a, W: Sink, C: SerializerConfig> Tuple<'a, W, C> {
         ensures same_reference { reference self.new ≡ reference self.old }
         ensures left { left_of self.new + 1 ≡ left_of self.old }
         ensures sound { is_sound self.new ≡ is_sound self.old }
-        ensures writes { GoesTuple W.Sink (λ s. T.data_of value.now s.human) self.old self.new result }
+        ensures writes { Goes W.Sink (IsTupling W.Sink) inside (λ s. (forces_all s.bytes || T.takes_memory s) || W.takes_memory) (λ s. T.data_of value.now s.human ∷ []) self.old self.new result }
         ensures keeps { Keeps W.Sink (inside self.old) (inside self.new) }
         ensures value { OnOk result (T.is_value value.now) }
     {
@@ -209,7 +210,7 @@ impl<'a, W: Sink, C: SerializerConfig> Tuple<'a, W, C> {
     pub fn end(self) -> Result<(), Error>
         requires sound { is_sound self ≡ true }
         requires whole { left_of self ≡ 0 }
-        ensures writes { (old : _) (all : _) → IsTupling W.Sink old all [] self.entry → WritesTree W.Sink W.takes_memory (tree_of (settings_of old) (tuple_of all)) (sink_of old) (sink_of self.exit.0.now) result }
+        ensures writes { Ends W.Sink (IsTupling W.Sink) self.entry (sink_of self.exit.0.now) result }
         ensures keeps { Keeps W.Sink (inside self.entry) self.exit.0.now }
     {
         let Tuple {
@@ -242,6 +243,7 @@ pub(crate) fn put_tuple<W: Sink, C: SerializerConfig, T: Serialize>(
     ensures writes { WritesTree W.Sink ((forces_all (settings_of se.old).bytes || T.takes_memory (settings_of se.old)) || W.takes_memory) (tree_of (settings_of se.old) (tuple_of (map (λ x. T.data_of x (settings_of se.old).human) values.now))) (sink_of se.old) (sink_of se.new) result }
     ensures keeps { Keeps W.Sink se.old se.new }
     ensures refused { 2 ^ 32 ≤ length values.now → se.new ≡ se.old }
+    ensures reason { 2 ^ 32 ≤ length values.now → StaysAtRefusal se.old se.new result }
     ensures value { OnOk result (All T.is_value values.now) }
 {
     if !se.forces_all() {

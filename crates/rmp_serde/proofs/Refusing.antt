@@ -25,11 +25,11 @@ use Rattle.rmp_decode.specs.Skip.{parts_head, parts_count}
 use Rattle.rmp_decode.specs.Pieces.{RefusesPiece}
 use Rattle.rmp_decode.specs.State.{left, faults_of, room_of}
 use Rattle.rmp_decode.specs.With.{Reading, part_reader, OffersPart, PartRead, PartMissing, PartGiven, KeyRead, ValueRead}
-use Rattle.rmp_decode.specs.declared.de.Deserializer.{Deserializer}
-use Rattle.rmp_decode.specs.declared.de.any.Any.{Any}
-use Rattle.rmp_decode.specs.declared.de.any.RawAccess.{RawAccess}
-use Rattle.rmp_decode.specs.declared.de.map.MapAccess.{MapAccess}
-use Rattle.rmp_decode.specs.declared.de.seq.SeqAccess.{SeqAccess}
+use Rattle.rmp_decode.specs.declared.deserializer.Deserializer.{Deserializer}
+use Rattle.rmp_decode.specs.declared.access.any.Any.{Any}
+use Rattle.rmp_decode.specs.declared.access.any.RawAccess.{RawAccess}
+use Rattle.rmp_decode.specs.declared.access.map.MapAccess.{MapAccess}
+use Rattle.rmp_decode.specs.declared.access.seq.SeqAccess.{SeqAccess}
 use Rattle.rmp_decode.specs.declared.error.Error.{Error}
 use Rattle.rmp_decode.specs.declared.error.Error.TheVariants as errors
 use Rattle.rmp_decode.proofs.Contents.{bare}
@@ -37,7 +37,6 @@ use Rattle.rmp_decode.proofs.Maps.{flat, owed, to_come, MapRun, Entries, map_key
 use Rattle.rmp_decode.proofs.MapWiths.{part_err, key_err}
 use Rattle.rmp_decode.proofs.Rows.{push}
 use Rattle.rmp_decode.proofs.Seqs.{Values}
-use Rattle.rmp_decode.proofs.Withs.{given_err}
 use Rattle.rmp_decode.proofs.Wrong.{is_memory, wrong_memory, wrong_data, wrong_any, wrong_content, wrong_row, wrong_nest, Front, front_of, stands}
 use Rattle.rmp_serde.proofs.ValueReading.{each_is, pairs_are, lent_law}
 use Rattle.rmp_serde.specs.Read.{AllTextsUtf8, ItemsUtf8, PairsUtf8, reads_value}
@@ -154,13 +153,9 @@ module _ {F R C : Type 0} (g : Ghosts R) {once : Reading F R C Msg} {f : F} (law
   pub item_wrong : (old new : SeqAccess R C) (e : Error) → old.bytes ≡ false → PartRead g once f old new (Err e) ⊎ PartMissing {X = Msg} g old new (Err e) → (faults_of g new.de.now ≡ faults_of g old.de.now → RefusedFor old.de.now.strict (UnreadFor old.de.now.strict) ItemsUtf8 (inner_of old) e (left g old.de.now))
   item_wrong old new e b (inr m) = let w = m.bytes in absurd (cc)
   item_wrong old new e b (inl p) = λ q.
-      let l = lent_law g once f law p.lent p.rest p.gave p.called in
-      let is = given_err p.gave p.rest.failed e p.answers (λ x i. let k = subst (λ (z : Result Msg Error). Lawful g reads_value p.lent p.rest z) i l in k.ready) in
-      let w0 = subst (λ (z : Result Msg Error). IfErr z (RefusesValue g p.lent p.rest)) is (lent_says p.lent p.rest p.gave p.called) in
-      let w1 = subst (λ (z : Deserializer R C). RefusesValue g z p.rest e) p.lends.lent w0 in
-      let from = subst (λ t. OffersPart g t old.de.now p.lends.from) b p.lends.offers in
-      let w2 = subst (λ (z : Deserializer R C). RefusesValue g (record z { room = old.inner; failed = false }) p.rest e) from w1 in
-      w2 refl (ap (faults_of g) (sym p.keeps) ∙ q)
+      let from = subst (λ t. OffersPart g t old.de.now p.from) b p.offers in
+      let given = subst (λ (z : Result Msg Error). PartGiven once f old.inner p.from new.de.now z) (key_err p.given e p.answers) p.part in
+      part_wrong old.inner old.de.now new.de.now e (subst (λ (z : Deserializer R C). PartGiven {X = Msg} once f old.inner z new.de.now (Err e)) from given) q
 
   pub key_wrong : (old new : MapAccess R C) (e : Error) → KeyRead once f old new (Err e) → (faults_of g new.de.now ≡ faults_of g old.de.now → RefusedFor old.de.now.strict (UnreadFor old.de.now.strict) ItemsUtf8 (map_inner old) e (left g old.de.now))
   key_wrong old new e k = part_wrong old.inner old.de.now new.de.now e (subst (λ (z : Result Msg Error). PartGiven once f old.inner old.de.now new.de.now z) (key_err k.given e k.answers) k.part)

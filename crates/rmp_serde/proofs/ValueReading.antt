@@ -1,5 +1,5 @@
 -- What the parts of a message make of a value.
-use Rattle.std.proofs.Common.{◌≡◌, ◌∙◌, sym, ap, subst, refl, ℕ, ℤ, pos, negsuc, zero, suc, ◌<◌, arith, ◌⊎◌, inl, inr, List, [], ◌∷◌, Bool, true, false, Option, Some, None, Result, Ok, Err, MatchResult, MutBor, if◌then◌else◌, to_z, of_z}
+use Rattle.std.proofs.Common.{◌≡◌, ◌∙◌, sym, ap, subst, refl, ℕ, ℤ, pos, negsuc, zero, suc, ◌<◌, arith, ◌⊎◌, inl, inr, List, [], ◌∷◌, true, false, Option, Some, None, Result, Ok, Err, MatchResult, MutBor, to_z, of_z}
 use Rattle.std.specs.Fn.{FnOnceReturnsAtMut}
 use Rattle.std.specs.Int.{w8, w128}
 use Rattle.std.specs.Prelude.{FitsSigned}
@@ -25,13 +25,11 @@ use Rattle.rmp_decode.specs.Anys.{OpensRaw, TakesContent}
 use Rattle.rmp_decode.specs.Law.{Readable, Lawful, TakesHead}
 use Rattle.rmp_decode.specs.Parts.{FailsPart}
 use Rattle.rmp_decode.specs.With.{Reading, PartRead, PartMissing, SameList, KeyRead, ValueRead}
-use Rattle.rmp_decode.specs.declared.de.Deserializer.{Deserializer}
-use Rattle.rmp_decode.specs.declared.de.any.RawAccess.{RawAccess}
-use Rattle.rmp_decode.specs.declared.de.map.MapAccess.{MapAccess}
-use Rattle.rmp_decode.specs.declared.de.seq.SeqAccess.{SeqAccess}
+use Rattle.rmp_decode.specs.declared.deserializer.Deserializer.{Deserializer}
+use Rattle.rmp_decode.specs.declared.access.any.RawAccess.{RawAccess}
+use Rattle.rmp_decode.specs.declared.access.map.MapAccess.{MapAccess}
+use Rattle.rmp_decode.specs.declared.access.seq.SeqAccess.{SeqAccess}
 use Rattle.rmp_decode.specs.declared.error.Error.{Error}
-use Rattle.rmp_decode.specs.declared.error.Error.TheVariants.{Uncategorized}
-use Rattle.rmp_decode.specs.declared.text.Text.TheVariants.{FailedBefore}
 use Rattle.rmp_decode.specs.Maps.{OfMap, ReadsPairs, OpensMap, map_inner, TakesKey, TakesValue}
 use Rattle.rmp_decode.specs.Rows.{ReadsEach}
 use Rattle.rmp_decode.specs.Seq.{OfRow, seq_head, Opens, IsOpen, TakesElement, FailsToTake}
@@ -167,19 +165,14 @@ module _ {F R C : Type 0} (g : Ghosts R) {once : Reading F R C Msg} {f : F} (old
   pub item_refused : (e : Error) → 0 < old.left → PartRead g once f old new (Err e) ⊎ PartMissing {X = Msg} g old new (Err e) → FailsToTake g reads_value old new e
   item_refused e some p = with_refused g once f reads_value old new o same (λ d rest gave l c. lent_law g once f law d rest gave c) e some p
 
-no_answer : {X : Type 0} (gave : Result X Error) (failed : Bool) → MatchResult gave (λ x. ◌≡◌ {A = Result (Option X) Error} (Ok None) (if failed then Err (Uncategorized FailedBefore) else Ok (Some x))) (λ e. ◌≡◌ {A = Result (Option X) Error} (Ok None) (Err e)) → ⊥
-no_answer (Ok x) true m = cc
-no_answer (Ok x) false m = cc
-no_answer (Err e) failed m = cc
-
--- no element is answered where there is none
-pub never_none : {F R C X : Type 0} (g : Ghosts R) {once : Reading F R C X} {f : F} (old new : SeqAccess R C) → PartRead g once f old new (Ok None) ⊎ PartMissing {X = X} g old new (Ok None) → ⊥
-never_none g old new (inl p) = no_answer p.gave p.rest.failed p.answers
-never_none g old new (inr m) = let w = m.answers in cc
-
 no_key : {X : Type 0} (given : Result X Error) → MatchResult given (λ x. ◌≡◌ {A = Result (Option X) Error} (Ok None) (Ok (Some x))) (λ e. ◌≡◌ {A = Result (Option X) Error} (Ok None) (Err e)) → ⊥
 no_key (Ok x) m = cc
 no_key (Err e) m = cc
+
+-- no element is answered where there is none
+pub never_none : {F R C X : Type 0} (g : Ghosts R) {once : Reading F R C X} {f : F} (old new : SeqAccess R C) → PartRead g once f old new (Ok None) ⊎ PartMissing {X = X} g old new (Ok None) → ⊥
+never_none g old new (inl p) = no_key p.given p.answers
+never_none g old new (inr m) = let w = m.answers in cc
 
 pub never_none_key : {F R C X : Type 0} {once : Reading F R C X} {f : F} (old new : MapAccess R C) → KeyRead once f old new (Ok None) → ⊥
 never_none_key old new k = no_key k.given k.answers

@@ -15,8 +15,8 @@ use Rattle.rmp_decode.specs.Kinds.{content_len}
 use Rattle.rmp_decode.specs.declared.error.Error.{Error}
 use Rattle.rmp_decode.proofs.ContentErrors.{head_byte}
 use Rattle.rmp_decode.proofs.Rows.{append}
-use Rattle.rmp_serde.specs.Places.{BeginsAt, BeginsAmong, IsWhole, Reaches, OpensOther, IsFault, StopsFor, parts_behind}
-use Rattle.rmp_serde.proofs.Nodes.{content, parts, own, fits_own, fits_parts, same_front, SameNode, same_node, count-append, fits-append, Built, built, begins_later, later_begins, canon_row, content_long}
+use Rattle.rmp_serde.specs.Places.{BeginsAmong, IsWhole, Reaches, OpensOther, IsFault, StopsFor, parts_behind}
+use Rattle.rmp_serde.proofs.Nodes.{content, parts, own, fits_own, fits_parts, same_front, SameNode, same_node, count-append, fits-append, built, begins_later, later_begins, canon_row, content_long}
 
 -- the canonical spellings of n messages stand at the front, in k bytes
 pub record Row (n : ℕ) (ys : List ℕ) (k : ℕ) : Type 0 where

@@ -8,8 +8,8 @@ use Rattle.rmp_decode.specs.Anys.{OpensAny, OpensParts}
 use Rattle.rmp_decode.specs.Content.{StandsWhole, IsRawHead, IsExtHead}
 use Rattle.rmp_decode.specs.Exact.{Stands}
 use Rattle.rmp_decode.specs.Refuse.{IsWrong, RefusesFirst}
-use Rattle.rmp_decode.specs.declared.de.Deserializer.{Deserializer}
-use Rattle.rmp_decode.specs.declared.de.any.Any.{Any}
+use Rattle.rmp_decode.specs.declared.deserializer.Deserializer.{Deserializer}
+use Rattle.rmp_decode.specs.declared.access.any.Any.{Any}
 use Rattle.rmp_decode.specs.declared.error.Error.{Error}
 use Rattle.rmp_decode.specs.declared.error.Error.TheVariants.{OutOfMemory, Utf8Error}
 use Rattle.rmp_serde.specs.Read.{ItemsUtf8}

@@ -1,101 +1,13 @@
-ghost use Rattle.std.specs.Prelude.{Some, true};
-
 use super::*;
-use rmp_serde::wire::SinkFault;
+use faulty_io::{Drip, Trickle};
 use std::alloc::AllocError;
-use std::io::{self, ErrorKind};
+use std::io::ErrorKind;
 use std::process::Abort;
 
 // Three lines, of which the second has two messages, and what they print.
 const LINES: &str = "92cd0005d90161\n2A c3\n93c0c2d3ffffffffffffffdf\n";
 
 const PRINTED: &str = "[5,t:61] 9205a161\n42 2a\ntrue c3\n[nil,false,-33] 93c0c2d0df\n";
-
-// Gives one byte a pull, and fails once it was pulled so many times.
-#[derive(Drop)]
-struct Drip<'a> {
-    rest: &'a [u8],
-    until_fault: usize,
-    faults: u64,
-}
-
-impl<'a> Drip<'a> {
-    fn new(text: &'a str, until_fault: usize) -> Drip<'a> {
-        Drip {
-            rest: text.as_bytes(),
-            until_fault,
-            faults: 0,
-        }
-    }
-}
-
-impl<'a> Source for Drip<'a> {
-    ghost ahead = { λ s. Some s.rest.now };
-
-    ghost faults = { λ s. s.faults };
-
-    fn pull(&mut self, buf: &mut [u8]) -> Result<usize, io::Error> {
-        if self.until_fault == 0 {
-            self.faults = self.faults.wrapping_add(1);
-            return Err(io::Error::from(ErrorKind::TimedOut));
-        }
-        self.until_fault -= 1;
-        if buf.is_empty() {
-            return Ok(0);
-        }
-        match self.rest {
-            [first, rest @ ..] => {
-                buf[0] = *first;
-                self.rest = rest;
-                Ok(1)
-            }
-            _ => Ok(0),
-        }
-    }
-}
-
-// Takes one byte a put, and fails once it was put to so many times.
-#[derive(Drop)]
-struct Trickle {
-    bytes: Vec<u8>,
-    until_fault: usize,
-    faults: u64,
-}
-
-impl Trickle {
-    fn new(alloc: Global, until_fault: usize) -> Trickle {
-        Trickle {
-            bytes: Vec::new(alloc),
-            until_fault,
-            faults: 0,
-        }
-    }
-}
-
-impl Sink for Trickle {
-    const TAKES_MEMORY: bool = true;
-
-    ghost takes_memory = { true };
-
-    ghost told = { λ s. Some s.bytes.items };
-
-    ghost faults = { λ s. s.faults };
-
-    fn put(&mut self, piece: &[u8]) -> Result<usize, SinkFault> {
-        let Some(first) = piece.first() else {
-            return Ok(0);
-        };
-        if self.until_fault == 0 {
-            self.faults = self.faults.wrapping_add(1);
-            return Err(SinkFault::Io(io::Error::from(ErrorKind::BrokenPipe)));
-        }
-        self.until_fault -= 1;
-        match self.bytes.push(*first) {
-            Ok(()) => Ok(1),
-            Err(_) => Err(SinkFault::Memory),
-        }
-    }
-}
 
 // Lines, and what each prints.
 const ROWS: [(&str, &str); 21] = [
@@ -146,7 +58,7 @@ fn check_from<R: Source>(
 // A text's answer is the same byte by byte.
 fn check(rt: &(impl AllocGlobal + Abort), line: &str, want: &str) -> Result<(), RunFault> {
     check_from(rt, &mut line.as_bytes(), want)?;
-    check_from(rt, &mut Drip::new(line, usize::MAX), want)
+    check_from(rt, &mut Drip::new(line.as_bytes(), usize::MAX), want)
 }
 
 // Appends a text so many times.
@@ -201,7 +113,7 @@ fn no_input_prints_nothing(rt: HostRuntime) -> Result<(), RunFault> {
 fn a_source_that_fails(rt: HostRuntime) -> Result<(), RunFault> {
     // The last pull is the one that finds the end.
     for pulls in 0..=LINES.len() {
-        let mut source = Drip::new(LINES, pulls);
+        let mut source = Drip::new(LINES.as_bytes(), pulls);
         let mut out = Vec::new(rt.alloc());
         let answer = run(rt.alloc(), &mut source, &mut out);
         let is_input =
@@ -211,7 +123,7 @@ fn a_source_that_fails(rt: HostRuntime) -> Result<(), RunFault> {
         assert_eq!(rt; source.faults, 1, "after {pulls}");
     }
     let mut out = Vec::new(rt.alloc());
-    let mut source = Drip::new(LINES, LINES.len() + 1);
+    let mut source = Drip::new(LINES.as_bytes(), LINES.len() + 1);
     assert!(rt; run(rt.alloc(), &mut source, &mut out)?);
     assert!(rt; out.as_slice() == PRINTED.as_bytes());
     Ok(())

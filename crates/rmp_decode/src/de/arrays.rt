@@ -5,8 +5,9 @@ ghost use Rattle.rmp_decode.specs.Refusing.{OneWanted, element_setting};
 ghost use Rattle.rmp_decode.specs.Seq.{OfRow, IsOpen, FailsParts, count_in, in_bytes, left_in, lender_of};
 ghost use Rattle.rmp_decode.specs.State.{left, faults_of, config_of};
 
-use crate::de::seq::SeqAccess;
-use crate::de::{Deserialize, Deserializer};
+use crate::access::seq::SeqAccess;
+use crate::de::Deserialize;
+use crate::deserializer::Deserializer;
 use crate::error::Error;
 use rmp_wire::config::SerializerConfig;
 use rmp_wire::{ReadSlice, Source};

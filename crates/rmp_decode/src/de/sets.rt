@@ -4,7 +4,8 @@ ghost use Rattle.rmp_decode.specs.Refusing.{RefusesEach};
 ghost use Rattle.rmp_decode.specs.Rows.{ReadsEach};
 ghost use Rattle.rmp_decode.specs.Sets.{ReadsKeys};
 
-use crate::de::{Deserialize, Deserializer};
+use crate::de::Deserialize;
+use crate::deserializer::Deserializer;
 use crate::error::Error;
 use rmp_wire::ReadSlice;
 use rmp_wire::config::SerializerConfig;

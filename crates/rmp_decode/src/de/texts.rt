@@ -1,184 +1,16 @@
-//! Texts, characters and bytes.
-ghost use Rattle.std.specs.Prelude.{◌≡◌, ◌≢◌, if◌then◌else◌, true, false, None, IfErr};
+//! Texts, characters, bytes and extensions.
+ghost use Rattle.std.specs.Prelude.{◌≡◌, if◌then◌else◌, true, false, None};
 ghost use Rattle.std.specs.String.{string_bytes};
-ghost use Rattle.rmp_decode.specs.Content.{IsTextHead, IsRawHead, RefusesContent, RefusesLeaf, not_raw, never_refused, not_char, not_string, not_str, not_bytes};
-ghost use Rattle.rmp_decode.specs.Exact.{IsUtf8Error};
-ghost use Rattle.rmp_decode.specs.Law.{Lawful};
-ghost use Rattle.rmp_decode.specs.Kinds.{raw_msg};
-ghost use Rattle.rmp_decode.specs.Read.{IsRaw, IsString, IsChar};
-ghost use Rattle.rmp_decode.specs.State.{left, faults_of, is_failed, is_strict};
+ghost use Rattle.rmp_decode.specs.Content.{IsTextHead, IsRawHead, RefusesContent, not_raw, never_refused, not_char, not_string, not_str, not_bytes, IsExtHead, not_ext, IsBufferHead, not_buffer};
+ghost use Rattle.rmp_decode.specs.Read.{IsRaw, IsString, IsChar, IsExt};
+ghost use Rattle.rmp_wire.specs.Types.{buffer_bytes};
+ghost use Rattle.rmp_decode.specs.Buffers.{IsBuffer, RefusesListIn};
 
-use crate::de::kinds::{raw_in, text_in};
-use crate::de::pieces::{lent_content, next_char, owned};
-use crate::de::{Deserialize, Deserializer};
+use crate::de::Deserialize;
+use crate::deserializer::Deserializer;
 use crate::error::Error;
-use crate::text::Text;
 use rmp_wire::config::SerializerConfig;
-use rmp_wire::{Bytes, ReadSlice, Source};
-use std::str;
-use std::str::Utf8Error;
-
-// The refusal of bytes that aren't UTF-8.
-fn not_utf8(is_text: bool, e: Utf8Error) -> Error
-    ensures text { is_text ≡ true → IsUtf8Error result }
-    ensures bytes { is_text ≡ false → result ≡ Error.Syntax Text.InvalidValue }
-{
-    if is_text {
-        Error::Utf8Error(e)
-    } else {
-        Error::Syntax(Text::InvalidValue)
-    }
-}
-
-impl<R: Source, C: SerializerConfig> Deserializer<R, C> {
-    // The bytes of a text or of bytes, lent, and whether they are a text's.
-    #[inline(always)]
-    fn lent_raw<'de>(&mut self) -> Result<(bool, &'de [u8]), Error>
-    where
-        R: ReadSlice<'de>,
-        ensures law { Lawful R.Source (λ m p. (R.lends ≡ true) × (m ≡ raw_msg p.0 p.1.now)) self.old self.new result }
-        ensures exact { RefusesLeaf R.Source IsRawHead not_raw (not_bytes R.lends) self.old self.new result }
-        ensures memory { R.lends ≡ true → IfErr result (λ e. e ≢ Error.OutOfMemory) }
-    {
-        match self.head() {
-            Ok((_, head)) => match raw_in(head) {
-                Some((is_text, len)) => {
-                    match lent_content(&mut self.reader, is_text, len as usize) {
-                        Ok(bytes) => {
-                            self.failed = false;
-                            Ok((is_text, bytes))
-                        }
-                        Err(e) => Err(e),
-                    }
-                }
-                None => Err(Error::Syntax(Text::InvalidType)),
-            },
-            Err(e) => Err(e),
-        }
-    }
-
-    // The bytes of a text or of bytes, in a vector, and whether they are a text's.
-    fn owned_raw<'de>(&mut self) -> Result<(bool, Vec<u8>), Error>
-    where
-        R: ReadSlice<'de>,
-        ensures law { Lawful R.Source (λ m p. m ≡ raw_msg p.0 p.1.items) self.old self.new result }
-        ensures exact { RefusesLeaf R.Source IsRawHead not_raw never_refused self.old self.new result }
-    {
-        match self.head() {
-            Ok((_, head)) => match raw_in(head) {
-                Some((is_text, len)) => match owned(self.alloc, &mut self.reader, len as usize) {
-                    Ok(bytes) => {
-                        self.failed = false;
-                        Ok((is_text, bytes))
-                    }
-                    Err(e) => Err(e),
-                },
-                None => Err(Error::Syntax(Text::InvalidType)),
-            },
-            Err(e) => Err(e),
-        }
-    }
-
-    /// Reads a text of one character.
-    ///
-    /// # Errors
-    /// `Utf8Error` for a text that isn't UTF-8, and `Syntax("invalid value")` for one of another count of characters.
-    pub fn deserialize_char<'de>(&mut self) -> Result<char, Error>
-    where
-        R: ReadSlice<'de>,
-        ensures law { Lawful R.Source IsChar self.old self.new result }
-        ensures exact { RefusesLeaf R.Source IsTextHead not_raw not_char self.old self.new result }
-        ensures memory { R.lends ≡ true → IfErr result (λ e. e ≢ Error.OutOfMemory) }
-    {
-        match self.head() {
-            Ok((_, head)) => match text_in(head) {
-                Some(len) => match next_char(&mut self.reader, len as usize) {
-                    Ok(c) => {
-                        self.failed = false;
-                        Ok(c)
-                    }
-                    Err(e) => Err(e),
-                },
-                None => Err(Error::Syntax(Text::InvalidType)),
-            },
-            Err(e) => Err(e),
-        }
-    }
-
-    /// Reads the bytes of a text, which may be no UTF-8, or of bytes, and lends them for the input's whole life, without memory.
-    ///
-    /// # Errors
-    /// Where the source doesn't lend, `Utf8Error` for a text that isn't UTF-8, and else `Syntax("invalid type")`.
-    #[inline(always)]
-    pub fn deserialize_bytes<'de>(&mut self) -> Result<&'de [u8], Error>
-    where
-        R: ReadSlice<'de>,
-        ensures law { Lawful R.Source (λ m s. (R.lends ≡ true) × IsRaw m s.now) self.old self.new result }
-        ensures exact { RefusesLeaf R.Source IsRawHead not_raw (not_bytes R.lends) self.old self.new result }
-        ensures memory { R.lends ≡ true → IfErr result (λ e. e ≢ Error.OutOfMemory) }
-    {
-        match self.lent_raw() {
-            Ok((_, bytes)) => Ok(bytes),
-            Err(e) => Err(e),
-        }
-    }
-
-    /// Reads a text, or bytes that are UTF-8, and lends it for the input's whole life, without memory.
-    ///
-    /// # Errors
-    /// `Utf8Error` for a text that isn't UTF-8, and `Syntax("invalid value")` for bytes that aren't. Where the source doesn't
-    /// lend, bytes and a text that is UTF-8 are `Syntax("invalid type")`.
-    #[inline(always)]
-    pub fn deserialize_str<'de>(&mut self) -> Result<&'de str, Error>
-    where
-        R: ReadSlice<'de>,
-        ensures law { Lawful R.Source (λ m s. (R.lends ≡ true) × IsString m s.now) self.old self.new result }
-        ensures exact { RefusesLeaf R.Source IsRawHead not_raw (not_str R.lends) self.old self.new result }
-        ensures memory { R.lends ≡ true → IfErr result (λ e. e ≢ Error.OutOfMemory) }
-    {
-        match self.lent_raw() {
-            Ok((is_text, bytes)) => match str::from_utf8(bytes) {
-                Ok(s) => Ok(s),
-                Err(e) => Err(self.refuse(not_utf8(is_text, e))),
-            },
-            Err(e) => Err(e),
-        }
-    }
-
-    /// Reads a text, or bytes that are UTF-8.
-    ///
-    /// # Errors
-    /// `Utf8Error` for a text that isn't UTF-8, and `Syntax("invalid value")` for bytes that aren't.
-    #[inline(always)]
-    pub fn deserialize_string<'de>(&mut self) -> Result<String, Error>
-    where
-        R: ReadSlice<'de>,
-        ensures law { Lawful R.Source (λ m s. IsRaw m (string_bytes s)) self.old self.new result }
-        ensures exact { RefusesLeaf R.Source IsRawHead not_raw not_string self.old self.new result }
-    {
-        match self.text_front() {
-            Some(len) => self.string_behind(len),
-            None => self.headed_string(),
-        }
-    }
-
-    // The same by way of `head`, by a call.
-    #[inline(never)]
-    fn headed_string<'de>(&mut self) -> Result<String, Error>
-    where
-        R: ReadSlice<'de>,
-        ensures law { Lawful R.Source (λ m s. IsRaw m (string_bytes s)) self.old self.new result }
-        ensures exact { RefusesLeaf R.Source IsRawHead not_raw not_string self.old self.new result }
-    {
-        match self.owned_raw() {
-            Ok((is_text, bytes)) => match String::from_utf8(bytes) {
-                Ok(s) => Ok(s),
-                Err(e) => Err(self.refuse(not_utf8(is_text, e.utf8_error()))),
-            },
-            Err(e) => Err(e),
-        }
-    }
-}
+use rmp_wire::{ByteBuf, Bytes, Ext, ReadSlice};
 
 impl<'de, R: ReadSlice<'de>> Deserialize<'de, R> for char {
     ghost reads = { λ human lends. IsChar };
@@ -274,6 +106,43 @@ impl<'de, R: ReadSlice<'de>> Deserialize<'de, R> for Bytes<'de> {
     }
 
     fn missing() -> Option<Bytes<'de>> {
+        None
+    }
+}
+
+impl<'de, R: ReadSlice<'de>> Deserialize<'de, R> for Ext {
+    ghost reads = { λ human lends. IsExt };
+
+    ghost absent = { None };
+
+    ghost refuses = { λ s. RefusesContent s.strict IsExtHead not_ext never_refused };
+
+    #[inline(always)]
+    fn deserialize<C: SerializerConfig>(de: &mut Deserializer<R, C>) -> Result<Ext, Error> {
+        de.deserialize_ext()
+    }
+
+    fn missing() -> Option<Ext> {
+        None
+    }
+}
+
+impl<'de, R: ReadSlice<'de>> Deserialize<'de, R> for ByteBuf {
+    ghost reads = { λ human lends m b. IsBuffer m (buffer_bytes b) };
+
+    ghost absent = { None };
+
+    ghost refuses = { λ s before after known e. RefusesContent s.strict IsBufferHead not_raw not_buffer before after known e × RefusesListIn s.strict s.room before after known e };
+
+    #[inline(always)]
+    fn deserialize<C: SerializerConfig>(de: &mut Deserializer<R, C>) -> Result<ByteBuf, Error> {
+        match de.deserialize_byte_buf() {
+            Ok(bytes) => Ok(ByteBuf::new(bytes)),
+            Err(e) => Err(e),
+        }
+    }
+
+    fn missing() -> Option<ByteBuf> {
         None
     }
 }

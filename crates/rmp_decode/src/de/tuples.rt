@@ -5,8 +5,9 @@ ghost use Rattle.rmp_decode.specs.Rows.{AndThen, Anything, NoMore};
 ghost use Rattle.rmp_decode.specs.Seq.{OfRow, IsOpen, TakesParts, FailsParts, lender_of};
 ghost use Rattle.rmp_decode.specs.State.{config_of};
 
-use crate::de::seq::SeqAccess;
-use crate::de::{Deserialize, Deserializer};
+use crate::access::seq::SeqAccess;
+use crate::de::Deserialize;
+use crate::deserializer::Deserializer;
 use crate::error::Error;
 use rmp_wire::config::SerializerConfig;
 use rmp_wire::{ReadSlice, Source};

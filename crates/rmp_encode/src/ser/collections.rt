@@ -5,7 +5,7 @@
 ghost use Rattle.std.specs.Prelude.{◌≡◌, ◌^◌, ◌≤◌, ◌||◌, map, length, All, OnOk};
 ghost use Rattle.rmp_encode.specs.Ser.{sink_of, settings_of};
 ghost use Rattle.rmp_encode.specs.Trees.{tree_of, sequence_of, mapping_of, in_turn};
-ghost use Rattle.rmp_encode.specs.Writes.{Keeps, WritesTree};
+ghost use Rattle.rmp_encode.specs.Writes.{Keeps, StaysAtRefusal, WritesTree};
 
 use crate::error::Error;
 use crate::ser::Serialize;
@@ -28,6 +28,7 @@ impl<T: Serialize> Serialize for VecDeque<T> {
         ensures writes { WritesTree W.Sink (T.takes_memory (settings_of se.old) || W.takes_memory) (tree_of (settings_of se.old) (sequence_of (map (λ x. T.data_of x (settings_of se.old).human) self.now.items))) (sink_of se.old) (sink_of se.new) result }
         ensures keeps { Keeps W.Sink se.old se.new }
         ensures refused { 2 ^ 32 ≤ length self.now.items → se.new ≡ se.old }
+        ensures reason { 2 ^ 32 ≤ length self.now.items → StaysAtRefusal se.old se.new result }
         ensures value { OnOk result (All T.is_value self.now.items) }
     {
         se.put_len(false, self.len())?;
@@ -58,6 +59,7 @@ impl<T: Serialize + Ord> Serialize for BTreeSet<T> {
         ensures writes { WritesTree W.Sink (T.takes_memory (settings_of se.old) || W.takes_memory) (tree_of (settings_of se.old) (sequence_of (map (λ x. T.data_of x (settings_of se.old).human) self.now.keys))) (sink_of se.old) (sink_of se.new) result }
         ensures keeps { Keeps W.Sink se.old se.new }
         ensures refused { 2 ^ 32 ≤ length self.now.keys → se.new ≡ se.old }
+        ensures reason { 2 ^ 32 ≤ length self.now.keys → StaysAtRefusal se.old se.new result }
         ensures value { OnOk result (All T.is_value self.now.keys) }
     {
         se.put_len(false, self.len())?;
@@ -88,6 +90,7 @@ impl<K: Serialize + Ord, V: Serialize> Serialize for BTreeMap<K, V> {
         ensures writes { WritesTree W.Sink ((K.takes_memory (settings_of se.old) || V.takes_memory (settings_of se.old)) || W.takes_memory) (tree_of (settings_of se.old) (mapping_of (in_turn (λ k. K.data_of k (settings_of se.old).human) (λ x. V.data_of x (settings_of se.old).human) self.now.entries))) (sink_of se.old) (sink_of se.new) result }
         ensures keeps { Keeps W.Sink se.old se.new }
         ensures refused { 2 ^ 32 ≤ length self.now.entries → se.new ≡ se.old }
+        ensures reason { 2 ^ 32 ≤ length self.now.entries → StaysAtRefusal se.old se.new result }
         ensures value { OnOk result (All (λ e. K.is_value e.0 × V.is_value e.1) self.now.entries) }
     {
         se.put_len(true, self.len())?;

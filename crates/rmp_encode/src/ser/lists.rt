@@ -5,7 +5,7 @@
 ghost use Rattle.std.specs.Prelude.{◌≡◌, ◌^◌, ◌≤◌, ◌||◌, map, length, All, OnOk};
 ghost use Rattle.rmp_encode.specs.Ser.{sink_of, settings_of};
 ghost use Rattle.rmp_encode.specs.Trees.{tree_of, slice_of, tuple_of, forces_all, forces_slices};
-ghost use Rattle.rmp_encode.specs.Writes.{Keeps, WritesTree};
+ghost use Rattle.rmp_encode.specs.Writes.{Keeps, StaysAtRefusal, WritesTree};
 
 use crate::error::Error;
 use crate::ser::Serialize;
@@ -28,6 +28,7 @@ impl<T: Serialize> Serialize for Vec<T> {
         ensures writes { WritesTree W.Sink ((forces_slices (settings_of se.old).bytes || T.takes_memory (settings_of se.old)) || W.takes_memory) (tree_of (settings_of se.old) (slice_of (map (λ x. T.data_of x (settings_of se.old).human) self.now.items))) (sink_of se.old) (sink_of se.new) result }
         ensures keeps { Keeps W.Sink se.old se.new }
         ensures refused { 2 ^ 32 ≤ length self.now.items → se.new ≡ se.old }
+        ensures reason { 2 ^ 32 ≤ length self.now.items → StaysAtRefusal se.old se.new result }
         ensures value { OnOk result (All T.is_value self.now.items) }
     {
         se.collect_seq(self.as_slice())
@@ -54,6 +55,7 @@ impl<T: Serialize> Serialize for &[T] {
         ensures writes { WritesTree W.Sink ((forces_slices (settings_of se.old).bytes || T.takes_memory (settings_of se.old)) || W.takes_memory) (tree_of (settings_of se.old) (slice_of (map (λ x. T.data_of x (settings_of se.old).human) self.now.now))) (sink_of se.old) (sink_of se.new) result }
         ensures keeps { Keeps W.Sink se.old se.new }
         ensures refused { 2 ^ 32 ≤ length self.now.now → se.new ≡ se.old }
+        ensures reason { 2 ^ 32 ≤ length self.now.now → StaysAtRefusal se.old se.new result }
         ensures value { OnOk result (All T.is_value self.now.now) }
     {
         se.collect_seq(self)

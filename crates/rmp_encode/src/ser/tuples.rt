@@ -1,6 +1,9 @@
 //! Tuples of one to eight elements. Written by tools/tuples.py.
-ghost use Rattle.std.specs.Prelude.{◌∷◌, []};
-ghost use Rattle.rmp_encode.specs.Trees.{tuple_of};
+//!
+//! In the modes `Normal` and `ForceIterables` writing them takes no memory but by their elements and the sink.
+ghost use Rattle.std.specs.Prelude.{◌∷◌, ◌||◌, []};
+ghost use Rattle.rmp_encode.specs.Sizes.{one_of};
+ghost use Rattle.rmp_encode.specs.Trees.{forces_all, tuple_of};
 
 use crate::error::Error;
 use crate::ser::Serialize;
@@ -12,6 +15,8 @@ impl<E1: Serialize> Serialize for (E1,) {
     ghost data_of = { λ v human. tuple_of (E1.data_of v.0 human ∷ []) };
 
     ghost is_value = { λ v. E1.is_value v.0 };
+
+    ghost takes_memory = { λ s. forces_all s.bytes || one_of (E1.takes_memory s ∷ []) };
 
     fn serialize<W: Sink, C: SerializerConfig>(
         &self,
@@ -33,6 +38,8 @@ impl<E1: Serialize, E2: Serialize> Serialize for (E1, E2) {
     ghost data_of = { λ v human. tuple_of (E1.data_of v.0 human ∷ E2.data_of v.1 human ∷ []) };
 
     ghost is_value = { λ v. E1.is_value v.0 × E2.is_value v.1 };
+
+    ghost takes_memory = { λ s. forces_all s.bytes || one_of (E1.takes_memory s ∷ (E2.takes_memory s ∷ [])) };
 
     fn serialize<W: Sink, C: SerializerConfig>(
         &self,
@@ -56,6 +63,8 @@ impl<E1: Serialize, E2: Serialize, E3: Serialize> Serialize for (E1, E2, E3) {
 
     ghost is_value = { λ v. E1.is_value v.0 × E2.is_value v.1 × E3.is_value v.2 };
 
+    ghost takes_memory = { λ s. forces_all s.bytes || one_of (E1.takes_memory s ∷ (E2.takes_memory s ∷ (E3.takes_memory s ∷ []))) };
+
     fn serialize<W: Sink, C: SerializerConfig>(
         &self,
         se: &mut Serializer<W, C>,
@@ -78,6 +87,8 @@ impl<E1: Serialize, E2: Serialize, E3: Serialize, E4: Serialize> Serialize for (
     ghost data_of = { λ v human. tuple_of (E1.data_of v.0 human ∷ E2.data_of v.1 human ∷ E3.data_of v.2 human ∷ E4.data_of v.3 human ∷ []) };
 
     ghost is_value = { λ v. E1.is_value v.0 × E2.is_value v.1 × E3.is_value v.2 × E4.is_value v.3 };
+
+    ghost takes_memory = { λ s. forces_all s.bytes || one_of (E1.takes_memory s ∷ (E2.takes_memory s ∷ (E3.takes_memory s ∷ (E4.takes_memory s ∷ [])))) };
 
     fn serialize<W: Sink, C: SerializerConfig>(
         &self,
@@ -103,6 +114,8 @@ impl<E1: Serialize, E2: Serialize, E3: Serialize, E4: Serialize, E5: Serialize> 
     ghost data_of = { λ v human. tuple_of (E1.data_of v.0 human ∷ E2.data_of v.1 human ∷ E3.data_of v.2 human ∷ E4.data_of v.3 human ∷ E5.data_of v.4 human ∷ []) };
 
     ghost is_value = { λ v. E1.is_value v.0 × E2.is_value v.1 × E3.is_value v.2 × E4.is_value v.3 × E5.is_value v.4 };
+
+    ghost takes_memory = { λ s. forces_all s.bytes || one_of (E1.takes_memory s ∷ (E2.takes_memory s ∷ (E3.takes_memory s ∷ (E4.takes_memory s ∷ (E5.takes_memory s ∷ []))))) };
 
     fn serialize<W: Sink, C: SerializerConfig>(
         &self,
@@ -135,6 +148,8 @@ impl<
     ghost data_of = { λ v human. tuple_of (E1.data_of v.0 human ∷ E2.data_of v.1 human ∷ E3.data_of v.2 human ∷ E4.data_of v.3 human ∷ E5.data_of v.4 human ∷ E6.data_of v.5 human ∷ []) };
 
     ghost is_value = { λ v. E1.is_value v.0 × E2.is_value v.1 × E3.is_value v.2 × E4.is_value v.3 × E5.is_value v.4 × E6.is_value v.5 };
+
+    ghost takes_memory = { λ s. forces_all s.bytes || one_of (E1.takes_memory s ∷ (E2.takes_memory s ∷ (E3.takes_memory s ∷ (E4.takes_memory s ∷ (E5.takes_memory s ∷ (E6.takes_memory s ∷ [])))))) };
 
     fn serialize<W: Sink, C: SerializerConfig>(
         &self,
@@ -169,6 +184,8 @@ impl<
     ghost data_of = { λ v human. tuple_of (E1.data_of v.0 human ∷ E2.data_of v.1 human ∷ E3.data_of v.2 human ∷ E4.data_of v.3 human ∷ E5.data_of v.4 human ∷ E6.data_of v.5 human ∷ E7.data_of v.6 human ∷ []) };
 
     ghost is_value = { λ v. E1.is_value v.0 × E2.is_value v.1 × E3.is_value v.2 × E4.is_value v.3 × E5.is_value v.4 × E6.is_value v.5 × E7.is_value v.6 };
+
+    ghost takes_memory = { λ s. forces_all s.bytes || one_of (E1.takes_memory s ∷ (E2.takes_memory s ∷ (E3.takes_memory s ∷ (E4.takes_memory s ∷ (E5.takes_memory s ∷ (E6.takes_memory s ∷ (E7.takes_memory s ∷ []))))))) };
 
     fn serialize<W: Sink, C: SerializerConfig>(
         &self,
@@ -205,6 +222,8 @@ impl<
     ghost data_of = { λ v human. tuple_of (E1.data_of v.0 human ∷ E2.data_of v.1 human ∷ E3.data_of v.2 human ∷ E4.data_of v.3 human ∷ E5.data_of v.4 human ∷ E6.data_of v.5 human ∷ E7.data_of v.6 human ∷ E8.data_of v.7 human ∷ []) };
 
     ghost is_value = { λ v. E1.is_value v.0 × E2.is_value v.1 × E3.is_value v.2 × E4.is_value v.3 × E5.is_value v.4 × E6.is_value v.5 × E7.is_value v.6 × E8.is_value v.7 };
+
+    ghost takes_memory = { λ s. forces_all s.bytes || one_of (E1.takes_memory s ∷ (E2.takes_memory s ∷ (E3.takes_memory s ∷ (E4.takes_memory s ∷ (E5.takes_memory s ∷ (E6.takes_memory s ∷ (E7.takes_memory s ∷ (E8.takes_memory s ∷ [])))))))) };
 
     fn serialize<W: Sink, C: SerializerConfig>(
         &self,

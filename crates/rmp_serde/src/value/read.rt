@@ -4,7 +4,7 @@ ghost use Rattle.rmp_wire.specs.Msg.{list, map as map_of, msgs, pairs};
 ghost use Rattle.rmp_decode.specs.Law.{Lawful};
 ghost use Rattle.rmp_decode.specs.Maps.{IsMapOpen, AtKey, pairs_left, map_lender};
 ghost use Rattle.rmp_decode.specs.Seq.{IsOpen, left_in, lender_of};
-ghost use Rattle.rmp_decode.specs.declared.de.any.Any.TheVariants as any;
+ghost use Rattle.rmp_decode.specs.declared.access.any.Any.TheVariants as any;
 ghost use Rattle.rmp_decode.specs.Refuse.{Refusal};
 ghost use Rattle.rmp_serde.specs.Read.{reads_value, ItemsUtf8, IsOpened, Finishes, Completes};
 ghost use Rattle.rmp_serde.specs.Refuse.{UnreadFor, RefusesValue, RefusesOpened};

@@ -2,7 +2,7 @@
 use Rattle.std.proofs.Common.{◌≡◌, false, length}
 use Rattle.rmp_wire.specs.RefReader.{rest_of}
 use Rattle.rmp_decode.specs.State.{reader_of, kept_of, limit_of, is_failed, is_strict}
-use Rattle.rmp_decode.specs.declared.de.Kept.TheVariants.{Nothing}
+use Rattle.rmp_decode.specs.declared.deserializer.Kept.TheVariants.{Nothing}
 use Rattle.mpcanon.specs.Output.{PutsLines}
 use Rattle.mpcanon.proofs.Shown.{SoFar}
 use Rattle.mpcanon.proofs.run.run_messages.Given as goal

@@ -1,6 +1,6 @@
 use Rattle.std.proofs.Common.{◌∙◌, ap, refl, true, max}
 use Rattle.std.proofs.lemmas.Result.{IfOk-weaker, IfErr-weaker}
-use Rattle.rmp_decode.specs.declared.de.Deserializer.{Deserializer}
+use Rattle.rmp_decode.specs.declared.deserializer.Deserializer.{Deserializer}
 use Rattle.rmp_wire.specs.RefReader.{rest_of}
 use Rattle.rmp_decode.proofs.Whole.{known_left, begins_from, none_begins, refused_from}
 use Rattle.rmp_decode.proofs.de.from_slice_strict.Goals as goal

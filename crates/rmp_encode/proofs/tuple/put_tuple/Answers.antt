@@ -5,9 +5,9 @@ use Rattle.std.proofs.lemmas.Result.{err_from_is_err_and}
 use Rattle.rmp_encode.specs.Ser.{settings_of}
 use Rattle.rmp_encode.specs.Trees.{forces_all}
 use Rattle.rmp_encode.proofs.Parts.{rests_at, part_takes, or_second, or_given}
-use Rattle.rmp_encode.proofs.Going.{map_rest, map_rest_none, keeps_then, keeps_last, on_ok}
+use Rattle.rmp_encode.proofs.Going.{map_rest, map_rest_none, keeps_then, keeps_last, on_ok, unopened}
 use Rattle.rmp_encode.proofs.Packing.{plain_mode}
-use Rattle.rmp_encode.proofs.TupleSteps.{as_tree, refuses_tuple, still_tuple, tuple_left}
+use Rattle.rmp_encode.proofs.TupleSteps.{as_tree, still_tuple}
 use Rattle.std.proofs.lemmas.List.{length-map}
 use Rattle.rmp_encode.proofs.tuple.put_tuple.Goals as goal
 
@@ -18,7 +18,7 @@ pub returns-in_err-tup-clause-writes : goal.returns-in_err-tup-clause-writes
 returns-in_err-tup-clause-writes g c =
     let forced = or_given _ (g.T.Serialize.takes_memory (settings_of c.args.se.now)) g.W.Sink.takes_memory (sym c.forces_all.ensures ∙ c.if-not-forces_all.false) in
     let p = err_from_is_err_and c.from_residual.result c.from_residual.ensures.1 in
-    rw (p.1, p.2) (part_takes g.W.Sink _ (λ _. forced) (refuses_tuple g.W.Sink c.args.se.now _ _ _ _ _ c.in_err-tup.was c.serialize_tuple.follows.holds-at-none (length-map _ _ ∙ search rules)))
+    rw (p.1, p.2) (part_takes g.W.Sink _ (λ _. forced) (unopened g.W.Sink _ _ _ c.args.se.now _ _ _ _ c.in_err-tup.was c.serialize_tuple.follows.holds-at-none (length-map _ _ ∙ search rules)))
 
 pub loop-value-init : goal.loop-value-init
 loop-value-init g c = record {
@@ -32,7 +32,7 @@ loop-value-init g c = record {
 pub serialize_element-requires : goal.serialize_element-requires
 serialize_element-requires g c =
     let rest = map_rest (λ x. g.T.Serialize.data_of x (settings_of c.args.se.now).human) c.args.values.now c.loop-value.value-index c.value-item.result c.loop-value-test.true c.value-item.is in
-    let n = tuple_left g.W.Sink (still_tuple g.W.Sink rest c.loop-value.invariant.writing) in record { sound = c.loop-value.invariant.writing.sound; room = omega (arith, n) }
+    let n = (still_tuple g.W.Sink rest c.loop-value.invariant.writing).left_is in record { sound = c.loop-value.invariant.writing.sound; room = omega (arith, n) }
 
 pub loop-value-preserved : goal.loop-value-preserved
 loop-value-preserved g c =
@@ -58,7 +58,7 @@ returns-in_err-serialize_element-clause-keeps g c = keeps_last g.W.Sink (search 
 pub end-requires : goal.end-requires
 end-requires g c =
     let rest = map_rest_none (λ x. g.T.Serialize.data_of x (settings_of c.args.se.now).human) c.args.values.now c.loop-value.value-index c.loop-value-test.false in
-    let n = tuple_left g.W.Sink (still_tuple g.W.Sink rest c.loop-value.invariant.writing) in record { sound = c.loop-value.invariant.writing.sound; whole = omega (arith, n) }
+    let n = (still_tuple g.W.Sink rest c.loop-value.invariant.writing).left_is in record { sound = c.loop-value.invariant.writing.sound; whole = omega (arith, n) }
 
 pub returns-clause-writes : goal.returns-clause-writes
 returns-clause-writes g c =

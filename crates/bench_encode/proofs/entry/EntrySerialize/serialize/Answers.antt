@@ -1,13 +1,13 @@
 use Rattle.std.proofs.Common.{rules, refl}
 use Rattle.std.proofs.lemmas.Result.{err_from_is_err_and}
-use Rattle.rmp_encode.proofs.Filling.{refuses_filling}
+use Rattle.rmp_encode.proofs.Going.{unopened}
 use Rattle.rmp_encode.proofs.Parts.{rests_at}
 use Rattle.bench_encode.proofs.entry.EntrySerialize.serialize.Goals as goal
 
 pub returns-in_err-parts-clause-writes : goal.returns-in_err-parts-clause-writes
 returns-in_err-parts-clause-writes g c =
     let p = err_from_is_err_and c.from_residual.result c.from_residual.ensures.1 in
-    rw (p.1, p.2) (refuses_filling g.W.Sink c.args.se.now _ 2 _ _ _ c.in_err-parts.was c.serialize_tuple_struct.follows.holds-at-none refl)
+    rw (p.1, p.2) (unopened g.W.Sink _ _ _ c.args.se.now _ _ _ _ c.in_err-parts.was c.serialize_tuple_struct.follows.holds-at-none refl)
 
 pub returns-in_err-serialize_element-clause-writes : goal.returns-in_err-serialize_element-clause-writes
 returns-in_err-serialize_element-clause-writes g c =

@@ -1,9 +1,21 @@
-use Rattle.std.proofs.Common.{arith, refl}
-use Rattle.rmp_encode.proofs.Going.{begins, at_too_long}
+use Rattle.std.proofs.Common.{arith, rules}
+use Rattle.std.proofs.lemmas.Result.{err_from_is_err_and}
+use Rattle.rmp_encode.specs.Going.{head_at}
+use Rattle.rmp_encode.proofs.Going.{begins, begins_not, never_refused_by, stays_refused}
 use Rattle.rmp_encode.proofs.serializer.Serializer.put_len.Goals as goal
 
-pub returns-then-len-clause-begins : goal.returns-then-len-clause-begins
-returns-then-len-clause-begins g c = λ all e. at_too_long c.args.pairs g.W.Sink _ c.args.self.now c.args.len _ refl (omega arith) all e
+pub returns-in_err-n-clause-begins : goal.returns-in_err-n-clause-begins
+returns-in_err-n-clause-begins g c =
+    let p = err_from_is_err_and c.from_residual.result c.from_residual.ensures.1 in
+    rw (p.1, p.2) (begins_not g.W.Sink _ c.args.self.now _ c.in_err-n.ensures.refused (λ lt. omega (arith, lt, c.in_err-n.ensures.long)))
+
+pub returns-in_err-n-clause-stays : goal.returns-in_err-n-clause-stays
+returns-in_err-n-clause-stays g c =
+    let p = err_from_is_err_and c.from_residual.result c.from_residual.ensures.1 in
+    rw (p.1, p.2) (stays_refused _ _ c.in_err-n.ensures.refused)
 
 pub returns-clause-begins : goal.returns-clause-begins
-returns-clause-begins g c = begins c.args.pairs g.W.Sink c.args.self.now _ c.args.len c.put_head.result (omega arith) c.put_head.ensures.keeps c.put_head.ensures.writes
+returns-clause-begins g c = begins g.W.Sink (head_at c.args.pairs c.args.len) c.args.self.now _ c.put_head.result (search rules) c.put_head.ensures.keeps (rw c.in_ok-n.ensures.same at c.put_head.ensures.writes)
+
+pub returns-clause-stays : goal.returns-clause-stays
+returns-clause-stays g c = never_refused_by g.W.Sink.takes_memory _ _ _ _ c.put_head.result c.put_head.ensures.writes.cause

@@ -1,14 +1,23 @@
-use Rattle.std.proofs.Common.{arith, refl}
+use Rattle.std.proofs.Common.{arith}
+use Rattle.std.proofs.lemmas.Result.{err_from_is_err_and}
 use Rattle.rmp_wire.specs.Heads.{fits_head}
+use Rattle.rmp_encode.proofs.Going.{stays_refused}
 use Rattle.rmp_encode.proofs.Leaves.{wire_tree, bin_too_long, bytes_from, wire_marker}
 use Rattle.rmp_encode.proofs.serializer.Serializer.serialize_bytes.Goals as goal
 
-pub returns-then-bytes-clause-writes : goal.returns-then-bytes-clause-writes
-returns-then-bytes-clause-writes g c = bin_too_long g.W.Sink _ c.args.bytes.now _ _ refl (omega arith)
+pub returns-in_err-fits_u32-clause-writes : goal.returns-in_err-fits_u32-clause-writes
+returns-in_err-fits_u32-clause-writes g c =
+    let p = err_from_is_err_and c.from_residual.result c.from_residual.ensures.1 in
+    rw (p.1, p.2) (bin_too_long g.W.Sink _ c.args.bytes.now _ _ c.in_err-fits_u32.ensures.refused c.in_err-fits_u32.ensures.long)
+
+pub returns-in_err-fits_u32-clause-refused : goal.returns-in_err-fits_u32-clause-refused
+returns-in_err-fits_u32-clause-refused g c =
+    let p = err_from_is_err_and c.from_residual.result c.from_residual.ensures.1 in
+    rw (p.1, p.2) (stays_refused _ _ c.in_err-fits_u32.ensures.refused)
 
 pub returns-clause-writes : goal.returns-clause-writes
 unfolding fits_head
-returns-clause-writes g c = wire_tree g.W.Sink _ c.write_bin.result c.answer.ensures (omega arith, bytes_from c.args.bytes.now (λ i. omega (arith, c.type_inv.bytes i))) c.write_bin.ensures.writes
+returns-clause-writes g c = wire_tree g.W.Sink _ c.write_bin.result c.answer.ensures (c.in_ok-fits_u32.ensures.fits, bytes_from c.args.bytes.now (λ i. omega (arith, c.type_inv.bytes i))) c.write_bin.ensures.writes
 
 pub returns-clause-marker : goal.returns-clause-marker
 returns-clause-marker g c = wire_marker g.W.Sink _ c.write_bin.result c.answer.ensures c.write_bin.ensures.writes

@@ -1,36 +1,43 @@
-use Rattle.std.proofs.Common.{arith, refl}
+use Rattle.std.proofs.Common.{arith}
 use Rattle.std.specs.Int.{w8}
 use Rattle.std.proofs.lemmas.Int.{to_z-of_z}
 use Rattle.std.proofs.lemmas.Result.{err_from_is_err_and}
 use Rattle.rmp_wire.proofs.Writing.{head_some}
 use Rattle.rmp_encode.proofs.Leaves.{ext_too_long, ext_tree, ext_as, bytes_from, none_by_never}
-use Rattle.rmp_encode.proofs.OpenSteps.{never_refused, never_refused_by}
+use Rattle.rmp_encode.proofs.Going.{never_refused, never_refused_by, stays_refused}
 use Rattle.rmp_encode.proofs.Parts.{part_stops}
 use Rattle.rmp_encode.proofs.serializer.Serializer.serialize_ext.Goals as goal
 
-pub returns-then-bytes-clause-writes : goal.returns-then-bytes-clause-writes
-returns-then-bytes-clause-writes g c = ext_too_long g.W.Sink _ c.args.tag c.args.bytes.now _ _ refl (omega arith)
+pub returns-in_err-n-clause-writes : goal.returns-in_err-n-clause-writes
+returns-in_err-n-clause-writes g c =
+    let p = err_from_is_err_and c.from_residual.result c.from_residual.ensures.1 in
+    rw (p.1, p.2) (ext_too_long g.W.Sink _ c.args.tag c.args.bytes.now _ _ c.in_err-n.ensures.refused c.in_err-n.ensures.long)
+
+pub returns-in_err-n-clause-refused : goal.returns-in_err-n-clause-refused
+returns-in_err-n-clause-refused g c =
+    let p = err_from_is_err_and c.from_residual.result c.from_residual.ensures.1 in
+    rw (p.1, p.2) (stays_refused _ _ c.in_err-n.ensures.refused)
 
 pub returns-in_err-put_ext_head-clause-writes : goal.returns-in_err-put_ext_head-clause-writes
 returns-in_err-put_ext_head-clause-writes g c =
-    let p = err_from_is_err_and c.from_residual.result c.from_residual.ensures.1 in
-    rw (p.1, p.2) (ext_tree g.W.Sink (tt, tt) c.args.tag c.args.bytes.now _ (omega arith) (omega arith) c.ranges.tag (bytes_from c.args.bytes.now (λ i. omega (arith, c.type_inv.bytes i))) (part_stops g.W.Sink {Q = Unit {0}} _ (ext_as g.W.Sink _ _ _ (to_z-of_z w8 c.args.tag c.ranges.tag) c.in_err-put_ext_head.ensures.writes)))
+    let p = err_from_is_err_and c.from_residual-in_err-put_ext_head.result c.from_residual-in_err-put_ext_head.ensures.1 in
+    rw (p.1, p.2) (ext_tree g.W.Sink (tt, tt) c.args.tag c.args.bytes.now _ c.in_ok-n.ensures.same (omega (arith, c.in_ok-n.ensures.same, c.in_ok-n.ensures.fits)) c.ranges.tag (bytes_from c.args.bytes.now (λ i. omega (arith, c.type_inv.bytes i))) (part_stops g.W.Sink {Q = Unit {0}} _ (ext_as g.W.Sink _ _ _ (to_z-of_z w8 c.args.tag c.ranges.tag) c.in_err-put_ext_head.ensures.writes)))
 
 pub returns-in_err-put_ext_head-clause-refused : goal.returns-in_err-put_ext_head-clause-refused
 returns-in_err-put_ext_head-clause-refused g c =
-    let p = err_from_is_err_and c.from_residual.result c.from_residual.ensures.1 in
+    let p = err_from_is_err_and c.from_residual-in_err-put_ext_head.result c.from_residual-in_err-put_ext_head.ensures.1 in
     rw (p.1, p.2) (never_refused g.W.Sink.takes_memory _ _ _ _ _ c.in_err-put_ext_head.ensures.writes.cause)
 
 pub returns-clause-writes : goal.returns-clause-writes
 returns-clause-writes g c =
-    ext_tree g.W.Sink tt c.args.tag c.args.bytes.now _ (omega arith) (omega arith) c.ranges.tag (bytes_from c.args.bytes.now (λ i. omega (arith, c.type_inv.bytes i))) (c.put.ensures.writes _ _ (head_some _) (ext_as g.W.Sink _ _ _ (to_z-of_z w8 c.args.tag c.ranges.tag) c.in_ok-put_ext_head.ensures.writes))
+    ext_tree g.W.Sink tt c.args.tag c.args.bytes.now _ c.in_ok-n.ensures.same (omega (arith, c.in_ok-n.ensures.same, c.in_ok-n.ensures.fits)) c.ranges.tag (bytes_from c.args.bytes.now (λ i. omega (arith, c.type_inv.bytes i))) (c.put.ensures.writes _ _ (head_some _) (ext_as g.W.Sink _ _ _ (to_z-of_z w8 c.args.tag c.ranges.tag) c.in_ok-put_ext_head.ensures.writes))
 
 pub returns-clause-refused : goal.returns-clause-refused
 returns-clause-refused g c = never_refused_by g.W.Sink.takes_memory _ _ _ _ c.put.result (c.put.ensures.writes _ _ (head_some _) c.in_ok-put_ext_head.ensures.writes).cause
 
 pub returns-in_err-put_ext_head-clause-marker : goal.returns-in_err-put_ext_head-clause-marker
 returns-in_err-put_ext_head-clause-marker g c =
-    let p = err_from_is_err_and c.from_residual.result c.from_residual.ensures.1 in
+    let p = err_from_is_err_and c.from_residual-in_err-put_ext_head.result c.from_residual-in_err-put_ext_head.ensures.1 in
     rw (p.1, p.2) c.in_err-put_ext_head.ensures.marker
 
 pub returns-clause-marker : goal.returns-clause-marker

@@ -1,12 +1,13 @@
-use Rattle.std.proofs.Common.{◌≤◌, ◌^◌, rules, arith, refl, subst, sym, ap, true}
+use Rattle.std.proofs.Common.{arith, rules, refl, subst, sym, ap, true}
 use Rattle.std.proofs.lemmas.Result.{err_from_is_err_and}
-use Rattle.rmp_encode.specs.Opens.{IsMapLong, IsPaired, twice, IsPast}
-use Rattle.rmp_encode.proofs.Going.{at_opened}
+use Rattle.rmp_encode.specs.Going.{open_of}
+use Rattle.rmp_encode.specs.Opens.{IsMapLong, IsPaired, twice, MayOpen}
 use Rattle.rmp_encode.proofs.Keeping.{keeping_opened}
-use Rattle.rmp_encode.proofs.OpenSteps.{map_too_long, map_not_opened, never_refused}
+use Rattle.rmp_encode.proofs.Lists.{made_map, not_less}
 use Rattle.rmp_encode.proofs.serializer.Serializer.serialize_map.Goals as goal
 
 pub returns-in_default : goal.returns-in_default
+unfolding open_of
 returns-in_default g c = (
   (refl, λ _. refl, tt),
   record {
@@ -15,40 +16,26 @@ returns-in_default g c = (
     kind = refl;
     owed = refl;
     sound = refl;
+    fits = rw c.in_default.is tt;
     left = ap twice (sym c.in_default.is);
-    opened = λ all e. record { sound = refl; kind = refl; state = let p : IsPaired all = subst (λ l. IsMapLong l all) c.in_default.is e in keeping_opened true g.W.Sink c.args.self.now _ c.buffer-buffer.ensures.settings c.buffer-buffer.ensures.empty p.size all p.many };
+    opened = λ all e. let p : IsPaired all = subst (λ l. IsMapLong l all) c.in_default.is e in record { sound = refl; state = keeping_opened true g.W.Sink c.args.self.now _ c.buffer-buffer.ensures.settings c.buffer-buffer.ensures.empty p.size all p.many };
     stays = rw c.in_default.is refl;
     keeps = record { settings = refl; place = refl };
   },
 )
 
-pub returns-then-n : goal.returns-then-n
-returns-then-n g c = (
-  (
-    refl,
-    λ _. tt,
-    record {
-      keeps = record { settings = refl; place = refl };
-      refused = refl;
-      long = λ _. refl;
-      writes = λ all e. map_too_long g.W.Sink _ c.args.self.now c.in-Some.n _ refl (omega arith) all (subst (λ l. IsMapLong l all) c.in-Some.is e);
-    },
-  ),
-  search rules,
-)
-
-pub returns-in_err-put_head : goal.returns-in_err-put_head
-returns-in_err-put_head g c =
+pub returns-in_err-put_len : goal.returns-in_err-put_len
+returns-in_err-put_len g c =
     let p = err_from_is_err_and c.from_residual.result c.from_residual.ensures.1 in
     rw (p.1, p.2) (
       (
         refl,
         λ _. tt,
         record {
-          keeps = c.put_head.ensures.keeps;
-          refused = never_refused g.W.Sink.takes_memory _ _ _ _ _ c.in_err-put_head.ensures.writes.cause;
-          long = λ h. let p : 2 ^ 32 ≤ c.in-Some.n = subst IsPast c.in-Some.is h in absurd (omega (arith, p));
-          writes = λ all e. map_not_opened g.W.Sink c.args.self.now c.put_head.new.self c.in-Some.n _ (omega arith) c.in_err-put_head.ensures.writes all (subst (λ l. IsMapLong l all) c.in-Some.is e);
+          keeps = c.put_len.ensures.keeps;
+          refused = c.in_err-put_len.ensures.stays;
+          long = λ h. c.put_len.ensures.refused (not_less (subst (λ l. ¬ MayOpen l) c.in-Some.is h));
+          writes = λ all e. c.in_err-put_len.ensures.begins _ _ (made_map _ _ all (subst (λ l. IsMapLong l all) c.in-Some.is e));
         },
       ),
       search rules,
@@ -63,9 +50,10 @@ returns g c = (
     kind = refl;
     owed = omega arith;
     sound = refl;
+    fits = rw c.in-Some.is c.in_ok-put_len.ensures.fits;
     left = ap twice (sym c.in-Some.is);
-    opened = λ all e. let long = subst (λ l. IsMapLong l all) c.in-Some.is e in record { sound = refl; kind = refl; state = at_opened true g.W.Sink c.args.self.now _ c.in-Some.n _ (omega arith) c.put_head.ensures.keeps c.in_ok-put_head.ensures.writes _ all long (sym long) };
+    opened = λ all e. record { sound = refl; state = (sym (subst (λ l. IsMapLong l all) c.in-Some.is e), c.in_ok-put_len.ensures.begins _ _ (made_map _ _ all (subst (λ l. IsMapLong l all) c.in-Some.is e))) };
     stays = rw c.in-Some.is tt;
-    keeps = c.put_head.ensures.keeps;
+    keeps = c.put_len.ensures.keeps;
   },
 )

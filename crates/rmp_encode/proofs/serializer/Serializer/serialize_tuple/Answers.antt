@@ -1,22 +1,72 @@
-use Rattle.std.proofs.Common.{rules, arith, refl, sym, ◌∙◌}
+use Rattle.std.proofs.Common.{rules, refl, sym, ◌∙◌, false}
 use Rattle.std.proofs.lemmas.Result.{err_from_is_err_and}
-use Rattle.rmp_encode.proofs.OpenSteps.{never_refused}
-use Rattle.rmp_encode.proofs.TupleSteps.{listing_opened, listing_not_opened, tuple_too_long, probing_opened}
+use Rattle.rmp_encode.specs.Going.{head_at}
+use Rattle.rmp_encode.proofs.Going.{begins, never_refused, stays_refused}
+use Rattle.rmp_encode.proofs.TupleSteps.{made_tuple, tuple_too_long, probing_opened}
 use Rattle.rmp_encode.proofs.serializer.Serializer.serialize_tuple.Goals as goal
 
-pub returns-then-len : goal.returns-then-len
-returns-then-len g c =
-    ((refl, λ _. tt, record { keeps = record { settings = refl; place = refl }; refused = refl; long = λ _. refl; writes = λ all e. tuple_too_long g.W.Sink _ c.args.self.now c.args.len _ refl (omega arith) all e }), search rules)
+pub returns-in_err-n : goal.returns-in_err-n
+returns-in_err-n g c =
+    let p = err_from_is_err_and c.from_residual.result c.from_residual.ensures.1 in
+    rw (p.1, p.2) (
+      (
+        refl,
+        λ _. tt,
+        record {
+          keeps = record { settings = refl; place = refl };
+          refused = stays_refused c.args.self.now _ c.in_err-n.ensures.refused;
+          long = λ _. refl;
+          writes = λ all e. tuple_too_long g.W.Sink c.args.self.now c.args.len _ c.in_err-n.ensures.refused c.in_err-n.ensures.long all e;
+        },
+      ),
+      search rules,
+    )
 
 pub returns-then-forces_all : goal.returns-then-forces_all
-returns-then-forces_all g c =
-    ((refl, λ _. refl, tt), record { refused = tt; same_reference = refl; left = refl; sound = refl; opened = λ all e. record { sound = refl; state = probing_opened g.W.Sink c.args.self.now c.args.len _ c.empty-kept.ensures (sym c.forces_all.ensures ∙ c.if-forces_all.true) (omega arith) all e }; keeps = record { settings = refl; place = refl } })
+returns-then-forces_all g c = (
+  (refl, λ _. refl, tt),
+  record {
+    refused = tt;
+    same_reference = refl;
+    fits = c.in_ok-n.ensures.fits;
+    left = refl;
+    sound = refl;
+    opened = λ all e. record { sound = refl; left_is = sym e; state = rw c.in_ok-n.ensures.same (probing_opened g.W.Sink c.args.self.now c.args.len _ c.empty-kept.ensures (sym c.forces_all.ensures ∙ c.if-forces_all.true) c.in_ok-n.ensures.fits all e) };
+    keeps = record { settings = refl; place = refl };
+  },
+)
 
 pub returns-in_err-put_head : goal.returns-in_err-put_head
 returns-in_err-put_head g c =
-    let p = err_from_is_err_and c.from_residual.result c.from_residual.ensures.1 in
-    rw (p.1, p.2) ((refl, λ _. tt, record { keeps = c.put_head.ensures.keeps; refused = never_refused g.W.Sink.takes_memory _ _ _ _ _ c.in_err-put_head.ensures.writes.cause; long = λ h. absurd (omega (arith, h)); writes = λ all e. listing_not_opened g.W.Sink c.args.self.now c.put_head.new.self c.args.len _ (sym c.forces_all.ensures ∙ c.if-forces_all.false) (omega arith) c.in_err-put_head.ensures.writes all e }), search rules)
+    let p = err_from_is_err_and c.from_residual-in_err-put_head.result c.from_residual-in_err-put_head.ensures.1 in
+    rw (p.1, p.2) (
+      (
+        refl,
+        λ _. tt,
+        record {
+          keeps = c.put_head.ensures.keeps;
+          refused = never_refused g.W.Sink.takes_memory _ _ _ _ _ c.in_err-put_head.ensures.writes.cause;
+          long = λ h. absurd (h c.in_ok-n.ensures.fits);
+          writes = λ all e. begins g.W.Sink (head_at false c.args.len) c.args.self.now c.put_head.new.self _ c.in_ok-n.ensures.fits c.put_head.ensures.keeps (rw c.in_ok-n.ensures.same at c.in_err-put_head.ensures.writes) _ all (made_tuple _ all c.args.len (sym c.forces_all.ensures ∙ c.if-forces_all.false) e);
+        },
+      ),
+      search rules,
+    )
 
 pub returns : goal.returns
-returns g c =
-    ((refl, λ _. refl, tt), record { refused = tt; same_reference = refl; left = refl; sound = refl; opened = λ all e. record { sound = refl; state = listing_opened g.W.Sink c.args.self.now _ c.args.len _ (sym c.forces_all.ensures ∙ c.if-forces_all.false) (omega arith) c.put_head.ensures.keeps c.in_ok-put_head.ensures.writes all e }; keeps = c.put_head.ensures.keeps })
+returns g c = (
+  (refl, λ _. refl, tt),
+  record {
+    refused = tt;
+    same_reference = refl;
+    fits = c.in_ok-n.ensures.fits;
+    left = refl;
+    sound = refl;
+    opened = λ all e. record {
+      sound = refl;
+      left_is = sym e;
+      state = begins g.W.Sink (head_at false c.args.len) c.args.self.now c.put_head.new.self _ c.in_ok-n.ensures.fits c.put_head.ensures.keeps (rw c.in_ok-n.ensures.same at c.in_ok-put_head.ensures.writes) _ all (made_tuple _ all c.args.len (sym c.forces_all.ensures ∙ c.if-forces_all.false) e);
+    };
+    keeps = c.put_head.ensures.keeps;
+  },
+)

@@ -1,52 +1,29 @@
-use Rattle.std.proofs.Common.{◌<◌, rules, true, false}
+use Rattle.std.proofs.Common.{◌<◌, rules}
 use Rattle.std.proofs.lemmas.Result.{err_from_is_err_and}
-use Rattle.rmp_encode.specs.Going.{open_of}
-use Rattle.rmp_encode.specs.Sizes.{most, size_at}
+use Rattle.rmp_encode.specs.Sizes.{most}
 use Rattle.rmp_encode.proofs.Leaves.{none_by_never}
 use Rattle.rmp_encode.proofs.Lists.{head_at_some}
 use Rattle.rmp_encode.proofs.Parts.{part_stops}
-use Rattle.rmp_encode.proofs.Going.{at_closes}
+use Rattle.rmp_encode.proofs.Going.{closes}
 use Rattle.rmp_encode.proofs.Keeping.{keeping_ends}
-use Rattle.rmp_encode.proofs.OpenSteps.{none_state, some_state, kind_as, never_past}
+use Rattle.rmp_encode.proofs.OpenSteps.{none_state, some_state, never_past}
 use Rattle.rmp_encode.proofs.series.MaybeUnknownLengthCompound+W+C.end.Goals as goal
 
 pub returns-in_default-clause-writes : goal.returns-in_default-clause-writes
-unfolding open_of
-returns-in_default-clause-writes g c = λ old all h. at_closes false g.W.Sink _ old all _ _ _ (none_state g.W.Sink c.in_default.is h)
+returns-in_default-clause-writes g c = λ old t h. closes g.W.Sink _ old t _ _ (none_state g.W.Sink c.in_default.is h).1
 
 pub returns-then-past-clause-writes : goal.returns-then-past-clause-writes
-returns-then-past-clause-writes g c = λ old all h.
+returns-then-past-clause-writes g c = λ old t h.
     let past : most c.args.self.pairs < c.args.self.count = search rules in
-    absurd (never_past g.W.Sink c.args.self.pairs h.kind past (some_state g.W.Sink c.in-Some.buffer c.in-Some.is h))
+    absurd (never_past g.W.Sink past (some_state g.W.Sink c.in-Some.buffer c.in-Some.is h))
 
 pub returns-in_err-put_head-clause-writes : goal.returns-in_err-put_head-clause-writes
-unfolding open_of
 returns-in_err-put_head-clause-writes g c =
     let p = err_from_is_err_and c.from_residual.result c.from_residual.ensures.1 in
-    rw (p.1, p.2) (λ old all h. keeping_ends false g.W.Sink (tt, tt) _ c.in-Some.buffer c.args.self.se.now (kind_as g.W.Sink (λ b. size_at b c.args.self.count) _ c.args.self.pairs false h.kind (part_stops g.W.Sink {Q = Unit {0}} _ (rw c.size-n.ensures at c.in_err-put_head.ensures.writes))) old all (some_state g.W.Sink c.in-Some.buffer c.in-Some.is h))
+    rw (p.1, p.2) (λ old t h. keeping_ends c.args.self.pairs g.W.Sink (tt, tt) _ c.in-Some.buffer c.args.self.se.now (part_stops g.W.Sink {Q = Unit {0}} _ (rw c.size-n.ensures at c.in_err-put_head.ensures.writes)) old t (some_state g.W.Sink c.in-Some.buffer c.in-Some.is h))
 
 pub returns-clause-writes : goal.returns-clause-writes
-unfolding open_of
-returns-clause-writes g c = λ old all h. keeping_ends false g.W.Sink tt _ c.in-Some.buffer c.args.self.se.now (kind_as g.W.Sink (λ b. size_at b c.args.self.count) _ c.args.self.pairs false h.kind ((rw (c.as_slice.ensures.value, c.into_inner-bytes.ensures) at c.put.ensures.writes) _ _ (head_at_some _ _) (rw c.size-n.ensures at c.in_ok-put_head.ensures.writes))) old all (some_state g.W.Sink c.in-Some.buffer c.in-Some.is h)
-
-pub returns-in_default-clause-writes_map : goal.returns-in_default-clause-writes_map
-unfolding open_of
-returns-in_default-clause-writes_map g c = λ old all h. at_closes true g.W.Sink _ old all _ _ _ (none_state g.W.Sink c.in_default.is h)
-
-pub returns-then-past-clause-writes_map : goal.returns-then-past-clause-writes_map
-returns-then-past-clause-writes_map g c = λ old all h.
-    let past : most c.args.self.pairs < c.args.self.count = search rules in
-    absurd (never_past g.W.Sink c.args.self.pairs h.kind past (some_state g.W.Sink c.in-Some.buffer c.in-Some.is h))
-
-pub returns-in_err-put_head-clause-writes_map : goal.returns-in_err-put_head-clause-writes_map
-unfolding open_of
-returns-in_err-put_head-clause-writes_map g c =
-    let p = err_from_is_err_and c.from_residual.result c.from_residual.ensures.1 in
-    rw (p.1, p.2) (λ old all h. keeping_ends true g.W.Sink (tt, tt) _ c.in-Some.buffer c.args.self.se.now (kind_as g.W.Sink (λ b. size_at b c.args.self.count) _ c.args.self.pairs true h.kind (part_stops g.W.Sink {Q = Unit {0}} _ (rw c.size-n.ensures at c.in_err-put_head.ensures.writes))) old all (some_state g.W.Sink c.in-Some.buffer c.in-Some.is h))
-
-pub returns-clause-writes_map : goal.returns-clause-writes_map
-unfolding open_of
-returns-clause-writes_map g c = λ old all h. keeping_ends true g.W.Sink tt _ c.in-Some.buffer c.args.self.se.now (kind_as g.W.Sink (λ b. size_at b c.args.self.count) _ c.args.self.pairs true h.kind ((rw (c.as_slice.ensures.value, c.into_inner-bytes.ensures) at c.put.ensures.writes) _ _ (head_at_some _ _) (rw c.size-n.ensures at c.in_ok-put_head.ensures.writes))) old all (some_state g.W.Sink c.in-Some.buffer c.in-Some.is h)
+returns-clause-writes g c = λ old t h. keeping_ends c.args.self.pairs g.W.Sink tt _ c.in-Some.buffer c.args.self.se.now ((rw (c.as_slice.ensures.value, c.into_inner-bytes.ensures) at c.put.ensures.writes) _ _ (head_at_some _ _) (rw c.size-n.ensures at c.in_ok-put_head.ensures.writes)) old t (some_state g.W.Sink c.in-Some.buffer c.in-Some.is h)
 
 pub returns-in_err-put_head-clause-marker : goal.returns-in_err-put_head-clause-marker
 returns-in_err-put_head-clause-marker g c =

@@ -1,5 +1,4 @@
-use Rattle.std.proofs.Common.{true, arith}
-use Rattle.rmp_encode.specs.Going.{open_of}
+use Rattle.std.proofs.Common.{arith}
 use Rattle.rmp_encode.proofs.OpenSteps.{owed_takes, turned, on_ok_as}
 use Rattle.rmp_encode.proofs.series.MaybeUnknownLengthCompound+W+C.serialize_value.Goals as goal
 
@@ -8,7 +7,3 @@ put_part-requires-clause-room g c = owed_takes c.args.self.now.pairs c.args.self
 
 pub returns-clause-owed : goal.returns-clause-owed
 returns-clause-owed g c = on_ok_as c.put_part.result (λ t. turned c.args.self.now.pairs _ c.args.self.now.count _ 0 c.requires.kind c.put_part.ensures.kind t (omega (arith, c.requires.turn))) c.put_part.ensures.turn
-
-pub returns-clause-writes : goal.returns-clause-writes
-unfolding open_of
-returns-clause-writes g c = c.put_part.ensures.writes true

@@ -4,14 +4,14 @@ use Rattle.std.proofs.lemmas.List.Elements.{All-more}
 use Rattle.std.proofs.lemmas.Result.{err_from_is_err_and}
 use Rattle.rmp_encode.specs.Ser.{settings_of}
 use Rattle.rmp_encode.proofs.Parts.{rests_at, part_memory}
-use Rattle.rmp_encode.proofs.Going.{map_rest, map_rest_none, keeps_then, keeps_last, on_ok}
-use Rattle.rmp_encode.proofs.OpenSteps.{refuses_open, takes, ends, still_open}
+use Rattle.rmp_encode.proofs.Going.{map_rest, map_rest_none, keeps_then, keeps_last, on_ok, unopened}
+use Rattle.rmp_encode.proofs.OpenSteps.{takes, ends, still_open}
 use Rattle.rmp_encode.proofs.tests.implementations.list_of.Goals as goal
 
 pub returns-in_err-seq-clause-writes : goal.returns-in_err-seq-clause-writes
 returns-in_err-seq-clause-writes g c =
     let p = err_from_is_err_and c.from_residual.result c.from_residual.ensures.1 in
-    rw (p.1, p.2) (part_memory g.W.Sink (refuses_open g.W.Sink c.args.se.now _ _ _ _ _ c.in_err-seq.was c.serialize_seq.follows.holds-at-none tt))
+    rw (p.1, p.2) (part_memory g.W.Sink (unopened g.W.Sink _ _ _ c.args.se.now _ _ _ _ c.in_err-seq.was c.serialize_seq.follows.holds-at-none tt))
 
 pub loop-value-init : goal.loop-value-init
 loop-value-init g c = record {
@@ -46,7 +46,7 @@ pub returns-in_err-serialize_element-clause-writes : goal.returns-in_err-seriali
 returns-in_err-serialize_element-clause-writes g c =
     let p = err_from_is_err_and c.from_residual-in_err-serialize_element.result c.from_residual-in_err-serialize_element.ensures.1 in
     let rest = map_rest (λ x. g.T.Serialize.data_of x (settings_of c.args.se.now).human) c.args.values.now c.loop-value.value-index c.value-item.result c.loop-value-test.true c.value-item.is in
-    rw (p.1, p.2) (rests_at g.W.Sink (search rules) (c.in_err-serialize_element.ensures.writes c.args.se.now _ _ (still_open g.W.Sink rest c.loop-value.invariant.writing)))
+    rw (p.1, p.2) (part_memory g.W.Sink (rests_at g.W.Sink (search rules) (c.in_err-serialize_element.ensures.writes c.args.se.now _ _ (still_open g.W.Sink rest c.loop-value.invariant.writing))))
 
 pub returns-in_err-serialize_element-clause-keeps : goal.returns-in_err-serialize_element-clause-keeps
 returns-in_err-serialize_element-clause-keeps g c = keeps_last g.W.Sink (search rules) (keeps_then g.W.Sink c.loop-value.invariant.keeps c.serialize_element.ensures.keeps)

@@ -3,7 +3,7 @@ use Rattle.std.proofs.lemmas.Result.{err_from_is_err_and}
 use Rattle.rmp_wire.specs.Msg.{nil, truth, whole, float32, float64}
 use Rattle.rmp_wire.specs.Spelling.{Fits}
 use Rattle.rmp_decode.specs.Seq.{levels}
-use Rattle.rmp_decode.specs.declared.de.any.Any.TheVariants as any
+use Rattle.rmp_decode.specs.declared.access.any.Any.TheVariants as any
 use Rattle.rmp_decode.proofs.AnyReads.{any_unopened}
 use Rattle.rmp_decode.proofs.Maps.{entries_start, entries_step}
 use Rattle.rmp_decode.proofs.Seqs.{values_start, values_step}

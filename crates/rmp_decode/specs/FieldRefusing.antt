@@ -1,0 +1,78 @@
+-- Which error the read of fields answers, by those of their types.
+use Rattle.std.specs.Prelude.{◌≡◌, ◌⊎◌, ℕ, zero, suc, ◌<◌, Bool, List, [], ◌∷◌, length, Option, Some, None}
+use Rattle.rmp_wire.specs.Msg.{Msg, Pairs}
+use Rattle.rmp_decode.specs.Exact.{RefusesBy}
+use Rattle.rmp_wire.specs.declared.source.Source.{Ghosts}
+use Rattle.rmp_decode.specs.Fields.{blank, put, met, not_fields, name_refusal, pass_refusal, Field, Absent, NoField, Slot, IsFull}
+use Rattle.rmp_decode.specs.MapRefusing.{OpenedMap, BehindPairs, EntryRefused}
+use Rattle.rmp_decode.specs.Names.{IsName}
+use Rattle.rmp_decode.specs.Refusing.{Setting, Refusals, Part, part_of, BehindMessage, Opened, RefusesParts, Excess}
+use Rattle.rmp_decode.specs.declared.access.map.MapAccess.{MapAccess}
+use Rattle.rmp_decode.specs.declared.error.Error.{Error}
+use Rattle.rmp_decode.specs.declared.error.Error.TheVariants.{Syntax}
+use Rattle.rmp_decode.specs.declared.text.Text.TheVariants.{DuplicateField, MissingField}
+
+-- each tree that is there is one that its field wants
+abbrev pub PartsHold : Setting → List Part → List (Option Msg) → Type 0
+PartsHold s [] [] = Unit {0}
+PartsHold s [] (f ∷ fs) = ⊥
+PartsHold s (p ∷ ps) [] = ⊥
+PartsHold s (p ∷ ps) (None ∷ fs) = PartsHold s ps fs
+PartsHold s (p ∷ ps) (Some m ∷ fs) = p.holds s m × PartsHold s ps fs
+
+-- the value of the field at a place is refused so
+abbrev pub FieldRefused : List Part → ℕ → Setting → Refusals
+FieldRefused [] n s before after known e = ⊥
+FieldRefused (p ∷ ps) zero s before after known e = p.refuses s before after known e
+FieldRefused (p ∷ ps) (suc n) s before after known e = FieldRefused ps n s before after known e
+
+-- the field at the place was met before: no tree may be put there
+abbrev pub IsMet : ℕ → List (Option Msg) → Type 0
+IsMet n fs = (m : Msg) → put n m fs ≡ None
+
+-- Behind a key that names a field: it was met before, or its value is refused.
+abbrev pub NamedRefused : List Part → List (Option Msg) → ℕ → Setting → Refusals
+NamedRefused ps fs n s before after known e = ((e ≡ Syntax DuplicateField) × IsMet n fs) ⊎ FieldRefused ps n s before after known e
+
+-- There is a pair to come: its key says nothing, or is of no name, and its value can't be passed over, or names a field that is refused.
+abbrev pub PairFails : List (List ℕ) → List Part → List (Option Msg) → Setting → ℕ → ℕ → ℕ → Option (List ℕ) → Error → Type 0
+PairFails names ps fs s before after left known e =
+    (0 < left) × (name_refusal s before after known e
+    ⊎ BehindMessage s (λ k. IsName names k None) (pass_refusal s before after) known e
+    ⊎ ((n : ℕ) × BehindMessage s (λ k. IsName names k (Some n)) (NamedRefused ps fs n s before after) known e))
+
+-- No pair is to come, and a field is missing for which nothing stands.
+abbrev pub Lacks : {V : Type 0} → (Bool → Bool → List (Option Msg) → V → Type 0) → List (Option Msg) → Setting → ℕ → Error → Type 0
+Lacks {V} reads fs s left e = (left ≡ 0) × (e ≡ Syntax MissingField) × ((v : V) → reads s.human s.lends fs v → ⊥)
+
+-- pairs whose fields are these, each of them one that is wanted
+abbrev pub AreMet : List (List ℕ) → List Part → List (Option Msg) → Setting → Pairs → Type 0
+AreMet names ps fs s pairs = (met names (blank names) pairs ≡ Some fs) × PartsHold s ps fs
+
+-- How fields are refused: they can't be opened, an element of a list is refused or there are more or fewer, or behind some pairs of a map the next one is refused, or a field is missing.
+abbrev pub RefusesFields : {V : Type 0} → List (List ℕ) → (Bool → Bool → List (Option Msg) → V → Type 0) → List Part → Setting → Refusals
+RefusesFields names reads ps s before after known e =
+    RefusesBy s.strict (not_fields s.room) before after known e
+    ⊎ Opened s (λ b i. RefusesParts b i before after ps (Excess (length ps))) known e
+    ⊎ OpenedMap s (λ i n known e. (fs : List (Option Msg)) × BehindPairs i (AreMet names ps fs i) n (λ left known e. PairFails names ps fs i before after left known e ⊎ Lacks reads fs i left e) known e) known e
+
+-- a value of a map's next pair was wanted for the field at a place: it was read before, or the value is refused
+abbrev pub FillRefused : {R C S : Type 0} → Ghosts R → Bool → Bool → (List (Option Msg) → S → Type 0) → List Part → ℕ → MapAccess R C → MapAccess R C → S → Error → Type 0
+FillRefused g human lends holds ps place old new s e = ((e ≡ Syntax DuplicateField) × IsFull holds place old new s) ⊎ EntryRefused g human lends (FieldRefused ps place) old new e
+
+-- ---- what a pair's fields are
+
+pub no_field_held : (s : Setting) (fs : List (Option Msg)) → NoField fs → PartsHold s [] fs
+no_field_held s [] h = tt
+no_field_held s (f ∷ fs) h = h
+
+module _ {V W : Type 0} (reads : Bool → Bool → Msg → V → Type 0) (refuses : Setting → Refusals) (rest : Bool → Bool → List (Option Msg) → W → Type 0) (ps : List Part) (law : (s : Setting) (fs : List (Option Msg)) (w : W) → rest s.human s.lends fs w → PartsHold s ps fs) where
+  pub slot_held : (s : Setting) (fs : List (Option Msg)) (o : Option V) (w : W) → Slot (reads s.human s.lends) (rest s.human s.lends) fs o w → PartsHold s (part_of reads refuses ∷ ps) fs
+  slot_held s [] o w h = absurd h
+  slot_held s (None ∷ fs) o w h = law s fs w h.1
+  slot_held s (Some m ∷ fs) o w h = ((h.0.0, h.0.2), law s fs w h.1)
+
+  pub field_held : (absent : Option V) (s : Setting) (fs : List (Option Msg)) (v : V) (w : W) → Field (λ k. reads s.human s.lends k v) (Absent absent v) (λ gs. rest s.human s.lends gs w) fs → PartsHold s (part_of reads refuses ∷ ps) fs
+  field_held absent s [] v w h = absurd h
+  field_held absent s (None ∷ fs) v w h = law s fs w h.1
+  field_held absent s (Some m ∷ fs) v w h = ((v, h.0), law s fs w h.1)

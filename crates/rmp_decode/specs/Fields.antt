@@ -1,0 +1,209 @@
+-- What a struct's fields are read from, whatever stands for its names.
+use Rattle.std.specs.Prelude.{◌≡◌, ◌≢◌, ℕ, zero, suc, Bool, true, false, List, [], ◌∷◌, map, length, Option, Some, None, MatchOption, cond, nat_eq}
+use Rattle.std.proofs.Common.{refl, ap, subst}
+use Rattle.std.specs.Borrow.{GName}
+use Rattle.std.specs.Option.{option_and_then}
+use Rattle.rmp_wire.specs.declared.head.Head.{Head}
+use Rattle.rmp_wire.specs.declared.head.Head.TheVariants.{Map, Array, Bin}
+use Rattle.rmp_wire.specs.declared.marker.Marker.{Marker}
+use Rattle.rmp_wire.specs.declared.source.Source.{Ghosts}
+use Rattle.rmp_wire.specs.Msg.{Msg, nil, truth, whole, float32, float64, text, bin, list, extension, Msgs, count, items_of, Pairs, no_pairs, pair}
+use Rattle.rmp_wire.specs.Msg.{map as mapping}
+use Rattle.rmp_decode.specs.Content.{RefusesContent, not_raw, never_refused}
+use Rattle.rmp_decode.specs.Exact.{RefusesBy}
+use Rattle.rmp_decode.specs.Law.{Readable, Refuses, Explains, IsFailedBefore}
+use Rattle.rmp_decode.specs.Maps.{TakesValue, OpensMap}
+use Rattle.rmp_decode.specs.Names.{name_of, IsNameHead}
+use Rattle.rmp_wire.specs.Canonical.{SpellsAs}
+use Rattle.rmp_decode.specs.Refuse.{UnpassedFor, RefusedFor}
+use Rattle.rmp_decode.specs.Refusing.{Setting, Refusals}
+use Rattle.rmp_decode.specs.Seq.{numbers, seq_head, Opens}
+use Rattle.rmp_decode.specs.declared.access.fields.FieldParts.{FieldParts}
+use Rattle.rmp_decode.specs.declared.access.fields.FieldParts.TheVariants as parts
+use Rattle.rmp_decode.specs.declared.access.fields.FieldParts.TheVariants.{Seq}
+use Rattle.rmp_decode.specs.Skip.{any_tree, any_row}
+use Rattle.rmp_decode.specs.State.{left, faults_of, room_of, Stays}
+use Rattle.rmp_decode.specs.declared.deserializer.Deserializer.{Deserializer}
+use Rattle.rmp_decode.specs.declared.access.map.MapAccess.{MapAccess}
+use Rattle.rmp_decode.specs.declared.error.Error.{Error}
+use Rattle.rmp_decode.specs.declared.error.Error.TheVariants.{DepthLimitExceeded, OutOfMemory, Syntax}
+use Rattle.rmp_decode.specs.declared.text.Text.TheVariants.{InvalidType}
+
+-- ---- the trees of fields, each in the place of its name, or none where it isn't there
+
+-- no field is there yet
+abbrev pub blank : List (List ℕ) → List (Option Msg)
+blank [] = []
+blank (s ∷ names) = None ∷ blank names
+
+-- that tree in an empty place: `None` where a tree stands there, or where there is no such place
+abbrev pub put : ℕ → Msg → List (Option Msg) → Option (List (Option Msg))
+put n m [] = None
+put zero m (None ∷ fs) = Some (Some m ∷ fs)
+put zero m (Some k ∷ fs) = None
+put (suc n) m (f ∷ fs) = option_and_then (λ gs. Some (f ∷ gs)) (put n m fs)
+
+abbrev pub put_named : Option ℕ → Msg → List (Option Msg) → Option (List (Option Msg))
+put_named None m fs = Some fs
+put_named (Some n) m fs = put n m fs
+
+-- Pairs more: what their keys name, in its place; what is of no name is passed over. `None` where a key says nothing, or names a field again.
+abbrev pub met : List (List ℕ) → List (Option Msg) → Pairs → Option (List (Option Msg))
+met names fs no_pairs = Some fs
+met names fs (pair k v ps) = option_and_then (λ gs. met names gs ps) (option_and_then (λ o. put_named o v fs) (name_of names k))
+
+-- each of them is there
+abbrev pub given_all : Msgs → List (Option Msg)
+given_all ms = map (λ m. Some m) (items_of ms)
+
+-- each field is there, in the order of the names
+abbrev pub given : List (List ℕ) → Msgs → Option (List (Option Msg))
+given names ms = cond (nat_eq (count ms) (length names)) (Some (given_all ms)) None
+
+-- The tree of each name, of which some may be missing. `None` for a tree that is refused whatever the fields' types are.
+abbrev pub fields : List (List ℕ) → Msg → Option (List (Option Msg))
+fields names nil = None
+fields names (truth t) = None
+fields names (whole z) = None
+fields names (float32 n) = None
+fields names (float64 n) = None
+fields names (text s) = None
+fields names (bin s) = given names (numbers s)
+fields names (list ms) = given names ms
+fields names (mapping ps) = met names (blank names) ps
+fields names (extension tag s) = None
+
+-- a tree whose fields are such
+abbrev pub OfFields : List (List ℕ) → (List (Option Msg) → Type 0) → Msg → Type 0
+OfFields names Q m = MatchOption (fields names m) ⊥ Q
+
+-- ---- what types read of fields
+
+-- a field, of which P holds, or which isn't there, where A does; and then fields of which Q does
+abbrev pub Field : (Msg → Type 0) → Type 0 → (List (Option Msg) → Type 0) → List (Option Msg) → Type 0
+Field P A Q [] = ⊥
+Field P A Q (None ∷ fs) = A × Q fs
+Field P A Q (Some m ∷ fs) = P m × Q fs
+
+-- what stands for it is the value
+abbrev pub Absent : {V : Type 0} → Option V → V → Type 0
+Absent o v = o ≡ Some v
+
+-- no more fields
+abbrev pub NoField : List (Option Msg) → Type 0
+NoField [] = Unit {0}
+NoField (f ∷ fs) = ⊥
+
+-- what was read so far of a field, and then of others
+abbrev pub Slot : {V W : Type 0} → (Msg → V → Type 0) → (List (Option Msg) → W → Type 0) → List (Option Msg) → Option V → W → Type 0
+Slot reads rest [] o w = ⊥
+Slot reads rest (None ∷ fs) o w = (o ≡ None) × rest fs w
+Slot {V} reads rest (Some m ∷ fs) o w = ((v : V) × (o ≡ Some v) × reads m v) × rest fs w
+
+-- none of so many fields is there
+abbrev pub AreBlank : ℕ → List (Option Msg) → Type 0
+AreBlank zero [] = Unit {0}
+AreBlank zero (f ∷ fs) = ⊥
+AreBlank (suc n) [] = ⊥
+AreBlank (suc n) (f ∷ fs) = (f ≡ None) × AreBlank n fs
+
+-- the tree at a place, where there is one
+abbrev pub at : ℕ → List (Option Msg) → Option Msg
+at n [] = None
+at zero (f ∷ fs) = f
+at (suc n) (f ∷ fs) = at n fs
+
+-- ---- one field's value
+
+-- the value of the key that was read last was read into its place
+pub record Fills {R C S : Type 0} (g : Ghosts R) (holds : List (Option Msg) → S → Type 0) (place : ℕ) (old new : MapAccess R C) (s t : S) : Type 0 where
+  pub took : TakesValue g any_tree old new tt
+  pub filled : (fs : List (Option Msg)) → holds fs s → (gs : List (Option Msg)) × (put place took.part.tree fs ≡ Some gs) × holds gs t
+
+-- nothing may be put there
+pub record IsFull {R C S : Type 0} (holds : List (Option Msg) → S → Type 0) (place : ℕ) (old new : MapAccess R C) (s : S) : Type 0 where
+  pub full : (fs : List (Option Msg)) → holds fs s → (m : Msg) → put place m fs ≡ None
+  pub same : new ≡ old
+
+-- ---- what a pair's fields are
+
+-- which trees the first field is read from, and the others
+abbrev pub FieldTakes : {V : Type 0} → (Msg → V → Type 0) → (ℕ → Msg → Type 0) → ℕ → Msg → Type 0
+FieldTakes reads takes zero m = Readable reads m
+FieldTakes reads takes (suc n) m = takes n m
+
+pub no_field_taken : (fs : List (Option Msg)) (n : ℕ) (m : Msg) → NoField fs → at n fs ≡ Some m → ⊥
+no_field_taken [] n m h e = cc
+no_field_taken (f ∷ fs) n m h e = h
+
+pub no_field_counted : (fs : List (Option Msg)) → NoField fs → length fs ≡ 0
+no_field_counted [] h = refl
+no_field_counted (f ∷ fs) h = absurd h
+
+pub field_taken : {V W : Type 0} (reads : Msg → V → Type 0) (absent : Option V) (rest : List (Option Msg) → W → Type 0) (takes : ℕ → Msg → Type 0)
+    → ((fs : List (Option Msg)) (w : W) (n : ℕ) (m : Msg) → rest fs w → at n fs ≡ Some m → takes n m)
+    → (fs : List (Option Msg)) (v : V) (w : W) (n : ℕ) (m : Msg) → Field (λ k. reads k v) (Absent absent v) (λ gs. rest gs w) fs → at n fs ≡ Some m → FieldTakes reads takes n m
+field_taken reads absent rest takes law [] v w n m h e = absurd h
+field_taken reads absent rest takes law (None ∷ fs) v w zero m h e = absurd (cc)
+field_taken reads absent rest takes law (Some k ∷ fs) v w zero m h e = let same : k ≡ m = cc in (v, subst (λ z. reads z v) same h.0)
+field_taken reads absent rest takes law (None ∷ fs) v w (suc n) m h e = law fs w n m h.1 e
+field_taken reads absent rest takes law (Some k ∷ fs) v w (suc n) m h e = law fs w n m h.1 e
+
+pub field_counted : (P : Msg → Type 0) (A : Type 0) (Q : List (Option Msg) → Type 0) {n : ℕ} → ((fs : List (Option Msg)) → Q fs → length fs ≡ n) → (fs : List (Option Msg)) → Field P A Q fs → length fs ≡ suc n
+field_counted P A Q law [] h = absurd h
+field_counted P A Q law (None ∷ fs) h = ap suc (law fs h.1)
+field_counted P A Q law (Some m ∷ fs) h = ap suc (law fs h.1)
+
+-- ---- heads
+
+-- the head of bytes or of a list, or of a map
+abbrev pub fields_head : Option Bool → ℕ → Head
+fields_head None n = Map n
+fields_head (Some b) n = seq_head b n
+
+-- a list, bytes or a map
+abbrev pub HasFields : Msg → Type 0
+HasFields nil = ⊥
+HasFields (truth t) = ⊥
+HasFields (whole z) = ⊥
+HasFields (float32 n) = ⊥
+HasFields (float64 n) = ⊥
+HasFields (text s) = ⊥
+HasFields (bin s) = Unit {0}
+HasFields (list ms) = Unit {0}
+HasFields (mapping ps) = Unit {0}
+HasFields (extension tag s) = ⊥
+
+-- How a message is refused where fields are wanted, by the room: a list or a map only where no level is left, bytes never, and another kind.
+abbrev pub not_fields : ℕ → Marker → Head → Error → Type 0
+not_fields room m (Array n) e = (room ≡ 1) × (e ≡ DepthLimitExceeded)
+not_fields room m (Map n) e = (room ≡ 1) × (e ≡ DepthLimitExceeded)
+not_fields room m (Bin n) e = ⊥
+not_fields room m h e = e ≡ Syntax InvalidType
+
+-- none of them could be opened
+pub record FailsToOpenFields {R C : Type 0} (g : Ghosts R) (old new : Deserializer R C) (e : Error) : Type 0 where
+  pub failed : new.failed ≡ true
+  pub stays : Stays g old new
+  pub before : old.failed ≡ true → IsFailedBefore e × (new ≡ old)
+  pub err : old.failed ≡ false → Explains e (faults_of g old) (faults_of g new) (Refuses (SpellsAs old.strict) HasFields (room_of old) (left g old))
+  pub memory : e ≢ OutOfMemory
+  pub exact : old.failed ≡ false → RefusesBy old.strict (not_fields (room_of old)) (faults_of g old) (faults_of g new) (left g old) e
+
+-- how a key is refused that says nothing
+abbrev pub name_refusal : Setting → Refusals
+name_refusal s = RefusesContent s.strict IsNameHead not_raw never_refused
+
+-- how a message is refused that is passed over
+abbrev pub pass_refusal : Setting → Refusals
+pass_refusal s before after known e = after ≡ before → RefusedFor s.strict (UnpassedFor s.lends s.strict) any_row s.room e known
+
+-- the reference to the reader
+abbrev pub parts_name : {R C : Type 0} → FieldParts R C → GName
+parts_name (Seq a) = a.de.ghost_name
+parts_name (parts.Map a) = a.de.ghost_name
+
+-- the head was taken, and the access is open
+abbrev pub OpensFields : {R C : Type 0} → Ghosts R → Deserializer R C → FieldParts R C → Type 0
+OpensFields g old (Seq a) = Opens g old a
+OpensFields g old (parts.Map a) = OpensMap g old a

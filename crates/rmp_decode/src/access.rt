@@ -1,0 +1,12 @@
+//! What a list or a map that was opened holds, part by part, and messages of any kind.
+pub(crate) mod any;
+pub(crate) mod fields;
+pub(crate) mod map;
+#[cfg(test)]
+mod name_tests;
+pub(crate) mod names;
+mod parts;
+pub(crate) mod seq;
+#[cfg(test)]
+mod tests;
+pub(crate) mod variant;

@@ -1,0 +1,452 @@
+//! The fields of structs, which are named, or stand in order.
+ghost use Rattle.std.specs.Prelude.{◌≡◌, ◌≢◌, ◌⊎◌, ◌<◌, ℕ, Bool, List, Option, None, Some, true, false, length, IfErr, IfOk, IfSome, IfNone, OnOk, OnErr, MatchOption, MatchResult, max};
+ghost use Rattle.std.specs.Borrow.{sem, RestsIfErr};
+ghost use Rattle.rmp_wire.specs.Msg.{Msg};
+ghost use Rattle.rmp_decode.specs.contracts.deserializer.Deserializer.{the_row};
+ghost use Rattle.rmp_decode.specs.Fields.{OfFields, Field, Absent, NoField, Slot, AreBlank, fields_head, parts_name, OpensFields, FailsToOpenFields, at, given_all, Fills, IsFull, name_refusal, pass_refusal};
+ghost use Rattle.rmp_decode.specs.FieldRefusing.{PartsHold, FillRefused, RefusesFields};
+ghost use Rattle.rmp_decode.specs.Kinds.{Finds};
+ghost use Rattle.rmp_decode.specs.Law.{Lawful, TakesHead, IsFailedBefore};
+ghost use Rattle.rmp_decode.specs.MapRefusing.{PartRefused, KeyRefused};
+ghost use Rattle.rmp_decode.specs.Maps.{IsMapOpen, AtKey, AtValue, TakesKey, pairs_left, is_map_sound, map_lender, map_inner};
+ghost use Rattle.rmp_decode.specs.Names.{bytes_of, IsName};
+ghost use Rattle.rmp_decode.specs.Parts.{TakesPart, FailsPart};
+ghost use Rattle.rmp_decode.specs.Refusing.{Setting, Part, RefusesAs, PartsRefused};
+ghost use Rattle.rmp_decode.specs.Seq.{IsOpen, TakesParts, FailsParts, lender_of};
+ghost use Rattle.rmp_decode.specs.State.{config_of, faults_of, kept_of, is_failed, Stays};
+ghost use Rattle.rmp_decode.specs.declared.deserializer.Kept.TheVariants.{Nothing};
+
+use crate::access::map::MapAccess;
+use crate::access::seq::{SeqAccess, inner_room};
+use crate::de::Deserialize;
+use crate::deserializer::Deserializer;
+use crate::error::Error;
+use crate::text::Text;
+use rmp_wire::config::SerializerConfig;
+use rmp_wire::{Head, ReadSlice, Source};
+
+/// The fields of a struct in the order of their names: a pair of the first one's value and the others, or `()` for none.
+pub trait Fields<'de, R: ReadSlice<'de>>: Sized + Drop {
+    /// What was read of them so far.
+    type Slots: Drop;
+
+    // How many there are.
+    ghost count: { ℕ };
+
+    // Which trees, each in the place of its name or missing, are read as which values.
+    ghost reads: { Bool → Bool → List (Option Msg) → Self → Type 0 };
+
+    // What was read so far, of these trees.
+    ghost holds: { Bool → Bool → List (Option Msg) → Self.Slots → Type 0 };
+
+    // Which trees the field at a place is read from.
+    ghost takes: { Bool → Bool → ℕ → Msg → Type 0 };
+
+    // A tree of fields that are read is one of those.
+    ghost taken: { (human lends : Bool) (fs : List (Option Msg)) (v : Self) (n : ℕ) (m : Msg) → reads human lends fs v → at n fs ≡ Some m → takes human lends n m };
+
+    // What each field wants, in order.
+    ghost parts: { List Part };
+
+    ghost many: { length parts ≡ count };
+
+    // The trees of what was read so far, and of what is read, are such.
+    ghost held: { (s : Setting) (fs : List (Option Msg)) (t : Self.Slots) → holds s.human s.lends fs t → PartsHold s parts fs };
+
+    ghost given: { (s : Setting) (fs : List (Option Msg)) (v : Self) → reads s.human s.lends fs v → PartsHold s parts fs };
+
+    // Fields that are read are as many.
+    ghost counted: { (human lends : Bool) (fs : List (Option Msg)) (v : Self) → reads human lends fs v → length fs ≡ count };
+
+    /// Nothing was read yet.
+    fn empty() -> Self::Slots
+        ensures { (human lends : Bool) (fs : List (Option Msg)) → AreBlank count fs → holds human lends fs result };
+
+    /// Reads the value of the key that was read last, as the field at the place.
+    ///
+    /// # Errors
+    /// `Syntax("duplicate field")` where it was read before; nothing is taken then.
+    fn fill<'x, C: SerializerConfig>(
+        slots: &mut Self::Slots,
+        place: usize,
+        map: &mut MapAccess<'x, R, C>,
+    ) -> Result<(), Error>
+        requires at_value { AtValue map.old }
+        requires still { IsMapOpen map.old }
+        ensures same_reference { map.new.de.ghost_name ≡ map.old.de.ghost_name }
+        ensures ok { OnOk result (Fills R.Source (holds (C.human (config_of (map_lender map.old))) R.lends) place map.old map.new slots.old slots.new) }
+        ensures err { IfErr result (λ e. FailsPart R.Source (λ m (u : Unit {0}). takes (C.human (config_of (map_lender map.old))) R.lends place m) (map_inner map.old) (map_lender map.old) (map_lender map.new) e
+            ⊎ IsFull (holds (C.human (config_of (map_lender map.old))) R.lends) place map.old map.new slots.old) }
+        ensures refused { IfErr result (FillRefused R.Source (C.human (config_of (map_lender map.old))) R.lends (holds (C.human (config_of (map_lender map.old))) R.lends) parts place map.old map.new slots.old) };
+
+    /// The values, or `None` where one is missing.
+    fn finish(slots: Self::Slots) -> Option<Self>
+        ensures { (human lends : Bool) (fs : List (Option Msg)) → holds human lends fs slots → MatchOption result ((v : Self) → reads human lends fs v → ⊥) (reads human lends fs) };
+
+    /// Reads the elements of a list as the fields.
+    ///
+    /// # Errors
+    /// `Syntax("invalid length")` where there are fewer elements.
+    fn listed<'x, C: SerializerConfig>(seq: &mut SeqAccess<'x, R, C>) -> Result<Self, Error>
+        requires { IsOpen seq.old }
+        ensures same_reference { seq.new.de.ghost_name ≡ seq.old.de.ghost_name }
+        ensures ok { IfOk result (TakesParts R.Source (λ v ms. reads (C.human (config_of (lender_of seq.old))) R.lends (given_all ms) v) seq.old seq.new) }
+        ensures err { IfErr result (FailsParts {V = Self} R.Source (λ v ms. reads (C.human (config_of (lender_of seq.old))) R.lends (given_all ms) v) seq.old seq.new) }
+        ensures refused { IfErr result (PartsRefused R.Source (C.human (config_of (lender_of seq.old))) R.lends parts seq.old seq.new) };
+}
+
+impl<'de, R: ReadSlice<'de>> Fields<'de, R> for () {
+    ghost use Rattle.std.specs.Prelude.{[]};
+    ghost use Rattle.std.proofs.Common.{refl};
+    ghost use Rattle.rmp_decode.specs.FieldRefusing.{no_field_held};
+    ghost use Rattle.rmp_decode.specs.Fields.{no_field_taken, no_field_counted};
+
+    type Slots = ();
+
+    ghost count = { 0 };
+
+    ghost reads = { λ human lends fs v. NoField fs };
+
+    ghost holds = { λ human lends fs s. NoField fs };
+
+    ghost takes = { λ human lends n m. ⊥ };
+
+    ghost taken = { λ human lends fs v n m. no_field_taken fs n m };
+
+    ghost parts = { [] };
+
+    ghost many = { refl };
+
+    ghost held = { λ s fs t. no_field_held s fs };
+
+    ghost given = { λ s fs v. no_field_held s fs };
+
+    ghost counted = { λ human lends fs v. no_field_counted fs };
+
+    fn empty() {}
+
+    #[inline(always)]
+    fn fill<'x, C: SerializerConfig>(
+        _slots: &mut (),
+        _place: usize,
+        _map: &mut MapAccess<'x, R, C>,
+    ) -> Result<(), Error> {
+        Err(Error::Syntax(Text::DuplicateField))
+    }
+
+    #[inline(always)]
+    fn finish(_slots: ()) -> Option<()> {
+        Some(())
+    }
+
+    #[inline(always)]
+    fn listed<'x, C: SerializerConfig>(_seq: &mut SeqAccess<'x, R, C>) -> Result<(), Error> {
+        Ok(())
+    }
+}
+
+impl<'de, R: ReadSlice<'de>, A: Deserialize<'de, R>, B: Fields<'de, R>> Fields<'de, R> for (A, B) {
+    ghost use Rattle.std.specs.Prelude.{suc};
+    ghost use Rattle.std.specs.Prelude.{◌∷◌};
+    ghost use Rattle.std.proofs.Common.{ap};
+    ghost use Rattle.rmp_decode.specs.FieldRefusing.{slot_held, field_held};
+    ghost use Rattle.rmp_decode.specs.Fields.{FieldTakes, field_taken, field_counted};
+    ghost use Rattle.rmp_decode.specs.Refusing.{part_of};
+
+    type Slots = (Option<A>, B::Slots);
+
+    ghost count = { suc B.count };
+
+    ghost reads = { λ human lends fs v. Field (λ m. A.reads human lends m v.0) (Absent A.absent v.0) (λ gs. B.reads human lends gs v.1) fs };
+
+    ghost holds = { λ human lends fs s. Slot (A.reads human lends) (B.holds human lends) fs s.0 s.1 };
+
+    ghost takes = { λ human lends. FieldTakes (A.reads human lends) (B.takes human lends) };
+
+    ghost taken = { λ human lends fs v. field_taken (A.reads human lends) (A.absent) (B.reads human lends) (B.takes human lends) (B.taken human lends) fs v.0 v.1 };
+
+    ghost parts = { part_of A.reads A.refuses ∷ B.parts };
+
+    ghost many = { ap suc B.many };
+
+    ghost held = { λ s fs t. slot_held A.reads A.refuses B.holds B.parts B.held s fs t.0 t.1 };
+
+    ghost given = { λ s fs v. field_held A.reads A.refuses B.reads B.parts B.given A.absent s fs v.0 v.1 };
+
+    ghost counted = { λ human lends fs v. field_counted (λ m. A.reads human lends m v.0) (Absent A.absent v.0) (λ gs. B.reads human lends gs v.1) (λ gs. B.counted human lends gs v.1) fs };
+
+    fn empty() -> (Option<A>, B::Slots) {
+        (None, B::empty())
+    }
+
+    #[inline(always)]
+    fn fill<'x, C: SerializerConfig>(
+        slots: &mut (Option<A>, B::Slots),
+        place: usize,
+        map: &mut MapAccess<'x, R, C>,
+    ) -> Result<(), Error> {
+        if place > 0 {
+            return B::fill(&mut slots.1, place - 1, map);
+        }
+        if slots.0.is_some() {
+            return Err(Error::Syntax(Text::DuplicateField));
+        }
+        match map.next_value() {
+            Ok(value) => {
+                slots.0 = Some(value);
+                Ok(())
+            }
+            Err(e) => Err(e),
+        }
+    }
+
+    #[inline(always)]
+    fn finish(slots: (Option<A>, B::Slots)) -> Option<(A, B)> {
+        let (first, others) = slots;
+        let first = match first {
+            Some(first) => first,
+            None => match A::missing() {
+                Some(first) => first,
+                None => return None,
+            },
+        };
+        match B::finish(others) {
+            Some(others) => Some((first, others)),
+            None => None,
+        }
+    }
+
+    #[inline(always)]
+    fn listed<'x, C: SerializerConfig>(seq: &mut SeqAccess<'x, R, C>) -> Result<(A, B), Error> {
+        let first = match seq.element() {
+            Ok(first) => first,
+            Err(e) => return Err(e),
+        };
+        match B::listed(seq) {
+            Ok(others) => Ok((first, others)),
+            Err(e) => Err(e),
+        }
+    }
+}
+
+// A message that is passed over.
+#[derive(Clone, Copy)]
+pub(crate) struct Passed;
+
+impl<'de, R: ReadSlice<'de>> Deserialize<'de, R> for Passed {
+    ghost reads = { λ human lends m v. Unit {0} };
+
+    ghost absent = { None };
+
+    ghost refuses = { pass_refusal };
+
+    #[inline(always)]
+    fn deserialize<C: SerializerConfig>(de: &mut Deserializer<R, C>) -> Result<Passed, Error> {
+        match de.deserialize_ignored_any() {
+            Ok(()) => Ok(Passed),
+            Err(e) => Err(e),
+        }
+    }
+
+    fn missing() -> Option<Passed> {
+        None
+    }
+}
+
+// The parts that fields are read from.
+#[derive(Drop)]
+enum FieldParts<'x, R, C> {
+    Seq(SeqAccess<'x, R, C>),
+    Map(MapAccess<'x, R, C>),
+}
+
+// Whether it is bytes, of a list; `None` of a map; and how many elements or pairs follow.
+#[inline(always)]
+fn parts_of(head: Head) -> Option<(Option<bool>, u32)>
+    ensures { Finds (λ h p. h ≡ fields_head p.0 p.1) head result }
+{
+    match head {
+        Head::Bin(n) => Some((Some(true), n)),
+        Head::Array(n) => Some((Some(false), n)),
+        Head::Map(n) => Some((None, n)),
+        _ => None,
+    }
+}
+
+impl<R: Source, C: SerializerConfig> Deserializer<R, C> {
+    // Reads which of the names a key is, and stays failed until the access to the pairs ends.
+    #[inline(always)]
+    fn name_part<'de>(&mut self, inner: u32, names: &[&str]) -> Result<Option<usize>, Error>
+    where
+        R: ReadSlice<'de>,
+        ensures ok { IfOk result (TakesPart R.Source (IsName (bytes_of names.now)) (max 1 inner) self.old self.new) }
+        ensures err { IfErr result (FailsPart R.Source (IsName (bytes_of names.now)) (max 1 inner) self.old self.new) }
+        ensures refused { IfErr result (PartRefused R.Source (C.human (config_of self.old)) R.lends name_refusal (max 1 inner) self.old self.new) }
+        ensures memory { R.lends ≡ true → IfErr result (λ e. e ≢ Error.OutOfMemory) }
+    {
+        let outer = self.room;
+        self.room = inner;
+        self.failed = false;
+        let part = self.deserialize_identifier(names);
+        self.room = outer;
+        match part {
+            Ok(v) => {
+                self.failed = true;
+                Ok(v)
+            }
+            Err(e) => Err(e),
+        }
+    }
+
+    // Takes the head of a list, of bytes, or of a map.
+    #[inline(always)]
+    fn open_struct(&mut self) -> Result<(Option<bool>, u32), Error>
+        ensures ok { IfOk result (λ p. TakesHead R.Source (fields_head p.0 p.1) self.old self.new) }
+        ensures deep { IfOk result (λ p. p.0 ≢ Some true → 1 < self.old.room) }
+        ensures stays { Stays R.Source self.old self.new }
+        ensures sound { OnOk result (faults_of R.Source self.new ≡ faults_of R.Source self.old) }
+        ensures fresh { OnOk result (is_failed self.old ≡ false) }
+        ensures clean { OnOk result (kept_of self.new ≡ Nothing) }
+        ensures failed { is_failed self.new ≡ true }
+        ensures err { IfErr result (FailsToOpenFields R.Source self.old self.new) }
+    {
+        match self.head() {
+            Ok((_, head)) => match parts_of(head) {
+                Some((Some(true), len)) => Ok((Some(true), len)),
+                Some((Some(false), len)) => {
+                    if self.room <= 1 {
+                        return Err(Error::DepthLimitExceeded);
+                    }
+                    Ok((Some(false), len))
+                }
+                Some((None, len)) => {
+                    if self.room <= 1 {
+                        return Err(Error::DepthLimitExceeded);
+                    }
+                    Ok((None, len))
+                }
+                None => Err(Error::Syntax(Text::InvalidType)),
+            },
+            Err(e) => Err(e),
+        }
+    }
+
+    // Opens a list, bytes as the list of their numbers, or a map.
+    #[inline(always)]
+    fn open_fields(&mut self) -> Result<FieldParts<'_, R, C>, Error>
+        ensures* refused { sem 𝓛 (RestsIfErr (the_row R.row C.row) self.entry parts_name result (λ last. IfErr result (FailsToOpenFields R.Source self.old last))) }
+        ensures same_reference { IfOk result (λ a. parts_name a ≡ self.entry.ghost_name) }
+        ensures opened { IfOk result (OpensFields R.Source self.old) }
+    {
+        let room = self.room;
+        match self.open_struct() {
+            Ok((Some(bytes), left)) => Ok(FieldParts::Seq(SeqAccess {
+                de: self,
+                left,
+                count: left,
+                inner: inner_room(room, bytes),
+                bytes,
+                sound: true,
+            })),
+            Ok((None, left)) => Ok(FieldParts::Map(MapAccess {
+                de: self,
+                left,
+                count: left,
+                inner: room.saturating_sub(1),
+                owes: false,
+                sound: true,
+            })),
+            Err(e) => Err(e),
+        }
+    }
+
+    /// Reads the fields of a struct, from a list, from bytes as the list of their numbers, or from a map by the names. In a map
+    /// they stand in any order, and what is of no name is passed over; for one that isn't there stands what its type says.
+    ///
+    /// # Errors
+    /// Those of the fields' types; `Syntax("invalid type")` for another kind, and for a key that is no text, bytes or number
+    /// from 0 on, `DepthLimitExceeded` for a list or a map that would nest too deep, `Syntax("invalid length")` and
+    /// `LengthMismatch` for a list of fewer or more elements, `Syntax("duplicate field")` for a name that is there twice, and
+    /// `Syntax("missing field")` for one that has to be there and isn't.
+    #[inline(always)]
+    pub fn deserialize_fields<'de, F: Fields<'de, R>>(&mut self, names: &[&str]) -> Result<F, Error>
+    where
+        R: ReadSlice<'de>,
+        requires count { length names.now ≡ F.count }
+        ensures law { Lawful R.Source (λ m v. OfFields (bytes_of names.now) (λ fs. F.reads (C.human (config_of self.old)) R.lends fs v) m) self.old self.new result }
+        ensures refused { RefusesAs R.Source (C.human (config_of self.old)) R.lends (RefusesFields (bytes_of names.now) F.reads F.parts) self.old self.new result }
+    {
+        match self.open_fields() {
+            Ok(FieldParts::Seq(mut seq)) => {
+                let values = match F::listed(&mut seq) {
+                    Ok(values) => values,
+                    Err(e) => return Err(e),
+                };
+                match seq.end() {
+                    Ok(()) => Ok(values),
+                    Err(e) => Err(e),
+                }
+            }
+            Ok(FieldParts::Map(mut map)) => {
+                let mut slots = F::empty();
+                loop {
+                    match map.next_name(names) {
+                        Ok(Some(Some(place))) => match F::fill(&mut slots, place, &mut map) {
+                            Ok(()) => {}
+                            Err(e) => return Err(e),
+                        },
+                        Ok(Some(None)) => match map.next_value::<Passed>() {
+                            Ok(_) => {}
+                            Err(e) => return Err(e),
+                        },
+                        Ok(None) => break,
+                        Err(e) => return Err(e),
+                    }
+                }
+                let Some(values) = F::finish(slots) else {
+                    return Err(Error::Syntax(Text::MissingField));
+                };
+                match map.end() {
+                    Ok(()) => Ok(values),
+                    Err(e) => Err(e),
+                }
+            }
+            Err(e) => Err(e),
+        }
+    }
+}
+
+impl<'x, R: Source, C: SerializerConfig> MapAccess<'x, R, C> {
+    // Reads which of the names the next key is, if there is one.
+    #[inline(always)]
+    fn next_name<'de>(&mut self, names: &[&str]) -> Result<Option<Option<usize>>, Error>
+    where
+        R: ReadSlice<'de>,
+        requires { AtKey self.old }
+        ensures same_reference { self.new.de.ghost_name ≡ self.old.de.ghost_name }
+        ensures none { IfOk result (λ o. IfNone o ((pairs_left self.old ≡ 0) × (self.new ≡ self.old))) }
+        ensures some { IfOk result (λ o. IfSome o (TakesKey R.Source (IsName (bytes_of names.now)) self.old self.new)) }
+        ensures err { is_map_sound self.old ≡ true → IfErr result (λ e. (0 < pairs_left self.old) × FailsPart R.Source (IsName (bytes_of names.now)) (map_inner self.old) (map_lender self.old) (map_lender self.new) e) }
+        ensures refused { is_map_sound self.old ≡ true → IfErr result (KeyRefused R.Source (C.human (config_of (map_lender self.old))) R.lends name_refusal self.old self.new) }
+        ensures memory { R.lends ≡ true → IfErr result (λ e. e ≢ Error.OutOfMemory) }
+        ensures failed { OnErr result (is_map_sound self.new ≡ false) }
+        ensures before { is_map_sound self.old ≡ false → MatchResult result (λ _. ⊥) IsFailedBefore × (self.new ≡ self.old) }
+    {
+        if !self.sound {
+            return Err(Error::Uncategorized(Text::FailedBefore));
+        }
+        if self.left == 0 {
+            return Ok(None);
+        }
+        self.sound = false;
+        match self.de.name_part(self.inner, names) {
+            Ok(key) => {
+                self.left -= 1;
+                self.owes = true;
+                self.sound = true;
+                Ok(Some(key))
+            }
+            Err(e) => Err(e),
+        }
+    }
+}

@@ -1,0 +1,206 @@
+//! Maps, key by key and value by value.
+ghost use Rattle.std.specs.Prelude.{◌≡◌, ◌≢◌, ◌-◌, ◌<◌, true, false, IfSome, IfNone, IfOk, IfErr, OnOk, OnErr, MatchResult, max};
+ghost use Rattle.std.specs.Borrow.{sem, RestsIfErr};
+ghost use Rattle.rmp_decode.specs.contracts.deserializer.Deserializer.{the_row};
+ghost use Rattle.rmp_decode.specs.Kinds.{Finds};
+ghost use Rattle.rmp_decode.specs.Law.{IsFailedBefore, TakesHead};
+ghost use Rattle.rmp_decode.specs.MapRefusing.{PartRefused, EntryRefused, KeyRefused};
+ghost use Rattle.rmp_decode.specs.Maps.{OpensMap, FailsToOpenMap, IsMapOpen, AtKey, AtValue, TakesKey, TakesValue, pairs_left, pairs_in, owes_value, is_map_sound, map_lender, map_inner};
+ghost use Rattle.rmp_decode.specs.Parts.{TakesPart, FailsPart};
+ghost use Rattle.rmp_decode.specs.State.{faults_of, config_of, is_failed, kept_of, Stays};
+ghost use Rattle.rmp_decode.specs.declared.deserializer.Kept.TheVariants.{Nothing};
+
+mod with;
+
+use crate::de::Deserialize;
+use crate::deserializer::Deserializer;
+use crate::error::Error;
+use crate::text::Text;
+use rmp_wire::config::SerializerConfig;
+use rmp_wire::{Head, ReadSlice, Source};
+
+/// The pairs of a map that is being read, each a key and then its value.
+///
+/// While it stands the reader counts as failed; `end` makes it ready again, and one that is dropped before leaves it failed.
+#[derive(Drop)]
+pub struct MapAccess<'x, R, C> {
+    pub(crate) de: &'x mut Deserializer<R, C>,
+    pub(crate) left: u32,
+    pub(crate) count: u32,
+    pub(crate) inner: u32,
+    pub(crate) owes: bool,
+    pub(crate) sound: bool,
+}
+
+// How many pairs follow.
+#[inline(always)]
+pub(crate) fn map_in(head: Head) -> Option<u32>
+    ensures { Finds (λ h n. h ≡ Head.Map n) head result }
+{
+    match head {
+        Head::Map(n) => Some(n),
+        _ => None,
+    }
+}
+
+impl<R: Source, C: SerializerConfig> Deserializer<R, C> {
+    // Takes the head of a map.
+    #[inline(always)]
+    fn open_map(&mut self) -> Result<u32, Error>
+        ensures ok { IfOk result (λ n. TakesHead R.Source (Head.Map n) self.old self.new) }
+        ensures deep { OnOk result (1 < self.old.room) }
+        ensures stays { Stays R.Source self.old self.new }
+        ensures sound { OnOk result (faults_of R.Source self.new ≡ faults_of R.Source self.old) }
+        ensures fresh { OnOk result (is_failed self.old ≡ false) }
+        ensures clean { OnOk result (kept_of self.new ≡ Nothing) }
+        ensures failed { is_failed self.new ≡ true }
+        ensures err { IfErr result (FailsToOpenMap R.Source self.old self.new) }
+    {
+        match self.head() {
+            Ok((_, head)) => match map_in(head) {
+                Some(len) => {
+                    if self.room <= 1 {
+                        return Err(Error::DepthLimitExceeded);
+                    }
+                    Ok(len)
+                }
+                None => Err(Error::Syntax(Text::InvalidType)),
+            },
+            Err(e) => Err(e),
+        }
+    }
+
+    /// Opens a map.
+    ///
+    /// # Errors
+    /// `Syntax("invalid type")` for another kind, and `DepthLimitExceeded` for a map that would nest too deep.
+    #[inline(always)]
+    pub fn deserialize_map(&mut self) -> Result<MapAccess<'_, R, C>, Error>
+        ensures* refused { sem 𝓛 (RestsIfErr (the_row R.row C.row) self.entry (λ a. a.de.ghost_name) result (λ last. IfErr result (FailsToOpenMap R.Source self.old last))) }
+        ensures same_reference { IfOk result (λ a. a.de.ghost_name ≡ self.entry.ghost_name) }
+        ensures opened { IfOk result (OpensMap R.Source self.old) }
+    {
+        let room = self.room;
+        match self.open_map() {
+            Ok(left) => Ok(MapAccess {
+                de: self,
+                left,
+                count: left,
+                inner: room.saturating_sub(1),
+                owes: false,
+                sound: true,
+            }),
+            Err(e) => Err(e),
+        }
+    }
+}
+
+impl<'x, R: Source, C: SerializerConfig> MapAccess<'x, R, C> {
+    /// How many pairs haven't begun.
+    pub fn left(&self) -> u32
+        ensures { result ≡ pairs_left self.now }
+    {
+        self.left
+    }
+
+    /// Whether a key was read, and its value not yet.
+    pub fn owes_value(&self) -> bool
+        ensures { result ≡ owes_value self.now }
+    {
+        self.owes
+    }
+
+    /// Reads the next key, if there is one.
+    ///
+    /// The value of the key before it has to be read first.
+    #[inline(always)]
+    pub fn next_key<'de, K: Deserialize<'de, R>>(&mut self) -> Result<Option<K>, Error>
+    where
+        R: ReadSlice<'de>,
+        requires { AtKey self.old }
+        ensures same_reference { self.new.de.ghost_name ≡ self.old.de.ghost_name }
+        ensures none { IfOk result (λ o. IfNone o ((pairs_left self.old ≡ 0) × (self.new ≡ self.old))) }
+        ensures some { IfOk result (λ o. IfSome o (TakesKey R.Source (K.reads (C.human (config_of (map_lender self.old))) R.lends) self.old self.new)) }
+        ensures err { is_map_sound self.old ≡ true → IfErr result (λ e. (0 < pairs_left self.old) × FailsPart R.Source (K.reads (C.human (config_of (map_lender self.old))) R.lends) (map_inner self.old) (map_lender self.old) (map_lender self.new) e) }
+        ensures refused { is_map_sound self.old ≡ true → IfErr result (KeyRefused R.Source (C.human (config_of (map_lender self.old))) R.lends K.refuses self.old self.new) }
+        ensures memory { K.takes_memory R.lends ≡ false → IfErr result (λ e. e ≢ Error.OutOfMemory) }
+        ensures failed { OnErr result (is_map_sound self.new ≡ false) }
+        ensures before { is_map_sound self.old ≡ false → MatchResult result (λ _. ⊥) IsFailedBefore × (self.new ≡ self.old) }
+    {
+        if !self.sound {
+            return Err(Error::Uncategorized(Text::FailedBefore));
+        }
+        if self.left == 0 {
+            return Ok(None);
+        }
+        self.sound = false;
+        match self.de.part(self.inner) {
+            Ok(key) => {
+                self.left -= 1;
+                self.owes = true;
+                self.sound = true;
+                Ok(Some(key))
+            }
+            Err(e) => Err(e),
+        }
+    }
+
+    /// Reads the value of the key that was read last.
+    #[inline(always)]
+    pub fn next_value<'de, V: Deserialize<'de, R>>(&mut self) -> Result<V, Error>
+    where
+        R: ReadSlice<'de>,
+        requires { AtValue self.old }
+        ensures same_reference { self.new.de.ghost_name ≡ self.old.de.ghost_name }
+        ensures ok { IfOk result (TakesValue R.Source (V.reads (C.human (config_of (map_lender self.old))) R.lends) self.old self.new) }
+        ensures err { is_map_sound self.old ≡ true → IfErr result (FailsPart R.Source (V.reads (C.human (config_of (map_lender self.old))) R.lends) (map_inner self.old) (map_lender self.old) (map_lender self.new)) }
+        ensures refused { is_map_sound self.old ≡ true → IfErr result (EntryRefused R.Source (C.human (config_of (map_lender self.old))) R.lends V.refuses self.old self.new) }
+        ensures memory { V.takes_memory R.lends ≡ false → IfErr result (λ e. e ≢ Error.OutOfMemory) }
+        ensures failed { OnErr result (is_map_sound self.new ≡ false) }
+        ensures before { is_map_sound self.old ≡ false → MatchResult result (λ _. ⊥) IsFailedBefore × (self.new ≡ self.old) }
+    {
+        if !self.sound {
+            return Err(Error::Uncategorized(Text::FailedBefore));
+        }
+        self.sound = false;
+        match self.de.part(self.inner) {
+            Ok(value) => {
+                self.owes = false;
+                self.sound = true;
+                Ok(value)
+            }
+            Err(e) => Err(e),
+        }
+    }
+
+    /// Ends the reading, and makes the reader ready again.
+    ///
+    /// The value of each key that was read has to be read first.
+    ///
+    /// # Errors
+    /// `LengthMismatch` with the count of the pairs that were read, where some are left. They aren't looked at.
+    #[inline(always)]
+    pub fn end(self) -> Result<(), Error>
+        requires { AtKey self }
+        ensures ok { IsMapOpen self.entry → OnOk result ((pairs_left self.entry ≡ 0) × (self.exit.0.now ≡ record (map_lender self.entry) { failed = false })) }
+        ensures err { IsMapOpen self.entry → IfErr result (λ e. (0 < pairs_left self.entry) × (self.exit.0.now ≡ map_lender self.entry) × (e ≡ Error.LengthMismatch (pairs_in self.entry - pairs_left self.entry))) }
+        ensures before { is_map_sound self.entry ≡ false → MatchResult result (λ _. ⊥) IsFailedBefore × (self.exit.0.now ≡ map_lender self.entry) }
+    {
+        let MapAccess {
+            de,
+            left,
+            count,
+            inner: _,
+            owes: _,
+            sound,
+        } = self;
+        if !sound {
+            return Err(Error::Uncategorized(Text::FailedBefore));
+        }
+        if left > 0 {
+            return Err(Error::LengthMismatch(count.saturating_sub(left)));
+        }
+        de.failed = false;
+        Ok(())
+    }
+}

@@ -1,0 +1,104 @@
+//! Names, of which a message says one.
+ghost use Rattle.std.specs.Prelude.{◌≡◌, ◌≢◌, ℕ, List, true, length, IfErr, IfOk, OnOk};
+ghost use Rattle.std.specs.Io.KnownBytes.{Consumes};
+ghost use Rattle.rmp_wire.specs.Sources.{IsShort};
+ghost use Rattle.rmp_wire.specs.Spelling.{IsBytes};
+ghost use Rattle.rmp_decode.specs.Content.{RefusesLeaf, not_raw, never_refused};
+ghost use Rattle.rmp_decode.specs.Exact.{IsDataEnd};
+ghost use Rattle.rmp_decode.specs.Law.{Lawful, Explains};
+ghost use Rattle.rmp_decode.specs.Names.{bytes_of, place_of, place_below, IsName, IsNameHead};
+
+use crate::content::pieces::error_of;
+use crate::deserializer::Deserializer;
+use crate::deserializer::kinds::{raw_in, whole_in};
+use crate::error::Error;
+use crate::text::Text;
+use rmp_wire::config::SerializerConfig;
+use rmp_wire::{ReadSlice, Source};
+
+// The place of the first name that a text is.
+#[inline(always)]
+pub(crate) fn place_of(names: &[&str], key: &[u8]) -> Option<usize>
+    ensures { result ≡ place_of (bytes_of names.now) key.now }
+{
+    for i in 0..names.len() {
+        if names[i].as_bytes() == key {
+            return Some(i);
+        }
+    }
+    None
+}
+
+// A number as a place, where it is below how many there are.
+#[inline(always)]
+pub(crate) fn place_below(count: usize, z: i128) -> Option<Option<usize>>
+    ensures { result ≡ place_below count z }
+{
+    if z < 0 {
+        return None;
+    }
+    if z < count as i128 {
+        Some(Some(z as usize))
+    } else {
+        Some(None)
+    }
+}
+
+// The place of the first name that the next bytes are.
+#[inline(always)]
+pub(crate) fn next_place<'de, R: ReadSlice<'de>>(
+    reader: &mut R,
+    names: &[&str],
+    len: usize,
+) -> Result<Option<usize>, Error>
+    ensures ok { IfOk result (λ p. (s : List ℕ) × (length s ≡ len) × IsBytes s × Consumes (R.ahead reader.old) (R.ahead reader.new) s × (p ≡ place_of (bytes_of names.now) s)) }
+    ensures sound { OnOk result (R.faults reader.new ≡ R.faults reader.old) }
+    ensures err { IfErr result (λ e. Explains e (R.faults reader.old) (R.faults reader.new) (IsShort len (R.ahead reader.old))) }
+    ensures end { IfErr result (λ e. Explains e (R.faults reader.old) (R.faults reader.new) (IsDataEnd e)) }
+    ensures memory { R.lends ≡ true → IfErr result (λ e. e ≢ Error.OutOfMemory) }
+    ensures place { R.place reader.new ≡ R.place reader.old }
+{
+    match reader.read_slice(len) {
+        Ok(piece) => Ok(place_of(names, piece.as_bytes())),
+        Err(e) => Err(error_of(e)),
+    }
+}
+
+impl<R: Source, C: SerializerConfig> Deserializer<R, C> {
+    /// Reads which of the names a message is: a text or bytes that are that name, or a number as its place. Another text, other
+    /// bytes, and a number from the count of the names on are `None`. Of equal names it is the first.
+    ///
+    /// # Errors
+    /// `Syntax("invalid type")` for another kind, and for a negative number.
+    #[inline(always)]
+    pub fn deserialize_identifier<'de>(&mut self, names: &[&str]) -> Result<Option<usize>, Error>
+    where
+        R: ReadSlice<'de>,
+        ensures law { Lawful R.Source (IsName (bytes_of names.now)) self.old self.new result }
+        ensures exact { RefusesLeaf R.Source IsNameHead not_raw never_refused self.old self.new result }
+        ensures memory { R.lends ≡ true → IfErr result (λ e. e ≢ Error.OutOfMemory) }
+    {
+        match self.head() {
+            Ok((_, head)) => match raw_in(head) {
+                Some((_, len)) => match next_place(&mut self.reader, names, len as usize) {
+                    Ok(place) => {
+                        self.failed = false;
+                        Ok(place)
+                    }
+                    Err(e) => Err(e),
+                },
+                None => match whole_in(head) {
+                    Some(z) => match place_below(names.len(), z) {
+                        Some(place) => {
+                            self.failed = false;
+                            Ok(place)
+                        }
+                        None => Err(Error::Syntax(Text::InvalidType)),
+                    },
+                    None => Err(Error::Syntax(Text::InvalidType)),
+                },
+            },
+            Err(e) => Err(e),
+        }
+    }
+}

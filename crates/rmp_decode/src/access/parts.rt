@@ -1,0 +1,65 @@
+//! One part of a list or a map, read with the room that the parts have.
+ghost use Rattle.std.specs.Prelude.{◌≡◌, ◌≢◌, IfOk, IfErr, false, max};
+ghost use Rattle.std.specs.Fn.{FnOnceTakesAtMut};
+ghost use Rattle.rmp_decode.specs.MapRefusing.{PartRefused};
+ghost use Rattle.rmp_decode.specs.Parts.{TakesPart, FailsPart};
+ghost use Rattle.rmp_decode.specs.State.{config_of};
+ghost use Rattle.rmp_decode.specs.With.{part_reader, PartGiven};
+
+use crate::de::Deserialize;
+use crate::deserializer::Deserializer;
+use crate::error::Error;
+use crate::text::Text;
+use rmp_wire::config::SerializerConfig;
+use rmp_wire::{ReadSlice, Source};
+
+impl<R: Source, C: SerializerConfig> Deserializer<R, C> {
+    // Reads a part that may nest as deep as `inner` says, and stays failed until the access to the parts ends.
+    #[inline(always)]
+    pub(crate) fn part<'de, T: Deserialize<'de, R>>(&mut self, inner: u32) -> Result<T, Error>
+    where
+        R: ReadSlice<'de>,
+        ensures ok { IfOk result (TakesPart R.Source (T.reads (C.human (config_of self.old)) R.lends) (max 1 inner) self.old self.new) }
+        ensures err { IfErr result (FailsPart R.Source (T.reads (C.human (config_of self.old)) R.lends) (max 1 inner) self.old self.new) }
+        ensures refused { IfErr result (PartRefused R.Source (C.human (config_of self.old)) R.lends T.refuses (max 1 inner) self.old self.new) }
+        ensures memory { T.takes_memory R.lends ≡ false → IfErr result (λ e. e ≢ Error.OutOfMemory) }
+    {
+        let outer = self.room;
+        self.room = inner;
+        self.failed = false;
+        let part = T::deserialize(self);
+        self.room = outer;
+        match part {
+            Ok(v) => {
+                self.failed = true;
+                Ok(v)
+            }
+            Err(e) => Err(e),
+        }
+    }
+
+    // The same by `f`.
+    #[inline(always)]
+    pub(crate) fn part_with<X: Drop, F>(&mut self, inner: u32, f: F) -> Result<X, Error>
+    where
+        F: FnOnce(&mut Deserializer<R, C>) -> Result<X, Error>,
+        requires { FnOnceTakesAtMut F.FnOnce f (part_reader self.old inner) }
+        ensures { PartGiven F.FnOnce f inner self.old self.new result }
+    {
+        let outer = self.room;
+        self.room = inner;
+        self.failed = false;
+        let given = f(self);
+        let failed = self.failed;
+        self.room = outer;
+        self.failed = true;
+        let part = match given {
+            Ok(part) => part,
+            Err(e) => return Err(e),
+        };
+        if failed {
+            return Err(Error::Uncategorized(Text::FailedBefore));
+        }
+        Ok(part)
+    }
+}

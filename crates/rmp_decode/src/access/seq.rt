@@ -1,0 +1,354 @@
+//! Lists, and bytes as the lists of their numbers, element by element.
+ghost use Rattle.std.specs.Prelude.{◌≡◌, ◌≢◌, ◌-◌, ◌<◌, true, false, IfSome, IfNone, IfOk, IfErr, OnOk, OnErr, MatchResult};
+ghost use Rattle.std.specs.Borrow.{sem, RestsIfErr};
+ghost use Rattle.std.specs.Io.KnownBytes.{IsAtEnd};
+ghost use Rattle.rmp_decode.specs.contracts.deserializer.Deserializer.{the_row};
+ghost use Rattle.rmp_decode.specs.Kinds.{Finds};
+ghost use Rattle.rmp_decode.specs.Law.{Explains, IsFailedBefore, TakesHead};
+ghost use Rattle.rmp_decode.specs.Exact.{IsDataEnd};
+ghost use Rattle.rmp_decode.specs.Refusing.{element_setting, ElementRefused, WhereSome, Wanted};
+ghost use Rattle.rmp_decode.specs.Seq.{seq_head, Opens, FailsToOpen, IsOpen, TakesElement, FailsToTake, FailsElement, KeepsByte, left_in, count_in, in_bytes, is_sound, lender_of};
+ghost use Rattle.rmp_decode.specs.State.{left, faults_of, config_of, is_failed, kept_of, Stays};
+ghost use Rattle.rmp_decode.specs.declared.deserializer.Kept.TheVariants.{Nothing};
+
+mod with;
+
+use crate::de::Deserialize;
+use crate::deserializer::{Deserializer, Kept};
+use crate::error::Error;
+use crate::text::Text;
+use rmp_wire::config::SerializerConfig;
+use rmp_wire::{Head, ReadSlice, Source};
+
+/// The elements of a list that is being read, or the numbers of bytes.
+///
+/// While it stands the reader counts as failed; `end` makes it ready again, and one that is dropped before leaves it failed.
+#[derive(Drop)]
+pub struct SeqAccess<'x, R, C> {
+    pub(crate) de: &'x mut Deserializer<R, C>,
+    pub(crate) left: u32,
+    pub(crate) count: u32,
+    pub(crate) inner: u32,
+    pub(crate) bytes: bool,
+    pub(crate) sound: bool,
+}
+
+// Whether it is bytes, and how many elements follow.
+#[inline(always)]
+fn seq_in(head: Head) -> Option<(bool, u32)>
+    ensures { Finds (λ h p. h ≡ seq_head p.0 p.1) head result }
+{
+    match head {
+        Head::Bin(n) => Some((true, n)),
+        Head::Array(n) => Some((false, n)),
+        _ => None,
+    }
+}
+
+impl<R: Source, C: SerializerConfig> Deserializer<R, C> {
+    // Takes the head of a list or of bytes.
+    #[inline(always)]
+    fn open_seq(&mut self) -> Result<(bool, u32), Error>
+        ensures ok { IfOk result (λ p. TakesHead R.Source (seq_head p.0 p.1) self.old self.new) }
+        ensures deep { IfOk result (λ p. p.0 ≡ false → 1 < self.old.room) }
+        ensures stays { Stays R.Source self.old self.new }
+        ensures sound { OnOk result (faults_of R.Source self.new ≡ faults_of R.Source self.old) }
+        ensures fresh { OnOk result (is_failed self.old ≡ false) }
+        ensures clean { OnOk result (kept_of self.new ≡ Nothing) }
+        ensures failed { is_failed self.new ≡ true }
+        ensures err { IfErr result (FailsToOpen R.Source self.old self.new) }
+    {
+        match self.head() {
+            Ok((_, head)) => match seq_in(head) {
+                Some((true, len)) => Ok((true, len)),
+                Some((false, len)) => {
+                    if self.room <= 1 {
+                        return Err(Error::DepthLimitExceeded);
+                    }
+                    Ok((false, len))
+                }
+                None => Err(Error::Syntax(Text::InvalidType)),
+            },
+            Err(e) => Err(e),
+        }
+    }
+
+    // The same, by a call.
+    #[inline(never)]
+    fn headed_seq(&mut self) -> Result<(bool, u32), Error>
+        ensures ok { IfOk result (λ p. TakesHead R.Source (seq_head p.0 p.1) self.old self.new) }
+        ensures deep { IfOk result (λ p. p.0 ≡ false → 1 < self.old.room) }
+        ensures stays { Stays R.Source self.old self.new }
+        ensures sound { OnOk result (faults_of R.Source self.new ≡ faults_of R.Source self.old) }
+        ensures fresh { OnOk result (is_failed self.old ≡ false) }
+        ensures clean { OnOk result (kept_of self.new ≡ Nothing) }
+        ensures failed { is_failed self.new ≡ true }
+        ensures err { IfErr result (FailsToOpen R.Source self.old self.new) }
+    {
+        self.open_seq()
+    }
+
+    // The same, of a list that is likely to be short: its head is read where it lies.
+    #[inline(always)]
+    pub(crate) fn open_tuple(&mut self) -> Result<(bool, u32), Error>
+        ensures ok { IfOk result (λ p. TakesHead R.Source (seq_head p.0 p.1) self.old self.new) }
+        ensures deep { IfOk result (λ p. p.0 ≡ false → 1 < self.old.room) }
+        ensures stays { Stays R.Source self.old self.new }
+        ensures sound { OnOk result (faults_of R.Source self.new ≡ faults_of R.Source self.old) }
+        ensures fresh { OnOk result (is_failed self.old ≡ false) }
+        ensures clean { OnOk result (kept_of self.new ≡ Nothing) }
+        ensures failed { is_failed self.new ≡ true }
+        ensures err { IfErr result (FailsToOpen R.Source self.old self.new) }
+    {
+        match self.list_front() {
+            Some(len) => Ok((false, len)),
+            None => self.headed_seq(),
+        }
+    }
+
+    /// Opens a list, or bytes as the list of their numbers.
+    ///
+    /// # Errors
+    /// `Syntax("invalid type")` for another kind, and `DepthLimitExceeded` for a list that would nest too deep.
+    #[inline(always)]
+    pub fn deserialize_seq(&mut self) -> Result<SeqAccess<'_, R, C>, Error>
+        ensures* refused { sem 𝓛 (RestsIfErr (the_row R.row C.row) self.entry (λ s. s.de.ghost_name) result (λ last. IfErr result (FailsToOpen R.Source self.old last))) }
+        ensures same_reference { IfOk result (λ s. s.de.ghost_name ≡ self.entry.ghost_name) }
+        ensures opened { IfOk result (Opens R.Source self.old) }
+    {
+        let room = self.room;
+        match self.open_seq() {
+            Ok((bytes, left)) => Ok(SeqAccess {
+                de: self,
+                left,
+                count: left,
+                inner: inner_room(room, bytes),
+                bytes,
+                sound: true,
+            }),
+            Err(e) => Err(e),
+        }
+    }
+
+    /// Opens a list, or bytes as the list of their numbers, for a tuple. The tuple's own reading says how many elements it
+    /// wants, so `len` isn't looked at.
+    ///
+    /// # Errors
+    /// As `deserialize_seq`.
+    #[inline(always)]
+    pub fn deserialize_tuple(&mut self, _len: usize) -> Result<SeqAccess<'_, R, C>, Error>
+        ensures* refused { sem 𝓛 (RestsIfErr (the_row R.row C.row) self.entry (λ s. s.de.ghost_name) result (λ last. IfErr result (FailsToOpen R.Source self.old last))) }
+        ensures same_reference { IfOk result (λ s. s.de.ghost_name ≡ self.entry.ghost_name) }
+        ensures opened { IfOk result (Opens R.Source self.old) }
+    {
+        let room = self.room;
+        match self.open_tuple() {
+            Ok((bytes, left)) => Ok(SeqAccess {
+                de: self,
+                left,
+                count: left,
+                inner: inner_room(room, bytes),
+                bytes,
+                sound: true,
+            }),
+            Err(e) => Err(e),
+        }
+    }
+
+    /// The same for a struct without names of fields. Its name isn't written.
+    ///
+    /// # Errors
+    /// As `deserialize_seq`.
+    #[inline(always)]
+    pub fn deserialize_tuple_struct(
+        &mut self,
+        _name: &str,
+        len: usize,
+    ) -> Result<SeqAccess<'_, R, C>, Error>
+        ensures* refused { sem 𝓛 (RestsIfErr (the_row R.row C.row) self.entry (λ s. s.de.ghost_name) result (λ last. IfErr result (FailsToOpen R.Source self.old last))) }
+        ensures same_reference { IfOk result (λ s. s.de.ghost_name ≡ self.entry.ghost_name) }
+        ensures opened { IfOk result (Opens R.Source self.old) }
+    {
+        self.deserialize_tuple(len)
+    }
+
+    // Takes a byte, and keeps it back as a number.
+    #[inline(always)]
+    fn keep_byte(&mut self) -> Result<(), Error>
+        ensures ok { OnOk result (KeepsByte R.Source self.old self.new) }
+        ensures sound { OnOk result (faults_of R.Source self.new ≡ faults_of R.Source self.old) }
+        ensures stays { Stays R.Source self.old self.new }
+        ensures failed { is_failed self.new ≡ is_failed self.old }
+        ensures err { IfErr result (λ e. Explains e (faults_of R.Source self.old) (faults_of R.Source self.new) (IsAtEnd (R.ahead self.old.reader))) }
+        ensures end { IfErr result (λ e. faults_of R.Source self.new ≡ faults_of R.Source self.old → IsDataEnd e) }
+        ensures memory { IfErr result (λ e. e ≢ Error.OutOfMemory) }
+    {
+        match self.reader.take_1() {
+            Ok(bytes) => {
+                self.kept = Kept::Number(bytes[0]);
+                Ok(())
+            }
+            Err(fault) => Err(Error::InvalidDataRead(fault)),
+        }
+    }
+}
+
+// How deep an element may nest: bytes open no level.
+pub(crate) fn inner_room(room: u32, bytes: bool) -> u32
+    ensures bytes { bytes ≡ true → result ≡ room }
+    ensures list { bytes ≡ false → result ≡ room - 1 }
+{
+    if bytes { room } else { room.saturating_sub(1) }
+}
+
+impl<'x, R: Source, C: SerializerConfig> SeqAccess<'x, R, C> {
+    /// How many elements are still to come.
+    pub fn left(&self) -> u32
+        ensures { result ≡ left_in self.now }
+    {
+        self.left
+    }
+
+    // Reads an element of a list.
+    #[inline(always)]
+    fn listed<'de, T: Deserialize<'de, R>>(&mut self) -> Result<T, Error>
+    where
+        R: ReadSlice<'de>,
+        requires some { 0 < left_in self.old }
+        requires list { in_bytes self.old ≡ false }
+        ensures same_reference { self.new.de.ghost_name ≡ self.old.de.ghost_name }
+        ensures ok { IsOpen self.old → IfOk result (TakesElement R.Source (T.reads (C.human (config_of (lender_of self.old))) R.lends) self.old self.new) }
+        ensures err { IsOpen self.old → IfErr result (FailsToTake R.Source (T.reads (C.human (config_of (lender_of self.old))) R.lends) self.old self.new) }
+        ensures refused { IsOpen self.old → IfErr result (T.refuses (element_setting (C.human (config_of (lender_of self.old))) R.lends self.old) (faults_of R.Source (lender_of self.old)) (faults_of R.Source (lender_of self.new)) (left R.Source (lender_of self.old))) }
+        ensures memory { T.takes_memory R.lends ≡ false → IfErr result (λ e. e ≢ Error.OutOfMemory) }
+        ensures failed { OnErr result (is_sound self.new ≡ false) }
+        ensures marked { is_failed (lender_of self.old) ≡ true → is_failed (lender_of self.new) ≡ true }
+    {
+        self.sound = false;
+        match self.de.part(self.inner) {
+            Ok(v) => {
+                self.left -= 1;
+                self.sound = true;
+                Ok(v)
+            }
+            Err(e) => Err(e),
+        }
+    }
+
+    // Reads a byte of bytes as a number.
+    #[inline(always)]
+    fn numbered<'de, T: Deserialize<'de, R>>(&mut self) -> Result<T, Error>
+    where
+        R: ReadSlice<'de>,
+        requires some { 0 < left_in self.old }
+        requires bytes { in_bytes self.old ≡ true }
+        ensures same_reference { self.new.de.ghost_name ≡ self.old.de.ghost_name }
+        ensures ok { IsOpen self.old → IfOk result (TakesElement R.Source (T.reads (C.human (config_of (lender_of self.old))) R.lends) self.old self.new) }
+        ensures err { IsOpen self.old → IfErr result (FailsToTake R.Source (T.reads (C.human (config_of (lender_of self.old))) R.lends) self.old self.new) }
+        ensures refused { IsOpen self.old → IfErr result (ElementRefused R.Source (C.human (config_of (lender_of self.old))) R.lends T.refuses self.old self.new (left R.Source (lender_of self.old))) }
+        ensures memory { T.takes_memory R.lends ≡ false → IfErr result (λ e. e ≢ Error.OutOfMemory) }
+        ensures failed { OnErr result (is_sound self.new ≡ false) }
+        ensures marked { is_failed (lender_of self.old) ≡ true → is_failed (lender_of self.new) ≡ true }
+    {
+        self.sound = false;
+        match self.de.keep_byte() {
+            Ok(()) => {}
+            Err(e) => return Err(e),
+        }
+        match self.de.part(self.inner) {
+            Ok(v) => {
+                self.left -= 1;
+                self.sound = true;
+                Ok(v)
+            }
+            Err(e) => Err(e),
+        }
+    }
+
+    /// Reads the next element, if there is one.
+    #[inline(always)]
+    pub fn next_element<'de, T: Deserialize<'de, R>>(&mut self) -> Result<Option<T>, Error>
+    where
+        R: ReadSlice<'de>,
+        ensures same_reference { self.new.de.ghost_name ≡ self.old.de.ghost_name }
+        ensures none { IsOpen self.old → IfOk result (λ o. IfNone o ((left_in self.old ≡ 0) × (self.new ≡ self.old))) }
+        ensures some { IsOpen self.old → IfOk result (λ o. IfSome o (TakesElement R.Source (T.reads (C.human (config_of (lender_of self.old))) R.lends) self.old self.new)) }
+        ensures err { IsOpen self.old → IfErr result (FailsToTake R.Source (T.reads (C.human (config_of (lender_of self.old))) R.lends) self.old self.new) }
+        ensures refused { IsOpen self.old → IfErr result (WhereSome (ElementRefused R.Source (C.human (config_of (lender_of self.old))) R.lends T.refuses self.old self.new) (left_in self.old) (left R.Source (lender_of self.old))) }
+        ensures memory { T.takes_memory R.lends ≡ false → IfErr result (λ e. e ≢ Error.OutOfMemory) }
+        ensures failed { OnErr result (is_sound self.new ≡ false) }
+        ensures marked { is_failed (lender_of self.old) ≡ true → is_failed (lender_of self.new) ≡ true }
+        ensures before { is_sound self.old ≡ false → MatchResult result (λ _. ⊥) IsFailedBefore × (self.new ≡ self.old) }
+    {
+        if !self.sound {
+            return Err(Error::Uncategorized(Text::FailedBefore));
+        }
+        if self.left == 0 {
+            return Ok(None);
+        }
+        let element = if self.bytes {
+            self.numbered()
+        } else {
+            self.listed()
+        };
+        match element {
+            Ok(v) => Ok(Some(v)),
+            Err(e) => Err(e),
+        }
+    }
+
+    /// Reads the next element, which has to be there.
+    ///
+    /// # Errors
+    /// `Syntax("invalid length")` where there is none.
+    #[inline(always)]
+    pub fn element<'de, T: Deserialize<'de, R>>(&mut self) -> Result<T, Error>
+    where
+        R: ReadSlice<'de>,
+        ensures same_reference { self.new.de.ghost_name ≡ self.old.de.ghost_name }
+        ensures ok { IsOpen self.old → IfOk result (TakesElement R.Source (T.reads (C.human (config_of (lender_of self.old))) R.lends) self.old self.new) }
+        ensures err { IsOpen self.old → IfErr result (FailsElement R.Source (T.reads (C.human (config_of (lender_of self.old))) R.lends) self.old self.new) }
+        ensures refused { IsOpen self.old → IfErr result (Wanted (ElementRefused R.Source (C.human (config_of (lender_of self.old))) R.lends T.refuses self.old self.new) (left_in self.old) (left R.Source (lender_of self.old))) }
+        ensures memory { T.takes_memory R.lends ≡ false → IfErr result (λ e. e ≢ Error.OutOfMemory) }
+        ensures failed { OnErr result (is_sound self.new ≡ false) }
+        ensures marked { is_failed (lender_of self.old) ≡ true → is_failed (lender_of self.new) ≡ true }
+        ensures before { is_sound self.old ≡ false → MatchResult result (λ _. ⊥) IsFailedBefore × (self.new ≡ self.old) }
+    {
+        match self.next_element() {
+            Ok(Some(item)) => Ok(item),
+            Ok(None) => {
+                self.sound = false;
+                Err(Error::Syntax(Text::InvalidLength))
+            }
+            Err(e) => Err(e),
+        }
+    }
+
+    /// Ends the reading, and makes the reader ready again.
+    ///
+    /// # Errors
+    /// `LengthMismatch` with the count of the elements that were read, where some are left. They aren't looked at.
+    #[inline(always)]
+    pub fn end(self) -> Result<(), Error>
+        ensures ok { IsOpen self.entry → OnOk result ((left_in self.entry ≡ 0) × (self.exit.0.now ≡ record (lender_of self.entry) { failed = false })) }
+        ensures err { IsOpen self.entry → IfErr result (λ e. (0 < left_in self.entry) × (self.exit.0.now ≡ lender_of self.entry) × (e ≡ Error.LengthMismatch (count_in self.entry - left_in self.entry))) }
+        ensures before { is_sound self.entry ≡ false → MatchResult result (λ _. ⊥) IsFailedBefore × (self.exit.0.now ≡ lender_of self.entry) }
+    {
+        let SeqAccess {
+            de,
+            left,
+            count,
+            inner: _,
+            bytes: _,
+            sound,
+        } = self;
+        if !sound {
+            return Err(Error::Uncategorized(Text::FailedBefore));
+        }
+        if left > 0 {
+            return Err(Error::LengthMismatch(count.saturating_sub(left)));
+        }
+        de.failed = false;
+        Ok(())
+    }
+}

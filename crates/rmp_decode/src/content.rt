@@ -1,0 +1,103 @@
+//! Content of texts, bytes and extensions.
+ghost use Rattle.std.specs.Prelude.{◌≡◌, ◌≢◌, Bool, true, OnOk, IfOk, IfErr, length};
+ghost use Rattle.std.specs.Io.KnownBytes.{Consumes};
+ghost use Rattle.rmp_wire.specs.Sources.{IsShort};
+ghost use Rattle.rmp_wire.specs.Spelling.{IsBytes};
+ghost use Rattle.rmp_decode.specs.Exact.{IsDataEnd};
+ghost use Rattle.rmp_decode.specs.Law.{Explains};
+ghost use Rattle.rmp_decode.specs.Kinds.{raw_head};
+ghost use Rattle.rmp_decode.specs.Names.{bytes_of};
+ghost use Rattle.rmp_decode.specs.Pieces.{RefusesPiece};
+ghost use Rattle.rmp_decode.specs.Skip.{Passes};
+ghost use Rattle.rmp_decode.specs.VariantNames.{TakesName, StartsWithNoName, unknown_name};
+
+mod buffers;
+mod ext;
+pub(crate) mod pieces;
+mod strings;
+#[cfg(test)]
+mod tests;
+mod texts;
+
+use crate::access::variant::next_variant;
+use crate::content::pieces::{error_of, owned};
+use crate::error::Error;
+use rmp_wire::{ReadSlice, Source};
+use std::alloc::Global;
+use std::marker::PhantomData;
+
+/// How content is taken from a reader. A function that calls itself may have no bound that names a lifetime, so it has this
+/// one in place of `ReadSlice`, and is called with `Slices`.
+pub trait ReadContent<R: Source> {
+    // Whether content is passed over without memory.
+    ghost lends: { Bool };
+
+    /// Passes over the next bytes, where they lie.
+    ///
+    /// # Errors
+    /// `InvalidDataRead` where they end too soon or the source failed, and `OutOfMemory`, unless it lends.
+    fn pass(reader: &mut R, len: usize) -> Result<(), Error>
+        ensures ok { OnOk result (Passes len (R.ahead reader.old) (R.ahead reader.new)) }
+        ensures sound { OnOk result (R.faults reader.new ≡ R.faults reader.old) }
+        ensures err { IfErr result (λ e. Explains e (R.faults reader.old) (R.faults reader.new) (IsShort len (R.ahead reader.old))) }
+        ensures end { IfErr result (λ e. Explains e (R.faults reader.old) (R.faults reader.new) (IsDataEnd e)) }
+        ensures memory { lends ≡ true → IfErr result (λ e. e ≢ Error.OutOfMemory) }
+        ensures place { R.place reader.new ≡ R.place reader.old };
+
+    /// Takes the next bytes into a vector.
+    ///
+    /// # Errors
+    /// As `pass`.
+    fn take(alloc: Global, reader: &mut R, len: usize) -> Result<Vec<u8>, Error>
+        ensures ok { IfOk result (λ v. (length v.items ≡ len) × IsBytes v.items × Consumes (R.ahead reader.old) (R.ahead reader.new) v.items) }
+        ensures sound { OnOk result (R.faults reader.new ≡ R.faults reader.old) }
+        ensures err { IfErr result (λ e. Explains e (R.faults reader.old) (R.faults reader.new) (IsShort len (R.ahead reader.old))) }
+        ensures end { IfErr result (λ e. Explains e (R.faults reader.old) (R.faults reader.new) (IsDataEnd e)) }
+        ensures place { R.place reader.new ≡ R.place reader.old };
+
+    /// Takes the next bytes as the name of a variant, and answers its place among the names.
+    ///
+    /// # Errors
+    /// As `pass`; `Utf8Error` for a text that isn't UTF-8; and `Syntax("unknown variant")` for another text, and for bytes, that
+    /// are none of the names.
+    fn variant(reader: &mut R, names: &[&str], is_text: bool, len: usize) -> Result<usize, Error>
+        ensures ok { IfOk result (TakesName (bytes_of names.now) len (R.ahead reader.old) (R.ahead reader.new)) }
+        ensures sound { OnOk result (R.faults reader.new ≡ R.faults reader.old) }
+        ensures err { IfErr result (λ e. Explains e (R.faults reader.old) (R.faults reader.new)
+            (StartsWithNoName (bytes_of names.now) len (R.ahead reader.old))) }
+        ensures exact { IfErr result (λ e. Explains e (R.faults reader.old) (R.faults reader.new)
+            (RefusesPiece len (unknown_name (raw_head is_text len)) (R.ahead reader.old) e)) }
+        ensures memory { lends ≡ true → IfErr result (λ e. e ≢ Error.OutOfMemory) }
+        ensures place { R.place reader.new ≡ R.place reader.old };
+}
+
+/// The content of readers that answer slices.
+#[derive(Clone, Copy, Debug)]
+pub struct Slices<'de> {
+    of: PhantomData<&'de [u8]>,
+}
+
+impl<'de, R: ReadSlice<'de>> ReadContent<R> for Slices<'de> {
+    ghost lends = { R.lends };
+
+    #[inline(always)]
+    fn pass(reader: &mut R, len: usize) -> Result<(), Error> {
+        match reader.read_slice(len) {
+            Ok(piece) => {
+                let _bytes = piece.as_bytes();
+                Ok(())
+            }
+            Err(e) => Err(error_of(e)),
+        }
+    }
+
+    #[inline(always)]
+    fn take(alloc: Global, reader: &mut R, len: usize) -> Result<Vec<u8>, Error> {
+        owned(alloc, reader, len)
+    }
+
+    #[inline(always)]
+    fn variant(reader: &mut R, names: &[&str], is_text: bool, len: usize) -> Result<usize, Error> {
+        next_variant(reader, names, is_text, len)
+    }
+}

@@ -1,0 +1,180 @@
+//! Texts, characters and bytes.
+ghost use Rattle.std.specs.Prelude.{◌≡◌, ◌≢◌, true, false, IfErr};
+ghost use Rattle.std.specs.String.{string_bytes};
+ghost use Rattle.rmp_decode.specs.Content.{IsTextHead, IsRawHead, RefusesLeaf, not_raw, never_refused, not_char, not_string, not_str, not_bytes};
+ghost use Rattle.rmp_decode.specs.Exact.{IsUtf8Error};
+ghost use Rattle.rmp_decode.specs.Law.{Lawful};
+ghost use Rattle.rmp_decode.specs.Kinds.{raw_msg};
+ghost use Rattle.rmp_decode.specs.Read.{IsRaw, IsString, IsChar};
+
+use crate::content::pieces::{lent_content, next_char, owned};
+use crate::deserializer::Deserializer;
+use crate::deserializer::kinds::{raw_in, text_in};
+use crate::error::Error;
+use crate::text::Text;
+use rmp_wire::config::SerializerConfig;
+use rmp_wire::{ReadSlice, Source};
+use std::str;
+use std::str::Utf8Error;
+
+// The refusal of bytes that aren't UTF-8.
+fn not_utf8(is_text: bool, e: Utf8Error) -> Error
+    ensures text { is_text ≡ true → IsUtf8Error result }
+    ensures bytes { is_text ≡ false → result ≡ Error.Syntax Text.InvalidValue }
+{
+    if is_text {
+        Error::Utf8Error(e)
+    } else {
+        Error::Syntax(Text::InvalidValue)
+    }
+}
+
+impl<R: Source, C: SerializerConfig> Deserializer<R, C> {
+    // The bytes of a text or of bytes, lent, and whether they are a text's.
+    #[inline(always)]
+    fn lent_raw<'de>(&mut self) -> Result<(bool, &'de [u8]), Error>
+    where
+        R: ReadSlice<'de>,
+        ensures law { Lawful R.Source (λ m p. (R.lends ≡ true) × (m ≡ raw_msg p.0 p.1.now)) self.old self.new result }
+        ensures exact { RefusesLeaf R.Source IsRawHead not_raw (not_bytes R.lends) self.old self.new result }
+        ensures memory { R.lends ≡ true → IfErr result (λ e. e ≢ Error.OutOfMemory) }
+    {
+        match self.head() {
+            Ok((_, head)) => match raw_in(head) {
+                Some((is_text, len)) => {
+                    match lent_content(&mut self.reader, is_text, len as usize) {
+                        Ok(bytes) => {
+                            self.failed = false;
+                            Ok((is_text, bytes))
+                        }
+                        Err(e) => Err(e),
+                    }
+                }
+                None => Err(Error::Syntax(Text::InvalidType)),
+            },
+            Err(e) => Err(e),
+        }
+    }
+
+    // The bytes of a text or of bytes, in a vector, and whether they are a text's.
+    fn owned_raw<'de>(&mut self) -> Result<(bool, Vec<u8>), Error>
+    where
+        R: ReadSlice<'de>,
+        ensures law { Lawful R.Source (λ m p. m ≡ raw_msg p.0 p.1.items) self.old self.new result }
+        ensures exact { RefusesLeaf R.Source IsRawHead not_raw never_refused self.old self.new result }
+    {
+        match self.head() {
+            Ok((_, head)) => match raw_in(head) {
+                Some((is_text, len)) => match owned(self.alloc, &mut self.reader, len as usize) {
+                    Ok(bytes) => {
+                        self.failed = false;
+                        Ok((is_text, bytes))
+                    }
+                    Err(e) => Err(e),
+                },
+                None => Err(Error::Syntax(Text::InvalidType)),
+            },
+            Err(e) => Err(e),
+        }
+    }
+
+    /// Reads a text of one character.
+    ///
+    /// # Errors
+    /// `Utf8Error` for a text that isn't UTF-8, and `Syntax("invalid value")` for one of another count of characters.
+    pub fn deserialize_char<'de>(&mut self) -> Result<char, Error>
+    where
+        R: ReadSlice<'de>,
+        ensures law { Lawful R.Source IsChar self.old self.new result }
+        ensures exact { RefusesLeaf R.Source IsTextHead not_raw not_char self.old self.new result }
+        ensures memory { R.lends ≡ true → IfErr result (λ e. e ≢ Error.OutOfMemory) }
+    {
+        match self.head() {
+            Ok((_, head)) => match text_in(head) {
+                Some(len) => match next_char(&mut self.reader, len as usize) {
+                    Ok(c) => {
+                        self.failed = false;
+                        Ok(c)
+                    }
+                    Err(e) => Err(e),
+                },
+                None => Err(Error::Syntax(Text::InvalidType)),
+            },
+            Err(e) => Err(e),
+        }
+    }
+
+    /// Reads the bytes of a text, which may be no UTF-8, or of bytes, and lends them for the input's whole life, without memory.
+    ///
+    /// # Errors
+    /// Where the source doesn't lend, `Utf8Error` for a text that isn't UTF-8, and else `Syntax("invalid type")`.
+    #[inline(always)]
+    pub fn deserialize_bytes<'de>(&mut self) -> Result<&'de [u8], Error>
+    where
+        R: ReadSlice<'de>,
+        ensures law { Lawful R.Source (λ m s. (R.lends ≡ true) × IsRaw m s.now) self.old self.new result }
+        ensures exact { RefusesLeaf R.Source IsRawHead not_raw (not_bytes R.lends) self.old self.new result }
+        ensures memory { R.lends ≡ true → IfErr result (λ e. e ≢ Error.OutOfMemory) }
+    {
+        match self.lent_raw() {
+            Ok((_, bytes)) => Ok(bytes),
+            Err(e) => Err(e),
+        }
+    }
+
+    /// Reads a text, or bytes that are UTF-8, and lends it for the input's whole life, without memory.
+    ///
+    /// # Errors
+    /// `Utf8Error` for a text that isn't UTF-8, and `Syntax("invalid value")` for bytes that aren't. Where the source doesn't
+    /// lend, bytes and a text that is UTF-8 are `Syntax("invalid type")`.
+    #[inline(always)]
+    pub fn deserialize_str<'de>(&mut self) -> Result<&'de str, Error>
+    where
+        R: ReadSlice<'de>,
+        ensures law { Lawful R.Source (λ m s. (R.lends ≡ true) × IsString m s.now) self.old self.new result }
+        ensures exact { RefusesLeaf R.Source IsRawHead not_raw (not_str R.lends) self.old self.new result }
+        ensures memory { R.lends ≡ true → IfErr result (λ e. e ≢ Error.OutOfMemory) }
+    {
+        match self.lent_raw() {
+            Ok((is_text, bytes)) => match str::from_utf8(bytes) {
+                Ok(s) => Ok(s),
+                Err(e) => Err(self.refuse(not_utf8(is_text, e))),
+            },
+            Err(e) => Err(e),
+        }
+    }
+
+    /// Reads a text, or bytes that are UTF-8.
+    ///
+    /// # Errors
+    /// `Utf8Error` for a text that isn't UTF-8, and `Syntax("invalid value")` for bytes that aren't.
+    #[inline(always)]
+    pub fn deserialize_string<'de>(&mut self) -> Result<String, Error>
+    where
+        R: ReadSlice<'de>,
+        ensures law { Lawful R.Source (λ m s. IsRaw m (string_bytes s)) self.old self.new result }
+        ensures exact { RefusesLeaf R.Source IsRawHead not_raw not_string self.old self.new result }
+    {
+        match self.text_front() {
+            Some(len) => self.string_behind(len),
+            None => self.headed_string(),
+        }
+    }
+
+    // The same by way of `head`, by a call.
+    #[inline(never)]
+    fn headed_string<'de>(&mut self) -> Result<String, Error>
+    where
+        R: ReadSlice<'de>,
+        ensures law { Lawful R.Source (λ m s. IsRaw m (string_bytes s)) self.old self.new result }
+        ensures exact { RefusesLeaf R.Source IsRawHead not_raw not_string self.old self.new result }
+    {
+        match self.owned_raw() {
+            Ok((is_text, bytes)) => match String::from_utf8(bytes) {
+                Ok(s) => Ok(s),
+                Err(e) => Err(self.refuse(not_utf8(is_text, e.utf8_error()))),
+            },
+            Err(e) => Err(e),
+        }
+    }
+}

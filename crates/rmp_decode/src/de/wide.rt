@@ -1,0 +1,176 @@
+//! Numbers of 128 bits, which are read from any number and from bytes.
+ghost use Rattle.std.specs.Prelude.{◌≡◌, ◌≢◌, None, true, false, IfOk, IfErr, OnOk};
+ghost use Rattle.rmp_wire.specs.Sources.{IsShort, Takes};
+ghost use Rattle.rmp_decode.specs.Content.{RefusesContent, RefusesLeaf, never_refused};
+ghost use Rattle.rmp_decode.specs.Exact.{IsDataEnd};
+ghost use Rattle.rmp_decode.specs.Law.{Explains, Lawful};
+ghost use Rattle.rmp_decode.specs.Wide.{IsSigned128, IsUnsigned128, IsSigned128Head, IsUnsigned128Head, TakesSixteen, not_wide};
+
+use crate::de::Deserialize;
+use crate::deserializer::Deserializer;
+use crate::deserializer::kinds::whole_in;
+use crate::error::Error;
+use rmp_wire::config::SerializerConfig;
+use rmp_wire::{Head, IoFault, Marker, ReadSlice, Source};
+
+// Whether 16 bytes follow.
+#[inline(always)]
+fn is_sixteen(head: Head) -> bool
+    ensures yes { result ≡ true → head ≡ Head.Bin 16 }
+    ensures no { result ≡ false → head ≡ Head.Bin 16 → ⊥ }
+{
+    match head {
+        Head::Bin(n) => n == 16,
+        _ => false,
+    }
+}
+
+// The refusal of a list where a number of 128 bits is wanted.
+fn not_wide_list(marker: Marker) -> Error
+    ensures same { result ≡ Rattle.rmp_decode.specs.Wide.not_wide_list marker }
+    ensures memory { result ≢ Error.OutOfMemory }
+{
+    match marker {
+        Marker::FixArray(_) => Error::LengthMismatch(16),
+        _ => Error::TypeMismatch(marker),
+    }
+}
+
+// The refusal of a message of another kind where a number of 128 bits is wanted.
+fn not_wide(marker: Marker, head: Head) -> Error
+    ensures same { result ≡ not_wide marker head }
+    ensures memory { result ≢ Error.OutOfMemory }
+{
+    match head {
+        Head::Whole(_) => Error::OutOfRange,
+        Head::Bin(_) => Error::LengthMismatch(16),
+        Head::Array(_) => not_wide_list(marker),
+        _ => Error::TypeMismatch(marker),
+    }
+}
+
+// The next 16 bytes.
+fn take_16<S: Source>(source: &mut S) -> Result<[u8; 16], IoFault>
+    ensures bytes { Takes 16 (S.ahead source.old) (S.ahead source.new) (S.faults source.old) (S.faults source.new) result }
+    ensures place { S.place source.new ≡ S.place source.old }
+{
+    let mut bytes = [0; 16];
+    source.pull_exact(&mut bytes)?;
+    Ok(bytes)
+}
+
+// The same, as a number without a sign.
+fn next_sixteen<S: Source>(source: &mut S) -> Result<u128, Error>
+    ensures ok { IfOk result (TakesSixteen (S.ahead source.old) (S.ahead source.new)) }
+    ensures sound { OnOk result (S.faults source.new ≡ S.faults source.old) }
+    ensures err { IfErr result (λ e. Explains e (S.faults source.old) (S.faults source.new) (IsShort 16 (S.ahead source.old))) }
+    ensures end { IfErr result (λ e. Explains e (S.faults source.old) (S.faults source.new) (IsDataEnd e)) }
+    ensures memory { IfErr result (λ e. e ≢ Error.OutOfMemory) }
+    ensures place { S.place source.new ≡ S.place source.old }
+{
+    match take_16(source) {
+        Ok(bytes) => Ok(u128::from_be_bytes(bytes)),
+        Err(fault) => Err(Error::InvalidDataRead(fault)),
+    }
+}
+
+impl<R: Source, C: SerializerConfig> Deserializer<R, C> {
+    /// Reads a number of any width, or 16 bytes as one in two's complement, the highest byte first.
+    ///
+    /// # Errors
+    /// `LengthMismatch(16)` for other bytes and for a list whose head is one byte, and `TypeMismatch` with the marker that was
+    /// there, for another kind.
+    pub fn deserialize_i128(&mut self) -> Result<i128, Error>
+        ensures law { Lawful R.Source IsSigned128 self.old self.new result }
+        ensures exact { RefusesLeaf R.Source IsSigned128Head not_wide never_refused self.old self.new result }
+        ensures memory { IfErr result (λ e. e ≢ Error.OutOfMemory) }
+    {
+        let (marker, head) = match self.head() {
+            Ok(next) => next,
+            Err(e) => return Err(e),
+        };
+        if let Some(z) = whole_in(head) {
+            self.failed = false;
+            return Ok(z);
+        }
+        if !is_sixteen(head) {
+            return Err(not_wide(marker, head));
+        }
+        match next_sixteen(&mut self.reader) {
+            Ok(n) => {
+                self.failed = false;
+                Ok(n.cast_signed())
+            }
+            Err(e) => Err(e),
+        }
+    }
+
+    /// Reads a number from 0 on, of any width and with or without a sign, or 16 bytes as one, the highest byte first.
+    ///
+    /// # Errors
+    /// `OutOfRange` for a negative number, `LengthMismatch(16)` for other bytes and for a list whose head is one byte, and
+    /// `TypeMismatch` with the marker that was there, for another kind.
+    pub fn deserialize_u128(&mut self) -> Result<u128, Error>
+        ensures law { Lawful R.Source IsUnsigned128 self.old self.new result }
+        ensures exact { RefusesLeaf R.Source IsUnsigned128Head not_wide never_refused self.old self.new result }
+        ensures memory { IfErr result (λ e. e ≢ Error.OutOfMemory) }
+    {
+        let (marker, head) = match self.head() {
+            Ok(next) => next,
+            Err(e) => return Err(e),
+        };
+        if let Some(z) = whole_in(head) {
+            if z < 0 {
+                return Err(Error::OutOfRange);
+            }
+            self.failed = false;
+            return Ok(z as u128);
+        }
+        if !is_sixteen(head) {
+            return Err(not_wide(marker, head));
+        }
+        match next_sixteen(&mut self.reader) {
+            Ok(n) => {
+                self.failed = false;
+                Ok(n)
+            }
+            Err(e) => Err(e),
+        }
+    }
+}
+
+impl<'de, R: ReadSlice<'de>> Deserialize<'de, R> for i128 {
+    ghost reads = { λ human lends. IsSigned128 };
+
+    ghost absent = { None };
+
+    ghost refuses = { λ s. RefusesContent s.strict IsSigned128Head not_wide never_refused };
+
+    ghost takes_memory = { λ _. false };
+
+    fn deserialize<C: SerializerConfig>(de: &mut Deserializer<R, C>) -> Result<i128, Error> {
+        de.deserialize_i128()
+    }
+
+    fn missing() -> Option<i128> {
+        None
+    }
+}
+
+impl<'de, R: ReadSlice<'de>> Deserialize<'de, R> for u128 {
+    ghost reads = { λ human lends. IsUnsigned128 };
+
+    ghost absent = { None };
+
+    ghost refuses = { λ s. RefusesContent s.strict IsUnsigned128Head not_wide never_refused };
+
+    ghost takes_memory = { λ _. false };
+
+    fn deserialize<C: SerializerConfig>(de: &mut Deserializer<R, C>) -> Result<u128, Error> {
+        de.deserialize_u128()
+    }
+
+    fn missing() -> Option<u128> {
+        None
+    }
+}

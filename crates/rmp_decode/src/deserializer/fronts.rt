@@ -1,0 +1,274 @@
+//! Heads that lie in memory whole, read where they lie.
+ghost use Rattle.std.specs.Prelude.{◌≡◌, ◌<◌, ◌≤◌, pos, true, false, Bool, IfSome, IfNone, IfOk, IfErr};
+ghost use Rattle.rmp_decode.specs.Fronts.{StandsIn, TakesFront};
+ghost use Rattle.rmp_decode.specs.Law.{ReadsHead};
+ghost use Rattle.rmp_decode.specs.State.{is_failed, is_strict, kept_of};
+ghost use Rattle.rmp_decode.specs.declared.deserializer.Kept.TheVariants.{Nothing};
+
+mod kinds;
+
+use crate::deserializer::fronts::kinds::head_at;
+use crate::deserializer::{Deserializer, Kept};
+use crate::error::Error;
+use rmp_wire::config::SerializerConfig;
+use rmp_wire::{Head, Source};
+
+// Whether a number or a length may stand in a format that is meant for those from `least` on. Where reading isn't strict each may.
+#[inline(always)]
+fn may_stand(n: u64, least: u64, strict: bool) -> bool
+    ensures { result ≡ true → strict ≡ true → least ≤ n }
+{
+    !strict || n >= least
+}
+
+// A number without a sign whose head, of any width, stands at the front; the count of the head's bytes; and from which number
+// on the canonical head has as many.
+#[inline(always)]
+fn unsigned_at(front: &[u8]) -> Option<(u64, usize, u64)>
+    ensures any { IfSome result (λ p. StandsIn false p.1 (Head.Whole (pos p.0)) front.now) }
+    ensures canonical { IfSome result (λ p. p.2 ≤ p.0 → StandsIn true p.1 (Head.Whole (pos p.0)) front.now) }
+{
+    match front {
+        [first, behind @ ..] => match first {
+            0x00..=0x7f => Some((u64::from(*first), 1, 0)),
+            0xcc => match behind {
+                [a, ..] => Some((u64::from(*a), 2, 0x80)),
+                _ => None,
+            },
+            0xcd => match behind {
+                [a, b, ..] => Some((u64::from(u16::from_be_bytes([*a, *b])), 3, 1 << 8)),
+                _ => None,
+            },
+            0xce => match behind {
+                [a, b, c, d, ..] => {
+                    Some((u64::from(u32::from_be_bytes([*a, *b, *c, *d])), 5, 1 << 16))
+                }
+                _ => None,
+            },
+            0xcf => match behind {
+                [a, b, c, d, e, f, g, h, ..] => {
+                    let n = u64::from_be_bytes([*a, *b, *c, *d, *e, *f, *g, *h]);
+                    Some((n, 9, 1 << 32))
+                }
+                _ => None,
+            },
+            _ => None,
+        },
+        _ => None,
+    }
+}
+
+// A text whose head stands at the front: the count of its bytes, and of the head's.
+#[inline(always)]
+fn text_at(front: &[u8], strict: bool) -> Option<(u32, usize)>
+    ensures { IfSome result (λ p. StandsIn strict p.1 (Head.Text p.0) front.now) }
+{
+    match front {
+        [first, behind @ ..] => match first {
+            0xa0..=0xbf => Some((u32::from(*first - 0xa0), 1)),
+            0xd9 => match behind {
+                [a, ..] => {
+                    if may_stand(u64::from(*a), 32, strict) {
+                        Some((u32::from(*a), 2))
+                    } else {
+                        None
+                    }
+                }
+                _ => None,
+            },
+            _ => None,
+        },
+        _ => None,
+    }
+}
+
+// A list of up to 15 elements whose head, of one byte, stands at the front: the count of its elements.
+#[inline(always)]
+fn list_at(front: &[u8]) -> Option<u32>
+    ensures { IfSome result (λ n. (strict : Bool) → StandsIn strict 1 (Head.Array n) front.now) }
+{
+    match front {
+        [first, ..] => match first {
+            0x90..=0x9f => Some(u32::from(*first - 0x90)),
+            _ => None,
+        },
+        _ => None,
+    }
+}
+
+impl<R: Source, C: SerializerConfig> Deserializer<R, C> {
+    // Whether the next message begins with the bytes ahead of the source: nothing was kept back, and no read failed.
+    #[inline(always)]
+    fn begins_ahead(&self) -> bool
+        ensures fresh { result ≡ true → is_failed self.now ≡ false }
+        ensures clean { result ≡ true → kept_of self.now ≡ Nothing }
+    {
+        match self.kept {
+            Kept::Nothing => !self.failed,
+            _ => false,
+        }
+    }
+
+    // Takes the head of a number without a sign, up to `most`, where it lies in memory whole, and leaves this failed until
+    // the number is answered. Else nothing is taken.
+    #[inline(always)]
+    pub(crate) fn unsigned_front(&mut self, most: u64) -> Option<u64>
+        ensures within { IfSome result (λ n. n ≤ most) }
+        ensures taken { IfSome result (λ n. TakesFront R.Source (Head.Whole (pos n)) self.old self.new) }
+        ensures kept { IfNone result (self.new ≡ self.old) }
+    {
+        if !self.begins_ahead() {
+            return None;
+        }
+        if self.strict {
+            return self.canonical_unsigned_front(most);
+        }
+        match unsigned_at(self.reader.front()) {
+            Some((n, len, _)) => {
+                if n <= most && self.reader.skip(len) {
+                    self.failed = true;
+                    Some(n)
+                } else {
+                    None
+                }
+            }
+            None => None,
+        }
+    }
+
+    // The same where reading is strict: a way of its own, so that the other one tests nothing more.
+    #[inline(always)]
+    fn canonical_unsigned_front(&mut self, most: u64) -> Option<u64>
+        requires fresh { is_failed self.old ≡ false }
+        requires clean { kept_of self.old ≡ Nothing }
+        requires strict { is_strict self.old ≡ true }
+        ensures within { IfSome result (λ n. n ≤ most) }
+        ensures taken { IfSome result (λ n. TakesFront R.Source (Head.Whole (pos n)) self.old self.new) }
+        ensures kept { IfNone result (self.new ≡ self.old) }
+    {
+        match unsigned_at(self.reader.front()) {
+            Some((n, len, least)) => {
+                if n < least {
+                    return None;
+                }
+                if most >= n && self.reader.skip(len) {
+                    self.failed = true;
+                    Some(n)
+                } else {
+                    None
+                }
+            }
+            None => None,
+        }
+    }
+
+    // Takes the head of a text where it lies in memory whole, and leaves this failed until the text is read. Else nothing
+    // is taken.
+    #[inline(always)]
+    pub(crate) fn text_front(&mut self) -> Option<u32>
+        ensures taken { IfSome result (λ n. TakesFront R.Source (Head.Text n) self.old self.new) }
+        ensures kept { IfNone result (self.new ≡ self.old) }
+    {
+        if !self.begins_ahead() {
+            return None;
+        }
+        match text_at(self.reader.front(), self.strict) {
+            Some((n, len)) => {
+                if self.reader.skip(len) {
+                    self.failed = true;
+                    Some(n)
+                } else {
+                    None
+                }
+            }
+            None => None,
+        }
+    }
+
+    // Takes the head of a list of up to 15 elements where it lies in memory, and leaves this failed until the list is read. Else
+    // nothing is taken.
+    #[inline(always)]
+    pub(crate) fn short_list_front(&mut self) -> Option<u32>
+        ensures taken { IfSome result (λ n. TakesFront R.Source (Head.Array n) self.old self.new) }
+        ensures kept { IfNone result (self.new ≡ self.old) }
+    {
+        if !self.begins_ahead() {
+            return None;
+        }
+        match list_at(self.reader.front()) {
+            Some(n) => {
+                if self.reader.skip(1) {
+                    self.failed = true;
+                    Some(n)
+                } else {
+                    None
+                }
+            }
+            None => None,
+        }
+    }
+
+    // The same of a list that may nest.
+    #[inline(always)]
+    pub(crate) fn list_front(&mut self) -> Option<u32>
+        ensures deep { IfSome result (λ _. 1 < self.old.room) }
+        ensures taken { IfSome result (λ n. TakesFront R.Source (Head.Array n) self.old self.new) }
+        ensures kept { IfNone result (self.new ≡ self.old) }
+    {
+        if self.room <= 1 {
+            return None;
+        }
+        self.short_list_front()
+    }
+
+    // Takes a head of any kind but an extension where it lies in memory whole, and leaves this failed until the message is
+    // read. Else nothing is taken.
+    #[inline(always)]
+    pub(crate) fn head_front(&mut self) -> Option<Head>
+        ensures taken { IfSome result (λ h. TakesFront R.Source h self.old self.new) }
+        ensures kept { IfNone result (self.new ≡ self.old) }
+    {
+        if !self.begins_ahead() {
+            return None;
+        }
+        match head_at(self.reader.front(), self.strict) {
+            Some((head, len)) => {
+                if self.reader.skip(len) {
+                    self.failed = true;
+                    Some(head)
+                } else {
+                    None
+                }
+            }
+            None => None,
+        }
+    }
+
+    // Takes a head of any kind, where it lies or by way of `head`, and leaves this failed until the message is read. That of a short
+    // list is looked for first, so that what opens one is known without a head.
+    #[inline(always)]
+    pub(crate) fn any_head(&mut self) -> Result<Head, Error>
+        ensures ok { IfOk result (λ h. TakesFront R.Source h self.old self.new) }
+        ensures err { IfErr result (λ e. ReadsHead R.Source self.old self.new (Err e)) }
+    {
+        match self.short_list_front() {
+            Some(n) => Ok(Head::Array(n)),
+            None => match self.head_front() {
+                Some(head) => Ok(head),
+                None => self.headed(),
+            },
+        }
+    }
+
+    // The same by way of `head`, by a call.
+    #[inline(never)]
+    fn headed(&mut self) -> Result<Head, Error>
+        ensures ok { IfOk result (λ h. TakesFront R.Source h self.old self.new) }
+        ensures err { IfErr result (λ e. ReadsHead R.Source self.old self.new (Err e)) }
+    {
+        match self.head() {
+            Ok((_, head)) => Ok(head),
+            Err(e) => Err(e),
+        }
+    }
+}

@@ -1,0 +1,221 @@
+//! Heads of any kind but an extension that lie in memory whole.
+ghost use Rattle.std.specs.Prelude.{true, false, IfSome};
+ghost use Rattle.rmp_decode.specs.Fronts.{StandsIn};
+
+use crate::deserializer::fronts::unsigned_at;
+use rmp_wire::{Head, Marker, is_canonical};
+
+// A head of one byte that isn't a number's.
+#[inline(always)]
+fn short_at(front: &[u8]) -> Option<(Head, usize)>
+    ensures { IfSome result (λ p. StandsIn false p.1 p.0 front.now) }
+{
+    match front {
+        [first, ..] => match first {
+            0x80..=0x8f => Some((Head::Map(u32::from(*first - 0x80)), 1)),
+            0x90..=0x9f => Some((Head::Array(u32::from(*first - 0x90)), 1)),
+            0xa0..=0xbf => Some((Head::Text(u32::from(*first - 0xa0)), 1)),
+            0xc0 => Some((Head::Nil, 1)),
+            0xc2 => Some((Head::Truth(false), 1)),
+            0xc3 => Some((Head::Truth(true), 1)),
+            _ => None,
+        },
+        _ => None,
+    }
+}
+
+// A head of bytes.
+#[inline(always)]
+fn bytes_at(front: &[u8]) -> Option<(Head, usize)>
+    ensures { IfSome result (λ p. StandsIn false p.1 p.0 front.now) }
+{
+    match front {
+        [first, behind @ ..] => match first {
+            0xc4 => match behind {
+                [a, ..] => Some((Head::Bin(u32::from(*a)), 2)),
+                _ => None,
+            },
+            0xc5 => match behind {
+                [a, b, ..] => Some((Head::Bin(u32::from(u16::from_be_bytes([*a, *b]))), 3)),
+                _ => None,
+            },
+            0xc6 => match behind {
+                [a, b, c, d, ..] => Some((Head::Bin(u32::from_be_bytes([*a, *b, *c, *d])), 5)),
+                _ => None,
+            },
+            _ => None,
+        },
+        _ => None,
+    }
+}
+
+// The bits of a float.
+#[inline(always)]
+fn float_at(front: &[u8]) -> Option<(Head, usize)>
+    ensures { IfSome result (λ p. StandsIn false p.1 p.0 front.now) }
+{
+    match front {
+        [first, behind @ ..] => match first {
+            0xca => match behind {
+                [a, b, c, d, ..] => Some((Head::F32Bits(u32::from_be_bytes([*a, *b, *c, *d])), 5)),
+                _ => None,
+            },
+            0xcb => match behind {
+                [a, b, c, d, e, f, g, h, ..] => {
+                    let bits = u64::from_be_bytes([*a, *b, *c, *d, *e, *f, *g, *h]);
+                    Some((Head::F64Bits(bits), 9))
+                }
+                _ => None,
+            },
+            _ => None,
+        },
+        _ => None,
+    }
+}
+
+// A head of a text of any length.
+#[inline(always)]
+fn long_text_at(front: &[u8]) -> Option<(Head, usize)>
+    ensures { IfSome result (λ p. StandsIn false p.1 p.0 front.now) }
+{
+    match front {
+        [first, behind @ ..] => match first {
+            0xd9 => match behind {
+                [a, ..] => Some((Head::Text(u32::from(*a)), 2)),
+                _ => None,
+            },
+            0xda => match behind {
+                [a, b, ..] => Some((Head::Text(u32::from(u16::from_be_bytes([*a, *b]))), 3)),
+                _ => None,
+            },
+            0xdb => match behind {
+                [a, b, c, d, ..] => Some((Head::Text(u32::from_be_bytes([*a, *b, *c, *d])), 5)),
+                _ => None,
+            },
+            _ => None,
+        },
+        _ => None,
+    }
+}
+
+// A head of a list or of a map of any length.
+#[inline(always)]
+fn long_parts_at(front: &[u8]) -> Option<(Head, usize)>
+    ensures { IfSome result (λ p. StandsIn false p.1 p.0 front.now) }
+{
+    match front {
+        [first, behind @ ..] => match first {
+            0xdc => match behind {
+                [a, b, ..] => Some((Head::Array(u32::from(u16::from_be_bytes([*a, *b]))), 3)),
+                _ => None,
+            },
+            0xdd => match behind {
+                [a, b, c, d, ..] => Some((Head::Array(u32::from_be_bytes([*a, *b, *c, *d])), 5)),
+                _ => None,
+            },
+            0xde => match behind {
+                [a, b, ..] => Some((Head::Map(u32::from(u16::from_be_bytes([*a, *b]))), 3)),
+                _ => None,
+            },
+            0xdf => match behind {
+                [a, b, c, d, ..] => Some((Head::Map(u32::from_be_bytes([*a, *b, *c, *d])), 5)),
+                _ => None,
+            },
+            _ => None,
+        },
+        _ => None,
+    }
+}
+
+// A number in a format with a sign, and the count of its head's bytes.
+#[inline(always)]
+fn signed_at(front: &[u8]) -> Option<(i64, usize)>
+    ensures { IfSome result (λ p. StandsIn false p.1 (Head.Whole p.0) front.now) }
+{
+    match front {
+        [first, behind @ ..] => match first {
+            0xe0..=0xff => Some((i64::from(first.cast_signed()), 1)),
+            0xd0 => match behind {
+                [a, ..] => Some((i64::from(a.cast_signed()), 2)),
+                _ => None,
+            },
+            0xd1 => match behind {
+                [a, b, ..] => Some((i64::from(u16::from_be_bytes([*a, *b]).cast_signed()), 3)),
+                _ => None,
+            },
+            0xd2 => match behind {
+                [a, b, c, d, ..] => {
+                    Some((
+                        i64::from(u32::from_be_bytes([*a, *b, *c, *d]).cast_signed()),
+                        5,
+                    ))
+                }
+                _ => None,
+            },
+            0xd3 => match behind {
+                [a, b, c, d, e, f, g, h, ..] => {
+                    let n = u64::from_be_bytes([*a, *b, *c, *d, *e, *f, *g, *h]);
+                    Some((n.cast_signed(), 9))
+                }
+                _ => None,
+            },
+            _ => None,
+        },
+        _ => None,
+    }
+}
+
+// A head of any width, of any kind but an extension, and the count of its bytes.
+#[inline(always)]
+fn any_at(front: &[u8]) -> Option<(Head, usize)>
+    ensures { IfSome result (λ p. StandsIn false p.1 p.0 front.now) }
+{
+    match front {
+        [first, ..] => match first {
+            0x80..=0xbf | 0xc0 | 0xc2 | 0xc3 => short_at(front),
+            0xc4..=0xc6 => bytes_at(front),
+            0xca | 0xcb => float_at(front),
+            0xd9..=0xdb => long_text_at(front),
+            0xdc..=0xdf => long_parts_at(front),
+            0xd0..=0xd3 | 0xe0..=0xff => match signed_at(front) {
+                Some((z, len)) => Some((Head::Whole(i128::from(z)), len)),
+                None => None,
+            },
+            _ => match unsigned_at(front) {
+                Some((n, len, _)) => Some((Head::Whole(i128::from(n)), len)),
+                None => None,
+            },
+        },
+        _ => None,
+    }
+}
+
+// A canonical head of any kind but an extension, and the count of its bytes, by a call: so the reads of any width keep nothing of
+// a head for the test.
+#[inline(never)]
+fn canonical_at(front: &[u8]) -> Option<(Head, usize)>
+    ensures { IfSome result (λ p. StandsIn true p.1 p.0 front.now) }
+{
+    match any_at(front) {
+        Some((head, len)) => {
+            if is_canonical(Marker::from_u8(front[0]), &head) {
+                Some((head, len))
+            } else {
+                None
+            }
+        }
+        None => None,
+    }
+}
+
+// A head that may be read, of any kind but an extension, and the count of its bytes.
+#[inline(always)]
+pub(super) fn head_at(front: &[u8], strict: bool) -> Option<(Head, usize)>
+    ensures { IfSome result (λ p. StandsIn strict p.1 p.0 front.now) }
+{
+    if strict {
+        canonical_at(front)
+    } else {
+        any_at(front)
+    }
+}

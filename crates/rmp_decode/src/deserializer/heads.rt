@@ -1,0 +1,124 @@
+//! Heads: those of small numbers, texts and lists and of numbers without a sign are read in place, all others by a call.
+ghost use Rattle.std.specs.Prelude.{◌≡◌, ◌∷◌, ℕ, List, true, false, IfOk, IfErr};
+ghost use Rattle.rmp_wire.specs.Canonical.{heads_of};
+ghost use Rattle.rmp_wire.specs.Heads.{IsHead};
+ghost use Rattle.rmp_wire.specs.Taking.{byte_of};
+ghost use Rattle.rmp_decode.specs.Allowed.{BehindAllowed, FailsBehind, NextAllowed, FailsNextAllowed};
+
+use crate::error::Error;
+use rmp_wire::read::{number_8, number_16, number_32, read_head, read_marker};
+use rmp_wire::{Head, IoFault, Marker, MarkerReadError, Source, ValueReadError, is_canonical};
+
+// Why no head could be taken: as the wire says, or because it isn't canonical, while only those are read.
+#[derive(Clone, Copy)]
+pub(crate) enum HeadError {
+    InvalidMarkerRead(IoFault),
+    InvalidDataRead(IoFault),
+    TypeMismatch(Marker),
+    NotCanonical,
+}
+
+impl From<MarkerReadError> for HeadError {
+    ghost use Rattle.rmp_decode.specs.declared.deserializer.heads.HeadError.TheVariants as heads;
+
+    ghost from_gives = { λ e error. error ≡ heads.InvalidMarkerRead e.0 };
+
+    #[inline(always)]
+    fn from(e: MarkerReadError) -> HeadError {
+        HeadError::InvalidMarkerRead(e.0)
+    }
+}
+
+impl From<ValueReadError> for HeadError {
+    ghost use Rattle.rmp_decode.specs.ReadErrors.{of_wire};
+
+    ghost from_gives = { λ e error. error ≡ of_wire e };
+
+    #[inline(always)]
+    fn from(e: ValueReadError) -> HeadError {
+        match e {
+            ValueReadError::InvalidMarkerRead(fault) => HeadError::InvalidMarkerRead(fault),
+            ValueReadError::InvalidDataRead(fault) => HeadError::InvalidDataRead(fault),
+            ValueReadError::TypeMismatch(marker) => HeadError::TypeMismatch(marker),
+        }
+    }
+}
+
+impl From<HeadError> for Error {
+    ghost use Rattle.rmp_decode.specs.ReadErrors.{head_error_of};
+
+    ghost from_gives = { λ e error. error ≡ head_error_of e };
+
+    #[inline(always)]
+    fn from(e: HeadError) -> Error {
+        match e {
+            HeadError::InvalidMarkerRead(fault) => Error::InvalidMarkerRead(fault),
+            HeadError::InvalidDataRead(fault) => Error::InvalidDataRead(fault),
+            HeadError::TypeMismatch(marker) => Error::TypeMismatch(marker),
+            HeadError::NotCanonical => Error::NotCanonical,
+        }
+    }
+}
+
+// Whether a head that was read may be taken: any, or where reading is strict the canonical one.
+#[inline(always)]
+fn allows(strict: bool, marker: Marker, head: &Head) -> bool
+    ensures allowed { result ≡ true → (rest : List ℕ) → IsHead head.now (byte_of marker ∷ rest) → heads_of strict head.now (byte_of marker ∷ rest) }
+    ensures other { result ≡ false → (rest : List ℕ) → heads_of strict head.now (byte_of marker ∷ rest) → ⊥ }
+{
+    !strict || is_canonical(marker, head)
+}
+
+// Takes what stands behind a marker's byte, by a call: so the reads into which the common heads go stay small. Where reading is
+// strict, this is where a head is tested.
+#[inline(never)]
+pub(crate) fn rest_of_head<S: Source>(
+    strict: bool,
+    marker: Marker,
+    source: &mut S,
+) -> Result<Head, HeadError>
+    ensures taken { IfOk result (BehindAllowed S.Source strict marker source.old source.new) }
+    ensures refused { IfErr result (FailsBehind S.Source strict marker source.old source.new) }
+{
+    match read_head(marker, source) {
+        Ok(head) => {
+            if allows(strict, marker, &head) {
+                Ok(head)
+            } else {
+                Err(HeadError::NotCanonical)
+            }
+        }
+        Err(e) => Err(HeadError::from(e)),
+    }
+}
+
+// Takes what stands behind a marker's byte. A head of one byte is canonical.
+#[inline(always)]
+fn head_of<S: Source>(strict: bool, marker: Marker, source: &mut S) -> Result<Head, HeadError>
+    ensures taken { IfOk result (BehindAllowed S.Source strict marker source.old source.new) }
+    ensures refused { IfErr result (FailsBehind S.Source strict marker source.old source.new) }
+{
+    match marker {
+        Marker::FixPos(n) => Ok(Head::Whole(i128::from(n % 0x80))),
+        Marker::FixStr(n) => Ok(Head::Text(u32::from(n % 0x20))),
+        Marker::FixArray(n) => Ok(Head::Array(u32::from(n % 0x10))),
+        Marker::U8 if !strict => Ok(Head::Whole(i128::from(number_8(source)?))),
+        Marker::U16 if !strict => Ok(Head::Whole(i128::from(number_16(source)?))),
+        Marker::U32 if !strict => Ok(Head::Whole(i128::from(number_32(source)?))),
+        _ => rest_of_head(strict, marker, source),
+    }
+}
+
+// Takes one head, and answers its marker too.
+#[inline(always)]
+pub(crate) fn next_head<S: Source>(
+    strict: bool,
+    source: &mut S,
+) -> Result<(Marker, Head), HeadError>
+    ensures taken { IfOk result (NextAllowed S.Source strict source.old source.new) }
+    ensures refused { IfErr result (FailsNextAllowed S.Source strict source.old source.new) }
+{
+    let marker = read_marker(source)?;
+    let head = head_of(strict, marker, source)?;
+    Ok((marker, head))
+}

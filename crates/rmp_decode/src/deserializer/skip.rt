@@ -1,0 +1,155 @@
+//! Messages that are passed over.
+ghost use Rattle.std.specs.Prelude.{◌≡◌, ◌-◌, ◌<◌, true, IfErr, IfSome};
+ghost use Rattle.rmp_decode.specs.Kinds.{Finds, content_len};
+ghost use Rattle.rmp_decode.specs.Law.{Lawful};
+ghost use Rattle.rmp_decode.specs.Refuse.{UnpassedFor, OpensSome, RefusesFirst, RefusesRowFirst};
+ghost use Rattle.rmp_decode.specs.Skip.{parts_head, SkipsRow, any_tree, any_row, parts_count};
+ghost use Rattle.rmp_decode.specs.State.{is_failed, is_strict, kept_of, left, room_of};
+ghost use Rattle.rmp_decode.specs.declared.deserializer.Kept.TheVariants.{Nothing};
+
+use crate::content::{ReadContent, Slices};
+use crate::deserializer::Deserializer;
+use crate::error::Error;
+use rmp_wire::config::SerializerConfig;
+use rmp_wire::{Head, ReadSlice, Source};
+
+// Whether it is a map, and how many items or pairs follow.
+#[inline(always)]
+pub(crate) fn parts_in(head: Head) -> Option<(bool, u32)>
+    ensures { Finds (λ h p. h ≡ parts_head p.0 p.1) head result }
+{
+    match head {
+        Head::Array(n) => Some((false, n)),
+        Head::Map(n) => Some((true, n)),
+        _ => None,
+    }
+}
+
+// How many bytes of content follow the head of a leaf.
+#[inline(always)]
+fn content_in(head: Head) -> u32
+    ensures { result ≡ content_len head }
+{
+    match head {
+        Head::Text(n) | Head::Bin(n) | Head::Ext(n, _) => n,
+        _ => 0,
+    }
+}
+
+// How many messages follow the head of a list or a map: of a map two a pair.
+#[inline(always)]
+fn messages(is_map: bool, n: u32) -> u64
+    ensures same { result ≡ parts_count is_map n }
+    ensures below { result < 8589934592 }
+{
+    if is_map {
+        2 * u64::from(n)
+    } else {
+        u64::from(n)
+    }
+}
+
+// Passes over one message.
+fn skip<R: Source, C: SerializerConfig, P: ReadContent<R>>(
+    de: &mut Deserializer<R, C>,
+) -> Result<(), Error>
+    ensures law { Lawful R.Source any_tree de.old de.new result }
+    ensures exact { IfErr result (RefusesFirst R.Source (UnpassedFor P.lends) any_row de.old de.new) }
+    ensures memory { P.lends ≡ true → IfErr result (λ e. e ≡ Error.OutOfMemory → IfSome (left R.Source de.old) (OpensSome (is_strict de.old))) }
+{
+    match de.any_head() {
+        Ok(head) => match parts_in(head) {
+            Some((is_map, n)) => skip_parts::<R, C, P>(de, messages(is_map, n)),
+            None => match P::pass(&mut de.reader, content_in(head) as usize) {
+                Ok(()) => {
+                    de.failed = false;
+                    Ok(())
+                }
+                Err(e) => Err(e),
+            },
+        },
+        Err(e) => Err(e),
+    }
+}
+
+// Passes over the parts of a list or a map whose head was taken, and over all that stands in them.
+fn skip_parts<R: Source, C: SerializerConfig, P: ReadContent<R>>(
+    de: &mut Deserializer<R, C>,
+    count: u64,
+) -> Result<(), Error>
+    requires failed { is_failed de.old ≡ true }
+    requires clean { kept_of de.old ≡ Nothing }
+    ensures law { SkipsRow R.Source (room_of de.old - 1) count de.old de.new result }
+    ensures deep { IfErr result (λ e. room_of de.old ≡ 1 → e ≡ Error.DepthLimitExceeded) }
+    ensures exact { IfErr result (λ e. 1 < room_of de.old → RefusesRowFirst R.Source (UnpassedFor P.lends) any_row (room_of de.old - 1) count de.old de.new e) }
+    ensures memory { P.lends ≡ true → IfErr result (λ e. e ≡ Error.OutOfMemory → 0 < count) }
+{
+    if de.room <= 1 {
+        return Err(Error::DepthLimitExceeded);
+    }
+    // What the innermost list or map still wants nests below this.
+    let mut room = de.room - 1;
+    let mut wanted = count;
+    // What those that stand open around it still want, the outermost first.
+    let mut outer: Vec<u64> = Vec::new(de.alloc);
+    'parts: loop {
+        if wanted == 0 {
+            match outer.pop() {
+                Some(n) => {
+                    wanted = n;
+                    room += 1;
+                }
+                None => {
+                    de.failed = false;
+                    return Ok(());
+                }
+            }
+        } else {
+            wanted -= 1;
+            de.failed = false;
+            match de.any_head() {
+                Ok(head) => match parts_in(head) {
+                    Some((is_map, n)) => {
+                        if room <= 1 {
+                            return Err(Error::DepthLimitExceeded);
+                        }
+                        let inner = messages(is_map, n);
+                        if inner > 0 {
+                            match outer.push(wanted) {
+                                Ok(()) => {}
+                                Err(_) => return Err(Error::OutOfMemory),
+                            }
+                            room -= 1;
+                            wanted = inner;
+                        }
+                    }
+                    None => match P::pass(&mut de.reader, content_in(head) as usize) {
+                        Ok(()) => {}
+                        Err(e) => return Err(e),
+                    },
+                },
+                Err(e) => return Err(e),
+            }
+        }
+    }
+}
+
+impl<R: Source, C: SerializerConfig> Deserializer<R, C> {
+    /// Passes over one message of any kind. Its texts may be no UTF-8, and its content isn't copied where the source lends.
+    ///
+    /// # Errors
+    /// That of the first thing that is wrong: `InvalidMarkerRead` where the input ends before a message that is wanted,
+    /// `InvalidDataRead` where it ends inside of a head or of content, `TypeMismatch` at the byte c1, and `DepthLimitExceeded`
+    /// at a list or map that would nest too deep. `OutOfMemory` where a source is refused memory for content.
+    pub fn deserialize_ignored_any<'de>(&mut self) -> Result<(), Error>
+    where
+        R: ReadSlice<'de>,
+        ensures law { Lawful R.Source any_tree self.old self.new result }
+        // An error names the first thing that is wrong.
+        ensures exact { IfErr result (RefusesFirst R.Source (UnpassedFor R.lends) any_row self.old self.new) }
+        // Where the source lends, memory is taken for a list or a map alone that isn't empty.
+        ensures memory { R.lends ≡ true → IfErr result (λ e. e ≡ Error.OutOfMemory → IfSome (left R.Source self.old) (OpensSome (is_strict self.old))) }
+    {
+        skip::<R, C, Slices<'de>>(self)
+    }
+}

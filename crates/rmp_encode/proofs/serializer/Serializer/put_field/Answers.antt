@@ -1,0 +1,19 @@
+use Rattle.std.specs.Prelude.{◌||◌}
+use Rattle.std.proofs.lemmas.Result.{err_from_is_err_and}
+use Rattle.rmp_encode.proofs.Fields.{field_split}
+use Rattle.rmp_encode.proofs.Going.{goes, keeps_then}
+use Rattle.rmp_encode.proofs.Parts.{part_or}
+use Rattle.rmp_encode.proofs.serializer.Serializer.put_field.Goals as goal
+
+pub returns-in_err-put_name-clause-writes : goal.returns-in_err-put_name-clause-writes
+returns-in_err-put_name-clause-writes g c =
+    let p = err_from_is_err_and c.from_residual.result c.from_residual.ensures.1 in
+    rw (p.1, p.2) (λ old t rest h. part_or g.W.Sink _ (c.in_err-put_name.ensures.writes old t _ (field_split g.W.Sink _ _ rest h)))
+
+pub returns-clause-writes : goal.returns-clause-writes
+returns-clause-writes g c = λ old t rest h.
+    goes g.W.Sink (λ s. g.T.Serialize.takes_memory s || g.W.Sink.takes_memory) (λ s. g.T.Serialize.data_of c.args.value.now s.human) _ _ c.serialize.result c.serialize.ensures.keeps c.serialize.ensures.writes old t rest
+    (c.in_ok-put_name.ensures.writes old t _ (field_split g.W.Sink _ _ rest h))
+
+pub returns-clause-keeps : goal.returns-clause-keeps
+returns-clause-keeps g c = keeps_then g.W.Sink c.put_name.ensures.keeps c.serialize.ensures.keeps

@@ -1,0 +1,14 @@
+use Rattle.std.proofs.Common.{Some, rules, sym, ◌∙◌}
+use Rattle.rmp_encode.specs.Data.{text, lower}
+use Rattle.rmp_encode.proofs.Fields.{no_name, with_name}
+use Rattle.rmp_encode.proofs.Going.{goes}
+use Rattle.rmp_encode.proofs.serializer.Serializer.put_name.Goals as goal
+
+pub returns-then-not-is_named-clause-writes : goal.returns-then-not-is_named-clause-writes
+returns-then-not-is_named-clause-writes g c = λ old t rest h. no_name g.W.Sink c.args.key.now rest (sym c.is_named.ensures ∙ search rules) h
+
+pub returns-clause-writes : goal.returns-clause-writes
+unfolding lower
+returns-clause-writes g c = λ old t rest h.
+    goes g.W.Sink (λ _. g.W.Sink.takes_memory) (λ s. Some (text c.args.key.now)) c.args.self.now _ c.serialize_str.result c.serialize_str.ensures.keeps c.serialize_str.ensures.writes old t rest
+    (with_name g.W.Sink c.args.key.now rest (sym c.is_named.ensures ∙ search rules) h)

@@ -1,0 +1,32 @@
+use Rattle.std.proofs.Common.{arith, rules, refl}
+use Rattle.std.proofs.lemmas.Result.{err_from_is_err_and}
+use Rattle.rmp_wire.specs.Spelling.{IsBytes}
+use Rattle.rmp_encode.proofs.Fields.{many_fields}
+use Rattle.rmp_encode.proofs.Leaves.{bytes_from}
+use Rattle.rmp_encode.proofs.Variants.{made_struct_variant}
+use Rattle.rmp_encode.proofs.serializer.Serializer.serialize_struct_variant.Goals as goal
+
+pub returns-in_err-open_variant : goal.returns-in_err-open_variant
+returns-in_err-open_variant g c =
+    let p = err_from_is_err_and c.from_residual.result c.from_residual.ensures.1 in
+    let is_bytes : IsBytes c.args.variant.now = bytes_from c.args.variant.now (λ i. omega (arith, c.type_inv.variant i)) in
+    rw (p.1, p.2) (
+      (
+        refl,
+        λ _. tt,
+        record {
+          keeps = c.open_variant.ensures.keeps;
+          refused = c.in_err-open_variant.ensures.stays;
+          long = c.open_variant.ensures.refused;
+          writes = λ all e. (rw c.is_named.ensures at c.in_err-open_variant.ensures.begins) _ _ (made_struct_variant _ c.args.variant.now c.args.len all is_bytes e);
+        },
+      ),
+      search rules,
+    )
+
+pub returns : goal.returns
+returns g c =
+    let is_bytes : IsBytes c.args.variant.now = bytes_from c.args.variant.now (λ i. omega (arith, c.type_inv.variant i)) in (
+      (refl, λ _. refl, tt),
+      (refl, (c.in_ok-open_variant.ensures.fits, (refl, (refl, (refl, (λ all e. record { sound = refl; left_is = many_fields _ all c.args.len e; state = (rw c.is_named.ensures at c.in_ok-open_variant.ensures.begins) _ _ (made_struct_variant _ c.args.variant.now c.args.len all is_bytes e) }, c.open_variant.ensures.keeps)))))),
+    )

@@ -1,0 +1,150 @@
+//! Elements of several types, which one call writes: a tuple struct, a struct, or the content of a variant.
+//!
+//! The type's own `serialize` is then one call, whose contract is the type's law. An element of a type that borrows, such as `&str`,
+//! can't be handed over so: the checker doesn't cover a call with several lifetimes in a type argument. Such a type is written part
+//! by part.
+ghost use Rattle.std.specs.Prelude.{◌≡◌, ◌^◌, ◌≤◌, ◌||◌, ℕ, Bool, List, Option, OnOk, length};
+ghost use Rattle.std.specs.List.{flat_map};
+ghost use Rattle.rmp_encode.specs.declared.settings.Settings.{Settings};
+ghost use Rattle.rmp_encode.specs.Data.{Data};
+ghost use Rattle.rmp_encode.specs.Going.{Goes, IsWriting};
+ghost use Rattle.rmp_encode.specs.Ser.{sink_of, settings_of};
+ghost use Rattle.rmp_encode.specs.Trees.{tree_of, field_parts, fields_by, sequence_of, structure_of, tuple_variant_of, struct_variant_of};
+ghost use Rattle.rmp_encode.specs.Writes.{Keeps, WritesTree};
+
+use crate::error::Error;
+use crate::serializer::Serializer;
+use rmp_wire::Sink;
+use rmp_wire::config::SerializerConfig;
+
+mod kinds;
+
+pub use kinds::{Both, Eight, Five, Four, One, Seven, Six, Three};
+
+/// Elements in order. `One`, `Both`, `Three` to `Eight` are such.
+pub trait Elements {
+    // How many there are.
+    ghost count: { ℕ };
+
+    // What they are, for a serializer that writes for humans or not.
+    ghost parts_of: { Self → Bool → List (Option Data) };
+
+    // What is known of them.
+    ghost are_values: { Self → Type 0 };
+
+    // Whether writing them may take memory under these settings, whatever the sink takes.
+    ghost takes_memory: { Settings → Bool };
+
+    ghost counted: { (v : Self) (human : Bool) → length (parts_of v human) ≡ count };
+
+    /// How many there are.
+    fn len(&self) -> usize
+        ensures { result ≡ count };
+
+    /// Writes them, one after the other.
+    fn write<W: Sink, C: SerializerConfig>(&self, se: &mut Serializer<W, C>) -> Result<(), Error>
+        ensures writes { Goes W.Sink (IsWriting W.Sink) (λ n. n) (λ s. takes_memory s || W.takes_memory) (λ s. parts_of self.now s.human) se.old se.new result }
+        ensures keeps { Keeps W.Sink se.old se.new }
+        ensures value { OnOk result (are_values self.now) };
+
+    /// Writes them, each behind its name where structs are written with names.
+    fn write_fields<W: Sink, C: SerializerConfig>(
+        &self,
+        names: &[&'static str],
+        se: &mut Serializer<W, C>,
+    ) -> Result<(), Error>
+        requires { length names.now ≡ count }
+        ensures writes { Goes W.Sink (IsWriting W.Sink) (λ n. n) (λ s. takes_memory s || W.takes_memory) (λ s. flat_map (field_parts s.named) (fields_by names.now (parts_of self.now s.human))) se.old se.new result }
+        ensures keeps { Keeps W.Sink se.old se.new }
+        ensures value { OnOk result (are_values self.now) };
+}
+
+impl<W: Sink, C: SerializerConfig> Serializer<W, C> {
+    /// Writes a tuple struct of these elements, as a list.
+    ///
+    /// # Errors
+    ///
+    /// What an element's type or the sink answers.
+    #[inline(always)]
+    pub fn serialize_elements<E: Elements>(
+        &mut self,
+        _name: &'static str,
+        elements: &E,
+    ) -> Result<(), Error>
+        ensures writes { WritesTree W.Sink (E.takes_memory (settings_of self.old) || W.takes_memory) (tree_of (settings_of self.old) (sequence_of (E.parts_of elements.now (settings_of self.old).human))) (sink_of self.old) (sink_of self.new) result }
+        ensures keeps { Keeps W.Sink self.old self.new }
+        ensures value { OnOk result (E.are_values elements.now) }
+    {
+        self.put_len(false, elements.len())?;
+        elements.write(self)
+    }
+
+    /// Writes a struct of fields with these names and values: the list of the values, or with names the map.
+    ///
+    /// # Errors
+    ///
+    /// What a value's type or the sink answers, and `InvalidDataModel` where a name is written and has 2 ^ 32 bytes or more.
+    #[inline(always)]
+    pub fn serialize_fields<E: Elements>(
+        &mut self,
+        _name: &'static str,
+        names: &[&'static str],
+        elements: &E,
+    ) -> Result<(), Error>
+        requires { length names.now ≡ E.count }
+        ensures writes { WritesTree W.Sink (E.takes_memory (settings_of self.old) || W.takes_memory) (tree_of (settings_of self.old) (structure_of (fields_by names.now (E.parts_of elements.now (settings_of self.old).human)))) (sink_of self.old) (sink_of self.new) result }
+        ensures keeps { Keeps W.Sink self.old self.new }
+        ensures value { OnOk result (E.are_values elements.now) }
+    {
+        self.put_len(self.is_named(), elements.len())?;
+        elements.write_fields(names, self)
+    }
+
+    /// Writes a variant whose content is like a tuple struct of these elements.
+    ///
+    /// # Errors
+    ///
+    /// `InvalidDataModel` where the name has 2 ^ 32 bytes or more, and nothing is written; else what an element's type or the sink
+    /// answers.
+    #[inline(always)]
+    pub fn serialize_tuple_variant_of<E: Elements>(
+        &mut self,
+        _name: &'static str,
+        _index: u32,
+        variant: &'static str,
+        elements: &E,
+    ) -> Result<(), Error>
+        ensures writes { WritesTree W.Sink (E.takes_memory (settings_of self.old) || W.takes_memory) (tree_of (settings_of self.old) (tuple_variant_of variant.now (E.parts_of elements.now (settings_of self.old).human))) (sink_of self.old) (sink_of self.new) result }
+        ensures keeps { Keeps W.Sink self.old self.new }
+        ensures long { 2 ^ 32 ≤ length variant.now → self.new ≡ self.old }
+        ensures value { OnOk result (E.are_values elements.now) }
+    {
+        self.open_variant(variant, false, elements.len())?;
+        elements.write(self)
+    }
+
+    /// Writes a variant whose content is like a struct of fields with these names and values.
+    ///
+    /// # Errors
+    ///
+    /// `InvalidDataModel` where the variant's name has 2 ^ 32 bytes or more, and nothing is written, or where a field's name is
+    /// written and has; else what a value's type or the sink answers.
+    #[inline(always)]
+    pub fn serialize_struct_variant_of<E: Elements>(
+        &mut self,
+        _name: &'static str,
+        _index: u32,
+        variant: &'static str,
+        names: &[&'static str],
+        elements: &E,
+    ) -> Result<(), Error>
+        requires { length names.now ≡ E.count }
+        ensures writes { WritesTree W.Sink (E.takes_memory (settings_of self.old) || W.takes_memory) (tree_of (settings_of self.old) (struct_variant_of variant.now (fields_by names.now (E.parts_of elements.now (settings_of self.old).human)))) (sink_of self.old) (sink_of self.new) result }
+        ensures keeps { Keeps W.Sink self.old self.new }
+        ensures long { 2 ^ 32 ≤ length variant.now → self.new ≡ self.old }
+        ensures value { OnOk result (E.are_values elements.now) }
+    {
+        self.open_variant(variant, self.is_named(), elements.len())?;
+        elements.write_fields(names, self)
+    }
+}

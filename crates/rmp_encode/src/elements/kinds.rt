@@ -1,0 +1,435 @@
+//! One to eight elements of several types. Written by tools/elements.py.
+ghost use Rattle.std.specs.Prelude.{◌∷◌, [], refl};
+ghost use Rattle.rmp_encode.specs.Sizes.{one_of};
+
+use crate::elements::Elements;
+use crate::error::Error;
+use crate::ser::Serialize;
+use crate::serializer::Serializer;
+use rmp_wire::Sink;
+use rmp_wire::config::SerializerConfig;
+
+/// One element.
+#[derive(Clone, Copy)]
+pub struct One<'r, E1> {
+    pub first: &'r E1,
+}
+
+impl<'r, E1: Serialize> Elements for One<'r, E1> {
+    ghost count = { 1 };
+
+    ghost parts_of = { λ v human. E1.data_of v.first.now human ∷ [] };
+
+    ghost are_values = { λ v. E1.is_value v.first.now };
+
+    ghost takes_memory = { λ s. one_of (E1.takes_memory s ∷ []) };
+
+    ghost counted = { λ v human. refl };
+
+    #[inline(always)]
+    fn len(&self) -> usize {
+        1
+    }
+
+    #[inline(always)]
+    fn write<W: Sink, C: SerializerConfig>(&self, se: &mut Serializer<W, C>) -> Result<(), Error> {
+        Serialize::serialize(self.first, se)?;
+        Ok(())
+    }
+
+    #[inline(always)]
+    fn write_fields<W: Sink, C: SerializerConfig>(
+        &self,
+        names: &[&'static str],
+        se: &mut Serializer<W, C>,
+    ) -> Result<(), Error> {
+        se.put_field(names[0], self.first)?;
+        Ok(())
+    }
+}
+
+/// Two elements.
+#[derive(Clone, Copy)]
+pub struct Both<'r, E1, E2> {
+    pub first: &'r E1,
+    pub second: &'r E2,
+}
+
+impl<'r, E1: Serialize, E2: Serialize> Elements for Both<'r, E1, E2> {
+    ghost count = { 2 };
+
+    ghost parts_of = { λ v human. E1.data_of v.first.now human ∷ E2.data_of v.second.now human ∷ [] };
+
+    ghost are_values = { λ v. E1.is_value v.first.now × E2.is_value v.second.now };
+
+    ghost takes_memory = { λ s. one_of (E1.takes_memory s ∷ (E2.takes_memory s ∷ [])) };
+
+    ghost counted = { λ v human. refl };
+
+    #[inline(always)]
+    fn len(&self) -> usize {
+        2
+    }
+
+    #[inline(always)]
+    fn write<W: Sink, C: SerializerConfig>(&self, se: &mut Serializer<W, C>) -> Result<(), Error> {
+        Serialize::serialize(self.first, se)?;
+        Serialize::serialize(self.second, se)?;
+        Ok(())
+    }
+
+    #[inline(always)]
+    fn write_fields<W: Sink, C: SerializerConfig>(
+        &self,
+        names: &[&'static str],
+        se: &mut Serializer<W, C>,
+    ) -> Result<(), Error> {
+        se.put_field(names[0], self.first)?;
+        se.put_field(names[1], self.second)?;
+        Ok(())
+    }
+}
+
+/// Three elements.
+#[derive(Clone, Copy)]
+pub struct Three<'r, E1, E2, E3> {
+    pub first: &'r E1,
+    pub second: &'r E2,
+    pub third: &'r E3,
+}
+
+impl<'r, E1: Serialize, E2: Serialize, E3: Serialize> Elements for Three<'r, E1, E2, E3> {
+    ghost count = { 3 };
+
+    ghost parts_of = { λ v human. E1.data_of v.first.now human ∷ E2.data_of v.second.now human ∷ E3.data_of v.third.now human ∷ [] };
+
+    ghost are_values = { λ v. E1.is_value v.first.now × E2.is_value v.second.now × E3.is_value v.third.now };
+
+    ghost takes_memory = { λ s. one_of (E1.takes_memory s ∷ (E2.takes_memory s ∷ (E3.takes_memory s ∷ []))) };
+
+    ghost counted = { λ v human. refl };
+
+    #[inline(always)]
+    fn len(&self) -> usize {
+        3
+    }
+
+    #[inline(always)]
+    fn write<W: Sink, C: SerializerConfig>(&self, se: &mut Serializer<W, C>) -> Result<(), Error> {
+        Serialize::serialize(self.first, se)?;
+        Serialize::serialize(self.second, se)?;
+        Serialize::serialize(self.third, se)?;
+        Ok(())
+    }
+
+    #[inline(always)]
+    fn write_fields<W: Sink, C: SerializerConfig>(
+        &self,
+        names: &[&'static str],
+        se: &mut Serializer<W, C>,
+    ) -> Result<(), Error> {
+        se.put_field(names[0], self.first)?;
+        se.put_field(names[1], self.second)?;
+        se.put_field(names[2], self.third)?;
+        Ok(())
+    }
+}
+
+/// Four elements.
+#[derive(Clone, Copy)]
+pub struct Four<'r, E1, E2, E3, E4> {
+    pub first: &'r E1,
+    pub second: &'r E2,
+    pub third: &'r E3,
+    pub fourth: &'r E4,
+}
+
+impl<'r, E1: Serialize, E2: Serialize, E3: Serialize, E4: Serialize> Elements
+    for Four<'r, E1, E2, E3, E4> {
+    ghost count = { 4 };
+
+    ghost parts_of = { λ v human. E1.data_of v.first.now human ∷ E2.data_of v.second.now human ∷ E3.data_of v.third.now human ∷ E4.data_of v.fourth.now human ∷ [] };
+
+    ghost are_values = { λ v. E1.is_value v.first.now × E2.is_value v.second.now × E3.is_value v.third.now × E4.is_value v.fourth.now };
+
+    ghost takes_memory = { λ s. one_of (E1.takes_memory s ∷ (E2.takes_memory s ∷ (E3.takes_memory s ∷ (E4.takes_memory s ∷ [])))) };
+
+    ghost counted = { λ v human. refl };
+
+    #[inline(always)]
+    fn len(&self) -> usize {
+        4
+    }
+
+    #[inline(always)]
+    fn write<W: Sink, C: SerializerConfig>(&self, se: &mut Serializer<W, C>) -> Result<(), Error> {
+        Serialize::serialize(self.first, se)?;
+        Serialize::serialize(self.second, se)?;
+        Serialize::serialize(self.third, se)?;
+        Serialize::serialize(self.fourth, se)?;
+        Ok(())
+    }
+
+    #[inline(always)]
+    fn write_fields<W: Sink, C: SerializerConfig>(
+        &self,
+        names: &[&'static str],
+        se: &mut Serializer<W, C>,
+    ) -> Result<(), Error> {
+        se.put_field(names[0], self.first)?;
+        se.put_field(names[1], self.second)?;
+        se.put_field(names[2], self.third)?;
+        se.put_field(names[3], self.fourth)?;
+        Ok(())
+    }
+}
+
+/// Five elements.
+#[derive(Clone, Copy)]
+pub struct Five<'r, E1, E2, E3, E4, E5> {
+    pub first: &'r E1,
+    pub second: &'r E2,
+    pub third: &'r E3,
+    pub fourth: &'r E4,
+    pub fifth: &'r E5,
+}
+
+impl<'r, E1: Serialize, E2: Serialize, E3: Serialize, E4: Serialize, E5: Serialize> Elements
+    for Five<'r, E1, E2, E3, E4, E5> {
+    ghost count = { 5 };
+
+    ghost parts_of = { λ v human. E1.data_of v.first.now human ∷ E2.data_of v.second.now human ∷ E3.data_of v.third.now human ∷ E4.data_of v.fourth.now human ∷ E5.data_of v.fifth.now human ∷ [] };
+
+    ghost are_values = { λ v. E1.is_value v.first.now × E2.is_value v.second.now × E3.is_value v.third.now × E4.is_value v.fourth.now × E5.is_value v.fifth.now };
+
+    ghost takes_memory = { λ s. one_of (E1.takes_memory s ∷ (E2.takes_memory s ∷ (E3.takes_memory s ∷ (E4.takes_memory s ∷ (E5.takes_memory s ∷ []))))) };
+
+    ghost counted = { λ v human. refl };
+
+    #[inline(always)]
+    fn len(&self) -> usize {
+        5
+    }
+
+    #[inline(always)]
+    fn write<W: Sink, C: SerializerConfig>(&self, se: &mut Serializer<W, C>) -> Result<(), Error> {
+        Serialize::serialize(self.first, se)?;
+        Serialize::serialize(self.second, se)?;
+        Serialize::serialize(self.third, se)?;
+        Serialize::serialize(self.fourth, se)?;
+        Serialize::serialize(self.fifth, se)?;
+        Ok(())
+    }
+
+    #[inline(always)]
+    fn write_fields<W: Sink, C: SerializerConfig>(
+        &self,
+        names: &[&'static str],
+        se: &mut Serializer<W, C>,
+    ) -> Result<(), Error> {
+        se.put_field(names[0], self.first)?;
+        se.put_field(names[1], self.second)?;
+        se.put_field(names[2], self.third)?;
+        se.put_field(names[3], self.fourth)?;
+        se.put_field(names[4], self.fifth)?;
+        Ok(())
+    }
+}
+
+/// Six elements.
+#[derive(Clone, Copy)]
+pub struct Six<'r, E1, E2, E3, E4, E5, E6> {
+    pub first: &'r E1,
+    pub second: &'r E2,
+    pub third: &'r E3,
+    pub fourth: &'r E4,
+    pub fifth: &'r E5,
+    pub sixth: &'r E6,
+}
+
+impl<
+    'r,
+    E1: Serialize,
+    E2: Serialize,
+    E3: Serialize,
+    E4: Serialize,
+    E5: Serialize,
+    E6: Serialize,
+> Elements for Six<'r, E1, E2, E3, E4, E5, E6> {
+    ghost count = { 6 };
+
+    ghost parts_of = { λ v human. E1.data_of v.first.now human ∷ E2.data_of v.second.now human ∷ E3.data_of v.third.now human ∷ E4.data_of v.fourth.now human ∷ E5.data_of v.fifth.now human ∷ E6.data_of v.sixth.now human ∷ [] };
+
+    ghost are_values = { λ v. E1.is_value v.first.now × E2.is_value v.second.now × E3.is_value v.third.now × E4.is_value v.fourth.now × E5.is_value v.fifth.now × E6.is_value v.sixth.now };
+
+    ghost takes_memory = { λ s. one_of (E1.takes_memory s ∷ (E2.takes_memory s ∷ (E3.takes_memory s ∷ (E4.takes_memory s ∷ (E5.takes_memory s ∷ (E6.takes_memory s ∷ [])))))) };
+
+    ghost counted = { λ v human. refl };
+
+    #[inline(always)]
+    fn len(&self) -> usize {
+        6
+    }
+
+    #[inline(always)]
+    fn write<W: Sink, C: SerializerConfig>(&self, se: &mut Serializer<W, C>) -> Result<(), Error> {
+        Serialize::serialize(self.first, se)?;
+        Serialize::serialize(self.second, se)?;
+        Serialize::serialize(self.third, se)?;
+        Serialize::serialize(self.fourth, se)?;
+        Serialize::serialize(self.fifth, se)?;
+        Serialize::serialize(self.sixth, se)?;
+        Ok(())
+    }
+
+    #[inline(always)]
+    fn write_fields<W: Sink, C: SerializerConfig>(
+        &self,
+        names: &[&'static str],
+        se: &mut Serializer<W, C>,
+    ) -> Result<(), Error> {
+        se.put_field(names[0], self.first)?;
+        se.put_field(names[1], self.second)?;
+        se.put_field(names[2], self.third)?;
+        se.put_field(names[3], self.fourth)?;
+        se.put_field(names[4], self.fifth)?;
+        se.put_field(names[5], self.sixth)?;
+        Ok(())
+    }
+}
+
+/// Seven elements.
+#[derive(Clone, Copy)]
+pub struct Seven<'r, E1, E2, E3, E4, E5, E6, E7> {
+    pub first: &'r E1,
+    pub second: &'r E2,
+    pub third: &'r E3,
+    pub fourth: &'r E4,
+    pub fifth: &'r E5,
+    pub sixth: &'r E6,
+    pub seventh: &'r E7,
+}
+
+impl<
+    'r,
+    E1: Serialize,
+    E2: Serialize,
+    E3: Serialize,
+    E4: Serialize,
+    E5: Serialize,
+    E6: Serialize,
+    E7: Serialize,
+> Elements for Seven<'r, E1, E2, E3, E4, E5, E6, E7> {
+    ghost count = { 7 };
+
+    ghost parts_of = { λ v human. E1.data_of v.first.now human ∷ E2.data_of v.second.now human ∷ E3.data_of v.third.now human ∷ E4.data_of v.fourth.now human ∷ E5.data_of v.fifth.now human ∷ E6.data_of v.sixth.now human ∷ E7.data_of v.seventh.now human ∷ [] };
+
+    ghost are_values = { λ v. E1.is_value v.first.now × E2.is_value v.second.now × E3.is_value v.third.now × E4.is_value v.fourth.now × E5.is_value v.fifth.now × E6.is_value v.sixth.now × E7.is_value v.seventh.now };
+
+    ghost takes_memory = { λ s. one_of (E1.takes_memory s ∷ (E2.takes_memory s ∷ (E3.takes_memory s ∷ (E4.takes_memory s ∷ (E5.takes_memory s ∷ (E6.takes_memory s ∷ (E7.takes_memory s ∷ []))))))) };
+
+    ghost counted = { λ v human. refl };
+
+    #[inline(always)]
+    fn len(&self) -> usize {
+        7
+    }
+
+    #[inline(always)]
+    fn write<W: Sink, C: SerializerConfig>(&self, se: &mut Serializer<W, C>) -> Result<(), Error> {
+        Serialize::serialize(self.first, se)?;
+        Serialize::serialize(self.second, se)?;
+        Serialize::serialize(self.third, se)?;
+        Serialize::serialize(self.fourth, se)?;
+        Serialize::serialize(self.fifth, se)?;
+        Serialize::serialize(self.sixth, se)?;
+        Serialize::serialize(self.seventh, se)?;
+        Ok(())
+    }
+
+    #[inline(always)]
+    fn write_fields<W: Sink, C: SerializerConfig>(
+        &self,
+        names: &[&'static str],
+        se: &mut Serializer<W, C>,
+    ) -> Result<(), Error> {
+        se.put_field(names[0], self.first)?;
+        se.put_field(names[1], self.second)?;
+        se.put_field(names[2], self.third)?;
+        se.put_field(names[3], self.fourth)?;
+        se.put_field(names[4], self.fifth)?;
+        se.put_field(names[5], self.sixth)?;
+        se.put_field(names[6], self.seventh)?;
+        Ok(())
+    }
+}
+
+/// Eight elements.
+#[derive(Clone, Copy)]
+pub struct Eight<'r, E1, E2, E3, E4, E5, E6, E7, E8> {
+    pub first: &'r E1,
+    pub second: &'r E2,
+    pub third: &'r E3,
+    pub fourth: &'r E4,
+    pub fifth: &'r E5,
+    pub sixth: &'r E6,
+    pub seventh: &'r E7,
+    pub eighth: &'r E8,
+}
+
+impl<
+    'r,
+    E1: Serialize,
+    E2: Serialize,
+    E3: Serialize,
+    E4: Serialize,
+    E5: Serialize,
+    E6: Serialize,
+    E7: Serialize,
+    E8: Serialize,
+> Elements for Eight<'r, E1, E2, E3, E4, E5, E6, E7, E8> {
+    ghost count = { 8 };
+
+    ghost parts_of = { λ v human. E1.data_of v.first.now human ∷ E2.data_of v.second.now human ∷ E3.data_of v.third.now human ∷ E4.data_of v.fourth.now human ∷ E5.data_of v.fifth.now human ∷ E6.data_of v.sixth.now human ∷ E7.data_of v.seventh.now human ∷ E8.data_of v.eighth.now human ∷ [] };
+
+    ghost are_values = { λ v. E1.is_value v.first.now × E2.is_value v.second.now × E3.is_value v.third.now × E4.is_value v.fourth.now × E5.is_value v.fifth.now × E6.is_value v.sixth.now × E7.is_value v.seventh.now × E8.is_value v.eighth.now };
+
+    ghost takes_memory = { λ s. one_of (E1.takes_memory s ∷ (E2.takes_memory s ∷ (E3.takes_memory s ∷ (E4.takes_memory s ∷ (E5.takes_memory s ∷ (E6.takes_memory s ∷ (E7.takes_memory s ∷ (E8.takes_memory s ∷ [])))))))) };
+
+    ghost counted = { λ v human. refl };
+
+    #[inline(always)]
+    fn len(&self) -> usize {
+        8
+    }
+
+    #[inline(always)]
+    fn write<W: Sink, C: SerializerConfig>(&self, se: &mut Serializer<W, C>) -> Result<(), Error> {
+        Serialize::serialize(self.first, se)?;
+        Serialize::serialize(self.second, se)?;
+        Serialize::serialize(self.third, se)?;
+        Serialize::serialize(self.fourth, se)?;
+        Serialize::serialize(self.fifth, se)?;
+        Serialize::serialize(self.sixth, se)?;
+        Serialize::serialize(self.seventh, se)?;
+        Serialize::serialize(self.eighth, se)?;
+        Ok(())
+    }
+
+    #[inline(always)]
+    fn write_fields<W: Sink, C: SerializerConfig>(
+        &self,
+        names: &[&'static str],
+        se: &mut Serializer<W, C>,
+    ) -> Result<(), Error> {
+        se.put_field(names[0], self.first)?;
+        se.put_field(names[1], self.second)?;
+        se.put_field(names[2], self.third)?;
+        se.put_field(names[3], self.fourth)?;
+        se.put_field(names[4], self.fifth)?;
+        se.put_field(names[5], self.sixth)?;
+        se.put_field(names[6], self.seventh)?;
+        se.put_field(names[7], self.eighth)?;
+        Ok(())
+    }
+}

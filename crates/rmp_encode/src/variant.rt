@@ -1,0 +1,160 @@
+//! Variants of enums: a name alone, or a map of one pair from the name to the content.
+ghost use Rattle.std.specs.Prelude.{◌≡◌, ◌^◌, ◌<◌, ◌≤◌, ◌++◌, ◌||◌, true, false, Some, IfOk, OnOk, length};
+ghost use Rattle.std.specs.Borrow.{sem};
+ghost use Rattle.std.specs.List.{flat_map};
+ghost use Rattle.rmp_wire.specs.Msg.{text};
+ghost use Rattle.rmp_encode.specs.Compounds.{inside, reference, left_of, has_fields, is_sound, IsFilling};
+ghost use Rattle.rmp_encode.specs.Going.{head_at, Begins, Rests};
+ghost use Rattle.rmp_encode.specs.Ser.{sink_of, settings_of};
+ghost use Rattle.rmp_encode.specs.Trees.{tree_of, field_parts, newtype_variant_of, tuple_variant_of, struct_variant_of, variant_head};
+ghost use Rattle.rmp_encode.specs.Writes.{Keeps, NoneAtMarker, StaysAtRefusal, WritesPart, WritesTree};
+
+use crate::compound::Compound;
+use crate::error::Error;
+use crate::length::fits_u32;
+use crate::ser::Serialize;
+use crate::serializer::Serializer;
+use rmp_wire::Sink;
+use rmp_wire::config::SerializerConfig;
+
+impl<W: Sink, C: SerializerConfig> Serializer<W, C> {
+    // What stands before a variant's content, where its name fits.
+    #[inline(always)]
+    fn put_variant(&mut self, name: &str) -> Result<(), Error>
+        requires { length name.now < 2 ^ 32 }
+        ensures writes { WritesPart W.Sink W.takes_memory (Unit {0}) (variant_head name.now) (sink_of self.old) (sink_of self.new) result }
+        ensures keeps { Keeps W.Sink self.old self.new }
+    {
+        self.put_head(true, 1)?;
+        self.serialize_str(name)
+    }
+
+    // What stands before a variant's content, and the head of that, which is a list or a map.
+    //
+    // Nothing is written where the name or the number is refused.
+    #[inline(always)]
+    pub(crate) fn open_variant(
+        &mut self,
+        variant: &str,
+        pairs: bool,
+        len: usize,
+    ) -> Result<(), Error>
+        ensures begins { Begins W.Sink ((length variant.now < 2 ^ 32) × (len < 2 ^ 32)) (variant_head variant.now ++ head_at pairs len) self.old self.new result }
+        ensures keeps { Keeps W.Sink self.old self.new }
+        ensures stays { StaysAtRefusal self.old self.new result }
+        ensures refused { ¬ ((length variant.now < 2 ^ 32) × (len < 2 ^ 32)) → self.new ≡ self.old }
+        ensures fits { OnOk result ((length variant.now < 2 ^ 32) × (len < 2 ^ 32)) }
+    {
+        let n = fits_u32(len)?;
+        fits_u32(variant.len())?;
+        self.put_variant(variant)?;
+        self.put_head(pairs, n)
+    }
+
+    /// Writes a variant without content: its name, as a text.
+    ///
+    /// # Errors
+    ///
+    /// `InvalidDataModel` where the name has 2 ^ 32 bytes or more, and nothing is written; else what the sink answers.
+    #[inline(always)]
+    pub fn serialize_unit_variant(
+        &mut self,
+        _name: &'static str,
+        _index: u32,
+        variant: &'static str,
+    ) -> Result<(), Error>
+        ensures writes { WritesTree W.Sink W.takes_memory (Some (text variant.now)) (sink_of self.old) (sink_of self.new) result }
+        ensures marker { NoneAtMarker W.Sink (sink_of self.old) (sink_of self.new) result }
+        ensures keeps { Keeps W.Sink self.old self.new }
+        ensures refused { StaysAtRefusal self.old self.new result }
+        ensures long { 2 ^ 32 ≤ length variant.now → self.new ≡ self.old }
+    {
+        self.serialize_str(variant)
+    }
+
+    /// Writes a variant with one value for content: a map of one pair, from its name to the value.
+    ///
+    /// # Errors
+    ///
+    /// `InvalidDataModel` where the name has 2 ^ 32 bytes or more, and nothing is written; else what the value's type or the sink
+    /// answers.
+    #[inline(always)]
+    pub fn serialize_newtype_variant<T: Serialize>(
+        &mut self,
+        _name: &'static str,
+        _index: u32,
+        variant: &'static str,
+        value: &T,
+    ) -> Result<(), Error>
+        ensures writes { WritesTree W.Sink (T.takes_memory (settings_of self.old) || W.takes_memory) (tree_of (settings_of self.old) (newtype_variant_of variant.now (T.data_of value.now (settings_of self.old).human))) (sink_of self.old) (sink_of self.new) result }
+        ensures keeps { Keeps W.Sink self.old self.new }
+        ensures long { 2 ^ 32 ≤ length variant.now → self.new ≡ self.old }
+        ensures value { OnOk result (T.is_value value.now) }
+    {
+        fits_u32(variant.len())?;
+        self.put_variant(variant)?;
+        value.serialize(self)
+    }
+
+    /// Opens a variant whose content is like a tuple struct of so many elements: a map of one pair, from its name to the list.
+    ///
+    /// # Errors
+    ///
+    /// `InvalidDataModel` where the number, or that of the name's bytes, is 2 ^ 32 or more, and nothing is written; else what the
+    /// sink answers.
+    pub fn serialize_tuple_variant(
+        &mut self,
+        _name: &'static str,
+        _index: u32,
+        variant: &'static str,
+        len: usize,
+    ) -> Result<Compound<'_, W, C>, Error>
+        ensures* refused { sem 𝓛 (Rests W.row C.row W.Sink reference ((length variant.now < 2 ^ 32) × (len < 2 ^ 32)) (λ all. length all ≡ len) (tuple_variant_of variant.now) self.entry result) }
+        ensures same_reference { IfOk result (λ q. reference q ≡ self.entry.ghost_name) }
+        ensures fits { OnOk result ((length variant.now < 2 ^ 32) × (len < 2 ^ 32)) }
+        ensures left { IfOk result (λ q. left_of q ≡ len) }
+        ensures kind { IfOk result (λ q. has_fields q ≡ false) }
+        ensures sound { IfOk result (λ q. is_sound q ≡ true) }
+        ensures opened { IfOk result (λ q. (all : _) → length all ≡ len → IsFilling W.Sink self.old (tree_of (settings_of self.old) (tuple_variant_of variant.now all)) all q) }
+        ensures keeps { IfOk result (λ q. Keeps W.Sink self.old (inside q)) }
+    {
+        self.open_variant(variant, false, len)?;
+        Ok(Compound {
+            se: self,
+            left: len,
+            fields: false,
+            sound: true,
+        })
+    }
+
+    /// Opens a variant whose content is like a struct of so many fields: a map of one pair, from its name to what the struct is.
+    ///
+    /// # Errors
+    ///
+    /// `InvalidDataModel` where the number, or that of the name's bytes, is 2 ^ 32 or more, and nothing is written; else what the
+    /// sink answers.
+    pub fn serialize_struct_variant(
+        &mut self,
+        _name: &'static str,
+        _index: u32,
+        variant: &'static str,
+        len: usize,
+    ) -> Result<Compound<'_, W, C>, Error>
+        ensures* refused { sem 𝓛 (Rests W.row C.row W.Sink reference ((length variant.now < 2 ^ 32) × (len < 2 ^ 32)) (λ fs. length fs ≡ len) (struct_variant_of variant.now) self.entry result) }
+        ensures same_reference { IfOk result (λ q. reference q ≡ self.entry.ghost_name) }
+        ensures fits { OnOk result ((length variant.now < 2 ^ 32) × (len < 2 ^ 32)) }
+        ensures left { IfOk result (λ q. left_of q ≡ len) }
+        ensures kind { IfOk result (λ q. has_fields q ≡ true) }
+        ensures sound { IfOk result (λ q. is_sound q ≡ true) }
+        ensures opened { IfOk result (λ q. (fs : _) → length fs ≡ len → IsFilling W.Sink self.old (tree_of (settings_of self.old) (struct_variant_of variant.now fs)) (flat_map (field_parts (settings_of self.old).named) fs) q) }
+        ensures keeps { IfOk result (λ q. Keeps W.Sink self.old (inside q)) }
+    {
+        self.open_variant(variant, self.is_named(), len)?;
+        Ok(Compound {
+            se: self,
+            left: len,
+            fields: true,
+            sound: true,
+        })
+    }
+}

@@ -1,0 +1,92 @@
+//! The jobs, and why one isn't done.
+ghost use Rattle.std.specs.Prelude.{◌≡◌};
+
+use std::alloc::{AllocError, AllocFailed};
+use std::io;
+use thiserror::Error;
+
+/// Why a job wasn't begun, or what came of it couldn't be printed.
+#[derive(Clone, Copy, Debug, Error)]
+pub enum Fault {
+    #[error("the input names no job")]
+    NoJob,
+    #[error("input or output failed")]
+    Io,
+    /// Memory was refused before the job began.
+    #[error("out of memory")]
+    Memory,
+}
+
+impl From<io::Error> for Fault {
+    ghost use Rattle.test_memory.specs.declared.job.Fault.TheVariants.{Io};
+
+    ghost from_gives = { λ _ fault. fault ≡ Io };
+
+    fn from(_e: io::Error) -> Fault {
+        Fault::Io
+    }
+}
+
+impl From<AllocError> for Fault {
+    ghost use Rattle.test_memory.specs.declared.job.Fault.TheVariants.{Memory};
+
+    ghost from_gives = { λ _ fault. fault ≡ Memory };
+
+    fn from(_e: AllocError) -> Fault {
+        Fault::Memory
+    }
+}
+
+impl<T: Drop> From<AllocFailed<T>> for Fault {
+    ghost use Rattle.test_memory.specs.declared.job.Fault.TheVariants.{Memory};
+
+    ghost from_gives = { λ _ fault. fault ≡ Memory };
+
+    fn from(_e: AllocFailed<T>) -> Fault {
+        Fault::Memory
+    }
+}
+
+/// What is to be done.
+#[derive(Clone, Copy)]
+pub enum Job {
+    /// A list of maps of lists and texts is written.
+    Write,
+    /// Lists and maps of unknown length, in one another, are written, and bytes are made of what may be bytes.
+    WriteUnknown,
+    /// A list of maps from texts to lists is read.
+    Read,
+    /// A list is read that claims 2 ^ 32 - 1 elements and has none.
+    ReadClaim,
+    /// Lists and maps in one another are passed over.
+    Skip,
+    /// An empty list is passed over.
+    SkipEmpty,
+    /// Lists in one another are checked.
+    Check,
+}
+
+impl Job {
+    /// The job that a line names, and the number behind it.
+    pub fn from_line(line: &[u8]) -> Result<(Job, u32), Fault> {
+        let Ok(line) = str::from_utf8(line) else {
+            return Err(Fault::NoJob);
+        };
+        let Some((name, count)) = line.trim().split_once(' ') else {
+            return Err(Fault::NoJob);
+        };
+        let Ok(count) = count.parse::<u32>() else {
+            return Err(Fault::NoJob);
+        };
+        match name {
+            "write" => Ok((Job::Write, count)),
+            "write-unknown" => Ok((Job::WriteUnknown, count)),
+            "read" => Ok((Job::Read, count)),
+            "read-claim" => Ok((Job::ReadClaim, count)),
+            "skip" => Ok((Job::Skip, count)),
+            "skip-empty" => Ok((Job::SkipEmpty, count)),
+            "check" => Ok((Job::Check, count)),
+            _ => Err(Fault::NoJob),
+        }
+    }
+}

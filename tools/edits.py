@@ -1,0 +1,133 @@
+#!/usr/bin/env python3
+"""Looks at the edits that the prover must refuse, crates/NAME/must-fail/FUNCTION__WHAT.edit.
+
+Says which edit can't be applied, since a text that it replaces doesn't stand exactly once in its file, which has no such name,
+and which public function of the libraries has none. The status is 0 where nothing is said.
+
+An edit stands for the functions of its name, or, with the name of a type in front, as Type_function__what, for that type's.
+A function needs none that has no body, as a law, that answers a field or makes a struct of one, or whose body is that of
+another by ALIKE.
+"""
+import os
+import re
+import sys
+
+TOP = os.path.join(os.path.dirname(os.path.abspath(__file__)), "..")
+CRATES = os.path.join(TOP, "crates")
+LIBRARIES = "rmp_wire rmp_encode rmp_decode rmp_serde".split()
+# Functions whose body is another's, but for a width, a kind or a constant, or a call of it.
+ALIKE = {
+    "number_8": "number_16",
+    "number_32": "number_16",
+    "serialize_u8": "serialize_u64",
+    "serialize_u16": "serialize_u64",
+    "serialize_u32": "serialize_u64",
+    "serialize_i8": "serialize_i64",
+    "serialize_i16": "serialize_i64",
+    "serialize_i32": "serialize_i64",
+    "deserialize_i16": "deserialize_i8",
+    "deserialize_i32": "deserialize_i8",
+    "deserialize_i64": "deserialize_i8",
+    "deserialize_enum_by": "deserialize_enum",
+    "serialize_some": "serialize_newtype_struct",
+}
+FUNCTION = re.compile(r"^impl\b[^{;]*|^(?:pub )?trait [^{;]*|^\}|^ *(pub )?(?:const )?fn (\w+)", re.M)
+# Nothing, a field or a reference to one, or a struct of what is given, with nothing read or written.
+PLAIN = re.compile(
+    r"|(&(mut )?)?self(\.\w+)+(\.(as_slice|get_ref|get_mut|into_inner)\(\))?|\w+ \{ \w+(: self)? \}"
+    r"|(BufSource|ReadReader) \{\s*\w+(: \w+::new\(\w+\))?,(\s*\w+: \w+::new\(\w+\),)?\s*\}?"
+)
+
+
+def read(path):
+    with open(path, encoding="utf-8") as file:
+        return file.read()
+
+
+def files(crate, part, ending):
+    for folder, _, names in sorted(os.walk(os.path.join(CRATES, crate, part))):
+        for name in sorted(names):
+            if name.endswith(ending):
+                yield os.path.join(folder, name)
+
+
+def pairs(edit):
+    """The file, the text and its replacement, of each pair of an edit."""
+    path = old = None
+    for line in read(edit).split("\n"):
+        word, _, rest = line.partition(": ")
+        if word == "file":
+            path = rest.strip()
+        elif word == "old":
+            old = rest
+        elif word.startswith("new"):
+            yield path, old, rest
+
+
+def misapplied(crate, edit):
+    """Which texts of an edit don't stand exactly once, each in what the earlier pairs made."""
+    texts = {}
+    for path, old, new in pairs(edit):
+        whole = os.path.join(CRATES, crate, path)
+        if path not in texts:
+            texts[path] = read(whole) if os.path.isfile(whole) else ""
+        found = texts[path].count(old)
+        if found != 1:
+            yield f"{path} has this {found} times: {old}"
+        texts[path] = texts[path].replace(old, new)
+
+
+def body_of(text, at):
+    """What stands between the braces of the function that begins there. The clauses before it are lines of their own."""
+    found = re.compile(r"(?:^ *|[^\n{]* )\{\n(.*?)^ *\}$|\{\}$", re.M | re.S).search(text, at)
+    return (found[1] or "").strip()
+
+
+def type_of(head):
+    """The name of the type that an implementation is for."""
+    head = re.sub(r"\s+", " ", head)
+    while (shorter := re.sub(r"<[^<>]*>", "", head)) != head:
+        head = shorter
+    words = re.findall(r"\w+", re.sub(r" where .*", "", head.split(" for ")[-1]))
+    return words[-1] if words else ""
+
+
+def public_functions(crate):
+    """Each public function outside of tests: its type, its name and its body."""
+    for path in files(crate, "src", ".rt"):
+        if "tests" in os.path.relpath(path, CRATES):
+            continue
+        text = re.sub(r"^ *//.*$", "", read(path), flags=re.M)
+        owner = ""
+        for found in FUNCTION.finditer(text):
+            if found[2] is None:
+                owner = "" if found[0] == "}" else type_of(found[0])
+            elif found[1]:
+                yield owner, found[2], body_of(text, found.start())
+
+
+def without_edit(crate, names):
+    for owner, name, body in public_functions(crate):
+        likes = {name, f"{owner}_{name}"} | {ALIKE[x] for x in (name, f"{owner}_{name}") if x in ALIKE}
+        if not likes & names and not PLAIN.fullmatch(body):
+            yield f"{owner}::{name}" if owner else name
+
+
+def main():
+    said = []
+    for crate in sorted(os.listdir(CRATES)):
+        names = set()
+        for edit in files(crate, "must-fail", ".edit"):
+            name = os.path.basename(edit)[: -len(".edit")]
+            names.add(name.partition("__")[0])
+            if not re.fullmatch(r"\w+?__\w+", name):
+                said.append(f"{crate}/{name}: its name isn't FUNCTION__WHAT")
+            said += [f"{crate}/{name}: {why}" for why in misapplied(crate, edit)]
+        if crate in LIBRARIES:
+            said += [f"{crate}: {name} has no edit" for name in without_edit(crate, names)]
+    print("\n".join(said) or "each edit can be applied, and each public function has one")
+    sys.exit(1 if said else 0)
+
+
+if __name__ == "__main__":
+    main()

@@ -1,0 +1,188 @@
+#!/usr/bin/env python3
+"""Writes the elements that one call takes, `One` to `Eight`, and their answers.
+
+    tools/elements.py [FOLDER]      writes below this folder in place of the repository's top
+"""
+import os
+import sys
+
+TOP = os.path.join(os.path.dirname(os.path.abspath(__file__)), "..")
+CRATE = os.path.join(sys.argv[1] if len(sys.argv) > 1 else TOP, "crates", "rmp_encode")
+NAMES = ["One", "Both", "Three", "Four", "Five", "Six", "Seven", "Eight"]
+WORDS = ["One element", "Two elements", "Three elements", "Four elements", "Five elements", "Six elements", "Seven elements", "Eight elements"]
+FIELDS = ["first", "second", "third", "fourth", "fifth", "sixth", "seventh", "eighth"]
+
+
+# The list of these.
+def listed(words):
+    return "(" + " ∷ (".join(words) + " ∷ []" + ")" * len(words)
+
+
+def implementation(n):
+    name = NAMES[n - 1]
+    kinds = [f"E{i + 1}" for i in range(n)]
+    bounds = ", ".join(f"{k}: Serialize" for k in kinds)
+    fields = "\n".join(f"    pub {FIELDS[i]}: &'r {k}," for i, k in enumerate(kinds))
+    data = " ∷ ".join(f"{k}.data_of v.{FIELDS[i]}.now human" for i, k in enumerate(kinds))
+    value = " × ".join(f"{k}.is_value v.{FIELDS[i]}.now" for i, k in enumerate(kinds))
+    memory = listed([f"{k}.takes_memory s" for k in kinds])
+    elements = "\n".join(f"        Serialize::serialize(self.{FIELDS[i]}, se)?;" for i in range(n))
+    named = "\n".join(f"        se.put_field(names[{i}], self.{FIELDS[i]})?;" for i in range(n))
+    return f"""
+/// {WORDS[n - 1]}.
+#[derive(Clone, Copy)]
+pub struct {name}<'r, {", ".join(kinds)}> {{
+{fields}
+}}
+
+impl<'r, {bounds}> Elements for {name}<'r, {", ".join(kinds)}> {{
+    ghost count = {{ {n} }};
+
+    ghost parts_of = {{ λ v human. {data} ∷ [] }};
+
+    ghost are_values = {{ λ v. {value} }};
+
+    ghost takes_memory = {{ λ s. one_of {memory} }};
+
+    ghost counted = {{ λ v human. refl }};
+
+    #[inline(always)]
+    fn len(&self) -> usize {{
+        {n}
+    }}
+
+    #[inline(always)]
+    fn write<W: Sink, C: SerializerConfig>(&self, se: &mut Serializer<W, C>) -> Result<(), Error> {{
+{elements}
+        Ok(())
+    }}
+
+    #[inline(always)]
+    fn write_fields<W: Sink, C: SerializerConfig>(
+        &self,
+        names: &[&'static str],
+        se: &mut Serializer<W, C>,
+    ) -> Result<(), Error> {{
+{named}
+        Ok(())
+    }}
+}}
+"""
+
+
+def call(word, i):
+    return word if i == 0 else f"{word}-{i + 1}"
+
+
+def takes(i):
+    return f"(λ s. g.E{i + 1}.Serialize.takes_memory s || g.W.Sink.takes_memory)"
+
+
+def data(i):
+    return f"(λ s. g.E{i + 1}.Serialize.data_of c.args.self.now.{FIELDS[i]}.now s.human)"
+
+
+# The serializer's settings and its place, after the first i elements.
+def keeps(word, i):
+    if i == 1:
+        return f"c.{word}.ensures.keeps"
+    return f"(keeps_then g.W.Sink {keeps(word, i - 1)} c.{call(word, i - 1)}.ensures.keeps)"
+
+
+# What is still to come after the first i elements were written.
+def state(i):
+    if i == 0:
+        return "h"
+    word = call("serialize", i - 1)
+    return f"(goes g.W.Sink {takes(i - 1)} {data(i - 1)} _ _ (Ok _) c.{word}.ensures.keeps c.in_ok-{word}.ensures.writes old t _ {state(i - 1)})"
+
+
+# The same, where each stands behind its name.
+def named(i, n):
+    if i == 0:
+        return "h"
+    word = call("put_field", i - 1)
+    return f"(c.in_ok-{word}.ensures.writes old t _ {named_step(i - 1, n)})"
+
+
+def named_step(i, n):
+    each = [f"g.E{k + 1}.Serialize.data_of c.args.self.now.{FIELDS[k]}.now (settings_of old).human" for k in range(n)]
+    rest = listed(each[i + 1 :]) if i + 1 < n else "[]"
+    return f"(next_named g.W.Sink c.args.names.now {i} _ ({each[i]}) {rest} rest (omega (arith, c.requires)) {named(i, n)})"
+
+
+def residual(word, i):
+    return f"c.from_residual-in_err-{call(word, i)}" if i else "c.from_residual"
+
+
+def answers(n, word):
+    path = f"Rattle.rmp_encode.proofs.elements.{NAMES[n - 1]}Elements.{'write' if word == 'serialize' else 'write_fields'}"
+    each = listed([f"g.E{k + 1}.Serialize.takes_memory (settings_of old)" for k in range(n)])
+    steps = (["goes"] if word == "serialize" else []) + (["keeps_then"] if n > 1 else [])
+    uses = [f"Rattle.std.proofs.Common.{{{'' if word == 'serialize' else 'arith, '}◌∷◌, []}}"]
+    if word == "serialize":
+        uses.append("Rattle.std.specs.Prelude.{◌||◌, Ok, Err}")
+    uses.append("Rattle.std.proofs.lemmas.Result.{err_from_is_err_and}")
+    uses.append("Rattle.rmp_encode.specs.Ser.{settings_of}")
+    if word == "put_field":
+        uses.append("Rattle.rmp_encode.proofs.Fields.{next_named}")
+    if steps:
+        uses.append(f"Rattle.rmp_encode.proofs.Going.{{{', '.join(steps)}}}")
+    uses.append("Rattle.rmp_encode.proofs.Parts.{one_of_or, part_takes}")
+    text = "".join(f"use {name}\n" for name in uses) + f"use {path}.Goals as goal\n"
+    for i in range(n):
+        this = call(word, i)
+        goal = f"returns-in_err-{this}-clause-writes"
+        if word == "serialize":
+            failed = f"(goes g.W.Sink {takes(i)} {data(i)} _ _ (Err _) c.{this}.ensures.keeps c.in_err-{this}.ensures.writes old t _ {state(i)})"
+        else:
+            failed = f"(c.in_err-{this}.ensures.writes old t _ {named_step(i, n)})"
+        text += f"""
+pub {goal} : goal.{goal}
+{goal} g c =
+    let p = err_from_is_err_and {residual(word, i)}.result {residual(word, i)}.ensures.1 in
+    rw (p.1, p.2) (λ old t rest h. part_takes g.W.Sink _ (one_of_or g.W.Sink.takes_memory {each} {i})
+    {failed})
+"""
+        if i:
+            goal = f"returns-in_err-{this}-clause-keeps"
+            text += f"""
+pub {goal} : goal.{goal}
+{goal} g c = {keeps(word, i + 1)}
+"""
+    final = state(n) if word == "serialize" else named(n, n)
+    text += f"""
+pub returns-clause-writes : goal.returns-clause-writes
+returns-clause-writes g c = λ old t rest h. {final}
+"""
+    if n > 1:
+        text += f"""
+pub returns-clause-keeps : goal.returns-clause-keeps
+returns-clause-keeps g c = {keeps(word, n)}
+"""
+    return text
+
+
+def main():
+    os.makedirs(os.path.join(CRATE, "src", "elements"), exist_ok=True)
+    with open(os.path.join(CRATE, "src", "elements", "kinds.rt"), "w") as out:
+        out.write("""//! One to eight elements of several types. Written by tools/elements.py.
+ghost use Rattle.std.specs.Prelude.{◌∷◌, [], refl};
+ghost use Rattle.rmp_encode.specs.Sizes.{one_of};
+
+use crate::elements::Elements;
+use crate::error::Error;
+use crate::ser::Serialize;
+use crate::serializer::Serializer;
+use rmp_wire::Sink;
+use rmp_wire::config::SerializerConfig;
+""" + "".join(implementation(n) for n in range(1, len(NAMES) + 1)))
+    for n in range(1, len(NAMES) + 1):
+        for word, method in (("serialize", "write"), ("put_field", "write_fields")):
+            folder = os.path.join(CRATE, "proofs", "elements", "kinds", f"{NAMES[n - 1]}Elements", method)
+            os.makedirs(folder, exist_ok=True)
+            with open(os.path.join(folder, "Answers.antt"), "w") as out:
+                out.write(answers(n, word).replace("proofs.elements.", "proofs.elements.kinds."))
+
+
+main()
