@@ -3,11 +3,8 @@
 
     tools/elements.py [FOLDER]      writes below this folder in place of the repository's top
 """
-import os
-import sys
+from lines import write
 
-TOP = os.path.join(os.path.dirname(os.path.abspath(__file__)), "..")
-CRATE = os.path.join(sys.argv[1] if len(sys.argv) > 1 else TOP, "crates", "rmp_encode")
 NAMES = ["One", "Both", "Three", "Four", "Five", "Six", "Seven", "Eight"]
 WORDS = ["One element", "Two elements", "Three elements", "Four elements", "Five elements", "Six elements", "Seven elements", "Eight elements"]
 FIELDS = ["first", "second", "third", "fourth", "fifth", "sixth", "seventh", "eighth"]
@@ -164,9 +161,7 @@ returns-clause-keeps g c = {keeps(word, n)}
 
 
 def main():
-    os.makedirs(os.path.join(CRATE, "src", "elements"), exist_ok=True)
-    with open(os.path.join(CRATE, "src", "elements", "kinds.rt"), "w") as out:
-        out.write("""//! One to eight elements of several types. Written by tools/elements.py.
+    source = """//! One to eight elements of several types. Written by tools/elements.py.
 ghost use Rattle.std.specs.Prelude.{◌∷◌, [], refl};
 ghost use Rattle.rmp_encode.specs.Sizes.{one_of};
 
@@ -176,13 +171,13 @@ use crate::ser::Serialize;
 use crate::serializer::Serializer;
 use rmp_wire::Sink;
 use rmp_wire::config::SerializerConfig;
-""" + "".join(implementation(n) for n in range(1, len(NAMES) + 1)))
+"""
+    source += "".join(implementation(n) for n in range(1, len(NAMES) + 1))
+    write(source, "rmp_encode", "src", "elements", "kinds.rt")
     for n in range(1, len(NAMES) + 1):
         for word, method in (("serialize", "write"), ("put_field", "write_fields")):
-            folder = os.path.join(CRATE, "proofs", "elements", "kinds", f"{NAMES[n - 1]}Elements", method)
-            os.makedirs(folder, exist_ok=True)
-            with open(os.path.join(folder, "Answers.antt"), "w") as out:
-                out.write(answers(n, word).replace("proofs.elements.", "proofs.elements.kinds."))
+            text = answers(n, word).replace("proofs.elements.", "proofs.elements.kinds.")
+            write(text, "rmp_encode", "proofs", "elements", "kinds", f"{NAMES[n - 1]}Elements", method, "Answers.antt")
 
 
 main()

@@ -6,10 +6,8 @@
 A tuple of n elements is read as one of n - 1 and one element more, so that each proof is as long as the tuple. Run `rt fmt`
 in the crate afterwards.
 """
-import os
-import sys
+from lines import write
 
-TOP = os.path.join(os.path.dirname(os.path.abspath(__file__)), "..")
 KINDS = "ABDEFGHI"
 MOST = len(KINDS)
 HERE = "(C.human (config_of (lender_of self.old)))"
@@ -324,13 +322,6 @@ returns-in-Err-end-clause-refused g c = λ _.
 """
 
 
-def write(text, *path):
-    place = os.path.join(sys.argv[1] if len(sys.argv) > 1 else TOP, "crates", "rmp_decode", *path)
-    os.makedirs(os.path.dirname(place), exist_ok=True)
-    with open(place, "w", encoding="utf-8") as out:
-        out.write(text)
-
-
 def main():
     source = """//! Tuples, from lists of as many elements, or bytes of as many. Written by tools/read_tuples.py.
 ghost use Rattle.std.specs.Prelude.{◌≡◌, ◌≢◌, ◌||◌, false, None, List, [], ◌∷◌, IfOk, IfErr};
@@ -346,11 +337,11 @@ use crate::error::Error;
 use rmp_wire::config::SerializerConfig;
 use rmp_wire::{ReadSlice, Source};
 """ + implementation(1) + "".join(parts(n) + implementation(n) for n in range(2, MOST + 1))
-    write(source, "src", "de", "tuples.rt")
-    write(single(), "proofs", "de", "tuples", "Tuple1Deserialize", "deserialize", "Answers.antt")
+    write(source, "rmp_decode", "src", "de", "tuples.rt")
+    write(single(), "rmp_decode", "proofs", "de", "tuples", "Tuple1Deserialize", "deserialize", "Answers.antt")
     for n in range(2, MOST + 1):
-        write(parts_answers(n), "proofs", "access", "seq", "SeqAccess", f"parts_{n}", "Answers.antt")
-        write(answers(n), "proofs", "de", "tuples", f"Tuple{n}Deserialize", "deserialize", "Answers.antt")
+        write(parts_answers(n), "rmp_decode", "proofs", "access", "seq", "SeqAccess", f"parts_{n}", "Answers.antt")
+        write(answers(n), "rmp_decode", "proofs", "de", "tuples", f"Tuple{n}Deserialize", "deserialize", "Answers.antt")
 
 
 main()

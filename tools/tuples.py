@@ -5,10 +5,8 @@
 
 Run `rt fmt` in the crate afterwards.
 """
-import os
-import sys
+from lines import write
 
-TOP = os.path.join(os.path.dirname(os.path.abspath(__file__)), "..")
 MOST = 8
 
 
@@ -99,13 +97,6 @@ returns-clause-writes g c =
 """
 
 
-def write(text, *path):
-    place = os.path.join(sys.argv[1] if len(sys.argv) > 1 else TOP, "crates", "rmp_encode", *path)
-    os.makedirs(os.path.dirname(place), exist_ok=True)
-    with open(place, "w", encoding="utf-8") as out:
-        out.write(text)
-
-
 def main():
     source = """//! Tuples of one to eight elements. Written by tools/tuples.py.
 //!
@@ -120,9 +111,9 @@ use crate::serializer::Serializer;
 use rmp_wire::Sink;
 use rmp_wire::config::SerializerConfig;
 """ + "".join(implementation(n) for n in range(1, MOST + 1))
-    write(source, "src", "ser", "tuples.rt")
+    write(source, "rmp_encode", "src", "ser", "tuples.rt")
     for n in range(1, MOST + 1):
-        write(answers(n), "proofs", "ser", "tuples", f"Tuple{n}Serialize", "serialize", "Answers.antt")
+        write(answers(n), "rmp_encode", "proofs", "ser", "tuples", f"Tuple{n}Serialize", "serialize", "Answers.antt")
 
 
 if __name__ == "__main__":

@@ -1,5 +1,35 @@
 -- What was put where a run ends early.
-use Rattle.std.proofs.Common.{arith, ◌≡◌, ◌≢◌, ◌∙◌, ℕ, zero, suc, ◌-◌, ◌<◌, Bool, true, false, List, [], ◌∷◌, ◌++◌, inl, inr, map, take, drop, get_or, length, refl, sym, ap, subst, append-nil, append_assoc}
+use Rattle.std.proofs.Common.{
+  arith,
+  ◌≡◌,
+  ◌≢◌,
+  ◌∙◌,
+  ℕ,
+  zero,
+  suc,
+  ◌-◌,
+  ◌<◌,
+  Bool,
+  true,
+  false,
+  List,
+  [],
+  ◌∷◌,
+  ◌++◌,
+  inl,
+  inr,
+  map,
+  take,
+  drop,
+  get_or,
+  length,
+  refl,
+  sym,
+  ap,
+  subst,
+  append-nil,
+  append_assoc,
+}
 use Rattle.std.specs.Prelude.{◌⊎◌, Option, None, Some, IfSome, Result, Ok, Err, IfErr}
 use Rattle.std.proofs.KnownBytes.{Appends-nil, Appends-trans}
 use Rattle.std.proofs.lemmas.List.{length-append}
@@ -17,7 +47,20 @@ use Rattle.rmp_decode.specs.declared.error.Error.TheVariants as errors
 use Rattle.mpcanon.specs.declared.lines.RunFault.{RunFault}
 use Rattle.mpcanon.specs.Lines.{digits_in}
 use Rattle.mpcanon.specs.Messages.{message_text, refused_text, no_hex_text}
-use Rattle.mpcanon.specs.Prints.{line, IsAccepted, NoneBegins, RefusesAt, IsStart, StartsMessages, StartsDecoded, StartsLine, StartsFirst, StartsAll, PrintsAll, Puts}
+use Rattle.mpcanon.specs.Prints.{
+  line,
+  IsAccepted,
+  NoneBegins,
+  RefusesAt,
+  IsStart,
+  StartsMessages,
+  StartsDecoded,
+  StartsLine,
+  StartsFirst,
+  StartsAll,
+  PrintsAll,
+  Puts,
+}
 use Rattle.mpcanon.proofs.Shown.{SoFar, holds_more, flat_more, prints_none}
 
 pub start_none : (whole : List ℕ) → IsStart whole []
@@ -41,7 +84,8 @@ module _ {W : Type 0} (g : Ghosts W) where
 
   -- ---- messages
 
-  starts : (bytes rest last : List ℕ) {old mid new : W} (p : SoFar g bytes rest old mid) → (last ≡ []) ⊎ RefusesAt (length p.front) rest last → Puts g (IsStart last) mid new → Puts g (StartsMessages bytes) old new
+  starts : (bytes rest last : List ℕ) {old mid new : W} (p : SoFar g bytes rest old mid) → (last ≡ []) ⊎ RefusesAt (length p.front) rest last
+      → Puts g (IsStart last) mid new → Puts g (StartsMessages bytes) old new
   starts bytes rest last p ends q = record {
     out = p.puts.out ++ q.out;
     appended = Appends-trans _ _ _ p.puts.out q.out p.puts.appended q.appended;
@@ -52,7 +96,11 @@ module _ {W : Type 0} (g : Ghosts W) where
       last = last;
       holds = p.holds;
       ends = ends;
-      start = record { more = q.shown.more; split = ap (λ s. s ++ last) (sym p.puts.shown) ∙ ap (λ s. p.puts.out ++ s) q.shown.split ∙ sym (append_assoc p.puts.out q.out q.shown.more) };
+      start = record {
+        more = q.shown.more;
+        split = ap (λ s. s ++ last) (sym p.puts.shown) ∙ ap (λ s. p.puts.out ++ s) q.shown.split
+            ∙ sym (append_assoc p.puts.out q.out q.shown.more);
+      };
     };
   }
 
@@ -61,7 +109,8 @@ module _ {W : Type 0} (g : Ghosts W) where
   so_far_early bytes rest p = starts bytes rest [] p (inl refl) (nothing_put _ (start_none []))
 
   -- a message more was read, and its line put in part
-  pub message_early : (bytes rest rest' b : List ℕ) (m : Msg) {old mid new : W} → SoFar g bytes rest old mid → rest ≡ b ++ rest' → Spells b m → IsAccepted m → Puts g (IsStart (line (message_text m))) mid new → Puts g (StartsMessages bytes) old new
+  pub message_early : (bytes rest rest' b : List ℕ) (m : Msg) {old mid new : W} → SoFar g bytes rest old mid → rest ≡ b ++ rest' → Spells b m → IsAccepted m
+      → Puts g (IsStart (line (message_text m))) mid new → Puts g (StartsMessages bytes) old new
   message_early bytes rest rest' b m p e spelled accepted q = record {
     out = p.puts.out ++ q.out;
     appended = Appends-trans _ _ _ p.puts.out q.out p.puts.appended q.appended;
@@ -74,21 +123,27 @@ module _ {W : Type 0} (g : Ghosts W) where
       ends = inl refl;
       start = record {
         more = q.shown.more;
-        split = append-nil _ ∙ flat_more (λ k. line (message_text k)) p.messages m ∙ ap (λ s. s ++ line (message_text m)) (sym p.puts.shown) ∙ ap (λ s. p.puts.out ++ s) q.shown.split ∙ sym (append_assoc p.puts.out q.out q.shown.more);
+        split = append-nil _ ∙ flat_more (λ k. line (message_text k)) p.messages m ∙ ap (λ s. s ++ line (message_text m)) (sym p.puts.shown)
+            ∙ ap (λ s. p.puts.out ++ s) q.shown.split ∙ sym (append_assoc p.puts.out q.out q.shown.more);
       };
     };
   }
 
   -- the refusal was put in part, or not at all
-  pub refused_early : (bytes rest : List ℕ) (place : ℕ) (e : Error) (r : Result Bool RunFault) {old mid : W} (new : W) → SoFar g bytes rest old mid → place ≡ length bytes - length rest → 0 < length rest → (e ≢ errors.OutOfMemory → NoneBegins rest) → Refusal false (UnreadFor false) ItemsUtf8 1024 e rest
-      → IfErr r (λ x. Puts g (λ out. (out ≡ []) ⊎ ((e ≢ errors.OutOfMemory) × IsStart (line (refused_text place e)) out)) mid new) → IfErr r (λ x. Puts g (StartsMessages bytes) old new)
+  pub refused_early : (bytes rest : List ℕ) (place : ℕ) (e : Error) (r : Result Bool RunFault) {old mid : W} (new : W) → SoFar g bytes rest old mid
+      → place ≡ length bytes - length rest → 0 < length rest → (e ≢ errors.OutOfMemory → NoneBegins rest)
+      → Refusal false (UnreadFor false) ItemsUtf8 1024 e rest
+      → IfErr r (λ x. Puts g (λ out. (out ≡ []) ⊎ ((e ≢ errors.OutOfMemory) × IsStart (line (refused_text place e)) out)) mid new)
+      → IfErr r (λ x. Puts g (StartsMessages bytes) old new)
   refused_early bytes rest place e (Ok a) new p at more none wrong q = tt
   refused_early bytes rest place e (Err x) new p at more none wrong q = elim q.shown [
     | inl z ↦ starts bytes rest [] p (inl refl) (record { out = q.out; appended = q.appended; shown = record { more = []; split = sym (ap (λ s. s ++ []) z) } })
     | inr s ↦
         let whole = ap length p.holds.split ∙ length-append p.front rest in
         let here : place ≡ length p.front = omega (arith, at, whole) in
-        starts bytes rest (line (refused_text place e)) p (inr (record { error = e; some = more; no_memory = s.0; none = none s.0; wrong = wrong; shown = ap (λ n. line (refused_text n e)) here })) (record { out = q.out; appended = q.appended; shown = s.1 })
+        starts bytes rest (line (refused_text place e)) p (inr
+        (record { error = e; some = more; no_memory = s.0; none = none s.0; wrong = wrong; shown = ap (λ n. line (refused_text n e)) here }))
+        (record { out = q.out; appended = q.appended; shown = s.1 })
   ]
 
   -- ---- lines
@@ -98,12 +153,17 @@ module _ {W : Type 0} (g : Ghosts W) where
     unfolding StartsLine
     line_none text s = nothing_put s (inl refl)
 
-    pub line_early : (text bytes : List ℕ) (r : Result Bool RunFault) (old new : W) → decode_of (digits_in text) ≡ Ok bytes → IfErr r (λ x. Puts g (begins bytes) old new) → IfErr r (λ x. Puts g (StartsLine begins text) old new)
+    pub line_early : (text bytes : List ℕ) (r : Result Bool RunFault) (old new : W) → decode_of (digits_in text) ≡ Ok bytes
+        → IfErr r (λ x. Puts g (begins bytes) old new) → IfErr r (λ x. Puts g (StartsLine begins text) old new)
     unfolding StartsLine
     line_early text bytes (Ok a) old new e q = tt
-    line_early text bytes (Err x) old new e q = record { out = q.out; appended = q.appended; shown = inr (subst (λ d. StartsDecoded begins d q.out) (sym e) q.shown) }
+    line_early text bytes (Err x) old new e q = record
+        { out = q.out; appended = q.appended; shown = inr (subst (λ d. StartsDecoded begins d q.out) (sym e) q.shown) }
 
-    pub hex_early : (text : List ℕ) (e : FromHexError) (r : Result Bool RunFault) (old new : W) → (e ≡ hex.OutOfMemory) ⊎ (decode_of (digits_in text) ≡ Err e) → IfErr r (λ x. Puts g (λ out. (out ≡ []) ⊎ ((e ≢ hex.OutOfMemory) × IsStart (line no_hex_text) out)) old new) → IfErr r (λ x. Puts g (StartsLine begins text) old new)
+    pub hex_early : (text : List ℕ) (e : FromHexError) (r : Result Bool RunFault) (old new : W)
+        → (e ≡ hex.OutOfMemory) ⊎ (decode_of (digits_in text) ≡ Err e)
+        → IfErr r (λ x. Puts g (λ out. (out ≡ []) ⊎ ((e ≢ hex.OutOfMemory) × IsStart (line no_hex_text) out)) old new)
+        → IfErr r (λ x. Puts g (StartsLine begins text) old new)
     unfolding StartsLine
     hex_early text e (Ok a) old new why q = tt
     hex_early text e (Err x) old new why q = elim q.shown [
@@ -121,15 +181,29 @@ module _ {W : Type 0} (g : Ghosts W) where
       first_none (text ∷ texts) = inl refl
 
       pub all_none : (texts : List (List ℕ)) (s : W) → Puts g (StartsAll shows begins texts) s s
-      all_none texts s = nothing_put s (record { before = []; behind = texts; split = refl; first = []; second = []; accepted = true; prints = prints_none shows; next = first_none texts; printed = refl })
+      all_none texts s = nothing_put s (record {
+        before = [];
+        behind = texts;
+        split = refl;
+        first = [];
+        second = [];
+        accepted = true;
+        prints = prints_none
+            shows;
+        next = first_none texts;
+        printed = refl;
+      })
 
-      split_at : {A : Type 0} (v : A → List ℕ) (xs : List A) (i : ℕ) (d : A) → i < length xs → map v xs ≡ map v (take i xs) ++ (v (get_or xs i d) ∷ map v (drop (suc i) xs))
+      split_at : {A : Type 0} (v : A → List ℕ) (xs : List A) (i : ℕ) (d : A) → i < length xs
+          → map v xs ≡ map v (take i xs) ++ (v (get_or xs i d) ∷ map v (drop (suc i) xs))
       split_at v [] i d l = absurd (omega arith)
       split_at v (x ∷ xs) zero d l = refl
       split_at v (x ∷ xs) (suc i) d l = ap (λ t. v x ∷ t) (split_at v xs i d (omega (arith, l)))
 
       -- some lines were put, and the next one in part
-      pub all_early : {A : Type 0} (v : A → List ℕ) (xs : List A) (i : ℕ) (d : A) (texts : List (List ℕ)) (a : Bool) {old mid new : W} → i < length xs → map v xs ≡ texts → Puts g (λ out. PrintsAll shows (map v (take i xs)) out a) old mid → Puts g (StartsLine begins (v (get_or xs i d))) mid new → Puts g (StartsAll shows begins texts) old new
+      pub all_early : {A : Type 0} (v : A → List ℕ) (xs : List A) (i : ℕ) (d : A) (texts : List (List ℕ)) (a : Bool) {old mid new : W} → i < length xs
+          → map v xs ≡ texts → Puts g (λ out. PrintsAll shows (map v (take i xs)) out a) old mid → Puts g (StartsLine begins (v (get_or xs i d))) mid new
+          → Puts g (StartsAll shows begins texts) old new
       all_early v xs i d texts a within e p q = record {
         out = p.out ++ q.out;
         appended = Appends-trans _ _ _ p.out q.out p.appended q.appended;

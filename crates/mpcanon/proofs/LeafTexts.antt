@@ -41,12 +41,14 @@ pub held : {A : Type 0} {o : Option A} (a : A) (P : A → Type 0) → Some a ≡
 held a P e h = subst (λ o. IfSome o P) (sym e) h
 
 -- a text was put after a text
-pub then_more : {A F : Type 0} (r : Result A F) (old new : List ℕ) {mid t : List ℕ} (a b : List ℕ) → t ≡ a ++ b → mid ≡ old ++ a → OnOk r (new ≡ mid ++ b) → OnOk r (new ≡ old ++ t)
+pub then_more : {A F : Type 0} (r : Result A F) (old new : List ℕ) {mid t : List ℕ} (a b : List ℕ) → t ≡ a ++ b → mid ≡ old ++ a → OnOk r (new ≡ mid ++ b)
+    → OnOk r (new ≡ old ++ t)
 then_more (Ok x) old new a b e f g = g ∙ ap (λ s. s ++ b) f ∙ append_assoc old a b ∙ ap (λ s. old ++ s) (sym e)
 then_more (Err x) old new a b e f g = tt
 
 -- a message that is nothing else is nil
-pub nothing_else : (m : Msg) → kind_of m ≢ ListKind → kind_of m ≢ MapKind → truth_of m ≡ None → whole_of m ≡ None → float32_of m ≡ None → float64_of m ≡ None → text_of m ≡ None → bytes_of m ≡ None → extension_of m ≡ None → tree_text m ≡ codes "nil"
+pub nothing_else : (m : Msg) → kind_of m ≢ ListKind → kind_of m ≢ MapKind → truth_of m ≡ None → whole_of m ≡ None → float32_of m ≡ None
+    → float64_of m ≡ None → text_of m ≡ None → bytes_of m ≡ None → extension_of m ≡ None → tree_text m ≡ codes "nil"
 unfolding tree_text
 nothing_else nil l p t z n w s b x = refl
 nothing_else (truth c) l p t z n w s b x = absurd (none-some c (sym t))

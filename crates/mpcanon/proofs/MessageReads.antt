@@ -48,7 +48,8 @@ pub record TellsRest (h : Ghosts ReadRefReader) : Type 0 where
 abbrev pub slice_source : Ghosts ReadRefReader
 slice_source = record { ahead = λ r. Some (rest_of r); faults = λ r. 0; place = place_of }
 
-module _ {C : Type 0} (h : Ghosts ReadRefReader) (tells : TellsRest h) (old new : Deserializer ReadRefReader C) (kept : old.kept ≡ Nothing) (room : old.room ≡ 1024) (lenient : old.strict ≡ false) where
+module _ {C : Type 0} (h : Ghosts ReadRefReader) (tells : TellsRest h) (old new : Deserializer ReadRefReader C) (kept : old.kept ≡ Nothing)
+    (room : old.room ≡ 1024) (lenient : old.strict ≡ false) where
   ahead_is : (d : Deserializer ReadRefReader C) → d.kept ≡ Nothing → left h d ≡ Some (rest_of d.reader)
   ahead_is d k = bare h d k ∙ tells.ahead d.reader
 
@@ -57,34 +58,51 @@ module _ {C : Type 0} (h : Ghosts ReadRefReader) (tells : TellsRest h) (old new 
   taken b k p = subst (λ o. Consumes (Some (rest_of old.reader)) o b) (ahead_is new k) (subst (λ o. Consumes o (left h new) b) (ahead_is old kept) p)
 
   pub message_shorter : (v : Msg) → new.kept ≡ Nothing → Reads h reads_value old new v → length (rest_of new.reader) < length (rest_of old.reader)
-  message_shorter v k r = shorter r.tree r.bytes (rest_of old.reader) (rest_of new.reader) (spells_any old.strict r.tree r.bytes r.spelled) (taken r.bytes k r.takes)
+  message_shorter v k r = shorter r.tree r.bytes (rest_of old.reader) (rest_of new.reader) (spells_any old.strict r.tree r.bytes r.spelled)
+      (taken r.bytes k r.takes)
 
   -- a message was read, and its line printed
-  pub message_read : {W : Type 0} (g : Sinks W) (bytes : List ℕ) (v : Msg) {start mid last : W} → new.kept ≡ Nothing → Reads h reads_value old new v → SoFar g bytes (rest_of old.reader) start mid → Appends (g.told mid) (g.told last) (line (message_text v)) → SoFar g bytes (rest_of new.reader) start last
+  pub message_read : {W : Type 0} (g : Sinks W) (bytes : List ℕ) (v : Msg) {start mid last : W} → new.kept ≡ Nothing → Reads h reads_value old new v
+      → SoFar g bytes (rest_of old.reader) start mid → Appends (g.told mid) (g.told last) (line (message_text v))
+      → SoFar g bytes (rest_of new.reader) start last
   message_read g bytes v {last = last} k r p a =
       let nested : depth r.tree < 1024 = subst (λ n. depth r.tree < max 1 n) room r.fits in
-      message_more g bytes r.bytes r.tree p (taken r.bytes k r.takes) (spells_any old.strict r.tree r.bytes r.spelled) (record { nested = nested; utf8 = r.value.1 }) (subst (λ m. Appends _ (g.told last) (line (message_text m))) r.value.0 a)
+      message_more g bytes r.bytes r.tree p (taken r.bytes k r.takes) (spells_any old.strict r.tree r.bytes r.spelled)
+      (record { nested = nested; utf8 = r.value.1 }) (subst (λ m. Appends _ (g.told last) (line (message_text m))) r.value.0 a)
 
   -- a message was read, and its line put in part
-  pub message_put : {W : Type 0} (g : Sinks W) (bytes : List ℕ) (v : Msg) {start mid last : W} → new.kept ≡ Nothing → Reads h reads_value old new v → SoFar g bytes (rest_of old.reader) start mid → Puts g (IsStart (line (message_text v))) mid last → Puts g (StartsMessages bytes) start last
+  pub message_put : {W : Type 0} (g : Sinks W) (bytes : List ℕ) (v : Msg) {start mid last : W} → new.kept ≡ Nothing → Reads h reads_value old new v
+      → SoFar g bytes (rest_of old.reader) start mid → Puts g (IsStart (line (message_text v))) mid last → Puts g (StartsMessages bytes) start last
   message_put g bytes v {mid = mid} {last = last} k r p q =
       let nested : depth r.tree < 1024 = subst (λ n. depth r.tree < max 1 n) room r.fits in
-      message_early g bytes (rest_of old.reader) (rest_of new.reader) r.bytes r.tree p (taken r.bytes k r.takes) (spells_any old.strict r.tree r.bytes r.spelled) (record { nested = nested; utf8 = r.value.1 })
+      message_early g bytes (rest_of old.reader) (rest_of new.reader) r.bytes r.tree p (taken r.bytes k r.takes)
+      (spells_any old.strict r.tree r.bytes r.spelled) (record { nested = nested; utf8 = r.value.1 })
       (subst (λ m. Puts g (IsStart (line (message_text m))) mid last) r.value.0 q)
 
   -- none was there
-  pub none_begins : (e : Error) → e ≢ OutOfMemory → Explains e (faults_of h old) (faults_of h new) (Refuses (SpellsAs old.strict) (Readable reads_value) (room_of old) (left h old)) → NoneBegins (rest_of old.reader)
+  pub none_begins : (e : Error) → e ≢ OutOfMemory → Explains e (faults_of h old) (faults_of h new)
+      (Refuses (SpellsAs old.strict) (Readable reads_value) (room_of old) (left h old)) → NoneBegins (rest_of old.reader)
   unfolding Refuses
   none_begins e n x b rest m is s acc =
-      let told = subst (λ o. IfSome o (λ xs. Begins (SpellsAs old.strict) (Readable reads_value) (room_of old) xs → ⊥)) (ahead_is old kept) (x n (tells.sound new.reader old.reader)) in
+      let told = subst (λ o. IfSome o (λ xs. Begins (SpellsAs old.strict) (Readable reads_value) (room_of old) xs → ⊥)) (ahead_is old kept)
+      (x n (tells.sound new.reader old.reader)) in
       let refuses = subst (λ w. Begins (SpellsAs w) (Readable reads_value) (room_of old) (rest_of old.reader) → ⊥) lenient told in
-      refuses (record { bytes = b; rest = rest; tree = m; front = is; spelled = s; fits = subst (λ n. depth m < max 1 n) (sym room) acc.nested; holds = (m, (refl, acc.utf8)) })
+      refuses (record {
+        bytes = b;
+        rest = rest;
+        tree = m;
+        front = is;
+        spelled = s;
+        fits = subst (λ n. depth m < max 1 n) (sym room) acc.nested;
+        holds = (m, (refl, acc.utf8));
+      })
 
   -- and the error names what is wrong
   pub names_wrong : (e : Error) → RefusesValue h old new e → old.failed ≡ false → Refusal false (UnreadFor false) ItemsUtf8 1024 e (rest_of old.reader)
   unfolding RefusedFor
   names_wrong e x ready =
-      let told = subst (λ o. RefusedFor old.strict (UnreadFor old.strict) ItemsUtf8 (room_of old) e o) (ahead_is old kept) (x ready (tells.sound new.reader old.reader)) in
+      let told = subst (λ o. RefusedFor old.strict (UnreadFor old.strict) ItemsUtf8 (room_of old) e o) (ahead_is old kept)
+      (x ready (tells.sound new.reader old.reader)) in
       let refused = subst (λ w. Refusal w (UnreadFor w) ItemsUtf8 (room_of old) e (rest_of old.reader)) lenient told in
       subst (λ n. Refusal false (UnreadFor false) ItemsUtf8 (max 1 n) e (rest_of old.reader)) room refused
 
@@ -92,7 +110,10 @@ module _ {C : Type 0} (h : Ghosts ReadRefReader) (tells : TellsRest h) (old new 
 pub prints_failed : {A B W : Type 0} (g : Sinks W) {old new : W} {e : RunFault} → PrintsLines {A = A} g old new (Err e) → PrintsLines {A = B} g old new (Err e)
 prints_failed g p = record { whole = tt; stops = p.stops; place = p.place }
 
-pub message_refused : {W : Type 0} (g : Sinks W) (bytes rest : List ℕ) (place : ℕ) (e : Error) (r : Result Bool RunFault) {old mid : W} (new : W) → SoFar g bytes rest old mid → place ≡ length bytes - length rest → 0 < length rest → (e ≢ OutOfMemory → NoneBegins rest) → Refusal false (UnreadFor false) ItemsUtf8 1024 e rest → OnOk r (e ≢ OutOfMemory) → IfOk r (λ a. a ≡ false)
+pub message_refused : {W : Type 0} (g : Sinks W) (bytes rest : List ℕ) (place : ℕ) (e : Error) (r : Result Bool RunFault) {old mid : W} (new : W)
+    → SoFar g bytes rest old mid → place ≡ length bytes - length rest → 0 < length rest → (e ≢ OutOfMemory → NoneBegins rest)
+    → Refusal false (UnreadFor false) ItemsUtf8 1024 e rest → OnOk r (e ≢ OutOfMemory) → IfOk r (λ a. a ≡ false)
     → OnOk r (Appends (g.told mid) (g.told new) (line (refused_text place e))) → IfOk r (λ a. Puts g (λ out. PrintsMessages bytes out a) old new)
-message_refused g bytes rest place e (Ok a) {old} new p at more none wrong n f appended = subst (λ x. Puts g (λ out. PrintsMessages bytes out x) old new) (sym f) (then_refused g bytes rest place e p at more n (none n) wrong appended)
+message_refused g bytes rest place e (Ok a) {old} new p at more none wrong n f appended = subst (λ x. Puts g (λ out. PrintsMessages bytes out x) old new)
+    (sym f) (then_refused g bytes rest place e p at more n (none n) wrong appended)
 message_refused g bytes rest place e (Err x) new p at more none wrong n f appended = tt

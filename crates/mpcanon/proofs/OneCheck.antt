@@ -1,5 +1,30 @@
 -- The bytes of a line determine what the checker prints, and its answer.
-use Rattle.std.proofs.Common.{arith, ◌≡◌, ◌≢◌, ◌∙◌, ℕ, suc, ◌+◌, ◌<◌, inl, inr, Bool, true, false, List, [], ◌∷◌, ◌++◌, length, refl, sym, ap, subst, All, append_assoc}
+use Rattle.std.proofs.Common.{
+  arith,
+  ◌≡◌,
+  ◌≢◌,
+  ◌∙◌,
+  ℕ,
+  suc,
+  ◌+◌,
+  ◌<◌,
+  inl,
+  inr,
+  Bool,
+  true,
+  false,
+  List,
+  [],
+  ◌∷◌,
+  ◌++◌,
+  length,
+  refl,
+  sym,
+  ap,
+  subst,
+  All,
+  append_assoc,
+}
 use Rattle.std.specs.Prelude.{codes, flat_map}
 use Rattle.std.specs.Fmt.{decimal}
 use Rattle.std.proofs.lemmas.List.{length-append}
@@ -75,14 +100,19 @@ ends_none false place rest out (inr p) = λ n w. whole_or_stopped rest n p.error
 whole_of : (m : Msg) (rest input : List ℕ) → Fits m → input ≡ canon m ++ rest → IsWhole input (length (canon m))
 whole_of m rest input f e = record { tree = m; rest = rest; fits = f; front = e; long = refl }
 
-split_once : (ms ns : List Msg) (x y : List ℕ) → All Fits ms → All Fits ns → flat_map canon ms ++ x ≡ flat_map canon ns ++ y → NoneWhole x → NoneWhole y → (ms ≡ ns) × (x ≡ y)
+split_once : (ms ns : List Msg) (x y : List ℕ) → All Fits ms → All Fits ns → flat_map canon ms ++ x ≡ flat_map canon ns ++ y → NoneWhole x → NoneWhole y
+    → (ms ≡ ns) × (x ≡ y)
 unfolding NoneWhole
 split_once [] [] x y f g e n o = (refl, e)
-split_once [] (k ∷ ks) x y f g e n o = absurd (n (length (canon k)) (whole_of k (flat_map canon ks ++ y) x (g 0 k (omega arith)) (e ∙ append_assoc (canon k) (flat_map canon ks) y)))
-split_once (m ∷ ms) [] x y f g e n o = absurd (o (length (canon m)) (whole_of m (flat_map canon ms ++ x) y (f 0 m (omega arith)) (sym e ∙ append_assoc (canon m) (flat_map canon ms) x)))
+split_once [] (k ∷ ks) x y f g e n o = absurd (n (length (canon k))
+    (whole_of k (flat_map canon ks ++ y) x (g 0 k (omega arith)) (e ∙ append_assoc (canon k) (flat_map canon ks) y)))
+split_once (m ∷ ms) [] x y f g e n o = absurd (o (length (canon m))
+    (whole_of m (flat_map canon ms ++ x) y (f 0 m (omega arith)) (sym e ∙ append_assoc (canon m) (flat_map canon ms) x)))
 split_once (m ∷ ms) (k ∷ ks) x y f g e n o =
-    let split : canon m ++ (flat_map canon ms ++ x) ≡ canon k ++ (flat_map canon ks ++ y) = sym (append_assoc (canon m) (flat_map canon ms) x) ∙ e ∙ append_assoc (canon k) (flat_map canon ks) y in
-    let u = spelled_once m k (canon m) (canon k) (flat_map canon ms ++ x) (flat_map canon ks ++ y) (canon_spells m (f 0 m (omega arith))) (canon_spells k (g 0 k (omega arith))) split in
+    let split : canon m ++ (flat_map canon ms ++ x) ≡ canon k ++ (flat_map canon ks ++ y) = sym (append_assoc (canon m) (flat_map canon ms) x) ∙ e
+    ∙ append_assoc (canon k) (flat_map canon ks) y in
+    let u = spelled_once m k (canon m) (canon k) (flat_map canon ms ++ x) (flat_map canon ks ++ y) (canon_spells m (f 0 m (omega arith)))
+    (canon_spells k (g 0 k (omega arith))) split in
     let v = split_once ms ks x y (λ i d lt. f (suc i) d (omega (arith, lt))) (λ i d lt. g (suc i) d (omega (arith, lt))) u.2 n o in
     (ap (λ z. z ∷ ms) u.1 ∙ ap (λ z. k ∷ z) v.0, v.1)
 
@@ -94,19 +124,25 @@ ends_once true false place rest out other p (inl q) = absurd (omega (arith, faul
 ends_once true false place rest out other p (inr q) = absurd (omega (arith, q.some, ap length p.0))
 ends_once false true place rest out other (inl p) q = absurd (omega (arith, fault_some rest p.at p.fault, ap length q.0))
 ends_once false true place rest out other (inr p) q = absurd (omega (arith, p.some, ap length q.0))
-ends_once false false place rest out other (inl p) (inl q) = (p.shown ∙ ap (λ at. line (fault_text (place + at))) (one_place rest p.at q.at p.fault q.fault) ∙ sym q.shown, refl)
+ends_once false false place rest out other (inl p)
+    (inl q) = (p.shown ∙ ap (λ at. line (fault_text (place + at))) (one_place rest p.at q.at p.fault q.fault) ∙ sym q.shown, refl)
 ends_once false false place rest out other (inl p) (inr q) = absurd (fault_or_stop rest p.at q.error p.fault q.wrong)
 ends_once false false place rest out other (inr p) (inl q) = absurd (fault_or_stop rest q.at p.error q.fault p.wrong)
-ends_once false false place rest out other (inr p) (inr q) =
-    (p.shown ∙ ap (λ name. line (codes "refused at " ++ decimal place ++ codes ": " ++ name)) (one_reason rest p.error q.error p.no_memory q.no_memory p.wrong q.wrong) ∙ sym q.shown, refl)
+ends_once false false place rest out other (inr p) (inr q) = (
+  p.shown ∙ ap (λ name. line (codes "refused at " ++ decimal place ++ codes ": " ++ name))
+      (one_reason rest p.error q.error p.no_memory q.no_memory p.wrong q.wrong) ∙ sym q.shown,
+  refl,
+)
 
 pub checks_once : Once PrintsChecks
 checks_once bytes out other a b p q =
     let both : flat_map canon p.messages ++ p.rest ≡ flat_map canon q.messages ++ q.rest =
     ap (λ s. s ++ p.rest) (sym p.holds.spelled) ∙ sym p.holds.split ∙ q.holds.split ∙ ap (λ s. s ++ q.rest) q.holds.spelled in
-    let s = split_once p.messages q.messages p.rest q.rest p.holds.fit q.holds.fit both (ends_none a (length p.front) p.rest p.last p.ends) (ends_none b (length q.front) q.rest q.last q.ends) in
+    let s = split_once p.messages q.messages p.rest q.rest p.holds.fit q.holds.fit both (ends_none a (length p.front) p.rest p.last p.ends)
+    (ends_none b (length q.front) q.rest q.last q.ends) in
     let front : p.front ≡ q.front = p.holds.spelled ∙ ap (flat_map canon) s.0 ∙ sym q.holds.spelled in
-    let ends : EndsCheck b (length p.front) p.rest q.last = subst (λ f. EndsCheck b (length f) p.rest q.last) (sym front) (subst (λ r. EndsCheck b (length q.front) r q.last) (sym s.1) q.ends) in
+    let ends : EndsCheck b (length p.front) p.rest q.last = subst (λ f. EndsCheck b (length f) p.rest q.last) (sym front)
+    (subst (λ r. EndsCheck b (length q.front) r q.last) (sym s.1) q.ends) in
     let u = ends_once a b (length p.front) p.rest p.last q.last p.ends ends in
     let lines : List Msg → List ℕ = flat_map (λ m. line (canonical_text (length (canon m)))) in
     (p.printed ∙ ap (λ ms. lines ms ++ p.last) s.0 ∙ ap (λ l. lines q.messages ++ l) u.0 ∙ sym q.printed, u.1)

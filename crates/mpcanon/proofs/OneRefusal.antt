@@ -1,5 +1,33 @@
 -- The bytes that are refused determine the error's name.
-use Rattle.std.proofs.Common.{arith, ◌≡◌, ◌≢◌, ◌∙◌, ℕ, suc, ◌*◌, ◌<◌, ◌≤◌, inl, inr, Bool, true, false, cond, nat_lt, List, [], ◌∷◌, ◌++◌, length, get_or, refl, sym, ap, subst, append_assoc}
+use Rattle.std.proofs.Common.{
+  arith,
+  ◌≡◌,
+  ◌≢◌,
+  ◌∙◌,
+  ℕ,
+  suc,
+  ◌*◌,
+  ◌<◌,
+  ◌≤◌,
+  inl,
+  inr,
+  Bool,
+  true,
+  false,
+  cond,
+  nat_lt,
+  List,
+  [],
+  ◌∷◌,
+  ◌++◌,
+  length,
+  get_or,
+  refl,
+  sym,
+  ap,
+  subst,
+  append_assoc,
+}
 use Rattle.std.specs.Prelude.{codes}
 use Rattle.std.proofs.lemmas.Bool.{cases_eq, cases_lt, lt-ltb, le-ltb}
 use Rattle.std.proofs.lemmas.List.{length-append}
@@ -7,7 +35,25 @@ use Rattle.rmp_wire.specs.declared.head.Head.{Head}
 use Rattle.rmp_wire.specs.declared.head.Head.TheVariants as head
 use Rattle.rmp_wire.specs.declared.marker.Marker.{Marker}
 use Rattle.rmp_wire.specs.Heads.{IsHead}
-use Rattle.rmp_wire.specs.Msg.{Msg, text, bin, list, map, extension, Msgs, no_items, item, Pairs, no_pairs, pair, count, count_pairs, depth, depth_all, depth_pairs}
+use Rattle.rmp_wire.specs.Msg.{
+  Msg,
+  text,
+  bin,
+  list,
+  map,
+  extension,
+  Msgs,
+  no_items,
+  item,
+  Pairs,
+  no_pairs,
+  pair,
+  count,
+  count_pairs,
+  depth,
+  depth_all,
+  depth_pairs,
+}
 use Rattle.rmp_wire.specs.Canonical.{heads_of, SpellsAs}
 use Rattle.rmp_wire.specs.Spelling.{PairsSpelledBy, head_of}
 use Rattle.rmp_wire.specs.Taking.{marker_of, byte_of}
@@ -108,11 +154,20 @@ utf8-in_turn (pair k v ps) u = (u.0, (u.1, utf8-in_turn ps u.2))
 module _ (strict : Bool) where
   -- a head that stands at the front is one of some width
   wide : (m : Marker) (h : Head) (xs : List ℕ) → Stands strict m h xs → Stands false m h xs
-  wide m h xs s = record { byte = s.byte; behind = s.behind; rest = s.rest; front = s.front; is_marker = s.is_marker; is_head = any_width strict h (s.byte ∷ s.behind) s.is_head }
+  wide m h xs s = record {
+    byte = s.byte;
+    behind = s.behind;
+    rest = s.rest;
+    front = s.front;
+    is_marker = s.is_marker;
+    is_head = any_width strict h
+        (s.byte ∷ s.behind) s.is_head;
+  }
 
   -- one head at most stands there
   one_head : {m n : Marker} {h k : Head} {xs : List ℕ} (s : Stands strict m h xs) (t : Stands strict n k xs) → (h ≡ k) × (s.rest ≡ t.rest)
-  one_head {m} {n} {h} {k} s t = let u = heads_apart_as strict h k (s.byte ∷ s.behind) (t.byte ∷ t.behind) s.rest t.rest s.is_head t.is_head (sym s.front ∙ t.front) in (u.0, u.2)
+  one_head {m} {n} {h} {k} s t = let u = heads_apart_as strict h k (s.byte ∷ s.behind) (t.byte ∷ t.behind) s.rest t.rest s.is_head t.is_head
+      (sym s.front ∙ t.front) in (u.0, u.2)
 
   record NamedHead (xs name : List ℕ) : Type 0 where
     pub head : Head
@@ -140,7 +195,13 @@ module _ (strict : Bool) where
       p.is ∙ ap (λ h. head_name h (length p.stands.rest)) u.0 ∙ ap (λ s. head_name q.head (length s)) u.1 ∙ sym q.is
 
   parts_named : (xs : List ℕ) → OpensParts strict xs → Named xs (codes "DepthLimitExceeded")
-  parts_named xs p = headed (record { head = parts_head p.is_map p.len; marker = p.marker; stands = p.stands; is = sym (parts_name p.is_map p.len (length p.stands.rest)) })
+  parts_named xs p = headed (record {
+    head = parts_head p.is_map p.len;
+    marker = p.marker;
+    stands = p.stands;
+    is = sym
+        (parts_name p.is_map p.len (length p.stands.rest));
+  })
 
   text_behind : (xs : List ℕ) (t : TextIsInvalid strict xs) → nat_lt (length t.stands.stands.rest) (length t.text) ≡ false
   text_behind xs t =
@@ -149,28 +210,37 @@ module _ (strict : Bool) where
 
   named : (room : ℕ) (e : Error) (xs : List ℕ) → e ≢ errors.OutOfMemory → UnreadFor strict room e xs → Named xs (error_name e)
   named room (errors.InvalidMarkerRead x) xs n w = subst (λ s. Named s (codes "InvalidMarkerRead")) (sym w.1) (front (none_stands false) refl)
-  named room (errors.InvalidDataRead x) xs n (d, inl c) = front c.none (subst (λ s. NamedFront s (codes "InvalidDataRead")) (sym c.front) (λ q. absurd (c.opens q), λ q. refl))
-  named room (errors.InvalidDataRead x) xs n (d, inr (h, s)) = headed (record { head = h; marker = s.marker; stands = s.stands; is = sym (cut_name h (length s.stands.rest) s.short) })
-  named room (errors.TypeMismatch m) xs n (q, r) = front (λ k h s. reserved_none false k h xs r s) (subst (λ s. NamedFront s (codes "TypeMismatch")) (sym r.front) (λ q. refl, λ q. absurd (q refl)))
+  named room (errors.InvalidDataRead x) xs n (d, inl c) = front c.none
+      (subst (λ s. NamedFront s (codes "InvalidDataRead")) (sym c.front) (λ q. absurd (c.opens q), λ q. refl))
+  named room (errors.InvalidDataRead x) xs n (d, inr (h, s)) = headed
+      (record { head = h; marker = s.marker; stands = s.stands; is = sym (cut_name h (length s.stands.rest) s.short) })
+  named room (errors.TypeMismatch m) xs n (q, r) = front (λ k h s. reserved_none false k h xs r s)
+      (subst (λ s. NamedFront s (codes "TypeMismatch")) (sym r.front) (λ q. refl, λ q. absurd (q refl)))
   named room errors.OutOfRange xs n w = absurd w
   named room (errors.LengthMismatch k) xs n w = absurd w
   named room (errors.Uncategorized k) xs n w = absurd w
   named room (errors.Syntax k) xs n w = absurd w
-  named room (errors.Utf8Error k) xs n w = let e = text_behind xs w in headed (record { head = head.Text (length w.text); marker = w.stands.marker; stands = w.stands.stands; is = rw e refl })
+  named room (errors.Utf8Error k) xs n w = let e = text_behind xs w
+      in headed (record { head = head.Text (length w.text); marker = w.stands.marker; stands = w.stands.stands; is = rw e refl })
   named room errors.DepthLimitExceeded xs n w = parts_named xs w.1
   named room errors.OutOfMemory xs n w = absurd (n refl)
   named room errors.NotCanonical xs n w = width w refl
 
   -- a list or a map at the front is refused there only where there is no room for one
   deep : (room : ℕ) (e : Error) (xs : List ℕ) → e ≢ errors.OutOfMemory → OpensParts strict xs → UnreadFor strict room e xs → room ≡ 1
-  deep room (errors.InvalidMarkerRead x) xs n p w = absurd (other_letter (codes "InvalidMarkerRead") (λ q. omega (arith, q)) (named_once xs _ _ (named room (errors.InvalidMarkerRead x) xs n w) (parts_named xs p)))
-  deep room (errors.InvalidDataRead x) xs n p w = absurd (other_letter (codes "InvalidDataRead") (λ q. omega (arith, q)) (named_once xs _ _ (named room (errors.InvalidDataRead x) xs n w) (parts_named xs p)))
-  deep room (errors.TypeMismatch m) xs n p w = absurd (other_letter (codes "TypeMismatch") (λ q. omega (arith, q)) (named_once xs _ _ (named room (errors.TypeMismatch m) xs n w) (parts_named xs p)))
+  deep room (errors.InvalidMarkerRead x) xs n p w = absurd
+      (other_letter (codes "InvalidMarkerRead") (λ q. omega (arith, q))
+      (named_once xs _ _ (named room (errors.InvalidMarkerRead x) xs n w) (parts_named xs p)))
+  deep room (errors.InvalidDataRead x) xs n p w = absurd
+      (other_letter (codes "InvalidDataRead") (λ q. omega (arith, q)) (named_once xs _ _ (named room (errors.InvalidDataRead x) xs n w) (parts_named xs p)))
+  deep room (errors.TypeMismatch m) xs n p w = absurd
+      (other_letter (codes "TypeMismatch") (λ q. omega (arith, q)) (named_once xs _ _ (named room (errors.TypeMismatch m) xs n w) (parts_named xs p)))
   deep room errors.OutOfRange xs n p w = absurd w
   deep room (errors.LengthMismatch k) xs n p w = absurd w
   deep room (errors.Uncategorized k) xs n p w = absurd w
   deep room (errors.Syntax k) xs n p w = absurd w
-  deep room (errors.Utf8Error x) xs n p w = absurd (other_letter (codes "Utf8Error") (λ q. omega (arith, q)) (named_once xs _ _ (named room (errors.Utf8Error x) xs n w) (parts_named xs p)))
+  deep room (errors.Utf8Error x) xs n p w = absurd (other_letter (codes "Utf8Error") (λ q. omega (arith, q))
+      (named_once xs _ _ (named room (errors.Utf8Error x) xs n w) (parts_named xs p)))
   deep room errors.DepthLimitExceeded xs n p w = w.0
   deep room errors.OutOfMemory xs n p w = absurd (n refl)
   deep room errors.NotCanonical xs n p w = absurd (w.none p.marker (parts_head p.is_map p.len) p.stands)
@@ -178,10 +248,12 @@ module _ (strict : Bool) where
   -- ---- messages that stand whole
 
   -- the text of such a message isn't invalid
-  text_valid : (m : Msg) (b rest xs : List ℕ) (t : TextIsInvalid strict xs) → head_of m ≡ head.Text (length t.text) → SpellsAs strict b m → AllTextsUtf8 m → xs ≡ b ++ rest → ⊥
+  text_valid : (m : Msg) (b rest xs : List ℕ) (t : TextIsInvalid strict xs) → head_of m ≡ head.Text (length t.text) → SpellsAs strict b m → AllTextsUtf8 m
+      → xs ≡ b ++ rest → ⊥
   text_valid (text s) b rest xs t e sp u f =
       let split : sp.first ++ (sp.second ++ rest) ≡ xs = sym (append_assoc sp.first sp.second rest) ∙ ap (λ z. z ++ rest) (sym sp.is_whole) ∙ sym f in
-      let apart = heads_apart_as strict (head.Text (length s)) (head.Text (length t.text)) sp.first (t.stands.stands.byte ∷ t.stands.stands.behind) (sp.second ++ rest) t.stands.stands.rest sp.is_first t.stands.stands.is_head (split ∙ t.stands.stands.front) in
+      let apart = heads_apart_as strict (head.Text (length s)) (head.Text (length t.text)) sp.first (t.stands.stands.byte ∷ t.stands.stands.behind)
+      (sp.second ++ rest) t.stands.stands.rest sp.is_first t.stands.stands.is_head (split ∙ t.stands.stands.front) in
       let long : length s ≡ length t.text = cc in
       let content : s ++ rest ≡ t.text ++ t.stands.behind = ap (λ z. z ++ rest) (sym sp.is_second.0) ∙ apart.2 ∙ t.stands.content in
       t.invalid (subst (λ z. AllTextsUtf8 (text z)) (same_front s t.text rest t.stands.behind long content) u)
@@ -201,13 +273,16 @@ module _ (strict : Bool) where
 
   cut_none : (xs : List ℕ) (h : Head) (t : StandsCut strict h xs) (room : ℕ) → Begins (SpellsAs strict) AllTextsUtf8 room xs → ⊥
   cut_none xs h t room a =
-      let u = same_head strict a.tree h a.bytes (t.stands.byte ∷ t.stands.behind) a.rest t.stands.rest a.spelled t.stands.is_head (sym a.front ∙ t.stands.front) in
+      let u = same_head strict a.tree h a.bytes (t.stands.byte ∷ t.stands.behind) a.rest t.stands.rest a.spelled t.stands.is_head
+      (sym a.front ∙ t.stands.front) in
       omega (arith, t.short, u.1, whole_fills a.tree, ap content_len u.0)
 
   -- the first thing that is wrong isn't at the front, where a message stands whole there
   here_none : (room : ℕ) (e : Error) (xs : List ℕ) → e ≢ errors.OutOfMemory → UnreadFor strict room e xs → Begins (SpellsAs strict) AllTextsUtf8 room xs → ⊥
-  here_none room (errors.InvalidMarkerRead x) xs n w a = let o = opening AllTextsUtf8 room xs a in none_stands strict o.marker (head_of a.tree) (subst (Stands strict o.marker (head_of a.tree)) w.1 o.stands)
-  here_none room (errors.InvalidDataRead x) xs n (d, inl c) a = let o = opening AllTextsUtf8 room xs a in c.none o.marker (head_of a.tree) (wide o.marker (head_of a.tree) xs o.stands)
+  here_none room (errors.InvalidMarkerRead x) xs n w a = let o = opening AllTextsUtf8 room xs a
+      in none_stands strict o.marker (head_of a.tree) (subst (Stands strict o.marker (head_of a.tree)) w.1 o.stands)
+  here_none room (errors.InvalidDataRead x) xs n (d, inl c) a = let o = opening AllTextsUtf8 room xs a
+      in c.none o.marker (head_of a.tree) (wide o.marker (head_of a.tree) xs o.stands)
   here_none room (errors.InvalidDataRead x) xs n (d, inr (h, t)) a = cut_none xs h t room a
   here_none room (errors.TypeMismatch m) xs n w a = let o = opening AllTextsUtf8 room xs a in reserved_none strict o.marker (head_of a.tree) xs w.1 o.stands
   here_none room errors.OutOfRange xs n w a = w
@@ -231,12 +306,21 @@ module _ (strict : Bool) where
     first = s.first;
     second = s.second;
     is_first = s.is_first;
-    is_second = record { first = s.is_second.first; second = s.is_second.second; is_first = s.is_second.is_first; is_second = turned ps s.is_second.second s.is_second.is_second; is_whole = s.is_second.is_whole };
+    is_second = record {
+      first = s.is_second.first;
+      second = s.is_second.second;
+      is_first = s.is_second.is_first;
+      is_second = turned ps s.is_second.second
+          s.is_second.is_second;
+      is_whole = s.is_second.is_whole;
+    };
     is_whole = s.is_whole;
   }
 
   -- the parts of a list or a map that stands whole
-  parts_of : (is_map : Bool) (m : Msg) (n room : ℕ) (a x y : List ℕ) → SpellsAs strict a m → head_of m ≡ parts_head is_map n → depth m < suc room → AllTextsUtf8 m → ((d c : List ℕ) → a ≡ d ++ c → heads_of strict (head_of m) d → c ++ x ≡ y) → BeginsRow (SpellsAs strict) ItemsUtf8 room (parts_count is_map n) y
+  parts_of : (is_map : Bool) (m : Msg) (n room : ℕ) (a x y : List ℕ) → SpellsAs strict a m → head_of m ≡ parts_head is_map n → depth m < suc room
+      → AllTextsUtf8 m → ((d c : List ℕ) → a ≡ d ++ c → heads_of strict (head_of m) d → c ++ x ≡ y)
+      → BeginsRow (SpellsAs strict) ItemsUtf8 room (parts_count is_map n) y
   parts_of true (map ps) n room a x y s e d u f =
       let same : count_pairs ps ≡ n = cc in
       record {
@@ -252,17 +336,30 @@ module _ (strict : Bool) where
   parts_of true m n room a x y s e d u f = absurd (cc)
   parts_of false (list ms) n room a x y s e d u f =
       let same : count ms ≡ n = cc in
-      record { bytes = s.second; rest = x; trees = ms; front = sym (f s.first s.second s.is_whole s.is_first); spelled = listed strict ms s.second s.is_second; many = same; fits = omega (arith, d); holds = u }
+      record {
+        bytes = s.second;
+        rest = x;
+        trees = ms;
+        front = sym (f s.first s.second s.is_whole s.is_first);
+        spelled = listed strict ms s.second
+            s.is_second;
+        many = same;
+        fits = omega (arith, d);
+        holds = u;
+      }
   parts_of false m n room a x y s e d u f = absurd (cc)
 
   -- what stands behind the first messages of two rows
-  row_behind : (m t : Msg) (ms ts : Msgs) (a b x y : List ℕ) (p : SpellsRow (SpellsAs strict) a (item m ms)) (q : SpellsRow (SpellsAs strict) b (item t ts)) → a ++ x ≡ b ++ y → p.second ++ x ≡ q.second ++ y
+  row_behind : (m t : Msg) (ms ts : Msgs) (a b x y : List ℕ) (p : SpellsRow (SpellsAs strict) a (item m ms)) (q : SpellsRow (SpellsAs strict) b (item t ts))
+      → a ++ x ≡ b ++ y → p.second ++ x ≡ q.second ++ y
   row_behind m t ms ts a b x y p q e =
-      let split : p.first ++ (p.second ++ x) ≡ q.first ++ (q.second ++ y) = sym (append_assoc p.first p.second x) ∙ ap (λ z. z ++ x) (sym p.is_whole) ∙ e ∙ ap (λ z. z ++ y) q.is_whole ∙ append_assoc q.first q.second y in
+      let split : p.first ++ (p.second ++ x) ≡ q.first ++ (q.second ++ y) = sym (append_assoc p.first p.second x) ∙ ap (λ z. z ++ x) (sym p.is_whole) ∙ e
+      ∙ ap (λ z. z ++ y) q.is_whole ∙ append_assoc q.first q.second y in
       (spelled_once_as strict m t p.first q.first (p.second ++ x) (q.second ++ y) p.is_first q.is_first split).2
 
   -- the next message behind a beginning of a row
-  next_in : (room : ℕ) (ms ts : Msgs) (a b x y : List ℕ) → SpellsRow (SpellsAs strict) a ms → SpellsRow (SpellsAs strict) b ts → a ++ x ≡ b ++ y → count ms < count ts → depth_all ts < room → ItemsUtf8 ts → Begins (SpellsAs strict) AllTextsUtf8 room x
+  next_in : (room : ℕ) (ms ts : Msgs) (a b x y : List ℕ) → SpellsRow (SpellsAs strict) a ms → SpellsRow (SpellsAs strict) b ts → a ++ x ≡ b ++ y
+      → count ms < count ts → depth_all ts < room → ItemsUtf8 ts → Begins (SpellsAs strict) AllTextsUtf8 room x
   next_in room no_items no_items a b x y p q e l d u = absurd (omega arith)
   next_in room no_items (item t ts) a b x y p q e l d u = record {
     bytes = q.first;
@@ -274,38 +371,47 @@ module _ (strict : Bool) where
     holds = u.0;
   }
   next_in room (item m ms) no_items a b x y p q e l d u = absurd (omega arith)
-  next_in room (item m ms) (item t ts) a b x y p q e l d u = next_in room ms ts p.second q.second x y p.is_second q.is_second (row_behind m t ms ts a b x y p q e) (omega (arith, l)) (omega (arith, d)) u.1
+  next_in room (item m ms) (item t ts) a b x y p q e l d u = next_in room ms ts p.second q.second x y p.is_second q.is_second
+      (row_behind m t ms ts a b x y p q e) (omega (arith, l)) (omega (arith, d)) u.1
 
   -- as many messages take the same bytes
-  row_once : (ms ts : Msgs) (a b x y : List ℕ) → SpellsRow (SpellsAs strict) a ms → SpellsRow (SpellsAs strict) b ts → a ++ x ≡ b ++ y → count ms ≡ count ts → x ≡ y
+  row_once : (ms ts : Msgs) (a b x y : List ℕ) → SpellsRow (SpellsAs strict) a ms → SpellsRow (SpellsAs strict) b ts → a ++ x ≡ b ++ y → count ms ≡ count ts
+      → x ≡ y
   row_once no_items no_items a b x y p q e l = ap (λ z. z ++ x) (sym p) ∙ e ∙ ap (λ z. z ++ y) q
   row_once no_items (item t ts) a b x y p q e l = absurd (omega arith)
   row_once (item m ms) no_items a b x y p q e l = absurd (omega arith)
-  row_once (item m ms) (item t ts) a b x y p q e l = row_once ms ts p.second q.second x y p.is_second q.is_second (row_behind m t ms ts a b x y p q e) (omega (arith, l))
+  row_once (item m ms) (item t ts) a b x y p q e l = row_once ms ts p.second q.second x y p.is_second q.is_second (row_behind m t ms ts a b x y p q e)
+      (omega (arith, l))
 
   -- ---- the refusal
 
   -- where a message stands whole, nothing is wrong
-  refused_none : (room : ℕ) (e : Error) (xs : List ℕ) → e ≢ errors.OutOfMemory → Refusal strict (UnreadFor strict) ItemsUtf8 room e xs → Begins (SpellsAs strict) AllTextsUtf8 room xs → ⊥
+  refused_none : (room : ℕ) (e : Error) (xs : List ℕ) → e ≢ errors.OutOfMemory → Refusal strict (UnreadFor strict) ItemsUtf8 room e xs
+      → Begins (SpellsAs strict) AllTextsUtf8 room xs → ⊥
   refused_none room e xs n (here w) a = here_none room e xs n w a
   refused_none (suc room) e xs n (inside p r) a =
       let o = opening AllTextsUtf8 (suc room) xs a in
       let parts = one_head o.stands p.parts.stands in
       let row : BeginsRow (SpellsAs strict) ItemsUtf8 room (parts_count p.parts.is_map p.parts.len) p.parts.stands.rest =
       parts_of p.parts.is_map a.tree p.parts.len room a.bytes a.rest p.parts.stands.rest a.spelled parts.0 a.fits a.holds
-      (λ d c q j. (heads_apart_as strict (head_of a.tree) (parts_head p.parts.is_map p.parts.len) d (p.parts.stands.byte ∷ p.parts.stands.behind) (c ++ a.rest) p.parts.stands.rest j p.parts.stands.is_head
+      (λ d c q j. (heads_apart_as strict (head_of a.tree) (parts_head p.parts.is_map p.parts.len) d (p.parts.stands.byte ∷ p.parts.stands.behind)
+      (c ++ a.rest) p.parts.stands.rest j p.parts.stands.is_head
       (sym (append_assoc d c a.rest) ∙ ap (λ z. z ++ a.rest) (sym q) ∙ sym a.front ∙ p.parts.stands.front)).2) in
       let fewer : count p.before.trees < count row.trees = omega (arith, p.before.many, row.many, p.fewer) in
-      refused_none room e p.before.rest n r (next_in room p.before.trees row.trees p.before.bytes row.bytes p.before.rest row.rest p.before.spelled row.spelled (sym p.before.front ∙ row.front) fewer row.fits row.holds)
+      refused_none room e p.before.rest n r (next_in room p.before.trees row.trees p.before.bytes row.bytes p.before.rest row.rest p.before.spelled
+      row.spelled (sym p.before.front ∙ row.front) fewer row.fits row.holds)
 
   -- behind fewer messages that stand whole nothing is wrong
-  sooner : (room : ℕ) (e : Error) (xs ys : List ℕ) (many later : ℕ) → e ≢ errors.OutOfMemory → (p : BeginsRow (SpellsAs strict) ItemsUtf8 room many xs) → BeginsRow (SpellsAs strict) ItemsUtf8 room later ys → xs ≡ ys → many < later → Refusal strict (UnreadFor strict) ItemsUtf8 room e p.rest → ⊥
+  sooner : (room : ℕ) (e : Error) (xs ys : List ℕ) (many later : ℕ) → e ≢ errors.OutOfMemory → (p : BeginsRow (SpellsAs strict) ItemsUtf8 room many xs)
+      → BeginsRow (SpellsAs strict) ItemsUtf8 room later ys → xs ≡ ys → many < later → Refusal strict (UnreadFor strict) ItemsUtf8 room e p.rest → ⊥
   sooner room e xs ys many later n p q same l r =
       let fewer : count p.trees < count q.trees = omega (arith, p.many, q.many, l) in
-      refused_none room e p.rest n r (next_in room p.trees q.trees p.bytes q.bytes p.rest q.rest p.spelled q.spelled (sym p.front ∙ same ∙ q.front) fewer q.fits q.holds)
+      refused_none room e p.rest n r (next_in room p.trees q.trees p.bytes q.bytes p.rest q.rest p.spelled q.spelled (sym p.front ∙ same ∙ q.front) fewer
+      q.fits q.holds)
 
   -- The bytes determine the name.
-  pub one_name : (room : ℕ) (e f : Error) (xs : List ℕ) → e ≢ errors.OutOfMemory → f ≢ errors.OutOfMemory → Refusal strict (UnreadFor strict) ItemsUtf8 room e xs → Refusal strict (UnreadFor strict) ItemsUtf8 room f xs → error_name e ≡ error_name f
+  pub one_name : (room : ℕ) (e f : Error) (xs : List ℕ) → e ≢ errors.OutOfMemory → f ≢ errors.OutOfMemory
+      → Refusal strict (UnreadFor strict) ItemsUtf8 room e xs → Refusal strict (UnreadFor strict) ItemsUtf8 room f xs → error_name e ≡ error_name f
   one_name room e f xs n k (here v) (here w) = named_once xs (error_name e) (error_name f) (named room e xs n v) (named room f xs k w)
   one_name (suc room) e f xs n k (here v) (inside q s) = let one = deep (suc room) e xs n q.parts v in absurd (omega (arith, one, q.before.fits))
   one_name (suc room) e f xs n k (inside p r) (here w) = let one = deep (suc room) f xs k p.parts w in absurd (omega (arith, one, p.before.fits))
@@ -317,7 +423,8 @@ module _ (strict : Bool) where
           | inl less ↦ absurd (sooner room f q.parts.stands.rest p.parts.stands.rest q.many p.many k q.before p.before (sym same) less s)
           | inr least ↦
               let many : count p.before.trees ≡ count q.before.trees = omega (arith, p.before.many, q.before.many, most, least) in
-              let rest : p.before.rest ≡ q.before.rest = row_once p.before.trees q.before.trees p.before.bytes q.before.bytes p.before.rest q.before.rest p.before.spelled q.before.spelled (sym p.before.front ∙ same ∙ q.before.front) many in
+              let rest : p.before.rest ≡ q.before.rest = row_once p.before.trees q.before.trees p.before.bytes q.before.bytes p.before.rest q.before.rest
+              p.before.spelled q.before.spelled (sym p.before.front ∙ same ∙ q.before.front) many in
               one_name room e f p.before.rest n k r (subst (Refusal strict (UnreadFor strict) ItemsUtf8 room f) (sym rest) s)
         ]
       ]

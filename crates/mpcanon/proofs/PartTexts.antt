@@ -4,7 +4,29 @@ use Rattle.std.specs.Prelude.{codes, Option, Some, None, Result, Ok, Err, OnOk, 
 use Rattle.std.proofs.lemmas.Option.{none-some}
 use Rattle.std.proofs.lemmas.List.{take_all}
 use Rattle.rmp_serde.specs.declared.value.kind.Kind.TheVariants.{List as ListKind, Map as MapKind}
-use Rattle.rmp_serde.specs.Msg.{Msg, nil, truth, whole, float32, float64, text, bin, list, map, extension, Msgs, no_items, item, Pairs, no_pairs, pair, count, count_pairs, items_of, pairs_of}
+use Rattle.rmp_serde.specs.Msg.{
+  Msg,
+  nil,
+  truth,
+  whole,
+  float32,
+  float64,
+  text,
+  bin,
+  list,
+  map,
+  extension,
+  Msgs,
+  no_items,
+  item,
+  Pairs,
+  no_pairs,
+  pair,
+  count,
+  count_pairs,
+  items_of,
+  pairs_of,
+}
 use Rattle.rmp_serde.specs.Parts.{kind_of, parts_count, item_of, pair_of}
 use Rattle.mpcanon.specs.TreeText.{tree_text, with_commas, item_texts, pair_texts}
 
@@ -40,7 +62,8 @@ texts_next (y ∷ []) (suc i) x e = absurd (none-some x e)
 texts_next (y ∷ z ∷ zs) (suc zero) x e = ap (λ s. y ++ (44 ∷ s)) (same_some z e) ∙ sym (append_assoc y (codes ",") x)
 texts_next (y ∷ z ∷ zs) (suc (suc i)) x e =
     let rest = with_commas (take (suc i) (z ∷ zs)) in
-    ap (λ s. y ++ (44 ∷ s)) (texts_next (z ∷ zs) (suc i) x e) ∙ sym (append_assoc y (44 ∷ (rest ++ codes ",")) x) ∙ ap (λ s. s ++ x) (sym (append_assoc y (44 ∷ rest) (codes ",")))
+    ap (λ s. y ++ (44 ∷ s)) (texts_next (z ∷ zs) (suc i) x e) ∙ sym (append_assoc y (44 ∷ (rest ++ codes ",")) x)
+    ∙ ap (λ s. s ++ x) (sym (append_assoc y (44 ∷ rest) (codes ",")))
 
 pub item_text : (m : Msg) (i : ℕ) (k : Msg) → item_of m i ≡ Some k → slice_get (parts_texts m) i ≡ Some (tree_text k)
 unfolding item_texts
@@ -133,19 +156,24 @@ no_comma zero old h = sym (append-nil old)
 no_comma (suc i) old h = absurd (omega arith)
 
 -- the text of a part was put behind a comma
-pub part_put : (base front : List ℕ) (xs : List (List ℕ)) (i : ℕ) (x : List ℕ) {before behind after : List ℕ} → slice_get xs i ≡ Some x → before ≡ base ++ front ++ with_commas (take i xs) → behind ≡ before ++ comma i → after ≡ behind ++ x
+pub part_put : (base front : List ℕ) (xs : List (List ℕ)) (i : ℕ) (x : List ℕ) {before behind after : List ℕ} → slice_get xs i ≡ Some x
+    → before ≡ base ++ front ++ with_commas (take i xs) → behind ≡ before ++ comma i → after ≡ behind ++ x
     → after ≡ base ++ front ++ with_commas (take (i + 1) xs)
 part_put base front xs i x there f g h =
     let e : i + 1 ≡ suc i = omega arith in
     let w = with_commas (take i xs) in
-    h ∙ ap (λ s. s ++ x) (g ∙ ap (λ s. s ++ comma i) f ∙ append_assoc (base ++ front) w (comma i)) ∙ append_assoc (base ++ front) (w ++ comma i) x ∙ ap (λ s. base ++ front ++ s) (sym (texts_next xs i x there)) ∙ ap (λ n. base ++ front ++ with_commas (take n xs)) (sym e)
+    h ∙ ap (λ s. s ++ x) (g ∙ ap (λ s. s ++ comma i) f ∙ append_assoc (base ++ front) w (comma i)) ∙ append_assoc (base ++ front) (w ++ comma i) x
+    ∙ ap (λ s. base ++ front ++ s) (sym (texts_next xs i x there)) ∙ ap (λ n. base ++ front ++ with_commas (take n xs)) (sym e)
 
 -- all parts stand there
-pub parts_put : (base front back : List ℕ) (m : Msg) (i : ℕ) {text before after : List ℕ} → parts_count m ≤ i → text ≡ front ++ with_commas (parts_texts m) ++ back → before ≡ base ++ front ++ with_commas (take i (parts_texts m)) → after ≡ before ++ back → after ≡ base ++ text
+pub parts_put : (base front back : List ℕ) (m : Msg) (i : ℕ) {text before after : List ℕ} → parts_count m ≤ i
+    → text ≡ front ++ with_commas (parts_texts m) ++ back → before ≡ base ++ front ++ with_commas (take i (parts_texts m)) → after ≡ before ++ back
+    → after ≡ base ++ text
 parts_put base front back m i all is f g =
     let whole : take i (parts_texts m) ≡ parts_texts m = take_all i (parts_texts m) (rw (texts_count m) all) in
     let w = with_commas (parts_texts m) in
-    g ∙ ap (λ s. s ++ back) (f ∙ ap (λ xs. base ++ front ++ with_commas xs) whole ∙ append_assoc base front w) ∙ append_assoc base (front ++ w) back ∙ ap (λ s. base ++ s) (sym is)
+    g ∙ ap (λ s. s ++ back) (f ∙ ap (λ xs. base ++ front ++ with_commas xs) whole ∙ append_assoc base front w) ∙ append_assoc base (front ++ w) back
+    ∙ ap (λ s. base ++ s) (sym is)
 
 pub item_there : (m : Msg) (i : ℕ) → kind_of m ≡ ListKind → i < parts_count m → item_of m i ≡ None → ⊥
 item_there (list ms) i k h e = among ms i h e where
@@ -180,11 +208,13 @@ pair_there (list ms) i k h e = absurd (search rules)
 pair_there (extension tag s) i k h e = absurd (omega arith)
 
 -- the closing bracket was put behind all parts
-pub bracket_put : {A F : Type 0} (r : Result A F) (base front back : List ℕ) (m : Msg) (i : ℕ) {text before : List ℕ} (after : List ℕ) → parts_count m ≤ i → text ≡ front ++ with_commas (parts_texts m) ++ back → before ≡ base ++ front ++ with_commas (take i (parts_texts m)) → OnOk r (after ≡ before ++ back)
+pub bracket_put : {A F : Type 0} (r : Result A F) (base front back : List ℕ) (m : Msg) (i : ℕ) {text before : List ℕ} (after : List ℕ) → parts_count m ≤ i
+    → text ≡ front ++ with_commas (parts_texts m) ++ back → before ≡ base ++ front ++ with_commas (take i (parts_texts m)) → OnOk r (after ≡ before ++ back)
     → OnOk r (after ≡ base ++ text)
 bracket_put (Ok x) base front back m i after all is f g = parts_put base front back m i all is f g
 bracket_put (Err x) base front back m i after all is f g = tt
 
 -- the text of a pair was put
-pub pair_put : (base k v : List ℕ) {after_key after_sign after : List ℕ} → after_key ≡ base ++ k → after_sign ≡ after_key ++ codes "=" → after ≡ after_sign ++ v → after ≡ base ++ (k ++ codes "=" ++ v)
+pub pair_put : (base k v : List ℕ) {after_key after_sign after : List ℕ} → after_key ≡ base ++ k → after_sign ≡ after_key ++ codes "="
+    → after ≡ after_sign ++ v → after ≡ base ++ (k ++ codes "=" ++ v)
 pair_put base k v e f g = g ∙ ap (λ s. s ++ v) (f ∙ ap (λ s. s ++ codes "=") e ∙ append_assoc base k (codes "=")) ∙ append_assoc base (k ++ codes "=") v

@@ -51,16 +51,25 @@ module _ {W : Type 0} (g : Ghosts W) where
   stops_later old mid new Memory p (inr q) = inr (record { beginning = puts_beginning p q.beginning; sound = q.sound ∙ p.sound; takes = q.takes })
 
   -- a beginning of one line was put
-  line_beginning : {old new : W} (text bytes : List ℕ) (e : ValueWriteError) → bytes ≡ text ++ 10 ∷ [] → PutsPart g.takes_memory bytes (g.told old) (g.told new) (g.faults old) (g.faults new) e → PutsBeginning g old new
-  line_beginning text bytes e is p = record { part = p.part; rest = p.rest; whole = inr (record { front = text; ended = sym p.split ∙ is }); appended = p.appended }
+  line_beginning : {old new : W} (text bytes : List ℕ) (e : ValueWriteError) → bytes ≡ text ++ 10 ∷ []
+      → PutsPart g.takes_memory bytes (g.told old) (g.told new) (g.faults old) (g.faults new) e → PutsBeginning g old new
+  line_beginning text bytes e is p = record {
+    part = p.part;
+    rest = p.rest;
+    whole = inr (record { front = text; ended = sym p.split ∙ is });
+    appended = p.appended;
+  }
 
-  pub line_stops_before : {old new : W} (text bytes : List ℕ) (e : IoFault) → bytes ≡ text ++ 10 ∷ [] → PutsPart g.takes_memory bytes (g.told old) (g.told new) (g.faults old) (g.faults new) (InvalidMarkerWrite e) → FailsOutput g old new
+  pub line_stops_before : {old new : W} (text bytes : List ℕ) (e : IoFault) → bytes ≡ text ++ 10 ∷ []
+      → PutsPart g.takes_memory bytes (g.told old) (g.told new) (g.faults old) (g.faults new) (InvalidMarkerWrite e) → FailsOutput g old new
   line_stops_before text bytes e is p = record { beginning = line_beginning text bytes (InvalidMarkerWrite e) is p; fault = p.cause.1 }
 
-  pub line_stops_within : {old new : W} (text bytes : List ℕ) (e : IoFault) → bytes ≡ text ++ 10 ∷ [] → PutsPart g.takes_memory bytes (g.told old) (g.told new) (g.faults old) (g.faults new) (InvalidDataWrite e) → FailsOutput g old new
+  pub line_stops_within : {old new : W} (text bytes : List ℕ) (e : IoFault) → bytes ≡ text ++ 10 ∷ []
+      → PutsPart g.takes_memory bytes (g.told old) (g.told new) (g.faults old) (g.faults new) (InvalidDataWrite e) → FailsOutput g old new
   line_stops_within text bytes e is p = record { beginning = line_beginning text bytes (InvalidDataWrite e) is p; fault = p.cause.1 }
 
-  pub line_lacks_memory : {old new : W} (text bytes : List ℕ) → bytes ≡ text ++ 10 ∷ [] → PutsPart g.takes_memory bytes (g.told old) (g.told new) (g.faults old) (g.faults new) OutOfMemory → LacksMemory g old new
+  pub line_lacks_memory : {old new : W} (text bytes : List ℕ) → bytes ≡ text ++ 10 ∷ []
+      → PutsPart g.takes_memory bytes (g.told old) (g.told new) (g.faults old) (g.faults new) OutOfMemory → LacksMemory g old new
   line_lacks_memory text bytes is p = record { beginning = line_beginning text bytes OutOfMemory is p; sound = p.cause.0; takes = p.cause.1 }
 
   -- ---- how a call ends
@@ -76,7 +85,8 @@ module _ {W : Type 0} (g : Ghosts W) where
   prints_none s = prints_err (inl (puts_none s)) refl
 
   -- what followed whole lines
-  pub prints_after : {A : Type 0} {old mid new : W} (r : Result A RunFault) → PutsLines g old mid → g.place mid ≡ g.place old → PrintsLines g mid new r → PrintsLines g old new r
+  pub prints_after : {A : Type 0} {old mid new : W} (r : Result A RunFault) → PutsLines g old mid → g.place mid ≡ g.place old → PrintsLines g mid new r
+      → PrintsLines g old new r
   prints_after (Ok x) p place q = prints_ok (puts_both p q.whole) (q.place ∙ place)
   prints_after (Err e) p place q = prints_err (stops_later _ _ _ e p q.stops) (q.place ∙ place)
 
@@ -105,17 +115,20 @@ module _ {W : Type 0} (g : Ghosts W) where
   printing_counts old new before after (Output e) same p = same
   printing_counts old new before after Memory same p = same
 
-  pub printing_reads : {A S : Type 0} (h : Sources S) {old new : W} {from to : S} (r : Result A RunFault) → IfSome (h.ahead from) (Consumes (h.ahead from) (h.ahead to)) → h.faults to ≡ h.faults from → h.place to ≡ h.place from
+  pub printing_reads : {A S : Type 0} (h : Sources S) {old new : W} {from to : S} (r : Result A RunFault)
+      → IfSome (h.ahead from) (Consumes (h.ahead from) (h.ahead to)) → h.faults to ≡ h.faults from → h.place to ≡ h.place from
       → PrintsLines g old new r → ReadsInput h from to r
   printing_reads h (Ok x) whole sound place p = record { whole = whole; sound = sound; stops = tt; place = place }
-  printing_reads h {from} {to} (Err e) whole sound place p = record { whole = tt; sound = tt; stops = printing_counts _ _ (h.faults from) (h.faults to) e sound p.stops; place = place }
+  printing_reads h {from} {to} (Err e) whole sound place p = record
+      { whole = tt; sound = tt; stops = printing_counts _ _ (h.faults from) (h.faults to) e sound p.stops; place = place }
 
 reading_counts : (before after : ℕ) (e : RunFault) → StopsReading before after e → CountsInput before after e
 reading_counts before after (Input e) p = p
 reading_counts before after (Output e) p = absurd p
 reading_counts before after Memory p = p
 
-pub unread_reads : {A S : Type 0} (h : Sources S) {from to : S} (e : RunFault) → StopsReading (h.faults from) (h.faults to) e → h.place to ≡ h.place from → ReadsInput {A = A} h from to (Err e)
+pub unread_reads : {A S : Type 0} (h : Sources S) {from to : S} (e : RunFault) → StopsReading (h.faults from) (h.faults to) e → h.place to ≡ h.place from
+    → ReadsInput {A = A} h from to (Err e)
 unread_reads h {from} {to} e p place = record { whole = tt; sound = tt; stops = reading_counts (h.faults from) (h.faults to) e p; place = place }
 
 -- what holds of the bytes that were read holds of the input

@@ -1,5 +1,33 @@
 -- What lines and messages print, one more at a time.
-use Rattle.std.proofs.Common.{arith, ◌≡◌, ◌≢◌, ℕ, ◌+◌, ◌-◌, ◌<◌, Bool, true, false, List, [], ◌∷◌, ◌++◌, inl, inr, map, take, get_or, length, refl, sym, ap, ◌∙◌, subst, append-nil, append_assoc}
+use Rattle.std.proofs.Common.{
+  arith,
+  ◌≡◌,
+  ◌≢◌,
+  ℕ,
+  ◌+◌,
+  ◌-◌,
+  ◌<◌,
+  Bool,
+  true,
+  false,
+  List,
+  [],
+  ◌∷◌,
+  ◌++◌,
+  inl,
+  inr,
+  map,
+  take,
+  get_or,
+  length,
+  refl,
+  sym,
+  ap,
+  ◌∙◌,
+  subst,
+  append-nil,
+  append_assoc,
+}
 use Rattle.std.specs.Prelude.{◌&&◌, ◌⊎◌, ◌≢◌, flat_map, Result, Ok, Err, OnOk, IfOk}
 use Rattle.std.specs.Io.KnownBytes.{Appends}
 use Rattle.hex.specs.Hex.{decode_of}
@@ -32,7 +60,8 @@ and_true true = refl
 and_true false = refl
 
 -- one line more
-pub prints_more : (shows : List ℕ → List ℕ → Bool → Type 0) (ls : List (List ℕ)) (l out : List ℕ) (a : Bool) (more : List ℕ) (b : Bool) → PrintsAll shows ls out a → PrintsLine shows l more b → PrintsAll shows (ls ++ l ∷ []) (out ++ more) (a && b)
+pub prints_more : (shows : List ℕ → List ℕ → Bool → Type 0) (ls : List (List ℕ)) (l out : List ℕ) (a : Bool) (more : List ℕ) (b : Bool)
+    → PrintsAll shows ls out a → PrintsLine shows l more b → PrintsAll shows (ls ++ l ∷ []) (out ++ more) (a && b)
 unfolding PrintsAll
 prints_more shows [] l out a more b p q = record {
   first = more;
@@ -64,12 +93,14 @@ module _ {W : Type 0} (g : Ghosts W) (shows : List ℕ → List ℕ → Bool →
   puts_nothing s = record { out = []; appended = Appends-nil (g.told s); shown = prints_none shows }
 
   -- one line more is printed
-  pub puts_more : {A : Type 0} (v : A → List ℕ) (xs : List A) (i : ℕ) (d : A) {old mid new : W} (a b : Bool) → i < length xs → Puts g (λ out. PrintsAll shows (map v (take i xs)) out a) old mid → Puts g (λ out. PrintsLine shows (v (get_or xs i d)) out b) mid new
+  pub puts_more : {A : Type 0} (v : A → List ℕ) (xs : List A) (i : ℕ) (d : A) {old mid new : W} (a b : Bool) → i < length xs
+      → Puts g (λ out. PrintsAll shows (map v (take i xs)) out a) old mid → Puts g (λ out. PrintsLine shows (v (get_or xs i d)) out b) mid new
       → Puts g (λ out. PrintsAll shows (map v (take (i + 1) xs)) out (a && b)) old new
   puts_more v xs i d a b within p q = record {
     out = p.out ++ q.out;
     appended = Appends-trans _ _ _ p.out q.out p.appended q.appended;
-    shown = subst (λ ls. PrintsAll shows ls (p.out ++ q.out) (a && b)) (sym (map_more v xs i d within)) (prints_more shows (map v (take i xs)) (v (get_or xs i d)) p.out a q.out b p.shown q.shown);
+    shown = subst (λ ls. PrintsAll shows ls (p.out ++ q.out) (a && b)) (sym (map_more v xs i d within))
+        (prints_more shows (map v (take i xs)) (v (get_or xs i d)) p.out a q.out b p.shown q.shown);
   }
 
 pub puts_weaker : {W : Type 0} (g : Ghosts W) {P Q : List ℕ → Type 0} {old new : W} → Puts g P old new → ((out : List ℕ) → P out → Q out) → Puts g Q old new
@@ -87,7 +118,9 @@ module _ (shows : List ℕ → List ℕ → Bool → Type 0) where
   unfolding PrintsLine
   line_refused text e a is f = subst (λ r. PrintsDecoded shows r (line no_hex_text) a) (sym is) (refl, f)
 
-  pub hex_refused : {W : Type 0} (g : Ghosts W) (old new : W) (text : List ℕ) (e : FromHexError) (r : Result Bool RunFault) → (e ≡ OutOfMemory) ⊎ (decode_of (digits_in text) ≡ Err e) → OnOk r (e ≢ OutOfMemory) → IfOk r (λ a. a ≡ false) → OnOk r (Appends (g.told old) (g.told new) (line no_hex_text))
+  pub hex_refused : {W : Type 0} (g : Ghosts W) (old new : W) (text : List ℕ) (e : FromHexError) (r : Result Bool RunFault)
+      → (e ≡ OutOfMemory) ⊎ (decode_of (digits_in text) ≡ Err e) → OnOk r (e ≢ OutOfMemory) → IfOk r (λ a. a ≡ false)
+      → OnOk r (Appends (g.told old) (g.told new) (line no_hex_text))
       → IfOk r (λ a. Puts g (λ out. PrintsLine shows text out a) old new)
   hex_refused g old new text e (Ok a) (inl m) n f p = absurd (n m)
   hex_refused g old new text e (Ok a) (inr d) n f p = record { out = line no_hex_text; appended = p; shown = line_refused text e a d f }
@@ -100,7 +133,8 @@ flat_more f [] x = append-nil (f x)
 flat_more f (y ∷ ys) x = ap (λ s. f y ++ s) (flat_more f ys x) ∙ sym (append_assoc (f y) (flat_map f ys) (f x))
 
 -- one message more
-pub holds_more : {ms : List Msg} (bytes : List ℕ) {front rest rest' : List ℕ} (b : List ℕ) (m : Msg) → HoldsMessages ms bytes front rest → rest ≡ b ++ rest' → Spells b m → IsAccepted m → HoldsMessages (ms ++ m ∷ []) bytes (front ++ b) rest'
+pub holds_more : {ms : List Msg} (bytes : List ℕ) {front rest rest' : List ℕ} (b : List ℕ) (m : Msg) → HoldsMessages ms bytes front rest → rest ≡ b ++ rest'
+    → Spells b m → IsAccepted m → HoldsMessages (ms ++ m ∷ []) bytes (front ++ b) rest'
 holds_more {ms} bytes {front} {rest} {rest'} b m h e spelled accepted = record {
   split = h.split ∙ ap (λ s. front ++ s) e ∙ sym (append_assoc front b rest');
   spelled = spells_more ms m front b h.spelled spelled;
@@ -124,7 +158,8 @@ module _ {W : Type 0} (g : Ghosts W) where
   }
 
   -- one message more was read, and its line printed
-  pub message_more : (bytes : List ℕ) {rest rest' : List ℕ} (b : List ℕ) (m : Msg) {old mid new : W} → SoFar g bytes rest old mid → rest ≡ b ++ rest' → Spells b m → IsAccepted m → Appends (g.told mid) (g.told new) (line (message_text m)) → SoFar g bytes rest' old new
+  pub message_more : (bytes : List ℕ) {rest rest' : List ℕ} (b : List ℕ) (m : Msg) {old mid new : W} → SoFar g bytes rest old mid → rest ≡ b ++ rest'
+      → Spells b m → IsAccepted m → Appends (g.told mid) (g.told new) (line (message_text m)) → SoFar g bytes rest' old new
   message_more bytes {rest} {rest'} b m {old} {mid} {new} p e spelled accepted appended = record {
     messages = p.messages ++ m ∷ [];
     front = p.front ++ b;
@@ -141,12 +176,23 @@ module _ {W : Type 0} (g : Ghosts W) where
   all_read bytes [] p e = record {
     out = p.puts.out;
     appended = p.puts.appended;
-    shown = record { messages = p.messages; front = p.front; rest = []; last = []; holds = p.holds; ends = (refl, refl); printed = p.puts.shown ∙ sym (append-nil _) };
+    shown = record {
+      messages = p.messages;
+      front = p.front;
+      rest = [];
+      last = [];
+      holds = p.holds;
+      ends = (refl, refl);
+      printed = p.puts.shown
+          ∙ sym (append-nil _);
+    };
   }
   all_read bytes (x ∷ xs) p e = absurd (omega arith)
 
   -- what is left begins with no message, and its refusal was printed
-  pub then_refused : (bytes rest : List ℕ) (place : ℕ) (e : Error) {old mid new : W} → SoFar g bytes rest old mid → place ≡ length bytes - length rest → 0 < length rest → e ≢ errors.OutOfMemory → NoneBegins rest → Refusal false (UnreadFor false) ItemsUtf8 1024 e rest → Appends (g.told mid) (g.told new) (line (refused_text place e)) → Puts g (λ out. PrintsMessages bytes out false) old new
+  pub then_refused : (bytes rest : List ℕ) (place : ℕ) (e : Error) {old mid new : W} → SoFar g bytes rest old mid → place ≡ length bytes - length rest
+      → 0 < length rest → e ≢ errors.OutOfMemory → NoneBegins rest → Refusal false (UnreadFor false) ItemsUtf8 1024 e rest
+      → Appends (g.told mid) (g.told new) (line (refused_text place e)) → Puts g (λ out. PrintsMessages bytes out false) old new
   then_refused bytes rest place e p at more kept none wrong appended = record {
     out = p.puts.out ++ line (refused_text place e);
     appended = Appends-trans _ _ _ p.puts.out (line (refused_text place e)) p.puts.appended appended;

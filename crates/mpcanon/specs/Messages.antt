@@ -5,7 +5,19 @@ use Rattle.hex.specs.Hex.{encode_lower}
 use Rattle.rmp_wire.specs.Spelling.{canon}
 use Rattle.rmp_serde.specs.Msg.{Msg}
 use Rattle.rmp_decode.specs.declared.error.Error.{Error}
-use Rattle.rmp_decode.specs.declared.error.Error.TheVariants.{InvalidMarkerRead, InvalidDataRead, TypeMismatch, OutOfRange, LengthMismatch, Uncategorized, Syntax, Utf8Error, DepthLimitExceeded, OutOfMemory, NotCanonical}
+use Rattle.rmp_decode.specs.declared.error.Error.TheVariants.{
+  InvalidMarkerRead,
+  InvalidDataRead,
+  TypeMismatch,
+  OutOfRange,
+  LengthMismatch,
+  Uncategorized,
+  Syntax,
+  Utf8Error,
+  DepthLimitExceeded,
+  OutOfMemory,
+  NotCanonical,
+}
 use Rattle.mpcanon.specs.TreeText.{tree_text}
 
 -- a message's tree, and its canonical spelling in hex

@@ -1,5 +1,30 @@
 -- Heads that may be read: those of one byte, and where reading isn't strict all others.
-use Rattle.std.proofs.Common.{◌≡◌, ◌∙◌, sym, ap, subst, refl, ℕ, ℤ, pos, ◌+◌, ◌<◌, [], ◌∷◌, Bool, true, false, Result, Ok, Err, IfErr, FitsSigned, nat_lt, to_z, of_z}
+use Rattle.std.proofs.Common.{
+  ◌≡◌,
+  ◌∙◌,
+  sym,
+  ap,
+  subst,
+  refl,
+  ℕ,
+  ℤ,
+  pos,
+  ◌+◌,
+  ◌<◌,
+  [],
+  ◌∷◌,
+  Bool,
+  true,
+  false,
+  Result,
+  Ok,
+  Err,
+  IfErr,
+  FitsSigned,
+  nat_lt,
+  to_z,
+  of_z,
+}
 use Rattle.std.proofs.lemmas.Bool.{lt-ltb}
 use Rattle.std.proofs.lemmas.Int.{to_z-of_z}
 use Rattle.std.specs.Int.{w128}
@@ -46,18 +71,23 @@ opens_list n l = let yes : nat_lt n 16 ≡ true = lt-ltb n 16 l in rw yes refl
 
 module _ {S : Type 0} (g : Ghosts S) (w : Bool) where
   -- the head of a number or of a length that the marker's byte holds
-  pub held_whole : (m k : Marker) (v z : ℤ) (s : S) → m ≡ k → v ≡ z → FitsSigned w128 z → IsHead (Whole z) (byte_of k ∷ []) → Opens (byte_of k) (canon_head (Whole z)) → BehindAllowed g w m s s (Whole (to_z w128 (of_z w128 v)))
+  pub held_whole : (m k : Marker) (v z : ℤ) (s : S) → m ≡ k → v ≡ z → FitsSigned w128 z → IsHead (Whole z) (byte_of k ∷ [])
+      → Opens (byte_of k) (canon_head (Whole z)) → BehindAllowed g w m s s (Whole (to_z w128 (of_z w128 v)))
   held_whole m k v z s e q f i o =
       let same : to_z w128 (of_z w128 v) ≡ z = ap (λ t. to_z w128 (of_z w128 t)) q ∙ to_z-of_z w128 z f in
       record {
         read = reads_held_whole g m k v z s e q f i;
-        allowed = opened_allowed w m (Whole (to_z w128 (of_z w128 v))) (subst (λ t. Opens (byte_of t) (canon_head (Whole (to_z w128 (of_z w128 v))))) (sym e) (subst (λ t. Opens (byte_of k) (canon_head (Whole t))) (sym same) o));
+        allowed = opened_allowed w m (Whole (to_z w128 (of_z w128 v)))
+            (subst (λ t. Opens (byte_of t) (canon_head (Whole (to_z w128 (of_z w128 v))))) (sym e)
+            (subst (λ t. Opens (byte_of k) (canon_head (Whole t))) (sym same) o));
       }
 
-  pub held_number : (m k : Marker) (make : ℕ → Head) (a n : ℕ) (s : S) → m ≡ k → a ≡ n → IsHead (make n) (byte_of k ∷ []) → Opens (byte_of k) (canon_head (make n)) → BehindAllowed g w m s s (make a)
+  pub held_number : (m k : Marker) (make : ℕ → Head) (a n : ℕ) (s : S) → m ≡ k → a ≡ n → IsHead (make n) (byte_of k ∷ [])
+      → Opens (byte_of k) (canon_head (make n)) → BehindAllowed g w m s s (make a)
   held_number m k make a n s e q i o = record {
     read = reads_held_number g m k make a n s e q i;
-    allowed = opened_allowed w m (make a) (subst (λ t. Opens (byte_of t) (canon_head (make a))) (sym e) (subst (λ t. Opens (byte_of k) (canon_head (make t))) (sym q) o));
+    allowed = opened_allowed w m (make a) (subst (λ t. Opens (byte_of t) (canon_head (make a))) (sym e)
+        (subst (λ t. Opens (byte_of k) (canon_head (make t))) (sym q) o));
   }
 
   -- a head that was read where reading isn't strict
@@ -71,10 +101,12 @@ module _ {S : Type 0} (g : Ghosts S) (w : Bool) where
   wire_refused m old new (wire.TypeMismatch marker) r = r
 
   -- an error that another one was made from
-  pub wire_failed : (m : Marker) (old new : S) (e : ValueReadError) (r : Result Head HeadError) → r ≡ Err (of_wire e) → ReadsHead g m old new (Err e) → IfErr r (FailsBehind g w m old new)
+  pub wire_failed : (m : Marker) (old new : S) (e : ValueReadError) (r : Result Head HeadError) → r ≡ Err (of_wire e) → ReadsHead g m old new (Err e)
+      → IfErr r (FailsBehind g w m old new)
   wire_failed m old new e r q h = rw q (wire_refused m old new e h)
 
-  pub marker_failed : (old new : S) (e : MarkerReadError) (r : Result (Marker × Head) HeadError) → r ≡ Err (heads.InvalidMarkerRead e.0) → ReadsMarker g old new (Err e) → IfErr r (FailsNextAllowed g w old new)
+  pub marker_failed : (old new : S) (e : MarkerReadError) (r : Result (Marker × Head) HeadError) → r ≡ Err (heads.InvalidMarkerRead e.0)
+      → ReadsMarker g old new (Err e) → IfErr r (FailsNextAllowed g w old new)
   marker_failed old new e r q h = rw q (fails_at_marker g e _ old new refl h)
 
   rest_failed : (m : Marker) (old mid new : S) (e : HeadError) → ReadsMarker g old mid (Ok m) → FailsBehind g w m mid new e → FailsNextAllowed g w old new e
@@ -83,5 +115,6 @@ module _ {S : Type 0} (g : Ghosts S) (w : Bool) where
   rest_failed m old mid new (heads.TypeMismatch k) r f = fails_at_head g m (wire.TypeMismatch k) _ old mid new refl r f
   rest_failed m old mid new heads.NotCanonical r f = ((m, f.0), reads_next g m f.0 old mid new r f.1, f.2)
 
-  pub head_failed : (m : Marker) (old mid new : S) (e : HeadError) (r : Result (Marker × Head) HeadError) → r ≡ Err e → ReadsMarker g old mid (Ok m) → FailsBehind g w m mid new e → IfErr r (FailsNextAllowed g w old new)
+  pub head_failed : (m : Marker) (old mid new : S) (e : HeadError) (r : Result (Marker × Head) HeadError) → r ≡ Err e → ReadsMarker g old mid (Ok m)
+      → FailsBehind g w m mid new e → IfErr r (FailsNextAllowed g w old new)
   head_failed m old mid new e r q h f = rw q (rest_failed m old mid new e h f)

@@ -1,5 +1,27 @@
 -- A type that reads messages of several kinds, from what an opening of any kind says.
-use Rattle.std.proofs.Common.{◌≡◌, ◌∙◌, sym, ap, subst, refl, ℕ, arith, List, ◌++◌, length, Option, None, Some, IfSome, Bool, true, false, Ok, Err, append_assoc}
+use Rattle.std.proofs.Common.{
+  ◌≡◌,
+  ◌∙◌,
+  sym,
+  ap,
+  subst,
+  refl,
+  ℕ,
+  arith,
+  List,
+  ◌++◌,
+  length,
+  Option,
+  None,
+  Some,
+  IfSome,
+  Bool,
+  true,
+  false,
+  Ok,
+  Err,
+  append_assoc,
+}
 use Rattle.std.proofs.lemmas.List.{length-append}
 use Rattle.std.specs.Io.KnownBytes.{Consumes}
 use Rattle.std.specs.Prelude.{IsUtf8}
@@ -25,7 +47,8 @@ use Rattle.rmp_decode.proofs.Refusals.{refuses_narrower, same_head}
 use Rattle.rmp_decode.proofs.Rows.{in_list}
 
 -- nothing could be opened
-pub any_unopened : {R C V : Type 0} (g : Ghosts R) (reads : Msg → V → Type 0) (old last : Deserializer R C) (e : Error) → FailsToOpenAny g old last e → Lawful g reads old last (Err e)
+pub any_unopened : {R C V : Type 0} (g : Ghosts R) (reads : Msg → V → Type 0) (old last : Deserializer R C) (e : Error) → FailsToOpenAny g old last e
+    → Lawful g reads old last (Err e)
 any_unopened g reads old last e f = record {
   ok = tt;
   ready = tt;
@@ -38,15 +61,27 @@ any_unopened g reads old last e f = record {
 }
 
 -- what is refused of the messages under a head that stands there
-refuses_under : (w : Bool) (Q P : Msg → Type 0) (room : ℕ) (known k : Option (List ℕ)) (b : List ℕ) (h : Head) → Consumes known k b → heads_of w h b → ((m : Msg) → head_of m ≡ h → P m → Q m) → Refuses (SpellsAs w) Q room known → Refuses (SpellsAs w) P room known
+refuses_under : (w : Bool) (Q P : Msg → Type 0) (room : ℕ) (known k : Option (List ℕ)) (b : List ℕ) (h : Head) → Consumes known k b → heads_of w h b
+    → ((m : Msg) → head_of m ≡ h → P m → Q m) → Refuses (SpellsAs w) Q room known → Refuses (SpellsAs w) P room known
 unfolding Refuses
 refuses_under w Q P room None k b h t i f r = tt
 refuses_under w Q P room (Some xs) None b h t i f r = absurd t
 refuses_under w Q P room (Some xs) (Some ys) b h t i f r = λ a.
-    r (record { bytes = a.bytes; rest = a.rest; tree = a.tree; front = a.front; spelled = a.spelled; fits = a.fits; holds = f a.tree (same_head _ a.tree h a.bytes b a.rest ys a.spelled i (sym a.front ∙ t)).0 a.holds })
+    r (record {
+      bytes = a.bytes;
+      rest = a.rest;
+      tree = a.tree;
+      front = a.front;
+      spelled = a.spelled;
+      fits = a.fits;
+      holds = f a.tree
+          (same_head _ a.tree h a.bytes b a.rest ys a.spelled i (sym a.front ∙ t)).0 a.holds;
+    })
 
 -- a refusal of one kind is one of all kinds, where a head of it stands there
-pub lawful_under : {R C V W : Type 0} (g : Ghosts R) (reads : Msg → V → Type 0) (reads' : Msg → W → Type 0) (old mid new : Deserializer R C) (h : Head) (e : Error) → TakesHead g h old mid → ((m : Msg) → head_of m ≡ h → Readable reads' m → Readable reads m) → Lawful g reads old new (Err e) → Lawful g reads' old new (Err e)
+pub lawful_under : {R C V W : Type 0} (g : Ghosts R) (reads : Msg → V → Type 0) (reads' : Msg → W
+    → Type 0) (old mid new : Deserializer R C) (h : Head) (e : Error) → TakesHead g h old mid
+    → ((m : Msg) → head_of m ≡ h → Readable reads' m → Readable reads m) → Lawful g reads old new (Err e) → Lawful g reads' old new (Err e)
 lawful_under g reads reads' old mid new h e t f l = record {
   ok = tt;
   ready = tt;
@@ -74,7 +109,9 @@ list_level true e = absurd (cc)
 list_level false e = refl
 
 -- the list is whole
-pub list_read : {R C V : Type 0} (g : Ghosts R) (reads : Msg → V → Type 0) (old : Deserializer R C) (start mid : SeqAccess R C) (ms : Msgs) (o : Opens g old start) (r : Run g start mid ms) (last : Deserializer R C) (v : V)
+pub list_read : {R C V : Type 0} (g : Ghosts R) (reads : Msg → V
+    → Type 0) (old : Deserializer R C) (start mid : SeqAccess R C) (ms : Msgs) (o : Opens g old start) (r : Run g start mid ms) (last : Deserializer R C)
+    (v : V)
     → start.bytes ≡ false → reads (list ms) v → mid.left ≡ 0 → last ≡ record mid.de.now { failed = false } → Lawful g reads old last (Ok v)
 list_read g reads old start mid ms o r last v b q z e =
     let many : count ms ≡ start.left = omega (arith, r.many) in
@@ -84,8 +121,20 @@ list_read g reads old start mid ms o r last v b q z e =
         bytes = o.head.bytes ++ r.bytes;
         tree = list ms;
         takes = Consumes-trans _ _ _ o.head.bytes r.bytes o.head.takes r.takes;
-        goes_on = record { more = o.head.goes_on.more ++ r.bytes; whole = ap (λ t. t ++ r.bytes) o.head.goes_on.whole ∙ append_assoc (kept_bytes old.kept) o.head.goes_on.more r.bytes };
-        spelled = record { first = o.head.bytes; second = r.bytes; is_first = subst (λ n. heads_of old.strict (head.Array n) o.head.bytes) (sym many) (list_head old.strict start.bytes start.left o.head.bytes b o.head.is_head); is_second = in_list old.strict ms r.bytes (subst (λ z. SpellsRow (SpellsAs z) r.bytes ms) o.stays.strict (as_list start.de.now.strict start.bytes r.bytes ms b r.spelled)); is_whole = refl };
+        goes_on = record {
+          more = o.head.goes_on.more ++ r.bytes;
+          whole = ap (λ t. t ++ r.bytes) o.head.goes_on.whole
+              ∙ append_assoc (kept_bytes old.kept) o.head.goes_on.more r.bytes;
+        };
+        spelled = record {
+          first = o.head.bytes;
+          second = r.bytes;
+          is_first = subst (λ n. heads_of old.strict (head.Array n) o.head.bytes) (sym many)
+              (list_head old.strict start.bytes start.left o.head.bytes b o.head.is_head);
+          is_second = in_list old.strict ms r.bytes
+              (subst (λ z. SpellsRow (SpellsAs z) r.bytes ms) o.stays.strict (as_list start.de.now.strict start.bytes r.bytes ms b r.spelled));
+          is_whole = refl;
+        };
         fits = omega (arith, r.fits, o.room, level);
         value = q;
       };
@@ -95,14 +144,22 @@ list_read g reads old start mid ms o r last v b q z e =
       err = λ _. tt;
       failed = tt;
       before = λ h. absurd (let f = o.fresh in cc);
-      stays = record { config = r.stays.config ∙ o.stays.config; room = r.stays.room ∙ o.stays.room; strict = r.stays.strict ∙ o.stays.strict; place = r.stays.place ∙ o.stays.place };
+      stays = record {
+        config = r.stays.config ∙ o.stays.config;
+        room = r.stays.room ∙ o.stays.room;
+        strict = r.stays.strict
+            ∙ o.stays.strict;
+        place = r.stays.place ∙ o.stays.place;
+      };
     })
 
 -- ---- content
 
-module _ {R C V : Type 0} {make : List ℕ → Msg} {heads : ℕ → Head} (content : Content make heads) (g : Ghosts R) (reads : Msg → V → Type 0) (old last : Deserializer R C) (a : RawAccess R C) (o : OpensRaw g (heads a.len) old a) where
+module _ {R C V : Type 0} {make : List ℕ → Msg} {heads : ℕ → Head} (content : Content make heads) (g : Ghosts R) (reads : Msg → V
+    → Type 0) (old last : Deserializer R C) (a : RawAccess R C) (o : OpensRaw g (heads a.len) old a) where
   pub raw_read : (s : List ℕ) (v : V) → TakesContent g a.len a.de.now last s → reads (make s) v → Lawful g reads old last (Ok v)
-  raw_read s v t r = content_read content g reads old a.de.now last (o.marker, heads a.len) o.begun s a.len v refl t.long t.are_bytes t.taken t.kept t.ready t.sound t.stays r
+  raw_read s v t r = content_read content g reads old a.de.now last (o.marker, heads a.len) o.begun s a.len v refl t.long t.are_bytes t.taken t.kept t.ready
+      t.sound t.stays r
 
   pub raw_short : (e : Error) → FailsContent g a.len a.de.now last e → Lawful g reads old last (Err e)
   raw_short e t = content_short content g reads old a.de.now last (o.marker, heads a.len) o.begun a.len e refl t.err (t.failed ∙ o.begun.failed) t.stays
@@ -120,13 +177,16 @@ pub short_text : (n : ℕ) (known : Option (List ℕ)) → IsShort n known → S
 short_text n None h = tt
 short_text n (Some xs) h = λ s r e m u. let long = ap length e ∙ length-append s r in omega (arith, long, m, h)
 
-pub text_under : (n : ℕ) (known : Option (List ℕ)) → StartsWithNoText n known → IfSome known (λ ys. (s r : List ℕ) → ys ≡ s ++ r → length s ≡ n → Readable (λ m t. (m ≡ text t) × IsUtf8 t) (text s) → ⊥)
+pub text_under : (n : ℕ) (known : Option (List ℕ)) → StartsWithNoText n known
+    → IfSome known (λ ys. (s r : List ℕ) → ys ≡ s ++ r → length s ≡ n → Readable (λ m t. (m ≡ text t) × IsUtf8 t) (text s) → ⊥)
 text_under n None h = tt
 text_under n (Some xs) h = λ s r e m t. let p = t.1.0 in let same : s ≡ t.0 = cc in h s r e m (subst IsUtf8 (sym same) t.1.1)
 
 -- a text was wanted there, and its bytes are none
-pub raw_not_text : {R C V : Type 0} (g : Ghosts R) (reads : Msg → V → Type 0) (old last : Deserializer R C) (a : RawAccess R C) (o : OpensRaw g (head.Text a.len) old a) (e : Error) → FailsText g a.len a.de.now last e
+pub raw_not_text : {R C V : Type 0} (g : Ghosts R) (reads : Msg → V
+    → Type 0) (old last : Deserializer R C) (a : RawAccess R C) (o : OpensRaw g (head.Text a.len) old a) (e : Error) → FailsText g a.len a.de.now last e
     → ((m : Msg) → head_of m ≡ head.Text a.len → Readable reads m → Readable (λ m t. (m ≡ text t) × IsUtf8 t) m) → Lawful g reads old last (Err e)
 raw_not_text g reads old last a o e t f =
     lawful_under g (λ m t. (m ≡ text t) × IsUtf8 t) reads old a.de.now last (head.Text a.len) e o.begun.ok f
-    (content_refused text_content g (λ m t. (m ≡ text t) × IsUtf8 t) old a.de.now last (o.marker, head.Text a.len) o.begun a.len e refl (λ m r. (r.0, r.1.0)) (λ n k. text_under a.len (g.ahead a.de.now.reader) (t.err n k)) (t.failed ∙ o.begun.failed) t.stays)
+    (content_refused text_content g (λ m t. (m ≡ text t) × IsUtf8 t) old a.de.now last (o.marker, head.Text a.len) o.begun a.len e refl
+    (λ m r. (r.0, r.1.0)) (λ n k. text_under a.len (g.ahead a.de.now.reader) (t.err n k)) (t.failed ∙ o.begun.failed) t.stays)

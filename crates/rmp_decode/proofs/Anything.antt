@@ -38,22 +38,32 @@ parts_nest false (list ms) n e = omega arith
 parts_nest false (map ps) n e = omega arith
 parts_nest false (extension tag s) n e = absurd (cc)
 
-any_none : (w : Bool) (room before after : ℕ) (known : Option (List ℕ)) (e : Error) → EndsExactly w before after known e → RefusesAny w room before after known e
+any_none : (w : Bool) (room before after : ℕ) (known : Option (List ℕ)) (e : Error) → EndsExactly w before after known e
+    → RefusesAny w room before after known e
 unfolding RefusesAny EndsExactly
 any_none w room before after None e s = λ _. tt
 any_none w room before after (Some xs) e s = λ same. inl (s same)
 
-any_deep : (w : Bool) (room before after : ℕ) (known : Option (List ℕ)) (m : Marker) (is_map : Bool) (n : ℕ) (e : Error) → IfSome known (Stands w m (parts_head is_map n)) → room ≡ 1 → e ≡ DepthLimitExceeded → RefusesAny w room before after known e
+any_deep : (w : Bool) (room before after : ℕ) (known : Option (List ℕ)) (m : Marker) (is_map : Bool) (n : ℕ) (e : Error)
+    → IfSome known (Stands w m (parts_head is_map n)) → room ≡ 1 → e ≡ DepthLimitExceeded → RefusesAny w room before after known e
 unfolding RefusesAny
 any_deep w room before after None m is_map n e s l is = λ _. tt
 any_deep w room before after (Some xs) m is_map n e s l is = λ _. inr (record { is_map = is_map; len = n; marker = m; stands = s }, l, is)
 
 module _ {R C : Type 0} (g : Ghosts R) (old new : Deserializer R C) (e : Error) where
   pub any_missing : ReadsHead g old new (Err e) → FailsToOpenAny g old new e
-  any_missing h = record { failed = h.failed; stays = h.stays; before = h.before; err = λ o n k. refuses_none _ _ _ _ (h.err o n k); exact = λ o. any_none _ (room_of old) _ _ (left g old) e (h.ends o) }
+  any_missing h = record {
+    failed = h.failed;
+    stays = h.stays;
+    before = h.before;
+    err = λ o n k. refuses_none _ _ _ _ (h.err o n k);
+    exact = λ o. any_none _
+        (room_of old) _ _ (left g old) e (h.ends o);
+  }
 
   -- a list or a map would nest too deep
-  pub any_too_deep : (p : Marker × Head) (q : Bool × ℕ) → ReadsHead g old new (Ok p) → p.1 ≡ parts_head q.0 q.1 → room_of old ≤ 1 → e ≡ DepthLimitExceeded → FailsToOpenAny g old new e
+  pub any_too_deep : (p : Marker × Head) (q : Bool × ℕ) → ReadsHead g old new (Ok p) → p.1 ≡ parts_head q.0 q.1 → room_of old ≤ 1 → e ≡ DepthLimitExceeded
+      → FailsToOpenAny g old new e
   any_too_deep p q h i l is = record {
     failed = h.failed;
     stays = h.stays;
@@ -63,5 +73,6 @@ module _ {R C : Type 0} (g : Ghosts R) (old new : Deserializer R C) (e : Error) 
         let d = parts_nest q.0 a.tree q.1 (u.0 ∙ i) in
         let f = a.fits in
         omega arith);
-    exact = λ _. any_deep _ (room_of old) _ _ (left g old) p.0 q.0 q.1 e (subst (λ t. IfSome (left g old) (Stands old.strict p.0 t)) i h.marked) (omega arith) is;
+    exact = λ _. any_deep _ (room_of old) _ _ (left g old) p.0 q.0 q.1 e (subst (λ t. IfSome (left g old) (Stands old.strict p.0 t)) i h.marked)
+        (omega arith) is;
   }

@@ -1,5 +1,34 @@
 -- Arrays, from the elements of a list.
-use Rattle.std.proofs.Common.{rules, ◌≡◌, ◌∙◌, sym, ap, subst, refl, ℕ, ◌+◌, ◌<◌, ◌≤◌, arith, List, [], ◌∷◌, ◌++◌, length, map, take, slice_set, true, false, Ok, Err, Option, Some, IsSome, All}
+use Rattle.std.proofs.Common.{
+  rules,
+  ◌≡◌,
+  ◌∙◌,
+  sym,
+  ap,
+  subst,
+  refl,
+  ℕ,
+  ◌+◌,
+  ◌<◌,
+  ◌≤◌,
+  arith,
+  List,
+  [],
+  ◌∷◌,
+  ◌++◌,
+  length,
+  map,
+  take,
+  slice_set,
+  true,
+  false,
+  Ok,
+  Err,
+  Option,
+  Some,
+  IsSome,
+  All,
+}
 use Rattle.std.proofs.lemmas.List.Elements.{All-map}
 use Rattle.std.proofs.lemmas.List.{take_more_set, take_all, length-take-le, length-set, length-map, map_push}
 use Rattle.rmp_wire.specs.declared.source.Source.{Ghosts}
@@ -33,7 +62,8 @@ module _ {R C V : Type 0} (g : Ghosts R) (reads : Msg → V → Type 0) where
   pub filled_start : (s : SeqAccess R C) (ps : List (Option V)) → IsOpen s → Filled g reads s s ps 0
   filled_start s ps o = record { within = omega arith; values = []; held = refl; read = values_start g reads s o; count = refl }
 
-  pub filled_step : (start mid now : SeqAccess R C) (ps : List (Option V)) (i : ℕ) (v : V) → i < length ps → Filled g reads start mid ps i → TakesElement g reads mid now v → now.de.ghost_name ≡ mid.de.ghost_name → Filled g reads start now (slice_set ps i (Some v)) (i + 1)
+  pub filled_step : (start mid now : SeqAccess R C) (ps : List (Option V)) (i : ℕ) (v : V) → i < length ps → Filled g reads start mid ps i
+      → TakesElement g reads mid now v → now.de.ghost_name ≡ mid.de.ghost_name → Filled g reads start now (slice_set ps i (Some v)) (i + 1)
   filled_step start mid now ps i v l f t n = record {
     within = omega (arith, length-set ps i (Some v));
     values = f.values ++ v ∷ [];
@@ -50,12 +80,15 @@ module _ {R C V : Type 0} (g : Ghosts R) (reads : Msg → V → Type 0) where
       omega (arith, count_each reads f.read.trees f.values f.read.values, long, same, length-take-le i ps f.within)
 
   -- there was no element that would do, or none at all
-  pub filled_fails : (start mid now : SeqAccess R C) (ps : List (Option V)) (i n : ℕ) (e : Error) → i < length ps → length ps ≡ n → Filled g reads start mid ps i → FailsElement g reads mid now e → now.de.now.failed ≡ true → FailsParts g (Exactly n reads) start now e
+  pub filled_fails : (start mid now : SeqAccess R C) (ps : List (Option V)) (i n : ℕ) (e : Error) → i < length ps → length ps ≡ n
+      → Filled g reads start mid ps i → FailsElement g reads mid now e → now.de.now.failed ≡ true → FailsParts g (Exactly n reads) start now e
   filled_fails start mid now ps i n e l k f x d =
       parts_element g (Exactly n reads) start mid f.read.trees f.read.run reads now e x d (λ m ks v h. each_next reads f.read.trees m ks v h.1)
-      (λ v h. let all = count_each reads (append f.read.trees no_items) v h.1 in omega (arith, all, h.0, filled_count start mid ps i f, k, l, count-append f.read.trees no_items))
+      (λ v h. let all = count_each reads (append f.read.trees no_items) v h.1
+      in omega (arith, all, h.0, filled_count start mid ps i f, k, l, count-append f.read.trees no_items))
 
-  pub filled_whole : (start now : SeqAccess R C) (ps : List (Option V)) (i n : ℕ) → length ps ≤ i → length ps ≡ n → Filled g reads start now ps i → TakesPlaces g n reads start now ps
+  pub filled_whole : (start now : SeqAccess R C) (ps : List (Option V)) (i n : ℕ) → length ps ≤ i → length ps ≡ n → Filled g reads start now ps i
+      → TakesPlaces g n reads start now ps
   filled_whole start now ps i n l k f = record {
     values = f.values;
     held = f.held ∙ take_all i ps l;
@@ -85,11 +118,13 @@ module _ {R C V : Type 0} (g : Ghosts R) (reads : Msg → V → Type 0) (n : ℕ
   array_unopened last e f = seq_unopened g (Exactly n reads) old last e f
 
   module _ (start now : SeqAccess R C) (o : Opens g old start) (k : ℕ) (long : k ≡ n) (last : Deserializer R C) where
-    pub array_fails : (e : Error) → FailsParts g (Exactly k reads) start now e → last ≡ now.de.now → Lawful g (λ m v. OfRow (Exactly n reads v) m) old last (Err e)
+    pub array_fails : (e : Error) → FailsParts g (Exactly k reads) start now e → last ≡ now.de.now
+        → Lawful g (λ m v. OfRow (Exactly n reads v) m) old last (Err e)
     array_fails e f q = seq_parts g (Exactly n reads) old start now o last e (subst (λ z. FailsParts g (Exactly z reads) start now e) long f) q
 
     module _ (places : List (Option V)) (t : TakesPlaces g k reads start now places) where
-      pub array_done : (v : List V) → map (λ w. Some w) v ≡ places → now.left ≡ 0 → last ≡ record now.de.now { failed = false } → Lawful g (λ m v. OfRow (Exactly n reads v) m) old last (Ok v)
+      pub array_done : (v : List V) → map (λ w. Some w) v ≡ places → now.left ≡ 0 → last ≡ record now.de.now { failed = false }
+          → Lawful g (λ m v. OfRow (Exactly n reads v) m) old last (Ok v)
       array_done v h z q =
           let same = same_values t.values v (t.held ∙ sym h) in
           let whole : Exactly n reads t.values t.parts.trees = (t.parts.value.0 ∙ long, t.parts.value.1) in
@@ -97,4 +132,5 @@ module _ {R C V : Type 0} (g : Ghosts R) (reads : Msg → V → Type 0) (n : ℕ
 
       -- there are more elements than the array has
       pub array_over : (e : Error) → 0 < now.left → last ≡ now.de.now → Lawful g (λ m v. OfRow (Exactly n reads v) m) old last (Err e)
-      array_over e l q = seq_over g (Exactly n reads) old start now t.parts.trees o t.parts.run last e l q n (λ w ks h. count_each reads ks w h.1 ∙ h.0) t.values (t.parts.value.0 ∙ long, t.parts.value.1)
+      array_over e l q = seq_over g (Exactly n reads) old start now t.parts.trees o t.parts.run last e l q n (λ w ks h. count_each reads ks w h.1 ∙ h.0)
+          t.values (t.parts.value.0 ∙ long, t.parts.value.1)

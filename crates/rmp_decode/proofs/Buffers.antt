@@ -24,7 +24,8 @@ use Rattle.rmp_decode.proofs.Seqs.{seq_done}
 use Rattle.rmp_decode.proofs.Refusals.{refuses_by, same_head}
 
 -- a type that reads no more under this head than another refuses what that one does
-refuses_at : (w : Bool) (P Q : Msg → Type 0) (room : ℕ) (known k : Option (List ℕ)) (b : List ℕ) (h : Head) → Consumes known k b → heads_of w h b → ((m : Msg) → Q m → head_of m ≡ h → P m) → Refuses (SpellsAs w) P room known → Refuses (SpellsAs w) Q room known
+refuses_at : (w : Bool) (P Q : Msg → Type 0) (room : ℕ) (known k : Option (List ℕ)) (b : List ℕ) (h : Head) → Consumes known k b → heads_of w h b
+    → ((m : Msg) → Q m → head_of m ≡ h → P m) → Refuses (SpellsAs w) P room known → Refuses (SpellsAs w) Q room known
 unfolding Refuses
 refuses_at w P Q room None k b h t i f r = tt
 refuses_at w P Q room (Some xs) None b h t i f r = absurd t
@@ -32,7 +33,9 @@ refuses_at w P Q room (Some xs) (Some ys) b h t i f r = λ a.
     let u = same_head _ a.tree h a.bytes b a.rest ys a.spelled i (sym a.front ∙ t) in
     r (record { bytes = a.bytes; rest = a.rest; tree = a.tree; front = a.front; spelled = a.spelled; fits = a.fits; holds = f a.tree a.holds u.0 })
 
-pub lawful_err_at : {R C V W : Type 0} (g : Ghosts R) (reads : Msg → V → Type 0) (reads' : Msg → W → Type 0) (old mid new : Deserializer R C) (p : Marker × Head) (e : Error) → ReadsHead g old mid (Ok p) → ((m : Msg) → Readable reads' m → head_of m ≡ p.1 → Readable reads m)
+pub lawful_err_at : {R C V W : Type 0} (g : Ghosts R) (reads : Msg → V → Type 0) (reads' : Msg → W
+    → Type 0) (old mid new : Deserializer R C) (p : Marker × Head) (e : Error) → ReadsHead g old mid (Ok p)
+    → ((m : Msg) → Readable reads' m → head_of m ≡ p.1 → Readable reads m)
     → Lawful g reads old new (Err e) → Lawful g reads' old new (Err e)
 lawful_err_at g reads reads' old mid new p e h f l = record {
   ok = tt;
@@ -94,7 +97,8 @@ no_buffer (map ps) b h r e f g = r
 no_buffer (extension tag s) b h r e f g = r
 
 -- the access to a list whose head was taken
-pub opened_behind : {R C : Type 0} (g : Ghosts R) (old mid : Deserializer R C) (m : Marker) (len : ℕ) (s : SeqAccess R C) → ReadsHead g old mid (Ok (m, Array len)) → IsBehind len mid s → Opens g old s
+pub opened_behind : {R C : Type 0} (g : Ghosts R) (old mid : Deserializer R C) (m : Marker) (len : ℕ) (s : SeqAccess R C)
+    → ReadsHead g old mid (Ok (m, Array len)) → IsBehind len mid s → Opens g old s
 opened_behind g old mid m len s h b =
     let room : mid.room ≡ old.room = h.stays.room in
     record {
@@ -104,24 +108,34 @@ opened_behind g old mid m len s h b =
       room = rw b.list (omega (arith, room, b.inner, b.deep));
       stays = rw b.lender h.stays;
       faults_same = rw b.lender h.sound;
-      opened = record { sound = b.sound; marked = ap (λ (d : Deserializer _ _). d.failed) b.lender ∙ h.failed; clean = ap (λ (d : Deserializer _ _). d.kept) b.lender ∙ h.clean };
+      opened = record {
+        sound = b.sound;
+        marked = ap (λ (d : Deserializer _ _). d.failed) b.lender
+            ∙ h.failed;
+        clean = ap (λ (d : Deserializer _ _). d.kept) b.lender ∙ h.clean;
+      };
     }
 
 -- a list would nest too deep
-pub list_too_deep : {R C V : Type 0} (g : Ghosts R) (reads : Msg → V → Type 0) (old mid : Deserializer R C) (m : Marker) (len : ℕ) (e : Error) → ReadsHead g old mid (Ok (m, Array len)) → mid.room ≤ 1 → Lawful g reads old mid (Err e)
+pub list_too_deep : {R C V : Type 0} (g : Ghosts R) (reads : Msg → V → Type 0) (old mid : Deserializer R C) (m : Marker) (len : ℕ) (e : Error)
+    → ReadsHead g old mid (Ok (m, Array len)) → mid.room ≤ 1 → Lawful g reads old mid (Err e)
 list_too_deep g reads old mid m len e h l =
     let room : mid.room ≡ old.room = h.stays.room in
-    refused g reads old mid e h.fresh h.failed h.stays (λ _ _. refuses_by _ (Readable reads) (room_of old) (left g old) (left g mid) h.ok.bytes h.ok.takes (λ ys q a.
+    refused g reads old mid e h.fresh h.failed h.stays
+    (λ _ _. refuses_by _ (Readable reads) (room_of old) (left g old) (left g mid) h.ok.bytes h.ok.takes (λ ys q a.
     let u = same_head _ a.tree (Array len) a.bytes h.ok.bytes a.rest ys a.spelled h.ok.is_head (sym a.front) in
     let d = nests a.tree len u.0 in
     let f = a.fits in
     omega (arith, room)))
 
 -- a list of numbers that was read
-pub buffer_done : {R C : Type 0} (g : Ghosts R) (old : Deserializer R C) (start mid : SeqAccess R C) (ms : Msgs) (o : Opens g old start) (r : Run g start mid ms) (last : Deserializer R C) (v : Vec ℕ Global) → ReadsEach (IsUnsigned 255) ms v.items → mid.left ≡ 0 → last ≡ record mid.de.now { failed = false }
+pub buffer_done : {R C : Type 0} (g : Ghosts R) (old : Deserializer R C) (start mid : SeqAccess R C) (ms : Msgs) (o : Opens g old start)
+    (r : Run g start mid ms) (last : Deserializer R C) (v : Vec ℕ Global) → ReadsEach (IsUnsigned 255) ms v.items → mid.left ≡ 0
+    → last ≡ record mid.de.now { failed = false }
     → Lawful g (λ m (v : Vec ℕ Global). IsBuffer m v.items) old last (Ok v)
 buffer_done g old start mid ms o r last v q z e =
-    lawful_ok g (λ m (v : Vec ℕ Global). OfRow (λ ms. ReadsEach (IsUnsigned 255) ms v.items) m) _ old last v v (λ m q. buffer_of_row m v.items q) (seq_done g (λ (v : Vec ℕ Global) ms. ReadsEach (IsUnsigned 255) ms v.items) old start mid ms o r last v q z e)
+    lawful_ok g (λ m (v : Vec ℕ Global). OfRow (λ ms. ReadsEach (IsUnsigned 255) ms v.items) m) _ old last v v (λ m q. buffer_of_row m v.items q)
+    (seq_done g (λ (v : Vec ℕ Global) ms. ReadsEach (IsUnsigned 255) ms v.items) old start mid ms o r last v q z e)
 
 -- a text, or bytes
 pub raw_buffer : (t : Bool) (b : List ℕ) → IsBuffer (raw_msg t b) b

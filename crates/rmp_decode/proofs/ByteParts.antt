@@ -20,9 +20,11 @@ use Rattle.rmp_decode.specs.declared.error.Error.TheVariants.{OutOfMemory}
 use Rattle.rmp_decode.proofs.Contents.{bare}
 use Rattle.rmp_decode.proofs.HeadTaken.{fits_byte}
 
-one_number : (w : Bool) (n : ℕ) (bytes more : List ℕ) (tree : Msg) → n < 256 → bytes ≡ canon_head (Whole (pos n)) ++ more → SpellsAs w bytes tree → (bytes ≡ canon_head (Whole (pos n))) × (tree ≡ whole (pos n))
+one_number : (w : Bool) (n : ℕ) (bytes more : List ℕ) (tree : Msg) → n < 256 → bytes ≡ canon_head (Whole (pos n)) ++ more → SpellsAs w bytes tree
+    → (bytes ≡ canon_head (Whole (pos n))) × (tree ≡ whole (pos n))
 one_number w n bytes more tree l e s =
-    let u = spelled_once_as w tree (whole (pos n)) bytes (canon_head (Whole (pos n))) [] more s (canon_in w (Whole (pos n)) (fits_byte n l)) (append-nil bytes ∙ e) in
+    let u = spelled_once_as w tree (whole (pos n)) bytes (canon_head (Whole (pos n))) [] more s (canon_in w (Whole (pos n)) (fits_byte n l))
+    (append-nil bytes ∙ e) in
     (u.0, u.1)
 
 byte_taken : (known k l : Option (List ℕ)) (n : ℕ) (c : List ℕ) → Consumes known k (n ∷ []) → Consumes (prepend_known c k) l c → Consumes known l (n ∷ [])
@@ -38,9 +40,11 @@ pub record NumberTaken {R C V : Type 0} (g : Ghosts R) (reads : Msg → V → Ty
   pub takes : Consumes (left g old) (left g last) (byte ∷ [])
   pub value : reads (whole (pos byte)) v
 
-module _ {R C : Type 0} (g : Ghosts R) (old mid part : Deserializer R C) (clean : old.kept ≡ Nothing) (k : KeepsByte g old mid) (reader : part.reader ≡ mid.reader) (kept : part.kept ≡ mid.kept) where
+module _ {R C : Type 0} (g : Ghosts R) (old mid part : Deserializer R C) (clean : old.kept ≡ Nothing) (k : KeepsByte g old mid)
+    (reader : part.reader ≡ mid.reader) (kept : part.kept ≡ mid.kept) where
   part_left : left g part ≡ prepend_known (canon_head (Whole (pos k.byte))) (g.ahead mid.reader)
-  part_left = ap (λ z. prepend_known (kept_bytes z) (g.ahead part.reader)) (kept ∙ k.kept) ∙ ap (λ z. prepend_known (canon_head (Whole (pos k.byte))) (g.ahead z)) reader
+  part_left = ap (λ z. prepend_known (kept_bytes z) (g.ahead part.reader)) (kept ∙ k.kept)
+      ∙ ap (λ z. prepend_known (canon_head (Whole (pos k.byte))) (g.ahead z)) reader
 
   pub number_taken : {V : Type 0} (reads : Msg → V → Type 0) (last : Deserializer R C) (v : V) → Reads g reads part last v → NumberTaken g reads old last v
   number_taken reads last v r =
@@ -55,7 +59,8 @@ module _ {R C : Type 0} (g : Ghosts R) (old mid part : Deserializer R C) (clean 
         value = subst (λ m. reads m v) u.1 r.value;
       }
 
-  byte_refused : (w : Bool) (P : Msg → Type 0) (room : ℕ) (known l : Option (List ℕ)) (n : ℕ) → n < 256 → 0 < room → Consumes known l (n ∷ []) → Refuses (SpellsAs w) P room (prepend_known (canon_head (Whole (pos n))) l) → Refuses SpellsByte P room known
+  byte_refused : (w : Bool) (P : Msg → Type 0) (room : ℕ) (known l : Option (List ℕ)) (n : ℕ) → n < 256 → 0 < room → Consumes known l (n ∷ [])
+      → Refuses (SpellsAs w) P room (prepend_known (canon_head (Whole (pos n))) l) → Refuses SpellsByte P room known
   unfolding Refuses
   byte_refused w P room None l n small some t r = tt
   byte_refused w P room (Some xs) None n small some t r = absurd t
@@ -76,21 +81,26 @@ module _ {R C : Type 0} (g : Ghosts R) (old mid part : Deserializer R C) (clean 
       })
 
   pub number_refused : (P : Msg → Type 0) (room : ℕ) → 0 < room → Refuses (SpellsAs part.strict) P room (left g part) → Refuses SpellsByte P room (left g old)
-  number_refused P room some r = rw (bare g old clean) (byte_refused part.strict P room (g.ahead old.reader) (g.ahead mid.reader) k.byte k.small some k.taken (subst (Refuses (SpellsAs part.strict) P room) part_left r))
+  number_refused P room some r = rw (bare g old clean)
+      (byte_refused part.strict P room (g.ahead old.reader) (g.ahead mid.reader) k.byte k.small some k.taken
+      (subst (Refuses (SpellsAs part.strict) P room) part_left r))
 
 missing : (P : Msg → Type 0) (room : ℕ) (known : Option (List ℕ)) → IsAtEnd known → Refuses SpellsByte P room known
 unfolding Refuses
 missing P room None e = tt
-missing P room (Some xs) e = λ a. let alone = a.spelled.alone in let u : ◌≡◌ {A = List ℕ} [] (a.spelled.byte ∷ a.rest) = sym e ∙ a.front ∙ ap (λ z. z ++ a.rest) alone in absurd (cc)
+missing P room (Some xs) e = λ a. let alone = a.spelled.alone
+    in let u : ◌≡◌ {A = List ℕ} [] (a.spelled.byte ∷ a.rest) = sym e ∙ a.front ∙ ap (λ z. z ++ a.rest) alone in absurd (cc)
 
 -- the bytes ended
-pub number_missing : {R C : Type 0} (g : Ghosts R) (old : Deserializer R C) (P : Msg → Type 0) (room : ℕ) → old.kept ≡ Nothing → IsAtEnd (g.ahead old.reader) → Refuses SpellsByte P room (left g old)
+pub number_missing : {R C : Type 0} (g : Ghosts R) (old : Deserializer R C) (P : Msg → Type 0) (room : ℕ) → old.kept ≡ Nothing
+    → IsAtEnd (g.ahead old.reader) → Refuses SpellsByte P room (left g old)
 number_missing g old P room clean e = rw (bare g old clean) (missing P room (g.ahead old.reader) e)
 
 -- ---- which error it is
 
 module _ (P : Refusals) (e : Error) (before after : ℕ) where
-  byte_wrong : (known l : Option (List ℕ)) (n : ℕ) → Consumes known l (n ∷ []) → P before after (prepend_known (canon_head (Whole (pos n))) l) e → RefusedIn true P before after known e
+  byte_wrong : (known l : Option (List ℕ)) (n : ℕ) → Consumes known l (n ∷ []) → P before after (prepend_known (canon_head (Whole (pos n))) l) e
+      → RefusedIn true P before after known e
   byte_wrong None l n t p = tt
   byte_wrong (Some xs) None n t p = absurd t
   byte_wrong (Some []) (Some ys) n t p = absurd (cc)
@@ -109,11 +119,15 @@ data_end_no_memory e d q = subst IsDataEnd q d
 
 module _ {R C : Type 0} (g : Ghosts R) (P : Refusals) (e : Error) (old : Deserializer R C) (clean : old.kept ≡ Nothing) where
   -- the bytes ended
-  pub number_ended : (after : ℕ) → (after ≡ faults_of g old → IsDataEnd e) → Explains e (faults_of g old) after (IsAtEnd (g.ahead old.reader)) → RefusedIn true P (faults_of g old) after (left g old) e
+  pub number_ended : (after : ℕ) → (after ≡ faults_of g old → IsDataEnd e) → Explains e (faults_of g old) after (IsAtEnd (g.ahead old.reader))
+      → RefusedIn true P (faults_of g old) after (left g old) e
   number_ended after d n = rw (bare g old clean) (byte_missing P e (faults_of g old) after (g.ahead old.reader) (λ k. (d k, n (data_end_no_memory e (d k)) k)))
 
   -- a byte was taken, and as a number it was refused
-  pub number_wrong : (mid part : Deserializer R C) (k : KeepsByte g old mid) → part.reader ≡ mid.reader → part.kept ≡ mid.kept → faults_of g part ≡ faults_of g old → (after : ℕ) → P (faults_of g part) after (left g part) e → RefusedIn true P (faults_of g old) after (left g old) e
+  pub number_wrong : (mid part : Deserializer R C) (k : KeepsByte g old mid) → part.reader ≡ mid.reader → part.kept ≡ mid.kept
+      → faults_of g part ≡ faults_of g old → (after : ℕ) → P (faults_of g part) after (left g part) e
+      → RefusedIn true P (faults_of g old) after (left g old) e
   number_wrong mid part k r q s after p =
-      let p' = subst (λ z. P z after (prepend_known (canon_head (Whole (pos k.byte))) (g.ahead mid.reader)) e) s (subst (λ z. P (faults_of g part) after z e) (part_left g old mid part clean k r q) p) in
+      let p' = subst (λ z. P z after (prepend_known (canon_head (Whole (pos k.byte))) (g.ahead mid.reader)) e) s
+      (subst (λ z. P (faults_of g part) after z e) (part_left g old mid part clean k r q) p) in
       rw (bare g old clean) (byte_wrong P e (faults_of g old) after (g.ahead old.reader) (g.ahead mid.reader) k.byte k.taken p')

@@ -1,5 +1,30 @@
 -- Which error comes where a head and the content behind it are wanted.
-use Rattle.std.proofs.Common.{◌≡◌, ◌∙◌, sym, ap, subst, refl, ℕ, ℤ, ◌<◌, arith, List, [], ◌∷◌, ◌++◌, length, Option, None, Some, IfSome, Bool, true, false, Ok, append_assoc}
+use Rattle.std.proofs.Common.{
+  ◌≡◌,
+  ◌∙◌,
+  sym,
+  ap,
+  subst,
+  refl,
+  ℕ,
+  ℤ,
+  ◌<◌,
+  arith,
+  List,
+  [],
+  ◌∷◌,
+  ◌++◌,
+  length,
+  Option,
+  None,
+  Some,
+  IfSome,
+  Bool,
+  true,
+  false,
+  Ok,
+  append_assoc,
+}
 use Rattle.std.proofs.lemmas.List.{length-append}
 use Rattle.std.specs.Io.KnownBytes.{Consumes, prepend_known}
 use Rattle.std.specs.Prelude.{encode_utf8, IsUtf8}
@@ -50,7 +75,8 @@ module _ (n : ℕ) (refused : List ℕ → Error → Type 0) where
   piece_cut (Some xs) e h d = record { cut = λ _. d; whole = λ s r q l. absurd (let long = ap length q ∙ length-append s r in omega (arith, long, l, h)) }
 
   -- they are there, and refused
-  pub piece_whole : (known k : Option (List ℕ)) (bytes : List ℕ) (e : Error) → Consumes known k bytes → length bytes ≡ n → refused bytes e → RefusesPiece n refused known e
+  pub piece_whole : (known k : Option (List ℕ)) (bytes : List ℕ) (e : Error) → Consumes known k bytes → length bytes ≡ n → refused bytes e
+      → RefusesPiece n refused known e
   unfolding RefusesPiece
   piece_whole None k bytes e c l f = tt
   piece_whole (Some xs) None bytes e c l f = absurd c
@@ -60,11 +86,13 @@ module _ (n : ℕ) (refused : List ℕ → Error → Type 0) where
   }
 
 -- the input ended within it
-pub piece_ended : (n : ℕ) (refused : List ℕ → Error → Type 0) (before after : ℕ) (known : Option (List ℕ)) (e : Error) → Explains e before after (IsShort n known) → Explains e before after (IsDataEnd e) → Explains e before after (RefusesPiece n refused known e)
+pub piece_ended : (n : ℕ) (refused : List ℕ → Error → Type 0) (before after : ℕ) (known : Option (List ℕ)) (e : Error)
+    → Explains e before after (IsShort n known) → Explains e before after (IsDataEnd e) → Explains e before after (RefusesPiece n refused known e)
 piece_ended n refused before after known e s d = λ m k. piece_cut n refused known e (s m k) (d m k)
 
 -- a source's fault is want of memory, a fault that is counted, or the end of the input
-pub piece_blamed : (n : ℕ) (refused : List ℕ → Error → Type 0) (fault : SourceFault) (before after : ℕ) (known : Option (List ℕ)) (e : Error) → Blames fault before after known n → Blamed fault e → Explains e before after (RefusesPiece n refused known e)
+pub piece_blamed : (n : ℕ) (refused : List ℕ → Error → Type 0) (fault : SourceFault) (before after : ℕ) (known : Option (List ℕ)) (e : Error)
+    → Blames fault before after known n → Blamed fault e → Explains e before after (RefusesPiece n refused known e)
 piece_blamed n refused Memory before after known e s b = λ m _. absurd (m b)
 piece_blamed n refused (Io cause) before after known e s b = λ _ k. let x = s k in piece_cut n refused known e x.0 (b.1 x.1)
 
@@ -72,7 +100,8 @@ short_char : (n : ℕ) (known : Option (List ℕ)) → IsShort n known → Start
 short_char n None h = tt
 short_char n (Some xs) h = λ c r _ m q. absurd (let long = ap length q ∙ length-append (encode_utf8 c) r in omega (arith, long, m, h))
 
-pub char_blamed : (n : ℕ) (fault : SourceFault) (before after : ℕ) (known : Option (List ℕ)) (e : Error) → Blames fault before after known n → Blamed fault e → Explains e before after (StartsWithNoChar n known)
+pub char_blamed : (n : ℕ) (fault : SourceFault) (before after : ℕ) (known : Option (List ℕ)) (e : Error) → Blames fault before after known n
+    → Blamed fault e → Explains e before after (StartsWithNoChar n known)
 char_blamed n Memory before after known e s b = λ m _. absurd (m b)
 char_blamed n (Io cause) before after known e s b = λ _ k. short_char n known (s k).0
 
@@ -83,7 +112,8 @@ unlent false true n m s e l q = q
 unlent false false n m s e l q = q
 
 -- what is refused so is refused in a wider way
-pub piece_wider : (n : ℕ) (refused wider : List ℕ → Error → Type 0) (known : Option (List ℕ)) (e : Error) → ((s : List ℕ) → refused s e → wider s e) → RefusesPiece n refused known e → RefusesPiece n wider known e
+pub piece_wider : (n : ℕ) (refused wider : List ℕ → Error → Type 0) (known : Option (List ℕ)) (e : Error) → ((s : List ℕ) → refused s e → wider s e)
+    → RefusesPiece n refused known e → RefusesPiece n wider known e
 unfolding RefusesPiece
 piece_wider n refused wider None e f p = tt
 piece_wider n refused wider (Some xs) e f p = record { cut = p.cut; whole = λ s r q l. f s (p.whole s r q l) }
@@ -92,7 +122,8 @@ piece_wider n refused wider (Some xs) e f p = record { cut = p.cut; whole = λ s
 
 module _ (strict : Bool) (wanted : Head → Type 0) (other : Marker → Head → Error) (refused : Head → List ℕ → Error → Type 0) (before after : ℕ) where
   -- no head stands at the front
-  pub content_none : (known : Option (List ℕ)) (e : Error) → EndsExactly strict before after known e → RefusesContent strict wanted other refused before after known e
+  pub content_none : (known : Option (List ℕ)) (e : Error) → EndsExactly strict before after known e
+      → RefusesContent strict wanted other refused before after known e
   unfolding RefusesContent EndsExactly
   content_none None e s = λ _. tt
   content_none (Some xs) e s = λ k. record {
@@ -103,7 +134,8 @@ module _ (strict : Bool) (wanted : Head → Type 0) (other : Marker → Head →
   }
 
   -- another one does
-  pub content_other : (known : Option (List ℕ)) (m : Marker) (h : Head) (e : Error) → IfSome known (Stands strict m h) → (wanted h → ⊥) → e ≡ other m h → RefusesContent strict wanted other refused before after known e
+  pub content_other : (known : Option (List ℕ)) (m : Marker) (h : Head) (e : Error) → IfSome known (Stands strict m h) → (wanted h → ⊥) → e ≡ other m h
+      → RefusesContent strict wanted other refused before after known e
   unfolding RefusesContent
   content_other None m h e s f q = λ _. tt
   content_other (Some xs) m h e s f q = λ _. record {
@@ -114,7 +146,9 @@ module _ (strict : Bool) (wanted : Head → Type 0) (other : Marker → Head →
   }
 
   -- a wanted one does, and what is behind it is refused
-  pub content_behind : (known k : Option (List ℕ)) (b : List ℕ) (m : Marker) (h : Head) (e : Error) → Consumes known k b → heads_of strict h b → IfSome known (Stands strict m h) → wanted h → Explains e before after (RefusesPiece (content_len h) (refused h) k e) → RefusesContent strict wanted other refused before after known e
+  pub content_behind : (known k : Option (List ℕ)) (b : List ℕ) (m : Marker) (h : Head) (e : Error) → Consumes known k b → heads_of strict h b
+      → IfSome known (Stands strict m h) → wanted h → Explains e before after (RefusesPiece (content_len h) (refused h) k e)
+      → RefusesContent strict wanted other refused before after known e
   unfolding RefusesContent RefusesPiece
   content_behind None k b m h e c i s w r = λ _. tt
   content_behind (Some xs) None b m h e c i s w r = absurd c
@@ -136,7 +170,8 @@ module _ (strict : Bool) (wanted : Head → Type 0) (other : Marker → Head →
       }
 
   -- a wanted one does that has no content of its own
-  pub content_apart : (known : Option (List ℕ)) (m : Marker) (h k : Head) (e : Error) → IfSome known (Stands strict m h) → h ≡ k → content_len k ≡ 0 → wanted k → ((s : List ℕ) → refused k s e) → RefusesContent strict wanted other refused before after known e
+  pub content_apart : (known : Option (List ℕ)) (m : Marker) (h k : Head) (e : Error) → IfSome known (Stands strict m h) → h ≡ k → content_len k ≡ 0
+      → wanted k → ((s : List ℕ) → refused k s e) → RefusesContent strict wanted other refused before after known e
   unfolding RefusesContent
   content_apart None m h k e s i z w f = λ _. tt
   content_apart (Some xs) m h k e s i z w f = λ _. record {
@@ -147,11 +182,13 @@ module _ (strict : Bool) (wanted : Head → Type 0) (other : Marker → Head →
   }
 
 -- a wider way to refuse whole content
-pub content_wider : (strict : Bool) (wanted : Head → Type 0) (other : Marker → Head → Error) (refused wider : Head → List ℕ → Error → Type 0) (before after : ℕ) (known : Option (List ℕ)) (e : Error) → ((h : Head) (s : List ℕ) → wanted h → refused h s e → wider h s e)
+pub content_wider : (strict : Bool) (wanted : Head → Type 0) (other : Marker → Head → Error) (refused wider : Head → List ℕ → Error
+    → Type 0) (before after : ℕ) (known : Option (List ℕ)) (e : Error) → ((h : Head) (s : List ℕ) → wanted h → refused h s e → wider h s e)
     → RefusesContent strict wanted other refused before after known e → RefusesContent strict wanted other wider before after known e
 unfolding RefusesContent
 content_wider strict wanted other refused wider before after None e f r = λ _. tt
-content_wider strict wanted other refused wider before after (Some xs) e f r = λ k. let x = r k in record { others = x.others; cut = x.cut; whole = λ h s w t n. f h s w (x.whole h s w t n); ends = x.ends }
+content_wider strict wanted other refused wider before after (Some xs) e f r = λ k. let x = r k
+    in record { others = x.others; cut = x.cut; whole = λ h s w t n. f h s w (x.whole h s w t n); ends = x.ends }
 
 -- a head's first byte
 some_byte : (b : List ℕ) → 0 < length b → (x : ℕ) × (y : List ℕ) × (b ≡ x ∷ y)
@@ -161,7 +198,8 @@ some_byte (x ∷ y) l = (x, y, refl)
 pub head_byte : (strict : Bool) (h : Head) (b : List ℕ) → heads_of strict h b → (x : ℕ) × (y : List ℕ) × (b ≡ x ∷ y)
 head_byte strict h b i = some_byte b (omega (arith, canon_head_least h b (any_width strict h b i), head_some h))
 
-stands_some : (strict : Bool) (h : Head) (b : List ℕ) (known k : Option (List ℕ)) → heads_of strict h b → Consumes known k b → (m : Marker) × IfSome known (Stands strict m h)
+stands_some : (strict : Bool) (h : Head) (b : List ℕ) (known k : Option (List ℕ)) → heads_of strict h b → Consumes known k b
+    → (m : Marker) × IfSome known (Stands strict m h)
 stands_some strict h b known k i c =
     let t = head_byte strict h b i in
     let front = t.2 in
@@ -240,16 +278,20 @@ pub buffer_wanted : (t : Bool) (n : ℕ) → IsBufferHead (raw_head t n)
 buffer_wanted true n = tt
 buffer_wanted false n = tt
 
-module _ {R C : Type 0} (g : Ghosts R) (wanted : Head → Type 0) (other : Marker → Head → Error) (refused : Head → List ℕ → Error → Type 0) (old mid : Deserializer R C) (after : ℕ) where
+module _ {R C : Type 0} (g : Ghosts R) (wanted : Head → Type 0) (other : Marker → Head → Error) (refused : Head → List ℕ → Error
+    → Type 0) (old mid : Deserializer R C) (after : ℕ) where
   -- a wanted head was taken, and its content refused
-  pub content_error : (p : Marker × Head) (h : Head) (n : ℕ) (e : Error) → ReadsHead g old mid (Ok p) → p.1 ≡ h → content_len h ≡ n → wanted h → Explains e (g.faults mid.reader) after (RefusesPiece n (refused h) (g.ahead mid.reader) e)
+  pub content_error : (p : Marker × Head) (h : Head) (n : ℕ) (e : Error) → ReadsHead g old mid (Ok p) → p.1 ≡ h → content_len h ≡ n → wanted h
+      → Explains e (g.faults mid.reader) after (RefusesPiece n (refused h) (g.ahead mid.reader) e)
       → RefusesContent old.strict wanted other refused (faults_of g old) after (left g old) e
   content_error p h n e r i l w x =
-      content_behind old.strict wanted other refused (faults_of g old) after (left g old) (left g mid) r.ok.bytes p.0 p.1 e r.ok.takes r.ok.is_head r.marked (subst wanted (sym i) w) (λ o k.
+      content_behind old.strict wanted other refused (faults_of g old) after (left g old) (left g mid) r.ok.bytes p.0 p.1 e r.ok.takes r.ok.is_head r.marked
+      (subst wanted (sym i) w) (λ o k.
       rw (bare g mid r.clean, i, l) (x o (k ∙ sym r.sound)))
 
   -- a text or bytes were taken whole, and then refused
-  pub content_refused_after : {V : Type 0} (reads : Msg → V → Type 0) (v : V) (t : Bool) (s : List ℕ) (e : Error) (r : Reads g reads old mid v) → r.tree ≡ raw_msg t s → wanted (raw_head t (length s)) → refused (raw_head t (length s)) s e
+  pub content_refused_after : {V : Type 0} (reads : Msg → V → Type 0) (v : V) (t : Bool) (s : List ℕ) (e : Error) (r : Reads g reads old mid v)
+      → r.tree ≡ raw_msg t s → wanted (raw_head t (length s)) → refused (raw_head t (length s)) s e
       → RefusesContent old.strict wanted other refused (faults_of g old) after (left g old) e
   content_refused_after reads v t s e r q w f =
       let j = (raw_content t).opens old.strict s r.bytes (subst (SpellsAs old.strict r.bytes) q r.spelled) in
@@ -257,16 +299,19 @@ module _ {R C : Type 0} (g : Ghosts R) (wanted : Head → Type 0) (other : Marke
       let same : r.bytes ≡ j.first ++ s = j.is_whole ∙ ap (λ z. j.first ++ z) j.is_second.0 in
       let taken = split_known (left g old) (left g mid) j.first s (subst (Consumes (left g old) (left g mid)) same r.takes) in
       let m = stands_some old.strict h j.first (left g old) (prepend_known s (left g mid)) j.is_first taken in
-      content_behind old.strict wanted other refused (faults_of g old) after (left g old) (prepend_known s (left g mid)) j.first m.0 h e taken j.is_first m.1 w (λ _ _.
+      content_behind old.strict wanted other refused (faults_of g old) after (left g old) (prepend_known s (left g mid)) j.first m.0 h e taken j.is_first
+      m.1 w (λ _ _.
       piece_whole (content_len h) (refused h) (prepend_known s (left g mid)) (left g mid) s e (front_known (left g mid) s) (sym (raw_len t (length s))) f)
 
 -- ---- whole content that isn't UTF-8
 
-pub not_utf8_string : (t : Bool) (n : ℕ) (s : List ℕ) (e : Error) → (IsUtf8 s → ⊥) → (t ≡ true → IsUtf8Error e) → (t ≡ false → e ≡ Syntax InvalidValue) → not_string (raw_head t n) s e
+pub not_utf8_string : (t : Bool) (n : ℕ) (s : List ℕ) (e : Error) → (IsUtf8 s → ⊥) → (t ≡ true → IsUtf8Error e) → (t ≡ false → e ≡ Syntax InvalidValue)
+    → not_string (raw_head t n) s e
 not_utf8_string true n s e f a b = (f, a refl)
 not_utf8_string false n s e f a b = (f, b refl)
 
-pub not_utf8_str : (lends t : Bool) (n : ℕ) (s : List ℕ) (e : Error) → lends ≡ true → (IsUtf8 s → ⊥) → (t ≡ true → IsUtf8Error e) → (t ≡ false → e ≡ Syntax InvalidValue) → not_str lends (raw_head t n) s e
+pub not_utf8_str : (lends t : Bool) (n : ℕ) (s : List ℕ) (e : Error) → lends ≡ true → (IsUtf8 s → ⊥) → (t ≡ true → IsUtf8Error e)
+    → (t ≡ false → e ≡ Syntax InvalidValue) → not_str lends (raw_head t n) s e
 not_utf8_str true t n s e l f a b = not_utf8_string t n s e f a b
 not_utf8_str false t n s e l f a b = absurd (cc)
 

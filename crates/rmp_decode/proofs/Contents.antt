@@ -87,9 +87,11 @@ pub raw_content : (t : Bool) → Content (raw_msg t) (raw_head t)
 raw_content true = text_content
 raw_content false = bin_content
 
-module _ {R C V : Type 0} {make : List ℕ → Msg} {heads : ℕ → Head} (content : Content make heads) (g : Ghosts R) (reads : Msg → V → Type 0) (old mid new : Deserializer R C) (p : Marker × Head) (h : ReadsHead g old mid (Ok p)) where
+module _ {R C V : Type 0} {make : List ℕ → Msg} {heads : ℕ → Head} (content : Content make heads) (g : Ghosts R) (reads : Msg → V
+    → Type 0) (old mid new : Deserializer R C) (p : Marker × Head) (h : ReadsHead g old mid (Ok p)) where
   -- it was there, and is read so
-  pub content_read : (s : List ℕ) (n : ℕ) (v : V) → p.1 ≡ heads n → length s ≡ n → IsBytes s → Consumes (g.ahead mid.reader) (g.ahead new.reader) s → new.kept ≡ mid.kept → new.failed ≡ false → faults_of g new ≡ faults_of g mid → Stays g mid new
+  pub content_read : (s : List ℕ) (n : ℕ) (v : V) → p.1 ≡ heads n → length s ≡ n → IsBytes s → Consumes (g.ahead mid.reader) (g.ahead new.reader) s
+      → new.kept ≡ mid.kept → new.failed ≡ false → faults_of g new ≡ faults_of g mid → Stays g mid new
       → reads (make s) v → Lawful g reads old new (Ok v)
   content_read s n v e l b c k f q st r =
       let clean : new.kept ≡ Nothing = k ∙ h.clean in
@@ -99,8 +101,19 @@ module _ {R C V : Type 0} {make : List ℕ → Msg} {heads : ℕ → Head} (cont
           bytes = h.ok.bytes ++ s;
           tree = make s;
           takes = rw (bare g new clean) (Consumes-trans _ _ _ _ _ first c);
-          goes_on = record { more = h.ok.goes_on.more ++ s; whole = ap (λ z. z ++ s) h.ok.goes_on.whole ∙ append_assoc (kept_bytes old.kept) h.ok.goes_on.more s };
-          spelled = content.spells old.strict s (h.ok.bytes ++ s) (record { first = h.ok.bytes; second = s; is_first = subst (λ j. heads_of old.strict j h.ok.bytes) (e ∙ ap heads (sym l)) h.ok.is_head; is_second = (refl, b); is_whole = refl });
+          goes_on = record {
+            more = h.ok.goes_on.more ++ s;
+            whole = ap (λ z. z ++ s) h.ok.goes_on.whole
+                ∙ append_assoc (kept_bytes old.kept) h.ok.goes_on.more s;
+          };
+          spelled = content.spells old.strict s (h.ok.bytes ++ s)
+              (record {
+                first = h.ok.bytes;
+                second = s;
+                is_first = subst (λ j. heads_of old.strict j h.ok.bytes) (e ∙ ap heads (sym l)) h.ok.is_head;
+                is_second = (refl, b);
+                is_whole = refl;
+              });
           fits = omega (arith, content.flat s);
           value = r;
         };
@@ -114,31 +127,40 @@ module _ {R C V : Type 0} {make : List ℕ → Msg} {heads : ℕ → Head} (cont
       }
 
   -- too few bytes are behind the head
-  pub content_short : (n : ℕ) (e : Error) → p.1 ≡ heads n → Explains e (g.faults mid.reader) (g.faults new.reader) (IsShort n (g.ahead mid.reader)) → new.failed ≡ true → Stays g mid new → Lawful g reads old new (Err e)
+  pub content_short : (n : ℕ) (e : Error) → p.1 ≡ heads n → Explains e (g.faults mid.reader) (g.faults new.reader) (IsShort n (g.ahead mid.reader))
+      → new.failed ≡ true → Stays g mid new → Lawful g reads old new (Err e)
   content_short n e i x f st = refused g reads old new e h.fresh f (stays_then g old mid new h.stays st) (λ o k.
       let s : IsShort n (left g mid) = rw (bare g mid h.clean) (x o (k ∙ sym h.sound)) in
       refuses_short _ (Readable reads) _ n (left g old) (left g mid) h.ok.bytes p.1 h.ok.takes h.ok.is_head s (λ m r q. content.fills m n (q ∙ i)))
 
   -- too few bytes are behind the head, or the source doesn't lend, and only what is lent is read
-  pub content_lent : (lends : Bool) (n : ℕ) (e : Error) → p.1 ≡ heads n → ((m : Msg) → Readable reads m → lends ≡ true) → (lends ≡ true → Explains e (g.faults mid.reader) (g.faults new.reader) (IsShort n (g.ahead mid.reader))) → new.failed ≡ true → Stays g mid new → Lawful g reads old new (Err e)
+  pub content_lent : (lends : Bool) (n : ℕ) (e : Error) → p.1 ≡ heads n → ((m : Msg) → Readable reads m → lends ≡ true)
+      → (lends ≡ true → Explains e (g.faults mid.reader) (g.faults new.reader) (IsShort n (g.ahead mid.reader))) → new.failed ≡ true → Stays g mid new
+      → Lawful g reads old new (Err e)
   content_lent true n e i l x f st = content_short n e i (x refl) f st
-  content_lent false n e i l x f st = refused g reads old new e h.fresh f (stays_then g old mid new h.stays st) (λ _ _. refuses_all (SpellsAs old.strict) (Readable reads) _ _ (λ m r. absurd (let no = l m r in cc)))
+  content_lent false n e i l x f st = refused g reads old new e h.fresh f (stays_then g old mid new h.stays st)
+      (λ _ _. refuses_all (SpellsAs old.strict) (Readable reads) _ _ (λ m r. absurd (let no = l m r in cc)))
 
   -- another kind was there
-  pub content_missed : (e : Error) → ((n : ℕ) → p.1 ≡ heads n → ⊥) → ((m : Msg) → Readable reads m → (s : List ℕ) × (m ≡ make s)) → new ≡ mid → Lawful g reads old new (Err e)
+  pub content_missed : (e : Error) → ((n : ℕ) → p.1 ≡ heads n → ⊥) → ((m : Msg) → Readable reads m → (s : List ℕ) × (m ≡ make s)) → new ≡ mid
+      → Lawful g reads old new (Err e)
   content_missed e n f q = rw q (refused_head g reads old mid p e h (λ m r i. let a = f m r in n (length a.0) (sym i ∙ ap head_of a.1 ∙ content.is a.0)))
 
   -- it was there, and no such content is read
   pub content_refused : (n : ℕ) (e : Error) → p.1 ≡ heads n → ((m : Msg) → Readable reads m → (s : List ℕ) × (m ≡ make s))
-      → Explains e (g.faults mid.reader) (g.faults new.reader) (IfSome (g.ahead mid.reader) (λ ys. (s r : List ℕ) → ys ≡ s ++ r → length s ≡ n → Readable reads (make s) → ⊥)) → new.failed ≡ true → Stays g mid new → Lawful g reads old new (Err e)
+      → Explains e (g.faults mid.reader) (g.faults new.reader)
+      (IfSome (g.ahead mid.reader) (λ ys. (s r : List ℕ) → ys ≡ s ++ r → length s ≡ n → Readable reads (make s) → ⊥)) → new.failed ≡ true
+      → Stays g mid new → Lawful g reads old new (Err e)
   content_refused n e i f x d st = refused g reads old new e h.fresh d (stays_then g old mid new h.stays st) (λ o k.
-      let none : IfSome (left g mid) (λ ys. (s r : List ℕ) → ys ≡ s ++ r → length s ≡ n → Readable reads (make s) → ⊥) = rw (bare g mid h.clean) (x o (k ∙ sym h.sound)) in
+      let none : IfSome (left g mid) (λ ys. (s r : List ℕ) → ys ≡ s ++ r → length s ≡ n → Readable reads (make s)
+      → ⊥) = rw (bare g mid h.clean) (x o (k ∙ sym h.sound)) in
       refuses_by _ (Readable reads) _ (left g old) (left g mid) h.ok.bytes h.ok.takes (λ ys q a.
       let t = f a.tree a.holds in
       let t0 = t.0 in
       let same_tree = t.1 in
       let j = content.opens old.strict t0 a.bytes (subst (SpellsAs old.strict a.bytes) same_tree a.spelled) in
-      let split : j.first ++ (j.second ++ a.rest) ≡ h.ok.bytes ++ ys = sym (append_assoc j.first j.second a.rest) ∙ ap (λ z. z ++ a.rest) (sym j.is_whole) ∙ sym a.front in
+      let split : j.first ++ (j.second ++ a.rest) ≡ h.ok.bytes ++ ys = sym (append_assoc j.first j.second a.rest) ∙ ap (λ z. z ++ a.rest) (sym j.is_whole)
+      ∙ sym a.front in
       let u = heads_apart_as old.strict (heads (length t0)) p.1 j.first h.ok.bytes (j.second ++ a.rest) ys j.is_first h.ok.is_head split in
       let at : (s r : List ℕ) → ys ≡ s ++ r → length s ≡ n → Readable reads (make s) → ⊥ = rw q at none in
       at t0 a.rest (sym u.2 ∙ ap (λ z. z ++ a.rest) j.is_second.0) (content.same _ _ (u.0 ∙ i)) (subst (Readable reads) same_tree a.holds)))

@@ -19,12 +19,16 @@ some_read reads no_items (w ∷ vs) v r = absurd r
 some_read reads (item m ms) vs v r = omega arith
 
 -- an element was read for which memory was short
-pub each_short : {R C V : Type 0} (g : Ghosts R) (human : C → Bool) (lends : Bool) (reads : Bool → Bool → Msg → V → Type 0) (P : Setting → Refusals) (old : Deserializer R C) (start mid now : SeqAccess R C) → Opens g old start → (vs : List V) (v : V) → Values g (reads (human old.config) lends) start mid vs
-    → TakesElement g (reads (human old.config) lends) mid now v → now.de.ghost_name ≡ mid.de.ghost_name → (after : ℕ) → RefusesEach reads P (setting_of (human old.config) lends old) (faults_of g old) after (left g old) OutOfMemory
+pub each_short : {R C V : Type 0} (g : Ghosts R) (human : C → Bool) (lends : Bool) (reads : Bool → Bool → Msg → V → Type 0) (P : Setting
+    → Refusals) (old : Deserializer R C) (start mid now : SeqAccess R C) → Opens g old start → (vs : List V) (v : V)
+    → Values g (reads (human old.config) lends) start mid vs
+    → TakesElement g (reads (human old.config) lends) mid now v → now.de.ghost_name ≡ mid.de.ghost_name → (after : ℕ)
+    → RefusesEach reads P (setting_of (human old.config) lends old) (faults_of g old) after (left g old) OutOfMemory
 each_short g human lends reads P old start mid now o vs v r t p after =
     let w = values_step g (reads (human old.config) lends) start mid now vs v r t p in
     inr (behind_head g human lends old start o after OutOfMemory
-    (λ b i n known e. Behind (SpellsIn i.strict b) (EachRead reads i) i.room n (WhereSome (RefusedIn b (P i) (faults_of g old) after)) known e ⊎ Behind (SpellsIn i.strict b) (λ ms. (0 < count ms) × EachRead reads i ms) i.room n IsMemory known e)
+    (λ b i n known e. Behind (SpellsIn i.strict b) (EachRead reads i) i.room n (WhereSome (RefusedIn b (P i) (faults_of g old) after)) known e
+    ⊎ Behind (SpellsIn i.strict b) (λ ms. (0 < count ms) × EachRead reads i ms) i.room n IsMemory known e)
     (inr (record {
       bytes = w.run.bytes;
       rest = left g now.de.now;

@@ -1,5 +1,30 @@
 -- Which error comes where one head is wanted.
-use Rattle.std.proofs.Common.{◌≡◌, ◌∙◌, sym, ap, subst, refl, ℕ, pos, negsuc, ◌<◌, ◌≤◌, arith, List, [], ◌∷◌, ◌++◌, Option, None, Some, IfSome, nat_lt, Bool, true, false}
+use Rattle.std.proofs.Common.{
+  ◌≡◌,
+  ◌∙◌,
+  sym,
+  ap,
+  subst,
+  refl,
+  ℕ,
+  pos,
+  negsuc,
+  ◌<◌,
+  ◌≤◌,
+  arith,
+  List,
+  [],
+  ◌∷◌,
+  ◌++◌,
+  Option,
+  None,
+  Some,
+  IfSome,
+  nat_lt,
+  Bool,
+  true,
+  false,
+}
 use Rattle.std.proofs.Common.{inl, inr}
 use Rattle.std.proofs.lemmas.Bool.{cases_lt, lt-ltb, le-ltb}
 use Rattle.std.specs.Io.KnownBytes.{Consumes, prepend_known}
@@ -23,7 +48,8 @@ use Rattle.rmp_decode.specs.declared.error.Error.TheVariants.{TypeMismatch, NotC
 
 -- ---- a head that stands at the front
 
-pub stands_known : (s : Bool) (m : Marker) (h : Head) (b : ℕ) (behind : List ℕ) (known k : Option (List ℕ)) → Consumes known k (b ∷ behind) → m ≡ marker_of b → heads_of s h (b ∷ behind) → IfSome known (Stands s m h)
+pub stands_known : (s : Bool) (m : Marker) (h : Head) (b : ℕ) (behind : List ℕ) (known k : Option (List ℕ)) → Consumes known k (b ∷ behind)
+    → m ≡ marker_of b → heads_of s h (b ∷ behind) → IfSome known (Stands s m h)
 stands_known s m h b behind None k c e i = tt
 stands_known s m h b behind (Some xs) None c e i = absurd c
 stands_known s m h b behind (Some xs) (Some ys) c e i = record { byte = b; behind = behind; rest = ys; front = c; is_marker = e; is_head = i }
@@ -53,15 +79,25 @@ byte_head n l m small wide = elim (cases_lt n 128) [
       record { byte = 0xcc; behind = to_be_bytes w8 n; is = rw (no, yes) refl; is_marker = wide ge }
 ]
 
-pub number_stands : (s : Bool) (n : ℕ) → n < 256 → fits_head (Whole (pos n)) → (m : Marker) → (n < 128 → m ≡ marker.FixPos n) → (128 ≤ n → m ≡ marker.U8) → (known : Option (List ℕ)) → IfSome (prepend_known (canon_head (Whole (pos n))) known) (Stands s m (Whole (pos n)))
+pub number_stands : (s : Bool) (n : ℕ) → n < 256 → fits_head (Whole (pos n)) → (m : Marker) → (n < 128 → m ≡ marker.FixPos n) → (128 ≤ n → m ≡ marker.U8)
+    → (known : Option (List ℕ)) → IfSome (prepend_known (canon_head (Whole (pos n))) known) (Stands s m (Whole (pos n)))
 number_stands s n l f m small wide None = tt
 number_stands s n l f m small wide (Some ys) =
     let b = byte_head n l m small wide in
-    record { byte = b.byte; behind = b.behind; rest = ys; front = ap (λ z. z ++ ys) b.is; is_marker = b.is_marker; is_head = subst (heads_of s (Whole (pos n))) b.is (canon_in s (Whole (pos n)) f) }
+    record {
+      byte = b.byte;
+      behind = b.behind;
+      rest = ys;
+      front = ap (λ z. z ++ ys) b.is;
+      is_marker = b.is_marker;
+      is_head = subst
+          (heads_of s (Whole (pos n))) b.is (canon_in s (Whole (pos n)) f);
+    }
 
 -- ---- the error
 
-pub exact_head : (s : Bool) (table : Marker → Head → Error) (before after : ℕ) (known : Option (List ℕ)) (m : Marker) (h : Head) (e : Error) → IfSome known (Stands s m h) → e ≡ table m h → RefusesExactly s table before after known e
+pub exact_head : (s : Bool) (table : Marker → Head → Error) (before after : ℕ) (known : Option (List ℕ)) (m : Marker) (h : Head) (e : Error)
+    → IfSome known (Stands s m h) → e ≡ table m h → RefusesExactly s table before after known e
 unfolding RefusesExactly
 exact_head w table before after None m h e s q = λ _. tt
 exact_head w table before after (Some xs) m h e s q = λ _. record {
@@ -69,12 +105,14 @@ exact_head w table before after (Some xs) m h e s q = λ _. record {
   ends = λ none. absurd (none m h s);
 }
 
-pub exact_none : (s : Bool) (table : Marker → Head → Error) (before after : ℕ) (known : Option (List ℕ)) (e : Error) → EndsExactly s before after known e → RefusesExactly s table before after known e
+pub exact_none : (s : Bool) (table : Marker → Head → Error) (before after : ℕ) (known : Option (List ℕ)) (e : Error) → EndsExactly s before after known e
+    → RefusesExactly s table before after known e
 unfolding RefusesExactly EndsExactly
 exact_none w table before after None e s = λ _. tt
 exact_none w table before after (Some xs) e s = λ same. record { stands = λ m h t. absurd ((s same).0 m h t); ends = λ _. (s same).1 }
 
-pub by_head : (s : Bool) (table : Marker → Head → Error → Type 0) (before after : ℕ) (known : Option (List ℕ)) (m : Marker) (h : Head) (e : Error) → IfSome known (Stands s m h) → table m h e → RefusesBy s table before after known e
+pub by_head : (s : Bool) (table : Marker → Head → Error → Type 0) (before after : ℕ) (known : Option (List ℕ)) (m : Marker) (h : Head) (e : Error)
+    → IfSome known (Stands s m h) → table m h e → RefusesBy s table before after known e
 unfolding RefusesBy
 by_head w table before after None m h e s q = λ _. tt
 by_head w table before after (Some xs) m h e s q = λ _. record {
@@ -82,7 +120,8 @@ by_head w table before after (Some xs) m h e s q = λ _. record {
   ends = λ none. absurd (none m h s);
 }
 
-pub by_none : (s : Bool) (table : Marker → Head → Error → Type 0) (before after : ℕ) (known : Option (List ℕ)) (e : Error) → EndsExactly s before after known e → RefusesBy s table before after known e
+pub by_none : (s : Bool) (table : Marker → Head → Error → Type 0) (before after : ℕ) (known : Option (List ℕ)) (e : Error)
+    → EndsExactly s before after known e → RefusesBy s table before after known e
 unfolding RefusesBy EndsExactly
 by_none w table before after None e s = λ _. tt
 by_none w table before after (Some xs) e s = λ same. record { stands = λ m h t. absurd ((s same).0 m h t); ends = λ _. (s same).1 }
@@ -140,7 +179,8 @@ same_first a b xs part (Some ys) c = let u : a ∷ xs ≡ b ∷ (part ++ ys) = c
 none_stands : (strict : Bool) (xs : List ℕ) → NoHead (Some xs) → NoneStands strict xs
 none_stands strict xs n m h s = n h (s.byte ∷ s.behind) s.rest s.front (any_width strict h (s.byte ∷ s.behind) s.is_head)
 
-ends_known : (xs : List ℕ) (new : Option (List ℕ)) (before after : ℕ) (e : ValueReadError) → after ≡ before → FailsNext (Some xs) new before after e → NoneStands false xs → Ends xs (error_of e)
+ends_known : (xs : List ℕ) (new : Option (List ℕ)) (before after : ℕ) (e : ValueReadError) → after ≡ before → FailsNext (Some xs) new before after e
+    → NoneStands false xs → Ends xs (error_of e)
 unfolding byte_of
 ends_known [] new before after (wire.InvalidMarkerRead f) q r none = r.leaves.end q
 ends_known [] new before after (wire.InvalidDataRead f) q r none = let t = r.leaves.0 in absurd (not_begun [] (byte_of t.marker) t.part new refl t.taken)
@@ -154,7 +194,8 @@ ends_known (b ∷ xs) new before after (wire.TypeMismatch k) q r none =
     let same : b ≡ 0xc1 = same_first b 0xc1 xs [] new r.leaves.1 in
     (λ _. ap TypeMismatch r.leaves.0, λ n. absurd (n same))
 
-pub ends_none : (s : Bool) (known new : Option (List ℕ)) (before after : ℕ) (e : ValueReadError) → FailsNext known new before after e → EndsExactly s before after known (error_of e)
+pub ends_none : (s : Bool) (known new : Option (List ℕ)) (before after : ℕ) (e : ValueReadError) → FailsNext known new before after e
+    → EndsExactly s before after known (error_of e)
 unfolding EndsExactly
 ends_none s None new before after e r = λ _. tt
 ends_none s (Some xs) new before after e r = λ q. (none_stands s xs (r.none q), ends_known xs new before after e q r (none_stands false xs (r.none q)))
@@ -178,17 +219,24 @@ not_reserved (Map n) b x i e = grind arith
 not_reserved (Ext n tag) b x i e = grind arith
 
 -- another head of some width stands there, so none that is allowed does
-pub wide_stands_none : (strict : Bool) (h : Head) (b : ℕ) (behind xs ys : List ℕ) → xs ≡ (b ∷ behind) ++ ys → IsHead h (b ∷ behind) → (heads_of strict h (b ∷ behind) → ⊥) → NoneStands strict xs
+pub wide_stands_none : (strict : Bool) (h : Head) (b : ℕ) (behind xs ys : List ℕ) → xs ≡ (b ∷ behind) ++ ys → IsHead h (b ∷ behind)
+    → (heads_of strict h (b ∷ behind) → ⊥) → NoneStands strict xs
 wide_stands_none strict h b behind xs ys c i n = λ m k s.
     let u = heads_apart k h (s.byte ∷ s.behind) (b ∷ behind) s.rest ys (any_width strict k (s.byte ∷ s.behind) s.is_head) i (sym s.front ∙ c) in
     n (subst (λ z. heads_of strict z (b ∷ behind)) u.0 (subst (heads_of strict k) u.1 s.is_head))
 
-pub ends_wide : (s : Bool) (before after : ℕ) (known k : Option (List ℕ)) (h : Head) (b : ℕ) (behind : List ℕ) → Consumes known k (b ∷ behind) → IsHead h (b ∷ behind) → (heads_of s h (b ∷ behind) → ⊥) → EndsExactly s before after known NotCanonical
+pub ends_wide : (s : Bool) (before after : ℕ) (known k : Option (List ℕ)) (h : Head) (b : ℕ) (behind : List ℕ) → Consumes known k (b ∷ behind)
+    → IsHead h (b ∷ behind) → (heads_of s h (b ∷ behind) → ⊥) → EndsExactly s before after known NotCanonical
 unfolding EndsExactly
 ends_wide s before after None k h b behind c i n = λ _. tt
 ends_wide s before after (Some xs) None h b behind c i n = absurd c
 ends_wide s before after (Some xs) (Some ys) h b behind c i n = λ _. (
   wide_stands_none s h b behind xs ys c i n,
-  subst (λ z. Ends z NotCanonical) (sym c)
-      (λ e. absurd (not_reserved h b behind i e), λ _. inr (record { marker = marker_of b; head = h; stands = record { byte = b; behind = behind; rest = ys; front = refl; is_marker = refl; is_head = i } }, refl)),
+  subst (λ z. Ends z NotCanonical) (sym c) (
+    λ e. absurd (not_reserved h b behind i e),
+    λ _. inr (
+      record { marker = marker_of b; head = h; stands = record { byte = b; behind = behind; rest = ys; front = refl; is_marker = refl; is_head = i } },
+      refl,
+    ),
+  ),
 )

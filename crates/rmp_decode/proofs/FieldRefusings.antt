@@ -25,30 +25,48 @@ use Rattle.rmp_decode.proofs.Structs.{FieldsRun}
 
 -- ---- one field's value
 
-module _ {R C V S : Type 0} (g : Ghosts R) (human lends : Bool) (reads : Msg → V → Type 0) (holds : List (Option Msg) → S → Type 0) (p : Part) (ps : List Part) (old new : MapAccess R C) (place : ℕ) where
+module _ {R C V S : Type 0} (g : Ghosts R) (human lends : Bool) (reads : Msg → V → Type 0) (holds : List (Option Msg) → S
+    → Type 0) (p : Part) (ps : List Part) (old new : MapAccess R C) (place : ℕ) where
   -- a later one's was refused
-  pub later_wrong : (n : ℕ) → place ≡ suc n → (o : Option V) (s : S) (e : Error) → FillRefused g human lends holds ps n old new s e → FillRefused g human lends (λ fs (u : Option V × S). Slot reads holds fs u.0 u.1) (p ∷ ps) place old new (o, s) e
+  pub later_wrong : (n : ℕ) → place ≡ suc n → (o : Option V) (s : S) (e : Error) → FillRefused g human lends holds ps n old new s e
+      → FillRefused g human lends (λ fs (u : Option V × S). Slot reads holds fs u.0 u.1) (p ∷ ps) place old new (o, s) e
   later_wrong n z o s e h = elim h [
     | inl f ↦ inl (f.0, record { full = λ fs x m. rw z (later_full g reads holds old new place n z o s f.1.full fs x m); same = f.1.same })
     | inr f ↦ inr (rw z f)
   ]
 
   -- the first one's was
-  pub first_wrong : (t : Option V × S) (e : Error) → place ≡ 0 → EntryRefused g human lends p.refuses old new e → FillRefused g human lends (λ fs (u : Option V × S). Slot reads holds fs u.0 u.1) (p ∷ ps) place old new t e
+  pub first_wrong : (t : Option V × S) (e : Error) → place ≡ 0 → EntryRefused g human lends p.refuses old new e
+      → FillRefused g human lends (λ fs (u : Option V × S). Slot reads holds fs u.0 u.1) (p ∷ ps) place old new t e
   first_wrong t e z h = inr (rw z h)
 
 -- ---- fields of a list
 
 -- behind the first one another was refused
-pub others_wrong : {R C V : Type 0} (g : Ghosts R) (human : C → Bool) (lends : Bool) (reads : Msg → V → Type 0) (p : Part) (ps : List Part) (old mid new : SeqAccess R C) (v : V) (took : TakesElement g reads old mid v) (e : Error) → p.holds (element_setting (human old.de.now.config) lends old) took.tree
+pub others_wrong : {R C V : Type 0} (g : Ghosts R) (human : C → Bool) (lends : Bool) (reads : Msg → V
+    → Type 0) (p : Part) (ps : List Part) (old mid new : SeqAccess R C) (v : V) (took : TakesElement g reads old mid v) (e : Error)
+    → p.holds (element_setting (human old.de.now.config) lends old) took.tree
     → PartsRefused g (human mid.de.now.config) lends ps mid new e → PartsRefused g (human old.de.now.config) lends (p ∷ ps) old new e
 others_wrong g human lends reads p ps old mid new v took e h w =
     let z = faults_of g new.de.now in
     let s = setting_same human lends mid.de.now old.de.now (inner_of mid) (inner_of old) took.stays.config took.stays.strict (ap (max 1) took.inner) in
-    let w1 = subst (λ y. RefusesParts y (element_setting (human mid.de.now.config) lends mid) (faults_of g mid.de.now) z ps no_refusal mid.left (left g mid.de.now) e) took.bytes_same w in
+    let w1 = subst (λ y. RefusesParts y (element_setting (human mid.de.now.config) lends mid) (faults_of g mid.de.now) z ps no_refusal mid.left
+    (left g mid.de.now) e) took.bytes_same w in
     let w2 = subst (λ y. RefusesParts old.bytes y (faults_of g mid.de.now) z ps no_refusal mid.left (left g mid.de.now) e) s w1 in
-    let w3 = subst (λ y. RefusesParts old.bytes (element_setting (human old.de.now.config) lends old) y z ps no_refusal mid.left (left g mid.de.now) e) took.faults_same w2 in
-    inr (record { bytes = took.bytes; rest = left g mid.de.now; tree = took.tree; still = mid.left; takes = took.takes; spelled = took.spelled; many = took.fewer; fits = took.fits; holds = h; refused = w3 })
+    let w3 = subst (λ y. RefusesParts old.bytes (element_setting (human old.de.now.config) lends old) y z ps no_refusal mid.left (left g mid.de.now) e)
+    took.faults_same w2 in
+    inr (record {
+      bytes = took.bytes;
+      rest = left g mid.de.now;
+      tree = took.tree;
+      still = mid.left;
+      takes = took.takes;
+      spelled = took.spelled;
+      many = took.fewer;
+      fits = took.fits;
+      holds = h;
+      refused = w3;
+    })
 
 given_held : (s : Setting) (ps : List Part) (ms : Msgs) → PartsHold s ps (given_all ms) → Held s ps ms
 given_held s [] no_items h = tt
@@ -56,26 +74,34 @@ given_held s [] (item m ms) h = h
 given_held s (p ∷ ps) no_items h = h
 given_held s (p ∷ ps) (item m ms) h = (h.0, given_held s ps ms h.1)
 
-module _ {R C V : Type 0} (g : Ghosts R) (human : C → Bool) (lends : Bool) (names : List (List ℕ)) (reads : Bool → Bool → List (Option Msg) → V → Type 0) (ps : List Part) (old : Deserializer R C) (after : ℕ) (e : Error) where
+module _ {R C V : Type 0} (g : Ghosts R) (human : C → Bool) (lends : Bool) (names : List (List ℕ)) (reads : Bool → Bool → List (Option Msg) → V
+    → Type 0) (ps : List Part) (old : Deserializer R C) (after : ℕ) (e : Error) where
   module _ (start : SeqAccess R C) (o : Opens g old start) where
     -- one of them was refused
-    pub listed_wrong : (now : SeqAccess R C) → after ≡ faults_of g now.de.now → PartsRefused g (human start.de.now.config) lends ps start now e → RefusesFields names reads ps (setting_of (human old.config) lends old) (faults_of g old) after (left g old) e
+    pub listed_wrong : (now : SeqAccess R C) → after ≡ faults_of g now.de.now → PartsRefused g (human start.de.now.config) lends ps start now e
+        → RefusesFields names reads ps (setting_of (human old.config) lends old) (faults_of g old) after (left g old) e
     listed_wrong now q h =
-        let h' = behind_opened g human lends old start now o after q (λ s a z. RefusesParts start.bytes s a z ps no_refusal start.left (left g start.de.now) e) h in
+        let h' = behind_opened g human lends old start now o after q
+        (λ s a z. RefusesParts start.bytes s a z ps no_refusal start.left (left g start.de.now) e) h in
         inr (inl (behind_head g human lends old start o after e (λ b i. RefusesParts b i (faults_of g old) after ps (Excess (length ps)))
-        (whatever (inside (setting_of (human old.config) lends old) (inner_of start)) start.bytes (faults_of g old) after e ps (Excess (length ps)) start.left (left g start.de.now) h')))
+        (whatever (inside (setting_of (human old.config) lends old) (inner_of start)) start.bytes (faults_of g old) after e ps (Excess (length ps))
+        start.left (left g start.de.now) h')))
 
-    behind_all : (i : Setting) → start.de.now.strict ≡ i.strict → inner_of start ≡ i.room → (qs : List Part) (mid : SeqAccess R C) (ms : Msgs) → Run g start mid ms → Held i qs ms → count ms ≡ length qs → 0 < mid.left → e ≡ LengthMismatch (mid.count - mid.left)
+    behind_all : (i : Setting) → start.de.now.strict ≡ i.strict → inner_of start ≡ i.room → (qs : List Part) (mid : SeqAccess R C) (ms : Msgs)
+        → Run g start mid ms → Held i qs ms → count ms ≡ length qs → 0 < mid.left → e ≡ LengthMismatch (mid.count - mid.left)
         → RefusesParts start.bytes i (faults_of g old) after qs (Excess (length qs)) start.left (left g start.de.now) e
     behind_all i a b [] mid ms r h c l q =
         let d : mid.count - mid.left ≡ 0 = omega (arith, r.many, r.count_same, o.count, c) in
         (omega (arith, l, c, r.many), q ∙ ap LengthMismatch d)
     behind_all i a b (p ∷ qs) mid ms r h c l q =
         let d : mid.count - mid.left ≡ length (p ∷ qs) = omega (arith, r.many, r.count_same, o.count, c) in
-        all_read i start.bytes (faults_of g old) after e p qs (Excess (length (p ∷ qs))) (left g start.de.now) start.left ms (left g mid.de.now) mid.left h (run_ahead g start mid ms i a b r) (l, q ∙ ap LengthMismatch d)
+        all_read i start.bytes (faults_of g old) after e p qs (Excess (length (p ∷ qs))) (left g start.de.now) start.left ms (left g mid.de.now) mid.left h
+        (run_ahead g start mid ms i a b r) (l, q ∙ ap LengthMismatch d)
 
     -- all of them were read, and there are more
-    pub listed_excess : (mid : SeqAccess R C) (ms : Msgs) → Run g start mid ms → PartsHold (inside (setting_of (human old.config) lends old) (inner_of start)) ps (given_all ms) → count ms ≡ length ps → 0 < mid.left → e ≡ LengthMismatch (mid.count - mid.left)
+    pub listed_excess : (mid : SeqAccess R C) (ms : Msgs) → Run g start mid ms
+        → PartsHold (inside (setting_of (human old.config) lends old) (inner_of start)) ps (given_all ms) → count ms ≡ length ps → 0 < mid.left
+        → e ≡ LengthMismatch (mid.count - mid.left)
         → RefusesFields names reads ps (setting_of (human old.config) lends old) (faults_of g old) after (left g old) e
     listed_excess mid ms r h c l q =
         let i = inside (setting_of (human old.config) lends old) (inner_of start) in
@@ -84,12 +110,15 @@ module _ {R C V : Type 0} (g : Ghosts R) (human : C → Bool) (lends : Bool) (na
 
   -- ---- fields of a map
 
-  module _ {S : Type 0} (start mid : MapAccess R C) (o : OpensMap g old start) (holds : List (Option Msg) → S → Type 0) (held : (fs : List (Option Msg)) (t : S) → holds fs t → PartsHold (inside (setting_of (human old.config) lends old) (map_inner start)) ps fs)
+  module _ {S : Type 0} (start mid : MapAccess R C) (o : OpensMap g old start) (holds : List (Option Msg) → S
+      → Type 0) (held : (fs : List (Option Msg)) (t : S) → holds fs t
+      → PartsHold (inside (setting_of (human old.config) lends old) (map_inner start)) ps fs)
       (slots : S) (r : FieldsRun g names holds start mid slots) where
     abbrev Inner : Setting
     Inner = inside (setting_of (human old.config) lends old) (map_inner start)
 
-    behind_met : PairFails names ps r.met_trees Inner (faults_of g old) after mid.left (left g mid.de.now) e ⊎ Lacks reads r.met_trees Inner mid.left e → RefusesFields names reads ps (setting_of (human old.config) lends old) (faults_of g old) after (left g old) e
+    behind_met : PairFails names ps r.met_trees Inner (faults_of g old) after mid.left (left g mid.de.now) e ⊎ Lacks reads r.met_trees Inner mid.left e
+        → RefusesFields names reads ps (setting_of (human old.config) lends old) (faults_of g old) after (left g old) e
     behind_met w = inr (inr (record {
       inner = map_inner start;
       many = start.left;
@@ -119,15 +148,18 @@ module _ {R C V : Type 0} (g : Ghosts R) (human : C → Bool) (lends : Bool) (na
     mid_room = let q = r.run.inner in omega arith
 
     -- the next key was refused
-    pub name_wrong : (now : MapAccess R C) → after ≡ faults_of g now.de.now → KeyRefused g (human mid.de.now.config) lends name_refusal mid now e → RefusesFields names reads ps (setting_of (human old.config) lends old) (faults_of g old) after (left g old) e
+    pub name_wrong : (now : MapAccess R C) → after ≡ faults_of g now.de.now → KeyRefused g (human mid.de.now.config) lends name_refusal mid now e
+        → RefusesFields names reads ps (setting_of (human old.config) lends old) (faults_of g old) after (left g old) e
     name_wrong now q h =
-        let s = setting_same human lends mid.de.now old (map_inner mid) (map_inner start) (r.run.stays.config ∙ o.stays.config) (r.run.stays.strict ∙ o.stays.strict) mid_room in
+        let s = setting_same human lends mid.de.now old (map_inner mid) (map_inner start) (r.run.stays.config ∙ o.stays.config)
+        (r.run.stays.strict ∙ o.stays.strict) mid_room in
         let w1 = subst (λ z. name_refusal z (faults_of g mid.de.now) (faults_of g now.de.now) (left g mid.de.now) e) s h.1 in
         let w2 = subst (λ z. name_refusal Inner z (faults_of g now.de.now) (left g mid.de.now) e) (r.run.faults_same ∙ o.faults_same) w1 in
         behind_met (inl (h.0, inl (subst (λ z. name_refusal Inner (faults_of g old) z (left g mid.de.now) e) (sym q) w2)))
 
     -- a field is missing
-    pub field_lacks : mid.left ≡ 0 → e ≡ Syntax MissingField → ((v : V) → reads (human old.config) lends r.met_trees v → ⊥) → RefusesFields names reads ps (setting_of (human old.config) lends old) (faults_of g old) after (left g old) e
+    pub field_lacks : mid.left ≡ 0 → e ≡ Syntax MissingField → ((v : V) → reads (human old.config) lends r.met_trees v → ⊥)
+        → RefusesFields names reads ps (setting_of (human old.config) lends old) (faults_of g old) after (left g old) e
     field_lacks z q f = behind_met (inr (z, q, f))
 
     module _ (key now : MapAccess R C) (k : Option ℕ) (t : TakesKey g (IsName names) mid key k) (q : after ≡ faults_of g now.de.now) where
@@ -135,7 +167,8 @@ module _ {R C V : Type 0} (g : Ghosts R) (human : C → Bool) (lends : Bool) (na
       at_value : (P : Setting → Refusals) → EntryRefused g (human key.de.now.config) lends P key now e → P Inner (faults_of g old) after (left g key.de.now) e
       at_value P h =
           let room : map_inner key ≡ map_inner start = let a = t.inner in let b = r.run.inner in omega arith in
-          let s = setting_same human lends key.de.now old (map_inner key) (map_inner start) (t.part.stays.config ∙ r.run.stays.config ∙ o.stays.config) (t.part.stays.strict ∙ r.run.stays.strict ∙ o.stays.strict) room in
+          let s = setting_same human lends key.de.now old (map_inner key) (map_inner start) (t.part.stays.config ∙ r.run.stays.config ∙ o.stays.config)
+          (t.part.stays.strict ∙ r.run.stays.strict ∙ o.stays.strict) room in
           let w1 = subst (λ z. P z (faults_of g key.de.now) (faults_of g now.de.now) (left g key.de.now) e) s h in
           let w2 = subst (λ z. P Inner z (faults_of g now.de.now) (left g key.de.now) e) (t.part.faults_same ∙ r.run.faults_same ∙ o.faults_same) w1 in
           subst (λ z. P Inner (faults_of g old) z (left g key.de.now) e) (sym q) w2
@@ -144,7 +177,8 @@ module _ {R C V : Type 0} (g : Ghosts R) (human : C → Bool) (lends : Bool) (na
       some_left = omega (arith, t.fewer)
 
       -- it couldn't be passed over
-      pub pass_wrong : k ≡ None → EntryRefused g (human key.de.now.config) lends pass_refusal key now e → RefusesFields names reads ps (setting_of (human old.config) lends old) (faults_of g old) after (left g old) e
+      pub pass_wrong : k ≡ None → EntryRefused g (human key.de.now.config) lends pass_refusal key now e
+          → RefusesFields names reads ps (setting_of (human old.config) lends old) (faults_of g old) after (left g old) e
       pass_wrong n h = behind_met (inl (
         some_left,
         inr (inl (record {
@@ -160,7 +194,8 @@ module _ {R C V : Type 0} (g : Ghosts R) (human : C → Bool) (lends : Bool) (na
       ))
 
       -- it is of a field that was met before, or was refused
-      pub field_wrong : (n : ℕ) → k ≡ Some n → FillRefused g (human key.de.now.config) lends holds ps n key now slots e → RefusesFields names reads ps (setting_of (human old.config) lends old) (faults_of g old) after (left g old) e
+      pub field_wrong : (n : ℕ) → k ≡ Some n → FillRefused g (human key.de.now.config) lends holds ps n key now slots e
+          → RefusesFields names reads ps (setting_of (human old.config) lends old) (faults_of g old) after (left g old) e
       field_wrong n i h = behind_met (inl (
         some_left,
         inr (inr (

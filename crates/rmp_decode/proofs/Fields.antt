@@ -1,5 +1,38 @@
 -- What the read of fields says, from what the reads of its parts say.
-use Rattle.std.proofs.Common.{◌≡◌, ◌∙◌, sym, ap, subst, refl, inl, inr, ◌⊎◌, ℕ, suc, ◌<◌, ◌≤◌, length, Bool, arith, List, [], ◌∷◌, ◌++◌, true, false, Option, None, Some, is_some, max, Result, Ok, Err, OnOk, IfErr}
+use Rattle.std.proofs.Common.{
+  ◌≡◌,
+  ◌∙◌,
+  sym,
+  ap,
+  subst,
+  refl,
+  inl,
+  inr,
+  ◌⊎◌,
+  ℕ,
+  suc,
+  ◌<◌,
+  ◌≤◌,
+  length,
+  Bool,
+  arith,
+  List,
+  [],
+  ◌∷◌,
+  ◌++◌,
+  true,
+  false,
+  Option,
+  None,
+  Some,
+  is_some,
+  max,
+  Result,
+  Ok,
+  Err,
+  OnOk,
+  IfErr,
+}
 use Rattle.std.proofs.KnownBytes.{Consumes-trans}
 use Rattle.std.specs.Option.{option_and_then}
 use Rattle.rmp_wire.specs.declared.source.Source.{Ghosts}
@@ -11,7 +44,21 @@ use Rattle.rmp_wire.specs.declared.head.Head.TheVariants as head
 use Rattle.rmp_wire.specs.declared.marker.Marker.{Marker}
 use Rattle.rmp_decode.proofs.Refusals.{refuses_none, refuses_head, refuses_by, refuses_narrower, same_head}
 use Rattle.rmp_decode.specs.declared.deserializer.Deserializer.{Deserializer}
-use Rattle.rmp_decode.specs.Fields.{HasFields, not_fields, fields_head, FailsToOpenFields, Field, Absent, NoField, Slot, given_all, put, Fills, IsFull, FieldTakes}
+use Rattle.rmp_decode.specs.Fields.{
+  HasFields,
+  not_fields,
+  fields_head,
+  FailsToOpenFields,
+  Field,
+  Absent,
+  NoField,
+  Slot,
+  given_all,
+  put,
+  Fills,
+  IsFull,
+  FieldTakes,
+}
 use Rattle.rmp_decode.specs.Law.{Readable, ReadsHead}
 use Rattle.rmp_decode.specs.Maps.{TakesValue, map_inner}
 use Rattle.rmp_decode.specs.Parts.{FailsPart}
@@ -40,13 +87,15 @@ if_err (Err e) f p = f e p
 pub no_field_listed : {R C : Type 0} (g : Ghosts R) (s : SeqAccess R C) → IsOpen s → TakesParts g (λ (v : Unit {0}) ms. NoField (given_all ms)) s s tt
 no_field_listed g s o = record { trees = no_items; run = run_start g s o; value = tt }
 
-module _ {R C V W : Type 0} (g : Ghosts R) (reads : C → Msg → V → Type 0) (absent : Option V) (rest : C → List (Option Msg) → W → Type 0) (old mid new : SeqAccess R C) (o : IsOpen old) where
+module _ {R C V W : Type 0} (g : Ghosts R) (reads : C → Msg → V → Type 0) (absent : Option V) (rest : C → List (Option Msg) → W
+    → Type 0) (old mid new : SeqAccess R C) (o : IsOpen old) where
   abbrev pub Both : V × W → Msgs → Type 0
   Both p ms = Field (λ k. reads old.de.now.config k p.0) (Absent absent p.0) (λ gs. rest old.de.now.config gs p.1) (given_all ms)
 
   module _ (v : V) (took : TakesElement g (reads old.de.now.config) old mid v) (n : mid.de.ghost_name ≡ old.de.ghost_name) where
     -- the other fields were read
-    pub others_read : (w : W) → new.de.ghost_name ≡ mid.de.ghost_name → TakesParts g (λ w ms. rest mid.de.now.config (given_all ms) w) mid new w → TakesParts g Both old new (v, w)
+    pub others_read : (w : W) → new.de.ghost_name ≡ mid.de.ghost_name → TakesParts g (λ w ms. rest mid.de.now.config (given_all ms) w) mid new w
+        → TakesParts g Both old new (v, w)
     others_read w s t0 =
         let t = subst (λ z. TakesParts g (λ w ms. rest z (given_all ms) w) mid new w) took.stays.config t0 in
         let room : mid.inner ≡ old.inner = took.inner in
@@ -55,7 +104,15 @@ module _ {R C V W : Type 0} (g : Ghosts R) (reads : C → Msg → V → Type 0) 
           run = record {
             bytes = took.bytes ++ t.run.bytes;
             takes = Consumes-trans _ _ _ took.bytes t.run.bytes took.takes t.run.takes;
-            spelled = record { first = took.bytes; second = t.run.bytes; is_first = took.spelled; is_second = subst (λ z. Rattle.rmp_decode.specs.Seq.SpellsRow (SpellsIn old.de.now.strict z) t.run.bytes t.trees) took.bytes_same (subst (λ z. Rattle.rmp_decode.specs.Seq.SpellsRow (SpellsIn z mid.bytes) t.run.bytes t.trees) took.stays.strict t.run.spelled); is_whole = refl };
+            spelled = record {
+              first = took.bytes;
+              second = t.run.bytes;
+              is_first = took.spelled;
+              is_second = subst
+                  (λ z. Rattle.rmp_decode.specs.Seq.SpellsRow (SpellsIn old.de.now.strict z) t.run.bytes t.trees) took.bytes_same
+                  (subst (λ z. Rattle.rmp_decode.specs.Seq.SpellsRow (SpellsIn z mid.bytes) t.run.bytes t.trees) took.stays.strict t.run.spelled);
+              is_whole = refl;
+            };
             fits = omega (arith, took.fits, t.run.fits, room);
             many = omega (arith, t.run.many, took.fewer);
             same_reference = t.run.same_reference ∙ n;
@@ -76,24 +133,41 @@ module _ {R C V W : Type 0} (g : Ghosts R) (reads : C → Msg → V → Type 0) 
         let run = run_step g (reads old.de.now.config) old old mid no_items v (run_start g old o) took n in
         parts_refused g Both old mid (item took.tree no_items) run new e f.stays f.failed (λ x k.
         let r0 = f.err x k in
-        let r9 = subst (λ z. RefusesRow (SpellsIn z mid.bytes) (λ ms. (w : W) × rest old.de.now.config (given_all ms) w) (inner_of mid) mid.left (left g mid.de.now)) took.stays.strict r0 in
-        let r1 = subst (λ z. RefusesRow (SpellsIn old.de.now.strict z) (λ ms. (w : W) × rest old.de.now.config (given_all ms) w) (inner_of mid) mid.left (left g mid.de.now)) took.bytes_same r9 in
-        let r2 = subst (λ z. RefusesRow (SpellsIn old.de.now.strict old.bytes) (λ ms. (w : W) × rest old.de.now.config (given_all ms) w) (max 1 z) mid.left (left g mid.de.now)) took.inner r1 in
+        let r9 = subst (λ z. RefusesRow (SpellsIn z mid.bytes) (λ ms. (w : W) × rest old.de.now.config (given_all ms) w) (inner_of mid) mid.left
+        (left g mid.de.now)) took.stays.strict r0 in
+        let r1 = subst (λ z. RefusesRow (SpellsIn old.de.now.strict z) (λ ms. (w : W) × rest old.de.now.config (given_all ms) w) (inner_of mid) mid.left
+        (left g mid.de.now)) took.bytes_same r9 in
+        let r2 = subst (λ z. RefusesRow (SpellsIn old.de.now.strict old.bytes) (λ ms. (w : W) × rest old.de.now.config (given_all ms) w) (max 1 z) mid.left
+        (left g mid.de.now)) took.inner r1 in
         row_narrower (SpellsIn old.de.now.strict old.bytes) _ _ (inner_of old) mid.left (left g mid.de.now) (λ ms h. (h.0.1, h.1.1)) r2)
 
 -- ---- a field of a map
 
 module _ {R C V S : Type 0} (g : Ghosts R) (reads : Msg → V → Type 0) (holds : List (Option Msg) → S → Type 0) (old new : MapAccess R C) (place : ℕ) where
-  slot_filled : (o : Option V) (s : S) (v : V) (m : Msg) → is_some o ≡ false → reads m v → (fs : List (Option Msg)) → Slot reads holds fs o s → (gs : List (Option Msg)) × (put 0 m fs ≡ Some gs) × Slot reads holds gs (Some v) s
+  slot_filled : (o : Option V) (s : S) (v : V) (m : Msg) → is_some o ≡ false → reads m v → (fs : List (Option Msg)) → Slot reads holds fs o s
+      → (gs : List (Option Msg)) × (put 0 m fs ≡ Some gs) × Slot reads holds gs (Some v) s
   slot_filled o s v m n r [] h = absurd h
   slot_filled o s v m n r (None ∷ fs) h = (Some m ∷ fs, refl, ((v, refl, r), h.1))
   slot_filled o s v m n r (Some k ∷ fs) h = absurd (let p = ap is_some h.0.1 in cc)
 
   -- the first field was read
-  pub fills_first : (o : Option V) (s : S) (v : V) → place ≡ 0 → is_some o ≡ false → TakesValue g reads old new v → Fills g (λ fs (t : Option V × S). Slot reads holds fs t.0 t.1) place old new (o, s) (Some v, s)
+  pub fills_first : (o : Option V) (s : S) (v : V) → place ≡ 0 → is_some o ≡ false → TakesValue g reads old new v
+      → Fills g (λ fs (t : Option V × S). Slot reads holds fs t.0 t.1) place old new (o, s) (Some v, s)
   fills_first o s v z n t = record {
     took = record {
-      part = let p = t.part in record { bytes = p.bytes; tree = p.tree; takes = p.takes; goes_on = p.goes_on; spelled = p.spelled; fits = p.fits; value = tt; stays = p.stays; faults_same = p.faults_same; clean = p.clean; marked = p.marked };
+      part = let p = t.part in record {
+        bytes = p.bytes;
+        tree = p.tree;
+        takes = p.takes;
+        goes_on = p.goes_on;
+        spelled = p.spelled;
+        fits = p.fits;
+        value = tt;
+        stays = p.stays;
+        faults_same = p.faults_same;
+        clean = p.clean;
+        marked = p.marked;
+      };
       same_left = t.same_left;
       owes = t.owes;
       count = t.count;
@@ -109,34 +183,41 @@ module _ {R C V S : Type 0} (g : Ghosts R) (reads : Msg → V → Type 0) (holds
   slot_full o s n (Some k ∷ fs) h m = refl
 
   -- it was read before
-  pub first_full : (o : Option V) (s : S) → place ≡ 0 → is_some o ≡ true → new ≡ old → IsFull (λ fs (t : Option V × S). Slot reads holds fs t.0 t.1) place old new (o, s)
+  pub first_full : (o : Option V) (s : S) → place ≡ 0 → is_some o ≡ true → new ≡ old
+      → IsFull (λ fs (t : Option V × S). Slot reads holds fs t.0 t.1) place old new (o, s)
   first_full o s z n q = record { full = λ fs h m. rw z (slot_full o s n fs h m); same = q }
 
   module _ (n : ℕ) (z : place ≡ suc n) where
-    later_filled : (o : Option V) (s t : S) (m : Msg) → ((fs : List (Option Msg)) → holds fs s → (gs : List (Option Msg)) × (put n m fs ≡ Some gs) × holds gs t) → (fs : List (Option Msg)) → Slot reads holds fs o s
+    later_filled : (o : Option V) (s t : S) (m : Msg) → ((fs : List (Option Msg)) → holds fs s
+        → (gs : List (Option Msg)) × (put n m fs ≡ Some gs) × holds gs t) → (fs : List (Option Msg)) → Slot reads holds fs o s
         → (gs : List (Option Msg)) × (put (suc n) m fs ≡ Some gs) × Slot reads holds gs o t
     later_filled o s t m f [] h = absurd h
     later_filled o s t m f (None ∷ fs) h = let x = f fs h.1 in (None ∷ x.0, ap (option_and_then (λ gs. Some (None ∷ gs))) x.1, (h.0, x.2))
     later_filled o s t m f (Some k ∷ fs) h = let x = f fs h.1 in (Some k ∷ x.0, ap (option_and_then (λ gs. Some (Some k ∷ gs))) x.1, (h.0, x.2))
 
     -- a later one was read
-    pub fills_later : (o : Option V) (s t : S) → Fills g holds n old new s t → Fills g (λ fs (u : Option V × S). Slot reads holds fs u.0 u.1) place old new (o, s) (o, t)
+    pub fills_later : (o : Option V) (s t : S) → Fills g holds n old new s t
+        → Fills g (λ fs (u : Option V × S). Slot reads holds fs u.0 u.1) place old new (o, s) (o, t)
     fills_later o s t f = record { took = f.took; filled = λ fs h. rw z (later_filled o s t f.took.part.tree f.filled fs h) }
 
-    pub later_full : (o : Option V) (s : S) → ((fs : List (Option Msg)) → holds fs s → (m : Msg) → put n m fs ≡ None) → (fs : List (Option Msg)) → Slot reads holds fs o s → (m : Msg) → put (suc n) m fs ≡ None
+    pub later_full : (o : Option V) (s : S) → ((fs : List (Option Msg)) → holds fs s → (m : Msg) → put n m fs ≡ None) → (fs : List (Option Msg))
+        → Slot reads holds fs o s → (m : Msg) → put (suc n) m fs ≡ None
     later_full o s f [] h m = absurd h
     later_full o s f (None ∷ fs) h m = ap (option_and_then (λ gs. Some (None ∷ gs))) (f fs h.1 m)
     later_full o s f (Some k ∷ fs) h m = ap (option_and_then (λ gs. Some (Some k ∷ gs))) (f fs h.1 m)
 
-    pub later_refused : (takes : ℕ → Msg → Type 0) (o : Option V) (s : S) (e : Error) → FailsPart g (λ m (u : Unit {0}). takes n m) (map_inner old) old.de.now new.de.now e ⊎ IsFull holds n old new s
-        → FailsPart g (λ m (u : Unit {0}). FieldTakes reads takes place m) (map_inner old) old.de.now new.de.now e ⊎ IsFull (λ fs (u : Option V × S). Slot reads holds fs u.0 u.1) place old new (o, s)
+    pub later_refused : (takes : ℕ → Msg → Type 0) (o : Option V) (s : S) (e : Error)
+        → FailsPart g (λ m (u : Unit {0}). takes n m) (map_inner old) old.de.now new.de.now e ⊎ IsFull holds n old new s
+        → FailsPart g (λ m (u : Unit {0}). FieldTakes reads takes place m) (map_inner old) old.de.now new.de.now e
+        ⊎ IsFull (λ fs (u : Option V × S). Slot reads holds fs u.0 u.1) place old new (o, s)
     later_refused takes o s e h = elim h [
       | inl f ↦ inl (rw z f)
       | inr f ↦ inr (record { full = λ fs x m. rw z (later_full o s f.full fs x m); same = f.same })
     ]
 
   -- the first one's value was refused
-  pub first_refused : (takes : ℕ → Msg → Type 0) (e : Error) → place ≡ 0 → FailsPart g reads (map_inner old) old.de.now new.de.now e → FailsPart g (λ m (u : Unit {0}). FieldTakes reads takes place m) (map_inner old) old.de.now new.de.now e
+  pub first_refused : (takes : ℕ → Msg → Type 0) (e : Error) → place ≡ 0 → FailsPart g reads (map_inner old) old.de.now new.de.now e
+      → FailsPart g (λ m (u : Unit {0}). FieldTakes reads takes place m) (map_inner old) old.de.now new.de.now e
   first_refused takes e z f = rw z (record {
     stays = f.stays;
     failed = f.failed;
@@ -186,7 +267,8 @@ fields_nest (extension tag s) None n f e = absurd (cc)
 fields_nest (extension tag s) (Some true) n f e = absurd (f refl)
 fields_nest (extension tag s) (Some false) n f e = absurd (cc)
 
-other_than_fields : (room : ℕ) (m : Marker) (h : Head) (e : Error) → ((a : Option Bool × ℕ) → h ≡ fields_head a.0 a.1 → ⊥) → e ≡ Syntax InvalidType → not_fields room m h e
+other_than_fields : (room : ℕ) (m : Marker) (h : Head) (e : Error) → ((a : Option Bool × ℕ) → h ≡ fields_head a.0 a.1 → ⊥) → e ≡ Syntax InvalidType
+    → not_fields room m h e
 other_than_fields room m head.Nil e f i = i
 other_than_fields room m (head.Truth t) e f i = i
 other_than_fields room m (head.Whole z) e f i = i
@@ -198,14 +280,22 @@ other_than_fields room m (head.Array n) e f i = absurd (f (Some false, n) refl)
 other_than_fields room m (head.Map n) e f i = absurd (f (None, n) refl)
 other_than_fields room m (head.Ext n tag) e f i = i
 
-deep_fields : (room : ℕ) (m : Marker) (k : Option Bool) (n : ℕ) (e : Error) → (k ≡ Some true → ⊥) → room ≡ 1 → e ≡ DepthLimitExceeded → not_fields room m (fields_head k n) e
+deep_fields : (room : ℕ) (m : Marker) (k : Option Bool) (n : ℕ) (e : Error) → (k ≡ Some true → ⊥) → room ≡ 1 → e ≡ DepthLimitExceeded
+    → not_fields room m (fields_head k n) e
 deep_fields room m None n e f r i = (r, i)
 deep_fields room m (Some true) n e f r i = absurd (f refl)
 deep_fields room m (Some false) n e f r i = (r, i)
 
 module _ {R C : Type 0} (g : Ghosts R) (old new : Deserializer R C) (e : Error) where
   pub no_fields_begin : ReadsHead g old new (Err e) → FailsToOpenFields g old new e
-  no_fields_begin h = record { failed = h.failed; stays = h.stays; before = h.before; err = λ o n k. refuses_none _ _ _ _ (h.err o n k); memory = h.memory; exact = λ o. by_none _ (not_fields (room_of old)) _ _ _ e (h.ends o) }
+  no_fields_begin h = record {
+    failed = h.failed;
+    stays = h.stays;
+    before = h.before;
+    err = λ o n k. refuses_none _ _ _ _ (h.err o n k);
+    memory = h.memory;
+    exact = λ o. by_none _ (not_fields (room_of old)) _ _ _ e (h.ends o);
+  }
 
   module _ (p : Marker × Head) (h : ReadsHead g old new (Ok p)) where
     -- another kind was there
@@ -214,13 +304,15 @@ module _ {R C : Type 0} (g : Ghosts R) (old new : Deserializer R C) (e : Error) 
       failed = h.failed;
       stays = h.stays;
       before = λ b. absurd (let o = h.fresh in cc);
-      err = λ _ _ _. refuses_head _ HasFields (room_of old) (left g old) (left g new) h.ok.bytes p.1 h.ok.takes h.ok.is_head (λ m j q. let a = fields_head_of m j in f a.0 (sym q ∙ a.1));
+      err = λ _ _ _. refuses_head _ HasFields (room_of old) (left g old) (left g new) h.ok.bytes p.1 h.ok.takes h.ok.is_head
+          (λ m j q. let a = fields_head_of m j in f a.0 (sym q ∙ a.1));
       memory = λ z. absurd (let u = sym t ∙ z in cc);
       exact = λ _. by_head _ (not_fields (room_of old)) _ _ _ p.0 p.1 e h.marked (other_than_fields (room_of old) p.0 p.1 e f t);
     }
 
     -- it would nest too deep
-    pub fields_too_deep : (k : Option Bool) (n : ℕ) → (k ≡ Some true → ⊥) → p.1 ≡ fields_head k n → room_of old ≤ 1 → e ≡ DepthLimitExceeded → FailsToOpenFields g old new e
+    pub fields_too_deep : (k : Option Bool) (n : ℕ) → (k ≡ Some true → ⊥) → p.1 ≡ fields_head k n → room_of old ≤ 1 → e ≡ DepthLimitExceeded
+        → FailsToOpenFields g old new e
     fields_too_deep k n f i l t = record {
       failed = h.failed;
       stays = h.stays;
@@ -231,5 +323,6 @@ module _ {R C : Type 0} (g : Ghosts R) (old new : Deserializer R C) (e : Error) 
           let z = a.fits in
           omega arith);
       memory = λ z. absurd (let u = sym t ∙ z in cc);
-      exact = λ _. by_head _ (not_fields (room_of old)) _ _ _ p.0 p.1 e h.marked (subst (λ z. not_fields (room_of old) p.0 z e) (sym i) (deep_fields (room_of old) p.0 k n e f (omega (arith, l)) t));
+      exact = λ _. by_head _ (not_fields (room_of old)) _ _ _ p.0 p.1 e h.marked
+          (subst (λ z. not_fields (room_of old) p.0 z e) (sym i) (deep_fields (room_of old) p.0 k n e f (omega (arith, l)) t));
     }

@@ -1,5 +1,42 @@
 -- A head that lies in memory whole is the one that stands at the front of what is left.
-use Rattle.std.proofs.Common.{◌≡◌, ◌∙◌, sym, ap, subst, refl, rules, arith, ℕ, suc, ◌+◌, ◌-◌, ◌*◌, ◌%◌, ◌^◌, ◌<◌, ◌≤◌, pos, inl, inr, List, [], ◌∷◌, ◌++◌, length, take, drop, get_or, append_assoc, Option, None, Some, Bool, true, false, nat_lt}
+use Rattle.std.proofs.Common.{
+  ◌≡◌,
+  ◌∙◌,
+  sym,
+  ap,
+  subst,
+  refl,
+  rules,
+  arith,
+  ℕ,
+  suc,
+  ◌+◌,
+  ◌-◌,
+  ◌*◌,
+  ◌%◌,
+  ◌^◌,
+  ◌<◌,
+  ◌≤◌,
+  pos,
+  inl,
+  inr,
+  List,
+  [],
+  ◌∷◌,
+  ◌++◌,
+  length,
+  take,
+  drop,
+  get_or,
+  append_assoc,
+  Option,
+  None,
+  Some,
+  Bool,
+  true,
+  false,
+  nat_lt,
+}
 use Rattle.std.proofs.lemmas.Bool.{lt-ltb}
 use Rattle.std.proofs.lemmas.List.{take_all}
 use Rattle.std.proofs.lemmas.Nat.{be_bytes_2, be_bytes_4, be_bytes_8}
@@ -22,7 +59,8 @@ use Rattle.rmp_decode.proofs.Exactness.{stands_known}
 use Rattle.rmp_decode.proofs.ContentErrors.{same_front}
 
 -- the bytes that were taken are the head's
-front_consumed : (w : Bool) (n : ℕ) (h : Head) (front : List ℕ) (known k : Option (List ℕ)) → IsFront front known → (s : StandsIn w n h front) → Skips n known k → Consumes known k (s.stands.byte ∷ s.stands.behind)
+front_consumed : (w : Bool) (n : ℕ) (h : Head) (front : List ℕ) (known k : Option (List ℕ)) → IsFront front known → (s : StandsIn w n h front)
+    → Skips n known k → Consumes known k (s.stands.byte ∷ s.stands.behind)
 front_consumed w n h front None k f s c = tt
 front_consumed w n h front (Some xs) None f s c = absurd c.taken
 front_consumed w n h front (Some xs) (Some ys) f s c =
@@ -32,15 +70,23 @@ front_consumed w n h front (Some xs) (Some ys) f s c =
     subst (λ b. xs ≡ b ++ ys) same c.taken
 
 module _ {R C : Type 0} (g : Ghosts R) (old new : Deserializer R C) where
-  pub front_taken : (n : ℕ) (h : Head) (front : List ℕ) → old.failed ≡ false → old.kept ≡ Nothing → new.failed ≡ true → new.kept ≡ Nothing → new.config ≡ old.config → new.room ≡ old.room → new.strict ≡ old.strict
-      → IsFront front (g.ahead old.reader) → StandsIn old.strict n h front → Skips n (g.ahead old.reader) (g.ahead new.reader) → g.faults new.reader ≡ g.faults old.reader → g.place new.reader ≡ g.place old.reader → TakesFront g h old new
+  pub front_taken : (n : ℕ) (h : Head) (front : List ℕ) → old.failed ≡ false → old.kept ≡ Nothing → new.failed ≡ true → new.kept ≡ Nothing
+      → new.config ≡ old.config → new.room ≡ old.room → new.strict ≡ old.strict
+      → IsFront front (g.ahead old.reader) → StandsIn old.strict n h front → Skips n (g.ahead old.reader) (g.ahead new.reader)
+      → g.faults new.reader ≡ g.faults old.reader → g.place new.reader ≡ g.place old.reader → TakesFront g h old new
   front_taken n h front fresh kept failed clean config room strict f s c sound place =
       let at = s.stands in
       let taken = front_consumed old.strict n h front (g.ahead old.reader) (g.ahead new.reader) f s c in
       record {
         marker = s.marker;
         begun = record {
-          ok = record { bytes = at.byte ∷ at.behind; takes = rw (bare g old kept, bare g new clean) taken; goes_on = record { more = at.byte ∷ at.behind; whole = rw kept refl }; is_head = at.is_head };
+          ok = record {
+            bytes = at.byte ∷ at.behind;
+            takes = rw (bare g old kept, bare g new clean) taken;
+            goes_on = record
+                { more = at.byte ∷ at.behind; whole = rw kept refl };
+            is_head = at.is_head;
+          };
           marked = rw (bare g old kept) (stands_known _ s.marker h at.byte at.behind (g.ahead old.reader) (g.ahead new.reader) taken at.is_marker at.is_head);
           clean = clean;
           fresh = fresh;
@@ -68,7 +114,8 @@ pub any_stands : (w : Bool) (n : ℕ) (h : Head) (xs : List ℕ) → w ≡ false
 any_stands w n h xs e s = subst (λ z. StandsIn z n h xs) (sym e) s
 
 -- a number stands behind a marker
-wide_stands : (w : Width) (x n : ℕ) (bs rest : List ℕ) → to_be_bytes w n ≡ bs → IsHead (Whole (pos n)) (x ∷ to_be_bytes w n) → StandsIn false (length (x ∷ bs)) (Whole (pos n)) (x ∷ (bs ++ rest))
+wide_stands : (w : Width) (x n : ℕ) (bs rest : List ℕ) → to_be_bytes w n ≡ bs → IsHead (Whole (pos n)) (x ∷ to_be_bytes w n)
+    → StandsIn false (length (x ∷ bs)) (Whole (pos n)) (x ∷ (bs ++ rest))
 wide_stands w x n bs rest e h = record {
   marker = marker_of x;
   stands = record { byte = x; behind = bs; rest = rest; front = refl; is_marker = refl; is_head = subst (λ b. IsHead (Whole (pos n)) (x ∷ b)) e h };
@@ -114,7 +161,8 @@ eight x n (a ∷ ys) e l s b =
     let same : to_be_bytes w8 n ≡ a ∷ [] = ap (λ t. t ∷ []) low in
     wide_stands w8 x n (a ∷ []) ys same (inr (inl (omega arith, ap (λ t. t ∷ to_be_bytes w8 n) e)))
 
-sixteen : (x n : ℕ) (ys : List ℕ) → x ≡ 0xcd → 2 ≤ length ys → n ≡ get_or ys 0 0 * 256 + get_or ys 1 0 → ((i : ℕ) → get_or ys i 0 < 256) → StandsIn false 3 (Whole (pos n)) (x ∷ ys)
+sixteen : (x n : ℕ) (ys : List ℕ) → x ≡ 0xcd → 2 ≤ length ys → n ≡ get_or ys 0 0 * 256 + get_or ys 1 0 → ((i : ℕ) → get_or ys i 0 < 256)
+    → StandsIn false 3 (Whole (pos n)) (x ∷ ys)
 unfolding IsHead
 sixteen x n [] e l s f = absurd (omega arith)
 sixteen x n (a ∷ []) e l s f = absurd (omega arith)
@@ -124,15 +172,19 @@ sixteen x n (a ∷ b ∷ ys) e l s f =
     let same : to_be_bytes w16 n ≡ a ∷ b ∷ [] = be_bytes_2 (a ∷ b ∷ []) n refl (λ i. search rules) (omega arith) in
     wide_stands w16 x n (a ∷ b ∷ []) ys same (inr (inr (inl (omega arith, ap (λ t. t ∷ to_be_bytes w16 n) e))))
 
-pub stands_8 : (xs : List ℕ) (n : ℕ) → 1 ≤ length xs → get_or xs 0 0 ≡ 0xcc → 1 ≤ length (behind xs) → n ≡ get_or (behind xs) 0 0 → ((i : ℕ) → get_or xs i 0 < 256) → StandsIn false 2 (Whole (pos n)) xs
+pub stands_8 : (xs : List ℕ) (n : ℕ) → 1 ≤ length xs → get_or xs 0 0 ≡ 0xcc → 1 ≤ length (behind xs) → n ≡ get_or (behind xs) 0 0
+    → ((i : ℕ) → get_or xs i 0 < 256) → StandsIn false 2 (Whole (pos n)) xs
 stands_8 [] n l e m s f = absurd (omega arith)
 stands_8 (x ∷ ys) n l e m s f = eight x n ys e (rw (behind_is x ys) at m) (rw (behind_is x ys) at s) (omega (arith, s, rw (behind_is x ys) at s, f 1))
 
-pub stands_16 : (xs : List ℕ) (n : ℕ) → 1 ≤ length xs → get_or xs 0 0 ≡ 0xcd → 2 ≤ length (behind xs) → n ≡ get_or (behind xs) 0 0 * 256 + get_or (behind xs) 1 0 → ((i : ℕ) → get_or xs i 0 < 256) → StandsIn false 3 (Whole (pos n)) xs
+pub stands_16 : (xs : List ℕ) (n : ℕ) → 1 ≤ length xs → get_or xs 0 0 ≡ 0xcd → 2 ≤ length (behind xs)
+    → n ≡ get_or (behind xs) 0 0 * 256 + get_or (behind xs) 1 0 → ((i : ℕ) → get_or xs i 0 < 256) → StandsIn false 3 (Whole (pos n)) xs
 stands_16 [] n l e m s f = absurd (omega arith)
 stands_16 (x ∷ ys) n l e m s f = sixteen x n ys e (rw (behind_is x ys) at m) (rw (behind_is x ys) at s) (λ i. f (suc i))
 
-thirty_two : (x n : ℕ) (ys : List ℕ) → x ≡ 0xce → 4 ≤ length ys → n ≡ get_or ys 0 0 * 0x1000000 + get_or ys 1 0 * 0x10000 + get_or ys 2 0 * 0x100 + get_or ys 3 0 → ((i : ℕ) → get_or ys i 0 < 256) → StandsIn false 5 (Whole (pos n)) (x ∷ ys)
+thirty_two : (x n : ℕ) (ys : List ℕ) → x ≡ 0xce → 4 ≤ length ys
+    → n ≡ get_or ys 0 0 * 0x1000000 + get_or ys 1 0 * 0x10000 + get_or ys 2 0 * 0x100 + get_or ys 3 0 → ((i : ℕ) → get_or ys i 0 < 256)
+    → StandsIn false 5 (Whole (pos n)) (x ∷ ys)
 unfolding IsHead
 thirty_two x n [] e l s f = absurd (omega arith)
 thirty_two x n (a ∷ []) e l s f = absurd (omega arith)
@@ -147,7 +199,8 @@ thirty_two x n (a ∷ b ∷ c ∷ d ∷ ys) e l s f =
     wide_stands w32 x n (a ∷ b ∷ c ∷ d ∷ []) ys same (inr (inr (inr (inl (omega arith, ap (λ t. t ∷ to_be_bytes w32 n) e)))))
 
 sixty_four : (x n : ℕ) (ys : List ℕ) → x ≡ 0xcf → 8 ≤ length ys → n < 2 ^ 64
-    → n ≡ get_or ys 0 0 * 0x100000000000000 + get_or ys 1 0 * 0x1000000000000 + get_or ys 2 0 * 0x10000000000 + get_or ys 3 0 * 0x100000000 + get_or ys 4 0 * 0x1000000 + get_or ys 5 0 * 0x10000 + get_or ys 6 0 * 0x100 + get_or ys 7 0
+    → n ≡ get_or ys 0 0 * 0x100000000000000 + get_or ys 1 0 * 0x1000000000000 + get_or ys 2 0 * 0x10000000000 + get_or ys 3 0 * 0x100000000 + get_or ys 4 0
+    * 0x1000000 + get_or ys 5 0 * 0x10000 + get_or ys 6 0 * 0x100 + get_or ys 7 0
     → ((i : ℕ) → get_or ys i 0 < 256) → StandsIn false 9 (Whole (pos n)) (x ∷ ys)
 unfolding IsHead
 sixty_four x n [] e l h s f = absurd (omega arith)
@@ -171,20 +224,25 @@ sixty_four x n (a ∷ b ∷ c ∷ d ∷ i ∷ j ∷ k ∷ m ∷ ys) e l h s f =
     let same : to_be_bytes w64 n ≡ bs = be_bytes_8 bs n refl (λ i. search rules) (omega arith) in
     wide_stands w64 x n bs ys same (inr (inr (inr (inr (inl (h, ap (λ t. t ∷ to_be_bytes w64 n) e))))))
 
-pub stands_32 : (xs : List ℕ) (n : ℕ) → 1 ≤ length xs → get_or xs 0 0 ≡ 0xce → 4 ≤ length (behind xs) → n ≡ get_or (behind xs) 0 0 * 0x1000000 + get_or (behind xs) 1 0 * 0x10000 + get_or (behind xs) 2 0 * 0x100 + get_or (behind xs) 3 0 → ((i : ℕ) → get_or xs i 0 < 256)
+pub stands_32 : (xs : List ℕ) (n : ℕ) → 1 ≤ length xs → get_or xs 0 0 ≡ 0xce → 4 ≤ length (behind xs)
+    → n ≡ get_or (behind xs) 0 0 * 0x1000000 + get_or (behind xs) 1 0 * 0x10000 + get_or (behind xs) 2 0 * 0x100 + get_or (behind xs) 3 0
+    → ((i : ℕ) → get_or xs i 0 < 256)
     → StandsIn false 5 (Whole (pos n)) xs
 stands_32 [] n l e m s f = absurd (omega arith)
 stands_32 (x ∷ ys) n l e m s f = thirty_two x n ys e (rw (behind_is x ys) at m) (rw (behind_is x ys) at s) (λ i. f (suc i))
 
 pub stands_64 : (xs : List ℕ) (n : ℕ) → 1 ≤ length xs → get_or xs 0 0 ≡ 0xcf → 8 ≤ length (behind xs) → n < 2 ^ 64
-    → n ≡ get_or (behind xs) 0 0 * 0x100000000000000 + get_or (behind xs) 1 0 * 0x1000000000000 + get_or (behind xs) 2 0 * 0x10000000000 + get_or (behind xs) 3 0 * 0x100000000 + get_or (behind xs) 4 0 * 0x1000000 + get_or (behind xs) 5 0 * 0x10000 + get_or (behind xs) 6 0 * 0x100 + get_or (behind xs) 7 0
+    → n ≡ get_or (behind xs) 0 0 * 0x100000000000000 + get_or (behind xs) 1 0 * 0x1000000000000 + get_or (behind xs) 2 0 * 0x10000000000 + get_or
+    (behind xs) 3 0 * 0x100000000 + get_or (behind xs) 4 0 * 0x1000000 + get_or (behind xs) 5 0 * 0x10000 + get_or (behind xs) 6 0 * 0x100 + get_or
+    (behind xs) 7 0
     → ((i : ℕ) → get_or xs i 0 < 256) → StandsIn false 9 (Whole (pos n)) xs
 stands_64 [] n l e m h s f = absurd (omega arith)
 stands_64 (x ∷ ys) n l e m h s f = sixty_four x n ys e (rw (behind_is x ys) at m) h (rw (behind_is x ys) at s) (λ i. f (suc i))
 
 -- ---- texts at the front
 
-pub text_held : (w : Bool) (xs : List ℕ) (n : ℕ) → 1 ≤ length xs → 0xa0 ≤ get_or xs 0 0 → get_or xs 0 0 < 0xc0 → n ≡ get_or xs 0 0 - 0xa0 → StandsIn w 1 (Text n) xs
+pub text_held : (w : Bool) (xs : List ℕ) (n : ℕ) → 1 ≤ length xs → 0xa0 ≤ get_or xs 0 0 → get_or xs 0 0 < 0xc0 → n ≡ get_or xs 0 0 - 0xa0
+    → StandsIn w 1 (Text n) xs
 unfolding IsHead
 text_held w [] n l b t e = absurd (omega arith)
 text_held w (x ∷ xs) n l b t e =
@@ -203,17 +261,27 @@ text_eight x n (a ∷ ys) e l s b =
     let wide : n % 256 ≡ n = omega arith in
     record {
       marker = marker_of x;
-      stands = record { byte = x; behind = a ∷ []; rest = ys; front = refl; is_marker = refl; is_head = inr (inl (omega arith, ap (λ t. t ∷ a ∷ []) e ∙ ap (λ t. 0xd9 ∷ t ∷ []) (sym low ∙ sym wide))) };
+      stands = record {
+        byte = x;
+        behind = a ∷ [];
+        rest = ys;
+        front = refl;
+        is_marker = refl;
+        is_head = inr
+            (inl (omega arith, ap (λ t. t ∷ a ∷ []) e ∙ ap (λ t. 0xd9 ∷ t ∷ []) (sym low ∙ sym wide)));
+      };
       long = refl;
     }
 
-pub text_8 : (xs : List ℕ) (n : ℕ) → 1 ≤ length xs → get_or xs 0 0 ≡ 0xd9 → 1 ≤ length (behind xs) → n ≡ get_or (behind xs) 0 0 → ((i : ℕ) → get_or xs i 0 < 256) → StandsIn false 2 (Text n) xs
+pub text_8 : (xs : List ℕ) (n : ℕ) → 1 ≤ length xs → get_or xs 0 0 ≡ 0xd9 → 1 ≤ length (behind xs) → n ≡ get_or (behind xs) 0 0
+    → ((i : ℕ) → get_or xs i 0 < 256) → StandsIn false 2 (Text n) xs
 text_8 [] n l e m s f = absurd (omega arith)
 text_8 (x ∷ ys) n l e m s f = text_eight x n ys e (rw (behind_is x ys) at m) (rw (behind_is x ys) at s) (omega (arith, s, rw (behind_is x ys) at s, f 1))
 
 -- ---- lists at the front
 
-pub list_held : (w : Bool) (xs : List ℕ) (n : ℕ) → 1 ≤ length xs → 0x90 ≤ get_or xs 0 0 → get_or xs 0 0 < 0xa0 → n ≡ get_or xs 0 0 - 0x90 → StandsIn w 1 (Array n) xs
+pub list_held : (w : Bool) (xs : List ℕ) (n : ℕ) → 1 ≤ length xs → 0x90 ≤ get_or xs 0 0 → get_or xs 0 0 < 0xa0 → n ≡ get_or xs 0 0 - 0x90
+    → StandsIn w 1 (Array n) xs
 unfolding IsHead
 list_held w [] n l b t e = absurd (omega arith)
 list_held w (x ∷ xs) n l b t e =

@@ -44,11 +44,19 @@ no_memory (wire.InvalidMarkerRead fault) q = absurd cc
 no_memory (wire.InvalidDataRead fault) q = absurd cc
 no_memory (wire.TypeMismatch marker) q = absurd cc
 
-module _ {R C : Type 0} (g : Ghosts R) (old new : Deserializer R C) (fresh : old.failed ≡ false) (failed : new.failed ≡ true) (clean : new.kept ≡ Nothing) (config : new.config ≡ old.config) (room : new.room ≡ old.room) (strict : new.strict ≡ old.strict) where
+module _ {R C : Type 0} (g : Ghosts R) (old new : Deserializer R C) (fresh : old.failed ≡ false) (failed : new.failed ≡ true) (clean : new.kept ≡ Nothing)
+    (config : new.config ≡ old.config) (room : new.room ≡ old.room) (strict : new.strict ≡ old.strict) where
   -- nothing was kept back, and a head was taken
-  pub head_next : (p : Marker × Head) → old.kept ≡ Nothing → (r : ReadsNext g old.reader new.reader (Ok p)) → heads_of old.strict p.1 (byte_of p.0 ∷ r.ok.rest) → ReadsHead g old new (Ok p)
+  pub head_next : (p : Marker × Head) → old.kept ≡ Nothing → (r : ReadsNext g old.reader new.reader (Ok p))
+      → heads_of old.strict p.1 (byte_of p.0 ∷ r.ok.rest) → ReadsHead g old new (Ok p)
   head_next p k r i = record {
-    ok = record { bytes = byte_of p.0 ∷ r.ok.rest; takes = rw (bare g old k, bare g new clean) r.ok.taken; goes_on = record { more = byte_of p.0 ∷ r.ok.rest; whole = rw k refl }; is_head = i };
+    ok = record {
+      bytes = byte_of p.0 ∷ r.ok.rest;
+      takes = rw (bare g old k, bare g new clean) r.ok.taken;
+      goes_on = record
+          { more = byte_of p.0 ∷ r.ok.rest; whole = rw k refl };
+      is_head = i;
+    };
     marked = rw (bare g old k) (stands_known _ p.0 p.1 (byte_of p.0) r.ok.rest (g.ahead old.reader) (g.ahead new.reader) r.ok.taken (sym r.ok.is_marker) i);
     clean = clean;
     fresh = fresh;
@@ -61,7 +69,8 @@ module _ {R C : Type 0} (g : Ghosts R) (old new : Deserializer R C) (fresh : old
     stays = record { config = config; room = room; strict = strict; place = r.place };
   }
 
-  no_head_next : (e : ValueReadError) (f : Error) → f ≡ error_of e → old.kept ≡ Nothing → ReadsNext g old.reader new.reader (Err e) → ReadsHead g old new (Err f)
+  no_head_next : (e : ValueReadError) (f : Error) → f ≡ error_of e → old.kept ≡ Nothing → ReadsNext g old.reader new.reader (Err e)
+      → ReadsHead g old new (Err f)
   no_head_next e f i k r = record {
     ok = tt;
     marked = tt;
@@ -77,7 +86,8 @@ module _ {R C : Type 0} (g : Ghosts R) (old new : Deserializer R C) (fresh : old
   }
 
   -- a head's first byte was kept back
-  pub head_behind : (b : ℕ) (m : Marker) (h : Head) → m ≡ marker_of b → byte_of m ≡ b → old.kept ≡ First b → (r : WireHead g m old.reader new.reader (Ok h)) → heads_of old.strict h (byte_of m ∷ r.ok.rest) → ReadsHead g old new (Ok (m, h))
+  pub head_behind : (b : ℕ) (m : Marker) (h : Head) → m ≡ marker_of b → byte_of m ≡ b → old.kept ≡ First b → (r : WireHead g m old.reader new.reader (Ok h))
+      → heads_of old.strict h (byte_of m ∷ r.ok.rest) → ReadsHead g old new (Ok (m, h))
   head_behind b m h i w k r j = record {
     ok = record {
       bytes = byte_of m ∷ r.ok.rest;
@@ -85,7 +95,9 @@ module _ {R C : Type 0} (g : Ghosts R) (old new : Deserializer R C) (fresh : old
       goes_on = record { more = r.ok.rest; whole = rw (k, w) refl };
       is_head = j;
     };
-    marked = rw k (stands_known _ m h b r.ok.rest (prepend_known (b ∷ []) (g.ahead old.reader)) (g.ahead new.reader) (Consumes-trans _ (g.ahead old.reader) _ (b ∷ []) r.ok.rest (kept_first (b ∷ []) (g.ahead old.reader)) r.ok.taken) i (subst (λ z. heads_of old.strict h (z ∷ r.ok.rest)) w j));
+    marked = rw k (stands_known _ m h b r.ok.rest (prepend_known (b ∷ []) (g.ahead old.reader)) (g.ahead new.reader)
+        (Consumes-trans _ (g.ahead old.reader) _ (b ∷ []) r.ok.rest (kept_first (b ∷ []) (g.ahead old.reader)) r.ok.taken) i
+        (subst (λ z. heads_of old.strict h (z ∷ r.ok.rest)) w j));
     clean = clean;
     fresh = fresh;
     sound = r.sound;
@@ -97,7 +109,8 @@ module _ {R C : Type 0} (g : Ghosts R) (old new : Deserializer R C) (fresh : old
     stays = record { config = config; room = room; strict = strict; place = r.place };
   }
 
-  no_head_behind : (b : ℕ) (m : Marker) (e : ValueReadError) (f : Error) → byte_of m ≡ b → f ≡ error_of e → old.kept ≡ First b → WireHead g m old.reader new.reader (Err e) → ReadsHead g old new (Err f)
+  no_head_behind : (b : ℕ) (m : Marker) (e : ValueReadError) (f : Error) → byte_of m ≡ b → f ≡ error_of e → old.kept ≡ First b
+      → WireHead g m old.reader new.reader (Err e) → ReadsHead g old new (Err f)
   no_head_behind b m e f w i k r = record {
     ok = tt;
     marked = tt;
@@ -113,10 +126,13 @@ module _ {R C : Type 0} (g : Ghosts R) (old new : Deserializer R C) (fresh : old
   }
     where
       fails : FailsNext (prepend_known (b ∷ []) (g.ahead old.reader)) (g.ahead new.reader) (g.faults old.reader) (g.faults new.reader) e
-      fails = fails_after m _ (g.ahead old.reader) _ _ (g.faults old.reader) _ e (subst (λ z. Consumes (prepend_known (b ∷ []) (g.ahead old.reader)) (g.ahead old.reader) (z ∷ [])) (sym w) (kept_first (b ∷ []) (g.ahead old.reader))) refl r.reserved r.err
+      fails = fails_after m _ (g.ahead old.reader) _ _ (g.faults old.reader) _ e
+          (subst (λ z. Consumes (prepend_known (b ∷ []) (g.ahead old.reader)) (g.ahead old.reader) (z ∷ [])) (sym w)
+          (kept_first (b ∷ []) (g.ahead old.reader))) refl r.reserved r.err
 
   -- a head was taken that isn't allowed
-  wide : (b : ℕ) (behind : List ℕ) (h : Head) → Consumes (left g old) (g.ahead new.reader) (b ∷ behind) → IsHead h (b ∷ behind) → (heads_of old.strict h (b ∷ behind) → ⊥) → g.place new.reader ≡ g.place old.reader → ReadsHead g old new (Err NotCanonical)
+  wide : (b : ℕ) (behind : List ℕ) (h : Head) → Consumes (left g old) (g.ahead new.reader) (b ∷ behind) → IsHead h (b ∷ behind)
+      → (heads_of old.strict h (b ∷ behind) → ⊥) → g.place new.reader ≡ g.place old.reader → ReadsHead g old new (Err NotCanonical)
   wide b behind h t i n place = record {
     ok = tt;
     marked = tt;
@@ -131,29 +147,35 @@ module _ {R C : Type 0} (g : Ghosts R) (old new : Deserializer R C) (fresh : old
     stays = record { config = config; room = room; strict = strict; place = place };
   }
 
-  head_wide : (p : Marker × Head) → old.kept ≡ Nothing → ReadsNext g old.reader new.reader (Ok p) → ((rest : List ℕ) → heads_of old.strict p.1 (byte_of p.0 ∷ rest) → ⊥) → ReadsHead g old new (Err NotCanonical)
+  head_wide : (p : Marker × Head) → old.kept ≡ Nothing → ReadsNext g old.reader new.reader (Ok p)
+      → ((rest : List ℕ) → heads_of old.strict p.1 (byte_of p.0 ∷ rest) → ⊥) → ReadsHead g old new (Err NotCanonical)
   head_wide p k r n = wide (byte_of p.0) r.ok.rest p.1 (rw (bare g old k) r.ok.taken) r.ok.is_head (n r.ok.rest) r.place
 
-  wide_behind : (b : ℕ) (m : Marker) (h : Head) → byte_of m ≡ b → old.kept ≡ First b → WireHead g m old.reader new.reader (Ok h) → ((rest : List ℕ) → heads_of old.strict h (byte_of m ∷ rest) → ⊥) → ReadsHead g old new (Err NotCanonical)
+  wide_behind : (b : ℕ) (m : Marker) (h : Head) → byte_of m ≡ b → old.kept ≡ First b → WireHead g m old.reader new.reader (Ok h)
+      → ((rest : List ℕ) → heads_of old.strict h (byte_of m ∷ rest) → ⊥) → ReadsHead g old new (Err NotCanonical)
   wide_behind b m h w k r n =
-      wide (byte_of m) r.ok.rest h (rw (k, w) (Consumes-trans _ (g.ahead old.reader) _ (b ∷ []) r.ok.rest (kept_first (b ∷ []) (g.ahead old.reader)) r.ok.taken)) r.ok.is_head (n r.ok.rest) r.place
+      wide (byte_of m) r.ok.rest h (rw (k, w) (Consumes-trans _ (g.ahead old.reader) _ (b ∷ []) r.ok.rest (kept_first (b ∷ []) (g.ahead old.reader))
+      r.ok.taken)) r.ok.is_head (n r.ok.rest) r.place
 
   -- nothing was kept back, and no head was taken that may be read
-  pub next_refused : (e : HeadError) (f : Error) → f ≡ head_error_of e → old.kept ≡ Nothing → FailsNextAllowed g old.strict old.reader new.reader e → ReadsHead g old new (Err f)
+  pub next_refused : (e : HeadError) (f : Error) → f ≡ head_error_of e → old.kept ≡ Nothing → FailsNextAllowed g old.strict old.reader new.reader e
+      → ReadsHead g old new (Err f)
   next_refused (heads.InvalidMarkerRead fault) f i k r = no_head_next (wire.InvalidMarkerRead fault) f i k r
   next_refused (heads.InvalidDataRead fault) f i k r = no_head_next (wire.InvalidDataRead fault) f i k r
   next_refused (heads.TypeMismatch marker) f i k r = no_head_next (wire.TypeMismatch marker) f i k r
   next_refused heads.NotCanonical f i k r = subst (λ z. ReadsHead g old new (Err z)) (sym i) (head_wide r.0 k r.1 r.2)
 
   -- a head's first byte was kept back, and its rest may not be read
-  pub rest_refused : (b : ℕ) (m : Marker) (e : HeadError) (f : Error) → byte_of m ≡ b → f ≡ head_error_of e → old.kept ≡ First b → FailsBehind g old.strict m old.reader new.reader e → ReadsHead g old new (Err f)
+  pub rest_refused : (b : ℕ) (m : Marker) (e : HeadError) (f : Error) → byte_of m ≡ b → f ≡ head_error_of e → old.kept ≡ First b
+      → FailsBehind g old.strict m old.reader new.reader e → ReadsHead g old new (Err f)
   rest_refused b m (heads.InvalidMarkerRead fault) f w i k r = no_head_behind b m (wire.InvalidMarkerRead fault) f w i k r
   rest_refused b m (heads.InvalidDataRead fault) f w i k r = no_head_behind b m (wire.InvalidDataRead fault) f w i k r
   rest_refused b m (heads.TypeMismatch marker) f w i k r = no_head_behind b m (wire.TypeMismatch marker) f w i k r
   rest_refused b m heads.NotCanonical f w i k r = subst (λ z. ReadsHead g old new (Err z)) (sym i) (wide_behind b m r.0 w k r.1 r.2)
 
   -- a number was kept back, which stands for a message
-  pub head_number : (m : Marker) (z : ℤ) (n : ℕ) → z ≡ pos n → n < 256 → (n < 128 → m ≡ FixPos n) → (128 ≤ n → m ≡ U8) → old.kept ≡ Number n → new.reader ≡ old.reader → ReadsHead g old new (Ok (m, Whole z))
+  pub head_number : (m : Marker) (z : ℤ) (n : ℕ) → z ≡ pos n → n < 256 → (n < 128 → m ≡ FixPos n) → (128 ≤ n → m ≡ U8) → old.kept ≡ Number n
+      → new.reader ≡ old.reader → ReadsHead g old new (Ok (m, Whole z))
   head_number m z n e l small wide k q = rw e (record {
     ok = record {
       bytes = canon_head (Whole (pos n));

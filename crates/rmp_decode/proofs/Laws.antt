@@ -20,7 +20,9 @@ stays_then g a b c p q = record { config = q.config ∙ p.config; room = q.room 
 
 module _ {R C V : Type 0} (g : Ghosts R) (reads : Msg → V → Type 0) (old new : Deserializer R C) where
   -- a refusal of what was there
-  pub refused : (e : Error) → old.failed ≡ false → new.failed ≡ true → Stays g old new → Explains e (faults_of g old) (faults_of g new) (Refuses (SpellsAs old.strict) (Readable reads) (room_of old) (left g old)) → Lawful g reads old new (Err e)
+  pub refused : (e : Error) → old.failed ≡ false → new.failed ≡ true → Stays g old new
+      → Explains e (faults_of g old) (faults_of g new) (Refuses (SpellsAs old.strict) (Readable reads) (room_of old) (left g old))
+      → Lawful g reads old new (Err e)
   refused e o f s r = record { ok = tt; ready = tt; clean = tt; sound = tt; err = λ _. r; failed = f; before = λ h. absurd cc; stays = s }
 
   -- no message was there, or a read had failed before
@@ -37,18 +39,30 @@ module _ {R C V : Type 0} (g : Ghosts R) (reads : Msg → V → Type 0) (old new
   }
 
   -- the head opens no message that is wanted
-  pub refused_head : (p : Marker × Head) (e : Error) → ReadsHead g old new (Ok p) → ((m : Msg) → Readable reads m → head_of m ≡ p.1 → ⊥) → Lawful g reads old new (Err e)
+  pub refused_head : (p : Marker × Head) (e : Error) → ReadsHead g old new (Ok p) → ((m : Msg) → Readable reads m → head_of m ≡ p.1 → ⊥)
+      → Lawful g reads old new (Err e)
   refused_head p e h n = refused e h.fresh h.failed h.stays (λ _ _. refuses_head _ _ _ _ (left g new) h.ok.bytes p.1 h.ok.takes h.ok.is_head n)
 
   -- the message that was there isn't wanted
-  pub refused_leaf : (p : Marker × Head) (e : Error) (m : Msg) → ReadsHead g old new (Ok p) → ((b : List ℕ) → heads_of old.strict p.1 b → SpellsAs old.strict b m) → (Readable reads m → ⊥) → Lawful g reads old new (Err e)
-  refused_leaf p e m h s n = refused e h.fresh h.failed h.stays (λ _ _. refuses_other _ _ _ _ (left g new) h.ok.bytes m h.ok.takes (s h.ok.bytes h.ok.is_head) n)
+  pub refused_leaf : (p : Marker × Head) (e : Error) (m : Msg) → ReadsHead g old new (Ok p)
+      → ((b : List ℕ) → heads_of old.strict p.1 b → SpellsAs old.strict b m) → (Readable reads m → ⊥) → Lawful g reads old new (Err e)
+  refused_leaf p e m h s n = refused e h.fresh h.failed h.stays
+      (λ _ _. refuses_other _ _ _ _ (left g new) h.ok.bytes m h.ok.takes (s h.ok.bytes h.ok.is_head) n)
 
 -- the head is the whole message
-pub answered_leaf : {R C V : Type 0} (g : Ghosts R) (reads : Msg → V → Type 0) (old mid new : Deserializer R C) (p : Marker × Head) (m : Msg) (v : V) → ReadsHead g old mid (Ok p) → new ≡ record mid { failed = false }
+pub answered_leaf : {R C V : Type 0} (g : Ghosts R) (reads : Msg → V → Type 0) (old mid new : Deserializer R C) (p : Marker × Head) (m : Msg) (v : V)
+    → ReadsHead g old mid (Ok p) → new ≡ record mid { failed = false }
     → ((b : List ℕ) → heads_of old.strict p.1 b → SpellsAs old.strict b m) → depth m ≡ 0 → reads m v → Lawful g reads old new (Ok v)
 answered_leaf g reads old mid new p m v h q s d r = rw q (record {
-  ok = record { bytes = h.ok.bytes; tree = m; takes = h.ok.takes; goes_on = h.ok.goes_on; spelled = s h.ok.bytes h.ok.is_head; fits = omega (arith, d); value = r };
+  ok = record {
+    bytes = h.ok.bytes;
+    tree = m;
+    takes = h.ok.takes;
+    goes_on = h.ok.goes_on;
+    spelled = s h.ok.bytes h.ok.is_head;
+    fits = omega (arith, d);
+    value = r;
+  };
   ready = refl;
   clean = h.clean;
   sound = h.sound;
@@ -59,9 +73,19 @@ answered_leaf g reads old mid new p m v h q s d r = rw q (record {
 })
 
 -- a reading that says no less of an answer
-pub lawful_ok : {R C V W : Type 0} (g : Ghosts R) (reads : Msg → V → Type 0) (reads' : Msg → W → Type 0) (old new : Deserializer R C) (v : V) (w : W) → ((m : Msg) → reads m v → reads' m w) → Lawful g reads old new (Ok v) → Lawful g reads' old new (Ok w)
+pub lawful_ok : {R C V W : Type 0} (g : Ghosts R) (reads : Msg → V → Type 0) (reads' : Msg → W → Type 0) (old new : Deserializer R C) (v : V) (w : W)
+    → ((m : Msg) → reads m v → reads' m w) → Lawful g reads old new (Ok v) → Lawful g reads' old new (Ok w)
 lawful_ok g reads reads' old new v w f l = record {
-  ok = let r = l.ok in record { bytes = r.bytes; tree = r.tree; takes = r.takes; goes_on = r.goes_on; spelled = r.spelled; fits = r.fits; value = f r.tree r.value };
+  ok = let r = l.ok in record {
+    bytes = r.bytes;
+    tree = r.tree;
+    takes = r.takes;
+    goes_on = r.goes_on;
+    spelled = r.spelled;
+    fits = r.fits;
+    value = f r.tree
+        r.value;
+  };
   ready = l.ready;
   clean = l.clean;
   sound = l.sound;
@@ -72,7 +96,8 @@ lawful_ok g reads reads' old new v w f l = record {
 }
 
 -- a reading that has no tree which the other lacks
-pub lawful_err : {R C V W : Type 0} (g : Ghosts R) (reads : Msg → V → Type 0) (reads' : Msg → W → Type 0) (old new : Deserializer R C) (e : Error) → ((m : Msg) → Readable reads' m → Readable reads m) → Lawful g reads old new (Err e) → Lawful g reads' old new (Err e)
+pub lawful_err : {R C V W : Type 0} (g : Ghosts R) (reads : Msg → V → Type 0) (reads' : Msg → W → Type 0) (old new : Deserializer R C) (e : Error)
+    → ((m : Msg) → Readable reads' m → Readable reads m) → Lawful g reads old new (Err e) → Lawful g reads' old new (Err e)
 lawful_err g reads reads' old new e f l = record {
   ok = tt;
   ready = tt;
@@ -85,7 +110,8 @@ lawful_err g reads reads' old new e f l = record {
 }
 
 -- a type's own refusal of what was read
-pub lawful_not : {R C V W : Type 0} (g : Ghosts R) (reads : Msg → V → Type 0) (reads' : Msg → W → Type 0) (old mid new : Deserializer R C) (v : V) (e : Error) → ((m : Msg) → reads m v → Readable reads' m → ⊥)
+pub lawful_not : {R C V W : Type 0} (g : Ghosts R) (reads : Msg → V → Type 0) (reads' : Msg → W
+    → Type 0) (old mid new : Deserializer R C) (v : V) (e : Error) → ((m : Msg) → reads m v → Readable reads' m → ⊥)
     → new.failed ≡ true → Stays g mid new → Lawful g reads old mid (Ok v) → Lawful g reads' old new (Err e)
 lawful_not g reads reads' old mid new v e f d s l = record {
   ok = tt;
@@ -99,6 +125,8 @@ lawful_not g reads reads' old mid new v e f d s l = record {
 }
 
 -- the same, where the reader is made to fail
-pub lawful_refuse : {R C V W : Type 0} (g : Ghosts R) (reads : Msg → V → Type 0) (reads' : Msg → W → Type 0) (old mid new : Deserializer R C) (v : V) (e : Error) → ((m : Msg) → reads m v → Readable reads' m → ⊥)
+pub lawful_refuse : {R C V W : Type 0} (g : Ghosts R) (reads : Msg → V → Type 0) (reads' : Msg → W
+    → Type 0) (old mid new : Deserializer R C) (v : V) (e : Error) → ((m : Msg) → reads m v → Readable reads' m → ⊥)
     → new ≡ record mid { failed = true } → Lawful g reads old mid (Ok v) → Lawful g reads' old new (Err e)
-lawful_refuse g reads reads' old mid new v e f q l = rw q (lawful_not g reads reads' old mid (record mid { failed = true }) v e f refl (record { config = refl; room = refl; strict = refl; place = refl }) l)
+lawful_refuse g reads reads' old mid new v e f q l = rw q
+    (lawful_not g reads reads' old mid (record mid { failed = true }) v e f refl (record { config = refl; room = refl; strict = refl; place = refl }) l)

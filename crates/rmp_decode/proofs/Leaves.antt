@@ -33,10 +33,13 @@ float32_leaf = record { is = λ a. refl; spells = λ s a b h. h; flat = λ a. re
 pub float64_leaf : Leaf float64 head.F64Bits
 float64_leaf = record { is = λ a. refl; spells = λ s a b h. h; flat = λ a. refl }
 
-module _ {R C A V : Type 0} {make : A → Msg} {heads : A → Head} (leaf : Leaf make heads) (g : Ghosts R) (reads : Msg → V → Type 0) (old mid : Deserializer R C) (p : Marker × Head) (h : ReadsHead g old mid (Ok p)) where
+module _ {R C A V : Type 0} {make : A → Msg} {heads : A → Head} (leaf : Leaf make heads) (g : Ghosts R) (reads : Msg → V
+    → Type 0) (old mid : Deserializer R C) (p : Marker × Head) (h : ReadsHead g old mid (Ok p)) where
   -- it was there, and is read so
-  pub leaf_read : (new : Deserializer R C) (a : A) (v : V) → p.1 ≡ heads a → new ≡ record mid { failed = false } → reads (make a) v → Lawful g reads old new (Ok v)
-  leaf_read new a v e q r = answered_leaf g reads old mid new p (make a) v h q (λ b i. leaf.spells old.strict a b (subst (λ k. heads_of old.strict k b) e i)) (leaf.flat a) r
+  pub leaf_read : (new : Deserializer R C) (a : A) (v : V) → p.1 ≡ heads a → new ≡ record mid { failed = false } → reads (make a) v
+      → Lawful g reads old new (Ok v)
+  leaf_read new a v e q r = answered_leaf g reads old mid new p (make a) v h q
+      (λ b i. leaf.spells old.strict a b (subst (λ k. heads_of old.strict k b) e i)) (leaf.flat a) r
 
   -- another kind was there
   pub leaf_missed : (e : Error) → ((a : A) → p.1 ≡ heads a → ⊥) → ((m : Msg) → Readable reads m → (a : A) × (m ≡ make a)) → Lawful g reads old mid (Err e)

@@ -56,7 +56,14 @@ other_than_map room m (head.Ext n tag) e f i = i
 
 module _ {R C : Type 0} (g : Ghosts R) (old new : Deserializer R C) (e : Error) where
   pub no_map_begins : ReadsHead g old new (Err e) → FailsToOpenMap g old new e
-  no_map_begins h = record { failed = h.failed; stays = h.stays; before = h.before; err = λ o n k. refuses_none _ _ _ _ (h.err o n k); exact = λ o. by_none _ (not_map (room_of old)) _ _ _ e (h.ends o) }
+  no_map_begins h = record {
+    failed = h.failed;
+    stays = h.stays;
+    before = h.before;
+    err = λ o n k. refuses_none _ _ _ _ (h.err o n k);
+    exact = λ o. by_none
+        _ (not_map (room_of old)) _ _ _ e (h.ends o);
+  }
 
   module _ (p : Marker × Head) (h : ReadsHead g old new (Ok p)) where
     -- another kind was there
@@ -65,7 +72,8 @@ module _ {R C : Type 0} (g : Ghosts R) (old new : Deserializer R C) (e : Error) 
       failed = h.failed;
       stays = h.stays;
       before = λ b. absurd (let o = h.fresh in cc);
-      err = λ _ _ _. refuses_head _ IsMap (room_of old) (left g old) (left g new) h.ok.bytes p.1 h.ok.takes h.ok.is_head (λ m j q. let a = map_head_of m j in f a.0 (sym q ∙ a.1));
+      err = λ _ _ _. refuses_head _ IsMap (room_of old) (left g old) (left g new) h.ok.bytes p.1 h.ok.takes h.ok.is_head (λ m j q. let a = map_head_of m j
+          in f a.0 (sym q ∙ a.1));
       exact = λ _. by_head _ (not_map (room_of old)) _ _ _ p.0 p.1 e h.marked (other_than_map (room_of old) p.0 p.1 e f i);
     }
 

@@ -35,11 +35,13 @@ put_keeps zero (suc n) v m (None ∷ fs) gs e h = let q : Some v ∷ fs ≡ gs =
 put_keeps zero n v m (Some k ∷ fs) gs e h = absurd (cc)
 put_keeps (suc i) n v m (f ∷ fs) gs e h = go (λ n r p h. put_keeps i n v m fs r p h) (put i v fs) refl e
   where
-    behind : ((n : ℕ) (r : List (Option Msg)) → put i v fs ≡ Some r → at n fs ≡ Some m → at n r ≡ Some m) → (n : ℕ) (r : List (Option Msg)) → put i v fs ≡ Some r → at n (f ∷ fs) ≡ Some m → at n (f ∷ r) ≡ Some m
+    behind : ((n : ℕ) (r : List (Option Msg)) → put i v fs ≡ Some r → at n fs ≡ Some m → at n r ≡ Some m) → (n : ℕ) (r : List (Option Msg))
+        → put i v fs ≡ Some r → at n (f ∷ fs) ≡ Some m → at n (f ∷ r) ≡ Some m
     behind ih zero r p h = h
     behind ih (suc n) r p h = ih n r p h
 
-    go : ((n : ℕ) (r : List (Option Msg)) → put i v fs ≡ Some r → at n fs ≡ Some m → at n r ≡ Some m) → (x : Option (List (Option Msg))) → put i v fs ≡ x → option_and_then (λ r. Some (f ∷ r)) x ≡ Some gs → at n gs ≡ Some m
+    go : ((n : ℕ) (r : List (Option Msg)) → put i v fs ≡ Some r → at n fs ≡ Some m → at n r ≡ Some m) → (x : Option (List (Option Msg))) → put i v fs ≡ x
+        → option_and_then (λ r. Some (f ∷ r)) x ≡ Some gs → at n gs ≡ Some m
     go ih None p q = absurd (cc)
     go ih (Some r) p q = let s : f ∷ r ≡ gs = cc in subst (λ z. at n z ≡ Some m) s (behind ih n r p h)
 
@@ -49,7 +51,8 @@ put_at zero m (None ∷ fs) gs e = let q : Some m ∷ fs ≡ gs = cc in subst (�
 put_at zero m (Some k ∷ fs) gs e = absurd (cc)
 put_at (suc n) m (f ∷ fs) gs e = go (λ r p. put_at n m fs r p) (put n m fs) refl e
   where
-    go : ((r : List (Option Msg)) → put n m fs ≡ Some r → at n r ≡ Some m) → (x : Option (List (Option Msg))) → put n m fs ≡ x → option_and_then (λ r. Some (f ∷ r)) x ≡ Some gs → at (suc n) gs ≡ Some m
+    go : ((r : List (Option Msg)) → put n m fs ≡ Some r → at n r ≡ Some m) → (x : Option (List (Option Msg))) → put n m fs ≡ x
+        → option_and_then (λ r. Some (f ∷ r)) x ≡ Some gs → at (suc n) gs ≡ Some m
     go ih None p q = absurd (cc)
     go ih (Some r) p q = let s : f ∷ r ≡ gs = cc in subst (λ z. at (suc n) z ≡ Some m) s (ih r p)
 
@@ -70,7 +73,8 @@ module _ (names : List (List ℕ)) where
   met_keeps n m no_pairs fs gs e h = let s : fs ≡ gs = cc in subst (λ z. at n z ≡ Some m) s h
   met_keeps n m (pair k v ps) fs gs e h = go (λ hs. met_keeps n m ps hs gs) (meet k v fs) refl e
     where
-      go : ((hs : List (Option Msg)) → met names hs ps ≡ Some gs → at n hs ≡ Some m → at n gs ≡ Some m) → (x : Option (List (Option Msg))) → meet k v fs ≡ x → option_and_then (λ hs. met names hs ps) x ≡ Some gs → at n gs ≡ Some m
+      go : ((hs : List (Option Msg)) → met names hs ps ≡ Some gs → at n hs ≡ Some m → at n gs ≡ Some m) → (x : Option (List (Option Msg))) → meet k v fs ≡ x
+          → option_and_then (λ hs. met names hs ps) x ≡ Some gs → at n gs ≡ Some m
       go ih None p q = absurd (cc)
       go ih (Some hs) p q = ih hs q (meet_keeps n m k v fs hs p h)
 
@@ -79,27 +83,35 @@ module _ (names : List (List ℕ)) where
   met_push no_pairs k v fs gs e = let s : fs ≡ gs = cc in and_then_some (meet k v fs) ∙ ap (meet k v) s
   met_push (pair a b ps) k v fs gs e = go (λ hs. met_push ps k v hs gs) (meet a b fs) e
     where
-      go : ((hs : List (Option Msg)) → met names hs ps ≡ Some gs → met names hs (push_pair ps k v) ≡ meet k v gs) → (x : Option (List (Option Msg))) → option_and_then (λ hs. met names hs ps) x ≡ Some gs → option_and_then (λ hs. met names hs (push_pair ps k v)) x ≡ meet k v gs
+      go : ((hs : List (Option Msg)) → met names hs ps ≡ Some gs → met names hs (push_pair ps k v) ≡ meet k v gs) → (x : Option (List (Option Msg)))
+          → option_and_then (λ hs. met names hs ps) x ≡ Some gs → option_and_then (λ hs. met names hs (push_pair ps k v)) x ≡ meet k v gs
       go ih None q = absurd (cc)
       go ih (Some hs) q = ih hs q
 
   -- what is met behind pairs that were met
-  pub rest_met : (ps qs : Pairs) (ks : Msgs) (fs gs : List (Option Msg)) → flat qs ≡ append (flat ps) ks → met names fs ps ≡ Some gs → (rs : Pairs) × (flat rs ≡ ks) × (met names fs qs ≡ met names gs rs)
+  pub rest_met : (ps qs : Pairs) (ks : Msgs) (fs gs : List (Option Msg)) → flat qs ≡ append (flat ps) ks → met names fs ps ≡ Some gs
+      → (rs : Pairs) × (flat rs ≡ ks) × (met names fs qs ≡ met names gs rs)
   rest_met no_pairs qs ks fs gs e h = let s : fs ≡ gs = cc in (qs, e, ap (λ z. met names z qs) s)
   rest_met (pair a b ps) no_pairs ks fs gs e h = absurd (cc)
   rest_met (pair a b ps) (pair c d qs) ks fs gs e h =
       let ac : a ≡ c = cc in
       let bd : b ≡ d = cc in
       let rest : flat qs ≡ append (flat ps) ks = cc in
-      let x = go (λ hs. rest_met ps qs ks hs gs rest) (meet a b fs) h in
-      (x.0, x.1, ap (λ z. option_and_then (λ hs. met names hs qs) (meet z d fs)) (sym ac) ∙ ap (λ z. option_and_then (λ hs. met names hs qs) (meet a z fs)) (sym bd) ∙ x.2)
+      let x = go (λ hs. rest_met ps qs ks hs gs rest) (meet a b fs) h in (
+        x.0,
+        x.1,
+        ap (λ z. option_and_then (λ hs. met names hs qs) (meet z d fs)) (sym ac)
+            ∙ ap (λ z. option_and_then (λ hs. met names hs qs) (meet a z fs)) (sym bd) ∙ x.2,
+      )
     where
-      go : ((hs : List (Option Msg)) → met names hs ps ≡ Some gs → (rs : Pairs) × (flat rs ≡ ks) × (met names hs qs ≡ met names gs rs)) → (x : Option (List (Option Msg))) → option_and_then (λ hs. met names hs ps) x ≡ Some gs
+      go : ((hs : List (Option Msg)) → met names hs ps ≡ Some gs → (rs : Pairs) × (flat rs ≡ ks) × (met names hs qs ≡ met names gs rs))
+          → (x : Option (List (Option Msg))) → option_and_then (λ hs. met names hs ps) x ≡ Some gs
           → (rs : Pairs) × (flat rs ≡ ks) × (option_and_then (λ hs. met names hs qs) x ≡ met names gs rs)
       go ih None q = absurd (cc)
       go ih (Some hs) q = ih hs q
 
-  module _ (Q : List (Option Msg) → Type 0) (fs gs : List (Option Msg)) (ps : Pairs) (h : met names fs ps ≡ Some gs) (qs : Pairs) (ok : MatchOption (met names fs qs) ⊥ Q) where
+  module _ (Q : List (Option Msg) → Type 0) (fs gs : List (Option Msg)) (ps : Pairs) (h : met names fs ps ≡ Some gs) (qs : Pairs)
+      (ok : MatchOption (met names fs qs) ⊥ Q) where
     -- no pair is left
     pub none_met : flat qs ≡ append (flat ps) no_items → Q gs
     none_met e = let x = rest_met ps qs no_items fs gs e h in go x.0 x.1 x.2
@@ -112,7 +124,8 @@ module _ (names : List (List ℕ)) where
     pub key_named : (k : Msg) (ks : Msgs) → flat qs ≡ append (flat ps) (item k ks) → (o : Option ℕ) × (name_of names k ≡ Some o)
     key_named k ks e = let x = rest_met ps qs (item k ks) fs gs e h in go x.0 x.1 x.2
       where
-        named : (rs : Pairs) (b : Msg) (x : Option (Option ℕ)) → MatchOption (option_and_then (λ hs. met names hs rs) (option_and_then (λ o. put_named o b gs) x)) ⊥ Q → (o : Option ℕ) × (x ≡ Some o)
+        named : (rs : Pairs) (b : Msg) (x : Option (Option ℕ))
+            → MatchOption (option_and_then (λ hs. met names hs rs) (option_and_then (λ o. put_named o b gs) x)) ⊥ Q → (o : Option ℕ) × (x ≡ Some o)
         named rs b None h = absurd h
         named rs b (Some o) h = (o, refl)
 
@@ -125,19 +138,23 @@ module _ (names : List (List ℕ)) where
 
     module _ (k : Msg) (n : ℕ) (is : name_of names k ≡ Some (Some n)) where
       -- the value of a name has a place, and is there at last
-      pub value_put : (m : Msg) (ks : Msgs) → flat qs ≡ append (push (flat ps) k) (item m ks) → (hs out : List (Option Msg)) × (put n m gs ≡ Some hs) × (at n out ≡ Some m) × Q out
+      pub value_put : (m : Msg) (ks : Msgs) → flat qs ≡ append (push (flat ps) k) (item m ks)
+          → (hs out : List (Option Msg)) × (put n m gs ≡ Some hs) × (at n out ≡ Some m) × Q out
       value_put m ks e = let x = rest_met ps qs (item k (item m ks)) fs gs (e ∙ append_push (flat ps) k (item m ks)) h in go x.0 x.1 x.2
         where
-          after : (rs : Pairs) (x : Option (List (Option Msg))) → put n m gs ≡ x → MatchOption (option_and_then (λ hs. met names hs rs) x) ⊥ Q → (hs out : List (Option Msg)) × (put n m gs ≡ Some hs) × (at n out ≡ Some m) × Q out
+          after : (rs : Pairs) (x : Option (List (Option Msg))) → put n m gs ≡ x → MatchOption (option_and_then (λ hs. met names hs rs) x) ⊥ Q
+              → (hs out : List (Option Msg)) × (put n m gs ≡ Some hs) × (at n out ≡ Some m) × Q out
           after rs None p h = absurd h
           after rs (Some hs) p h = let y = holds_some Q (met names hs rs) h in (hs, y.0, p, met_keeps n m rs hs y.0 y.1 (put_at n m gs hs p), y.2)
 
-          go : (rs : Pairs) → flat rs ≡ item k (item m ks) → met names fs qs ≡ met names gs rs → (hs out : List (Option Msg)) × (put n m gs ≡ Some hs) × (at n out ≡ Some m) × Q out
+          go : (rs : Pairs) → flat rs ≡ item k (item m ks) → met names fs qs ≡ met names gs rs
+              → (hs out : List (Option Msg)) × (put n m gs ≡ Some hs) × (at n out ≡ Some m) × Q out
           go no_pairs p q = absurd (cc)
           go (pair a b rs) p q =
               let ka : a ≡ k = cc in
               let mb : b ≡ m = cc in
               let h0 = subst (λ z. MatchOption z ⊥ Q) q ok in
-              let h1 = subst (λ z. MatchOption (option_and_then (λ hs. met names hs rs) (option_and_then (λ o. put_named o b gs) z)) ⊥ Q) (ap (name_of names) ka ∙ is) h0 in
+              let h1 = subst (λ z. MatchOption (option_and_then (λ hs. met names hs rs) (option_and_then (λ o. put_named o b gs) z)) ⊥ Q)
+              (ap (name_of names) ka ∙ is) h0 in
               let h2 = subst (λ z. MatchOption (option_and_then (λ hs. met names hs rs) (put n z gs)) ⊥ Q) mb h1 in
               after rs (put n m gs) refl h2

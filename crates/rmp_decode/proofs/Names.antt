@@ -1,5 +1,39 @@
 -- The names of fields, one after another.
-use Rattle.std.proofs.Common.{◌≡◌, ◌∙◌, sym, ap, refl, inl, inr, ◌⊎◌, arith, ◌+◌, ◌<◌, ◌≤◌, ℕ, suc, List, [], ◌∷◌, drop, length, get_or, cond, true, false, Option, None, Some, Bor, Bool, ℤ, pos, negsuc, nat_lt, nat_abs}
+use Rattle.std.proofs.Common.{
+  ◌≡◌,
+  ◌∙◌,
+  sym,
+  ap,
+  refl,
+  inl,
+  inr,
+  ◌⊎◌,
+  arith,
+  ◌+◌,
+  ◌<◌,
+  ◌≤◌,
+  ℕ,
+  suc,
+  List,
+  [],
+  ◌∷◌,
+  drop,
+  length,
+  get_or,
+  cond,
+  true,
+  false,
+  Option,
+  None,
+  Some,
+  Bor,
+  Bool,
+  ℤ,
+  pos,
+  negsuc,
+  nat_lt,
+  nat_abs,
+}
 use Rattle.std.specs.Int.Signed.{lt_z}
 use Rattle.std.specs.Option.{option_map}
 use Rattle.std.specs.Str.{bytes_eq}
@@ -20,12 +54,17 @@ later : (i : ℕ) (o : Option ℕ) → option_map (λ n. i + n) (option_map suc 
 later i None = refl
 later i (Some n) = ap (λ k. Some k) (omega arith)
 
-module _ (names : List (Bor (List ℕ))) (key : List ℕ) (i : ℕ) (d : Bor (List ℕ)) (inv : place_of (bytes_of names) key ≡ option_map (λ n. i + n) (place_of (bytes_of (drop i names)) key)) where
+module _ (names : List (Bor (List ℕ))) (key : List ℕ) (i : ℕ) (d : Bor (List ℕ))
+    (inv : place_of (bytes_of names) key ≡ option_map (λ n. i + n) (place_of (bytes_of (drop i names)) key)) where
   pub name_met : i < length names → bytes_eq (get_or names i d).now key ≡ true → Some i ≡ place_of (bytes_of names) key
-  name_met l t = ap (λ k. Some k) (omega arith) ∙ sym (inv ∙ ap (λ z. option_map (λ n. i + n) (place_of (bytes_of z) key)) (drop_more names i d l) ∙ ap (λ b. option_map (λ n. i + n) (cond b (Some 0) (option_map suc (place_of (bytes_of (drop (i + 1) names)) key)))) t)
+  name_met l t = ap (λ k. Some k) (omega arith) ∙ sym
+      (inv ∙ ap (λ z. option_map (λ n. i + n) (place_of (bytes_of z) key)) (drop_more names i d l)
+      ∙ ap (λ b. option_map (λ n. i + n) (cond b (Some 0) (option_map suc (place_of (bytes_of (drop (i + 1) names)) key)))) t)
 
-  pub name_passed : i < length names → bytes_eq (get_or names i d).now key ≡ false → place_of (bytes_of names) key ≡ option_map (λ n. i + 1 + n) (place_of (bytes_of (drop (i + 1) names)) key)
-  name_passed l t = inv ∙ ap (λ z. option_map (λ n. i + n) (place_of (bytes_of z) key)) (drop_more names i d l) ∙ ap (λ b. option_map (λ n. i + n) (cond b (Some 0) (option_map suc (place_of (bytes_of (drop (i + 1) names)) key)))) t ∙ later i _
+  pub name_passed : i < length names → bytes_eq (get_or names i d).now key ≡ false
+      → place_of (bytes_of names) key ≡ option_map (λ n. i + 1 + n) (place_of (bytes_of (drop (i + 1) names)) key)
+  name_passed l t = inv ∙ ap (λ z. option_map (λ n. i + n) (place_of (bytes_of z) key)) (drop_more names i d l)
+      ∙ ap (λ b. option_map (λ n. i + n) (cond b (Some 0) (option_map suc (place_of (bytes_of (drop (i + 1) names)) key)))) t ∙ later i _
 
   pub name_unknown : length names ≤ i → None ≡ place_of (bytes_of names) key
   name_unknown l = sym (inv ∙ ap (λ z. option_map (λ n. i + n) (place_of (bytes_of z) key)) (drop_all i names l))
@@ -35,7 +74,8 @@ name_of_raw names true s = refl
 name_of_raw names false s = refl
 
 -- what says something is a number, a text or bytes
-pub is_key_of : (names : List (List ℕ)) (m : Msg) (o : Option ℕ) → name_of names m ≡ Some o → ((z : ℤ) × (head_of m ≡ Whole z)) ⊎ ((p : Bool × ℕ) × (head_of m ≡ raw_head p.0 p.1))
+pub is_key_of : (names : List (List ℕ)) (m : Msg) (o : Option ℕ) → name_of names m ≡ Some o
+    → ((z : ℤ) × (head_of m ≡ Whole z)) ⊎ ((p : Bool × ℕ) × (head_of m ≡ raw_head p.0 p.1))
 is_key_of names nil o e = absurd (cc)
 is_key_of names (truth t) o e = absurd (cc)
 is_key_of names (whole z) o e = inl (z, refl)
@@ -51,7 +91,8 @@ pub length_bytes : (names : List (Bor (List ℕ))) → length (bytes_of names) �
 length_bytes [] = refl
 length_bytes (s ∷ names) = ap suc (length_bytes names)
 
-pub below_length : (names : List (Bor (List ℕ))) (z : ℤ) (o : Option (Option ℕ)) → o ≡ place_below (length names) z → place_below (length (bytes_of names)) z ≡ o
+pub below_length : (names : List (Bor (List ℕ))) (z : ℤ) (o : Option (Option ℕ)) → o ≡ place_below (length names) z
+    → place_below (length (bytes_of names)) z ≡ o
 below_length names z o e = ap (λ n. place_below n z) (length_bytes names) ∙ sym e
 
 pub below_none : (n : ℕ) (z : ℤ) → lt_z z (pos 0) ≡ true → None ≡ place_below n z

@@ -32,9 +32,11 @@ record Taken {R C X : Type 0} (g : Ghosts R) (reads : Msg → X → Type 0) (in_
   pub faults_same : faults_of g new ≡ faults_of g old
 
 module _ {R C X : Type 0} (g : Ghosts R) (reads : Msg → X → Type 0) (old from new : Deserializer R C) (inner : ℕ) (clean : old.kept ≡ Nothing) where
-  taken_part : (in_bytes : Bool) (v : X) → OffersPart g in_bytes old from → TakesPart g reads (max 1 inner) from new v → Taken g reads in_bytes (max 1 inner) old new v
+  taken_part : (in_bytes : Bool) (v : X) → OffersPart g in_bytes old from → TakesPart g reads (max 1 inner) from new v
+      → Taken g reads in_bytes (max 1 inner) old new v
   taken_part true v o p =
-      let r : Reads g reads (part_reader from inner) new v = record { bytes = p.bytes; tree = p.tree; takes = p.takes; goes_on = p.goes_on; spelled = p.spelled; fits = p.fits; value = p.value } in
+      let r : Reads g reads (part_reader from inner) new v = record
+      { bytes = p.bytes; tree = p.tree; takes = p.takes; goes_on = p.goes_on; spelled = p.spelled; fits = p.fits; value = p.value } in
       let t = number_taken g old from (part_reader from inner) clean o.keeps refl refl reads new v r in
       record {
         bytes = t.byte ∷ [];
@@ -48,20 +50,35 @@ module _ {R C X : Type 0} (g : Ghosts R) (reads : Msg → X → Type 0) (old fro
       }
   taken_part false v o p =
       subst (λ (z : Deserializer R C). Taken g reads false (max 1 inner) z new v) o
-      (record { bytes = p.bytes; tree = p.tree; takes = p.takes; spelled = p.spelled; fits = p.fits; value = p.value; stays = p.stays; faults_same = p.faults_same })
+      (record {
+        bytes = p.bytes;
+        tree = p.tree;
+        takes = p.takes;
+        spelled = p.spelled;
+        fits = p.fits;
+        value = p.value;
+        stays = p.stays;
+        faults_same = p.faults_same;
+      })
 
   refused_part : (in_bytes : Bool) (e : Error) → OffersPart g in_bytes old from → FailsPart g reads (max 1 inner) from new e
       → Stays g old new × Explains e (faults_of g old) (faults_of g new) (Refuses (SpellsIn old.strict in_bytes) (Readable reads) (max 1 inner) (left g old))
-  refused_part true e o f =
-      (stays_then g old from new o.stays f.stays, λ n q. number_refused g old from (part_reader from inner) clean o.keeps refl refl (Readable reads) (max 1 inner) (omega arith) (f.err n (q ∙ sym o.faults_same)))
+  refused_part true e o f = (
+    stays_then g old from new o.stays f.stays,
+    λ n q. number_refused g old from (part_reader from inner) clean o.keeps refl refl (Readable reads)
+        (max 1 inner) (omega arith) (f.err n (q ∙ sym o.faults_same)),
+  )
   refused_part false e o f =
-      subst (λ (z : Deserializer R C). Stays g z new × Explains e (faults_of g z) (faults_of g new) (Refuses (SpellsAs z.strict) (Readable reads) (max 1 inner) (left g z))) o (f.stays, f.err)
+      subst (λ (z : Deserializer R C). Stays g z new × Explains e (faults_of g z) (faults_of g new)
+      (Refuses (SpellsAs z.strict) (Readable reads) (max 1 inner) (left g z))) o (f.stays, f.err)
 
 -- ---- over the accesses
 
-module _ {R C X : Type 0} (g : Ghosts R) (reads : Msg → X → Type 0) (old new : SeqAccess R C) (from : Deserializer R C) (o : IsOpen old) (offers : OffersPart g old.bytes old.de.now from) where
+module _ {R C X : Type 0} (g : Ghosts R) (reads : Msg → X
+    → Type 0) (old new : SeqAccess R C) (from : Deserializer R C) (o : IsOpen old) (offers : OffersPart g old.bytes old.de.now from) where
   -- it was read
-  pub element_taken : (v : X) → SameList old new → TakesPart g reads (inner_of old) from new.de.now v → old.left ≡ new.left + 1 → new.sound ≡ true → TakesElement g reads old new v
+  pub element_taken : (v : X) → SameList old new → TakesPart g reads (inner_of old) from new.de.now v → old.left ≡ new.left + 1 → new.sound ≡ true
+      → TakesElement g reads old new v
   element_taken v same p fewer s =
       let t = taken_part g reads old.de.now from new.de.now old.inner o.clean old.bytes v offers p in
       record {
@@ -88,10 +105,14 @@ module _ {R C X : Type 0} (g : Ghosts R) (reads : Msg → X → Type 0) (old new
 
 -- ---- which error it is
 
-module _ {R C : Type 0} (g : Ghosts R) (human : C → Bool) (lends : Bool) (P : Setting → Refusals) (old from : Deserializer R C) (inner after : ℕ) (e : Error) (clean : old.kept ≡ Nothing) where
-  pub offered : (in_bytes : Bool) → OffersPart g in_bytes old from → P (setting_of (human from.config) lends (part_reader from inner)) (faults_of g from) after (left g from) e
+module _ {R C : Type 0} (g : Ghosts R) (human : C → Bool) (lends : Bool) (P : Setting
+    → Refusals) (old from : Deserializer R C) (inner after : ℕ) (e : Error) (clean : old.kept ≡ Nothing) where
+  pub offered : (in_bytes : Bool) → OffersPart g in_bytes old from
+      → P (setting_of (human from.config) lends (part_reader from inner)) (faults_of g from) after (left g from) e
       → RefusedIn in_bytes (P (setting_of (human old.config) lends (part_reader old inner))) (faults_of g old) after (left g old) e
   offered true o p =
-      let s' : setting_of (human from.config) lends (part_reader from inner) ≡ setting_of (human old.config) lends (part_reader old inner) = setting_same human lends (part_reader from inner) (part_reader old inner) _ _ o.stays.config o.stays.strict refl in
-      number_wrong g (P (setting_of (human old.config) lends (part_reader old inner))) e old clean from (part_reader from inner) o.keeps refl refl o.faults_same after (subst (λ z. P z (faults_of g from) after (left g from) e) s' p)
+      let s' : setting_of (human from.config) lends (part_reader from inner) ≡ setting_of (human old.config) lends (part_reader old inner) = setting_same
+      human lends (part_reader from inner) (part_reader old inner) _ _ o.stays.config o.stays.strict refl in
+      number_wrong g (P (setting_of (human old.config) lends (part_reader old inner))) e old clean from (part_reader from inner) o.keeps refl refl
+      o.faults_same after (subst (λ z. P z (faults_of g from) after (left g from) e) s' p)
   offered false o p = subst (λ (z : Deserializer R C). P (setting_of (human z.config) lends (part_reader z inner)) (faults_of g z) after (left g z) e) o p

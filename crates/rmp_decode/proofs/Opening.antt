@@ -56,7 +56,14 @@ other_than_seq room m (head.Ext n tag) e f i = i
 
 module _ {R C : Type 0} (g : Ghosts R) (old new : Deserializer R C) (e : Error) where
   pub fails_to_begin : ReadsHead g old new (Err e) → FailsToOpen g old new e
-  fails_to_begin h = record { failed = h.failed; stays = h.stays; before = h.before; err = λ o n k. refuses_none _ _ _ _ (h.err o n k); memory = h.memory; exact = λ o. by_none _ (not_seq (room_of old)) _ _ _ e (h.ends o) }
+  fails_to_begin h = record {
+    failed = h.failed;
+    stays = h.stays;
+    before = h.before;
+    err = λ o n k. refuses_none _ _ _ _ (h.err o n k);
+    memory = h.memory;
+    exact = λ o. by_none _ (not_seq (room_of old)) _ _ _ e (h.ends o);
+  }
 
   module _ (p : Marker × Head) (h : ReadsHead g old new (Ok p)) where
     -- another kind was there
@@ -65,7 +72,8 @@ module _ {R C : Type 0} (g : Ghosts R) (old new : Deserializer R C) (e : Error) 
       failed = h.failed;
       stays = h.stays;
       before = λ f. absurd (let o = h.fresh in cc);
-      err = λ _ _ _. refuses_head _ IsSeq (room_of old) (left g old) (left g new) h.ok.bytes p.1 h.ok.takes h.ok.is_head (λ m i q. let a = seq_head_of m i in n a.0 (sym q ∙ a.1));
+      err = λ _ _ _. refuses_head _ IsSeq (room_of old) (left g old) (left g new) h.ok.bytes p.1 h.ok.takes h.ok.is_head (λ m i q. let a = seq_head_of m i
+          in n a.0 (sym q ∙ a.1));
       memory = λ q. absurd (let q' = is in cc);
       exact = λ _. by_head _ (not_seq (room_of old)) _ _ _ p.0 p.1 e h.marked (other_than_seq (room_of old) p.0 p.1 e n is);
     }

@@ -1,5 +1,37 @@
 -- Options.
-use Rattle.std.proofs.Common.{◌≡◌, ◌≢◌, ◌⊎◌, ◌∙◌, ◌<◌, max, sym, ap, subst, refl, ℕ, pos, nat_lt, arith, List, [], ◌∷◌, ◌++◌, append_assoc, append-nil, Option, None, Some, IfSome, Bool, true, false, Ok, Err, inl, inr}
+use Rattle.std.proofs.Common.{
+  ◌≡◌,
+  ◌≢◌,
+  ◌⊎◌,
+  ◌∙◌,
+  ◌<◌,
+  max,
+  sym,
+  ap,
+  subst,
+  refl,
+  ℕ,
+  pos,
+  nat_lt,
+  arith,
+  List,
+  [],
+  ◌∷◌,
+  ◌++◌,
+  append_assoc,
+  append-nil,
+  Option,
+  None,
+  Some,
+  IfSome,
+  Bool,
+  true,
+  false,
+  Ok,
+  Err,
+  inl,
+  inr,
+}
 use Rattle.std.specs.Prelude.{if◌then◌else◌}
 use Rattle.std.specs.Io.KnownBytes.{Consumes, IsAtEnd, Keeps, prepend_known}
 use Rattle.std.specs.declared.io.ErrorKind.TheVariants.{UnexpectedEof}
@@ -37,14 +69,16 @@ unfolding IsHead
 nil_byte s b i = any_width s Nil b i
 
 -- bytes that begin otherwise aren't nil
-other_byte : (s : Bool) (kept bytes more x rest : List ℕ) (tree : Msg) → BeginsOther kept → bytes ++ rest ≡ (kept ++ more) ++ x → SpellsAs s bytes tree → tree ≢ nil
+other_byte : (s : Bool) (kept bytes more x rest : List ℕ) (tree : Msg) → BeginsOther kept → bytes ++ rest ≡ (kept ++ more) ++ x → SpellsAs s bytes tree
+    → tree ≢ nil
 other_byte s kept bytes more x rest tree b e i n =
     let is = nil_byte s bytes (subst (SpellsAs s bytes) n i) in
     let front : 0xc0 ∷ rest ≡ b.byte ∷ ((b.behind ++ more) ++ x) = ap (λ z. z ++ rest) (sym is) ∙ e ∙ ap (λ z. (z ++ more) ++ x) b.is in
     b.other (let first : 0xc0 ≡ b.byte = cc in sym first)
 
 -- none of the bytes that are left spells nil at the front
-none_nil : (s : Bool) (kept : List ℕ) (known : Option (List ℕ)) (room : ℕ) (P : Msg → Type 0) → BeginsOther kept → Refuses (SpellsAs s) P room (prepend_known kept known) → Refuses (SpellsAs s) (λ m. (m ≡ nil) ⊎ P m) room (prepend_known kept known)
+none_nil : (s : Bool) (kept : List ℕ) (known : Option (List ℕ)) (room : ℕ) (P : Msg → Type 0) → BeginsOther kept
+    → Refuses (SpellsAs s) P room (prepend_known kept known) → Refuses (SpellsAs s) (λ m. (m ≡ nil) ⊎ P m) room (prepend_known kept known)
 unfolding Refuses
 none_nil s kept None room P b r = tt
 none_nil s kept (Some xs) room P b r = λ a. elim a.holds [
@@ -71,7 +105,8 @@ number_begins n =
     either_begins (nat_lt n 128) _ _ (λ t. begins_with n [] (λ e. absurd (let u : nat_lt 0xc0 128 ≡ true = subst (λ k. nat_lt k 128 ≡ true) e t in cc)))
     (λ _. either_begins (nat_lt n 256) _ _ (λ _. begins_with 0xcc _ (λ e. absurd (omega (arith, e))))
     (λ _. either_begins (nat_lt n 65536) _ _ (λ _. begins_with 0xcd _ (λ e. absurd (omega (arith, e))))
-    (λ _. either_begins (nat_lt n 4294967296) _ _ (λ _. begins_with 0xce _ (λ e. absurd (omega (arith, e)))) (λ _. begins_with 0xcf _ (λ e. absurd (omega (arith, e)))))))
+    (λ _. either_begins (nat_lt n 4294967296) _ _ (λ _. begins_with 0xce _ (λ e. absurd (omega (arith, e))))
+    (λ _. begins_with 0xcf _ (λ e. absurd (omega (arith, e)))))))
 
 -- at the end no message begins
 at_end_none : (s : Bool) (known : Option (List ℕ)) → IsAtEnd known → NoMessage s known
@@ -82,10 +117,12 @@ at_end_none s (Some xs) e = λ m b r q i.
     let h = head_byte s (head_of m) o.head o.is_head in
     let front = h.2 in
     let split = o.split in
-    let empty : ◌≡◌ {A = List ℕ} [] (h.0 ∷ (h.1 ++ (o.rest ++ r))) = sym e ∙ q ∙ ap (λ z. z ++ r) (split ∙ ap (λ z. z ++ o.rest) front) ∙ ap (λ z. h.0 ∷ z) (append_assoc h.1 o.rest r) in
+    let empty : ◌≡◌ {A = List ℕ} [] (h.0 ∷ (h.1 ++ (o.rest ++ r))) = sym e ∙ q ∙ ap (λ z. z ++ r) (split ∙ ap (λ z. z ++ o.rest) front)
+    ∙ ap (λ z. h.0 ∷ z) (append_assoc h.1 o.rest r) in
     absurd cc
 
-at_end_is : (fault : IoFault) (known : Option (List ℕ)) → IsAtEnd known → fault_kind fault ≡ UnexpectedEof → IfSome known (λ xs. (xs ≡ []) × IsMarkerEnd (InvalidMarkerRead fault))
+at_end_is : (fault : IoFault) (known : Option (List ℕ)) → IsAtEnd known → fault_kind fault ≡ UnexpectedEof
+    → IfSome known (λ xs. (xs ≡ []) × IsMarkerEnd (InvalidMarkerRead fault))
 at_end_is fault None e k = tt
 at_end_is fault (Some xs) e k = (e, k)
 
@@ -96,7 +133,8 @@ kept_consumes (Some x) None c bs p q = absurd p
 kept_consumes (Some x) (Some y) None bs p q = absurd q
 kept_consumes (Some x) (Some y) (Some z) bs p q = sym p ∙ q
 
-kept_refuses : (spells : List ℕ → Msg → Type 0) (P : Msg → Type 0) (room : ℕ) (a b : Option (List ℕ)) → Keeps a b → Refuses spells P room b → Refuses spells P room a
+kept_refuses : (spells : List ℕ → Msg → Type 0) (P : Msg → Type 0) (room : ℕ) (a b : Option (List ℕ)) → Keeps a b → Refuses spells P room b
+    → Refuses spells P room a
 unfolding Refuses
 kept_refuses spells P room None b p r = tt
 kept_refuses spells P room (Some x) None p r = absurd p
@@ -116,7 +154,8 @@ kept_byte n (Some x) (Some y) c = sym c
 marker_byte : (m : Marker) (n : ℕ) (a b : Option (List ℕ)) → TakesMarker m a b → n ≡ byte_of m → Consumes a b (n ∷ [])
 marker_byte m n a b t e = subst (λ k. Consumes a b (k ∷ [])) (sym (e ∙ ap byte_of t.is_marker ∙ byte_of-marker_of t.byte t.is_byte)) t.taken
 
-module _ {R C : Type 0} (g : Ghosts R) (old new : Deserializer R C) (fresh : old.failed ≡ false) (ready : new.failed ≡ false) (stays : Stays g old new) (sound : faults_of g new ≡ faults_of g old) where
+module _ {R C : Type 0} (g : Ghosts R) (old new : Deserializer R C) (fresh : old.failed ≡ false) (ready : new.failed ≡ false) (stays : Stays g old new)
+    (sound : faults_of g new ≡ faults_of g old) where
   nil_taken : new.kept ≡ Nothing → Consumes (left g old) (left g new) (0xc0 ∷ []) → GoesOn (kept_bytes old.kept) (0xc0 ∷ []) → Lawful g IsNil old new (Ok tt)
   unfolding canon_head fits_head
   nil_taken k c o = record {
@@ -131,14 +170,18 @@ module _ {R C : Type 0} (g : Ghosts R) (old new : Deserializer R C) (fresh : old
   }
 
   -- nil was taken, from the source or where it had been kept back
-  pub nil_next : (m : Marker) (n : ℕ) → old.kept ≡ Nothing → new.kept ≡ Nothing → TakesMarker m (g.ahead old.reader) (g.ahead new.reader) → n ≡ byte_of m → n ≡ 0xc0 → Lawful g IsNil old new (Ok tt)
-  nil_next m n k q t e z = nil_taken q (rw (bare g old k, bare g new q) (subst (λ b. Consumes (g.ahead old.reader) (g.ahead new.reader) (b ∷ [])) z (marker_byte m n _ _ t e))) (record { more = 0xc0 ∷ []; whole = rw k refl })
+  pub nil_next : (m : Marker) (n : ℕ) → old.kept ≡ Nothing → new.kept ≡ Nothing → TakesMarker m (g.ahead old.reader) (g.ahead new.reader) → n ≡ byte_of m
+      → n ≡ 0xc0 → Lawful g IsNil old new (Ok tt)
+  nil_next m n k q t e z = nil_taken q (rw (bare g old k, bare g new q)
+      (subst (λ b. Consumes (g.ahead old.reader) (g.ahead new.reader) (b ∷ [])) z (marker_byte m n _ _ t e)))
+      (record { more = 0xc0 ∷ []; whole = rw k refl })
 
   pub nil_kept : (b : ℕ) → old.kept ≡ First b → b ≡ 0xc0 → new.kept ≡ Nothing → new.reader ≡ old.reader → Lawful g IsNil old new (Ok tt)
   nil_kept b k z q r = nil_taken q (rw (bare g new q, r, k, z) (kept_first (0xc0 ∷ []) (g.ahead old.reader))) (record { more = []; whole = rw (k, z) refl })
 
   -- another message stands there, whose first byte is kept back now, or was before
-  pub sees_next : (m : Marker) (n : ℕ) → old.kept ≡ Nothing → new.kept ≡ First n → TakesMarker m (g.ahead old.reader) (g.ahead new.reader) → n ≡ byte_of m → n ≢ 0xc0 → SeesOther g old new
+  pub sees_next : (m : Marker) (n : ℕ) → old.kept ≡ Nothing → new.kept ≡ First n → TakesMarker m (g.ahead old.reader) (g.ahead new.reader) → n ≡ byte_of m
+      → n ≢ 0xc0 → SeesOther g old new
   sees_next m n k q t e z = record {
     ready = ready;
     same = rw (bare g old k, q) (kept_byte n _ _ (marker_byte m n _ _ t e));
@@ -150,7 +193,14 @@ module _ {R C : Type 0} (g : Ghosts R) (old new : Deserializer R C) (fresh : old
 
 -- what was kept back stays
 pub sees_kept : {R C : Type 0} (g : Ghosts R) (old : Deserializer R C) → old.failed ≡ false → BeginsOther (kept_bytes old.kept) → SeesOther g old old
-sees_kept g old f b = record { ready = f; same = kept_same _; goes_on = record { more = []; whole = sym (append-nil _) }; begins = b; sound = refl; stays = stays_refl g old }
+sees_kept g old f b = record {
+  ready = f;
+  same = kept_same _;
+  goes_on = record { more = []; whole = sym (append-nil _) };
+  begins = b;
+  sound = refl;
+  stays = stays_refl g old;
+}
 
 pub first_other : (k : Kept) (b : ℕ) → k ≡ First b → b ≢ 0xc0 → BeginsOther (kept_bytes k)
 first_other k b e n = record { byte = b; behind = []; is = rw e refl; other = n }
@@ -159,7 +209,9 @@ pub number_other : (k : Kept) (n : ℕ) → k ≡ Number n → BeginsOther (kept
 number_other k n e = rw e (number_begins n)
 
 -- there is no first byte
-pub sees_none : {R C : Type 0} (g : Ghosts R) (old new : Deserializer R C) (fault : IoFault) → old.failed ≡ false → new.failed ≡ true → old.kept ≡ Nothing → Stays g old new → FailsMarker (g.ahead old.reader) (g.ahead new.reader) (faults_of g old) (faults_of g new) fault → FailsToSee g old new (InvalidMarkerRead fault)
+pub sees_none : {R C : Type 0} (g : Ghosts R) (old new : Deserializer R C) (fault : IoFault) → old.failed ≡ false → new.failed ≡ true → old.kept ≡ Nothing
+    → Stays g old new → FailsMarker (g.ahead old.reader) (g.ahead new.reader) (faults_of g old) (faults_of g new) fault
+    → FailsToSee g old new (InvalidMarkerRead fault)
 sees_none g old new fault o f k s m = record {
   failed = f;
   before = λ h. absurd cc;
@@ -197,10 +249,17 @@ module _ {R C V : Type 0} (g : Ghosts R) (reads : Msg → V → Type 0) (old : D
             bytes = r.bytes;
             tree = r.tree;
             takes = kept_consumes _ _ _ r.bytes s.same r.takes;
-            goes_on = record { more = s.goes_on.more ++ r.goes_on.more; whole = r.goes_on.whole ∙ ap (λ z. z ++ r.goes_on.more) s.goes_on.whole ∙ append_assoc (kept_bytes old.kept) s.goes_on.more r.goes_on.more };
+            goes_on = record {
+              more = s.goes_on.more ++ r.goes_on.more;
+              whole = r.goes_on.whole ∙ ap (λ z. z ++ r.goes_on.more) s.goes_on.whole
+                  ∙ append_assoc (kept_bytes old.kept) s.goes_on.more r.goes_on.more;
+            };
             spelled = subst (λ t. SpellsAs t r.bytes r.tree) s.stays.strict r.spelled;
             fits = subst (λ t. depth r.tree < max 1 t) s.stays.room r.fits;
-            value = (other_byte mid.strict (kept_bytes mid.kept) r.bytes r.goes_on.more [] [] r.tree s.begins (ap (λ z. z ++ []) r.goes_on.whole) r.spelled, r.value);
+            value = (
+              other_byte mid.strict (kept_bytes mid.kept) r.bytes r.goes_on.more [] [] r.tree s.begins (ap (λ z. z ++ []) r.goes_on.whole) r.spelled,
+              r.value,
+            );
           };
           ready = l.ready;
           clean = l.clean;
@@ -220,8 +279,11 @@ module _ {R C V : Type 0} (g : Ghosts R) (reads : Msg → V → Type 0) (old : D
       sound = tt;
       err = λ _ n k.
           let r : Refuses (SpellsAs mid.strict) (Readable reads) (room_of mid) (left g mid) = l.err s.ready n (k ∙ sym s.sound) in
-          let wide = refuses_narrower (SpellsAs mid.strict) (λ m. (m ≡ nil) ⊎ Readable reads m) (Readable (IsOption reads)) (room_of mid) (left g mid) (option_trees reads) (none_nil mid.strict (kept_bytes mid.kept) (g.ahead mid.reader) (room_of mid) (Readable reads) s.begins r) in
-          kept_refuses _ (Readable (IsOption reads)) (room_of old) _ _ s.same (subst (λ t. Refuses (SpellsAs old.strict) (Readable (IsOption reads)) (max 1 t) (left g mid)) s.stays.room (subst (λ t. Refuses (SpellsAs t) (Readable (IsOption reads)) (room_of mid) (left g mid)) s.stays.strict wide));
+          let wide = refuses_narrower (SpellsAs mid.strict) (λ m. (m ≡ nil) ⊎ Readable reads m) (Readable (IsOption reads)) (room_of mid) (left g mid)
+          (option_trees reads) (none_nil mid.strict (kept_bytes mid.kept) (g.ahead mid.reader) (room_of mid) (Readable reads) s.begins r) in
+          kept_refuses _ (Readable (IsOption reads)) (room_of old) _ _ s.same
+          (subst (λ t. Refuses (SpellsAs old.strict) (Readable (IsOption reads)) (max 1 t) (left g mid)) s.stays.room
+          (subst (λ t. Refuses (SpellsAs t) (Readable (IsOption reads)) (room_of mid) (left g mid)) s.stays.strict wide));
       failed = l.failed;
       before = λ f. absurd cc;
       stays = stays_then g old mid new s.stays l.stays;

@@ -46,10 +46,18 @@ opened (text t) a s = record { head = s.first; rest = s.second; is_head = s.is_f
 opened (bin t) a s = record { head = s.first; rest = s.second; is_head = s.is_first; split = s.is_whole; long = omega (arith, ap length s.is_second.0) }
 opened (list ms) a s = record { head = s.first; rest = s.second; is_head = s.is_first; split = s.is_whole; long = omega arith }
 opened (map ps) a s = record { head = s.first; rest = s.second; is_head = s.is_first; split = s.is_whole; long = omega arith }
-opened (extension tag t) a s = record { head = s.first; rest = s.second; is_head = s.is_first; split = s.is_whole; long = omega (arith, ap length s.is_second.0) }
+opened (extension tag t) a s = record {
+  head = s.first;
+  rest = s.second;
+  is_head = s.is_first;
+  split = s.is_whole;
+  long = omega
+      (arith, ap length s.is_second.0);
+}
 
 -- where a head stands at the front, a message that stands there begins with it
-pub same_head : (s : Bool) (m : Msg) (h : Head) (a b x y : List ℕ) → SpellsAs s a m → heads_of s h b → a ++ x ≡ b ++ y → (head_of m ≡ h) × (length (content_of m) ≤ length y)
+pub same_head : (s : Bool) (m : Msg) (h : Head) (a b x y : List ℕ) → SpellsAs s a m → heads_of s h b → a ++ x ≡ b ++ y
+    → (head_of m ≡ h) × (length (content_of m) ≤ length y)
 same_head s m h a b x y p i e =
     let o = opened m a p in
     let split : o.head ++ (o.rest ++ x) ≡ b ++ y = sym (append_assoc o.head o.rest x) ∙ ap (λ t. t ++ x) (sym o.split) ∙ e in
@@ -60,7 +68,8 @@ same_head s m h a b x y p i e =
 pub no_head : (s : Bool) (known : Option (List ℕ)) → IfSome known (λ xs. (h : Head) (x rest : List ℕ) → xs ≡ x ++ rest → IsHead h x → ⊥) → NoMessage s known
 unfolding NoMessage
 no_head s None p = tt
-no_head s (Some xs) p = λ m b r e t. let o = opened m b t in p (head_of m) o.head (o.rest ++ r) (e ∙ ap (λ t. t ++ r) o.split ∙ append_assoc o.head o.rest r) (any_width s (head_of m) o.head o.is_head)
+no_head s (Some xs) p = λ m b r e t. let o = opened m b t
+    in p (head_of m) o.head (o.rest ++ r) (e ∙ ap (λ t. t ++ r) o.split ∙ append_assoc o.head o.rest r) (any_width s (head_of m) o.head o.is_head)
 
 -- where a head stands that isn't allowed, no message does
 pub no_wide : (s : Bool) (known k : Option (List ℕ)) (b : List ℕ) (h : Head) → Consumes known k b → IsHead h b → (heads_of s h b → ⊥) → NoMessage s known
@@ -74,7 +83,8 @@ no_wide s (Some xs) (Some ys) b h t i n = λ m c r e p.
     n (subst (λ z. heads_of s z b) u.0 (subst (heads_of s (head_of m)) u.1 o.is_head))
 
 module _ (s : Bool) (P : Msg → Type 0) (room : ℕ) where
-  pub refuses_by : (known k : Option (List ℕ)) (b : List ℕ) → Consumes known k b → ((ys : List ℕ) → k ≡ Some ys → Begins (SpellsAs s) P room (b ++ ys) → ⊥) → Refuses (SpellsAs s) P room known
+  pub refuses_by : (known k : Option (List ℕ)) (b : List ℕ) → Consumes known k b → ((ys : List ℕ) → k ≡ Some ys → Begins (SpellsAs s) P room (b ++ ys) → ⊥)
+      → Refuses (SpellsAs s) P room known
   unfolding Refuses
   refuses_by None k b p q = tt
   refuses_by (Some xs) None b p q = absurd p
@@ -87,14 +97,17 @@ module _ (s : Bool) (P : Msg → Type 0) (room : ℕ) where
 
   -- a message was there, and it is none of those that are wanted
   pub refuses_other : (known k : Option (List ℕ)) (b : List ℕ) (m : Msg) → Consumes known k b → SpellsAs s b m → (P m → ⊥) → Refuses (SpellsAs s) P room known
-  refuses_other known k b m p t n = refuses_by known k b p (λ ys _ a. n (subst P (spelled_once_as s a.tree m a.bytes b a.rest ys a.spelled t (sym a.front)).1 a.holds))
+  refuses_other known k b m p t n = refuses_by known k b p
+      (λ ys _ a. n (subst P (spelled_once_as s a.tree m a.bytes b a.rest ys a.spelled t (sym a.front)).1 a.holds))
 
   -- a head was there, and it opens none of those that are wanted
-  pub refuses_head : (known k : Option (List ℕ)) (b : List ℕ) (h : Head) → Consumes known k b → heads_of s h b → ((m : Msg) → P m → head_of m ≡ h → ⊥) → Refuses (SpellsAs s) P room known
+  pub refuses_head : (known k : Option (List ℕ)) (b : List ℕ) (h : Head) → Consumes known k b → heads_of s h b → ((m : Msg) → P m → head_of m ≡ h → ⊥)
+      → Refuses (SpellsAs s) P room known
   refuses_head known k b h p i n = refuses_by known k b p (λ ys _ a. n a.tree a.holds (same_head _ a.tree h a.bytes b a.rest ys a.spelled i (sym a.front)).0)
 
   -- fewer bytes stand behind the head than each of those that are wanted has there
-  pub refuses_short : (n : ℕ) (known k : Option (List ℕ)) (b : List ℕ) (h : Head) → Consumes known k b → heads_of s h b → IsShort n k → ((m : Msg) → P m → head_of m ≡ h → n ≤ length (content_of m)) → Refuses (SpellsAs s) P room known
+  pub refuses_short : (n : ℕ) (known k : Option (List ℕ)) (b : List ℕ) (h : Head) → Consumes known k b → heads_of s h b → IsShort n k
+      → ((m : Msg) → P m → head_of m ≡ h → n ≤ length (content_of m)) → Refuses (SpellsAs s) P room known
   refuses_short n known k b h p i l f = refuses_by known k b p (λ ys e a.
       let u = same_head _ a.tree h a.bytes b a.rest ys a.spelled i (sym a.front) in
       let short : length ys < n = rw e at l in
@@ -103,10 +116,12 @@ module _ (s : Bool) (P : Msg → Type 0) (room : ℕ) where
       omega arith)
 
 -- what a wider type refuses, a narrower one does
-pub refuses_narrower : (spells : List ℕ → Msg → Type 0) (P Q : Msg → Type 0) (room : ℕ) (known : Option (List ℕ)) → ((m : Msg) → Q m → P m) → Refuses spells P room known → Refuses spells Q room known
+pub refuses_narrower : (spells : List ℕ → Msg → Type 0) (P Q : Msg → Type 0) (room : ℕ) (known : Option (List ℕ)) → ((m : Msg) → Q m → P m)
+    → Refuses spells P room known → Refuses spells Q room known
 unfolding Refuses
 refuses_narrower spells P Q room None f r = tt
-refuses_narrower spells P Q room (Some xs) f r = λ a. r (record { bytes = a.bytes; rest = a.rest; tree = a.tree; front = a.front; spelled = a.spelled; fits = a.fits; holds = f a.tree a.holds })
+refuses_narrower spells P Q room (Some xs) f r = λ a. r
+    (record { bytes = a.bytes; rest = a.rest; tree = a.tree; front = a.front; spelled = a.spelled; fits = a.fits; holds = f a.tree a.holds })
 
 -- a type that reads no tree refuses each
 pub refuses_all : (spells : List ℕ → Msg → Type 0) (P : Msg → Type 0) (room : ℕ) (known : Option (List ℕ)) → ((m : Msg) → P m → ⊥) → Refuses spells P room known

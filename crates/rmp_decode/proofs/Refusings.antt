@@ -4,7 +4,22 @@ use Rattle.std.proofs.lemmas.List.{append_assoc, append-nil}
 use Rattle.std.specs.Io.KnownBytes.{Consumes}
 use Rattle.rmp_wire.specs.declared.source.Source.{Ghosts}
 use Rattle.rmp_wire.specs.Msg.{Msg, Msgs, no_items, item, count, depth_all}
-use Rattle.rmp_decode.specs.Refusing.{Setting, setting_of, element_setting, inside, ElementRefused, Wanted, Opened, Part, BehindElement, RefusesParts, RefusesTuple, PartsRefused, Excess, no_refusal}
+use Rattle.rmp_decode.specs.Refusing.{
+  Setting,
+  setting_of,
+  element_setting,
+  inside,
+  ElementRefused,
+  Wanted,
+  Opened,
+  Part,
+  BehindElement,
+  RefusesParts,
+  RefusesTuple,
+  PartsRefused,
+  Excess,
+  no_refusal,
+}
 use Rattle.rmp_decode.specs.Rows.{AndThen, NoMore}
 use Rattle.rmp_decode.specs.Seq.{SpellsIn, SpellsRow, Opens, Run, inner_of}
 use Rattle.rmp_decode.specs.State.{left, faults_of}
@@ -24,7 +39,8 @@ pub record Ahead (b : Bool) (s : Setting) (known : Option (List ℕ)) (n : ℕ) 
   pub many : count ms + still ≡ n
   pub fits : depth_all ms < s.room
 
-pub run_ahead : {R C : Type 0} (g : Ghosts R) (start mid : SeqAccess R C) (ms : Msgs) (s : Setting) → start.de.now.strict ≡ s.strict → inner_of start ≡ s.room → Run g start mid ms → Ahead start.bytes s (left g start.de.now) start.left ms (left g mid.de.now) mid.left
+pub run_ahead : {R C : Type 0} (g : Ghosts R) (start mid : SeqAccess R C) (ms : Msgs) (s : Setting) → start.de.now.strict ≡ s.strict
+    → inner_of start ≡ s.room → Run g start mid ms → Ahead start.bytes s (left g start.de.now) start.left ms (left g mid.de.now) mid.left
 run_ahead g start mid ms s p q r = record {
   bytes = r.bytes;
   takes = r.takes;
@@ -52,7 +68,8 @@ consumes_second (Some xs) (Some zs) a b c = refl
 
 module _ (b : Bool) (s : Setting) (P P' : Msg → Type 0) (f : (m : Msg) → P m → P' m) (next : ℕ → Option (List ℕ) → Error → Type 0) (e : Error) where
   -- the first of them was read
-  pub then_read : (Q : Msgs → Type 0) (known : Option (List ℕ)) (n : ℕ) (ms : Msgs) (rest : Option (List ℕ)) (still : ℕ) → AndThen P Q ms → Ahead b s known n ms rest still
+  pub then_read : (Q : Msgs → Type 0) (known : Option (List ℕ)) (n : ℕ) (ms : Msgs) (rest : Option (List ℕ)) (still : ℕ) → AndThen P Q ms
+      → Ahead b s known n ms rest still
       → ((ks : Msgs) (mid : Option (List ℕ)) (k : ℕ) → Q ks → Ahead b s mid k ks rest still → next k mid e) → BehindElement b s P' next n known e
   then_read Q known n no_items rest still h a go = absurd h
   then_read Q known n (item m ks) rest still h a go =
@@ -69,11 +86,13 @@ module _ (b : Bool) (s : Setting) (P P' : Msg → Type 0) (f : (m : Msg) → P m
         many = omega (arith, a.many);
         fits = omega (arith, a.fits);
         holds = f m h.0;
-        refused = go ks mid (count ks + still) h.1 (record { bytes = j.second; takes = consumes_second known rest j.first j.second t; spelled = j.is_second; many = refl; fits = omega (arith, a.fits) });
+        refused = go ks mid (count ks + still) h.1 (record
+            { bytes = j.second; takes = consumes_second known rest j.first j.second t; spelled = j.is_second; many = refl; fits = omega (arith, a.fits) });
       }
 
   -- the last of them was read
-  pub then_last : (known : Option (List ℕ)) (n : ℕ) (ms : Msgs) (rest : Option (List ℕ)) (still : ℕ) → AndThen P NoMore ms → Ahead b s known n ms rest still → next still rest e → BehindElement b s P' next n known e
+  pub then_last : (known : Option (List ℕ)) (n : ℕ) (ms : Msgs) (rest : Option (List ℕ)) (still : ℕ) → AndThen P NoMore ms → Ahead b s known n ms rest still
+      → next still rest e → BehindElement b s P' next n known e
   then_last known n no_items rest still h a w = absurd h
   then_last known n (item m (item k ks)) rest still h a w = absurd h.1
   then_last known n (item m no_items) rest still h a w =
@@ -97,7 +116,8 @@ module _ (s : Setting) where
   Held [] ms = NoMore ms
   Held (p ∷ ps) ms = AndThen (p.holds s) (Held ps) ms
 
-  pub held_first : (P : Msg → Type 0) (Q : Msgs → Type 0) (p : Part) (ps : List Part) → ((m : Msg) → P m → p.holds s m) → ((ms : Msgs) → Q ms → Held ps ms) → (ms : Msgs) → AndThen P Q ms → Held (p ∷ ps) ms
+  pub held_first : (P : Msg → Type 0) (Q : Msgs → Type 0) (p : Part) (ps : List Part) → ((m : Msg) → P m → p.holds s m) → ((ms : Msgs) → Q ms → Held ps ms)
+      → (ms : Msgs) → AndThen P Q ms → Held (p ∷ ps) ms
   held_first P Q p ps f h no_items k = absurd k
   held_first P Q p ps f h (item m ms) k = (f m k.0, h ms k.1)
 
@@ -106,51 +126,86 @@ module _ (s : Setting) where
 
   module _ (b : Bool) (before after : ℕ) (e : Error) where
     -- all of them were read
-    pub all_read : (p : Part) (ps : List Part) (last : ℕ → Option (List ℕ) → Error → Type 0) (known : Option (List ℕ)) (n : ℕ) (ms : Msgs) (rest : Option (List ℕ)) (still : ℕ) → Held (p ∷ ps) ms → Ahead b s known n ms rest still → last still rest e
+    pub all_read : (p : Part) (ps : List Part) (last : ℕ → Option (List ℕ) → Error
+        → Type 0) (known : Option (List ℕ)) (n : ℕ) (ms : Msgs) (rest : Option (List ℕ)) (still : ℕ) → Held (p ∷ ps) ms → Ahead b s known n ms rest still
+        → last still rest e
         → RefusesParts b s before after (p ∷ ps) last n known e
     all_read p [] last known n ms rest still h a w = inr (then_last b s (p.holds s) (p.holds s) (λ m k. k) last e known n ms rest still h a w)
     all_read p (q ∷ ps) last known n ms rest still h a w =
-        inr (then_read b s (p.holds s) (p.holds s) (λ m k. k) (RefusesParts b s before after (q ∷ ps) last) e (Held (q ∷ ps)) known n ms rest still h a (λ ks mid k g c. all_read q ps last mid k ks rest still g c w))
+        inr (then_read b s (p.holds s) (p.holds s) (λ m k. k) (RefusesParts b s before after (q ∷ ps) last) e (Held (q ∷ ps)) known n ms rest still h a
+        (λ ks mid k g c. all_read q ps last mid k ks rest still g c w))
 
     -- these, and then those
-    pub joined : (ps qs : List Part) (last : ℕ → Option (List ℕ) → Error → Type 0) (n : ℕ) (known : Option (List ℕ)) → RefusesParts b s before after ps (RefusesParts b s before after qs last) n known e → RefusesParts b s before after (ps ++ qs) last n known e
+    pub joined : (ps qs : List Part) (last : ℕ → Option (List ℕ) → Error → Type 0) (n : ℕ) (known : Option (List ℕ))
+        → RefusesParts b s before after ps (RefusesParts b s before after qs last) n known e → RefusesParts b s before after (ps ++ qs) last n known e
     joined [] qs last n known h = h
     joined (p ∷ ps) qs last n known h = elim h [
       | inl w ↦ inl w
-      | inr r ↦ inr (record { bytes = r.bytes; rest = r.rest; tree = r.tree; still = r.still; takes = r.takes; spelled = r.spelled; many = r.many; fits = r.fits; holds = r.holds; refused = joined ps qs last r.still r.rest r.refused })
+      | inr r ↦ inr (record {
+        bytes = r.bytes;
+        rest = r.rest;
+        tree = r.tree;
+        still = r.still;
+        takes = r.takes;
+        spelled = r.spelled;
+        many = r.many;
+        fits = r.fits;
+        holds = r.holds;
+        refused = joined ps qs last r.still r.rest r.refused;
+      })
     ]
 
     -- one of them is refused, whatever stands behind them
-    pub whatever : (ps : List Part) (last : ℕ → Option (List ℕ) → Error → Type 0) (n : ℕ) (known : Option (List ℕ)) → RefusesParts b s before after ps no_refusal n known e → RefusesParts b s before after ps last n known e
+    pub whatever : (ps : List Part) (last : ℕ → Option (List ℕ) → Error → Type 0) (n : ℕ) (known : Option (List ℕ))
+        → RefusesParts b s before after ps no_refusal n known e → RefusesParts b s before after ps last n known e
     whatever [] last n known h = absurd h
     whatever (p ∷ ps) last n known h = elim h [
       | inl w ↦ inl w
-      | inr r ↦ inr (record { bytes = r.bytes; rest = r.rest; tree = r.tree; still = r.still; takes = r.takes; spelled = r.spelled; many = r.many; fits = r.fits; holds = r.holds; refused = whatever ps last r.still r.rest r.refused })
+      | inr r ↦ inr (record {
+        bytes = r.bytes;
+        rest = r.rest;
+        tree = r.tree;
+        still = r.still;
+        takes = r.takes;
+        spelled = r.spelled;
+        many = r.many;
+        fits = r.fits;
+        holds = r.holds;
+        refused = whatever ps last r.still r.rest r.refused;
+      })
     ]
 
 module _ {R C : Type 0} (g : Ghosts R) (human : C → Bool) (lends : Bool) (start mid : SeqAccess R C) (ms : Msgs) (r : Run g start mid ms) where
   -- behind those that were read the next one is wanted, and isn't there or is refused
-  pub next_refused : (p : Part) (ps : List Part) (q : Part) (now : SeqAccess R C) (e : Error) → Held (element_setting (human start.de.now.config) lends start) (p ∷ ps) ms → Wanted (ElementRefused g (human mid.de.now.config) lends q.refuses mid now) mid.left (left g mid.de.now) e
+  pub next_refused : (p : Part) (ps : List Part) (q : Part) (now : SeqAccess R C) (e : Error)
+      → Held (element_setting (human start.de.now.config) lends start) (p ∷ ps) ms
+      → Wanted (ElementRefused g (human mid.de.now.config) lends q.refuses mid now) mid.left (left g mid.de.now) e
       → PartsRefused g (human start.de.now.config) lends ((p ∷ ps) ++ (q ∷ [])) start now e
   next_refused p ps q now e h w =
       let s = element_setting (human start.de.now.config) lends start in
       let a = faults_of g start.de.now in
       let z = faults_of g now.de.now in
       joined s start.bytes a z e (p ∷ ps) (q ∷ []) no_refusal start.left (left g start.de.now)
-      (all_read s start.bytes a z e p ps (RefusesParts start.bytes s a z (q ∷ []) no_refusal) (left g start.de.now) start.left ms (left g mid.de.now) mid.left h (run_ahead g start mid ms s refl refl r)
+      (all_read s start.bytes a z e p ps (RefusesParts start.bytes s a z (q ∷ []) no_refusal) (left g start.de.now) start.left ms (left g mid.de.now)
+      mid.left h (run_ahead g start mid ms s refl refl r)
       (inl (element_behind g human lends start mid ms r (λ K. Wanted K mid.left (left g mid.de.now) e) q.refuses now w)))
 
 -- one of them was refused, whatever is wanted behind them
-pub more_wanted : {R C : Type 0} (g : Ghosts R) (human lends : Bool) (ps qs : List Part) (old new : SeqAccess R C) (e : Error) → PartsRefused g human lends ps old new e → PartsRefused g human lends (ps ++ qs) old new e
+pub more_wanted : {R C : Type 0} (g : Ghosts R) (human lends : Bool) (ps qs : List Part) (old new : SeqAccess R C) (e : Error)
+    → PartsRefused g human lends ps old new e → PartsRefused g human lends (ps ++ qs) old new e
 more_wanted g human lends ps qs old new e h =
     let s = element_setting human lends old in
     let a = faults_of g old.de.now in
     let z = faults_of g new.de.now in
-    joined s old.bytes a z e ps qs no_refusal old.left (left g old.de.now) (whatever s old.bytes a z e ps (RefusesParts old.bytes s a z qs no_refusal) old.left (left g old.de.now) h)
+    joined s old.bytes a z e ps qs no_refusal old.left (left g old.de.now)
+    (whatever s old.bytes a z e ps (RefusesParts old.bytes s a z qs no_refusal) old.left (left g old.de.now) h)
 
-module _ {R C : Type 0} (g : Ghosts R) (human : C → Bool) (lends : Bool) (old : Deserializer R C) (start : SeqAccess R C) (o : Opens g old start) (after : ℕ) (e : Error) where
+module _ {R C : Type 0} (g : Ghosts R) (human : C → Bool) (lends : Bool) (old : Deserializer R C) (start : SeqAccess R C) (o : Opens g old start)
+    (after : ℕ) (e : Error) where
   -- behind the head that was taken
-  pub behind_head : (P : Bool → Setting → ℕ → Option (List ℕ) → Error → Type 0) → P start.bytes (inside (setting_of (human old.config) lends old) (inner_of start)) start.left (left g start.de.now) e → Opened (setting_of (human old.config) lends old) P (left g old) e
+  pub behind_head : (P : Bool → Setting → ℕ → Option (List ℕ) → Error → Type 0)
+      → P start.bytes (inside (setting_of (human old.config) lends old) (inner_of start)) start.left (left g start.de.now) e
+      → Opened (setting_of (human old.config) lends old) P (left g old) e
   behind_head P p = record {
     is_bytes = start.bytes;
     inner = inner_of start;
@@ -164,18 +219,25 @@ module _ {R C : Type 0} (g : Ghosts R) (human : C → Bool) (lends : Bool) (old 
   }
 
   -- one of the elements of a tuple was refused
-  pub tuple_parts : (ps : List Part) (now : SeqAccess R C) → after ≡ faults_of g now.de.now → PartsRefused g (human start.de.now.config) lends ps start now e → RefusesTuple ps (setting_of (human old.config) lends old) (faults_of g old) after (left g old) e
+  pub tuple_parts : (ps : List Part) (now : SeqAccess R C) → after ≡ faults_of g now.de.now
+      → PartsRefused g (human start.de.now.config) lends ps start now e
+      → RefusesTuple ps (setting_of (human old.config) lends old) (faults_of g old) after (left g old) e
   tuple_parts ps now q h =
-      let h' = behind_opened g human lends old start now o after q (λ s a z. RefusesParts start.bytes s a z ps no_refusal start.left (left g start.de.now) e) h in
+      let h' = behind_opened g human lends old start now o after q
+      (λ s a z. RefusesParts start.bytes s a z ps no_refusal start.left (left g start.de.now) e) h in
       inr (behind_head (λ b i. RefusesParts b i (faults_of g old) after ps (Excess (length ps)))
-      (whatever (inside (setting_of (human old.config) lends old) (inner_of start)) start.bytes (faults_of g old) after e ps (Excess (length ps)) start.left (left g start.de.now) h'))
+      (whatever (inside (setting_of (human old.config) lends old) (inner_of start)) start.bytes (faults_of g old) after e ps (Excess (length ps)) start.left
+      (left g start.de.now) h'))
 
   -- all of them were read, and there are more
-  pub tuple_over : (p : Part) (ps : List Part) (mid : SeqAccess R C) (ms : Msgs) → Run g start mid ms → Held (inside (setting_of (human old.config) lends old) (inner_of start)) (p ∷ ps) ms → count ms ≡ length (p ∷ ps) → 0 < mid.left → e ≡ LengthMismatch (mid.count - mid.left)
+  pub tuple_over : (p : Part) (ps : List Part) (mid : SeqAccess R C) (ms : Msgs) → Run g start mid ms
+      → Held (inside (setting_of (human old.config) lends old) (inner_of start)) (p ∷ ps) ms → count ms ≡ length (p ∷ ps) → 0 < mid.left
+      → e ≡ LengthMismatch (mid.count - mid.left)
       → RefusesTuple (p ∷ ps) (setting_of (human old.config) lends old) (faults_of g old) after (left g old) e
   tuple_over p ps mid ms r h c l q =
       let s = inside (setting_of (human old.config) lends old) (inner_of start) in
       let n = length (p ∷ ps) in
       let d : mid.count - mid.left ≡ n = omega (arith, r.many, r.count_same, o.count, c) in
       inr (behind_head (λ b i. RefusesParts b i (faults_of g old) after (p ∷ ps) (Excess n))
-      (all_read s start.bytes (faults_of g old) after e p ps (Excess n) (left g start.de.now) start.left ms (left g mid.de.now) mid.left h (run_ahead g start mid ms s o.stays.strict refl r) (l, q ∙ ap LengthMismatch d)))
+      (all_read s start.bytes (faults_of g old) after e p ps (Excess n) (left g start.de.now) start.left ms (left g mid.de.now) mid.left h
+      (run_ahead g start mid ms s o.stays.strict refl r) (l, q ∙ ap LengthMismatch d)))

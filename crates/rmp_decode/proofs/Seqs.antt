@@ -5,7 +5,22 @@ use Rattle.rmp_wire.specs.declared.source.Source.{Ghosts}
 use Rattle.rmp_wire.specs.Msg.{Msg, Msgs, no_items, item, count}
 use Rattle.rmp_wire.specs.Canonical.{SpellsAs}
 use Rattle.rmp_decode.specs.Law.{Refuses, Readable, Explains, Lawful}
-use Rattle.rmp_decode.specs.Seq.{OfRow, IsSeq, SpellsIn, SpellsRow, RefusesRow, inner_of, IsOpen, Opens, FailsToOpen, TakesElement, FailsToTake, FailsElement, Run, FailsParts}
+use Rattle.rmp_decode.specs.Seq.{
+  OfRow,
+  IsSeq,
+  SpellsIn,
+  SpellsRow,
+  RefusesRow,
+  inner_of,
+  IsOpen,
+  Opens,
+  FailsToOpen,
+  TakesElement,
+  FailsToTake,
+  FailsElement,
+  Run,
+  FailsParts,
+}
 use Rattle.rmp_decode.specs.State.{left, faults_of, room_of, kept_bytes, Stays}
 use Rattle.rmp_decode.specs.Rows.{ReadsEach, AndThen, NoMore}
 use Rattle.rmp_decode.specs.declared.deserializer.Deserializer.{Deserializer}
@@ -14,7 +29,20 @@ use Rattle.rmp_decode.specs.declared.error.Error.{Error}
 use Rattle.rmp_decode.specs.declared.error.Error.TheVariants.{OutOfMemory}
 use Rattle.rmp_decode.proofs.Laws.{stays_refl, stays_then}
 use Rattle.rmp_decode.proofs.Refusals.{refuses_narrower}
-use Rattle.rmp_decode.proofs.Rows.{push, append, count-push, depth-push, row-push, rest_refused, element_refused, count_refused, row_whole, whole_row, readable_row, is_seq}
+use Rattle.rmp_decode.proofs.Rows.{
+  push,
+  append,
+  count-push,
+  depth-push,
+  row-push,
+  rest_refused,
+  element_refused,
+  count_refused,
+  row_whole,
+  whole_row,
+  readable_row,
+  is_seq,
+}
 
 -- a chain through what is named
 pub via : {A : Type 0} {x z : A} (y : A) → x ≡ y → y ≡ z → x ≡ z
@@ -36,13 +64,16 @@ run_start g s o = record {
   still = o;
 }
 
-pub run_step : {R C V : Type 0} (g : Ghosts R) (reads : Msg → V → Type 0) (start mid now : SeqAccess R C) (ms : Msgs) (v : V) → Run g start mid ms → (t : TakesElement g reads mid now v) → now.de.ghost_name ≡ mid.de.ghost_name → Run g start now (push ms t.tree)
+pub run_step : {R C V : Type 0} (g : Ghosts R) (reads : Msg → V → Type 0) (start mid now : SeqAccess R C) (ms : Msgs) (v : V) → Run g start mid ms
+    → (t : TakesElement g reads mid now v) → now.de.ghost_name ≡ mid.de.ghost_name → Run g start now (push ms t.tree)
 run_step g reads start mid now ms v r t n =
     let room : mid.inner ≡ start.inner = r.inner in
     record {
       bytes = r.bytes ++ t.bytes;
       takes = Consumes-trans _ _ _ r.bytes t.bytes r.takes t.takes;
-      spelled = row-push (SpellsIn start.de.now.strict start.bytes) ms t.tree r.bytes t.bytes r.spelled (subst (λ z. SpellsIn z start.bytes t.bytes t.tree) r.stays.strict (subst (λ z. SpellsIn mid.de.now.strict z t.bytes t.tree) r.bytes_same t.spelled));
+      spelled = row-push (SpellsIn start.de.now.strict start.bytes) ms t.tree r.bytes t.bytes r.spelled
+          (subst (λ z. SpellsIn z start.bytes t.bytes t.tree) r.stays.strict
+          (subst (λ z. SpellsIn mid.de.now.strict z t.bytes t.tree) r.bytes_same t.spelled));
       fits = depth-push ms t.tree (inner_of start) r.fits (omega (arith, room, t.fits));
       many = omega (arith, count-push ms t.tree, r.many, t.fewer);
       same_reference = n ∙ r.same_reference;
@@ -72,13 +103,18 @@ module _ {R C V : Type 0} (g : Ghosts R) (Q : V → Msgs → Type 0) (old : Dese
     pub seq_done : (v : V) → Q v ms → mid.left ≡ 0 → last ≡ record mid.de.now { failed = false } → Lawful g (λ m v. OfRow (Q v) m) old last (Ok v)
     seq_done v q z e =
         let many : count ms ≡ start.left = omega (arith, r.many) in
-        let w = whole_row old.strict start.bytes (Q v) ms start.left o.head.bytes r.bytes o.head.is_head (subst (λ z. SpellsRow (SpellsIn z start.bytes) r.bytes ms) o.stays.strict r.spelled) many q in
+        let w = whole_row old.strict start.bytes (Q v) ms start.left o.head.bytes r.bytes o.head.is_head
+        (subst (λ z. SpellsRow (SpellsIn z start.bytes) r.bytes ms) o.stays.strict r.spelled) many q in
         rw e (record {
           ok = record {
             bytes = o.head.bytes ++ r.bytes;
             tree = w.tree;
             takes = Consumes-trans _ _ _ o.head.bytes r.bytes o.head.takes r.takes;
-            goes_on = record { more = o.head.goes_on.more ++ r.bytes; whole = ap (λ t. t ++ r.bytes) o.head.goes_on.whole ∙ append_assoc (kept_bytes old.kept) o.head.goes_on.more r.bytes };
+            goes_on = record {
+              more = o.head.goes_on.more ++ r.bytes;
+              whole = ap (λ t. t ++ r.bytes) o.head.goes_on.whole
+                  ∙ append_assoc (kept_bytes old.kept) o.head.goes_on.more r.bytes;
+            };
             spelled = w.spelled;
             fits = omega (arith, w.fits, r.fits, o.room);
             value = w.holds;
@@ -89,12 +125,20 @@ module _ {R C V : Type 0} (g : Ghosts R) (Q : V → Msgs → Type 0) (old : Dese
           err = λ _. tt;
           failed = tt;
           before = λ h. absurd (let f = o.fresh in cc);
-          stays = record { config = r.stays.config ∙ o.stays.config; room = r.stays.room ∙ o.stays.room; strict = r.stays.strict ∙ o.stays.strict; place = r.stays.place ∙ o.stays.place };
+          stays = record {
+            config = r.stays.config ∙ o.stays.config;
+            room = r.stays.room ∙ o.stays.room;
+            strict = r.stays.strict
+                ∙ o.stays.strict;
+            place = r.stays.place ∙ o.stays.place;
+          };
         })
 
     -- none of the elements that are to come would do
     pub seq_refused : (e : Error) → Stays g mid.de.now last → last.failed ≡ true
-        → Explains e (faults_of g mid.de.now) (faults_of g last) (RefusesRow (SpellsIn start.de.now.strict start.bytes) (λ ks. (v : V) × Q v (append ms ks)) (inner_of start) mid.left (left g mid.de.now)) → Lawful g (λ m v. OfRow (Q v) m) old last (Err e)
+        → Explains e (faults_of g mid.de.now) (faults_of g last)
+        (RefusesRow (SpellsIn start.de.now.strict start.bytes) (λ ks. (v : V) × Q v (append ms ks)) (inner_of start) mid.left (left g mid.de.now))
+        → Lawful g (λ m v. OfRow (Q v) m) old last (Err e)
     seq_refused e s f x = record {
       ok = tt;
       ready = tt;
@@ -105,9 +149,11 @@ module _ {R C V : Type 0} (g : Ghosts R) (Q : V → Msgs → Type 0) (old : Dese
       before = λ h. absurd (let p = o.fresh in cc);
       err = λ _ n k.
           let rest = x n (k ∙ sym o.faults_same ∙ sym r.faults_same) in
-          let row = rest_refused start.de.now.strict start.bytes (λ ks. (v : V) × Q v ks) (inner_of start) mid.left start.left (left g start.de.now) (left g mid.de.now) ms r.bytes r.takes r.spelled r.many rest in
+          let row = rest_refused start.de.now.strict start.bytes (λ ks. (v : V) × Q v ks) (inner_of start) mid.left start.left (left g start.de.now)
+          (left g mid.de.now) ms r.bytes r.takes r.spelled r.many rest in
           refuses_narrower (SpellsAs old.strict) (OfRow (λ ks. (v : V) × Q v ks)) _ _ _ (readable_row Q)
-          (row_whole old.strict start.bytes (λ ks. (v : V) × Q v ks) (room_of old) (inner_of start) start.left (left g old) (left g start.de.now) o.head.bytes o.head.takes o.head.is_head o.room (omega arith)
+          (row_whole old.strict start.bytes (λ ks. (v : V) × Q v ks) (room_of old) (inner_of start) start.left (left g old) (left g start.de.now)
+          o.head.bytes o.head.takes o.head.is_head o.room (omega arith)
           (subst (λ z. RefusesRow (SpellsIn z start.bytes) (λ ks. (v : V) × Q v ks) (inner_of start) start.left (left g start.de.now)) o.stays.strict row));
     }
 
@@ -128,16 +174,20 @@ module _ {R C V : Type 0} (g : Ghosts R) (Q : V → Msgs → Type 0) (old : Dese
         }
 
     -- there was no element that would do, or none at all
-    pub seq_element : {A : Type 0} (reads : Msg → A → Type 0) (now : SeqAccess R C) (e : Error) → FailsElement g reads mid now e → now.de.now.failed ≡ true → last ≡ now.de.now
-        → ((m : Msg) (ks : Msgs) (v : V) → Q v (append ms (item m ks)) → Readable reads m) → ((v : V) → Q v (append ms no_items) → ⊥) → Lawful g (λ m v. OfRow (Q v) m) old last (Err e)
+    pub seq_element : {A : Type 0} (reads : Msg → A → Type 0) (now : SeqAccess R C) (e : Error) → FailsElement g reads mid now e → now.de.now.failed ≡ true
+        → last ≡ now.de.now
+        → ((m : Msg) (ks : Msgs) (v : V) → Q v (append ms (item m ks)) → Readable reads m) → ((v : V) → Q v (append ms no_items) → ⊥)
+        → Lawful g (λ m v. OfRow (Q v) m) old last (Err e)
     seq_element reads now e f d q proj some = seq_refused e (rw q f.stays) (ap (λ (z : Deserializer R C). z.failed) q ∙ d) (λ n k. elim f.err [
-      | inl z ↦ count_refused (SpellsIn start.de.now.strict start.bytes) (λ ks. (v : V) × Q v (append ms ks)) (inner_of start) mid.left (left g mid.de.now) (none_left some z)
+      | inl z ↦ count_refused (SpellsIn start.de.now.strict start.bytes) (λ ks. (v : V) × Q v (append ms ks)) (inner_of start) mid.left (left g mid.de.now)
+          (none_left some z)
       | inr p ↦
           let r0 = p.1 n (ap (faults_of g) (sym q) ∙ k) in
           let rs = subst (λ z. Refuses (SpellsIn z mid.bytes) (Readable reads) (inner_of mid) (left g mid.de.now)) r.stays.strict r0 in
           let r1 = subst (λ z. Refuses (SpellsIn start.de.now.strict z) (Readable reads) (inner_of mid) (left g mid.de.now)) r.bytes_same rs in
           let r2 = subst (λ z. Refuses (SpellsIn start.de.now.strict start.bytes) (Readable reads) (max 1 z) (left g mid.de.now)) r.inner r1 in
-          element_refused (SpellsIn start.de.now.strict start.bytes) (λ ks. (v : V) × Q v (append ms ks)) (Readable reads) (inner_of start) mid.left (left g mid.de.now) p.0 (λ m ks h. proj m ks h.0 h.1) r2
+          element_refused (SpellsIn start.de.now.strict start.bytes) (λ ks. (v : V) × Q v (append ms ks)) (Readable reads) (inner_of start) mid.left
+          (left g mid.de.now) p.0 (λ m ks h. proj m ks h.0 h.1) r2
     ])
       where
         none_left : ((v : V) → Q v (append ms no_items) → ⊥) → mid.left ≡ 0 → (ks : Msgs) → (v : V) × Q v (append ms ks) → count ks ≡ mid.left → ⊥
@@ -145,20 +195,26 @@ module _ {R C V : Type 0} (g : Ghosts R) (Q : V → Msgs → Type 0) (old : Dese
         none_left f z (item m ks) h c = omega arith
 
     -- an element was refused
-    pub seq_take : {A : Type 0} (reads : Msg → A → Type 0) (now : SeqAccess R C) (e : Error) → FailsToTake g reads mid now e → now.de.now.failed ≡ true → last ≡ now.de.now
+    pub seq_take : {A : Type 0} (reads : Msg → A → Type 0) (now : SeqAccess R C) (e : Error) → FailsToTake g reads mid now e → now.de.now.failed ≡ true
+        → last ≡ now.de.now
         → ((m : Msg) (ks : Msgs) (v : V) → Q v (append ms (item m ks)) → Readable reads m) → Lawful g (λ m v. OfRow (Q v) m) old last (Err e)
     seq_take reads now e f d q proj = seq_refused e (rw q f.stays) (ap (λ (z : Deserializer R C). z.failed) q ∙ d) (λ n k.
         let r0 = f.err n (ap (faults_of g) (sym q) ∙ k) in
         let rs = subst (λ z. Refuses (SpellsIn z mid.bytes) (Readable reads) (inner_of mid) (left g mid.de.now)) r.stays.strict r0 in
         let r1 = subst (λ z. Refuses (SpellsIn start.de.now.strict z) (Readable reads) (inner_of mid) (left g mid.de.now)) r.bytes_same rs in
         let r2 = subst (λ z. Refuses (SpellsIn start.de.now.strict start.bytes) (Readable reads) (max 1 z) (left g mid.de.now)) r.inner r1 in
-        element_refused (SpellsIn start.de.now.strict start.bytes) (λ ks. (v : V) × Q v (append ms ks)) (Readable reads) (inner_of start) mid.left (left g mid.de.now) f.some (λ m ks h. proj m ks h.0 h.1) r2)
+        element_refused (SpellsIn start.de.now.strict start.bytes) (λ ks. (v : V) × Q v (append ms ks)) (Readable reads) (inner_of start) mid.left
+        (left g mid.de.now) f.some (λ m ks h. proj m ks h.0 h.1) r2)
 
     -- there are more elements than are wanted
-    pub seq_more : (e : Error) → 0 < mid.left → last ≡ mid.de.now → ((m : Msg) (ks : Msgs) (v : V) → Q v (append ms (item m ks)) → ⊥) → Lawful g (λ m v. OfRow (Q v) m) old last (Err e)
-    seq_more e l q f = seq_refused e (rw q (stays_refl g mid.de.now)) (ap (λ (z : Deserializer R C). z.failed) q ∙ r.still.marked) (λ n k. count_refused (SpellsIn start.de.now.strict start.bytes) (λ ks. (v : V) × Q v (append ms ks)) (inner_of start) mid.left (left g mid.de.now) (too_many l f))
+    pub seq_more : (e : Error) → 0 < mid.left → last ≡ mid.de.now → ((m : Msg) (ks : Msgs) (v : V) → Q v (append ms (item m ks)) → ⊥)
+        → Lawful g (λ m v. OfRow (Q v) m) old last (Err e)
+    seq_more e l q f = seq_refused e (rw q (stays_refl g mid.de.now)) (ap (λ (z : Deserializer R C). z.failed) q ∙ r.still.marked)
+        (λ n k. count_refused (SpellsIn start.de.now.strict start.bytes) (λ ks. (v : V) × Q v (append ms ks)) (inner_of start) mid.left (left g mid.de.now)
+        (too_many l f))
       where
-        too_many : 0 < mid.left → ((m : Msg) (ks : Msgs) (v : V) → Q v (append ms (item m ks)) → ⊥) → (ks : Msgs) → (v : V) × Q v (append ms ks) → count ks ≡ mid.left → ⊥
+        too_many : 0 < mid.left → ((m : Msg) (ks : Msgs) (v : V) → Q v (append ms (item m ks)) → ⊥) → (ks : Msgs) → (v : V) × Q v (append ms ks)
+            → count ks ≡ mid.left → ⊥
         too_many l f no_items h c = omega arith
         too_many l f (item m ks) h c = f m ks h.0 h.1
 
@@ -166,24 +222,29 @@ module _ {R C V : Type 0} (g : Ghosts R) (Q : V → Msgs → Type 0) (old : Dese
 
 module _ {R C V : Type 0} (g : Ghosts R) (Q : V → Msgs → Type 0) (start mid : SeqAccess R C) (ms : Msgs) (r : Run g start mid ms) where
   pub parts_refused : (now : SeqAccess R C) (e : Error) → Stays g mid.de.now now.de.now → now.de.now.failed ≡ true
-      → Explains e (faults_of g mid.de.now) (faults_of g now.de.now) (RefusesRow (SpellsIn start.de.now.strict start.bytes) (λ ks. (v : V) × Q v (append ms ks)) (inner_of start) mid.left (left g mid.de.now)) → FailsParts g Q start now e
+      → Explains e (faults_of g mid.de.now) (faults_of g now.de.now)
+      (RefusesRow (SpellsIn start.de.now.strict start.bytes) (λ ks. (v : V) × Q v (append ms ks)) (inner_of start) mid.left (left g mid.de.now))
+      → FailsParts g Q start now e
   parts_refused now e s f x = record {
     stays = stays_then g start.de.now mid.de.now now.de.now r.stays s;
     failed = f;
-    err = λ n k. rest_refused start.de.now.strict start.bytes (λ ks. (v : V) × Q v ks) (inner_of start) mid.left start.left (left g start.de.now) (left g mid.de.now) ms r.bytes r.takes r.spelled r.many (x n (k ∙ sym r.faults_same));
+    err = λ n k. rest_refused start.de.now.strict start.bytes (λ ks. (v : V) × Q v ks) (inner_of start) mid.left start.left (left g start.de.now)
+        (left g mid.de.now) ms r.bytes r.takes r.spelled r.many (x n (k ∙ sym r.faults_same));
   }
 
   -- there was no element that would do, or none at all
   pub parts_element : {A : Type 0} (reads : Msg → A → Type 0) (now : SeqAccess R C) (e : Error) → FailsElement g reads mid now e → now.de.now.failed ≡ true
       → ((m : Msg) (ks : Msgs) (v : V) → Q v (append ms (item m ks)) → Readable reads m) → ((v : V) → Q v (append ms no_items) → ⊥) → FailsParts g Q start now e
   parts_element reads now e f d proj some = parts_refused now e f.stays d (λ n k. elim f.err [
-    | inl z ↦ count_refused (SpellsIn start.de.now.strict start.bytes) (λ ks. (v : V) × Q v (append ms ks)) (inner_of start) mid.left (left g mid.de.now) (none_left some z)
+    | inl z ↦ count_refused (SpellsIn start.de.now.strict start.bytes) (λ ks. (v : V) × Q v (append ms ks)) (inner_of start) mid.left (left g mid.de.now)
+        (none_left some z)
     | inr p ↦
         let r0 = p.1 n k in
         let rs = subst (λ z. Refuses (SpellsIn z mid.bytes) (Readable reads) (inner_of mid) (left g mid.de.now)) r.stays.strict r0 in
         let r1 = subst (λ z. Refuses (SpellsIn start.de.now.strict z) (Readable reads) (inner_of mid) (left g mid.de.now)) r.bytes_same rs in
         let r2 = subst (λ z. Refuses (SpellsIn start.de.now.strict start.bytes) (Readable reads) (max 1 z) (left g mid.de.now)) r.inner r1 in
-        element_refused (SpellsIn start.de.now.strict start.bytes) (λ ks. (v : V) × Q v (append ms ks)) (Readable reads) (inner_of start) mid.left (left g mid.de.now) p.0 (λ m ks h. proj m ks h.0 h.1) r2
+        element_refused (SpellsIn start.de.now.strict start.bytes) (λ ks. (v : V) × Q v (append ms ks)) (Readable reads) (inner_of start) mid.left
+        (left g mid.de.now) p.0 (λ m ks h. proj m ks h.0 h.1) r2
   ])
     where
       none_left : ((v : V) → Q v (append ms no_items) → ⊥) → mid.left ≡ 0 → (ks : Msgs) → (v : V) × Q v (append ms ks) → count ks ≡ mid.left → ⊥
@@ -191,9 +252,12 @@ module _ {R C V : Type 0} (g : Ghosts R) (Q : V → Msgs → Type 0) (start mid 
       none_left f z (item m ks) h c = omega arith
 
 -- a list none of whose rows has such parts
-pub seq_parts : {R C V : Type 0} (g : Ghosts R) (Q : V → Msgs → Type 0) (old : Deserializer R C) (start now : SeqAccess R C) (o : Opens g old start) (last : Deserializer R C) (e : Error) → FailsParts g Q start now e → last ≡ now.de.now
+pub seq_parts : {R C V : Type 0} (g : Ghosts R) (Q : V → Msgs
+    → Type 0) (old : Deserializer R C) (start now : SeqAccess R C) (o : Opens g old start) (last : Deserializer R C) (e : Error)
+    → FailsParts g Q start now e → last ≡ now.de.now
     → Lawful g (λ m v. OfRow (Q v) m) old last (Err e)
-seq_parts g Q old start now o last e f q = seq_refused g Q old start start no_items o (run_start g start o.opened) last e (rw q f.stays) (ap (λ (z : Deserializer _ _). z.failed) q ∙ f.failed) (λ n k. f.err n (ap (faults_of g) (sym q) ∙ k))
+seq_parts g Q old start now o last e f q = seq_refused g Q old start start no_items o (run_start g start o.opened) last e (rw q f.stays)
+    (ap (λ (z : Deserializer _ _). z.failed) q ∙ f.failed) (λ n k. f.err n (ap (faults_of g) (sym q) ∙ k))
 
 -- how many items there are
 pub count-append : (ms ks : Msgs) → count (append ms ks) ≡ count ms + count ks
@@ -209,9 +273,12 @@ and_then_count P Q n f no_items h = absurd h
 and_then_count P Q n f (item m ms) h = ap suc (f ms h.1)
 
 -- there are more elements than the parts are
-pub seq_over : {R C V : Type 0} (g : Ghosts R) (Q : V → Msgs → Type 0) (old : Deserializer R C) (start mid : SeqAccess R C) (ms : Msgs) (o : Opens g old start) (r : Run g start mid ms) (last : Deserializer R C) (e : Error) → 0 < mid.left → last ≡ mid.de.now
+pub seq_over : {R C V : Type 0} (g : Ghosts R) (Q : V → Msgs
+    → Type 0) (old : Deserializer R C) (start mid : SeqAccess R C) (ms : Msgs) (o : Opens g old start) (r : Run g start mid ms) (last : Deserializer R C)
+    (e : Error) → 0 < mid.left → last ≡ mid.de.now
     → (n : ℕ) → ((v : V) (ks : Msgs) → Q v ks → count ks ≡ n) → (v : V) → Q v ms → Lawful g (λ m v. OfRow (Q v) m) old last (Err e)
-seq_over g Q old start mid ms o r last e l q n f v h = seq_more g Q old start mid ms o r last e l q (λ m ks w i. let a = f v ms h in let b = f w (append ms (item m ks)) i in omega (arith, count-append ms (item m ks)))
+seq_over g Q old start mid ms o r last e l q n f v h = seq_more g Q old start mid ms o r last e l q (λ m ks w i. let a = f v ms h
+    in let b = f w (append ms (item m ks)) i in omega (arith, count-append ms (item m ks)))
 
 -- ---- rows of one type
 
@@ -221,13 +288,15 @@ pub record Values {R C V : Type 0} (g : Ghosts R) (reads : Msg → V → Type 0)
   pub run : Run g start now trees
   pub values : ReadsEach reads trees vs
 
-pub each-push : {V : Type 0} (reads : Msg → V → Type 0) (ms : Msgs) (k : Msg) (vs : List V) (v : V) → ReadsEach reads ms vs → reads k v → ReadsEach reads (push ms k) (vs ++ v ∷ [])
+pub each-push : {V : Type 0} (reads : Msg → V → Type 0) (ms : Msgs) (k : Msg) (vs : List V) (v : V) → ReadsEach reads ms vs → reads k v
+    → ReadsEach reads (push ms k) (vs ++ v ∷ [])
 each-push reads no_items k [] v p q = (q, tt)
 each-push reads no_items k (w ∷ vs) v p q = absurd p
 each-push reads (item m ms) k [] v p q = absurd p
 each-push reads (item m ms) k (w ∷ vs) v p q = (p.0, each-push reads ms k vs v p.1 q)
 
-pub each_next : {V : Type 0} (reads : Msg → V → Type 0) (ms : Msgs) (m : Msg) (ks : Msgs) (vs : List V) → ReadsEach reads (append ms (item m ks)) vs → Readable reads m
+pub each_next : {V : Type 0} (reads : Msg → V → Type 0) (ms : Msgs) (m : Msg) (ks : Msgs) (vs : List V) → ReadsEach reads (append ms (item m ks)) vs
+    → Readable reads m
 each_next reads no_items m ks [] h = absurd h
 each_next reads no_items m ks (v ∷ vs) h = (v, h.0)
 each_next reads (item k ms) m ks [] h = absurd h
@@ -236,5 +305,7 @@ each_next reads (item k ms) m ks (v ∷ vs) h = each_next reads ms m ks vs h.1
 pub values_start : {R C V : Type 0} (g : Ghosts R) (reads : Msg → V → Type 0) (s : SeqAccess R C) → IsOpen s → Values g reads s s []
 values_start g reads s o = record { trees = no_items; run = run_start g s o; values = tt }
 
-pub values_step : {R C V : Type 0} (g : Ghosts R) (reads : Msg → V → Type 0) (start mid now : SeqAccess R C) (vs : List V) (v : V) → Values g reads start mid vs → TakesElement g reads mid now v → now.de.ghost_name ≡ mid.de.ghost_name → Values g reads start now (vs ++ v ∷ [])
-values_step g reads start mid now vs v r t n = record { trees = push r.trees t.tree; run = run_step g reads start mid now r.trees v r.run t n; values = each-push reads r.trees t.tree vs v r.values t.value }
+pub values_step : {R C V : Type 0} (g : Ghosts R) (reads : Msg → V → Type 0) (start mid now : SeqAccess R C) (vs : List V) (v : V)
+    → Values g reads start mid vs → TakesElement g reads mid now v → now.de.ghost_name ≡ mid.de.ghost_name → Values g reads start now (vs ++ v ∷ [])
+values_step g reads start mid now vs v r t n = record
+    { trees = push r.trees t.tree; run = run_step g reads start mid now r.trees v r.run t n; values = each-push reads r.trees t.tree vs v r.values t.value }

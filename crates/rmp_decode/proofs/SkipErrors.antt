@@ -1,5 +1,30 @@
 -- Why a message can't be passed over.
-use Rattle.std.proofs.Common.{◌≡◌, ◌≢◌, ◌∙◌, refl, true, false, sym, subst, ℕ, ◌-◌, ◌<◌, inl, inr, arith, List, Bool, Option, None, Some, IfSome, Result, Ok, Err, IfErr}
+use Rattle.std.proofs.Common.{
+  ◌≡◌,
+  ◌≢◌,
+  ◌∙◌,
+  refl,
+  true,
+  false,
+  sym,
+  subst,
+  ℕ,
+  ◌-◌,
+  ◌<◌,
+  inl,
+  inr,
+  arith,
+  List,
+  Bool,
+  Option,
+  None,
+  Some,
+  IfSome,
+  Result,
+  Ok,
+  Err,
+  IfErr,
+}
 use Rattle.std.proofs.lemmas.Bool.{cases_lt}
 use Rattle.rmp_wire.specs.declared.head.Head.{Head}
 use Rattle.rmp_wire.specs.declared.marker.Marker.{Marker}
@@ -37,8 +62,10 @@ some_parts true n l = omega (arith, l)
 some_parts false n l = l
 
 -- no head could be taken
-pub none_wrong : {R C : Type 0} (g : Ghosts R) (lends : Bool) (old new : Deserializer R C) (e : Error) → ReadsHead g old new (Err e) → RefusesFirst g (UnpassedFor lends) any_row old new e
-none_wrong g lends old new e h = λ f k. wrong_none old.strict (UnpassedFor lends old.strict) any_row (unpassed lends old.strict) (room_of old) (faults_of g old) (faults_of g new) (left g old) e k (h.ends f)
+pub none_wrong : {R C : Type 0} (g : Ghosts R) (lends : Bool) (old new : Deserializer R C) (e : Error) → ReadsHead g old new (Err e)
+    → RefusesFirst g (UnpassedFor lends) any_row old new e
+none_wrong g lends old new e h = λ f k. wrong_none old.strict (UnpassedFor lends old.strict) any_row (unpassed lends old.strict) (room_of old)
+    (faults_of g old) (faults_of g new) (left g old) e k (h.ends f)
 
 -- what lends isn't short of memory
 pub unlent : (lends : Bool) → (lends ≡ true → ⊥) → lends ≡ false
@@ -47,36 +74,57 @@ unlent false f = refl
 
 module _ {R C : Type 0} (g : Ghosts R) (lends : Bool) (old mid new : Deserializer R C) (p : Marker × Head) (h : ReadsHead g old mid (Ok p)) where
   -- the content of a leaf couldn't be passed over
-  pub leaf_wrong : (e : Error) → (lends ≡ true → e ≢ errors.OutOfMemory) → ((q : Bool × ℕ) → p.1 ≡ parts_head q.0 q.1 → ⊥) → Explains e (g.faults mid.reader) (g.faults new.reader) (IsShort (content_len p.1) (g.ahead mid.reader)) → Explains e (g.faults mid.reader) (g.faults new.reader) (IsDataEnd e)
+  pub leaf_wrong : (e : Error) → (lends ≡ true → e ≢ errors.OutOfMemory) → ((q : Bool × ℕ) → p.1 ≡ parts_head q.0 q.1 → ⊥)
+      → Explains e (g.faults mid.reader) (g.faults new.reader) (IsShort (content_len p.1) (g.ahead mid.reader))
+      → Explains e (g.faults mid.reader) (g.faults new.reader) (IsDataEnd e)
       → RefusesFirst g (UnpassedFor lends) any_row old new e
   leaf_wrong e w n s d = λ _ k. elim (is_memory e) [
-    | inl m ↦ subst (λ z. RefusedFor old.strict (UnpassedFor lends old.strict) any_row (room_of old) z (left g old)) (sym m) (wrong_memory old.strict (UnpassedFor lends old.strict) any_row (room_of old) (left g old) (left g mid) h.ok.bytes p.1 h.ok.takes h.ok.is_head (λ xs k t. inl (unlent lends (λ q. w q m), record { head = p.1; marker = k; stands = t; no_parts = n })))
+    | inl m ↦ subst (λ z. RefusedFor old.strict (UnpassedFor lends old.strict) any_row (room_of old) z (left g old)) (sym m)
+        (wrong_memory old.strict (UnpassedFor lends old.strict) any_row (room_of old) (left g old) (left g mid) h.ok.bytes p.1 h.ok.takes h.ok.is_head
+        (λ xs k t. inl (unlent lends (λ q. w q m), record { head = p.1; marker = k; stands = t; no_parts = n })))
     | inr o ↦
         let same = k ∙ sym h.sound in
         let short : IsShort (content_len p.1) (left g mid) = rw (bare g mid h.clean) (s o same) in
-        wrong_content old.strict (UnpassedFor lends old.strict) any_row (unpassed lends old.strict) (room_of old) (left g old) (left g mid) h.ok.bytes p.1 e h.ok.takes h.ok.is_head short (d o same)
+        wrong_content old.strict (UnpassedFor lends old.strict) any_row (unpassed lends old.strict) (room_of old) (left g old) (left g mid) h.ok.bytes p.1 e
+        h.ok.takes h.ok.is_head short (d o same)
   ]
 
   -- a list or a map couldn't be passed over
-  refused_nest : (is_map : Bool) (n : ℕ) (e : Error) → p.1 ≡ parts_head is_map n → (room_of mid ≡ 1 → e ≡ errors.DepthLimitExceeded) → (1 < room_of mid → RefusesRowFirst g (UnpassedFor lends) any_row (room_of mid - 1) (parts_count is_map n) mid new e) → RefusesFirst g (UnpassedFor lends) any_row old new e
+  refused_nest : (is_map : Bool) (n : ℕ) (e : Error) → p.1 ≡ parts_head is_map n → (room_of mid ≡ 1 → e ≡ errors.DepthLimitExceeded)
+      → (1 < room_of mid → RefusesRowFirst g (UnpassedFor lends) any_row (room_of mid - 1) (parts_count is_map n) mid new e)
+      → RefusesFirst g (UnpassedFor lends) any_row old new e
   refused_nest is_map n e i deep row = λ _ k.
       let room : mid.room ≡ old.room = h.stays.room in
       let head = subst (λ z. heads_of old.strict z h.ok.bytes) i h.ok.is_head in
       elim (cases_lt 1 (room_of mid)) [
-        | inl more ↦ wrong_nest old.strict (UnpassedFor lends old.strict) any_row (room_of old) (room_of mid - 1) is_map n (left g old) (left g mid) h.ok.bytes e h.ok.takes head (omega (arith, room, more)) (subst (λ z. RowRefusedFor z (UnpassedFor lends z) any_row (room_of mid - 1) (parts_count is_map n) e (left g mid)) h.stays.strict (row more (k ∙ sym h.sound)))
-        | inr one ↦ subst (λ z. RefusedFor old.strict (UnpassedFor lends old.strict) any_row (room_of old) z (left g old)) (sym (deep (omega (arith, one)))) (wrong_deep old.strict (UnpassedFor lends old.strict) any_row (unpassed lends old.strict) (room_of old) is_map n (left g old) (left g mid) h.ok.bytes h.ok.takes head (omega (arith, room, one)))
+        | inl more ↦ wrong_nest old.strict (UnpassedFor lends old.strict) any_row (room_of old) (room_of mid - 1) is_map n (left g old) (left g mid)
+            h.ok.bytes e h.ok.takes head (omega (arith, room, more))
+            (subst (λ z. RowRefusedFor z (UnpassedFor lends z) any_row (room_of mid - 1) (parts_count is_map n) e (left g mid)) h.stays.strict
+            (row more (k ∙ sym h.sound)))
+        | inr one ↦ subst (λ z. RefusedFor old.strict (UnpassedFor lends old.strict) any_row (room_of old) z (left g old)) (sym (deep (omega (arith, one))))
+            (wrong_deep old.strict (UnpassedFor lends old.strict) any_row (unpassed lends old.strict) (room_of old) is_map n (left g old) (left g mid)
+            h.ok.bytes h.ok.takes head (omega (arith, room, one)))
       ]
 
-  pub nest_wrong : (is_map : Bool) (n : ℕ) (r : Result (Unit {0}) Error) → p.1 ≡ parts_head is_map n → IfErr r (λ e. room_of mid ≡ 1 → e ≡ errors.DepthLimitExceeded) → IfErr r (λ e. 1 < room_of mid → RefusesRowFirst g (UnpassedFor lends) any_row (room_of mid - 1) (parts_count is_map n) mid new e)
+  pub nest_wrong : (is_map : Bool) (n : ℕ) (r : Result (Unit {0}) Error) → p.1 ≡ parts_head is_map n
+      → IfErr r (λ e. room_of mid ≡ 1 → e ≡ errors.DepthLimitExceeded)
+      → IfErr r (λ e. 1 < room_of mid → RefusesRowFirst g (UnpassedFor lends) any_row (room_of mid - 1) (parts_count is_map n) mid new e)
       → IfErr r (RefusesFirst g (UnpassedFor lends) any_row old new)
   nest_wrong is_map n (Ok u) i deep row = tt
   nest_wrong is_map n (Err e) i deep row = refused_nest is_map n e i deep row
 
-  some_open : (is_map : Bool) (n : ℕ) (known : Option (List ℕ)) → IfSome known (Stands old.strict p.0 p.1) → p.1 ≡ parts_head is_map n → 0 < n → IfSome known (OpensSome old.strict)
+  some_open : (is_map : Bool) (n : ℕ) (known : Option (List ℕ)) → IfSome known (Stands old.strict p.0 p.1) → p.1 ≡ parts_head is_map n → 0 < n
+      → IfSome known (OpensSome old.strict)
   some_open is_map n None s i l = tt
-  some_open is_map n (Some xs) s i l = record { parts = record { is_map = is_map; len = n; marker = p.0; stands = subst (λ z. Stands old.strict p.0 z xs) i s }; some = l }
+  some_open is_map n (Some xs) s i l = record {
+    parts = record
+        { is_map = is_map; len = n; marker = p.0; stands = subst (λ z. Stands old.strict p.0 z xs) i s };
+    some = l;
+  }
 
   -- memory was short behind the head of a list or a map
-  pub nest_memory : (is_map : Bool) (n : ℕ) (r : Result (Unit {0}) Error) → p.1 ≡ parts_head is_map n → IfErr r (λ e. e ≡ errors.OutOfMemory → 0 < parts_count is_map n) → IfErr r (λ e. e ≡ errors.OutOfMemory → IfSome (left g old) (OpensSome old.strict))
+  pub nest_memory : (is_map : Bool) (n : ℕ) (r : Result (Unit {0}) Error) → p.1 ≡ parts_head is_map n
+      → IfErr r (λ e. e ≡ errors.OutOfMemory → 0 < parts_count is_map n)
+      → IfErr r (λ e. e ≡ errors.OutOfMemory → IfSome (left g old) (OpensSome old.strict))
   nest_memory is_map n (Ok u) i l = tt
   nest_memory is_map n (Err e) i l = λ o. some_open is_map n (left g old) h.marked i (some_parts is_map n (l o))

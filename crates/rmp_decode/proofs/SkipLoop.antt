@@ -1,5 +1,39 @@
 -- Passing over all that open lists and maps want.
-use Rattle.std.proofs.Common.{◌≡◌, ◌≢◌, ◌∙◌, sym, ap, subst, refl, ℕ, zero, suc, ◌+◌, ◌-◌, ◌*◌, ◌<◌, ◌≤◌, arith, inl, inr, List, [], ◌∷◌, ◌++◌, length, reverse, Option, None, Some, Bool, true, false, Ok, Err, append_assoc}
+use Rattle.std.proofs.Common.{
+  ◌≡◌,
+  ◌≢◌,
+  ◌∙◌,
+  sym,
+  ap,
+  subst,
+  refl,
+  ℕ,
+  zero,
+  suc,
+  ◌+◌,
+  ◌-◌,
+  ◌*◌,
+  ◌<◌,
+  ◌≤◌,
+  arith,
+  inl,
+  inr,
+  List,
+  [],
+  ◌∷◌,
+  ◌++◌,
+  length,
+  reverse,
+  Option,
+  None,
+  Some,
+  Bool,
+  true,
+  false,
+  Ok,
+  Err,
+  append_assoc,
+}
 use Rattle.std.proofs.Math.Nat.{mul-le-mul_right}
 use Rattle.std.proofs.lemmas.List.{append-nil, reverse-append, length-append}
 use Rattle.std.specs.Io.KnownBytes.{Consumes}
@@ -59,12 +93,14 @@ none x y = omega arith
 abbrev pub to_do : ℕ → ℕ → List ℕ → ℕ
 to_do room wanted outer = 2 * digits room (wanted ∷ reverse outer) + length outer
 
-pub falls_out : (room wanted n room' : ℕ) (outer outer' : List ℕ) → wanted ≡ 0 → outer ≡ outer' ++ (n ∷ []) → room' ≡ room + 1 → to_do room' n outer' < to_do room wanted outer
+pub falls_out : (room wanted n room' : ℕ) (outer outer' : List ℕ) → wanted ≡ 0 → outer ≡ outer' ++ (n ∷ []) → room' ≡ room + 1
+    → to_do room' n outer' < to_do room wanted outer
 falls_out room wanted n room' outer outer' z o r =
     let turned : reverse outer ≡ n ∷ reverse outer' = ap reverse o ∙ reverse-append outer' (n ∷ []) in
     let long : length outer ≡ length outer' + 1 = ap length o ∙ length-append outer' (n ∷ []) in
     let up : room' ≡ suc room = omega (arith, r) in
-    let same : digits room (wanted ∷ reverse outer) ≡ digits (suc room) (n ∷ reverse outer') = ap (λ t. digits room (wanted ∷ t)) turned ∙ ap (λ t. digits room (t ∷ n ∷ reverse outer')) z ∙ none (place room) (digits (suc room) (n ∷ reverse outer')) in
+    let same : digits room (wanted ∷ reverse outer) ≡ digits (suc room) (n ∷ reverse outer') = ap (λ t. digits room (wanted ∷ t)) turned
+    ∙ ap (λ t. digits room (t ∷ n ∷ reverse outer')) z ∙ none (place room) (digits (suc room) (n ∷ reverse outer')) in
     let then : digits room' (n ∷ reverse outer') ≡ digits (suc room) (n ∷ reverse outer') = ap (λ t. digits t (n ∷ reverse outer')) up in
     omega (arith, same, then, long)
 
@@ -75,14 +111,16 @@ falls_leaf room wanted wanted' outer s q =
     let same : digits room (wanted ∷ reverse outer) ≡ digits room (suc wanted' ∷ reverse outer) = ap (λ t. digits room (t ∷ reverse outer)) one in
     omega (arith, l, same)
 
-pub falls_in : (room wanted n room' wanted' : ℕ) (outer outer' : List ℕ) → 0 < wanted → n ≡ wanted - 1 → room' ≡ room - 1 → wanted' < 8589934592 → outer' ≡ outer ++ (n ∷ []) → 1 < room → to_do room' wanted' outer' < to_do room wanted outer
+pub falls_in : (room wanted n room' wanted' : ℕ) (outer outer' : List ℕ) → 0 < wanted → n ≡ wanted - 1 → room' ≡ room - 1 → wanted' < 8589934592
+    → outer' ≡ outer ++ (n ∷ []) → 1 < room → to_do room' wanted' outer' < to_do room wanted outer
 falls_in room wanted n room' wanted' outer outer' s q d k o r =
     let turned : reverse outer' ≡ n ∷ reverse outer = ap reverse o ∙ reverse-append outer (n ∷ []) in
     let long : length outer' ≡ length outer + 1 = ap length o ∙ length-append outer (n ∷ []) in
     let up : room ≡ suc room' = omega (arith, d, r) in
     let one : wanted ≡ suc n = omega (arith, s, q) in
     let l = digits_in room' n wanted' (reverse outer) k in
-    let before : digits room (wanted ∷ reverse outer) ≡ digits (suc room') (suc n ∷ reverse outer) = ap (λ t. digits t (wanted ∷ reverse outer)) up ∙ ap (λ t. digits (suc room') (t ∷ reverse outer)) one in
+    let before : digits room (wanted ∷ reverse outer) ≡ digits (suc room') (suc n ∷ reverse outer) = ap (λ t. digits t (wanted ∷ reverse outer)) up
+    ∙ ap (λ t. digits (suc room') (t ∷ reverse outer)) one in
     let then : digits room' (wanted' ∷ reverse outer') ≡ digits room' (wanted' ∷ n ∷ reverse outer) = ap (λ t. digits room' (wanted' ∷ t)) turned in
     omega (arith, l, before, then, long, place_some room')
 
@@ -116,7 +154,8 @@ pub record Wants {R C : Type 0} (g : Ghosts R) (lends : Bool) (all : ℕ) (start
   pub sound : faults_of g now ≡ faults_of g start
   pub stays : Stays g start now
 
-pub wants_all : {R C : Type 0} (g : Ghosts R) (lends : Bool) (all : ℕ) (d : Deserializer R C) (room : ℕ) (outer : List ℕ) → outer ≡ [] → 1 < d.room → room ≡ d.room - 1 → d.failed ≡ true → d.kept ≡ Nothing → Wants g lends all d d room all outer
+pub wants_all : {R C : Type 0} (g : Ghosts R) (lends : Bool) (all : ℕ) (d : Deserializer R C) (room : ℕ) (outer : List ℕ) → outer ≡ [] → 1 < d.room
+    → room ≡ d.room - 1 → d.failed ≡ true → d.kept ≡ Nothing → Wants g lends all d d room all outer
 wants_all g lends all d room outer o l q f k =
     let same : room ≡ room_of d - 1 = omega (arith, l, q) in
     rw o (record {
@@ -132,14 +171,18 @@ wants_all g lends all d room outer o l q f k =
       stays = stays_refl g d;
     })
 
-module _ {R C : Type 0} (g : Ghosts R) (lends : Bool) (all : ℕ) (start now : Deserializer R C) (room wanted : ℕ) (outer : List ℕ) (w : Wants g lends all start now room wanted outer) where
+module _ {R C : Type 0} (g : Ghosts R) (lends : Bool) (all : ℕ) (start now : Deserializer R C) (room wanted : ℕ) (outer : List ℕ)
+    (w : Wants g lends all start now room wanted outer) where
   -- some more was taken
-  step : (new : Deserializer R C) (b : List ℕ) (room' wanted' : ℕ) (outer' : List ℕ) → Consumes (left g now) (left g new) b → LeadsBy lends start.strict room (wanted ∷ reverse outer) room' (wanted' ∷ reverse outer') b
-      → 0 < room' → room' + length outer' ≡ room + length outer → (0 < wanted' + length outer' → 0 < wanted + length outer) → new.failed ≡ true → new.kept ≡ Nothing → faults_of g new ≡ faults_of g now → Stays g now new → Wants g lends all start new room' wanted' outer'
+  step : (new : Deserializer R C) (b : List ℕ) (room' wanted' : ℕ) (outer' : List ℕ) → Consumes (left g now) (left g new) b
+      → LeadsBy lends start.strict room (wanted ∷ reverse outer) room' (wanted' ∷ reverse outer') b
+      → 0 < room' → room' + length outer' ≡ room + length outer → (0 < wanted' + length outer' → 0 < wanted + length outer) → new.failed ≡ true
+      → new.kept ≡ Nothing → faults_of g new ≡ faults_of g now → Stays g now new → Wants g lends all start new room' wanted' outer'
   step new b room' wanted' outer' c l s d a f k q st = record {
     taken = w.taken ++ b;
     takes = Consumes-trans _ _ _ _ _ w.takes c;
-    leads = leads_then start.strict (UnpassedFor lends start.strict) (room_of start - 1) (all ∷ []) room (wanted ∷ reverse outer) room' (wanted' ∷ reverse outer') w.taken b w.leads l;
+    leads = leads_then start.strict (UnpassedFor lends start.strict) (room_of start - 1) (all ∷ []) room (wanted ∷ reverse outer) room'
+        (wanted' ∷ reverse outer') w.taken b w.leads l;
     some = s;
     deep = d ∙ w.deep;
     asked = λ z. w.asked (a z);
@@ -162,15 +205,27 @@ module _ {R C : Type 0} (g : Ghosts R) (lends : Bool) (all : ℕ) (start now : D
       (omega (arith, r)) (omega (arith, r, long)) (λ s. omega (arith, long)) w.marked w.clean refl (stays_refl g now)
 
   -- all of them ended
-  pub wants_none : (new : Deserializer R C) → wanted ≡ 0 → outer ≡ [] → new ≡ record now { failed = false } → SkipsRow g (room_of start - 1) all start new (Ok tt)
+  pub wants_none : (new : Deserializer R C) → wanted ≡ 0 → outer ≡ [] → new ≡ record now { failed = false }
+      → SkipsRow g (room_of start - 1) all start new (Ok tt)
   wants_none new z o q = rw q (
-      let l = leads_then start.strict (UnpassedFor lends start.strict) (room_of start - 1) (all ∷ []) room (0 ∷ []) (suc room) [] w.taken [] (subst (λ t. LeadsBy lends start.strict (room_of start - 1) (all ∷ []) room t w.taken) (ap (λ t. t ∷ reverse outer) z ∙ ap (λ t. 0 ∷ reverse t) o) w.leads)
+      let l = leads_then start.strict (UnpassedFor lends start.strict) (room_of start - 1) (all ∷ []) room (0 ∷ []) (suc room) [] w.taken []
+      (subst (λ t. LeadsBy lends start.strict (room_of start - 1) (all ∷ []) room t w.taken) (ap (λ t. t ∷ reverse outer) z ∙ ap (λ t. 0 ∷ reverse t) o)
+      w.leads)
       (leads_out start.strict (UnpassedFor lends start.strict) room [] w.some) in
       let s : SpellsOpen start.strict (room_of start - 1) (all ∷ []) ((w.taken ++ []) ++ []) = l.closes [] refl in
       let m = s.is_first in
-      let whole : w.taken ≡ s.first = sym (append-nil w.taken) ∙ sym (append-nil (w.taken ++ [])) ∙ s.is_whole ∙ ap (λ t. s.first ++ t) s.is_second ∙ append-nil s.first in
+      let whole : w.taken ≡ s.first = sym (append-nil w.taken) ∙ sym (append-nil (w.taken ++ [])) ∙ s.is_whole ∙ ap (λ t. s.first ++ t) s.is_second
+      ∙ append-nil s.first in
       record {
-        ok = record { bytes = w.taken; trees = m.trees; takes = w.takes; spelled = subst (λ t. SpellsRow (SpellsAs start.strict) t m.trees) (sym whole) m.spelled; many = m.many; fits = m.fits };
+        ok = record {
+          bytes = w.taken;
+          trees = m.trees;
+          takes = w.takes;
+          spelled = subst (λ t. SpellsRow (SpellsAs start.strict) t m.trees) (sym whole)
+              m.spelled;
+          many = m.many;
+          fits = m.fits;
+        };
         ready = refl;
         clean = w.clean;
         sound = w.sound;
@@ -182,9 +237,11 @@ module _ {R C : Type 0} (g : Ghosts R) (lends : Bool) (all : ℕ) (start now : D
   -- ---- a message is refused
 
   more : 0 < wanted → LeadsBy lends start.strict (room_of start - 1) (all ∷ []) room (suc (wanted - 1) ∷ reverse outer) w.taken
-  more s = let same : wanted ≡ suc (wanted - 1) = omega (arith, s) in subst (λ t. LeadsBy lends start.strict (room_of start - 1) (all ∷ []) room (t ∷ reverse outer) w.taken) same w.leads
+  more s = let same : wanted ≡ suc (wanted - 1) = omega (arith, s)
+      in subst (λ t. LeadsBy lends start.strict (room_of start - 1) (all ∷ []) room (t ∷ reverse outer) w.taken) same w.leads
 
-  front_of_row : (n : ℕ) (ts : Msgs) (c more x ys : List ℕ) → SpellsRow (SpellsAs start.strict) c ts → count ts ≡ suc n → depth_all ts < room → ys ≡ (c ++ more) ++ x → Begins (SpellsAs start.strict) (Readable any_tree) room ys
+  front_of_row : (n : ℕ) (ts : Msgs) (c more x ys : List ℕ) → SpellsRow (SpellsAs start.strict) c ts → count ts ≡ suc n → depth_all ts < room
+      → ys ≡ (c ++ more) ++ x → Begins (SpellsAs start.strict) (Readable any_tree) room ys
   front_of_row n no_items c more x ys t l d e = absurd (omega (arith, l))
   front_of_row n (item k ks) c more x ys t l d e = record {
     bytes = t.first;
@@ -196,18 +253,28 @@ module _ {R C : Type 0} (g : Ghosts R) (lends : Bool) (all : ℕ) (start now : D
     holds = (tt, tt);
   }
 
-  none_begins : 0 < wanted → (known k : Option (List ℕ)) → Consumes known k w.taken → Refuses (SpellsAs start.strict) (Readable any_tree) room k → RefusesRow (SpellsAs start.strict) any_row (room_of start - 1) all known
+  none_begins : 0 < wanted → (known k : Option (List ℕ)) → Consumes known k w.taken → Refuses (SpellsAs start.strict) (Readable any_tree) room k
+      → RefusesRow (SpellsAs start.strict) any_row (room_of start - 1) all known
   unfolding Refuses RefusesRow
   none_begins s None k t r = tt
   none_begins s (Some xs) None t r = absurd t
   none_begins s (Some xs) (Some ys) t r = λ a.
       let l = more s in
-      let whole : SpellsOpen start.strict (room_of start - 1) (all ∷ []) a.bytes = record { first = a.bytes; second = []; is_first = record { trees = a.trees; spelled = a.spelled; many = a.many; fits = a.fits }; is_second = refl; is_whole = sym (append-nil a.bytes) } in
+      let whole : SpellsOpen start.strict (room_of start - 1) (all ∷ []) a.bytes = record {
+        first = a.bytes;
+        second = [];
+        is_first = record { trees = a.trees; spelled = a.spelled; many = a.many; fits = a.fits };
+        is_second = refl;
+        is_whole = sym (append-nil a.bytes);
+      } in
       let b : Behind start.strict room (suc (wanted - 1) ∷ reverse outer) a.rest ys = l.opens a.bytes a.rest ys whole (sym a.front ∙ t) in
       let h = b.spelled in
-      r (front_of_row (wanted - 1) h.is_first.trees h.first h.second a.rest ys h.is_first.spelled h.is_first.many h.is_first.fits (b.front ∙ ap (λ z. z ++ a.rest) h.is_whole))
+      r (front_of_row (wanted - 1) h.is_first.trees h.first h.second a.rest ys h.is_first.spelled h.is_first.many h.is_first.fits
+      (b.front ∙ ap (λ z. z ++ a.rest) h.is_whole))
 
-  first_wrong : 0 < wanted → (e : Error) (known k : Option (List ℕ)) → Consumes known k w.taken → RefusedFor start.strict (UnpassedFor lends start.strict) any_row room e k → RowRefusedFor start.strict (UnpassedFor lends start.strict) any_row (room_of start - 1) all e known
+  first_wrong : 0 < wanted → (e : Error) (known k : Option (List ℕ)) → Consumes known k w.taken
+      → RefusedFor start.strict (UnpassedFor lends start.strict) any_row room e k
+      → RowRefusedFor start.strict (UnpassedFor lends start.strict) any_row (room_of start - 1) all e known
   unfolding RefusedFor RowRefusedFor
   first_wrong s e None k t r = tt
   first_wrong s e (Some xs) None t r = absurd t
@@ -218,7 +285,9 @@ module _ {R C : Type 0} (g : Ghosts R) (lends : Bool) (all : ℕ) (start now : D
         | inr p ↦ absurd p.1
       ]
 
-  pub wants_refused : (new : Deserializer R C) (e : Error) → 0 < wanted → new.failed ≡ true → Stays g now new → Explains e (faults_of g now) (faults_of g new) (Refuses (SpellsAs start.strict) (Readable any_tree) room (left g now)) → SkipsRow g (room_of start - 1) all start new (Err e)
+  pub wants_refused : (new : Deserializer R C) (e : Error) → 0 < wanted → new.failed ≡ true → Stays g now new
+      → Explains e (faults_of g now) (faults_of g new) (Refuses (SpellsAs start.strict) (Readable any_tree) room (left g now))
+      → SkipsRow g (room_of start - 1) all start new (Err e)
   wants_refused new e s f st x = record {
     ok = tt;
     ready = tt;
@@ -229,12 +298,15 @@ module _ {R C : Type 0} (g : Ghosts R) (lends : Bool) (all : ℕ) (start now : D
     stays = stays_then g start now new w.stays st;
   }
 
-  pub wants_wrong : (new : Deserializer R C) (e : Error) → 0 < wanted → (faults_of g new ≡ faults_of g now → RefusedFor start.strict (UnpassedFor lends start.strict) any_row room e (left g now)) → RefusesRowFirst g (UnpassedFor lends) any_row (room_of start - 1) all start new e
+  pub wants_wrong : (new : Deserializer R C) (e : Error) → 0 < wanted
+      → (faults_of g new ≡ faults_of g now → RefusedFor start.strict (UnpassedFor lends start.strict) any_row room e (left g now))
+      → RefusesRowFirst g (UnpassedFor lends) any_row (room_of start - 1) all start new e
   wants_wrong new e s r = λ k. first_wrong s e (left g start) (left g now) w.takes (r (k ∙ sym w.sound))
 
   -- ---- a head was taken
 
-  module _ (ready mid : Deserializer R C) (same : ready ≡ record now { failed = false }) (some : 0 < wanted) (p : Marker × Head) (h : ReadsHead g ready mid (Ok p)) where
+  module _ (ready mid : Deserializer R C) (same : ready ≡ record now { failed = false }) (some : 0 < wanted) (p : Marker × Head)
+      (h : ReadsHead g ready mid (Ok p)) where
     heads : Consumes (left g now) (left g mid) h.ok.bytes
     heads = subst (λ d. Consumes (left g d) (left g mid) h.ok.bytes) same h.ok.takes
 
@@ -244,8 +316,10 @@ module _ {R C : Type 0} (g : Ghosts R) (lends : Bool) (all : ℕ) (start now : D
     sound_mid : faults_of g mid ≡ faults_of g now
     sound_mid = subst (λ d. faults_of g mid ≡ faults_of g d) same h.sound
 
-    leads_to : {room' : ℕ} {counts b : List ℕ} → LeadsBy lends start.strict room (suc (wanted - 1) ∷ reverse outer) room' counts b → LeadsBy lends start.strict room (wanted ∷ reverse outer) room' counts b
-    leads_to {room'} {counts} {b} l = let one : suc (wanted - 1) ≡ wanted = omega (arith, some) in subst (λ t. LeadsBy lends start.strict room (t ∷ reverse outer) room' counts b) one l
+    leads_to : {room' : ℕ} {counts b : List ℕ} → LeadsBy lends start.strict room (suc (wanted - 1) ∷ reverse outer) room' counts b
+        → LeadsBy lends start.strict room (wanted ∷ reverse outer) room' counts b
+    leads_to {room'} {counts} {b} l = let one : suc (wanted - 1) ≡ wanted = omega (arith, some)
+        in subst (λ t. LeadsBy lends start.strict room (t ∷ reverse outer) room' counts b) one l
 
     -- reading is as strict as it was at first
     as_strict : ready.strict ≡ start.strict
@@ -255,40 +329,53 @@ module _ {R C : Type 0} (g : Ghosts R) (lends : Bool) (all : ℕ) (start now : D
     is_head = subst (λ z. heads_of z p.1 h.ok.bytes) as_strict h.ok.is_head
 
     -- a leaf was passed over
-    pub wants_leaf : (new : Deserializer R C) (wanted' : ℕ) → wanted' ≡ wanted - 1 → ((q : Bool × ℕ) → p.1 ≡ parts_head q.0 q.1 → ⊥) → Passes (content_len p.1) (g.ahead mid.reader) (g.ahead new.reader) → new.kept ≡ mid.kept → new.failed ≡ mid.failed → faults_of g new ≡ faults_of g mid → Stays g mid new
+    pub wants_leaf : (new : Deserializer R C) (wanted' : ℕ) → wanted' ≡ wanted - 1 → ((q : Bool × ℕ) → p.1 ≡ parts_head q.0 q.1 → ⊥)
+        → Passes (content_len p.1) (g.ahead mid.reader) (g.ahead new.reader) → new.kept ≡ mid.kept → new.failed ≡ mid.failed
+        → faults_of g new ≡ faults_of g mid → Stays g mid new
         → Wants g lends all start new room wanted' outer
     wants_leaf new wanted' q n c k f s st =
         let clean : new.kept ≡ Nothing = k ∙ h.clean in
         let first : Consumes (left g now) (g.ahead mid.reader) h.ok.bytes = rw (← (bare g mid h.clean)) heads in
-        let l = leads_message start.strict (UnpassedFor lends start.strict) room (wanted - 1) (reverse outer) (leaf_of p.1 c.bytes) (h.ok.bytes ++ c.bytes) (leaf_spelled start.strict p.1 h.ok.bytes c.bytes n is_head c.long c.are_bytes) (omega (arith, leaf_flat p.1 c.bytes, w.some)) in
-        rw q (step new (h.ok.bytes ++ c.bytes) room (wanted - 1) outer (rw (bare g new clean) (Consumes-trans _ _ _ _ _ first c.taken)) (leads_to l) w.some refl (λ z. omega (arith, some)) (f ∙ h.failed) clean (s ∙ sound_mid) (stays_then g now mid new stays_mid st))
+        let l = leads_message start.strict (UnpassedFor lends start.strict) room (wanted - 1) (reverse outer) (leaf_of p.1 c.bytes) (h.ok.bytes ++ c.bytes)
+        (leaf_spelled start.strict p.1 h.ok.bytes c.bytes n is_head c.long c.are_bytes) (omega (arith, leaf_flat p.1 c.bytes, w.some)) in
+        rw q (step new (h.ok.bytes ++ c.bytes) room (wanted - 1) outer (rw (bare g new clean) (Consumes-trans _ _ _ _ _ first c.taken)) (leads_to l) w.some
+        refl (λ z. omega (arith, some)) (f ∙ h.failed) clean (s ∙ sound_mid) (stays_then g now mid new stays_mid st))
 
     -- an empty list or map
-    pub wants_empty : (is_map : Bool) (len wanted' : ℕ) → wanted' ≡ wanted - 1 → p.1 ≡ parts_head is_map len → parts_count is_map len ≡ 0 → 1 < room → Wants g lends all start mid room wanted' outer
+    pub wants_empty : (is_map : Bool) (len wanted' : ℕ) → wanted' ≡ wanted - 1 → p.1 ≡ parts_head is_map len → parts_count is_map len ≡ 0 → 1 < room
+        → Wants g lends all start mid room wanted' outer
     wants_empty is_map len wanted' q i z r =
         let down : suc (room - 1) ≡ room = omega (arith, r) in
         let head = subst (λ t. heads_of start.strict t h.ok.bytes) i is_head in
         let l = leads_in start.strict (UnpassedFor lends start.strict) is_map len (room - 1) (wanted - 1) (reverse outer) h.ok.bytes head in
         let o = leads_out start.strict (UnpassedFor lends start.strict) (room - 1) ((wanted - 1) ∷ reverse outer) (omega (arith, r)) in
-        let l0 = subst (λ t. LeadsBy lends start.strict (suc (room - 1)) (suc (wanted - 1) ∷ reverse outer) (room - 1) (t ∷ (wanted - 1) ∷ reverse outer) h.ok.bytes) z l in
-        let both = leads_then start.strict (UnpassedFor lends start.strict) (suc (room - 1)) (suc (wanted - 1) ∷ reverse outer) (room - 1) (0 ∷ (wanted - 1) ∷ reverse outer) (suc (room - 1)) ((wanted - 1) ∷ reverse outer) h.ok.bytes [] l0 o in
+        let l0 = subst (λ t. LeadsBy lends start.strict (suc (room - 1)) (suc (wanted - 1) ∷ reverse outer) (room - 1) (t ∷ (wanted - 1) ∷ reverse outer)
+        h.ok.bytes) z l in
+        let both = leads_then start.strict (UnpassedFor lends start.strict) (suc (room - 1)) (suc (wanted - 1) ∷ reverse outer) (room - 1)
+        (0 ∷ (wanted - 1) ∷ reverse outer) (suc (room - 1)) ((wanted - 1) ∷ reverse outer) h.ok.bytes [] l0 o in
         let l1 = subst (λ t. LeadsBy lends start.strict t (suc (wanted - 1) ∷ reverse outer) t ((wanted - 1) ∷ reverse outer) (h.ok.bytes ++ [])) down both in
-        let l2 = subst (λ t. LeadsBy lends start.strict room (suc (wanted - 1) ∷ reverse outer) room ((wanted - 1) ∷ reverse outer) t) (append-nil h.ok.bytes) l1 in
+        let l2 = subst (λ t. LeadsBy lends start.strict room (suc (wanted - 1) ∷ reverse outer) room ((wanted - 1) ∷ reverse outer) t)
+        (append-nil h.ok.bytes) l1 in
         rw q (step mid h.ok.bytes room (wanted - 1) outer heads (leads_to l2) w.some refl (λ z. omega (arith, some)) h.failed h.clean sound_mid stays_mid)
 
     -- a list or a map that isn't empty
-    pub wants_in : (is_map : Bool) (len n room' wanted' : ℕ) (outer' : List ℕ) → n ≡ wanted - 1 → room' ≡ room - 1 → p.1 ≡ parts_head is_map len → wanted' ≡ parts_count is_map len → outer' ≡ outer ++ (n ∷ []) → 1 < room → Wants g lends all start mid room' wanted' outer'
+    pub wants_in : (is_map : Bool) (len n room' wanted' : ℕ) (outer' : List ℕ) → n ≡ wanted - 1 → room' ≡ room - 1 → p.1 ≡ parts_head is_map len
+        → wanted' ≡ parts_count is_map len → outer' ≡ outer ++ (n ∷ []) → 1 < room → Wants g lends all start mid room' wanted' outer'
     wants_in is_map len n room' wanted' outer' q d i c o r =
         let down : suc (room - 1) ≡ room = omega (arith, r) in
         let turned : reverse outer' ≡ (wanted - 1) ∷ reverse outer = ap reverse o ∙ reverse-append outer (n ∷ []) ∙ ap (λ t. t ∷ reverse outer) q in
         let long : length outer' ≡ length outer + 1 = ap length o ∙ length-append outer (n ∷ []) in
         let head = subst (λ t. heads_of start.strict t h.ok.bytes) i is_head in
         let l = leads_in start.strict (UnpassedFor lends start.strict) is_map len (room - 1) (wanted - 1) (reverse outer) h.ok.bytes head in
-        let l1 = subst (λ t. LeadsBy lends start.strict t (suc (wanted - 1) ∷ reverse outer) (room - 1) (parts_count is_map len ∷ (wanted - 1) ∷ reverse outer) h.ok.bytes) down l in
-        let l2 = subst (λ t. LeadsBy lends start.strict room (suc (wanted - 1) ∷ reverse outer) t (parts_count is_map len ∷ (wanted - 1) ∷ reverse outer) h.ok.bytes) (sym d) l1 in
-        let l3 = subst (λ t. LeadsBy lends start.strict room (suc (wanted - 1) ∷ reverse outer) room' (t ∷ (wanted - 1) ∷ reverse outer) h.ok.bytes) (sym c) l2 in
+        let l1 = subst (λ t. LeadsBy lends start.strict t (suc (wanted - 1) ∷ reverse outer) (room - 1)
+        (parts_count is_map len ∷ (wanted - 1) ∷ reverse outer) h.ok.bytes) down l in
+        let l2 = subst (λ t. LeadsBy lends start.strict room (suc (wanted - 1) ∷ reverse outer) t (parts_count is_map len ∷ (wanted - 1) ∷ reverse outer)
+        h.ok.bytes) (sym d) l1 in
+        let l3 = subst (λ t. LeadsBy lends start.strict room (suc (wanted - 1) ∷ reverse outer) room' (t ∷ (wanted - 1) ∷ reverse outer) h.ok.bytes) (sym c)
+        l2 in
         let l4 = subst (λ t. LeadsBy lends start.strict room (suc (wanted - 1) ∷ reverse outer) room' (wanted' ∷ t) h.ok.bytes) (sym turned) l3 in
-        step mid h.ok.bytes room' wanted' outer' heads (leads_to l4) (omega (arith, d, r)) (omega (arith, d, r, long)) (λ z. omega (arith, some)) h.failed h.clean sound_mid stays_mid
+        step mid h.ok.bytes room' wanted' outer' heads (leads_to l4) (omega (arith, d, r)) (omega (arith, d, r, long)) (λ z. omega (arith, some)) h.failed
+        h.clean sound_mid stays_mid
 
     -- ---- what it opens is refused
 
@@ -297,48 +384,70 @@ module _ {R C : Type 0} (g : Ghosts R) (lends : Bool) (all : ℕ) (start now : D
 
     -- there is no room for it
     pub deep_refused : (is_map : Bool) (len : ℕ) (e : Error) → p.1 ≡ parts_head is_map len → room ≤ 1 → SkipsRow g (room_of start - 1) all start mid (Err e)
-    deep_refused is_map len e i r = wants_refused mid e some h.failed stays_mid (λ _ _. parts_refused start.strict is_map (Readable any_tree) len room (left g now) (left g mid) h.ok.bytes heads (head_is is_map len i) (none_fits start.strict room (parts_count is_map len) r (left g mid)))
+    deep_refused is_map len e i r = wants_refused mid e some h.failed stays_mid
+        (λ _ _. parts_refused start.strict is_map (Readable any_tree) len room (left g now) (left g mid) h.ok.bytes heads (head_is is_map len i)
+        (none_fits start.strict room (parts_count is_map len) r (left g mid)))
 
-    pub deep_wrong : (is_map : Bool) (len : ℕ) → p.1 ≡ parts_head is_map len → room ≤ 1 → RefusesRowFirst g (UnpassedFor lends) any_row (room_of start - 1) all start mid errors.DepthLimitExceeded
-    deep_wrong is_map len i r = wants_wrong mid errors.DepthLimitExceeded some (λ _. wrong_deep start.strict (UnpassedFor lends start.strict) any_row (unpassed lends start.strict) room is_map len (left g now) (left g mid) h.ok.bytes heads (head_is is_map len i) (omega (arith, r, w.some)))
+    pub deep_wrong : (is_map : Bool) (len : ℕ) → p.1 ≡ parts_head is_map len → room ≤ 1
+        → RefusesRowFirst g (UnpassedFor lends) any_row (room_of start - 1) all start mid errors.DepthLimitExceeded
+    deep_wrong is_map len i r = wants_wrong mid errors.DepthLimitExceeded some
+        (λ _. wrong_deep start.strict (UnpassedFor lends start.strict) any_row (unpassed lends start.strict) room is_map len (left g now) (left g mid)
+        h.ok.bytes heads (head_is is_map len i) (omega (arith, r, w.some)))
 
     -- there is no memory for how many are still wanted outside of it
-    pub memory_wrong : (is_map : Bool) (len : ℕ) → p.1 ≡ parts_head is_map len → 0 < parts_count is_map len → RefusesRowFirst g (UnpassedFor lends) any_row (room_of start - 1) all start mid errors.OutOfMemory
-    memory_wrong is_map len i s = wants_wrong mid errors.OutOfMemory some (λ _. wrong_memory start.strict (UnpassedFor lends start.strict) any_row room (left g now) (left g mid) h.ok.bytes (parts_head is_map len) heads (head_is is_map len i)
+    pub memory_wrong : (is_map : Bool) (len : ℕ) → p.1 ≡ parts_head is_map len → 0 < parts_count is_map len
+        → RefusesRowFirst g (UnpassedFor lends) any_row (room_of start - 1) all start mid errors.OutOfMemory
+    memory_wrong is_map len i s = wants_wrong mid errors.OutOfMemory some
+        (λ _. wrong_memory start.strict (UnpassedFor lends start.strict) any_row room (left g now) (left g mid) h.ok.bytes (parts_head is_map len) heads
+        (head_is is_map len i)
         (λ xs m t. inr (record { parts = record { is_map = is_map; len = len; marker = m; stands = t }; some = some_parts is_map len s })))
 
     -- the content of a leaf couldn't be passed over
-    pub leaf_refused : (new : Deserializer R C) (e : Error) → Explains e (g.faults mid.reader) (g.faults new.reader) (IsShort (content_len p.1) (g.ahead mid.reader)) → new.failed ≡ mid.failed → Stays g mid new → SkipsRow g (room_of start - 1) all start new (Err e)
+    pub leaf_refused : (new : Deserializer R C) (e : Error)
+        → Explains e (g.faults mid.reader) (g.faults new.reader) (IsShort (content_len p.1) (g.ahead mid.reader)) → new.failed ≡ mid.failed
+        → Stays g mid new → SkipsRow g (room_of start - 1) all start new (Err e)
     leaf_refused new e x f st = wants_refused new e some (f ∙ h.failed) (stays_then g now mid new stays_mid st) (λ o k.
         let short : IsShort (content_len p.1) (left g mid) = rw (bare g mid h.clean) (x o (k ∙ sym sound_mid)) in
-        refuses_short start.strict (Readable any_tree) room (content_len p.1) (left g now) (left g mid) h.ok.bytes p.1 heads is_head short (λ m r q. subst (λ z. content_len z ≤ length (content_of m)) q (content_fills m)))
+        refuses_short start.strict (Readable any_tree) room (content_len p.1) (left g now) (left g mid) h.ok.bytes p.1 heads is_head short
+        (λ m r q. subst (λ z. content_len z ≤ length (content_of m)) q (content_fills m)))
 
-    pub leaf_wrong : (new : Deserializer R C) (e : Error) → (lends ≡ true → e ≢ errors.OutOfMemory) → ((q : Bool × ℕ) → p.1 ≡ parts_head q.0 q.1 → ⊥) → Explains e (g.faults mid.reader) (g.faults new.reader) (IsShort (content_len p.1) (g.ahead mid.reader))
-        → Explains e (g.faults mid.reader) (g.faults new.reader) (IsDataEnd e) → RefusesRowFirst g (UnpassedFor lends) any_row (room_of start - 1) all start new e
+    pub leaf_wrong : (new : Deserializer R C) (e : Error) → (lends ≡ true → e ≢ errors.OutOfMemory) → ((q : Bool × ℕ) → p.1 ≡ parts_head q.0 q.1 → ⊥)
+        → Explains e (g.faults mid.reader) (g.faults new.reader) (IsShort (content_len p.1) (g.ahead mid.reader))
+        → Explains e (g.faults mid.reader) (g.faults new.reader) (IsDataEnd e)
+        → RefusesRowFirst g (UnpassedFor lends) any_row (room_of start - 1) all start new e
     leaf_wrong new e u n s d = wants_wrong new e some (λ k. elim (is_memory e) [
-      | inl m ↦ subst (λ z. RefusedFor start.strict (UnpassedFor lends start.strict) any_row room z (left g now)) (sym m) (wrong_memory start.strict (UnpassedFor lends start.strict) any_row room (left g now) (left g mid) h.ok.bytes p.1 heads is_head (λ xs k t. inl (unlent lends (λ q. u q m), record { head = p.1; marker = k; stands = t; no_parts = n })))
+      | inl m ↦ subst (λ z. RefusedFor start.strict (UnpassedFor lends start.strict) any_row room z (left g now)) (sym m)
+          (wrong_memory start.strict (UnpassedFor lends start.strict) any_row room (left g now) (left g mid) h.ok.bytes p.1 heads is_head
+          (λ xs k t. inl (unlent lends (λ q. u q m), record { head = p.1; marker = k; stands = t; no_parts = n })))
       | inr o ↦
           let same = k ∙ sym sound_mid in
           let short : IsShort (content_len p.1) (left g mid) = rw (bare g mid h.clean) (s o same) in
-          wrong_content start.strict (UnpassedFor lends start.strict) any_row (unpassed lends start.strict) room (left g now) (left g mid) h.ok.bytes p.1 e heads is_head short (d o same)
+          wrong_content start.strict (UnpassedFor lends start.strict) any_row (unpassed lends start.strict) room (left g now) (left g mid) h.ok.bytes p.1 e
+          heads is_head short (d o same)
     ])
 
   -- ---- no head could be taken
 
-  module _ (ready mid : Deserializer R C) (e : Error) (same : ready ≡ record now { failed = false }) (some : 0 < wanted) (h : ReadsHead g ready mid (Err e)) where
+  module _ (ready mid : Deserializer R C) (e : Error) (same : ready ≡ record now { failed = false }) (some : 0 < wanted)
+      (h : ReadsHead g ready mid (Err e)) where
     is_ready : ready.failed ≡ false
     is_ready = ap (λ d. d.failed) same
 
     pub none_refused : SkipsRow g (room_of start - 1) all start mid (Err e)
     none_refused =
         let s = subst (λ d. Stays g d mid) same h.stays in
-        let x = subst (λ z. Explains e (faults_of g now) (faults_of g mid) (NoMessage z (left g now))) w.stays.strict (subst (λ d. Explains e (faults_of g d) (faults_of g mid) (NoMessage d.strict (left g d))) same (h.err is_ready)) in
-        wants_refused mid e some h.failed (record { config = s.config; room = s.room; strict = s.strict; place = s.place }) (λ o k. refuses_none start.strict (Readable any_tree) room (left g now) (x o k))
+        let x = subst (λ z. Explains e (faults_of g now) (faults_of g mid) (NoMessage z (left g now))) w.stays.strict
+        (subst (λ d. Explains e (faults_of g d) (faults_of g mid) (NoMessage d.strict (left g d))) same (h.err is_ready)) in
+        wants_refused mid e some h.failed (record { config = s.config; room = s.room; strict = s.strict; place = s.place })
+        (λ o k. refuses_none start.strict (Readable any_tree) room (left g now) (x o k))
 
     pub none_wrong : RefusesRowFirst g (UnpassedFor lends) any_row (room_of start - 1) all start mid e
     none_wrong =
-        let x = subst (λ z. EndsExactly z (faults_of g now) (faults_of g mid) (left g now) e) w.stays.strict (subst (λ d. EndsExactly d.strict (faults_of g d) (faults_of g mid) (left g d) e) same (h.ends is_ready)) in
+        let x = subst (λ z. EndsExactly z (faults_of g now) (faults_of g mid) (left g now) e) w.stays.strict
+        (subst (λ d. EndsExactly d.strict (faults_of g d) (faults_of g mid) (left g d) e) same (h.ends is_ready)) in
         wants_wrong mid e some (λ k. SkipLoop_none (left g now) k x)
       where
-        SkipLoop_none : (known : Option (List ℕ)) → faults_of g mid ≡ faults_of g now → EndsExactly start.strict (faults_of g now) (faults_of g mid) known e → RefusedFor start.strict (UnpassedFor lends start.strict) any_row room e known
-        SkipLoop_none known k x = wrong_none start.strict (UnpassedFor lends start.strict) any_row (unpassed lends start.strict) room (faults_of g now) (faults_of g mid) known e k x
+        SkipLoop_none : (known : Option (List ℕ)) → faults_of g mid ≡ faults_of g now → EndsExactly start.strict (faults_of g now) (faults_of g mid) known e
+            → RefusedFor start.strict (UnpassedFor lends start.strict) any_row room e known
+        SkipLoop_none known k x = wrong_none start.strict (UnpassedFor lends start.strict) any_row (unpassed lends start.strict) room (faults_of g now)
+            (faults_of g mid) known e k x

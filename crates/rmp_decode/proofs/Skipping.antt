@@ -1,5 +1,36 @@
 -- What passing over a message says.
-use Rattle.std.proofs.Common.{◌≡◌, ◌∙◌, sym, ap, subst, refl, ℕ, zero, suc, ◌-◌, ◌*◌, ◌<◌, ◌≤◌, max, arith, List, [], ◌∷◌, ◌++◌, length, Option, None, Some, Bool, true, false, Result, Ok, Err, append_assoc}
+use Rattle.std.proofs.Common.{
+  ◌≡◌,
+  ◌∙◌,
+  sym,
+  ap,
+  subst,
+  refl,
+  ℕ,
+  zero,
+  suc,
+  ◌-◌,
+  ◌*◌,
+  ◌<◌,
+  ◌≤◌,
+  max,
+  arith,
+  List,
+  [],
+  ◌∷◌,
+  ◌++◌,
+  length,
+  Option,
+  None,
+  Some,
+  Bool,
+  true,
+  false,
+  Result,
+  Ok,
+  Err,
+  append_assoc,
+}
 use Rattle.std.proofs.lemmas.List.{append-nil}
 use Rattle.std.specs.Io.KnownBytes.{Consumes}
 use Rattle.std.proofs.KnownBytes.{Consumes-trans}
@@ -8,7 +39,30 @@ use Rattle.rmp_wire.specs.declared.head.Head.TheVariants.{Nil, Truth, Whole, F32
 use Rattle.rmp_wire.specs.declared.marker.Marker.{Marker}
 use Rattle.rmp_wire.specs.declared.source.Source.{Ghosts}
 use Rattle.rmp_wire.specs.Canonical.{heads_of, SpellsAs}
-use Rattle.rmp_wire.specs.Msg.{Msg, nil, truth, whole, float32, float64, text, bin, list, map, extension, Msgs, no_items, item, Pairs, no_pairs, pair, count, count_pairs, depth, depth_all, depth_pairs}
+use Rattle.rmp_wire.specs.Msg.{
+  Msg,
+  nil,
+  truth,
+  whole,
+  float32,
+  float64,
+  text,
+  bin,
+  list,
+  map,
+  extension,
+  Msgs,
+  no_items,
+  item,
+  Pairs,
+  no_pairs,
+  pair,
+  count,
+  count_pairs,
+  depth,
+  depth_all,
+  depth_pairs,
+}
 use Rattle.rmp_wire.specs.Sources.{IsShort}
 use Rattle.rmp_wire.specs.Spelling.{PairsSpelledBy, IsBytes, head_of}
 use Rattle.rmp_wire.proofs.Strict.{heads_apart_as}
@@ -59,17 +113,36 @@ no_bytes (b ∷ s) e = absurd (omega arith)
 alone : (w : Bool) (h : Head) (b s : List ℕ) → heads_of w h b → length s ≡ 0 → heads_of w h (b ++ s)
 alone w h b s i l = subst (heads_of w h) (sym (append-nil b) ∙ ap (λ z. b ++ z) (sym (no_bytes s l))) i
 
-pub leaf_spelled : (w : Bool) (h : Head) (b s : List ℕ) → ((p : Bool × ℕ) → h ≡ parts_head p.0 p.1 → ⊥) → heads_of w h b → length s ≡ content_len h → IsBytes s → SpellsAs w (b ++ s) (leaf_of h s)
+pub leaf_spelled : (w : Bool) (h : Head) (b s : List ℕ) → ((p : Bool × ℕ) → h ≡ parts_head p.0 p.1 → ⊥) → heads_of w h b → length s ≡ content_len h
+    → IsBytes s → SpellsAs w (b ++ s) (leaf_of h s)
 leaf_spelled w Nil b s n i l a = alone w Nil b s i l
 leaf_spelled w (Truth t) b s n i l a = alone w (Truth t) b s i l
 leaf_spelled w (Whole z) b s n i l a = alone w (Whole z) b s i l
 leaf_spelled w (F32Bits k) b s n i l a = alone w (F32Bits k) b s i l
 leaf_spelled w (F64Bits k) b s n i l a = alone w (F64Bits k) b s i l
-leaf_spelled w (Text k) b s n i l a = record { first = b; second = s; is_first = subst (λ z. heads_of w (Text z) b) (sym l) i; is_second = (refl, a); is_whole = refl }
-leaf_spelled w (Bin k) b s n i l a = record { first = b; second = s; is_first = subst (λ z. heads_of w (Bin z) b) (sym l) i; is_second = (refl, a); is_whole = refl }
+leaf_spelled w (Text k) b s n i l a = record {
+  first = b;
+  second = s;
+  is_first = subst (λ z. heads_of w (Text z) b) (sym l) i;
+  is_second = (refl, a);
+  is_whole = refl;
+}
+leaf_spelled w (Bin k) b s n i l a = record {
+  first = b;
+  second = s;
+  is_first = subst (λ z. heads_of w (Bin z) b) (sym l) i;
+  is_second = (refl, a);
+  is_whole = refl;
+}
 leaf_spelled w (Array k) b s n i l a = absurd (n (false, k) refl)
 leaf_spelled w (Map k) b s n i l a = absurd (n (true, k) refl)
-leaf_spelled w (Ext k tag) b s n i l a = record { first = b; second = s; is_first = subst (λ z. heads_of w (Ext z tag) b) (sym l) i; is_second = (refl, a); is_whole = refl }
+leaf_spelled w (Ext k tag) b s n i l a = record {
+  first = b;
+  second = s;
+  is_first = subst (λ z. heads_of w (Ext z tag) b) (sym l) i;
+  is_second = (refl, a);
+  is_whole = refl;
+}
 
 pub content_fills : (m : Msg) → content_len (head_of m) ≤ length (content_of m)
 content_fills nil = omega arith
@@ -104,7 +177,14 @@ turned w (pair k v ps) b s = record {
   first = s.first;
   second = s.second;
   is_first = s.is_first;
-  is_second = record { first = s.is_second.first; second = s.is_second.second; is_first = s.is_second.is_first; is_second = turned w ps s.is_second.second s.is_second.is_second; is_whole = s.is_second.is_whole };
+  is_second = record {
+    first = s.is_second.first;
+    second = s.is_second.second;
+    is_first = s.is_second.is_first;
+    is_second = turned w ps s.is_second.second
+        s.is_second.is_second;
+    is_whole = s.is_second.is_whole;
+  };
   is_whole = s.is_whole;
 }
 
@@ -129,7 +209,13 @@ paired w (item k (item v ms)) (suc n) b c s =
         first = s.first;
         second = s.second;
         is_first = s.is_first;
-        is_second = record { first = s.is_second.first; second = s.is_second.second; is_first = s.is_second.is_first; is_second = r.spelled; is_whole = s.is_second.is_whole };
+        is_second = record {
+          first = s.is_second.first;
+          second = s.is_second.second;
+          is_first = s.is_second.is_first;
+          is_second = r.spelled;
+          is_whole = s.is_second.is_whole;
+        };
         is_whole = s.is_whole;
       };
     }
@@ -140,7 +226,8 @@ pub record Nest (w : Bool) (ms : Msgs) (bytes : List ℕ) : Type 0 where
   pub spelled : SpellsAs w bytes tree
   pub deep : depth tree ≡ suc (depth_all ms)
 
-pub nest_of : (w is_map : Bool) (n : ℕ) (ms : Msgs) (head bytes : List ℕ) → heads_of w (parts_head is_map n) head → SpellsRow (SpellsAs w) bytes ms → count ms ≡ parts_count is_map n → Nest w ms (head ++ bytes)
+pub nest_of : (w is_map : Bool) (n : ℕ) (ms : Msgs) (head bytes : List ℕ) → heads_of w (parts_head is_map n) head → SpellsRow (SpellsAs w) bytes ms
+    → count ms ≡ parts_count is_map n → Nest w ms (head ++ bytes)
 nest_of w true n ms head bytes i s c =
     let p = paired w ms n bytes c s in
     record {
@@ -149,9 +236,20 @@ nest_of w true n ms head bytes i s c =
       deep = ap suc (sym (depth-in_turn p.pairs) ∙ ap depth_all (sym p.is));
     }
 nest_of w false n ms head bytes i s c =
-    record { tree = list ms; spelled = record { first = head; second = bytes; is_first = subst (λ z. heads_of w (Array z) head) (sym c) i; is_second = in_list w ms bytes s; is_whole = refl }; deep = refl }
+    record {
+      tree = list ms;
+      spelled = record {
+        first = head;
+        second = bytes;
+        is_first = subst (λ z. heads_of w (Array z) head) (sym c) i;
+        is_second = in_list w ms bytes s;
+        is_whole = refl;
+      };
+      deep = refl;
+    }
 
-parts_of : (w is_map : Bool) (m : Msg) (n room : ℕ) (a x y : List ℕ) → SpellsAs w a m → head_of m ≡ parts_head is_map n → depth m < room → ((d c : List ℕ) → a ≡ d ++ c → heads_of w (head_of m) d → c ++ x ≡ y) → BeginsRow (SpellsAs w) any_row (room - 1) (parts_count is_map n) y
+parts_of : (w is_map : Bool) (m : Msg) (n room : ℕ) (a x y : List ℕ) → SpellsAs w a m → head_of m ≡ parts_head is_map n → depth m < room
+    → ((d c : List ℕ) → a ≡ d ++ c → heads_of w (head_of m) d → c ++ x ≡ y) → BeginsRow (SpellsAs w) any_row (room - 1) (parts_count is_map n) y
 parts_of w true nil n room a x y s e d f = absurd (cc)
 parts_of w true (truth t) n room a x y s e d f = absurd (cc)
 parts_of w true (whole z) n room a x y s e d f = absurd (cc)
@@ -182,25 +280,37 @@ parts_of w false (text t) n room a x y s e d f = absurd (cc)
 parts_of w false (bin t) n room a x y s e d f = absurd (cc)
 parts_of w false (list ms) n room a x y s e d f =
     let same : count ms ≡ n = cc in
-    record { bytes = s.second; rest = x; trees = ms; front = sym (f s.first s.second s.is_whole s.is_first); spelled = listed w ms s.second s.is_second; many = same; fits = omega (arith, d); holds = tt }
+    record {
+      bytes = s.second;
+      rest = x;
+      trees = ms;
+      front = sym (f s.first s.second s.is_whole s.is_first);
+      spelled = listed w ms s.second s.is_second;
+      many = same;
+      fits = omega (arith, d);
+      holds = tt;
+    }
 parts_of w false (map ps) n room a x y s e d f = absurd (cc)
 parts_of w false (extension tag t) n room a x y s e d f = absurd (cc)
 
 -- where no row stands behind the head, no message stands before it
-pub parts_refused : (w is_map : Bool) (P : Msg → Type 0) (n room : ℕ) (known k : Option (List ℕ)) (b : List ℕ) → Consumes known k b → heads_of w (parts_head is_map n) b → RefusesRow (SpellsAs w) any_row (room - 1) (parts_count is_map n) k → Refuses (SpellsAs w) P room known
+pub parts_refused : (w is_map : Bool) (P : Msg → Type 0) (n room : ℕ) (known k : Option (List ℕ)) (b : List ℕ) → Consumes known k b
+    → heads_of w (parts_head is_map n) b → RefusesRow (SpellsAs w) any_row (room - 1) (parts_count is_map n) k → Refuses (SpellsAs w) P room known
 unfolding RefusesRow
 parts_refused w is_map P n room known k b t i r = refuses_by w P room known k b t (λ ys e a.
     let split : a.bytes ++ a.rest ≡ b ++ ys = sym a.front in
     let u = same_head _ a.tree (parts_head is_map n) a.bytes b a.rest ys a.spelled i split in
     let none : BeginsRow (SpellsAs w) any_row (room - 1) (parts_count is_map n) ys → ⊥ = rw e at r in
     none (parts_of w is_map a.tree n room a.bytes a.rest ys a.spelled u.0 a.fits
-    (λ d c q j. (heads_apart_as w (head_of a.tree) (parts_head is_map n) d b (c ++ a.rest) ys j i (sym (append_assoc d c a.rest) ∙ ap (λ z. z ++ a.rest) (sym q) ∙ split)).2)))
+    (λ d c q j. (heads_apart_as w (head_of a.tree) (parts_head is_map n) d b (c ++ a.rest) ys j i
+    (sym (append_assoc d c a.rest) ∙ ap (λ z. z ++ a.rest) (sym q) ∙ split)).2)))
 
 -- ---- the answers
 
 module _ {R C : Type 0} (g : Ghosts R) (old mid new : Deserializer R C) (p : Marker × Head) (h : ReadsHead g old mid (Ok p)) where
   -- a leaf was passed over
-  pub skipped_leaf : ((q : Bool × ℕ) → p.1 ≡ parts_head q.0 q.1 → ⊥) → Passes (content_len p.1) (g.ahead mid.reader) (g.ahead new.reader) → new.kept ≡ mid.kept → new.failed ≡ false → faults_of g new ≡ faults_of g mid → Stays g mid new → Lawful g any_tree old new (Ok tt)
+  pub skipped_leaf : ((q : Bool × ℕ) → p.1 ≡ parts_head q.0 q.1 → ⊥) → Passes (content_len p.1) (g.ahead mid.reader) (g.ahead new.reader)
+      → new.kept ≡ mid.kept → new.failed ≡ false → faults_of g new ≡ faults_of g mid → Stays g mid new → Lawful g any_tree old new (Ok tt)
   skipped_leaf n c k f q st =
       let clean : new.kept ≡ Nothing = k ∙ h.clean in
       let first : Consumes (left g old) (g.ahead mid.reader) h.ok.bytes = rw (← (bare g mid h.clean)) h.ok.takes in
@@ -209,7 +319,11 @@ module _ {R C : Type 0} (g : Ghosts R) (old mid new : Deserializer R C) (p : Mar
           bytes = h.ok.bytes ++ c.bytes;
           tree = leaf_of p.1 c.bytes;
           takes = rw (bare g new clean) (Consumes-trans _ _ _ _ _ first c.taken);
-          goes_on = record { more = h.ok.goes_on.more ++ c.bytes; whole = ap (λ z. z ++ c.bytes) h.ok.goes_on.whole ∙ append_assoc (kept_bytes old.kept) h.ok.goes_on.more c.bytes };
+          goes_on = record {
+            more = h.ok.goes_on.more ++ c.bytes;
+            whole = ap (λ z. z ++ c.bytes) h.ok.goes_on.whole
+                ∙ append_assoc (kept_bytes old.kept) h.ok.goes_on.more c.bytes;
+          };
           spelled = leaf_spelled old.strict p.1 h.ok.bytes c.bytes n h.ok.is_head c.long c.are_bytes;
           fits = omega (arith, leaf_flat p.1 c.bytes);
           value = tt;
@@ -224,23 +338,31 @@ module _ {R C : Type 0} (g : Ghosts R) (old mid new : Deserializer R C) (p : Mar
       }
 
   -- its content is cut
-  pub skipped_short : (e : Error) → Explains e (g.faults mid.reader) (g.faults new.reader) (IsShort (content_len p.1) (g.ahead mid.reader)) → new.failed ≡ true → Stays g mid new → Lawful g any_tree old new (Err e)
+  pub skipped_short : (e : Error) → Explains e (g.faults mid.reader) (g.faults new.reader) (IsShort (content_len p.1) (g.ahead mid.reader))
+      → new.failed ≡ true → Stays g mid new → Lawful g any_tree old new (Err e)
   skipped_short e x f st = refused g any_tree old new e h.fresh f (stays_then g old mid new h.stays st) (λ o k.
       let s : IsShort (content_len p.1) (left g mid) = rw (bare g mid h.clean) (x o (k ∙ sym h.sound)) in
-      refuses_short _ (Readable any_tree) _ (content_len p.1) (left g old) (left g mid) h.ok.bytes p.1 h.ok.takes h.ok.is_head s (λ m r q. subst (λ z. content_len z ≤ length (content_of m)) q (content_fills m)))
+      refuses_short _ (Readable any_tree) _ (content_len p.1) (left g old) (left g mid) h.ok.bytes p.1 h.ok.takes h.ok.is_head s
+      (λ m r q. subst (λ z. content_len z ≤ length (content_of m)) q (content_fills m)))
 
   -- a list or a map was passed over
-  pub skipped_nest : (is_map : Bool) (n : ℕ) → p.1 ≡ parts_head is_map n → SkipsRow g (room_of mid - 1) (parts_count is_map n) mid new (Ok tt) → Lawful g any_tree old new (Ok tt)
+  pub skipped_nest : (is_map : Bool) (n : ℕ) → p.1 ≡ parts_head is_map n → SkipsRow g (room_of mid - 1) (parts_count is_map n) mid new (Ok tt)
+      → Lawful g any_tree old new (Ok tt)
   skipped_nest is_map n i s =
       let r = s.ok in
-      let w = nest_of old.strict is_map n r.trees h.ok.bytes r.bytes (subst (λ z. heads_of old.strict z h.ok.bytes) i h.ok.is_head) (subst (λ z. SpellsRow (SpellsAs z) r.bytes r.trees) h.stays.strict r.spelled) r.many in
+      let w = nest_of old.strict is_map n r.trees h.ok.bytes r.bytes (subst (λ z. heads_of old.strict z h.ok.bytes) i h.ok.is_head)
+      (subst (λ z. SpellsRow (SpellsAs z) r.bytes r.trees) h.stays.strict r.spelled) r.many in
       let room : room_of mid ≡ room_of old = ap (λ z. max 1 z) h.stays.room in
       record {
         ok = record {
           bytes = h.ok.bytes ++ r.bytes;
           tree = w.tree;
           takes = Consumes-trans _ _ _ _ _ h.ok.takes r.takes;
-          goes_on = record { more = h.ok.goes_on.more ++ r.bytes; whole = ap (λ z. z ++ r.bytes) h.ok.goes_on.whole ∙ append_assoc (kept_bytes old.kept) h.ok.goes_on.more r.bytes };
+          goes_on = record {
+            more = h.ok.goes_on.more ++ r.bytes;
+            whole = ap (λ z. z ++ r.bytes) h.ok.goes_on.whole
+                ∙ append_assoc (kept_bytes old.kept) h.ok.goes_on.more r.bytes;
+          };
           spelled = w.spelled;
           fits = omega (arith, w.deep, r.fits, room);
           value = tt;
@@ -254,14 +376,18 @@ module _ {R C : Type 0} (g : Ghosts R) (old mid new : Deserializer R C) (p : Mar
         stays = stays_then g old mid new h.stays s.stays;
       }
 
-  pub unskipped_nest : (is_map : Bool) (n : ℕ) (e : Error) → p.1 ≡ parts_head is_map n → SkipsRow g (room_of mid - 1) (parts_count is_map n) mid new (Err e) → Lawful g any_tree old new (Err e)
+  pub unskipped_nest : (is_map : Bool) (n : ℕ) (e : Error) → p.1 ≡ parts_head is_map n → SkipsRow g (room_of mid - 1) (parts_count is_map n) mid new (Err e)
+      → Lawful g any_tree old new (Err e)
   unskipped_nest is_map n e i s = refused g any_tree old new e h.fresh s.failed (stays_then g old mid new h.stays s.stays) (λ o k.
       let room : room_of mid ≡ room_of old = ap (λ z. max 1 z) h.stays.room in
       let r = s.err o (k ∙ sym h.sound) in
-      parts_refused old.strict is_map (Readable any_tree) n (room_of old) (left g old) (left g mid) h.ok.bytes h.ok.takes (subst (λ z. heads_of old.strict z h.ok.bytes) i h.ok.is_head)
-      (subst (λ z. RefusesRow (SpellsAs z) any_row (room_of old - 1) (parts_count is_map n) (left g mid)) h.stays.strict (subst (λ z. RefusesRow (SpellsAs mid.strict) any_row (z - 1) (parts_count is_map n) (left g mid)) room r)))
+      parts_refused old.strict is_map (Readable any_tree) n (room_of old) (left g old) (left g mid) h.ok.bytes h.ok.takes
+      (subst (λ z. heads_of old.strict z h.ok.bytes) i h.ok.is_head)
+      (subst (λ z. RefusesRow (SpellsAs z) any_row (room_of old - 1) (parts_count is_map n) (left g mid)) h.stays.strict
+      (subst (λ z. RefusesRow (SpellsAs mid.strict) any_row (z - 1) (parts_count is_map n) (left g mid)) room r)))
 
-  pub nest : (is_map : Bool) (n : ℕ) (r : Result (Unit {0}) Error) → p.1 ≡ parts_head is_map n → SkipsRow g (room_of mid - 1) (parts_count is_map n) mid new r → Lawful g any_tree old new r
+  pub nest : (is_map : Bool) (n : ℕ) (r : Result (Unit {0}) Error) → p.1 ≡ parts_head is_map n
+      → SkipsRow g (room_of mid - 1) (parts_count is_map n) mid new r → Lawful g any_tree old new r
   nest is_map n (Ok u) i s = skipped_nest is_map n i s
   nest is_map n (Err e) i s = unskipped_nest is_map n e i s
 

@@ -23,7 +23,8 @@ use Rattle.rmp_decode.proofs.AnyReads.{lawful_under, short_text, text_under}
 use Rattle.rmp_decode.proofs.Contents.{text_content, content_refused}
 
 -- a source's fault is want of memory, a fault that is counted, or the end of the input
-pub text_blamed : (n : ℕ) (fault : SourceFault) (before after : ℕ) (known : Option (List ℕ)) (e : Error) → Blames fault before after known n → Blamed fault e → Explains e before after (StartsWithNoText n known)
+pub text_blamed : (n : ℕ) (fault : SourceFault) (before after : ℕ) (known : Option (List ℕ)) (e : Error) → Blames fault before after known n
+    → Blamed fault e → Explains e before after (StartsWithNoText n known)
 text_blamed n Memory before after known e s b = λ m _. absurd (m b)
 text_blamed n (Io cause) before after known e s b = λ _ k. short_text n known (s k).0
 
@@ -32,12 +33,16 @@ as_text true n m t h e = e
 as_text false n m t h e = let u : head_of m ≡ head.Bin (length t) = ap head_of e in absurd (cc)
 
 -- under the head of a text only a text is read
-string_under : (n : ℕ) (m : Msg) → head_of m ≡ head.Text n → Readable (λ k (s : String Global). IsRaw k (string_bytes s)) m → Readable (λ k t. (k ≡ text t) × IsUtf8 t) m
+string_under : (n : ℕ) (m : Msg) → head_of m ≡ head.Text n → Readable (λ k (s : String Global). IsRaw k (string_bytes s)) m
+    → Readable (λ k t. (k ≡ text t) × IsUtf8 t) m
 string_under n m h r = (string_bytes r.0, (as_text r.1.0 n m (string_bytes r.0) h r.1.1, IsUtf8-string_bytes r.0))
 
 -- the bytes behind the head of a text are none
-pub string_refused : {R C : Type 0} (g : Ghosts R) (old mid new : Deserializer R C) (m : Marker) (n : ℕ) (e : Error) → ReadsHead g old mid (Ok (m, head.Text n)) → Explains e (g.faults mid.reader) (g.faults new.reader) (StartsWithNoText n (g.ahead mid.reader)) → new.failed ≡ true → Stays g mid new
+pub string_refused : {R C : Type 0} (g : Ghosts R) (old mid new : Deserializer R C) (m : Marker) (n : ℕ) (e : Error)
+    → ReadsHead g old mid (Ok (m, head.Text n)) → Explains e (g.faults mid.reader) (g.faults new.reader) (StartsWithNoText n (g.ahead mid.reader))
+    → new.failed ≡ true → Stays g mid new
     → Lawful g (λ k (s : String Global). IsRaw k (string_bytes s)) old new (Err e)
 string_refused g old mid new m n e h x d st =
     lawful_under g (λ k t. (k ≡ text t) × IsUtf8 t) (λ k (s : String Global). IsRaw k (string_bytes s)) old mid new (head.Text n) e h.ok (string_under n)
-    (content_refused text_content g (λ k t. (k ≡ text t) × IsUtf8 t) old mid new (m, head.Text n) h n e refl (λ k r. (r.0, r.1.0)) (λ o q. text_under n (g.ahead mid.reader) (x o q)) d st)
+    (content_refused text_content g (λ k t. (k ≡ text t) × IsUtf8 t) old mid new (m, head.Text n) h n e refl (λ k r. (r.0, r.1.0))
+    (λ o q. text_under n (g.ahead mid.reader) (x o q)) d st)

@@ -20,7 +20,8 @@ pub anything : (Q : Msgs → Type 0) (ms : Msgs) → Q ms → Anything ms
 anything Q ms h = tt
 
 -- with one item more behind the others
-pub extend : (P : Msg → Type 0) (Q Q' : Msgs → Type 0) (k : Msg) → ((ms : Msgs) → Q ms → Q' (push ms k)) → (ms : Msgs) → AndThen P Q ms → AndThen P Q' (push ms k)
+pub extend : (P : Msg → Type 0) (Q Q' : Msgs → Type 0) (k : Msg) → ((ms : Msgs) → Q ms → Q' (push ms k)) → (ms : Msgs) → AndThen P Q ms
+    → AndThen P Q' (push ms k)
 extend P Q Q' k f no_items h = absurd h
 extend P Q Q' k f (item m ms) h = (h.0, f ms h.1)
 
@@ -29,7 +30,8 @@ extend_end P k p no_items h = (p, tt)
 extend_end P k p (item m ms) h = absurd h
 
 -- what the items behind the others say, where as many stand before them
-pub walk : {Z : Type 0} (P P' : Msg → Type 0) (Q Q' : Msgs → Type 0) (ts : Msgs) → ((ms : Msgs) → Q ms → Q' (append ms ts) → Z) → (ms : Msgs) → AndThen P Q ms → AndThen P' Q' (append ms ts) → Z
+pub walk : {Z : Type 0} (P P' : Msg → Type 0) (Q Q' : Msgs → Type 0) (ts : Msgs) → ((ms : Msgs) → Q ms → Q' (append ms ts) → Z) → (ms : Msgs)
+    → AndThen P Q ms → AndThen P' Q' (append ms ts) → Z
 walk P P' Q Q' ts f no_items h k = absurd h
 walk P P' Q Q' ts f (item m ms) h k = f ms h.1 k.1
 
@@ -41,21 +43,35 @@ pub lacks : (P : Msg → Type 0) (Q : Msgs → Type 0) (ms : Msgs) → NoMore ms
 lacks P Q no_items h k = k
 lacks P Q (item n ms) h k = absurd h
 
-pub row_narrower : (spells : List ℕ → Msg → Type 0) (P Q : Msgs → Type 0) (room n : ℕ) (known : Option (List ℕ)) → ((ms : Msgs) → Q ms → P ms) → RefusesRow spells P room n known → RefusesRow spells Q room n known
+pub row_narrower : (spells : List ℕ → Msg → Type 0) (P Q : Msgs → Type 0) (room n : ℕ) (known : Option (List ℕ)) → ((ms : Msgs) → Q ms → P ms)
+    → RefusesRow spells P room n known → RefusesRow spells Q room n known
 unfolding RefusesRow
 row_narrower spells P Q room n None f r = tt
-row_narrower spells P Q room n (Some xs) f r = λ a. r (record { bytes = a.bytes; rest = a.rest; trees = a.trees; front = a.front; spelled = a.spelled; many = a.many; fits = a.fits; holds = f a.trees a.holds })
+row_narrower spells P Q room n (Some xs) f r = λ a. r
+    (record {
+      bytes = a.bytes;
+      rest = a.rest;
+      trees = a.trees;
+      front = a.front;
+      spelled = a.spelled;
+      many = a.many;
+      fits = a.fits;
+      holds = f a.trees a.holds;
+    })
 
 -- a type that wants more of the parts
-pub parts_narrower : {R C V W : Type 0} (g : Ghosts R) (Q : V → Msgs → Type 0) (Q' : W → Msgs → Type 0) (old new : SeqAccess R C) (e : Error) → ((w : W) (ms : Msgs) → Q' w ms → (v : V) × Q v ms) → FailsParts g Q old new e → FailsParts g Q' old new e
+pub parts_narrower : {R C V W : Type 0} (g : Ghosts R) (Q : V → Msgs → Type 0) (Q' : W → Msgs → Type 0) (old new : SeqAccess R C) (e : Error)
+    → ((w : W) (ms : Msgs) → Q' w ms → (v : V) × Q v ms) → FailsParts g Q old new e → FailsParts g Q' old new e
 parts_narrower g Q Q' old new e f x = record {
   stays = x.stays;
   failed = x.failed;
-  err = λ n k. row_narrower (SpellsIn old.de.now.strict old.bytes) (λ ms. (v : _) × Q v ms) (λ ms. (w : _) × Q' w ms) (inner_of old) old.left (left g old.de.now) (λ ms h. f h.0 ms h.1) (x.err n k);
+  err = λ n k. row_narrower (SpellsIn old.de.now.strict old.bytes) (λ ms. (v : _) × Q v ms) (λ ms. (w : _) × Q' w ms) (inner_of old) old.left
+      (left g old.de.now) (λ ms h. f h.0 ms h.1) (x.err n k);
 }
 
 -- one element more, behind the parts that were read
-module _ {R C V W : Type 0} (g : Ghosts R) (reads : C → Msg → V → Type 0) (Q : W → Msgs → Type 0) (start mid now : SeqAccess R C) (ms : Msgs) (r : Run g start mid ms) where
+module _ {R C V W : Type 0} (g : Ghosts R) (reads : C → Msg → V → Type 0) (Q : W → Msgs
+    → Type 0) (start mid now : SeqAccess R C) (ms : Msgs) (r : Run g start mid ms) where
   pub part_read : (v : V) (w : W) → (IsOpen mid → TakesElement g (reads mid.de.now.config) mid now v) → now.de.ghost_name ≡ mid.de.ghost_name
       → ((m : Msg) → reads start.de.now.config m v → Q w (push ms m)) → TakesParts g Q start now w
   part_read v w took n holds =
@@ -64,7 +80,8 @@ module _ {R C V W : Type 0} (g : Ghosts R) (reads : C → Msg → V → Type 0) 
 
   -- there was none, or it was refused
   pub part_refused : (e : Error) → (IsOpen mid → FailsElement g (reads mid.de.now.config) mid now e) → (mid.de.now.failed ≡ true → now.de.now.failed ≡ true)
-      → ((m : Msg) (ks : Msgs) (w : W) → Q w (append ms (item m ks)) → Readable (reads start.de.now.config) m) → ((w : W) → Q w (append ms no_items) → ⊥) → FailsParts g Q start now e
+      → ((m : Msg) (ks : Msgs) (w : W) → Q w (append ms (item m ks)) → Readable (reads start.de.now.config) m) → ((w : W) → Q w (append ms no_items) → ⊥)
+      → FailsParts g Q start now e
   part_refused e fails marked proj some =
       let f = subst (λ z. FailsElement g (reads z) mid now e) r.stays.config (fails r.still) in
       parts_element g Q start mid ms r (reads start.de.now.config) now e f (marked r.still.marked) proj some

@@ -57,21 +57,29 @@ some_is room m h n i l = let t : nat_le room 1 ≡ false = grind (arith, nat_tes
 module _ {R C : Type 0} (g : Ghosts R) (old mid : Deserializer R C) (p : Marker × Head) (h : ReadsHead g old mid (Ok p)) where
   -- a list would nest too deep
   pub list_too_deep : {V : Type 0} (reads : Msg → V → Type 0) (n : ℕ) (e : Error) → p.1 ≡ head.Array n → room_of old ≤ 1 → Lawful g reads old mid (Err e)
-  list_too_deep reads n e i l = refused g reads old mid e h.fresh h.failed h.stays (λ _ _. refuses_by _ (Readable reads) (room_of old) (left g old) (left g mid) h.ok.bytes h.ok.takes (λ ys q a.
+  list_too_deep reads n e i l = refused g reads old mid e h.fresh h.failed h.stays
+      (λ _ _. refuses_by _ (Readable reads) (room_of old) (left g old) (left g mid) h.ok.bytes h.ok.takes (λ ys q a.
       let u = same_head _ a.tree p.1 a.bytes h.ok.bytes a.rest ys a.spelled h.ok.is_head (sym a.front) in
       let below = nests a.tree n (u.0 ∙ i) in
       let f = a.fits in
       omega arith))
 
   -- the empty list
-  pub empty_read : {V : Type 0} (reads : Msg → V → Type 0) (new : Deserializer R C) (n : ℕ) (v : V) → p.1 ≡ head.Array n → n ≡ 0 → 1 < room_of old → new ≡ record mid { failed = false } → reads (list no_items) v → Lawful g reads old new (Ok v)
+  pub empty_read : {V : Type 0} (reads : Msg → V → Type 0) (new : Deserializer R C) (n : ℕ) (v : V) → p.1 ≡ head.Array n → n ≡ 0 → 1 < room_of old
+      → new ≡ record mid { failed = false } → reads (list no_items) v → Lawful g reads old new (Ok v)
   empty_read reads new n v i z l q r = rw q (record {
     ok = record {
       bytes = h.ok.bytes;
       tree = list no_items;
       takes = h.ok.takes;
       goes_on = h.ok.goes_on;
-      spelled = record { first = h.ok.bytes; second = []; is_first = subst (λ k. heads_of old.strict k h.ok.bytes) (i ∙ ap head.Array z) h.ok.is_head; is_second = refl; is_whole = sym (append-nil h.ok.bytes) };
+      spelled = record {
+        first = h.ok.bytes;
+        second = [];
+        is_first = subst (λ k. heads_of old.strict k h.ok.bytes) (i ∙ ap head.Array z) h.ok.is_head;
+        is_second = refl;
+        is_whole = sym (append-nil h.ok.bytes);
+      };
       fits = l;
       value = r;
     };

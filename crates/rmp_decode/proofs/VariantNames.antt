@@ -1,5 +1,40 @@
 -- What the opening of a variant says, from what the read of its name says.
-use Rattle.std.proofs.Common.{◌≡◌, ◌∙◌, sym, ap, subst, refl, inl, inr, ℕ, suc, ℤ, pos, negsuc, ◌<◌, ◌≤◌, arith, List, [], ◌∷◌, ◌++◌, length, nat_lt, Bool, true, false, cond, Option, None, Some, IfSome, MatchOption, Ok, Err, Bor}
+use Rattle.std.proofs.Common.{
+  ◌≡◌,
+  ◌∙◌,
+  sym,
+  ap,
+  subst,
+  refl,
+  inl,
+  inr,
+  ℕ,
+  suc,
+  ℤ,
+  pos,
+  negsuc,
+  ◌<◌,
+  ◌≤◌,
+  arith,
+  List,
+  [],
+  ◌∷◌,
+  ◌++◌,
+  length,
+  nat_lt,
+  Bool,
+  true,
+  false,
+  cond,
+  Option,
+  None,
+  Some,
+  IfSome,
+  MatchOption,
+  Ok,
+  Err,
+  Bor,
+}
 use Rattle.std.proofs.lemmas.List.{length-append}
 use Rattle.std.proofs.lemmas.Bool.{cases_lt, le-ltb}
 use Rattle.std.specs.Io.KnownBytes.{Consumes}
@@ -39,15 +74,27 @@ use Rattle.rmp_decode.proofs.Refusals.{refuses_none, refuses_head, refuses_by, s
 -- ---- a head that was taken
 
 -- what is refused of trees that begin with it
-pub refuses_headed : (s : Bool) (P Q : Msg → Type 0) (room : ℕ) (known k : Option (List ℕ)) (b : List ℕ) (h : Head) → Consumes known k b → heads_of s h b → ((m : Msg) → head_of m ≡ h → Q m → P m) → Refuses (SpellsAs s) P room known → Refuses (SpellsAs s) Q room known
+pub refuses_headed : (s : Bool) (P Q : Msg → Type 0) (room : ℕ) (known k : Option (List ℕ)) (b : List ℕ) (h : Head) → Consumes known k b → heads_of s h b
+    → ((m : Msg) → head_of m ≡ h → Q m → P m) → Refuses (SpellsAs s) P room known → Refuses (SpellsAs s) Q room known
 unfolding Refuses
 refuses_headed s P Q room None k b h t i f r = tt
 refuses_headed s P Q room (Some xs) None b h t i f r = absurd t
 refuses_headed s P Q room (Some xs) (Some ys) b h t i f r = λ a.
-    r (record { bytes = a.bytes; rest = a.rest; tree = a.tree; front = a.front; spelled = a.spelled; fits = a.fits; holds = f a.tree (same_head s a.tree h a.bytes b a.rest ys a.spelled i (sym a.front ∙ t)).0 a.holds })
+    r (record {
+      bytes = a.bytes;
+      rest = a.rest;
+      tree = a.tree;
+      front = a.front;
+      spelled = a.spelled;
+      fits = a.fits;
+      holds = f a.tree
+          (same_head s a.tree h a.bytes b a.rest ys a.spelled i (sym a.front ∙ t)).0 a.holds;
+    })
 
 -- a refusal of a message that begins with it
-pub lawful_behind : {R C V W : Type 0} (g : Ghosts R) (reads : Msg → V → Type 0) (reads' : Msg → W → Type 0) (old mid new : Deserializer R C) (e : Error) (h : Head) → TakesHead g h old mid → ((m : Msg) → head_of m ≡ h → Readable reads' m → Readable reads m)
+pub lawful_behind : {R C V W : Type 0} (g : Ghosts R) (reads : Msg → V → Type 0) (reads' : Msg → W
+    → Type 0) (old mid new : Deserializer R C) (e : Error) (h : Head) → TakesHead g h old mid
+    → ((m : Msg) → head_of m ≡ h → Readable reads' m → Readable reads m)
     → Lawful g reads old new (Err e) → Lawful g reads' old new (Err e)
 lawful_behind g reads reads' old mid new e h t f l = record {
   ok = tt;
@@ -61,10 +108,21 @@ lawful_behind g reads reads' old mid new e h t f l = record {
 }
 
 -- leaves are refused in any room
-pub refuses_leaves : (s : Bool) (P : Msg → Type 0) (room least : ℕ) (known : Option (List ℕ)) → ((m : Msg) → P m → depth m ≡ 0) → 0 < least → Refuses (SpellsAs s) P least known → Refuses (SpellsAs s) P room known
+pub refuses_leaves : (s : Bool) (P : Msg → Type 0) (room least : ℕ) (known : Option (List ℕ)) → ((m : Msg) → P m → depth m ≡ 0) → 0 < least
+    → Refuses (SpellsAs s) P least known → Refuses (SpellsAs s) P room known
 unfolding Refuses
 refuses_leaves s P room least None f l r = tt
-refuses_leaves s P room least (Some xs) f l r = λ a. r (record { bytes = a.bytes; rest = a.rest; tree = a.tree; front = a.front; spelled = a.spelled; fits = let d = f a.tree a.holds in omega (arith, d, l); holds = a.holds })
+refuses_leaves s P room least (Some xs) f l r = λ a. r
+    (record {
+      bytes = a.bytes;
+      rest = a.rest;
+      tree = a.tree;
+      front = a.front;
+      spelled = a.spelled;
+      fits = let d = f a.tree a.holds
+          in omega (arith, d, l);
+      holds = a.holds;
+    })
 
 -- ---- names
 
@@ -79,7 +137,8 @@ short_name : (names : List (List ℕ)) (n : ℕ) (known : Option (List ℕ)) →
 short_name names n None h = tt
 short_name names n (Some xs) h = λ s r p q l m. let long = ap length q ∙ length-append s r in omega (arith, long, l, h)
 
-pub name_blamed : (names : List (List ℕ)) (n : ℕ) (fault : SourceFault) (before after : ℕ) (known : Option (List ℕ)) (e : Error) → Blames fault before after known n → Blamed fault e → Explains e before after (StartsWithNoName names n known)
+pub name_blamed : (names : List (List ℕ)) (n : ℕ) (fault : SourceFault) (before after : ℕ) (known : Option (List ℕ)) (e : Error)
+    → Blames fault before after known n → Blamed fault e → Explains e before after (StartsWithNoName names n known)
 name_blamed names n Memory before after known e s b = λ m _. absurd (m b)
 name_blamed names n (Io cause) before after known e s b = λ _ k. short_name names n known (s k).0
 
@@ -109,7 +168,8 @@ raw_of_head false n (extension tag s) e = absurd (cc)
 abbrev Named : Bool → List (List ℕ) → Msg → ℕ → Type 0
 Named t names m n = IsPlace names m n × ((s : List ℕ) × (m ≡ raw_msg t s))
 
-not_named : (t : Bool) (names : List (List ℕ)) (n : ℕ) (known : Option (List ℕ)) → StartsWithNoName names n known → IfSome known (λ ys. (s r : List ℕ) → ys ≡ s ++ r → length s ≡ n → Readable (Named t names) (raw_msg t s) → ⊥)
+not_named : (t : Bool) (names : List (List ℕ)) (n : ℕ) (known : Option (List ℕ)) → StartsWithNoName names n known
+    → IfSome known (λ ys. (s r : List ℕ) → ys ≡ s ++ r → length s ≡ n → Readable (Named t names) (raw_msg t s) → ⊥)
 not_named t names n None f = tt
 not_named t names n (Some xs) f = λ s r q l h.
     let same : Some (place_of names s) ≡ Some (Some h.0) = sym (name_of_raw names t s) ∙ h.1.0 in
@@ -117,11 +177,14 @@ not_named t names n (Some xs) f = λ s r q l h.
 
 module _ {R C : Type 0} (g : Ghosts R) (names : List (List ℕ)) (old mid : Deserializer R C) (p : Marker × Head) (h : ReadsHead g old mid (Ok p)) where
   -- the text or the bytes are no name
-  pub name_refused : (t : Bool) (n : ℕ) (new : Deserializer R C) (e : Error) → p.1 ≡ raw_head t n → Explains e (g.faults mid.reader) (g.faults new.reader) (StartsWithNoName names n (g.ahead mid.reader)) → new.failed ≡ true → Stays g mid new → Lawful g (IsPlace names) old new (Err e)
+  pub name_refused : (t : Bool) (n : ℕ) (new : Deserializer R C) (e : Error) → p.1 ≡ raw_head t n
+      → Explains e (g.faults mid.reader) (g.faults new.reader) (StartsWithNoName names n (g.ahead mid.reader)) → new.failed ≡ true → Stays g mid new
+      → Lawful g (IsPlace names) old new (Err e)
   name_refused t n new e i x d st = lawful_behind g (Named t names) (IsPlace names) old mid new e p.1 h.ok (λ m j r. (r.0, (r.1, raw_of_head t n m (j ∙ i))))
       (content_refused (raw_content t) g (Named t names) old mid new p h n e i (λ m r. r.1.1) (λ o k. not_named t names n (g.ahead mid.reader) (x o k)) d st)
 
-pub number_named : (names : List (Bor (List ℕ))) (m : Msg) (n : ℕ) (z : ℤ) → name_of (bytes_of names) m ≡ Some (Some n) → head_of m ≡ Whole z → place_below (length (bytes_of names)) z ≡ Some (Some n)
+pub number_named : (names : List (Bor (List ℕ))) (m : Msg) (n : ℕ) (z : ℤ) → name_of (bytes_of names) m ≡ Some (Some n) → head_of m ≡ Whole z
+    → place_below (length (bytes_of names)) z ≡ Some (Some n)
 number_named names nil n z e i = absurd (cc)
 number_named names (truth b) n z e i = absurd (cc)
 number_named names (whole y) n z e i = let same : y ≡ z = cc in subst (λ k. place_below (length (bytes_of names)) k ≡ Some (Some n)) same e
@@ -141,12 +204,14 @@ place_of_below : (names : List (List ℕ)) (s : List ℕ) (n : ℕ) → place_of
 place_of_below [] s n e = absurd (cc)
 place_of_below (a ∷ names) s n e = go (bytes_eq a s) (place_of_below names s) e
   where
-    go : (b : Bool) → ((i : ℕ) → place_of names s ≡ Some i → i < length names) → cond b (Some 0) (option_map suc (place_of names s)) ≡ Some n → n < suc (length names)
+    go : (b : Bool) → ((i : ℕ) → place_of names s ≡ Some i → i < length names) → cond b (Some 0) (option_map suc (place_of names s)) ≡ Some n
+        → n < suc (length names)
     go true f e = let same : 0 ≡ n = cc in omega (arith, same)
     go false f e = option_below (place_of names s) (length names) f n e
 
 number_is_below : (k : ℕ) (z : ℤ) (n : ℕ) → place_below k z ≡ Some (Some n) → n < k
-number_is_below k (pos i) n e = elim (cases_lt i k) [ inl l ↦ go (nat_lt i k) l e | inr l ↦ absurd (let no : nat_lt i k ≡ false = le-ltb i k l in let u = rw no at e in cc) ]
+number_is_below k (pos i) n e = elim (cases_lt i k)
+    [ inl l ↦ go (nat_lt i k) l e | inr l ↦ absurd (let no : nat_lt i k ≡ false = le-ltb i k l in let u = rw no at e in cc) ]
   where
     go : (b : Bool) → i < k → ◌≡◌ {A = Option (Option ℕ)} (Some (cond b (Some i) None)) (Some (Some n)) → n < k
     go true l e = let same : i ≡ n = cc in omega (arith, l, same)
@@ -240,12 +305,15 @@ as_name room (head.Array n) f = record { raw = λ w. w; wanted = λ w. w; other 
 as_name room (head.Map n) f = absurd (f n refl)
 as_name room (head.Ext n tag) f = record { raw = λ w. w; wanted = λ w. w; other = λ m. refl; whole = λ s e h. h }
 
-alone_refused : (strict : Bool) (room before after : ℕ) (known : Option (List ℕ)) (m : Marker) (h : Head) (e : Error) → IfSome known (Stands strict m h) → ((n : ℕ) → h ≡ Map n → ⊥) → RefusesName strict before after known e → RefusesContent strict IsVariantHead other_variant (not_variant room) before after known e
+alone_refused : (strict : Bool) (room before after : ℕ) (known : Option (List ℕ)) (m : Marker) (h : Head) (e : Error) → IfSome known (Stands strict m h)
+    → ((n : ℕ) → h ≡ Map n → ⊥) → RefusesName strict before after known e
+    → RefusesContent strict IsVariantHead other_variant (not_variant room) before after known e
 unfolding RefusesContent
 alone_refused strict room before after None m h e s f r = λ _. tt
 alone_refused strict room before after (Some xs) m h e s f r = λ q.
     let x = r q in
-    let at : (k : Head) (j : Marker) → Stands strict j k xs → AsName room k = λ k j t. as_name room k (λ n i. f n (sym (stand_once strict j m k h xs t s).1 ∙ i)) in
+    let at : (k : Head) (j : Marker) → Stands strict j k xs
+    → AsName room k = λ k j t. as_name room k (λ n i. f n (sym (stand_once strict j m k h xs t s).1 ∙ i)) in
     record {
       others = λ j k t w. x.others j k t (λ i. w ((at k j t).wanted i)) ∙ (at k j t).other j;
       cut = λ k w t n. x.cut k ((at k t.marker t.stands).raw w) t n;
@@ -273,8 +341,10 @@ module _ {R C : Type 0} (g : Ghosts R) (names : List (List ℕ)) (old new : Dese
       failed = h.failed;
       stays = h.stays;
       before = λ b. absurd (let o = h.fresh in cc);
-      err = λ _ _ _. refuses_head _ (IsVariant names) (room_of old) (left g old) (left g new) h.ok.bytes p.1 h.ok.takes h.ok.is_head (λ m v j. f (one_pair names m n v (j ∙ i)));
-      exact = λ _ human lends. inl (content_other old.strict IsVariantHead other_variant (not_variant (room_of old)) _ _ _ p.0 p.1 e h.marked (λ w. f (subst IsVariantHead i w)) (q ∙ ap (other_variant p.0) (sym i)));
+      err = λ _ _ _. refuses_head _ (IsVariant names) (room_of old) (left g old) (left g new) h.ok.bytes p.1 h.ok.takes h.ok.is_head
+          (λ m v j. f (one_pair names m n v (j ∙ i)));
+      exact = λ _ human lends. inl (content_other old.strict IsVariantHead other_variant (not_variant (room_of old)) _ _ _ p.0 p.1 e h.marked
+          (λ w. f (subst IsVariantHead i w)) (q ∙ ap (other_variant p.0) (sym i)));
     }
 
     -- a map of one pair would nest too deep
@@ -288,16 +358,19 @@ module _ {R C : Type 0} (g : Ghosts R) (names : List (List ℕ)) (old new : Dese
           let below = map_nests a.tree 1 (u.0 ∙ i) in
           let f = a.fits in
           omega (arith, l, below, f));
-      exact = λ _ human lends. inl (content_apart old.strict IsVariantHead other_variant (not_variant (room_of old)) _ _ _ p.0 p.1 (Map 1) e h.marked i refl refl (λ s. (omega (arith, l), q)));
+      exact = λ _ human lends. inl (content_apart old.strict IsVariantHead other_variant (not_variant (room_of old)) _ _ _ p.0 p.1 (Map 1) e h.marked i refl
+          refl (λ s. (omega (arith, l), q)));
     }
 
 -- what stands there alone is no name
-pub no_name_alone : {R C : Type 0} (g : Ghosts R) (names : List (List ℕ)) (old mid new : Deserializer R C) (p : Marker × Head) (e : Error) → ReadsHead g old mid (Ok p) → ((n : ℕ) → p.1 ≡ Map n → ⊥) → Lawful g (IsPlace names) old new (Err e)
+pub no_name_alone : {R C : Type 0} (g : Ghosts R) (names : List (List ℕ)) (old mid new : Deserializer R C) (p : Marker × Head) (e : Error)
+    → ReadsHead g old mid (Ok p) → ((n : ℕ) → p.1 ≡ Map n → ⊥) → Lawful g (IsPlace names) old new (Err e)
     → RefusesName old.strict (faults_of g old) (faults_of g new) (left g old) e → FailsToOpenVariant g names old new e
 no_name_alone g names old mid new p e h f l x = record {
   failed = l.failed;
   stays = l.stays;
   before = λ b. absurd (let o = h.fresh in cc);
-  err = λ o n k. refuses_headed old.strict (Readable (IsPlace names)) (IsVariant names) _ _ (left g mid) h.ok.bytes p.1 h.ok.takes h.ok.is_head (λ m i v. name_alone names m (λ k j. f k (sym i ∙ j)) v) (l.err o n k);
+  err = λ o n k. refuses_headed old.strict (Readable (IsPlace names)) (IsVariant names) _ _ (left g mid) h.ok.bytes p.1 h.ok.takes h.ok.is_head
+      (λ m i v. name_alone names m (λ k j. f k (sym i ∙ j)) v) (l.err o n k);
   exact = λ _ human lends. inl (alone_refused old.strict (room_of old) (faults_of g old) (faults_of g new) (left g old) p.0 p.1 e h.marked f x);
 }

@@ -53,9 +53,11 @@ module _ {R C : Type 0} (g : Ghosts R) (inner : ℕ) (mid : Deserializer R C) (s
   }
 
   -- the list is whole
-  pub seq_content : {V : Type 0} (Q : V → Msgs → Type 0) (now : SeqAccess R C) (ms : Msgs) → Run g start now ms → (v : V) → Q v ms → now.left ≡ 0 → TakesPart g (λ m v. OfRow (Q v) m) (max 1 inner) mid now.de.now v
+  pub seq_content : {V : Type 0} (Q : V → Msgs → Type 0) (now : SeqAccess R C) (ms : Msgs) → Run g start now ms → (v : V) → Q v ms → now.left ≡ 0
+      → TakesPart g (λ m v. OfRow (Q v) m) (max 1 inner) mid now.de.now v
   seq_content Q now ms r v q z =
-      let l = seq_done g Q (part_reader mid inner) (within inner start) (within inner now) ms opens_within (run_within now ms r) (record now.de.now { room = inner; failed = false }) v q z refl in
+      let l = seq_done g Q (part_reader mid inner) (within inner start) (within inner now) ms opens_within (run_within now ms r)
+      (record now.de.now { room = inner; failed = false }) v q z refl in
       let t = l.ok in
       record {
         bytes = t.bytes;
@@ -72,7 +74,8 @@ module _ {R C : Type 0} (g : Ghosts R) (inner : ℕ) (mid : Deserializer R C) (s
       }
 
   -- what refuses such a list, refuses the content
-  pub seq_content_failed : {V : Type 0} (reads : Msg → V → Type 0) (last : Deserializer R C) (e : Error) → Stays g mid last → last.failed ≡ true → Lawful g reads (part_reader mid inner) (record last { room = inner }) (Err e) → FailsPart g reads (max 1 inner) mid last e
+  pub seq_content_failed : {V : Type 0} (reads : Msg → V → Type 0) (last : Deserializer R C) (e : Error) → Stays g mid last → last.failed ≡ true
+      → Lawful g reads (part_reader mid inner) (record last { room = inner }) (Err e) → FailsPart g reads (max 1 inner) mid last e
   seq_content_failed reads last e s f l = record { stays = s; failed = f; err = λ n k. l.err refl n k }
 
 -- ---- no list is there
@@ -86,7 +89,8 @@ no_seq_alone g v b = record {
 }
 
 -- the content is another
-pub no_seq_content : {R C : Type 0} (g : Ghosts R) (v : Variant R C) (last : Deserializer R C) (e : Error) → v.bare ≡ false → FailsPart g (λ m (u : Unit {0}). IsSeq m) (max 1 v.inner) v.de.now last e
+pub no_seq_content : {R C : Type 0} (g : Ghosts R) (v : Variant R C) (last : Deserializer R C) (e : Error) → v.bare ≡ false
+    → FailsPart g (λ m (u : Unit {0}). IsSeq m) (max 1 v.inner) v.de.now last e
     → RefusesBy v.de.now.strict (not_seq (max 1 v.inner)) (faults_of g v.de.now) (faults_of g last) (left g v.de.now) e → FailsToOpenSeqOf g v last e
 no_seq_content g v last e b f x = record {
   err = λ names n old o. content_refused g names n old v o last last (λ m (u : Unit {0}). IsSeq m) e b f refl;

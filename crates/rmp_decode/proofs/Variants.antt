@@ -1,5 +1,28 @@
 -- What the read of an enum says, from what the read of a variant says.
-use Rattle.std.proofs.Common.{◌≡◌, sym, subst, refl, ap, ◌∙◌, inr, arith, ◌+◌, max, true, false, ℕ, List, Bool, Option, None, Some, MatchOption, Result, Ok, Err}
+use Rattle.std.proofs.Common.{
+  ◌≡◌,
+  sym,
+  subst,
+  refl,
+  ap,
+  ◌∙◌,
+  inr,
+  arith,
+  ◌+◌,
+  max,
+  true,
+  false,
+  ℕ,
+  List,
+  Bool,
+  Option,
+  None,
+  Some,
+  MatchOption,
+  Result,
+  Ok,
+  Err,
+}
 use Rattle.std.specs.Borrow.{MutBor}
 use Rattle.std.specs.Fn.{FnOnceReturnsAtMut}
 use Rattle.rmp_wire.specs.declared.head.Head.{Head}
@@ -14,7 +37,22 @@ use Rattle.rmp_decode.specs.Maps.{OfMap, OpensMap, TakesKey, TakesValue}
 use Rattle.rmp_decode.specs.Names.{name_of}
 use Rattle.rmp_decode.specs.Parts.{TakesPart, FailsPart}
 use Rattle.rmp_decode.specs.State.{left, faults_of, room_of, Stays}
-use Rattle.rmp_decode.specs.Variants.{variant_of, variant_in, placed, OfVariant, IsVariant, IsAt, IfAt, Content, Bare, TakesKeyOf, TakesNameOf, OpensVariant, FailsToOpenVariant, ContentGiven}
+use Rattle.rmp_decode.specs.Variants.{
+  variant_of,
+  variant_in,
+  placed,
+  OfVariant,
+  IsVariant,
+  IsAt,
+  IfAt,
+  Content,
+  Bare,
+  TakesKeyOf,
+  TakesNameOf,
+  OpensVariant,
+  FailsToOpenVariant,
+  ContentGiven,
+}
 use Rattle.rmp_decode.specs.VariantNames.{IsPlace, RefusesName}
 use Rattle.rmp_decode.specs.With.{Reading, part_reader}
 use Rattle.rmp_decode.specs.declared.deserializer.Deserializer.{Deserializer}
@@ -33,20 +71,25 @@ use Rattle.rmp_decode.proofs.VariantNames.{lawful_behind, refuses_leaves}
 
 -- ---- the law of a type, from that of a variant
 
-module _ {R C W : Type 0} (g : Ghosts R) (names : List (List ℕ)) (reads : W → ℕ × Option Msg → Type 0) (old new last : Deserializer R C) (same : last ≡ new) where
+module _ {R C W : Type 0} (g : Ghosts R) (names : List (List ℕ)) (reads : W → ℕ × Option Msg
+    → Type 0) (old new last : Deserializer R C) (same : last ≡ new) where
   -- the variant at a place was read
-  pub variant_ok : {V : Type 0} (P : V → Option Msg → Type 0) (n : ℕ) (v : V) (w : W) → ((c : Option Msg) → P v c → reads w (n, c)) → Lawful g (λ m y. OfVariant names (IsAt n (P y)) m) old new (Ok v) → Lawful g (λ m y. OfVariant names (reads y) m) old last (Ok w)
+  pub variant_ok : {V : Type 0} (P : V → Option Msg → Type 0) (n : ℕ) (v : V) (w : W) → ((c : Option Msg) → P v c → reads w (n, c))
+      → Lawful g (λ m y. OfVariant names (IsAt n (P y)) m) old new (Ok v) → Lawful g (λ m y. OfVariant names (reads y) m) old last (Ok w)
   unfolding OfVariant IsAt
-  variant_ok P n v w f l = rw same (lawful_ok g (λ m y. OfVariant names (IsAt n (P y)) m) (λ m y. OfVariant names (reads y) m) old new v w (λ m h. go (variant_of names m) f h) l)
+  variant_ok P n v w f l = rw same (lawful_ok g (λ m y. OfVariant names (IsAt n (P y)) m) (λ m y. OfVariant names (reads y) m) old new v w
+      (λ m h. go (variant_of names m) f h) l)
     where
       go : (x : Option (ℕ × Option Msg)) → ((c : Option Msg) → P v c → reads w (n, c)) → MatchOption x ⊥ (IsAt n (P v)) → MatchOption x ⊥ (reads w)
       go None f h = absurd h
       go (Some p) f h = subst (λ k. reads w (k, p.1)) (sym h.0) (f p.1 h.1)
 
   -- the variant at a place was refused
-  pub variant_err : (P : Option Msg → Type 0) (n : ℕ) (e : Error) → ((w : W) (c : Option Msg) → reads w (n, c) → P c) → Lawful g (λ m (u : Unit {0}). OfVariant names (IfAt n P) m) old new (Err e) → Lawful g (λ m y. OfVariant names (reads y) m) old last (Err e)
+  pub variant_err : (P : Option Msg → Type 0) (n : ℕ) (e : Error) → ((w : W) (c : Option Msg) → reads w (n, c) → P c)
+      → Lawful g (λ m (u : Unit {0}). OfVariant names (IfAt n P) m) old new (Err e) → Lawful g (λ m y. OfVariant names (reads y) m) old last (Err e)
   unfolding OfVariant IfAt
-  variant_err P n e f l = rw same (lawful_err g (λ m (u : Unit {0}). OfVariant names (IfAt n P) m) (λ m y. OfVariant names (reads y) m) old new e (λ m h. (tt, go (variant_of names m) h.0 f h.1)) l)
+  variant_err P n e f l = rw same (lawful_err g (λ m (u : Unit {0}). OfVariant names (IfAt n P) m) (λ m y. OfVariant names (reads y) m) old new e
+      (λ m h. (tt, go (variant_of names m) h.0 f h.1)) l)
     where
       go : (x : Option (ℕ × Option Msg)) (w : W) → ((w : W) (c : Option Msg) → reads w (n, c) → P c) → MatchOption x ⊥ (reads w) → MatchOption x ⊥ (IfAt n P)
       go None w f h = absurd h
@@ -63,7 +106,8 @@ module _ {R C W : Type 0} (g : Ghosts R) (names : List (List ℕ)) (reads : W �
     failed = f.failed;
     before = f.before;
     stays = f.stays;
-    err = λ o n k. refuses_narrower (SpellsAs old.strict) (IsVariant names) (Readable (λ m y. OfVariant names (reads y) m)) _ _ (λ m h. go (variant_of names m) h.0 h.1) (f.err o n k);
+    err = λ o n k. refuses_narrower (SpellsAs old.strict) (IsVariant names) (Readable (λ m y. OfVariant names (reads y) m)) _ _
+        (λ m h. go (variant_of names m) h.0 h.1) (f.err o n k);
   })
     where
       go : (x : Option (ℕ × Option Msg)) (w : W) → MatchOption x ⊥ (reads w) → MatchOption x ⊥ (λ p. Unit {0})
@@ -94,7 +138,8 @@ of_alone names Q v (list ms) h = absurd h
 of_alone names Q v (map ps) h = h
 of_alone names Q v (extension tag s) h = absurd h
 
-is_alone : {V : Type 0} (names : List (List ℕ)) (Q : V → ℕ × Option Msg → Type 0) (n : ℕ) (m : Msg) → head_of m ≡ Map n → (v : V) × OfVariant names (Q v) m → (v : V) × OfMap (Alone names Q v) m
+is_alone : {V : Type 0} (names : List (List ℕ)) (Q : V → ℕ × Option Msg → Type 0) (n : ℕ) (m : Msg) → head_of m ≡ Map n → (v : V) × OfVariant names (Q v) m
+    → (v : V) × OfMap (Alone names Q v) m
 unfolding OfVariant
 is_alone names Q n nil e h = absurd (cc)
 is_alone names Q n (truth t) e h = absurd (cc)
@@ -111,9 +156,11 @@ is_alone names Q n (extension tag s) e h = absurd (cc)
 abbrev pair_at : {R C : Type 0} → MutBor (Deserializer R C) → Deserializer R C → ℕ → Bool → ℕ → MapAccess R C
 pair_at b d n owes inner = record { de = record b { now = d }; left = n; count = 1; inner = inner; owes = owes; sound = true }
 
-pair_opens : {R C : Type 0} (g : Ghosts R) (b : MutBor (Deserializer R C)) (old between : Deserializer R C) (inner : ℕ) → old.failed ≡ false → TakesHead g (Map 1) old between → room_of old ≡ max 1 inner + 1 → Stays g old between → faults_of g between ≡ faults_of g old
+pair_opens : {R C : Type 0} (g : Ghosts R) (b : MutBor (Deserializer R C)) (old between : Deserializer R C) (inner : ℕ) → old.failed ≡ false
+    → TakesHead g (Map 1) old between → room_of old ≡ max 1 inner + 1 → Stays g old between → faults_of g between ≡ faults_of g old
     → between.failed ≡ true → between.kept ≡ Nothing → OpensMap g old (pair_at b between 1 false inner)
-pair_opens g b old between inner o h r s q m k = record { fresh = o; head = h; count = refl; at_key = refl; room = r; stays = s; faults_same = q; opened = record { sound = refl; marked = m; clean = k } }
+pair_opens g b old between inner o h r s q m k = record
+    { fresh = o; head = h; count = refl; at_key = refl; room = r; stays = s; faults_same = q; opened = record { sound = refl; marked = m; clean = k } }
 
 -- ---- the key of a pair
 
@@ -122,26 +169,32 @@ placed_named c None h = absurd h
 placed_named c (Some None) h = absurd h
 placed_named c (Some (Some n)) h = (n, refl)
 
-key_is_name : (names : List (List ℕ)) (m : Msg) (ks : Msgs) (u : Unit {0}) (ps : Pairs) → flat ps ≡ append no_items (item m ks) → Alone names (λ (u : Unit {0}) p. Unit {0}) u ps → Readable (IsPlace names) m
+key_is_name : (names : List (List ℕ)) (m : Msg) (ks : Msgs) (u : Unit {0}) (ps : Pairs) → flat ps ≡ append no_items (item m ks)
+    → Alone names (λ (u : Unit {0}) p. Unit {0}) u ps → Readable (IsPlace names) m
 key_is_name names m ks u no_pairs e h = absurd h
 key_is_name names m ks u (pair a b (pair c d ps)) e h = absurd h
-key_is_name names m ks u (pair a b no_pairs) e h = let same : a ≡ m = cc in let x = placed_named b (name_of names a) h in (x.0, ap (name_of names) (sym same) ∙ x.1)
+key_is_name names m ks u (pair a b no_pairs) e h = let same : a ≡ m = cc in let x = placed_named b (name_of names a) h
+    in (x.0, ap (name_of names) (sym same) ∙ x.1)
 
 -- the key is no name
-pub no_name_of_pair : {R C : Type 0} (g : Ghosts R) (names : List (List ℕ)) (b : MutBor (Deserializer R C)) (old mid new : Deserializer R C) (p : Marker × Head) (inner : ℕ) (e : Error) → ReadsHead g old mid (Ok p) → p.1 ≡ Map 1 → room_of old ≡ max 1 inner + 1 → FailsPart g (IsPlace names) (max 1 inner) mid new e
+pub no_name_of_pair : {R C : Type 0} (g : Ghosts R) (names : List (List ℕ)) (b : MutBor (Deserializer R C)) (old mid new : Deserializer R C)
+    (p : Marker × Head) (inner : ℕ) (e : Error) → ReadsHead g old mid (Ok p) → p.1 ≡ Map 1 → room_of old ≡ max 1 inner + 1
+    → FailsPart g (IsPlace names) (max 1 inner) mid new e
     → RefusesName mid.strict (faults_of g mid) (faults_of g new) (left g mid) e → FailsToOpenVariant g names old new e
 no_name_of_pair g names b old mid new p inner e h i r f x =
     let t = subst (λ z. TakesHead g z old mid) i h.ok in
     let o = pair_opens g b old mid inner h.fresh t r h.stays h.sound h.failed h.clean in
     let start = pair_at b mid 1 false inner in
     let Q : Unit {0} → ℕ × Option Msg → Type 0 = λ u p. Unit {0} in
-    let l = map_take g (Alone names Q) old start start o new no_items (map_start g start o.opened) (IsPlace names) (pair_at b new 1 false inner) e (omega arith) f refl (key_is_name names) in
+    let l = map_take g (Alone names Q) old start start o new no_items (map_start g start o.opened) (IsPlace names) (pair_at b new 1 false inner) e
+    (omega arith) f refl (key_is_name names) in
     let w = lawful_behind g (λ m u. OfMap (Alone names Q u) m) (λ m u. OfVariant names (Q u) m) old mid new e (Map 1) t (is_alone names Q 1) l in
     record {
       failed = f.failed;
       stays = w.stays;
       before = λ b. absurd (let o = h.fresh in cc);
-      err = λ o n k. refuses_narrower (SpellsAs old.strict) (Readable (λ m (u : Unit {0}). OfVariant names (Q u) m)) (IsVariant names) _ _ (λ m v. (tt, v)) (w.err o n k);
+      err = λ o n k. refuses_narrower (SpellsAs old.strict) (Readable (λ m (u : Unit {0}). OfVariant names (Q u) m)) (IsVariant names) _ _ (λ m v. (tt, v))
+          (w.err o n k);
       exact = λ _ human lends. inr (record {
         inner = max 1 inner;
         many = 1;
@@ -150,24 +203,31 @@ no_name_of_pair g names b old mid new p inner e h i r f x =
         takes = t.takes;
         is_head = t.is_head;
         room_of = r;
-        refused = (refl, subst (λ z. RefusesName z (faults_of g old) (faults_of g new) (left g mid) e) h.stays.strict (subst (λ z. RefusesName mid.strict z (faults_of g new) (left g mid) e) h.sound x));
+        refused = (
+          refl,
+          subst (λ z. RefusesName z (faults_of g old) (faults_of g new) (left g mid) e) h.stays.strict
+              (subst (λ z. RefusesName mid.strict z (faults_of g new) (left g mid) e) h.sound x),
+        );
       });
     }
 
 -- ---- content
 
-module _ {R C V : Type 0} (g : Ghosts R) (names : List (List ℕ)) (n : ℕ) (old : Deserializer R C) (v : Variant R C) (o : OpensVariant g names n old v) (new last : Deserializer R C) (reads : Msg → V → Type 0) where
+module _ {R C V : Type 0} (g : Ghosts R) (names : List (List ℕ)) (n : ℕ) (old : Deserializer R C) (v : Variant R C) (o : OpensVariant g names n old v)
+    (new last : Deserializer R C) (reads : Msg → V → Type 0) where
   pair_of : v.bare ≡ false → TakesKeyOf g names n old v.de.now v.inner
   pair_of b = subst (λ z. TakesNameOf g names n z old v.de.now v.inner) b o.name
 
   content_is : (k c : Msg) (Q : ℕ × Option Msg → Type 0) → name_of names k ≡ Some (Some n) → MatchOption (placed (Some c) (name_of names k)) ⊥ Q → Q (n, Some c)
   content_is k c Q e h = subst (λ z. MatchOption (placed (Some c) z) ⊥ Q) e h
 
-  content_has : (k c : Msg) (Q : ℕ × Option Msg → Type 0) → name_of names k ≡ Some (Some n) → Q (n, Some c) → MatchOption (placed (Some c) (name_of names k)) ⊥ Q
+  content_has : (k c : Msg) (Q : ℕ × Option Msg → Type 0) → name_of names k ≡ Some (Some n) → Q (n, Some c)
+      → MatchOption (placed (Some c) (name_of names k)) ⊥ Q
   content_has k c Q e h = subst (λ z. MatchOption (placed (Some c) z) ⊥ Q) (sym e) h
 
   -- the content was read
-  pub content_read : (x : V) → v.bare ≡ false → TakesPart g reads (max 1 v.inner) v.de.now new x → last ≡ record new { failed = false } → Lawful g (λ m y. OfVariant names (IsAt n (Content (λ k. reads k y))) m) old last (Ok x)
+  pub content_read : (x : V) → v.bare ≡ false → TakesPart g reads (max 1 v.inner) v.de.now new x → last ≡ record new { failed = false }
+      → Lawful g (λ m y. OfVariant names (IsAt n (Content (λ k. reads k y))) m) old last (Ok x)
   unfolding IsAt
   content_read x b p q =
       let t = pair_of b in
@@ -175,15 +235,27 @@ module _ {R C V : Type 0} (g : Ghosts R) (names : List (List ℕ)) (n : ℕ) (ol
       let key = pair_at v.de v.de.now 0 true v.inner in
       let after = pair_at v.de new 0 false v.inner in
       let opened = pair_opens g v.de old t.between v.inner o.fresh t.head t.room t.stays t.faults_same t.marked t.clean in
-      let taken : TakesKey g (IsPlace names) start key n = record { part = t.key; fewer = refl; owes = refl; count = refl; inner = refl; still = record { sound = refl; marked = t.key.marked; clean = t.key.clean } } in
+      let taken : TakesKey g (IsPlace names) start key n = record {
+        part = t.key;
+        fewer = refl;
+        owes = refl;
+        count = refl;
+        inner = refl;
+        still = record
+            { sound = refl; marked = t.key.marked; clean = t.key.clean };
+      } in
       let half = map_key g (IsPlace names) start start key no_items n (map_start g start opened.opened) refl taken refl in
-      let took : TakesValue g reads key after x = record { part = p; same_left = refl; owes = refl; count = refl; inner = refl; still = record { sound = refl; marked = p.marked; clean = p.clean } } in
+      let took : TakesValue g reads key after x = record
+      { part = p; same_left = refl; owes = refl; count = refl; inner = refl; still = record { sound = refl; marked = p.marked; clean = p.clean } } in
       let all = map_value g reads start key after (push no_items t.key.tree) x half refl took refl in
-      lawful_ok g (λ m y. OfMap (Alone names (λ y. IsAt n (Content (λ k. reads k y))) y) m) (λ m y. OfVariant names (IsAt n (Content (λ k. reads k y))) m) old last x x (of_alone names (λ y. IsAt n (Content (λ k. reads k y))) x)
-      (map_done g (Alone names (λ y. IsAt n (Content (λ k. reads k y)))) old start after opened last (pair t.key.tree p.tree no_pairs) all x (content_has t.key.tree p.tree (IsAt n (Content (λ k. reads k x))) t.key.value (refl, p.value)) refl refl q)
+      lawful_ok g (λ m y. OfMap (Alone names (λ y. IsAt n (Content (λ k. reads k y))) y) m) (λ m y. OfVariant names (IsAt n (Content (λ k. reads k y))) m)
+      old last x x (of_alone names (λ y. IsAt n (Content (λ k. reads k y))) x)
+      (map_done g (Alone names (λ y. IsAt n (Content (λ k. reads k y)))) old start after opened last (pair t.key.tree p.tree no_pairs) all x
+      (content_has t.key.tree p.tree (IsAt n (Content (λ k. reads k x))) t.key.value (refl, p.value)) refl refl q)
 
   -- the content was refused
-  pub content_refused : (e : Error) → v.bare ≡ false → FailsPart g reads (max 1 v.inner) v.de.now new e → last ≡ new → Lawful g (λ m (u : Unit {0}). OfVariant names (IfAt n (Content (Readable reads))) m) old last (Err e)
+  pub content_refused : (e : Error) → v.bare ≡ false → FailsPart g reads (max 1 v.inner) v.de.now new e → last ≡ new
+      → Lawful g (λ m (u : Unit {0}). OfVariant names (IfAt n (Content (Readable reads))) m) old last (Err e)
   unfolding IfAt
   content_refused e b f q =
       let t = pair_of b in
@@ -191,13 +263,22 @@ module _ {R C V : Type 0} (g : Ghosts R) (names : List (List ℕ)) (n : ℕ) (ol
       let key = pair_at v.de v.de.now 0 true v.inner in
       let after = pair_at v.de new 0 false v.inner in
       let opened = pair_opens g v.de old t.between v.inner o.fresh t.head t.room t.stays t.faults_same t.marked t.clean in
-      let taken : TakesKey g (IsPlace names) start key n = record { part = t.key; fewer = refl; owes = refl; count = refl; inner = refl; still = record { sound = refl; marked = t.key.marked; clean = t.key.clean } } in
+      let taken : TakesKey g (IsPlace names) start key n = record {
+        part = t.key;
+        fewer = refl;
+        owes = refl;
+        count = refl;
+        inner = refl;
+        still = record
+            { sound = refl; marked = t.key.marked; clean = t.key.clean };
+      } in
       let half = map_key g (IsPlace names) start start key no_items n (map_start g start opened.opened) refl taken refl in
       let Q : Unit {0} → ℕ × Option Msg → Type 0 = λ u. IfAt n (Content (Readable reads)) in
       lawful_behind g (λ m u. OfMap (Alone names Q u) m) (λ m u. OfVariant names (Q u) m) old t.between last e (Map 1) t.head (is_alone names Q 1)
       (map_take g (Alone names Q) old start key opened last (push no_items t.key.tree) half reads after e (omega arith) f q (next t.key.tree t.key.value))
     where
-      next : (k : Msg) → name_of names k ≡ Some (Some n) → (m : Msg) (ks : Msgs) (u : Unit {0}) (ps : Pairs) → flat ps ≡ append (item k no_items) (item m ks) → MatchOption (variant_in names ps) ⊥ (IfAt n (Content (Readable reads))) → Readable reads m
+      next : (k : Msg) → name_of names k ≡ Some (Some n) → (m : Msg) (ks : Msgs) (u : Unit {0}) (ps : Pairs)
+          → flat ps ≡ append (item k no_items) (item m ks) → MatchOption (variant_in names ps) ⊥ (IfAt n (Content (Readable reads))) → Readable reads m
       next k e m ks u no_pairs i h = absurd h
       next k e m ks u (pair a b (pair c d ps)) i h = absurd h
       next k e m ks u (pair a b no_pairs) i h =
@@ -206,9 +287,11 @@ module _ {R C V : Type 0} (g : Ghosts R) (names : List (List ℕ)) (n : ℕ) (ol
           let x = content_is a b (IfAt n (Content (Readable reads))) (ap (name_of names) ak ∙ e) h refl in
           subst (Readable reads) bm x
 
-module _ {R C V : Type 0} (g : Ghosts R) (names : List (List ℕ)) (n : ℕ) (old : Deserializer R C) (v : Variant R C) (o : OpensVariant g names n old v) (last : Deserializer R C) (reads : Msg → V → Type 0) where
+module _ {R C V : Type 0} (g : Ghosts R) (names : List (List ℕ)) (n : ℕ) (old : Deserializer R C) (v : Variant R C) (o : OpensVariant g names n old v)
+    (last : Deserializer R C) (reads : Msg → V → Type 0) where
   -- the same by a read of its own from a reader that has the content's room
-  pub content_by : (rest : Deserializer R C) (x : V) → v.bare ≡ false → Lawful g reads (part_reader v.de.now v.inner) rest (Ok x) → last ≡ record rest { room = v.de.now.room } → Lawful g (λ m y. OfVariant names (IsAt n (Content (λ k. reads k y))) m) old last (Ok x)
+  pub content_by : (rest : Deserializer R C) (x : V) → v.bare ≡ false → Lawful g reads (part_reader v.de.now v.inner) rest (Ok x)
+      → last ≡ record rest { room = v.de.now.room } → Lawful g (λ m y. OfVariant names (IsAt n (Content (λ k. reads k y))) m) old last (Ok x)
   content_by rest x b l q = let r = l.ok in
       content_read g names n old v o (record rest { room = v.de.now.room; failed = true }) last reads x b (record {
         bytes = r.bytes;
@@ -224,7 +307,8 @@ module _ {R C V : Type 0} (g : Ghosts R) (names : List (List ℕ)) (n : ℕ) (ol
         marked = refl;
       }) (q ∙ ap (λ z. record rest { room = v.de.now.room; failed = z }) l.ready)
 
-  pub content_not_by : (rest : Deserializer R C) (e : Error) → v.bare ≡ false → Lawful g reads (part_reader v.de.now v.inner) rest (Err e) → last ≡ record rest { room = v.de.now.room } → Lawful g (λ m (u : Unit {0}). OfVariant names (IfAt n (Content (Readable reads))) m) old last (Err e)
+  pub content_not_by : (rest : Deserializer R C) (e : Error) → v.bare ≡ false → Lawful g reads (part_reader v.de.now v.inner) rest (Err e)
+      → last ≡ record rest { room = v.de.now.room } → Lawful g (λ m (u : Unit {0}). OfVariant names (IfAt n (Content (Readable reads))) m) old last (Err e)
   content_not_by rest e b l q = content_refused g names n old v o (record rest { room = v.de.now.room }) last reads e b (record {
     stays = record { config = l.stays.config; room = refl; strict = l.stays.strict; place = l.stays.place };
     failed = l.failed;
@@ -246,13 +330,16 @@ alone_is names (list ms) n e = absurd (cc)
 alone_is names (map ps) n e = absurd (cc)
 alone_is names (extension tag s) n e = absurd (cc)
 
-module _ {R C : Type 0} (g : Ghosts R) (names : List (List ℕ)) (n : ℕ) (old : Deserializer R C) (v : Variant R C) (o : OpensVariant g names n old v) (last : Deserializer R C) where
+module _ {R C : Type 0} (g : Ghosts R) (names : List (List ℕ)) (n : ℕ) (old : Deserializer R C) (v : Variant R C) (o : OpensVariant g names n old v)
+    (last : Deserializer R C) where
   -- content is wanted, and there is none
-  pub bare_refused : (P : Msg → Type 0) (e : Error) → v.bare ≡ true → last ≡ v.de.now → Lawful g (λ m (u : Unit {0}). OfVariant names (IfAt n (Content P)) m) old last (Err e)
+  pub bare_refused : (P : Msg → Type 0) (e : Error) → v.bare ≡ true → last ≡ v.de.now
+      → Lawful g (λ m (u : Unit {0}). OfVariant names (IfAt n (Content P)) m) old last (Err e)
   unfolding OfVariant IfAt
   bare_refused P e b q =
       let r = subst (λ z. TakesNameOf g names n z old v.de.now v.inner) b o.name in
-      rw q (refused g (λ m (u : Unit {0}). OfVariant names (IfAt n (Content P)) m) old v.de.now e o.fresh o.marked o.stays (λ _ _. refuses_other _ _ _ _ _ r.bytes r.tree r.takes r.spelled (λ h. no r.tree (alone_is names r.tree n r.value) h.1)))
+      rw q (refused g (λ m (u : Unit {0}). OfVariant names (IfAt n (Content P)) m) old v.de.now e o.fresh o.marked o.stays
+      (λ _ _. refuses_other _ _ _ _ _ r.bytes r.tree r.takes r.spelled (λ h. no r.tree (alone_is names r.tree n r.value) h.1)))
     where
       no : (m : Msg) → variant_of names m ≡ Some (n, None) → MatchOption (variant_of names m) ⊥ (IfAt n (Content P)) → ⊥
       no m is h = (subst (λ z. MatchOption z ⊥ (IfAt n (Content P))) is h) refl
@@ -263,7 +350,16 @@ module _ {R C : Type 0} (g : Ghosts R) (names : List (List ℕ)) (n : ℕ) (old 
   bare_read b q =
       let r = subst (λ z. TakesNameOf g names n z old v.de.now v.inner) b o.name in
       rw q (record {
-        ok = record { bytes = r.bytes; tree = r.tree; takes = r.takes; goes_on = r.goes_on; spelled = r.spelled; fits = r.fits; value = subst (λ z. MatchOption z ⊥ (IsAt n Bare)) (sym (alone_is names r.tree n r.value)) (refl, tt) };
+        ok = record {
+          bytes = r.bytes;
+          tree = r.tree;
+          takes = r.takes;
+          goes_on = r.goes_on;
+          spelled = r.spelled;
+          fits = r.fits;
+          value = subst
+              (λ z. MatchOption z ⊥ (IsAt n Bare)) (sym (alone_is names r.tree n r.value)) (refl, tt);
+        };
         ready = refl;
         clean = o.clean;
         sound = o.faults_same;
@@ -279,9 +375,11 @@ module _ {R C : Type 0} (g : Ghosts R) (names : List (List ℕ)) (n : ℕ) (old 
   nil_flat m r = ap depth r.1
 
   module _ (new : Deserializer R C) where
-    pub nil_read : v.bare ≡ false → Lawful g (λ m (u : Unit {0}). m ≡ nil) (record v.de.now { failed = false }) new (Ok tt) → last ≡ new → Lawful g (λ m (u : Unit {0}). OfVariant names (IsAt n Bare) m) old last (Ok tt)
+    pub nil_read : v.bare ≡ false → Lawful g (λ m (u : Unit {0}). m ≡ nil) (record v.de.now { failed = false }) new (Ok tt) → last ≡ new
+        → Lawful g (λ m (u : Unit {0}). OfVariant names (IsAt n Bare) m) old last (Ok tt)
     unfolding OfVariant IsAt
-    nil_read b l q = lawful_ok g (λ m (u : Unit {0}). OfVariant names (IsAt n (Content (λ k. k ≡ nil))) m) (λ m (u : Unit {0}). OfVariant names (IsAt n Bare) m) old last tt tt (λ m h. go (variant_of names m) h)
+    nil_read b l q = lawful_ok g (λ m (u : Unit {0}). OfVariant names (IsAt n (Content (λ k. k ≡ nil))) m)
+        (λ m (u : Unit {0}). OfVariant names (IsAt n Bare) m) old last tt tt (λ m h. go (variant_of names m) h)
         (content_read g names n old v o (record new { failed = true }) last (λ k (u : Unit {0}). k ≡ nil) tt b (let r = l.ok in record {
           bytes = r.bytes;
           tree = r.tree;
@@ -304,23 +402,28 @@ module _ {R C : Type 0} (g : Ghosts R) (names : List (List ℕ)) (n : ℕ) (old 
         go None h = h
         go (Some p) h = (h.0, side p.1 h.1)
 
-    pub nil_refused : (e : Error) → v.bare ≡ false → Lawful g (λ m (u : Unit {0}). m ≡ nil) (record v.de.now { failed = false }) new (Err e) → last ≡ new → Lawful g (λ m (u : Unit {0}). OfVariant names (IfAt n Bare) m) old last (Err e)
+    pub nil_refused : (e : Error) → v.bare ≡ false → Lawful g (λ m (u : Unit {0}). m ≡ nil) (record v.de.now { failed = false }) new (Err e) → last ≡ new
+        → Lawful g (λ m (u : Unit {0}). OfVariant names (IfAt n Bare) m) old last (Err e)
     unfolding OfVariant IfAt
     nil_refused e b l q =
         let t = pair_of g names n old v o new last (λ k (u : Unit {0}). k ≡ nil) b in
-        lawful_behind g (λ m (u : Unit {0}). OfVariant names (IfAt n (Content (Readable (λ k (u : Unit {0}). k ≡ nil)))) m) (λ m (u : Unit {0}). OfVariant names (IfAt n Bare) m) old t.between last e (Map 1) t.head (λ m i h. (tt, pairs m 1 i h.1))
+        lawful_behind g (λ m (u : Unit {0}). OfVariant names (IfAt n (Content (Readable (λ k (u : Unit {0}). k ≡ nil)))) m)
+        (λ m (u : Unit {0}). OfVariant names (IfAt n Bare) m) old t.between last e (Map 1) t.head (λ m i h. (tt, pairs m 1 i h.1))
         (content_refused g names n old v o new last (λ k (u : Unit {0}). k ≡ nil) e b (record {
           stays = record { config = l.stays.config; room = l.stays.room; strict = l.stays.strict; place = l.stays.place };
           failed = l.failed;
-          err = λ x k. refuses_leaves v.de.now.strict (Readable (λ k (u : Unit {0}). k ≡ nil)) (max 1 v.inner) (room_of v.de.now) (left g v.de.now) nil_flat (omega arith) (l.err refl x k);
+          err = λ x k. refuses_leaves v.de.now.strict (Readable (λ k (u : Unit {0}). k ≡ nil)) (max 1 v.inner) (room_of v.de.now) (left g v.de.now) nil_flat
+              (omega arith) (l.err refl x k);
         }) q)
       where
-        side : (m : Msg) (x : Option (Option ℕ)) → MatchOption (placed (Some m) x) ⊥ (λ p. p.0 ≡ n → Bare p.1) → MatchOption (placed (Some m) x) ⊥ (λ p. p.0 ≡ n → Content (Readable (λ k (u : Unit {0}). k ≡ nil)) p.1)
+        side : (m : Msg) (x : Option (Option ℕ)) → MatchOption (placed (Some m) x) ⊥ (λ p. p.0 ≡ n → Bare p.1)
+            → MatchOption (placed (Some m) x) ⊥ (λ p. p.0 ≡ n → Content (Readable (λ k (u : Unit {0}). k ≡ nil)) p.1)
         side m None h = h
         side m (Some None) h = h
         side m (Some (Some k)) h = λ e. (tt, h e)
 
-        pairs : (m : Msg) (k : ℕ) → head_of m ≡ Map k → MatchOption (variant_of names m) ⊥ (λ p. p.0 ≡ n → Bare p.1) → MatchOption (variant_of names m) ⊥ (λ p. p.0 ≡ n → Content (Readable (λ k (u : Unit {0}). k ≡ nil)) p.1)
+        pairs : (m : Msg) (k : ℕ) → head_of m ≡ Map k → MatchOption (variant_of names m) ⊥ (λ p. p.0 ≡ n → Bare p.1)
+            → MatchOption (variant_of names m) ⊥ (λ p. p.0 ≡ n → Content (Readable (λ k (u : Unit {0}). k ≡ nil)) p.1)
         pairs nil k i h = absurd (cc)
         pairs (truth t) k i h = absurd (cc)
         pairs (whole z) k i h = absurd (cc)
@@ -336,21 +439,28 @@ module _ {R C : Type 0} (g : Ghosts R) (names : List (List ℕ)) (n : ℕ) (old 
 
 -- ---- content by a function
 
-module _ {F R C X : Type 0} (g : Ghosts R) (once : Reading F R C X) (f : F) (reads : Msg → X → Type 0) (names : List (List ℕ)) (n : ℕ) (old : Deserializer R C) (v : Variant R C) (o : OpensVariant g names n old v) (new last : Deserializer R C)
-    (law : (rest : Deserializer R C) (gave : Result X Error) → FnOnceReturnsAtMut once f (part_reader v.de.now v.inner) gave rest → Lawful g reads (part_reader v.de.now v.inner) rest gave) where
+module _ {F R C X : Type 0} (g : Ghosts R) (once : Reading F R C X) (f : F) (reads : Msg → X
+    → Type 0) (names : List (List ℕ)) (n : ℕ) (old : Deserializer R C) (v : Variant R C) (o : OpensVariant g names n old v) (new last : Deserializer R C)
+    (law : (rest : Deserializer R C) (gave : Result X Error) → FnOnceReturnsAtMut once f (part_reader v.de.now v.inner) gave rest
+    → Lawful g reads (part_reader v.de.now v.inner) rest gave) where
   -- it read the content
-  pub given_read : (x : X) → (v.bare ≡ true → (◌≡◌ {A = Result X Error} (Ok x) (Err (Syntax InvalidType))) × (new ≡ v.de.now)) → (v.bare ≡ false → ContentGiven once f v.inner v.de.now new (Ok x)) → last ≡ new → Lawful g (λ m y. OfVariant names (IsAt n (Content (λ k. reads k y))) m) old last (Ok x)
+  pub given_read : (x : X) → (v.bare ≡ true → (◌≡◌ {A = Result X Error} (Ok x) (Err (Syntax InvalidType))) × (new ≡ v.de.now))
+      → (v.bare ≡ false → ContentGiven once f v.inner v.de.now new (Ok x)) → last ≡ new
+      → Lawful g (λ m y. OfVariant names (IsAt n (Content (λ k. reads k y))) m) old last (Ok x)
   given_read x b p q = go v.bare refl
     where
       go : (z : Bool) → v.bare ≡ z → Lawful g (λ m y. OfVariant names (IsAt n (Content (λ k. reads k y))) m) old last (Ok x)
       go true z = absurd (let e = (b z).0 in cc)
-      go false z = let c = p z in content_read g names n old v o c.after last reads x z (part_taken g once f reads v.inner v.de.now c.after x law c.part) (q ∙ c.ready)
+      go false z = let c = p z in content_read g names n old v o c.after last reads x z (part_taken g once f reads v.inner v.de.now c.after x law c.part)
+          (q ∙ c.ready)
 
   -- it refused the content, or there was none
-  pub given_refused : (e : Error) → (v.bare ≡ true → (◌≡◌ {A = Result X Error} (Err e) (Err (Syntax InvalidType))) × (new ≡ v.de.now)) → (v.bare ≡ false → ContentGiven once f v.inner v.de.now new (Err e)) → last ≡ new
+  pub given_refused : (e : Error) → (v.bare ≡ true → (◌≡◌ {A = Result X Error} (Err e) (Err (Syntax InvalidType))) × (new ≡ v.de.now))
+      → (v.bare ≡ false → ContentGiven once f v.inner v.de.now new (Err e)) → last ≡ new
       → Lawful g (λ m (u : Unit {0}). OfVariant names (IfAt n (Content (Readable reads))) m) old last (Err e)
   given_refused e b p q = go v.bare refl
     where
       go : (z : Bool) → v.bare ≡ z → Lawful g (λ m (u : Unit {0}). OfVariant names (IfAt n (Content (Readable reads))) m) old last (Err e)
       go true z = bare_refused g names n old v o last (Readable reads) e z (q ∙ (b z).1)
-      go false z = let c = p z in content_refused g names n old v o c.after last reads e z (part_fails g once f reads v.inner v.de.now c.after e law c.part) (q ∙ c.failed)
+      go false z = let c = p z in content_refused g names n old v o c.after last reads e z (part_fails g once f reads v.inner v.de.now c.after e law c.part)
+          (q ∙ c.failed)

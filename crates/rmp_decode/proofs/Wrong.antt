@@ -79,7 +79,8 @@ pub record Front (w : Bool) (h : Head) (xs ys : List ℕ) : Type 0 where
   pub is_head : heads_of w h (byte ∷ behind)
 
 pub front_of : (w : Bool) (h : Head) (bytes xs ys : List ℕ) → xs ≡ bytes ++ ys → heads_of w h bytes → Front w h xs ys
-front_of w h bytes xs ys t i = let b = head_byte w h bytes i in record { byte = b.0; behind = b.1; front = t ∙ ap (λ z. z ++ ys) b.2; is_head = subst (heads_of w h) b.2 i }
+front_of w h bytes xs ys t i = let b = head_byte w h bytes i
+    in record { byte = b.0; behind = b.1; front = t ∙ ap (λ z. z ++ ys) b.2; is_head = subst (heads_of w h) b.2 i }
 
 abbrev pub stands : {w : Bool} {h : Head} {xs ys : List ℕ} (f : Front w h xs ys) → Stands w (marker_of f.byte) h xs
 stands {w} {h} {xs} {ys} f = record { byte = f.byte; behind = f.behind; rest = ys; front = f.front; is_marker = refl; is_head = f.is_head }
@@ -87,15 +88,18 @@ stands {w} {h} {xs} {ys} f = record { byte = f.byte; behind = f.behind; rest = y
 -- ---- where the bytes are told
 
 -- by any telling of what is wrong that has what is wrong with each message
-module _ (w : Bool) (wrong : ℕ → Error → List ℕ → Type 0) (readable : Msgs → Type 0) (wider : (room : ℕ) (e : Error) (xs : List ℕ) → IsWrong w room e xs → wrong room e xs) where
+module _ (w : Bool) (wrong : ℕ → Error → List ℕ → Type 0) (readable : Msgs → Type 0) (wider : (room : ℕ) (e : Error) (xs : List ℕ) → IsWrong w room e xs
+    → wrong room e xs) where
   -- no head stands at the front
-  pub wrong_none : (room before after : ℕ) (known : Option (List ℕ)) (e : Error) → after ≡ before → EndsExactly w before after known e → RefusedFor w wrong readable room e known
+  pub wrong_none : (room before after : ℕ) (known : Option (List ℕ)) (e : Error) → after ≡ before → EndsExactly w before after known e
+      → RefusedFor w wrong readable room e known
   unfolding EndsExactly RefusedFor
   wrong_none room before after None e q r = tt
   wrong_none room before after (Some xs) e q r = here (wider room e xs (wrong_end w room e xs (r q).0 (r q).1))
 
   -- nothing could be opened
-  pub wrong_any : (room before after : ℕ) (known : Option (List ℕ)) (e : Error) → after ≡ before → RefusesAny w room before after known e → RefusedFor w wrong readable room e known
+  pub wrong_any : (room before after : ℕ) (known : Option (List ℕ)) (e : Error) → after ≡ before → RefusesAny w room before after known e
+      → RefusedFor w wrong readable room e known
   unfolding RefusesAny RefusedFor
   wrong_any room before after None e q r = tt
   wrong_any room before after (Some xs) e q r = elim (r q) [
@@ -104,7 +108,8 @@ module _ (w : Bool) (wrong : ℕ → Error → List ℕ → Type 0) (readable : 
   ]
 
   -- a leaf's content is cut
-  pub wrong_content : (room : ℕ) (known k : Option (List ℕ)) (bytes : List ℕ) (h : Head) (e : Error) → Consumes known k bytes → heads_of w h bytes → IsShort (content_len h) k → IsDataEnd e → RefusedFor w wrong readable room e known
+  pub wrong_content : (room : ℕ) (known k : Option (List ℕ)) (bytes : List ℕ) (h : Head) (e : Error) → Consumes known k bytes → heads_of w h bytes
+      → IsShort (content_len h) k → IsDataEnd e → RefusedFor w wrong readable room e known
   unfolding RefusedFor
   wrong_content room None k bytes h e t i s d = tt
   wrong_content room (Some xs) None bytes h e t i s d = absurd t
@@ -113,7 +118,8 @@ module _ (w : Bool) (wrong : ℕ → Error → List ℕ → Type 0) (readable : 
       here (wider room e xs (wrong_data w room e xs (inr (h, record { marker = marker_of f.byte; stands = stands f; short = s })) d))
 
   -- a list or a map would nest too deep
-  pub wrong_deep : (room : ℕ) (is_map : Bool) (len : ℕ) (known k : Option (List ℕ)) (bytes : List ℕ) → Consumes known k bytes → heads_of w (parts_head is_map len) bytes → room ≡ 1 → RefusedFor w wrong readable room errors.DepthLimitExceeded known
+  pub wrong_deep : (room : ℕ) (is_map : Bool) (len : ℕ) (known k : Option (List ℕ)) (bytes : List ℕ) → Consumes known k bytes
+      → heads_of w (parts_head is_map len) bytes → room ≡ 1 → RefusedFor w wrong readable room errors.DepthLimitExceeded known
   unfolding RefusedFor
   wrong_deep room is_map len None k bytes t i o = tt
   wrong_deep room is_map len (Some xs) None bytes t i o = absurd t
@@ -123,7 +129,8 @@ module _ (w : Bool) (wrong : ℕ → Error → List ℕ → Type 0) (readable : 
 
 module _ (w : Bool) (wrong : ℕ → Error → List ℕ → Type 0) (readable : Msgs → Type 0) where
   -- memory was short for what is behind a head
-  pub wrong_memory : (room : ℕ) (known k : Option (List ℕ)) (bytes : List ℕ) (h : Head) → Consumes known k bytes → heads_of w h bytes → ((xs : List ℕ) (m : Marker) → Stands w m h xs → wrong room errors.OutOfMemory xs) → RefusedFor w wrong readable room errors.OutOfMemory known
+  pub wrong_memory : (room : ℕ) (known k : Option (List ℕ)) (bytes : List ℕ) (h : Head) → Consumes known k bytes → heads_of w h bytes
+      → ((xs : List ℕ) (m : Marker) → Stands w m h xs → wrong room errors.OutOfMemory xs) → RefusedFor w wrong readable room errors.OutOfMemory known
   unfolding RefusedFor
   wrong_memory room None k bytes h t i f = tt
   wrong_memory room (Some xs) None bytes h t i f = absurd t
@@ -132,14 +139,21 @@ module _ (w : Bool) (wrong : ℕ → Error → List ℕ → Type 0) (readable : 
   -- ---- inside of a list or a map
 
   -- some messages were read, and the next one is refused
-  pub wrong_row : (room n : ℕ) (mid k : Option (List ℕ)) (row : List ℕ) (ms : Msgs) (e : Error) → Consumes mid k row → SpellsRow (SpellsAs w) row ms → depth_all ms < room → readable ms → count ms < n → RefusedFor w wrong readable room e k → RowRefusedFor w wrong readable room n e mid
+  pub wrong_row : (room n : ℕ) (mid k : Option (List ℕ)) (row : List ℕ) (ms : Msgs) (e : Error) → Consumes mid k row → SpellsRow (SpellsAs w) row ms
+      → depth_all ms < room → readable ms → count ms < n → RefusedFor w wrong readable room e k → RowRefusedFor w wrong readable room n e mid
   unfolding RefusedFor RowRefusedFor
   wrong_row room n None k row ms e u s d p c r = tt
   wrong_row room n (Some ys) None row ms e u s d p c r = absurd u
-  wrong_row room n (Some ys) (Some zs) row ms e u s d p c r = record { many = count ms; before = record { bytes = row; rest = zs; trees = ms; front = u; spelled = s; many = refl; fits = d; holds = p }; fewer = c; next = r }
+  wrong_row room n (Some ys) (Some zs) row ms e u s d p c r = record {
+    many = count ms;
+    before = record { bytes = row; rest = zs; trees = ms; front = u; spelled = s; many = refl; fits = d; holds = p };
+    fewer = c;
+    next = r;
+  }
 
   -- a list or a map was opened, and its messages are refused
-  pub wrong_nest : (outer room : ℕ) (is_map : Bool) (len : ℕ) (known mid : Option (List ℕ)) (bytes : List ℕ) (e : Error) → Consumes known mid bytes → heads_of w (parts_head is_map len) bytes → outer ≡ room + 1 → RowRefusedFor w wrong readable room (parts_count is_map len) e mid
+  pub wrong_nest : (outer room : ℕ) (is_map : Bool) (len : ℕ) (known mid : Option (List ℕ)) (bytes : List ℕ) (e : Error) → Consumes known mid bytes
+      → heads_of w (parts_head is_map len) bytes → outer ≡ room + 1 → RowRefusedFor w wrong readable room (parts_count is_map len) e mid
       → RefusedFor w wrong readable outer e known
   unfolding RefusedFor RowRefusedFor
   wrong_nest outer room is_map len None mid bytes e t i l r = tt
@@ -147,4 +161,10 @@ module _ (w : Bool) (wrong : ℕ → Error → List ℕ → Type 0) (readable : 
   wrong_nest outer room is_map len (Some xs) (Some ys) bytes e t i l r =
       let f : Front w (parts_head is_map len) xs ys = front_of w (parts_head is_map len) bytes xs ys t i in
       let is : suc room ≡ outer = omega (arith, l) in
-      subst (λ z. Refusal w wrong readable z e xs) is (inside (record { parts = record { is_map = is_map; len = len; marker = marker_of f.byte; stands = stands f }; many = r.many; before = r.before; fewer = r.fewer }) r.next)
+      subst (λ z. Refusal w wrong readable z e xs) is (inside
+      (record {
+        parts = record { is_map = is_map; len = len; marker = marker_of f.byte; stands = stands f };
+        many = r.many;
+        before = r.before;
+        fewer = r.fewer;
+      }) r.next)

@@ -72,7 +72,8 @@ pub record RefusesListOf (strict : Bool) (room n : ℕ) (e : Error) (behind : Li
 
 -- the same of what was left, where the bytes are told and the source had no fault
 unfoldable pub RefusesListIn : Bool → ℕ → ℕ → ℕ → Option (List ℕ) → Error → Type 0
-RefusesListIn strict room before after known e = after ≡ before → IfSome known (λ xs. (m : Marker) (n : ℕ) → (s : Stands strict m (Array n) xs) → RefusesListOf strict room n e s.rest)
+RefusesListIn strict room before after known e = after ≡ before
+    → IfSome known (λ xs. (m : Marker) (n : ℕ) → (s : Stands strict m (Array n) xs) → RefusesListOf strict room n e s.rest)
 
 -- the same of a reader that was in one state and is in another then
 abbrev pub RefusesList : {R C : Type 0} → Ghosts R → Deserializer R C → Deserializer R C → Error → Type 0

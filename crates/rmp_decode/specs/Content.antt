@@ -28,7 +28,8 @@ pub record StandsWhole (strict : Bool) (h : Head) (s xs : List ℕ) : Type 0 whe
   pub long : length s ≡ content_len h
 
 -- The error is the one for a head that isn't wanted, says that the input ended within the content of one that is, is the one for that content where it is whole, or says why no head stands at the front. Where content is wanted memory may be short instead, and nowhere else.
-pub record ExactOfContent (strict : Bool) (wanted : Head → Type 0) (other : Marker → Head → Error) (refused : Head → List ℕ → Error → Type 0) (xs : List ℕ) (e : Error) : Type 0 where
+pub record ExactOfContent (strict : Bool) (wanted : Head → Type 0) (other : Marker → Head → Error) (refused : Head → List ℕ → Error
+    → Type 0) (xs : List ℕ) (e : Error) : Type 0 where
   pub others : (m : Marker) (h : Head) → Stands strict m h xs → (wanted h → ⊥) → e ≡ other m h
   pub cut : (h : Head) → wanted h → StandsCut strict h xs → e ≢ OutOfMemory → IsDataEnd e
   pub whole : (h : Head) (s : List ℕ) → wanted h → StandsWhole strict h s xs → e ≢ OutOfMemory → refused h s e
@@ -39,13 +40,17 @@ unfoldable pub RefusesContent : Bool → (Head → Type 0) → (Marker → Head 
 RefusesContent strict wanted other refused before after known e = after ≡ before → IfSome known (λ xs. ExactOfContent strict wanted other refused xs e)
 
 -- the same of what a ready reader answers that was in one state and is in another then
-abbrev pub RefusesLeaf : {R C V : Type 0} → Ghosts R → (Head → Type 0) → (Marker → Head → Error) → (Head → List ℕ → Error → Type 0) → Deserializer R C → Deserializer R C → Result V Error → Type 0
-RefusesLeaf g wanted other refused old new result = old.failed ≡ false → IfErr result (RefusesContent old.strict wanted other refused (faults_of g old) (faults_of g new) (left g old))
+abbrev pub RefusesLeaf : {R C V : Type 0} → Ghosts R → (Head → Type 0) → (Marker → Head → Error) → (Head → List ℕ → Error → Type 0) → Deserializer R C
+    → Deserializer R C → Result V Error → Type 0
+RefusesLeaf g wanted other refused old new result = old.failed ≡ false
+    → IfErr result (RefusesContent old.strict wanted other refused (faults_of g old) (faults_of g new) (left g old))
 
 -- the same of the rest of a read, whose beginning took this head
-abbrev pub RefusesBehind : {R C : Type 0} → Ghosts R → (Head → Type 0) → (Marker → Head → Error) → (Head → List ℕ → Error → Type 0) → Head → Deserializer R C → Deserializer R C → Error → Type 0
+abbrev pub RefusesBehind : {R C : Type 0} → Ghosts R → (Head → Type 0) → (Marker → Head → Error) → (Head → List ℕ → Error → Type 0) → Head
+    → Deserializer R C → Deserializer R C → Error → Type 0
 RefusesBehind {R} {C} g wanted other refused h mid new e =
-    (old : Deserializer R C) (m : Marker) → ReadsHead g old mid (Ok (m, h)) → RefusesContent old.strict wanted other refused (faults_of g old) (faults_of g new) (left g old) e
+    (old : Deserializer R C) (m : Marker) → ReadsHead g old mid (Ok (m, h))
+    → RefusesContent old.strict wanted other refused (faults_of g old) (faults_of g new) (left g old) e
 
 -- ---- which heads are wanted
 

@@ -54,11 +54,15 @@ abbrev pub RefusesFields : {V : Type 0} → List (List ℕ) → (Bool → Bool �
 RefusesFields names reads ps s before after known e =
     RefusesBy s.strict (not_fields s.room) before after known e
     ⊎ Opened s (λ b i. RefusesParts b i before after ps (Excess (length ps))) known e
-    ⊎ OpenedMap s (λ i n known e. (fs : List (Option Msg)) × BehindPairs i (AreMet names ps fs i) n (λ left known e. PairFails names ps fs i before after left known e ⊎ Lacks reads fs i left e) known e) known e
+    ⊎ OpenedMap s (λ i n known e. (fs : List (Option Msg))
+    × BehindPairs i (AreMet names ps fs i) n (λ left known e. PairFails names ps fs i before after left known e ⊎ Lacks reads fs i left e) known e)
+    known e
 
 -- a value of a map's next pair was wanted for the field at a place: it was read before, or the value is refused
-abbrev pub FillRefused : {R C S : Type 0} → Ghosts R → Bool → Bool → (List (Option Msg) → S → Type 0) → List Part → ℕ → MapAccess R C → MapAccess R C → S → Error → Type 0
-FillRefused g human lends holds ps place old new s e = ((e ≡ Syntax DuplicateField) × IsFull holds place old new s) ⊎ EntryRefused g human lends (FieldRefused ps place) old new e
+abbrev pub FillRefused : {R C S : Type 0} → Ghosts R → Bool → Bool → (List (Option Msg) → S → Type 0) → List Part → ℕ → MapAccess R C → MapAccess R C → S
+    → Error → Type 0
+FillRefused g human lends holds ps place old new s e = ((e ≡ Syntax DuplicateField) × IsFull holds place old new s)
+    ⊎ EntryRefused g human lends (FieldRefused ps place) old new e
 
 -- ---- what a pair's fields are
 
@@ -66,13 +70,16 @@ pub no_field_held : (s : Setting) (fs : List (Option Msg)) → NoField fs → Pa
 no_field_held s [] h = tt
 no_field_held s (f ∷ fs) h = h
 
-module _ {V W : Type 0} (reads : Bool → Bool → Msg → V → Type 0) (refuses : Setting → Refusals) (rest : Bool → Bool → List (Option Msg) → W → Type 0) (ps : List Part) (law : (s : Setting) (fs : List (Option Msg)) (w : W) → rest s.human s.lends fs w → PartsHold s ps fs) where
-  pub slot_held : (s : Setting) (fs : List (Option Msg)) (o : Option V) (w : W) → Slot (reads s.human s.lends) (rest s.human s.lends) fs o w → PartsHold s (part_of reads refuses ∷ ps) fs
+module _ {V W : Type 0} (reads : Bool → Bool → Msg → V → Type 0) (refuses : Setting → Refusals) (rest : Bool → Bool → List (Option Msg) → W
+    → Type 0) (ps : List Part) (law : (s : Setting) (fs : List (Option Msg)) (w : W) → rest s.human s.lends fs w → PartsHold s ps fs) where
+  pub slot_held : (s : Setting) (fs : List (Option Msg)) (o : Option V) (w : W) → Slot (reads s.human s.lends) (rest s.human s.lends) fs o w
+      → PartsHold s (part_of reads refuses ∷ ps) fs
   slot_held s [] o w h = absurd h
   slot_held s (None ∷ fs) o w h = law s fs w h.1
   slot_held s (Some m ∷ fs) o w h = ((h.0.0, h.0.2), law s fs w h.1)
 
-  pub field_held : (absent : Option V) (s : Setting) (fs : List (Option Msg)) (v : V) (w : W) → Field (λ k. reads s.human s.lends k v) (Absent absent v) (λ gs. rest s.human s.lends gs w) fs → PartsHold s (part_of reads refuses ∷ ps) fs
+  pub field_held : (absent : Option V) (s : Setting) (fs : List (Option Msg)) (v : V) (w : W)
+      → Field (λ k. reads s.human s.lends k v) (Absent absent v) (λ gs. rest s.human s.lends gs w) fs → PartsHold s (part_of reads refuses ∷ ps) fs
   field_held absent s [] v w h = absurd h
   field_held absent s (None ∷ fs) v w h = law s fs w h.1
   field_held absent s (Some m ∷ fs) v w h = ((v, h.0), law s fs w h.1)

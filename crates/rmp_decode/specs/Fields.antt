@@ -142,14 +142,16 @@ no_field_counted (f ∷ fs) h = absurd h
 
 pub field_taken : {V W : Type 0} (reads : Msg → V → Type 0) (absent : Option V) (rest : List (Option Msg) → W → Type 0) (takes : ℕ → Msg → Type 0)
     → ((fs : List (Option Msg)) (w : W) (n : ℕ) (m : Msg) → rest fs w → at n fs ≡ Some m → takes n m)
-    → (fs : List (Option Msg)) (v : V) (w : W) (n : ℕ) (m : Msg) → Field (λ k. reads k v) (Absent absent v) (λ gs. rest gs w) fs → at n fs ≡ Some m → FieldTakes reads takes n m
+    → (fs : List (Option Msg)) (v : V) (w : W) (n : ℕ) (m : Msg) → Field (λ k. reads k v) (Absent absent v) (λ gs. rest gs w) fs → at n fs ≡ Some m
+    → FieldTakes reads takes n m
 field_taken reads absent rest takes law [] v w n m h e = absurd h
 field_taken reads absent rest takes law (None ∷ fs) v w zero m h e = absurd (cc)
 field_taken reads absent rest takes law (Some k ∷ fs) v w zero m h e = let same : k ≡ m = cc in (v, subst (λ z. reads z v) same h.0)
 field_taken reads absent rest takes law (None ∷ fs) v w (suc n) m h e = law fs w n m h.1 e
 field_taken reads absent rest takes law (Some k ∷ fs) v w (suc n) m h e = law fs w n m h.1 e
 
-pub field_counted : (P : Msg → Type 0) (A : Type 0) (Q : List (Option Msg) → Type 0) {n : ℕ} → ((fs : List (Option Msg)) → Q fs → length fs ≡ n) → (fs : List (Option Msg)) → Field P A Q fs → length fs ≡ suc n
+pub field_counted : (P : Msg → Type 0) (A : Type 0) (Q : List (Option Msg) → Type 0) {n : ℕ} → ((fs : List (Option Msg)) → Q fs → length fs ≡ n)
+    → (fs : List (Option Msg)) → Field P A Q fs → length fs ≡ suc n
 field_counted P A Q law [] h = absurd h
 field_counted P A Q law (None ∷ fs) h = ap suc (law fs h.1)
 field_counted P A Q law (Some m ∷ fs) h = ap suc (law fs h.1)

@@ -67,7 +67,8 @@ pub record Lawful {R C V : Type 0} (g : Ghosts R) (reads : Msg → V → Type 0)
   pub clean : OnOk result (new.kept ≡ Nothing)
   pub sound : OnOk result (faults_of g new ≡ faults_of g old)
   -- a refusal means that there is none
-  pub err : old.failed ≡ false → IfErr result (λ e. Explains e (faults_of g old) (faults_of g new) (Refuses (SpellsAs old.strict) (Readable reads) (room_of old) (left g old)))
+  pub err : old.failed ≡ false → IfErr result (λ e. Explains e (faults_of g old) (faults_of g new)
+      (Refuses (SpellsAs old.strict) (Readable reads) (room_of old) (left g old)))
   pub failed : OnErr result (new.failed ≡ true)
   -- after a failure nothing is taken
   pub before : old.failed ≡ true → MatchResult result (λ _. ⊥) IsFailedBefore × (new ≡ old)

@@ -39,7 +39,8 @@ pub record OpenedMap (s : Setting) (P : Setting → ℕ → Option (List ℕ) �
   pub refused : P (inside s inner) many rest e
 
 -- behind pairs of which Q holds, of n in all, it is refused as P says, by how many are still to come
-pub record BehindPairs (s : Setting) (Q : Pairs → Type 0) (n : ℕ) (P : ℕ → Option (List ℕ) → Error → Type 0) (known : Option (List ℕ)) (e : Error) : Type 0 where
+pub record BehindPairs (s : Setting) (Q : Pairs → Type 0) (n : ℕ) (P : ℕ → Option (List ℕ) → Error
+    → Type 0) (known : Option (List ℕ)) (e : Error) : Type 0 where
   pub bytes : List ℕ
   pub rest : Option (List ℕ)
   pub trees : Pairs
@@ -60,7 +61,9 @@ abbrev pub PairsRead : {K V : Type 0} → (Bool → Bool → Msg → K → Type 
 PairsRead {K} {V} keys values s ps = (es : List (K × V)) × ReadsPairs (keys s.human s.lends) (values s.human s.lends) ps es
 
 -- how a map is refused: it can't be opened, a key or a value is, or memory was short for the pairs that were read, of which there is one
-abbrev pub RefusesPairs : {K V : Type 0} → (Bool → Bool → Msg → K → Type 0) → (Bool → Bool → Msg → V → Type 0) → (Setting → Refusals) → (Setting → Refusals) → Setting → Refusals
+abbrev pub RefusesPairs : {K V : Type 0} → (Bool → Bool → Msg → K → Type 0) → (Bool → Bool → Msg → V → Type 0) → (Setting → Refusals) → (Setting → Refusals)
+    → Setting → Refusals
 RefusesPairs keys values key value s before after known e =
     RefusesBy s.strict (not_map s.room) before after known e
-    ⊎ OpenedMap s (λ i n known e. BehindPairs i (PairsRead keys values i) n (PairRefused i (Readable (keys i.human i.lends)) key value before after) known e ⊎ BehindPairs i (λ ps. (0 < count_pairs ps) × PairsRead keys values i ps) n IsMemory known e) known e
+    ⊎ OpenedMap s (λ i n known e. BehindPairs i (PairsRead keys values i) n (PairRefused i (Readable (keys i.human i.lends)) key value before after) known e
+    ⊎ BehindPairs i (λ ps. (0 < count_pairs ps) × PairsRead keys values i ps) n IsMemory known e) known e

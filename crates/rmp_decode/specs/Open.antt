@@ -29,11 +29,13 @@ pub record Behind (strict : Bool) (room : ℕ) (counts rest ys : List ℕ) : Typ
 -- the first thing that is wrong with what is wanted: in what the innermost wants, or behind that
 abbrev pub OpenRefusal : Bool → (ℕ → Error → List ℕ → Type 0) → ℕ → List ℕ → Error → List ℕ → Type 0
 OpenRefusal strict wrong room [] e xs = ⊥
-OpenRefusal strict wrong room (n ∷ counts) e xs = RowRefusal strict wrong any_row room n e xs ⊎ ((before : BeginsRow (SpellsAs strict) any_row room n xs) × OpenRefusal strict wrong (suc room) counts e before.rest)
+OpenRefusal strict wrong room (n ∷ counts) e xs = RowRefusal strict wrong any_row room n e xs
+    ⊎ ((before : BeginsRow (SpellsAs strict) any_row room n xs) × OpenRefusal strict wrong (suc room) counts e before.rest)
 
 -- Taking these bytes leads from what was wanted to what is wanted then: what spells the one behind them spells the other with them, what stood there
 -- stands behind them, and so does what is wrong.
-pub record Leads (strict : Bool) (wrong : ℕ → Error → List ℕ → Type 0) (room : ℕ) (counts : List ℕ) (room' : ℕ) (counts' : List ℕ) (taken : List ℕ) : Type 0 where
+pub record Leads (strict : Bool) (wrong : ℕ → Error → List ℕ
+    → Type 0) (room : ℕ) (counts : List ℕ) (room' : ℕ) (counts' : List ℕ) (taken : List ℕ) : Type 0 where
   pub closes : (b : List ℕ) → SpellsOpen strict room' counts' b → SpellsOpen strict room counts (taken ++ b)
   pub opens : (b rest ys : List ℕ) → SpellsOpen strict room counts b → b ++ rest ≡ taken ++ ys → Behind strict room' counts' rest ys
   pub refuses : (e : Error) (ys : List ℕ) → OpenRefusal strict wrong room' counts' e ys → OpenRefusal strict wrong room counts e (taken ++ ys)

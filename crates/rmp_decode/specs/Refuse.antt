@@ -76,15 +76,18 @@ pub record Enters (strict : Bool) (readable : Msgs → Type 0) (room : ℕ) (xs 
 -- a map that opens there, behind messages of it that are readable.
 pub data Refusal (strict : Bool) (wrong : ℕ → Error → List ℕ → Type 0) (readable : Msgs → Type 0) : ℕ → Error → List ℕ → Type 0 where
   here : {room : ℕ} {e : Error} {xs : List ℕ} → wrong room e xs → Refusal strict wrong readable room e xs
-  inside : {room : ℕ} {e : Error} {xs : List ℕ} → (enters : Enters strict readable room xs) → Refusal strict wrong readable room e enters.before.rest → Refusal strict wrong readable (suc room) e xs
+  inside : {room : ℕ} {e : Error} {xs : List ℕ} → (enters : Enters strict readable room xs) → Refusal strict wrong readable room e enters.before.rest
+      → Refusal strict wrong readable (suc room) e xs
 
 -- the same, where the bytes are told
 unfoldable pub RefusedFor : Bool → (ℕ → Error → List ℕ → Type 0) → (Msgs → Type 0) → ℕ → Error → Option (List ℕ) → Type 0
 RefusedFor strict wrong readable room e known = IfSome known (Refusal strict wrong readable room e)
 
 -- What a refusal of a ready reader says, unless the source had a fault.
-abbrev pub RefusesFirst : {R C : Type 0} → Ghosts R → (Bool → ℕ → Error → List ℕ → Type 0) → (Msgs → Type 0) → Deserializer R C → Deserializer R C → Error → Type 0
-RefusesFirst g wrong readable old new e = old.failed ≡ false → faults_of g new ≡ faults_of g old → RefusedFor old.strict (wrong old.strict) readable (room_of old) e (left g old)
+abbrev pub RefusesFirst : {R C : Type 0} → Ghosts R → (Bool → ℕ → Error → List ℕ → Type 0) → (Msgs → Type 0) → Deserializer R C → Deserializer R C → Error
+    → Type 0
+RefusesFirst g wrong readable old new e = old.failed ≡ false → faults_of g new ≡ faults_of g old
+    → RefusedFor old.strict (wrong old.strict) readable (room_of old) e (left g old)
 
 -- of so many messages that are wanted one after another some are readable, and the next one is refused
 pub record RowRefusal (strict : Bool) (wrong : ℕ → Error → List ℕ → Type 0) (readable : Msgs → Type 0) (room n : ℕ) (e : Error) (xs : List ℕ) : Type 0 where
@@ -98,5 +101,7 @@ unfoldable pub RowRefusedFor : Bool → (ℕ → Error → List ℕ → Type 0) 
 RowRefusedFor strict wrong readable room n e known = IfSome known (RowRefusal strict wrong readable room n e)
 
 -- what a refusal of such messages says, unless the source had a fault
-abbrev pub RefusesRowFirst : {R C : Type 0} → Ghosts R → (Bool → ℕ → Error → List ℕ → Type 0) → (Msgs → Type 0) → ℕ → ℕ → Deserializer R C → Deserializer R C → Error → Type 0
-RefusesRowFirst g wrong readable room n old new e = faults_of g new ≡ faults_of g old → RowRefusedFor old.strict (wrong old.strict) readable room n e (left g old)
+abbrev pub RefusesRowFirst : {R C : Type 0} → Ghosts R → (Bool → ℕ → Error → List ℕ → Type 0) → (Msgs → Type 0) → ℕ → ℕ → Deserializer R C
+    → Deserializer R C → Error → Type 0
+RefusesRowFirst g wrong readable room n old new e = faults_of g new ≡ faults_of g old
+    → RowRefusedFor old.strict (wrong old.strict) readable room n e (left g old)

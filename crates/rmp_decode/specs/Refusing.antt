@@ -96,7 +96,8 @@ abbrev pub IsMemory : ℕ → Option (List ℕ) → Error → Type 0
 IsMemory left known e = e ≡ OutOfMemory
 
 -- behind items of which Q holds, of n in all, it is refused as P says, by how many are still to come
-pub record Behind (spells : List ℕ → Msg → Type 0) (Q : Msgs → Type 0) (room n : ℕ) (P : ℕ → Option (List ℕ) → Error → Type 0) (known : Option (List ℕ)) (e : Error) : Type 0 where
+pub record Behind (spells : List ℕ → Msg → Type 0) (Q : Msgs → Type 0) (room n : ℕ) (P : ℕ → Option (List ℕ) → Error
+    → Type 0) (known : Option (List ℕ)) (e : Error) : Type 0 where
   pub bytes : List ℕ
   pub rest : Option (List ℕ)
   pub trees : Msgs
@@ -131,16 +132,20 @@ EachRead {V} reads s ms = (vs : List V) × ReadsEach (reads s.human s.lends) ms 
 -- how a list of elements of one type is refused: one of them is, or memory was short for those that were read, of which there is one
 abbrev pub RefusesEach : {V : Type 0} → (Bool → Bool → Msg → V → Type 0) → (Setting → Refusals) → Setting → Refusals
 RefusesEach reads P s =
-    RefusesSeq s (λ a z b i n known e. Behind (SpellsIn i.strict b) (EachRead reads i) i.room n (WhereSome (RefusedIn b (P i) a z)) known e ⊎ Behind (SpellsIn i.strict b) (λ ms. (0 < count ms) × EachRead reads i ms) i.room n IsMemory known e)
+    RefusesSeq s (λ a z b i n known e. Behind (SpellsIn i.strict b) (EachRead reads i) i.room n (WhereSome (RefusedIn b (P i) a z)) known e
+    ⊎ Behind (SpellsIn i.strict b) (λ ms. (0 < count ms) × EachRead reads i ms) i.room n IsMemory known e)
 
 -- So many elements of one type are wanted: behind fewer of them the next one isn't there or is refused.
-abbrev pub OneWanted : {V : Type 0} → ℕ → (Bool → Bool → Msg → V → Type 0) → (Setting → Refusals) → Bool → Setting → ℕ → ℕ → ℕ → Option (List ℕ) → Error → Type 0
-OneWanted n reads P b s before after many = Behind (SpellsIn s.strict b) (λ ms. (count ms < n) × EachRead reads s ms) s.room many (Wanted (RefusedIn b (P s) before after))
+abbrev pub OneWanted : {V : Type 0} → ℕ → (Bool → Bool → Msg → V → Type 0) → (Setting → Refusals) → Bool → Setting → ℕ → ℕ → ℕ → Option (List ℕ) → Error
+    → Type 0
+OneWanted n reads P b s before after many = Behind (SpellsIn s.strict b) (λ ms. (count ms < n) × EachRead reads s ms) s.room many
+    (Wanted (RefusedIn b (P s) before after))
 
 -- how a list is refused that has other elements than so many of one type: one is wanted, or behind so many there are more
 abbrev pub RefusesTimes : {V : Type 0} → ℕ → (Bool → Bool → Msg → V → Type 0) → (Setting → Refusals) → Setting → Refusals
 RefusesTimes n reads P s =
-    RefusesSeq s (λ a z b i many known e. OneWanted n reads P b i a z many known e ⊎ Behind (SpellsIn i.strict b) (λ ms. (count ms ≡ n) × EachRead reads i ms) i.room many (Excess n) known e)
+    RefusesSeq s (λ a z b i many known e. OneWanted n reads P b i a z many known e
+    ⊎ Behind (SpellsIn i.strict b) (λ ms. (count ms ≡ n) × EachRead reads i ms) i.room many (Excess n) known e)
 
 -- ---- elements of several types, one after another
 
@@ -154,7 +159,8 @@ abbrev pub part_of : {V : Type 0} → (Bool → Bool → Msg → V → Type 0) �
 part_of reads refuses = record { holds = λ s. Readable (reads s.human s.lends); refuses = refuses }
 
 -- an element was read of which P holds, and behind it the refusal is as `next` says, by how many are still to come
-pub record BehindElement (b : Bool) (s : Setting) (P : Msg → Type 0) (next : ℕ → Option (List ℕ) → Error → Type 0) (n : ℕ) (known : Option (List ℕ)) (e : Error) : Type 0 where
+pub record BehindElement (b : Bool) (s : Setting) (P : Msg → Type 0) (next : ℕ → Option (List ℕ) → Error
+    → Type 0) (n : ℕ) (known : Option (List ℕ)) (e : Error) : Type 0 where
   pub bytes : List ℕ
   pub rest : Option (List ℕ)
   pub tree : Msg
@@ -169,7 +175,8 @@ pub record BehindElement (b : Bool) (s : Setting) (P : Msg → Type 0) (next : �
 -- The first of these that isn't there or is refused is so, or they are all read and the refusal behind them is as `last` says.
 abbrev pub RefusesParts : Bool → Setting → ℕ → ℕ → List Part → (ℕ → Option (List ℕ) → Error → Type 0) → ℕ → Option (List ℕ) → Error → Type 0
 RefusesParts b s before after [] last n known e = last n known e
-RefusesParts b s before after (p ∷ ps) last n known e = Wanted (RefusedIn b (p.refuses s) before after) n known e ⊎ BehindElement b s (p.holds s) (RefusesParts b s before after ps last) n known e
+RefusesParts b s before after (p ∷ ps) last n known e = Wanted (RefusedIn b (p.refuses s) before after) n known e
+    ⊎ BehindElement b s (p.holds s) (RefusesParts b s before after ps last) n known e
 
 -- how a list is refused that has other elements than these
 abbrev pub RefusesTuple : List Part → Setting → Refusals
@@ -181,4 +188,5 @@ no_refusal left known e = ⊥
 
 -- one of these was refused of an access that was in one state and is in another then
 abbrev pub PartsRefused : {R C : Type 0} → Ghosts R → Bool → Bool → List Part → SeqAccess R C → SeqAccess R C → Error → Type 0
-PartsRefused g human lends ps old new e = RefusesParts old.bytes (element_setting human lends old) (faults_of g old.de.now) (faults_of g new.de.now) ps no_refusal old.left (left g old.de.now) e
+PartsRefused g human lends ps old new e = RefusesParts old.bytes (element_setting human lends old) (faults_of g old.de.now) (faults_of g new.de.now) ps
+    no_refusal old.left (left g old.de.now) e

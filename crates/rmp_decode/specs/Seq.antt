@@ -136,12 +136,14 @@ pub record TakesElement {R C V : Type 0} (g : Ghosts R) (reads : Msg → V → T
 pub record FailsToTake {R C V : Type 0} (g : Ghosts R) (reads : Msg → V → Type 0) (old new : SeqAccess R C) (e : Error) : Type 0 where
   pub some : 0 < old.left
   pub stays : Stays g old.de.now new.de.now
-  pub err : Explains e (faults_of g old.de.now) (faults_of g new.de.now) (Refuses (SpellsIn old.de.now.strict old.bytes) (Readable reads) (inner_of old) (left g old.de.now))
+  pub err : Explains e (faults_of g old.de.now) (faults_of g new.de.now)
+      (Refuses (SpellsIn old.de.now.strict old.bytes) (Readable reads) (inner_of old) (left g old.de.now))
 
 -- there was no element, or it was refused
 pub record FailsElement {R C V : Type 0} (g : Ghosts R) (reads : Msg → V → Type 0) (old new : SeqAccess R C) (e : Error) : Type 0 where
   pub stays : Stays g old.de.now new.de.now
-  pub err : (old.left ≡ 0) ⊎ ((0 < old.left) × Explains e (faults_of g old.de.now) (faults_of g new.de.now) (Refuses (SpellsIn old.de.now.strict old.bytes) (Readable reads) (inner_of old) (left g old.de.now)))
+  pub err : (old.left ≡ 0) ⊎ ((0 < old.left) × Explains e (faults_of g old.de.now) (faults_of g new.de.now)
+      (Refuses (SpellsIn old.de.now.strict old.bytes) (Readable reads) (inner_of old) (left g old.de.now)))
 
 -- a byte was taken, and is kept back as a number
 pub record KeepsByte {R C : Type 0} (g : Ghosts R) (old new : Deserializer R C) : Type 0 where
@@ -199,4 +201,5 @@ pub record TakesParts {R C V : Type 0} (g : Ghosts R) (Q : V → Msgs → Type 0
 pub record FailsParts {R C V : Type 0} (g : Ghosts R) (Q : V → Msgs → Type 0) (old new : SeqAccess R C) (e : Error) : Type 0 where
   pub stays : Stays g old.de.now new.de.now
   pub failed : new.de.now.failed ≡ true
-  pub err : Explains e (faults_of g old.de.now) (faults_of g new.de.now) (RefusesRow (SpellsIn old.de.now.strict old.bytes) (λ ms. (v : V) × Q v ms) (inner_of old) old.left (left g old.de.now))
+  pub err : Explains e (faults_of g old.de.now) (faults_of g new.de.now)
+      (RefusesRow (SpellsIn old.de.now.strict old.bytes) (λ ms. (v : V) × Q v ms) (inner_of old) old.left (left g old.de.now))

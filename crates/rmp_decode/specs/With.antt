@@ -55,7 +55,8 @@ abbrev pub CanRead : {F R C X : Type 0} → Ghosts R → Reading F R C X → F �
 CanRead {F} {R} {C} g once f s = (d : Deserializer R C) → Lends g s d → FnOnceTakesAtMut once f d
 
 -- the next element was offered to f
-pub record PartRead {F R C X : Type 0} (g : Ghosts R) (once : Reading F R C X) (f : F) (old new : SeqAccess R C) (result : Result (Option X) Error) : Type 0 where
+pub record PartRead {F R C X : Type 0} (g : Ghosts R) (once : Reading F R C X) (f : F) (old new : SeqAccess R C) (result : Result (Option X) Error) : Type
+    0 where
   pub from : Deserializer R C
   pub offers : OffersPart g old.bytes old.de.now from
   pub given : Result X Error

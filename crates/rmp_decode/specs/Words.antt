@@ -2,7 +2,17 @@
 use Rattle.std.specs.Prelude.{ℕ, List, codes, take}
 use Rattle.rmp_decode.specs.declared.text.OwnText.{OwnText}
 use Rattle.rmp_decode.specs.declared.text.Text.{Text}
-use Rattle.rmp_decode.specs.declared.text.Text.TheVariants.{FailedBefore, InvalidType, InvalidValue, InvalidLength, UnknownVariant, DuplicateField, MissingField, ReadByExt, Own}
+use Rattle.rmp_decode.specs.declared.text.Text.TheVariants.{
+  FailedBefore,
+  InvalidType,
+  InvalidValue,
+  InvalidLength,
+  UnknownVariant,
+  DuplicateField,
+  MissingField,
+  ReadByExt,
+  Own,
+}
 
 abbrev pub own_words : OwnText → List ℕ
 own_words own = take own.len own.bytes

@@ -13,7 +13,8 @@ use Rattle.rmp_encode.specs.Writes.{WritesTree}
 
 module _ {W : Type 0} (g : Ghosts W) where
   -- one tree, written twice
-  written_twice : (m : Bool) (d : Option Data) (s t : Settings) {a x b y : W} → s ≡ t → WritesTree g m (tree_of s d) a x done → WritesTree g m (tree_of t d) b y done → AppendSame (g.told a) (g.told x) (g.told b) (g.told y)
+  written_twice : (m : Bool) (d : Option Data) (s t : Settings) {a x b y : W} → s ≡ t → WritesTree g m (tree_of s d) a x done
+      → WritesTree g m (tree_of t d) b y done → AppendSame (g.told a) (g.told x) (g.told b) (g.told y)
   written_twice m d s t {a} {x} {b} {y} e v w = record {
     bytes = spell (tree_of s d);
     here = v.whole;
@@ -21,8 +22,10 @@ module _ {W : Type 0} (g : Ghosts W) where
   }
 
 module _ {W C : Type 0} (g : Ghosts W) where
-  pub lists_same : (s t : Serializer W C) (all : List (Option Data)) (x y : W) → settings_of s ≡ settings_of t → IsListWritten g s all x → IsListWritten g t all y → AppendSame (g.told (sink_of s)) (g.told x) (g.told (sink_of t)) (g.told y)
+  pub lists_same : (s t : Serializer W C) (all : List (Option Data)) (x y : W) → settings_of s ≡ settings_of t → IsListWritten g s all x
+      → IsListWritten g t all y → AppendSame (g.told (sink_of s)) (g.told x) (g.told (sink_of t)) (g.told y)
   lists_same s t all x y e h k = written_twice g g.takes_memory _ (settings_of s) (settings_of t) e (h.ended s _ h.handed) (k.ended t _ k.handed)
 
-  pub maps_same : (s t : Serializer W C) (all : List (Option Data)) (x y : W) → settings_of s ≡ settings_of t → IsMapWritten g s all x → IsMapWritten g t all y → AppendSame (g.told (sink_of s)) (g.told x) (g.told (sink_of t)) (g.told y)
+  pub maps_same : (s t : Serializer W C) (all : List (Option Data)) (x y : W) → settings_of s ≡ settings_of t → IsMapWritten g s all x
+      → IsMapWritten g t all y → AppendSame (g.told (sink_of s)) (g.told x) (g.told (sink_of t)) (g.told y)
   maps_same s t all x y e h k = written_twice g g.takes_memory _ (settings_of s) (settings_of t) e (h.ended s _ h.handed) (k.ended t _ k.handed)

@@ -1,5 +1,30 @@
 -- What was opened has written, step by step, whatever compound holds it.
-use Rattle.std.proofs.Common.{◌≡◌, ℕ, ◌+◌, ◌<◌, ◌≤◌, List, [], ◌∷◌, ◌++◌, length, map, drop, get_or, drop_of_length-le, Bool, true, Option, refl, sym, ◌∙◌, ap, subst, append_assoc, append-nil}
+use Rattle.std.proofs.Common.{
+  ◌≡◌,
+  ℕ,
+  ◌+◌,
+  ◌<◌,
+  ◌≤◌,
+  List,
+  [],
+  ◌∷◌,
+  ◌++◌,
+  length,
+  map,
+  drop,
+  get_or,
+  drop_of_length-le,
+  Bool,
+  true,
+  Option,
+  refl,
+  sym,
+  ◌∙◌,
+  ap,
+  subst,
+  append_assoc,
+  append-nil,
+}
 use Rattle.std.specs.Prelude.{Result, Ok, Err, OnOk, OnErr, IfErr}
 use Rattle.std.specs.List.{flat_map, AllByRecursion}
 use Rattle.std.proofs.lemmas.List.{flat_map_more, drop_more}
@@ -52,46 +77,69 @@ module _ {W C : Type 0} (g : Ghosts W) where
   keeps_last {a} {b} {c} e k = subst (λ l. Keeps g a l) (sym e) k
 
 -- what a tree is made of
-pub made_as : {s : Settings} {t t' : Option Msg} {P : Type 0} {head : List ℕ} {parts : List (Option Data)} → t ≡ t' → IsMadeOf s t' P head parts → IsMadeOf s t P head parts
+pub made_as : {s : Settings} {t t' : Option Msg} {P : Type 0} {head : List ℕ} {parts : List (Option Data)} → t ≡ t' → IsMadeOf s t' P head parts
+    → IsMadeOf s t P head parts
 made_as {s} {t} {t'} {P} {head} {parts} e h = subst (λ x. IsMadeOf s x P head parts) (sym e) h
 
-pub made_sure : {s : Settings} {t : Option Msg} {P : Type 0} {head : List ℕ} {parts : List (Option Data)} → P → IsMadeOf s t P head parts → IsMadeOf s t (Unit {0}) head parts
+pub made_sure : {s : Settings} {t : Option Msg} {P : Type 0} {head : List ℕ} {parts : List (Option Data)} → P → IsMadeOf s t P head parts
+    → IsMadeOf s t (Unit {0}) head parts
 made_sure p h = record { may = λ _ a. h.may p a; can = λ a. (tt, (h.can a).1); text = h.text }
 
-pub made_of : {s : Settings} {t : Option Msg} {P : Type 0} {head : List ℕ} {parts parts' : List (Option Data)} → parts ≡ parts' → IsMadeOf s t P head parts → IsMadeOf s t P head parts'
+pub made_of : {s : Settings} {t : Option Msg} {P : Type 0} {head : List ℕ} {parts parts' : List (Option Data)} → parts ≡ parts' → IsMadeOf s t P head parts
+    → IsMadeOf s t P head parts'
 made_of {s} {t} {P} {head} {parts} {parts'} e h = subst (IsMadeOf s t P head) e h
 
 module _ {W : Type 0} (g : Ghosts W) where
   -- its head and all of its parts were written, or the last of them failed
-  pub made_ended : {m : Bool} (s : Settings) (t : Option Msg) {head : List ℕ} {parts : List (Option Data)} {old new : W} {r : Result (Unit {0}) Error} → IsMadeOf s t (Unit {0}) head parts
+  pub made_ended : {m : Bool} (s : Settings) (t : Option Msg) {head : List ℕ} {parts : List (Option Data)} {old new : W} {r : Result (Unit {0}) Error}
+      → IsMadeOf s t (Unit {0}) head parts
       → WritesPart g m (AllByRecursion (Has s) parts) (head ++ flat_map (spelling s) parts) old new r → WritesTree g m t old new r
   made_ended s t h w = part_as g (λ x. x) (h.may tt) (λ a. (h.can a).1) h.text w
 
   -- its head or some part of it failed
-  pub made_stopped : {m : Bool} (s : Settings) (t : Option Msg) {head : List ℕ} (front rest : List (Option Data)) {old new : W} {e : Error} → IsMadeOf s t (Unit {0}) head (front ++ rest)
-      → WritesPart g {A = Unit {0}} m (AllByRecursion (Has s) front) (head ++ flat_map (spelling s) front) old new (Err e) → WritesTree g {A = Unit {0}} m t old new (Err e)
+  pub made_stopped : {m : Bool} (s : Settings) (t : Option Msg) {head : List ℕ} (front rest : List (Option Data)) {old new : W} {e : Error}
+      → IsMadeOf s t (Unit {0}) head (front ++ rest)
+      → WritesPart g {A = Unit {0}} m (AllByRecursion (Has s) front) (head ++ flat_map (spelling s) front) old new (Err e)
+      → WritesTree g {A = Unit {0}} m t old new (Err e)
   made_stopped s t {head} front rest h w =
-      made_ended s t h (part_as g (λ x. x) (λ a. all_append (Has s) front rest a.0 a.1) (λ a. (all_front (Has s) front rest a, all_back (Has s) front rest a)) (λ _. append_assoc head (flat_map (spelling s) front) (flat_map (spelling s) rest) ∙ ap (λ l. head ++ l) (sym (flat_map-append (spelling s) front rest)))
+      made_ended s t h (part_as g (λ x. x) (λ a. all_append (Has s) front rest a.0 a.1)
+      (λ a. (all_front (Has s) front rest a, all_back (Has s) front rest a))
+      (λ _. append_assoc head (flat_map (spelling s) front) (flat_map (spelling s) rest)
+      ∙ ap (λ l. head ++ l) (sym (flat_map-append (spelling s) front rest)))
       (part_stops g {B = Unit {0}} {Q = AllByRecursion (Has s) rest} (flat_map (spelling s) rest) w))
 
 module _ {W C : Type 0} (g : Ghosts W) where
   -- the head was written, or failed
-  pub begins : {P : Type 0} (head : List ℕ) (old now : Serializer W C) (r : Result (Unit {0}) Error) → P → Keeps g old now → WritesPart g g.takes_memory (Unit {0}) head (sink_of old) (sink_of now) r → Begins g P head old now r
-  begins head old now (Ok u) p k w = λ t parts h. record { head = head; front = []; made = made_sure p h; keeps = k; writes = part_as g (λ _. refl) (λ _. tt) (λ _. tt) (λ _. sym (append-nil head)) (part_any g true tt w) }
-  begins head old now (Err e) p k w = λ t parts h. made_stopped g (settings_of old) t [] parts (made_sure p h) (part_as g (λ x. x) (λ _. tt) (λ _. tt) (λ _. sym (append-nil head)) w)
+  pub begins : {P : Type 0} (head : List ℕ) (old now : Serializer W C) (r : Result (Unit {0}) Error) → P → Keeps g old now
+      → WritesPart g g.takes_memory (Unit {0}) head (sink_of old) (sink_of now) r → Begins g P head old now r
+  begins head old now (Ok u) p k w = λ t parts h. record {
+    head = head;
+    front = [];
+    made = made_sure p h;
+    keeps = k;
+    writes = part_as g (λ _. refl) (λ _. tt) (λ _. tt) (λ _. sym (append-nil head))
+        (part_any g true tt w);
+  }
+  begins head old now (Err e) p k w = λ t parts h. made_stopped g (settings_of old) t [] parts (made_sure p h)
+      (part_as g (λ x. x) (λ _. tt) (λ _. tt) (λ _. sym (append-nil head)) w)
 
   -- what is too long is refused
   pub begins_not : {P : Type 0} (head : List ℕ) (old : Serializer W C) (e : Error) → IsTooLong e → ¬ P → Begins g P head old old (Err e)
   begins_not head old e is not = λ t parts h. part_refused g g.takes_memory (HasTree t) (spell t) (sink_of old) e is (λ a. not (h.can a).0)
 
   -- what went before, and then one part
-  with_next : (m : Bool) (d : Settings → Option Data) {now : Serializer W C} (now' : Serializer W C) {r : Result (Unit {0}) Error} {old : Serializer W C} {t : Option Msg} {rest : List (Option Data)} (h : IsWriting g old t (d (settings_of old) ∷ rest) now)
+  with_next : (m : Bool) (d : Settings → Option Data) {now : Serializer W C} (now' : Serializer W C) {r : Result (Unit {0}) Error} {old : Serializer W C}
+      {t : Option Msg} {rest : List (Option Data)} (h : IsWriting g old t (d (settings_of old) ∷ rest) now)
       → WritesTree g m (tree_of (settings_of now) (d (settings_of now))) (sink_of now) (sink_of now') r
-      → WritesPart g m (AllByRecursion (Has (settings_of old)) (h.front ++ d (settings_of old) ∷ [])) (h.head ++ flat_map (spelling (settings_of old)) (h.front ++ d (settings_of old) ∷ [])) (sink_of old) (sink_of now') r
+      → WritesPart g m (AllByRecursion (Has (settings_of old)) (h.front ++ d (settings_of old) ∷ []))
+      (h.head ++ flat_map (spelling (settings_of old)) (h.front ++ d (settings_of old) ∷ [])) (sink_of old) (sink_of now') r
   with_next m d {now} now' {r} {old} {t} {rest} h w =
       let s = settings_of old in
-      let w' : WritesPart g m (Has s (d s)) (spelling s (d s)) (sink_of now) (sink_of now') r = subst (λ z. WritesPart g m (Has z (d z)) (spelling z (d z)) (sink_of now) (sink_of now') r) h.keeps.settings w in
-      part_as g (λ x. x) (λ p. all_append (Has s) h.front (d s ∷ []) p.0 (p.1, tt)) (λ a. (all_front (Has s) h.front (d s ∷ []) a, (all_back (Has s) h.front (d s ∷ []) a).0)) (λ _. flat_map_more (spelling s) h.head h.front (d s)) (part_then g (part_any g m (tt {0}) h.writes) w')
+      let w' : WritesPart g m (Has s (d s)) (spelling s (d s)) (sink_of now) (sink_of now') r = subst
+      (λ z. WritesPart g m (Has z (d z)) (spelling z (d z)) (sink_of now) (sink_of now') r) h.keeps.settings w in
+      part_as g (λ x. x) (λ p. all_append (Has s) h.front (d s ∷ []) p.0 (p.1, tt))
+      (λ a. (all_front (Has s) h.front (d s ∷ []) a, (all_back (Has s) h.front (d s ∷ []) a).0)) (λ _. flat_map_more (spelling s) h.head h.front (d s))
+      (part_then g (part_any g m (tt {0}) h.writes) w')
 
   -- a part was written, or failed
   pub goes : (m : Settings → Bool) (d : Settings → Option Data) (now now' : Serializer W C) (r : Result (Unit {0}) Error) → Keeps g now now'
@@ -105,37 +153,51 @@ module _ {W C : Type 0} (g : Ghosts W) where
     writes = with_next true d now' h (part_any g true (tt {0}) w);
   }
   goes m d now now' (Err e) k w old t rest h =
-      made_stopped g (settings_of old) t (h.front ++ d (settings_of old) ∷ []) rest (made_of (sym (append_assoc h.front (d (settings_of old) ∷ []) rest)) h.made)
-      (with_next (m (settings_of old)) d now' h (subst (λ z. WritesTree g {A = Unit {0}} (m z) (tree_of (settings_of now) (d (settings_of now))) (sink_of now) (sink_of now') (Err e)) h.keeps.settings w))
+      made_stopped g (settings_of old) t (h.front ++ d (settings_of old) ∷ []) rest
+      (made_of (sym (append_assoc h.front (d (settings_of old) ∷ []) rest)) h.made)
+      (with_next (m (settings_of old)) d now' h (subst (λ z. WritesTree g {A = Unit {0}} (m z) (tree_of (settings_of now) (d (settings_of now)))
+      (sink_of now) (sink_of now') (Err e)) h.keeps.settings w))
 
   -- nothing is to come
-  pub closes : (m : Bool) (old : Serializer W C) (t : Option Msg) (now : Serializer W C) (u : Unit {0}) → IsWriting g old t [] now → WritesTree g m t (sink_of old) (sink_of now) (Ok u)
+  pub closes : (m : Bool) (old : Serializer W C) (t : Option Msg) (now : Serializer W C) (u : Unit {0}) → IsWriting g old t [] now
+      → WritesTree g m t (sink_of old) (sink_of now) (Ok u)
   closes m old t now u h = made_ended g (settings_of old) t (made_of (append-nil h.front) h.made) (part_any g m u h.writes)
 
   -- the same parts are to come
-  pub still_written : {old : Serializer W C} {t : Option Msg} {some rest : List (Option Data)} {now : Serializer W C} → some ≡ rest → IsWriting g old t some now → IsWriting g old t rest now
+  pub still_written : {old : Serializer W C} {t : Option Msg} {some rest : List (Option Data)} {now : Serializer W C} → some ≡ rest
+      → IsWriting g old t some now → IsWriting g old t rest now
   still_written {old} {t} {some} {rest} {now} e h = subst (λ l. IsWriting g old t l now) e h
 
   -- of several parts, as a loop has them: one more was written, one failed, and none is left
-  pub next_ok : (d : Settings → Option Data) {m : Bool} (now now' : Serializer W C) (u : Unit {0}) → Keeps g now now' → WritesTree g m (tree_of (settings_of now) (d (settings_of now))) (sink_of now) (sink_of now') (Ok u)
-      → (old : Serializer W C) (t : Option Msg) (rest some : List (Option Data)) → some ≡ d (settings_of old) ∷ rest → IsWriting g old t some now → IsWriting g old t rest now'
+  pub next_ok : (d : Settings → Option Data) {m : Bool} (now now' : Serializer W C) (u : Unit {0}) → Keeps g now now'
+      → WritesTree g m (tree_of (settings_of now) (d (settings_of now))) (sink_of now) (sink_of now') (Ok u)
+      → (old : Serializer W C) (t : Option Msg) (rest some : List (Option Data)) → some ≡ d (settings_of old) ∷ rest → IsWriting g old t some now
+      → IsWriting g old t rest now'
   next_ok d {m} now now' u k w old t rest some e h = goes (λ _. m) d now now' (Ok u) k w old t rest (still_written e h)
 
-  pub next_err : (m : Settings → Bool) (d : Settings → Option Data) (now now' : Serializer W C) (x : Error) → Keeps g now now' → WritesTree g {A = Unit {0}} (m (settings_of now)) (tree_of (settings_of now) (d (settings_of now))) (sink_of now) (sink_of now') (Err x)
-      → (old : Serializer W C) (t : Option Msg) (rest some : List (Option Data)) → some ≡ d (settings_of old) ∷ rest → IsWriting g old t some now → WritesTree g {A = Unit {0}} (m (settings_of old)) t (sink_of old) (sink_of now') (Err x)
+  pub next_err : (m : Settings → Bool) (d : Settings → Option Data) (now now' : Serializer W C) (x : Error) → Keeps g now now'
+      → WritesTree g {A = Unit {0}} (m (settings_of now)) (tree_of (settings_of now) (d (settings_of now))) (sink_of now) (sink_of now') (Err x)
+      → (old : Serializer W C) (t : Option Msg) (rest some : List (Option Data)) → some ≡ d (settings_of old) ∷ rest → IsWriting g old t some now
+      → WritesTree g {A = Unit {0}} (m (settings_of old)) t (sink_of old) (sink_of now') (Err x)
   next_err m d now now' x k w old t rest some e h = goes m d now now' (Err x) k w old t rest (still_written e h)
 
-  pub none_next : {m : Bool} (old : Serializer W C) (t : Option Msg) (rest : List (Option Data)) (now : Serializer W C) (u : Unit {0}) → rest ≡ [] → IsWriting g old t rest now → WritesTree g m t (sink_of old) (sink_of now) (Ok u)
+  pub none_next : {m : Bool} (old : Serializer W C) (t : Option Msg) (rest : List (Option Data)) (now : Serializer W C) (u : Unit {0}) → rest ≡ []
+      → IsWriting g old t rest now → WritesTree g m t (sink_of old) (sink_of now) (Ok u)
   none_next {m} old t rest now u e h = closes m old t now u (still_written e h)
 
   -- all that was to come was written, or some of it failed
-  pub all_written : (m : Settings → Bool) (parts : Settings → List (Option Data)) (now now' : Serializer W C) (r : Result (Unit {0}) Error) → Goes g (IsWriting g) (λ n. n) m parts now now' r
-      → (old : Serializer W C) (t : Option Msg) → IsWriting g old t (parts (settings_of old)) now → WritesTree g (m (settings_of old)) t (sink_of old) (sink_of now') r
-  all_written m parts now now' (Ok u) w old t h = closes (m (settings_of old)) old t now' u (w old t [] (still_written (sym (append-nil (parts (settings_of old)))) h))
+  pub all_written : (m : Settings → Bool) (parts : Settings → List (Option Data)) (now now' : Serializer W C) (r : Result (Unit {0}) Error)
+      → Goes g (IsWriting g) (λ n. n) m parts now now' r
+      → (old : Serializer W C) (t : Option Msg) → IsWriting g old t (parts (settings_of old)) now
+      → WritesTree g (m (settings_of old)) t (sink_of old) (sink_of now') r
+  all_written m parts now now' (Ok u) w old t h = closes (m (settings_of old)) old t now' u
+      (w old t [] (still_written (sym (append-nil (parts (settings_of old)))) h))
   all_written m parts now now' (Err e) w old t h = w old t [] (still_written (sym (append-nil (parts (settings_of old)))) h)
 
   -- nothing was opened
-  pub unopened : {A X : Type 0} (P : Type 0) (may : X → Type 0) (value : X → Option Data) (old last : Serializer W C) (all : X) (r : Result A Error) (e : Error) → r ≡ Err e → OnErr r (FailsToOpen g P may value old r last) → may all
+  pub unopened : {A X : Type 0} (P : Type 0) (may : X → Type 0) (value : X
+      → Option Data) (old last : Serializer W C) (all : X) (r : Result A Error) (e : Error) → r ≡ Err e → OnErr r (FailsToOpen g P may value old r last)
+      → may all
       → WritesTree g {A = Unit {0}} g.takes_memory (tree_of (settings_of old) (value all)) (sink_of old) (sink_of last) (Err e)
   unopened {A} {X} P may value old last all r e is h l =
       let f : FailsToOpen g {A = A} P may value old (Err e) last = subst (λ k. OnErr k (FailsToOpen g P may value old k last)) is h in
@@ -150,7 +212,8 @@ never_refused m n k old new DepthLimitExceeded h = tt
 never_refused m n k old new (Syntax t) h = tt
 never_refused m n k old new OutOfMemory h = tt
 
-pub never_refused_by : {S : Type 0} (m : Bool) (n k : ℕ) (old new : S) (r : Result (Unit {0}) Error) → IfErr r (FailsBy m (Unit {0}) n k) → StaysAtRefusal old new r
+pub never_refused_by : {S : Type 0} (m : Bool) (n k : ℕ) (old new : S) (r : Result (Unit {0}) Error) → IfErr r (FailsBy m (Unit {0}) n k)
+    → StaysAtRefusal old new r
 never_refused_by m n k old new (Ok u) h = tt
 never_refused_by m n k old new (Err e) h = never_refused m n k old new e h
 

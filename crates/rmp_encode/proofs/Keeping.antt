@@ -1,5 +1,29 @@
 -- What a list or a map of unknown length has kept, step by step.
-use Rattle.std.proofs.Common.{inl, ◌≡◌, ℕ, ◌+◌, ◌<◌, ◌≤◌, ◌^◌, List, [], ◌∷◌, ◌++◌, length, length-append, true, Option, refl, sym, ◌∙◌, ap, subst, arith, append_assoc, append-nil}
+use Rattle.std.proofs.Common.{
+  inl,
+  ◌≡◌,
+  ℕ,
+  ◌+◌,
+  ◌<◌,
+  ◌≤◌,
+  ◌^◌,
+  List,
+  [],
+  ◌∷◌,
+  ◌++◌,
+  length,
+  length-append,
+  true,
+  Option,
+  refl,
+  sym,
+  ◌∙◌,
+  ap,
+  subst,
+  arith,
+  append_assoc,
+  append-nil,
+}
 use Rattle.std.specs.Prelude.{Result, Err, Bool, false}
 use Rattle.std.specs.declared.vec.Vec.{Vec}
 use Rattle.std.specs.declared.alloc.Global.{Global}
@@ -85,33 +109,43 @@ module _ (pairs : Bool) {W C : Type 0} (g : Ghosts W) where
       (part_nothing g true (HasTree t) (spell t) (sink_of old) e (cause_of P (HasTree t) _ e f h)))
 
   -- what fits, of a tree that is made of kept parts
-  can_keep : {old : Serializer W C} {t : Option Msg} {rest : List (Option Data)} {count : ℕ} {b : Serializer (Vec ℕ Global) C} {now : Serializer W C} (h : IsKeepingAt g pairs old t rest count b now)
+  can_keep : {old : Serializer W C} {t : Option Msg} {rest : List (Option Data)} {count : ℕ} {b : Serializer (Vec ℕ Global) C} {now : Serializer W C}
+      (h : IsKeepingAt g pairs old t rest count b now)
       → HasTree t → (h.size < 2 ^ 32) × AllByRecursion (Has (settings_of old)) (h.front ++ rest)
   can_keep {old} {t} {rest} h k = open_can pairs (settings_of old) h.size (h.front ++ rest) h.many (subst HasTree h.tree k)
 
   -- the part is refused, since no head has room for one more
-  pub too_many : (m : Bool) (x : Option Data) (count : ℕ) (b : Serializer (Vec ℕ Global) C) (now : Serializer W C) (e : Error) → IsTooLong e → m ≡ true → most pairs ≤ count
-      → (old : Serializer W C) (t : Option Msg) (rest : List (Option Data)) → IsKeepingAt g pairs old t (x ∷ rest) count b now → WritesTree g {A = Unit {0}} m t (sink_of old) (sink_of now) (Err e)
+  pub too_many : (m : Bool) (x : Option Data) (count : ℕ) (b : Serializer (Vec ℕ Global) C) (now : Serializer W C) (e : Error) → IsTooLong e → m ≡ true
+      → most pairs ≤ count
+      → (old : Serializer W C) (t : Option Msg) (rest : List (Option Data)) → IsKeepingAt g pairs old t (x ∷ rest) count b now
+      → WritesTree g {A = Unit {0}} m t (sink_of old) (sink_of now) (Err e)
   too_many m x count b now e is taken full old t rest h =
       kept_back m old now t ⊥ e h.same
-      (λ k. let lt = (can_keep h k).0 in let n = length-append h.front (x ∷ rest) in size_past pairs h.size count (h.front ++ x ∷ rest) h.many (omega (arith, n, h.count_is)) full lt)
+      (λ k. let lt = (can_keep h k).0 in let n = length-append h.front (x ∷ rest)
+      in size_past pairs h.size count (h.front ++ x ∷ rest) h.many (omega (arith, n, h.count_is)) full lt)
       taken (refusal e is)
 
   -- the part failed
-  pub keep_err : (m : Bool) (d : Settings → Option Data) (count : ℕ) (b : Serializer (Vec ℕ Global) C) (now : Serializer W C) (e : Error) → m ≡ true → FailsBy true (Has (settings_of b) (d (settings_of b))) 0 0 e
-      → (old : Serializer W C) (t : Option Msg) (rest : List (Option Data)) → IsKeepingAt g pairs old t (d (settings_of old) ∷ rest) count b now → WritesTree g {A = Unit {0}} m t (sink_of old) (sink_of now) (Err e)
+  pub keep_err : (m : Bool) (d : Settings → Option Data) (count : ℕ) (b : Serializer (Vec ℕ Global) C) (now : Serializer W C) (e : Error) → m ≡ true
+      → FailsBy true (Has (settings_of b) (d (settings_of b))) 0 0 e
+      → (old : Serializer W C) (t : Option Msg) (rest : List (Option Data)) → IsKeepingAt g pairs old t (d (settings_of old) ∷ rest) count b now
+      → WritesTree g {A = Unit {0}} m t (sink_of old) (sink_of now) (Err e)
   keep_err m d count b now e taken w old t rest h =
       let s = settings_of old in
-      kept_back m old now t (Has s (d s)) e h.same (λ k. (all_back (Has s) h.front (d s ∷ rest) (can_keep h k).1).0) taken (subst (λ z. FailsBy true (Has z (d z)) 0 0 e) h.settings w)
+      kept_back m old now t (Has s (d s)) e h.same (λ k. (all_back (Has s) h.front (d s ∷ rest) (can_keep h k).1).0) taken
+      (subst (λ z. FailsBy true (Has z (d z)) 0 0 e) h.settings w)
 
   -- the part was kept
-  pub keep_ok : (d : Settings → Option Data) (count count' : ℕ) (b b' : Serializer (Vec ℕ Global) C) (now : Serializer W C) → count' ≡ count + 1 → count' ≤ most pairs → settings_of b' ≡ settings_of b
+  pub keep_ok : (d : Settings → Option Data) (count count' : ℕ) (b b' : Serializer (Vec ℕ Global) C) (now : Serializer W C) → count' ≡ count + 1
+      → count' ≤ most pairs → settings_of b' ≡ settings_of b
       → Has (settings_of b) (d (settings_of b)) → (sink_of b').items ≡ (sink_of b).items ++ spelling (settings_of b) (d (settings_of b))
-      → (old : Serializer W C) (t : Option Msg) (rest : List (Option Data)) → IsKeepingAt g pairs old t (d (settings_of old) ∷ rest) count b now → IsKeepingAt g pairs old t rest count' b' now
+      → (old : Serializer W C) (t : Option Msg) (rest : List (Option Data)) → IsKeepingAt g pairs old t (d (settings_of old) ∷ rest) count b now
+      → IsKeepingAt g pairs old t rest count' b' now
   keep_ok d count count' b b' now more lt st has bytes old t rest h =
       let s = settings_of old in
       let has' : Has s (d s) = subst (λ z. Has z (d z)) h.settings has in
-      let bytes' : (sink_of b').items ≡ (sink_of b).items ++ spelling s (d s) = subst (λ z. (sink_of b').items ≡ (sink_of b).items ++ spelling z (d z)) h.settings bytes in
+      let bytes' : (sink_of b').items ≡ (sink_of b).items
+      ++ spelling s (d s) = subst (λ z. (sink_of b').items ≡ (sink_of b).items ++ spelling z (d z)) h.settings bytes in
       let all : h.front ++ d s ∷ rest ≡ (h.front ++ d s ∷ []) ++ rest = sym (append_assoc h.front (d s ∷ []) rest) in
       record {
         size = h.size;
@@ -123,16 +157,21 @@ module _ (pairs : Bool) {W C : Type 0} (g : Ghosts W) where
         same = h.same;
         settings = st ∙ h.settings;
         have = all_append (Has s) h.front (d s ∷ []) h.have (has', tt);
-        bytes = bytes' ∙ ap (λ l. l ++ spelling s (d s)) h.bytes ∙ sym (flat_map-append (spelling s) h.front (d s ∷ []) ∙ ap (λ l. flat_map (spelling s) h.front ++ l) (append-nil (spelling s (d s))));
+        bytes = bytes' ∙ ap (λ l. l ++ spelling s (d s)) h.bytes
+            ∙ sym (flat_map-append (spelling s) h.front (d s ∷ []) ∙ ap (λ l. flat_map (spelling s) h.front ++ l) (append-nil (spelling s (d s))));
       }
 
   -- the head and the buffer were written
-  pub keeping_ends : {P : Type 0} (p : P) (count : ℕ) (b : Serializer (Vec ℕ Global) C) (now : Serializer W C) {last : W} {r : Result (Unit {0}) Error} → WritesPart g g.takes_memory P (head_at pairs (size_at pairs count) ++ (sink_of b).items) (sink_of now) last r
+  pub keeping_ends : {P : Type 0} (p : P) (count : ℕ) (b : Serializer (Vec ℕ Global) C) (now : Serializer W C) {last : W} {r : Result (Unit {0}) Error}
+      → WritesPart g g.takes_memory P (head_at pairs (size_at pairs count) ++ (sink_of b).items) (sink_of now) last r
       → (old : Serializer W C) (t : Option Msg) → IsKeepingAt g pairs old t [] count b now → WritesTree g g.takes_memory t (sink_of old) last r
   keeping_ends {P} p count b now {last} {r} w old t h =
       let s = settings_of old in
       let many : AreMany pairs h.size h.front = subst (AreMany pairs h.size) (append-nil h.front) h.many in
       let size : size_at pairs count ≡ h.size = ap (size_at pairs) h.count_is ∙ size_is pairs h.size h.front many in
-      let w' : WritesPart g g.takes_memory P (head_at pairs (size_at pairs count) ++ (sink_of b).items) (sink_of old) last r = subst (λ x. WritesPart g g.takes_memory P (head_at pairs (size_at pairs count) ++ (sink_of b).items) (sink_of x) last r) h.same w in
-      let is_made = made_as (h.tree ∙ ap (λ l. tree_of s (open_of pairs l)) (append-nil h.front)) (made_sure (size_fits pairs h.size count h.front many (sym h.count_is) h.fits) (made pairs s h.size h.front many)) in
-      made_ended g s t is_made (part_as g (λ x. x) (λ _. h.have) (λ _. p) (λ _. ap (λ k. head_at pairs k ++ (sink_of b).items) size ∙ ap (λ l. head_at pairs h.size ++ l) h.bytes) w')
+      let w' : WritesPart g g.takes_memory P (head_at pairs (size_at pairs count) ++ (sink_of b).items) (sink_of old) last r = subst
+      (λ x. WritesPart g g.takes_memory P (head_at pairs (size_at pairs count) ++ (sink_of b).items) (sink_of x) last r) h.same w in
+      let is_made = made_as (h.tree ∙ ap (λ l. tree_of s (open_of pairs l)) (append-nil h.front))
+      (made_sure (size_fits pairs h.size count h.front many (sym h.count_is) h.fits) (made pairs s h.size h.front many)) in
+      made_ended g s t is_made (part_as g (λ x. x) (λ _. h.have) (λ _. p)
+      (λ _. ap (λ k. head_at pairs k ++ (sink_of b).items) size ∙ ap (λ l. head_at pairs h.size ++ l) h.bytes) w')

@@ -44,7 +44,8 @@ past_marker (wire.InvalidDataWrite fault) = tt
 past_marker wire.OutOfMemory = tt
 
 module _ {W : Type 0} (g : Ghosts W) where
-  none_by : (e : ValueWriteError) (bs : List ℕ) {old new : W} → Writes {A = Unit {0}} g bs old new (Err e) → NoneAtMarker g {A = Unit {0}} old new (Err (error_of e))
+  none_by : (e : ValueWriteError) (bs : List ℕ) {old new : W} → Writes {A = Unit {0}} g bs old new (Err e)
+      → NoneAtMarker g {A = Unit {0}} old new (Err (error_of e))
   none_by (wire.InvalidMarkerWrite fault) bs {old} {new} w = subst (Appends (g.told old) (g.told new)) w.stops.cause.0 w.stops.appended
   none_by (wire.InvalidDataWrite fault) bs w = tt
   none_by wire.OutOfMemory bs w = tt
@@ -54,7 +55,8 @@ module _ {W : Type 0} (g : Ghosts W) where
   none_at bs (Err e) w = none_by e bs w
 
   -- one item that the wire wrote: what its error says of the first byte
-  pub wire_marker : (bs : List ℕ) {old new : W} (r : Result (Unit {0}) ValueWriteError) {answer : Result (Unit {0}) Error} → answer ≡ answer_of r → Writes g bs old new r → NoneAtMarker g old new answer
+  pub wire_marker : (bs : List ℕ) {old new : W} (r : Result (Unit {0}) ValueWriteError) {answer : Result (Unit {0}) Error} → answer ≡ answer_of r
+      → Writes g bs old new r → NoneAtMarker g old new answer
   wire_marker bs {old} {new} r {answer} is w = subst (NoneAtMarker g old new) (sym is) (none_at bs r w)
 
   -- what is never said of an item isn't said wrongly
@@ -70,7 +72,8 @@ module _ {W : Type 0} (g : Ghosts W) where
   none_by_never old new (Err errors.OutOfMemory) h = tt
 
   -- bytes that the wire wrote
-  pub wire_part : (P : Type 0) (bs : List ℕ) {old new : W} (r : Result (Unit {0}) ValueWriteError) → P → Writes g bs old new r → WritesPart g g.takes_memory P bs old new (answer_of r)
+  pub wire_part : (P : Type 0) (bs : List ℕ) {old new : W} (r : Result (Unit {0}) ValueWriteError) → P → Writes g bs old new r
+      → WritesPart g g.takes_memory P bs old new (answer_of r)
   wire_part P bs {old} {new} (Ok u) p w = part_done g g.takes_memory P bs old new u p w.whole w.sound
   wire_part P bs {old} {new} (Err e) p w =
       part_failed g g.takes_memory P bs old new (error_of e)
@@ -80,17 +83,22 @@ module _ {W : Type 0} (g : Ghosts W) where
 
   -- a piece behind a head
   pub piece_ok : (piece : List ℕ) {mid new : W} (u : Unit {0}) → Writes {A = Unit {0}} g piece mid new (Ok u) → WritesBehind g piece mid new (Ok tt)
-  piece_ok piece {mid} {new} u w = λ front old some p. wire_part (Unit {0}) (front ++ piece) (Ok tt) tt (puts_both {B = Unit {0}} {u = tt} (record { whole = p.whole; sound = p.no_fault; stops = tt }) w)
+  piece_ok piece {mid} {new} u w = λ front old some p. wire_part (Unit {0}) (front ++ piece) (Ok tt) tt
+      (puts_both {B = Unit {0}} {u = tt} (record { whole = p.whole; sound = p.no_fault; stops = tt }) w)
 
-  pub piece_err : (piece : List ℕ) {mid new : W} (e : ValueWriteError) → Writes {A = Unit {0}} g piece mid new (Err e) → WritesBehind g piece mid new (Err (error_of (past_first e)))
-  piece_err piece {mid} {new} e w = λ front old some p. wire_part (Unit {0}) (front ++ piece) (Err (past_first e)) tt (puts_then_stop {B = Unit {0}} {u = tt} some (record { whole = p.whole; sound = p.no_fault; stops = tt }) w)
+  pub piece_err : (piece : List ℕ) {mid new : W} (e : ValueWriteError) → Writes {A = Unit {0}} g piece mid new (Err e)
+      → WritesBehind g piece mid new (Err (error_of (past_first e)))
+  piece_err piece {mid} {new} e w = λ front old some p. wire_part (Unit {0}) (front ++ piece) (Err (past_first e)) tt
+      (puts_then_stop {B = Unit {0}} {u = tt} some (record { whole = p.whole; sound = p.no_fault; stops = tt }) w)
 
   -- a head
-  pub wire_head : (bs : List ℕ) {old new : W} (r : Result (Unit {0}) ValueWriteError) {answer : Result (Unit {0}) Error} → answer ≡ answer_of r → Writes g bs old new r → WritesPart g g.takes_memory (Unit {0}) bs old new answer
+  pub wire_head : (bs : List ℕ) {old new : W} (r : Result (Unit {0}) ValueWriteError) {answer : Result (Unit {0}) Error} → answer ≡ answer_of r
+      → Writes g bs old new r → WritesPart g g.takes_memory (Unit {0}) bs old new answer
   wire_head bs {old} {new} r {answer} is w = subst (WritesPart g g.takes_memory (Unit {0}) bs old new) (sym is) (wire_part (Unit {0}) bs r tt w)
 
   -- a message that fits, of which the wire wrote the canonical spelling
-  pub wire_tree : (m : Msg) {old new : W} (r : Result (Unit {0}) ValueWriteError) {answer : Result (Unit {0}) Error} → answer ≡ answer_of r → Fits m → Writes g (canon m) old new r → WritesTree g g.takes_memory (Some m) old new answer
+  pub wire_tree : (m : Msg) {old new : W} (r : Result (Unit {0}) ValueWriteError) {answer : Result (Unit {0}) Error} → answer ≡ answer_of r → Fits m
+      → Writes g (canon m) old new r → WritesTree g g.takes_memory (Some m) old new answer
   unfolding HasTree spell
   wire_tree m {old} {new} r {answer} is fits w = subst (WritesTree g g.takes_memory (Some m) old new) (sym is) (wire_part (Fits m) (canon m) r fits w)
 
@@ -119,21 +127,27 @@ pub narrowed : (w : Width) (z r : ℤ) → FitsSigned w z → FitsSigned w64 r �
 narrowed w z r f h e = to_z-of_z w64 r h ∙ e ∙ to_z-of_z w z f
 
 module _ {W : Type 0} (g : Ghosts W) where
-  pub number_as : {m : Bool} {old new : W} {r : Result (Unit {0}) Error} (z z' : ℤ) → z ≡ z' → WritesTree g m (Some (whole z)) old new r → WritesTree g m (Some (whole z')) old new r
+  pub number_as : {m : Bool} {old new : W} {r : Result (Unit {0}) Error} (z z' : ℤ) → z ≡ z' → WritesTree g m (Some (whole z)) old new r
+      → WritesTree g m (Some (whole z')) old new r
   number_as {m} {old} {new} {r} z z' e w = subst (λ n. WritesTree g m (Some (whole n)) old new r) e w
 
   -- a signed number that the wire wrote, from its bits
-  pub signed_tree : (z z' : ℤ) {old new : W} (r : Result (Unit {0}) ValueWriteError) {answer : Result (Unit {0}) Error} → z ≡ z' → FitsSigned w64 z' → answer ≡ answer_of r → Writes g (canon_head (Whole z)) old new r → WritesTree g g.takes_memory (Some (whole z')) old new answer
+  pub signed_tree : (z z' : ℤ) {old new : W} (r : Result (Unit {0}) ValueWriteError) {answer : Result (Unit {0}) Error} → z ≡ z' → FitsSigned w64 z'
+      → answer ≡ answer_of r → Writes g (canon_head (Whole z)) old new r → WritesTree g g.takes_memory (Some (whole z')) old new answer
   signed_tree z z' {old} {new} r e f is w = wire_tree g (whole z') r is (signed_fits z' f) (subst (λ n. Writes g (canon_head (Whole n)) old new r) e w)
 
   -- an extension, from its head and its bytes
-  pub ext_as : {m : Bool} {P : Type 0} {old new : W} {r : Result (Unit {0}) Error} (n : ℕ) (z z' : ℤ) → z ≡ z' → WritesPart g m P (ext_head n z) old new r → WritesPart g m P (ext_head n z') old new r
+  pub ext_as : {m : Bool} {P : Type 0} {old new : W} {r : Result (Unit {0}) Error} (n : ℕ) (z z' : ℤ) → z ≡ z' → WritesPart g m P (ext_head n z) old new r
+      → WritesPart g m P (ext_head n z') old new r
   ext_as {m} {P} {old} {new} {r} n z z' e w = subst (λ t. WritesPart g m P (ext_head n t) old new r) e w
 
-  pub ext_tree : {m : Bool} {P : Type 0} {old new : W} {r : Result (Unit {0}) Error} → P → (tag : ℤ) (s : List ℕ) (n : ℕ) → n ≡ length s → n < 2 ^ 32 → FitsSigned w8 tag → IsBytes s → WritesPart g m P (ext_head n tag ++ s) old new r → WritesTree g m (Some (extension tag s)) old new r
+  pub ext_tree : {m : Bool} {P : Type 0} {old new : W} {r : Result (Unit {0}) Error} → P → (tag : ℤ) (s : List ℕ) (n : ℕ) → n ≡ length s → n < 2 ^ 32
+      → FitsSigned w8 tag → IsBytes s → WritesPart g m P (ext_head n tag ++ s) old new r → WritesTree g m (Some (extension tag s)) old new r
   unfolding HasTree spell fits_head
   ext_tree p tag s n e lt f b w = part_as g (λ t. t) (λ _. ((subst (λ k. k < 2 ^ 32) e lt, f), b)) (λ _. p) (λ _. ap (λ k. ext_head k tag ++ s) e) w
 
-  pub ext_too_long : (m : Bool) (tag : ℤ) (s : List ℕ) (w : W) (e : Error) → IsTooLong e → 2 ^ 32 ≤ length s → WritesTree g {A = Unit {0}} m (Some (extension tag s)) w w (Err e)
+  pub ext_too_long : (m : Bool) (tag : ℤ) (s : List ℕ) (w : W) (e : Error) → IsTooLong e → 2 ^ 32 ≤ length s
+      → WritesTree g {A = Unit {0}} m (Some (extension tag s)) w w (Err e)
   unfolding HasTree fits_head
-  ext_too_long m tag s w e is le = part_refused g m (HasTree (Some (extension tag s))) (spell (Some (extension tag s))) w e is (λ h. let k = h.0.0 in omega (arith, k, le))
+  ext_too_long m tag s w e is le = part_refused g m (HasTree (Some (extension tag s))) (spell (Some (extension tag s))) w e is (λ h. let k = h.0.0
+      in omega (arith, k, le))

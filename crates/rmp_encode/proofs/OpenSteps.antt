@@ -12,15 +12,18 @@ use Rattle.rmp_encode.specs.Opens.{Open, IsOpen, IsOpenAt, is_kept, left_of, lef
 use Rattle.rmp_encode.specs.Sizes.{most}
 
 module _ {W C : Type 0} (g : Ghosts W) where
-  takes_at : (pairs : Bool) (old : Serializer W C) (t : Option Msg) (x : Option Data) (rest : List (Option Data)) (b : _) (count : ℕ) (now : Serializer W C) → IsOpenAt g pairs old t (x ∷ rest) b count now → MayTake (left_at b count)
+  takes_at : (pairs : Bool) (old : Serializer W C) (t : Option Msg) (x : Option Data) (rest : List (Option Data)) (b : _) (count : ℕ) (now : Serializer W C)
+      → IsOpenAt g pairs old t (x ∷ rest) b count now → MayTake (left_at b count)
   takes_at pairs old t x rest None count now h = omega (arith, h.0)
   takes_at pairs old t x rest (Some b) count now h = tt
 
   -- where a part is still to come, one may come
-  pub takes : {old : Serializer W C} {t : Option Msg} {x : Option Data} {rest : List (Option Data)} {q : Open W C} → IsOpen g old t (x ∷ rest) q → MayTake (left_of q)
+  pub takes : {old : Serializer W C} {t : Option Msg} {x : Option Data} {rest : List (Option Data)} {q : Open W C} → IsOpen g old t (x ∷ rest) q
+      → MayTake (left_of q)
   takes {old} {t} {x} {rest} {q} h = takes_at q.pairs old t x rest q.buffer q.count q.se.now h.state
 
-  ends_at : (pairs : Bool) (old : Serializer W C) (t : Option Msg) (b : _) (count : ℕ) (now : Serializer W C) → IsOpenAt g pairs old t [] b count now → MayEnd (left_at b count)
+  ends_at : (pairs : Bool) (old : Serializer W C) (t : Option Msg) (b : _) (count : ℕ) (now : Serializer W C) → IsOpenAt g pairs old t [] b count now
+      → MayEnd (left_at b count)
   ends_at pairs old t None count now h = h.0
   ends_at pairs old t (Some b) count now h = tt
 
@@ -28,17 +31,21 @@ module _ {W C : Type 0} (g : Ghosts W) where
   ends {old} {t} {q} h = ends_at q.pairs old t q.buffer q.count q.se.now h.state
 
   -- the state, where there is no buffer, and where there is
-  pub none_state : {old : Serializer W C} {t : Option Msg} {rest : List (Option Data)} {q : Open W C} → q.buffer ≡ None → IsOpen g old t rest q → (q.count ≡ length rest) × IsWriting g old t rest q.se.now
+  pub none_state : {old : Serializer W C} {t : Option Msg} {rest : List (Option Data)} {q : Open W C} → q.buffer ≡ None → IsOpen g old t rest q
+      → (q.count ≡ length rest) × IsWriting g old t rest q.se.now
   none_state {old} {t} {rest} {q} e h = subst (λ b. IsOpenAt g q.pairs old t rest b q.count q.se.now) e h.state
 
-  pub some_state : {old : Serializer W C} {t : Option Msg} {rest : List (Option Data)} {q : Open W C} (b : Serializer (Vec ℕ Global) C) → q.buffer ≡ Some b → IsOpen g old t rest q → IsKeepingAt g q.pairs old t rest q.count b q.se.now
+  pub some_state : {old : Serializer W C} {t : Option Msg} {rest : List (Option Data)} {q : Open W C} (b : Serializer (Vec ℕ Global) C) → q.buffer ≡ Some b
+      → IsOpen g old t rest q → IsKeepingAt g q.pairs old t rest q.count b q.se.now
   some_state {old} {t} {rest} {q} b e h = subst (λ b. IsOpenAt g q.pairs old t rest b q.count q.se.now) e h.state
 
-  pub in_none : {old : Serializer W C} {t : Option Msg} {rest : List (Option Data)} {q : Open W C} → q.sound ≡ true → q.buffer ≡ None → q.count ≡ length rest → IsWriting g old t rest q.se.now → IsOpen g old t rest q
+  pub in_none : {old : Serializer W C} {t : Option Msg} {rest : List (Option Data)} {q : Open W C} → q.sound ≡ true → q.buffer ≡ None
+      → q.count ≡ length rest → IsWriting g old t rest q.se.now → IsOpen g old t rest q
   in_none {old} {t} {rest} {q} s e n h = record { sound = s; state = subst (λ b. IsOpenAt g q.pairs old t rest b q.count q.se.now) (sym e) (n, h) }
 
   -- the same values are to come
-  pub still_open : {old : Serializer W C} {t : Option Msg} {rest rest' : List (Option Data)} {q : Open W C} → rest ≡ rest' → IsOpen g old t rest q → IsOpen g old t rest' q
+  pub still_open : {old : Serializer W C} {t : Option Msg} {rest rest' : List (Option Data)} {q : Open W C} → rest ≡ rest' → IsOpen g old t rest q
+      → IsOpen g old t rest' q
   still_open {old} {t} {rest} {rest'} {q} e h = subst (λ ds. IsOpen g old t ds q) e h
 
 -- a count that may take one more
@@ -57,7 +64,8 @@ owed_takes false None n e = absurd cc
 owed_takes false (Some b) n e = tt
 
 -- what a map owes after a part, from what it owed before
-pub turned : (pairs pairs' : Bool) (n n' k : ℕ) → pairs ≡ true → pairs' ≡ pairs → owed_at true n + owed_at true n' ≡ 1 → owed_at pairs n + k ≡ 1 → owed_at pairs' n' ≡ k
+pub turned : (pairs pairs' : Bool) (n n' k : ℕ) → pairs ≡ true → pairs' ≡ pairs → owed_at true n + owed_at true n' ≡ 1 → owed_at pairs n + k ≡ 1
+    → owed_at pairs' n' ≡ k
 turned true true n n' k is same t e = omega (arith, t, e)
 turned true false n n' k is same t e = absurd cc
 turned false pairs' n n' k is same t e = absurd cc
@@ -72,5 +80,6 @@ on_ok_as (Ok x) f h = f h
 on_ok_as (Err e) f h = tt
 
 -- a buffer never holds too many
-pub never_past : {W C : Type 0} (g : Ghosts W) {pairs : Bool} {old : Serializer W C} {t : Option Msg} {rest : List (Option Data)} {count : ℕ} {b : Serializer (Vec ℕ Global) C} {now : Serializer W C} → most pairs < count → IsKeepingAt g pairs old t rest count b now → ⊥
+pub never_past : {W C : Type 0} (g : Ghosts W) {pairs : Bool} {old : Serializer W C} {t : Option Msg} {rest : List (Option Data)} {count : ℕ}
+    {b : Serializer (Vec ℕ Global) C} {now : Serializer W C} → most pairs < count → IsKeepingAt g pairs old t rest count b now → ⊥
 never_past g past h = let k = h.fits in omega (arith, past, k)

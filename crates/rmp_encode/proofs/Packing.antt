@@ -7,8 +7,46 @@ use Rattle.rmp_encode.specs.declared.settings.Settings.{Settings}
 use Rattle.rmp_wire.specs.declared.config.BytesMode.{BytesMode}
 use Rattle.rmp_wire.specs.declared.config.BytesMode.TheVariants.{Normal, ForceIterables, ForceAll}
 use Rattle.rmp_wire.specs.Heads.{fits_head}
-use Rattle.rmp_encode.specs.Data.{Data, Parts, part, no_parts, byte, sequence, slice, tuple, lower, lower_parts, byte_in, push_byte, all_bytes, packs_slice, packs_tuple, packed, bin_or_list}
-use Rattle.rmp_encode.specs.Data.{unit, truth, whole, unsigned128, signed128, float32, float64, char, text, bytes, wrapped, unit_struct, mapping, structure, unit_variant, newtype_variant, tuple_variant, struct_variant, extension}
+use Rattle.rmp_encode.specs.Data.{
+  Data,
+  Parts,
+  part,
+  no_parts,
+  byte,
+  sequence,
+  slice,
+  tuple,
+  lower,
+  lower_parts,
+  byte_in,
+  push_byte,
+  all_bytes,
+  packs_slice,
+  packs_tuple,
+  packed,
+  bin_or_list,
+}
+use Rattle.rmp_encode.specs.Data.{
+  unit,
+  truth,
+  whole,
+  unsigned128,
+  signed128,
+  float32,
+  float64,
+  char,
+  text,
+  bytes,
+  wrapped,
+  unit_struct,
+  mapping,
+  structure,
+  unit_variant,
+  newtype_variant,
+  tuple_variant,
+  struct_variant,
+  extension,
+}
 use Rattle.rmp_encode.specs.Trees.{HasTree, a_byte, byte_of, forces_all, forces_slices, parts_of, sequence_of, slice_of, tree_of, tuple_of}
 use Rattle.rmp_wire.specs.Msg.{Msgs, bin, count, list}
 use Rattle.rmp_wire.specs.Spelling.{Fits}
@@ -87,7 +125,8 @@ plain_at s None e = refl
 plain_at s (Some es) e = ap (λ b. Some (packed (packs_tuple s.bytes) b (lower_parts s es))) e
 
 -- a tuple lowers to the list where one part isn't a byte
-pub plain_by : (s : Settings) (front : List (Option Data)) (d : Option Data) (rest : List (Option Data)) → byte_of d ≡ None → tree_of s (tuple_of (front ++ d ∷ rest)) ≡ tree_of s (sequence_of (front ++ d ∷ rest))
+pub plain_by : (s : Settings) (front : List (Option Data)) (d : Option Data) (rest : List (Option Data)) → byte_of d ≡ None
+    → tree_of s (tuple_of (front ++ d ∷ rest)) ≡ tree_of s (sequence_of (front ++ d ∷ rest))
 unfolding sequence_of tuple_of
 plain_by s front d rest e = plain_at s (parts_of (front ++ d ∷ rest)) (no_bytes front d rest e)
 
@@ -136,7 +175,8 @@ unfolding AreBytes lower
 bytes_tree_at s bs None h e = absurd h
 bytes_tree_at s bs (Some es) h e = ap Some (ap (λ b. packed (packs_tuple s.bytes) b (lower_parts s es)) h ∙ ap (λ b. bin_or_list b bs (lower_parts s es)) e)
 
-list_tree_at : (s : Settings) (bs : List ℕ) (o : Option Parts) → AreBytes bs o → packs_tuple s.bytes bs ≡ false → tree_of s (option_map tuple o) ≡ tree_of s (option_map sequence o)
+list_tree_at : (s : Settings) (bs : List ℕ) (o : Option Parts) → AreBytes bs o → packs_tuple s.bytes bs ≡ false
+    → tree_of s (option_map tuple o) ≡ tree_of s (option_map sequence o)
 unfolding AreBytes lower
 list_tree_at s bs None h e = absurd h
 list_tree_at s bs (Some es) h e = ap Some (ap (λ b. packed (packs_tuple s.bytes) b (lower_parts s es)) h ∙ ap (λ b. bin_or_list b bs (lower_parts s es)) e)
@@ -188,7 +228,8 @@ unfolding AsLong fits_head
 packed_fits p None ms n e f h = let k = h.0 in omega (arith, f, k)
 packed_fits p (Some bs) ms n e f h = fits_by (p bs) bs ms n e f h
 
-tuple_fits : (s : Settings) (ds : List (Option Data)) (o : Option Parts) → Tells s ds o → LongParts (length ds) o → HasTree (tree_of s (option_map tuple o)) → length ds < 2 ^ 32
+tuple_fits : (s : Settings) (ds : List (Option Data)) (o : Option Parts) → Tells s ds o → LongParts (length ds) o → HasTree (tree_of s (option_map tuple o))
+    → length ds < 2 ^ 32
 unfolding Tells LongParts lower HasTree
 tuple_fits s ds None t l h = absurd h
 tuple_fits s ds (Some es) t l h = packed_fits (packs_tuple s.bytes) (all_bytes es) (lower_parts s es) (length ds) l t.0 h
@@ -204,9 +245,11 @@ unfolding NoBytes lower
 slice_plain_at s None e = refl
 slice_plain_at s (Some es) e = ap (λ b. Some (packed (packs_slice s.bytes) b (lower_parts s es))) e
 
-pub slice_plain_by : (s : Settings) (ds front : List (Option Data)) (d : Option Data) (rest : List (Option Data)) → ds ≡ front ++ d ∷ rest → byte_of d ≡ None → tree_of s (slice_of ds) ≡ tree_of s (sequence_of ds)
+pub slice_plain_by : (s : Settings) (ds front : List (Option Data)) (d : Option Data) (rest : List (Option Data)) → ds ≡ front ++ d ∷ rest
+    → byte_of d ≡ None → tree_of s (slice_of ds) ≡ tree_of s (sequence_of ds)
 unfolding sequence_of slice_of
-slice_plain_by s ds front d rest is e = subst (λ l. tree_of s (option_map slice (parts_of l)) ≡ tree_of s (option_map sequence (parts_of l))) (sym is) (slice_plain_at s (parts_of (front ++ d ∷ rest)) (no_bytes front d rest e))
+slice_plain_by s ds front d rest is e = subst (λ l. tree_of s (option_map slice (parts_of l)) ≡ tree_of s (option_map sequence (parts_of l))) (sym is)
+    (slice_plain_at s (parts_of (front ++ d ∷ rest)) (no_bytes front d rest e))
 
 slice_never : (m : BytesMode) → forces_slices m ≡ false → (bs : List ℕ) → packs_slice m bs ≡ false
 unfolding packs_slice
@@ -251,12 +294,15 @@ unfolding AreBytes lower
 slice_tree_at s bs None h e = absurd h
 slice_tree_at s bs (Some es) h e = ap Some (ap (λ b. packed (packs_slice s.bytes) b (lower_parts s es)) h ∙ ap (λ b. bin_or_list b bs (lower_parts s es)) e)
 
-pub slice_tree : (s : Settings) (ds : List (Option Data)) (bs : List ℕ) → ds ≡ map a_byte bs → forces_slices s.bytes ≡ true → 0 < length bs → tree_of s (slice_of ds) ≡ Some (bin bs)
+pub slice_tree : (s : Settings) (ds : List (Option Data)) (bs : List ℕ) → ds ≡ map a_byte bs → forces_slices s.bytes ≡ true → 0 < length bs
+    → tree_of s (slice_of ds) ≡ Some (bin bs)
 unfolding slice_of
-slice_tree s ds bs is f lt = ap (λ l. tree_of s (option_map slice (parts_of l))) is ∙ slice_tree_at s bs (parts_of (map a_byte bs)) (are_bytes bs) (slice_some s.bytes bs f lt)
+slice_tree s ds bs is f lt = ap (λ l. tree_of s (option_map slice (parts_of l))) is
+    ∙ slice_tree_at s bs (parts_of (map a_byte bs)) (are_bytes bs) (slice_some s.bytes bs f lt)
 
 -- one value is no byte
-pub one_isnt : {X : Type 0} (f : X → Option Data) (xs : List X) (i : ℕ) (x : X) → i < length xs → x ≡ get_or xs i x → byte_of (f x) ≡ None → OneIsNone (map f xs)
+pub one_isnt : {X : Type 0} (f : X → Option Data) (xs : List X) (i : ℕ) (x : X) → i < length xs → x ≡ get_or xs i x → byte_of (f x) ≡ None
+    → OneIsNone (map f xs)
 one_isnt f xs i x lt is e = record {
   front = map f (take i xs);
   d = f x;
@@ -266,7 +312,8 @@ one_isnt f xs i x lt is e = record {
 }
 
 -- one more is a byte
-pub one_is : {X : Type 0} (f : X → Option Data) (xs : List X) (i : ℕ) (x : X) (bs bs' : List ℕ) (b : ℕ) → i < length xs → x ≡ get_or xs i x → byte_of (f x) ≡ Some b → map f (take i xs) ≡ map a_byte bs → bs' ≡ bs ++ b ∷ [] → map f (take (i + 1) xs) ≡ map a_byte bs'
+pub one_is : {X : Type 0} (f : X → Option Data) (xs : List X) (i : ℕ) (x : X) (bs bs' : List ℕ) (b : ℕ) → i < length xs → x ≡ get_or xs i x
+    → byte_of (f x) ≡ Some b → map f (take i xs) ≡ map a_byte bs → bs' ≡ bs ++ b ∷ [] → map f (take (i + 1) xs) ≡ map a_byte bs'
 one_is f xs i x bs bs' b lt is e h more =
     ap (map f) (take_more xs i x lt) ∙ map-append f (take i xs) (get_or xs i x ∷ [])
     ∙ ap (λ l. l ++ f (get_or xs i x) ∷ []) h
@@ -277,7 +324,8 @@ one_is f xs i x bs bs' b lt is e h more =
 pub probed_none : {ds : List (Option Data)} (P : Type 0) {o : Option (Vec ℕ Global)} → o ≡ None → Probed ds P o → OneIsNone ds
 probed_none {ds} P {o} e h = subst (Probed ds P) e h
 
-pub probed_some : {ds : List (Option Data)} (P : Type 0) {o : Option (Vec ℕ Global)} {v : Vec ℕ Global} → o ≡ Some v → Probed ds P o → (ds ≡ map a_byte v.items) × P
+pub probed_some : {ds : List (Option Data)} (P : Type 0) {o : Option (Vec ℕ Global)} {v : Vec ℕ Global} → o ≡ Some v → Probed ds P o
+    → (ds ≡ map a_byte v.items) × P
 probed_some {ds} P {o} {v} e h = subst (Probed ds P) e h
 
 pub bytes_more : {X : Type 0} (f : X → Option Data) (xs : List X) (bs : List ℕ) → map f xs ≡ map a_byte bs → 0 < length xs → 0 < length bs

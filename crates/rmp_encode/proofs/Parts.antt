@@ -1,5 +1,28 @@
 -- How writes of parts join.
-use Rattle.std.proofs.Common.{inl, ◌≡◌, ℕ, zero, suc, List, [], ◌∷◌, ◌++◌, get_or, length-append, Bool, true, false, Option, refl, sym, ◌∙◌, ap, subst, append_assoc, arith}
+use Rattle.std.proofs.Common.{
+  inl,
+  ◌≡◌,
+  ℕ,
+  zero,
+  suc,
+  List,
+  [],
+  ◌∷◌,
+  ◌++◌,
+  get_or,
+  length-append,
+  Bool,
+  true,
+  false,
+  Option,
+  refl,
+  sym,
+  ◌∙◌,
+  ap,
+  subst,
+  append_assoc,
+  arith,
+}
 use Rattle.std.specs.Prelude.{Result, Ok, Err, IsTrue, ◌||◌}
 use Rattle.std.specs.Io.KnownBytes.{Appends}
 use Rattle.std.proofs.KnownBytes.{Appends-trans, Appends-nil}
@@ -18,7 +41,13 @@ part_more b p = record { part = p.part; rest = p.rest ++ b; split = ap (λ l. l 
 
 -- a whole piece, and then a beginning of b
 pub part_after : {x y z : Option (List ℕ)} (a : List ℕ) {b : List ℕ} → Appends x y a → AppendsPart y z b → AppendsPart x z (a ++ b)
-part_after {x} {y} {z} a {b} p q = record { part = a ++ q.part; rest = q.rest; split = ap (λ l. a ++ l) q.split ∙ sym (append_assoc a q.part q.rest); appended = Appends-trans x y z a q.part p q.appended }
+part_after {x} {y} {z} a {b} p q = record {
+  part = a ++ q.part;
+  rest = q.rest;
+  split = ap (λ l. a ++ l) q.split
+      ∙ sym (append_assoc a q.part q.rest);
+  appended = Appends-trans x y z a q.part p q.appended;
+}
 
 pub part_none : (x : Option (List ℕ)) (a : List ℕ) → AppendsPart x x a
 part_none x a = record { part = []; rest = a; split = refl; appended = Appends-nil x }
@@ -109,31 +138,42 @@ or_given b c m e = ap (λ x. (x || c) || m) e
 
 module _ {W : Type 0} (g : Ghosts W) where
   -- a write that was done
-  pub part_done : {A : Type 0} (m : Bool) (P : Type 0) (a : List ℕ) (old new : W) (u : A) → P → Appends (g.told old) (g.told new) a → g.faults new ≡ g.faults old → WritesPart g m P a old new (Ok u)
+  pub part_done : {A : Type 0} (m : Bool) (P : Type 0) (a : List ℕ) (old new : W) (u : A) → P → Appends (g.told old) (g.told new) a
+      → g.faults new ≡ g.faults old → WritesPart g m P a old new (Ok u)
   part_done m P a old new u p w h = record { may = p; whole = w; no_fault = h; part = tt; front = tt; cause = tt }
 
   -- a write that failed
-  pub part_failed : {A : Type 0} (m : Bool) (P : Type 0) (a : List ℕ) (old new : W) (e : Error) → (P → AppendsPart (g.told old) (g.told new) a) → AppendsSome e (g.told old) (g.told new) → FailsBy m P (g.faults old) (g.faults new) e → WritesPart g {A = A} m P a old new (Err e)
+  pub part_failed : {A : Type 0} (m : Bool) (P : Type 0) (a : List ℕ) (old new : W) (e : Error) → (P → AppendsPart (g.told old) (g.told new) a)
+      → AppendsSome e (g.told old) (g.told new) → FailsBy m P (g.faults old) (g.faults new) e → WritesPart g {A = A} m P a old new (Err e)
   part_failed m P a old new e p some f = record { may = tt; whole = tt; no_fault = tt; part = p; front = some; cause = f }
 
   -- a write that failed before it wrote anything
-  pub part_nothing : {A : Type 0} (m : Bool) (P : Type 0) (a : List ℕ) (w : W) (e : Error) → FailsBy m P (g.faults w) (g.faults w) e → WritesPart g {A = A} m P a w w (Err e)
-  part_nothing m P a w e f = part_failed m P a w w e (λ _. part_none (g.told w) a) (record { part = []; appended = Appends-nil (g.told w); begun = begun_none m P (g.faults w) e f }) f
+  pub part_nothing : {A : Type 0} (m : Bool) (P : Type 0) (a : List ℕ) (w : W) (e : Error) → FailsBy m P (g.faults w) (g.faults w) e
+      → WritesPart g {A = A} m P a w w (Err e)
+  part_nothing m P a w e f = part_failed m P a w w e (λ _. part_none (g.told w) a)
+      (record { part = []; appended = Appends-nil (g.told w); begun = begun_none m P (g.faults w) e f }) f
 
   -- the same write under an equal condition and an equal text
-  pub part_as : {A : Type 0} {m n : Bool} {P Q : Type 0} {a b : List ℕ} {old new : W} {r : Result A Error} → (IsTrue m → IsTrue n) → (P → Q) → (Q → P) → (Q → a ≡ b) → WritesPart g m P a old new r → WritesPart g n Q b old new r
+  pub part_as : {A : Type 0} {m n : Bool} {P Q : Type 0} {a b : List ℕ} {old new : W} {r : Result A Error} → (IsTrue m → IsTrue n) → (P → Q) → (Q → P)
+      → (Q → a ≡ b) → WritesPart g m P a old new r → WritesPart g n Q b old new r
   part_as {m} {n} {P} {Q} {a} {b} {old} {new} {r = Ok u} h f b' e p = part_done n Q b old new u (f p.may) (subst (Appends _ _) (e (f p.may)) p.whole) p.no_fault
-  part_as {m} {n} {P} {Q} {a} {b} {old} {new} {r = Err x} h f b' e p = part_failed n Q b old new x (λ q. subst (AppendsPart _ _) (e q) (p.part (b' q))) p.front (fails_as m n P Q _ _ x h b' p.cause)
+  part_as {m} {n} {P} {Q} {a} {b} {old} {new} {r = Err x} h f b' e p = part_failed n Q b old new x (λ q. subst (AppendsPart _ _) (e q) (p.part (b' q)))
+      p.front (fails_as m n P Q _ _ x h b' p.cause)
 
   -- a part that was written, and then another
-  pub part_then : {A B : Type 0} {m : Bool} {P Q : Type 0} {a b : List ℕ} {old mid new : W} {u : B} {r : Result A Error} → WritesPart g m P a old mid (Ok u) → WritesPart g m Q b mid new r → WritesPart g m (P × Q) (a ++ b) old new r
-  part_then {m} {P} {Q} {a} {b} {old} {mid} {new} {r = Ok u} p q = part_done m (P × Q) (a ++ b) old new u (p.may, q.may) (Appends-trans _ _ _ a b p.whole q.whole) (q.no_fault ∙ p.no_fault)
+  pub part_then : {A B : Type 0} {m : Bool} {P Q : Type 0} {a b : List ℕ} {old mid new : W} {u : B} {r : Result A Error} → WritesPart g m P a old mid (Ok u)
+      → WritesPart g m Q b mid new r → WritesPart g m (P × Q) (a ++ b) old new r
+  part_then {m} {P} {Q} {a} {b} {old} {mid} {new} {r = Ok u} p q = part_done m (P × Q) (a ++ b) old new u (p.may, q.may)
+      (Appends-trans _ _ _ a b p.whole q.whole) (q.no_fault ∙ p.no_fault)
   part_then {m} {P} {Q} {a} {b} {old} {mid} {new} {r = Err x} p q =
-      part_failed m (P × Q) (a ++ b) old new x (λ k. part_after a p.whole (q.part k.1)) (some_after x a p.whole q.front) (fails_as m m Q (P × Q) _ _ x (λ t. t) (λ k. k.1) (fails_from m Q _ _ _ x p.no_fault q.cause))
+      part_failed m (P × Q) (a ++ b) old new x (λ k. part_after a p.whole (q.part k.1)) (some_after x a p.whole q.front)
+      (fails_as m m Q (P × Q) _ _ x (λ t. t) (λ k. k.1) (fails_from m Q _ _ _ x p.no_fault q.cause))
 
   -- a part that failed, where more was to come
-  pub part_stops : {A B : Type 0} {m : Bool} {P Q : Type 0} {a : List ℕ} (b : List ℕ) {old new : W} {e : Error} → WritesPart g {A = A} m P a old new (Err e) → WritesPart g {A = B} m (P × Q) (a ++ b) old new (Err e)
-  part_stops {m} {P} {Q} {a} b {old} {new} {e} p = part_failed m (P × Q) (a ++ b) old new e (λ k. part_more b (p.part k.0)) p.front (fails_as m m P (P × Q) _ _ e (λ t. t) (λ k. k.0) p.cause)
+  pub part_stops : {A B : Type 0} {m : Bool} {P Q : Type 0} {a : List ℕ} (b : List ℕ) {old new : W} {e : Error} → WritesPart g {A = A} m P a old new (Err e)
+      → WritesPart g {A = B} m (P × Q) (a ++ b) old new (Err e)
+  part_stops {m} {P} {Q} {a} b {old} {new} {e} p = part_failed m (P × Q) (a ++ b) old new e (λ k. part_more b (p.part k.0)) p.front
+      (fails_as m m P (P × Q) _ _ e (λ t. t) (λ k. k.0) p.cause)
 
   -- a value that is refused, before a byte is written
   pub part_refused : {A : Type 0} (m : Bool) (P : Type 0) (a : List ℕ) (w : W) (e : Error) → IsTooLong e → ¬ P → WritesPart g {A = A} m P a w w (Err e)
@@ -145,25 +185,31 @@ module _ {W : Type 0} (g : Ghosts W) where
   part_refused m P a w OutOfMemory is h = absurd is
 
   -- where the serializer rests with the sink that a compound left
-  pub rests_at : {A : Type 0} {m : Bool} {P : Type 0} {bs : List ℕ} {old w last : W} {r : Result A Error} → last ≡ w → WritesPart g m P bs old w r → WritesPart g m P bs old last r
+  pub rests_at : {A : Type 0} {m : Bool} {P : Type 0} {bs : List ℕ} {old w last : W} {r : Result A Error} → last ≡ w → WritesPart g m P bs old w r
+      → WritesPart g m P bs old last r
   rests_at {A} {m} {P} {bs} {old} {w} {last} {r} e h = subst (λ l. WritesPart g m P bs old l r) (sym e) h
 
   -- a write that went well took no more memory than any
-  pub part_any : {A B : Type 0} {m : Bool} (n : Bool) {P : Type 0} {a : List ℕ} {old new : W} {u : A} (v : B) → WritesPart g m P a old new (Ok u) → WritesPart g n P a old new (Ok v)
+  pub part_any : {A B : Type 0} {m : Bool} (n : Bool) {P : Type 0} {a : List ℕ} {old new : W} {u : A} (v : B) → WritesPart g m P a old new (Ok u)
+      → WritesPart g n P a old new (Ok v)
   part_any n {P} {a} {old} {new} v p = part_done n P a old new v p.may p.whole p.no_fault
 
   -- the same write, where memory may be taken
-  pub part_memory : {A : Type 0} {m : Bool} {P : Type 0} {a : List ℕ} {old new : W} {r : Result A Error} → WritesPart g m P a old new r → WritesPart g true P a old new r
+  pub part_memory : {A : Type 0} {m : Bool} {P : Type 0} {a : List ℕ} {old new : W} {r : Result A Error} → WritesPart g m P a old new r
+      → WritesPart g true P a old new r
   part_memory w = part_as (λ _. refl) (λ p. p) (λ p. p) (λ _. refl) w
 
   -- the same write, where memory may be taken if it may be taken here
-  pub part_takes : {A : Type 0} {m : Bool} (n : Bool) {P : Type 0} {a : List ℕ} {old new : W} {r : Result A Error} → (IsTrue m → IsTrue n) → WritesPart g m P a old new r → WritesPart g n P a old new r
+  pub part_takes : {A : Type 0} {m : Bool} (n : Bool) {P : Type 0} {a : List ℕ} {old new : W} {r : Result A Error} → (IsTrue m → IsTrue n)
+      → WritesPart g m P a old new r → WritesPart g n P a old new r
   part_takes n h w = part_as h (λ p. p) (λ p. p) (λ _. refl) w
 
   -- the same write, where a value may take memory too
-  pub part_or : {A : Type 0} {m : Bool} (b : Bool) {P : Type 0} {a : List ℕ} {old new : W} {r : Result A Error} → WritesPart g m P a old new r → WritesPart g (b || m) P a old new r
+  pub part_or : {A : Type 0} {m : Bool} (b : Bool) {P : Type 0} {a : List ℕ} {old new : W} {r : Result A Error} → WritesPart g m P a old new r
+      → WritesPart g (b || m) P a old new r
   part_or {A} {m} b w = part_takes (b || m) (or_right b m) w
 
   -- a part takes memory by the settings that stood before
-  pub part_settings : {A : Type 0} (f : Settings → Bool) (m : Bool) {P : Type 0} {a : List ℕ} {old new : W} {r : Result A Error} {s t : Settings} → t ≡ s → WritesPart g (f t || m) P a old new r → WritesPart g (f s || m) P a old new r
+  pub part_settings : {A : Type 0} (f : Settings → Bool) (m : Bool) {P : Type 0} {a : List ℕ} {old new : W} {r : Result A Error} {s t : Settings} → t ≡ s
+      → WritesPart g (f t || m) P a old new r → WritesPart g (f s || m) P a old new r
   part_settings f m {P} {a} {old} {new} {r} e w = subst (λ s. WritesPart g (f s || m) P a old new r) e w

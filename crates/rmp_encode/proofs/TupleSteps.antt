@@ -1,5 +1,32 @@
 -- A tuple, from what its state says.
-use Rattle.std.proofs.Common.{◌≡◌, ℕ, ◌+◌, ◌<◌, ◌≤◌, ◌^◌, List, [], ◌∷◌, ◌++◌, length, map, Bool, true, false, Option, None, Some, refl, sym, ◌∙◌, ap, subst, arith, append_assoc, append-nil}
+use Rattle.std.proofs.Common.{
+  ◌≡◌,
+  ℕ,
+  ◌+◌,
+  ◌<◌,
+  ◌≤◌,
+  ◌^◌,
+  List,
+  [],
+  ◌∷◌,
+  ◌++◌,
+  length,
+  map,
+  Bool,
+  true,
+  false,
+  Option,
+  None,
+  Some,
+  refl,
+  sym,
+  ◌∙◌,
+  ap,
+  subst,
+  arith,
+  append_assoc,
+  append-nil,
+}
 use Rattle.std.specs.Prelude.{Result, Ok, Err, MatchResult, ◌||◌}
 use Rattle.std.specs.List.{flat_map, AllByRecursion}
 use Rattle.std.specs.declared.vec.Vec.{Vec}
@@ -51,13 +78,15 @@ pub kept_some : {B : Type 0} {k : Option B} {probing : Bool} (v : B) → k ≡ S
 kept_some {B} {k} {probing} v is goes = ap (λ b. kept_at b probing) is ∙ ap (kept_at (Some v)) goes
 
 -- the head was written, where no elements are kept
-pub made_tuple : (s : Settings) (all : List (Option Data)) (n : ℕ) → forces_all s.bytes ≡ false → length all ≡ n → IsMadeOf s (tree_of s (tuple_of all)) (n < 2 ^ 32) (head_at false n) all
+pub made_tuple : (s : Settings) (all : List (Option Data)) (n : ℕ) → forces_all s.bytes ≡ false → length all ≡ n
+    → IsMadeOf s (tree_of s (tuple_of all)) (n < 2 ^ 32) (head_at false n) all
 made_tuple s all n m e = made_as (plain_mode s all m) (made_list s n all e)
 
 module _ {W C : Type 0} (g : Ghosts W) where
   pub tuple_too_long : (old : Serializer W C) (n : ℕ) (e : Error) → IsTooLong e → 2 ^ 32 ≤ n → (all : List (Option Data)) → length all ≡ n
       → WritesTree g {A = Unit {0}} g.takes_memory (tree_of (settings_of old) (tuple_of all)) (sink_of old) (sink_of old) (Err e)
-  tuple_too_long old n x is le all e = part_refused g g.takes_memory _ _ (sink_of old) x is (λ h. let k = tuple_can (settings_of old) all h in omega (arith, k, e, le))
+  tuple_too_long old n x is le all e = part_refused g g.takes_memory _ _ (sink_of old) x is (λ h. let k = tuple_can (settings_of old) all h
+      in omega (arith, k, e, le))
 
   pub probing_opened : (old : Serializer W C) (n : ℕ) (kept : List ℕ) → kept ≡ [] → forces_all (settings_of old).bytes ≡ true → n < 2 ^ 32
       → (all : List (Option Data)) → length all ≡ n → IsProbing g old (tree_of (settings_of old) (tuple_of all)) all kept n old
@@ -73,8 +102,10 @@ module _ {W C : Type 0} (g : Ghosts W) where
       }
 
   -- one more byte was kept
-  pub probe_more : (d : Settings → Option Data) (kept kept' : List ℕ) (len : ℕ) (now : Serializer W C) (b : ℕ) → kept' ≡ kept ++ b ∷ [] → byte_of (d (settings_of now)) ≡ Some b → b < 256
-      → (old : Serializer W C) (t : Option Msg) (rest : List (Option Data)) → IsProbing g old t (d (settings_of old) ∷ rest) kept len now → IsProbing g old t rest kept' len now
+  pub probe_more : (d : Settings → Option Data) (kept kept' : List ℕ) (len : ℕ) (now : Serializer W C) (b : ℕ) → kept' ≡ kept ++ b ∷ []
+      → byte_of (d (settings_of now)) ≡ Some b → b < 256
+      → (old : Serializer W C) (t : Option Msg) (rest : List (Option Data)) → IsProbing g old t (d (settings_of old) ∷ rest) kept len now
+      → IsProbing g old t rest kept' len now
   probe_more d kept kept' len now b more is lt old t rest h =
       let s = settings_of old in
       let is' : d s ≡ a_byte b = byte_from (d s) b (subst (λ x. byte_of (d (settings_of x)) ≡ Some b) h.same is) in
@@ -91,37 +122,49 @@ module _ {W C : Type 0} (g : Ghosts W) where
       }
 
   -- keeping bytes takes memory, under the mode that forces all
-  pub probe_takes : {old : Serializer W C} {t : Option Msg} {rest : List (Option Data)} {kept : List ℕ} {len : ℕ} {now : Serializer W C} (m n : Bool) → IsProbing g old t rest kept len now → (forces_all (settings_of old).bytes || m) || n ≡ true
+  pub probe_takes : {old : Serializer W C} {t : Option Msg} {rest : List (Option Data)} {kept : List ℕ} {len : ℕ} {now : Serializer W C} (m n : Bool)
+      → IsProbing g old t rest kept len now → (forces_all (settings_of old).bytes || m) || n ≡ true
   probe_takes m n h = ap (λ b. (forces_all b || m) || n) h.mode
 
   -- no memory to keep one more
-  pub probe_full : (m : Bool) {kept : List ℕ} {len : ℕ} {now : Serializer W C} (old : Serializer W C) (t : Option Msg) (rest : List (Option Data)) → m ≡ true → IsProbing g old t rest kept len now
+  pub probe_full : (m : Bool) {kept : List ℕ} {len : ℕ} {now : Serializer W C} (old : Serializer W C) (t : Option Msg) (rest : List (Option Data))
+      → m ≡ true → IsProbing g old t rest kept len now
       → WritesTree g {A = Unit {0}} m t (sink_of old) (sink_of now) (Err OutOfMemory)
   probe_full m {now = now} old t rest is h =
-      subst (λ l. WritesTree g {A = Unit {0}} m t (sink_of old) (sink_of l) (Err OutOfMemory)) (sym h.same) (part_nothing g m _ _ (sink_of old) OutOfMemory (is, refl))
+      subst (λ l. WritesTree g {A = Unit {0}} m t (sink_of old) (sink_of l) (Err OutOfMemory)) (sym h.same)
+      (part_nothing g m _ _ (sink_of old) OutOfMemory (is, refl))
 
   -- what is kept is the beginning of a list
-  made_kept : {old : Serializer W C} {t : Option Msg} {rest : List (Option Data)} {kept : List ℕ} {len : ℕ} {now : Serializer W C} (h : IsProbing g old t rest kept len now)
-      → tree_of (settings_of old) (tuple_of (map a_byte kept ++ rest)) ≡ tree_of (settings_of old) (sequence_of (map a_byte kept ++ rest)) → IsMadeOf (settings_of old) t (Unit {0}) (head_at false len) (map a_byte kept ++ rest)
-  made_kept {old} {t} {rest} {kept} {len} h plain = made_as (h.tree ∙ plain) (made_sure h.fits (made_list (settings_of old) len (map a_byte kept ++ rest) (sym h.len_is)))
+  made_kept : {old : Serializer W C} {t : Option Msg} {rest : List (Option Data)} {kept : List ℕ} {len : ℕ} {now : Serializer W C}
+      (h : IsProbing g old t rest kept len now)
+      → tree_of (settings_of old) (tuple_of (map a_byte kept ++ rest)) ≡ tree_of (settings_of old) (sequence_of (map a_byte kept ++ rest))
+      → IsMadeOf (settings_of old) t (Unit {0}) (head_at false len) (map a_byte kept ++ rest)
+  made_kept {old} {t} {rest} {kept} {len} h plain = made_as (h.tree ∙ plain)
+      (made_sure h.fits (made_list (settings_of old) len (map a_byte kept ++ rest) (sym h.len_is)))
 
   -- and so it is written
-  kept_writes : {m : Bool} {old : Serializer W C} {t : Option Msg} {rest : List (Option Data)} {kept : List ℕ} {len : ℕ} {now : Serializer W C} {last : W} {r : Result (Unit {0}) Error} (h : IsProbing g old t rest kept len now)
+  kept_writes : {m : Bool} {old : Serializer W C} {t : Option Msg} {rest : List (Option Data)} {kept : List ℕ} {len : ℕ} {now : Serializer W C} {last : W}
+      {r : Result (Unit {0}) Error} (h : IsProbing g old t rest kept len now)
       → WritesPart g m (Unit {0} × Unit {0}) (head_at false len ++ flat_map number_head kept) (sink_of now) last r
-      → WritesPart g m (AllByRecursion (Has (settings_of old)) (map a_byte kept)) (head_at false len ++ flat_map (spelling (settings_of old)) (map a_byte kept)) (sink_of old) last r
+      → WritesPart g m (AllByRecursion (Has (settings_of old)) (map a_byte kept))
+      (head_at false len ++ flat_map (spelling (settings_of old)) (map a_byte kept)) (sink_of old) last r
   kept_writes {m} {old} {kept = kept} {len = len} {last = last} {r = r} h w =
       part_as g (λ x. x) (λ _. h.have) (λ _. (tt, tt)) (λ _. ap (λ l. head_at false len ++ l) (sym (numbers_text (settings_of old) kept)))
       (subst (λ x. WritesPart g m (Unit {0} × Unit {0}) (head_at false len ++ flat_map number_head kept) (sink_of x) last r) h.same w)
 
-  not_bytes : (d : Settings → Option Data) {kept : List ℕ} {len : ℕ} {now old : Serializer W C} {t : Option Msg} {rest : List (Option Data)} → byte_of (d (settings_of now)) ≡ None → IsProbing g old t (d (settings_of old) ∷ rest) kept len now
+  not_bytes : (d : Settings → Option Data) {kept : List ℕ} {len : ℕ} {now old : Serializer W C} {t : Option Msg} {rest : List (Option Data)}
+      → byte_of (d (settings_of now)) ≡ None → IsProbing g old t (d (settings_of old) ∷ rest) kept len now
       → IsMadeOf (settings_of old) t (Unit {0}) (head_at false len) (map a_byte kept ++ d (settings_of old) ∷ rest)
   not_bytes d {kept} {old = old} {rest = rest} isnt h =
       let s = settings_of old in
       made_kept h (plain_by s (map a_byte kept) (d s) rest (subst (λ x. byte_of (d (settings_of x)) ≡ None) h.same isnt))
 
   -- what was kept was written as a list, since an element is no byte
-  pub spilled : (d : Settings → Option Data) (kept : List ℕ) (len : ℕ) (now mid : Serializer W C) (u : Unit {0}) → byte_of (d (settings_of now)) ≡ None → Keeps g now mid → WritesPart g g.takes_memory (Unit {0} × Unit {0}) (head_at false len ++ flat_map number_head kept) (sink_of now) (sink_of mid) (Ok u)
-      → (old : Serializer W C) (t : Option Msg) (rest : List (Option Data)) → IsProbing g old t (d (settings_of old) ∷ rest) kept len now → IsWriting g old t (d (settings_of old) ∷ rest) mid
+  pub spilled : (d : Settings → Option Data) (kept : List ℕ) (len : ℕ) (now mid : Serializer W C) (u : Unit {0}) → byte_of (d (settings_of now)) ≡ None
+      → Keeps g now mid → WritesPart g g.takes_memory (Unit {0} × Unit {0}) (head_at false len ++ flat_map number_head kept) (sink_of now) (sink_of mid)
+      (Ok u)
+      → (old : Serializer W C) (t : Option Msg) (rest : List (Option Data)) → IsProbing g old t (d (settings_of old) ∷ rest) kept len now
+      → IsWriting g old t (d (settings_of old) ∷ rest) mid
   spilled d kept len now mid u isnt k w old t rest h = record {
     head = head_at false len;
     front = map a_byte kept;
@@ -131,21 +174,27 @@ module _ {W C : Type 0} (g : Ghosts W) where
   }
 
   -- the same, where that failed
-  pub not_spilled : (m : Bool) (d : Settings → Option Data) (kept : List ℕ) (len : ℕ) (now last : Serializer W C) (e : Error) → byte_of (d (settings_of now)) ≡ None → WritesPart g {A = Unit {0}} g.takes_memory (Unit {0} × Unit {0}) (head_at false len ++ flat_map number_head kept) (sink_of now) (sink_of last) (Err e)
-      → (old : Serializer W C) (t : Option Msg) (rest : List (Option Data)) → m ≡ true → IsProbing g old t (d (settings_of old) ∷ rest) kept len now → WritesTree g {A = Unit {0}} m t (sink_of old) (sink_of last) (Err e)
+  pub not_spilled : (m : Bool) (d : Settings → Option Data) (kept : List ℕ) (len : ℕ) (now last : Serializer W C) (e : Error)
+      → byte_of (d (settings_of now)) ≡ None → WritesPart g {A = Unit {0}} g.takes_memory (Unit {0} × Unit {0})
+      (head_at false len ++ flat_map number_head kept) (sink_of now) (sink_of last) (Err e)
+      → (old : Serializer W C) (t : Option Msg) (rest : List (Option Data)) → m ≡ true → IsProbing g old t (d (settings_of old) ∷ rest) kept len now
+      → WritesTree g {A = Unit {0}} m t (sink_of old) (sink_of last) (Err e)
   not_spilled m d kept len now last e isnt w old t rest is h =
       made_stopped g (settings_of old) t (map a_byte kept) (d (settings_of old) ∷ rest) (not_bytes d isnt h) (part_takes g m (λ _. is) (kept_writes h w))
 
   -- what was kept is written as bytes
-  pub probing_packs : (kept : List ℕ) (len : ℕ) (now : Serializer W C) {last : W} {r : Result (Unit {0}) Error} → packs_tuple ForceAll kept ≡ true → WritesTree g g.takes_memory (Some (bin kept)) (sink_of now) last r
+  pub probing_packs : (kept : List ℕ) (len : ℕ) (now : Serializer W C) {last : W} {r : Result (Unit {0}) Error} → packs_tuple ForceAll kept ≡ true
+      → WritesTree g g.takes_memory (Some (bin kept)) (sink_of now) last r
       → (old : Serializer W C) (t : Option Msg) → IsProbing g old t [] kept len now → WritesTree g g.takes_memory t (sink_of old) last r
   probing_packs kept len now {last} {r} p w old t h =
       let s = settings_of old in
-      let tree : t ≡ Some (bin kept) = h.tree ∙ ap (λ l. tree_of s (tuple_of l)) (append-nil (map a_byte kept)) ∙ bytes_tree s kept (ap (λ m. packs_tuple m kept) h.mode ∙ p) in
+      let tree : t ≡ Some (bin kept) = h.tree ∙ ap (λ l. tree_of s (tuple_of l)) (append-nil (map a_byte kept))
+      ∙ bytes_tree s kept (ap (λ m. packs_tuple m kept) h.mode ∙ p) in
       as_tree g tree (subst (λ x. WritesTree g g.takes_memory (Some (bin kept)) (sink_of x) last r) h.same w)
 
   -- what was kept is written as a list
-  pub probing_lists : (kept : List ℕ) (len : ℕ) (now : Serializer W C) {last : W} {r : Result (Unit {0}) Error} → packs_tuple ForceAll kept ≡ false → WritesPart g g.takes_memory (Unit {0} × Unit {0}) (head_at false len ++ flat_map number_head kept) (sink_of now) last r
+  pub probing_lists : (kept : List ℕ) (len : ℕ) (now : Serializer W C) {last : W} {r : Result (Unit {0}) Error} → packs_tuple ForceAll kept ≡ false
+      → WritesPart g g.takes_memory (Unit {0} × Unit {0}) (head_at false len ++ flat_map number_head kept) (sink_of now) last r
       → (old : Serializer W C) (t : Option Msg) → IsProbing g old t [] kept len now → WritesTree g g.takes_memory t (sink_of old) last r
   probing_lists kept len now p w old t h =
       let s = settings_of old in
@@ -155,26 +204,36 @@ module _ {W C : Type 0} (g : Ghosts W) where
       made_ended g s t (made_of all (made_kept h plain)) (kept_writes h w)
 
   -- the state, where nothing is kept, and where something may be
-  pub list_state : {old : Serializer W C} {t : Option Msg} {rest : List (Option Data)} {q : OpenTuple W C} → kept_of q ≡ None → IsTupling g old t rest q → IsWriting g old t rest q.se.now
+  pub list_state : {old : Serializer W C} {t : Option Msg} {rest : List (Option Data)} {q : OpenTuple W C} → kept_of q ≡ None → IsTupling g old t rest q
+      → IsWriting g old t rest q.se.now
   list_state {old} {t} {rest} {q} e h = subst (λ b. IsTuplingAt g old t rest b q.len q.se.now) e h.state
 
-  pub probe_state : {old : Serializer W C} {t : Option Msg} {rest : List (Option Data)} {q : OpenTuple W C} (v : Vec ℕ Global) → kept_of q ≡ Some v → IsTupling g old t rest q → IsProbing g old t rest v.items q.len q.se.now
+  pub probe_state : {old : Serializer W C} {t : Option Msg} {rest : List (Option Data)} {q : OpenTuple W C} (v : Vec ℕ Global) → kept_of q ≡ Some v
+      → IsTupling g old t rest q → IsProbing g old t rest v.items q.len q.se.now
   probe_state {old} {t} {rest} {q} v e h = subst (λ b. IsTuplingAt g old t rest b q.len q.se.now) e h.state
 
-  in_list : {old : Serializer W C} {t : Option Msg} {rest : List (Option Data)} {q : OpenTuple W C} → q.sound ≡ true → q.left ≡ length rest → kept_of q ≡ None → IsWriting g old t rest q.se.now → IsTupling g old t rest q
+  in_list : {old : Serializer W C} {t : Option Msg} {rest : List (Option Data)} {q : OpenTuple W C} → q.sound ≡ true → q.left ≡ length rest
+      → kept_of q ≡ None → IsWriting g old t rest q.se.now → IsTupling g old t rest q
   in_list {old} {t} {rest} {q} s l e h = record { sound = s; left_is = l; state = subst (λ b. IsTuplingAt g old t rest b q.len q.se.now) (sym e) h }
 
-  pub in_probe : {old : Serializer W C} {t : Option Msg} {rest : List (Option Data)} {q : OpenTuple W C} (v : Vec ℕ Global) → q.sound ≡ true → q.left ≡ length rest → kept_of q ≡ Some v → IsProbing g old t rest v.items q.len q.se.now → IsTupling g old t rest q
+  pub in_probe : {old : Serializer W C} {t : Option Msg} {rest : List (Option Data)} {q : OpenTuple W C} (v : Vec ℕ Global) → q.sound ≡ true
+      → q.left ≡ length rest → kept_of q ≡ Some v → IsProbing g old t rest v.items q.len q.se.now → IsTupling g old t rest q
   in_probe {old} {t} {rest} {q} v s l e h = record { sound = s; left_is = l; state = subst (λ b. IsTuplingAt g old t rest b q.len q.se.now) (sym e) h }
 
   -- an element went to the sink, as the tuple's state says
-  pub tuple_goes : (m : Settings → Bool) (d : Settings → Option Data) (left : ℕ) (now : Serializer W C) (q' : OpenTuple W C) (r : Result (Unit {0}) Error) → q'.sound ≡ true → kept_of q' ≡ None → q'.left + 1 ≡ left → Keeps g now q'.se.now
+  pub tuple_goes : (m : Settings → Bool) (d : Settings → Option Data) (left : ℕ) (now : Serializer W C) (q' : OpenTuple W C) (r : Result (Unit {0}) Error)
+      → q'.sound ≡ true → kept_of q' ≡ None → q'.left + 1 ≡ left → Keeps g now q'.se.now
       → WritesTree g (m (settings_of now) || g.takes_memory) (tree_of (settings_of now) (d (settings_of now))) (sink_of now) (sink_of q'.se.now) r
-      → (old : Serializer W C) (t : Option Msg) (rest : List (Option Data)) → left ≡ length (d (settings_of old) ∷ rest) → IsWriting g old t (d (settings_of old) ∷ rest) now
-      → MatchResult r (λ _. IsTupling g old t rest q') (λ e. WritesTree g {A = Unit {0}} ((forces_all (settings_of old).bytes || m (settings_of old)) || g.takes_memory) t (sink_of old) (sink_of q'.se.now) (Err e))
-  tuple_goes m d left now q' (Ok u) s e l k w old t rest n h = in_list s (omega (arith, l, n)) e (goes g (λ z. m z || g.takes_memory) d now q'.se.now (Ok u) k w old t rest h)
+      → (old : Serializer W C) (t : Option Msg) (rest : List (Option Data)) → left ≡ length (d (settings_of old) ∷ rest)
+      → IsWriting g old t (d (settings_of old) ∷ rest) now
+      → MatchResult r (λ _. IsTupling g old t rest q') (λ e. WritesTree g {A = Unit {0}}
+      ((forces_all (settings_of old).bytes || m (settings_of old)) || g.takes_memory) t (sink_of old) (sink_of q'.se.now) (Err e))
+  tuple_goes m d left now q' (Ok u) s e l k w old t rest n h = in_list s (omega (arith, l, n)) e
+      (goes g (λ z. m z || g.takes_memory) d now q'.se.now (Ok u) k w old t rest h)
   tuple_goes m d left now q' (Err x) s e l k w old t rest n h =
-      part_takes g _ (or_second (forces_all (settings_of old).bytes) (m (settings_of old)) g.takes_memory) (goes g (λ z. m z || g.takes_memory) d now q'.se.now (Err x) k w old t rest h)
+      part_takes g _ (or_second (forces_all (settings_of old).bytes) (m (settings_of old)) g.takes_memory)
+      (goes g (λ z. m z || g.takes_memory) d now q'.se.now (Err x) k w old t rest h)
 
-  pub still_tuple : {old : Serializer W C} {t : Option Msg} {rest rest' : List (Option Data)} {q : OpenTuple W C} → rest ≡ rest' → IsTupling g old t rest q → IsTupling g old t rest' q
+  pub still_tuple : {old : Serializer W C} {t : Option Msg} {rest rest' : List (Option Data)} {q : OpenTuple W C} → rest ≡ rest' → IsTupling g old t rest q
+      → IsTupling g old t rest' q
   still_tuple {old} {t} {rest} {rest'} {q} e h = subst (λ ds. IsTupling g old t ds q) e h

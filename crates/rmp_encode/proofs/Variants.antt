@@ -1,5 +1,28 @@
 -- What a variant is made of.
-use Rattle.std.proofs.Common.{◌≡◌, ℕ, ◌<◌, ◌^◌, List, [], ◌∷◌, ◌++◌, length, Bool, false, Option, None, Some, refl, sym, ◌∙◌, ap, subst, arith, append_assoc, append-nil}
+use Rattle.std.proofs.Common.{
+  ◌≡◌,
+  ℕ,
+  ◌<◌,
+  ◌^◌,
+  List,
+  [],
+  ◌∷◌,
+  ◌++◌,
+  length,
+  Bool,
+  false,
+  Option,
+  None,
+  Some,
+  refl,
+  sym,
+  ◌∙◌,
+  ap,
+  subst,
+  arith,
+  append_assoc,
+  append-nil,
+}
 use Rattle.std.specs.Prelude.{Result, Ok, Err}
 use Rattle.std.specs.List.{flat_map}
 use Rattle.std.specs.Option.{option_map}
@@ -15,7 +38,23 @@ use Rattle.rmp_encode.specs.Data.{Data, Parts, Fields, tuple_variant, struct_var
 use Rattle.rmp_encode.specs.Going.{IsMadeOf, IsWriting, head_at}
 use Rattle.rmp_encode.specs.Ser.{sink_of, settings_of}
 use Rattle.rmp_encode.specs.Writes.{Keeps, WritesTree}
-use Rattle.rmp_encode.specs.Trees.{HasTree, byte_of, field_parts, fields_of, map_head, parts_of, sequence_of, structure_of, newtype_variant_of, tuple_variant_of, struct_variant_of, spell, spelling, tree_of, variant_head}
+use Rattle.rmp_encode.specs.Trees.{
+  HasTree,
+  byte_of,
+  field_parts,
+  fields_of,
+  map_head,
+  parts_of,
+  sequence_of,
+  structure_of,
+  newtype_variant_of,
+  tuple_variant_of,
+  struct_variant_of,
+  spell,
+  spelling,
+  tree_of,
+  variant_head,
+}
 use Rattle.rmp_encode.proofs.Fields.{made_struct}
 use Rattle.rmp_encode.proofs.Going.{made_as, goes, closes}
 use Rattle.rmp_encode.proofs.Lists.{made_list}
@@ -37,15 +76,18 @@ behind_can name (Some m) h = (h.1.0.0, h.1.1)
 behind_text : (name : List ℕ) (t : Option Msg) → HasTree (behind name t) → variant_head name ++ spell t ≡ spell (behind name t)
 unfolding HasTree spell
 behind_text name None h = absurd h
-behind_text name (Some m) h = append_assoc (map_head 1) (canon (msg.text name)) (canon m) ∙ ap (λ l. map_head 1 ++ (canon (msg.text name) ++ l)) (sym (append-nil (canon m)))
+behind_text name (Some m) h = append_assoc (map_head 1) (canon (msg.text name)) (canon m)
+    ∙ ap (λ l. map_head 1 ++ (canon (msg.text name) ++ l)) (sym (append-nil (canon m)))
 
 -- what the content is made of, behind the name
-pub made_behind : {s : Settings} {t : Option Msg} {P : Type 0} {head : List ℕ} {parts : List (Option Data)} (name : List ℕ) → IsBytes name → IsMadeOf s t P head parts
+pub made_behind : {s : Settings} {t : Option Msg} {P : Type 0} {head : List ℕ} {parts : List (Option Data)} (name : List ℕ) → IsBytes name
+    → IsMadeOf s t P head parts
     → IsMadeOf s (behind name t) ((length name < 2 ^ 32) × P) (variant_head name ++ head) parts
 made_behind {s} {t} {P} {head} {parts} name b h = record {
   may = λ p a. behind_may name t p.0 b (h.may p.1 a);
   can = λ k. let n = behind_can name t k in let a = h.can n.1 in ((n.0, a.0), a.1);
-  text = λ k. append_assoc (variant_head name) head (flat_map (spelling s) parts) ∙ ap (λ l. variant_head name ++ l) (h.text (behind_can name t k).1) ∙ behind_text name t k;
+  text = λ k. append_assoc (variant_head name) head (flat_map (spelling s) parts) ∙ ap (λ l. variant_head name ++ l) (h.text (behind_can name t k).1)
+      ∙ behind_text name t k;
 }
 
 newtype_tree : (s : Settings) (name : List ℕ) (d : Option Data) → tree_of s (newtype_variant_of name d) ≡ behind name (tree_of s d)
@@ -53,12 +95,14 @@ unfolding newtype_variant_of lower
 newtype_tree s name None = refl
 newtype_tree s name (Some d) = refl
 
-tuple_tree_at : (s : Settings) (name : List ℕ) (o : Option Parts) → tree_of s (option_map (tuple_variant name) o) ≡ behind name (tree_of s (option_map sequence o))
+tuple_tree_at : (s : Settings) (name : List ℕ) (o : Option Parts)
+    → tree_of s (option_map (tuple_variant name) o) ≡ behind name (tree_of s (option_map sequence o))
 unfolding lower
 tuple_tree_at s name None = refl
 tuple_tree_at s name (Some ds) = refl
 
-struct_tree_at : (s : Settings) (name : List ℕ) (o : Option Fields) → tree_of s (option_map (struct_variant name) o) ≡ behind name (tree_of s (option_map structure o))
+struct_tree_at : (s : Settings) (name : List ℕ) (o : Option Fields)
+    → tree_of s (option_map (struct_variant name) o) ≡ behind name (tree_of s (option_map structure o))
 unfolding lower
 struct_tree_at s name None = refl
 struct_tree_at s name (Some fs) = refl
@@ -66,23 +110,28 @@ struct_tree_at s name (Some fs) = refl
 made_one : (s : Settings) (d : Option Data) → IsMadeOf s (tree_of s d) (Unit {0}) [] (d ∷ [])
 made_one s d = record { may = λ _ a. a.0; can = λ h. (tt, (h, tt)); text = λ _. append-nil (spelling s d) }
 
-pub made_newtype : (s : Settings) (name : List ℕ) (d : Option Data) → IsBytes name → IsMadeOf s (tree_of s (newtype_variant_of name d)) ((length name < 2 ^ 32) × Unit {0}) (variant_head name) (d ∷ [])
+pub made_newtype : (s : Settings) (name : List ℕ) (d : Option Data) → IsBytes name
+    → IsMadeOf s (tree_of s (newtype_variant_of name d)) ((length name < 2 ^ 32) × Unit {0}) (variant_head name) (d ∷ [])
 made_newtype s name d b =
     subst (λ l. IsMadeOf s (tree_of s (newtype_variant_of name d)) ((length name < 2 ^ 32) × Unit {0}) l (d ∷ [])) (append-nil (variant_head name))
     (made_as (newtype_tree s name d) (made_behind name b (made_one s d)))
 
 -- the last part was written, or failed
-pub last_written : {W C : Type 0} (g : Ghosts W) (m : Settings → Bool) (d : Settings → Option Data) (old now now' : Serializer W C) (r : Result (Unit {0}) Error) → Keeps g now now'
+pub last_written : {W C : Type 0} (g : Ghosts W) (m : Settings → Bool) (d : Settings
+    → Option Data) (old now now' : Serializer W C) (r : Result (Unit {0}) Error) → Keeps g now now'
     → WritesTree g (m (settings_of now)) (tree_of (settings_of now) (d (settings_of now))) (sink_of now) (sink_of now') r
     → {t : Option Msg} → IsWriting g old t (d (settings_of old) ∷ []) now → WritesTree g (m (settings_of old)) t (sink_of old) (sink_of now') r
 last_written g m d old now now' (Ok u) k w {t} h = closes g _ old t now' u (goes g m d now now' (Ok u) k w old t [] h)
 last_written g m d old now now' (Err e) k w {t} h = goes g m d now now' (Err e) k w old t [] h
 
-pub made_tuple_variant : (s : Settings) (name : List ℕ) (n : ℕ) (ds : List (Option Data)) → IsBytes name → length ds ≡ n → IsMadeOf s (tree_of s (tuple_variant_of name ds)) ((length name < 2 ^ 32) × (n < 2 ^ 32)) (variant_head name ++ head_at false n) ds
+pub made_tuple_variant : (s : Settings) (name : List ℕ) (n : ℕ) (ds : List (Option Data)) → IsBytes name → length ds ≡ n
+    → IsMadeOf s (tree_of s (tuple_variant_of name ds)) ((length name < 2 ^ 32) × (n < 2 ^ 32)) (variant_head name ++ head_at false n) ds
 unfolding tuple_variant_of sequence_of
 made_tuple_variant s name n ds b e = made_as (tuple_tree_at s name (parts_of ds)) (made_behind name b (made_list s n ds e))
 
-pub made_struct_variant : (s : Settings) (name : List ℕ) (n : ℕ) (fs : List (List ℕ × Option Data)) → IsBytes name → length fs ≡ n → IsMadeOf s (tree_of s (struct_variant_of name fs)) ((length name < 2 ^ 32) × (n < 2 ^ 32)) (variant_head name ++ head_at s.named n) (flat_map (field_parts s.named) fs)
+pub made_struct_variant : (s : Settings) (name : List ℕ) (n : ℕ) (fs : List (List ℕ × Option Data)) → IsBytes name → length fs ≡ n
+    → IsMadeOf s (tree_of s (struct_variant_of name fs)) ((length name < 2 ^ 32) × (n < 2 ^ 32)) (variant_head name ++ head_at s.named n)
+    (flat_map (field_parts s.named) fs)
 unfolding struct_variant_of structure_of
 made_struct_variant s name n fs b e = made_as (struct_tree_at s name (fields_of fs)) (made_behind name b (made_struct s n fs e))
 

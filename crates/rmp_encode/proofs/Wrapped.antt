@@ -41,17 +41,22 @@ newtype_refused name d e = ap (λ b. cond b None (wrapped_of d)) e
 
 module _ {W : Type 0} (g : Ghosts W) where
   -- what a value is written as, where it is wrapped
-  pub wrapped_writes : {A : Type 0} {m : Bool} {old new : W} {r : Result A _} (s : Settings) (d : Option Data) → WritesTree g m (tree_of s d) old new r → WritesTree g m (tree_of s (wrapped_of d)) old new r
+  pub wrapped_writes : {A : Type 0} {m : Bool} {old new : W} {r : Result A _} (s : Settings) (d : Option Data) → WritesTree g m (tree_of s d) old new r
+      → WritesTree g m (tree_of s (wrapped_of d)) old new r
   wrapped_writes s d w = as_tree g (wrapped_tree s d) w
 
-  pub newtype_writes : {A : Type 0} {m : Bool} {old new : W} {r : Result A _} (s : Settings) (name : List ℕ) (d : Option Data) → bytes_eq name (codes "_ExtStruct") ≡ false → WritesTree g m (tree_of s d) old new r → WritesTree g m (tree_of s (newtype_of name d)) old new r
+  pub newtype_writes : {A : Type 0} {m : Bool} {old new : W} {r : Result A _} (s : Settings) (name : List ℕ) (d : Option Data)
+      → bytes_eq name (codes "_ExtStruct") ≡ false → WritesTree g m (tree_of s d) old new r → WritesTree g m (tree_of s (newtype_of name d)) old new r
   newtype_writes s name d e w = as_tree g (ap (tree_of s) (newtype_named name d e) ∙ wrapped_tree s d) w
 
-  pub newtype_refuses : {A : Type 0} (m : Bool) (s : Settings) (name : List ℕ) (d : Option Data) (w : W) (t : Bor (List ℕ)) → IsNoTuple t.now → bytes_eq name (codes "_ExtStruct") ≡ true → WritesTree g {A = A} m (tree_of s (newtype_of name d)) w w (Err (InvalidDataModel t))
+  pub newtype_refuses : {A : Type 0} (m : Bool) (s : Settings) (name : List ℕ) (d : Option Data) (w : W) (t : Bor (List ℕ)) → IsNoTuple t.now
+      → bytes_eq name (codes "_ExtStruct") ≡ true → WritesTree g {A = A} m (tree_of s (newtype_of name d)) w w (Err (InvalidDataModel t))
   unfolding HasTree
-  newtype_refuses m s name d w t is e = as_tree g (ap (tree_of s) (newtype_refused name d e)) (part_nothing g m _ _ w (InvalidDataModel t) (inr is, (λ h. h), refl))
+  newtype_refuses m s name d w t is e = as_tree g (ap (tree_of s) (newtype_refused name d e))
+      (part_nothing g m _ _ w (InvalidDataModel t) (inr is, (λ h. h), refl))
 
   -- the empty list, of which the head was written
-  pub nothing_listed : {A : Type 0} {m : Bool} {old new : W} {r : Result A _} → WritesPart g m (Unit {0}) (head_at false 0) old new r → WritesTree g m (Some (list no_items)) old new r
+  pub nothing_listed : {A : Type 0} {m : Bool} {old new : W} {r : Result A _} → WritesPart g m (Unit {0}) (head_at false 0) old new r
+      → WritesTree g m (Some (list no_items)) old new r
   unfolding HasTree spell head_at fits_head
   nothing_listed w = part_as g (λ t. t) (λ _. (search arith, tt)) (λ _. tt) (λ _. sym (append-nil _)) w

@@ -53,7 +53,8 @@ module _ {W C : Type 0} (g : Ghosts W) where
     pub front : List (Option Data)
     pub made : IsMadeOf (settings_of old) t (Unit {0}) head (front ++ rest)
     pub keeps : Keeps g old now
-    pub writes : WritesPart g true (AllByRecursion (Has (settings_of old)) front) (head ++ flat_map (spelling (settings_of old)) front) (sink_of old) (sink_of now) done
+    pub writes : WritesPart g true (AllByRecursion (Has (settings_of old)) front) (head ++ flat_map (spelling (settings_of old)) front) (sink_of old)
+        (sink_of now) done
 
   -- A head was written, behind which all parts are still to come; at an error nothing more comes. P says that the numbers in the head fit.
   abbrev pub Begins : Type 0 → List ℕ → Serializer W C → Serializer W C → Result (Unit {0}) Error → Type 0
@@ -62,7 +63,8 @@ module _ {W C : Type 0} (g : Ghosts W) where
       → MatchResult r (λ _. IsWriting old t parts now) (λ e. WritesTree g {A = Unit {0}} g.takes_memory t (sink_of old) (sink_of now) (Err e))
 
   -- the same, where what went before waits in a buffer, and nothing has reached the sink
-  pub record IsKeepingAt (pairs : Bool) (old : Serializer W C) (t : Option Msg) (rest : List (Option Data)) (count : ℕ) (buffer : Serializer (Vec ℕ Global) C) (now : Serializer W C) : Type 0 where
+  pub record IsKeepingAt (pairs : Bool) (old : Serializer W C) (t : Option Msg) (rest : List (Option Data)) (count : ℕ)
+      (buffer : Serializer (Vec ℕ Global) C) (now : Serializer W C) : Type 0 where
     pub size : ℕ
     pub front : List (Option Data)
     pub tree : t ≡ tree_of (settings_of old) (open_of pairs (front ++ rest))
@@ -75,7 +77,8 @@ module _ {W C : Type 0} (g : Ghosts W) where
     pub bytes : (sink_of buffer).items ≡ flat_map (spelling (settings_of old)) front
 
   -- Parts are written, or kept; m says under which settings memory may be taken.
-  abbrev pub Goes : {Q : Type 0} → States W C Q → (Q → Serializer W C) → (Settings → Bool) → (Settings → List (Option Data)) → Q → Q → Result (Unit {0}) Error → Type 0
+  abbrev pub Goes : {Q : Type 0} → States W C Q → (Q → Serializer W C) → (Settings → Bool) → (Settings → List (Option Data)) → Q → Q
+      → Result (Unit {0}) Error → Type 0
   Goes state inside m parts q q' r =
       (old : Serializer W C) (t : Option Msg) (rest : List (Option Data)) → state old t (parts (settings_of old) ++ rest) q
       → MatchResult r (λ _. state old t rest q') (λ e. WritesTree g {A = Unit {0}} (m (settings_of old)) t (sink_of old) (sink_of (inside q')) (Err e))
@@ -85,11 +88,13 @@ module _ {W C : Type 0} (g : Ghosts W) where
   Ends state q last r = (old : Serializer W C) (t : Option Msg) → state old t [] q → WritesTree g g.takes_memory t (sink_of old) last r
 
   -- What the serializer is left as where nothing is opened: P says that the numbers told fit, and `may` of which parts they were told.
-  pub record FailsToOpen {A X : Type 0} (P : Type 0) (may : X → Type 0) (value : X → Option Data) (old : Serializer W C) (r : Result A Error) (last : Serializer W C) : Type 0 where
+  pub record FailsToOpen {A X : Type 0} (P : Type 0) (may : X → Type 0) (value : X
+      → Option Data) (old : Serializer W C) (r : Result A Error) (last : Serializer W C) : Type 0 where
     pub keeps : Keeps g old last
     pub refused : StaysAtRefusal old last r
     pub long : ¬ P → last ≡ old
-    pub writes : (all : X) → may all → IfErr r (λ e. WritesTree g {A = Unit {0}} g.takes_memory (tree_of (settings_of old) (value all)) (sink_of old) (sink_of last) (Err e))
+    pub writes : (all : X) → may all → IfErr r (λ e. WritesTree g {A = Unit {0}} g.takes_memory (tree_of (settings_of old) (value all)) (sink_of old)
+        (sink_of last) (Err e))
 
 module _ (W C : RattleType) (g : Ghosts W.Denot) where
   -- the serializer is lent to what is opened, or rests as that says

@@ -11,7 +11,24 @@ use Rattle.rmp_wire.specs.Spelling.{canon, Fits}
 use Rattle.rmp_encode.specs.declared.settings.Settings.{Settings}
 use Rattle.rmp_wire.specs.declared.config.BytesMode.{BytesMode}
 use Rattle.rmp_wire.specs.declared.config.BytesMode.TheVariants.{Normal, ForceIterables, ForceAll}
-use Rattle.rmp_encode.specs.Data.{Data, unit, byte, wrapped, text, sequence, slice, tuple, mapping, structure, newtype_variant, tuple_variant, struct_variant, Parts, no_parts, part}
+use Rattle.rmp_encode.specs.Data.{
+  Data,
+  unit,
+  byte,
+  wrapped,
+  text,
+  sequence,
+  slice,
+  tuple,
+  mapping,
+  structure,
+  newtype_variant,
+  tuple_variant,
+  struct_variant,
+  Parts,
+  no_parts,
+  part,
+}
 use Rattle.rmp_encode.specs.Data.{Entries, no_entries, entry, Fields, no_fields, field, byte_in, lower}
 
 -- a tree is there, and each number and length in it fits its head

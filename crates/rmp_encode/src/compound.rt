@@ -72,7 +72,8 @@ impl<W: Sink, C: SerializerConfig> Serializer<W, C> {
         ensures left { IfOk result (λ q. left_of q ≡ len) }
         ensures kind { IfOk result (λ q. has_fields q ≡ true) }
         ensures sound { IfOk result (λ q. is_sound q ≡ true) }
-        ensures opened { IfOk result (λ q. (fs : _) → length fs ≡ len → IsFilling W.Sink self.old (tree_of (settings_of self.old) (structure_of fs)) (flat_map (field_parts (settings_of self.old).named) fs) q) }
+        ensures opened { IfOk result (λ q. (fs : _) → length fs ≡ len
+            → IsFilling W.Sink self.old (tree_of (settings_of self.old) (structure_of fs)) (flat_map (field_parts (settings_of self.old).named) fs) q) }
         ensures keeps { IfOk result (λ q. Keeps W.Sink self.old (inside q)) }
     {
         self.put_len(self.is_named(), len)?;
@@ -101,7 +102,8 @@ impl<'a, W: Sink, C: SerializerConfig> Compound<'a, W, C> {
         ensures kind { has_fields self.new ≡ has_fields self.old }
         ensures sound { OnOk result (is_sound self.new ≡ true) }
         ensures broken { OnErr result (is_sound self.new ≡ false) }
-        ensures writes { Goes W.Sink (IsFilling W.Sink) inside (λ s. T.takes_memory s || W.takes_memory) (λ s. T.data_of value.now s.human ∷ []) self.old self.new result }
+        ensures writes { Goes W.Sink (IsFilling W.Sink) inside (λ s. T.takes_memory s || W.takes_memory) (λ s. T.data_of value.now s.human ∷ []) self.old
+            self.new result }
         ensures keeps { Keeps W.Sink (inside self.old) (inside self.new) }
         ensures value { OnOk result (T.is_value value.now) }
     {
@@ -135,7 +137,8 @@ impl<'a, W: Sink, C: SerializerConfig> Compound<'a, W, C> {
         ensures kind { has_fields self.new ≡ has_fields self.old }
         ensures sound { OnOk result (is_sound self.new ≡ true) }
         ensures broken { OnErr result (is_sound self.new ≡ false) }
-        ensures writes { Goes W.Sink (IsFilling W.Sink) inside (λ s. T.takes_memory s || W.takes_memory) (λ s. field_parts s.named (key.now, T.data_of value.now s.human)) self.old self.new result }
+        ensures writes { Goes W.Sink (IsFilling W.Sink) inside (λ s. T.takes_memory s || W.takes_memory)
+            (λ s. field_parts s.named (key.now, T.data_of value.now s.human)) self.old self.new result }
         ensures keeps { Keeps W.Sink (inside self.old) (inside self.new) }
         ensures value { OnOk result (T.is_value value.now) }
     {

@@ -54,7 +54,8 @@ pub trait Elements {
         se: &mut Serializer<W, C>,
     ) -> Result<(), Error>
         requires { length names.now ≡ count }
-        ensures writes { Goes W.Sink (IsWriting W.Sink) (λ n. n) (λ s. takes_memory s || W.takes_memory) (λ s. flat_map (field_parts s.named) (fields_by names.now (parts_of self.now s.human))) se.old se.new result }
+        ensures writes { Goes W.Sink (IsWriting W.Sink) (λ n. n) (λ s. takes_memory s || W.takes_memory)
+            (λ s. flat_map (field_parts s.named) (fields_by names.now (parts_of self.now s.human))) se.old se.new result }
         ensures keeps { Keeps W.Sink se.old se.new }
         ensures value { OnOk result (are_values self.now) };
 }
@@ -71,7 +72,9 @@ impl<W: Sink, C: SerializerConfig> Serializer<W, C> {
         _name: &'static str,
         elements: &E,
     ) -> Result<(), Error>
-        ensures writes { WritesTree W.Sink (E.takes_memory (settings_of self.old) || W.takes_memory) (tree_of (settings_of self.old) (sequence_of (E.parts_of elements.now (settings_of self.old).human))) (sink_of self.old) (sink_of self.new) result }
+        ensures writes { WritesTree W.Sink (E.takes_memory (settings_of self.old) || W.takes_memory)
+            (tree_of (settings_of self.old) (sequence_of (E.parts_of elements.now (settings_of self.old).human))) (sink_of self.old) (sink_of self.new)
+            result }
         ensures keeps { Keeps W.Sink self.old self.new }
         ensures value { OnOk result (E.are_values elements.now) }
     {
@@ -92,7 +95,9 @@ impl<W: Sink, C: SerializerConfig> Serializer<W, C> {
         elements: &E,
     ) -> Result<(), Error>
         requires { length names.now ≡ E.count }
-        ensures writes { WritesTree W.Sink (E.takes_memory (settings_of self.old) || W.takes_memory) (tree_of (settings_of self.old) (structure_of (fields_by names.now (E.parts_of elements.now (settings_of self.old).human)))) (sink_of self.old) (sink_of self.new) result }
+        ensures writes { WritesTree W.Sink (E.takes_memory (settings_of self.old) || W.takes_memory)
+            (tree_of (settings_of self.old) (structure_of (fields_by names.now (E.parts_of elements.now (settings_of self.old).human)))) (sink_of self.old)
+            (sink_of self.new) result }
         ensures keeps { Keeps W.Sink self.old self.new }
         ensures value { OnOk result (E.are_values elements.now) }
     {
@@ -114,7 +119,9 @@ impl<W: Sink, C: SerializerConfig> Serializer<W, C> {
         variant: &'static str,
         elements: &E,
     ) -> Result<(), Error>
-        ensures writes { WritesTree W.Sink (E.takes_memory (settings_of self.old) || W.takes_memory) (tree_of (settings_of self.old) (tuple_variant_of variant.now (E.parts_of elements.now (settings_of self.old).human))) (sink_of self.old) (sink_of self.new) result }
+        ensures writes { WritesTree W.Sink (E.takes_memory (settings_of self.old) || W.takes_memory)
+            (tree_of (settings_of self.old) (tuple_variant_of variant.now (E.parts_of elements.now (settings_of self.old).human))) (sink_of self.old)
+            (sink_of self.new) result }
         ensures keeps { Keeps W.Sink self.old self.new }
         ensures long { 2 ^ 32 ≤ length variant.now → self.new ≡ self.old }
         ensures value { OnOk result (E.are_values elements.now) }
@@ -139,7 +146,9 @@ impl<W: Sink, C: SerializerConfig> Serializer<W, C> {
         elements: &E,
     ) -> Result<(), Error>
         requires { length names.now ≡ E.count }
-        ensures writes { WritesTree W.Sink (E.takes_memory (settings_of self.old) || W.takes_memory) (tree_of (settings_of self.old) (struct_variant_of variant.now (fields_by names.now (E.parts_of elements.now (settings_of self.old).human)))) (sink_of self.old) (sink_of self.new) result }
+        ensures writes { WritesTree W.Sink (E.takes_memory (settings_of self.old) || W.takes_memory)
+            (tree_of (settings_of self.old) (struct_variant_of variant.now (fields_by names.now (E.parts_of elements.now (settings_of self.old).human))))
+            (sink_of self.old) (sink_of self.new) result }
         ensures keeps { Keeps W.Sink self.old self.new }
         ensures long { 2 ^ 32 ≤ length variant.now → self.new ≡ self.old }
         ensures value { OnOk result (E.are_values elements.now) }

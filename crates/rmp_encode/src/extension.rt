@@ -47,7 +47,8 @@ impl<'a, W: Sink, C: SerializerConfig> ExtSerializer<'a, W, C> {
 impl<'a, W: Sink, C: SerializerConfig> ExtFieldSerializer<'a, W, C> {
     /// Writes the extension. 2 ^ 32 bytes or more are refused, and nothing is written.
     pub fn bytes(self, bytes: &[u8]) -> Result<(), Error>
-        ensures writes { WritesTree W.Sink W.takes_memory (Some (extension (type_of self.entry) bytes.now)) (sink_of (tagged_inside self.entry)) (sink_of self.exit.0.now) result }
+        ensures writes { WritesTree W.Sink W.takes_memory (Some (extension (type_of self.entry) bytes.now)) (sink_of (tagged_inside self.entry))
+            (sink_of self.exit.0.now) result }
         ensures keeps { Keeps W.Sink (tagged_inside self.entry) self.exit.0.now }
         ensures refused { StaysAtRefusal (tagged_inside self.entry) self.exit.0.now result }
     {

@@ -37,7 +37,8 @@ pub trait Serialize {
         &self,
         se: &mut Serializer<W, C>,
     ) -> Result<(), Error>
-        ensures writes { WritesTree W.Sink (takes_memory (settings_of se.old) || W.takes_memory) (tree_of (settings_of se.old) (data_of self.now (settings_of se.old).human)) (sink_of se.old) (sink_of se.new) result }
+        ensures writes { WritesTree W.Sink (takes_memory (settings_of se.old) || W.takes_memory)
+            (tree_of (settings_of se.old) (data_of self.now (settings_of se.old).human)) (sink_of se.old) (sink_of se.new) result }
         ensures keeps { Keeps W.Sink se.old se.new }
         ensures value { OnOk result (is_value self.now) };
 

@@ -294,7 +294,8 @@ impl<W: Sink, C: SerializerConfig> Serializer<W, C> {
     // A field: its value, and with names its name before it.
     #[inline(always)]
     pub(crate) fn put_field<T: Serialize>(&mut self, key: &str, value: &T) -> Result<(), Error>
-        ensures writes { Goes W.Sink (IsWriting W.Sink) (λ se. se) (λ s. T.takes_memory s || W.takes_memory) (λ s. field_parts s.named (key.now, T.data_of value.now s.human)) self.old self.new result }
+        ensures writes { Goes W.Sink (IsWriting W.Sink) (λ se. se) (λ s. T.takes_memory s || W.takes_memory)
+            (λ s. field_parts s.named (key.now, T.data_of value.now s.human)) self.old self.new result }
         ensures keeps { Keeps W.Sink self.old self.new }
         ensures value { OnOk result (T.is_value value.now) }
     {

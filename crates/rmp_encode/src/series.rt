@@ -181,7 +181,8 @@ impl<'a, W: Sink, C: SerializerConfig> MaybeUnknownLengthCompound<'a, W, C> {
         ensures left { left_of self.new ≡ one_less (left_of self.old) }
         ensures kind { is_map self.new ≡ is_map self.old }
         ensures turn { OnOk result (owed_at true (counted self.old) + owed_at true (counted self.new) ≡ 1) }
-        ensures writes { Goes W.Sink (IsOpen W.Sink) inside (λ s. is_kept (left_of self.old) || (T.takes_memory s || W.takes_memory)) (λ s. T.data_of value.now s.human ∷ []) self.old self.new result }
+        ensures writes { Goes W.Sink (IsOpen W.Sink) inside (λ s. is_kept (left_of self.old) || (T.takes_memory s || W.takes_memory))
+            (λ s. T.data_of value.now s.human ∷ []) self.old self.new result }
         ensures stays { Stays (left_of self.old) (inside self.old) (inside self.new) }
         ensures keeps { Keeps W.Sink (inside self.old) (inside self.new) }
         ensures value { OnOk result (T.is_value value.now) }
@@ -233,7 +234,8 @@ impl<'a, W: Sink, C: SerializerConfig> MaybeUnknownLengthCompound<'a, W, C> {
         ensures kind { is_map self.new ≡ false }
         ensures owed { owed self.new ≡ 0 }
         ensures left { left_of self.new ≡ one_less (left_of self.old) }
-        ensures writes { Goes W.Sink (IsOpen W.Sink) inside (λ s. is_kept (left_of self.old) || (T.takes_memory s || W.takes_memory)) (λ s. T.data_of value.now s.human ∷ []) self.old self.new result }
+        ensures writes { Goes W.Sink (IsOpen W.Sink) inside (λ s. is_kept (left_of self.old) || (T.takes_memory s || W.takes_memory))
+            (λ s. T.data_of value.now s.human ∷ []) self.old self.new result }
         ensures stays { Stays (left_of self.old) (inside self.old) (inside self.new) }
         ensures keeps { Keeps W.Sink (inside self.old) (inside self.new) }
         ensures value { OnOk result (T.is_value value.now) }
@@ -254,7 +256,8 @@ impl<'a, W: Sink, C: SerializerConfig> MaybeUnknownLengthCompound<'a, W, C> {
         ensures kind { is_map self.new ≡ true }
         ensures owed { OnOk result (owed self.new ≡ 1) }
         ensures left { left_of self.new ≡ one_less (left_of self.old) }
-        ensures writes { Goes W.Sink (IsOpen W.Sink) inside (λ s. is_kept (left_of self.old) || (T.takes_memory s || W.takes_memory)) (λ s. T.data_of key.now s.human ∷ []) self.old self.new result }
+        ensures writes { Goes W.Sink (IsOpen W.Sink) inside (λ s. is_kept (left_of self.old) || (T.takes_memory s || W.takes_memory))
+            (λ s. T.data_of key.now s.human ∷ []) self.old self.new result }
         ensures stays { Stays (left_of self.old) (inside self.old) (inside self.new) }
         ensures keeps { Keeps W.Sink (inside self.old) (inside self.new) }
         ensures value { OnOk result (T.is_value key.now) }
@@ -274,7 +277,8 @@ impl<'a, W: Sink, C: SerializerConfig> MaybeUnknownLengthCompound<'a, W, C> {
         ensures kind { is_map self.new ≡ true }
         ensures owed { OnOk result (owed self.new ≡ 0) }
         ensures left { left_of self.new ≡ one_less (left_of self.old) }
-        ensures writes { Goes W.Sink (IsOpen W.Sink) inside (λ s. is_kept (left_of self.old) || (T.takes_memory s || W.takes_memory)) (λ s. T.data_of value.now s.human ∷ []) self.old self.new result }
+        ensures writes { Goes W.Sink (IsOpen W.Sink) inside (λ s. is_kept (left_of self.old) || (T.takes_memory s || W.takes_memory))
+            (λ s. T.data_of value.now s.human ∷ []) self.old self.new result }
         ensures stays { Stays (left_of self.old) (inside self.old) (inside self.new) }
         ensures keeps { Keeps W.Sink (inside self.old) (inside self.new) }
         ensures value { OnOk result (T.is_value value.now) }

@@ -40,7 +40,9 @@ impl<W: Sink, C: SerializerConfig> Serializer<W, C> {
 
     // A list of values, which are never made bytes. 2 ^ 32 of them or more are refused, and nothing is written.
     pub(crate) fn put_list<T: Serialize>(&mut self, values: &[T]) -> Result<(), Error>
-        ensures writes { WritesTree W.Sink (T.takes_memory (settings_of self.old) || W.takes_memory) (tree_of (settings_of self.old) (sequence_of (map (λ x. T.data_of x (settings_of self.old).human) values.now))) (sink_of self.old) (sink_of self.new) result }
+        ensures writes { WritesTree W.Sink (T.takes_memory (settings_of self.old) || W.takes_memory)
+            (tree_of (settings_of self.old) (sequence_of (map (λ x. T.data_of x (settings_of self.old).human) values.now))) (sink_of self.old)
+            (sink_of self.new) result }
         ensures keeps { Keeps W.Sink self.old self.new }
         ensures refused { 2 ^ 32 ≤ length values.now → self.new ≡ self.old }
         ensures reason { 2 ^ 32 ≤ length values.now → StaysAtRefusal self.old self.new result }
@@ -58,7 +60,9 @@ impl<W: Sink, C: SerializerConfig> Serializer<W, C> {
     /// Under the modes that force bytes, items that are all `u8` are bytes, where there are some. In the mode `Normal` no memory is
     /// taken but by the items and the sink. 2 ^ 32 items or more are refused, and nothing is written.
     pub fn collect_seq<T: Serialize>(&mut self, values: &[T]) -> Result<(), Error>
-        ensures writes { WritesTree W.Sink ((forces_slices (settings_of self.old).bytes || T.takes_memory (settings_of self.old)) || W.takes_memory) (tree_of (settings_of self.old) (slice_of (map (λ x. T.data_of x (settings_of self.old).human) values.now))) (sink_of self.old) (sink_of self.new) result }
+        ensures writes { WritesTree W.Sink ((forces_slices (settings_of self.old).bytes || T.takes_memory (settings_of self.old)) || W.takes_memory)
+            (tree_of (settings_of self.old) (slice_of (map (λ x. T.data_of x (settings_of self.old).human) values.now))) (sink_of self.old)
+            (sink_of self.new) result }
         ensures keeps { Keeps W.Sink self.old self.new }
         ensures refused { 2 ^ 32 ≤ length values.now → self.new ≡ self.old }
         ensures reason { 2 ^ 32 ≤ length values.now → StaysAtRefusal self.old self.new result }

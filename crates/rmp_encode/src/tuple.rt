@@ -141,7 +141,8 @@ impl<'a, W: Sink, C: SerializerConfig> Tuple<'a, W, C> {
         ensures left { left_of self.new + 1 ≡ left_of self.old }
         ensures sound { OnOk result (is_sound self.new ≡ true) }
         ensures broken { OnErr result (is_sound self.new ≡ false) }
-        ensures writes { Goes W.Sink (IsTupling W.Sink) inside (λ s. (forces_all s.bytes || T.takes_memory s) || W.takes_memory) (λ s. T.data_of value.now s.human ∷ []) self.old self.new result }
+        ensures writes { Goes W.Sink (IsTupling W.Sink) inside (λ s. (forces_all s.bytes || T.takes_memory s) || W.takes_memory)
+            (λ s. T.data_of value.now s.human ∷ []) self.old self.new result }
         ensures keeps { Keeps W.Sink (inside self.old) (inside self.new) }
         ensures value { OnOk result (T.is_value value.now) }
     {
@@ -163,7 +164,8 @@ impl<'a, W: Sink, C: SerializerConfig> Tuple<'a, W, C> {
         ensures same_reference { reference self.new ≡ reference self.old }
         ensures left { left_of self.new + 1 ≡ left_of self.old }
         ensures sound { is_sound self.new ≡ is_sound self.old }
-        ensures writes { Goes W.Sink (IsTupling W.Sink) inside (λ s. (forces_all s.bytes || T.takes_memory s) || W.takes_memory) (λ s. T.data_of value.now s.human ∷ []) self.old self.new result }
+        ensures writes { Goes W.Sink (IsTupling W.Sink) inside (λ s. (forces_all s.bytes || T.takes_memory s) || W.takes_memory)
+            (λ s. T.data_of value.now s.human ∷ []) self.old self.new result }
         ensures keeps { Keeps W.Sink (inside self.old) (inside self.new) }
         ensures value { OnOk result (T.is_value value.now) }
     {
@@ -240,7 +242,8 @@ pub(crate) fn put_tuple<W: Sink, C: SerializerConfig, T: Serialize>(
     se: &mut Serializer<W, C>,
     values: &[T],
 ) -> Result<(), Error>
-    ensures writes { WritesTree W.Sink ((forces_all (settings_of se.old).bytes || T.takes_memory (settings_of se.old)) || W.takes_memory) (tree_of (settings_of se.old) (tuple_of (map (λ x. T.data_of x (settings_of se.old).human) values.now))) (sink_of se.old) (sink_of se.new) result }
+    ensures writes { WritesTree W.Sink ((forces_all (settings_of se.old).bytes || T.takes_memory (settings_of se.old)) || W.takes_memory)
+        (tree_of (settings_of se.old) (tuple_of (map (λ x. T.data_of x (settings_of se.old).human) values.now))) (sink_of se.old) (sink_of se.new) result }
     ensures keeps { Keeps W.Sink se.old se.new }
     ensures refused { 2 ^ 32 ≤ length values.now → se.new ≡ se.old }
     ensures reason { 2 ^ 32 ≤ length values.now → StaysAtRefusal se.old se.new result }

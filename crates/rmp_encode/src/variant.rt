@@ -39,7 +39,8 @@ impl<W: Sink, C: SerializerConfig> Serializer<W, C> {
         pairs: bool,
         len: usize,
     ) -> Result<(), Error>
-        ensures begins { Begins W.Sink ((length variant.now < 2 ^ 32) × (len < 2 ^ 32)) (variant_head variant.now ++ head_at pairs len) self.old self.new result }
+        ensures begins { Begins W.Sink ((length variant.now < 2 ^ 32) × (len < 2 ^ 32)) (variant_head variant.now ++ head_at pairs len) self.old self.new
+            result }
         ensures keeps { Keeps W.Sink self.old self.new }
         ensures stays { StaysAtRefusal self.old self.new result }
         ensures refused { ¬ ((length variant.now < 2 ^ 32) × (len < 2 ^ 32)) → self.new ≡ self.old }
@@ -86,7 +87,9 @@ impl<W: Sink, C: SerializerConfig> Serializer<W, C> {
         variant: &'static str,
         value: &T,
     ) -> Result<(), Error>
-        ensures writes { WritesTree W.Sink (T.takes_memory (settings_of self.old) || W.takes_memory) (tree_of (settings_of self.old) (newtype_variant_of variant.now (T.data_of value.now (settings_of self.old).human))) (sink_of self.old) (sink_of self.new) result }
+        ensures writes { WritesTree W.Sink (T.takes_memory (settings_of self.old) || W.takes_memory)
+            (tree_of (settings_of self.old) (newtype_variant_of variant.now (T.data_of value.now (settings_of self.old).human))) (sink_of self.old)
+            (sink_of self.new) result }
         ensures keeps { Keeps W.Sink self.old self.new }
         ensures long { 2 ^ 32 ≤ length variant.now → self.new ≡ self.old }
         ensures value { OnOk result (T.is_value value.now) }
@@ -109,13 +112,15 @@ impl<W: Sink, C: SerializerConfig> Serializer<W, C> {
         variant: &'static str,
         len: usize,
     ) -> Result<Compound<'_, W, C>, Error>
-        ensures* refused { sem 𝓛 (Rests W.row C.row W.Sink reference ((length variant.now < 2 ^ 32) × (len < 2 ^ 32)) (λ all. length all ≡ len) (tuple_variant_of variant.now) self.entry result) }
+        ensures* refused { sem 𝓛 (Rests W.row C.row W.Sink reference ((length variant.now < 2 ^ 32) × (len < 2 ^ 32)) (λ all. length all ≡ len)
+            (tuple_variant_of variant.now) self.entry result) }
         ensures same_reference { IfOk result (λ q. reference q ≡ self.entry.ghost_name) }
         ensures fits { OnOk result ((length variant.now < 2 ^ 32) × (len < 2 ^ 32)) }
         ensures left { IfOk result (λ q. left_of q ≡ len) }
         ensures kind { IfOk result (λ q. has_fields q ≡ false) }
         ensures sound { IfOk result (λ q. is_sound q ≡ true) }
-        ensures opened { IfOk result (λ q. (all : _) → length all ≡ len → IsFilling W.Sink self.old (tree_of (settings_of self.old) (tuple_variant_of variant.now all)) all q) }
+        ensures opened { IfOk result (λ q. (all : _) → length all ≡ len
+            → IsFilling W.Sink self.old (tree_of (settings_of self.old) (tuple_variant_of variant.now all)) all q) }
         ensures keeps { IfOk result (λ q. Keeps W.Sink self.old (inside q)) }
     {
         self.open_variant(variant, false, len)?;
@@ -140,13 +145,16 @@ impl<W: Sink, C: SerializerConfig> Serializer<W, C> {
         variant: &'static str,
         len: usize,
     ) -> Result<Compound<'_, W, C>, Error>
-        ensures* refused { sem 𝓛 (Rests W.row C.row W.Sink reference ((length variant.now < 2 ^ 32) × (len < 2 ^ 32)) (λ fs. length fs ≡ len) (struct_variant_of variant.now) self.entry result) }
+        ensures* refused { sem 𝓛 (Rests W.row C.row W.Sink reference ((length variant.now < 2 ^ 32) × (len < 2 ^ 32)) (λ fs. length fs ≡ len)
+            (struct_variant_of variant.now) self.entry result) }
         ensures same_reference { IfOk result (λ q. reference q ≡ self.entry.ghost_name) }
         ensures fits { OnOk result ((length variant.now < 2 ^ 32) × (len < 2 ^ 32)) }
         ensures left { IfOk result (λ q. left_of q ≡ len) }
         ensures kind { IfOk result (λ q. has_fields q ≡ true) }
         ensures sound { IfOk result (λ q. is_sound q ≡ true) }
-        ensures opened { IfOk result (λ q. (fs : _) → length fs ≡ len → IsFilling W.Sink self.old (tree_of (settings_of self.old) (struct_variant_of variant.now fs)) (flat_map (field_parts (settings_of self.old).named) fs) q) }
+        ensures opened { IfOk result (λ q. (fs : _) → length fs ≡ len
+            → IsFilling W.Sink self.old (tree_of (settings_of self.old) (struct_variant_of variant.now fs))
+            (flat_map (field_parts (settings_of self.old).named) fs) q) }
         ensures keeps { IfOk result (λ q. Keeps W.Sink self.old (inside q)) }
     {
         self.open_variant(variant, self.is_named(), len)?;

@@ -14,8 +14,10 @@ use std::alloc::Global;
 ///
 /// At an error the sink holds what it held before, and behind it a beginning of the spelling, if there is one.
 pub fn write<W: Sink, T: Serialize>(alloc: Global, wr: &mut W, value: &T) -> Result<(), Error>
-    ensures writes { WritesTree W.Sink (T.takes_memory default_settings || W.takes_memory) (tree_of default_settings (T.data_of value.now false)) wr.old wr.new result }
-    ensures spelled { OnOk result (IsSpelled (tree_of default_settings (T.data_of value.now false)) (spell (tree_of default_settings (T.data_of value.now false)))) }
+    ensures writes { WritesTree W.Sink (T.takes_memory default_settings || W.takes_memory) (tree_of default_settings (T.data_of value.now false)) wr.old
+        wr.new result }
+    ensures spelled { OnOk result (IsSpelled (tree_of default_settings (T.data_of value.now false))
+        (spell (tree_of default_settings (T.data_of value.now false)))) }
     ensures place { W.place wr.new ≡ W.place wr.old }
     ensures value { OnOk result (T.is_value value.now) }
 {
@@ -25,8 +27,10 @@ pub fn write<W: Sink, T: Serialize>(alloc: Global, wr: &mut W, value: &T) -> Res
 
 /// Writes a value into a sink. Structs are maps from the names of their fields.
 pub fn write_named<W: Sink, T: Serialize>(alloc: Global, wr: &mut W, value: &T) -> Result<(), Error>
-    ensures writes { WritesTree W.Sink (T.takes_memory named_settings || W.takes_memory) (tree_of named_settings (T.data_of value.now false)) wr.old wr.new result }
-    ensures spelled { OnOk result (IsSpelled (tree_of named_settings (T.data_of value.now false)) (spell (tree_of named_settings (T.data_of value.now false)))) }
+    ensures writes { WritesTree W.Sink (T.takes_memory named_settings || W.takes_memory) (tree_of named_settings (T.data_of value.now false)) wr.old wr.new
+        result }
+    ensures spelled { OnOk result (IsSpelled (tree_of named_settings (T.data_of value.now false))
+        (spell (tree_of named_settings (T.data_of value.now false)))) }
     ensures place { W.place wr.new ≡ W.place wr.old }
     ensures value { OnOk result (T.is_value value.now) }
 {

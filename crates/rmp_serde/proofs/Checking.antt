@@ -1,5 +1,42 @@
 -- What a head at the front of the bytes comes to, and what a check answers by it.
-use Rattle.std.proofs.Common.{◌≡◌, ◌≢◌, ◌∙◌, sym, ap, subst, refl, ℕ, zero, suc, ◌+◌, ◌-◌, ◌^◌, ◌<◌, ◌≤◌, ◌⊎◌, inl, inr, min, arith, List, [], ◌∷◌, ◌++◌, length, take, drop, get_or, append_assoc, Some, Bool, true, false, Result, Ok, Err}
+use Rattle.std.proofs.Common.{
+  ◌≡◌,
+  ◌≢◌,
+  ◌∙◌,
+  sym,
+  ap,
+  subst,
+  refl,
+  ℕ,
+  zero,
+  suc,
+  ◌+◌,
+  ◌-◌,
+  ◌^◌,
+  ◌<◌,
+  ◌≤◌,
+  ◌⊎◌,
+  inl,
+  inr,
+  min,
+  arith,
+  List,
+  [],
+  ◌∷◌,
+  ◌++◌,
+  length,
+  take,
+  drop,
+  get_or,
+  append_assoc,
+  Some,
+  Bool,
+  true,
+  false,
+  Result,
+  Ok,
+  Err,
+}
 use Rattle.std.proofs.lemmas.List.{length-append, length-drop, take_all}
 use Rattle.std.specs.Prelude.{◌↔◌, IfErr}
 use Rattle.rmp_wire.specs.declared.error.ValueReadError.{ValueReadError}
@@ -31,7 +68,21 @@ use Rattle.rmp_serde.specs.Places.{IsWhole, IsFault, OpensOther, StopsFor, Stops
 use Rattle.rmp_serde.specs.declared.check.Canon.{Canon}
 use Rattle.rmp_serde.specs.declared.check.Canon.TheVariants.{Whole, Fault}
 use Rattle.rmp_serde.proofs.Nodes.{content, own, fits_own, content_long}
-use Rattle.rmp_serde.proofs.Wanted.{NoNode, other_none, Follows, follows_all, follows_head, done_whole, done_only, done_fault, none_whole, none_fault, here_fault, here_only, here_stops}
+use Rattle.rmp_serde.proofs.Wanted.{
+  NoNode,
+  other_none,
+  Follows,
+  follows_all,
+  follows_head,
+  done_whole,
+  done_only,
+  done_fault,
+  none_whole,
+  none_fault,
+  here_fault,
+  here_only,
+  here_stops,
+}
 
 -- ---- one head
 
@@ -58,7 +109,8 @@ next_stops xs ys (wire.InvalidDataRead fault) f =
     )
 next_stops xs ys (wire.TypeMismatch k) f = (f.leaves.0, record { behind = ys; front = reserved_first xs ys f.leaves.1 })
 
-module _ (xs ys rest : List ℕ) (m : Marker) (h : Head) (i : IsHead h (byte_of m ∷ rest)) (t : xs ≡ (byte_of m ∷ rest) ++ ys) (test : Bool) (says : fits_head h → (test ≡ true) ↔ Opens (byte_of m) (canon_head h)) where
+module _ (xs ys rest : List ℕ) (m : Marker) (h : Head) (i : IsHead h (byte_of m ∷ rest)) (t : xs ≡ (byte_of m ∷ rest) ++ ys) (test : Bool)
+    (says : fits_head h → (test ≡ true) ↔ Opens (byte_of m) (canon_head h)) where
   is_test : (test ≡ true) ↔ Opens (byte_of m) (canon_head h)
   is_test = says (head_fits h (byte_of m ∷ rest) i)
 
@@ -116,8 +168,18 @@ own_stands : (m : Msg) (z xs : List ℕ) → Fits m → xs ≡ own m ++ z → (k
 own_stands m z xs f e =
     let c = canon_head (head_of m) in
     let i = canon_is_head (head_of m) (fits_own m f) in
-    let b = head_byte false (head_of m) c i in
-    (marker_of b.0, record { byte = b.0; behind = b.1; rest = content m ++ z; front = own_front m z xs e ∙ ap (λ t. t ++ (content m ++ z)) b.2; is_marker = refl; is_head = subst (IsHead (head_of m)) b.2 i })
+    let b = head_byte false (head_of m) c i in (
+      marker_of b.0,
+      record {
+        byte = b.0;
+        behind = b.1;
+        rest = content m ++ z;
+        front = own_front m z xs e
+            ∙ ap (λ t. t ++ (content m ++ z)) b.2;
+        is_marker = refl;
+        is_head = subst (IsHead (head_of m)) b.2 i;
+      },
+    )
 
 reserved_none : (h : Head) (x : List ℕ) → IsHead h (0xc1 ∷ x) → ⊥
 unfolding byte_of
@@ -137,12 +199,21 @@ stops_none (errors.InvalidDataRead x) xs s = elim s.1 [
     λ m z f e. let k = own_stands m z xs f e in c.none k.0 (head_of m) k.1,
     λ o.
         let b = head_byte false o.head o.bytes o.is_head in
-        c.none (marker_of b.0) o.head (record { byte = b.0; behind = b.1; rest = o.rest; front = o.front ∙ ap (λ t. t ++ o.rest) b.2; is_marker = refl; is_head = subst (IsHead o.head) b.2 o.is_head }),
+        c.none (marker_of b.0) o.head (record {
+          byte = b.0;
+          behind = b.1;
+          rest = o.rest;
+          front = o.front
+              ∙ ap (λ t. t ++ o.rest) b.2;
+          is_marker = refl;
+          is_head = subst (IsHead o.head) b.2 o.is_head;
+        }),
   )
   | inr c ↦
       let w = c.1.stands in (
         λ m z f e.
-            let u = heads_apart (head_of m) c.0 (canon_head (head_of m)) (w.byte ∷ w.behind) (content m ++ z) w.rest (canon_is_head (head_of m) (fits_own m f)) w.is_head.is_head (sym (own_front m z xs e) ∙ w.front) in
+            let u = heads_apart (head_of m) c.0 (canon_head (head_of m)) (w.byte ∷ w.behind) (content m ++ z) w.rest
+            (canon_is_head (head_of m) (fits_own m f)) w.is_head.is_head (sym (own_front m z xs e) ∙ w.front) in
             let short = c.1.short in
             absurd (omega (arith, short, ap length u.2, length-append (content m) z, content_long m ∙ ap content_len u.0)),
         λ o.
@@ -228,15 +299,22 @@ pass_node input ys zs all at k b f t =
     let q = ap length t.front in
     record {
       at = at + length (canon_head t.head ++ t.content);
-      follows = subst (λ z. Follows input (z + all) zs (at + length (canon_head t.head ++ t.content))) (sym t.many) (follows_head input all at t.head t.content zs t.fits t.long own_bytes.1 moved);
+      follows = subst (λ z. Follows input (z + all) zs (at + length (canon_head t.head ++ t.content))) (sym t.many)
+          (follows_head input all at t.head t.content zs t.fits t.long own_bytes.1 moved);
       are_bytes = parted.1;
       shorter = omega (arith, l, q, length-append (canon_head t.head ++ t.content) zs, length-append (canon_head t.head) t.content);
     }
 
-pass_nodes : (input left zs : List ℕ) (all at n parts : ℕ) → IsBytes left → Follows input all left at → TakesNodes n parts left zs → n ≤ all → Passed input (all - n + parts) left n zs
+pass_nodes : (input left zs : List ℕ) (all at n parts : ℕ) → IsBytes left → Follows input all left at → TakesNodes n parts left zs → n ≤ all
+    → Passed input (all - n + parts) left n zs
 pass_nodes input left zs all at zero parts b f t l =
     let e : all ≡ all - 0 + parts = (let p = t.0 in omega (arith, p)) in
-    record { at = at; follows = subst (λ z. Follows input z zs at) e (subst (λ z. Follows input all z at) t.1 f); are_bytes = subst IsBytes t.1 b; shorter = omega (arith, ap length t.1) }
+    record {
+      at = at;
+      follows = subst (λ z. Follows input z zs at) e (subst (λ z. Follows input all z at) t.1 f);
+      are_bytes = subst IsBytes t.1 b;
+      shorter = omega (arith, ap length t.1);
+    }
 pass_nodes input left zs all at (suc n) parts b f t l =
     let before = pass_nodes input left t.0 all at n t.1 b f t.3 (omega (arith, l)) in
     let some : all - n + t.1 ≡ suc (all - suc n + t.1) = omega (arith, l) in
@@ -274,7 +352,11 @@ module _ (input left : List ℕ) (wanted : ℕ) (w : Wants input wanted left) wh
       let f = subst (λ k. Follows input k left w.at) (none_left z) w.follows in
       let p = place_is n e in
       subst (Answers input) (sym q) (record {
-        whole = λ m. (λ i. subst (IsWhole input) (sym p ∙ is_whole n m i) (done_whole input left w.at f), λ i. ap (λ t. Ok (Whole t)) (p ∙ sym (done_only input left w.at f m i)));
+        whole = λ m. (
+          λ i. subst (IsWhole input) (sym p ∙ is_whole n m i) (done_whole input left w.at f),
+          λ i. ap (λ t. Ok (Whole t))
+              (p ∙ sym (done_only input left w.at f m i)),
+        );
         fault = λ m. (λ i. absurd (cc), λ i. absurd (done_fault input left w.at f m i));
         stops = tt;
         memory = tt;
@@ -290,7 +372,11 @@ module _ (input left : List ℕ) (wanted : ℕ) (w : Wants input wanted left) wh
         let p = place_is n e in
         subst (Answers input) (sym q) (record {
           whole = λ m. (λ i. absurd (cc), λ i. absurd (none_whole input left w.at (w.all - 1) f (other_none left o) m i));
-          fault = λ m. (λ i. subst (IsFault input) (sym p ∙ is_fault n m i) (here_fault input left w.at (w.all - 1) f o), λ i. ap (λ t. Ok (Fault t)) (p ∙ sym (here_only input left w.at (w.all - 1) f o m i)));
+          fault = λ m. (
+            λ i. subst (IsFault input) (sym p ∙ is_fault n m i) (here_fault input left w.at (w.all - 1) f o),
+            λ i. ap (λ t. Ok (Fault t))
+                (p ∙ sym (here_only input left w.at (w.all - 1) f o m i)),
+          );
           stops = tt;
           memory = tt;
         })
@@ -344,7 +430,8 @@ module _ (input left : List ℕ) (wanted : ℕ) (w : Wants input wanted left) wh
         omega (arith, l, ap length f, length-append (canon_head t.head ++ t.content) zs, length-append (canon_head t.head) t.content)
 
     -- a head and its content were taken
-    pub wants_node : (zs : List ℕ) (n wanted' : ℕ) → TakesNode left zs n → length input < 2 ^ 64 → wanted' ≡ min (wanted - 1 + n) (2 ^ 64 - 1) → Wants input wanted' zs
+    pub wants_node : (zs : List ℕ) (n wanted' : ℕ) → TakesNode left zs n → length input < 2 ^ 64 → wanted' ≡ min (wanted - 1 + n) (2 ^ 64 - 1)
+        → Wants input wanted' zs
     wants_node zs n wanted' t fit e =
         let f = follows_some in
         let moved = subst (λ z. Follows input (suc (w.all - 1)) z w.at) t.front f in

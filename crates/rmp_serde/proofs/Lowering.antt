@@ -102,7 +102,8 @@ begun_by m old new part (wire.InvalidDataWrite fault) c = c.0
 begun_by m old new part wire.OutOfMemory c = tt
 
 module _ {W : Type 0} (g : Ghosts W) where
-  wire_part : (P : Type 0) (bs : List ℕ) {old new : W} (r : Result (Unit {0}) ValueWriteError) → P → WritesTree g bs old new r → WritesPart g g.takes_memory P bs old new (answer_of r)
+  wire_part : (P : Type 0) (bs : List ℕ) {old new : W} (r : Result (Unit {0}) ValueWriteError) → P → WritesTree g bs old new r
+      → WritesPart g g.takes_memory P bs old new (answer_of r)
   wire_part P bs (Ok u) p w = part_done g g.takes_memory P bs _ _ u p w.whole w.sound
   wire_part P bs (Err e) p w =
       part_failed g g.takes_memory P bs _ _ (error_of e)
@@ -111,7 +112,9 @@ module _ {W : Type 0} (g : Ghosts W) where
       (fails_by g.takes_memory P _ _ w.stops.part e w.stops.cause)
 
   -- a value that fits, of which the canonical spelling was written
-  pub value_writes : (s : Settings) (m : Msg) {old new : W} (r : Result (Unit {0}) ValueWriteError) {answer : Result (Unit {0}) Error} → answer ≡ answer_of r → Fits m → WritesTree g (canon m) old new r → encode.WritesTree g g.takes_memory (tree_of s (Some (value_data m))) old new answer
+  pub value_writes : (s : Settings) (m : Msg) {old new : W} (r : Result (Unit {0}) ValueWriteError) {answer : Result (Unit {0}) Error}
+      → answer ≡ answer_of r → Fits m → WritesTree g (canon m) old new r
+      → encode.WritesTree g g.takes_memory (tree_of s (Some (value_data m))) old new answer
   unfolding HasTree spell
   value_writes s m {old} {new} r {answer} is fits w =
       subst (λ t. encode.WritesTree g g.takes_memory t old new answer) (sym (value_tree s m))

@@ -4,7 +4,27 @@ use Rattle.std.proofs.lemmas.List.{append-nil, length-append}
 use Rattle.rmp_wire.specs.declared.head.Head.{Head}
 use Rattle.rmp_wire.specs.declared.head.Head.TheVariants.{Nil, Truth, Whole, F32Bits, F64Bits, Text, Bin, Array, Map, Ext}
 use Rattle.rmp_wire.specs.Heads.{canon_head, fits_head}
-use Rattle.rmp_wire.specs.Msg.{Msg, nil, truth, whole, float32, float64, text, bin, list, map, extension, Msgs, no_items, item, Pairs, no_pairs, pair, count, count_pairs}
+use Rattle.rmp_wire.specs.Msg.{
+  Msg,
+  nil,
+  truth,
+  whole,
+  float32,
+  float64,
+  text,
+  bin,
+  list,
+  map,
+  extension,
+  Msgs,
+  no_items,
+  item,
+  Pairs,
+  no_pairs,
+  pair,
+  count,
+  count_pairs,
+}
 use Rattle.rmp_wire.specs.Spelling.{IsBytes, canon, canon_all, canon_pairs, Fits, FitsAll, FitsPairs, head_of}
 use Rattle.rmp_wire.proofs.Canon.{canon_is_head}
 use Rattle.rmp_wire.proofs.Heads.{heads_apart}
@@ -138,9 +158,11 @@ pub record SameNode (m : Msg) (a x y : List ℕ) (n : ℕ) : Type 0 where
   pub rest_same : x ≡ y
   pub many : count (parts m) ≡ n
 
-pub same_node : (m : Msg) (h : Head) (s x y : List ℕ) → Fits m → fits_head h → length s ≡ content_len h → own m ++ x ≡ (canon_head h ++ s) ++ y → SameNode m (canon_head h ++ s) x y (parts_behind h)
+pub same_node : (m : Msg) (h : Head) (s x y : List ℕ) → Fits m → fits_head h → length s ≡ content_len h → own m ++ x ≡ (canon_head h ++ s) ++ y
+    → SameNode m (canon_head h ++ s) x y (parts_behind h)
 same_node m h s x y f g l e =
-    let u = heads_apart (head_of m) h (canon_head (head_of m)) (canon_head h) (content m ++ x) (s ++ y) (canon_is_head (head_of m) (fits_own m f)) (canon_is_head h g)
+    let u = heads_apart (head_of m) h (canon_head (head_of m)) (canon_head h) (content m ++ x) (s ++ y) (canon_is_head (head_of m) (fits_own m f))
+    (canon_is_head h g)
     (sym (append_assoc (canon_head (head_of m)) (content m) x) ∙ e ∙ append_assoc (canon_head h) s y) in
     let v = same_front (content m) s x y (content_long m ∙ ap content_len u.0 ∙ sym l) u.2 in
     record { own_same = ap (λ z. z ++ content m) u.1 ∙ ap (λ z. canon_head h ++ z) v.0; rest_same = v.1; many = count_parts m ∙ ap parts_behind u.0 }
@@ -173,7 +195,15 @@ halves zero n ms c f = record { front = no_items; others = ms; split = refl; man
 halves (suc k) n no_items c f = absurd (omega arith)
 halves (suc k) n (item m ms) c f =
     let i = halves k n ms (omega arith) f.1 in
-    record { front = item m i.front; others = i.others; split = ap (λ z. item m z) i.split; many = ap suc i.many; left = i.left; fits = (f.0, i.fits); others_fit = i.others_fit }
+    record {
+      front = item m i.front;
+      others = i.others;
+      split = ap (λ z. item m z) i.split;
+      many = ap suc i.many;
+      left = i.left;
+      fits = (f.0, i.fits);
+      others_fit = i.others_fit;
+    }
 
 record Paired (k : ℕ) (ms : Msgs) : Type 0 where
   pub pairs : Pairs
@@ -202,13 +232,15 @@ none_of : (s : List ℕ) → length s ≡ 0 → s ≡ []
 none_of [] l = refl
 none_of (b ∷ s) l = absurd (omega arith)
 
-leaf : (m : Msg) (h : Head) (s : List ℕ) (n : ℕ) (ms : Msgs) → own m ≡ canon_head h ++ s → parts m ≡ no_items → Fits m → count ms ≡ 0 + n → FitsAll ms → Built h s n ms
+leaf : (m : Msg) (h : Head) (s : List ℕ) (n : ℕ) (ms : Msgs) → own m ≡ canon_head h ++ s → parts m ≡ no_items → Fits m → count ms ≡ 0 + n → FitsAll ms
+    → Built h s n ms
 leaf m h s n ms o p f c g = record { tree = m; others = ms; own_is = o; split = ap (λ z. append z ms) p; left = omega (arith, c); fits = f; others_fit = g }
 
 bare : (h : Head) (s : List ℕ) → length s ≡ 0 → canon_head h ++ [] ≡ canon_head h ++ s
 bare h s l = ap (λ z. canon_head h ++ z) (sym (none_of s l))
 
-pub built : (h : Head) (s : List ℕ) (n : ℕ) (ms : Msgs) → fits_head h → length s ≡ content_len h → IsBytes s → count ms ≡ parts_behind h + n → FitsAll ms → Built h s n ms
+pub built : (h : Head) (s : List ℕ) (n : ℕ) (ms : Msgs) → fits_head h → length s ≡ content_len h → IsBytes s → count ms ≡ parts_behind h + n → FitsAll ms
+    → Built h s n ms
 built Nil s n ms f l b c g = leaf nil Nil s n ms (bare Nil s l) refl f c g
 built (Truth t) s n ms f l b c g = leaf (truth t) (Truth t) s n ms (bare (Truth t) s l) refl f c g
 built (Whole z) s n ms f l b c g = leaf (whole z) (Whole z) s n ms (bare (Whole z) s l) refl f c g
@@ -239,7 +271,8 @@ built (Map k) s n ms f l b c g =
       fits = (subst (λ z. fits_head (Map z)) (sym q.many) f, turned_fits q.pairs (subst FitsAll (sym q.same) p.fits));
       others_fit = p.others_fit;
     }
-built (Ext k tag) s n ms f l b c g = leaf (extension tag s) (Ext k tag) s n ms (ap (λ z. canon_head (Ext z tag) ++ s) l) refl (subst (λ z. fits_head (Ext z tag)) (sym l) f, b) c g
+built (Ext k tag) s n ms f l b c g = leaf (extension tag s) (Ext k tag) s n ms (ap (λ z. canon_head (Ext z tag) ++ s) l) refl
+    (subst (λ z. fits_head (Ext z tag)) (sym l) f, b) c g
 
 -- ---- where nodes begin
 
@@ -338,4 +371,5 @@ later_begins m ms q b = elim (of_append (parts m) ms q b) [
 -- and the spelling of the whole row is the first one's head and content, and then its parts and the others
 pub canon_row : (m : Msg) (ms : Msgs) → canon_all (item m ms) ≡ own m ++ canon_all (append (parts m) ms)
 canon_row m ms =
-    ap (λ z. z ++ canon_all ms) (canon_node m) ∙ append_assoc (own m) (canon_all (parts m)) (canon_all ms) ∙ ap (λ z. own m ++ z) (sym (canon-append (parts m) ms))
+    ap (λ z. z ++ canon_all ms) (canon_node m) ∙ append_assoc (own m) (canon_all (parts m)) (canon_all ms)
+    ∙ ap (λ z. own m ++ z) (sym (canon-append (parts m) ms))

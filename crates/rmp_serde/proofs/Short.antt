@@ -1,5 +1,41 @@
 -- Heads of one byte, and of a number or a float, that the first five bytes show to be canonical.
-use Rattle.std.proofs.Common.{◌≡◌, ◌∙◌, sym, ap, subst, refl, ℕ, suc, ◌+◌, ◌-◌, ◌*◌, ◌%◌, ◌^◌, ◌<◌, ◌≤◌, inl, inr, arith, List, [], ◌∷◌, ◌++◌, length, take, drop, get_or, true, false, cond, nat_lt, pos, negsuc, Bool, ◌==◌, ◌&&◌}
+use Rattle.std.proofs.Common.{
+  ◌≡◌,
+  ◌∙◌,
+  sym,
+  ap,
+  subst,
+  refl,
+  ℕ,
+  suc,
+  ◌+◌,
+  ◌-◌,
+  ◌*◌,
+  ◌%◌,
+  ◌^◌,
+  ◌<◌,
+  ◌≤◌,
+  inl,
+  inr,
+  arith,
+  List,
+  [],
+  ◌∷◌,
+  ◌++◌,
+  length,
+  take,
+  drop,
+  get_or,
+  true,
+  false,
+  cond,
+  nat_lt,
+  pos,
+  negsuc,
+  Bool,
+  ◌==◌,
+  ◌&&◌,
+}
 use Rattle.std.proofs.lemmas.Bool.{cases_lt, lt-ltb, le-ltb, agree_below, agree_below_at, eqb-true}
 use Rattle.std.proofs.lemmas.Bool.Decides.{nat_tests}
 use Rattle.std.proofs.lemmas.Int.{ints}
@@ -234,7 +270,8 @@ abbrev pub word : ℕ → ℕ → ℕ → ℕ → ℕ
 word a b c d = a * 0x1000000 + b * 0x10000 + c * 0x100 + d
 
 -- A head whose first byte has this entry, and whose next four bytes are as it asks, is canonical and stands whole with its content.
-module _ (m a b c d e f g h : ℕ) (r : List ℕ) (s : IsBytes (m ∷ a ∷ b ∷ c ∷ d ∷ e ∷ f ∷ g ∷ h ∷ r)) (long : 32 ≤ length (m ∷ a ∷ b ∷ c ∷ d ∷ e ∷ f ∷ g ∷ h ∷ r)) where
+module _ (m a b c d e f g h : ℕ) (r : List ℕ) (s : IsBytes (m ∷ a ∷ b ∷ c ∷ d ∷ e ∷ f ∷ g ∷ h ∷ r))
+    (long : 32 ≤ length (m ∷ a ∷ b ∷ c ∷ d ∷ e ∷ f ∷ g ∷ h ∷ r)) where
   l1 : a < 256
   l1 = s.1.0
 
@@ -278,10 +315,13 @@ module _ (m a b c d e f g h : ℕ) (r : List ℕ) (s : IsBytes (m ∷ a ∷ b �
   abbrev low : ℕ
   low = word e f g h
 
-  pub short_node : (es : List ℕ) → Entry m es → get_or es 1 0 ≤ (high + get_or es 0 0) % 2 ^ 64 → TakesNode (m ∷ a ∷ b ∷ c ∷ d ∷ e ∷ f ∷ g ∷ h ∷ r) (drop (get_or es 2 0) (m ∷ a ∷ b ∷ c ∷ d ∷ e ∷ f ∷ g ∷ h ∷ r)) (get_or es 3 0)
+  pub short_node : (es : List ℕ) → Entry m es → get_or es 1 0 ≤ (high + get_or es 0 0) % 2 ^ 64
+      → TakesNode (m ∷ a ∷ b ∷ c ∷ d ∷ e ∷ f ∷ g ∷ h ∷ r) (drop (get_or es 2 0) (m ∷ a ∷ b ∷ c ∷ d ∷ e ∷ f ∷ g ∷ h ∷ r)) (get_or es 3 0)
   short_node _ (small x y) t = one (Whole (pos m)) m 0 (a ∷ b ∷ c ∷ d ∷ e ∷ f ∷ g ∷ h ∷ r) (fits_pos m (omega arith)) refl refl (small_is m y)
-  short_node _ (short_map x y) t = one (Map (m - 0x80)) m (2 * (m - 0x80)) (a ∷ b ∷ c ∷ d ∷ e ∷ f ∷ g ∷ h ∷ r) (fits_short (m - 0x80) (omega arith)).2 refl refl (map_is m x y)
-  short_node _ (short_array x y) t = one (Array (m - 0x90)) m (m - 0x90) (a ∷ b ∷ c ∷ d ∷ e ∷ f ∷ g ∷ h ∷ r) (fits_short (m - 0x90) (omega arith)).1 refl refl (array_is m x y)
+  short_node _ (short_map x y) t = one (Map (m - 0x80)) m (2 * (m - 0x80)) (a ∷ b ∷ c ∷ d ∷ e ∷ f ∷ g ∷ h ∷ r) (fits_short (m - 0x80) (omega arith)).2 refl
+      refl (map_is m x y)
+  short_node _ (short_array x y) t = one (Array (m - 0x90)) m (m - 0x90) (a ∷ b ∷ c ∷ d ∷ e ∷ f ∷ g ∷ h ∷ r) (fits_short (m - 0x90) (omega arith)).1 refl
+      refl (array_is m x y)
   short_node _ (short_text x y) t =
       let q : m - 0x9f ≡ suc (m - 0xa0) = omega arith in
       rw q (text_node m (m - 0xa0) (a ∷ b ∷ c ∷ d ∷ e ∷ f ∷ g ∷ h ∷ r) x y refl (omega arith))
@@ -293,61 +333,72 @@ module _ (m a b c d e f g h : ℕ) (r : List ℕ) (s : IsBytes (m ∷ a ∷ b �
       let n : ℕ = from_be_bytes w32 (a ∷ b ∷ c ∷ d ∷ []) in
       let u = four n refl in
       let q : 0xca ≡ m = omega arith in
-      wide (F32Bits n) m (a ∷ b ∷ c ∷ d ∷ []) (e ∷ f ∷ g ∷ h ∷ r) (float_fits n 0 u.0 (omega arith)).0 refl refl (f32_is n ∙ ap (λ z. 0xca ∷ z) u.1 ∙ ap (λ z. z ∷ a ∷ b ∷ c ∷ d ∷ []) q)
+      wide (F32Bits n) m (a ∷ b ∷ c ∷ d ∷ []) (e ∷ f ∷ g ∷ h ∷ r) (float_fits n 0 u.0 (omega arith)).0 refl refl
+      (f32_is n ∙ ap (λ z. 0xca ∷ z) u.1 ∙ ap (λ z. z ∷ a ∷ b ∷ c ∷ d ∷ []) q)
   short_node _ (f64 x y) t =
       let n : ℕ = from_be_bytes w64 (a ∷ b ∷ c ∷ d ∷ e ∷ f ∷ g ∷ h ∷ []) in
       let u = eight n refl in
       let q : 0xcb ≡ m = omega arith in
-      wide (F64Bits n) m (a ∷ b ∷ c ∷ d ∷ e ∷ f ∷ g ∷ h ∷ []) r (float_fits 0 n (omega arith) u.0).1 refl refl (f64_is n ∙ ap (λ z. 0xcb ∷ z) u.1 ∙ ap (λ z. z ∷ a ∷ b ∷ c ∷ d ∷ e ∷ f ∷ g ∷ h ∷ []) q)
+      wide (F64Bits n) m (a ∷ b ∷ c ∷ d ∷ e ∷ f ∷ g ∷ h ∷ []) r (float_fits 0 n (omega arith) u.0).1 refl refl
+      (f64_is n ∙ ap (λ z. 0xcb ∷ z) u.1 ∙ ap (λ z. z ∷ a ∷ b ∷ c ∷ d ∷ e ∷ f ∷ g ∷ h ∷ []) q)
   short_node _ (u8 x y) t =
       let q : 0xcc ≡ m = omega arith in
       let v : a % 256 ≡ a = omega (arith, l1) in
       let bytes : to_be_bytes w8 a ≡ a ∷ [] = ap (λ z. z ∷ []) v in
-      wide (Whole (pos a)) m (a ∷ []) (b ∷ c ∷ d ∷ e ∷ f ∷ g ∷ h ∷ r) (fits_pos a (omega (arith, l1))) refl refl (canon_8 a (omega (arith, t, l1, l2, l3, l4)) (omega (arith, l1)) ∙ ap (λ z. 0xcc ∷ z) bytes ∙ ap (λ z. z ∷ a ∷ []) q)
+      wide (Whole (pos a)) m (a ∷ []) (b ∷ c ∷ d ∷ e ∷ f ∷ g ∷ h ∷ r) (fits_pos a (omega (arith, l1))) refl refl
+      (canon_8 a (omega (arith, t, l1, l2, l3, l4)) (omega (arith, l1)) ∙ ap (λ z. 0xcc ∷ z) bytes ∙ ap (λ z. z ∷ a ∷ []) q)
   short_node _ (u16 x y) t =
       let n : ℕ = a * 0x100 + b in
       let u = two n (omega arith) in
       let q : 0xcd ≡ m = omega arith in
-      wide (Whole (pos n)) m (a ∷ b ∷ []) (c ∷ d ∷ e ∷ f ∷ g ∷ h ∷ r) (fits_pos n (omega (arith, l1, l2))) refl refl (canon_16 n (omega (arith, t, l1, l2, l3, l4)) u.0 ∙ ap (λ z. 0xcd ∷ z) u.1 ∙ ap (λ z. z ∷ a ∷ b ∷ []) q)
+      wide (Whole (pos n)) m (a ∷ b ∷ []) (c ∷ d ∷ e ∷ f ∷ g ∷ h ∷ r) (fits_pos n (omega (arith, l1, l2))) refl refl
+      (canon_16 n (omega (arith, t, l1, l2, l3, l4)) u.0 ∙ ap (λ z. 0xcd ∷ z) u.1 ∙ ap (λ z. z ∷ a ∷ b ∷ []) q)
   short_node _ (u32 x y) t =
       let n : ℕ = high in
       let u = four n (omega arith) in
       let q : 0xce ≡ m = omega arith in
-      wide (Whole (pos n)) m (a ∷ b ∷ c ∷ d ∷ []) (e ∷ f ∷ g ∷ h ∷ r) (fits_pos n (omega (arith, l1, l2, l3, l4))) refl refl (canon_32 n (omega (arith, t, l1, l2, l3, l4)) u.0 ∙ ap (λ z. 0xce ∷ z) u.1 ∙ ap (λ z. z ∷ a ∷ b ∷ c ∷ d ∷ []) q)
+      wide (Whole (pos n)) m (a ∷ b ∷ c ∷ d ∷ []) (e ∷ f ∷ g ∷ h ∷ r) (fits_pos n (omega (arith, l1, l2, l3, l4))) refl refl
+      (canon_32 n (omega (arith, t, l1, l2, l3, l4)) u.0 ∙ ap (λ z. 0xce ∷ z) u.1 ∙ ap (λ z. z ∷ a ∷ b ∷ c ∷ d ∷ []) q)
   short_node _ (u64 x y) t =
       let n : ℕ = high * 0x100000000 + low in
       let u = eight n (omega arith) in
       let q : 0xcf ≡ m = omega arith in
-      wide (Whole (pos n)) m (a ∷ b ∷ c ∷ d ∷ e ∷ f ∷ g ∷ h ∷ []) r (fits_pos n u.0) refl refl (canon_64 n (omega (arith, t, l1, l2, l3, l4)) ∙ ap (λ z. 0xcf ∷ z) u.1 ∙ ap (λ z. z ∷ a ∷ b ∷ c ∷ d ∷ e ∷ f ∷ g ∷ h ∷ []) q)
+      wide (Whole (pos n)) m (a ∷ b ∷ c ∷ d ∷ e ∷ f ∷ g ∷ h ∷ []) r (fits_pos n u.0) refl refl
+      (canon_64 n (omega (arith, t, l1, l2, l3, l4)) ∙ ap (λ z. 0xcf ∷ z) u.1 ∙ ap (λ z. z ∷ a ∷ b ∷ c ∷ d ∷ e ∷ f ∷ g ∷ h ∷ []) q)
   short_node _ (i8 x y) t =
       let q : 0xd0 ≡ m = omega arith in
       let v : a % 256 ≡ a = omega (arith, l1) in
       let bytes : to_be_bytes w8 a ≡ a ∷ [] = ap (λ z. z ∷ []) v in
       let k : ℕ = 0xff - a in
       wide (Whole (negsuc k)) m (a ∷ []) (b ∷ c ∷ d ∷ e ∷ f ∷ g ∷ h ∷ r) (fits_neg k (omega arith)) refl refl
-      (canon_s8 k (omega (arith, t, l1, l2, l3, l4)) (omega (arith, t, l1, l2, l3, l4)) ∙ ap (λ z. 0xd0 ∷ to_be_bytes w8 z) (back_8 a l1) ∙ ap (λ z. 0xd0 ∷ z) bytes ∙ ap (λ z. z ∷ a ∷ []) q)
+      (canon_s8 k (omega (arith, t, l1, l2, l3, l4)) (omega (arith, t, l1, l2, l3, l4)) ∙ ap (λ z. 0xd0 ∷ to_be_bytes w8 z) (back_8 a l1)
+      ∙ ap (λ z. 0xd0 ∷ z) bytes ∙ ap (λ z. z ∷ a ∷ []) q)
   short_node _ (i16 x y) t =
       let n : ℕ = a * 0x100 + b in
       let u = two n (omega arith) in
       let q : 0xd1 ≡ m = omega arith in
       let k : ℕ = 0xffff - n in
       wide (Whole (negsuc k)) m (a ∷ b ∷ []) (c ∷ d ∷ e ∷ f ∷ g ∷ h ∷ r) (fits_neg k (omega arith)) refl refl
-      (canon_s16 k (omega (arith, t, l1, l2, l3, l4)) (omega (arith, t, l1, l2, l3, l4)) ∙ ap (λ z. 0xd1 ∷ to_be_bytes w16 z) (back_16 n u.0) ∙ ap (λ z. 0xd1 ∷ z) u.1 ∙ ap (λ z. z ∷ a ∷ b ∷ []) q)
+      (canon_s16 k (omega (arith, t, l1, l2, l3, l4)) (omega (arith, t, l1, l2, l3, l4)) ∙ ap (λ z. 0xd1 ∷ to_be_bytes w16 z) (back_16 n u.0)
+      ∙ ap (λ z. 0xd1 ∷ z) u.1 ∙ ap (λ z. z ∷ a ∷ b ∷ []) q)
   short_node _ (i32 x y) t =
       let n : ℕ = high in
       let u = four n (omega arith) in
       let q : 0xd2 ≡ m = omega arith in
       let k : ℕ = 0xffffffff - n in
       wide (Whole (negsuc k)) m (a ∷ b ∷ c ∷ d ∷ []) (e ∷ f ∷ g ∷ h ∷ r) (fits_neg k (omega arith)) refl refl
-      (canon_s32 k (omega (arith, t, l1, l2, l3, l4)) (omega (arith, t, l1, l2, l3, l4)) ∙ ap (λ z. 0xd2 ∷ to_be_bytes w32 z) (back_32 n u.0) ∙ ap (λ z. 0xd2 ∷ z) u.1 ∙ ap (λ z. z ∷ a ∷ b ∷ c ∷ d ∷ []) q)
+      (canon_s32 k (omega (arith, t, l1, l2, l3, l4)) (omega (arith, t, l1, l2, l3, l4)) ∙ ap (λ z. 0xd2 ∷ to_be_bytes w32 z) (back_32 n u.0)
+      ∙ ap (λ z. 0xd2 ∷ z) u.1 ∙ ap (λ z. z ∷ a ∷ b ∷ c ∷ d ∷ []) q)
   short_node _ (i64 x y) t =
       let n : ℕ = high * 0x100000000 + low in
       let u = eight n (omega arith) in
       let q : 0xd3 ≡ m = omega arith in
       let k : ℕ = 0xffffffffffffffff - n in
       wide (Whole (negsuc k)) m (a ∷ b ∷ c ∷ d ∷ e ∷ f ∷ g ∷ h ∷ []) r (fits_neg k (omega (arith, t, l1, l2, l3, l4))) refl refl
-      (canon_s64 k (omega (arith, t, l1, l2, l3, l4, l5, l6, l7, l8)) ∙ ap (λ z. 0xd3 ∷ to_be_bytes w64 z) (back_64 n u.0) ∙ ap (λ z. 0xd3 ∷ z) u.1 ∙ ap (λ z. z ∷ a ∷ b ∷ c ∷ d ∷ e ∷ f ∷ g ∷ h ∷ []) q)
-  short_node _ (negative x y) t = one (Whole (negsuc (0xff - m))) m 0 (a ∷ b ∷ c ∷ d ∷ e ∷ f ∷ g ∷ h ∷ r) (fits_neg (0xff - m) (omega arith)) refl refl (negative_is m x y)
+      (canon_s64 k (omega (arith, t, l1, l2, l3, l4, l5, l6, l7, l8)) ∙ ap (λ z. 0xd3 ∷ to_be_bytes w64 z) (back_64 n u.0) ∙ ap (λ z. 0xd3 ∷ z) u.1
+      ∙ ap (λ z. z ∷ a ∷ b ∷ c ∷ d ∷ e ∷ f ∷ g ∷ h ∷ []) q)
+  short_node _ (negative x y) t = one (Whole (negsuc (0xff - m))) m 0 (a ∷ b ∷ c ∷ d ∷ e ∷ f ∷ g ∷ h ∷ r) (fits_neg (0xff - m) (omega arith)) refl refl
+      (negative_is m x y)
 
 -- ---- nodes in a row
 
@@ -421,7 +472,9 @@ nine xs l =
     }
 
 -- a node stands at the front
-front_node : (ys : List ℕ) (next added least size parts : ℕ) → 32 ≤ length ys → ((i : ℕ) → get_or ys i 0 < 256) → next ≡ word (get_or ys 1 0) (get_or ys 2 0) (get_or ys 3 0) (get_or ys 4 0) → entry (get_or ys 0 0) ≡ added ∷ least ∷ size ∷ parts ∷ [] → least ≤ (next + added) % 2 ^ 64
+front_node : (ys : List ℕ) (next added least size parts : ℕ) → 32 ≤ length ys → ((i : ℕ) → get_or ys i 0 < 256)
+    → next ≡ word (get_or ys 1 0) (get_or ys 2 0) (get_or ys 3 0) (get_or ys 4 0) → entry (get_or ys 0 0) ≡ added ∷ least ∷ size ∷ parts ∷ []
+    → least ≤ (next + added) % 2 ^ 64
     → TakesNode ys (drop size ys) parts
 front_node ys next added least size parts l b n e t =
     let v = nine ys (omega arith) in
@@ -431,25 +484,31 @@ front_node ys next added least size parts l b n e t =
     let entered : Entry v.m (added ∷ least ∷ size ∷ parts ∷ []) = subst (Entry v.m) (ap entry (sym first) ∙ e) (entry_is v.m bytes.0) in
     let same : next ≡ word v.a v.b v.c v.d = n ∙ ap (λ z. word (get_or z 1 0) (get_or z 2 0) (get_or z 3 0) (get_or z 4 0)) v.is in
     let tested = subst (λ z. least ≤ (z + added) % 2 ^ 64) same t in
-    subst (λ z. TakesNode z (drop size z) parts) (sym v.is) (short_node v.m v.a v.b v.c v.d v.e v.f v.g v.h v.r bytes long (added ∷ least ∷ size ∷ parts ∷ []) entered tested)
+    subst (λ z. TakesNode z (drop size z) parts) (sym v.is)
+    (short_node v.m v.a v.b v.c v.d v.e v.f v.g v.h v.r bytes long (added ∷ least ∷ size ∷ parts ∷ []) entered tested)
 
 -- one more node
-pub nodes_more : (bytes : List ℕ) (at n before next added least size parts : ℕ) → TakesNodes n before bytes (drop at bytes) → at + 32 ≤ length bytes → ((i : ℕ) → get_or bytes i 0 < 256)
-    → next ≡ word (get_or bytes (at + 1) 0) (get_or bytes (at + 2) 0) (get_or bytes (at + 3) 0) (get_or bytes (at + 4) 0) → entry (get_or bytes at 0) ≡ added ∷ least ∷ size ∷ parts ∷ [] → least ≤ (next + added) % 2 ^ 64 → TakesNodes (n + 1) (before + parts) bytes (drop (at + size) bytes)
+pub nodes_more : (bytes : List ℕ) (at n before next added least size parts : ℕ) → TakesNodes n before bytes (drop at bytes) → at + 32 ≤ length bytes
+    → ((i : ℕ) → get_or bytes i 0 < 256)
+    → next ≡ word (get_or bytes (at + 1) 0) (get_or bytes (at + 2) 0) (get_or bytes (at + 3) 0) (get_or bytes (at + 4) 0)
+    → entry (get_or bytes at 0) ≡ added ∷ least ∷ size ∷ parts ∷ [] → least ≤ (next + added) % 2 ^ 64
+    → TakesNodes (n + 1) (before + parts) bytes (drop (at + size) bytes)
 nodes_more bytes at n before next added least size parts t l b w e test =
     let ys : List ℕ = drop at bytes in
     let long : 32 ≤ length ys = omega (arith, length-drop at bytes) in
     let here : (i : ℕ) → get_or ys i 0 ≡ get_or bytes (at + i) 0 = λ i. get_or-drop at bytes i 0 in
     let zero_more : at + 0 ≡ at = omega arith in
     let first : get_or ys 0 0 ≡ get_or bytes at 0 = here 0 ∙ ap (λ z. get_or bytes z 0) zero_more in
-    let same : next ≡ word (get_or ys 1 0) (get_or ys 2 0) (get_or ys 3 0) (get_or ys 4 0) = w ∙ (λ i. word (sym (here 1) i) (sym (here 2) i) (sym (here 3) i) (sym (here 4) i)) in
+    let same : next ≡ word (get_or ys 1 0) (get_or ys 2 0) (get_or ys 3 0) (get_or ys 4 0) = w
+    ∙ (λ i. word (sym (here 1) i) (sym (here 2) i) (sym (here 3) i) (sym (here 4) i)) in
     let node = front_node ys next added least size parts long (λ i. rw here (b (at + i))) same (ap entry first ∙ e) test in
     let moved = subst (λ z. TakesNode ys z parts) (drop-drop size at bytes) node in
     let count : suc n ≡ n + 1 = omega arith in
     subst (λ z. TakesNodes z (before + parts) bytes (drop (at + size) bytes)) count (ys, before, parts, t, moved, refl)
 
 -- one more small number
-pub small_more : (bytes : List ℕ) (at n before : ℕ) → TakesNodes n before bytes (drop at bytes) → at < length bytes → get_or bytes at 0 < 128 → TakesNodes (n + 1) before bytes (drop (at + 1) bytes)
+pub small_more : (bytes : List ℕ) (at n before : ℕ) → TakesNodes n before bytes (drop at bytes) → at < length bytes → get_or bytes at 0 < 128
+    → TakesNodes (n + 1) before bytes (drop (at + 1) bytes)
 small_more bytes at n before t l b =
     let split : drop at bytes ≡ get_or bytes at 0 ∷ drop (suc at) bytes = drop-cons bytes at 0 l in
     let next : suc at ≡ at + 1 = omega arith in

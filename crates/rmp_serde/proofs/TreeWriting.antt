@@ -1,5 +1,29 @@
 -- How the writes of a tree's parts join.
-use Rattle.std.proofs.Common.{to_z, of_z, ◌≡◌, ℕ, zero, suc, ℤ, get_or, ◌<◌, List, [], ◌∷◌, ◌++◌, length, take, drop, Option, sym, ◌∙◌, ap, subst, arith, append_assoc}
+use Rattle.std.proofs.Common.{
+  to_z,
+  of_z,
+  ◌≡◌,
+  ℕ,
+  zero,
+  suc,
+  ℤ,
+  get_or,
+  ◌<◌,
+  List,
+  [],
+  ◌∷◌,
+  ◌++◌,
+  length,
+  take,
+  drop,
+  Option,
+  sym,
+  ◌∙◌,
+  ap,
+  subst,
+  arith,
+  append_assoc,
+}
 use Rattle.std.proofs.lemmas.List.{length-append}
 use Rattle.std.proofs.lemmas.Int.{to_z-of_z}
 use Rattle.std.specs.Int.{w8}
@@ -17,7 +41,8 @@ use Rattle.rmp_wire.specs.declared.head.Head.TheVariants.{Array, Map, Ext}
 use Rattle.rmp_wire.proofs.Lists.{canon-list, canon-map}
 use Rattle.rmp_serde.specs.TreeWrites.{StopsWithin, TakesPart, TakesTree}
 
-part_of : {A : Type 0} {m : Bool} {bytes : List ℕ} {a b : Option (List ℕ)} {f g : ℕ} {e : ValueWriteError} → TakesPart m bytes a b f g e → TakesTree {A = A} m bytes a b f g (Err e)
+part_of : {A : Type 0} {m : Bool} {bytes : List ℕ} {a b : Option (List ℕ)} {f g : ℕ} {e : ValueWriteError} → TakesPart m bytes a b f g e
+    → TakesTree {A = A} m bytes a b f g (Err e)
 part_of p = record { whole = tt; sound = tt; stops = p }
 
 all_of : {A : Type 0} {m : Bool} {bytes : List ℕ} {a b : Option (List ℕ)} {f g : ℕ} {u : A} → Appends a b bytes → g ≡ f → TakesTree m bytes a b f g (Ok u)
@@ -29,13 +54,22 @@ within m f g part (InvalidDataWrite fault) c = c
 within m f g part OutOfMemory c = c
 
 -- a write of one item is a write of a tree
-pub tree_of_puts : {A : Type 0} {m : Bool} {bytes : List ℕ} {a b : Option (List ℕ)} {f g : ℕ} {r : Result A ValueWriteError} → Puts m bytes a b f g r → TakesTree m bytes a b f g r
+pub tree_of_puts : {A : Type 0} {m : Bool} {bytes : List ℕ} {a b : Option (List ℕ)} {f g : ℕ} {r : Result A ValueWriteError} → Puts m bytes a b f g r
+    → TakesTree m bytes a b f g r
 tree_of_puts {r = Ok u} p = all_of p.whole p.sound
 tree_of_puts {m} {f} {g} {r = Err e} p =
-    part_of (record { part = p.stops.part; rest = p.stops.rest; split = p.stops.split; appended = p.stops.appended; cause = within m f g p.stops.part e p.stops.cause })
+    part_of (record {
+      part = p.stops.part;
+      rest = p.stops.rest;
+      split = p.stops.split;
+      appended = p.stops.appended;
+      cause = within m f g p.stops.part e
+          p.stops.cause;
+    })
 
 -- the same write, of bytes that are equal
-pub takes_as : {A : Type 0} {m : Bool} {bs cs : List ℕ} {a b : Option (List ℕ)} {f g : ℕ} {r : Result A ValueWriteError} → bs ≡ cs → TakesTree m bs a b f g r → TakesTree m cs a b f g r
+pub takes_as : {A : Type 0} {m : Bool} {bs cs : List ℕ} {a b : Option (List ℕ)} {f g : ℕ} {r : Result A ValueWriteError} → bs ≡ cs
+    → TakesTree m bs a b f g r → TakesTree m cs a b f g r
 takes_as {m} {a} {b} {f} {g} {r} e p = subst (λ l. TakesTree m l a b f g r) e p
 
 later : (m : Bool) (f g h : ℕ) (bs part : List ℕ) (e : ValueWriteError) → g ≡ f → StopsWithin m g h part e → StopsWithin m f h (bs ++ part) e
@@ -57,7 +91,8 @@ takes_then {m} {bs} {cs} {a} {b} {c} {f} {g} {h} {r = Err e} p q =
     })
 
 -- one part was not taken whole, and more was to come
-pub takes_stop : {A B : Type 0} {m : Bool} {bs : List ℕ} {a b : Option (List ℕ)} {f g : ℕ} {e : ValueWriteError} (cs : List ℕ) → TakesTree {A = A} m bs a b f g (Err e) → TakesTree {A = B} m (bs ++ cs) a b f g (Err e)
+pub takes_stop : {A B : Type 0} {m : Bool} {bs : List ℕ} {a b : Option (List ℕ)} {f g : ℕ} {e : ValueWriteError} (cs : List ℕ)
+    → TakesTree {A = A} m bs a b f g (Err e) → TakesTree {A = B} m (bs ++ cs) a b f g (Err e)
 takes_stop cs p =
     part_of (record {
       part = p.stops.part;
@@ -69,22 +104,26 @@ takes_stop cs p =
 
 -- ---- a list's items and a map's pairs
 
-flat_map_split : {X : Type 0} (f : X → List ℕ) (xs : List X) (i : ℕ) (x : X) → i < length xs → x ≡ get_or xs i x → (flat_map f (take i xs) ++ f x) ++ flat_map f (drop (suc i) xs) ≡ flat_map f xs
+flat_map_split : {X : Type 0} (f : X → List ℕ) (xs : List X) (i : ℕ) (x : X) → i < length xs → x ≡ get_or xs i x
+    → (flat_map f (take i xs) ++ f x) ++ flat_map f (drop (suc i) xs) ≡ flat_map f xs
 flat_map_split f [] i x h e = absurd (omega arith)
 flat_map_split f (y ∷ ys) zero x h e = ap (λ z. f z ++ flat_map f ys) e
 flat_map_split f (y ∷ ys) (suc i) x h e =
-    append_assoc (f y ++ flat_map f (take i ys)) (f x) (flat_map f (drop (suc i) ys)) ∙ append_assoc (f y) (flat_map f (take i ys)) (f x ++ flat_map f (drop (suc i) ys))
+    append_assoc (f y ++ flat_map f (take i ys)) (f x) (flat_map f (drop (suc i) ys))
+    ∙ append_assoc (f y) (flat_map f (take i ys)) (f x ++ flat_map f (drop (suc i) ys))
     ∙ ap (λ l. f y ++ l) (sym (append_assoc (flat_map f (take i ys)) (f x) (flat_map f (drop (suc i) ys))) ∙ flat_map_split f ys i x (omega arith) e)
 
 -- the parts before one were taken whole, and that one was not
-pub takes_until : {X : Type 0} {A B : Type 0} {m : Bool} {a b c : Option (List ℕ)} {k g h : ℕ} {u : B} {e : ValueWriteError} (f : X → List ℕ) (xs : List X) (i : ℕ) (x : X) → i < length xs → x ≡ get_or xs i x
+pub takes_until : {X : Type 0} {A B : Type 0} {m : Bool} {a b c : Option (List ℕ)} {k g h : ℕ} {u : B} {e : ValueWriteError} (f : X
+    → List ℕ) (xs : List X) (i : ℕ) (x : X) → i < length xs → x ≡ get_or xs i x
     → TakesTree m (flat_map f (take i xs)) a b k g (Ok u) → TakesTree {A = A} m (f x) b c g h (Err e) → TakesTree {A = A} m (flat_map f xs) a c k h (Err e)
 takes_until f xs i x within is p q = takes_as (flat_map_split f xs i x within is) (takes_stop (flat_map f (drop (suc i) xs)) (takes_then p q))
 
 pub list_is : (xs : List Msg) (n : ℕ) (m : Msg) → n ≡ length xs → list (msgs xs) ≡ m → canon_head (Array n) ++ flat_map canon xs ≡ canon m
 list_is xs n m e is = ap (λ k. canon_head (Array k) ++ flat_map canon xs) e ∙ sym (canon-list xs) ∙ ap canon is
 
-pub map_is : (ps : List (Msg × Msg)) (n : ℕ) (m : Msg) → n ≡ length ps → map (pairs ps) ≡ m → canon_head (Map n) ++ flat_map (λ p. canon p.0 ++ canon p.1) ps ≡ canon m
+pub map_is : (ps : List (Msg × Msg)) (n : ℕ) (m : Msg) → n ≡ length ps → map (pairs ps) ≡ m
+    → canon_head (Map n) ++ flat_map (λ p. canon p.0 ++ canon p.1) ps ≡ canon m
 map_is ps n m e is = ap (λ k. canon_head (Map k) ++ flat_map (λ p. canon p.0 ++ canon p.1) ps) e ∙ sym (canon-map ps) ∙ ap canon is
 
 pub extension_is : (tag z : ℤ) (s : List ℕ) (n : ℕ) (m : Msg) → n ≡ length s → z ≡ tag → extension tag s ≡ m → canon_head (Ext n z) ++ s ≡ canon m

@@ -16,7 +16,23 @@ use Rattle.rmp_decode.specs.declared.error.Error.{Error}
 use Rattle.rmp_decode.proofs.ContentErrors.{head_byte}
 use Rattle.rmp_decode.proofs.Rows.{append}
 use Rattle.rmp_serde.specs.Places.{BeginsAmong, IsWhole, Reaches, OpensOther, IsFault, StopsFor, parts_behind}
-use Rattle.rmp_serde.proofs.Nodes.{content, parts, own, fits_own, fits_parts, same_front, SameNode, same_node, count-append, fits-append, built, begins_later, later_begins, canon_row, content_long}
+use Rattle.rmp_serde.proofs.Nodes.{
+  content,
+  parts,
+  own,
+  fits_own,
+  fits_parts,
+  same_front,
+  SameNode,
+  same_node,
+  count-append,
+  fits-append,
+  built,
+  begins_later,
+  later_begins,
+  canon_row,
+  content_long,
+}
 
 -- the canonical spellings of n messages stand at the front, in k bytes
 pub record Row (n : ℕ) (ys : List ℕ) (k : ℕ) : Type 0 where
@@ -62,7 +78,8 @@ record OpensAmong (P : List ℕ → Type 0) (n : ℕ) (ys : List ℕ) (p : ℕ) 
   pub place : p ≡ length (own tree) + later
   pub among : Among P (count (parts tree) + n) left later
 
-row_opens : (n : ℕ) (ys : List ℕ) (k : ℕ) (trees : Msgs) (rest : List ℕ) → count trees ≡ suc n → FitsAll trees → ys ≡ canon_all trees ++ rest → k ≡ length (canon_all trees) → OpensRow n ys k
+row_opens : (n : ℕ) (ys : List ℕ) (k : ℕ) (trees : Msgs) (rest : List ℕ) → count trees ≡ suc n → FitsAll trees → ys ≡ canon_all trees ++ rest
+    → k ≡ length (canon_all trees) → OpensRow n ys k
 row_opens n ys k no_items rest c f e l = absurd (omega arith)
 row_opens n ys k (item m ms) rest c f e l = record {
   tree = m;
@@ -71,7 +88,15 @@ row_opens n ys k (item m ms) rest c f e l = record {
   fits = f.0;
   front = e ∙ ap (λ z. z ++ rest) (canon_row m ms) ∙ append_assoc (own m) (canon_all (append (parts m) ms)) rest;
   place = l ∙ ap length (canon_row m ms) ∙ length-append (own m) (canon_all (append (parts m) ms));
-  row = record { trees = append (parts m) ms; rest = rest; many = omega (arith, count-append (parts m) ms, c); fits = fits-append (parts m) ms (fits_parts m f.0) f.1; front = refl; long = refl };
+  row = record {
+    trees = append (parts m) ms;
+    rest = rest;
+    many = omega (arith, count-append (parts m) ms, c);
+    fits = fits-append (parts m) ms
+        (fits_parts m f.0) f.1;
+    front = refl;
+    long = refl;
+  };
 }
 
 -- what stands behind a beginning of both
@@ -94,7 +119,8 @@ none_of : (s : List ℕ) → length s ≡ 0 → s ≡ []
 none_of [] l = refl
 none_of (b ∷ s) l = absurd (omega arith)
 
-among_opens : (P : List ℕ → Type 0) (n : ℕ) (ys : List ℕ) (p : ℕ) (trees : Msgs) (before behind there : List ℕ) → count trees ≡ suc n → FitsAll trees → BeginsAmong trees p → p ≡ length before → canon_all trees ≡ before ++ behind → ys ≡ before ++ there → P there
+among_opens : (P : List ℕ → Type 0) (n : ℕ) (ys : List ℕ) (p : ℕ) (trees : Msgs) (before behind there : List ℕ) → count trees ≡ suc n → FitsAll trees
+    → BeginsAmong trees p → p ≡ length before → canon_all trees ≡ before ++ behind → ys ≡ before ++ there → P there
     → ((p ≡ 0) × P ys) ⊎ OpensAmong P n ys p
 among_opens P n ys p no_items before behind there c f b l s e h = absurd b
 among_opens P n ys p (item m ms) before behind there c f b l s e h = elim (begins_later m ms p b) [
@@ -173,13 +199,15 @@ among_here P n ys h = record {
 pub other_none : (ys : List ℕ) → OpensOther ys → NoNode ys
 other_none ys o m z f e =
     let c = canon_head (head_of m) in
-    let u = heads_apart (head_of m) o.head c o.bytes (content m ++ z) o.rest (canon_is_head (head_of m) (fits_own m f)) o.is_head (sym (append_assoc c (content m) z) ∙ sym e ∙ o.front) in
+    let u = heads_apart (head_of m) o.head c o.bytes (content m ++ z) o.rest (canon_is_head (head_of m) (fits_own m f)) o.is_head
+    (sym (append_assoc c (content m) z) ∙ sym e ∙ o.front) in
     o.other (subst (IsCanonicalHead o.head) (ap canon_head (sym u.0) ∙ u.1) (canonical_head_made o.head (head_fits o.head o.bytes o.is_head)))
 
 -- ---- a canonical head was taken, and its content
 
 module _ (h : Head) (s : List ℕ) (f : fits_head h) (l : length s ≡ content_len h) (b : IsBytes s) (n : ℕ) (zs : List ℕ) where
-  whole : (m : Msg) (others ms : Msgs) → own m ≡ canon_head h ++ s → append (parts m) others ≡ ms → canon_all (item m others) ≡ (canon_head h ++ s) ++ canon_all ms
+  whole : (m : Msg) (others ms : Msgs) → own m ≡ canon_head h ++ s → append (parts m) others ≡ ms
+      → canon_all (item m others) ≡ (canon_head h ++ s) ++ canon_all ms
   whole m others ms e p = canon_row m others ∙ ap (λ z. z ++ canon_all (append (parts m) others)) e ∙ ap (λ z. (canon_head h ++ s) ++ canon_all z) p
 
   row_to : (k : ℕ) → Row (parts_behind h + n) zs k → Row (suc n) ((canon_head h ++ s) ++ zs) (length (canon_head h ++ s) + k)
@@ -221,7 +249,8 @@ module _ (h : Head) (s : List ℕ) (f : fits_head h) (l : length s ≡ content_l
       let row = subst (λ z. Row (count (parts o.tree) + n) z o.later) u.rest_same o.row in
       (o.later, o.place ∙ ap (λ z. length z + o.later) u.own_same, subst (λ z. Row (z + n) zs o.later) u.many row)
 
-  among_from : (P : List ℕ → Type 0) → (P ((canon_head h ++ s) ++ zs) → ⊥) → (p : ℕ) → Among P (suc n) ((canon_head h ++ s) ++ zs) p → (q : ℕ) × (p ≡ length (canon_head h ++ s) + q) × Among P (parts_behind h + n) zs q
+  among_from : (P : List ℕ → Type 0) → (P ((canon_head h ++ s) ++ zs) → ⊥) → (p : ℕ) → Among P (suc n) ((canon_head h ++ s) ++ zs) p
+      → (q : ℕ) × (p ≡ length (canon_head h ++ s) + q) × Among P (parts_behind h + n) zs q
   among_from P bad p r = elim (opens_among r) [
     | inl z ↦ absurd (bad z.1)
     | inr o ↦
@@ -247,7 +276,8 @@ one_row input n w = record {
   long = w.long ∙ ap length (sym (append-nil (canon w.tree)));
 }
 
-row_whole : (input : List ℕ) (k : ℕ) (trees : Msgs) (rest : List ℕ) → count trees ≡ 1 → FitsAll trees → input ≡ canon_all trees ++ rest → k ≡ length (canon_all trees) → IsWhole input k
+row_whole : (input : List ℕ) (k : ℕ) (trees : Msgs) (rest : List ℕ) → count trees ≡ 1 → FitsAll trees → input ≡ canon_all trees ++ rest
+    → k ≡ length (canon_all trees) → IsWhole input k
 row_whole input k no_items rest c f e l = absurd (omega arith)
 row_whole input k (item m no_items) rest c f e l = record {
   tree = m;
@@ -273,7 +303,8 @@ reached P input p r = record {
   holds = r.holds;
 }
 
-reaches : (P : List ℕ → Type 0) (input : List ℕ) (p : ℕ) (trees : Msgs) (before behind there : List ℕ) → count trees ≡ 1 → FitsAll trees → BeginsAmong trees p → p ≡ length before → canon_all trees ≡ before ++ behind → input ≡ before ++ there → P there → Reaches P input p
+reaches : (P : List ℕ → Type 0) (input : List ℕ) (p : ℕ) (trees : Msgs) (before behind there : List ℕ) → count trees ≡ 1 → FitsAll trees
+    → BeginsAmong trees p → p ≡ length before → canon_all trees ≡ before ++ behind → input ≡ before ++ there → P there → Reaches P input p
 reaches P input p no_items before behind there c f b l s e h = absurd b
 reaches P input p (item m no_items) before behind there c f (inl b) l s e h = record {
   tree = m;
@@ -309,9 +340,11 @@ pub follows_all : (input : List ℕ) → Follows input 1 input 0
 follows_all input = record {
   whole_to = λ k r. subst (IsWhole input) (zero_more k) (row_whole input k r.trees r.rest r.many r.fits r.front r.long);
   whole_from = λ n w. (n, zero_more n, one_row input n w);
-  fault_to = λ q a. subst (IsFault input) (zero_more q) (reaches OpensOther input q a.trees a.before a.behind a.there a.many a.fits a.begins a.place a.spelled a.front a.holds);
+  fault_to = λ q a. subst (IsFault input) (zero_more q)
+      (reaches OpensOther input q a.trees a.before a.behind a.there a.many a.fits a.begins a.place a.spelled a.front a.holds);
   fault_from = λ p f. (p, zero_more p, reached OpensOther input p f);
-  stops_to = λ e q a. subst (Reaches (StopsFor e) input) (zero_more q) (reaches (StopsFor e) input q a.trees a.before a.behind a.there a.many a.fits a.begins a.place a.spelled a.front a.holds);
+  stops_to = λ e q a. subst (Reaches (StopsFor e) input) (zero_more q)
+      (reaches (StopsFor e) input q a.trees a.before a.behind a.there a.many a.fits a.begins a.place a.spelled a.front a.holds);
   place = zero_more (length input);
 }
 
@@ -319,7 +352,8 @@ more : (at n k : ℕ) → at + (n + k) ≡ at + n + k
 more at n k = omega arith
 
 -- a canonical head and its content were taken
-pub follows_head : (input : List ℕ) (n at : ℕ) (h : Head) (s zs : List ℕ) → fits_head h → length s ≡ content_len h → IsBytes s → Follows input (suc n) ((canon_head h ++ s) ++ zs) at → Follows input (parts_behind h + n) zs (at + length (canon_head h ++ s))
+pub follows_head : (input : List ℕ) (n at : ℕ) (h : Head) (s zs : List ℕ) → fits_head h → length s ≡ content_len h → IsBytes s
+    → Follows input (suc n) ((canon_head h ++ s) ++ zs) at → Follows input (parts_behind h + n) zs (at + length (canon_head h ++ s))
 follows_head input n at h s zs f l b w =
     let a = length (canon_head h ++ s) in
     record {
@@ -399,7 +433,8 @@ node_once : (m k : Msg) (x y : List ℕ) → Fits m → Fits k → own m ++ x �
 node_once m k x y f g e = same_node m (head_of k) (content k) x y f (fits_own k g) (content_long k) e
 
 -- where no message can be taken the checker stops, so what holds there holds at one place
-among_once : (P Q : List ℕ → Type 0) → ((ys : List ℕ) → P ys → NoNode ys) → ((ys : List ℕ) → Q ys → NoNode ys) → (fuel n : ℕ) (ys : List ℕ) (p q : ℕ) → length ys < fuel → Among P n ys p → Among Q n ys q → p ≡ q
+among_once : (P Q : List ℕ → Type 0) → ((ys : List ℕ) → P ys → NoNode ys) → ((ys : List ℕ) → Q ys → NoNode ys) → (fuel n : ℕ) (ys : List ℕ) (p q : ℕ)
+    → length ys < fuel → Among P n ys p → Among Q n ys q → p ≡ q
 among_once P Q bad wrong zero n ys p q l a b = absurd (omega arith)
 among_once P Q bad wrong (suc fuel) zero ys p q l a b = absurd (among_empty a.trees p a.many a.begins)
 among_once P Q bad wrong (suc fuel) (suc n) ys p q l a b = elim (opens_among a) [
@@ -412,12 +447,14 @@ among_once P Q bad wrong (suc fuel) (suc n) ys p q l a b = elim (opens_among a) 
         let moved = subst (λ z. Among P (count (parts o.tree) + n) z o.later) u.rest_same o.among in
         let first = subst (λ z. Among P (z + n) t.left o.later) (u.many ∙ sym v.many) moved in
         let f = t.front in
-        let i = among_once P Q bad wrong fuel (count (parts t.tree) + n) t.left o.later t.later (omega (arith, own_some t.tree t.fits, ap length f, length-append (own t.tree) t.left)) first t.among in
+        let i = among_once P Q bad wrong fuel (count (parts t.tree) + n) t.left o.later t.later
+        (omega (arith, own_some t.tree t.fits, ap length f, length-append (own t.tree) t.left)) first t.among in
         o.place ∙ ap (λ z. length z + o.later) u.own_same ∙ ap (λ z. length (own t.tree) + z) i ∙ sym t.place
   ]
 ]
 
-never_both : (P : List ℕ → Type 0) → ((ys : List ℕ) → P ys → NoNode ys) → (fuel n : ℕ) (ys : List ℕ) (k p : ℕ) → length ys < fuel → Row n ys k → Among P n ys p → ⊥
+never_both : (P : List ℕ → Type 0) → ((ys : List ℕ) → P ys → NoNode ys) → (fuel n : ℕ) (ys : List ℕ) (k p : ℕ) → length ys < fuel → Row n ys k
+    → Among P n ys p → ⊥
 never_both P bad zero n ys k p l r a = absurd (omega arith)
 never_both P bad (suc fuel) zero ys k p l r a = among_empty a.trees p a.many a.begins
 never_both P bad (suc fuel) (suc n) ys k p l r a =
@@ -430,14 +467,17 @@ never_both P bad (suc fuel) (suc n) ys k p l r a =
           let moved = subst (λ z. Among P (count (parts o.tree) + n) z o.later) u.rest_same o.among in
           let first = subst (λ z. Among P (z + n) t.left o.later) (u.many ∙ sym v.many) moved in
           let f = t.front in
-          never_both P bad fuel (count (parts t.tree) + n) t.left t.later o.later (omega (arith, own_some t.tree t.fits, ap length f, length-append (own t.tree) t.left)) t.row first
+          never_both P bad fuel (count (parts t.tree) + n) t.left t.later o.later
+          (omega (arith, own_some t.tree t.fits, ap length f, length-append (own t.tree) t.left)) t.row first
     ]
 
 pub one_length : (input : List ℕ) (m n : ℕ) → IsWhole input m → IsWhole input n → m ≡ n
-one_length input m n v w = v.long ∙ ap length (spelled_once v.tree w.tree (canon v.tree) (canon w.tree) v.rest w.rest (canon_spells v.tree v.fits) (canon_spells w.tree w.fits) (sym v.front ∙ w.front)).0 ∙ sym w.long
+one_length input m n v w = v.long ∙ ap length (spelled_once v.tree w.tree (canon v.tree) (canon w.tree) v.rest w.rest (canon_spells v.tree v.fits)
+    (canon_spells w.tree w.fits) (sym v.front ∙ w.front)).0 ∙ sym w.long
 
 pub one_place : (input : List ℕ) (p q : ℕ) → IsFault input p → IsFault input q → p ≡ q
-one_place input p q f g = among_once OpensOther OpensOther other_none other_none (suc (length input)) 1 input p q (omega arith) (reached OpensOther input p f) (reached OpensOther input q g)
+one_place input p q f g = among_once OpensOther OpensOther other_none other_none (suc (length input)) 1 input p q (omega arith)
+    (reached OpensOther input p f) (reached OpensOther input q g)
 
 -- where the checker stops inside of it, no message is whole
 pub whole_or_stop : (P : List ℕ → Type 0) → ((ys : List ℕ) → P ys → NoNode ys) → (input : List ℕ) (n p : ℕ) → IsWhole input n → Reaches P input p → ⊥
@@ -447,7 +487,8 @@ pub whole_or_fault : (input : List ℕ) (n p : ℕ) → IsWhole input n → IsFa
 whole_or_fault input n p w f = whole_or_stop OpensOther other_none input n p w f
 
 -- Two reasons to stop hold of the same bytes.
-pub one_stop : (P Q : List ℕ → Type 0) → ((ys : List ℕ) → P ys → NoNode ys) → ((ys : List ℕ) → Q ys → NoNode ys) → (input : List ℕ) (p q : ℕ) → Reaches P input p → Reaches Q input q → (ys : List ℕ) × P ys × Q ys
+pub one_stop : (P Q : List ℕ → Type 0) → ((ys : List ℕ) → P ys → NoNode ys) → ((ys : List ℕ) → Q ys → NoNode ys) → (input : List ℕ) (p q : ℕ)
+    → Reaches P input p → Reaches Q input q → (ys : List ℕ) × P ys × Q ys
 one_stop P Q bad wrong input p q a b =
     let place = among_once P Q bad wrong (suc (length input)) 1 input p q (omega arith) (reached P input p a) (reached Q input q b) in
     let there = (same_front a.before b.before a.there b.there (sym a.place ∙ place ∙ b.place) (sym a.front ∙ b.front)).1 in

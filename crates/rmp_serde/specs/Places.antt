@@ -5,7 +5,27 @@ use Rattle.rmp_wire.specs.declared.head.Head.TheVariants.{Array, Map}
 use Rattle.rmp_wire.specs.declared.marker.Marker.TheVariants.{Reserved}
 use Rattle.rmp_wire.specs.Canonical.{IsCanonicalHead}
 use Rattle.rmp_wire.specs.Heads.{IsHead, canon_head, fits_head}
-use Rattle.rmp_wire.specs.Msg.{Msg, nil, truth, whole, float32, float64, text, bin, list, map, extension, Msgs, no_items, item, Pairs, no_pairs, pair, count, count_pairs}
+use Rattle.rmp_wire.specs.Msg.{
+  Msg,
+  nil,
+  truth,
+  whole,
+  float32,
+  float64,
+  text,
+  bin,
+  list,
+  map,
+  extension,
+  Msgs,
+  no_items,
+  item,
+  Pairs,
+  no_pairs,
+  pair,
+  count,
+  count_pairs,
+}
 use Rattle.rmp_wire.specs.Spelling.{canon, Fits}
 use Rattle.rmp_decode.specs.Exact.{IsMarkerEnd, IsDataEnd}
 use Rattle.rmp_decode.specs.Kinds.{content_len}

@@ -45,4 +45,5 @@ Finishes {R} {C} g any new result = (old : Deserializer R C) → OpensAny g old 
 
 -- what reading all the parts of such a message does: once the access ends, which makes the reader ready again, the whole is read
 abbrev pub Completes : {R C A : Type 0} → Ghosts R → Any R C → (A → Msg) → Deserializer R C → Result A Error → Type 0
-Completes {R} {C} g any make new result = (old : Deserializer R C) → OpensAny g old any → MatchResult result (λ parts. Lawful g reads_value old (record new { failed = false }) (Ok (make parts))) (λ e. Lawful g reads_value old new (Err e))
+Completes {R} {C} g any make new result = (old : Deserializer R C) → OpensAny g old any
+    → MatchResult result (λ parts. Lawful g reads_value old (record new { failed = false }) (Ok (make parts))) (λ e. Lawful g reads_value old new (Err e))

@@ -22,7 +22,8 @@ pub record TakesPart (takes_memory : Bool) (bytes : List ℕ) (told told' : Opti
   pub cause : StopsWithin takes_memory faults faults' part e
 
 -- At `Ok` all the bytes were taken and no fault was counted. At an error a beginning of them was taken.
-pub record TakesTree {A : Type 0} (takes_memory : Bool) (bytes : List ℕ) (told told' : Option (List ℕ)) (faults faults' : ℕ) (r : Result A ValueWriteError) : Type 0 where
+pub record TakesTree {A : Type 0} (takes_memory : Bool) (bytes : List ℕ) (told told' : Option (List ℕ)) (faults faults' : ℕ)
+    (r : Result A ValueWriteError) : Type 0 where
   pub whole : OnOk r (Appends told told' bytes)
   pub sound : OnOk r (faults' ≡ faults)
   pub stops : IfErr r (TakesPart takes_memory bytes told told' faults faults')

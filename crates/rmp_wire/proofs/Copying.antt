@@ -27,7 +27,8 @@ gained old new front held held' n most f s l some within e =
     }
 
 -- a reader that has a buffer in front lost the first n bytes of those ahead, which lay in the buffer
-pub consumed : (old new : Option (List ℕ)) (front : List ℕ) (n : ℕ) → IsFront front old → n ≤ length front → IfSome old (λ xs. n ≤ length front → new ≡ Some (drop n xs))
+pub consumed : (old new : Option (List ℕ)) (front : List ℕ) (n : ℕ) → IsFront front old → n ≤ length front
+    → IfSome old (λ xs. n ≤ length front → new ≡ Some (drop n xs))
     → Skips n old new
 consumed None new front n f l d = record { bytes = take n front; long = length-take-le n front l; taken = tt }
 consumed (Some xs) new front n f l d = record {

@@ -29,7 +29,14 @@ five_a_wide = record {
     is_second = record {
       first = 0xd9 ∷ 0x01 ∷ 0x61 ∷ [];
       second = [];
-      is_first = record { first = 0xd9 ∷ 0x01 ∷ []; second = 0x61 ∷ []; is_first = inr (inl (lit< tt, refl)); is_second = (refl, (lit< tt, tt)); is_whole = refl };
+      is_first = record {
+        first = 0xd9 ∷ 0x01 ∷ [];
+        second = 0x61
+            ∷ [];
+        is_first = inr (inl (lit< tt, refl));
+        is_second = (refl, (lit< tt, tt));
+        is_whole = refl;
+      };
       is_second = refl;
       is_whole = refl;
     };

@@ -1,5 +1,30 @@
 -- Heads: what take_head makes of each, and what follows.
-use Rattle.std.proofs.Common.{◌≡◌, ◌∙◌, sym, ap, ℕ, ◌+◌, ◌-◌, ◌%◌, ◌^◌, ◌<◌, List, [], ◌∷◌, ◌++◌, length, Some, refl, arith, true, false, nat_lt, pos, negsuc, ℤ}
+use Rattle.std.proofs.Common.{
+  ◌≡◌,
+  ◌∙◌,
+  sym,
+  ap,
+  ℕ,
+  ◌+◌,
+  ◌-◌,
+  ◌%◌,
+  ◌^◌,
+  ◌<◌,
+  List,
+  [],
+  ◌∷◌,
+  ◌++◌,
+  length,
+  Some,
+  refl,
+  arith,
+  true,
+  false,
+  nat_lt,
+  pos,
+  negsuc,
+  ℤ,
+}
 use Rattle.std.proofs.lemmas.Nat.{from_be_bytes-to_be_bytes_2, from_be_bytes-to_be_bytes_4, from_be_bytes-to_be_bytes_8}
 use Rattle.std.specs.Int.{Width, w8, w16, w32, w64, w128, to_be_bytes, from_be_bytes, byte_len, cast_signed, cast_unsigned}
 use Rattle.std.specs.Prelude.{FitsSigned}
@@ -72,7 +97,8 @@ unsigned_below w64 z h = omega (arith, ints)
 unsigned_below w128 z h = omega (arith, ints)
 
 tag_gives : (n : ℕ) (tag : ℤ) (x : List ℕ) → FitsSigned w8 tag → take_tag n (tag_byte tag ∷ x) ≡ Some (Ext n tag, x)
-tag_gives n tag x h = ap (take_map (λ t. Ext n (cast_signed w8 t))) (take_number_gives w8 (tag_byte tag ∷ []) x (tag_byte tag) refl refl) ∙ ap (λ t. Some (Ext n t, x)) (to_z-of_z w8 tag h)
+tag_gives n tag x h = ap (take_map (λ t. Ext n (cast_signed w8 t))) (take_number_gives w8 (tag_byte tag ∷ []) x (tag_byte tag) refl refl)
+    ∙ ap (λ t. Some (Ext n t, x)) (to_z-of_z w8 tag h)
 
 signed_gives : (w : Width) (z : ℤ) (x : List ℕ) → FitsSigned w z → take_number w (to_be_bytes w (cast_unsigned w z) ++ x) ≡ Some (cast_unsigned w z, x)
     → take_signed w (to_be_bytes w (cast_unsigned w z) ++ x) ≡ Some (Whole z, x)
@@ -98,7 +124,8 @@ take_head_takes (Whole (pos n)) a x (inr (inr (inl f))) = rw f.1 (ap (take_map (
 take_head_takes (Whole (pos n)) a x (inr (inr (inr (inl f)))) = rw f.1 (ap (take_map (λ k. Whole (pos k))) (take_number_32 n x f.0))
 take_head_takes (Whole (pos n)) a x (inr (inr (inr (inr (inl f))))) = rw f.1 (ap (take_map (λ k. Whole (pos k))) (take_number_64 n x f.0))
 take_head_takes (Whole (pos n)) a x (inr (inr (inr (inr (inr f))))) = take_signed_head (pos n) a x f
-take_head_takes (Whole (negsuc n)) a x (inl f) = rw f.1 (held _ _ (λ k. Whole (negsuc k)) n (0x1f - cast_unsigned w8 (negsuc n) % 0x20) x (marker_neg n f.0) refl (omega (arith, ints)))
+take_head_takes (Whole (negsuc n)) a x (inl f) = rw f.1
+    (held _ _ (λ k. Whole (negsuc k)) n (0x1f - cast_unsigned w8 (negsuc n) % 0x20) x (marker_neg n f.0) refl (omega (arith, ints)))
 take_head_takes (Whole (negsuc n)) a x (inr f) = take_signed_head (negsuc n) a x f
 take_head_takes (F32Bits n) a x f = rw f.1 (ap (take_map F32Bits) (take_number_32 n x f.0))
 take_head_takes (F64Bits n) a x f = rw f.1 (ap (take_map F64Bits) (take_number_64 n x f.0))
@@ -120,9 +147,12 @@ take_head_takes (Ext n tag) a x (inr (inl f)) = rw (f.2, f.0) (tag_gives 2 tag x
 take_head_takes (Ext n tag) a x (inr (inr (inl f))) = rw (f.2, f.0) (tag_gives 4 tag x f.1)
 take_head_takes (Ext n tag) a x (inr (inr (inr (inl f)))) = rw (f.2, f.0) (tag_gives 8 tag x f.1)
 take_head_takes (Ext n tag) a x (inr (inr (inr (inr (inl f))))) = rw (f.2, f.0) (tag_gives 16 tag x f.1)
-take_head_takes (Ext n tag) a x (inr (inr (inr (inr (inr (inl f)))))) = rw f.2 (ap (λ t. take_then t take_tag) (take_number_8 n (tag_byte tag ∷ x) f.0) ∙ tag_gives n tag x f.1)
-take_head_takes (Ext n tag) a x (inr (inr (inr (inr (inr (inr (inl f))))))) = rw f.2 (ap (λ t. take_then t take_tag) (take_number_16 n (tag_byte tag ∷ x) f.0) ∙ tag_gives n tag x f.1)
-take_head_takes (Ext n tag) a x (inr (inr (inr (inr (inr (inr (inr f))))))) = rw f.2 (ap (λ t. take_then t take_tag) (take_number_32 n (tag_byte tag ∷ x) f.0) ∙ tag_gives n tag x f.1)
+take_head_takes (Ext n tag) a x (inr (inr (inr (inr (inr (inl f)))))) = rw f.2
+    (ap (λ t. take_then t take_tag) (take_number_8 n (tag_byte tag ∷ x) f.0) ∙ tag_gives n tag x f.1)
+take_head_takes (Ext n tag) a x (inr (inr (inr (inr (inr (inr (inl f))))))) = rw f.2
+    (ap (λ t. take_then t take_tag) (take_number_16 n (tag_byte tag ∷ x) f.0) ∙ tag_gives n tag x f.1)
+take_head_takes (Ext n tag) a x (inr (inr (inr (inr (inr (inr (inr f))))))) = rw f.2
+    (ap (λ t. take_then t take_tag) (take_number_32 n (tag_byte tag ∷ x) f.0) ∙ tag_gives n tag x f.1)
 
 -- No head begins a different head.
 pub heads_apart : (h k : Head) (a b x y : List ℕ) → IsHead h a → IsHead k b → a ++ x ≡ b ++ y → (h ≡ k) × (a ≡ b) × (x ≡ y)

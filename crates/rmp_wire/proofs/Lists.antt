@@ -34,7 +34,8 @@ pub canon_all-msgs : (ms : List Msg) → canon_all (msgs ms) ≡ flat_map canon 
 canon_all-msgs [] = refl
 canon_all-msgs (m ∷ ms) = ap (λ s. canon m ++ s) (canon_all-msgs ms)
 
-pub list_pushed : (f : ℕ → Msg) (xs ys : List ℕ) (n : ℕ) (ms : List Msg) → ys ≡ xs ++ n ∷ [] → list (msgs (map f xs)) ≡ list (msgs ms) → list (msgs (map f ys)) ≡ list (msgs (ms ++ f n ∷ []))
+pub list_pushed : (f : ℕ → Msg) (xs ys : List ℕ) (n : ℕ) (ms : List Msg) → ys ≡ xs ++ n ∷ [] → list (msgs (map f xs)) ≡ list (msgs ms)
+    → list (msgs (map f ys)) ≡ list (msgs (ms ++ f n ∷ []))
 list_pushed f xs ys n ms e h =
     let inner : msgs (map f xs) ≡ msgs ms = cc in
     ap (λ l. list (msgs l)) (ap (map f) e ∙ map-append f xs (n ∷ []) ∙ ap (λ l. l ++ f n ∷ []) (msgs_injective (map f xs) ms inner))
@@ -43,7 +44,8 @@ list_pushed f xs ys n ms e h =
 
 pub canon_pairs-pairs : (ps : List (Msg × Msg)) → canon_pairs (pairs ps) ≡ flat_map (λ p. canon p.0 ++ canon p.1) ps
 canon_pairs-pairs [] = refl
-canon_pairs-pairs (p ∷ ps) = ap (λ s. canon p.0 ++ (canon p.1 ++ s)) (canon_pairs-pairs ps) ∙ sym (append_assoc (canon p.0) (canon p.1) (flat_map (λ q. canon q.0 ++ canon q.1) ps))
+canon_pairs-pairs (p ∷ ps) = ap (λ s. canon p.0 ++ (canon p.1 ++ s)) (canon_pairs-pairs ps)
+    ∙ sym (append_assoc (canon p.0) (canon p.1) (flat_map (λ q. canon q.0 ++ canon q.1) ps))
 
 pub count_pairs-pairs : (ps : List (Msg × Msg)) → count_pairs (pairs ps) ≡ length ps
 count_pairs-pairs [] = refl
@@ -53,8 +55,10 @@ count_pairs-pairs (p ∷ ps) = ap suc (count_pairs-pairs ps)
 pub canon-list : (ms : List Msg) → canon (list (msgs ms)) ≡ canon_head (Array (length ms)) ++ flat_map canon ms
 canon-list ms = ap (λ n. canon_head (Array n) ++ canon_all (msgs ms)) (count-msgs ms) ∙ ap (λ s. canon_head (Array (length ms)) ++ s) (canon_all-msgs ms)
 
-pub canon-map : (ps : List (Msg × Msg)) → canon (Rattle.rmp_wire.specs.Msg.map (pairs ps)) ≡ canon_head (Map (length ps)) ++ flat_map (λ p. canon p.0 ++ canon p.1) ps
-canon-map ps = ap (λ n. canon_head (Map n) ++ canon_pairs (pairs ps)) (count_pairs-pairs ps) ∙ ap (λ s. canon_head (Map (length ps)) ++ s) (canon_pairs-pairs ps)
+pub canon-map : (ps : List (Msg × Msg)) → canon (Rattle.rmp_wire.specs.Msg.map (pairs ps)) ≡ canon_head (Map (length ps))
+    ++ flat_map (λ p. canon p.0 ++ canon p.1) ps
+canon-map ps = ap (λ n. canon_head (Map n) ++ canon_pairs (pairs ps)) (count_pairs-pairs ps)
+    ∙ ap (λ s. canon_head (Map (length ps)) ++ s) (canon_pairs-pairs ps)
 
 -- one more item
 pub canon_more : (old : List ℕ) (ms : List Msg) (m : Msg) → (old ++ flat_map canon ms) ++ canon m ≡ old ++ flat_map canon (ms ++ m ∷ [])
@@ -80,15 +84,28 @@ pub spells_more : (ms : List Msg) (m : Msg) (a b : List ℕ) → SpellsAll a (ms
 spells_more ms m a b p q = spells_append ms (m ∷ []) a b p (spells_one b m q)
 
 -- a head of their count, and then the items
-pub spells_list : (ms : List Msg) (n : ℕ) (head b : List ℕ) → IsHead (Array n) head → length ms ≡ n → SpellsAll b (msgs ms) → Spells (head ++ b) (list (msgs ms))
-spells_list ms n head b is e s = record { first = head; second = b; is_first = subst (λ k. IsHead (Array k) head) (sym e ∙ sym (count-msgs ms)) is; is_second = s; is_whole = refl }
+pub spells_list : (ms : List Msg) (n : ℕ) (head b : List ℕ) → IsHead (Array n) head → length ms ≡ n → SpellsAll b (msgs ms)
+    → Spells (head ++ b) (list (msgs ms))
+spells_list ms n head b is e s = record {
+  first = head;
+  second = b;
+  is_first = subst (λ k. IsHead (Array k) head) (sym e ∙ sym (count-msgs ms)) is;
+  is_second = s;
+  is_whole = refl;
+}
 
 -- the spellings of the items, one after the other
 pub spells_all_from : (bs : List (List ℕ)) (ms : List Msg) → AllZip Spells bs ms → SpellsAll (flat_map (λ b. b) bs) (msgs ms)
 spells_all_from [] [] h = refl
 spells_all_from [] (m ∷ ms) h = absurd h
 spells_all_from (b ∷ bs) [] h = absurd h
-spells_all_from (b ∷ bs) (m ∷ ms) h = record { first = b; second = flat_map (λ c. c) bs; is_first = h.0; is_second = spells_all_from bs ms h.1; is_whole = refl }
+spells_all_from (b ∷ bs) (m ∷ ms) h = record {
+  first = b;
+  second = flat_map (λ c. c) bs;
+  is_first = h.0;
+  is_second = spells_all_from bs ms h.1;
+  is_whole = refl;
+}
 
 pub spells_all_parts : (ms : List Msg) (b : List ℕ) → SpellsAll b (msgs ms) → (bs : List (List ℕ)) × AllZip Spells bs ms × (b ≡ flat_map (λ c. c) bs)
 spells_all_parts [] b s = ([], tt, s)
@@ -97,7 +114,9 @@ spells_all_parts (m ∷ ms) b s =
     (s.first ∷ rest.0, (s.is_first, rest.1), s.is_whole ∙ ap (λ t. s.first ++ t) rest.2)
 
 -- the exit of a loop that wrote the items of ns, each seen by f
-pub list_written : {X : Type 0} (f : X → Msg) (ns : List X) (i : ℕ) (old new : List ℕ) → length ns ≤ i → new ≡ (old ++ canon_head (Array (length ns))) ++ flat_map canon (map f (take i ns)) → new ≡ old ++ canon (list (msgs (map f ns)))
+pub list_written : {X : Type 0} (f : X → Msg) (ns : List X) (i : ℕ) (old new : List ℕ) → length ns ≤ i
+    → new ≡ (old ++ canon_head (Array (length ns))) ++ flat_map canon (map f (take i ns)) → new ≡ old ++ canon (list (msgs (map f ns)))
 list_written f ns i old new h e =
-    e ∙ ap (λ xs. (old ++ canon_head (Array (length ns))) ++ flat_map canon (map f xs)) (take_all i ns h) ∙ append_assoc old (canon_head (Array (length ns))) (flat_map canon (map f ns))
+    e ∙ ap (λ xs. (old ++ canon_head (Array (length ns))) ++ flat_map canon (map f xs)) (take_all i ns h)
+    ∙ append_assoc old (canon_head (Array (length ns))) (flat_map canon (map f ns))
     ∙ ap (λ n. old ++ (canon_head (Array n) ++ flat_map canon (map f ns))) (sym (length-map ns f)) ∙ ap (λ s. old ++ s) (sym (canon-list (map f ns)))

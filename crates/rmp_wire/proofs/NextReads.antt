@@ -67,12 +67,25 @@ takes_next m h old mid new t u = record {
   taken = Consumes-trans old mid new (byte_of m ∷ []) u.rest (byte_taken m old mid t) u.taken;
 }
 
-pub fails_after : (m : Marker) (old mid new : Option (List ℕ)) (before between after : ℕ) (e : ValueReadError) → Consumes old mid (byte_of m ∷ []) → between ≡ before
-    → (m ≡ Reserved → ◌≡◌ {A = Result Head ValueReadError} (Err e) (Err (TypeMismatch Reserved))) → FailsHead m mid new between after e → FailsNext old new before after e
+pub fails_after : (m : Marker) (old mid new : Option (List ℕ)) (before between after : ℕ) (e : ValueReadError) → Consumes old mid (byte_of m ∷ [])
+    → between ≡ before
+    → (m ≡ Reserved → ◌≡◌ {A = Result Head ValueReadError} (Err e) (Err (TypeMismatch Reserved))) → FailsHead m mid new between after e
+    → FailsNext old new before after e
 fails_after m old mid new before between after (InvalidMarkerRead f) c same only t = absurd t
 fails_after m old mid new before between after (InvalidDataRead f) c same only t = record {
   none = λ q. no_head_cut m old mid c (t.cut (q ∙ sym same));
-  leaves = (record { marker = m; opens = λ is. let wrong = only is in absurd (cc); part = t.part.part; short = t.part.short; taken = Consumes-trans old mid new (byte_of m ∷ []) t.part.part c t.part.taken }, λ q. t.end (q ∙ sym same));
+  leaves = (
+    record {
+      marker = m;
+      opens = λ is. let wrong = only is
+          in absurd (cc);
+      part = t.part.part;
+      short = t.part.short;
+      taken = Consumes-trans old mid new (byte_of m ∷ []) t.part.part c t.part.taken;
+    },
+    λ q. t.end
+        (q ∙ sym same),
+  );
 }
 fails_after m old mid new before between after (TypeMismatch k) c same only t = record {
   none = λ q. no_head_cut m old mid c (subst (λ n. IsCut n mid) (sym t.0) (reserved_cut mid));
@@ -81,24 +94,46 @@ fails_after m old mid new before between after (TypeMismatch k) c same only t = 
 
 module _ {S : Type 0} (g : Ghosts S) where
   pub reads_next : (m : Marker) (h : Head) (old mid new : S) → ReadsMarker g old mid (Ok m) → ReadsHead g m mid new (Ok h) → ReadsNext g old new (Ok (m, h))
-  reads_next m h old mid new t u = record { ok = takes_next m h (g.ahead old) (g.ahead mid) (g.ahead new) t.ok u.ok; sound = u.sound ∙ t.sound; err = tt; place = u.place ∙ t.place }
+  reads_next m h old mid new t u = record {
+    ok = takes_next m h (g.ahead old) (g.ahead mid) (g.ahead new) t.ok u.ok;
+    sound = u.sound
+        ∙ t.sound;
+    err = tt;
+    place = u.place ∙ t.place;
+  }
 
-  pub fails_at_marker : (e : MarkerReadError) (r : Result (Marker × Head) ValueReadError) (old new : S) → r ≡ Err (InvalidMarkerRead e.0) → ReadsMarker g old new (Err e) → ReadsNext g old new r
+  pub fails_at_marker : (e : MarkerReadError) (r : Result (Marker × Head) ValueReadError) (old new : S) → r ≡ Err (InvalidMarkerRead e.0)
+      → ReadsMarker g old new (Err e) → ReadsNext g old new r
   fails_at_marker e r old new was t =
-      subst (ReadsNext g old new) (sym was) (record { ok = tt; sound = tt; err = record { none = λ q. no_head_at_end (g.ahead old) (t.err.none_ahead q); leaves = t.err }; place = t.place })
+      subst (ReadsNext g old new) (sym was) (record {
+        ok = tt;
+        sound = tt;
+        err = record
+            { none = λ q. no_head_at_end (g.ahead old) (t.err.none_ahead q); leaves = t.err };
+        place = t.place;
+      })
 
-  pub fails_at_head : (m : Marker) (e : ValueReadError) (r : Result (Marker × Head) ValueReadError) (old mid new : S) → r ≡ Err e → ReadsMarker g old mid (Ok m) → ReadsHead g m mid new (Err e) → ReadsNext g old new r
+  pub fails_at_head : (m : Marker) (e : ValueReadError) (r : Result (Marker × Head) ValueReadError) (old mid new : S) → r ≡ Err e
+      → ReadsMarker g old mid (Ok m) → ReadsHead g m mid new (Err e) → ReadsNext g old new r
   fails_at_head m e r old mid new was t u =
       subst (ReadsNext g old new) (sym was)
-      (record { ok = tt; sound = tt; err = fails_after m _ (g.ahead mid) _ _ (g.faults mid) _ e (byte_taken m (g.ahead old) (g.ahead mid) t.ok) t.sound u.reserved u.err; place = u.place ∙ t.place })
+      (record {
+        ok = tt;
+        sound = tt;
+        err = fails_after m _ (g.ahead mid) _ _ (g.faults mid) _ e (byte_taken m (g.ahead old) (g.ahead mid) t.ok) t.sound
+            u.reserved u.err;
+        place = u.place ∙ t.place;
+      })
 
 -- ---- the same by the functions that take a head
 
-pub head_after_takes : (m : Marker) (h : Head) (xs : List ℕ) (new : Option (List ℕ)) → TakesHead m h (Some xs) new → (ys : List ℕ) × (new ≡ Some ys) × (take_head (byte_of m ∷ xs) ≡ Some (h, ys))
+pub head_after_takes : (m : Marker) (h : Head) (xs : List ℕ) (new : Option (List ℕ)) → TakesHead m h (Some xs) new
+    → (ys : List ℕ) × (new ≡ Some ys) × (take_head (byte_of m ∷ xs) ≡ Some (h, ys))
 head_after_takes m h xs None t = absurd t.taken
 head_after_takes m h xs (Some ys) t = (ys, refl, ap (λ k. take_head (byte_of m ∷ k)) t.taken ∙ take_head_takes h (byte_of m ∷ t.rest) ys t.is_head)
 
-pub next_takes : (m : Marker) (h : Head) (xs : List ℕ) (new : Option (List ℕ)) → TakesNext m h (Some xs) new → (ys : List ℕ) × (new ≡ Some ys) × (take_head xs ≡ Some (h, ys))
+pub next_takes : (m : Marker) (h : Head) (xs : List ℕ) (new : Option (List ℕ)) → TakesNext m h (Some xs) new
+    → (ys : List ℕ) × (new ≡ Some ys) × (take_head xs ≡ Some (h, ys))
 next_takes m h xs None t = absurd t.taken
 next_takes m h xs (Some ys) t = (ys, refl, ap take_head t.taken ∙ take_head_takes h (byte_of m ∷ t.rest) ys t.is_head)
 

@@ -71,12 +71,14 @@ wide_len w f h x e =
 
 tagged_len : (w : Width) (h : Head) (x : List ℕ) → take_then (take_number w (x ++ [])) take_tag ≡ Some (h, []) → length x ≡ byte_len w + 1
 tagged_len w h x e =
-    let t : (n : ℕ) × (rest : List ℕ) × (take_number w (x ++ []) ≡ Some (n, rest)) × (take_tag n rest ≡ Some (h, [])) = taken_then (take_number w (x ++ [])) take_tag h [] e in
+    let t : (n : ℕ) × (rest : List ℕ) × (take_number w (x ++ []) ≡ Some (n, rest))
+    × (take_tag n rest ≡ Some (h, [])) = taken_then (take_number w (x ++ [])) take_tag h [] e in
     let u : (k : ℕ) × (take_number w8 t.1 ≡ Some (k, [])) × (h ≡ _) = taken_map _ (take_number w8 t.1) h [] t.3 in
     omega (arith, number_len w (x ++ []) t.0 t.1 t.2, number_len w8 t.1 u.0 [] u.1, whole_len x)
 
 -- a head that its marker holds whole
-held_len : (m : Marker) (k h : Head) (b : ℕ) (x : List ℕ) → marker_of b ≡ m → head_after m (x ++ []) ≡ Some (k, x ++ []) → take_head (b ∷ (x ++ [])) ≡ Some (h, []) → length x ≡ 0
+held_len : (m : Marker) (k h : Head) (b : ℕ) (x : List ℕ) → marker_of b ≡ m → head_after m (x ++ []) ≡ Some (k, x ++ [])
+    → take_head (b ∷ (x ++ [])) ≡ Some (h, []) → length x ≡ 0
 unfolding take_head
 held_len m k h b x is after e = alone_len k h x (sym after ∙ ap (λ t. head_after t (x ++ [])) (sym is) ∙ e)
 
@@ -139,7 +141,8 @@ cut_by_length m n None l s = tt
 cut_by_length m n (Some xs) l s = λ h x rest e p. absurd (omega (arith, tail_length m h x p, ap length e, length-append x rest))
 
 -- Where a call that wants all the bytes behind the marker fails, the head is cut.
-pub cuts_short : (m : Marker) (n : ℕ) (old new : Option (List ℕ)) (before after : ℕ) (fault : IoFault) → tail_len m ≡ n → TakesShort n old new before after fault → CutsHead m old new before after fault
+pub cuts_short : (m : Marker) (n : ℕ) (old new : Option (List ℕ)) (before after : ℕ) (fault : IoFault) → tail_len m ≡ n
+    → TakesShort n old new before after fault → CutsHead m old new before after fault
 cuts_short m n old new before after fault l t = record {
   part = record { part = t.part.part; short = λ h x p. omega (arith, t.part.short, tail_length m h x p); taken = t.part.taken };
   cut = λ e. cut_by_length m n old l (t.short e);
@@ -151,7 +154,8 @@ short_more n more None s = tt
 short_more n more (Some xs) s = omega arith
 
 -- too few for n bytes are too few for more
-pub short_of_more : (n more : ℕ) (old new : Option (List ℕ)) (before after : ℕ) (fault : IoFault) → TakesShort n old new before after fault → TakesShort (n + more) old new before after fault
+pub short_of_more : (n more : ℕ) (old new : Option (List ℕ)) (before after : ℕ) (fault : IoFault) → TakesShort n old new before after fault
+    → TakesShort (n + more) old new before after fault
 short_of_more n more old new before after fault t = record {
   part = record { part = t.part.part; short = omega (arith, t.part.short); taken = t.part.taken };
   short = λ e. short_more n more old (t.short e);
@@ -165,7 +169,8 @@ short_behind k n (Some xs) None bytes l c s = absurd c
 short_behind k n (Some xs) (Some ys) bytes l c s = omega (arith, ap length c, length-append bytes ys)
 
 -- the same where k bytes of the head were taken before the call
-pub cuts_short_behind : (m : Marker) (k n : ℕ) (old mid new : Option (List ℕ)) (bytes : List ℕ) (before between after : ℕ) (fault : IoFault) → tail_len m ≡ k + n → length bytes ≡ k → Consumes old mid bytes
+pub cuts_short_behind : (m : Marker) (k n : ℕ) (old mid new : Option (List ℕ)) (bytes : List ℕ) (before between after : ℕ) (fault : IoFault)
+    → tail_len m ≡ k + n → length bytes ≡ k → Consumes old mid bytes
     → between ≡ before → TakesShort n mid new between after fault → CutsHead m old new before after fault
 cuts_short_behind m k n old mid new bytes before between after fault l b c same t = record {
   part = record {

@@ -2,7 +2,27 @@
 use Rattle.std.proofs.Common.{ap, ℕ, ◌≤◌, List, [], ◌∷◌, ◌++◌, length, refl, arith}
 use Rattle.std.proofs.lemmas.List.{length-append}
 use Rattle.rmp_wire.specs.declared.head.Head.TheVariants.{Nil, Truth, Whole, F32Bits, F64Bits, Text, Bin, Array, Map, Ext}
-use Rattle.rmp_wire.specs.Msg.{Msg, nil, truth, whole, float32, float64, text, bin, list, map, extension, Msgs, no_items, item, Pairs, no_pairs, pair, count, count_pairs}
+use Rattle.rmp_wire.specs.Msg.{
+  Msg,
+  nil,
+  truth,
+  whole,
+  float32,
+  float64,
+  text,
+  bin,
+  list,
+  map,
+  extension,
+  Msgs,
+  no_items,
+  item,
+  Pairs,
+  no_pairs,
+  pair,
+  count,
+  count_pairs,
+}
 use Rattle.rmp_wire.specs.Spelling.{IsBytes, Joined, IsContent, Spells, SpellsAll, SpellsPairs, canon, canon_all, canon_pairs, Fits, FitsAll, FitsPairs}
 use Rattle.rmp_wire.proofs.Canon.{canon_is_head, canon_head_least, head_fits, head_bytes}
 
@@ -17,13 +37,39 @@ mutual
   canon_spells (float64 n) f = canon_is_head (F64Bits n) f
   canon_spells (text s) f = record { first = _; second = s; is_first = canon_is_head (Text (length s)) f.0; is_second = (refl, f.1); is_whole = refl }
   canon_spells (bin s) f = record { first = _; second = s; is_first = canon_is_head (Bin (length s)) f.0; is_second = (refl, f.1); is_whole = refl }
-  canon_spells (list ms) f = record { first = _; second = canon_all ms; is_first = canon_is_head (Array (count ms)) f.0; is_second = canon_all_spells ms f.1; is_whole = refl }
-  canon_spells (map ps) f = record { first = _; second = canon_pairs ps; is_first = canon_is_head (Map (count_pairs ps)) f.0; is_second = canon_pairs_spells ps f.1; is_whole = refl }
-  canon_spells (extension tag s) f = record { first = _; second = s; is_first = canon_is_head (Ext (length s) tag) f.0; is_second = (refl, f.1); is_whole = refl }
+  canon_spells (list ms) f = record {
+    first = _;
+    second = canon_all ms;
+    is_first = canon_is_head (Array (count ms)) f.0;
+    is_second = canon_all_spells ms
+        f.1;
+    is_whole = refl;
+  }
+  canon_spells (map ps) f = record {
+    first = _;
+    second = canon_pairs ps;
+    is_first = canon_is_head (Map (count_pairs ps)) f.0;
+    is_second = canon_pairs_spells
+        ps f.1;
+    is_whole = refl;
+  }
+  canon_spells (extension tag s) f = record {
+    first = _;
+    second = s;
+    is_first = canon_is_head (Ext (length s) tag) f.0;
+    is_second = (refl, f.1);
+    is_whole = refl;
+  }
 
   pub canon_all_spells : (ms : Msgs) → FitsAll ms → SpellsAll (canon_all ms) ms
   canon_all_spells no_items f = refl
-  canon_all_spells (item m ms) f = record { first = canon m; second = canon_all ms; is_first = canon_spells m f.0; is_second = canon_all_spells ms f.1; is_whole = refl }
+  canon_all_spells (item m ms) f = record {
+    first = canon m;
+    second = canon_all ms;
+    is_first = canon_spells m f.0;
+    is_second = canon_all_spells ms f.1;
+    is_whole = refl;
+  }
 
   pub canon_pairs_spells : (ps : Pairs) → FitsPairs ps → SpellsPairs (canon_pairs ps) ps
   canon_pairs_spells no_pairs f = refl
@@ -49,8 +95,10 @@ mutual
   canon_least (float64 n) b s = canon_head_least (F64Bits n) b s
   canon_least (text t) b s = joined_least _ t b s (canon_head_least (Text (length t)) s.first s.is_first) (omega (arith, ap length s.is_second.0))
   canon_least (bin t) b s = joined_least _ t b s (canon_head_least (Bin (length t)) s.first s.is_first) (omega (arith, ap length s.is_second.0))
-  canon_least (list ms) b s = joined_least _ (canon_all ms) b s (canon_head_least (Array (count ms)) s.first s.is_first) (canon_all_least ms s.second s.is_second)
-  canon_least (map ps) b s = joined_least _ (canon_pairs ps) b s (canon_head_least (Map (count_pairs ps)) s.first s.is_first) (canon_pairs_least ps s.second s.is_second)
+  canon_least (list ms) b s = joined_least _ (canon_all ms) b s (canon_head_least (Array (count ms)) s.first s.is_first)
+      (canon_all_least ms s.second s.is_second)
+  canon_least (map ps) b s = joined_least _ (canon_pairs ps) b s (canon_head_least (Map (count_pairs ps)) s.first s.is_first)
+      (canon_pairs_least ps s.second s.is_second)
   canon_least (extension tag t) b s = joined_least _ t b s (canon_head_least (Ext (length t) tag) s.first s.is_first) (omega (arith, ap length s.is_second.0))
 
   pub canon_all_least : (ms : Msgs) (b : List ℕ) → SpellsAll b ms → length (canon_all ms) ≤ length b
@@ -61,7 +109,8 @@ mutual
   canon_pairs_least no_pairs b s = omega arith
   canon_pairs_least (pair k v ps) b s =
       joined_least (canon k) (canon v ++ canon_pairs ps) b s (canon_least k s.first s.is_first)
-      (joined_least (canon v) (canon_pairs ps) s.second s.is_second (canon_least v s.is_second.first s.is_second.is_first) (canon_pairs_least ps s.is_second.second s.is_second.is_second))
+      (joined_least (canon v) (canon_pairs ps) s.second s.is_second (canon_least v s.is_second.first s.is_second.is_first)
+      (canon_pairs_least ps s.is_second.second s.is_second.is_second))
 
 -- ---- what is spelled fits
 
@@ -119,4 +168,6 @@ mutual
   pub spells_pairs_bytes : (ps : Pairs) (b : List ℕ) → SpellsPairs b ps → IsBytes b
   spells_pairs_bytes no_pairs b s = rw s tt
   spells_pairs_bytes (pair k v ps) b s =
-      joined_bytes b s (spells_bytes k s.first s.is_first) (joined_bytes s.second s.is_second (spells_bytes v s.is_second.first s.is_second.is_first) (spells_pairs_bytes ps s.is_second.second s.is_second.is_second))
+      joined_bytes b s (spells_bytes k s.first s.is_first)
+      (joined_bytes s.second s.is_second (spells_bytes v s.is_second.first s.is_second.is_first)
+      (spells_pairs_bytes ps s.is_second.second s.is_second.is_second))

@@ -22,15 +22,54 @@ module _ (p q : Head → List ℕ → Type 0) (wider : (h : Head) (b : List ℕ)
     spelled_wider (whole z) b s = wider (Whole z) b s
     spelled_wider (float32 n) b s = wider (F32Bits n) b s
     spelled_wider (float64 n) b s = wider (F64Bits n) b s
-    spelled_wider (text t) b s = record { first = s.first; second = s.second; is_first = wider _ s.first s.is_first; is_second = s.is_second; is_whole = s.is_whole }
-    spelled_wider (bin t) b s = record { first = s.first; second = s.second; is_first = wider _ s.first s.is_first; is_second = s.is_second; is_whole = s.is_whole }
-    spelled_wider (list ms) b s = record { first = s.first; second = s.second; is_first = wider _ s.first s.is_first; is_second = all_wider ms s.second s.is_second; is_whole = s.is_whole }
-    spelled_wider (map ps) b s = record { first = s.first; second = s.second; is_first = wider _ s.first s.is_first; is_second = pairs_wider ps s.second s.is_second; is_whole = s.is_whole }
-    spelled_wider (extension tag t) b s = record { first = s.first; second = s.second; is_first = wider _ s.first s.is_first; is_second = s.is_second; is_whole = s.is_whole }
+    spelled_wider (text t) b s = record {
+      first = s.first;
+      second = s.second;
+      is_first = wider _ s.first s.is_first;
+      is_second = s.is_second;
+      is_whole = s.is_whole;
+    }
+    spelled_wider (bin t) b s = record {
+      first = s.first;
+      second = s.second;
+      is_first = wider _ s.first s.is_first;
+      is_second = s.is_second;
+      is_whole = s.is_whole;
+    }
+    spelled_wider (list ms) b s = record {
+      first = s.first;
+      second = s.second;
+      is_first = wider _ s.first s.is_first;
+      is_second = all_wider ms s.second
+          s.is_second;
+      is_whole = s.is_whole;
+    }
+    spelled_wider (map ps) b s = record {
+      first = s.first;
+      second = s.second;
+      is_first = wider _ s.first s.is_first;
+      is_second = pairs_wider ps s.second
+          s.is_second;
+      is_whole = s.is_whole;
+    }
+    spelled_wider (extension tag t) b s = record {
+      first = s.first;
+      second = s.second;
+      is_first = wider _ s.first s.is_first;
+      is_second = s.is_second;
+      is_whole = s.is_whole;
+    }
 
     pub all_wider : (ms : Msgs) (b : List ℕ) → AllSpelledBy p b ms → AllSpelledBy q b ms
     all_wider no_items b s = s
-    all_wider (item m ms) b s = record { first = s.first; second = s.second; is_first = spelled_wider m s.first s.is_first; is_second = all_wider ms s.second s.is_second; is_whole = s.is_whole }
+    all_wider (item m ms) b s = record {
+      first = s.first;
+      second = s.second;
+      is_first = spelled_wider m s.first s.is_first;
+      is_second = all_wider ms
+          s.second s.is_second;
+      is_whole = s.is_whole;
+    }
 
     pub pairs_wider : (ps : Pairs) (b : List ℕ) → PairsSpelledBy p b ps → PairsSpelledBy q b ps
     pairs_wider no_pairs b s = s
@@ -38,7 +77,13 @@ module _ (p q : Head → List ℕ → Type 0) (wider : (h : Head) (b : List ℕ)
       first = s.first;
       second = s.second;
       is_first = spelled_wider k s.first s.is_first;
-      is_second = record { first = s.is_second.first; second = s.is_second.second; is_first = spelled_wider v s.is_second.first s.is_second.is_first; is_second = pairs_wider ps s.is_second.second s.is_second.is_second; is_whole = s.is_second.is_whole };
+      is_second = record {
+        first = s.is_second.first;
+        second = s.is_second.second;
+        is_first = spelled_wider v s.is_second.first s.is_second.is_first;
+        is_second = pairs_wider ps s.is_second.second s.is_second.is_second;
+        is_whole = s.is_second.is_whole;
+      };
       is_whole = s.is_whole;
     }
 

@@ -1,5 +1,43 @@
 -- What take_head and take_msg take is spelled there, where the input is made of bytes.
-use Rattle.std.proofs.Common.{◌≡◌, ◌∙◌, sym, ap, subst, ℕ, zero, suc, ◌-◌, ◌%◌, ◌^◌, ◌≤◌, ◌<◌, List, [], ◌∷◌, ◌++◌, length, take, drop, get_or, Option, Some, None, refl, arith, cond, Bool, true, false, nat_lt, append_assoc, pos, negsuc, ℤ, inl, inr}
+use Rattle.std.proofs.Common.{
+  ◌≡◌,
+  ◌∙◌,
+  sym,
+  ap,
+  subst,
+  ℕ,
+  zero,
+  suc,
+  ◌-◌,
+  ◌%◌,
+  ◌^◌,
+  ◌≤◌,
+  ◌<◌,
+  List,
+  [],
+  ◌∷◌,
+  ◌++◌,
+  length,
+  take,
+  drop,
+  get_or,
+  Option,
+  Some,
+  None,
+  refl,
+  arith,
+  cond,
+  Bool,
+  true,
+  false,
+  nat_lt,
+  append_assoc,
+  pos,
+  negsuc,
+  ℤ,
+  inl,
+  inr,
+}
 use Rattle.std.specs.Int.{Width, w8, w16, w32, w64, w128, to_be_bytes, from_be_bytes, byte_len, cast_signed, cast_unsigned}
 use Rattle.std.specs.Prelude.{FitsSigned}
 use Rattle.std.proofs.lemmas.List.{take-append-drop}
@@ -43,7 +81,8 @@ pub taken_map : {A B : Type 0} (f : A → B) (r : Option (A × List ℕ)) (y : B
 taken_map f None y x e = absurd (cc)
 taken_map f (Some p) y x e = let q : (f p.0 ≡ y) × (p.1 ≡ x) = some_pair_parts (f p.0) y p.1 x e in (p.0, ap (λ t. Some (p.0, t)) q.1, sym q.0)
 
-pub taken_then : {A B : Type 0} (r : Option (A × List ℕ)) (f : A → Takes B) (y : B) (x : List ℕ) → take_then r f ≡ Some (y, x) → (a : A) × (rest : List ℕ) × (r ≡ Some (a, rest)) × (f a rest ≡ Some (y, x))
+pub taken_then : {A B : Type 0} (r : Option (A × List ℕ)) (f : A → Takes B) (y : B) (x : List ℕ) → take_then r f ≡ Some (y, x)
+    → (a : A) × (rest : List ℕ) × (r ≡ Some (a, rest)) × (f a rest ≡ Some (y, x))
 taken_then None f y x e = absurd (cc)
 taken_then (Some p) f y x e = (p.0, p.1, refl, e)
 
@@ -67,8 +106,11 @@ pub spelled_32 : Spelled w32
 spelled_32 bs n l h e = (omega (arith, small bs h 0, small bs h 1, small bs h 2, small bs h 3), be_bytes_4 bs n l (small bs h) e)
 
 pub spelled_64 : Spelled w64
-spelled_64 bs n l h e =
-    (omega (arith, small bs h 0, small bs h 1, small bs h 2, small bs h 3, small bs h 4, small bs h 5, small bs h 6, small bs h 7), be_bytes_8 bs n l (small bs h) e)
+spelled_64 bs n l h e = (
+  omega (arith, small bs h 0, small bs h 1, small bs h 2, small bs h 3, small bs h 4, small bs h 5, small bs h 6, small bs h 7),
+  be_bytes_8 bs n l
+      (small bs h) e,
+)
 
 number_from : (w : Width) → Spelled w → (s : List ℕ) (n : ℕ) (x : List ℕ) → IsBytes s → take_number w s ≡ Some (n, x) → Number w s n x
 unfolding take_number
@@ -107,28 +149,33 @@ signed_made b w n h = (fits_signed w n h, ap (λ k. b ∷ to_be_bytes w k) (sym 
 pub tag_made : (t : ℕ) → t < 256 → (t % 256) ∷ [] ≡ tag_byte (cast_signed w8 t) ∷ []
 tag_made t h = ap (λ k. k ∷ []) (let e : t % 256 ≡ t = omega arith in e ∙ sym (of_z-to_z w8 t h))
 
-took_wide : (w : Width) → Spelled w → (f : ℕ → Head) (b : ℕ) → ((n : ℕ) → n < 2 ^ bits w → IsHead (f n) (b ∷ to_be_bytes w n)) → (s : List ℕ) (h : Head) (x : List ℕ) → IsBytes s
+took_wide : (w : Width) → Spelled w → (f : ℕ → Head) (b : ℕ) → ((n : ℕ) → n < 2 ^ bits w → IsHead (f n) (b ∷ to_be_bytes w n))
+    → (s : List ℕ) (h : Head) (x : List ℕ) → IsBytes s
     → take_map f (take_number w s) ≡ Some (h, x) → Took h b s x
 took_wide w spelled f b made s h x bs e =
     let t : (n : ℕ) × (take_number w s ≡ Some (n, x)) × (h ≡ f n) = taken_map f (take_number w s) h x e in
     let number : Number w s t.0 x = number_from w spelled s t.0 x bs t.1 in
     record { rest = to_be_bytes w t.0; is_head = subst (λ k. IsHead k (b ∷ to_be_bytes w t.0)) (sym t.2) (made t.0 number.below); split = number.split }
 
-took_tag : (k b : ℕ) → ((t : ℕ) → t < 2 ^ 8 → IsHead (Ext k (cast_signed w8 t)) (b ∷ to_be_bytes w8 t)) → (s : List ℕ) (h : Head) (x : List ℕ) → IsBytes s → take_tag k s ≡ Some (h, x) → Took h b s x
+took_tag : (k b : ℕ) → ((t : ℕ) → t < 2 ^ 8 → IsHead (Ext k (cast_signed w8 t)) (b ∷ to_be_bytes w8 t)) → (s : List ℕ) (h : Head) (x : List ℕ) → IsBytes s
+    → take_tag k s ≡ Some (h, x) → Took h b s x
 took_tag k b made s h x bs e = took_wide w8 spelled_8 (λ t. Ext k (cast_signed w8 t)) b made s h x bs e
 
-took_wide_ext : (w : Width) → Spelled w → (b : ℕ) → ((n : ℕ) (tag : ℤ) → n < 2 ^ bits w → FitsSigned w8 tag → IsHead (Ext n tag) (b ∷ (to_be_bytes w n ++ tag_byte tag ∷ []))) → (s : List ℕ) (h : Head) (x : List ℕ) → IsBytes s
+took_wide_ext : (w : Width) → Spelled w → (b : ℕ) → ((n : ℕ) (tag : ℤ) → n < 2 ^ bits w → FitsSigned w8 tag
+    → IsHead (Ext n tag) (b ∷ (to_be_bytes w n ++ tag_byte tag ∷ []))) → (s : List ℕ) (h : Head) (x : List ℕ) → IsBytes s
     → take_then (take_number w s) take_tag ≡ Some (h, x) → Took h b s x
 took_wide_ext w spelled b made s h x bs e =
     let t : (n : ℕ) × (rest : List ℕ) × (take_number w s ≡ Some (n, rest)) × (take_tag n rest ≡ Some (h, x)) = taken_then (take_number w s) take_tag h x e in
     let number : Number w s t.0 t.1 = number_from w spelled s t.0 t.1 bs t.2 in
     let after : IsBytes t.1 = (bytes_parts (to_be_bytes w t.0) t.1 (subst IsBytes number.split bs)).1 in
-    let u : (n : ℕ) × (take_number w8 t.1 ≡ Some (n, x)) × (h ≡ Ext t.0 (cast_signed w8 n)) = taken_map (λ k. Ext t.0 (cast_signed w8 k)) (take_number w8 t.1) h x t.3 in
+    let u : (n : ℕ) × (take_number w8 t.1 ≡ Some (n, x))
+    × (h ≡ Ext t.0 (cast_signed w8 n)) = taken_map (λ k. Ext t.0 (cast_signed w8 k)) (take_number w8 t.1) h x t.3 in
     let tag : Number w8 t.1 u.0 x = number_from w8 spelled_8 t.1 u.0 x after u.1 in
     let whole_tag : t.1 ≡ tag_byte (cast_signed w8 u.0) ∷ x = tag.split ∙ ap (λ k. k ++ x) (tag_made u.0 tag.below) in
     record {
       rest = to_be_bytes w t.0 ++ tag_byte (cast_signed w8 u.0) ∷ [];
-      is_head = subst (λ k. IsHead k (b ∷ (to_be_bytes w t.0 ++ tag_byte (cast_signed w8 u.0) ∷ []))) (sym u.2) (made t.0 (cast_signed w8 u.0) number.below (fits_signed w8 u.0 tag.below));
+      is_head = subst (λ k. IsHead k (b ∷ (to_be_bytes w t.0 ++ tag_byte (cast_signed w8 u.0) ∷ []))) (sym u.2)
+          (made t.0 (cast_signed w8 u.0) number.below (fits_signed w8 u.0 tag.below));
       split = number.split ∙ ap (λ k. to_be_bytes w t.0 ++ k) whole_tag ∙ sym (append_assoc (to_be_bytes w t.0) (tag_byte (cast_signed w8 u.0) ∷ []) x);
     }
 
@@ -144,7 +191,8 @@ head_after_took (marker.FixPos n) s h x bs e = took_alone h (Whole (pos (n % 0x8
 head_after_took (marker.FixMap n) s h x bs e = took_alone h (Map (n % 0x10)) _ s x (inl (omega arith, refl)) e
 head_after_took (marker.FixArray n) s h x bs e = took_alone h (Array (n % 0x10)) _ s x (inl (omega arith, refl)) e
 head_after_took (marker.FixStr n) s h x bs e = took_alone h (Text (n % 0x20)) _ s x (inl (omega arith, refl)) e
-head_after_took (marker.FixNeg z) s h x bs e = took_alone h (Whole (negsuc (0x1f - cast_unsigned w8 z % 0x20))) _ s x (inl (omega arith, ap (λ k. k ∷ []) (omega arith))) e
+head_after_took (marker.FixNeg z) s h x bs e = took_alone h (Whole (negsuc (0x1f - cast_unsigned w8 z % 0x20))) _ s x
+    (inl (omega arith, ap (λ k. k ∷ []) (omega arith))) e
 head_after_took marker.Null s h x bs e = took_alone h Nil _ s x refl e
 head_after_took marker.False s h x bs e = took_alone h (Truth false) _ s x refl e
 head_after_took marker.True s h x bs e = took_alone h (Truth true) _ s x refl e
@@ -165,15 +213,21 @@ head_after_took marker.U32 s h x bs e = took_wide w32 spelled_32 (λ n. Whole (p
 head_after_took marker.U64 s h x bs e = took_wide w64 spelled_64 (λ n. Whole (pos n)) _ (λ n k. inr (inr (inr (inr (inl (k, refl)))))) s h x bs e
 head_after_took marker.F32 s h x bs e = took_wide w32 spelled_32 F32Bits _ (λ n k. (k, refl)) s h x bs e
 head_after_took marker.F64 s h x bs e = took_wide w64 spelled_64 F64Bits _ (λ n k. (k, refl)) s h x bs e
-head_after_took marker.I8 s h x bs e = took_wide w8 spelled_8 (λ n. Whole (cast_signed w8 n)) 0xd0 (λ n k. signed_head (cast_signed w8 n) _ (inl (signed_made 0xd0 w8 n k))) s h x bs e
-head_after_took marker.I16 s h x bs e = took_wide w16 spelled_16 (λ n. Whole (cast_signed w16 n)) 0xd1 (λ n k. signed_head (cast_signed w16 n) _ (inr (inl (signed_made 0xd1 w16 n k)))) s h x bs e
-head_after_took marker.I32 s h x bs e = took_wide w32 spelled_32 (λ n. Whole (cast_signed w32 n)) 0xd2 (λ n k. signed_head (cast_signed w32 n) _ (inr (inr (inl (signed_made 0xd2 w32 n k))))) s h x bs e
-head_after_took marker.I64 s h x bs e = took_wide w64 spelled_64 (λ n. Whole (cast_signed w64 n)) 0xd3 (λ n k. signed_head (cast_signed w64 n) _ (inr (inr (inr (signed_made 0xd3 w64 n k))))) s h x bs e
+head_after_took marker.I8 s h x bs e = took_wide w8 spelled_8 (λ n. Whole (cast_signed w8 n)) 0xd0
+    (λ n k. signed_head (cast_signed w8 n) _ (inl (signed_made 0xd0 w8 n k))) s h x bs e
+head_after_took marker.I16 s h x bs e = took_wide w16 spelled_16 (λ n. Whole (cast_signed w16 n)) 0xd1
+    (λ n k. signed_head (cast_signed w16 n) _ (inr (inl (signed_made 0xd1 w16 n k)))) s h x bs e
+head_after_took marker.I32 s h x bs e = took_wide w32 spelled_32 (λ n. Whole (cast_signed w32 n)) 0xd2
+    (λ n k. signed_head (cast_signed w32 n) _ (inr (inr (inl (signed_made 0xd2 w32 n k))))) s h x bs e
+head_after_took marker.I64 s h x bs e = took_wide w64 spelled_64 (λ n. Whole (cast_signed w64 n)) 0xd3
+    (λ n k. signed_head (cast_signed w64 n) _ (inr (inr (inr (signed_made 0xd3 w64 n k))))) s h x bs e
 head_after_took marker.FixExt1 s h x bs e = took_tag 1 0xd4 (λ t k. inl (refl, fits_signed w8 t k, ap (λ q. 0xd4 ∷ q) (tag_made t k))) s h x bs e
 head_after_took marker.FixExt2 s h x bs e = took_tag 2 0xd5 (λ t k. inr (inl (refl, fits_signed w8 t k, ap (λ q. 0xd5 ∷ q) (tag_made t k)))) s h x bs e
 head_after_took marker.FixExt4 s h x bs e = took_tag 4 0xd6 (λ t k. inr (inr (inl (refl, fits_signed w8 t k, ap (λ q. 0xd6 ∷ q) (tag_made t k))))) s h x bs e
-head_after_took marker.FixExt8 s h x bs e = took_tag 8 0xd7 (λ t k. inr (inr (inr (inl (refl, fits_signed w8 t k, ap (λ q. 0xd7 ∷ q) (tag_made t k)))))) s h x bs e
-head_after_took marker.FixExt16 s h x bs e = took_tag 16 0xd8 (λ t k. inr (inr (inr (inr (inl (refl, fits_signed w8 t k, ap (λ q. 0xd8 ∷ q) (tag_made t k))))))) s h x bs e
+head_after_took marker.FixExt8 s h x bs e = took_tag 8 0xd7 (λ t k. inr (inr (inr (inl (refl, fits_signed w8 t k, ap (λ q. 0xd7 ∷ q) (tag_made t k)))))) s h
+    x bs e
+head_after_took marker.FixExt16 s h x bs e = took_tag 16 0xd8
+    (λ t k. inr (inr (inr (inr (inl (refl, fits_signed w8 t k, ap (λ q. 0xd8 ∷ q) (tag_made t k))))))) s h x bs e
 head_after_took marker.Ext8 s h x bs e = took_wide_ext w8 spelled_8 0xc7 (λ n tag k l. inr (inr (inr (inr (inr (inl (k, l, refl))))))) s h x bs e
 head_after_took marker.Ext16 s h x bs e = took_wide_ext w16 spelled_16 0xc8 (λ n tag k l. inr (inr (inr (inr (inr (inr (inl (k, l, refl)))))))) s h x bs e
 head_after_took marker.Ext32 s h x bs e = took_wide_ext w32 spelled_32 0xc9 (λ n tag k l. inr (inr (inr (inr (inr (inr (inr (k, l, refl)))))))) s h x bs e

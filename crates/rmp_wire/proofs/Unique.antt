@@ -6,7 +6,30 @@ use Rattle.std.proofs.lemmas.Option.{some_pair_parts}
 use Rattle.rmp_wire.specs.declared.head.Head.{Head}
 use Rattle.rmp_wire.specs.declared.head.Head.TheVariants.{Nil, Truth, Whole, F32Bits, F64Bits, Text, Bin, Array, Map, Ext}
 use Rattle.rmp_wire.specs.Heads.{IsHead}
-use Rattle.rmp_wire.specs.Msg.{Msg, nil, truth, whole, float32, float64, text, bin, list, map, extension, Msgs, no_items, item, Pairs, no_pairs, pair, count, count_pairs, depth, depth_all, depth_pairs}
+use Rattle.rmp_wire.specs.Msg.{
+  Msg,
+  nil,
+  truth,
+  whole,
+  float32,
+  float64,
+  text,
+  bin,
+  list,
+  map,
+  extension,
+  Msgs,
+  no_items,
+  item,
+  Pairs,
+  no_pairs,
+  pair,
+  count,
+  count_pairs,
+  depth,
+  depth_all,
+  depth_pairs,
+}
 use Rattle.rmp_wire.specs.Spelling.{Joined, IsContent, Spells, SpellsAll, SpellsPairs}
 use Rattle.rmp_wire.specs.Taking.{take_head, take_bytes, take_items, take_pairs, take_rest, take_msg, take_map, take_then, Takes}
 use Rattle.rmp_wire.proofs.Heads.{take_head_takes}
@@ -18,12 +41,14 @@ take_bytes_gives s t x e =
     rw (e, long, take_at s x (length s) refl, drop_at s x (length s) refl) refl
 
 -- a head that is taken, and then the rest
-take_joined : {A : Type 0} (f : Head → Takes A) (h : Head) (Q : List ℕ → Type 0) (b x : List ℕ) (r : Option (A × List ℕ)) (j : Joined (IsHead h) Q b) → f h (j.second ++ x) ≡ r → take_then (take_head (b ++ x)) f ≡ r
+take_joined : {A : Type 0} (f : Head → Takes A) (h : Head) (Q : List ℕ → Type 0) (b x : List ℕ) (r : Option (A × List ℕ)) (j : Joined (IsHead h) Q b)
+    → f h (j.second ++ x) ≡ r → take_then (take_head (b ++ x)) f ≡ r
 take_joined f h Q b x r j e =
     let split : b ++ x ≡ j.first ++ (j.second ++ x) = ap (λ t. t ++ x) j.is_whole ∙ append_assoc j.first j.second x in
     ap (λ t. take_then (take_head t) f) split ∙ ap (λ t. take_then t f) (take_head_takes h j.first (j.second ++ x) j.is_first) ∙ e
 
-take_alone : {A : Type 0} (f : Head → Takes A) (h : Head) (b x : List ℕ) (r : Option (A × List ℕ)) → IsHead h b → f h x ≡ r → take_then (take_head (b ++ x)) f ≡ r
+take_alone : {A : Type 0} (f : Head → Takes A) (h : Head) (b x : List ℕ) (r : Option (A × List ℕ)) → IsHead h b → f h x ≡ r
+    → take_then (take_head (b ++ x)) f ≡ r
 take_alone f h b x r p e = ap (λ t. take_then t f) (take_head_takes h b x p) ∙ e
 
 -- one part, and then the rest
@@ -54,8 +79,10 @@ take_msg_is (suc d) bytes = refl
 take_leaf : (d : ℕ) (h : Head) (m : Msg) (b x : List ℕ) → ((rest : List ℕ) → rest_at d h rest ≡ Some (m, rest)) → IsHead h b → take_msg d (b ++ x) ≡ Some (m, x)
 take_leaf d h m b x e s = take_msg_is d (b ++ x) ∙ take_alone (rest_at d) h b x _ s (e x)
 
-take_content : (d : ℕ) (h : Head) (m : List ℕ → Msg) (t b x : List ℕ) → ((rest : List ℕ) → rest_at d h rest ≡ take_map m (take_bytes (length t) rest)) → Joined (IsHead h) (IsContent t) b → take_msg d (b ++ x) ≡ Some (m t, x)
-take_content d h m t b x e s = take_msg_is d (b ++ x) ∙ take_joined (rest_at d) h _ b x _ s (e (s.second ++ x) ∙ ap (take_map m) (take_bytes_gives t s.second x s.is_second.0))
+take_content : (d : ℕ) (h : Head) (m : List ℕ → Msg) (t b x : List ℕ) → ((rest : List ℕ) → rest_at d h rest ≡ take_map m (take_bytes (length t) rest))
+    → Joined (IsHead h) (IsContent t) b → take_msg d (b ++ x) ≡ Some (m t, x)
+take_content d h m t b x e s = take_msg_is d (b ++ x)
+    ∙ take_joined (rest_at d) h _ b x _ s (e (s.second ++ x) ∙ ap (take_map m) (take_bytes_gives t s.second x s.is_second.0))
 
 mutual
   unfolding take_rest rest_at some_items some_pairs take_items take_pairs
@@ -70,22 +97,27 @@ mutual
   take_msg_takes (bin t) d b x s l = take_content d (Bin (length t)) bin t b x (λ rest. refl) s
   take_msg_takes (list ms) zero b x s l = absurd (omega arith)
   take_msg_takes (list ms) (suc d) b x s l =
-      take_msg_is (suc d) (b ++ x) ∙ take_joined (rest_at (suc d)) (Array (count ms)) _ b x _ s (ap (take_map list) (take_items_takes ms d s.second x s.is_second (omega arith)))
+      take_msg_is (suc d) (b ++ x) ∙ take_joined (rest_at (suc d)) (Array (count ms)) _ b x _ s
+      (ap (take_map list) (take_items_takes ms d s.second x s.is_second (omega arith)))
   take_msg_takes (map ps) zero b x s l = absurd (omega arith)
   take_msg_takes (map ps) (suc d) b x s l =
-      take_msg_is (suc d) (b ++ x) ∙ take_joined (rest_at (suc d)) (Map (count_pairs ps)) _ b x _ s (ap (take_map map) (take_pairs_takes ps d s.second x s.is_second (omega arith)))
+      take_msg_is (suc d) (b ++ x) ∙ take_joined (rest_at (suc d)) (Map (count_pairs ps)) _ b x _ s
+      (ap (take_map map) (take_pairs_takes ps d s.second x s.is_second (omega arith)))
   take_msg_takes (extension tag t) d b x s l = take_content d (Ext (length t) tag) (extension tag) t b x (λ rest. refl) s
 
   pub take_items_takes : (ms : Msgs) (d : ℕ) (b x : List ℕ) → SpellsAll b ms → depth_all ms ≤ d → take_items (take_msg d) (count ms) (b ++ x) ≡ Some (ms, x)
   take_items_takes no_items d b x s l = rw s refl
   take_items_takes (item m ms) d b x s l =
-      take_part (take_msg d) _ m _ _ b x _ s (take_msg_takes m d s.first (s.second ++ x) s.is_first (omega arith)) (ap (take_map (item m)) (take_items_takes ms d s.second x s.is_second (omega arith)))
+      take_part (take_msg d) _ m _ _ b x _ s (take_msg_takes m d s.first (s.second ++ x) s.is_first (omega arith))
+      (ap (take_map (item m)) (take_items_takes ms d s.second x s.is_second (omega arith)))
 
-  pub take_pairs_takes : (ps : Pairs) (d : ℕ) (b x : List ℕ) → SpellsPairs b ps → depth_pairs ps ≤ d → take_pairs (take_msg d) (count_pairs ps) (b ++ x) ≡ Some (ps, x)
+  pub take_pairs_takes : (ps : Pairs) (d : ℕ) (b x : List ℕ) → SpellsPairs b ps → depth_pairs ps ≤ d
+      → take_pairs (take_msg d) (count_pairs ps) (b ++ x) ≡ Some (ps, x)
   take_pairs_takes no_pairs d b x s l = rw s refl
   take_pairs_takes (pair k v ps) d b x s l =
       take_part (take_msg d) _ k _ _ b x _ s (take_msg_takes k d s.first (s.second ++ x) s.is_first (omega arith))
-      (take_part (take_msg d) _ v _ _ s.second x _ s.is_second (take_msg_takes v d s.is_second.first (s.is_second.second ++ x) s.is_second.is_first (omega arith))
+      (take_part (take_msg d) _ v _ _ s.second x _ s.is_second
+      (take_msg_takes v d s.is_second.first (s.is_second.second ++ x) s.is_second.is_first (omega arith))
       (ap (take_map (pair k v)) (take_pairs_takes ps d s.is_second.second x s.is_second.is_second (omega arith))))
 
 -- At most one beginning of an input spells a message, and one message.

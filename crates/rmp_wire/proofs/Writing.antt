@@ -15,17 +15,20 @@ use Rattle.rmp_wire.specs.Sinks.{next_fault, StopsAfter, Puts}
 use Rattle.rmp_wire.proofs.Told.{puts_done, puts_part}
 
 -- the same write, of bytes that are equal
-pub puts_as : {A : Type 0} {m : Bool} {bs cs : List ℕ} {a b : Option (List ℕ)} {f g : ℕ} {r : Result A ValueWriteError} → bs ≡ cs → Puts m bs a b f g r → Puts m cs a b f g r
+pub puts_as : {A : Type 0} {m : Bool} {bs cs : List ℕ} {a b : Option (List ℕ)} {f g : ℕ} {r : Result A ValueWriteError} → bs ≡ cs → Puts m bs a b f g r
+    → Puts m cs a b f g r
 puts_as {m} {a} {b} {f} {g} {r} e p = subst (λ l. Puts m l a b f g r) e p
 
 -- why a second piece stopped is why both did
-stops_later : (m : Bool) (f g h : ℕ) (bs part : List ℕ) (e : ValueWriteError) → 0 < length bs → g ≡ f → StopsAfter m g h part e → StopsAfter m f h (bs ++ part) (past_first e)
+stops_later : (m : Bool) (f g h : ℕ) (bs part : List ℕ) (e : ValueWriteError) → 0 < length bs → g ≡ f → StopsAfter m g h part e
+    → StopsAfter m f h (bs ++ part) (past_first e)
 stops_later m f g h bs part (InvalidMarkerWrite fault) some same c = (omega (arith, length-append bs part), c.1 ∙ ap next_fault same)
 stops_later m f g h bs part (InvalidDataWrite fault) some same c = (omega (arith, length-append bs part), c.1 ∙ ap next_fault same)
 stops_later m f g h bs part OutOfMemory some same c = (c.0 ∙ same, c.1)
 
 -- two pieces were taken whole, one after the other
-pub puts_both : {A B : Type 0} {m : Bool} {bs cs : List ℕ} {a b c : Option (List ℕ)} {f g h : ℕ} {u : B} {v : A} → Puts m bs a b f g (Ok u) → Puts m cs b c g h (Ok v) → Puts m (bs ++ cs) a c f h (Ok v)
+pub puts_both : {A B : Type 0} {m : Bool} {bs cs : List ℕ} {a b c : Option (List ℕ)} {f g h : ℕ} {u : B} {v : A} → Puts m bs a b f g (Ok u)
+    → Puts m cs b c g h (Ok v) → Puts m (bs ++ cs) a c f h (Ok v)
 puts_both {bs} {cs} {a} {b} {c} p q = puts_done (Appends-trans a b c bs cs p.whole q.whole) (q.sound ∙ p.sound)
 
 -- a piece that isn't empty was taken whole, and the next was not
@@ -41,7 +44,8 @@ puts_then_stop {m} {bs} {cs} {a} {b} {c} {f} {g} {h} {e} some p q =
     })
 
 -- a piece was not taken whole, and more was to come
-pub puts_stop : {A B : Type 0} {m : Bool} {bs : List ℕ} {a b : Option (List ℕ)} {f g : ℕ} {e : ValueWriteError} (cs : List ℕ) → Puts {A = A} m bs a b f g (Err e) → Puts {A = B} m (bs ++ cs) a b f g (Err e)
+pub puts_stop : {A B : Type 0} {m : Bool} {bs : List ℕ} {a b : Option (List ℕ)} {f g : ℕ} {e : ValueWriteError} (cs : List ℕ)
+    → Puts {A = A} m bs a b f g (Err e) → Puts {A = B} m (bs ++ cs) a b f g (Err e)
 puts_stop {m} {bs} {a} {b} {f} {g} {e} cs p =
     puts_part (record {
       part = p.stops.part;

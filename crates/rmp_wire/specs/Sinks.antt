@@ -37,7 +37,8 @@ pub record PutsPart (takes_memory : Bool) (bytes : List ℕ) (told told' : Optio
   pub cause : StopsAfter takes_memory faults faults' part e
 
 -- At `Ok` all the bytes were taken and no fault was counted. At an error a beginning of them was taken.
-pub record Puts {A : Type 0} (takes_memory : Bool) (bytes : List ℕ) (told told' : Option (List ℕ)) (faults faults' : ℕ) (r : Result A ValueWriteError) : Type 0 where
+pub record Puts {A : Type 0} (takes_memory : Bool) (bytes : List ℕ) (told told' : Option (List ℕ)) (faults faults' : ℕ) (r : Result A ValueWriteError) :
+    Type 0 where
   pub whole : OnOk r (Appends told told' bytes)
   pub sound : OnOk r (faults' ≡ faults)
   pub stops : IfErr r (PutsPart takes_memory bytes told told' faults faults')

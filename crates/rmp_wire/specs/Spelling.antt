@@ -4,7 +4,27 @@ use Rattle.std.specs.List.{AllByRecursion}
 use Rattle.rmp_wire.specs.declared.head.Head.{Head}
 use Rattle.rmp_wire.specs.declared.head.Head.TheVariants.{Nil, Truth, Whole, F32Bits, F64Bits, Text, Bin, Array, Map, Ext}
 use Rattle.rmp_wire.specs.Heads.{IsHead, canon_head, fits_head}
-use Rattle.rmp_wire.specs.Msg.{Msg, nil, truth, whole, float32, float64, text, bin, list, map, extension, Msgs, no_items, item, Pairs, no_pairs, pair, count, count_pairs}
+use Rattle.rmp_wire.specs.Msg.{
+  Msg,
+  nil,
+  truth,
+  whole,
+  float32,
+  float64,
+  text,
+  bin,
+  list,
+  map,
+  extension,
+  Msgs,
+  no_items,
+  item,
+  Pairs,
+  no_pairs,
+  pair,
+  count,
+  count_pairs,
+}
 
 abbrev pub IsBytes : List ℕ → Type 0
 IsBytes bytes = AllByRecursion (λ b. b < 256) bytes

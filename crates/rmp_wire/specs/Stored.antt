@@ -94,7 +94,8 @@ mutual
   load gnil = nil
   load (gnum n) = nil
   load (gcons a b) =
-      slice_index_or (truth (load_bool b) ∷ whole (load_int b) ∷ float32 (num b) ∷ float64 (num b) ∷ text (load_bytes b) ∷ bin (load_bytes b) ∷ list (load_all b) ∷ map (load_pairs b) ∷ load_extension b ∷ []) (num a) nil
+      slice_index_or (truth (load_bool b) ∷ whole (load_int b) ∷ float32 (num b) ∷ float64 (num b) ∷ text (load_bytes b) ∷ bin (load_bytes b)
+      ∷ list (load_all b) ∷ map (load_pairs b) ∷ load_extension b ∷ []) (num a) nil
 
   load_all : Gv → Msgs
   load_all gnil = no_items

@@ -1,5 +1,30 @@
 -- What stands at the beginning of bytes: a marker, a head, and a message within a depth. Each is a function, since no head begins a different head.
-use Rattle.std.specs.Prelude.{ℕ, zero, suc, ◌+◌, ◌-◌, ◌%◌, List, [], ◌∷◌, cond, nat_lt, pos, negsuc, Option, Some, None, option_map, option_and_then, length, take, drop, slice_index_or, false, true}
+use Rattle.std.specs.Prelude.{
+  ℕ,
+  zero,
+  suc,
+  ◌+◌,
+  ◌-◌,
+  ◌%◌,
+  List,
+  [],
+  ◌∷◌,
+  cond,
+  nat_lt,
+  pos,
+  negsuc,
+  Option,
+  Some,
+  None,
+  option_map,
+  option_and_then,
+  length,
+  take,
+  drop,
+  slice_index_or,
+  false,
+  true,
+}
 use Rattle.std.specs.Int.{Width, w8, w16, w32, w64, from_be_bytes, byte_len, cast_signed, cast_unsigned}
 use Rattle.rmp_wire.specs.declared.head.Head.{Head}
 use Rattle.rmp_wire.specs.declared.head.Head.TheVariants.{Nil, Truth, Whole, F32Bits, F64Bits, Text, Bin, Array, Map, Ext}
@@ -18,7 +43,8 @@ named_markers =
 -- the marker that a first byte is
 unfoldable pub marker_of : ℕ → Marker
 marker_of b =
-    cond (nat_lt b 0x80) (marker.FixPos b) (cond (nat_lt b 0x90) (marker.FixMap (b - 0x80)) (cond (nat_lt b 0xa0) (marker.FixArray (b - 0x90)) (cond (nat_lt b 0xc0) (marker.FixStr (b - 0xa0))
+    cond (nat_lt b 0x80) (marker.FixPos b) (cond (nat_lt b 0x90) (marker.FixMap (b - 0x80))
+    (cond (nat_lt b 0xa0) (marker.FixArray (b - 0x90)) (cond (nat_lt b 0xc0) (marker.FixStr (b - 0xa0))
     (cond (nat_lt b 0xe0) (slice_index_or named_markers (b - 0xc0) marker.Reserved) (marker.FixNeg (negsuc (0xff - b)))))))
 
 -- the byte of a marker; a payload out of range gives its low bits

@@ -62,7 +62,8 @@ pub trait ReadSlice<'de>: Source {
     /// # Errors
     /// `Io` with `UnexpectedEof` where fewer are ahead, and else the source's fault; `Memory` where a copy found no room.
     fn read_slice<'a>(&'a mut self, len: usize) -> Result<Reference<'de, 'a>, SourceFault>
-        ensures* after { sem 𝓛 (Rests Self.row self.entry (λ new. SliceRead (Self.ahead self.old) (Self.ahead new) (Self.faults self.old) (Self.faults new) len result
+        ensures* after { sem 𝓛 (Rests Self.row self.entry (λ new. SliceRead (Self.ahead self.old) (Self.ahead new) (Self.faults self.old) (Self.faults new)
+            len result
             × leaves self.old new len result × (Self.place new ≡ Self.place self.old))) }
         ensures count { IfOk result (λ r. length (reference_bytes r) ≡ len) }
         ensures bytes { IfOk result (λ r. IsBytes (reference_bytes r)) }

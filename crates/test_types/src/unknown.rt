@@ -26,7 +26,8 @@ fn list_of<W: Sink, C: SerializerConfig, T: Serialize>(
     se: &mut Serializer<W, C>,
     values: &[T],
 ) -> Result<(), Error>
-    ensures writes { WritesTree W.Sink true (tree_of (settings_of se.old) (sequence_of (map (λ x. T.data_of x (settings_of se.old).human) values.now))) (sink_of se.old) (sink_of se.new) result }
+    ensures writes { WritesTree W.Sink true (tree_of (settings_of se.old) (sequence_of (map (λ x. T.data_of x (settings_of se.old).human) values.now)))
+        (sink_of se.old) (sink_of se.new) result }
     ensures keeps { Keeps W.Sink se.old se.new }
     ensures value { OnOk result (All T.is_value values.now) }
 {

@@ -43,7 +43,8 @@ pub trait Fields<'de, R: ReadSlice<'de>>: Sized + Drop {
     ghost takes: { Bool → Bool → ℕ → Msg → Type 0 };
 
     // A tree of fields that are read is one of those.
-    ghost taken: { (human lends : Bool) (fs : List (Option Msg)) (v : Self) (n : ℕ) (m : Msg) → reads human lends fs v → at n fs ≡ Some m → takes human lends n m };
+    ghost taken: { (human lends : Bool) (fs : List (Option Msg)) (v : Self) (n : ℕ) (m : Msg) → reads human lends fs v → at n fs ≡ Some m
+        → takes human lends n m };
 
     // What each field wants, in order.
     ghost parts: { List Part };
@@ -75,13 +76,16 @@ pub trait Fields<'de, R: ReadSlice<'de>>: Sized + Drop {
         requires still { IsMapOpen map.old }
         ensures same_reference { map.new.de.ghost_name ≡ map.old.de.ghost_name }
         ensures ok { OnOk result (Fills R.Source (holds (C.human (config_of (map_lender map.old))) R.lends) place map.old map.new slots.old slots.new) }
-        ensures err { IfErr result (λ e. FailsPart R.Source (λ m (u : Unit {0}). takes (C.human (config_of (map_lender map.old))) R.lends place m) (map_inner map.old) (map_lender map.old) (map_lender map.new) e
+        ensures err { IfErr result (λ e. FailsPart R.Source (λ m (u : Unit {0}). takes (C.human (config_of (map_lender map.old))) R.lends place m)
+            (map_inner map.old) (map_lender map.old) (map_lender map.new) e
             ⊎ IsFull (holds (C.human (config_of (map_lender map.old))) R.lends) place map.old map.new slots.old) }
-        ensures refused { IfErr result (FillRefused R.Source (C.human (config_of (map_lender map.old))) R.lends (holds (C.human (config_of (map_lender map.old))) R.lends) parts place map.old map.new slots.old) };
+        ensures refused { IfErr result (FillRefused R.Source (C.human (config_of (map_lender map.old))) R.lends
+            (holds (C.human (config_of (map_lender map.old))) R.lends) parts place map.old map.new slots.old) };
 
     /// The values, or `None` where one is missing.
     fn finish(slots: Self::Slots) -> Option<Self>
-        ensures { (human lends : Bool) (fs : List (Option Msg)) → holds human lends fs slots → MatchOption result ((v : Self) → reads human lends fs v → ⊥) (reads human lends fs) };
+        ensures { (human lends : Bool) (fs : List (Option Msg)) → holds human lends fs slots
+            → MatchOption result ((v : Self) → reads human lends fs v → ⊥) (reads human lends fs) };
 
     /// Reads the elements of a list as the fields.
     ///
@@ -91,7 +95,8 @@ pub trait Fields<'de, R: ReadSlice<'de>>: Sized + Drop {
         requires { IsOpen seq.old }
         ensures same_reference { seq.new.de.ghost_name ≡ seq.old.de.ghost_name }
         ensures ok { IfOk result (TakesParts R.Source (λ v ms. reads (C.human (config_of (lender_of seq.old))) R.lends (given_all ms) v) seq.old seq.new) }
-        ensures err { IfErr result (FailsParts {V = Self} R.Source (λ v ms. reads (C.human (config_of (lender_of seq.old))) R.lends (given_all ms) v) seq.old seq.new) }
+        ensures err { IfErr result (FailsParts {V = Self} R.Source (λ v ms. reads (C.human (config_of (lender_of seq.old))) R.lends (given_all ms) v)
+            seq.old seq.new) }
         ensures refused { IfErr result (PartsRefused R.Source (C.human (config_of (lender_of seq.old))) R.lends parts seq.old seq.new) };
 }
 
@@ -163,7 +168,8 @@ impl<'de, R: ReadSlice<'de>, A: Deserialize<'de, R>, B: Fields<'de, R>> Fields<'
 
     ghost takes = { λ human lends. FieldTakes (A.reads human lends) (B.takes human lends) };
 
-    ghost taken = { λ human lends fs v. field_taken (A.reads human lends) (A.absent) (B.reads human lends) (B.takes human lends) (B.taken human lends) fs v.0 v.1 };
+    ghost taken = { λ human lends fs v. field_taken (A.reads human lends) (A.absent) (B.reads human lends) (B.takes human lends) (B.taken human lends) fs
+        v.0 v.1 };
 
     ghost parts = { part_of A.reads A.refuses ∷ B.parts };
 
@@ -173,7 +179,8 @@ impl<'de, R: ReadSlice<'de>, A: Deserialize<'de, R>, B: Fields<'de, R>> Fields<'
 
     ghost given = { λ s fs v. field_held A.reads A.refuses B.reads B.parts B.given A.absent s fs v.0 v.1 };
 
-    ghost counted = { λ human lends fs v. field_counted (λ m. A.reads human lends m v.0) (Absent A.absent v.0) (λ gs. B.reads human lends gs v.1) (λ gs. B.counted human lends gs v.1) fs };
+    ghost counted = { λ human lends fs v. field_counted (λ m. A.reads human lends m v.0) (Absent A.absent v.0) (λ gs. B.reads human lends gs v.1)
+        (λ gs. B.counted human lends gs v.1) fs };
 
     fn empty() -> (Option<A>, B::Slots) {
         (None, B::empty())
@@ -334,7 +341,8 @@ impl<R: Source, C: SerializerConfig> Deserializer<R, C> {
     // Opens a list, bytes as the list of their numbers, or a map.
     #[inline(always)]
     fn open_fields(&mut self) -> Result<FieldParts<'_, R, C>, Error>
-        ensures* refused { sem 𝓛 (RestsIfErr (the_row R.row C.row) self.entry parts_name result (λ last. IfErr result (FailsToOpenFields R.Source self.old last))) }
+        ensures* refused { sem 𝓛 (RestsIfErr (the_row R.row C.row) self.entry parts_name result
+            (λ last. IfErr result (FailsToOpenFields R.Source self.old last))) }
         ensures same_reference { IfOk result (λ a. parts_name a ≡ self.entry.ghost_name) }
         ensures opened { IfOk result (OpensFields R.Source self.old) }
     {
@@ -373,8 +381,10 @@ impl<R: Source, C: SerializerConfig> Deserializer<R, C> {
     where
         R: ReadSlice<'de>,
         requires count { length names.now ≡ F.count }
-        ensures law { Lawful R.Source (λ m v. OfFields (bytes_of names.now) (λ fs. F.reads (C.human (config_of self.old)) R.lends fs v) m) self.old self.new result }
-        ensures refused { RefusesAs R.Source (C.human (config_of self.old)) R.lends (RefusesFields (bytes_of names.now) F.reads F.parts) self.old self.new result }
+        ensures law { Lawful R.Source (λ m v. OfFields (bytes_of names.now) (λ fs. F.reads (C.human (config_of self.old)) R.lends fs v) m) self.old self.new
+            result }
+        ensures refused { RefusesAs R.Source (C.human (config_of self.old)) R.lends (RefusesFields (bytes_of names.now) F.reads F.parts) self.old self.new
+            result }
     {
         match self.open_fields() {
             Ok(FieldParts::Seq(mut seq)) => {
@@ -426,8 +436,11 @@ impl<'x, R: Source, C: SerializerConfig> MapAccess<'x, R, C> {
         ensures same_reference { self.new.de.ghost_name ≡ self.old.de.ghost_name }
         ensures none { IfOk result (λ o. IfNone o ((pairs_left self.old ≡ 0) × (self.new ≡ self.old))) }
         ensures some { IfOk result (λ o. IfSome o (TakesKey R.Source (IsName (bytes_of names.now)) self.old self.new)) }
-        ensures err { is_map_sound self.old ≡ true → IfErr result (λ e. (0 < pairs_left self.old) × FailsPart R.Source (IsName (bytes_of names.now)) (map_inner self.old) (map_lender self.old) (map_lender self.new) e) }
-        ensures refused { is_map_sound self.old ≡ true → IfErr result (KeyRefused R.Source (C.human (config_of (map_lender self.old))) R.lends name_refusal self.old self.new) }
+        ensures err { is_map_sound self.old ≡ true → IfErr result
+            (λ e. (0 < pairs_left self.old) × FailsPart R.Source (IsName (bytes_of names.now)) (map_inner self.old) (map_lender self.old)
+            (map_lender self.new) e) }
+        ensures refused { is_map_sound self.old ≡ true → IfErr result
+            (KeyRefused R.Source (C.human (config_of (map_lender self.old))) R.lends name_refusal self.old self.new) }
         ensures memory { R.lends ≡ true → IfErr result (λ e. e ≢ Error.OutOfMemory) }
         ensures failed { OnErr result (is_map_sound self.new ≡ false) }
         ensures before { is_map_sound self.old ≡ false → MatchResult result (λ _. ⊥) IsFailedBefore × (self.new ≡ self.old) }

@@ -76,7 +76,8 @@ impl<R: Source, C: SerializerConfig> Deserializer<R, C> {
     /// `Syntax("invalid type")` for another kind, and `DepthLimitExceeded` for a map that would nest too deep.
     #[inline(always)]
     pub fn deserialize_map(&mut self) -> Result<MapAccess<'_, R, C>, Error>
-        ensures* refused { sem 𝓛 (RestsIfErr (the_row R.row C.row) self.entry (λ a. a.de.ghost_name) result (λ last. IfErr result (FailsToOpenMap R.Source self.old last))) }
+        ensures* refused { sem 𝓛 (RestsIfErr (the_row R.row C.row) self.entry (λ a. a.de.ghost_name) result
+            (λ last. IfErr result (FailsToOpenMap R.Source self.old last))) }
         ensures same_reference { IfOk result (λ a. a.de.ghost_name ≡ self.entry.ghost_name) }
         ensures opened { IfOk result (OpensMap R.Source self.old) }
     {
@@ -121,8 +122,11 @@ impl<'x, R: Source, C: SerializerConfig> MapAccess<'x, R, C> {
         ensures same_reference { self.new.de.ghost_name ≡ self.old.de.ghost_name }
         ensures none { IfOk result (λ o. IfNone o ((pairs_left self.old ≡ 0) × (self.new ≡ self.old))) }
         ensures some { IfOk result (λ o. IfSome o (TakesKey R.Source (K.reads (C.human (config_of (map_lender self.old))) R.lends) self.old self.new)) }
-        ensures err { is_map_sound self.old ≡ true → IfErr result (λ e. (0 < pairs_left self.old) × FailsPart R.Source (K.reads (C.human (config_of (map_lender self.old))) R.lends) (map_inner self.old) (map_lender self.old) (map_lender self.new) e) }
-        ensures refused { is_map_sound self.old ≡ true → IfErr result (KeyRefused R.Source (C.human (config_of (map_lender self.old))) R.lends K.refuses self.old self.new) }
+        ensures err { is_map_sound self.old ≡ true → IfErr result
+            (λ e. (0 < pairs_left self.old) × FailsPart R.Source (K.reads (C.human (config_of (map_lender self.old))) R.lends) (map_inner self.old)
+            (map_lender self.old) (map_lender self.new) e) }
+        ensures refused { is_map_sound self.old ≡ true → IfErr result
+            (KeyRefused R.Source (C.human (config_of (map_lender self.old))) R.lends K.refuses self.old self.new) }
         ensures memory { K.takes_memory R.lends ≡ false → IfErr result (λ e. e ≢ Error.OutOfMemory) }
         ensures failed { OnErr result (is_map_sound self.new ≡ false) }
         ensures before { is_map_sound self.old ≡ false → MatchResult result (λ _. ⊥) IsFailedBefore × (self.new ≡ self.old) }
@@ -153,8 +157,11 @@ impl<'x, R: Source, C: SerializerConfig> MapAccess<'x, R, C> {
         requires { AtValue self.old }
         ensures same_reference { self.new.de.ghost_name ≡ self.old.de.ghost_name }
         ensures ok { IfOk result (TakesValue R.Source (V.reads (C.human (config_of (map_lender self.old))) R.lends) self.old self.new) }
-        ensures err { is_map_sound self.old ≡ true → IfErr result (FailsPart R.Source (V.reads (C.human (config_of (map_lender self.old))) R.lends) (map_inner self.old) (map_lender self.old) (map_lender self.new)) }
-        ensures refused { is_map_sound self.old ≡ true → IfErr result (EntryRefused R.Source (C.human (config_of (map_lender self.old))) R.lends V.refuses self.old self.new) }
+        ensures err { is_map_sound self.old ≡ true → IfErr result
+            (FailsPart R.Source (V.reads (C.human (config_of (map_lender self.old))) R.lends) (map_inner self.old) (map_lender self.old)
+            (map_lender self.new)) }
+        ensures refused { is_map_sound self.old ≡ true → IfErr result
+            (EntryRefused R.Source (C.human (config_of (map_lender self.old))) R.lends V.refuses self.old self.new) }
         ensures memory { V.takes_memory R.lends ≡ false → IfErr result (λ e. e ≢ Error.OutOfMemory) }
         ensures failed { OnErr result (is_map_sound self.new ≡ false) }
         ensures before { is_map_sound self.old ≡ false → MatchResult result (λ _. ⊥) IsFailedBefore × (self.new ≡ self.old) }
@@ -183,7 +190,8 @@ impl<'x, R: Source, C: SerializerConfig> MapAccess<'x, R, C> {
     pub fn end(self) -> Result<(), Error>
         requires { AtKey self }
         ensures ok { IsMapOpen self.entry → OnOk result ((pairs_left self.entry ≡ 0) × (self.exit.0.now ≡ record (map_lender self.entry) { failed = false })) }
-        ensures err { IsMapOpen self.entry → IfErr result (λ e. (0 < pairs_left self.entry) × (self.exit.0.now ≡ map_lender self.entry) × (e ≡ Error.LengthMismatch (pairs_in self.entry - pairs_left self.entry))) }
+        ensures err { IsMapOpen self.entry → IfErr result (λ e. (0 < pairs_left self.entry) × (self.exit.0.now ≡ map_lender self.entry)
+            × (e ≡ Error.LengthMismatch (pairs_in self.entry - pairs_left self.entry))) }
         ensures before { is_map_sound self.entry ≡ false → MatchResult result (λ _. ⊥) IsFailedBefore × (self.exit.0.now ≡ map_lender self.entry) }
     {
         let MapAccess {

@@ -51,7 +51,8 @@ pub(crate) fn next_place<'de, R: ReadSlice<'de>>(
     names: &[&str],
     len: usize,
 ) -> Result<Option<usize>, Error>
-    ensures ok { IfOk result (λ p. (s : List ℕ) × (length s ≡ len) × IsBytes s × Consumes (R.ahead reader.old) (R.ahead reader.new) s × (p ≡ place_of (bytes_of names.now) s)) }
+    ensures ok { IfOk result (λ p. (s : List ℕ) × (length s ≡ len) × IsBytes s × Consumes (R.ahead reader.old) (R.ahead reader.new) s
+        × (p ≡ place_of (bytes_of names.now) s)) }
     ensures sound { OnOk result (R.faults reader.new ≡ R.faults reader.old) }
     ensures err { IfErr result (λ e. Explains e (R.faults reader.old) (R.faults reader.new) (IsShort len (R.ahead reader.old))) }
     ensures end { IfErr result (λ e. Explains e (R.faults reader.old) (R.faults reader.new) (IsDataEnd e)) }

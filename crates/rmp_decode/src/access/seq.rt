@@ -112,7 +112,8 @@ impl<R: Source, C: SerializerConfig> Deserializer<R, C> {
     /// `Syntax("invalid type")` for another kind, and `DepthLimitExceeded` for a list that would nest too deep.
     #[inline(always)]
     pub fn deserialize_seq(&mut self) -> Result<SeqAccess<'_, R, C>, Error>
-        ensures* refused { sem 𝓛 (RestsIfErr (the_row R.row C.row) self.entry (λ s. s.de.ghost_name) result (λ last. IfErr result (FailsToOpen R.Source self.old last))) }
+        ensures* refused { sem 𝓛 (RestsIfErr (the_row R.row C.row) self.entry (λ s. s.de.ghost_name) result
+            (λ last. IfErr result (FailsToOpen R.Source self.old last))) }
         ensures same_reference { IfOk result (λ s. s.de.ghost_name ≡ self.entry.ghost_name) }
         ensures opened { IfOk result (Opens R.Source self.old) }
     {
@@ -137,7 +138,8 @@ impl<R: Source, C: SerializerConfig> Deserializer<R, C> {
     /// As `deserialize_seq`.
     #[inline(always)]
     pub fn deserialize_tuple(&mut self, _len: usize) -> Result<SeqAccess<'_, R, C>, Error>
-        ensures* refused { sem 𝓛 (RestsIfErr (the_row R.row C.row) self.entry (λ s. s.de.ghost_name) result (λ last. IfErr result (FailsToOpen R.Source self.old last))) }
+        ensures* refused { sem 𝓛 (RestsIfErr (the_row R.row C.row) self.entry (λ s. s.de.ghost_name) result
+            (λ last. IfErr result (FailsToOpen R.Source self.old last))) }
         ensures same_reference { IfOk result (λ s. s.de.ghost_name ≡ self.entry.ghost_name) }
         ensures opened { IfOk result (Opens R.Source self.old) }
     {
@@ -165,7 +167,8 @@ impl<R: Source, C: SerializerConfig> Deserializer<R, C> {
         _name: &str,
         len: usize,
     ) -> Result<SeqAccess<'_, R, C>, Error>
-        ensures* refused { sem 𝓛 (RestsIfErr (the_row R.row C.row) self.entry (λ s. s.de.ghost_name) result (λ last. IfErr result (FailsToOpen R.Source self.old last))) }
+        ensures* refused { sem 𝓛 (RestsIfErr (the_row R.row C.row) self.entry (λ s. s.de.ghost_name) result
+            (λ last. IfErr result (FailsToOpen R.Source self.old last))) }
         ensures same_reference { IfOk result (λ s. s.de.ghost_name ≡ self.entry.ghost_name) }
         ensures opened { IfOk result (Opens R.Source self.old) }
     {
@@ -219,7 +222,8 @@ impl<'x, R: Source, C: SerializerConfig> SeqAccess<'x, R, C> {
         ensures same_reference { self.new.de.ghost_name ≡ self.old.de.ghost_name }
         ensures ok { IsOpen self.old → IfOk result (TakesElement R.Source (T.reads (C.human (config_of (lender_of self.old))) R.lends) self.old self.new) }
         ensures err { IsOpen self.old → IfErr result (FailsToTake R.Source (T.reads (C.human (config_of (lender_of self.old))) R.lends) self.old self.new) }
-        ensures refused { IsOpen self.old → IfErr result (T.refuses (element_setting (C.human (config_of (lender_of self.old))) R.lends self.old) (faults_of R.Source (lender_of self.old)) (faults_of R.Source (lender_of self.new)) (left R.Source (lender_of self.old))) }
+        ensures refused { IsOpen self.old → IfErr result (T.refuses (element_setting (C.human (config_of (lender_of self.old))) R.lends self.old)
+            (faults_of R.Source (lender_of self.old)) (faults_of R.Source (lender_of self.new)) (left R.Source (lender_of self.old))) }
         ensures memory { T.takes_memory R.lends ≡ false → IfErr result (λ e. e ≢ Error.OutOfMemory) }
         ensures failed { OnErr result (is_sound self.new ≡ false) }
         ensures marked { is_failed (lender_of self.old) ≡ true → is_failed (lender_of self.new) ≡ true }
@@ -245,7 +249,8 @@ impl<'x, R: Source, C: SerializerConfig> SeqAccess<'x, R, C> {
         ensures same_reference { self.new.de.ghost_name ≡ self.old.de.ghost_name }
         ensures ok { IsOpen self.old → IfOk result (TakesElement R.Source (T.reads (C.human (config_of (lender_of self.old))) R.lends) self.old self.new) }
         ensures err { IsOpen self.old → IfErr result (FailsToTake R.Source (T.reads (C.human (config_of (lender_of self.old))) R.lends) self.old self.new) }
-        ensures refused { IsOpen self.old → IfErr result (ElementRefused R.Source (C.human (config_of (lender_of self.old))) R.lends T.refuses self.old self.new (left R.Source (lender_of self.old))) }
+        ensures refused { IsOpen self.old → IfErr result (ElementRefused R.Source (C.human (config_of (lender_of self.old))) R.lends T.refuses self.old
+            self.new (left R.Source (lender_of self.old))) }
         ensures memory { T.takes_memory R.lends ≡ false → IfErr result (λ e. e ≢ Error.OutOfMemory) }
         ensures failed { OnErr result (is_sound self.new ≡ false) }
         ensures marked { is_failed (lender_of self.old) ≡ true → is_failed (lender_of self.new) ≡ true }
@@ -272,9 +277,12 @@ impl<'x, R: Source, C: SerializerConfig> SeqAccess<'x, R, C> {
         R: ReadSlice<'de>,
         ensures same_reference { self.new.de.ghost_name ≡ self.old.de.ghost_name }
         ensures none { IsOpen self.old → IfOk result (λ o. IfNone o ((left_in self.old ≡ 0) × (self.new ≡ self.old))) }
-        ensures some { IsOpen self.old → IfOk result (λ o. IfSome o (TakesElement R.Source (T.reads (C.human (config_of (lender_of self.old))) R.lends) self.old self.new)) }
+        ensures some { IsOpen self.old → IfOk result (λ o. IfSome o
+            (TakesElement R.Source (T.reads (C.human (config_of (lender_of self.old))) R.lends) self.old self.new)) }
         ensures err { IsOpen self.old → IfErr result (FailsToTake R.Source (T.reads (C.human (config_of (lender_of self.old))) R.lends) self.old self.new) }
-        ensures refused { IsOpen self.old → IfErr result (WhereSome (ElementRefused R.Source (C.human (config_of (lender_of self.old))) R.lends T.refuses self.old self.new) (left_in self.old) (left R.Source (lender_of self.old))) }
+        ensures refused { IsOpen self.old → IfErr result (WhereSome
+            (ElementRefused R.Source (C.human (config_of (lender_of self.old))) R.lends T.refuses self.old self.new) (left_in self.old)
+            (left R.Source (lender_of self.old))) }
         ensures memory { T.takes_memory R.lends ≡ false → IfErr result (λ e. e ≢ Error.OutOfMemory) }
         ensures failed { OnErr result (is_sound self.new ≡ false) }
         ensures marked { is_failed (lender_of self.old) ≡ true → is_failed (lender_of self.new) ≡ true }
@@ -308,7 +316,9 @@ impl<'x, R: Source, C: SerializerConfig> SeqAccess<'x, R, C> {
         ensures same_reference { self.new.de.ghost_name ≡ self.old.de.ghost_name }
         ensures ok { IsOpen self.old → IfOk result (TakesElement R.Source (T.reads (C.human (config_of (lender_of self.old))) R.lends) self.old self.new) }
         ensures err { IsOpen self.old → IfErr result (FailsElement R.Source (T.reads (C.human (config_of (lender_of self.old))) R.lends) self.old self.new) }
-        ensures refused { IsOpen self.old → IfErr result (Wanted (ElementRefused R.Source (C.human (config_of (lender_of self.old))) R.lends T.refuses self.old self.new) (left_in self.old) (left R.Source (lender_of self.old))) }
+        ensures refused { IsOpen self.old → IfErr result (Wanted
+            (ElementRefused R.Source (C.human (config_of (lender_of self.old))) R.lends T.refuses self.old self.new) (left_in self.old)
+            (left R.Source (lender_of self.old))) }
         ensures memory { T.takes_memory R.lends ≡ false → IfErr result (λ e. e ≢ Error.OutOfMemory) }
         ensures failed { OnErr result (is_sound self.new ≡ false) }
         ensures marked { is_failed (lender_of self.old) ≡ true → is_failed (lender_of self.new) ≡ true }
@@ -331,7 +341,8 @@ impl<'x, R: Source, C: SerializerConfig> SeqAccess<'x, R, C> {
     #[inline(always)]
     pub fn end(self) -> Result<(), Error>
         ensures ok { IsOpen self.entry → OnOk result ((left_in self.entry ≡ 0) × (self.exit.0.now ≡ record (lender_of self.entry) { failed = false })) }
-        ensures err { IsOpen self.entry → IfErr result (λ e. (0 < left_in self.entry) × (self.exit.0.now ≡ lender_of self.entry) × (e ≡ Error.LengthMismatch (count_in self.entry - left_in self.entry))) }
+        ensures err { IsOpen self.entry → IfErr result (λ e. (0 < left_in self.entry) × (self.exit.0.now ≡ lender_of self.entry)
+            × (e ≡ Error.LengthMismatch (count_in self.entry - left_in self.entry))) }
         ensures before { is_sound self.entry ≡ false → MatchResult result (λ _. ⊥) IsFailedBefore × (self.exit.0.now ≡ lender_of self.entry) }
     {
         let SeqAccess {

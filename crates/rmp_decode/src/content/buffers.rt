@@ -67,7 +67,8 @@ impl<R: Source, C: SerializerConfig> Deserializer<R, C> {
     // Opens a list whose head was taken.
     #[inline(always)]
     fn open_behind(&mut self, len: u32) -> Result<SeqAccess<'_, R, C>, Error>
-        ensures* refused { sem 𝓛 (RestsIfErr (the_row R.row C.row) self.entry (λ s. s.de.ghost_name) result (λ last. IfErr result (λ e. (self.old.room ≤ 1) × (last ≡ self.old) × (e ≡ Error.DepthLimitExceeded)))) }
+        ensures* refused { sem 𝓛 (RestsIfErr (the_row R.row C.row) self.entry (λ s. s.de.ghost_name) result
+            (λ last. IfErr result (λ e. (self.old.room ≤ 1) × (last ≡ self.old) × (e ≡ Error.DepthLimitExceeded)))) }
         ensures same_reference { IfOk result (λ s. s.de.ghost_name ≡ self.entry.ghost_name) }
         ensures opened { IfOk result (IsBehind len self.old) }
     {
@@ -112,7 +113,8 @@ impl<'x, R: Source, C: SerializerConfig> SeqAccess<'x, R, C> {
         ensures none { IsOpen self.old → IfOk result (λ o. IfNone o ((left_in self.old ≡ 0) × (self.new ≡ self.old))) }
         ensures some { IsOpen self.old → IfOk result (λ o. IfSome o (TakesElement R.Source (IsUnsigned 255) self.old self.new)) }
         ensures err { IsOpen self.old → IfErr result (FailsToTake R.Source (IsUnsigned 255) self.old self.new) }
-        ensures exact { IfErr result (RefusesExactly (is_strict (lender_of self.old)) other_number (faults_of R.Source (lender_of self.old)) (faults_of R.Source (lender_of self.new)) (left R.Source (lender_of self.old))) }
+        ensures exact { IfErr result (RefusesExactly (is_strict (lender_of self.old)) other_number (faults_of R.Source (lender_of self.old))
+            (faults_of R.Source (lender_of self.new)) (left R.Source (lender_of self.old))) }
         ensures marked { is_failed (lender_of self.old) ≡ true → is_failed (lender_of self.new) ≡ true }
     {
         if self.left == 0 {

@@ -74,7 +74,8 @@ pub(crate) fn lent_content<'de, R: ReadSlice<'de>>(
     ensures ok { IfOk result (λ s. (length s.now ≡ len) × IsBytes s.now × Consumes (R.ahead reader.old) (R.ahead reader.new) s.now) }
     ensures sound { OnOk result (R.faults reader.new ≡ R.faults reader.old) }
     ensures err { R.lends ≡ true → IfErr result (λ e. Explains e (R.faults reader.old) (R.faults reader.new) (IsShort len (R.ahead reader.old))) }
-    ensures exact { IfErr result (λ e. Explains e (R.faults reader.old) (R.faults reader.new) (RefusesPiece len (not_bytes R.lends (raw_head is_text len)) (R.ahead reader.old) e)) }
+    ensures exact { IfErr result (λ e. Explains e (R.faults reader.old) (R.faults reader.new)
+        (RefusesPiece len (not_bytes R.lends (raw_head is_text len)) (R.ahead reader.old) e)) }
     ensures memory { R.lends ≡ true → IfErr result (λ e. e ≢ Error.OutOfMemory) }
     ensures place { R.place reader.new ≡ R.place reader.old }
 {
@@ -124,10 +125,12 @@ fn char_of(bytes: &[u8]) -> Result<char, Error>
 
 // The next bytes, as one character.
 pub(crate) fn next_char<'de, R: ReadSlice<'de>>(reader: &mut R, len: usize) -> Result<char, Error>
-    ensures ok { IfOk result (λ c. IsScalar c × (length (encode_utf8 c) ≡ len) × IsBytes (encode_utf8 c) × Consumes (R.ahead reader.old) (R.ahead reader.new) (encode_utf8 c)) }
+    ensures ok { IfOk result (λ c. IsScalar c × (length (encode_utf8 c) ≡ len) × IsBytes (encode_utf8 c)
+        × Consumes (R.ahead reader.old) (R.ahead reader.new) (encode_utf8 c)) }
     ensures sound { OnOk result (R.faults reader.new ≡ R.faults reader.old) }
     ensures err { IfErr result (λ e. Explains e (R.faults reader.old) (R.faults reader.new) (StartsWithNoChar len (R.ahead reader.old))) }
-    ensures exact { IfErr result (λ e. Explains e (R.faults reader.old) (R.faults reader.new) (RefusesPiece len (not_char (Head.Text len)) (R.ahead reader.old) e)) }
+    ensures exact { IfErr result (λ e. Explains e (R.faults reader.old) (R.faults reader.new)
+        (RefusesPiece len (not_char (Head.Text len)) (R.ahead reader.old) e)) }
     ensures memory { R.lends ≡ true → IfErr result (λ e. e ≢ Error.OutOfMemory) }
     ensures place { R.place reader.new ≡ R.place reader.old }
 {

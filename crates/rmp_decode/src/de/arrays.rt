@@ -55,11 +55,15 @@ impl<'x, R: Source, C: SerializerConfig> SeqAccess<'x, R, C> {
         R: ReadSlice<'de>,
         requires { IsOpen self.old }
         ensures same_reference { self.new.de.ghost_name ≡ self.old.de.ghost_name }
-        ensures ok { OnOk result (TakesPlaces R.Source (length places.old) (T.reads (C.human (config_of (lender_of self.old))) R.lends) self.old self.new places.new) }
+        ensures ok { OnOk result (TakesPlaces R.Source (length places.old) (T.reads (C.human (config_of (lender_of self.old))) R.lends) self.old self.new
+            places.new) }
         ensures count { OnOk result (count_in self.new ≡ count_in self.old) }
-        ensures refused { IfErr result (OneWanted (length places.old) T.reads T.refuses (in_bytes self.old) (element_setting (C.human (config_of (lender_of self.old))) R.lends self.old) (faults_of R.Source (lender_of self.old)) (faults_of R.Source (lender_of self.new)) (left_in self.old) (left R.Source (lender_of self.old))) }
+        ensures refused { IfErr result (OneWanted (length places.old) T.reads T.refuses (in_bytes self.old)
+            (element_setting (C.human (config_of (lender_of self.old))) R.lends self.old) (faults_of R.Source (lender_of self.old))
+            (faults_of R.Source (lender_of self.new)) (left_in self.old) (left R.Source (lender_of self.old))) }
         ensures memory { T.takes_memory R.lends ≡ false → IfErr result (λ e. e ≢ Error.OutOfMemory) }
-        ensures err { IfErr result (FailsParts R.Source (Exactly (length places.old) (T.reads (C.human (config_of (lender_of self.old))) R.lends)) self.old self.new) }
+        ensures err { IfErr result (FailsParts R.Source (Exactly (length places.old) (T.reads (C.human (config_of (lender_of self.old))) R.lends)) self.old
+            self.new) }
     {
         let mut i = 0;
         while i < places.len() {

@@ -76,7 +76,8 @@ pub(crate) struct Wide {
 impl<'de, R: ReadSlice<'de>> Deserialize<'de, R> for Wide {
     ghost use Rattle.rmp_wire.specs.Msg.{truth};
 
-    ghost reads = { λ human lends m v. OfFields (codes "zeta" ∷ (codes "alpha" ∷ (codes "beta" ∷ (codes "gamma" ∷ (codes "delta" ∷ (codes "epsilon" ∷ (codes "eta" ∷ (codes "theta" ∷ []))))))))
+    ghost reads = { λ human lends m v. OfFields (codes "zeta"
+        ∷ (codes "alpha" ∷ (codes "beta" ∷ (codes "gamma" ∷ (codes "delta" ∷ (codes "epsilon" ∷ (codes "eta" ∷ (codes "theta" ∷ []))))))))
         (Field (λ k. IsRaw k (string_bytes v.zeta)) (Absent None v.zeta)
         (Field (λ k. IsUnsigned 255 k v.alpha) (Absent None v.alpha)
         (Field (λ k. IsUnsigned 65535 k v.beta) (Absent None v.beta)

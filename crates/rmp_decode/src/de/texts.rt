@@ -132,7 +132,8 @@ impl<'de, R: ReadSlice<'de>> Deserialize<'de, R> for ByteBuf {
 
     ghost absent = { None };
 
-    ghost refuses = { λ s before after known e. RefusesContent s.strict IsBufferHead not_raw not_buffer before after known e × RefusesListIn s.strict s.room before after known e };
+    ghost refuses = { λ s before after known e. RefusesContent s.strict IsBufferHead not_raw not_buffer before after known e
+        × RefusesListIn s.strict s.room before after known e };
 
     #[inline(always)]
     fn deserialize<C: SerializerConfig>(de: &mut Deserializer<R, C>) -> Result<ByteBuf, Error> {

@@ -52,9 +52,13 @@ impl<'x, R: Source, C: SerializerConfig> SeqAccess<'x, R, C> {
         R: ReadSlice<'de>,
         requires { IsOpen self.old }
         ensures same_reference { self.new.de.ghost_name ≡ self.old.de.ghost_name }
-        ensures ok { IfOk result (TakesParts R.Source (λ v ms. AndThen (λ k. A.reads (C.human (config_of (lender_of self.old))) R.lends k v.0) (AndThen (λ k. B.reads (C.human (config_of (lender_of self.old))) R.lends k v.1) NoMore) ms) self.old self.new) }
-        ensures err { IfErr result (FailsParts {V = A × B} R.Source (λ v ms. AndThen (λ k. A.reads (C.human (config_of (lender_of self.old))) R.lends k v.0) (AndThen (λ k. B.reads (C.human (config_of (lender_of self.old))) R.lends k v.1) Anything) ms) self.old self.new) }
-        ensures refused { IfErr result (PartsRefused R.Source (C.human (config_of (lender_of self.old))) R.lends (part_of A.reads A.refuses ∷ part_of B.reads B.refuses ∷ []) self.old self.new) }
+        ensures ok { IfOk result (TakesParts R.Source (λ v ms. AndThen (λ k. A.reads (C.human (config_of (lender_of self.old))) R.lends k v.0)
+            (AndThen (λ k. B.reads (C.human (config_of (lender_of self.old))) R.lends k v.1) NoMore) ms) self.old self.new) }
+        ensures err { IfErr result (FailsParts {V = A × B} R.Source
+            (λ v ms. AndThen (λ k. A.reads (C.human (config_of (lender_of self.old))) R.lends k v.0)
+            (AndThen (λ k. B.reads (C.human (config_of (lender_of self.old))) R.lends k v.1) Anything) ms) self.old self.new) }
+        ensures refused { IfErr result (PartsRefused R.Source (C.human (config_of (lender_of self.old))) R.lends
+            (part_of A.reads A.refuses ∷ part_of B.reads B.refuses ∷ []) self.old self.new) }
         ensures memory { (A.takes_memory R.lends || B.takes_memory R.lends) ≡ false → IfErr result (λ e. e ≢ Error.OutOfMemory) }
     {
         let a = match self.element() {
@@ -110,9 +114,15 @@ impl<'x, R: Source, C: SerializerConfig> SeqAccess<'x, R, C> {
         R: ReadSlice<'de>,
         requires { IsOpen self.old }
         ensures same_reference { self.new.de.ghost_name ≡ self.old.de.ghost_name }
-        ensures ok { IfOk result (TakesParts R.Source (λ v ms. AndThen (λ k. A.reads (C.human (config_of (lender_of self.old))) R.lends k v.0) (AndThen (λ k. B.reads (C.human (config_of (lender_of self.old))) R.lends k v.1) (AndThen (λ k. D.reads (C.human (config_of (lender_of self.old))) R.lends k v.2) NoMore)) ms) self.old self.new) }
-        ensures err { IfErr result (FailsParts {V = A × B × D} R.Source (λ v ms. AndThen (λ k. A.reads (C.human (config_of (lender_of self.old))) R.lends k v.0) (AndThen (λ k. B.reads (C.human (config_of (lender_of self.old))) R.lends k v.1) (AndThen (λ k. D.reads (C.human (config_of (lender_of self.old))) R.lends k v.2) Anything)) ms) self.old self.new) }
-        ensures refused { IfErr result (PartsRefused R.Source (C.human (config_of (lender_of self.old))) R.lends (part_of A.reads A.refuses ∷ part_of B.reads B.refuses ∷ part_of D.reads D.refuses ∷ []) self.old self.new) }
+        ensures ok { IfOk result (TakesParts R.Source (λ v ms. AndThen (λ k. A.reads (C.human (config_of (lender_of self.old))) R.lends k v.0)
+            (AndThen (λ k. B.reads (C.human (config_of (lender_of self.old))) R.lends k v.1)
+            (AndThen (λ k. D.reads (C.human (config_of (lender_of self.old))) R.lends k v.2) NoMore)) ms) self.old self.new) }
+        ensures err { IfErr result (FailsParts {V = A × B × D} R.Source
+            (λ v ms. AndThen (λ k. A.reads (C.human (config_of (lender_of self.old))) R.lends k v.0)
+            (AndThen (λ k. B.reads (C.human (config_of (lender_of self.old))) R.lends k v.1)
+            (AndThen (λ k. D.reads (C.human (config_of (lender_of self.old))) R.lends k v.2) Anything)) ms) self.old self.new) }
+        ensures refused { IfErr result (PartsRefused R.Source (C.human (config_of (lender_of self.old))) R.lends
+            (part_of A.reads A.refuses ∷ part_of B.reads B.refuses ∷ part_of D.reads D.refuses ∷ []) self.old self.new) }
         ensures memory { (A.takes_memory R.lends || B.takes_memory R.lends || D.takes_memory R.lends) ≡ false → IfErr result (λ e. e ≢ Error.OutOfMemory) }
     {
         let (a, b) = match self.parts_2() {
@@ -134,7 +144,8 @@ impl<
     B: Deserialize<'de, R>,
     D: Deserialize<'de, R>,
 > Deserialize<'de, R> for (A, B, D) {
-    ghost reads = { λ human lends m v. OfRow (AndThen (λ k. A.reads human lends k v.0) (AndThen (λ k. B.reads human lends k v.1) (AndThen (λ k. D.reads human lends k v.2) NoMore))) m };
+    ghost reads = { λ human lends m v. OfRow (AndThen (λ k. A.reads human lends k v.0)
+        (AndThen (λ k. B.reads human lends k v.1) (AndThen (λ k. D.reads human lends k v.2) NoMore))) m };
 
     ghost absent = { None };
 
@@ -177,10 +188,19 @@ impl<'x, R: Source, C: SerializerConfig> SeqAccess<'x, R, C> {
         R: ReadSlice<'de>,
         requires { IsOpen self.old }
         ensures same_reference { self.new.de.ghost_name ≡ self.old.de.ghost_name }
-        ensures ok { IfOk result (TakesParts R.Source (λ v ms. AndThen (λ k. A.reads (C.human (config_of (lender_of self.old))) R.lends k v.0) (AndThen (λ k. B.reads (C.human (config_of (lender_of self.old))) R.lends k v.1) (AndThen (λ k. D.reads (C.human (config_of (lender_of self.old))) R.lends k v.2) (AndThen (λ k. E.reads (C.human (config_of (lender_of self.old))) R.lends k v.3) NoMore))) ms) self.old self.new) }
-        ensures err { IfErr result (FailsParts {V = A × B × D × E} R.Source (λ v ms. AndThen (λ k. A.reads (C.human (config_of (lender_of self.old))) R.lends k v.0) (AndThen (λ k. B.reads (C.human (config_of (lender_of self.old))) R.lends k v.1) (AndThen (λ k. D.reads (C.human (config_of (lender_of self.old))) R.lends k v.2) (AndThen (λ k. E.reads (C.human (config_of (lender_of self.old))) R.lends k v.3) Anything))) ms) self.old self.new) }
-        ensures refused { IfErr result (PartsRefused R.Source (C.human (config_of (lender_of self.old))) R.lends (part_of A.reads A.refuses ∷ part_of B.reads B.refuses ∷ part_of D.reads D.refuses ∷ part_of E.reads E.refuses ∷ []) self.old self.new) }
-        ensures memory { (A.takes_memory R.lends || B.takes_memory R.lends || D.takes_memory R.lends || E.takes_memory R.lends) ≡ false → IfErr result (λ e. e ≢ Error.OutOfMemory) }
+        ensures ok { IfOk result (TakesParts R.Source (λ v ms. AndThen (λ k. A.reads (C.human (config_of (lender_of self.old))) R.lends k v.0)
+            (AndThen (λ k. B.reads (C.human (config_of (lender_of self.old))) R.lends k v.1)
+            (AndThen (λ k. D.reads (C.human (config_of (lender_of self.old))) R.lends k v.2)
+            (AndThen (λ k. E.reads (C.human (config_of (lender_of self.old))) R.lends k v.3) NoMore))) ms) self.old self.new) }
+        ensures err { IfErr result (FailsParts {V = A × B × D × E} R.Source
+            (λ v ms. AndThen (λ k. A.reads (C.human (config_of (lender_of self.old))) R.lends k v.0)
+            (AndThen (λ k. B.reads (C.human (config_of (lender_of self.old))) R.lends k v.1)
+            (AndThen (λ k. D.reads (C.human (config_of (lender_of self.old))) R.lends k v.2)
+            (AndThen (λ k. E.reads (C.human (config_of (lender_of self.old))) R.lends k v.3) Anything))) ms) self.old self.new) }
+        ensures refused { IfErr result (PartsRefused R.Source (C.human (config_of (lender_of self.old))) R.lends
+            (part_of A.reads A.refuses ∷ part_of B.reads B.refuses ∷ part_of D.reads D.refuses ∷ part_of E.reads E.refuses ∷ []) self.old self.new) }
+        ensures memory { (A.takes_memory R.lends || B.takes_memory R.lends || D.takes_memory R.lends || E.takes_memory R.lends) ≡ false
+            → IfErr result (λ e. e ≢ Error.OutOfMemory) }
     {
         let (a, b, d) = match self.parts_3() {
             Ok(parts) => parts,
@@ -202,7 +222,8 @@ impl<
     D: Deserialize<'de, R>,
     E: Deserialize<'de, R>,
 > Deserialize<'de, R> for (A, B, D, E) {
-    ghost reads = { λ human lends m v. OfRow (AndThen (λ k. A.reads human lends k v.0) (AndThen (λ k. B.reads human lends k v.1) (AndThen (λ k. D.reads human lends k v.2) (AndThen (λ k. E.reads human lends k v.3) NoMore)))) m };
+    ghost reads = { λ human lends m v. OfRow (AndThen (λ k. A.reads human lends k v.0)
+        (AndThen (λ k. B.reads human lends k v.1) (AndThen (λ k. D.reads human lends k v.2) (AndThen (λ k. E.reads human lends k v.3) NoMore)))) m };
 
     ghost absent = { None };
 
@@ -248,10 +269,22 @@ impl<'x, R: Source, C: SerializerConfig> SeqAccess<'x, R, C> {
         R: ReadSlice<'de>,
         requires { IsOpen self.old }
         ensures same_reference { self.new.de.ghost_name ≡ self.old.de.ghost_name }
-        ensures ok { IfOk result (TakesParts R.Source (λ v ms. AndThen (λ k. A.reads (C.human (config_of (lender_of self.old))) R.lends k v.0) (AndThen (λ k. B.reads (C.human (config_of (lender_of self.old))) R.lends k v.1) (AndThen (λ k. D.reads (C.human (config_of (lender_of self.old))) R.lends k v.2) (AndThen (λ k. E.reads (C.human (config_of (lender_of self.old))) R.lends k v.3) (AndThen (λ k. F.reads (C.human (config_of (lender_of self.old))) R.lends k v.4) NoMore)))) ms) self.old self.new) }
-        ensures err { IfErr result (FailsParts {V = A × B × D × E × F} R.Source (λ v ms. AndThen (λ k. A.reads (C.human (config_of (lender_of self.old))) R.lends k v.0) (AndThen (λ k. B.reads (C.human (config_of (lender_of self.old))) R.lends k v.1) (AndThen (λ k. D.reads (C.human (config_of (lender_of self.old))) R.lends k v.2) (AndThen (λ k. E.reads (C.human (config_of (lender_of self.old))) R.lends k v.3) (AndThen (λ k. F.reads (C.human (config_of (lender_of self.old))) R.lends k v.4) Anything)))) ms) self.old self.new) }
-        ensures refused { IfErr result (PartsRefused R.Source (C.human (config_of (lender_of self.old))) R.lends (part_of A.reads A.refuses ∷ part_of B.reads B.refuses ∷ part_of D.reads D.refuses ∷ part_of E.reads E.refuses ∷ part_of F.reads F.refuses ∷ []) self.old self.new) }
-        ensures memory { (A.takes_memory R.lends || B.takes_memory R.lends || D.takes_memory R.lends || E.takes_memory R.lends || F.takes_memory R.lends) ≡ false → IfErr result (λ e. e ≢ Error.OutOfMemory) }
+        ensures ok { IfOk result (TakesParts R.Source (λ v ms. AndThen (λ k. A.reads (C.human (config_of (lender_of self.old))) R.lends k v.0)
+            (AndThen (λ k. B.reads (C.human (config_of (lender_of self.old))) R.lends k v.1)
+            (AndThen (λ k. D.reads (C.human (config_of (lender_of self.old))) R.lends k v.2)
+            (AndThen (λ k. E.reads (C.human (config_of (lender_of self.old))) R.lends k v.3)
+            (AndThen (λ k. F.reads (C.human (config_of (lender_of self.old))) R.lends k v.4) NoMore)))) ms) self.old self.new) }
+        ensures err { IfErr result (FailsParts {V = A × B × D × E × F} R.Source
+            (λ v ms. AndThen (λ k. A.reads (C.human (config_of (lender_of self.old))) R.lends k v.0)
+            (AndThen (λ k. B.reads (C.human (config_of (lender_of self.old))) R.lends k v.1)
+            (AndThen (λ k. D.reads (C.human (config_of (lender_of self.old))) R.lends k v.2)
+            (AndThen (λ k. E.reads (C.human (config_of (lender_of self.old))) R.lends k v.3)
+            (AndThen (λ k. F.reads (C.human (config_of (lender_of self.old))) R.lends k v.4) Anything)))) ms) self.old self.new) }
+        ensures refused { IfErr result (PartsRefused R.Source (C.human (config_of (lender_of self.old))) R.lends
+            (part_of A.reads A.refuses ∷ part_of B.reads B.refuses ∷ part_of D.reads D.refuses ∷ part_of E.reads E.refuses ∷ part_of F.reads F.refuses ∷ [])
+            self.old self.new) }
+        ensures memory { (A.takes_memory R.lends || B.takes_memory R.lends || D.takes_memory R.lends || E.takes_memory R.lends || F.takes_memory R.lends) ≡
+            false → IfErr result (λ e. e ≢ Error.OutOfMemory) }
     {
         let (a, b, d, e) = match self.parts_4() {
             Ok(parts) => parts,
@@ -274,11 +307,14 @@ impl<
     E: Deserialize<'de, R>,
     F: Deserialize<'de, R>,
 > Deserialize<'de, R> for (A, B, D, E, F) {
-    ghost reads = { λ human lends m v. OfRow (AndThen (λ k. A.reads human lends k v.0) (AndThen (λ k. B.reads human lends k v.1) (AndThen (λ k. D.reads human lends k v.2) (AndThen (λ k. E.reads human lends k v.3) (AndThen (λ k. F.reads human lends k v.4) NoMore))))) m };
+    ghost reads = { λ human lends m v. OfRow (AndThen (λ k. A.reads human lends k v.0)
+        (AndThen (λ k. B.reads human lends k v.1) (AndThen (λ k. D.reads human lends k v.2)
+        (AndThen (λ k. E.reads human lends k v.3) (AndThen (λ k. F.reads human lends k v.4) NoMore))))) m };
 
     ghost absent = { None };
 
-    ghost refuses = { RefusesTuple (part_of A.reads A.refuses ∷ part_of B.reads B.refuses ∷ part_of D.reads D.refuses ∷ part_of E.reads E.refuses ∷ part_of F.reads F.refuses ∷ []) };
+    ghost refuses = { RefusesTuple (part_of A.reads A.refuses ∷ part_of B.reads B.refuses ∷ part_of D.reads D.refuses ∷ part_of E.reads E.refuses
+        ∷ part_of F.reads F.refuses ∷ []) };
 
     ghost takes_memory = { λ lends. A.takes_memory lends || B.takes_memory lends || D.takes_memory lends || E.takes_memory lends || F.takes_memory lends };
 
@@ -321,10 +357,24 @@ impl<'x, R: Source, C: SerializerConfig> SeqAccess<'x, R, C> {
         R: ReadSlice<'de>,
         requires { IsOpen self.old }
         ensures same_reference { self.new.de.ghost_name ≡ self.old.de.ghost_name }
-        ensures ok { IfOk result (TakesParts R.Source (λ v ms. AndThen (λ k. A.reads (C.human (config_of (lender_of self.old))) R.lends k v.0) (AndThen (λ k. B.reads (C.human (config_of (lender_of self.old))) R.lends k v.1) (AndThen (λ k. D.reads (C.human (config_of (lender_of self.old))) R.lends k v.2) (AndThen (λ k. E.reads (C.human (config_of (lender_of self.old))) R.lends k v.3) (AndThen (λ k. F.reads (C.human (config_of (lender_of self.old))) R.lends k v.4) (AndThen (λ k. G.reads (C.human (config_of (lender_of self.old))) R.lends k v.5) NoMore))))) ms) self.old self.new) }
-        ensures err { IfErr result (FailsParts {V = A × B × D × E × F × G} R.Source (λ v ms. AndThen (λ k. A.reads (C.human (config_of (lender_of self.old))) R.lends k v.0) (AndThen (λ k. B.reads (C.human (config_of (lender_of self.old))) R.lends k v.1) (AndThen (λ k. D.reads (C.human (config_of (lender_of self.old))) R.lends k v.2) (AndThen (λ k. E.reads (C.human (config_of (lender_of self.old))) R.lends k v.3) (AndThen (λ k. F.reads (C.human (config_of (lender_of self.old))) R.lends k v.4) (AndThen (λ k. G.reads (C.human (config_of (lender_of self.old))) R.lends k v.5) Anything))))) ms) self.old self.new) }
-        ensures refused { IfErr result (PartsRefused R.Source (C.human (config_of (lender_of self.old))) R.lends (part_of A.reads A.refuses ∷ part_of B.reads B.refuses ∷ part_of D.reads D.refuses ∷ part_of E.reads E.refuses ∷ part_of F.reads F.refuses ∷ part_of G.reads G.refuses ∷ []) self.old self.new) }
-        ensures memory { (A.takes_memory R.lends || B.takes_memory R.lends || D.takes_memory R.lends || E.takes_memory R.lends || F.takes_memory R.lends || G.takes_memory R.lends) ≡ false → IfErr result (λ e. e ≢ Error.OutOfMemory) }
+        ensures ok { IfOk result (TakesParts R.Source (λ v ms. AndThen (λ k. A.reads (C.human (config_of (lender_of self.old))) R.lends k v.0)
+            (AndThen (λ k. B.reads (C.human (config_of (lender_of self.old))) R.lends k v.1)
+            (AndThen (λ k. D.reads (C.human (config_of (lender_of self.old))) R.lends k v.2)
+            (AndThen (λ k. E.reads (C.human (config_of (lender_of self.old))) R.lends k v.3)
+            (AndThen (λ k. F.reads (C.human (config_of (lender_of self.old))) R.lends k v.4)
+            (AndThen (λ k. G.reads (C.human (config_of (lender_of self.old))) R.lends k v.5) NoMore))))) ms) self.old self.new) }
+        ensures err { IfErr result (FailsParts {V = A × B × D × E × F × G} R.Source
+            (λ v ms. AndThen (λ k. A.reads (C.human (config_of (lender_of self.old))) R.lends k v.0)
+            (AndThen (λ k. B.reads (C.human (config_of (lender_of self.old))) R.lends k v.1)
+            (AndThen (λ k. D.reads (C.human (config_of (lender_of self.old))) R.lends k v.2)
+            (AndThen (λ k. E.reads (C.human (config_of (lender_of self.old))) R.lends k v.3)
+            (AndThen (λ k. F.reads (C.human (config_of (lender_of self.old))) R.lends k v.4)
+            (AndThen (λ k. G.reads (C.human (config_of (lender_of self.old))) R.lends k v.5) Anything))))) ms) self.old self.new) }
+        ensures refused { IfErr result (PartsRefused R.Source (C.human (config_of (lender_of self.old))) R.lends
+            (part_of A.reads A.refuses ∷ part_of B.reads B.refuses ∷ part_of D.reads D.refuses ∷ part_of E.reads E.refuses ∷ part_of F.reads F.refuses
+            ∷ part_of G.reads G.refuses ∷ []) self.old self.new) }
+        ensures memory { (A.takes_memory R.lends || B.takes_memory R.lends || D.takes_memory R.lends || E.takes_memory R.lends || F.takes_memory R.lends
+            || G.takes_memory R.lends) ≡ false → IfErr result (λ e. e ≢ Error.OutOfMemory) }
     {
         let (a, b, d, e, f) = match self.parts_5() {
             Ok(parts) => parts,
@@ -348,13 +398,17 @@ impl<
     F: Deserialize<'de, R>,
     G: Deserialize<'de, R>,
 > Deserialize<'de, R> for (A, B, D, E, F, G) {
-    ghost reads = { λ human lends m v. OfRow (AndThen (λ k. A.reads human lends k v.0) (AndThen (λ k. B.reads human lends k v.1) (AndThen (λ k. D.reads human lends k v.2) (AndThen (λ k. E.reads human lends k v.3) (AndThen (λ k. F.reads human lends k v.4) (AndThen (λ k. G.reads human lends k v.5) NoMore)))))) m };
+    ghost reads = { λ human lends m v. OfRow (AndThen (λ k. A.reads human lends k v.0)
+        (AndThen (λ k. B.reads human lends k v.1) (AndThen (λ k. D.reads human lends k v.2)
+        (AndThen (λ k. E.reads human lends k v.3) (AndThen (λ k. F.reads human lends k v.4) (AndThen (λ k. G.reads human lends k v.5) NoMore)))))) m };
 
     ghost absent = { None };
 
-    ghost refuses = { RefusesTuple (part_of A.reads A.refuses ∷ part_of B.reads B.refuses ∷ part_of D.reads D.refuses ∷ part_of E.reads E.refuses ∷ part_of F.reads F.refuses ∷ part_of G.reads G.refuses ∷ []) };
+    ghost refuses = { RefusesTuple (part_of A.reads A.refuses ∷ part_of B.reads B.refuses ∷ part_of D.reads D.refuses ∷ part_of E.reads E.refuses
+        ∷ part_of F.reads F.refuses ∷ part_of G.reads G.refuses ∷ []) };
 
-    ghost takes_memory = { λ lends. A.takes_memory lends || B.takes_memory lends || D.takes_memory lends || E.takes_memory lends || F.takes_memory lends || G.takes_memory lends };
+    ghost takes_memory = { λ lends. A.takes_memory lends || B.takes_memory lends || D.takes_memory lends || E.takes_memory lends || F.takes_memory lends
+        || G.takes_memory lends };
 
     fn deserialize<C: SerializerConfig>(
         de: &mut Deserializer<R, C>,
@@ -396,10 +450,26 @@ impl<'x, R: Source, C: SerializerConfig> SeqAccess<'x, R, C> {
         R: ReadSlice<'de>,
         requires { IsOpen self.old }
         ensures same_reference { self.new.de.ghost_name ≡ self.old.de.ghost_name }
-        ensures ok { IfOk result (TakesParts R.Source (λ v ms. AndThen (λ k. A.reads (C.human (config_of (lender_of self.old))) R.lends k v.0) (AndThen (λ k. B.reads (C.human (config_of (lender_of self.old))) R.lends k v.1) (AndThen (λ k. D.reads (C.human (config_of (lender_of self.old))) R.lends k v.2) (AndThen (λ k. E.reads (C.human (config_of (lender_of self.old))) R.lends k v.3) (AndThen (λ k. F.reads (C.human (config_of (lender_of self.old))) R.lends k v.4) (AndThen (λ k. G.reads (C.human (config_of (lender_of self.old))) R.lends k v.5) (AndThen (λ k. H.reads (C.human (config_of (lender_of self.old))) R.lends k v.6) NoMore)))))) ms) self.old self.new) }
-        ensures err { IfErr result (FailsParts {V = A × B × D × E × F × G × H} R.Source (λ v ms. AndThen (λ k. A.reads (C.human (config_of (lender_of self.old))) R.lends k v.0) (AndThen (λ k. B.reads (C.human (config_of (lender_of self.old))) R.lends k v.1) (AndThen (λ k. D.reads (C.human (config_of (lender_of self.old))) R.lends k v.2) (AndThen (λ k. E.reads (C.human (config_of (lender_of self.old))) R.lends k v.3) (AndThen (λ k. F.reads (C.human (config_of (lender_of self.old))) R.lends k v.4) (AndThen (λ k. G.reads (C.human (config_of (lender_of self.old))) R.lends k v.5) (AndThen (λ k. H.reads (C.human (config_of (lender_of self.old))) R.lends k v.6) Anything)))))) ms) self.old self.new) }
-        ensures refused { IfErr result (PartsRefused R.Source (C.human (config_of (lender_of self.old))) R.lends (part_of A.reads A.refuses ∷ part_of B.reads B.refuses ∷ part_of D.reads D.refuses ∷ part_of E.reads E.refuses ∷ part_of F.reads F.refuses ∷ part_of G.reads G.refuses ∷ part_of H.reads H.refuses ∷ []) self.old self.new) }
-        ensures memory { (A.takes_memory R.lends || B.takes_memory R.lends || D.takes_memory R.lends || E.takes_memory R.lends || F.takes_memory R.lends || G.takes_memory R.lends || H.takes_memory R.lends) ≡ false → IfErr result (λ e. e ≢ Error.OutOfMemory) }
+        ensures ok { IfOk result (TakesParts R.Source (λ v ms. AndThen (λ k. A.reads (C.human (config_of (lender_of self.old))) R.lends k v.0)
+            (AndThen (λ k. B.reads (C.human (config_of (lender_of self.old))) R.lends k v.1)
+            (AndThen (λ k. D.reads (C.human (config_of (lender_of self.old))) R.lends k v.2)
+            (AndThen (λ k. E.reads (C.human (config_of (lender_of self.old))) R.lends k v.3)
+            (AndThen (λ k. F.reads (C.human (config_of (lender_of self.old))) R.lends k v.4)
+            (AndThen (λ k. G.reads (C.human (config_of (lender_of self.old))) R.lends k v.5)
+            (AndThen (λ k. H.reads (C.human (config_of (lender_of self.old))) R.lends k v.6) NoMore)))))) ms) self.old self.new) }
+        ensures err { IfErr result (FailsParts {V = A × B × D × E × F × G × H} R.Source
+            (λ v ms. AndThen (λ k. A.reads (C.human (config_of (lender_of self.old))) R.lends k v.0)
+            (AndThen (λ k. B.reads (C.human (config_of (lender_of self.old))) R.lends k v.1)
+            (AndThen (λ k. D.reads (C.human (config_of (lender_of self.old))) R.lends k v.2)
+            (AndThen (λ k. E.reads (C.human (config_of (lender_of self.old))) R.lends k v.3)
+            (AndThen (λ k. F.reads (C.human (config_of (lender_of self.old))) R.lends k v.4)
+            (AndThen (λ k. G.reads (C.human (config_of (lender_of self.old))) R.lends k v.5)
+            (AndThen (λ k. H.reads (C.human (config_of (lender_of self.old))) R.lends k v.6) Anything)))))) ms) self.old self.new) }
+        ensures refused { IfErr result (PartsRefused R.Source (C.human (config_of (lender_of self.old))) R.lends
+            (part_of A.reads A.refuses ∷ part_of B.reads B.refuses ∷ part_of D.reads D.refuses ∷ part_of E.reads E.refuses ∷ part_of F.reads F.refuses
+            ∷ part_of G.reads G.refuses ∷ part_of H.reads H.refuses ∷ []) self.old self.new) }
+        ensures memory { (A.takes_memory R.lends || B.takes_memory R.lends || D.takes_memory R.lends || E.takes_memory R.lends || F.takes_memory R.lends
+            || G.takes_memory R.lends || H.takes_memory R.lends) ≡ false → IfErr result (λ e. e ≢ Error.OutOfMemory) }
     {
         let (a, b, d, e, f, g) = match self.parts_6() {
             Ok(parts) => parts,
@@ -424,13 +494,18 @@ impl<
     G: Deserialize<'de, R>,
     H: Deserialize<'de, R>,
 > Deserialize<'de, R> for (A, B, D, E, F, G, H) {
-    ghost reads = { λ human lends m v. OfRow (AndThen (λ k. A.reads human lends k v.0) (AndThen (λ k. B.reads human lends k v.1) (AndThen (λ k. D.reads human lends k v.2) (AndThen (λ k. E.reads human lends k v.3) (AndThen (λ k. F.reads human lends k v.4) (AndThen (λ k. G.reads human lends k v.5) (AndThen (λ k. H.reads human lends k v.6) NoMore))))))) m };
+    ghost reads = { λ human lends m v. OfRow (AndThen (λ k. A.reads human lends k v.0)
+        (AndThen (λ k. B.reads human lends k v.1) (AndThen (λ k. D.reads human lends k v.2)
+        (AndThen (λ k. E.reads human lends k v.3) (AndThen (λ k. F.reads human lends k v.4)
+        (AndThen (λ k. G.reads human lends k v.5) (AndThen (λ k. H.reads human lends k v.6) NoMore))))))) m };
 
     ghost absent = { None };
 
-    ghost refuses = { RefusesTuple (part_of A.reads A.refuses ∷ part_of B.reads B.refuses ∷ part_of D.reads D.refuses ∷ part_of E.reads E.refuses ∷ part_of F.reads F.refuses ∷ part_of G.reads G.refuses ∷ part_of H.reads H.refuses ∷ []) };
+    ghost refuses = { RefusesTuple (part_of A.reads A.refuses ∷ part_of B.reads B.refuses ∷ part_of D.reads D.refuses ∷ part_of E.reads E.refuses
+        ∷ part_of F.reads F.refuses ∷ part_of G.reads G.refuses ∷ part_of H.reads H.refuses ∷ []) };
 
-    ghost takes_memory = { λ lends. A.takes_memory lends || B.takes_memory lends || D.takes_memory lends || E.takes_memory lends || F.takes_memory lends || G.takes_memory lends || H.takes_memory lends };
+    ghost takes_memory = { λ lends. A.takes_memory lends || B.takes_memory lends || D.takes_memory lends || E.takes_memory lends || F.takes_memory lends
+        || G.takes_memory lends || H.takes_memory lends };
 
     fn deserialize<C: SerializerConfig>(
         de: &mut Deserializer<R, C>,
@@ -473,10 +548,28 @@ impl<'x, R: Source, C: SerializerConfig> SeqAccess<'x, R, C> {
         R: ReadSlice<'de>,
         requires { IsOpen self.old }
         ensures same_reference { self.new.de.ghost_name ≡ self.old.de.ghost_name }
-        ensures ok { IfOk result (TakesParts R.Source (λ v ms. AndThen (λ k. A.reads (C.human (config_of (lender_of self.old))) R.lends k v.0) (AndThen (λ k. B.reads (C.human (config_of (lender_of self.old))) R.lends k v.1) (AndThen (λ k. D.reads (C.human (config_of (lender_of self.old))) R.lends k v.2) (AndThen (λ k. E.reads (C.human (config_of (lender_of self.old))) R.lends k v.3) (AndThen (λ k. F.reads (C.human (config_of (lender_of self.old))) R.lends k v.4) (AndThen (λ k. G.reads (C.human (config_of (lender_of self.old))) R.lends k v.5) (AndThen (λ k. H.reads (C.human (config_of (lender_of self.old))) R.lends k v.6) (AndThen (λ k. I.reads (C.human (config_of (lender_of self.old))) R.lends k v.7) NoMore))))))) ms) self.old self.new) }
-        ensures err { IfErr result (FailsParts {V = A × B × D × E × F × G × H × I} R.Source (λ v ms. AndThen (λ k. A.reads (C.human (config_of (lender_of self.old))) R.lends k v.0) (AndThen (λ k. B.reads (C.human (config_of (lender_of self.old))) R.lends k v.1) (AndThen (λ k. D.reads (C.human (config_of (lender_of self.old))) R.lends k v.2) (AndThen (λ k. E.reads (C.human (config_of (lender_of self.old))) R.lends k v.3) (AndThen (λ k. F.reads (C.human (config_of (lender_of self.old))) R.lends k v.4) (AndThen (λ k. G.reads (C.human (config_of (lender_of self.old))) R.lends k v.5) (AndThen (λ k. H.reads (C.human (config_of (lender_of self.old))) R.lends k v.6) (AndThen (λ k. I.reads (C.human (config_of (lender_of self.old))) R.lends k v.7) Anything))))))) ms) self.old self.new) }
-        ensures refused { IfErr result (PartsRefused R.Source (C.human (config_of (lender_of self.old))) R.lends (part_of A.reads A.refuses ∷ part_of B.reads B.refuses ∷ part_of D.reads D.refuses ∷ part_of E.reads E.refuses ∷ part_of F.reads F.refuses ∷ part_of G.reads G.refuses ∷ part_of H.reads H.refuses ∷ part_of I.reads I.refuses ∷ []) self.old self.new) }
-        ensures memory { (A.takes_memory R.lends || B.takes_memory R.lends || D.takes_memory R.lends || E.takes_memory R.lends || F.takes_memory R.lends || G.takes_memory R.lends || H.takes_memory R.lends || I.takes_memory R.lends) ≡ false → IfErr result (λ e. e ≢ Error.OutOfMemory) }
+        ensures ok { IfOk result (TakesParts R.Source (λ v ms. AndThen (λ k. A.reads (C.human (config_of (lender_of self.old))) R.lends k v.0)
+            (AndThen (λ k. B.reads (C.human (config_of (lender_of self.old))) R.lends k v.1)
+            (AndThen (λ k. D.reads (C.human (config_of (lender_of self.old))) R.lends k v.2)
+            (AndThen (λ k. E.reads (C.human (config_of (lender_of self.old))) R.lends k v.3)
+            (AndThen (λ k. F.reads (C.human (config_of (lender_of self.old))) R.lends k v.4)
+            (AndThen (λ k. G.reads (C.human (config_of (lender_of self.old))) R.lends k v.5)
+            (AndThen (λ k. H.reads (C.human (config_of (lender_of self.old))) R.lends k v.6)
+            (AndThen (λ k. I.reads (C.human (config_of (lender_of self.old))) R.lends k v.7) NoMore))))))) ms) self.old self.new) }
+        ensures err { IfErr result (FailsParts {V = A × B × D × E × F × G × H × I} R.Source
+            (λ v ms. AndThen (λ k. A.reads (C.human (config_of (lender_of self.old))) R.lends k v.0)
+            (AndThen (λ k. B.reads (C.human (config_of (lender_of self.old))) R.lends k v.1)
+            (AndThen (λ k. D.reads (C.human (config_of (lender_of self.old))) R.lends k v.2)
+            (AndThen (λ k. E.reads (C.human (config_of (lender_of self.old))) R.lends k v.3)
+            (AndThen (λ k. F.reads (C.human (config_of (lender_of self.old))) R.lends k v.4)
+            (AndThen (λ k. G.reads (C.human (config_of (lender_of self.old))) R.lends k v.5)
+            (AndThen (λ k. H.reads (C.human (config_of (lender_of self.old))) R.lends k v.6)
+            (AndThen (λ k. I.reads (C.human (config_of (lender_of self.old))) R.lends k v.7) Anything))))))) ms) self.old self.new) }
+        ensures refused { IfErr result (PartsRefused R.Source (C.human (config_of (lender_of self.old))) R.lends
+            (part_of A.reads A.refuses ∷ part_of B.reads B.refuses ∷ part_of D.reads D.refuses ∷ part_of E.reads E.refuses ∷ part_of F.reads F.refuses
+            ∷ part_of G.reads G.refuses ∷ part_of H.reads H.refuses ∷ part_of I.reads I.refuses ∷ []) self.old self.new) }
+        ensures memory { (A.takes_memory R.lends || B.takes_memory R.lends || D.takes_memory R.lends || E.takes_memory R.lends || F.takes_memory R.lends
+            || G.takes_memory R.lends || H.takes_memory R.lends || I.takes_memory R.lends) ≡ false → IfErr result (λ e. e ≢ Error.OutOfMemory) }
     {
         let (a, b, d, e, f, g, h) = match self.parts_7() {
             Ok(parts) => parts,
@@ -502,13 +595,18 @@ impl<
     H: Deserialize<'de, R>,
     I: Deserialize<'de, R>,
 > Deserialize<'de, R> for (A, B, D, E, F, G, H, I) {
-    ghost reads = { λ human lends m v. OfRow (AndThen (λ k. A.reads human lends k v.0) (AndThen (λ k. B.reads human lends k v.1) (AndThen (λ k. D.reads human lends k v.2) (AndThen (λ k. E.reads human lends k v.3) (AndThen (λ k. F.reads human lends k v.4) (AndThen (λ k. G.reads human lends k v.5) (AndThen (λ k. H.reads human lends k v.6) (AndThen (λ k. I.reads human lends k v.7) NoMore)))))))) m };
+    ghost reads = { λ human lends m v. OfRow (AndThen (λ k. A.reads human lends k v.0)
+        (AndThen (λ k. B.reads human lends k v.1) (AndThen (λ k. D.reads human lends k v.2)
+        (AndThen (λ k. E.reads human lends k v.3) (AndThen (λ k. F.reads human lends k v.4)
+        (AndThen (λ k. G.reads human lends k v.5) (AndThen (λ k. H.reads human lends k v.6) (AndThen (λ k. I.reads human lends k v.7) NoMore)))))))) m };
 
     ghost absent = { None };
 
-    ghost refuses = { RefusesTuple (part_of A.reads A.refuses ∷ part_of B.reads B.refuses ∷ part_of D.reads D.refuses ∷ part_of E.reads E.refuses ∷ part_of F.reads F.refuses ∷ part_of G.reads G.refuses ∷ part_of H.reads H.refuses ∷ part_of I.reads I.refuses ∷ []) };
+    ghost refuses = { RefusesTuple (part_of A.reads A.refuses ∷ part_of B.reads B.refuses ∷ part_of D.reads D.refuses ∷ part_of E.reads E.refuses
+        ∷ part_of F.reads F.refuses ∷ part_of G.reads G.refuses ∷ part_of H.reads H.refuses ∷ part_of I.reads I.refuses ∷ []) };
 
-    ghost takes_memory = { λ lends. A.takes_memory lends || B.takes_memory lends || D.takes_memory lends || E.takes_memory lends || F.takes_memory lends || G.takes_memory lends || H.takes_memory lends || I.takes_memory lends };
+    ghost takes_memory = { λ lends. A.takes_memory lends || B.takes_memory lends || D.takes_memory lends || E.takes_memory lends || F.takes_memory lends
+        || G.takes_memory lends || H.takes_memory lends || I.takes_memory lends };
 
     fn deserialize<C: SerializerConfig>(
         de: &mut Deserializer<R, C>,

@@ -148,7 +148,8 @@ impl<'r, E1: Serialize, E2: Serialize, E3: Serialize, E4: Serialize> Elements
     for Four<'r, E1, E2, E3, E4> {
     ghost count = { 4 };
 
-    ghost parts_of = { λ v human. E1.data_of v.first.now human ∷ E2.data_of v.second.now human ∷ E3.data_of v.third.now human ∷ E4.data_of v.fourth.now human ∷ [] };
+    ghost parts_of = { λ v human. E1.data_of v.first.now human ∷ E2.data_of v.second.now human ∷ E3.data_of v.third.now human
+        ∷ E4.data_of v.fourth.now human ∷ [] };
 
     ghost are_values = { λ v. E1.is_value v.first.now × E2.is_value v.second.now × E3.is_value v.third.now × E4.is_value v.fourth.now };
 
@@ -198,9 +199,11 @@ impl<'r, E1: Serialize, E2: Serialize, E3: Serialize, E4: Serialize, E5: Seriali
     for Five<'r, E1, E2, E3, E4, E5> {
     ghost count = { 5 };
 
-    ghost parts_of = { λ v human. E1.data_of v.first.now human ∷ E2.data_of v.second.now human ∷ E3.data_of v.third.now human ∷ E4.data_of v.fourth.now human ∷ E5.data_of v.fifth.now human ∷ [] };
+    ghost parts_of = { λ v human. E1.data_of v.first.now human ∷ E2.data_of v.second.now human ∷ E3.data_of v.third.now human
+        ∷ E4.data_of v.fourth.now human ∷ E5.data_of v.fifth.now human ∷ [] };
 
-    ghost are_values = { λ v. E1.is_value v.first.now × E2.is_value v.second.now × E3.is_value v.third.now × E4.is_value v.fourth.now × E5.is_value v.fifth.now };
+    ghost are_values = { λ v. E1.is_value v.first.now × E2.is_value v.second.now × E3.is_value v.third.now × E4.is_value v.fourth.now
+        × E5.is_value v.fifth.now };
 
     ghost takes_memory = { λ s. one_of (E1.takes_memory s ∷ (E2.takes_memory s ∷ (E3.takes_memory s ∷ (E4.takes_memory s ∷ (E5.takes_memory s ∷ []))))) };
 
@@ -258,11 +261,14 @@ impl<
 > Elements for Six<'r, E1, E2, E3, E4, E5, E6> {
     ghost count = { 6 };
 
-    ghost parts_of = { λ v human. E1.data_of v.first.now human ∷ E2.data_of v.second.now human ∷ E3.data_of v.third.now human ∷ E4.data_of v.fourth.now human ∷ E5.data_of v.fifth.now human ∷ E6.data_of v.sixth.now human ∷ [] };
+    ghost parts_of = { λ v human. E1.data_of v.first.now human ∷ E2.data_of v.second.now human ∷ E3.data_of v.third.now human
+        ∷ E4.data_of v.fourth.now human ∷ E5.data_of v.fifth.now human ∷ E6.data_of v.sixth.now human ∷ [] };
 
-    ghost are_values = { λ v. E1.is_value v.first.now × E2.is_value v.second.now × E3.is_value v.third.now × E4.is_value v.fourth.now × E5.is_value v.fifth.now × E6.is_value v.sixth.now };
+    ghost are_values = { λ v. E1.is_value v.first.now × E2.is_value v.second.now × E3.is_value v.third.now × E4.is_value v.fourth.now
+        × E5.is_value v.fifth.now × E6.is_value v.sixth.now };
 
-    ghost takes_memory = { λ s. one_of (E1.takes_memory s ∷ (E2.takes_memory s ∷ (E3.takes_memory s ∷ (E4.takes_memory s ∷ (E5.takes_memory s ∷ (E6.takes_memory s ∷ [])))))) };
+    ghost takes_memory = { λ s. one_of (E1.takes_memory s
+        ∷ (E2.takes_memory s ∷ (E3.takes_memory s ∷ (E4.takes_memory s ∷ (E5.takes_memory s ∷ (E6.takes_memory s ∷ [])))))) };
 
     ghost counted = { λ v human. refl };
 
@@ -322,11 +328,14 @@ impl<
 > Elements for Seven<'r, E1, E2, E3, E4, E5, E6, E7> {
     ghost count = { 7 };
 
-    ghost parts_of = { λ v human. E1.data_of v.first.now human ∷ E2.data_of v.second.now human ∷ E3.data_of v.third.now human ∷ E4.data_of v.fourth.now human ∷ E5.data_of v.fifth.now human ∷ E6.data_of v.sixth.now human ∷ E7.data_of v.seventh.now human ∷ [] };
+    ghost parts_of = { λ v human. E1.data_of v.first.now human ∷ E2.data_of v.second.now human ∷ E3.data_of v.third.now human
+        ∷ E4.data_of v.fourth.now human ∷ E5.data_of v.fifth.now human ∷ E6.data_of v.sixth.now human ∷ E7.data_of v.seventh.now human ∷ [] };
 
-    ghost are_values = { λ v. E1.is_value v.first.now × E2.is_value v.second.now × E3.is_value v.third.now × E4.is_value v.fourth.now × E5.is_value v.fifth.now × E6.is_value v.sixth.now × E7.is_value v.seventh.now };
+    ghost are_values = { λ v. E1.is_value v.first.now × E2.is_value v.second.now × E3.is_value v.third.now × E4.is_value v.fourth.now
+        × E5.is_value v.fifth.now × E6.is_value v.sixth.now × E7.is_value v.seventh.now };
 
-    ghost takes_memory = { λ s. one_of (E1.takes_memory s ∷ (E2.takes_memory s ∷ (E3.takes_memory s ∷ (E4.takes_memory s ∷ (E5.takes_memory s ∷ (E6.takes_memory s ∷ (E7.takes_memory s ∷ []))))))) };
+    ghost takes_memory = { λ s. one_of (E1.takes_memory s
+        ∷ (E2.takes_memory s ∷ (E3.takes_memory s ∷ (E4.takes_memory s ∷ (E5.takes_memory s ∷ (E6.takes_memory s ∷ (E7.takes_memory s ∷ []))))))) };
 
     ghost counted = { λ v human. refl };
 
@@ -390,11 +399,16 @@ impl<
 > Elements for Eight<'r, E1, E2, E3, E4, E5, E6, E7, E8> {
     ghost count = { 8 };
 
-    ghost parts_of = { λ v human. E1.data_of v.first.now human ∷ E2.data_of v.second.now human ∷ E3.data_of v.third.now human ∷ E4.data_of v.fourth.now human ∷ E5.data_of v.fifth.now human ∷ E6.data_of v.sixth.now human ∷ E7.data_of v.seventh.now human ∷ E8.data_of v.eighth.now human ∷ [] };
+    ghost parts_of = { λ v human. E1.data_of v.first.now human ∷ E2.data_of v.second.now human ∷ E3.data_of v.third.now human
+        ∷ E4.data_of v.fourth.now human ∷ E5.data_of v.fifth.now human ∷ E6.data_of v.sixth.now human ∷ E7.data_of v.seventh.now human
+        ∷ E8.data_of v.eighth.now human ∷ [] };
 
-    ghost are_values = { λ v. E1.is_value v.first.now × E2.is_value v.second.now × E3.is_value v.third.now × E4.is_value v.fourth.now × E5.is_value v.fifth.now × E6.is_value v.sixth.now × E7.is_value v.seventh.now × E8.is_value v.eighth.now };
+    ghost are_values = { λ v. E1.is_value v.first.now × E2.is_value v.second.now × E3.is_value v.third.now × E4.is_value v.fourth.now
+        × E5.is_value v.fifth.now × E6.is_value v.sixth.now × E7.is_value v.seventh.now × E8.is_value v.eighth.now };
 
-    ghost takes_memory = { λ s. one_of (E1.takes_memory s ∷ (E2.takes_memory s ∷ (E3.takes_memory s ∷ (E4.takes_memory s ∷ (E5.takes_memory s ∷ (E6.takes_memory s ∷ (E7.takes_memory s ∷ (E8.takes_memory s ∷ [])))))))) };
+    ghost takes_memory = { λ s. one_of (E1.takes_memory s
+        ∷ (E2.takes_memory s ∷ (E3.takes_memory s ∷ (E4.takes_memory s
+        ∷ (E5.takes_memory s ∷ (E6.takes_memory s ∷ (E7.takes_memory s ∷ (E8.takes_memory s ∷ [])))))))) };
 
     ghost counted = { λ v human. refl };
 

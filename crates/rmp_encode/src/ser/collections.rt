@@ -25,7 +25,9 @@ impl<T: Serialize> Serialize for VecDeque<T> {
         &self,
         se: &mut Serializer<W, C>,
     ) -> Result<(), Error>
-        ensures writes { WritesTree W.Sink (T.takes_memory (settings_of se.old) || W.takes_memory) (tree_of (settings_of se.old) (sequence_of (map (λ x. T.data_of x (settings_of se.old).human) self.now.items))) (sink_of se.old) (sink_of se.new) result }
+        ensures writes { WritesTree W.Sink (T.takes_memory (settings_of se.old) || W.takes_memory)
+            (tree_of (settings_of se.old) (sequence_of (map (λ x. T.data_of x (settings_of se.old).human) self.now.items))) (sink_of se.old)
+            (sink_of se.new) result }
         ensures keeps { Keeps W.Sink se.old se.new }
         ensures refused { 2 ^ 32 ≤ length self.now.items → se.new ≡ se.old }
         ensures reason { 2 ^ 32 ≤ length self.now.items → StaysAtRefusal se.old se.new result }
@@ -56,7 +58,9 @@ impl<T: Serialize + Ord> Serialize for BTreeSet<T> {
         &self,
         se: &mut Serializer<W, C>,
     ) -> Result<(), Error>
-        ensures writes { WritesTree W.Sink (T.takes_memory (settings_of se.old) || W.takes_memory) (tree_of (settings_of se.old) (sequence_of (map (λ x. T.data_of x (settings_of se.old).human) self.now.keys))) (sink_of se.old) (sink_of se.new) result }
+        ensures writes { WritesTree W.Sink (T.takes_memory (settings_of se.old) || W.takes_memory)
+            (tree_of (settings_of se.old) (sequence_of (map (λ x. T.data_of x (settings_of se.old).human) self.now.keys))) (sink_of se.old) (sink_of se.new)
+            result }
         ensures keeps { Keeps W.Sink se.old se.new }
         ensures refused { 2 ^ 32 ≤ length self.now.keys → se.new ≡ se.old }
         ensures reason { 2 ^ 32 ≤ length self.now.keys → StaysAtRefusal se.old se.new result }
@@ -87,7 +91,9 @@ impl<K: Serialize + Ord, V: Serialize> Serialize for BTreeMap<K, V> {
         &self,
         se: &mut Serializer<W, C>,
     ) -> Result<(), Error>
-        ensures writes { WritesTree W.Sink ((K.takes_memory (settings_of se.old) || V.takes_memory (settings_of se.old)) || W.takes_memory) (tree_of (settings_of se.old) (mapping_of (in_turn (λ k. K.data_of k (settings_of se.old).human) (λ x. V.data_of x (settings_of se.old).human) self.now.entries))) (sink_of se.old) (sink_of se.new) result }
+        ensures writes { WritesTree W.Sink ((K.takes_memory (settings_of se.old) || V.takes_memory (settings_of se.old)) || W.takes_memory)
+            (tree_of (settings_of se.old) (mapping_of (in_turn (λ k. K.data_of k (settings_of se.old).human) (λ x. V.data_of x (settings_of se.old).human)
+            self.now.entries))) (sink_of se.old) (sink_of se.new) result }
         ensures keeps { Keeps W.Sink se.old se.new }
         ensures refused { 2 ^ 32 ≤ length self.now.entries → se.new ≡ se.old }
         ensures reason { 2 ^ 32 ≤ length self.now.entries → StaysAtRefusal se.old se.new result }

@@ -25,7 +25,9 @@ impl<T: Serialize> Serialize for Vec<T> {
         &self,
         se: &mut Serializer<W, C>,
     ) -> Result<(), Error>
-        ensures writes { WritesTree W.Sink ((forces_slices (settings_of se.old).bytes || T.takes_memory (settings_of se.old)) || W.takes_memory) (tree_of (settings_of se.old) (slice_of (map (λ x. T.data_of x (settings_of se.old).human) self.now.items))) (sink_of se.old) (sink_of se.new) result }
+        ensures writes { WritesTree W.Sink ((forces_slices (settings_of se.old).bytes || T.takes_memory (settings_of se.old)) || W.takes_memory)
+            (tree_of (settings_of se.old) (slice_of (map (λ x. T.data_of x (settings_of se.old).human) self.now.items))) (sink_of se.old) (sink_of se.new)
+            result }
         ensures keeps { Keeps W.Sink se.old se.new }
         ensures refused { 2 ^ 32 ≤ length self.now.items → se.new ≡ se.old }
         ensures reason { 2 ^ 32 ≤ length self.now.items → StaysAtRefusal se.old se.new result }
@@ -52,7 +54,9 @@ impl<T: Serialize> Serialize for &[T] {
         &self,
         se: &mut Serializer<W, C>,
     ) -> Result<(), Error>
-        ensures writes { WritesTree W.Sink ((forces_slices (settings_of se.old).bytes || T.takes_memory (settings_of se.old)) || W.takes_memory) (tree_of (settings_of se.old) (slice_of (map (λ x. T.data_of x (settings_of se.old).human) self.now.now))) (sink_of se.old) (sink_of se.new) result }
+        ensures writes { WritesTree W.Sink ((forces_slices (settings_of se.old).bytes || T.takes_memory (settings_of se.old)) || W.takes_memory)
+            (tree_of (settings_of se.old) (slice_of (map (λ x. T.data_of x (settings_of se.old).human) self.now.now))) (sink_of se.old) (sink_of se.new)
+            result }
         ensures keeps { Keeps W.Sink se.old se.new }
         ensures refused { 2 ^ 32 ≤ length self.now.now → se.new ≡ se.old }
         ensures reason { 2 ^ 32 ≤ length self.now.now → StaysAtRefusal se.old se.new result }

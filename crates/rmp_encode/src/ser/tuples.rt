@@ -111,11 +111,13 @@ impl<E1: Serialize, E2: Serialize, E3: Serialize, E4: Serialize> Serialize for (
 
 impl<E1: Serialize, E2: Serialize, E3: Serialize, E4: Serialize, E5: Serialize> Serialize
     for (E1, E2, E3, E4, E5) {
-    ghost data_of = { λ v human. tuple_of (E1.data_of v.0 human ∷ E2.data_of v.1 human ∷ E3.data_of v.2 human ∷ E4.data_of v.3 human ∷ E5.data_of v.4 human ∷ []) };
+    ghost data_of = { λ v human. tuple_of (E1.data_of v.0 human ∷ E2.data_of v.1 human ∷ E3.data_of v.2 human ∷ E4.data_of v.3 human ∷ E5.data_of v.4 human
+        ∷ []) };
 
     ghost is_value = { λ v. E1.is_value v.0 × E2.is_value v.1 × E3.is_value v.2 × E4.is_value v.3 × E5.is_value v.4 };
 
-    ghost takes_memory = { λ s. forces_all s.bytes || one_of (E1.takes_memory s ∷ (E2.takes_memory s ∷ (E3.takes_memory s ∷ (E4.takes_memory s ∷ (E5.takes_memory s ∷ []))))) };
+    ghost takes_memory = { λ s. forces_all s.bytes || one_of
+        (E1.takes_memory s ∷ (E2.takes_memory s ∷ (E3.takes_memory s ∷ (E4.takes_memory s ∷ (E5.takes_memory s ∷ []))))) };
 
     fn serialize<W: Sink, C: SerializerConfig>(
         &self,
@@ -145,11 +147,13 @@ impl<
     E5: Serialize,
     E6: Serialize,
 > Serialize for (E1, E2, E3, E4, E5, E6) {
-    ghost data_of = { λ v human. tuple_of (E1.data_of v.0 human ∷ E2.data_of v.1 human ∷ E3.data_of v.2 human ∷ E4.data_of v.3 human ∷ E5.data_of v.4 human ∷ E6.data_of v.5 human ∷ []) };
+    ghost data_of = { λ v human. tuple_of (E1.data_of v.0 human ∷ E2.data_of v.1 human ∷ E3.data_of v.2 human ∷ E4.data_of v.3 human ∷ E5.data_of v.4 human
+        ∷ E6.data_of v.5 human ∷ []) };
 
     ghost is_value = { λ v. E1.is_value v.0 × E2.is_value v.1 × E3.is_value v.2 × E4.is_value v.3 × E5.is_value v.4 × E6.is_value v.5 };
 
-    ghost takes_memory = { λ s. forces_all s.bytes || one_of (E1.takes_memory s ∷ (E2.takes_memory s ∷ (E3.takes_memory s ∷ (E4.takes_memory s ∷ (E5.takes_memory s ∷ (E6.takes_memory s ∷ [])))))) };
+    ghost takes_memory = { λ s. forces_all s.bytes || one_of
+        (E1.takes_memory s ∷ (E2.takes_memory s ∷ (E3.takes_memory s ∷ (E4.takes_memory s ∷ (E5.takes_memory s ∷ (E6.takes_memory s ∷ [])))))) };
 
     fn serialize<W: Sink, C: SerializerConfig>(
         &self,
@@ -181,11 +185,14 @@ impl<
     E6: Serialize,
     E7: Serialize,
 > Serialize for (E1, E2, E3, E4, E5, E6, E7) {
-    ghost data_of = { λ v human. tuple_of (E1.data_of v.0 human ∷ E2.data_of v.1 human ∷ E3.data_of v.2 human ∷ E4.data_of v.3 human ∷ E5.data_of v.4 human ∷ E6.data_of v.5 human ∷ E7.data_of v.6 human ∷ []) };
+    ghost data_of = { λ v human. tuple_of (E1.data_of v.0 human ∷ E2.data_of v.1 human ∷ E3.data_of v.2 human ∷ E4.data_of v.3 human ∷ E5.data_of v.4 human
+        ∷ E6.data_of v.5 human ∷ E7.data_of v.6 human ∷ []) };
 
     ghost is_value = { λ v. E1.is_value v.0 × E2.is_value v.1 × E3.is_value v.2 × E4.is_value v.3 × E5.is_value v.4 × E6.is_value v.5 × E7.is_value v.6 };
 
-    ghost takes_memory = { λ s. forces_all s.bytes || one_of (E1.takes_memory s ∷ (E2.takes_memory s ∷ (E3.takes_memory s ∷ (E4.takes_memory s ∷ (E5.takes_memory s ∷ (E6.takes_memory s ∷ (E7.takes_memory s ∷ []))))))) };
+    ghost takes_memory = { λ s. forces_all s.bytes || one_of
+        (E1.takes_memory s ∷ (E2.takes_memory s ∷ (E3.takes_memory s
+        ∷ (E4.takes_memory s ∷ (E5.takes_memory s ∷ (E6.takes_memory s ∷ (E7.takes_memory s ∷ []))))))) };
 
     fn serialize<W: Sink, C: SerializerConfig>(
         &self,
@@ -219,11 +226,15 @@ impl<
     E7: Serialize,
     E8: Serialize,
 > Serialize for (E1, E2, E3, E4, E5, E6, E7, E8) {
-    ghost data_of = { λ v human. tuple_of (E1.data_of v.0 human ∷ E2.data_of v.1 human ∷ E3.data_of v.2 human ∷ E4.data_of v.3 human ∷ E5.data_of v.4 human ∷ E6.data_of v.5 human ∷ E7.data_of v.6 human ∷ E8.data_of v.7 human ∷ []) };
+    ghost data_of = { λ v human. tuple_of (E1.data_of v.0 human ∷ E2.data_of v.1 human ∷ E3.data_of v.2 human ∷ E4.data_of v.3 human ∷ E5.data_of v.4 human
+        ∷ E6.data_of v.5 human ∷ E7.data_of v.6 human ∷ E8.data_of v.7 human ∷ []) };
 
-    ghost is_value = { λ v. E1.is_value v.0 × E2.is_value v.1 × E3.is_value v.2 × E4.is_value v.3 × E5.is_value v.4 × E6.is_value v.5 × E7.is_value v.6 × E8.is_value v.7 };
+    ghost is_value = { λ v. E1.is_value v.0 × E2.is_value v.1 × E3.is_value v.2 × E4.is_value v.3 × E5.is_value v.4 × E6.is_value v.5 × E7.is_value v.6
+        × E8.is_value v.7 };
 
-    ghost takes_memory = { λ s. forces_all s.bytes || one_of (E1.takes_memory s ∷ (E2.takes_memory s ∷ (E3.takes_memory s ∷ (E4.takes_memory s ∷ (E5.takes_memory s ∷ (E6.takes_memory s ∷ (E7.takes_memory s ∷ (E8.takes_memory s ∷ [])))))))) };
+    ghost takes_memory = { λ s. forces_all s.bytes || one_of
+        (E1.takes_memory s ∷ (E2.takes_memory s ∷ (E3.takes_memory s
+        ∷ (E4.takes_memory s ∷ (E5.takes_memory s ∷ (E6.takes_memory s ∷ (E7.takes_memory s ∷ (E8.takes_memory s ∷ [])))))))) };
 
     fn serialize<W: Sink, C: SerializerConfig>(
         &self,

@@ -33,7 +33,8 @@ impl<W: Sink, C: SerializerConfig> Serializer<W, C> {
     /// Those of the value.
     #[inline(always)]
     pub fn serialize_some<T: Serialize>(&mut self, value: &T) -> Result<(), Error>
-        ensures writes { WritesTree W.Sink (T.takes_memory (settings_of self.old) || W.takes_memory) (tree_of (settings_of self.old) (wrapped_of (T.data_of value.now (settings_of self.old).human))) (sink_of self.old) (sink_of self.new) result }
+        ensures writes { WritesTree W.Sink (T.takes_memory (settings_of self.old) || W.takes_memory)
+            (tree_of (settings_of self.old) (wrapped_of (T.data_of value.now (settings_of self.old).human))) (sink_of self.old) (sink_of self.new) result }
         ensures keeps { Keeps W.Sink self.old self.new }
         ensures value { OnOk result (T.is_value value.now) }
     {
@@ -64,7 +65,9 @@ impl<W: Sink, C: SerializerConfig> Serializer<W, C> {
         name: &'static str,
         value: &T,
     ) -> Result<(), Error>
-        ensures writes { WritesTree W.Sink (T.takes_memory (settings_of self.old) || W.takes_memory) (tree_of (settings_of self.old) (newtype_of name.now (T.data_of value.now (settings_of self.old).human))) (sink_of self.old) (sink_of self.new) result }
+        ensures writes { WritesTree W.Sink (T.takes_memory (settings_of self.old) || W.takes_memory)
+            (tree_of (settings_of self.old) (newtype_of name.now (T.data_of value.now (settings_of self.old).human))) (sink_of self.old) (sink_of self.new)
+            result }
         ensures keeps { Keeps W.Sink self.old self.new }
         ensures refused { name.now ≡ codes "_ExtStruct" → RefusesName self.old self.new result }
         ensures value { OnOk result (T.is_value value.now) }

@@ -104,7 +104,8 @@ struct Cat {
 }
 
 impl Serialize for Cat {
-    ghost data_of = { λ v _. structure_of ((codes "name", Some (text (string_bytes v.name))) ∷ ((codes "age", Some (byte v.age)) ∷ ((codes "home", Some (truth v.home)) ∷ []))) };
+    ghost data_of = { λ v _. structure_of ((codes "name", Some (text (string_bytes v.name)))
+        ∷ ((codes "age", Some (byte v.age)) ∷ ((codes "home", Some (truth v.home)) ∷ []))) };
 
     ghost is_value = { λ v. IsUtf8 (string_bytes v.name) × (v.age < 2 ^ 8) × ⊤ };
 

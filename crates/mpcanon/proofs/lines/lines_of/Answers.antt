@@ -6,5 +6,6 @@ use Rattle.mpcanon.proofs.lines.lines_of.Goals as goal
 pub returns : goal.returns
 returns c = record {
   lines = map_from_collect _ c.collect.ensures.ran
-      (YieldsList-from_slice_split _ (λ b. eqb b 10) c.args.input.now c.split.ensures.rest c.split.ensures.done c.split.ensures.closure (λ x b q k. search (rules, tests)));
+      (YieldsList-from_slice_split _ (λ b. eqb b 10) c.args.input.now c.split.ensures.rest c.split.ensures.done c.split.ensures.closure
+      (λ x b q k. search (rules, tests)));
 }

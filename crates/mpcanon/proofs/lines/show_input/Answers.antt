@@ -18,20 +18,23 @@ returns-in_err-input-clause-prints g c =
 
 pub returns-clause-shown : goal.returns-clause-shown
 returns-clause-shown g c =
-    let shown : Bool → List ℕ → Type 0 = λ accepted input. Puts g.W.Sink (λ out. PrintsAll g.S.Shows.shows (lines_in input) out accepted) c.args.sink.now c.show_lines.new.sink in
+    let shown : Bool → List ℕ → Type 0 = λ accepted input. Puts g.W.Sink (λ out. PrintsAll g.S.Shows.shows (lines_in input) out accepted) c.args.sink.now
+    c.show_lines.new.sink in
     IfOk-weaker c.show_lines.result (λ accepted. shown accepted c.as_slice.result.now) _
     (λ accepted h. on_input _ _ (shown accepted) c.in_ok-input.ensures.whole (rw c.as_slice.ensures.value at h))
     c.show_lines.ensures.shown
 
 pub returns-clause-reads : goal.returns-clause-reads
 returns-clause-reads g c =
-    printing_reads g.W.Sink g.R.Source c.show_lines.result (on_input _ _ _ c.in_ok-input.ensures.whole c.in_ok-input.ensures.taken) c.in_ok-input.ensures.sound c.read_to_end.ensures.place c.show_lines.ensures.prints
+    printing_reads g.W.Sink g.R.Source c.show_lines.result (on_input _ _ _ c.in_ok-input.ensures.whole c.in_ok-input.ensures.taken)
+    c.in_ok-input.ensures.sound c.read_to_end.ensures.place c.show_lines.ensures.prints
 
 pub returns-clause-prints : goal.returns-clause-prints
 returns-clause-prints g c = run_prints g.W.Sink c.show_lines.result c.show_lines.ensures.prints
 
 pub returns-in_err-input-clause-early : goal.returns-in_err-input-clause-early
-returns-in_err-input-clause-early g c = on_err c.from_residual.result _ (if_some _ _ (λ input. all_none g.W.Sink g.S.Shows.starts g.S.Shows.shows (lines_in input) c.args.sink.now))
+returns-in_err-input-clause-early g c = on_err c.from_residual.result _
+    (if_some _ _ (λ input. all_none g.W.Sink g.S.Shows.starts g.S.Shows.shows (lines_in input) c.args.sink.now))
 
 pub returns-clause-early : goal.returns-clause-early
 returns-clause-early g c =

@@ -19,7 +19,8 @@ returns-in-Ok-clause-shown g c =
 pub returns-clause-shown : goal.returns-clause-shown
 returns-clause-shown g c =
     let why : (c.in-Err.e ≡ OutOfMemory) ⊎ (decode_of (digits_in c.args.line.now) ≡ Err c.in-Err.e) = search rules in
-    hex_refused g.S.Shows.shows g.W.Sink _ _ c.args.line.now c.in-Err.e c.refuse_hex.result why c.refuse_hex.ensures.hex c.refuse_hex.ensures.refused c.refuse_hex.ensures.line
+    hex_refused g.S.Shows.shows g.W.Sink _ _ c.args.line.now c.in-Err.e c.refuse_hex.result why c.refuse_hex.ensures.hex c.refuse_hex.ensures.refused
+    c.refuse_hex.ensures.line
 
 pub returns-in-Ok-clause-early : goal.returns-in-Ok-clause-early
 returns-in-Ok-clause-early g c =

@@ -20,14 +20,17 @@ loop-line-preserved g c =
     let v : Bor (List ℕ) → List ℕ = λ x. x.now in
     let within : c.loop-line.line-index < length c.deref-line-items.result.now = c.loop-line-test.true in
     record {
-      shown = puts_more g.W.Sink g.S.Shows.shows v c.deref-line-items.result.now c.loop-line.line-index _ c.loop-line.accepted c.in_ok-accepted.field-0 within c.loop-line.invariant.shown c.in_ok-accepted.ensures.shown;
+      shown = puts_more g.W.Sink g.S.Shows.shows v c.deref-line-items.result.now c.loop-line.line-index _ c.loop-line.accepted c.in_ok-accepted.field-0
+          within c.loop-line.invariant.shown c.in_ok-accepted.ensures.shown;
       lines = puts_both g.W.Sink c.loop-line.invariant.lines c.in_ok-accepted.ensures.prints.whole;
       place = c.show_line.ensures.prints.place ∙ c.loop-line.invariant.place;
     }
 
 pub returns-clause-shown : goal.returns-clause-shown
 returns-clause-shown g c =
-    subst (λ all. Puts g.W.Sink (λ out. PrintsAll g.S.Shows.shows all out c.loop-line.accepted) c.args.sink.now c.loop-line.sink) (all_taken (λ (x : Bor (List ℕ)). x.now) _ _ _ _ (omega arith) c.deref-line-items.ensures.value c.in_ok-lines.ensures.lines) c.loop-line.invariant.shown
+    subst (λ all. Puts g.W.Sink (λ out. PrintsAll g.S.Shows.shows all out c.loop-line.accepted) c.args.sink.now c.loop-line.sink)
+    (all_taken (λ (x : Bor (List ℕ)). x.now) _ _ _ _ (omega arith) c.deref-line-items.ensures.value c.in_ok-lines.ensures.lines)
+    c.loop-line.invariant.shown
 
 pub returns-in_err-lines-clause-early : goal.returns-in_err-lines-clause-early
 returns-in_err-lines-clause-early g c = on_err c.from_residual.result _ (all_none g.W.Sink g.S.Shows.starts g.S.Shows.shows _ c.args.sink.now)
@@ -37,4 +40,5 @@ returns-in_err-accepted-clause-early g c =
     let v : Bor (List ℕ) → List ℕ = λ x. x.now in
     let within : c.loop-line.line-index < length c.deref-line-items.result.now = c.loop-line-test.true in
     on_err c.from_residual-in_err-accepted.result _
-    (all_early g.W.Sink g.S.Shows.starts g.S.Shows.shows v c.deref-line-items.result.now c.loop-line.line-index _ _ c.loop-line.accepted within (ap (map v) c.deref-line-items.ensures.value ∙ c.in_ok-lines.ensures.lines) c.loop-line.invariant.shown c.in_err-accepted.ensures.early)
+    (all_early g.W.Sink g.S.Shows.starts g.S.Shows.shows v c.deref-line-items.result.now c.loop-line.line-index _ _ c.loop-line.accepted within
+    (ap (map v) c.deref-line-items.ensures.value ∙ c.in_ok-lines.ensures.lines) c.loop-line.invariant.shown c.in_err-accepted.ensures.early)

@@ -1,9 +1,32 @@
 use Rattle.std.proofs.Common.{rules, arith, ◌≡◌, ◌++◌, ◌<◌, ◌≤◌, OnOk, string_bytes, sym}
 use Rattle.std.specs.Prelude.{codes, None}
 use Rattle.rmp_serde.specs.Parts.{tree, parts_count, item_of, pair_of}
-use Rattle.mpcanon.proofs.PartTexts.{comma, comma_put, no_comma, part_put, bracket_put, pair_put, parts_texts, list_text, map_text, item_text, pair_text, item_there, pair_there}
+use Rattle.mpcanon.proofs.PartTexts.{
+  comma,
+  comma_put,
+  no_comma,
+  part_put,
+  bracket_put,
+  pair_put,
+  parts_texts,
+  list_text,
+  map_text,
+  item_text,
+  pair_text,
+  item_there,
+  pair_there,
+}
 use Rattle.mpcanon.proofs.tree_text.+tree_text.Goals as goal
-use Rattle.mpcanon.proofs.tree_text.+tree_text.Goals.{write_list-then-i-gt0+in_ok-push_str-2, write_list-else-i-gt0, write_list-in-Some+in_ok-write_tree, write_list-in_default, write_map-then-i-gt0+in_ok-push_str-2, write_map-else-i-gt0, write_map-in-Some+in_ok-write_tree+in_ok-push_str-3+in_ok-write_tree-2, write_map-in_default}
+use Rattle.mpcanon.proofs.tree_text.+tree_text.Goals.{
+  write_list-then-i-gt0+in_ok-push_str-2,
+  write_list-else-i-gt0,
+  write_list-in-Some+in_ok-write_tree,
+  write_list-in_default,
+  write_map-then-i-gt0+in_ok-push_str-2,
+  write_map-else-i-gt0,
+  write_map-in-Some+in_ok-write_tree+in_ok-push_str-3+in_ok-write_tree-2,
+  write_map-in_default,
+}
 
 pub write_list-loop-i-preserved : goal.write_list-loop-i-preserved
 write_list-loop-i-preserved t c =
@@ -15,7 +38,9 @@ write_list-loop-i-preserved t c =
       | write_list-else-i-gt0 w ↦ rw w.text-is (no_comma i (string_bytes c.loop-i.text) (omega arith))
     ] in
     elim c.match-item.branch [
-      | write_list-in-Some+in_ok-write_tree w ↦ rw w.text-is (part_put (string_bytes c.args.text.now) (codes "[") (parts_texts m) i _ (item_text m i _ (sym w.in-Some.ensures.item)) c.loop-i.invariant behind w.in_ok-write_tree.ensures)
+      | write_list-in-Some+in_ok-write_tree w ↦ rw w.text-is
+          (part_put (string_bytes c.args.text.now) (codes "[") (parts_texts m) i _ (item_text m i _ (sym w.in-Some.ensures.item)) c.loop-i.invariant behind
+          w.in_ok-write_tree.ensures)
       | write_list-in_default w ↦ let none : item_of m i ≡ None = search rules in absurd (item_there m i c.requires within none)
     ]
 

@@ -15,23 +15,30 @@ returns-in-Some c = rw (held c.in-Some.truth _ c.in-Some.ensures.truth (leaf_tex
 
 -- src/tree_text.rt:60:1
 pub returns-in-Some-as_whole : goal.returns-in-Some-as_whole
-returns-in-Some-as_whole c = rw (held c.in-Some-as_whole.number _ c.in-Some-as_whole.ensures.number (leaf_texts (tree c.args.leaf)).number) (rw (sym (to_z-of_z w128 c.in-Some-as_whole.number (search rules))) c.write-in-Some-as_whole.ensures.bytes)
+returns-in-Some-as_whole c = rw (held c.in-Some-as_whole.number _ c.in-Some-as_whole.ensures.number (leaf_texts (tree c.args.leaf)).number)
+    (rw (sym (to_z-of_z w128 c.in-Some-as_whole.number (search rules))) c.write-in-Some-as_whole.ensures.bytes)
 
 -- src/tree_text.rt:60:1
 pub returns-in_ok-push_str : goal.returns-in_ok-push_str
-returns-in_ok-push_str c = then_more _ _ _ (codes "f32:") (encode_lower (to_be_bytes w32 c.in-Some-as_f32_bits.bits)) (held c.in-Some-as_f32_bits.bits _ c.in-Some-as_f32_bits.ensures.bits (leaf_texts (tree c.args.leaf)).narrow) c.in_ok-push_str.ensures.bytes (rw (sym c.to_be_bytes.ensures) c.write_hex.ensures)
+returns-in_ok-push_str c = then_more _ _ _ (codes "f32:") (encode_lower (to_be_bytes w32 c.in-Some-as_f32_bits.bits))
+    (held c.in-Some-as_f32_bits.bits _ c.in-Some-as_f32_bits.ensures.bits (leaf_texts (tree c.args.leaf)).narrow) c.in_ok-push_str.ensures.bytes
+    (rw (sym c.to_be_bytes.ensures) c.write_hex.ensures)
 
 -- src/tree_text.rt:60:1
 pub returns-in_ok-push_str-2 : goal.returns-in_ok-push_str-2
-returns-in_ok-push_str-2 c = then_more _ _ _ (codes "f64:") (encode_lower (to_be_bytes w64 c.in-Some-as_f64_bits.bits)) (held c.in-Some-as_f64_bits.bits _ c.in-Some-as_f64_bits.ensures.bits (leaf_texts (tree c.args.leaf)).wide) c.in_ok-push_str-2.ensures.bytes (rw (sym c.to_be_bytes-in-Some-as_f64_bits.ensures) c.write_hex-in-Some-as_f64_bits.ensures)
+returns-in_ok-push_str-2 c = then_more _ _ _ (codes "f64:") (encode_lower (to_be_bytes w64 c.in-Some-as_f64_bits.bits))
+    (held c.in-Some-as_f64_bits.bits _ c.in-Some-as_f64_bits.ensures.bits (leaf_texts (tree c.args.leaf)).wide) c.in_ok-push_str-2.ensures.bytes
+    (rw (sym c.to_be_bytes-in-Some-as_f64_bits.ensures) c.write_hex-in-Some-as_f64_bits.ensures)
 
 -- src/tree_text.rt:60:1
 pub returns-in_ok-push_str-3 : goal.returns-in_ok-push_str-3
-returns-in_ok-push_str-3 c = then_more _ _ _ (codes "t:") _ (held _ _ c.in-Some-as_str.ensures.text (leaf_texts (tree c.args.leaf)).characters) c.in_ok-push_str-3.ensures.bytes (rw (sym c.as_bytes.ensures.value) c.write_hex-in-Some-as_str.ensures)
+returns-in_ok-push_str-3 c = then_more _ _ _ (codes "t:") _ (held _ _ c.in-Some-as_str.ensures.text (leaf_texts (tree c.args.leaf)).characters)
+    c.in_ok-push_str-3.ensures.bytes (rw (sym c.as_bytes.ensures.value) c.write_hex-in-Some-as_str.ensures)
 
 -- src/tree_text.rt:60:1
 pub returns-in_ok-push_str-4 : goal.returns-in_ok-push_str-4
-returns-in_ok-push_str-4 c = then_more _ _ _ (codes "b:") _ (held _ _ c.in-Some-as_bytes.ensures.bytes (leaf_texts (tree c.args.leaf)).bytes) c.in_ok-push_str-4.ensures.bytes c.write_hex-in-Some-as_bytes.ensures
+returns-in_ok-push_str-4 c = then_more _ _ _ (codes "b:") _ (held _ _ c.in-Some-as_bytes.ensures.bytes (leaf_texts (tree c.args.leaf)).bytes)
+    c.in_ok-push_str-4.ensures.bytes c.write_hex-in-Some-as_bytes.ensures
 
 -- src/tree_text.rt:60:1
 pub returns-in_ok-write : goal.returns-in_ok-write
@@ -44,4 +51,5 @@ returns-in_ok-write c =
 
 -- src/tree_text.rt:60:1
 pub returns-in_default-as_ext : goal.returns-in_default-as_ext
-returns-in_default-as_ext c = let is = nothing_else (tree c.args.leaf) c.requires.list c.requires.map (search rules) (search rules) (search rules) (search rules) (search rules) (search rules) (search rules) in rw is (search rules)
+returns-in_default-as_ext c = let is = nothing_else (tree c.args.leaf) c.requires.list c.requires.map (search rules) (search rules) (search rules)
+    (search rules) (search rules) (search rules) (search rules) in rw is (search rules)

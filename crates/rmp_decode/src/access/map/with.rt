@@ -25,7 +25,8 @@ impl<'x, R: Source, C: SerializerConfig> MapAccess<'x, R, C> {
     where
         F: FnOnce(&mut Deserializer<R, C>) -> Result<X, Error>,
         requires at_key { AtKey self.old }
-        requires part { is_map_sound self.old ≡ true → 0 < pairs_left self.old → FnOnceTakesAtMut F.FnOnce f (part_reader (map_lender self.old) (part_room self.old)) }
+        requires part { is_map_sound self.old ≡ true → 0 < pairs_left self.old
+            → FnOnceTakesAtMut F.FnOnce f (part_reader (map_lender self.old) (part_room self.old)) }
         ensures same_reference { self.new.de.ghost_name ≡ self.old.de.ghost_name }
         ensures before { is_map_sound self.old ≡ false → MatchResult result (λ _. ⊥) IsFailedBefore × (self.new ≡ self.old) }
         ensures none { is_map_sound self.old ≡ true → pairs_left self.old ≡ 0 → (result ≡ Ok None) × (self.new ≡ self.old) }

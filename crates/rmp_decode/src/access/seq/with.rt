@@ -27,7 +27,8 @@ impl<'x, R: Source, C: SerializerConfig> SeqAccess<'x, R, C> {
         ensures bytes { OnErr result (in_bytes self.old ≡ true) }
         ensures stays { Stays R.Source (lender_of self.old) (lender_of self.new) }
         ensures failed { is_failed (lender_of self.new) ≡ is_failed (lender_of self.old) }
-        ensures err { IfErr result (λ e. Explains e (faults_of R.Source (lender_of self.old)) (faults_of R.Source (lender_of self.new)) (IsAtEnd (R.ahead (lender_of self.old).reader))) }
+        ensures err { IfErr result (λ e. Explains e (faults_of R.Source (lender_of self.old)) (faults_of R.Source (lender_of self.new))
+            (IsAtEnd (R.ahead (lender_of self.old).reader))) }
         ensures end { IfErr result (λ e. faults_of R.Source (lender_of self.new) ≡ faults_of R.Source (lender_of self.old) → IsDataEnd e) }
     {
         self.sound = false;
@@ -55,7 +56,8 @@ impl<'x, R: Source, C: SerializerConfig> SeqAccess<'x, R, C> {
         ensures list { SameList self.old self.new }
         ensures before { is_sound self.old ≡ false → MatchResult result (λ _. ⊥) IsFailedBefore × (self.new ≡ self.old) }
         ensures none { is_sound self.old ≡ true → left_in self.old ≡ 0 → (result ≡ Ok None) × (self.new ≡ self.old) }
-        ensures part { is_sound self.old ≡ true → 0 < left_in self.old → PartRead R.Source F.FnOnce f self.old self.new result ⊎ PartMissing R.Source self.old self.new result }
+        ensures part { is_sound self.old ≡ true → 0 < left_in self.old
+            → PartRead R.Source F.FnOnce f self.old self.new result ⊎ PartMissing R.Source self.old self.new result }
         ensures still { OnOk result (is_sound self.new ≡ true) }
         ensures broken { OnErr result (is_sound self.new ≡ false) }
         ensures marked { is_failed (lender_of self.old) ≡ true → is_failed (lender_of self.new) ≡ true }

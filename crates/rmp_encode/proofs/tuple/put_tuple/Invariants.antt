@@ -10,7 +10,9 @@ abbrev pub invariant-loop-value : goal.invariant-loop-value
 invariant-loop-value g l = record {
   same : l.tup.se.ghost_name ≡ l.initial.tup.se.ghost_name;
   within : l.value-index ≤ length l.fn.values;
-  writing : IsTupling g.W.Sink l.fn.se (tree_of (settings_of l.fn.se) (tuple_of (map (λ x. g.T.Serialize.data_of x (settings_of l.fn.se).human) l.fn.values))) (map (λ x. g.T.Serialize.data_of x (settings_of l.fn.se).human) (drop l.value-index l.fn.values)) l.tup;
+  writing : IsTupling g.W.Sink l.fn.se (tree_of (settings_of l.fn.se)
+      (tuple_of (map (λ x. g.T.Serialize.data_of x (settings_of l.fn.se).human) l.fn.values)))
+      (map (λ x. g.T.Serialize.data_of x (settings_of l.fn.se).human) (drop l.value-index l.fn.values)) l.tup;
   keeps : Keeps g.W.Sink l.fn.se l.tup.se.now;
   values : All g.T.Serialize.is_value (take l.value-index l.fn.values);
 }

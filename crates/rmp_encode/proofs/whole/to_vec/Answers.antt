@@ -7,4 +7,5 @@ use Rattle.rmp_encode.proofs.whole.to_vec.Goals as goal
 
 pub returns-clause-bytes : goal.returns-clause-bytes
 returns-clause-bytes g c =
-    vec_spelled (sink_of c.new-se.result).items _ (ap (λ (s : Settings). tree_of s (g.T.Serialize.data_of c.args.value.now s.human)) c.new-se.ensures.settings) (search rules) c.in_ok-serialize.ensures.writes.may (search rules)
+    vec_spelled (sink_of c.new-se.result).items _ (ap (λ (s : Settings). tree_of s (g.T.Serialize.data_of c.args.value.now s.human))
+    c.new-se.ensures.settings) (search rules) c.in_ok-serialize.ensures.writes.may (search rules)

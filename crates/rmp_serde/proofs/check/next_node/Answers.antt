@@ -11,18 +11,25 @@ returns-in_err-marker c =
 
 pub returns-then-not-is_canonical : goal.returns-then-not-is_canonical
 returns-then-not-is_canonical c =
-    let t = c.in_ok-marker.ensures.reads.ok in
-    (next_other c.args.left.now.now c.next_head.new.source.now t.rest c.in_ok-marker.marker c.in_ok-marker.head t.is_head t.taken c.is_canonical.result c.is_canonical.ensures c.if-not-is_canonical.true, refl)
+    let t = c.in_ok-marker.ensures.reads.ok in (
+      next_other c.args.left.now.now c.next_head.new.source.now t.rest c.in_ok-marker.marker c.in_ok-marker.head t.is_head t.taken c.is_canonical.result
+          c.is_canonical.ensures c.if-not-is_canonical.true,
+      refl,
+    )
 
 pub returns-then-not-skip : goal.returns-then-not-skip
 returns-then-not-skip c =
     let t = c.in_ok-marker.ensures.reads.ok in
-    let short = subst (λ n. length c.next_head.new.source.now < n) c.content_in.ensures (c.if-not-skip.ensures.short refl) in
-    (c.from.ensures.0, inr (next_cut c.args.left.now.now c.next_head.new.source.now t.rest c.in_ok-marker.marker c.in_ok-marker.head t.is_head t.taken c.is_canonical.result c.is_canonical.ensures c.if-not-is_canonical.false t.is_marker short))
+    let short = subst (λ n. length c.next_head.new.source.now < n) c.content_in.ensures (c.if-not-skip.ensures.short refl) in (
+      c.from.ensures.0,
+      inr (next_cut c.args.left.now.now c.next_head.new.source.now t.rest c.in_ok-marker.marker c.in_ok-marker.head t.is_head t.taken
+          c.is_canonical.result c.is_canonical.ensures c.if-not-is_canonical.false t.is_marker short),
+    )
 
 pub returns : goal.returns
 returns c =
     let t = c.in_ok-marker.ensures.reads.ok in
     let skipped = c.if-not-skip.ensures.bytes (search rules) in
-    next_taken c.args.left.now.now c.next_head.new.source.now t.rest c.in_ok-marker.marker c.in_ok-marker.head t.is_head t.taken c.is_canonical.result c.is_canonical.ensures c.if-not-is_canonical.false
+    next_taken c.args.left.now.now c.next_head.new.source.now t.rest c.in_ok-marker.marker c.in_ok-marker.head t.is_head t.taken c.is_canonical.result
+    c.is_canonical.ensures c.if-not-is_canonical.false
     c.skip.new.self.now c.content_in.result c.parts_in.result c.content_in.ensures skipped c.parts_in.ensures

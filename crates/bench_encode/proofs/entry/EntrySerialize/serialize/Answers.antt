@@ -17,8 +17,10 @@ returns-in_err-serialize_element-clause-writes g c =
 pub returns-in_err-serialize_element-2-clause-writes : goal.returns-in_err-serialize_element-2-clause-writes
 returns-in_err-serialize_element-2-clause-writes g c =
     let p = err_from_is_err_and c.from_residual-in_err-serialize_element-2.result c.from_residual-in_err-serialize_element-2.ensures.1 in
-    rw (p.1, p.2) (rests_at g.W.Sink (search rules) (c.in_err-serialize_element-2.ensures.writes c.args.se.now _ _ (c.in_ok-serialize_element.ensures.writes _ _ _ (c.in_ok-parts.ensures.opened _ refl))))
+    rw (p.1, p.2) (rests_at g.W.Sink (search rules) (c.in_err-serialize_element-2.ensures.writes c.args.se.now _ _
+    (c.in_ok-serialize_element.ensures.writes _ _ _ (c.in_ok-parts.ensures.opened _ refl))))
 
 pub returns-clause-writes : goal.returns-clause-writes
 returns-clause-writes g c =
-    rests_at g.W.Sink (search rules) (c.end.ensures.writes c.args.se.now _ (c.in_ok-serialize_element-2.ensures.writes _ _ _ (c.in_ok-serialize_element.ensures.writes _ _ _ (c.in_ok-parts.ensures.opened _ refl))))
+    rests_at g.W.Sink (search rules) (c.end.ensures.writes c.args.se.now _
+    (c.in_ok-serialize_element-2.ensures.writes _ _ _ (c.in_ok-serialize_element.ensures.writes _ _ _ (c.in_ok-parts.ensures.opened _ refl))))

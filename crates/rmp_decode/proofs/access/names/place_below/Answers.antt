@@ -13,10 +13,12 @@ pub returns-then-z-count : goal.returns-then-z-count
 returns-then-z-count c =
     let e = to_z-of_z w128 c.args.z c.ranges.z in
     let n = to_z_pos w128 c.args.count (omega (arith, c.ranges.count.fits)) in
-    below_some c.args.count c.args.z _ e (ap (λ t. lt_z t (pos 0)) (sym e) ∙ c.if-z-lt0.false) (ap (λ t. lt_z c.args.z t) (sym n) ∙ ap (λ t. lt_z t (to_z w128 c.args.count)) (sym e) ∙ c.if-z-count.true)
+    below_some c.args.count c.args.z _ e (ap (λ t. lt_z t (pos 0)) (sym e) ∙ c.if-z-lt0.false)
+    (ap (λ t. lt_z c.args.z t) (sym n) ∙ ap (λ t. lt_z t (to_z w128 c.args.count)) (sym e) ∙ c.if-z-count.true)
 
 pub returns-else-z-count : goal.returns-else-z-count
 returns-else-z-count c =
     let e = to_z-of_z w128 c.args.z c.ranges.z in
     let n = to_z_pos w128 c.args.count (omega (arith, c.ranges.count.fits)) in
-    below_past c.args.count c.args.z (ap (λ t. lt_z t (pos 0)) (sym e) ∙ c.if-z-lt0.false) (ap (λ t. lt_z c.args.z t) (sym n) ∙ ap (λ t. lt_z t (to_z w128 c.args.count)) (sym e) ∙ c.if-z-count.false)
+    below_past c.args.count c.args.z (ap (λ t. lt_z t (pos 0)) (sym e) ∙ c.if-z-lt0.false)
+    (ap (λ t. lt_z c.args.z t) (sym n) ∙ ap (λ t. lt_z t (to_z w128 c.args.count)) (sym e) ∙ c.if-z-count.false)

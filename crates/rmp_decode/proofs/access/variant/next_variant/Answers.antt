@@ -8,10 +8,14 @@ use Rattle.rmp_decode.proofs.access.variant.next_variant.Goals as goal
 
 pub returns-in-Err-place_named-clause-exact : goal.returns-in-Err-place_named-clause-exact
 returns-in-Err-place_named-clause-exact g c = λ n k.
-    piece_whole c.args.len (unknown_name (raw_head c.args.is_text c.args.len)) (g.R.Source.ahead c.args.reader.now) (g.R.Source.ahead c.read_slice.follows.lender-at-none) c.as_bytes.result.now _ (search rules) (search rules) (unknown_piece c.args.is_text c.args.len c.as_bytes.result.now _ c.in-Err-place_named.ensures.exact)
+    piece_whole c.args.len (unknown_name (raw_head c.args.is_text c.args.len)) (g.R.Source.ahead c.args.reader.now)
+    (g.R.Source.ahead c.read_slice.follows.lender-at-none) c.as_bytes.result.now _ (search rules) (search rules)
+    (unknown_piece c.args.is_text c.args.len c.as_bytes.result.now _ c.in-Err-place_named.ensures.exact)
 
 pub returns-in-Err-clause-err : goal.returns-in-Err-clause-err
-returns-in-Err-clause-err g c = name_blamed (bytes_of c.args.names.now) c.args.len c.in-Err.e _ _ (g.R.Source.ahead c.args.reader.now) _ (rw c.in-Err.is at c.read_slice.follows.holds-at-none).0 c.error_of.ensures
+returns-in-Err-clause-err g c = name_blamed (bytes_of c.args.names.now) c.args.len c.in-Err.e _ _ (g.R.Source.ahead c.args.reader.now) _
+    (rw c.in-Err.is at c.read_slice.follows.holds-at-none).0 c.error_of.ensures
 
 pub returns-in-Err-clause-exact : goal.returns-in-Err-clause-exact
-returns-in-Err-clause-exact g c = piece_blamed c.args.len (unknown_name (raw_head c.args.is_text c.args.len)) c.in-Err.e _ _ (g.R.Source.ahead c.args.reader.now) _ (rw c.in-Err.is at c.read_slice.follows.holds-at-none).0 c.error_of.ensures
+returns-in-Err-clause-exact g c = piece_blamed c.args.len (unknown_name (raw_head c.args.is_text c.args.len)) c.in-Err.e _ _
+    (g.R.Source.ahead c.args.reader.now) _ (rw c.in-Err.is at c.read_slice.follows.holds-at-none).0 c.error_of.ensures

@@ -6,7 +6,10 @@ use Rattle.rmp_decode.proofs.content.pieces.lent_content.Goals as goal
 
 pub returns-in-Ok-Copied-clause-exact : goal.returns-in-Ok-Copied-clause-exact
 returns-in-Ok-Copied-clause-exact g c = λ n k.
-    piece_whole c.args.len (not_bytes g.R.ReadSlice.lends (raw_head c.args.is_text c.args.len)) (g.R.Source.ahead c.args.reader.now) (g.R.Source.ahead c.read_slice.follows.lender-at-none) c.in-Ok-Copied.s.now _ (search rules) (search rules) (unlent g.R.ReadSlice.lends c.args.is_text (length c.in-Ok-Copied.s.now) c.args.len _ _ (search rules) c.not_lent.ensures)
+    piece_whole c.args.len (not_bytes g.R.ReadSlice.lends (raw_head c.args.is_text c.args.len)) (g.R.Source.ahead c.args.reader.now)
+    (g.R.Source.ahead c.read_slice.follows.lender-at-none) c.in-Ok-Copied.s.now _ (search rules) (search rules)
+    (unlent g.R.ReadSlice.lends c.args.is_text (length c.in-Ok-Copied.s.now) c.args.len _ _ (search rules) c.not_lent.ensures)
 
 pub returns-in-Err-clause-exact : goal.returns-in-Err-clause-exact
-returns-in-Err-clause-exact g c = piece_blamed c.args.len (not_bytes g.R.ReadSlice.lends (raw_head c.args.is_text c.args.len)) c.in-Err.e _ _ (g.R.Source.ahead c.args.reader.now) _ (rw c.in-Err.is at c.read_slice.follows.holds-at-none).0 c.error_of.ensures
+returns-in-Err-clause-exact g c = piece_blamed c.args.len (not_bytes g.R.ReadSlice.lends (raw_head c.args.is_text c.args.len)) c.in-Err.e _ _
+    (g.R.Source.ahead c.args.reader.now) _ (rw c.in-Err.is at c.read_slice.follows.holds-at-none).0 c.error_of.ensures

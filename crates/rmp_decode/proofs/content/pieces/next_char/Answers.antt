@@ -6,16 +6,21 @@ use Rattle.rmp_decode.proofs.Texts.{no_such_char}
 use Rattle.rmp_decode.proofs.content.pieces.next_char.Goals as goal
 
 pub returns-in-Ok-char_of-clause-ok : goal.returns-in-Ok-char_of-clause-ok
-returns-in-Ok-char_of-clause-ok g c = let o = c.in-Ok-char_of.ensures.ok in let e = sym o.1 in (o.0, rw e (search rules), rw e (search rules), rw e (search rules))
+returns-in-Ok-char_of-clause-ok g c = let o = c.in-Ok-char_of.ensures.ok in let e = sym o.1
+    in (o.0, rw e (search rules), rw e (search rules), rw e (search rules))
 
 pub returns-in-Err-char_of-clause-err : goal.returns-in-Err-char_of-clause-err
-returns-in-Err-char_of-clause-err g c = λ n k. no_such_char _ (g.R.Source.ahead c.args.reader.now) (g.R.Source.ahead c.read_slice.follows.lender-at-none) c.as_bytes.result.now (search rules) (search rules) c.in-Err-char_of.ensures.err
+returns-in-Err-char_of-clause-err g c = λ n k. no_such_char _ (g.R.Source.ahead c.args.reader.now) (g.R.Source.ahead c.read_slice.follows.lender-at-none)
+    c.as_bytes.result.now (search rules) (search rules) c.in-Err-char_of.ensures.err
 
 pub returns-in-Err-char_of-clause-exact : goal.returns-in-Err-char_of-clause-exact
-returns-in-Err-char_of-clause-exact g c = λ n k. piece_whole c.args.len (not_char (Text c.args.len)) (g.R.Source.ahead c.args.reader.now) (g.R.Source.ahead c.read_slice.follows.lender-at-none) c.as_bytes.result.now _ (search rules) (search rules) c.in-Err-char_of.ensures.exact
+returns-in-Err-char_of-clause-exact g c = λ n k. piece_whole c.args.len (not_char (Text c.args.len)) (g.R.Source.ahead c.args.reader.now)
+    (g.R.Source.ahead c.read_slice.follows.lender-at-none) c.as_bytes.result.now _ (search rules) (search rules) c.in-Err-char_of.ensures.exact
 
 pub returns-in-Err-clause-err : goal.returns-in-Err-clause-err
-returns-in-Err-clause-err g c = char_blamed c.args.len c.in-Err.e _ _ (g.R.Source.ahead c.args.reader.now) _ (rw c.in-Err.is at c.read_slice.follows.holds-at-none).0 c.error_of.ensures
+returns-in-Err-clause-err g c = char_blamed c.args.len c.in-Err.e _ _ (g.R.Source.ahead c.args.reader.now) _
+    (rw c.in-Err.is at c.read_slice.follows.holds-at-none).0 c.error_of.ensures
 
 pub returns-in-Err-clause-exact : goal.returns-in-Err-clause-exact
-returns-in-Err-clause-exact g c = piece_blamed c.args.len (not_char (Text c.args.len)) c.in-Err.e _ _ (g.R.Source.ahead c.args.reader.now) _ (rw c.in-Err.is at c.read_slice.follows.holds-at-none).0 c.error_of.ensures
+returns-in-Err-clause-exact g c = piece_blamed c.args.len (not_char (Text c.args.len)) c.in-Err.e _ _ (g.R.Source.ahead c.args.reader.now) _
+    (rw c.in-Err.is at c.read_slice.follows.holds-at-none).0 c.error_of.ensures

@@ -13,4 +13,5 @@ from_fn-requires g c = (
 )
 
 pub returns : goal.returns
-returns g c = held_all (λ p. p.0) _ (λ p i y q k. (search rules, search rules)) _ _ c.from_fn.result c.from_fn.ensures.items.long (search rules) c.from_fn.ensures.items.each
+returns g c = held_all (λ p. p.0) _ (λ p i y q k. (search rules, search rules)) _ _ c.from_fn.result c.from_fn.ensures.items.long (search rules)
+    c.from_fn.ensures.items.each

@@ -28,7 +28,8 @@ pub loop-items-preserved : goal.loop-items-preserved
 loop-items-preserved g c =
     let r = c.loop-items.invariant in
     let t = rw c.in-Some.is at (c.in_ok-item.ensures.some r.run.still) in
-    rw c.in_ok-push.ensures.items (values_step _ _ _ c.loop-items.seq c.next_number.new.self c.loop-items.items.items c.in-Some.item r t c.next_number.ensures.same_reference)
+    rw c.in_ok-push.ensures.items (values_step _ _ _ c.loop-items.seq c.next_number.new.self c.loop-items.items.items c.in-Some.item r t
+    c.next_number.ensures.same_reference)
 
 pub returns-in_err-item-clause-law : goal.returns-in_err-item-clause-law
 returns-in_err-item-clause-law g c = λ old m h.
@@ -36,8 +37,10 @@ returns-in_err-item-clause-law g c = λ old m h.
     let o = opened_behind g.R.Source old c.args.self.now m c.args.len c.in_ok-seq.seq h c.in_ok-seq.ensures.opened in
     let p = err_from_is_err_and c.from_residual-in_err-item.result c.from_residual-in_err-item.ensures.1 in
     let f = c.in_err-item.ensures.err r.run.still in
-    rw (p.1, p.2) (lawful_err_at g.R.Source (λ t (v : Vec ℕ Global). OfRow (λ ms. ReadsEach (IsUnsigned 255) ms v.items) t) (λ t v. IsBuffer t v.items) old c.args.self.now _ (m, Array c.args.len) _ h (λ t b e. (b.0, row_of_buffer t b.0.items c.args.len b.1 e))
-    (seq_take g.R.Source (λ (v : Vec ℕ Global) ms. ReadsEach (IsUnsigned 255) ms v.items) old c.in_ok-seq.seq c.loop-items.seq r.trees o r.run _ _ c.next_number.new.self _ f (c.in_err-item.ensures.marked r.run.still.marked) (search rules) (λ m ks v h. each_next _ r.trees m ks v.items h)))
+    rw (p.1, p.2) (lawful_err_at g.R.Source (λ t (v : Vec ℕ Global). OfRow (λ ms. ReadsEach (IsUnsigned 255) ms v.items) t) (λ t v. IsBuffer t v.items) old
+    c.args.self.now _ (m, Array c.args.len) _ h (λ t b e. (b.0, row_of_buffer t b.0.items c.args.len b.1 e))
+    (seq_take g.R.Source (λ (v : Vec ℕ Global) ms. ReadsEach (IsUnsigned 255) ms v.items) old c.in_ok-seq.seq c.loop-items.seq r.trees o r.run _ _
+    c.next_number.new.self _ f (c.in_err-item.ensures.marked r.run.still.marked) (search rules) (λ m ks v h. each_next _ r.trees m ks v.items h)))
 
 pub returns-in_err-push-clause-law : goal.returns-in_err-push-clause-law
 returns-in_err-push-clause-law g c = λ old m h.
@@ -46,8 +49,10 @@ returns-in_err-push-clause-law g c = λ old m h.
     let p = err_from_is_err_and c.from_residual-in_err-push.result c.from_residual-in_err-push.ensures.1 in
     let t = rw c.in-Some.is at (c.in_ok-item.ensures.some r.run.still) in
     let s = values_step _ _ _ c.loop-items.seq c.next_number.new.self c.loop-items.items.items c.in-Some.item r t c.next_number.ensures.same_reference in
-    rw (p.1, p.2) (lawful_err_at g.R.Source (λ t (v : Vec ℕ Global). OfRow (λ ms. ReadsEach (IsUnsigned 255) ms v.items) t) (λ t v. IsBuffer t v.items) old c.args.self.now _ (m, Array c.args.len) _ h (λ t b e. (b.0, row_of_buffer t b.0.items c.args.len b.1 e))
-    (seq_unkept g.R.Source (λ (v : Vec ℕ Global) ms. ReadsEach (IsUnsigned 255) ms v.items) old c.in_ok-seq.seq c.next_number.new.self s.trees o s.run _ (search rules)))
+    rw (p.1, p.2) (lawful_err_at g.R.Source (λ t (v : Vec ℕ Global). OfRow (λ ms. ReadsEach (IsUnsigned 255) ms v.items) t) (λ t v. IsBuffer t v.items) old
+    c.args.self.now _ (m, Array c.args.len) _ h (λ t b e. (b.0, row_of_buffer t b.0.items c.args.len b.1 e))
+    (seq_unkept g.R.Source (λ (v : Vec ℕ Global) ms. ReadsEach (IsUnsigned 255) ms v.items) old c.in_ok-seq.seq c.next_number.new.self s.trees o s.run _
+    (search rules)))
 
 at_none : {T P : Type 0} (o : Option T) → ((x : T) → o ≡ Some x → ⊥) → IfNone o P → P
 at_none None n p = p
@@ -77,11 +82,13 @@ returns-in_err-item-clause-items g c =
     let r = c.loop-items.invariant in
     let p = err_from_is_err_and c.from_residual-in_err-item.result c.from_residual-in_err-item.ensures.1 in
     let f = c.in_err-item.ensures.err r.run.still in
-    rw (p.1, p.2) (λ _. number_refused g.R.Source c.args.self.now _ c.in_ok-seq.seq c.args.len c.in_ok-seq.ensures.opened c.loop-items.seq c.next_number.new.self r.trees c.loop-items.items.items _ r.run r.values f (search rules) c.in_err-item.ensures.exact)
+    rw (p.1, p.2) (λ _. number_refused g.R.Source c.args.self.now _ c.in_ok-seq.seq c.args.len c.in_ok-seq.ensures.opened c.loop-items.seq
+    c.next_number.new.self r.trees c.loop-items.items.items _ r.run r.values f (search rules) c.in_err-item.ensures.exact)
 
 pub returns-in_err-push-clause-items : goal.returns-in_err-push-clause-items
 returns-in_err-push-clause-items g c =
     let r = c.loop-items.invariant in
     let p = err_from_is_err_and c.from_residual-in_err-push.result c.from_residual-in_err-push.ensures.1 in
     let t = rw c.in-Some.is at (c.in_ok-item.ensures.some r.run.still) in
-    rw (p.1, p.2) (λ _. number_unkept g.R.Source c.args.self.now _ c.in_ok-seq.seq c.args.len c.in_ok-seq.ensures.opened c.loop-items.seq c.next_number.new.self r.trees c.loop-items.items.items c.in-Some.item r.run r.values t c.next_number.ensures.same_reference)
+    rw (p.1, p.2) (λ _. number_unkept g.R.Source c.args.self.now _ c.in_ok-seq.seq c.args.len c.in_ok-seq.ensures.opened c.loop-items.seq
+    c.next_number.new.self r.trees c.loop-items.items.items c.in-Some.item r.run r.values t c.next_number.ensures.same_reference)

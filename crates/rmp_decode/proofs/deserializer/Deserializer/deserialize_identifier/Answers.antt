@@ -16,15 +16,22 @@ pub returns-in-Ok-next_place-clause-law : goal.returns-in-Ok-next_place-clause-l
 returns-in-Ok-next_place-clause-law g c =
     let k = c.in-Some in
     let o = c.in-Ok-next_place.ensures.ok in
-    content_read (raw_content k.field-0-0) g.R.Source _ c.args.self.now c.head.new.self _ (c.in-Ok.field-0-0, c.in-Ok.head) c.in-Ok.ensures o.0 k.len _ k.ensures o.1 o.2 o.3 refl refl c.in-Ok-next_place.ensures.sound (record { config = refl; room = refl; strict = refl; place = c.in-Ok-next_place.ensures.place }) (name_of_raw (bytes_of c.args.names.now) k.field-0-0 o.0 ∙ ap (λ (z : Option ℕ). Some z) (sym o.4))
+    content_read (raw_content k.field-0-0) g.R.Source _ c.args.self.now c.head.new.self _ (c.in-Ok.field-0-0, c.in-Ok.head) c.in-Ok.ensures o.0 k.len _
+    k.ensures o.1 o.2 o.3 refl refl c.in-Ok-next_place.ensures.sound
+    (record { config = refl; room = refl; strict = refl; place = c.in-Ok-next_place.ensures.place })
+    (name_of_raw (bytes_of c.args.names.now) k.field-0-0 o.0 ∙ ap (λ (z : Option ℕ). Some z) (sym o.4))
 
 pub returns-in-Err-next_place-clause-law : goal.returns-in-Err-next_place-clause-law
 returns-in-Err-next_place-clause-law g c =
     let k = c.in-Some in
-    content_short (raw_content k.field-0-0) g.R.Source _ c.args.self.now c.head.new.self _ (c.in-Ok.field-0-0, c.in-Ok.head) c.in-Ok.ensures k.len _ k.ensures c.in-Err-next_place.ensures.err c.in-Ok.ensures.failed (record { config = refl; room = refl; strict = refl; place = c.in-Err-next_place.ensures.place })
+    content_short (raw_content k.field-0-0) g.R.Source _ c.args.self.now c.head.new.self _ (c.in-Ok.field-0-0, c.in-Ok.head) c.in-Ok.ensures k.len _
+    k.ensures c.in-Err-next_place.ensures.err c.in-Ok.ensures.failed
+    (record { config = refl; room = refl; strict = refl; place = c.in-Err-next_place.ensures.place })
 
 pub returns-in-None-whole_in-clause-law : goal.returns-in-None-whole_in-clause-law
-returns-in-None-whole_in-clause-law g c = refused_head g.R.Source _ c.args.self.now _ (c.in-Ok.field-0-0, c.in-Ok.head) _ c.in-Ok.ensures (λ m r i. elim (is_key_of (bytes_of c.args.names.now) m r.0 r.1) [ inl a ↦ c.in-None-whole_in.ensures a.0 (sym i ∙ a.1) | inr a ↦ c.in-None.ensures a.0 (sym i ∙ a.1) ])
+returns-in-None-whole_in-clause-law g c = refused_head g.R.Source _ c.args.self.now _ (c.in-Ok.field-0-0, c.in-Ok.head) _ c.in-Ok.ensures
+    (λ m r i. elim (is_key_of (bytes_of c.args.names.now) m r.0 r.1)
+    [ inl a ↦ c.in-None-whole_in.ensures a.0 (sym i ∙ a.1) | inr a ↦ c.in-None.ensures a.0 (sym i ∙ a.1) ])
 
 pub returns-in-Err-clause-law : goal.returns-in-Err-clause-law
 returns-in-Err-clause-law g c = refused_none _ _ _ _ _ c.in-Err.ensures
@@ -32,25 +39,37 @@ returns-in-Err-clause-law g c = refused_none _ _ _ _ _ c.in-Err.ensures
 pub returns-in-Some-place_below-clause-law : goal.returns-in-Some-place_below-clause-law
 returns-in-Some-place_below-clause-law g c =
     let k = c.in-Some-whole_in in
-    answered_leaf g.R.Source _ c.args.self.now c.head.new.self _ (c.in-Ok.field-0-0, c.in-Ok.head) (whole k.z) _ c.in-Ok.ensures refl (λ b i. subst (λ z. heads_of c.args.self.now.strict z b) k.ensures i) refl (below_length c.args.names.now k.z _ (c.in-Some-place_below.ensures ∙ ap (place_below (length c.args.names.now)) (to_z-of_z w128 k.z (search rules))))
+    answered_leaf g.R.Source _ c.args.self.now c.head.new.self _ (c.in-Ok.field-0-0, c.in-Ok.head) (whole k.z) _ c.in-Ok.ensures refl
+    (λ b i. subst (λ z. heads_of c.args.self.now.strict z b) k.ensures i) refl
+    (below_length c.args.names.now k.z _ (c.in-Some-place_below.ensures
+    ∙ ap (place_below (length c.args.names.now)) (to_z-of_z w128 k.z (search rules))))
 
 pub returns-in-None-place_below-clause-law : goal.returns-in-None-place_below-clause-law
 returns-in-None-place_below-clause-law g c =
     let k = c.in-Some-whole_in in
-    refused_leaf g.R.Source _ c.args.self.now _ (c.in-Ok.field-0-0, c.in-Ok.head) _ (whole k.z) c.in-Ok.ensures (λ b i. subst (λ z. heads_of c.args.self.now.strict z b) k.ensures i) (λ r. not_below (sym (below_length c.args.names.now k.z _ (c.in-None-place_below.ensures ∙ ap (place_below (length c.args.names.now)) (to_z-of_z w128 k.z (search rules)))) ∙ r.1))
+    refused_leaf g.R.Source _ c.args.self.now _ (c.in-Ok.field-0-0, c.in-Ok.head) _ (whole k.z) c.in-Ok.ensures
+    (λ b i. subst (λ z. heads_of c.args.self.now.strict z b) k.ensures i)
+    (λ r. not_below (sym (below_length c.args.names.now k.z _
+    (c.in-None-place_below.ensures ∙ ap (place_below (length c.args.names.now)) (to_z-of_z w128 k.z (search rules)))) ∙ r.1))
 
 pub returns-in-Err-next_place-clause-exact : goal.returns-in-Err-next_place-clause-exact
 returns-in-Err-next_place-clause-exact g c = λ _.
     let k = c.in-Some in
-    content_error g.R.Source IsNameHead not_raw never_refused c.args.self.now c.head.new.self _ (c.in-Ok.field-0-0, c.in-Ok.head) (raw_head k.field-0-0 k.len) k.len _ c.in-Ok.ensures k.ensures (raw_len k.field-0-0 k.len) (name_wanted k.field-0-0 k.len) (piece_ended _ _ _ _ _ _ c.in-Err-next_place.ensures.err c.in-Err-next_place.ensures.end)
+    content_error g.R.Source IsNameHead not_raw never_refused c.args.self.now c.head.new.self _ (c.in-Ok.field-0-0, c.in-Ok.head)
+    (raw_head k.field-0-0 k.len) k.len _ c.in-Ok.ensures k.ensures (raw_len k.field-0-0 k.len) (name_wanted k.field-0-0 k.len)
+    (piece_ended _ _ _ _ _ _ c.in-Err-next_place.ensures.err c.in-Err-next_place.ensures.end)
 
 pub returns-in-None-whole_in-clause-exact : goal.returns-in-None-whole_in-clause-exact
-returns-in-None-whole_in-clause-exact g c = λ _. content_other _ IsNameHead not_raw never_refused _ _ _ c.in-Ok.field-0-0 c.in-Ok.head _ c.in-Ok.ensures.marked (no_name_head c.in-Ok.head c.in-None.ensures c.in-None-whole_in.ensures) refl
+returns-in-None-whole_in-clause-exact g c = λ _. content_other _ IsNameHead not_raw never_refused _ _ _ c.in-Ok.field-0-0 c.in-Ok.head _
+    c.in-Ok.ensures.marked (no_name_head c.in-Ok.head c.in-None.ensures c.in-None-whole_in.ensures) refl
 
 pub returns-in-None-place_below-clause-exact : goal.returns-in-None-place_below-clause-exact
 returns-in-None-place_below-clause-exact g c = λ _.
     let k = c.in-Some-whole_in in
-    content_other _ IsNameHead not_raw never_refused _ _ _ c.in-Ok.field-0-0 c.in-Ok.head _ c.in-Ok.ensures.marked (λ w. no_negative_head (length c.args.names.now) k.z (c.in-None-place_below.ensures ∙ ap (place_below (length c.args.names.now)) (to_z-of_z w128 k.z (search rules))) (subst IsNameHead k.ensures w)) refl
+    content_other _ IsNameHead not_raw never_refused _ _ _ c.in-Ok.field-0-0 c.in-Ok.head _ c.in-Ok.ensures.marked
+    (λ w. no_negative_head (length c.args.names.now) k.z
+    (c.in-None-place_below.ensures ∙ ap (place_below (length c.args.names.now)) (to_z-of_z w128 k.z (search rules))) (subst IsNameHead k.ensures w))
+    refl
 
 pub returns-in-Err-clause-exact : goal.returns-in-Err-clause-exact
 returns-in-Err-clause-exact g c = λ o. content_none _ IsNameHead not_raw never_refused _ _ _ _ (c.in-Err.ensures.ends o)

@@ -14,31 +14,42 @@ use Rattle.rmp_decode.proofs.deserializer.Deserializer.deserialize_u128.Goals as
 pub returns-in-Some-clause-law : goal.returns-in-Some-clause-law
 returns-in-Some-clause-law g c =
     let same = to_z-of_z w128 c.in-Some.z (search rules) in
-    leaf_read whole_leaf g.R.Source _ c.args.self.now c.head.new.self c.in-Ok.next c.in-Ok.ensures _ c.in-Some.z _ c.in-Some.ensures refl (unsigned_as c.in-Some.z _ (omega (arith, ints, same)))
+    leaf_read whole_leaf g.R.Source _ c.args.self.now c.head.new.self c.in-Ok.next c.in-Ok.ensures _ c.in-Some.z _ c.in-Some.ensures refl
+    (unsigned_as c.in-Some.z _ (omega (arith, ints, same)))
 
 pub returns-then-z-lt0-clause-law : goal.returns-then-z-lt0-clause-law
-returns-then-z-lt0-clause-law g c = leaf_refused whole_leaf g.R.Source _ c.args.self.now c.head.new.self c.in-Ok.next c.in-Ok.ensures c.in-Some.z _ c.in-Some.ensures (λ r. let p = not_negative _ r in omega (arith, ints))
+returns-then-z-lt0-clause-law g c = leaf_refused whole_leaf g.R.Source _ c.args.self.now c.head.new.self c.in-Ok.next c.in-Ok.ensures c.in-Some.z _
+    c.in-Some.ensures (λ r. let p = not_negative _ r in omega (arith, ints))
 
 pub returns-then-z-lt0-clause-exact : goal.returns-then-z-lt0-clause-exact
-returns-then-z-lt0-clause-exact g c = λ _. content_other _ IsUnsigned128Head not_wide never_refused _ _ _ c.in-Ok.next.0 c.in-Ok.next.1 _ c.in-Ok.ensures.marked (not_negative_head _ c.in-Some.z c.in-Some.ensures (λ p. omega (arith, ints))) (ap (not_wide c.in-Ok.next.0) (sym c.in-Some.ensures))
+returns-then-z-lt0-clause-exact g c = λ _. content_other _ IsUnsigned128Head not_wide never_refused _ _ _ c.in-Ok.next.0 c.in-Ok.next.1 _
+    c.in-Ok.ensures.marked (not_negative_head _ c.in-Some.z c.in-Some.ensures (λ p. omega (arith, ints)))
+    (ap (not_wide c.in-Ok.next.0) (sym c.in-Some.ensures))
 
 pub returns-in-Ok-next_sixteen-clause-law : goal.returns-in-Ok-next_sixteen-clause-law
 returns-in-Ok-next_sixteen-clause-law g c =
     let t = c.in-Ok-next_sixteen.ensures.ok in
-    (content_read bin_content g.R.Source _ c.args.self.now c.head.new.self _ c.in-Ok.next c.in-Ok.ensures t.bytes 16 _ (c.is_sixteen.ensures.yes (search rules)) t.long t.small t.takes refl refl c.in-Ok-next_sixteen.ensures.sound (record { config = refl; room = refl; strict = refl; place = c.in-Ok-next_sixteen.ensures.place }) (inr (taken_sixteen t)))
+    (content_read bin_content g.R.Source _ c.args.self.now c.head.new.self _ c.in-Ok.next c.in-Ok.ensures t.bytes 16 _
+    (c.is_sixteen.ensures.yes (search rules)) t.long t.small t.takes refl refl c.in-Ok-next_sixteen.ensures.sound
+    (record { config = refl; room = refl; strict = refl; place = c.in-Ok-next_sixteen.ensures.place }) (inr (taken_sixteen t)))
 
 pub returns-in-Err-next_sixteen-clause-law : goal.returns-in-Err-next_sixteen-clause-law
-returns-in-Err-next_sixteen-clause-law g c = content_short bin_content g.R.Source _ c.args.self.now c.head.new.self _ c.in-Ok.next c.in-Ok.ensures 16 _ (c.is_sixteen.ensures.yes (search rules)) c.in-Err-next_sixteen.ensures.err c.in-Ok.ensures.failed (record { config = refl; room = refl; strict = refl; place = c.in-Err-next_sixteen.ensures.place })
+returns-in-Err-next_sixteen-clause-law g c = content_short bin_content g.R.Source _ c.args.self.now c.head.new.self _ c.in-Ok.next c.in-Ok.ensures 16 _
+    (c.is_sixteen.ensures.yes (search rules)) c.in-Err-next_sixteen.ensures.err c.in-Ok.ensures.failed
+    (record { config = refl; room = refl; strict = refl; place = c.in-Err-next_sixteen.ensures.place })
 
 pub returns-in-Err-next_sixteen-clause-exact : goal.returns-in-Err-next_sixteen-clause-exact
 returns-in-Err-next_sixteen-clause-exact g c = λ _.
-    content_error g.R.Source IsUnsigned128Head not_wide never_refused c.args.self.now c.head.new.self _ c.in-Ok.next (Bin 16) 16 _ c.in-Ok.ensures (c.is_sixteen.ensures.yes (search rules)) refl refl (piece_ended _ _ _ _ _ _ c.in-Err-next_sixteen.ensures.err c.in-Err-next_sixteen.ensures.end)
+    content_error g.R.Source IsUnsigned128Head not_wide never_refused c.args.self.now c.head.new.self _ c.in-Ok.next (Bin 16) 16 _ c.in-Ok.ensures
+    (c.is_sixteen.ensures.yes (search rules)) refl refl (piece_ended _ _ _ _ _ _ c.in-Err-next_sixteen.ensures.err c.in-Err-next_sixteen.ensures.end)
 
 pub returns-then-not-is_sixteen-clause-law : goal.returns-then-not-is_sixteen-clause-law
-returns-then-not-is_sixteen-clause-law g c = refused_head g.R.Source _ c.args.self.now _ c.in-Ok.next _ c.in-Ok.ensures (no_unsigned c.in-Ok.next.1 (c.in_default.ensures, c.is_sixteen.ensures.no (search rules)))
+returns-then-not-is_sixteen-clause-law g c = refused_head g.R.Source _ c.args.self.now _ c.in-Ok.next _ c.in-Ok.ensures
+    (no_unsigned c.in-Ok.next.1 (c.in_default.ensures, c.is_sixteen.ensures.no (search rules)))
 
 pub returns-then-not-is_sixteen-clause-exact : goal.returns-then-not-is_sixteen-clause-exact
-returns-then-not-is_sixteen-clause-exact g c = λ _. content_other _ IsUnsigned128Head not_wide never_refused _ _ _ c.in-Ok.next.0 c.in-Ok.next.1 _ c.in-Ok.ensures.marked (not_unsigned_head c.in-Ok.next.1 (c.in_default.ensures, c.is_sixteen.ensures.no (search rules))) c.not_wide.ensures.same
+returns-then-not-is_sixteen-clause-exact g c = λ _. content_other _ IsUnsigned128Head not_wide never_refused _ _ _ c.in-Ok.next.0 c.in-Ok.next.1 _
+    c.in-Ok.ensures.marked (not_unsigned_head c.in-Ok.next.1 (c.in_default.ensures, c.is_sixteen.ensures.no (search rules))) c.not_wide.ensures.same
 
 pub returns-in-Err-clause-law : goal.returns-in-Err-clause-law
 returns-in-Err-clause-law g c = refused_none _ _ _ _ _ c.in-Err.ensures

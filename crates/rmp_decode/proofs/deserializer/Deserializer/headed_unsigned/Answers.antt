@@ -23,7 +23,8 @@ pub returns-then-z-lt0-clause-exact : goal.returns-then-z-lt0-clause-exact
 returns-then-z-lt0-clause-exact g c = λ _. exact_head _ _ _ _ _ c.in-Ok.marker c.in-Ok.head _ c.in-Ok.ensures.marked (rw c.in-Some.ensures refl)
 
 pub returns-in-None-clause-exact : goal.returns-in-None-clause-exact
-returns-in-None-clause-exact g c = λ _. exact_head _ _ _ _ _ c.in-Ok.marker c.in-Ok.head _ c.in-Ok.ensures.marked (c.other_kind.ensures.same ∙ not_whole c.in-Ok.marker c.in-Ok.head c.in-None.ensures)
+returns-in-None-clause-exact g c = λ _. exact_head _ _ _ _ _ c.in-Ok.marker c.in-Ok.head _ c.in-Ok.ensures.marked
+    (c.other_kind.ensures.same ∙ not_whole c.in-Ok.marker c.in-Ok.head c.in-None.ensures)
 
 pub returns-in-Err-clause-exact : goal.returns-in-Err-clause-exact
 returns-in-Err-clause-exact g c = λ o. exact_none _ _ _ _ _ _ (c.in-Err.ensures.ends o)

@@ -30,5 +30,6 @@ returns-in-Err-clause-err g c =
     record {
       stays = record { config = l.stays.config; room = l.stays.room; strict = l.stays.strict; place = l.stays.place };
       failed = l.failed;
-      err = λ n k. refuses_leaves c.args.self.now.strict (Readable (IsPlace (bytes_of c.args.names.now))) (max 1 (c.args.self.now.room - 1)) (room_of c.args.self.now) (left g.R.Source c.args.self.now) (name_flat (bytes_of c.args.names.now)) (omega arith) (l.err refl n k);
+      err = λ n k. refuses_leaves c.args.self.now.strict (Readable (IsPlace (bytes_of c.args.names.now))) (max 1 (c.args.self.now.room - 1))
+          (room_of c.args.self.now) (left g.R.Source c.args.self.now) (name_flat (bytes_of c.args.names.now)) (omega arith) (l.err refl n k);
     }

@@ -12,9 +12,12 @@ returns-in-Err-clause-err g c = no_fields_begin g.R.Source _ _ _ c.in-Err.ensure
 pub returns-then-self-le1-clause-err : goal.returns-then-self-le1-clause-err
 returns-then-self-le1-clause-err g c =
     let k = c.in-Some-Some-false-default in
-    fields_too_deep g.R.Source _ _ _ (c.in-Ok.field-0-0, c.in-Ok.head) c.in-Ok.ensures (Some false) k.len (λ e. cc) (k.ensures ∙ ap (λ (t : Option Bool). fields_head t k.len) (k.field-0-0-is ∙ ap (λ (t : Bool). Some t) (k.field-0-0-0-is ∙ k.field-0-0-0-test))) (let h = c.in-Ok.ensures.stays.room in omega arith) refl
+    fields_too_deep g.R.Source _ _ _ (c.in-Ok.field-0-0, c.in-Ok.head) c.in-Ok.ensures (Some false) k.len (λ e. cc)
+    (k.ensures ∙ ap (λ (t : Option Bool). fields_head t k.len) (k.field-0-0-is ∙ ap (λ (t : Bool). Some t) (k.field-0-0-0-is ∙ k.field-0-0-0-test)))
+    (let h = c.in-Ok.ensures.stays.room in omega arith) refl
 
 pub returns-then-self-le1-2-clause-err : goal.returns-then-self-le1-2-clause-err
 returns-then-self-le1-2-clause-err g c =
     let k = c.in-Some-None-default in
-    fields_too_deep g.R.Source _ _ _ (c.in-Ok.field-0-0, c.in-Ok.head) c.in-Ok.ensures None k.len (λ e. cc) (k.ensures ∙ ap (λ (t : Option Bool). fields_head t k.len) k.field-0-0-is) (let h = c.in-Ok.ensures.stays.room in omega arith) refl
+    fields_too_deep g.R.Source _ _ _ (c.in-Ok.field-0-0, c.in-Ok.head) c.in-Ok.ensures None k.len (λ e. cc)
+    (k.ensures ∙ ap (λ (t : Option Bool). fields_head t k.len) k.field-0-0-is) (let h = c.in-Ok.ensures.stays.room in omega arith) refl

@@ -11,7 +11,8 @@ pub returns-in-Err-clause-err : goal.returns-in-Err-clause-err
 returns-in-Err-clause-err g c = no_variant_begins g.R.Source (bytes_of c.args.names.now) _ _ _ c.in-Err.ensures
 
 pub returns-then-self-le1-clause-err : goal.returns-then-self-le1-clause-err
-returns-then-self-le1-clause-err g c = variant_too_deep g.R.Source (bytes_of c.args.names.now) _ _ _ (c.in-Ok.field-0-0, c.in-Ok.head) c.in-Ok.ensures (search rules) (let h = c.in-Ok.ensures.stays.room in omega arith) refl
+returns-then-self-le1-clause-err g c = variant_too_deep g.R.Source (bytes_of c.args.names.now) _ _ _ (c.in-Ok.field-0-0, c.in-Ok.head) c.in-Ok.ensures
+    (search rules) (let h = c.in-Ok.ensures.stays.room in omega arith) refl
 
 pub returns-in-Ok-name_of_pair-clause-ok : goal.returns-in-Ok-name_of_pair-clause-ok
 returns-in-Ok-name_of_pair-clause-ok g c =
@@ -24,7 +25,8 @@ returns-in-Ok-name_of_pair-clause-ok g c =
       faults_same = h.sound;
       marked = h.failed;
       clean = h.clean;
-      key = subst (λ z. TakesPart g.R.Source (IsPlace (bytes_of c.args.names.now)) (max 1 (z - 1)) c.head.new.self c.name_of_pair.new.self c.in-Ok-name_of_pair.place) h.stays.room c.in-Ok-name_of_pair.ensures.ok;
+      key = subst (λ z. TakesPart g.R.Source (IsPlace (bytes_of c.args.names.now)) (max 1 (z - 1)) c.head.new.self c.name_of_pair.new.self
+          c.in-Ok-name_of_pair.place) h.stays.room c.in-Ok-name_of_pair.ensures.ok;
     }
 
 pub returns-in-Ok-name_of_pair-clause-below : goal.returns-in-Ok-name_of_pair-clause-below
@@ -33,11 +35,14 @@ returns-in-Ok-name_of_pair-clause-below g c = let p = c.in-Ok-name_of_pair.ensur
 pub returns-in-Err-name_of_pair-clause-err : goal.returns-in-Err-name_of_pair-clause-err
 returns-in-Err-name_of_pair-clause-err g c =
     let h = c.in-Ok.ensures in
-    no_name_of_pair g.R.Source (bytes_of c.args.names.now) c.args.self c.args.self.now c.head.new.self _ (c.in-Ok.field-0-0, c.in-Ok.head) (c.args.self.now.room - 1) _ h (search rules) (let r = h.stays.room in omega (arith, c.if-self-le1.false))
-    (subst (λ z. FailsPart g.R.Source (IsPlace (bytes_of c.args.names.now)) (max 1 (z - 1)) c.head.new.self c.name_of_pair.new.self c.in-Err-name_of_pair.e) h.stays.room c.in-Err-name_of_pair.ensures.err) c.in-Err-name_of_pair.ensures.exact
+    no_name_of_pair g.R.Source (bytes_of c.args.names.now) c.args.self c.args.self.now c.head.new.self _ (c.in-Ok.field-0-0, c.in-Ok.head)
+    (c.args.self.now.room - 1) _ h (search rules) (let r = h.stays.room in omega (arith, c.if-self-le1.false))
+    (subst (λ z. FailsPart g.R.Source (IsPlace (bytes_of c.args.names.now)) (max 1 (z - 1)) c.head.new.self c.name_of_pair.new.self c.in-Err-name_of_pair.e)
+    h.stays.room c.in-Err-name_of_pair.ensures.err) c.in-Err-name_of_pair.ensures.exact
 
 pub returns-in-Some-clause-err : goal.returns-in-Some-clause-err
-returns-in-Some-clause-err g c = other_count g.R.Source (bytes_of c.args.names.now) _ _ _ (c.in-Ok.field-0-0, c.in-Ok.head) c.in-Ok.ensures c.in-Some.len c.in-Some.ensures (search rules) refl
+returns-in-Some-clause-err g c = other_count g.R.Source (bytes_of c.args.names.now) _ _ _ (c.in-Ok.field-0-0, c.in-Ok.head) c.in-Ok.ensures c.in-Some.len
+    c.in-Some.ensures (search rules) refl
 
 pub returns-in-Ok-name_behind-clause-ok : goal.returns-in-Ok-name_behind-clause-ok
 returns-in-Ok-name_behind-clause-ok g c =
@@ -52,4 +57,5 @@ returns-in-Ok-name_behind-clause-below g c =
 pub returns-in-Err-name_behind-clause-err : goal.returns-in-Err-name_behind-clause-err
 returns-in-Err-name_behind-clause-err g c =
     let h = c.in-Ok.ensures in
-    no_name_alone g.R.Source (bytes_of c.args.names.now) c.args.self.now c.head.new.self _ (c.in-Ok.field-0-0, c.in-Ok.head) _ h c.in-None.ensures (c.in-Err-name_behind.ensures.law c.args.self.now c.in-Ok.field-0-0 h) (c.in-Err-name_behind.ensures.exact c.args.self.now c.in-Ok.field-0-0 h)
+    no_name_alone g.R.Source (bytes_of c.args.names.now) c.args.self.now c.head.new.self _ (c.in-Ok.field-0-0, c.in-Ok.head) _ h c.in-None.ensures
+    (c.in-Err-name_behind.ensures.law c.args.self.now c.in-Ok.field-0-0 h) (c.in-Err-name_behind.ensures.exact c.args.self.now c.in-Ok.field-0-0 h)

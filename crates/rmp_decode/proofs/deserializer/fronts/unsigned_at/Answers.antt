@@ -10,25 +10,32 @@ pub returns-in-0-to-127-clause-canonical : goal.returns-in-0-to-127-clause-canon
 returns-in-0-to-127-clause-canonical c = λ _. small_stands _ c.args.front.now _ c.in-len1-up.len_at_least (search rules) c.from-in-0-to-127.ensures
 
 pub returns-in-len1-up-behind-clause-any : goal.returns-in-len1-up-behind-clause-any
-returns-in-len1-up-behind-clause-any c = stands_8 c.args.front.now _ c.in-len1-up.len_at_least c.in-204.is c.in-len1-up-behind.len_at_least c.from.ensures (λ i. search rules)
+returns-in-len1-up-behind-clause-any c = stands_8 c.args.front.now _ c.in-len1-up.len_at_least c.in-204.is c.in-len1-up-behind.len_at_least c.from.ensures
+    (λ i. search rules)
 
 pub returns-in-len1-up-behind-clause-canonical : goal.returns-in-len1-up-behind-clause-canonical
-returns-in-len1-up-behind-clause-canonical c = λ l. opened_stands _ _ _ c.args.front.now (λ e. opens_8 _ _ c.in-204.is l (search rules)) (returns-in-len1-up-behind-clause-any c)
+returns-in-len1-up-behind-clause-canonical c = λ l. opened_stands _ _ _ c.args.front.now (λ e. opens_8 _ _ c.in-204.is l (search rules))
+    (returns-in-len1-up-behind-clause-any c)
 
 pub returns-in-len2-up-clause-any : goal.returns-in-len2-up-clause-any
-returns-in-len2-up-clause-any c = stands_16 c.args.front.now _ c.in-len1-up.len_at_least c.in-205.is c.in-len2-up.len_at_least (c.from-in-len2-up.ensures ∙ c.from_be_bytes.ensures) (λ i. search rules)
+returns-in-len2-up-clause-any c = stands_16 c.args.front.now _ c.in-len1-up.len_at_least c.in-205.is c.in-len2-up.len_at_least
+    (c.from-in-len2-up.ensures ∙ c.from_be_bytes.ensures) (λ i. search rules)
 
 pub returns-in-len2-up-clause-canonical : goal.returns-in-len2-up-clause-canonical
-returns-in-len2-up-clause-canonical c = λ l. opened_stands _ _ _ c.args.front.now (λ e. opens_16 _ _ c.in-205.is l (search rules)) (returns-in-len2-up-clause-any c)
+returns-in-len2-up-clause-canonical c = λ l. opened_stands _ _ _ c.args.front.now (λ e. opens_16 _ _ c.in-205.is l (search rules))
+    (returns-in-len2-up-clause-any c)
 
 pub returns-in-len4-up-clause-any : goal.returns-in-len4-up-clause-any
-returns-in-len4-up-clause-any c = stands_32 c.args.front.now _ c.in-len1-up.len_at_least c.in-206.is c.in-len4-up.len_at_least (c.from-in-len4-up.ensures ∙ c.from_be_bytes-in-len4-up.ensures) (λ i. search rules)
+returns-in-len4-up-clause-any c = stands_32 c.args.front.now _ c.in-len1-up.len_at_least c.in-206.is c.in-len4-up.len_at_least
+    (c.from-in-len4-up.ensures ∙ c.from_be_bytes-in-len4-up.ensures) (λ i. search rules)
 
 pub returns-in-len4-up-clause-canonical : goal.returns-in-len4-up-clause-canonical
-returns-in-len4-up-clause-canonical c = λ l. opened_stands _ _ _ c.args.front.now (λ e. opens_32 _ _ c.in-206.is l (search rules)) (returns-in-len4-up-clause-any c)
+returns-in-len4-up-clause-canonical c = λ l. opened_stands _ _ _ c.args.front.now (λ e. opens_32 _ _ c.in-206.is l (search rules))
+    (returns-in-len4-up-clause-any c)
 
 pub returns-in-len8-up-clause-any : goal.returns-in-len8-up-clause-any
-returns-in-len8-up-clause-any c = stands_64 c.args.front.now _ c.in-len1-up.len_at_least c.in-207.is c.in-len8-up.len_at_least (search rules) c.from_be_bytes-n.ensures (λ i. search rules)
+returns-in-len8-up-clause-any c = stands_64 c.args.front.now _ c.in-len1-up.len_at_least c.in-207.is c.in-len8-up.len_at_least (search rules)
+    c.from_be_bytes-n.ensures (λ i. search rules)
 
 pub returns-in-len8-up-clause-canonical : goal.returns-in-len8-up-clause-canonical
 returns-in-len8-up-clause-canonical c = λ l. opened_stands _ _ _ c.args.front.now (λ e. opens_64 _ _ c.in-207.is l) (returns-in-len8-up-clause-any c)

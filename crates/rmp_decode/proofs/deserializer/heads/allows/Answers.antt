@@ -16,7 +16,8 @@ of_strict true h b e i = i
 of_strict false h b e i = absurd (cc)
 
 pub returns-else-not-strict-clause-allowed : goal.returns-else-not-strict-clause-allowed
-returns-else-not-strict-clause-allowed c = λ t rest i. in_strict _ _ _ (search rules) (test_passed _ (byte_of c.args.marker) rest i ((c.is_canonical.ensures (head_fits _ _ i)).0 t))
+returns-else-not-strict-clause-allowed c = λ t rest i. in_strict _ _ _ (search rules)
+    (test_passed _ (byte_of c.args.marker) rest i ((c.is_canonical.ensures (head_fits _ _ i)).0 t))
 
 pub returns-else-not-strict-clause-other : goal.returns-else-not-strict-clause-other
 returns-else-not-strict-clause-other c = λ f rest i.

@@ -15,4 +15,7 @@ returns-in_err-head-clause-refused g c =
     head_failed g.S.Source _ _ _ _ _ _ _ (p.1 ∙ ap Err p.2) c.in_ok-marker.ensures.reads c.in_err-head.ensures.refused
 
 pub returns-clause-taken : goal.returns-clause-taken
-returns-clause-taken g c = record { read = reads_next g.S.Source _ _ _ _ _ c.in_ok-marker.ensures.reads c.in_ok-head.ensures.taken.read; allowed = c.in_ok-head.ensures.taken.allowed }
+returns-clause-taken g c = record {
+  read = reads_next g.S.Source _ _ _ _ _ c.in_ok-marker.ensures.reads c.in_ok-head.ensures.taken.read;
+  allowed = c.in_ok-head.ensures.taken.allowed;
+}

@@ -1,7 +1,23 @@
 use Rattle.std.proofs.Common.{subst, refl, arith}
 use Rattle.rmp_wire.specs.Sources.{IsShort}
 use Rattle.rmp_decode.specs.Skip.{Passes}
-use Rattle.rmp_decode.proofs.SkipLoop.{wants_out, wants_none, none_of, wants_leaf, wants_empty, wants_in, falls_leaf, falls_in, deep_refused, deep_wrong, memory_wrong, leaf_refused, leaf_wrong, none_refused, none_wrong}
+use Rattle.rmp_decode.proofs.SkipLoop.{
+  wants_out,
+  wants_none,
+  none_of,
+  wants_leaf,
+  wants_empty,
+  wants_in,
+  falls_leaf,
+  falls_in,
+  deep_refused,
+  deep_wrong,
+  memory_wrong,
+  leaf_refused,
+  leaf_wrong,
+  none_refused,
+  none_wrong,
+}
 use Rattle.rmp_decode.proofs.Skipping.{no_room}
 use Rattle.rmp_decode.proofs.deserializer.skip.skip_parts.Goals as goal
 
@@ -9,31 +25,46 @@ pub returns-then-de-le1-clause-law : goal.returns-then-de-le1-clause-law
 returns-then-de-le1-clause-law g c = no_room g.R.Source c.args.count c.args.de.now _ c.requires.failed c.if-de-le1.true
 
 pub parts-preserved-in-Some : goal.parts-preserved-in-Some
-parts-preserved-in-Some g c = wants_out g.R.Source g.P.ReadContent.lends c.args.count c.args.de.now c.parts.de c.parts.room c.parts.wanted c.parts.outer.items c.parts.invariant c.in-Some.n _ _ c.if-wanted-eq0.true c.in-Some.ensures.items refl
+parts-preserved-in-Some g c = wants_out g.R.Source g.P.ReadContent.lends c.args.count c.args.de.now c.parts.de c.parts.room c.parts.wanted
+    c.parts.outer.items c.parts.invariant c.in-Some.n _ _ c.if-wanted-eq0.true c.in-Some.ensures.items refl
 
 pub returns-in-None-clause-law : goal.returns-in-None-clause-law
-returns-in-None-clause-law g c = wants_none g.R.Source g.P.ReadContent.lends c.args.count c.args.de.now c.parts.de c.parts.room c.parts.wanted c.parts.outer.items c.parts.invariant _ c.if-wanted-eq0.true (none_of c.parts.outer.items (omega (arith, c.in-None.ensures.cases.0))) refl
+returns-in-None-clause-law g c = wants_none g.R.Source g.P.ReadContent.lends c.args.count c.args.de.now c.parts.de c.parts.room c.parts.wanted
+    c.parts.outer.items c.parts.invariant _ c.if-wanted-eq0.true (none_of c.parts.outer.items (omega (arith, c.in-None.ensures.cases.0))) refl
 
 pub returns-then-room-le1-clause-law : goal.returns-then-room-le1-clause-law
-returns-then-room-le1-clause-law g c = deep_refused g.R.Source g.P.ReadContent.lends c.args.count c.args.de.now c.parts.de c.parts.room c.parts.wanted c.parts.outer.items c.parts.invariant _ c.any_head.new.self refl (omega (arith, c.if-wanted-eq0.false)) _ c.in-Ok.ensures.ok.begun c.in-Some-parts_in.is_map c.in-Some-parts_in.n _ c.in-Some-parts_in.ensures c.if-room-le1.true
+returns-then-room-le1-clause-law g c = deep_refused g.R.Source g.P.ReadContent.lends c.args.count c.args.de.now c.parts.de c.parts.room c.parts.wanted
+    c.parts.outer.items c.parts.invariant _ c.any_head.new.self refl (omega (arith, c.if-wanted-eq0.false)) _ c.in-Ok.ensures.ok.begun
+    c.in-Some-parts_in.is_map c.in-Some-parts_in.n _ c.in-Some-parts_in.ensures c.if-room-le1.true
 
 pub returns-then-room-le1-clause-exact : goal.returns-then-room-le1-clause-exact
-returns-then-room-le1-clause-exact g c = λ _. deep_wrong g.R.Source g.P.ReadContent.lends c.args.count c.args.de.now c.parts.de c.parts.room c.parts.wanted c.parts.outer.items c.parts.invariant _ c.any_head.new.self refl (omega (arith, c.if-wanted-eq0.false)) _ c.in-Ok.ensures.ok.begun c.in-Some-parts_in.is_map c.in-Some-parts_in.n c.in-Some-parts_in.ensures c.if-room-le1.true
+returns-then-room-le1-clause-exact g c = λ _. deep_wrong g.R.Source g.P.ReadContent.lends c.args.count c.args.de.now c.parts.de c.parts.room c.parts.wanted
+    c.parts.outer.items c.parts.invariant _ c.any_head.new.self refl (omega (arith, c.if-wanted-eq0.false)) _ c.in-Ok.ensures.ok.begun
+    c.in-Some-parts_in.is_map c.in-Some-parts_in.n c.in-Some-parts_in.ensures c.if-room-le1.true
 
 pub returns-in-Err-push-clause-exact : goal.returns-in-Err-push-clause-exact
-returns-in-Err-push-clause-exact g c = λ _. memory_wrong g.R.Source g.P.ReadContent.lends c.args.count c.args.de.now c.parts.de c.parts.room c.parts.wanted c.parts.outer.items c.parts.invariant _ c.any_head.new.self refl (omega (arith, c.if-wanted-eq0.false)) _ c.in-Ok.ensures.ok.begun c.in-Some-parts_in.is_map c.in-Some-parts_in.n c.in-Some-parts_in.ensures (omega (arith, c.if-inner-gt0.true, c.messages-inner.ensures.same))
+returns-in-Err-push-clause-exact g c = λ _. memory_wrong g.R.Source g.P.ReadContent.lends c.args.count c.args.de.now c.parts.de c.parts.room c.parts.wanted
+    c.parts.outer.items c.parts.invariant _ c.any_head.new.self refl (omega (arith, c.if-wanted-eq0.false)) _ c.in-Ok.ensures.ok.begun
+    c.in-Some-parts_in.is_map c.in-Some-parts_in.n c.in-Some-parts_in.ensures (omega (arith, c.if-inner-gt0.true, c.messages-inner.ensures.same))
 
 pub parts-smaller-then-inner-gt0 : goal.parts-smaller-then-inner-gt0
-parts-smaller-then-inner-gt0 g c = falls_in c.parts.room c.parts.wanted _ _ _ c.parts.outer.items _ (omega (arith, c.if-wanted-eq0.false)) refl refl c.messages-inner.ensures.below c.in-Ok-push.ensures.items (omega (arith, c.if-room-le1.false))
+parts-smaller-then-inner-gt0 g c = falls_in c.parts.room c.parts.wanted _ _ _ c.parts.outer.items _ (omega (arith, c.if-wanted-eq0.false)) refl refl
+    c.messages-inner.ensures.below c.in-Ok-push.ensures.items (omega (arith, c.if-room-le1.false))
 
 pub parts-preserved-then-inner-gt0 : goal.parts-preserved-then-inner-gt0
-parts-preserved-then-inner-gt0 g c = wants_in g.R.Source g.P.ReadContent.lends c.args.count c.args.de.now c.parts.de c.parts.room c.parts.wanted c.parts.outer.items c.parts.invariant _ c.any_head.new.self refl (omega (arith, c.if-wanted-eq0.false)) _ c.in-Ok.ensures.ok.begun c.in-Some-parts_in.is_map c.in-Some-parts_in.n _ _ _ _ refl refl c.in-Some-parts_in.ensures c.messages-inner.ensures.same c.in-Ok-push.ensures.items (omega (arith, c.if-room-le1.false))
+parts-preserved-then-inner-gt0 g c = wants_in g.R.Source g.P.ReadContent.lends c.args.count c.args.de.now c.parts.de c.parts.room c.parts.wanted
+    c.parts.outer.items c.parts.invariant _ c.any_head.new.self refl (omega (arith, c.if-wanted-eq0.false)) _ c.in-Ok.ensures.ok.begun
+    c.in-Some-parts_in.is_map c.in-Some-parts_in.n _ _ _ _ refl refl c.in-Some-parts_in.ensures c.messages-inner.ensures.same c.in-Ok-push.ensures.items
+    (omega (arith, c.if-room-le1.false))
 
 pub parts-smaller-else-inner-gt0 : goal.parts-smaller-else-inner-gt0
 parts-smaller-else-inner-gt0 g c = falls_leaf c.parts.room c.parts.wanted _ c.parts.outer.items (omega (arith, c.if-wanted-eq0.false)) refl
 
 pub parts-preserved-else-inner-gt0 : goal.parts-preserved-else-inner-gt0
-parts-preserved-else-inner-gt0 g c = wants_empty g.R.Source g.P.ReadContent.lends c.args.count c.args.de.now c.parts.de c.parts.room c.parts.wanted c.parts.outer.items c.parts.invariant _ c.any_head.new.self refl (omega (arith, c.if-wanted-eq0.false)) _ c.in-Ok.ensures.ok.begun c.in-Some-parts_in.is_map c.in-Some-parts_in.n _ refl c.in-Some-parts_in.ensures (omega (arith, c.if-inner-gt0.false, c.messages-inner.ensures.same)) (omega (arith, c.if-room-le1.false))
+parts-preserved-else-inner-gt0 g c = wants_empty g.R.Source g.P.ReadContent.lends c.args.count c.args.de.now c.parts.de c.parts.room c.parts.wanted
+    c.parts.outer.items c.parts.invariant _ c.any_head.new.self refl (omega (arith, c.if-wanted-eq0.false)) _ c.in-Ok.ensures.ok.begun
+    c.in-Some-parts_in.is_map c.in-Some-parts_in.n _ refl c.in-Some-parts_in.ensures (omega (arith, c.if-inner-gt0.false, c.messages-inner.ensures.same))
+    (omega (arith, c.if-room-le1.false))
 
 pub parts-smaller : goal.parts-smaller
 parts-smaller g c = falls_leaf c.parts.room c.parts.wanted _ c.parts.outer.items (omega (arith, c.if-wanted-eq0.false)) refl
@@ -41,20 +72,31 @@ parts-smaller g c = falls_leaf c.parts.room c.parts.wanted _ c.parts.outer.items
 pub parts-preserved : goal.parts-preserved
 parts-preserved g c =
     let o = c.in-Ok-pass.ensures in
-    wants_leaf g.R.Source g.P.ReadContent.lends c.args.count c.args.de.now c.parts.de c.parts.room c.parts.wanted c.parts.outer.items c.parts.invariant _ c.any_head.new.self refl (omega (arith, c.if-wanted-eq0.false)) _ c.in-Ok.ensures.ok.begun _ _ refl c.in-None-parts_in.ensures (subst (λ z. Passes z (g.R.Source.ahead c.any_head.new.self.reader) (g.R.Source.ahead c.pass.new.reader)) c.content_in.ensures o.ok) refl refl o.sound (record { config = refl; room = refl; strict = refl; place = o.place })
+    wants_leaf g.R.Source g.P.ReadContent.lends c.args.count c.args.de.now c.parts.de c.parts.room c.parts.wanted c.parts.outer.items c.parts.invariant _
+    c.any_head.new.self refl (omega (arith, c.if-wanted-eq0.false)) _ c.in-Ok.ensures.ok.begun _ _ refl c.in-None-parts_in.ensures
+    (subst (λ z. Passes z (g.R.Source.ahead c.any_head.new.self.reader) (g.R.Source.ahead c.pass.new.reader)) c.content_in.ensures o.ok) refl refl
+    o.sound (record { config = refl; room = refl; strict = refl; place = o.place })
 
 pub returns-in-Err-pass-clause-law : goal.returns-in-Err-pass-clause-law
 returns-in-Err-pass-clause-law g c =
     let o = c.in-Err-pass.ensures in
-    leaf_refused g.R.Source g.P.ReadContent.lends c.args.count c.args.de.now c.parts.de c.parts.room c.parts.wanted c.parts.outer.items c.parts.invariant _ c.any_head.new.self refl (omega (arith, c.if-wanted-eq0.false)) _ c.in-Ok.ensures.ok.begun _ c.in-Err-pass.e (λ n k. subst (λ z. IsShort z (g.R.Source.ahead c.any_head.new.self.reader)) c.content_in.ensures (o.err n k)) refl (record { config = refl; room = refl; strict = refl; place = o.place })
+    leaf_refused g.R.Source g.P.ReadContent.lends c.args.count c.args.de.now c.parts.de c.parts.room c.parts.wanted c.parts.outer.items c.parts.invariant _
+    c.any_head.new.self refl (omega (arith, c.if-wanted-eq0.false)) _ c.in-Ok.ensures.ok.begun _ c.in-Err-pass.e
+    (λ n k. subst (λ z. IsShort z (g.R.Source.ahead c.any_head.new.self.reader)) c.content_in.ensures (o.err n k)) refl
+    (record { config = refl; room = refl; strict = refl; place = o.place })
 
 pub returns-in-Err-pass-clause-exact : goal.returns-in-Err-pass-clause-exact
 returns-in-Err-pass-clause-exact g c = λ _.
     let o = c.in-Err-pass.ensures in
-    leaf_wrong g.R.Source g.P.ReadContent.lends c.args.count c.args.de.now c.parts.de c.parts.room c.parts.wanted c.parts.outer.items c.parts.invariant _ c.any_head.new.self refl (omega (arith, c.if-wanted-eq0.false)) _ c.in-Ok.ensures.ok.begun (record c.any_head.new.self { reader = c.pass.new.reader }) c.in-Err-pass.e o.memory c.in-None-parts_in.ensures (λ n k. subst (λ z. IsShort z (g.R.Source.ahead c.any_head.new.self.reader)) c.content_in.ensures (o.err n k)) o.end
+    leaf_wrong g.R.Source g.P.ReadContent.lends c.args.count c.args.de.now c.parts.de c.parts.room c.parts.wanted c.parts.outer.items c.parts.invariant _
+    c.any_head.new.self refl (omega (arith, c.if-wanted-eq0.false)) _ c.in-Ok.ensures.ok.begun
+    (record c.any_head.new.self { reader = c.pass.new.reader }) c.in-Err-pass.e o.memory c.in-None-parts_in.ensures
+    (λ n k. subst (λ z. IsShort z (g.R.Source.ahead c.any_head.new.self.reader)) c.content_in.ensures (o.err n k)) o.end
 
 pub returns-in-Err-clause-law : goal.returns-in-Err-clause-law
-returns-in-Err-clause-law g c = none_refused g.R.Source g.P.ReadContent.lends c.args.count c.args.de.now c.parts.de c.parts.room c.parts.wanted c.parts.outer.items c.parts.invariant _ c.any_head.new.self _ refl (omega (arith, c.if-wanted-eq0.false)) c.in-Err.ensures.err
+returns-in-Err-clause-law g c = none_refused g.R.Source g.P.ReadContent.lends c.args.count c.args.de.now c.parts.de c.parts.room c.parts.wanted
+    c.parts.outer.items c.parts.invariant _ c.any_head.new.self _ refl (omega (arith, c.if-wanted-eq0.false)) c.in-Err.ensures.err
 
 pub returns-in-Err-clause-exact : goal.returns-in-Err-clause-exact
-returns-in-Err-clause-exact g c = λ _. none_wrong g.R.Source g.P.ReadContent.lends c.args.count c.args.de.now c.parts.de c.parts.room c.parts.wanted c.parts.outer.items c.parts.invariant _ c.any_head.new.self _ refl (omega (arith, c.if-wanted-eq0.false)) c.in-Err.ensures.err
+returns-in-Err-clause-exact g c = λ _. none_wrong g.R.Source g.P.ReadContent.lends c.args.count c.args.de.now c.parts.de c.parts.room c.parts.wanted
+    c.parts.outer.items c.parts.invariant _ c.any_head.new.self _ refl (omega (arith, c.if-wanted-eq0.false)) c.in-Err.ensures.err

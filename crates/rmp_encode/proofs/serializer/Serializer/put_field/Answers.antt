@@ -12,7 +12,8 @@ returns-in_err-put_name-clause-writes g c =
 
 pub returns-clause-writes : goal.returns-clause-writes
 returns-clause-writes g c = λ old t rest h.
-    goes g.W.Sink (λ s. g.T.Serialize.takes_memory s || g.W.Sink.takes_memory) (λ s. g.T.Serialize.data_of c.args.value.now s.human) _ _ c.serialize.result c.serialize.ensures.keeps c.serialize.ensures.writes old t rest
+    goes g.W.Sink (λ s. g.T.Serialize.takes_memory s || g.W.Sink.takes_memory) (λ s. g.T.Serialize.data_of c.args.value.now s.human) _ _ c.serialize.result
+    c.serialize.ensures.keeps c.serialize.ensures.writes old t rest
     (c.in_ok-put_name.ensures.writes old t _ (field_split g.W.Sink _ _ rest h))
 
 pub returns-clause-keeps : goal.returns-clause-keeps

@@ -15,7 +15,8 @@ returns-in_err-n-clause-stays g c =
     rw (p.1, p.2) (stays_refused _ _ c.in_err-n.ensures.refused)
 
 pub returns-clause-begins : goal.returns-clause-begins
-returns-clause-begins g c = begins g.W.Sink (head_at c.args.pairs c.args.len) c.args.self.now _ c.put_head.result (search rules) c.put_head.ensures.keeps (rw c.in_ok-n.ensures.same at c.put_head.ensures.writes)
+returns-clause-begins g c = begins g.W.Sink (head_at c.args.pairs c.args.len) c.args.self.now _ c.put_head.result (search rules) c.put_head.ensures.keeps
+    (rw c.in_ok-n.ensures.same at c.put_head.ensures.writes)
 
 pub returns-clause-stays : goal.returns-clause-stays
 returns-clause-stays g c = never_refused_by g.W.Sink.takes_memory _ _ _ _ c.put_head.result c.put_head.ensures.writes.cause

@@ -24,26 +24,33 @@ loop-value-init g c = record {
 
 pub loop-value-preserved : goal.loop-value-preserved
 loop-value-preserved g c =
-    let rest = map_rest (λ x. g.T.Serialize.data_of x (settings_of c.args.self.now).human) c.args.values.now c.loop-value.value-index c.value-item.result c.loop-value-test.true c.value-item.is in
+    let rest = map_rest (λ x. g.T.Serialize.data_of x (settings_of c.args.self.now).human) c.args.values.now c.loop-value.value-index c.value-item.result
+    c.loop-value-test.true c.value-item.is in
     record {
       within = omega arith;
-      writing = next_ok g.W.Sink (λ s. g.T.Serialize.data_of c.value-item.result s.human) _ _ _ c.serialize.ensures.keeps c.in_ok-serialize.ensures.writes c.args.self.now _ _ _ rest c.loop-value.invariant.writing;
+      writing = next_ok g.W.Sink (λ s. g.T.Serialize.data_of c.value-item.result s.human) _ _ _ c.serialize.ensures.keeps c.in_ok-serialize.ensures.writes
+          c.args.self.now _ _ _ rest c.loop-value.invariant.writing;
       keeps = keeps_then g.W.Sink c.loop-value.invariant.keeps c.serialize.ensures.keeps;
-      values = All-more g.T.Serialize.is_value _ _ c.value-item.result c.loop-value-test.true c.loop-value.invariant.values (subst g.T.Serialize.is_value c.value-item.is c.in_ok-serialize.ensures.value);
+      values = All-more g.T.Serialize.is_value _ _ c.value-item.result c.loop-value-test.true c.loop-value.invariant.values
+          (subst g.T.Serialize.is_value c.value-item.is c.in_ok-serialize.ensures.value);
     }
 
 pub returns-in_err-serialize-clause-writes : goal.returns-in_err-serialize-clause-writes
 returns-in_err-serialize-clause-writes g c =
     let p = err_from_is_err_and c.from_residual-in_err-serialize.result c.from_residual-in_err-serialize.ensures.1 in
-    let rest = map_rest (λ x. g.T.Serialize.data_of x (settings_of c.args.self.now).human) c.args.values.now c.loop-value.value-index c.value-item.result c.loop-value-test.true c.value-item.is in
-    rw (p.1, p.2) (next_err g.W.Sink (λ s. g.T.Serialize.takes_memory s || g.W.Sink.takes_memory) (λ s. g.T.Serialize.data_of c.value-item.result s.human) c.loop-value.self c.serialize.new.se _ c.serialize.ensures.keeps c.in_err-serialize.ensures.writes c.args.self.now _ _ _ rest c.loop-value.invariant.writing)
+    let rest = map_rest (λ x. g.T.Serialize.data_of x (settings_of c.args.self.now).human) c.args.values.now c.loop-value.value-index c.value-item.result
+    c.loop-value-test.true c.value-item.is in
+    rw (p.1, p.2) (next_err g.W.Sink (λ s. g.T.Serialize.takes_memory s || g.W.Sink.takes_memory) (λ s. g.T.Serialize.data_of c.value-item.result s.human)
+    c.loop-value.self c.serialize.new.se _ c.serialize.ensures.keeps c.in_err-serialize.ensures.writes c.args.self.now _ _ _ rest
+    c.loop-value.invariant.writing)
 
 pub returns-in_err-serialize-clause-keeps : goal.returns-in_err-serialize-clause-keeps
 returns-in_err-serialize-clause-keeps g c = keeps_then g.W.Sink c.loop-value.invariant.keeps c.serialize.ensures.keeps
 
 pub returns-clause-writes : goal.returns-clause-writes
 returns-clause-writes g c =
-    let rest = map_rest_none (λ x. g.T.Serialize.data_of x (settings_of c.args.self.now).human) c.args.values.now c.loop-value.value-index c.loop-value-test.false in
+    let rest = map_rest_none (λ x. g.T.Serialize.data_of x (settings_of c.args.self.now).human) c.args.values.now c.loop-value.value-index
+    c.loop-value-test.false in
     none_next g.W.Sink c.args.self.now _ _ _ _ rest c.loop-value.invariant.writing
 
 pub returns-clause-value : goal.returns-clause-value

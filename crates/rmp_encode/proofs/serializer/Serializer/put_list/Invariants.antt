@@ -9,7 +9,9 @@ use Rattle.rmp_encode.proofs.serializer.Serializer.put_list.Given as goal
 abbrev pub invariant-loop-value : goal.invariant-loop-value
 invariant-loop-value g l = record {
   within : l.value-index ≤ length l.fn.values;
-  writing : IsWriting g.W.Sink l.fn.self (tree_of (settings_of l.fn.self) (sequence_of (map (λ x. g.T.Serialize.data_of x (settings_of l.fn.self).human) l.fn.values))) (map (λ x. g.T.Serialize.data_of x (settings_of l.fn.self).human) (drop l.value-index l.fn.values)) l.self;
+  writing : IsWriting g.W.Sink l.fn.self (tree_of (settings_of l.fn.self)
+      (sequence_of (map (λ x. g.T.Serialize.data_of x (settings_of l.fn.self).human) l.fn.values)))
+      (map (λ x. g.T.Serialize.data_of x (settings_of l.fn.self).human) (drop l.value-index l.fn.values)) l.self;
   keeps : Keeps g.W.Sink l.fn.self l.self;
   values : All g.T.Serialize.is_value (take l.value-index l.fn.values);
 }

@@ -8,7 +8,8 @@ use Rattle.rmp_encode.proofs.serializer.Serializer.put_numbers.Goals as goal
 pub returns-in_err-put_byte-clause-writes : goal.returns-in_err-put_byte-clause-writes
 returns-in_err-put_byte-clause-writes g c =
     let p = err_from_is_err_and c.from_residual.result c.from_residual.ensures.1 in
-    rw (p.1, p.2) (number_fails g.W.Sink number_head c.args.bytes.now c.loop-b.b-index _ c.loop-b-test.true c.loop-b.invariant.writes c.in_err-put_byte.ensures.writes)
+    rw (p.1, p.2) (number_fails g.W.Sink number_head c.args.bytes.now c.loop-b.b-index _ c.loop-b-test.true c.loop-b.invariant.writes
+    c.in_err-put_byte.ensures.writes)
 
 pub loop-b-preserved : goal.loop-b-preserved
 loop-b-preserved g c = record {

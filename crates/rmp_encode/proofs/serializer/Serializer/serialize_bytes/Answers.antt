@@ -17,7 +17,8 @@ returns-in_err-fits_u32-clause-refused g c =
 
 pub returns-clause-writes : goal.returns-clause-writes
 unfolding fits_head
-returns-clause-writes g c = wire_tree g.W.Sink _ c.write_bin.result c.answer.ensures (c.in_ok-fits_u32.ensures.fits, bytes_from c.args.bytes.now (λ i. omega (arith, c.type_inv.bytes i))) c.write_bin.ensures.writes
+returns-clause-writes g c = wire_tree g.W.Sink _ c.write_bin.result c.answer.ensures
+    (c.in_ok-fits_u32.ensures.fits, bytes_from c.args.bytes.now (λ i. omega (arith, c.type_inv.bytes i))) c.write_bin.ensures.writes
 
 pub returns-clause-marker : goal.returns-clause-marker
 returns-clause-marker g c = wire_marker g.W.Sink _ c.write_bin.result c.answer.ensures c.write_bin.ensures.writes

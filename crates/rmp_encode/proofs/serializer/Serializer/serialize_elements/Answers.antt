@@ -8,11 +8,14 @@ use Rattle.rmp_encode.proofs.serializer.Serializer.serialize_elements.Goals as g
 pub returns-in_err-put_len-clause-writes : goal.returns-in_err-put_len-clause-writes
 returns-in_err-put_len-clause-writes g c =
     let p = err_from_is_err_and c.from_residual.result c.from_residual.ensures.1 in
-    rw (p.1, p.2) (part_or g.W.Sink _ ((rw c.len.ensures at c.in_err-put_len.ensures.begins) _ _ (made_list _ g.E.Elements.count _ (g.E.Elements.counted c.args.elements.now _))))
+    rw (p.1, p.2) (part_or g.W.Sink _ ((rw c.len.ensures at c.in_err-put_len.ensures.begins) _ _
+    (made_list _ g.E.Elements.count _ (g.E.Elements.counted c.args.elements.now _))))
 
 pub returns-clause-writes : goal.returns-clause-writes
 returns-clause-writes g c =
-    all_written g.W.Sink (λ s. g.E.Elements.takes_memory s || g.W.Sink.takes_memory) (λ s. g.E.Elements.parts_of c.args.elements.now s.human) _ _ c.write.result c.write.ensures.writes c.args.self.now _ ((rw c.len.ensures at c.in_ok-put_len.ensures.begins) _ _ (made_list _ g.E.Elements.count _ (g.E.Elements.counted c.args.elements.now _)))
+    all_written g.W.Sink (λ s. g.E.Elements.takes_memory s || g.W.Sink.takes_memory) (λ s. g.E.Elements.parts_of c.args.elements.now s.human) _ _
+    c.write.result c.write.ensures.writes c.args.self.now _
+    ((rw c.len.ensures at c.in_ok-put_len.ensures.begins) _ _ (made_list _ g.E.Elements.count _ (g.E.Elements.counted c.args.elements.now _)))
 
 pub returns-clause-keeps : goal.returns-clause-keeps
 returns-clause-keeps g c = keeps_then g.W.Sink c.put_len.ensures.keeps c.write.ensures.keeps

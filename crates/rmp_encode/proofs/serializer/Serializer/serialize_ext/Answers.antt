@@ -21,7 +21,9 @@ returns-in_err-n-clause-refused g c =
 pub returns-in_err-put_ext_head-clause-writes : goal.returns-in_err-put_ext_head-clause-writes
 returns-in_err-put_ext_head-clause-writes g c =
     let p = err_from_is_err_and c.from_residual-in_err-put_ext_head.result c.from_residual-in_err-put_ext_head.ensures.1 in
-    rw (p.1, p.2) (ext_tree g.W.Sink (tt, tt) c.args.tag c.args.bytes.now _ c.in_ok-n.ensures.same (omega (arith, c.in_ok-n.ensures.same, c.in_ok-n.ensures.fits)) c.ranges.tag (bytes_from c.args.bytes.now (λ i. omega (arith, c.type_inv.bytes i))) (part_stops g.W.Sink {Q = Unit {0}} _ (ext_as g.W.Sink _ _ _ (to_z-of_z w8 c.args.tag c.ranges.tag) c.in_err-put_ext_head.ensures.writes)))
+    rw (p.1, p.2) (ext_tree g.W.Sink (tt, tt) c.args.tag c.args.bytes.now _ c.in_ok-n.ensures.same
+    (omega (arith, c.in_ok-n.ensures.same, c.in_ok-n.ensures.fits)) c.ranges.tag (bytes_from c.args.bytes.now (λ i. omega (arith, c.type_inv.bytes i)))
+    (part_stops g.W.Sink {Q = Unit {0}} _ (ext_as g.W.Sink _ _ _ (to_z-of_z w8 c.args.tag c.ranges.tag) c.in_err-put_ext_head.ensures.writes)))
 
 pub returns-in_err-put_ext_head-clause-refused : goal.returns-in_err-put_ext_head-clause-refused
 returns-in_err-put_ext_head-clause-refused g c =
@@ -30,10 +32,13 @@ returns-in_err-put_ext_head-clause-refused g c =
 
 pub returns-clause-writes : goal.returns-clause-writes
 returns-clause-writes g c =
-    ext_tree g.W.Sink tt c.args.tag c.args.bytes.now _ c.in_ok-n.ensures.same (omega (arith, c.in_ok-n.ensures.same, c.in_ok-n.ensures.fits)) c.ranges.tag (bytes_from c.args.bytes.now (λ i. omega (arith, c.type_inv.bytes i))) (c.put.ensures.writes _ _ (head_some _) (ext_as g.W.Sink _ _ _ (to_z-of_z w8 c.args.tag c.ranges.tag) c.in_ok-put_ext_head.ensures.writes))
+    ext_tree g.W.Sink tt c.args.tag c.args.bytes.now _ c.in_ok-n.ensures.same (omega (arith, c.in_ok-n.ensures.same, c.in_ok-n.ensures.fits)) c.ranges.tag
+    (bytes_from c.args.bytes.now (λ i. omega (arith, c.type_inv.bytes i)))
+    (c.put.ensures.writes _ _ (head_some _) (ext_as g.W.Sink _ _ _ (to_z-of_z w8 c.args.tag c.ranges.tag) c.in_ok-put_ext_head.ensures.writes))
 
 pub returns-clause-refused : goal.returns-clause-refused
-returns-clause-refused g c = never_refused_by g.W.Sink.takes_memory _ _ _ _ c.put.result (c.put.ensures.writes _ _ (head_some _) c.in_ok-put_ext_head.ensures.writes).cause
+returns-clause-refused g c = never_refused_by g.W.Sink.takes_memory _ _ _ _ c.put.result
+    (c.put.ensures.writes _ _ (head_some _) c.in_ok-put_ext_head.ensures.writes).cause
 
 pub returns-in_err-put_ext_head-clause-marker : goal.returns-in_err-put_ext_head-clause-marker
 returns-in_err-put_ext_head-clause-marker g c =

@@ -11,17 +11,24 @@ use Rattle.rmp_encode.proofs.serializer.Serializer.serialize_newtype_variant.Goa
 pub returns-in_err-fits_u32-clause-writes : goal.returns-in_err-fits_u32-clause-writes
 returns-in_err-fits_u32-clause-writes g c =
     let p = err_from_is_err_and c.from_residual.result c.from_residual.ensures.1 in
-    rw (p.1, p.2) (part_or g.W.Sink _ (begins_not g.W.Sink _ c.args.self.now _ c.in_err-fits_u32.ensures.refused (λ k. let lt = k.0 in omega (arith, lt, c.in_err-fits_u32.ensures.long)) _ _ (made_newtype _ c.args.variant.now _ (bytes_from c.args.variant.now (λ i. omega (arith, c.type_inv.variant i))))))
+    rw (p.1, p.2) (part_or g.W.Sink _ (begins_not g.W.Sink _ c.args.self.now _ c.in_err-fits_u32.ensures.refused (λ k. let lt = k.0
+    in omega (arith, lt, c.in_err-fits_u32.ensures.long)) _ _
+    (made_newtype _ c.args.variant.now _ (bytes_from c.args.variant.now (λ i. omega (arith, c.type_inv.variant i))))))
 
 pub returns-in_err-put_variant-clause-writes : goal.returns-in_err-put_variant-clause-writes
 returns-in_err-put_variant-clause-writes g c =
     let p = err_from_is_err_and c.from_residual-in_err-put_variant.result c.from_residual-in_err-put_variant.ensures.1 in
-    rw (p.1, p.2) (part_or g.W.Sink _ (begins g.W.Sink (variant_head c.args.variant.now) c.args.self.now _ _ (c.in_ok-fits_u32.ensures.fits, tt) c.put_variant.ensures.keeps c.in_err-put_variant.ensures.writes _ _ (made_newtype _ c.args.variant.now _ (bytes_from c.args.variant.now (λ i. omega (arith, c.type_inv.variant i))))))
+    rw (p.1, p.2) (part_or g.W.Sink _ (begins g.W.Sink (variant_head c.args.variant.now) c.args.self.now _ _ (c.in_ok-fits_u32.ensures.fits, tt)
+    c.put_variant.ensures.keeps c.in_err-put_variant.ensures.writes _ _
+    (made_newtype _ c.args.variant.now _ (bytes_from c.args.variant.now (λ i. omega (arith, c.type_inv.variant i))))))
 
 pub returns-clause-writes : goal.returns-clause-writes
 returns-clause-writes g c =
-    last_written g.W.Sink (λ s. g.T.Serialize.takes_memory s || g.W.Sink.takes_memory) (λ s. g.T.Serialize.data_of c.args.value.now s.human) c.args.self.now c.put_variant.new.self _ c.serialize.result c.serialize.ensures.keeps c.serialize.ensures.writes
-    (begins g.W.Sink (variant_head c.args.variant.now) c.args.self.now c.put_variant.new.self _ (c.in_ok-fits_u32.ensures.fits, tt) c.put_variant.ensures.keeps c.in_ok-put_variant.ensures.writes _ _ (made_newtype _ c.args.variant.now _ (bytes_from c.args.variant.now (λ i. omega (arith, c.type_inv.variant i)))))
+    last_written g.W.Sink (λ s. g.T.Serialize.takes_memory s || g.W.Sink.takes_memory) (λ s. g.T.Serialize.data_of c.args.value.now s.human) c.args.self.now
+    c.put_variant.new.self _ c.serialize.result c.serialize.ensures.keeps c.serialize.ensures.writes
+    (begins g.W.Sink (variant_head c.args.variant.now) c.args.self.now c.put_variant.new.self _ (c.in_ok-fits_u32.ensures.fits, tt)
+    c.put_variant.ensures.keeps c.in_ok-put_variant.ensures.writes _ _
+    (made_newtype _ c.args.variant.now _ (bytes_from c.args.variant.now (λ i. omega (arith, c.type_inv.variant i)))))
 
 pub returns-clause-keeps : goal.returns-clause-keeps
 returns-clause-keeps g c = keeps_then g.W.Sink c.put_variant.ensures.keeps c.serialize.ensures.keeps

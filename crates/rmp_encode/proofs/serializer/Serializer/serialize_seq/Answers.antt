@@ -18,7 +18,11 @@ returns-in_default g c = (
     sound = refl;
     fits = rw c.in_default.is tt;
     left = sym c.in_default.is;
-    opened = λ all e. record { sound = refl; state = keeping_opened false g.W.Sink c.args.self.now _ c.buffer-buffer.ensures.settings c.buffer-buffer.ensures.empty _ all refl };
+    opened = λ all e. record {
+      sound = refl;
+      state = keeping_opened false g.W.Sink c.args.self.now _ c.buffer-buffer.ensures.settings
+          c.buffer-buffer.ensures.empty _ all refl;
+    };
     stays = rw c.in_default.is refl;
     keeps = record { settings = refl; place = refl };
   },
@@ -52,7 +56,14 @@ returns g c = (
     sound = refl;
     fits = rw c.in-Some.is c.in_ok-put_len.ensures.fits;
     left = sym c.in-Some.is;
-    opened = λ all e. record { sound = refl; state = (sym (subst (λ l. IsLong l all) c.in-Some.is e), c.in_ok-put_len.ensures.begins _ _ (made_list _ _ all (subst (λ l. IsLong l all) c.in-Some.is e))) };
+    opened = λ all e. record {
+      sound = refl;
+      state = (
+        sym (subst (λ l. IsLong l all) c.in-Some.is e),
+        c.in_ok-put_len.ensures.begins _ _
+            (made_list _ _ all (subst (λ l. IsLong l all) c.in-Some.is e)),
+      );
+    };
     stays = rw c.in-Some.is tt;
     keeps = c.put_len.ensures.keeps;
   },

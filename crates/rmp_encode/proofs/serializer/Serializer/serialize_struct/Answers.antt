@@ -24,5 +24,28 @@ returns-in_err-put_len g c =
 pub returns : goal.returns
 returns g c = (
   (refl, λ _. refl, tt),
-  (refl, (c.in_ok-put_len.ensures.fits, (refl, (refl, (refl, (λ all e. record { sound = refl; left_is = many_fields _ all c.args.len e; state = (rw c.is_named.ensures at c.in_ok-put_len.ensures.begins) _ _ (made_struct _ c.args.len all e) }, c.put_len.ensures.keeps)))))),
+  (
+    refl,
+    (
+      c.in_ok-put_len.ensures.fits,
+      (
+        refl,
+        (
+          refl,
+          (
+            refl,
+            (
+              λ all e. record {
+                sound = refl;
+                left_is = many_fields _ all c.args.len e;
+                state = (rw c.is_named.ensures at c.in_ok-put_len.ensures.begins) _
+                    _ (made_struct _ c.args.len all e);
+              },
+              c.put_len.ensures.keeps,
+            ),
+          ),
+        ),
+      ),
+    ),
+  ),
 )

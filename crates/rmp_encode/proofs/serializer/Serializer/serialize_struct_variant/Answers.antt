@@ -18,7 +18,8 @@ returns-in_err-open_variant g c =
           keeps = c.open_variant.ensures.keeps;
           refused = c.in_err-open_variant.ensures.stays;
           long = c.open_variant.ensures.refused;
-          writes = λ all e. (rw c.is_named.ensures at c.in_err-open_variant.ensures.begins) _ _ (made_struct_variant _ c.args.variant.now c.args.len all is_bytes e);
+          writes = λ all e. (rw c.is_named.ensures at c.in_err-open_variant.ensures.begins) _ _
+              (made_struct_variant _ c.args.variant.now c.args.len all is_bytes e);
         },
       ),
       search rules,
@@ -28,5 +29,27 @@ pub returns : goal.returns
 returns g c =
     let is_bytes : IsBytes c.args.variant.now = bytes_from c.args.variant.now (λ i. omega (arith, c.type_inv.variant i)) in (
       (refl, λ _. refl, tt),
-      (refl, (c.in_ok-open_variant.ensures.fits, (refl, (refl, (refl, (λ all e. record { sound = refl; left_is = many_fields _ all c.args.len e; state = (rw c.is_named.ensures at c.in_ok-open_variant.ensures.begins) _ _ (made_struct_variant _ c.args.variant.now c.args.len all is_bytes e) }, c.open_variant.ensures.keeps)))))),
+      (
+        refl,
+        (
+          c.in_ok-open_variant.ensures.fits,
+          (
+            refl,
+            (
+              refl,
+              (
+                refl,
+                (
+                  λ all e. record {
+                    sound = refl;
+                    left_is = many_fields _ all c.args.len e;
+                    state = (rw c.is_named.ensures at c.in_ok-open_variant.ensures.begins) _ _ (made_struct_variant _ c.args.variant.now c.args.len all is_bytes e);
+                  },
+                  c.open_variant.ensures.keeps,
+                ),
+              ),
+            ),
+          ),
+        ),
+      ),
     )

@@ -31,7 +31,13 @@ returns-then-forces_all g c = (
     fits = c.in_ok-n.ensures.fits;
     left = refl;
     sound = refl;
-    opened = λ all e. record { sound = refl; left_is = sym e; state = rw c.in_ok-n.ensures.same (probing_opened g.W.Sink c.args.self.now c.args.len _ c.empty-kept.ensures (sym c.forces_all.ensures ∙ c.if-forces_all.true) c.in_ok-n.ensures.fits all e) };
+    opened = λ all e. record {
+      sound = refl;
+      left_is = sym e;
+      state = rw c.in_ok-n.ensures.same
+          (probing_opened g.W.Sink c.args.self.now c.args.len _ c.empty-kept.ensures (sym c.forces_all.ensures ∙ c.if-forces_all.true) c.in_ok-n.ensures.fits
+          all e);
+    };
     keeps = record { settings = refl; place = refl };
   },
 )
@@ -47,7 +53,9 @@ returns-in_err-put_head g c =
           keeps = c.put_head.ensures.keeps;
           refused = never_refused g.W.Sink.takes_memory _ _ _ _ _ c.in_err-put_head.ensures.writes.cause;
           long = λ h. absurd (h c.in_ok-n.ensures.fits);
-          writes = λ all e. begins g.W.Sink (head_at false c.args.len) c.args.self.now c.put_head.new.self _ c.in_ok-n.ensures.fits c.put_head.ensures.keeps (rw c.in_ok-n.ensures.same at c.in_err-put_head.ensures.writes) _ all (made_tuple _ all c.args.len (sym c.forces_all.ensures ∙ c.if-forces_all.false) e);
+          writes = λ all e. begins g.W.Sink (head_at false c.args.len) c.args.self.now c.put_head.new.self _ c.in_ok-n.ensures.fits c.put_head.ensures.keeps
+              (rw c.in_ok-n.ensures.same at c.in_err-put_head.ensures.writes) _ all
+              (made_tuple _ all c.args.len (sym c.forces_all.ensures ∙ c.if-forces_all.false) e);
         },
       ),
       search rules,
@@ -65,7 +73,9 @@ returns g c = (
     opened = λ all e. record {
       sound = refl;
       left_is = sym e;
-      state = begins g.W.Sink (head_at false c.args.len) c.args.self.now c.put_head.new.self _ c.in_ok-n.ensures.fits c.put_head.ensures.keeps (rw c.in_ok-n.ensures.same at c.in_ok-put_head.ensures.writes) _ all (made_tuple _ all c.args.len (sym c.forces_all.ensures ∙ c.if-forces_all.false) e);
+      state = begins g.W.Sink (head_at false c.args.len) c.args.self.now c.put_head.new.self _ c.in_ok-n.ensures.fits c.put_head.ensures.keeps
+          (rw c.in_ok-n.ensures.same at c.in_ok-put_head.ensures.writes) _ all
+          (made_tuple _ all c.args.len (sym c.forces_all.ensures ∙ c.if-forces_all.false) e);
     };
     keeps = c.put_head.ensures.keeps;
   },

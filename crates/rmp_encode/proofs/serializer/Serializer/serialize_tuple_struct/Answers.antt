@@ -23,5 +23,23 @@ returns-in_err-put_len g c =
 pub returns : goal.returns
 returns g c = (
   (refl, λ _. refl, tt),
-  (refl, (c.in_ok-put_len.ensures.fits, (refl, (refl, (refl, (λ all e. record { sound = refl; left_is = e; state = c.in_ok-put_len.ensures.begins _ _ (made_list _ c.args.len all e) }, c.put_len.ensures.keeps)))))),
+  (
+    refl,
+    (
+      c.in_ok-put_len.ensures.fits,
+      (
+        refl,
+        (
+          refl,
+          (
+            refl,
+            (
+              λ all e. record { sound = refl; left_is = e; state = c.in_ok-put_len.ensures.begins _ _ (made_list _ c.args.len all e) },
+              c.put_len.ensures.keeps,
+            ),
+          ),
+        ),
+      ),
+    ),
+  ),
 )

@@ -27,5 +27,28 @@ pub returns : goal.returns
 returns g c =
     let is_bytes : IsBytes c.args.variant.now = bytes_from c.args.variant.now (λ i. omega (arith, c.type_inv.variant i)) in (
       (refl, λ _. refl, tt),
-      (refl, (c.in_ok-open_variant.ensures.fits, (refl, (refl, (refl, (λ all e. record { sound = refl; left_is = e; state = c.in_ok-open_variant.ensures.begins _ _ (made_tuple_variant _ c.args.variant.now c.args.len all is_bytes e) }, c.open_variant.ensures.keeps)))))),
+      (
+        refl,
+        (
+          c.in_ok-open_variant.ensures.fits,
+          (
+            refl,
+            (
+              refl,
+              (
+                refl,
+                (
+                  λ all e. record {
+                    sound = refl;
+                    left_is = e;
+                    state = c.in_ok-open_variant.ensures.begins _ _
+                        (made_tuple_variant _ c.args.variant.now c.args.len all is_bytes e);
+                  },
+                  c.open_variant.ensures.keeps,
+                ),
+              ),
+            ),
+          ),
+        ),
+      ),
     )

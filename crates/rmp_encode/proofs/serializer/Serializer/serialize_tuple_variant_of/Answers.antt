@@ -10,11 +10,17 @@ use Rattle.rmp_encode.proofs.serializer.Serializer.serialize_tuple_variant_of.Go
 pub returns-in_err-open_variant-clause-writes : goal.returns-in_err-open_variant-clause-writes
 returns-in_err-open_variant-clause-writes g c =
     let p = err_from_is_err_and c.from_residual.result c.from_residual.ensures.1 in
-    rw (p.1, p.2) (part_or g.W.Sink _ ((rw c.len.ensures at c.in_err-open_variant.ensures.begins) _ _ (made_tuple_variant _ c.args.variant.now g.E.Elements.count _ (bytes_from c.args.variant.now (λ i. omega (arith, c.type_inv.variant i))) (g.E.Elements.counted c.args.elements.now _))))
+    rw (p.1, p.2) (part_or g.W.Sink _ ((rw c.len.ensures at c.in_err-open_variant.ensures.begins) _ _
+    (made_tuple_variant _ c.args.variant.now g.E.Elements.count _ (bytes_from c.args.variant.now (λ i. omega (arith, c.type_inv.variant i)))
+    (g.E.Elements.counted c.args.elements.now _))))
 
 pub returns-clause-writes : goal.returns-clause-writes
 returns-clause-writes g c =
-    all_written g.W.Sink (λ s. g.E.Elements.takes_memory s || g.W.Sink.takes_memory) (λ s. g.E.Elements.parts_of c.args.elements.now s.human) _ _ c.write.result c.write.ensures.writes c.args.self.now _ ((rw c.len.ensures at c.in_ok-open_variant.ensures.begins) _ _ (made_tuple_variant _ c.args.variant.now g.E.Elements.count _ (bytes_from c.args.variant.now (λ i. omega (arith, c.type_inv.variant i))) (g.E.Elements.counted c.args.elements.now _)))
+    all_written g.W.Sink (λ s. g.E.Elements.takes_memory s || g.W.Sink.takes_memory) (λ s. g.E.Elements.parts_of c.args.elements.now s.human) _ _
+    c.write.result c.write.ensures.writes c.args.self.now _
+    ((rw c.len.ensures at c.in_ok-open_variant.ensures.begins) _ _
+    (made_tuple_variant _ c.args.variant.now g.E.Elements.count _ (bytes_from c.args.variant.now (λ i. omega (arith, c.type_inv.variant i)))
+    (g.E.Elements.counted c.args.elements.now _)))
 
 pub returns-clause-keeps : goal.returns-clause-keeps
 returns-clause-keeps g c = keeps_then g.W.Sink c.open_variant.ensures.keeps c.write.ensures.keeps

@@ -20,10 +20,14 @@ returns-then-past-clause-writes g c = λ old t h.
 pub returns-in_err-put_head-clause-writes : goal.returns-in_err-put_head-clause-writes
 returns-in_err-put_head-clause-writes g c =
     let p = err_from_is_err_and c.from_residual.result c.from_residual.ensures.1 in
-    rw (p.1, p.2) (λ old t h. keeping_ends c.args.self.pairs g.W.Sink (tt, tt) _ c.in-Some.buffer c.args.self.se.now (part_stops g.W.Sink {Q = Unit {0}} _ (rw c.size-n.ensures at c.in_err-put_head.ensures.writes)) old t (some_state g.W.Sink c.in-Some.buffer c.in-Some.is h))
+    rw (p.1, p.2) (λ old t h. keeping_ends c.args.self.pairs g.W.Sink (tt, tt) _ c.in-Some.buffer c.args.self.se.now
+    (part_stops g.W.Sink {Q = Unit {0}} _ (rw c.size-n.ensures at c.in_err-put_head.ensures.writes)) old t
+    (some_state g.W.Sink c.in-Some.buffer c.in-Some.is h))
 
 pub returns-clause-writes : goal.returns-clause-writes
-returns-clause-writes g c = λ old t h. keeping_ends c.args.self.pairs g.W.Sink tt _ c.in-Some.buffer c.args.self.se.now ((rw (c.as_slice.ensures.value, c.into_inner-bytes.ensures) at c.put.ensures.writes) _ _ (head_at_some _ _) (rw c.size-n.ensures at c.in_ok-put_head.ensures.writes)) old t (some_state g.W.Sink c.in-Some.buffer c.in-Some.is h)
+returns-clause-writes g c = λ old t h. keeping_ends c.args.self.pairs g.W.Sink tt _ c.in-Some.buffer c.args.self.se.now
+    ((rw (c.as_slice.ensures.value, c.into_inner-bytes.ensures) at c.put.ensures.writes) _ _ (head_at_some _ _)
+    (rw c.size-n.ensures at c.in_ok-put_head.ensures.writes)) old t (some_state g.W.Sink c.in-Some.buffer c.in-Some.is h)
 
 pub returns-in_err-put_head-clause-marker : goal.returns-in_err-put_head-clause-marker
 returns-in_err-put_head-clause-marker g c =

@@ -12,7 +12,9 @@ invariant-loop-value g l = record {
   within : l.value-index ≤ length l.fn.values;
   kind : is_map l.seq ≡ false;
   owed : owed l.seq ≡ 0;
-  writing : IsOpen g.W.Sink l.fn.se (tree_of (settings_of l.fn.se) (sequence_of (map (λ x. g.T.Serialize.data_of x (settings_of l.fn.se).human) l.fn.values))) (map (λ x. g.T.Serialize.data_of x (settings_of l.fn.se).human) (drop l.value-index l.fn.values)) l.seq;
+  writing : IsOpen g.W.Sink l.fn.se (tree_of (settings_of l.fn.se)
+      (sequence_of (map (λ x. g.T.Serialize.data_of x (settings_of l.fn.se).human) l.fn.values)))
+      (map (λ x. g.T.Serialize.data_of x (settings_of l.fn.se).human) (drop l.value-index l.fn.values)) l.seq;
   keeps : Keeps g.W.Sink l.fn.se l.seq.se.now;
   values : All g.T.Serialize.is_value (take l.value-index l.fn.values);
 }

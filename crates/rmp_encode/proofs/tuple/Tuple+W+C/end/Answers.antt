@@ -11,20 +11,27 @@ pub returns-in_default-clause-writes : goal.returns-in_default-clause-writes
 returns-in_default-clause-writes g c = λ old t h. closes g.W.Sink _ old t _ _ (list_state g.W.Sink (kept_none _ _ c.in_default.is) h)
 
 pub returns-then-not-probing-clause-writes : goal.returns-then-not-probing-clause-writes
-returns-then-not-probing-clause-writes g c = λ old t h. closes g.W.Sink _ old t _ _ (list_state g.W.Sink (kept_no_more c.in-Some.bytes c.in-Some.is c.if-not-probing.true) h)
+returns-then-not-probing-clause-writes g c = λ old t h. closes g.W.Sink _ old t _ _
+    (list_state g.W.Sink (kept_no_more c.in-Some.bytes c.in-Some.is c.if-not-probing.true) h)
 
 pub returns-then-packs-clause-writes : goal.returns-then-packs-clause-writes
 returns-then-packs-clause-writes g c =
     let yes_packs = sym (c.packs.ensures ∙ ap (packs_tuple ForceAll) c.as_slice.ensures.value) ∙ c.if-packs.true in
-    λ old t h. probing_packs g.W.Sink c.in-Some.bytes.items _ c.args.self.se.now yes_packs (rw c.as_slice-then-packs.ensures.value at c.serialize_bytes.ensures.writes) old t (probe_state g.W.Sink c.in-Some.bytes (kept_some c.in-Some.bytes c.in-Some.is c.if-not-probing.false) h)
+    λ old t h. probing_packs g.W.Sink c.in-Some.bytes.items _ c.args.self.se.now yes_packs
+    (rw c.as_slice-then-packs.ensures.value at c.serialize_bytes.ensures.writes) old t
+    (probe_state g.W.Sink c.in-Some.bytes (kept_some c.in-Some.bytes c.in-Some.is c.if-not-probing.false) h)
 
 pub returns-in_err-put_head-clause-writes : goal.returns-in_err-put_head-clause-writes
 returns-in_err-put_head-clause-writes g c =
     let no_packs = sym (c.packs.ensures ∙ ap (packs_tuple ForceAll) c.as_slice.ensures.value) ∙ c.if-packs.false in
     let p = err_from_is_err_and c.from_residual.result c.from_residual.ensures.1 in
-    rw (p.1, p.2) (λ old t h. probing_lists g.W.Sink c.in-Some.bytes.items _ c.args.self.se.now no_packs (part_stops g.W.Sink {Q = Unit {0}} _ c.in_err-put_head.ensures.writes) old t (probe_state g.W.Sink c.in-Some.bytes (kept_some c.in-Some.bytes c.in-Some.is c.if-not-probing.false) h))
+    rw (p.1, p.2) (λ old t h. probing_lists g.W.Sink c.in-Some.bytes.items _ c.args.self.se.now no_packs
+    (part_stops g.W.Sink {Q = Unit {0}} _ c.in_err-put_head.ensures.writes) old t
+    (probe_state g.W.Sink c.in-Some.bytes (kept_some c.in-Some.bytes c.in-Some.is c.if-not-probing.false) h))
 
 pub returns-clause-writes : goal.returns-clause-writes
 returns-clause-writes g c =
     let no_packs = sym (c.packs.ensures ∙ ap (packs_tuple ForceAll) c.as_slice.ensures.value) ∙ c.if-packs.false in
-    λ old t h. probing_lists g.W.Sink c.in-Some.bytes.items _ c.args.self.se.now no_packs (part_then g.W.Sink c.in_ok-put_head.ensures.writes (rw c.as_slice-2.ensures.value at c.put_numbers.ensures.writes)) old t (probe_state g.W.Sink c.in-Some.bytes (kept_some c.in-Some.bytes c.in-Some.is c.if-not-probing.false) h)
+    λ old t h. probing_lists g.W.Sink c.in-Some.bytes.items _ c.args.self.se.now no_packs
+    (part_then g.W.Sink c.in_ok-put_head.ensures.writes (rw c.as_slice-2.ensures.value at c.put_numbers.ensures.writes)) old t
+    (probe_state g.W.Sink c.in-Some.bytes (kept_some c.in-Some.bytes c.in-Some.is c.if-not-probing.false) h)

@@ -3,35 +3,66 @@ use Rattle.std.proofs.lemmas.Result.{err_from_is_err_and}
 use Rattle.rmp_encode.specs.Trees.{byte_of}
 use Rattle.rmp_encode.proofs.Parts.{part_then, part_stops}
 use Rattle.rmp_encode.proofs.Going.{keeps_then}
-use Rattle.rmp_encode.proofs.TupleSteps.{kept_none, kept_no_more, kept_some, probe_more, probe_takes, spilled, not_spilled, tuple_goes, list_state, probe_state, in_probe}
+use Rattle.rmp_encode.proofs.TupleSteps.{
+  kept_none,
+  kept_no_more,
+  kept_some,
+  probe_more,
+  probe_takes,
+  spilled,
+  not_spilled,
+  tuple_goes,
+  list_state,
+  probe_state,
+  in_probe,
+}
 use Rattle.rmp_encode.proofs.tuple.Tuple+W+C.put_element.Goals as goal
 
 pub returns-in_default-clause-writes : goal.returns-in_default-clause-writes
-returns-in_default-clause-writes g c = λ old t rest h. tuple_goes g.W.Sink g.T.Serialize.takes_memory (λ s. g.T.Serialize.data_of c.args.value.now s.human) c.args.self.now.left c.args.self.now.se.now _ c.serialize.result h.sound (kept_none _ _ c.in_default.is) (omega arith) c.serialize.ensures.keeps c.serialize.ensures.writes old t rest h.left_is (list_state g.W.Sink (kept_none _ _ c.in_default.is) h)
+returns-in_default-clause-writes g c = λ old t rest h. tuple_goes g.W.Sink g.T.Serialize.takes_memory (λ s. g.T.Serialize.data_of c.args.value.now s.human)
+    c.args.self.now.left c.args.self.now.se.now _ c.serialize.result h.sound (kept_none _ _ c.in_default.is) (omega arith) c.serialize.ensures.keeps
+    c.serialize.ensures.writes old t rest h.left_is (list_state g.W.Sink (kept_none _ _ c.in_default.is) h)
 
 pub returns-then-not-self-clause-writes : goal.returns-then-not-self-clause-writes
-returns-then-not-self-clause-writes g c = λ old t rest h. tuple_goes g.W.Sink g.T.Serialize.takes_memory (λ s. g.T.Serialize.data_of c.args.value.now s.human) c.args.self.now.left c.args.self.now.se.now _ c.serialize-then-not-self.result h.sound (kept_no_more c.in-Some.kept refl c.if-not-self.true) (omega arith) c.serialize-then-not-self.ensures.keeps c.serialize-then-not-self.ensures.writes old t rest h.left_is (list_state g.W.Sink (kept_no_more c.in-Some.kept c.in-Some.is c.if-not-self.true) h)
+returns-then-not-self-clause-writes g c = λ old t rest h. tuple_goes g.W.Sink g.T.Serialize.takes_memory
+    (λ s. g.T.Serialize.data_of c.args.value.now s.human) c.args.self.now.left c.args.self.now.se.now _ c.serialize-then-not-self.result h.sound
+    (kept_no_more c.in-Some.kept refl c.if-not-self.true) (omega arith) c.serialize-then-not-self.ensures.keeps c.serialize-then-not-self.ensures.writes old
+    t rest h.left_is (list_state g.W.Sink (kept_no_more c.in-Some.kept c.in-Some.is c.if-not-self.true) h)
 
 pub returns-in-Ok-clause-writes : goal.returns-in-Ok-clause-writes
 returns-in-Ok-clause-writes g c =
     let is = sym (c.as_u8.ensures.byte ∙ ap (λ h. byte_of (g.T.Serialize.data_of c.args.value.now h)) c.is_human_readable.ensures) ∙ c.in-Some-as_u8.is in
     let kept = kept_some c.replace-bytes.result (c.in-Some.is ∙ ap Some (sym c.replace-bytes.ensures.value)) c.if-not-self.false in
-    λ old t rest h. in_probe g.W.Sink c.push-pushed.new.self h.sound (omega (arith, h.left_is)) (kept_some c.push-pushed.new.self refl c.if-not-self.false) (probe_more g.W.Sink (λ s. g.T.Serialize.data_of c.args.value.now s.human) c.replace-bytes.result.items c.push-pushed.new.self.items _ c.args.self.now.se.now c.in-Some-as_u8.b (search rules) is (omega arith) old t rest (probe_state g.W.Sink c.replace-bytes.result kept h))
+    λ old t rest h. in_probe g.W.Sink c.push-pushed.new.self h.sound (omega (arith, h.left_is)) (kept_some c.push-pushed.new.self refl c.if-not-self.false)
+    (probe_more g.W.Sink (λ s. g.T.Serialize.data_of c.args.value.now s.human) c.replace-bytes.result.items c.push-pushed.new.self.items _
+    c.args.self.now.se.now c.in-Some-as_u8.b (search rules) is (omega arith) old t rest (probe_state g.W.Sink c.replace-bytes.result kept h))
 
 pub returns-in_err-put_head-clause-writes : goal.returns-in_err-put_head-clause-writes
 returns-in_err-put_head-clause-writes g c =
     let isnt = sym (c.as_u8.ensures.byte ∙ ap (λ h. byte_of (g.T.Serialize.data_of c.args.value.now h)) c.is_human_readable.ensures) ∙ c.in_default-as_u8.is in
     let p = err_from_is_err_and c.from_residual.result c.from_residual.ensures.1 in
-    rw (p.1, p.2) (λ old t rest h. not_spilled g.W.Sink _ (λ s. g.T.Serialize.data_of c.args.value.now s.human) c.in-Some.kept.items _ c.args.self.now.se.now c.put_head.new.self _ isnt (part_stops g.W.Sink {Q = Unit {0}} _ c.in_err-put_head.ensures.writes) old t rest (probe_takes g.W.Sink _ _ (probe_state g.W.Sink c.in-Some.kept (kept_some c.in-Some.kept c.in-Some.is c.if-not-self.false) h)) (probe_state g.W.Sink c.in-Some.kept (kept_some c.in-Some.kept c.in-Some.is c.if-not-self.false) h))
+    rw (p.1, p.2) (λ old t rest h. not_spilled g.W.Sink _ (λ s. g.T.Serialize.data_of c.args.value.now s.human) c.in-Some.kept.items _
+    c.args.self.now.se.now c.put_head.new.self _ isnt (part_stops g.W.Sink {Q = Unit {0}} _ c.in_err-put_head.ensures.writes) old t rest
+    (probe_takes g.W.Sink _ _ (probe_state g.W.Sink c.in-Some.kept (kept_some c.in-Some.kept c.in-Some.is c.if-not-self.false) h))
+    (probe_state g.W.Sink c.in-Some.kept (kept_some c.in-Some.kept c.in-Some.is c.if-not-self.false) h))
 
 pub returns-in_err-put_numbers-clause-writes : goal.returns-in_err-put_numbers-clause-writes
 returns-in_err-put_numbers-clause-writes g c =
     let isnt = sym (c.as_u8.ensures.byte ∙ ap (λ h. byte_of (g.T.Serialize.data_of c.args.value.now h)) c.is_human_readable.ensures) ∙ c.in_default-as_u8.is in
     let p = err_from_is_err_and c.from_residual-in_err-put_numbers.result c.from_residual-in_err-put_numbers.ensures.1 in
-    rw (p.1, p.2) (λ old t rest h. not_spilled g.W.Sink _ (λ s. g.T.Serialize.data_of c.args.value.now s.human) c.in-Some.kept.items _ c.args.self.now.se.now c.put_numbers.new.self _ isnt (part_then g.W.Sink c.in_ok-put_head.ensures.writes (rw c.as_slice.ensures.value at c.in_err-put_numbers.ensures.writes)) old t rest (probe_takes g.W.Sink _ _ (probe_state g.W.Sink c.in-Some.kept (kept_some c.in-Some.kept c.in-Some.is c.if-not-self.false) h)) (probe_state g.W.Sink c.in-Some.kept (kept_some c.in-Some.kept c.in-Some.is c.if-not-self.false) h))
+    rw (p.1, p.2) (λ old t rest h. not_spilled g.W.Sink _ (λ s. g.T.Serialize.data_of c.args.value.now s.human) c.in-Some.kept.items _
+    c.args.self.now.se.now c.put_numbers.new.self _ isnt
+    (part_then g.W.Sink c.in_ok-put_head.ensures.writes (rw c.as_slice.ensures.value at c.in_err-put_numbers.ensures.writes)) old t rest
+    (probe_takes g.W.Sink _ _ (probe_state g.W.Sink c.in-Some.kept (kept_some c.in-Some.kept c.in-Some.is c.if-not-self.false) h))
+    (probe_state g.W.Sink c.in-Some.kept (kept_some c.in-Some.kept c.in-Some.is c.if-not-self.false) h))
 
 pub returns-clause-writes : goal.returns-clause-writes
 returns-clause-writes g c =
     let isnt = sym (c.as_u8.ensures.byte ∙ ap (λ h. byte_of (g.T.Serialize.data_of c.args.value.now h)) c.is_human_readable.ensures) ∙ c.in_default-as_u8.is in
-    λ old t rest h. tuple_goes g.W.Sink g.T.Serialize.takes_memory (λ s. g.T.Serialize.data_of c.args.value.now s.human) c.args.self.now.left c.put_numbers.new.self _ c.serialize-2.result h.sound refl (omega arith) c.serialize-2.ensures.keeps c.serialize-2.ensures.writes old t rest h.left_is
-    (spilled g.W.Sink (λ s. g.T.Serialize.data_of c.args.value.now s.human) c.in-Some.kept.items _ c.args.self.now.se.now c.put_numbers.new.self _ isnt (keeps_then g.W.Sink c.put_head.ensures.keeps c.put_numbers.ensures.keeps) (part_then g.W.Sink c.in_ok-put_head.ensures.writes (rw c.as_slice.ensures.value at c.in_ok-put_numbers.ensures.writes)) old t rest (probe_state g.W.Sink c.in-Some.kept (kept_some c.in-Some.kept c.in-Some.is c.if-not-self.false) h))
+    λ old t rest h. tuple_goes g.W.Sink g.T.Serialize.takes_memory (λ s. g.T.Serialize.data_of c.args.value.now s.human) c.args.self.now.left
+    c.put_numbers.new.self _ c.serialize-2.result h.sound refl (omega arith) c.serialize-2.ensures.keeps c.serialize-2.ensures.writes old t rest
+    h.left_is
+    (spilled g.W.Sink (λ s. g.T.Serialize.data_of c.args.value.now s.human) c.in-Some.kept.items _ c.args.self.now.se.now c.put_numbers.new.self _ isnt
+    (keeps_then g.W.Sink c.put_head.ensures.keeps c.put_numbers.ensures.keeps)
+    (part_then g.W.Sink c.in_ok-put_head.ensures.writes (rw c.as_slice.ensures.value at c.in_ok-put_numbers.ensures.writes)) old t rest
+    (probe_state g.W.Sink c.in-Some.kept (kept_some c.in-Some.kept c.in-Some.is c.if-not-self.false) h))

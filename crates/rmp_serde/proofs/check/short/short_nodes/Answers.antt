@@ -14,9 +14,11 @@ pub table-preserved : goal.table-preserved
 table-preserved c =
     let e = c.entry_of-entry.result in
     let v = c.table.invariant in
-    let b = entry_bounds (get_or c.args.bytes.now c.table.at 0) e.added e.least e.size e.parts (omega (arith, c.type_inv.bytes c.table.at)) c.entry_of-entry.ensures in
+    let b = entry_bounds (get_or c.args.bytes.now c.table.at 0) e.added e.least e.size e.parts (omega (arith, c.type_inv.bytes c.table.at))
+    c.entry_of-entry.ensures in
     let room : c.table.at + 32 ≤ length c.args.bytes.now = omega arith in
-    let nodes = nodes_more c.args.bytes.now c.table.at (c.small.at + (c.min-block.result - c.table.todo)) c.table.parts c.from.result e.added e.least e.size e.parts v.nodes room (λ i. omega (arith, c.type_inv.bytes i))
+    let nodes = nodes_more c.args.bytes.now c.table.at (c.small.at + (c.min-block.result - c.table.todo)) c.table.parts c.from.result e.added e.least e.size
+    e.parts v.nodes room (λ i. omega (arith, c.type_inv.bytes i))
     (c.from.ensures ∙ c.from_be_bytes-next.ensures) c.entry_of-entry.ensures c.if-from-entry.false in
     let count : c.small.at + (c.min-block.result - c.table.todo) + 1 ≡ c.small.at + (c.min-block.result - (c.table.todo - 1)) = omega arith in
     record {

@@ -23,4 +23,8 @@ pub same_pairs-same-requires : goal.same_pairs-same-requires
 same_pairs-same-requires t c = (omega (arith, key_depth c.args.a.now c.loop-i.i _ (omega arith) (ap (get_or c.args.a.now c.loop-i.i) c.index-a-i.is)), tt)
 
 pub same_pairs-same-requires-else-not-same : goal.same_pairs-same-requires-else-not-same
-same_pairs-same-requires-else-not-same t c = (omega (arith, value_depth c.args.a.now c.loop-i.i _ (omega arith) (ap (get_or c.args.a.now c.loop-i.i) c.index-a-i-else-not-same.is)), tt)
+same_pairs-same-requires-else-not-same t c = (
+  omega
+      (arith, value_depth c.args.a.now c.loop-i.i _ (omega arith) (ap (get_or c.args.a.now c.loop-i.i) c.index-a-i-else-not-same.is)),
+  tt,
+)

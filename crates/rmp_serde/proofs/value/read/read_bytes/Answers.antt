@@ -19,4 +19,5 @@ pub returns-in-Err-clause-law : goal.returns-in-Err-clause-law
 returns-in-Err-clause-law g c = λ old o. raw_short bin_content g.R.Source reads_value old c.take.new.self.0 c.args.raw o c.in-Err.e c.in-Err.ensures.err
 
 pub returns-in-Err-clause-refusal : goal.returns-in-Err-clause-refusal
-returns-in-Err-clause-refusal g c = λ old o. content_wrong g.R.Source old c.take.new.self.0 c.in-Err.e c.args.raw (head.Bin c.args.raw.len) (inl tt) o refl c.in-Err.ensures.err
+returns-in-Err-clause-refusal g c = λ old o. content_wrong g.R.Source old c.take.new.self.0 c.in-Err.e c.args.raw (head.Bin c.args.raw.len) (inl tt) o refl
+    c.in-Err.ensures.err

@@ -8,12 +8,14 @@ use Rattle.rmp_serde.proofs.value.write.+writing.Given as goal
 
 -- the items so far are written
 abbrev pub invariant-write_items-loop-item : goal.invariant-write_items-loop-item
-invariant-write_items-loop-item g l = (g.W.Sink.place l.sink ≡ g.W.Sink.place l.fn.sink) × WritesTree g.W.Sink (flat_map canon (take l.item-index l.items)) l.fn.sink l.sink done
+invariant-write_items-loop-item g l = (g.W.Sink.place l.sink ≡ g.W.Sink.place l.fn.sink)
+    × WritesTree g.W.Sink (flat_map canon (take l.item-index l.items)) l.fn.sink l.sink done
 
 -- the pairs so far are written
 abbrev pub invariant-write_pairs-loop-key : goal.invariant-write_pairs-loop-key
 invariant-write_pairs-loop-key g l =
-    (g.W.Sink.place l.sink ≡ g.W.Sink.place l.fn.sink) × WritesTree g.W.Sink (flat_map (λ p. canon p.0 ++ canon p.1) (take l.key-index l.pairs)) l.fn.sink l.sink done
+    (g.W.Sink.place l.sink ≡ g.W.Sink.place l.fn.sink)
+    × WritesTree g.W.Sink (flat_map (λ p. canon p.0 ++ canon p.1) (take l.key-index l.pairs)) l.fn.sink l.sink done
 
 -- a list's items lie between two depths of trees
 abbrev pub decreases-write_value : goal.decreases-write_value

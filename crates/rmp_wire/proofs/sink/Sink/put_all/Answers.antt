@@ -6,8 +6,10 @@ use Rattle.rmp_wire.proofs.sink.Sink.put_all.Goals as goal
 
 pub returns-in-Ok-eq0-clause-writes : goal.returns-in-Ok-eq0-clause-writes
 returns-in-Ok-eq0-clause-writes g c =
-    puts_fault _ c.args.piece.now _ _ _ _ c.loop-at.at _ _ c.loop-at.invariant.within (take_same _ _ _ _ _ _ c.in-Ok-eq0.field-0-test c.loop-at.invariant.bytes c.in-Ok-eq0.ensures.bytes)
-    (c.in-Ok-eq0.ensures.counts.0 c.in-Ok-eq0.field-0-test (simp (length-take, length-drop) (omega arith)) ∙ ap next_fault c.loop-at.invariant.faults) c.stopped.ensures
+    puts_fault _ c.args.piece.now _ _ _ _ c.loop-at.at _ _ c.loop-at.invariant.within
+    (take_same _ _ _ _ _ _ c.in-Ok-eq0.field-0-test c.loop-at.invariant.bytes c.in-Ok-eq0.ensures.bytes)
+    (c.in-Ok-eq0.ensures.counts.0 c.in-Ok-eq0.field-0-test (simp (length-take, length-drop) (omega arith)) ∙ ap next_fault c.loop-at.invariant.faults)
+    c.stopped.ensures
 
 pub loop-at-preserved : goal.loop-at-preserved
 loop-at-preserved g c = record {
@@ -25,4 +27,5 @@ returns-in-Err-Io-clause-writes g c =
 pub returns-in-Err-Memory-clause-writes : goal.returns-in-Err-Memory-clause-writes
 returns-in-Err-Memory-clause-writes g c =
     let counts = rw c.in-Err-Memory.field-0-is at c.in-Err-Memory.ensures.counts in
-    puts_part (part_of_take _ c.args.piece.now _ _ _ _ c.loop-at.at _ (Appends-kept _ _ _ _ c.loop-at.invariant.bytes c.in-Err-Memory.ensures.bytes) (counts.0 ∙ c.loop-at.invariant.faults, counts.1))
+    puts_part (part_of_take _ c.args.piece.now _ _ _ _ c.loop-at.at _ (Appends-kept _ _ _ _ c.loop-at.invariant.bytes c.in-Err-Memory.ensures.bytes)
+    (counts.0 ∙ c.loop-at.invariant.faults, counts.1))

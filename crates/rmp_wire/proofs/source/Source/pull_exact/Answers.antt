@@ -7,7 +7,8 @@ pub loop-at-preserved : goal.loop-at-preserved
 loop-at-preserved g c = record {
   same_length = search rules;
   within = search rules;
-  taken = pulled_more _ _ _ c.loop-at.at (length c.loop-at.buf - c.loop-at.at) c.in-Ok.n c.loop-at.buf c.pull.new.buf c.loop-at.invariant.within c.in-Ok.ensures.bound c.loop-at.invariant.taken c.in-Ok.ensures.bytes;
+  taken = pulled_more _ _ _ c.loop-at.at (length c.loop-at.buf - c.loop-at.at) c.in-Ok.n c.loop-at.buf c.pull.new.buf c.loop-at.invariant.within
+      c.in-Ok.ensures.bound c.loop-at.invariant.taken c.in-Ok.ensures.bytes;
   faults = c.in-Ok.ensures.sound ∙ c.loop-at.invariant.faults;
   place = c.pull.ensures.place ∙ c.loop-at.invariant.place;
 }
@@ -17,5 +18,6 @@ returns-in-Err-clause-bytes g c =
     let taken : length (take c.loop-at.at c.loop-at.buf) ≡ c.loop-at.at = length-take-le c.loop-at.at c.loop-at.buf c.loop-at.invariant.within in record {
       ok = tt;
       sound = tt;
-      err = stopped_short _ _ _ (take c.loop-at.at c.loop-at.buf) _ _ _ _ _ c.loop-at.invariant.taken (search rules) c.in-Err.ensures.kept c.loop-at.invariant.faults c.in-Err.ensures.fault;
+      err = stopped_short _ _ _ (take c.loop-at.at c.loop-at.buf) _ _ _ _ _ c.loop-at.invariant.taken (search rules) c.in-Err.ensures.kept
+          c.loop-at.invariant.faults c.in-Err.ensures.fault;
     }

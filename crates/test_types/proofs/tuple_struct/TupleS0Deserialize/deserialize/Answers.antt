@@ -19,10 +19,12 @@ pub returns-in-Ok-end-clause-law : goal.returns-in-Ok-end-clause-law
 returns-in-Ok-end-clause-law g c =
     let o = c.in-Ok.ensures.opened in
     let e = c.in-Ok-end.ensures.ok o.opened in
-    seq_done g.R.Source parts _ c.in-Ok.seq c.in-Ok.seq no_items o (run_start g.R.Source c.in-Ok.seq o.opened) _ _ tt e.0 (via c.end.new.self.0 (search rules) e.1)
+    seq_done g.R.Source parts _ c.in-Ok.seq c.in-Ok.seq no_items o (run_start g.R.Source c.in-Ok.seq o.opened) _ _ tt e.0
+    (via c.end.new.self.0 (search rules) e.1)
 
 pub returns-in-Err-end-clause-law : goal.returns-in-Err-end-clause-law
 returns-in-Err-end-clause-law g c =
     let o = c.in-Ok.ensures.opened in
     let e = c.in-Err-end.ensures.err o.opened in
-    seq_over g.R.Source parts _ c.in-Ok.seq c.in-Ok.seq no_items o (run_start g.R.Source c.in-Ok.seq o.opened) _ _ e.0 (via c.end.new.self.0 (search rules) e.1) 0 (λ v. no_more_count) (record {}) tt
+    seq_over g.R.Source parts _ c.in-Ok.seq c.in-Ok.seq no_items o (run_start g.R.Source c.in-Ok.seq o.opened) _ _ e.0
+    (via c.end.new.self.0 (search rules) e.1) 0 (λ v. no_more_count) (record {}) tt

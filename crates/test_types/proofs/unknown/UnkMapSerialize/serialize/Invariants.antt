@@ -11,7 +11,11 @@ invariant-loop-key g l = record {
   same : l.map.se.ghost_name ≡ l.initial.map.se.ghost_name;
   kind : is_map l.map ≡ true;
   owed : owed l.map ≡ 0;
-  writing : IsOpen g.W.Sink l.fn.se (tree_of (settings_of l.fn.se) (mapping_of (in_turn (λ k. g.K.Serialize.data_of k (settings_of l.fn.se).human) (λ x. g.V.Serialize.data_of x (settings_of l.fn.se).human) l.fn.self.entries.entries))) (in_turn (λ k. g.K.Serialize.data_of k (settings_of l.fn.se).human) (λ x. g.V.Serialize.data_of x (settings_of l.fn.se).human) l.key-iterator) l.map;
+  writing : IsOpen g.W.Sink l.fn.se (tree_of (settings_of l.fn.se)
+      (mapping_of (in_turn (λ k. g.K.Serialize.data_of k (settings_of l.fn.se).human) (λ x. g.V.Serialize.data_of x (settings_of l.fn.se).human)
+      l.fn.self.entries.entries))) (in_turn (λ k. g.K.Serialize.data_of k (settings_of l.fn.se).human)
+      (λ x. g.V.Serialize.data_of x (settings_of l.fn.se).human) l.key-iterator) l.map;
   keeps : Keeps g.W.Sink l.fn.se l.map.se.now;
-  values : All (λ e. g.K.Serialize.is_value e.0 × g.V.Serialize.is_value e.1) l.key-iterator → All (λ e. g.K.Serialize.is_value e.0 × g.V.Serialize.is_value e.1) l.fn.self.entries.entries;
+  values : All (λ e. g.K.Serialize.is_value e.0 × g.V.Serialize.is_value e.1) l.key-iterator
+      → All (λ e. g.K.Serialize.is_value e.0 × g.V.Serialize.is_value e.1) l.fn.self.entries.entries;
 }

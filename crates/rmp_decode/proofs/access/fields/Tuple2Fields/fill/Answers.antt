@@ -7,28 +7,44 @@ use Rattle.rmp_decode.proofs.access.fields.Tuple2Fields.fill.Goals as goal
 pub returns-then-place-gt0-clause-ok : goal.returns-then-place-gt0-clause-ok
 returns-then-place-gt0-clause-ok g c =
     let z : c.args.place ≡ suc (c.args.place - 1) = omega (arith, c.if-place-gt0.true) in
-    on_ok c.fill.result (fills_later g.R.Source (g.A.Deserialize.reads (g.C.SerializerConfig.human c.args.map.now.de.now.config) g.R.ReadSlice.lends) (g.B.Fields.holds (g.C.SerializerConfig.human c.args.map.now.de.now.config) g.R.ReadSlice.lends) c.args.map.now c.fill.new.map c.args.place (c.args.place - 1) z c.args.slots.now.0 c.args.slots.now.1 c.fill.new.slots) c.fill.ensures.ok
+    on_ok c.fill.result (fills_later g.R.Source (g.A.Deserialize.reads (g.C.SerializerConfig.human c.args.map.now.de.now.config) g.R.ReadSlice.lends)
+    (g.B.Fields.holds (g.C.SerializerConfig.human c.args.map.now.de.now.config) g.R.ReadSlice.lends) c.args.map.now c.fill.new.map c.args.place
+    (c.args.place - 1) z c.args.slots.now.0 c.args.slots.now.1 c.fill.new.slots) c.fill.ensures.ok
 
 pub returns-then-place-gt0-clause-err : goal.returns-then-place-gt0-clause-err
 returns-then-place-gt0-clause-err g c =
     let z : c.args.place ≡ suc (c.args.place - 1) = omega (arith, c.if-place-gt0.true) in
-    if_err c.fill.result (later_refused g.R.Source (g.A.Deserialize.reads (g.C.SerializerConfig.human c.args.map.now.de.now.config) g.R.ReadSlice.lends) (g.B.Fields.holds (g.C.SerializerConfig.human c.args.map.now.de.now.config) g.R.ReadSlice.lends) c.args.map.now c.fill.new.map c.args.place (c.args.place - 1) z (g.B.Fields.takes (g.C.SerializerConfig.human c.args.map.now.de.now.config) g.R.ReadSlice.lends) c.args.slots.now.0 c.args.slots.now.1) c.fill.ensures.err
+    if_err c.fill.result (later_refused g.R.Source (g.A.Deserialize.reads (g.C.SerializerConfig.human c.args.map.now.de.now.config) g.R.ReadSlice.lends)
+    (g.B.Fields.holds (g.C.SerializerConfig.human c.args.map.now.de.now.config) g.R.ReadSlice.lends) c.args.map.now c.fill.new.map c.args.place
+    (c.args.place - 1) z (g.B.Fields.takes (g.C.SerializerConfig.human c.args.map.now.de.now.config) g.R.ReadSlice.lends) c.args.slots.now.0
+    c.args.slots.now.1) c.fill.ensures.err
 
 pub returns-in-Ok-clause-ok : goal.returns-in-Ok-clause-ok
 returns-in-Ok-clause-ok g c =
-    fills_first g.R.Source (g.A.Deserialize.reads (g.C.SerializerConfig.human c.args.map.now.de.now.config) g.R.ReadSlice.lends) (g.B.Fields.holds (g.C.SerializerConfig.human c.args.map.now.de.now.config) g.R.ReadSlice.lends) c.args.map.now c.next_value.new.self c.args.place
+    fills_first g.R.Source (g.A.Deserialize.reads (g.C.SerializerConfig.human c.args.map.now.de.now.config) g.R.ReadSlice.lends)
+    (g.B.Fields.holds (g.C.SerializerConfig.human c.args.map.now.de.now.config) g.R.ReadSlice.lends) c.args.map.now c.next_value.new.self c.args.place
     c.args.slots.now.0 c.args.slots.now.1 c.in-Ok.value (omega (arith, c.if-place-gt0.false)) (search rules) c.in-Ok.ensures.ok
 
 pub returns-in-Err-clause-err : goal.returns-in-Err-clause-err
 returns-in-Err-clause-err g c =
-    inl (first_refused g.R.Source (g.A.Deserialize.reads (g.C.SerializerConfig.human c.args.map.now.de.now.config) g.R.ReadSlice.lends) (g.B.Fields.holds (g.C.SerializerConfig.human c.args.map.now.de.now.config) g.R.ReadSlice.lends) c.args.map.now c.next_value.new.self c.args.place
-    (g.B.Fields.takes (g.C.SerializerConfig.human c.args.map.now.de.now.config) g.R.ReadSlice.lends) c.in-Err.e (omega (arith, c.if-place-gt0.false)) (c.in-Err.ensures.err c.requires.still.sound))
+    inl (first_refused g.R.Source (g.A.Deserialize.reads (g.C.SerializerConfig.human c.args.map.now.de.now.config) g.R.ReadSlice.lends)
+    (g.B.Fields.holds (g.C.SerializerConfig.human c.args.map.now.de.now.config) g.R.ReadSlice.lends) c.args.map.now c.next_value.new.self c.args.place
+    (g.B.Fields.takes (g.C.SerializerConfig.human c.args.map.now.de.now.config) g.R.ReadSlice.lends) c.in-Err.e (omega (arith, c.if-place-gt0.false))
+    (c.in-Err.ensures.err c.requires.still.sound))
 
 pub returns-then-place-gt0-clause-refused : goal.returns-then-place-gt0-clause-refused
 returns-then-place-gt0-clause-refused g c =
     let z : c.args.place ≡ suc (c.args.place - 1) = omega (arith, c.if-place-gt0.true) in
-    if_err c.fill.result (later_wrong g.R.Source (g.C.SerializerConfig.human c.args.map.now.de.now.config) g.R.ReadSlice.lends (g.A.Deserialize.reads (g.C.SerializerConfig.human c.args.map.now.de.now.config) g.R.ReadSlice.lends) (g.B.Fields.holds (g.C.SerializerConfig.human c.args.map.now.de.now.config) g.R.ReadSlice.lends) (part_of g.A.Deserialize.reads g.A.Deserialize.refuses) g.B.Fields.parts c.args.map.now c.fill.new.map c.args.place (c.args.place - 1) z c.args.slots.now.0 c.args.slots.now.1) c.fill.ensures.refused
+    if_err c.fill.result (later_wrong g.R.Source (g.C.SerializerConfig.human c.args.map.now.de.now.config) g.R.ReadSlice.lends
+    (g.A.Deserialize.reads (g.C.SerializerConfig.human c.args.map.now.de.now.config) g.R.ReadSlice.lends)
+    (g.B.Fields.holds (g.C.SerializerConfig.human c.args.map.now.de.now.config) g.R.ReadSlice.lends)
+    (part_of g.A.Deserialize.reads g.A.Deserialize.refuses) g.B.Fields.parts c.args.map.now c.fill.new.map c.args.place (c.args.place - 1) z
+    c.args.slots.now.0 c.args.slots.now.1) c.fill.ensures.refused
 
 pub returns-in-Err-clause-refused : goal.returns-in-Err-clause-refused
 returns-in-Err-clause-refused g c =
-    first_wrong g.R.Source (g.C.SerializerConfig.human c.args.map.now.de.now.config) g.R.ReadSlice.lends (g.A.Deserialize.reads (g.C.SerializerConfig.human c.args.map.now.de.now.config) g.R.ReadSlice.lends) (g.B.Fields.holds (g.C.SerializerConfig.human c.args.map.now.de.now.config) g.R.ReadSlice.lends) (part_of g.A.Deserialize.reads g.A.Deserialize.refuses) g.B.Fields.parts c.args.map.now c.next_value.new.self c.args.place c.args.slots.now c.in-Err.e (omega (arith, c.if-place-gt0.false)) (c.in-Err.ensures.refused c.requires.still.sound)
+    first_wrong g.R.Source (g.C.SerializerConfig.human c.args.map.now.de.now.config) g.R.ReadSlice.lends
+    (g.A.Deserialize.reads (g.C.SerializerConfig.human c.args.map.now.de.now.config) g.R.ReadSlice.lends)
+    (g.B.Fields.holds (g.C.SerializerConfig.human c.args.map.now.de.now.config) g.R.ReadSlice.lends)
+    (part_of g.A.Deserialize.reads g.A.Deserialize.refuses) g.B.Fields.parts c.args.map.now c.next_value.new.self c.args.place c.args.slots.now
+    c.in-Err.e (omega (arith, c.if-place-gt0.false)) (c.in-Err.ensures.refused c.requires.still.sound)

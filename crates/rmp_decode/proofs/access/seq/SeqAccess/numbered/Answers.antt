@@ -18,28 +18,36 @@ pub returns-in-Ok-part-clause-ok : goal.returns-in-Ok-part-clause-ok
 returns-in-Ok-part-clause-ok g c = λ o.
     let old = c.args.self.now in
     let k = c.in-Ok.ensures in
-    let offers : OffersPart g.R.Source old.bytes old.de.now c.keep_byte.new.self = rw c.requires.bytes (record { keeps = k.ok; stays = k.stays; faults_same = k.sound }) in
+    let offers : OffersPart g.R.Source old.bytes old.de.now c.keep_byte.new.self = rw c.requires.bytes
+    (record { keeps = k.ok; stays = k.stays; faults_same = k.sound }) in
     let reads = g.T.Deserialize.reads (g.C.SerializerConfig.human old.de.now.config) g.R.ReadSlice.lends in
-    let t = subst (λ z. TakesPart g.R.Source (g.T.Deserialize.reads (g.C.SerializerConfig.human z) g.R.ReadSlice.lends) (max 1 old.inner) c.keep_byte.new.self c.part.new.self c.in-Ok-part.v) k.stays.config c.in-Ok-part.ensures.ok in
-    element_taken g.R.Source reads old _ c.keep_byte.new.self o offers c.in-Ok-part.v (record { count = refl; inner = refl; bytes = refl }) t (omega (arith, c.requires.some)) refl
+    let t = subst (λ z. TakesPart g.R.Source (g.T.Deserialize.reads (g.C.SerializerConfig.human z) g.R.ReadSlice.lends) (max 1 old.inner)
+    c.keep_byte.new.self c.part.new.self c.in-Ok-part.v) k.stays.config c.in-Ok-part.ensures.ok in
+    element_taken g.R.Source reads old _ c.keep_byte.new.self o offers c.in-Ok-part.v (record { count = refl; inner = refl; bytes = refl }) t
+    (omega (arith, c.requires.some)) refl
 
 pub returns-in-Err-part-clause-err : goal.returns-in-Err-part-clause-err
 returns-in-Err-part-clause-err g c = λ o.
     let old = c.args.self.now in
     let k = c.in-Ok.ensures in
-    let offers : OffersPart g.R.Source old.bytes old.de.now c.keep_byte.new.self = rw c.requires.bytes (record { keeps = k.ok; stays = k.stays; faults_same = k.sound }) in
+    let offers : OffersPart g.R.Source old.bytes old.de.now c.keep_byte.new.self = rw c.requires.bytes
+    (record { keeps = k.ok; stays = k.stays; faults_same = k.sound }) in
     let reads = g.T.Deserialize.reads (g.C.SerializerConfig.human old.de.now.config) g.R.ReadSlice.lends in
     element_fails g.R.Source reads old _ c.keep_byte.new.self o offers c.in-Err-part.e c.requires.some
-    (subst (λ z. FailsPart g.R.Source (g.T.Deserialize.reads (g.C.SerializerConfig.human z) g.R.ReadSlice.lends) (max 1 old.inner) c.keep_byte.new.self c.part.new.self c.in-Err-part.e) k.stays.config c.in-Err-part.ensures.err)
+    (subst (λ z. FailsPart g.R.Source (g.T.Deserialize.reads (g.C.SerializerConfig.human z) g.R.ReadSlice.lends) (max 1 old.inner) c.keep_byte.new.self
+    c.part.new.self c.in-Err-part.e) k.stays.config c.in-Err-part.ensures.err)
 
 pub returns-in-Err-clause-refused : goal.returns-in-Err-clause-refused
 returns-in-Err-clause-refused g c = λ o.
     let s = element_setting (g.C.SerializerConfig.human c.args.self.now.de.now.config) g.R.ReadSlice.lends c.args.self.now in
-    rw c.requires.bytes (number_ended g.R.Source (g.T.Deserialize.refuses s) c.in-Err.e c.args.self.now.de.now o.clean _ c.in-Err.ensures.end c.in-Err.ensures.err)
+    rw c.requires.bytes (number_ended g.R.Source (g.T.Deserialize.refuses s) c.in-Err.e c.args.self.now.de.now o.clean _ c.in-Err.ensures.end
+    c.in-Err.ensures.err)
 
 pub returns-in-Err-part-clause-refused : goal.returns-in-Err-part-clause-refused
 returns-in-Err-part-clause-refused g c = λ o.
     let old = c.args.self.now in
     let k = c.in-Ok.ensures in
-    let offers : OffersPart g.R.Source old.bytes old.de.now c.keep_byte.new.self = rw c.requires.bytes (record { keeps = k.ok; stays = k.stays; faults_same = k.sound }) in
-    offered g.R.Source g.C.SerializerConfig.human g.R.ReadSlice.lends g.T.Deserialize.refuses old.de.now c.keep_byte.new.self old.inner (faults_of g.R.Source c.part.new.self) c.in-Err-part.e o.clean old.bytes offers c.in-Err-part.ensures.refused
+    let offers : OffersPart g.R.Source old.bytes old.de.now c.keep_byte.new.self = rw c.requires.bytes
+    (record { keeps = k.ok; stays = k.stays; faults_same = k.sound }) in
+    offered g.R.Source g.C.SerializerConfig.human g.R.ReadSlice.lends g.T.Deserialize.refuses old.de.now c.keep_byte.new.self old.inner
+    (faults_of g.R.Source c.part.new.self) c.in-Err-part.e o.clean old.bytes offers c.in-Err-part.ensures.refused

@@ -11,10 +11,14 @@ returns-then-bare-clause-err g c = λ names n old o. bare_refused g.R.Source nam
 
 pub returns-in-Err-clause-err : goal.returns-in-Err-clause-err
 returns-in-Err-clause-err g c = λ names n old o.
-    let l = subst (λ z. Lawful g.R.Source (λ m (v : g.row.F.Denot). OfFields (bytes_of c.args.names.now) (λ fs. g.F.Fields.reads (g.C.SerializerConfig.human z) g.R.ReadSlice.lends fs v) m) (part_reader c.args.self.de.now c.args.self.inner) c.deserialize_fields-content.new.self (Err c.in-Err.e)) o.stays.config c.in-Err.ensures.law in
+    let l = subst (λ z. Lawful g.R.Source (λ m (v : g.row.F.Denot). OfFields (bytes_of c.args.names.now)
+    (λ fs. g.F.Fields.reads (g.C.SerializerConfig.human z) g.R.ReadSlice.lends fs v) m) (part_reader c.args.self.de.now c.args.self.inner)
+    c.deserialize_fields-content.new.self (Err c.in-Err.e)) o.stays.config c.in-Err.ensures.law in
     content_not_by g.R.Source names n old c.args.self o _ _ c.deserialize_fields-content.new.self _ c.if-bare.false l (search rules)
 
 pub returns-clause-ok : goal.returns-clause-ok
 returns-clause-ok g c = λ names n old o.
-    let l = subst (λ z. Lawful g.R.Source (λ m (v : g.row.F.Denot). OfFields (bytes_of c.args.names.now) (λ fs. g.F.Fields.reads (g.C.SerializerConfig.human z) g.R.ReadSlice.lends fs v) m) (part_reader c.args.self.de.now c.args.self.inner) c.deserialize_fields-content.new.self (Ok c.in-Ok.fields)) o.stays.config c.in-Ok.ensures.law in
+    let l = subst (λ z. Lawful g.R.Source (λ m (v : g.row.F.Denot). OfFields (bytes_of c.args.names.now)
+    (λ fs. g.F.Fields.reads (g.C.SerializerConfig.human z) g.R.ReadSlice.lends fs v) m) (part_reader c.args.self.de.now c.args.self.inner)
+    c.deserialize_fields-content.new.self (Ok c.in-Ok.fields)) o.stays.config c.in-Ok.ensures.law in
     content_by g.R.Source names n old c.args.self o _ _ c.deserialize_fields-content.new.self _ c.if-bare.false l (search rules)

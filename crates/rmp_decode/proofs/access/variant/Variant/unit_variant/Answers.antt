@@ -6,7 +6,9 @@ pub returns-then-bare-clause-ok : goal.returns-then-bare-clause-ok
 returns-then-bare-clause-ok g c = λ names n old o. bare_read g.R.Source names n old c.args.self o _ c.if-bare.true (search rules)
 
 pub returns-in-Err-clause-err : goal.returns-in-Err-clause-err
-returns-in-Err-clause-err g c = λ names n old o. nil_refused g.R.Source names n old c.args.self o _ c.unit_content.new.self _ c.if-bare.false c.in-Err.ensures.law (search rules)
+returns-in-Err-clause-err g c = λ names n old o. nil_refused g.R.Source names n old c.args.self o _ c.unit_content.new.self _ c.if-bare.false
+    c.in-Err.ensures.law (search rules)
 
 pub returns-clause-ok : goal.returns-clause-ok
-returns-clause-ok g c = λ names n old o. nil_read g.R.Source names n old c.args.self o _ c.unit_content.new.self c.if-bare.false c.in-Ok.ensures.law (search rules)
+returns-clause-ok g c = λ names n old o. nil_read g.R.Source names n old c.args.self o _ c.unit_content.new.self c.if-bare.false c.in-Ok.ensures.law
+    (search rules)

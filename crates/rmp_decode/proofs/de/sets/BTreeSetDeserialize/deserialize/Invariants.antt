@@ -3,7 +3,8 @@ use Rattle.rmp_decode.proofs.Sets.{GathersKeys}
 use Rattle.rmp_decode.proofs.de.sets.BTreeSetDeserialize.deserialize.Given as goal
 
 abbrev pub invariant-loop-items : goal.invariant-loop-items
-invariant-loop-items g l = GathersKeys g.R.Source g.T.Ord.cmp (g.T.Deserialize.reads (g.C.SerializerConfig.human l.fn.de.config) g.R.ReadSlice.lends) l.initial.seq l.seq l.items.keys
+invariant-loop-items g l = GathersKeys g.R.Source g.T.Ord.cmp (g.T.Deserialize.reads (g.C.SerializerConfig.human l.fn.de.config) g.R.ReadSlice.lends)
+    l.initial.seq l.seq l.items.keys
 
 abbrev pub decreases-loop-items : goal.decreases-loop-items
 decreases-loop-items g l = l.seq.left

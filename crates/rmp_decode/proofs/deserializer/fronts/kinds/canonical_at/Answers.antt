@@ -8,5 +8,6 @@ use Rattle.rmp_decode.proofs.deserializer.fronts.kinds.canonical_at.Goals as goa
 
 pub returns-then-is_canonical : goal.returns-then-is_canonical
 returns-then-is_canonical c = allowed_stands _ _ _ c.args.front.now
-    (λ rest i. test_passed c.in-Some.head _ rest i (subst (λ b. Opens b (canon_head c.in-Some.head)) c.from_u8.ensures.round ((c.is_canonical.ensures (head_fits _ _ i)).0 c.if-is_canonical.true)))
+    (λ rest i. test_passed c.in-Some.head _ rest i (subst (λ b. Opens b (canon_head c.in-Some.head)) c.from_u8.ensures.round
+    ((c.is_canonical.ensures (head_fits _ _ i)).0 c.if-is_canonical.true)))
     (c.in-Some.ensures {u = tt})

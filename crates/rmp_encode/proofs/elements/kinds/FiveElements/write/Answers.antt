@@ -9,14 +9,26 @@ use Rattle.rmp_encode.proofs.elements.kinds.FiveElements.write.Goals as goal
 pub returns-in_err-serialize-clause-writes : goal.returns-in_err-serialize-clause-writes
 returns-in_err-serialize-clause-writes g c =
     let p = err_from_is_err_and c.from_residual.result c.from_residual.ensures.1 in
-    rw (p.1, p.2) (λ old t rest h. part_takes g.W.Sink _ (one_of_or g.W.Sink.takes_memory (g.E1.Serialize.takes_memory (settings_of old) ∷ (g.E2.Serialize.takes_memory (settings_of old) ∷ (g.E3.Serialize.takes_memory (settings_of old) ∷ (g.E4.Serialize.takes_memory (settings_of old) ∷ (g.E5.Serialize.takes_memory (settings_of old) ∷ []))))) 0)
-    (goes g.W.Sink (λ s. g.E1.Serialize.takes_memory s || g.W.Sink.takes_memory) (λ s. g.E1.Serialize.data_of c.args.self.now.first.now s.human) _ _ (Err _) c.serialize.ensures.keeps c.in_err-serialize.ensures.writes old t _ h))
+    rw (p.1, p.2) (λ old t rest h. part_takes g.W.Sink _
+    (one_of_or g.W.Sink.takes_memory (g.E1.Serialize.takes_memory (settings_of old)
+    ∷ (g.E2.Serialize.takes_memory (settings_of old) ∷
+    (g.E3.Serialize.takes_memory (settings_of old) ∷ (g.E4.Serialize.takes_memory (settings_of old)
+    ∷ (g.E5.Serialize.takes_memory (settings_of old) ∷ []))))) 0)
+    (goes g.W.Sink (λ s. g.E1.Serialize.takes_memory s || g.W.Sink.takes_memory) (λ s. g.E1.Serialize.data_of c.args.self.now.first.now s.human) _ _ (Err _)
+    c.serialize.ensures.keeps c.in_err-serialize.ensures.writes old t _ h))
 
 pub returns-in_err-serialize-2-clause-writes : goal.returns-in_err-serialize-2-clause-writes
 returns-in_err-serialize-2-clause-writes g c =
     let p = err_from_is_err_and c.from_residual-in_err-serialize-2.result c.from_residual-in_err-serialize-2.ensures.1 in
-    rw (p.1, p.2) (λ old t rest h. part_takes g.W.Sink _ (one_of_or g.W.Sink.takes_memory (g.E1.Serialize.takes_memory (settings_of old) ∷ (g.E2.Serialize.takes_memory (settings_of old) ∷ (g.E3.Serialize.takes_memory (settings_of old) ∷ (g.E4.Serialize.takes_memory (settings_of old) ∷ (g.E5.Serialize.takes_memory (settings_of old) ∷ []))))) 1)
-    (goes g.W.Sink (λ s. g.E2.Serialize.takes_memory s || g.W.Sink.takes_memory) (λ s. g.E2.Serialize.data_of c.args.self.now.second.now s.human) _ _ (Err _) c.serialize-2.ensures.keeps c.in_err-serialize-2.ensures.writes old t _ (goes g.W.Sink (λ s. g.E1.Serialize.takes_memory s || g.W.Sink.takes_memory) (λ s. g.E1.Serialize.data_of c.args.self.now.first.now s.human) _ _ (Ok _) c.serialize.ensures.keeps c.in_ok-serialize.ensures.writes old t _ h)))
+    rw (p.1, p.2) (λ old t rest h. part_takes g.W.Sink _
+    (one_of_or g.W.Sink.takes_memory (g.E1.Serialize.takes_memory (settings_of old)
+    ∷ (g.E2.Serialize.takes_memory (settings_of old) ∷
+    (g.E3.Serialize.takes_memory (settings_of old) ∷ (g.E4.Serialize.takes_memory (settings_of old)
+    ∷ (g.E5.Serialize.takes_memory (settings_of old) ∷ []))))) 1)
+    (goes g.W.Sink (λ s. g.E2.Serialize.takes_memory s || g.W.Sink.takes_memory) (λ s. g.E2.Serialize.data_of c.args.self.now.second.now s.human) _ _
+    (Err _) c.serialize-2.ensures.keeps c.in_err-serialize-2.ensures.writes old t _
+    (goes g.W.Sink (λ s. g.E1.Serialize.takes_memory s || g.W.Sink.takes_memory) (λ s. g.E1.Serialize.data_of c.args.self.now.first.now s.human) _ _
+    (Ok _) c.serialize.ensures.keeps c.in_ok-serialize.ensures.writes old t _ h)))
 
 pub returns-in_err-serialize-2-clause-keeps : goal.returns-in_err-serialize-2-clause-keeps
 returns-in_err-serialize-2-clause-keeps g c = (keeps_then g.W.Sink c.serialize.ensures.keeps c.serialize-2.ensures.keeps)
@@ -24,32 +36,81 @@ returns-in_err-serialize-2-clause-keeps g c = (keeps_then g.W.Sink c.serialize.e
 pub returns-in_err-serialize-3-clause-writes : goal.returns-in_err-serialize-3-clause-writes
 returns-in_err-serialize-3-clause-writes g c =
     let p = err_from_is_err_and c.from_residual-in_err-serialize-3.result c.from_residual-in_err-serialize-3.ensures.1 in
-    rw (p.1, p.2) (λ old t rest h. part_takes g.W.Sink _ (one_of_or g.W.Sink.takes_memory (g.E1.Serialize.takes_memory (settings_of old) ∷ (g.E2.Serialize.takes_memory (settings_of old) ∷ (g.E3.Serialize.takes_memory (settings_of old) ∷ (g.E4.Serialize.takes_memory (settings_of old) ∷ (g.E5.Serialize.takes_memory (settings_of old) ∷ []))))) 2)
-    (goes g.W.Sink (λ s. g.E3.Serialize.takes_memory s || g.W.Sink.takes_memory) (λ s. g.E3.Serialize.data_of c.args.self.now.third.now s.human) _ _ (Err _) c.serialize-3.ensures.keeps c.in_err-serialize-3.ensures.writes old t _ (goes g.W.Sink (λ s. g.E2.Serialize.takes_memory s || g.W.Sink.takes_memory) (λ s. g.E2.Serialize.data_of c.args.self.now.second.now s.human) _ _ (Ok _) c.serialize-2.ensures.keeps c.in_ok-serialize-2.ensures.writes old t _ (goes g.W.Sink (λ s. g.E1.Serialize.takes_memory s || g.W.Sink.takes_memory) (λ s. g.E1.Serialize.data_of c.args.self.now.first.now s.human) _ _ (Ok _) c.serialize.ensures.keeps c.in_ok-serialize.ensures.writes old t _ h))))
+    rw (p.1, p.2) (λ old t rest h. part_takes g.W.Sink _
+    (one_of_or g.W.Sink.takes_memory (g.E1.Serialize.takes_memory (settings_of old)
+    ∷ (g.E2.Serialize.takes_memory (settings_of old) ∷
+    (g.E3.Serialize.takes_memory (settings_of old) ∷ (g.E4.Serialize.takes_memory (settings_of old)
+    ∷ (g.E5.Serialize.takes_memory (settings_of old) ∷ []))))) 2)
+    (goes g.W.Sink (λ s. g.E3.Serialize.takes_memory s || g.W.Sink.takes_memory) (λ s. g.E3.Serialize.data_of c.args.self.now.third.now s.human) _ _ (Err _)
+    c.serialize-3.ensures.keeps c.in_err-serialize-3.ensures.writes old t _
+    (goes g.W.Sink (λ s. g.E2.Serialize.takes_memory s || g.W.Sink.takes_memory) (λ s. g.E2.Serialize.data_of c.args.self.now.second.now s.human) _ _
+    (Ok _) c.serialize-2.ensures.keeps c.in_ok-serialize-2.ensures.writes old t _
+    (goes g.W.Sink (λ s. g.E1.Serialize.takes_memory s || g.W.Sink.takes_memory) (λ s. g.E1.Serialize.data_of c.args.self.now.first.now s.human) _ _
+    (Ok _) c.serialize.ensures.keeps c.in_ok-serialize.ensures.writes old t _ h))))
 
 pub returns-in_err-serialize-3-clause-keeps : goal.returns-in_err-serialize-3-clause-keeps
-returns-in_err-serialize-3-clause-keeps g c = (keeps_then g.W.Sink (keeps_then g.W.Sink c.serialize.ensures.keeps c.serialize-2.ensures.keeps) c.serialize-3.ensures.keeps)
+returns-in_err-serialize-3-clause-keeps g c = (keeps_then g.W.Sink (keeps_then g.W.Sink c.serialize.ensures.keeps c.serialize-2.ensures.keeps)
+    c.serialize-3.ensures.keeps)
 
 pub returns-in_err-serialize-4-clause-writes : goal.returns-in_err-serialize-4-clause-writes
 returns-in_err-serialize-4-clause-writes g c =
     let p = err_from_is_err_and c.from_residual-in_err-serialize-4.result c.from_residual-in_err-serialize-4.ensures.1 in
-    rw (p.1, p.2) (λ old t rest h. part_takes g.W.Sink _ (one_of_or g.W.Sink.takes_memory (g.E1.Serialize.takes_memory (settings_of old) ∷ (g.E2.Serialize.takes_memory (settings_of old) ∷ (g.E3.Serialize.takes_memory (settings_of old) ∷ (g.E4.Serialize.takes_memory (settings_of old) ∷ (g.E5.Serialize.takes_memory (settings_of old) ∷ []))))) 3)
-    (goes g.W.Sink (λ s. g.E4.Serialize.takes_memory s || g.W.Sink.takes_memory) (λ s. g.E4.Serialize.data_of c.args.self.now.fourth.now s.human) _ _ (Err _) c.serialize-4.ensures.keeps c.in_err-serialize-4.ensures.writes old t _ (goes g.W.Sink (λ s. g.E3.Serialize.takes_memory s || g.W.Sink.takes_memory) (λ s. g.E3.Serialize.data_of c.args.self.now.third.now s.human) _ _ (Ok _) c.serialize-3.ensures.keeps c.in_ok-serialize-3.ensures.writes old t _ (goes g.W.Sink (λ s. g.E2.Serialize.takes_memory s || g.W.Sink.takes_memory) (λ s. g.E2.Serialize.data_of c.args.self.now.second.now s.human) _ _ (Ok _) c.serialize-2.ensures.keeps c.in_ok-serialize-2.ensures.writes old t _ (goes g.W.Sink (λ s. g.E1.Serialize.takes_memory s || g.W.Sink.takes_memory) (λ s. g.E1.Serialize.data_of c.args.self.now.first.now s.human) _ _ (Ok _) c.serialize.ensures.keeps c.in_ok-serialize.ensures.writes old t _ h)))))
+    rw (p.1, p.2) (λ old t rest h. part_takes g.W.Sink _
+    (one_of_or g.W.Sink.takes_memory (g.E1.Serialize.takes_memory (settings_of old)
+    ∷ (g.E2.Serialize.takes_memory (settings_of old) ∷
+    (g.E3.Serialize.takes_memory (settings_of old) ∷ (g.E4.Serialize.takes_memory (settings_of old)
+    ∷ (g.E5.Serialize.takes_memory (settings_of old) ∷ []))))) 3)
+    (goes g.W.Sink (λ s. g.E4.Serialize.takes_memory s || g.W.Sink.takes_memory) (λ s. g.E4.Serialize.data_of c.args.self.now.fourth.now s.human) _ _
+    (Err _) c.serialize-4.ensures.keeps c.in_err-serialize-4.ensures.writes old t _
+    (goes g.W.Sink (λ s. g.E3.Serialize.takes_memory s || g.W.Sink.takes_memory) (λ s. g.E3.Serialize.data_of c.args.self.now.third.now s.human) _ _
+    (Ok _) c.serialize-3.ensures.keeps c.in_ok-serialize-3.ensures.writes old t _
+    (goes g.W.Sink (λ s. g.E2.Serialize.takes_memory s || g.W.Sink.takes_memory) (λ s. g.E2.Serialize.data_of c.args.self.now.second.now s.human) _ _
+    (Ok _) c.serialize-2.ensures.keeps c.in_ok-serialize-2.ensures.writes old t _
+    (goes g.W.Sink (λ s. g.E1.Serialize.takes_memory s || g.W.Sink.takes_memory) (λ s. g.E1.Serialize.data_of c.args.self.now.first.now s.human) _ _
+    (Ok _) c.serialize.ensures.keeps c.in_ok-serialize.ensures.writes old t _ h)))))
 
 pub returns-in_err-serialize-4-clause-keeps : goal.returns-in_err-serialize-4-clause-keeps
-returns-in_err-serialize-4-clause-keeps g c = (keeps_then g.W.Sink (keeps_then g.W.Sink (keeps_then g.W.Sink c.serialize.ensures.keeps c.serialize-2.ensures.keeps) c.serialize-3.ensures.keeps) c.serialize-4.ensures.keeps)
+returns-in_err-serialize-4-clause-keeps g c = (keeps_then g.W.Sink
+    (keeps_then g.W.Sink (keeps_then g.W.Sink c.serialize.ensures.keeps c.serialize-2.ensures.keeps) c.serialize-3.ensures.keeps)
+    c.serialize-4.ensures.keeps)
 
 pub returns-in_err-serialize-5-clause-writes : goal.returns-in_err-serialize-5-clause-writes
 returns-in_err-serialize-5-clause-writes g c =
     let p = err_from_is_err_and c.from_residual-in_err-serialize-5.result c.from_residual-in_err-serialize-5.ensures.1 in
-    rw (p.1, p.2) (λ old t rest h. part_takes g.W.Sink _ (one_of_or g.W.Sink.takes_memory (g.E1.Serialize.takes_memory (settings_of old) ∷ (g.E2.Serialize.takes_memory (settings_of old) ∷ (g.E3.Serialize.takes_memory (settings_of old) ∷ (g.E4.Serialize.takes_memory (settings_of old) ∷ (g.E5.Serialize.takes_memory (settings_of old) ∷ []))))) 4)
-    (goes g.W.Sink (λ s. g.E5.Serialize.takes_memory s || g.W.Sink.takes_memory) (λ s. g.E5.Serialize.data_of c.args.self.now.fifth.now s.human) _ _ (Err _) c.serialize-5.ensures.keeps c.in_err-serialize-5.ensures.writes old t _ (goes g.W.Sink (λ s. g.E4.Serialize.takes_memory s || g.W.Sink.takes_memory) (λ s. g.E4.Serialize.data_of c.args.self.now.fourth.now s.human) _ _ (Ok _) c.serialize-4.ensures.keeps c.in_ok-serialize-4.ensures.writes old t _ (goes g.W.Sink (λ s. g.E3.Serialize.takes_memory s || g.W.Sink.takes_memory) (λ s. g.E3.Serialize.data_of c.args.self.now.third.now s.human) _ _ (Ok _) c.serialize-3.ensures.keeps c.in_ok-serialize-3.ensures.writes old t _ (goes g.W.Sink (λ s. g.E2.Serialize.takes_memory s || g.W.Sink.takes_memory) (λ s. g.E2.Serialize.data_of c.args.self.now.second.now s.human) _ _ (Ok _) c.serialize-2.ensures.keeps c.in_ok-serialize-2.ensures.writes old t _ (goes g.W.Sink (λ s. g.E1.Serialize.takes_memory s || g.W.Sink.takes_memory) (λ s. g.E1.Serialize.data_of c.args.self.now.first.now s.human) _ _ (Ok _) c.serialize.ensures.keeps c.in_ok-serialize.ensures.writes old t _ h))))))
+    rw (p.1, p.2) (λ old t rest h. part_takes g.W.Sink _
+    (one_of_or g.W.Sink.takes_memory (g.E1.Serialize.takes_memory (settings_of old)
+    ∷ (g.E2.Serialize.takes_memory (settings_of old) ∷
+    (g.E3.Serialize.takes_memory (settings_of old) ∷ (g.E4.Serialize.takes_memory (settings_of old)
+    ∷ (g.E5.Serialize.takes_memory (settings_of old) ∷ []))))) 4)
+    (goes g.W.Sink (λ s. g.E5.Serialize.takes_memory s || g.W.Sink.takes_memory) (λ s. g.E5.Serialize.data_of c.args.self.now.fifth.now s.human) _ _ (Err _)
+    c.serialize-5.ensures.keeps c.in_err-serialize-5.ensures.writes old t _
+    (goes g.W.Sink (λ s. g.E4.Serialize.takes_memory s || g.W.Sink.takes_memory) (λ s. g.E4.Serialize.data_of c.args.self.now.fourth.now s.human) _ _
+    (Ok _) c.serialize-4.ensures.keeps c.in_ok-serialize-4.ensures.writes old t _
+    (goes g.W.Sink (λ s. g.E3.Serialize.takes_memory s || g.W.Sink.takes_memory) (λ s. g.E3.Serialize.data_of c.args.self.now.third.now s.human) _ _
+    (Ok _) c.serialize-3.ensures.keeps c.in_ok-serialize-3.ensures.writes old t _
+    (goes g.W.Sink (λ s. g.E2.Serialize.takes_memory s || g.W.Sink.takes_memory) (λ s. g.E2.Serialize.data_of c.args.self.now.second.now s.human) _ _
+    (Ok _) c.serialize-2.ensures.keeps c.in_ok-serialize-2.ensures.writes old t _
+    (goes g.W.Sink (λ s. g.E1.Serialize.takes_memory s || g.W.Sink.takes_memory) (λ s. g.E1.Serialize.data_of c.args.self.now.first.now s.human) _ _
+    (Ok _) c.serialize.ensures.keeps c.in_ok-serialize.ensures.writes old t _ h))))))
 
 pub returns-in_err-serialize-5-clause-keeps : goal.returns-in_err-serialize-5-clause-keeps
-returns-in_err-serialize-5-clause-keeps g c = (keeps_then g.W.Sink (keeps_then g.W.Sink (keeps_then g.W.Sink (keeps_then g.W.Sink c.serialize.ensures.keeps c.serialize-2.ensures.keeps) c.serialize-3.ensures.keeps) c.serialize-4.ensures.keeps) c.serialize-5.ensures.keeps)
+returns-in_err-serialize-5-clause-keeps g c = (keeps_then g.W.Sink
+    (keeps_then g.W.Sink (keeps_then g.W.Sink (keeps_then g.W.Sink c.serialize.ensures.keeps c.serialize-2.ensures.keeps) c.serialize-3.ensures.keeps)
+    c.serialize-4.ensures.keeps) c.serialize-5.ensures.keeps)
 
 pub returns-clause-writes : goal.returns-clause-writes
-returns-clause-writes g c = λ old t rest h. (goes g.W.Sink (λ s. g.E5.Serialize.takes_memory s || g.W.Sink.takes_memory) (λ s. g.E5.Serialize.data_of c.args.self.now.fifth.now s.human) _ _ (Ok _) c.serialize-5.ensures.keeps c.in_ok-serialize-5.ensures.writes old t _ (goes g.W.Sink (λ s. g.E4.Serialize.takes_memory s || g.W.Sink.takes_memory) (λ s. g.E4.Serialize.data_of c.args.self.now.fourth.now s.human) _ _ (Ok _) c.serialize-4.ensures.keeps c.in_ok-serialize-4.ensures.writes old t _ (goes g.W.Sink (λ s. g.E3.Serialize.takes_memory s || g.W.Sink.takes_memory) (λ s. g.E3.Serialize.data_of c.args.self.now.third.now s.human) _ _ (Ok _) c.serialize-3.ensures.keeps c.in_ok-serialize-3.ensures.writes old t _ (goes g.W.Sink (λ s. g.E2.Serialize.takes_memory s || g.W.Sink.takes_memory) (λ s. g.E2.Serialize.data_of c.args.self.now.second.now s.human) _ _ (Ok _) c.serialize-2.ensures.keeps c.in_ok-serialize-2.ensures.writes old t _ (goes g.W.Sink (λ s. g.E1.Serialize.takes_memory s || g.W.Sink.takes_memory) (λ s. g.E1.Serialize.data_of c.args.self.now.first.now s.human) _ _ (Ok _) c.serialize.ensures.keeps c.in_ok-serialize.ensures.writes old t _ h)))))
+returns-clause-writes g c = λ old t rest h. (goes g.W.Sink (λ s. g.E5.Serialize.takes_memory s || g.W.Sink.takes_memory)
+    (λ s. g.E5.Serialize.data_of c.args.self.now.fifth.now s.human) _ _ (Ok _) c.serialize-5.ensures.keeps c.in_ok-serialize-5.ensures.writes old t _
+    (goes g.W.Sink (λ s. g.E4.Serialize.takes_memory s || g.W.Sink.takes_memory) (λ s. g.E4.Serialize.data_of c.args.self.now.fourth.now s.human) _ _ (Ok _)
+    c.serialize-4.ensures.keeps c.in_ok-serialize-4.ensures.writes old t _
+    (goes g.W.Sink (λ s. g.E3.Serialize.takes_memory s || g.W.Sink.takes_memory) (λ s. g.E3.Serialize.data_of c.args.self.now.third.now s.human) _ _ (Ok _)
+    c.serialize-3.ensures.keeps c.in_ok-serialize-3.ensures.writes old t _
+    (goes g.W.Sink (λ s. g.E2.Serialize.takes_memory s || g.W.Sink.takes_memory) (λ s. g.E2.Serialize.data_of c.args.self.now.second.now s.human) _ _ (Ok _)
+    c.serialize-2.ensures.keeps c.in_ok-serialize-2.ensures.writes old t _
+    (goes g.W.Sink (λ s. g.E1.Serialize.takes_memory s || g.W.Sink.takes_memory) (λ s. g.E1.Serialize.data_of c.args.self.now.first.now s.human) _ _ (Ok _)
+    c.serialize.ensures.keeps c.in_ok-serialize.ensures.writes old t _ h)))))
 
 pub returns-clause-keeps : goal.returns-clause-keeps
-returns-clause-keeps g c = (keeps_then g.W.Sink (keeps_then g.W.Sink (keeps_then g.W.Sink (keeps_then g.W.Sink c.serialize.ensures.keeps c.serialize-2.ensures.keeps) c.serialize-3.ensures.keeps) c.serialize-4.ensures.keeps) c.serialize-5.ensures.keeps)
+returns-clause-keeps g c = (keeps_then g.W.Sink (keeps_then g.W.Sink
+    (keeps_then g.W.Sink (keeps_then g.W.Sink c.serialize.ensures.keeps c.serialize-2.ensures.keeps) c.serialize-3.ensures.keeps)
+    c.serialize-4.ensures.keeps) c.serialize-5.ensures.keeps)

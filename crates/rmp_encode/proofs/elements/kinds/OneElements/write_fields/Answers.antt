@@ -9,7 +9,10 @@ pub returns-in_err-put_field-clause-writes : goal.returns-in_err-put_field-claus
 returns-in_err-put_field-clause-writes g c =
     let p = err_from_is_err_and c.from_residual.result c.from_residual.ensures.1 in
     rw (p.1, p.2) (λ old t rest h. part_takes g.W.Sink _ (one_of_or g.W.Sink.takes_memory (g.E1.Serialize.takes_memory (settings_of old) ∷ []) 0)
-    (c.in_err-put_field.ensures.writes old t _ (next_named g.W.Sink c.args.names.now 0 _ (g.E1.Serialize.data_of c.args.self.now.first.now (settings_of old).human) [] rest (omega (arith, c.requires)) h)))
+    (c.in_err-put_field.ensures.writes old t _ (next_named g.W.Sink c.args.names.now 0 _
+    (g.E1.Serialize.data_of c.args.self.now.first.now (settings_of old).human) [] rest (omega (arith, c.requires)) h)))
 
 pub returns-clause-writes : goal.returns-clause-writes
-returns-clause-writes g c = λ old t rest h. (c.in_ok-put_field.ensures.writes old t _ (next_named g.W.Sink c.args.names.now 0 _ (g.E1.Serialize.data_of c.args.self.now.first.now (settings_of old).human) [] rest (omega (arith, c.requires)) h))
+returns-clause-writes g c = λ old t rest h. (c.in_ok-put_field.ensures.writes old t _
+    (next_named g.W.Sink c.args.names.now 0 _ (g.E1.Serialize.data_of c.args.self.now.first.now (settings_of old).human) [] rest (omega (arith, c.requires))
+    h))

@@ -9,14 +9,27 @@ use Rattle.rmp_encode.proofs.elements.kinds.ThreeElements.write_fields.Goals as 
 pub returns-in_err-put_field-clause-writes : goal.returns-in_err-put_field-clause-writes
 returns-in_err-put_field-clause-writes g c =
     let p = err_from_is_err_and c.from_residual.result c.from_residual.ensures.1 in
-    rw (p.1, p.2) (λ old t rest h. part_takes g.W.Sink _ (one_of_or g.W.Sink.takes_memory (g.E1.Serialize.takes_memory (settings_of old) ∷ (g.E2.Serialize.takes_memory (settings_of old) ∷ (g.E3.Serialize.takes_memory (settings_of old) ∷ []))) 0)
-    (c.in_err-put_field.ensures.writes old t _ (next_named g.W.Sink c.args.names.now 0 _ (g.E1.Serialize.data_of c.args.self.now.first.now (settings_of old).human) (g.E2.Serialize.data_of c.args.self.now.second.now (settings_of old).human ∷ (g.E3.Serialize.data_of c.args.self.now.third.now (settings_of old).human ∷ [])) rest (omega (arith, c.requires)) h)))
+    rw (p.1, p.2) (λ old t rest h. part_takes g.W.Sink _
+    (one_of_or g.W.Sink.takes_memory (g.E1.Serialize.takes_memory (settings_of old)
+    ∷ (g.E2.Serialize.takes_memory (settings_of old) ∷ (g.E3.Serialize.takes_memory (settings_of old) ∷ []))) 0)
+    (c.in_err-put_field.ensures.writes old t _ (next_named g.W.Sink c.args.names.now 0 _
+    (g.E1.Serialize.data_of c.args.self.now.first.now (settings_of old).human)
+    (g.E2.Serialize.data_of c.args.self.now.second.now (settings_of old).human
+    ∷ (g.E3.Serialize.data_of c.args.self.now.third.now (settings_of old).human ∷ [])) rest (omega (arith, c.requires)) h)))
 
 pub returns-in_err-put_field-2-clause-writes : goal.returns-in_err-put_field-2-clause-writes
 returns-in_err-put_field-2-clause-writes g c =
     let p = err_from_is_err_and c.from_residual-in_err-put_field-2.result c.from_residual-in_err-put_field-2.ensures.1 in
-    rw (p.1, p.2) (λ old t rest h. part_takes g.W.Sink _ (one_of_or g.W.Sink.takes_memory (g.E1.Serialize.takes_memory (settings_of old) ∷ (g.E2.Serialize.takes_memory (settings_of old) ∷ (g.E3.Serialize.takes_memory (settings_of old) ∷ []))) 1)
-    (c.in_err-put_field-2.ensures.writes old t _ (next_named g.W.Sink c.args.names.now 1 _ (g.E2.Serialize.data_of c.args.self.now.second.now (settings_of old).human) (g.E3.Serialize.data_of c.args.self.now.third.now (settings_of old).human ∷ []) rest (omega (arith, c.requires)) (c.in_ok-put_field.ensures.writes old t _ (next_named g.W.Sink c.args.names.now 0 _ (g.E1.Serialize.data_of c.args.self.now.first.now (settings_of old).human) (g.E2.Serialize.data_of c.args.self.now.second.now (settings_of old).human ∷ (g.E3.Serialize.data_of c.args.self.now.third.now (settings_of old).human ∷ [])) rest (omega (arith, c.requires)) h)))))
+    rw (p.1, p.2) (λ old t rest h. part_takes g.W.Sink _
+    (one_of_or g.W.Sink.takes_memory (g.E1.Serialize.takes_memory (settings_of old)
+    ∷ (g.E2.Serialize.takes_memory (settings_of old) ∷ (g.E3.Serialize.takes_memory (settings_of old) ∷ []))) 1)
+    (c.in_err-put_field-2.ensures.writes old t _ (next_named g.W.Sink c.args.names.now 1 _
+    (g.E2.Serialize.data_of c.args.self.now.second.now (settings_of old).human)
+    (g.E3.Serialize.data_of c.args.self.now.third.now (settings_of old).human ∷ []) rest (omega (arith, c.requires))
+    (c.in_ok-put_field.ensures.writes old t _ (next_named g.W.Sink c.args.names.now 0 _
+    (g.E1.Serialize.data_of c.args.self.now.first.now (settings_of old).human)
+    (g.E2.Serialize.data_of c.args.self.now.second.now (settings_of old).human
+    ∷ (g.E3.Serialize.data_of c.args.self.now.third.now (settings_of old).human ∷ [])) rest (omega (arith, c.requires)) h)))))
 
 pub returns-in_err-put_field-2-clause-keeps : goal.returns-in_err-put_field-2-clause-keeps
 returns-in_err-put_field-2-clause-keeps g c = (keeps_then g.W.Sink c.put_field.ensures.keeps c.put_field-2.ensures.keeps)
@@ -24,14 +37,33 @@ returns-in_err-put_field-2-clause-keeps g c = (keeps_then g.W.Sink c.put_field.e
 pub returns-in_err-put_field-3-clause-writes : goal.returns-in_err-put_field-3-clause-writes
 returns-in_err-put_field-3-clause-writes g c =
     let p = err_from_is_err_and c.from_residual-in_err-put_field-3.result c.from_residual-in_err-put_field-3.ensures.1 in
-    rw (p.1, p.2) (λ old t rest h. part_takes g.W.Sink _ (one_of_or g.W.Sink.takes_memory (g.E1.Serialize.takes_memory (settings_of old) ∷ (g.E2.Serialize.takes_memory (settings_of old) ∷ (g.E3.Serialize.takes_memory (settings_of old) ∷ []))) 2)
-    (c.in_err-put_field-3.ensures.writes old t _ (next_named g.W.Sink c.args.names.now 2 _ (g.E3.Serialize.data_of c.args.self.now.third.now (settings_of old).human) [] rest (omega (arith, c.requires)) (c.in_ok-put_field-2.ensures.writes old t _ (next_named g.W.Sink c.args.names.now 1 _ (g.E2.Serialize.data_of c.args.self.now.second.now (settings_of old).human) (g.E3.Serialize.data_of c.args.self.now.third.now (settings_of old).human ∷ []) rest (omega (arith, c.requires)) (c.in_ok-put_field.ensures.writes old t _ (next_named g.W.Sink c.args.names.now 0 _ (g.E1.Serialize.data_of c.args.self.now.first.now (settings_of old).human) (g.E2.Serialize.data_of c.args.self.now.second.now (settings_of old).human ∷ (g.E3.Serialize.data_of c.args.self.now.third.now (settings_of old).human ∷ [])) rest (omega (arith, c.requires)) h)))))))
+    rw (p.1, p.2) (λ old t rest h. part_takes g.W.Sink _
+    (one_of_or g.W.Sink.takes_memory (g.E1.Serialize.takes_memory (settings_of old)
+    ∷ (g.E2.Serialize.takes_memory (settings_of old) ∷ (g.E3.Serialize.takes_memory (settings_of old) ∷ []))) 2)
+    (c.in_err-put_field-3.ensures.writes old t _ (next_named g.W.Sink c.args.names.now 2 _
+    (g.E3.Serialize.data_of c.args.self.now.third.now (settings_of old).human) [] rest (omega (arith, c.requires))
+    (c.in_ok-put_field-2.ensures.writes old t _ (next_named g.W.Sink c.args.names.now 1 _
+    (g.E2.Serialize.data_of c.args.self.now.second.now (settings_of old).human)
+    (g.E3.Serialize.data_of c.args.self.now.third.now (settings_of old).human ∷ []) rest (omega (arith, c.requires))
+    (c.in_ok-put_field.ensures.writes old t _ (next_named g.W.Sink c.args.names.now 0 _
+    (g.E1.Serialize.data_of c.args.self.now.first.now (settings_of old).human)
+    (g.E2.Serialize.data_of c.args.self.now.second.now (settings_of old).human
+    ∷ (g.E3.Serialize.data_of c.args.self.now.third.now (settings_of old).human ∷ [])) rest (omega (arith, c.requires)) h)))))))
 
 pub returns-in_err-put_field-3-clause-keeps : goal.returns-in_err-put_field-3-clause-keeps
-returns-in_err-put_field-3-clause-keeps g c = (keeps_then g.W.Sink (keeps_then g.W.Sink c.put_field.ensures.keeps c.put_field-2.ensures.keeps) c.put_field-3.ensures.keeps)
+returns-in_err-put_field-3-clause-keeps g c = (keeps_then g.W.Sink (keeps_then g.W.Sink c.put_field.ensures.keeps c.put_field-2.ensures.keeps)
+    c.put_field-3.ensures.keeps)
 
 pub returns-clause-writes : goal.returns-clause-writes
-returns-clause-writes g c = λ old t rest h. (c.in_ok-put_field-3.ensures.writes old t _ (next_named g.W.Sink c.args.names.now 2 _ (g.E3.Serialize.data_of c.args.self.now.third.now (settings_of old).human) [] rest (omega (arith, c.requires)) (c.in_ok-put_field-2.ensures.writes old t _ (next_named g.W.Sink c.args.names.now 1 _ (g.E2.Serialize.data_of c.args.self.now.second.now (settings_of old).human) (g.E3.Serialize.data_of c.args.self.now.third.now (settings_of old).human ∷ []) rest (omega (arith, c.requires)) (c.in_ok-put_field.ensures.writes old t _ (next_named g.W.Sink c.args.names.now 0 _ (g.E1.Serialize.data_of c.args.self.now.first.now (settings_of old).human) (g.E2.Serialize.data_of c.args.self.now.second.now (settings_of old).human ∷ (g.E3.Serialize.data_of c.args.self.now.third.now (settings_of old).human ∷ [])) rest (omega (arith, c.requires)) h))))))
+returns-clause-writes g c = λ old t rest h. (c.in_ok-put_field-3.ensures.writes old t _
+    (next_named g.W.Sink c.args.names.now 2 _ (g.E3.Serialize.data_of c.args.self.now.third.now (settings_of old).human) [] rest (omega (arith, c.requires))
+    (c.in_ok-put_field-2.ensures.writes old t _ (next_named g.W.Sink c.args.names.now 1 _
+    (g.E2.Serialize.data_of c.args.self.now.second.now (settings_of old).human)
+    (g.E3.Serialize.data_of c.args.self.now.third.now (settings_of old).human ∷ []) rest (omega (arith, c.requires))
+    (c.in_ok-put_field.ensures.writes old t _ (next_named g.W.Sink c.args.names.now 0 _
+    (g.E1.Serialize.data_of c.args.self.now.first.now (settings_of old).human)
+    (g.E2.Serialize.data_of c.args.self.now.second.now (settings_of old).human
+    ∷ (g.E3.Serialize.data_of c.args.self.now.third.now (settings_of old).human ∷ [])) rest (omega (arith, c.requires)) h))))))
 
 pub returns-clause-keeps : goal.returns-clause-keeps
 returns-clause-keeps g c = (keeps_then g.W.Sink (keeps_then g.W.Sink c.put_field.ensures.keeps c.put_field-2.ensures.keeps) c.put_field-3.ensures.keeps)

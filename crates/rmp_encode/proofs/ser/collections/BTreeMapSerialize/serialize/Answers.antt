@@ -12,13 +12,19 @@ use Rattle.rmp_encode.proofs.ser.collections.BTreeMapSerialize.serialize.Goals a
 pub returns-in_err-put_len-clause-writes : goal.returns-in_err-put_len-clause-writes
 returns-in_err-put_len-clause-writes g c =
     let p = err_from_is_err_and c.from_residual.result c.from_residual.ensures.1 in
-    rw (p.1, p.2) (part_or g.W.Sink _ (c.in_err-put_len.ensures.begins _ _ (made_map _ _ _ (length-in_turn (λ k. g.K.Serialize.data_of k (settings_of c.args.se.now).human) (λ x. g.V.Serialize.data_of x (settings_of c.args.se.now).human) c.args.self.now.entries _ (search rules)))))
+    rw (p.1, p.2) (part_or g.W.Sink _ (c.in_err-put_len.ensures.begins _ _
+    (made_map _ _ _ (length-in_turn (λ k. g.K.Serialize.data_of k (settings_of c.args.se.now).human)
+    (λ x. g.V.Serialize.data_of x (settings_of c.args.se.now).human) c.args.self.now.entries _ (search rules)))))
 
 pub loop-key-init : goal.loop-key-init
 loop-key-init g c =
     let all = c.into_iter-key-iterator.ensures.into_iter_gives.0 in
     record {
-      writing = still_written g.W.Sink (ap (in_turn (λ k. g.K.Serialize.data_of k (settings_of c.args.se.now).human) (λ x. g.V.Serialize.data_of x (settings_of c.args.se.now).human)) (sym all)) (c.in_ok-put_len.ensures.begins _ _ (made_map _ _ _ (length-in_turn (λ k. g.K.Serialize.data_of k (settings_of c.args.se.now).human) (λ x. g.V.Serialize.data_of x (settings_of c.args.se.now).human) c.args.self.now.entries _ (search rules))));
+      writing = still_written g.W.Sink (ap (in_turn (λ k. g.K.Serialize.data_of k (settings_of c.args.se.now).human)
+          (λ x. g.V.Serialize.data_of x (settings_of c.args.se.now).human)) (sym all))
+          (c.in_ok-put_len.ensures.begins _ _ (made_map _ _ _
+          (length-in_turn (λ k. g.K.Serialize.data_of k (settings_of c.args.se.now).human) (λ x. g.V.Serialize.data_of x (settings_of c.args.se.now).human)
+          c.args.self.now.entries _ (search rules))));
       keeps = c.put_len.ensures.keeps;
       values = λ h. subst (All (λ e. g.K.Serialize.is_value e.0 × g.V.Serialize.is_value e.1)) all h;
     }
@@ -26,7 +32,12 @@ loop-key-init g c =
 pub returns-in_err-serialize-clause-writes : goal.returns-in_err-serialize-clause-writes
 returns-in_err-serialize-clause-writes g c =
     let p = err_from_is_err_and c.from_residual-in_err-serialize.result c.from_residual-in_err-serialize.ensures.1 in
-    rw (p.1, p.2) (part_takes g.W.Sink _ (or_first (g.K.Serialize.takes_memory (settings_of c.args.se.now)) (g.V.Serialize.takes_memory (settings_of c.args.se.now)) g.W.Sink.takes_memory) (next_err g.W.Sink (λ s. g.K.Serialize.takes_memory s || g.W.Sink.takes_memory) (λ s. g.K.Serialize.data_of c.in-Some.key.now s.human) c.loop-key.se c.serialize.new.se _ c.serialize.ensures.keeps c.in_err-serialize.ensures.writes c.args.se.now _ _ _ (ap (in_turn (λ k. g.K.Serialize.data_of k (settings_of c.args.se.now).human) (λ x. g.V.Serialize.data_of x (settings_of c.args.se.now).human)) c.in-Some.ensures.steps) c.loop-key.invariant.writing))
+    rw (p.1, p.2) (part_takes g.W.Sink _ (or_first (g.K.Serialize.takes_memory (settings_of c.args.se.now))
+    (g.V.Serialize.takes_memory (settings_of c.args.se.now)) g.W.Sink.takes_memory)
+    (next_err g.W.Sink (λ s. g.K.Serialize.takes_memory s || g.W.Sink.takes_memory) (λ s. g.K.Serialize.data_of c.in-Some.key.now s.human) c.loop-key.se
+    c.serialize.new.se _ c.serialize.ensures.keeps c.in_err-serialize.ensures.writes c.args.se.now _ _ _
+    (ap (in_turn (λ k. g.K.Serialize.data_of k (settings_of c.args.se.now).human) (λ x. g.V.Serialize.data_of x (settings_of c.args.se.now).human))
+    c.in-Some.ensures.steps) c.loop-key.invariant.writing))
 
 pub returns-in_err-serialize-clause-keeps : goal.returns-in_err-serialize-clause-keeps
 returns-in_err-serialize-clause-keeps g c = keeps_then g.W.Sink c.loop-key.invariant.keeps c.serialize.ensures.keeps
@@ -34,23 +45,41 @@ returns-in_err-serialize-clause-keeps g c = keeps_then g.W.Sink c.loop-key.invar
 pub returns-in_err-serialize-2-clause-writes : goal.returns-in_err-serialize-2-clause-writes
 returns-in_err-serialize-2-clause-writes g c =
     let p = err_from_is_err_and c.from_residual-in_err-serialize-2.result c.from_residual-in_err-serialize-2.ensures.1 in
-    let key = next_ok g.W.Sink (λ s. g.K.Serialize.data_of c.in-Some.key.now s.human) c.loop-key.se c.serialize.new.se _ c.serialize.ensures.keeps c.in_ok-serialize.ensures.writes c.args.se.now _ _ _ (ap (in_turn (λ k. g.K.Serialize.data_of k (settings_of c.args.se.now).human) (λ x. g.V.Serialize.data_of x (settings_of c.args.se.now).human)) c.in-Some.ensures.steps) c.loop-key.invariant.writing in
-    rw (p.1, p.2) (part_takes g.W.Sink _ (or_second (g.K.Serialize.takes_memory (settings_of c.args.se.now)) (g.V.Serialize.takes_memory (settings_of c.args.se.now)) g.W.Sink.takes_memory) (next_err g.W.Sink (λ s. g.V.Serialize.takes_memory s || g.W.Sink.takes_memory) (λ s. g.V.Serialize.data_of c.in-Some.value.now s.human) c.serialize.new.se c.serialize-in-loop-key.new.se _ c.serialize-in-loop-key.ensures.keeps c.in_err-serialize-2.ensures.writes c.args.se.now _ _ _ refl key))
+    let key = next_ok g.W.Sink (λ s. g.K.Serialize.data_of c.in-Some.key.now s.human) c.loop-key.se c.serialize.new.se _ c.serialize.ensures.keeps
+    c.in_ok-serialize.ensures.writes c.args.se.now _ _ _
+    (ap (in_turn (λ k. g.K.Serialize.data_of k (settings_of c.args.se.now).human) (λ x. g.V.Serialize.data_of x (settings_of c.args.se.now).human))
+    c.in-Some.ensures.steps) c.loop-key.invariant.writing in
+    rw (p.1, p.2) (part_takes g.W.Sink _ (or_second (g.K.Serialize.takes_memory (settings_of c.args.se.now))
+    (g.V.Serialize.takes_memory (settings_of c.args.se.now)) g.W.Sink.takes_memory)
+    (next_err g.W.Sink (λ s. g.V.Serialize.takes_memory s || g.W.Sink.takes_memory) (λ s. g.V.Serialize.data_of c.in-Some.value.now s.human)
+    c.serialize.new.se c.serialize-in-loop-key.new.se _ c.serialize-in-loop-key.ensures.keeps c.in_err-serialize-2.ensures.writes c.args.se.now _ _ _
+    refl key))
 
 pub returns-in_err-serialize-2-clause-keeps : goal.returns-in_err-serialize-2-clause-keeps
-returns-in_err-serialize-2-clause-keeps g c = keeps_then g.W.Sink (keeps_then g.W.Sink c.loop-key.invariant.keeps c.serialize.ensures.keeps) c.serialize-in-loop-key.ensures.keeps
+returns-in_err-serialize-2-clause-keeps g c = keeps_then g.W.Sink (keeps_then g.W.Sink c.loop-key.invariant.keeps c.serialize.ensures.keeps)
+    c.serialize-in-loop-key.ensures.keeps
 
 pub loop-key-preserved : goal.loop-key-preserved
 loop-key-preserved g c =
-    let key = next_ok g.W.Sink (λ s. g.K.Serialize.data_of c.in-Some.key.now s.human) c.loop-key.se c.serialize.new.se _ c.serialize.ensures.keeps c.in_ok-serialize.ensures.writes c.args.se.now _ _ _ (ap (in_turn (λ k. g.K.Serialize.data_of k (settings_of c.args.se.now).human) (λ x. g.V.Serialize.data_of x (settings_of c.args.se.now).human)) c.in-Some.ensures.steps) c.loop-key.invariant.writing in
+    let key = next_ok g.W.Sink (λ s. g.K.Serialize.data_of c.in-Some.key.now s.human) c.loop-key.se c.serialize.new.se _ c.serialize.ensures.keeps
+    c.in_ok-serialize.ensures.writes c.args.se.now _ _ _
+    (ap (in_turn (λ k. g.K.Serialize.data_of k (settings_of c.args.se.now).human) (λ x. g.V.Serialize.data_of x (settings_of c.args.se.now).human))
+    c.in-Some.ensures.steps) c.loop-key.invariant.writing in
     record {
-      writing = next_ok g.W.Sink (λ s. g.V.Serialize.data_of c.in-Some.value.now s.human) c.serialize.new.se c.serialize-in-loop-key.new.se _ c.serialize-in-loop-key.ensures.keeps c.in_ok-serialize-2.ensures.writes c.args.se.now _ _ _ refl key;
+      writing = next_ok g.W.Sink (λ s. g.V.Serialize.data_of c.in-Some.value.now s.human) c.serialize.new.se c.serialize-in-loop-key.new.se _
+          c.serialize-in-loop-key.ensures.keeps c.in_ok-serialize-2.ensures.writes c.args.se.now _ _ _ refl key;
       keeps = keeps_then g.W.Sink (keeps_then g.W.Sink c.loop-key.invariant.keeps c.serialize.ensures.keeps) c.serialize-in-loop-key.ensures.keeps;
-      values = λ h. c.loop-key.invariant.values (subst (All (λ e. g.K.Serialize.is_value e.0 × g.V.Serialize.is_value e.1)) (sym c.in-Some.ensures.steps) (All-cons (λ e. g.K.Serialize.is_value e.0 × g.V.Serialize.is_value e.1) (c.in-Some.key.now, c.in-Some.value.now) _ (c.in_ok-serialize.ensures.value, c.in_ok-serialize-2.ensures.value) h));
+      values = λ h. c.loop-key.invariant.values (subst (All (λ e. g.K.Serialize.is_value e.0 × g.V.Serialize.is_value e.1)) (sym c.in-Some.ensures.steps)
+          (All-cons (λ e. g.K.Serialize.is_value e.0 × g.V.Serialize.is_value e.1) (c.in-Some.key.now, c.in-Some.value.now) _
+          (c.in_ok-serialize.ensures.value, c.in_ok-serialize-2.ensures.value) h));
     }
 
 pub returns-clause-writes : goal.returns-clause-writes
-returns-clause-writes g c = none_next g.W.Sink c.args.se.now _ _ _ _ (ap (in_turn (λ k. g.K.Serialize.data_of k (settings_of c.args.se.now).human) (λ x. g.V.Serialize.data_of x (settings_of c.args.se.now).human)) c.in-None.ensures.steps.0) c.loop-key.invariant.writing
+returns-clause-writes g c = none_next g.W.Sink c.args.se.now _ _ _ _
+    (ap (in_turn (λ k. g.K.Serialize.data_of k (settings_of c.args.se.now).human) (λ x. g.V.Serialize.data_of x (settings_of c.args.se.now).human))
+    c.in-None.ensures.steps.0) c.loop-key.invariant.writing
 
 pub returns-clause-value : goal.returns-clause-value
-returns-clause-value g c = c.loop-key.invariant.values (subst (All (λ e. g.K.Serialize.is_value e.0 × g.V.Serialize.is_value e.1)) (sym c.in-None.ensures.steps.0) (All-nil (λ e. g.K.Serialize.is_value e.0 × g.V.Serialize.is_value e.1)))
+returns-clause-value g c = c.loop-key.invariant.values
+    (subst (All (λ e. g.K.Serialize.is_value e.0 × g.V.Serialize.is_value e.1)) (sym c.in-None.ensures.steps.0)
+    (All-nil (λ e. g.K.Serialize.is_value e.0 × g.V.Serialize.is_value e.1)))

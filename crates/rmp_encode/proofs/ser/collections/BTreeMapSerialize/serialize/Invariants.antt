@@ -8,7 +8,11 @@ use Rattle.rmp_encode.proofs.ser.collections.BTreeMapSerialize.serialize.Given a
 
 abbrev pub invariant-loop-key : goal.invariant-loop-key
 invariant-loop-key g l = record {
-  writing : IsWriting g.W.Sink l.fn.se (tree_of (settings_of l.fn.se) (mapping_of (in_turn (λ k. g.K.Serialize.data_of k (settings_of l.fn.se).human) (λ x. g.V.Serialize.data_of x (settings_of l.fn.se).human) l.fn.self.entries))) (in_turn (λ k. g.K.Serialize.data_of k (settings_of l.fn.se).human) (λ x. g.V.Serialize.data_of x (settings_of l.fn.se).human) l.key-iterator) l.se;
+  writing : IsWriting g.W.Sink l.fn.se (tree_of (settings_of l.fn.se)
+      (mapping_of (in_turn (λ k. g.K.Serialize.data_of k (settings_of l.fn.se).human) (λ x. g.V.Serialize.data_of x (settings_of l.fn.se).human)
+      l.fn.self.entries))) (in_turn (λ k. g.K.Serialize.data_of k (settings_of l.fn.se).human) (λ x. g.V.Serialize.data_of x (settings_of l.fn.se).human)
+      l.key-iterator) l.se;
   keeps : Keeps g.W.Sink l.fn.se l.se;
-  values : All (λ e. g.K.Serialize.is_value e.0 × g.V.Serialize.is_value e.1) l.key-iterator → All (λ e. g.K.Serialize.is_value e.0 × g.V.Serialize.is_value e.1) l.fn.self.entries;
+  values : All (λ e. g.K.Serialize.is_value e.0 × g.V.Serialize.is_value e.1) l.key-iterator
+      → All (λ e. g.K.Serialize.is_value e.0 × g.V.Serialize.is_value e.1) l.fn.self.entries;
 }

@@ -20,22 +20,27 @@ pub loop-item-init : goal.loop-item-init
 loop-item-init g c =
     let all = c.into_iter-item-iterator.ensures.into_iter_gives.0 in
     record {
-      writing = still_written g.W.Sink (ap (map (λ x. g.T.Serialize.data_of x (settings_of c.args.se.now).human)) (sym all)) (c.in_ok-put_len.ensures.begins _ _ (made_list _ _ _ (length-map _ _ ∙ search rules)));
+      writing = still_written g.W.Sink (ap (map (λ x. g.T.Serialize.data_of x (settings_of c.args.se.now).human)) (sym all))
+          (c.in_ok-put_len.ensures.begins _ _ (made_list _ _ _ (length-map _ _ ∙ search rules)));
       keeps = c.put_len.ensures.keeps;
       values = λ h. subst (All g.T.Serialize.is_value) all h;
     }
 
 pub loop-item-preserved : goal.loop-item-preserved
 loop-item-preserved g c = record {
-  writing = next_ok g.W.Sink (λ s. g.T.Serialize.data_of c.in-Some.item.now s.human) _ _ _ c.serialize.ensures.keeps c.in_ok-serialize.ensures.writes c.args.se.now _ _ _ (ap (map (λ x. g.T.Serialize.data_of x (settings_of c.args.se.now).human)) c.in-Some.ensures.steps) c.loop-item.invariant.writing;
+  writing = next_ok g.W.Sink (λ s. g.T.Serialize.data_of c.in-Some.item.now s.human) _ _ _ c.serialize.ensures.keeps c.in_ok-serialize.ensures.writes
+      c.args.se.now _ _ _ (ap (map (λ x. g.T.Serialize.data_of x (settings_of c.args.se.now).human)) c.in-Some.ensures.steps) c.loop-item.invariant.writing;
   keeps = keeps_then g.W.Sink c.loop-item.invariant.keeps c.serialize.ensures.keeps;
-  values = λ h. c.loop-item.invariant.values (subst (All g.T.Serialize.is_value) (sym c.in-Some.ensures.steps) (All-cons g.T.Serialize.is_value _ _ c.in_ok-serialize.ensures.value h));
+  values = λ h. c.loop-item.invariant.values (subst (All g.T.Serialize.is_value) (sym c.in-Some.ensures.steps)
+      (All-cons g.T.Serialize.is_value _ _ c.in_ok-serialize.ensures.value h));
 }
 
 pub returns-in_err-serialize-clause-writes : goal.returns-in_err-serialize-clause-writes
 returns-in_err-serialize-clause-writes g c =
     let p = err_from_is_err_and c.from_residual-in_err-serialize.result c.from_residual-in_err-serialize.ensures.1 in
-    rw (p.1, p.2) (next_err g.W.Sink (λ s. g.T.Serialize.takes_memory s || g.W.Sink.takes_memory) (λ s. g.T.Serialize.data_of c.in-Some.item.now s.human) c.loop-item.se c.serialize.new.se _ c.serialize.ensures.keeps c.in_err-serialize.ensures.writes c.args.se.now _ _ _ (ap (map (λ x. g.T.Serialize.data_of x (settings_of c.args.se.now).human)) c.in-Some.ensures.steps) c.loop-item.invariant.writing)
+    rw (p.1, p.2) (next_err g.W.Sink (λ s. g.T.Serialize.takes_memory s || g.W.Sink.takes_memory) (λ s. g.T.Serialize.data_of c.in-Some.item.now s.human)
+    c.loop-item.se c.serialize.new.se _ c.serialize.ensures.keeps c.in_err-serialize.ensures.writes c.args.se.now _ _ _
+    (ap (map (λ x. g.T.Serialize.data_of x (settings_of c.args.se.now).human)) c.in-Some.ensures.steps) c.loop-item.invariant.writing)
 
 pub returns-in_err-serialize-clause-keeps : goal.returns-in_err-serialize-clause-keeps
 returns-in_err-serialize-clause-keeps g c = keeps_then g.W.Sink c.loop-item.invariant.keeps c.serialize.ensures.keeps

@@ -9,7 +9,9 @@ use Rattle.rmp_encode.proofs.ser.collections.VecDequeSerialize.serialize.Given a
 
 abbrev pub invariant-loop-item : goal.invariant-loop-item
 invariant-loop-item g l = record {
-  writing : IsWriting g.W.Sink l.fn.se (tree_of (settings_of l.fn.se) (sequence_of (map (λ x. g.T.Serialize.data_of x (settings_of l.fn.se).human) l.fn.self.items))) (map (λ x. g.T.Serialize.data_of x (settings_of l.fn.se).human) (deque_iter_rest l.item-iterator)) l.se;
+  writing : IsWriting g.W.Sink l.fn.se (tree_of (settings_of l.fn.se)
+      (sequence_of (map (λ x. g.T.Serialize.data_of x (settings_of l.fn.se).human) l.fn.self.items)))
+      (map (λ x. g.T.Serialize.data_of x (settings_of l.fn.se).human) (deque_iter_rest l.item-iterator)) l.se;
   keeps : Keeps g.W.Sink l.fn.se l.se;
   values : All g.T.Serialize.is_value (deque_iter_rest l.item-iterator) → All g.T.Serialize.is_value l.fn.self.items;
 }

@@ -6,7 +6,9 @@ use Rattle.rmp_serde.proofs.value.write.ValueSerialize.serialize.Goals as goal
 pub returns-in_err-write_value-clause-writes : goal.returns-in_err-write_value-clause-writes
 returns-in_err-write_value-clause-writes g c =
     let p = err_from_is_err_and c.from_residual.result c.from_residual.ensures.1 in
-    value_writes g.W.Sink c.args.se.now.settings c.args.self.now (Err c.in_err-write_value.field-0.0) (p.1 ∙ ap Err p.2) (rw c.self.view_is at c.self.invariant) (rw c.get_mut.ensures.value at c.in_err-write_value.ensures.writes)
+    value_writes g.W.Sink c.args.se.now.settings c.args.self.now (Err c.in_err-write_value.field-0.0) (p.1 ∙ ap Err p.2)
+    (rw c.self.view_is at c.self.invariant) (rw c.get_mut.ensures.value at c.in_err-write_value.ensures.writes)
 
 pub returns-clause-writes : goal.returns-clause-writes
-returns-clause-writes g c = value_writes g.W.Sink c.args.se.now.settings c.args.self.now (Ok tt) refl (rw c.self.view_is at c.self.invariant) (rw c.get_mut.ensures.value at c.in_ok-write_value.ensures.writes)
+returns-clause-writes g c = value_writes g.W.Sink c.args.se.now.settings c.args.self.now (Ok tt) refl (rw c.self.view_is at c.self.invariant)
+    (rw c.get_mut.ensures.value at c.in_ok-write_value.ensures.writes)

@@ -1,0 +1,89 @@
+#!/usr/bin/env python3
+"""Breaks lines of proofs and of contracts that are longer than WIDE at their shallowest places.
+
+lines.py FILE.. does so in place; a tool that writes proofs or contracts does so by `write`. `rt fmt` sets the indentation
+afterwards. Code, comments and `ghost use` stay as they are.
+"""
+import os
+import re
+import sys
+
+TOP = os.path.join(os.path.dirname(os.path.abspath(__file__)), "..")
+
+# A line is broken where it is longer than WIDE, and no part of it is then longer than MOST.
+WIDE = 160
+MOST = 156
+# The least width of a part.
+LEAST = 50
+CONTRACT = re.compile(r"(ensures|requires|invariant|ghost (?!use))")
+# Words after which a line had better go on, with how much that counts against a break; a bracket counts 2.
+KEEPS = {"λ": 6, "let": 6, "in": 6, "pub": 6, "ghost": 6, "module": 6, "where": 6, "use": 6, "{": 2, "→": 1, "=": 1}
+# Words that had better not begin a line, and, below zero, those that may well.
+BEGINS = {"=": 3, ":": 3, ".": 3, "where": 3, "}": 3, ";": 3, "≡": 1, "≤": 1, "<": 1,
+          "→": -3, "in": -3, "∙": -1, "++": -1, "×": -1, "⊎": -1, "∷": -1, "&&": -1, "||": -1}
+
+
+def spaces(line):
+    """The spaces outside of texts, each with the number of brackets that are open there."""
+    depth, in_text, found = 0, False, []
+    for at, sign in enumerate(line):
+        if sign == '"' and line[at - 1] != "\\":
+            in_text = not in_text
+        elif not in_text:
+            depth += (sign in "([{") - (sign in ")]}")
+            if sign == " ":
+                found.append((at, depth))
+    return found
+
+
+def cost(line, at, depth):
+    """How bad a break at this space is."""
+    before, after = line[:at].rsplit(" ", 1)[-1], line[at + 1:].split(" ", 1)[0]
+    binder = line[:at].rfind("λ")
+    in_binder = binder >= 0 and "." not in line[binder:at]
+    return depth * 2 + KEEPS.get(before, 0) + BEGINS.get(after, 0) + 6 * in_binder
+
+
+def parts(line):
+    """The line in parts, the first with its indentation and the others with four columns more."""
+    margin = " " * (len(line) - len(line.lstrip(" ")) + 4)
+    done = []
+    while len(line) > MOST:
+        least = len(line) - len(line.lstrip(" ")) + LEAST
+        places = [(at, depth) for at, depth in spaces(line) if least <= at <= MOST]
+        if not places:
+            break
+        at = min(places, key=lambda place: (cost(line, *place), -place[0]))[0]
+        done.append(line[:at])
+        line = margin + line[at + 1:].lstrip(" ")
+    return done + [line]
+
+
+def broken(text, is_proof):
+    """The text with its long lines in parts; of code, only those of contracts."""
+    done = []
+    for line in text.split("\n"):
+        bare = line.strip()
+        apt = not bare.startswith(("--", "//")) and (is_proof or CONTRACT.match(bare))
+        done.extend(parts(line) if len(line) > WIDE and apt else [line])
+    return "\n".join(done)
+
+
+def write(text, *path):
+    """Writes a file of a crate, of this repository or of the one that is the tool's first argument."""
+    place = os.path.join(sys.argv[1] if len(sys.argv) > 1 else TOP, "crates", *path)
+    os.makedirs(os.path.dirname(place), exist_ok=True)
+    with open(place, "w", encoding="utf-8") as out:
+        out.write(broken(text, place.endswith(".antt")))
+
+
+def main():
+    for name in sys.argv[1:]:
+        with open(name, encoding="utf-8") as file:
+            text = file.read()
+        with open(name, "w", encoding="utf-8") as file:
+            file.write(broken(text, name.endswith(".antt")))
+
+
+if __name__ == "__main__":
+    main()
