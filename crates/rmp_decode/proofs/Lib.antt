@@ -39,6 +39,7 @@ pub mod Settings
 pub mod SkipErrors
 pub mod SkipLoop
 pub mod Skipping
+pub mod SourceReads
 pub mod Strings
 pub mod Structs
 pub mod Texts

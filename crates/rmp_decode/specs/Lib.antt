@@ -17,6 +17,7 @@ pub mod Options
 pub mod Parts
 pub mod Pieces
 pub mod Read
+pub mod Readers
 pub mod ReadErrors
 pub mod Refuse
 pub mod Refusing

@@ -18,6 +18,8 @@ mod maps;
 mod numbers;
 mod options;
 mod pointers;
+#[cfg(test)]
+mod reader_tests;
 mod sets;
 #[cfg(test)]
 mod tests;

@@ -8,6 +8,7 @@ mod fronts;
 mod heads;
 pub(crate) mod kinds;
 mod numbers;
+pub(crate) mod reader;
 pub(crate) mod skip;
 
 use crate::deserializer::heads::{next_head, rest_of_head};

@@ -15,5 +15,6 @@ pub use access::variant::Variant;
 pub use content::{ReadContent, Slices};
 pub use de::{Deserialize, from_read_ref, from_slice, from_slice_strict};
 pub use deserializer::Deserializer;
+pub use deserializer::reader::from_read;
 pub use error::Error;
 pub use text::{OwnText, Text};

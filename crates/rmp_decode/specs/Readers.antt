@@ -1,0 +1,43 @@
+-- What a reader over a source shows, and what a read of a source's beginning says.
+use Rattle.std.specs.Prelude.{◌≡◌, ℕ, ◌<◌, true, false, List, Option}
+use Rattle.std.specs.Io.KnownBytes.{Consumes}
+use Rattle.rmp_wire.specs.declared.slice.copying.ReadReader.{ReadReader}
+use Rattle.rmp_wire.specs.declared.source.Source.{Ghosts}
+use Rattle.rmp_wire.specs.Copying.{copied_from, copying_with}
+use Rattle.rmp_wire.specs.Msg.{Msg, depth}
+use Rattle.rmp_wire.specs.Spelling.{Spells}
+use Rattle.rmp_decode.specs.Law.{Explains, Readable, Refuses}
+use Rattle.rmp_decode.specs.Refusing.{Setting, Refusals}
+use Rattle.rmp_decode.specs.declared.deserializer.Deserializer.{Deserializer}
+use Rattle.rmp_decode.specs.declared.error.Error.{Error}
+
+-- `de.get_ref()`
+abbrev pub source_of : {R C : Type 0} → Deserializer (ReadReader R) C → R
+source_of d = copied_from d.reader
+
+-- the reader after `*de.get_mut() = source`: what it keeps back, and so what is left, is this and then what that source has ahead
+abbrev pub reading_with : {R C : Type 0} → Deserializer (ReadReader R) C → R → Deserializer (ReadReader R) C
+reading_with d source = record d { reader = copying_with d.reader source }
+
+-- the setting of a read from a source, by whether only canonical heads are read
+abbrev pub source_setting : Setting
+source_setting = record { human = false; lends = false; strict = false; room = 1024 }
+
+-- A spelling of a tree was taken from the front of a source that tells its bytes or doesn't, and just that; the tree is read as v.
+pub record TakenFrom {R V : Type 0} (g : Ghosts R) (reads : Msg → V → Type 0) (source : R) (v : V) : Type 0 where
+  pub last : R
+  pub bytes : List ℕ
+  pub tree : Msg
+  pub takes : Consumes (g.ahead source) (g.ahead last) bytes
+  pub sound : g.faults last ≡ g.faults source
+  pub spelled : Spells bytes tree
+  pub fits : depth tree < 1024
+  pub value : reads tree v
+
+-- A source refused, and was left in some state: unless memory was short or it had a fault, none of its beginnings was one to read; and the
+-- error is as the type says.
+pub record RefusedFrom {R V : Type 0} (g : Ghosts R) (reads : Msg → V → Type 0) (refuses : Refusals) (source : R) (e : Error) : Type 0 where
+  pub last : R
+  pub place : g.place last ≡ g.place source
+  pub explains : Explains e (g.faults source) (g.faults last) (Refuses Spells (Readable reads) 1024 (g.ahead source))
+  pub refused : refuses (g.faults source) (g.faults last) (g.ahead source) e
