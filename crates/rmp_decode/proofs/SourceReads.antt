@@ -1,5 +1,5 @@
 -- What a read of a source's beginning says of the source itself.
-use Rattle.std.proofs.Common.{◌≡◌, ◌∙◌, refl, sym, ap, subst, Bool, true, false, ℕ, List, [], ◌++◌, Option, None, Some, Result, Ok, Err, IfOk, IfErr}
+use Rattle.std.proofs.Common.{◌≡◌, ◌∙◌, ap, subst, false, ℕ, List, Option, None, Some, Result, Ok, Err, IfOk, IfErr}
 use Rattle.std.specs.Prelude.{IfSome}
 use Rattle.std.specs.Io.KnownBytes.{Consumes, prepend_known}
 use Rattle.rmp_wire.specs.declared.slice.copying.ReadReader.{ReadReader}

@@ -1,5 +1,5 @@
 -- What a reader over a source shows, and what a read of a source's beginning says.
-use Rattle.std.specs.Prelude.{◌≡◌, ℕ, ◌<◌, true, false, List, Option}
+use Rattle.std.specs.Prelude.{◌≡◌, ℕ, ◌<◌, false, List}
 use Rattle.std.specs.Io.KnownBytes.{Consumes}
 use Rattle.rmp_wire.specs.declared.slice.copying.ReadReader.{ReadReader}
 use Rattle.rmp_wire.specs.declared.source.Source.{Ghosts}
