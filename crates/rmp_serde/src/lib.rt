@@ -12,8 +12,8 @@ mod own_type;
 mod value;
 
 pub use check::{Canon, check_canonical};
-pub use decode::{Deserializer, from_read_ref, from_slice, from_slice_strict};
+pub use decode::{Deserializer, from_read, from_read_ref, from_slice, from_slice_strict};
 pub use encode::{Serializer, to_vec, to_vec_named};
 pub use rmp_wire as wire;
-pub use rmp_wire::{Marker, config};
+pub use rmp_wire::{MSGPACK_EXT_STRUCT_NAME, Marker, config};
 pub use value::{Kind, Value, ValueRef};
