@@ -28,7 +28,14 @@ ALIKE = {
     "deserialize_i16": "deserialize_i8",
     "deserialize_i32": "deserialize_i8",
     "deserialize_i64": "deserialize_i8",
+    "deserialize_f64_bits": "deserialize_f32_bits",
+    "deserialize_tuple_struct": "deserialize_tuple",
     "deserialize_enum_by": "deserialize_enum",
+    "deserialize_option_with": "deserialize_option",
+    "newtype_variant_with": "newtype_variant",
+    "next_key_with": "next_value_with",
+    "with_binary": "with_human_readable",
+    "from_read_ref": "from_slice",
     "serialize_some": "serialize_newtype_struct",
 }
 FUNCTION = re.compile(r"^impl\b[^{;]*|^(?:pub )?trait [^{;]*|^\}|^ *(pub )?(?:const )?fn (\w+)", re.M)

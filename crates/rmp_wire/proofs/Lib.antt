@@ -16,5 +16,4 @@ pub mod Strict
 pub mod Taken
 pub mod Told
 pub mod Unique
-pub mod Whole
 pub mod Writing
