@@ -78,6 +78,19 @@ impl<R: Source, C: SerializerConfig> Deserializer<R, C> {
         }
     }
 
+    /// Reads the bytes of a text, which may be no UTF-8, or of bytes, into a vector, and says whether they are a text's.
+    ///
+    /// # Errors
+    /// `Syntax("invalid type")` for a message of another kind.
+    pub fn deserialize_raw<'de>(&mut self) -> Result<(bool, Vec<u8>), Error>
+    where
+        R: ReadSlice<'de>,
+        ensures law { Lawful R.Source (λ m p. m ≡ raw_msg p.0 p.1.items) self.old self.new result }
+        ensures exact { RefusesLeaf R.Source IsRawHead not_raw never_refused self.old self.new result }
+    {
+        self.owned_raw()
+    }
+
     /// Reads a text of one character.
     ///
     /// # Errors

@@ -3,6 +3,8 @@
 //! Writing them takes no memory but by their elements and the sink. 2 ^ 32 elements or pairs or more are refused, and nothing is
 //! written.
 ghost use Rattle.std.specs.Prelude.{◌≡◌, ◌^◌, ◌≤◌, ◌||◌, map, length, All, OnOk};
+ghost use Rattle.std.specs.List.Sorted.{IsStrictlySortedBy};
+ghost use Rattle.std.specs.Map.{keys_of};
 ghost use Rattle.rmp_encode.specs.Ser.{sink_of, settings_of};
 ghost use Rattle.rmp_encode.specs.Trees.{tree_of, sequence_of, mapping_of, in_turn};
 ghost use Rattle.rmp_encode.specs.Writes.{Keeps, StaysAtRefusal, WritesTree};
@@ -50,7 +52,7 @@ impl<T: Serialize> Serialize for VecDeque<T> {
 impl<T: Serialize + Ord> Serialize for BTreeSet<T> {
     ghost data_of = { λ v human. sequence_of (map (λ x. T.data_of x human) v.keys) };
 
-    ghost is_value = { λ v. All T.is_value v.keys };
+    ghost is_value = { λ v. All T.is_value v.keys × IsStrictlySortedBy T.cmp v.keys };
 
     ghost takes_memory = { T.takes_memory };
 
@@ -64,7 +66,7 @@ impl<T: Serialize + Ord> Serialize for BTreeSet<T> {
         ensures keeps { Keeps W.Sink se.old se.new }
         ensures refused { 2 ^ 32 ≤ length self.now.keys → se.new ≡ se.old }
         ensures reason { 2 ^ 32 ≤ length self.now.keys → StaysAtRefusal se.old se.new result }
-        ensures value { OnOk result (All T.is_value self.now.keys) }
+        ensures value { OnOk result (All T.is_value self.now.keys × IsStrictlySortedBy T.cmp self.now.keys) }
     {
         se.put_len(false, self.len())?;
         for item in self {
@@ -83,7 +85,7 @@ impl<T: Serialize + Ord> Serialize for BTreeSet<T> {
 impl<K: Serialize + Ord, V: Serialize> Serialize for BTreeMap<K, V> {
     ghost data_of = { λ v human. mapping_of (in_turn (λ k. K.data_of k human) (λ x. V.data_of x human) v.entries) };
 
-    ghost is_value = { λ v. All (λ e. K.is_value e.0 × V.is_value e.1) v.entries };
+    ghost is_value = { λ v. All (λ e. K.is_value e.0 × V.is_value e.1) v.entries × IsStrictlySortedBy K.cmp (keys_of v.entries) };
 
     ghost takes_memory = { λ s. K.takes_memory s || V.takes_memory s };
 
@@ -97,7 +99,7 @@ impl<K: Serialize + Ord, V: Serialize> Serialize for BTreeMap<K, V> {
         ensures keeps { Keeps W.Sink se.old se.new }
         ensures refused { 2 ^ 32 ≤ length self.now.entries → se.new ≡ se.old }
         ensures reason { 2 ^ 32 ≤ length self.now.entries → StaysAtRefusal se.old se.new result }
-        ensures value { OnOk result (All (λ e. K.is_value e.0 × V.is_value e.1) self.now.entries) }
+        ensures value { OnOk result (All (λ e. K.is_value e.0 × V.is_value e.1) self.now.entries × IsStrictlySortedBy K.cmp (keys_of self.now.entries)) }
     {
         se.put_len(true, self.len())?;
         for (key, value) in self {

@@ -75,7 +75,7 @@ impl<T: Serialize> Serialize for &[T] {
 impl<T: Serialize, const N: usize> Serialize for [T; N] {
     ghost data_of = { λ v human. tuple_of (map (λ x. T.data_of x human) v) };
 
-    ghost is_value = { λ v. All T.is_value v };
+    ghost is_value = { λ v. (length v ≡ N) × All T.is_value v };
 
     ghost takes_memory = { λ s. forces_all s.bytes || T.takes_memory s };
 
