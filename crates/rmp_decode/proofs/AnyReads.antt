@@ -147,6 +147,7 @@ list_read g reads old start mid ms o r last v b q z e =
       stays = record {
         config = r.stays.config ∙ o.stays.config;
         room = r.stays.room ∙ o.stays.room;
+        limit = r.stays.limit ∙ o.stays.limit;
         strict = r.stays.strict
             ∙ o.stays.strict;
         place = r.stays.place ∙ o.stays.place;

@@ -71,10 +71,10 @@ front_consumed w n h front (Some xs) (Some ys) f s c =
 
 module _ {R C : Type 0} (g : Ghosts R) (old new : Deserializer R C) where
   pub front_taken : (n : ℕ) (h : Head) (front : List ℕ) → old.failed ≡ false → old.kept ≡ Nothing → new.failed ≡ true → new.kept ≡ Nothing
-      → new.config ≡ old.config → new.room ≡ old.room → new.strict ≡ old.strict
+      → new.config ≡ old.config → new.room ≡ old.room → new.limit ≡ old.limit → new.strict ≡ old.strict
       → IsFront front (g.ahead old.reader) → StandsIn old.strict n h front → Skips n (g.ahead old.reader) (g.ahead new.reader)
       → g.faults new.reader ≡ g.faults old.reader → g.place new.reader ≡ g.place old.reader → TakesFront g h old new
-  front_taken n h front fresh kept failed clean config room strict f s c sound place =
+  front_taken n h front fresh kept failed clean config room limit strict f s c sound place =
       let at = s.stands in
       let taken = front_consumed old.strict n h front (g.ahead old.reader) (g.ahead new.reader) f s c in
       record {
@@ -96,7 +96,7 @@ module _ {R C : Type 0} (g : Ghosts R) (old new : Deserializer R C) where
           memory = tt;
           failed = failed;
           before = λ f. absurd cc;
-          stays = record { config = config; room = room; strict = strict; place = place };
+          stays = record { config = config; room = room; limit = limit; strict = strict; place = place };
         };
       }
 

@@ -45,7 +45,7 @@ no_memory (wire.InvalidDataRead fault) q = absurd cc
 no_memory (wire.TypeMismatch marker) q = absurd cc
 
 module _ {R C : Type 0} (g : Ghosts R) (old new : Deserializer R C) (fresh : old.failed ≡ false) (failed : new.failed ≡ true) (clean : new.kept ≡ Nothing)
-    (config : new.config ≡ old.config) (room : new.room ≡ old.room) (strict : new.strict ≡ old.strict) where
+    (config : new.config ≡ old.config) (room : new.room ≡ old.room) (limit : new.limit ≡ old.limit) (strict : new.strict ≡ old.strict) where
   -- nothing was kept back, and a head was taken
   pub head_next : (p : Marker × Head) → old.kept ≡ Nothing → (r : ReadsNext g old.reader new.reader (Ok p))
       → heads_of old.strict p.1 (byte_of p.0 ∷ r.ok.rest) → ReadsHead g old new (Ok p)
@@ -66,7 +66,7 @@ module _ {R C : Type 0} (g : Ghosts R) (old new : Deserializer R C) (fresh : old
     memory = tt;
     failed = failed;
     before = λ f. absurd cc;
-    stays = record { config = config; room = room; strict = strict; place = r.place };
+    stays = record { config = config; room = room; limit = limit; strict = strict; place = r.place };
   }
 
   no_head_next : (e : ValueReadError) (f : Error) → f ≡ error_of e → old.kept ≡ Nothing → ReadsNext g old.reader new.reader (Err e)
@@ -82,7 +82,7 @@ module _ {R C : Type 0} (g : Ghosts R) (old new : Deserializer R C) (fresh : old
     memory = λ m. no_memory e (sym i ∙ m);
     failed = failed;
     before = λ f. absurd cc;
-    stays = record { config = config; room = room; strict = strict; place = r.place };
+    stays = record { config = config; room = room; limit = limit; strict = strict; place = r.place };
   }
 
   -- a head's first byte was kept back
@@ -106,7 +106,7 @@ module _ {R C : Type 0} (g : Ghosts R) (old new : Deserializer R C) (fresh : old
     memory = tt;
     failed = failed;
     before = λ f. absurd cc;
-    stays = record { config = config; room = room; strict = strict; place = r.place };
+    stays = record { config = config; room = room; limit = limit; strict = strict; place = r.place };
   }
 
   no_head_behind : (b : ℕ) (m : Marker) (e : ValueReadError) (f : Error) → byte_of m ≡ b → f ≡ error_of e → old.kept ≡ First b
@@ -122,7 +122,7 @@ module _ {R C : Type 0} (g : Ghosts R) (old new : Deserializer R C) (fresh : old
     memory = λ m. no_memory e (sym i ∙ m);
     failed = failed;
     before = λ f. absurd cc;
-    stays = record { config = config; room = room; strict = strict; place = r.place };
+    stays = record { config = config; room = room; limit = limit; strict = strict; place = r.place };
   }
     where
       fails : FailsNext (prepend_known (b ∷ []) (g.ahead old.reader)) (g.ahead new.reader) (g.faults old.reader) (g.faults new.reader) e
@@ -144,7 +144,7 @@ module _ {R C : Type 0} (g : Ghosts R) (old new : Deserializer R C) (fresh : old
     memory = λ m. absurd cc;
     failed = failed;
     before = λ f. absurd cc;
-    stays = record { config = config; room = room; strict = strict; place = place };
+    stays = record { config = config; room = room; limit = limit; strict = strict; place = place };
   }
 
   head_wide : (p : Marker × Head) → old.kept ≡ Nothing → ReadsNext g old.reader new.reader (Ok p)
@@ -192,5 +192,5 @@ module _ {R C : Type 0} (g : Ghosts R) (old new : Deserializer R C) (fresh : old
     memory = tt;
     failed = failed;
     before = λ f. absurd cc;
-    stays = record { config = config; room = room; strict = strict; place = ap g.place q };
+    stays = record { config = config; room = room; limit = limit; strict = strict; place = ap g.place q };
   })

@@ -13,10 +13,11 @@ use Rattle.rmp_decode.specs.declared.error.Error.{Error}
 use Rattle.rmp_decode.proofs.Refusals.{refuses_none, refuses_other, refuses_head, refuses_narrower}
 
 pub stays_refl : {R C : Type 0} (g : Ghosts R) (d : Deserializer R C) → Stays g d d
-stays_refl g d = record { config = refl; room = refl; strict = refl; place = refl }
+stays_refl g d = record { config = refl; room = refl; limit = refl; strict = refl; place = refl }
 
 pub stays_then : {R C : Type 0} (g : Ghosts R) (a b c : Deserializer R C) → Stays g a b → Stays g b c → Stays g a c
-stays_then g a b c p q = record { config = q.config ∙ p.config; room = q.room ∙ p.room; strict = q.strict ∙ p.strict; place = q.place ∙ p.place }
+stays_then g a b c p q = record { config = q.config ∙ p.config; room = q.room ∙ p.room; limit = q.limit ∙ p.limit; strict = q.strict
+    ∙ p.strict; place = q.place ∙ p.place }
 
 module _ {R C V : Type 0} (g : Ghosts R) (reads : Msg → V → Type 0) (old new : Deserializer R C) where
   -- a refusal of what was there
@@ -69,7 +70,7 @@ answered_leaf g reads old mid new p m v h q s d r = rw q (record {
   err = λ _. tt;
   failed = tt;
   before = λ f. absurd (let o = h.fresh in cc);
-  stays = record { config = h.stays.config; room = h.stays.room; strict = h.stays.strict; place = h.stays.place };
+  stays = record { config = h.stays.config; room = h.stays.room; limit = h.stays.limit; strict = h.stays.strict; place = h.stays.place };
 })
 
 -- a reading that says no less of an answer
@@ -129,4 +130,5 @@ pub lawful_refuse : {R C V W : Type 0} (g : Ghosts R) (reads : Msg → V → Typ
     → Type 0) (old mid new : Deserializer R C) (v : V) (e : Error) → ((m : Msg) → reads m v → Readable reads' m → ⊥)
     → new ≡ record mid { failed = true } → Lawful g reads old mid (Ok v) → Lawful g reads' old new (Err e)
 lawful_refuse g reads reads' old mid new v e f q l = rw q
-    (lawful_not g reads reads' old mid (record mid { failed = true }) v e f refl (record { config = refl; room = refl; strict = refl; place = refl }) l)
+    (lawful_not g reads reads' old mid (record mid { failed = true }) v e f refl
+        (record { config = refl; room = refl; limit = refl; strict = refl; place = refl }) l)

@@ -57,7 +57,7 @@ module _ {F R C X : Type 0} (g : Ghosts R) (once : Reading F R C X) (f : F) (rea
         spelled = r.spelled;
         fits = r.fits;
         value = r.value;
-        stays = record { config = l.stays.config; room = refl; strict = l.stays.strict; place = l.stays.place };
+        stays = record { config = l.stays.config; room = refl; limit = refl; strict = l.stays.strict; place = l.stays.place };
         faults_same = l.sound;
         clean = l.clean;
         marked = refl;
@@ -73,7 +73,7 @@ module _ {F R C X : Type 0} (g : Ghosts R) (once : Reading F R C X) (f : F) (rea
       (λ x is. let k = subst (λ (z : Result X Error). Lawful g reads (part_reader old inner) p.rest z) is l0 in k.ready) in
       let l = subst (λ (z : Result X Error). Lawful g reads (part_reader old inner) p.rest z) given l0 in
       subst (λ (z : Deserializer R C). FailsPart g reads (max 1 inner) old z e) (sym p.keeps) (record {
-        stays = record { config = l.stays.config; room = refl; strict = l.stays.strict; place = l.stays.place };
+        stays = record { config = l.stays.config; room = refl; limit = refl; strict = l.stays.strict; place = l.stays.place };
         failed = refl;
         err = l.err refl;
       })

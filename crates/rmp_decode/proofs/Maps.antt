@@ -326,6 +326,7 @@ module _ {R C V : Type 0} (g : Ghosts R) (Q : V → Pairs → Type 0) (old : Des
           stays = record {
             config = r.stays.config ∙ o.stays.config;
             room = r.stays.room ∙ o.stays.room;
+            limit = r.stays.limit ∙ o.stays.limit;
             strict = r.stays.strict
                 ∙ o.stays.strict;
             place = r.stays.place ∙ o.stays.place;

@@ -231,7 +231,7 @@ module _ {R C : Type 0} (g : Ghosts R) (lends : Bool) (all : ℕ) (start now : D
         sound = w.sound;
         err = tt;
         failed = tt;
-        stays = record { config = w.stays.config; room = w.stays.room; strict = w.stays.strict; place = w.stays.place };
+        stays = record { config = w.stays.config; room = w.stays.room; limit = w.stays.limit; strict = w.stays.strict; place = w.stays.place };
       })
 
   -- ---- a message is refused
@@ -311,7 +311,8 @@ module _ {R C : Type 0} (g : Ghosts R) (lends : Bool) (all : ℕ) (start now : D
     heads = subst (λ d. Consumes (left g d) (left g mid) h.ok.bytes) same h.ok.takes
 
     stays_mid : Stays g now mid
-    stays_mid = let s = subst (λ d. Stays g d mid) same h.stays in record { config = s.config; room = s.room; strict = s.strict; place = s.place }
+    stays_mid = let s = subst (λ d. Stays g d mid) same h.stays
+        in record { config = s.config; room = s.room; limit = s.limit; strict = s.strict; place = s.place }
 
     sound_mid : faults_of g mid ≡ faults_of g now
     sound_mid = subst (λ d. faults_of g mid ≡ faults_of g d) same h.sound
@@ -438,7 +439,7 @@ module _ {R C : Type 0} (g : Ghosts R) (lends : Bool) (all : ℕ) (start now : D
         let s = subst (λ d. Stays g d mid) same h.stays in
         let x = subst (λ z. Explains e (faults_of g now) (faults_of g mid) (NoMessage z (left g now))) w.stays.strict
         (subst (λ d. Explains e (faults_of g d) (faults_of g mid) (NoMessage d.strict (left g d))) same (h.err is_ready)) in
-        wants_refused mid e some h.failed (record { config = s.config; room = s.room; strict = s.strict; place = s.place })
+        wants_refused mid e some h.failed (record { config = s.config; room = s.room; limit = s.limit; strict = s.strict; place = s.place })
         (λ o k. refuses_none start.strict (Readable any_tree) room (left g now) (x o k))
 
     pub none_wrong : RefusesRowFirst g (UnpassedFor lends) any_row (room_of start - 1) all start mid e

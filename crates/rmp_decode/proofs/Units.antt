@@ -89,7 +89,7 @@ module _ {R C : Type 0} (g : Ghosts R) (old mid : Deserializer R C) (p : Marker 
     err = λ _. tt;
     failed = tt;
     before = λ f. absurd (let o = h.fresh in cc);
-    stays = record { config = h.stays.config; room = h.stays.room; strict = h.stays.strict; place = h.stays.place };
+    stays = record { config = h.stays.config; room = h.stays.room; limit = h.stays.limit; strict = h.stays.strict; place = h.stays.place };
   })
 
 -- ---- newtype structs

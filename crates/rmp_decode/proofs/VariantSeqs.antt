@@ -31,7 +31,7 @@ module _ {R C : Type 0} (g : Ghosts R) (inner : ℕ) (mid : Deserializer R C) (s
     head = record { bytes = o.head.bytes; takes = o.head.takes; goes_on = o.head.goes_on; is_head = o.head.is_head };
     count = o.count;
     room = o.room;
-    stays = record { config = o.stays.config; room = refl; strict = o.stays.strict; place = o.stays.place };
+    stays = record { config = o.stays.config; room = refl; limit = o.stays.limit; strict = o.stays.strict; place = o.stays.place };
     faults_same = o.faults_same;
     opened = record { sound = o.opened.sound; marked = o.opened.marked; clean = o.opened.clean };
   }
@@ -47,7 +47,7 @@ module _ {R C : Type 0} (g : Ghosts R) (inner : ℕ) (mid : Deserializer R C) (s
     count_same = r.count_same;
     inner = r.inner;
     bytes_same = r.bytes_same;
-    stays = record { config = r.stays.config; room = refl; strict = r.stays.strict; place = r.stays.place };
+    stays = record { config = r.stays.config; room = refl; limit = r.stays.limit; strict = r.stays.strict; place = r.stays.place };
     faults_same = r.faults_same;
     still = record { sound = r.still.sound; marked = r.still.marked; clean = r.still.clean };
   }

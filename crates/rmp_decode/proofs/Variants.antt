@@ -301,7 +301,7 @@ module _ {R C V : Type 0} (g : Ghosts R) (names : List (List ℕ)) (n : ℕ) (ol
         spelled = r.spelled;
         fits = r.fits;
         value = r.value;
-        stays = record { config = l.stays.config; room = refl; strict = l.stays.strict; place = l.stays.place };
+        stays = record { config = l.stays.config; room = refl; limit = l.stays.limit; strict = l.stays.strict; place = l.stays.place };
         faults_same = l.sound;
         clean = l.clean;
         marked = refl;
@@ -310,7 +310,7 @@ module _ {R C V : Type 0} (g : Ghosts R) (names : List (List ℕ)) (n : ℕ) (ol
   pub content_not_by : (rest : Deserializer R C) (e : Error) → v.bare ≡ false → Lawful g reads (part_reader v.de.now v.inner) rest (Err e)
       → last ≡ record rest { room = v.de.now.room } → Lawful g (λ m (u : Unit {0}). OfVariant names (IfAt n (Content (Readable reads))) m) old last (Err e)
   content_not_by rest e b l q = content_refused g names n old v o (record rest { room = v.de.now.room }) last reads e b (record {
-    stays = record { config = l.stays.config; room = refl; strict = l.stays.strict; place = l.stays.place };
+    stays = record { config = l.stays.config; room = refl; limit = l.stays.limit; strict = l.stays.strict; place = l.stays.place };
     failed = l.failed;
     err = λ x k. l.err refl x k;
   }) q
@@ -366,7 +366,7 @@ module _ {R C : Type 0} (g : Ghosts R) (names : List (List ℕ)) (n : ℕ) (old 
         err = λ _. tt;
         failed = tt;
         before = λ f. absurd (let z = o.fresh in cc);
-        stays = record { config = o.stays.config; room = o.stays.room; strict = o.stays.strict; place = o.stays.place };
+        stays = record { config = o.stays.config; room = o.stays.room; limit = o.stays.limit; strict = o.stays.strict; place = o.stays.place };
       })
 
   -- ---- nil as content
@@ -388,7 +388,7 @@ module _ {R C : Type 0} (g : Ghosts R) (names : List (List ℕ)) (n : ℕ) (old 
           spelled = r.spelled;
           fits = omega (arith, ap depth r.value);
           value = r.value;
-          stays = record { config = l.stays.config; room = l.stays.room; strict = l.stays.strict; place = l.stays.place };
+          stays = record { config = l.stays.config; room = l.stays.room; limit = l.stays.limit; strict = l.stays.strict; place = l.stays.place };
           faults_same = l.sound;
           clean = l.clean;
           marked = refl;
@@ -410,7 +410,7 @@ module _ {R C : Type 0} (g : Ghosts R) (names : List (List ℕ)) (n : ℕ) (old 
         lawful_behind g (λ m (u : Unit {0}). OfVariant names (IfAt n (Content (Readable (λ k (u : Unit {0}). k ≡ nil)))) m)
         (λ m (u : Unit {0}). OfVariant names (IfAt n Bare) m) old t.between last e (Map 1) t.head (λ m i h. (tt, pairs m 1 i h.1))
         (content_refused g names n old v o new last (λ k (u : Unit {0}). k ≡ nil) e b (record {
-          stays = record { config = l.stays.config; room = l.stays.room; strict = l.stays.strict; place = l.stays.place };
+          stays = record { config = l.stays.config; room = l.stays.room; limit = l.stays.limit; strict = l.stays.strict; place = l.stays.place };
           failed = l.failed;
           err = λ x k. refuses_leaves v.de.now.strict (Readable (λ k (u : Unit {0}). k ≡ nil)) (max 1 v.inner) (room_of v.de.now) (left g v.de.now) nil_flat
               (omega arith) (l.err refl x k);

@@ -1,5 +1,5 @@
 -- What contracts see of a `Deserializer`.
-use Rattle.std.specs.Prelude.{◌≡◌, ℕ, max, Bool, true, List, [], ◌∷◌, Option, pos}
+use Rattle.std.specs.Prelude.{◌≡◌, ◌-◌, ℕ, max, min, Bool, true, List, [], ◌∷◌, Option, pos}
 use Rattle.std.specs.declared.alloc.Global.{Global}
 use Rattle.std.specs.Io.KnownBytes.{prepend_known}
 use Rattle.rmp_wire.specs.declared.head.Head.TheVariants.{Whole}
@@ -30,8 +30,13 @@ alloc_of d = d.alloc
 abbrev pub is_failed : {R C : Type 0} → Deserializer R C → Bool
 is_failed d = d.failed
 
+-- the limit on nesting, as it was set last
 abbrev pub limit_of : {R C : Type 0} → Deserializer R C → ℕ
-limit_of d = d.room
+limit_of d = d.limit
+
+-- how many levels are left of it
+abbrev pub levels_left : {R C : Type 0} → Deserializer R C → ℕ
+levels_left d = d.room
 
 -- only canonical heads are taken
 abbrev pub is_strict : {R C : Type 0} → Deserializer R C → Bool
@@ -52,16 +57,29 @@ faults_of g d = g.faults d.reader
 abbrev pub room_of : {R C : Type 0} → Deserializer R C → ℕ
 room_of d = max 1 d.room
 
--- the settings, the room, the strictness and the source's own place stay
+-- the settings, the room, the limit, the strictness and the source's own place stay
 pub record Stays {R C : Type 0} (g : Ghosts R) (old new : Deserializer R C) : Type 0 where
   pub config : new.config ≡ old.config
   pub room : new.room ≡ old.room
+  pub limit : new.limit ≡ old.limit
   pub strict : new.strict ≡ old.strict
   pub place : g.place new.reader ≡ g.place old.reader
 
 -- the same, strict or not
 abbrev pub strict_of : {R C : Type 0} → Deserializer R C → Bool → Deserializer R C
 strict_of d s = record d { strict = s }
+
+-- how many lists and maps stand open around what is read next
+abbrev pub levels_open : {R C : Type 0} → Deserializer R C → ℕ
+levels_open d = d.limit - d.room
+
+-- the limit that a depth stands for: from 1 to 65535
+abbrev pub limit_at : ℕ → ℕ
+limit_at depth = max 1 (min depth 65535)
+
+-- The same with that limit, of which what stands open is taken. Where more levels stand open than that, they are the limit.
+abbrev pub limited : {R C : Type 0} → Deserializer R C → ℕ → Deserializer R C
+limited d depth = record d { limit = max (limit_at depth) (levels_open d); room = limit_at depth - levels_open d }
 
 -- the same, failed for good
 abbrev pub failed_of : {R C : Type 0} → Deserializer R C → Deserializer R C

@@ -29,7 +29,7 @@ pub record PartGiven {F R C X : Type 0} (once : Reading F R C X) (f : F) (inner 
   pub rest : Deserializer R C
   pub called : FnOnceReturnsAtMut once f (part_reader old inner) gave rest
   pub answers : MatchResult gave (λ x. result ≡ (if rest.failed then Err (Uncategorized FailedBefore) else Ok x)) (λ e. result ≡ Err e)
-  pub keeps : new ≡ record rest { room = old.room; failed = true }
+  pub keeps : new ≡ record rest { room = old.room; limit = old.limit; failed = true }
 
 -- ---- elements
 

@@ -1,9 +1,11 @@
 //! The reader of messages: its settings, its state, and the heads that it takes.
 ghost use Rattle.std.specs.Prelude.{◌≡◌, ◌<◌, ◌≤◌, false};
-ghost use Rattle.rmp_decode.specs.State.{room_of, reader_of, alloc_of, config_of, is_failed, kept_of, limit_of, failed_of, is_strict, strict_of};
+ghost use Rattle.rmp_decode.specs.State.{room_of, reader_of, alloc_of, config_of, is_failed, kept_of, levels_left, limit_at, limit_of, limited, failed_of, is_strict, strict_of};
 ghost use Rattle.rmp_decode.specs.Law.{ReadsHead};
 ghost use Rattle.rmp_decode.specs.declared.deserializer.Kept.TheVariants.{Nothing};
 
+#[cfg(test)]
+mod depth_tests;
 mod fronts;
 mod heads;
 pub(crate) mod kinds;
@@ -20,6 +22,9 @@ use std::alloc::Global;
 
 /// How deep lists and maps may nest by default: a message is read whose depth is below it.
 const DEFAULT_DEPTH: u32 = 1024;
+
+/// The greatest limit that may be set.
+const MAX_DEPTH: usize = 65535;
 
 /// What a reader keeps back.
 #[derive(Clone, Copy, Debug)]
@@ -42,6 +47,7 @@ pub struct Deserializer<R, C = DefaultConfig> {
     pub(crate) alloc: Global,
     pub(crate) kept: Kept,
     pub(crate) room: u32,
+    pub(crate) limit: u32,
     pub(crate) failed: bool,
     pub(crate) strict: bool,
 }
@@ -56,6 +62,7 @@ impl<'de> Deserializer<ReadRefReader<'de>, DefaultConfig> {
         ensures alloc { alloc_of result ≡ alloc }
         ensures kept { kept_of result ≡ Nothing }
         ensures room { room_of result ≡ 1024 }
+        ensures limit { limit_of result ≡ 1024 }
         ensures ready { is_failed result ≡ false }
         ensures lenient { is_strict result ≡ false }
     {
@@ -65,6 +72,7 @@ impl<'de> Deserializer<ReadRefReader<'de>, DefaultConfig> {
             alloc,
             kept: Kept::Nothing,
             room: DEFAULT_DEPTH,
+            limit: DEFAULT_DEPTH,
             failed: false,
             strict: false,
         }
@@ -111,6 +119,20 @@ impl<R, C> Deserializer<R, C> {
         self.strict = strict;
     }
 
+    /// Sets how deep lists and maps may nest: a message is read whose depth is below the limit. At first it is 1024; it is at most
+    /// 65535, and 0 acts as 1.
+    ///
+    /// Inside of a list or a map it is the limit of the whole message, of which the levels that stand open are taken; it holds
+    /// until the part ends that is being read, and the parts behind it have the limit from before.
+    pub fn set_max_depth(&mut self, depth: usize)
+        ensures { self.new ≡ limited self.old depth }
+    {
+        let open = self.limit.saturating_sub(self.room);
+        let limit = limit_at(depth);
+        self.limit = limit.max(open);
+        self.room = limit.saturating_sub(open);
+    }
+
     /// Fails this for good, and answers the error: what a type does that refuses what it has read.
     pub fn refuse(&mut self, error: Error) -> Error
         ensures same { result ≡ error }
@@ -131,7 +153,8 @@ impl<R, C: SerializerConfig> Deserializer<R, C> {
         ensures alloc { alloc_of result ≡ alloc_of self }
         ensures kept { kept_of result ≡ kept_of self }
         ensures failed { is_failed result ≡ is_failed self }
-        ensures room { limit_of result ≡ limit_of self }
+        ensures room { levels_left result ≡ levels_left self }
+        ensures limit { limit_of result ≡ limit_of self }
         ensures strict { is_strict result ≡ is_strict self }
     {
         Deserializer {
@@ -140,6 +163,7 @@ impl<R, C: SerializerConfig> Deserializer<R, C> {
             alloc: self.alloc,
             kept: self.kept,
             room: self.room,
+            limit: self.limit,
             failed: self.failed,
             strict: self.strict,
         }
@@ -152,7 +176,8 @@ impl<R, C: SerializerConfig> Deserializer<R, C> {
         ensures alloc { alloc_of result ≡ alloc_of self }
         ensures kept { kept_of result ≡ kept_of self }
         ensures failed { is_failed result ≡ is_failed self }
-        ensures room { limit_of result ≡ limit_of self }
+        ensures room { levels_left result ≡ levels_left self }
+        ensures limit { limit_of result ≡ limit_of self }
         ensures strict { is_strict result ≡ is_strict self }
     {
         Deserializer {
@@ -161,6 +186,7 @@ impl<R, C: SerializerConfig> Deserializer<R, C> {
             alloc: self.alloc,
             kept: self.kept,
             room: self.room,
+            limit: self.limit,
             failed: self.failed,
             strict: self.strict,
         }
@@ -216,4 +242,11 @@ fn number_marker(n: u8) -> Marker
     } else {
         Marker::U8
     }
+}
+
+// The limit that a depth stands for.
+fn limit_at(depth: usize) -> u32
+    ensures { result ≡ limit_at depth }
+{
+    depth.clamp(1, MAX_DEPTH) as u32
 }

@@ -47,11 +47,13 @@ impl<R: Source, C: SerializerConfig> Deserializer<R, C> {
         ensures { PartGiven F.FnOnce f inner self.old self.new result }
     {
         let outer = self.room;
+        let limit = self.limit;
         self.room = inner;
         self.failed = false;
         let given = f(self);
         let failed = self.failed;
         self.room = outer;
+        self.limit = limit;
         self.failed = true;
         let part = match given {
             Ok(part) => part,

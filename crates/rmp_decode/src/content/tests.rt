@@ -62,6 +62,7 @@ fn read_by_copying(rt: HostRuntime, input: &[u8]) -> Deserializer<Copying<'_>, D
         alloc: rt.alloc(),
         kept: Kept::Nothing,
         room: 8,
+        limit: 8,
         failed: false,
         strict: false,
     }

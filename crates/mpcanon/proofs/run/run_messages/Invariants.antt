@@ -1,7 +1,7 @@
 -- Each message takes bytes of the line. The reader stands ready behind those that were read.
 use Rattle.std.proofs.Common.{◌≡◌, false, length}
 use Rattle.rmp_wire.specs.RefReader.{rest_of}
-use Rattle.rmp_decode.specs.State.{reader_of, kept_of, limit_of, is_failed, is_strict}
+use Rattle.rmp_decode.specs.State.{reader_of, kept_of, levels_left, is_failed, is_strict}
 use Rattle.rmp_decode.specs.declared.deserializer.Kept.TheVariants.{Nothing}
 use Rattle.mpcanon.specs.Output.{PutsLines}
 use Rattle.mpcanon.proofs.Shown.{SoFar}
@@ -14,7 +14,7 @@ abbrev pub invariant-loop-de : goal.invariant-loop-de
 invariant-loop-de g l = record {
   read : SoFar g.W.Sink l.fn.bytes (rest_of (reader_of l.de)) l.fn.sink l.sink;
   kept : kept_of l.de ≡ Nothing;
-  room : limit_of l.de ≡ 1024;
+  room : levels_left l.de ≡ 1024;
   lenient : is_strict l.de ≡ false;
   ready : is_failed l.de ≡ false;
   lines : PutsLines g.W.Sink l.fn.sink l.sink;

@@ -5,6 +5,6 @@ use Rattle.rmp_decode.proofs.deserializer.Deserializer.canonical_unsigned_front.
 
 pub returns-then-skip-clause-taken : goal.returns-then-skip-clause-taken
 returns-then-skip-clause-taken g c =
-    front_taken g.R.Source _ _ c.in-Some.len _ _ (search rules) (search rules) refl (search rules) refl refl refl c.front.ensures.bytes
+    front_taken g.R.Source _ _ c.in-Some.len _ _ (search rules) (search rules) refl (search rules) refl refl refl refl c.front.ensures.bytes
     (canonical_stands c.args.self.now.strict _ _ _ (search rules) (c.in-Some.ensures.canonical (search rules))) (c.skip.ensures.bytes c.if-skip.true)
     (c.skip.ensures.sound c.if-skip.true) (c.skip.ensures.place c.if-skip.true)

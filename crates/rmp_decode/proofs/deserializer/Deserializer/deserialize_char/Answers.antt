@@ -13,14 +13,14 @@ returns-in-Ok-next_char-clause-law g c =
     let o = c.in-Ok-next_char.ensures.ok in
     content_read text_content g.R.Source _ c.args.self.now c.head.new.self _ (c.in-Ok.field-0-0, c.in-Ok.head) c.in-Ok.ensures
     (encode_utf8 c.in-Ok-next_char.c) c.in-Some.len _ c.in-Some.ensures o.1 o.2 o.3 refl refl c.in-Ok-next_char.ensures.sound
-    (record { config = refl; room = refl; strict = refl; place = c.in-Ok-next_char.ensures.place }) (refl, o.0)
+    (record { config = refl; room = refl; limit = refl; strict = refl; place = c.in-Ok-next_char.ensures.place }) (refl, o.0)
 
 pub returns-in-Err-next_char-clause-law : goal.returns-in-Err-next_char-clause-law
 returns-in-Err-next_char-clause-law g c =
     content_refused text_content g.R.Source _ c.args.self.now c.head.new.self _ (c.in-Ok.field-0-0, c.in-Ok.head) c.in-Ok.ensures c.in-Some.len _
     c.in-Some.ensures (λ m r. (encode_utf8 r.0, r.1.0))
     (λ n k. no_char _ _ (c.in-Err-next_char.ensures.err n k)) c.in-Ok.ensures.failed
-    (record { config = refl; room = refl; strict = refl; place = c.in-Err-next_char.ensures.place })
+    (record { config = refl; room = refl; limit = refl; strict = refl; place = c.in-Err-next_char.ensures.place })
 
 pub returns-in-None-clause-law : goal.returns-in-None-clause-law
 returns-in-None-clause-law g c = content_missed text_content g.R.Source _ c.args.self.now c.head.new.self _ (c.in-Ok.field-0-0, c.in-Ok.head)

@@ -14,13 +14,13 @@ returns-in-Ok-owned-clause-law g c =
     let tag : tag_of c.new.result ≡ c.in-Some.tag = search rules in
     content_read (ext_content c.in-Some.tag) g.R.Source _ c.args.self.now c.head.new.self _ (c.in-Ok.marker, c.in-Ok.head) c.in-Ok.ensures
     c.in-Ok-owned.bytes.items c.in-Some.len _ c.in-Some.ensures o.0 o.1 o.2 refl refl c.in-Ok-owned.ensures.sound
-    (record { config = refl; room = refl; strict = refl; place = c.in-Ok-owned.ensures.place }) (rw (tag, c.new.ensures.bytes) refl)
+    (record { config = refl; room = refl; limit = refl; strict = refl; place = c.in-Ok-owned.ensures.place }) (rw (tag, c.new.ensures.bytes) refl)
 
 pub returns-in-Err-owned-clause-law : goal.returns-in-Err-owned-clause-law
 returns-in-Err-owned-clause-law g c =
     content_short (ext_content c.in-Some.tag) g.R.Source _ c.args.self.now c.head.new.self _ (c.in-Ok.marker, c.in-Ok.head) c.in-Ok.ensures c.in-Some.len _
     c.in-Some.ensures c.in-Err-owned.ensures.err c.in-Ok.ensures.failed
-    (record { config = refl; room = refl; strict = refl; place = c.in-Err-owned.ensures.place })
+    (record { config = refl; room = refl; limit = refl; strict = refl; place = c.in-Err-owned.ensures.place })
 
 pub returns-in-None-clause-law : goal.returns-in-None-clause-law
 returns-in-None-clause-law g c = refused_head g.R.Source _ c.args.self.now _ (c.in-Ok.marker, c.in-Ok.head) _ c.in-Ok.ensures

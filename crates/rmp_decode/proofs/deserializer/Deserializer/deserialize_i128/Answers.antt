@@ -21,13 +21,13 @@ returns-in-Ok-next_sixteen-clause-law g c =
     rw (to_z-of_z w128 c.cast_signed.result (search rules))
     (content_read bin_content g.R.Source _ c.args.self.now c.head.new.self _ c.in-Ok.next c.in-Ok.ensures t.bytes 16 _
     (c.is_sixteen.ensures.yes (search rules)) t.long t.small t.takes refl refl c.in-Ok-next_sixteen.ensures.sound
-    (record { config = refl; room = refl; strict = refl; place = c.in-Ok-next_sixteen.ensures.place })
+    (record { config = refl; room = refl; limit = refl; strict = refl; place = c.in-Ok-next_sixteen.ensures.place })
     (inr (c.in-Ok-next_sixteen.n, taken_sixteen t, c.cast_signed.ensures)))
 
 pub returns-in-Err-next_sixteen-clause-law : goal.returns-in-Err-next_sixteen-clause-law
 returns-in-Err-next_sixteen-clause-law g c = content_short bin_content g.R.Source _ c.args.self.now c.head.new.self _ c.in-Ok.next c.in-Ok.ensures 16 _
     (c.is_sixteen.ensures.yes (search rules)) c.in-Err-next_sixteen.ensures.err c.in-Ok.ensures.failed
-    (record { config = refl; room = refl; strict = refl; place = c.in-Err-next_sixteen.ensures.place })
+    (record { config = refl; room = refl; limit = refl; strict = refl; place = c.in-Err-next_sixteen.ensures.place })
 
 pub returns-in-Err-next_sixteen-clause-exact : goal.returns-in-Err-next_sixteen-clause-exact
 returns-in-Err-next_sixteen-clause-exact g c = λ _.

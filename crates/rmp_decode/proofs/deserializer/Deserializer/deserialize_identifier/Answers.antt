@@ -18,7 +18,7 @@ returns-in-Ok-next_place-clause-law g c =
     let o = c.in-Ok-next_place.ensures.ok in
     content_read (raw_content k.field-0-0) g.R.Source _ c.args.self.now c.head.new.self _ (c.in-Ok.field-0-0, c.in-Ok.head) c.in-Ok.ensures o.0 k.len _
     k.ensures o.1 o.2 o.3 refl refl c.in-Ok-next_place.ensures.sound
-    (record { config = refl; room = refl; strict = refl; place = c.in-Ok-next_place.ensures.place })
+    (record { config = refl; room = refl; limit = refl; strict = refl; place = c.in-Ok-next_place.ensures.place })
     (name_of_raw (bytes_of c.args.names.now) k.field-0-0 o.0 ∙ ap (λ (z : Option ℕ). Some z) (sym o.4))
 
 pub returns-in-Err-next_place-clause-law : goal.returns-in-Err-next_place-clause-law
@@ -26,7 +26,7 @@ returns-in-Err-next_place-clause-law g c =
     let k = c.in-Some in
     content_short (raw_content k.field-0-0) g.R.Source _ c.args.self.now c.head.new.self _ (c.in-Ok.field-0-0, c.in-Ok.head) c.in-Ok.ensures k.len _
     k.ensures c.in-Err-next_place.ensures.err c.in-Ok.ensures.failed
-    (record { config = refl; room = refl; strict = refl; place = c.in-Err-next_place.ensures.place })
+    (record { config = refl; room = refl; limit = refl; strict = refl; place = c.in-Err-next_place.ensures.place })
 
 pub returns-in-None-whole_in-clause-law : goal.returns-in-None-whole_in-clause-law
 returns-in-None-whole_in-clause-law g c = refused_head g.R.Source _ c.args.self.now _ (c.in-Ok.field-0-0, c.in-Ok.head) _ c.in-Ok.ensures

@@ -12,13 +12,13 @@ returns-in-Ok-lent_content-clause-law g c =
     let o = c.in-Ok-lent_content.ensures.ok in
     content_read (raw_content c.in-Some.is_text) g.R.Source _ c.args.self.now c.head.new.self _ (c.in-Ok.field-0-0, c.in-Ok.head) c.in-Ok.ensures
     c.in-Ok-lent_content.bytes.now c.in-Some.len _ c.in-Some.ensures o.0 o.1 o.2 refl refl c.in-Ok-lent_content.ensures.sound
-    (record { config = refl; room = refl; strict = refl; place = c.in-Ok-lent_content.ensures.place }) (c.in-Ok-lent_content.ensures.lends, refl)
+    (record { config = refl; room = refl; limit = refl; strict = refl; place = c.in-Ok-lent_content.ensures.place }) (c.in-Ok-lent_content.ensures.lends, refl)
 
 pub returns-in-Err-lent_content-clause-law : goal.returns-in-Err-lent_content-clause-law
 returns-in-Err-lent_content-clause-law g c =
     content_lent (raw_content c.in-Some.is_text) g.R.Source _ c.args.self.now c.head.new.self _ (c.in-Ok.field-0-0, c.in-Ok.head) c.in-Ok.ensures
     g.R.ReadSlice.lends c.in-Some.len _ c.in-Some.ensures (λ m r. r.1.0) c.in-Err-lent_content.ensures.err c.in-Ok.ensures.failed
-    (record { config = refl; room = refl; strict = refl; place = c.in-Err-lent_content.ensures.place })
+    (record { config = refl; room = refl; limit = refl; strict = refl; place = c.in-Err-lent_content.ensures.place })
 
 pub returns-in-None-clause-law : goal.returns-in-None-clause-law
 returns-in-None-clause-law g c =

@@ -17,12 +17,13 @@ returns-in-Ok-clause-law g c = λ old m h.
     let k = c.in-Some in
     let o = c.in-Ok.ensures.ok in
     content_read (raw_content k.is_text) g.R.Source _ old c.args.self.now _ (m, c.args.head) h o.bytes k.len _ k.ensures o.long o.are_bytes o.taken refl
-    refl c.in-Ok.ensures.sound (record { config = refl; room = refl; strict = refl; place = c.in-Ok.ensures.place })
+    refl c.in-Ok.ensures.sound (record { config = refl; room = refl; limit = refl; strict = refl; place = c.in-Ok.ensures.place })
     (name_of_raw (bytes_of c.args.names.now) k.is_text o.bytes ∙ ap (λ (z : Option ℕ). Some z) o.place)
 
 pub returns-in-Err-clause-law : goal.returns-in-Err-clause-law
 returns-in-Err-clause-law g c = λ old m h. name_refused g.R.Source (bytes_of c.args.names.now) old c.args.self.now (m, c.args.head) h c.in-Some.is_text
-    c.in-Some.len _ _ c.in-Some.ensures c.in-Err.ensures.err h.failed (record { config = refl; room = refl; strict = refl; place = c.in-Err.ensures.place })
+    c.in-Some.len _ _ c.in-Some.ensures c.in-Err.ensures.err h.failed
+        (record { config = refl; room = refl; limit = refl; strict = refl; place = c.in-Err.ensures.place })
 
 pub returns-in-Err-clause-exact : goal.returns-in-Err-clause-exact
 returns-in-Err-clause-exact g c = λ old m h.

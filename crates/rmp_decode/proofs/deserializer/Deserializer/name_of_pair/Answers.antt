@@ -18,7 +18,7 @@ returns-in-Ok-clause-ok g c =
       spelled = r.spelled;
       fits = omega (arith, name_flat (bytes_of c.args.names.now) r.tree (c.in-Ok.place, r.value));
       value = r.value;
-      stays = record { config = l.stays.config; room = l.stays.room; strict = l.stays.strict; place = l.stays.place };
+      stays = record { config = l.stays.config; room = l.stays.room; limit = l.stays.limit; strict = l.stays.strict; place = l.stays.place };
       faults_same = l.sound;
       clean = l.clean;
       marked = refl;
@@ -28,7 +28,7 @@ pub returns-in-Err-clause-err : goal.returns-in-Err-clause-err
 returns-in-Err-clause-err g c =
     let l = c.in-Err.ensures.law in
     record {
-      stays = record { config = l.stays.config; room = l.stays.room; strict = l.stays.strict; place = l.stays.place };
+      stays = record { config = l.stays.config; room = l.stays.room; limit = l.stays.limit; strict = l.stays.strict; place = l.stays.place };
       failed = l.failed;
       err = λ n k. refuses_leaves c.args.self.now.strict (Readable (IsPlace (bytes_of c.args.names.now))) (max 1 (c.args.self.now.room - 1))
           (room_of c.args.self.now) (left g.R.Source c.args.self.now) (name_flat (bytes_of c.args.names.now)) (omega arith) (l.err refl n k);

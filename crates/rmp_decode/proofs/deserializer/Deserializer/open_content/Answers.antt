@@ -12,7 +12,7 @@ pub returns-in-Err-clause-err : goal.returns-in-Err-clause-err
 returns-in-Err-clause-err g c =
     let f = c.in-Err.ensures.err in
     record {
-      stays = record { config = f.stays.config; room = refl; strict = f.stays.strict; place = f.stays.place };
+      stays = record { config = f.stays.config; room = refl; limit = f.stays.limit; strict = f.stays.strict; place = f.stays.place };
       failed = f.failed;
       err = λ n k. refuses_narrower (SpellsAs c.args.self.now.strict) IsSeq (Readable (λ m (u : Unit {0}). IsSeq m)) _ _ (λ m r. r.1) (f.err refl n k);
     }

@@ -12,13 +12,13 @@ returns-in-Ok-owned-clause-law g c =
     let o = c.in-Ok-owned.ensures.ok in
     content_read (raw_content c.in-Some.is_text) g.R.Source _ c.args.self.now c.head.new.self _ (c.in-Ok.field-0-0, c.in-Ok.head) c.in-Ok.ensures
     c.in-Ok-owned.bytes.items c.in-Some.len _ c.in-Some.ensures o.0 o.1 o.2 refl refl c.in-Ok-owned.ensures.sound
-    (record { config = refl; room = refl; strict = refl; place = c.in-Ok-owned.ensures.place }) refl
+    (record { config = refl; room = refl; limit = refl; strict = refl; place = c.in-Ok-owned.ensures.place }) refl
 
 pub returns-in-Err-owned-clause-law : goal.returns-in-Err-owned-clause-law
 returns-in-Err-owned-clause-law g c =
     content_short (raw_content c.in-Some.is_text) g.R.Source _ c.args.self.now c.head.new.self _ (c.in-Ok.field-0-0, c.in-Ok.head) c.in-Ok.ensures
     c.in-Some.len _ c.in-Some.ensures c.in-Err-owned.ensures.err c.in-Ok.ensures.failed
-    (record { config = refl; room = refl; strict = refl; place = c.in-Err-owned.ensures.place })
+    (record { config = refl; room = refl; limit = refl; strict = refl; place = c.in-Err-owned.ensures.place })
 
 pub returns-in-None-clause-law : goal.returns-in-None-clause-law
 returns-in-None-clause-law g c = refused_head g.R.Source _ c.args.self.now _ (c.in-Ok.field-0-0, c.in-Ok.head) _ c.in-Ok.ensures

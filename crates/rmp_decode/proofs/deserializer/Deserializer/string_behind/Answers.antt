@@ -11,7 +11,8 @@ use Rattle.rmp_decode.proofs.deserializer.Deserializer.string_behind.Goals as go
 pub returns-clause-law : goal.returns-clause-law
 returns-clause-law g c = λ old m h.
     content_read text_content g.R.Source _ old c.args.self.now _ (m, _) h (string_bytes c.in-Ok-from_str.text) c.args.len _ refl (search rules)
-    (search rules) (search rules) refl refl (search rules) (record { config = refl; room = refl; strict = refl; place = search rules }) (true, refl)
+    (search rules) (search rules) refl refl (search rules) (record { config = refl; room = refl; limit = refl; strict = refl; place = search rules })
+        (true, refl)
 
 pub returns-in-Err-from_str-clause-exact : goal.returns-in-Err-from_str-clause-exact
 returns-in-Err-from_str-clause-exact g c = λ old m h.
@@ -23,7 +24,7 @@ returns-in-Err-from_utf8-clause-law g c = λ old m h.
     string_refused g.R.Source old c.args.self.now _ m c.args.len _ h
     (λ n k. no_text _ (g.R.Source.ahead c.args.self.now.reader) (g.R.Source.ahead c.read_slice.follows.lender-at-none) c.as_bytes.result.now (search rules)
     (search rules) c.in-Err-from_utf8.ensures.cases.0)
-    h.failed (record { config = refl; room = refl; strict = refl; place = search rules })
+    h.failed (record { config = refl; room = refl; limit = refl; strict = refl; place = search rules })
 
 pub returns-in-Err-from_utf8-clause-exact : goal.returns-in-Err-from_utf8-clause-exact
 returns-in-Err-from_utf8-clause-exact g c = λ old m h.
@@ -37,7 +38,7 @@ returns-in-Err-clause-law g c = λ old m h.
     string_refused g.R.Source old c.args.self.now _ m c.args.len _ h
     (text_blamed c.args.len c.in-Err.e _ _ (g.R.Source.ahead c.args.self.now.reader) _ (rw c.in-Err.is at c.read_slice.follows.holds-at-none).0
     c.error_of.ensures)
-    h.failed (record { config = refl; room = refl; strict = refl; place = search rules })
+    h.failed (record { config = refl; room = refl; limit = refl; strict = refl; place = search rules })
 
 pub returns-in-Err-clause-exact : goal.returns-in-Err-clause-exact
 returns-in-Err-clause-exact g c = λ old m h.

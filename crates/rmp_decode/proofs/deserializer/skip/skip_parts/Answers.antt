@@ -75,7 +75,7 @@ parts-preserved g c =
     wants_leaf g.R.Source g.P.ReadContent.lends c.args.count c.args.de.now c.parts.de c.parts.room c.parts.wanted c.parts.outer.items c.parts.invariant _
     c.any_head.new.self refl (omega (arith, c.if-wanted-eq0.false)) _ c.in-Ok.ensures.ok.begun _ _ refl c.in-None-parts_in.ensures
     (subst (λ z. Passes z (g.R.Source.ahead c.any_head.new.self.reader) (g.R.Source.ahead c.pass.new.reader)) c.content_in.ensures o.ok) refl refl
-    o.sound (record { config = refl; room = refl; strict = refl; place = o.place })
+    o.sound (record { config = refl; room = refl; limit = refl; strict = refl; place = o.place })
 
 pub returns-in-Err-pass-clause-law : goal.returns-in-Err-pass-clause-law
 returns-in-Err-pass-clause-law g c =
@@ -83,7 +83,7 @@ returns-in-Err-pass-clause-law g c =
     leaf_refused g.R.Source g.P.ReadContent.lends c.args.count c.args.de.now c.parts.de c.parts.room c.parts.wanted c.parts.outer.items c.parts.invariant _
     c.any_head.new.self refl (omega (arith, c.if-wanted-eq0.false)) _ c.in-Ok.ensures.ok.begun _ c.in-Err-pass.e
     (λ n k. subst (λ z. IsShort z (g.R.Source.ahead c.any_head.new.self.reader)) c.content_in.ensures (o.err n k)) refl
-    (record { config = refl; room = refl; strict = refl; place = o.place })
+    (record { config = refl; room = refl; limit = refl; strict = refl; place = o.place })
 
 pub returns-in-Err-pass-clause-exact : goal.returns-in-Err-pass-clause-exact
 returns-in-Err-pass-clause-exact g c = λ _.

@@ -11,7 +11,7 @@ returns-clause-err g c = elim c.match-take.branch [
   | in-Ok+in-Ok-from_utf8 w ↦ rw w.result-is tt
   | in-Ok+in-Err-from_utf8 w ↦ rw (w.result-is, w.de-is) (record {
     failed = refl;
-    stays = record { config = refl; room = refl; strict = refl; place = w.in-Ok.ensures.place };
+    stays = record { config = refl; room = refl; limit = refl; strict = refl; place = w.in-Ok.ensures.place };
     err = λ n k. let o = w.in-Ok.ensures.ok in no_text c.args.self.len _ _ w.in-Ok.bytes.items o.2 o.0 (λ u. let no = w.in-Err-from_utf8.ensures.succeeds u
         in absurd (cc));
     exact = λ n k. let o = w.in-Ok.ensures.ok in piece_whole c.args.self.len (not_string (Text c.args.self.len)) _ _ w.in-Ok.bytes.items _ o.2 o.0
@@ -19,7 +19,7 @@ returns-clause-err g c = elim c.match-take.branch [
   })
   | in-Err w ↦ rw (w.result-is, w.de-is) (record {
     failed = refl;
-    stays = record { config = refl; room = refl; strict = refl; place = w.in-Err.ensures.place };
+    stays = record { config = refl; room = refl; limit = refl; strict = refl; place = w.in-Err.ensures.place };
     err = λ n k. short_text c.args.self.len _ (w.in-Err.ensures.err n k);
     exact = λ n k. piece_cut c.args.self.len (not_string (Text c.args.self.len)) _ _ (w.in-Err.ensures.err n k) (w.in-Err.ensures.end n k);
   })
