@@ -7,7 +7,7 @@ ghost use Rattle.rmp_wire.specs.contracts.slice.copying.ReadReader.{the_row as r
 ghost use Rattle.rmp_decode.specs.contracts.deserializer.Deserializer.{the_row};
 ghost use Rattle.rmp_decode.specs.Law.{Begins};
 ghost use Rattle.rmp_decode.specs.Readers.{source_of, reading_with, source_setting, TakenFrom, RefusedFrom};
-ghost use Rattle.rmp_decode.specs.State.{room_of, alloc_of, is_failed, kept_of, is_strict};
+ghost use Rattle.rmp_decode.specs.State.{room_of, limit_of, alloc_of, is_failed, kept_of, is_strict};
 ghost use Rattle.rmp_decode.specs.declared.deserializer.Kept.TheVariants.{Nothing};
 
 use crate::de::Deserialize;
@@ -25,6 +25,7 @@ impl<R> Deserializer<ReadReader<R>, DefaultConfig> {
         ensures alloc { alloc_of result ≡ alloc }
         ensures kept { kept_of result ≡ Nothing }
         ensures room { room_of result ≡ 1024 }
+        ensures limit { limit_of result ≡ 1024 }
         ensures ready { is_failed result ≡ false }
         ensures lenient { is_strict result ≡ false }
     {
@@ -34,6 +35,7 @@ impl<R> Deserializer<ReadReader<R>, DefaultConfig> {
             alloc,
             kept: Kept::Nothing,
             room: DEFAULT_DEPTH,
+            limit: DEFAULT_DEPTH,
             failed: false,
             strict: false,
         }
