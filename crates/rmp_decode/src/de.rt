@@ -101,8 +101,8 @@ pub fn from_slice_strict<'de, T: Deserialize<'de, ReadRefReader<'de>>>(
     ensures refused { IfErr result (T.refuses (slice_setting true) 0 0 (Some input.now)) }
     ensures memory { T.takes_memory true ≡ false → IfErr result (λ e. e ≢ Error.OutOfMemory) }
 {
-    // The settings say the same as the default ones, by another type: so strict reads are compiled apart from the lenient ones, and
-    // where all of it is inlined neither asks which it is.
+    // The settings say the same as the default ones, by another type: so strict reads are compiled apart from lenient ones, and a
+    // list's loop is inlined into both.
     let mut de = Deserializer::from_read_ref(alloc, input).with_binary();
     de.set_strict(true);
     T::deserialize(&mut de)
