@@ -36,7 +36,7 @@ use Rattle.std.proofs.Common.{
 use Rattle.std.proofs.lemmas.Int.{ints, to_z-of_z}
 use Rattle.std.proofs.lemmas.Nat.{be_bytes_2, be_bytes_4, be_bytes_8}
 use Rattle.std.specs.Int.{Width, w8, w16, w32, w64, w128, to_be_bytes, cast_signed}
-use Rattle.std.specs.Prelude.{FitsSigned, ℤ, negsuc}
+use Rattle.std.specs.Prelude.{FitsSigned, ℤ, negsuc, ◌<ℤ◌}
 use mir.Val.{bits, to_z, of_z}
 use Rattle.rmp_wire.proofs.Taken.{signed_made, signed_head, fits_signed}
 use Rattle.rmp_wire.proofs.HeadReads.{widened, fits_unsigned}
@@ -415,6 +415,97 @@ opens_text_8 b n e l k =
     let no : nat_lt n 32 ≡ false = le-ltb n 32 l in
     let yes : nat_lt n 256 ≡ true = lt-ltb n 256 k in
     rw (no, yes) e
+
+-- and of a truth, of the bits of a float
+pub opens_false : (b : ℕ) → b ≡ 0xc2 → Opens b (canon_head (Truth false))
+unfolding canon_head
+opens_false b e = e
+
+pub opens_true : (b : ℕ) → b ≡ 0xc3 → Opens b (canon_head (Truth true))
+unfolding canon_head
+opens_true b e = e
+
+pub opens_f32 : (b n : ℕ) → b ≡ 0xca → Opens b (canon_head (F32Bits n))
+unfolding canon_head
+opens_f32 b n e = e
+
+pub opens_f64 : (b n : ℕ) → b ≡ 0xcb → Opens b (canon_head (F64Bits n))
+unfolding canon_head
+opens_f64 b n e = e
+
+-- and of a number below zero
+opens_below_0 : (b : ℕ) (z : ℤ) → 0xe0 ≤ b → b < 256 → z ≡ cast_signed w8 b → Opens b (canon_head (Whole z))
+unfolding canon_head
+opens_below_0 b z l h e =
+    let yes : nat_lt (0xff - b) 32 ≡ true = lt-ltb (0xff - b) 32 (omega arith) in
+    rw (e ∙ negative_byte b l h, yes) (omega arith)
+
+opens_below_32 : (b : ℕ) (z : ℤ) → b ≡ 0xd0 → z <ℤ negsuc 31 → FitsSigned w8 z → Opens b (canon_head (Whole z))
+unfolding canon_head
+opens_below_32 b (pos n) e l f = absurd (omega (arith, ints))
+opens_below_32 b (negsuc n) e l f =
+    let no : nat_lt n 32 ≡ false = le-ltb n 32 (omega (arith, ints)) in
+    let yes : nat_lt n 128 ≡ true = lt-ltb n 128 (omega (arith, ints)) in
+    rw (no, yes) e
+
+opens_below_128 : (b : ℕ) (z : ℤ) → b ≡ 0xd1 → z <ℤ negsuc 127 → FitsSigned w16 z → Opens b (canon_head (Whole z))
+unfolding canon_head
+opens_below_128 b (pos n) e l f = absurd (omega (arith, ints))
+opens_below_128 b (negsuc n) e l f =
+    let small : nat_lt n 32 ≡ false = le-ltb n 32 (omega (arith, ints)) in
+    let no : nat_lt n 128 ≡ false = le-ltb n 128 (omega (arith, ints)) in
+    let yes : nat_lt n 32768 ≡ true = lt-ltb n 32768 (omega (arith, ints)) in
+    rw (small, no, yes) e
+
+opens_below_2_15 : (b : ℕ) (z : ℤ) → b ≡ 0xd2 → z <ℤ negsuc 32767 → FitsSigned w32 z → Opens b (canon_head (Whole z))
+unfolding canon_head
+opens_below_2_15 b (pos n) e l f = absurd (omega (arith, ints))
+opens_below_2_15 b (negsuc n) e l f =
+    let small : nat_lt n 32 ≡ false = le-ltb n 32 (omega (arith, ints)) in
+    let low : nat_lt n 128 ≡ false = le-ltb n 128 (omega (arith, ints)) in
+    let no : nat_lt n 32768 ≡ false = le-ltb n 32768 (omega (arith, ints)) in
+    let yes : nat_lt n 2147483648 ≡ true = lt-ltb n 2147483648 (omega (arith, ints)) in
+    rw (small, low, no, yes) e
+
+opens_below_2_31 : (b : ℕ) (z : ℤ) → b ≡ 0xd3 → z <ℤ negsuc 2147483647 → Opens b (canon_head (Whole z))
+unfolding canon_head
+opens_below_2_31 b (pos n) e l = absurd (omega (arith, ints))
+opens_below_2_31 b (negsuc n) e l =
+    let small : nat_lt n 32 ≡ false = le-ltb n 32 (omega (arith, ints)) in
+    let low : nat_lt n 128 ≡ false = le-ltb n 128 (omega (arith, ints)) in
+    let middle : nat_lt n 32768 ≡ false = le-ltb n 32768 (omega (arith, ints)) in
+    let no : nat_lt n 2147483648 ≡ false = le-ltb n 2147483648 (omega (arith, ints)) in
+    rw (small, low, middle, no) e
+
+-- the number of a head in a format with a sign, as code stores it
+stored_is : (w : Width) (v u : ℤ) (n : ℕ) → v ≡ to_z w (of_z w u) → u ≡ to_z w n → FitsSigned w (cast_signed w n) → FitsSigned w64 (cast_signed w n)
+    → to_z w64 (of_z w64 v) ≡ cast_signed w n
+stored_is w v u n c d f g = ap (λ t. to_z w64 (of_z w64 t)) (widened w v u n c d f) ∙ to_z-of_z w64 (cast_signed w n) g
+
+pub opens_negative : (b : ℕ) (v u : ℤ) → 0xe0 ≤ b → b < 256 → v ≡ to_z w8 (of_z w8 u) → u ≡ to_z w8 b
+    → Opens b (canon_head (Whole (to_z w64 (of_z w64 v))))
+opens_negative b v u l h c d = opens_below_0 b _ l h (stored_is w8 v u b c d (fits_signed w8 b h) (in64_8 b h))
+
+pub opens_signed_8 : (b n : ℕ) (v u : ℤ) → b ≡ 0xd0 → n < 2 ^ 8 → v ≡ to_z w8 (of_z w8 u) → u ≡ to_z w8 n → to_z w64 (of_z w64 v) <ℤ negsuc 31
+    → Opens b (canon_head (Whole (to_z w64 (of_z w64 v))))
+opens_signed_8 b n v u e h c d l =
+    let same : to_z w64 (of_z w64 v) ≡ cast_signed w8 n = stored_is w8 v u n c d (fits_signed w8 n h) (in64_8 n h) in
+    opens_below_32 b _ e l (subst (FitsSigned w8) (sym same) (fits_signed w8 n h))
+
+pub opens_signed_16 : (b n : ℕ) (v u : ℤ) → b ≡ 0xd1 → n < 2 ^ 16 → v ≡ to_z w16 (of_z w16 u) → u ≡ to_z w16 n → to_z w64 (of_z w64 v) <ℤ negsuc 127
+    → Opens b (canon_head (Whole (to_z w64 (of_z w64 v))))
+opens_signed_16 b n v u e h c d l =
+    let same : to_z w64 (of_z w64 v) ≡ cast_signed w16 n = stored_is w16 v u n c d (fits_signed w16 n h) (in64_16 n h) in
+    opens_below_128 b _ e l (subst (FitsSigned w16) (sym same) (fits_signed w16 n h))
+
+pub opens_signed_32 : (b n : ℕ) (v u : ℤ) → b ≡ 0xd2 → n < 2 ^ 32 → v ≡ to_z w32 (of_z w32 u) → u ≡ to_z w32 n → to_z w64 (of_z w64 v) <ℤ negsuc 32767
+    → Opens b (canon_head (Whole (to_z w64 (of_z w64 v))))
+opens_signed_32 b n v u e h c d l =
+    let same : to_z w64 (of_z w64 v) ≡ cast_signed w32 n = stored_is w32 v u n c d (fits_signed w32 n h) (in64_32 n h) in
+    opens_below_2_15 b _ e l (subst (FitsSigned w32) (sym same) (fits_signed w32 n h))
+
+pub opens_signed_64 : (b : ℕ) (z : ℤ) → b ≡ 0xd3 → z <ℤ negsuc 2147483647 → Opens b (canon_head (Whole z))
+opens_signed_64 b z e l = opens_below_2_31 b z e l
 
 -- where reading is strict, a canonical head may
 pub canonical_stands : (w : Bool) (n : ℕ) (h : Head) (xs : List ℕ) → w ≡ true → StandsIn true n h xs → StandsIn w n h xs

@@ -1,10 +1,14 @@
 -- What is read of numbers, texts and bytes.
-use Rattle.std.proofs.Common.{◌≡◌, ℕ, ℤ, pos, ◌≤ℤ◌, arith, List, Bool, true, false, refl}
+use Rattle.std.proofs.Common.{◌≡◌, ◌<◌, ◌≤◌, ◌^◌, ℕ, ℤ, pos, negsuc, ◌≤ℤ◌, arith, List, Bool, true, false, refl}
 use Rattle.rmp_wire.specs.declared.head.Head.{Head}
 use Rattle.rmp_wire.specs.declared.head.Head.TheVariants.{Nil, Truth, Whole, F32Bits, F64Bits, Text, Bin, Array, Map, Ext}
 use Rattle.rmp_wire.specs.declared.marker.Marker.{Marker}
 use Rattle.rmp_decode.specs.Kinds.{raw_msg, other_kind, other_number}
+use Rattle.std.proofs.Math.IntN.{nat_abs}
 use Rattle.std.proofs.lemmas.Int.{ints}
+use Rattle.std.specs.Int.{w64}
+use Rattle.std.specs.Prelude.{FitsSigned}
+use mir.Val.{to_z}
 use Rattle.rmp_wire.specs.Msg.{whole}
 use Rattle.rmp_decode.specs.Law.{Readable}
 use Rattle.rmp_decode.specs.Read.{IsUnsigned, IsSigned}
@@ -21,6 +25,17 @@ signed_within least most z r =
     let same = r.1.0 in
     let e : z ≡ r.0 = cc in
     rw e (r.1.1, r.1.2)
+
+-- a number up to one that isn't below zero, by that one's size
+pub abs_within : (n : ℕ) (most : ℤ) → pos 0 ≤ℤ most → n ≤ nat_abs most → pos n ≤ℤ most
+abs_within n (pos k) l h = omega (arith, ints)
+abs_within n (negsuc k) l h = absurd (omega (arith, ints))
+
+-- as it is stored in 64 bits
+pub small_signed : (n : ℕ) (most : ℤ) → pos n ≤ℤ most → FitsSigned w64 most → to_z w64 n ≡ pos n
+small_signed n most l f =
+    let b : n < 2 ^ 63 = grind (arith, ints) in
+    grind (arith, ints)
 
 pub raw_same : (t u : Bool) (s r : List ℕ) → raw_msg t s ≡ raw_msg u r → s ≡ r
 raw_same true true s r e = cc

@@ -1,5 +1,5 @@
 //! Heads that lie in memory whole, read where they lie.
-ghost use Rattle.std.specs.Prelude.{◌≡◌, ◌<◌, ◌≤◌, pos, true, false, Bool, IfSome, IfNone, IfOk, IfErr};
+ghost use Rattle.std.specs.Prelude.{◌≡◌, ◌<◌, ◌≤◌, ◌≤ℤ◌, pos, true, false, Bool, IfSome, IfNone, IfOk, IfErr};
 ghost use Rattle.rmp_decode.specs.Fronts.{StandsIn, TakesFront};
 ghost use Rattle.rmp_decode.specs.Law.{ReadsHead};
 ghost use Rattle.rmp_decode.specs.State.{is_failed, is_strict, kept_of};
@@ -7,7 +7,7 @@ ghost use Rattle.rmp_decode.specs.declared.deserializer.Kept.TheVariants.{Nothin
 
 mod kinds;
 
-use crate::deserializer::fronts::kinds::head_at;
+use crate::deserializer::fronts::kinds::{f32_at, f64_at, head_at, signed_at, truth_at};
 use crate::deserializer::{Deserializer, Kept};
 use crate::error::Error;
 use rmp_wire::config::SerializerConfig;
@@ -154,6 +154,125 @@ impl<R: Source, C: SerializerConfig> Deserializer<R, C> {
                 if most >= n && self.reader.skip(len) {
                     self.failed = true;
                     Some(n)
+                } else {
+                    None
+                }
+            }
+            None => None,
+        }
+    }
+
+    // Takes the head of a number between two others, in a format with a sign, where it lies in memory whole, and leaves this failed
+    // until the number is answered. Else nothing is taken.
+    #[inline(always)]
+    pub(crate) fn signed_front(&mut self, least: i64, most: i64) -> Option<i64>
+        ensures within { IfSome result (λ z. (least ≤ℤ z) × (z ≤ℤ most)) }
+        ensures taken { IfSome result (λ z. TakesFront R.Source (Head.Whole z) self.old self.new) }
+        ensures kept { IfNone result (self.new ≡ self.old) }
+    {
+        if !self.begins_ahead() {
+            return None;
+        }
+        if self.strict {
+            return self.canonical_signed_front(least, most);
+        }
+        match signed_at(self.reader.front()) {
+            Some((z, len, _)) => {
+                if z >= least && z <= most && self.reader.skip(len) {
+                    self.failed = true;
+                    Some(z)
+                } else {
+                    None
+                }
+            }
+            None => None,
+        }
+    }
+
+    // The same where reading is strict.
+    #[inline(always)]
+    fn canonical_signed_front(&mut self, least: i64, most: i64) -> Option<i64>
+        requires fresh { is_failed self.old ≡ false }
+        requires clean { kept_of self.old ≡ Nothing }
+        requires strict { is_strict self.old ≡ true }
+        ensures within { IfSome result (λ z. (least ≤ℤ z) × (z ≤ℤ most)) }
+        ensures taken { IfSome result (λ z. TakesFront R.Source (Head.Whole z) self.old self.new) }
+        ensures kept { IfNone result (self.new ≡ self.old) }
+    {
+        match signed_at(self.reader.front()) {
+            Some((z, len, bound)) => {
+                if z >= bound {
+                    return None;
+                }
+                if z >= least && z <= most && self.reader.skip(len) {
+                    self.failed = true;
+                    Some(z)
+                } else {
+                    None
+                }
+            }
+            None => None,
+        }
+    }
+
+    // Takes a truth where it lies in memory, and leaves this failed until it is answered. Else nothing is taken.
+    #[inline(always)]
+    pub(crate) fn truth_front(&mut self) -> Option<bool>
+        ensures taken { IfSome result (λ t. TakesFront R.Source (Head.Truth t) self.old self.new) }
+        ensures kept { IfNone result (self.new ≡ self.old) }
+    {
+        if !self.begins_ahead() {
+            return None;
+        }
+        match truth_at(self.reader.front()) {
+            Some(t) => {
+                if self.reader.skip(1) {
+                    self.failed = true;
+                    Some(t)
+                } else {
+                    None
+                }
+            }
+            None => None,
+        }
+    }
+
+    // The same of the bits of a float of 32 bits.
+    #[inline(always)]
+    pub(crate) fn f32_front(&mut self) -> Option<u32>
+        ensures taken { IfSome result (λ n. TakesFront R.Source (Head.F32Bits n) self.old self.new) }
+        ensures kept { IfNone result (self.new ≡ self.old) }
+    {
+        if !self.begins_ahead() {
+            return None;
+        }
+        match f32_at(self.reader.front()) {
+            Some(bits) => {
+                if self.reader.skip(5) {
+                    self.failed = true;
+                    Some(bits)
+                } else {
+                    None
+                }
+            }
+            None => None,
+        }
+    }
+
+    // The same of the bits of a float of 64 bits.
+    #[inline(always)]
+    pub(crate) fn f64_front(&mut self) -> Option<u64>
+        ensures taken { IfSome result (λ n. TakesFront R.Source (Head.F64Bits n) self.old self.new) }
+        ensures kept { IfNone result (self.new ≡ self.old) }
+    {
+        if !self.begins_ahead() {
+            return None;
+        }
+        match f64_at(self.reader.front()) {
+            Some(bits) => {
+                if self.reader.skip(9) {
+                    self.failed = true;
+                    Some(bits)
                 } else {
                     None
                 }

@@ -1,5 +1,5 @@
 //! Truths, numbers, the bits of floats, and nil.
-ghost use Rattle.std.specs.Prelude.{◌≡◌, ◌≢◌, pos, negsuc, IfErr};
+ghost use Rattle.std.specs.Prelude.{◌≡◌, ◌≢◌, ◌≤ℤ◌, pos, negsuc, IfErr};
 ghost use Rattle.rmp_wire.specs.Msg.{Msg};
 ghost use Rattle.rmp_decode.specs.Exact.{RefusesHead};
 ghost use Rattle.rmp_decode.specs.Kinds.{other_kind, other_number, not_nil};
@@ -23,6 +23,22 @@ impl<R: Source, C: SerializerConfig> Deserializer<R, C> {
         ensures exact { RefusesHead R.Source other_kind self.old self.new result }
         ensures memory { IfErr result (λ e. e ≢ Error.OutOfMemory) }
     {
+        match self.truth_front() {
+            Some(truth) => {
+                self.failed = false;
+                Ok(truth)
+            }
+            None => self.headed_bool(),
+        }
+    }
+
+    // The same by way of `head`, by a call.
+    #[inline(never)]
+    fn headed_bool(&mut self) -> Result<bool, Error>
+        ensures law { Lawful R.Source (λ m t. m ≡ Msg.truth t) self.old self.new result }
+        ensures exact { RefusesHead R.Source other_kind self.old self.new result }
+        ensures memory { IfErr result (λ e. e ≢ Error.OutOfMemory) }
+    {
         match self.head() {
             Ok((marker, head)) => match truth_in(head) {
                 Some(t) => {
@@ -42,6 +58,22 @@ impl<R: Source, C: SerializerConfig> Deserializer<R, C> {
         ensures exact { RefusesHead R.Source other_kind self.old self.new result }
         ensures memory { IfErr result (λ e. e ≢ Error.OutOfMemory) }
     {
+        match self.f32_front() {
+            Some(bits) => {
+                self.failed = false;
+                Ok(bits)
+            }
+            None => self.headed_f32_bits(),
+        }
+    }
+
+    // The same by way of `head`, by a call.
+    #[inline(never)]
+    fn headed_f32_bits(&mut self) -> Result<u32, Error>
+        ensures law { Lawful R.Source (λ m n. m ≡ Msg.float32 n) self.old self.new result }
+        ensures exact { RefusesHead R.Source other_kind self.old self.new result }
+        ensures memory { IfErr result (λ e. e ≢ Error.OutOfMemory) }
+    {
         match self.head() {
             Ok((marker, head)) => match f32_bits_in(head) {
                 Some(bits) => {
@@ -57,6 +89,22 @@ impl<R: Source, C: SerializerConfig> Deserializer<R, C> {
     /// Reads the bits of a float of 64 bits.
     #[inline(always)]
     pub fn deserialize_f64_bits(&mut self) -> Result<u64, Error>
+        ensures law { Lawful R.Source (λ m n. m ≡ Msg.float64 n) self.old self.new result }
+        ensures exact { RefusesHead R.Source other_kind self.old self.new result }
+        ensures memory { IfErr result (λ e. e ≢ Error.OutOfMemory) }
+    {
+        match self.f64_front() {
+            Some(bits) => {
+                self.failed = false;
+                Ok(bits)
+            }
+            None => self.headed_f64_bits(),
+        }
+    }
+
+    // The same by way of `head`, by a call.
+    #[inline(never)]
+    fn headed_f64_bits(&mut self) -> Result<u64, Error>
         ensures law { Lawful R.Source (λ m n. m ≡ Msg.float64 n) self.old self.new result }
         ensures exact { RefusesHead R.Source other_kind self.old self.new result }
         ensures memory { IfErr result (λ e. e ≢ Error.OutOfMemory) }
@@ -146,6 +194,40 @@ impl<R: Source, C: SerializerConfig> Deserializer<R, C> {
     // A number of any width between two others.
     #[inline(always)]
     fn signed(&mut self, least: i64, most: i64) -> Result<i64, Error>
+        requires least { least ≤ℤ pos 0 }
+        requires most { pos 0 ≤ℤ most }
+        ensures law { Lawful R.Source (IsSigned least most) self.old self.new result }
+        ensures exact { RefusesHead R.Source other_number self.old self.new result }
+        ensures memory { IfErr result (λ e. e ≢ Error.OutOfMemory) }
+    {
+        match self.unsigned_front(most as u64) {
+            Some(n) => {
+                self.failed = false;
+                Ok(n as i64)
+            }
+            None => self.fronted_signed(least, most),
+        }
+    }
+
+    // The same, where the head is one of a format with a sign or doesn't lie in memory whole.
+    #[inline(always)]
+    fn fronted_signed(&mut self, least: i64, most: i64) -> Result<i64, Error>
+        ensures law { Lawful R.Source (IsSigned least most) self.old self.new result }
+        ensures exact { RefusesHead R.Source other_number self.old self.new result }
+        ensures memory { IfErr result (λ e. e ≢ Error.OutOfMemory) }
+    {
+        match self.signed_front(least, most) {
+            Some(z) => {
+                self.failed = false;
+                Ok(z)
+            }
+            None => self.headed_signed(least, most),
+        }
+    }
+
+    // The same by way of `head`, by a call.
+    #[inline(never)]
+    fn headed_signed(&mut self, least: i64, most: i64) -> Result<i64, Error>
         ensures law { Lawful R.Source (IsSigned least most) self.old self.new result }
         ensures exact { RefusesHead R.Source other_number self.old self.new result }
         ensures memory { IfErr result (λ e. e ≢ Error.OutOfMemory) }

@@ -1,5 +1,5 @@
 //! Heads of any kind but an extension that lie in memory whole.
-ghost use Rattle.std.specs.Prelude.{true, false, IfSome};
+ghost use Rattle.std.specs.Prelude.{◌<ℤ◌, Bool, true, false, IfSome};
 ghost use Rattle.rmp_decode.specs.Fronts.{StandsIn};
 
 use crate::deserializer::fronts::unsigned_at;
@@ -49,27 +49,68 @@ fn bytes_at(front: &[u8]) -> Option<(Head, usize)>
     }
 }
 
-// The bits of a float.
+// A truth that stands at the front. Its head has one byte.
 #[inline(always)]
-fn float_at(front: &[u8]) -> Option<(Head, usize)>
-    ensures { IfSome result (λ p. StandsIn false p.1 p.0 front.now) }
+pub(super) fn truth_at(front: &[u8]) -> Option<bool>
+    ensures { IfSome result (λ t. (strict : Bool) → StandsIn strict 1 (Head.Truth t) front.now) }
+{
+    match front {
+        [first, ..] => match first {
+            0xc2 => Some(false),
+            0xc3 => Some(true),
+            _ => None,
+        },
+        _ => None,
+    }
+}
+
+// The bits of a float of 32 bits that stands at the front. Its head has five bytes.
+#[inline(always)]
+pub(super) fn f32_at(front: &[u8]) -> Option<u32>
+    ensures { IfSome result (λ n. (strict : Bool) → StandsIn strict 5 (Head.F32Bits n) front.now) }
 {
     match front {
         [first, behind @ ..] => match first {
             0xca => match behind {
-                [a, b, c, d, ..] => Some((Head::F32Bits(u32::from_be_bytes([*a, *b, *c, *d])), 5)),
+                [a, b, c, d, ..] => Some(u32::from_be_bytes([*a, *b, *c, *d])),
                 _ => None,
             },
+            _ => None,
+        },
+        _ => None,
+    }
+}
+
+// The bits of a float of 64 bits that stands at the front. Its head has nine bytes.
+#[inline(always)]
+pub(super) fn f64_at(front: &[u8]) -> Option<u64>
+    ensures { IfSome result (λ n. (strict : Bool) → StandsIn strict 9 (Head.F64Bits n) front.now) }
+{
+    match front {
+        [first, behind @ ..] => match first {
             0xcb => match behind {
                 [a, b, c, d, e, f, g, h, ..] => {
-                    let bits = u64::from_be_bytes([*a, *b, *c, *d, *e, *f, *g, *h]);
-                    Some((Head::F64Bits(bits), 9))
+                    Some(u64::from_be_bytes([*a, *b, *c, *d, *e, *f, *g, *h]))
                 }
                 _ => None,
             },
             _ => None,
         },
         _ => None,
+    }
+}
+
+// The bits of a float.
+#[inline(always)]
+fn float_at(front: &[u8]) -> Option<(Head, usize)>
+    ensures { IfSome result (λ p. StandsIn false p.1 p.0 front.now) }
+{
+    match f32_at(front) {
+        Some(bits) => Some((Head::F32Bits(bits), 5)),
+        None => match f64_at(front) {
+            Some(bits) => Some((Head::F64Bits(bits), 9)),
+            None => None,
+        },
     }
 }
 
@@ -127,35 +168,38 @@ fn long_parts_at(front: &[u8]) -> Option<(Head, usize)>
     }
 }
 
-// A number in a format with a sign, and the count of its head's bytes.
+// A number in a format with a sign that stands at the front; the count of its head's bytes; and below which number the canonical
+// head has as many.
 #[inline(always)]
-fn signed_at(front: &[u8]) -> Option<(i64, usize)>
-    ensures { IfSome result (λ p. StandsIn false p.1 (Head.Whole p.0) front.now) }
+pub(super) fn signed_at(front: &[u8]) -> Option<(i64, usize, i64)>
+    ensures any { IfSome result (λ p. StandsIn false p.1 (Head.Whole p.0) front.now) }
+    ensures canonical { IfSome result (λ p. p.0 <ℤ p.2 → StandsIn true p.1 (Head.Whole p.0) front.now) }
 {
     match front {
         [first, behind @ ..] => match first {
-            0xe0..=0xff => Some((i64::from(first.cast_signed()), 1)),
+            0xe0..=0xff => Some((i64::from(first.cast_signed()), 1, 0)),
             0xd0 => match behind {
-                [a, ..] => Some((i64::from(a.cast_signed()), 2)),
+                [a, ..] => Some((i64::from(a.cast_signed()), 2, -0x20)),
                 _ => None,
             },
             0xd1 => match behind {
-                [a, b, ..] => Some((i64::from(u16::from_be_bytes([*a, *b]).cast_signed()), 3)),
+                [a, b, ..] => {
+                    let n = u16::from_be_bytes([*a, *b]);
+                    Some((i64::from(n.cast_signed()), 3, -0x80))
+                }
                 _ => None,
             },
             0xd2 => match behind {
                 [a, b, c, d, ..] => {
-                    Some((
-                        i64::from(u32::from_be_bytes([*a, *b, *c, *d]).cast_signed()),
-                        5,
-                    ))
+                    let n = u32::from_be_bytes([*a, *b, *c, *d]);
+                    Some((i64::from(n.cast_signed()), 5, -0x8000))
                 }
                 _ => None,
             },
             0xd3 => match behind {
                 [a, b, c, d, e, f, g, h, ..] => {
                     let n = u64::from_be_bytes([*a, *b, *c, *d, *e, *f, *g, *h]);
-                    Some((n.cast_signed(), 9))
+                    Some((n.cast_signed(), 9, -0x8000_0000))
                 }
                 _ => None,
             },
@@ -178,7 +222,7 @@ fn any_at(front: &[u8]) -> Option<(Head, usize)>
             0xd9..=0xdb => long_text_at(front),
             0xdc..=0xdf => long_parts_at(front),
             0xd0..=0xd3 | 0xe0..=0xff => match signed_at(front) {
-                Some((z, len)) => Some((Head::Whole(i128::from(z)), len)),
+                Some((z, len, _)) => Some((Head::Whole(i128::from(z)), len)),
                 None => None,
             },
             _ => match unsigned_at(front) {
