@@ -1,0 +1,289 @@
+//! How the types of structs.rt are written and read. Written by tools/derive.py.
+ghost use Rattle.rmp_decode.specs.Fields.{OfFields, Field, Absent, NoField};
+ghost use Rattle.rmp_decode.specs.Rows.{AndThen, NoMore};
+ghost use Rattle.rmp_decode.specs.Seq.{OfRow};
+ghost use Rattle.rmp_decode.specs.Units.{IsNothing};
+ghost use Rattle.rmp_encode.specs.Data.{unit_struct};
+ghost use Rattle.rmp_encode.specs.Sizes.{one_of};
+ghost use Rattle.rmp_encode.specs.Trees.{wrapped_of, sequence_of, structure_of};
+ghost use Rattle.std.specs.Prelude.{◌∷◌, [], None, Some, codes, false, ⊤};
+
+use super::{Counted, Dog, Newtype, Opt, Point, Unit};
+use rmp_decode::{Deserialize, Deserializer};
+use rmp_encode::{Serialize, Serializer};
+use rmp_wire::config::SerializerConfig;
+use rmp_wire::{ReadSlice, Sink};
+
+impl Serialize for Dog {
+    ghost data_of = { λ v human. structure_of ((codes "name", ⟦<String as Serialize>⟧.data_of v.name human)
+        ∷ ((codes "age", ⟦<u16 as Serialize>⟧.data_of v.age human) ∷ [])) };
+
+    ghost is_value = { λ v. ⟦<String as Serialize>⟧.is_value v.name × ⟦<u16 as Serialize>⟧.is_value v.age };
+
+    ghost takes_memory = { λ s. one_of (⟦<String as Serialize>⟧.takes_memory s ∷ (⟦<u16 as Serialize>⟧.takes_memory s ∷ [])) };
+
+    fn serialize<W: Sink, C: SerializerConfig>(
+        &self,
+        se: &mut Serializer<W, C>,
+    ) -> Result<(), rmp_encode::Error> {
+        let parts = rmp_encode::Both {
+            first: &self.name,
+            second: &self.age,
+        };
+        se.serialize_fields("Dog", &["name", "age"], &parts)
+    }
+
+    #[tactic(auto, using(rmp_encode::proofs::Fields::structure_no_byte))]
+    fn as_u8(&self, _human: bool) -> Option<u8> {
+        None
+    }
+}
+
+impl<'de, R: ReadSlice<'de>> Deserialize<'de, R> for Dog {
+    ghost reads = { λ human lends m v. OfFields (codes "name" ∷ (codes "age" ∷ []))
+        (Field (λ j. ⟦<String as Deserialize<'de, R>>⟧.reads human lends j v.name) (Absent ⟦<String as Deserialize<'de, R>>⟧.absent v.name)
+        (Field (λ j. ⟦<u16 as Deserialize<'de, R>>⟧.reads human lends j v.age) (Absent ⟦<u16 as Deserialize<'de, R>>⟧.absent v.age) NoField)) m };
+
+    ghost absent = { None };
+
+    fn deserialize<C: SerializerConfig>(
+        de: &mut Deserializer<R, C>,
+    ) -> Result<Dog, rmp_decode::Error> {
+        let read: Result<(String, (u16, ())), rmp_decode::Error> = de.deserialize_fields(&[
+            "name", "age",
+        ]);
+        match read {
+            Ok(parts) => {
+                let (name, (age, ())) = parts;
+                Ok(Dog { name, age })
+            }
+            Err(e) => Err(e),
+        }
+    }
+
+    fn missing() -> Option<Dog> {
+        None
+    }
+}
+
+impl Serialize for Opt {
+    ghost data_of = { λ v human. structure_of ((codes "v", ⟦<Option<u8> as Serialize>⟧.data_of v.v human) ∷ []) };
+
+    ghost is_value = { λ v. ⟦<Option<u8> as Serialize>⟧.is_value v.v };
+
+    ghost takes_memory = { λ s. one_of (⟦<Option<u8> as Serialize>⟧.takes_memory s ∷ []) };
+
+    fn serialize<W: Sink, C: SerializerConfig>(
+        &self,
+        se: &mut Serializer<W, C>,
+    ) -> Result<(), rmp_encode::Error> {
+        let parts = rmp_encode::One { first: &self.v };
+        se.serialize_fields("Opt", &["v"], &parts)
+    }
+
+    #[tactic(auto, using(rmp_encode::proofs::Fields::structure_no_byte))]
+    fn as_u8(&self, _human: bool) -> Option<u8> {
+        None
+    }
+}
+
+impl<'de, R: ReadSlice<'de>> Deserialize<'de, R> for Opt {
+    ghost reads = { λ human lends m v. OfFields (codes "v" ∷ [])
+        (Field (λ j. ⟦<Option<u8> as Deserialize<'de, R>>⟧.reads human lends j v.v) (Absent ⟦<Option<u8> as Deserialize<'de, R>>⟧.absent v.v) NoField) m };
+
+    ghost absent = { None };
+
+    fn deserialize<C: SerializerConfig>(
+        de: &mut Deserializer<R, C>,
+    ) -> Result<Opt, rmp_decode::Error> {
+        let read: Result<(Option<u8>, ()), rmp_decode::Error> = de.deserialize_fields(&["v"]);
+        match read {
+            Ok(parts) => {
+                let (v, ()) = parts;
+                Ok(Opt { v })
+            }
+            Err(e) => Err(e),
+        }
+    }
+
+    fn missing() -> Option<Opt> {
+        None
+    }
+}
+
+impl Serialize for Point {
+    ghost data_of = { λ v human. sequence_of (⟦<u32 as Serialize>⟧.data_of v.0 human ∷ (⟦<String as Serialize>⟧.data_of v.1 human ∷ [])) };
+
+    ghost is_value = { λ v. ⟦<u32 as Serialize>⟧.is_value v.0 × ⟦<String as Serialize>⟧.is_value v.1 };
+
+    ghost takes_memory = { λ s. one_of (⟦<u32 as Serialize>⟧.takes_memory s ∷ (⟦<String as Serialize>⟧.takes_memory s ∷ [])) };
+
+    fn serialize<W: Sink, C: SerializerConfig>(
+        &self,
+        se: &mut Serializer<W, C>,
+    ) -> Result<(), rmp_encode::Error> {
+        let parts = rmp_encode::Both {
+            first: &self.0,
+            second: &self.1,
+        };
+        se.serialize_elements("Point", &parts)
+    }
+
+    #[tactic(auto, using(rmp_encode::proofs::Lists::sequence_no_byte))]
+    fn as_u8(&self, _human: bool) -> Option<u8> {
+        None
+    }
+}
+
+impl<'de, R: ReadSlice<'de>> Deserialize<'de, R> for Point {
+    ghost reads = { λ human lends m v. OfRow (AndThen (λ j. ⟦<u32 as Deserialize<'de, R>>⟧.reads human lends j v.0)
+        (AndThen (λ j. ⟦<String as Deserialize<'de, R>>⟧.reads human lends j v.1) NoMore)) m };
+
+    ghost absent = { None };
+
+    fn deserialize<C: SerializerConfig>(
+        de: &mut Deserializer<R, C>,
+    ) -> Result<Point, rmp_decode::Error> {
+        let read: Result<(u32, String), rmp_decode::Error> = Deserialize::deserialize(de);
+        match read {
+            Ok(parts) => {
+                let (first, second) = parts;
+                Ok(Point(first, second))
+            }
+            Err(e) => Err(e),
+        }
+    }
+
+    fn missing() -> Option<Point> {
+        None
+    }
+}
+
+impl Serialize for Newtype {
+    ghost data_of = { λ v human. wrapped_of (⟦<u64 as Serialize>⟧.data_of v.0 human) };
+
+    ghost is_value = { λ v. ⟦<u64 as Serialize>⟧.is_value v.0 };
+
+    ghost takes_memory = { λ s. ⟦<u64 as Serialize>⟧.takes_memory s };
+
+    fn serialize<W: Sink, C: SerializerConfig>(
+        &self,
+        se: &mut Serializer<W, C>,
+    ) -> Result<(), rmp_encode::Error> {
+        se.serialize_newtype_struct("Newtype", &self.0)
+    }
+
+    #[tactic(auto, using(rmp_encode::proofs::Wrapped::wrapped_no_byte))]
+    fn as_u8(&self, _human: bool) -> Option<u8> {
+        None
+    }
+}
+
+impl<'de, R: ReadSlice<'de>> Deserialize<'de, R> for Newtype {
+    ghost reads = { λ human lends m v. ⟦<u64 as Deserialize<'de, R>>⟧.reads human lends m v.0 };
+
+    ghost absent = { None };
+
+    fn deserialize<C: SerializerConfig>(
+        de: &mut Deserializer<R, C>,
+    ) -> Result<Newtype, rmp_decode::Error> {
+        match de.deserialize_newtype_struct("Newtype") {
+            Ok(first) => Ok(Newtype(first)),
+            Err(e) => Err(e),
+        }
+    }
+
+    fn missing() -> Option<Newtype> {
+        None
+    }
+}
+
+impl Serialize for Unit {
+    ghost data_of = { λ v human. Some unit_struct };
+
+    ghost is_value = { λ v. ⊤ };
+
+    ghost takes_memory = { λ s. false };
+
+    #[tactic(auto, unfolding(rmp_encode::specs::Data::lower))]
+    fn serialize<W: Sink, C: SerializerConfig>(
+        &self,
+        se: &mut Serializer<W, C>,
+    ) -> Result<(), rmp_encode::Error> {
+        se.serialize_unit_struct("Unit")
+    }
+
+    fn as_u8(&self, _human: bool) -> Option<u8> {
+        None
+    }
+}
+
+impl<'de, R: ReadSlice<'de>> Deserialize<'de, R> for Unit {
+    ghost reads = { λ human lends m v. IsNothing m };
+
+    ghost absent = { None };
+
+    fn deserialize<C: SerializerConfig>(
+        de: &mut Deserializer<R, C>,
+    ) -> Result<Unit, rmp_decode::Error> {
+        match de.deserialize_unit_struct("Unit") {
+            Ok(()) => Ok(Unit),
+            Err(e) => Err(e),
+        }
+    }
+
+    fn missing() -> Option<Unit> {
+        None
+    }
+}
+
+impl<T: Serialize> Serialize for Counted<T> {
+    ghost data_of = { λ v human. structure_of ((codes "value", T.data_of v.value human) ∷ ((codes "count", ⟦<u64 as Serialize>⟧.data_of v.count human) ∷ [])) };
+
+    ghost is_value = { λ v. T.is_value v.value × ⟦<u64 as Serialize>⟧.is_value v.count };
+
+    ghost takes_memory = { λ s. one_of (T.takes_memory s ∷ (⟦<u64 as Serialize>⟧.takes_memory s ∷ [])) };
+
+    fn serialize<W: Sink, C: SerializerConfig>(
+        &self,
+        se: &mut Serializer<W, C>,
+    ) -> Result<(), rmp_encode::Error> {
+        let parts = rmp_encode::Both {
+            first: &self.value,
+            second: &self.count,
+        };
+        se.serialize_fields("Counted", &["value", "count"], &parts)
+    }
+
+    #[tactic(auto, using(rmp_encode::proofs::Fields::structure_no_byte))]
+    fn as_u8(&self, _human: bool) -> Option<u8> {
+        None
+    }
+}
+
+impl<'de, R: ReadSlice<'de>, T: Deserialize<'de, R>> Deserialize<'de, R> for Counted<T> {
+    ghost reads = { λ human lends m v. OfFields (codes "value" ∷ (codes "count" ∷ []))
+        (Field (λ j. T.reads human lends j v.value) (Absent T.absent v.value)
+        (Field (λ j. ⟦<u64 as Deserialize<'de, R>>⟧.reads human lends j v.count) (Absent ⟦<u64 as Deserialize<'de, R>>⟧.absent v.count) NoField)) m };
+
+    ghost absent = { None };
+
+    fn deserialize<C: SerializerConfig>(
+        de: &mut Deserializer<R, C>,
+    ) -> Result<Counted<T>, rmp_decode::Error> {
+        let read: Result<(T, (u64, ())), rmp_decode::Error> = de.deserialize_fields(&[
+            "value", "count",
+        ]);
+        match read {
+            Ok(parts) => {
+                let (value, (count, ())) = parts;
+                Ok(Counted { value, count })
+            }
+            Err(e) => Err(e),
+        }
+    }
+
+    fn missing() -> Option<Counted<T>> {
+        None
+    }
+}

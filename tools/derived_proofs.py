@@ -1,0 +1,109 @@
+"""The proofs of what derive.py writes."""
+from imports import imports
+
+# Where the lemmas and signs of the answers come from.
+WORDS = {
+    "std.proofs.Common": "◌≡◌ refl arith rules",
+    "rmp_decode.proofs.Laws": "lawful_ok lawful_err",
+    "rmp_decode.proofs.Variants": "variant_ok variant_err variant_unopened readable",
+    "rmp_encode.proofs.Variants": "newtype_no_byte tuple_variant_no_byte struct_variant_no_byte",
+}
+
+
+def answer(goal, term, given="g c"):
+    return f"\npub {goal} : goal.{goal}\n{goal} {given} = {term}\n"
+
+
+def numbered(word, at):
+    """The name of a call, of which others of the same name may stand before."""
+    return word if at == 0 else f"{word}-{at + 1}"
+
+
+def tuple_of(words):
+    return words[0] if len(words) == 1 else f"({', '.join(words)})"
+
+
+def nested(words):
+    return "".join(f"({word}, " for word in words) + "tt" + ")" * len(words)
+
+
+def struct_read(shape):
+    """The two answers of a struct that is read by one call."""
+    back, forth = "λ m r. r", "λ m r. r"
+    if shape.kind == "unit":
+        forth = "λ m r. (tt, r.1)"
+    elif shape.kind == "newtype":
+        back, forth = "λ m r. r.1", "λ m r. (r.0.0, ((λ e. cc), r.1))"
+    elif shape.kind == "tuple":
+        forth = f"λ m r. ({tuple_of([f'r.0.{field.name}' for field in shape.fields])}, r.1)"
+    else:
+        forth = f"λ m r. ({nested([f'r.0.{field.name}' for field in shape.fields])}, r.1)"
+    text = answer("returns-in-Ok-clause-law", f"lawful_ok _ _ _ _ _ _ _ ({back}) c.in-Ok.ensures.law")
+    return text + answer("returns-in-Err-clause-law", f"lawful_err _ _ _ _ _ _ ({forth}) c.in-Err.ensures.law")
+
+
+CALLS = {"unit": "unit_variant", "newtype": "newtype_variant", "tuple": "newtype_variant", "named": "fields_variant"}
+
+
+def variant_read(call, at, shape, count):
+    """The two answers of a variant."""
+    n = len(shape.fields)
+    last = at == count - 1
+    if last:
+        test = "k.field-0-0-test, " if count > 1 else ""
+        start = f"\n    let k = c.in-Ok in\n    let at : k.field-0-0 ≡ {at} = omega (arith, {test}k.ensures.below) in\n    "
+        opened = "(rw at at k.ensures.opened)"
+    else:
+        start = "\n    "
+        opened = f"(rw c.in-Ok-eq{at}-default.field-0-0-test at c.in-Ok-eq{at}-default.ensures.opened)"
+    done = f"λ k h. ({'_, ' * n}refl, h)"
+    values = [f"h.{i}" for i in range(n)]
+    value = nested(values) if shape.kind == "named" else tuple_of(values) if n else ""
+    back = f"λ v k h. readable _ k {value} h.{n + 1}" if n else "λ v k h. h.1"
+    ok = f"{start}variant_ok _ _ _ _ _ _ (search rules) _ {at} _ _ ({done})\n    (c.in-Ok-{call}.ensures.ok _ {at} _ {opened})"
+    err = f"{start}variant_err _ _ _ _ _ _ (search rules) _ {at} _ ({back})\n    (c.in-Err-{call}.ensures.err _ {at} _ {opened})"
+    return answer(f"returns-in-Ok-{call}-clause-law", ok) + answer(f"returns-in-Err-{call}-clause-law", err)
+
+
+def calls_of(of):
+    """The name of each variant's call, with its number."""
+    seen = {}
+    for shape in of.variants:
+        call = CALLS[shape.kind]
+        yield numbered(call, seen.get(call, 0))
+        seen[call] = seen.get(call, 0) + 1
+
+
+def enum_read(of):
+    text = "".join(variant_read(call, at, shape, len(of.variants)) for at, (call, shape) in enumerate(zip(calls_of(of), of.variants)))
+    opened = "\n    variant_unopened _ _ _ _ _ _ (search rules) _ (rw c.in-Err.is at c.deserialize_enum.follows.holds-at-none)"
+    return text + answer("returns-in-Err-clause-law", opened)
+
+
+NO_BYTE = {"newtype": "newtype_no_byte", "tuple": "tuple_variant_no_byte", "named": "struct_variant_no_byte"}
+
+
+def has_content(of):
+    """Whether it is an enum of which a variant has content."""
+    return any(shape.fields for shape in of.variants or [])
+
+
+def enum_no_byte(of):
+    """An answer for each variant with content: it is no byte."""
+    given = "g c" if of.parameters else "c"
+    lemmas = [(shape.name, NO_BYTE[shape.kind]) for shape in of.variants if shape.fields]
+    return "".join(answer(f"returns-in-{name}-clause-byte", f"search (rules, {lemma})", given) for name, lemma in lemmas)
+
+
+def answers(of, traits, module):
+    """The trait, the method, and the text of each proof."""
+    if "Serialize" in traits and has_content(of):
+        yield "Serialize", "as_u8", with_imports(enum_no_byte(of), module, f"{of.name}Serialize.as_u8")
+    if "Deserialize" in traits:
+        text = struct_read(of.shape) if of.shape else enum_read(of)
+        yield "Deserialize", "deserialize", with_imports(text, module, f"{of.name}Deserialize.deserialize")
+
+
+def with_imports(text, module, goals):
+    lines = imports(text, WORDS, lambda of, names: f"use Rattle.{of}.{{{', '.join(names)}}}\n")
+    return "".join(lines) + f"use Rattle.{module.name}.proofs.{module.below('derived', goals)}.Goals as goal\n" + text
