@@ -1,35 +1,6 @@
 -- What was put where a run ends early.
-use Rattle.std.proofs.Common.{
-  arith,
-  ◌≡◌,
-  ◌≢◌,
-  ◌∙◌,
-  ℕ,
-  zero,
-  suc,
-  ◌-◌,
-  ◌<◌,
-  Bool,
-  true,
-  false,
-  List,
-  [],
-  ◌∷◌,
-  ◌++◌,
-  inl,
-  inr,
-  map,
-  take,
-  drop,
-  get_or,
-  length,
-  refl,
-  sym,
-  ap,
-  subst,
-  append-nil,
-  append_assoc,
-}
+use Rattle.std.proofs.Common.{arith, ◌≡◌, ◌≢◌, ◌∙◌, ℕ, ◌-◌, ◌<◌, Bool, true, false, List, [], ◌∷◌, ◌++◌, inl, inr, length, refl, sym, ap, subst, append-nil,
+    append_assoc}
 use Rattle.std.specs.Prelude.{◌⊎◌, Option, None, Some, IfSome, Result, Ok, Err, IfErr}
 use Rattle.std.proofs.KnownBytes.{Appends-nil, Appends-trans}
 use Rattle.std.proofs.lemmas.List.{length-append}
@@ -47,20 +18,7 @@ use Rattle.rmp_decode.specs.declared.error.Error.TheVariants as errors
 use Rattle.mpcanon.specs.declared.lines.RunFault.{RunFault}
 use Rattle.mpcanon.specs.Lines.{digits_in}
 use Rattle.mpcanon.specs.Messages.{message_text, refused_text, no_hex_text}
-use Rattle.mpcanon.specs.Prints.{
-  line,
-  IsAccepted,
-  NoneBegins,
-  RefusesAt,
-  IsStart,
-  StartsMessages,
-  StartsDecoded,
-  StartsLine,
-  StartsFirst,
-  StartsAll,
-  PrintsAll,
-  Puts,
-}
+use Rattle.mpcanon.specs.Prints.{line, IsAccepted, NoneBegins, RefusesAt, IsStart, StartsMessages, StartsDecoded, StartsLine, StartsFirst, StartsAll, Puts}
 use Rattle.mpcanon.proofs.Shown.{SoFar, holds_more, flat_more, prints_none}
 
 pub start_none : (whole : List ℕ) → IsStart whole []
@@ -193,29 +151,3 @@ module _ {W : Type 0} (g : Ghosts W) where
         next = first_none texts;
         printed = refl;
       })
-
-      split_at : {A : Type 0} (v : A → List ℕ) (xs : List A) (i : ℕ) (d : A) → i < length xs
-          → map v xs ≡ map v (take i xs) ++ (v (get_or xs i d) ∷ map v (drop (suc i) xs))
-      split_at v [] i d l = absurd (omega arith)
-      split_at v (x ∷ xs) zero d l = refl
-      split_at v (x ∷ xs) (suc i) d l = ap (λ t. v x ∷ t) (split_at v xs i d (omega (arith, l)))
-
-      -- some lines were put, and the next one in part
-      pub all_early : {A : Type 0} (v : A → List ℕ) (xs : List A) (i : ℕ) (d : A) (texts : List (List ℕ)) (a : Bool) {old mid new : W} → i < length xs
-          → map v xs ≡ texts → Puts g (λ out. PrintsAll shows (map v (take i xs)) out a) old mid → Puts g (StartsLine begins (v (get_or xs i d))) mid new
-          → Puts g (StartsAll shows begins texts) old new
-      all_early v xs i d texts a within e p q = record {
-        out = p.out ++ q.out;
-        appended = Appends-trans _ _ _ p.out q.out p.appended q.appended;
-        shown = record {
-          before = map v (take i xs);
-          behind = v (get_or xs i d) ∷ map v (drop (suc i) xs);
-          split = sym e ∙ split_at v xs i d within;
-          first = p.out;
-          second = q.out;
-          accepted = a;
-          prints = p.shown;
-          next = q.shown;
-          printed = refl;
-        };
-      }

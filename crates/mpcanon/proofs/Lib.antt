@@ -10,3 +10,4 @@ pub mod OneRefusal
 pub mod Printing
 pub mod Reading
 pub mod Shown
+pub mod Walking

@@ -1,6 +1,6 @@
 -- Lines and their digits.
-use Rattle.std.proofs.Common.{◌≡◌, ℕ, ◌+◌, ◌<◌, ◌≤◌, List, [], ◌∷◌, ◌++◌, All, map, take, get_or, suc, length, sym, ap, subst, ◌∙◌, arith}
-use Rattle.std.proofs.lemmas.List.{map_more, take_all}
+use Rattle.std.proofs.Common.{◌≡◌, ℕ, ◌+◌, ◌<◌, List, [], ◌∷◌, ◌++◌, All, map, take, get_or, suc, length, sym, subst, arith}
+use Rattle.std.proofs.lemmas.List.{map_more}
 use Rattle.std.proofs.lemmas.List.Elements.{All-push, All-cons}
 use Rattle.hex.specs.Hex.{decode_pairs}
 use Rattle.mpcanon.specs.Lines.{digits_in, IsHex}
@@ -32,7 +32,3 @@ module _ {A B : Type 0} (P : B → Type 0) (v : A → B) (xs : List A) (i : ℕ)
 pub All-front : {A B : Type 0} (P : B → Type 0) (v : A → B) (xs : List A) (i : ℕ) → i < length xs → All P (map v (take (i + 1) xs)) → All P (map v (take i xs))
 All-front P v [] i within h = absurd (omega arith)
 All-front P v (x ∷ xs) i within h = (All-less P v (x ∷ xs) i x within h).0
-
--- all were gone over
-pub all_taken : {A B : Type 0} (v : A → B) (i : ℕ) (xs items : List A) (all : List B) → length xs ≤ i → xs ≡ items → map v items ≡ all → map v (take i xs) ≡ all
-all_taken v i xs items all past same are = ap (map v) (take_all i xs past ∙ same) ∙ are

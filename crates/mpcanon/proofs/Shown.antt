@@ -1,33 +1,6 @@
 -- What lines and messages print, one more at a time.
-use Rattle.std.proofs.Common.{
-  arith,
-  ◌≡◌,
-  ◌≢◌,
-  ℕ,
-  ◌+◌,
-  ◌-◌,
-  ◌<◌,
-  Bool,
-  true,
-  false,
-  List,
-  [],
-  ◌∷◌,
-  ◌++◌,
-  inl,
-  inr,
-  map,
-  take,
-  get_or,
-  length,
-  refl,
-  sym,
-  ap,
-  ◌∙◌,
-  subst,
-  append-nil,
-  append_assoc,
-}
+use Rattle.std.proofs.Common.{arith, ◌≡◌, ◌≢◌, ℕ, ◌+◌, ◌-◌, ◌<◌, Bool, true, false, List, [], ◌∷◌, ◌++◌, inl, inr, length, refl, sym, ap, ◌∙◌, subst,
+    append-nil, append_assoc}
 use Rattle.std.specs.Prelude.{◌&&◌, ◌⊎◌, ◌≢◌, flat_map, Result, Ok, Err, OnOk, IfOk}
 use Rattle.std.specs.Io.KnownBytes.{Appends}
 use Rattle.hex.specs.Hex.{decode_of}
@@ -36,7 +9,6 @@ use Rattle.hex.specs.declared.error.FromHexError.TheVariants.{OutOfMemory}
 use Rattle.mpcanon.specs.declared.lines.RunFault.{RunFault}
 use Rattle.mpcanon.specs.Lines.{digits_in}
 use Rattle.std.proofs.KnownBytes.{Appends-nil, Appends-trans}
-use Rattle.std.proofs.lemmas.List.{map_more}
 use Rattle.std.proofs.lemmas.List.Elements.{All-push}
 use Rattle.rmp_wire.specs.declared.sink.Sink.{Ghosts}
 use Rattle.rmp_wire.specs.Spelling.{Spells}
@@ -91,17 +63,6 @@ prints_none shows = (refl, refl)
 module _ {W : Type 0} (g : Ghosts W) (shows : List ℕ → List ℕ → Bool → Type 0) where
   pub puts_nothing : (s : W) → Puts g (λ out. PrintsAll shows [] out true) s s
   puts_nothing s = record { out = []; appended = Appends-nil (g.told s); shown = prints_none shows }
-
-  -- one line more is printed
-  pub puts_more : {A : Type 0} (v : A → List ℕ) (xs : List A) (i : ℕ) (d : A) {old mid new : W} (a b : Bool) → i < length xs
-      → Puts g (λ out. PrintsAll shows (map v (take i xs)) out a) old mid → Puts g (λ out. PrintsLine shows (v (get_or xs i d)) out b) mid new
-      → Puts g (λ out. PrintsAll shows (map v (take (i + 1) xs)) out (a && b)) old new
-  puts_more v xs i d a b within p q = record {
-    out = p.out ++ q.out;
-    appended = Appends-trans _ _ _ p.out q.out p.appended q.appended;
-    shown = subst (λ ls. PrintsAll shows ls (p.out ++ q.out) (a && b)) (sym (map_more v xs i d within))
-        (prints_more shows (map v (take i xs)) (v (get_or xs i d)) p.out a q.out b p.shown q.shown);
-  }
 
 pub puts_weaker : {W : Type 0} (g : Ghosts W) {P Q : List ℕ → Type 0} {old new : W} → Puts g P old new → ((out : List ℕ) → P out → Q out) → Puts g Q old new
 puts_weaker g p f = record { out = p.out; appended = p.appended; shown = f p.out p.shown }

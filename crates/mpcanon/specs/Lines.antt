@@ -1,5 +1,6 @@
 -- The lines of the input.
-use Rattle.std.specs.Prelude.{◌≡◌, ℕ, ◌==◌, ◌||◌, Bool, not, List, [], filter, IsOk}
+use Rattle.std.specs.Prelude.{◌≡◌, ℕ, ◌==◌, ◌||◌, Bool, not, List, [], Option, None, Some, filter, IsOk}
+use Rattle.std.specs.Borrow.{Bor}
 use Rattle.std.specs.List.{slice_split}
 use Rattle.std.specs.Str.Lines.{strip_carriage_return}
 use Rattle.hex.specs.Hex.{decode_of}
@@ -7,6 +8,11 @@ use Rattle.hex.specs.Hex.{decode_of}
 -- what stands between line feeds, and before the first and behind the last
 abbrev pub lines_in : List ℕ → List (List ℕ)
 lines_in input = slice_split (λ b. b == 10) input
+
+-- the lines of what stands behind a line's end: none where there is no end
+abbrev pub lines_left : Option (Bor (List ℕ)) → List (List ℕ)
+lines_left None = []
+lines_left (Some text) = lines_in text.now
 
 -- a space or a tab
 abbrev pub is_blank : ℕ → Bool

@@ -1,8 +1,8 @@
 //! Lines of hex: how the input is read, and how what each line comes to is printed.
-ghost use Rattle.std.specs.Prelude.{◌≡◌, ◌≢◌, ◌⊎◌, ℕ, Bool, List, [], false, map, IfOk, OnOk, IfErr, IfSome, string_bytes};
+ghost use Rattle.std.specs.Prelude.{◌≡◌, ◌≢◌, ◌<◌, ◌⊎◌, ◌++◌, ◌∷◌, ℕ, Bool, List, [], length, false, IfOk, OnOk, IfErr, IfSome, string_bytes};
 ghost use Rattle.std.specs.Io.KnownBytes.{Appends, Consumes};
 ghost use Rattle.mpcanon.specs.Input.{StopsReading, ReadsInput};
-ghost use Rattle.mpcanon.specs.Lines.{lines_in, digits_in};
+ghost use Rattle.mpcanon.specs.Lines.{lines_in, lines_left, digits_in};
 ghost use Rattle.mpcanon.specs.Messages.{refused_text, error_name, no_hex_text};
 ghost use Rattle.mpcanon.specs.Output.{PrintsLines, PrintsRun};
 ghost use Rattle.mpcanon.specs.Prints.{line, IsStart, PrintsLine, StartsLine, PrintsAll, StartsAll, Puts};
@@ -105,6 +105,16 @@ fn digits_of(alloc: Global, line: &[u8]) -> Result<Vec<u8>, AllocError>
         .collect(alloc)
 }
 
+// Puts bytes behind others. Where these fill their memory, it grows by an eighth, so that little of it is left unused.
+fn append(input: &mut Vec<u8>, piece: &[u8]) -> Result<(), AllocError>
+    ensures ok { OnOk result (input.new.items ≡ input.old.items ++ piece.now) }
+{
+    if input.capacity() - input.len() < piece.len() {
+        input.reserve_exact((input.len() / 8).saturating_add(piece.len()))?;
+    }
+    input.extend_from_slice(piece)
+}
+
 // Reads the source to its end.
 fn read_to_end<R: Source>(alloc: Global, source: &mut R) -> Result<Vec<u8>, RunFault>
     ensures taken { IfOk result (λ v. Consumes (R.ahead source.old) (R.ahead source.new) v.items) }
@@ -118,7 +128,7 @@ fn read_to_end<R: Source>(alloc: Global, source: &mut R) -> Result<Vec<u8>, RunF
     loop {
         match source.pull(&mut chunk) {
             Ok(0) => return Ok(input),
-            Ok(n) => input.extend_from_slice(&chunk[..n])?,
+            Ok(n) => append(&mut input, &chunk[..n])?,
             Err(e) => return Err(RunFault::Input(e)),
         }
     }
@@ -212,11 +222,19 @@ fn show_line<S: Shows, W: Sink>(alloc: Global, line: &[u8], sink: &mut W) -> Res
     }
 }
 
-// The lines of the input.
-fn lines_of<'a>(alloc: Global, input: &'a [u8]) -> Result<Vec<&'a [u8]>, AllocError>
-    ensures lines { IfOk result (λ v. map (λ line. line.now) v.items ≡ lines_in input.now) }
+// The first line, and what stands behind its end, where it has one.
+fn first_line(text: &[u8]) -> (&[u8], Option<&[u8]>)
+    ensures lines { lines_in text.now ≡ result.0.now ∷ lines_left result.1 }
+    ensures shorter { IfSome result.1 (λ more. length more.now < length text.now) }
 {
-    input.split(|byte| *byte == b'\n').collect(alloc)
+    let mut at = 0;
+    while at < text.len() {
+        if text[at] == b'\n' {
+            return (&text[..at], Some(&text[at + 1..]));
+        }
+        at += 1;
+    }
+    (text, None)
 }
 
 // Prints what each line comes to, and says whether nothing was refused.
@@ -229,10 +247,12 @@ fn show_lines<S: Shows, W: Sink>(
     ensures prints { PrintsLines W.Sink sink.old sink.new result }
     ensures early { IfErr result (λ e. Puts W.Sink (StartsAll S.shows S.starts (lines_in input.now)) sink.old sink.new) }
 {
-    let lines = lines_of(alloc, input)?;
     let mut accepted = true;
-    for line in &lines {
+    let mut left = Some(input);
+    while let Some(text) = left {
+        let (line, more) = first_line(text);
         accepted &= show_line::<S, W>(alloc, line, sink)?;
+        left = more;
     }
     Ok(accepted)
 }

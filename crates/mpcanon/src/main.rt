@@ -13,7 +13,8 @@ mod task;
 mod tree_text;
 
 use lines::RunFault;
-use std::io::{ErrorKind, Read, Write};
+use rmp_serde::wire::{IoSink, IoSource};
+use std::io::{BufWriter, ErrorKind, Write};
 use std::process::ExitCode;
 use std::rt::Env;
 use std::{env, io};
@@ -31,21 +32,22 @@ fn task_asked(rt: &(impl Env + AllocGlobal)) -> io::Result<Task> {
     }
 }
 
-// Runs over the whole standard input, and says whether no line was refused.
+// Runs over the whole standard input, and says whether no line was refused. What is printed goes through a buffer, which is
+// flushed however the run ends.
 fn serve(rt: &(impl Input + Print + AllocGlobal), checks: bool) -> Result<bool, RunFault> {
-    let mut input = Vec::new(rt.alloc());
-    rt.reader()
-        .read_to_end(&mut input)
-        .map_err(RunFault::Input)?;
-    let mut out = Vec::new(rt.alloc());
-    let accepted = if checks {
-        check::check(rt.alloc(), &mut input.as_slice(), &mut out)?
-    } else {
-        run::run(rt.alloc(), &mut input.as_slice(), &mut out)?
+    let Ok(writer) = BufWriter::new(rt.alloc(), io::writer(rt)) else {
+        return Err(RunFault::Memory);
     };
-    let mut writer = io::writer(rt);
-    writer.write_all(out.as_slice()).map_err(RunFault::Output)?;
-    writer.flush().map_err(RunFault::Output)?;
+    let mut source = IoSource::new(rt.reader());
+    let mut sink = IoSink::new(writer);
+    let answer = if checks {
+        check::check(rt.alloc(), &mut source, &mut sink)
+    } else {
+        run::run(rt.alloc(), &mut source, &mut sink)
+    };
+    let flushed = sink.get_mut().flush();
+    let accepted = answer?;
+    flushed.map_err(RunFault::Output)?;
     Ok(accepted)
 }
 

@@ -1,12 +1,16 @@
 -- What was printed of the lines so far, and what was said of them.
-use Rattle.std.proofs.Common.{◌≡◌, map, take}
+use Rattle.std.proofs.Common.{◌≡◌}
+use Rattle.mpcanon.specs.Lines.{lines_in, lines_left}
 use Rattle.mpcanon.specs.Output.{PutsLines}
-use Rattle.mpcanon.specs.Prints.{PrintsAll, Puts}
+use Rattle.mpcanon.proofs.Walking.{Walked, still_left}
 use Rattle.mpcanon.proofs.lines.show_lines.Given as goal
 
-abbrev pub invariant-loop-line : goal.invariant-loop-line
-invariant-loop-line g l = record {
-  shown : Puts g.W.Sink (λ out. PrintsAll g.S.Shows.shows (map (λ x. x.now) (take l.line-index l.line-items)) out l.accepted) l.fn.sink l.sink;
+abbrev pub invariant-loop-left : goal.invariant-loop-left
+invariant-loop-left g l = record {
+  shown : Walked g.W.Sink g.S.Shows.shows (lines_in l.fn.input) (lines_left l.left) l.accepted l.fn.sink l.sink;
   lines : PutsLines g.W.Sink l.fn.sink l.sink;
   place : g.W.Sink.place l.sink ≡ g.W.Sink.place l.fn.sink;
 }
+
+abbrev pub decreases-loop-left : goal.decreases-loop-left
+decreases-loop-left g l = still_left l.left
