@@ -100,20 +100,6 @@ pub(super) fn f64_at(front: &[u8]) -> Option<u64>
     }
 }
 
-// The bits of a float.
-#[inline(always)]
-fn float_at(front: &[u8]) -> Option<(Head, usize)>
-    ensures { IfSome result (λ p. StandsIn false p.1 p.0 front.now) }
-{
-    match f32_at(front) {
-        Some(bits) => Some((Head::F32Bits(bits), 5)),
-        None => match f64_at(front) {
-            Some(bits) => Some((Head::F64Bits(bits), 9)),
-            None => None,
-        },
-    }
-}
-
 // A head of a text of any length.
 #[inline(always)]
 fn long_text_at(front: &[u8]) -> Option<(Head, usize)>
@@ -218,7 +204,14 @@ fn any_at(front: &[u8]) -> Option<(Head, usize)>
         [first, ..] => match first {
             0x80..=0xbf | 0xc0 | 0xc2 | 0xc3 => short_at(front),
             0xc4..=0xc6 => bytes_at(front),
-            0xca | 0xcb => float_at(front),
+            0xca => match f32_at(front) {
+                Some(bits) => Some((Head::F32Bits(bits), 5)),
+                None => None,
+            },
+            0xcb => match f64_at(front) {
+                Some(bits) => Some((Head::F64Bits(bits), 9)),
+                None => None,
+            },
             0xd9..=0xdb => long_text_at(front),
             0xdc..=0xdf => long_parts_at(front),
             0xd0..=0xd3 | 0xe0..=0xff => match signed_at(front) {
