@@ -11,47 +11,20 @@ use Rattle.rmp_encode.specs.declared.error.Error.{Error}
 use Rattle.rmp_encode.specs.declared.error.Error.TheVariants as errors
 use Rattle.rmp_encode.specs.declared.settings.Settings.{Settings}
 use Rattle.rmp_encode.specs.Calls.{IsSpelled, ToVecFails}
-use Rattle.rmp_encode.specs.Data.{lower, lower_parts, lower_entries}
 use Rattle.rmp_encode.specs.Errors.{error_of, answer_of}
 use Rattle.rmp_encode.specs.Trees.{HasTree, spell, byte_of, tree_of}
 use Rattle.rmp_encode.specs.Writes as encode
 use Rattle.rmp_encode.specs.Writes.{FailsBy, HasBegun, WritesPart}
 use Rattle.rmp_encode.proofs.Parts.{part_done, part_failed}
 use Rattle.rmp_serde.specs.TreeWrites.{StopsWithin, WritesTree}
-use Rattle.rmp_serde.specs.ValueData.{value_data, values_data, pairs_data}
-
-mutual
-  unfolding lower value_data
-
-  pub lower_value : (s : Settings) (m : Msg) → lower s (value_data m) ≡ m
-  lower_value s nil = refl
-  lower_value s (truth t) = refl
-  lower_value s (whole z) = refl
-  lower_value s (float32 n) = refl
-  lower_value s (float64 n) = refl
-  lower_value s (text t) = refl
-  lower_value s (bin t) = refl
-  lower_value s (list ms) = ap list (lower_values s ms)
-  lower_value s (map ps) = ap map (lower_pairs s ps)
-  lower_value s (extension tag t) = refl
-
-  lower_values : (s : Settings) (ms : Msgs) → lower_parts s (values_data ms) ≡ ms
-  lower_values s no_items = refl
-  lower_values s (item m ms) = λ i. item (lower_value s m i) (lower_values s ms i)
-
-  lower_pairs : (s : Settings) (ps : Pairs) → lower_entries s (pairs_data ps) ≡ ps
-  lower_pairs s no_pairs = refl
-  lower_pairs s (pair k v ps) = λ i. pair (lower_value s k i) (lower_value s v i) (lower_pairs s ps i)
-
--- the tree of a value
-pub value_tree : (s : Settings) (m : Msg) → tree_of s (Some (value_data m)) ≡ Some m
-value_tree s m = ap Some (lower_value s m)
+use Rattle.rmp_serde.specs.ValueData.{value_data}
+use Rattle.rmp_serde.specs.ValueLowers.{value_tree}
 
 tree_or : Msg → Option Msg → Msg
 tree_or m None = m
 tree_or m (Some n) = n
 
-some_is : {a b : Msg} → Some a ≡ Some b → a ≡ b
+pub some_is : {a b : Msg} → Some a ≡ Some b → a ≡ b
 unfolding tree_or
 some_is {a} {b} e = ap (tree_or a) e
 

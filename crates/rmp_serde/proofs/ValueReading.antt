@@ -88,7 +88,7 @@ use Rattle.rmp_decode.specs.declared.error.Error.{Error}
 use Rattle.rmp_decode.specs.Maps.{OfMap, ReadsPairs, OpensMap, map_inner, TakesKey, TakesValue}
 use Rattle.rmp_decode.specs.Rows.{ReadsEach}
 use Rattle.rmp_decode.specs.Seq.{OfRow, seq_head, Opens, IsOpen, TakesElement, FailsToTake}
-use Rattle.rmp_serde.specs.Read.{ItemsUtf8, PairsUtf8}
+use Rattle.rmp_serde.specs.Read.{AllTextsUtf8, ItemsUtf8, PairsUtf8}
 use Rattle.rmp_serde.specs.Read.{reads_value}
 
 -- ---- items
@@ -179,6 +179,10 @@ text_utf8 n (extension tag s) e r = absurd (cc)
 
 pub value_fits : {R C : Type 0} (g : Ghosts R) (old last : Deserializer R C) (v : Msg) → Lawful g reads_value old last (Ok v) → Fits v
 value_fits g old last v l = let r = l.ok in subst Fits (sym r.value.0) (spells_fits r.tree r.bytes (spells_any old.strict r.tree r.bytes r.spelled))
+
+-- and all its texts are UTF-8
+pub value_holds : {R C : Type 0} (g : Ghosts R) (old last : Deserializer R C) (v : Msg) → Lawful g reads_value old last (Ok v) → Fits v × AllTextsUtf8 v
+value_holds g old last v l = (value_fits g old last v l, let r = l.ok in subst AllTextsUtf8 (sym r.value.0) r.value.1)
 
 pub leaf_fits : {R C V : Type 0} (g : Ghosts R) (make : V → Msg) (old last : Deserializer R C) (v : V) → Lawful g (λ m x. m ≡ make x) old last (Ok v)
     → Fits (make v)

@@ -9,11 +9,15 @@ mod example;
 pub mod laws;
 #[cfg(test)]
 mod own_type;
+mod raw;
+mod round_trip;
 mod value;
 
 pub use check::{Canon, check_canonical};
 pub use decode::{Deserializer, from_read, from_read_ref, from_slice, from_slice_strict};
 pub use encode::{Serializer, to_vec, to_vec_named};
+pub use raw::{Raw, RawRef};
 pub use rmp_wire as wire;
 pub use rmp_wire::{MSGPACK_EXT_STRUCT_NAME, Marker, config};
+pub use round_trip::{NeverNil, RoundTrip};
 pub use value::{Kind, Value, ValueRef};

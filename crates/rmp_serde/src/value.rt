@@ -12,7 +12,8 @@ use std::marker::Model;
 
 /// A message of any kind, as a tree.
 ///
-/// Contracts see it as the message tree itself, every length and number of which has room in a head (`Fits`).
+/// Contracts see it as the message tree itself, every length and number of which has room in a head (`Fits`), and every text of which
+/// is UTF-8.
 #[cycle(value)]
 #[derive(Drop)]
 pub struct Value {
@@ -43,11 +44,12 @@ impl Model for Value {
 
     ghost coded = { msg_code };
 
+    ghost use Rattle.rmp_serde.specs.Read.{AllTextsUtf8};
     ghost use Rattle.rmp_serde.specs.View.{node_view};
 
     ghost view = { λ a. node_view a.node };
 
-    ghost invariant = { λ a. Fits (node_view a.node) };
+    ghost invariant = { λ a. Fits (node_view a.node) × AllTextsUtf8 (node_view a.node) };
 
     ghost size = { depth };
 

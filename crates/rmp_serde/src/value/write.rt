@@ -5,6 +5,7 @@ ghost use Rattle.rmp_wire.specs.Heads.{canon_head, fits_head};
 ghost use Rattle.rmp_wire.specs.Spelling.{canon, Fits};
 ghost use Rattle.rmp_wire.specs.Writing.{Writes};
 ghost use Rattle.rmp_wire.specs.declared.head.Head.TheVariants.{Whole};
+ghost use Rattle.rmp_serde.specs.Read.{AllTextsUtf8};
 ghost use Rattle.rmp_serde.specs.TreeWrites.{WritesTree};
 ghost use Rattle.rmp_serde.specs.ValueData.{value_data};
 
@@ -87,7 +88,7 @@ fn write_pairs<W: Sink>(sink: &mut W, pairs: &[(Value, Value)]) -> Result<(), Va
 impl Serialize for Value {
     ghost data_of = { λ v _. Some (value_data v) };
 
-    ghost is_value = { Fits };
+    ghost is_value = { λ v. Fits v × AllTextsUtf8 v };
 
     ghost takes_memory = { λ _. false };
 

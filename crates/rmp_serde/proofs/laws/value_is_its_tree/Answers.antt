@@ -1,4 +1,5 @@
-use Rattle.rmp_serde.proofs.Lowering.{value_tree, value_spelled, value_only, value_fails}
+use Rattle.rmp_serde.specs.ValueLowers.{value_tree}
+use Rattle.rmp_serde.proofs.Lowering.{value_spelled, value_only, value_fails}
 use Rattle.rmp_serde.proofs.laws.value_is_its_tree.Goals as goal
 
 pub returns-clause-tree : goal.returns-clause-tree

@@ -38,7 +38,7 @@ use Rattle.rmp_serde.proofs.ValueReading.{
   map_value,
   map_key_refused,
   map_value_refused,
-  value_fits,
+  value_holds,
   leaf_fits,
 }
 use Rattle.rmp_serde.proofs.value.read.+reading.Goals as goal
@@ -174,24 +174,36 @@ read_pairs-returns-clause-law g t c = λ old o.
 -- ---- a message of any kind
 
 pub read_value-invariant_of-result : goal.read_value-invariant_of-result
-read_value-invariant_of-result g t c = leaf_fits g.R.Source (λ u. nil) c.args.de.now _ _ (rw c.in-Ok-Nil.field-0-is at c.in-Ok-Nil.ensures.opened)
+read_value-invariant_of-result g t c = (leaf_fits g.R.Source (λ u. nil) c.args.de.now _ _ (rw c.in-Ok-Nil.field-0-is at c.in-Ok-Nil.ensures.opened), tt)
 
 pub read_value-invariant_of-result-in-Ok-Truth : goal.read_value-invariant_of-result-in-Ok-Truth
-read_value-invariant_of-result-in-Ok-Truth g t c = subst (λ z. Fits (truth z)) (sym c.value-in-Ok-Truth.ensures.value)
-    (leaf_fits g.R.Source truth c.args.de.now _ _ (rw c.in-Ok-Truth.field-0-is at c.in-Ok-Truth.ensures.opened))
+read_value-invariant_of-result-in-Ok-Truth g t c = (
+  subst (λ z. Fits (truth z)) (sym c.value-in-Ok-Truth.ensures.value)
+      (leaf_fits g.R.Source truth c.args.de.now _ _ (rw c.in-Ok-Truth.field-0-is at c.in-Ok-Truth.ensures.opened)),
+  tt,
+)
 
 pub read_value-invariant_of-result-in-Ok-Whole : goal.read_value-invariant_of-result-in-Ok-Whole
-read_value-invariant_of-result-in-Ok-Whole g t c = whole_back _
-    (subst (λ z. Fits (whole z)) (sym c.value-in-Ok-Whole.ensures.value)
-    (leaf_fits g.R.Source whole c.args.de.now _ _ (rw c.in-Ok-Whole.field-0-is at c.in-Ok-Whole.ensures.opened)))
+read_value-invariant_of-result-in-Ok-Whole g t c = (
+  whole_back _
+      (subst (λ z. Fits (whole z)) (sym c.value-in-Ok-Whole.ensures.value)
+      (leaf_fits g.R.Source whole c.args.de.now _ _ (rw c.in-Ok-Whole.field-0-is at c.in-Ok-Whole.ensures.opened))),
+  tt,
+)
 
 pub read_value-invariant_of-result-in-Ok-F32Bits : goal.read_value-invariant_of-result-in-Ok-F32Bits
-read_value-invariant_of-result-in-Ok-F32Bits g t c = subst (λ z. Fits (float32 z)) (sym c.value-in-Ok-F32Bits.ensures.value)
-    (leaf_fits g.R.Source float32 c.args.de.now _ _ (rw c.in-Ok-F32Bits.field-0-is at c.in-Ok-F32Bits.ensures.opened))
+read_value-invariant_of-result-in-Ok-F32Bits g t c = (
+  subst (λ z. Fits (float32 z)) (sym c.value-in-Ok-F32Bits.ensures.value)
+      (leaf_fits g.R.Source float32 c.args.de.now _ _ (rw c.in-Ok-F32Bits.field-0-is at c.in-Ok-F32Bits.ensures.opened)),
+  tt,
+)
 
 pub read_value-invariant_of-result-in-Ok-F64Bits : goal.read_value-invariant_of-result-in-Ok-F64Bits
-read_value-invariant_of-result-in-Ok-F64Bits g t c = subst (λ z. Fits (float64 z)) (sym c.value-in-Ok-F64Bits.ensures.value)
-    (leaf_fits g.R.Source float64 c.args.de.now _ _ (rw c.in-Ok-F64Bits.field-0-is at c.in-Ok-F64Bits.ensures.opened))
+read_value-invariant_of-result-in-Ok-F64Bits g t c = (
+  subst (λ z. Fits (float64 z)) (sym c.value-in-Ok-F64Bits.ensures.value)
+      (leaf_fits g.R.Source float64 c.args.de.now _ _ (rw c.in-Ok-F64Bits.field-0-is at c.in-Ok-F64Bits.ensures.opened)),
+  tt,
+)
 
 pub read_value-read_text-requires : goal.read_value-read_text-requires
 read_value-read_text-requires g t c = record { opened = (c.args.de.now, rw c.in-Ok-Text.field-0-is at c.in-Ok-Text.ensures.opened) }
@@ -209,7 +221,7 @@ read_value-read_items-requires g t c κs within =
     (omega (arith, o.0.room, level, c.decreases), (within.0, (within.1.0, (within.1.1, (c.args.de.now, o)))))
 
 pub read_value-invariant_of-result-in-Ok-Seq : goal.read_value-invariant_of-result-in-Ok-Seq
-read_value-invariant_of-result-in-Ok-Seq g t c = value_fits g.R.Source c.args.de.now _ _
+read_value-invariant_of-result-in-Ok-Seq g t c = value_holds g.R.Source c.args.de.now _ _
     (c.in_ok-items-in-Ok-Seq.ensures.law c.args.de.now (rw c.in-Ok-Seq.field-0-is at c.in-Ok-Seq.ensures.opened))
 
 pub read_value-read_pairs-requires : goal.read_value-read_pairs-requires
@@ -218,7 +230,7 @@ read_value-read_pairs-requires g t c κs within =
     (omega (arith, o.room, c.decreases), (within.0, (within.1.0, (within.1.1, (c.args.de.now, o)))))
 
 pub read_value-invariant_of-result-in-Ok-Map : goal.read_value-invariant_of-result-in-Ok-Map
-read_value-invariant_of-result-in-Ok-Map g t c = value_fits g.R.Source c.args.de.now _ _
+read_value-invariant_of-result-in-Ok-Map g t c = value_holds g.R.Source c.args.de.now _ _
     (c.in_ok-found-in-Ok-Map.ensures.law c.args.de.now (rw c.in-Ok-Map.field-0-is at c.in-Ok-Map.ensures.opened))
 
 pub read_value-returns-in-Ok-Text-clause-refusal : goal.read_value-returns-in-Ok-Text-clause-refusal

@@ -17,7 +17,7 @@ invariant_of-result g c =
     let base = value_fits g.R.Source o.0 c.take.new.self.0 _
     (ext_value g.R.Source o.0 c.take.new.self.0 c.args.raw c.args.raw.tag s refl o.1 c.in-Ok.ensures.ok) in
     let e : to_z w8 (of_z w8 c.tag-tag.result) ≡ c.args.raw.tag = ap (λ z. to_z w8 (of_z w8 z)) c.tag-tag.ensures ∙ tag_back c.args.raw.tag s base in
-    subst (λ z. Fits (extension z s)) (sym e) base
+    (subst (λ z. Fits (extension z s)) (sym e) base, tt)
 
 pub returns-in-Ok-clause-law : goal.returns-in-Ok-clause-law
 returns-in-Ok-clause-law g c = λ old o.

@@ -3,13 +3,13 @@ use Rattle.std.specs.String.{string_bytes}
 use Rattle.rmp_decode.proofs.AnyReads.{raw_not_text}
 use Rattle.rmp_serde.specs.Read.{reads_value}
 use Rattle.rmp_serde.proofs.Refusing.{text_wrong}
-use Rattle.rmp_serde.proofs.ValueReading.{value_fits, text_value, text_utf8}
+use Rattle.rmp_serde.proofs.ValueReading.{value_holds, text_value, text_utf8}
 use Rattle.rmp_serde.proofs.value.read.read_text.Goals as goal
 
 pub invariant_of-result : goal.invariant_of-result
 invariant_of-result g c =
     let o = c.requires.opened in
-    value_fits g.R.Source o.0 c.text.new.self.0 _ (text_value g.R.Source o.0 c.text.new.self.0 c.args.raw (string_bytes c.in-Ok.text) o.1 c.in-Ok.ensures.ok
+    value_holds g.R.Source o.0 c.text.new.self.0 _ (text_value g.R.Source o.0 c.text.new.self.0 c.args.raw (string_bytes c.in-Ok.text) o.1 c.in-Ok.ensures.ok
     (IsUtf8-string_bytes c.in-Ok.text))
 
 pub returns-in-Ok-clause-law : goal.returns-in-Ok-clause-law

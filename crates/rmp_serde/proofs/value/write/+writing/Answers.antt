@@ -70,11 +70,11 @@ write_value-returns-in_err-write_ext_meta-in-Ext-clause-writes g t c =
     let p = err_from_is_err_and c.from_residual-in_err-write_ext_meta-in-Ext.result c.from_residual-in_err-write_ext_meta-in-Ext.ensures.1 in
     rw (p.1, p.2)
     (takes_as (extension_is c.in-Ext.tag _ c.in-Ext.bytes.items _ _ (c.len-in-Ext.ensures ∙ c.in-Ext.bytes.ok.0)
-    (tag_fits _ c.in-Ext.bytes.items (rw c.in-Ext.is at c.value.invariant)) (sym (ap node_view c.in-Ext.is) ∙ c.value.view_is))
+    (tag_fits _ c.in-Ext.bytes.items (rw c.in-Ext.is at c.value.invariant).0) (sym (ap node_view c.in-Ext.is) ∙ c.value.view_is))
     (takes_stop _ (tree_of_puts c.in_err-write_ext_meta-in-Ext.ensures.writes)))
 
 pub write_value-returns-in_ok-write_ext_meta-in-Ext-clause-writes : goal.write_value-returns-in_ok-write_ext_meta-in-Ext-clause-writes
 write_value-returns-in_ok-write_ext_meta-in-Ext-clause-writes g t c =
     takes_as (extension_is c.in-Ext.tag _ c.in-Ext.bytes.items _ _ (c.len-in-Ext.ensures ∙ c.in-Ext.bytes.ok.0)
-    (tag_fits _ c.in-Ext.bytes.items (rw c.in-Ext.is at c.value.invariant)) (sym (ap node_view c.in-Ext.is) ∙ c.value.view_is))
+    (tag_fits _ c.in-Ext.bytes.items (rw c.in-Ext.is at c.value.invariant).0) (sym (ap node_view c.in-Ext.is) ∙ c.value.view_is))
     (tree_of_puts ((rw c.deref-in-Ext.ensures.value at c.write_content.ensures.writes) _ _ (head_some _) c.in_ok-write_ext_meta-in-Ext.ensures.writes))

@@ -1,0 +1,36 @@
+-- What bytes that may be no UTF-8 lower to is read as those bytes.
+use Rattle.std.proofs.Common.{◌≡◌, ℕ, List, Bool, true, false, Some, refl, cond}
+use Rattle.std.specs.Prelude.{◌≢◌}
+use Rattle.std.specs.Str.{is_utf8}
+use Rattle.rmp_wire.specs.Msg as msg
+use Rattle.rmp_encode.specs.Data.{Data, text, bytes, lower}
+use Rattle.rmp_encode.specs.Trees.{tree_of}
+use Rattle.rmp_encode.specs.declared.settings.Settings.{Settings}
+use Rattle.rmp_decode.specs.Read.{IsRaw}
+use Rattle.rmp_serde.specs.Raws.{raw_data}
+use Rattle.rmp_serde.specs.RoundTrip.{LowersTo}
+
+module _ (s : Settings) where
+  either_row : (b : Bool) (t : List ℕ) → LowersTo s (Some (cond b (text t) (bytes t))) (λ m. IsRaw m t)
+  unfolding lower
+  either_row true t = (true, refl)
+  either_row false t = (false, refl)
+
+  pub raw_row : (t : List ℕ) → LowersTo s (Some (raw_data t)) (λ m. IsRaw m t)
+  raw_row t = either_row (is_utf8 t) t
+
+  either_other : (b : Bool) (t : List ℕ) → tree_of s (Some (cond b (text t) (bytes t))) ≢ Some msg.nil
+  unfolding lower
+  either_other true t e = cc
+  either_other false t e = cc
+
+  pub raw_other : (t : List ℕ) → tree_of s (Some (raw_data t)) ≢ Some msg.nil
+  raw_other t = either_other (is_utf8 t) t
+
+  either_lent : (b : Bool) (t : List ℕ) (lends : Bool) → lends ≡ true → LowersTo s (Some (cond b (text t) (bytes t))) (λ m. (lends ≡ true) × IsRaw m t)
+  unfolding lower
+  either_lent true t lends l = (l, (true, refl))
+  either_lent false t lends l = (l, (false, refl))
+
+  pub raw_ref_row : (t : List ℕ) (lends : Bool) → lends ≡ true → LowersTo s (Some (raw_data t)) (λ m. (lends ≡ true) × IsRaw m t)
+  raw_ref_row t lends l = either_lent (is_utf8 t) t lends l

@@ -1,0 +1,165 @@
+//! Bytes that lie elsewhere.
+#![tactic(auto, unfolding(rmp_encode::specs::Data::lower), using(rmp_encode::proofs::Parts::part_memory))]
+
+ghost use Rattle.std.specs.Prelude.{◌≡◌, ◌↔◌, None, Some, IsTrue, IsUtf8, MatchOption, false, if◌then◌else◌, true};
+ghost use Rattle.std.specs.Str.{bytes_eq, valid_up_to};
+ghost use Rattle.std.specs.Str.Lossy.{utf8_valid_len};
+ghost use Rattle.std.specs.Cmp.{on_per, partial_equiv_from_equiv};
+ghost use Rattle.std.proofs.lemmas.Cmp.{nat_list_eq_equiv};
+ghost use Rattle.rmp_decode.specs.Content.{IsRawHead, RefusesContent, not_raw, not_bytes};
+ghost use Rattle.rmp_decode.specs.Read.{IsRaw};
+ghost use Rattle.rmp_serde.specs.RawRounds.{raw_ref_row, raw_other};
+ghost use Rattle.rmp_serde.specs.Raws.{raw_ref_bytes, raw_data};
+
+use crate::raw::{ContentRef, OtherRef, RawRef};
+use crate::round_trip::{NeverNil, RoundTrip};
+use rmp_decode::{Deserialize, Deserializer, Error};
+use rmp_encode::{Serialize, Serializer};
+use rmp_wire::config::SerializerConfig;
+use rmp_wire::{ReadSlice, Sink};
+use std::str;
+use std::str::Utf8Error;
+
+impl<'a> RawRef<'a> {
+    /// The bytes of a text.
+    pub fn new(text: &'a str) -> RawRef<'a>
+        ensures { raw_ref_bytes result ≡ text.now }
+    {
+        RawRef {
+            content: ContentRef::Text(text),
+        }
+    }
+
+    /// These bytes, whether they are UTF-8 or not.
+    pub fn from_utf8(bytes: &'a [u8]) -> RawRef<'a>
+        ensures { raw_ref_bytes result ≡ bytes.now }
+    {
+        match str::from_utf8(bytes) {
+            Ok(text) => RawRef::new(text),
+            Err(error) => RawRef {
+                content: ContentRef::Other(OtherRef { bytes, error }),
+            },
+        }
+    }
+
+    /// Whether the bytes are UTF-8.
+    pub fn is_str(&self) -> bool
+        ensures { IsTrue result ↔ IsUtf8 (raw_ref_bytes self.now) }
+    {
+        self.as_str().is_some()
+    }
+
+    /// Whether the bytes aren't UTF-8.
+    pub fn is_err(&self) -> bool
+        ensures { IsTrue result ↔ (IsUtf8 (raw_ref_bytes self.now) → ⊥) }
+    {
+        !self.is_str()
+    }
+
+    /// The text, where the bytes are UTF-8, for as long as it lies there.
+    pub fn as_str(&self) -> Option<&'a str>
+        ensures { MatchOption result (IsUtf8 (raw_ref_bytes self.now) → ⊥)
+            (λ s. (s.now ≡ raw_ref_bytes self.now) × IsUtf8 (raw_ref_bytes self.now)) }
+    {
+        match &self.content {
+            ContentRef::Text(text) => Some(*text),
+            ContentRef::Other(_) => None,
+        }
+    }
+
+    /// Why the bytes aren't UTF-8, where they aren't, and up to which place they are.
+    pub fn as_err(&self) -> Option<&Utf8Error>
+        ensures { MatchOption result (IsUtf8 (raw_ref_bytes self.now))
+            (λ e. (IsUtf8 (raw_ref_bytes self.now) → ⊥) × (valid_up_to e.now ≡ utf8_valid_len (raw_ref_bytes self.now))) }
+    {
+        match &self.content {
+            // The call tells the proof that the bytes are UTF-8.
+            ContentRef::Text(text) => {
+                let _bytes = text.as_bytes();
+                None
+            }
+            ContentRef::Other(other) => Some(&other.error),
+        }
+    }
+
+    /// The bytes, for as long as they lie there.
+    pub fn as_bytes(&self) -> &'a [u8]
+        ensures { result.now ≡ raw_ref_bytes self.now }
+    {
+        match &self.content {
+            ContentRef::Text(text) => text.as_bytes(),
+            ContentRef::Other(other) => other.bytes,
+        }
+    }
+}
+
+impl PartialEq for RawRef<'_> {
+    ghost eq = { λ a b. bytes_eq (raw_ref_bytes a) (raw_ref_bytes b) };
+
+    ghost laws = { on_per raw_ref_bytes (partial_equiv_from_equiv nat_list_eq_equiv) };
+
+    fn eq(&self, other: &RawRef<'_>) -> bool
+        ensures value { result ≡ bytes_eq (raw_ref_bytes self.now) (raw_ref_bytes other.now) }
+        ensures equal { IsTrue result ↔ (raw_ref_bytes self.now ≡ raw_ref_bytes other.now) }
+    {
+        self.as_bytes() == other.as_bytes()
+    }
+}
+
+impl Serialize for RawRef<'_> {
+    ghost data_of = { λ v _. Some (raw_data (raw_ref_bytes v)) };
+
+    ghost is_value = { λ _. Unit {0} };
+
+    ghost takes_memory = { λ _. false };
+
+    fn serialize<W: Sink, C: SerializerConfig>(
+        &self,
+        se: &mut Serializer<W, C>,
+    ) -> Result<(), rmp_encode::Error> {
+        match self.as_str() {
+            Some(text) => se.serialize_str(text),
+            None => se.serialize_bytes(self.as_bytes()),
+        }
+    }
+
+    #[tactic(auto, using(crate::proofs::RawWriting::raw_no_byte))]
+    fn as_u8(&self, _human: bool) -> Option<u8> {
+        None
+    }
+}
+
+impl<'de, R: ReadSlice<'de>> Deserialize<'de, R> for RawRef<'de> {
+    ghost reads = { λ human lends m v. (lends ≡ true) × IsRaw m (raw_ref_bytes v) };
+
+    ghost absent = { None };
+
+    ghost refuses = { λ s. RefusesContent s.strict IsRawHead not_raw (not_bytes s.lends) };
+
+    ghost takes_memory = { λ lends. if lends then false else true };
+
+    fn deserialize<C: SerializerConfig>(de: &mut Deserializer<R, C>) -> Result<RawRef<'de>, Error> {
+        match de.deserialize_bytes() {
+            Ok(bytes) => Ok(RawRef::from_utf8(bytes)),
+            Err(e) => Err(e),
+        }
+    }
+
+    fn missing() -> Option<RawRef<'de>> {
+        None
+    }
+}
+
+impl<'de, R: ReadSlice<'de>> RoundTrip<'de, R> for RawRef<'de> {
+    ghost use Rattle.std.proofs.Common.{refl};
+
+    ghost borrows = { true };
+
+    ghost has_data = { λ human v. refl };
+
+    ghost round = { λ lent s v fits. raw_ref_row s (raw_ref_bytes v) R.lends (lent refl) };
+}
+
+impl NeverNil for RawRef<'_> {
+    ghost never_nil = { λ s v. raw_other s (raw_ref_bytes v) };
+}

@@ -1,0 +1,86 @@
+#!/usr/bin/env python3
+"""Writes the implementations of `RoundTrip` and `NeverNil` for tuples of one to eight elements.
+
+    tools/round_tuples.py [FOLDER]     writes below this folder in place of the repository's top
+
+Run `rt fmt` in the crate afterwards.
+"""
+from lines import write
+
+KINDS = "ABDEFGHI"
+MOST = len(KINDS)
+HEAD = """//! Tuples. Written by tools/round_tuples.py.
+ghost use Rattle.std.specs.Prelude.{◌∷◌, ◌||◌, [], true};
+ghost use Rattle.rmp_serde.specs.Rounds.{rows_none, rows_cons, parts_none, parts_cons, tuple_some, tuple_row, tuple_other, first_lent, second_lent};
+
+use crate::round_trip::{NeverNil, RoundTrip};
+use rmp_encode::Serialize;
+use rmp_wire::ReadSlice;
+"""
+
+
+def tuple_of(kinds):
+    return f"({', '.join(kinds)}{',' if len(kinds) == 1 else ''})"
+
+
+def bounds(kinds, bound):
+    return ", ".join(f"{k}: {bound}" for k in kinds)
+
+
+# Whether one of them borrows.
+def borrows(kinds):
+    if len(kinds) == 1:
+        return f"{kinds[0]}.borrows"
+    return f"({kinds[0]}.borrows || {borrows(kinds[1:])})"
+
+
+# That the source lends, where each of them borrows.
+def lent(kinds, proof):
+    if len(kinds) == 1:
+        return [proof]
+    parts = f"{kinds[0]}.borrows {borrows(kinds[1:])} R.lends {proof}"
+    return [f"(first_lent {parts})"] + lent(kinds[1:], f"(second_lent {parts})")
+
+
+# None of them is refused.
+def stated(kinds, at=0):
+    if at == len(kinds):
+        return "parts_none"
+    return f"(parts_cons _ _ ({kinds[at]}.has_data human v.{at}) {stated(kinds, at + 1)})"
+
+
+# Each of them is read as itself.
+def rounds(kinds, proofs, at=0):
+    if at == len(kinds):
+        return "(rows_none s)"
+    value = f"v.{at}"
+    fits = "fits" if len(kinds) == 1 else f"fits.{at}"
+    reads = f"(λ m. {kinds[at]}.reads s.human R.lends m {value})"
+    return f"(rows_cons s _ _ {reads} _ ({kinds[at]}.round {proofs[at]} s {value} {fits}) {rounds(kinds, proofs, at + 1)})"
+
+
+def data(kinds):
+    return "".join(f"{k}.data_of v.{i} s.human ∷ " for i, k in enumerate(kinds)) + "[]"
+
+
+def implementations(kinds):
+    return f"""
+impl<'de, R: ReadSlice<'de>, {bounds(kinds, "RoundTrip<'de, R>")}> RoundTrip<'de, R> for {tuple_of(kinds)} {{
+    ghost borrows = {{ {borrows(kinds)} }};
+
+    ghost has_data = {{ λ human v. tuple_some _ {stated(kinds)} }};
+
+    ghost round = {{ λ lent s v fits. tuple_row s _ _ {rounds(kinds, lent(kinds, "lent"))} }};
+}}
+
+impl<{bounds(kinds, "Serialize")}> NeverNil for {tuple_of(kinds)} {{
+    ghost never_nil = {{ λ s v. tuple_other s ({data(kinds)}) }};
+}}
+"""
+
+
+def main():
+    write(HEAD + "".join(implementations(KINDS[:n]) for n in range(1, MOST + 1)), "rmp_serde", "src", "round_trip", "tuples.rt")
+
+
+main()
