@@ -4,7 +4,7 @@ use Rattle.std.specs.Prelude.{Result, Ok, Err}
 use Rattle.rmp_wire.specs.declared.sink.Sink.{Ghosts}
 use Rattle.rmp_wire.specs.declared.error.ValueWriteError.{ValueWriteError}
 use Rattle.rmp_wire.specs.declared.error.ValueWriteError.TheVariants as wire
-use Rattle.rmp_wire.specs.Msg.{Msg, nil, truth, whole, float32, float64, text, bin, list, map, extension, Msgs, no_items, item, Pairs, no_pairs, pair}
+use Rattle.rmp_wire.specs.Msg.{Msg, nil, truth, whole, float32, float64, text, bin, list, map, extension}
 use Rattle.rmp_wire.specs.Spelling.{canon, Fits, Spells}
 use Rattle.rmp_wire.proofs.Told.{next_differs}
 use Rattle.rmp_encode.specs.declared.error.Error.{Error}

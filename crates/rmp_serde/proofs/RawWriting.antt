@@ -1,10 +1,10 @@
 -- What is written of bytes that may be no UTF-8, and what holds them.
-use Rattle.std.proofs.Common.{◌≡◌, ◌∙◌, ℕ, List, Bool, true, false, Option, None, Some, Result, refl, sym, ap, subst, cond}
+use Rattle.std.proofs.Common.{◌≡◌, ◌∙◌, ℕ, List, Bool, true, false, None, Some, Result, refl, sym, ap, subst, cond}
 use Rattle.std.proofs.lemmas.Str.{IsUtf8-from_is_utf8, IsUtf8-string_bytes, is_utf8-from_IsUtf8}
 use Rattle.std.specs.Prelude.{IsUtf8}
 use Rattle.std.specs.Str.{is_utf8}
 use Rattle.rmp_wire.specs.Msg as msg
-use Rattle.rmp_encode.specs.Data.{Data, text, bytes, lower}
+use Rattle.rmp_encode.specs.Data.{text, bytes, lower}
 use Rattle.rmp_encode.specs.Trees.{byte_of, tree_of}
 use Rattle.rmp_encode.specs.declared.settings.Settings.{Settings}
 use Rattle.rmp_encode.specs.Writes.{WritesTree}

@@ -1,5 +1,5 @@
 -- What is written is read back, and what a tree is read as depends on the tree alone.
-use Rattle.std.proofs.Common.{◌≡◌, ℕ, List, ◌++◌, Bool, true, Option, None, Some, refl, sym, ◌∙◌, ap, subst}
+use Rattle.std.proofs.Common.{◌≡◌, ℕ, List, ◌++◌, Option, None, Some, refl, sym, ◌∙◌, ap, subst}
 use Rattle.std.specs.Prelude.{◌<◌, ◌↔◌, IsSomeAnd}
 use Rattle.rmp_wire.specs.Canonical.{IsCanonical}
 use Rattle.rmp_wire.specs.Msg.{Msg, depth}

@@ -1,8 +1,8 @@
 -- What leaves lower to is read as those leaves.
-use Rattle.std.proofs.Common.{◌≡◌, ℕ, List, Bool, true, false, Option, None, Some, refl, sym, ◌∙◌, ap, arith}
-use Rattle.std.specs.Prelude.{◌≢◌, ◌<◌, ◌≤◌, ◌^◌, ◌≤ℤ◌, ℤ, pos, negsuc, IsUtf8, FitsSigned}
+use Rattle.std.proofs.Common.{◌≡◌, ℕ, List, Bool, true, false, Some, refl, arith}
+use Rattle.std.specs.Prelude.{◌≢◌, ◌<◌, ◌^◌, ℤ, pos, negsuc, IsUtf8, FitsSigned}
 use Rattle.std.specs.Char.{IsScalar}
-use Rattle.std.specs.Int.{w8, w16, w32, w64, w128}
+use Rattle.std.specs.Int.{w8, w16, w32, w64}
 use Rattle.std.proofs.lemmas.Int.{ints}
 use Rattle.rmp_wire.specs.Msg as msg
 use Rattle.rmp_wire.specs.Msg.{Msg}

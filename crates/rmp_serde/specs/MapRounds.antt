@@ -1,5 +1,5 @@
 -- What sets and maps lower to is read as those sets and maps.
-use Rattle.std.proofs.Common.{◌≡◌, ℕ, List, [], ◌∷◌, ◌++◌, Bool, true, false, Option, None, Some, refl, sym, ◌∙◌, ap, subst, map, All, cond}
+use Rattle.std.proofs.Common.{◌≡◌, List, [], ◌∷◌, ◌++◌, Bool, true, false, Option, None, Some, refl, sym, ◌∙◌, ap, subst, map, All, cond}
 use Rattle.std.specs.Prelude.{◌≢◌, IsSome, reverse}
 use Rattle.std.specs.BTreeMap.{is_at}
 use Rattle.std.specs.Cmp.{IsTotalOrder}
@@ -17,7 +17,7 @@ use Rattle.rmp_wire.specs.Msg.{Msg, Msgs, Pairs}
 use Rattle.rmp_encode.specs.Data.{Data, mapping, Entries, no_entries, entry, lower, lower_entries}
 use Rattle.rmp_encode.specs.Trees.{tree_of, entries_of, in_turn, mapping_of, sequence_of}
 use Rattle.rmp_encode.specs.declared.settings.Settings.{Settings}
-use Rattle.rmp_decode.specs.Maps.{Collects, OfMap, ReadsEntries, ReadsPairs}
+use Rattle.rmp_decode.specs.Maps.{Collects, ReadsEntries, ReadsPairs}
 use Rattle.rmp_decode.specs.Rows.{ReadsEach}
 use Rattle.rmp_decode.specs.Sets.{CollectsKeys, ReadsKeys}
 use Rattle.rmp_serde.specs.RoundTrip.{LowersTo}

@@ -3,7 +3,7 @@ use Rattle.std.proofs.Common.{◌≡◌, ℕ, List, Bool, true, false, Some, ref
 use Rattle.std.specs.Prelude.{◌≢◌}
 use Rattle.std.specs.Str.{is_utf8}
 use Rattle.rmp_wire.specs.Msg as msg
-use Rattle.rmp_encode.specs.Data.{Data, text, bytes, lower}
+use Rattle.rmp_encode.specs.Data.{text, bytes, lower}
 use Rattle.rmp_encode.specs.Trees.{tree_of}
 use Rattle.rmp_encode.specs.declared.settings.Settings.{Settings}
 use Rattle.rmp_decode.specs.Read.{IsRaw}

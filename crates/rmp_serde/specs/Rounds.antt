@@ -1,6 +1,6 @@
 -- What values lower to is read as those values.
-use Rattle.std.proofs.Common.{◌≡◌, ℕ, List, [], ◌∷◌, Bool, true, false, Option, None, Some, refl, sym, ◌∙◌, ap, subst, map, All, arith}
-use Rattle.std.specs.Prelude.{◌≢◌, ◌||◌, ℤ, pos, IfSome, IsSome, cond}
+use Rattle.std.proofs.Common.{◌≡◌, ℕ, List, [], ◌∷◌, Bool, true, false, Option, None, Some, refl, sym, ap, subst, map, All}
+use Rattle.std.specs.Prelude.{◌≢◌, ◌||◌, pos, IfSome, IsSome}
 use Rattle.std.specs.Option.{option_map}
 use Rattle.std.proofs.lemmas.List.Elements.{All-head, All-tail}
 use Rattle.rmp_wire.specs.Msg as msg

@@ -1,8 +1,8 @@
 -- The 16 bytes of a number of 128 bits give the number back.
-use Rattle.std.proofs.Common.{◌≡◌, ℕ, ℤ, Some, refl, sym, ◌∙◌, ap, subst, arith, inl, inr}
+use Rattle.std.proofs.Common.{◌≡◌, ℕ, ℤ, Some, refl, sym, ◌∙◌, ap, arith, inr}
 use Rattle.std.specs.Prelude.{◌<◌, ◌^◌, ◌+◌, ◌*◌, ◌/◌, ◌%◌, FitsSigned}
 use Rattle.std.proofs.Math.Facts.{Fits-of_z}
-use Rattle.std.specs.Int.{w128, to_be_bytes, from_be_bytes, cast_signed, cast_unsigned}
+use Rattle.std.specs.Int.{w128, to_be_bytes, from_be_bytes, cast_unsigned}
 use Rattle.std.proofs.Math.Nat.{div-div-eq-div-mul}
 use Rattle.std.proofs.lemmas.Int.{to_z-of_z}
 use Rattle.rmp_wire.specs.Msg.{bin}
