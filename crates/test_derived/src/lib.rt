@@ -3,6 +3,8 @@
 
 mod enums;
 mod structs;
+#[cfg(test)]
+mod tests;
 
 pub use enums::{Four, Mixed, Two, V12};
 pub use structs::{Counted, Dog, Newtype, Opt, Point, Unit};
