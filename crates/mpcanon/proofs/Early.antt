@@ -1,6 +1,29 @@
 -- What was put where a run ends early.
-use Rattle.std.proofs.Common.{arith, ◌≡◌, ◌≢◌, ◌∙◌, ℕ, ◌-◌, ◌<◌, Bool, true, false, List, [], ◌∷◌, ◌++◌, inl, inr, length, refl, sym, ap, subst, append-nil,
-    append_assoc}
+use Rattle.std.proofs.Common.{
+  arith,
+  ◌≡◌,
+  ◌≢◌,
+  ◌∙◌,
+  ℕ,
+  ◌-◌,
+  ◌<◌,
+  Bool,
+  true,
+  false,
+  List,
+  [],
+  ◌∷◌,
+  ◌++◌,
+  inl,
+  inr,
+  length,
+  refl,
+  sym,
+  ap,
+  subst,
+  append-nil,
+  append_assoc,
+}
 use Rattle.std.specs.Prelude.{◌⊎◌, Option, None, Some, IfSome, Result, Ok, Err, IfErr}
 use Rattle.std.proofs.KnownBytes.{Appends-nil, Appends-trans}
 use Rattle.std.proofs.lemmas.List.{length-append}

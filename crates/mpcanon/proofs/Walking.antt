@@ -1,6 +1,35 @@
 -- Lines, one after another, and what was printed of those before.
-use Rattle.std.proofs.Common.{◌≡◌, ◌∙◌, ℕ, ◌+◌, ◌<◌, suc, zero, arith, Bool, true, false, List, [], ◌∷◌, ◌++◌, All, Bor, take, drop, get_or, length, eqb,
-    refl, sym, ap, subst, append-nil, append_assoc, map-id}
+use Rattle.std.proofs.Common.{
+  ◌≡◌,
+  ◌∙◌,
+  ℕ,
+  ◌+◌,
+  ◌<◌,
+  suc,
+  zero,
+  arith,
+  Bool,
+  true,
+  false,
+  List,
+  [],
+  ◌∷◌,
+  ◌++◌,
+  All,
+  Bor,
+  take,
+  drop,
+  get_or,
+  length,
+  eqb,
+  refl,
+  sym,
+  ap,
+  subst,
+  append-nil,
+  append_assoc,
+  map-id,
+}
 use Rattle.std.specs.Prelude.{◌&&◌, Option, None, Some}
 use Rattle.std.proofs.KnownBytes.{Appends-trans}
 use Rattle.std.proofs.lemmas.List.{map_more}

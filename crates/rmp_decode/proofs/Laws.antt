@@ -16,8 +16,14 @@ pub stays_refl : {R C : Type 0} (g : Ghosts R) (d : Deserializer R C) → Stays 
 stays_refl g d = record { config = refl; room = refl; limit = refl; strict = refl; place = refl }
 
 pub stays_then : {R C : Type 0} (g : Ghosts R) (a b c : Deserializer R C) → Stays g a b → Stays g b c → Stays g a c
-stays_then g a b c p q = record { config = q.config ∙ p.config; room = q.room ∙ p.room; limit = q.limit ∙ p.limit; strict = q.strict
-    ∙ p.strict; place = q.place ∙ p.place }
+stays_then g a b c p q = record {
+  config = q.config ∙ p.config;
+  room = q.room ∙ p.room;
+  limit = q.limit ∙ p.limit;
+  strict = q.strict
+      ∙ p.strict;
+  place = q.place ∙ p.place;
+}
 
 module _ {R C V : Type 0} (g : Ghosts R) (reads : Msg → V → Type 0) (old new : Deserializer R C) where
   -- a refusal of what was there
@@ -131,4 +137,4 @@ pub lawful_refuse : {R C V W : Type 0} (g : Ghosts R) (reads : Msg → V → Typ
     → new ≡ record mid { failed = true } → Lawful g reads old mid (Ok v) → Lawful g reads' old new (Err e)
 lawful_refuse g reads reads' old mid new v e f q l = rw q
     (lawful_not g reads reads' old mid (record mid { failed = true }) v e f refl
-        (record { config = refl; room = refl; limit = refl; strict = refl; place = refl }) l)
+    (record { config = refl; room = refl; limit = refl; strict = refl; place = refl }) l)

@@ -9,7 +9,7 @@ returns-then-text-at-eq10-clause-lines c =
     let rest = drop (c.loop-at.at + 1) c.args.text.now in
     ends_at c.args.text.now c.loop-at.at _ c.loop-at-test.true c.loop-at.invariant.none c.if-text-at-eq10.true
     ∙ ap (λ t. take c.loop-at.at c.args.text.now ∷ lines_in t)
-        (sym (take_all (length c.args.text.now - (c.loop-at.at + 1)) rest (omega (arith, length-drop (c.loop-at.at + 1) c.args.text.now))))
+    (sym (take_all (length c.args.text.now - (c.loop-at.at + 1)) rest (omega (arith, length-drop (c.loop-at.at + 1) c.args.text.now))))
 
 pub loop-at-preserved : goal.loop-at-preserved
 loop-at-preserved c = record {

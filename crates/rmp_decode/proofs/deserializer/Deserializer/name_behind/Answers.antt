@@ -23,7 +23,7 @@ returns-in-Ok-clause-law g c = λ old m h.
 pub returns-in-Err-clause-law : goal.returns-in-Err-clause-law
 returns-in-Err-clause-law g c = λ old m h. name_refused g.R.Source (bytes_of c.args.names.now) old c.args.self.now (m, c.args.head) h c.in-Some.is_text
     c.in-Some.len _ _ c.in-Some.ensures c.in-Err.ensures.err h.failed
-        (record { config = refl; room = refl; limit = refl; strict = refl; place = c.in-Err.ensures.place })
+    (record { config = refl; room = refl; limit = refl; strict = refl; place = c.in-Err.ensures.place })
 
 pub returns-in-Err-clause-exact : goal.returns-in-Err-clause-exact
 returns-in-Err-clause-exact g c = λ old m h.

@@ -12,7 +12,7 @@ pub returns-clause-law : goal.returns-clause-law
 returns-clause-law g c = λ old m h.
     content_read text_content g.R.Source _ old c.args.self.now _ (m, _) h (string_bytes c.in-Ok-from_str.text) c.args.len _ refl (search rules)
     (search rules) (search rules) refl refl (search rules) (record { config = refl; room = refl; limit = refl; strict = refl; place = search rules })
-        (true, refl)
+    (true, refl)
 
 pub returns-in-Err-from_str-clause-exact : goal.returns-in-Err-from_str-clause-exact
 returns-in-Err-from_str-clause-exact g c = λ old m h.

@@ -5,7 +5,7 @@ use Rattle.rmp_decode.proofs.deserializer.Deserializer.take_nil.Goals as goal
 pub returns-then-byte : goal.returns-then-byte
 returns-then-byte g c = nil_next g.R.Source c.args.self.now _ c.if-self.false c.if-self.false
     (record { config = refl; room = refl; limit = refl; strict = refl; place = c.in-Ok.ensures.reads.place }) c.in-Ok.ensures.reads.sound c.in-Ok.marker _
-        c.in-Nothing.is
+    c.in-Nothing.is
     c.in-Nothing.is c.in-Ok.ensures.reads.ok c.to_u8-byte.ensures c.if-byte.true
 
 pub returns-then-byte-2 : goal.returns-then-byte-2

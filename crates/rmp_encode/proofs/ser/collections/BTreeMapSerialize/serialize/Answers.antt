@@ -80,6 +80,9 @@ returns-clause-writes g c = none_next g.W.Sink c.args.se.now _ _ _ _
     c.in-None.ensures.steps.0) c.loop-key.invariant.writing
 
 pub returns-clause-value : goal.returns-clause-value
-returns-clause-value g c = (c.loop-key.invariant.values
-    (subst (All (λ e. g.K.Serialize.is_value e.0 × g.V.Serialize.is_value e.1)) (sym c.in-None.ensures.steps.0)
-    (All-nil (λ e. g.K.Serialize.is_value e.0 × g.V.Serialize.is_value e.1))), c.len.ensures.ordered)
+returns-clause-value g c = (
+  c.loop-key.invariant.values
+      (subst (All (λ e. g.K.Serialize.is_value e.0 × g.V.Serialize.is_value e.1)) (sym c.in-None.ensures.steps.0)
+      (All-nil (λ e. g.K.Serialize.is_value e.0 × g.V.Serialize.is_value e.1))),
+  c.len.ensures.ordered,
+)
