@@ -2,11 +2,7 @@
 pub(crate) mod any;
 pub(crate) mod fields;
 pub(crate) mod map;
-#[cfg(test)]
-mod name_tests;
 pub(crate) mod names;
 mod parts;
 pub(crate) mod seq;
-#[cfg(test)]
-mod tests;
 pub(crate) mod variant;

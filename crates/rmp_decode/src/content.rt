@@ -15,8 +15,6 @@ mod buffers;
 mod ext;
 pub(crate) mod pieces;
 mod strings;
-#[cfg(test)]
-mod tests;
 mod texts;
 
 use crate::access::variant::next_variant;

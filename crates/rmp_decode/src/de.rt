@@ -7,27 +7,15 @@ ghost use Rattle.rmp_decode.specs.Law.{Begins, Readable, Lawful};
 ghost use Rattle.rmp_decode.specs.Refusing.{slice_setting};
 
 mod arrays;
-#[cfg(test)]
-mod field_samples;
-#[cfg(test)]
-mod field_tests;
-#[cfg(test)]
-mod leaf_tests;
 mod lists;
 mod maps;
 mod numbers;
 mod options;
 mod pointers;
-#[cfg(test)]
-mod reader_tests;
 mod sets;
-#[cfg(test)]
-mod tests;
 mod texts;
 mod tuples;
 mod units;
-#[cfg(test)]
-mod variant_tests;
 mod wide;
 
 use crate::deserializer::Deserializer;

@@ -4,8 +4,6 @@ ghost use Rattle.rmp_decode.specs.State.{room_of, reader_of, alloc_of, config_of
 ghost use Rattle.rmp_decode.specs.Law.{ReadsHead};
 ghost use Rattle.rmp_decode.specs.declared.deserializer.Kept.TheVariants.{Nothing};
 
-#[cfg(test)]
-mod depth_tests;
 mod fronts;
 mod heads;
 pub(crate) mod kinds;

@@ -1,0 +1,26 @@
+//! What is read by the public calls of `rmp_decode`: its tests, and types of users that they read.
+#![tactic(auto)]
+
+#[cfg(test)]
+mod accesses;
+#[cfg(test)]
+mod content;
+#[cfg(test)]
+mod depths;
+#[cfg(test)]
+mod errors;
+#[cfg(test)]
+mod fields;
+#[cfg(test)]
+mod leaves;
+#[cfg(test)]
+mod names;
+#[cfg(test)]
+mod readers;
+mod samples;
+#[cfg(test)]
+mod types;
+#[cfg(test)]
+mod variants;
+
+pub use samples::{Dog, Named, Tagged, Weight, Wide};
