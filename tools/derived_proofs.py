@@ -91,8 +91,9 @@ def has_content(of):
 def enum_no_byte(of):
     """An answer for each variant with content: it is no byte."""
     given = "g c" if of.parameters else "c"
-    lemmas = [(shape.name, NO_BYTE[shape.kind]) for shape in of.variants if shape.fields]
-    return "".join(answer(f"returns-in-{name}-clause-byte", f"search (rules, {lemma})", given) for name, lemma in lemmas)
+    # the only variant is no arm of its own
+    arms = [(f"-in-{shape.name}" if len(of.variants) > 1 else "", shape) for shape in of.variants if shape.fields]
+    return "".join(answer(f"returns{arm}-clause-byte", f"search (rules, {NO_BYTE[shape.kind]})", given) for arm, shape in arms)
 
 
 def answers(of, traits, module):

@@ -58,6 +58,3 @@ impl<T: Drop> From<AllocFailed<T>> for Error {
         Error::OutOfMemory
     }
 }
-
-#[cfg(test)]
-mod tests;

@@ -12,8 +12,6 @@ pub mod serializer;
 pub mod series;
 pub mod settings;
 mod slice;
-#[cfg(test)]
-mod tests;
 pub mod tuple;
 pub mod underlying;
 mod variant;

@@ -1,10 +1,12 @@
-//! Types that the samples need and users write by hand.
+//! Types that the samples need and users write by hand, and what is written by the public calls of `rmp_encode`.
 #![tactic(auto)]
 
 mod newtype;
 mod optional;
 mod tuple_struct;
 mod unknown;
+#[cfg(test)]
+mod writes;
 
 pub use newtype::NewU8;
 pub use optional::OptionalByte;

@@ -4,11 +4,7 @@ ghost use Rattle.rmp_encode.specs.Data.{byte, text, truth, whole};
 ghost use Rattle.rmp_encode.specs.Trees.{newtype_variant_of, sequence_of, structure_of};
 
 use super::is_written;
-use crate::elements::{Both, Eight, One, Three};
-use crate::error::Error;
-use crate::ser::Serialize;
-use crate::serializer::Serializer;
-use crate::whole::to_vec_named;
+use rmp_encode::{Both, Eight, Error, One, Serialize, Serializer, Three, to_vec_named};
 use rmp_wire::config::{BytesMode, SerializerConfig};
 use rmp_wire::{Sink, SliceSink, ValueWriteError};
 use std::test::Fail;
@@ -31,7 +27,7 @@ impl Serialize for Leaf {
         se.serialize_newtype_variant("Tree", 0, "Leaf", &self.0)
     }
 
-    #[tactic(auto, using(crate::proofs::Variants::newtype_no_byte))]
+    #[tactic(auto, using(rmp_encode::proofs::Variants::newtype_no_byte))]
     fn as_u8(&self, _human: bool) -> Option<u8> {
         None
     }
@@ -61,7 +57,7 @@ impl Serialize for Dog {
         fields.end()
     }
 
-    #[tactic(auto, using(crate::proofs::Fields::structure_no_byte))]
+    #[tactic(auto, using(rmp_encode::proofs::Fields::structure_no_byte))]
     fn as_u8(&self, _human: bool) -> Option<u8> {
         None
     }
@@ -89,7 +85,7 @@ impl Serialize for Point {
         se.serialize_elements("Point", &parts)
     }
 
-    #[tactic(auto, using(crate::proofs::Lists::sequence_no_byte))]
+    #[tactic(auto, using(rmp_encode::proofs::Lists::sequence_no_byte))]
     fn as_u8(&self, _human: bool) -> Option<u8> {
         None
     }
@@ -123,7 +119,7 @@ impl Serialize for Cat {
         se.serialize_fields("Cat", &["name", "age", "home"], &values)
     }
 
-    #[tactic(auto, using(crate::proofs::Fields::structure_no_byte))]
+    #[tactic(auto, using(rmp_encode::proofs::Fields::structure_no_byte))]
     fn as_u8(&self, _human: bool) -> Option<u8> {
         None
     }

@@ -1,5 +1,6 @@
-use super::*;
-use rmp_wire::IoFault;
+//! The printed texts of errors, and their sizes.
+use rmp_encode::Error;
+use rmp_wire::{IoFault, ValueWriteError};
 use std::io::ErrorKind;
 use std::mem::size_of;
 use std::test::Fail;

@@ -1,10 +1,7 @@
 //! Rows of values and their bytes.
 ghost use Rattle.std.specs.Prelude.{true};
 
-use crate::error::Error;
-use crate::ser::Serialize;
-use crate::serializer::Serializer;
-use crate::whole::{to_vec, write};
+use rmp_encode::{Error, Serialize, Serializer, to_vec, write};
 use rmp_wire::config::BytesMode;
 use rmp_wire::{
     ByteBuf, Bytes, Ext, F32Bits, F64Bits, Sink, SinkFault, SliceSink, ValueWriteError,
@@ -13,6 +10,7 @@ use std::collections::{BTreeMap, BTreeSet, VecDeque};
 use std::test::Fail;
 
 mod calls;
+mod errors;
 mod implementations;
 mod leaves;
 mod structs;

@@ -5,9 +5,7 @@ ghost use Rattle.rmp_encode.specs.Trees.{tree_of, sequence_of};
 ghost use Rattle.rmp_encode.specs.Writes.{Keeps, WritesTree};
 
 use super::{is_forced, is_written};
-use crate::error::Error;
-use crate::ser::Serialize;
-use crate::serializer::Serializer;
+use rmp_encode::{Error, Serialize, Serializer};
 use rmp_wire::config::{BytesMode, SerializerConfig};
 use rmp_wire::{ByteBuf, Bytes, Ext, F32Bits, F64Bits, Sink};
 use std::collections::{BTreeMap, BTreeSet, VecDeque};
@@ -184,7 +182,7 @@ impl<T: Serialize> Serialize for Uncounted<T> {
         list_of(se, self.0.as_slice())
     }
 
-    #[tactic(auto, using(crate::proofs::Lists::sequence_no_byte))]
+    #[tactic(auto, using(rmp_encode::proofs::Lists::sequence_no_byte))]
     fn as_u8(&self, _human: bool) -> Option<u8> {
         None
     }

@@ -2,7 +2,7 @@ use Rattle.std.proofs.Common.{rules, refl}
 use Rattle.std.proofs.lemmas.Result.{err_from_is_err_and}
 use Rattle.rmp_encode.proofs.Going.{unopened}
 use Rattle.rmp_encode.proofs.Parts.{rests_at}
-use Rattle.rmp_encode.proofs.tests.structs.DogSerialize.serialize.Goals as goal
+use Rattle.test_types.proofs.writes.structs.DogSerialize.serialize.Goals as goal
 
 pub returns-in_err-fields-clause-writes : goal.returns-in_err-fields-clause-writes
 returns-in_err-fields-clause-writes g c =

@@ -1,9 +1,6 @@
 //! Options, structs without fields, newtype structs, and numbers of 128 bits.
 use super::{is_forced, is_written};
-use crate::error::Error;
-use crate::ser::Serialize;
-use crate::serializer::Serializer;
-use crate::whole::{to_vec, write_named};
+use rmp_encode::{Error, Serialize, Serializer, to_vec, write_named};
 use rmp_wire::config::{BytesMode, SerializerConfig};
 use rmp_wire::{MSGPACK_EXT_STRUCT_NAME, Sink, SliceSink, ValueWriteError};
 use std::test::Fail;
@@ -88,7 +85,7 @@ impl Serialize for Meters {
 
     ghost takes_memory = { λ _. false };
 
-    #[tactic(auto, unfolding(crate::specs::Data::lower))]
+    #[tactic(auto, unfolding(rmp_encode::specs::Data::lower))]
     fn serialize<W: Sink, C: SerializerConfig>(
         &self,
         se: &mut Serializer<W, C>,

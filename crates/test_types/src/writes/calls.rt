@@ -1,10 +1,7 @@
 //! The calls of a serializer and of what it opens.
 ghost use Rattle.std.specs.Prelude.{false};
 
-use crate::error::Error;
-use crate::serializer::Serializer;
-use crate::underlying::UnderlyingWrite;
-use crate::whole::{to_vec_named, write_named};
+use rmp_encode::{Error, Serializer, UnderlyingWrite, to_vec_named, write_named};
 use rmp_wire::config::BytesMode;
 use rmp_wire::{Sink, SinkFault, ValueWriteError};
 use std::io;

@@ -4,7 +4,7 @@ use Rattle.rmp_encode.specs.Ser.{settings_of}
 use Rattle.rmp_encode.specs.Trees.{sequence_of, tree_of}
 use Rattle.rmp_encode.specs.Writes.{Keeps}
 use Rattle.rmp_encode.specs.Opens.{IsOpen, is_map, owed}
-use Rattle.rmp_encode.proofs.tests.implementations.list_of.Given as goal
+use Rattle.test_types.proofs.writes.implementations.list_of.Given as goal
 
 abbrev pub invariant-loop-value : goal.invariant-loop-value
 invariant-loop-value g l = record {

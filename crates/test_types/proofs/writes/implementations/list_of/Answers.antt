@@ -6,7 +6,7 @@ use Rattle.rmp_encode.specs.Ser.{settings_of}
 use Rattle.rmp_encode.proofs.Parts.{rests_at, part_memory}
 use Rattle.rmp_encode.proofs.Going.{map_rest, map_rest_none, keeps_then, keeps_last, on_ok, unopened}
 use Rattle.rmp_encode.proofs.OpenSteps.{takes, ends, still_open}
-use Rattle.rmp_encode.proofs.tests.implementations.list_of.Goals as goal
+use Rattle.test_types.proofs.writes.implementations.list_of.Goals as goal
 
 pub returns-in_err-seq-clause-writes : goal.returns-in_err-seq-clause-writes
 returns-in_err-seq-clause-writes g c =
