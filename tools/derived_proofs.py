@@ -4,6 +4,8 @@ from imports import imports
 # Where the lemmas and signs of the answers come from.
 WORDS = {
     "std.proofs.Common": "◌≡◌ refl arith rules",
+    "std.proofs.lemmas.Int": "to_z-of_z",
+    "std.specs.Int": "w8 w16 w32 w64 w128",
     "rmp_decode.proofs.Laws": "lawful_ok lawful_err",
     "rmp_decode.proofs.Variants": "variant_ok variant_err variant_unopened readable",
     "rmp_encode.proofs.Variants": "newtype_no_byte tuple_variant_no_byte struct_variant_no_byte",
@@ -27,6 +29,23 @@ def nested(words):
     return "".join(f"({word}, " for word in words) + "tt" + ")" * len(words)
 
 
+# The widths of the numbers with a sign.
+SIGNED = {"i8": "w8", "i16": "w16", "i32": "w32", "i64": "w64", "i128": "w128", "isize": "w64"}
+
+
+def part_of(shape, at):
+    """The name of a part that was read: of the only one, of a tuple's or of nested pairs'."""
+    return "first" if shape.kind == "newtype" else "parts" + (".1" * at + ".0" if shape.kind == "named" else f".{at}")
+
+
+def held(shape, arm, term):
+    """The term, where each number with a sign that was read in this arm is the same after a field held it."""
+    for at, field in enumerate(shape.fields):
+        if field.kind in SIGNED:
+            term = f"rw (to_z-of_z {SIGNED[field.kind]} {arm}.{part_of(shape, at)} (search rules)) ({term})"
+    return term
+
+
 def struct_read(shape):
     """The two answers of a struct that is read by one call."""
     back, forth = "λ m r. r", "λ m r. r"
@@ -38,7 +57,7 @@ def struct_read(shape):
         forth = f"λ m r. ({tuple_of([f'r.0.{field.name}' for field in shape.fields])}, r.1)"
     else:
         forth = f"λ m r. ({nested([f'r.0.{field.name}' for field in shape.fields])}, r.1)"
-    text = answer("returns-in-Ok-clause-law", f"lawful_ok _ _ _ _ _ _ _ ({back}) c.in-Ok.ensures.law")
+    text = answer("returns-in-Ok-clause-law", held(shape, "c.in-Ok", f"lawful_ok _ _ _ _ _ _ _ ({back}) c.in-Ok.ensures.law"))
     return text + answer("returns-in-Err-clause-law", f"lawful_err _ _ _ _ _ _ ({forth}) c.in-Err.ensures.law")
 
 
@@ -60,7 +79,8 @@ def variant_read(call, at, shape, count):
     values = [f"h.{i}" for i in range(n)]
     value = nested(values) if shape.kind == "named" else tuple_of(values) if n else ""
     back = f"λ v k h. readable _ k {value} h.{n + 1}" if n else "λ v k h. h.1"
-    ok = f"{start}variant_ok _ _ _ _ _ _ (search rules) _ {at} _ _ ({done})\n    (c.in-Ok-{call}.ensures.ok _ {at} _ {opened})"
+    ok = f"variant_ok _ _ _ _ _ _ (search rules) _ {at} _ _ ({done})\n    (c.in-Ok-{call}.ensures.ok _ {at} _ {opened})"
+    ok = start + held(shape, f"c.in-Ok-{call}", ok)
     err = f"{start}variant_err _ _ _ _ _ _ (search rules) _ {at} _ ({back})\n    (c.in-Err-{call}.ensures.err _ {at} _ {opened})"
     return answer(f"returns-in-Ok-{call}-clause-law", ok) + answer(f"returns-in-Err-{call}-clause-law", err)
 
