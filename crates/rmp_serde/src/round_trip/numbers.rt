@@ -1,6 +1,8 @@
 //! Truth values, numbers, floats and unit.
 ghost use Rattle.std.proofs.Common.{refl};
-ghost use Rattle.rmp_serde.specs.LeafRounds.{byte_row, unsigned_row_16, unsigned_row_32, unsigned_row_64, signed_row_8, signed_row_16, signed_row_32, signed_row_64, truth_row, unit_row, float32_row, float64_row, byte_other, pos_other, whole_other, unsigned128_other, signed128_other, truth_other, float32_other, float64_other};
+ghost use Rattle.rmp_serde.specs.LeafRounds.{byte_row, unsigned_row_16, unsigned_row_32, unsigned_row_64, signed_row_8, signed_row_16, signed_row_32};
+ghost use Rattle.rmp_serde.specs.LeafRounds.{signed_row_64, truth_row, unit_row, float32_row, float64_row, byte_other, pos_other};
+ghost use Rattle.rmp_serde.specs.LeafRounds.{whole_other, unsigned128_other, signed128_other, truth_other, float32_other, float64_other};
 ghost use Rattle.rmp_serde.specs.WideRounds.{unsigned128_row, signed128_row};
 
 use crate::round_trip::{NeverNil, RoundTrip};
