@@ -15,6 +15,19 @@ def listed(words):
     return "(" + " ∷ (".join(words) + " ∷ []" + ")" * len(words)
 
 
+# The elements that each call writes, by where they begin and end: four, two, or one.
+def groups(n):
+    found, at = [], 0
+    for size in (4, 4, 2, 1):
+        if n - at >= size:
+            found.append((at, at + size))
+            at += size
+    return found
+
+
+WORDS = {1: "serialize_element", 2: "two", 4: "four"}
+
+
 def implementation(n):
     kinds = [f"E{i + 1}" for i in range(n)]
     bounds = ", ".join(f"{k}: Serialize" for k in kinds)
@@ -22,7 +35,8 @@ def implementation(n):
     data = " ∷ ".join(f"{k}.data_of v.{i} human" for i, k in enumerate(kinds))
     value = " × ".join(f"{k}.is_value v.{i}" for i, k in enumerate(kinds))
     memory = listed([f"{k}.takes_memory s" for k in kinds])
-    elements = "\n".join(f"        tup.serialize_element(&self.{i})?;" for i in range(n))
+    written = lambda i, j: ", ".join(f"&self.{k}" for k in range(i, j))
+    elements = "\n".join(f"        tup.{WORDS[j - i]}({written(i, j)})?;" for i, j in groups(n))
     return f"""
 impl<{bounds}> Serialize for {of} {{
     ghost data_of = {{ λ v human. tuple_of ({data} ∷ []) }};
@@ -49,51 +63,61 @@ impl<{bounds}> Serialize for {of} {{
 """
 
 
-def call(i):
-    return "serialize_element" if i == 0 else f"serialize_element-{i + 1}"
+# The name of the call at this place of the groups.
+def call(all, at):
+    word = WORDS[all[at][1] - all[at][0]]
+    before = sum(1 for i, j in all[:at] if WORDS[j - i] == word)
+    return f"{word}-{before + 1}" if before else word
 
 
-# What is still to come after the first i elements were written.
-def state(i):
-    if i == 0:
+# What is still to come after the first calls.
+def state(all, at):
+    if at == 0:
         return "(c.in_ok-tup.ensures.opened _ refl)"
-    return f"(c.in_ok-{call(i - 1)}.ensures.writes _ _ _ {state(i - 1)})"
+    return f"(c.in_ok-{call(all, at - 1)}.ensures.writes _ _ _ {state(all, at - 1)})"
 
 
-# That memory may be taken where the element at i of n may take it.
-def memory(i, n):
-    each = listed([f"g.E{k + 1}.Serialize.takes_memory (settings_of c.args.se.now)" for k in range(n)])
-    return f"(or_one_of (forces_all (settings_of c.args.se.now).bytes) g.W.Sink.takes_memory {each} {i})"
+# That memory may be taken where these elements of n may take it.
+def memory(i, j, n):
+    each = lambda i, j: listed([f"g.E{k + 1}.Serialize.takes_memory (settings_of c.args.se.now)" for k in range(i, j)]) if i < j else "[]"
+    start = "(forces_all (settings_of c.args.se.now).bytes) g.W.Sink.takes_memory"
+    if j - i == 1:
+        return f"(or_one_of {start} {each(0, n)} {i})"
+    if i == 0:
+        return f"(or_front {start} {each(i, j)} {each(j, n)})"
+    return f"(λ k. or_back {start} {each(0, i)} {each(i, n)} (or_front {start} {each(i, j)} {each(j, n)} k))"
 
 
 def answers(n):
     path = f"Rattle.rmp_encode.proofs.ser.tuples.Tuple{n}Serialize.serialize"
-    text = f"""use Rattle.std.proofs.Common.{{rules, refl, ◌∷◌, []}}
+    all = groups(n)
+    steps = "".join(
+        f"""
+pub returns-in_err-{call(all, at)}-clause-writes : goal.returns-in_err-{call(all, at)}-clause-writes
+returns-in_err-{call(all, at)}-clause-writes g c =
+    let p = err_from_is_err_and c.from_residual-in_err-{call(all, at)}.result c.from_residual-in_err-{call(all, at)}.ensures.1 in
+    rw (p.1, p.2) (part_takes g.W.Sink _ {memory(i, j, n)}
+    (rests_at g.W.Sink (search rules) (c.in_err-{call(all, at)}.ensures.writes c.args.se.now _ _ {state(all, at)})))
+"""
+        for at, (i, j) in enumerate(all)
+    )
+    words = [it for it in ("or_front", "or_back", "or_one_of") if f"({it} " in steps or f" {it} " in steps]
+    return f"""use Rattle.std.proofs.Common.{{rules, refl, ◌∷◌, []}}
 use Rattle.std.proofs.lemmas.Result.{{err_from_is_err_and}}
 use Rattle.rmp_encode.specs.Ser.{{settings_of}}
 use Rattle.rmp_encode.specs.Trees.{{forces_all}}
 use Rattle.rmp_encode.proofs.Going.{{unopened}}
-use Rattle.rmp_encode.proofs.Parts.{{rests_at, part_or, part_takes, or_one_of}}
+use Rattle.rmp_encode.proofs.Parts.{{rests_at, part_or, part_takes, {', '.join(words)}}}
 use {path}.Goals as goal
 
 pub returns-in_err-tup-clause-writes : goal.returns-in_err-tup-clause-writes
 returns-in_err-tup-clause-writes g c =
     let p = err_from_is_err_and c.from_residual.result c.from_residual.ensures.1 in
     rw (p.1, p.2) (part_or g.W.Sink _ (unopened g.W.Sink _ _ _ c.args.se.now _ _ _ _ c.in_err-tup.was c.serialize_tuple.follows.holds-at-none refl))
-"""
-    for i in range(n):
-        goal = f"returns-in_err-{call(i)}-clause-writes"
-        text += f"""
-pub {goal} : goal.{goal}
-{goal} g c =
-    let p = err_from_is_err_and c.from_residual-in_err-{call(i)}.result c.from_residual-in_err-{call(i)}.ensures.1 in
-    rw (p.1, p.2) (part_takes g.W.Sink _ {memory(i, n)}
-    (rests_at g.W.Sink (search rules) (c.in_err-{call(i)}.ensures.writes c.args.se.now _ _ {state(i)})))
-"""
-    return text + f"""
+{steps}
 pub returns-clause-writes : goal.returns-clause-writes
 returns-clause-writes g c =
-    part_or g.W.Sink _ (rests_at g.W.Sink (search rules) (c.end.ensures.writes c.args.se.now _ {state(n)}))
+    part_or g.W.Sink _ (rests_at g.W.Sink (search rules) (c.end.ensures.writes c.args.se.now _ {state(all, len(all))}))
 """
 
 

@@ -3,7 +3,9 @@ use Rattle.std.proofs.Common.{
   ◌≡◌,
   ℕ,
   ◌+◌,
+  ◌-◌,
   ◌<◌,
+  ◌≤◌,
   ◌^◌,
   List,
   [],
@@ -25,9 +27,12 @@ use Rattle.std.proofs.Common.{
   append_assoc,
   get_or,
   drop,
+  take,
 }
 use Rattle.std.specs.Borrow.{Bor}
-use Rattle.std.proofs.lemmas.List.{drop_more}
+use Rattle.std.proofs.lemmas.List.{drop_more, length-drop}
+use Rattle.std.proofs.Math.Seq.{take-length}
+use Rattle.std.proofs.lemmas.Grind.{flat_map-append}
 use Rattle.std.specs.Prelude.{◌&&◌}
 use Rattle.std.specs.List.{flat_map}
 use Rattle.std.specs.Option.{option_map}
@@ -224,3 +229,28 @@ next_named g {old} {now} {t} ns i z d ds rest lt h =
     subst (λ l. IsWriting g old t l now)
     (ap (λ l. flat_map f (fields_by l (d ∷ ds)) ++ rest) (drop_more ns i z lt)
     ∙ append_assoc (f ((get_or ns i z).now, d)) (flat_map f (fields_by (drop (i + 1) ns) ds)) rest) h
+
+-- ---- fields in two parts
+
+fields_split : (ns : List (Bor (List ℕ))) (ps qs : List (Option Data)) → length ps ≤ length ns
+    → fields_by ns (ps ++ qs) ≡ fields_by (take (length ps) ns) ps ++ fields_by (drop (length ps) ns) qs
+fields_split ns [] qs l = refl
+fields_split [] (p ∷ ps) qs l = absurd (omega (arith, l))
+fields_split (n ∷ ns) (p ∷ ps) qs l = ap (λ fs. (n.now, p) ∷ fs) (fields_split ns ps qs (omega (arith, l)))
+
+-- so many fields, and then the others
+pub named_halves : {W C : Type 0} (g : Ghosts W) {old now : Serializer W C} {t : Option Msg} (ns : List (Bor (List ℕ))) (k : ℕ)
+    (ps qs rest : List (Option Data)) → length ps ≡ k → k ≤ length ns
+    → IsWriting g old t (flat_map (field_parts (settings_of old).named) (fields_by ns (ps ++ qs)) ++ rest) now
+    → IsWriting g old t (flat_map (field_parts (settings_of old).named) (fields_by (take k ns) ps)
+    ++ (flat_map (field_parts (settings_of old).named) (fields_by (take (length ns - k) (drop k ns)) qs) ++ rest)) now
+named_halves g {old} {now} {t} ns k ps qs rest e l h =
+    let f = field_parts (settings_of old).named in
+    let a : List (List ℕ × Option Data) = fields_by (take k ns) ps in
+    let b : List (List ℕ × Option Data) = fields_by (drop k ns) qs in
+    let all : take (length ns - k) (drop k ns) ≡ drop k ns = subst (λ i. take i (drop k ns) ≡ drop k ns) (length-drop k ns) (take-length (drop k ns)) in
+    let split : fields_by ns (ps ++ qs) ≡ a ++ b = subst (λ i. i ≤ length ns → fields_by ns (ps ++ qs) ≡ fields_by (take i ns) ps
+    ++ fields_by (drop i ns) qs) e (fields_split ns ps qs) l in
+    subst (λ l. IsWriting g old t (flat_map f a ++ (flat_map f (fields_by l qs) ++ rest)) now) (sym all)
+    (subst (λ x. IsWriting g old t x now) (ap (λ x. flat_map f x ++ rest) split ∙ ap (λ x. x ++ rest) (flat_map-append f a b)
+    ∙ append_assoc (flat_map f a) (flat_map f b) rest) h)

@@ -25,7 +25,7 @@ use Rattle.std.proofs.Common.{
   append_assoc,
   append-nil,
 }
-use Rattle.std.specs.Prelude.{Result, Ok, Err, OnOk, OnErr, IfErr}
+use Rattle.std.specs.Prelude.{Result, Ok, Err, OnOk, OnErr, IfErr, IsTrue, MatchResult}
 use Rattle.std.specs.List.{flat_map, AllByRecursion}
 use Rattle.std.proofs.lemmas.List.{flat_map_more, drop_more}
 use Rattle.std.proofs.lemmas.Grind.{flat_map-append}
@@ -41,7 +41,7 @@ use Rattle.rmp_encode.specs.Going.{IsMadeOf, IsWriting, Begins, Goes, FailsToOpe
 use Rattle.rmp_encode.specs.Ser.{sink_of, settings_of}
 use Rattle.rmp_encode.specs.Trees.{Has, HasTree, spell, spelling, tree_of}
 use Rattle.rmp_encode.specs.Writes.{FailsBy, Keeps, StaysAtRefusal, WritesPart, WritesTree}
-use Rattle.rmp_encode.proofs.Parts.{part_as, part_any, part_then, part_stops, part_refused}
+use Rattle.rmp_encode.proofs.Parts.{part_as, part_any, part_then, part_stops, part_refused, part_takes}
 
 module _ {X : Type 0} (P : X → Type 0) where
   pub all_append : (xs ys : List X) → AllByRecursion P xs → AllByRecursion P ys → AllByRecursion P (xs ++ ys)
@@ -107,6 +107,13 @@ module _ {W : Type 0} (g : Ghosts W) where
       (λ _. append_assoc head (flat_map (spelling s) front) (flat_map (spelling s) rest)
       ∙ ap (λ l. head ++ l) (sym (flat_map-append (spelling s) front rest)))
       (part_stops g {B = Unit {0}} {Q = AllByRecursion (Has s) rest} (flat_map (spelling s) rest) w))
+
+  -- what becomes of it, where memory may be taken if it may be taken here
+  pub going_more : (S : Type 0) (t : Option Msg) (first last : W) (r : Result (Unit {0}) Error) {m n : Bool} → (IsTrue m → IsTrue n)
+      → MatchResult r (λ _. S) (λ e. WritesTree g {A = Unit {0}} m t first last (Err e))
+      → MatchResult r (λ _. S) (λ e. WritesTree g {A = Unit {0}} n t first last (Err e))
+  going_more S t first last (Ok u) f h = h
+  going_more S t first last (Err e) {m} {n} f h = part_takes g n f h
 
 module _ {W C : Type 0} (g : Ghosts W) where
   -- the head was written, or failed

@@ -133,6 +133,32 @@ or_one_of false m bs i h = or_as (get_or bs i false) (one_of bs) m (one_at bs i)
 pub one_of_or : (m : Bool) (bs : List Bool) (i : ℕ) → IsTrue (get_or bs i false || m) → IsTrue (one_of bs || m)
 one_of_or m bs i h = or_as (get_or bs i false) (one_of bs) m (one_at bs i) h
 
+-- of parts behind others, the front ones may take memory, or those behind
+front_some : (bs cs : List Bool) → IsTrue (one_of bs) → IsTrue (one_of (bs ++ cs))
+front_some [] cs h = absurd cc
+front_some (true ∷ bs) cs h = refl
+front_some (false ∷ bs) cs h = front_some bs cs h
+
+back_some : (bs cs : List Bool) → IsTrue (one_of cs) → IsTrue (one_of (bs ++ cs))
+back_some [] cs h = h
+back_some (b ∷ bs) cs h = or_right b (one_of (bs ++ cs)) (back_some bs cs h)
+
+pub front_or : (m : Bool) (bs cs : List Bool) → IsTrue (one_of bs || m) → IsTrue (one_of (bs ++ cs) || m)
+front_or m bs cs h = or_as (one_of bs) (one_of (bs ++ cs)) m (front_some bs cs) h
+
+pub back_or : (m : Bool) (bs cs : List Bool) → IsTrue (one_of cs || m) → IsTrue (one_of (bs ++ cs) || m)
+back_or m bs cs h = or_as (one_of cs) (one_of (bs ++ cs)) m (back_some bs cs) h
+
+or_each : (a b c m : Bool) → (IsTrue b → IsTrue c) → IsTrue ((a || b) || m) → IsTrue ((a || c) || m)
+or_each true b c m f h = refl
+or_each false b c m f h = or_as b c m f h
+
+pub or_front : (a m : Bool) (bs cs : List Bool) → IsTrue ((a || one_of bs) || m) → IsTrue ((a || one_of (bs ++ cs)) || m)
+or_front a m bs cs h = or_each a (one_of bs) (one_of (bs ++ cs)) m (front_some bs cs) h
+
+pub or_back : (a m : Bool) (bs cs : List Bool) → IsTrue ((a || one_of cs) || m) → IsTrue ((a || one_of (bs ++ cs)) || m)
+or_back a m bs cs h = or_each a (one_of cs) (one_of (bs ++ cs)) m (back_some bs cs) h
+
 pub or_given : (b c m : Bool) → b ≡ true → (b || c) || m ≡ true
 or_given b c m e = ap (λ x. (x || c) || m) e
 

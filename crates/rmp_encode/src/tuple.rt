@@ -6,6 +6,7 @@ ghost use Rattle.rmp_wire.specs.declared.config.BytesMode.TheVariants.{ForceAll}
 ghost use Rattle.rmp_encode.specs.Data.{packs_tuple};
 ghost use Rattle.rmp_encode.specs.Going.{Ends, Goes, Rests};
 ghost use Rattle.rmp_encode.specs.Ser.{sink_of, settings_of};
+ghost use Rattle.rmp_encode.specs.Sizes.{one_of};
 ghost use Rattle.rmp_encode.specs.Trees.{tree_of, tuple_of, forces_all, number_head};
 ghost use Rattle.rmp_encode.specs.Tuples.{inside, reference, left_of, is_sound, IsTupling};
 ghost use Rattle.rmp_encode.specs.Writes.{Keeps, WritesPart, StaysAtRefusal, WritesTree};
@@ -153,6 +154,48 @@ impl<'a, W: Sink, C: SerializerConfig> Tuple<'a, W, C> {
                 Err(e)
             }
         }
+    }
+
+    // Writes the next two elements.
+    #[inline(always)]
+    pub(crate) fn two<A: Serialize, B: Serialize>(&mut self, a: &A, b: &B) -> Result<(), Error>
+        requires sound { is_sound self.old ≡ true }
+        requires room { 1 < left_of self.old }
+        ensures same_reference { reference self.new ≡ reference self.old }
+        ensures left { OnOk result (left_of self.new + 2 ≡ left_of self.old) }
+        ensures sound { OnOk result (is_sound self.new ≡ true) }
+        ensures writes { Goes W.Sink (IsTupling W.Sink) inside
+            (λ s. (forces_all s.bytes || one_of (A.takes_memory s ∷ (B.takes_memory s ∷ []))) || W.takes_memory)
+            (λ s. A.data_of a.now s.human ∷ B.data_of b.now s.human ∷ []) self.old self.new result }
+        ensures keeps { Keeps W.Sink (inside self.old) (inside self.new) }
+        ensures value { OnOk result (A.is_value a.now × B.is_value b.now) }
+    {
+        self.serialize_element(a)?;
+        self.serialize_element(b)
+    }
+
+    // Writes the next four elements.
+    #[inline(always)]
+    pub(crate) fn four<A: Serialize, B: Serialize, D: Serialize, E: Serialize>(
+        &mut self,
+        a: &A,
+        b: &B,
+        d: &D,
+        e: &E,
+    ) -> Result<(), Error>
+        requires sound { is_sound self.old ≡ true }
+        requires room { 3 < left_of self.old }
+        ensures same_reference { reference self.new ≡ reference self.old }
+        ensures left { OnOk result (left_of self.new + 4 ≡ left_of self.old) }
+        ensures sound { OnOk result (is_sound self.new ≡ true) }
+        ensures writes { Goes W.Sink (IsTupling W.Sink) inside
+            (λ s. (forces_all s.bytes || one_of (A.takes_memory s ∷ (B.takes_memory s ∷ (D.takes_memory s ∷ (E.takes_memory s ∷ []))))) || W.takes_memory)
+            (λ s. A.data_of a.now s.human ∷ B.data_of b.now s.human ∷ D.data_of d.now s.human ∷ E.data_of e.now s.human ∷ []) self.old self.new result }
+        ensures keeps { Keeps W.Sink (inside self.old) (inside self.new) }
+        ensures value { OnOk result (A.is_value a.now × B.is_value b.now × D.is_value d.now × E.is_value e.now) }
+    {
+        self.two(a, b)?;
+        self.two(d, e)
     }
 
     // Writes the next element, or keeps it, whatever becomes of the tuple at an error.

@@ -2,10 +2,12 @@
 //!
 //! A caller uses a law by calling its function: what the call ensures is the law, for every argument.
 
-ghost use Rattle.std.specs.Prelude.{◌≡◌, ◌≤◌, ◌<◌, ◌↔◌, ℕ, Bool, true, List, ◌++◌, length, Some};
+ghost use Rattle.std.specs.Prelude.{◌≡◌, ◌≤◌, ◌<◌, ◌↔◌, ◌+◌, ℕ, Bool, true, List, ◌++◌, length, drop, Some};
+ghost use Rattle.std.specs.Io.KnownBytes.{Consumes};
 ghost use Rattle.rmp_wire.specs.declared.head.Head.{Head};
 ghost use Rattle.rmp_wire.specs.Heads.{IsHead, canon_head, fits_head};
 ghost use Rattle.rmp_wire.specs.Canonical.{IsCanonicalHead, IsCanonical};
+ghost use Rattle.rmp_wire.specs.Cursors.{cursor_place};
 ghost use Rattle.rmp_wire.specs.Msg.{Msg, depth};
 ghost use Rattle.rmp_wire.specs.Spelling.{Spells, canon, Fits, IsBytes};
 ghost use Rattle.rmp_encode.specs.Calls.{IsSpelled, ToVecFails};
@@ -107,6 +109,13 @@ pub fn written_is_read<'de, R: ReadSlice<'de>, T: RoundTrip<'de, R>>()
 {
     values_come_back::<R, T>();
 }
+
+/// Where a cursor's place stays, as each read leaves it, its position moves on by the length of what was taken: values that were
+/// written one after another are read with the sum of their lengths as `position`.
+pub fn positions_add_up()
+    ensures { (bytes more taken : List ℕ) (p q : ℕ) → cursor_place more q ≡ cursor_place bytes p
+        → Consumes (Some (drop p bytes)) (Some (drop q more)) taken → q ≡ p + length taken }
+{}
 
 /// Two messages that are read as `Value` and written are equal exactly if they spell the same tree, and a second round changes nothing.
 pub fn values_are_their_trees()

@@ -1,6 +1,7 @@
 pub mod Buffered
 pub mod Canonical
 pub mod Copying
+pub mod Cursors
 pub mod Faults
 pub mod Heads
 pub mod Msg

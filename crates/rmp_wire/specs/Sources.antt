@@ -6,10 +6,11 @@ use Rattle.std.specs.declared.io.ErrorKind.TheVariants.{UnexpectedEof}
 use Rattle.rmp_wire.specs.declared.error.IoFault.{IoFault}
 use Rattle.rmp_wire.specs.Faults.{fault_kind}
 
--- what stays of a source while it is read: a reference that it reads through, or a slice that it was made of
+-- what stays of a source while it is read: a reference that it reads through, the bytes that it was made of, or how far past their end it stands
 pub data Place : Type 0 where
   through : GName → Place
   made_of : List ℕ → Place
+  past_end : ℕ → Place
 
 -- fewer than n bytes are ahead, where they are told
 abbrev pub IsShort : ℕ → Option (List ℕ) → Type 0

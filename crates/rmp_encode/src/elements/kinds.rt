@@ -10,7 +10,7 @@ use rmp_wire::Sink;
 use rmp_wire::config::SerializerConfig;
 
 /// One element.
-#[derive(Clone, Copy)]
+#[derive(Drop)]
 pub struct One<'r, E1> {
     pub first: &'r E1,
 }
@@ -49,7 +49,7 @@ impl<'r, E1: Serialize> Elements for One<'r, E1> {
 }
 
 /// Two elements.
-#[derive(Clone, Copy)]
+#[derive(Drop)]
 pub struct Both<'r, E1, E2> {
     pub first: &'r E1,
     pub second: &'r E2,
@@ -91,7 +91,7 @@ impl<'r, E1: Serialize, E2: Serialize> Elements for Both<'r, E1, E2> {
 }
 
 /// Three elements.
-#[derive(Clone, Copy)]
+#[derive(Drop)]
 pub struct Three<'r, E1, E2, E3> {
     pub first: &'r E1,
     pub second: &'r E2,
@@ -116,10 +116,13 @@ impl<'r, E1: Serialize, E2: Serialize, E3: Serialize> Elements for Three<'r, E1,
 
     #[inline(always)]
     fn write<W: Sink, C: SerializerConfig>(&self, se: &mut Serializer<W, C>) -> Result<(), Error> {
-        Serialize::serialize(self.first, se)?;
-        Serialize::serialize(self.second, se)?;
-        Serialize::serialize(self.third, se)?;
-        Ok(())
+        let front = Both {
+            first: self.first,
+            second: self.second,
+        };
+        let back = One { first: self.third };
+        front.write(se)?;
+        back.write(se)
     }
 
     #[inline(always)]
@@ -128,15 +131,18 @@ impl<'r, E1: Serialize, E2: Serialize, E3: Serialize> Elements for Three<'r, E1,
         names: &[&'static str],
         se: &mut Serializer<W, C>,
     ) -> Result<(), Error> {
-        se.put_field(names[0], self.first)?;
-        se.put_field(names[1], self.second)?;
-        se.put_field(names[2], self.third)?;
-        Ok(())
+        let front = Both {
+            first: self.first,
+            second: self.second,
+        };
+        let back = One { first: self.third };
+        front.write_fields(&names[..2], se)?;
+        back.write_fields(&names[2..], se)
     }
 }
 
 /// Four elements.
-#[derive(Clone, Copy)]
+#[derive(Drop)]
 pub struct Four<'r, E1, E2, E3, E4> {
     pub first: &'r E1,
     pub second: &'r E2,
@@ -164,11 +170,16 @@ impl<'r, E1: Serialize, E2: Serialize, E3: Serialize, E4: Serialize> Elements
 
     #[inline(always)]
     fn write<W: Sink, C: SerializerConfig>(&self, se: &mut Serializer<W, C>) -> Result<(), Error> {
-        Serialize::serialize(self.first, se)?;
-        Serialize::serialize(self.second, se)?;
-        Serialize::serialize(self.third, se)?;
-        Serialize::serialize(self.fourth, se)?;
-        Ok(())
+        let front = Both {
+            first: self.first,
+            second: self.second,
+        };
+        let back = Both {
+            first: self.third,
+            second: self.fourth,
+        };
+        front.write(se)?;
+        back.write(se)
     }
 
     #[inline(always)]
@@ -177,16 +188,21 @@ impl<'r, E1: Serialize, E2: Serialize, E3: Serialize, E4: Serialize> Elements
         names: &[&'static str],
         se: &mut Serializer<W, C>,
     ) -> Result<(), Error> {
-        se.put_field(names[0], self.first)?;
-        se.put_field(names[1], self.second)?;
-        se.put_field(names[2], self.third)?;
-        se.put_field(names[3], self.fourth)?;
-        Ok(())
+        let front = Both {
+            first: self.first,
+            second: self.second,
+        };
+        let back = Both {
+            first: self.third,
+            second: self.fourth,
+        };
+        front.write_fields(&names[..2], se)?;
+        back.write_fields(&names[2..], se)
     }
 }
 
 /// Five elements.
-#[derive(Clone, Copy)]
+#[derive(Drop)]
 pub struct Five<'r, E1, E2, E3, E4, E5> {
     pub first: &'r E1,
     pub second: &'r E2,
@@ -216,12 +232,15 @@ impl<'r, E1: Serialize, E2: Serialize, E3: Serialize, E4: Serialize, E5: Seriali
 
     #[inline(always)]
     fn write<W: Sink, C: SerializerConfig>(&self, se: &mut Serializer<W, C>) -> Result<(), Error> {
-        Serialize::serialize(self.first, se)?;
-        Serialize::serialize(self.second, se)?;
-        Serialize::serialize(self.third, se)?;
-        Serialize::serialize(self.fourth, se)?;
-        Serialize::serialize(self.fifth, se)?;
-        Ok(())
+        let front = Four {
+            first: self.first,
+            second: self.second,
+            third: self.third,
+            fourth: self.fourth,
+        };
+        let back = One { first: self.fifth };
+        front.write(se)?;
+        back.write(se)
     }
 
     #[inline(always)]
@@ -230,17 +249,20 @@ impl<'r, E1: Serialize, E2: Serialize, E3: Serialize, E4: Serialize, E5: Seriali
         names: &[&'static str],
         se: &mut Serializer<W, C>,
     ) -> Result<(), Error> {
-        se.put_field(names[0], self.first)?;
-        se.put_field(names[1], self.second)?;
-        se.put_field(names[2], self.third)?;
-        se.put_field(names[3], self.fourth)?;
-        se.put_field(names[4], self.fifth)?;
-        Ok(())
+        let front = Four {
+            first: self.first,
+            second: self.second,
+            third: self.third,
+            fourth: self.fourth,
+        };
+        let back = One { first: self.fifth };
+        front.write_fields(&names[..4], se)?;
+        back.write_fields(&names[4..], se)
     }
 }
 
 /// Six elements.
-#[derive(Clone, Copy)]
+#[derive(Drop)]
 pub struct Six<'r, E1, E2, E3, E4, E5, E6> {
     pub first: &'r E1,
     pub second: &'r E2,
@@ -279,13 +301,18 @@ impl<
 
     #[inline(always)]
     fn write<W: Sink, C: SerializerConfig>(&self, se: &mut Serializer<W, C>) -> Result<(), Error> {
-        Serialize::serialize(self.first, se)?;
-        Serialize::serialize(self.second, se)?;
-        Serialize::serialize(self.third, se)?;
-        Serialize::serialize(self.fourth, se)?;
-        Serialize::serialize(self.fifth, se)?;
-        Serialize::serialize(self.sixth, se)?;
-        Ok(())
+        let front = Four {
+            first: self.first,
+            second: self.second,
+            third: self.third,
+            fourth: self.fourth,
+        };
+        let back = Both {
+            first: self.fifth,
+            second: self.sixth,
+        };
+        front.write(se)?;
+        back.write(se)
     }
 
     #[inline(always)]
@@ -294,18 +321,23 @@ impl<
         names: &[&'static str],
         se: &mut Serializer<W, C>,
     ) -> Result<(), Error> {
-        se.put_field(names[0], self.first)?;
-        se.put_field(names[1], self.second)?;
-        se.put_field(names[2], self.third)?;
-        se.put_field(names[3], self.fourth)?;
-        se.put_field(names[4], self.fifth)?;
-        se.put_field(names[5], self.sixth)?;
-        Ok(())
+        let front = Four {
+            first: self.first,
+            second: self.second,
+            third: self.third,
+            fourth: self.fourth,
+        };
+        let back = Both {
+            first: self.fifth,
+            second: self.sixth,
+        };
+        front.write_fields(&names[..4], se)?;
+        back.write_fields(&names[4..], se)
     }
 }
 
 /// Seven elements.
-#[derive(Clone, Copy)]
+#[derive(Drop)]
 pub struct Seven<'r, E1, E2, E3, E4, E5, E6, E7> {
     pub first: &'r E1,
     pub second: &'r E2,
@@ -346,14 +378,19 @@ impl<
 
     #[inline(always)]
     fn write<W: Sink, C: SerializerConfig>(&self, se: &mut Serializer<W, C>) -> Result<(), Error> {
-        Serialize::serialize(self.first, se)?;
-        Serialize::serialize(self.second, se)?;
-        Serialize::serialize(self.third, se)?;
-        Serialize::serialize(self.fourth, se)?;
-        Serialize::serialize(self.fifth, se)?;
-        Serialize::serialize(self.sixth, se)?;
-        Serialize::serialize(self.seventh, se)?;
-        Ok(())
+        let front = Four {
+            first: self.first,
+            second: self.second,
+            third: self.third,
+            fourth: self.fourth,
+        };
+        let back = Three {
+            first: self.fifth,
+            second: self.sixth,
+            third: self.seventh,
+        };
+        front.write(se)?;
+        back.write(se)
     }
 
     #[inline(always)]
@@ -362,19 +399,24 @@ impl<
         names: &[&'static str],
         se: &mut Serializer<W, C>,
     ) -> Result<(), Error> {
-        se.put_field(names[0], self.first)?;
-        se.put_field(names[1], self.second)?;
-        se.put_field(names[2], self.third)?;
-        se.put_field(names[3], self.fourth)?;
-        se.put_field(names[4], self.fifth)?;
-        se.put_field(names[5], self.sixth)?;
-        se.put_field(names[6], self.seventh)?;
-        Ok(())
+        let front = Four {
+            first: self.first,
+            second: self.second,
+            third: self.third,
+            fourth: self.fourth,
+        };
+        let back = Three {
+            first: self.fifth,
+            second: self.sixth,
+            third: self.seventh,
+        };
+        front.write_fields(&names[..4], se)?;
+        back.write_fields(&names[4..], se)
     }
 }
 
 /// Eight elements.
-#[derive(Clone, Copy)]
+#[derive(Drop)]
 pub struct Eight<'r, E1, E2, E3, E4, E5, E6, E7, E8> {
     pub first: &'r E1,
     pub second: &'r E2,
@@ -419,15 +461,20 @@ impl<
 
     #[inline(always)]
     fn write<W: Sink, C: SerializerConfig>(&self, se: &mut Serializer<W, C>) -> Result<(), Error> {
-        Serialize::serialize(self.first, se)?;
-        Serialize::serialize(self.second, se)?;
-        Serialize::serialize(self.third, se)?;
-        Serialize::serialize(self.fourth, se)?;
-        Serialize::serialize(self.fifth, se)?;
-        Serialize::serialize(self.sixth, se)?;
-        Serialize::serialize(self.seventh, se)?;
-        Serialize::serialize(self.eighth, se)?;
-        Ok(())
+        let front = Four {
+            first: self.first,
+            second: self.second,
+            third: self.third,
+            fourth: self.fourth,
+        };
+        let back = Four {
+            first: self.fifth,
+            second: self.sixth,
+            third: self.seventh,
+            fourth: self.eighth,
+        };
+        front.write(se)?;
+        back.write(se)
     }
 
     #[inline(always)]
@@ -436,14 +483,19 @@ impl<
         names: &[&'static str],
         se: &mut Serializer<W, C>,
     ) -> Result<(), Error> {
-        se.put_field(names[0], self.first)?;
-        se.put_field(names[1], self.second)?;
-        se.put_field(names[2], self.third)?;
-        se.put_field(names[3], self.fourth)?;
-        se.put_field(names[4], self.fifth)?;
-        se.put_field(names[5], self.sixth)?;
-        se.put_field(names[6], self.seventh)?;
-        se.put_field(names[7], self.eighth)?;
-        Ok(())
+        let front = Four {
+            first: self.first,
+            second: self.second,
+            third: self.third,
+            fourth: self.fourth,
+        };
+        let back = Four {
+            first: self.fifth,
+            second: self.sixth,
+            third: self.seventh,
+            fourth: self.eighth,
+        };
+        front.write_fields(&names[..4], se)?;
+        back.write_fields(&names[4..], se)
     }
 }

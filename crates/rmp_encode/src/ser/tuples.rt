@@ -46,8 +46,7 @@ impl<E1: Serialize, E2: Serialize> Serialize for (E1, E2) {
         se: &mut Serializer<W, C>,
     ) -> Result<(), Error> {
         let mut tup = se.serialize_tuple(2)?;
-        tup.serialize_element(&self.0)?;
-        tup.serialize_element(&self.1)?;
+        tup.two(&self.0, &self.1)?;
         tup.end()
     }
 
@@ -70,8 +69,7 @@ impl<E1: Serialize, E2: Serialize, E3: Serialize> Serialize for (E1, E2, E3) {
         se: &mut Serializer<W, C>,
     ) -> Result<(), Error> {
         let mut tup = se.serialize_tuple(3)?;
-        tup.serialize_element(&self.0)?;
-        tup.serialize_element(&self.1)?;
+        tup.two(&self.0, &self.1)?;
         tup.serialize_element(&self.2)?;
         tup.end()
     }
@@ -95,10 +93,7 @@ impl<E1: Serialize, E2: Serialize, E3: Serialize, E4: Serialize> Serialize for (
         se: &mut Serializer<W, C>,
     ) -> Result<(), Error> {
         let mut tup = se.serialize_tuple(4)?;
-        tup.serialize_element(&self.0)?;
-        tup.serialize_element(&self.1)?;
-        tup.serialize_element(&self.2)?;
-        tup.serialize_element(&self.3)?;
+        tup.four(&self.0, &self.1, &self.2, &self.3)?;
         tup.end()
     }
 
@@ -124,10 +119,7 @@ impl<E1: Serialize, E2: Serialize, E3: Serialize, E4: Serialize, E5: Serialize> 
         se: &mut Serializer<W, C>,
     ) -> Result<(), Error> {
         let mut tup = se.serialize_tuple(5)?;
-        tup.serialize_element(&self.0)?;
-        tup.serialize_element(&self.1)?;
-        tup.serialize_element(&self.2)?;
-        tup.serialize_element(&self.3)?;
+        tup.four(&self.0, &self.1, &self.2, &self.3)?;
         tup.serialize_element(&self.4)?;
         tup.end()
     }
@@ -160,12 +152,8 @@ impl<
         se: &mut Serializer<W, C>,
     ) -> Result<(), Error> {
         let mut tup = se.serialize_tuple(6)?;
-        tup.serialize_element(&self.0)?;
-        tup.serialize_element(&self.1)?;
-        tup.serialize_element(&self.2)?;
-        tup.serialize_element(&self.3)?;
-        tup.serialize_element(&self.4)?;
-        tup.serialize_element(&self.5)?;
+        tup.four(&self.0, &self.1, &self.2, &self.3)?;
+        tup.two(&self.4, &self.5)?;
         tup.end()
     }
 
@@ -199,12 +187,8 @@ impl<
         se: &mut Serializer<W, C>,
     ) -> Result<(), Error> {
         let mut tup = se.serialize_tuple(7)?;
-        tup.serialize_element(&self.0)?;
-        tup.serialize_element(&self.1)?;
-        tup.serialize_element(&self.2)?;
-        tup.serialize_element(&self.3)?;
-        tup.serialize_element(&self.4)?;
-        tup.serialize_element(&self.5)?;
+        tup.four(&self.0, &self.1, &self.2, &self.3)?;
+        tup.two(&self.4, &self.5)?;
         tup.serialize_element(&self.6)?;
         tup.end()
     }
@@ -241,14 +225,8 @@ impl<
         se: &mut Serializer<W, C>,
     ) -> Result<(), Error> {
         let mut tup = se.serialize_tuple(8)?;
-        tup.serialize_element(&self.0)?;
-        tup.serialize_element(&self.1)?;
-        tup.serialize_element(&self.2)?;
-        tup.serialize_element(&self.3)?;
-        tup.serialize_element(&self.4)?;
-        tup.serialize_element(&self.5)?;
-        tup.serialize_element(&self.6)?;
-        tup.serialize_element(&self.7)?;
+        tup.four(&self.0, &self.1, &self.2, &self.3)?;
+        tup.four(&self.4, &self.5, &self.6, &self.7)?;
         tup.end()
     }
 

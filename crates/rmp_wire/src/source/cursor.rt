@@ -2,7 +2,7 @@
 ghost use Rattle.std.specs.Prelude.{◌≡◌, ◌+◌, ◌-◌, ◌<◌, ◌≤◌, ◌++◌, [], ◌∷◌, Some, IfOk, IsTrue, OnErr, drop, take, length, min, true, ◌⊎◌};
 ghost use Rattle.std.specs.Io.Cursor.{cursor_inner, cursor_position};
 ghost use Rattle.rmp_wire.specs.Sources.{IsFront, Skips};
-ghost use Rattle.rmp_wire.specs.Sources.Place.{made_of};
+ghost use Rattle.rmp_wire.specs.Cursors.{cursor_place};
 
 use crate::error::IoFault;
 use crate::source::Source;
@@ -25,6 +25,7 @@ fn copy_from(all: &[u8], place: u64, buf: &mut [u8]) -> usize
     ensures size { length buf.new ≡ length buf.old }
     ensures count { result ≡ min (length buf.new) (length all.now - place) }
     ensures bytes { drop place all.now ≡ take result buf.new ++ drop (place + result) all.now }
+    ensures past { cursor_place all.now (place + result) ≡ cursor_place all.now place }
 {
     let ahead = behind(all, place);
     let n = buf.len().min(ahead.len());
@@ -38,6 +39,7 @@ fn holds(all: &[u8], place: u64, len: usize) -> bool
     ensures enough { result ≡ true → len ≤ length all.now - place }
     ensures few { IsTrue result ⊎ (length all.now - place < len) }
     ensures skips { result ≡ true → Skips len (Some (drop place all.now)) (Some (drop (place + len) all.now)) }
+    ensures past { result ≡ true → cursor_place all.now (place + len) ≡ cursor_place all.now place }
 {
     if len > behind(all, place).len() {
         return false;
@@ -51,7 +53,7 @@ impl Source for Cursor<&[u8]> {
 
     ghost faults = { λ _. 0 };
 
-    ghost place = { λ c. made_of (cursor_inner c).now ∷ [] };
+    ghost place = { λ c. cursor_place (cursor_inner c).now (cursor_position c) };
 
     fn pull(&mut self, buf: &mut [u8]) -> Result<usize, io::Error> {
         let at = self.position();
@@ -96,7 +98,7 @@ impl Source for Cursor<Vec<u8>> {
 
     ghost faults = { λ _. 0 };
 
-    ghost place = { λ c. made_of (cursor_inner c).items ∷ [] };
+    ghost place = { λ c. cursor_place (cursor_inner c).items (cursor_position c) };
 
     fn pull(&mut self, buf: &mut [u8]) -> Result<usize, io::Error> {
         let at = self.position();

@@ -1,166 +1,40 @@
-use Rattle.std.proofs.Common.{arith, ◌∷◌, []}
+use Rattle.std.proofs.Common.{arith, refl, ◌∷◌, []}
 use Rattle.std.proofs.lemmas.Result.{err_from_is_err_and}
-use Rattle.rmp_encode.specs.Ser.{settings_of}
-use Rattle.rmp_encode.proofs.Fields.{next_named}
-use Rattle.rmp_encode.proofs.Going.{keeps_then}
-use Rattle.rmp_encode.proofs.Parts.{one_of_or, part_takes}
+use Rattle.rmp_encode.specs.Going.{IsWriting}
+use Rattle.rmp_encode.specs.Ser.{sink_of, settings_of}
+use Rattle.rmp_encode.proofs.Fields.{named_halves}
+use Rattle.rmp_encode.proofs.Going.{going_more, keeps_then}
+use Rattle.rmp_encode.proofs.Parts.{front_or, back_or, part_takes}
 use Rattle.rmp_encode.proofs.elements.kinds.FiveElements.write_fields.Goals as goal
 
-pub returns-in_err-put_field-clause-writes : goal.returns-in_err-put_field-clause-writes
-returns-in_err-put_field-clause-writes g c =
+pub returns-in_err-write_fields-clause-writes : goal.returns-in_err-write_fields-clause-writes
+returns-in_err-write_fields-clause-writes g c =
     let p = err_from_is_err_and c.from_residual.result c.from_residual.ensures.1 in
     rw (p.1, p.2) (λ old t rest h. part_takes g.W.Sink _
-    (one_of_or g.W.Sink.takes_memory (g.E1.Serialize.takes_memory (settings_of old)
+    (front_or g.W.Sink.takes_memory (g.E1.Serialize.takes_memory (settings_of old)
     ∷ (g.E2.Serialize.takes_memory (settings_of old) ∷
-    (g.E3.Serialize.takes_memory (settings_of old) ∷ (g.E4.Serialize.takes_memory (settings_of old)
-    ∷ (g.E5.Serialize.takes_memory (settings_of old) ∷ []))))) 0)
-    (c.in_err-put_field.ensures.writes old t _ (next_named g.W.Sink c.args.names.now 0 _
-    (g.E1.Serialize.data_of c.args.self.now.first.now (settings_of old).human)
-    (g.E2.Serialize.data_of c.args.self.now.second.now (settings_of old).human
+    (g.E3.Serialize.takes_memory (settings_of old) ∷ (g.E4.Serialize.takes_memory (settings_of old) ∷ []))))
+    (g.E5.Serialize.takes_memory (settings_of old) ∷ []))
+    (c.in_err-write_fields.ensures.writes old t _ (named_halves g.W.Sink c.args.names.now 4
+    (g.E1.Serialize.data_of c.args.self.now.first.now (settings_of old).human
+    ∷ (g.E2.Serialize.data_of c.args.self.now.second.now (settings_of old).human
     ∷ (g.E3.Serialize.data_of c.args.self.now.third.now (settings_of old).human
-    ∷ (g.E4.Serialize.data_of c.args.self.now.fourth.now (settings_of old).human
-    ∷ (g.E5.Serialize.data_of c.args.self.now.fifth.now (settings_of old).human ∷ [])))) rest (omega (arith, c.requires)) h)))
-
-pub returns-in_err-put_field-2-clause-writes : goal.returns-in_err-put_field-2-clause-writes
-returns-in_err-put_field-2-clause-writes g c =
-    let p = err_from_is_err_and c.from_residual-in_err-put_field-2.result c.from_residual-in_err-put_field-2.ensures.1 in
-    rw (p.1, p.2) (λ old t rest h. part_takes g.W.Sink _
-    (one_of_or g.W.Sink.takes_memory (g.E1.Serialize.takes_memory (settings_of old)
-    ∷ (g.E2.Serialize.takes_memory (settings_of old) ∷
-    (g.E3.Serialize.takes_memory (settings_of old) ∷ (g.E4.Serialize.takes_memory (settings_of old)
-    ∷ (g.E5.Serialize.takes_memory (settings_of old) ∷ []))))) 1)
-    (c.in_err-put_field-2.ensures.writes old t _ (next_named g.W.Sink c.args.names.now 1 _
-    (g.E2.Serialize.data_of c.args.self.now.second.now (settings_of old).human)
-    (g.E3.Serialize.data_of c.args.self.now.third.now (settings_of old).human
-    ∷ (g.E4.Serialize.data_of c.args.self.now.fourth.now (settings_of old).human
-    ∷ (g.E5.Serialize.data_of c.args.self.now.fifth.now (settings_of old).human ∷ []))) rest (omega (arith, c.requires))
-    (c.in_ok-put_field.ensures.writes old t _ (next_named g.W.Sink c.args.names.now 0 _
-    (g.E1.Serialize.data_of c.args.self.now.first.now (settings_of old).human)
-    (g.E2.Serialize.data_of c.args.self.now.second.now (settings_of old).human
-    ∷ (g.E3.Serialize.data_of c.args.self.now.third.now (settings_of old).human
-    ∷ (g.E4.Serialize.data_of c.args.self.now.fourth.now (settings_of old).human
-    ∷ (g.E5.Serialize.data_of c.args.self.now.fifth.now (settings_of old).human ∷ [])))) rest (omega (arith, c.requires)) h)))))
-
-pub returns-in_err-put_field-2-clause-keeps : goal.returns-in_err-put_field-2-clause-keeps
-returns-in_err-put_field-2-clause-keeps g c = (keeps_then g.W.Sink c.put_field.ensures.keeps c.put_field-2.ensures.keeps)
-
-pub returns-in_err-put_field-3-clause-writes : goal.returns-in_err-put_field-3-clause-writes
-returns-in_err-put_field-3-clause-writes g c =
-    let p = err_from_is_err_and c.from_residual-in_err-put_field-3.result c.from_residual-in_err-put_field-3.ensures.1 in
-    rw (p.1, p.2) (λ old t rest h. part_takes g.W.Sink _
-    (one_of_or g.W.Sink.takes_memory (g.E1.Serialize.takes_memory (settings_of old)
-    ∷ (g.E2.Serialize.takes_memory (settings_of old) ∷
-    (g.E3.Serialize.takes_memory (settings_of old) ∷ (g.E4.Serialize.takes_memory (settings_of old)
-    ∷ (g.E5.Serialize.takes_memory (settings_of old) ∷ []))))) 2)
-    (c.in_err-put_field-3.ensures.writes old t _ (next_named g.W.Sink c.args.names.now 2 _
-    (g.E3.Serialize.data_of c.args.self.now.third.now (settings_of old).human)
-    (g.E4.Serialize.data_of c.args.self.now.fourth.now (settings_of old).human
-    ∷ (g.E5.Serialize.data_of c.args.self.now.fifth.now (settings_of old).human ∷ [])) rest (omega (arith, c.requires))
-    (c.in_ok-put_field-2.ensures.writes old t _ (next_named g.W.Sink c.args.names.now 1 _
-    (g.E2.Serialize.data_of c.args.self.now.second.now (settings_of old).human)
-    (g.E3.Serialize.data_of c.args.self.now.third.now (settings_of old).human
-    ∷ (g.E4.Serialize.data_of c.args.self.now.fourth.now (settings_of old).human
-    ∷ (g.E5.Serialize.data_of c.args.self.now.fifth.now (settings_of old).human ∷ []))) rest (omega (arith, c.requires))
-    (c.in_ok-put_field.ensures.writes old t _ (next_named g.W.Sink c.args.names.now 0 _
-    (g.E1.Serialize.data_of c.args.self.now.first.now (settings_of old).human)
-    (g.E2.Serialize.data_of c.args.self.now.second.now (settings_of old).human
-    ∷ (g.E3.Serialize.data_of c.args.self.now.third.now (settings_of old).human
-    ∷ (g.E4.Serialize.data_of c.args.self.now.fourth.now (settings_of old).human
-    ∷ (g.E5.Serialize.data_of c.args.self.now.fifth.now (settings_of old).human ∷ [])))) rest (omega (arith, c.requires)) h)))))))
-
-pub returns-in_err-put_field-3-clause-keeps : goal.returns-in_err-put_field-3-clause-keeps
-returns-in_err-put_field-3-clause-keeps g c = (keeps_then g.W.Sink (keeps_then g.W.Sink c.put_field.ensures.keeps c.put_field-2.ensures.keeps)
-    c.put_field-3.ensures.keeps)
-
-pub returns-in_err-put_field-4-clause-writes : goal.returns-in_err-put_field-4-clause-writes
-returns-in_err-put_field-4-clause-writes g c =
-    let p = err_from_is_err_and c.from_residual-in_err-put_field-4.result c.from_residual-in_err-put_field-4.ensures.1 in
-    rw (p.1, p.2) (λ old t rest h. part_takes g.W.Sink _
-    (one_of_or g.W.Sink.takes_memory (g.E1.Serialize.takes_memory (settings_of old)
-    ∷ (g.E2.Serialize.takes_memory (settings_of old) ∷
-    (g.E3.Serialize.takes_memory (settings_of old) ∷ (g.E4.Serialize.takes_memory (settings_of old)
-    ∷ (g.E5.Serialize.takes_memory (settings_of old) ∷ []))))) 3)
-    (c.in_err-put_field-4.ensures.writes old t _ (next_named g.W.Sink c.args.names.now 3 _
-    (g.E4.Serialize.data_of c.args.self.now.fourth.now (settings_of old).human)
-    (g.E5.Serialize.data_of c.args.self.now.fifth.now (settings_of old).human ∷ []) rest (omega (arith, c.requires))
-    (c.in_ok-put_field-3.ensures.writes old t _ (next_named g.W.Sink c.args.names.now 2 _
-    (g.E3.Serialize.data_of c.args.self.now.third.now (settings_of old).human)
-    (g.E4.Serialize.data_of c.args.self.now.fourth.now (settings_of old).human
-    ∷ (g.E5.Serialize.data_of c.args.self.now.fifth.now (settings_of old).human ∷ [])) rest (omega (arith, c.requires))
-    (c.in_ok-put_field-2.ensures.writes old t _ (next_named g.W.Sink c.args.names.now 1 _
-    (g.E2.Serialize.data_of c.args.self.now.second.now (settings_of old).human)
-    (g.E3.Serialize.data_of c.args.self.now.third.now (settings_of old).human
-    ∷ (g.E4.Serialize.data_of c.args.self.now.fourth.now (settings_of old).human
-    ∷ (g.E5.Serialize.data_of c.args.self.now.fifth.now (settings_of old).human ∷ []))) rest (omega (arith, c.requires))
-    (c.in_ok-put_field.ensures.writes old t _ (next_named g.W.Sink c.args.names.now 0 _
-    (g.E1.Serialize.data_of c.args.self.now.first.now (settings_of old).human)
-    (g.E2.Serialize.data_of c.args.self.now.second.now (settings_of old).human
-    ∷ (g.E3.Serialize.data_of c.args.self.now.third.now (settings_of old).human
-    ∷ (g.E4.Serialize.data_of c.args.self.now.fourth.now (settings_of old).human
-    ∷ (g.E5.Serialize.data_of c.args.self.now.fifth.now (settings_of old).human ∷ [])))) rest (omega (arith, c.requires)) h)))))))))
-
-pub returns-in_err-put_field-4-clause-keeps : goal.returns-in_err-put_field-4-clause-keeps
-returns-in_err-put_field-4-clause-keeps g c = (keeps_then g.W.Sink
-    (keeps_then g.W.Sink (keeps_then g.W.Sink c.put_field.ensures.keeps c.put_field-2.ensures.keeps) c.put_field-3.ensures.keeps)
-    c.put_field-4.ensures.keeps)
-
-pub returns-in_err-put_field-5-clause-writes : goal.returns-in_err-put_field-5-clause-writes
-returns-in_err-put_field-5-clause-writes g c =
-    let p = err_from_is_err_and c.from_residual-in_err-put_field-5.result c.from_residual-in_err-put_field-5.ensures.1 in
-    rw (p.1, p.2) (λ old t rest h. part_takes g.W.Sink _
-    (one_of_or g.W.Sink.takes_memory (g.E1.Serialize.takes_memory (settings_of old)
-    ∷ (g.E2.Serialize.takes_memory (settings_of old) ∷
-    (g.E3.Serialize.takes_memory (settings_of old) ∷ (g.E4.Serialize.takes_memory (settings_of old)
-    ∷ (g.E5.Serialize.takes_memory (settings_of old) ∷ []))))) 4)
-    (c.in_err-put_field-5.ensures.writes old t _ (next_named g.W.Sink c.args.names.now 4 _
-    (g.E5.Serialize.data_of c.args.self.now.fifth.now (settings_of old).human) [] rest (omega (arith, c.requires))
-    (c.in_ok-put_field-4.ensures.writes old t _ (next_named g.W.Sink c.args.names.now 3 _
-    (g.E4.Serialize.data_of c.args.self.now.fourth.now (settings_of old).human)
-    (g.E5.Serialize.data_of c.args.self.now.fifth.now (settings_of old).human ∷ []) rest (omega (arith, c.requires))
-    (c.in_ok-put_field-3.ensures.writes old t _ (next_named g.W.Sink c.args.names.now 2 _
-    (g.E3.Serialize.data_of c.args.self.now.third.now (settings_of old).human)
-    (g.E4.Serialize.data_of c.args.self.now.fourth.now (settings_of old).human
-    ∷ (g.E5.Serialize.data_of c.args.self.now.fifth.now (settings_of old).human ∷ [])) rest (omega (arith, c.requires))
-    (c.in_ok-put_field-2.ensures.writes old t _ (next_named g.W.Sink c.args.names.now 1 _
-    (g.E2.Serialize.data_of c.args.self.now.second.now (settings_of old).human)
-    (g.E3.Serialize.data_of c.args.self.now.third.now (settings_of old).human
-    ∷ (g.E4.Serialize.data_of c.args.self.now.fourth.now (settings_of old).human
-    ∷ (g.E5.Serialize.data_of c.args.self.now.fifth.now (settings_of old).human ∷ []))) rest (omega (arith, c.requires))
-    (c.in_ok-put_field.ensures.writes old t _ (next_named g.W.Sink c.args.names.now 0 _
-    (g.E1.Serialize.data_of c.args.self.now.first.now (settings_of old).human)
-    (g.E2.Serialize.data_of c.args.self.now.second.now (settings_of old).human
-    ∷ (g.E3.Serialize.data_of c.args.self.now.third.now (settings_of old).human
-    ∷ (g.E4.Serialize.data_of c.args.self.now.fourth.now (settings_of old).human
-    ∷ (g.E5.Serialize.data_of c.args.self.now.fifth.now (settings_of old).human ∷ [])))) rest (omega (arith, c.requires)) h)))))))))))
-
-pub returns-in_err-put_field-5-clause-keeps : goal.returns-in_err-put_field-5-clause-keeps
-returns-in_err-put_field-5-clause-keeps g c = (keeps_then g.W.Sink
-    (keeps_then g.W.Sink (keeps_then g.W.Sink (keeps_then g.W.Sink c.put_field.ensures.keeps c.put_field-2.ensures.keeps) c.put_field-3.ensures.keeps)
-    c.put_field-4.ensures.keeps) c.put_field-5.ensures.keeps)
+    ∷ (g.E4.Serialize.data_of c.args.self.now.fourth.now (settings_of old).human ∷ []))))
+    (g.E5.Serialize.data_of c.args.self.now.fifth.now (settings_of old).human ∷ []) rest refl (omega (arith, c.requires)) h)))
 
 pub returns-clause-writes : goal.returns-clause-writes
-returns-clause-writes g c = λ old t rest h. (c.in_ok-put_field-5.ensures.writes old t _
-    (next_named g.W.Sink c.args.names.now 4 _ (g.E5.Serialize.data_of c.args.self.now.fifth.now (settings_of old).human) [] rest (omega (arith, c.requires))
-    (c.in_ok-put_field-4.ensures.writes old t _ (next_named g.W.Sink c.args.names.now 3 _
-    (g.E4.Serialize.data_of c.args.self.now.fourth.now (settings_of old).human)
-    (g.E5.Serialize.data_of c.args.self.now.fifth.now (settings_of old).human ∷ []) rest (omega (arith, c.requires))
-    (c.in_ok-put_field-3.ensures.writes old t _ (next_named g.W.Sink c.args.names.now 2 _
-    (g.E3.Serialize.data_of c.args.self.now.third.now (settings_of old).human)
-    (g.E4.Serialize.data_of c.args.self.now.fourth.now (settings_of old).human
-    ∷ (g.E5.Serialize.data_of c.args.self.now.fifth.now (settings_of old).human ∷ [])) rest (omega (arith, c.requires))
-    (c.in_ok-put_field-2.ensures.writes old t _ (next_named g.W.Sink c.args.names.now 1 _
-    (g.E2.Serialize.data_of c.args.self.now.second.now (settings_of old).human)
-    (g.E3.Serialize.data_of c.args.self.now.third.now (settings_of old).human
-    ∷ (g.E4.Serialize.data_of c.args.self.now.fourth.now (settings_of old).human
-    ∷ (g.E5.Serialize.data_of c.args.self.now.fifth.now (settings_of old).human ∷ []))) rest (omega (arith, c.requires))
-    (c.in_ok-put_field.ensures.writes old t _ (next_named g.W.Sink c.args.names.now 0 _
-    (g.E1.Serialize.data_of c.args.self.now.first.now (settings_of old).human)
-    (g.E2.Serialize.data_of c.args.self.now.second.now (settings_of old).human
+returns-clause-writes g c = λ old t rest h. going_more g.W.Sink (IsWriting g.W.Sink old t rest c.write_fields-2.new.se) t (sink_of old)
+    (sink_of c.write_fields-2.new.se) c.write_fields-2.result
+    (back_or g.W.Sink.takes_memory (g.E1.Serialize.takes_memory (settings_of old)
+    ∷ (g.E2.Serialize.takes_memory (settings_of old) ∷
+    (g.E3.Serialize.takes_memory (settings_of old) ∷ (g.E4.Serialize.takes_memory (settings_of old) ∷ []))))
+    (g.E5.Serialize.takes_memory (settings_of old) ∷ []))
+    (c.write_fields-2.ensures.writes old t rest (c.in_ok-write_fields.ensures.writes old t _
+    (named_halves g.W.Sink c.args.names.now 4 (g.E1.Serialize.data_of c.args.self.now.first.now (settings_of old).human
+    ∷ (g.E2.Serialize.data_of c.args.self.now.second.now (settings_of old).human
     ∷ (g.E3.Serialize.data_of c.args.self.now.third.now (settings_of old).human
-    ∷ (g.E4.Serialize.data_of c.args.self.now.fourth.now (settings_of old).human
-    ∷ (g.E5.Serialize.data_of c.args.self.now.fifth.now (settings_of old).human ∷ [])))) rest (omega (arith, c.requires)) h))))))))))
+    ∷ (g.E4.Serialize.data_of c.args.self.now.fourth.now (settings_of old).human ∷ []))))
+    (g.E5.Serialize.data_of c.args.self.now.fifth.now (settings_of old).human ∷ []) rest refl (omega (arith, c.requires)) h)))
 
 pub returns-clause-keeps : goal.returns-clause-keeps
-returns-clause-keeps g c = (keeps_then g.W.Sink (keeps_then g.W.Sink
-    (keeps_then g.W.Sink (keeps_then g.W.Sink c.put_field.ensures.keeps c.put_field-2.ensures.keeps) c.put_field-3.ensures.keeps)
-    c.put_field-4.ensures.keeps) c.put_field-5.ensures.keeps)
+returns-clause-keeps g c = keeps_then g.W.Sink c.write_fields.ensures.keeps c.write_fields-2.ensures.keeps

@@ -1,85 +1,25 @@
 use Rattle.std.proofs.Common.{◌∷◌, []}
-use Rattle.std.specs.Prelude.{◌||◌, Ok, Err}
 use Rattle.std.proofs.lemmas.Result.{err_from_is_err_and}
-use Rattle.rmp_encode.specs.Ser.{settings_of}
-use Rattle.rmp_encode.proofs.Going.{goes, keeps_then}
-use Rattle.rmp_encode.proofs.Parts.{one_of_or, part_takes}
+use Rattle.rmp_encode.specs.Going.{IsWriting}
+use Rattle.rmp_encode.specs.Ser.{sink_of, settings_of}
+use Rattle.rmp_encode.proofs.Going.{going_more, keeps_then}
+use Rattle.rmp_encode.proofs.Parts.{front_or, back_or, part_takes}
 use Rattle.rmp_encode.proofs.elements.kinds.FourElements.write.Goals as goal
 
-pub returns-in_err-serialize-clause-writes : goal.returns-in_err-serialize-clause-writes
-returns-in_err-serialize-clause-writes g c =
+pub returns-in_err-write-clause-writes : goal.returns-in_err-write-clause-writes
+returns-in_err-write-clause-writes g c =
     let p = err_from_is_err_and c.from_residual.result c.from_residual.ensures.1 in
     rw (p.1, p.2) (λ old t rest h. part_takes g.W.Sink _
-    (one_of_or g.W.Sink.takes_memory (g.E1.Serialize.takes_memory (settings_of old)
-    ∷ (g.E2.Serialize.takes_memory (settings_of old) ∷
-    (g.E3.Serialize.takes_memory (settings_of old) ∷ (g.E4.Serialize.takes_memory (settings_of old) ∷ [])))) 0)
-    (goes g.W.Sink (λ s. g.E1.Serialize.takes_memory s || g.W.Sink.takes_memory) (λ s. g.E1.Serialize.data_of c.args.self.now.first.now s.human) _ _ (Err _)
-    c.serialize.ensures.keeps c.in_err-serialize.ensures.writes old t _ h))
-
-pub returns-in_err-serialize-2-clause-writes : goal.returns-in_err-serialize-2-clause-writes
-returns-in_err-serialize-2-clause-writes g c =
-    let p = err_from_is_err_and c.from_residual-in_err-serialize-2.result c.from_residual-in_err-serialize-2.ensures.1 in
-    rw (p.1, p.2) (λ old t rest h. part_takes g.W.Sink _
-    (one_of_or g.W.Sink.takes_memory (g.E1.Serialize.takes_memory (settings_of old)
-    ∷ (g.E2.Serialize.takes_memory (settings_of old) ∷
-    (g.E3.Serialize.takes_memory (settings_of old) ∷ (g.E4.Serialize.takes_memory (settings_of old) ∷ [])))) 1)
-    (goes g.W.Sink (λ s. g.E2.Serialize.takes_memory s || g.W.Sink.takes_memory) (λ s. g.E2.Serialize.data_of c.args.self.now.second.now s.human) _ _
-    (Err _) c.serialize-2.ensures.keeps c.in_err-serialize-2.ensures.writes old t _
-    (goes g.W.Sink (λ s. g.E1.Serialize.takes_memory s || g.W.Sink.takes_memory) (λ s. g.E1.Serialize.data_of c.args.self.now.first.now s.human) _ _
-    (Ok _) c.serialize.ensures.keeps c.in_ok-serialize.ensures.writes old t _ h)))
-
-pub returns-in_err-serialize-2-clause-keeps : goal.returns-in_err-serialize-2-clause-keeps
-returns-in_err-serialize-2-clause-keeps g c = (keeps_then g.W.Sink c.serialize.ensures.keeps c.serialize-2.ensures.keeps)
-
-pub returns-in_err-serialize-3-clause-writes : goal.returns-in_err-serialize-3-clause-writes
-returns-in_err-serialize-3-clause-writes g c =
-    let p = err_from_is_err_and c.from_residual-in_err-serialize-3.result c.from_residual-in_err-serialize-3.ensures.1 in
-    rw (p.1, p.2) (λ old t rest h. part_takes g.W.Sink _
-    (one_of_or g.W.Sink.takes_memory (g.E1.Serialize.takes_memory (settings_of old)
-    ∷ (g.E2.Serialize.takes_memory (settings_of old) ∷
-    (g.E3.Serialize.takes_memory (settings_of old) ∷ (g.E4.Serialize.takes_memory (settings_of old) ∷ [])))) 2)
-    (goes g.W.Sink (λ s. g.E3.Serialize.takes_memory s || g.W.Sink.takes_memory) (λ s. g.E3.Serialize.data_of c.args.self.now.third.now s.human) _ _ (Err _)
-    c.serialize-3.ensures.keeps c.in_err-serialize-3.ensures.writes old t _
-    (goes g.W.Sink (λ s. g.E2.Serialize.takes_memory s || g.W.Sink.takes_memory) (λ s. g.E2.Serialize.data_of c.args.self.now.second.now s.human) _ _
-    (Ok _) c.serialize-2.ensures.keeps c.in_ok-serialize-2.ensures.writes old t _
-    (goes g.W.Sink (λ s. g.E1.Serialize.takes_memory s || g.W.Sink.takes_memory) (λ s. g.E1.Serialize.data_of c.args.self.now.first.now s.human) _ _
-    (Ok _) c.serialize.ensures.keeps c.in_ok-serialize.ensures.writes old t _ h))))
-
-pub returns-in_err-serialize-3-clause-keeps : goal.returns-in_err-serialize-3-clause-keeps
-returns-in_err-serialize-3-clause-keeps g c = (keeps_then g.W.Sink (keeps_then g.W.Sink c.serialize.ensures.keeps c.serialize-2.ensures.keeps)
-    c.serialize-3.ensures.keeps)
-
-pub returns-in_err-serialize-4-clause-writes : goal.returns-in_err-serialize-4-clause-writes
-returns-in_err-serialize-4-clause-writes g c =
-    let p = err_from_is_err_and c.from_residual-in_err-serialize-4.result c.from_residual-in_err-serialize-4.ensures.1 in
-    rw (p.1, p.2) (λ old t rest h. part_takes g.W.Sink _
-    (one_of_or g.W.Sink.takes_memory (g.E1.Serialize.takes_memory (settings_of old)
-    ∷ (g.E2.Serialize.takes_memory (settings_of old) ∷
-    (g.E3.Serialize.takes_memory (settings_of old) ∷ (g.E4.Serialize.takes_memory (settings_of old) ∷ [])))) 3)
-    (goes g.W.Sink (λ s. g.E4.Serialize.takes_memory s || g.W.Sink.takes_memory) (λ s. g.E4.Serialize.data_of c.args.self.now.fourth.now s.human) _ _
-    (Err _) c.serialize-4.ensures.keeps c.in_err-serialize-4.ensures.writes old t _
-    (goes g.W.Sink (λ s. g.E3.Serialize.takes_memory s || g.W.Sink.takes_memory) (λ s. g.E3.Serialize.data_of c.args.self.now.third.now s.human) _ _
-    (Ok _) c.serialize-3.ensures.keeps c.in_ok-serialize-3.ensures.writes old t _
-    (goes g.W.Sink (λ s. g.E2.Serialize.takes_memory s || g.W.Sink.takes_memory) (λ s. g.E2.Serialize.data_of c.args.self.now.second.now s.human) _ _
-    (Ok _) c.serialize-2.ensures.keeps c.in_ok-serialize-2.ensures.writes old t _
-    (goes g.W.Sink (λ s. g.E1.Serialize.takes_memory s || g.W.Sink.takes_memory) (λ s. g.E1.Serialize.data_of c.args.self.now.first.now s.human) _ _
-    (Ok _) c.serialize.ensures.keeps c.in_ok-serialize.ensures.writes old t _ h)))))
-
-pub returns-in_err-serialize-4-clause-keeps : goal.returns-in_err-serialize-4-clause-keeps
-returns-in_err-serialize-4-clause-keeps g c = (keeps_then g.W.Sink
-    (keeps_then g.W.Sink (keeps_then g.W.Sink c.serialize.ensures.keeps c.serialize-2.ensures.keeps) c.serialize-3.ensures.keeps)
-    c.serialize-4.ensures.keeps)
+    (front_or g.W.Sink.takes_memory (g.E1.Serialize.takes_memory (settings_of old) ∷ (g.E2.Serialize.takes_memory (settings_of old) ∷ []))
+    (g.E3.Serialize.takes_memory (settings_of old) ∷ (g.E4.Serialize.takes_memory (settings_of old) ∷ [])))
+    (c.in_err-write.ensures.writes old t _ h))
 
 pub returns-clause-writes : goal.returns-clause-writes
-returns-clause-writes g c = λ old t rest h. (goes g.W.Sink (λ s. g.E4.Serialize.takes_memory s || g.W.Sink.takes_memory)
-    (λ s. g.E4.Serialize.data_of c.args.self.now.fourth.now s.human) _ _ (Ok _) c.serialize-4.ensures.keeps c.in_ok-serialize-4.ensures.writes old t _
-    (goes g.W.Sink (λ s. g.E3.Serialize.takes_memory s || g.W.Sink.takes_memory) (λ s. g.E3.Serialize.data_of c.args.self.now.third.now s.human) _ _ (Ok _)
-    c.serialize-3.ensures.keeps c.in_ok-serialize-3.ensures.writes old t _
-    (goes g.W.Sink (λ s. g.E2.Serialize.takes_memory s || g.W.Sink.takes_memory) (λ s. g.E2.Serialize.data_of c.args.self.now.second.now s.human) _ _ (Ok _)
-    c.serialize-2.ensures.keeps c.in_ok-serialize-2.ensures.writes old t _
-    (goes g.W.Sink (λ s. g.E1.Serialize.takes_memory s || g.W.Sink.takes_memory) (λ s. g.E1.Serialize.data_of c.args.self.now.first.now s.human) _ _ (Ok _)
-    c.serialize.ensures.keeps c.in_ok-serialize.ensures.writes old t _ h))))
+returns-clause-writes g c = λ old t rest h. going_more g.W.Sink (IsWriting g.W.Sink old t rest c.write-2.new.se) t (sink_of old)
+    (sink_of c.write-2.new.se) c.write-2.result (back_or g.W.Sink.takes_memory
+    (g.E1.Serialize.takes_memory (settings_of old) ∷ (g.E2.Serialize.takes_memory (settings_of old) ∷ []))
+    (g.E3.Serialize.takes_memory (settings_of old) ∷ (g.E4.Serialize.takes_memory (settings_of old) ∷ [])))
+    (c.write-2.ensures.writes old t rest (c.in_ok-write.ensures.writes old t _ h))
 
 pub returns-clause-keeps : goal.returns-clause-keeps
-returns-clause-keeps g c = (keeps_then g.W.Sink (keeps_then g.W.Sink (keeps_then g.W.Sink c.serialize.ensures.keeps c.serialize-2.ensures.keeps)
-    c.serialize-3.ensures.keeps) c.serialize-4.ensures.keeps)
+returns-clause-keeps g c = keeps_then g.W.Sink c.write.ensures.keeps c.write-2.ensures.keeps
