@@ -87,7 +87,8 @@ impl<W: Sink, C: SerializerConfig> Serializer<W, C> {
 }
 
 impl<'a, W: Sink, C: SerializerConfig> Compound<'a, W, C> {
-    /// Writes the next element of a tuple struct or a tuple variant.
+    /// Writes the next element of a tuple struct or a tuple variant. The caller's conditions: it is one, `is_sound`, and `left`
+    /// isn't 0.
     ///
     /// # Errors
     ///
@@ -117,12 +118,13 @@ impl<'a, W: Sink, C: SerializerConfig> Compound<'a, W, C> {
         }
     }
 
-    /// Writes the next field of a struct or a struct variant: its value, and with names its name before it.
+    /// Writes the next field of a struct or a struct variant: its value, and with names its name before it. The caller's
+    /// conditions: it is one, `is_sound`, and `left` isn't 0.
     ///
     /// # Errors
     ///
-    /// What the value's type or the sink answers, and `InvalidDataModel` where the name is written and has 2 ^ 32 bytes or more. The
-    /// compound isn't sound afterwards.
+    /// What the value's type or the sink answers, and `InvalidDataModel` where the name is written and has 2 ^ 32 bytes or more.
+    /// The compound isn't sound afterwards.
     #[inline(always)]
     pub fn serialize_field<T: Serialize>(
         &mut self,
@@ -166,7 +168,7 @@ impl<'a, W: Sink, C: SerializerConfig> Compound<'a, W, C> {
         self.sound
     }
 
-    /// Ends what is open, where no call has answered an error. Nothing is written.
+    /// Ends what is open. Nothing is written, and it doesn't fail. The caller's conditions: `is_sound`, and `left` is 0.
     pub fn end(self) -> Result<(), Error>
         requires sound { is_sound self ≡ true }
         requires whole { left_of self ≡ 0 }

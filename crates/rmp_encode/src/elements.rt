@@ -41,13 +41,14 @@ pub trait Elements {
     fn len(&self) -> usize
         ensures { result ≡ count };
 
-    /// Writes them, one after the other.
+    /// Writes them, one after the other. It fails as an element's type or the sink does.
     fn write<W: Sink, C: SerializerConfig>(&self, se: &mut Serializer<W, C>) -> Result<(), Error>
         ensures writes { Goes W.Sink (IsWriting W.Sink) (λ n. n) (λ s. takes_memory s || W.takes_memory) (λ s. parts_of self.now s.human) se.old se.new result }
         ensures keeps { Keeps W.Sink se.old se.new }
         ensures value { OnOk result (are_values self.now) };
 
-    /// Writes them, each behind its name where structs are written with names.
+    /// Writes them, each behind its name where structs are written with names. There are as many names as values: the caller's
+    /// condition. It fails as `serialize_fields` does.
     fn write_fields<W: Sink, C: SerializerConfig>(
         &self,
         names: &[&'static str],
@@ -82,7 +83,8 @@ impl<W: Sink, C: SerializerConfig> Serializer<W, C> {
         elements.write(self)
     }
 
-    /// Writes a struct of fields with these names and values: the list of the values, or with names the map.
+    /// Writes a struct of fields with these names and values: the list of the values, or with names the map. There are as many
+    /// names as values: the caller's condition.
     ///
     /// # Errors
     ///
@@ -130,7 +132,8 @@ impl<W: Sink, C: SerializerConfig> Serializer<W, C> {
         elements.write(self)
     }
 
-    /// Writes a variant whose content is like a struct of fields with these names and values.
+    /// Writes a variant whose content is like a struct of fields with these names and values. There are as many names as values:
+    /// the caller's condition.
     ///
     /// # Errors
     ///

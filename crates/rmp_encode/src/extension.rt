@@ -45,7 +45,8 @@ impl<'a, W: Sink, C: SerializerConfig> ExtSerializer<'a, W, C> {
 }
 
 impl<'a, W: Sink, C: SerializerConfig> ExtFieldSerializer<'a, W, C> {
-    /// Writes the extension. 2 ^ 32 bytes or more are refused, and nothing is written.
+    /// Writes the extension. 2 ^ 32 bytes or more are refused by `InvalidDataModel`, and nothing is written; else it fails as the
+    /// sink does.
     pub fn bytes(self, bytes: &[u8]) -> Result<(), Error>
         ensures writes { WritesTree W.Sink W.takes_memory (Some (extension (type_of self.entry) bytes.now)) (sink_of (tagged_inside self.entry))
             (sink_of self.exit.0.now) result }

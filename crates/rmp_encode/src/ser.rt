@@ -33,6 +33,10 @@ pub trait Serialize {
     ghost takes_memory: { Settings → Bool } = { λ _. true };
 
     /// Writes the value.
+    ///
+    /// # Errors
+    /// The sink's fault, a length past 32 bits, the type's own refusal, or want of memory. A beginning of the spelling, if there
+    /// is one, stands behind the old bytes then.
     fn serialize<W: Sink, C: SerializerConfig>(
         &self,
         se: &mut Serializer<W, C>,

@@ -52,6 +52,8 @@ pub(crate) fn answer(r: Result<(), ValueWriteError>) -> Result<(), Error>
 
 impl<W: Sink> Serializer<W> {
     /// A serializer with the default settings: structs are lists, values are written compactly, and no list is made bytes.
+    ///
+    /// `let mut se = Serializer::new(alloc, Vec::new(alloc)); se.serialize_u16(300)?; se.into_inner()` is `cd 01 2c`.
     pub fn new(alloc: Global, wr: W) -> Serializer<W>
         ensures sink { sink_of result ≡ wr }
         ensures settings { settings_of result ≡ record { named = false; human = false; bytes = BytesMode.Normal } }
@@ -312,7 +314,7 @@ impl<W: Sink, C: SerializerConfig> Serializer<W, C> {
         answer(write_uint(&mut self.wr, u64::from(n)))
     }
 
-    /// Writes nil.
+    /// Writes nil. It fails as the sink does.
     #[inline(always)]
     pub fn serialize_unit(&mut self) -> Result<(), Error>
         ensures writes { WritesTree W.Sink W.takes_memory (Some nil) (sink_of self.old) (sink_of self.new) result }
@@ -322,7 +324,7 @@ impl<W: Sink, C: SerializerConfig> Serializer<W, C> {
         answer(write_nil(&mut self.wr))
     }
 
-    /// Writes a truth value.
+    /// Writes a truth value. It fails as the sink does.
     #[inline(always)]
     pub fn serialize_bool(&mut self, b: bool) -> Result<(), Error>
         ensures writes { WritesTree W.Sink W.takes_memory (Some (truth b)) (sink_of self.old) (sink_of self.new) result }
@@ -332,7 +334,7 @@ impl<W: Sink, C: SerializerConfig> Serializer<W, C> {
         answer(write_bool(&mut self.wr, b))
     }
 
-    /// Writes a whole number.
+    /// Writes a whole number. It fails as the sink does.
     #[inline(always)]
     pub fn serialize_u8(&mut self, n: u8) -> Result<(), Error>
         ensures writes { WritesTree W.Sink W.takes_memory (Some (whole (pos n))) (sink_of self.old) (sink_of self.new) result }
@@ -342,7 +344,7 @@ impl<W: Sink, C: SerializerConfig> Serializer<W, C> {
         answer(write_uint(&mut self.wr, u64::from(n)))
     }
 
-    /// Writes a whole number.
+    /// Writes a whole number. It fails as the sink does.
     #[inline(always)]
     pub fn serialize_u16(&mut self, n: u16) -> Result<(), Error>
         ensures writes { WritesTree W.Sink W.takes_memory (Some (whole (pos n))) (sink_of self.old) (sink_of self.new) result }
@@ -352,7 +354,7 @@ impl<W: Sink, C: SerializerConfig> Serializer<W, C> {
         answer(write_uint(&mut self.wr, u64::from(n)))
     }
 
-    /// Writes a whole number.
+    /// Writes a whole number. It fails as the sink does.
     #[inline(always)]
     pub fn serialize_u32(&mut self, n: u32) -> Result<(), Error>
         ensures writes { WritesTree W.Sink W.takes_memory (Some (whole (pos n))) (sink_of self.old) (sink_of self.new) result }
@@ -362,7 +364,7 @@ impl<W: Sink, C: SerializerConfig> Serializer<W, C> {
         answer(write_uint(&mut self.wr, u64::from(n)))
     }
 
-    /// Writes a whole number.
+    /// Writes a whole number. It fails as the sink does.
     #[inline(always)]
     pub fn serialize_u64(&mut self, n: u64) -> Result<(), Error>
         ensures writes { WritesTree W.Sink W.takes_memory (Some (whole (pos n))) (sink_of self.old) (sink_of self.new) result }
@@ -372,7 +374,7 @@ impl<W: Sink, C: SerializerConfig> Serializer<W, C> {
         answer(write_uint(&mut self.wr, n))
     }
 
-    /// Writes a whole number.
+    /// Writes a whole number. It fails as the sink does.
     #[inline(always)]
     pub fn serialize_i8(&mut self, n: i8) -> Result<(), Error>
         ensures writes { WritesTree W.Sink W.takes_memory (Some (whole n)) (sink_of self.old) (sink_of self.new) result }
@@ -382,7 +384,7 @@ impl<W: Sink, C: SerializerConfig> Serializer<W, C> {
         self.serialize_i64(i64::from(n))
     }
 
-    /// Writes a whole number.
+    /// Writes a whole number. It fails as the sink does.
     #[inline(always)]
     pub fn serialize_i16(&mut self, n: i16) -> Result<(), Error>
         ensures writes { WritesTree W.Sink W.takes_memory (Some (whole n)) (sink_of self.old) (sink_of self.new) result }
@@ -392,7 +394,7 @@ impl<W: Sink, C: SerializerConfig> Serializer<W, C> {
         self.serialize_i64(i64::from(n))
     }
 
-    /// Writes a whole number.
+    /// Writes a whole number. It fails as the sink does.
     #[inline(always)]
     pub fn serialize_i32(&mut self, n: i32) -> Result<(), Error>
         ensures writes { WritesTree W.Sink W.takes_memory (Some (whole n)) (sink_of self.old) (sink_of self.new) result }
@@ -402,7 +404,7 @@ impl<W: Sink, C: SerializerConfig> Serializer<W, C> {
         self.serialize_i64(i64::from(n))
     }
 
-    /// Writes a whole number.
+    /// Writes a whole number. It fails as the sink does.
     #[inline(always)]
     pub fn serialize_i64(&mut self, n: i64) -> Result<(), Error>
         ensures writes { WritesTree W.Sink W.takes_memory (Some (whole n)) (sink_of self.old) (sink_of self.new) result }
@@ -412,7 +414,7 @@ impl<W: Sink, C: SerializerConfig> Serializer<W, C> {
         answer(write_sint(&mut self.wr, n))
     }
 
-    /// Writes a float of 32 bits, from its bits.
+    /// Writes a float of 32 bits, from its bits. It fails as the sink does.
     #[inline(always)]
     pub fn serialize_f32_bits(&mut self, bits: u32) -> Result<(), Error>
         ensures writes { WritesTree W.Sink W.takes_memory (Some (float32 bits)) (sink_of self.old) (sink_of self.new) result }
@@ -422,7 +424,7 @@ impl<W: Sink, C: SerializerConfig> Serializer<W, C> {
         answer(write_f32_bits(&mut self.wr, bits))
     }
 
-    /// Writes a float of 64 bits, from its bits.
+    /// Writes a float of 64 bits, from its bits. It fails as the sink does.
     #[inline(always)]
     pub fn serialize_f64_bits(&mut self, bits: u64) -> Result<(), Error>
         ensures writes { WritesTree W.Sink W.takes_memory (Some (float64 bits)) (sink_of self.old) (sink_of self.new) result }
@@ -432,7 +434,7 @@ impl<W: Sink, C: SerializerConfig> Serializer<W, C> {
         answer(write_f64_bits(&mut self.wr, bits))
     }
 
-    /// Writes a character as the text of its bytes in UTF-8.
+    /// Writes a character as the text of its bytes in UTF-8. It fails as the sink does.
     pub fn serialize_char(&mut self, c: char) -> Result<(), Error>
         ensures writes { WritesTree W.Sink W.takes_memory (Some (text (encode_utf8 c))) (sink_of self.old) (sink_of self.new) result }
         ensures marker { NoneAtMarker W.Sink (sink_of self.old) (sink_of self.new) result }
@@ -442,7 +444,8 @@ impl<W: Sink, C: SerializerConfig> Serializer<W, C> {
         self.serialize_str(c.encode_utf8(&mut room))
     }
 
-    /// Writes a text. One of 2 ^ 32 bytes or more is refused, in the words `length past 32 bits`, and nothing is written.
+    /// Writes a text. One of 2 ^ 32 bytes or more is refused, in the words `length past 32 bits`, and nothing is written. Else it
+    /// fails as the sink does.
     #[inline(always)]
     pub fn serialize_str(&mut self, s: &str) -> Result<(), Error>
         ensures writes { WritesTree W.Sink W.takes_memory (Some (text s.now)) (sink_of self.old) (sink_of self.new) result }
@@ -455,7 +458,7 @@ impl<W: Sink, C: SerializerConfig> Serializer<W, C> {
         answer(write_str(&mut self.wr, s))
     }
 
-    /// Writes bytes. 2 ^ 32 of them or more are refused, and nothing is written.
+    /// Writes bytes. 2 ^ 32 of them or more are refused as a text is, and nothing is written. Else it fails as the sink does.
     #[inline(always)]
     pub fn serialize_bytes(&mut self, bytes: &[u8]) -> Result<(), Error>
         ensures writes { WritesTree W.Sink W.takes_memory (Some (bin bytes.now)) (sink_of self.old) (sink_of self.new) result }
@@ -468,8 +471,8 @@ impl<W: Sink, C: SerializerConfig> Serializer<W, C> {
         answer(write_bin(&mut self.wr, bytes))
     }
 
-    /// Writes an extension: its type, from -128 to 127, and its bytes. 2 ^ 32 bytes or more are refused, and nothing is
-    /// written.
+    /// Writes an extension: its type, from -128 to 127, and its bytes. 2 ^ 32 bytes or more are refused as a text is, and nothing
+    /// is written. Else it fails as the sink does.
     ///
     /// This is an own call. It does what `extension().tag(t).bytes(b)` does, in one step, so that a type that is written by it
     /// can say what becomes of its serializer.

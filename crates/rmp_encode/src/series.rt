@@ -85,9 +85,11 @@ impl<W: Sink, C: SerializerConfig> Serializer<W, C> {
         self.over(self.empty())
     }
 
-    /// Opens a list of so many elements, or of a number that isn't known yet.
+    /// Opens a list of so many elements, or of a number that isn't known yet. After it go as many calls of `serialize_element`,
+    /// and `end`.
     ///
-    /// A number of 2 ^ 32 or more is refused, and nothing is written.
+    /// # Errors
+    /// `InvalidDataModel` for a number of 2 ^ 32 or more, and nothing is written; else what the sink answers.
     #[inline(always)]
     pub fn serialize_seq(
         &mut self,
@@ -124,9 +126,11 @@ impl<W: Sink, C: SerializerConfig> Serializer<W, C> {
         })
     }
 
-    /// Opens a map of so many pairs, or of a number that isn't known yet.
+    /// Opens a map of so many pairs, or of a number that isn't known yet. After it go as many pairs of calls of `serialize_key`
+    /// and `serialize_value`, and `end`.
     ///
-    /// A number of 2 ^ 32 or more is refused, and nothing is written.
+    /// # Errors
+    /// `InvalidDataModel` for a number of 2 ^ 32 or more, and nothing is written; else what the sink answers.
     #[inline(always)]
     pub fn serialize_map(
         &mut self,
@@ -222,7 +226,9 @@ impl<'a, W: Sink, C: SerializerConfig> MaybeUnknownLengthCompound<'a, W, C> {
         }
     }
 
-    /// Writes the next element of a list. An error leaves the list unsound.
+    /// Writes the next element of a list, or keeps it. The caller's conditions: it is a list, `is_sound`, and `left` isn't `Some(0)`. An
+    /// error of the element's type or of the sink, and `InvalidDataModel` for element 2 ^ 32 of an unknown number, leaves the
+    /// list unsound.
     #[inline(always)]
     pub fn serialize_element<T: Serialize>(&mut self, value: &T) -> Result<(), Error>
         requires sound { is_sound self.old ≡ true }
@@ -243,7 +249,8 @@ impl<'a, W: Sink, C: SerializerConfig> MaybeUnknownLengthCompound<'a, W, C> {
         self.put_part(value)
     }
 
-    /// Writes the next key of a map. Its value has to follow. An error leaves the map unsound.
+    /// Writes the next key of a map, or keeps it. Its value has to follow. The caller's conditions: it is a map whose last value
+    /// was written, `is_sound`, and `left` isn't `Some(0)`. An error, as of `serialize_element`, leaves the map unsound.
     #[inline(always)]
     pub fn serialize_key<T: Serialize>(&mut self, key: &T) -> Result<(), Error>
         requires sound { is_sound self.old ≡ true }
@@ -265,7 +272,8 @@ impl<'a, W: Sink, C: SerializerConfig> MaybeUnknownLengthCompound<'a, W, C> {
         self.put_part(key)
     }
 
-    /// Writes the value of the last key. An error leaves the map unsound.
+    /// Writes the value of the last key, or keeps it. The caller's conditions: a key was written and not its value, and
+    /// `is_sound`. An error, as of `serialize_element`, leaves the map unsound.
     #[inline(always)]
     pub fn serialize_value<T: Serialize>(&mut self, value: &T) -> Result<(), Error>
         requires sound { is_sound self.old ≡ true }
@@ -303,10 +311,12 @@ impl<'a, W: Sink, C: SerializerConfig> MaybeUnknownLengthCompound<'a, W, C> {
         self.sound
     }
 
-    /// Ends the list or the map, where no call has answered an error. What waits in a buffer is written behind its head.
+    /// Ends the list or the map. What waits in a buffer is written behind its head. The caller's conditions: `is_sound`, no key
+    /// is without its value, and of a number that was told `left` is 0.
     ///
-    /// Head and buffer are one item: a fault of the sink is `InvalidMarkerWrite` where it took nothing of them, and `InvalidDataWrite`
-    /// where it took a beginning.
+    /// # Errors
+    /// What the sink answers. Head and buffer are one item: `InvalidMarkerWrite` where nothing of them was taken,
+    /// `InvalidDataWrite` where a beginning was.
     #[inline(always)]
     pub fn end(self) -> Result<(), Error>
         requires sound { is_sound self ≡ true }

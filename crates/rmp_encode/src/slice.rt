@@ -57,8 +57,12 @@ impl<W: Sink, C: SerializerConfig> Serializer<W, C> {
 
     /// Writes the items of a slice.
     ///
-    /// Under the modes that force bytes, items that are all `u8` are bytes, where there are some. In the mode `Normal` no memory is
-    /// taken but by the items and the sink. 2 ^ 32 items or more are refused, and nothing is written.
+    /// Under the modes that force bytes, items that are all `u8` are bytes, where there are some. In the mode `Normal` no memory
+    /// is taken but by the items and the sink.
+    ///
+    /// # Errors
+    /// `InvalidDataModel` for 2 ^ 32 items or more, and nothing is written; else what an item's type or the sink answers, or want
+    /// of memory.
     pub fn collect_seq<T: Serialize>(&mut self, values: &[T]) -> Result<(), Error>
         ensures writes { WritesTree W.Sink ((forces_slices (settings_of self.old).bytes || T.takes_memory (settings_of self.old)) || W.takes_memory)
             (tree_of (settings_of self.old) (slice_of (map (λ x. T.data_of x (settings_of self.old).human) values.now))) (sink_of self.old)

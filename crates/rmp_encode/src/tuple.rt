@@ -97,7 +97,8 @@ impl<W: Sink, C: SerializerConfig> Serializer<W, C> {
         }
     }
 
-    /// Opens a tuple of so many elements. A number of 2 ^ 32 or more is refused, and nothing is written.
+    /// Opens a tuple of so many elements. A number of 2 ^ 32 or more is refused by `InvalidDataModel`, and nothing is written;
+    /// else it fails as the sink does.
     #[inline(always)]
     pub fn serialize_tuple(&mut self, len: usize) -> Result<Tuple<'_, W, C>, Error>
         ensures* refused { sem 𝓛 (Rests W.row C.row W.Sink reference (len < 2 ^ 32) (λ all. length all ≡ len) tuple_of self.entry result) }
@@ -133,7 +134,8 @@ impl<W: Sink, C: SerializerConfig> Serializer<W, C> {
 }
 
 impl<'a, W: Sink, C: SerializerConfig> Tuple<'a, W, C> {
-    /// Writes the next element, or keeps it. An error leaves the tuple unsound.
+    /// Writes the next element, or keeps it. The caller's conditions: `is_sound`, and `left` isn't 0. An error of the element's
+    /// type or of the sink, or want of memory, leaves the tuple unsound.
     #[inline(always)]
     pub fn serialize_element<T: Serialize>(&mut self, value: &T) -> Result<(), Error>
         requires sound { is_sound self.old ≡ true }
@@ -250,7 +252,7 @@ impl<'a, W: Sink, C: SerializerConfig> Tuple<'a, W, C> {
         self.sound
     }
 
-    /// Ends the tuple, where no call has answered an error. What was kept is written.
+    /// Ends the tuple. What was kept is written; it fails as the sink does. The caller's conditions: `is_sound`, and `left` is 0.
     #[inline(always)]
     pub fn end(self) -> Result<(), Error>
         requires sound { is_sound self ≡ true }

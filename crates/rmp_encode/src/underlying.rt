@@ -15,13 +15,16 @@ pub trait UnderlyingWrite {
 
     ghost with_sink: { Self → Self.Write → Self };
 
+    /// The sink.
     fn get_ref(&self) -> &Self::Write
         ensures { result.now ≡ sink self.now };
 
+    /// The sink, to be changed.
     fn get_mut(&mut self) -> &mut Self::Write
         ensures* writes_back { sem 𝓛 (Lends Self.row Self.Write.row self.entry result (with_sink self.old)) }
         ensures value { result.now ≡ sink self.old };
 
+    /// The sink, given back.
     fn into_inner(self) -> Self::Write
     where
         Self: Sized,

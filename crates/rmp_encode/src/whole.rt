@@ -12,7 +12,9 @@ use std::alloc::Global;
 
 /// Writes a value into a sink. Structs are lists.
 ///
-/// At an error the sink holds what it held before, and behind it a beginning of the spelling, if there is one.
+/// # Errors
+/// The sink's fault, a length past 32 bits, the type's own refusal, or want of memory. The sink holds what it held before, and
+/// behind it a beginning of the spelling, if there is one.
 pub fn write<W: Sink, T: Serialize>(alloc: Global, wr: &mut W, value: &T) -> Result<(), Error>
     ensures writes { WritesTree W.Sink (T.takes_memory default_settings || W.takes_memory) (tree_of default_settings (T.data_of value.now false)) wr.old
         wr.new result }
@@ -25,7 +27,7 @@ pub fn write<W: Sink, T: Serialize>(alloc: Global, wr: &mut W, value: &T) -> Res
     value.serialize(&mut se)
 }
 
-/// Writes a value into a sink. Structs are maps from the names of their fields.
+/// Writes a value into a sink. Structs are maps from the names of their fields. It fails as `write` does.
 pub fn write_named<W: Sink, T: Serialize>(alloc: Global, wr: &mut W, value: &T) -> Result<(), Error>
     ensures writes { WritesTree W.Sink (T.takes_memory named_settings || W.takes_memory) (tree_of named_settings (T.data_of value.now false)) wr.old wr.new
         result }
@@ -38,7 +40,10 @@ pub fn write_named<W: Sink, T: Serialize>(alloc: Global, wr: &mut W, value: &T) 
     value.serialize(&mut se)
 }
 
-/// The canonical spelling of a value. Structs are lists.
+/// The canonical spelling of a value. Structs are lists. `to_vec(alloc, &(42u8, "it"))` is `92 2a a2 69 74`.
+///
+/// # Errors
+/// `OutOfMemory`, a length past 32 bits (`InvalidDataModel`), or the type's own refusal (`Syntax`).
 pub fn to_vec<T: Serialize>(alloc: Global, value: &T) -> Result<Vec<u8>, Error>
     ensures bytes { IfOk result (λ v. IsSpelled (tree_of default_settings (T.data_of value.now false)) v.items) }
     ensures value { OnOk result (T.is_value value.now) }
@@ -49,7 +54,7 @@ pub fn to_vec<T: Serialize>(alloc: Global, value: &T) -> Result<Vec<u8>, Error>
     Ok(se.into_inner())
 }
 
-/// The canonical spelling of a value. Structs are maps from the names of their fields.
+/// The canonical spelling of a value. Structs are maps from the names of their fields. It fails as `to_vec` does.
 pub fn to_vec_named<T: Serialize>(alloc: Global, value: &T) -> Result<Vec<u8>, Error>
     ensures bytes { IfOk result (λ v. IsSpelled (tree_of named_settings (T.data_of value.now false)) v.items) }
     ensures value { OnOk result (T.is_value value.now) }

@@ -58,15 +58,15 @@ fn next_node(left: &mut &[u8]) -> Result<Option<u64>, Error>
     Ok(Some(parts_in(&head)))
 }
 
-/// Whether the input begins with the canonical spelling of a message, and of how many bytes, or where the first head
-/// stands that isn't canonical, whatever follows it.
+/// Whether the input begins with the canonical spelling of a message, and of how many bytes, or where the first head stands that
+/// isn't canonical, whatever follows it. Of `92 05 a1 61 c0` it is `Whole(4)`, of `92 05 d9 01 61` it is `Fault(2)`.
 ///
-/// Lists and maps may nest as deep as they like, and texts may be no UTF-8. What follows the message isn't looked at. It takes
-/// no memory, from `_alloc` or elsewhere.
+/// Lists and maps may nest as deep as they like, and texts may be no UTF-8. What follows the message isn't looked at. It takes no
+/// memory, from `_alloc` or elsewhere.
 ///
 /// # Errors
-/// Where no such head comes before it: `InvalidMarkerRead` where the input ends before a message that is wanted, `InvalidDataRead`
-/// where it ends inside of a head or of content, and `TypeMismatch` at the byte c1.
+/// Where no such head comes before it: `InvalidMarkerRead` where the input ends before a message that is wanted,
+/// `InvalidDataRead` where it ends inside of a head or of content, and `TypeMismatch` at the byte c1.
 pub fn check_canonical(_alloc: Global, input: &[u8]) -> Result<Canon, Error>
     // `Whole` exactly where a beginning of the input is the canonical spelling of a message,
     ensures whole { (n : ℕ) → (result ≡ Ok (Canon.Whole n)) ↔ IsWhole input.now n }

@@ -1,4 +1,4 @@
-//! The example of the README.
+//! A message that is read, changed and written, and one that is written canonically.
 use crate::{Value, from_slice, to_vec};
 use std::alloc::Global;
 

@@ -19,7 +19,8 @@ mod values;
 
 /// A type whose values are read as they were written, whatever the settings, if they are the same on both sides.
 ///
-/// It has no calls. Contracts of generic code use its laws.
+/// It has no calls. Contracts of generic code use its laws: a function over `T: RoundTrip<'de, R>` that writes a value and reads it
+/// has the value back, by a call of `laws::written_is_read::<R, T>()`.
 pub trait RoundTrip<'de, R: ReadSlice<'de>>: Serialize + Deserialize<'de, R> {
     // Whether a value borrows what it is read from, so that it is read only where the source lends its bytes.
     ghost borrows: { Bool } = { false };

@@ -10,7 +10,8 @@ pub use read::read_value;
 pub use reference::ValueRef;
 use std::marker::Model;
 
-/// A message of any kind, as a tree.
+/// A message of any kind, as a tree. Of `let value: Value = from_slice(alloc, b"\x92\xcd\x00\x05\xc0")?` the `root()` is a list,
+/// whose `item(0)` is the number 5; `to_vec(alloc, &value)` is `92 05 c0`.
 ///
 /// Contracts see it as the message tree itself, every length and number of which has room in a head (`Fits`), and every text of which
 /// is UTF-8.

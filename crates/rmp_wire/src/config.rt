@@ -70,6 +70,7 @@ pub struct StructMapConfig<C> {
 impl<C> StructMapConfig<C> {
     ghost use Rattle.rmp_wire.specs.Settings.{map_inner};
 
+    /// The settings of `inner`, with names.
     pub fn new(inner: C) -> StructMapConfig<C>
         ensures { map_inner result ≡ inner }
     {
@@ -108,6 +109,7 @@ pub struct StructTupleConfig<C> {
 impl<C> StructTupleConfig<C> {
     ghost use Rattle.rmp_wire.specs.Settings.{tuple_inner};
 
+    /// The settings of `inner`, without names.
     pub fn new(inner: C) -> StructTupleConfig<C>
         ensures { tuple_inner result ≡ inner }
     {
@@ -146,6 +148,7 @@ pub struct HumanReadableConfig<C> {
 impl<C> HumanReadableConfig<C> {
     ghost use Rattle.rmp_wire.specs.Settings.{readable_inner};
 
+    /// The settings of `inner`, in the form for people.
     pub fn new(inner: C) -> HumanReadableConfig<C>
         ensures { readable_inner result ≡ inner }
     {
@@ -184,6 +187,7 @@ pub struct BinaryConfig<C> {
 impl<C> BinaryConfig<C> {
     ghost use Rattle.rmp_wire.specs.Settings.{binary_inner};
 
+    /// The settings of `inner`, in the compact form.
     pub fn new(inner: C) -> BinaryConfig<C>
         ensures { binary_inner result ≡ inner }
     {

@@ -39,7 +39,8 @@ pub trait Sink {
 
     /// Takes the first bytes of the piece, and says how many.
     ///
-    /// `Io` where the sink failed, and `Memory` where a sink that takes memory was refused it.
+    /// # Errors
+    /// `Io` where the sink failed, and `Memory` where a sink that takes memory was refused it. Nothing was taken then.
     fn put(&mut self, piece: &[u8]) -> Result<usize, SinkFault>
         ensures count { IfOk result (λ n. n ≤ length piece.now) }
         ensures bytes { WriteAppends (told self.old) (told self.new) result piece.now }
@@ -48,8 +49,9 @@ pub trait Sink {
 
     /// Puts the piece until it is whole, and stops at the first fault.
     ///
-    /// `InvalidMarkerWrite` where the piece's first byte wasn't taken, and `InvalidDataWrite` where it was; room that has
-    /// run out is a fault of the kind `WriteZero`. `OutOfMemory` where memory was refused.
+    /// # Errors
+    /// `InvalidMarkerWrite` where the piece's first byte wasn't taken, and `InvalidDataWrite` where it was; room that has run out
+    /// is a fault of the kind `WriteZero`. `OutOfMemory` where memory was refused.
     fn put_all(&mut self, piece: &[u8]) -> Result<(), ValueWriteError>
         ensures writes { Puts takes_memory piece.now (told self.old) (told self.new)
             (faults self.old) (faults self.new) result }

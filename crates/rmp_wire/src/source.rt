@@ -25,8 +25,10 @@ pub trait Source {
 
     /// Moves bytes from the front of those ahead into the front of `buf`, and says how many.
     ///
-    /// It may move fewer than `buf` has room for. `Ok(0)` for a `buf` that isn't empty says that the input has ended. An
-    /// error takes nothing, and counts as one more fault of the source.
+    /// It may move fewer than `buf` has room for. `Ok(0)` for a `buf` that isn't empty says that the input has ended.
+    ///
+    /// # Errors
+    /// The source's fault: nothing was taken, and one more is counted.
     fn pull(&mut self, buf: &mut [u8]) -> Result<usize, io::Error>
         ensures bound { IfOk result (λ n. n ≤ length buf.new) }
         ensures bytes { IfOk result (λ n. Consumes (ahead self.old) (ahead self.new) (take n buf.new)) }

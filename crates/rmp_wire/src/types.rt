@@ -12,6 +12,7 @@ pub struct Bytes<'a> {
 }
 
 impl<'a> Bytes<'a> {
+    /// These bytes.
     pub fn new(bytes: &'a [u8]) -> Bytes<'a>
         ensures { bytes_of result ≡ bytes.now }
     {
@@ -33,18 +34,21 @@ pub struct ByteBuf {
 }
 
 impl ByteBuf {
+    /// These bytes.
     pub fn new(bytes: Vec<u8>) -> ByteBuf
         ensures { buffer_bytes result ≡ bytes.items }
     {
         ByteBuf { bytes }
     }
 
+    /// The bytes.
     pub fn as_bytes(&self) -> &[u8]
         ensures { result.now ≡ buffer_bytes self.now }
     {
         self.bytes.as_slice()
     }
 
+    /// The bytes, in the vector that was given.
     pub fn into_vec(self) -> Vec<u8>
         ensures { result.items ≡ buffer_bytes self }
     {
@@ -70,6 +74,7 @@ pub struct Ext {
 }
 
 impl Ext {
+    /// An extension of this type and these bytes.
     pub fn new(tag: i8, bytes: Vec<u8>) -> Ext
         ensures tag { tag_of result ≡ tag }
         ensures bytes { ext_bytes result ≡ bytes.items }
@@ -84,12 +89,14 @@ impl Ext {
         self.tag
     }
 
+    /// The bytes.
     pub fn as_bytes(&self) -> &[u8]
         ensures { result.now ≡ ext_bytes self.now }
     {
         self.bytes.as_slice()
     }
 
+    /// The bytes, in the vector that was given.
     pub fn into_bytes(self) -> Vec<u8>
         ensures { result.items ≡ ext_bytes self }
     {

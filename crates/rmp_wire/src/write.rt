@@ -64,7 +64,7 @@ fn put_64<W: Sink>(sink: &mut W, marker: Marker, n: u64) -> Result<(), ValueWrit
     sink.put_all(&piece[7..])
 }
 
-/// Writes nil.
+/// Writes nil. It fails as `Sink::put_all` does.
 #[inline(always)]
 pub fn write_nil<W: Sink>(sink: &mut W) -> Result<(), ValueWriteError>
     ensures writes { Writes W.Sink (canon_head Nil) sink.old sink.new result }
@@ -73,7 +73,7 @@ pub fn write_nil<W: Sink>(sink: &mut W) -> Result<(), ValueWriteError>
     put_marker(sink, Marker::Null)
 }
 
-/// Writes a truth value.
+/// Writes a truth value. It fails as `Sink::put_all` does.
 #[inline(always)]
 pub fn write_bool<W: Sink>(sink: &mut W, b: bool) -> Result<(), ValueWriteError>
     ensures writes { Writes W.Sink (canon_head (Truth b)) sink.old sink.new result }
@@ -85,7 +85,7 @@ pub fn write_bool<W: Sink>(sink: &mut W, b: bool) -> Result<(), ValueWriteError>
     put_marker(sink, Marker::False)
 }
 
-/// Writes a number from 0 on, in its shortest spelling.
+/// Writes a number from 0 on, in its shortest spelling. It fails as `Sink::put_all` does.
 #[inline(always)]
 pub fn write_uint<W: Sink>(sink: &mut W, n: u64) -> Result<(), ValueWriteError>
     ensures writes { Writes W.Sink (canon_head (Whole (pos n))) sink.old sink.new result }
@@ -106,7 +106,7 @@ pub fn write_uint<W: Sink>(sink: &mut W, n: u64) -> Result<(), ValueWriteError>
     put_64(sink, Marker::U64, n)
 }
 
-/// Writes a whole number in its shortest spelling. From 0 on it is the unsigned one.
+/// Writes a whole number in its shortest spelling. From 0 on it is the unsigned one. It fails as `Sink::put_all` does.
 #[inline(always)]
 pub fn write_sint<W: Sink>(sink: &mut W, z: i64) -> Result<(), ValueWriteError>
     ensures writes { Writes W.Sink (canon_head (Whole z)) sink.old sink.new result }
@@ -130,7 +130,7 @@ pub fn write_sint<W: Sink>(sink: &mut W, z: i64) -> Result<(), ValueWriteError>
     put_64(sink, Marker::I64, z.cast_unsigned())
 }
 
-/// Writes a float of 32 bits, from its bits.
+/// Writes a float of 32 bits, from its bits. It fails as `Sink::put_all` does.
 #[inline(always)]
 pub fn write_f32_bits<W: Sink>(sink: &mut W, bits: u32) -> Result<(), ValueWriteError>
     ensures writes { Writes W.Sink (canon_head (F32Bits bits)) sink.old sink.new result }
@@ -139,7 +139,7 @@ pub fn write_f32_bits<W: Sink>(sink: &mut W, bits: u32) -> Result<(), ValueWrite
     put_32(sink, Marker::F32, bits)
 }
 
-/// Writes a float of 64 bits, from its bits.
+/// Writes a float of 64 bits, from its bits. It fails as `Sink::put_all` does.
 #[inline(always)]
 pub fn write_f64_bits<W: Sink>(sink: &mut W, bits: u64) -> Result<(), ValueWriteError>
     ensures writes { Writes W.Sink (canon_head (F64Bits bits)) sink.old sink.new result }
@@ -148,7 +148,7 @@ pub fn write_f64_bits<W: Sink>(sink: &mut W, bits: u64) -> Result<(), ValueWrite
     put_64(sink, Marker::F64, bits)
 }
 
-/// Writes the head of a text of so many bytes.
+/// Writes the head of a text of so many bytes. It fails as `Sink::put_all` does.
 #[inline(always)]
 pub fn write_str_len<W: Sink>(sink: &mut W, len: u32) -> Result<(), ValueWriteError>
     ensures writes { Writes W.Sink (canon_head (Text len)) sink.old sink.new result }
@@ -166,7 +166,7 @@ pub fn write_str_len<W: Sink>(sink: &mut W, len: u32) -> Result<(), ValueWriteEr
     put_32(sink, Marker::Str32, len)
 }
 
-/// Writes the head of so many bytes.
+/// Writes the head of so many bytes. It fails as `Sink::put_all` does.
 #[inline(always)]
 pub fn write_bin_len<W: Sink>(sink: &mut W, len: u32) -> Result<(), ValueWriteError>
     ensures writes { Writes W.Sink (canon_head (Bin len)) sink.old sink.new result }
@@ -181,7 +181,7 @@ pub fn write_bin_len<W: Sink>(sink: &mut W, len: u32) -> Result<(), ValueWriteEr
     put_32(sink, Marker::Bin32, len)
 }
 
-/// Writes the head of a list of so many messages.
+/// Writes the head of a list of so many messages. It fails as `Sink::put_all` does.
 #[inline(always)]
 pub fn write_array_len<W: Sink>(sink: &mut W, len: u32) -> Result<(), ValueWriteError>
     ensures writes { Writes W.Sink (canon_head (Array len)) sink.old sink.new result }
@@ -196,7 +196,7 @@ pub fn write_array_len<W: Sink>(sink: &mut W, len: u32) -> Result<(), ValueWrite
     put_32(sink, Marker::Array32, len)
 }
 
-/// Writes the head of a map of so many pairs.
+/// Writes the head of a map of so many pairs. It fails as `Sink::put_all` does.
 #[inline(always)]
 pub fn write_map_len<W: Sink>(sink: &mut W, len: u32) -> Result<(), ValueWriteError>
     ensures writes { Writes W.Sink (canon_head (Map len)) sink.old sink.new result }
@@ -230,7 +230,7 @@ fn put_ext_32<W: Sink>(sink: &mut W, len: u32, tag: u8) -> Result<(), ValueWrite
     sink.put_all(&piece[2..])
 }
 
-/// Writes the head of an extension of so many bytes, and its tag.
+/// Writes the head of an extension of so many bytes, and its tag. It fails as `Sink::put_all` does.
 #[inline(always)]
 pub fn write_ext_meta<W: Sink>(sink: &mut W, len: u32, tag: i8) -> Result<(), ValueWriteError>
     ensures writes { Writes W.Sink (canon_head (Ext len tag)) sink.old sink.new result }
@@ -249,7 +249,7 @@ pub fn write_ext_meta<W: Sink>(sink: &mut W, len: u32, tag: i8) -> Result<(), Va
     }
 }
 
-/// Writes bytes that stand behind a head, from where they lie. A fault is `InvalidDataWrite`.
+/// Writes bytes that stand behind a head, from where they lie. It fails as `Sink::put_all` does, each fault as `InvalidDataWrite`.
 #[inline(always)]
 pub fn write_content<W: Sink>(sink: &mut W, content: &[u8]) -> Result<(), ValueWriteError>
     ensures writes { WritesContent W.Sink content.now sink.old sink.new result }
@@ -261,7 +261,8 @@ pub fn write_content<W: Sink>(sink: &mut W, content: &[u8]) -> Result<(), ValueW
     }
 }
 
-/// Writes a text. It goes out from where it lies.
+/// Writes a text, which has fewer than 2 ^ 32 bytes: the caller's condition. It goes out from where it lies. It fails as
+/// `Sink::put_all` does.
 #[inline(always)]
 pub fn write_str<W: Sink>(sink: &mut W, s: &str) -> Result<(), ValueWriteError>
     requires { length s.now < 2 ^ 32 }
@@ -272,7 +273,8 @@ pub fn write_str<W: Sink>(sink: &mut W, s: &str) -> Result<(), ValueWriteError>
     write_content(sink, s.as_bytes())
 }
 
-/// Writes bytes. They go out from where they lie.
+/// Writes bytes, fewer than 2 ^ 32 of them: the caller's condition. They go out from where they lie. It fails as `Sink::put_all`
+/// does.
 #[inline(always)]
 pub fn write_bin<W: Sink>(sink: &mut W, bytes: &[u8]) -> Result<(), ValueWriteError>
     requires { length bytes.now < 2 ^ 32 }

@@ -83,6 +83,7 @@ impl Raw {
         }
     }
 
+    /// The bytes.
     pub fn as_bytes(&self) -> &[u8]
         ensures { result.now ≡ raw_bytes self.now }
     {
@@ -102,6 +103,7 @@ impl Raw {
         }
     }
 
+    /// The bytes, in a vector.
     pub fn into_bytes(self) -> Vec<u8>
         ensures { result.items ≡ raw_bytes self }
     {

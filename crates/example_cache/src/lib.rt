@@ -1,0 +1,8 @@
+//! A cache of answers to questions of any type, each kept under the canonical spelling of its question.
+#![tactic(auto)]
+
+mod cache;
+#[cfg(test)]
+mod tests;
+
+pub use cache::Cache;
