@@ -1,57 +1,10 @@
 //! Heads of the specification's table, read back; cut and failing input; sizes.
-ghost use Rattle.std.specs.Prelude.{Some};
-
-use super::{next_head, read_head, read_marker};
-use crate::error::{IoFault, MarkerReadError, ValueReadError};
-use crate::head::Head;
-use crate::marker::Marker;
-use crate::source::Source;
-use std::io;
+use faulty_io::Drip;
+use rmp_wire::{
+    Head, IoFault, Marker, MarkerReadError, ValueReadError, next_head, read_head, read_marker,
+};
 use std::io::ErrorKind;
 use std::process::Abort;
-
-/// Gives one byte a pull, and fails once it has given so many.
-#[derive(Drop)]
-struct Drip<'a> {
-    rest: &'a [u8],
-    until_fault: usize,
-    faults: u64,
-}
-
-impl<'a> Drip<'a> {
-    fn new(rest: &'a [u8], until_fault: usize) -> Drip<'a> {
-        Drip {
-            rest,
-            until_fault,
-            faults: 0,
-        }
-    }
-}
-
-impl<'a> Source for Drip<'a> {
-    ghost ahead = { λ s. Some s.rest.now };
-
-    ghost faults = { λ s. s.faults };
-
-    fn pull(&mut self, buf: &mut [u8]) -> Result<usize, io::Error> {
-        if self.until_fault == 0 {
-            self.faults = self.faults.wrapping_add(1);
-            return Err(io::Error::from(ErrorKind::TimedOut));
-        }
-        self.until_fault -= 1;
-        if buf.is_empty() {
-            return Ok(0);
-        }
-        match self.rest {
-            [first, rest @ ..] => {
-                buf[0] = *first;
-                self.rest = rest;
-                Ok(1)
-            }
-            _ => Ok(0),
-        }
-    }
-}
 
 fn is_head(rt: &impl Abort, bytes: &[u8], marker: Marker, head: Head) {
     let mut whole = bytes;

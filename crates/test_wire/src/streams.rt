@@ -1,9 +1,8 @@
-use crate::buffered::BufSource;
-use crate::read::{read_head, read_marker};
-use crate::sink::{Sink, SinkFault};
-use crate::slice::{ReadReader, ReadSlice, Reference, SourceFault};
-use crate::source::Source;
-use crate::stream::{IoSink, IoSource};
+//! Readers and writers of the world: interruptions, cursors and buffers.
+use rmp_wire::{
+    BufSource, Head, IoSink, IoSource, ReadReader, ReadSlice, Sink, SinkFault, Source, SourceFault,
+    read_head, read_marker,
+};
 use std::alloc::Global;
 use std::io;
 use std::io::{BufReader, Cursor, ErrorKind, Read, Write};
@@ -86,7 +85,7 @@ fn sixteen_interruptions_lose_nothing(rt: HostRuntime) {
     let mut source = IoSource::new(Interrupting::new(rt.alloc(), b"\xcd\x01\x02", 16));
     let marker = read_marker(&mut source).expect(&rt, "a marker");
     let head = read_head(marker, &mut source).expect(&rt, "a head");
-    assert_eq!(rt; head, crate::Head::Whole(258));
+    assert_eq!(rt; head, Head::Whole(258));
     let mut sink = IoSink::new(Interrupting::new(rt.alloc(), b"", 16));
     assert!(rt; sink.put_all(&[7, 8]).is_ok());
     assert_eq!(rt; sink.into_inner().taken.as_slice(), [7u8, 8].as_slice());

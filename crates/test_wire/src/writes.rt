@@ -1,74 +1,14 @@
-ghost use Rattle.std.specs.Prelude.{◌≡◌, IfOk, take, pos};
-ghost use Rattle.rmp_wire.specs.Heads.{canon_head};
-ghost use Rattle.rmp_wire.specs.declared.head.Head.TheVariants.{Whole};
-
-use super::*;
+//! What is written into vectors, slices and other sinks.
+use crate::spell_into;
+use faulty_io::Trickle;
+use rmp_wire::{
+    IoFault, Sink, SliceSink, ValueWriteError, write_array_len, write_bin, write_bin_len,
+    write_bool, write_content, write_ext_meta, write_f32_bits, write_f64_bits, write_map_len,
+    write_nil, write_sint, write_str, write_str_len, write_uint,
+};
 use std::io;
 use std::mem::size_of;
 use std::test::Fail;
-
-// A sink that takes one byte at a time.
-#[derive(Drop)]
-struct Trickle {
-    bytes: Vec<u8>,
-}
-
-impl Sink for Trickle {
-    ghost use Rattle.std.specs.Prelude.{true, Some};
-
-    const TAKES_MEMORY: bool = true;
-
-    ghost takes_memory = { true };
-
-    ghost told = { λ s. Some s.bytes.items };
-
-    ghost faults = { λ _. 0 };
-
-    fn put(&mut self, piece: &[u8]) -> Result<usize, SinkFault> {
-        let Some(first) = piece.first() else {
-            return Ok(0);
-        };
-        match self.bytes.push(*first) {
-            Ok(()) => Ok(1),
-            Err(_) => Err(SinkFault::Memory),
-        }
-    }
-}
-
-// A sink that takes one byte, and fails from then on.
-#[derive(Drop)]
-struct Closing {
-    taken: Option<u8>,
-    faults: u64,
-}
-
-impl Sink for Closing {
-    ghost use Rattle.std.specs.Prelude.{false};
-
-    const TAKES_MEMORY: bool = false;
-
-    ghost takes_memory = { false };
-
-    ghost faults = { λ s. s.faults };
-
-    fn put(&mut self, piece: &[u8]) -> Result<usize, SinkFault> {
-        if self.taken.is_none() {
-            self.taken = piece.first().copied();
-            return Ok(piece.len().min(1));
-        }
-        self.faults = self.faults.wrapping_add(1);
-        Err(SinkFault::Io(io::Error::from(io::ErrorKind::BrokenPipe)))
-    }
-}
-
-// What a caller that owns the slice knows of it once the sink is gone.
-fn spell_into(buf: &mut [u8], n: u64) -> Result<usize, ValueWriteError>
-    ensures { IfOk result (λ len. take len buf.new ≡ canon_head (Whole (pos n))) }
-{
-    let mut sink = SliceSink::new(buf);
-    write_uint(&mut sink, n)?;
-    Ok(sink.written())
-}
 
 #[test]
 fn whole_numbers(rt: HostRuntime) -> Result<(), Fail> {
@@ -219,9 +159,7 @@ fn into_a_slice(rt: HostRuntime) -> Result<(), Fail> {
 
 #[test]
 fn into_other_sinks(rt: HostRuntime) -> Result<(), Fail> {
-    let mut sink = Trickle {
-        bytes: Vec::new(rt.alloc()),
-    };
+    let mut sink = Trickle::new(rt.alloc(), usize::MAX);
     write_uint(&mut sink, 100500)?;
     write_str(&mut &mut sink, "no")?;
     assert_eq!(rt;
@@ -229,10 +167,7 @@ fn into_other_sinks(rt: HostRuntime) -> Result<(), Fail> {
         b"\xce\x00\x01\x88\x94\xa2no".as_slice()
     );
 
-    let mut sink = Closing {
-        taken: None,
-        faults: 0,
-    };
+    let mut sink = Trickle::new(rt.alloc(), 1);
     let fault = IoFault::from(io::ErrorKind::BrokenPipe);
     assert_eq!(rt;
         write_uint(&mut sink, 100500),
@@ -242,7 +177,7 @@ fn into_other_sinks(rt: HostRuntime) -> Result<(), Fail> {
         write_nil(&mut sink),
         Err(ValueWriteError::InvalidMarkerWrite(fault))
     );
-    assert_eq!(rt; sink.taken, Some(0xce));
+    assert_eq!(rt; sink.bytes.as_slice(), b"\xce".as_slice());
     assert_eq!(rt; sink.faults, 2);
     Ok(())
 }

@@ -1,5 +1,5 @@
-use crate::slice::{ReadRefReader, ReadSlice, Reference, SourceFault};
-use crate::source::Source;
+//! Pieces that are lent from a slice.
+use rmp_wire::{ReadRefReader, ReadSlice, Reference, Source, SourceFault};
 use std::io::ErrorKind;
 
 #[test]
