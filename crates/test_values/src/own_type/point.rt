@@ -6,11 +6,11 @@ ghost use Rattle.rmp_decode.specs.Read.{IsRaw, IsUnsigned};
 ghost use Rattle.rmp_decode.specs.Rows.{AndThen, NoMore};
 ghost use Rattle.rmp_decode.specs.Seq.{OfRow};
 
-use crate::config::SerializerConfig;
-use crate::encode;
-use crate::encode::{Serialize, Serializer};
-use crate::wire::{ReadSlice, Sink};
 use rmp_decode::{Deserialize, Deserializer, Error};
+use rmp_serde::config::SerializerConfig;
+use rmp_serde::encode;
+use rmp_serde::encode::{Serialize, Serializer};
+use rmp_serde::wire::{ReadSlice, Sink};
 
 /// A number and a text.
 #[derive(Drop)]

@@ -1,7 +1,8 @@
-use super::{Kind, Value, ValueRef};
-use crate::config::BytesMode;
-use crate::decode::{Error, from_slice};
-use crate::encode::{Serialize, Serializer, to_vec, to_vec_named, write};
+//! The parts of values, how values are written, and which are equal.
+use rmp_serde::config::BytesMode;
+use rmp_serde::decode::Error;
+use rmp_serde::encode::{Serialize, Serializer, write};
+use rmp_serde::{Kind, Value, ValueRef, from_slice, to_vec, to_vec_named};
 use std::test::Fail;
 
 // A list of a message of each kind, in the kinds' order, spelled canonically.

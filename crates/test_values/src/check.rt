@@ -1,5 +1,7 @@
-use super::*;
-use rmp_wire::Marker;
+//! Messages that are canonical, at fault, or cut.
+use rmp_serde::decode::Error;
+use rmp_serde::{Canon, Marker, check_canonical};
+use std::alloc::Global;
 
 fn check(rt: &HostRuntime, input: &[u8]) -> Result<Canon, Error> {
     check_canonical(rt.alloc(), input)

@@ -2,7 +2,7 @@ use Rattle.std.proofs.Common.{rules, refl}
 use Rattle.std.proofs.lemmas.Result.{err_from_is_err_and}
 use Rattle.rmp_encode.proofs.Going.{unopened}
 use Rattle.rmp_encode.proofs.Parts.{rests_at}
-use Rattle.rmp_serde.proofs.own_type.point.PointSerialize.serialize.Goals as goal
+use Rattle.test_values.proofs.own_type.point.PointSerialize.serialize.Goals as goal
 
 pub returns-in_err-parts-clause-writes : goal.returns-in_err-parts-clause-writes
 returns-in_err-parts-clause-writes g c =

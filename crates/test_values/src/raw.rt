@@ -1,6 +1,6 @@
-use crate::Raw;
-use crate::decode::{Error, from_slice};
-use crate::encode::to_vec;
+//! Texts that aren't UTF-8.
+use rmp_serde::decode::Error;
+use rmp_serde::{Raw, from_slice, to_vec};
 
 // A text of four bytes that aren't UTF-8, from the first on.
 const INVALID: [u8; 5] = [0xa4, 0x92, 0xcc, 0xc8, 0x90];

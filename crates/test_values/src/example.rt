@@ -1,5 +1,5 @@
 //! The example of the README.
-use crate::{Value, from_slice, to_vec};
+use rmp_serde::{Value, from_slice, to_vec};
 use std::alloc::Global;
 
 /// How many there are of each thing.

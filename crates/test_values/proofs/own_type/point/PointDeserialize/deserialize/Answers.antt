@@ -1,5 +1,5 @@
 use Rattle.rmp_decode.proofs.Laws.{lawful_ok, lawful_err}
-use Rattle.rmp_serde.proofs.own_type.point.PointDeserialize.deserialize.Goals as goal
+use Rattle.test_values.proofs.own_type.point.PointDeserialize.deserialize.Goals as goal
 
 pub returns-in-Ok-clause-law : goal.returns-in-Ok-clause-law
 returns-in-Ok-clause-law g c = lawful_ok _ _ _ _ _ _ _ (λ m r. r) c.in-Ok.ensures.law

@@ -1,11 +1,6 @@
-//! Types as a user writes them: docs/OWN_TYPES.md shows how, and is about these.
-mod named;
-mod point;
-
-use crate::to_vec;
-use named::Named;
-use point::Point;
-use rmp_decode::{Error, Text, from_slice};
+use super::{Named, Point};
+use rmp_serde::decode::{Error, Text};
+use rmp_serde::{from_slice, to_vec};
 use std::test::Fail;
 
 #[test]

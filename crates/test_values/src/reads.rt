@@ -1,37 +1,56 @@
-use super::*;
-use crate::decode::{from_slice, from_slice_strict};
+//! What is read as a value, and what is refused.
+use rmp_serde::decode::Error;
+use rmp_serde::{Kind, Value, ValueRef, from_slice, from_slice_strict};
 use std::alloc::{AllocError, Global};
 use std::test::Fail;
 
-// Writes a value in a notation of this test alone.
-fn show(out: &mut String, value: &Value) -> Result<(), AllocError> {
-    match &value.node {
-        Node::Nil => write!(out, "nil"),
-        Node::Truth(t) => write!(out, "{t}"),
-        Node::Whole(n) => write!(out, "{n}"),
-        Node::F32(bits) => write!(out, "f32 {bits:x}"),
-        Node::F64(bits) => write!(out, "f64 {bits:x}"),
-        Node::Text(text) => write!(out, "'{text}'"),
-        Node::Bytes(bytes) => write!(out, "bytes {bytes:?}"),
-        Node::Ext(tag, bytes) => write!(out, "ext {tag} {bytes:?}"),
-        Node::List(items) => {
+// Writes a part of a value in a notation of this test alone.
+fn show(out: &mut String, part: ValueRef<'_>) -> Result<(), AllocError> {
+    match part.kind() {
+        Kind::List => {
             write!(out, "[")?;
-            for item in items {
-                show(out, item)?;
-                write!(out, ";")?;
+            for i in 0..part.len() {
+                if let Some(item) = part.item(i) {
+                    show(out, item)?;
+                    write!(out, ";")?;
+                }
             }
             write!(out, "]")
         }
-        Node::Map(pairs) => {
+        Kind::Map => {
             write!(out, "{{")?;
-            for (key, value) in pairs {
-                show(out, key)?;
-                write!(out, ":")?;
-                show(out, value)?;
-                write!(out, ";")?;
+            for i in 0..part.len() {
+                if let Some((key, value)) = part.pair(i) {
+                    show(out, key)?;
+                    write!(out, ":")?;
+                    show(out, value)?;
+                    write!(out, ";")?;
+                }
             }
             write!(out, "}}")
         }
+        _ => show_leaf(out, part),
+    }
+}
+
+// Writes a part that has no parts.
+fn show_leaf(out: &mut String, leaf: ValueRef<'_>) -> Result<(), AllocError> {
+    if let Some(truth) = leaf.as_truth() {
+        write!(out, "{truth}")
+    } else if let Some(number) = leaf.as_whole() {
+        write!(out, "{number}")
+    } else if let Some(bits) = leaf.as_f32_bits() {
+        write!(out, "f32 {bits:x}")
+    } else if let Some(bits) = leaf.as_f64_bits() {
+        write!(out, "f64 {bits:x}")
+    } else if let Some(text) = leaf.as_str() {
+        write!(out, "'{text}'")
+    } else if let Some(bytes) = leaf.as_bytes() {
+        write!(out, "bytes {bytes:?}")
+    } else if let Some((tag, bytes)) = leaf.as_ext() {
+        write!(out, "ext {tag} {bytes:?}")
+    } else {
+        write!(out, "nil")
     }
 }
 
@@ -39,7 +58,7 @@ fn show(out: &mut String, value: &Value) -> Result<(), AllocError> {
 fn told(alloc: Global, read: Result<Value, Error>) -> Result<String, AllocError> {
     let mut out = String::new(alloc);
     match read {
-        Ok(value) => show(&mut out, &value)?,
+        Ok(value) => show(&mut out, value.root())?,
         Err(e) => write!(out, "{e}")?,
     }
     Ok(out)

@@ -4,9 +4,9 @@ ghost use Rattle.rmp_decode.specs.Read.{IsRaw, IsUnsigned};
 ghost use Rattle.rmp_decode.specs.Rows.{AndThen, NoMore};
 ghost use Rattle.rmp_decode.specs.Seq.{OfRow};
 
-use crate::config::SerializerConfig;
-use crate::wire::ReadSlice;
 use rmp_decode::{Deserialize, Deserializer, Error};
+use rmp_serde::config::SerializerConfig;
+use rmp_serde::wire::ReadSlice;
 
 /// A number and its name.
 #[derive(Drop)]

@@ -4,8 +4,8 @@ use Rattle.rmp_wire.specs.Msg.{Msgs, no_items, item}
 use Rattle.rmp_decode.specs.Read.{IsRaw, IsUnsigned}
 use Rattle.rmp_decode.specs.Rows.{AndThen, NoMore}
 use Rattle.rmp_decode.proofs.Seqs.{run_start, run_step, seq_unopened, seq_element, seq_over, seq_done, and_then_count, no_more_count}
-use Rattle.rmp_serde.specs.declared.own_type.named.Named.{Named}
-use Rattle.rmp_serde.proofs.own_type.named.NamedDeserialize.deserialize.Goals as goal
+use Rattle.test_values.specs.declared.own_type.named.Named.{Named}
+use Rattle.test_values.proofs.own_type.named.NamedDeserialize.deserialize.Goals as goal
 
 via : {A : Type 0} {x z : A} (y : A) → x ≡ y → y ≡ z → x ≡ z
 via y p q = p ∙ q
