@@ -96,6 +96,3 @@ pub fn check_canonical(_alloc: Global, input: &[u8]) -> Result<Canon, Error>
     }
     Ok(Canon::Whole(len - left.len()))
 }
-
-#[cfg(test)]
-mod tests;

@@ -4,11 +4,7 @@
 mod check;
 pub mod decode;
 pub mod encode;
-#[cfg(test)]
-mod example;
 pub mod laws;
-#[cfg(test)]
-mod own_type;
 mod raw;
 mod round_trip;
 mod value;

@@ -5,8 +5,6 @@ ghost use Rattle.std.specs.Str.Lossy.{utf8_valid_len};
 
 mod borrowed;
 mod owned;
-#[cfg(test)]
-mod tests;
 
 use std::str::Utf8Error;
 

@@ -58,6 +58,3 @@ impl Model for Value {
 
     ghost size_decreases = { λ a h. falls a.node };
 }
-
-#[cfg(test)]
-mod tests;

@@ -31,6 +31,3 @@ pub use write::{
     write_f32_bits, write_f64_bits, write_map_len, write_nil, write_sint, write_str, write_str_len,
     write_uint,
 };
-
-#[cfg(test)]
-mod tests;

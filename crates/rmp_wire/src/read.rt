@@ -145,6 +145,3 @@ fn tag<S: Source>(source: &mut S) -> Result<i8, ValueReadError>
 {
     Ok(number_8(source)?.cast_signed())
 }
-
-#[cfg(test)]
-mod tests;

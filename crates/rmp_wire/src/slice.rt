@@ -7,8 +7,6 @@ ghost use Rattle.rmp_wire.specs.Sources.{IsFront, Skips, Takes, TakesInto};
 ghost use Rattle.rmp_wire.specs.Spelling.{IsBytes};
 
 mod copying;
-#[cfg(test)]
-mod tests;
 
 use crate::error::IoFault;
 use crate::source::Source;

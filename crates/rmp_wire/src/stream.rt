@@ -6,9 +6,6 @@ ghost use Rattle.rmp_wire.specs.contracts.stream.IoSource.{the_row as source_row
 ghost use Rattle.rmp_wire.specs.contracts.stream.IoSink.{the_row as sink_row};
 ghost use Rattle.rmp_wire.specs.Streams.{reader_of, read_faults, with_reader, writer_of, write_faults, with_writer};
 
-#[cfg(test)]
-mod tests;
-
 use crate::sink::{Sink, SinkFault};
 use crate::source::Source;
 use std::io;

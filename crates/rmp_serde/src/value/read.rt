@@ -225,6 +225,3 @@ impl<'de, R: ReadSlice<'de>> Deserialize<'de, R> for Value {
         None
     }
 }
-
-#[cfg(test)]
-mod tests;

@@ -1,0 +1,245 @@
+//! What is read as a value, and what is refused.
+use rmp_serde::decode::Error;
+use rmp_serde::{Kind, Value, ValueRef, from_slice, from_slice_strict};
+use std::alloc::{AllocError, Global};
+use std::test::Fail;
+
+// Writes a part of a value in a notation of this test alone.
+fn show(out: &mut String, part: ValueRef<'_>) -> Result<(), AllocError> {
+    match part.kind() {
+        Kind::List => {
+            write!(out, "[")?;
+            for i in 0..part.len() {
+                if let Some(item) = part.item(i) {
+                    show(out, item)?;
+                    write!(out, ";")?;
+                }
+            }
+            write!(out, "]")
+        }
+        Kind::Map => {
+            write!(out, "{{")?;
+            for i in 0..part.len() {
+                if let Some((key, value)) = part.pair(i) {
+                    show(out, key)?;
+                    write!(out, ":")?;
+                    show(out, value)?;
+                    write!(out, ";")?;
+                }
+            }
+            write!(out, "}}")
+        }
+        _ => show_leaf(out, part),
+    }
+}
+
+// Writes a part that has no parts.
+fn show_leaf(out: &mut String, leaf: ValueRef<'_>) -> Result<(), AllocError> {
+    if let Some(truth) = leaf.as_truth() {
+        write!(out, "{truth}")
+    } else if let Some(number) = leaf.as_whole() {
+        write!(out, "{number}")
+    } else if let Some(bits) = leaf.as_f32_bits() {
+        write!(out, "f32 {bits:x}")
+    } else if let Some(bits) = leaf.as_f64_bits() {
+        write!(out, "f64 {bits:x}")
+    } else if let Some(text) = leaf.as_str() {
+        write!(out, "'{text}'")
+    } else if let Some(bytes) = leaf.as_bytes() {
+        write!(out, "bytes {bytes:?}")
+    } else if let Some((tag, bytes)) = leaf.as_ext() {
+        write!(out, "ext {tag} {bytes:?}")
+    } else {
+        write!(out, "nil")
+    }
+}
+
+// What a read answered: the value, or the error's text.
+fn told(alloc: Global, read: Result<Value, Error>) -> Result<String, AllocError> {
+    let mut out = String::new(alloc);
+    match read {
+        Ok(value) => show(&mut out, value.root())?,
+        Err(e) => write!(out, "{e}")?,
+    }
+    Ok(out)
+}
+
+fn shown(alloc: Global, input: &[u8]) -> Result<String, AllocError> {
+    told(alloc, from_slice(alloc, input))
+}
+
+#[test]
+fn reads_in_any_widths(rt: HostRuntime) -> Result<(), Fail> {
+    let rows: [(&[u8], &str); 32] = [
+        (&[0xc0], "nil"),
+        (&[0xc2], "false"),
+        (&[0xc3, 0xc1], "true"),
+        (&[0x7f], "127"),
+        (&[0xe0], "-32"),
+        (&[0xcc, 0x05], "5"),
+        (&[0xcf, 0, 0, 0, 0, 0, 0, 1, 0], "256"),
+        (
+            &[0xcf, 0xff, 0xff, 0xff, 0xff, 0xff, 0xff, 0xff, 0xff],
+            "18446744073709551615",
+        ),
+        (&[0xd0, 0x80], "-128"),
+        (&[0xd1, 0x00, 0x01], "1"),
+        (&[0xd2, 0xff, 0xff, 0xff, 0xfe], "-2"),
+        (
+            &[0xd3, 0xff, 0xff, 0xff, 0xff, 0xff, 0xff, 0xff, 0xff],
+            "-1",
+        ),
+        (&[0xd3, 0x80, 0, 0, 0, 0, 0, 0, 0], "-9223372036854775808"),
+        (&[0xca, 0x7f, 0x7f, 0xff, 0xff], "f32 7f7fffff"),
+        (
+            &[0xcb, 0x40, 0x09, 0x21, 0xfb, 0x54, 0x44, 0x2d, 0x18],
+            "f64 400921fb54442d18",
+        ),
+        (&[0xa0], "''"),
+        (&[0xd9, 0x00], "''"),
+        (&[0xda, 0x00, 0x02, 0xc3, 0xa9], "'é'"),
+        (&[0xdb, 0, 0, 0, 1, 0x61], "'a'"),
+        (&[0xc4, 0x01, 0x00], "bytes [0]"),
+        (&[0xc5, 0x00, 0x02, 0x01, 0xff], "bytes [1, 255]"),
+        (&[0xc6, 0, 0, 0, 0], "bytes []"),
+        (&[0xd4, 0xff, 0x07], "ext -1 [7]"),
+        (&[0xd5, 0x05, 1, 2], "ext 5 [1, 2]"),
+        (&[0xc7, 0x03, 0x05, 0x01, 0x02, 0x03], "ext 5 [1, 2, 3]"),
+        (&[0xc8, 0x00, 0x01, 0xff, 0x05], "ext -1 [5]"),
+        (&[0xdc, 0x00, 0x00], "[]"),
+        (&[0xdd, 0, 0, 0, 1, 0x90], "[[];]"),
+        (&[0x92, 0xcd, 0x00, 0x05, 0xd9, 0x01, 0x61], "[5;'a';]"),
+        (&[0x80], "{}"),
+        (&[0xde, 0x00, 0x01, 0x01, 0xc2], "{1:false;}"),
+        (
+            &[0x82, 0xa1, 0x6b, 0xd1, 0xff, 0xff, 0x02, 0xc4, 0x01, 0x00],
+            "{'k':-1;2:bytes [0];}",
+        ),
+    ];
+    for (input, want) in rows {
+        assert_eq!(rt; shown(rt.alloc(), input)?.as_str(), want, "at {input:?}");
+        let alone = told(rt.alloc(), Value::from_slice(rt.alloc(), input))?;
+        assert_eq!(rt; alone.as_str(), want, "at {input:?}");
+    }
+    // The keys stand in their order, and one may stand twice.
+    assert_eq!(rt;
+        shown(rt.alloc(), &[0x83, 2, 0, 1, 0, 2, 1])?.as_str(),
+        "{2:0;1:0;2:1;}"
+    );
+    Ok(())
+}
+
+#[test]
+fn refuses(rt: HostRuntime) -> Result<(), Fail> {
+    const NO_MARKER: &str = "IO error while reading marker: unexpected end of file";
+    const NO_DATA: &str = "IO error while reading data: unexpected end of file";
+    let rows: [(&[u8], &str); 21] = [
+        (&[], NO_MARKER),
+        (&[0x92], NO_MARKER),
+        (&[0x92, 0x01], NO_MARKER),
+        (&[0x81, 0x01], NO_MARKER),
+        (&[0xdf, 0xff, 0xff, 0xff, 0xff], NO_MARKER),
+        (&[0xdd, 0xff, 0xff, 0xff, 0xff, 0x01], NO_MARKER),
+        (&[0xcd, 0x00], NO_DATA),
+        (&[0xd3, 0, 0, 0, 0, 0, 0, 0], NO_DATA),
+        (&[0xc7, 0x02], NO_DATA),
+        (&[0xc8, 0x00], NO_DATA),
+        (&[0xc7, 0x02, 0x05, 0x01], NO_DATA),
+        (&[0xa2, 0x61], NO_DATA),
+        (&[0xdd, 0xff], NO_DATA),
+        (&[0xc6, 0xff, 0xff, 0xff, 0xff, 0x61], NO_DATA),
+        (&[0xdb, 0xff, 0xff, 0xff, 0xff, 0x61, 0x62], NO_DATA),
+        (&[0xc9, 0xff, 0xff, 0xff, 0xff, 0x05], NO_DATA),
+        (&[0xc1], "wrong msgpack marker Reserved"),
+        (&[0x92, 0xc0, 0xc1], "wrong msgpack marker Reserved"),
+        (
+            &[0xa1, 0xff],
+            "string found to be invalid utf8: invalid utf-8 sequence of 1 bytes from index 0",
+        ),
+        // A text that is cut isn't looked at.
+        (&[0xa2, 0xff], NO_DATA),
+        // The first thing that is wrong is told.
+        (
+            &[0x92, 0xa1, 0xff, 0xc1],
+            "string found to be invalid utf8: invalid utf-8 sequence of 1 bytes from index 0",
+        ),
+    ];
+    for (input, want) in rows {
+        assert_eq!(rt; shown(rt.alloc(), input)?.as_str(), want, "at {input:?}");
+        let alone = told(rt.alloc(), Value::from_slice(rt.alloc(), input))?;
+        assert_eq!(rt; alone.as_str(), want, "at {input:?}");
+    }
+    Ok(())
+}
+
+// So many times the opening, and then the end.
+fn nested(alloc: Global, times: usize, opening: &[u8], end: &[u8]) -> Result<Vec<u8>, AllocError> {
+    let mut bytes = Vec::new(alloc);
+    for _ in 0..times {
+        bytes.extend_from_slice(opening)?;
+    }
+    bytes.extend_from_slice(end)?;
+    Ok(bytes)
+}
+
+#[test]
+fn keeps_the_limit(rt: HostRuntime) -> Result<(), Fail> {
+    const TOO_DEEP: &str = "depth limit exceeded";
+    let alloc = rt.alloc();
+    let rows: [(&[u8], &[u8]); 4] = [
+        (&[0x91], &[0x90]),
+        (&[0x91], &[0x80]),
+        (&[0x81, 0xc0], &[0x90]),
+        (&[0x81, 0x90], &[0x80]),
+    ];
+    for (opening, end) in rows {
+        assert!(rt;
+            from_slice::<Value>(alloc, &nested(alloc, 1022, opening, end)?).is_ok(),
+            "at {opening:?}"
+        );
+        assert_eq!(rt;
+            shown(alloc, &nested(alloc, 1023, opening, end)?)?.as_str(),
+            TOO_DEEP,
+            "at {opening:?}"
+        );
+    }
+    // A leaf has no depth, and what a list holds isn't looked at where the list is too deep.
+    assert!(rt; from_slice::<Value>(alloc, &nested(alloc, 1023, &[0x91], &[0xc4, 0x00])?).is_ok());
+    assert_eq!(rt;
+        shown(alloc, &nested(alloc, 1023, &[0x91], &[0x91, 0xc1])?)?.as_str(),
+        TOO_DEEP
+    );
+    // Its head is.
+    assert_eq!(rt;
+        shown(alloc, &nested(alloc, 1023, &[0x91], &[0xdc, 0x00])?)?.as_str(),
+        "IO error while reading data: unexpected end of file"
+    );
+    Ok(())
+}
+
+// What a strict read of the input answers.
+fn strictly(alloc: Global, input: &[u8]) -> Result<String, AllocError> {
+    told(alloc, from_slice_strict(alloc, input))
+}
+
+#[test]
+fn only_canonical_heads_are_read_strictly(rt: HostRuntime) {
+    let alloc = rt.alloc();
+    let read = strictly(alloc, &[0x92, 0x05, 0xa1, 0x61]);
+    assert_eq!(rt; read.expect(&rt, "memory").as_str(), "[5;'a';]");
+    for input in [
+        &[0xde, 0, 0][..],
+        &[0xd0, 0x05],
+        &[0xc7, 0x01, 0x02, 0x05],
+        &[0x92, 0x05, 0xd9, 0x01, 0x61],
+        &[0xd1, 0x01, 0x2c],
+        &[0x81, 0xa1, 0x61, 0x91, 0xcc, 0x05],
+        &[0xdc, 0, 0],
+        &[0xc5, 0, 0],
+    ] {
+        let read = strictly(alloc, input);
+        assert_eq!(rt; read.expect(&rt, "memory").as_str(), "not canonical");
+        let lenient: Result<Value, Error> = from_slice(alloc, input);
+        assert!(rt; lenient.is_ok());
+    }
+}
