@@ -10,6 +10,7 @@ pub mod ContentErrors
 pub mod Contents
 pub mod EachRefusings
 pub mod Exactness
+pub mod FieldAccesses
 pub mod FieldRefusings
 pub mod Fields
 pub mod Fronts
