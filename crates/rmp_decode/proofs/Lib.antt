@@ -42,6 +42,8 @@ pub mod SkipLoop
 pub mod Skipping
 pub mod SourceReads
 pub mod Strings
+pub mod StructRuns
+pub mod StructVariants
 pub mod Structs
 pub mod Texts
 pub mod Tuples

@@ -1,9 +1,11 @@
 -- What an access to the fields of a struct does to the `Deserializer` that it borrows.
-use Rattle.std.specs.Prelude.{◌≡◌, ◌≢◌, ◌⊎◌, ℕ, zero, suc, ◌+◌, ◌-◌, ◌<◌, ◌≤◌, Bool, true, false, List, length, Option, Some, None}
+use Rattle.std.specs.Prelude.{◌≡◌, ◌≢◌, ◌⊎◌, ℕ, zero, suc, ◌+◌, ◌-◌, ◌<◌, ◌≤◌, max, Bool, true, false, List, length, Option, Some, None}
 use Rattle.std.specs.Int.{bit_at}
 use Rattle.rmp_wire.specs.declared.source.Source.{Ghosts}
 use Rattle.rmp_wire.specs.Msg.{Msg}
-use Rattle.rmp_decode.specs.Fields.{name_refusal, pass_refusal}
+use Rattle.rmp_decode.specs.Exact.{RefusesBy}
+use Rattle.rmp_decode.specs.Fields.{HasFields, not_fields, name_refusal, pass_refusal}
+use Rattle.rmp_decode.specs.Law.{Readable}
 use Rattle.rmp_decode.specs.MapRefusing.{EntryRefused}
 use Rattle.rmp_decode.specs.Maps.{IsMapOpen, OpensMap, TakesKey, TakesValue, map_inner}
 use Rattle.rmp_decode.specs.Names.{bytes_of, IsName}
@@ -11,7 +13,10 @@ use Rattle.rmp_decode.specs.Parts.{FailsPart}
 use Rattle.rmp_decode.specs.Refusing.{Setting, Refusals, ElementRefused}
 use Rattle.rmp_decode.specs.Seq.{Opens, TakesElement, FailsToTake}
 use Rattle.rmp_decode.specs.Skip.{any_tree}
-use Rattle.rmp_decode.specs.State.{left}
+use Rattle.rmp_decode.specs.State.{left, Stays}
+use Rattle.rmp_decode.specs.Variants.{RefusesContentOf, ContentRefusedBy}
+use Rattle.rmp_decode.specs.With.{part_reader}
+use Rattle.rmp_decode.specs.declared.access.variant.Variant.{Variant}
 use Rattle.rmp_decode.specs.declared.deserializer.Deserializer.{Deserializer}
 use Rattle.rmp_decode.specs.declared.deserializer.Kept.TheVariants.{Nothing}
 use Rattle.rmp_decode.specs.declared.access.field_access.FieldAccess.{FieldAccess}
@@ -19,7 +24,7 @@ use Rattle.rmp_decode.specs.declared.access.map.MapAccess.{MapAccess}
 use Rattle.rmp_decode.specs.declared.access.seq.SeqAccess.{SeqAccess}
 use Rattle.rmp_decode.specs.declared.error.Error.{Error}
 use Rattle.rmp_decode.specs.declared.error.Error.TheVariants.{Syntax}
-use Rattle.rmp_decode.specs.declared.text.Text.TheVariants.{DuplicateField, InvalidLength}
+use Rattle.rmp_decode.specs.declared.text.Text.TheVariants.{DuplicateField, InvalidLength, InvalidType}
 
 -- ---- what is seen of it
 
@@ -103,6 +108,21 @@ pub record OpensStruct {R C : Type 0} (g : Ghosts R) (names : List (List ℕ)) (
   pub none_met : a.met ≡ 0
   pub at_field : a.owes ≡ false
   pub still : IsStructOpen a
+
+-- the access, as if its reader had the room of a variant's content
+abbrev pub struct_within : {R C : Type 0} → ℕ → FieldAccess R C → FieldAccess R C
+struct_within inner a = record a { de = record a.de { now = record a.de.now { room = inner } } }
+
+-- they are the content of a variant: opened as by a reader of its own that has the content's room
+pub record OpensStructIn {R C : Type 0} (g : Ghosts R) (names : List (List ℕ)) (inner : ℕ) (old : Deserializer R C) (a : FieldAccess R C) : Type 0 where
+  pub opens : OpensStruct g names (part_reader old inner) (struct_within inner a)
+  pub stays : Stays g old a.de.now
+
+-- the content of a variant is none, or has no fields
+pub record FailsToOpenStructOf {R C : Type 0} (g : Ghosts R) (v : Variant R C) (last : Deserializer R C) (e : Error) : Type 0 where
+  pub err : RefusesContentOf g (λ c. true) (λ human. Readable (λ m (u : Unit {0}). HasFields m)) v last e
+  pub bare : v.bare ≡ true → (e ≡ Syntax InvalidType) × (last ≡ v.de.now)
+  pub exact : v.bare ≡ false → ContentRefusedBy g (λ strict. RefusesBy strict (not_fields (max 1 v.inner))) v last e
 
 -- ---- the place of the next field
 

@@ -1,21 +1,25 @@
 //! The fields of structs, one after another.
-ghost use Rattle.std.specs.Prelude.{◌≡◌, ◌≢◌, ◌-◌, ◌<◌, ◌≤◌, ◌^◌, ℕ, Some, None, true, false, length, IfSome, IfNone, IfOk, IfErr, OnOk, OnErr, MatchResult};
+ghost use Rattle.std.specs.Prelude.{◌≡◌, ◌≢◌, ◌-◌, ◌<◌, ◌≤◌, ◌^◌, ℕ, Some, None, true, false, length, IfSome, IfNone, IfOk, IfErr, OnOk, OnErr, MatchResult, max};
 ghost use Rattle.std.specs.Int.{bit_at};
 ghost use Rattle.std.specs.Io.KnownBytes.{IsAtEnd};
-ghost use Rattle.rmp_decode.specs.Exact.{IsDataEnd};
+ghost use Rattle.rmp_decode.specs.Exact.{IsDataEnd, RefusesBy};
+ghost use Rattle.rmp_decode.specs.Variants.{is_bare, variant_lender, content_room};
 ghost use Rattle.rmp_decode.specs.With.{OffersPart};
 ghost use Rattle.std.specs.Borrow.{sem, RestsIfErr};
 ghost use Rattle.rmp_decode.specs.contracts.deserializer.Deserializer.{the_row};
-ghost use Rattle.rmp_decode.specs.FieldAccess.{OpensStruct, IsStructOpen, SameStruct, AtField, AtFieldValue, TakesPlace, TakesPlaceAs, NoPlace, FailsPlace, NoName, TakesName, FailsName, EndsEarly, Meets, TakesField, FailsField, ValueRefused, FailsKey, FailsToPass, is_of_map, fields_left, fields_in, owes_field, is_struct_sound, struct_lender, names_in, as_map, unsound};
-ghost use Rattle.rmp_decode.specs.Fields.{FailsToOpenFields};
-ghost use Rattle.rmp_decode.specs.Law.{IsFailedBefore, Explains};
+ghost use Rattle.rmp_decode.specs.FieldAccess.{OpensStruct, IsStructOpen, SameStruct, AtField, AtFieldValue, TakesPlace, TakesPlaceAs, NoPlace, FailsPlace, NoName, TakesName, FailsName, EndsEarly, Meets, TakesField, FailsField, ValueRefused, FailsKey, FailsToPass, is_of_map, fields_left, fields_in, owes_field, is_struct_sound, struct_lender, names_in, as_map, unsound, OpensStructIn, FailsToOpenStructOf};
+ghost use Rattle.rmp_decode.specs.Fields.{FailsToOpenFields, HasFields, not_fields, fields_head};
+ghost use Rattle.rmp_decode.specs.Law.{IsFailedBefore, Explains, TakesHead};
 ghost use Rattle.rmp_decode.specs.Maps.{IsMapOpen, AtKey, TakesKey, TakesValue};
 ghost use Rattle.rmp_decode.specs.Names.{bytes_of, IsName};
 ghost use Rattle.rmp_decode.specs.Skip.{any_tree};
-ghost use Rattle.rmp_decode.specs.State.{config_of, faults_of, is_failed, Stays};
+ghost use Rattle.rmp_decode.specs.State.{left, config_of, faults_of, is_failed, is_strict, kept_of, Stays};
+ghost use Rattle.rmp_decode.specs.declared.deserializer.Kept.TheVariants.{Nothing};
+ghost use Rattle.rmp_decode.specs.Parts.{FailsPart};
 
 use crate::access::fields::Passed;
 use crate::access::seq::inner_room;
+use crate::access::variant::Variant;
 use crate::de::Deserialize;
 use crate::deserializer::Deserializer;
 use crate::error::Error;
@@ -93,6 +97,33 @@ impl<R: Source, C: SerializerConfig> Deserializer<R, C> {
                 sound: true,
                 met: 0,
             }),
+            Err(e) => Err(e),
+        }
+    }
+}
+
+impl<R: Source, C: SerializerConfig> Deserializer<R, C> {
+    // Takes the head of fields that are the content of a variant.
+    #[inline(always)]
+    pub(crate) fn open_struct_content(&mut self, inner: u32) -> Result<(Option<bool>, u32), Error>
+        ensures ok { IfOk result (λ p. TakesHead R.Source (fields_head p.0 p.1) self.old self.new) }
+        ensures deep { IfOk result (λ p. p.0 ≢ Some true → 1 < inner) }
+        ensures stays { Stays R.Source self.old self.new }
+        ensures sound { OnOk result (faults_of R.Source self.new ≡ faults_of R.Source self.old) }
+        ensures clean { OnOk result (kept_of self.new ≡ Nothing) }
+        ensures failed { is_failed self.new ≡ true }
+        ensures err { IfErr result (FailsPart R.Source (λ m (u : Unit {0}). HasFields m) (max 1 inner) self.old self.new) }
+        ensures exact { IfErr result (RefusesBy (is_strict self.old) (not_fields (max 1 inner)) (faults_of R.Source self.old)
+            (faults_of R.Source self.new) (left R.Source self.old)) }
+        ensures memory { IfErr result (λ e. e ≢ Error.OutOfMemory) }
+    {
+        let outer = self.room;
+        self.room = inner;
+        self.failed = false;
+        let opened = self.open_struct();
+        self.room = outer;
+        match opened {
+            Ok((kind, len)) => Ok((kind, len)),
             Err(e) => Err(e),
         }
     }
@@ -403,5 +434,55 @@ impl<'x, R: Source, C: SerializerConfig> FieldAccess<'x, R, C> {
         }
         de.failed = false;
         Ok(())
+    }
+}
+
+impl<'x, R: Source, C: SerializerConfig> Variant<'x, R, C> {
+    /// Opens the content of a variant as the fields of a struct: a list, bytes as the list of their numbers, or a map from the
+    /// names, of which there may be 128. The fields' end is that of the variant.
+    ///
+    /// # Errors
+    /// `Syntax("invalid type")` where the name stands alone, and otherwise as `deserialize_struct`.
+    #[inline(always)]
+    pub fn struct_variant(self, names: &'x [&'x str]) -> Result<FieldAccess<'x, R, C>, Error>
+        requires few { length names.now ≤ 128 }
+        ensures* refused { sem 𝓛 (RestsIfErr (the_row R.row C.row) self.entry.de (λ a. a.de.ghost_name) result
+            (λ last. IfErr result (FailsToOpenStructOf R.Source self.entry last))) }
+        ensures same_reference { IfOk result (λ a. a.de.ghost_name ≡ self.entry.de.ghost_name) }
+        ensures paired { OnOk result (is_bare self.entry ≡ false) }
+        ensures opened { IfOk result (OpensStructIn R.Source (bytes_of names.now) (content_room self.entry) (variant_lender self.entry)) }
+        ensures memory { IfErr result (λ e. e ≢ Error.OutOfMemory) }
+    {
+        let Variant { de, bare, inner } = self;
+        if bare {
+            return Err(Error::Syntax(Text::InvalidType));
+        }
+        match de.open_struct_content(inner) {
+            Ok((Some(bytes), left)) => Ok(FieldAccess {
+                de,
+                names,
+                left,
+                count: left,
+                inner: inner_room(inner, bytes),
+                is_map: false,
+                bytes,
+                owes: false,
+                sound: true,
+                met: 0,
+            }),
+            Ok((None, left)) => Ok(FieldAccess {
+                de,
+                names,
+                left,
+                count: left,
+                inner: inner.saturating_sub(1),
+                is_map: true,
+                bytes: false,
+                owes: false,
+                sound: true,
+                met: 0,
+            }),
+            Err(e) => Err(e),
+        }
     }
 }
