@@ -89,6 +89,7 @@ pub record Passing {R C : Type 0} (g : Ghosts R) (start now : FieldAccess R C) :
   pub same : SameStruct start now
   pub same_reference : now.de.ghost_name ≡ start.de.ghost_name
   pub met : now.met ≡ start.met
+  pub fewer : now.left ≤ start.left
   pub passed : IsMapOpen (as_map start) → PassedSo g start now
 
 module _ {R C : Type 0} (g : Ghosts R) (start : FieldAccess R C) where

@@ -208,6 +208,7 @@ impl<'x, R: Source, C: SerializerConfig> FieldAccess<'x, R, C> {
             (λ place. TakesName R.Source (names_in self.old) place (as_map self.old) (as_map self.new))) }
         ensures err { IsMapOpen (as_map self.old) → IfErr result (FailsName R.Source (C.human (config_of (struct_lender self.old))) R.lends
             (names_in self.old) (as_map self.old) (as_map self.new)) }
+        ensures fewer { IfOk result (λ o. IfSome o (λ _. fields_left self.new < fields_left self.old)) }
         ensures failed { OnErr result (is_struct_sound self.new ≡ false) }
     {
         while self.left > 0 {
@@ -233,6 +234,7 @@ impl<'x, R: Source, C: SerializerConfig> FieldAccess<'x, R, C> {
         ensures none { IfOk result (λ o. IfNone o ((length (names_in self.old) ≤ fields_in self.old - fields_left self.old) × (self.new ≡ self.old))) }
         ensures some { IfOk result (λ o. IfSome o (λ place. (place < length (names_in self.old)) × TakesPlaceAs false R.Source place self.old self.new)) }
         ensures err { IfErr result (EndsEarly self.old self.new) }
+        ensures fewer { IfOk result (λ o. IfSome o (λ _. fields_left self.new < fields_left self.old)) }
         ensures failed { OnErr result (is_struct_sound self.new ≡ false) }
     {
         let place = self.count.saturating_sub(self.left) as usize;
@@ -257,6 +259,7 @@ impl<'x, R: Source, C: SerializerConfig> FieldAccess<'x, R, C> {
         ensures ok { place < 128 → OnOk result (Meets place self.old self.new) }
         ensures err { place < 128 → IfErr result (λ e. (e ≡ Error.Syntax Text.DuplicateField) × (bit_at self.old.met place ≡ 1)) }
         ensures lender { self.new.de ≡ self.old.de }
+        ensures left { fields_left self.new ≡ fields_left self.old }
         ensures failed { OnErr result (is_struct_sound self.new ≡ false) }
     {
         let bit = bit_of(place);
@@ -286,6 +289,7 @@ impl<'x, R: Source, C: SerializerConfig> FieldAccess<'x, R, C> {
         ensures some { IsStructOpen self.old → IfOk result (λ o. IfSome o (TakesPlace R.Source self.old self.new)) }
         ensures err { IsStructOpen self.old → IfErr result
             (FailsPlace R.Source (C.human (config_of (struct_lender self.old))) R.lends self.old self.new) }
+        ensures fewer { IfOk result (λ o. IfSome o (λ _. fields_left self.new < fields_left self.old)) }
         ensures failed { OnErr result (is_struct_sound self.new ≡ false) }
         ensures before { is_struct_sound self.old ≡ false → MatchResult result (λ _. ⊥) IsFailedBefore × (self.new ≡ self.old) }
     {
@@ -351,6 +355,7 @@ impl<'x, R: Source, C: SerializerConfig> FieldAccess<'x, R, C> {
         ensures refused { IsStructOpen self.old → IfErr result
             (ValueRefused R.Source (C.human (config_of (struct_lender self.old))) R.lends T.refuses self.old self.new) }
         ensures memory { T.takes_memory R.lends ≡ false → IfErr result (λ e. e ≢ Error.OutOfMemory) }
+        ensures left { fields_left self.new ≡ fields_left self.old }
         ensures failed { OnErr result (is_struct_sound self.new ≡ false) }
         ensures before { is_struct_sound self.old ≡ false → MatchResult result (λ _. ⊥) IsFailedBefore × (self.new ≡ self.old) }
     {

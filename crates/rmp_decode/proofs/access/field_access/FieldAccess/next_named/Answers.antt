@@ -1,4 +1,4 @@
-use Rattle.std.proofs.Common.{◌∙◌}
+use Rattle.std.proofs.Common.{◌∙◌, arith}
 use Rattle.rmp_decode.proofs.FieldAccesses.{passed_more, name_taken, key_fails, pass_fails}
 use Rattle.rmp_decode.proofs.access.field_access.FieldAccess.next_named.Goals as goal
 
@@ -24,6 +24,7 @@ loop-self-preserved g c =
       };
       same_reference = v.same_reference ∙ k.same_reference ∙ r.same_reference;
       met = v.met ∙ k.met ∙ r.met;
+      fewer = omega (arith, r.fewer, k.ok.fewer, v.ok.same_left);
       passed = λ o. passed_more g.R.Source c.args.self.now c.loop-self.self c.next_name.new.self c.pass.new.self r.same.names (r.passed o)
           (rw c.in-Ok-None.field-0-is at k.ok) k.same_reference v.ok v.same_reference;
     }
