@@ -10,6 +10,7 @@ pub mod ContentErrors
 pub mod Contents
 pub mod EachRefusings
 pub mod Exactness
+pub mod FieldAccesses
 pub mod FieldRefusings
 pub mod Fields
 pub mod Fronts
@@ -41,6 +42,8 @@ pub mod SkipLoop
 pub mod Skipping
 pub mod SourceReads
 pub mod Strings
+pub mod StructRuns
+pub mod StructVariants
 pub mod Structs
 pub mod Texts
 pub mod Tuples

@@ -22,7 +22,7 @@ and_then_some None = refl
 and_then_some (Some a) = refl
 
 -- an answer that is used is there
-holds_some : {A : Type 0} (Q : A → Type 0) (x : Option A) → MatchOption x ⊥ Q → (a : A) × (x ≡ Some a) × Q a
+pub holds_some : {A : Type 0} (Q : A → Type 0) (x : Option A) → MatchOption x ⊥ Q → (a : A) × (x ≡ Some a) × Q a
 holds_some Q None h = absurd h
 holds_some Q (Some a) h = (a, refl, h)
 
@@ -45,7 +45,7 @@ put_keeps (suc i) n v m (f ∷ fs) gs e h = go (λ n r p h. put_keeps i n v m fs
     go ih None p q = absurd (cc)
     go ih (Some r) p q = let s : f ∷ r ≡ gs = cc in subst (λ z. at n z ≡ Some m) s (behind ih n r p h)
 
-put_at : (n : ℕ) (m : Msg) (fs gs : List (Option Msg)) → put n m fs ≡ Some gs → at n gs ≡ Some m
+pub put_at : (n : ℕ) (m : Msg) (fs gs : List (Option Msg)) → put n m fs ≡ Some gs → at n gs ≡ Some m
 put_at n m [] gs e = absurd (cc)
 put_at zero m (None ∷ fs) gs e = let q : Some m ∷ fs ≡ gs = cc in subst (λ z. at 0 z ≡ Some m) q refl
 put_at zero m (Some k ∷ fs) gs e = absurd (cc)

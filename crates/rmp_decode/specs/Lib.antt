@@ -4,6 +4,7 @@ pub mod Arrays
 pub mod Buffers
 pub mod Content
 pub mod Exact
+pub mod FieldAccess
 pub mod FieldRefusing
 pub mod Fields
 pub mod Fronts

@@ -9,6 +9,7 @@ mod error;
 mod text;
 
 pub use access::any::{Any, Leaf, RawAccess};
+pub use access::field_access::FieldAccess;
 pub use access::map::MapAccess;
 pub use access::seq::SeqAccess;
 pub use access::variant::Variant;

@@ -283,7 +283,7 @@ fn parts_of(head: Head) -> Option<(Option<bool>, u32)>
 impl<R: Source, C: SerializerConfig> Deserializer<R, C> {
     // Reads which of the names a key is, and stays failed until the access to the pairs ends.
     #[inline(always)]
-    fn name_part<'de>(&mut self, inner: u32, names: &[&str]) -> Result<Option<usize>, Error>
+    pub(crate) fn name_part<'de>(&mut self, inner: u32, names: &[&str]) -> Result<Option<usize>, Error>
     where
         R: ReadSlice<'de>,
         ensures ok { IfOk result (TakesPart R.Source (IsName (bytes_of names.now)) (max 1 inner) self.old self.new) }
@@ -307,7 +307,7 @@ impl<R: Source, C: SerializerConfig> Deserializer<R, C> {
 
     // Takes the head of a list, of bytes, or of a map.
     #[inline(always)]
-    fn open_struct(&mut self) -> Result<(Option<bool>, u32), Error>
+    pub(crate) fn open_struct(&mut self) -> Result<(Option<bool>, u32), Error>
         ensures ok { IfOk result (λ p. TakesHead R.Source (fields_head p.0 p.1) self.old self.new) }
         ensures deep { IfOk result (λ p. p.0 ≢ Some true → 1 < self.old.room) }
         ensures stays { Stays R.Source self.old self.new }

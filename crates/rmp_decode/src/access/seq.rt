@@ -177,7 +177,7 @@ impl<R: Source, C: SerializerConfig> Deserializer<R, C> {
 
     // Takes a byte, and keeps it back as a number.
     #[inline(always)]
-    fn keep_byte(&mut self) -> Result<(), Error>
+    pub(crate) fn keep_byte(&mut self) -> Result<(), Error>
         ensures ok { OnOk result (KeepsByte R.Source self.old self.new) }
         ensures sound { OnOk result (faults_of R.Source self.new ≡ faults_of R.Source self.old) }
         ensures stays { Stays R.Source self.old self.new }

@@ -1,0 +1,493 @@
+//! The fields of structs, one after another.
+ghost use Rattle.std.specs.Prelude.{◌≡◌, ◌≢◌, ◌-◌, ◌<◌, ◌≤◌, ◌^◌, ℕ, Some, None, true, false, length, IfSome, IfNone, IfOk, IfErr, OnOk, OnErr, MatchResult, max};
+ghost use Rattle.std.specs.Int.{bit_at};
+ghost use Rattle.std.specs.Io.KnownBytes.{IsAtEnd};
+ghost use Rattle.rmp_decode.specs.Exact.{IsDataEnd, RefusesBy};
+ghost use Rattle.rmp_decode.specs.Variants.{is_bare, variant_lender, content_room};
+ghost use Rattle.rmp_decode.specs.With.{OffersPart};
+ghost use Rattle.std.specs.Borrow.{sem, RestsIfErr};
+ghost use Rattle.rmp_decode.specs.contracts.deserializer.Deserializer.{the_row};
+ghost use Rattle.rmp_decode.specs.FieldAccess.{OpensStruct, IsStructOpen, SameStruct, AtField, AtFieldValue, TakesPlace, TakesPlaceAs, NoPlace, FailsPlace, NoName, TakesName, FailsName, EndsEarly, Meets, TakesField, FailsField, ValueRefused, FailsKey, FailsToPass, is_of_map, fields_left, fields_in, owes_field, is_struct_sound, struct_lender, names_in, as_map, unsound, OpensStructIn, FailsToOpenStructOf};
+ghost use Rattle.rmp_decode.specs.Fields.{FailsToOpenFields, HasFields, not_fields, fields_head};
+ghost use Rattle.rmp_decode.specs.Law.{IsFailedBefore, Explains, TakesHead};
+ghost use Rattle.rmp_decode.specs.Maps.{IsMapOpen, AtKey, TakesKey, TakesValue};
+ghost use Rattle.rmp_decode.specs.Names.{bytes_of, IsName};
+ghost use Rattle.rmp_decode.specs.Skip.{any_tree};
+ghost use Rattle.rmp_decode.specs.State.{left, config_of, faults_of, is_failed, is_strict, kept_of, Stays};
+ghost use Rattle.rmp_decode.specs.declared.deserializer.Kept.TheVariants.{Nothing};
+ghost use Rattle.rmp_decode.specs.Parts.{FailsPart};
+
+use crate::access::fields::Passed;
+use crate::access::seq::inner_room;
+use crate::access::variant::Variant;
+use crate::de::Deserialize;
+use crate::deserializer::Deserializer;
+use crate::error::Error;
+use crate::text::Text;
+use rmp_wire::config::SerializerConfig;
+use rmp_wire::{ReadSlice, Source};
+
+/// The fields of a struct that is being read, each its place among the names and then its value.
+///
+/// While it stands the reader counts as failed; `end` makes it ready again, and one that is dropped before leaves it failed.
+#[derive(Drop)]
+pub struct FieldAccess<'x, R, C> {
+    pub(crate) de: &'x mut Deserializer<R, C>,
+    pub(crate) names: &'x [&'x str],
+    pub(crate) left: u32,
+    pub(crate) count: u32,
+    pub(crate) inner: u32,
+    pub(crate) is_map: bool,
+    pub(crate) bytes: bool,
+    pub(crate) owes: bool,
+    pub(crate) sound: bool,
+    // the fields of a map that were met, a bit for each place
+    pub(crate) met: u128,
+}
+
+// The bit of a place.
+#[inline(always)]
+fn bit_of(place: usize) -> u128
+    ensures { place < 128 → result ≡ 2 ^ place }
+{
+    if place < 128 { 1 << place } else { 0 }
+}
+
+impl<R: Source, C: SerializerConfig> Deserializer<R, C> {
+    /// Opens the fields of a struct: a list, bytes as the list of their numbers, or a map from the names. The struct's name
+    /// isn't looked at. There may be 128 names.
+    ///
+    /// # Errors
+    /// `Syntax("invalid type")` for another kind, and `DepthLimitExceeded` for a list or a map that would nest too deep.
+    #[inline(always)]
+    pub fn deserialize_struct<'x>(
+        &'x mut self,
+        _name: &str,
+        names: &'x [&'x str],
+    ) -> Result<FieldAccess<'x, R, C>, Error>
+        requires few { length names.now ≤ 128 }
+        ensures* refused { sem 𝓛 (RestsIfErr (the_row R.row C.row) self.entry (λ a. a.de.ghost_name) result
+            (λ last. IfErr result (FailsToOpenFields R.Source self.old last))) }
+        ensures same_reference { IfOk result (λ a. a.de.ghost_name ≡ self.entry.ghost_name) }
+        ensures opened { IfOk result (OpensStruct R.Source (bytes_of names.now) self.old) }
+    {
+        let room = self.room;
+        match self.open_struct() {
+            Ok((Some(bytes), left)) => Ok(FieldAccess {
+                de: self,
+                names,
+                left,
+                count: left,
+                inner: inner_room(room, bytes),
+                is_map: false,
+                bytes,
+                owes: false,
+                sound: true,
+                met: 0,
+            }),
+            Ok((None, left)) => Ok(FieldAccess {
+                de: self,
+                names,
+                left,
+                count: left,
+                inner: room.saturating_sub(1),
+                is_map: true,
+                bytes: false,
+                owes: false,
+                sound: true,
+                met: 0,
+            }),
+            Err(e) => Err(e),
+        }
+    }
+}
+
+impl<R: Source, C: SerializerConfig> Deserializer<R, C> {
+    // Takes the head of fields that are the content of a variant.
+    #[inline(always)]
+    pub(crate) fn open_struct_content(&mut self, inner: u32) -> Result<(Option<bool>, u32), Error>
+        ensures ok { IfOk result (λ p. TakesHead R.Source (fields_head p.0 p.1) self.old self.new) }
+        ensures deep { IfOk result (λ p. p.0 ≢ Some true → 1 < inner) }
+        ensures stays { Stays R.Source self.old self.new }
+        ensures sound { OnOk result (faults_of R.Source self.new ≡ faults_of R.Source self.old) }
+        ensures clean { OnOk result (kept_of self.new ≡ Nothing) }
+        ensures failed { is_failed self.new ≡ true }
+        ensures err { IfErr result (FailsPart R.Source (λ m (u : Unit {0}). HasFields m) (max 1 inner) self.old self.new) }
+        ensures exact { IfErr result (RefusesBy (is_strict self.old) (not_fields (max 1 inner)) (faults_of R.Source self.old)
+            (faults_of R.Source self.new) (left R.Source self.old)) }
+        ensures memory { IfErr result (λ e. e ≢ Error.OutOfMemory) }
+    {
+        let outer = self.room;
+        self.room = inner;
+        self.failed = false;
+        let opened = self.open_struct();
+        self.room = outer;
+        match opened {
+            Ok((kind, len)) => Ok((kind, len)),
+            Err(e) => Err(e),
+        }
+    }
+}
+
+impl<'x, R: Source, C: SerializerConfig> FieldAccess<'x, R, C> {
+    /// How many elements or pairs haven't begun.
+    pub fn left(&self) -> u32
+        ensures { result ≡ fields_left self.now }
+    {
+        self.left
+    }
+
+    /// Whether a place was answered, and its value isn't read yet.
+    pub fn owes_value(&self) -> bool
+        ensures { result ≡ owes_field self.now }
+    {
+        self.owes
+    }
+
+    // Reads which of the names the next key is.
+    #[inline(always)]
+    fn next_name<'de>(&mut self) -> Result<Option<usize>, Error>
+    where
+        R: ReadSlice<'de>,
+        requires some { 0 < fields_left self.old }
+        ensures same_reference { self.new.de.ghost_name ≡ self.old.de.ghost_name }
+        ensures same { SameStruct self.old self.new }
+        ensures met { self.new.met ≡ self.old.met }
+        ensures ok { IfOk result (TakesKey R.Source (IsName (names_in self.old)) (as_map self.old) (as_map self.new)) }
+        ensures err { IfErr result (FailsKey R.Source (C.human (config_of (struct_lender self.old))) R.lends (names_in self.old)
+            (as_map self.old) (as_map self.new)) }
+        ensures failed { OnErr result (is_struct_sound self.new ≡ false) }
+        ensures memory { R.lends ≡ true → IfErr result (λ e. e ≢ Error.OutOfMemory) }
+    {
+        self.sound = false;
+        match self.de.name_part(self.inner, self.names) {
+            Ok(name) => {
+                self.left -= 1;
+                self.owes = true;
+                self.sound = true;
+                Ok(name)
+            }
+            Err(e) => Err(e),
+        }
+    }
+
+    // Passes over the value of the key that was read last.
+    #[inline(always)]
+    fn pass<'de>(&mut self) -> Result<(), Error>
+    where
+        R: ReadSlice<'de>,
+        ensures same_reference { self.new.de.ghost_name ≡ self.old.de.ghost_name }
+        ensures same { SameStruct self.old self.new }
+        ensures met { self.new.met ≡ self.old.met }
+        ensures ok { OnOk result (TakesValue R.Source any_tree (as_map self.old) (as_map self.new) tt) }
+        ensures err { IfErr result (FailsToPass R.Source (C.human (config_of (struct_lender self.old))) R.lends (as_map self.old) (as_map self.new)) }
+        ensures failed { OnErr result (is_struct_sound self.new ≡ false) }
+    {
+        self.sound = false;
+        match self.de.part::<Passed>(self.inner) {
+            Ok(_) => {
+                self.owes = false;
+                self.sound = true;
+                Ok(())
+            }
+            Err(e) => Err(e),
+        }
+    }
+
+    // Reads the keys up to the first that is a name, and passes over the values of the others.
+    #[inline(always)]
+    fn next_named<'de>(&mut self) -> Result<Option<usize>, Error>
+    where
+        R: ReadSlice<'de>,
+        requires { AtKey (as_map self.old) }
+        ensures same_reference { self.new.de.ghost_name ≡ self.old.de.ghost_name }
+        ensures same { SameStruct self.old self.new }
+        ensures met { self.new.met ≡ self.old.met }
+        ensures none { IsMapOpen (as_map self.old) → IfOk result (λ o. IfNone o (NoName R.Source (names_in self.old) (as_map self.old) (as_map self.new))) }
+        ensures some { IsMapOpen (as_map self.old) → IfOk result (λ o. IfSome o
+            (λ place. TakesName R.Source (names_in self.old) place (as_map self.old) (as_map self.new))) }
+        ensures err { IsMapOpen (as_map self.old) → IfErr result (FailsName R.Source (C.human (config_of (struct_lender self.old))) R.lends
+            (names_in self.old) (as_map self.old) (as_map self.new)) }
+        ensures fewer { IfOk result (λ o. IfSome o (λ _. fields_left self.new < fields_left self.old)) }
+        ensures failed { OnErr result (is_struct_sound self.new ≡ false) }
+    {
+        while self.left > 0 {
+            match self.next_name() {
+                Ok(Some(place)) => return Ok(Some(place)),
+                Ok(None) => match self.pass() {
+                    Ok(()) => {}
+                    Err(e) => return Err(e),
+                },
+                Err(e) => return Err(e),
+            }
+        }
+        Ok(None)
+    }
+
+    // The place of the next element of a list.
+    #[inline(always)]
+    fn next_listed(&mut self) -> Result<Option<usize>, Error>
+        requires { AtField self.old }
+        ensures same_reference { self.new.de.ghost_name ≡ self.old.de.ghost_name }
+        ensures same { SameStruct self.old self.new }
+        ensures lender { struct_lender self.new ≡ struct_lender self.old }
+        ensures none { IfOk result (λ o. IfNone o ((length (names_in self.old) ≤ fields_in self.old - fields_left self.old) × (self.new ≡ self.old))) }
+        ensures some { IfOk result (λ o. IfSome o (λ place. (place < length (names_in self.old)) × TakesPlaceAs false R.Source place self.old self.new)) }
+        ensures err { IfErr result (EndsEarly self.old self.new) }
+        ensures fewer { IfOk result (λ o. IfSome o (λ _. fields_left self.new < fields_left self.old)) }
+        ensures failed { OnErr result (is_struct_sound self.new ≡ false) }
+    {
+        let place = self.count.saturating_sub(self.left) as usize;
+        if place >= self.names.len() {
+            return Ok(None);
+        }
+        if self.left == 0 {
+            self.sound = false;
+            return Err(Error::Syntax(Text::InvalidLength));
+        }
+        self.left -= 1;
+        self.owes = true;
+        Ok(Some(place))
+    }
+
+    // Keeps in mind that a field was met, unless it was before.
+    #[inline(always)]
+    fn meet(&mut self, place: usize) -> Result<(), Error>
+        ensures same_reference { self.new.de.ghost_name ≡ self.old.de.ghost_name }
+        ensures same { SameStruct self.old self.new }
+        ensures pairs { OnOk result (as_map self.new ≡ as_map self.old) }
+        ensures ok { place < 128 → OnOk result (Meets place self.old self.new) }
+        ensures err { place < 128 → IfErr result (λ e. (e ≡ Error.Syntax Text.DuplicateField) × (bit_at self.old.met place ≡ 1)) }
+        ensures lender { self.new.de ≡ self.old.de }
+        ensures left { fields_left self.new ≡ fields_left self.old }
+        ensures failed { OnErr result (is_struct_sound self.new ≡ false) }
+    {
+        let bit = bit_of(place);
+        if self.met & bit != 0 {
+            self.sound = false;
+            return Err(Error::Syntax(Text::DuplicateField));
+        }
+        self.met |= bit;
+        Ok(())
+    }
+
+    /// The place of the next field among the names, if there is one. From a list that is how many elements have begun; from a map
+    /// it is the first key that is a name, and pairs of no name are passed over. Its value has to be read next.
+    ///
+    /// # Errors
+    /// `Syntax("invalid length")` for a list of fewer elements than names; of a map those of a pair that is passed over,
+    /// `Syntax("invalid type")` for a key that is no text, bytes or number from 0 on, and `Syntax("duplicate field")` for a
+    /// name that was there before, whose value isn't looked at.
+    #[inline(always)]
+    pub fn next_field<'de>(&mut self) -> Result<Option<usize>, Error>
+    where
+        R: ReadSlice<'de>,
+        requires { AtField self.old }
+        ensures same_reference { self.new.de.ghost_name ≡ self.old.de.ghost_name }
+        ensures same { SameStruct self.old self.new }
+        ensures none { IsStructOpen self.old → IfOk result (λ o. IfNone o (NoPlace R.Source self.old self.new)) }
+        ensures some { IsStructOpen self.old → IfOk result (λ o. IfSome o (TakesPlace R.Source self.old self.new)) }
+        ensures err { IsStructOpen self.old → IfErr result
+            (FailsPlace R.Source (C.human (config_of (struct_lender self.old))) R.lends self.old self.new) }
+        ensures fewer { IfOk result (λ o. IfSome o (λ _. fields_left self.new < fields_left self.old)) }
+        ensures failed { OnErr result (is_struct_sound self.new ≡ false) }
+        ensures before { is_struct_sound self.old ≡ false → MatchResult result (λ _. ⊥) IsFailedBefore × (self.new ≡ self.old) }
+    {
+        if !self.sound {
+            return Err(Error::Uncategorized(Text::FailedBefore));
+        }
+        if !self.is_map {
+            return self.next_listed();
+        }
+        let place = match self.next_named() {
+            Ok(Some(place)) => place,
+            Ok(None) => return Ok(None),
+            Err(e) => return Err(e),
+        };
+        match self.meet(place) {
+            Ok(()) => Ok(Some(place)),
+            Err(e) => Err(e),
+        }
+    }
+
+    // Takes the next byte of bytes and keeps it back; another value stands ready.
+    #[inline(always)]
+    fn offer(&mut self) -> Result<(), Error>
+        ensures same_reference { self.new.de.ghost_name ≡ self.old.de.ghost_name }
+        ensures same { SameStruct self.old self.new }
+        ensures met { self.new.met ≡ self.old.met }
+        ensures left { self.new.left ≡ self.old.left }
+        ensures ok { OnOk result (OffersPart R.Source self.old.bytes (struct_lender self.old) (struct_lender self.new)) }
+        ensures bytes { OnErr result (self.old.bytes ≡ true) }
+        ensures stays { Stays R.Source (struct_lender self.old) (struct_lender self.new) }
+        ensures failed { is_failed (struct_lender self.new) ≡ is_failed (struct_lender self.old) }
+        ensures err { IfErr result (λ e. Explains e (faults_of R.Source (struct_lender self.old)) (faults_of R.Source (struct_lender self.new))
+            (IsAtEnd (R.ahead (struct_lender self.old).reader))) }
+        ensures end { IfErr result (λ e. faults_of R.Source (struct_lender self.new) ≡ faults_of R.Source (struct_lender self.old) → IsDataEnd e) }
+        ensures sound { is_struct_sound self.new ≡ false }
+        ensures memory { IfErr result (λ e. e ≢ Error.OutOfMemory) }
+    {
+        self.sound = false;
+        if !self.bytes {
+            return Ok(());
+        }
+        match self.de.keep_byte() {
+            Ok(()) => Ok(()),
+            Err(e) => Err(e),
+        }
+    }
+
+    /// Reads the value of the field whose place was answered last.
+    ///
+    /// # Errors
+    /// Those of the value's type, and `InvalidDataRead` where the bytes of a list of numbers end too soon.
+    #[inline(always)]
+    pub fn next_value<'de, T: Deserialize<'de, R>>(&mut self) -> Result<T, Error>
+    where
+        R: ReadSlice<'de>,
+        requires { AtFieldValue self.old }
+        ensures same_reference { self.new.de.ghost_name ≡ self.old.de.ghost_name }
+        ensures same { SameStruct self.old self.new }
+        ensures ok { IsStructOpen self.old → IfOk result
+            (TakesField R.Source (T.reads (C.human (config_of (struct_lender self.old))) R.lends) self.old self.new) }
+        ensures err { IsStructOpen self.old → IfErr result
+            (FailsField R.Source (T.reads (C.human (config_of (struct_lender self.old))) R.lends) self.old self.new) }
+        ensures refused { IsStructOpen self.old → IfErr result
+            (ValueRefused R.Source (C.human (config_of (struct_lender self.old))) R.lends T.refuses self.old self.new) }
+        ensures memory { T.takes_memory R.lends ≡ false → IfErr result (λ e. e ≢ Error.OutOfMemory) }
+        ensures left { fields_left self.new ≡ fields_left self.old }
+        ensures failed { OnErr result (is_struct_sound self.new ≡ false) }
+        ensures before { is_struct_sound self.old ≡ false → MatchResult result (λ _. ⊥) IsFailedBefore × (self.new ≡ self.old) }
+    {
+        if !self.sound {
+            return Err(Error::Uncategorized(Text::FailedBefore));
+        }
+        match self.offer() {
+            Ok(()) => {}
+            Err(e) => return Err(e),
+        }
+        match self.de.part(self.inner) {
+            Ok(value) => {
+                self.owes = false;
+                self.sound = true;
+                Ok(value)
+            }
+            Err(e) => Err(e),
+        }
+    }
+
+    /// What stands for a field that isn't there: in a map what its type says, and in a list nothing.
+    ///
+    /// # Errors
+    /// `Syntax("missing field")` where nothing stands for it.
+    #[inline(always)]
+    pub fn missing_field<'de, T: Deserialize<'de, R>>(&mut self) -> Result<T, Error>
+    where
+        R: ReadSlice<'de>,
+        ensures same_reference { self.new.de.ghost_name ≡ self.old.de.ghost_name }
+        ensures ok { IfOk result (λ v. (is_of_map self.old ≡ true) × (T.absent ≡ Some v) × (self.new ≡ self.old)) }
+        ensures err { is_struct_sound self.old ≡ true → IfErr result (λ e. (e ≡ Error.Syntax Text.MissingField)
+            × (is_of_map self.old ≡ true → T.absent ≡ None) × (self.new ≡ unsound self.old)) }
+        ensures failed { OnErr result (is_struct_sound self.new ≡ false) }
+        ensures before { is_struct_sound self.old ≡ false → MatchResult result (λ _. ⊥) IsFailedBefore × (self.new ≡ self.old) }
+    {
+        if !self.sound {
+            return Err(Error::Uncategorized(Text::FailedBefore));
+        }
+        if self.is_map {
+            match T::missing() {
+                Some(value) => return Ok(value),
+                None => {}
+            }
+        }
+        self.sound = false;
+        Err(Error::Syntax(Text::MissingField))
+    }
+
+    /// Ends the reading, and makes the reader ready again.
+    ///
+    /// The value of each field whose place was answered has to be read first.
+    ///
+    /// # Errors
+    /// `LengthMismatch` with the count of the elements or pairs that were read, where some are left. They aren't looked at.
+    #[inline(always)]
+    pub fn end(self) -> Result<(), Error>
+        requires { AtField self }
+        ensures ok { IsStructOpen self.entry → OnOk result ((fields_left self.entry ≡ 0)
+            × (self.exit.0.now ≡ record (struct_lender self.entry) { failed = false })) }
+        ensures err { IsStructOpen self.entry → IfErr result (λ e. (0 < fields_left self.entry) × (self.exit.0.now ≡ struct_lender self.entry)
+            × (e ≡ Error.LengthMismatch (fields_in self.entry - fields_left self.entry))) }
+        ensures before { is_struct_sound self.entry ≡ false → MatchResult result (λ _. ⊥) IsFailedBefore × (self.exit.0.now ≡ struct_lender self.entry) }
+    {
+        let FieldAccess {
+            de,
+            names: _,
+            left,
+            count,
+            inner: _,
+            is_map: _,
+            bytes: _,
+            owes: _,
+            sound,
+            met: _,
+        } = self;
+        if !sound {
+            return Err(Error::Uncategorized(Text::FailedBefore));
+        }
+        if left > 0 {
+            return Err(Error::LengthMismatch(count.saturating_sub(left)));
+        }
+        de.failed = false;
+        Ok(())
+    }
+}
+
+impl<'x, R: Source, C: SerializerConfig> Variant<'x, R, C> {
+    /// Opens the content of a variant as the fields of a struct: a list, bytes as the list of their numbers, or a map from the
+    /// names, of which there may be 128. The fields' end is that of the variant.
+    ///
+    /// # Errors
+    /// `Syntax("invalid type")` where the name stands alone, and otherwise as `deserialize_struct`.
+    #[inline(always)]
+    pub fn struct_variant(self, names: &'x [&'x str]) -> Result<FieldAccess<'x, R, C>, Error>
+        requires few { length names.now ≤ 128 }
+        ensures* refused { sem 𝓛 (RestsIfErr (the_row R.row C.row) self.entry.de (λ a. a.de.ghost_name) result
+            (λ last. IfErr result (FailsToOpenStructOf R.Source self.entry last))) }
+        ensures same_reference { IfOk result (λ a. a.de.ghost_name ≡ self.entry.de.ghost_name) }
+        ensures paired { OnOk result (is_bare self.entry ≡ false) }
+        ensures opened { IfOk result (OpensStructIn R.Source (bytes_of names.now) (content_room self.entry) (variant_lender self.entry)) }
+        ensures memory { IfErr result (λ e. e ≢ Error.OutOfMemory) }
+    {
+        let Variant { de, bare, inner } = self;
+        if bare {
+            return Err(Error::Syntax(Text::InvalidType));
+        }
+        match de.open_struct_content(inner) {
+            Ok((Some(bytes), left)) => Ok(FieldAccess {
+                de,
+                names,
+                left,
+                count: left,
+                inner: inner_room(inner, bytes),
+                is_map: false,
+                bytes,
+                owes: false,
+                sound: true,
+                met: 0,
+            }),
+            Ok((None, left)) => Ok(FieldAccess {
+                de,
+                names,
+                left,
+                count: left,
+                inner: inner.saturating_sub(1),
+                is_map: true,
+                bytes: false,
+                owes: false,
+                sound: true,
+                met: 0,
+            }),
+            Err(e) => Err(e),
+        }
+    }
+}
