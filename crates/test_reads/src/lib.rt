@@ -12,6 +12,8 @@ mod errors;
 #[cfg(test)]
 mod fields;
 #[cfg(test)]
+mod interrupted;
+#[cfg(test)]
 mod leaves;
 #[cfg(test)]
 mod names;

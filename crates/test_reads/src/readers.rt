@@ -262,3 +262,14 @@ fn owned(alloc: Global, bytes: &[u8]) -> Result<String, Error> {
 fn a_text_outlives_the_reader(rt: HostRuntime) {
     assert!(rt; matches!(&owned(rt.alloc(), b"\xa2hi"), Ok(text) if text.as_str() == "hi"));
 }
+
+// A pair whose text lives on when the reader is gone, as long as the bytes that it is lent from.
+fn lent(alloc: Global, bytes: &[u8]) -> Result<(u8, &str), Error> {
+    let mut de = Deserializer::from_read_ref(alloc, bytes);
+    Deserialize::deserialize(&mut de)
+}
+
+#[test]
+fn a_lent_text_outlives_the_reader(rt: HostRuntime) {
+    assert!(rt; matches!(&lent(rt.alloc(), b"\x92\x05\xa2hi"), Ok((5, "hi"))));
+}
