@@ -14,7 +14,7 @@ import sys
 
 TOP = os.path.join(os.path.dirname(os.path.abspath(__file__)), "..")
 CRATES = os.path.join(TOP, "crates")
-LIBRARIES = "rmp_wire rmp_encode rmp_decode rmp_serde".split()
+LIBRARIES = "rmp_wire rmp_encode rmp_decode rmp_serde canon_lines".split()
 # Functions whose body is another's, but for a width, a kind or a constant, or a call of it.
 ALIKE = {
     "number_8": "number_16",

@@ -5,20 +5,15 @@
 //! the output couldn't be written, or memory was wanting. Any other argument is refused with status 2 and the usage.
 #![tactic(auto)]
 
-mod check;
-mod laws;
-mod lines;
-mod run;
-mod task;
-mod tree_text;
-
-use lines::RunFault;
-use rmp_serde::wire::{IoSink, IoSource};
+use canon_lines::RunFault;
+use canon_lines::check::check;
+use canon_lines::run::run;
+use canon_lines::task::{FAULT, Task, status_of, task_of};
+use rmp_wire::{IoSink, IoSource};
 use std::io::{BufWriter, ErrorKind, Write};
 use std::process::ExitCode;
 use std::rt::Env;
 use std::{env, io};
-use task::{FAULT, Task, status_of, task_of};
 
 // What the arguments ask for: one that isn't UTF-8 is none that is known.
 fn task_asked(rt: &(impl Env + AllocGlobal)) -> io::Result<Task> {
@@ -41,9 +36,9 @@ fn serve(rt: &(impl Input + Print + AllocGlobal), checks: bool) -> Result<bool, 
     let mut source = IoSource::new(rt.reader());
     let mut sink = IoSink::new(writer);
     let answer = if checks {
-        check::check(rt.alloc(), &mut source, &mut sink)
+        check(rt.alloc(), &mut source, &mut sink)
     } else {
-        run::run(rt.alloc(), &mut source, &mut sink)
+        run(rt.alloc(), &mut source, &mut sink)
     };
     let flushed = sink.get_mut().flush();
     let accepted = answer?;

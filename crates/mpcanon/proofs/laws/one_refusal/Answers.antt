@@ -1,5 +1,0 @@
-use Rattle.mpcanon.proofs.OneRefusal.{one_name}
-use Rattle.mpcanon.proofs.laws.one_refusal.Goals as goal
-
-pub returns : goal.returns
-returns c = λ strict room bytes e f n k p q. one_name strict room e f bytes n k p q

@@ -1,5 +1,0 @@
-use Rattle.mpcanon.proofs.OneCheck.{one_reason, whole_or_stopped, fault_or_stop}
-use Rattle.mpcanon.proofs.laws.one_stop.Goals as goal
-
-pub returns : goal.returns
-returns c = record { name = one_reason; no_whole = whole_or_stopped; no_fault = fault_or_stop }
