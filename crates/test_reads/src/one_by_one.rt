@@ -15,15 +15,44 @@ fn read(rt: HostRuntime, input: &[u8]) -> Result<Pup, Error> {
 #[test]
 fn from_a_map(rt: HostRuntime) {
     // in another order, with a name that is unknown
-    assert!(rt; is(&read(rt, b"\x83\xa6weight\x01\xa1\x78\x81\x05\x90\xa4name\xa5Bobby"), "Bobby", 1));
+    assert!(rt;
+        is(
+            &read(
+                rt,
+                b"\x83\xa6weight\x01\xa1\x78\x81\x05\x90\xa4name\xa5Bobby"
+            ),
+            "Bobby",
+            1
+        )
+    );
     // places and bytes for names
     assert!(rt; is(&read(rt, b"\x82\x01\x08\xc4\x04name\xa1A"), "A", 8));
     // one that isn't there, for which something stands, and one for which nothing does
     assert!(rt; is(&read(rt, b"\x81\x00\xa1A"), "A", 7));
-    assert!(rt; matches!(read(rt, b"\x81\x01\x08"), Err(Error::Syntax(Text::MissingField))));
-    assert!(rt; matches!(read(rt, b"\x82\x01\x08\x01\xc0"), Err(Error::Syntax(Text::DuplicateField))));
-    assert!(rt; matches!(read(rt, b"\x81\xff\x08"), Err(Error::Syntax(Text::InvalidType))));
-    assert!(rt; matches!(read(rt, b"\x81\x01\xc3"), Err(Error::Syntax(Text::InvalidType))));
+    assert!(rt;
+        matches!(
+            read(rt, b"\x81\x01\x08"),
+            Err(Error::Syntax(Text::MissingField))
+        )
+    );
+    assert!(rt;
+        matches!(
+            read(rt, b"\x82\x01\x08\x01\xc0"),
+            Err(Error::Syntax(Text::DuplicateField))
+        )
+    );
+    assert!(rt;
+        matches!(
+            read(rt, b"\x81\xff\x08"),
+            Err(Error::Syntax(Text::InvalidType))
+        )
+    );
+    assert!(rt;
+        matches!(
+            read(rt, b"\x81\x01\xc3"),
+            Err(Error::Syntax(Text::InvalidType))
+        )
+    );
     assert!(rt; matches!(read(rt, b"\x82\x01\x08"), Err(Error::InvalidMarkerRead(_))));
     assert!(rt; matches!(read(rt, b"\xc0"), Err(Error::Syntax(Text::InvalidType))));
 }
@@ -31,8 +60,18 @@ fn from_a_map(rt: HostRuntime) {
 #[test]
 fn from_a_list(rt: HostRuntime) {
     assert!(rt; is(&read(rt, b"\x92\xa5Bobby\x08"), "Bobby", 8));
-    assert!(rt; matches!(read(rt, b"\x91\xa5Bobby"), Err(Error::Syntax(Text::InvalidLength))));
-    assert!(rt; matches!(read(rt, b"\x93\xa5Bobby\x08\x07"), Err(Error::LengthMismatch(2))));
+    assert!(rt;
+        matches!(
+            read(rt, b"\x91\xa5Bobby"),
+            Err(Error::Syntax(Text::InvalidLength))
+        )
+    );
+    assert!(rt;
+        matches!(
+            read(rt, b"\x93\xa5Bobby\x08\x07"),
+            Err(Error::LengthMismatch(2))
+        )
+    );
     assert!(rt; matches!(read(rt, b"\x90"), Err(Error::Syntax(Text::InvalidLength))));
 }
 
