@@ -101,13 +101,17 @@ module _ {R C : Type 0} (g : Ghosts R) (start : FieldAccess R C) where
       → TakesValue g any_tree (as_map key) (as_map now) tt → now.de.ghost_name ≡ key.de.ghost_name → PassedSo g start now
   passed_more mid key now n p k s v t = record {
     many = suc p.many;
-    passed = (as_map mid, p.passed, record {
-      key = as_map key;
-      named = subst (λ z. TakesKey g (IsName z) (as_map mid) (as_map key) None) (ap (λ z. bytes_of z.now) n) k;
-      value = v;
-      key_same = s;
-      value_same = t;
-    });
+    passed = (
+      as_map mid,
+      p.passed,
+      record {
+        key = as_map key;
+        named = subst (λ z. TakesKey g (IsName z) (as_map mid) (as_map key) None) (ap (λ z. bytes_of z.now) n) k;
+        value = v;
+        key_same = s;
+        value_same = t;
+      },
+    );
     stays = stays_then g start.de.now mid.de.now now.de.now p.stays (stays_then g mid.de.now key.de.now now.de.now k.part.stays v.part.stays);
     at_key = v.owes;
     still = v.still;

@@ -3,6 +3,7 @@
 
 #[cfg(test)]
 mod accesses;
+mod by_hand;
 #[cfg(test)]
 mod content;
 #[cfg(test)]
@@ -18,6 +19,8 @@ mod leaves;
 #[cfg(test)]
 mod names;
 #[cfg(test)]
+mod one_by_one;
+#[cfg(test)]
 mod readers;
 mod samples;
 #[cfg(test)]
@@ -25,4 +28,5 @@ mod types;
 #[cfg(test)]
 mod variants;
 
+pub use by_hand::Pup;
 pub use samples::{Dog, Named, Tagged, Weight, Wide};

@@ -283,7 +283,11 @@ fn parts_of(head: Head) -> Option<(Option<bool>, u32)>
 impl<R: Source, C: SerializerConfig> Deserializer<R, C> {
     // Reads which of the names a key is, and stays failed until the access to the pairs ends.
     #[inline(always)]
-    pub(crate) fn name_part<'de>(&mut self, inner: u32, names: &[&str]) -> Result<Option<usize>, Error>
+    pub(crate) fn name_part<'de>(
+        &mut self,
+        inner: u32,
+        names: &[&str],
+    ) -> Result<Option<usize>, Error>
     where
         R: ReadSlice<'de>,
         ensures ok { IfOk result (TakesPart R.Source (IsName (bytes_of names.now)) (max 1 inner) self.old self.new) }

@@ -11,7 +11,7 @@ returns-in-Err-clause-err g c =
       part = record {
         stays = f.stays;
         failed = f.failed;
-        err = λ n k. refuses_narrower (SpellsAs c.args.self.now.de.now.strict) _ (Readable any_tree) _ _ (λ m h. (record { }, tt)) (f.err n k);
+        err = λ n k. refuses_narrower (SpellsAs c.args.self.now.de.now.strict) _ (Readable any_tree) _ _ (λ m h. (record {}, tt)) (f.err n k);
       };
       refused = c.in-Err.ensures.refused;
     }

@@ -11,7 +11,10 @@ returns-then-bare g c = (
 
 pub returns-in-Err : goal.returns-in-Err
 returns-in-Err g c = (
-  (refl, λ _. tt,
-  no_struct_content g.R.Source c.args.self c.open_struct_content.new.self c.in-Err.e c.if-bare.false c.in-Err.ensures.err c.in-Err.ensures.exact),
+  (
+    refl,
+    λ _. tt,
+    no_struct_content g.R.Source c.args.self c.open_struct_content.new.self c.in-Err.e c.if-bare.false c.in-Err.ensures.err c.in-Err.ensures.exact,
+  ),
   record { refused = tt; same_reference = tt; paired = tt; opened = tt; memory = c.in-Err.ensures.memory },
 )
