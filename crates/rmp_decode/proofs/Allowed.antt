@@ -32,7 +32,7 @@ use Rattle.rmp_wire.specs.declared.error.MarkerReadError.{MarkerReadError}
 use Rattle.rmp_wire.specs.declared.error.ValueReadError.{ValueReadError}
 use Rattle.rmp_wire.specs.declared.error.ValueReadError.TheVariants as wire
 use Rattle.rmp_wire.specs.declared.head.Head.{Head}
-use Rattle.rmp_wire.specs.declared.head.Head.TheVariants.{Whole, Text, Array}
+use Rattle.rmp_wire.specs.declared.head.Head.TheVariants.{Whole, Text, Array, Map}
 use Rattle.rmp_wire.specs.declared.marker.Marker.{Marker}
 use Rattle.rmp_wire.specs.declared.source.Source.{Ghosts}
 use Rattle.rmp_wire.specs.Canonical.{Opens}
@@ -68,6 +68,10 @@ opens_text n l = let yes : nat_lt n 32 ≡ true = lt-ltb n 32 l in rw yes refl
 pub opens_list : (n : ℕ) → n < 16 → Opens (0x90 + n) (canon_head (Array n))
 unfolding canon_head
 opens_list n l = let yes : nat_lt n 16 ≡ true = lt-ltb n 16 l in rw yes refl
+
+pub opens_map : (n : ℕ) → n < 16 → Opens (0x80 + n) (canon_head (Map n))
+unfolding canon_head
+opens_map n l = let yes : nat_lt n 16 ≡ true = lt-ltb n 16 l in rw yes refl
 
 module _ {S : Type 0} (g : Ghosts S) (w : Bool) where
   -- the head of a number or of a length that the marker's byte holds

@@ -1,7 +1,8 @@
 -- What the beginning of a read takes, with or without something kept back.
-use Rattle.std.proofs.Common.{◌≡◌, ◌∙◌, sym, ap, subst, refl, ℕ, ℤ, pos, ◌<◌, ◌≤◌, arith, List, [], ◌∷◌, Option, None, Some, true, false, Ok, Err}
+use Rattle.std.proofs.Common.{◌≡◌, ◌∙◌, sym, ap, subst, refl, ℕ, ℤ, pos, ◌<◌, ◌≤◌, arith, inl, inr, List, [], ◌∷◌, Option, None, Some, true, false, Ok, Err}
 use Rattle.std.specs.Io.KnownBytes.{Consumes, prepend_known}
 use Rattle.std.proofs.KnownBytes.{Consumes-trans}
+use Rattle.std.proofs.lemmas.Bool.{cases_lt}
 use Rattle.std.proofs.lemmas.List.{append-nil}
 use Rattle.rmp_wire.specs.declared.error.ValueReadError.{ValueReadError}
 use Rattle.rmp_wire.specs.declared.error.ValueReadError.TheVariants as wire
@@ -17,6 +18,7 @@ use Rattle.rmp_wire.specs.Taking.{byte_of, marker_of}
 use Rattle.rmp_wire.proofs.Strict.{canon_in}
 use Rattle.rmp_wire.proofs.NextReads.{fails_after}
 use Rattle.rmp_decode.specs.Allowed.{FailsNextAllowed, FailsBehind}
+use Rattle.rmp_decode.specs.Fronts.{TakesFront}
 use Rattle.rmp_decode.specs.Law.{ReadsHead}
 use Rattle.rmp_decode.specs.ReadErrors.{error_of, head_error_of}
 use Rattle.rmp_decode.specs.State.{left}
@@ -194,3 +196,10 @@ module _ {R C : Type 0} (g : Ghosts R) (old new : Deserializer R C) (fresh : old
     before = λ f. absurd cc;
     stays = record { config = config; room = room; limit = limit; strict = strict; place = ap g.place q };
   })
+
+  -- the same under its marker
+  pub number_taken : (n : ℕ) → n < 256 → old.kept ≡ Number n → new.reader ≡ old.reader → TakesFront g (Whole (pos n)) old new
+  number_taken n l k q = elim (cases_lt n 128) [
+    | inl lt ↦ record { marker = FixPos n; begun = head_number (FixPos n) (pos n) n refl l (λ _. refl) (λ ge. absurd (omega (arith, lt, ge))) k q }
+    | inr ge ↦ record { marker = U8; begun = head_number U8 (pos n) n refl l (λ lt. absurd (omega (arith, lt, ge))) (λ _. refl) k q }
+  ]

@@ -3,7 +3,8 @@ ghost use Rattle.std.specs.Prelude.{◌≡◌, ◌≢◌, ℕ, List, true, lengt
 ghost use Rattle.std.specs.Io.KnownBytes.{Consumes};
 ghost use Rattle.rmp_wire.specs.Sources.{IsShort};
 ghost use Rattle.rmp_wire.specs.Spelling.{IsBytes};
-ghost use Rattle.rmp_decode.specs.Content.{RefusesLeaf, not_raw, never_refused};
+ghost use Rattle.rmp_decode.specs.Buffers.{AfterHead};
+ghost use Rattle.rmp_decode.specs.Content.{RefusesLeaf, RefusesBehind, not_raw, never_refused};
 ghost use Rattle.rmp_decode.specs.Exact.{IsDataEnd};
 ghost use Rattle.rmp_decode.specs.Law.{Lawful, Explains};
 ghost use Rattle.rmp_decode.specs.Names.{bytes_of, place_of, place_below, IsName, IsNameHead};
@@ -14,7 +15,7 @@ use crate::deserializer::kinds::{raw_in, whole_in};
 use crate::error::Error;
 use crate::text::Text;
 use rmp_wire::config::SerializerConfig;
-use rmp_wire::{ReadSlice, Source};
+use rmp_wire::{Head, ReadSlice, Source};
 
 // The place of the first name that a text is.
 #[inline(always)]
@@ -73,6 +74,39 @@ impl<R: Source, C: SerializerConfig> Deserializer<R, C> {
     /// `Syntax("invalid type")` for another kind, and for a negative number.
     #[inline(always)]
     pub fn deserialize_identifier<'de>(&mut self, names: &[&str]) -> Result<Option<usize>, Error>
+    where
+        R: ReadSlice<'de>,
+        ensures law { Lawful R.Source (IsName (bytes_of names.now)) self.old self.new result }
+        ensures exact { RefusesLeaf R.Source IsNameHead not_raw never_refused self.old self.new result }
+        ensures memory { R.lends ≡ true → IfErr result (λ e. e ≢ Error.OutOfMemory) }
+    {
+        match self.text_front() {
+            Some(len) => self.name_behind_text(len, names),
+            None => self.headed_identifier(names),
+        }
+    }
+
+    // Reads the text behind a head that was taken, of so many bytes, as the name that it is. They are looked at where they lie.
+    #[inline(always)]
+    fn name_behind_text<'de>(&mut self, len: u32, names: &[&str]) -> Result<Option<usize>, Error>
+    where
+        R: ReadSlice<'de>,
+        ensures law { AfterHead R.Source (IsName (bytes_of names.now)) (Head.Text len) self.old self.new result }
+        ensures exact { IfErr result (RefusesBehind R.Source IsNameHead not_raw never_refused (Head.Text len) self.old self.new) }
+        ensures memory { R.lends ≡ true → IfErr result (λ e. e ≢ Error.OutOfMemory) }
+    {
+        match next_place(&mut self.reader, names, len as usize) {
+            Ok(place) => {
+                self.failed = false;
+                Ok(place)
+            }
+            Err(e) => Err(e),
+        }
+    }
+
+    // The same as `deserialize_identifier` by way of `head`, by a call.
+    #[inline(never)]
+    fn headed_identifier<'de>(&mut self, names: &[&str]) -> Result<Option<usize>, Error>
     where
         R: ReadSlice<'de>,
         ensures law { Lawful R.Source (IsName (bytes_of names.now)) self.old self.new result }

@@ -167,6 +167,19 @@ impl<R: Source, C: SerializerConfig> Deserializer<R, C> {
         ensures exact { RefusesLeaf R.Source IsRawHead other_name unknown_name self.old self.new result }
         ensures memory { P.lends ≡ true → IfErr result (λ e. e ≢ Error.OutOfMemory) }
     {
+        match self.text_front() {
+            Some(len) => self.name_behind::<P>(Head::Text(len), names),
+            None => self.headed_variant_name::<P>(names),
+        }
+    }
+
+    // The same by way of `head`, by a call.
+    #[inline(never)]
+    fn headed_variant_name<P: ReadContent<R>>(&mut self, names: &[&str]) -> Result<usize, Error>
+        ensures law { Lawful R.Source (IsPlace (bytes_of names.now)) self.old self.new result }
+        ensures exact { RefusesLeaf R.Source IsRawHead other_name unknown_name self.old self.new result }
+        ensures memory { P.lends ≡ true → IfErr result (λ e. e ≢ Error.OutOfMemory) }
+    {
         match self.head() {
             Ok((_, head)) => self.name_behind::<P>(head, names),
             Err(e) => Err(e),

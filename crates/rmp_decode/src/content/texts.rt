@@ -1,7 +1,8 @@
 //! Texts, characters and bytes.
 ghost use Rattle.std.specs.Prelude.{◌≡◌, ◌≢◌, true, false, IfErr};
 ghost use Rattle.std.specs.String.{string_bytes};
-ghost use Rattle.rmp_decode.specs.Content.{IsTextHead, IsRawHead, RefusesLeaf, not_raw, never_refused, not_char, not_string, not_str, not_bytes};
+ghost use Rattle.rmp_decode.specs.Buffers.{AfterHead};
+ghost use Rattle.rmp_decode.specs.Content.{IsTextHead, IsRawHead, RefusesLeaf, RefusesBehind, not_raw, never_refused, not_char, not_string, not_str, not_bytes};
 ghost use Rattle.rmp_decode.specs.Exact.{IsUtf8Error};
 ghost use Rattle.rmp_decode.specs.Law.{Lawful};
 ghost use Rattle.rmp_decode.specs.Kinds.{raw_msg};
@@ -13,7 +14,7 @@ use crate::deserializer::kinds::{raw_in, text_in};
 use crate::error::Error;
 use crate::text::Text;
 use rmp_wire::config::SerializerConfig;
-use rmp_wire::{ReadSlice, Source};
+use rmp_wire::{Head, ReadSlice, Source};
 use std::str;
 use std::str::Utf8Error;
 
@@ -95,7 +96,41 @@ impl<R: Source, C: SerializerConfig> Deserializer<R, C> {
     ///
     /// # Errors
     /// `Utf8Error` for a text that isn't UTF-8, and `Syntax("invalid value")` for one of another count of characters.
+    #[inline(always)]
     pub fn deserialize_char<'de>(&mut self) -> Result<char, Error>
+    where
+        R: ReadSlice<'de>,
+        ensures law { Lawful R.Source IsChar self.old self.new result }
+        ensures exact { RefusesLeaf R.Source IsTextHead not_raw not_char self.old self.new result }
+        ensures memory { R.lends ≡ true → IfErr result (λ e. e ≢ Error.OutOfMemory) }
+    {
+        match self.text_front() {
+            Some(len) => self.char_behind(len),
+            None => self.headed_char(),
+        }
+    }
+
+    // Reads the text behind a head that was taken, of so many bytes, as a character.
+    #[inline(always)]
+    fn char_behind<'de>(&mut self, len: u32) -> Result<char, Error>
+    where
+        R: ReadSlice<'de>,
+        ensures law { AfterHead R.Source IsChar (Head.Text len) self.old self.new result }
+        ensures exact { IfErr result (RefusesBehind R.Source IsTextHead not_raw not_char (Head.Text len) self.old self.new) }
+        ensures memory { R.lends ≡ true → IfErr result (λ e. e ≢ Error.OutOfMemory) }
+    {
+        match next_char(&mut self.reader, len as usize) {
+            Ok(c) => {
+                self.failed = false;
+                Ok(c)
+            }
+            Err(e) => Err(e),
+        }
+    }
+
+    // The same as `deserialize_char` by way of `head`, by a call.
+    #[inline(never)]
+    fn headed_char<'de>(&mut self) -> Result<char, Error>
     where
         R: ReadSlice<'de>,
         ensures law { Lawful R.Source IsChar self.old self.new result }

@@ -109,6 +109,30 @@ impl<R: Source, C: SerializerConfig> Deserializer<R, C> {
         }
     }
 
+    // Takes a number that was kept back, up to `most`, and leaves this failed until it is answered. Else nothing is taken.
+    #[inline(always)]
+    pub(crate) fn offered_number(&mut self, most: u64) -> Option<u64>
+        ensures within { IfSome result (λ n. n ≤ most) }
+        ensures taken { IfSome result (λ n. TakesFront R.Source (Head.Whole (pos n)) self.old self.new) }
+        ensures kept { IfNone result (self.new ≡ self.old) }
+    {
+        if self.failed {
+            return None;
+        }
+        match self.kept {
+            Kept::Number(byte) => {
+                let n = u64::from(byte);
+                if n > most {
+                    return None;
+                }
+                self.failed = true;
+                self.kept = Kept::Nothing;
+                Some(n)
+            }
+            _ => None,
+        }
+    }
+
     // Takes the head of a number without a sign, up to `most`, where it lies in memory whole, and leaves this failed until
     // the number is answered. Else nothing is taken.
     #[inline(always)]

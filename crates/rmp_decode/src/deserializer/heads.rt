@@ -102,6 +102,7 @@ fn head_of<S: Source>(strict: bool, marker: Marker, source: &mut S) -> Result<He
         Marker::FixPos(n) => Ok(Head::Whole(i128::from(n % 0x80))),
         Marker::FixStr(n) => Ok(Head::Text(u32::from(n % 0x20))),
         Marker::FixArray(n) => Ok(Head::Array(u32::from(n % 0x10))),
+        Marker::FixMap(n) => Ok(Head::Map(u32::from(n % 0x10))),
         Marker::U8 if !strict => Ok(Head::Whole(i128::from(number_8(source)?))),
         Marker::U16 if !strict => Ok(Head::Whole(i128::from(number_16(source)?))),
         Marker::U32 if !strict => Ok(Head::Whole(i128::from(number_32(source)?))),

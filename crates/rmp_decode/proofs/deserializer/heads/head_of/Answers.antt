@@ -4,10 +4,10 @@ use Rattle.std.specs.Int.{w8, w16, w32}
 use Rattle.std.proofs.lemmas.Result.{err_from_is_err_and}
 use Rattle.rmp_wire.specs.Heads.{IsHead}
 use Rattle.rmp_wire.specs.Taking.{byte_of}
-use Rattle.rmp_wire.specs.declared.head.Head.TheVariants.{Text, Array}
+use Rattle.rmp_wire.specs.declared.head.Head.TheVariants.{Text, Array, Map}
 use Rattle.rmp_wire.specs.declared.marker.Marker.TheVariants as marker
 use Rattle.rmp_wire.proofs.HeadReads.{fails_number, fits_unsigned, reads_whole}
-use Rattle.rmp_decode.proofs.Allowed.{held_whole, held_number, lenient_read, wire_failed, opens_small, opens_text, opens_list}
+use Rattle.rmp_decode.proofs.Allowed.{held_whole, held_number, lenient_read, wire_failed, opens_small, opens_text, opens_list, opens_map}
 use Rattle.rmp_decode.proofs.deserializer.heads.head_of.Goals as goal
 
 pub returns-in-FixPos-clause-taken : goal.returns-in-FixPos-clause-taken
@@ -24,6 +24,11 @@ pub returns-in-FixArray-clause-taken : goal.returns-in-FixArray-clause-taken
 unfolding IsHead byte_of
 returns-in-FixArray-clause-taken g c = held_number g.S.Source _ _ (marker.FixArray c.in-FixArray.n) Array _ (c.in-FixArray.n % 0x10) _ c.in-FixArray.is
     c.from-in-FixArray.ensures (inl (omega arith, refl)) (opens_list _ (omega arith))
+
+pub returns-in-FixMap-clause-taken : goal.returns-in-FixMap-clause-taken
+unfolding IsHead byte_of
+returns-in-FixMap-clause-taken g c = held_number g.S.Source _ _ (marker.FixMap c.in-FixMap.n) Map _ (c.in-FixMap.n % 0x10) _ c.in-FixMap.is
+    c.from-in-FixMap.ensures (inl (omega arith, refl)) (opens_map _ (omega arith))
 
 pub returns-in_err-number_8-in-U8-clause-refused : goal.returns-in_err-number_8-in-U8-clause-refused
 returns-in_err-number_8-in-U8-clause-refused g c =

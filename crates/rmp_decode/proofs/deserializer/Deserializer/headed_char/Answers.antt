@@ -6,7 +6,7 @@ use Rattle.rmp_decode.proofs.ContentErrors.{content_error, content_other, conten
 use Rattle.rmp_decode.proofs.Contents.{text_content, content_read, content_refused, content_missed}
 use Rattle.rmp_decode.proofs.Laws.{refused_none}
 use Rattle.rmp_decode.proofs.Texts.{no_char}
-use Rattle.rmp_decode.proofs.deserializer.Deserializer.deserialize_char.Goals as goal
+use Rattle.rmp_decode.proofs.deserializer.Deserializer.headed_char.Goals as goal
 
 pub returns-in-Ok-next_char-clause-law : goal.returns-in-Ok-next_char-clause-law
 returns-in-Ok-next_char-clause-law g c =

@@ -10,7 +10,7 @@ use Rattle.rmp_decode.proofs.ContentErrors.{content_error, content_other, conten
 use Rattle.rmp_decode.proofs.Contents.{raw_content, content_read, content_short}
 use Rattle.rmp_decode.proofs.Laws.{refused_none, refused_head, refused_leaf, answered_leaf}
 use Rattle.rmp_decode.proofs.Names.{name_of_raw, is_key_of, below_length, not_below, name_wanted, no_name_head, no_negative_head}
-use Rattle.rmp_decode.proofs.deserializer.Deserializer.deserialize_identifier.Goals as goal
+use Rattle.rmp_decode.proofs.deserializer.Deserializer.headed_identifier.Goals as goal
 
 pub returns-in-Ok-next_place-clause-law : goal.returns-in-Ok-next_place-clause-law
 returns-in-Ok-next_place-clause-law g c =
