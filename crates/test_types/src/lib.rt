@@ -3,6 +3,7 @@
 
 mod newtype;
 mod optional;
+mod recursive;
 mod tuple_struct;
 mod unknown;
 #[cfg(test)]
@@ -10,5 +11,6 @@ mod writes;
 
 pub use newtype::NewU8;
 pub use optional::OptionalByte;
+pub use recursive::{Nested, Rose, Tree};
 pub use tuple_struct::{TupleS, TupleS0};
 pub use unknown::{UnkMap, UnkSeq};

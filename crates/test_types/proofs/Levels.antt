@@ -1,0 +1,35 @@
+-- What types that lead back to themselves are written as, by what their parts are.
+use Rattle.std.proofs.Common.{◌≡◌, ◌∙◌, ap, map, List, [], ◌∷◌, Option, None, Some}
+use Rattle.std.specs.Prelude.{codes}
+use Rattle.rmp_encode.specs.Data.{Data}
+use Rattle.rmp_encode.specs.Trees.{byte_of, slice_of, structure_of, newtype_variant_of}
+use Rattle.rmp_encode.proofs.Packing.{slice_no_byte}
+use Rattle.rmp_encode.proofs.Fields.{structure_no_byte}
+use Rattle.rmp_encode.proofs.Variants.{newtype_no_byte}
+use Rattle.test_types.specs.declared.recursive.Nested.{Nested, out-Nested}
+use Rattle.test_types.specs.declared.recursive.Nested.TheFolds.{fold_out-Nested}
+use Rattle.test_types.specs.declared.recursive.Rose.{Rose, out-Rose}
+use Rattle.test_types.specs.declared.recursive.Rose.TheFolds.{fold_out-Rose}
+use Rattle.test_types.specs.declared.recursive.Tree.{Tree, out-Tree}
+use Rattle.test_types.specs.declared.recursive.Tree.TheFolds.{fold_out-Tree}
+use Rattle.test_types.specs.declared.recursive.Tree.TheOpen.{Tree-F}
+use Rattle.test_types.specs.Recursive.{nested_level, nested_data, tree_level, tree_data, rose_level, rose_data}
+
+pub nested_is : (v : Nested) → nested_data v ≡ slice_of (map nested_data (out-Nested v).sub.items)
+nested_is v = fold_out-Nested (Option Data) nested_level v
+
+pub rose_is : (v : Rose) → rose_data v ≡ structure_of ((codes "kids", slice_of (map rose_data (out-Rose v).kids.items)) ∷ [])
+rose_is v = fold_out-Rose (Option Data) rose_level v
+
+pub nested_no_byte : (v : Nested) → byte_of (nested_data v) ≡ None
+nested_no_byte v = ap byte_of (nested_is v) ∙ slice_no_byte _
+
+pub rose_no_byte : (v : Rose) → byte_of (rose_data v) ≡ None
+rose_no_byte v = ap byte_of (rose_is v) ∙ structure_no_byte _
+
+level_no_byte : (t : Tree-F (Option Data)) → byte_of (tree_level t) ≡ None
+level_no_byte (Tree-F.Leaf a) = newtype_no_byte _ _
+level_no_byte (Tree-F.Node ts) = newtype_no_byte _ _
+
+pub tree_no_byte : (v : Tree) → byte_of (tree_data v) ≡ None
+tree_no_byte v = ap byte_of (fold_out-Tree (Option Data) tree_level v) ∙ level_no_byte _

@@ -1,0 +1,334 @@
+-- Types that lead back to themselves: what they are read from, in how many steps.
+use Rattle.std.proofs.Common.{
+  ◌≡◌,
+  ◌∙◌,
+  refl,
+  sym,
+  ap,
+  subst,
+  arith,
+  ℕ,
+  zero,
+  suc,
+  ◌+◌,
+  ◌<◌,
+  ◌≤◌,
+  ◌⊎◌,
+  inl,
+  inr,
+  true,
+  false,
+  Bool,
+  nat_lt,
+  cond,
+  max,
+  pos,
+  ◌*◌,
+  ◌++◌,
+  append-nil,
+  List,
+  [],
+  ◌∷◌,
+  Option,
+  None,
+  Some,
+  MatchOption,
+  Result,
+  Ok,
+  Err,
+  MatchResult,
+  MutBor,
+  Vec,
+  Global,
+}
+use Rattle.std.specs.Fn.{FnOnceReturnsAtMut}
+use Rattle.rmp_wire.specs.declared.source.Source.{Ghosts}
+use Rattle.rmp_wire.specs.Msg.{Msg, nil, truth, whole, float32, float64, text, bin, list, map, extension, Msgs, no_items, item}
+use Rattle.rmp_wire.specs.declared.head.Head.TheVariants.{Whole, Array, Bin}
+use Rattle.rmp_wire.specs.Canonical.{heads_of}
+use Rattle.rmp_wire.specs.Heads.{canon_head}
+use Rattle.rmp_wire.proofs.Strict.{canon_in, heads_apart_as}
+use Rattle.rmp_decode.specs.Law.{Lawful, Readable, GoesOn}
+use Rattle.rmp_decode.specs.State.{kept_bytes, room_of}
+use Rattle.rmp_decode.specs.Read.{IsUnsigned}
+use Rattle.rmp_decode.specs.Rows.{ReadsEach}
+use Rattle.rmp_decode.specs.Seq.{OfRow, numbers, levels, IsOpen, Opens, FailsToOpen, TakesElement, FailsToTake, Run, seq_head}
+use Rattle.rmp_decode.specs.Variants.{OfVariant, variant_of, IsAt, Content, OpensVariant, TakesNameOf}
+use Rattle.rmp_decode.specs.With.{Reading, Lends, OffersPart, part_reader, PartRead, PartMissing, SameList}
+use Rattle.rmp_decode.specs.declared.access.variant.Variant.{Variant}
+use Rattle.rmp_decode.specs.declared.deserializer.Deserializer.{Deserializer}
+use Rattle.rmp_decode.specs.declared.access.seq.SeqAccess.{SeqAccess}
+use Rattle.rmp_decode.specs.declared.deserializer.Kept.{Kept}
+use Rattle.rmp_decode.specs.declared.deserializer.Kept.TheVariants.{Nothing, First, Number}
+use Rattle.rmp_decode.specs.declared.error.Error.{Error}
+use Rattle.rmp_decode.specs.declared.error.Error.TheVariants.{OutOfMemory}
+use Rattle.rmp_decode.proofs.Laws.{lawful_ok, lawful_err}
+use Rattle.rmp_decode.proofs.HeadTaken.{fits_byte}
+use Rattle.rmp_decode.proofs.Seqs.{Values, each_next, seq_unopened, seq_take, seq_done, seq_unkept}
+use Rattle.rmp_decode.proofs.Variants.{variant_ok}
+use Rattle.rmp_decode.proofs.Withs.{with_taken, with_refused}
+use Rattle.test_types.specs.declared.recursive.Nested.{Nested, out-Nested}
+use Rattle.test_types.specs.declared.recursive.Tree.{Tree, out-Tree, out-roll-Tree}
+use Rattle.test_types.specs.declared.recursive.Tree.TheOpen.{Tree-F}
+use Rattle.test_types.specs.Recursive.{Row, InSteps, NestedBy, NestedIn, IsNested, tree_names, TreeCase, TreeIn, IsTree}
+
+each_as : {V : Type 0} (P Q : Msg → V → Type 0) → ((m : Msg) (v : V) → P m v → Q m v) → (ms : Msgs) (vs : List V) → ReadsEach P ms vs → ReadsEach Q ms vs
+each_as P Q f no_items [] h = tt
+each_as P Q f no_items (v ∷ vs) h = absurd h
+each_as P Q f (item m ms) [] h = absurd h
+each_as P Q f (item m ms) (v ∷ vs) h = (f m v h.0, each_as P Q f ms vs h.1)
+
+row_as : {V : Type 0} (P Q : Msg → V → Type 0) → ((m : Msg) (v : V) → P m v → Q m v) → (m : Msg) (vs : List V) → Row P m vs → Row Q m vs
+row_as P Q f nil vs h = h
+row_as P Q f (truth t) vs h = h
+row_as P Q f (whole z) vs h = h
+row_as P Q f (float32 n) vs h = h
+row_as P Q f (float64 n) vs h = h
+row_as P Q f (text s) vs h = h
+row_as P Q f (bin s) vs h = each_as P Q f (numbers s) vs h
+row_as P Q f (list ms) vs h = each_as P Q f ms vs h
+row_as P Q f (map ps) vs h = h
+row_as P Q f (extension tag s) vs h = h
+
+-- each in its number of steps, so all in one
+module _ {V : Type 0} (P : ℕ → Msg → V → Type 0) (up : (n : ℕ) (m : Msg) (v : V) → P n m v → P (suc n) m v) where
+  more : (k n j : ℕ) → k + n ≡ j → (m : Msg) (v : V) → P n m v → P j m v
+  more zero n j e m v h = let same : n ≡ j = omega (arith, e) in subst (λ i. P i m v) same h
+  more (suc k) n j e m v h = more k (suc n) j (omega (arith, e)) m v (up n m v h)
+
+  each_in : (ms : Msgs) (vs : List V) → ReadsEach (InSteps P) ms vs → (n : ℕ) × ReadsEach (P n) ms vs
+  each_in no_items [] h = (zero, tt)
+  each_in no_items (v ∷ vs) h = absurd h
+  each_in (item m ms) [] h = absurd h
+  each_in (item m ms) (v ∷ vs) ((n, p), q) =
+      let i = each_in ms vs q in
+      let j = n + i.0 in
+      (j, (more i.0 n j (omega arith) m v p, each_as (P i.0) (P j) (more n i.0 j refl) ms vs i.1))
+
+  row_in : (m : Msg) (vs : List V) → Row (InSteps P) m vs → (n : ℕ) × Row (P n) m vs
+  row_in nil vs h = absurd h
+  row_in (truth t) vs h = absurd h
+  row_in (whole z) vs h = absurd h
+  row_in (float32 n) vs h = absurd h
+  row_in (float64 n) vs h = absurd h
+  row_in (text s) vs h = absurd h
+  row_in (bin s) vs h = each_in (numbers s) vs h
+  row_in (list ms) vs h = each_in ms vs h
+  row_in (map ps) vs h = absurd h
+  row_in (extension tag s) vs h = absurd h
+
+-- ---- lists in one another
+
+nested_up : (n : ℕ) (m : Msg) (v : Nested) → NestedIn n m v → NestedIn (suc n) m v
+nested_up zero m v h = absurd h
+nested_up (suc n) m v h = row_as (NestedIn n) (NestedIn (suc n)) (nested_up n) m (out-Nested v).sub.items h
+
+pub nested_made : (v : Nested) (vs : List Nested) → vs ≡ (out-Nested v).sub.items → (m : Msg) → Row IsNested m vs → IsNested m v
+nested_made v vs e m h = let i = row_in NestedIn nested_up m vs h in (suc i.0, subst (Row (NestedIn i.0) m) e i.1)
+
+pub nested_row : (m : Msg) → Readable IsNested m → Readable (Row IsNested) m
+nested_row m (v, (zero, h)) = absurd h
+nested_row m (v, (suc n, h)) = ((out-Nested v).sub.items, row_as (NestedIn n) IsNested (λ k w p. (n, p)) m (out-Nested v).sub.items h)
+
+-- ---- trees
+
+variant_as : (names : List (List ℕ)) (P Q : ℕ × Option Msg → Type 0) → ((k : ℕ) (c : Option Msg) → P (k, c) → Q (k, c)) → (m : Msg)
+    → OfVariant names P m → OfVariant names Q m
+unfolding OfVariant
+variant_as names P Q f m h = go (variant_of names m) h
+  where
+    go : (x : Option (ℕ × Option Msg)) → MatchOption x ⊥ P → MatchOption x ⊥ Q
+    go None h = h
+    go (Some p) h = f p.0 p.1 h
+
+tree_as : (P Q : Msg → Tree → Type 0) → ((m : Msg) (v : Tree) → P m v → Q m v) → (v : Tree) (k : ℕ) (c : Option Msg) → TreeCase P v (k, c) → TreeCase Q v (k, c)
+tree_as P Q f v zero c h = h
+tree_as P Q f v (suc zero) None (ts, e, h) = absurd h
+tree_as P Q f v (suc zero) (Some m) (ts, e, h) = (ts, e, row_as P Q f m ts.items h)
+tree_as P Q f v (suc (suc k)) c h = absurd h
+
+tree_up : (n : ℕ) (m : Msg) (v : Tree) → TreeIn n m v → TreeIn (suc n) m v
+tree_up zero m v h = absurd h
+tree_up (suc n) m v h =
+    variant_as tree_names (TreeCase (TreeIn n) v) (TreeCase (TreeIn (suc n)) v) (tree_as (TreeIn n) (TreeIn (suc n)) (tree_up n) v) m h
+
+tree_in : (v : Tree) (k : ℕ) (c : Option Msg) → TreeCase IsTree v (k, c) → (n : ℕ) × TreeCase (TreeIn n) v (k, c)
+tree_in v zero c h = (zero, h)
+tree_in v (suc zero) None (ts, e, h) = absurd h
+tree_in v (suc zero) (Some m) (ts, e, h) = let i = row_in TreeIn tree_up m ts.items h in (i.0, (ts, e, i.1))
+tree_in v (suc (suc k)) c h = absurd h
+
+pub tree_made : (v : Tree) (m : Msg) → OfVariant tree_names (TreeCase IsTree v) m → IsTree m v
+unfolding OfVariant
+tree_made v m h = let i = go (variant_of tree_names m) h in (suc i.0, i.1)
+  where
+    go : (x : Option (ℕ × Option Msg)) → MatchOption x ⊥ (TreeCase IsTree v) → (n : ℕ) × MatchOption x ⊥ (TreeCase (TreeIn n) v)
+    go None h = absurd h
+    go (Some p) h = tree_in v p.0 p.1 h
+
+pub tree_variant : (m : Msg) → Readable IsTree m → Readable (λ k v. OfVariant tree_names (TreeCase IsTree v) k) m
+tree_variant m (v, (zero, h)) = absurd h
+tree_variant m (v, (suc n, h)) = (v, variant_as tree_names (TreeCase (TreeIn n) v) (TreeCase IsTree v) (tree_as (TreeIn n) IsTree (λ k w p. (n, p)) v) m h)
+
+-- the content of a tree was read, that has items
+pub tree_node : {R C : Type 0} (g : Ghosts R) (old new last : Deserializer R C) (ts : Vec Tree Global) (v : Tree) → out-Tree v ≡ Tree-F.Node ts
+    → Lawful g (λ m (y : Vec Tree Global). OfVariant tree_names (IsAt 1 (Content (λ k. Row IsTree k y.items))) m) old new (Ok ts) → last ≡ new → Lawful g IsTree old last (Ok v)
+tree_node g old new last ts v e l same = lawful_ok g (λ m w. OfVariant tree_names (TreeCase IsTree w) m) IsTree old last v v (tree_made v)
+    (variant_ok g tree_names (TreeCase IsTree) old new last same (λ (y : Vec Tree Global) c. Content (λ k. Row IsTree k y.items) c) 1 ts v (λ c h. (ts, e, h)) l)
+
+-- ---- the next element, by a function
+
+pub lent_law : {F R C V : Type 0} (g : Ghosts R) (once : Reading F R C V) (f : F) (reads : Msg → V → Type 0)
+    → ((p q : MutBor (Deserializer R C)) (r : Result V Error) → once.post f (p, tt) (r, (q, tt)) → Lawful g reads p.now q.now r)
+    → (d rest : Deserializer R C) (gave : Result V Error) → FnOnceReturnsAtMut once f d gave rest → Lawful g reads d rest gave
+lent_law g once f reads law d rest gave c =
+    let l = law c.shown c.left gave c.met in
+    let from = subst (λ (z : Deserializer _ _). Lawful g reads z c.left.now gave) c.shows l in
+    subst (λ (z : Deserializer _ _). Lawful g reads d z gave) c.leaves from
+
+some_left : (n : ℕ) → (n ≡ 0 → ⊥) → 0 < n
+some_left zero f = absurd (f refl)
+some_left (suc n) f = omega arith
+
+pub none_left : (n : ℕ) → (0 < n → ⊥) → n ≡ 0
+none_left zero f = refl
+none_left (suc n) f = absurd (f (omega arith))
+
+not_none : {X : Type 0} (x : X) → ◌≡◌ {A = Result (Option X) Error} (Ok (Some x)) (Ok None) → ⊥
+not_none x e = cc
+
+err_not_none : {X : Type 0} (e : Error) → ◌≡◌ {A = Result (Option X) Error} (Err e) (Ok None) → ⊥
+err_not_none e q = cc
+
+pub some_if : {X P : Type 0} (n : ℕ) (x : X) (o : Option X) → o ≡ Some x → (n ≡ 0 → (◌≡◌ {A = Result (Option X) Error} (Ok o) (Ok None)) × P) → 0 < n
+some_if n x o e f = some_left n (λ z. not_none x (subst (λ t. ◌≡◌ {A = Result (Option _) Error} (Ok t) (Ok None)) e (f z).0))
+
+pub some_if_err : {X P : Type 0} (n : ℕ) (e : Error) → (n ≡ 0 → (◌≡◌ {A = Result (Option X) Error} (Err e) (Ok None)) × P) → 0 < n
+some_if_err n e f = some_left n (λ z. err_not_none e (f z).0)
+
+no_part : {X : Type 0} (given : Result X Error) → MatchResult given (λ x. ◌≡◌ {A = Result (Option X) Error} (Ok None) (Ok (Some x)))
+    (λ e. ◌≡◌ {A = Result (Option X) Error} (Ok None) (Err e)) → ⊥
+no_part (Ok x) m = cc
+no_part (Err e) m = cc
+
+pub never_none : {F R C X : Type 0} (g : Ghosts R) {once : Reading F R C X} {f : F} (old new : SeqAccess R C)
+    → PartRead g once f old new (Ok None) ⊎ PartMissing {X = X} g old new (Ok None) → ⊥
+never_none g old new (inl p) = no_part p.given p.answers
+never_none g old new (inr m) = let w = m.answers in cc
+
+module _ {F R C V : Type 0} (g : Ghosts R) (reads : Msg → V → Type 0) {once : Reading F R C V} {f : F} (old new : SeqAccess R C) (o : IsOpen old) (same : SameList old new)
+    (law : (p q : MutBor (Deserializer R C)) (r : Result V Error) → once.post f (p, tt) (r, (q, tt)) → Lawful g reads p.now q.now r) where
+  pub item_taken : (v : V) → PartRead g once f old new (Ok (Some v)) ⊎ PartMissing {X = V} g old new (Ok (Some v)) → new.sound ≡ true
+      → TakesElement g reads old new v
+  item_taken v p s = with_taken g once f reads old new o same (λ d rest gave l c. lent_law g once f reads law d rest gave c) v p s
+
+  pub item_refused : (e : Error) → 0 < old.left → PartRead g once f old new (Err e) ⊎ PartMissing {X = V} g old new (Err e) → FailsToTake g reads old new e
+  item_refused e some p = with_refused g once f reads old new o same (λ d rest gave l c. lent_law g once f reads law d rest gave c) e some p
+
+-- ---- a list of such elements
+
+module _ {R C V : Type 0} (g : Ghosts R) (reads : Msg → V → Type 0) (old : Deserializer R C) where
+  pub row_unopened : (last : Deserializer R C) (e : Error) → FailsToOpen g old last e → Lawful g (Row reads) old last (Err e)
+  row_unopened last e f = seq_unopened g (λ vs ms. ReadsEach reads ms vs) old last e f
+
+  module _ (start mid : SeqAccess R C) (vs : List V) (o : Opens g old start) (r : Values g reads start mid vs) (last : Deserializer R C) where
+    pub row_refused : (now : SeqAccess R C) (e : Error) → FailsToTake g reads mid now e → now.de.now.failed ≡ true → last ≡ now.de.now
+        → Lawful g (Row reads) old last (Err e)
+    row_refused now e f d q = seq_take g (λ us ms. ReadsEach reads ms us) old start mid r.trees o r.run last reads now e f d q
+        (λ m ks us h. each_next reads r.trees m ks us h)
+
+    pub row_unkept : last ≡ mid.de.now → Lawful g (Row reads) old last (Err OutOfMemory)
+    row_unkept q = seq_unkept g (λ us ms. ReadsEach reads ms us) old start mid r.trees o r.run last q
+
+    pub row_done : mid.left ≡ 0 → last ≡ record mid.de.now { failed = false } → Lawful g (Row reads) old last (Ok vs)
+    row_done z q = seq_done g (λ us ms. ReadsEach reads ms us) old start mid r.trees o r.run last vs r.values z q
+
+pub nested_done : {R C : Type 0} (g : Ghosts R) (old : Deserializer R C) (start mid : SeqAccess R C) (vs : List Nested) → Opens g old start
+    → Values g IsNested start mid vs → (last : Deserializer R C) (v : Nested) → vs ≡ (out-Nested v).sub.items → mid.left ≡ 0
+    → last ≡ record mid.de.now { failed = false } → Lawful g IsNested old last (Ok v)
+nested_done g old start mid vs o r last v e z q =
+    lawful_ok g (Row IsNested) IsNested old last vs v (nested_made v vs e) (row_done g IsNested old start mid vs o r last z q)
+
+-- the trees of a list, as a vector
+pub trees_row : (m : Msg) → Readable (λ k (v : Vec Tree Global). Row IsTree k v.items) m → Readable (Row IsTree) m
+trees_row m (v, h) = (v.items, h)
+
+pub trees_done : {R C : Type 0} (g : Ghosts R) (old : Deserializer R C) (start mid : SeqAccess R C) (v : Vec Tree Global) → Opens g old start
+    → Values g IsTree start mid v.items → (last : Deserializer R C) → mid.left ≡ 0
+    → last ≡ record mid.de.now { failed = false } → Lawful g (λ k (w : Vec Tree Global). Row IsTree k w.items) old last (Ok v)
+trees_done g old start mid v o r last z q =
+    lawful_ok g (Row IsTree) (λ k (w : Vec Tree Global). Row IsTree k w.items) old last v.items v (λ m h. h) (row_done g IsTree old start mid v.items o r last z q)
+
+-- ---- the room falls
+
+-- A number that was kept back opens no list.
+abbrev fresh_if : Bool → ℕ
+fresh_if true = 0
+fresh_if false = 1
+
+abbrev pub fresh : Kept → ℕ
+fresh Nothing = 1
+fresh (First b) = 1
+fresh (Number n) = fresh_if (nat_lt n 256)
+
+below : (n m : ℕ) → n < m → nat_lt n m ≡ true
+below n m h = grind (arith)
+
+is_below : (n m : ℕ) → nat_lt n m ≡ true → n < m
+is_below n m h = grind (arith)
+
+no_number : (strict b : Bool) (n k : ℕ) (bytes more : List ℕ) → k < 256 → bytes ≡ canon_head (Whole (pos k)) ++ more → heads_of strict (seq_head b n) bytes → ⊥
+no_number strict true n k bytes more l e h =
+    let u = (heads_apart_as strict (Bin n) (Whole (pos k)) bytes (canon_head (Whole (pos k))) [] more h (canon_in strict (Whole (pos k)) (fits_byte k l))
+    (append-nil bytes ∙ e)).0 in cc
+no_number strict false n k bytes more l e h =
+    let u = (heads_apart_as strict (Array n) (Whole (pos k)) bytes (canon_head (Whole (pos k))) [] more h (canon_in strict (Whole (pos k)) (fits_byte k l))
+    (append-nil bytes ∙ e)).0 in cc
+
+opens_fresh : (strict b : Bool) (n : ℕ) (kept : Kept) (bytes : List ℕ) → GoesOn (kept_bytes kept) bytes → heads_of strict (seq_head b n) bytes → fresh kept ≡ 1
+opens_fresh strict b n Nothing bytes o h = refl
+opens_fresh strict b n (First k) bytes o h = refl
+opens_fresh strict b n (Number k) bytes o h = go (nat_lt k 256) refl
+  where
+    go : (t : Bool) → nat_lt k 256 ≡ t → fresh (Number k) ≡ 1
+    go true e = absurd (no_number strict b n k bytes o.more (is_below k 256 e) o.whole h)
+    go false e = ap fresh_if e
+
+-- twice the room, and one where a list may be opened
+abbrev pub steps_at : {R C : Type 0} → Deserializer R C → ℕ
+steps_at d = 2 * max 1 d.room + fresh d.kept
+
+module _ {R C : Type 0} (g : Ghosts R) (old : Deserializer R C) (start mid : SeqAccess R C) (ms : Msgs) (o : Opens g old start) (r : Run g start mid ms)
+    (d : Deserializer R C) (l : Lends g mid d) where
+  room_falls : max 1 old.room ≡ max 1 d.room + levels mid.bytes
+  room_falls = rw l.lent (rw (r.inner, r.bytes_same) o.room)
+
+  pub part_room : max 1 d.room ≤ max 1 old.room
+  part_room = omega (arith, room_falls)
+
+  pub part_steps : steps_at d < steps_at old
+  part_steps = go mid.bytes refl l.offers
+    where
+      was : fresh old.kept ≡ 1
+      was = opens_fresh old.strict start.bytes start.left old.kept o.head.bytes o.head.goes_on o.head.is_head
+
+      now_number : (b : ℕ) → b < 256 → l.from.kept ≡ Number b → fresh d.kept ≡ 0
+      now_number b h e = ap (λ (z : Deserializer R C). fresh z.kept) l.lent ∙ ap fresh e ∙ ap fresh_if (below b 256 h)
+
+      if_at_most : (t : Bool) → fresh_if t ≤ 1
+      if_at_most true = omega arith
+      if_at_most false = omega arith
+
+      at_most : (k : Kept) → fresh k ≤ 1
+      at_most Nothing = omega arith
+      at_most (First b) = omega arith
+      at_most (Number n) = if_at_most (nat_lt n 256)
+
+      go : (b : Bool) → mid.bytes ≡ b → OffersPart g b mid.de.now l.from → steps_at d < steps_at old
+      go true e f = omega (arith, room_falls, ap levels e, was, now_number f.keeps.byte f.keeps.small f.keeps.kept)
+      go false e f = omega (arith, room_falls, ap levels e, was, at_most d.kept)
+
+-- the content of a variant nests below it
+pub content_room_falls : {R C : Type 0} (g : Ghosts R) (n : ℕ) (old : Deserializer R C) (v : Variant R C) → OpensVariant g tree_names n old v → v.bare ≡ false
+    → room_of old ≡ max 1 v.inner + 1
+content_room_falls g n old v o b = (subst (λ z. TakesNameOf g tree_names n z old v.de.now v.inner) b o.name).room
