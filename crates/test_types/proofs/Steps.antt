@@ -172,9 +172,11 @@ tree_variant m (v, (suc n, h)) = (v, variant_as tree_names (TreeCase (TreeIn n) 
 
 -- the content of a tree was read, that has items
 pub tree_node : {R C : Type 0} (g : Ghosts R) (old new last : Deserializer R C) (ts : Vec Tree Global) (v : Tree) → out-Tree v ≡ Tree-F.Node ts
-    → Lawful g (λ m (y : Vec Tree Global). OfVariant tree_names (IsAt 1 (Content (λ k. Row IsTree k y.items))) m) old new (Ok ts) → last ≡ new → Lawful g IsTree old last (Ok v)
+    → Lawful g (λ m (y : Vec Tree Global). OfVariant tree_names (IsAt 1 (Content (λ k. Row IsTree k y.items))) m) old new (Ok ts) → last ≡ new
+        → Lawful g IsTree old last (Ok v)
 tree_node g old new last ts v e l same = lawful_ok g (λ m w. OfVariant tree_names (TreeCase IsTree w) m) IsTree old last v v (tree_made v)
-    (variant_ok g tree_names (TreeCase IsTree) old new last same (λ (y : Vec Tree Global) c. Content (λ k. Row IsTree k y.items) c) 1 ts v (λ c h. (ts, e, h)) l)
+    (variant_ok g tree_names (TreeCase IsTree) old new last same (λ (y : Vec Tree Global) c. Content (λ k. Row IsTree k y.items) c) 1 ts v
+        (λ c h. (ts, e, h)) l)
 
 -- ---- the next element, by a function
 
@@ -216,7 +218,8 @@ pub never_none : {F R C X : Type 0} (g : Ghosts R) {once : Reading F R C X} {f :
 never_none g old new (inl p) = no_part p.given p.answers
 never_none g old new (inr m) = let w = m.answers in cc
 
-module _ {F R C V : Type 0} (g : Ghosts R) (reads : Msg → V → Type 0) {once : Reading F R C V} {f : F} (old new : SeqAccess R C) (o : IsOpen old) (same : SameList old new)
+module _ {F R C V : Type 0} (g : Ghosts R) (reads : Msg → V
+    → Type 0) {once : Reading F R C V} {f : F} (old new : SeqAccess R C) (o : IsOpen old) (same : SameList old new)
     (law : (p q : MutBor (Deserializer R C)) (r : Result V Error) → once.post f (p, tt) (r, (q, tt)) → Lawful g reads p.now q.now r) where
   pub item_taken : (v : V) → PartRead g once f old new (Ok (Some v)) ⊎ PartMissing {X = V} g old new (Ok (Some v)) → new.sound ≡ true
       → TakesElement g reads old new v
@@ -257,7 +260,8 @@ pub trees_done : {R C : Type 0} (g : Ghosts R) (old : Deserializer R C) (start m
     → Values g IsTree start mid v.items → (last : Deserializer R C) → mid.left ≡ 0
     → last ≡ record mid.de.now { failed = false } → Lawful g (λ k (w : Vec Tree Global). Row IsTree k w.items) old last (Ok v)
 trees_done g old start mid v o r last z q =
-    lawful_ok g (Row IsTree) (λ k (w : Vec Tree Global). Row IsTree k w.items) old last v.items v (λ m h. h) (row_done g IsTree old start mid v.items o r last z q)
+    lawful_ok g (Row IsTree) (λ k (w : Vec Tree Global). Row IsTree k w.items) old last v.items v (λ m h. h)
+        (row_done g IsTree old start mid v.items o r last z q)
 
 -- ---- the room falls
 
