@@ -1,45 +1,11 @@
 -- What the read of a struct says whose fields are read one after another.
-use Rattle.std.proofs.Common.{
-  ◌≡◌,
-  ◌≢◌,
-  ◌∙◌,
-  sym,
-  ap,
-  subst,
-  refl,
-  inl,
-  inr,
-  ◌⊎◌,
-  ℕ,
-  zero,
-  suc,
-  ◌+◌,
-  ◌-◌,
-  ◌<◌,
-  ◌≤◌,
-  arith,
-  List,
-  [],
-  ◌∷◌,
-  length,
-  Bool,
-  cond,
-  nat_eq,
-  true,
-  false,
-  Option,
-  None,
-  Some,
-  MatchOption,
-  Ok,
-  Err,
-}
+use Rattle.std.proofs.Common.{◌≡◌, ◌≢◌, ◌∙◌, sym, ap, subst, refl, inl, inr, ◌⊎◌, ℕ, zero, suc, ◌-◌, ◌<◌, ◌≤◌, arith, List, [], ◌∷◌, length, Bool, cond, nat_eq, true, false, Option, None, Some, MatchOption, Ok, Err}
 use Rattle.std.specs.Int.{bit_at}
 use Rattle.std.specs.Option.{option_and_then}
 use Rattle.std.proofs.lemmas.Nat.Bits.{bit_at-zero}
 use Rattle.rmp_wire.specs.declared.source.Source.{Ghosts}
 use Rattle.rmp_wire.specs.Canonical.{SpellsAs}
-use Rattle.rmp_wire.specs.Msg.{Msg, nil, truth, whole, float32, float64, text, bin, list, map, extension, Msgs, no_items, item, Pairs, no_pairs, count}
+use Rattle.rmp_wire.specs.Msg.{Msg, nil, truth, whole, float32, float64, text, bin, list, map, extension, Msgs, no_items, item, no_pairs, count}
 use Rattle.rmp_wire.specs.Spelling.{head_of}
 use Rattle.rmp_decode.specs.FieldAccess.{
   begun,
@@ -64,21 +30,20 @@ use Rattle.rmp_decode.specs.FieldAccess.{
   FailsField,
   FailsFieldAs,
 }
-use Rattle.rmp_decode.specs.Fields.{blank, put, put_named, met, given, given_all, OfFields, Field, Absent, Slot, at}
+use Rattle.rmp_decode.specs.Fields.{blank, put, put_named, given, given_all, OfFields, Field, Absent, Slot, at}
 use Rattle.rmp_decode.specs.Law.{Lawful, Readable}
-use Rattle.rmp_decode.specs.Maps.{OpensMap, IsMapOpen, TakesKey, TakesValue, map_inner}
+use Rattle.rmp_decode.specs.Maps.{OpensMap, TakesKey, TakesValue, map_inner}
 use Rattle.rmp_decode.specs.Names.{bytes_of, IsName}
 use Rattle.rmp_decode.specs.Parts.{FailsPart}
-use Rattle.rmp_decode.specs.Seq.{numbers, OfRow, seq_head, Opens, IsOpen, Run, TakesElement, FailsToTake, FailsElement}
+use Rattle.rmp_decode.specs.Seq.{OfRow, seq_head, Opens, Run, TakesElement, FailsToTake}
 use Rattle.rmp_decode.specs.Skip.{any_tree}
 use Rattle.rmp_decode.specs.declared.deserializer.Deserializer.{Deserializer}
 use Rattle.rmp_decode.specs.declared.access.field_access.FieldAccess.{FieldAccess}
 use Rattle.rmp_decode.specs.declared.access.map.MapAccess.{MapAccess}
-use Rattle.rmp_decode.specs.declared.access.seq.SeqAccess.{SeqAccess}
 use Rattle.rmp_decode.specs.declared.error.Error.{Error}
 use Rattle.rmp_decode.proofs.Laws.{stays_refl, lawful_ok}
 use Rattle.rmp_decode.proofs.Maps.{MapRun, map_start, flat, push_pair, flat-push, map_key, map_value}
-use Rattle.rmp_decode.proofs.Meeting.{met_push, put_at, holds_some}
+use Rattle.rmp_decode.proofs.Meeting.{met_push, put_at}
 use Rattle.rmp_decode.proofs.Refusals.{refuses_narrower}
 use Rattle.rmp_decode.proofs.Rows.{push, append, count-push}
 use Rattle.rmp_decode.proofs.Seqs.{run_start, run_step, seq_done, seq_element, seq_take, seq_more, count-append}
@@ -293,7 +258,8 @@ module _ {R C S : Type 0} (g : Ghosts R) (names : List (List ℕ)) (holds : List
       in_map f k w u =
           let n = named_run (as_map start) s mid.met place (as_map mid) (as_map key) f.fields f.marks (names_in mid) mid_names k in
           let x = fill n.run.met_trees u.part.tree n.run.held (n.marks.free place w.first) u.part.value in
-          let half = map_key g (IsName names) (as_map start) n.mid (as_map key) (flat n.run.trees) (Some place) n.run.run n.run.at_key n.named n.same_reference in
+          let half = map_key g (IsName names) (as_map start) n.mid (as_map key) (flat n.run.trees) (Some place) n.run.run n.run.at_key n.named
+          n.same_reference in
           record {
             fields = record {
               trees = push_pair n.run.trees n.named.part.tree u.part.tree;

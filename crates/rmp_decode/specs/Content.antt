@@ -27,7 +27,8 @@ pub record StandsWhole (strict : Bool) (h : Head) (s xs : List ℕ) : Type 0 whe
   pub content : stands.rest ≡ s ++ behind
   pub long : length s ≡ content_len h
 
--- The error is the one for a head that isn't wanted, says that the input ended within the content of one that is, is the one for that content where it is whole, or says why no head stands at the front. Where content is wanted memory may be short instead, and nowhere else.
+-- The error is the one for a head that isn't wanted, says that the input ended within the content of one that is, is the one for that content where
+-- it is whole, or says why no head stands at the front. Where content is wanted memory may be short instead, and nowhere else.
 pub record ExactOfContent (strict : Bool) (wanted : Head → Type 0) (other : Marker → Head → Error) (refused : Head → List ℕ → Error
     → Type 0) (xs : List ℕ) (e : Error) : Type 0 where
   pub others : (m : Marker) (h : Head) → Stands strict m h xs → (wanted h → ⊥) → e ≡ other m h

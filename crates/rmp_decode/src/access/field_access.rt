@@ -7,7 +7,9 @@ ghost use Rattle.rmp_decode.specs.Variants.{is_bare, variant_lender, content_roo
 ghost use Rattle.rmp_decode.specs.With.{OffersPart};
 ghost use Rattle.std.specs.Borrow.{sem, RestsIfErr};
 ghost use Rattle.rmp_decode.specs.contracts.deserializer.Deserializer.{the_row};
-ghost use Rattle.rmp_decode.specs.FieldAccess.{OpensStruct, IsStructOpen, SameStruct, AtField, AtFieldValue, TakesPlace, TakesPlaceAs, NoPlace, FailsPlace, NoName, TakesName, FailsName, EndsEarly, Meets, TakesField, FailsField, ValueRefused, FailsKey, FailsToPass, is_of_map, fields_left, fields_in, owes_field, is_struct_sound, struct_lender, names_in, as_map, unsound, OpensStructIn, FailsToOpenStructOf};
+ghost use Rattle.rmp_decode.specs.FieldAccess.{OpensStruct, IsStructOpen, SameStruct, AtField, AtFieldValue, TakesPlace, TakesPlaceAs, NoPlace, FailsPlace, NoName};
+ghost use Rattle.rmp_decode.specs.FieldAccess.{TakesName, FailsName, EndsEarly, Meets, TakesField, FailsField, ValueRefused, FailsKey, FailsToPass, is_of_map};
+ghost use Rattle.rmp_decode.specs.FieldAccess.{fields_left, fields_in, owes_field, is_struct_sound, struct_lender, names_in, as_map, unsound, OpensStructIn, FailsToOpenStructOf};
 ghost use Rattle.rmp_decode.specs.Fields.{FailsToOpenFields, HasFields, not_fields, fields_head};
 ghost use Rattle.rmp_decode.specs.Law.{IsFailedBefore, Explains, TakesHead};
 ghost use Rattle.rmp_decode.specs.Maps.{IsMapOpen, AtKey, TakesKey, TakesValue};

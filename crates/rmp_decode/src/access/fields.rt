@@ -3,7 +3,8 @@ ghost use Rattle.std.specs.Prelude.{◌≡◌, ◌≢◌, ◌⊎◌, ◌<◌, �
 ghost use Rattle.std.specs.Borrow.{sem, RestsIfErr};
 ghost use Rattle.rmp_wire.specs.Msg.{Msg};
 ghost use Rattle.rmp_decode.specs.contracts.deserializer.Deserializer.{the_row};
-ghost use Rattle.rmp_decode.specs.Fields.{OfFields, Field, Absent, NoField, Slot, AreBlank, fields_head, parts_name, OpensFields, FailsToOpenFields, at, given_all, Fills, IsFull, name_refusal, pass_refusal};
+ghost use Rattle.rmp_decode.specs.Fields.{OfFields, Field, Absent, NoField, Slot, AreBlank, fields_head, parts_name};
+ghost use Rattle.rmp_decode.specs.Fields.{OpensFields, FailsToOpenFields, at, given_all, Fills, IsFull, name_refusal, pass_refusal};
 ghost use Rattle.rmp_decode.specs.FieldRefusing.{PartsHold, FillRefused, RefusesFields};
 ghost use Rattle.rmp_decode.specs.Kinds.{Finds};
 ghost use Rattle.rmp_decode.specs.Law.{Lawful, TakesHead, IsFailedBefore};

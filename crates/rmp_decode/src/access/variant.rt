@@ -20,7 +20,8 @@ ghost use Rattle.rmp_decode.specs.Pieces.{RefusesPiece};
 ghost use Rattle.rmp_decode.specs.Seq.{seq_head, not_seq, IsSeq};
 ghost use Rattle.rmp_decode.specs.State.{left, faults_of, config_of, is_failed, is_strict, kept_of, Stays};
 ghost use Rattle.rmp_decode.specs.VariantNames.{IsPlace, StartsWithNoName, TakesName, other_name, unknown_name, RefusesName};
-ghost use Rattle.rmp_decode.specs.Variants.{TakesNameOf, OpensVariant, FailsToOpenVariant, not_unit, is_bare, variant_lender, content_room, ReadsBare, RefusesBare, ReadsContent, RefusesContentOf, ContentRefusedBy, ContentGiven, OpensSeqIn, FailsToOpenSeqOf};
+ghost use Rattle.rmp_decode.specs.Variants.{TakesNameOf, OpensVariant, FailsToOpenVariant, not_unit, is_bare, variant_lender, content_room, ReadsBare};
+ghost use Rattle.rmp_decode.specs.Variants.{RefusesBare, ReadsContent, RefusesContentOf, ContentRefusedBy, ContentGiven, OpensSeqIn, FailsToOpenSeqOf};
 ghost use Rattle.rmp_decode.specs.With.{part_reader};
 
 use crate::access::fields::Fields;

@@ -10,11 +10,17 @@ use Rattle.rmp_encode.proofs.tuple.Tuple+W+C.four.Goals as goal
 pub returns-in_err-two-clause-writes : goal.returns-in_err-two-clause-writes
 returns-in_err-two-clause-writes g c =
     let p = err_from_is_err_and c.from_residual.result c.from_residual.ensures.1 in
-    rw (p.1, p.2) (λ old t rest h. part_takes g.W.Sink _ (or_front (forces_all (settings_of old).bytes) g.W.Sink.takes_memory (g.A.Serialize.takes_memory (settings_of old) ∷ (g.B.Serialize.takes_memory (settings_of old) ∷ [])) (g.D.Serialize.takes_memory (settings_of old) ∷ (g.E.Serialize.takes_memory (settings_of old) ∷ []))) (c.in_err-two.ensures.writes old t _ h))
+    rw (p.1, p.2) (λ old t rest h. part_takes g.W.Sink _
+    (or_front (forces_all (settings_of old).bytes) g.W.Sink.takes_memory
+    (g.A.Serialize.takes_memory (settings_of old) ∷ (g.B.Serialize.takes_memory (settings_of old) ∷ []))
+    (g.D.Serialize.takes_memory (settings_of old) ∷ (g.E.Serialize.takes_memory (settings_of old) ∷ []))) (c.in_err-two.ensures.writes old t _ h))
 
 pub returns-clause-writes : goal.returns-clause-writes
 returns-clause-writes g c = λ old t rest h. going_more g.W.Sink (IsTupling g.W.Sink old t rest c.two-2.new.self) t (sink_of old)
-    (sink_of (inside c.two-2.new.self)) c.two-2.result (or_back (forces_all (settings_of old).bytes) g.W.Sink.takes_memory (g.A.Serialize.takes_memory (settings_of old) ∷ (g.B.Serialize.takes_memory (settings_of old) ∷ [])) (g.D.Serialize.takes_memory (settings_of old) ∷ (g.E.Serialize.takes_memory (settings_of old) ∷ [])))
+    (sink_of (inside c.two-2.new.self)) c.two-2.result
+    (or_back (forces_all (settings_of old).bytes) g.W.Sink.takes_memory
+    (g.A.Serialize.takes_memory (settings_of old) ∷ (g.B.Serialize.takes_memory (settings_of old) ∷ []))
+    (g.D.Serialize.takes_memory (settings_of old) ∷ (g.E.Serialize.takes_memory (settings_of old) ∷ [])))
     (c.two-2.ensures.writes old t rest (c.in_ok-two.ensures.writes old t _ h))
 
 pub returns-clause-keeps : goal.returns-clause-keeps

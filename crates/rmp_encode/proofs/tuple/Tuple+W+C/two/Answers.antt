@@ -10,11 +10,16 @@ use Rattle.rmp_encode.proofs.tuple.Tuple+W+C.two.Goals as goal
 pub returns-in_err-serialize_element-clause-writes : goal.returns-in_err-serialize_element-clause-writes
 returns-in_err-serialize_element-clause-writes g c =
     let p = err_from_is_err_and c.from_residual.result c.from_residual.ensures.1 in
-    rw (p.1, p.2) (λ old t rest h. part_takes g.W.Sink _ (or_one_of (forces_all (settings_of old).bytes) g.W.Sink.takes_memory (g.A.Serialize.takes_memory (settings_of old) ∷ (g.B.Serialize.takes_memory (settings_of old) ∷ [])) 0) (c.in_err-serialize_element.ensures.writes old t _ h))
+    rw (p.1, p.2) (λ old t rest h. part_takes g.W.Sink _
+    (or_one_of (forces_all (settings_of old).bytes) g.W.Sink.takes_memory
+    (g.A.Serialize.takes_memory (settings_of old) ∷ (g.B.Serialize.takes_memory (settings_of old) ∷ [])) 0)
+    (c.in_err-serialize_element.ensures.writes old t _ h))
 
 pub returns-clause-writes : goal.returns-clause-writes
 returns-clause-writes g c = λ old t rest h. going_more g.W.Sink (IsTupling g.W.Sink old t rest c.serialize_element-2.new.self) t (sink_of old)
-    (sink_of (inside c.serialize_element-2.new.self)) c.serialize_element-2.result (or_one_of (forces_all (settings_of old).bytes) g.W.Sink.takes_memory (g.A.Serialize.takes_memory (settings_of old) ∷ (g.B.Serialize.takes_memory (settings_of old) ∷ [])) 1)
+    (sink_of (inside c.serialize_element-2.new.self)) c.serialize_element-2.result
+    (or_one_of (forces_all (settings_of old).bytes) g.W.Sink.takes_memory
+    (g.A.Serialize.takes_memory (settings_of old) ∷ (g.B.Serialize.takes_memory (settings_of old) ∷ [])) 1)
     (c.serialize_element-2.ensures.writes old t rest (c.in_ok-serialize_element.ensures.writes old t _ h))
 
 pub returns-clause-keeps : goal.returns-clause-keeps

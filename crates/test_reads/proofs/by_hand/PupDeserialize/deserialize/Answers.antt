@@ -1,4 +1,29 @@
-use Rattle.std.proofs.Common.{◌≡◌, ◌∙◌, ap, sym, subst, inl, inr, ◌⊎◌, Bool, true, false, refl, rules, arith, ◌<◌, length, [], ◌∷◌, ℕ, List, Option, None, Some, codes}
+use Rattle.std.proofs.Common.{
+  ◌≡◌,
+  ◌∙◌,
+  ap,
+  sym,
+  subst,
+  inl,
+  inr,
+  ◌⊎◌,
+  Bool,
+  true,
+  false,
+  refl,
+  rules,
+  arith,
+  ◌<◌,
+  length,
+  [],
+  ◌∷◌,
+  ℕ,
+  List,
+  Option,
+  None,
+  Some,
+  codes,
+}
 use Rattle.std.specs.String.{string_bytes}
 use Rattle.rmp_wire.specs.Msg.{Msg}
 use Rattle.rmp_decode.specs.FieldAccess.{IsStructOpen, TakesPlace, unsound}
@@ -28,7 +53,12 @@ use Rattle.test_reads.specs.declared.by_hand.Pup.{Pup}
 use Rattle.test_reads.specs.declared.samples.Weight.{Weight}
 use Rattle.test_reads.proofs.by_hand.PupDeserialize.deserialize.Invariants.{WeightRead, PupRead}
 use Rattle.test_reads.proofs.by_hand.PupDeserialize.deserialize.Goals as goal
-use Rattle.test_reads.proofs.by_hand.PupDeserialize.deserialize.Goals.{in-Some, in-None+in-Ok-missing_field, in-Some-weight, in-None-weight+in-Ok-missing_field-2}
+use Rattle.test_reads.proofs.by_hand.PupDeserialize.deserialize.Goals.{
+  in-Some,
+  in-None+in-Ok-missing_field,
+  in-Some-weight,
+  in-None-weight+in-Ok-missing_field-2,
+}
 
 abbrev names : List (List ℕ)
 names = codes "name" ∷ (codes "weight" ∷ [])
@@ -158,11 +188,13 @@ returns-in-Ok-end-clause-law g c =
       | in-Some-weight w ↦ w.fields-is ∙ same
       | in-None-weight+in-Ok-missing_field-2 w ↦ w.fields-is ∙ w.in-Ok-missing_field-2.ensures.ok.2 ∙ same
     ] in
-    let name : (c.loop-fields.name ≡ Some c.match-name-5.name) ⊎ ((c.loop-fields.name ≡ None) × (None ≡ Some c.match-name-5.name)) = elim c.match-name-5.branch [
+    let name : (c.loop-fields.name ≡ Some c.match-name-5.name)
+    ⊎ ((c.loop-fields.name ≡ None) × (None ≡ Some c.match-name-5.name)) = elim c.match-name-5.branch [
       | in-Some w ↦ inl (w.in-Some.is ∙ ap (λ z. Some z) (sym w.name-is))
       | in-None+in-Ok-missing_field w ↦ inr (w.in-None.is, w.in-Ok-missing_field.ensures.ok.1 ∙ ap (λ z. Some z) (sym w.name-is))
     ] in
-    let weight : (c.loop-fields.weight ≡ Some c.match-weight.weight) ⊎ ((c.loop-fields.weight ≡ None) × (Some (record { grams = 7 }) ≡ Some c.match-weight.weight)) =
+    let weight : (c.loop-fields.weight ≡ Some c.match-weight.weight)
+    ⊎ ((c.loop-fields.weight ≡ None) × (Some (record { grams = 7 }) ≡ Some c.match-weight.weight)) =
     elim c.match-weight.branch [
       | in-Some-weight w ↦ inl (w.in-Some-weight.is ∙ ap (λ z. Some z) (sym w.weight-is))
       | in-None-weight+in-Ok-missing_field-2 w ↦ inr (w.in-None-weight.is, w.in-Ok-missing_field-2.ensures.ok.1 ∙ ap (λ z. Some z) (sym w.weight-is))

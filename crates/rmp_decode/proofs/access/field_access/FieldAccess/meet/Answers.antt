@@ -1,4 +1,4 @@
-use Rattle.std.proofs.Common.{refl, arith, rules}
+use Rattle.std.proofs.Common.{refl, arith}
 use Rattle.rmp_decode.proofs.FieldAccesses.{bit_clear, bit_set, bit_met, bit_other}
 use Rattle.rmp_decode.proofs.access.field_access.FieldAccess.meet.Goals as goal
 

@@ -1,4 +1,4 @@
-use Rattle.std.proofs.Common.{◌≡◌, rules, true, Some, None}
+use Rattle.std.proofs.Common.{◌≡◌, rules, true}
 use Rattle.rmp_decode.proofs.FieldAccesses.{place_few, place_taken, place_again}
 use Rattle.rmp_decode.proofs.access.field_access.FieldAccess.next_field.Goals as goal
 

@@ -1,4 +1,4 @@
-use Rattle.std.proofs.Common.{◌≡◌, refl, rules, subst, max, true}
+use Rattle.std.proofs.Common.{refl, subst, max}
 use Rattle.rmp_decode.specs.Parts.{TakesPart, FailsPart}
 use Rattle.rmp_decode.proofs.FieldAccesses.{value_taken, value_fails, value_ended}
 use Rattle.rmp_decode.proofs.access.field_access.FieldAccess.next_value.Goals as goal
