@@ -1,0 +1,468 @@
+//! Messages that are read as values of many types, and what that must answer. The port and the original are measured by this one file.
+
+#[path = "../measure.rs"]
+#[allow(dead_code)]
+mod measure;
+
+use measure::{Answer, Load, Random, Runs, number, number_of_width};
+
+const RUNS: Runs = Runs { reps: 20, runs: 7 };
+
+/// A call goes so many times over its bytes, and answers the elements of all rounds.
+pub type OfBytes = fn(&[u8], u32) -> usize;
+
+/// The calls that are measured, by their names.
+pub struct Calls(pub Vec<(&'static str, OfBytes)>);
+
+impl Calls {
+    fn named(&self, name: &str) -> OfBytes {
+        let call = self.0.iter().find(|call| call.0 == name);
+        call.expect("a call of that name").1
+    }
+}
+
+/// Something that a message is made of.
+#[derive(Clone)]
+enum Part {
+    Nil,
+    Truth(bool),
+    Number(u64),
+    Negative(i64),
+    Float(f64),
+    Text(String),
+    Bytes(Vec<u8>),
+    Wide(u128),
+    List(Vec<Part>),
+    Map(Vec<(Part, Part)>),
+}
+
+/// The head of a text, of bytes, of a list or a map: the first byte of a short one and what it counts to, if there is a short
+/// one, and the first bytes of others.
+fn head(out: &mut Vec<u8>, len: usize, short: Option<(u8, usize)>, long: [Option<u8>; 3]) {
+    match short {
+        Some((first, most)) if len <= most => return out.push(first | len as u8),
+        _ => {}
+    }
+    match (len, long) {
+        (0..=0xff, [Some(first), ..]) => out.extend([first, len as u8]),
+        (0..=0xffff, [_, Some(first), _]) => {
+            out.push(first);
+            out.extend((len as u16).to_be_bytes());
+        }
+        (_, [.., first]) => {
+            out.extend(first);
+            out.extend((len as u32).to_be_bytes());
+        }
+    }
+}
+
+/// The shortest spelling of a number below 0.
+fn negative(out: &mut Vec<u8>, z: i64) {
+    let bytes = z.to_be_bytes();
+    match z {
+        -32.. => out.push(bytes[7]),
+        -0x80.. => out.extend([0xd0, bytes[7]]),
+        -0x8000.. => out.extend([0xd1, bytes[6], bytes[7]]),
+        -0x8000_0000.. => {
+            out.push(0xd2);
+            out.extend(&bytes[4..]);
+        }
+        _ => {
+            out.push(0xd3);
+            out.extend(bytes);
+        }
+    }
+}
+
+/// The spelling, from the MessagePack specification's table.
+fn spell(out: &mut Vec<u8>, part: &Part) {
+    match part {
+        Part::Nil => out.push(0xc0),
+        Part::Truth(b) => out.push(0xc2 | u8::from(*b)),
+        Part::Number(n) => number(out, *n),
+        Part::Negative(z) => negative(out, *z),
+        Part::Float(f) => {
+            out.push(0xcb);
+            out.extend(f.to_bits().to_be_bytes());
+        }
+        Part::Text(s) => {
+            head(
+                out,
+                s.len(),
+                Some((0xa0, 31)),
+                [Some(0xd9), Some(0xda), Some(0xdb)],
+            );
+            out.extend(s.as_bytes());
+        }
+        Part::Bytes(s) => {
+            head(out, s.len(), None, [Some(0xc4), Some(0xc5), Some(0xc6)]);
+            out.extend(s);
+        }
+        Part::Wide(n) => {
+            out.extend([0xc4, 16]);
+            out.extend(n.to_be_bytes());
+        }
+        Part::List(items) => {
+            head(
+                out,
+                items.len(),
+                Some((0x90, 15)),
+                [None, Some(0xdc), Some(0xdd)],
+            );
+            items.iter().for_each(|item| spell(out, item));
+        }
+        Part::Map(pairs) => {
+            head(
+                out,
+                pairs.len(),
+                Some((0x80, 15)),
+                [None, Some(0xde), Some(0xdf)],
+            );
+            for (key, value) in pairs {
+                spell(out, key);
+                spell(out, value);
+            }
+        }
+    }
+}
+
+fn text(s: &str) -> Part {
+    Part::Text(s.to_string())
+}
+
+/// How the fields of a struct stand in a message.
+#[derive(Clone, Copy)]
+enum Form {
+    List,
+    Map,
+    Reverse,
+    Unknown,
+}
+
+/// A struct of these fields.
+fn structure(form: Form, names: &[&str], values: Vec<Part>) -> Part {
+    let mut pairs: Vec<(Part, Part)> = names
+        .iter()
+        .map(|name| text(name))
+        .zip(values.clone())
+        .collect();
+    match form {
+        Form::List => return Part::List(values),
+        Form::Map => {}
+        Form::Reverse => pairs.reverse(),
+        Form::Unknown => {
+            pairs.insert(1, (text("unknown"), Part::Number(7)));
+            pairs.push((text("other"), text("words")));
+        }
+    }
+    Part::Map(pairs)
+}
+
+const TWO: &[&str] = &["id", "on"];
+const FIVE: &[&str] = &["id", "name", "age", "score", "note"];
+const EIGHT: &[&str] = &[
+    "alpha", "beta", "gamma", "delta", "epsilon", "zeta", "eta", "theta",
+];
+const TWELVE: &[&str] = &[
+    "january",
+    "february",
+    "march",
+    "april",
+    "may",
+    "june",
+    "july",
+    "august",
+    "september",
+    "october",
+    "november",
+    "december",
+];
+
+fn mixed(random: &mut Random) -> Part {
+    Part::Number(number_of_width(random.below(4), random.next()))
+}
+
+fn two(random: &mut Random) -> Vec<Part> {
+    vec![mixed(random), Part::Truth(random.below(2) == 1)]
+}
+
+fn five(random: &mut Random) -> Vec<Part> {
+    let note = match random.below(2) {
+        0 => Part::Nil,
+        _ => Part::Number(random.below(1 << 16)),
+    };
+    let score = Part::Negative(-1 - random.below(1 << 20) as i64);
+    vec![
+        mixed(random),
+        text("some words"),
+        Part::Number(random.below(128)),
+        score,
+        note,
+    ]
+}
+
+fn numbers(random: &mut Random, count: usize) -> Vec<Part> {
+    (0..count).map(|_| mixed(random)).collect()
+}
+
+/// A tree as JSON has them.
+fn tree(random: &mut Random) -> Part {
+    let tags = vec![text("red"), text("green"), text("blue")];
+    let place = vec![
+        (text("lat"), Part::Float(48.5)),
+        (text("lon"), Part::Float(-2.25)),
+    ];
+    Part::Map(vec![
+        (text("id"), mixed(random)),
+        (text("name"), text("some words")),
+        (text("active"), Part::Truth(true)),
+        (text("score"), Part::Negative(-5)),
+        (text("parent"), Part::Nil),
+        (text("tags"), Part::List(tags)),
+        (text("place"), Part::Map(place)),
+    ])
+}
+
+/// The loads that were made.
+struct Made {
+    loads: Vec<Load<Calls>>,
+}
+
+fn call_over(
+    name: String,
+    call: String,
+    count: usize,
+    data: Vec<u8>,
+    answer: Answer,
+) -> Load<Calls> {
+    let found: &'static str = String::leak(call);
+    Load {
+        name: String::leak(name),
+        count,
+        work: Box::new(move |calls: &Calls, reps| calls.named(found)(&data, reps) as u64),
+        answer,
+    }
+}
+
+impl Made {
+    /// Reads a list of these by the call `bench_read_..`.
+    fn reads(&mut self, name: &str, call: &str, items: &[Part]) {
+        self.called(
+            &format!("read, {name}"),
+            &format!("bench_read_{call}"),
+            items,
+        );
+    }
+
+    /// Reads a list of these by a call.
+    fn called(&mut self, name: &str, call: &str, items: &[Part]) {
+        let data = spelled(items);
+        let answer = Answer::Sum(items.len() as u64);
+        self.loads.push(call_over(
+            name.into(),
+            call.into(),
+            items.len(),
+            data,
+            answer,
+        ));
+    }
+
+    /// Passes over a list of these.
+    fn skips(&mut self, name: &str, items: &[Part]) {
+        let load = call_over(
+            name.into(),
+            "bench_skip".into(),
+            items.len(),
+            spelled(items),
+            Answer::Sum(1),
+        );
+        self.loads.push(load);
+    }
+
+    /// Structs of some fields, in each form.
+    fn structs(&mut self, name: &str, call: &str, names: &[&str], rows: Vec<Vec<Part>>) {
+        let forms = [
+            ("list", Form::List),
+            ("map", Form::Map),
+            ("map in reverse", Form::Reverse),
+            ("map with unknown names", Form::Unknown),
+        ];
+        let made = |form| -> Vec<Part> {
+            rows.iter()
+                .map(|row| structure(form, names, row.clone()))
+                .collect()
+        };
+        for (form_name, form) in forms {
+            self.reads(&format!("{name}, {form_name}"), call, &made(form));
+        }
+    }
+}
+
+fn spelled(items: &[Part]) -> Vec<u8> {
+    let mut out = Vec::new();
+    head(
+        &mut out,
+        items.len(),
+        Some((0x90, 15)),
+        [None, Some(0xdc), Some(0xdd)],
+    );
+    items.iter().for_each(|item| spell(&mut out, item));
+    out
+}
+
+/// So many elements.
+fn many(count: usize, random: &mut Random, make: impl Fn(&mut Random) -> Part) -> Vec<Part> {
+    (0..count).map(|_| make(random)).collect()
+}
+
+const COUNT: usize = 200;
+
+fn loads() -> Vec<Load<Calls>> {
+    let mut made = Made { loads: Vec::new() };
+    let mut random = Random::new();
+    structs(&mut made, &mut random);
+    variants(&mut made, &mut random);
+    leaves(&mut made, &mut random);
+    parts(&mut made, &mut random);
+    made.loads
+}
+
+fn structs(made: &mut Made, random: &mut Random) {
+    let rows = |random: &mut Random, make: fn(&mut Random) -> Vec<Part>| {
+        (0..COUNT).map(|_| make(random)).collect()
+    };
+    made.structs("two fields", "two", TWO, rows(random, two));
+    made.structs("five fields", "five", FIVE, rows(random, five));
+    made.structs(
+        "eight fields",
+        "eight",
+        EIGHT,
+        rows(random, |r| numbers(r, 8)),
+    );
+    made.structs(
+        "twelve fields",
+        "twelve",
+        TWELVE,
+        rows(random, |r| numbers(r, 12)),
+    );
+}
+
+fn variants(made: &mut Made, random: &mut Random) {
+    let fields = |r: &mut Random| Part::List(numbers(r, 2));
+    let named = |r: &mut Random| structure(Form::Map, &["a", "b"], numbers(r, 2));
+    let of = |name: &str, content: Part| Part::Map(vec![(text(name), content)]);
+    made.reads(
+        "variant without content",
+        "shape",
+        &many(COUNT, random, |_| text("Empty")),
+    );
+    made.reads(
+        "newtype variant",
+        "shape",
+        &many(COUNT, random, |r| of("New", mixed(r))),
+    );
+    made.reads(
+        "tuple variant",
+        "shape",
+        &many(COUNT, random, |r| of("Tup", fields(r))),
+    );
+    let lists = many(COUNT, random, |r| of("Str", fields(r)));
+    made.reads("struct variant, list", "shape", &lists);
+    made.reads(
+        "struct variant, map",
+        "shape",
+        &many(COUNT, random, |r| of("Str", named(r))),
+    );
+    made.reads(
+        "option",
+        "option",
+        &many(COUNT, random, |r| {
+            if r.below(2) == 0 { Part::Nil } else { mixed(r) }
+        }),
+    );
+}
+
+fn leaves(made: &mut Made, random: &mut Random) {
+    for (len, count) in [(100, 100), (10_000, 4)] {
+        let items = vec![Part::Bytes(vec![7; len]); count];
+        let name = format!("bytes of {len} as a vector");
+        made.reads(&name, "bytes", &items);
+        made.reads(&format!("bytes of {len} as a queue"), "queue", &items);
+        made.reads(&format!("bytes of {len}"), "buffer", &items);
+    }
+    let rows = many(500, random, |r| {
+        Part::List(many(10, r, |r| Part::Number(r.below(128))))
+    });
+    made.reads(
+        "lists of ten small numbers as vectors of bytes",
+        "bytes",
+        &rows,
+    );
+    for len in [5, 200] {
+        let items = vec![text(&"x".repeat(len)); COUNT];
+        made.reads(&format!("texts of {len}"), "text", &items);
+        made.reads(&format!("lent texts of {len}"), "str", &items);
+    }
+    made.reads("characters of one byte", "char", &vec![text("x"); COUNT]);
+    made.reads("characters of three bytes", "char", &vec![text("€"); COUNT]);
+    let signed = many(COUNT, random, |r| match r.below(2) {
+        0 => Part::Number(number_of_width(r.below(4), r.next())),
+        _ => Part::Negative(!(number_of_width(r.below(4), r.next()) as i64)),
+    });
+    made.reads("numbers with a sign", "i64", &signed);
+    made.reads(
+        "floats",
+        "f64",
+        &many(COUNT, random, |r| Part::Float(r.below(1000) as f64)),
+    );
+    made.reads(
+        "truths",
+        "bool",
+        &many(COUNT, random, |r| Part::Truth(r.below(2) == 0)),
+    );
+    made.reads(
+        "numbers of 128 bits",
+        "u128",
+        &many(COUNT, random, |r| Part::Wide(u128::from(r.next()) << 64)),
+    );
+}
+
+fn parts(made: &mut Made, random: &mut Random) {
+    let map = |r: &mut Random| Part::Map((0..10).map(|n| (Part::Number(n), mixed(r))).collect());
+    made.reads("maps of ten numbers", "map", &many(200, random, map));
+    let named = |r: &mut Random| {
+        Part::Map(
+            (0..10)
+                .map(|n| (text(&format!("key {n}")), mixed(r)))
+                .collect(),
+        )
+    };
+    made.reads(
+        "maps from ten texts",
+        "named_map",
+        &many(200, random, named),
+    );
+    let trees = many(200, random, tree);
+    made.skips("skip, trees", &trees);
+    let signed = many(COUNT, random, |r| {
+        Part::Negative(-1 - r.below(1 << 20) as i64)
+    });
+    made.skips("skip, numbers below zero", &signed);
+    let texts = vec![text("some words"); COUNT];
+    made.called(
+        "numbers from a cursor",
+        "bench_cursor_numbers",
+        &numbers(random, COUNT),
+    );
+    made.called("texts from a cursor", "bench_cursor_texts", &texts);
+    made.called(
+        "numbers from a buffer",
+        "bench_buffered_numbers",
+        &numbers(random, COUNT),
+    );
+    made.called("texts from a buffer", "bench_buffered_texts", &texts);
+}
+
+pub fn main(calls: &Calls) {
+    measure::main(&loads(), RUNS, calls);
+}

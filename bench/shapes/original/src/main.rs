@@ -1,0 +1,157 @@
+//! Measures the same loads over the original, the crate rmp-serde, written as crates/bench_shapes is.
+
+use rmp_serde::from_slice;
+use serde::Deserialize;
+use serde::de::IgnoredAny;
+use serde_bytes::ByteBuf;
+use std::collections::{BTreeMap, VecDeque};
+use std::io::{BufReader, Cursor};
+
+#[path = "../../loads.rs"]
+mod loads;
+
+#[derive(Deserialize)]
+#[expect(dead_code)]
+struct Two {
+    id: u32,
+    on: bool,
+}
+
+#[derive(Deserialize)]
+#[expect(dead_code)]
+struct Five {
+    id: u32,
+    name: String,
+    age: u8,
+    score: i64,
+    note: Option<u16>,
+}
+
+#[derive(Deserialize)]
+#[expect(dead_code)]
+struct EightFields {
+    alpha: u32,
+    beta: u32,
+    gamma: u32,
+    delta: u32,
+    epsilon: u32,
+    zeta: u32,
+    eta: u32,
+    theta: u32,
+}
+
+#[derive(Deserialize)]
+#[expect(dead_code)]
+struct Twelve {
+    january: u32,
+    february: u32,
+    march: u32,
+    april: u32,
+    may: u32,
+    june: u32,
+    july: u32,
+    august: u32,
+    september: u32,
+    october: u32,
+    november: u32,
+    december: u32,
+}
+
+#[derive(Deserialize)]
+#[expect(dead_code)]
+enum Shape {
+    Empty,
+    New(u32),
+    Tup(u32, u32),
+    Str { a: u32, b: u32 },
+}
+
+macro_rules! of_types {
+    ($($name:literal $kind:ty),* $(,)?) => {
+        vec![$((concat!("bench_read_", $name), reads::<$kind> as loads::OfBytes)),*]
+    };
+}
+
+fn main() {
+    let mut calls = of_types![
+        "two" Two,
+        "five" Five,
+        "eight" EightFields,
+        "twelve" Twelve,
+        "shape" Shape,
+        "option" Option<u32>,
+        "bytes" Vec<u8>,
+        "queue" VecDeque<u8>,
+        "buffer" ByteBuf,
+        "text" String,
+        "char" char,
+        "i64" i64,
+        "f64" f64,
+        "bool" bool,
+        "map" BTreeMap<u32, u32>,
+        "named_map" BTreeMap<String, u32>,
+        "u128" u128,
+    ];
+    calls.push(("bench_read_str", read_str));
+    calls.push(("bench_skip", skip));
+    calls.push(("bench_cursor_numbers", cursor_reads::<u32>));
+    calls.push(("bench_cursor_texts", cursor_reads::<String>));
+    calls.push(("bench_buffered_numbers", buffered_reads::<u32>));
+    calls.push(("bench_buffered_texts", buffered_reads::<String>));
+    loads::main(&loads::Calls(calls));
+}
+
+#[inline(never)]
+fn reads<T: for<'de> Deserialize<'de>>(data: &[u8], reps: u32) -> usize {
+    let mut sum: usize = 0;
+    for _ in 0..reps {
+        if let Ok(items) = from_slice::<Vec<T>>(data) {
+            sum = sum.wrapping_add(items.len());
+        }
+    }
+    sum
+}
+
+#[inline(never)]
+fn read_str(data: &[u8], reps: u32) -> usize {
+    let mut sum: usize = 0;
+    for _ in 0..reps {
+        if let Ok(items) = from_slice::<Vec<&str>>(data) {
+            sum = sum.wrapping_add(items.len());
+        }
+    }
+    sum
+}
+
+#[inline(never)]
+fn skip(data: &[u8], reps: u32) -> usize {
+    let mut sum: usize = 0;
+    for _ in 0..reps {
+        if from_slice::<IgnoredAny>(data).is_ok() {
+            sum = sum.wrapping_add(1);
+        }
+    }
+    sum
+}
+
+#[inline(never)]
+fn cursor_reads<T: for<'de> Deserialize<'de>>(data: &[u8], reps: u32) -> usize {
+    let mut sum: usize = 0;
+    for _ in 0..reps {
+        if let Ok(items) = rmp_serde::from_read::<_, Vec<T>>(Cursor::new(data)) {
+            sum = sum.wrapping_add(items.len());
+        }
+    }
+    sum
+}
+
+#[inline(never)]
+fn buffered_reads<T: for<'de> Deserialize<'de>>(data: &[u8], reps: u32) -> usize {
+    let mut sum: usize = 0;
+    for _ in 0..reps {
+        if let Ok(items) = rmp_serde::from_read::<_, Vec<T>>(BufReader::new(Cursor::new(data))) {
+            sum = sum.wrapping_add(items.len());
+        }
+    }
+    sum
+}

@@ -1,0 +1,47 @@
+//! Measures the proved code: the exports of crates/bench_shapes.
+
+#[path = "../loads.rs"]
+mod loads;
+
+macro_rules! exports {
+    ($($name:ident)*) => {
+        unsafe extern "C" {
+            $(fn $name(data: *const u8, count: usize, reps: u32) -> usize;)*
+        }
+
+        fn calls() -> Vec<(&'static str, loads::OfBytes)> {
+            // SAFETY: each export reads a slice, which it is given as a pointer and a length, and keeps nothing of it.
+            vec![$((stringify!($name), |d, reps| unsafe { $name(d.as_ptr(), d.len(), reps) })),*]
+        }
+    };
+}
+
+exports! {
+    bench_buffered_numbers
+    bench_buffered_texts
+    bench_cursor_numbers
+    bench_cursor_texts
+    bench_read_bool
+    bench_read_buffer
+    bench_read_bytes
+    bench_read_char
+    bench_read_eight
+    bench_read_f64
+    bench_read_five
+    bench_read_i64
+    bench_read_map
+    bench_read_named_map
+    bench_read_option
+    bench_read_queue
+    bench_read_shape
+    bench_read_str
+    bench_read_text
+    bench_read_twelve
+    bench_read_two
+    bench_read_u128
+    bench_skip
+}
+
+fn main() {
+    loads::main(&loads::Calls(calls()));
+}

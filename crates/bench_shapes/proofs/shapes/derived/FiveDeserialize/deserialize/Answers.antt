@@ -1,0 +1,11 @@
+use Rattle.rmp_decode.proofs.Laws.{lawful_ok, lawful_err}
+use Rattle.std.proofs.Common.{rules}
+use Rattle.std.proofs.lemmas.Int.{to_z-of_z}
+use Rattle.std.specs.Int.{w64}
+use Rattle.bench_shapes.proofs.shapes.derived.FiveDeserialize.deserialize.Goals as goal
+
+pub returns-in-Ok-clause-law : goal.returns-in-Ok-clause-law
+returns-in-Ok-clause-law g c = rw (to_z-of_z w64 c.in-Ok.parts.1.1.1.0 (search rules)) (lawful_ok _ _ _ _ _ _ _ (λ m r. r) c.in-Ok.ensures.law)
+
+pub returns-in-Err-clause-law : goal.returns-in-Err-clause-law
+returns-in-Err-clause-law g c = lawful_err _ _ _ _ _ _ (λ m r. ((r.0.id, (r.0.name, (r.0.age, (r.0.score, (r.0.note, tt))))), r.1)) c.in-Err.ensures.law
