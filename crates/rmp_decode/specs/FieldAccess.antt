@@ -1,5 +1,5 @@
 -- What an access to the fields of a struct does to the `Deserializer` that it borrows.
-use Rattle.std.specs.Prelude.{◌≡◌, ◌≢◌, ◌⊎◌, ℕ, zero, suc, ◌+◌, ◌-◌, ◌<◌, ◌≤◌, max, Bool, true, false, List, length, Some, None}
+use Rattle.std.specs.Prelude.{◌≡◌, ◌≢◌, ◌⊎◌, ℕ, zero, suc, ◌+◌, ◌-◌, ◌<◌, ◌≤◌, max, Bool, true, false, List, length, Result, Ok, Err, Option, Some, None}
 use Rattle.std.specs.Int.{bit_at}
 use Rattle.rmp_wire.specs.declared.source.Source.{Ghosts}
 use Rattle.rmp_wire.specs.Msg.{Msg}
@@ -15,7 +15,7 @@ use Rattle.rmp_decode.specs.Seq.{Opens, TakesElement, FailsToTake}
 use Rattle.rmp_decode.specs.Skip.{any_tree}
 use Rattle.rmp_decode.specs.State.{left, Stays}
 use Rattle.rmp_decode.specs.Variants.{RefusesContentOf, ContentRefusedBy}
-use Rattle.rmp_decode.specs.With.{part_reader}
+use Rattle.rmp_decode.specs.With.{part_reader, Reading, CanRead, PartRead, PartMissing, ValueRead}
 use Rattle.rmp_decode.specs.declared.access.variant.Variant.{Variant}
 use Rattle.rmp_decode.specs.declared.deserializer.Deserializer.{Deserializer}
 use Rattle.rmp_decode.specs.declared.deserializer.Kept.TheVariants.{Nothing}
@@ -258,3 +258,25 @@ ValueRefusedAs false g human lends P old new e = ElementRefused g human lends P 
 -- which error it is
 abbrev pub ValueRefused : {R C : Type 0} → Ghosts R → Bool → Bool → (Setting → Refusals) → FieldAccess R C → FieldAccess R C → Error → Type 0
 ValueRefused g human lends P old new e = ValueRefusedAs old.is_map g human lends P old new e
+
+-- ---- the value of a field, by a function
+
+-- f may be called on the value of the field whose place was answered
+abbrev pub CanReadField : {F R C X : Type 0} → Ghosts R → Reading F R C X → F → FieldAccess R C → Type 0
+CanReadField g once f a = CanRead g once f (as_seq a)
+
+-- an answer, as that of an element that was there
+abbrev pub as_element : {X : Type 0} → Result X Error → Result (Option X) Error
+as_element (Ok x) = Ok (Some x)
+as_element (Err e) = Err e
+
+-- of a map it was offered to f as a value, and of a list as an element, unless the bytes ended before it
+abbrev pub FieldReadAs : {F R C X : Type 0} → Bool → Ghosts R → Reading F R C X → F → FieldAccess R C → FieldAccess R C → Result X Error → Type 0
+FieldReadAs true g once f old new result = ValueRead once f (as_map old) (as_map new) result
+FieldReadAs false g once f old new result = PartRead g once f (as_seq old) (as_seq new) (as_element result)
+    ⊎ PartMissing g (as_seq old) (as_seq new) (as_element result)
+
+-- the value of the field whose place was answered was offered to f
+pub record FieldRead {F R C X : Type 0} (g : Ghosts R) (once : Reading F R C X) (f : F) (old new : FieldAccess R C) (result : Result X Error) : Type 0 where
+  pub by : FieldReadAs old.is_map g once f old new result
+  pub met : new.met ≡ old.met

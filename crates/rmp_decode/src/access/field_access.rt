@@ -19,6 +19,8 @@ ghost use Rattle.rmp_decode.specs.State.{left, config_of, faults_of, is_failed, 
 ghost use Rattle.rmp_decode.specs.declared.deserializer.Kept.TheVariants.{Nothing};
 ghost use Rattle.rmp_decode.specs.Parts.{FailsPart};
 
+mod with;
+
 use crate::access::fields::Passed;
 use crate::access::seq::inner_room;
 use crate::access::variant::Variant;
