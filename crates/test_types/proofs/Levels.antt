@@ -1,8 +1,8 @@
 -- What types that lead back to themselves are written as, by what their parts are.
-use Rattle.std.proofs.Common.{◌≡◌, ◌∙◌, ap, map, List, [], ◌∷◌, Option, None, Some}
+use Rattle.std.proofs.Common.{◌≡◌, ◌∙◌, ap, map, [], ◌∷◌, Option, None}
 use Rattle.std.specs.Prelude.{codes}
 use Rattle.rmp_encode.specs.Data.{Data}
-use Rattle.rmp_encode.specs.Trees.{byte_of, slice_of, structure_of, newtype_variant_of}
+use Rattle.rmp_encode.specs.Trees.{byte_of, slice_of, structure_of}
 use Rattle.rmp_encode.proofs.Packing.{slice_no_byte}
 use Rattle.rmp_encode.proofs.Fields.{structure_no_byte}
 use Rattle.rmp_encode.proofs.Variants.{newtype_no_byte}
@@ -10,7 +10,7 @@ use Rattle.test_types.specs.declared.recursive.Nested.{Nested, out-Nested}
 use Rattle.test_types.specs.declared.recursive.Nested.TheFolds.{fold_out-Nested}
 use Rattle.test_types.specs.declared.recursive.Rose.{Rose, out-Rose}
 use Rattle.test_types.specs.declared.recursive.Rose.TheFolds.{fold_out-Rose}
-use Rattle.test_types.specs.declared.recursive.Tree.{Tree, out-Tree}
+use Rattle.test_types.specs.declared.recursive.Tree.{Tree}
 use Rattle.test_types.specs.declared.recursive.Tree.TheFolds.{fold_out-Tree}
 use Rattle.test_types.specs.declared.recursive.Tree.TheOpen.{Tree-F}
 use Rattle.test_types.specs.Recursive.{nested_level, nested_data, tree_level, tree_data, rose_level, rose_data}

@@ -1,46 +1,5 @@
 -- Types that lead back to themselves: what they are read from, in how many steps.
-use Rattle.std.proofs.Common.{
-  ◌≡◌,
-  ◌∙◌,
-  refl,
-  sym,
-  ap,
-  subst,
-  arith,
-  ℕ,
-  zero,
-  suc,
-  ◌+◌,
-  ◌<◌,
-  ◌≤◌,
-  ◌⊎◌,
-  inl,
-  inr,
-  true,
-  false,
-  Bool,
-  nat_lt,
-  cond,
-  max,
-  pos,
-  ◌*◌,
-  ◌++◌,
-  append-nil,
-  List,
-  [],
-  ◌∷◌,
-  Option,
-  None,
-  Some,
-  MatchOption,
-  Result,
-  Ok,
-  Err,
-  MatchResult,
-  MutBor,
-  Vec,
-  Global,
-}
+use Rattle.std.proofs.Common.{◌≡◌, ◌∙◌, refl, ap, subst, arith, ℕ, zero, suc, ◌+◌, ◌<◌, ◌≤◌, ◌⊎◌, inl, inr, true, false, Bool, nat_lt, max, pos, ◌*◌, ◌++◌, append-nil, List, [], ◌∷◌, Option, None, Some, MatchOption, Result, Ok, Err, MatchResult, MutBor, Vec, Global}
 use Rattle.std.specs.Fn.{FnOnceReturnsAtMut}
 use Rattle.rmp_wire.specs.declared.source.Source.{Ghosts}
 use Rattle.rmp_wire.specs.Msg.{Msg, nil, truth, whole, float32, float64, text, bin, list, map, extension, Msgs, no_items, item}
@@ -50,11 +9,10 @@ use Rattle.rmp_wire.specs.Heads.{canon_head}
 use Rattle.rmp_wire.proofs.Strict.{canon_in, heads_apart_as}
 use Rattle.rmp_decode.specs.Law.{Lawful, Readable, GoesOn}
 use Rattle.rmp_decode.specs.State.{kept_bytes, room_of}
-use Rattle.rmp_decode.specs.Read.{IsUnsigned}
 use Rattle.rmp_decode.specs.Rows.{ReadsEach}
-use Rattle.rmp_decode.specs.Seq.{OfRow, numbers, levels, IsOpen, Opens, FailsToOpen, TakesElement, FailsToTake, Run, seq_head}
+use Rattle.rmp_decode.specs.Seq.{numbers, levels, IsOpen, Opens, FailsToOpen, TakesElement, FailsToTake, Run, seq_head}
 use Rattle.rmp_decode.specs.Variants.{OfVariant, variant_of, IsAt, Content, OpensVariant, TakesNameOf}
-use Rattle.rmp_decode.specs.With.{Reading, Lends, OffersPart, part_reader, PartRead, PartMissing, SameList}
+use Rattle.rmp_decode.specs.With.{Reading, Lends, OffersPart, PartRead, PartMissing, SameList}
 use Rattle.rmp_decode.specs.declared.access.variant.Variant.{Variant}
 use Rattle.rmp_decode.specs.declared.deserializer.Deserializer.{Deserializer}
 use Rattle.rmp_decode.specs.declared.access.seq.SeqAccess.{SeqAccess}
@@ -62,15 +20,15 @@ use Rattle.rmp_decode.specs.declared.deserializer.Kept.{Kept}
 use Rattle.rmp_decode.specs.declared.deserializer.Kept.TheVariants.{Nothing, First, Number}
 use Rattle.rmp_decode.specs.declared.error.Error.{Error}
 use Rattle.rmp_decode.specs.declared.error.Error.TheVariants.{OutOfMemory}
-use Rattle.rmp_decode.proofs.Laws.{lawful_ok, lawful_err}
+use Rattle.rmp_decode.proofs.Laws.{lawful_ok}
 use Rattle.rmp_decode.proofs.HeadTaken.{fits_byte}
 use Rattle.rmp_decode.proofs.Seqs.{Values, each_next, seq_unopened, seq_take, seq_done, seq_unkept}
 use Rattle.rmp_decode.proofs.Variants.{variant_ok}
 use Rattle.rmp_decode.proofs.Withs.{with_taken, with_refused}
 use Rattle.test_types.specs.declared.recursive.Nested.{Nested, out-Nested}
-use Rattle.test_types.specs.declared.recursive.Tree.{Tree, out-Tree, out-roll-Tree}
+use Rattle.test_types.specs.declared.recursive.Tree.{Tree, out-Tree}
 use Rattle.test_types.specs.declared.recursive.Tree.TheOpen.{Tree-F}
-use Rattle.test_types.specs.Recursive.{Row, InSteps, NestedBy, NestedIn, IsNested, tree_names, TreeCase, TreeIn, IsTree}
+use Rattle.test_types.specs.Recursive.{Row, InSteps, NestedIn, IsNested, tree_names, TreeCase, TreeIn, IsTree}
 
 each_as : {V : Type 0} (P Q : Msg → V → Type 0) → ((m : Msg) (v : V) → P m v → Q m v) → (ms : Msgs) (vs : List V) → ReadsEach P ms vs → ReadsEach Q ms vs
 each_as P Q f no_items [] h = tt

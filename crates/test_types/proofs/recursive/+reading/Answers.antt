@@ -1,4 +1,4 @@
-use Rattle.std.proofs.Common.{◌≡◌, max, ◌*◌, Ok, Err, ◌∙◌, ap, subst, sym, refl, Vec, Global, rules, arith, false, ◌<◌, ◌∷◌, [], ◌++◌, List}
+use Rattle.std.proofs.Common.{◌≡◌, max, ◌∙◌, ap, subst, sym, refl, Vec, Global, rules, arith, false}
 use Rattle.std.proofs.lemmas.Result.{err_from_is_err_and}
 use Rattle.rmp_decode.specs.Seq.{IsOpen}
 use Rattle.rmp_decode.proofs.Laws.{lawful_ok, lawful_err}

@@ -1,53 +1,12 @@
-use Rattle.std.proofs.Common.{
-  ◌≡◌,
-  ◌∙◌,
-  ap,
-  sym,
-  subst,
-  inl,
-  inr,
-  ◌⊎◌,
-  Bool,
-  true,
-  false,
-  refl,
-  rules,
-  arith,
-  ◌<◌,
-  length,
-  [],
-  ◌∷◌,
-  ℕ,
-  List,
-  Option,
-  None,
-  Some,
-  codes,
-}
+use Rattle.std.proofs.Common.{◌≡◌, ◌∙◌, ap, sym, subst, inl, inr, ◌⊎◌, false, refl, rules, arith, ◌<◌, length, [], ◌∷◌, ℕ, List, Option, None, Some, codes}
 use Rattle.std.specs.String.{string_bytes}
 use Rattle.rmp_wire.specs.Msg.{Msg}
-use Rattle.rmp_decode.specs.FieldAccess.{IsStructOpen, TakesPlace, unsound}
+use Rattle.rmp_decode.specs.FieldAccess.{IsStructOpen, TakesPlace}
 use Rattle.rmp_decode.specs.Fields.{Field, Absent, NoField, at, given_all}
 use Rattle.rmp_decode.specs.Names.{bytes_of}
 use Rattle.rmp_decode.specs.Read.{IsRaw, IsUnsigned}
 use Rattle.rmp_decode.proofs.Seqs.{via}
-use Rattle.rmp_decode.proofs.StructRuns.{
-  StructMet,
-  struct_start,
-  struct_step,
-  struct_place,
-  struct_value,
-  struct_met,
-  struct_missing,
-  struct_over,
-  struct_done,
-  slot_first,
-  slot_later,
-  slot_field,
-  slot_gap,
-  slot_gap_later,
-  slot_lacks,
-}
+use Rattle.rmp_decode.proofs.StructRuns.{struct_start, struct_step, struct_place, struct_value, struct_met, struct_missing, struct_over, struct_done, slot_first, slot_later, slot_field, slot_gap, slot_gap_later, slot_lacks}
 use Rattle.rmp_decode.proofs.Structs.{fields_unopened}
 use Rattle.test_reads.specs.declared.by_hand.Pup.{Pup}
 use Rattle.test_reads.specs.declared.samples.Weight.{Weight}
