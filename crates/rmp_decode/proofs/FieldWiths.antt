@@ -5,8 +5,8 @@ use Rattle.std.specs.Io.KnownBytes.{IsAtEnd}
 use Rattle.rmp_wire.specs.declared.source.Source.{Ghosts}
 use Rattle.rmp_wire.specs.Msg.{Msg}
 use Rattle.rmp_decode.specs.Exact.{IsDataEnd}
-use Rattle.rmp_decode.specs.FieldAccess.{begun, IsStructOpen, SameStruct, as_map, as_seq, as_element, FieldRead, FieldReadAs, TakesField, TakesFieldAs,
-    FailsField, FailsFieldAs, ValueRefused, ValueRefusedAs}
+use Rattle.rmp_decode.specs.FieldAccess.{begun, IsStructOpen, SameStruct, as_map, as_seq, as_element, FieldRead, FieldReadAs}
+use Rattle.rmp_decode.specs.FieldAccess.{TakesField, TakesFieldAs, FailsField, FailsFieldAs, ValueRefused, ValueRefusedAs}
 use Rattle.rmp_decode.specs.Law.{Explains, Lawful}
 use Rattle.rmp_decode.specs.Maps.{TakesValue}
 use Rattle.rmp_decode.specs.Names.{bytes_of}

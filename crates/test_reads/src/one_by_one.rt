@@ -1,5 +1,19 @@
 use crate::by_hand::Pup;
 use rmp_decode::{Deserializer, Error, Text, from_slice, from_slice_strict};
+use rmp_wire::config::SerializerConfig;
+use rmp_wire::{Marker, Source};
+
+fn small<R: Source, C: SerializerConfig>(de: &mut Deserializer<R, C>) -> Result<u8, Error> {
+    de.deserialize_u8()
+}
+
+// Answers whatever stands there, and leaves its reader failed where that is no truth.
+fn swallowed<R: Source, C: SerializerConfig>(de: &mut Deserializer<R, C>) -> Result<u8, Error> {
+    match de.deserialize_bool() {
+        Ok(_) => Ok(1),
+        Err(_) => Ok(0),
+    }
+}
 
 fn is(read: &Result<Pup, Error>, name: &str, grams: u32) -> bool {
     match read {
@@ -148,6 +162,60 @@ fn as_the_content_of_a_variant(rt: HostRuntime) {
             Ok(_) => assert!(rt; false),
             Err(e) => assert!(rt; matches!(e, Error::Syntax(Text::InvalidType))),
         },
+        Err(_) => assert!(rt; false),
+    }
+}
+
+#[test]
+fn values_by_a_function(rt: HostRuntime) {
+    for input in [
+        b"\x91\xcc\xc8\x07".as_slice(),
+        b"\xc4\x01\xc8\x07",
+        b"\x81\xa1x\xcc\xc8\x07",
+    ] {
+        let mut de = Deserializer::from_read_ref(rt.alloc(), input);
+        match de.deserialize_struct("One", &["x"]) {
+            Ok(mut fields) => {
+                assert!(rt; matches!(fields.next_field(), Ok(Some(0))));
+                assert!(rt; matches!(&fields.next_value_with(small), Ok(200)));
+                assert!(rt; !fields.owes_value());
+                assert!(rt; fields.end().is_ok());
+            }
+            Err(_) => assert!(rt; false),
+        }
+        assert!(rt; matches!(de.deserialize_u8(), Ok(7)));
+    }
+}
+
+#[test]
+fn failures_of_the_function(rt: HostRuntime) {
+    let mut de = Deserializer::from_read_ref(rt.alloc(), b"\x92\xa0\x01");
+    match de.deserialize_struct("One", &["x"]) {
+        Ok(mut fields) => {
+            assert!(rt; matches!(fields.next_field(), Ok(Some(0))));
+            let value = fields.next_value_with(small);
+            assert!(rt; matches!(&value, Err(Error::TypeMismatch(Marker::FixStr(0)))));
+            let next = fields.next_value_with(small);
+            assert!(rt; matches!(&next, Err(Error::Uncategorized(Text::FailedBefore))));
+        }
+        Err(_) => assert!(rt; false),
+    }
+    let mut de = Deserializer::from_read_ref(rt.alloc(), b"\x81\xa1x\x01");
+    match de.deserialize_struct("One", &["x"]) {
+        Ok(mut fields) => {
+            assert!(rt; matches!(fields.next_field(), Ok(Some(0))));
+            let value = fields.next_value_with(swallowed);
+            assert!(rt; matches!(&value, Err(Error::Uncategorized(Text::FailedBefore))));
+        }
+        Err(_) => assert!(rt; false),
+    }
+    let mut de = Deserializer::from_read_ref(rt.alloc(), b"\xc4\x01");
+    match de.deserialize_struct("One", &["x"]) {
+        Ok(mut fields) => {
+            assert!(rt; matches!(fields.next_field(), Ok(Some(0))));
+            let value = fields.next_value_with(small);
+            assert!(rt; matches!(&value, Err(Error::InvalidDataRead(_))));
+        }
         Err(_) => assert!(rt; false),
     }
 }
