@@ -5,6 +5,7 @@ use Rattle.std.proofs.Common.{
   ◌⊎◌,
   ◌∙◌,
   ◌<◌,
+  ◌≤◌,
   max,
   sym,
   ap,
@@ -18,6 +19,8 @@ use Rattle.std.proofs.Common.{
   [],
   ◌∷◌,
   ◌++◌,
+  length,
+  get_or,
   append_assoc,
   append-nil,
   Option,
@@ -39,6 +42,7 @@ use Rattle.rmp_wire.specs.declared.error.IoFault.{IoFault}
 use Rattle.rmp_wire.specs.declared.marker.Marker.{Marker}
 use Rattle.rmp_wire.specs.Faults.{fault_kind}
 use Rattle.rmp_wire.specs.Reading.{FailsMarker, TakesMarker}
+use Rattle.rmp_wire.specs.Sources.{IsFront, Skips}
 use Rattle.rmp_wire.specs.Spelling.{head_of}
 use Rattle.rmp_wire.specs.Taking.{byte_of}
 use Rattle.rmp_wire.proofs.Markers.{byte_of-marker_of}
@@ -46,7 +50,7 @@ use Rattle.rmp_decode.specs.Exact.{IsMarkerEnd}
 use Rattle.rmp_decode.specs.declared.deserializer.Kept.{Kept}
 use Rattle.rmp_decode.specs.declared.deserializer.Kept.TheVariants.{Nothing, First, Number}
 use Rattle.rmp_decode.specs.declared.error.Error.TheVariants.{InvalidMarkerRead}
-use Rattle.rmp_decode.proofs.ContentErrors.{head_byte}
+use Rattle.rmp_decode.proofs.ContentErrors.{head_byte, same_front}
 use Rattle.rmp_decode.proofs.Contents.{bare}
 use Rattle.rmp_decode.proofs.HeadTaken.{kept_first}
 use Rattle.rmp_wire.specs.declared.head.Head.TheVariants.{Nil, Whole}
@@ -56,7 +60,7 @@ use Rattle.rmp_wire.specs.Heads.{IsHead, canon_head, fits_head}
 use Rattle.rmp_wire.specs.Msg.{Msg, nil, depth}
 use Rattle.rmp_wire.proofs.Strict.{any_width, canon_in}
 use Rattle.rmp_decode.specs.Law.{Begins, GoesOn, Lawful, NoMessage, Readable, Refuses}
-use Rattle.rmp_decode.specs.Options.{BeginsOther, FailsToSee, IsNil, IsOption, SeesOther}
+use Rattle.rmp_decode.specs.Options.{BeginsOther, FailsToSee, IsNil, IsOption, SeesOther, ToldOther}
 use Rattle.rmp_decode.specs.State.{faults_of, kept_bytes, left, room_of, Stays}
 use Rattle.rmp_decode.specs.declared.deserializer.Deserializer.{Deserializer}
 use Rattle.rmp_decode.specs.declared.error.Error.{Error}
@@ -83,6 +87,25 @@ unfolding Refuses
 none_nil s kept None room P b r = tt
 none_nil s kept (Some xs) room P b r = λ a. elim a.holds [
   | inl n ↦ other_byte s kept a.bytes [] xs a.rest a.tree b (sym a.front ∙ ap (λ z. z ++ xs) (sym (append-nil kept))) a.spelled n
+  | inr p ↦ r (record { bytes = a.bytes; rest = a.rest; tree = a.tree; front = a.front; spelled = a.spelled; fits = a.fits; holds = p })
+]
+
+-- the same where the bytes are told
+told_byte : (s : Bool) (xs bytes rest : List ℕ) (tree : Msg) → BeginsOther xs → xs ≡ bytes ++ rest → SpellsAs s bytes tree → tree ≢ nil
+told_byte s xs bytes rest tree b e i = other_byte s xs bytes [] [] rest tree b (sym e ∙ sym (append-nil xs) ∙ sym (append-nil (xs ++ []))) i
+
+told_tree : (s : Bool) (known k : Option (List ℕ)) (bytes : List ℕ) (tree : Msg) → ToldOther known → Consumes known k bytes → SpellsAs s bytes tree
+    → tree ≢ nil
+told_tree s None k bytes tree b c i = absurd b
+told_tree s (Some xs) None bytes tree b c i = absurd c
+told_tree s (Some xs) (Some ys) bytes tree b c i = told_byte s xs bytes ys tree b c i
+
+told_none_nil : (s : Bool) (known : Option (List ℕ)) (room : ℕ) (P : Msg → Type 0) → ToldOther known → Refuses (SpellsAs s) P room known
+    → Refuses (SpellsAs s) (λ m. (m ≡ nil) ⊎ P m) room known
+unfolding Refuses
+told_none_nil s None room P b r = absurd b
+told_none_nil s (Some xs) room P b r = λ a. elim a.holds [
+  | inl n ↦ told_byte s xs a.bytes a.rest a.tree b a.front a.spelled n
   | inr p ↦ r (record { bytes = a.bytes; rest = a.rest; tree = a.tree; front = a.front; spelled = a.spelled; fits = a.fits; holds = p })
 ]
 
@@ -154,6 +177,22 @@ kept_byte n (Some x) (Some y) c = sym c
 marker_byte : (m : Marker) (n : ℕ) (a b : Option (List ℕ)) → TakesMarker m a b → n ≡ byte_of m → Consumes a b (n ∷ [])
 marker_byte m n a b t e = subst (λ k. Consumes a b (k ∷ [])) (sym (e ∙ ap byte_of t.is_marker ∙ byte_of-marker_of t.byte t.is_byte)) t.taken
 
+-- the byte that stands at the front is the one that was taken, or that is told
+front_byte : (b : ℕ) (front : List ℕ) (known k : Option (List ℕ)) → IsFront front known → 1 ≤ length front → b ≡ get_or front 0 0 → Skips 1 known k
+    → Consumes known k (b ∷ [])
+front_byte b front None k f l e c = tt
+front_byte b front (Some xs) None f l e c = absurd c.taken
+front_byte b [] (Some xs) (Some ys) f l e c = absurd (omega arith)
+front_byte b (x ∷ front) (Some xs) (Some ys) f l e c =
+    let same : c.bytes ≡ b ∷ [] = same_front c.bytes (b ∷ []) ys (front ++ f.0) (c.long ∙ refl) (sym c.taken ∙ f.1 ∙ ap (λ t. t ∷ (front ++ f.0)) (sym e)) in
+    subst (λ t. xs ≡ t ++ ys) same c.taken
+
+front_told : (b : ℕ) (front : List ℕ) (known : Option (List ℕ)) → IsFront front known → 1 ≤ length front → b ≡ get_or front 0 0 → b ≢ 0xc0 → known ≢ None
+    → ToldOther known
+front_told b front None f l e n t = absurd (t refl)
+front_told b [] (Some xs) f l e n t = absurd (omega arith)
+front_told b (x ∷ front) (Some xs) f l e n t = record { byte = b; behind = front ++ f.0; is = f.1 ∙ ap (λ t. t ∷ (front ++ f.0)) (sym e); other = n }
+
 module _ {R C : Type 0} (g : Ghosts R) (old new : Deserializer R C) (fresh : old.failed ≡ false) (ready : new.failed ≡ false) (stays : Stays g old new)
     (sound : faults_of g new ≡ faults_of g old) where
   nil_taken : new.kept ≡ Nothing → Consumes (left g old) (left g new) (0xc0 ∷ []) → GoesOn (kept_bytes old.kept) (0xc0 ∷ []) → Lawful g IsNil old new (Ok tt)
@@ -176,6 +215,12 @@ module _ {R C : Type 0} (g : Ghosts R) (old new : Deserializer R C) (fresh : old
       (subst (λ b. Consumes (g.ahead old.reader) (g.ahead new.reader) (b ∷ [])) z (marker_byte m n _ _ t e)))
       (record { more = 0xc0 ∷ []; whole = rw k refl })
 
+  pub nil_front : (b : ℕ) (front : List ℕ) → old.kept ≡ Nothing → new.kept ≡ Nothing → IsFront front (g.ahead old.reader) → 1 ≤ length front
+      → b ≡ get_or front 0 0 → b ≡ 0xc0 → Skips 1 (g.ahead old.reader) (g.ahead new.reader) → Lawful g IsNil old new (Ok tt)
+  nil_front b front k q f l e z c = nil_taken q (rw (bare g old k, bare g new q)
+      (subst (λ t. Consumes (g.ahead old.reader) (g.ahead new.reader) (t ∷ [])) z (front_byte b front _ _ f l e c)))
+      (record { more = 0xc0 ∷ []; whole = rw k refl })
+
   pub nil_kept : (b : ℕ) → old.kept ≡ First b → b ≡ 0xc0 → new.kept ≡ Nothing → new.reader ≡ old.reader → Lawful g IsNil old new (Ok tt)
   nil_kept b k z q r = nil_taken q (rw (bare g new q, r, k, z) (kept_first (0xc0 ∷ []) (g.ahead old.reader))) (record { more = []; whole = rw (k, z) refl })
 
@@ -190,6 +235,11 @@ module _ {R C : Type 0} (g : Ghosts R) (old new : Deserializer R C) (fresh : old
     sound = sound;
     stays = stays;
   }
+
+-- another message stands at the front
+pub other_front : {R C : Type 0} (g : Ghosts R) (d : Deserializer R C) (b : ℕ) (front : List ℕ) → d.kept ≡ Nothing → IsFront front (g.ahead d.reader)
+    → 1 ≤ length front → b ≡ get_or front 0 0 → b ≢ 0xc0 → g.ahead d.reader ≢ None → ToldOther (left g d)
+other_front g d b front k f l e n t = rw (bare g d k) (front_told b front _ f l e n t)
 
 -- what was kept back stays
 pub sees_kept : {R C : Type 0} (g : Ghosts R) (old : Deserializer R C) → old.failed ≡ false → BeginsOther (kept_bytes old.kept) → SeesOther g old old
@@ -237,6 +287,44 @@ module _ {R C V : Type 0} (g : Ghosts R) (reads : Msg → V → Type 0) (old : D
     failed = f.failed;
     before = f.before;
     stays = f.stays;
+  }
+
+  -- the bytes are told and show that nil isn't there, and a value was read or refused
+  pub told_some : (new : Deserializer R C) (v : V) → ToldOther (left g old) → old.failed ≡ false → Lawful g reads old new (Ok v)
+      → Lawful g (IsOption reads) old new (Ok (Some v))
+  told_some new v b o l =
+      let r = l.ok in
+      record {
+        ok = record {
+          bytes = r.bytes;
+          tree = r.tree;
+          takes = r.takes;
+          goes_on = r.goes_on;
+          spelled = r.spelled;
+          fits = r.fits;
+          value = (told_tree old.strict (left g old) (left g new) r.bytes r.tree b r.takes r.spelled, r.value);
+        };
+        ready = l.ready;
+        clean = l.clean;
+        sound = l.sound;
+        err = λ _. tt;
+        failed = tt;
+        before = λ f. absurd cc;
+        stays = l.stays;
+      }
+
+  pub told_refused : (new : Deserializer R C) (e : Error) → ToldOther (left g old) → old.failed ≡ false → Lawful g reads old new (Err e)
+      → Lawful g (IsOption reads) old new (Err e)
+  told_refused new e b o l = record {
+    ok = tt;
+    ready = tt;
+    clean = tt;
+    sound = tt;
+    err = λ f n k. refuses_narrower (SpellsAs old.strict) (λ m. (m ≡ nil) ⊎ Readable reads m) (Readable (IsOption reads)) (room_of old) (left g old)
+        (option_trees reads) (told_none_nil old.strict (left g old) (room_of old) (Readable reads) b (l.err f n k));
+    failed = l.failed;
+    before = λ f. absurd cc;
+    stays = l.stays;
   }
 
   module _ (mid new : Deserializer R C) (fresh : old.failed ≡ false) (s : SeesOther g old mid) where

@@ -29,6 +29,11 @@ pub record BeginsOther (bytes : List ℕ) : Type 0 where
   pub is : bytes ≡ byte ∷ behind
   pub other : byte ≢ 0xc0
 
+-- the bytes are told, and begin with one that isn't nil
+abbrev pub ToldOther : Option (List ℕ) → Type 0
+ToldOther None = ⊥
+ToldOther (Some xs) = BeginsOther xs
+
 -- no message is there, since the bytes end
 abbrev pub EndsBefore : ℕ → ℕ → Option (List ℕ) → Error → Type 0
 EndsBefore before after known e = after ≡ before → IfSome known (λ xs. (xs ≡ []) × IsMarkerEnd e)
@@ -67,6 +72,12 @@ module _ {R C : Type 0} (g : Ghosts R) where
   Looks old new (Ok true) = Lawful g IsNil old new (Ok tt)
   Looks old new (Ok false) = (old.failed ≡ false) × SeesOther old new
   Looks old new (Err e) = FailsToSee old new e
+
+  -- What looking for nil where it lies does: it is taken, or another message stands there, or it can't be said; then nothing changes.
+  abbrev pub LooksAhead : Deserializer R C → Deserializer R C → Option Bool → Type 0
+  LooksAhead old new (Some true) = Lawful g IsNil old new (Ok tt)
+  LooksAhead old new (Some false) = (old.failed ≡ false) × (ToldOther (left g old) × (new ≡ old))
+  LooksAhead old new None = new ≡ old
 
   -- Another message than nil stands there, and was offered to f, once. An answer of f that leaves the reader failed counts as a failure.
   pub record ValueGiven {F X : Type 0} (once : Reading F R C X) (f : F) (old new : Deserializer R C) (result : Result (Option X) Error) : Type 0 where

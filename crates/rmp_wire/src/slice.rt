@@ -1,5 +1,5 @@
 //! Sources that answer whole pieces of their bytes, lent where they can be.
-ghost use Rattle.std.specs.Prelude.{◌≡◌, ◌≢◌, ℕ, Bool, true, false, Option, Some, IfOk, IfErr, IfSome, IsTrue, OnErr, MatchOption, length, ◌<◌, ◌++◌};
+ghost use Rattle.std.specs.Prelude.{◌≡◌, ◌≢◌, ℕ, Bool, true, false, Option, None, Some, IfOk, IfErr, IfSome, IsTrue, OnErr, MatchOption, length, ◌<◌, ◌++◌};
 ghost use Rattle.std.specs.Borrow.{sem};
 ghost use Rattle.std.specs.Io.BufRead.{Rests};
 ghost use Rattle.rmp_wire.specs.Slices.{reference_bytes, is_lent, SliceRead};
@@ -67,6 +67,10 @@ pub trait ReadSlice<'de>: Source {
         ensures bytes { IfOk result (λ r. IsBytes (reference_bytes r)) }
         ensures kind { IfOk result (λ r. is_lent r ≡ lends) }
         ensures memory { lends ≡ true → IfErr result (λ e. e ≢ Memory) };
+
+    /// Whether it tells the bytes ahead, as one over memory does. One that may not, or doesn't know, answers that it doesn't.
+    fn tells(&self) -> bool
+        ensures told { IsTrue result → Self.ahead self.now ≢ None };
 }
 
 /// Lends parts of a slice for as long as the slice lies in memory.
@@ -196,6 +200,14 @@ impl<'a> ReadSlice<'a> for ReadRefReader<'a> {
             }
             None => Err(SourceFault::Io(io::Error::from(ErrorKind::UnexpectedEof))),
         }
+    }
+
+    #[inline(always)]
+    fn tells(&self) -> bool
+        ensures told { IsTrue result → Some (rest_of self.now) ≢ None }
+        ensures always { result ≡ true }
+    {
+        true
     }
 }
 

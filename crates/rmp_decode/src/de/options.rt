@@ -1,8 +1,8 @@
 //! Options.
-ghost use Rattle.std.specs.Prelude.{◌≡◌, ◌≢◌, false, None, Some, IfErr};
+ghost use Rattle.std.specs.Prelude.{◌≡◌, ◌≢◌, ◌≤◌, false, None, Some, get_or, length, IfErr, IfSome};
 ghost use Rattle.std.specs.Fn.{FnOnceTakesAtMut};
 ghost use Rattle.rmp_decode.specs.Law.{Lawful};
-ghost use Rattle.rmp_decode.specs.Options.{IsOption, Looks, OptionRead, RefusesOption, SeesOther};
+ghost use Rattle.rmp_decode.specs.Options.{IsOption, Looks, LooksAhead, OptionRead, RefusesOption, SeesOther};
 ghost use Rattle.rmp_decode.specs.Refusing.{RefusesAs};
 ghost use Rattle.rmp_decode.specs.State.{config_of, is_failed};
 
@@ -17,7 +17,48 @@ use rmp_wire::{ReadSlice, Source};
 /// The byte that nil is.
 const NIL: u8 = 0xc0;
 
+// The byte that stands at the front.
+#[inline(always)]
+fn first_at(front: &[u8]) -> Option<u8>
+    ensures { IfSome result (λ b. (1 ≤ length front.now) × (b ≡ get_or front.now 0 0)) }
+{
+    match front {
+        [first, ..] => Some(*first),
+        _ => None,
+    }
+}
+
 impl<R: Source, C: SerializerConfig> Deserializer<R, C> {
+    // Takes nil where it lies in memory, or leaves another message there, where the source tells its bytes; says which. Else nothing
+    // is taken.
+    #[inline(always)]
+    fn nil_front<'de>(&mut self) -> Option<bool>
+    where
+        R: ReadSlice<'de>,
+        ensures { LooksAhead R.Source self.old self.new result }
+    {
+        if !self.begins_ahead() {
+            return None;
+        }
+        match first_at(self.reader.front()) {
+            Some(byte) => {
+                if byte == NIL {
+                    return if self.reader.skip(1) {
+                        Some(true)
+                    } else {
+                        None
+                    };
+                }
+                if self.reader.tells() {
+                    Some(false)
+                } else {
+                    None
+                }
+            }
+            None => None,
+        }
+    }
+
     // Takes nil, or keeps back the first byte of another message; says which.
     #[inline(always)]
     fn take_nil(&mut self) -> Result<bool, Error>
@@ -55,12 +96,32 @@ impl<R: Source, C: SerializerConfig> Deserializer<R, C> {
     /// Reads an option: nil as `None`, and any other message as its value. So `Some` of what is written as nil isn't read
     /// back.
     ///
-    /// The first byte of a message is looked at, and kept back for the value's reading where it isn't nil.
+    /// The first byte of a message is looked at, and left for the value's reading where it isn't nil: where it lies in memory, or else
+    /// kept back.
     ///
     /// # Errors
     /// `InvalidMarkerRead` where the input ends before the message, and else those of the value.
     #[inline(always)]
     pub fn deserialize_option<'de, T: Deserialize<'de, R>>(&mut self) -> Result<Option<T>, Error>
+    where
+        R: ReadSlice<'de>,
+        ensures law { Lawful R.Source (IsOption (T.reads (C.human (config_of self.old)) R.lends)) self.old self.new result }
+        ensures refused { RefusesAs R.Source (C.human (config_of self.old)) R.lends (RefusesOption T.refuses) self.old self.new result }
+        ensures memory { T.takes_memory R.lends ≡ false → IfErr result (λ e. e ≢ Error.OutOfMemory) }
+    {
+        match self.nil_front() {
+            Some(true) => Ok(None),
+            Some(false) => match T::deserialize(self) {
+                Ok(value) => Ok(Some(value)),
+                Err(e) => Err(e),
+            },
+            None => self.kept_option(),
+        }
+    }
+
+    // The same, with a first byte that is kept back, by a call.
+    #[inline(never)]
+    fn kept_option<'de, T: Deserialize<'de, R>>(&mut self) -> Result<Option<T>, Error>
     where
         R: ReadSlice<'de>,
         ensures law { Lawful R.Source (IsOption (T.reads (C.human (config_of self.old)) R.lends)) self.old self.new result }

@@ -99,7 +99,7 @@ fn list_at(front: &[u8]) -> Option<u32>
 impl<R: Source, C: SerializerConfig> Deserializer<R, C> {
     // Whether the next message begins with the bytes ahead of the source: nothing was kept back, and no read failed.
     #[inline(always)]
-    fn begins_ahead(&self) -> bool
+    pub(crate) fn begins_ahead(&self) -> bool
         ensures fresh { result ≡ true → is_failed self.now ≡ false }
         ensures clean { result ≡ true → kept_of self.now ≡ Nothing }
     {

@@ -1,5 +1,5 @@
 //! The reader that copies what it reads from a source.
-ghost use Rattle.std.specs.Prelude.{◌≡◌, ◌+◌, ◌-◌, ◌<◌, ◌≤◌, ◌++◌, ℕ, List, [], Some, false, IfOk, IfErr, IsTrue, OnOk, OnErr, length};
+ghost use Rattle.std.specs.Prelude.{◌≡◌, ◌≢◌, ◌+◌, ◌-◌, ◌<◌, ◌≤◌, ◌++◌, ℕ, List, [], None, Some, false, IfOk, IfErr, IsTrue, OnOk, OnErr, length};
 ghost use Rattle.std.specs.Io.KnownBytes.{Consumes, Keeps};
 ghost use Rattle.std.specs.Borrow.{sem, follows};
 ghost use Rattle.rmp_wire.specs.contracts.slice.copying.ReadReader.{the_row};
@@ -125,6 +125,14 @@ impl<'de, R: Source> ReadSlice<'de> for ReadReader<R> {
             Ok(()) => Ok(Reference::Copied(known(self.scratch.as_slice()))),
             Err(e) => Err(e),
         }
+    }
+
+    #[inline(always)]
+    fn tells(&self) -> bool
+        ensures told { IsTrue result → R.ahead (copied_from self.now) ≢ None }
+        ensures never { result ≡ false }
+    {
+        false
     }
 }
 
