@@ -1,6 +1,9 @@
 //! What `check` prints.
 use crate::check_lines;
 use canon_lines::RunFault;
+use canon_lines::check::check;
+use faulty_io::{Drip, Trickle};
+use std::io::ErrorKind;
 use std::process::Abort;
 
 // Lines, and what each prints. The first three are the rows of one run.
@@ -55,4 +58,39 @@ fn nests_without_a_limit(rt: HostRuntime) -> Result<(), RunFault> {
     }
     line.push_str("90")?;
     check_row(&rt, line.as_str(), "canonical 5001\n")
+}
+
+#[test]
+fn a_source_that_fails(rt: HostRuntime) -> Result<(), RunFault> {
+    // The last pull is the one that finds the end.
+    for pulls in 0..=LINES.len() {
+        let mut source = Drip::new(LINES.as_bytes(), pulls);
+        let mut sink = Trickle::new(rt.alloc(), 0);
+        let answer = check(rt.alloc(), &mut source, &mut sink);
+        let is_input =
+            matches!(&answer, Err(RunFault::Input(e)) if e.kind() == ErrorKind::TimedOut);
+        assert!(rt; is_input, "after {pulls}");
+        assert_eq!(rt; (source.faults, sink.faults), (1, 0), "after {pulls}");
+    }
+    let mut out = Vec::new(rt.alloc());
+    let mut source = Drip::new(LINES.as_bytes(), LINES.len() + 1);
+    assert!(rt; !check(rt.alloc(), &mut source, &mut out)?);
+    assert!(rt; out.as_slice() == PRINTED.as_bytes());
+    Ok(())
+}
+
+#[test]
+fn a_sink_that_fails(rt: HostRuntime) {
+    for puts in 0..PRINTED.len() {
+        let mut sink = Trickle::new(rt.alloc(), puts);
+        let answer = check(rt.alloc(), &mut LINES.as_bytes(), &mut sink);
+        let is_output =
+            matches!(&answer, Err(RunFault::Output(e)) if e.kind() == ErrorKind::BrokenPipe);
+        assert!(rt; is_output, "after {puts}");
+        assert!(rt;
+            PRINTED.as_bytes().get(..puts) == Some(sink.bytes.as_slice()),
+            "after {puts}"
+        );
+        assert_eq!(rt; sink.faults, 1, "after {puts}");
+    }
 }
