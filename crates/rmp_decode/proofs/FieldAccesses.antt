@@ -1,5 +1,6 @@
 -- What an access to the fields of a struct does, step by step.
-use Rattle.std.proofs.Common.{◌≡◌, ◌≢◌, ◌≤◌, ◌∙◌, sym, ap, subst, refl, ℕ, zero, suc, ◌*◌, ◌^◌, ◌<◌, max, arith, bit_and, bit_or, length, cond, nat_lt, inl, inr, ℤ, pos, negsuc, List, [], ◌∷◌, Bool, true, false, Option, None, Some}
+use Rattle.std.proofs.Common.{◌≡◌, ◌≢◌, ◌≤◌, ◌∙◌, sym, ap, subst, refl, ℕ, zero, suc, ◌*◌, ◌^◌, ◌<◌, max, arith, bit_and, bit_or}
+use Rattle.std.proofs.Common.{length, cond, nat_lt, inl, inr, ℤ, pos, negsuc, List, [], ◌∷◌, Bool, true, false, Option, None, Some}
 use Rattle.std.specs.Int.{bit_at}
 use Rattle.std.specs.Io.KnownBytes.{IsAtEnd}
 use Rattle.std.specs.Option.{option_map}
@@ -9,7 +10,8 @@ use Rattle.std.proofs.lemmas.Nat.Bits.{and_pow, bit_at-lt, bit_at_or, bit_at-pow
 use Rattle.rmp_wire.specs.declared.source.Source.{Ghosts}
 use Rattle.rmp_wire.specs.Msg.{Msg, nil, truth, whole, float32, float64, text, bin, list, extension}
 use Rattle.rmp_wire.specs.Msg.{map as mapping}
-use Rattle.rmp_decode.specs.FieldAccess.{begun, IsStructOpen, SameStruct, names_in, as_map, as_seq, Passes, TakesName, FailsKey, FailsToPass, FailsName, Meets, TakesPlace, TakesPlaceAs, FailsPlace, FailsPlaceAs, TakesField, TakesFieldAs, FailsField, FailsFieldAs}
+use Rattle.rmp_decode.specs.FieldAccess.{begun, IsStructOpen, SameStruct, names_in, as_map, as_seq, Passes, TakesName, FailsKey, FailsToPass}
+use Rattle.rmp_decode.specs.FieldAccess.{FailsName, Meets, TakesPlace, TakesPlaceAs, FailsPlace, FailsPlaceAs, TakesField, TakesFieldAs, FailsField, FailsFieldAs}
 use Rattle.rmp_decode.specs.Law.{Explains, Readable}
 use Rattle.rmp_decode.specs.Maps.{IsMapOpen, TakesKey, TakesValue}
 use Rattle.rmp_decode.specs.Names.{bytes_of, place_of, place_below, name_of, IsName}

@@ -1,5 +1,6 @@
 -- What the read of a struct says whose fields are read one after another.
-use Rattle.std.proofs.Common.{◌≡◌, ◌≢◌, ◌∙◌, sym, ap, subst, refl, inl, inr, ◌⊎◌, ℕ, zero, suc, ◌-◌, ◌<◌, ◌≤◌, arith, List, [], ◌∷◌, length, Bool, cond, nat_eq, true, false, Option, None, Some, MatchOption, Ok, Err}
+use Rattle.std.proofs.Common.{◌≡◌, ◌≢◌, ◌∙◌, sym, ap, subst, refl, inl, inr, ◌⊎◌, ℕ, zero, suc, ◌-◌, ◌<◌, ◌≤◌}
+use Rattle.std.proofs.Common.{arith, List, [], ◌∷◌, length, Bool, cond, nat_eq, true, false, Option, None, Some, MatchOption, Ok, Err}
 use Rattle.std.specs.Int.{bit_at}
 use Rattle.std.specs.Option.{option_and_then}
 use Rattle.std.proofs.lemmas.Nat.Bits.{bit_at-zero}

@@ -1,5 +1,6 @@
 -- Types that lead back to themselves: what they are read from, in how many steps.
-use Rattle.std.proofs.Common.{◌≡◌, ◌∙◌, refl, ap, subst, arith, ℕ, zero, suc, ◌+◌, ◌<◌, ◌≤◌, ◌⊎◌, inl, inr, true, false, Bool, nat_lt, max, pos, ◌*◌, ◌++◌, append-nil, List, [], ◌∷◌, Option, None, Some, MatchOption, Result, Ok, Err, MatchResult, MutBor, Vec, Global}
+use Rattle.std.proofs.Common.{◌≡◌, ◌∙◌, refl, ap, subst, arith, ℕ, zero, suc, ◌+◌, ◌<◌, ◌≤◌, ◌⊎◌, inl, inr, true, false, Bool, nat_lt}
+use Rattle.std.proofs.Common.{max, pos, ◌*◌, ◌++◌, append-nil, List, [], ◌∷◌, Option, None, Some, MatchOption, Result, Ok, Err, MatchResult, MutBor, Vec, Global}
 use Rattle.std.specs.Fn.{FnOnceReturnsAtMut}
 use Rattle.rmp_wire.specs.declared.source.Source.{Ghosts}
 use Rattle.rmp_wire.specs.Msg.{Msg, nil, truth, whole, float32, float64, text, bin, list, map, extension, Msgs, no_items, item}
@@ -131,10 +132,10 @@ tree_variant m (v, (suc n, h)) = (v, variant_as tree_names (TreeCase (TreeIn n) 
 -- the content of a tree was read, that has items
 pub tree_node : {R C : Type 0} (g : Ghosts R) (old new last : Deserializer R C) (ts : Vec Tree Global) (v : Tree) → out-Tree v ≡ Tree-F.Node ts
     → Lawful g (λ m (y : Vec Tree Global). OfVariant tree_names (IsAt 1 (Content (λ k. Row IsTree k y.items))) m) old new (Ok ts) → last ≡ new
-        → Lawful g IsTree old last (Ok v)
+    → Lawful g IsTree old last (Ok v)
 tree_node g old new last ts v e l same = lawful_ok g (λ m w. OfVariant tree_names (TreeCase IsTree w) m) IsTree old last v v (tree_made v)
     (variant_ok g tree_names (TreeCase IsTree) old new last same (λ (y : Vec Tree Global) c. Content (λ k. Row IsTree k y.items) c) 1 ts v
-        (λ c h. (ts, e, h)) l)
+    (λ c h. (ts, e, h)) l)
 
 -- ---- the next element, by a function
 
@@ -219,7 +220,7 @@ pub trees_done : {R C : Type 0} (g : Ghosts R) (old : Deserializer R C) (start m
     → last ≡ record mid.de.now { failed = false } → Lawful g (λ k (w : Vec Tree Global). Row IsTree k w.items) old last (Ok v)
 trees_done g old start mid v o r last z q =
     lawful_ok g (Row IsTree) (λ k (w : Vec Tree Global). Row IsTree k w.items) old last v.items v (λ m h. h)
-        (row_done g IsTree old start mid v.items o r last z q)
+    (row_done g IsTree old start mid v.items o r last z q)
 
 -- ---- the room falls
 

@@ -1,5 +1,6 @@
 //! The fields of structs, which are named, or stand in order.
-ghost use Rattle.std.specs.Prelude.{◌≡◌, ◌≢◌, ◌⊎◌, ◌<◌, ℕ, Bool, List, Option, None, Some, true, false, length, IfErr, IfOk, IfSome, IfNone, OnOk, OnErr, MatchOption, MatchResult, max};
+ghost use Rattle.std.specs.Prelude.{◌≡◌, ◌≢◌, ◌⊎◌, ◌<◌, ℕ, Bool, List, Option, None, Some, true};
+ghost use Rattle.std.specs.Prelude.{false, length, IfErr, IfOk, IfSome, IfNone, OnOk, OnErr, MatchOption, MatchResult, max};
 ghost use Rattle.std.specs.Borrow.{sem, RestsIfErr};
 ghost use Rattle.rmp_wire.specs.Msg.{Msg};
 ghost use Rattle.rmp_decode.specs.contracts.deserializer.Deserializer.{the_row};

@@ -58,7 +58,7 @@ read_trees-returns-in_err-tree g t c =
     rw (p.1, p.2) (record {
       law = lawful_err _ (Row IsTree) _ _ _ _ trees_row
           (row_refused g.R.Source IsTree _ c.in_ok-seq.seq c.loop-trees.seq c.loop-trees.trees.items c.in_ok-seq.ensures.opened r _
-              c.next_element_with.new.self _ f
+          c.next_element_with.new.self _ f
           (e.marked r.run.still.marked) (search rules));
     })
 
@@ -165,7 +165,7 @@ read_tree-returns-in-Err-newtype_variant_with-2 g t c =
           (variant_err _ _ (TreeCase IsTree) _ _ _ (search rules) _ 1 _ (λ v k h. readable _ k h.0 h.2)
           (given_refused g.R.Source _ _ (λ k (ts : Vec Tree Global). Row IsTree k ts.items) tree_names 1 _ _ (rw at at k.ensures.opened) _ _
           (λ rest gave s. lent_law g.R.Source _ _ (λ k (ts : Vec Tree Global). Row IsTree k ts.items) (λ p q r h. h) _ rest gave s) _ n.ensures.bare
-              n.ensures.part refl));
+          n.ensures.part refl));
     }
 
 pub read_tree-returns-in-Err : goal.read_tree-returns-in-Err

@@ -6,7 +6,8 @@ use Rattle.rmp_decode.specs.Fields.{Field, Absent, NoField, at, given_all}
 use Rattle.rmp_decode.specs.Names.{bytes_of}
 use Rattle.rmp_decode.specs.Read.{IsRaw, IsUnsigned}
 use Rattle.rmp_decode.proofs.Seqs.{via}
-use Rattle.rmp_decode.proofs.StructRuns.{struct_start, struct_step, struct_place, struct_value, struct_met, struct_missing, struct_over, struct_done, slot_first, slot_later, slot_field, slot_gap, slot_gap_later, slot_lacks}
+use Rattle.rmp_decode.proofs.StructRuns.{struct_start, struct_step, struct_place, struct_value, struct_met, struct_missing, struct_over}
+use Rattle.rmp_decode.proofs.StructRuns.{struct_done, slot_first, slot_later, slot_field, slot_gap, slot_gap_later, slot_lacks}
 use Rattle.rmp_decode.proofs.Structs.{fields_unopened}
 use Rattle.test_reads.specs.declared.by_hand.Pup.{Pup}
 use Rattle.test_reads.specs.declared.samples.Weight.{Weight}
