@@ -1,0 +1,24 @@
+//! Records, and a cut one.
+use crate::{Records, next_record};
+use rmp_serde::Value;
+use rmp_serde::decode::Error;
+
+#[test]
+fn whole_records_come_back_in_order(rt: HostRuntime) -> Result<(), Error> {
+    let alloc = rt.alloc();
+    let first = Value::from_slice(alloc, &[0x92, 0x2a, 0xa2, 0x69, 0x74])?;
+    let second = Value::from_slice(alloc, &[0xcd, 0x01, 0x2c])?;
+    let mut records = Records::new(alloc);
+    assert!(rt; records.append(alloc, &first).is_ok());
+    assert!(rt; records.append(alloc, &second).is_ok());
+    assert!(rt; records.append(alloc, &first).is_ok());
+    let log = records.as_slice();
+    // the last record has lost its last byte
+    let (one, rest) = next_record(alloc, &log[..12])?;
+    assert!(rt; one == first);
+    let (two, rest) = next_record(alloc, rest)?;
+    assert!(rt; two == second);
+    assert_eq!(rt; rest.len(), 4);
+    assert!(rt; next_record(alloc, rest).is_err());
+    Ok(())
+}
