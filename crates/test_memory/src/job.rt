@@ -47,6 +47,41 @@ impl<T: Drop> From<AllocFailed<T>> for Fault {
     }
 }
 
+/// The type that a message is read as.
+#[derive(Clone, Copy)]
+pub enum Kind {
+    /// A message of any kind.
+    Value,
+    /// A text that isn't valid UTF-8.
+    Raw,
+    /// A list of texts, each of which may be missing.
+    Options,
+    /// Numbers of 128 bits, and of each sign.
+    Wide,
+    /// Lists of numbers in one another.
+    Tree,
+    /// A map from texts to texts.
+    Texts,
+    /// A struct of a text and a number, by their names.
+    Dog,
+}
+
+impl Kind {
+    // The type that a word names.
+    fn named(name: &str) -> Option<Kind> {
+        match name {
+            "value" => Some(Kind::Value),
+            "raw" => Some(Kind::Raw),
+            "options" => Some(Kind::Options),
+            "wide" => Some(Kind::Wide),
+            "tree" => Some(Kind::Tree),
+            "texts" => Some(Kind::Texts),
+            "dog" => Some(Kind::Dog),
+            _ => None,
+        }
+    }
+}
+
 /// What is to be done.
 #[derive(Clone, Copy)]
 pub enum Job {
@@ -64,6 +99,8 @@ pub enum Job {
     SkipEmpty,
     /// Lists in one another are checked.
     Check,
+    /// A message is read as a value of the type, and the value is written.
+    Again(Kind),
 }
 
 impl Job {
@@ -86,7 +123,10 @@ impl Job {
             "skip" => Ok((Job::Skip, count)),
             "skip-empty" => Ok((Job::SkipEmpty, count)),
             "check" => Ok((Job::Check, count)),
-            _ => Err(Fault::NoJob),
+            _ => match Kind::named(name) {
+                Some(kind) => Ok((Job::Again(kind), count)),
+                None => Err(Fault::NoJob),
+            },
         }
     }
 }

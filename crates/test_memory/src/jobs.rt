@@ -1,12 +1,14 @@
 //! What the jobs do. None of them allocates for what it prints.
-use crate::job::Fault;
-use rmp_decode::{Deserializer, from_slice};
-use rmp_encode::{Error, Serialize, Serializer, to_vec};
-use rmp_serde::{Canon, check_canonical};
+use crate::job::{Fault, Kind};
+use rmp_decode::{Deserialize, Deserializer, from_slice};
+use rmp_encode::{Error, Serialize, Serializer, to_vec, to_vec_named};
+use rmp_serde::{Canon, Raw, Value, check_canonical};
+use rmp_wire::ReadRefReader;
 use rmp_wire::config::BytesMode;
 use std::alloc::Global;
 use std::collections::BTreeMap;
-use test_types::{UnkMap, UnkSeq};
+use test_derived::Dog;
+use test_types::{Tree, UnkMap, UnkSeq};
 
 /// Lists in maps in a list, and texts.
 pub type Nested = Vec<BTreeMap<String, Vec<Vec<u16>>>>;
@@ -109,4 +111,41 @@ pub fn check(rt: &(impl Print + AllocGlobal)) -> Result<(), Fault> {
         Err(e) => println!(rt; "{e}")?,
     }
     Ok(())
+}
+
+// Reads a message as a value of the type and writes the value, structs by names, and prints the bytes, or the error of the read or the write.
+fn again<'de, T: Deserialize<'de, ReadRefReader<'de>> + Serialize>(
+    rt: &(impl Print + AllocGlobal),
+    input: &'de [u8],
+) -> Result<(), Fault> {
+    let read: Result<T, rmp_decode::Error> = from_slice(rt.alloc(), input);
+    match read {
+        Ok(value) => print_written(rt, to_vec_named(rt.alloc(), &value)),
+        Err(e) => {
+            println!(rt; "{e}")?;
+            Ok(())
+        }
+    }
+}
+
+/// Reads a message as a value of the type, writes the value, and prints the bytes or the error.
+pub fn again_as(rt: &(impl Print + AllocGlobal), kind: Kind) -> Result<(), Fault> {
+    match kind {
+        Kind::Value => again::<Value>(
+            rt,
+            b"\xdc\x00\x03\x81\xa1a\xc4\x01\x07\xd9\x01b\xc7\x01\x05\x09",
+        ),
+        Kind::Raw => again::<Raw>(rt, b"\xd9\x03\xffab"),
+        Kind::Options => again::<Vec<Option<String>>>(rt, b"\xdc\x00\x02\xc0\xd9\x01a"),
+        Kind::Wide => again::<Vec<(u128, i128)>>(rt, b"\xdc\x00\x01\x92\xcd\x00\x05\xd1\xff\xff"),
+        Kind::Tree => again::<Tree>(
+            rt,
+            b"\x81\xd9\x04Node\x92\x81\xa4Leaf\xcc\x01\x81\xa4Node\x91\x81\xa4Leaf\x02",
+        ),
+        Kind::Texts => again::<BTreeMap<String, String>>(
+            rt,
+            b"\xde\x00\x02\xd9\x01a\xa1b\xa1c\xa0",
+        ),
+        Kind::Dog => again::<Dog>(rt, b"\xde\x00\x02\xd9\x03age\x05\xa4name\xd9\x03Rex"),
+    }
 }

@@ -54,5 +54,9 @@ fn main(rt: HostRuntime) -> Result<(), Fault> {
             allocate(rt.alloc(), count)?;
             jobs::check(&rt)
         }
+        Job::Again(kind) => {
+            allocate(rt.alloc(), count)?;
+            jobs::again_as(&rt, kind)
+        }
     }
 }
