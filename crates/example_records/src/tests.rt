@@ -14,7 +14,7 @@ fn whole_records_come_back_in_order(rt: HostRuntime) -> Result<(), Error> {
     assert!(rt; records.append(alloc, &first).is_ok());
     let log = records.as_slice();
     // the last record has lost its last byte
-    let (one, rest) = next_record(alloc, &log[..12])?;
+    let (one, rest) = next_record(alloc, log.get(..12).unwrap_or(log))?;
     assert!(rt; one == first);
     let (two, rest) = next_record(alloc, rest)?;
     assert!(rt; two == second);
