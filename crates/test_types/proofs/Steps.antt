@@ -37,7 +37,7 @@ each_as P Q f no_items (v ∷ vs) h = absurd h
 each_as P Q f (item m ms) [] h = absurd h
 each_as P Q f (item m ms) (v ∷ vs) h = (f m v h.0, each_as P Q f ms vs h.1)
 
-row_as : {V : Type 0} (P Q : Msg → V → Type 0) → ((m : Msg) (v : V) → P m v → Q m v) → (m : Msg) (vs : List V) → Row P m vs → Row Q m vs
+pub row_as : {V : Type 0} (P Q : Msg → V → Type 0) → ((m : Msg) (v : V) → P m v → Q m v) → (m : Msg) (vs : List V) → Row P m vs → Row Q m vs
 row_as P Q f nil vs h = h
 row_as P Q f (truth t) vs h = h
 row_as P Q f (whole z) vs h = h
@@ -64,7 +64,7 @@ module _ {V : Type 0} (P : ℕ → Msg → V → Type 0) (up : (n : ℕ) (m : Ms
       let j = n + i.0 in
       (j, (more i.0 n j (omega arith) m v p, each_as (P i.0) (P j) (more n i.0 j refl) ms vs i.1))
 
-  row_in : (m : Msg) (vs : List V) → Row (InSteps P) m vs → (n : ℕ) × Row (P n) m vs
+  pub row_in : (m : Msg) (vs : List V) → Row (InSteps P) m vs → (n : ℕ) × Row (P n) m vs
   row_in nil vs h = absurd h
   row_in (truth t) vs h = absurd h
   row_in (whole z) vs h = absurd h
@@ -261,16 +261,25 @@ opens_fresh strict b n (Number k) bytes o h = go (nat_lt k 256) refl
 abbrev pub steps_at : {R C : Type 0} → Deserializer R C → ℕ
 steps_at d = 2 * max 1 d.room + fresh d.kept
 
-module _ {R C : Type 0} (g : Ghosts R) (old : Deserializer R C) (start mid : SeqAccess R C) (ms : Msgs) (o : Opens g old start) (r : Run g start mid ms)
+if_at_most : (t : Bool) → fresh_if t ≤ 1
+if_at_most true = omega arith
+if_at_most false = omega arith
+
+pub at_most : (k : Kept) → fresh k ≤ 1
+at_most Nothing = omega arith
+at_most (First b) = omega arith
+at_most (Number n) = if_at_most (nat_lt n 256)
+
+module _ {R C : Type 0} (g : Ghosts R) (old : Deserializer R C) (start mid : SeqAccess R C) (o : Opens g old start) (same : SameList start mid)
     (d : Deserializer R C) (l : Lends g mid d) where
   room_falls : max 1 old.room ≡ max 1 d.room + levels mid.bytes
-  room_falls = rw l.lent (rw (r.inner, r.bytes_same) o.room)
+  room_falls = rw l.lent (rw (same.inner, same.bytes) o.room)
 
-  pub part_room : max 1 d.room ≤ max 1 old.room
-  part_room = omega (arith, room_falls)
+  lent_room : max 1 d.room ≤ max 1 old.room
+  lent_room = omega (arith, room_falls)
 
-  pub part_steps : steps_at d < steps_at old
-  part_steps = go mid.bytes refl l.offers
+  pub lent_steps : steps_at d < steps_at old
+  lent_steps = go mid.bytes refl l.offers
     where
       was : fresh old.kept ≡ 1
       was = opens_fresh old.strict start.bytes start.left old.kept o.head.bytes o.head.goes_on o.head.is_head
@@ -278,18 +287,20 @@ module _ {R C : Type 0} (g : Ghosts R) (old : Deserializer R C) (start mid : Seq
       now_number : (b : ℕ) → b < 256 → l.from.kept ≡ Number b → fresh d.kept ≡ 0
       now_number b h e = ap (λ (z : Deserializer R C). fresh z.kept) l.lent ∙ ap fresh e ∙ ap fresh_if (below b 256 h)
 
-      if_at_most : (t : Bool) → fresh_if t ≤ 1
-      if_at_most true = omega arith
-      if_at_most false = omega arith
-
-      at_most : (k : Kept) → fresh k ≤ 1
-      at_most Nothing = omega arith
-      at_most (First b) = omega arith
-      at_most (Number n) = if_at_most (nat_lt n 256)
-
       go : (b : Bool) → mid.bytes ≡ b → OffersPart g b mid.de.now l.from → steps_at d < steps_at old
       go true e f = omega (arith, room_falls, ap levels e, was, now_number f.keeps.byte f.keeps.small f.keeps.kept)
       go false e f = omega (arith, room_falls, ap levels e, was, at_most d.kept)
+
+module _ {R C : Type 0} (g : Ghosts R) (old : Deserializer R C) (start mid : SeqAccess R C) (ms : Msgs) (o : Opens g old start) (r : Run g start mid ms)
+    (d : Deserializer R C) (l : Lends g mid d) where
+  same_list : SameList start mid
+  same_list = record { count = r.count_same; inner = r.inner; bytes = r.bytes_same }
+
+  pub part_room : max 1 d.room ≤ max 1 old.room
+  part_room = lent_room g old start mid o same_list d l
+
+  pub part_steps : steps_at d < steps_at old
+  part_steps = lent_steps g old start mid o same_list d l
 
 -- the content of a variant nests below it
 pub content_room_falls : {R C : Type 0} (g : Ghosts R) (n : ℕ) (old : Deserializer R C) (v : Variant R C) → OpensVariant g tree_names n old v → v.bare ≡ false

@@ -1,7 +1,8 @@
 -- What types that lead back to themselves are read from and written as.
-use Rattle.std.specs.Prelude.{◌≡◌, ◌∷◌, [], ℕ, zero, suc, List, Option, Some, codes, Vec}
+use Rattle.std.specs.Prelude.{◌≡◌, ◌∷◌, [], ℕ, zero, suc, List, Option, None, Some, codes, Vec}
 use Rattle.std.specs.declared.alloc.Global.{Global}
 use Rattle.rmp_wire.specs.Msg.{Msg}
+use Rattle.rmp_decode.specs.Fields.{OfFields, Field, Absent, NoField}
 use Rattle.rmp_decode.specs.Read.{IsUnsigned}
 use Rattle.rmp_decode.specs.Rows.{ReadsEach}
 use Rattle.rmp_decode.specs.Seq.{OfRow}
@@ -11,7 +12,7 @@ use Rattle.rmp_encode.specs.Trees.{slice_of, structure_of, newtype_variant_of}
 use Rattle.test_types.specs.declared.recursive.Nested.{Nested, out-Nested}
 use Rattle.test_types.specs.declared.recursive.Nested.TheFolds.{fold-Nested}
 use Rattle.test_types.specs.declared.recursive.Nested.TheOpen.{Nested-F}
-use Rattle.test_types.specs.declared.recursive.Rose.{Rose}
+use Rattle.test_types.specs.declared.recursive.Rose.{Rose, out-Rose}
 use Rattle.test_types.specs.declared.recursive.Rose.TheFolds.{fold-Rose}
 use Rattle.test_types.specs.declared.recursive.Rose.TheOpen.{Rose-F}
 use Rattle.test_types.specs.declared.recursive.Tree.{Tree, out-Tree}
@@ -51,6 +52,20 @@ TreeIn (suc n) m v = OfVariant tree_names (TreeCase (TreeIn n) v) m
 
 abbrev pub IsTree : Msg → Tree → Type 0
 IsTree m v = InSteps TreeIn m v
+
+abbrev pub rose_names : List (List ℕ)
+rose_names = codes "kids" ∷ []
+
+-- a node: a struct of its children, which have to be there
+abbrev pub RoseFields : (Msg → Rose → Type 0) → List (Option Msg) → Rose → Type 0
+RoseFields reads fs v = Field (λ k. Row reads k (out-Rose v).kids.items) (Absent None (out-Rose v).kids) NoField fs
+
+abbrev pub RoseIn : ℕ → Msg → Rose → Type 0
+RoseIn zero m v = ⊥
+RoseIn (suc n) m v = OfFields rose_names (λ fs. RoseFields (RoseIn n) fs v) m
+
+abbrev pub IsRose : Msg → Rose → Type 0
+IsRose m v = InSteps RoseIn m v
 
 -- ---- what they are written as: one level, of what its parts are written as
 

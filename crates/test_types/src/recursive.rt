@@ -4,9 +4,9 @@ ghost use Rattle.rmp_decode.specs.Read.{IsUnsigned};
 ghost use Rattle.rmp_decode.specs.Rows.{ReadsEach};
 ghost use Rattle.rmp_decode.specs.Seq.{OfRow};
 ghost use Rattle.std.specs.Prelude.{None, ⊤};
-ghost use Rattle.test_types.specs.Recursive.{IsNested, IsTree, nested_data, tree_data, rose_data};
+ghost use Rattle.test_types.specs.Recursive.{IsNested, IsTree, IsRose, nested_data, tree_data, rose_data};
 
-use rmp_decode::{Deserialize, Deserializer, ReadContent, Slices};
+use rmp_decode::{Deserialize, Deserializer, ReadContent, ReadPlaces, Slices};
 use rmp_encode::{Serialize, Serializer};
 use rmp_wire::config::SerializerConfig;
 use rmp_wire::{ReadSlice, Sink, Source};
@@ -190,6 +190,81 @@ impl<'de, R: ReadSlice<'de>> Deserialize<'de, R> for Tree {
     }
 
     fn missing() -> Option<Tree> {
+        None
+    }
+}
+
+// Reads a node, whose only field is its children.
+#[cycle(growing)]
+fn read_rose<R: Source, C: SerializerConfig, P: ReadPlaces<R>>(
+    de: &mut Deserializer<R, C>,
+) -> Result<Rose, rmp_decode::Error>
+    ensures law { Lawful R.Source IsRose de.old de.new result }
+{
+    let mut fields = match de.deserialize_struct("Rose", &["kids"]) {
+        Ok(fields) => fields,
+        Err(e) => return Err(e),
+    };
+    let mut kids: Option<Vec<Rose>> = None;
+    loop {
+        match fields.next_field_by::<P>() {
+            Ok(Some(_)) => match fields.next_value_with(
+                |de: &mut Deserializer<R, C>| -> Result<Vec<Rose>, rmp_decode::Error>
+                    ensures law { Lawful R.Source (λ m v. OfRow (λ ms. ReadsEach IsRose ms v.items) m) de.old de.new result }
+                { read_roses::<R, C, P>(de) },
+            ) {
+                Ok(value) => kids = Some(value),
+                Err(e) => return Err(e),
+            },
+            Ok(None) => break,
+            Err(e) => return Err(e),
+        }
+    }
+    let kids = match kids {
+        Some(kids) => kids,
+        None => match fields.missing_field_or(None) {
+            Ok(kids) => kids,
+            Err(e) => return Err(e),
+        },
+    };
+    match fields.end() {
+        Ok(()) => Ok(Rose { kids }),
+        Err(e) => Err(e),
+    }
+}
+
+// The nodes of a list.
+#[cycle(growing)]
+fn read_roses<R: Source, C: SerializerConfig, P: ReadPlaces<R>>(
+    de: &mut Deserializer<R, C>,
+) -> Result<Vec<Rose>, rmp_decode::Error>
+    ensures law { Lawful R.Source (λ m v. OfRow (λ ms. ReadsEach IsRose ms v.items) m) de.old de.new result }
+{
+    let mut roses = Vec::new(de.alloc());
+    let mut seq = de.deserialize_seq()?;
+    while let Some(rose) = seq.next_element_with(
+        |de: &mut Deserializer<R, C>| -> Result<Rose, rmp_decode::Error>
+            ensures law { Lawful R.Source IsRose de.old de.new result }
+        { read_rose::<R, C, P>(de) },
+    )? {
+        roses.push(rose)?;
+    }
+    seq.end()?;
+    Ok(roses)
+}
+
+impl<'de, R: ReadSlice<'de>> Deserialize<'de, R> for Rose {
+    ghost reads = { λ human lends. IsRose };
+
+    ghost absent = { None };
+
+    fn deserialize<C: SerializerConfig>(
+        de: &mut Deserializer<R, C>,
+    ) -> Result<Rose, rmp_decode::Error> {
+        read_rose::<R, C, Slices<'de>>(de)
+    }
+
+    fn missing() -> Option<Rose> {
         None
     }
 }

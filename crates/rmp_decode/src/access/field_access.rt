@@ -19,6 +19,7 @@ ghost use Rattle.rmp_decode.specs.State.{left, config_of, faults_of, is_failed, 
 ghost use Rattle.rmp_decode.specs.declared.deserializer.Kept.TheVariants.{Nothing};
 ghost use Rattle.rmp_decode.specs.Parts.{FailsPart};
 
+pub(crate) mod by;
 mod with;
 
 use crate::access::fields::Passed;

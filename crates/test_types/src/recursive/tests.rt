@@ -7,6 +7,10 @@ use std::test::Fail;
 
 const TREE: &[u8] = b"\x81\xa4Node\x92\x81\xa4Leaf\x01\x81\xa4Node\x90";
 
+const LISTED: &[u8] = b"\x91\x91\x91\x90";
+
+const NAMED: &[u8] = b"\x81\xa4kids\x91\x81\xa4kids\x90";
+
 fn read<'de, T: Deserialize<'de, ReadRefReader<'de>>>(
     alloc: Global,
     limit: usize,
@@ -66,13 +70,45 @@ fn roses(rt: HostRuntime) -> Result<(), Fail> {
         },
     ]?;
     let rose = Rose { kids };
-    assert_eq!(rt;
-        to_vec(rt.alloc(), &rose)?.as_slice(),
-        b"\x91\x91\x91\x90".as_slice()
-    );
-    assert_eq!(rt;
-        to_vec_named(rt.alloc(), &rose)?.as_slice(),
-        b"\x81\xa4kids\x91\x81\xa4kids\x90".as_slice()
-    );
+    assert_eq!(rt; to_vec(rt.alloc(), &rose)?.as_slice(), LISTED);
+    assert_eq!(rt; to_vec_named(rt.alloc(), &rose)?.as_slice(), NAMED);
+    Ok(())
+}
+
+#[test]
+fn roses_read(rt: HostRuntime) -> Result<(), Fail> {
+    let mixed = b"\x82\xa4more\x93\x01\x02\x03\xc4\x04kids\xdc\x00\x01\x81\x00\x90";
+    for (limit, input) in [
+        (5, LISTED),
+        (5, NAMED),
+        (1024, NAMED),
+        (5, mixed.as_slice()),
+    ] {
+        let rose: Rose = read(rt.alloc(), limit, input)?;
+        assert_eq!(rt; to_vec_named(rt.alloc(), &rose)?.as_slice(), NAMED);
+    }
+    for input in [LISTED, NAMED] {
+        let rose: Result<Rose, Error> = read(rt.alloc(), 4, input);
+        assert!(rt; matches!(&rose, Err(Error::DepthLimitExceeded)));
+        let rose: Result<Rose, Error> = from_slice_strict(rt.alloc(), input);
+        assert!(rt; rose.is_ok());
+    }
+    let rose: Result<Rose, Error> = from_slice_strict(rt.alloc(), mixed);
+    assert!(rt; matches!(&rose, Err(Error::NotCanonical)));
+    Ok(())
+}
+
+#[test]
+fn roses_refused(rt: HostRuntime) -> Result<(), Fail> {
+    let rose: Result<Rose, Error> = read(rt.alloc(), 1024, b"\x80");
+    assert!(rt; matches!(&rose, Err(Error::Syntax(Text::MissingField))));
+    let rose: Result<Rose, Error> = read(rt.alloc(), 1024, b"\x90");
+    assert!(rt; matches!(&rose, Err(Error::Syntax(Text::InvalidLength))));
+    let rose: Result<Rose, Error> = read(rt.alloc(), 1024, b"\x92\x90\x90");
+    assert!(rt; matches!(&rose, Err(Error::LengthMismatch(1))));
+    let rose: Result<Rose, Error> = read(rt.alloc(), 1024, b"\x82\xa4kids\x90\xa4kids\x90");
+    assert!(rt; matches!(&rose, Err(Error::Syntax(Text::DuplicateField))));
+    let rose: Result<Rose, Error> = read(rt.alloc(), 1024, b"\xc4\x01\x90");
+    assert!(rt; matches!(&rose, Err(Error::Syntax(Text::InvalidType))));
     Ok(())
 }
