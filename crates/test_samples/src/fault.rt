@@ -16,6 +16,8 @@ pub enum Fault {
     Read,
     #[error("what was written isn't written again")]
     Again,
+    #[error("a source that drips or fails has another answer")]
+    Drip,
     #[error("a line has no type and bytes in hex")]
     NoRow,
     #[error("a line has a type that isn't read")]

@@ -1,5 +1,5 @@
 //! The types that are read, by their names in the sample.
-use crate::answer::row;
+use crate::answer::{lent_row, row};
 use crate::fault::Fault;
 use rmp_serde::Value;
 use rmp_serde::wire::{ByteBuf, Bytes, Ext, F32Bits, F64Bits};
@@ -57,8 +57,8 @@ fn owned(alloc: Global, kind: &str, bytes: &[u8]) -> Result<String, Fault> {
 // Reads one of the lent texts and bytes, and of the tuple structs.
 fn lent(alloc: Global, kind: &str, bytes: &[u8]) -> Result<String, Fault> {
     match kind {
-        "&str" => row::<&str>(alloc, bytes),
-        "Bytes" => row::<Bytes>(alloc, bytes),
+        "&str" => lent_row::<&str>(alloc, bytes),
+        "Bytes" => lent_row::<Bytes>(alloc, bytes),
         "TupleS" => row::<TupleS>(alloc, bytes),
         "TupleS0" => row::<TupleS0>(alloc, bytes),
         _ => Err(Fault::NoType),
@@ -132,7 +132,7 @@ fn tuples(alloc: Global, kind: &str, bytes: &[u8]) -> Result<String, Fault> {
         "(u8,u8)" => row::<(u8, u8)>(alloc, bytes),
         "(u8,u16,String)" => row::<(u8, u16, String)>(alloc, bytes),
         "(u32,String)" => row::<(u32, String)>(alloc, bytes),
-        "(&str,Bytes)" => row::<(&str, Bytes)>(alloc, bytes),
+        "(&str,Bytes)" => lent_row::<(&str, Bytes)>(alloc, bytes),
         _ => longer_tuples(alloc, kind, bytes),
     }
 }
