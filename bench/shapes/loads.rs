@@ -28,6 +28,7 @@ enum Part {
     Truth(bool),
     Number(u64),
     Negative(i64),
+    Single(f32),
     Float(f64),
     Text(String),
     Bytes(Vec<u8>),
@@ -81,6 +82,10 @@ fn spell(out: &mut Vec<u8>, part: &Part) {
         Part::Truth(b) => out.push(0xc2 | u8::from(*b)),
         Part::Number(n) => number(out, *n),
         Part::Negative(z) => negative(out, *z),
+        Part::Single(f) => {
+            out.push(0xca);
+            out.extend(f.to_bits().to_be_bytes());
+        }
         Part::Float(f) => {
             out.push(0xcb);
             out.extend(f.to_bits().to_be_bytes());
@@ -267,6 +272,23 @@ impl Made {
         ));
     }
 
+    /// Writes a list of these by the call `bench_write_..`: the message it was read from is what must be written.
+    fn writes(&mut self, name: &str, call: &str, items: &[Part]) {
+        self.writes_as(name, call, items, items);
+    }
+
+    /// Writes a list of these, which is written as a list of those.
+    fn writes_as(&mut self, name: &str, call: &str, items: &[Part], written: &[Part]) {
+        let load = call_over(
+            format!("write, {name}"),
+            format!("bench_write_{call}"),
+            items.len(),
+            spelled(items),
+            Answer::Bytes(spelled(written).len()),
+        );
+        self.loads.push(load);
+    }
+
     /// Passes over a list of these.
     fn skips(&mut self, name: &str, items: &[Part]) {
         let load = call_over(
@@ -324,6 +346,8 @@ fn loads() -> Vec<Load<Calls>> {
     variants(&mut made, &mut random);
     leaves(&mut made, &mut random);
     parts(&mut made, &mut random);
+    written_leaves(&mut made, &mut random);
+    written_parts(&mut made, &mut random);
     made.loads
 }
 
@@ -461,6 +485,103 @@ fn parts(made: &mut Made, random: &mut Random) {
         &numbers(random, COUNT),
     );
     made.called("texts from a buffer", "bench_buffered_texts", &texts);
+}
+
+/// Numbers of a width, with their sign or the other one.
+fn wide(random: &mut Random, width: u64, below: bool) -> Part {
+    let n = number_of_width(width, random.next());
+    match below {
+        true => Part::Negative(!((n >> u32::from(width == 4)) as i64)),
+        false => Part::Number(n),
+    }
+}
+
+fn written_leaves(made: &mut Made, random: &mut Random) {
+    made.writes("nil", "nil", &vec![Part::Nil; COUNT]);
+    let truths = many(COUNT, random, |r| Part::Truth(r.below(2) == 0));
+    made.writes("truths", "bool", &truths);
+    for (width, bytes) in [(0, "one byte"), (1, "two"), (2, "three"), (3, "five")] {
+        let items = many(COUNT, random, |r| wide(r, width, false));
+        made.writes(&format!("numbers of 32 bits, {bytes}"), "u32", &items);
+    }
+    for (width, bytes) in [
+        (0, "one byte"),
+        (1, "two"),
+        (2, "three"),
+        (3, "five"),
+        (4, "nine"),
+    ] {
+        let items = many(COUNT, random, |r| wide(r, width, false));
+        made.writes(&format!("numbers of 64 bits, {bytes}"), "u64", &items);
+        let items = many(COUNT, random, |r| wide(r, width, true));
+        made.writes(&format!("numbers below zero, {bytes}"), "i64", &items);
+    }
+    let halves = many(COUNT, random, |r| Part::Wide(u128::from(r.next()) << 64));
+    made.writes("numbers of 128 bits", "u128", &halves);
+    let single = many(COUNT, random, |r| Part::Single(r.below(1000) as f32));
+    made.writes("floats of 32 bits", "f32", &single);
+    let double = many(COUNT, random, |r| Part::Float(r.below(1000) as f64));
+    made.writes("floats of 64 bits", "f64", &double);
+    made.writes("characters of one byte", "char", &vec![text("x"); COUNT]);
+    made.writes("characters of three bytes", "char", &vec![text("€"); COUNT]);
+    for len in [5, 200] {
+        made.writes(
+            &format!("texts of {len}"),
+            "text",
+            &vec![text(&"x".repeat(len)); COUNT],
+        );
+        made.writes(
+            &format!("bytes of {len}"),
+            "buffer",
+            &vec![Part::Bytes(vec![7; len]); COUNT],
+        );
+    }
+}
+
+fn written_parts(made: &mut Made, random: &mut Random) {
+    for len in [5, 200] {
+        let lists = vec![Part::List(vec![Part::Number(7); len]); COUNT];
+        let bytes = vec![Part::Bytes(vec![7; len]); COUNT];
+        made.writes(&format!("vectors of {len} small numbers"), "bytes", &lists);
+        made.writes_as(
+            &format!("vectors of {len}, iterables as bytes"),
+            "iterables",
+            &lists,
+            &bytes,
+        );
+        made.writes_as(
+            &format!("vectors of {len}, all as bytes"),
+            "forced",
+            &lists,
+            &bytes,
+        );
+    }
+    let options = many(COUNT, random, |r| match r.below(2) {
+        0 => Part::Nil,
+        _ => mixed(r),
+    });
+    made.writes("options", "option", &options);
+    let rows = |r: &mut Random| Part::List((0..3).map(|_| Part::List(numbers(r, 3))).collect());
+    made.writes("lists of three lists", "nested", &many(COUNT, random, rows));
+    let map = |r: &mut Random| Part::Map((0..10).map(|n| (Part::Number(n), mixed(r))).collect());
+    made.writes("maps of ten numbers", "map", &many(COUNT, random, map));
+    let named = |r: &mut Random| {
+        Part::Map(
+            (0..10)
+                .map(|n| (text(&format!("key {n}")), mixed(r)))
+                .collect(),
+        )
+    };
+    made.writes(
+        "maps from ten texts",
+        "named_map",
+        &many(COUNT, random, named),
+    );
+    made.writes(
+        "tuples of two",
+        "tuple",
+        &many(COUNT, random, |r| Part::List(two(r))),
+    );
 }
 
 pub fn main(calls: &Calls) {

@@ -1,4 +1,4 @@
-//! Measures the proved code: the exports of crates/bench_shapes.
+//! Measures the proved code: the exports of crates/bench_shapes, and those of crates/bench_encode that write values of many types.
 
 #[path = "../loads.rs"]
 mod loads;
@@ -40,6 +40,25 @@ exports! {
     bench_read_two
     bench_read_u128
     bench_skip
+    bench_write_bool
+    bench_write_buffer
+    bench_write_bytes
+    bench_write_char
+    bench_write_f32
+    bench_write_f64
+    bench_write_forced
+    bench_write_i64
+    bench_write_iterables
+    bench_write_map
+    bench_write_named_map
+    bench_write_nested
+    bench_write_nil
+    bench_write_option
+    bench_write_text
+    bench_write_tuple
+    bench_write_u128
+    bench_write_u32
+    bench_write_u64
 }
 
 fn main() {

@@ -5,6 +5,7 @@
 #![tactic(auto)]
 
 mod entry;
+mod kinds;
 mod parts;
 
 use entry::Entry;

@@ -1,8 +1,9 @@
 //! Measures the same loads over the original, the crate rmp-serde, written as crates/bench_shapes is.
 
-use rmp_serde::from_slice;
-use serde::Deserialize;
+use rmp_serde::config::BytesMode;
+use rmp_serde::{Serializer, from_slice};
 use serde::de::IgnoredAny;
+use serde::{Deserialize, Serialize};
 use serde_bytes::ByteBuf;
 use std::collections::{BTreeMap, VecDeque};
 use std::io::{BufReader, Cursor};
@@ -72,6 +73,12 @@ macro_rules! of_types {
     };
 }
 
+macro_rules! written_types {
+    ($($name:literal $kind:ty),* $(,)?) => {
+        vec![$((concat!("bench_write_", $name), writes::<$kind> as loads::OfBytes)),*]
+    };
+}
+
 fn main() {
     let mut calls = of_types![
         "two" Two,
@@ -92,6 +99,31 @@ fn main() {
         "named_map" BTreeMap<String, u32>,
         "u128" u128,
     ];
+    calls.extend(written_types![
+        "nil" (),
+        "bool" bool,
+        "u32" u32,
+        "u64" u64,
+        "i64" i64,
+        "u128" u128,
+        "f32" f32,
+        "f64" f64,
+        "char" char,
+        "text" String,
+        "buffer" ByteBuf,
+        "bytes" Vec<u8>,
+        "option" Option<u32>,
+        "nested" Vec<Vec<u32>>,
+        "map" BTreeMap<u32, u32>,
+        "named_map" BTreeMap<String, u32>,
+        "tuple" (u32, bool),
+    ]);
+    calls.push(("bench_write_iterables", |d, reps| {
+        writes_bytes(d, reps, BytesMode::ForceIterables)
+    }));
+    calls.push(("bench_write_forced", |d, reps| {
+        writes_bytes(d, reps, BytesMode::ForceAll)
+    }));
     calls.push(("bench_read_str", read_str));
     calls.push(("bench_skip", skip));
     calls.push(("bench_cursor_numbers", cursor_reads::<u32>));
@@ -154,4 +186,34 @@ fn buffered_reads<T: for<'de> Deserialize<'de>>(data: &[u8], reps: u32) -> usize
         }
     }
     sum
+}
+
+#[inline(never)]
+fn writes<T: for<'de> Deserialize<'de> + Serialize>(data: &[u8], reps: u32) -> usize {
+    let Ok(items) = from_slice::<Vec<T>>(data) else {
+        return 0;
+    };
+    let mut out = Vec::new();
+    for _ in 0..reps {
+        out.clear();
+        if rmp_serde::encode::write(&mut out, &items).is_err() {
+            return 0;
+        }
+    }
+    out.len()
+}
+
+#[inline(never)]
+fn writes_bytes(data: &[u8], reps: u32, mode: BytesMode) -> usize {
+    let Ok(items) = from_slice::<Vec<Vec<u8>>>(data) else {
+        return 0;
+    };
+    let mut se = Serializer::new(Vec::new()).with_bytes(mode);
+    for _ in 0..reps {
+        se.get_mut().clear();
+        if items.serialize(&mut se).is_err() {
+            return 0;
+        }
+    }
+    se.get_ref().len()
 }
