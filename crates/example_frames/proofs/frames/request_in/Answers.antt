@@ -1,0 +1,16 @@
+use Rattle.std.specs.Prelude.{false, max}
+use Rattle.std.proofs.Common.{◌∙◌, ap, refl}
+use Rattle.rmp_decode.specs.declared.deserializer.Deserializer.{Deserializer}
+use Rattle.rmp_wire.specs.RefReader.{rest_of}
+use Rattle.rmp_decode.proofs.Whole.{known_left, none_begins}
+use Rattle.example_frames.proofs.Apart.{deep_enough}
+use Rattle.example_frames.proofs.frames.request_in.Goals as goal
+
+pub returns-in-Err-clause-err : goal.returns-in-Err-clause-err
+returns-in-Err-clause-err c = λ n.
+    let d = c.from_read_ref-de.ensures in
+    let q = c.set_max_depth.ensures in
+    none_begins _ false _ _ _ _ _ (ap (λ (z : Deserializer _ _). z.strict) q ∙ d.lenient)
+    (ap (λ (z : Deserializer _ _). max 1 z.room) q ∙ deep_enough _ _ d.room d.limit)
+    (known_left _ _ _ (ap (λ (z : Deserializer _ _). z.kept) q ∙ d.kept) (ap (λ (z : Deserializer _ _). rest_of z.reader) q ∙ d.rest))
+    (c.in-Err.ensures.law.err (ap (λ (z : Deserializer _ _). z.failed) q ∙ d.ready) n refl)

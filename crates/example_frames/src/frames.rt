@@ -1,0 +1,137 @@
+//! Frames: written, and read from peers that aren't trusted.
+ghost use Rattle.std.specs.Prelude.{◌≡◌, Some, ◌≢◌, ◌≤◌, ◌<◌, ◌+◌, ◌++◌, List, ℕ, false, true, length, IfOk, IfErr, [], ◌∷◌};
+ghost use Rattle.example_frames.specs.Frames.{SaysLength, message_of, IsFrame, Asks, Taken, RefusedFor, StopsFor, WrongFor};
+ghost use Rattle.example_frames.specs.declared.frames.Refusal.TheVariants as refusal;
+ghost use Rattle.rmp_decode.specs.declared.error.Error.TheVariants.{OutOfMemory};
+ghost use Rattle.rmp_encode.specs.Calls.{default_settings};
+ghost use Rattle.rmp_encode.specs.Trees.{tree_of};
+ghost use Rattle.rmp_serde.specs.Read.{AllTextsUtf8};
+ghost use Rattle.rmp_wire.specs.Msg.{depth};
+ghost use Rattle.rmp_wire.specs.Spelling.{Fits};
+
+use crate::request::Request;
+use rmp_serde::decode::{Deserialize, Error};
+use rmp_serde::encode::Serialize;
+use rmp_serde::{Deserializer, encode, to_vec};
+use rmp_wire::ReadRefReader;
+use rmp_wire::read::number_32;
+use std::alloc::Global;
+
+/// How deep a request may nest: below this.
+const MAX_DEPTH: usize = 16;
+
+/// Why a peer's bytes are refused.
+#[derive(Debug, Drop, thiserror::Error)]
+pub enum Refusal {
+    /// They end before the frame does: more may come.
+    #[error("the frame is cut")]
+    Cut,
+    /// The frame is to be so long, past the limit. What is in it wasn't looked at.
+    #[error("a frame of {0} bytes is too long")]
+    TooLong(u32),
+    /// What is in the frame isn't a request, or memory was short.
+    #[error("not a request: {0}")]
+    NotRequest(Error),
+    /// Something stands behind the request in its frame.
+    #[error("the frame is longer than its request")]
+    Longer,
+}
+
+/// The frame of a request.
+///
+/// # Errors
+/// Those of `to_vec`, and `InvalidDataModel` where the request's length is past 32 bits.
+pub fn write_request(alloc: Global, request: &Request) -> Result<Vec<u8>, encode::Error>
+    ensures { IfOk result (λ frame. IsFrame request.now frame.items) }
+{
+    written_as();
+    let body = to_vec(alloc, request)?;
+    let Ok(len) = u32::try_from(body.len()) else {
+        return Err(encode::Error::InvalidDataModel("request too long"));
+    };
+    let mut frame = Vec::new(alloc);
+    frame.extend_from_slice(&len.to_be_bytes())?;
+    frame.extend_from_slice(body.as_slice())?;
+    Ok(frame)
+}
+
+/// Reads the request in the first frame, and answers it with what stands behind the frame.
+///
+/// # Errors
+/// Each `Refusal`, for the reason that it names.
+pub fn next_request<'de>(
+    alloc: Global,
+    bytes: &'de [u8],
+    limit: u32,
+) -> Result<(Request, &'de [u8]), Refusal>
+    // A frame within the limit was taken, and all that is in it is the request.
+    ensures taken { IfOk result (λ r. Taken (⟦<Request as Deserialize<'de, ReadRefReader<'de>>>⟧.reads false true) limit r.0 r.1.now bytes.now) }
+    // Where a peer wrote the frame, it is the peer's request, and what followed the frame is left.
+    ensures back { IfOk result (λ r. (asked : Request) (frame rest : List ℕ) → IsFrame asked frame → bytes.now ≡ frame ++ rest
+        → (r.0 ≡ asked) × (r.1.now ≡ rest)) }
+    // Each refusal has its reason,
+    ensures refused { IfErr result (RefusedFor (⟦<Request as Deserialize<'de, ReadRefReader<'de>>>⟧.reads false true) limit bytes.now) }
+    // and what a peer wrote within the limits is refused only for want of memory.
+    ensures whole { IfErr result (λ e. e ≢ refusal.NotRequest OutOfMemory → (asked : Request) (frame rest : List ℕ) → IsFrame asked frame
+        → bytes.now ≡ frame ++ rest → length frame ≤ 4 + limit → depth (message_of asked) < 16 → ⊥) }
+{
+    read_as();
+    let (body, rest) = match next_frame(bytes, limit) {
+        Ok(parts) => parts,
+        Err(e) => return Err(e),
+    };
+    match request_in(alloc, body) {
+        Ok(request) => Ok((request, rest)),
+        Err(e) => Err(e),
+    }
+}
+
+// What a request is written as.
+fn written_as()
+    ensures tree { (r : Request) → tree_of default_settings (⟦<Request as Serialize>⟧.data_of r false) ≡ Some (message_of r) }
+    ensures texts { (r : Request) → ⟦<Request as Serialize>⟧.is_value r → AllTextsUtf8 (message_of r) }
+{}
+
+// What is read of that message: the request, and no other.
+fn read_as<'de>()
+    ensures reads { (r : Request) → Fits (message_of r) → AllTextsUtf8 (message_of r)
+        → ⟦<Request as Deserialize<'de, ReadRefReader<'de>>>⟧.reads false true (message_of r) r }
+    ensures one { (r s : Request) → ⟦<Request as Deserialize<'de, ReadRefReader<'de>>>⟧.reads false true (message_of r) s → s ≡ r }
+{}
+
+// Takes the first frame apart into what is in it and what stands behind it.
+fn next_frame<'de>(bytes: &'de [u8], limit: u32) -> Result<(&'de [u8], &'de [u8]), Refusal>
+    ensures ok { IfOk result (λ r. SaysLength (length r.0.now) (r.0.now ++ r.1.now) bytes.now × (length r.0.now ≤ limit)) }
+    ensures err { IfErr result (StopsFor limit bytes.now) }
+{
+    let mut rest: &[u8] = bytes;
+    let Ok(len) = number_32(&mut rest) else {
+        return Err(Refusal::Cut);
+    };
+    if len > limit {
+        return Err(Refusal::TooLong(len));
+    }
+    if rest.len() < len as usize {
+        return Err(Refusal::Cut);
+    }
+    Ok(rest.split_at(len as usize))
+}
+
+// Reads the request that is all of a frame's content.
+fn request_in<'de>(alloc: Global, body: &'de [u8]) -> Result<Request, Refusal>
+    ensures ok { IfOk result (λ r. Asks (λ m. ⟦<Request as Deserialize<'de, ReadRefReader<'de>>>⟧.reads false true m r) [] body.now) }
+    ensures err { IfErr result (WrongFor (⟦<Request as Deserialize<'de, ReadRefReader<'de>>>⟧.reads false true) body.now) }
+{
+    let mut de = Deserializer::from_read_ref(alloc, body);
+    de.set_max_depth(MAX_DEPTH);
+    match Request::deserialize(&mut de) {
+        Ok(request) => {
+            if de.remaining_slice().is_empty() {
+                Ok(request)
+            } else {
+                Err(Refusal::Longer)
+            }
+        }
+        Err(e) => Err(Refusal::NotRequest(e)),
+    }
+}

@@ -1,0 +1,126 @@
+//! Peers that keep to the protocol, and hostile ones.
+use crate::{Refusal, Request, next_request, write_request};
+use rmp_serde::Value;
+use rmp_serde::decode::{Error, Text};
+use rmp_wire::Marker;
+use std::test::Fail;
+
+/// How long a frame may be in these tests.
+const LIMIT: u32 = 1 << 20;
+
+#[test]
+fn requests_in_a_row(rt: HostRuntime) -> Result<(), Fail> {
+    let alloc = rt.alloc();
+    let value = Value::from_slice(alloc, b"\x92\xa5Bobby\x08")?;
+    let mut bytes = write_request(alloc, &Request::Put(300, value))?;
+    assert_eq!(rt;
+        bytes.as_slice(),
+        b"\x00\x00\x00\x11\x81\xa3Put\x92\xcd\x01\x2c\x92\xa5Bobby\x08".as_slice()
+    );
+    bytes.extend_from_slice(write_request(alloc, &Request::Get(300))?.as_slice())?;
+    bytes.extend_from_slice(write_request(alloc, &Request::Ping)?.as_slice())?;
+    let (put, rest) = next_request(alloc, bytes.as_slice(), 17)?;
+    assert!(rt; matches!(put, Request::Put(300, _)));
+    let (get, rest) = next_request(alloc, rest, 17)?;
+    assert!(rt; matches!(get, Request::Get(300)));
+    let (ping, rest) = next_request(alloc, rest, 17)?;
+    assert!(rt; matches!(ping, Request::Ping));
+    assert!(rt; rest.is_empty());
+    let refused = next_request(alloc, bytes.as_slice(), 16);
+    assert!(rt; matches!(refused, Err(Refusal::TooLong(17))));
+    Ok(())
+}
+
+#[test]
+fn a_frame_that_is_cut(rt: HostRuntime) -> Result<(), Fail> {
+    let alloc = rt.alloc();
+    let frame = write_request(alloc, &Request::Get(300))?;
+    for len in 0..frame.len() {
+        let refused = next_request(alloc, frame.as_slice().get(..len).unwrap_or(b""), LIMIT);
+        assert!(rt; matches!(refused, Err(Refusal::Cut)));
+    }
+    Ok(())
+}
+
+#[test]
+fn what_is_no_request(rt: HostRuntime) {
+    let alloc = rt.alloc();
+    // a length of 4 GB, within any limit, and past this one
+    let huge = b"\xff\xff\xff\xff\xa4Ping";
+    let refused = next_request(alloc, huge, u32::MAX);
+    assert!(rt; matches!(refused, Err(Refusal::Cut)));
+    let refused = next_request(alloc, huge, LIMIT);
+    assert!(rt; matches!(refused, Err(Refusal::TooLong(u32::MAX))));
+    // a value that claims 4 GB of bytes, or as many items
+    let refused = next_request(
+        alloc,
+        b"\0\0\0\x0c\x81\xa3Put\x92\x01\xc6\xff\xff\xff\xff",
+        LIMIT,
+    );
+    assert!(rt; matches!(refused, Err(Refusal::NotRequest(Error::InvalidDataRead(_)))));
+    let refused = next_request(
+        alloc,
+        b"\0\0\0\x0c\x81\xa3Put\x92\x01\xdd\xff\xff\xff\xff",
+        LIMIT,
+    );
+    assert!(rt;
+        matches!(
+            refused,
+            Err(Refusal::NotRequest(Error::InvalidMarkerRead(_)))
+        )
+    );
+    // the byte that opens no message, a message of another kind, another name, and nothing
+    let refused = next_request(alloc, b"\0\0\0\x01\xc1", LIMIT);
+    assert!(rt;
+        matches!(
+            refused,
+            Err(Refusal::NotRequest(Error::TypeMismatch(Marker::Reserved)))
+        )
+    );
+    let refused = next_request(alloc, b"\0\0\0\x01\xc0", LIMIT);
+    assert!(rt;
+        matches!(
+            refused,
+            Err(Refusal::NotRequest(Error::Syntax(Text::InvalidType)))
+        )
+    );
+    let refused = next_request(alloc, b"\0\0\0\x05\xa4Pong", LIMIT);
+    assert!(rt;
+        matches!(
+            refused,
+            Err(Refusal::NotRequest(Error::Syntax(Text::UnknownVariant)))
+        )
+    );
+    let refused = next_request(alloc, b"\0\0\0\0", LIMIT);
+    assert!(rt;
+        matches!(
+            refused,
+            Err(Refusal::NotRequest(Error::InvalidMarkerRead(_)))
+        )
+    );
+    // a request and one more byte
+    let refused = next_request(alloc, b"\0\0\0\x06\xa4Ping\xc0", LIMIT);
+    assert!(rt; matches!(refused, Err(Refusal::Longer)));
+}
+
+#[test]
+fn nested_lists(rt: HostRuntime) -> Result<(), Fail> {
+    let alloc = rt.alloc();
+    // a map and a list stand around the value
+    for (deep, fits) in [(13, true), (14, false), (100_000, false)] {
+        let len: u32 = 7 + deep;
+        let mut bytes = Vec::new(alloc);
+        bytes.extend_from_slice(&len.to_be_bytes())?;
+        bytes.extend_from_slice(b"\x81\xa3Put\x92\x01")?;
+        for _ in 1..deep {
+            bytes.push(0x91)?;
+        }
+        bytes.push(0x90)?;
+        match next_request(alloc, bytes.as_slice(), LIMIT) {
+            Ok(_) => assert!(rt; fits),
+            Err(Refusal::NotRequest(Error::DepthLimitExceeded)) => assert!(rt; !fits),
+            Err(_) => return Err(Fail::from("another refusal")),
+        }
+    }
+    Ok(())
+}

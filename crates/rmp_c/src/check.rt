@@ -1,0 +1,53 @@
+//! Whether a message is spelled canonically.
+ghost use Rattle.std.specs.Prelude.{◌≡◌, ◌≢◌, ℕ};
+ghost use Rattle.rmp_serde.specs.Places.{IsWhole, IsFault, Stops};
+ghost use Rattle.rmp_c.specs.Statuses.{status_of};
+ghost use Rattle.rmp_decode.specs.declared.error.Error.{Error};
+
+use rmp_serde::decode::Error;
+use rmp_serde::{Canon, check_canonical};
+use std::alloc::Global;
+
+/// Whether the bytes begin with the canonical spelling of a message. The status is 0 where they do, and `place` is how long it is; it
+/// is 4 where a head stands first that isn't canonical, and `place` is where. What follows the message isn't looked at.
+///
+/// Before that the status is 1 where the bytes end before a message that is wanted, 2 where they end inside of a head or of content,
+/// and 3 at the byte c1; `place` stays as it was then.
+#[unsafe(no_mangle)]
+pub extern "C" fn rmp_check(alloc: Global, bytes: &[u8], place: &mut usize) -> u32
+    ensures whole { result ≡ 0 → IsWhole bytes.now place.new }
+    ensures fault { result ≡ 4 → IsFault bytes.now place.new }
+    // Each is answered where it is so,
+    ensures finds_whole { (n : ℕ) → IsWhole bytes.now n → (result ≡ 0) × (place.new ≡ n) }
+    ensures finds_fault { (p : ℕ) → IsFault bytes.now p → (result ≡ 4) × (place.new ≡ p) }
+    // and any other status says what is wrong at some such place.
+    ensures stops { result ≢ 0 → result ≢ 4 → (e : Error) × (result ≡ status_of e) × Stops bytes.now e }
+    ensures kept { result ≢ 0 → result ≢ 4 → place.new ≡ place.old }
+{
+    match check_canonical(alloc, bytes) {
+        Ok(Canon::Whole(len)) => {
+            *place = len;
+            0
+        }
+        Ok(Canon::Fault(at)) => {
+            *place = at;
+            4
+        }
+        Err(e) => status_of(&e),
+    }
+}
+
+// The status that an error is.
+pub(crate) fn status_of(e: &Error) -> u32
+    ensures status { result ≡ status_of e.now }
+    ensures other { (result ≢ 0) × (result ≢ 4) × (result ≢ 7) × (result ≢ 8) }
+{
+    match e {
+        Error::InvalidMarkerRead(_) => 1,
+        Error::InvalidDataRead(_) => 2,
+        Error::TypeMismatch(_) => 3,
+        Error::Utf8Error(_) => 5,
+        Error::DepthLimitExceeded => 6,
+        _ => 9,
+    }
+}

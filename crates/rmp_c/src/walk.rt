@@ -1,0 +1,146 @@
+//! Walking over the heads of a message.
+ghost use Rattle.std.specs.Prelude.{◌≡◌, ◌≢◌, ℕ, List, [], drop};
+ghost use Rattle.rmp_decode.specs.Kinds.{content_len};
+ghost use Rattle.rmp_wire.specs.Heads.{fits_head};
+ghost use Rattle.rmp_wire.specs.declared.head.Head.TheVariants.{Whole};
+ghost use Rattle.rmp_c.specs.Items.{Node, IsItem, Says, SaysNumber, OpensReserved};
+
+use rmp_wire::{Head, ValueReadError, next_head};
+
+/// What stands at a place: what its head says, and where its content lies.
+#[repr(C)]
+#[derive(Clone, Copy)]
+pub struct Item {
+    /// 0 nil, 1 truth, 2 a number from 0 on, 3 a number below 0, 4 and 5 floats of 32 and 64 bits, 6 a text, 7 bytes, 8 a list,
+    /// 9 a map, 10 an extension.
+    pub kind: u32,
+    /// How many messages a list has, or pairs a map.
+    pub items: u32,
+    /// The truth as 0 or 1, the number (below 0 in two's complement), the bits of the float, or the byte of the extension's type.
+    pub number: u64,
+    /// Where the content lies: behind the head.
+    pub start: usize,
+    /// How many bytes of content there are.
+    pub len: usize,
+}
+
+/// Says what stands at a place: its kind, and where its content lies. The next message, or the first of a list or a map, stands behind
+/// the content. Neither what a text holds is looked at, nor what a list or a map does.
+///
+/// The status is 1 where the bytes end there, 2 where they end inside of the head or its content, and 3 at the byte c1.
+#[tactic(auto, unfolding(rmp_wire::specs::Taking::byte_of))]
+#[unsafe(no_mangle)]
+pub extern "C" fn rmp_next(bytes: &[u8], at: usize, item: &mut Item) -> u32
+    ensures item { result ≡ 0 → IsItem bytes.now at item.new }
+    // Otherwise no head stands there with its content,
+    ensures none { result ≢ 0 → Node bytes.now at → ⊥ }
+    // and the item stays as it was.
+    ensures kept { result ≢ 0 → item.new ≡ item.old }
+    ensures end { result ≡ 1 → drop at bytes.now ≡ [] }
+    ensures reserved { result ≡ 3 → OpensReserved (drop at bytes.now) }
+{
+    if at >= bytes.len() {
+        return 1;
+    }
+    let mut rest: &[u8] = &bytes[at..];
+    match next_head(&mut rest) {
+        Ok((_, head)) => {
+            let content = content_in(head);
+            if rest.len() < content as usize {
+                return 2;
+            }
+            *item = item_of(head, bytes.len() - rest.len(), content);
+            0
+        }
+        Err(ValueReadError::InvalidMarkerRead(_)) => 1,
+        Err(ValueReadError::InvalidDataRead(_)) => 2,
+        Err(ValueReadError::TypeMismatch(_)) => 3,
+    }
+}
+
+// How many bytes of content stand behind a head.
+fn content_in(head: Head) -> u32
+    ensures { result ≡ content_len head }
+{
+    match head {
+        Head::Text(len) | Head::Bin(len) | Head::Ext(len, _) => len,
+        _ => 0,
+    }
+}
+
+// What a head says, where its content lies there.
+fn item_of(head: Head, start: usize, content: u32) -> Item
+    ensures says { fits_head head → Says head result }
+    ensures start { result.start ≡ start }
+    ensures len { result.len ≡ content }
+{
+    let none = Item {
+        kind: 0,
+        items: 0,
+        number: 0,
+        start,
+        len: content as usize,
+    };
+    match head {
+        Head::Nil => none,
+        Head::Truth(false) => Item { kind: 1, ..none },
+        Head::Truth(true) => Item {
+            kind: 1,
+            number: 1,
+            ..none
+        },
+        Head::Whole(z) => {
+            let (kind, number) = number_of(z);
+            Item {
+                kind,
+                number,
+                ..none
+            }
+        }
+        Head::F32Bits(bits) => Item {
+            kind: 4,
+            number: u64::from(bits),
+            ..none
+        },
+        Head::F64Bits(bits) => Item {
+            kind: 5,
+            number: bits,
+            ..none
+        },
+        Head::Text(_) => Item { kind: 6, ..none },
+        Head::Bin(_) => Item { kind: 7, ..none },
+        Head::Array(items) => Item {
+            kind: 8,
+            items,
+            ..none
+        },
+        Head::Map(items) => Item {
+            kind: 9,
+            items,
+            ..none
+        },
+        Head::Ext(_, tag) => Item {
+            kind: 10,
+            number: u64::from(tag.cast_unsigned()),
+            ..none
+        },
+    }
+}
+
+// The kind of a number, and the number.
+#[tactic(auto, unfolding(rmp_wire::specs::Heads::fits_head))]
+fn number_of(z: i128) -> (u32, u64)
+    ensures { fits_head (Whole z) → SaysNumber z result.0 result.1 }
+{
+    if z >= 0 {
+        match u64::try_from(z) {
+            Ok(n) => (2, n),
+            Err(_) => (2, 0),
+        }
+    } else {
+        match i64::try_from(z) {
+            Ok(n) => (3, n.cast_unsigned()),
+            Err(_) => (3, 0),
+        }
+    }
+}
