@@ -125,11 +125,15 @@ impl<R: Source, C: SerializerConfig> Deserializer<R, C> {
         let outer = self.room;
         self.room = inner;
         self.failed = false;
-        let opened = self.open_struct();
-        self.room = outer;
-        match opened {
-            Ok((kind, len)) => Ok((kind, len)),
-            Err(e) => Err(e),
+        match self.open_struct() {
+            Ok((kind, len)) => {
+                self.room = outer;
+                Ok((kind, len))
+            }
+            Err(e) => {
+                self.room = outer;
+                Err(e)
+            }
         }
     }
 }

@@ -300,14 +300,16 @@ impl<R: Source, C: SerializerConfig> Deserializer<R, C> {
         let outer = self.room;
         self.room = inner;
         self.failed = false;
-        let part = self.deserialize_identifier(names);
-        self.room = outer;
-        match part {
+        match self.deserialize_identifier(names) {
             Ok(v) => {
+                self.room = outer;
                 self.failed = true;
                 Ok(v)
             }
-            Err(e) => Err(e),
+            Err(e) => {
+                self.room = outer;
+                Err(e)
+            }
         }
     }
 

@@ -27,14 +27,17 @@ impl<R: Source, C: SerializerConfig> Deserializer<R, C> {
         let outer = self.room;
         self.room = inner;
         self.failed = false;
-        let part = T::deserialize(self);
-        self.room = outer;
-        match part {
+        // (each answer goes its own way, so that no error is carried along with a value)
+        match T::deserialize(self) {
             Ok(v) => {
+                self.room = outer;
                 self.failed = true;
                 Ok(v)
             }
-            Err(e) => Err(e),
+            Err(e) => {
+                self.room = outer;
+                Err(e)
+            }
         }
     }
 

@@ -316,11 +316,15 @@ impl<R: Source, C: SerializerConfig> Deserializer<R, C> {
         let outer = self.room;
         self.room = inner;
         self.failed = false;
-        let opened = self.open_tuple();
-        self.room = outer;
-        match opened {
-            Ok((bytes, len)) => Ok((bytes, len)),
-            Err(e) => Err(e),
+        match self.open_tuple() {
+            Ok((bytes, len)) => {
+                self.room = outer;
+                Ok((bytes, len))
+            }
+            Err(e) => {
+                self.room = outer;
+                Err(e)
+            }
         }
     }
 

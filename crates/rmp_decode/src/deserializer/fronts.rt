@@ -144,6 +144,18 @@ impl<R: Source, C: SerializerConfig> Deserializer<R, C> {
         if !self.begins_ahead() {
             return None;
         }
+        self.unsigned_ahead(most)
+    }
+
+    // The same where the next message begins with the bytes ahead of the source.
+    #[inline(always)]
+    pub(crate) fn unsigned_ahead(&mut self, most: u64) -> Option<u64>
+        requires fresh { is_failed self.old ≡ false }
+        requires clean { kept_of self.old ≡ Nothing }
+        ensures within { IfSome result (λ n. n ≤ most) }
+        ensures taken { IfSome result (λ n. TakesFront R.Source (Head.Whole (pos n)) self.old self.new) }
+        ensures kept { IfNone result (self.new ≡ self.old) }
+    {
         if self.strict {
             return self.canonical_unsigned_front(most);
         }

@@ -147,7 +147,26 @@ impl<R: Source, C: SerializerConfig> Deserializer<R, C> {
         ensures exact { RefusesHead R.Source other_number self.old self.new result }
         ensures memory { IfErr result (λ e. e ≢ Error.OutOfMemory) }
     {
-        match self.unsigned_front(most) {
+        if !self.begins_ahead() {
+            return self.offered_unsigned(most);
+        }
+        match self.unsigned_ahead(most) {
+            Some(n) => {
+                self.failed = false;
+                Ok(n)
+            }
+            None => self.called_unsigned(most),
+        }
+    }
+
+    // The same, of a number that was kept back out of bytes, or by a call.
+    #[inline(always)]
+    fn offered_unsigned(&mut self, most: u64) -> Result<u64, Error>
+        ensures law { Lawful R.Source (IsUnsigned most) self.old self.new result }
+        ensures exact { RefusesHead R.Source other_number self.old self.new result }
+        ensures memory { IfErr result (λ e. e ≢ Error.OutOfMemory) }
+    {
+        match self.offered_number(most) {
             Some(n) => {
                 self.failed = false;
                 Ok(n)
@@ -169,25 +188,9 @@ impl<R: Source, C: SerializerConfig> Deserializer<R, C> {
         }
     }
 
-    // The same, of a number that was kept back out of bytes, or by way of `head`.
+    // The same by way of `head`.
     #[inline(never)]
     fn headed_unsigned(&mut self, most: u64) -> Result<u64, Error>
-        ensures law { Lawful R.Source (IsUnsigned most) self.old self.new result }
-        ensures exact { RefusesHead R.Source other_number self.old self.new result }
-        ensures memory { IfErr result (λ e. e ≢ Error.OutOfMemory) }
-    {
-        match self.offered_number(most) {
-            Some(n) => {
-                self.failed = false;
-                Ok(n)
-            }
-            None => self.unsigned_by_head(most),
-        }
-    }
-
-    // The same by way of `head`.
-    #[inline(always)]
-    fn unsigned_by_head(&mut self, most: u64) -> Result<u64, Error>
         ensures law { Lawful R.Source (IsUnsigned most) self.old self.new result }
         ensures exact { RefusesHead R.Source other_number self.old self.new result }
         ensures memory { IfErr result (λ e. e ≢ Error.OutOfMemory) }

@@ -1,6 +1,6 @@
 use Rattle.std.proofs.Common.{refl, rules}
 use Rattle.rmp_decode.proofs.Fronts.{any_stands, front_taken}
-use Rattle.rmp_decode.proofs.deserializer.Deserializer.unsigned_front.Goals as goal
+use Rattle.rmp_decode.proofs.deserializer.Deserializer.unsigned_ahead.Goals as goal
 
 pub returns-then-skip-clause-taken : goal.returns-then-skip-clause-taken
 returns-then-skip-clause-taken g c =
