@@ -416,6 +416,11 @@ opens_text_8 b n e l k =
     let yes : nat_lt n 256 ≡ true = lt-ltb n 256 k in
     rw (no, yes) e
 
+-- and of 16 bytes
+pub opens_sixteen : (b : ℕ) → b ≡ 0xc4 → Opens b (canon_head (Bin 16))
+unfolding canon_head
+opens_sixteen b e = e
+
 -- and of a truth, of the bits of a float
 pub opens_false : (b : ℕ) → b ≡ 0xc2 → Opens b (canon_head (Truth false))
 unfolding canon_head

@@ -50,6 +50,7 @@ fn not_wide(marker: Marker, head: Head) -> Error
 }
 
 // The next 16 bytes.
+#[inline(always)]
 fn take_16<S: Source>(source: &mut S) -> Result<[u8; 16], IoFault>
     ensures bytes { Takes 16 (S.ahead source.old) (S.ahead source.new) (S.faults source.old) (S.faults source.new) result }
     ensures place { S.place source.new ≡ S.place source.old }
@@ -60,6 +61,7 @@ fn take_16<S: Source>(source: &mut S) -> Result<[u8; 16], IoFault>
 }
 
 // The same, as a number without a sign.
+#[inline(always)]
 fn next_sixteen<S: Source>(source: &mut S) -> Result<u128, Error>
     ensures ok { IfOk result (TakesSixteen (S.ahead source.old) (S.ahead source.new)) }
     ensures sound { OnOk result (S.faults source.new ≡ S.faults source.old) }
@@ -80,7 +82,27 @@ impl<R: Source, C: SerializerConfig> Deserializer<R, C> {
     /// # Errors
     /// `LengthMismatch(16)` for other bytes and for a list whose head is one byte, and `TypeMismatch` with the marker that was
     /// there, for another kind.
+    #[inline(always)]
     pub fn deserialize_i128(&mut self) -> Result<i128, Error>
+        ensures law { Lawful R.Source IsSigned128 self.old self.new result }
+        ensures exact { RefusesLeaf R.Source IsSigned128Head not_wide never_refused self.old self.new result }
+        ensures memory { IfErr result (λ e. e ≢ Error.OutOfMemory) }
+    {
+        if !self.sixteen_front() {
+            return self.headed_i128();
+        }
+        match next_sixteen(&mut self.reader) {
+            Ok(n) => {
+                self.failed = false;
+                Ok(n.cast_signed())
+            }
+            Err(e) => Err(e),
+        }
+    }
+
+    // The same by way of `head`, by a call.
+    #[inline(never)]
+    fn headed_i128(&mut self) -> Result<i128, Error>
         ensures law { Lawful R.Source IsSigned128 self.old self.new result }
         ensures exact { RefusesLeaf R.Source IsSigned128Head not_wide never_refused self.old self.new result }
         ensures memory { IfErr result (λ e. e ≢ Error.OutOfMemory) }
@@ -110,7 +132,27 @@ impl<R: Source, C: SerializerConfig> Deserializer<R, C> {
     /// # Errors
     /// `OutOfRange` for a negative number, `LengthMismatch(16)` for other bytes and for a list whose head is one byte, and
     /// `TypeMismatch` with the marker that was there, for another kind.
+    #[inline(always)]
     pub fn deserialize_u128(&mut self) -> Result<u128, Error>
+        ensures law { Lawful R.Source IsUnsigned128 self.old self.new result }
+        ensures exact { RefusesLeaf R.Source IsUnsigned128Head not_wide never_refused self.old self.new result }
+        ensures memory { IfErr result (λ e. e ≢ Error.OutOfMemory) }
+    {
+        if !self.sixteen_front() {
+            return self.headed_u128();
+        }
+        match next_sixteen(&mut self.reader) {
+            Ok(n) => {
+                self.failed = false;
+                Ok(n)
+            }
+            Err(e) => Err(e),
+        }
+    }
+
+    // The same by way of `head`, by a call.
+    #[inline(never)]
+    fn headed_u128(&mut self) -> Result<u128, Error>
         ensures law { Lawful R.Source IsUnsigned128 self.old self.new result }
         ensures exact { RefusesLeaf R.Source IsUnsigned128Head not_wide never_refused self.old self.new result }
         ensures memory { IfErr result (λ e. e ≢ Error.OutOfMemory) }
@@ -148,6 +190,7 @@ impl<'de, R: ReadSlice<'de>> Deserialize<'de, R> for i128 {
 
     ghost takes_memory = { λ _. false };
 
+    #[inline(always)]
     fn deserialize<C: SerializerConfig>(de: &mut Deserializer<R, C>) -> Result<i128, Error> {
         de.deserialize_i128()
     }
@@ -166,6 +209,7 @@ impl<'de, R: ReadSlice<'de>> Deserialize<'de, R> for u128 {
 
     ghost takes_memory = { λ _. false };
 
+    #[inline(always)]
     fn deserialize<C: SerializerConfig>(de: &mut Deserializer<R, C>) -> Result<u128, Error> {
         de.deserialize_u128()
     }

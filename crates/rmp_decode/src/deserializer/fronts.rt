@@ -7,7 +7,9 @@ ghost use Rattle.rmp_decode.specs.declared.deserializer.Kept.TheVariants.{Nothin
 
 mod kinds;
 
-use crate::deserializer::fronts::kinds::{f32_at, f64_at, head_at, signed_at, truth_at};
+use crate::deserializer::fronts::kinds::{
+    f32_at, f64_at, head_at, signed_at, sixteen_at, truth_at,
+};
 use crate::deserializer::{Deserializer, Kept};
 use crate::error::Error;
 use rmp_wire::config::SerializerConfig;
@@ -314,6 +316,26 @@ impl<R: Source, C: SerializerConfig> Deserializer<R, C> {
                 }
             }
             None => None,
+        }
+    }
+
+    // Takes the head of 16 bytes where it lies in memory, and leaves this failed until they are read. Else nothing is taken.
+    #[inline(always)]
+    pub(crate) fn sixteen_front(&mut self) -> bool
+        ensures taken { result ≡ true → TakesFront R.Source (Head.Bin 16) self.old self.new }
+        ensures kept { result ≡ false → self.new ≡ self.old }
+    {
+        if !self.begins_ahead() {
+            return false;
+        }
+        if !sixteen_at(self.reader.front()) {
+            return false;
+        }
+        if self.reader.skip(2) {
+            self.failed = true;
+            true
+        } else {
+            false
         }
     }
 

@@ -1,5 +1,5 @@
 //! Heads of any kind but an extension that lie in memory whole.
-ghost use Rattle.std.specs.Prelude.{◌<ℤ◌, Bool, true, false, IfSome};
+ghost use Rattle.std.specs.Prelude.{◌≡◌, ◌<ℤ◌, Bool, true, false, IfSome};
 ghost use Rattle.rmp_decode.specs.Fronts.{StandsIn};
 
 use crate::deserializer::fronts::unsigned_at;
@@ -46,6 +46,23 @@ fn bytes_at(front: &[u8]) -> Option<(Head, usize)>
             _ => None,
         },
         _ => None,
+    }
+}
+
+// Whether the head of 16 bytes stands at the front. It has two bytes.
+#[inline(always)]
+pub(super) fn sixteen_at(front: &[u8]) -> bool
+    ensures { result ≡ true → (strict : Bool) → StandsIn strict 2 (Head.Bin 16) front.now }
+{
+    match front {
+        [first, behind @ ..] => match first {
+            0xc4 => match behind {
+                [a, ..] => *a == 16,
+                _ => false,
+            },
+            _ => false,
+        },
+        _ => false,
     }
 }
 
