@@ -313,9 +313,27 @@ impl<R: Source, C: SerializerConfig> Deserializer<R, C> {
         }
     }
 
-    // Takes the head of a list, of bytes, or of a map.
+    // Takes the head of a list, of bytes, or of a map. That of a short list is read where it lies.
     #[inline(always)]
     pub(crate) fn open_struct(&mut self) -> Result<(Option<bool>, u32), Error>
+        ensures ok { IfOk result (λ p. TakesHead R.Source (fields_head p.0 p.1) self.old self.new) }
+        ensures deep { IfOk result (λ p. p.0 ≢ Some true → 1 < self.old.room) }
+        ensures stays { Stays R.Source self.old self.new }
+        ensures sound { OnOk result (faults_of R.Source self.new ≡ faults_of R.Source self.old) }
+        ensures fresh { OnOk result (is_failed self.old ≡ false) }
+        ensures clean { OnOk result (kept_of self.new ≡ Nothing) }
+        ensures failed { is_failed self.new ≡ true }
+        ensures err { IfErr result (FailsToOpenFields R.Source self.old self.new) }
+    {
+        match self.list_front() {
+            Some(len) => Ok((Some(false), len)),
+            None => self.headed_struct(),
+        }
+    }
+
+    // The same by way of `head`.
+    #[inline(always)]
+    fn headed_struct(&mut self) -> Result<(Option<bool>, u32), Error>
         ensures ok { IfOk result (λ p. TakesHead R.Source (fields_head p.0 p.1) self.old self.new) }
         ensures deep { IfOk result (λ p. p.0 ≢ Some true → 1 < self.old.room) }
         ensures stays { Stays R.Source self.old self.new }

@@ -1,7 +1,7 @@
 use Rattle.std.proofs.Common.{◌∙◌, ap, refl, arith, false, None, Some, Bool, Option}
 use Rattle.rmp_decode.specs.Fields.{fields_head}
 use Rattle.rmp_decode.proofs.Fields.{no_fields_begin, no_fields, fields_too_deep}
-use Rattle.rmp_decode.proofs.deserializer.Deserializer.open_struct.Goals as goal
+use Rattle.rmp_decode.proofs.deserializer.Deserializer.headed_struct.Goals as goal
 
 pub returns-in-None-clause-err : goal.returns-in-None-clause-err
 returns-in-None-clause-err g c = no_fields g.R.Source _ _ _ (c.in-Ok.field-0-0, c.in-Ok.head) c.in-Ok.ensures c.in-None.ensures refl
