@@ -27,7 +27,7 @@ use Rattle.std.proofs.Common.{
   append_assoc,
   append-nil,
 }
-use Rattle.std.specs.Prelude.{Result, Ok, Err, MatchResult, ◌||◌}
+use Rattle.std.specs.Prelude.{if◌then◌else◌, Result, Ok, Err, MatchResult, ◌||◌}
 use Rattle.std.specs.List.{flat_map, AllByRecursion}
 use Rattle.std.specs.declared.vec.Vec.{Vec}
 use Rattle.std.specs.declared.alloc.Global.{Global}
@@ -39,17 +39,19 @@ use Rattle.rmp_encode.specs.declared.serializer.Serializer.{Serializer}
 use Rattle.rmp_encode.specs.declared.error.Error.{Error}
 use Rattle.rmp_encode.specs.declared.error.Error.TheVariants.{OutOfMemory}
 use Rattle.rmp_encode.specs.Data.{Data, lower, packs_tuple}
-use Rattle.rmp_encode.specs.Trees.{Has, HasTree, a_byte, byte_of, forces_all, number_head, sequence_of, spell, spelling, tree_of, tuple_of}
+use Rattle.rmp_encode.specs.Trees.{Has, HasTree, a_byte, array_head, byte_of, forces_all, number_head, sequence_of, spell, spelling, tree_of, tuple_of}
 use Rattle.rmp_wire.specs.Msg.{Msg, bin}
 use Rattle.rmp_wire.specs.Heads.{fits_head}
+use Rattle.rmp_wire.specs.Spelling.{canon}
 use Rattle.rmp_encode.specs.Ser.{sink_of, settings_of}
-use Rattle.rmp_encode.specs.Writes.{Keeps, WritesPart, WritesTree}
+use Rattle.rmp_encode.specs.Writes.{FirstAtMarker, Keeps, NoneAtMarker, WritesPart, WritesTree}
 use Rattle.rmp_encode.specs.Going.{head_at, IsMadeOf, IsWriting}
 use Rattle.rmp_encode.specs.Errors.{IsTooLong}
-use Rattle.rmp_encode.specs.Tuples.{OpenTuple, IsProbing, IsTupling, IsTuplingAt, kept_at, kept_of}
+use Rattle.rmp_encode.specs.Tuples.{items_kept, OpenTuple, IsProbing, IsTupling, IsTuplingAt, kept_at, kept_of}
 use Rattle.rmp_encode.proofs.Parts.{or_second, part_any, part_as, part_nothing, part_refused, part_takes}
 use Rattle.rmp_encode.proofs.Lists.{made_list}
 use Rattle.rmp_encode.proofs.Going.{all_append, made_as, made_of, made_sure, made_ended, made_stopped, goes}
+use Rattle.rmp_encode.proofs.Numbers.{marker_behind, marker_first}
 use Rattle.rmp_encode.proofs.Packing.{byte_from, tuple_can, plain_by, plain_mode, is_force_all, bytes_tree, list_tree}
 
 has_byte : (s : Settings) (b : ℕ) → b < 256 → Has s (a_byte b)
@@ -237,3 +239,32 @@ module _ {W C : Type 0} (g : Ghosts W) where
   pub still_tuple : {old : Serializer W C} {t : Option Msg} {rest rest' : List (Option Data)} {q : OpenTuple W C} → rest ≡ rest' → IsTupling g old t rest q
       → IsTupling g old t rest' q
   still_tuple {old} {t} {rest} {rest'} {q} e h = subst (λ ds. IsTupling g old t ds q) e h
+
+-- what the end writes, where bytes are kept
+items_packed : (v : Vec ℕ Global) (len : ℕ) → packs_tuple ForceAll v.items ≡ true → items_kept (Some v) len ≡ canon (bin v.items) ∷ []
+unfolding items_kept
+items_packed v len e = ap (λ b. if b then canon (bin v.items) ∷ [] else array_head len ∷ map number_head v.items) e
+
+items_listed : (v : Vec ℕ Global) (len : ℕ) → packs_tuple ForceAll v.items ≡ false → items_kept (Some v) len ≡ head_at false len ∷ map number_head v.items
+unfolding items_kept head_at
+items_listed v len e = ap (λ b. if b then canon (bin v.items) ∷ [] else array_head len ∷ map number_head v.items) e
+
+module _ {W : Type 0} (g : Ghosts W) where
+  -- what an error at the end says of first bytes: of bytes, of the head of a list, and of its numbers
+  pub marker_packed : (v : Vec ℕ Global) (len : ℕ) {k : Option (Vec ℕ Global)} → packs_tuple ForceAll v.items ≡ true → k ≡ Some v → (old new : W)
+      (r : Result (Unit {0}) Error) → NoneAtMarker g old new r → FirstAtMarker g (items_kept k len) old new r
+  marker_packed v len {k} packed is old new r none = subst (λ l. FirstAtMarker g l old new r) (sym (ap (λ x. items_kept x len) is ∙ items_packed v len packed))
+      (marker_first g (canon (bin v.items)) [] old new r none)
+
+  pub marker_no_head : {m : Bool} (v : Vec ℕ Global) (len : ℕ) {k : Option (Vec ℕ Global)} → packs_tuple ForceAll v.items ≡ false → k ≡ Some v
+      → {old new : W} {e : Error} → WritesPart g {A = Unit {0}} m (Unit {0}) (head_at false len) old new (Err e)
+      → NoneAtMarker g {A = Unit {0}} old new (Err e) → FirstAtMarker g {A = Unit {0}} (items_kept k len) old new (Err e)
+  marker_no_head v len {k} listed is {old} {new} {e} w none = subst (λ l. FirstAtMarker g {A = Unit {0}} l old new (Err e))
+      (sym (ap (λ x. items_kept x len) is ∙ items_listed v len listed))
+      (marker_first g (head_at false len) (map number_head v.items) old new (Err e) none)
+
+  pub marker_numbers : {m : Bool} (v : Vec ℕ Global) (len : ℕ) {k : Option (Vec ℕ Global)} → packs_tuple ForceAll v.items ≡ false → k ≡ Some v
+      → {old mid : W} {u : Unit {0}} (new : W) (r : Result (Unit {0}) Error) → WritesPart g m (Unit {0}) (head_at false len) old mid (Ok u)
+      → FirstAtMarker g (map number_head v.items) mid new r → FirstAtMarker g (items_kept k len) old new r
+  marker_numbers v len {k} listed is {old} new r w h = subst (λ l. FirstAtMarker g l old new r) (sym (ap (λ x. items_kept x len) is ∙ items_listed v len listed))
+      (marker_behind g (head_at false len) (map number_head v.items) new r w h)

@@ -1,16 +1,17 @@
 -- What a contract sees of a tuple that is open.
-use Rattle.std.specs.Prelude.{◌≡◌, ℕ, ◌<◌, ◌^◌, ◌++◌, Bool, true, false, List, length, map, Option, None, Some}
+use Rattle.std.specs.Prelude.{if◌then◌else◌, ◌≡◌, ℕ, ◌<◌, ◌^◌, ◌++◌, Bool, true, false, List, [], ◌∷◌, length, map, Option, None, Some}
 use Rattle.std.specs.List.{AllByRecursion}
 use Rattle.std.specs.Borrow.{GName}
 use Rattle.std.specs.declared.vec.Vec.{Vec}
 use Rattle.std.specs.declared.alloc.Global.{Global}
-use Rattle.rmp_wire.specs.Msg.{Msg}
+use Rattle.rmp_wire.specs.Msg.{Msg, bin}
+use Rattle.rmp_wire.specs.Spelling.{canon}
 use Rattle.rmp_wire.specs.declared.sink.Sink.{Ghosts}
 use Rattle.rmp_encode.specs.declared.serializer.Serializer.{Serializer}
 use Rattle.rmp_encode.specs.declared.tuple.Tuple.{Tuple}
 use Rattle.rmp_wire.specs.declared.config.BytesMode.TheVariants.{ForceAll}
-use Rattle.rmp_encode.specs.Data.{Data}
-use Rattle.rmp_encode.specs.Trees.{Has, a_byte, tree_of, tuple_of}
+use Rattle.rmp_encode.specs.Data.{Data, packs_tuple}
+use Rattle.rmp_encode.specs.Trees.{Has, a_byte, array_head, number_head, tree_of, tuple_of}
 use Rattle.rmp_encode.specs.Ser.{settings_of}
 use Rattle.rmp_encode.specs.Going.{IsWriting}
 
@@ -23,6 +24,11 @@ abbrev pub kept_at : {B : Type 0} → Option B → Bool → Option B
 kept_at None probing = None
 kept_at (Some b) true = Some b
 kept_at (Some b) false = None
+
+-- the items that the end writes of what is kept: the bytes as one, or the head of a list and the numbers
+unfoldable pub items_kept : Option (Vec ℕ Global) → ℕ → List (List ℕ)
+items_kept None len = []
+items_kept (Some v) len = if packs_tuple ForceAll v.items then canon (bin v.items) ∷ [] else array_head len ∷ map number_head v.items
 
 module _ {W C : Type 0} where
   -- the serializer that it writes into, and the reference to it
@@ -42,6 +48,10 @@ module _ {W C : Type 0} where
 
   abbrev pub kept_of : OpenTuple W C → Option (Vec ℕ Global)
   kept_of q = kept_at q.kept q.probing
+
+  -- the items that its end writes
+  abbrev pub items_left : OpenTuple W C → List (List ℕ)
+  items_left q = items_kept (kept_of q) q.len
 
 module _ {W C : Type 0} (g : Ghosts W) where
   -- what went before was bytes, which are kept, and nothing has reached the sink

@@ -1,6 +1,7 @@
 -- What a write does to a sink and a serializer.
-use Rattle.std.specs.Prelude.{◌≡◌, ◌≢◌, ℕ, ◌<◌, ◌++◌, Bool, IsTrue, List, [], length, Option, Result, Ok, Err, OnOk, OnErr, IfErr}
+use Rattle.std.specs.Prelude.{◌≡◌, ◌≢◌, ℕ, ◌<◌, ◌++◌, Bool, IsTrue, List, [], ◌∷◌, length, Option, Result, Ok, Err, OnOk, OnErr, IfErr}
 use Rattle.std.specs.Io.KnownBytes.{Appends}
+use Rattle.std.specs.List.{flat_map}
 use Rattle.rmp_wire.specs.declared.error.ValueWriteError.TheVariants as wire
 use Rattle.rmp_wire.specs.declared.sink.Sink.{Ghosts}
 use Rattle.rmp_wire.specs.Msg.{Msg}
@@ -28,6 +29,14 @@ pub record AppendsPart (old new : Option (List ℕ)) (bs : List ℕ) : Type 0 wh
   pub rest : List ℕ
   pub split : bs ≡ part ++ rest
   pub appended : Appends old new part
+
+-- of these items the told bytes grew by the first ones, each whole, and by nothing of the next
+pub record AppendsFirst (items : List (List ℕ)) (old new : Option (List ℕ)) : Type 0 where
+  pub front : List (List ℕ)
+  pub next : List ℕ
+  pub rest : List (List ℕ)
+  pub split : items ≡ front ++ next ∷ rest
+  pub appended : Appends old new (flat_map (λ item. item) front)
 
 -- The causes of an error, where P says that there is something to write: a fault of the sink was counted, or there is nothing to write, or
 -- memory was refused, if m says that memory may be taken.
@@ -71,6 +80,11 @@ module _ {W : Type 0} (g : Ghosts W) where
   abbrev pub NoneAtMarker : {A : Type 0} → W → W → Result A Error → Type 0
   NoneAtMarker old new (Err (InvalidValueWrite (wire.InvalidMarkerWrite fault))) = Appends (g.told old) (g.told new) []
   NoneAtMarker old new r = Unit {0}
+
+  -- of several items: where an error says that the first byte of one wasn't taken, those before it are whole
+  abbrev pub FirstAtMarker : {A : Type 0} → List (List ℕ) → W → W → Result A Error → Type 0
+  FirstAtMarker items old new (Err (InvalidValueWrite (wire.InvalidMarkerWrite fault))) = AppendsFirst items (g.told old) (g.told new)
+  FirstAtMarker items old new r = Unit {0}
 
   -- the canonical spelling of the tree, if one is there that fits
   abbrev pub WritesTree : {A : Type 0} → Bool → Option Msg → W → W → Result A Error → Type 0

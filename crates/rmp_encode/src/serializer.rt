@@ -309,6 +309,7 @@ impl<W: Sink, C: SerializerConfig> Serializer<W, C> {
     #[inline(always)]
     pub(crate) fn put_byte(&mut self, n: u8) -> Result<(), Error>
         ensures writes { WritesPart W.Sink W.takes_memory (Unit {0}) (number_head n) (sink_of self.old) (sink_of self.new) result }
+        ensures marker { NoneAtMarker W.Sink (sink_of self.old) (sink_of self.new) result }
         ensures keeps { Keeps W.Sink self.old self.new }
     {
         answer(write_uint(&mut self.wr, u64::from(n)))

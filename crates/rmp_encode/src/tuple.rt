@@ -8,8 +8,8 @@ ghost use Rattle.rmp_encode.specs.Going.{Ends, Goes, Rests};
 ghost use Rattle.rmp_encode.specs.Ser.{sink_of, settings_of};
 ghost use Rattle.rmp_encode.specs.Sizes.{one_of};
 ghost use Rattle.rmp_encode.specs.Trees.{tree_of, tuple_of, forces_all, number_head};
-ghost use Rattle.rmp_encode.specs.Tuples.{inside, reference, left_of, is_sound, IsTupling};
-ghost use Rattle.rmp_encode.specs.Writes.{Keeps, WritesPart, StaysAtRefusal, WritesTree};
+ghost use Rattle.rmp_encode.specs.Tuples.{inside, reference, items_left, left_of, is_sound, IsTupling};
+ghost use Rattle.rmp_encode.specs.Writes.{FirstAtMarker, Keeps, WritesPart, StaysAtRefusal, WritesTree};
 
 use crate::error::Error;
 use crate::length::fits_u32;
@@ -80,6 +80,7 @@ impl<W: Sink, C: SerializerConfig> Serializer<W, C> {
     // Each byte as a number.
     pub(crate) fn put_numbers(&mut self, bytes: &[u8]) -> Result<(), Error>
         ensures writes { WritesPart W.Sink W.takes_memory (Unit {0}) (flat_map number_head bytes.now) (sink_of self.old) (sink_of self.new) result }
+        ensures marker { FirstAtMarker W.Sink (map number_head bytes.now) (sink_of self.old) (sink_of self.new) result }
         ensures keeps { Keeps W.Sink self.old self.new }
     {
         for b in bytes {
@@ -252,12 +253,17 @@ impl<'a, W: Sink, C: SerializerConfig> Tuple<'a, W, C> {
         self.sound
     }
 
-    /// Ends the tuple. What was kept is written; it fails as the sink does. The caller's conditions: `is_sound`, and `left` is 0.
+    /// Ends the tuple. What was kept is written. The caller's conditions: `is_sound`, and `left` is 0.
+    ///
+    /// # Errors
+    /// What the sink answers: `InvalidMarkerWrite` where nothing of an item was taken and those before it are whole, and
+    /// `InvalidDataWrite` where a beginning of one was. Bytes are one item; of a list the head is one, and each number.
     #[inline(always)]
     pub fn end(self) -> Result<(), Error>
         requires sound { is_sound self ≡ true }
         requires whole { left_of self ≡ 0 }
         ensures writes { Ends W.Sink (IsTupling W.Sink) self.entry (sink_of self.exit.0.now) result }
+        ensures marker { FirstAtMarker W.Sink (items_left self.entry) (sink_of (inside self.entry)) (sink_of self.exit.0.now) result }
         ensures keeps { Keeps W.Sink (inside self.entry) self.exit.0.now }
     {
         let Tuple {

@@ -2,7 +2,7 @@ use Rattle.std.proofs.Common.{arith}
 use Rattle.std.proofs.lemmas.Result.{err_from_is_err_and}
 use Rattle.rmp_encode.specs.Trees.{number_head}
 use Rattle.rmp_encode.proofs.Going.{keeps_then}
-use Rattle.rmp_encode.proofs.Numbers.{number_more, number_fails}
+use Rattle.rmp_encode.proofs.Numbers.{number_fails, number_marker, number_more}
 use Rattle.rmp_encode.proofs.serializer.Serializer.put_numbers.Goals as goal
 
 pub returns-in_err-put_byte-clause-writes : goal.returns-in_err-put_byte-clause-writes
@@ -10,6 +10,12 @@ returns-in_err-put_byte-clause-writes g c =
     let p = err_from_is_err_and c.from_residual.result c.from_residual.ensures.1 in
     rw (p.1, p.2) (number_fails g.W.Sink number_head c.args.bytes.now c.loop-b.b-index _ c.loop-b-test.true c.loop-b.invariant.writes
     c.in_err-put_byte.ensures.writes)
+
+pub returns-in_err-put_byte-clause-marker : goal.returns-in_err-put_byte-clause-marker
+returns-in_err-put_byte-clause-marker g c =
+    let p = err_from_is_err_and c.from_residual.result c.from_residual.ensures.1 in
+    rw (p.1, p.2) (number_marker g.W.Sink number_head c.args.bytes.now c.loop-b.b-index _ _ c.loop-b-test.true c.loop-b.invariant.writes
+    c.in_err-put_byte.ensures.marker)
 
 pub loop-b-preserved : goal.loop-b-preserved
 loop-b-preserved g c = record {

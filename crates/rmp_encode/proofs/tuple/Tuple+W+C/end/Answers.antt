@@ -4,7 +4,7 @@ use Rattle.rmp_encode.specs.Data.{packs_tuple}
 use Rattle.rmp_wire.specs.declared.config.BytesMode.TheVariants.{ForceAll}
 use Rattle.rmp_encode.proofs.Going.{closes}
 use Rattle.rmp_encode.proofs.Parts.{part_then, part_stops}
-use Rattle.rmp_encode.proofs.TupleSteps.{kept_none, kept_no_more, kept_some, probing_packs, probing_lists, list_state, probe_state}
+use Rattle.rmp_encode.proofs.TupleSteps.{kept_none, kept_no_more, kept_some, marker_no_head, marker_numbers, marker_packed, probing_packs, probing_lists, list_state, probe_state}
 use Rattle.rmp_encode.proofs.tuple.Tuple+W+C.end.Goals as goal
 
 pub returns-in_default-clause-writes : goal.returns-in_default-clause-writes
@@ -35,3 +35,22 @@ returns-clause-writes g c =
     λ old t h. probing_lists g.W.Sink c.in-Some.bytes.items _ c.args.self.se.now no_packs
     (part_then g.W.Sink c.in_ok-put_head.ensures.writes (rw c.as_slice-2.ensures.value at c.put_numbers.ensures.writes)) old t
     (probe_state g.W.Sink c.in-Some.bytes (kept_some c.in-Some.bytes c.in-Some.is c.if-not-probing.false) h)
+
+pub returns-then-packs-clause-marker : goal.returns-then-packs-clause-marker
+returns-then-packs-clause-marker g c =
+    let yes_packs = sym (c.packs.ensures ∙ ap (packs_tuple ForceAll) c.as_slice.ensures.value) ∙ c.if-packs.true in
+    marker_packed g.W.Sink c.in-Some.bytes _ yes_packs (kept_some c.in-Some.bytes c.in-Some.is c.if-not-probing.false) _ _ c.serialize_bytes.result
+    c.serialize_bytes.ensures.marker
+
+pub returns-in_err-put_head-clause-marker : goal.returns-in_err-put_head-clause-marker
+returns-in_err-put_head-clause-marker g c =
+    let no_packs = sym (c.packs.ensures ∙ ap (packs_tuple ForceAll) c.as_slice.ensures.value) ∙ c.if-packs.false in
+    let p = err_from_is_err_and c.from_residual.result c.from_residual.ensures.1 in
+    rw (p.1, p.2) (marker_no_head g.W.Sink c.in-Some.bytes _ no_packs (kept_some c.in-Some.bytes c.in-Some.is c.if-not-probing.false)
+    c.in_err-put_head.ensures.writes c.in_err-put_head.ensures.marker)
+
+pub returns-clause-marker : goal.returns-clause-marker
+returns-clause-marker g c =
+    let no_packs = sym (c.packs.ensures ∙ ap (packs_tuple ForceAll) c.as_slice.ensures.value) ∙ c.if-packs.false in
+    marker_numbers g.W.Sink c.in-Some.bytes _ no_packs (kept_some c.in-Some.bytes c.in-Some.is c.if-not-probing.false) _ c.put_numbers.result
+    c.in_ok-put_head.ensures.writes (rw c.as_slice-2.ensures.value at c.put_numbers.ensures.marker)
