@@ -18,7 +18,7 @@ use crate::error::ValueWriteError;
 use crate::marker::Marker;
 use crate::sink::Sink;
 
-// ---- A marker, and a number of so many bits behind it. The bytes are those of the widest number, so that one swap of bytes serves all widths.
+// ---- a marker, and a number of so many bits behind it
 
 #[inline(always)]
 fn put_marker<W: Sink>(sink: &mut W, marker: Marker) -> Result<(), ValueWriteError>
@@ -42,7 +42,7 @@ fn put_16<W: Sink>(sink: &mut W, marker: Marker, n: u16) -> Result<(), ValueWrit
     ensures place { W.place sink.new ≡ W.place sink.old }
 {
     let mut piece = [marker.to_u8(); 3];
-    piece[1..].copy_from_slice(&u64::from(n).to_be_bytes()[6..]);
+    piece[1..].copy_from_slice(&n.to_be_bytes());
     sink.put_all(&piece)
 }
 
@@ -52,7 +52,7 @@ fn put_32<W: Sink>(sink: &mut W, marker: Marker, n: u32) -> Result<(), ValueWrit
     ensures place { W.place sink.new ≡ W.place sink.old }
 {
     let mut piece = [marker.to_u8(); 5];
-    piece[1..].copy_from_slice(&u64::from(n).to_be_bytes()[4..]);
+    piece[1..].copy_from_slice(&n.to_be_bytes());
     sink.put_all(&piece)
 }
 
