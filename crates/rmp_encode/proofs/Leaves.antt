@@ -1,7 +1,7 @@
 -- What a writer of the wire wrote, as the law of a write says it.
-use Rattle.std.proofs.Common.{◌≡◌, ℕ, ◌<◌, ◌≤◌, ◌^◌, List, [], ◌∷◌, ◌++◌, ap, length, Bool, Some, suc, sym, ◌∙◌, subst, arith, get_or}
+use Rattle.std.proofs.Common.{◌≡◌, ℕ, ◌<◌, ◌≤◌, ◌^◌, ◌/◌, ◌%◌, List, [], ◌∷◌, ◌++◌, ap, length, take, drop, Bool, Some, suc, sym, ◌∙◌, subst, arith, get_or, refl}
 use Rattle.std.specs.Prelude.{Result, Ok, Err, ℤ, pos, negsuc, FitsSigned}
-use Rattle.std.specs.Int.{w8, w64}
+use Rattle.std.specs.Int.{w8, w64, w128, to_be_bytes}
 use Rattle.std.specs.Io.KnownBytes.{Appends}
 use Rattle.std.proofs.lemmas.Int.{to_z-of_z}
 use mir.Val.{to_z, of_z}
@@ -151,3 +151,24 @@ module _ {W : Type 0} (g : Ghosts W) where
   unfolding HasTree fits_head
   ext_too_long m tag s w e is le = part_refused g m (HasTree (Some (extension tag s))) (spell (Some (extension tag s))) w e is (λ h. let k = h.0.0
       in omega (arith, k, le))
+
+-- ---- a number of 128 bits as two of 64
+
+same_cons : {x y : ℕ} {xs ys : List ℕ} → x ≡ y → xs ≡ ys → x ∷ xs ≡ y ∷ ys
+same_cons p q = rw (p, q) refl
+
+high_half : (n : ℕ) (xs ys : List ℕ) → xs ≡ ys
+    → to_be_bytes w64 (n / 2 ^ 64) ++ xs ≡ take 8 (to_be_bytes w128 n) ++ ys
+high_half n xs ys rest =
+    same_cons (omega arith) (same_cons (omega arith) (same_cons (omega arith) (same_cons (omega arith)
+    (same_cons (omega arith) (same_cons (omega arith) (same_cons (omega arith) (same_cons (omega arith) rest)))))))
+
+low_half : (n : ℕ) → to_be_bytes w64 (n % 2 ^ 64) ≡ drop 8 (to_be_bytes w128 n)
+low_half n =
+    same_cons (omega arith) (same_cons (omega arith) (same_cons (omega arith) (same_cons (omega arith)
+    (same_cons (omega arith) (same_cons (omega arith) (same_cons (omega arith) (same_cons (omega arith) refl)))))))
+
+-- the head of sixteen bytes, and the halves behind it
+pub wide_piece : (n : ℕ) → 0xc4 ∷ 16 ∷ (to_be_bytes w64 (n / 2 ^ 64) ++ to_be_bytes w64 (n % 2 ^ 64)) ≡ canon (bin (to_be_bytes w128 n))
+unfolding canon_head
+wide_piece n = ap (λ l. 0xc4 ∷ 16 ∷ l) (high_half n _ _ (low_half n))

@@ -48,6 +48,9 @@ impl<W, C, P: Drop> Drop for MaybeUnknownLengthCompound<'_, W, C, P> {
     }
 }
 
+// The bytes that a buffer has room for at first.
+const ROOM: usize = 128;
+
 // The most parts that a head has room for.
 fn most(pairs: bool) -> u64
     ensures value { result ≡ most pairs }
@@ -77,12 +80,14 @@ fn size(pairs: bool, count: u64) -> u32
 impl<W: Sink, C: SerializerConfig> Serializer<W, C> {
     ghost use Rattle.rmp_encode.specs.Opens.{inside, reference, left_of, is_map, is_sound, owed, twice, IsLong, IsMapLong, IsOpen, MayOpen, Stays};
 
-    // A serializer with the same settings into an empty buffer.
+    // A serializer with the same settings into an empty buffer, which has room where there is memory.
     fn buffer(&self) -> Serializer<Vec<u8>, C>
         ensures settings { settings_of result ≡ settings_of self.now }
         ensures empty { (sink_of result).items ≡ [] }
     {
-        self.over(self.empty())
+        let mut bytes = self.empty();
+        let _reserved = bytes.reserve(ROOM);
+        self.over(bytes)
     }
 
     /// Opens a list of so many elements, or of a number that isn't known yet. After it go as many calls of `serialize_element`,
@@ -208,7 +213,7 @@ impl<'a, W: Sink, C: SerializerConfig> MaybeUnknownLengthCompound<'a, W, C> {
                     self.sound = false;
                     return Err(too_long());
                 }
-                let empty = self.se.buffer();
+                let empty = self.se.over(self.se.empty());
                 let mut kept = mem::replace(buffer, empty);
                 let result = value.serialize(&mut kept);
                 *buffer = kept;

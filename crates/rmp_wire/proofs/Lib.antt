@@ -8,7 +8,6 @@ pub mod Heads
 pub mod Lists
 pub mod Markers
 pub mod NextReads
-pub mod Pieces
 pub mod Reading
 pub mod Sources
 pub mod Spellings

@@ -1,7 +1,7 @@
 //! Writes of single items, each in its canonical spelling, into any sink.
 //!
-//! A head goes out as one piece of a size that each branch knows, cut from one number. A text and bytes go out from
-//! where they lie. A fault before an item's first byte is `InvalidMarkerWrite`, and a later one `InvalidDataWrite`; no
+//! A head goes out as one piece of a size that each branch knows: the marker, and the bytes of the number behind it. A text
+//! and bytes go out from where they lie. A fault before an item's first byte is `InvalidMarkerWrite`, and a later one `InvalidDataWrite`; no
 //! call goes on after a fault.
 #![tactic(auto, unfolding(crate::specs::Heads::canon_head, crate::specs::Taking::byte_of))]
 
@@ -33,8 +33,7 @@ fn put_8<W: Sink>(sink: &mut W, marker: Marker, n: u8) -> Result<(), ValueWriteE
     ensures writes { Writes W.Sink (byte_of marker ∷ to_be_bytes w8 n) sink.old sink.new result }
     ensures place { W.place sink.new ≡ W.place sink.old }
 {
-    let piece = (u16::from(marker.to_u8()) << 8 | u16::from(n)).to_be_bytes();
-    sink.put_all(&piece)
+    sink.put_all(&[marker.to_u8(), n])
 }
 
 #[inline(always)]
@@ -42,8 +41,9 @@ fn put_16<W: Sink>(sink: &mut W, marker: Marker, n: u16) -> Result<(), ValueWrit
     ensures writes { Writes W.Sink (byte_of marker ∷ to_be_bytes w16 n) sink.old sink.new result }
     ensures place { W.place sink.new ≡ W.place sink.old }
 {
-    let piece = (u32::from(marker.to_u8()) << 16 | u32::from(n)).to_be_bytes();
-    sink.put_all(&piece[1..])
+    let mut piece = [marker.to_u8(); 3];
+    piece[1..].copy_from_slice(&n.to_be_bytes());
+    sink.put_all(&piece)
 }
 
 #[inline(always)]
@@ -51,8 +51,9 @@ fn put_32<W: Sink>(sink: &mut W, marker: Marker, n: u32) -> Result<(), ValueWrit
     ensures writes { Writes W.Sink (byte_of marker ∷ to_be_bytes w32 n) sink.old sink.new result }
     ensures place { W.place sink.new ≡ W.place sink.old }
 {
-    let piece = (u64::from(marker.to_u8()) << 32 | u64::from(n)).to_be_bytes();
-    sink.put_all(&piece[3..])
+    let mut piece = [marker.to_u8(); 5];
+    piece[1..].copy_from_slice(&n.to_be_bytes());
+    sink.put_all(&piece)
 }
 
 #[inline(always)]
@@ -60,8 +61,9 @@ fn put_64<W: Sink>(sink: &mut W, marker: Marker, n: u64) -> Result<(), ValueWrit
     ensures writes { Writes W.Sink (byte_of marker ∷ to_be_bytes w64 n) sink.old sink.new result }
     ensures place { W.place sink.new ≡ W.place sink.old }
 {
-    let piece = (u128::from(marker.to_u8()) << 64 | u128::from(n)).to_be_bytes();
-    sink.put_all(&piece[7..])
+    let mut piece = [marker.to_u8(); 9];
+    piece[1..].copy_from_slice(&n.to_be_bytes());
+    sink.put_all(&piece)
 }
 
 /// Writes nil. It fails as `Sink::put_all` does.
@@ -79,10 +81,7 @@ pub fn write_bool<W: Sink>(sink: &mut W, b: bool) -> Result<(), ValueWriteError>
     ensures writes { Writes W.Sink (canon_head (Truth b)) sink.old sink.new result }
     ensures place { W.place sink.new ≡ W.place sink.old }
 {
-    if b {
-        return put_marker(sink, Marker::True);
-    }
-    put_marker(sink, Marker::False)
+    sink.put_all(&[0xc2 | u8::from(b)])
 }
 
 /// Writes a number from 0 on, in its shortest spelling. It fails as `Sink::put_all` does.
@@ -217,7 +216,9 @@ fn put_ext_16<W: Sink>(sink: &mut W, len: u16, tag: u8) -> Result<(), ValueWrite
     ensures writes { Writes W.Sink (0xc8 ∷ (to_be_bytes w16 len ++ tag ∷ [])) sink.old sink.new result }
     ensures place { W.place sink.new ≡ W.place sink.old }
 {
-    let piece = (0xc8_0000_00 | u32::from(len) << 8 | u32::from(tag)).to_be_bytes();
+    let mut piece = [tag; 4];
+    piece[0] = 0xc8;
+    piece[1..3].copy_from_slice(&len.to_be_bytes());
     sink.put_all(&piece)
 }
 
@@ -226,8 +227,10 @@ fn put_ext_32<W: Sink>(sink: &mut W, len: u32, tag: u8) -> Result<(), ValueWrite
     ensures writes { Writes W.Sink (0xc9 ∷ (to_be_bytes w32 len ++ tag ∷ [])) sink.old sink.new result }
     ensures place { W.place sink.new ≡ W.place sink.old }
 {
-    let piece = (0xc9_0000_0000_00 | u64::from(len) << 8 | u64::from(tag)).to_be_bytes();
-    sink.put_all(&piece[2..])
+    let mut piece = [tag; 6];
+    piece[0] = 0xc9;
+    piece[1..5].copy_from_slice(&len.to_be_bytes());
+    sink.put_all(&piece)
 }
 
 /// Writes the head of an extension of so many bytes, and its tag. It fails as `Sink::put_all` does.

@@ -9,7 +9,7 @@ ghost use Rattle.rmp_encode.specs.Writes.{Keeps, NoneAtMarker, WritesTree};
 
 use crate::error::Error;
 use crate::ser::Serialize;
-use crate::serializer::Serializer;
+use crate::serializer::{Serializer, answer};
 use rmp_wire::config::SerializerConfig;
 use rmp_wire::{MSGPACK_EXT_STRUCT_NAME, Sink};
 
@@ -88,7 +88,13 @@ impl<W: Sink, C: SerializerConfig> Serializer<W, C> {
         ensures marker { NoneAtMarker W.Sink (sink_of self.old) (sink_of self.new) result }
         ensures keeps { Keeps W.Sink self.old self.new }
     {
-        self.serialize_bytes(&n.to_be_bytes())
+        let high = (n >> 64) as u64;
+        let low = (n % (1 << 64)) as u64;
+        let mut piece = [16; 18];
+        piece[0] = 0xc4;
+        piece[2..10].copy_from_slice(&high.to_be_bytes());
+        piece[10..].copy_from_slice(&low.to_be_bytes());
+        answer(self.wr.put_all(&piece))
     }
 
     /// Writes a number of 128 bits: its bytes in two's complement, of which there are 16, the highest first.

@@ -1,7 +1,16 @@
-use Rattle.std.proofs.Common.{Some, ap, sym}
+use Rattle.std.proofs.Common.{arith, ◌∙◌}
+use Rattle.std.specs.Int.{w128, to_be_bytes}
+use Rattle.rmp_wire.specs.Heads.{fits_head}
 use Rattle.rmp_wire.specs.Msg.{bin}
-use Rattle.rmp_encode.proofs.TupleSteps.{as_tree}
+use Rattle.rmp_wire.proofs.Writing.{puts_as}
+use Rattle.rmp_encode.proofs.Leaves.{wide_piece, wire_tree, wire_marker}
 use Rattle.rmp_encode.proofs.serializer.Serializer.serialize_u128.Goals as goal
 
 pub returns-clause-writes : goal.returns-clause-writes
-returns-clause-writes g c = as_tree g.W.Sink (ap (λ b. Some (bin b)) (sym c.to_be_bytes.ensures)) c.serialize_bytes.ensures.writes
+unfolding fits_head
+returns-clause-writes g c = wire_tree g.W.Sink (bin (to_be_bytes w128 c.args.n)) c.put_all.result c.answer.ensures (grind arith)
+    (puts_as (rw (c.copy_from_slice.ensures.after ∙ c.to_be_bytes.ensures, c.copy_from_slice-2.ensures.after ∙ c.to_be_bytes-2.ensures)
+    (wide_piece c.args.n)) c.put_all.ensures.writes)
+
+pub returns-clause-marker : goal.returns-clause-marker
+returns-clause-marker g c = wire_marker g.W.Sink _ c.put_all.result c.answer.ensures c.put_all.ensures.writes
