@@ -12,6 +12,7 @@ pub mod EachRefusings
 pub mod Exactness
 pub mod FieldAccesses
 pub mod FieldRefusings
+pub mod FieldRows
 pub mod FieldWiths
 pub mod Fields
 pub mod Fronts

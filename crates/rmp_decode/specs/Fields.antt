@@ -7,7 +7,7 @@ use Rattle.rmp_wire.specs.declared.head.Head.{Head}
 use Rattle.rmp_wire.specs.declared.head.Head.TheVariants.{Map, Array, Bin}
 use Rattle.rmp_wire.specs.declared.marker.Marker.{Marker}
 use Rattle.rmp_wire.specs.declared.source.Source.{Ghosts}
-use Rattle.rmp_wire.specs.Msg.{Msg, nil, truth, whole, float32, float64, text, bin, list, extension, Msgs, count, items_of, Pairs, no_pairs, pair}
+use Rattle.rmp_wire.specs.Msg.{Msg, nil, truth, whole, float32, float64, text, bin, list, extension, Msgs, no_items, item, count, items_of, Pairs, no_pairs, pair}
 use Rattle.rmp_wire.specs.Msg.{map as mapping}
 use Rattle.rmp_decode.specs.Content.{RefusesContent, not_raw, never_refused}
 use Rattle.rmp_decode.specs.Exact.{RefusesBy}
@@ -155,6 +155,16 @@ pub field_counted : (P : Msg → Type 0) (A : Type 0) (Q : List (Option Msg) →
 field_counted P A Q law [] h = absurd h
 field_counted P A Q law (None ∷ fs) h = ap suc (law fs h.1)
 field_counted P A Q law (Some m ∷ fs) h = ap suc (law fs h.1)
+
+-- each of them is there, so what was read so far is all
+pub slot_full : {V W S : Type 0} (reads : Msg → V → Type 0) (absent : Option V) (rest : List (Option Msg) → W → Type 0) (holds : List (Option Msg) → S
+    → Type 0) → ((ms : Msgs) (s : S) → holds (given_all ms) s → (w : W) × rest (given_all ms) w)
+    → (ms : Msgs) (o : Option V) (s : S) → Slot reads holds (given_all ms) o s
+    → (u : V × W) × Field (λ m. reads m u.0) (Absent absent u.0) (λ gs. rest gs u.1) (given_all ms)
+slot_full reads absent rest holds law no_items o s h = absurd h
+slot_full reads absent rest holds law (item m ms) o s h =
+    let others = law ms s h.1 in
+    ((h.0.0, others.0), (h.0.2, others.1))
 
 -- ---- heads
 

@@ -6,6 +6,7 @@ pub mod Content
 pub mod Exact
 pub mod FieldAccess
 pub mod FieldRefusing
+pub mod FieldRows
 pub mod Fields
 pub mod Fronts
 pub mod Kinds

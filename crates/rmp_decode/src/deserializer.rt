@@ -4,7 +4,7 @@ ghost use Rattle.rmp_decode.specs.State.{room_of, reader_of, alloc_of, config_of
 ghost use Rattle.rmp_decode.specs.Law.{ReadsHead};
 ghost use Rattle.rmp_decode.specs.declared.deserializer.Kept.TheVariants.{Nothing};
 
-mod fronts;
+pub(crate) mod fronts;
 mod heads;
 pub(crate) mod kinds;
 mod numbers;

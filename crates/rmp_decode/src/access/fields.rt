@@ -2,26 +2,29 @@
 ghost use Rattle.std.specs.Prelude.{◌≡◌, ◌≢◌, ◌⊎◌, ◌<◌, ℕ, Bool, List, Option, None, Some, true};
 ghost use Rattle.std.specs.Prelude.{false, length, IfErr, IfOk, IfSome, IfNone, OnOk, OnErr, MatchOption, MatchResult, max};
 ghost use Rattle.std.specs.Borrow.{sem, RestsIfErr};
-ghost use Rattle.rmp_wire.specs.Msg.{Msg};
+ghost use Rattle.rmp_wire.specs.Msg.{Msg, Msgs};
 ghost use Rattle.rmp_decode.specs.contracts.deserializer.Deserializer.{the_row};
 ghost use Rattle.rmp_decode.specs.Fields.{OfFields, Field, Absent, NoField, Slot, AreBlank, fields_head, parts_name};
 ghost use Rattle.rmp_decode.specs.Fields.{OpensFields, FailsToOpenFields, at, given_all, Fills, IsFull, name_refusal, pass_refusal};
 ghost use Rattle.rmp_decode.specs.FieldRefusing.{PartsHold, FillRefused, RefusesFields};
+ghost use Rattle.rmp_decode.specs.FieldRows.{TakesRow, FailsRow};
+ghost use Rattle.rmp_decode.specs.Fronts.{TakesFront};
 ghost use Rattle.rmp_decode.specs.Kinds.{Finds};
 ghost use Rattle.rmp_decode.specs.Law.{Lawful, TakesHead, IsFailedBefore};
 ghost use Rattle.rmp_decode.specs.MapRefusing.{PartRefused, KeyRefused};
 ghost use Rattle.rmp_decode.specs.Maps.{IsMapOpen, AtKey, AtValue, TakesKey, pairs_left, is_map_sound, map_lender, map_inner};
 ghost use Rattle.rmp_decode.specs.Names.{bytes_of, IsName};
 ghost use Rattle.rmp_decode.specs.Parts.{TakesPart, FailsPart};
-ghost use Rattle.rmp_decode.specs.Refusing.{Setting, Part, RefusesAs, PartsRefused};
+ghost use Rattle.rmp_decode.specs.Refusing.{Setting, Part, RefusesAs, RefusesParts, PartsRefused, setting_of, no_refusal};
 ghost use Rattle.rmp_decode.specs.Seq.{IsOpen, TakesParts, FailsParts, lender_of};
-ghost use Rattle.rmp_decode.specs.State.{config_of, faults_of, kept_of, is_failed, Stays};
+ghost use Rattle.rmp_decode.specs.State.{left, config_of, faults_of, kept_of, is_failed, Stays};
 ghost use Rattle.rmp_decode.specs.declared.deserializer.Kept.TheVariants.{Nothing};
 
 use crate::access::map::MapAccess;
 use crate::access::seq::{SeqAccess, inner_room};
 use crate::de::Deserialize;
 use crate::deserializer::Deserializer;
+use crate::deserializer::fronts::list_at;
 use crate::error::Error;
 use crate::text::Text;
 use rmp_wire::config::SerializerConfig;
@@ -61,6 +64,10 @@ pub trait Fields<'de, R: ReadSlice<'de>>: Sized + Drop {
     // Fields that are read are as many.
     ghost counted: { (human lends : Bool) (fs : List (Option Msg)) (v : Self) → reads human lends fs v → length fs ≡ count };
 
+    // What was read is all, where each of them is there.
+    ghost full: { (human lends : Bool) (ms : Msgs) (t : Self.Slots) → holds human lends (given_all ms) t
+        → (v : Self) × reads human lends (given_all ms) v };
+
     /// Nothing was read yet.
     fn empty() -> Self::Slots
         ensures { (human lends : Bool) (fs : List (Option Msg)) → AreBlank count fs → holds human lends fs result };
@@ -88,6 +95,23 @@ pub trait Fields<'de, R: ReadSlice<'de>>: Sized + Drop {
     fn finish(slots: Self::Slots) -> Option<Self>
         ensures { (human lends : Bool) (fs : List (Option Msg)) → holds human lends fs slots
             → MatchOption result ((v : Self) → reads human lends fs v → ⊥) (reads human lends fs) };
+
+    /// Reads as many messages as there are fields, one after another, each into the place of its field, and says whether none was
+    /// refused. Why one was is put into `refusal`, beside the answer, so that no read carries room for an error along.
+    fn row<C: SerializerConfig>(
+        slots: &mut Self::Slots,
+        refusal: &mut Option<Error>,
+        de: &mut Deserializer<R, C>,
+    ) -> bool
+        requires ready { is_failed de.old ≡ false }
+        requires clean { kept_of de.old ≡ Nothing }
+        ensures ok { result ≡ true → TakesRow R.Source (λ ms. holds (C.human (config_of de.old)) R.lends (given_all ms) slots.new) count de.old de.new }
+        ensures some { result ≡ false → refusal.new ≢ None }
+        ensures err { result ≡ false → IfSome refusal.new
+            (FailsRow R.Source (λ ms. (v : Self) × reads (C.human (config_of de.old)) R.lends (given_all ms) v) count de.old de.new) }
+        ensures refused { result ≡ false → IfSome refusal.new
+            (RefusesParts false (setting_of (C.human (config_of de.old)) R.lends de.old) (faults_of R.Source de.old) (faults_of R.Source de.new)
+            parts no_refusal count (left R.Source de.old)) };
 
     /// Reads the elements of a list as the fields.
     ///
@@ -130,6 +154,8 @@ impl<'de, R: ReadSlice<'de>> Fields<'de, R> for () {
 
     ghost counted = { λ human lends fs v. no_field_counted fs };
 
+    ghost full = { λ human lends ms t h. (tt, h) };
+
     fn empty() {}
 
     #[inline(always)]
@@ -147,6 +173,15 @@ impl<'de, R: ReadSlice<'de>> Fields<'de, R> for () {
     }
 
     #[inline(always)]
+    fn row<C: SerializerConfig>(
+        _slots: &mut (),
+        _refusal: &mut Option<Error>,
+        _de: &mut Deserializer<R, C>,
+    ) -> bool {
+        true
+    }
+
+    #[inline(always)]
     fn listed<'x, C: SerializerConfig>(_seq: &mut SeqAccess<'x, R, C>) -> Result<(), Error> {
         Ok(())
     }
@@ -157,7 +192,7 @@ impl<'de, R: ReadSlice<'de>, A: Deserialize<'de, R>, B: Fields<'de, R>> Fields<'
     ghost use Rattle.std.specs.Prelude.{◌∷◌};
     ghost use Rattle.std.proofs.Common.{ap};
     ghost use Rattle.rmp_decode.specs.FieldRefusing.{slot_held, field_held};
-    ghost use Rattle.rmp_decode.specs.Fields.{FieldTakes, field_taken, field_counted};
+    ghost use Rattle.rmp_decode.specs.Fields.{FieldTakes, field_taken, field_counted, slot_full};
     ghost use Rattle.rmp_decode.specs.Refusing.{part_of};
 
     type Slots = (Option<A>, B::Slots);
@@ -183,6 +218,8 @@ impl<'de, R: ReadSlice<'de>, A: Deserialize<'de, R>, B: Fields<'de, R>> Fields<'
 
     ghost counted = { λ human lends fs v. field_counted (λ m. A.reads human lends m v.0) (Absent A.absent v.0) (λ gs. B.reads human lends gs v.1)
         (λ gs. B.counted human lends gs v.1) fs };
+
+    ghost full = { λ human lends ms t. slot_full (A.reads human lends) A.absent (B.reads human lends) (B.holds human lends) (B.full human lends) ms t.0 t.1 };
 
     fn empty() -> (Option<A>, B::Slots) {
         (None, B::empty())
@@ -222,6 +259,24 @@ impl<'de, R: ReadSlice<'de>, A: Deserialize<'de, R>, B: Fields<'de, R>> Fields<'
         match B::finish(others) {
             Some(others) => Some((first, others)),
             None => None,
+        }
+    }
+
+    #[inline(always)]
+    fn row<C: SerializerConfig>(
+        slots: &mut (Option<A>, B::Slots),
+        refusal: &mut Option<Error>,
+        de: &mut Deserializer<R, C>,
+    ) -> bool {
+        match A::deserialize(de) {
+            Ok(first) => {
+                slots.0 = Some(first);
+                B::row(&mut slots.1, refusal, de)
+            }
+            Err(e) => {
+                *refusal = Some(e);
+                false
+            }
         }
     }
 
@@ -394,6 +449,33 @@ impl<R: Source, C: SerializerConfig> Deserializer<R, C> {
         }
     }
 
+    // Takes the head of a list of so many elements, up to 15, where it lies in memory, and leaves this failed until they are read. Else
+    // nothing is taken.
+    #[inline(always)]
+    fn row_front(&mut self, count: usize) -> bool
+        ensures deep { result ≡ true → 1 < self.old.room }
+        ensures taken { result ≡ true → TakesFront R.Source (Head.Array count) self.old self.new }
+        ensures kept { result ≡ false → self.new ≡ self.old }
+    {
+        if self.room <= 1 {
+            return false;
+        }
+        if !self.begins_ahead() {
+            return false;
+        }
+        match list_at(self.reader.front()) {
+            Some(n) => {
+                if n as usize == count && self.reader.skip(1) {
+                    self.failed = true;
+                    true
+                } else {
+                    false
+                }
+            }
+            None => false,
+        }
+    }
+
     /// Reads the fields of a struct, from a list, from bytes as the list of their numbers, or from a map by the names. In a map
     /// they stand in any order, and what is of no name is passed over; for one that isn't there stands what its type says.
     ///
@@ -404,6 +486,40 @@ impl<R: Source, C: SerializerConfig> Deserializer<R, C> {
     /// `Syntax("missing field")` for one that has to be there and isn't.
     #[inline(always)]
     pub fn deserialize_fields<'de, F: Fields<'de, R>>(&mut self, names: &[&str]) -> Result<F, Error>
+    where
+        R: ReadSlice<'de>,
+        requires count { length names.now ≡ F.count }
+        ensures law { Lawful R.Source (λ m v. OfFields (bytes_of names.now) (λ fs. F.reads (C.human (config_of self.old)) R.lends fs v) m) self.old self.new
+            result }
+        ensures refused { RefusesAs R.Source (C.human (config_of self.old)) R.lends (RefusesFields (bytes_of names.now) F.reads F.parts) self.old self.new
+            result }
+    {
+        if !self.row_front(names.len()) {
+            return self.opened_fields(names);
+        }
+        let outer = self.room;
+        self.room = outer.saturating_sub(1);
+        self.failed = false;
+        let mut slots = F::empty();
+        let mut refusal = None;
+        if F::row(&mut slots, &mut refusal, self) {
+            self.room = outer;
+            match F::finish(slots) {
+                Some(values) => Ok(values),
+                None => unreachable!(),
+            }
+        } else {
+            self.room = outer;
+            match refusal {
+                Some(e) => Err(e),
+                None => unreachable!(),
+            }
+        }
+    }
+
+    // The same, of elements or pairs that are counted as they are read.
+    #[inline(always)]
+    fn opened_fields<'de, F: Fields<'de, R>>(&mut self, names: &[&str]) -> Result<F, Error>
     where
         R: ReadSlice<'de>,
         requires count { length names.now ≡ F.count }

@@ -86,7 +86,7 @@ fn text_at(front: &[u8], strict: bool) -> Option<(u32, usize)>
 
 // A list of up to 15 elements whose head, of one byte, stands at the front: the count of its elements.
 #[inline(always)]
-fn list_at(front: &[u8]) -> Option<u32>
+pub(crate) fn list_at(front: &[u8]) -> Option<u32>
     ensures { IfSome result (λ n. (strict : Bool) → StandsIn strict 1 (Head.Array n) front.now) }
 {
     match front {

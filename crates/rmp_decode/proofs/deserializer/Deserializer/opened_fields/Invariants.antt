@@ -1,7 +1,7 @@
 -- The fields so far are those that the pairs so far name.
 use Rattle.rmp_decode.specs.Names.{bytes_of}
 use Rattle.rmp_decode.proofs.Structs.{FieldsRun}
-use Rattle.rmp_decode.proofs.deserializer.Deserializer.deserialize_fields.Given as goal
+use Rattle.rmp_decode.proofs.deserializer.Deserializer.opened_fields.Given as goal
 
 abbrev pub invariant-loop-place : goal.invariant-loop-place
 invariant-loop-place g l = FieldsRun g.R.Source (bytes_of l.fn.names) (g.F.Fields.holds (g.C.SerializerConfig.human l.fn.self.config) g.R.ReadSlice.lends)

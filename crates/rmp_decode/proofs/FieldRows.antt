@@ -1,0 +1,209 @@
+-- What the read of a struct that is a list of as many elements says, from what the reads of its fields say.
+use Rattle.std.proofs.Common.{◌≡◌, ◌∙◌, sym, ap, subst, refl, inl, inr, ℕ, suc, ◌+◌, ◌-◌, ◌<◌, max, arith, List, [], ◌∷◌, Bool, true, false, Option, None, Some, Ok, Err, length, ◌++◌}
+use Rattle.std.specs.Prelude.{IfSome}
+use Rattle.std.proofs.KnownBytes.{Consumes-nil, Consumes-trans}
+use Rattle.rmp_wire.specs.declared.head.Head.TheVariants.{Array}
+use Rattle.rmp_wire.specs.declared.source.Source.{Ghosts}
+use Rattle.rmp_wire.specs.Canonical.{SpellsAs}
+use Rattle.rmp_wire.specs.Msg.{Msg, Msgs, no_items, item, count}
+use Rattle.rmp_decode.specs.FieldRefusing.{RefusesFields}
+use Rattle.rmp_decode.specs.FieldRows.{TakesRow, FailsRow}
+use Rattle.rmp_decode.specs.Fields.{Field, Absent, NoField, Slot, given_all, OfFields}
+use Rattle.rmp_decode.specs.Fronts.{TakesFront}
+use Rattle.rmp_decode.specs.Law.{Lawful, Readable, Refuses}
+use Rattle.rmp_decode.specs.Refusing.{Setting, Refusals, Part, setting_of, inside, RefusesParts, no_refusal}
+use Rattle.rmp_decode.specs.Seq.{SpellsIn, SpellsRow, RefusesRow, Opens, TakesParts, FailsParts, inner_of}
+use Rattle.rmp_decode.specs.State.{left, faults_of, room_of}
+use Rattle.rmp_decode.specs.declared.access.seq.SeqAccess.{SeqAccess}
+use Rattle.rmp_decode.specs.declared.deserializer.Deserializer.{Deserializer}
+use Rattle.rmp_decode.specs.declared.deserializer.Kept.TheVariants.{Nothing}
+use Rattle.rmp_decode.specs.declared.error.Error.{Error}
+use Rattle.rmp_decode.proofs.FieldRefusings.{listed_wrong}
+use Rattle.rmp_decode.proofs.Laws.{stays_refl, stays_then}
+use Rattle.rmp_decode.proofs.Rows.{row-push, rest_refused, element_refused}
+use Rattle.rmp_decode.proofs.Settings.{setting_same}
+use Rattle.rmp_decode.proofs.Structs.{listed_done, listed_refused}
+use Rattle.rmp_decode.proofs.Tuples.{row_narrower}
+
+pub if_some : {T : Type 0} {P Q : T → Type 0} (o : Option T) → ((x : T) → P x → Q x) → IfSome o P → IfSome o Q
+if_some None f p = tt
+if_some (Some x) f p = f x p
+
+-- ---- the first field, and then the others
+
+-- there is none
+pub no_field_row : {R C : Type 0} (g : Ghosts R) (d : Deserializer R C) → d.failed ≡ false → d.kept ≡ Nothing → TakesRow g (λ ms. NoField (given_all ms)) 0 d d
+no_field_row g d r k = record {
+  bytes = [];
+  trees = no_items;
+  takes = Consumes-nil (left g d);
+  spelled = refl;
+  many = refl;
+  fits = omega arith;
+  holds = tt;
+  stays = stays_refl g d;
+  faults_same = refl;
+  ready = r;
+  clean = k;
+}
+
+-- the first one is refused
+pub row_first : {R C V : Type 0} (g : Ghosts R) (reads : Msg → V → Type 0) (P : Msgs → Type 0) (old new : Deserializer R C) (e : Error) (n : ℕ)
+    → old.failed ≡ false → Lawful g reads old new (Err e) → ((m : Msg) (ks : Msgs) → P (item m ks) → Readable reads m) → FailsRow g P (suc n) old new e
+row_first g reads P old new e n o law proj = record {
+  stays = law.stays;
+  failed = law.failed;
+  err = λ x k. element_refused (SpellsAs old.strict) P (Readable reads) (room_of old) (suc n) (left g old) (omega arith) proj (law.err o x k);
+}
+
+module _ {R C V : Type 0} (g : Ghosts R) (reads : C → Msg → V → Type 0) (old mid new : Deserializer R C) (v : V)
+    (law : Lawful g (reads old.config) old mid (Ok v)) (n : ℕ) where
+  -- each is read
+  pub row_read : {S : Type 0} (holds : C → List (Option Msg) → S → Type 0) (s : S) → TakesRow g (λ ms. holds mid.config (given_all ms) s) n mid new
+      → TakesRow g (λ ms. Slot (reads old.config) (holds old.config) (given_all ms) (Some v) s) (suc n) old new
+  row_read holds s t0 =
+      let t = subst (λ z. TakesRow g (λ ms. holds z (given_all ms) s) n mid new) law.stays.config t0 in
+      let room = law.stays.room in
+      record {
+        bytes = law.ok.bytes ++ t.bytes;
+        trees = item law.ok.tree t.trees;
+        takes = Consumes-trans _ _ _ law.ok.bytes t.bytes law.ok.takes t.takes;
+        spelled = record {
+          first = law.ok.bytes;
+          second = t.bytes;
+          is_first = law.ok.spelled;
+          is_second = subst (λ z. SpellsRow (SpellsAs z) t.bytes t.trees) law.stays.strict t.spelled;
+          is_whole = refl;
+        };
+        many = ap suc t.many;
+        fits = omega (arith, law.ok.fits, t.fits, room);
+        holds = ((v, refl, law.ok.value), t.holds);
+        stays = stays_then g old mid new law.stays t.stays;
+        faults_same = t.faults_same ∙ law.sound;
+        ready = t.ready;
+        clean = t.clean;
+      }
+
+  -- another is refused
+  pub row_others : {W : Type 0} (absent : Option V) (rest : C → List (Option Msg) → W → Type 0) (e : Error)
+      → FailsRow g (λ ms. (w : W) × rest mid.config (given_all ms) w) n mid new e
+      → FailsRow g (λ ms. (u : V × W) × Field (λ m. reads old.config m u.0) (Absent absent u.0) (λ gs. rest old.config gs u.1) (given_all ms)) (suc n) old new e
+  row_others {W} absent rest e f0 =
+      let f = subst (λ z. FailsRow g (λ ms. (w : W) × rest z (given_all ms) w) n mid new e) law.stays.config f0 in
+      record {
+        stays = stays_then g old mid new law.stays f.stays;
+        failed = f.failed;
+        err = λ x k.
+            let r0 = f.err x (k ∙ sym law.sound) in
+            let r1 = subst (λ z. RefusesRow (SpellsIn z false) (λ ms. (w : W) × rest old.config (given_all ms) w) (room_of mid) n (left g mid))
+            law.stays.strict r0 in
+            let r2 = subst (λ z. RefusesRow (SpellsIn old.strict false) (λ ms. (w : W) × rest old.config (given_all ms) w) (max 1 z) n (left g mid))
+            law.stays.room r1 in
+            rest_refused old.strict false
+            (λ ms. (u : V × W) × Field (λ m. reads old.config m u.0) (Absent absent u.0) (λ gs. rest old.config gs u.1) (given_all ms)) (room_of old) n (suc n)
+            (left g old) (left g mid) (item law.ok.tree no_items) law.ok.bytes law.ok.takes
+            (row-push (SpellsIn old.strict false) no_items law.ok.tree [] law.ok.bytes refl law.ok.spelled) (omega arith)
+            (row_narrower (SpellsIn old.strict false) _ _ (room_of old) n (left g mid) (λ ms h. (h.0.1, h.1.1)) r2);
+      }
+
+  -- how that is refused
+  pub row_wrong : (human : C → Bool) (lends : Bool) (p : Part) (ps : List Part) (e : Error)
+      → p.holds (setting_of (human old.config) lends old) law.ok.tree
+      → RefusesParts false (setting_of (human mid.config) lends mid) (faults_of g mid) (faults_of g new) ps no_refusal n (left g mid) e
+      → RefusesParts false (setting_of (human old.config) lends old) (faults_of g old) (faults_of g new) (p ∷ ps) no_refusal (suc n) (left g old) e
+  row_wrong human lends p ps e h w =
+      let z = faults_of g new in
+      let s = setting_same human lends mid old (room_of mid) (room_of old) law.stays.config law.stays.strict (ap (max 1) law.stays.room) in
+      let w1 = subst (λ y. RefusesParts false y (faults_of g mid) z ps no_refusal n (left g mid) e) s w in
+      let w2 = subst (λ y. RefusesParts false (setting_of (human old.config) lends old) y z ps no_refusal n (left g mid) e) law.sound w1 in
+      inr (record {
+        bytes = law.ok.bytes;
+        rest = left g mid;
+        tree = law.ok.tree;
+        still = n;
+        takes = law.ok.takes;
+        spelled = law.ok.spelled;
+        many = omega arith;
+        fits = law.ok.fits;
+        holds = h;
+        refused = w2;
+      })
+
+-- ---- the whole struct
+
+-- a reader behind the head of a list, seen as the access to its elements
+abbrev in_list : {R C : Type 0} → Deserializer R C → ℕ → ℕ → ℕ → SeqAccess R C
+in_list d inner n all = record {
+  de = record { ref_ptr = (0, 0); ghost_name = 0; now = d };
+  left = n;
+  count = all;
+  inner = inner;
+  bytes = false;
+  sound = true;
+}
+
+-- the reader that reads its elements, which may nest as deep as that
+abbrev pub inside_list : {R C : Type 0} → ℕ → Deserializer R C → Deserializer R C
+inside_list inner d = record d { room = inner; failed = false }
+
+module _ {R C V : Type 0} (g : Ghosts R) (human : C → Bool) (lends : Bool) (names : List (List ℕ))
+    (reads : Bool → Bool → List (Option Msg) → V → Type 0) (ps : List Part) (old mid now : Deserializer R C) (n inner : ℕ)
+    (counted : (fs : List (Option Msg)) (v : V) → reads (human old.config) lends fs v → length fs ≡ n) (len : length names ≡ n)
+    (fewer : inner ≡ mid.room - 1) (deep : 1 < old.room) (front : TakesFront g (Array n) old mid) where
+  opened : Opens g old (in_list mid inner n n)
+  opened =
+      let room = front.begun.stays.room in
+      record {
+        fresh = front.begun.fresh;
+        head = front.begun.ok;
+        count = refl;
+        room = omega (arith, deep, room, fewer);
+        stays = front.begun.stays;
+        faults_same = front.begun.sound;
+        opened = record { sound = refl; marked = front.begun.failed; clean = front.begun.clean };
+      }
+
+  -- each field was read
+  pub row_done : (P : Msgs → Type 0) (t : TakesRow g P n (inside_list inner mid) now) (v : V) → reads (human mid.config) lends (given_all t.trees) v
+      → Lawful g (λ m v. OfFields names (λ fs. reads (human old.config) lends fs v) m) old (record now { room = mid.room }) (Ok v)
+  row_done P t v h =
+      let value = subst (λ z. reads (human z) lends (given_all t.trees) v) front.begun.stays.config h in
+      listed_done names (reads (human old.config) lends) n counted len g old (in_list mid inner n n)
+      (in_list (record now { failed = true; room = mid.room }) inner 0 n) opened _ v
+      (record {
+        trees = t.trees;
+        run = record {
+          bytes = t.bytes;
+          takes = t.takes;
+          spelled = t.spelled;
+          fits = t.fits;
+          many = omega (arith, t.many);
+          same_reference = refl;
+          count_same = refl;
+          inner = refl;
+          bytes_same = refl;
+          stays = record { config = t.stays.config; room = refl; limit = t.stays.limit; strict = t.stays.strict; place = t.stays.place };
+          faults_same = t.faults_same;
+          still = record { sound = refl; marked = refl; clean = t.clean };
+        };
+        value = value;
+      }) refl (ap (λ f. record now { failed = f; room = mid.room }) t.ready)
+
+  -- one of them is refused
+  pub row_failed : (e : Error) → FailsRow g (λ ms. (v : V) × reads (human mid.config) lends (given_all ms) v) n (inside_list inner mid) now e
+      → Lawful g (λ m v. OfFields names (λ fs. reads (human old.config) lends fs v) m) old (record now { room = mid.room }) (Err e)
+  row_failed e f0 =
+      let f = subst (λ z. FailsRow g (λ ms. (v : V) × reads (human z) lends (given_all ms) v) n (inside_list inner mid) now e) front.begun.stays.config f0 in
+      listed_refused names (reads (human old.config) lends) n counted len g old (in_list mid inner n n)
+      (in_list (record now { room = mid.room }) inner 0 n) opened _ e
+      (record {
+        stays = record { config = f.stays.config; room = refl; limit = f.stays.limit; strict = f.stays.strict; place = f.stays.place };
+        failed = f.failed;
+        err = f.err;
+      }) refl
+
+  pub row_refused : (e : Error)
+      → RefusesParts false (setting_of (human mid.config) lends (inside_list inner mid)) (faults_of g mid) (faults_of g now) ps no_refusal n (left g mid) e
+      → RefusesFields names reads ps (setting_of (human old.config) lends old) (faults_of g old) (faults_of g now) (left g old) e
+  row_refused e w = listed_wrong g human lends names reads ps old (faults_of g now) e (in_list mid inner n n) opened
+      (in_list (record now { room = mid.room }) inner 0 n) refl w
