@@ -29,8 +29,8 @@ fn append<T: Drop>(items: &mut Vec<T>, item: T, left: u32) -> Result<(), AllocFa
     Ok(())
 }
 
-// Whether there is room for one more, of which so many are to come behind it. The vector is made room in where another one stands
-// for it, so that the parts of the one that is filled stay in registers.
+// Whether there is room for one more, of which so many are to come behind it. The call is given the vector by value, so that its parts
+// stay in registers where there is room.
 #[inline(always)]
 fn made_room<T: Drop>(items: &mut Vec<T>, left: u32) -> bool
     ensures items { items.new.items ≡ items.old.items }
@@ -49,8 +49,8 @@ fn made_room<T: Drop>(items: &mut Vec<T>, left: u32) -> bool
     )
 }
 
-// Makes room for one more, and says whether it could. The first elements get room for 16, or as many as two kilobytes hold, so that
-// a short list is never moved; where that is refused, less is asked for.
+// Makes room for one more, and says whether it could. The first elements get room for 16, or for 128 where they are small, so that a
+// short list is never moved; where that is refused, less is asked for.
 #[inline(never)]
 fn make_room<T: Drop>(items: &mut Vec<T>, left: u32) -> bool
     ensures items { items.new.items ≡ items.old.items }
@@ -58,7 +58,7 @@ fn make_room<T: Drop>(items: &mut Vec<T>, left: u32) -> bool
 {
     if items.is_empty() {
         let none: Option<T> = None;
-        let most = (2048 / size_of_val(&none).max(1)).max(16);
+        let most = if size_of_val(&none) <= 8 { 128 } else { 16 };
         if items.reserve((left as usize + 1).min(most)).is_ok() {
             return true;
         }

@@ -1,4 +1,4 @@
-use Rattle.std.proofs.Common.{◌≡◌, sym, ◌∙◌, ap, subst, rules, Global}
+use Rattle.std.proofs.Common.{◌∙◌, subst, rules, Global}
 use Rattle.std.specs.declared.collections.VecDeque.{VecDeque}
 use Rattle.rmp_decode.specs.Rows.{ReadsEach}
 use Rattle.rmp_decode.specs.Seq.{TakesElement, FailsToTake}

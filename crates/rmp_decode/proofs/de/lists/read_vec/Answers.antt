@@ -1,4 +1,4 @@
-use Rattle.std.proofs.Common.{◌≡◌, sym, ◌∙◌, ap, subst, rules, Vec, Global}
+use Rattle.std.proofs.Common.{◌∙◌, subst, rules, Vec, Global}
 use Rattle.rmp_decode.specs.Rows.{ReadsEach}
 use Rattle.rmp_decode.specs.Seq.{TakesElement, FailsToTake}
 use Rattle.rmp_decode.proofs.EachRefusings.{each_short}
