@@ -17,6 +17,7 @@ use crate::de::Deserialize;
 use crate::deserializer::{Deserializer, Kept};
 use crate::error::Error;
 use crate::text::Text;
+use core::mem::replace_with;
 use rmp_wire::config::SerializerConfig;
 use rmp_wire::{Head, ReadSlice, Source};
 
@@ -102,8 +103,39 @@ impl<R: Source, C: SerializerConfig> Deserializer<R, C> {
     {
         match self.list_front() {
             Some(len) => Ok((false, len)),
-            None => self.headed_seq(),
+            None => self.apart_seq(),
         }
+    }
+
+    // The same of a copy of the reader.
+    #[inline(always)]
+    fn apart_seq(&mut self) -> Result<(bool, u32), Error>
+        ensures ok { IfOk result (λ p. TakesHead R.Source (seq_head p.0 p.1) self.old self.new) }
+        ensures deep { IfOk result (λ p. p.0 ≡ false → 1 < self.old.room) }
+        ensures stays { Stays R.Source self.old self.new }
+        ensures sound { OnOk result (faults_of R.Source self.new ≡ faults_of R.Source self.old) }
+        ensures fresh { OnOk result (is_failed self.old ≡ false) }
+        ensures clean { OnOk result (kept_of self.new ≡ Nothing) }
+        ensures failed { is_failed self.new ≡ true }
+        ensures err { IfErr result (FailsToOpen R.Source self.old self.new) }
+    {
+        replace_with(
+            self,
+            (),
+            |mut de: Deserializer<R, C>, _none: ()|
+                ensures ok { IfOk result.1 (λ p. TakesHead R.Source (seq_head p.0 p.1) de result.0) }
+                ensures deep { IfOk result.1 (λ p. p.0 ≡ false → 1 < de.room) }
+                ensures stays { Stays R.Source de result.0 }
+                ensures sound { OnOk result.1 (faults_of R.Source result.0 ≡ faults_of R.Source de) }
+                ensures fresh { OnOk result.1 (is_failed de ≡ false) }
+                ensures clean { OnOk result.1 (kept_of result.0 ≡ Nothing) }
+                ensures failed { is_failed result.0 ≡ true }
+                ensures err { IfErr result.1 (FailsToOpen R.Source de result.0) }
+            {
+                let opened = de.headed_seq();
+                (de, opened)
+            },
+        )
     }
 
     /// Opens a list, or bytes as the list of their numbers.
@@ -118,7 +150,7 @@ impl<R: Source, C: SerializerConfig> Deserializer<R, C> {
         ensures opened { IfOk result (Opens R.Source self.old) }
     {
         let room = self.room;
-        match self.open_seq() {
+        match self.open_tuple() {
             Ok((bytes, left)) => Ok(SeqAccess {
                 de: self,
                 left,
@@ -231,6 +263,7 @@ impl<'x, R: Source, C: SerializerConfig> SeqAccess<'x, R, C> {
         self.sound = false;
         match self.de.part(self.inner) {
             Ok(v) => {
+                self.de.kept = Kept::Nothing;
                 self.left -= 1;
                 self.sound = true;
                 Ok(v)
@@ -262,11 +295,33 @@ impl<'x, R: Source, C: SerializerConfig> SeqAccess<'x, R, C> {
         }
         match self.de.part(self.inner) {
             Ok(v) => {
+                self.de.kept = Kept::Nothing;
                 self.left -= 1;
                 self.sound = true;
                 Ok(v)
             }
             Err(e) => Err(e),
+        }
+    }
+
+    // Reads the next element, of which there is one.
+    #[inline(always)]
+    pub(crate) fn one<'de, T: Deserialize<'de, R>>(&mut self) -> Result<T, Error>
+    where
+        R: ReadSlice<'de>,
+        requires some { 0 < left_in self.old }
+        ensures same_reference { self.new.de.ghost_name ≡ self.old.de.ghost_name }
+        ensures ok { IsOpen self.old → IfOk result (TakesElement R.Source (T.reads (C.human (config_of (lender_of self.old))) R.lends) self.old self.new) }
+        ensures err { IsOpen self.old → IfErr result (FailsToTake R.Source (T.reads (C.human (config_of (lender_of self.old))) R.lends) self.old self.new) }
+        ensures refused { IsOpen self.old → IfErr result (ElementRefused R.Source (C.human (config_of (lender_of self.old))) R.lends T.refuses self.old
+            self.new (left R.Source (lender_of self.old))) }
+        ensures memory { T.takes_memory R.lends ≡ false → IfErr result (λ e. e ≢ Error.OutOfMemory) }
+        ensures marked { is_failed (lender_of self.old) ≡ true → is_failed (lender_of self.new) ≡ true }
+    {
+        if self.bytes {
+            self.numbered()
+        } else {
+            self.listed()
         }
     }
 

@@ -1,41 +1,200 @@
 //! Vectors and queues, from lists or bytes.
-ghost use Rattle.std.specs.Prelude.{◌≡◌, ◌++◌, ◌∷◌, [], is_ok, if◌then◌else◌, None};
+ghost use Rattle.std.specs.Prelude.{◌≡◌, ◌<◌, ◌++◌, ◌∷◌, [], is_ok, if◌then◌else◌, None, true, vec_len, vec_capacity};
+ghost use Rattle.rmp_decode.specs.Law.{Lawful};
+ghost use Rattle.rmp_decode.specs.Refusing.{RefusesAs, RefusesEach};
+ghost use Rattle.rmp_decode.specs.Rows.{ReadsEach};
+ghost use Rattle.rmp_decode.specs.Seq.{OfRow};
+ghost use Rattle.rmp_decode.specs.State.{config_of};
 
 use crate::de::Deserialize;
 use crate::deserializer::Deserializer;
 use crate::error::Error;
-use rmp_wire::ReadSlice;
+use core::mem::replace_with;
 use rmp_wire::config::SerializerConfig;
+use rmp_wire::{ReadSlice, Source};
 use std::alloc::AllocFailed;
 use std::collections::VecDeque;
+use std::marker::PhantomData;
+use std::mem::size_of_val;
 
 // Appends an element, of which so many more are to come. Only once there is a first one does it make room for them.
 #[inline(always)]
-fn append<T>(items: &mut Vec<T>, item: T, left: u32) -> Result<(), AllocFailed<T>>
+fn append<T: Drop>(items: &mut Vec<T>, item: T, left: u32) -> Result<(), AllocFailed<T>>
     ensures { items.new.items ≡ (if is_ok result then items.old.items ++ item ∷ [] else items.old.items) }
 {
-    if items.len() == items.capacity() {
-        make_first_room(items, left);
+    if items.len() >= items.capacity() && !made_room(items, left) {
+        return Err(AllocFailed { value: item });
     }
-    items.push(item)
+    items.push_reserved(item);
+    Ok(())
 }
 
-// Makes room for the first elements, of at most 16, so that a short list is never moved. Where memory is refused the
-// append that follows asks for less.
+// Whether there is room for one more, of which so many are to come behind it. The call is given the vector by value, so that its parts
+// stay in registers where there is room.
+#[inline(always)]
+fn made_room<T: Drop>(items: &mut Vec<T>, left: u32) -> bool
+    ensures items { items.new.items ≡ items.old.items }
+    ensures room { result ≡ true → vec_len items.new < vec_capacity items.new }
+{
+    replace_with(
+        items,
+        left,
+        |mut items: Vec<T>, left: u32|
+            ensures items { result.0.items ≡ items.items }
+            ensures room { result.1 ≡ true → vec_len result.0 < vec_capacity result.0 }
+        {
+            let made = make_room(&mut items, left);
+            (items, made)
+        },
+    )
+}
+
+// Makes room for one more, and says whether it could. The first elements get room for 16, or for 128 where they are small, so that a
+// short list is never moved; where that is refused, less is asked for.
 #[inline(never)]
-fn make_first_room<T>(items: &mut Vec<T>, left: u32)
-    ensures { items.new.items ≡ items.old.items }
+fn make_room<T: Drop>(items: &mut Vec<T>, left: u32) -> bool
+    ensures items { items.new.items ≡ items.old.items }
+    ensures room { result ≡ true → vec_len items.new < vec_capacity items.new }
 {
     if items.is_empty() {
-        let _made = items.reserve(left.min(15) as usize + 1);
+        let none: Option<T> = None;
+        let most = if size_of_val(&none) <= 8 { 128 } else { 16 };
+        if items.reserve((left as usize + 1).min(most)).is_ok() {
+            return true;
+        }
     }
+    items.reserve(1).is_ok()
+}
+
+// Reads the elements of a list, or the numbers of bytes.
+#[inline(always)]
+fn read_vec<'de, R: ReadSlice<'de>, C: SerializerConfig, T: Deserialize<'de, R>>(
+    de: &mut Deserializer<R, C>,
+) -> Result<Vec<T>, Error>
+    ensures law { Lawful R.Source (λ m v. OfRow (λ ms. ReadsEach (T.reads (C.human (config_of de.old)) R.lends) ms v.items) m) de.old de.new result }
+    ensures refused { RefusesAs R.Source (C.human (config_of de.old)) R.lends (RefusesEach T.reads T.refuses) de.old de.new result }
+{
+    let mut items = Vec::new(de.alloc());
+    let mut seq = match de.deserialize_seq() {
+        Ok(seq) => seq,
+        Err(e) => return Err(e),
+    };
+    while seq.left > 0 {
+        let item = match seq.one() {
+            Ok(item) => item,
+            Err(e) => return Err(e),
+        };
+        match append(&mut items, item, seq.left) {
+            Ok(()) => {}
+            Err(_) => return Err(Error::OutOfMemory),
+        }
+    }
+    match seq.end() {
+        Ok(()) => Ok(items),
+        Err(e) => Err(e),
+    }
+}
+
+// The same into a queue.
+#[inline(always)]
+fn read_queue<'de, R: ReadSlice<'de>, C: SerializerConfig, T: Deserialize<'de, R>>(
+    de: &mut Deserializer<R, C>,
+) -> Result<VecDeque<T>, Error>
+    ensures law { Lawful R.Source (λ m v. OfRow (λ ms. ReadsEach (T.reads (C.human (config_of de.old)) R.lends) ms v.items) m) de.old de.new result }
+    ensures refused { RefusesAs R.Source (C.human (config_of de.old)) R.lends (RefusesEach T.reads T.refuses) de.old de.new result }
+{
+    let mut items = Vec::new(de.alloc());
+    let mut seq = match de.deserialize_seq() {
+        Ok(seq) => seq,
+        Err(e) => return Err(e),
+    };
+    while seq.left > 0 {
+        let item = match seq.one() {
+            Ok(item) => item,
+            Err(e) => return Err(e),
+        };
+        match append(&mut items, item, seq.left) {
+            Ok(()) => {}
+            Err(_) => return Err(Error::OutOfMemory),
+        }
+    }
+    match seq.end() {
+        Ok(()) => Ok(VecDeque::from(items)),
+        Err(e) => Err(e),
+    }
+}
+
+// How a value is read, in a bound that names no lifetime: a function that hands on a closure has none that does.
+trait ReadHere<R: Source, V: Drop> {
+    ghost use Rattle.std.specs.Prelude.{Bool};
+    ghost use Rattle.rmp_wire.specs.Msg.{Msg};
+    ghost use Rattle.rmp_decode.specs.Refusing.{Setting, Refusals};
+
+    ghost lends: { Bool };
+
+    ghost reads: { Bool → Bool → Msg → V → Type 0 };
+
+    ghost refuses: { Setting → Refusals };
+
+    fn read<C: SerializerConfig>(de: &mut Deserializer<R, C>) -> Result<V, Error>
+        ensures law { Lawful R.Source (reads (C.human (config_of de.old)) lends) de.old de.new result }
+        ensures refused { RefusesAs R.Source (C.human (config_of de.old)) lends refuses de.old de.new result };
+}
+
+// Lists whose elements are read by their type.
+struct Items<'de> {
+    of: PhantomData<&'de [u8]>,
+}
+
+impl<'de, R: ReadSlice<'de>, T: Deserialize<'de, R>> ReadHere<R, Vec<T>> for Items<'de> {
+    ghost lends = { R.lends };
+
+    ghost reads = { λ human lends m v. OfRow (λ ms. ReadsEach (T.reads human lends) ms v.items) m };
+
+    ghost refuses = { RefusesEach T.reads T.refuses };
+
+    #[inline(always)]
+    fn read<C: SerializerConfig>(de: &mut Deserializer<R, C>) -> Result<Vec<T>, Error> {
+        read_vec(de)
+    }
+}
+
+impl<'de, R: ReadSlice<'de>, T: Deserialize<'de, R>> ReadHere<R, VecDeque<T>> for Items<'de> {
+    ghost lends = { R.lends };
+
+    ghost reads = { λ human lends m v. OfRow (λ ms. ReadsEach (T.reads human lends) ms v.items) m };
+
+    ghost refuses = { RefusesEach T.reads T.refuses };
+
+    #[inline(always)]
+    fn read<C: SerializerConfig>(de: &mut Deserializer<R, C>) -> Result<VecDeque<T>, Error> {
+        read_queue(de)
+    }
+}
+
+// Reads a value from a reader that is taken out of its place meanwhile, and put back: so its parts stay in registers.
+#[inline(always)]
+fn taken_out<R: Source, C: SerializerConfig, V: Drop, P: ReadHere<R, V>>(
+    de: &mut Deserializer<R, C>,
+) -> Result<V, Error>
+    ensures law { Lawful R.Source (P.reads (C.human (config_of de.old)) P.lends) de.old de.new result }
+    ensures refused { RefusesAs R.Source (C.human (config_of de.old)) P.lends P.refuses de.old de.new result }
+{
+    replace_with(
+        de,
+        (),
+        |mut de: Deserializer<R, C>, _none: ()|
+            ensures law { Lawful R.Source (P.reads (C.human (config_of de)) P.lends) de result.0 result.1 }
+            ensures refused { RefusesAs R.Source (C.human (config_of de)) P.lends P.refuses de result.0 result.1 }
+        {
+            let read = P::read(&mut de);
+            (de, read)
+        },
+    )
 }
 
 impl<'de, R: ReadSlice<'de>, T: Deserialize<'de, R>> Deserialize<'de, R> for Vec<T> {
     ghost use Rattle.std.specs.Prelude.{List};
-    ghost use Rattle.rmp_decode.specs.Refusing.{RefusesEach};
-    ghost use Rattle.rmp_decode.specs.Rows.{ReadsEach};
-    ghost use Rattle.rmp_decode.specs.Seq.{OfRow};
 
     ghost reads = { λ human lends m v. OfRow (λ ms. ReadsEach (T.reads human lends) ms v.items) m };
 
@@ -44,13 +203,7 @@ impl<'de, R: ReadSlice<'de>, T: Deserialize<'de, R>> Deserialize<'de, R> for Vec
     ghost refuses = { RefusesEach T.reads T.refuses };
 
     fn deserialize<C: SerializerConfig>(de: &mut Deserializer<R, C>) -> Result<Vec<T>, Error> {
-        let mut items = Vec::new(de.alloc());
-        let mut seq = de.deserialize_seq()?;
-        while let Some(item) = seq.next_element()? {
-            append(&mut items, item, seq.left())?;
-        }
-        seq.end()?;
-        Ok(items)
+        taken_out::<R, C, Vec<T>, Items<'de>>(de)
     }
 
     fn missing() -> Option<Vec<T>> {
@@ -60,9 +213,6 @@ impl<'de, R: ReadSlice<'de>, T: Deserialize<'de, R>> Deserialize<'de, R> for Vec
 
 impl<'de, R: ReadSlice<'de>, T: Deserialize<'de, R>> Deserialize<'de, R> for VecDeque<T> {
     ghost use Rattle.std.specs.Prelude.{List};
-    ghost use Rattle.rmp_decode.specs.Refusing.{RefusesEach};
-    ghost use Rattle.rmp_decode.specs.Rows.{ReadsEach};
-    ghost use Rattle.rmp_decode.specs.Seq.{OfRow};
 
     ghost reads = { λ human lends m v. OfRow (λ ms. ReadsEach (T.reads human lends) ms v.items) m };
 
@@ -71,13 +221,7 @@ impl<'de, R: ReadSlice<'de>, T: Deserialize<'de, R>> Deserialize<'de, R> for Vec
     ghost refuses = { RefusesEach T.reads T.refuses };
 
     fn deserialize<C: SerializerConfig>(de: &mut Deserializer<R, C>) -> Result<VecDeque<T>, Error> {
-        let mut items = VecDeque::new(de.alloc());
-        let mut seq = de.deserialize_seq()?;
-        while let Some(item) = seq.next_element()? {
-            items.push_back(item)?;
-        }
-        seq.end()?;
-        Ok(items)
+        taken_out::<R, C, VecDeque<T>, Items<'de>>(de)
     }
 
     fn missing() -> Option<VecDeque<T>> {

@@ -12,6 +12,7 @@ use crate::deserializer::kinds::{
 };
 use crate::error::Error;
 use crate::text::Text;
+use core::mem::replace_with;
 use rmp_wire::Source;
 use rmp_wire::config::SerializerConfig;
 
@@ -28,7 +29,7 @@ impl<R: Source, C: SerializerConfig> Deserializer<R, C> {
                 self.failed = false;
                 Ok(truth)
             }
-            None => self.headed_bool(),
+            None => self.apart_bool(),
         }
     }
 
@@ -51,6 +52,27 @@ impl<R: Source, C: SerializerConfig> Deserializer<R, C> {
         }
     }
 
+    // The same of a copy of the reader.
+    #[inline(always)]
+    fn apart_bool(&mut self) -> Result<bool, Error>
+        ensures law { Lawful R.Source (λ m t. m ≡ Msg.truth t) self.old self.new result }
+        ensures exact { RefusesHead R.Source other_kind self.old self.new result }
+        ensures memory { IfErr result (λ e. e ≢ Error.OutOfMemory) }
+    {
+        replace_with(
+            self,
+            (),
+            |mut de: Deserializer<R, C>, _none: ()|
+                ensures law { Lawful R.Source (λ m t. m ≡ Msg.truth t) de result.0 result.1 }
+                ensures exact { RefusesHead R.Source other_kind de result.0 result.1 }
+                ensures memory { IfErr result.1 (λ e. e ≢ Error.OutOfMemory) }
+            {
+                let read = de.headed_bool();
+                (de, read)
+            },
+        )
+    }
+
     /// Reads the bits of a float of 32 bits.
     #[inline(always)]
     pub fn deserialize_f32_bits(&mut self) -> Result<u32, Error>
@@ -63,7 +85,7 @@ impl<R: Source, C: SerializerConfig> Deserializer<R, C> {
                 self.failed = false;
                 Ok(bits)
             }
-            None => self.headed_f32_bits(),
+            None => self.apart_f32_bits(),
         }
     }
 
@@ -86,6 +108,27 @@ impl<R: Source, C: SerializerConfig> Deserializer<R, C> {
         }
     }
 
+    // The same of a copy of the reader.
+    #[inline(always)]
+    fn apart_f32_bits(&mut self) -> Result<u32, Error>
+        ensures law { Lawful R.Source (λ m n. m ≡ Msg.float32 n) self.old self.new result }
+        ensures exact { RefusesHead R.Source other_kind self.old self.new result }
+        ensures memory { IfErr result (λ e. e ≢ Error.OutOfMemory) }
+    {
+        replace_with(
+            self,
+            (),
+            |mut de: Deserializer<R, C>, _none: ()|
+                ensures law { Lawful R.Source (λ m n. m ≡ Msg.float32 n) de result.0 result.1 }
+                ensures exact { RefusesHead R.Source other_kind de result.0 result.1 }
+                ensures memory { IfErr result.1 (λ e. e ≢ Error.OutOfMemory) }
+            {
+                let read = de.headed_f32_bits();
+                (de, read)
+            },
+        )
+    }
+
     /// Reads the bits of a float of 64 bits.
     #[inline(always)]
     pub fn deserialize_f64_bits(&mut self) -> Result<u64, Error>
@@ -98,7 +141,7 @@ impl<R: Source, C: SerializerConfig> Deserializer<R, C> {
                 self.failed = false;
                 Ok(bits)
             }
-            None => self.headed_f64_bits(),
+            None => self.apart_f64_bits(),
         }
     }
 
@@ -119,6 +162,27 @@ impl<R: Source, C: SerializerConfig> Deserializer<R, C> {
             },
             Err(e) => Err(e),
         }
+    }
+
+    // The same of a copy of the reader.
+    #[inline(always)]
+    fn apart_f64_bits(&mut self) -> Result<u64, Error>
+        ensures law { Lawful R.Source (λ m n. m ≡ Msg.float64 n) self.old self.new result }
+        ensures exact { RefusesHead R.Source other_kind self.old self.new result }
+        ensures memory { IfErr result (λ e. e ≢ Error.OutOfMemory) }
+    {
+        replace_with(
+            self,
+            (),
+            |mut de: Deserializer<R, C>, _none: ()|
+                ensures law { Lawful R.Source (λ m n. m ≡ Msg.float64 n) de result.0 result.1 }
+                ensures exact { RefusesHead R.Source other_kind de result.0 result.1 }
+                ensures memory { IfErr result.1 (λ e. e ≢ Error.OutOfMemory) }
+            {
+                let read = de.headed_f64_bits();
+                (de, read)
+            },
+        )
     }
 
     /// Reads nil.
@@ -147,15 +211,12 @@ impl<R: Source, C: SerializerConfig> Deserializer<R, C> {
         ensures exact { RefusesHead R.Source other_number self.old self.new result }
         ensures memory { IfErr result (λ e. e ≢ Error.OutOfMemory) }
     {
-        if !self.begins_ahead() {
-            return self.offered_unsigned(most);
-        }
-        match self.unsigned_ahead(most) {
+        match self.unsigned_front(most) {
             Some(n) => {
                 self.failed = false;
                 Ok(n)
             }
-            None => self.called_unsigned(most),
+            None => self.offered_unsigned(most),
         }
     }
 
@@ -171,20 +232,7 @@ impl<R: Source, C: SerializerConfig> Deserializer<R, C> {
                 self.failed = false;
                 Ok(n)
             }
-            None => self.called_unsigned(most),
-        }
-    }
-
-    // The same by a call. Its answer stands in memory, which is filled before: so only where it is called.
-    #[inline(always)]
-    fn called_unsigned(&mut self, most: u64) -> Result<u64, Error>
-        ensures law { Lawful R.Source (IsUnsigned most) self.old self.new result }
-        ensures exact { RefusesHead R.Source other_number self.old self.new result }
-        ensures memory { IfErr result (λ e. e ≢ Error.OutOfMemory) }
-    {
-        match self.headed_unsigned(most) {
-            Ok(n) => Ok(n),
-            Err(e) => Err(e),
+            None => self.apart_unsigned(most),
         }
     }
 
@@ -208,6 +256,27 @@ impl<R: Source, C: SerializerConfig> Deserializer<R, C> {
             },
             Err(e) => Err(e),
         }
+    }
+
+    // The same of a copy of the reader.
+    #[inline(always)]
+    fn apart_unsigned(&mut self, most: u64) -> Result<u64, Error>
+        ensures law { Lawful R.Source (IsUnsigned most) self.old self.new result }
+        ensures exact { RefusesHead R.Source other_number self.old self.new result }
+        ensures memory { IfErr result (λ e. e ≢ Error.OutOfMemory) }
+    {
+        replace_with(
+            self,
+            most,
+            |mut de: Deserializer<R, C>, most: u64|
+                ensures law { Lawful R.Source (IsUnsigned most) de result.0 result.1 }
+                ensures exact { RefusesHead R.Source other_number de result.0 result.1 }
+                ensures memory { IfErr result.1 (λ e. e ≢ Error.OutOfMemory) }
+            {
+                let read = de.headed_unsigned(most);
+                (de, read)
+            },
+        )
     }
 
     // A number of any width between two others.
@@ -240,7 +309,7 @@ impl<R: Source, C: SerializerConfig> Deserializer<R, C> {
                 self.failed = false;
                 Ok(z)
             }
-            None => self.headed_signed(least, most),
+            None => self.apart_signed(least, most),
         }
     }
 
@@ -264,6 +333,27 @@ impl<R: Source, C: SerializerConfig> Deserializer<R, C> {
             },
             Err(e) => Err(e),
         }
+    }
+
+    // The same of a copy of the reader.
+    #[inline(always)]
+    fn apart_signed(&mut self, least: i64, most: i64) -> Result<i64, Error>
+        ensures law { Lawful R.Source (IsSigned least most) self.old self.new result }
+        ensures exact { RefusesHead R.Source other_number self.old self.new result }
+        ensures memory { IfErr result (λ e. e ≢ Error.OutOfMemory) }
+    {
+        replace_with(
+            self,
+            (least, most),
+            |mut de: Deserializer<R, C>, bounds: (i64, i64)|
+                ensures law { Lawful R.Source (IsSigned bounds.0 bounds.1) de result.0 result.1 }
+                ensures exact { RefusesHead R.Source other_number de result.0 result.1 }
+                ensures memory { IfErr result.1 (λ e. e ≢ Error.OutOfMemory) }
+            {
+                let read = de.headed_signed(bounds.0, bounds.1);
+                (de, read)
+            },
+        )
     }
 
     /// Reads a number from 0 to 255, of any width and with or without a sign.

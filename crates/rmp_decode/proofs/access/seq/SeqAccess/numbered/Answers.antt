@@ -1,11 +1,16 @@
-use Rattle.std.proofs.Common.{refl, subst, arith, max}
+use Rattle.std.proofs.Common.{◌≡◌, refl, sym, ap, subst, arith, max}
 use Rattle.rmp_decode.specs.Parts.{TakesPart, FailsPart}
 use Rattle.rmp_decode.specs.Refusing.{element_setting}
 use Rattle.rmp_decode.specs.State.{faults_of}
 use Rattle.rmp_decode.specs.With.{OffersPart}
+use Rattle.rmp_decode.specs.declared.deserializer.Deserializer.{Deserializer}
+use Rattle.rmp_decode.specs.declared.deserializer.Kept.TheVariants.{Nothing}
 use Rattle.rmp_decode.proofs.ByteParts.{number_missing, number_ended}
 use Rattle.rmp_decode.proofs.Offered.{element_taken, element_fails, offered}
 use Rattle.rmp_decode.proofs.access.seq.SeqAccess.numbered.Goals as goal
+
+nothing_kept : {R C : Type 0} (d : Deserializer R C) → d.kept ≡ Nothing → record d { kept = Nothing } ≡ d
+nothing_kept d e = ap (λ k. record d { kept = k }) (sym e)
 
 pub returns-in-Err-clause-err : goal.returns-in-Err-clause-err
 returns-in-Err-clause-err g c = λ o. record {
@@ -23,7 +28,9 @@ returns-in-Ok-part-clause-ok g c = λ o.
     let reads = g.T.Deserialize.reads (g.C.SerializerConfig.human old.de.now.config) g.R.ReadSlice.lends in
     let t = subst (λ z. TakesPart g.R.Source (g.T.Deserialize.reads (g.C.SerializerConfig.human z) g.R.ReadSlice.lends) (max 1 old.inner)
     c.keep_byte.new.self c.part.new.self c.in-Ok-part.v) k.stays.config c.in-Ok-part.ensures.ok in
-    element_taken g.R.Source reads old _ c.keep_byte.new.self o offers c.in-Ok-part.v (record { count = refl; inner = refl; bytes = refl }) t
+    let same = sym (nothing_kept c.part.new.self t.clean) in
+    let t' = subst (λ d. TakesPart g.R.Source reads (max 1 old.inner) c.keep_byte.new.self d c.in-Ok-part.v) same t in
+    element_taken g.R.Source reads old _ c.keep_byte.new.self o offers c.in-Ok-part.v (record { count = refl; inner = refl; bytes = refl }) t'
     (omega (arith, c.requires.some)) refl
 
 pub returns-in-Err-part-clause-err : goal.returns-in-Err-part-clause-err
