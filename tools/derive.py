@@ -1,11 +1,14 @@
 #!/usr/bin/env python3
-"""Writes `Serialize` and `Deserialize` for the structs and enums of a file, and the proofs of both.
+"""Writes `Serialize`, `Deserialize` and `RoundTrip` for the structs and enums of a file, and the proofs.
 
     tools/derive.py CRATE FILE..      CRATE is the crate's folder, and FILE a path below its src/
 
 The file declares its types as in Rust, each with `#[derive(Drop)]`, and has a line `mod derived;`. Of src/pets.rt the
 implementations go to src/pets/derived.rt, and the proofs below proofs/pets/derived/; `rt fmt` and `rt check` in the crate
-are all that follows. The crate stands on rmp_encode, rmp_decode and rmp_wire.
+are all that follows. The crate stands on rmp_encode, rmp_decode and rmp_wire. Where crates.txt names rmp_serde for it too, each type
+gets `RoundTrip`, and `NeverNil` where no value is nil, if the laws of its fields are known: they are of parameters, of types of std
+or of the wire, of types of the crate without parameters that have `RoundTrip`, or of types of the file with parameters. Of a type
+that doesn't get it the tool says why.
 
 Structs with names, tuple structs, newtypes, structs without fields, and enums with variants of each kind are derived, with
 type parameters or without. The type of a field is any that has both traits, also one of the file's own; an `Option` may be
@@ -19,6 +22,9 @@ import sys
 sys.dont_write_bytecode = True
 from declarations import PLAIN, PRELUDE, Refused, identifiers, read
 from derived_proofs import answers, has_content
+from derived_rounds import LEMMAS, Own, Unknown
+from derived_rounds import implementations as rounds
+from derived_terms import GHOST, Words, alias, member_of_reading, members_of_writing, nested, refusal_of
 from imports import imports
 from lines import broken
 
@@ -26,142 +32,17 @@ PARTS = "One Both Three Four Five Six Seven Eight".split()
 PLACES = "first second third fourth fifth sixth seventh eighth".split()
 # The lemmas that a struct is no byte.
 NO_BYTE = {"newtype": "Wrapped::wrapped_no_byte", "tuple": "Lists::sequence_no_byte", "named": "Fields::structure_no_byte"}
+TRAITS = {"Serialize", "Deserialize", "RoundTrip", "NeverNil"}
 # Names of the functions' own values.
 TAKEN = "se de e parts variant".split()
-# Where the words of the ghost members come from.
-GHOST = {
-    "std.specs.Prelude": "◌≡◌ ◌∷◌ [] None Some codes false ⊤",
-    "rmp_encode.specs.Data": "unit_struct unit_variant",
-    "rmp_encode.specs.Sizes": "one_of",
-    "rmp_encode.specs.Trees": "wrapped_of sequence_of structure_of newtype_variant_of tuple_variant_of struct_variant_of",
-    "rmp_decode.specs.Fields": "OfFields Field Absent NoField",
-    "rmp_decode.specs.Rows": "AndThen NoMore",
-    "rmp_decode.specs.Seq": "OfRow",
-    "rmp_decode.specs.Units": "IsNothing",
-    "rmp_decode.specs.Variants": "OfVariant Case NoCase Bare Content",
-}
-# And those of the code.
+# Where the words of the code come from.
 CODE = {
-    "rmp_decode": "Deserialize Deserializer",
+    "rmp_decode": "Deserialize Deserializer ReadFields",
     "rmp_encode": "Serialize Serializer",
+    "rmp_serde": "NeverNil RoundTrip",
     "rmp_wire": "ReadSlice Sink",
     "rmp_wire::config": "SerializerConfig",
 }
-
-
-# ---- terms
-
-
-def listed(terms):
-    return " ∷ (".join(terms) + " ∷ []" + ")" * (len(terms) - 1) if terms else "[]"
-
-
-def codes(names):
-    return listed([f'codes "{name}"' for name in names])
-
-
-class Words:
-    """What the ghost members of a field's type are called where a type with these parameters is implemented."""
-
-    def __init__(self, of):
-        self.names = [name for name, _ in of.parameters]
-
-    def writes(self, kind, word):
-        return f"{kind}.{word}" if kind in self.names else f"⟦<{kind} as Serialize>⟧.{word}"
-
-    def reads(self, kind, word):
-        return f"{kind}.{word}" if kind in self.names else f"⟦<{kind} as Deserialize<'de, R>>⟧.{word}"
-
-
-def values_of(shape, value):
-    """What the fields are called: of a struct, its projections; of a variant, the names that a case gives them."""
-    if value:
-        return [f"{value}.{field.name}" for field in shape.fields]
-    return [f"a{at}" for at in range(1, len(shape.fields) + 1)]
-
-
-def data_of(words, shape, value=None):
-    """What the value is, of a struct, or of a variant where there is no value that has the fields."""
-    data = [f"{words.writes(field.kind, 'data_of')} {of} human" for field, of in zip(shape.fields, values_of(shape, value))]
-    name = "" if value else f'(codes "{shape.name}") '
-    if shape.kind == "unit":
-        return "Some unit_struct" if value else f'Some (unit_variant {name.strip()})'
-    if shape.kind == "newtype":
-        return f"{'wrapped_of' if value else 'newtype_variant_of'} {name}({data[0]})"
-    if shape.kind == "tuple":
-        return f"{'sequence_of' if value else 'tuple_variant_of'} {name}({listed(data)})"
-    pairs = [f'(codes "{field.name}", {term})' for field, term in zip(shape.fields, data)]
-    return f"{'structure_of' if value else 'struct_variant_of'} {name}({listed(pairs)})"
-
-
-def known_of(words, shape, value=None):
-    """What is known of the value."""
-    known = [f"{words.writes(field.kind, 'is_value')} {of}" for field, of in zip(shape.fields, values_of(shape, value))]
-    return " × ".join(known) or "⊤"
-
-
-def memory_of(words, shape, settings="s"):
-    """Whether writing the value may take memory."""
-    flags = [f"{words.writes(field.kind, 'takes_memory')} {settings}" for field in shape.fields]
-    if shape.kind == "newtype":
-        return flags[0]
-    return f"one_of ({listed(flags)})" if flags else "false"
-
-
-def reading_of(words, shape, tree, value=None):
-    """What holds of a tree that is read as the value."""
-    values = values_of(shape, value)
-    if shape.kind == "unit":
-        return f"IsNothing {tree}"
-    if shape.kind == "newtype":
-        return f"{words.reads(shape.fields[0].kind, 'reads')} human lends {tree} {values[0]}"
-    reads = [f"λ j. {words.reads(field.kind, 'reads')} human lends j {of}" for field, of in zip(shape.fields, values)]
-    if shape.kind == "tuple":
-        return f"OfRow ({chained([f'AndThen ({term})' for term in reads], 'NoMore')}) {tree}"
-    absent = [f"Absent {words.reads(field.kind, 'absent')} {of}" for field, of in zip(shape.fields, values)]
-    fields = chained([f"Field ({there}) ({missing})" for there, missing in zip(reads, absent)], "NoField")
-    return f"OfFields ({codes(field.name for field in shape.fields)}) ({fields}) {tree}"
-
-
-def chained(heads, end):
-    """The terms, each with the next as its last argument."""
-    term = end
-    for head in reversed(heads):
-        term = f"{head} {term}" if term == end else f"{head} ({term})"
-    return term
-
-
-def alias(of):
-    """What an enum's variants are called by in terms."""
-    return "the_" + re.sub(r"(?<=[a-z0-9])(?=[A-Z])", "_", of.name).lower()
-
-
-def by_cases(of, terms):
-    cases = [f"{' '.join([f'{alias(of)}.{shape.name}', *values_of(shape, None)])} ↦ {term}" for shape, term in zip(of.variants, terms)]
-    return f"elim v [ {' | '.join(cases)} ]"
-
-
-def members_of_writing(of, words):
-    """What stands for data_of, is_value and takes_memory."""
-    if of.shape:
-        return data_of(words, of.shape, "v"), known_of(words, of.shape, "v"), memory_of(words, of.shape)
-    data = by_cases(of, [data_of(words, shape) for shape in of.variants])
-    known = by_cases(of, [known_of(words, shape) for shape in of.variants])
-    flags = [memory_of(words, shape) for shape in of.variants]
-    return data, known, "false" if set(flags) == {"false"} else f"one_of ({listed(flags)})"
-
-
-def member_of_reading(of, words):
-    """What stands for reads."""
-    if of.shape:
-        return reading_of(words, of.shape, "m", "v")
-    cases = []
-    for shape in of.variants:
-        values = values_of(shape, None)
-        value = " ".join([f"{alias(of)}.{shape.name}", *values])
-        holds = f"Content (λ k. {reading_of(words, shape, 'k')}) c" if values else "Bare c"
-        cases.append(f"Case (λ c. {''.join(f'({name} : _) × ' for name in values)}(v ≡ {value}) × {holds})")
-    return f"OfVariant ({codes(shape.name for shape in of.variants)}) ({chained(cases, 'NoCase')}) m"
 
 
 # ---- code
@@ -211,11 +92,6 @@ def handed_over(values):
     """The struct that hands several values over."""
     fields = [value if value == place else f"{place}: {value}" for place, value in zip(PLACES, values)]
     return f"rmp_encode::{PARTS[len(values) - 1]} {{ {', '.join(fields)} }}"
-
-
-def nested(words):
-    """Pairs of the first and the others, which end in ()."""
-    return "".join(f"({word}, " for word in words) + "()" + ")" * len(words)
 
 
 def body_of_struct(shape):
@@ -324,7 +200,8 @@ def reading(of):
     return [
         header(of, "Deserialize"),
         f"    ghost reads = {{ λ human lends m v. {member_of_reading(of, Words(of))} }};\n",
-        "ghost absent = { None };\n",
+        "    ghost absent = { None };\n",
+        *([f"    ghost refuses = {{ {refusal_of(Words(of), of.shape)} }};\n"] if of.shape else []),
         f"fn deserialize<C: SerializerConfig>(de: &mut Deserializer<R, C>) -> Result<{full_name(of)}, rmp_decode::Error> {{",
         *body_of_reading(of),
         "}\n",
@@ -356,8 +233,14 @@ def named_types(types):
 
 def implemented(text, name):
     """The traits that the file itself implements for a type."""
-    found = re.findall(rf"^impl\b[^{{]*?\b(Serialize|Deserialize)\b[^{{]*? for {name}\b", text, re.M)
-    return set(found)
+    return set(re.findall(rf"^impl\b[^{{]*?\b(\w+)(?:<[^<>{{]*>)?\s+for\s+{name}\b", text, re.M)) & TRAITS
+
+
+def brought_in(text):
+    """The names that the `use` lines of a file bring in, each with the module that it comes from."""
+    for path, names in re.findall(r"^(?:pub(?:\([^)]*\))? )?use ([\w:]+?)::(\{[^{}]*\}|\w+);", text, re.M):
+        for name in re.findall(r"\w+", names):
+            yield name, path.split("::")
 
 
 class Module:
@@ -373,9 +256,58 @@ class Module:
         """The name of a module below the crate, where this file's module stands in it."""
         return ".".join(word for word in (self.at.rstrip("/").replace("/", "."), *words) if word)
 
+    def has_rounds(self):
+        """Whether the crate stands on rmp_serde, as crates.txt says, which stands at the top of the repository."""
+        try:
+            with open(os.path.join(self.crate, "..", "..", "crates.txt"), encoding="utf-8") as file:
+                return bool(re.search(rf"^{self.name}(?: \w+)?:.*\brmp_serde\b", file.read(), re.M))
+        except OSError:
+            return False
+
     def source(self):
         with open(os.path.join(self.crate, "src", self.path), encoding="utf-8") as file:
             return file.read()
+
+    def traits(self, by_hand):
+        """The traits to derive, where these are implemented by hand: the last two go by the forms of the others."""
+        traits = {"Serialize", "Deserialize"} - by_hand
+        return traits | {"RoundTrip", "NeverNil"} - by_hand if len(traits) == 2 and self.has_rounds() else traits
+
+    def other(self, path):
+        """The file of a module that a `use` names, where it is one of the crate."""
+        words = self.below().split(".") if self.at else []
+        if path[0] == "crate":
+            words = []
+        elif path[0] == "super":
+            words = words[:-1]
+        elif path[0] != "self":
+            words = [*words, path[0]]
+        words += path[1:]
+        found = Module(self.crate, "/".join(words) + ".rt" if words else "lib.rt")
+        return found if os.path.exists(os.path.join(self.crate, "src", found.path)) else None
+
+    def types(self, seen=()):
+        """The types of the crate that the file names, its own first, by their names."""
+        source, names = self.source(), {}
+        has_derived = re.search(r"^mod derived;", source, re.M)
+        for name, of in read(source).items():
+            by_hand = implemented(source, name)
+            derived = self.traits(by_hand) if has_derived else set()
+            modules = {trait: f"{self.name}.specs.contracts.{self.below(*['derived'] * (trait in derived))}" for trait in TRAITS}
+            names[name] = Own(of, derived, by_hand, modules, names)
+        for name, path in brought_in(source):
+            other = self.other(path)
+            if other and other.path not in (self.path, *seen):
+                names.update(other.named(name, (self.path, *seen)))
+        return names
+
+    def named(self, name, seen):
+        """The type of this name, where it can be read."""
+        try:
+            types = self.types(seen)
+        except Refused:
+            return {}
+        return {name: types[name]} if name in types else {}
 
     def write(self, text, *path):
         place = os.path.join(self.crate, *path)
@@ -387,15 +319,20 @@ class Module:
 def implementations(module, wanted):
     """The text of src/../derived.rt."""
     items = []
-    for of, traits in wanted:
-        items += writing(of) if "Serialize" in traits else []
-        items += reading(of) if "Deserialize" in traits else []
+    for own in wanted:
+        items += writing(own.of) if "Serialize" in own.derived else []
+        items += reading(own.of) if "Deserialize" in own.derived else []
+        try:
+            items += rounds(own)
+        except Unknown as why:
+            print(f"derive: {module.path}: {own.of.name} has no RoundTrip: {why}", file=sys.stderr)
     text = "\n".join(items)
-    ghosts = imports(text, GHOST, ghost_line)
-    for of, _ in wanted:
-        if of.variants and f"{alias(of)}." in text:
-            ghosts.append(f"ghost use Rattle.{module.name}.specs.declared.{module.below(of.name)}.TheVariants as {alias(of)};\n")
-    uses = [code_line("super", named_types([of for of, _ in wanted])), *imports(text, CODE, code_line)]
+    table = {name: f"{GHOST.get(name, '')} {LEMMAS.get(name, '')}" for name in {**GHOST, **LEMMAS}}
+    ghosts = imports(text, table, ghost_line)
+    for own in wanted:
+        if own.of.variants and f"{alias(own.of)}." in text:
+            ghosts.append(f"ghost use Rattle.{module.name}.specs.declared.{module.below(own.of.name)}.TheVariants as {alias(own.of)};\n")
+    uses = [code_line("super", named_types([own.of for own in wanted])), *imports(text, CODE, code_line)]
     about = f"//! How the types of {module.path} are written and read. Written by tools/derive.py.\n"
     return about + "".join(sorted(ghosts)) + "\n" + "".join(uses) + "\n" + text
 
@@ -403,17 +340,16 @@ def implementations(module, wanted):
 def derive(crate, path):
     """Writes what stands for the types of a file."""
     module = Module(crate, path)
-    source = module.source()
-    if not re.search(r"^mod derived;", source, re.M):
+    if not re.search(r"^mod derived;", module.source(), re.M):
         raise Refused("it has no line `mod derived;`")
-    wanted = [(of, {"Serialize", "Deserialize"} - implemented(source, name)) for name, of in read(source).items()]
-    wanted = [(of, traits) for of, traits in wanted if traits]
+    types = module.types()
+    wanted = [own for own in types.values() if own.names is types and own.derived]
     if not wanted:
         raise Refused("it declares no type that has an implementation to derive")
     module.write(implementations(module, wanted), "src", f"{module.at}derived.rt")
-    for of, traits in wanted:
-        for trait, method, text in answers(of, traits, module):
-            module.write(text, "proofs", f"{module.at}derived", f"{of.name}{trait}", method, "Answers.antt")
+    for own in wanted:
+        for trait, method, text in answers(own.of, own.derived, module):
+            module.write(text, "proofs", f"{module.at}derived", f"{own.of.name}{trait}", method, "Answers.antt")
 
 
 def main():

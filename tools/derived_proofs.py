@@ -47,18 +47,19 @@ def held(shape, arm, term):
 
 
 def struct_read(shape):
-    """The two answers of a struct that is read by one call."""
-    back, forth = "λ m r. r", "λ m r. r"
+    """The answers of a struct that is read by one call."""
+    back, forth, refused = "λ m r. r", "λ m r. r", "refused"
     if shape.kind == "unit":
-        forth = "λ m r. (tt, r.1)"
+        forth, refused = "λ m r. (tt, r.1)", "exact"
     elif shape.kind == "newtype":
-        back, forth = "λ m r. r.1", "λ m r. (r.0.0, ((λ e. cc), r.1))"
+        back, forth, refused = "λ m r. r.1", "λ m r. (r.0.0, ((λ e. cc), r.1))", "refused (λ e. cc)"
     elif shape.kind == "tuple":
         forth = f"λ m r. ({tuple_of([f'r.0.{field.name}' for field in shape.fields])}, r.1)"
     else:
         forth = f"λ m r. ({nested([f'r.0.{field.name}' for field in shape.fields])}, r.1)"
     text = answer("returns-in-Ok-clause-law", held(shape, "c.in-Ok", f"lawful_ok _ _ _ _ _ _ _ ({back}) c.in-Ok.ensures.law"))
-    return text + answer("returns-in-Err-clause-law", f"lawful_err _ _ _ _ _ _ ({forth}) c.in-Err.ensures.law")
+    text += answer("returns-in-Err-clause-law", f"lawful_err _ _ _ _ _ _ ({forth}) c.in-Err.ensures.law")
+    return text + answer("returns-in-Err-clause-refused", f"c.in-Err.ensures.{refused}")
 
 
 CALLS = {"unit": "unit_variant", "newtype": "newtype_variant", "tuple": "newtype_variant", "named": "fields_variant"}

@@ -24,11 +24,13 @@ BEGINS = {"=": 3, ":": 3, ".": 3, "where": 3, "}": 3, ";": 3, "≡": 1, "≤": 1
 
 
 def spaces(line):
-    """The spaces outside of texts, each with the number of brackets that are open there."""
+    """The spaces outside of texts and quotes, each with the number of brackets that are open there."""
     depth, in_text, found = 0, False, []
     for at, sign in enumerate(line):
         if sign == '"' and line[at - 1] != "\\":
             in_text = not in_text
+        elif sign in "⟦⟧":
+            in_text = sign == "⟦"
         elif not in_text:
             depth += (sign in "([{") - (sign in ")]}")
             if sign == " ":

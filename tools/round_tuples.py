@@ -5,6 +5,7 @@
 
 Run `rt fmt` in the crate afterwards.
 """
+from derived_rounds import any_of, lent
 from lines import write
 
 KINDS = "ABDEFGHI"
@@ -29,17 +30,7 @@ def bounds(kinds, bound):
 
 # Whether one of them borrows.
 def borrows(kinds):
-    if len(kinds) == 1:
-        return f"{kinds[0]}.borrows"
-    return f"({kinds[0]}.borrows || {borrows(kinds[1:])})"
-
-
-# That the source lends, where each of them borrows.
-def lent(kinds, proof):
-    if len(kinds) == 1:
-        return [proof]
-    parts = f"{kinds[0]}.borrows {borrows(kinds[1:])} R.lends {proof}"
-    return [f"(first_lent {parts})"] + lent(kinds[1:], f"(second_lent {parts})")
+    return any_of([f"{k}.borrows" for k in kinds])
 
 
 # None of them is refused.
@@ -70,7 +61,7 @@ impl<'de, R: ReadSlice<'de>, {bounds(kinds, "RoundTrip<'de, R>")}> RoundTrip<'de
 
     ghost has_data = {{ λ human v. tuple_some _ {stated(kinds)} }};
 
-    ghost round = {{ λ lent s v fits. tuple_row s _ _ {rounds(kinds, lent(kinds, "lent"))} }};
+    ghost round = {{ λ lent s v fits. tuple_row s _ _ {rounds(kinds, lent([f"{k}.borrows" for k in kinds], "lent"))} }};
 }}
 
 impl<{bounds(kinds, "Serialize")}> NeverNil for {tuple_of(kinds)} {{

@@ -11,6 +11,7 @@ mod text;
 pub use access::any::{Any, Leaf, RawAccess};
 pub use access::field_access::FieldAccess;
 pub use access::field_access::by::ReadPlaces;
+pub use access::fields::Fields as ReadFields;
 pub use access::map::MapAccess;
 pub use access::seq::SeqAccess;
 pub use access::variant::Variant;

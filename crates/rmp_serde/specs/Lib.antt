@@ -24,9 +24,11 @@ pub mod Refuse
 pub mod RoundTrip
 pub mod Rounds
 pub mod Short
+pub mod StructRounds
 pub mod TreeFalls
 pub mod TreeWrites
 pub mod ValueData
 pub mod ValueLowers
+pub mod VariantRounds
 pub mod View
 pub mod WideRounds

@@ -6,11 +6,18 @@ ghost use Rattle.rmp_decode.specs.Variants.{OfVariant, Case, NoCase, Bare, Conte
 ghost use Rattle.rmp_encode.specs.Data.{unit_variant};
 ghost use Rattle.rmp_encode.specs.Sizes.{one_of};
 ghost use Rattle.rmp_encode.specs.Trees.{newtype_variant_of, tuple_variant_of};
+ghost use Rattle.rmp_serde.specs.LeafRounds.{unsigned_row_64};
+ghost use Rattle.rmp_serde.specs.Rounds.{rows_none, rows_cons};
+ghost use Rattle.rmp_serde.specs.StructRounds.{tuple_variant_all};
+ghost use Rattle.rmp_serde.specs.ValueLowers.{value_row};
+ghost use Rattle.rmp_serde.specs.VariantRounds.{newtype_variant_some, bare_row, newtype_variant_row, tuple_variant_row, bare_other, newtype_variant_other, tuple_variant_other};
+ghost use Rattle.std.proofs.Common.{refl};
 ghost use Rattle.std.specs.Prelude.{◌≡◌, ◌∷◌, [], None, Some, codes, false, ⊤};
 
 use super::{Request, Value};
 use rmp_decode::{Deserialize, Deserializer};
 use rmp_encode::{Serialize, Serializer};
+use rmp_serde::{NeverNil, RoundTrip};
 use rmp_wire::config::SerializerConfig;
 use rmp_wire::{ReadSlice, Sink};
 
@@ -26,7 +33,8 @@ impl Serialize for Request {
     ghost is_value = { λ v. elim v [
       | the_request.Ping ↦ ⊤
       | the_request.Get a1 ↦ ⟦<u64 as Serialize>⟧.is_value a1
-      | the_request.Put a1 a2 ↦ ⟦<u64 as Serialize>⟧.is_value a1 × ⟦<Value as Serialize>⟧.is_value a2
+      | the_request.Put a1 a2 ↦
+          ⟦<u64 as Serialize>⟧.is_value a1 × ⟦<Value as Serialize>⟧.is_value a2
     ] };
 
     ghost takes_memory = { λ s. one_of (false ∷ (⟦<u64 as Serialize>⟧.takes_memory s
@@ -92,4 +100,33 @@ impl<'de, R: ReadSlice<'de>> Deserialize<'de, R> for Request {
     fn missing() -> Option<Request> {
         None
     }
+}
+
+impl<'de, R: ReadSlice<'de>> RoundTrip<'de, R> for Request {
+    ghost has_data = { λ human. elim [
+      | the_request.Ping ↦ refl
+      | the_request.Get a1 ↦ newtype_variant_some (codes "Get")
+          (⟦<u64 as Serialize>⟧.data_of a1 human) refl
+      | the_request.Put a1 a2 ↦ tuple_variant_all (codes "Put")
+          (⟦<u64 as Serialize>⟧.data_of a1 human ∷ (⟦<Value as Serialize>⟧.data_of a2 human ∷ [])) (refl, (refl, tt))
+    ] };
+
+    ghost round = { λ lent s. elim [
+      | the_request.Ping ↦ λ fits. bare_row s (codes "Ping" ∷ (codes "Get" ∷ (codes "Put" ∷ []))) (codes "Ping") 0 refl _
+          (refl, tt)
+      | the_request.Get a1 ↦ λ fits. newtype_variant_row s (codes "Ping" ∷ (codes "Get" ∷ (codes "Put" ∷ []))) (codes "Get") 1 refl _ _
+          (λ j. ⟦<u64 as Deserialize<'de, R>>⟧.reads s.human R.lends j a1) (λ m h. (a1, refl, h)) (unsigned_row_64 s a1 fits)
+      | the_request.Put a1 a2 ↦
+          λ fits. tuple_variant_row s (codes "Ping" ∷ (codes "Get" ∷ (codes "Put" ∷ []))) (codes "Put") 2 refl _ _ _ (λ m h. (a1, a2, refl, h))
+          (rows_cons s _ _ (λ j. ⟦<u64 as Deserialize<'de, R>>⟧.reads s.human R.lends j a1) _ (unsigned_row_64 s a1 fits.0)
+          (rows_cons s _ _ (λ j. ⟦<Value as Deserialize<'de, R>>⟧.reads s.human R.lends j a2) _ (value_row s a2 fits.1.1) (rows_none s)))
+    ] };
+}
+
+impl NeverNil for Request {
+    ghost never_nil = { λ s. elim [
+      | the_request.Ping ↦ bare_other s (codes "Ping")
+      | the_request.Get a1 ↦ newtype_variant_other s (codes "Get") _
+      | the_request.Put a1 a2 ↦ tuple_variant_other s (codes "Put") _
+    ] };
 }

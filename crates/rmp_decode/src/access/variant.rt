@@ -10,6 +10,7 @@ ghost use Rattle.rmp_decode.specs.declared.deserializer.Kept.TheVariants.{Nothin
 ghost use Rattle.rmp_decode.specs.Buffers.{AfterHead};
 ghost use Rattle.rmp_decode.specs.Content.{IsRawHead, RefusesLeaf, RefusesBehind};
 ghost use Rattle.rmp_decode.specs.Exact.{RefusesExactly, RefusesHead, RefusesBy};
+ghost use Rattle.rmp_decode.specs.FieldRefusing.{RefusesFields};
 ghost use Rattle.rmp_decode.specs.Fields.{OfFields};
 ghost use Rattle.rmp_decode.specs.Kinds.{raw_head};
 ghost use Rattle.rmp_decode.specs.Law.{Lawful, Explains, Readable, TakesHead};
@@ -479,6 +480,8 @@ impl<'x, R: Source, C: SerializerConfig> Variant<'x, R, C> {
         ensures err { IfErr result (RefusesContentOf R.Source C.human
             (λ human. Readable (λ m v. OfFields (bytes_of names.now) (λ fs. F.reads human R.lends fs v) m)) self.entry self.exit.0.now) }
         ensures bare { is_bare self.entry ≡ true → (result ≡ Err (Error.Syntax Text.InvalidType)) × (self.exit.0.now ≡ variant_lender self.entry) }
+        ensures refused { is_bare self.entry ≡ false → IfErr result (PartRefused R.Source (C.human (config_of (variant_lender self.entry)))
+            R.lends (RefusesFields (bytes_of names.now) F.reads F.parts) (max 1 (content_room self.entry)) (variant_lender self.entry) self.exit.0.now) }
     {
         let Variant { de, bare, inner } = self;
         if bare {

@@ -6,7 +6,12 @@ ghost use Rattle.rmp_decode.specs.Variants.{OfVariant, Case, NoCase, Bare, Conte
 ghost use Rattle.rmp_encode.specs.Data.{unit_variant};
 ghost use Rattle.rmp_encode.specs.Sizes.{one_of};
 ghost use Rattle.rmp_encode.specs.Trees.{newtype_variant_of, tuple_variant_of, struct_variant_of};
-ghost use Rattle.std.specs.Prelude.{◌≡◌, ◌∷◌, [], None, Some, codes, false, ⊤};
+ghost use Rattle.rmp_serde.specs.LeafRounds.{byte_row, unsigned_row_16, unsigned_row_32, string_row};
+ghost use Rattle.rmp_serde.specs.Rounds.{option_some, option_row, rows_none, rows_cons};
+ghost use Rattle.rmp_serde.specs.StructRounds.{tuple_variant_all, struct_variant_all, fields_none, fields_cons};
+ghost use Rattle.rmp_serde.specs.VariantRounds.{newtype_variant_some, bare_row, newtype_variant_row, tuple_variant_row, struct_variant_row, bare_other, newtype_variant_other, tuple_variant_other, struct_variant_other};
+ghost use Rattle.std.proofs.Common.{refl};
+ghost use Rattle.std.specs.Prelude.{◌≡◌, ◌∷◌, [], None, Some, codes, false, ⊤, string_bytes};
 ghost use Rattle.test_derived.specs.declared.enums.Four.TheVariants as the_four;
 ghost use Rattle.test_derived.specs.declared.enums.Mixed.TheVariants as the_mixed;
 ghost use Rattle.test_derived.specs.declared.enums.Two.TheVariants as the_two;
@@ -15,6 +20,7 @@ ghost use Rattle.test_derived.specs.declared.enums.V12.TheVariants as the_v12;
 use super::{Dog, Four, Mixed, Two, V12};
 use rmp_decode::{Deserialize, Deserializer};
 use rmp_encode::{Serialize, Serializer};
+use rmp_serde::{NeverNil, RoundTrip};
 use rmp_wire::config::SerializerConfig;
 use rmp_wire::{ReadSlice, Sink};
 
@@ -83,6 +89,26 @@ impl<'de, R: ReadSlice<'de>> Deserialize<'de, R> for V12 {
     }
 }
 
+impl<'de, R: ReadSlice<'de>> RoundTrip<'de, R> for V12 {
+    ghost has_data = { λ human. elim [
+      | the_v12.V1 ↦ refl
+      | the_v12.V2 a1 a2 ↦ tuple_variant_all (codes "V2")
+          (⟦<u32 as Serialize>⟧.data_of a1 human ∷ (⟦<u32 as Serialize>⟧.data_of a2 human ∷ [])) (refl, (refl, tt))
+    ] };
+
+    ghost round = { λ lent s. elim [
+      | the_v12.V1 ↦ λ fits. bare_row s (codes "V1" ∷ (codes "V2" ∷ [])) (codes "V1") 0 refl _ (refl, tt)
+      | the_v12.V2 a1 a2 ↦
+          λ fits. tuple_variant_row s (codes "V1" ∷ (codes "V2" ∷ [])) (codes "V2") 1 refl _ _ _ (λ m h. (a1, a2, refl, h))
+          (rows_cons s _ _ (λ j. ⟦<u32 as Deserialize<'de, R>>⟧.reads s.human R.lends j a1) _ (unsigned_row_32 s a1 fits.0)
+          (rows_cons s _ _ (λ j. ⟦<u32 as Deserialize<'de, R>>⟧.reads s.human R.lends j a2) _ (unsigned_row_32 s a2 fits.1) (rows_none s)))
+    ] };
+}
+
+impl NeverNil for V12 {
+    ghost never_nil = { λ s. elim [ the_v12.V1 ↦ bare_other s (codes "V1") | the_v12.V2 a1 a2 ↦ tuple_variant_other s (codes "V2") _ ] };
+}
+
 impl Serialize for Two {
     ghost data_of = { λ v human. elim v [ the_two.First ↦ Some (unit_variant (codes "First")) | the_two.Second ↦ Some (unit_variant (codes "Second")) ] };
 
@@ -133,6 +159,19 @@ impl<'de, R: ReadSlice<'de>> Deserialize<'de, R> for Two {
     }
 }
 
+impl<'de, R: ReadSlice<'de>> RoundTrip<'de, R> for Two {
+    ghost has_data = { λ human. elim [ the_two.First ↦ refl | the_two.Second ↦ refl ] };
+
+    ghost round = { λ lent s. elim [
+      | the_two.First ↦ λ fits. bare_row s (codes "First" ∷ (codes "Second" ∷ [])) (codes "First") 0 refl _ (refl, tt)
+      | the_two.Second ↦ λ fits. bare_row s (codes "First" ∷ (codes "Second" ∷ [])) (codes "Second") 1 refl _ (refl, tt)
+    ] };
+}
+
+impl NeverNil for Two {
+    ghost never_nil = { λ s. elim [ the_two.First ↦ bare_other s (codes "First") | the_two.Second ↦ bare_other s (codes "Second") ] };
+}
+
 impl Serialize for Four {
     ghost data_of = { λ v human. elim v [
       | the_four.Unit ↦ Some (unit_variant (codes "Unit"))
@@ -147,7 +186,8 @@ impl Serialize for Four {
     ghost is_value = { λ v. elim v [
       | the_four.Unit ↦ ⊤
       | the_four.New a1 ↦ ⟦<u8 as Serialize>⟧.is_value a1
-      | the_four.Tup a1 a2 ↦ ⟦<u8 as Serialize>⟧.is_value a1 × ⟦<u16 as Serialize>⟧.is_value a2
+      | the_four.Tup a1 a2 ↦
+          ⟦<u8 as Serialize>⟧.is_value a1 × ⟦<u16 as Serialize>⟧.is_value a2
       | the_four.Str a1 a2 ↦ ⟦<u8 as Serialize>⟧.is_value a1
           × ⟦<String as Serialize>⟧.is_value a2
     ] };
@@ -238,6 +278,45 @@ impl<'de, R: ReadSlice<'de>> Deserialize<'de, R> for Four {
     }
 }
 
+impl<'de, R: ReadSlice<'de>> RoundTrip<'de, R> for Four {
+    ghost has_data = { λ human. elim [
+      | the_four.Unit ↦ refl
+      | the_four.New a1 ↦ newtype_variant_some (codes "New") (⟦<u8 as Serialize>⟧.data_of a1 human)
+          refl
+      | the_four.Tup a1 a2 ↦ tuple_variant_all (codes "Tup") (⟦<u8 as Serialize>⟧.data_of a1 human ∷ (⟦<u16 as Serialize>⟧.data_of a2 human ∷ []))
+          (refl, (refl, tt))
+      | the_four.Str a1 a2 ↦ struct_variant_all (codes "Str")
+          ((codes "a", ⟦<u8 as Serialize>⟧.data_of a1 human) ∷ ((codes "b", ⟦<String as Serialize>⟧.data_of a2 human) ∷ [])) (refl, (refl, tt))
+    ] };
+
+    ghost round = { λ lent s. elim [
+      | the_four.Unit ↦ λ fits. bare_row s (codes "Unit" ∷ (codes "New" ∷ (codes "Tup" ∷ (codes "Str" ∷ [])))) (codes "Unit") 0
+          refl _ (refl, tt)
+      | the_four.New a1 ↦ λ fits. newtype_variant_row s (codes "Unit" ∷ (codes "New" ∷ (codes "Tup" ∷ (codes "Str" ∷ []))))
+          (codes "New") 1 refl _ _ (λ j. ⟦<u8 as Deserialize<'de, R>>⟧.reads s.human R.lends j a1) (λ m h. (a1, refl, h)) (byte_row s a1 fits)
+      | the_four.Tup
+          a1 a2 ↦ λ fits. tuple_variant_row s (codes "Unit" ∷ (codes "New" ∷ (codes "Tup" ∷ (codes "Str" ∷ [])))) (codes "Tup") 2 refl _ _ _
+          (λ m h. (a1, a2, refl, h)) (rows_cons s _ _ (λ j. ⟦<u8 as Deserialize<'de, R>>⟧.reads s.human R.lends j a1) _ (byte_row s a1 fits.0)
+          (rows_cons s _ _ (λ j. ⟦<u16 as Deserialize<'de, R>>⟧.reads s.human R.lends j a2) _ (unsigned_row_16 s a2 fits.1) (rows_none s)))
+      | the_four.Str a1
+          a2 ↦ λ fits. struct_variant_row s (codes "Unit" ∷ (codes "New" ∷ (codes "Tup" ∷ (codes "Str" ∷ [])))) (codes "Str") 3 refl _
+          (codes "a" ∷ (codes "b" ∷ [])) _ _ refl (λ m h. (a1, a2, refl, h))
+          (fields_cons s (codes "a") _ _ _ (λ j. ⟦<u8 as Deserialize<'de, R>>⟧.reads s.human R.lends j a1) (Absent ⟦<u8 as Deserialize<'de, R>>⟧.absent a1) _
+          (byte_row s a1 fits.0) (fields_cons s (codes "b") _ _ _ (λ j. ⟦<String as Deserialize<'de, R>>⟧.reads s.human R.lends j a2)
+          (Absent ⟦<String as Deserialize<'de, R>>⟧.absent a2) _ (string_row s (string_bytes a2)) (fields_none s)))
+    ] };
+}
+
+impl NeverNil for Four {
+    ghost never_nil = { λ s. elim [
+      | the_four.Unit ↦ bare_other s (codes "Unit")
+      | the_four.New a1 ↦ newtype_variant_other s (codes "New") _
+      | the_four.Tup
+          a1 a2 ↦ tuple_variant_other s (codes "Tup") _
+      | the_four.Str a1 a2 ↦ struct_variant_other s (codes "Str") _
+    ] };
+}
+
 impl<T: Serialize> Serialize for Mixed<T> {
     ghost data_of = { λ v human. elim v [
       | the_mixed.Other a1 ↦ newtype_variant_of (codes "Other") (T.data_of a1 human)
@@ -311,4 +390,45 @@ impl<'de, R: ReadSlice<'de>, T: Deserialize<'de, R>> Deserialize<'de, R> for Mix
     fn missing() -> Option<Mixed<T>> {
         None
     }
+}
+
+impl<'de, R: ReadSlice<'de>, T: RoundTrip<'de, R>> RoundTrip<'de, R> for Mixed<T> {
+    ghost use Rattle.test_derived.specs.contracts.structs.derived.DogRoundTrip.TheImpl.Laws as dog_rounds;
+    ghost use Rattle.test_derived.specs.contracts.enums.derived.FourNeverNil.TheImpl.Laws as four_other;
+    ghost use Rattle.test_derived.specs.contracts.enums.derived.FourRoundTrip.TheImpl.Laws as four_rounds;
+    ghost use mir.Syntax.{given};
+
+    ghost borrows = { T.borrows };
+
+    ghost has_data = { λ human. elim [
+      | the_mixed.Other a1 ↦ newtype_variant_some (codes "Other") (T.data_of a1 human) (T.has_data human a1)
+      | the_mixed.Kept a1 a2 ↦ struct_variant_all (codes "Kept")
+          ((codes "four", ⟦<Option<Four> as Serialize>⟧.data_of a1 human) ∷ ((codes "dog", ⟦<Dog as Serialize>⟧.data_of a2 human) ∷ [])) (
+            (option_some (λ x. ⟦<Four as Serialize>⟧.data_of x human)
+                (λ x1. (four_rounds.has_data-law R.row R.ReadSlice.own (given 0) R.Source (given 0) human x1)) a1),
+            ((dog_rounds.has_data-law R.row R.ReadSlice.own (given 0) R.Source (given 0) human a2), tt),
+          )
+    ] };
+
+    ghost round = { λ lent s. elim [
+      | the_mixed.Other a1 ↦ λ fits. newtype_variant_row s (codes "Other" ∷ (codes "Kept" ∷ [])) (codes "Other") 0 refl _ _
+          (λ j. T.reads s.human R.lends j a1) (λ m h. (a1, refl, h)) (T.round lent s a1 fits)
+      | the_mixed.Kept a1 a2 ↦ λ fits. struct_variant_row s
+          (codes "Other" ∷ (codes "Kept" ∷ [])) (codes "Kept") 1 refl _ (codes "four" ∷ (codes "dog" ∷ [])) _ _ refl (λ m h. (a1, a2, refl, h))
+          (fields_cons s (codes "four") _ _ _ (λ j. ⟦<Option<Four> as Deserialize<'de, R>>⟧.reads s.human R.lends j a1)
+          (Absent ⟦<Option<Four> as Deserialize<'de, R>>⟧.absent a1) _
+          (option_row s (λ x. ⟦<Four as Serialize>⟧.data_of x s.human) ⟦<Four as Serialize>⟧.is_value (⟦<Four as Deserialize<'de, R>>⟧.reads s.human R.lends)
+          (λ x5. four_other.never_nil-law s x5) (λ x4 h4. (four_rounds.round-law R.row R.ReadSlice.own (given 0) R.Source (given 0) (λ e. cc) s x4 h4)) a1
+          fits.0) (fields_cons s (codes "dog") _ _ _ (λ j. ⟦<Dog as Deserialize<'de, R>>⟧.reads s.human R.lends j a2)
+          (Absent ⟦<Dog as Deserialize<'de, R>>⟧.absent a2) _ (dog_rounds.round-law R.row R.ReadSlice.own (given 0) R.Source (given 0) (λ e. cc) s a2 fits.1)
+          (fields_none s)))
+    ] };
+}
+
+impl<T: Serialize> NeverNil for Mixed<T> {
+    ghost never_nil = { λ s. elim [
+      | the_mixed.Other a1 ↦ newtype_variant_other s (codes "Other") _
+      | the_mixed.Kept a1 a2 ↦ struct_variant_other s
+          (codes "Kept") _
+    ] };
 }

@@ -1,16 +1,25 @@
 //! How the types of structs.rt are written and read. Written by tools/derive.py.
+ghost use Rattle.rmp_decode.specs.Exact.{RefusesExactly};
+ghost use Rattle.rmp_decode.specs.FieldRefusing.{RefusesFields};
 ghost use Rattle.rmp_decode.specs.Fields.{OfFields, Field, Absent, NoField};
+ghost use Rattle.rmp_decode.specs.Refusing.{RefusesTuple, part_of};
 ghost use Rattle.rmp_decode.specs.Rows.{AndThen, NoMore};
 ghost use Rattle.rmp_decode.specs.Seq.{OfRow};
-ghost use Rattle.rmp_decode.specs.Units.{IsNothing};
+ghost use Rattle.rmp_decode.specs.Units.{IsNothing, not_nothing};
 ghost use Rattle.rmp_encode.specs.Data.{unit_struct};
 ghost use Rattle.rmp_encode.specs.Sizes.{one_of};
 ghost use Rattle.rmp_encode.specs.Trees.{wrapped_of, sequence_of, structure_of};
-ghost use Rattle.std.specs.Prelude.{◌∷◌, [], None, Some, codes, false, ⊤};
+ghost use Rattle.rmp_serde.specs.LeafRounds.{byte_row, unsigned_row_16, unsigned_row_32, unsigned_row_64, string_row, byte_other, pos_other};
+ghost use Rattle.rmp_serde.specs.Rounds.{option_some, option_row, sequence_row, sequence_other, rows_none, rows_cons};
+ghost use Rattle.rmp_serde.specs.StructRounds.{sequence_all, structure_all, structure_row, structure_other, fields_none, fields_cons};
+ghost use Rattle.rmp_serde.specs.VariantRounds.{newtype_some, nothing_row, newtype_row, nothing_other, newtype_other};
+ghost use Rattle.std.proofs.Common.{refl};
+ghost use Rattle.std.specs.Prelude.{◌∷◌, [], None, Some, codes, false, ⊤, string_bytes};
 
 use super::{Counted, Dog, Newtype, Opt, Point, Unit};
-use rmp_decode::{Deserialize, Deserializer};
+use rmp_decode::{Deserialize, Deserializer, ReadFields};
 use rmp_encode::{Serialize, Serializer};
+use rmp_serde::{NeverNil, RoundTrip};
 use rmp_wire::config::SerializerConfig;
 use rmp_wire::{ReadSlice, Sink};
 
@@ -46,6 +55,9 @@ impl<'de, R: ReadSlice<'de>> Deserialize<'de, R> for Dog {
 
     ghost absent = { None };
 
+    ghost refuses = { RefusesFields (codes "name" ∷ (codes "age" ∷ [])) ⟦<(String, (u16, ())) as ReadFields<'de, R>>⟧.reads
+        ⟦<(String, (u16, ())) as ReadFields<'de, R>>⟧.parts };
+
     fn deserialize<C: SerializerConfig>(
         de: &mut Deserializer<R, C>,
     ) -> Result<Dog, rmp_decode::Error> {
@@ -64,6 +76,21 @@ impl<'de, R: ReadSlice<'de>> Deserialize<'de, R> for Dog {
     fn missing() -> Option<Dog> {
         None
     }
+}
+
+impl<'de, R: ReadSlice<'de>> RoundTrip<'de, R> for Dog {
+    ghost has_data = { λ human v. structure_all ((codes "name", ⟦<String as Serialize>⟧.data_of v.name human)
+        ∷ ((codes "age", ⟦<u16 as Serialize>⟧.data_of v.age human) ∷ [])) (refl, (refl, tt)) };
+
+    ghost round = { λ lent s v fits. structure_row s (codes "name" ∷ (codes "age" ∷ [])) _ _ refl
+        (fields_cons s (codes "name") _ _ _ (λ j. ⟦<String as Deserialize<'de, R>>⟧.reads s.human R.lends j v.name)
+        (Absent ⟦<String as Deserialize<'de, R>>⟧.absent v.name) _ (string_row s (string_bytes v.name))
+        (fields_cons s (codes "age") _ _ _ (λ j. ⟦<u16 as Deserialize<'de, R>>⟧.reads s.human R.lends j v.age)
+        (Absent ⟦<u16 as Deserialize<'de, R>>⟧.absent v.age) _ (unsigned_row_16 s v.age fits.1) (fields_none s))) };
+}
+
+impl NeverNil for Dog {
+    ghost never_nil = { λ s v. structure_other s _ };
 }
 
 impl Serialize for Opt {
@@ -93,6 +120,8 @@ impl<'de, R: ReadSlice<'de>> Deserialize<'de, R> for Opt {
 
     ghost absent = { None };
 
+    ghost refuses = { RefusesFields (codes "v" ∷ []) ⟦<(Option<u8>, ()) as ReadFields<'de, R>>⟧.reads ⟦<(Option<u8>, ()) as ReadFields<'de, R>>⟧.parts };
+
     fn deserialize<C: SerializerConfig>(
         de: &mut Deserializer<R, C>,
     ) -> Result<Opt, rmp_decode::Error> {
@@ -109,6 +138,21 @@ impl<'de, R: ReadSlice<'de>> Deserialize<'de, R> for Opt {
     fn missing() -> Option<Opt> {
         None
     }
+}
+
+impl<'de, R: ReadSlice<'de>> RoundTrip<'de, R> for Opt {
+    ghost has_data = { λ human v. structure_all ((codes "v", ⟦<Option<u8> as Serialize>⟧.data_of v.v human) ∷ [])
+        ((option_some (λ x. ⟦<u8 as Serialize>⟧.data_of x human) (λ x1. refl) v.v), tt) };
+
+    ghost round = { λ lent s v fits. structure_row s (codes "v" ∷ []) _ _ refl
+        (fields_cons s (codes "v") _ _ _ (λ j. ⟦<Option<u8> as Deserialize<'de, R>>⟧.reads s.human R.lends j v.v)
+        (Absent ⟦<Option<u8> as Deserialize<'de, R>>⟧.absent v.v) _
+        (option_row s (λ x. ⟦<u8 as Serialize>⟧.data_of x s.human) ⟦<u8 as Serialize>⟧.is_value (⟦<u8 as Deserialize<'de, R>>⟧.reads s.human R.lends)
+        (λ x3. byte_other s x3) (λ x2 h2. (byte_row s x2 h2)) v.v fits) (fields_none s)) };
+}
+
+impl NeverNil for Opt {
+    ghost never_nil = { λ s v. structure_other s _ };
 }
 
 impl Serialize for Point {
@@ -141,6 +185,9 @@ impl<'de, R: ReadSlice<'de>> Deserialize<'de, R> for Point {
 
     ghost absent = { None };
 
+    ghost refuses = { RefusesTuple (part_of ⟦<u32 as Deserialize<'de, R>>⟧.reads ⟦<u32 as Deserialize<'de, R>>⟧.refuses
+        ∷ (part_of ⟦<String as Deserialize<'de, R>>⟧.reads ⟦<String as Deserialize<'de, R>>⟧.refuses ∷ [])) };
+
     fn deserialize<C: SerializerConfig>(
         de: &mut Deserializer<R, C>,
     ) -> Result<Point, rmp_decode::Error> {
@@ -157,6 +204,18 @@ impl<'de, R: ReadSlice<'de>> Deserialize<'de, R> for Point {
     fn missing() -> Option<Point> {
         None
     }
+}
+
+impl<'de, R: ReadSlice<'de>> RoundTrip<'de, R> for Point {
+    ghost has_data = { λ human v. sequence_all (⟦<u32 as Serialize>⟧.data_of v.0 human ∷ (⟦<String as Serialize>⟧.data_of v.1 human ∷ [])) (refl, (refl, tt)) };
+
+    ghost round = { λ lent s v fits. sequence_row s _ _
+        (rows_cons s _ _ (λ j. ⟦<u32 as Deserialize<'de, R>>⟧.reads s.human R.lends j v.0) _ (unsigned_row_32 s v.0 fits.0)
+        (rows_cons s _ _ (λ j. ⟦<String as Deserialize<'de, R>>⟧.reads s.human R.lends j v.1) _ (string_row s (string_bytes v.1)) (rows_none s))) };
+}
+
+impl NeverNil for Point {
+    ghost never_nil = { λ s v. sequence_other s _ };
 }
 
 impl Serialize for Newtype {
@@ -184,6 +243,8 @@ impl<'de, R: ReadSlice<'de>> Deserialize<'de, R> for Newtype {
 
     ghost absent = { None };
 
+    ghost refuses = { ⟦<u64 as Deserialize<'de, R>>⟧.refuses };
+
     fn deserialize<C: SerializerConfig>(
         de: &mut Deserializer<R, C>,
     ) -> Result<Newtype, rmp_decode::Error> {
@@ -196,6 +257,17 @@ impl<'de, R: ReadSlice<'de>> Deserialize<'de, R> for Newtype {
     fn missing() -> Option<Newtype> {
         None
     }
+}
+
+impl<'de, R: ReadSlice<'de>> RoundTrip<'de, R> for Newtype {
+    ghost has_data = { λ human v. newtype_some (⟦<u64 as Serialize>⟧.data_of v.0 human) refl };
+
+    ghost round = { λ lent s v fits. newtype_row s (⟦<u64 as Serialize>⟧.data_of v.0 s.human)
+        (λ j. ⟦<u64 as Deserialize<'de, R>>⟧.reads s.human R.lends j v.0) (unsigned_row_64 s v.0 fits) };
+}
+
+impl NeverNil for Newtype {
+    ghost never_nil = { λ s v. newtype_other s (⟦<u64 as Serialize>⟧.data_of v.0 s.human) (pos_other s v.0) };
 }
 
 impl Serialize for Unit {
@@ -223,6 +295,8 @@ impl<'de, R: ReadSlice<'de>> Deserialize<'de, R> for Unit {
 
     ghost absent = { None };
 
+    ghost refuses = { λ s. RefusesExactly s.strict (not_nothing s.room) };
+
     fn deserialize<C: SerializerConfig>(
         de: &mut Deserializer<R, C>,
     ) -> Result<Unit, rmp_decode::Error> {
@@ -235,6 +309,16 @@ impl<'de, R: ReadSlice<'de>> Deserialize<'de, R> for Unit {
     fn missing() -> Option<Unit> {
         None
     }
+}
+
+impl<'de, R: ReadSlice<'de>> RoundTrip<'de, R> for Unit {
+    ghost has_data = { λ human v. refl };
+
+    ghost round = { λ lent s v fits. nothing_row s };
+}
+
+impl NeverNil for Unit {
+    ghost never_nil = { λ s v. nothing_other s };
 }
 
 impl<T: Serialize> Serialize for Counted<T> {
@@ -268,6 +352,9 @@ impl<'de, R: ReadSlice<'de>, T: Deserialize<'de, R>> Deserialize<'de, R> for Cou
 
     ghost absent = { None };
 
+    ghost refuses = { RefusesFields (codes "value" ∷ (codes "count" ∷ [])) ⟦<(T, (u64, ())) as ReadFields<'de, R>>⟧.reads
+        ⟦<(T, (u64, ())) as ReadFields<'de, R>>⟧.parts };
+
     fn deserialize<C: SerializerConfig>(
         de: &mut Deserializer<R, C>,
     ) -> Result<Counted<T>, rmp_decode::Error> {
@@ -286,4 +373,20 @@ impl<'de, R: ReadSlice<'de>, T: Deserialize<'de, R>> Deserialize<'de, R> for Cou
     fn missing() -> Option<Counted<T>> {
         None
     }
+}
+
+impl<'de, R: ReadSlice<'de>, T: RoundTrip<'de, R>> RoundTrip<'de, R> for Counted<T> {
+    ghost borrows = { T.borrows };
+
+    ghost has_data = { λ human v. structure_all ((codes "value", T.data_of v.value human)
+        ∷ ((codes "count", ⟦<u64 as Serialize>⟧.data_of v.count human) ∷ [])) ((T.has_data human v.value), (refl, tt)) };
+
+    ghost round = { λ lent s v fits. structure_row s (codes "value" ∷ (codes "count" ∷ [])) _ _ refl
+        (fields_cons s (codes "value") _ _ _ (λ j. T.reads s.human R.lends j v.value) (Absent T.absent v.value) _ (T.round lent s v.value fits.0)
+        (fields_cons s (codes "count") _ _ _ (λ j. ⟦<u64 as Deserialize<'de, R>>⟧.reads s.human R.lends j v.count)
+        (Absent ⟦<u64 as Deserialize<'de, R>>⟧.absent v.count) _ (unsigned_row_64 s v.count fits.1) (fields_none s))) };
+}
+
+impl<T: Serialize> NeverNil for Counted<T> {
+    ghost never_nil = { λ s v. structure_other s _ };
 }

@@ -1,0 +1,656 @@
+//! How the types of kinds.rt are written and read. Written by tools/derive.py.
+ghost use Rattle.rmp_decode.specs.Arrays.{Exactly};
+ghost use Rattle.rmp_decode.specs.FieldRefusing.{RefusesFields};
+ghost use Rattle.rmp_decode.specs.Fields.{OfFields, Field, Absent, NoField};
+ghost use Rattle.rmp_decode.specs.Refusing.{RefusesTuple, part_of};
+ghost use Rattle.rmp_decode.specs.Rows.{AndThen, NoMore, ReadsEach};
+ghost use Rattle.rmp_decode.specs.Seq.{OfRow};
+ghost use Rattle.rmp_decode.specs.Variants.{OfVariant, Case, NoCase, Content};
+ghost use Rattle.rmp_encode.specs.Sizes.{one_of};
+ghost use Rattle.rmp_encode.specs.Trees.{wrapped_of, sequence_of, structure_of, newtype_variant_of, struct_variant_of, tree_of};
+ghost use Rattle.rmp_serde.specs.LeafRounds.{byte_row, unsigned_row_16, unsigned_row_64, signed_row_8, signed_row_16, signed_row_32, truth_row, char_row, string_row};
+ghost use Rattle.rmp_serde.specs.MapRounds.{mapping_some, map_row, set_row};
+ghost use Rattle.rmp_serde.specs.RoundTrip.{LowersTo};
+ghost use Rattle.rmp_serde.specs.Rounds.{each_some, each_row, rows_map, option_some, option_row, slice_some, slice_row, tuple_some, tuple_row, sequence_some, sequence_row, sequence_other, rows_none, rows_cons};
+ghost use Rattle.rmp_serde.specs.StructRounds.{sequence_all, tuple_all, structure_all, struct_variant_all, structure_row, structure_other, fields_none, fields_cons};
+ghost use Rattle.rmp_serde.specs.VariantRounds.{newtype_some, newtype_variant_some, newtype_row, newtype_variant_row, struct_variant_row, newtype_other, newtype_variant_other, struct_variant_other};
+ghost use Rattle.rmp_wire.specs.Msg.{nil};
+ghost use Rattle.std.proofs.Common.{refl};
+ghost use Rattle.std.proofs.lemmas.Cmp.{on_total, nat_list_cmp_total};
+ghost use Rattle.std.specs.Prelude.{◌≡◌, ◌≢◌, ◌∷◌, [], None, Some, codes, IsSome, string_bytes};
+ghost use Rattle.test_derived.specs.declared.kinds.Either.TheVariants as the_either;
+
+use super::{
+    BTreeMap, BTreeSet, Chosen, Dog, Either, Four, Kennel, Opt, Pair, Row, Sorted, VecDeque,
+};
+use rmp_decode::{Deserialize, Deserializer, ReadFields};
+use rmp_encode::{Serialize, Serializer};
+use rmp_serde::{NeverNil, RoundTrip};
+use rmp_wire::config::SerializerConfig;
+use rmp_wire::{ReadSlice, Sink};
+
+impl<T: Serialize> Serialize for Pair<T> {
+    ghost data_of = { λ v human. sequence_of (T.data_of v.0 human ∷ (T.data_of v.1 human ∷ [])) };
+
+    ghost is_value = { λ v. T.is_value v.0 × T.is_value v.1 };
+
+    ghost takes_memory = { λ s. one_of (T.takes_memory s ∷ (T.takes_memory s ∷ [])) };
+
+    fn serialize<W: Sink, C: SerializerConfig>(
+        &self,
+        se: &mut Serializer<W, C>,
+    ) -> Result<(), rmp_encode::Error> {
+        let parts = rmp_encode::Both {
+            first: &self.0,
+            second: &self.1,
+        };
+        se.serialize_elements("Pair", &parts)
+    }
+
+    #[tactic(auto, using(rmp_encode::proofs::Lists::sequence_no_byte))]
+    fn as_u8(&self, _human: bool) -> Option<u8> {
+        None
+    }
+}
+
+impl<'de, R: ReadSlice<'de>, T: Deserialize<'de, R>> Deserialize<'de, R> for Pair<T> {
+    ghost reads = { λ human lends m v. OfRow (AndThen (λ j. T.reads human lends j v.0) (AndThen (λ j. T.reads human lends j v.1) NoMore)) m };
+
+    ghost absent = { None };
+
+    ghost refuses = { RefusesTuple (part_of T.reads T.refuses ∷ (part_of T.reads T.refuses ∷ [])) };
+
+    fn deserialize<C: SerializerConfig>(
+        de: &mut Deserializer<R, C>,
+    ) -> Result<Pair<T>, rmp_decode::Error> {
+        let read: Result<(T, T), rmp_decode::Error> = Deserialize::deserialize(de);
+        match read {
+            Ok(parts) => {
+                let (first, second) = parts;
+                Ok(Pair(first, second))
+            }
+            Err(e) => Err(e),
+        }
+    }
+
+    fn missing() -> Option<Pair<T>> {
+        None
+    }
+}
+
+impl<'de, R: ReadSlice<'de>, T: RoundTrip<'de, R>> RoundTrip<'de, R> for Pair<T> {
+    ghost borrows = { T.borrows };
+
+    ghost has_data = { λ human v. sequence_all (T.data_of v.0 human ∷ (T.data_of v.1 human ∷ [])) ((T.has_data human v.0), ((T.has_data human v.1), tt)) };
+
+    ghost round = { λ lent s v fits. sequence_row s _ _
+        (rows_cons s _ _ (λ j. T.reads s.human R.lends j v.0) _ (T.round lent s v.0 fits.0)
+        (rows_cons s _ _ (λ j. T.reads s.human R.lends j v.1) _ (T.round lent s v.1 fits.1) (rows_none s))) };
+}
+
+impl<T: Serialize> NeverNil for Pair<T> {
+    ghost never_nil = { λ s v. sequence_other s _ };
+}
+
+impl<T: Serialize> Serialize for Either<T> {
+    ghost data_of = { λ v human. elim v [
+      | the_either.Left a1 ↦ newtype_variant_of (codes "Left") (T.data_of a1 human)
+      | the_either.Right a1 a2 ↦
+          struct_variant_of (codes "Right") ((codes "by", ⟦<i32 as Serialize>⟧.data_of a1 human)
+          ∷ ((codes "pair", ⟦<Option<Pair<T>> as Serialize>⟧.data_of a2 human) ∷ []))
+    ] };
+
+    ghost is_value = { λ v. elim v [
+      | the_either.Left a1 ↦ T.is_value a1
+      | the_either.Right a1 a2 ↦ ⟦<i32 as Serialize>⟧.is_value a1
+          × ⟦<Option<Pair<T>> as Serialize>⟧.is_value a2
+    ] };
+
+    ghost takes_memory = { λ s. one_of (T.takes_memory s
+        ∷ (one_of (⟦<i32 as Serialize>⟧.takes_memory s ∷ (⟦<Option<Pair<T>> as Serialize>⟧.takes_memory s ∷ [])) ∷ [])) };
+
+    fn serialize<W: Sink, C: SerializerConfig>(
+        &self,
+        se: &mut Serializer<W, C>,
+    ) -> Result<(), rmp_encode::Error> {
+        match self {
+            Either::Left(first) => se.serialize_newtype_variant("Either", 0, "Left", first),
+            Either::Right { by, pair } => {
+                let parts = rmp_encode::Both {
+                    first: by,
+                    second: pair,
+                };
+                se.serialize_struct_variant_of("Either", 1, "Right", &["by", "pair"], &parts)
+            }
+        }
+    }
+
+    fn as_u8(&self, _human: bool) -> Option<u8> {
+        match self {
+            Either::Left(_) => None,
+            Either::Right { .. } => None,
+        }
+    }
+}
+
+impl<'de, R: ReadSlice<'de>, T: Deserialize<'de, R>> Deserialize<'de, R> for Either<T> {
+    ghost reads = { λ human lends m v. OfVariant (codes "Left" ∷ (codes "Right" ∷ []))
+        (Case (λ c. (a1 : _) × (v ≡ the_either.Left a1) × Content (λ k. T.reads human lends k a1) c)
+        (Case (λ c. (a1 : _) × (a2 : _) × (v ≡ the_either.Right a1 a2)
+        × Content (λ k. OfFields (codes "by" ∷ (codes "pair" ∷ []))
+        (Field (λ j. ⟦<i32 as Deserialize<'de, R>>⟧.reads human lends j a1) (Absent ⟦<i32 as Deserialize<'de, R>>⟧.absent a1)
+        (Field (λ j. ⟦<Option<Pair<T>> as Deserialize<'de, R>>⟧.reads human lends j a2) (Absent ⟦<Option<Pair<T>> as Deserialize<'de, R>>⟧.absent a2)
+        NoField)) k) c) NoCase)) m };
+
+    ghost absent = { None };
+
+    fn deserialize<C: SerializerConfig>(
+        de: &mut Deserializer<R, C>,
+    ) -> Result<Either<T>, rmp_decode::Error> {
+        match de.deserialize_enum(&["Left", "Right"]) {
+            Ok((0, variant)) => match variant.newtype_variant() {
+                Ok(first) => Ok(Either::Left(first)),
+                Err(e) => Err(e),
+            },
+            Ok((_, variant)) => match variant.fields_variant(&["by", "pair"]) {
+                Ok(parts) => {
+                    let (by, (pair, ())) = parts;
+                    Ok(Either::Right { by, pair })
+                }
+                Err(e) => Err(e),
+            },
+            Err(e) => Err(e),
+        }
+    }
+
+    fn missing() -> Option<Either<T>> {
+        None
+    }
+}
+
+impl<'de, R: ReadSlice<'de>, T: RoundTrip<'de, R>> RoundTrip<'de, R> for Either<T> {
+    ghost borrows = { T.borrows };
+
+    ghost has_data = { λ human. elim [
+      | the_either.Left a1 ↦ newtype_variant_some (codes "Left") (T.data_of a1 human) (T.has_data human a1)
+      | the_either.Right a1 a2 ↦ struct_variant_all (codes "Right")
+          ((codes "by", ⟦<i32 as Serialize>⟧.data_of a1 human) ∷ ((codes "pair", ⟦<Option<Pair<T>> as Serialize>⟧.data_of a2 human) ∷ [])) (
+            refl,
+            (
+              (option_some (λ x. ⟦<Pair<T> as Serialize>⟧.data_of x human)
+                  (λ x1. (sequence_all (T.data_of x1.0 human ∷ (T.data_of x1.1 human ∷ [])) ((T.has_data human x1.0), ((T.has_data human x1.1), tt)))) a2),
+              tt,
+            ),
+          )
+    ] };
+
+    ghost round = { λ lent s. elim [
+      | the_either.Left a1 ↦ λ fits. newtype_variant_row s (codes "Left" ∷ (codes "Right" ∷ [])) (codes "Left") 0 refl _ _
+          (λ j. T.reads s.human R.lends j a1) (λ m h. (a1, refl, h)) (T.round lent s a1 fits)
+      | the_either.Right a1 a2 ↦ λ fits. struct_variant_row s
+          (codes "Left" ∷ (codes "Right" ∷ [])) (codes "Right") 1 refl _ (codes "by" ∷ (codes "pair" ∷ [])) _ _ refl (λ m h. (a1, a2, refl, h))
+          (fields_cons s (codes "by") _ _ _ (λ j. ⟦<i32 as Deserialize<'de, R>>⟧.reads s.human R.lends j a1) (Absent ⟦<i32 as Deserialize<'de, R>>⟧.absent a1)
+          _ (signed_row_32 s a1 fits.0) (fields_cons s (codes "pair") _ _ _ (λ j. ⟦<Option<Pair<T>> as Deserialize<'de, R>>⟧.reads s.human R.lends j a2)
+          (Absent ⟦<Option<Pair<T>> as Deserialize<'de, R>>⟧.absent a2) _
+          (option_row s (λ x. ⟦<Pair<T> as Serialize>⟧.data_of x s.human) ⟦<Pair<T> as Serialize>⟧.is_value
+          (⟦<Pair<T> as Deserialize<'de, R>>⟧.reads s.human R.lends) (λ x4. sequence_other s _)
+          (λ x3 h3. (sequence_row s _ _ (rows_cons s _ _ (λ j. T.reads s.human R.lends j x3.0) _ (T.round lent s x3.0 h3.0)
+          (rows_cons s _ _ (λ j. T.reads s.human R.lends j x3.1) _ (T.round lent s x3.1 h3.1) (rows_none s))))) a2 fits.1) (fields_none s)))
+    ] };
+}
+
+impl<T: Serialize> NeverNil for Either<T> {
+    ghost never_nil = { λ s. elim [
+      | the_either.Left a1 ↦ newtype_variant_other s (codes "Left") _
+      | the_either.Right a1 a2 ↦ struct_variant_other s
+          (codes "Right") _
+    ] };
+}
+
+impl<K: Serialize + Ord> Serialize for Sorted<K> {
+    ghost data_of = { λ v human. structure_of ((codes "dogs", ⟦<BTreeMap<String, Dog> as Serialize>⟧.data_of v.dogs human)
+        ∷ ((codes "counts", ⟦<BTreeMap<K, u64> as Serialize>⟧.data_of v.counts human)
+        ∷ ((codes "numbers", ⟦<BTreeSet<i16> as Serialize>⟧.data_of v.numbers human) ∷ []))) };
+
+    ghost is_value = { λ v. ⟦<BTreeMap<String, Dog> as Serialize>⟧.is_value v.dogs × ⟦<BTreeMap<K, u64> as Serialize>⟧.is_value v.counts
+        × ⟦<BTreeSet<i16> as Serialize>⟧.is_value v.numbers };
+
+    ghost takes_memory = { λ s. one_of (⟦<BTreeMap<String, Dog> as Serialize>⟧.takes_memory s
+        ∷ (⟦<BTreeMap<K, u64> as Serialize>⟧.takes_memory s ∷ (⟦<BTreeSet<i16> as Serialize>⟧.takes_memory s ∷ []))) };
+
+    fn serialize<W: Sink, C: SerializerConfig>(
+        &self,
+        se: &mut Serializer<W, C>,
+    ) -> Result<(), rmp_encode::Error> {
+        let parts = rmp_encode::Three {
+            first: &self.dogs,
+            second: &self.counts,
+            third: &self.numbers,
+        };
+        se.serialize_fields("Sorted", &["dogs", "counts", "numbers"], &parts)
+    }
+
+    #[tactic(auto, using(rmp_encode::proofs::Fields::structure_no_byte))]
+    fn as_u8(&self, _human: bool) -> Option<u8> {
+        None
+    }
+}
+
+impl<'de, R: ReadSlice<'de>, K: Deserialize<'de, R> + Ord> Deserialize<'de, R> for Sorted<K> {
+    ghost reads = { λ human lends m v. OfFields (codes "dogs" ∷ (codes "counts" ∷ (codes "numbers" ∷ [])))
+        (Field (λ j. ⟦<BTreeMap<String, Dog> as Deserialize<'de, R>>⟧.reads human lends j v.dogs)
+        (Absent ⟦<BTreeMap<String, Dog> as Deserialize<'de, R>>⟧.absent v.dogs)
+        (Field (λ j. ⟦<BTreeMap<K, u64> as Deserialize<'de, R>>⟧.reads human lends j v.counts)
+        (Absent ⟦<BTreeMap<K, u64> as Deserialize<'de, R>>⟧.absent v.counts)
+        (Field (λ j. ⟦<BTreeSet<i16> as Deserialize<'de, R>>⟧.reads human lends j v.numbers)
+        (Absent ⟦<BTreeSet<i16> as Deserialize<'de, R>>⟧.absent v.numbers) NoField))) m };
+
+    ghost absent = { None };
+
+    ghost refuses = { RefusesFields (codes "dogs" ∷ (codes "counts" ∷ (codes "numbers" ∷ [])))
+        ⟦<(BTreeMap<String, Dog>, (BTreeMap<K, u64>, (BTreeSet<i16>, ()))) as ReadFields<'de, R>>⟧.reads
+        ⟦<(BTreeMap<String, Dog>, (BTreeMap<K, u64>, (BTreeSet<i16>, ()))) as ReadFields<'de, R>>⟧.parts };
+
+    fn deserialize<C: SerializerConfig>(
+        de: &mut Deserializer<R, C>,
+    ) -> Result<Sorted<K>, rmp_decode::Error> {
+        let read: Result<
+            (
+                BTreeMap<String, Dog>,
+                (BTreeMap<K, u64>, (BTreeSet<i16>, ())),
+            ),
+            rmp_decode::Error,
+        > = de.deserialize_fields(&["dogs", "counts", "numbers"]);
+        match read {
+            Ok(parts) => {
+                let (dogs, (counts, (numbers, ()))) = parts;
+                Ok(Sorted {
+                    dogs,
+                    counts,
+                    numbers,
+                })
+            }
+            Err(e) => Err(e),
+        }
+    }
+
+    fn missing() -> Option<Sorted<K>> {
+        None
+    }
+}
+
+impl<'de, R: ReadSlice<'de>, K: RoundTrip<'de, R> + Ord> RoundTrip<'de, R> for Sorted<K> {
+    ghost use Rattle.test_derived.specs.contracts.structs.derived.DogRoundTrip.TheImpl.Laws as dog_rounds;
+    ghost use mir.Syntax.{given};
+
+    ghost borrows = { K.borrows };
+
+    ghost has_data = { λ human v. structure_all ((codes "dogs", ⟦<BTreeMap<String, Dog> as Serialize>⟧.data_of v.dogs human)
+        ∷ ((codes "counts", ⟦<BTreeMap<K, u64> as Serialize>⟧.data_of v.counts human)
+        ∷ ((codes "numbers", ⟦<BTreeSet<i16> as Serialize>⟧.data_of v.numbers human) ∷ []))) (
+          (mapping_some (λ x. ⟦<String as Serialize>⟧.data_of x human) (λ x. ⟦<Dog as Serialize>⟧.data_of x human) (λ x1. refl)
+              (λ x1. (dog_rounds.has_data-law R.row R.ReadSlice.own (given 0) R.Source (given 0) human x1)) v.dogs.entries),
+          (
+            (mapping_some (λ x. K.data_of x human) (λ x. ⟦<u64 as Serialize>⟧.data_of x human) (λ x3. (K.has_data human x3)) (λ x3. refl) v.counts.entries),
+            ((sequence_some _ (each_some (λ x. ⟦<i16 as Serialize>⟧.data_of x human) (λ x4. refl) v.numbers.keys)), tt),
+          ),
+        ) };
+
+    ghost round = { λ lent s v fits. structure_row s (codes "dogs" ∷ (codes "counts" ∷ (codes "numbers" ∷ []))) _ _ refl
+        (fields_cons s (codes "dogs") _ _ _ (λ j. ⟦<BTreeMap<String, Dog> as Deserialize<'de, R>>⟧.reads s.human R.lends j v.dogs)
+        (Absent ⟦<BTreeMap<String, Dog> as Deserialize<'de, R>>⟧.absent v.dogs) _
+        (map_row s (λ x. ⟦<String as Serialize>⟧.data_of x s.human) (λ x. ⟦<Dog as Serialize>⟧.data_of x s.human) ⟦<String as Serialize>⟧.is_value
+        ⟦<Dog as Serialize>⟧.is_value (⟦<String as Deserialize<'de, R>>⟧.reads s.human R.lends) (⟦<Dog as Deserialize<'de, R>>⟧.reads s.human R.lends)
+        (λ x5 h5. (string_row s (string_bytes x5))) (λ x6 h6. (dog_rounds.round-law R.row R.ReadSlice.own (given 0) R.Source (given 0) (λ e. cc) s x6 h6))
+        (on_total (λ x. string_bytes x) nat_list_cmp_total) v.dogs.entries fits.0.1 fits.0.0)
+        (fields_cons s (codes "counts") _ _ _ (λ j. ⟦<BTreeMap<K, u64> as Deserialize<'de, R>>⟧.reads s.human R.lends j v.counts)
+        (Absent ⟦<BTreeMap<K, u64> as Deserialize<'de, R>>⟧.absent v.counts) _
+        (map_row s (λ x. K.data_of x s.human) (λ x. ⟦<u64 as Serialize>⟧.data_of x s.human) K.is_value ⟦<u64 as Serialize>⟧.is_value
+        (K.reads s.human R.lends) (⟦<u64 as Deserialize<'de, R>>⟧.reads s.human R.lends) (λ x7 h7. (K.round lent s x7 h7))
+        (λ x8 h8. (unsigned_row_64 s x8 h8)) K.total v.counts.entries fits.1.1 fits.1.0)
+        (fields_cons s (codes "numbers") _ _ _ (λ j. ⟦<BTreeSet<i16> as Deserialize<'de, R>>⟧.reads s.human R.lends j v.numbers)
+        (Absent ⟦<BTreeSet<i16> as Deserialize<'de, R>>⟧.absent v.numbers) _
+        (set_row s (λ x. ⟦<i16 as Serialize>⟧.data_of x s.human) ⟦<i16 as Serialize>⟧.is_value (⟦<i16 as Deserialize<'de, R>>⟧.reads s.human R.lends)
+        (λ x9 h9. (signed_row_16 s x9 h9)) ⟦<i16 as Ord>⟧.cmp v.numbers.keys fits.2.1 fits.2.0) (fields_none s)))) };
+}
+
+impl<K: Serialize + Ord> NeverNil for Sorted<K> {
+    ghost never_nil = { λ s v. structure_other s _ };
+}
+
+impl Serialize for Kennel {
+    ghost data_of = { λ v human. structure_of ((codes "dogs", ⟦<Vec<Dog> as Serialize>⟧.data_of v.dogs human)
+        ∷ ((codes "four", ⟦<Box<Four> as Serialize>⟧.data_of v.four human)
+        ∷ ((codes "pair", ⟦<Pair<Opt> as Serialize>⟧.data_of v.pair human)
+        ∷ ((codes "either", ⟦<Option<Either<bool>> as Serialize>⟧.data_of v.either human) ∷ [])))) };
+
+    ghost is_value = { λ v. ⟦<Vec<Dog> as Serialize>⟧.is_value v.dogs × ⟦<Box<Four> as Serialize>⟧.is_value v.four
+        × ⟦<Pair<Opt> as Serialize>⟧.is_value v.pair × ⟦<Option<Either<bool>> as Serialize>⟧.is_value v.either };
+
+    ghost takes_memory = { λ s. one_of (⟦<Vec<Dog> as Serialize>⟧.takes_memory s
+        ∷ (⟦<Box<Four> as Serialize>⟧.takes_memory s ∷ (⟦<Pair<Opt> as Serialize>⟧.takes_memory s
+        ∷ (⟦<Option<Either<bool>> as Serialize>⟧.takes_memory s ∷ [])))) };
+
+    fn serialize<W: Sink, C: SerializerConfig>(
+        &self,
+        se: &mut Serializer<W, C>,
+    ) -> Result<(), rmp_encode::Error> {
+        let parts = rmp_encode::Four {
+            first: &self.dogs,
+            second: &self.four,
+            third: &self.pair,
+            fourth: &self.either,
+        };
+        se.serialize_fields("Kennel", &["dogs", "four", "pair", "either"], &parts)
+    }
+
+    #[tactic(auto, using(rmp_encode::proofs::Fields::structure_no_byte))]
+    fn as_u8(&self, _human: bool) -> Option<u8> {
+        None
+    }
+}
+
+impl<'de, R: ReadSlice<'de>> Deserialize<'de, R> for Kennel {
+    ghost reads = { λ human lends m v. OfFields (codes "dogs" ∷ (codes "four" ∷ (codes "pair" ∷ (codes "either" ∷ []))))
+        (Field (λ j. ⟦<Vec<Dog> as Deserialize<'de, R>>⟧.reads human lends j v.dogs) (Absent ⟦<Vec<Dog> as Deserialize<'de, R>>⟧.absent v.dogs)
+        (Field (λ j. ⟦<Box<Four> as Deserialize<'de, R>>⟧.reads human lends j v.four) (Absent ⟦<Box<Four> as Deserialize<'de, R>>⟧.absent v.four)
+        (Field (λ j. ⟦<Pair<Opt> as Deserialize<'de, R>>⟧.reads human lends j v.pair) (Absent ⟦<Pair<Opt> as Deserialize<'de, R>>⟧.absent v.pair)
+        (Field (λ j. ⟦<Option<Either<bool>> as Deserialize<'de, R>>⟧.reads human lends j v.either)
+        (Absent ⟦<Option<Either<bool>> as Deserialize<'de, R>>⟧.absent v.either) NoField)))) m };
+
+    ghost absent = { None };
+
+    ghost refuses = { RefusesFields (codes "dogs" ∷ (codes "four" ∷ (codes "pair" ∷ (codes "either" ∷ []))))
+        ⟦<(Vec<Dog>, (Box<Four>, (Pair<Opt>, (Option<Either<bool>>, ())))) as ReadFields<'de, R>>⟧.reads
+        ⟦<(Vec<Dog>, (Box<Four>, (Pair<Opt>, (Option<Either<bool>>, ())))) as ReadFields<'de, R>>⟧.parts };
+
+    fn deserialize<C: SerializerConfig>(
+        de: &mut Deserializer<R, C>,
+    ) -> Result<Kennel, rmp_decode::Error> {
+        let read: Result<
+            (
+                Vec<Dog>,
+                (Box<Four>, (Pair<Opt>, (Option<Either<bool>>, ()))),
+            ),
+            rmp_decode::Error,
+        > = de.deserialize_fields(&["dogs", "four", "pair", "either"]);
+        match read {
+            Ok(parts) => {
+                let (dogs, (four, (pair, (either, ())))) = parts;
+                Ok(Kennel {
+                    dogs,
+                    four,
+                    pair,
+                    either,
+                })
+            }
+            Err(e) => Err(e),
+        }
+    }
+
+    fn missing() -> Option<Kennel> {
+        None
+    }
+}
+
+impl<'de, R: ReadSlice<'de>> RoundTrip<'de, R> for Kennel {
+    ghost use Rattle.test_derived.specs.contracts.structs.derived.DogRoundTrip.TheImpl.Laws as dog_rounds;
+    ghost use Rattle.test_derived.specs.contracts.enums.derived.FourRoundTrip.TheImpl.Laws as four_rounds;
+    ghost use Rattle.test_derived.specs.contracts.structs.derived.OptRoundTrip.TheImpl.Laws as opt_rounds;
+    ghost use mir.Syntax.{given};
+
+    ghost has_data = { λ human v. structure_all ((codes "dogs", ⟦<Vec<Dog> as Serialize>⟧.data_of v.dogs human)
+        ∷ ((codes "four", ⟦<Box<Four> as Serialize>⟧.data_of v.four human)
+        ∷ ((codes "pair", ⟦<Pair<Opt> as Serialize>⟧.data_of v.pair human)
+        ∷ ((codes "either", ⟦<Option<Either<bool>> as Serialize>⟧.data_of v.either human) ∷ [])))) (
+          (slice_some _ (each_some (λ x. ⟦<Dog as Serialize>⟧.data_of x human)
+              (λ x1. (dog_rounds.has_data-law R.row R.ReadSlice.own (given 0) R.Source (given 0) human x1)) v.dogs.items)),
+          (
+            (four_rounds.has_data-law R.row R.ReadSlice.own (given 0) R.Source (given 0) human v.four.value),
+            (
+              (sequence_all (⟦<Opt as Serialize>⟧.data_of v.pair.0 human ∷ (⟦<Opt as Serialize>⟧.data_of v.pair.1 human ∷ [])) (
+                (opt_rounds.has_data-law R.row R.ReadSlice.own (given 0) R.Source (given 0) human v.pair.0),
+                ((opt_rounds.has_data-law R.row R.ReadSlice.own (given 0) R.Source (given 0) human v.pair.1), tt),
+              )),
+              (
+                (option_some (λ x. ⟦<Either<bool> as Serialize>⟧.data_of x human)
+                    (λ x7. (let law : (x : _) → IsSome (⟦<Either<bool> as Serialize>⟧.data_of x human) = elim [
+                      | the_either.Left a1 ↦ newtype_variant_some (codes "Left") (⟦<bool as Serialize>⟧.data_of a1 human) refl
+                      | the_either.Right a1 a2 ↦
+                          struct_variant_all (codes "Right") ((codes "by", ⟦<i32 as Serialize>⟧.data_of a1 human)
+                          ∷ ((codes "pair", ⟦<Option<Pair<bool>> as Serialize>⟧.data_of a2 human) ∷ [])) (
+                            refl,
+                            (
+                              (option_some (λ x. ⟦<Pair<bool> as Serialize>⟧.data_of x human)
+                                  (λ x9. (sequence_all (⟦<bool as Serialize>⟧.data_of x9.0 human ∷ (⟦<bool as Serialize>⟧.data_of x9.1 human ∷ [])) (refl, (refl, tt)))) a2),
+                              tt,
+                            ),
+                          )
+                    ]
+                    in law x7)) v.either),
+                tt,
+              ),
+            ),
+          ),
+        ) };
+
+    ghost round = { λ lent s v fits. structure_row s (codes "dogs" ∷ (codes "four" ∷ (codes "pair" ∷ (codes "either" ∷ [])))) _ _ refl
+        (fields_cons s (codes "dogs") _ _ _ (λ j. ⟦<Vec<Dog> as Deserialize<'de, R>>⟧.reads s.human R.lends j v.dogs)
+        (Absent ⟦<Vec<Dog> as Deserialize<'de, R>>⟧.absent v.dogs) _
+        (slice_row s _ (λ ms. ReadsEach (⟦<Dog as Deserialize<'de, R>>⟧.reads s.human R.lends) ms v.dogs.items)
+        (each_row s (λ x. ⟦<Dog as Serialize>⟧.data_of x s.human) ⟦<Dog as Serialize>⟧.is_value (⟦<Dog as Deserialize<'de, R>>⟧.reads s.human R.lends)
+        (λ x11 h11. (dog_rounds.round-law R.row R.ReadSlice.own (given 0) R.Source (given 0) (λ e. cc) s x11 h11)) v.dogs.items fits.0))
+        (fields_cons s (codes "four") _ _ _ (λ j. ⟦<Box<Four> as Deserialize<'de, R>>⟧.reads s.human R.lends j v.four)
+        (Absent ⟦<Box<Four> as Deserialize<'de, R>>⟧.absent v.four) _
+        (four_rounds.round-law R.row R.ReadSlice.own (given 0) R.Source (given 0) (λ e. cc) s v.four.value fits.1)
+        (fields_cons s (codes "pair") _ _ _ (λ j. ⟦<Pair<Opt> as Deserialize<'de, R>>⟧.reads s.human R.lends j v.pair)
+        (Absent ⟦<Pair<Opt> as Deserialize<'de, R>>⟧.absent v.pair) _
+        (sequence_row s _ _ (rows_cons s _ _ (λ j. ⟦<Opt as Deserialize<'de, R>>⟧.reads s.human R.lends j v.pair.0) _
+        (opt_rounds.round-law R.row R.ReadSlice.own (given 0) R.Source (given 0) (λ e. cc) s v.pair.0 fits.2.0)
+        (rows_cons s _ _ (λ j. ⟦<Opt as Deserialize<'de, R>>⟧.reads s.human R.lends j v.pair.1) _
+        (opt_rounds.round-law R.row R.ReadSlice.own (given 0) R.Source (given 0) (λ e. cc) s v.pair.1 fits.2.1) (rows_none s))))
+        (fields_cons s (codes "either") _ _ _ (λ j. ⟦<Option<Either<bool>> as Deserialize<'de, R>>⟧.reads s.human R.lends j v.either)
+        (Absent ⟦<Option<Either<bool>> as Deserialize<'de, R>>⟧.absent v.either) _
+        (option_row s (λ x. ⟦<Either<bool> as Serialize>⟧.data_of x s.human) ⟦<Either<bool> as Serialize>⟧.is_value
+        (⟦<Either<bool> as Deserialize<'de, R>>⟧.reads s.human R.lends)
+        (λ x15. (let law : (x : _) → tree_of s (⟦<Either<bool> as Serialize>⟧.data_of x s.human) ≢ Some nil = elim
+        [ the_either.Left a1 ↦ newtype_variant_other s (codes "Left") _ | the_either.Right a1 a2 ↦ struct_variant_other s (codes "Right") _ ] in law x15))
+        (λ x12 h12. (let law : (x : _) → ⟦<Either<bool> as Serialize>⟧.is_value x
+        → LowersTo s (⟦<Either<bool> as Serialize>⟧.data_of x s.human) (λ m. ⟦<Either<bool> as Deserialize<'de, R>>⟧.reads s.human R.lends m x) = elim [
+          | the_either.Left a1 ↦ λ fits. newtype_variant_row s (codes "Left" ∷ (codes "Right" ∷ [])) (codes "Left") 0 refl _ _
+              (λ j. ⟦<bool as Deserialize<'de, R>>⟧.reads s.human R.lends j a1) (λ m h. (a1, refl, h)) (truth_row s a1)
+          | the_either.Right a1 a2 ↦ λ fits.
+              struct_variant_row s (codes "Left" ∷ (codes "Right" ∷ [])) (codes "Right") 1 refl _ (codes "by" ∷ (codes "pair" ∷ [])) _ _ refl
+              (λ m h. (a1, a2, refl, h)) (fields_cons s (codes "by") _ _ _ (λ j. ⟦<i32 as Deserialize<'de, R>>⟧.reads s.human R.lends j a1)
+              (Absent ⟦<i32 as Deserialize<'de, R>>⟧.absent a1) _ (signed_row_32 s a1 fits.0)
+              (fields_cons s (codes "pair") _ _ _ (λ j. ⟦<Option<Pair<bool>> as Deserialize<'de, R>>⟧.reads s.human R.lends j a2)
+              (Absent ⟦<Option<Pair<bool>> as Deserialize<'de, R>>⟧.absent a2) _
+              (option_row s (λ x. ⟦<Pair<bool> as Serialize>⟧.data_of x s.human) ⟦<Pair<bool> as Serialize>⟧.is_value
+              (⟦<Pair<bool> as Deserialize<'de, R>>⟧.reads s.human R.lends) (λ x14. sequence_other s _)
+              (λ x13 h13. (sequence_row s _ _ (rows_cons s _ _ (λ j. ⟦<bool as Deserialize<'de, R>>⟧.reads s.human R.lends j x13.0) _ (truth_row s x13.0)
+              (rows_cons s _ _ (λ j. ⟦<bool as Deserialize<'de, R>>⟧.reads s.human R.lends j x13.1) _ (truth_row s x13.1) (rows_none s))))) a2 fits.1)
+              (fields_none s)))
+        ] in law x12 h12)) v.either fits.3) (fields_none s))))) };
+}
+
+impl NeverNil for Kennel {
+    ghost never_nil = { λ s v. structure_other s _ };
+}
+
+impl Serialize for Row {
+    ghost data_of = { λ v human. structure_of ((codes "left", ⟦<VecDeque<(char, i8)> as Serialize>⟧.data_of v.left human)
+        ∷ ((codes "far", ⟦<[u16; 3] as Serialize>⟧.data_of v.far human) ∷ ((codes "kennel", ⟦<Kennel as Serialize>⟧.data_of v.kennel human) ∷ []))) };
+
+    ghost is_value = { λ v. ⟦<VecDeque<(char, i8)> as Serialize>⟧.is_value v.left × ⟦<[u16; 3] as Serialize>⟧.is_value v.far
+        × ⟦<Kennel as Serialize>⟧.is_value v.kennel };
+
+    ghost takes_memory = { λ s. one_of (⟦<VecDeque<(char, i8)> as Serialize>⟧.takes_memory s
+        ∷ (⟦<[u16; 3] as Serialize>⟧.takes_memory s ∷ (⟦<Kennel as Serialize>⟧.takes_memory s ∷ []))) };
+
+    fn serialize<W: Sink, C: SerializerConfig>(
+        &self,
+        se: &mut Serializer<W, C>,
+    ) -> Result<(), rmp_encode::Error> {
+        let parts = rmp_encode::Three {
+            first: &self.left,
+            second: &self.far,
+            third: &self.kennel,
+        };
+        se.serialize_fields("Row", &["left", "far", "kennel"], &parts)
+    }
+
+    #[tactic(auto, using(rmp_encode::proofs::Fields::structure_no_byte))]
+    fn as_u8(&self, _human: bool) -> Option<u8> {
+        None
+    }
+}
+
+impl<'de, R: ReadSlice<'de>> Deserialize<'de, R> for Row {
+    ghost reads = { λ human lends m v. OfFields (codes "left" ∷ (codes "far" ∷ (codes "kennel" ∷ [])))
+        (Field (λ j. ⟦<VecDeque<(char, i8)> as Deserialize<'de, R>>⟧.reads human lends j v.left)
+        (Absent ⟦<VecDeque<(char, i8)> as Deserialize<'de, R>>⟧.absent v.left)
+        (Field (λ j. ⟦<[u16; 3] as Deserialize<'de, R>>⟧.reads human lends j v.far) (Absent ⟦<[u16; 3] as Deserialize<'de, R>>⟧.absent v.far)
+        (Field (λ j. ⟦<Kennel as Deserialize<'de, R>>⟧.reads human lends j v.kennel) (Absent ⟦<Kennel as Deserialize<'de, R>>⟧.absent v.kennel) NoField))) m };
+
+    ghost absent = { None };
+
+    ghost refuses = { RefusesFields (codes "left" ∷ (codes "far" ∷ (codes "kennel" ∷ [])))
+        ⟦<(VecDeque<(char, i8)>, ([u16; 3], (Kennel, ()))) as ReadFields<'de, R>>⟧.reads
+        ⟦<(VecDeque<(char, i8)>, ([u16; 3], (Kennel, ()))) as ReadFields<'de, R>>⟧.parts };
+
+    fn deserialize<C: SerializerConfig>(
+        de: &mut Deserializer<R, C>,
+    ) -> Result<Row, rmp_decode::Error> {
+        let read: Result<(VecDeque<(char, i8)>, ([u16; 3], (Kennel, ()))), rmp_decode::Error> =
+            de.deserialize_fields(&["left", "far", "kennel"]);
+        match read {
+            Ok(parts) => {
+                let (left, (far, (kennel, ()))) = parts;
+                Ok(Row { left, far, kennel })
+            }
+            Err(e) => Err(e),
+        }
+    }
+
+    fn missing() -> Option<Row> {
+        None
+    }
+}
+
+impl<'de, R: ReadSlice<'de>> RoundTrip<'de, R> for Row {
+    ghost use Rattle.test_derived.specs.contracts.kinds.derived.KennelRoundTrip.TheImpl.Laws as kennel_rounds;
+    ghost use mir.Syntax.{given};
+
+    ghost has_data = { λ human v. structure_all ((codes "left", ⟦<VecDeque<(char, i8)> as Serialize>⟧.data_of v.left human)
+        ∷ ((codes "far", ⟦<[u16; 3] as Serialize>⟧.data_of v.far human) ∷ ((codes "kennel", ⟦<Kennel as Serialize>⟧.data_of v.kennel human) ∷ []))) (
+          (sequence_some _ (each_some (λ x. ⟦<(char, i8) as Serialize>⟧.data_of x human)
+              (λ x1. (tuple_all (⟦<char as Serialize>⟧.data_of x1.0 human ∷ (⟦<i8 as Serialize>⟧.data_of x1.1 human ∷ [])) (refl, (refl, tt)))) v.left.items)),
+          (
+            (tuple_some _ (each_some (λ x. ⟦<u16 as Serialize>⟧.data_of x human) (λ x2. refl) v.far)),
+            ((kennel_rounds.has_data-law R.row R.ReadSlice.own (given 0) R.Source (given 0) human v.kennel), tt),
+          ),
+        ) };
+
+    ghost round = { λ lent s v fits. structure_row s (codes "left" ∷ (codes "far" ∷ (codes "kennel" ∷ []))) _ _ refl
+        (fields_cons s (codes "left") _ _ _ (λ j. ⟦<VecDeque<(char, i8)> as Deserialize<'de, R>>⟧.reads s.human R.lends j v.left)
+        (Absent ⟦<VecDeque<(char, i8)> as Deserialize<'de, R>>⟧.absent v.left) _
+        (sequence_row s _ (λ ms. ReadsEach (⟦<(char, i8) as Deserialize<'de, R>>⟧.reads s.human R.lends) ms v.left.items)
+        (each_row s (λ x. ⟦<(char, i8) as Serialize>⟧.data_of x s.human) ⟦<(char, i8) as Serialize>⟧.is_value
+        (⟦<(char, i8) as Deserialize<'de, R>>⟧.reads s.human R.lends)
+        (λ x4 h4. (tuple_row s _ _ (rows_cons s _ _ (λ j. ⟦<char as Deserialize<'de, R>>⟧.reads s.human R.lends j x4.0) _ (char_row s x4.0 h4.0)
+        (rows_cons s _ _ (λ j. ⟦<i8 as Deserialize<'de, R>>⟧.reads s.human R.lends j x4.1) _ (signed_row_8 s x4.1 h4.1) (rows_none s))))) v.left.items
+        fits.0)) (fields_cons s (codes "far") _ _ _ (λ j. ⟦<[u16; 3] as Deserialize<'de, R>>⟧.reads s.human R.lends j v.far)
+        (Absent ⟦<[u16; 3] as Deserialize<'de, R>>⟧.absent v.far) _
+        (tuple_row s _ (Exactly 3 (⟦<u16 as Deserialize<'de, R>>⟧.reads s.human R.lends) v.far)
+        (rows_map s _ _ _ (λ ms each. (fits.1.0, each)) (each_row s (λ x. ⟦<u16 as Serialize>⟧.data_of x s.human) ⟦<u16 as Serialize>⟧.is_value
+        (⟦<u16 as Deserialize<'de, R>>⟧.reads s.human R.lends) (λ x5 h5. (unsigned_row_16 s x5 h5)) v.far fits.1.1)))
+        (fields_cons s (codes "kennel") _ _ _ (λ j. ⟦<Kennel as Deserialize<'de, R>>⟧.reads s.human R.lends j v.kennel)
+        (Absent ⟦<Kennel as Deserialize<'de, R>>⟧.absent v.kennel) _
+        (kennel_rounds.round-law R.row R.ReadSlice.own (given 0) R.Source (given 0) (λ e. cc) s v.kennel fits.2) (fields_none s)))) };
+}
+
+impl NeverNil for Row {
+    ghost never_nil = { λ s v. structure_other s _ };
+}
+
+impl Serialize for Chosen {
+    ghost data_of = { λ v human. wrapped_of (⟦<Either<u8> as Serialize>⟧.data_of v.0 human) };
+
+    ghost is_value = { λ v. ⟦<Either<u8> as Serialize>⟧.is_value v.0 };
+
+    ghost takes_memory = { λ s. ⟦<Either<u8> as Serialize>⟧.takes_memory s };
+
+    fn serialize<W: Sink, C: SerializerConfig>(
+        &self,
+        se: &mut Serializer<W, C>,
+    ) -> Result<(), rmp_encode::Error> {
+        se.serialize_newtype_struct("Chosen", &self.0)
+    }
+
+    #[tactic(auto, using(rmp_encode::proofs::Wrapped::wrapped_no_byte))]
+    fn as_u8(&self, _human: bool) -> Option<u8> {
+        None
+    }
+}
+
+impl<'de, R: ReadSlice<'de>> Deserialize<'de, R> for Chosen {
+    ghost reads = { λ human lends m v. ⟦<Either<u8> as Deserialize<'de, R>>⟧.reads human lends m v.0 };
+
+    ghost absent = { None };
+
+    ghost refuses = { ⟦<Either<u8> as Deserialize<'de, R>>⟧.refuses };
+
+    fn deserialize<C: SerializerConfig>(
+        de: &mut Deserializer<R, C>,
+    ) -> Result<Chosen, rmp_decode::Error> {
+        match de.deserialize_newtype_struct("Chosen") {
+            Ok(first) => Ok(Chosen(first)),
+            Err(e) => Err(e),
+        }
+    }
+
+    fn missing() -> Option<Chosen> {
+        None
+    }
+}
+
+impl<'de, R: ReadSlice<'de>> RoundTrip<'de, R> for Chosen {
+    ghost has_data = { λ human v. newtype_some (⟦<Either<u8> as Serialize>⟧.data_of v.0 human) (let law : (x : _)
+        → IsSome (⟦<Either<u8> as Serialize>⟧.data_of x human) = elim [
+          | the_either.Left a1 ↦ newtype_variant_some (codes "Left") (⟦<u8 as Serialize>⟧.data_of a1 human) refl
+          | the_either.Right a1 a2 ↦ struct_variant_all
+              (codes "Right") ((codes "by", ⟦<i32 as Serialize>⟧.data_of a1 human) ∷ ((codes "pair", ⟦<Option<Pair<u8>> as Serialize>⟧.data_of a2 human) ∷ [])) (
+                refl,
+                (
+                  (option_some (λ x. ⟦<Pair<u8> as Serialize>⟧.data_of x human)
+                      (λ x2. (sequence_all (⟦<u8 as Serialize>⟧.data_of x2.0 human ∷ (⟦<u8 as Serialize>⟧.data_of x2.1 human ∷ [])) (refl, (refl, tt)))) a2),
+                  tt,
+                ),
+              )
+        ]
+        in law v.0) };
+
+    ghost round = { λ lent s v fits. newtype_row s (⟦<Either<u8> as Serialize>⟧.data_of v.0 s.human)
+        (λ j. ⟦<Either<u8> as Deserialize<'de, R>>⟧.reads s.human R.lends j v.0) (let law : (x : _) → ⟦<Either<u8> as Serialize>⟧.is_value x
+        → LowersTo s (⟦<Either<u8> as Serialize>⟧.data_of x s.human) (λ m. ⟦<Either<u8> as Deserialize<'de, R>>⟧.reads s.human R.lends m x) = elim [
+          | the_either.Left a1 ↦ λ fits. newtype_variant_row s (codes "Left" ∷ (codes "Right" ∷ [])) (codes "Left") 0 refl _ _
+              (λ j. ⟦<u8 as Deserialize<'de, R>>⟧.reads s.human R.lends j a1) (λ m h. (a1, refl, h)) (byte_row s a1 fits)
+          | the_either.Right a1 a2 ↦ λ fits.
+              struct_variant_row s (codes "Left" ∷ (codes "Right" ∷ [])) (codes "Right") 1 refl _ (codes "by" ∷ (codes "pair" ∷ [])) _ _ refl
+              (λ m h. (a1, a2, refl, h)) (fields_cons s (codes "by") _ _ _ (λ j. ⟦<i32 as Deserialize<'de, R>>⟧.reads s.human R.lends j a1)
+              (Absent ⟦<i32 as Deserialize<'de, R>>⟧.absent a1) _ (signed_row_32 s a1 fits.0)
+              (fields_cons s (codes "pair") _ _ _ (λ j. ⟦<Option<Pair<u8>> as Deserialize<'de, R>>⟧.reads s.human R.lends j a2)
+              (Absent ⟦<Option<Pair<u8>> as Deserialize<'de, R>>⟧.absent a2) _
+              (option_row s (λ x. ⟦<Pair<u8> as Serialize>⟧.data_of x s.human) ⟦<Pair<u8> as Serialize>⟧.is_value
+              (⟦<Pair<u8> as Deserialize<'de, R>>⟧.reads s.human R.lends) (λ x5. sequence_other s _)
+              (λ x4 h4. (sequence_row s _ _ (rows_cons s _ _ (λ j. ⟦<u8 as Deserialize<'de, R>>⟧.reads s.human R.lends j x4.0) _ (byte_row s x4.0 h4.0)
+              (rows_cons s _ _ (λ j. ⟦<u8 as Deserialize<'de, R>>⟧.reads s.human R.lends j x4.1) _ (byte_row s x4.1 h4.1) (rows_none s))))) a2 fits.1)
+              (fields_none s)))
+        ] in law v.0 fits) };
+}
+
+impl NeverNil for Chosen {
+    ghost never_nil = { λ s v. newtype_other s (⟦<Either<u8> as Serialize>⟧.data_of v.0 s.human)
+        ((let law : (x : _) → tree_of s (⟦<Either<u8> as Serialize>⟧.data_of x s.human) ≢ Some nil = elim
+        [ the_either.Left a1 ↦ newtype_variant_other s (codes "Left") _ | the_either.Right a1 a2 ↦ struct_variant_other s (codes "Right") _ ] in law v.0)) };
+}

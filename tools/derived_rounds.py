@@ -1,0 +1,437 @@
+"""Writes `RoundTrip` and `NeverNil` for what derive.py derives: values are read as they were written.
+
+The law of a type parameter is named through the parameter, that of a type of the crate without parameters by the module in which it
+was proved, and that of any other type is spelled out from the lemmas of rmp_serde: of the types of std and of the wire, and of those
+of the file that have parameters.
+"""
+import re
+
+from declarations import Declared, Field, Shape, split
+from derived_terms import Words, by_cases, codes, listed, underscored, values_of
+
+# Of types without parts: that a value is read as it was written, and that none is written as nil.
+LEAVES = {
+    "()": ("unit_row s", None),
+    "bool": ("truth_row s {v}", "truth_other s {v}"),
+    "u8": ("byte_row s {v} {fits}", "byte_other s {v}"),
+    "u128": ("unsigned128_row s {v} {fits}", "unsigned128_other s {v}"),
+    "i128": ("signed128_row s {v} {fits}", "signed128_other s {v}"),
+    "F32Bits": ("float32_row s {v}.0", "float32_other s {v}.0"),
+    "F64Bits": ("float64_row s {v}.0", "float64_other s {v}.0"),
+    "char": ("char_row s {v} {fits}", "char_other s {v}"),
+    "String": ("string_row s (string_bytes {v})", "text_other s (string_bytes {v})"),
+    "ByteBuf": ("buffer_row s (buffer_bytes {v})", "bytes_other s (buffer_bytes {v})"),
+    "Ext": ("ext_row s {v}", "extension_other s (tag_of {v}) (ext_bytes {v})"),
+    "Raw": ("raw_row s (raw_bytes {v})", "raw_other s (raw_bytes {v})"),
+    "Value": ("value_row s {v} {fits}.1", None),
+}
+LEAVES |= {f"u{bits}": (f"unsigned_row_{bits} s {{v}} {{fits}}", "pos_other s {v}") for bits in (16, 32, 64)}
+LEAVES |= {f"i{bits}": (f"signed_row_{bits} s {{v}} {{fits}}", "whole_other s {v}") for bits in (8, 16, 32, 64)}
+LEAVES |= {"usize": LEAVES["u64"], "isize": LEAVES["i64"]}
+# Of lists: that a list of the items is one, that nothing is refused, that none is written as nil, and its items.
+LISTS = {
+    "Vec": ("slice_row", "slice_some", "slice_other", ".items"),
+    "VecDeque": ("sequence_row", "sequence_some", "sequence_other", ".items"),
+}
+# That the order of keys is total.
+ORDERS = {"String": "(on_total (λ x. string_bytes x) nat_list_cmp_total)"}
+ORDERS |= {kind: "(Prim.search (comparing, rules))" for kind in "u8 u16 u32 u64 usize u128 i8 i16 i32 i64 isize i128 bool char".split()}
+# What a law of another type takes before its own arguments: the reader's type with what its traits say, and where their methods
+# are, which no law depends on.
+READER = "R.row R.ReadSlice.own (given 0) R.Source (given 0)"
+# Where the lemmas stand.
+LEMMAS = {
+    "std.proofs.Common": "refl rules",
+    "std.proofs.lemmas.Cmp": "on_total nat_list_cmp_total",
+    "std.specs.Cmp.Rules": "comparing",
+    "std.specs.Prelude": "◌||◌ string_bytes map",
+    "rmp_wire.specs.Types": "buffer_bytes tag_of ext_bytes",
+    "rmp_decode.specs.Arrays": "Exactly",
+    "rmp_decode.specs.Rows": "ReadsEach",
+    "rmp_serde.specs.LeafRounds": "byte_row unsigned_row_16 unsigned_row_32 unsigned_row_64 signed_row_8 signed_row_16 signed_row_32 signed_row_64"
+    " truth_row unit_row float32_row float64_row char_row string_row buffer_row ext_row byte_other pos_other whole_other unsigned128_other"
+    " signed128_other truth_other float32_other float64_other char_other text_other bytes_other extension_other",
+    "rmp_serde.specs.MapRounds": "mapping_some map_row map_other set_row",
+    "rmp_serde.specs.RawRounds": "raw_row raw_other",
+    "rmp_serde.specs.Raws": "raw_bytes",
+    "rmp_serde.specs.RoundTrip": "LowersTo",
+    "rmp_serde.specs.Rounds": "first_lent second_lent each_some each_row rows_map option_some option_row slice_some slice_row"
+    " slice_other tuple_some tuple_row tuple_other sequence_some sequence_row sequence_other rows_none rows_cons",
+    "rmp_serde.specs.StructRounds": "sequence_all tuple_all tuple_variant_all structure_all struct_variant_all structure_row structure_other fields_none fields_cons",
+    "rmp_serde.specs.ValueLowers": "value_row",
+    "rmp_serde.specs.VariantRounds": "newtype_some newtype_variant_some nothing_row newtype_row bare_row"
+    " newtype_variant_row tuple_variant_row struct_variant_row nothing_other newtype_other bare_other newtype_variant_other"
+    " tuple_variant_other struct_variant_other",
+    "rmp_serde.specs.WideRounds": "unsigned128_row signed128_row",
+}
+
+
+class Unknown(Exception):
+    """A type whose law can't be spelled out."""
+
+
+# ---- where the source has to lend
+
+
+def any_of(flags):
+    """Whether one of them is so."""
+    return flags[0] if len(flags) == 1 else f"({flags[0]} || {any_of(flags[1:])})"
+
+
+def lent(flags, proof):
+    """For each of them a proof that the source lends, where it borrows."""
+    if len(flags) == 1:
+        return [proof]
+    parts = f"{flags[0]} {any_of(flags[1:])} R.lends {proof}"
+    return [f"(first_lent {parts})", *lent(flags[1:], f"(second_lent {parts})")]
+
+
+# ---- terms
+
+
+def nested(head, end, terms):
+    """Each term behind the head, with the next as its last argument."""
+    return f"({head} {terms[0]} {nested(head, end, terms[1:])})" if terms else end
+
+
+def known(fits, count):
+    """What is known of each of so many values, in a product."""
+    return [f"{fits}.{at}" for at in range(count)] if count > 1 else [fits] * count
+
+
+def all_of(terms):
+    """A fact of each, as nested pairs."""
+    return "".join(f"({term}, " for term in terms) + "tt" + ")" * len(terms)
+
+
+def parted(kind):
+    """The type's name and its parameters."""
+    found = re.fullmatch(r"(\w+)<(.*)>", kind)
+    return (found[1], split(found[2])) if found else (kind, [])
+
+
+class Rounds:
+    """The laws of types in terms, for the implementation of this type, where these types of the crate have laws."""
+
+    def __init__(self, of, own):
+        self.own, self.words, self.count = own, Words(of), 0
+        names = [name for name, _ in of.parameters]
+        flags = [f"{name}.borrows" for name in names]
+        self.borrows = any_of(flags) if flags else None
+        self.lent = dict(zip(names, lent(flags, "lent") if flags else []))
+        # The parameters of which it is asked that no value is nil, and the laws that are named by their modules.
+        self.asked, self.named = set(), {}
+
+    def fresh(self):
+        self.count += 1
+        return f"x{self.count}", f"h{self.count}"
+
+    def data(self, kind, human):
+        return f"(λ x. {self.words.writes(kind, 'data_of')} x {human})"
+
+    def reads(self, kind, value=None):
+        if value is None:
+            return f"({self.words.reads(kind, 'reads')} s.human R.lends)"
+        return f"(λ j. {self.words.reads(kind, 'reads')} s.human R.lends j {value})"
+
+    def each(self, kind):
+        """For any value of the type, what the lemmas on parts ask."""
+        x, h = self.fresh()
+        start = self.data(kind, "s.human"), self.words.writes(kind, "is_value"), self.reads(kind)
+        return start, f"(λ {x} {h}. {self.round(kind, x, h)})"
+
+    def law(self, kind, trait, law):
+        """The law of a type of the crate without parameters."""
+        if kind not in self.own or self.own[kind].of.parameters or not self.own[kind].has(trait):
+            raise Unknown(f"no {trait} of {kind} is known")
+        laws = f"{underscored(kind)}_{'rounds' if trait == 'RoundTrip' else 'other'}"
+        self.named[laws] = f"{self.own[kind].modules[trait]}.{kind}{trait}"
+        return f"{laws}.{law}-law" + (f" {READER}" if trait == "RoundTrip" else "")
+
+    def instance(self, name, parts):
+        """A type of the file at these parameters."""
+        if name not in self.own or self.own[name].names is not self.own or not self.own[name].has("RoundTrip"):
+            raise Unknown(f"no RoundTrip of {name} is known")
+        of = self.own[name].of
+        parts = dict(zip((name for name, _ in of.parameters), parts))
+
+        def at_parts(shape):
+            kinds = [re.sub(r"\w+", lambda word: parts.get(word[0], word[0]), field.kind) for field in shape.fields]
+            return Shape(shape.name, shape.kind, [Field(field.name, kind) for field, kind in zip(shape.fields, kinds)])
+
+        return Declared(of.name, [], of.shape and at_parts(of.shape), of.variants and [at_parts(shape) for shape in of.variants])
+
+    def order(self, kind):
+        """That the order of keys is total."""
+        if kind in self.lent:
+            return f"{kind}.total"
+        if kind not in ORDERS:
+            raise Unknown(f"the order of {kind} isn't known to be total")
+        return ORDERS[kind]
+
+    # ---- values are read as they were written
+
+    def round(self, kind, v, fits):
+        name, parts = parted(kind)
+        if kind in self.lent:
+            return f"({kind}.round {self.lent[kind]} s {v} {fits})"
+        if kind in LEAVES:
+            return f"({LEAVES[kind][0].format(v=v, fits=fits)})"
+        if kind[0] == "[":
+            return self.array_round(kind, v, fits)
+        if kind[0] == "(":
+            kinds = split(kind[1:-1])
+            values = [f"{v}.{at}" for at in range(len(kinds))]
+            return f"(tuple_row s _ _ {self.row(kinds, values, known(fits, len(kinds)))})"
+        if name == "Box":
+            return self.round(parts[0], f"{v}.value", fits)
+        if name == "Option":
+            start, rounds = self.each(parts[0])
+            x, _ = self.fresh()
+            return f"(option_row s {' '.join(start)} (λ {x}. {self.other(parts[0], x)}) {rounds} {v} {fits})"
+        if name in LISTS:
+            start, rounds = self.each(parts[0])
+            items = v + LISTS[name][3]
+            return f"({LISTS[name][0]} s _ (λ ms. ReadsEach {self.reads(parts[0])} ms {items}) (each_row s {' '.join(start)} {rounds} {items} {fits}))"
+        if name == "BTreeSet":
+            start, rounds = self.each(parts[0])
+            order = f"{parts[0]}.cmp" if parts[0] in self.lent else f"⟦<{parts[0]} as Ord>⟧.cmp"
+            return f"(set_row s {' '.join(start)} {rounds} {order} {v}.keys {fits}.1 {fits}.0)"
+        if name == "BTreeMap":
+            return self.map_round(parts, v, fits)
+        if not parts:
+            return f"({self.law(kind, 'RoundTrip', 'round')} (λ e. cc) s {v} {fits})"
+        return self.instance_round(kind, self.instance(name, parts), v, fits)
+
+    def map_round(self, parts, v, fits):
+        starts, rounds = zip(*(self.each(part) for part in parts))
+        data, known_of, reads = (" ".join(words) for words in zip(*starts))
+        return f"(map_row s {data} {known_of} {reads} {' '.join(rounds)} {self.order(parts[0])} {v}.entries {fits}.1 {fits}.0)"
+
+    def array_round(self, kind, v, fits):
+        part, count = (word.strip() for word in kind[1:-1].rsplit(";", 1))
+        start, rounds = self.each(part)
+        row = f"(each_row s {' '.join(start)} {rounds} {v} {fits}.1)"
+        return f"(tuple_row s _ (Exactly {count} {self.reads(part)} {v}) (rows_map s _ _ _ (λ ms each. ({fits}.0, each)) {row}))"
+
+    def instance_round(self, kind, of, v, fits):
+        if of.shape:
+            return f"({self.struct_round(of.shape, v, fits)})"
+        data, reads = f"{self.words.writes(kind, 'data_of')} x s.human", f"{self.words.reads(kind, 'reads')} s.human R.lends m x"
+        law = f"(x : _) → {self.words.writes(kind, 'is_value')} x → LowersTo s ({data}) (λ m. {reads})"
+        return f"(let law : {law} = {self.enum_round(of)} in law {v} {fits})"
+
+    def row(self, kinds, values, facts):
+        """The values, as a row of a list."""
+        terms = [f"{self.reads(kind, v)} _ {self.round(kind, v, fits)}" for kind, v, fits in zip(kinds, values, facts)]
+        return nested("rows_cons s _ _", "(rows_none s)", terms)
+
+    def content(self, shape, values, fits):
+        """What a struct's or a variant's fields lower to."""
+        kinds, facts = [field.kind for field in shape.fields], known(fits, len(values))
+        if shape.kind == "newtype":
+            return self.round(kinds[0], values[0], facts[0])
+        if shape.kind == "tuple":
+            return self.row(kinds, values, facts)
+        terms = []
+        for field, v, fact in zip(shape.fields, values, facts):
+            absent = f"(Absent {self.words.reads(field.kind, 'absent')} {v})"
+            terms.append(f'(codes "{field.name}") _ _ _ {self.reads(field.kind, v)} {absent} _ {self.round(field.kind, v, fact)}')
+        return nested("fields_cons s", "(fields_none s)", terms)
+
+    def struct_round(self, shape, v, fits):
+        if shape.kind == "unit":
+            return "nothing_row s"
+        content = self.content(shape, values_of(shape, v), fits)
+        if shape.kind == "named":
+            return f"structure_row s ({self.names(shape)}) _ _ refl {content}"
+        if shape.kind == "tuple":
+            return f"sequence_row s _ _ {content}"
+        kind = shape.fields[0].kind
+        return f"newtype_row s ({self.words.writes(kind, 'data_of')} {v}.0 s.human) {self.reads(kind, f'{v}.0')} {content}"
+
+    def names(self, shape):
+        return codes(field.name for field in shape.fields)
+
+    def enum_round(self, of):
+        return by_cases(of, [f"λ fits. {self.case(of, at, shape)}" for at, shape in enumerate(of.variants)], "")
+
+    def case(self, of, at, shape):
+        """A variant at its place."""
+        start = f'({codes(variant.name for variant in of.variants)}) (codes "{shape.name}") {at} refl _'
+        if shape.kind == "unit":
+            return f"bare_row s {start} (refl, tt)"
+        values = values_of(shape, None)
+        back = f"(λ m h. ({', '.join([*values, 'refl', 'h'])}))"
+        content = self.content(shape, values, "fits")
+        if shape.kind == "newtype":
+            return f"newtype_variant_row s {start} _ {self.reads(shape.fields[0].kind, values[0])} {back} {content}"
+        if shape.kind == "tuple":
+            return f"tuple_variant_row s {start} _ _ {back} {content}"
+        return f"struct_variant_row s {start} ({self.names(shape)}) _ _ refl {back} {content}"
+
+    # ---- no value is refused
+
+    def some(self, kind, v):
+        name, parts = parted(kind)
+        if kind in self.lent:
+            return f"({kind}.has_data human {v})"
+        if kind in LEAVES:
+            return "refl"
+        if kind[0] == "(":
+            return f"({self.tuple_some(split(kind[1:-1]), v)})"
+        if name == "Box":
+            return self.some(parts[0], f"{v}.value")
+        x, _ = self.fresh()
+        if kind[0] == "[":
+            part = kind[1:-1].rsplit(";", 1)[0].strip()
+            return f"(tuple_some _ (each_some {self.data(part, 'human')} (λ {x}. {self.some(part, x)}) {v}))"
+        if name == "Option":
+            return f"(option_some {self.data(parts[0], 'human')} (λ {x}. {self.some(parts[0], x)}) {v})"
+        if name in LISTS or name == "BTreeSet":
+            lemma, items = (LISTS[name][1], ".items") if name in LISTS else ("sequence_some", ".keys")
+            return f"({lemma} _ (each_some {self.data(parts[0], 'human')} (λ {x}. {self.some(parts[0], x)}) {v}{items}))"
+        if name == "BTreeMap":
+            data = " ".join(self.data(part, "human") for part in parts)
+            return f"(mapping_some {data} {' '.join(f'(λ {x}. {self.some(part, x)})' for part in parts)} {v}.entries)"
+        if not parts:
+            return f"({self.law(kind, 'RoundTrip', 'has_data')} human {v})"
+        of = self.instance(name, parts)
+        if of.shape:
+            return f"({self.shape_some(of.shape, v)})"
+        law = f"(x : _) → IsSome ({self.words.writes(kind, 'data_of')} x human)"
+        return f"(let law : {law} = {self.enum_some(of)} in law {v})"
+
+    def tuple_some(self, kinds, v):
+        values = [f"{v}.{at}" for at in range(len(kinds))]
+        data = [f"{self.words.writes(kind, 'data_of')} {of} human" for kind, of in zip(kinds, values)]
+        return f"tuple_all ({listed(data)}) {all_of([self.some(kind, of) for kind, of in zip(kinds, values)])}"
+
+    def shape_some(self, shape, v):
+        values = values_of(shape, v)
+        some = [self.some(field.kind, of) for field, of in zip(shape.fields, values)]
+        data = [f"{self.words.writes(field.kind, 'data_of')} {of} human" for field, of in zip(shape.fields, values)]
+        name = "" if v else f'(codes "{shape.name}") '
+        if shape.kind == "unit":
+            return "refl"
+        if shape.kind == "newtype":
+            return f"{'newtype_some' if v else 'newtype_variant_some'} {name}({data[0]}) {some[0]}"
+        if shape.kind == "tuple":
+            return f"{'sequence_all' if v else 'tuple_variant_all'} {name}({listed(data)}) {all_of(some)}"
+        pairs = [f'(codes "{field.name}", {term})' for field, term in zip(shape.fields, data)]
+        return f"{'structure_all' if v else 'struct_variant_all'} {name}({listed(pairs)}) {all_of(some)}"
+
+    def enum_some(self, of):
+        return by_cases(of, [self.shape_some(shape, None) for shape in of.variants], "")
+
+    # ---- no value is written as nil
+
+    def other(self, kind, v):
+        name, parts = parted(kind)
+        if kind in self.lent:
+            self.asked.add(kind)
+            return f"{kind}.never_nil s {v}"
+        if LEAVES.get(kind, (None, None))[1]:
+            return LEAVES[kind][1].format(v=v)
+        if name == "Box":
+            return self.other(parts[0], f"{v}.value")
+        if name in LISTS or name == "BTreeSet":
+            return f"{LISTS[name][2] if name in LISTS else 'sequence_other'} s _"
+        if kind[0] == "[" or kind[0] == "(" and kind != "()":
+            return "tuple_other s _"
+        if name == "BTreeMap":
+            return "map_other s _"
+        if kind in LEAVES or name == "Option":
+            raise Unknown(f"{kind} may be nil")
+        if not parts:
+            return f"{self.law(kind, 'NeverNil', 'never_nil')} s {v}"
+        of = self.instance(name, parts)
+        if of.shape:
+            return self.shape_other(of.shape, v)
+        law = f"(x : _) → tree_of s ({self.words.writes(kind, 'data_of')} x s.human) ≢ Some nil"
+        return f"(let law : {law} = {self.enum_other(of)} in law {v})"
+
+    def shape_other(self, shape, v):
+        name = "" if v else f' (codes "{shape.name}")'
+        if shape.kind == "unit":
+            return "nothing_other s" if v else f"bare_other s{name}"
+        if shape.kind == "newtype" and v:
+            kind = shape.fields[0].kind
+            return f"newtype_other s ({self.words.writes(kind, 'data_of')} {v}.0 s.human) ({self.other(kind, f'{v}.0')})"
+        lemma = {"tuple": "sequence_other", "named": "structure_other"}.get(shape.kind)
+        kind = "struct" if shape.kind == "named" else shape.kind
+        return f"{lemma if v else f'{kind}_variant_other'} s{name} _"
+
+    def enum_other(self, of):
+        return by_cases(of, [self.shape_other(shape, None) for shape in of.variants], "")
+
+
+# ---- implementations
+
+
+class Own:
+    """A type that a file of the crate declares, with the modules of its laws, by the traits that have them, and what the file names."""
+
+    def __init__(self, of, derived, by_hand, modules, names):
+        self.of, self.derived, self.by_hand, self.modules, self.names = of, derived, by_hand, modules, names
+        self.known = {}
+
+    def has(self, trait):
+        """Whether it has `RoundTrip` or `NeverNil`."""
+        if trait not in self.known:
+            self.known[trait] = False
+            self.known[trait] = trait in self.by_hand or trait in self.derived and self.has_own(trait)
+        return self.known[trait]
+
+    def has_own(self, trait):
+        try:
+            return bool(self.implementation(trait))
+        except Unknown:
+            return False
+
+    def implementation(self, trait):
+        """That of `RoundTrip` or of `NeverNil`, in lines."""
+        rounds = Rounds(self.of, self.names)
+        members = rounds_of(rounds, self.of) if trait == "RoundTrip" else other_of(rounds, self.of)
+        laws = [f"    ghost use Rattle.{path}.TheImpl.Laws as {name};" for name, path in sorted(rounds.named.items())]
+        if any(READER in member for member in members):
+            laws.append("    ghost use mir.Syntax.{given};")
+        return [header(self.of, trait, rounds.asked), *laws, *([""] if laws else []), *members, "}\n"]
+
+
+def rounds_of(rounds, of):
+    """The members of `RoundTrip`."""
+    if of.shape:
+        some, law = f"v. {rounds.shape_some(of.shape, 'v')}", f"λ lent s v fits. {rounds.struct_round(of.shape, 'v', 'fits')}"
+    else:
+        some, law = f". {rounds.enum_some(of)}", f"λ lent s. {rounds.enum_round(of)}"
+    borrows = [f"    ghost borrows = {{ {rounds.borrows} }};\n"] if rounds.borrows else []
+    return [*borrows, f"    ghost has_data = {{ λ human {some} }};\n", f"    ghost round = {{ {law} }};"]
+
+
+def other_of(rounds, of):
+    """The member of `NeverNil`."""
+    other = f"v. {rounds.shape_other(of.shape, 'v')}" if of.shape else f". {rounds.enum_other(of)}"
+    return [f"    ghost never_nil = {{ λ s {other} }};"]
+
+
+def header(of, trait, asked):
+    """The beginning of an implementation, where it is asked of some type parameters that no value of theirs is nil."""
+    is_read = trait == "RoundTrip"
+    bounds = ["'de", "R: ReadSlice<'de>"] if is_read else []
+    for name, more in of.parameters:
+        bound = ["RoundTrip<'de, R>"] * is_read + ["NeverNil"] * (name in asked) or ["Serialize"]
+        bounds.append(f"{name}: " + " + ".join(bound + [more] * bool(more)))
+    names = ", ".join(name for name, _ in of.parameters)
+    written = f"impl{'<' + ', '.join(bounds) + '>' if bounds else ''} {trait}{'<' + chr(39) + 'de, R>' if is_read else ''}"
+    return f"{written} for {of.name}{f'<{names}>' if names else ''} {{"
+
+
+def implementations(own):
+    """`RoundTrip`, and `NeverNil` where no value is nil, in lines; an `Unknown` says why the first can't be had."""
+    lines = []
+    if "RoundTrip" in own.derived:
+        lines += own.implementation("RoundTrip")
+    if "NeverNil" in own.derived and own.has("NeverNil"):
+        lines += own.implementation("NeverNil")
+    return lines
