@@ -1,95 +1,75 @@
 //! Texts, bytes and what isn't lent.
-use rmp_decode::{Deserializer, Error, Text, from_slice};
+use crate::rows::{INVALID_TYPE, INVALID_VALUE, NO_DATA, NO_UTF8, gives_text, refused, refuses};
+use rmp_decode::{Deserializer, Error};
 use rmp_wire::ReadReader;
 use rmp_wire::config::DefaultConfig;
-use std::io::ErrorKind;
 
 // Reads a slice by a source that lends none of it.
-fn read_by_copying(
-    rt: HostRuntime,
-    input: &[u8],
-) -> Deserializer<ReadReader<&[u8]>, DefaultConfig> {
+fn by_copying<'a>(
+    rt: &impl AllocGlobal,
+    input: &'a [u8],
+) -> Deserializer<ReadReader<&'a [u8]>, DefaultConfig> {
     Deserializer::new(rt.alloc(), input)
 }
 
-// Whether the input ended within a message.
-fn is_cut<T>(read: &Result<T, Error>) -> bool {
-    match read {
-        Err(Error::InvalidDataRead(e)) => e.kind() == ErrorKind::UnexpectedEof,
-        _ => false,
+// What is lent of a text, or of bytes, whose reader lends nothing: how long it is.
+fn lent_text(rt: &impl AllocGlobal, input: &[u8]) -> Result<usize, Error> {
+    match by_copying(rt, input).deserialize_str() {
+        Ok(text) => Ok(text.len()),
+        Err(e) => Err(e),
     }
+}
+
+fn lent_bytes(rt: &impl AllocGlobal, input: &[u8]) -> Result<usize, Error> {
+    match by_copying(rt, input).deserialize_bytes() {
+        Ok(bytes) => Ok(bytes.len()),
+        Err(e) => Err(e),
+    }
+}
+
+fn copied_text(rt: &impl AllocGlobal, input: &[u8]) -> Result<String, Error> {
+    by_copying(rt, input).deserialize_string()
 }
 
 #[test]
 fn cut_content(rt: HostRuntime) {
     for input in [[0xa3u8, 0x61].as_slice(), &[0xd9, 2, 0xff], &[0xda, 0]] {
-        assert!(rt; is_cut(&from_slice::<char>(rt.alloc(), input)));
-        assert!(rt; is_cut(&from_slice::<String>(rt.alloc(), input)));
-        assert!(rt; is_cut(&from_slice::<&str>(rt.alloc(), input)));
-        assert!(rt; is_cut(&from_slice::<&[u8]>(rt.alloc(), input)));
-        assert!(rt; is_cut(&read_by_copying(rt, input).deserialize_str()));
+        refuses::<char>(&rt, input, NO_DATA);
+        refuses::<String>(&rt, input, NO_DATA);
+        refuses::<&str>(&rt, input, NO_DATA);
+        refuses::<&[u8]>(&rt, input, NO_DATA);
+        refused(&rt, lent_text(&rt, input), NO_DATA);
     }
 }
 
 #[test]
 fn kinds_that_are_no_text(rt: HostRuntime) {
     for input in [[0xc0u8].as_slice(), &[0xc4, 0], &[0x90], &[0xd4, 1, 2]] {
-        let read: Result<char, Error> = from_slice(rt.alloc(), input);
-        assert!(rt; matches!(&read, Err(Error::Syntax(Text::InvalidType))));
+        refuses::<char>(&rt, input, INVALID_TYPE);
     }
     for input in [[0xc3u8].as_slice(), &[0x01], &[0x80], &[0xc7, 0, 1]] {
-        let read: Result<String, Error> = from_slice(rt.alloc(), input);
-        assert!(rt; matches!(&read, Err(Error::Syntax(Text::InvalidType))));
-        let read: Result<&[u8], Error> = from_slice(rt.alloc(), input);
-        assert!(rt; matches!(&read, Err(Error::Syntax(Text::InvalidType))));
+        refuses::<String>(&rt, input, INVALID_TYPE);
+        refuses::<&[u8]>(&rt, input, INVALID_TYPE);
     }
 }
 
 #[test]
 fn texts_that_are_no_utf8(rt: HostRuntime) {
-    let read: Result<char, Error> = from_slice(rt.alloc(), &[0xa1, 0xff]);
-    assert!(rt; matches!(&read, Err(Error::Utf8Error(_))));
-    let read: Result<&str, Error> = from_slice(rt.alloc(), &[0xa1, 0xff]);
-    assert!(rt; matches!(&read, Err(Error::Utf8Error(_))));
-    let read: Result<&str, Error> = from_slice(rt.alloc(), &[0xc4, 1, 0xff]);
-    assert!(rt; matches!(&read, Err(Error::Syntax(Text::InvalidValue))));
+    refuses::<char>(&rt, &[0xa1, 0xff], NO_UTF8);
+    refuses::<&str>(&rt, &[0xa1, 0xff], NO_UTF8);
+    refuses::<&str>(&rt, &[0xc4, 1, 0xff], INVALID_VALUE);
 }
 
 #[test]
 fn texts_that_are_not_lent(rt: HostRuntime) {
-    for input in [
-        [0xa1u8, 0x61].as_slice(),
-        &[0xc4, 1, 0x61],
-        &[0xc4, 1, 0xff],
+    for (input, why) in [
+        ([0xa1u8, 0x61].as_slice(), INVALID_TYPE),
+        (&[0xc4, 1, 0x61], INVALID_TYPE),
+        (&[0xc4, 1, 0xff], INVALID_TYPE),
+        (&[0xa1, 0xff], NO_UTF8),
     ] {
-        assert!(rt;
-            matches!(
-                &read_by_copying(rt, input).deserialize_str(),
-                Err(Error::Syntax(Text::InvalidType))
-            )
-        );
-        assert!(rt;
-            matches!(
-                &read_by_copying(rt, input).deserialize_bytes(),
-                Err(Error::Syntax(Text::InvalidType))
-            )
-        );
+        refused(&rt, lent_text(&rt, input), why);
+        refused(&rt, lent_bytes(&rt, input), why);
     }
-    let input = [0xa1, 0xff];
-    assert!(rt;
-        matches!(
-            &read_by_copying(rt, &input).deserialize_str(),
-            Err(Error::Utf8Error(_))
-        )
-    );
-    assert!(rt;
-        matches!(
-            &read_by_copying(rt, &input).deserialize_bytes(),
-            Err(Error::Utf8Error(_))
-        )
-    );
-    match read_by_copying(rt, &[0xa1, 0x61]).deserialize_string() {
-        Ok(text) => assert_eq!(rt; text.as_str(), "a"),
-        Err(_) => assert!(rt; false),
-    }
+    gives_text(&rt, copied_text(&rt, &[0xa1, 0x61]), "a");
 }

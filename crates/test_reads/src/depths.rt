@@ -1,11 +1,12 @@
+//! The limit on nesting.
+use crate::rows::{TOO_DEEP, gives, reader, refused};
 use rmp_decode::{Deserialize, Deserializer, Error};
 use rmp_wire::config::SerializerConfig;
 use rmp_wire::{ReadRefReader, Source};
 use std::alloc::Global;
-use std::collections::TryReserveError;
 
 // So many lists of one element, and then an empty one.
-fn lists(alloc: Global, times: usize) -> Result<Vec<u8>, TryReserveError> {
+fn lists(alloc: Global, times: usize) -> Result<Vec<u8>, Error> {
     let mut input = Vec::new(alloc);
     for _ in 0..times {
         input.push(0x91)?;
@@ -14,59 +15,47 @@ fn lists(alloc: Global, times: usize) -> Result<Vec<u8>, TryReserveError> {
     Ok(input)
 }
 
-fn passed(alloc: Global, times: usize, limit: usize) -> Result<Result<(), Error>, TryReserveError> {
-    let input = lists(alloc, times)?;
-    let mut de = Deserializer::from_read_ref(alloc, &input);
+// Passes over so many lists in one another, under a limit.
+fn passed(rt: &impl AllocGlobal, times: usize, limit: usize) -> Result<(), Error> {
+    let input = lists(rt.alloc(), times)?;
+    let mut de = reader(rt, &input);
     de.set_max_depth(limit);
-    Ok(de.deserialize_ignored_any())
+    de.deserialize_ignored_any()
 }
 
 #[test]
-fn limits(rt: HostRuntime) -> Result<(), TryReserveError> {
+fn limits(rt: HostRuntime) {
     for (times, limit) in [(98, 100), (1022, 1024), (60_000, 65_000), (65_533, 70_000)] {
-        assert!(rt; passed(rt.alloc(), times, limit)?.is_ok());
-        assert!(rt;
-            matches!(
-                &passed(rt.alloc(), limit.min(65_535), limit)?,
-                Err(Error::DepthLimitExceeded)
-            )
-        );
+        gives(&rt, passed(&rt, times, limit), ());
+        refused(&rt, passed(&rt, limit.min(65_535), limit), TOO_DEEP);
     }
     for (times, limit) in [(99, 100), (1023, 1024), (65_534, 70_000)] {
-        assert!(rt;
-            matches!(
-                &passed(rt.alloc(), times, limit)?,
-                Err(Error::DepthLimitExceeded)
-            )
-        );
+        refused(&rt, passed(&rt, times, limit), TOO_DEEP);
     }
-    Ok(())
 }
 
 fn read<'de, T: Deserialize<'de, ReadRefReader<'de>>>(
-    rt: HostRuntime,
+    rt: &impl AllocGlobal,
     limit: usize,
     input: &'de [u8],
 ) -> Result<T, Error> {
-    let mut de = Deserializer::from_read_ref(rt.alloc(), input);
+    let mut de = reader(rt, input);
     de.set_max_depth(limit);
     T::deserialize(&mut de)
 }
 
+type Pair = (u8, (u8, u8));
+
 #[test]
 fn least_limit(rt: HostRuntime) {
     for limit in [0, 1] {
-        let number: Result<u8, Error> = read(rt, limit, &[0x2a]);
-        assert!(rt; matches!(&number, Ok(42)));
-        let none: Result<Vec<u8>, Error> = read(rt, limit, &[0x90]);
-        assert!(rt; matches!(&none, Err(Error::DepthLimitExceeded)));
-        let bytes: Result<(u8, u8), Error> = read(rt, limit, &[0xc4, 2, 1, 9]);
-        assert!(rt; matches!(&bytes, Ok((1, 9))));
+        gives(&rt, read(&rt, limit, &[0x2a]), 42u8);
+        refused::<Vec<u8>>(&rt, read(&rt, limit, &[0x90]), TOO_DEEP);
+        gives(&rt, read(&rt, limit, &[0xc4, 2, 1, 9]), (1u8, 9u8));
     }
-    let pair: Result<(u8, (u8, u8)), Error> = read(rt, 3, &[0x92, 1, 0x92, 2, 3]);
-    assert!(rt; matches!(&pair, Ok((1, (2, 3)))));
-    let pair: Result<(u8, (u8, u8)), Error> = read(rt, 2, &[0x92, 1, 0x92, 2, 3]);
-    assert!(rt; matches!(&pair, Err(Error::DepthLimitExceeded)));
+    let input = [0x92, 1, 0x92, 2, 3];
+    gives::<Pair>(&rt, read(&rt, 3, &input), (1, (2, 3)));
+    refused::<Pair>(&rt, read(&rt, 2, &input), TOO_DEEP);
 }
 
 // Sets the limit inside of a list, and passes over its element.
@@ -108,15 +97,19 @@ fn inner_list<R: Source, C: SerializerConfig>(de: &mut Deserializer<R, C>) -> Re
     seq.end()
 }
 
+fn list_of_lists<R: Source, C: SerializerConfig>(
+    de: &mut Deserializer<R, C>,
+) -> Result<Option<()>, Error> {
+    let mut seq = match de.deserialize_seq() {
+        Ok(seq) => seq,
+        Err(e) => return Err(e),
+    };
+    seq.next_element_with(inner_list)
+}
+
 #[test]
 fn limit_inside(rt: HostRuntime) {
     // two levels are open where the limit is set: 3 leaves one, and 2 leaves none
-    let mut de = Deserializer::from_read_ref(rt.alloc(), &[0x91, 0x92, 0x90, 0x90]);
-    match de.deserialize_seq() {
-        Ok(mut seq) => {
-            let read = seq.next_element_with(inner_list);
-            assert!(rt; matches!(&read, Err(Error::DepthLimitExceeded)));
-        }
-        Err(_) => assert!(rt; false),
-    }
+    let mut de = reader(&rt, &[0x91, 0x92, 0x90, 0x90]);
+    refused(&rt, list_of_lists(&mut de), TOO_DEEP);
 }

@@ -1,119 +1,90 @@
+//! Structs whose fields are read by one call.
+use crate::rows::{
+    INVALID_LENGTH, INVALID_TYPE, NOT_CANONICAL, SliceReader, TOO_DEEP, reader, refused, refuses,
+    refuses_strictly,
+};
 use crate::samples::{Dog, Named, Tagged, Wide};
-use rmp_decode::{Deserialize, Deserializer, Error, Text, from_slice, from_slice_strict};
+use rmp_decode::{Deserialize, Error, from_slice, from_slice_strict};
+use std::process::Abort;
 
-fn is(read: &Result<Dog, Error>, name: &str, age: u16, grams: u32) -> bool {
+// The read gave this dog.
+fn is(rt: &impl Abort, read: Result<Dog, Error>, name: &str, age: u16, grams: u32) {
     match read {
-        Ok(dog) => dog.name.as_str() == name && dog.age == age && dog.weight.grams == grams,
-        Err(_) => false,
+        Ok(dog) => assert_eq!(rt;
+            (dog.name.as_str(), dog.age, dog.weight.grams),
+            (name, age, grams)
+        ),
+        Err(e) => panic!(rt; "{name} is refused: {e}"),
     }
 }
 
-fn read(rt: HostRuntime, input: &[u8]) -> Result<Dog, Error> {
-    from_slice(rt.alloc(), input)
+// The input is read as this dog.
+fn reads(rt: &(impl Abort + AllocGlobal), input: &[u8], name: &str, age: u16, grams: u32) {
+    is(rt, from_slice(rt.alloc(), input), name, age, grams);
 }
 
 #[test]
 fn fields_by_names(rt: HostRuntime) {
     // in another order, with a name that is unknown
-    assert!(rt;
-        is(
-            &read(
-                rt,
-                b"\x84\xa1\x78\x81\x05\x90\xa3age\x08\xa6weight\x01\xa4name\xa5Bobby"
-            ),
-            "Bobby",
-            8,
-            1
-        )
+    reads(
+        &rt,
+        b"\x84\xa1\x78\x81\x05\x90\xa3age\x08\xa6weight\x01\xa4name\xa5Bobby",
+        "Bobby",
+        8,
+        1,
     );
     // places and bytes for names
-    assert!(rt;
-        is(
-            &read(rt, b"\x83\x01\x08\xc4\x06weight\x09\x00\xa1A"),
-            "A",
-            8,
-            9
-        )
-    );
+    reads(&rt, b"\x83\x01\x08\xc4\x06weight\x09\x00\xa1A", "A", 8, 9);
     // one that isn't there, for which something stands
-    assert!(rt; is(&read(rt, b"\x82\x01\x08\x00\xa1A"), "A", 8, 7));
-    assert!(rt;
-        matches!(
-            read(rt, b"\x81\xa4name\xa1A"),
-            Err(Error::Syntax(Text::MissingField))
-        )
-    );
-    assert!(rt;
-        matches!(
-            read(rt, b"\x82\xa3age\x08\xa3age\x08"),
-            Err(Error::Syntax(Text::DuplicateField))
-        )
-    );
-    assert!(rt;
-        matches!(
-            read(rt, b"\x81\xff\x08"),
-            Err(Error::Syntax(Text::InvalidType))
-        )
-    );
-    assert!(rt;
-        matches!(
-            read(rt, b"\x81\xa3age\xc3"),
-            Err(Error::Syntax(Text::InvalidType))
-        )
-    );
-    assert!(rt; matches!(read(rt, b"\xc0"), Err(Error::Syntax(Text::InvalidType))));
+    reads(&rt, b"\x82\x01\x08\x00\xa1A", "A", 8, 7);
+    refuses::<Dog>(&rt, b"\x81\xa4name\xa1A", "missing field");
+    refuses::<Dog>(&rt, b"\x82\xa3age\x08\xa3age\x08", "duplicate field");
+    refuses::<Dog>(&rt, b"\x81\xff\x08", INVALID_TYPE);
+    refuses::<Dog>(&rt, b"\x81\xa3age\xc3", INVALID_TYPE);
+    refuses::<Dog>(&rt, b"\xc0", INVALID_TYPE);
 }
 
 #[test]
 fn fields_in_order(rt: HostRuntime) {
-    assert!(rt; is(&read(rt, b"\x93\xa5Bobby\x08\x01"), "Bobby", 8, 1));
-    assert!(rt;
-        matches!(
-            read(rt, b"\x92\xa5Bobby\x08"),
-            Err(Error::Syntax(Text::InvalidLength))
-        )
+    reads(&rt, b"\x93\xa5Bobby\x08\x01", "Bobby", 8, 1);
+    refuses::<Dog>(&rt, b"\x92\xa5Bobby\x08", INVALID_LENGTH);
+    refuses::<Dog>(
+        &rt,
+        b"\x94\xa5Bobby\x08\x01\x07",
+        "array had incorrect length, expected 3",
     );
-    assert!(rt;
-        matches!(
-            read(rt, b"\x94\xa5Bobby\x08\x01\x07"),
-            Err(Error::LengthMismatch(3))
-        )
-    );
-    assert!(rt;
-        matches!(
-            read(rt, b"\xc4\x03\x01\x02\x03"),
-            Err(Error::Syntax(Text::InvalidType))
-        )
-    );
+    refuses::<Dog>(&rt, b"\xc4\x03\x01\x02\x03", INVALID_TYPE);
+}
+
+// A dog by a reader with this limit.
+fn within(mut de: SliceReader, limit: usize) -> Result<Dog, Error> {
+    de.set_max_depth(limit);
+    Dog::deserialize(&mut de)
 }
 
 #[test]
 fn how_deep_fields_nest(rt: HostRuntime) {
     let input = b"\x83\xa1\x78\x91\x90\x01\x08\x00\xa1A";
-    let mut de = Deserializer::from_read_ref(rt.alloc(), input);
-    de.set_max_depth(3);
-    let found: Result<Dog, Error> = Dog::deserialize(&mut de);
-    assert!(rt; matches!(found, Err(Error::DepthLimitExceeded)));
-    let mut de = Deserializer::from_read_ref(rt.alloc(), input);
-    de.set_max_depth(4);
-    assert!(rt; is(&Dog::deserialize(&mut de), "A", 8, 7));
-    let mut de = Deserializer::from_read_ref(rt.alloc(), b"\x80");
-    de.set_max_depth(1);
-    let found: Result<Dog, Error> = Dog::deserialize(&mut de);
-    assert!(rt; matches!(found, Err(Error::DepthLimitExceeded)));
+    refused(&rt, within(reader(&rt, input), 3), TOO_DEEP);
+    is(&rt, within(reader(&rt, input), 4), "A", 8, 7);
+    refused(&rt, within(reader(&rt, b"\x80"), 1), TOO_DEEP);
+}
+
+// A strict reader reads the input as this dog.
+fn reads_strictly(rt: &(impl Abort + AllocGlobal), input: &[u8], name: &str, age: u16, grams: u32) {
+    is(rt, from_slice_strict(rt.alloc(), input), name, age, grams);
 }
 
 #[test]
 fn fields_strictly(rt: HostRuntime) {
-    let found: Result<Dog, Error> = from_slice_strict(rt.alloc(), b"\x82\x01\x08\x00\xa1A");
-    assert!(rt; is(&found, "A", 8, 7));
-    let found: Result<Dog, Error> = from_slice_strict(rt.alloc(), b"\x82\x01\x08\xd9\x04name\xa1A");
-    assert!(rt; matches!(found, Err(Error::NotCanonical)));
-    let found: Result<Dog, Error> = from_slice_strict(
-        rt.alloc(),
-        b"\x83\x01\x08\x00\xa1A\xa1x\xcc\x01",
-    );
-    assert!(rt; matches!(found, Err(Error::NotCanonical)));
+    reads_strictly(&rt, b"\x82\x01\x08\x00\xa1A", "A", 8, 7);
+    refuses_strictly::<Dog>(&rt, b"\x82\x01\x08\xd9\x04name\xa1A", NOT_CANONICAL);
+    refuses_strictly::<Dog>(&rt, b"\x83\x01\x08\x00\xa1A\xa1x\xcc\x01", NOT_CANONICAL);
+}
+
+fn is_wide(wide: &Wide) -> bool {
+    let first = wide.alpha == 1 && wide.beta == 2 && wide.gamma == 3 && wide.delta == 4;
+    first && wide.epsilon && wide.zeta.as_str() == "z" && wide.eta == 7 && wide.theta == 8
 }
 
 #[test]
@@ -121,23 +92,21 @@ fn eight_fields(rt: HostRuntime) {
     let input =
         b"\x88\xa5theta\x08\xa5alpha\x01\xa4beta\x02\xa5gamma\x03\xa5delta\x04\xa7epsilon\xc3\xa4zeta\xa1z\xa3eta\x07";
     let found: Result<Wide, Error> = from_slice(rt.alloc(), input);
-    match found {
-        Ok(wide) => {
-            assert!(rt; wide.alpha == 1 && wide.beta == 2 && wide.gamma == 3 && wide.delta == 4);
-            assert!(rt; wide.epsilon && wide.zeta.as_str() == "z");
-            assert!(rt; wide.eta == 7);
-            assert!(rt; wide.theta == 8);
-        }
-        Err(_) => assert!(rt; false),
-    }
+    assert!(rt; matches!(&found, Ok(wide) if is_wide(wide)));
+}
+
+fn is_named(read: &Result<Named, Error>, first: &str, last: &str) -> bool {
+    matches!(read, Ok(it) if it.first.as_str() == first && it.last.as_str() == last)
+}
+
+fn is_tagged(read: &Result<Tagged, Error>, tag: u8, name: &str) -> bool {
+    matches!(read, Ok(it) if it.tag == tag && it.name.as_str() == name)
 }
 
 #[test]
 fn two_fields(rt: HostRuntime) {
-    let found: Result<Named, Error> = from_slice(rt.alloc(), b"\x82\xa4last\xa1b\xa5first\xa1a");
-    assert!(rt;
-        matches!(&found, Ok(named) if named.first.as_str() == "a" && named.last.as_str() == "b")
-    );
-    let found: Result<Tagged, Error> = from_slice(rt.alloc(), b"\x82\xa4name\xa1b\xa3tag\x07");
-    assert!(rt; matches!(&found, Ok(tagged) if tagged.tag == 7 && tagged.name.as_str() == "b"));
+    let found = from_slice(rt.alloc(), b"\x82\xa4last\xa1b\xa5first\xa1a");
+    assert!(rt; is_named(&found, "a", "b"));
+    let found = from_slice(rt.alloc(), b"\x82\xa4name\xa1b\xa3tag\x07");
+    assert!(rt; is_tagged(&found, 7, "b"));
 }

@@ -1,7 +1,10 @@
 //! Readers whose calls are interrupted.
+use crate::rows::{
+    FAILED_BEFORE, INVALID_VALUE, NO_MARKER, RESERVED, gives, gives_items, gives_text, refused,
+};
 use crate::samples::Dog;
-use rmp_decode::{Deserialize, Deserializer, Error, Text, from_read};
-use rmp_wire::{ByteBuf, IoFault, IoSource, ReadReader, Source};
+use rmp_decode::{Deserialize, Deserializer, Error, from_read};
+use rmp_wire::{ByteBuf, IoSource, ReadReader, Source};
 use std::io;
 use std::io::{ErrorKind, Read};
 
@@ -64,7 +67,7 @@ impl Read for Interrupting<'_> {
 
 // A value whose every byte comes at the last try.
 fn patient<'a, T: Deserialize<'a, ReadReader<IoSource<Interrupting<'a>>>>>(
-    rt: HostRuntime,
+    rt: &impl AllocGlobal,
     bytes: &'a [u8],
 ) -> Result<T, Error> {
     from_read(
@@ -73,38 +76,88 @@ fn patient<'a, T: Deserialize<'a, ReadReader<IoSource<Interrupting<'a>>>>>(
     )
 }
 
-#[test]
-fn interruptions_lose_nothing(rt: HostRuntime) {
-    let read: Result<(), Error> = patient(rt, b"\xc0");
-    assert!(rt; read.is_ok());
-    let read: Result<(u16, String), Error> = patient(rt, b"\x92\xcd\x01\x02\xa2hi");
-    assert!(rt; matches!(&read, Ok((258, text)) if text.as_str() == "hi"));
-    let read: Result<Vec<Option<i64>>, Error> = patient(
-        rt,
-        b"\x93\xc0\xd3\xff\xff\xff\xff\xff\xff\xff\xfe\x05",
-    );
-    assert!(rt; matches!(&read, Ok(v) if v.as_slice() == [None, Some(-2), Some(5)].as_slice()));
-    let read: Result<ByteBuf, Error> = patient(rt, b"\xc4\x03\x00\xc1\xff");
-    assert!(rt; matches!(&read, Ok(bytes) if bytes.as_bytes() == b"\x00\xc1\xff".as_slice()));
-    let read: Result<Dog, Error> = patient(rt, b"\x83\xa1\x78\x81\x05\x90\x00\xa5Bobby\x01\x08");
-    assert!(rt; matches!(&read, Ok(dog) if dog.name.as_str() == "Bobby" && dog.age == 8));
-    // What doesn't fit is refused as ever.
-    let read: Result<u8, Error> = patient(rt, b"\xcd\x01\x00");
-    assert!(rt; matches!(&read, Err(Error::Syntax(Text::InvalidValue))));
-    let read: Result<(u8, u8), Error> = patient(rt, b"\x92\x05\xc1");
-    assert!(rt; matches!(&read, Err(Error::TypeMismatch(marker)) if marker.to_u8() == 0xc1));
-    let read: Result<(u8, u8), Error> = patient(rt, b"\x92\x05");
-    assert!(rt;
-        matches!(&read, Err(Error::InvalidMarkerRead(e)) if e.kind() == ErrorKind::UnexpectedEof)
-    );
+fn text_behind(number: u16, pair: Result<(u16, String), Error>) -> Result<String, Error> {
+    match pair {
+        Ok((n, text)) if n == number => Ok(text),
+        Ok(_) => Err(Error::OutOfRange),
+        Err(e) => Err(e),
+    }
 }
 
-// Whether a read was refused for the interruption, before the first byte of a message or behind it.
-fn is_interrupted(error: &Error, at_message: bool) -> bool {
-    match error {
-        Error::InvalidMarkerRead(e) => at_message && e.kind() == ErrorKind::Interrupted,
-        Error::InvalidDataRead(e) => !at_message && e.kind() == ErrorKind::Interrupted,
-        _ => false,
+fn bytes_of(read: Result<ByteBuf, Error>) -> Result<Vec<u8>, Error> {
+    match read {
+        Ok(bytes) => Ok(bytes.into_vec()),
+        Err(e) => Err(e),
+    }
+}
+
+fn name_and_age(read: &Result<Dog, Error>) -> Option<(&str, u16)> {
+    match read {
+        Ok(dog) => Some((dog.name.as_str(), dog.age)),
+        Err(_) => None,
+    }
+}
+
+#[test]
+fn interruptions_lose_nothing(rt: HostRuntime) {
+    gives(&rt, patient(&rt, b"\xc0"), ());
+    gives_text(
+        &rt,
+        text_behind(258, patient(&rt, b"\x92\xcd\x01\x02\xa2hi")),
+        "hi",
+    );
+    gives_items(
+        &rt,
+        patient(&rt, b"\x93\xc0\xd3\xff\xff\xff\xff\xff\xff\xff\xfe\x05"),
+        &[None, Some(-2i64), Some(5)],
+    );
+    gives_items(
+        &rt,
+        bytes_of(patient(&rt, b"\xc4\x03\x00\xc1\xff")),
+        &[0, 0xc1, 0xff],
+    );
+    let dog = patient(&rt, b"\x83\xa1\x78\x81\x05\x90\x00\xa5Bobby\x01\x08");
+    assert!(rt; name_and_age(&dog) == Some(("Bobby", 8)));
+}
+
+#[test]
+fn interruptions_refuse_nothing_else(rt: HostRuntime) {
+    refused::<u8>(&rt, patient(&rt, b"\xcd\x01\x00"), INVALID_VALUE);
+    refused::<(u8, u8)>(&rt, patient(&rt, b"\x92\x05\xc1"), RESERVED);
+    refused::<(u8, u8)>(&rt, patient(&rt, b"\x92\x05"), NO_MARKER);
+}
+
+const INTERRUPTED_MARKER: &str = "IO error while reading marker: operation interrupted";
+
+const INTERRUPTED_DATA: &str = "IO error while reading data: operation interrupted";
+
+type Interrupted<'a> = Deserializer<ReadReader<IoSource<Interrupting<'a>>>>;
+
+fn stubborn<'a>(rt: &impl AllocGlobal, bytes: &'a [u8], at: usize) -> Interrupted<'a> {
+    let inner = Interrupting::new(bytes, bytes.len().saturating_sub(at));
+    Deserializer::new(rt.alloc(), IoSource::new(inner))
+}
+
+// Reads a pair of a number and a text.
+fn pair(de: &mut Interrupted) -> Result<(u16, String), Error> {
+    Deserialize::deserialize(de)
+}
+
+fn small(de: &mut Interrupted) -> Result<u8, Error> {
+    de.deserialize_u8()
+}
+
+fn calls(de: &Interrupted) -> u64 {
+    de.get_ref().get_ref().calls
+}
+
+// The next byte of the reader's source.
+fn byte_behind(de: Interrupted) -> Option<u8> {
+    let mut byte = [0];
+    let mut source = de.into_inner();
+    match source.pull(&mut byte) {
+        Ok(1) => Some(byte[0]),
+        _ => None,
     }
 }
 
@@ -114,45 +167,47 @@ fn is_interrupted(error: &Error, at_message: bool) -> bool {
 fn the_seventeenth_is_told_once(rt: HostRuntime) {
     let whole = b"\x92\xcd\x01\x02\xa2hi".as_slice();
     for n in 0..whole.len() {
-        let stubborn = Interrupting::new(whole, whole.len() - n);
-        let mut de = Deserializer::new(rt.alloc(), IoSource::new(stubborn));
-        let read: Result<(u16, String), Error> = Deserialize::deserialize(&mut de);
-        match &read {
-            Err(error) => assert!(rt; is_interrupted(error, n < 2 || n == 4), "at {n}"),
-            Ok(_) => assert!(rt; false, "at {n}"),
-        }
-        let calls = de.get_ref().get_ref().calls;
-        assert_eq!(rt; calls, (n as u64 + 1) * 17);
+        let mut de = stubborn(&rt, whole, n);
+        let why = if n < 2 || n == 4 {
+            INTERRUPTED_MARKER
+        } else {
+            INTERRUPTED_DATA
+        };
+        refused(&rt, pair(&mut de), why);
+        assert_eq!(rt; calls(&de), (n as u64 + 1) * 17);
         for _ in 0..3 {
-            assert!(rt;
-                matches!(
-                    &de.deserialize_u8(),
-                    Err(Error::Uncategorized(Text::FailedBefore))
-                )
-            );
+            refused(&rt, small(&mut de), FAILED_BEFORE);
         }
-        assert_eq!(rt; de.get_ref().get_ref().calls, calls);
-        let mut byte = [0];
-        let mut source = de.into_inner();
-        assert!(rt; matches!(source.pull(&mut byte), Ok(1)));
-        assert!(rt; whole.get(n) == Some(&byte[0]), "at {n}");
+        assert_eq!(rt; calls(&de), (n as u64 + 1) * 17);
+        assert!(rt; byte_behind(de) == whole.get(n).copied(), "at {n}");
     }
+}
+
+fn number_from(rt: &impl AllocGlobal, source: &mut IoSource<Interrupting>) -> Result<u8, Error> {
+    from_read(rt.alloc(), source)
+}
+
+fn text_from(rt: &impl AllocGlobal, source: &mut IoSource<Interrupting>) -> Result<String, Error> {
+    from_read(rt.alloc(), source)
+}
+
+fn truth_from(rt: &impl AllocGlobal, source: &mut IoSource<Interrupting>) -> Result<bool, Error> {
+    from_read(rt.alloc(), source)
+}
+
+fn left_and_calls(source: &IoSource<Interrupting>) -> (usize, u64) {
+    let inner = source.get_ref();
+    (inner.rest.len(), inner.calls)
 }
 
 // The same by `from_read`, which gives nothing back but what the source keeps: the next one reads on.
 #[test]
 fn a_second_try_reads_on(rt: HostRuntime) {
     let mut source = IoSource::new(Interrupting::new(b"\x05\xa2hi\xc3", 4));
-    let number: Result<u8, Error> = from_read(rt.alloc(), &mut source);
-    assert!(rt; matches!(&number, Ok(5)));
-    let text: Result<String, Error> = from_read(rt.alloc(), &mut source);
-    let interrupted = IoFault::from(ErrorKind::Interrupted);
-    assert!(rt; matches!(&text, Err(Error::InvalidMarkerRead(e)) if *e == interrupted));
-    let text: Result<String, Error> = from_read(rt.alloc(), &mut source);
-    assert!(rt; matches!(&text, Ok(text) if text.as_str() == "hi"));
-    let truth: Result<bool, Error> = from_read(rt.alloc(), &mut source);
-    assert!(rt; matches!(&truth, Ok(true)));
-    assert_eq!(rt; source.get_ref().rest.len(), 0);
+    gives(&rt, number_from(&rt, &mut source), 5);
+    refused(&rt, text_from(&rt, &mut source), INTERRUPTED_MARKER);
+    gives_text(&rt, text_from(&rt, &mut source), "hi");
+    gives(&rt, truth_from(&rt, &mut source), true);
     // 17 calls a byte and for the message that was refused, whose first byte then comes at once
-    assert_eq!(rt; source.get_ref().calls, 5 * 17 + 1);
+    assert_eq!(rt; left_and_calls(&source), (0, 5 * 17 + 1));
 }

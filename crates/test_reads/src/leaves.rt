@@ -1,7 +1,11 @@
 //! Options, structs without fields, newtype structs, and numbers of 128 bits.
-use rmp_decode::{Deserialize, Deserializer, Error, Text, from_slice, from_slice_strict};
-use rmp_wire::{MSGPACK_EXT_STRUCT_NAME, Marker};
-use std::io::ErrorKind;
+use crate::rows::{
+    FAILED_BEFORE, INVALID_TYPE, NO_DATA, NO_MARKER, NOT_CANONICAL, RESERVED, SliceReader, ahead,
+    gives, next, next_refused, reader, reads, reads_items, reads_strictly, refused, refuses,
+    refuses_strictly,
+};
+use rmp_decode::{Deserialize, Error};
+use rmp_wire::{MSGPACK_EXT_STRUCT_NAME, ReadRefReader};
 
 const SEVEN: [u8; 18] = [0xc4, 16, 0, 0, 0, 0, 0, 0, 0, 0, 0, 0, 0, 0, 0, 0, 0, 7];
 
@@ -9,148 +13,96 @@ const ALL: [u8; 18] = [
     0xc4, 16, 255, 255, 255, 255, 255, 255, 255, 255, 255, 255, 255, 255, 255, 255, 255, 255,
 ];
 
+// Seven behind a head that is wider than it has to be.
+const WIDE: [u8; 19] = [0xc5, 0, 16, 0, 0, 0, 0, 0, 0, 0, 0, 0, 0, 0, 0, 0, 0, 0, 7];
+
 #[test]
 fn options(rt: HostRuntime) {
-    let read: Result<(Option<Option<u32>>, Option<Option<u32>>), Error> = from_slice(
-        rt.alloc(),
-        &[0x92, 0xc0, 0x0d],
-    );
-    assert!(rt; matches!(&read, Ok((None, Some(Some(13))))));
-    let read: Result<Option<u8>, Error> = from_slice(rt.alloc(), &[0xcc, 200]);
-    assert!(rt; matches!(&read, Ok(Some(200))));
-    let read: Result<Option<()>, Error> = from_slice(rt.alloc(), &[0xc0]);
-    assert!(rt; matches!(&read, Ok(None)));
-    let read: Result<Vec<Option<u8>>, Error> = from_slice(rt.alloc(), &[0xc4, 2, 0xc0, 1]);
-    match &read {
-        Ok(list) => assert!(rt; list.len() == 2 && list[0] == Some(0xc0) && list[1] == Some(1)),
-        Err(_) => assert!(rt; false),
-    }
-    let read: Result<Option<u16>, Error> = from_slice(rt.alloc(), &[0xa1, 0x21]);
-    assert!(rt; matches!(&read, Err(Error::TypeMismatch(Marker::FixStr(1)))));
-    match from_slice::<Option<u8>>(rt.alloc(), &[]) {
-        Err(Error::InvalidMarkerRead(e)) => assert!(rt; e.kind() == ErrorKind::UnexpectedEof),
-        _ => assert!(rt; false),
-    }
-    match from_slice::<Option<u8>>(rt.alloc(), &[0xcc]) {
-        Err(Error::InvalidDataRead(e)) => assert!(rt; e.kind() == ErrorKind::UnexpectedEof),
-        _ => assert!(rt; false),
-    }
-    let read: Result<Option<u16>, Error> = from_slice(rt.alloc(), &[0xcd, 0, 5]);
-    assert!(rt; matches!(&read, Ok(Some(5))));
-    let read: Result<Option<u16>, Error> = from_slice_strict(rt.alloc(), &[0xcd, 0, 5]);
-    assert!(rt; matches!(&read, Err(Error::NotCanonical)));
-    let read: Result<Option<u16>, Error> = from_slice_strict(rt.alloc(), &[0xcd, 1, 5]);
-    assert!(rt; matches!(&read, Ok(Some(261))));
+    let pair: (Option<Option<u32>>, Option<Option<u32>>) = (None, Some(Some(13)));
+    reads(&rt, &[0x92, 0xc0, 0x0d], pair);
+    reads(&rt, &[0xcc, 200], Some(200u8));
+    reads::<Option<()>>(&rt, &[0xc0], None);
+    reads(&rt, &[0xcd, 0, 5], Some(5u16));
+    reads_items(&rt, &[0xc4, 2, 0xc0, 1], &[Some(0xc0u8), Some(1)]);
+}
+
+#[test]
+fn refused_options(rt: HostRuntime) {
+    refuses::<Option<u16>>(&rt, &[0xa1, 0x21], "wrong msgpack marker FixStr(1)");
+    refuses::<Option<u8>>(&rt, &[], NO_MARKER);
+    refuses::<Option<u8>>(&rt, &[0xcc], NO_DATA);
+    refuses_strictly::<Option<u16>>(&rt, &[0xcd, 0, 5], NOT_CANONICAL);
+    reads_strictly(&rt, &[0xcd, 1, 5], Some(261u16));
 }
 
 // The reserved byte isn't eaten: the value's type refuses it, and a second read fails.
 #[test]
 fn reserved_option(rt: HostRuntime) {
-    let mut de = Deserializer::from_read_ref(rt.alloc(), &[0xc1, 0x05]);
-    let read: Result<Option<u8>, Error> = Deserialize::deserialize(&mut de);
-    assert!(rt; matches!(&read, Err(Error::TypeMismatch(Marker::Reserved))));
-    let again: Result<Option<u8>, Error> = Deserialize::deserialize(&mut de);
-    assert!(rt; matches!(&again, Err(Error::Uncategorized(Text::FailedBefore))));
+    let mut de = reader(&rt, &[0xc1, 0x05]);
+    next_refused::<Option<u8>>(&rt, &mut de, RESERVED);
+    next_refused::<Option<u8>>(&rt, &mut de, FAILED_BEFORE);
+}
+
+fn option<'de, T: Deserialize<'de, ReadRefReader<'de>>>(
+    de: &mut SliceReader<'de>,
+) -> Result<Option<T>, Error> {
+    de.deserialize_option()
 }
 
 #[test]
 fn options_in_turn(rt: HostRuntime) {
-    let mut de = Deserializer::from_read_ref(rt.alloc(), &[0xc0, 0x05, 0xa1, 0x78, 0xc3]);
-    let none: Result<Option<u8>, Error> = de.deserialize_option();
-    assert!(rt; matches!(&none, Ok(None)));
-    let five: Result<Option<u8>, Error> = de.deserialize_option();
-    assert!(rt; matches!(&five, Ok(Some(5))));
-    let text: Result<Option<&str>, Error> = de.deserialize_option();
-    assert!(rt; matches!(&text, Ok(Some("x"))));
-    let truth: Result<Option<bool>, Error> = Deserialize::deserialize(&mut de);
-    assert!(rt; matches!(&truth, Ok(Some(true))));
-    assert!(rt; de.remaining_slice().is_empty());
+    let mut de = reader(&rt, &[0xc0, 0x05, 0xa1, 0x78, 0xc3]);
+    gives(&rt, option::<u8>(&mut de), None);
+    gives(&rt, option(&mut de), Some(5u8));
+    gives(&rt, option(&mut de), Some("x"));
+    next(&rt, &mut de, Some(true));
+    ahead(&rt, &de, &[]);
 }
 
 #[test]
 fn missing_options(rt: HostRuntime) {
-    let none: Option<Option<u8>> = Deserialize::<rmp_wire::ReadRefReader>::missing();
+    let none: Option<Option<u8>> = Deserialize::<ReadRefReader>::missing();
     assert!(rt; matches!(&none, Some(None)));
 }
 
 #[test]
 fn signed_128(rt: HostRuntime) {
-    let mut wide = [0u8; 19];
-    wide[0] = 0xc5;
-    wide[2] = 16;
-    wide[18] = 7;
-    assert!(rt; matches!(&from_slice::<i128>(rt.alloc(), &wide), Ok(7)));
-    assert!(rt; matches!(&from_slice::<i128>(rt.alloc(), &SEVEN), Ok(7)));
-    assert!(rt; matches!(&from_slice::<i128>(rt.alloc(), &ALL), Ok(-1)));
-    assert!(rt; matches!(&from_slice::<i128>(rt.alloc(), &[0xff]), Ok(-1)));
-    assert!(rt; matches!(&from_slice::<i128>(rt.alloc(), &[0xcd, 1, 0x2c]), Ok(300)));
-    assert!(rt; matches!(&from_slice_strict::<i128>(rt.alloc(), &SEVEN), Ok(7)));
-    assert!(rt;
-        matches!(
-            &from_slice_strict::<i128>(rt.alloc(), &wide),
-            Err(Error::NotCanonical)
-        )
+    reads(&rt, &WIDE, 7i128);
+    reads(&rt, &SEVEN, 7i128);
+    reads(&rt, &ALL, -1i128);
+    reads(&rt, &[0xff], -1i128);
+    reads(&rt, &[0xcd, 1, 0x2c], 300i128);
+    reads_strictly(&rt, &SEVEN, 7i128);
+    refuses_strictly::<i128>(&rt, &WIDE, NOT_CANONICAL);
+    refuses::<i128>(
+        &rt,
+        &[0xc4, 1, 7],
+        "array had incorrect length, expected 16",
     );
-    assert!(rt;
-        matches!(
-            &from_slice::<i128>(rt.alloc(), &[0xc4, 1, 7]),
-            Err(Error::LengthMismatch(16))
-        )
-    );
-    assert!(rt;
-        matches!(
-            &from_slice::<i128>(rt.alloc(), &[0x91, 7]),
-            Err(Error::LengthMismatch(16))
-        )
-    );
-    assert!(rt;
-        matches!(
-            &from_slice::<i128>(rt.alloc(), &[0xdc, 0, 0]),
-            Err(Error::TypeMismatch(Marker::Array16))
-        )
-    );
-    match from_slice::<i128>(rt.alloc(), &SEVEN[..17]) {
-        Err(Error::InvalidDataRead(e)) => assert!(rt; e.kind() == ErrorKind::UnexpectedEof),
-        _ => assert!(rt; false),
-    }
+    refuses::<i128>(&rt, &[0x91, 7], "array had incorrect length, expected 16");
+    refuses::<i128>(&rt, &[0xdc, 0, 0], "wrong msgpack marker Array16");
+    refuses::<i128>(&rt, &SEVEN[..17], NO_DATA);
 }
 
 #[test]
 fn unsigned_128(rt: HostRuntime) {
-    assert!(rt; matches!(&from_slice::<u128>(rt.alloc(), &[0x2a]), Ok(42)));
-    assert!(rt; matches!(&from_slice::<u128>(rt.alloc(), &[0xd1, 1, 0x2c]), Ok(300)));
-    assert!(rt; matches!(&from_slice::<u128>(rt.alloc(), &SEVEN), Ok(7)));
-    assert!(rt; matches!(&from_slice::<u128>(rt.alloc(), &ALL), Ok(u128::MAX)));
-    assert!(rt;
-        matches!(
-            &from_slice::<u128>(rt.alloc(), &[0xff]),
-            Err(Error::OutOfRange)
-        )
+    reads(&rt, &[0x2a], 42u128);
+    reads(&rt, &[0xd1, 1, 0x2c], 300u128);
+    reads(&rt, &SEVEN, 7u128);
+    reads(&rt, &ALL, u128::MAX);
+    refuses::<u128>(&rt, &[0xff], "numeric cast found out of range");
+    refuses::<u128>(
+        &rt,
+        &[0xc4, 2, 0, 7],
+        "array had incorrect length, expected 16",
     );
-    assert!(rt;
-        matches!(
-            &from_slice::<u128>(rt.alloc(), &[0xc4, 2, 0, 7]),
-            Err(Error::LengthMismatch(16))
-        )
-    );
-    assert!(rt;
-        matches!(
-            &from_slice::<u128>(rt.alloc(), &[0x90]),
-            Err(Error::LengthMismatch(16))
-        )
-    );
-    assert!(rt;
-        matches!(
-            &from_slice::<u128>(rt.alloc(), &[0xc3]),
-            Err(Error::TypeMismatch(Marker::True))
-        )
-    );
-    assert!(rt;
-        matches!(
-            &from_slice::<u128>(rt.alloc(), &[0xc1]),
-            Err(Error::TypeMismatch(Marker::Reserved))
-        )
-    );
+    refuses::<u128>(&rt, &[0x90], "array had incorrect length, expected 16");
+    refuses::<u128>(&rt, &[0xc3], "wrong msgpack marker True");
+    refuses::<u128>(&rt, &[0xc1], RESERVED);
+}
+
+fn unit_struct(de: &mut SliceReader) -> Result<(), Error> {
+    de.deserialize_unit_struct("Nothing")
 }
 
 #[test]
@@ -161,44 +113,36 @@ fn unit_structs(rt: HostRuntime) {
         &[0xdc, 0, 0],
         &[0xdd, 0, 0, 0, 0],
     ] {
-        let mut de = Deserializer::from_read_ref(rt.alloc(), input);
-        assert!(rt; matches!(&de.deserialize_unit_struct("Nothing"), Ok(())));
-        assert!(rt; de.remaining_slice().is_empty());
+        let mut de = reader(&rt, input);
+        gives(&rt, unit_struct(&mut de), ());
+        ahead(&rt, &de, &[]);
     }
+}
+
+#[test]
+fn refused_unit_structs(rt: HostRuntime) {
     for input in [[0x91u8, 0xc0].as_slice(), &[0x80], &[0x05], &[0xc4, 0]] {
-        let mut de = Deserializer::from_read_ref(rt.alloc(), input);
-        assert!(rt;
-            matches!(
-                &de.deserialize_unit_struct("Nothing"),
-                Err(Error::Syntax(Text::InvalidType))
-            )
-        );
+        refused(&rt, unit_struct(&mut reader(&rt, input)), INVALID_TYPE);
     }
-    let mut de = Deserializer::from_read_ref(rt.alloc(), &[0xdc, 0, 0]);
+    let mut de = reader(&rt, &[0xdc, 0, 0]);
     de.set_strict(true);
-    assert!(rt;
-        matches!(
-            &de.deserialize_unit_struct("Nothing"),
-            Err(Error::NotCanonical)
-        )
-    );
-    let mut de = Deserializer::from_read_ref(rt.alloc(), &[0xc1]);
-    assert!(rt;
-        matches!(
-            &de.deserialize_unit_struct("Nothing"),
-            Err(Error::TypeMismatch(Marker::Reserved))
-        )
-    );
+    refused(&rt, unit_struct(&mut de), NOT_CANONICAL);
+    refused(&rt, unit_struct(&mut reader(&rt, &[0xc1])), RESERVED);
+}
+
+fn newtype_struct(de: &mut SliceReader, name: &str) -> Result<u64, Error> {
+    de.deserialize_newtype_struct(name)
 }
 
 #[test]
 fn newtype_structs(rt: HostRuntime) {
-    let mut de = Deserializer::from_read_ref(rt.alloc(), &[0x2a, 0xc1]);
-    let read: Result<u64, Error> = de.deserialize_newtype_struct("Meters");
-    assert!(rt; matches!(&read, Ok(42)));
-    let read: Result<u64, Error> = de.deserialize_newtype_struct(MSGPACK_EXT_STRUCT_NAME);
-    assert!(rt; matches!(&read, Err(Error::Syntax(Text::ReadByExt))));
-    assert!(rt; de.remaining_slice().len() == 1);
-    let again: Result<u64, Error> = de.deserialize_newtype_struct("_ExtStruct");
-    assert!(rt; matches!(&again, Err(Error::Uncategorized(Text::FailedBefore))));
+    let mut de = reader(&rt, &[0x2a, 0xc1]);
+    gives(&rt, newtype_struct(&mut de, "Meters"), 42);
+    refused(
+        &rt,
+        newtype_struct(&mut de, MSGPACK_EXT_STRUCT_NAME),
+        "extensions are read by deserialize_ext",
+    );
+    ahead(&rt, &de, &[0xc1]);
+    refused(&rt, newtype_struct(&mut de, "_ExtStruct"), FAILED_BEFORE);
 }

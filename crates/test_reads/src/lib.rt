@@ -22,6 +22,8 @@ mod names;
 mod one_by_one;
 #[cfg(test)]
 mod readers;
+#[cfg(test)]
+mod rows;
 mod samples;
 #[cfg(test)]
 mod types;

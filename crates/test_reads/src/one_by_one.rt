@@ -1,7 +1,13 @@
+//! Structs whose fields are read one after another.
 use crate::by_hand::Pup;
+use crate::rows::{
+    FAILED_BEFORE, INVALID_LENGTH, INVALID_TYPE, NO_MARKER, NOT_CANONICAL, ahead, gives, next,
+    next_refused, reader, refused, refuses, refuses_strictly,
+};
 use rmp_decode::{Deserializer, Error, Text, from_slice, from_slice_strict};
 use rmp_wire::config::SerializerConfig;
 use rmp_wire::{Marker, Source};
+use std::process::Abort;
 
 fn small<R: Source, C: SerializerConfig>(de: &mut Deserializer<R, C>) -> Result<u8, Error> {
     de.deserialize_u8()
@@ -15,93 +21,62 @@ fn swallowed<R: Source, C: SerializerConfig>(de: &mut Deserializer<R, C>) -> Res
     }
 }
 
-fn is(read: &Result<Pup, Error>, name: &str, grams: u32) -> bool {
+// The read gave this pup.
+fn is(rt: &impl Abort, read: Result<Pup, Error>, name: &str, grams: u32) {
     match read {
-        Ok(pup) => pup.name.as_str() == name && pup.weight.grams == grams,
-        Err(_) => false,
+        Ok(pup) => assert_eq!(rt; (pup.name.as_str(), pup.weight.grams), (name, grams)),
+        Err(e) => panic!(rt; "{name} is refused: {e}"),
     }
 }
 
-fn read(rt: HostRuntime, input: &[u8]) -> Result<Pup, Error> {
-    from_slice(rt.alloc(), input)
+fn reads(rt: &(impl Abort + AllocGlobal), input: &[u8], name: &str, grams: u32) {
+    is(rt, from_slice(rt.alloc(), input), name, grams);
+}
+
+fn reads_strictly(rt: &(impl Abort + AllocGlobal), input: &[u8], name: &str, grams: u32) {
+    is(rt, from_slice_strict(rt.alloc(), input), name, grams);
 }
 
 #[test]
 fn from_a_map(rt: HostRuntime) {
     // in another order, with a name that is unknown
-    assert!(rt;
-        is(
-            &read(
-                rt,
-                b"\x83\xa6weight\x01\xa1\x78\x81\x05\x90\xa4name\xa5Bobby"
-            ),
-            "Bobby",
-            1
-        )
-    );
+    let input = b"\x83\xa6weight\x01\xa1\x78\x81\x05\x90\xa4name\xa5Bobby";
+    reads(&rt, input, "Bobby", 1);
     // places and bytes for names
-    assert!(rt; is(&read(rt, b"\x82\x01\x08\xc4\x04name\xa1A"), "A", 8));
+    reads(&rt, b"\x82\x01\x08\xc4\x04name\xa1A", "A", 8);
     // one that isn't there, for which something stands, and one for which nothing does
-    assert!(rt; is(&read(rt, b"\x81\x00\xa1A"), "A", 7));
-    assert!(rt;
-        matches!(
-            read(rt, b"\x81\x01\x08"),
-            Err(Error::Syntax(Text::MissingField))
-        )
-    );
-    assert!(rt;
-        matches!(
-            read(rt, b"\x82\x01\x08\x01\xc0"),
-            Err(Error::Syntax(Text::DuplicateField))
-        )
-    );
-    assert!(rt;
-        matches!(
-            read(rt, b"\x81\xff\x08"),
-            Err(Error::Syntax(Text::InvalidType))
-        )
-    );
-    assert!(rt;
-        matches!(
-            read(rt, b"\x81\x01\xc3"),
-            Err(Error::Syntax(Text::InvalidType))
-        )
-    );
-    assert!(rt; matches!(read(rt, b"\x82\x01\x08"), Err(Error::InvalidMarkerRead(_))));
-    assert!(rt; matches!(read(rt, b"\xc0"), Err(Error::Syntax(Text::InvalidType))));
+    reads(&rt, b"\x81\x00\xa1A", "A", 7);
+    refuses::<Pup>(&rt, b"\x81\x01\x08", "missing field");
+    refuses::<Pup>(&rt, b"\x82\x01\x08\x01\xc0", "duplicate field");
+    refuses::<Pup>(&rt, b"\x81\xff\x08", INVALID_TYPE);
+    refuses::<Pup>(&rt, b"\x81\x01\xc3", INVALID_TYPE);
+    refuses::<Pup>(&rt, b"\x82\x01\x08", NO_MARKER);
+    refuses::<Pup>(&rt, b"\xc0", INVALID_TYPE);
 }
 
 #[test]
 fn from_a_list(rt: HostRuntime) {
-    assert!(rt; is(&read(rt, b"\x92\xa5Bobby\x08"), "Bobby", 8));
-    assert!(rt;
-        matches!(
-            read(rt, b"\x91\xa5Bobby"),
-            Err(Error::Syntax(Text::InvalidLength))
-        )
+    reads(&rt, b"\x92\xa5Bobby\x08", "Bobby", 8);
+    refuses::<Pup>(&rt, b"\x91\xa5Bobby", INVALID_LENGTH);
+    refuses::<Pup>(
+        &rt,
+        b"\x93\xa5Bobby\x08\x07",
+        "array had incorrect length, expected 2",
     );
-    assert!(rt;
-        matches!(
-            read(rt, b"\x93\xa5Bobby\x08\x07"),
-            Err(Error::LengthMismatch(2))
-        )
-    );
-    assert!(rt; matches!(read(rt, b"\x90"), Err(Error::Syntax(Text::InvalidLength))));
+    refuses::<Pup>(&rt, b"\x90", INVALID_LENGTH);
 }
 
 #[test]
 fn strictly(rt: HostRuntime) {
     let wide = b"\xdc\x00\x02\xa1A\x08";
-    assert!(rt; is(&read(rt, wide), "A", 8));
-    let strict: Result<Pup, Error> = from_slice_strict(rt.alloc(), wide);
-    assert!(rt; matches!(strict, Err(Error::NotCanonical)));
-    let strict: Result<Pup, Error> = from_slice_strict(rt.alloc(), b"\x82\x01\x08\xa4name\xa1A");
-    assert!(rt; is(&strict, "A", 8));
+    reads(&rt, wide, "A", 8);
+    refuses_strictly::<Pup>(&rt, wide, NOT_CANONICAL);
+    reads_strictly(&rt, b"\x82\x01\x08\xa4name\xa1A", "A", 8);
 }
 
 #[test]
 fn bytes_are_numbers(rt: HostRuntime) {
-    let mut de = Deserializer::from_read_ref(rt.alloc(), &[0xc4, 2, 5, 200, 7]);
+    let mut de = reader(&rt, &[0xc4, 2, 5, 200, 7]);
     match de.deserialize_struct("Both", &["first", "second"]) {
         Ok(mut fields) => {
             assert_eq!(rt; fields.left(), 2);
@@ -115,31 +90,26 @@ fn bytes_are_numbers(rt: HostRuntime) {
             assert!(rt; matches!(fields.next_field(), Ok(None)));
             let missing: Result<Option<u8>, Error> = fields.missing_field();
             assert!(rt; matches!(missing, Err(Error::Syntax(Text::MissingField))));
-            assert!(rt; fields.end().is_err());
+            refused(&rt, fields.end(), FAILED_BEFORE);
         }
         Err(_) => assert!(rt; false),
     }
-    assert_eq!(rt; de.remaining_slice(), [7u8].as_slice());
+    ahead(&rt, &de, &[7]);
 }
 
 #[test]
 fn an_access_that_is_dropped_leaves_the_reader_failed(rt: HostRuntime) {
-    let mut de = Deserializer::from_read_ref(rt.alloc(), &[0x80, 7]);
+    let mut de = reader(&rt, &[0x80, 7]);
     match de.deserialize_struct("None", &[]) {
         Ok(fields) => drop(fields),
         Err(_) => assert!(rt; false),
     }
-    assert!(rt;
-        matches!(
-            de.deserialize_u8(),
-            Err(Error::Uncategorized(Text::FailedBefore))
-        )
-    );
+    next_refused::<u8>(&rt, &mut de, FAILED_BEFORE);
 }
 
 #[test]
 fn as_the_content_of_a_variant(rt: HostRuntime) {
-    let mut de = Deserializer::from_read_ref(rt.alloc(), b"\x81\xa1A\x81\xa1x\x05\x07");
+    let mut de = reader(&rt, b"\x81\xa1A\x81\xa1x\x05\x07");
     match de.deserialize_enum(&["A"]) {
         Ok((_, variant)) => match variant.struct_variant(&["x"]) {
             Ok(mut fields) => {
@@ -149,14 +119,18 @@ fn as_the_content_of_a_variant(rt: HostRuntime) {
                 assert!(rt; matches!(fields.next_field(), Ok(None)));
                 let missing: Result<Option<u8>, Error> = fields.missing_field();
                 assert!(rt; matches!(missing, Ok(None)));
-                assert!(rt; fields.end().is_ok());
+                gives(&rt, fields.end(), ());
             }
             Err(_) => assert!(rt; false),
         },
         Err(_) => assert!(rt; false),
     }
-    assert!(rt; matches!(de.deserialize_u8(), Ok(7)));
-    let mut de = Deserializer::from_read_ref(rt.alloc(), b"\xa1A");
+    next(&rt, &mut de, 7u8);
+}
+
+#[test]
+fn a_name_alone_has_no_fields(rt: HostRuntime) {
+    let mut de = reader(&rt, b"\xa1A");
     match de.deserialize_enum(&["A"]) {
         Ok((_, variant)) => match variant.struct_variant(&["x"]) {
             Ok(_) => assert!(rt; false),
@@ -173,23 +147,23 @@ fn values_by_a_function(rt: HostRuntime) {
         b"\xc4\x01\xc8\x07",
         b"\x81\xa1x\xcc\xc8\x07",
     ] {
-        let mut de = Deserializer::from_read_ref(rt.alloc(), input);
+        let mut de = reader(&rt, input);
         match de.deserialize_struct("One", &["x"]) {
             Ok(mut fields) => {
                 assert!(rt; matches!(fields.next_field(), Ok(Some(0))));
                 assert!(rt; matches!(&fields.next_value_with(small), Ok(200)));
                 assert!(rt; !fields.owes_value());
-                assert!(rt; fields.end().is_ok());
+                gives(&rt, fields.end(), ());
             }
             Err(_) => assert!(rt; false),
         }
-        assert!(rt; matches!(de.deserialize_u8(), Ok(7)));
+        next(&rt, &mut de, 7u8);
     }
 }
 
 #[test]
 fn failures_of_the_function(rt: HostRuntime) {
-    let mut de = Deserializer::from_read_ref(rt.alloc(), b"\x92\xa0\x01");
+    let mut de = reader(&rt, b"\x92\xa0\x01");
     match de.deserialize_struct("One", &["x"]) {
         Ok(mut fields) => {
             assert!(rt; matches!(fields.next_field(), Ok(Some(0))));
@@ -200,7 +174,11 @@ fn failures_of_the_function(rt: HostRuntime) {
         }
         Err(_) => assert!(rt; false),
     }
-    let mut de = Deserializer::from_read_ref(rt.alloc(), b"\x81\xa1x\x01");
+}
+
+#[test]
+fn a_value_whose_failure_is_swallowed(rt: HostRuntime) {
+    let mut de = reader(&rt, b"\x81\xa1x\x01");
     match de.deserialize_struct("One", &["x"]) {
         Ok(mut fields) => {
             assert!(rt; matches!(fields.next_field(), Ok(Some(0))));
@@ -209,7 +187,11 @@ fn failures_of_the_function(rt: HostRuntime) {
         }
         Err(_) => assert!(rt; false),
     }
-    let mut de = Deserializer::from_read_ref(rt.alloc(), b"\xc4\x01");
+}
+
+#[test]
+fn a_number_that_is_cut(rt: HostRuntime) {
+    let mut de = reader(&rt, b"\xc4\x01");
     match de.deserialize_struct("One", &["x"]) {
         Ok(mut fields) => {
             assert!(rt; matches!(fields.next_field(), Ok(Some(0))));

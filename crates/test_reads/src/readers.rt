@@ -1,10 +1,15 @@
+//! Values from sources that lend nothing: one that gives a byte a pull, and cursors.
+use crate::rows::{
+    FAILED_BEFORE, INVALID_TYPE, NO_DATA, NO_MARKER, gives, gives_items, gives_text, refused,
+};
 use crate::samples::Dog;
-use rmp_decode::{Deserialize, Deserializer, Error, Text, from_read, from_slice};
+use rmp_decode::{Deserialize, Deserializer, Error, from_read, from_slice};
 use rmp_wire::{ByteBuf, Ext, ReadReader, Source};
 use std::alloc::Global;
 use std::collections::{BTreeMap, BTreeSet, VecDeque};
 use std::io;
 use std::io::{Cursor, ErrorKind};
+use std::process::Abort;
 
 // A source that gives one byte a pull, and fails once so many bytes were pulled.
 #[derive(Drop)]
@@ -50,180 +55,284 @@ impl Source for Drops<'_> {
 
 // A value from a source that gives one byte a pull.
 fn dripped<'a, T: Deserialize<'a, ReadReader<Drops<'a>>>>(
-    rt: HostRuntime,
+    rt: &impl AllocGlobal,
     bytes: &'a [u8],
 ) -> Result<T, Error> {
     from_read(rt.alloc(), Drops::new(bytes, 1000))
 }
 
+type OverCursor<'a> = Deserializer<ReadReader<Cursor<&'a [u8]>>>;
+
+fn over_cursor<'a>(rt: &impl AllocGlobal, input: &'a [u8]) -> OverCursor<'a> {
+    Deserializer::new(rt.alloc(), Cursor::new(input))
+}
+
+fn buffers(de: &mut OverCursor) -> Result<(ByteBuf, ByteBuf), Error> {
+    Deserialize::deserialize(de)
+}
+
+fn small(de: &mut OverCursor) -> Result<u8, Error> {
+    de.deserialize_u8()
+}
+
+fn unit(de: &mut OverCursor) -> Result<(), Error> {
+    de.deserialize_unit()
+}
+
+// So many bytes were read.
+fn stands_at(rt: &impl Abort, de: &OverCursor, position: u64) {
+    assert_eq!(rt; de.position(), position);
+}
+
+fn are(read: &Result<(ByteBuf, ByteBuf), Error>, first: &[u8], second: &[u8]) -> bool {
+    match read {
+        Ok((one, other)) => one.as_bytes() == first && other.as_bytes() == second,
+        Err(_) => false,
+    }
+}
+
 #[test]
 fn byte_buffers_over_a_cursor(rt: HostRuntime) {
-    let input = b"\x92\xc4\x04quux\xc4\x03bar\x2a".as_slice();
-    let mut de = Deserializer::new(rt.alloc(), Cursor::new(input));
-    assert_eq!(rt; de.position(), 0);
-    let read: Result<(ByteBuf, ByteBuf), Error> = Deserialize::deserialize(&mut de);
-    match read {
-        Ok((first, second)) => {
-            assert_eq!(rt; first.as_bytes(), b"quux".as_slice());
-            assert_eq!(rt; second.as_bytes(), b"bar".as_slice());
-        }
-        Err(_) => assert!(rt; false),
-    }
-    assert_eq!(rt; de.position(), 12);
-    assert!(rt; matches!(&de.deserialize_u8(), Ok(42)));
+    let mut de = over_cursor(&rt, b"\x92\xc4\x04quux\xc4\x03bar\x2a");
+    stands_at(&rt, &de, 0);
+    assert!(rt; are(&buffers(&mut de), b"quux", b"bar"));
+    stands_at(&rt, &de, 12);
+    gives(&rt, small(&mut de), 42);
     assert_eq!(rt; de.into_inner().position(), 13);
+}
+
+type Options = (Option<Option<u32>>, Option<Option<u32>>);
+
+// The pair of options that a cursor over owned bytes gives, and where it then stands.
+fn options(alloc: Global, input: &[u8]) -> Result<(Options, u64), Error> {
+    let mut bytes = Vec::new(alloc);
+    bytes.extend_from_slice(input)?;
+    let mut de = Deserializer::new(alloc, Cursor::new(bytes));
+    match Deserialize::deserialize(&mut de) {
+        Ok(read) => Ok((read, de.position())),
+        Err(e) => Err(e),
+    }
 }
 
 #[test]
 fn options_over_a_cursor(rt: HostRuntime) {
-    let mut bytes = Vec::new(rt.alloc());
-    assert!(rt; bytes.extend_from_slice(&[0x92, 0xc0, 0x0d]).is_ok());
-    let mut de = Deserializer::new(rt.alloc(), Cursor::new(bytes));
-    let read: Result<(Option<Option<u32>>, Option<Option<u32>>), Error> = Deserialize::deserialize(
-        &mut de,
-    );
-    assert!(rt; matches!(&read, Ok((None, Some(Some(13))))));
-    assert_eq!(rt; de.position(), 3);
+    let read = options(rt.alloc(), &[0x92, 0xc0, 0x0d]);
+    gives(&rt, read, ((None, Some(Some(13))), 3));
 }
 
 #[test]
 fn a_kept_byte_counts_as_read(rt: HostRuntime) {
-    let mut de = Deserializer::new(rt.alloc(), Cursor::new([0x0du8, 0x2a].as_slice()));
+    let mut de = over_cursor(&rt, &[0x0d, 0x2a]);
     let mut inside = 0;
     let read = de.deserialize_option_with(|de| {
         inside = de.position();
         de.deserialize_u8()
     });
-    assert!(rt; matches!(&read, Ok(Some(13))));
+    gives(&rt, read, Some(13));
     assert_eq!(rt; inside, 1);
-    assert_eq!(rt; de.position(), 1);
+    stands_at(&rt, &de, 1);
+}
+
+// Sets where the source stands.
+fn set_position(de: &mut OverCursor, position: u64) {
+    de.get_mut().set_position(position);
 }
 
 #[test]
 fn the_source_is_shown_and_changed(rt: HostRuntime) {
-    let mut de = Deserializer::new(rt.alloc(), Cursor::new([0xc0u8].as_slice()));
-    assert!(rt; de.deserialize_unit().is_ok());
+    let mut de = over_cursor(&rt, &[0xc0]);
+    gives(&rt, unit(&mut de), ());
     assert_eq!(rt; de.get_ref().position(), 1);
-    de.get_mut().set_position(0);
-    assert!(rt; de.deserialize_unit().is_ok());
-    assert_eq!(rt; de.position(), 1);
-    match de.deserialize_unit() {
-        Err(Error::InvalidMarkerRead(e)) => assert!(rt; e.kind() == ErrorKind::UnexpectedEof),
-        _ => assert!(rt; false),
-    }
+    set_position(&mut de, 0);
+    gives(&rt, unit(&mut de), ());
+    stands_at(&rt, &de, 1);
+    refused(&rt, unit(&mut de), NO_MARKER);
     // what has failed stays so, whatever the source has ahead then
-    de.get_mut().set_position(0);
-    assert!(rt;
-        matches!(
-            &de.deserialize_unit(),
-            Err(Error::Uncategorized(Text::FailedBefore))
-        )
-    );
-    assert_eq!(rt; de.position(), 0);
+    set_position(&mut de, 0);
+    refused(&rt, unit(&mut de), FAILED_BEFORE);
+    stands_at(&rt, &de, 0);
+}
+
+fn text_from(rt: &impl AllocGlobal, source: &mut Drops) -> Result<String, Error> {
+    from_read(rt.alloc(), source)
+}
+
+fn number_from(rt: &impl AllocGlobal, source: &mut Drops) -> Result<u8, Error> {
+    from_read(rt.alloc(), source)
+}
+
+fn truth_from(rt: &impl AllocGlobal, source: &mut Drops) -> Result<bool, Error> {
+    from_read(rt.alloc(), source)
 }
 
 #[test]
 fn what_follows_stays_in_the_source(rt: HostRuntime) {
-    let input = b"\xa3abc\x05\xc3\x07".as_slice();
-    let mut source = Drops::new(input, 1000);
-    let text: Result<String, Error> = from_read(rt.alloc(), &mut source);
-    assert!(rt; matches!(&text, Ok(text) if text.as_str() == "abc"));
-    let number: Result<u8, Error> = from_read(rt.alloc(), &mut source);
-    assert!(rt; matches!(&number, Ok(5)));
-    let truth: Result<bool, Error> = from_read(rt.alloc(), &mut source);
-    assert!(rt; matches!(&truth, Ok(true)));
+    let mut source = Drops::new(b"\xa3abc\x05\xc3\x07", 1000);
+    gives_text(&rt, text_from(&rt, &mut source), "abc");
+    gives(&rt, number_from(&rt, &mut source), 5);
+    gives(&rt, truth_from(&rt, &mut source), true);
     assert_eq!(rt; source.bytes, b"\x07".as_slice());
+}
+
+fn queue_of(rt: &impl AllocGlobal, bytes: &[u8]) -> Result<(usize, Option<Option<bool>>), Error> {
+    match dripped::<VecDeque<Option<bool>>>(rt, bytes) {
+        Ok(queue) => Ok((queue.len(), queue.get(2).copied())),
+        Err(e) => Err(e),
+    }
+}
+
+fn map_of(rt: &impl AllocGlobal, bytes: &[u8]) -> Result<(usize, Option<i16>), Error> {
+    match dripped::<BTreeMap<String, i16>>(rt, bytes) {
+        Ok(map) => Ok((map.len(), map.get("b").copied())),
+        Err(e) => Err(e),
+    }
+}
+
+fn size_of_set(rt: &impl AllocGlobal, bytes: &[u8]) -> Result<usize, Error> {
+    match dripped::<BTreeSet<u8>>(rt, bytes) {
+        Ok(set) => Ok(set.len()),
+        Err(e) => Err(e),
+    }
+}
+
+fn number_of_lists(rt: &impl AllocGlobal, bytes: &[u8]) -> Result<usize, Error> {
+    match dripped::<Vec<Vec<u16>>>(rt, bytes) {
+        Ok(lists) => Ok(lists.len()),
+        Err(e) => Err(e),
+    }
 }
 
 #[test]
 fn lists_and_maps_by_the_byte(rt: HostRuntime) {
-    let read: Result<Vec<u32>, Error> = dripped(rt, b"\x93\x01\xcd\x01\x00\xce\x00\x01\x00\x00");
-    assert!(rt; matches!(&read, Ok(v) if v.as_slice() == [1, 256, 65536].as_slice()));
-    let read: Result<Vec<u8>, Error> = dripped(rt, b"\xc4\x03abc");
-    assert!(rt; matches!(&read, Ok(v) if v.as_slice() == b"abc".as_slice()));
-    let read: Result<VecDeque<Option<bool>>, Error> = dripped(rt, b"\x93\xc2\xc0\xc3");
-    assert!(rt; matches!(&read, Ok(v) if v.len() == 3 && v.get(2) == Some(&Some(true))));
-    let read: Result<BTreeMap<String, i16>, Error> = dripped(rt, b"\x82\xa1a\xff\xa1b\xd1\x80\x00");
-    assert!(rt; matches!(&read, Ok(m) if m.len() == 2 && m.get("b") == Some(&-32768)));
-    let read: Result<BTreeSet<u8>, Error> = dripped(rt, b"\x93\x03\x01\x03");
-    assert!(rt; matches!(&read, Ok(s) if s.len() == 2));
-    let read: Result<[u8; 2], Error> = dripped(rt, b"\xc4\x02\x07\x08");
-    assert!(rt; matches!(&read, Ok([7, 8])));
-    let read: Result<Vec<Vec<u16>>, Error> = dripped(rt, b"\x92\x91\x07\x90");
-    assert!(rt; matches!(&read, Ok(v) if v.len() == 2));
+    gives_items(
+        &rt,
+        dripped(&rt, b"\x93\x01\xcd\x01\x00\xce\x00\x01\x00\x00"),
+        &[1u32, 256, 65536],
+    );
+    gives_items(&rt, dripped(&rt, b"\xc4\x03abc"), b"abc");
+    gives(
+        &rt,
+        queue_of(&rt, b"\x93\xc2\xc0\xc3"),
+        (3, Some(Some(true))),
+    );
+    gives(
+        &rt,
+        map_of(&rt, b"\x82\xa1a\xff\xa1b\xd1\x80\x00"),
+        (2, Some(-32768)),
+    );
+    gives(&rt, size_of_set(&rt, b"\x93\x03\x01\x03"), 2);
+    gives(&rt, dripped(&rt, b"\xc4\x02\x07\x08"), [7u8, 8]);
+    gives(&rt, number_of_lists(&rt, b"\x92\x91\x07\x90"), 2);
+}
+
+// The text behind the number 42.
+fn text_of(rt: &impl AllocGlobal, bytes: &[u8]) -> Result<String, Error> {
+    match dripped::<(u32, String)>(rt, bytes) {
+        Ok((42, text)) => Ok(text),
+        Ok(_) => Err(Error::OutOfRange),
+        Err(e) => Err(e),
+    }
+}
+
+fn is_bobby(read: &Result<Dog, Error>) -> bool {
+    matches!(read, Ok(dog) if dog.name.as_str() == "Bobby" && dog.age == 8 && dog.weight.grams == 1)
+}
+
+fn is_ext(read: &Result<Ext, Error>, tag: i8, content: &[u8]) -> bool {
+    matches!(read, Ok(ext) if ext.tag() == tag && ext.as_bytes() == content)
+}
+
+fn boxed(rt: &impl AllocGlobal, bytes: &[u8]) -> Result<char, Error> {
+    match dripped::<Box<char>>(rt, bytes) {
+        Ok(c) => Ok(*c),
+        Err(e) => Err(e),
+    }
 }
 
 #[test]
 fn texts_and_structs_by_the_byte(rt: HostRuntime) {
-    let read: Result<(u32, String), Error> = dripped(rt, b"\x92\x2a\xa3the");
-    assert!(rt; matches!(&read, Ok((42, text)) if text.as_str() == "the"));
-    let read: Result<Dog, Error> = dripped(
-        rt,
-        b"\x84\xa1\x78\x81\x05\x90\xa3age\x08\xa6weight\x01\xa4name\xa5Bobby",
-    );
-    assert!(rt;
-        matches!(&read, Ok(dog) if dog.name.as_str() == "Bobby" && dog.age == 8 && dog.weight.grams == 1)
-    );
-    let read: Result<Ext, Error> = dripped(rt, b"\xd5\xff\x01\x02");
-    assert!(rt; matches!(&read, Ok(ext) if ext.tag() == -1 && ext.as_bytes() == [1, 2].as_slice()));
-    let read: Result<Box<char>, Error> = dripped(rt, b"\xa2\xc3\xa9");
-    assert!(rt; matches!(&read, Ok(c) if **c == 'é'));
-    let read: Result<i128, Error> = dripped(
-        rt,
-        b"\xc4\x10\xff\xff\xff\xff\xff\xff\xff\xff\xff\xff\xff\xff\xff\xff\xff\xfe",
-    );
-    assert!(rt; matches!(&read, Ok(-2)));
-    // longer than one pull of a piece
-    let mut long = Vec::new(rt.alloc());
-    assert!(rt; long.extend_from_slice(&[0xda, 0x01, 0x2c]).is_ok());
-    assert!(rt; long.resize(303, b'x').is_ok());
-    let read: Result<String, Error> = dripped(rt, long.as_slice());
-    assert!(rt; matches!(&read, Ok(text) if text.len() == 300));
+    gives_text(&rt, text_of(&rt, b"\x92\x2a\xa3the"), "the");
+    let dog = b"\x84\xa1\x78\x81\x05\x90\xa3age\x08\xa6weight\x01\xa4name\xa5Bobby";
+    assert!(rt; is_bobby(&dripped(&rt, dog)));
+    assert!(rt; is_ext(&dripped(&rt, b"\xd5\xff\x01\x02"), -1, &[1, 2]));
+    gives(&rt, boxed(&rt, b"\xa2\xc3\xa9"), 'é');
+    let wide = b"\xc4\x10\xff\xff\xff\xff\xff\xff\xff\xff\xff\xff\xff\xff\xff\xff\xff\xfe";
+    gives(&rt, dripped(&rt, wide), -2i128);
+}
+
+fn length_of_text(rt: &impl AllocGlobal, bytes: &[u8]) -> Result<usize, Error> {
+    match dripped::<String>(rt, bytes) {
+        Ok(text) => Ok(text.len()),
+        Err(e) => Err(e),
+    }
+}
+
+// Longer than one pull of a piece.
+#[test]
+fn a_long_text_by_the_byte(rt: HostRuntime) {
+    let mut long = [b'x'; 303];
+    long[0] = 0xda;
+    long[1] = 0x01;
+    long[2] = 0x2c;
+    gives(&rt, length_of_text(&rt, &long), 300);
 }
 
 #[test]
 fn what_lends_nothing_refuses_what_borrows(rt: HostRuntime) {
-    let read: Result<&str, Error> = dripped(rt, b"\xa1a");
-    assert!(rt; matches!(&read, Err(Error::Syntax(Text::InvalidType))));
-    let read: Result<(u8, &str), Error> = dripped(rt, b"\x92\x05\xa1a");
-    assert!(rt; matches!(&read, Err(Error::Syntax(Text::InvalidType))));
+    refused::<&str>(&rt, dripped(&rt, b"\xa1a"), INVALID_TYPE);
+    refused::<(u8, &str)>(&rt, dripped(&rt, b"\x92\x05\xa1a"), INVALID_TYPE);
+}
+
+const LATE_MARKER: &str = "IO error while reading marker: timed out";
+
+const LATE_DATA: &str = "IO error while reading data: timed out";
+
+fn pair(rt: &impl AllocGlobal, bytes: &[u8]) -> Result<(u16, String), Error> {
+    dripped(rt, bytes)
+}
+
+fn pair_from(rt: &impl AllocGlobal, source: &mut Drops) -> Result<(u16, String), Error> {
+    from_read(rt.alloc(), source)
 }
 
 #[test]
 fn ends_and_faults_are_told_apart(rt: HostRuntime) {
     let whole = b"\x92\xcd\x01\x02\xa2hi".as_slice();
     for n in 0..whole.len() {
-        let read: Result<(u16, String), Error> = from_read(
-            rt.alloc(),
-            Drops::new(&whole[..n], 1000),
-        );
-        match &read {
-            Err(Error::InvalidMarkerRead(e)) => {
-                assert!(rt; (n < 2 || n == 4) && e.kind() == ErrorKind::UnexpectedEof)
-            }
-            Err(Error::InvalidDataRead(e)) => {
-                assert!(rt; n >= 2 && n != 4 && e.kind() == ErrorKind::UnexpectedEof)
-            }
-            _ => assert!(rt; false),
-        }
+        let (ended, late) = if n < 2 || n == 4 {
+            (NO_MARKER, LATE_MARKER)
+        } else {
+            (NO_DATA, LATE_DATA)
+        };
+        refused(&rt, pair(&rt, &whole[..n]), ended);
         let mut source = Drops::new(whole, n);
-        let failed: Result<(u16, String), Error> = from_read(rt.alloc(), &mut source);
-        match &failed {
-            Err(Error::InvalidMarkerRead(e)) => {
-                assert!(rt; (n < 2 || n == 4) && e.kind() == ErrorKind::TimedOut)
-            }
-            Err(Error::InvalidDataRead(e)) => {
-                assert!(rt; n >= 2 && n != 4 && e.kind() == ErrorKind::TimedOut)
-            }
-            _ => assert!(rt; false),
-        }
+        refused(&rt, pair_from(&rt, &mut source), late);
         assert_eq!(rt; source.faults, 1);
+    }
+}
+
+fn from_the_slice(rt: &impl AllocGlobal, row: &[u8]) -> Result<Vec<u8>, Error> {
+    from_slice(rt.alloc(), row)
+}
+
+// The two reads answer the same.
+fn are_alike(
+    rt: &(impl Abort + AllocGlobal),
+    lent: Result<Vec<u8>, Error>,
+    copied: Result<Vec<u8>, Error>,
+) {
+    match lent {
+        Ok(items) => gives_items(rt, copied, &items),
+        Err(e) => {
+            let why = format!(in rt.alloc(); "{e}").expect(rt, "memory");
+            refused(rt, copied, why.as_str());
+        }
     }
 }
 
 #[test]
 fn a_reader_answers_as_the_slice_does(rt: HostRuntime) {
-    let rows = [
+    for row in [
         b"\x93\x01\x02\x03".as_slice(),
         b"\x92\x05\xcc\xff",
         b"\xc4\x02\x01\xff",
@@ -232,22 +341,8 @@ fn a_reader_answers_as_the_slice_does(rt: HostRuntime) {
         b"\x91\xcd\x01\x00",
         b"\xa1a",
         b"\xdd\xff\xff\xff\xff\x01",
-    ];
-    for row in rows {
-        let lent: Result<Vec<u8>, Error> = from_slice(rt.alloc(), row);
-        let copied: Result<Vec<u8>, Error> = dripped(rt, row);
-        match (&lent, &copied) {
-            (Ok(a), Ok(b)) => assert_eq!(rt; a.as_slice(), b.as_slice()),
-            (Err(Error::InvalidMarkerRead(_)), Err(Error::InvalidMarkerRead(_))) => {}
-            (Err(Error::InvalidDataRead(_)), Err(Error::InvalidDataRead(_))) => {}
-            (Err(Error::TypeMismatch(a)), Err(Error::TypeMismatch(b))) => {
-                assert!(rt; a.to_u8() == b.to_u8())
-            }
-            (Err(Error::Syntax(a)), Err(Error::Syntax(b))) => {
-                assert_eq!(rt; a.as_str(), b.as_str())
-            }
-            _ => assert!(rt; false),
-        }
+    ] {
+        are_alike(&rt, from_the_slice(&rt, row), dripped(&rt, row));
     }
 }
 
@@ -260,7 +355,7 @@ fn owned(alloc: Global, bytes: &[u8]) -> Result<String, Error> {
 
 #[test]
 fn a_text_outlives_the_reader(rt: HostRuntime) {
-    assert!(rt; matches!(&owned(rt.alloc(), b"\xa2hi"), Ok(text) if text.as_str() == "hi"));
+    gives_text(&rt, owned(rt.alloc(), b"\xa2hi"), "hi");
 }
 
 // A pair whose text lives on when the reader is gone, as long as the bytes that it is lent from.
@@ -271,5 +366,5 @@ fn lent(alloc: Global, bytes: &[u8]) -> Result<(u8, &str), Error> {
 
 #[test]
 fn a_lent_text_outlives_the_reader(rt: HostRuntime) {
-    assert!(rt; matches!(&lent(rt.alloc(), b"\x92\x05\xa2hi"), Ok((5, "hi"))));
+    gives(&rt, lent(rt.alloc(), b"\x92\x05\xa2hi"), (5, "hi"));
 }

@@ -3,16 +3,15 @@ use faulty_io::Drip;
 use rmp_wire::{
     Head, IoFault, Marker, MarkerReadError, ValueReadError, next_head, read_head, read_marker,
 };
+use std::fmt::Debug;
 use std::io::ErrorKind;
 use std::process::Abort;
 
+// The bytes are this head, whole, from a slice and from a source that gives one a pull.
 fn is_head(rt: &impl Abort, bytes: &[u8], marker: Marker, head: Head) {
-    let mut whole = bytes;
-    assert_eq!(rt; next_head(&mut whole), Ok((marker, head)));
-    assert_eq!(rt; whole.len(), 0);
-    let mut drip = Drip::new(bytes, 100);
-    assert_eq!(rt; next_head(&mut drip), Ok((marker, head)));
-    assert_eq!(rt; drip.rest.len(), 0);
+    let want = Ok((marker, head));
+    same(rt, taken(bytes), (want, 0));
+    same(rt, dripped(bytes, 100), (want, 0, 0));
 }
 
 #[test]
@@ -106,64 +105,100 @@ fn extensions(rt: HostRuntime) {
     );
 }
 
+type ReadHead = Result<(Marker, Head), ValueReadError>;
+
 fn ends(kind: ErrorKind) -> ValueReadError {
     ValueReadError::InvalidDataRead(IoFault::from(kind))
 }
 
+fn no_marker(kind: ErrorKind) -> ValueReadError {
+    ValueReadError::InvalidMarkerRead(IoFault::from(kind))
+}
+
+// Both are the same.
+fn same<T: PartialEq + Debug + Drop>(rt: &impl Abort, answer: T, want: T) {
+    assert_eq!(rt; answer, want);
+}
+
+// The head in front, and how many bytes are then left.
+fn taken(bytes: &[u8]) -> (ReadHead, usize) {
+    let mut rest = bytes;
+    let read = next_head(&mut rest);
+    (read, rest.len())
+}
+
+fn head(bytes: &[u8]) -> ReadHead {
+    taken(bytes).0
+}
+
+fn marker(bytes: &[u8]) -> Result<Marker, MarkerReadError> {
+    let mut rest = bytes;
+    read_marker(&mut rest)
+}
+
+// What a source answers that fails after so many pulls, how much is then ahead, and how many faults there were.
+fn dripped(bytes: &[u8], until_fault: usize) -> (ReadHead, usize, u64) {
+    let mut drip = Drip::new(bytes, until_fault);
+    let read = next_head(&mut drip);
+    (read, drip.rest.len(), drip.faults)
+}
+
 #[test]
 fn cut_heads(rt: HostRuntime) {
-    let cut = Err(ends(ErrorKind::UnexpectedEof));
-    assert_eq!(rt; next_head(&mut [0xd9].as_slice()), cut);
-    assert_eq!(rt; next_head(&mut [0xcd, 0x01].as_slice()), cut);
-    assert_eq!(rt; next_head(&mut [0xc7, 0x01].as_slice()), cut);
-    assert_eq!(rt; next_head(&mut Drip::new(&[0xc7, 0x01], 100)), cut);
+    let cut = ends(ErrorKind::UnexpectedEof);
+    same(&rt, head(&[0xd9]), Err(cut));
+    same(&rt, head(&[0xcd, 0x01]), Err(cut));
+    same(&rt, head(&[0xc7, 0x01]), Err(cut));
+    same(&rt, dripped(&[0xc7, 0x01], 100), (Err(cut), 0, 0));
     let none = IoFault::from(ErrorKind::UnexpectedEof);
-    assert_eq!(rt; read_marker(&mut [].as_slice()), Err(MarkerReadError(none)));
-    assert_eq!(rt;
-        next_head(&mut [].as_slice()),
-        Err(ValueReadError::InvalidMarkerRead(none))
-    );
+    same(&rt, marker(&[]), Err(MarkerReadError(none)));
+    same(&rt, head(&[]), Err(ValueReadError::InvalidMarkerRead(none)));
+}
+
+// The head behind a marker, and how many bytes are then left.
+fn head_of(marker: Marker, bytes: &[u8]) -> (Result<Head, ValueReadError>, usize) {
+    let mut rest = bytes;
+    let read = read_head(marker, &mut rest);
+    (read, rest.len())
 }
 
 #[test]
 fn the_reserved_marker(rt: HostRuntime) {
-    let mut rest = [0x01, 0x02].as_slice();
     let refused = ValueReadError::TypeMismatch(Marker::Reserved);
-    assert_eq!(rt; read_head(Marker::Reserved, &mut rest), Err(refused));
-    assert_eq!(rt; rest.len(), 2);
-    assert_eq!(rt; next_head(&mut [0xc1, 0x01].as_slice()), Err(refused));
+    same(
+        &rt,
+        head_of(Marker::Reserved, &[0x01, 0x02]),
+        (Err(refused), 2),
+    );
+    same(&rt, head(&[0xc1, 0x01]), Err(refused));
 }
 
 #[test]
 fn a_payload_out_of_range(rt: HostRuntime) {
-    let mut rest = [].as_slice();
-    assert_eq!(rt;
-        read_head(Marker::FixArray(0x35), &mut rest),
-        Ok(Head::Array(5))
+    same(
+        &rt,
+        head_of(Marker::FixArray(0x35), &[]),
+        (Ok(Head::Array(5)), 0),
     );
-    assert_eq!(rt;
-        read_head(Marker::FixNeg(3), &mut rest),
-        Ok(Head::Whole(-29))
+    same(
+        &rt,
+        head_of(Marker::FixNeg(3), &[]),
+        (Ok(Head::Whole(-29)), 0),
     );
 }
 
 #[test]
 fn faults_of_the_source(rt: HostRuntime) {
     let bytes = [0xcd, 0x01, 0x2c];
-    let fault = IoFault::from(ErrorKind::TimedOut);
-    let mut first = Drip::new(&bytes, 0);
-    assert_eq!(rt;
-        next_head(&mut first),
-        Err(ValueReadError::InvalidMarkerRead(fault))
+    let late = ErrorKind::TimedOut;
+    same(&rt, dripped(&bytes, 0), (Err(no_marker(late)), 3, 1));
+    same(&rt, dripped(&bytes, 1), (Err(ends(late)), 2, 1));
+    same(&rt, dripped(&bytes, 2), (Err(ends(late)), 1, 1));
+    same(
+        &rt,
+        dripped(&bytes, 3),
+        (Ok((Marker::U16, Head::Whole(300))), 0, 0),
     );
-    let mut second = Drip::new(&bytes, 1);
-    assert_eq!(rt; next_head(&mut second), Err(ends(ErrorKind::TimedOut)));
-    let mut third = Drip::new(&bytes, 2);
-    assert_eq!(rt; next_head(&mut third), Err(ends(ErrorKind::TimedOut)));
-    assert_eq!(rt; third.rest.len(), 1);
-    assert_eq!(rt; third.faults, 1);
-    let mut fourth = Drip::new(&bytes, 3);
-    assert_eq!(rt; next_head(&mut fourth), Ok((Marker::U16, Head::Whole(300))));
 }
 
 #[test]
@@ -173,12 +208,18 @@ fn every_byte_is_its_marker(rt: HostRuntime) {
     }
 }
 
+// The head that a reference to a source gives, and how many bytes are then left.
+fn lent(bytes: &[u8]) -> (ReadHead, usize) {
+    let mut rest = bytes;
+    let mut lent = &mut rest;
+    let read = next_head(&mut lent);
+    (read, rest.len())
+}
+
 #[test]
 fn through_a_reference(rt: HostRuntime) {
-    let mut bytes = [0xcd, 0x01, 0x2c, 0xc0].as_slice();
-    let mut lent = &mut bytes;
-    assert_eq!(rt; next_head(&mut lent), Ok((Marker::U16, Head::Whole(300))));
-    assert_eq!(rt; bytes.len(), 1);
+    let input = [0xcd, 0x01, 0x2c, 0xc0];
+    same(&rt, lent(&input), (Ok((Marker::U16, Head::Whole(300))), 1));
 }
 
 #[test]

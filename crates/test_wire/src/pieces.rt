@@ -2,28 +2,35 @@
 use rmp_wire::{ReadRefReader, ReadSlice, Reference, Source, SourceFault};
 use std::io::ErrorKind;
 
+// Whether these bytes are lent next.
+fn lends(reader: &mut ReadRefReader, want: &[u8]) -> bool {
+    match reader.read_slice(want.len()) {
+        Ok(piece) => piece == Reference::Borrowed(want),
+        Err(_) => false,
+    }
+}
+
+// Whether the input ends before so many bytes.
+fn ends_before(reader: &mut ReadRefReader, len: usize) -> bool {
+    match reader.read_slice(len) {
+        Err(SourceFault::Io(e)) => e.kind() == ErrorKind::UnexpectedEof,
+        _ => false,
+    }
+}
+
+fn left_and_whole(reader: &ReadRefReader) -> (usize, usize) {
+    (reader.remaining_slice().len(), reader.whole().len())
+}
+
 #[test]
 fn pieces_in_turn(rt: HostRuntime) {
     let input = [0u8, 1, 2, 3, 4, 5, 6, 7, 8, 9, 10];
     let mut reader = ReadRefReader::new(&input);
-    match reader.read_slice(1) {
-        Ok(piece) => assert!(rt; piece == Reference::Borrowed(&[0])),
-        Err(_) => assert!(rt; false),
-    }
-    match reader.read_slice(6) {
-        Ok(piece) => assert!(rt; piece == Reference::Borrowed(&[1, 2, 3, 4, 5, 6])),
-        Err(_) => assert!(rt; false),
-    }
-    match reader.read_slice(5) {
-        Err(SourceFault::Io(e)) => assert!(rt; e.kind() == ErrorKind::UnexpectedEof),
-        _ => assert!(rt; false),
-    }
-    match reader.read_slice(4) {
-        Ok(piece) => assert!(rt; piece == Reference::Borrowed(&[7, 8, 9, 10])),
-        Err(_) => assert!(rt; false),
-    }
-    assert_eq!(rt; reader.remaining_slice().len(), 0);
-    assert_eq!(rt; reader.whole().len(), 11);
+    assert!(rt; lends(&mut reader, &[0]));
+    assert!(rt; lends(&mut reader, &[1, 2, 3, 4, 5, 6]));
+    assert!(rt; ends_before(&mut reader, 5));
+    assert!(rt; lends(&mut reader, &[7, 8, 9, 10]));
+    assert_eq!(rt; left_and_whole(&reader), (0, 11));
 }
 
 #[test]
@@ -38,16 +45,26 @@ fn references_differ(rt: HostRuntime) {
     assert_eq!(rt; copied.as_bytes(), bytes.as_slice());
 }
 
+fn skips<S: Source>(source: &mut S, len: usize) -> bool {
+    source.skip(len)
+}
+
+fn is_front<S: Source>(source: &S, want: &[u8]) -> bool {
+    source.front() == want
+}
+
+// Whether a source skips a byte and then has these in front, by a reference to it.
+fn skips_one_by_reference(mut rest: &[u8], want: &[u8]) -> bool {
+    let mut source = &mut rest;
+    skips(&mut source, 1) && is_front(&source, want)
+}
+
 #[test]
 fn front_and_skip(rt: HostRuntime) {
-    let input = [7u8, 8, 9];
-    let mut reader = ReadRefReader::new(&input);
-    assert_eq!(rt; reader.front(), input.as_slice());
-    assert!(rt; reader.skip(2));
-    assert_eq!(rt; reader.front(), [9u8].as_slice());
-    assert!(rt; !reader.skip(2));
-    let mut rest: &[u8] = &input;
-    let mut source = &mut rest;
-    assert!(rt; source.skip(1));
-    assert_eq!(rt; source.front(), [8u8, 9].as_slice());
+    let mut reader = ReadRefReader::new(&[7, 8, 9]);
+    assert!(rt; is_front(&reader, &[7, 8, 9]));
+    assert!(rt; skips(&mut reader, 2));
+    assert!(rt; is_front(&reader, &[9]));
+    assert!(rt; !skips(&mut reader, 2));
+    assert!(rt; skips_one_by_reference(&[7, 8, 9], &[8, 9]));
 }
