@@ -5,4 +5,4 @@ mod records;
 #[cfg(test)]
 mod tests;
 
-pub use records::{Records, next_record};
+pub use records::{Records, next_record, replay};

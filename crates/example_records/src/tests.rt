@@ -1,5 +1,5 @@
 //! Records, and a cut one.
-use crate::{Records, next_record};
+use crate::{Records, replay};
 use rmp_serde::Value;
 use rmp_serde::decode::Error;
 
@@ -14,11 +14,8 @@ fn whole_records_come_back_in_order(rt: HostRuntime) -> Result<(), Error> {
     assert!(rt; records.append(alloc, &first).is_ok());
     let log = records.as_slice();
     // the last record has lost its last byte
-    let (one, rest) = next_record(alloc, log.get(..12).unwrap_or(log))?;
-    assert!(rt; one == first);
-    let (two, rest) = next_record(alloc, rest)?;
-    assert!(rt; two == second);
+    let (read, rest) = replay(alloc, log.get(..12).unwrap_or(log))?;
+    assert!(rt; read.as_slice() == [first, second].as_slice());
     assert_eq!(rt; rest.len(), 4);
-    assert!(rt; next_record(alloc, rest).is_err());
     Ok(())
 }

@@ -58,6 +58,17 @@ pub trait Deserialize<'de, R: ReadSlice<'de>>: Sized + Drop {
 ///
 /// # Errors
 /// Any error but `OutOfMemory` says that no beginning of the input spells a message that the type reads.
+///
+/// # Examples
+/// ```
+/// use rmp_serde::from_slice;
+///
+/// // the 42 stands in three bytes, and the text is lent from the input
+/// let input = [0x92, 0xcd, 0x00, 0x2a, 0xa2, 0x69, 0x74];
+/// let (number, text): (u8, &str) = from_slice(alloc, &input)?;
+/// assert_eq!(rt; number, 42);
+/// assert_eq!(rt; text, "it");
+/// ```
 pub fn from_slice<'de, T: Deserialize<'de, ReadRefReader<'de>>>(
     alloc: Global,
     input: &'de [u8],
@@ -79,6 +90,17 @@ pub fn from_slice<'de, T: Deserialize<'de, ReadRefReader<'de>>>(
 ///
 /// # Errors
 /// Any error but `OutOfMemory` says that no beginning of the input is the canonical spelling of a message that the type reads.
+///
+/// # Examples
+/// ```
+/// use rmp_serde::decode::Error;
+/// use rmp_serde::from_slice_strict;
+///
+/// let number: u8 = from_slice_strict(alloc, &[0x2a])?;
+/// assert_eq!(rt; number, 42);
+/// let in_three_bytes: Result<u8, Error> = from_slice_strict(alloc, &[0xcd, 0x00, 0x2a]);
+/// assert!(rt; matches!(in_three_bytes, Err(Error::NotCanonical)));
+/// ```
 pub fn from_slice_strict<'de, T: Deserialize<'de, ReadRefReader<'de>>>(
     alloc: Global,
     input: &'de [u8],

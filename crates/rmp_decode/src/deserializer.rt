@@ -54,6 +54,17 @@ impl<'de> Deserializer<ReadRefReader<'de>, DefaultConfig> {
     ghost use Rattle.rmp_wire.specs.RefReader.{rest_of, whole_of};
 
     /// Reads from a slice, whose texts and bytes it lends. What it needs memory for comes from `alloc`.
+    ///
+    /// # Examples
+    /// ```
+    /// use rmp_serde::Deserializer;
+    /// use rmp_serde::decode::Deserialize;
+    ///
+    /// let mut de = Deserializer::from_read_ref(alloc, &[0x2a, 0xa2, 0x69, 0x74]);
+    /// assert_eq!(rt; u8::deserialize(&mut de)?, 42);
+    /// assert_eq!(rt; <&str>::deserialize(&mut de)?, "it");
+    /// assert!(rt; de.remaining_slice().is_empty());
+    /// ```
     pub fn from_read_ref(alloc: Global, input: &'de [u8]) -> Self
         ensures rest { rest_of (reader_of result) ≡ input.now }
         ensures whole { whole_of (reader_of result) ≡ input.now }

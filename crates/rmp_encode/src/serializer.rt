@@ -54,6 +54,18 @@ impl<W: Sink> Serializer<W> {
     /// A serializer with the default settings: structs are lists, values are written compactly, and no list is made bytes.
     ///
     /// `let mut se = Serializer::new(alloc, Vec::new(alloc)); se.serialize_u16(300)?; se.into_inner()` is `cd 01 2c`.
+    ///
+    /// # Examples
+    /// ```
+    /// use rmp_serde::Serializer;
+    /// use rmp_serde::encode::Serialize;
+    /// use std::vec::Vec;
+    ///
+    /// let mut se = Serializer::new(alloc, Vec::new(alloc));
+    /// 42u8.serialize(&mut se)?;
+    /// "it".serialize(&mut se)?;
+    /// assert_eq!(rt; se.into_inner().as_slice(), [0x2a, 0xa2, 0x69, 0x74].as_slice());
+    /// ```
     pub fn new(alloc: Global, wr: W) -> Serializer<W>
         ensures sink { sink_of result ≡ wr }
         ensures settings { settings_of result ≡ record { named = false; human = false; bytes = BytesMode.Normal } }

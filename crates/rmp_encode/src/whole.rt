@@ -15,6 +15,18 @@ use std::alloc::Global;
 /// # Errors
 /// The sink's fault, a length past 32 bits, the type's own refusal, or want of memory. The sink holds what it held before, and
 /// behind it a beginning of the spelling, if there is one.
+///
+/// # Examples
+/// ```
+/// use rmp_serde::encode::write;
+/// use rmp_serde::wire::SliceSink;
+///
+/// let mut room = [0; 5];
+/// let mut sink = SliceSink::new(&mut room);
+/// write(alloc, &mut sink, &(42u8, "it"))?;
+/// assert_eq!(rt; sink.written(), 5);
+/// assert_eq!(rt; room, [0x92, 0x2a, 0xa2, 0x69, 0x74]);
+/// ```
 pub fn write<W: Sink, T: Serialize>(alloc: Global, wr: &mut W, value: &T) -> Result<(), Error>
     ensures writes { WritesTree W.Sink (T.takes_memory default_settings || W.takes_memory) (tree_of default_settings (T.data_of value.now false)) wr.old
         wr.new result }
@@ -44,6 +56,14 @@ pub fn write_named<W: Sink, T: Serialize>(alloc: Global, wr: &mut W, value: &T) 
 ///
 /// # Errors
 /// `OutOfMemory`, a length past 32 bits (`InvalidDataModel`), or the type's own refusal (`Syntax`).
+///
+/// # Examples
+/// ```
+/// use rmp_serde::to_vec;
+///
+/// let bytes = to_vec(alloc, &(42u8, "it"))?;
+/// assert_eq!(rt; bytes.as_slice(), [0x92, 0x2a, 0xa2, 0x69, 0x74].as_slice());
+/// ```
 pub fn to_vec<T: Serialize>(alloc: Global, value: &T) -> Result<Vec<u8>, Error>
     ensures bytes { IfOk result (λ v. IsSpelled (tree_of default_settings (T.data_of value.now false)) v.items) }
     ensures value { OnOk result (T.is_value value.now) }

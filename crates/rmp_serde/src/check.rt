@@ -67,6 +67,15 @@ fn next_node(left: &mut &[u8]) -> Result<Option<u64>, Error>
 /// # Errors
 /// Where no such head comes before it: `InvalidMarkerRead` where the input ends before a message that is wanted,
 /// `InvalidDataRead` where it ends inside of a head or of content, and `TypeMismatch` at the byte c1.
+///
+/// # Examples
+/// ```
+/// use rmp_serde::{Canon, check_canonical};
+///
+/// assert!(rt; matches!(check_canonical(alloc, &[0x92, 0x05, 0xa1, 0x61, 0xc0])?, Canon::Whole(4)));
+/// // the head of the text stands in two bytes
+/// assert!(rt; matches!(check_canonical(alloc, &[0x92, 0x05, 0xd9, 0x01, 0x61])?, Canon::Fault(2)));
+/// ```
 pub fn check_canonical(_alloc: Global, input: &[u8]) -> Result<Canon, Error>
     // `Whole` exactly where a beginning of the input is the canonical spelling of a message,
     ensures whole { (n : ℕ) → (result ≡ Ok (Canon.Whole n)) ↔ IsWhole input.now n }

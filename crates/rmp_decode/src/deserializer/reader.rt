@@ -79,6 +79,18 @@ impl<T, C> Deserializer<ReadReader<Cursor<T>>, C> {
 ///
 /// # Errors
 /// Any error but `OutOfMemory` says that no beginning spells a message that the type reads, where the source had no fault.
+///
+/// # Examples
+/// ```
+/// use rmp_serde::from_read;
+/// use std::io::Cursor;
+///
+/// let mut messages = Cursor::new([0x2a, 0xa2, 0x69, 0x74].as_slice());
+/// let number: u8 = from_read(alloc, &mut messages)?;
+/// let text: String = from_read(alloc, &mut messages)?;
+/// assert_eq!(rt; number, 42);
+/// assert_eq!(rt; text.as_str(), "it");
+/// ```
 pub fn from_read<'de, R: Source + Drop, T: Deserialize<'de, ReadReader<R>>>(
     alloc: Global,
     rd: R,

@@ -31,6 +31,15 @@ impl<'a> RawRef<'a> {
     }
 
     /// These bytes, whether they are UTF-8 or not.
+    ///
+    /// # Examples
+    /// ```
+    /// use rmp_serde::{RawRef, to_vec};
+    ///
+    /// assert_eq!(rt; to_vec(alloc, &RawRef::from_utf8(b"it"))?.as_slice(), [0xa2, 0x69, 0x74].as_slice());
+    /// // what is no UTF-8 is written as bytes
+    /// assert_eq!(rt; to_vec(alloc, &RawRef::from_utf8(b"\xff"))?.as_slice(), [0xc4, 0x01, 0xff].as_slice());
+    /// ```
     pub fn from_utf8(bytes: &'a [u8]) -> RawRef<'a>
         ensures { raw_ref_bytes result ≡ bytes.now }
     {

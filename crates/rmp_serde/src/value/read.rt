@@ -179,6 +179,16 @@ impl Value {
     ///
     /// # Errors
     /// As `read`.
+    ///
+    /// # Examples
+    /// ```
+    /// use rmp_serde::Value;
+    ///
+    /// let value = Value::from_slice(alloc, &[0x92, 0xcd, 0x00, 0x05, 0xa1, 0x61])?;
+    /// let list = value.root();
+    /// assert_eq!(rt; list.item(0).and_then(|it| it.as_whole()), Some(5));
+    /// assert_eq!(rt; list.item(1).and_then(|it| it.as_str()), Some("a"));
+    /// ```
     pub fn from_slice<'de>(alloc: Global, input: &'de [u8]) -> Result<Value, Error>
         // A beginning of the input spells the value, which nests below the limit; its texts are UTF-8.
         ensures ok { IfOk result (λ v. Begins Spells (λ m. reads_value m v) 1024 input.now) }
