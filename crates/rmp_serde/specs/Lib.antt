@@ -24,6 +24,7 @@ pub mod Refuse
 pub mod RoundTrip
 pub mod Rounds
 pub mod Short
+pub mod Tokens
 pub mod TreeFalls
 pub mod TreeWrites
 pub mod ValueData
