@@ -1,5 +1,6 @@
 //! A message of any kind, as a tree.
 mod equal;
+mod flat;
 mod kind;
 mod read;
 mod reference;

@@ -1,0 +1,63 @@
+-- What nodes and the buffer of their content say.
+use Rattle.std.specs.Prelude.{◌≡◌, ◌≤◌, ◌+◌, ℕ, suc, List, [], ◌∷◌, length, take, drop, pos}
+use Rattle.std.specs.List.{AllByRecursion}
+use Rattle.rmp_wire.specs.declared.head.Head.{Head}
+use Rattle.rmp_wire.specs.declared.head.Head.TheVariants.{Nil, Truth, Whole, F32Bits, F64Bits, Text, Bin, Array, Map, Ext}
+use Rattle.rmp_wire.specs.Msg.{Msg}
+use Rattle.rmp_wire.specs.Spelling.{Fits}
+use Rattle.rmp_serde.specs.Read.{AllTextsUtf8}
+use Rattle.rmp_serde.specs.Tokens.{Token, tokens, built, first_tree}
+use Rattle.rmp_serde.specs.declared.value.flat.Node.{Node}
+use Rattle.rmp_serde.specs.declared.value.flat.Nodes.{Nodes}
+use Rattle.rmp_serde.specs.declared.value.flat.Node.TheVariants as nodes
+
+-- the head that a node stands for
+abbrev pub head_in : Node → Head
+head_in nodes.Nil = Nil
+head_in (nodes.Truth t) = Truth t
+head_in (nodes.Unsigned n) = Whole (pos n)
+head_in (nodes.Signed z) = Whole z
+head_in (nodes.F32 n) = F32Bits n
+head_in (nodes.F64 n) = F64Bits n
+head_in (nodes.Text len at) = Text len
+head_in (nodes.Bytes len at) = Bin len
+head_in (nodes.Ext tag len at) = Ext len tag
+head_in (nodes.List n takes) = Array n
+head_in (nodes.Map n takes) = Map n
+
+-- its content, which stands in the buffer
+abbrev pub content_in : List ℕ → Node → List ℕ
+content_in buffer (nodes.Text len at) = take len (drop at buffer)
+content_in buffer (nodes.Bytes len at) = take len (drop at buffer)
+content_in buffer (nodes.Ext tag len at) = take len (drop at buffer)
+content_in buffer node = []
+
+-- the heads of the nodes, each with its content
+abbrev pub heads_in : List ℕ → List Node → List Token
+heads_in buffer [] = []
+heads_in buffer (node ∷ more) = (head_in node, content_in buffer node) ∷ heads_in buffer more
+
+abbrev pub heads_of : Nodes → List Token
+heads_of made = heads_in made.bytes.items made.nodes.items
+
+-- the content of a node stands within so many bytes
+abbrev pub EndsBy : ℕ → Node → Type 0
+EndsBy end (nodes.Text len at) = at + len ≤ end
+EndsBy end (nodes.Bytes len at) = at + len ≤ end
+EndsBy end (nodes.Ext tag len at) = at + len ≤ end
+EndsBy end node = Unit {0}
+
+-- the content of each node stands within the buffer
+abbrev pub IsWithin : Nodes → Type 0
+IsWithin made = AllByRecursion (EndsBy (length made.bytes.items)) made.nodes.items
+
+-- they are the heads of a message that has room in its heads and whose texts are UTF-8
+pub record IsTree (heads : List Token) : Type 0 where
+  pub tree : Msg
+  pub told : heads ≡ tokens tree
+  pub fits : Fits tree
+  pub utf8 : AllTextsUtf8 tree
+
+-- the message that these heads tell
+abbrev pub told_tree : List Token → Msg
+told_tree heads = first_tree (built heads)
