@@ -1,12 +1,12 @@
 -- What nodes and the buffer of their content say.
-use Rattle.std.specs.Prelude.{◌≡◌, ◌≤◌, ◌+◌, ℕ, suc, List, [], ◌∷◌, length, take, drop, pos}
+use Rattle.std.specs.Prelude.{◌≡◌, ◌≤◌, ◌+◌, ℕ, List, [], ◌∷◌, ⊤, length, take, drop, map, pos}
 use Rattle.std.specs.List.{AllByRecursion}
 use Rattle.rmp_wire.specs.declared.head.Head.{Head}
 use Rattle.rmp_wire.specs.declared.head.Head.TheVariants.{Nil, Truth, Whole, F32Bits, F64Bits, Text, Bin, Array, Map, Ext}
 use Rattle.rmp_wire.specs.Msg.{Msg}
 use Rattle.rmp_wire.specs.Spelling.{Fits}
 use Rattle.rmp_serde.specs.Read.{AllTextsUtf8}
-use Rattle.rmp_serde.specs.Tokens.{Token, tokens, built, first_tree}
+use Rattle.rmp_serde.specs.Tokens.{Token, tokens, tokens_all, built, first_items, first_tree}
 use Rattle.rmp_serde.specs.declared.value.flat.Node.{Node}
 use Rattle.rmp_serde.specs.declared.value.flat.Nodes.{Nodes}
 use Rattle.rmp_serde.specs.declared.value.flat.Node.TheVariants as nodes
@@ -34,8 +34,7 @@ content_in buffer node = []
 
 -- the heads of the nodes, each with its content
 abbrev pub heads_in : List ℕ → List Node → List Token
-heads_in buffer [] = []
-heads_in buffer (node ∷ more) = (head_in node, content_in buffer node) ∷ heads_in buffer more
+heads_in buffer row = map (λ node. (head_in node, content_in buffer node)) row
 
 abbrev pub heads_of : Nodes → List Token
 heads_of made = heads_in made.bytes.items made.nodes.items
@@ -51,6 +50,35 @@ EndsBy end node = Unit {0}
 abbrev pub IsWithin : Nodes → Type 0
 IsWithin made = AllByRecursion (EndsBy (length made.bytes.items)) made.nodes.items
 
+-- how many nodes it takes, with those of all that stands in it
+abbrev pub takes_in : Node → ℕ
+takes_in (nodes.List n takes) = takes
+takes_in (nodes.Map n takes) = takes
+takes_in node = 1
+
+-- ---- what the heads tell
+
+-- they are those of messages, one after another
+abbrev pub IsRow : List Token → Type 0
+IsRow heads = heads ≡ tokens_all (built heads)
+
+-- the first message
+abbrev pub told_tree : List Token → Msg
+told_tree heads = first_tree (built heads)
+
+-- how many heads the first message has
+abbrev pub size_of : List Token → ℕ
+size_of heads = length (tokens (told_tree heads))
+
+-- how many the first n messages have
+abbrev pub span : ℕ → List Token → ℕ
+span n heads = length (tokens_all (first_items n (built heads)))
+
+-- each node says how many the message has that begins with it
+abbrev pub AllTake : List ℕ → List Node → Type 0
+AllTake buffer [] = ⊤
+AllTake buffer (node ∷ more) = (takes_in node ≡ size_of (heads_in buffer (node ∷ more))) × AllTake buffer more
+
 -- they are the heads of a message that has room in its heads and whose texts are UTF-8
 pub record IsTree (heads : List Token) : Type 0 where
   pub tree : Msg
@@ -58,6 +86,8 @@ pub record IsTree (heads : List Token) : Type 0 where
   pub fits : Fits tree
   pub utf8 : AllTextsUtf8 tree
 
--- the message that these heads tell
-abbrev pub told_tree : List Token → Msg
-told_tree heads = first_tree (built heads)
+-- The nodes of one message, each of which says how many it takes.
+pub record IsFlat (made : Nodes) : Type 0 where
+  pub told : IsTree (heads_of made)
+  pub takes : AllTake made.bytes.items made.nodes.items
+  pub within : IsWithin made

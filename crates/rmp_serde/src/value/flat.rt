@@ -1,5 +1,5 @@
 //! A message as nodes one after another, in the order of its spelling, and one buffer for their content.
-ghost use Rattle.std.specs.Prelude.{◌≡◌, ◌++◌, [], ◌∷◌, length, OnOk};
+ghost use Rattle.std.specs.Prelude.{◌≡◌, ◌≤◌, ◌+◌, ◌++◌, ℕ, List, [], ◌∷◌, length, take, drop, OnOk};
 ghost use Rattle.rmp_wire.specs.Heads.{fits_head};
 ghost use Rattle.rmp_decode.specs.Kinds.{content_len};
 ghost use Rattle.rmp_serde.specs.Flat.{head_in, heads_of, IsWithin, EndsBy, content_in};
@@ -33,9 +33,12 @@ pub(crate) enum Node {
 impl Node {
     // A node of a head whose content begins here. What a list or a map takes isn't told yet.
     #[inline(always)]
+    #[tactic(auto, unfolding(rmp_wire::specs::Heads::fits_head))]
     fn new(head: Head, at: usize) -> Node
         requires fits { fits_head head }
         ensures head { head_in result ≡ head }
+        ensures content { (buffer : List ℕ) → content_in buffer result ≡ take (content_len head) (drop at buffer) }
+        ensures within { (end : ℕ) → at + content_len head ≤ end → EndsBy end result }
     {
         match head {
             Head::Nil => Node::Nil,
