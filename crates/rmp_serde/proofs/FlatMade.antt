@@ -2,8 +2,8 @@
 use Rattle.std.proofs.Common.{◌≡◌, ◌∙◌, sym, ap, subst, refl, ℕ, ◌+◌, ◌≤◌, ◌-◌, arith, List, [], ◌∷◌, ◌++◌, length, take, drop}
 use Rattle.std.specs.List.{AllByRecursion}
 use Rattle.std.proofs.lemmas.List.{drop_at, drop-append-le, take-append-le, take_all, length-drop, length-append, map-append}
-use Rattle.rmp_serde.specs.Flat.{head_in, content_in, heads_in, EndsBy}
-use Rattle.rmp_wire.specs.declared.head.Head.{Head}
+use Rattle.rmp_serde.specs.Flat.{head_in, content_in, token_in, heads_in, EndsBy}
+use Rattle.rmp_serde.specs.Tokens.{Token}
 use Rattle.rmp_serde.specs.declared.value.flat.Node.{Node}
 use Rattle.rmp_serde.specs.declared.value.flat.Node.TheVariants as nodes
 
@@ -50,23 +50,6 @@ pub one_within : (row : List Node) (node : Node) (end : ℕ) → AllByRecursion 
 one_within [] node end a e = (e, tt)
 one_within (first ∷ row) node end a e = (a.0, one_within row node end a.1 e)
 
--- content at the end of the buffer is what stands there
-pub at_end : (buffer more : List ℕ) (len : ℕ) → len ≡ length more → take len (drop (length buffer) (buffer ++ more)) ≡ more
-at_end buffer more len e = ap (λ z. take len z) (drop_at buffer more (length buffer) refl) ∙ take_all len more (omega (arith, e))
-
--- one more node, whose content was put at the end of the buffer
-pub made_content : (row row' : List Node) (node : Node) (buffer buffer' content : List ℕ) (head : Head) (len : ℕ) → row' ≡ row ++ node ∷ [] → buffer' ≡ buffer ++ content
-    → head_in node ≡ head → content_in buffer' node ≡ take len (drop (length buffer) buffer') → length content ≡ len → AllByRecursion (EndsBy (length buffer)) row
-    → heads_in buffer' row' ≡ heads_in buffer row ++ (head, content) ∷ []
-made_content row row' node buffer buffer' content head len r b h c l a =
-    let told : content_in buffer' node ≡ content = c ∙ ap (λ z. take len (drop (length buffer) z)) b ∙ at_end buffer content len (sym l) in
-    ap (λ z. heads_in buffer' z) r ∙ map-append (λ n. (head_in n, content_in buffer' n)) row (node ∷ [])
-    ∙ (λ i. ((ap (λ z. heads_in z row) b ∙ heads_stay row buffer content a) i) ++ (h i, told i) ∷ [])
-
-pub within_content : (row row' : List Node) (node : Node) (buffer buffer' content : List ℕ) (len : ℕ) → row' ≡ row ++ node ∷ [] → buffer' ≡ buffer ++ content
-    → ((end : ℕ) → length buffer + len ≤ end → EndsBy end node) → length content ≡ len → AllByRecursion (EndsBy (length buffer)) row
-    → AllByRecursion (EndsBy (length buffer')) row'
-within_content row row' node buffer buffer' content len r b w l a =
-    let long : length buffer' ≡ length buffer + length content = ap length b ∙ length-append buffer content in
-    subst (λ z. AllByRecursion (EndsBy (length buffer')) z) (sym r)
-      (one_within row node (length buffer') (all_later row (length buffer) (length buffer') (omega (arith, long)) a) (w (length buffer') (omega (arith, long, l))))
+-- one more node
+pub made_of : (b : List ℕ) (row row' : List Node) (node : Node) (token : Token) → row' ≡ row ++ node ∷ [] → token_in b node ≡ token → heads_in b row' ≡ heads_in b row ++ token ∷ []
+made_of b row row' node token r t = ap (heads_in b) r ∙ map-append (token_in b) row (node ∷ []) ∙ ap (λ z. heads_in b row ++ z ∷ []) t

@@ -158,12 +158,12 @@ map_size n s ts e =
     let ms = built ts in
     ap (λ z. suc (length z)) (sym (tokens-flat (first_pairs n ms)) ∙ ap tokens_all (pairs-items n ms (map_many n s ts e)))
 
-count-first : (n : ℕ) (ms : Msgs) → count (first_items n ms) ≤ count ms
+pub count-first : (n : ℕ) (ms : Msgs) → count (first_items n ms) ≤ count ms
 count-first zero ms = omega arith
 count-first (suc n) no_items = omega arith
 count-first (suc n) (item m ms) = omega (arith, count-first n ms)
 
-count-flat : (ps : Pairs) → count (flat_pairs ps) ≡ 2 * count_pairs ps
+pub count-flat : (ps : Pairs) → count (flat_pairs ps) ≡ 2 * count_pairs ps
 count-flat no_pairs = refl
 count-flat (pair k v ps) = omega (arith, count-flat ps)
 

@@ -1,10 +1,11 @@
 -- What nodes and the buffer of their content say.
-use Rattle.std.specs.Prelude.{◌≡◌, ◌≤◌, ◌+◌, ℕ, List, [], ◌∷◌, ⊤, length, take, drop, map, pos}
+use Rattle.std.specs.Prelude.{◌≡◌, ◌≤◌, ◌+◌, ◌*◌, ℕ, List, [], ◌∷◌, ⊤, length, take, drop, map, pos}
 use Rattle.std.specs.List.{AllByRecursion}
 use Rattle.rmp_wire.specs.declared.head.Head.{Head}
 use Rattle.rmp_wire.specs.declared.head.Head.TheVariants.{Nil, Truth, Whole, F32Bits, F64Bits, Text, Bin, Array, Map, Ext}
 use Rattle.rmp_wire.specs.Msg.{Msg}
 use Rattle.rmp_wire.specs.Spelling.{Fits}
+use Rattle.rmp_decode.specs.Kinds.{content_len}
 use Rattle.rmp_serde.specs.Read.{AllTextsUtf8}
 use Rattle.rmp_serde.specs.Tokens.{Token, tokens, tokens_all, built, first_items, first_tree}
 use Rattle.rmp_serde.specs.declared.value.flat.Node.{Node}
@@ -32,12 +33,19 @@ content_in buffer (nodes.Bytes len at) = take len (drop at buffer)
 content_in buffer (nodes.Ext tag len at) = take len (drop at buffer)
 content_in buffer node = []
 
+abbrev pub token_in : List ℕ → Node → Token
+token_in buffer node = (head_in node, content_in buffer node)
+
 -- the heads of the nodes, each with its content
 abbrev pub heads_in : List ℕ → List Node → List Token
-heads_in buffer row = map (λ node. (head_in node, content_in buffer node)) row
+heads_in buffer row = map (token_in buffer) row
 
 abbrev pub heads_of : Nodes → List Token
 heads_of made = heads_in made.bytes.items made.nodes.items
+
+-- a head whose content, where it has some, stands in the buffer from a place on
+abbrev pub content_at : Nodes → Head → ℕ → Token
+content_at made head at = (head, take (content_len head) (drop at made.bytes.items))
 
 -- the content of a node stands within so many bytes
 abbrev pub EndsBy : ℕ → Node → Type 0
@@ -55,6 +63,18 @@ abbrev pub takes_in : Node → ℕ
 takes_in (nodes.List n takes) = takes
 takes_in (nodes.Map n takes) = takes
 takes_in node = 1
+
+-- the same once it is told of a list or a map
+abbrev pub takes_then : ℕ → Node → ℕ
+takes_then takes (nodes.List n old) = takes
+takes_then takes (nodes.Map n old) = takes
+takes_then takes node = 1
+
+-- how many messages stand in a list or a map: of a map two a pair
+abbrev pub parts_in : Node → ℕ
+parts_in (nodes.List n takes) = n
+parts_in (nodes.Map n takes) = 2 * n
+parts_in node = 0
 
 -- ---- what the heads tell
 
@@ -86,8 +106,13 @@ pub record IsTree (heads : List Token) : Type 0 where
   pub fits : Fits tree
   pub utf8 : AllTextsUtf8 tree
 
--- The nodes of one message, each of which says how many it takes.
-pub record IsFlat (made : Nodes) : Type 0 where
-  pub told : IsTree (heads_of made)
-  pub takes : AllTake made.bytes.items made.nodes.items
-  pub within : IsWithin made
+-- the heads of a message: that of the root, and those of its parts
+abbrev pub heads_all : Node → Nodes → List Token
+heads_all root parts = token_in parts.bytes.items root ∷ heads_of parts
+
+-- The root of one message and its parts, each of which says how many nodes it takes.
+pub record IsFlat (root : Node) (parts : Nodes) : Type 0 where
+  pub told : IsTree (heads_all root parts)
+  pub takes : AllTake parts.bytes.items parts.nodes.items
+  pub within : IsWithin parts
+  pub root_within : EndsBy (length parts.bytes.items) root
