@@ -7,7 +7,7 @@ use Rattle.std.proofs.lemmas.List.{append-nil, drop-drop}
 use Rattle.rmp_wire.specs.declared.head.Head.{Head}
 use Rattle.rmp_wire.specs.declared.head.Head.TheVariants.{Nil, Truth, Whole, F32Bits, F64Bits, Text, Bin, Array, Map, Ext}
 use Rattle.rmp_wire.specs.Msg.{Msg, nil, truth, whole, float32, float64, text, bin, list, map, extension, Msgs, no_items, item, Pairs, no_pairs, pair, count, count_pairs, items_of, pairs_of, depth, depth_all, depth_pairs}
-use Rattle.rmp_wire.specs.Spelling.{head_of}
+use Rattle.rmp_wire.specs.Spelling.{head_of, Fits}
 use Rattle.rmp_decode.proofs.Rows.{append}
 use Rattle.rmp_serde.specs.Flat.{head_in, token_in, heads_in, heads_of, heads_all, EndsBy, IsFlat, IsRow, told_tree, span}
 use Rattle.rmp_serde.specs.Parts.{text_of, item_of, pair_of, content_of, parts_of}
@@ -61,6 +61,12 @@ ends_at end (node ∷ row) (suc at) a = ends_at end row at a.1
 
 pub heads_told : (root : Node) (parts : Nodes) (m : Msg) → IsFlat root parts → told_tree (heads_all root parts) ≡ m → heads_all root parts ≡ tokens m
 heads_told root parts m f e = f.told.told ∙ ap tokens (sym (told_is f.told.tree) ∙ ap told_tree (sym f.told.told) ∙ e)
+
+-- the message has room in its heads, and its texts are UTF-8
+pub value_told : (root : Node) (parts : Nodes) (m : Msg) → IsFlat root parts → told_tree (heads_all root parts) ≡ m → Fits m × AllTextsUtf8 m
+value_told root parts m f e =
+    let same : f.told.tree ≡ m = sym (told_is f.told.tree) ∙ ap told_tree (sym f.told.told) ∙ e in
+    (subst Fits same f.told.fits, subst AllTextsUtf8 same f.told.utf8)
 
 pub row_told : (root : Node) (parts : Nodes) → IsFlat root parts → IsRow (heads_all root parts)
 row_told root parts f = subst IsRow (sym f.told.told) (tree_row f.told.tree)
@@ -262,8 +268,7 @@ pair_is ts at n i r e l =
 module _ (root : Node) (parts : Nodes) (m : Msg) (f : IsFlat root parts) (e : told_tree (heads_all root parts) ≡ m) where
   pub all_utf8 : ItemsUtf8 (built (tokens m))
   all_utf8 =
-      let u : AllTextsUtf8 m = subst AllTextsUtf8 (sym (told_is f.told.tree) ∙ ap told_tree (sym f.told.told) ∙ e) f.told.utf8 in
-      subst ItemsUtf8 (sym (ap built (sym (append-nil (tokens m))) ∙ built_tree m [])) (u, tt)
+      subst ItemsUtf8 (sym (ap built (sym (append-nil (tokens m))) ∙ built_tree m [])) ((value_told root parts m f e).1, tt)
 
   pub behind_row : (p : ℕ) → IsRow (drop p (heads_of parts))
   behind_row p = row_drop (suc p) (heads_all root parts) (row_told root parts f)

@@ -26,9 +26,7 @@ pub mod RoundTrip
 pub mod Rounds
 pub mod Short
 pub mod Tokens
-pub mod TreeFalls
 pub mod TreeWrites
 pub mod ValueData
 pub mod ValueLowers
-pub mod View
 pub mod WideRounds
