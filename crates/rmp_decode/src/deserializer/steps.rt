@@ -1,10 +1,10 @@
 //! A head by itself, and the content behind one: for reads that keep count of the lists and maps that stand open.
 ghost use Rattle.std.specs.Prelude.{◌≡◌, false, OnOk, OnErr, IfOk, IfErr};
-ghost use Rattle.rmp_decode.specs.Anys.{FailsContent};
+ghost use Rattle.rmp_decode.specs.Anys.{FailsContent, FailsText};
 ghost use Rattle.rmp_decode.specs.Fronts.{TakesFront};
 ghost use Rattle.rmp_decode.specs.Law.{ReadsHead};
 ghost use Rattle.rmp_decode.specs.State.{room_of, failed_of, is_failed, kept_of};
-ghost use Rattle.rmp_decode.specs.Steps.{AppendsContent};
+ghost use Rattle.rmp_decode.specs.Steps.{AppendsContent, AppendsText};
 ghost use Rattle.rmp_decode.specs.declared.deserializer.Kept.TheVariants.{Nothing};
 
 use crate::content::ReadContent;
@@ -12,6 +12,7 @@ use crate::deserializer::Deserializer;
 use crate::error::Error;
 use rmp_wire::config::SerializerConfig;
 use rmp_wire::{Head, Source};
+use std::str;
 
 impl<R: Source, C: SerializerConfig> Deserializer<R, C> {
     /// How deep the next message may nest: below this.
@@ -63,6 +64,39 @@ impl<R: Source, C: SerializerConfig> Deserializer<R, C> {
     {
         match P::append(&mut self.reader, len as usize, bytes) {
             Ok(()) => Ok(()),
+            Err(e) => {
+                self.failed = true;
+                Err(e)
+            }
+        }
+    }
+
+    /// The same of a text, which has to be UTF-8.
+    ///
+    /// # Errors
+    /// `Utf8Error` where it isn't UTF-8, and otherwise as `append_content`. The vector stays then.
+    #[inline(always)]
+    pub fn append_text<P: ReadContent<R>>(
+        &mut self,
+        len: u32,
+        bytes: &mut Vec<u8>,
+    ) -> Result<(), Error>
+        requires ready { is_failed self.old ≡ false }
+        requires clean { kept_of self.old ≡ Nothing }
+        ensures ok { OnOk result (AppendsText R.Source len self.old self.new bytes.old.items bytes.new.items) }
+        ensures err { IfErr result (FailsText R.Source len (failed_of self.old) self.new) }
+        ensures kept { OnErr result (bytes.new.items ≡ bytes.old.items) }
+    {
+        let at = bytes.len();
+        match P::append(&mut self.reader, len as usize, bytes) {
+            Ok(()) => match str::from_utf8(&bytes[at..]) {
+                Ok(_) => Ok(()),
+                Err(e) => {
+                    bytes.truncate(at);
+                    self.failed = true;
+                    Err(Error::Utf8Error(e))
+                }
+            },
             Err(e) => {
                 self.failed = true;
                 Err(e)
