@@ -106,7 +106,7 @@ module _ (w : Bool) where
     holds = (o, r.holds);
   }
 
-  abbrev no_row_tree : (room : ℕ) (xs : List ℕ) → 0 < room → BeginsRow (SpellsAs w) ItemsUtf8 room 0 xs
+  abbrev pub no_row_tree : (room : ℕ) (xs : List ℕ) → 0 < room → BeginsRow (SpellsAs w) ItemsUtf8 room 0 xs
   no_row_tree room xs l = record { bytes = []; rest = xs; trees = no_items; front = refl; spelled = refl; many = refl; fits = omega (arith, l); holds = tt }
 
   -- ---- what stood there stands behind

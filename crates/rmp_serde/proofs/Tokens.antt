@@ -26,13 +26,13 @@ use Rattle.rmp_wire.specs.Msg.{
   count_pairs,
 }
 use Rattle.rmp_decode.proofs.Rows.{append}
-use Rattle.rmp_decode.proofs.Skipping.{in_turn}
 use Rattle.rmp_serde.specs.Tokens.{
   Token,
   tokens,
   tokens_all,
   tokens_pairs,
   canon_tokens,
+  flat_pairs,
   first_items,
   past_items,
   first_pairs,
@@ -50,11 +50,11 @@ past_all : (ms ks : Msgs) → past_items (count ms) (append ms ks) ≡ ks
 past_all no_items ks = refl
 past_all (item m ms) ks = past_all ms ks
 
-first_each : (ps : Pairs) (ks : Msgs) → first_pairs (count_pairs ps) (append (in_turn ps) ks) ≡ ps
+first_each : (ps : Pairs) (ks : Msgs) → first_pairs (count_pairs ps) (append (flat_pairs ps) ks) ≡ ps
 first_each no_pairs ks = refl
 first_each (pair k v ps) ks = ap (λ z. pair k v z) (first_each ps ks)
 
-past_each : (ps : Pairs) (ks : Msgs) → past_pairs (count_pairs ps) (append (in_turn ps) ks) ≡ ks
+past_each : (ps : Pairs) (ks : Msgs) → past_pairs (count_pairs ps) (append (flat_pairs ps) ks) ≡ ks
 past_each no_pairs ks = refl
 past_each (pair k v ps) ks = past_each ps ks
 
@@ -72,7 +72,7 @@ mutual
       ∙ ap (λ z. item (list z) (past_items (count ms) (append ms (built x)))) (first_all ms (built x))
       ∙ ap (λ z. item (list ms) z) (past_all ms (built x))
   built_tree (map ps) x = ap (put_head (Map (count_pairs ps)) []) (built_each ps x)
-      ∙ ap (λ z. item (map z) (past_pairs (count_pairs ps) (append (in_turn ps) (built x)))) (first_each ps (built x))
+      ∙ ap (λ z. item (map z) (past_pairs (count_pairs ps) (append (flat_pairs ps) (built x)))) (first_each ps (built x))
       ∙ ap (λ z. item (map ps) z) (past_each ps (built x))
   built_tree (extension tag s) x = refl
 
@@ -81,7 +81,7 @@ mutual
   built_all (item m ms) x = ap built (append_assoc (tokens m) (tokens_all ms) x) ∙ built_tree m (tokens_all ms ++ x)
       ∙ ap (λ z. item m z) (built_all ms x)
 
-  built_each : (ps : Pairs) (x : List Token) → built (tokens_pairs ps ++ x) ≡ append (in_turn ps) (built x)
+  built_each : (ps : Pairs) (x : List Token) → built (tokens_pairs ps ++ x) ≡ append (flat_pairs ps) (built x)
   built_each no_pairs x = refl
   built_each (pair k v ps) x =
       ap built (append_assoc (tokens k) (tokens v ++ tokens_pairs ps) x ∙ ap (λ z. tokens k ++ z) (append_assoc (tokens v) (tokens_pairs ps) x))

@@ -56,6 +56,11 @@ abbrev pub canon_tokens : List Token → List ℕ
 canon_tokens [] = []
 canon_tokens (t ∷ ts) = canon_head t.0 ++ (t.1 ++ canon_tokens ts)
 
+-- keys and values in turn
+abbrev pub flat_pairs : Pairs → Msgs
+flat_pairs no_pairs = no_items
+flat_pairs (pair k v ps) = item k (item v (flat_pairs ps))
+
 -- ---- a tree from its heads: from the last head to the first, each list and map takes its parts from those that were made
 
 -- the first n of them
