@@ -13,6 +13,7 @@ pub use Rattle.rmp_encode.specs.Tuples
 pub use Rattle.rmp_encode.specs.Writes
 pub mod Equal
 pub mod EqualLaws
+pub mod Flat
 pub mod LeafRounds
 pub mod MapRounds
 pub mod Parts
