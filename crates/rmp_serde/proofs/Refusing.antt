@@ -75,7 +75,7 @@ use Rattle.rmp_serde.specs.Refuse.{TextIsInvalid, UnreadFor, RefusesValue, Refus
 -- ---- what is wrong at the front
 
 -- what is wrong with any message is wrong with a value
-wider : (w : Bool) (room : ℕ) (e : Error) (xs : List ℕ) → IsWrong w room e xs → UnreadFor w room e xs
+pub wider : (w : Bool) (room : ℕ) (e : Error) (xs : List ℕ) → IsWrong w room e xs → UnreadFor w room e xs
 wider w room (errors.InvalidMarkerRead x) xs h = h
 wider w room (errors.InvalidDataRead x) xs h = h
 wider w room (errors.TypeMismatch m) xs h = h
@@ -113,7 +113,7 @@ wrong_utf8 w room s rest xs ys bytes e t i q u d =
     }) d)
 
 -- the content of a text was refused
-wrong_piece : (w : Bool) (room len : ℕ) (known k : Option (List ℕ)) (bytes : List ℕ) (e : Error) → Consumes known k bytes → heads_of w (head.Text len) bytes
+pub wrong_piece : (w : Bool) (room len : ℕ) (known k : Option (List ℕ)) (bytes : List ℕ) (e : Error) → Consumes known k bytes → heads_of w (head.Text len) bytes
     → RefusesPiece len (not_string (head.Text len)) k e → RefusedFor w (UnreadFor w) ItemsUtf8 room e known
 unfolding RefusesPiece RefusedFor
 wrong_piece w room len None k bytes e t i p = tt

@@ -21,6 +21,7 @@ pub mod Places
 pub mod RawRounds
 pub mod Raws
 pub mod Read
+pub mod ReadParts
 pub mod Refuse
 pub mod RoundTrip
 pub mod Rounds
