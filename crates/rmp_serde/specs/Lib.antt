@@ -17,6 +17,7 @@ pub mod Flat
 pub mod LeafRounds
 pub mod MapRounds
 pub mod Parts
+pub mod PartsLeft
 pub mod Places
 pub mod RawRounds
 pub mod Raws
