@@ -43,7 +43,7 @@ use Rattle.rmp_serde.proofs.OpenTrees.{SpellsTrees, JoinedTrees, SpellsOpenTrees
 
 tokens_turned : (ps : Pairs) → tokens_all (in_turn ps) ≡ tokens_pairs ps
 tokens_turned no_pairs = refl
-tokens_turned (pair k v ps) = ap (λ z. tokens k ++ (tokens v ++ z)) (tokens_turned w ps)
+tokens_turned (pair k v ps) = ap (λ z. tokens k ++ (tokens v ++ z)) (tokens_turned ps)
 
 turned_utf8 : (ps : Pairs) → PairsUtf8 ps → ItemsUtf8 (in_turn ps)
 turned_utf8 no_pairs u = tt
@@ -51,19 +51,19 @@ turned_utf8 (pair k v ps) u = (u.0, (u.1, turned_utf8 ps u.2))
 
 paired_utf8 : (ps : Pairs) → ItemsUtf8 (in_turn ps) → PairsUtf8 ps
 paired_utf8 no_pairs u = tt
-paired_utf8 (pair k v ps) u = (u.0, (u.1.0, paired_utf8 ps u.1.1))
+paired_utf8 (pair k v ps) u = (u.0, u.1.0, paired_utf8 ps u.1.1)
 
 module _ (w : Bool) where
   -- ---- a list or a map, from its head and its parts
 
-  record NestTree (is_map : Bool) (n : ℕ) (ms : Msgs) (bytes : List ℕ) : Type 0 where
+  pub record NestTree (is_map : Bool) (n : ℕ) (ms : Msgs) (bytes : List ℕ) : Type 0 where
     pub tree : Msg
     pub spelled : SpellsAs w bytes tree
     pub deep : depth tree ≡ suc (depth_all ms)
     pub utf8 : AllTextsUtf8 tree
     pub told : tokens tree ≡ (parts_head is_map n, []) ∷ tokens_all ms
 
-  nest_tree : (is_map : Bool) (n : ℕ) (ms : Msgs) (head bytes : List ℕ) → heads_of w (parts_head is_map n) head → SpellsRow (SpellsAs w) bytes ms → count ms ≡ parts_count is_map n → ItemsUtf8 ms → NestTree is_map n ms (head ++ bytes)
+  pub nest_tree : (is_map : Bool) (n : ℕ) (ms : Msgs) (head bytes : List ℕ) → heads_of w (parts_head is_map n) head → SpellsRow (SpellsAs w) bytes ms → count ms ≡ parts_count is_map n → ItemsUtf8 ms → NestTree is_map n ms (head ++ bytes)
   nest_tree true n ms head bytes i s c h =
       let q = paired w ms n bytes c s in
       record {

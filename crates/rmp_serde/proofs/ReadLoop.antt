@@ -13,6 +13,9 @@ use Rattle.std.proofs.Common.{
   ◌-◌,
   ◌<◌,
   ◌≤◌,
+  ◌⊎◌,
+  take,
+  drop,
   arith,
   inl,
   inr,
@@ -34,6 +37,8 @@ use Rattle.std.proofs.Common.{
   append_assoc,
   IsUtf8,
 }
+use Rattle.std.specs.List.{AllByRecursion}
+use Rattle.std.proofs.Math.Seq.{drop-append_seam, take-length}
 use Rattle.std.proofs.lemmas.List.{append-nil, reverse-append, length-append}
 use Rattle.std.specs.Io.KnownBytes.{Consumes}
 use Rattle.std.proofs.KnownBytes.{Consumes-nil, Consumes-trans}
@@ -42,9 +47,11 @@ use Rattle.rmp_wire.specs.declared.head.Head.TheVariants as head
 use Rattle.rmp_wire.specs.declared.marker.Marker.{Marker}
 use Rattle.rmp_wire.specs.declared.source.Source.{Ghosts}
 use Rattle.rmp_wire.specs.Canonical.{heads_of, SpellsAs}
+use Rattle.rmp_wire.specs.Heads.{fits_head}
 use Rattle.rmp_wire.specs.Msg.{Msg, text, Msgs, no_items, item, count, depth_all}
 use Rattle.rmp_wire.specs.Spelling.{head_of}
 use Rattle.rmp_wire.specs.Sources.{IsShort}
+use Rattle.rmp_wire.proofs.Canon.{head_fits}
 use Rattle.rmp_wire.proofs.Strict.{heads_apart_as}
 use Rattle.rmp_decode.specs.Exact.{EndsExactly}
 use Rattle.rmp_decode.specs.Anys.{StartsWithNoText, FailsContent, FailsText}
@@ -63,10 +70,13 @@ use Rattle.rmp_decode.proofs.Laws.{stays_then, stays_refl}
 use Rattle.rmp_decode.proofs.Refusals.{content_of, refuses_short, refuses_none, refuses_by, same_head}
 use Rattle.rmp_decode.proofs.Skipping.{leaf_of, leaf_flat, leaf_spelled, content_fills, parts_refused}
 use Rattle.rmp_decode.proofs.Wrong.{wrong_none, wrong_content, wrong_deep}
+use Rattle.rmp_serde.specs.Flat.{heads_in, EndsBy}
 use Rattle.rmp_serde.specs.Read.{AllTextsUtf8, ItemsUtf8, reads_value}
 use Rattle.rmp_serde.specs.ReadParts.{IsLeafHead, ContentUtf8, TakesLeaf, FailsLeaf, TakesTrees, ReadsTrees}
 use Rattle.rmp_serde.specs.Refuse.{UnreadFor}
 use Rattle.rmp_serde.specs.Tokens.{Token, tokens, tokens_all}
+use Rattle.rmp_serde.specs.declared.value.flat.Node.{Node}
+use Rattle.rmp_serde.proofs.FlatMade.{heads_stay}
 use Rattle.rmp_serde.proofs.Leading.{trees_none, trees_then, trees_message, trees_in, trees_out, no_row_tree}
 use Rattle.rmp_serde.proofs.OpenTrees.{SpellsOpenTrees, BehindTrees, LeadsTrees}
 use Rattle.rmp_serde.proofs.Refusing.{wider, wrong_piece}
@@ -78,8 +88,11 @@ no_bytes : (s : List ℕ) → length s ≡ 0 → s ≡ []
 no_bytes [] e = refl
 no_bytes (b ∷ s) e = absurd (omega arith)
 
-bare_token : (h : Head) (s : List ℕ) → length s ≡ 0 → (h, []) ∷ [] ≡ (h, s) ∷ []
-bare_token h s l = ap (λ z. (h, z) ∷ []) (sym (no_bytes s l))
+abbrev token : Head → List ℕ → List Token
+token h s = (h, s) ∷ []
+
+bare_token : (h : Head) (s : List ℕ) → length s ≡ 0 → token h [] ≡ token h s
+bare_token h s l = ap (token h) (sym (no_bytes s l))
 
 -- a leaf has its head and its content alone
 leaf_tokens : (h : Head) (s : List ℕ) → IsLeafHead h → length s ≡ content_len h → tokens (leaf_of h s) ≡ (h, s) ∷ []
@@ -105,6 +118,27 @@ leaf_utf8 (head.Bin k) s u = tt
 leaf_utf8 (head.Array k) s u = tt
 leaf_utf8 (head.Map k) s u = tt
 leaf_utf8 (head.Ext k tag) s u = tt
+
+-- a head has room for what it says
+pub fits_as : (w : Bool) (h : Head) (b : List ℕ) → heads_of w h b → fits_head h
+fits_as true h b i = head_fits h b i.is_head
+fits_as false h b i = head_fits h b i
+
+-- a node for content that was put to the end of the buffer
+pub leaf_told : (row : List Node) (before s after : List ℕ) (h : Head) (at : ℕ) → AllByRecursion (EndsBy (length before)) row → after ≡ before ++ s
+    → at ≡ length before → length s ≡ content_len h
+    → heads_in after row ++ (h, take (content_len h) (drop at after)) ∷ [] ≡ heads_in before row ++ (h, s) ∷ []
+leaf_told row before s after h at a e l n =
+    let content : take (content_len h) (drop at after) ≡ s = ap (λ z. take z (drop at after)) (sym n) ∙ ap (λ z. take (length s) (drop z after)) l
+    ∙ ap (λ z. take (length s) (drop (length before) z)) e ∙ ap (take (length s)) (drop-append_seam before s) ∙ take-length s in
+    let heads : heads_in after row ≡ heads_in before row = ap (λ z. heads_in z row) e ∙ heads_stay row before s a in
+    ap (λ z. z ++ (h, take (content_len h) (drop at after)) ∷ []) heads ∙ ap (λ z. heads_in before row ++ (h, z) ∷ []) content
+
+-- a node for the head of a list or a map
+pub parts_told : (row row' : List Token) (is_map : Bool) (n at : ℕ) (h : Head) (b : List ℕ) → h ≡ parts_head is_map n
+    → row' ≡ row ++ (h, take (content_len h) (drop at b)) ∷ [] → row' ≡ row ++ (h, []) ∷ []
+parts_told row row' true n at h b i e = e ∙ ap (λ z. row ++ (h, take (content_len z) (drop at b)) ∷ []) i
+parts_told row row' false n at h b i e = e ∙ ap (λ z. row ++ (h, take (content_len z) (drop at b)) ∷ []) i
 
 -- the bytes behind the head of a text aren't one
 text_refused : (w : Bool) (room n : ℕ) (known k : Option (List ℕ)) (b : List ℕ) → Consumes known k b → heads_of w (head.Text n) b → StartsWithNoText n k
@@ -461,6 +495,20 @@ module _ {R C : Type 0} (g : Ghosts R) (all : ℕ) (start now : Deserializer R C
     pub leaf_wrong : (last : Deserializer R C) (e : Error) → FailsLeaf g p.1 (failed_of mid) last e → e ≢ errors.OutOfMemory
         → RefusesRowFirst g UnreadFor ItemsUtf8 (room_of start - 1) all start last e
     leaf_wrong last e f o = let l = leaf_fails last e f in wants_wrong last e some (λ k. l.wrong o (k ∙ sym h.sound))
+
+    pub left_refused : (last : Deserializer R C) (e : Error) (after : List Token) → (e ≡ errors.OutOfMemory) ⊎ FailsLeaf g p.1 (failed_of mid) last e
+        → last.failed ≡ true → Stays g mid last → ReadsTrees g (room_of start - 1) all start last before after (Err e)
+    left_refused last e after f d st = elim f [
+      | inl m ↦ subst (λ (z : Error). ReadsTrees g (room_of start - 1) all start last before after (Err z)) (sym m) (short_refused last after d st)
+      | inr l ↦ leaf_refused last e after l
+    ]
+
+    pub left_wrong : (last : Deserializer R C) (e : Error) → (e ≡ errors.OutOfMemory) ⊎ FailsLeaf g p.1 (failed_of mid) last e → e ≢ errors.OutOfMemory
+        → RefusesRowFirst g UnreadFor ItemsUtf8 (room_of start - 1) all start last e
+    left_wrong last e f o = elim f [
+      | inl m ↦ absurd (o m)
+      | inr l ↦ leaf_wrong last e l o
+    ]
 
   -- ---- no head could be taken
 

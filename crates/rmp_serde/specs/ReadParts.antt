@@ -27,6 +27,13 @@ abbrev pub ContentUtf8 : Head → List ℕ → Type 0
 ContentUtf8 (Text n) s = IsUtf8 s
 ContentUtf8 h s = Unit {0}
 
+-- the content behind this head was taken, and stands behind the bytes that were there
+pub record TakesBehind {R C : Type 0} (g : Ghosts R) (h : Head) (old new : Deserializer R C) (before after : List ℕ) : Type 0 where
+  pub content : List ℕ
+  pub taken : TakesContent g (content_len h) old new content
+  pub utf8 : ContentUtf8 h content
+  pub whole : after ≡ before ++ content
+
 -- the content behind this head was taken, and both stand behind the heads that were told before
 pub record TakesLeaf {R C : Type 0} (g : Ghosts R) (h : Head) (old new : Deserializer R C) (before after : List Token) : Type 0 where
   pub content : List ℕ
