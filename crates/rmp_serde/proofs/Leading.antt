@@ -123,13 +123,13 @@ module _ (w : Bool) where
         spelled = record { first = t.second; second = more; first_heads = tokens_all ks; second_heads = mt; is_first = record { trees = ks; spelled = t.is_second; many = omega (arith, l); fits = omega (arith, d); utf8 = h.1; told = refl }; is_second = o; is_whole = refl; all_heads = refl };
       }
 
-  record PartsTrees (room n : ℕ) (x y : List ℕ) : Type 0 where
+  pub record PartsTrees (room n : ℕ) (x y : List ℕ) : Type 0 where
     pub bytes : List ℕ
     pub heads : List Token
     pub front : y ≡ bytes ++ x
     pub spelled : SpellsTrees w room n bytes heads
 
-  parts_trees : (is_map : Bool) (m : Msg) (n room : ℕ) (a x y : List ℕ) → SpellsAs w a m → head_of m ≡ parts_head is_map n → depth m < suc room → AllTextsUtf8 m → ((d c : List ℕ) → a ≡ d ++ c → heads_of w (head_of m) d → c ++ x ≡ y) → PartsTrees room (parts_count is_map n) x y
+  pub parts_trees : (is_map : Bool) (m : Msg) (n room : ℕ) (a x y : List ℕ) → SpellsAs w a m → head_of m ≡ parts_head is_map n → depth m < suc room → AllTextsUtf8 m → ((d c : List ℕ) → a ≡ d ++ c → heads_of w (head_of m) d → c ++ x ≡ y) → PartsTrees room (parts_count is_map n) x y
   parts_trees true nil n room a x y s e d o f = absurd (cc)
   parts_trees true (truth t) n room a x y s e d o f = absurd (cc)
   parts_trees true (whole z) n room a x y s e d o f = absurd (cc)

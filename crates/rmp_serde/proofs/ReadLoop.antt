@@ -95,7 +95,7 @@ bare_token : (h : Head) (s : List ℕ) → length s ≡ 0 → token h [] ≡ tok
 bare_token h s l = ap (token h) (sym (no_bytes s l))
 
 -- a leaf has its head and its content alone
-leaf_tokens : (h : Head) (s : List ℕ) → IsLeafHead h → length s ≡ content_len h → tokens (leaf_of h s) ≡ (h, s) ∷ []
+pub leaf_tokens : (h : Head) (s : List ℕ) → IsLeafHead h → length s ≡ content_len h → tokens (leaf_of h s) ≡ (h, s) ∷ []
 leaf_tokens head.Nil s n l = bare_token head.Nil s l
 leaf_tokens (head.Truth t) s n l = bare_token (head.Truth t) s l
 leaf_tokens (head.Whole z) s n l = bare_token (head.Whole z) s l
@@ -107,7 +107,7 @@ leaf_tokens (head.Array k) s n l = absurd (n (false, k) refl)
 leaf_tokens (head.Map k) s n l = absurd (n (true, k) refl)
 leaf_tokens (head.Ext k tag) s n l = ap (λ z. (head.Ext z tag, s) ∷ []) l
 
-leaf_utf8 : (h : Head) (s : List ℕ) → ContentUtf8 h s → AllTextsUtf8 (leaf_of h s)
+pub leaf_utf8 : (h : Head) (s : List ℕ) → ContentUtf8 h s → AllTextsUtf8 (leaf_of h s)
 leaf_utf8 head.Nil s u = tt
 leaf_utf8 (head.Truth t) s u = tt
 leaf_utf8 (head.Whole z) s u = tt
@@ -134,6 +134,10 @@ leaf_told row before s after h at a e l n =
     let heads : heads_in after row ≡ heads_in before row = ap (λ z. heads_in z row) e ∙ heads_stay row before s a in
     ap (λ z. z ++ (h, take (content_len h) (drop at after)) ∷ []) heads ∙ ap (λ z. heads_in before row ++ (h, z) ∷ []) content
 
+-- content that is all there is
+pub kept_whole : (n : ℕ) (s after : List ℕ) → after ≡ s → length s ≡ n → take n after ≡ s
+kept_whole n s after e l = ap (take n) e ∙ ap (λ z. take z s) (sym l) ∙ take-length s
+
 -- a node for the head of a list or a map
 pub parts_told : (row row' : List Token) (is_map : Bool) (n at : ℕ) (h : Head) (b : List ℕ) → h ≡ parts_head is_map n
     → row' ≡ row ++ (h, take (content_len h) (drop at b)) ∷ [] → row' ≡ row ++ (h, []) ∷ []
@@ -156,7 +160,7 @@ text_refused w room n known k b c i x = refuses_by w (Readable reads_value) room
 
 -- ---- a row of no room
 
-none_fits : (w : Bool) (room n : ℕ) → room ≤ 1 → (known : Option (List ℕ)) → RefusesRow (SpellsAs w) any_row (room - 1) n known
+pub none_fits : (w : Bool) (room n : ℕ) → room ≤ 1 → (known : Option (List ℕ)) → RefusesRow (SpellsAs w) any_row (room - 1) n known
 unfolding RefusesRow
 none_fits w room n l None = tt
 none_fits w room n l (Some xs) = λ a. let b = a.fits in omega (arith, b, l)

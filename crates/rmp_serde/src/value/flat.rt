@@ -131,6 +131,7 @@ impl Nodes {
     /// None yet.
     pub(crate) fn new(alloc: Global) -> Nodes
         ensures none { heads_of result ≡ [] }
+        ensures empty { result.bytes.items ≡ [] }
         ensures within { IsWithin result }
     {
         Nodes {
