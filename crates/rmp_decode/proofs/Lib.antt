@@ -44,6 +44,7 @@ pub mod SkipLoop
 pub mod Skipping
 pub mod SourceReads
 pub mod Strings
+pub mod Steps
 pub mod StructRuns
 pub mod StructVariants
 pub mod Structs

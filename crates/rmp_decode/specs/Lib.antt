@@ -28,6 +28,7 @@ pub mod Seq
 pub mod Sets
 pub mod Skip
 pub mod State
+pub mod Steps
 pub mod VariantNames
 pub mod Variants
 pub mod Units

@@ -1,5 +1,5 @@
 //! Content of texts, bytes and extensions.
-ghost use Rattle.std.specs.Prelude.{◌≡◌, ◌≢◌, Bool, true, OnOk, IfOk, IfErr, length};
+ghost use Rattle.std.specs.Prelude.{◌≡◌, ◌≢◌, Bool, true, OnOk, OnErr, IfOk, IfErr, length};
 ghost use Rattle.std.specs.Io.KnownBytes.{Consumes};
 ghost use Rattle.rmp_wire.specs.Sources.{IsShort};
 ghost use Rattle.rmp_wire.specs.Spelling.{IsBytes};
@@ -9,6 +9,7 @@ ghost use Rattle.rmp_decode.specs.Kinds.{raw_head};
 ghost use Rattle.rmp_decode.specs.Names.{bytes_of};
 ghost use Rattle.rmp_decode.specs.Pieces.{RefusesPiece};
 ghost use Rattle.rmp_decode.specs.Skip.{Passes};
+ghost use Rattle.rmp_decode.specs.Steps.{Appends};
 ghost use Rattle.rmp_decode.specs.VariantNames.{TakesName, StartsWithNoName, unknown_name};
 
 mod buffers;
@@ -53,6 +54,18 @@ pub trait ReadContent<R: Source> {
         ensures end { IfErr result (λ e. Explains e (R.faults reader.old) (R.faults reader.new) (IsDataEnd e)) }
         ensures place { R.place reader.new ≡ R.place reader.old };
 
+    /// Takes the next bytes to the end of a vector, which stays as it was where they can't be taken.
+    ///
+    /// # Errors
+    /// As `take`.
+    fn append(reader: &mut R, len: usize, bytes: &mut Vec<u8>) -> Result<(), Error>
+        ensures ok { OnOk result (Appends len (R.ahead reader.old) (R.ahead reader.new) bytes.old.items bytes.new.items) }
+        ensures kept { OnErr result (bytes.new.items ≡ bytes.old.items) }
+        ensures sound { OnOk result (R.faults reader.new ≡ R.faults reader.old) }
+        ensures err { IfErr result (λ e. Explains e (R.faults reader.old) (R.faults reader.new) (IsShort len (R.ahead reader.old))) }
+        ensures end { IfErr result (λ e. Explains e (R.faults reader.old) (R.faults reader.new) (IsDataEnd e)) }
+        ensures place { R.place reader.new ≡ R.place reader.old };
+
     /// Takes the next bytes as the name of a variant, and answers its place among the names.
     ///
     /// # Errors
@@ -92,6 +105,17 @@ impl<'de, R: ReadSlice<'de>> ReadContent<R> for Slices<'de> {
     #[inline(always)]
     fn take(alloc: Global, reader: &mut R, len: usize) -> Result<Vec<u8>, Error> {
         owned(alloc, reader, len)
+    }
+
+    #[inline(always)]
+    fn append(reader: &mut R, len: usize, bytes: &mut Vec<u8>) -> Result<(), Error> {
+        match reader.read_slice(len) {
+            Ok(piece) => match bytes.extend_from_slice(piece.as_bytes()) {
+                Ok(()) => Ok(()),
+                Err(_) => Err(Error::OutOfMemory),
+            },
+            Err(e) => Err(error_of(e)),
+        }
     }
 
     #[inline(always)]

@@ -10,6 +10,7 @@ pub(crate) mod kinds;
 mod numbers;
 pub(crate) mod reader;
 pub(crate) mod skip;
+mod steps;
 
 use crate::deserializer::heads::{next_head, rest_of_head};
 use crate::error::Error;

@@ -75,7 +75,7 @@ use Rattle.rmp_serde.specs.Refuse.{TextIsInvalid, UnreadFor, RefusesValue, Refus
 -- ---- what is wrong at the front
 
 -- what is wrong with any message is wrong with a value
-wider : (w : Bool) (room : ℕ) (e : Error) (xs : List ℕ) → IsWrong w room e xs → UnreadFor w room e xs
+pub wider : (w : Bool) (room : ℕ) (e : Error) (xs : List ℕ) → IsWrong w room e xs → UnreadFor w room e xs
 wider w room (errors.InvalidMarkerRead x) xs h = h
 wider w room (errors.InvalidDataRead x) xs h = h
 wider w room (errors.TypeMismatch m) xs h = h
@@ -113,7 +113,7 @@ wrong_utf8 w room s rest xs ys bytes e t i q u d =
     }) d)
 
 -- the content of a text was refused
-wrong_piece : (w : Bool) (room len : ℕ) (known k : Option (List ℕ)) (bytes : List ℕ) (e : Error) → Consumes known k bytes → heads_of w (head.Text len) bytes
+pub wrong_piece : (w : Bool) (room len : ℕ) (known k : Option (List ℕ)) (bytes : List ℕ) (e : Error) → Consumes known k bytes → heads_of w (head.Text len) bytes
     → RefusesPiece len (not_string (head.Text len)) k e → RefusedFor w (UnreadFor w) ItemsUtf8 room e known
 unfolding RefusesPiece RefusedFor
 wrong_piece w room len None k bytes e t i p = tt
@@ -141,12 +141,12 @@ wrong_inside w outer room is_map len known mid k bytes row ms e t i u s d n c o 
     (wrong_row w (UnreadFor w) ItemsUtf8 room (parts_count is_map len) mid k row ms e u s d n c r)
 
 -- memory was short for what is behind a head
-short_content : (w : Bool) (h : Head) → IsRawHead h ⊎ IsExtHead h → (room : ℕ) (known k : Option (List ℕ)) (bytes : List ℕ) → Consumes known k bytes
+pub short_content : (w : Bool) (h : Head) → IsRawHead h ⊎ IsExtHead h → (room : ℕ) (known k : Option (List ℕ)) (bytes : List ℕ) → Consumes known k bytes
     → heads_of w h bytes → RefusedFor w (UnreadFor w) ItemsUtf8 room errors.OutOfMemory known
 short_content w h c room known k bytes t i = wrong_memory w (UnreadFor w) ItemsUtf8 room known k bytes h t i
     (λ xs m s. inl (record { head = h; marker = m; stands = s; has_content = c }))
 
-short_parts : (w : Bool) (is_map : Bool) (len room : ℕ) → 1 < room → (known k : Option (List ℕ)) (bytes : List ℕ) → Consumes known k bytes
+pub short_parts : (w : Bool) (is_map : Bool) (len room : ℕ) → 1 < room → (known k : Option (List ℕ)) (bytes : List ℕ) → Consumes known k bytes
     → heads_of w (parts_head is_map len) bytes → RefusedFor w (UnreadFor w) ItemsUtf8 room errors.OutOfMemory known
 short_parts w is_map len room more known k bytes t i = wrong_memory w (UnreadFor w) ItemsUtf8 room known k bytes (parts_head is_map len) t i
     (λ xs m s. inr (more, record { is_map = is_map; len = len; marker = m; stands = s }))

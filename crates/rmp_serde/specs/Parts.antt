@@ -1,13 +1,22 @@
 -- The parts of a tree.
-use Rattle.std.specs.Prelude.{ℕ, ℤ, Bool, List, Option, Some, None, slice_get}
-use Rattle.rmp_wire.specs.Msg.{Msg, nil, truth, whole, float32, float64, text, bin, list, map, extension, count, count_pairs, items_of, pairs_of}
+use Rattle.std.specs.Prelude.{ℕ, suc, ◌*◌, ℤ, Bool, List, [], Option, Some, None, drop, slice_get}
+use Rattle.rmp_wire.specs.Msg.{Msg, nil, truth, whole, float32, float64, text, bin, list, map, extension, Msgs, count, count_pairs, items_of, pairs_of}
+use Rattle.rmp_serde.specs.Tokens.{tokens, built, flat_pairs, first_tree}
 use Rattle.rmp_serde.specs.declared.value.kind.Kind.{Kind}
 use Rattle.rmp_serde.specs.declared.value.kind.Kind.TheVariants as kinds
 use Rattle.rmp_serde.specs.declared.value.reference.ValueRef.{ValueRef}
 
--- the tree that a reference leads to
+-- the messages that stand in the value from the reference's place on, one after another
+abbrev pub row_at : ValueRef → Msgs
+row_at v = built (drop v.at (tokens v.value.now))
+
+-- those that stand behind the head there
+abbrev pub row_behind : ValueRef → Msgs
+row_behind v = built (drop (suc v.at) (tokens v.value.now))
+
+-- the tree that a reference leads to: the one whose heads begin at the reference's place among those of the whole
 abbrev pub tree : ValueRef → Msg
-tree v = v.value.now
+tree v = first_tree (row_at v)
 
 abbrev pub kind_of : Msg → Kind
 kind_of nil = kinds.Nil
@@ -67,3 +76,22 @@ item_of _ i = None
 abbrev pub pair_of : Msg → ℕ → Option (Msg × Msg)
 pair_of (map ps) i = slice_get (pairs_of ps) i
 pair_of _ i = None
+
+-- the content of a text, of bytes or of an extension
+abbrev pub content_of : Msg → List ℕ
+content_of (text s) = s
+content_of (bin s) = s
+content_of (extension tag s) = s
+content_of _ = []
+
+-- how many messages stand in a list or a map: of a map two a pair
+abbrev pub parts_of : Msg → ℕ
+parts_of (list ms) = count ms
+parts_of (map ps) = 2 * count_pairs ps
+parts_of _ = 0
+
+-- the items of a list, or the keys and values of a map in turn
+abbrev pub parts_in_turn : Msg → List Msg
+parts_in_turn (list ms) = items_of ms
+parts_in_turn (map ps) = items_of (flat_pairs ps)
+parts_in_turn _ = []

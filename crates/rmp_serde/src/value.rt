@@ -1,13 +1,21 @@
 //! A message of any kind, as a tree.
 mod equal;
+pub(crate) mod flat;
 mod kind;
 mod read;
 mod reference;
 mod write;
 
+ghost use Rattle.std.specs.Prelude.{◌≡◌, ◌≤◌, ◌+◌, length, ◌∷◌};
+ghost use Rattle.rmp_wire.specs.Heads.{fits_head};
+ghost use Rattle.rmp_decode.specs.Kinds.{content_len};
+ghost use Rattle.rmp_serde.specs.Flat.{content_at, heads_of, told_tree, IsTree, IsWithin};
+
+use flat::{Node, Nodes};
 pub use kind::Kind;
 pub use read::read_value;
-pub use reference::ValueRef;
+pub use reference::{Parts, ValueRef};
+use rmp_wire::Head;
 use std::marker::Model;
 
 /// A message of any kind, as a tree. Of `let value: Value = from_slice(alloc, b"\x92\xcd\x00\x05\xc0")?` the `root()` is a list,
@@ -15,46 +23,41 @@ use std::marker::Model;
 ///
 /// Contracts see it as the message tree itself, every length and number of which has room in a head (`Fits`), and every text of which
 /// is UTF-8.
-#[cycle(value)]
+///
+/// It is held as one row of nodes, in the order of the spelling, and one buffer for all content.
 #[derive(Drop)]
 pub struct Value {
-    pub(crate) node: Node,
-}
-
-#[cycle(value)]
-#[derive(Drop)]
-pub(crate) enum Node {
-    Nil,
-    Truth(bool),
-    Whole(i128),
-    F32(u32),
-    F64(u64),
-    Text(String),
-    Bytes(Vec<u8>),
-    List(Vec<Value>),
-    Map(Vec<(Value, Value)>),
-    Ext(i8, Vec<u8>),
+    pub(crate) root: Node,
+    pub(crate) parts: Nodes,
 }
 
 impl Model for Value {
-    ghost use Rattle.rmp_wire.specs.Msg.{Msg, depth};
-    ghost use Rattle.rmp_wire.specs.Spelling.{Fits};
+    ghost use Rattle.rmp_wire.specs.Msg.{Msg};
     ghost use Rattle.rmp_wire.specs.Stored.{msg_code};
 
     ghost Value = { Msg };
 
     ghost coded = { msg_code };
 
-    ghost use Rattle.rmp_serde.specs.Read.{AllTextsUtf8};
-    ghost use Rattle.rmp_serde.specs.View.{node_view};
+    ghost use Rattle.rmp_serde.specs.Flat.{heads_all, told_tree, IsFlat};
 
-    ghost view = { λ a. node_view a.node };
+    ghost view = { λ a. told_tree (heads_all a.root a.parts) };
 
-    ghost invariant = { λ a. Fits (node_view a.node) × AllTextsUtf8 (node_view a.node) };
+    ghost invariant = { λ a. IsFlat a.root a.parts };
+}
 
-    ghost size = { depth };
-
-    ghost use Rattle.rmp_serde.specs.TreeFalls.{falls};
-
-    ghost size_decreases = { λ a h. falls a.node };
+impl Value {
+    // The message of these heads: that of the root, and those of its parts.
+    pub(crate) fn from_parts(head: Head, at: usize, parts: Nodes) -> Value
+        requires fits { fits_head head }
+        requires stands { at + content_len head ≤ length parts.bytes.items }
+        requires within { IsWithin parts }
+        requires told { IsTree (content_at parts head at ∷ heads_of parts) }
+        ensures told { result ≡ told_tree (content_at parts head at ∷ heads_of parts) }
+    {
+        let root = Node::new(head, at);
+        let mut told = parts;
+        told.settle();
+        Value { root, parts: told }
+    }
 }

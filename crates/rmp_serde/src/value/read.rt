@@ -1,173 +1,194 @@
 //! Reads a value, in whatever widths it is spelled.
-ghost use Rattle.std.specs.Prelude.{◌≡◌, ◌≢◌, false, None, OnOk, IfOk, IfErr};
-ghost use Rattle.rmp_wire.specs.Msg.{list, map as map_of, msgs, pairs};
+ghost use Rattle.std.specs.Prelude.{◌≡◌, ◌≢◌, ◌⊎◌, ◌-◌, ◌<◌, false, true, None, OnOk, OnErr, IfOk, IfErr};
+ghost use Rattle.rmp_wire.specs.Heads.{fits_head};
+ghost use Rattle.rmp_decode.specs.Content.{IsRawHead, IsExtHead};
+ghost use Rattle.rmp_decode.specs.Kinds.{Finds};
 ghost use Rattle.rmp_decode.specs.Law.{Lawful};
-ghost use Rattle.rmp_decode.specs.Maps.{IsMapOpen, AtKey, pairs_left, map_lender};
-ghost use Rattle.rmp_decode.specs.Seq.{IsOpen, left_in, lender_of};
-ghost use Rattle.rmp_decode.specs.declared.access.any.Any.TheVariants as any;
-ghost use Rattle.rmp_decode.specs.Refuse.{Refusal};
-ghost use Rattle.rmp_serde.specs.Read.{reads_value, ItemsUtf8, IsOpened, Finishes, Completes};
-ghost use Rattle.rmp_serde.specs.Refuse.{UnreadFor, RefusesValue, RefusesOpened};
+ghost use Rattle.rmp_decode.specs.Refuse.{Refusal, RefusesRowFirst};
+ghost use Rattle.rmp_decode.specs.Skip.{parts_head, parts_count};
+ghost use Rattle.rmp_decode.specs.State.{failed_of, is_failed, kept_of, room_of, Stays};
+ghost use Rattle.rmp_decode.specs.declared.deserializer.Kept.TheVariants.{Nothing};
+ghost use Rattle.rmp_serde.specs.Flat.{heads_of, IsWithin};
+ghost use Rattle.rmp_serde.specs.Read.{reads_value, ItemsUtf8};
+ghost use Rattle.rmp_serde.specs.ReadParts.{IsLeafHead, TakesBehind, TakesLeaf, FailsLeaf, ReadsTrees};
+ghost use Rattle.rmp_serde.specs.Refuse.{UnreadFor, RefusesValue};
 
-use crate::value::{Node, Value};
-use rmp_decode::{
-    Any, Deserialize, Deserializer, Error, MapAccess, RawAccess, ReadContent, SeqAccess, Slices,
-};
+use crate::value::Value;
+use crate::value::flat::Nodes;
+use rmp_decode::{Deserialize, Deserializer, Error, ReadContent, Slices};
 use rmp_wire::config::{DefaultConfig, SerializerConfig};
-use rmp_wire::{ReadRefReader, ReadSlice, Source};
+use rmp_wire::{Head, ReadRefReader, ReadSlice, Source};
 use std::alloc::Global;
+
+// Whether a head opens a map or a list, and how many pairs or items follow.
+#[inline(always)]
+fn parts_in(head: Head) -> Option<(bool, u32)>
+    ensures { Finds (λ h p. h ≡ parts_head p.0 p.1) head result }
+{
+    match head {
+        Head::Array(n) => Some((false, n)),
+        Head::Map(n) => Some((true, n)),
+        _ => None,
+    }
+}
+
+// How many messages follow the head of a list or a map: of a map two a pair.
+#[inline(always)]
+fn messages(is_map: bool, n: u32) -> u64
+    ensures same { result ≡ parts_count is_map n }
+    ensures below { result < 8589934592 }
+{
+    if is_map {
+        2 * u64::from(n)
+    } else {
+        u64::from(n)
+    }
+}
+
+// Takes the content behind the head of a leaf, where it has some, to the end of the buffer.
+#[inline(always)]
+fn read_content<R: Source, C: SerializerConfig, P: ReadContent<R>>(
+    de: &mut Deserializer<R, C>,
+    head: Head,
+    bytes: &mut Vec<u8>,
+) -> Result<(), Error>
+    requires ready { is_failed de.old ≡ false }
+    requires clean { kept_of de.old ≡ Nothing }
+    requires leaf { IsLeafHead head }
+    ensures ok { OnOk result (TakesBehind R.Source head de.old de.new bytes.old.items bytes.new.items) }
+    ensures err { IfErr result (FailsLeaf R.Source head (failed_of de.old) de.new) }
+    ensures content { OnErr result (IsRawHead head ⊎ IsExtHead head) }
+{
+    match head {
+        Head::Text(len) => de.append_text::<P>(len, bytes),
+        Head::Bin(len) => de.append_content::<P>(len, bytes),
+        Head::Ext(len, _) => de.append_content::<P>(len, bytes),
+        _ => Ok(()),
+    }
+}
+
+// Reads what stands behind the head of a leaf, and makes a node of both.
+#[inline(always)]
+fn read_leaf<R: Source, C: SerializerConfig, P: ReadContent<R>>(
+    de: &mut Deserializer<R, C>,
+    head: Head,
+    made: &mut Nodes,
+) -> Result<(), Error>
+    requires ready { is_failed de.old ≡ false }
+    requires clean { kept_of de.old ≡ Nothing }
+    requires leaf { IsLeafHead head }
+    requires fits { fits_head head }
+    requires within { IsWithin made.old }
+    ensures ok { OnOk result (TakesLeaf R.Source head de.old de.new (heads_of made.old) (heads_of made.new)) }
+    ensures within { OnOk result (IsWithin made.new) }
+    ensures err { IfErr result (λ e. (e ≡ Error.OutOfMemory) ⊎ FailsLeaf R.Source head (failed_of de.old) de.new e) }
+    ensures failed { OnErr result (is_failed de.new ≡ true) }
+    ensures stays { OnErr result (Stays R.Source de.old de.new) }
+{
+    let at = made.bytes.len();
+    match read_content::<R, C, P>(de, head, &mut made.bytes) {
+        Ok(()) => match made.push(head, at) {
+            Ok(()) => Ok(()),
+            Err(_) => Err(de.refuse(Error::OutOfMemory)),
+        },
+        Err(e) => Err(e),
+    }
+}
+
+// Reads the messages of a list or a map whose head was taken, with all that stands in them, in one loop: what lists and maps that
+// stand open still want is counted.
+fn read_parts<R: Source, C: SerializerConfig, P: ReadContent<R>>(
+    de: &mut Deserializer<R, C>,
+    count: u64,
+    made: &mut Nodes,
+) -> Result<(), Error>
+    requires ready { is_failed de.old ≡ false }
+    requires clean { kept_of de.old ≡ Nothing }
+    requires deep { 1 < room_of de.old }
+    requires within { IsWithin made.old }
+    ensures law { ReadsTrees R.Source (room_of de.old - 1) count de.old de.new (heads_of made.old) (heads_of made.new) result }
+    ensures within { OnOk result (IsWithin made.new) }
+    ensures refusal { IfErr result (λ e. e ≢ Error.OutOfMemory
+        → RefusesRowFirst R.Source UnreadFor ItemsUtf8 (room_of de.old - 1) count de.old de.new e) }
+{
+    // What the innermost list or map still wants nests below this.
+    let mut room = de.room() - 1;
+    let mut wanted = count;
+    // What those that stand open around it still want, the outermost first.
+    let mut outer: Vec<u64> = Vec::new(de.alloc());
+    'parts: loop {
+        if wanted == 0 {
+            match outer.pop() {
+                Some(n) => {
+                    wanted = n;
+                    room += 1;
+                }
+                None => return Ok(()),
+            }
+        } else {
+            wanted -= 1;
+            match de.deserialize_head() {
+                Ok(head) => match parts_in(head) {
+                    Some((is_map, n)) => {
+                        if room <= 1 {
+                            return Err(de.refuse(Error::DepthLimitExceeded));
+                        }
+                        match made.push(head, 0) {
+                            Ok(()) => {}
+                            Err(_) => return Err(de.refuse(Error::OutOfMemory)),
+                        }
+                        let inner = messages(is_map, n);
+                        if inner > 0 {
+                            match outer.push(wanted) {
+                                Ok(()) => {}
+                                Err(_) => return Err(de.refuse(Error::OutOfMemory)),
+                            }
+                            room -= 1;
+                            wanted = inner;
+                        }
+                    }
+                    None => match read_leaf::<R, C, P>(de, head, made) {
+                        Ok(()) => {}
+                        Err(e) => return Err(e),
+                    },
+                },
+                Err(e) => return Err(e),
+            }
+        }
+    }
+}
 
 /// Reads a message of any kind whose texts are UTF-8. The content of texts, bytes and extensions is taken by `P`.
 ///
 /// # Errors
 /// As `Value::read`.
-#[cycle(reading)]
 pub fn read_value<R: Source, C: SerializerConfig, P: ReadContent<R>>(
     de: &mut Deserializer<R, C>,
 ) -> Result<Value, Error>
     ensures law { Lawful R.Source reads_value de.old de.new result }
     ensures refusal { IfErr result (RefusesValue R.Source de.old de.new) }
 {
-    let alloc = de.alloc();
-    match de.deserialize_any() {
-        Ok(Any::Nil(leaf)) => {
-            leaf.value();
-            Ok(Value { node: Node::Nil })
-        }
-        Ok(Any::Truth(leaf)) => Ok(Value {
-            node: Node::Truth(leaf.value()),
-        }),
-        Ok(Any::Whole(leaf)) => Ok(Value {
-            node: Node::Whole(leaf.value()),
-        }),
-        Ok(Any::F32Bits(leaf)) => Ok(Value {
-            node: Node::F32(leaf.value()),
-        }),
-        Ok(Any::F64Bits(leaf)) => Ok(Value {
-            node: Node::F64(leaf.value()),
-        }),
-        Ok(Any::Text(raw)) => read_text::<R, C, P>(raw),
-        Ok(Any::Bytes(raw)) => read_bytes::<R, C, P>(raw),
-        Ok(Any::Ext(raw)) => read_ext::<R, C, P>(raw),
-        Ok(Any::Seq(mut seq)) => {
-            let items = read_items::<R, C, P>(alloc, &mut seq)?;
-            seq.end()?;
-            Ok(Value {
-                node: Node::List(items),
-            })
-        }
-        Ok(Any::Map(mut map)) => {
-            let found = read_pairs::<R, C, P>(alloc, &mut map)?;
-            map.end()?;
-            Ok(Value {
-                node: Node::Map(found),
-            })
+    match de.deserialize_head() {
+        Ok(head) => {
+            let mut made = Nodes::new(de.alloc());
+            match parts_in(head) {
+                Some((is_map, n)) => {
+                    if de.room() <= 1 {
+                        return Err(de.refuse(Error::DepthLimitExceeded));
+                    }
+                    match read_parts::<R, C, P>(de, messages(is_map, n), &mut made) {
+                        Ok(()) => Ok(Value::from_parts(head, 0, made)),
+                        Err(e) => Err(e),
+                    }
+                }
+                None => match read_content::<R, C, P>(de, head, &mut made.bytes) {
+                    Ok(()) => Ok(Value::from_parts(head, 0, made)),
+                    Err(e) => Err(e),
+                },
+            }
         }
         Err(e) => Err(e),
     }
-}
-
-// The content of a text.
-fn read_text<R: Source, C: SerializerConfig, P: ReadContent<R>>(
-    raw: RawAccess<'_, R, C>,
-) -> Result<Value, Error>
-    requires opened { IsOpened R.Source (any.Text raw) }
-    ensures law { Finishes R.Source (any.Text raw.entry) raw.exit.0.now result }
-    ensures refusal { IfErr result (RefusesOpened R.Source (any.Text raw.entry) raw.exit.0.now) }
-{
-    match raw.text::<P>() {
-        Ok(text) => Ok(Value {
-            node: Node::Text(text),
-        }),
-        Err(e) => Err(e),
-    }
-}
-
-// The content of bytes.
-fn read_bytes<R: Source, C: SerializerConfig, P: ReadContent<R>>(
-    raw: RawAccess<'_, R, C>,
-) -> Result<Value, Error>
-    requires opened { IsOpened R.Source (any.Bytes raw) }
-    ensures law { Finishes R.Source (any.Bytes raw.entry) raw.exit.0.now result }
-    ensures refusal { IfErr result (RefusesOpened R.Source (any.Bytes raw.entry) raw.exit.0.now) }
-{
-    match raw.take::<P>() {
-        Ok(bytes) => Ok(Value {
-            node: Node::Bytes(bytes),
-        }),
-        Err(e) => Err(e),
-    }
-}
-
-// The content of an extension.
-fn read_ext<R: Source, C: SerializerConfig, P: ReadContent<R>>(
-    raw: RawAccess<'_, R, C>,
-) -> Result<Value, Error>
-    requires opened { IsOpened R.Source (any.Ext raw) }
-    ensures law { Finishes R.Source (any.Ext raw.entry) raw.exit.0.now result }
-    ensures refusal { IfErr result (RefusesOpened R.Source (any.Ext raw.entry) raw.exit.0.now) }
-{
-    let tag = raw.tag();
-    match raw.take::<P>() {
-        Ok(bytes) => Ok(Value {
-            node: Node::Ext(tag, bytes),
-        }),
-        Err(e) => Err(e),
-    }
-}
-
-// The items of a list.
-#[cycle(reading)]
-fn read_items<R: Source, C: SerializerConfig, P: ReadContent<R>>(
-    alloc: Global,
-    seq: &mut SeqAccess<'_, R, C>,
-) -> Result<Vec<Value>, Error>
-    requires opened { IsOpened R.Source (any.Seq seq.old) }
-    ensures same_reference { seq.new.de.ghost_name ≡ seq.old.de.ghost_name }
-    ensures law { Completes R.Source (any.Seq seq.old) (λ items. list (msgs items.items)) (lender_of seq.new) result }
-    ensures refusal { IfErr result (RefusesOpened R.Source (any.Seq seq.old) (lender_of seq.new)) }
-    ensures whole { OnOk result (IsOpen seq.new × (left_in seq.new ≡ 0)) }
-{
-    let mut items = Vec::new(alloc);
-    while let Some(item) = seq.next_element_with(
-        |de: &mut Deserializer<R, C>| -> Result<Value, Error>
-            ensures law { Lawful R.Source reads_value de.old de.new result }
-            ensures refusal { IfErr result (RefusesValue R.Source de.old de.new) }
-        { read_value::<R, C, P>(de) },
-    )? {
-        items.push(item)?;
-    }
-    Ok(items)
-}
-
-// The pairs of a map, each a key and then its value.
-#[cycle(reading)]
-fn read_pairs<R: Source, C: SerializerConfig, P: ReadContent<R>>(
-    alloc: Global,
-    map: &mut MapAccess<'_, R, C>,
-) -> Result<Vec<(Value, Value)>, Error>
-    requires opened { IsOpened R.Source (any.Map map.old) }
-    ensures same_reference { map.new.de.ghost_name ≡ map.old.de.ghost_name }
-    ensures law { Completes R.Source (any.Map map.old) (λ found. map_of (pairs found.items)) (map_lender map.new) result }
-    ensures refusal { IfErr result (RefusesOpened R.Source (any.Map map.old) (map_lender map.new)) }
-    ensures whole { OnOk result (IsMapOpen map.new × AtKey map.new × (pairs_left map.new ≡ 0)) }
-{
-    let mut found = Vec::new(alloc);
-    while let Some(key) = map.next_key_with(
-        |de: &mut Deserializer<R, C>| -> Result<Value, Error>
-            ensures law { Lawful R.Source reads_value de.old de.new result }
-            ensures refusal { IfErr result (RefusesValue R.Source de.old de.new) }
-        { read_value::<R, C, P>(de) },
-    )? {
-        let value = map.next_value_with(
-            |de: &mut Deserializer<R, C>| -> Result<Value, Error>
-                ensures law { Lawful R.Source reads_value de.old de.new result }
-                ensures refusal { IfErr result (RefusesValue R.Source de.old de.new) }
-            { read_value::<R, C, P>(de) },
-        )?;
-        found.push((key, value))?;
-    }
-    Ok(found)
 }
 
 impl Value {

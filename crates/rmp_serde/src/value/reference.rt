@@ -1,9 +1,18 @@
 //! A reference to a part of a tree.
 ghost use Rattle.std.specs.Prelude.{◌≡◌, ◌<◌, option_map, IfSome};
-ghost use Rattle.rmp_wire.specs.Msg.{depth};
-ghost use Rattle.rmp_serde.specs.Parts.{tree, kind_of, truth_of, whole_of, float32_of, float64_of, text_of, bytes_of, extension_of, parts_count, item_of, pair_of};
+ghost use Rattle.std.specs.Str.{IsUtf8};
+ghost use Rattle.rmp_wire.specs.Msg.{depth, count};
+ghost use Rattle.rmp_wire.specs.Spelling.{head_of};
+ghost use Rattle.rmp_serde.specs.Flat.{head_in};
+ghost use Rattle.rmp_serde.specs.Tokens.{past_items};
+ghost use Rattle.rmp_serde.specs.Parts.{row_at, row_behind, content_of, parts_of, tree, kind_of, truth_of, whole_of, float32_of, float64_of, text_of, bytes_of, extension_of, parts_count, item_of, pair_of};
 
-use crate::value::{Kind, Node, Value};
+mod parts;
+
+use crate::value::flat::Node;
+use crate::value::{Kind, Value};
+pub use parts::Parts;
+use std::str;
 
 /// A part of a tree, or the whole.
 ///
@@ -11,6 +20,8 @@ use crate::value::{Kind, Node, Value};
 #[derive(Clone, Copy)]
 pub struct ValueRef<'a> {
     value: &'a Value,
+    // The place of its first node: 0 is the root's, and each part's is one more than its index.
+    at: usize,
 }
 
 impl Value {
@@ -18,27 +29,71 @@ impl Value {
     pub fn root(&self) -> ValueRef<'_>
         ensures whole { tree result ≡ self.now }
     {
-        ValueRef { value: self }
+        ValueRef { value: self, at: 0 }
     }
 }
 
 impl<'a> ValueRef<'a> {
+    // Its first node, which is that of its head.
+    #[inline(always)]
+    fn node(self) -> Node
+        ensures head { head_in result ≡ head_of (tree self.entry) }
+    {
+        let value = self.value;
+        value.parts.node(value.root, self.at)
+    }
+
+    // The content of a text, of bytes or of an extension.
+    fn content(self) -> &'a [u8]
+        ensures content { result.now ≡ content_of (tree self.entry) }
+        ensures utf8 { IfSome (text_of (tree self.entry)) IsUtf8 }
+    {
+        let value = self.value;
+        value.parts.content(value.parts.node(value.root, self.at))
+    }
+
+    // The message that is so far behind the head of a list or a map.
+    fn part(self, i: usize) -> ValueRef<'a>
+        requires there { i < parts_of (tree self) }
+        ensures part { row_at result ≡ past_items i (row_behind self.entry) }
+        ensures later { 0 < result.at }
+    {
+        let value = self.value;
+        ValueRef {
+            value,
+            at: value.parts.past(self.at, i) + 1,
+        }
+    }
+
+    // The message behind this one, which is a part.
+    fn next(self) -> ValueRef<'a>
+        requires part { 0 < self.at }
+        requires there { 1 < count (row_at self) }
+        ensures next { row_at result ≡ past_items 1 (row_at self.entry) }
+        ensures later { 0 < result.at }
+    {
+        let value = self.value;
+        ValueRef {
+            value,
+            at: value.parts.past(self.at - 1, 1) + 1,
+        }
+    }
+
     /// What kind of message it is.
     pub fn kind(self) -> Kind
         ensures kind { result ≡ kind_of (tree self.entry) }
     {
-        let value = self.value;
-        match &value.node {
+        match self.node() {
             Node::Nil => Kind::Nil,
             Node::Truth(_) => Kind::Truth,
-            Node::Whole(_) => Kind::Whole,
+            Node::Unsigned(_) | Node::Signed(_) => Kind::Whole,
             Node::F32(_) => Kind::F32,
             Node::F64(_) => Kind::F64,
-            Node::Text(_) => Kind::Text,
-            Node::Bytes(_) => Kind::Bytes,
-            Node::List(_) => Kind::List,
-            Node::Map(_) => Kind::Map,
-            Node::Ext(_, _) => Kind::Ext,
+            Node::Text(_, _) => Kind::Text,
+            Node::Bytes(_, _) => Kind::Bytes,
+            Node::List(_, _) => Kind::List,
+            Node::Map(_, _) => Kind::Map,
+            Node::Ext(_, _, _) => Kind::Ext,
         }
     }
 
@@ -46,9 +101,8 @@ impl<'a> ValueRef<'a> {
     pub fn as_truth(self) -> Option<bool>
         ensures truth { result ≡ truth_of (tree self.entry) }
     {
-        let value = self.value;
-        match &value.node {
-            Node::Truth(truth) => Some(*truth),
+        match self.node() {
+            Node::Truth(truth) => Some(truth),
             _ => None,
         }
     }
@@ -57,9 +111,9 @@ impl<'a> ValueRef<'a> {
     pub fn as_whole(self) -> Option<i128>
         ensures number { result ≡ whole_of (tree self.entry) }
     {
-        let value = self.value;
-        match &value.node {
-            Node::Whole(number) => Some(*number),
+        match self.node() {
+            Node::Unsigned(number) => Some(i128::from(number)),
+            Node::Signed(number) => Some(i128::from(number)),
             _ => None,
         }
     }
@@ -68,9 +122,8 @@ impl<'a> ValueRef<'a> {
     pub fn as_f32_bits(self) -> Option<u32>
         ensures bits { result ≡ float32_of (tree self.entry) }
     {
-        let value = self.value;
-        match &value.node {
-            Node::F32(bits) => Some(*bits),
+        match self.node() {
+            Node::F32(bits) => Some(bits),
             _ => None,
         }
     }
@@ -79,9 +132,8 @@ impl<'a> ValueRef<'a> {
     pub fn as_f64_bits(self) -> Option<u64>
         ensures bits { result ≡ float64_of (tree self.entry) }
     {
-        let value = self.value;
-        match &value.node {
-            Node::F64(bits) => Some(*bits),
+        match self.node() {
+            Node::F64(bits) => Some(bits),
             _ => None,
         }
     }
@@ -90,9 +142,11 @@ impl<'a> ValueRef<'a> {
     pub fn as_str(self) -> Option<&'a str>
         ensures text { option_map (λ s. s.now) result ≡ text_of (tree self.entry) }
     {
-        let value = self.value;
-        match &value.node {
-            Node::Text(text) => Some(text.as_str()),
+        match self.node() {
+            Node::Text(_, _) => {
+                // Every text of a value is UTF-8.
+                Some(unsafe { str::from_utf8_unchecked(self.content()) })
+            }
             _ => None,
         }
     }
@@ -101,9 +155,8 @@ impl<'a> ValueRef<'a> {
     pub fn as_bytes(self) -> Option<&'a [u8]>
         ensures bytes { option_map (λ s. s.now) result ≡ bytes_of (tree self.entry) }
     {
-        let value = self.value;
-        match &value.node {
-            Node::Bytes(bytes) => Some(bytes.as_slice()),
+        match self.node() {
+            Node::Bytes(_, _) => Some(self.content()),
             _ => None,
         }
     }
@@ -112,38 +165,32 @@ impl<'a> ValueRef<'a> {
     pub fn as_ext(self) -> Option<(i8, &'a [u8])>
         ensures extension { option_map (λ e. (e.0, e.1.now)) result ≡ extension_of (tree self.entry) }
     {
-        let value = self.value;
-        match &value.node {
-            Node::Ext(tag, bytes) => Some((*tag, bytes.as_slice())),
+        match self.node() {
+            Node::Ext(tag, _, _) => Some((tag, self.content())),
             _ => None,
         }
     }
 
     /// How many items a list or pairs a map has, and 0 for any other kind.
-    #[tactic(auto, using(crate::proofs::Trees::counts))]
     pub fn len(self) -> usize
         ensures count { result ≡ parts_count (tree self.entry) }
     {
-        let value = self.value;
-        match &value.node {
-            Node::List(items) => items.len(),
-            Node::Map(entries) => entries.len(),
+        match self.node() {
+            Node::List(len, _) | Node::Map(len, _) => len as usize,
             _ => 0,
         }
     }
 
     /// The item of a list at an index from 0, where it has one.
-    #[tactic(auto, using(crate::proofs::Trees::item_at, crate::proofs::Trees::item_past))]
     pub fn item(self, i: usize) -> Option<ValueRef<'a>>
         ensures item { option_map tree result ≡ item_of (tree self.entry) i }
         // A part is less deep than the whole.
         ensures smaller { IfSome result (λ v. depth (tree v) < depth (tree self.entry)) }
     {
-        let value = self.value;
-        match &value.node {
-            Node::List(items) => {
-                if i < items.len() {
-                    Some(ValueRef { value: &items[i] })
+        match self.node() {
+            Node::List(len, _) => {
+                if i < len as usize {
+                    Some(self.part(i))
                 } else {
                     None
                 }
@@ -153,19 +200,17 @@ impl<'a> ValueRef<'a> {
     }
 
     /// The key and the value of a map's pair at an index from 0, where it has one.
-    #[tactic(auto, using(crate::proofs::Trees::pair_at, crate::proofs::Trees::pair_past))]
     pub fn pair(self, i: usize) -> Option<(ValueRef<'a>, ValueRef<'a>)>
         ensures pair { option_map (λ p. (tree p.0, tree p.1)) result ≡ pair_of (tree self.entry) i }
         // A part is less deep than the whole.
         ensures smaller_key { IfSome result (λ p. depth (tree p.0) < depth (tree self.entry)) }
         ensures smaller_value { IfSome result (λ p. depth (tree p.1) < depth (tree self.entry)) }
     {
-        let value = self.value;
-        match &value.node {
-            Node::Map(entries) => {
-                if i < entries.len() {
-                    let entry = &entries[i];
-                    Some((ValueRef { value: &entry.0 }, ValueRef { value: &entry.1 }))
+        match self.node() {
+            Node::Map(len, _) => {
+                if i < len as usize {
+                    let key = self.part(2 * i);
+                    Some((key, key.next()))
                 } else {
                     None
                 }

@@ -1,0 +1,14 @@
+use Rattle.std.proofs.Common.{◌∙◌, ap, ◌++◌}
+use Rattle.rmp_wire.specs.Slices.{reference_bytes}
+use Rattle.rmp_decode.proofs.content.SlicesReadContent.append.Goals as goal
+
+pub returns-in-Ok-extend_from_slice-clause-ok : goal.returns-in-Ok-extend_from_slice-clause-ok
+returns-in-Ok-extend_from_slice-clause-ok g c = record {
+  passes = record {
+    bytes = reference_bytes c.in-Ok.piece;
+    long = c.in-Ok.ensures.count;
+    are_bytes = c.in-Ok.ensures.bytes;
+    taken = (rw c.in-Ok.is at c.read_slice.follows.holds-at-none).0.0;
+  };
+  whole = c.in-Ok-extend_from_slice.ensures.items ∙ ap (λ z. c.args.bytes.now.items ++ z) c.as_bytes.ensures;
+}

@@ -1,0 +1,87 @@
+use Rattle.std.proofs.Common.{arith}
+use Rattle.rmp_serde.specs.Flat.{heads_of}
+use Rattle.rmp_serde.proofs.ReadLoop.{fits_as}
+use Rattle.rmp_serde.proofs.ReadTop.{
+  is_tree,
+  tree_law,
+  leaf_read,
+  leaf_unread,
+  leaf_wrong,
+  deep_unread,
+  deep_wrong,
+  nest_read,
+  nest_unread,
+  nest_wrong,
+  none_wrong,
+}
+use Rattle.rmp_decode.proofs.Laws.{refused_none}
+use Rattle.rmp_serde.proofs.value.read.read_value.Goals as goal
+
+pub returns-then-room-le1-clause-law : goal.returns-then-room-le1-clause-law
+returns-then-room-le1-clause-law g c = rw c.refuse.ensures.failed
+    (deep_unread g.R.Source c.args.de.now c.deserialize_head.new.self (c.in-Ok.ensures.ok.marker, c.in-Ok.head) c.in-Ok.ensures.ok.begun
+    c.in-Some.is_map c.in-Some.n c.in-Some.ensures _ (omega (arith, c.room.ensures, c.if-room-le1.true)))
+
+pub returns-then-room-le1-clause-refusal : goal.returns-then-room-le1-clause-refusal
+returns-then-room-le1-clause-refusal g c = rw (c.refuse.ensures.failed, c.refuse.ensures.same)
+    (deep_wrong g.R.Source c.args.de.now c.deserialize_head.new.self (c.in-Ok.ensures.ok.marker, c.in-Ok.head) c.in-Ok.ensures.ok.begun
+    c.in-Some.is_map c.in-Some.n c.in-Some.ensures (omega (arith, c.room.ensures, c.if-room-le1.true)))
+
+pub from_parts-requires-clause-fits : goal.from_parts-requires-clause-fits
+from_parts-requires-clause-fits g c = fits_as c.args.de.now.strict c.in-Ok.head _ c.in-Ok.ensures.ok.begun.ok.is_head
+
+pub from_parts-requires-clause-told : goal.from_parts-requires-clause-told
+from_parts-requires-clause-told g c = is_tree g.R.Source c.args.de.now c.read_parts.new.de _
+    (nest_read g.R.Source c.args.de.now c.deserialize_head.new.self (c.in-Ok.ensures.ok.marker, c.in-Ok.head) c.in-Ok.ensures.ok.begun
+    c.in-Some.is_map c.in-Some.n c.in-Some.ensures c.read_parts.new.de _ _ c.read_parts.new.made.bytes.items
+    (omega (arith, c.room.ensures, c.if-room-le1.false)) (rw (← c.messages.ensures.same) c.in-Ok-read_parts.ensures.law) c.new-made.ensures.none)
+
+pub from_parts-requires-in-Ok-read_content-clause-fits : goal.from_parts-requires-in-Ok-read_content-clause-fits
+from_parts-requires-in-Ok-read_content-clause-fits g c = fits_as c.args.de.now.strict c.in-Ok.head _ c.in-Ok.ensures.ok.begun.ok.is_head
+
+pub from_parts-requires-in-Ok-read_content-clause-told : goal.from_parts-requires-in-Ok-read_content-clause-told
+from_parts-requires-in-Ok-read_content-clause-told g c = is_tree g.R.Source c.args.de.now c.read_content.new.de _
+    (leaf_read g.R.Source c.args.de.now c.deserialize_head.new.self (c.in-Ok.ensures.ok.marker, c.in-Ok.head) c.in-Ok.ensures.ok.begun
+    c.read_content.new.de c.new-made.result.bytes.items c.read_content.new.bytes.items c.new-made.result.nodes.items c.in-None.ensures
+    c.in-Ok-read_content.ensures.ok c.new-made.ensures.empty c.new-made.ensures.none)
+
+pub returns-in-Ok-read_parts-clause-law : goal.returns-in-Ok-read_parts-clause-law
+returns-in-Ok-read_parts-clause-law g c = tree_law g.R.Source c.args.de.now c.read_parts.new.de _
+    (nest_read g.R.Source c.args.de.now c.deserialize_head.new.self (c.in-Ok.ensures.ok.marker, c.in-Ok.head) c.in-Ok.ensures.ok.begun
+    c.in-Some.is_map c.in-Some.n c.in-Some.ensures c.read_parts.new.de _ _ c.read_parts.new.made.bytes.items
+    (omega (arith, c.room.ensures, c.if-room-le1.false)) (rw (← c.messages.ensures.same) c.in-Ok-read_parts.ensures.law) c.new-made.ensures.none) _ c.from_parts.ensures.told
+
+pub returns-in-Err-read_parts-clause-law : goal.returns-in-Err-read_parts-clause-law
+returns-in-Err-read_parts-clause-law g c =
+    nest_unread g.R.Source c.args.de.now c.deserialize_head.new.self (c.in-Ok.ensures.ok.marker, c.in-Ok.head) c.in-Ok.ensures.ok.begun
+    c.in-Some.is_map c.in-Some.n c.in-Some.ensures c.read_parts.new.de c.in-Err-read_parts.e (heads_of c.new-made.result)
+    (heads_of c.read_parts.new.made)
+    (omega (arith, c.room.ensures, c.if-room-le1.false)) (rw (← c.messages.ensures.same) c.in-Err-read_parts.ensures.law)
+
+pub returns-in-Err-read_parts-clause-refusal : goal.returns-in-Err-read_parts-clause-refusal
+returns-in-Err-read_parts-clause-refusal g c =
+    nest_wrong g.R.Source c.args.de.now c.deserialize_head.new.self (c.in-Ok.ensures.ok.marker, c.in-Ok.head) c.in-Ok.ensures.ok.begun
+    c.in-Some.is_map c.in-Some.n c.in-Some.ensures c.read_parts.new.de c.in-Err-read_parts.e
+    (omega (arith, c.room.ensures, c.if-room-le1.false)) (rw (← c.messages.ensures.same) c.in-Err-read_parts.ensures.refusal)
+
+pub returns-in-Ok-read_content-clause-law : goal.returns-in-Ok-read_content-clause-law
+returns-in-Ok-read_content-clause-law g c = tree_law g.R.Source c.args.de.now c.read_content.new.de _
+    (leaf_read g.R.Source c.args.de.now c.deserialize_head.new.self (c.in-Ok.ensures.ok.marker, c.in-Ok.head) c.in-Ok.ensures.ok.begun
+    c.read_content.new.de c.new-made.result.bytes.items c.read_content.new.bytes.items c.new-made.result.nodes.items c.in-None.ensures
+    c.in-Ok-read_content.ensures.ok c.new-made.ensures.empty c.new-made.ensures.none) _ c.from_parts-in-Ok-read_content.ensures.told
+
+pub returns-in-Err-read_content-clause-law : goal.returns-in-Err-read_content-clause-law
+returns-in-Err-read_content-clause-law g c =
+    leaf_unread g.R.Source c.args.de.now c.deserialize_head.new.self (c.in-Ok.ensures.ok.marker, c.in-Ok.head) c.in-Ok.ensures.ok.begun
+    c.read_content.new.de c.in-Err-read_content.e c.in-Err-read_content.ensures.err
+
+pub returns-in-Err-read_content-clause-refusal : goal.returns-in-Err-read_content-clause-refusal
+returns-in-Err-read_content-clause-refusal g c =
+    leaf_wrong g.R.Source c.args.de.now c.deserialize_head.new.self (c.in-Ok.ensures.ok.marker, c.in-Ok.head) c.in-Ok.ensures.ok.begun
+    c.read_content.new.de c.in-Err-read_content.e c.in-Err-read_content.ensures.content c.in-Err-read_content.ensures.err
+
+pub returns-in-Err-clause-law : goal.returns-in-Err-clause-law
+returns-in-Err-clause-law g c = refused_none _ _ _ _ _ c.in-Err.ensures.err
+
+pub returns-in-Err-clause-refusal : goal.returns-in-Err-clause-refusal
+returns-in-Err-clause-refusal g c = none_wrong _ _ _ _ c.in-Err.ensures.err
