@@ -18,7 +18,12 @@ def read(*path):
 
 
 def names_below(*path):
-    return [os.path.join(at, it) for at, _, files in os.walk(os.path.join(TOP, *path)) for it in files]
+    found = []
+    for at, folders, files in os.walk(os.path.join(TOP, *path)):
+        # (what was built is no source)
+        folders[:] = [it for it in folders if it != "out"]
+        found += [os.path.join(at, it) for it in files]
+    return found
 
 
 def main():
