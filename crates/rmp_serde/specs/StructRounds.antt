@@ -87,7 +87,7 @@ place_among (p ∷ front) n names h =
     let all = front ++ n ∷ names in
     let parts = both_by (is_new all p) (distinct all) h in
     ap (λ b. cond b (Some 0) (option_map suc (place_of all n)))
-      (is_false (bytes_eq p n) (λ t. new_apart front n p names parts.0 ((bytes_eq-Decides p n).0 t)))
+    (is_false (bytes_eq p n) (λ t. new_apart front n p names parts.0 ((bytes_eq-Decides p n).0 t)))
     ∙ ap (option_map suc) (place_among front n names parts.1)
 
 -- ---- the fields of a struct
@@ -122,12 +122,12 @@ module _ (s : Settings) where
       let names = names_in x in
       let left = blank names in
       met_one (front ++ n ∷ names) (gs ++ None ∷ left) (gs ++ Some m ∷ left) n m (lower_named s x) (length front) (place_among front n names h)
-        (ap (λ k. put k m (gs ++ None ∷ left)) (sym l) ∙ put_at gs m left)
+      (ap (λ k. put k m (gs ++ None ∷ left)) (sym l) ∙ put_at gs m left)
       ∙ ap (λ all. met all (gs ++ Some m ∷ left) (lower_named s x)) (sym (append_assoc front (n ∷ []) names))
       ∙ ap (λ fs. met ((front ++ n ∷ []) ++ names) fs (lower_named s x)) (sym (append_assoc gs (Some m ∷ []) left))
       ∙ met_all (front ++ n ∷ []) (gs ++ Some m ∷ []) x
-        (length-append gs (Some m ∷ []) ∙ ap (λ k. k + 1) l ∙ sym (length-append front (n ∷ [])))
-        (subst (λ all. distinct all ≡ true) (sym (append_assoc front (n ∷ []) names)) h)
+      (length-append gs (Some m ∷ []) ∙ ap (λ k. k + 1) l ∙ sym (length-append front (n ∷ [])))
+      (subst (λ all. distinct all ≡ true) (sym (append_assoc front (n ∷ []) names)) h)
       ∙ ap Some (append_assoc gs (Some m ∷ []) (given_all (lower_values s x)))
 
   pub fields_read : (b : Bool) (x : Fields) (Q : List (Option Msg) → Type 0) → distinct (names_in x) ≡ true → Q (given_all (lower_values s x))
