@@ -7,10 +7,10 @@ use Rattle.std.proofs.lemmas.List.{append-nil, drop-drop}
 use Rattle.rmp_wire.specs.declared.head.Head.{Head}
 use Rattle.rmp_wire.specs.declared.head.Head.TheVariants.{Nil, Truth, Whole, F32Bits, F64Bits, Text, Bin, Array, Map, Ext}
 use Rattle.rmp_wire.specs.Msg.{Msg, nil, truth, whole, float32, float64, text, bin, list, map, extension, Msgs, no_items, item, Pairs, no_pairs, pair, count, count_pairs, items_of, pairs_of, depth, depth_all, depth_pairs}
-use Rattle.rmp_wire.specs.Spelling.{head_of}
+use Rattle.rmp_wire.specs.Spelling.{head_of, Fits}
 use Rattle.rmp_decode.proofs.Rows.{append}
-use Rattle.rmp_serde.specs.Flat.{head_in, token_in, heads_in, heads_of, heads_all, EndsBy, IsFlat, IsRow, told_tree, span}
-use Rattle.rmp_serde.specs.Parts.{text_of, item_of, pair_of, content_of, parts_of}
+use Rattle.rmp_serde.specs.Flat.{head_in, parts_in, token_in, heads_in, heads_of, heads_all, EndsBy, IsFlat, IsRow, told_tree, span}
+use Rattle.rmp_serde.specs.Parts.{text_of, item_of, pair_of, content_of, parts_of, parts_in_turn}
 use Rattle.rmp_serde.specs.Read.{AllTextsUtf8, ItemsUtf8, PairsUtf8}
 use Rattle.rmp_serde.specs.Tokens.{Token, tokens, tokens_all, flat_pairs, first_items, past_items, first_pairs, past_pairs, put_head, built, first_tree}
 use Rattle.rmp_serde.specs.declared.value.flat.Node.{Node}
@@ -61,6 +61,12 @@ ends_at end (node ∷ row) (suc at) a = ends_at end row at a.1
 
 pub heads_told : (root : Node) (parts : Nodes) (m : Msg) → IsFlat root parts → told_tree (heads_all root parts) ≡ m → heads_all root parts ≡ tokens m
 heads_told root parts m f e = f.told.told ∙ ap tokens (sym (told_is f.told.tree) ∙ ap told_tree (sym f.told.told) ∙ e)
+
+-- the message has room in its heads, and its texts are UTF-8
+pub value_told : (root : Node) (parts : Nodes) (m : Msg) → IsFlat root parts → told_tree (heads_all root parts) ≡ m → Fits m × AllTextsUtf8 m
+value_told root parts m f e =
+    let same : f.told.tree ≡ m = sym (told_is f.told.tree) ∙ ap told_tree (sym f.told.told) ∙ e in
+    (subst Fits same f.told.fits, subst AllTextsUtf8 same f.told.utf8)
 
 pub row_told : (root : Node) (parts : Nodes) → IsFlat root parts → IsRow (heads_all root parts)
 row_told root parts f = subst IsRow (sym f.told.told) (tree_row f.told.tree)
@@ -257,13 +263,69 @@ pair_is ts at n i r e l =
       omega (arith, nth_depth (2 * n) (2 * i + 1) ms b, deep, ap (λ z. depth (first_tree z)) (past_more (2 * i) ms)),
     )
 
+parts_told : Head → ℕ
+parts_told (Array n) = n
+parts_told (Map n) = 2 * n
+parts_told h = 0
+
+node_parts : (node : Node) → parts_in node ≡ parts_told (head_in node)
+unfolding parts_told
+node_parts nodes.Nil = refl
+node_parts (nodes.Truth t) = refl
+node_parts (nodes.Unsigned n) = refl
+node_parts (nodes.Signed z) = refl
+node_parts (nodes.F32 n) = refl
+node_parts (nodes.F64 n) = refl
+node_parts (nodes.Text len at) = refl
+node_parts (nodes.Bytes len at) = refl
+node_parts (nodes.Ext tag len at) = refl
+node_parts (nodes.List n takes) = refl
+node_parts (nodes.Map n takes) = refl
+
+tree_parts : (m : Msg) → parts_told (head_of m) ≡ parts_of m
+unfolding parts_told
+tree_parts nil = refl
+tree_parts (truth t) = refl
+tree_parts (whole z) = refl
+tree_parts (float32 n) = refl
+tree_parts (float64 n) = refl
+tree_parts (text s) = refl
+tree_parts (bin s) = refl
+tree_parts (list ms) = refl
+tree_parts (map ps) = refl
+tree_parts (extension tag s) = refl
+
+-- the node of a message's head has as many parts as the message
+pub parts_same : (node : Node) (m : Msg) → head_in node ≡ head_of m → parts_in node ≡ parts_of m
+parts_same node m e = node_parts node ∙ ap parts_told e ∙ tree_parts m
+
+turn_first : (t : Token) (ts : List Token) → IsRow (t ∷ ts) → parts_in_turn (told_tree (t ∷ ts)) ≡ items_of (first_items (parts_of (told_tree (t ∷ ts))) (built ts))
+turn_first (Nil, s) ts r = refl
+turn_first (Truth t, s) ts r = refl
+turn_first (Whole z, s) ts r = refl
+turn_first (F32Bits n, s) ts r = refl
+turn_first (F64Bits n, s) ts r = refl
+turn_first (Text n, s) ts r = refl
+turn_first (Bin n, s) ts r = refl
+turn_first (Array n, s) ts r = ap (λ z. items_of (first_items z (built ts))) (sym (list_many n s ts r))
+turn_first (Map n, s) ts r =
+    let many = map_many n s ts r in
+    ap items_of (pairs-items n (built ts) many) ∙ ap (λ z. items_of (first_items (2 * z) (built ts))) (sym many)
+turn_first (Ext n tag, s) ts r = refl
+
+-- the parts of the message at a place, one after another, are the first messages behind its head
+pub turn_at : (ts : List Token) (at : ℕ) → IsRow ts → parts_in_turn (told_tree (drop at ts)) ≡ items_of (first_items (parts_of (told_tree (drop at ts))) (built (drop (suc at) ts)))
+turn_at [] zero r = refl
+turn_at [] (suc at) r = refl
+turn_at (t ∷ ts) zero r = turn_first t ts r
+turn_at (t ∷ ts) (suc at) r = turn_at ts at (row_tail t.0 t.1 ts r)
+
 -- ---- within a value
 
 module _ (root : Node) (parts : Nodes) (m : Msg) (f : IsFlat root parts) (e : told_tree (heads_all root parts) ≡ m) where
   pub all_utf8 : ItemsUtf8 (built (tokens m))
   all_utf8 =
-      let u : AllTextsUtf8 m = subst AllTextsUtf8 (sym (told_is f.told.tree) ∙ ap told_tree (sym f.told.told) ∙ e) f.told.utf8 in
-      subst ItemsUtf8 (sym (ap built (sym (append-nil (tokens m))) ∙ built_tree m [])) (u, tt)
+      subst ItemsUtf8 (sym (ap built (sym (append-nil (tokens m))) ∙ built_tree m [])) ((value_told root parts m f e).1, tt)
 
   pub behind_row : (p : ℕ) → IsRow (drop p (heads_of parts))
   behind_row p = row_drop (suc p) (heads_all root parts) (row_told root parts f)

@@ -1,12 +1,9 @@
 -- How the writes of a tree's parts join.
 use Rattle.std.proofs.Common.{
-  to_z,
-  of_z,
   ◌≡◌,
   ℕ,
   zero,
   suc,
-  ℤ,
   get_or,
   ◌<◌,
   List,
@@ -25,8 +22,6 @@ use Rattle.std.proofs.Common.{
   append_assoc,
 }
 use Rattle.std.proofs.lemmas.List.{length-append}
-use Rattle.std.proofs.lemmas.Int.{to_z-of_z}
-use Rattle.std.specs.Int.{w8}
 use Rattle.std.specs.Io.KnownBytes.{Appends}
 use Rattle.std.proofs.KnownBytes.{Appends-trans}
 use Rattle.std.specs.Prelude.{Bool, Result, Ok, Err}
@@ -34,11 +29,6 @@ use Rattle.std.specs.List.{flat_map}
 use Rattle.rmp_wire.specs.declared.error.ValueWriteError.{ValueWriteError}
 use Rattle.rmp_wire.specs.declared.error.ValueWriteError.TheVariants.{InvalidMarkerWrite, InvalidDataWrite, OutOfMemory}
 use Rattle.rmp_wire.specs.Sinks.{next_fault, StopsAfter, Puts}
-use Rattle.rmp_wire.specs.Heads.{canon_head, fits_head}
-use Rattle.rmp_wire.specs.Msg.{Msg, list, map, extension, msgs, pairs}
-use Rattle.rmp_wire.specs.Spelling.{canon, Fits}
-use Rattle.rmp_wire.specs.declared.head.Head.TheVariants.{Array, Map, Ext}
-use Rattle.rmp_wire.proofs.Lists.{canon-list, canon-map}
 use Rattle.rmp_serde.specs.TreeWrites.{StopsWithin, TakesPart, TakesTree}
 
 part_of : {A : Type 0} {m : Bool} {bytes : List ℕ} {a b : Option (List ℕ)} {f g : ℕ} {e : ValueWriteError} → TakesPart m bytes a b f g e
@@ -102,7 +92,7 @@ takes_stop cs p =
       cause = p.stops.cause;
     })
 
--- ---- a list's items and a map's pairs
+-- ---- parts one after another
 
 flat_map_split : {X : Type 0} (f : X → List ℕ) (xs : List X) (i : ℕ) (x : X) → i < length xs → x ≡ get_or xs i x
     → (flat_map f (take i xs) ++ f x) ++ flat_map f (drop (suc i) xs) ≡ flat_map f xs
@@ -118,17 +108,3 @@ pub takes_until : {X : Type 0} {A B : Type 0} {m : Bool} {a b c : Option (List �
     → List ℕ) (xs : List X) (i : ℕ) (x : X) → i < length xs → x ≡ get_or xs i x
     → TakesTree m (flat_map f (take i xs)) a b k g (Ok u) → TakesTree {A = A} m (f x) b c g h (Err e) → TakesTree {A = A} m (flat_map f xs) a c k h (Err e)
 takes_until f xs i x within is p q = takes_as (flat_map_split f xs i x within is) (takes_stop (flat_map f (drop (suc i) xs)) (takes_then p q))
-
-pub list_is : (xs : List Msg) (n : ℕ) (m : Msg) → n ≡ length xs → list (msgs xs) ≡ m → canon_head (Array n) ++ flat_map canon xs ≡ canon m
-list_is xs n m e is = ap (λ k. canon_head (Array k) ++ flat_map canon xs) e ∙ sym (canon-list xs) ∙ ap canon is
-
-pub map_is : (ps : List (Msg × Msg)) (n : ℕ) (m : Msg) → n ≡ length ps → map (pairs ps) ≡ m
-    → canon_head (Map n) ++ flat_map (λ p. canon p.0 ++ canon p.1) ps ≡ canon m
-map_is ps n m e is = ap (λ k. canon_head (Map k) ++ flat_map (λ p. canon p.0 ++ canon p.1) ps) e ∙ sym (canon-map ps) ∙ ap canon is
-
-pub extension_is : (tag z : ℤ) (s : List ℕ) (n : ℕ) (m : Msg) → n ≡ length s → z ≡ tag → extension tag s ≡ m → canon_head (Ext n z) ++ s ≡ canon m
-extension_is tag z s n m e same is = ap (λ k. canon_head (Ext k z) ++ s) e ∙ ap (λ k. canon_head (Ext (length s) k) ++ s) same ∙ ap canon is
-
-pub tag_fits : (tag : ℤ) (s : List ℕ) → Fits (extension tag s) → to_z w8 (of_z w8 tag) ≡ tag
-unfolding fits_head
-tag_fits tag s f = to_z-of_z w8 tag f.0.1

@@ -1,8 +1,9 @@
 -- What nodes and the buffer of their content say.
-use Rattle.std.specs.Prelude.{◌≡◌, ◌≤◌, ◌+◌, ◌*◌, ℕ, List, [], ◌∷◌, ⊤, length, take, drop, map, pos}
+use Rattle.std.specs.Prelude.{◌≡◌, ◌≤◌, ◌+◌, ◌*◌, ℕ, List, [], ◌∷◌, ◌++◌, ⊤, length, take, drop, map, pos}
 use Rattle.std.specs.List.{AllByRecursion}
 use Rattle.rmp_wire.specs.declared.head.Head.{Head}
 use Rattle.rmp_wire.specs.declared.head.Head.TheVariants.{Nil, Truth, Whole, F32Bits, F64Bits, Text, Bin, Array, Map, Ext}
+use Rattle.rmp_wire.specs.Heads.{canon_head}
 use Rattle.rmp_wire.specs.Msg.{Msg}
 use Rattle.rmp_wire.specs.Spelling.{Fits}
 use Rattle.rmp_decode.specs.Kinds.{content_len}
@@ -57,6 +58,13 @@ EndsBy end node = Unit {0}
 -- the content of each node stands within the buffer
 abbrev pub IsWithin : Nodes → Type 0
 IsWithin made = AllByRecursion (EndsBy (length made.bytes.items)) made.nodes.items
+
+-- the canonical head of a node, and its content
+abbrev pub spelled_in : List ℕ → Node → List ℕ
+spelled_in buffer (nodes.Text len at) = canon_head (Text len) ++ take len (drop at buffer)
+spelled_in buffer (nodes.Bytes len at) = canon_head (Bin len) ++ take len (drop at buffer)
+spelled_in buffer (nodes.Ext tag len at) = canon_head (Ext len tag) ++ take len (drop at buffer)
+spelled_in buffer node = canon_head (head_in node)
 
 -- how many nodes it takes, with those of all that stands in it
 abbrev pub takes_in : Node → ℕ

@@ -17,6 +17,7 @@ pub mod Flat
 pub mod LeafRounds
 pub mod MapRounds
 pub mod Parts
+pub mod PartsLeft
 pub mod Places
 pub mod RawRounds
 pub mod Raws
@@ -27,9 +28,7 @@ pub mod RoundTrip
 pub mod Rounds
 pub mod Short
 pub mod Tokens
-pub mod TreeFalls
 pub mod TreeWrites
 pub mod ValueData
 pub mod ValueLowers
-pub mod View
 pub mod WideRounds

@@ -1,7 +1,7 @@
 -- The parts of a tree.
 use Rattle.std.specs.Prelude.{ℕ, suc, ◌*◌, ℤ, Bool, List, [], Option, Some, None, drop, slice_get}
 use Rattle.rmp_wire.specs.Msg.{Msg, nil, truth, whole, float32, float64, text, bin, list, map, extension, Msgs, count, count_pairs, items_of, pairs_of}
-use Rattle.rmp_serde.specs.Tokens.{tokens, built, first_tree}
+use Rattle.rmp_serde.specs.Tokens.{tokens, built, flat_pairs, first_tree}
 use Rattle.rmp_serde.specs.declared.value.kind.Kind.{Kind}
 use Rattle.rmp_serde.specs.declared.value.kind.Kind.TheVariants as kinds
 use Rattle.rmp_serde.specs.declared.value.reference.ValueRef.{ValueRef}
@@ -89,3 +89,9 @@ abbrev pub parts_of : Msg → ℕ
 parts_of (list ms) = count ms
 parts_of (map ps) = 2 * count_pairs ps
 parts_of _ = 0
+
+-- the items of a list, or the keys and values of a map in turn
+abbrev pub parts_in_turn : Msg → List Msg
+parts_in_turn (list ms) = items_of ms
+parts_in_turn (map ps) = items_of (flat_pairs ps)
+parts_in_turn _ = []

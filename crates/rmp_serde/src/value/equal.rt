@@ -1,58 +1,44 @@
 //! Two values are equal exactly if their trees are.
-ghost use Rattle.std.specs.Prelude.{◌≡◌, ◌↔◌, IsTrue};
+ghost use Rattle.std.specs.Prelude.{◌≡◌, ◌↔◌, IsTrue, length};
 ghost use Rattle.std.specs.Cmp.{partial_equiv_from_equiv};
 ghost use Rattle.rmp_serde.specs.Equal.{msg_eq};
 ghost use Rattle.rmp_serde.specs.EqualLaws.{msg_eq_equiv};
+ghost use Rattle.rmp_serde.specs.Flat.{heads_of, token_in, EndsBy, IsWithin};
 
-use crate::value::{Node, Value};
+use crate::value::Value;
+use crate::value::flat::{Node, Nodes};
 
-#[cycle(equality)]
+// The two have the same head and the same content.
+#[inline(always)]
+fn same_node(x: Node, xs: &Nodes, y: Node, ys: &Nodes) -> bool
+    requires first { EndsBy (length xs.now.bytes.items) x }
+    requires second { EndsBy (length ys.now.bytes.items) y }
+    ensures same { IsTrue result ↔ (token_in xs.now.bytes.items x ≡ token_in ys.now.bytes.items y) }
+{
+    x.head() == y.head() && xs.content(x) == ys.content(y)
+}
+
+fn same_parts(xs: &Nodes, ys: &Nodes) -> bool
+    requires first { IsWithin xs.now }
+    requires second { IsWithin ys.now }
+    ensures same { IsTrue result ↔ (heads_of xs.now ≡ heads_of ys.now) }
+{
+    if xs.nodes.len() != ys.nodes.len() {
+        return false;
+    }
+    for i in 0..xs.nodes.len() {
+        if !same_node(xs.nodes[i], xs, ys.nodes[i], ys) {
+            return false;
+        }
+    }
+    true
+}
+
+// Two values have the same heads, one after another, exactly if their trees are equal.
 fn same(a: &Value, b: &Value) -> bool
     ensures same { IsTrue result ↔ (a.now ≡ b.now) }
 {
-    match (&a.node, &b.node) {
-        (Node::Nil, Node::Nil) => true,
-        (Node::Truth(x), Node::Truth(y)) => x == y,
-        (Node::Whole(x), Node::Whole(y)) => x == y,
-        (Node::F32(x), Node::F32(y)) => x == y,
-        (Node::F64(x), Node::F64(y)) => x == y,
-        (Node::Text(x), Node::Text(y)) => x == y,
-        (Node::Bytes(x), Node::Bytes(y)) => x == y,
-        (Node::List(x), Node::List(y)) => same_items(x, y),
-        (Node::Map(x), Node::Map(y)) => same_pairs(x, y),
-        (Node::Ext(tag, x), Node::Ext(other_tag, y)) => tag == other_tag && x == y,
-        _ => false,
-    }
-}
-
-#[cycle(equality)]
-fn same_items(a: &[Value], b: &[Value]) -> bool
-    ensures same { IsTrue result ↔ (a.now ≡ b.now) }
-{
-    if a.len() != b.len() {
-        return false;
-    }
-    for i in 0..a.len() {
-        if !same(&a[i], &b[i]) {
-            return false;
-        }
-    }
-    true
-}
-
-#[cycle(equality)]
-fn same_pairs(a: &[(Value, Value)], b: &[(Value, Value)]) -> bool
-    ensures same { IsTrue result ↔ (a.now ≡ b.now) }
-{
-    if a.len() != b.len() {
-        return false;
-    }
-    for i in 0..a.len() {
-        if !same(&a[i].0, &b[i].0) || !same(&a[i].1, &b[i].1) {
-            return false;
-        }
-    }
-    true
+    same_node(a.root, &a.parts, b.root, &b.parts) && same_parts(&a.parts, &b.parts)
 }
 
 impl PartialEq for Value {

@@ -94,8 +94,8 @@ impl Node {
         }
     }
 
-    // How many messages stand in a list or a map.
-    fn parts(self) -> usize
+    /// How many messages stand in a list or a map: of a map two a pair.
+    pub(crate) fn parts(self) -> usize
         ensures parts { result ≡ parts_in self }
     {
         match self {

@@ -1,88 +1,73 @@
 //! Writes the canonical spelling of a value.
-ghost use Rattle.std.specs.Prelude.{◌≡◌, ◌++◌, false, Some};
+ghost use Rattle.std.specs.Prelude.{◌≡◌, length, false, Some};
 ghost use Rattle.std.specs.List.{flat_map};
-ghost use Rattle.rmp_wire.specs.Heads.{canon_head, fits_head};
 ghost use Rattle.rmp_wire.specs.Spelling.{canon, Fits};
 ghost use Rattle.rmp_wire.specs.Writing.{Writes};
-ghost use Rattle.rmp_wire.specs.declared.head.Head.TheVariants.{Whole};
+ghost use Rattle.rmp_serde.specs.Flat.{spelled_in, EndsBy, IsWithin};
 ghost use Rattle.rmp_serde.specs.Read.{AllTextsUtf8};
 ghost use Rattle.rmp_serde.specs.TreeWrites.{WritesTree};
 ghost use Rattle.rmp_serde.specs.ValueData.{value_data};
 
-use crate::value::{Node, Value};
+use crate::value::Value;
+use crate::value::flat::{Node, Nodes};
 use rmp_encode::{Error, Serialize, Serializer};
 use rmp_wire::config::SerializerConfig;
 use rmp_wire::write::{
-    write_array_len, write_bin, write_bool, write_content, write_ext_meta, write_f32_bits,
-    write_f64_bits, write_map_len, write_nil, write_sint, write_str, write_uint,
+    write_array_len, write_bin_len, write_bool, write_content, write_ext_meta, write_f32_bits,
+    write_f64_bits, write_map_len, write_nil, write_sint, write_str_len, write_uint,
 };
 use rmp_wire::{Sink, ValueWriteError};
 
-// A number that has a head.
-#[tactic(auto, unfolding(rmp_wire::specs::Heads::fits_head))]
-fn write_whole<W: Sink>(sink: &mut W, number: i128) -> Result<(), ValueWriteError>
-    requires { fits_head (Whole number) }
-    ensures writes { Writes W.Sink (canon_head (Whole number)) sink.old sink.new result }
+// A head and its content, which goes out from where it lies.
+#[inline(always)]
+fn write_node<W: Sink>(sink: &mut W, node: Node, parts: &Nodes) -> Result<(), ValueWriteError>
+    requires within { EndsBy (length parts.now.bytes.items) node }
+    ensures writes { Writes W.Sink (spelled_in parts.now.bytes.items node) sink.old sink.new result }
     ensures place { W.place sink.new ≡ W.place sink.old }
 {
-    if number >= 0 {
-        return write_uint(sink, number as u64);
+    match node {
+        Node::Nil => write_nil(sink),
+        Node::Truth(truth) => write_bool(sink, truth),
+        Node::Unsigned(number) => write_uint(sink, number),
+        Node::Signed(number) => write_sint(sink, number),
+        Node::F32(bits) => write_f32_bits(sink, bits),
+        Node::F64(bits) => write_f64_bits(sink, bits),
+        Node::Text(len, _) => {
+            write_str_len(sink, len)?;
+            write_content(sink, parts.content(node))
+        }
+        Node::Bytes(len, _) => {
+            write_bin_len(sink, len)?;
+            write_content(sink, parts.content(node))
+        }
+        Node::List(len, _) => write_array_len(sink, len),
+        Node::Map(len, _) => write_map_len(sink, len),
+        Node::Ext(tag, len, _) => {
+            write_ext_meta(sink, len, tag)?;
+            write_content(sink, parts.content(node))
+        }
     }
-    write_sint(sink, number as i64)
 }
 
-// The canonical spelling of a value. Texts and bytes go out from where they lie.
-#[cycle(writing)]
-#[tactic(auto, using(crate::proofs::Trees::counts), unfolding(rmp_wire::specs::Heads::fits_head))]
+// The nodes behind the root, one after another.
+fn write_parts<W: Sink>(sink: &mut W, parts: &Nodes) -> Result<(), ValueWriteError>
+    requires within { IsWithin parts.now }
+    ensures writes { WritesTree W.Sink (flat_map (spelled_in parts.now.bytes.items) parts.now.nodes.items) sink.old sink.new result }
+    ensures place { W.place sink.new ≡ W.place sink.old }
+{
+    for node in &parts.nodes {
+        write_node(sink, *node, parts)?;
+    }
+    Ok(())
+}
+
+// The canonical spelling of a value.
 pub(crate) fn write_value<W: Sink>(sink: &mut W, value: &Value) -> Result<(), ValueWriteError>
     ensures writes { WritesTree W.Sink (canon value.now) sink.old sink.new result }
     ensures place { W.place sink.new ≡ W.place sink.old }
 {
-    match &value.node {
-        Node::Nil => write_nil(sink),
-        Node::Truth(truth) => write_bool(sink, *truth),
-        Node::Whole(number) => write_whole(sink, *number),
-        Node::F32(bits) => write_f32_bits(sink, *bits),
-        Node::F64(bits) => write_f64_bits(sink, *bits),
-        Node::Text(text) => write_str(sink, text),
-        Node::Bytes(bytes) => write_bin(sink, bytes),
-        Node::List(items) => {
-            write_array_len(sink, items.len() as u32)?;
-            write_items(sink, items)
-        }
-        Node::Map(pairs) => {
-            write_map_len(sink, pairs.len() as u32)?;
-            write_pairs(sink, pairs)
-        }
-        Node::Ext(tag, bytes) => {
-            write_ext_meta(sink, bytes.len() as u32, *tag)?;
-            write_content(sink, bytes)
-        }
-    }
-}
-
-#[cycle(writing)]
-fn write_items<W: Sink>(sink: &mut W, items: &[Value]) -> Result<(), ValueWriteError>
-    ensures writes { WritesTree W.Sink (flat_map canon items.now) sink.old sink.new result }
-    ensures place { W.place sink.new ≡ W.place sink.old }
-{
-    for item in items {
-        write_value(sink, item)?;
-    }
-    Ok(())
-}
-
-// Each key, and its value behind it.
-#[cycle(writing)]
-fn write_pairs<W: Sink>(sink: &mut W, pairs: &[(Value, Value)]) -> Result<(), ValueWriteError>
-    ensures writes { WritesTree W.Sink (flat_map (λ p. canon p.0 ++ canon p.1) pairs.now) sink.old sink.new result }
-    ensures place { W.place sink.new ≡ W.place sink.old }
-{
-    for (key, value) in pairs {
-        write_value(sink, key)?;
-        write_value(sink, value)?;
-    }
-    Ok(())
+    write_node(sink, value.root, &value.parts)?;
+    write_parts(sink, &value.parts)
 }
 
 impl Serialize for Value {
@@ -96,7 +81,7 @@ impl Serialize for Value {
         &self,
         se: &mut Serializer<W, C>,
     ) -> Result<(), Error> {
-        let _ = &self.node;
+        let _ = &self.root;
         write_value(se.get_mut(), self)?;
         Ok(())
     }

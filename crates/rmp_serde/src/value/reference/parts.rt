@@ -1,0 +1,59 @@
+//! The parts of a list or a map, one after another.
+ghost use Rattle.std.specs.Prelude.{◌≡◌, ◌≤◌, ◌*◌, min};
+ghost use Rattle.rmp_wire.specs.Msg.{count};
+ghost use Rattle.rmp_serde.specs.Parts.{row_at};
+
+use crate::value::ValueRef;
+
+/// The items of a list, or the keys and values of a map in turn, one after another.
+///
+/// Each step takes as long, wherever the part stands, and no memory.
+#[derive(Drop)]
+pub struct Parts<'a> {
+    front: ValueRef<'a>,
+    left: usize,
+    ghost there: { left ≤ count (row_at front) },
+    ghost part: { min left 1 ≤ front.at },
+}
+
+impl<'a> ValueRef<'a> {
+    ghost use Rattle.rmp_serde.specs.Parts.{tree, parts_in_turn};
+    ghost use Rattle.rmp_serde.specs.PartsLeft.{parts_left};
+
+    /// The items of a list, or the keys and values of a map in turn: each key, and then its value. Of any other kind none.
+    pub fn parts(self) -> Parts<'a>
+        ensures parts { parts_left result ≡ parts_in_turn (tree self.entry) }
+    {
+        let left = self.node().parts();
+        if left == 0 {
+            return Parts { front: self, left };
+        }
+        Parts {
+            front: self.part(0),
+            left,
+        }
+    }
+}
+
+impl<'a> Iterator for Parts<'a> {
+    ghost use Rattle.std.specs.Iterator.{at_most};
+    ghost use Rattle.rmp_serde.specs.PartsLeft.{YieldsPart};
+
+    type Item = ValueRef<'a>;
+
+    ghost next_gives = { YieldsPart };
+
+    ghost remaining = { λ s. at_most s.left };
+
+    fn next(&mut self) -> Option<ValueRef<'a>> {
+        if self.left == 0 {
+            return None;
+        }
+        let part = self.front;
+        self.left -= 1;
+        if self.left > 0 {
+            self.front = part.next();
+        }
+        Some(part)
+    }
+}
