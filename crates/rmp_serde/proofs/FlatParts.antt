@@ -256,8 +256,7 @@ pair_is ts at n i r e l =
     let deep : depth (told_tree (drop at ts)) ≡ suc (depth_all (first_items (2 * n) ms)) = ap depth s.is ∙ ap suc (sym (depth-flat (first_pairs n ms)) ∙ ap depth_all flat) in
     let many : count (first_items (2 * n) ms) ≡ 2 * n = sym (ap count flat) ∙ count-flat (first_pairs n ms) ∙ ap (λ z. 2 * z) s.many in
     let a : 2 * i < count (first_items (2 * n) ms) = omega (arith, l, many) in
-    let b : 2 * i + 1 < count (first_items (2 * n) ms) = omega (arith, l, many) in
-    (
+    let b : 2 * i + 1 < count (first_items (2 * n) ms) = omega (arith, l, many) in (
       ap (λ z. pair_of z i) s.is ∙ nth_pair n i ms k,
       omega (arith, nth_depth (2 * n) (2 * i) ms a, deep),
       omega (arith, nth_depth (2 * n) (2 * i + 1) ms b, deep, ap (λ z. depth (first_tree z)) (past_more (2 * i) ms)),

@@ -39,7 +39,7 @@ use Rattle.rmp_decode.proofs.Skipping.{in_turn, count-in_turn, depth-in_turn, tu
 use Rattle.rmp_decode.proofs.Wrong.{Front, front_of, stands}
 use Rattle.rmp_serde.specs.Read.{AllTextsUtf8, ItemsUtf8, PairsUtf8}
 use Rattle.rmp_serde.specs.Tokens.{Token, tokens, tokens_all, tokens_pairs}
-use Rattle.rmp_serde.proofs.OpenTrees.{SpellsTrees, JoinedTrees, SpellsOpenTrees, BehindTrees, OpenTreesRefusal, LeadsTrees}
+use Rattle.rmp_serde.proofs.OpenTrees.{SpellsTrees, SpellsOpenTrees, BehindTrees, OpenTreesRefusal, LeadsTrees}
 
 tokens_turned : (ps : Pairs) → tokens_all (in_turn ps) ≡ tokens_pairs ps
 tokens_turned no_pairs = refl
@@ -167,7 +167,7 @@ module _ (w : Bool) where
       let split : t.first ++ ((t.second ++ more) ++ x) ≡ a ++ ys = split_off w c t.first t.second more x t.is_whole ∙ e in
       let u = same_head w k (parts_head is_map len) t.first a ((t.second ++ more) ++ x) ys t.is_first i split in
       let q : PartsTrees room (parts_count is_map len) ((t.second ++ more) ++ x) ys = parts_trees is_map k len room t.first ((t.second ++ more) ++ x) ys t.is_first u.0 (omega (arith, d)) (h.0)
-        (λ d c q j. (heads_apart_as w (head_of k) (parts_head is_map len) d a (c ++ ((t.second ++ more) ++ x)) ys j i (sym (append_assoc d c ((t.second ++ more) ++ x)) ∙ ap (λ z. z ++ ((t.second ++ more) ++ x)) (sym q) ∙ split)).2) in
+      (λ d c q j. (heads_apart_as w (head_of k) (parts_head is_map len) d a (c ++ ((t.second ++ more) ++ x)) ys j i (sym (append_assoc d c ((t.second ++ more) ++ x)) ∙ ap (λ z. z ++ ((t.second ++ more) ++ x)) (sym q) ∙ split)).2) in
       record {
         bytes = q.bytes ++ (t.second ++ more);
         heads = q.heads ++ (tokens_all ks ++ mt);

@@ -85,8 +85,8 @@ mutual
   built_each no_pairs x = refl
   built_each (pair k v ps) x =
       ap built (append_assoc (tokens k) (tokens v ++ tokens_pairs ps) x ∙ ap (λ z. tokens k ++ z) (append_assoc (tokens v) (tokens_pairs ps) x))
-          ∙ built_tree k (tokens v ++ (tokens_pairs ps ++ x)) ∙ ap (λ z. item k z) (built_tree v (tokens_pairs ps ++ x)
-          ∙ ap (λ z. item v z) (built_each ps x))
+      ∙ built_tree k (tokens v ++ (tokens_pairs ps ++ x)) ∙ ap (λ z. item k z) (built_tree v (tokens_pairs ps ++ x)
+      ∙ ap (λ z. item v z) (built_each ps x))
 
 -- a tree's heads tell it
 pub tree_told : (m : Msg) → first_tree (built (tokens m)) ≡ m
@@ -121,7 +121,7 @@ mutual
   canon_told_pairs no_pairs x = refl
   canon_told_pairs (pair k v ps) x =
       append_assoc (canon k) (canon v ++ canon_pairs ps) (canon_tokens x)
-          ∙ ap (λ z. canon k ++ z) (append_assoc (canon v) (canon_pairs ps) (canon_tokens x) ∙ ap (λ z. canon v ++ z) (canon_told_pairs ps x)
-          ∙ canon_told v (tokens_pairs ps ++ x)) ∙ canon_told k (tokens v ++ (tokens_pairs ps ++ x))
+      ∙ ap (λ z. canon k ++ z) (append_assoc (canon v) (canon_pairs ps) (canon_tokens x) ∙ ap (λ z. canon v ++ z) (canon_told_pairs ps x)
+      ∙ canon_told v (tokens_pairs ps ++ x)) ∙ canon_told k (tokens v ++ (tokens_pairs ps ++ x))
       ∙ ap canon_tokens (ap (λ z. tokens k ++ z) (sym (append_assoc (tokens v) (tokens_pairs ps) x))
-          ∙ sym (append_assoc (tokens k) (tokens v ++ tokens_pairs ps) x))
+      ∙ sym (append_assoc (tokens k) (tokens v ++ tokens_pairs ps) x))

@@ -32,4 +32,4 @@ pub returns-in_ok-write_ext_meta-in-Ext-clause-writes : goal.returns-in_ok-write
 returns-in_ok-write_ext_meta-in-Ext-clause-writes g c =
     let same : to_z w8 (of_z w8 c.in-Ext.tag) ≡ c.in-Ext.tag = search rules in
     rw c.in-Ext.is (puts_as (ap (λ z. canon_head (Ext c.in-Ext.len z) ++ take c.in-Ext.len (drop c.in-Ext.field-2 c.args.parts.now.bytes.items)) same)
-      ((rw c.content-in-Ext.ensures.content at c.write_content-in-Ext.ensures.writes) _ _ (head_some _) c.in_ok-write_ext_meta-in-Ext.ensures.writes))
+    ((rw c.content-in-Ext.ensures.content at c.write_content-in-Ext.ensures.writes) _ _ (head_some _) c.in_ok-write_ext_meta-in-Ext.ensures.writes))

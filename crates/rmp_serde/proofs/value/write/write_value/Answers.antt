@@ -11,4 +11,4 @@ returns-in_err-write_node-clause-writes g c =
 pub returns-clause-writes : goal.returns-clause-writes
 returns-clause-writes g c =
     takes_as (spells_all c.value.inside.root c.value.inside.parts c.args.value.now c.value.invariant c.value.view_is)
-      (takes_then (tree_of_puts c.in_ok-write_node.ensures.writes) c.write_parts.ensures.writes)
+    (takes_then (tree_of_puts c.in_ok-write_node.ensures.writes) c.write_parts.ensures.writes)
