@@ -27,7 +27,7 @@ pub(crate) enum Node {
     Bytes(u32, usize),
     /// The same of an extension, behind its type.
     Ext(i8, u32, usize),
-    /// How many items a list has, and how many nodes it takes with all that stands in it.
+    /// How many items a list has, and how many nodes it takes with all that stands in it; of a value's root that isn't told.
     List(u32, usize),
     /// The same of a map and its pairs.
     Map(u32, usize),
