@@ -54,9 +54,10 @@ fn is_front<S: Source>(source: &S, want: &[u8]) -> bool {
 }
 
 // Whether a source skips a byte and then has these in front, by a reference to it.
-fn skips_one_by_reference(mut rest: &[u8], want: &[u8]) -> bool {
+fn skips_one_by_reference(bytes: &[u8], want: &[u8]) -> bool {
+    let mut rest = bytes;
     let mut source = &mut rest;
-    skips(&mut source, 1) && is_front(&source, want)
+    source.skip(1) && source.front() == want
 }
 
 #[test]

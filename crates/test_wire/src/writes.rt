@@ -1,4 +1,6 @@
 //! What is written into vectors, slices and other sinks.
+ghost use Rattle.std.specs.Prelude.{◌<◌, length};
+
 use crate::spell_into;
 use faulty_io::Trickle;
 use rmp_wire::{
@@ -169,7 +171,9 @@ fn put_nil<S: Sink>(sink: &mut S) -> Result<(), ValueWriteError> {
     write_nil(sink)
 }
 
-fn put_str<S: Sink>(sink: &mut S, text: &str) -> Result<(), ValueWriteError> {
+fn put_str<S: Sink>(sink: &mut S, text: &str) -> Result<(), ValueWriteError>
+    requires { length text.now < 4294967296 }
+{
     write_str(sink, text)
 }
 
