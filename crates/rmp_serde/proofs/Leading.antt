@@ -39,7 +39,7 @@ use Rattle.rmp_decode.proofs.Skipping.{in_turn, count-in_turn, depth-in_turn, tu
 use Rattle.rmp_decode.proofs.Wrong.{Front, front_of, stands}
 use Rattle.rmp_serde.specs.Read.{AllTextsUtf8, ItemsUtf8, PairsUtf8}
 use Rattle.rmp_serde.specs.Tokens.{Token, tokens, tokens_all, tokens_pairs}
-use Rattle.rmp_serde.proofs.OpenTrees.{SpellsTrees, JoinedTrees, SpellsOpenTrees, BehindTrees, OpenTreesRefusal, LeadsTrees}
+use Rattle.rmp_serde.proofs.OpenTrees.{SpellsTrees, SpellsOpenTrees, BehindTrees, OpenTreesRefusal, LeadsTrees}
 
 tokens_turned : (ps : Pairs) → tokens_all (in_turn ps) ≡ tokens_pairs ps
 tokens_turned no_pairs = refl

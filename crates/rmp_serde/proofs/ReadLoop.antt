@@ -31,7 +31,6 @@ use Rattle.std.proofs.Common.{
   Bool,
   true,
   false,
-  Result,
   Ok,
   Err,
   append_assoc,
@@ -48,7 +47,7 @@ use Rattle.rmp_wire.specs.declared.marker.Marker.{Marker}
 use Rattle.rmp_wire.specs.declared.source.Source.{Ghosts}
 use Rattle.rmp_wire.specs.Canonical.{heads_of, SpellsAs}
 use Rattle.rmp_wire.specs.Heads.{fits_head}
-use Rattle.rmp_wire.specs.Msg.{Msg, text, Msgs, no_items, item, count, depth_all}
+use Rattle.rmp_wire.specs.Msg.{Msg, nil, truth, whole, float32, float64, text, bin, list, map, extension, Msgs, no_items, item, count, depth_all}
 use Rattle.rmp_wire.specs.Spelling.{head_of}
 use Rattle.rmp_wire.specs.Sources.{IsShort}
 use Rattle.rmp_wire.proofs.Canon.{head_fits}
@@ -58,7 +57,7 @@ use Rattle.rmp_decode.specs.Anys.{StartsWithNoText, FailsContent, FailsText}
 use Rattle.rmp_decode.specs.Kinds.{content_len}
 use Rattle.rmp_decode.specs.Law.{Begins, Refuses, Readable, NoMessage, Explains, ReadsHead}
 use Rattle.rmp_decode.specs.Refuse.{RowRefusal, RefusedFor, RowRefusedFor, RefusesRowFirst}
-use Rattle.rmp_decode.specs.Seq.{SpellsRow, BeginsRow, RefusesRow}
+use Rattle.rmp_decode.specs.Seq.{SpellsRow, RefusesRow}
 use Rattle.rmp_decode.specs.Skip.{any_row, parts_head, parts_count}
 use Rattle.rmp_decode.specs.State.{left, faults_of, room_of, failed_of, Stays}
 use Rattle.rmp_decode.specs.declared.deserializer.Deserializer.{Deserializer}
@@ -72,7 +71,7 @@ use Rattle.rmp_decode.proofs.Skipping.{leaf_of, leaf_flat, leaf_spelled, content
 use Rattle.rmp_decode.proofs.Wrong.{wrong_none, wrong_content, wrong_deep}
 use Rattle.rmp_serde.specs.Flat.{heads_in, EndsBy}
 use Rattle.rmp_serde.specs.Read.{AllTextsUtf8, ItemsUtf8, reads_value}
-use Rattle.rmp_serde.specs.ReadParts.{IsLeafHead, ContentUtf8, TakesLeaf, FailsLeaf, TakesTrees, ReadsTrees}
+use Rattle.rmp_serde.specs.ReadParts.{IsLeafHead, ContentUtf8, TakesLeaf, FailsLeaf, ReadsTrees}
 use Rattle.rmp_serde.specs.Refuse.{UnreadFor}
 use Rattle.rmp_serde.specs.Tokens.{Token, tokens, tokens_all}
 use Rattle.rmp_serde.specs.declared.value.flat.Node.{Node}
@@ -80,7 +79,6 @@ use Rattle.rmp_serde.proofs.FlatMade.{heads_stay}
 use Rattle.rmp_serde.proofs.Leading.{trees_none, trees_then, trees_message, trees_in, trees_out, no_row_tree}
 use Rattle.rmp_serde.proofs.OpenTrees.{SpellsOpenTrees, BehindTrees, LeadsTrees}
 use Rattle.rmp_serde.proofs.Refusing.{wider, wrong_piece}
-use Rattle.rmp_serde.proofs.ValueReading.{text_utf8}
 
 -- ---- leaves
 
@@ -143,6 +141,19 @@ pub parts_told : (row row' : List Token) (is_map : Bool) (n at : ℕ) (h : Head)
     → row' ≡ row ++ (h, take (content_len h) (drop at b)) ∷ [] → row' ≡ row ++ (h, []) ∷ []
 parts_told row row' true n at h b i e = e ∙ ap (λ z. row ++ (h, take (content_len z) (drop at b)) ∷ []) i
 parts_told row row' false n at h b i e = e ∙ ap (λ z. row ++ (h, take (content_len z) (drop at b)) ∷ []) i
+
+-- the content of a text that is read is UTF-8
+text_utf8 : (n : ℕ) (m : Msg) → head_of m ≡ head.Text n → Readable reads_value m → Readable (λ k (t : List ℕ). (k ≡ text t) × IsUtf8 t) m
+text_utf8 n nil e r = absurd (cc)
+text_utf8 n (truth t) e r = absurd (cc)
+text_utf8 n (whole z) e r = absurd (cc)
+text_utf8 n (float32 k) e r = absurd (cc)
+text_utf8 n (float64 k) e r = absurd (cc)
+text_utf8 n (text s) e r = (s, (refl, r.1.1))
+text_utf8 n (bin s) e r = absurd (cc)
+text_utf8 n (list ms) e r = absurd (cc)
+text_utf8 n (map ps) e r = absurd (cc)
+text_utf8 n (extension tag s) e r = absurd (cc)
 
 -- the bytes behind the head of a text aren't one
 text_refused : (w : Bool) (room n : ℕ) (known k : Option (List ℕ)) (b : List ℕ) → Consumes known k b → heads_of w (head.Text n) b → StartsWithNoText n k
@@ -426,7 +437,7 @@ module _ {R C : Type 0} (g : Ghosts R) (all : ℕ) (start now : Deserializer R C
         → parts_count is_map len ≡ 0 → 1 < room → heads' ≡ heads ++ (p.1, []) ∷ [] → Wants g all start mid room wanted' outer before heads'
     wants_empty is_map len wanted' heads' q i z r t =
         let down : suc (room - 1) ≡ room = omega (arith, r) in
-        let told : (parts_head is_map len, []) ∷ [] ≡ (p.1, []) ∷ [] = ap (λ z. (z, []) ∷ []) (sym i) in
+        let told : token (parts_head is_map len) [] ≡ token p.1 [] = ap (λ z. token z []) (sym i) in
         let head = subst (λ t. heads_of start.strict t h.ok.bytes) i is_head in
         let l = trees_in start.strict (UnreadFor start.strict) is_map len (room - 1) (wanted - 1) (reverse outer) h.ok.bytes head in
         let o = trees_out start.strict (UnreadFor start.strict) (room - 1) ((wanted - 1) ∷ reverse outer) (omega (arith, r)) in

@@ -8,8 +8,6 @@ use Rattle.std.proofs.Common.{
   subst,
   refl,
   ℕ,
-  suc,
-  ◌+◌,
   ◌-◌,
   ◌<◌,
   ◌≤◌,
@@ -22,13 +20,10 @@ use Rattle.std.proofs.Common.{
   [],
   ◌∷◌,
   ◌++◌,
-  length,
   take,
   drop,
   map,
   Option,
-  None,
-  Some,
   Bool,
   true,
   false,
@@ -36,7 +31,6 @@ use Rattle.std.proofs.Common.{
   Err,
   append_assoc,
 }
-use Rattle.std.proofs.lemmas.List.{append-nil}
 use Rattle.std.specs.Io.KnownBytes.{Consumes}
 use Rattle.std.proofs.KnownBytes.{Consumes-trans}
 use Rattle.rmp_wire.specs.declared.head.Head.{Head}

@@ -4,12 +4,11 @@ use Rattle.rmp_wire.specs.declared.head.Head.{Head}
 use Rattle.rmp_wire.specs.declared.head.Head.TheVariants.{Text}
 use Rattle.rmp_wire.specs.declared.marker.Marker.{Marker}
 use Rattle.rmp_wire.specs.declared.source.Source.{Ghosts}
-use Rattle.rmp_decode.specs.Anys.{OpensAny, OpensParts}
+use Rattle.rmp_decode.specs.Anys.{OpensParts}
 use Rattle.rmp_decode.specs.Content.{StandsWhole, IsRawHead, IsExtHead}
 use Rattle.rmp_decode.specs.Exact.{Stands}
 use Rattle.rmp_decode.specs.Refuse.{IsWrong, RefusesFirst}
 use Rattle.rmp_decode.specs.declared.deserializer.Deserializer.{Deserializer}
-use Rattle.rmp_decode.specs.declared.access.any.Any.{Any}
 use Rattle.rmp_decode.specs.declared.error.Error.{Error}
 use Rattle.rmp_decode.specs.declared.error.Error.TheVariants.{OutOfMemory, Utf8Error}
 use Rattle.rmp_serde.specs.Read.{ItemsUtf8}
@@ -36,7 +35,3 @@ UnreadFor strict room e xs = IsWrong strict room e xs
 -- What a refusal of a ready reader says, unless the source had a fault: the messages before are those whose texts are UTF-8.
 abbrev pub RefusesValue : {R C : Type 0} → Ghosts R → Deserializer R C → Deserializer R C → Error → Type 0
 RefusesValue g old new e = RefusesFirst g UnreadFor ItemsUtf8 old new e
-
--- the same of the rest of a read whose beginning opened the message so
-abbrev pub RefusesOpened : {R C : Type 0} → Ghosts R → Any R C → Deserializer R C → Error → Type 0
-RefusesOpened {R} {C} g any new e = (old : Deserializer R C) → OpensAny g old any → RefusesValue g old new e

@@ -1,6 +1,6 @@
 //! What is read as a value, and what is refused.
 use rmp_serde::decode::Error;
-use rmp_serde::{Kind, Value, ValueRef, from_slice, from_slice_strict};
+use rmp_serde::{Deserializer, Kind, Value, ValueRef, from_slice, from_slice_strict, to_vec};
 use std::alloc::{AllocError, Global};
 use std::test::Fail;
 
@@ -214,6 +214,23 @@ fn keeps_the_limit(rt: HostRuntime) -> Result<(), Fail> {
         shown(alloc, &nested(alloc, 1023, &[0x91], &[0xdc, 0x00])?)?.as_str(),
         "IO error while reading data: unexpected end of file"
     );
+    Ok(())
+}
+
+#[test]
+fn sixty_thousand_levels_take_no_stack(rt: HostRuntime) -> Result<(), Fail> {
+    let alloc = rt.alloc();
+    let input = nested(alloc, 65000, &[0x81, 0x05], &[0xa1, 0x61])?;
+    let mut de = Deserializer::from_read_ref(alloc, &input);
+    de.set_max_depth(65001);
+    let value = Value::read(&mut de)?;
+    assert!(rt; to_vec(alloc, &value)? == input);
+    let mut again = Deserializer::from_read_ref(alloc, &input);
+    again.set_max_depth(65001);
+    assert!(rt; Value::read(&mut again)? == value);
+    let mut short = Deserializer::from_read_ref(alloc, &input);
+    short.set_max_depth(65000);
+    assert!(rt; matches!(&Value::read(&mut short), Err(Error::DepthLimitExceeded)));
     Ok(())
 }
 
