@@ -10,4 +10,5 @@ pub mod OneRefusal
 pub mod Printing
 pub mod Reading
 pub mod Shown
+pub mod Turns
 pub mod Walking

@@ -7,3 +7,4 @@ pub mod Prints
 pub mod Refusals
 pub mod Status
 pub mod TreeText
+pub mod Turns

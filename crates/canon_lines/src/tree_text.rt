@@ -3,8 +3,9 @@ ghost use Rattle.std.specs.Prelude.{◌≡◌, ◌≢◌, ◌++◌, OnOk, string
 ghost use Rattle.hex.specs.Hex.{encode_lower};
 ghost use Rattle.rmp_serde.specs.Parts.{tree, kind_of};
 ghost use Rattle.canon_lines.specs.TreeText.{tree_text};
+ghost use Rattle.canon_lines.specs.Turns.{YieldsPair};
 
-use rmp_serde::{Kind, ValueRef};
+use rmp_serde::{Kind, Parts, ValueRef};
 use std::alloc::{AllocError, Global};
 
 /// Appends a message's tree to a text: `nil`, `true`, a decimal number, `f32:` or `f64:` and the bits in hex, `t:` or `b:`
@@ -26,11 +27,12 @@ fn write_list(alloc: Global, text: &mut String, list: ValueRef<'_>) -> Result<()
     ensures { OnOk result (string_bytes text.new ≡ string_bytes text.old ++ tree_text (tree list.entry)) }
 {
     text.push_str("[")?;
+    let mut items = list.parts();
     for i in 0..list.len() {
         if i > 0 {
             text.push_str(",")?;
         }
-        if let Some(item) = list.item(i) {
+        if let Some(item) = items.next() {
             write_tree(alloc, text, item)?;
         }
     }
@@ -43,17 +45,27 @@ fn write_map(alloc: Global, text: &mut String, map: ValueRef<'_>) -> Result<(), 
     ensures { OnOk result (string_bytes text.new ≡ string_bytes text.old ++ tree_text (tree map.entry)) }
 {
     text.push_str("{")?;
+    let mut parts = map.parts();
     for i in 0..map.len() {
         if i > 0 {
             text.push_str(",")?;
         }
-        if let Some((key, value)) = map.pair(i) {
+        if let Some((key, value)) = next_pair(&mut parts) {
             write_tree(alloc, text, key)?;
             text.push_str("=")?;
             write_tree(alloc, text, value)?;
         }
     }
     text.push_str("}")
+}
+
+// The next key and its value.
+fn next_pair<'a>(parts: &mut Parts<'a>) -> Option<(ValueRef<'a>, ValueRef<'a>)>
+    ensures { YieldsPair parts.old result parts.new }
+{
+    let key = parts.next()?;
+    let value = parts.next()?;
+    Some((key, value))
 }
 
 // Appends a message that has no parts.

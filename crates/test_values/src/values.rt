@@ -98,6 +98,18 @@ fn lists_and_maps_give_their_parts(rt: HostRuntime) -> Result<(), Error> {
 }
 
 #[test]
+fn parts_come_one_after_another(rt: HostRuntime) -> Result<(), Error> {
+    let all = from_slice::<Value>(rt.alloc(), &ALL_KINDS)?;
+    assert_eq!(rt; all.root().parts().count(), KINDS.len());
+    let mut parts = item(&all, 8).parts();
+    assert_eq!(rt; parts.next().and_then(|part| part.as_whole()), Some(-1));
+    assert_eq!(rt; parts.next().and_then(|part| part.as_truth()), Some(false));
+    assert!(rt; parts.next().is_none());
+    assert!(rt; item(&all, 9).parts().next().is_none());
+    Ok(())
+}
+
+#[test]
 fn the_spelling_that_is_written_is_canonical(rt: HostRuntime) -> Result<(), Error> {
     for spelling in [&ALL_KINDS[..], &WIDE[..]] {
         let all = from_slice::<Value>(rt.alloc(), spelling)?;
