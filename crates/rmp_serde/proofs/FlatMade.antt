@@ -1,7 +1,7 @@
 -- More content in the buffer leaves what the nodes say.
-use Rattle.std.proofs.Common.{◌≡◌, ◌∙◌, sym, ap, subst, refl, ℕ, ◌+◌, ◌≤◌, ◌-◌, arith, List, [], ◌∷◌, ◌++◌, length, take, drop}
+use Rattle.std.proofs.Common.{◌≡◌, ◌∙◌, ap, refl, ℕ, ◌+◌, ◌≤◌, arith, List, [], ◌∷◌, ◌++◌, length, take, drop}
 use Rattle.std.specs.List.{AllByRecursion}
-use Rattle.std.proofs.lemmas.List.{drop_at, drop-append-le, take-append-le, take_all, length-drop, length-append, map-append}
+use Rattle.std.proofs.lemmas.List.{drop-append-le, take-append-le, length-drop, map-append}
 use Rattle.rmp_serde.specs.Flat.{head_in, content_in, token_in, heads_in, EndsBy}
 use Rattle.rmp_serde.specs.Tokens.{Token}
 use Rattle.rmp_serde.specs.declared.value.flat.Node.{Node}

@@ -1,13 +1,12 @@
 -- Heads in a row tell messages in a row, from each head on.
-use Rattle.std.proofs.Common.{◌≡◌, ◌∙◌, sym, ap, subst, refl, ℕ, zero, suc, ◌+◌, ◌*◌, ◌<◌, ◌≤◌, arith, List, [], ◌∷◌, ◌++◌, length, take, drop, Option, Some, None, append_assoc, length-append}
-use Rattle.std.specs.Prelude.{slice_get}
+use Rattle.std.proofs.Common.{◌≡◌, ◌∙◌, sym, ap, refl, ℕ, zero, suc, ◌+◌, ◌*◌, ◌<◌, ◌≤◌, arith, List, [], ◌∷◌, ◌++◌, length, drop, append_assoc, length-append}
 use Rattle.std.proofs.lemmas.List.{append-nil, drop_at}
 use Rattle.rmp_wire.specs.declared.head.Head.{Head}
 use Rattle.rmp_wire.specs.declared.head.Head.TheVariants.{Nil, Truth, Whole, F32Bits, F64Bits, Text, Bin, Array, Map, Ext}
-use Rattle.rmp_wire.specs.Msg.{Msg, nil, truth, whole, float32, float64, text, bin, list, map, extension, Msgs, no_items, item, Pairs, no_pairs, pair, count, count_pairs, items_of, pairs_of, depth, depth_all, depth_pairs}
+use Rattle.rmp_wire.specs.Msg.{Msg, nil, truth, whole, float32, float64, text, bin, list, map, extension, Msgs, no_items, item, Pairs, no_pairs, pair, count, count_pairs}
 use Rattle.rmp_decode.proofs.Rows.{append}
 use Rattle.rmp_serde.specs.Flat.{IsRow, size_of, span, told_tree}
-use Rattle.rmp_serde.specs.Tokens.{Token, tokens, tokens_all, tokens_pairs, flat_pairs, first_items, past_items, first_pairs, past_pairs, put_head, built, first_tree}
+use Rattle.rmp_serde.specs.Tokens.{Token, tokens, tokens_all, tokens_pairs, flat_pairs, first_items, past_items, first_pairs, past_pairs, built, first_tree}
 use Rattle.rmp_serde.proofs.Tokens.{built_tree, built_all}
 
 pub append-none : (ms : Msgs) → append ms no_items ≡ ms

@@ -1,13 +1,13 @@
 -- From one message of a row to the next, by what each node takes.
-use Rattle.std.proofs.Common.{◌≡◌, ◌∙◌, sym, ap, subst, refl, ℕ, zero, suc, ◌+◌, ◌*◌, ◌-◌, ◌<◌, ◌≤◌, arith, List, [], ◌∷◌, length, drop, get_or, set}
+use Rattle.std.proofs.Common.{◌≡◌, ◌∙◌, sym, ap, subst, refl, ℕ, zero, suc, ◌+◌, ◌-◌, ◌<◌, ◌≤◌, arith, List, [], ◌∷◌, length, drop, get_or, set}
 use Rattle.std.specs.List.{AllByRecursion}
-use Rattle.std.proofs.lemmas.List.{drop-map, drop-drop, drop-set, drop_more, get_or-drop, get_or_default, length-drop, length-map}
+use Rattle.std.proofs.lemmas.List.{drop-map, drop-set, drop_more, get_or-drop, length-drop, length-map}
 use Rattle.rmp_wire.specs.Msg.{count}
 use Rattle.rmp_serde.specs.Flat.{head_in, content_in, token_in, heads_in, takes_in, takes_then, parts_in, EndsBy, IsRow, AllTake, size_of, span}
-use Rattle.rmp_serde.specs.Tokens.{Token, built}
+use Rattle.rmp_serde.specs.Tokens.{built}
 use Rattle.rmp_serde.specs.declared.value.flat.Node.{Node}
 use Rattle.rmp_serde.specs.declared.value.flat.Node.TheVariants as nodes
-use Rattle.rmp_serde.proofs.FlatRows.{row_drop, row_tail, span_more, span_goes_on, span_within, list_parts, map_parts, map_size}
+use Rattle.rmp_serde.proofs.FlatRows.{row_drop, span_more, span_goes_on, span_within, list_parts, map_parts, map_size}
 
 pub heads_drop : (b : List ℕ) (row : List Node) (n : ℕ) → drop n (heads_in b row) ≡ heads_in b (drop n row)
 heads_drop b row n = drop-map (token_in b) n row

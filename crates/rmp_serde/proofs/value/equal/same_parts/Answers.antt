@@ -1,4 +1,4 @@
-use Rattle.std.proofs.Common.{refl, arith, ◌<◌, length, get_or}
+use Rattle.std.proofs.Common.{refl, arith, ◌<◌, length}
 use Rattle.std.proofs.lemmas.Bool.{false≢true}
 use Rattle.rmp_serde.proofs.Same.{at_place, one_further}
 use Rattle.rmp_serde.proofs.value.equal.same_parts.Goals as goal

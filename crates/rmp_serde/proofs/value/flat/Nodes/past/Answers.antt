@@ -1,7 +1,7 @@
-use Rattle.std.proofs.Common.{rules, ◌≡◌, ◌∙◌, sym, ap, ◌≤◌, ◌<◌, ◌+◌, ◌-◌, arith, length, drop, get_or, suc}
+use Rattle.std.proofs.Common.{◌≡◌, ◌∙◌, ap, ◌<◌, ◌+◌, arith, drop, suc}
 use Rattle.rmp_wire.specs.Msg.{count}
 use Rattle.rmp_serde.specs.Tokens.{built}
-use Rattle.rmp_serde.specs.Flat.{heads_of, span, takes_in}
+use Rattle.rmp_serde.specs.Flat.{heads_of, span}
 use Rattle.rmp_serde.proofs.FlatTakes.{walk_place, walk_step, walk_within}
 use Rattle.rmp_serde.proofs.value.flat.Nodes.past.Goals as goal
 

@@ -1,7 +1,7 @@
-use Rattle.std.proofs.Common.{rules, ◌≡◌, ◌∙◌, sym, ap, subst, ◌≤◌, ◌<◌, ◌+◌, ◌-◌, arith, ◌∷◌, length, drop, get_or}
+use Rattle.std.proofs.Common.{rules, ◌≡◌, ◌∙◌, sym, ap, subst, ◌<◌, ◌+◌, ◌-◌, arith, ◌∷◌, length, drop, get_or}
 use Rattle.std.proofs.lemmas.List.{length-set}
 use Rattle.rmp_wire.specs.Msg.{count}
-use Rattle.rmp_serde.specs.Flat.{heads_of, heads_in, parts_in, span, IsRow, AllTake}
+use Rattle.rmp_serde.specs.Flat.{heads_of, heads_in, span, IsRow, AllTake}
 use Rattle.rmp_serde.specs.Tokens.{built}
 use Rattle.rmp_serde.proofs.FlatRows.{row_drop}
 use Rattle.rmp_serde.proofs.FlatTakes.{from_place, parts_behind, heads_drop, heads_set, within_set, settled}

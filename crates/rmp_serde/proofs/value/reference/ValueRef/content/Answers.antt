@@ -1,8 +1,7 @@
 use Rattle.std.proofs.Common.{◌∙◌, ap}
-use Rattle.rmp_wire.specs.Msg.{Msg}
 use Rattle.rmp_serde.specs.Flat.{content_in}
-use Rattle.rmp_serde.specs.Tokens.{tokens, built}
-use Rattle.rmp_serde.proofs.FlatRows.{tree_row, row_drop}
+use Rattle.rmp_serde.specs.Tokens.{tokens}
+use Rattle.rmp_serde.proofs.FlatRows.{tree_row}
 use Rattle.rmp_serde.proofs.FlatParts.{node_is, all_utf8, utf8_at, first_utf8}
 use Rattle.rmp_serde.proofs.value.reference.ValueRef.content.Goals as goal
 

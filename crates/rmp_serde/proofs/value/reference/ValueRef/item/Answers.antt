@@ -1,4 +1,4 @@
-use Rattle.std.proofs.Common.{arith, sym, ap, subst, ◌∙◌, ◌≡◌, ◌<◌, Some}
+use Rattle.std.proofs.Common.{arith, sym, ap, subst, ◌∙◌, ◌<◌, Some}
 use Rattle.rmp_wire.specs.Msg.{depth}
 use Rattle.rmp_serde.specs.Parts.{tree}
 use Rattle.rmp_serde.specs.Tokens.{tokens, first_tree}

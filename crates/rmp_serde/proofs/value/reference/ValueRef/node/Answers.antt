@@ -1,4 +1,4 @@
-use Rattle.std.proofs.Common.{rules, ◌≡◌, ◌∙◌, sym, ap}
+use Rattle.std.proofs.Common.{◌∙◌, ap}
 use Rattle.rmp_serde.specs.Flat.{head_in}
 use Rattle.rmp_serde.proofs.FlatParts.{node_is}
 use Rattle.rmp_serde.proofs.value.reference.ValueRef.node.Goals as goal

@@ -1,7 +1,7 @@
-use Rattle.std.proofs.Common.{arith, sym, ap, subst, ◌∙◌, ◌≡◌, ◌<◌, ◌*◌, Some, suc, drop}
+use Rattle.std.proofs.Common.{arith, sym, ap, subst, ◌∙◌, ◌<◌, Some}
 use Rattle.rmp_wire.specs.Msg.{count, depth}
-use Rattle.rmp_serde.specs.Parts.{tree, row_at}
-use Rattle.rmp_serde.specs.Tokens.{tokens, built, first_tree, past_items}
+use Rattle.rmp_serde.specs.Parts.{tree}
+use Rattle.rmp_serde.specs.Tokens.{tokens, first_tree, past_items}
 use Rattle.rmp_serde.proofs.FlatRows.{tree_row}
 use Rattle.rmp_serde.proofs.FlatParts.{pair_is, no_pair, value_there}
 use Rattle.rmp_serde.proofs.value.reference.ValueRef.pair.Goals as goal
