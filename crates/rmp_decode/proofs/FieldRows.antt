@@ -1,5 +1,5 @@
 -- What the read of a struct that is a list of as many elements says, from what the reads of its fields say.
-use Rattle.std.proofs.Common.{◌≡◌, ◌∙◌, sym, ap, subst, refl, inl, inr, ℕ, suc, ◌+◌, ◌-◌, ◌<◌, max, arith, List, [], ◌∷◌, Bool, true, false, Option, None, Some, Ok, Err, length, ◌++◌}
+use Rattle.std.proofs.Common.{◌≡◌, ◌∙◌, sym, ap, subst, refl, inr, ℕ, suc, ◌+◌, ◌-◌, ◌<◌, max, arith, List, [], ◌∷◌, Bool, true, false, Option, None, Some, Ok, Err, length, ◌++◌}
 use Rattle.std.specs.Prelude.{IfSome}
 use Rattle.std.proofs.KnownBytes.{Consumes-nil, Consumes-trans}
 use Rattle.rmp_wire.specs.declared.head.Head.TheVariants.{Array}
@@ -11,8 +11,8 @@ use Rattle.rmp_decode.specs.FieldRows.{TakesRow, FailsRow}
 use Rattle.rmp_decode.specs.Fields.{Field, Absent, NoField, Slot, given_all, OfFields}
 use Rattle.rmp_decode.specs.Fronts.{TakesFront}
 use Rattle.rmp_decode.specs.Law.{Lawful, Readable, Refuses}
-use Rattle.rmp_decode.specs.Refusing.{Setting, Refusals, Part, setting_of, inside, RefusesParts, no_refusal}
-use Rattle.rmp_decode.specs.Seq.{SpellsIn, SpellsRow, RefusesRow, Opens, TakesParts, FailsParts, inner_of}
+use Rattle.rmp_decode.specs.Refusing.{Part, setting_of, inside, RefusesParts, no_refusal}
+use Rattle.rmp_decode.specs.Seq.{SpellsIn, SpellsRow, RefusesRow, Opens}
 use Rattle.rmp_decode.specs.State.{left, faults_of, room_of}
 use Rattle.rmp_decode.specs.declared.access.seq.SeqAccess.{SeqAccess}
 use Rattle.rmp_decode.specs.declared.deserializer.Deserializer.{Deserializer}

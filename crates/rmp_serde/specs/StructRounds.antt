@@ -1,13 +1,13 @@
 -- What structs lower to, with names or without, is read as their values.
-use Rattle.std.proofs.Common.{◌≡◌, ℕ, zero, suc, ◌+◌, List, [], ◌∷◌, ◌++◌, length, map, Bool, true, false, Option, None, Some, refl, sym, ◌∙◌, ap, subst, append_assoc}
-use Rattle.std.specs.Prelude.{◌≢◌, cond, nat_eq, IsSome, MatchOption}
+use Rattle.std.proofs.Common.{◌≡◌, ℕ, suc, ◌+◌, List, [], ◌∷◌, ◌++◌, length, map, Bool, true, false, Option, None, Some, refl, sym, ◌∙◌, ap, subst, append_assoc}
+use Rattle.std.specs.Prelude.{◌≢◌, cond, IsSome, MatchOption}
 use Rattle.std.specs.Option.{option_map, option_and_then}
 use Rattle.std.specs.Str.{bytes_eq}
 use Rattle.std.proofs.lemmas.List.{length-append}
 use Rattle.std.proofs.lemmas.Slice.Eq.{bytes_eq-Decides}
 use Rattle.std.proofs.lemmas.Bool.Decides.{Decides-eqb}
 use Rattle.rmp_wire.specs.Msg as msg
-use Rattle.rmp_wire.specs.Msg.{Msg, Pairs, pair, count, items_of}
+use Rattle.rmp_wire.specs.Msg.{Msg, Pairs, pair, count}
 use Rattle.rmp_encode.specs.Data.{Data, structure, tuple_variant, struct_variant, Fields, no_fields, field, map_or_list, lower, lower_named, lower_values}
 use Rattle.rmp_encode.specs.Trees.{tree_of, parts_of, fields_of, sequence_of, tuple_of, structure_of, tuple_variant_of, struct_variant_of}
 use Rattle.rmp_encode.specs.declared.settings.Settings.{Settings}

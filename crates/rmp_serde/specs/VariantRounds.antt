@@ -1,5 +1,5 @@
 -- What variants lower to is read as their values.
-use Rattle.std.proofs.Common.{◌≡◌, ℕ, List, [], ◌∷◌, Bool, true, false, Option, None, Some, refl, sym, subst, inr}
+use Rattle.std.proofs.Common.{◌≡◌, ℕ, List, true, Option, None, Some, refl, sym, subst, inr}
 use Rattle.std.specs.Prelude.{◌≢◌, IsSome, MatchOption}
 use Rattle.std.specs.Option.{option_map}
 use Rattle.rmp_wire.specs.Msg as msg

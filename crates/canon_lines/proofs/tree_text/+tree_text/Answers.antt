@@ -1,6 +1,6 @@
-use Rattle.std.proofs.Common.{rules, arith, ◌≡◌, ◌++◌, ◌<◌, ◌≤◌, ◌+◌, ◌*◌, [], ◌∷◌, ◌∙◌, drop, length, subst, OnOk, string_bytes, sym}
+use Rattle.std.proofs.Common.{rules, arith, ◌≡◌, ◌++◌, ◌<◌, ◌≤◌, ◌+◌, ◌*◌, [], ◌∙◌, length, subst, OnOk, string_bytes, sym}
 use Rattle.std.specs.Prelude.{codes}
-use Rattle.rmp_serde.specs.Parts.{tree, parts_count, parts_in_turn}
+use Rattle.rmp_serde.specs.Parts.{tree, parts_count}
 use Rattle.rmp_serde.specs.PartsLeft.{parts_left}
 use Rattle.canon_lines.proofs.PartTexts.{
   comma,
