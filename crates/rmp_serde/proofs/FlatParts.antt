@@ -45,7 +45,8 @@ first_of_row no_items = refl
 first_of_row (item m ms) = first_is m (tokens_all ms)
 
 -- the node at a place has the head and the content of the message that begins there
-pub stands_at : (b : List ℕ) (row : List Node) (at : ℕ) → IsRow (heads_in b row) → token_in b (get_or row at nodes.Nil) ≡ (head_of (told_tree (drop at (heads_in b row))), content_of (told_tree (drop at (heads_in b row))))
+pub stands_at : (b : List ℕ) (row : List Node) (at : ℕ) → IsRow (heads_in b row)
+    → token_in b (get_or row at nodes.Nil) ≡ (head_of (told_tree (drop at (heads_in b row))), content_of (told_tree (drop at (heads_in b row))))
 stands_at b [] zero r = refl
 stands_at b [] (suc at) r = refl
 stands_at b (node ∷ row) zero r = ap first_token r ∙ first_of_row (built (heads_in b (node ∷ row)))
@@ -200,7 +201,8 @@ nth_depth (suc n) i no_items l = absurd (omega (arith, l))
 nth_depth (suc n) zero (item m ms) l = omega arith
 nth_depth (suc n) (suc i) (item m ms) l = omega (arith, nth_depth n i ms (omega (arith, l)))
 
-nth_pair : (n i : ℕ) (ms : Msgs) → i < count_pairs (first_pairs n ms) → slice_get (pairs_of (first_pairs n ms)) i ≡ Some (first_tree (past_items (2 * i) ms), first_tree (past_items 1 (past_items (2 * i) ms)))
+nth_pair : (n i : ℕ) (ms : Msgs) → i < count_pairs (first_pairs n ms)
+    → slice_get (pairs_of (first_pairs n ms)) i ≡ Some (first_tree (past_items (2 * i) ms), first_tree (past_items 1 (past_items (2 * i) ms)))
 nth_pair zero i ms l = absurd (omega (arith, l))
 nth_pair (suc n) i no_items l = absurd (omega (arith, l))
 nth_pair (suc n) i (item k no_items) l = absurd (omega (arith, l))
@@ -226,7 +228,8 @@ past_more (suc i) (item m ms) = ap (λ z. past_items z (item m ms)) (let e : suc
 
 -- an item of a list, by how far it is behind the head
 pub item_is : (ts : List Token) (at n i : ℕ) → IsRow ts → head_of (told_tree (drop at ts)) ≡ Array n → i < n
-    → (item_of (told_tree (drop at ts)) i ≡ Some (first_tree (past_items i (built (drop (suc at) ts))))) × (depth (first_tree (past_items i (built (drop (suc at) ts)))) < depth (told_tree (drop at ts)))
+    → (item_of (told_tree (drop at ts)) i ≡ Some (first_tree (past_items i (built (drop (suc at) ts))))) ×
+    (depth (first_tree (past_items i (built (drop (suc at) ts)))) < depth (told_tree (drop at ts)))
 item_is ts at n i r e l =
     let s = list_at ts at n r e in
     let ms = built (drop (suc at) ts) in

@@ -5,7 +5,8 @@ ghost use Rattle.rmp_wire.specs.Msg.{depth, count};
 ghost use Rattle.rmp_wire.specs.Spelling.{head_of};
 ghost use Rattle.rmp_serde.specs.Flat.{head_in};
 ghost use Rattle.rmp_serde.specs.Tokens.{past_items};
-ghost use Rattle.rmp_serde.specs.Parts.{row_at, row_behind, content_of, parts_of, tree, kind_of, truth_of, whole_of, float32_of, float64_of, text_of, bytes_of, extension_of, parts_count, item_of, pair_of};
+ghost use Rattle.rmp_serde.specs.Parts.{row_at, row_behind, content_of, parts_of, tree, kind_of, parts_count, item_of, pair_of};
+ghost use Rattle.rmp_serde.specs.Parts.{truth_of, whole_of, float32_of, float64_of, text_of, bytes_of, extension_of};
 
 mod parts;
 

@@ -12,7 +12,8 @@ returns-in_err-write_str_len-in-Text-clause-writes g c =
     rw (p.1, p.2, c.in-Text.is) (puts_stop _ c.in_err-write_str_len-in-Text.ensures.writes)
 
 pub returns-in_ok-write_str_len-in-Text-clause-writes : goal.returns-in_ok-write_str_len-in-Text-clause-writes
-returns-in_ok-write_str_len-in-Text-clause-writes g c = rw c.in-Text.is ((rw c.content.ensures.content at c.write_content.ensures.writes) _ _ (head_some _) c.in_ok-write_str_len-in-Text.ensures.writes)
+returns-in_ok-write_str_len-in-Text-clause-writes g c = rw c.in-Text.is ((rw c.content.ensures.content at c.write_content.ensures.writes) _ _
+    (head_some _) c.in_ok-write_str_len-in-Text.ensures.writes)
 
 pub returns-in_err-write_bin_len-in-Bytes-clause-writes : goal.returns-in_err-write_bin_len-in-Bytes-clause-writes
 returns-in_err-write_bin_len-in-Bytes-clause-writes g c =
@@ -26,7 +27,8 @@ pub returns-in_err-write_ext_meta-in-Ext-clause-writes : goal.returns-in_err-wri
 returns-in_err-write_ext_meta-in-Ext-clause-writes g c =
     let p = err_from_is_err_and c.from_residual-in_err-write_ext_meta-in-Ext.result c.from_residual-in_err-write_ext_meta-in-Ext.ensures.1 in
     let same : to_z w8 (of_z w8 c.in-Ext.tag) ≡ c.in-Ext.tag = search rules in
-    rw (p.1, p.2, c.in-Ext.is) (puts_as (ap (λ z. canon_head (Ext c.in-Ext.len z) ++ take c.in-Ext.len (drop c.in-Ext.field-2 c.args.parts.now.bytes.items)) same) (puts_stop _ c.in_err-write_ext_meta-in-Ext.ensures.writes))
+    rw (p.1, p.2, c.in-Ext.is) (puts_as (ap (λ z. canon_head (Ext c.in-Ext.len z) ++ take c.in-Ext.len
+    (drop c.in-Ext.field-2 c.args.parts.now.bytes.items)) same) (puts_stop _ c.in_err-write_ext_meta-in-Ext.ensures.writes))
 
 pub returns-in_ok-write_ext_meta-in-Ext-clause-writes : goal.returns-in_ok-write_ext_meta-in-Ext-clause-writes
 returns-in_ok-write_ext_meta-in-Ext-clause-writes g c =

@@ -11,7 +11,8 @@ returns-in_err-write_value-clause-writes g c =
     (value_told c.self.inside.root c.self.inside.parts c.args.self.now c.self.invariant c.self.view_is).0 (rw c.get_mut.ensures.value at c.in_err-write_value.ensures.writes)
 
 pub returns-clause-writes : goal.returns-clause-writes
-returns-clause-writes g c = value_writes g.W.Sink c.args.se.now.settings c.args.self.now (Ok tt) refl (value_told c.self.inside.root c.self.inside.parts c.args.self.now c.self.invariant c.self.view_is).0
+returns-clause-writes g c = value_writes g.W.Sink c.args.se.now.settings c.args.self.now (Ok tt) refl
+    (value_told c.self.inside.root c.self.inside.parts c.args.self.now c.self.invariant c.self.view_is).0
     (rw c.get_mut.ensures.value at c.in_ok-write_value.ensures.writes)
 
 pub returns-clause-value : goal.returns-clause-value
