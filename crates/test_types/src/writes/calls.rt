@@ -200,13 +200,13 @@ impl Sink for Narrow {
     }
 }
 
-fn narrow(alloc: Global, room: usize) -> Serializer<Narrow> {
+fn with_room(alloc: Global, room: usize) -> Serializer<Narrow> {
     Serializer::new(alloc, Narrow { room, faults: 0 })
 }
 
 #[test]
 fn a_list_that_is_broken_off(rt: HostRuntime) -> Result<(), Fail> {
-    let mut se = narrow(rt.alloc(), 1);
+    let mut se = with_room(rt.alloc(), 1);
     let mut list = se.serialize_seq(Some(1))?;
     assert!(rt; list.is_sound());
     assert!(rt; list.serialize_element(&1u8).is_err());
@@ -216,7 +216,7 @@ fn a_list_that_is_broken_off(rt: HostRuntime) -> Result<(), Fail> {
 
 #[test]
 fn a_tuple_that_is_broken_off(rt: HostRuntime) -> Result<(), Fail> {
-    let mut se = narrow(rt.alloc(), 1);
+    let mut se = with_room(rt.alloc(), 1);
     let mut tuple = se.serialize_tuple(1)?;
     assert!(rt; tuple.is_sound());
     assert!(rt; tuple.serialize_element(&1u8).is_err());
@@ -226,7 +226,7 @@ fn a_tuple_that_is_broken_off(rt: HostRuntime) -> Result<(), Fail> {
 
 #[test]
 fn a_tuple_struct_that_is_broken_off(rt: HostRuntime) -> Result<(), Fail> {
-    let mut se = narrow(rt.alloc(), 1);
+    let mut se = with_room(rt.alloc(), 1);
     let mut fields = se.serialize_tuple_struct("One", 1)?;
     assert!(rt; fields.is_sound());
     assert!(rt; fields.serialize_element(&1u8).is_err());
@@ -245,13 +245,13 @@ fn put_open_list(mut se: Serializer<Narrow>) -> Result<(), Error> {
 fn no_room_at_the_end(rt: HostRuntime) {
     assert!(rt;
         matches!(
-            put_open_list(narrow(rt.alloc(), 0)),
+            put_open_list(with_room(rt.alloc(), 0)),
             Err(Error::InvalidValueWrite(ValueWriteError::InvalidMarkerWrite(_)))
         )
     );
     assert!(rt;
         matches!(
-            put_open_list(narrow(rt.alloc(), 1)),
+            put_open_list(with_room(rt.alloc(), 1)),
             Err(Error::InvalidValueWrite(ValueWriteError::InvalidDataWrite(_)))
         )
     );
