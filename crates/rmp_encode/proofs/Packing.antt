@@ -328,11 +328,8 @@ pub probed_some : {ds : List (Option Data)} (P : Type 0) {o : Option (Vec ℕ Gl
     → (ds ≡ map a_byte v.items) × P
 probed_some {ds} P {o} {v} e h = subst (Probed ds P) e h
 
-pub as_many : {X : Type 0} (f : X → Option Data) (xs : List X) (bs : List ℕ) → map f xs ≡ map a_byte bs → length xs ≡ length bs
-as_many f xs bs e = sym (length-map xs f) ∙ ap length e ∙ length-map bs a_byte
-
 pub bytes_more : {X : Type 0} (f : X → Option Data) (xs : List X) (bs : List ℕ) → map f xs ≡ map a_byte bs → 0 < length xs → 0 < length bs
-bytes_more f xs bs e lt = let n = as_many f xs bs e in omega (arith, n, lt)
+bytes_more f xs bs e lt = let n : length xs ≡ length bs = sym (length-map xs f) ∙ ap length e ∙ length-map bs a_byte in omega (arith, n, lt)
 
 slice_byte_at : (o : Option Parts) → byte_of (option_map slice o) ≡ None
 slice_byte_at None = refl
@@ -349,14 +346,3 @@ tuple_byte_at (Some es) = refl
 pub tuple_no_byte : (ds : List (Option Data)) → byte_of (tuple_of ds) ≡ None
 unfolding tuple_of
 tuple_no_byte ds = tuple_byte_at (parts_of ds)
-
--- a tuple of values that are these bytes, packed or as the list
-pub tuple_packs : (s : Settings) (ds : List (Option Data)) (bs : List ℕ) → ds ≡ map a_byte bs → forces_all s.bytes ≡ true → packs_tuple ForceAll bs ≡ true
-    → tree_of s (tuple_of ds) ≡ Some (bin bs)
-tuple_packs s ds bs is f e = ap (λ l. tree_of s (tuple_of l)) is ∙ bytes_tree s bs (ap (λ m. packs_tuple m bs) (is_force_all s.bytes f) ∙ e)
-
-pub tuple_lists : (s : Settings) (ds : List (Option Data)) (bs : List ℕ) → ds ≡ map a_byte bs → forces_all s.bytes ≡ true → packs_tuple ForceAll bs ≡ false
-    → tree_of s (tuple_of ds) ≡ tree_of s (sequence_of ds)
-tuple_lists s ds bs is f e =
-    ap (λ l. tree_of s (tuple_of l)) is ∙ list_tree s bs (ap (λ m. packs_tuple m bs) (is_force_all s.bytes f) ∙ e)
-    ∙ ap (λ l. tree_of s (sequence_of l)) (sym is)

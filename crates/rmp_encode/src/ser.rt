@@ -1,8 +1,8 @@
 //! What can be written.
-ghost use Rattle.std.specs.Prelude.{◌≡◌, ◌||◌, Bool, true, Option, OnOk, OnSome, IfSome, All, map};
+ghost use Rattle.std.specs.Prelude.{◌≡◌, ◌||◌, Bool, true, Option, OnOk, OnSome};
 ghost use Rattle.rmp_encode.specs.declared.settings.Settings.{Settings};
 ghost use Rattle.rmp_encode.specs.Data.{Data};
-ghost use Rattle.rmp_encode.specs.Trees.{tree_of, a_byte, byte_of};
+ghost use Rattle.rmp_encode.specs.Trees.{tree_of, byte_of};
 ghost use Rattle.rmp_encode.specs.Ser.{sink_of, settings_of};
 ghost use Rattle.rmp_encode.specs.Writes.{Keeps, WritesTree};
 
@@ -50,14 +50,4 @@ pub trait Serialize {
     fn as_u8(&self, human: bool) -> Option<u8>
         ensures byte { result ≡ byte_of (data_of self.now human) }
         ensures value { OnSome result (is_value self.now) };
-
-    /// The numbers, only where the type is `u8` itself, or lies in memory and is written as it is. It spares the calls of `as_u8`.
-    fn slice_as_u8(values: &[Self]) -> Option<&[u8]>
-    where
-        Self: Sized,
-        ensures bytes { IfSome result (λ bs. (human : Bool) → map (λ x. data_of x human) values.now ≡ map a_byte bs.now) }
-        ensures values { OnSome result (All is_value values.now) }
-    {
-        None
-    }
 }

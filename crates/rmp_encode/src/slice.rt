@@ -78,9 +78,6 @@ impl<W: Sink, C: SerializerConfig> Serializer<W, C> {
         if values.is_empty() {
             return self.put_list(values);
         }
-        if let Some(bytes) = T::slice_as_u8(values) {
-            return self.serialize_bytes(bytes);
-        }
         let human = self.is_human_readable();
         let Some(bytes) = self.probe(values, human)? else {
             return self.put_list(values);

@@ -303,12 +303,6 @@ pub(crate) fn put_tuple<W: Sink, C: SerializerConfig, T: Serialize>(
     if !se.forces_all() {
         return se.put_list(values);
     }
-    if let Some(bytes) = T::slice_as_u8(values) {
-        if packs(bytes) {
-            return se.serialize_bytes(bytes);
-        }
-        return se.put_list(values);
-    }
     let mut tup = se.serialize_tuple(values.len())?;
     for value in values {
         tup.serialize_element(value)?;

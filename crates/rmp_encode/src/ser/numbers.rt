@@ -72,11 +72,6 @@ impl Serialize for u8 {
     fn as_u8(&self, _human: bool) -> Option<u8> {
         Some(*self)
     }
-
-    #[inline(always)]
-    fn slice_as_u8(values: &[u8]) -> Option<&[u8]> {
-        Some(values)
-    }
 }
 
 impl Serialize for u16 {

@@ -1,12 +1,12 @@
-use Rattle.std.proofs.Common.{rules, arith, refl, sym, ◌∙◌, ◌≤◌, ◌^◌, true, subst, All}
+use Rattle.std.proofs.Common.{rules, arith, refl, sym, ◌∙◌, subst, All}
 use Rattle.std.proofs.lemmas.List.{take_all}
 use Rattle.std.proofs.lemmas.List.Elements.{All-more}
 use Rattle.std.proofs.lemmas.Result.{err_from_is_err_and}
 use Rattle.rmp_encode.specs.Ser.{settings_of}
 use Rattle.rmp_encode.specs.Trees.{forces_all}
-use Rattle.rmp_encode.proofs.Parts.{rests_at, part_or, part_takes, or_second, or_given}
+use Rattle.rmp_encode.proofs.Parts.{rests_at, part_takes, or_second, or_given}
 use Rattle.rmp_encode.proofs.Going.{map_rest, map_rest_none, keeps_then, keeps_last, on_ok, unopened}
-use Rattle.rmp_encode.proofs.Packing.{as_many, plain_mode, tuple_lists, tuple_packs}
+use Rattle.rmp_encode.proofs.Packing.{plain_mode}
 use Rattle.rmp_encode.proofs.TupleSteps.{as_tree, still_tuple}
 use Rattle.std.proofs.lemmas.List.{length-map}
 use Rattle.rmp_encode.proofs.tuple.put_tuple.Goals as goal
@@ -15,25 +15,6 @@ pub returns-then-not-forces_all-clause-writes : goal.returns-then-not-forces_all
 returns-then-not-forces_all-clause-writes g c = as_tree g.W.Sink (plain_mode (settings_of c.args.se.now) _ (sym c.forces_all.ensures ∙ search rules))
     (part_takes g.W.Sink _ (or_second (forces_all (settings_of c.args.se.now).bytes) (g.T.Serialize.takes_memory (settings_of c.args.se.now))
     g.W.Sink.takes_memory) c.put_list.ensures.writes)
-
-pub returns-then-packs-clause-writes : goal.returns-then-packs-clause-writes
-returns-then-packs-clause-writes g c =
-    let s = settings_of c.args.se.now in
-    let tree = tuple_packs s _ c.in-Some.bytes.now (c.in-Some.ensures.bytes s.human) (sym c.forces_all.ensures ∙ search rules)
-    (sym c.packs.ensures ∙ search rules) in
-    as_tree g.W.Sink tree (part_or g.W.Sink _ c.serialize_bytes.ensures.writes)
-
-pub returns-then-packs-clause-refused : goal.returns-then-packs-clause-refused
-returns-then-packs-clause-refused g c = λ le. c.serialize_bytes.ensures.long
-    (subst (λ n. 2 ^ 32 ≤ n) (as_many _ c.args.values.now c.in-Some.bytes.now (c.in-Some.ensures.bytes true)) le)
-
-pub returns-in-Some-clause-writes : goal.returns-in-Some-clause-writes
-returns-in-Some-clause-writes g c =
-    let s = settings_of c.args.se.now in
-    let tree = tuple_lists s _ c.in-Some.bytes.now (c.in-Some.ensures.bytes s.human) (sym c.forces_all.ensures ∙ search rules)
-    (sym c.packs.ensures ∙ search rules) in
-    as_tree g.W.Sink tree (part_takes g.W.Sink _ (or_second (forces_all s.bytes) (g.T.Serialize.takes_memory s) g.W.Sink.takes_memory)
-    c.put_list-in-Some.ensures.writes)
 
 pub returns-in_err-tup-clause-writes : goal.returns-in_err-tup-clause-writes
 returns-in_err-tup-clause-writes g c =
