@@ -312,7 +312,7 @@ def statements(kind, value, rows):
     else:
         made = body.value(kind, value)
     settings = ", ".join(f"Setting::{SETTINGS[setting]}" for setting, _ in rows)
-    body.lines.append(f"rows.{call}({quoted(kind)}, {quoted(value)}, &[{settings}], &{made});")
+    body.lines.append(f"rows.{call}({quoted(kind)}, {quoted(value)}, &[{settings}], &{made})?;")
     return body
 
 
@@ -321,44 +321,29 @@ def renamed(lines, names):
     return [re.sub(r"\bvalue_(\d+)\b", lambda m: f"value_{int(m[1]) + names}", line) for line in lines]
 
 
-def fails(lines):
-    """Whether one of the statements may give up."""
-    return any("?" in re.sub(r'"(?:\\.|[^"\\])*"', "", line) for line in lines)
-
-
-def answering(name, parameters, lines):
-    """A function of these statements, which answers a `Result` where one of them may give up."""
-    if fails(lines):
-        return [f"{name}({parameters}) -> Result<(), Fault> {{", *lines, "Ok(())", "}"]
-    return [f"{name}({parameters}) {{", *lines, "}"]
-
-
 def module(about, bodies):
-    """The text of a module, whose functions have a few values each where they may give up."""
+    """The text of a module, whose functions have a few values each."""
     functions, current, values, names = [], [], 0, 0
     for body in bodies:
         weight = sum(2 + len(line) // 90 for line in current + body.lines)
-        is_full = fails(current + body.lines) and (values >= VALUES or not fails(current))
-        if current and (is_full or fails(current) != fails(body.lines) or weight > LINES):
+        if current and (values >= VALUES or weight > LINES):
             functions.append(current)
             current, values, names = [], 0, 0
         current = current + renamed(body.lines, names)
         values, names = values + 1, names + body.names
     functions.append(current)
-    uses = set().union(*(body.uses for body in bodies)) | {"crate::row::Rows", "crate::row::Setting"}
-    if any(fails(lines) for lines in functions):
-        uses.add("crate::fault::Fault")
+    uses = set().union(*(body.uses for body in bodies)) | {"crate::fault::Fault", "crate::row::Rows", "crate::row::Setting"}
     if any("alloc" in line for lines in functions for line in lines):
         uses.add("std::alloc::Global")
     text = [f"//! {about} Written by tools/typed_samples.py.", *(f"use {use};" for use in sorted(uses)), ""]
     calls = []
     for i, lines in enumerate(functions, 1):
         allocates = any("alloc" in line for line in lines)
-        calls.append(f"rows_{i}({'alloc, ' if allocates else ''}rows){'?' if fails(lines) else ''};")
-        text += [*answering(f"fn rows_{i}", f"{'alloc: Global, ' if allocates else ''}rows: &mut Rows", lines), ""]
+        calls.append(f"rows_{i}({'alloc, ' if allocates else ''}rows)?;")
+        text += [f"fn rows_{i}({'alloc: Global, ' if allocates else ''}rows: &mut Rows) -> Result<(), Fault> {{", *lines, "Ok(())", "}", ""]
     allocates = any("alloc" in call for call in calls)
-    text += [f"/// {about}", *answering("pub fn all", f"{'alloc: Global, ' if allocates else ''}rows: &mut Rows", calls)]
-    return "\n".join(text) + "\n", allocates, fails(calls)
+    text += [f"/// {about}", f"pub fn all({'alloc: Global, ' if allocates else ''}rows: &mut Rows) -> Result<(), Fault> {{", *calls, "Ok(())", "}"]
+    return "\n".join(text) + "\n", allocates
 
 
 def main():
@@ -379,8 +364,8 @@ def main():
     os.makedirs(folder, exist_ok=True)
     calls = []
     for name, about, _ in MODULES:
-        text, allocates, may_fail = module(about, bodies[name])
-        calls.append(f"{name}::all({'alloc, ' if allocates else ''}rows){'?' if may_fail else ''};")
+        text, allocates = module(about, bodies[name])
+        calls.append(f"{name}::all({'alloc, ' if allocates else ''}rows)?;")
         with open(os.path.join(folder, f"{name}.rt"), "w", encoding="utf-8") as file:
             file.write(text)
     names = sorted(name for name, _, _ in MODULES)

@@ -18,8 +18,7 @@ use std::io::Read;
 fn main(rt: HostRuntime) -> Result<(), Fault> {
     let mut rows = Rows::new(rt.alloc());
     rows::all(rt.alloc(), &mut rows)?;
-    let written = rows.into_text()?;
-    rt.print(written.as_str())?;
+    rt.print(rows.text())?;
     let mut input = Vec::new(rt.alloc());
     rt.reader().read_to_end(&mut input)?;
     let Ok(text) = str::from_utf8(input.as_slice()) else {

@@ -92,12 +92,11 @@ fn read_again(alloc: Global, bytes: &[u8]) -> Result<(), Fault> {
     }
 }
 
-/// The rows so far, one a line, or why the first of them failed.
+/// The rows so far, one a line.
 #[derive(Drop)]
 pub struct Rows {
     text: String,
     alloc: Global,
-    fault: Option<Fault>,
 }
 
 impl Rows {
@@ -105,43 +104,16 @@ impl Rows {
         Rows {
             text: String::new(alloc),
             alloc,
-            fault: None,
         }
     }
 
     /// The lines.
-    ///
-    /// # Errors
-    /// That of the first row that failed.
-    pub fn into_text(self) -> Result<String, Fault> {
-        match self.fault {
-            None => Ok(self.text),
-            Some(fault) => Err(fault),
-        }
+    pub fn text(&self) -> &str {
+        self.text.as_str()
     }
 
-    /// Adds a row for each of the settings: a value of a type, both as the sample names them. Behind a row that failed none is added.
-    pub fn add<T: Serialize>(&mut self, kind: &str, shown: &str, settings: &[Setting], value: &T) {
-        if self.fault.is_none() {
-            self.fault = self.write(kind, shown, settings, value).err();
-        }
-    }
-
-    /// The same, where the value is a list of one reference to what is given.
-    pub fn add_lent<T: Serialize>(
-        &mut self,
-        kind: &str,
-        shown: &str,
-        settings: &[Setting],
-        item: &T,
-    ) {
-        match vec![in self.alloc; item] {
-            Ok(list) => self.add(kind, shown, settings, &list),
-            Err(_) => self.fault = Some(Fault::Memory),
-        }
-    }
-
-    fn write<T: Serialize>(
+    /// Adds a row for each of the settings: a value of a type, both as the sample names them.
+    pub fn add<T: Serialize>(
         &mut self,
         kind: &str,
         shown: &str,
@@ -154,6 +126,18 @@ impl Rows {
             self.line(kind, shown, setting.words(), bytes.as_slice())?;
         }
         Ok(())
+    }
+
+    /// The same, where the value is a list of one reference to what is given.
+    pub fn add_lent<T: Serialize>(
+        &mut self,
+        kind: &str,
+        shown: &str,
+        settings: &[Setting],
+        item: &T,
+    ) -> Result<(), Fault> {
+        let list = vec![in self.alloc; item]?;
+        self.add(kind, shown, settings, &list)
     }
 
     fn line(

@@ -15,7 +15,7 @@ use std::alloc::Global;
 
 /// Adds each row.
 pub fn all(alloc: Global, rows: &mut Rows) -> Result<(), Fault> {
-    numbers::all(rows);
+    numbers::all(rows)?;
     texts::all(alloc, rows)?;
     unknown::all(alloc, rows)?;
     values::all(alloc, rows)?;

@@ -11,7 +11,7 @@ fn rows_1(alloc: Global, rows: &mut Rows) -> Result<(), Fault> {
         "(ext(1, &[2, 3]), 200)",
         &[Setting::Default, Setting::TupleNamed],
         &(Ext::new(1, vec![in alloc; 2u8, 3u8]?), 200u8),
-    );
+    )?;
     rows.add(
         "Ext",
         "ext(2, &[5])",
@@ -21,7 +21,7 @@ fn rows_1(alloc: Global, rows: &mut Rows) -> Result<(), Fault> {
             Setting::NamedForceIterables,
         ],
         &Ext::new(2, vec![in alloc; 5u8]?),
-    );
+    )?;
     rows.add(
         "Ext",
         "ext(127, &[1, 2, 3, 4])",
@@ -31,13 +31,13 @@ fn rows_1(alloc: Global, rows: &mut Rows) -> Result<(), Fault> {
             Setting::NamedForceAll,
         ],
         &Ext::new(127, vec![in alloc; 1u8, 2u8, 3u8, 4u8]?),
-    );
+    )?;
     rows.add(
         "Ext",
         "ext(0, &[0; 8])",
         &[Setting::TupleNamed, Setting::ForceAll],
         &Ext::new(0, vec![in alloc; 0u8; 8]?),
-    );
+    )?;
     Ok(())
 }
 
@@ -47,7 +47,7 @@ fn rows_2(alloc: Global, rows: &mut Rows) -> Result<(), Fault> {
         "ext(1, &[1; 16])",
         &[Setting::TupleNamed, Setting::NamedForceIterables],
         &Ext::new(1, vec![in alloc; 1u8; 16]?),
-    );
+    )?;
     rows.add(
         "Ext",
         "ext(1, &[1; 17])",
@@ -57,16 +57,16 @@ fn rows_2(alloc: Global, rows: &mut Rows) -> Result<(), Fault> {
             Setting::NamedForceIterables,
         ],
         &Ext::new(1, vec![in alloc; 1u8; 17]?),
-    );
+    )?;
     let value_1: Value = from_slice(alloc, &[0xc0])?;
-    rows.add("Value", "Value::Nil", &[Setting::ForceAll], &value_1);
+    rows.add("Value", "Value::Nil", &[Setting::ForceAll], &value_1)?;
     let value_2: Value = from_slice(alloc, &[0xc3])?;
     rows.add(
         "Value",
         "Value::Truth(true)",
         &[Setting::Named, Setting::NamedForceAll],
         &value_2,
-    );
+    )?;
     Ok(())
 }
 
@@ -80,14 +80,14 @@ fn rows_3(alloc: Global, rows: &mut Rows) -> Result<(), Fault> {
         "Value::F64(1)",
         &[Setting::Human, Setting::NamedForceAll],
         &value_1,
-    );
+    )?;
     let value_2: Value = from_slice(alloc, &[0xda, 0x00, 0x01, 0x61])?;
     rows.add(
         "Value",
         "Value::Text(s(\"a\"))",
         &[Setting::NamedTuple, Setting::NamedForceIterables],
         &value_2,
-    );
+    )?;
     let value_3: Value = from_slice(
         alloc,
         &[
@@ -99,14 +99,14 @@ fn rows_3(alloc: Global, rows: &mut Rows) -> Result<(), Fault> {
         "Value::List(vec![Value::Whole(1)])",
         &[Setting::ForceIterables, Setting::NamedForceAll],
         &value_3,
-    );
+    )?;
     let value_4: Value = from_slice(alloc, &[0xdd, 0x00, 0x00, 0x00, 0x00])?;
     rows.add(
         "Value",
         "Value::List(vec![])",
         &[Setting::ForceAll],
         &value_4,
-    );
+    )?;
     Ok(())
 }
 
@@ -123,7 +123,7 @@ fn rows_4(alloc: Global, rows: &mut Rows) -> Result<(), Fault> {
         "Value::List(vec![Value::Whole(200), Value::Whole(1)])",
         &[Setting::ForceIterables],
         &value_1,
-    );
+    )?;
     let value_2: Value = from_slice(
         alloc,
         &[0xc9, 0x00, 0x00, 0x00, 0x03, 0x05, 0x01, 0x02, 0x03],
@@ -133,7 +133,7 @@ fn rows_4(alloc: Global, rows: &mut Rows) -> Result<(), Fault> {
         "Value::Ext(5, vec![1, 2, 3])",
         &[Setting::ForceIterables],
         &value_2,
-    );
+    )?;
     Ok(())
 }
 

@@ -4,45 +4,28 @@ ghost use Rattle.std.specs.Prelude.{false};
 use rmp_encode::{Error, Serializer, UnderlyingWrite, to_vec_named, write_named};
 use rmp_wire::config::BytesMode;
 use rmp_wire::{Sink, SinkFault, ValueWriteError};
-use std::alloc::Global;
 use std::io;
 use std::test::Fail;
-
-fn put_unsigned(se: &mut Serializer<Vec<u8>>) -> Result<(), Error> {
-    se.serialize_bool(true)?;
-    se.serialize_u8(200)?;
-    se.serialize_u16(256)?;
-    se.serialize_u32(65536)?;
-    se.serialize_u64(1)
-}
-
-fn put_signed(se: &mut Serializer<Vec<u8>>) -> Result<(), Error> {
-    se.serialize_i8(-1)?;
-    se.serialize_i16(-33)?;
-    se.serialize_i32(-129)?;
-    se.serialize_i64(-1)
-}
-
-fn put_bits(se: &mut Serializer<Vec<u8>>) -> Result<(), Error> {
-    se.serialize_f32_bits(1)?;
-    se.serialize_f64_bits(1)?;
-    se.serialize_char('x')
-}
-
-fn put_contents(se: &mut Serializer<Vec<u8>>) -> Result<(), Error> {
-    se.serialize_str("y")?;
-    se.serialize_bytes(b"\x01")?;
-    se.serialize_unit()?;
-    se.collect_seq(&[1u8, 2])
-}
 
 #[test]
 fn values(rt: HostRuntime) -> Result<(), Fail> {
     let mut se = Serializer::new(rt.alloc(), Vec::new(rt.alloc()));
-    put_unsigned(&mut se)?;
-    put_signed(&mut se)?;
-    put_bits(&mut se)?;
-    put_contents(&mut se)?;
+    se.serialize_bool(true)?;
+    se.serialize_u8(200)?;
+    se.serialize_u16(256)?;
+    se.serialize_u32(65536)?;
+    se.serialize_u64(1)?;
+    se.serialize_i8(-1)?;
+    se.serialize_i16(-33)?;
+    se.serialize_i32(-129)?;
+    se.serialize_i64(-1)?;
+    se.serialize_f32_bits(1)?;
+    se.serialize_f64_bits(1)?;
+    se.serialize_char('x')?;
+    se.serialize_str("y")?;
+    se.serialize_bytes(b"\x01")?;
+    se.serialize_unit()?;
+    se.collect_seq(&[1u8, 2])?;
     assert_eq!(rt;
         se.into_inner().as_slice(),
         b"\xc3\xcc\xc8\xcd\x01\x00\xce\x00\x01\x00\x00\x01\xff\xd0\xdf\xd1\xff\x7f\xff\xca\x00\x00\x00\x01\xcb\x00\x00\x00\x00\x00\x00\x00\x01\xa1x\xa1y\xc4\x01\x01\xc0\x92\x01\x02".as_slice()
@@ -51,7 +34,7 @@ fn values(rt: HostRuntime) -> Result<(), Fail> {
 }
 
 #[test]
-fn settings(rt: HostRuntime) {
+fn settings(rt: HostRuntime) -> Result<(), Fail> {
     let se = Serializer::new(rt.alloc(), Vec::new(rt.alloc()));
     assert!(rt; !se.is_named() && !se.is_human_readable());
     assert!(rt; matches!(se.bytes(), BytesMode::Normal));
@@ -63,6 +46,7 @@ fn settings(rt: HostRuntime) {
     assert!(rt; matches!(se.bytes(), BytesMode::ForceIterables));
     let se = se.with_struct_tuple().with_binary();
     assert!(rt; !se.is_named() && !se.is_human_readable());
+    Ok(())
 }
 
 #[test]
@@ -94,62 +78,36 @@ fn named(rt: HostRuntime) -> Result<(), Fail> {
     Ok(())
 }
 
-// Each of these tells what is left of a compound, at each of its parts.
-fn left_of_a_list(se: &mut Serializer<Vec<u8>>) -> Result<[Option<usize>; 2], Error> {
-    let mut list = se.serialize_seq(Some(2))?;
-    let first = list.left();
-    list.serialize_element(&1u8)?;
-    let second = list.left();
-    list.serialize_element(&2u8)?;
-    list.end()?;
-    Ok([first, second])
-}
-
-fn left_of_a_map(se: &mut Serializer<Vec<u8>>) -> Result<[Option<usize>; 3], Error> {
-    let mut map = se.serialize_map(Some(2))?;
-    let first = map.left();
-    map.serialize_key(&1u8)?;
-    let behind_key = map.left();
-    map.serialize_value(&2u8)?;
-    let second = map.left();
-    map.serialize_key(&3u8)?;
-    map.serialize_value(&4u8)?;
-    map.end()?;
-    Ok([first, behind_key, second])
-}
-
-fn left_of_an_open_list(se: &mut Serializer<Vec<u8>>) -> Result<Option<usize>, Error> {
-    let open = se.serialize_seq(None)?;
-    let left = open.left();
-    open.end()?;
-    Ok(left)
-}
-
-fn left_of_a_tuple(se: &mut Serializer<Vec<u8>>) -> Result<[usize; 2], Error> {
-    let mut tuple = se.serialize_tuple(1)?;
-    let first = tuple.left();
-    tuple.serialize_element(&5u8)?;
-    let second = tuple.left();
-    tuple.end()?;
-    Ok([first, second])
-}
-
-fn left_of_a_tuple_struct(se: &mut Serializer<Vec<u8>>) -> Result<usize, Error> {
-    let mut fields = se.serialize_tuple_struct("Pair", 1)?;
-    let left = fields.left();
-    fields.serialize_element(&6u8)?;
-    fields.end()?;
-    Ok(left)
-}
-
 #[test]
 fn what_is_left(rt: HostRuntime) -> Result<(), Fail> {
     let mut se = Serializer::new(rt.alloc(), Vec::new(rt.alloc()));
-    assert_eq!(rt; left_of_a_list(&mut se)?, [Some(2), Some(1)]);
-    assert_eq!(rt; left_of_a_map(&mut se)?, [Some(2), Some(1), Some(1)]);
-    assert_eq!(rt; left_of_an_open_list(&mut se)?, None);
-    assert_eq!(rt; left_of_a_tuple(&mut se)?, [1, 0]);
-    assert_eq!(rt; left_of_a_tuple_struct(&mut se)?, 1);
+    let mut list = se.serialize_seq(Some(2))?;
+    assert_eq!(rt; list.left(), Some(2));
+    list.serialize_element(&1u8)?;
+    assert_eq!(rt; list.left(), Some(1));
+    list.serialize_element(&2u8)?;
+    list.end()?;
+    let mut map = se.serialize_map(Some(2))?;
+    assert_eq!(rt; map.left(), Some(2));
+    map.serialize_key(&1u8)?;
+    assert_eq!(rt; map.left(), Some(1));
+    map.serialize_value(&2u8)?;
+    assert_eq!(rt; map.left(), Some(1));
+    map.serialize_key(&3u8)?;
+    map.serialize_value(&4u8)?;
+    map.end()?;
+    let open = se.serialize_seq(None)?;
+    assert_eq!(rt; open.left(), None);
+    open.end()?;
+    let mut tuple = se.serialize_tuple(1)?;
+    assert_eq!(rt; tuple.left(), 1);
+    tuple.serialize_element(&5u8)?;
+    assert_eq!(rt; tuple.left(), 0);
+    tuple.end()?;
+    let mut fields = se.serialize_tuple_struct("Pair", 1)?;
+    assert_eq!(rt; fields.left(), 1);
+    fields.serialize_element(&6u8)?;
+    fields.end()?;
     assert_eq!(rt;
         se.into_inner().as_slice(),
         b"\x92\x01\x02\x82\x01\x02\x03\x04\x90\x91\x05\x91\x06".as_slice()
@@ -157,22 +115,43 @@ fn what_is_left(rt: HostRuntime) -> Result<(), Fail> {
     Ok(())
 }
 
-fn is_too_long<T: Drop>(opened: Result<T, Error>) -> bool {
-    match opened {
-        Ok(_) => false,
-        Err(e) => matches!(&e, Error::InvalidDataModel("length past 32 bits")),
-    }
-}
-
 #[test]
-fn too_long(rt: HostRuntime) {
-    const LEN: usize = 4294967296;
+fn too_long(rt: HostRuntime) -> Result<(), Fail> {
     let mut se = Serializer::new(rt.alloc(), Vec::new(rt.alloc()));
-    assert!(rt; is_too_long(se.serialize_seq(Some(LEN))));
-    assert!(rt; is_too_long(se.serialize_map(Some(LEN))));
-    assert!(rt; is_too_long(se.serialize_tuple(LEN)));
-    assert!(rt; is_too_long(se.serialize_tuple_struct("Many", LEN)));
+    let list = match se.serialize_seq(Some(4294967296)) {
+        Ok(open) => {
+            drop(open);
+            false
+        }
+        Err(e) => matches!(&e, Error::InvalidDataModel("length past 32 bits")),
+    };
+    assert!(rt; list);
+    let map = match se.serialize_map(Some(4294967296)) {
+        Ok(open) => {
+            drop(open);
+            false
+        }
+        Err(e) => matches!(&e, Error::InvalidDataModel("length past 32 bits")),
+    };
+    assert!(rt; map);
+    let tuple = match se.serialize_tuple(4294967296) {
+        Ok(open) => {
+            drop(open);
+            false
+        }
+        Err(e) => matches!(&e, Error::InvalidDataModel("length past 32 bits")),
+    };
+    assert!(rt; tuple);
+    let fields = match se.serialize_tuple_struct("Many", 4294967296) {
+        Ok(open) => {
+            drop(open);
+            false
+        }
+        Err(e) => matches!(&e, Error::InvalidDataModel("length past 32 bits")),
+    };
+    assert!(rt; fields);
     assert!(rt; se.get_ref().is_empty());
+    Ok(())
 }
 
 // A sink that has room for so many bytes.
@@ -200,33 +179,19 @@ impl Sink for Narrow {
     }
 }
 
-fn with_room(alloc: Global, room: usize) -> Serializer<Narrow> {
-    Serializer::new(alloc, Narrow { room, faults: 0 })
-}
-
 #[test]
-fn a_list_that_is_broken_off(rt: HostRuntime) -> Result<(), Fail> {
-    let mut se = with_room(rt.alloc(), 1);
+fn broken_off(rt: HostRuntime) -> Result<(), Fail> {
+    let mut se = Serializer::new(rt.alloc(), Narrow { room: 1, faults: 0 });
     let mut list = se.serialize_seq(Some(1))?;
     assert!(rt; list.is_sound());
     assert!(rt; list.serialize_element(&1u8).is_err());
     assert!(rt; !list.is_sound());
-    Ok(())
-}
-
-#[test]
-fn a_tuple_that_is_broken_off(rt: HostRuntime) -> Result<(), Fail> {
-    let mut se = with_room(rt.alloc(), 1);
+    let mut se = Serializer::new(rt.alloc(), Narrow { room: 1, faults: 0 });
     let mut tuple = se.serialize_tuple(1)?;
     assert!(rt; tuple.is_sound());
     assert!(rt; tuple.serialize_element(&1u8).is_err());
     assert!(rt; !tuple.is_sound());
-    Ok(())
-}
-
-#[test]
-fn a_tuple_struct_that_is_broken_off(rt: HostRuntime) -> Result<(), Fail> {
-    let mut se = with_room(rt.alloc(), 1);
+    let mut se = Serializer::new(rt.alloc(), Narrow { room: 1, faults: 0 });
     let mut fields = se.serialize_tuple_struct("One", 1)?;
     assert!(rt; fields.is_sound());
     assert!(rt; fields.serialize_element(&1u8).is_err());
@@ -234,25 +199,27 @@ fn a_tuple_struct_that_is_broken_off(rt: HostRuntime) -> Result<(), Fail> {
     Ok(())
 }
 
-// A list of unknown length, whose head is written at its end.
-fn put_open_list(mut se: Serializer<Narrow>) -> Result<(), Error> {
+#[test]
+fn no_room_at_the_end(rt: HostRuntime) -> Result<(), Fail> {
+    let mut se = Serializer::new(rt.alloc(), Narrow { room: 0, faults: 0 });
     let mut list = se.serialize_seq(None)?;
     list.serialize_element(&1u8)?;
-    list.end()
-}
-
-#[test]
-fn no_room_at_the_end(rt: HostRuntime) {
+    let answer = list.end();
     assert!(rt;
         matches!(
-            put_open_list(with_room(rt.alloc(), 0)),
+            &answer,
             Err(Error::InvalidValueWrite(ValueWriteError::InvalidMarkerWrite(_)))
         )
     );
+    let mut se = Serializer::new(rt.alloc(), Narrow { room: 1, faults: 0 });
+    let mut list = se.serialize_seq(None)?;
+    list.serialize_element(&1u8)?;
+    let answer = list.end();
     assert!(rt;
         matches!(
-            put_open_list(with_room(rt.alloc(), 1)),
+            &answer,
             Err(Error::InvalidValueWrite(ValueWriteError::InvalidDataWrite(_)))
         )
     );
+    Ok(())
 }

@@ -1,62 +1,73 @@
 //! Options, structs without fields, newtype structs, and numbers of 128 bits.
-use super::{is_packed, writes};
+use super::{is_forced, is_written};
 use rmp_encode::{Error, Serialize, Serializer, to_vec, write_named};
 use rmp_wire::config::{BytesMode, SerializerConfig};
 use rmp_wire::{MSGPACK_EXT_STRUCT_NAME, Sink, SliceSink, ValueWriteError};
 use std::test::Fail;
 
 #[test]
-fn options(rt: HostRuntime) {
+fn options(rt: HostRuntime) -> Result<(), Fail> {
     let none: Option<u8> = None;
-    writes(&rt, &none, b"\xc0");
-    writes(&rt, &Some(200u8), b"\xcc\xc8");
-    writes(&rt, &Some("x"), b"\xa1x");
+    assert!(rt; is_written(&rt, &none, b"\xc0")?);
+    assert!(rt; is_written(&rt, &Some(200u8), b"\xcc\xc8")?);
+    assert!(rt; is_written(&rt, &Some("x"), b"\xa1x")?);
     let nested: (Option<Option<u32>>, Option<Option<u32>>) = (None, Some(Some(13)));
-    writes(&rt, &nested, b"\x92\xc0\x0d");
-    writes(&rt, &Some(()), b"\xc0");
+    assert!(rt; is_written(&rt, &nested, b"\x92\xc0\x0d")?);
+    assert!(rt; is_written(&rt, &Some(()), b"\xc0")?);
+    Ok(())
 }
 
 // An option of a `u8` is no `u8`: a list of such is never made bytes.
 #[test]
 fn options_under_force(rt: HostRuntime) -> Result<(), Fail> {
     let some = vec![in rt.alloc(); Some(1u8)]?;
-    is_packed(&rt, BytesMode::ForceAll, &some, b"\x91\x01");
-    is_packed(&rt, BytesMode::ForceIterables, &some, b"\x91\x01");
-    is_packed(
-        &rt,
-        BytesMode::ForceAll,
-        &(200u8, Some(1u8)),
-        b"\x92\xcc\xc8\x01",
+    assert!(rt; is_forced(&rt, BytesMode::ForceAll, &some, b"\x91\x01")?);
+    assert!(rt; is_forced(&rt, BytesMode::ForceIterables, &some, b"\x91\x01")?);
+    assert!(rt;
+        is_forced(
+            &rt,
+            BytesMode::ForceAll,
+            &(200u8, Some(1u8)),
+            b"\x92\xcc\xc8\x01"
+        )?
     );
     let list = Some(vec![in rt.alloc(); 1u8, 2]?);
-    is_packed(&rt, BytesMode::ForceIterables, &list, b"\xc4\x02\x01\x02");
+    assert!(rt; is_forced(&rt, BytesMode::ForceIterables, &list, b"\xc4\x02\x01\x02")?);
     assert!(rt; Some(1u8).as_u8(false).is_none());
     Ok(())
 }
 
 #[test]
 fn wide_numbers(rt: HostRuntime) -> Result<(), Fail> {
-    writes(
-        &rt,
-        &7i128,
-        b"\xc4\x10\x00\x00\x00\x00\x00\x00\x00\x00\x00\x00\x00\x00\x00\x00\x00\x07",
+    assert!(rt;
+        is_written(
+            &rt,
+            &7i128,
+            b"\xc4\x10\x00\x00\x00\x00\x00\x00\x00\x00\x00\x00\x00\x00\x00\x00\x00\x07"
+        )?
     );
-    writes(
-        &rt,
-        &-1i128,
-        b"\xc4\x10\xff\xff\xff\xff\xff\xff\xff\xff\xff\xff\xff\xff\xff\xff\xff\xff",
+    assert!(rt;
+        is_written(
+            &rt,
+            &-1i128,
+            b"\xc4\x10\xff\xff\xff\xff\xff\xff\xff\xff\xff\xff\xff\xff\xff\xff\xff\xff"
+        )?
     );
-    writes(
-        &rt,
-        &i128::MIN,
-        b"\xc4\x10\x80\x00\x00\x00\x00\x00\x00\x00\x00\x00\x00\x00\x00\x00\x00\x00",
+    assert!(rt;
+        is_written(
+            &rt,
+            &i128::MIN,
+            b"\xc4\x10\x80\x00\x00\x00\x00\x00\x00\x00\x00\x00\x00\x00\x00\x00\x00\x00"
+        )?
     );
-    writes(
-        &rt,
-        &0x0102030405060708090a0b0c0d0e0f10u128,
-        b"\xc4\x10\x01\x02\x03\x04\x05\x06\x07\x08\x09\x0a\x0b\x0c\x0d\x0e\x0f\x10",
+    assert!(rt;
+        is_written(
+            &rt,
+            &0x0102030405060708090a0b0c0d0e0f10u128,
+            b"\xc4\x10\x01\x02\x03\x04\x05\x06\x07\x08\x09\x0a\x0b\x0c\x0d\x0e\x0f\x10"
+        )?
     );
-    writes(&rt, &u128::MAX, to_vec(rt.alloc(), &-1i128)?.as_slice());
+    assert!(rt; is_written(&rt, &u128::MAX, to_vec(rt.alloc(), &-1i128)?.as_slice())?);
     Ok(())
 }
 
@@ -89,7 +100,7 @@ impl Serialize for Meters {
 
 #[test]
 fn newtype_structs(rt: HostRuntime) -> Result<(), Fail> {
-    writes(&rt, &Meters(42), b"\x2a");
+    assert!(rt; is_written(&rt, &Meters(42), b"\x2a")?);
     let mut bytes = Vec::new(rt.alloc());
     write_named(rt.alloc(), &mut bytes, &Meters(42))?;
     assert_eq!(rt; bytes.as_slice(), b"\x2a".as_slice());
@@ -118,7 +129,7 @@ fn unit_structs(rt: HostRuntime) -> Result<(), Fail> {
 }
 
 #[test]
-fn no_room(rt: HostRuntime) {
+fn no_room(rt: HostRuntime) -> Result<(), Fail> {
     let mut none = [0u8; 0];
     let mut se = Serializer::new(rt.alloc(), SliceSink::new(&mut none));
     assert!(rt;
@@ -136,4 +147,5 @@ fn no_room(rt: HostRuntime) {
         )
     );
     assert_eq!(rt; three.as_slice(), b"\xc4\x10\xff".as_slice());
+    Ok(())
 }

@@ -3,11 +3,10 @@ ghost use Rattle.std.specs.Prelude.{◌∷◌, ◌<◌, ◌^◌, [], codes, fals
 ghost use Rattle.rmp_encode.specs.Data.{byte, text, truth, whole};
 ghost use Rattle.rmp_encode.specs.Trees.{newtype_variant_of, sequence_of, structure_of};
 
-use super::{writes, wrote};
+use super::is_written;
 use rmp_encode::{Both, Eight, Error, One, Serialize, Serializer, Three, to_vec_named};
 use rmp_wire::config::{BytesMode, SerializerConfig};
 use rmp_wire::{Sink, SliceSink, ValueWriteError};
-use std::process::Abort;
 use std::test::Fail;
 
 // A number alone, as a variant of an enum.
@@ -142,61 +141,46 @@ fn structs(rt: HostRuntime) -> Result<(), Fail> {
         name: "Bobby",
         age: 8,
     };
-    writes(&rt, &dog, b"\x92\xa5Bobby\x08");
-    writes_named(&rt, &dog, b"\x82\xa4name\xa5Bobby\xa3age\x08");
+    assert!(rt; is_written(&rt, &dog, b"\x92\xa5Bobby\x08")?);
+    assert_eq!(rt;
+        to_vec_named(rt.alloc(), &dog)?.as_slice(),
+        b"\x82\xa4name\xa5Bobby\xa3age\x08".as_slice()
+    );
     let se = Serializer::new(rt.alloc(), Vec::new(rt.alloc())).with_struct_map();
     let mut se = se.with_struct_tuple();
     dog.serialize(&mut se)?;
     assert_eq!(rt; se.into_inner().as_slice(), b"\x92\xa5Bobby\x08".as_slice());
-    Ok(())
-}
-
-fn put_no_fields<W: Sink, C: SerializerConfig>(se: &mut Serializer<W, C>) -> Result<(), Error> {
-    se.serialize_struct("None", 0)?.end()
-}
-
-#[test]
-fn structs_without_fields(rt: HostRuntime) -> Result<(), Fail> {
     let mut se = Serializer::new(rt.alloc(), Vec::new(rt.alloc()));
-    put_no_fields(&mut se)?;
+    se.serialize_struct("None", 0)?.end()?;
     let mut se = se.with_struct_map();
-    put_no_fields(&mut se)?;
+    se.serialize_struct("None", 0)?.end()?;
     assert_eq!(rt; se.into_inner().as_slice(), b"\x90\x80".as_slice());
     Ok(())
 }
 
-// The value is written with its fields' names as these bytes.
-fn writes_named<T: Serialize>(rt: &(impl Abort + AllocGlobal), value: &T, want: &[u8]) {
-    wrote(rt, to_vec_named(rt.alloc(), value), want);
-}
-
 #[test]
 fn one_call(rt: HostRuntime) -> Result<(), Fail> {
-    let point = Point(300, String::from_str(rt.alloc(), "x")?);
-    writes(&rt, &point, b"\x92\xcd\x01\x2c\xa1x");
+    let mut x = String::new(rt.alloc());
+    x.push_str("x")?;
+    assert!(rt; is_written(&rt, &Point(300, x), b"\x92\xcd\x01\x2c\xa1x")?);
+    let mut name = String::new(rt.alloc());
+    name.push_str("Tom")?;
     let cat = Cat {
-        name: String::from_str(rt.alloc(), "Tom")?,
+        name,
         age: 3,
         home: true,
     };
-    writes(&rt, &cat, b"\x93\xa3Tom\x03\xc3");
-    writes_named(&rt, &cat, b"\x83\xa4name\xa3Tom\xa3age\x03\xa4home\xc3");
-    Ok(())
-}
-
-fn put_variant_of_one<W: Sink, C: SerializerConfig>(
-    se: &mut Serializer<W, C>,
-) -> Result<(), Error> {
-    se.serialize_struct_variant_of("E", 2, "V3", &["a"], &One { first: &7u8 })
-}
-
-#[test]
-fn variants_by_one_call(rt: HostRuntime) -> Result<(), Fail> {
+    assert!(rt; is_written(&rt, &cat, b"\x93\xa3Tom\x03\xc3")?);
+    assert_eq!(rt;
+        to_vec_named(rt.alloc(), &cat)?.as_slice(),
+        b"\x83\xa4name\xa3Tom\xa3age\x03\xa4home\xc3".as_slice()
+    );
+    let one = One { first: &7u8 };
     let mut se = Serializer::new(rt.alloc(), Vec::new(rt.alloc()));
-    se.serialize_tuple_variant_of("E", 1, "V2", &One { first: &7u8 })?;
-    put_variant_of_one(&mut se)?;
+    se.serialize_tuple_variant_of("E", 1, "V2", &one)?;
+    se.serialize_struct_variant_of("E", 2, "V3", &["a"], &one)?;
     let mut se = se.with_struct_map();
-    put_variant_of_one(&mut se)?;
+    se.serialize_struct_variant_of("E", 2, "V3", &["a"], &one)?;
     assert_eq!(rt;
         se.into_inner().as_slice(),
         b"\x81\xa2V2\x91\x07\x81\xa2V3\x91\x07\x81\xa2V3\x81\xa1a\x07".as_slice()
@@ -226,28 +210,15 @@ fn eight_fields(rt: HostRuntime) -> Result<(), Fail> {
     Ok(())
 }
 
-// A tuple variant of two parts.
-fn put_tuple_variant<T: Serialize>(
-    se: &mut Serializer<Vec<u8>>,
-    name: &'static str,
-    parts: &[T; 2],
-) -> Result<(), Error> {
-    let mut variant = se.serialize_tuple_variant("E", 1, name, 2)?;
-    variant.serialize_element(&parts[0])?;
-    variant.serialize_element(&parts[1])?;
-    variant.end()
-}
-
-fn put_small_variants(se: &mut Serializer<Vec<u8>>) -> Result<(), Error> {
-    se.serialize_unit_variant("E", 0, "V1")?;
-    put_tuple_variant(se, "V2", &[42u32, 100500])?;
-    se.serialize_newtype_variant("E", 2, "V3", &200u8)
-}
-
 #[test]
 fn variants(rt: HostRuntime) -> Result<(), Fail> {
     let mut se = Serializer::new(rt.alloc(), Vec::new(rt.alloc()));
-    put_small_variants(&mut se)?;
+    se.serialize_unit_variant("E", 0, "V1")?;
+    let mut parts = se.serialize_tuple_variant("E", 1, "V2", 2)?;
+    parts.serialize_element(&42u32)?;
+    parts.serialize_element(&100500u32)?;
+    parts.end()?;
+    se.serialize_newtype_variant("E", 2, "V3", &200u8)?;
     put_struct_variant(&mut se)?;
     let mut se = se.with_struct_map();
     put_struct_variant(&mut se)?;
@@ -267,15 +238,13 @@ fn content_of_variants(rt: HostRuntime) -> Result<(), Fail> {
         se.into_inner().as_slice(),
         b"\x81\xa4Node\x92\x81\xa4Leaf\x01\x81\xa4Leaf\xcc\xc8".as_slice()
     );
-    Ok(())
-}
-
-// A tuple may be bytes, the content of a tuple variant never.
-#[test]
-fn bytes_in_variants(rt: HostRuntime) -> Result<(), Fail> {
+    // a tuple may be bytes, the content of a tuple variant never
     let mut se = Serializer::new(rt.alloc(), Vec::new(rt.alloc())).with_bytes(BytesMode::ForceAll);
     se.serialize_newtype_variant("E", 0, "V", &(1u8, 200u8))?;
-    put_tuple_variant(&mut se, "W", &[1u8, 200])?;
+    let mut parts = se.serialize_tuple_variant("E", 1, "W", 2)?;
+    parts.serialize_element(&1u8)?;
+    parts.serialize_element(&200u8)?;
+    parts.end()?;
     assert_eq!(rt;
         se.into_inner().as_slice(),
         b"\x81\xa1V\xc4\x02\x01\xc8\x81\xa1W\x92\x01\xcc\xc8".as_slice()
@@ -284,19 +253,15 @@ fn bytes_in_variants(rt: HostRuntime) -> Result<(), Fail> {
 }
 
 // A map of unknown length, with a struct among its values.
-fn put_map(se: &mut Serializer<Vec<u8>>) -> Result<(), Error> {
+#[test]
+fn struct_in_a_map(rt: HostRuntime) -> Result<(), Fail> {
+    let mut se = Serializer::new(rt.alloc(), Vec::new(rt.alloc()));
     let mut map = se.serialize_map(None)?;
     map.serialize_key(&"f1")?;
     map.serialize_value(&0u8)?;
     map.serialize_key(&"f2")?;
     map.serialize_value(&Leaf(8))?;
-    map.end()
-}
-
-#[test]
-fn struct_in_a_map(rt: HostRuntime) -> Result<(), Fail> {
-    let mut se = Serializer::new(rt.alloc(), Vec::new(rt.alloc()));
-    put_map(&mut se)?;
+    map.end()?;
     assert_eq!(rt;
         se.into_inner().as_slice(),
         b"\x82\xa2f1\x00\xa2f2\x81\xa4Leaf\x08".as_slice()
