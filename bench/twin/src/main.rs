@@ -1,0 +1,299 @@
+//! What `mpcanon` prints for lines of hex, by the crate `rmp`: each message is read into a tree, which is printed as text and as its
+//! canonical spelling. What is refused is told by the place alone.
+
+use rmp::Marker;
+use rmp::decode::{RmpRead, read_marker};
+use rmp::encode;
+use std::fmt::Write as _;
+use std::io::{self, BufWriter, Read, Write};
+
+/// A message of any kind.
+enum Tree {
+    Nil,
+    Truth(bool),
+    Unsigned(u64),
+    Signed(i64),
+    Float32(u32),
+    Float64(u64),
+    Text(String),
+    Bytes(Vec<u8>),
+    List(Vec<Tree>),
+    Map(Vec<(Tree, Tree)>),
+    Extension(i8, Vec<u8>),
+}
+
+/// As deep as `mpcanon` reads.
+const LIMIT: u32 = 1023;
+
+fn taken(input: &mut &[u8], len: usize) -> Option<Vec<u8>> {
+    let (front, behind) = input.split_at_checked(len)?;
+    *input = behind;
+    Some(front.to_vec())
+}
+
+fn text(input: &mut &[u8], len: usize) -> Option<Tree> {
+    Some(Tree::Text(String::from_utf8(taken(input, len)?).ok()?))
+}
+
+fn bytes(input: &mut &[u8], len: usize) -> Option<Tree> {
+    Some(Tree::Bytes(taken(input, len)?))
+}
+
+fn extension(input: &mut &[u8], len: usize) -> Option<Tree> {
+    let tag = input.read_data_i8().ok()?;
+    Some(Tree::Extension(tag, taken(input, len)?))
+}
+
+fn list(input: &mut &[u8], len: usize, room: u32) -> Option<Tree> {
+    let room = room.checked_sub(1)?;
+    let mut items = Vec::new();
+    for _ in 0..len {
+        items.push(read(input, room)?);
+    }
+    Some(Tree::List(items))
+}
+
+fn map(input: &mut &[u8], len: usize, room: u32) -> Option<Tree> {
+    let room = room.checked_sub(1)?;
+    let mut pairs = Vec::new();
+    for _ in 0..len {
+        let key = read(input, room)?;
+        pairs.push((key, read(input, room)?));
+    }
+    Some(Tree::Map(pairs))
+}
+
+/// Reads a message that nests at most so deep.
+fn read(input: &mut &[u8], room: u32) -> Option<Tree> {
+    Some(match read_marker(input).ok()? {
+        Marker::Null => Tree::Nil,
+        Marker::True => Tree::Truth(true),
+        Marker::False => Tree::Truth(false),
+        Marker::FixPos(n) => Tree::Unsigned(n.into()),
+        Marker::FixNeg(n) => Tree::Signed(n.into()),
+        Marker::U8 => Tree::Unsigned(input.read_data_u8().ok()?.into()),
+        Marker::U16 => Tree::Unsigned(input.read_data_u16().ok()?.into()),
+        Marker::U32 => Tree::Unsigned(input.read_data_u32().ok()?.into()),
+        Marker::U64 => Tree::Unsigned(input.read_data_u64().ok()?),
+        Marker::I8 => Tree::Signed(input.read_data_i8().ok()?.into()),
+        Marker::I16 => Tree::Signed(input.read_data_i16().ok()?.into()),
+        Marker::I32 => Tree::Signed(input.read_data_i32().ok()?.into()),
+        Marker::I64 => Tree::Signed(input.read_data_i64().ok()?),
+        Marker::F32 => Tree::Float32(input.read_data_u32().ok()?),
+        Marker::F64 => Tree::Float64(input.read_data_u64().ok()?),
+        Marker::FixStr(n) => text(input, n.into())?,
+        Marker::Str8 => {
+            let n = input.read_data_u8().ok()?;
+            text(input, n.into())?
+        }
+        Marker::Str16 => {
+            let n = input.read_data_u16().ok()?;
+            text(input, n.into())?
+        }
+        Marker::Str32 => {
+            let n = input.read_data_u32().ok()?;
+            text(input, n as usize)?
+        }
+        Marker::Bin8 => {
+            let n = input.read_data_u8().ok()?;
+            bytes(input, n.into())?
+        }
+        Marker::Bin16 => {
+            let n = input.read_data_u16().ok()?;
+            bytes(input, n.into())?
+        }
+        Marker::Bin32 => {
+            let n = input.read_data_u32().ok()?;
+            bytes(input, n as usize)?
+        }
+        Marker::FixArray(n) => list(input, n.into(), room)?,
+        Marker::Array16 => {
+            let n = input.read_data_u16().ok()?;
+            list(input, n.into(), room)?
+        }
+        Marker::Array32 => {
+            let n = input.read_data_u32().ok()?;
+            list(input, n as usize, room)?
+        }
+        Marker::FixMap(n) => map(input, n.into(), room)?,
+        Marker::Map16 => {
+            let n = input.read_data_u16().ok()?;
+            map(input, n.into(), room)?
+        }
+        Marker::Map32 => {
+            let n = input.read_data_u32().ok()?;
+            map(input, n as usize, room)?
+        }
+        Marker::FixExt1 => extension(input, 1)?,
+        Marker::FixExt2 => extension(input, 2)?,
+        Marker::FixExt4 => extension(input, 4)?,
+        Marker::FixExt8 => extension(input, 8)?,
+        Marker::FixExt16 => extension(input, 16)?,
+        Marker::Ext8 => {
+            let n = input.read_data_u8().ok()?;
+            extension(input, n.into())?
+        }
+        Marker::Ext16 => {
+            let n = input.read_data_u16().ok()?;
+            extension(input, n.into())?
+        }
+        Marker::Ext32 => {
+            let n = input.read_data_u32().ok()?;
+            extension(input, n as usize)?
+        }
+        Marker::Reserved => return None,
+    })
+}
+
+const DIGITS: &[u8; 16] = b"0123456789abcdef";
+
+fn push_hex(text: &mut String, bytes: &[u8]) {
+    text.reserve(2 * bytes.len());
+    for byte in bytes {
+        text.push(DIGITS[usize::from(byte >> 4)].into());
+        text.push(DIGITS[usize::from(byte & 15)].into());
+    }
+}
+
+/// Appends the tree as text.
+fn print(tree: &Tree, text: &mut String) {
+    match tree {
+        Tree::Nil => text.push_str("nil"),
+        Tree::Truth(truth) => text.push_str(if *truth { "true" } else { "false" }),
+        Tree::Unsigned(n) => write!(text, "{n}").unwrap(),
+        Tree::Signed(n) => write!(text, "{n}").unwrap(),
+        Tree::Float32(bits) => write!(text, "f32:{bits:08x}").unwrap(),
+        Tree::Float64(bits) => write!(text, "f64:{bits:016x}").unwrap(),
+        Tree::Text(characters) => {
+            text.push_str("t:");
+            push_hex(text, characters.as_bytes());
+        }
+        Tree::Bytes(bytes) => {
+            text.push_str("b:");
+            push_hex(text, bytes);
+        }
+        Tree::List(items) => {
+            text.push('[');
+            for (i, item) in items.iter().enumerate() {
+                if i > 0 {
+                    text.push(',');
+                }
+                print(item, text);
+            }
+            text.push(']');
+        }
+        Tree::Map(pairs) => {
+            text.push('{');
+            for (i, (key, value)) in pairs.iter().enumerate() {
+                if i > 0 {
+                    text.push(',');
+                }
+                print(key, text);
+                text.push('=');
+                print(value, text);
+            }
+            text.push('}');
+        }
+        Tree::Extension(tag, bytes) => {
+            write!(text, "x({tag}):").unwrap();
+            push_hex(text, bytes);
+        }
+    }
+}
+
+/// Appends the canonical spelling.
+fn spell(tree: &Tree, out: &mut Vec<u8>) -> Result<(), encode::ValueWriteError> {
+    match tree {
+        Tree::Nil => encode::write_nil(out).map_err(encode::ValueWriteError::InvalidMarkerWrite),
+        Tree::Truth(truth) => {
+            encode::write_bool(out, *truth).map_err(encode::ValueWriteError::InvalidMarkerWrite)
+        }
+        Tree::Unsigned(n) => encode::write_uint(out, *n).map(|_| ()),
+        Tree::Signed(n) => encode::write_sint(out, *n).map(|_| ()),
+        Tree::Float32(bits) => encode::write_f32(out, f32::from_bits(*bits)),
+        Tree::Float64(bits) => encode::write_f64(out, f64::from_bits(*bits)),
+        Tree::Text(characters) => encode::write_str(out, characters),
+        Tree::Bytes(bytes) => encode::write_bin(out, bytes),
+        Tree::List(items) => {
+            encode::write_array_len(out, items.len() as u32)?;
+            items.iter().try_for_each(|item| spell(item, out))
+        }
+        Tree::Map(pairs) => {
+            encode::write_map_len(out, pairs.len() as u32)?;
+            pairs.iter().try_for_each(|(key, value)| {
+                spell(key, out)?;
+                spell(value, out)
+            })
+        }
+        Tree::Extension(tag, bytes) => {
+            encode::write_ext_meta(out, bytes.len() as u32, *tag)?;
+            out.extend_from_slice(bytes);
+            Ok(())
+        }
+    }
+}
+
+fn digit(byte: u8) -> Option<u8> {
+    Some(match byte {
+        b'0'..=b'9' => byte - b'0',
+        b'a'..=b'f' => byte - b'a' + 10,
+        b'A'..=b'F' => byte - b'A' + 10,
+        _ => return None,
+    })
+}
+
+fn unhex(line: &[u8]) -> Option<Vec<u8>> {
+    let digits: Vec<u8> = line
+        .iter()
+        .copied()
+        .filter(|byte| !b" \t\r".contains(byte))
+        .collect();
+    if digits.len() % 2 == 1 {
+        return None;
+    }
+    digits
+        .chunks_exact(2)
+        .map(|pair| Some(digit(pair[0])? << 4 | digit(pair[1])?))
+        .collect()
+}
+
+/// Prints a line's messages, and says whether none was refused.
+fn show(line: &[u8], out: &mut impl Write) -> io::Result<bool> {
+    let Some(bytes) = unhex(line) else {
+        writeln!(out, "refused: hex")?;
+        return Ok(false);
+    };
+    let mut left = bytes.as_slice();
+    while !left.is_empty() {
+        let at = bytes.len() - left.len();
+        let Some(tree) = read(&mut left, LIMIT) else {
+            writeln!(out, "refused at {at}")?;
+            return Ok(false);
+        };
+        let mut spelled = Vec::new();
+        spell(&tree, &mut spelled).map_err(io::Error::other)?;
+        let mut text = String::new();
+        print(&tree, &mut text);
+        text.push(' ');
+        push_hex(&mut text, &spelled);
+        text.push('\n');
+        out.write_all(text.as_bytes())?;
+    }
+    Ok(true)
+}
+
+fn main() -> io::Result<()> {
+    let mut input = Vec::new();
+    io::stdin().read_to_end(&mut input)?;
+    let mut out = BufWriter::new(io::stdout().lock());
+    let mut accepted = true;
+    for line in input
+        .strip_suffix(b"\n")
+        .unwrap_or(&input)
+        .split(|byte| *byte == b'\n')
+    {
+        accepted &= show(line, &mut out)?;
+    }
+    out.flush()?;
+    std::process::exit(if accepted { 0 } else { 1 })
+}
