@@ -1,5 +1,5 @@
 -- The text of lists and maps that are printed part by part.
-use Rattle.std.proofs.Common.{rules, arith, ◌≡◌, ◌≢◌, ℕ, zero, suc, ◌+◌, ◌*◌, ◌<◌, ◌≤◌, List, [], ◌∷◌, ◌++◌, length, refl, sym, ap, ◌∙◌, append-nil, append_assoc}
+use Rattle.std.proofs.Common.{rules, arith, ◌≡◌, ℕ, suc, ◌+◌, ◌*◌, ◌<◌, List, [], ◌∷◌, ◌++◌, length, refl, sym, ap, ◌∙◌, append-nil, append_assoc}
 use Rattle.std.specs.Prelude.{codes, Bool, true, false}
 use Rattle.std.proofs.lemmas.List.{length-append}
 use Rattle.rmp_serde.specs.declared.value.kind.Kind.TheVariants.{List as ListKind, Map as MapKind}
@@ -27,7 +27,7 @@ use Rattle.rmp_serde.specs.Parts.{kind_of, parts_in_turn}
 use Rattle.rmp_serde.specs.PartsLeft.{parts_left}
 use Rattle.rmp_serde.specs.Tokens.{tokens, tokens_all, tokens_pairs, flat_pairs}
 use Rattle.canon_lines.specs.declared.tree_text.Open.{Open}
-use Rattle.canon_lines.specs.declared.tree_text.Sign.TheVariants.{Nothing, Comma, Equals}
+use Rattle.canon_lines.specs.declared.tree_text.Sign.TheVariants.{Nothing, Comma}
 use Rattle.canon_lines.specs.OpenParts.{sign_text, next_sign, bracket_of, text_left, texts_left, heads_in, turns_left}
 use Rattle.canon_lines.specs.TreeText.{tree_text, with_commas, item_texts, pair_texts}
 

@@ -1,5 +1,5 @@
 -- The lists and maps whose text isn't whole, and what is to come of it.
-use Rattle.std.specs.Prelude.{ℕ, zero, suc, ◌+◌, ◌*◌, Bool, true, false, List, [], ◌∷◌, ◌++◌, length, codes}
+use Rattle.std.specs.Prelude.{ℕ, suc, ◌+◌, ◌*◌, Bool, true, false, List, [], ◌∷◌, ◌++◌, length, codes}
 use Rattle.rmp_wire.specs.Msg.{Msg}
 use Rattle.rmp_serde.specs.PartsLeft.{parts_left}
 use Rattle.rmp_serde.specs.Tokens.{tokens}
