@@ -2,13 +2,12 @@ pub mod Arguments
 pub mod Checked
 pub mod Early
 pub mod LeafTexts
-pub mod PartTexts
 pub mod MessageReads
 pub mod OneCheck
 pub mod OneOutput
 pub mod OneRefusal
+pub mod OpenTexts
 pub mod Printing
 pub mod Reading
 pub mod Shown
-pub mod Turns
 pub mod Walking

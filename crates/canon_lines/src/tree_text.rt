@@ -1,71 +1,98 @@
 //! A message as text.
-ghost use Rattle.std.specs.Prelude.{◌≡◌, ◌≢◌, ◌++◌, OnOk, string_bytes};
+ghost use Rattle.std.specs.Prelude.{◌≡◌, ◌≢◌, ◌++◌, ◌<◌, ◌+◌, ◌*◌, length, OnOk, string_bytes};
 ghost use Rattle.hex.specs.Hex.{encode_lower};
 ghost use Rattle.rmp_serde.specs.Parts.{tree, kind_of};
+ghost use Rattle.rmp_serde.specs.Tokens.{tokens};
+ghost use Rattle.canon_lines.specs.OpenParts.{sign_text, next_sign, texts_left, turns_left};
 ghost use Rattle.canon_lines.specs.TreeText.{tree_text};
-ghost use Rattle.canon_lines.specs.Turns.{YieldsPair};
 
 use rmp_serde::{Kind, Parts, ValueRef};
 use std::alloc::{AllocError, Global};
 
 /// Appends a message's tree to a text: `nil`, `true`, a decimal number, `f32:` or `f64:` and the bits in hex, `t:` or `b:`
 /// and bytes in hex, `[a,b]`, `{k=v,k=v}`, or `x(TAG):` and bytes in hex.
-#[cycle(tree_text)]
+///
+/// The lists and maps that aren't closed yet stand in a vector, so that no call leads back here, however deep the message nests.
 pub fn write_tree(alloc: Global, text: &mut String, value: ValueRef<'_>) -> Result<(), AllocError>
     ensures { OnOk result (string_bytes text.new ≡ string_bytes text.old ++ tree_text (tree value.entry)) }
 {
-    match value.kind() {
-        Kind::List => write_list(alloc, text, value),
-        Kind::Map => write_map(alloc, text, value),
-        _ => write_leaf(alloc, text, value),
+    let mut unclosed = Vec::new(alloc);
+    begin(alloc, text, &mut unclosed, value)?;
+    while let Some(mut last) = unclosed.pop() {
+        match last.parts.next() {
+            Some(part) => {
+                text.push_str(last.sign.text())?;
+                last.sign = last.sign.next(last.is_map);
+                unclosed.push(last)?;
+                begin(alloc, text, &mut unclosed, part)?;
+            }
+            None => text.push_str(if last.is_map { "}" } else { "]" })?,
+        }
+    }
+    Ok(())
+}
+
+// What stands in front of a part.
+#[derive(Clone, Copy)]
+enum Sign {
+    Nothing,
+    Comma,
+    Equals,
+}
+
+impl Sign {
+    fn text(self) -> &'static str
+        ensures { result.now ≡ sign_text self }
+    {
+        match self {
+            Sign::Nothing => "",
+            Sign::Comma => ",",
+            Sign::Equals => "=",
+        }
+    }
+
+    // What stands in front of the part behind the one that this stands in front of.
+    fn next(self, is_map: bool) -> Sign
+        ensures { result ≡ next_sign is_map self }
+    {
+        match self {
+            Sign::Nothing | Sign::Comma if is_map => Sign::Equals,
+            _ => Sign::Comma,
+        }
     }
 }
 
-#[cycle(tree_text)]
-fn write_list(alloc: Global, text: &mut String, list: ValueRef<'_>) -> Result<(), AllocError>
-    requires { kind_of (tree list) ≡ Kind.List }
-    ensures { OnOk result (string_bytes text.new ≡ string_bytes text.old ++ tree_text (tree list.entry)) }
-{
-    text.push_str("[")?;
-    let mut items = list.parts();
-    for i in 0..list.len() {
-        if i > 0 {
-            text.push_str(",")?;
-        }
-        if let Some(item) = items.next() {
-            write_tree(alloc, text, item)?;
-        }
-    }
-    text.push_str("]")
+// A list or a map whose text isn't whole: the parts that are to come, and what stands in front of the next.
+#[derive(Drop)]
+struct Open<'a> {
+    parts: Parts<'a>,
+    is_map: bool,
+    sign: Sign,
 }
 
-#[cycle(tree_text)]
-fn write_map(alloc: Global, text: &mut String, map: ValueRef<'_>) -> Result<(), AllocError>
-    requires { kind_of (tree map) ≡ Kind.Map }
-    ensures { OnOk result (string_bytes text.new ≡ string_bytes text.old ++ tree_text (tree map.entry)) }
+// Begins the text of a message: of one that has no parts it is the whole, of a list or a map the bracket, and it is open then.
+fn begin<'a>(
+    alloc: Global,
+    text: &mut String,
+    unclosed: &mut Vec<Open<'a>>,
+    value: ValueRef<'a>,
+) -> Result<(), AllocError>
+    ensures text { OnOk result (string_bytes text.new ++ texts_left unclosed.new.items
+        ≡ string_bytes text.old ++ (tree_text (tree value.entry) ++ texts_left unclosed.old.items)) }
+    ensures less { OnOk result (turns_left unclosed.new.items < turns_left unclosed.old.items + 2 * length (tokens (tree value.entry))) }
 {
-    text.push_str("{")?;
-    let mut parts = map.parts();
-    for i in 0..map.len() {
-        if i > 0 {
-            text.push_str(",")?;
-        }
-        if let Some((key, value)) = next_pair(&mut parts) {
-            write_tree(alloc, text, key)?;
-            text.push_str("=")?;
-            write_tree(alloc, text, value)?;
-        }
-    }
-    text.push_str("}")
-}
-
-// The next key and its value.
-fn next_pair<'a>(parts: &mut Parts<'a>) -> Option<(ValueRef<'a>, ValueRef<'a>)>
-    ensures { YieldsPair parts.old result parts.new }
-{
-    let key = parts.next()?;
-    let value = parts.next()?;
-    Some((key, value))
+    let is_map = match value.kind() {
+        Kind::List => false,
+        Kind::Map => true,
+        _ => return write_leaf(alloc, text, value),
+    };
+    text.push_str(if is_map { "{" } else { "[" })?;
+    unclosed.push(Open {
+        parts: value.parts(),
+        is_map,
+        sign: Sign::Nothing,
+    })?;
+    Ok(())
 }
 
 // Appends a message that has no parts.
