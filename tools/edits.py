@@ -25,7 +25,6 @@ ALIKE = {
     "to_vec_named": "to_vec",
     "write_named": "write",
     "with_struct_tuple": "with_struct_map",
-    "serialize_map": "serialize_seq",
     "serialize_f64_bits": "serialize_f32_bits",
     "serialize_u8": "serialize_u64",
     "serialize_u16": "serialize_u64",
