@@ -35,6 +35,7 @@ pub mod Orders
 pub mod Places
 pub mod Refusals
 pub mod Refusings
+pub mod RowReads
 pub mod Rows
 pub mod Seqs
 pub mod Sets

@@ -9,6 +9,7 @@ pub mod FieldRefusing
 pub mod FieldRows
 pub mod Fields
 pub mod Fronts
+pub mod Inside
 pub mod Kinds
 pub mod Law
 pub mod MapRefusing

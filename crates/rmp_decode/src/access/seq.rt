@@ -9,6 +9,7 @@ ghost use Rattle.rmp_decode.specs.Exact.{IsDataEnd};
 ghost use Rattle.rmp_decode.specs.Refusing.{element_setting, ElementRefused, WhereSome, Wanted};
 ghost use Rattle.rmp_decode.specs.Seq.{seq_head, Opens, FailsToOpen, IsOpen, TakesElement, FailsToTake, FailsElement, KeepsByte, left_in, count_in, in_bytes, is_sound, lender_of};
 ghost use Rattle.rmp_decode.specs.State.{left, faults_of, config_of, is_failed, kept_of, Stays};
+ghost use Rattle.rmp_decode.specs.With.{OffersPart};
 ghost use Rattle.rmp_decode.specs.declared.deserializer.Kept.TheVariants.{Nothing};
 
 mod with;
@@ -19,7 +20,7 @@ use crate::error::Error;
 use crate::text::Text;
 use core::mem::replace_with;
 use rmp_wire::config::SerializerConfig;
-use rmp_wire::{Head, ReadSlice, Source};
+use rmp_wire::{Head, IoFault, ReadSlice, Source};
 
 /// The elements of a list that is being read, or the numbers of bytes.
 ///
@@ -223,9 +224,39 @@ impl<R: Source, C: SerializerConfig> Deserializer<R, C> {
                 self.kept = Kept::Number(bytes[0]);
                 Ok(())
             }
-            Err(fault) => Err(Error::InvalidDataRead(fault)),
+            Err(fault) => Err(data_fault(fault)),
         }
     }
+
+    // Makes the next element ready to be read: of bytes a byte is kept back as a number, and of a list it stands ready.
+    #[inline(always)]
+    pub(crate) fn offer_part(&mut self, bytes: bool) -> Result<(), Error>
+        ensures ok { OnOk result (OffersPart R.Source bytes self.old self.new) }
+        ensures bytes { OnErr result (bytes ≡ true) }
+        ensures sound { OnOk result (faults_of R.Source self.new ≡ faults_of R.Source self.old) }
+        ensures stays { Stays R.Source self.old self.new }
+        ensures failed { is_failed self.new ≡ is_failed self.old }
+        ensures err { IfErr result (λ e. Explains e (faults_of R.Source self.old) (faults_of R.Source self.new) (IsAtEnd (R.ahead self.old.reader))) }
+        ensures end { IfErr result (λ e. faults_of R.Source self.new ≡ faults_of R.Source self.old → IsDataEnd e) }
+        ensures memory { IfErr result (λ e. e ≢ Error.OutOfMemory) }
+    {
+        if !bytes {
+            return Ok(());
+        }
+        match self.keep_byte() {
+            Ok(()) => Ok(()),
+            Err(e) => Err(e),
+        }
+    }
+}
+
+// The error of a fault behind a head. A call makes it, since the compiler would take a vector apart by the parts of an error that is
+// made where the vector could be answered.
+#[inline(never)]
+fn data_fault(fault: IoFault) -> Error
+    ensures { result ≡ Error.InvalidDataRead fault }
+{
+    Error::InvalidDataRead(fault)
 }
 
 // How deep an element may nest: bytes open no level.
@@ -301,27 +332,6 @@ impl<'x, R: Source, C: SerializerConfig> SeqAccess<'x, R, C> {
                 Ok(v)
             }
             Err(e) => Err(e),
-        }
-    }
-
-    // Reads the next element, of which there is one.
-    #[inline(always)]
-    pub(crate) fn one<'de, T: Deserialize<'de, R>>(&mut self) -> Result<T, Error>
-    where
-        R: ReadSlice<'de>,
-        requires some { 0 < left_in self.old }
-        ensures same_reference { self.new.de.ghost_name ≡ self.old.de.ghost_name }
-        ensures ok { IsOpen self.old → IfOk result (TakesElement R.Source (T.reads (C.human (config_of (lender_of self.old))) R.lends) self.old self.new) }
-        ensures err { IsOpen self.old → IfErr result (FailsToTake R.Source (T.reads (C.human (config_of (lender_of self.old))) R.lends) self.old self.new) }
-        ensures refused { IsOpen self.old → IfErr result (ElementRefused R.Source (C.human (config_of (lender_of self.old))) R.lends T.refuses self.old
-            self.new (left R.Source (lender_of self.old))) }
-        ensures memory { T.takes_memory R.lends ≡ false → IfErr result (λ e. e ≢ Error.OutOfMemory) }
-        ensures marked { is_failed (lender_of self.old) ≡ true → is_failed (lender_of self.new) ≡ true }
-    {
-        if self.bytes {
-            self.numbered()
-        } else {
-            self.listed()
         }
     }
 

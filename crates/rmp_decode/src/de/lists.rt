@@ -1,11 +1,15 @@
 //! Vectors and queues, from lists or bytes.
-ghost use Rattle.std.specs.Prelude.{◌≡◌, ◌<◌, ◌++◌, ◌∷◌, [], is_ok, if◌then◌else◌, None, true, vec_len, vec_capacity};
+ghost use Rattle.std.specs.Prelude.{◌≡◌, ◌<◌, ◌++◌, ◌∷◌, [], is_ok, if◌then◌else◌, None, Err, IfErr, List, true, vec_len, vec_capacity};
+ghost use Rattle.rmp_decode.specs.Inside.{access_at};
 ghost use Rattle.rmp_decode.specs.Law.{Lawful};
 ghost use Rattle.rmp_decode.specs.Refusing.{RefusesAs, RefusesEach};
 ghost use Rattle.rmp_decode.specs.Rows.{ReadsEach};
-ghost use Rattle.rmp_decode.specs.Seq.{OfRow};
-ghost use Rattle.rmp_decode.specs.State.{config_of};
+ghost use Rattle.rmp_decode.specs.Seq.{OfRow, Opens};
+ghost use Rattle.rmp_decode.specs.State.{config_of, kept_of};
+ghost use Rattle.rmp_decode.specs.declared.deserializer.Deserializer.{Deserializer};
+ghost use Rattle.rmp_decode.specs.declared.deserializer.Kept.TheVariants.{Nothing};
 
+use crate::access::seq::inner_room;
 use crate::de::Deserialize;
 use crate::deserializer::Deserializer;
 use crate::error::Error;
@@ -66,31 +70,72 @@ fn make_room<T: Drop>(items: &mut Vec<T>, left: u32) -> bool
     items.reserve(1).is_ok()
 }
 
-// Reads the elements of a list, or the numbers of bytes.
+// Reads so many elements of a list, or numbers of bytes, from a reader that has taken the head. The room and the mark of a failure are
+// set once for all of them: each read leaves them as they are, or ends the list.
+#[inline(always)]
+fn read_row<'de, R: ReadSlice<'de>, C: SerializerConfig, T: Deserialize<'de, R>>(
+    de: &mut Deserializer<R, C>,
+    bytes: bool,
+    count: u32,
+) -> Result<Vec<T>, Error>
+    requires clean { kept_of de.old ≡ Nothing }
+    ensures law { (d : Deserializer R C) → Opens R.Source d (access_at de.old bytes count count)
+        → Lawful R.Source (λ m v. OfRow (λ ms. ReadsEach (T.reads (C.human (config_of d)) R.lends) ms v.items) m) d de.new result }
+    ensures unread { (d : Deserializer R C) → Opens R.Source d (access_at de.old bytes count count)
+        → IfErr result (λ e. Lawful R.Source (λ m (vs : List T). OfRow (λ ms. ReadsEach (T.reads (C.human (config_of d)) R.lends) ms vs) m) d de.new (Err e)) }
+    ensures refused { (d : Deserializer R C) → Opens R.Source d (access_at de.old bytes count count)
+        → RefusesAs R.Source (C.human (config_of d)) R.lends (RefusesEach T.reads T.refuses) d de.new result }
+{
+    let mut items = Vec::new(de.alloc());
+    let outer = de.room;
+    de.room = inner_room(outer, bytes);
+    de.failed = false;
+    let mut left = count;
+    while left > 0 {
+        match de.offer_part(bytes) {
+            Ok(()) => {}
+            Err(e) => {
+                de.room = outer;
+                de.failed = true;
+                return Err(e);
+            }
+        }
+        match T::deserialize(de) {
+            Ok(item) => {
+                left -= 1;
+                match append(&mut items, item, left) {
+                    Ok(()) => {}
+                    Err(_) => {
+                        de.room = outer;
+                        de.failed = true;
+                        return Err(Error::OutOfMemory);
+                    }
+                }
+            }
+            Err(e) => {
+                de.room = outer;
+                return Err(e);
+            }
+        }
+    }
+    de.room = outer;
+    Ok(items)
+}
+
+// Reads the elements of a list, or the numbers of bytes: by a loop for each, so that neither asks which it is.
 #[inline(always)]
 fn read_vec<'de, R: ReadSlice<'de>, C: SerializerConfig, T: Deserialize<'de, R>>(
     de: &mut Deserializer<R, C>,
 ) -> Result<Vec<T>, Error>
     ensures law { Lawful R.Source (λ m v. OfRow (λ ms. ReadsEach (T.reads (C.human (config_of de.old)) R.lends) ms v.items) m) de.old de.new result }
+    // No other values than those of a vector are there either.
+    ensures unread { IfErr result (λ e. Lawful R.Source (λ m (vs : List T). OfRow (λ ms. ReadsEach (T.reads (C.human (config_of de.old)) R.lends) ms vs) m)
+        de.old de.new (Err e)) }
     ensures refused { RefusesAs R.Source (C.human (config_of de.old)) R.lends (RefusesEach T.reads T.refuses) de.old de.new result }
 {
-    let mut items = Vec::new(de.alloc());
-    let mut seq = match de.deserialize_seq() {
-        Ok(seq) => seq,
-        Err(e) => return Err(e),
-    };
-    while seq.left > 0 {
-        let item = match seq.one() {
-            Ok(item) => item,
-            Err(e) => return Err(e),
-        };
-        match append(&mut items, item, seq.left) {
-            Ok(()) => {}
-            Err(_) => return Err(Error::OutOfMemory),
-        }
-    }
-    match seq.end() {
-        Ok(()) => Ok(items),
+    match de.open_tuple() {
+        Ok((true, count)) => read_row(de, true, count),
+        Ok((false, count)) => read_row(de, false, count),
         Err(e) => Err(e),
     }
 }
@@ -103,23 +148,8 @@ fn read_queue<'de, R: ReadSlice<'de>, C: SerializerConfig, T: Deserialize<'de, R
     ensures law { Lawful R.Source (λ m v. OfRow (λ ms. ReadsEach (T.reads (C.human (config_of de.old)) R.lends) ms v.items) m) de.old de.new result }
     ensures refused { RefusesAs R.Source (C.human (config_of de.old)) R.lends (RefusesEach T.reads T.refuses) de.old de.new result }
 {
-    let mut items = Vec::new(de.alloc());
-    let mut seq = match de.deserialize_seq() {
-        Ok(seq) => seq,
-        Err(e) => return Err(e),
-    };
-    while seq.left > 0 {
-        let item = match seq.one() {
-            Ok(item) => item,
-            Err(e) => return Err(e),
-        };
-        match append(&mut items, item, seq.left) {
-            Ok(()) => {}
-            Err(_) => return Err(Error::OutOfMemory),
-        }
-    }
-    match seq.end() {
-        Ok(()) => Ok(VecDeque::from(items)),
+    match read_vec(de) {
+        Ok(items) => Ok(VecDeque::from(items)),
         Err(e) => Err(e),
     }
 }

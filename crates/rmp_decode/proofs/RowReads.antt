@@ -1,0 +1,257 @@
+-- The elements of a list, or of bytes, that are read one after another with the room set once for all of them.
+use Rattle.std.proofs.Common.{
+  ◌≡◌,
+  ◌∙◌,
+  sym,
+  ap,
+  subst,
+  refl,
+  inl,
+  inr,
+  ◌⊎◌,
+  max,
+  arith,
+  ℕ,
+  ◌+◌,
+  ◌-◌,
+  ◌<◌,
+  List,
+  [],
+  ◌∷◌,
+  ◌++◌,
+  Bool,
+  true,
+  false,
+  Ok,
+  Err,
+}
+use Rattle.std.specs.Io.KnownBytes.{IsAtEnd}
+use Rattle.rmp_wire.specs.declared.source.Source.{Ghosts}
+use Rattle.rmp_wire.specs.Canonical.{SpellsAs}
+use Rattle.rmp_wire.specs.Msg.{Msg, count}
+use Rattle.rmp_decode.specs.Exact.{IsDataEnd}
+use Rattle.rmp_decode.specs.Inside.{access_at}
+use Rattle.rmp_decode.specs.Law.{Lawful, TakesHead, Explains, Refuses, Readable}
+use Rattle.rmp_decode.specs.Parts.{TakesPart, FailsPart}
+use Rattle.rmp_decode.specs.Refusing.{Setting, Refusals, setting_of, element_setting, ElementRefused, RefusedIn, WhereSome, IsMemory, Behind, EachRead, RefusesEach}
+use Rattle.rmp_decode.specs.Rows.{ReadsEach}
+use Rattle.rmp_decode.specs.Seq.{OfRow, seq_head, levels, SpellsIn, SpellsRow, Opens, FailsToTake, TakesElement}
+use Rattle.rmp_decode.specs.State.{left, faults_of, Stays}
+use Rattle.rmp_decode.specs.With.{OffersPart}
+use Rattle.rmp_decode.specs.declared.deserializer.Deserializer.{Deserializer}
+use Rattle.rmp_decode.specs.declared.deserializer.Kept.TheVariants.{Nothing}
+use Rattle.rmp_decode.specs.declared.error.Error.{Error}
+use Rattle.rmp_decode.specs.declared.error.Error.TheVariants.{OutOfMemory}
+use Rattle.rmp_decode.proofs.ByteParts.{number_missing, number_ended}
+use Rattle.rmp_decode.proofs.EachRefusings.{each_short}
+use Rattle.rmp_decode.proofs.Offered.{element_taken, element_fails, offered}
+use Rattle.rmp_decode.proofs.Refusings.{behind_head}
+use Rattle.rmp_decode.proofs.Seqs.{Values, values_start, values_step, each_next, seq_done, seq_take, seq_unkept}
+use Rattle.rmp_decode.proofs.Settings.{element_behind, behind_opened}
+
+-- a reader as it is seen from outside of the list: with the list's room, and failed until the list ends
+abbrev outside : {R C : Type 0} → ℕ → Deserializer R C → Deserializer R C
+outside room d = record d { room = room; failed = true }
+
+-- these values were read so far from inside of the list
+pub record RowSoFar {R C V : Type 0} (g : Ghosts R) (reads : Msg → V → Type 0) (start : Deserializer R C) (b : Bool) (all : ℕ) (now : Deserializer R C)
+    (still : ℕ) (vs : List V) : Type 0 where
+  pub read : Values g reads (access_at start b all all) (access_at (outside start.room now) b still all) vs
+  pub ready : now.failed ≡ false
+  pub room : now.room ≡ start.room - levels b
+
+-- the head was taken
+pub row_opens : {R C : Type 0} (g : Ghosts R) (old new : Deserializer R C) (b : Bool) (n : ℕ) → TakesHead g (seq_head b n) old new
+    → (b ≡ false → 1 < old.room) → Stays g old new → faults_of g new ≡ faults_of g old → old.failed ≡ false → new.kept ≡ Nothing
+    → Opens g old (access_at new b n n)
+row_opens g old new b n h deep s f o k = record {
+  fresh = o;
+  head = record { bytes = h.bytes; takes = h.takes; goes_on = h.goes_on; is_head = h.is_head };
+  count = refl;
+  room = room_is b deep;
+  stays = record { config = s.config; room = s.room; limit = s.limit; strict = s.strict; place = s.place };
+  faults_same = f;
+  opened = record { sound = refl; marked = refl; clean = k };
+}
+  where
+    room_is : (b : Bool) → (b ≡ false → 1 < old.room) → max 1 old.room ≡ max 1 (new.room - levels b) + levels b
+    room_is true d = let r = s.room in omega (arith, r)
+    room_is false d = let r = s.room in let l = d refl in omega (arith, r, l)
+
+-- nothing was read yet
+pub row_start : {R C V : Type 0} (g : Ghosts R) (reads : Msg → V → Type 0) (start : Deserializer R C) (b : Bool) (n inner : ℕ) → start.kept ≡ Nothing
+    → inner ≡ start.room - levels b → RowSoFar g reads start b n (record start { room = inner; failed = false }) n []
+row_start g reads start b n inner k r = record
+    { read = values_start g reads (access_at start b n n) (record { sound = refl; marked = refl; clean = k }); ready = refl; room = r }
+
+-- what was offered is so too as it is seen from outside
+offers_outside : {R C : Type 0} (g : Ghosts R) (room : ℕ) (now from : Deserializer R C) (b : Bool) → OffersPart g b now from
+    → OffersPart g b (outside room now) (outside room from)
+offers_outside g room now from false o = ap (outside room) o
+offers_outside g room now from true o = record {
+  keeps = record { byte = o.keeps.byte; small = o.keeps.small; taken = o.keeps.taken; kept = o.keeps.kept };
+  stays = record { config = o.stays.config; room = refl; limit = o.stays.limit; strict = o.stays.strict; place = o.stays.place };
+  faults_same = o.faults_same;
+}
+
+module _ {R C V : Type 0} (g : Ghosts R) (human : C → Bool) (lends : Bool) (reads : Bool → Bool → Msg → V → Type 0) (start now from new : Deserializer R C)
+    (b : Bool) (all still : ℕ) (vs : List V) (r : RowSoFar g (reads (human start.config) lends) start b all now still vs) (some : 0 < still)
+    (s : Stays g now from) where
+  same_config : from.config ≡ start.config
+  same_config = s.config ∙ r.read.run.stays.config
+
+  same_room : from.room ≡ start.room - levels b
+  same_room = s.room ∙ r.room
+
+  -- ---- an element was read
+  module _ (offers : OffersPart g b now from) (v : V) (fewer : ℕ) (one : still ≡ fewer + 1) (law : Lawful g (reads (human from.config) lends) from new (Ok v))
+    where
+      part_taken : TakesPart g (reads (human start.config) lends) (max 1 (start.room - levels b)) (outside start.room from) (outside start.room new) v
+      part_taken =
+          let room = same_room in
+          let fits = law.ok.fits in
+          record {
+            bytes = law.ok.bytes;
+            tree = law.ok.tree;
+            takes = law.ok.takes;
+            goes_on = law.ok.goes_on;
+            spelled = law.ok.spelled;
+            fits = omega (arith, fits, room);
+            value = subst (λ z. reads (human z) lends law.ok.tree v) same_config law.ok.value;
+            stays = record { config = law.stays.config; room = refl; limit = law.stays.limit; strict = law.stays.strict; place = law.stays.place };
+            faults_same = law.sound;
+            clean = law.clean;
+            marked = refl;
+          }
+
+      taken : TakesElement g (reads (human start.config) lends) (access_at (outside start.room now) b still all)
+          (access_at (outside start.room new) b fewer all) v
+      taken = element_taken g (reads (human start.config) lends) (access_at (outside start.room now) b still all)
+          (access_at (outside start.room new) b fewer all) (outside start.room from) r.read.run.still (offers_outside g start.room now from b offers) v
+          (record { count = refl; inner = refl; bytes = refl }) part_taken one refl
+
+      pub row_step : RowSoFar g (reads (human start.config) lends) start b all new fewer (vs ++ v ∷ [])
+      row_step = record {
+        read = values_step g (reads (human start.config) lends) (access_at start b all all) (access_at (outside start.room now) b still all)
+            (access_at (outside start.room new) b fewer all) vs v r.read taken refl;
+        ready = law.ready;
+        room = law.stays.room ∙ same_room;
+      }
+
+      -- memory was short for it
+      pub row_short : (P : Setting → Refusals) (d : Deserializer R C) → Opens g d (access_at start b all all) → (after : ℕ)
+          → RefusesEach reads P (setting_of (human d.config) lends d) (faults_of g d) after (left g d) OutOfMemory
+      row_short P d o after =
+          let w = subst (λ z. Values g (reads (human z) lends) (access_at start b all all) (access_at (outside start.room now) b still all) vs)
+          o.stays.config r.read in
+          let t = subst (λ z. TakesElement g (reads (human z) lends) (access_at (outside start.room now) b still all)
+          (access_at (outside start.room new) b fewer all) v) o.stays.config taken in
+          each_short g human lends reads P d (access_at start b all all) (access_at (outside start.room now) b still all)
+          (access_at (outside start.room new) b fewer all) o vs v w t refl after
+
+  -- ---- one was refused
+  module _ (d : Deserializer R C) (o : Opens g d (access_at start b all all)) (e : Error) where
+    refused_law : {W : Type 0} (items : W → List V) (last : Deserializer R C)
+        → FailsToTake g (reads (human start.config) lends) (access_at (outside start.room now) b still all)
+        (access_at (outside start.room new) b still all) e → last ≡ outside start.room new
+        → Lawful g (λ m (w : W). OfRow (λ ms. ReadsEach (reads (human d.config) lends) ms (items w)) m) d last (Err e)
+    refused_law items last f q =
+        let f' = subst (λ z. FailsToTake g (reads (human z) lends) (access_at (outside start.room now) b still all)
+        (access_at (outside start.room new) b still all) e) o.stays.config f in
+        seq_take g (λ w ms. ReadsEach (reads (human d.config) lends) ms (items w)) d (access_at start b all all)
+        (access_at (outside start.room now) b still all) r.read.trees o r.read.run last (reads (human d.config) lends)
+        (access_at (outside start.room new) b still all) e f' refl q
+        (λ m ks w h. each_next (reads (human d.config) lends) r.read.trees m ks (items w) h)
+
+    refused_so : (P : Setting → Refusals) → ElementRefused g (human now.config) lends P (access_at (outside start.room now) b still all)
+        (access_at (outside start.room new) b still all) (left g now) e
+        → RefusesEach reads P (setting_of (human d.config) lends d) (faults_of g d) (faults_of g new) (left g d) e
+    refused_so P w =
+        let run = r.read.run in
+        let h0 = element_behind g human lends (access_at start b all all) (access_at (outside start.room now) b still all) r.read.trees run
+        (λ K. WhereSome K still (left g now) e) P (access_at (outside start.room new) b still all) (some, w) in
+        let h1 = behind_opened g human lends d (access_at start b all all) (access_at (outside start.room new) b still all) o (faults_of g new) refl
+        (λ i a z. WhereSome (RefusedIn b (P i) a z) still (left g now) e) h0 in
+        inr (behind_head g human lends d (access_at start b all all) o (faults_of g new) e
+        (λ b i n known e. Behind (SpellsIn i.strict b) (EachRead reads i) i.room n (WhereSome (RefusedIn b (P i) (faults_of g d) (faults_of g new))) known e
+        ⊎ Behind (SpellsIn i.strict b) (λ ms. (0 < count ms) × EachRead reads i ms) i.room n IsMemory known e)
+        (inl (record {
+          bytes = run.bytes;
+          rest = left g now;
+          trees = r.read.trees;
+          still = still;
+          takes = run.takes;
+          spelled = subst (λ z. SpellsRow (SpellsIn z b) run.bytes r.read.trees) o.stays.strict run.spelled;
+          many = run.many;
+          fits = run.fits;
+          holds = (vs, subst (λ z. ReadsEach (reads (human z) lends) r.read.trees vs) o.stays.config r.read.values);
+          refused = h1;
+        })))
+
+    -- by its type
+    module _ (offers : OffersPart g b now from) (ready : from.failed ≡ false) where
+      part_fails : Lawful g (reads (human from.config) lends) from new (Err e)
+          → FailsPart g (reads (human start.config) lends) (max 1 (start.room - levels b)) (outside start.room from) (outside start.room new) e
+      part_fails law = record {
+        stays = record { config = law.stays.config; room = refl; limit = law.stays.limit; strict = law.stays.strict; place = law.stays.place };
+        failed = refl;
+        err = λ n k.
+            let r1 = subst (λ z. Refuses (SpellsAs from.strict) (Readable (reads (human from.config) lends)) (max 1 z) (left g from)) same_room
+            (law.err ready n k) in
+            subst (λ z. Refuses (SpellsAs from.strict) (Readable (reads (human z) lends)) (max 1 (start.room - levels b)) (left g from)) same_config r1;
+      }
+
+      pub row_refused : {W : Type 0} (items : W → List V) → Lawful g (reads (human from.config) lends) from new (Err e)
+          → Lawful g (λ m (w : W). OfRow (λ ms. ReadsEach (reads (human d.config) lends) ms (items w)) m) d (record new { room = start.room }) (Err e)
+      row_refused items law = refused_law items (record new { room = start.room })
+          (element_fails g (reads (human start.config) lends) (access_at (outside start.room now) b still all)
+          (access_at (outside start.room new) b still all) (outside start.room from) r.read.run.still (offers_outside g start.room now from b offers) e some
+          (part_fails law)) (ap (λ f. record new { room = start.room; failed = f }) law.failed)
+
+      pub row_wrong : (P : Setting → Refusals) → P (setting_of (human from.config) lends from) (faults_of g from) (faults_of g new) (left g from) e
+          → RefusesEach reads P (setting_of (human d.config) lends d) (faults_of g d) (faults_of g new) (left g d) e
+      row_wrong P w = refused_so P (offered g human lends P (outside start.room now) (outside start.room from) (start.room - levels b) (faults_of g new) e
+          r.read.run.still.clean b (offers_outside g start.room now from b offers)
+          (subst (λ z. P (record { human = human from.config; lends = lends; strict = from.strict; room = max 1 z }) (faults_of g from) (faults_of g new)
+          (left g from) e) same_room w))
+
+  -- ---- the bytes ended before one
+  module _ (d : Deserializer R C) (o : Opens g d (access_at start b all all)) (e : Error) (is_bytes : b ≡ true) (same : new ≡ from)
+      (err : Explains e (faults_of g now) (faults_of g from) (IsAtEnd (g.ahead now.reader))) where
+    pub row_ended : {W : Type 0} (items : W → List V)
+        → Lawful g (λ m (w : W). OfRow (λ ms. ReadsEach (reads (human d.config) lends) ms (items w)) m) d (outside start.room new) (Err e)
+    row_ended items = refused_law d o e items (outside start.room new)
+        (record {
+          some = some;
+          stays = subst (λ z. Stays g (outside start.room now) (outside start.room z)) (sym same)
+              (record { config = s.config; room = refl; limit = s.limit; strict = s.strict; place = s.place });
+          err = λ n k. subst (λ z. Refuses (SpellsIn now.strict z) (Readable (reads (human start.config) lends)) (max 1 (start.room - levels b)) (left g now))
+              (sym is_bytes) (number_missing g now (Readable (reads (human start.config) lends)) (max 1 (start.room - levels b)) r.read.run.still.clean
+              (err n (ap (faults_of g) (sym same) ∙ k)));
+        }) refl
+
+    pub row_cut : (P : Setting → Refusals) → (faults_of g from ≡ faults_of g now → IsDataEnd e)
+        → RefusesEach reads P (setting_of (human d.config) lends d) (faults_of g d) (faults_of g new) (left g d) e
+    row_cut P ends = refused_so d o e P
+        (subst (λ z. RefusedIn z (P (element_setting (human now.config) lends (access_at (outside start.room now) b still all))) (faults_of g now)
+        (faults_of g new) (left g now) e) (sym is_bytes)
+        (number_ended g (P (element_setting (human now.config) lends (access_at (outside start.room now) b still all))) e now r.read.run.still.clean
+        (faults_of g new) (λ k. ends (ap (faults_of g) (sym same) ∙ k)) (λ n k. err n (ap (faults_of g) (sym same) ∙ k))))
+
+module _ {R C V : Type 0} (g : Ghosts R) (human : C → Bool) (lends : Bool) (reads : Bool → Bool → Msg → V → Type 0) (start now : Deserializer R C)
+    (b : Bool) (all : ℕ) (vs : List V) {W : Type 0} (items : W → List V) (d : Deserializer R C) (o : Opens g d (access_at start b all all)) where
+  -- all were read
+  pub row_whole : (still : ℕ) → RowSoFar g (reads (human start.config) lends) start b all now still vs → still ≡ 0 → (w : W) → items w ≡ vs
+      → Lawful g (λ m (w : W). OfRow (λ ms. ReadsEach (reads (human d.config) lends) ms (items w)) m) d (record now { room = start.room }) (Ok w)
+  row_whole still r z w i =
+      seq_done g (λ w ms. ReadsEach (reads (human d.config) lends) ms (items w)) d (access_at start b all all)
+      (access_at (outside start.room now) b still all) r.read.trees o r.read.run (record now { room = start.room }) w
+      (subst (λ z. ReadsEach (reads (human d.config) lends) r.read.trees z) (sym i)
+      (subst (λ z. ReadsEach (reads (human z) lends) r.read.trees vs) o.stays.config r.read.values)) z
+      (ap (λ f. record now { room = start.room; failed = f }) r.ready)
+
+  -- memory was short for the last one
+  pub row_unkept : (still : ℕ) → RowSoFar g (reads (human start.config) lends) start b all now still vs
+      → Lawful g (λ m (w : W). OfRow (λ ms. ReadsEach (reads (human d.config) lends) ms (items w)) m) d (outside start.room now) (Err OutOfMemory)
+  row_unkept still r = seq_unkept g (λ w ms. ReadsEach (reads (human d.config) lends) ms (items w)) d (access_at start b all all)
+      (access_at (outside start.room now) b still all) r.read.trees o r.read.run (outside start.room now) refl
