@@ -1,3 +1,4 @@
+pub mod Ahead
 pub mod Allowed
 pub mod Anys
 pub mod Arrays

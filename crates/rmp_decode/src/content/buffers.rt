@@ -3,7 +3,7 @@ ghost use Rattle.std.specs.Prelude.{◌≡◌, ◌≤◌, ◌<◌, true, false, 
 ghost use Rattle.std.specs.Borrow.{sem, RestsIfErr};
 ghost use Rattle.rmp_decode.specs.Buffers.{IsBuffer, AfterHead, IsBehind, RefusesItems, RefusesList};
 ghost use Rattle.rmp_decode.specs.contracts.deserializer.Deserializer.{the_row};
-ghost use Rattle.rmp_decode.specs.Content.{IsBufferHead, RefusesLeaf, not_raw, not_buffer};
+ghost use Rattle.rmp_decode.specs.Content.{IsBufferHead, RefusesBehind, RefusesLeaf, not_raw, not_buffer};
 ghost use Rattle.rmp_decode.specs.Exact.{RefusesExactly};
 ghost use Rattle.rmp_decode.specs.Kinds.{Finds, other_number};
 ghost use Rattle.rmp_decode.specs.Law.{Lawful};
@@ -38,12 +38,45 @@ impl<R: Source, C: SerializerConfig> Deserializer<R, C> {
     /// # Errors
     /// `Syntax("invalid type")` for another kind, and `DepthLimitExceeded` for a list that would nest too deep. An element is
     /// refused as `deserialize_u8` refuses it.
+    #[inline(always)]
     pub fn deserialize_byte_buf<'de>(&mut self) -> Result<Vec<u8>, Error>
     where
         R: ReadSlice<'de>,
         ensures law { Lawful R.Source (λ m v. IsBuffer m v.items) self.old self.new result }
         ensures exact { RefusesLeaf R.Source IsBufferHead not_raw not_buffer self.old self.new result }
         // A list is refused as a whole where it would nest too deep, and else at an item.
+        ensures list { is_failed self.old ≡ false → IfErr result (RefusesList R.Source self.old self.new) }
+    {
+        match self.bin_front() {
+            Some(len) => self.bytes_behind(len),
+            None => self.headed_byte_buf(),
+        }
+    }
+
+    // Reads the bytes behind a head that was taken, so many. They are copied once.
+    #[inline(never)]
+    fn bytes_behind<'de>(&mut self, len: u32) -> Result<Vec<u8>, Error>
+    where
+        R: ReadSlice<'de>,
+        ensures law { AfterHead R.Source (λ m v. IsBuffer m v.items) (Head.Bin len) self.old self.new result }
+        ensures exact { IfErr result (RefusesBehind R.Source IsBufferHead not_raw not_buffer (Head.Bin len) self.old self.new) }
+    {
+        match owned(self.alloc, &mut self.reader, len as usize) {
+            Ok(bytes) => {
+                self.failed = false;
+                Ok(bytes)
+            }
+            Err(e) => Err(e),
+        }
+    }
+
+    // The same as `deserialize_byte_buf` by way of `head`, by a call.
+    #[inline(never)]
+    fn headed_byte_buf<'de>(&mut self) -> Result<Vec<u8>, Error>
+    where
+        R: ReadSlice<'de>,
+        ensures law { Lawful R.Source (λ m v. IsBuffer m v.items) self.old self.new result }
+        ensures exact { RefusesLeaf R.Source IsBufferHead not_raw not_buffer self.old self.new result }
         ensures list { is_failed self.old ≡ false → IfErr result (RefusesList R.Source self.old self.new) }
     {
         match self.head() {

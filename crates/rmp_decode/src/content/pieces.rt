@@ -87,6 +87,7 @@ pub(crate) fn lent_content<'de, R: ReadSlice<'de>>(
 }
 
 // The next bytes, in a vector.
+#[inline(always)]
 pub(crate) fn owned<'de, R: ReadSlice<'de>>(
     alloc: Global,
     reader: &mut R,
@@ -98,10 +99,9 @@ pub(crate) fn owned<'de, R: ReadSlice<'de>>(
     ensures end { IfErr result (λ e. Explains e (R.faults reader.old) (R.faults reader.new) (IsDataEnd e)) }
     ensures place { R.place reader.new ≡ R.place reader.old }
 {
-    let mut v = Vec::new(alloc);
     match reader.read_slice(len) {
-        Ok(r) => match v.extend_from_slice(r.as_bytes()) {
-            Ok(()) => Ok(v),
+        Ok(r) => match Vec::from_slice(alloc, r.as_bytes()) {
+            Ok(v) => Ok(v),
             Err(_) => Err(Error::OutOfMemory),
         },
         Err(e) => Err(error_of(e)),

@@ -1,5 +1,6 @@
 //! Heads that lie in memory whole, read where they lie.
 ghost use Rattle.std.specs.Prelude.{◌≡◌, ◌<◌, ◌≤◌, ◌≤ℤ◌, pos, true, false, Bool, IfSome, IfNone, IfOk, IfErr};
+ghost use Rattle.rmp_decode.specs.Ahead.{TakesBare};
 ghost use Rattle.rmp_decode.specs.Fronts.{StandsIn, TakesFront};
 ghost use Rattle.rmp_decode.specs.Law.{ReadsHead};
 ghost use Rattle.rmp_decode.specs.State.{is_failed, is_strict, kept_of};
@@ -8,7 +9,7 @@ ghost use Rattle.rmp_decode.specs.declared.deserializer.Kept.TheVariants.{Nothin
 mod kinds;
 
 use crate::deserializer::fronts::kinds::{
-    f32_at, f64_at, head_at, signed_at, sixteen_at, truth_at,
+    bare_at, bin_at, f32_at, f64_at, head_at, signed_at, sixteen_at, truth_at,
 };
 use crate::deserializer::{Deserializer, Kept};
 use crate::error::Error;
@@ -362,6 +363,28 @@ impl<R: Source, C: SerializerConfig> Deserializer<R, C> {
         }
     }
 
+    // The same of bytes.
+    #[inline(always)]
+    pub(crate) fn bin_front(&mut self) -> Option<u32>
+        ensures taken { IfSome result (λ n. TakesFront R.Source (Head.Bin n) self.old self.new) }
+        ensures kept { IfNone result (self.new ≡ self.old) }
+    {
+        if !self.begins_ahead() {
+            return None;
+        }
+        match bin_at(self.reader.front(), self.strict) {
+            Some((n, len)) => {
+                if self.reader.skip(len) {
+                    self.failed = true;
+                    Some(n)
+                } else {
+                    None
+                }
+            }
+            None => None,
+        }
+    }
+
     // Takes the head of a list of up to 15 elements where it lies in memory, and leaves this failed until the list is read. Else
     // nothing is taken.
     #[inline(always)]
@@ -418,6 +441,29 @@ impl<R: Source, C: SerializerConfig> Deserializer<R, C> {
                 }
             }
             None => None,
+        }
+    }
+
+    // Takes the head of a leaf without content where it lies in memory whole, and leaves this failed until it is answered. Else nothing
+    // is taken.
+    #[inline(always)]
+    pub(crate) fn bare_front(&mut self) -> bool
+        ensures taken { result ≡ true → TakesBare R.Source self.old self.new }
+        ensures kept { result ≡ false → self.new ≡ self.old }
+    {
+        if !self.begins_ahead() {
+            return false;
+        }
+        match bare_at(self.reader.front(), self.strict) {
+            Some(len) => {
+                if self.reader.skip(len) {
+                    self.failed = true;
+                    true
+                } else {
+                    false
+                }
+            }
+            None => false,
         }
     }
 

@@ -1,5 +1,6 @@
 //! Messages that are passed over.
 ghost use Rattle.std.specs.Prelude.{◌≡◌, ◌-◌, ◌<◌, true, IfErr, IfSome};
+ghost use Rattle.rmp_decode.specs.Ahead.{IsBareHead};
 ghost use Rattle.rmp_decode.specs.Kinds.{Finds, content_len};
 ghost use Rattle.rmp_decode.specs.Law.{Lawful};
 ghost use Rattle.rmp_decode.specs.Refuse.{UnpassedFor, OpensSome, RefusesFirst, RefusesRowFirst};
@@ -33,6 +34,17 @@ fn content_in(head: Head) -> u32
     match head {
         Head::Text(n) | Head::Bin(n) | Head::Ext(n, _) => n,
         _ => 0,
+    }
+}
+
+// Whether it is the head of a leaf without content.
+#[inline(always)]
+pub(crate) fn is_bare(head: Head) -> bool
+    ensures { result ≡ true → IsBareHead head }
+{
+    match parts_in(head) {
+        Some(_) => false,
+        None => content_in(head) == 0,
     }
 }
 
@@ -107,6 +119,9 @@ fn skip_parts<R: Source, C: SerializerConfig, P: ReadContent<R>>(
         } else {
             wanted -= 1;
             de.failed = false;
+            if de.bare_front() {
+                continue;
+            }
             match de.any_head() {
                 Ok(head) => match parts_in(head) {
                     Some((is_map, n)) => {

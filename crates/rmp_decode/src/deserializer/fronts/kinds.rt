@@ -1,8 +1,10 @@
 //! Heads of any kind but an extension that lie in memory whole.
 ghost use Rattle.std.specs.Prelude.{◌≡◌, ◌<ℤ◌, Bool, true, false, IfSome};
+ghost use Rattle.rmp_decode.specs.Ahead.{BareStandsIn};
 ghost use Rattle.rmp_decode.specs.Fronts.{StandsIn};
 
 use crate::deserializer::fronts::unsigned_at;
+use crate::deserializer::skip::is_bare;
 use rmp_wire::{Head, Marker, is_canonical};
 
 // A head of one byte that isn't a number's.
@@ -271,5 +273,47 @@ pub(super) fn head_at(front: &[u8], strict: bool) -> Option<(Head, usize)>
         canonical_at(front)
     } else {
         any_at(front)
+    }
+}
+
+// How many bytes a head is of, if it is that of bytes.
+#[inline(always)]
+fn bin_in(head: Head) -> Option<u32>
+    ensures { IfSome result (λ n. head ≡ Head.Bin n) }
+{
+    match head {
+        Head::Bin(n) => Some(n),
+        _ => None,
+    }
+}
+
+// A head of bytes that may be read: the count of the bytes, and of the head's.
+#[inline(always)]
+pub(super) fn bin_at(front: &[u8], strict: bool) -> Option<(u32, usize)>
+    ensures { IfSome result (λ p. StandsIn strict p.1 (Head.Bin p.0) front.now) }
+{
+    match head_at(front, strict) {
+        Some((head, len)) => match bin_in(head) {
+            Some(n) => Some((n, len)),
+            None => None,
+        },
+        None => None,
+    }
+}
+
+// A head of a leaf without content that may be read: the count of its bytes.
+#[inline(always)]
+pub(super) fn bare_at(front: &[u8], strict: bool) -> Option<usize>
+    ensures { IfSome result (λ n. BareStandsIn strict n front.now) }
+{
+    match head_at(front, strict) {
+        Some((head, len)) => {
+            if is_bare(head) {
+                Some(len)
+            } else {
+                None
+            }
+        }
+        None => None,
     }
 }
