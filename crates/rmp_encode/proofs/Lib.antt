@@ -6,6 +6,7 @@ pub mod Leaves
 pub mod Lists
 pub mod Numbers
 pub mod OpenSteps
+pub mod Packed
 pub mod Packing
 pub mod Parts
 pub mod Spelled

@@ -50,10 +50,10 @@ use Rattle.rmp_encode.specs.Data.{
 use Rattle.rmp_encode.specs.Trees.{HasTree, a_byte, byte_of, forces_all, forces_slices, parts_of, sequence_of, slice_of, tree_of, tuple_of}
 use Rattle.rmp_wire.specs.Msg.{Msgs, bin, count, list}
 use Rattle.rmp_wire.specs.Spelling.{Fits}
-use Rattle.rmp_encode.specs.Slices.{OneIsNone, Probed}
-use Rattle.std.specs.declared.vec.Vec.{Vec}
-use Rattle.std.specs.declared.alloc.Global.{Global}
-use Rattle.rmp_encode.proofs.Going.{map_rest}
+use Rattle.rmp_encode.specs.Slices.{number_of, AllBytes, OneIsNone}
+use Rattle.std.specs.Option.{unwrap_or}
+use Rattle.rmp_wire.specs.Spelling.{IsBytes}
+use Rattle.rmp_encode.proofs.Going.{all_append, map_rest}
 use Rattle.std.proofs.Common.{take, drop, get_or}
 use Rattle.std.proofs.lemmas.List.{take-append-drop, map-append, take_more, length-map}
 use Rattle.std.proofs.lemmas.Option.{none-some}
@@ -311,25 +311,51 @@ one_isnt f xs i x lt is e = record {
   isnt = e;
 }
 
+pub no_bytes_yet : AllBytes []
+no_bytes_yet = record { each = refl; small = tt }
+
 -- one more is a byte
-pub one_is : {X : Type 0} (f : X → Option Data) (xs : List X) (i : ℕ) (x : X) (bs bs' : List ℕ) (b : ℕ) → i < length xs → x ≡ get_or xs i x
-    → byte_of (f x) ≡ Some b → map f (take i xs) ≡ map a_byte bs → bs' ≡ bs ++ b ∷ [] → map f (take (i + 1) xs) ≡ map a_byte bs'
-one_is f xs i x bs bs' b lt is e h more =
-    ap (map f) (take_more xs i x lt) ∙ map-append f (take i xs) (get_or xs i x ∷ [])
-    ∙ ap (λ l. l ++ f (get_or xs i x) ∷ []) h
-    ∙ ap (λ y. map a_byte bs ++ f y ∷ []) (sym is)
-    ∙ ap (λ d. map a_byte bs ++ d ∷ []) (byte_from (f x) b e)
-    ∙ sym (map-append a_byte bs (b ∷ [])) ∙ ap (map a_byte) (sym more)
+bytes_with : (ds : List (Option Data)) (d : Option Data) (b : ℕ) → byte_of d ≡ Some b → b < 256 → AllBytes ds → AllBytes (ds ++ d ∷ [])
+bytes_with ds d b e lt h =
+    let n : number_of d ≡ b = ap (λ o. unwrap_or o 0) e in
+    let ns : map number_of (ds ++ d ∷ []) ≡ map number_of ds ++ b ∷ [] = map-append number_of ds (d ∷ []) ∙ ap (λ k. map number_of ds ++ k ∷ []) n in
+    record {
+      each = ap (λ l. l ++ d ∷ []) h.each ∙ ap (λ y. map a_byte (map number_of ds) ++ y ∷ []) (byte_from d b e)
+          ∙ sym (map-append a_byte (map number_of ds) (b ∷ [])) ∙ ap (map a_byte) (sym ns);
+      small = subst IsBytes (sym ns) (all_append (λ k. k < 256) (map number_of ds) (b ∷ []) h.small (lt, tt));
+    }
 
-pub probed_none : {ds : List (Option Data)} (P : Type 0) {o : Option (Vec ℕ Global)} → o ≡ None → Probed ds P o → OneIsNone ds
-probed_none {ds} P {o} e h = subst (Probed ds P) e h
+pub one_is : {X : Type 0} (f : X → Option Data) (xs : List X) (i : ℕ) (x : X) (b : ℕ) → i < length xs → x ≡ get_or xs i x
+    → byte_of (f x) ≡ Some b → b < 256 → AllBytes (map f (take i xs)) → AllBytes (map f (take (i + 1) xs))
+one_is f xs i x b lt is e small h =
+    let more : map f (take (i + 1) xs) ≡ map f (take i xs) ++ f x ∷ [] =
+    ap (map f) (take_more xs i x lt) ∙ map-append f (take i xs) (get_or xs i x ∷ []) ∙ ap (λ y. map f (take i xs) ++ f y ∷ []) (sym is) in
+    subst AllBytes (sym more) (bytes_with (map f (take i xs)) (f x) b e small h)
 
-pub probed_some : {ds : List (Option Data)} (P : Type 0) {o : Option (Vec ℕ Global)} {v : Vec ℕ Global} → o ≡ Some v → Probed ds P o
-    → (ds ≡ map a_byte v.items) × P
-probed_some {ds} P {o} {v} e h = subst (Probed ds P) e h
+pub some_mapped : {X : Type 0} (f : X → Option Data) (xs : List X) → 0 < length xs → 0 < length (map f xs)
+some_mapped f xs lt = let n = length-map xs f in omega (arith, n, lt)
 
-pub bytes_more : {X : Type 0} (f : X → Option Data) (xs : List X) (bs : List ℕ) → map f xs ≡ map a_byte bs → 0 < length xs → 0 < length bs
-bytes_more f xs bs e lt = let n : length xs ≡ length bs = sym (length-map xs f) ∙ ap length e ∙ length-map bs a_byte in omega (arith, n, lt)
+-- a slice of values that are all bytes, where there are some
+pub slice_packed : (s : Settings) (ds : List (Option Data)) → AllBytes ds → forces_slices s.bytes ≡ true → 0 < length ds
+    → tree_of s (slice_of ds) ≡ Some (bin (map number_of ds))
+slice_packed s ds h f lt = let n = length-map ds number_of in slice_tree s ds (map number_of ds) h.each f (omega (arith, n, lt))
+
+-- a tuple of values of which one is no byte
+pub plain_as : (s : Settings) {ds : List (Option Data)} → OneIsNone ds → tree_of s (tuple_of ds) ≡ tree_of s (sequence_of ds)
+plain_as s {ds} o = subst (λ l. tree_of s (tuple_of l) ≡ tree_of s (sequence_of l)) (sym o.split) (plain_by s o.front o.d o.rest o.isnt)
+
+-- a tuple of values that are all bytes, packed or as the list
+pub tuple_packed : (s : Settings) (ds : List (Option Data)) → AllBytes ds → forces_all s.bytes ≡ true → packs_tuple ForceAll (map number_of ds) ≡ true
+    → tree_of s (tuple_of ds) ≡ Some (bin (map number_of ds))
+tuple_packed s ds h f e = ap (λ l. tree_of s (tuple_of l)) h.each
+    ∙ bytes_tree s (map number_of ds) (ap (λ m. packs_tuple m (map number_of ds)) (is_force_all s.bytes f) ∙ e)
+
+pub tuple_listed : (s : Settings) (ds : List (Option Data)) → AllBytes ds → forces_all s.bytes ≡ true → packs_tuple ForceAll (map number_of ds) ≡ false
+    → tree_of s (tuple_of ds) ≡ tree_of s (sequence_of ds)
+tuple_listed s ds h f e =
+    ap (λ l. tree_of s (tuple_of l)) h.each
+    ∙ list_tree s (map number_of ds) (ap (λ m. packs_tuple m (map number_of ds)) (is_force_all s.bytes f) ∙ e)
+    ∙ ap (λ l. tree_of s (sequence_of l)) (sym h.each)
 
 slice_byte_at : (o : Option Parts) → byte_of (option_map slice o) ≡ None
 slice_byte_at None = refl

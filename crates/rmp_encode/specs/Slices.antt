@@ -1,7 +1,7 @@
 -- What the values of a slice are, where the mode asks for bytes.
-use Rattle.std.specs.Prelude.{◌≡◌, ℕ, ◌++◌, ◌∷◌, List, map, Option, None, Some}
-use Rattle.std.specs.declared.vec.Vec.{Vec}
-use Rattle.std.specs.declared.alloc.Global.{Global}
+use Rattle.std.specs.Prelude.{◌≡◌, ℕ, ◌++◌, ◌∷◌, List, map, Option, None}
+use Rattle.std.specs.Option.{unwrap_or}
+use Rattle.rmp_wire.specs.Spelling.{IsBytes}
 use Rattle.rmp_encode.specs.Data.{Data}
 use Rattle.rmp_encode.specs.Trees.{a_byte, byte_of}
 
@@ -13,7 +13,11 @@ pub record OneIsNone (ds : List (Option Data)) : Type 0 where
   pub split : ds ≡ front ++ d ∷ rest
   pub isnt : byte_of d ≡ None
 
--- they are these bytes, and a fact on the values holds; or one is no byte
-abbrev pub Probed : List (Option Data) → Type 0 → Option (Vec ℕ Global) → Type 0
-Probed ds P None = OneIsNone ds
-Probed ds P (Some v) = (ds ≡ map a_byte v.items) × P
+-- the number of a byte, and 0 of anything else
+abbrev pub number_of : Option Data → ℕ
+number_of d = unwrap_or (byte_of d) 0
+
+-- they are all bytes
+pub record AllBytes (ds : List (Option Data)) : Type 0 where
+  pub each : ds ≡ map a_byte (map number_of ds)
+  pub small : IsBytes (map number_of ds)

@@ -1,6 +1,8 @@
 //! A serializer over a sink.
 ghost use Rattle.std.specs.Prelude.{◌≡◌, ◌^◌, ◌<◌, ◌≤◌, ◌||◌, OnOk, true, false, [], Some, pos, length, encode_utf8};
 ghost use Rattle.std.specs.Borrow.{sem};
+ghost use Rattle.rmp_wire.specs.declared.head.Head.TheVariants.{Bin};
+ghost use Rattle.rmp_wire.specs.Heads.{canon_head};
 ghost use Rattle.rmp_wire.specs.Msg.{nil, truth, whole, float32, float64, text, bin, extension};
 ghost use Rattle.rmp_encode.specs.Errors.{answer_of};
 ghost use Rattle.rmp_encode.specs.Going.{head_at, Begins, Goes, IsWriting};
@@ -19,8 +21,8 @@ use rmp_wire::config::{
     StructTupleConfig,
 };
 use rmp_wire::write::{
-    write_array_len, write_bin, write_bool, write_ext_meta, write_f32_bits, write_f64_bits,
-    write_map_len, write_nil, write_sint, write_str, write_uint,
+    write_array_len, write_bin, write_bin_len, write_bool, write_ext_meta, write_f32_bits,
+    write_f64_bits, write_map_len, write_nil, write_sint, write_str, write_uint,
 };
 use rmp_wire::{Sink, ValueWriteError};
 use std::alloc::Global;
@@ -508,5 +510,14 @@ impl<W: Sink, C: SerializerConfig> Serializer<W, C> {
         ensures keeps { Keeps W.Sink self.old self.new }
     {
         answer(write_ext_meta(&mut self.wr, len, tag))
+    }
+
+    // The head of so many bytes.
+    #[inline(always)]
+    pub(crate) fn put_bin_head(&mut self, len: u32) -> Result<(), Error>
+        ensures writes { WritesPart W.Sink W.takes_memory (Unit {0}) (canon_head (Bin len)) (sink_of self.old) (sink_of self.new) result }
+        ensures keeps { Keeps W.Sink self.old self.new }
+    {
+        answer(write_bin_len(&mut self.wr, len))
     }
 }

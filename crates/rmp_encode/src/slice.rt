@@ -1,16 +1,46 @@
 //! The items of a slice or a `Vec`, which are written as bytes where the mode says so.
-ghost use Rattle.std.specs.Prelude.{◌≡◌, ◌^◌, ◌≤◌, ◌+◌, ◌<◌, ◌||◌, [], ◌∷◌, map, All, true, OnOk, IfOk, IfErr, length};
-ghost use Rattle.rmp_encode.specs.declared.error.Error.TheVariants.{OutOfMemory};
+ghost use Rattle.std.specs.Prelude.{◌≡◌, ◌^◌, ◌≤◌, ◌<◌, ◌||◌, map, take, All, Some, true, false, OnOk, length};
+ghost use Rattle.rmp_wire.specs.Msg.{bin};
 ghost use Rattle.rmp_encode.specs.Ser.{sink_of, settings_of};
-ghost use Rattle.rmp_encode.specs.Slices.{Probed};
+ghost use Rattle.rmp_encode.specs.Slices.{number_of, OneIsNone, AllBytes};
 ghost use Rattle.rmp_encode.specs.Trees.{tree_of, sequence_of, slice_of, forces_slices};
 ghost use Rattle.rmp_encode.specs.Writes.{Keeps, StaysAtRefusal, WritesTree};
 
 use crate::error::Error;
+use crate::length::fits_u32;
 use crate::ser::Serialize;
 use crate::serializer::Serializer;
 use rmp_wire::Sink;
 use rmp_wire::config::{BytesMode, SerializerConfig};
+
+// How many bytes are written at a time.
+const PIECE: usize = 64;
+
+// Whether each value is a `u8`.
+#[inline(always)]
+pub(crate) fn are_bytes<T: Serialize>(values: &[T], human: bool) -> bool
+    ensures bytes { result ≡ true → AllBytes (map (λ x. T.data_of x human) values.now) }
+    ensures values { result ≡ true → All T.is_value values.now }
+    ensures none { result ≡ false → OneIsNone (map (λ x. T.data_of x human) values.now) }
+{
+    for value in values {
+        let Some(_number) = value.as_u8(human) else {
+            return false;
+        };
+    }
+    true
+}
+
+// Puts the numbers of these values into the front of a piece, which has room for them: the caller's condition.
+#[inline(always)]
+fn fill<T: Serialize>(piece: &mut [u8], values: &[T], human: bool)
+    requires { length values.now ≤ length piece.old }
+    ensures front { take (length values.now) piece.new ≡ map number_of (map (λ x. T.data_of x human) values.now) }
+{
+    for i in 0..values.len() {
+        piece[i] = values[i].as_u8(human).unwrap_or(0);
+    }
+}
 
 impl<W: Sink, C: SerializerConfig> Serializer<W, C> {
     fn forces_slices(&self) -> bool
@@ -22,20 +52,43 @@ impl<W: Sink, C: SerializerConfig> Serializer<W, C> {
         }
     }
 
-    fn probe<T: Serialize>(&self, values: &[T], human: bool) -> Result<Option<Vec<u8>>, Error>
-        ensures bytes { IfOk result (Probed (map (λ x. T.data_of x human) values.now) (All T.is_value values.now)) }
-        ensures err { IfErr result (λ e. e ≡ OutOfMemory) }
+    // Whether the mode makes these values bytes.
+    #[inline(always)]
+    fn packs_slice<T: Serialize>(&self, values: &[T]) -> bool
+        ensures bytes { result ≡ true → AllBytes (map (λ x. T.data_of x (settings_of self.now).human) values.now) }
+        ensures packed { result ≡ true → tree_of (settings_of self.now) (slice_of (map (λ x. T.data_of x (settings_of self.now).human) values.now))
+            ≡ Some (bin (map number_of (map (λ x. T.data_of x (settings_of self.now).human) values.now))) }
+        ensures values { result ≡ true → All T.is_value values.now }
+        ensures listed { result ≡ false → tree_of (settings_of self.now) (slice_of (map (λ x. T.data_of x (settings_of self.now).human) values.now))
+            ≡ tree_of (settings_of self.now) (sequence_of (map (λ x. T.data_of x (settings_of self.now).human) values.now)) }
     {
-        let mut bytes = self.empty();
-        for value in values {
-            let Some(b) = value.as_u8(human) else {
-                return Ok(None);
-            };
-            let Ok(()) = bytes.push(b) else {
-                return Err(Error::OutOfMemory);
-            };
+        if !self.forces_slices() {
+            return false;
         }
-        Ok(Some(bytes))
+        if values.is_empty() {
+            return false;
+        }
+        are_bytes(values, self.is_human_readable())
+    }
+
+    // Values that are all `u8`, as bytes.
+    pub(crate) fn put_packed<T: Serialize>(&mut self, values: &[T]) -> Result<(), Error>
+        requires { AllBytes (map (λ x. T.data_of x (settings_of self.old).human) values.now) }
+        ensures writes { WritesTree W.Sink W.takes_memory (Some (bin (map number_of (map (λ x. T.data_of x (settings_of self.old).human) values.now))))
+            (sink_of self.old) (sink_of self.new) result }
+        ensures keeps { Keeps W.Sink self.old self.new }
+        ensures refused { 2 ^ 32 ≤ length values.now → self.new ≡ self.old }
+        ensures reason { 2 ^ 32 ≤ length values.now → StaysAtRefusal self.old self.new result }
+    {
+        let human = self.is_human_readable();
+        let len = fits_u32(values.len())?;
+        self.put_bin_head(len)?;
+        let mut piece = [0; PIECE];
+        for chunk in values.chunks(PIECE) {
+            fill(&mut piece, chunk, human);
+            self.put(&piece[..chunk.len()])?;
+        }
+        Ok(())
     }
 
     // A list of values, which are never made bytes. 2 ^ 32 of them or more are refused, and nothing is written.
@@ -72,16 +125,9 @@ impl<W: Sink, C: SerializerConfig> Serializer<W, C> {
         ensures reason { 2 ^ 32 ≤ length values.now → StaysAtRefusal self.old self.new result }
         ensures value { OnOk result (All T.is_value values.now) }
     {
-        if !self.forces_slices() {
-            return self.put_list(values);
+        if self.packs_slice(values) {
+            return self.put_packed(values);
         }
-        if values.is_empty() {
-            return self.put_list(values);
-        }
-        let human = self.is_human_readable();
-        let Some(bytes) = self.probe(values, human)? else {
-            return self.put_list(values);
-        };
-        self.serialize_bytes(bytes.as_slice())
+        self.put_list(values)
     }
 }

@@ -1,13 +1,15 @@
 //! Tuples, whose elements are written as bytes where the mode and the table say so.
-ghost use Rattle.std.specs.Prelude.{◌≡◌, ◌^◌, ◌≤◌, ◌+◌, ◌<◌, ◌||◌, ◌∷◌, [], nat_le, map, All, true, false, OnOk, OnErr, IfOk, length};
+ghost use Rattle.std.specs.Prelude.{◌≡◌, ◌^◌, ◌≤◌, ◌+◌, ◌<◌, ◌||◌, ◌∷◌, [], nat_le, map, All, Some, true, false, OnOk, OnErr, IfOk, length};
 ghost use Rattle.std.specs.Borrow.{sem};
 ghost use Rattle.std.specs.List.{list_any, flat_map};
+ghost use Rattle.rmp_wire.specs.Msg.{bin};
 ghost use Rattle.rmp_wire.specs.declared.config.BytesMode.TheVariants.{ForceAll};
 ghost use Rattle.rmp_encode.specs.Data.{packs_tuple};
 ghost use Rattle.rmp_encode.specs.Going.{Ends, Goes, Rests};
 ghost use Rattle.rmp_encode.specs.Ser.{sink_of, settings_of};
 ghost use Rattle.rmp_encode.specs.Sizes.{one_of};
-ghost use Rattle.rmp_encode.specs.Trees.{tree_of, tuple_of, forces_all, number_head};
+ghost use Rattle.rmp_encode.specs.Slices.{number_of, AllBytes};
+ghost use Rattle.rmp_encode.specs.Trees.{tree_of, sequence_of, tuple_of, forces_all, number_head};
 ghost use Rattle.rmp_encode.specs.Tuples.{inside, reference, items_left, left_of, is_sound, IsTupling};
 ghost use Rattle.rmp_encode.specs.Writes.{FirstAtMarker, Keeps, WritesPart, StaysAtRefusal, WritesTree};
 
@@ -15,6 +17,7 @@ use crate::error::Error;
 use crate::length::fits_u32;
 use crate::ser::Serialize;
 use crate::serializer::Serializer;
+use crate::slice::are_bytes;
 use rmp_wire::Sink;
 use rmp_wire::config::{BytesMode, SerializerConfig};
 use std::mem;
@@ -76,6 +79,32 @@ pub(crate) fn packs(bytes: &[u8]) -> bool
     any_high(bytes)
 }
 
+// Whether one of these values is a `u8` of 128 or more.
+fn any_high_value<T: Serialize>(values: &[T], human: bool) -> bool
+    ensures { result ≡ list_any (nat_le 128) (map number_of (map (λ x. T.data_of x human) values.now)) }
+{
+    for value in values {
+        if value.as_u8(human).unwrap_or(0) >= 128 {
+            return true;
+        }
+    }
+    false
+}
+
+// The same as `packs`, of values that are all `u8`.
+#[tactic(auto, unfolding(crate::specs::Data::packs_tuple))]
+fn packs_values<T: Serialize>(values: &[T], human: bool) -> bool
+    ensures { result ≡ packs_tuple ForceAll (map number_of (map (λ x. T.data_of x human) values.now)) }
+{
+    if values.is_empty() {
+        return false;
+    }
+    if values.len() >= 16 {
+        return true;
+    }
+    any_high_value(values, human)
+}
+
 impl<W: Sink, C: SerializerConfig> Serializer<W, C> {
     // Each byte as a number.
     pub(crate) fn put_numbers(&mut self, bytes: &[u8]) -> Result<(), Error>
@@ -96,6 +125,26 @@ impl<W: Sink, C: SerializerConfig> Serializer<W, C> {
             BytesMode::ForceAll => true,
             BytesMode::Normal | BytesMode::ForceIterables => false,
         }
+    }
+
+    // Whether the mode makes a tuple of these values bytes.
+    #[inline(always)]
+    fn packs_tuple<T: Serialize>(&self, values: &[T]) -> bool
+        ensures bytes { result ≡ true → AllBytes (map (λ x. T.data_of x (settings_of self.now).human) values.now) }
+        ensures packed { result ≡ true → tree_of (settings_of self.now) (tuple_of (map (λ x. T.data_of x (settings_of self.now).human) values.now))
+            ≡ Some (bin (map number_of (map (λ x. T.data_of x (settings_of self.now).human) values.now))) }
+        ensures values { result ≡ true → All T.is_value values.now }
+        ensures listed { result ≡ false → tree_of (settings_of self.now) (tuple_of (map (λ x. T.data_of x (settings_of self.now).human) values.now))
+            ≡ tree_of (settings_of self.now) (sequence_of (map (λ x. T.data_of x (settings_of self.now).human) values.now)) }
+    {
+        if !self.forces_all() {
+            return false;
+        }
+        let human = self.is_human_readable();
+        if !are_bytes(values, human) {
+            return false;
+        }
+        packs_values(values, human)
     }
 
     /// Opens a tuple of so many elements. A number of 2 ^ 32 or more is refused by `InvalidDataModel`, and nothing is written;
@@ -300,12 +349,8 @@ pub(crate) fn put_tuple<W: Sink, C: SerializerConfig, T: Serialize>(
     ensures reason { 2 ^ 32 ≤ length values.now → StaysAtRefusal se.old se.new result }
     ensures value { OnOk result (All T.is_value values.now) }
 {
-    if !se.forces_all() {
-        return se.put_list(values);
+    if se.packs_tuple(values) {
+        return se.put_packed(values);
     }
-    let mut tup = se.serialize_tuple(values.len())?;
-    for value in values {
-        tup.serialize_element(value)?;
-    }
-    tup.end()
+    se.put_list(values)
 }

@@ -1,5 +1,5 @@
 //! Options, structs without fields, newtype structs, and numbers of 128 bits.
-ghost use Rattle.std.specs.Prelude.{◌≡◌, ◌||◌, Some, OnOk, IfErr, codes};
+ghost use Rattle.std.specs.Prelude.{◌≡◌, ◌/◌, ◌^◌, ◌||◌, Some, OnOk, IfErr, codes};
 ghost use Rattle.std.specs.Int.{w128, to_be_bytes, cast_unsigned};
 ghost use Rattle.rmp_wire.specs.Msg.{nil, bin, list, no_items};
 ghost use Rattle.rmp_encode.specs.Errors.{RefusesName};
@@ -12,6 +12,20 @@ use crate::ser::Serialize;
 use crate::serializer::{Serializer, answer};
 use rmp_wire::config::SerializerConfig;
 use rmp_wire::{MSGPACK_EXT_STRUCT_NAME, Sink};
+
+// The upper half of a number. It is never less than the highest bit: to ask that changes nothing, but keeps the compiler from reading
+// the bytes of the half one by one where the number lies in memory.
+#[inline(always)]
+fn high_half(n: u128) -> u64
+    ensures { result ≡ n / 2 ^ 64 }
+{
+    let half = (n >> 64) as u64;
+    let highest = (n >> 127) as u64;
+    if half < highest {
+        return highest;
+    }
+    half
+}
 
 impl<W: Sink, C: SerializerConfig> Serializer<W, C> {
     /// Writes what stands for an option that holds nothing: nil.
@@ -88,7 +102,7 @@ impl<W: Sink, C: SerializerConfig> Serializer<W, C> {
         ensures marker { NoneAtMarker W.Sink (sink_of self.old) (sink_of self.new) result }
         ensures keeps { Keeps W.Sink self.old self.new }
     {
-        let high = (n >> 64) as u64;
+        let high = high_half(n);
         let low = (n % (1 << 64)) as u64;
         let mut piece = [16; 18];
         piece[0] = 0xc4;

@@ -1,91 +1,18 @@
-use Rattle.std.proofs.Common.{rules, arith, refl, sym, ◌∙◌, subst, All}
-use Rattle.std.proofs.lemmas.List.{take_all}
-use Rattle.std.proofs.lemmas.List.Elements.{All-more}
-use Rattle.std.proofs.lemmas.Result.{err_from_is_err_and}
 use Rattle.rmp_encode.specs.Ser.{settings_of}
 use Rattle.rmp_encode.specs.Trees.{forces_all}
-use Rattle.rmp_encode.proofs.Parts.{rests_at, part_takes, or_second, or_given}
-use Rattle.rmp_encode.proofs.Going.{map_rest, map_rest_none, keeps_then, keeps_last, on_ok, unopened}
-use Rattle.rmp_encode.proofs.Packing.{plain_mode}
-use Rattle.rmp_encode.proofs.TupleSteps.{as_tree, still_tuple}
-use Rattle.std.proofs.lemmas.List.{length-map}
+use Rattle.rmp_encode.proofs.Going.{on_ok}
+use Rattle.rmp_encode.proofs.TupleSteps.{as_tree}
+use Rattle.rmp_encode.proofs.Parts.{part_or, part_takes, or_second}
 use Rattle.rmp_encode.proofs.tuple.put_tuple.Goals as goal
 
-pub returns-then-not-forces_all-clause-writes : goal.returns-then-not-forces_all-clause-writes
-returns-then-not-forces_all-clause-writes g c = as_tree g.W.Sink (plain_mode (settings_of c.args.se.now) _ (sym c.forces_all.ensures ∙ search rules))
-    (part_takes g.W.Sink _ (or_second (forces_all (settings_of c.args.se.now).bytes) (g.T.Serialize.takes_memory (settings_of c.args.se.now))
-    g.W.Sink.takes_memory) c.put_list.ensures.writes)
+pub returns-then-packs_tuple-clause-writes : goal.returns-then-packs_tuple-clause-writes
+returns-then-packs_tuple-clause-writes g c = as_tree g.W.Sink (c.packs_tuple.ensures.packed c.if-packs_tuple.true)
+    (part_or g.W.Sink _ c.put_packed.ensures.writes)
 
-pub returns-in_err-tup-clause-writes : goal.returns-in_err-tup-clause-writes
-returns-in_err-tup-clause-writes g c =
-    let forced = or_given _ (g.T.Serialize.takes_memory (settings_of c.args.se.now)) g.W.Sink.takes_memory
-    (sym c.forces_all.ensures ∙ c.if-not-forces_all.false) in
-    let p = err_from_is_err_and c.from_residual.result c.from_residual.ensures.1 in
-    rw (p.1, p.2) (part_takes g.W.Sink _ (λ _. forced)
-    (unopened g.W.Sink _ _ _ c.args.se.now _ _ _ _ c.in_err-tup.was c.serialize_tuple.follows.holds-at-none (length-map _ _ ∙ search rules)))
-
-pub loop-value-init : goal.loop-value-init
-loop-value-init g c = record {
-  same = refl;
-  within = omega arith;
-  writing = c.in_ok-tup.ensures.opened _ (length-map _ _ ∙ search rules);
-  keeps = c.in_ok-tup.ensures.keeps;
-  values = search rules;
-}
-
-pub serialize_element-requires : goal.serialize_element-requires
-serialize_element-requires g c =
-    let rest = map_rest (λ x. g.T.Serialize.data_of x (settings_of c.args.se.now).human) c.args.values.now c.loop-value.value-index c.value-item.result
-    c.loop-value-test.true c.value-item.is in
-    let n = (still_tuple g.W.Sink rest c.loop-value.invariant.writing).left_is
-    in record { sound = c.loop-value.invariant.writing.sound; room = omega (arith, n) }
-
-pub loop-value-preserved : goal.loop-value-preserved
-loop-value-preserved g c =
-    let rest = map_rest (λ x. g.T.Serialize.data_of x (settings_of c.args.se.now).human) c.args.values.now c.loop-value.value-index c.value-item.result
-    c.loop-value-test.true c.value-item.is in
-    record {
-      same = c.serialize_element.ensures.same_reference ∙ c.loop-value.invariant.same;
-      within = omega arith;
-      writing = c.in_ok-serialize_element.ensures.writes c.args.se.now _ _ (still_tuple g.W.Sink rest c.loop-value.invariant.writing);
-      keeps = keeps_then g.W.Sink c.loop-value.invariant.keeps c.serialize_element.ensures.keeps;
-      values = All-more g.T.Serialize.is_value _ _ c.value-item.result c.loop-value-test.true c.loop-value.invariant.values
-          (subst g.T.Serialize.is_value c.value-item.is c.in_ok-serialize_element.ensures.value);
-    }
-
-pub returns-in_err-serialize_element-clause-writes : goal.returns-in_err-serialize_element-clause-writes
-returns-in_err-serialize_element-clause-writes g c =
-    let forced = or_given _ (g.T.Serialize.takes_memory (settings_of c.args.se.now)) g.W.Sink.takes_memory
-    (sym c.forces_all.ensures ∙ c.if-not-forces_all.false) in
-    let p = err_from_is_err_and c.from_residual-in_err-serialize_element.result c.from_residual-in_err-serialize_element.ensures.1 in
-    let rest = map_rest (λ x. g.T.Serialize.data_of x (settings_of c.args.se.now).human) c.args.values.now c.loop-value.value-index c.value-item.result
-    c.loop-value-test.true c.value-item.is in
-    rw (p.1, p.2) (part_takes g.W.Sink _ (λ _. forced)
-    (rests_at g.W.Sink (search rules) (c.in_err-serialize_element.ensures.writes c.args.se.now _ _
-    (still_tuple g.W.Sink rest c.loop-value.invariant.writing))))
-
-pub returns-in_err-serialize_element-clause-keeps : goal.returns-in_err-serialize_element-clause-keeps
-returns-in_err-serialize_element-clause-keeps g c = keeps_last g.W.Sink (search rules)
-    (keeps_then g.W.Sink c.loop-value.invariant.keeps c.serialize_element.ensures.keeps)
-
-pub end-requires : goal.end-requires
-end-requires g c =
-    let rest = map_rest_none (λ x. g.T.Serialize.data_of x (settings_of c.args.se.now).human) c.args.values.now c.loop-value.value-index
-    c.loop-value-test.false in
-    let n = (still_tuple g.W.Sink rest c.loop-value.invariant.writing).left_is
-    in record { sound = c.loop-value.invariant.writing.sound; whole = omega (arith, n) }
+pub returns-then-packs_tuple-clause-value : goal.returns-then-packs_tuple-clause-value
+returns-then-packs_tuple-clause-value g c = on_ok _ (c.packs_tuple.ensures.values c.if-packs_tuple.true)
 
 pub returns-clause-writes : goal.returns-clause-writes
-returns-clause-writes g c =
-    let forced = or_given _ (g.T.Serialize.takes_memory (settings_of c.args.se.now)) g.W.Sink.takes_memory
-    (sym c.forces_all.ensures ∙ c.if-not-forces_all.false) in
-    let rest = map_rest_none (λ x. g.T.Serialize.data_of x (settings_of c.args.se.now).human) c.args.values.now c.loop-value.value-index
-    c.loop-value-test.false in
-    part_takes g.W.Sink _ (λ _. forced) (rests_at g.W.Sink (search rules)
-    (c.end.ensures.writes c.args.se.now _ (still_tuple g.W.Sink rest c.loop-value.invariant.writing)))
-
-pub returns-clause-keeps : goal.returns-clause-keeps
-returns-clause-keeps g c = keeps_last g.W.Sink (search rules) (keeps_then g.W.Sink c.loop-value.invariant.keeps c.end.ensures.keeps)
-
-pub returns-clause-value : goal.returns-clause-value
-returns-clause-value g c = on_ok _ (subst (All g.T.Serialize.is_value) (take_all _ _ c.loop-value-test.false) c.loop-value.invariant.values)
+returns-clause-writes g c = as_tree g.W.Sink (c.packs_tuple.ensures.listed c.if-packs_tuple.false)
+    (part_takes g.W.Sink _ (or_second (forces_all (settings_of c.args.se.now).bytes) (g.T.Serialize.takes_memory (settings_of c.args.se.now))
+    g.W.Sink.takes_memory) c.put_list.ensures.writes)
