@@ -10,6 +10,7 @@ pub mod ByteParts
 pub mod ContentErrors
 pub mod Contents
 pub mod EachRefusings
+pub mod EnumRefusings
 pub mod Exactness
 pub mod FieldAccesses
 pub mod FieldRefusings
@@ -48,6 +49,7 @@ pub mod SourceReads
 pub mod Strings
 pub mod Steps
 pub mod StructRuns
+pub mod StructVariantRuns
 pub mod StructVariants
 pub mod Structs
 pub mod Texts

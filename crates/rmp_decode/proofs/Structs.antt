@@ -88,7 +88,7 @@ lawful_headed g reads reads' old mid new e h t f l = record {
   stays = l.stays;
 }
 
-has_fields : (names : List (List ℕ)) (Q : List (Option Msg) → Type 0) (m : Msg) → OfFields names Q m → HasFields m
+pub has_fields : (names : List (List ℕ)) (Q : List (Option Msg) → Type 0) (m : Msg) → OfFields names Q m → HasFields m
 has_fields names Q nil h = h
 has_fields names Q (truth t) h = h
 has_fields names Q (whole z) h = h

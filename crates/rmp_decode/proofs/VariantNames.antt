@@ -284,6 +284,19 @@ one_pair names (map (pair a b no_pairs)) n h e = let same : 1 ≡ n = cc in sym 
 one_pair names (map (pair a b (pair c d ps))) n h e = absurd h
 one_pair names (extension tag s) n h e = absurd h
 
+-- a map is no name
+map_no_name : (names : List (List ℕ)) (m : Msg) (n : ℕ) → head_of m ≡ Map n → Readable (IsPlace names) m → ⊥
+map_no_name names nil n e h = cc
+map_no_name names (truth b) n e h = cc
+map_no_name names (whole z) n e h = cc
+map_no_name names (float32 k) n e h = cc
+map_no_name names (float64 k) n e h = cc
+map_no_name names (text s) n e h = cc
+map_no_name names (bin s) n e h = cc
+map_no_name names (list ms) n e h = cc
+map_no_name names (map ps) n e h = let k = h.1 in cc
+map_no_name names (extension tag s) n e h = cc
+
 -- ---- which error
 
 -- what isn't the head of a map is a variant's as it is a name's
@@ -332,9 +345,18 @@ module _ {R C : Type 0} (g : Ghosts R) (names : List (List ℕ)) (old new : Dese
     before = h.before;
     err = λ o n k. refuses_none _ _ _ _ (h.err o n k);
     exact = λ o human lends. inl (content_none old.strict IsVariantHead other_variant (not_variant (room_of old)) _ _ _ e (h.ends o));
+    named = λ o human lends. inl (
+      content_none old.strict IsVariantHead other_variant (not_variant (room_of old)) _ _ _ e (h.ends o),
+      λ n k. refuses_none _ _ _ _ (h.err o n k),
+    );
   }
 
   module _ (p : Marker × Head) (h : ReadsHead g old new (Ok p)) where
+    no_name : (n : ℕ) → p.1 ≡ Map n → Explains e (faults_of g old) (faults_of g new)
+        (Refuses (SpellsAs old.strict) (Readable (IsPlace names)) (room_of old) (left g old))
+    no_name n i = λ _ _. refuses_head _ (Readable (IsPlace names)) (room_of old) (left g old) (left g new) h.ok.bytes p.1 h.ok.takes h.ok.is_head
+        (λ m v j. map_no_name names m n (j ∙ i) v)
+
     -- a map of another count of pairs is
     pub other_count : (n : ℕ) → p.1 ≡ Map n → (n ≡ 1 → ⊥) → e ≡ LengthMismatch n → FailsToOpenVariant g names old new e
     other_count n i f q = record {
@@ -345,6 +367,11 @@ module _ {R C : Type 0} (g : Ghosts R) (names : List (List ℕ)) (old new : Dese
           (λ m v j. f (one_pair names m n v (j ∙ i)));
       exact = λ _ human lends. inl (content_other old.strict IsVariantHead other_variant (not_variant (room_of old)) _ _ _ p.0 p.1 e h.marked
           (λ w. f (subst IsVariantHead i w)) (q ∙ ap (other_variant p.0) (sym i)));
+      named = λ _ human lends. inl (
+        content_other old.strict IsVariantHead other_variant (not_variant (room_of old)) _ _ _ p.0 p.1 e h.marked
+            (λ w. f (subst IsVariantHead i w)) (q ∙ ap (other_variant p.0) (sym i)),
+        no_name n i,
+      );
     }
 
     -- a map of one pair would nest too deep
@@ -360,6 +387,11 @@ module _ {R C : Type 0} (g : Ghosts R) (names : List (List ℕ)) (old new : Dese
           omega (arith, l, below, f));
       exact = λ _ human lends. inl (content_apart old.strict IsVariantHead other_variant (not_variant (room_of old)) _ _ _ p.0 p.1 (Map 1) e h.marked i refl
           refl (λ s. (omega (arith, l), q)));
+      named = λ _ human lends. inl (
+        content_apart old.strict IsVariantHead other_variant (not_variant (room_of old)) _ _ _ p.0 p.1 (Map 1) e h.marked i refl
+            refl (λ s. (omega (arith, l), q)),
+        no_name 1 i,
+      );
     }
 
 -- what stands there alone is no name
@@ -373,4 +405,8 @@ no_name_alone g names old mid new p e h f l x = record {
   err = λ o n k. refuses_headed old.strict (Readable (IsPlace names)) (IsVariant names) _ _ (left g mid) h.ok.bytes p.1 h.ok.takes h.ok.is_head
       (λ m i v. name_alone names m (λ k j. f k (sym i ∙ j)) v) (l.err o n k);
   exact = λ _ human lends. inl (alone_refused old.strict (room_of old) (faults_of g old) (faults_of g new) (left g old) p.0 p.1 e h.marked f x);
+  named = λ o human lends. inl (
+    alone_refused old.strict (room_of old) (faults_of g old) (faults_of g new) (left g old) p.0 p.1 e h.marked f x,
+    l.err o,
+  );
 }

@@ -32,7 +32,7 @@ use Rattle.rmp_wire.specs.declared.source.Source.{Ghosts}
 use Rattle.rmp_wire.specs.Canonical.{SpellsAs}
 use Rattle.rmp_wire.specs.Spelling.{head_of}
 use Rattle.rmp_wire.specs.Msg.{Msg, nil, truth, whole, float32, float64, text, bin, list, map, extension, Msgs, no_items, item, Pairs, no_pairs, pair, depth}
-use Rattle.rmp_decode.specs.Law.{Readable, Lawful, ReadsHead, TakesHead}
+use Rattle.rmp_decode.specs.Law.{Refuses, Readable, Explains, Lawful, ReadsHead, TakesHead}
 use Rattle.rmp_decode.specs.Maps.{OfMap, OpensMap, TakesKey, TakesValue}
 use Rattle.rmp_decode.specs.Names.{name_of}
 use Rattle.rmp_decode.specs.Parts.{TakesPart, FailsPart}
@@ -207,6 +207,23 @@ no_name_of_pair g names b old mid new p inner e h i r f x =
           refl,
           subst (λ z. RefusesName z (faults_of g old) (faults_of g new) (left g mid) e) h.stays.strict
               (subst (λ z. RefusesName mid.strict z (faults_of g new) (left g mid) e) h.sound x),
+        );
+      });
+      named = λ _ human lends. inr (record {
+        inner = max 1 inner;
+        many = 1;
+        bytes = t.bytes;
+        rest = left g mid;
+        takes = t.takes;
+        is_head = t.is_head;
+        room_of = r;
+        refused = (
+          refl,
+          subst (λ z. RefusesName z (faults_of g old) (faults_of g new) (left g mid) e) h.stays.strict
+              (subst (λ z. RefusesName mid.strict z (faults_of g new) (left g mid) e) h.sound x),
+          subst (λ z. Explains e (faults_of g old) (faults_of g new) (Refuses (SpellsAs z) (Readable (IsPlace names)) (max 1 inner) (left g mid)))
+              h.stays.strict (subst (λ z. Explains e z (faults_of g new)
+              (Refuses (SpellsAs mid.strict) (Readable (IsPlace names)) (max 1 inner) (left g mid))) h.sound f.err),
         );
       });
     }

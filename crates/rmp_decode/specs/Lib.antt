@@ -4,6 +4,7 @@ pub mod Anys
 pub mod Arrays
 pub mod Buffers
 pub mod Content
+pub mod EnumRefusing
 pub mod Exact
 pub mod FieldAccess
 pub mod FieldRefusing

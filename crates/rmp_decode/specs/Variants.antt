@@ -151,6 +151,16 @@ RefusesVariant s before after known e =
     RefusesContent s.strict IsVariantHead other_variant (not_variant s.room) before after known e
     ⊎ OpenedMap s (λ i n rest e. (n ≡ 1) × RefusesName i.strict before after rest e) known e
 
+-- none of these names stands there
+abbrev pub NoNameThere : List (List ℕ) → Setting → Refusals
+NoNameThere names s before after known e = Explains e before after (Refuses (SpellsAs s.strict) (Readable (IsPlace names)) s.room known)
+
+-- the same where a variant of these names is wanted: none of them stands there, at the front or as the key
+abbrev pub RefusesVariantOf : List (List ℕ) → Setting → Refusals
+RefusesVariantOf names s before after known e =
+    (RefusesContent s.strict IsVariantHead other_variant (not_variant s.room) before after known e × NoNameThere names s before after known e)
+    ⊎ OpenedMap s (λ i n rest e. (n ≡ 1) × RefusesName i.strict before after rest e × NoNameThere names i before after rest e) known e
+
 -- no variant could be opened
 pub record FailsToOpenVariant {R C : Type 0} (g : Ghosts R) (names : List (List ℕ)) (old new : Deserializer R C) (e : Error) : Type 0 where
   pub failed : new.failed ≡ true
@@ -158,6 +168,7 @@ pub record FailsToOpenVariant {R C : Type 0} (g : Ghosts R) (names : List (List 
   pub before : old.failed ≡ true → IsFailedBefore e × (new ≡ old)
   pub err : old.failed ≡ false → Explains e (faults_of g old) (faults_of g new) (Refuses (SpellsAs old.strict) (IsVariant names) (room_of old) (left g old))
   pub exact : old.failed ≡ false → (human lends : Bool) → RefusesVariant (setting_of human lends old) (faults_of g old) (faults_of g new) (left g old) e
+  pub named : old.failed ≡ false → (human lends : Bool) → RefusesVariantOf names (setting_of human lends old) (faults_of g old) (faults_of g new) (left g old) e
 
 -- how content is refused where nil is wanted
 abbrev pub not_unit : Marker → Head → Error
