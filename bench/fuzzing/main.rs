@@ -63,6 +63,33 @@ typed! {
     bench_skip
 }
 
+macro_rules! strict {
+    ($($name:ident as $other:ident)*) => {
+        unsafe extern "C" {
+            $(fn $name(data: *const u8, count: usize, reps: u32) -> usize;)*
+        }
+
+        /// Each reads strictly what the other call beside it reads.
+        const STRICT: &[(&str, OfBytes, OfBytes)] = &[$((stringify!($name), $name, $other)),*];
+    };
+}
+
+strict! {
+    bench_strict_buffer as bench_read_buffer
+    bench_strict_bytes as bench_read_bytes
+    bench_strict_char as bench_read_char
+    bench_strict_eight as bench_read_eight
+    bench_strict_f64 as bench_read_f64
+    bench_strict_i64 as bench_read_i64
+    bench_strict_map as bench_read_map
+    bench_strict_option as bench_read_option
+    bench_strict_shape as bench_read_shape
+    bench_strict_skip as bench_skip
+    bench_strict_text as bench_read_text
+    bench_strict_two as bench_read_two
+    bench_strict_u128 as bench_read_u128
+}
+
 /// What was answered, where it isn't what the model says.
 type Answered = Result<(), String>;
 
@@ -144,6 +171,13 @@ fn try_all(bytes: &[u8]) -> Result<Option<Refusal>, String> {
             // what is read depends on the message alone, and no beginning of its spelling is read
             same(&format!("{name}, of the canonical spelling"), read(*call, shortest, 1), once)?;
             same(&format!("{name}, cut"), read(*call, &bytes[..bytes.len() - 1], 1), 0)?;
+        }
+    }
+    for (name, strict, other) in STRICT {
+        let taken = read(*other, bytes, 1);
+        same(name, read(*strict, bytes, 1), if wanted.is_ok() { taken } else { 0 })?;
+        if let Ok(shortest) = &spelled {
+            same(&format!("{name}, of the canonical spelling"), read(*strict, shortest, 1), taken)?;
         }
     }
     if let Ok(shortest) = &spelled {

@@ -1,6 +1,7 @@
 //! The jobs, and why one isn't done.
 ghost use Rattle.std.specs.Prelude.{◌≡◌};
 
+use crate::through::{Reading, Writing};
 use std::alloc::{AllocError, AllocFailed};
 use std::io;
 use thiserror::Error;
@@ -101,6 +102,12 @@ pub enum Job {
     Check,
     /// A message is read as a value of the type, and the value is written.
     Again(Kind),
+    /// Something is read through a reader.
+    ReadThrough(Reading),
+    /// Something is written into another sink.
+    Put(Writing),
+    /// Lines are gone through as `mpcanon` does, which checks them, or not.
+    Lines(bool),
 }
 
 impl Job {
@@ -123,10 +130,25 @@ impl Job {
             "skip" => Ok((Job::Skip, count)),
             "skip-empty" => Ok((Job::SkipEmpty, count)),
             "check" => Ok((Job::Check, count)),
-            _ => match Kind::named(name) {
-                Some(kind) => Ok((Job::Again(kind), count)),
-                None => Err(Fault::NoJob),
-            },
+            _ => Ok((Job::named(name)?, count)),
+        }
+    }
+
+    // The job that a word names, of the others.
+    fn named(name: &str) -> Result<Job, Fault> {
+        if let Some(kind) = Kind::named(name) {
+            return Ok(Job::Again(kind));
+        }
+        if let Some(reading) = Reading::named(name) {
+            return Ok(Job::ReadThrough(reading));
+        }
+        if let Some(writing) = Writing::named(name) {
+            return Ok(Job::Put(writing));
+        }
+        match name {
+            "run-lines" => Ok(Job::Lines(false)),
+            "check-lines" => Ok(Job::Lines(true)),
+            _ => Err(Fault::NoJob),
         }
     }
 }

@@ -6,6 +6,7 @@
 
 mod job;
 mod jobs;
+mod through;
 
 use job::{Fault, Job};
 use std::alloc::{AllocError, Global};
@@ -57,6 +58,20 @@ fn main(rt: HostRuntime) -> Result<(), Fault> {
         Job::Again(kind) => {
             allocate(rt.alloc(), count)?;
             jobs::again_as(&rt, kind)
+        }
+        Job::ReadThrough(reading) => {
+            allocate(rt.alloc(), count)?;
+            through::read(&rt, reading)
+        }
+        Job::Put(writing) => {
+            let value = jobs::nested(rt.alloc())?;
+            let unknown = jobs::nested_unknown(rt.alloc())?;
+            allocate(rt.alloc(), count)?;
+            through::put(&rt, writing, &value, &unknown)
+        }
+        Job::Lines(checks) => {
+            allocate(rt.alloc(), count)?;
+            through::lines(&rt, checks)
         }
     }
 }
