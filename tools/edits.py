@@ -30,6 +30,8 @@ ALIKE = {
     "serialize_i8": "serialize_i64",
     "serialize_i16": "serialize_i64",
     "serialize_i32": "serialize_i64",
+    "next_field_by": "next_field",
+    "missing_field_or": "missing_field",
     "deserialize_u8": "deserialize_u16",
     "deserialize_i16": "deserialize_i8",
     "deserialize_i32": "deserialize_i8",
