@@ -1,4 +1,5 @@
 pub mod Arguments
+pub mod Blanks
 pub mod Checked
 pub mod Early
 pub mod LeafTexts

@@ -1,8 +1,10 @@
 //! Lines of hex: how the input is read, and how what each line comes to is printed.
-ghost use Rattle.std.specs.Prelude.{◌≡◌, ◌≢◌, ◌<◌, ◌⊎◌, ◌++◌, ◌∷◌, ℕ, Bool, List, [], length, false, IfOk, OnOk, IfErr, IfSome, string_bytes};
+ghost use Rattle.std.specs.Prelude.{◌≡◌, ◌≢◌, ◌<◌, ◌⊎◌, ◌++◌, ◌∷◌, ℕ, Bool, not, List, [], filter, length, false, IfOk, OnOk, IfErr, IfSome, string_bytes};
+ghost use Rattle.std.specs.Cow.{cow_slice_items};
 ghost use Rattle.std.specs.Io.KnownBytes.{Appends, Consumes};
+ghost use Rattle.std.specs.Str.Lines.{strip_carriage_return};
 ghost use Rattle.canon_lines.specs.Input.{StopsReading, ReadsInput};
-ghost use Rattle.canon_lines.specs.Lines.{lines_in, lines_left, digits_in};
+ghost use Rattle.canon_lines.specs.Lines.{lines_in, lines_left, is_blank, digits_in};
 ghost use Rattle.canon_lines.specs.Messages.{refused_text, error_name, no_hex_text};
 ghost use Rattle.canon_lines.specs.Output.{PrintsLines, PrintsRun};
 ghost use Rattle.canon_lines.specs.Prints.{line, IsStart, PrintsLine, StartsLine, PrintsAll, StartsAll, Puts};
@@ -12,6 +14,7 @@ use hex::FromHexError;
 use rmp_decode::Error;
 use rmp_serde::wire::{Sink, Source, ValueWriteError};
 use std::alloc::{AllocError, AllocFailed, Global};
+use std::borrow::CowSlice;
 use std::{fmt, io};
 
 // How many bytes of the input are pulled at a time, at most.
@@ -94,15 +97,33 @@ fn name_of(error: &Error) -> &'static str
     }
 }
 
-// The digits of a line: all but one carriage return at its end, and the spaces and tabs anywhere.
-fn digits_of(alloc: Global, line: &[u8]) -> Result<Vec<u8>, AllocError>
-    ensures digits { IfOk result (λ v. v.items ≡ digits_in line.now) }
+// A line without one carriage return at its end.
+fn without_return(line: &[u8]) -> &[u8]
+    ensures { result.now ≡ strip_carriage_return line.now }
 {
-    let line = line.strip_suffix(b"\r").unwrap_or(line);
+    line.strip_suffix(b"\r").unwrap_or(line)
+}
+
+// A copy of a line without its spaces and tabs.
+fn without_blanks(alloc: Global, line: &[u8]) -> Result<Vec<u8>, AllocError>
+    ensures { IfOk result (λ v. v.items ≡ filter (λ b. not (is_blank b)) line.now) }
+{
     line.iter()
         .copied()
         .filter(|byte| *byte != b' ' && *byte != b'\t')
         .collect(alloc)
+}
+
+// The digits of a line: all but one carriage return at its end, and the spaces and tabs anywhere. They are copied only where some of
+// these stand among them.
+fn digits_of<'a>(alloc: Global, line: &'a [u8]) -> Result<CowSlice<'a, u8, Global>, AllocError>
+    ensures digits { IfOk result (λ v. cow_slice_items v ≡ digits_in line.now) }
+{
+    let line = without_return(line);
+    if line.contains(&b' ') || line.contains(&b'\t') {
+        return Ok(CowSlice::Owned(without_blanks(alloc, line)?));
+    }
+    Ok(CowSlice::Borrowed(line))
 }
 
 // Puts bytes behind others. Where these fill their memory, it grows by an eighth, so that little of it is left unused.

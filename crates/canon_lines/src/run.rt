@@ -13,12 +13,15 @@ use rmp_serde::wire::{Sink, Source};
 use rmp_serde::{Value, to_vec};
 use std::alloc::Global;
 
+// A text has room for so many bytes from the start, so that short ones aren't moved.
+const SHORT_TEXT: usize = 128;
+
 // A message's tree and its canonical spelling in hex.
 fn text_of(alloc: Global, value: &Value) -> Result<String, RunFault>
     ensures text { IfOk result (λ text. string_bytes text ≡ message_text value.now) }
     ensures memory { IfErr result (λ fault. fault ≡ RunFault.Memory) }
 {
-    let mut text = String::new(alloc);
+    let mut text = String::with_capacity(alloc, SHORT_TEXT)?;
     write_tree(alloc, &mut text, value.root())?;
     text.push_str(" ")?;
     // What has been read nests within the writer's limit, so that only memory can be wanting.
