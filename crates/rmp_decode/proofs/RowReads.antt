@@ -80,9 +80,13 @@ row_opens g old new b n h deep s f o k = record {
 
 -- nothing was read yet
 pub row_start : {R C V : Type 0} (g : Ghosts R) (reads : Msg → V → Type 0) (start : Deserializer R C) (b : Bool) (n inner : ℕ) → start.kept ≡ Nothing
-    → inner ≡ start.room - levels b → RowSoFar g reads start b n (record start { room = inner; failed = false }) n []
-row_start g reads start b n inner k r = record
-    { read = values_start g reads (access_at start b n n) (record { sound = refl; marked = refl; clean = k }); ready = refl; room = r }
+    → inner ≡ start.room - levels b → RowSoFar g reads start b n (record start { room = inner; failed = false; kept = Nothing }) n []
+row_start g reads start b n inner k r = subst (λ z. RowSoFar g reads start b n (record start { room = inner; failed = false; kept = z }) n []) k
+    (record { read = values_start g reads (access_at start b n n) (record { sound = refl; marked = refl; clean = k }); ready = refl; room = r })
+
+-- what a read leaves is set again
+settled : {R C : Type 0} (d : Deserializer R C) → d.failed ≡ false → d.kept ≡ Nothing → record d { failed = false; kept = Nothing } ≡ d
+settled d f k = ap (λ z. record d { failed = z; kept = Nothing }) (sym f) ∙ ap (λ z. record d { kept = z }) (sym k)
 
 -- what was offered is so too as it is seen from outside
 offers_outside : {R C : Type 0} (g : Ghosts R) (room : ℕ) (now from : Deserializer R C) (b : Bool) → OffersPart g b now from
@@ -130,13 +134,15 @@ module _ {R C V : Type 0} (g : Ghosts R) (human : C → Bool) (lends : Bool) (re
           (access_at (outside start.room new) b fewer all) (outside start.room from) r.read.run.still (offers_outside g start.room now from b offers) v
           (record { count = refl; inner = refl; bytes = refl }) part_taken one refl
 
-      pub row_step : RowSoFar g (reads (human start.config) lends) start b all new fewer (vs ++ v ∷ [])
-      row_step = record {
-        read = values_step g (reads (human start.config) lends) (access_at start b all all) (access_at (outside start.room now) b still all)
-            (access_at (outside start.room new) b fewer all) vs v r.read taken refl;
-        ready = law.ready;
-        room = law.stays.room ∙ same_room;
-      }
+      pub row_step : RowSoFar g (reads (human start.config) lends) start b all (record new { failed = false; kept = Nothing }) fewer (vs ++ v ∷ [])
+      row_step =
+          let so : RowSoFar g (reads (human start.config) lends) start b all new fewer (vs ++ v ∷ []) = record {
+            read = values_step g (reads (human start.config) lends) (access_at start b all all) (access_at (outside start.room now) b still all)
+                (access_at (outside start.room new) b fewer all) vs v r.read taken refl;
+            ready = law.ready;
+            room = law.stays.room ∙ same_room;
+          } in
+          subst (λ z. RowSoFar g (reads (human start.config) lends) start b all z fewer (vs ++ v ∷ [])) (sym (settled new law.ready law.clean)) so
 
       -- memory was short for it
       pub row_short : (P : Setting → Refusals) (d : Deserializer R C) → Opens g d (access_at start b all all) → (after : ℕ)

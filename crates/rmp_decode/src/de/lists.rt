@@ -11,7 +11,7 @@ ghost use Rattle.rmp_decode.specs.declared.deserializer.Kept.TheVariants.{Nothin
 
 use crate::access::seq::inner_room;
 use crate::de::Deserialize;
-use crate::deserializer::Deserializer;
+use crate::deserializer::{Deserializer, Kept};
 use crate::error::Error;
 use core::mem::replace_with;
 use rmp_wire::config::SerializerConfig;
@@ -70,8 +70,8 @@ fn make_room<T: Drop>(items: &mut Vec<T>, left: u32) -> bool
     items.reserve(1).is_ok()
 }
 
-// Reads so many elements of a list, or numbers of bytes, from a reader that has taken the head. The room and the mark of a failure are
-// set once for all of them: each read leaves them as they are, or ends the list.
+// Reads so many elements of a list, or numbers of bytes, from a reader that has taken the head. The room is set once for all of them. What
+// each read says of the reader is set again, so that the next one needn't look.
 #[inline(always)]
 fn read_row<'de, R: ReadSlice<'de>, C: SerializerConfig, T: Deserialize<'de, R>>(
     de: &mut Deserializer<R, C>,
@@ -90,6 +90,7 @@ fn read_row<'de, R: ReadSlice<'de>, C: SerializerConfig, T: Deserialize<'de, R>>
     let outer = de.room;
     de.room = inner_room(outer, bytes);
     de.failed = false;
+    de.kept = Kept::Nothing;
     let mut left = count;
     while left > 0 {
         match de.offer_part(bytes) {
@@ -102,6 +103,8 @@ fn read_row<'de, R: ReadSlice<'de>, C: SerializerConfig, T: Deserialize<'de, R>>
         }
         match T::deserialize(de) {
             Ok(item) => {
+                de.failed = false;
+                de.kept = Kept::Nothing;
                 left -= 1;
                 match append(&mut items, item, left) {
                     Ok(()) => {}

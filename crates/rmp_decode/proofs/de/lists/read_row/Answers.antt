@@ -1,5 +1,6 @@
 use Rattle.std.proofs.Common.{◌≡◌, ◌-◌, refl, rules, arith, true, false, Bool, ℕ, List, Vec, Global}
 use Rattle.rmp_decode.specs.Seq.{levels}
+use Rattle.rmp_decode.specs.declared.deserializer.Kept.TheVariants.{Nothing}
 use Rattle.rmp_decode.proofs.RowReads.{row_start, row_step, row_short, row_refused, row_wrong, row_ended, row_cut, row_whole, row_unkept}
 use Rattle.rmp_decode.proofs.de.lists.read_row.Goals as goal
 
@@ -58,7 +59,7 @@ loop-left-preserved g c = rw c.in-Ok-append.ensures (row_step g.R.Source g.C.Ser
 
 pub returns-in-Err-append-clause-law : goal.returns-in-Err-append-clause-law
 returns-in-Err-append-clause-law g c = λ d o.
-    row_unkept g.R.Source g.C.SerializerConfig.human g.R.ReadSlice.lends g.T.Deserialize.reads c.args.de.now c.deserialize.new.de c.args.bytes c.args.count _
+    row_unkept g.R.Source g.C.SerializerConfig.human g.R.ReadSlice.lends g.T.Deserialize.reads c.args.de.now (record c.deserialize.new.de { failed = false; kept = Nothing }) c.args.bytes c.args.count _
     (λ (v : Vec g.row.T.Denot Global). v.items) d o (c.loop-left.left - 1) (row_step g.R.Source g.C.SerializerConfig.human g.R.ReadSlice.lends g.T.Deserialize.reads
     c.args.de.now c.loop-left.de c.offer_part.new.self c.deserialize.new.de c.args.bytes c.args.count c.loop-left.left c.loop-left.items.items
     c.loop-left.invariant c.loop-left-test.true c.in-Ok.ensures.stays c.in-Ok.ensures.ok c.in-Ok-deserialize.item (c.loop-left.left - 1)
@@ -66,7 +67,7 @@ returns-in-Err-append-clause-law g c = λ d o.
 
 pub returns-in-Err-append-clause-unread : goal.returns-in-Err-append-clause-unread
 returns-in-Err-append-clause-unread g c = λ d o.
-    row_unkept g.R.Source g.C.SerializerConfig.human g.R.ReadSlice.lends g.T.Deserialize.reads c.args.de.now c.deserialize.new.de c.args.bytes c.args.count _
+    row_unkept g.R.Source g.C.SerializerConfig.human g.R.ReadSlice.lends g.T.Deserialize.reads c.args.de.now (record c.deserialize.new.de { failed = false; kept = Nothing }) c.args.bytes c.args.count _
     (λ (ns : List g.row.T.Denot). ns) d o (c.loop-left.left - 1) (row_step g.R.Source g.C.SerializerConfig.human g.R.ReadSlice.lends g.T.Deserialize.reads
     c.args.de.now c.loop-left.de c.offer_part.new.self c.deserialize.new.de c.args.bytes c.args.count c.loop-left.left c.loop-left.items.items
     c.loop-left.invariant c.loop-left-test.true c.in-Ok.ensures.stays c.in-Ok.ensures.ok c.in-Ok-deserialize.item (c.loop-left.left - 1)
