@@ -7,6 +7,7 @@ pub mod BufferErrors
 pub mod Bare
 pub mod Buffers
 pub mod ByteParts
+pub mod Characters
 pub mod ContentErrors
 pub mod Contents
 pub mod EachRefusings

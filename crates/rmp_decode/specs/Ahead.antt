@@ -1,11 +1,27 @@
--- The head of a message that has nothing behind its head, which lies ahead in memory whole.
-use Rattle.std.specs.Prelude.{◌≡◌, ℕ, Bool, List}
+-- What lies ahead in memory whole: the UTF-8 of a character, and the head of a message that has nothing behind its head.
+use Rattle.std.specs.Prelude.{◌≡◌, ℕ, Bool, List, ◌++◌, length, encode_utf8}
+use Rattle.std.specs.Char.{IsScalar}
 use Rattle.rmp_wire.specs.declared.head.Head.{Head}
 use Rattle.rmp_wire.specs.declared.source.Source.{Ghosts}
+use Rattle.rmp_wire.specs.Spelling.{IsBytes}
 use Rattle.rmp_decode.specs.Fronts.{StandsIn, TakesFront}
 use Rattle.rmp_decode.specs.Kinds.{content_len}
 use Rattle.rmp_decode.specs.Skip.{parts_head}
 use Rattle.rmp_decode.specs.declared.deserializer.Deserializer.{Deserializer}
+
+-- these bytes are the UTF-8 of the character
+pub record SpellsChar (c : ℕ) (bytes : List ℕ) : Type 0 where
+  pub scalar : IsScalar c
+  pub are_bytes : IsBytes bytes
+  pub spelled : encode_utf8 c ≡ bytes
+
+-- the UTF-8 of the character, of so many bytes, stands at the front
+pub record CharLies (c len : ℕ) (front : List ℕ) : Type 0 where
+  pub bytes : List ℕ
+  pub spells : SpellsChar c bytes
+  pub long : length bytes ≡ len
+  pub behind : List ℕ
+  pub begins : front ≡ bytes ++ behind
 
 -- the head of a leaf without content
 pub record IsBareHead (h : Head) : Type 0 where

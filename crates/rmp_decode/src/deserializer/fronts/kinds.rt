@@ -307,13 +307,7 @@ pub(super) fn bare_at(front: &[u8], strict: bool) -> Option<usize>
     ensures { IfSome result (λ n. BareStandsIn strict n front.now) }
 {
     match head_at(front, strict) {
-        Some((head, len)) => {
-            if is_bare(head) {
-                Some(len)
-            } else {
-                None
-            }
-        }
+        Some((head, len)) => { if is_bare(head) { Some(len) } else { None } }
         None => None,
     }
 }
