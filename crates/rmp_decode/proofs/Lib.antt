@@ -4,7 +4,6 @@ pub mod Anything
 pub mod ArrayRefusings
 pub mod Arrays
 pub mod BufferErrors
-pub mod Bare
 pub mod Buffers
 pub mod ByteParts
 pub mod Characters
