@@ -4,9 +4,9 @@ pub mod Anything
 pub mod ArrayRefusings
 pub mod Arrays
 pub mod BufferErrors
-pub mod Bare
 pub mod Buffers
 pub mod ByteParts
+pub mod Characters
 pub mod ContentErrors
 pub mod Contents
 pub mod EachRefusings

@@ -1,25 +1,41 @@
--- The head of a message that has nothing behind its head, which lies ahead in memory whole.
-use Rattle.std.specs.Prelude.{◌≡◌, ℕ, Bool, List}
+-- What lies ahead in memory whole: the UTF-8 of a character, and the head of a leaf.
+use Rattle.std.specs.Prelude.{◌≡◌, ℕ, Bool, List, ◌++◌, length, encode_utf8}
+use Rattle.std.specs.Char.{IsScalar}
 use Rattle.rmp_wire.specs.declared.head.Head.{Head}
 use Rattle.rmp_wire.specs.declared.source.Source.{Ghosts}
+use Rattle.rmp_wire.specs.Spelling.{IsBytes}
 use Rattle.rmp_decode.specs.Fronts.{StandsIn, TakesFront}
 use Rattle.rmp_decode.specs.Kinds.{content_len}
 use Rattle.rmp_decode.specs.Skip.{parts_head}
 use Rattle.rmp_decode.specs.declared.deserializer.Deserializer.{Deserializer}
 
--- the head of a leaf without content
-pub record IsBareHead (h : Head) : Type 0 where
+-- these bytes are the UTF-8 of the character
+pub record SpellsChar (c : ℕ) (bytes : List ℕ) : Type 0 where
+  pub scalar : IsScalar c
+  pub are_bytes : IsBytes bytes
+  pub spelled : encode_utf8 c ≡ bytes
+
+-- the UTF-8 of the character, of so many bytes, stands at the front
+pub record CharLies (c len : ℕ) (front : List ℕ) : Type 0 where
+  pub bytes : List ℕ
+  pub spells : SpellsChar c bytes
+  pub long : length bytes ≡ len
+  pub behind : List ℕ
+  pub begins : front ≡ bytes ++ behind
+
+-- the head of a leaf, with so many bytes of content behind it
+pub record IsLeafHead (h : Head) (len : ℕ) : Type 0 where
   pub leaf : (p : Bool × ℕ) → h ≡ parts_head p.0 p.1 → ⊥
-  pub bare : content_len h ≡ 0
+  pub long : content_len h ≡ len
 
 -- such a head, of n bytes, stands at the front
-pub record BareStandsIn (strict : Bool) (n : ℕ) (xs : List ℕ) : Type 0 where
+pub record LeafStandsIn (strict : Bool) (n len : ℕ) (xs : List ℕ) : Type 0 where
   pub head : Head
   pub stands : StandsIn strict n head xs
-  pub bare : IsBareHead head
+  pub is_leaf : IsLeafHead head len
 
 -- such a head was taken
-pub record TakesBare {R C : Type 0} (g : Ghosts R) (old new : Deserializer R C) : Type 0 where
+pub record TakesLeaf {R C : Type 0} (g : Ghosts R) (len : ℕ) (old new : Deserializer R C) : Type 0 where
   pub head : Head
   pub taken : TakesFront g head old new
-  pub bare : IsBareHead head
+  pub is_leaf : IsLeafHead head len

@@ -13,6 +13,7 @@ ghost use Rattle.rmp_decode.specs.Steps.{Appends};
 ghost use Rattle.rmp_decode.specs.VariantNames.{TakesName, StartsWithNoName, unknown_name};
 
 mod buffers;
+mod chars;
 mod ext;
 pub(crate) mod pieces;
 mod strings;

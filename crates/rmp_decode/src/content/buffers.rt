@@ -13,7 +13,7 @@ ghost use Rattle.rmp_decode.specs.State.{left, faults_of, is_failed, kept_of, is
 ghost use Rattle.rmp_decode.specs.declared.deserializer.Kept.TheVariants.{Nothing};
 
 use crate::access::seq::SeqAccess;
-use crate::content::pieces::owned;
+use crate::content::pieces::{error_of, owned};
 use crate::deserializer::Deserializer;
 use crate::deserializer::kinds::raw_in;
 use crate::error::Error;
@@ -61,13 +61,16 @@ impl<R: Source, C: SerializerConfig> Deserializer<R, C> {
         ensures law { AfterHead R.Source (λ m v. IsBuffer m v.items) (Head.Bin len) self.old self.new result }
         ensures exact { IfErr result (RefusesBehind R.Source IsBufferHead not_raw not_buffer (Head.Bin len) self.old self.new) }
     {
-        match owned(self.alloc, &mut self.reader, len as usize) {
-            Ok(bytes) => {
-                self.failed = false;
-                Ok(bytes)
-            }
-            Err(e) => Err(e),
-        }
+        let piece = match self.reader.read_slice(len as usize) {
+            Ok(piece) => piece,
+            Err(e) => return Err(error_of(e)),
+        };
+        let bytes = match Vec::from_slice(self.alloc, piece.as_bytes()) {
+            Ok(bytes) => bytes,
+            Err(_) => return Err(Error::OutOfMemory),
+        };
+        self.failed = false;
+        Ok(bytes)
     }
 
     // The same as `deserialize_byte_buf` by way of `head`, by a call.

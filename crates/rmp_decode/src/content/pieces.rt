@@ -123,7 +123,8 @@ fn char_of(bytes: &[u8]) -> Result<char, Error>
     }
 }
 
-// The next bytes, as one character.
+// The next bytes, as one character, by a call.
+#[inline(never)]
 pub(crate) fn next_char<'de, R: ReadSlice<'de>>(reader: &mut R, len: usize) -> Result<char, Error>
     ensures ok { IfOk result (λ c. IsScalar c × (length (encode_utf8 c) ≡ len) × IsBytes (encode_utf8 c)
         × Consumes (R.ahead reader.old) (R.ahead reader.new) (encode_utf8 c)) }

@@ -8,6 +8,8 @@ ghost use Rattle.rmp_decode.specs.Law.{Lawful};
 ghost use Rattle.rmp_decode.specs.Kinds.{raw_msg};
 ghost use Rattle.rmp_decode.specs.Read.{IsRaw, IsString, IsChar};
 
+use crate::content::Slices;
+use crate::content::chars::{apart_char, char_taken};
 use crate::content::pieces::{lent_content, next_char, owned};
 use crate::deserializer::Deserializer;
 use crate::deserializer::kinds::{raw_in, text_in};
@@ -106,7 +108,7 @@ impl<R: Source, C: SerializerConfig> Deserializer<R, C> {
     {
         match self.text_front() {
             Some(len) => self.char_behind(len),
-            None => self.headed_char(),
+            None => apart_char::<R, C, Slices<'de>>(self),
         }
     }
 
@@ -119,7 +121,7 @@ impl<R: Source, C: SerializerConfig> Deserializer<R, C> {
         ensures exact { IfErr result (RefusesBehind R.Source IsTextHead not_raw not_char (Head.Text len) self.old self.new) }
         ensures memory { R.lends ≡ true → IfErr result (λ e. e ≢ Error.OutOfMemory) }
     {
-        match next_char(&mut self.reader, len as usize) {
+        match char_taken::<R, Slices<'de>>(&mut self.reader, len) {
             Ok(c) => {
                 self.failed = false;
                 Ok(c)
@@ -130,7 +132,7 @@ impl<R: Source, C: SerializerConfig> Deserializer<R, C> {
 
     // The same as `deserialize_char` by way of `head`, by a call.
     #[inline(never)]
-    fn headed_char<'de>(&mut self) -> Result<char, Error>
+    pub(crate) fn headed_char<'de>(&mut self) -> Result<char, Error>
     where
         R: ReadSlice<'de>,
         ensures law { Lawful R.Source IsChar self.old self.new result }

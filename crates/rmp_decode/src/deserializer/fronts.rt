@@ -1,6 +1,6 @@
 //! Heads that lie in memory whole, read where they lie.
 ghost use Rattle.std.specs.Prelude.{◌≡◌, ◌<◌, ◌≤◌, ◌≤ℤ◌, pos, true, false, Bool, IfSome, IfNone, IfOk, IfErr};
-ghost use Rattle.rmp_decode.specs.Ahead.{TakesBare};
+ghost use Rattle.rmp_decode.specs.Ahead.{TakesLeaf};
 ghost use Rattle.rmp_decode.specs.Fronts.{StandsIn, TakesFront};
 ghost use Rattle.rmp_decode.specs.Law.{ReadsHead};
 ghost use Rattle.rmp_decode.specs.State.{is_failed, is_strict, kept_of};
@@ -9,7 +9,7 @@ ghost use Rattle.rmp_decode.specs.declared.deserializer.Kept.TheVariants.{Nothin
 mod kinds;
 
 use crate::deserializer::fronts::kinds::{
-    bare_at, bin_at, f32_at, f64_at, head_at, signed_at, sixteen_at, truth_at,
+    bin_at, f32_at, f64_at, head_at, leaf_at, signed_at, sixteen_at, truth_at,
 };
 use crate::deserializer::{Deserializer, Kept};
 use crate::error::Error;
@@ -444,26 +444,26 @@ impl<R: Source, C: SerializerConfig> Deserializer<R, C> {
         }
     }
 
-    // Takes the head of a leaf without content where it lies in memory whole, and leaves this failed until it is answered. Else nothing
-    // is taken.
+    // Takes the head of a leaf of any kind but an extension where it lies in memory whole, and leaves this failed until its content is
+    // taken, so many bytes. Else nothing is taken.
     #[inline(always)]
-    pub(crate) fn bare_front(&mut self) -> bool
-        ensures taken { result ≡ true → TakesBare R.Source self.old self.new }
-        ensures kept { result ≡ false → self.new ≡ self.old }
+    pub(crate) fn leaf_front(&mut self) -> Option<u32>
+        ensures taken { IfSome result (λ n. TakesLeaf R.Source n self.old self.new) }
+        ensures kept { IfNone result (self.new ≡ self.old) }
     {
         if !self.begins_ahead() {
-            return false;
+            return None;
         }
-        match bare_at(self.reader.front(), self.strict) {
-            Some(len) => {
+        match leaf_at(self.reader.front(), self.strict) {
+            Some((n, len)) => {
                 if self.reader.skip(len) {
                     self.failed = true;
-                    true
+                    Some(n)
                 } else {
-                    false
+                    None
                 }
             }
-            None => false,
+            None => None,
         }
     }
 

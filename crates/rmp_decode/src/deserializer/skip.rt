@@ -1,10 +1,12 @@
 //! Messages that are passed over.
-ghost use Rattle.std.specs.Prelude.{◌≡◌, ◌-◌, ◌<◌, true, IfErr, IfSome};
-ghost use Rattle.rmp_decode.specs.Ahead.{IsBareHead};
+ghost use Rattle.std.specs.Prelude.{◌≡◌, ◌≢◌, ◌-◌, ◌<◌, true, OnOk, IfErr, IfSome};
+ghost use Rattle.rmp_wire.specs.Sources.{IsShort};
+ghost use Rattle.rmp_decode.specs.Ahead.{IsLeafHead};
+ghost use Rattle.rmp_decode.specs.Exact.{IsDataEnd};
 ghost use Rattle.rmp_decode.specs.Kinds.{Finds, content_len};
-ghost use Rattle.rmp_decode.specs.Law.{Lawful};
+ghost use Rattle.rmp_decode.specs.Law.{Explains, Lawful};
 ghost use Rattle.rmp_decode.specs.Refuse.{UnpassedFor, OpensSome, RefusesFirst, RefusesRowFirst};
-ghost use Rattle.rmp_decode.specs.Skip.{parts_head, SkipsRow, any_tree, any_row, parts_count};
+ghost use Rattle.rmp_decode.specs.Skip.{Passes, parts_head, SkipsRow, any_tree, any_row, parts_count};
 ghost use Rattle.rmp_decode.specs.State.{is_failed, is_strict, kept_of, left, room_of};
 ghost use Rattle.rmp_decode.specs.declared.deserializer.Kept.TheVariants.{Nothing};
 
@@ -37,14 +39,14 @@ fn content_in(head: Head) -> u32
     }
 }
 
-// Whether it is the head of a leaf without content.
+// How many bytes of content follow, if it is the head of a leaf.
 #[inline(always)]
-pub(crate) fn is_bare(head: Head) -> bool
-    ensures { result ≡ true → IsBareHead head }
+pub(crate) fn leaf_in(head: Head) -> Option<u32>
+    ensures { IfSome result (IsLeafHead head) }
 {
     match parts_in(head) {
-        Some(_) => false,
-        None => content_in(head) == 0,
+        Some(_) => None,
+        None => Some(content_in(head)),
     }
 }
 
@@ -59,6 +61,19 @@ fn messages(is_map: bool, n: u32) -> u64
     } else {
         u64::from(n)
     }
+}
+
+// Passes over the content of a leaf, of so many bytes.
+#[inline(always)]
+fn pass_behind<R: Source, P: ReadContent<R>>(reader: &mut R, len: u32) -> Result<(), Error>
+    ensures ok { OnOk result (Passes len (R.ahead reader.old) (R.ahead reader.new)) }
+    ensures sound { OnOk result (R.faults reader.new ≡ R.faults reader.old) }
+    ensures err { IfErr result (λ e. Explains e (R.faults reader.old) (R.faults reader.new) (IsShort len (R.ahead reader.old))) }
+    ensures end { IfErr result (λ e. Explains e (R.faults reader.old) (R.faults reader.new) (IsDataEnd e)) }
+    ensures memory { P.lends ≡ true → IfErr result (λ e. e ≢ Error.OutOfMemory) }
+    ensures place { R.place reader.new ≡ R.place reader.old }
+{
+    P::pass(reader, len as usize)
 }
 
 // Passes over one message.
@@ -119,8 +134,12 @@ fn skip_parts<R: Source, C: SerializerConfig, P: ReadContent<R>>(
         } else {
             wanted -= 1;
             de.failed = false;
-            if de.bare_front() {
-                continue;
+            match de.leaf_front() {
+                Some(len) => match pass_behind::<R, P>(&mut de.reader, len) {
+                    Ok(()) => continue,
+                    Err(e) => return Err(e),
+                },
+                None => {}
             }
             match de.any_head() {
                 Ok(head) => match parts_in(head) {

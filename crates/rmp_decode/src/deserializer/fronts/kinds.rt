@@ -1,10 +1,10 @@
 //! Heads of any kind but an extension that lie in memory whole.
 ghost use Rattle.std.specs.Prelude.{◌≡◌, ◌<ℤ◌, Bool, true, false, IfSome};
-ghost use Rattle.rmp_decode.specs.Ahead.{BareStandsIn};
+ghost use Rattle.rmp_decode.specs.Ahead.{LeafStandsIn};
 ghost use Rattle.rmp_decode.specs.Fronts.{StandsIn};
 
 use crate::deserializer::fronts::unsigned_at;
-use crate::deserializer::skip::is_bare;
+use crate::deserializer::skip::leaf_in;
 use rmp_wire::{Head, Marker, is_canonical};
 
 // A head of one byte that isn't a number's.
@@ -287,12 +287,12 @@ fn bin_in(head: Head) -> Option<u32>
     }
 }
 
-// A head of bytes that may be read: the count of the bytes, and of the head's.
+// A head of bytes, of any width: the count of the bytes, and of the head's.
 #[inline(always)]
-pub(super) fn bin_at(front: &[u8], strict: bool) -> Option<(u32, usize)>
-    ensures { IfSome result (λ p. StandsIn strict p.1 (Head.Bin p.0) front.now) }
+fn any_bin_at(front: &[u8]) -> Option<(u32, usize)>
+    ensures { IfSome result (λ p. StandsIn false p.1 (Head.Bin p.0) front.now) }
 {
-    match head_at(front, strict) {
+    match bytes_at(front) {
         Some((head, len)) => match bin_in(head) {
             Some(n) => Some((n, len)),
             None => None,
@@ -301,19 +301,42 @@ pub(super) fn bin_at(front: &[u8], strict: bool) -> Option<(u32, usize)>
     }
 }
 
-// A head of a leaf without content that may be read: the count of its bytes.
+// The same of a canonical head.
 #[inline(always)]
-pub(super) fn bare_at(front: &[u8], strict: bool) -> Option<usize>
-    ensures { IfSome result (λ n. BareStandsIn strict n front.now) }
+fn canonical_bin_at(front: &[u8]) -> Option<(u32, usize)>
+    ensures { IfSome result (λ p. StandsIn true p.1 (Head.Bin p.0) front.now) }
+{
+    match canonical_at(front) {
+        Some((head, len)) => match bin_in(head) {
+            Some(n) => Some((n, len)),
+            None => None,
+        },
+        None => None,
+    }
+}
+
+// The same of a head that may be read.
+#[inline(always)]
+pub(super) fn bin_at(front: &[u8], strict: bool) -> Option<(u32, usize)>
+    ensures { IfSome result (λ p. StandsIn strict p.1 (Head.Bin p.0) front.now) }
+{
+    if strict {
+        canonical_bin_at(front)
+    } else {
+        any_bin_at(front)
+    }
+}
+
+// A head of a leaf that may be read, of any kind but an extension: how many bytes of content follow, and the count of its own.
+#[inline(always)]
+pub(super) fn leaf_at(front: &[u8], strict: bool) -> Option<(u32, usize)>
+    ensures { IfSome result (λ p. LeafStandsIn strict p.1 p.0 front.now) }
 {
     match head_at(front, strict) {
-        Some((head, len)) => {
-            if is_bare(head) {
-                Some(len)
-            } else {
-                None
-            }
-        }
+        Some((head, len)) => match leaf_in(head) {
+            Some(n) => Some((n, len)),
+            None => None,
+        },
         None => None,
     }
 }

@@ -1,4 +1,4 @@
-use Rattle.std.proofs.Common.{subst, refl, arith}
+use Rattle.std.proofs.Common.{sym, subst, refl, arith}
 use Rattle.rmp_wire.specs.Sources.{IsShort}
 use Rattle.rmp_decode.specs.Skip.{Passes}
 use Rattle.rmp_decode.proofs.SkipLoop.{
@@ -18,8 +18,6 @@ use Rattle.rmp_decode.proofs.SkipLoop.{
   none_refused,
   none_wrong,
 }
-use Rattle.rmp_decode.proofs.Bare.{nothing_passed}
-use Rattle.rmp_decode.proofs.Laws.{stays_refl}
 use Rattle.rmp_decode.proofs.Skipping.{no_room}
 use Rattle.rmp_decode.proofs.deserializer.skip.skip_parts.Goals as goal
 
@@ -36,17 +34,17 @@ returns-in-None-clause-law g c = wants_none g.R.Source g.P.ReadContent.lends c.a
 
 pub returns-then-room-le1-clause-law : goal.returns-then-room-le1-clause-law
 returns-then-room-le1-clause-law g c = deep_refused g.R.Source g.P.ReadContent.lends c.args.count c.args.de.now c.parts.de c.parts.room c.parts.wanted
-    c.parts.outer.items c.parts.invariant _ c.any_head.new.self (c.bare_front.ensures.kept c.if-bare_front.false) (omega (arith, c.if-wanted-eq0.false)) _ c.in-Ok.ensures.ok.begun
+    c.parts.outer.items c.parts.invariant _ c.any_head.new.self c.in-None-leaf_front.ensures.kept (omega (arith, c.if-wanted-eq0.false)) _ c.in-Ok-any_head.ensures.ok.begun
     c.in-Some-parts_in.is_map c.in-Some-parts_in.n _ c.in-Some-parts_in.ensures c.if-room-le1.true
 
 pub returns-then-room-le1-clause-exact : goal.returns-then-room-le1-clause-exact
 returns-then-room-le1-clause-exact g c = λ _. deep_wrong g.R.Source g.P.ReadContent.lends c.args.count c.args.de.now c.parts.de c.parts.room c.parts.wanted
-    c.parts.outer.items c.parts.invariant _ c.any_head.new.self (c.bare_front.ensures.kept c.if-bare_front.false) (omega (arith, c.if-wanted-eq0.false)) _ c.in-Ok.ensures.ok.begun
+    c.parts.outer.items c.parts.invariant _ c.any_head.new.self c.in-None-leaf_front.ensures.kept (omega (arith, c.if-wanted-eq0.false)) _ c.in-Ok-any_head.ensures.ok.begun
     c.in-Some-parts_in.is_map c.in-Some-parts_in.n c.in-Some-parts_in.ensures c.if-room-le1.true
 
 pub returns-in-Err-push-clause-exact : goal.returns-in-Err-push-clause-exact
 returns-in-Err-push-clause-exact g c = λ _. memory_wrong g.R.Source g.P.ReadContent.lends c.args.count c.args.de.now c.parts.de c.parts.room c.parts.wanted
-    c.parts.outer.items c.parts.invariant _ c.any_head.new.self (c.bare_front.ensures.kept c.if-bare_front.false) (omega (arith, c.if-wanted-eq0.false)) _ c.in-Ok.ensures.ok.begun
+    c.parts.outer.items c.parts.invariant _ c.any_head.new.self c.in-None-leaf_front.ensures.kept (omega (arith, c.if-wanted-eq0.false)) _ c.in-Ok-any_head.ensures.ok.begun
     c.in-Some-parts_in.is_map c.in-Some-parts_in.n c.in-Some-parts_in.ensures (omega (arith, c.if-inner-gt0.true, c.messages-inner.ensures.same))
 
 pub parts-smaller-then-inner-gt0 : goal.parts-smaller-then-inner-gt0
@@ -55,7 +53,7 @@ parts-smaller-then-inner-gt0 g c = falls_in c.parts.room c.parts.wanted _ _ _ c.
 
 pub parts-preserved-then-inner-gt0 : goal.parts-preserved-then-inner-gt0
 parts-preserved-then-inner-gt0 g c = wants_in g.R.Source g.P.ReadContent.lends c.args.count c.args.de.now c.parts.de c.parts.room c.parts.wanted
-    c.parts.outer.items c.parts.invariant _ c.any_head.new.self (c.bare_front.ensures.kept c.if-bare_front.false) (omega (arith, c.if-wanted-eq0.false)) _ c.in-Ok.ensures.ok.begun
+    c.parts.outer.items c.parts.invariant _ c.any_head.new.self c.in-None-leaf_front.ensures.kept (omega (arith, c.if-wanted-eq0.false)) _ c.in-Ok-any_head.ensures.ok.begun
     c.in-Some-parts_in.is_map c.in-Some-parts_in.n _ _ _ _ refl refl c.in-Some-parts_in.ensures c.messages-inner.ensures.same c.in-Ok-push.ensures.items
     (omega (arith, c.if-room-le1.false))
 
@@ -64,7 +62,7 @@ parts-smaller-else-inner-gt0 g c = falls_leaf c.parts.room c.parts.wanted _ c.pa
 
 pub parts-preserved-else-inner-gt0 : goal.parts-preserved-else-inner-gt0
 parts-preserved-else-inner-gt0 g c = wants_empty g.R.Source g.P.ReadContent.lends c.args.count c.args.de.now c.parts.de c.parts.room c.parts.wanted
-    c.parts.outer.items c.parts.invariant _ c.any_head.new.self (c.bare_front.ensures.kept c.if-bare_front.false) (omega (arith, c.if-wanted-eq0.false)) _ c.in-Ok.ensures.ok.begun
+    c.parts.outer.items c.parts.invariant _ c.any_head.new.self c.in-None-leaf_front.ensures.kept (omega (arith, c.if-wanted-eq0.false)) _ c.in-Ok-any_head.ensures.ok.begun
     c.in-Some-parts_in.is_map c.in-Some-parts_in.n _ refl c.in-Some-parts_in.ensures (omega (arith, c.if-inner-gt0.false, c.messages-inner.ensures.same))
     (omega (arith, c.if-room-le1.false))
 
@@ -75,7 +73,7 @@ pub parts-preserved : goal.parts-preserved
 parts-preserved g c =
     let o = c.in-Ok-pass.ensures in
     wants_leaf g.R.Source g.P.ReadContent.lends c.args.count c.args.de.now c.parts.de c.parts.room c.parts.wanted c.parts.outer.items c.parts.invariant _
-    c.any_head.new.self (c.bare_front.ensures.kept c.if-bare_front.false) (omega (arith, c.if-wanted-eq0.false)) _ c.in-Ok.ensures.ok.begun _ _ refl c.in-None-parts_in.ensures
+    c.any_head.new.self c.in-None-leaf_front.ensures.kept (omega (arith, c.if-wanted-eq0.false)) _ c.in-Ok-any_head.ensures.ok.begun _ _ refl c.in-None-parts_in.ensures
     (subst (λ z. Passes z (g.R.Source.ahead c.any_head.new.self.reader) (g.R.Source.ahead c.pass.new.reader)) c.content_in.ensures o.ok) refl refl
     o.sound (record { config = refl; room = refl; limit = refl; strict = refl; place = o.place })
 
@@ -83,7 +81,7 @@ pub returns-in-Err-pass-clause-law : goal.returns-in-Err-pass-clause-law
 returns-in-Err-pass-clause-law g c =
     let o = c.in-Err-pass.ensures in
     leaf_refused g.R.Source g.P.ReadContent.lends c.args.count c.args.de.now c.parts.de c.parts.room c.parts.wanted c.parts.outer.items c.parts.invariant _
-    c.any_head.new.self (c.bare_front.ensures.kept c.if-bare_front.false) (omega (arith, c.if-wanted-eq0.false)) _ c.in-Ok.ensures.ok.begun _ c.in-Err-pass.e
+    c.any_head.new.self c.in-None-leaf_front.ensures.kept (omega (arith, c.if-wanted-eq0.false)) _ c.in-Ok-any_head.ensures.ok.begun _ c.in-Err-pass.e
     (λ n k. subst (λ z. IsShort z (g.R.Source.ahead c.any_head.new.self.reader)) c.content_in.ensures (o.err n k)) refl
     (record { config = refl; room = refl; limit = refl; strict = refl; place = o.place })
 
@@ -91,24 +89,46 @@ pub returns-in-Err-pass-clause-exact : goal.returns-in-Err-pass-clause-exact
 returns-in-Err-pass-clause-exact g c = λ _.
     let o = c.in-Err-pass.ensures in
     leaf_wrong g.R.Source g.P.ReadContent.lends c.args.count c.args.de.now c.parts.de c.parts.room c.parts.wanted c.parts.outer.items c.parts.invariant _
-    c.any_head.new.self (c.bare_front.ensures.kept c.if-bare_front.false) (omega (arith, c.if-wanted-eq0.false)) _ c.in-Ok.ensures.ok.begun
+    c.any_head.new.self c.in-None-leaf_front.ensures.kept (omega (arith, c.if-wanted-eq0.false)) _ c.in-Ok-any_head.ensures.ok.begun
     (record c.any_head.new.self { reader = c.pass.new.reader }) c.in-Err-pass.e o.memory c.in-None-parts_in.ensures
     (λ n k. subst (λ z. IsShort z (g.R.Source.ahead c.any_head.new.self.reader)) c.content_in.ensures (o.err n k)) o.end
 
+pub returns-in-Err-any_head-clause-law : goal.returns-in-Err-any_head-clause-law
+returns-in-Err-any_head-clause-law g c = none_refused g.R.Source g.P.ReadContent.lends c.args.count c.args.de.now c.parts.de c.parts.room c.parts.wanted
+    c.parts.outer.items c.parts.invariant _ c.any_head.new.self _ c.in-None-leaf_front.ensures.kept (omega (arith, c.if-wanted-eq0.false)) c.in-Err-any_head.ensures.err
+
+pub returns-in-Err-any_head-clause-exact : goal.returns-in-Err-any_head-clause-exact
+returns-in-Err-any_head-clause-exact g c = λ _. none_wrong g.R.Source g.P.ReadContent.lends c.args.count c.args.de.now c.parts.de c.parts.room c.parts.wanted
+    c.parts.outer.items c.parts.invariant _ c.any_head.new.self _ c.in-None-leaf_front.ensures.kept (omega (arith, c.if-wanted-eq0.false)) c.in-Err-any_head.ensures.err
+
+-- ---- a leaf whose head lies ahead
+
+pub parts-smaller-in-Ok : goal.parts-smaller-in-Ok
+parts-smaller-in-Ok g c = falls_leaf c.parts.room c.parts.wanted _ c.parts.outer.items (omega (arith, c.if-wanted-eq0.false)) refl
+
+pub parts-preserved-in-Ok : goal.parts-preserved-in-Ok
+parts-preserved-in-Ok g c =
+    let o = c.in-Ok.ensures in
+    let t = c.in-Some-leaf_front.ensures.taken in
+    wants_leaf g.R.Source g.P.ReadContent.lends c.args.count c.args.de.now c.parts.de c.parts.room c.parts.wanted c.parts.outer.items c.parts.invariant _
+    c.leaf_front.new.self refl (omega (arith, c.if-wanted-eq0.false)) (t.taken.marker, t.head) t.taken.begun _ _ refl t.is_leaf.leaf
+    (subst (λ z. Passes z (g.R.Source.ahead c.leaf_front.new.self.reader) (g.R.Source.ahead c.pass_behind.new.reader)) (sym t.is_leaf.long) o.ok) refl refl
+    o.sound (record { config = refl; room = refl; limit = refl; strict = refl; place = o.place })
+
 pub returns-in-Err-clause-law : goal.returns-in-Err-clause-law
-returns-in-Err-clause-law g c = none_refused g.R.Source g.P.ReadContent.lends c.args.count c.args.de.now c.parts.de c.parts.room c.parts.wanted
-    c.parts.outer.items c.parts.invariant _ c.any_head.new.self _ (c.bare_front.ensures.kept c.if-bare_front.false) (omega (arith, c.if-wanted-eq0.false)) c.in-Err.ensures.err
+returns-in-Err-clause-law g c =
+    let o = c.in-Err.ensures in
+    let t = c.in-Some-leaf_front.ensures.taken in
+    leaf_refused g.R.Source g.P.ReadContent.lends c.args.count c.args.de.now c.parts.de c.parts.room c.parts.wanted c.parts.outer.items c.parts.invariant _
+    c.leaf_front.new.self refl (omega (arith, c.if-wanted-eq0.false)) (t.taken.marker, t.head) t.taken.begun _ c.in-Err.e
+    (λ n k. subst (λ z. IsShort z (g.R.Source.ahead c.leaf_front.new.self.reader)) (sym t.is_leaf.long) (o.err n k)) refl
+    (record { config = refl; room = refl; limit = refl; strict = refl; place = o.place })
 
 pub returns-in-Err-clause-exact : goal.returns-in-Err-clause-exact
-returns-in-Err-clause-exact g c = λ _. none_wrong g.R.Source g.P.ReadContent.lends c.args.count c.args.de.now c.parts.de c.parts.room c.parts.wanted
-    c.parts.outer.items c.parts.invariant _ c.any_head.new.self _ (c.bare_front.ensures.kept c.if-bare_front.false) (omega (arith, c.if-wanted-eq0.false)) c.in-Err.ensures.err
-
-pub parts-smaller-then-bare_front : goal.parts-smaller-then-bare_front
-parts-smaller-then-bare_front g c = falls_leaf c.parts.room c.parts.wanted _ c.parts.outer.items (omega (arith, c.if-wanted-eq0.false)) refl
-
-pub parts-preserved-then-bare_front : goal.parts-preserved-then-bare_front
-parts-preserved-then-bare_front g c =
-    let t = c.bare_front.ensures.taken c.if-bare_front.true in
-    wants_leaf g.R.Source g.P.ReadContent.lends c.args.count c.args.de.now c.parts.de c.parts.room c.parts.wanted c.parts.outer.items c.parts.invariant _
-    c.bare_front.new.self refl (omega (arith, c.if-wanted-eq0.false)) (t.taken.marker, t.head) t.taken.begun c.bare_front.new.self _ refl t.bare.leaf
-    (nothing_passed _ _ t.bare.bare) refl refl refl (stays_refl g.R.Source c.bare_front.new.self)
+returns-in-Err-clause-exact g c = λ _.
+    let o = c.in-Err.ensures in
+    let t = c.in-Some-leaf_front.ensures.taken in
+    leaf_wrong g.R.Source g.P.ReadContent.lends c.args.count c.args.de.now c.parts.de c.parts.room c.parts.wanted c.parts.outer.items c.parts.invariant _
+    c.leaf_front.new.self refl (omega (arith, c.if-wanted-eq0.false)) (t.taken.marker, t.head) t.taken.begun
+    (record c.leaf_front.new.self { reader = c.pass_behind.new.reader }) c.in-Err.e o.memory t.is_leaf.leaf
+    (λ n k. subst (λ z. IsShort z (g.R.Source.ahead c.leaf_front.new.self.reader)) (sym t.is_leaf.long) (o.err n k)) o.end

@@ -1,0 +1,6 @@
+use Rattle.std.proofs.Common.{arith}
+use Rattle.rmp_decode.proofs.Characters.{char_2}
+use Rattle.rmp_decode.proofs.content.chars.coded_2.Goals as goal
+
+pub returns : goal.returns
+returns c = char_2 c.from_u32.result c.args.code c.args.a c.args.b c.from_u32.ensures.value (omega arith) (omega arith) (omega arith) (omega arith)

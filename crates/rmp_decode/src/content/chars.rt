@@ -1,0 +1,253 @@
+//! Characters, decoded where they lie.
+ghost use Rattle.std.specs.Prelude.{◌≡◌, ◌≢◌, ◌∷◌, [], Bool, true, IfSome, IfNone, IfOk, IfErr, OnOk, length, encode_utf8};
+ghost use Rattle.std.specs.Char.{IsScalar};
+ghost use Rattle.std.specs.Io.KnownBytes.{Consumes};
+ghost use Rattle.rmp_wire.specs.Spelling.{IsBytes};
+ghost use Rattle.rmp_decode.specs.Ahead.{CharLies, SpellsChar};
+ghost use Rattle.rmp_decode.specs.Content.{IsTextHead, RefusesLeaf, not_char, not_raw};
+ghost use Rattle.rmp_decode.specs.Law.{Explains, Lawful};
+ghost use Rattle.rmp_decode.specs.Pieces.{RefusesPiece, StartsWithNoChar};
+ghost use Rattle.rmp_decode.specs.Read.{IsChar};
+
+use crate::content::Slices;
+use crate::content::pieces::next_char;
+use crate::deserializer::Deserializer;
+use crate::error::Error;
+use core::mem::replace_with;
+use rmp_wire::config::SerializerConfig;
+use rmp_wire::{Head, ReadSlice, Source};
+
+// The character of that code, if these two bytes are its UTF-8.
+#[inline(always)]
+fn coded_2(code: u32, a: u8, b: u8) -> Option<char>
+    ensures { IfSome result (λ c. SpellsChar c (a ∷ b ∷ [])) }
+{
+    if code < 0x80 || code > 0x7ff {
+        return None;
+    }
+    if a as u32 != 0xc0 + code / 0x40 || b as u32 != 0x80 + code % 0x40 {
+        return None;
+    }
+    char::from_u32(code)
+}
+
+// The character of two bytes, if they are one's.
+#[inline(always)]
+fn char_of_2(a: u8, b: u8) -> Option<char>
+    ensures { IfSome result (λ c. SpellsChar c (a ∷ b ∷ [])) }
+{
+    coded_2(a as u32 % 0x20 * 0x40 + b as u32 % 0x40, a, b)
+}
+
+// The character of that code, if these three bytes are its UTF-8.
+#[inline(always)]
+fn coded_3(code: u32, a: u8, b: u8, d: u8) -> Option<char>
+    ensures { IfSome result (λ c. SpellsChar c (a ∷ b ∷ d ∷ [])) }
+{
+    if code < 0x800 || code > 0xffff {
+        return None;
+    }
+    if a as u32 != 0xe0 + code / 0x1000 || b as u32 != 0x80 + code / 0x40 % 0x40 {
+        return None;
+    }
+    if d as u32 != 0x80 + code % 0x40 {
+        return None;
+    }
+    char::from_u32(code)
+}
+
+// The character of three bytes, if they are one's.
+#[inline(always)]
+fn char_of_3(a: u8, b: u8, d: u8) -> Option<char>
+    ensures { IfSome result (λ c. SpellsChar c (a ∷ b ∷ d ∷ [])) }
+{
+    let code = a as u32 % 0x10 * 0x1000 + b as u32 % 0x40 * 0x40 + d as u32 % 0x40;
+    coded_3(code, a, b, d)
+}
+
+// The character of that code, if these four bytes are its UTF-8.
+#[inline(always)]
+fn coded_4(code: u32, a: u8, b: u8, d: u8, e: u8) -> Option<char>
+    ensures { IfSome result (λ c. SpellsChar c (a ∷ b ∷ d ∷ e ∷ [])) }
+{
+    if code < 0x10000 || code > 0x10ffff {
+        return None;
+    }
+    if a as u32 != 0xf0 + code / 0x40000 || b as u32 != 0x80 + code / 0x1000 % 0x40 {
+        return None;
+    }
+    if d as u32 != 0x80 + code / 0x40 % 0x40 || e as u32 != 0x80 + code % 0x40 {
+        return None;
+    }
+    char::from_u32(code)
+}
+
+// The character of four bytes, if they are one's.
+#[inline(always)]
+fn char_of_4(a: u8, b: u8, d: u8, e: u8) -> Option<char>
+    ensures { IfSome result (λ c. SpellsChar c (a ∷ b ∷ d ∷ e ∷ [])) }
+{
+    let high = a as u32 % 8 * 0x40000 + b as u32 % 0x40 * 0x1000;
+    let code = high + d as u32 % 0x40 * 0x40 + e as u32 % 0x40;
+    coded_4(code, a, b, d, e)
+}
+
+// The character that so many bytes at the front are, if they are one's.
+#[inline(always)]
+fn char_at(front: &[u8], len: u32) -> Option<char>
+    ensures { IfSome result (λ c. CharLies c len front.now) }
+{
+    match len {
+        1 => match front {
+            [a, ..] => {
+                if *a < 0x80 {
+                    Some(char::from(*a))
+                } else {
+                    None
+                }
+            }
+            _ => None,
+        },
+        2 => match front {
+            [a, b, ..] => char_of_2(*a, *b),
+            _ => None,
+        },
+        3 => match front {
+            [a, b, d, ..] => char_of_3(*a, *b, *d),
+            _ => None,
+        },
+        4 => match front {
+            [a, b, d, e, ..] => char_of_4(*a, *b, *d, *e),
+            _ => None,
+        },
+        _ => None,
+    }
+}
+
+// Takes so many bytes as a character where they lie in memory whole. Else nothing is taken.
+#[inline(always)]
+fn char_ahead<S: Source>(source: &mut S, len: u32) -> Option<char>
+    ensures taken { IfSome result (λ c. IsScalar c × (length (encode_utf8 c) ≡ len) × IsBytes (encode_utf8 c)
+        × Consumes (S.ahead source.old) (S.ahead source.new) (encode_utf8 c)) }
+    ensures sound { IfSome result (λ _. S.faults source.new ≡ S.faults source.old) }
+    ensures place { IfSome result (λ _. S.place source.new ≡ S.place source.old) }
+    ensures kept { IfNone result (source.new ≡ source.old) }
+{
+    let c = match char_at(source.front(), len) {
+        Some(c) => c,
+        None => return None,
+    };
+    if !source.skip(len as usize) {
+        return None;
+    }
+    Some(c)
+}
+
+// How a character is read that doesn't lie ahead whole, in a bound that names no lifetime: a function that hands on a closure has
+// none that does.
+pub(crate) trait ReadChar<R: Source> {
+    ghost lends: { Bool };
+
+    // The next bytes, as one character.
+    fn behind(reader: &mut R, len: usize) -> Result<char, Error>
+        ensures ok { IfOk result (λ c. IsScalar c × (length (encode_utf8 c) ≡ len) × IsBytes (encode_utf8 c)
+            × Consumes (R.ahead reader.old) (R.ahead reader.new) (encode_utf8 c)) }
+        ensures sound { OnOk result (R.faults reader.new ≡ R.faults reader.old) }
+        ensures err { IfErr result (λ e. Explains e (R.faults reader.old) (R.faults reader.new) (StartsWithNoChar len (R.ahead reader.old))) }
+        ensures exact { IfErr result (λ e. Explains e (R.faults reader.old) (R.faults reader.new)
+            (RefusesPiece len (not_char (Head.Text len)) (R.ahead reader.old) e)) }
+        ensures memory { lends ≡ true → IfErr result (λ e. e ≢ Error.OutOfMemory) }
+        ensures place { R.place reader.new ≡ R.place reader.old };
+
+    // A text of one character, by way of its head.
+    fn headed<C: SerializerConfig>(de: &mut Deserializer<R, C>) -> Result<char, Error>
+        ensures law { Lawful R.Source IsChar de.old de.new result }
+        ensures exact { RefusesLeaf R.Source IsTextHead not_raw not_char de.old de.new result }
+        ensures memory { lends ≡ true → IfErr result (λ e. e ≢ Error.OutOfMemory) };
+}
+
+impl<'de, R: ReadSlice<'de>> ReadChar<R> for Slices<'de> {
+    ghost lends = { R.lends };
+
+    #[inline(always)]
+    fn behind(reader: &mut R, len: usize) -> Result<char, Error> {
+        next_char(reader, len)
+    }
+
+    #[inline(always)]
+    fn headed<C: SerializerConfig>(de: &mut Deserializer<R, C>) -> Result<char, Error> {
+        de.headed_char()
+    }
+}
+
+// The next bytes, as one character, by a call that is given a copy of the reader: so its parts stay in registers.
+#[inline(always)]
+fn apart_behind<R: Source, P: ReadChar<R>>(reader: &mut R, len: usize) -> Result<char, Error>
+    ensures ok { IfOk result (λ c. IsScalar c × (length (encode_utf8 c) ≡ len) × IsBytes (encode_utf8 c)
+        × Consumes (R.ahead reader.old) (R.ahead reader.new) (encode_utf8 c)) }
+    ensures sound { OnOk result (R.faults reader.new ≡ R.faults reader.old) }
+    ensures err { IfErr result (λ e. Explains e (R.faults reader.old) (R.faults reader.new) (StartsWithNoChar len (R.ahead reader.old))) }
+    ensures exact { IfErr result (λ e. Explains e (R.faults reader.old) (R.faults reader.new)
+        (RefusesPiece len (not_char (Head.Text len)) (R.ahead reader.old) e)) }
+    ensures memory { P.lends ≡ true → IfErr result (λ e. e ≢ Error.OutOfMemory) }
+    ensures place { R.place reader.new ≡ R.place reader.old }
+{
+    replace_with(
+        reader,
+        len,
+        |mut reader: R, len: usize|
+            ensures ok { IfOk result.1 (λ c. IsScalar c × (length (encode_utf8 c) ≡ len) × IsBytes (encode_utf8 c)
+                × Consumes (R.ahead reader) (R.ahead result.0) (encode_utf8 c)) }
+            ensures sound { OnOk result.1 (R.faults result.0 ≡ R.faults reader) }
+            ensures err { IfErr result.1 (λ e. Explains e (R.faults reader) (R.faults result.0) (StartsWithNoChar len (R.ahead reader))) }
+            ensures exact { IfErr result.1 (λ e. Explains e (R.faults reader) (R.faults result.0)
+                (RefusesPiece len (not_char (Head.Text len)) (R.ahead reader) e)) }
+            ensures memory { P.lends ≡ true → IfErr result.1 (λ e. e ≢ Error.OutOfMemory) }
+            ensures place { R.place result.0 ≡ R.place reader }
+        {
+            let read = P::behind(&mut reader, len);
+            (reader, read)
+        },
+    )
+}
+
+// A text of one character, by way of its head, by a call that is given a copy of the reader.
+#[inline(always)]
+pub(crate) fn apart_char<R: Source, C: SerializerConfig, P: ReadChar<R>>(
+    de: &mut Deserializer<R, C>,
+) -> Result<char, Error>
+    ensures law { Lawful R.Source IsChar de.old de.new result }
+    ensures exact { RefusesLeaf R.Source IsTextHead not_raw not_char de.old de.new result }
+    ensures memory { P.lends ≡ true → IfErr result (λ e. e ≢ Error.OutOfMemory) }
+{
+    replace_with(
+        de,
+        (),
+        |mut de: Deserializer<R, C>, _none: ()|
+            ensures law { Lawful R.Source IsChar de result.0 result.1 }
+            ensures exact { RefusesLeaf R.Source IsTextHead not_raw not_char de result.0 result.1 }
+            ensures memory { P.lends ≡ true → IfErr result.1 (λ e. e ≢ Error.OutOfMemory) }
+        {
+            let read = P::headed(&mut de);
+            (de, read)
+        },
+    )
+}
+
+// So many bytes behind a head, as one character: where they lie, or by a call.
+#[inline(always)]
+pub(crate) fn char_taken<R: Source, P: ReadChar<R>>(reader: &mut R, len: u32) -> Result<char, Error>
+    ensures ok { IfOk result (λ c. IsScalar c × (length (encode_utf8 c) ≡ len) × IsBytes (encode_utf8 c)
+        × Consumes (R.ahead reader.old) (R.ahead reader.new) (encode_utf8 c)) }
+    ensures sound { OnOk result (R.faults reader.new ≡ R.faults reader.old) }
+    ensures err { IfErr result (λ e. Explains e (R.faults reader.old) (R.faults reader.new) (StartsWithNoChar len (R.ahead reader.old))) }
+    ensures exact { IfErr result (λ e. Explains e (R.faults reader.old) (R.faults reader.new)
+        (RefusesPiece len (not_char (Head.Text len)) (R.ahead reader.old) e)) }
+    ensures memory { P.lends ≡ true → IfErr result (λ e. e ≢ Error.OutOfMemory) }
+    ensures place { R.place reader.new ≡ R.place reader.old }
+{
+    match char_ahead(reader, len) {
+        Some(c) => Ok(c),
+        None => apart_behind::<R, P>(reader, len as usize),
+    }
+}
