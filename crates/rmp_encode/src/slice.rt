@@ -16,6 +16,9 @@ use rmp_wire::config::{BytesMode, SerializerConfig};
 // How many bytes are written at a time.
 const PIECE: usize = 64;
 
+// So many bytes or fewer go out one by one: to gather them first would take longer.
+const SHORT: usize = 8;
+
 // Whether each value is a `u8`.
 #[inline(always)]
 pub(crate) fn are_bytes<T: Serialize>(values: &[T], human: bool) -> bool
@@ -73,6 +76,40 @@ impl<W: Sink, C: SerializerConfig> Serializer<W, C> {
 
     // Values that are all `u8`, as bytes.
     pub(crate) fn put_packed<T: Serialize>(&mut self, values: &[T]) -> Result<(), Error>
+        requires { AllBytes (map (λ x. T.data_of x (settings_of self.old).human) values.now) }
+        ensures writes { WritesTree W.Sink W.takes_memory (Some (bin (map number_of (map (λ x. T.data_of x (settings_of self.old).human) values.now))))
+            (sink_of self.old) (sink_of self.new) result }
+        ensures keeps { Keeps W.Sink self.old self.new }
+        ensures refused { 2 ^ 32 ≤ length values.now → self.new ≡ self.old }
+        ensures reason { 2 ^ 32 ≤ length values.now → StaysAtRefusal self.old self.new result }
+    {
+        if values.len() <= SHORT {
+            return self.put_short(values);
+        }
+        self.put_pieces(values)
+    }
+
+    // The same, a value at a time.
+    fn put_short<T: Serialize>(&mut self, values: &[T]) -> Result<(), Error>
+        requires { AllBytes (map (λ x. T.data_of x (settings_of self.old).human) values.now) }
+        ensures writes { WritesTree W.Sink W.takes_memory (Some (bin (map number_of (map (λ x. T.data_of x (settings_of self.old).human) values.now))))
+            (sink_of self.old) (sink_of self.new) result }
+        ensures keeps { Keeps W.Sink self.old self.new }
+        ensures refused { 2 ^ 32 ≤ length values.now → self.new ≡ self.old }
+        ensures reason { 2 ^ 32 ≤ length values.now → StaysAtRefusal self.old self.new result }
+    {
+        let human = self.is_human_readable();
+        let len = fits_u32(values.len())?;
+        self.put_bin_head(len)?;
+        for value in values {
+            let number = value.as_u8(human).unwrap_or(0);
+            self.put(&[number])?;
+        }
+        Ok(())
+    }
+
+    // The same, a piece at a time.
+    fn put_pieces<T: Serialize>(&mut self, values: &[T]) -> Result<(), Error>
         requires { AllBytes (map (λ x. T.data_of x (settings_of self.old).human) values.now) }
         ensures writes { WritesTree W.Sink W.takes_memory (Some (bin (map number_of (map (λ x. T.data_of x (settings_of self.old).human) values.now))))
             (sink_of self.old) (sink_of self.new) result }

@@ -16,6 +16,7 @@ pub mod EqualLaws
 pub mod Flat
 pub mod LeafRounds
 pub mod MapRounds
+pub mod PairsLeft
 pub mod Parts
 pub mod PartsLeft
 pub mod Places

@@ -1,5 +1,5 @@
 -- What structs lower to, with names or without, is read as their values.
-use Rattle.std.proofs.Common.{◌≡◌, ℕ, suc, ◌+◌, List, [], ◌∷◌, ◌++◌, length, map, Bool, true, false, Option, None, Some, refl, sym, ◌∙◌, ap, subst, append_assoc}
+use Rattle.std.proofs.Common.{◌≡◌, ℕ, suc, ◌+◌, List, [], ◌∷◌, ◌++◌, length, Bool, true, false, Option, None, Some, refl, sym, ◌∙◌, ap, subst, append_assoc}
 use Rattle.std.specs.Prelude.{◌≢◌, cond, IsSome, MatchOption}
 use Rattle.std.specs.Option.{option_map, option_and_then}
 use Rattle.std.specs.Str.{bytes_eq}
@@ -11,7 +11,7 @@ use Rattle.rmp_wire.specs.Msg.{Msg, Pairs, pair, count}
 use Rattle.rmp_encode.specs.Data.{Data, structure, tuple_variant, struct_variant, Fields, no_fields, field, map_or_list, lower, lower_named, lower_values}
 use Rattle.rmp_encode.specs.Trees.{tree_of, parts_of, fields_of, sequence_of, tuple_of, structure_of, tuple_variant_of, struct_variant_of}
 use Rattle.rmp_encode.specs.declared.settings.Settings.{Settings}
-use Rattle.rmp_decode.specs.Fields.{Field, NoField, OfFields, blank, fields, given_all, met, put, put_named}
+use Rattle.rmp_decode.specs.Fields.{Field, NoField, OfFields, blank, given_all, met, put, put_named}
 use Rattle.rmp_decode.specs.Names.{distinct, is_new, place_of}
 use Rattle.rmp_serde.specs.RoundTrip.{LowersTo}
 use Rattle.rmp_serde.specs.Rounds.{mapped_some, parts_cons, sequence_some, tuple_some}

@@ -16,4 +16,4 @@ pub use raw::{Raw, RawRef};
 pub use rmp_wire as wire;
 pub use rmp_wire::{MSGPACK_EXT_STRUCT_NAME, Marker, config};
 pub use round_trip::{NeverNil, RoundTrip};
-pub use value::{Kind, Parts, Value, ValueRef};
+pub use value::{Kind, Pairs, Parts, Value, ValueRef};

@@ -14,7 +14,7 @@ ghost use Rattle.rmp_serde.specs.Flat.{content_at, heads_of, told_tree, IsTree, 
 use flat::{Node, Nodes};
 pub use kind::Kind;
 pub use read::read_value;
-pub use reference::{Parts, ValueRef};
+pub use reference::{Pairs, Parts, ValueRef};
 use rmp_wire::Head;
 use std::marker::Model;
 

@@ -8,10 +8,12 @@ ghost use Rattle.rmp_serde.specs.Tokens.{past_items};
 ghost use Rattle.rmp_serde.specs.Parts.{row_at, row_behind, content_of, parts_of, tree, kind_of, parts_count, item_of, pair_of};
 ghost use Rattle.rmp_serde.specs.Parts.{truth_of, whole_of, float32_of, float64_of, text_of, bytes_of, extension_of};
 
+mod pairs;
 mod parts;
 
 use crate::value::flat::Node;
 use crate::value::{Kind, Value};
+pub use pairs::Pairs;
 pub use parts::Parts;
 use std::str;
 

@@ -1,4 +1,4 @@
-use Rattle.std.proofs.Common.{rules, arith, refl, sym, ◌∙◌, map, subst, All}
+use Rattle.std.proofs.Common.{rules, arith, sym, ◌∙◌, map, subst, All}
 use Rattle.std.proofs.lemmas.List.{take_all}
 use Rattle.std.proofs.lemmas.List.Elements.{All-more}
 use Rattle.rmp_encode.specs.Slices.{AllBytes}

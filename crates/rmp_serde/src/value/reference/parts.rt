@@ -16,6 +16,18 @@ pub struct Parts<'a> {
     ghost part: { min left 1 ≤ front.at },
 }
 
+impl<'a> Parts<'a> {
+    ghost use Rattle.std.specs.Prelude.{[]};
+    ghost use Rattle.rmp_serde.specs.PartsLeft.{parts_left};
+
+    // None at all.
+    pub(super) fn none(front: ValueRef<'a>) -> Parts<'a>
+        ensures none { parts_left result ≡ [] }
+    {
+        Parts { front, left: 0 }
+    }
+}
+
 impl<'a> ValueRef<'a> {
     ghost use Rattle.rmp_serde.specs.Parts.{tree, parts_in_turn};
     ghost use Rattle.rmp_serde.specs.PartsLeft.{parts_left};

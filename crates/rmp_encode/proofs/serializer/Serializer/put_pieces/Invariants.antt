@@ -4,7 +4,7 @@ use Rattle.std.specs.Slice.Iter.{chunks_rest, chunks_size}
 use Rattle.rmp_encode.specs.Ser.{sink_of, settings_of}
 use Rattle.rmp_encode.specs.Writes.{Keeps}
 use Rattle.rmp_encode.proofs.Packed.{Written}
-use Rattle.rmp_encode.proofs.serializer.Serializer.put_packed.Given as goal
+use Rattle.rmp_encode.proofs.serializer.Serializer.put_pieces.Given as goal
 
 abbrev pub invariant-loop-chunk : goal.invariant-loop-chunk
 invariant-loop-chunk g l = record {

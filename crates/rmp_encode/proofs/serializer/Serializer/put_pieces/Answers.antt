@@ -5,7 +5,7 @@ use Rattle.rmp_encode.specs.Ser.{settings_of}
 use Rattle.rmp_encode.proofs.Going.{keeps_then}
 use Rattle.rmp_encode.proofs.Leaves.{bin_too_long}
 use Rattle.rmp_encode.proofs.Packed.{as_many, written_head, written_more, written_all, head_fails, piece_fails}
-use Rattle.rmp_encode.proofs.serializer.Serializer.put_packed.Goals as goal
+use Rattle.rmp_encode.proofs.serializer.Serializer.put_pieces.Goals as goal
 
 pub returns-in_err-len-clause-writes : goal.returns-in_err-len-clause-writes
 returns-in_err-len-clause-writes g c =

@@ -1,0 +1,51 @@
+//! The pairs of a map, one after another.
+
+use crate::value::ValueRef;
+use crate::value::flat::Node;
+use crate::value::reference::parts::Parts;
+
+/// The pairs of a map, one after another: each key with its value.
+///
+/// Each step takes as long, wherever the pair stands, and no memory.
+#[derive(Drop)]
+pub struct Pairs<'a> {
+    parts: Parts<'a>,
+}
+
+impl<'a> ValueRef<'a> {
+    ghost use Rattle.std.specs.Prelude.{◌≡◌};
+    ghost use Rattle.rmp_serde.specs.Parts.{tree};
+    ghost use Rattle.rmp_serde.specs.PairsLeft.{pairs_left, pairs_in_turn};
+
+    /// The pairs of a map, each a key and its value. Of any other kind none.
+    #[tactic(auto, using(crate::proofs::PairsLeft::turn_of_map))]
+    pub fn pairs(self) -> Pairs<'a>
+        ensures pairs { pairs_left result ≡ pairs_in_turn (tree self.entry) }
+    {
+        match self.node() {
+            Node::Map(_, _) => Pairs {
+                parts: self.parts(),
+            },
+            _ => Pairs {
+                parts: Parts::none(self),
+            },
+        }
+    }
+}
+
+impl<'a> Iterator for Pairs<'a> {
+    ghost use Rattle.std.specs.Iterator.{at_most};
+    ghost use Rattle.rmp_serde.specs.PairsLeft.{YieldsPair, steps_left};
+
+    type Item = (ValueRef<'a>, ValueRef<'a>);
+
+    ghost next_gives = { YieldsPair };
+
+    ghost remaining = { λ s. at_most (steps_left s) };
+
+    fn next(&mut self) -> Option<(ValueRef<'a>, ValueRef<'a>)> {
+        let key = self.parts.next()?;
+        let value = self.parts.next()?;
+        Some((key, value))
+    }
+}
