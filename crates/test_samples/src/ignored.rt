@@ -1,5 +1,5 @@
 //! A message that is passed over.
-ghost use Rattle.std.specs.Prelude.{false, None, Some, tt, ⊤};
+ghost use Rattle.std.specs.Prelude.{false, None, Some, ⊤};
 ghost use Rattle.rmp_decode.specs.Skip.{any_tree};
 ghost use Rattle.rmp_encode.specs.Data.{unit};
 
