@@ -110,6 +110,24 @@ fn parts_come_one_after_another(rt: HostRuntime) -> Result<(), Error> {
 }
 
 #[test]
+fn pairs_come_one_after_another(rt: HostRuntime) -> Result<(), Error> {
+    let all = from_slice::<Value>(rt.alloc(), &ALL_KINDS)?;
+    let mut pairs = item(&all, 8).pairs();
+    let pair = pairs.next();
+    assert_eq!(rt; pair.and_then(|pair| pair.0.as_whole()), Some(-1));
+    assert_eq!(rt; pair.and_then(|pair| pair.1.as_truth()), Some(false));
+    assert!(rt; pairs.next().is_none());
+    assert_eq!(rt; all.root().pairs().count(), 0);
+    assert_eq!(rt; item(&all, 9).pairs().count(), 0);
+    let three = from_slice::<Value>(rt.alloc(), &[0x83, 1, 0x90, 2, 0x91, 3, 4, 5])?;
+    assert_eq!(rt; three.root().pairs().count(), 3);
+    let last = three.root().pairs().nth(2);
+    assert_eq!(rt; last.and_then(|pair| pair.0.as_whole()), Some(4));
+    assert_eq!(rt; last.and_then(|pair| pair.1.as_whole()), Some(5));
+    Ok(())
+}
+
+#[test]
 fn the_spelling_that_is_written_is_canonical(rt: HostRuntime) -> Result<(), Error> {
     for spelling in [&ALL_KINDS[..], &WIDE[..]] {
         let all = from_slice::<Value>(rt.alloc(), spelling)?;
