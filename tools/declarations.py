@@ -11,7 +11,9 @@ INSTEAD = {"f32": "F32Bits", "f64": "F64Bits", "str": "String"}
 # Names that a ghost item may not have, or that are words of its language.
 WORDS = set("ground assumption data record deriving module package unfoldable abbrev axiom unfold unfolding ruleset mutual infix infixl infixr elim do".split())
 ITEM = re.compile(r"((?:^#\[[^\]]*\]\s*)*)^(?:pub(?:\([^)]*\))? )?(struct|enum) (\w+)", re.M)
+# How many elements a tuple has at most, and how many fields with names a struct or a variant.
 MOST = 8
+MOST_NAMED = 16
 
 
 class Refused(Exception):
@@ -189,8 +191,9 @@ def variants_of(body):
 def check_shape(shape):
     """Refuses a shape that no call writes or reads at once."""
     count = len(shape.fields)
-    if count > MOST:
-        raise Refused(f"{shape.name} has {count} fields, and up to {MOST} can be derived: group some of them in a type of their own")
+    most = MOST_NAMED if shape.kind == "named" else MOST
+    if count > most:
+        raise Refused(f"{shape.name} has {count} fields, and up to {most} can be derived: group some of them in a type of their own")
     if shape.kind == "named" and not count:
         raise Refused(f"{shape.name} has no fields: write it without braces")
     if shape.kind == "newtype" and shape.name == "_ExtStruct":

@@ -7,8 +7,8 @@ The file declares its types as in Rust, each with `#[derive(Drop)]`, and has a l
 implementations go to src/pets/derived.rt, and the proofs below proofs/pets/derived/; `rt fmt` and `rt check` in the crate
 are all that follows. The crate stands on rmp_encode, rmp_decode and rmp_wire. Where crates.txt names rmp_serde for it too, each type
 gets `RoundTrip`, and `NeverNil` where no value is nil, if the laws of its fields are known: they are of parameters, of types of std
-or of the wire, of types of the crate without parameters that have `RoundTrip`, or of types of the file with parameters. Of a type
-that doesn't get it the tool says why.
+or of the wire, or of types of the crate that have `RoundTrip`, in this file or in one that a `use` names; where such a type has
+parameters, the types of its fields have to be in scope, too. Of a type that doesn't get it the tool says why.
 
 Structs with names, tuple structs, newtypes, structs without fields, and enums with variants of each kind are derived, with
 type parameters or without. The type of a field is any that has both traits, also one of the file's own; an `Option` may be
@@ -20,16 +20,18 @@ import re
 import sys
 
 sys.dont_write_bytecode = True
-from declarations import PLAIN, PRELUDE, Refused, identifiers, read
+import halves
+from declarations import MOST, PLAIN, PRELUDE, Refused, identifiers, read
 from derived_proofs import answers, has_content
 from derived_rounds import LEMMAS, Own, Unknown
 from derived_rounds import implementations as rounds
-from derived_terms import GHOST, Words, alias, member_of_reading, members_of_writing, nested, refusal_of
+from derived_terms import GHOST, Words, alias, member_of_reading, member_of_refusing, members_of_writing, nested
 from imports import imports
 from lines import broken
 
-PARTS = "One Both Three Four Five Six Seven Eight".split()
-PLACES = "first second third fourth fifth sixth seventh eighth".split()
+PLACES = halves.FIELDS
+# What hands over more values than one struct of rmp_encode does.
+MORE = "NineParts TenParts ElevenParts TwelveParts ThirteenParts FourteenParts FifteenParts SixteenParts".split()
 # The lemmas that a struct is no byte.
 NO_BYTE = {"newtype": "Wrapped::wrapped_no_byte", "tuple": "Lists::sequence_no_byte", "named": "Fields::structure_no_byte"}
 TRAITS = {"Serialize", "Deserialize", "RoundTrip", "NeverNil"}
@@ -38,7 +40,7 @@ TAKEN = "se de e parts variant".split()
 # Where the words of the code come from.
 CODE = {
     "rmp_decode": "Deserialize Deserializer ReadFields",
-    "rmp_encode": "Serialize Serializer",
+    "rmp_encode": "Elements Serialize Serializer",
     "rmp_serde": "NeverNil RoundTrip",
     "rmp_wire": "ReadSlice Sink",
     "rmp_wire::config": "SerializerConfig",
@@ -91,7 +93,29 @@ def field_names(shape):
 def handed_over(values):
     """The struct that hands several values over."""
     fields = [value if value == place else f"{place}: {value}" for place, value in zip(PLACES, values)]
-    return f"rmp_encode::{PARTS[len(values) - 1]} {{ {', '.join(fields)} }}"
+    count = len(values)
+    return f"{f'rmp_encode::{halves.NAMES[count - 1]}' if count <= MOST else MORE[count - MOST - 1]} {{ {', '.join(fields)} }}"
+
+
+def more_parts(wanted):
+    """Of how many fields there are more than one struct of rmp_encode hands over."""
+    counts = {len(shape.fields) for own in wanted if "Serialize" in own.derived for shape in own.of.shapes()}
+    return sorted(count for count in counts if count > MOST)
+
+
+def handing_over(count):
+    """The struct that hands so many values over."""
+    name, kinds = MORE[count - MOST - 1], halves.kinds(count)
+    fields = [f"{place}: &'r {kind}," for place, kind in zip(PLACES, kinds)]
+    elements, named = halves.bodies(count, MOST, "rmp_encode::")
+    return [
+        f"// {count} values, the first {MOST} of which are written before the others.",
+        "#[derive(Drop)]",
+        f"struct {name}<'r, {', '.join(kinds)}> {{",
+        *fields,
+        "}",
+        halves.implementation(name, count, elements, named, "rmp_encode::"),
+    ]
 
 
 def body_of_struct(shape):
@@ -201,7 +225,7 @@ def reading(of):
         header(of, "Deserialize"),
         f"    ghost reads = {{ λ human lends m v. {member_of_reading(of, Words(of))} }};\n",
         "    ghost absent = { None };\n",
-        *([f"    ghost refuses = {{ {refusal_of(Words(of), of.shape)} }};\n"] if of.shape else []),
+        f"    ghost refuses = {{ {member_of_refusing(of, Words(of))} }};\n",
         f"fn deserialize<C: SerializerConfig>(de: &mut Deserializer<R, C>) -> Result<{full_name(of)}, rmp_decode::Error> {{",
         *body_of_reading(of),
         "}\n",
@@ -294,7 +318,8 @@ class Module:
             by_hand = implemented(source, name)
             derived = self.traits(by_hand) if has_derived else set()
             modules = {trait: f"{self.name}.specs.contracts.{self.below(*['derived'] * (trait in derived))}" for trait in TRAITS}
-            names[name] = Own(of, derived, by_hand, modules, names)
+            declared = f"{self.name}.specs.declared.{self.below(name)}"
+            names[name] = Own(of, derived, by_hand, modules, names, declared, dict(brought_in(source)))
         for name, path in brought_in(source):
             other = self.other(path)
             if other and other.path not in (self.path, *seen):
@@ -326,13 +351,17 @@ def implementations(module, wanted):
             items += rounds(own)
         except Unknown as why:
             print(f"derive: {module.path}: {own.of.name} has no RoundTrip: {why}", file=sys.stderr)
+    for count in more_parts(wanted):
+        items += handing_over(count)
     text = "\n".join(items)
     table = {name: f"{GHOST.get(name, '')} {LEMMAS.get(name, '')}" for name in {**GHOST, **LEMMAS}}
     ghosts = imports(text, table, ghost_line)
-    for own in wanted:
+    others = {other.declared: other for own in wanted for other in own.others.values()}
+    for own in [*wanted, *others.values()]:
         if own.of.variants and f"{alias(own.of)}." in text:
-            ghosts.append(f"ghost use Rattle.{module.name}.specs.declared.{module.below(own.of.name)}.TheVariants as {alias(own.of)};\n")
-    uses = [code_line("super", named_types([own.of for own in wanted])), *imports(text, CODE, code_line)]
+            ghosts.append(f"ghost use Rattle.{own.declared}.TheVariants as {alias(own.of)};\n")
+    brought = set().union(*(own.brought for own in wanted))
+    uses = [code_line("super", sorted(brought.union(named_types([own.of for own in wanted])))), *imports(text, CODE, code_line)]
     about = f"//! How the types of {module.path} are written and read. Written by tools/derive.py.\n"
     return about + "".join(sorted(ghosts)) + "\n" + "".join(uses) + "\n" + text
 
@@ -350,6 +379,11 @@ def derive(crate, path):
     for own in wanted:
         for trait, method, text in answers(own.of, own.derived, module):
             module.write(text, "proofs", f"{module.at}derived", f"{own.of.name}{trait}", method, "Answers.antt")
+    for count in more_parts(wanted):
+        name = f"{MORE[count - MOST - 1]}Elements"
+        for method in ("write", "write_fields"):
+            goals = f"Rattle.{module.name}.proofs.{module.below('derived', name, method)}"
+            module.write(halves.answers(count, MOST, method, goals), "proofs", f"{module.at}derived", name, method, "Answers.antt")
 
 
 def main():

@@ -3,9 +3,16 @@ from imports import imports
 
 # Where the lemmas and signs of the answers come from.
 WORDS = {
-    "std.proofs.Common": "◌≡◌ refl arith rules",
+    "std.proofs.Common": "◌≡◌ refl arith rules Result List ℕ",
     "std.proofs.lemmas.Int": "to_z-of_z",
     "std.specs.Int": "w8 w16 w32 w64 w128",
+    "rmp_wire.specs.Msg": "Msg",
+    "rmp_wire.specs.declared.source.Source": "Ghosts",
+    "rmp_decode.specs.Law": "Lawful",
+    "rmp_decode.specs.Variants": "FailsToOpenVariant",
+    "rmp_decode.specs.declared.deserializer.Deserializer": "Deserializer",
+    "rmp_decode.specs.declared.error.Error": "Error",
+    "rmp_decode.proofs.EnumRefusings": "enum_unopened unit_wrong content_wrong",
     "rmp_decode.proofs.Laws": "lawful_ok lawful_err",
     "rmp_decode.proofs.Variants": "variant_ok variant_err variant_unopened readable",
     "rmp_encode.proofs.Variants": "newtype_no_byte tuple_variant_no_byte struct_variant_no_byte",
@@ -65,8 +72,24 @@ def struct_read(shape):
 CALLS = {"unit": "unit_variant", "newtype": "newtype_variant", "tuple": "newtype_variant", "named": "fields_variant"}
 
 
+# What the lemmas on a variant's refusal take first: the source, whether the format is for people, and the readers that the variant's
+# call and the read leave, which their laws speak of. The rest they find by themselves.
+REFUSED = "g.R.Source g.C.SerializerConfig.human _ _ _ _ (left_by ({call})) (left_by ({law})) _ (search rules)"
+LEFT_BY = """
+-- the reader that a law speaks of
+abbrev left_by : {R C V : Type 0} {g : Ghosts R} {reads : Msg → V → Type 0} {old last : Deserializer R C} {result : Result V Error}
+    → Lawful g reads old last result → Deserializer R C
+left_by {R} {C} {V} {g} {reads} {old} {last} {result} l = last
+
+-- the reader that is left where no variant opens
+abbrev unopened_by : {R C : Type 0} {g : Ghosts R} {names : List (List ℕ)} {old new : Deserializer R C} {e : Error}
+    → FailsToOpenVariant g names old new e → Deserializer R C
+unopened_by {R} {C} {g} {names} {old} {new} {e} f = new
+"""
+
+
 def variant_read(call, at, shape, count):
-    """The two answers of a variant."""
+    """The three answers of a variant."""
     n = len(shape.fields)
     last = at == count - 1
     if last:
@@ -83,7 +106,12 @@ def variant_read(call, at, shape, count):
     ok = f"variant_ok _ _ _ _ _ _ (search rules) _ {at} _ _ ({done})\n    (c.in-Ok-{call}.ensures.ok _ {at} _ {opened})"
     ok = start + held(shape, f"c.in-Ok-{call}", ok)
     err = f"{start}variant_err _ _ _ _ _ _ (search rules) _ {at} _ ({back})\n    (c.in-Err-{call}.ensures.err _ {at} _ {opened})"
-    return answer(f"returns-in-Ok-{call}-clause-law", ok) + answer(f"returns-in-Err-{call}-clause-law", err)
+    clauses, lemma = f"c.in-Err-{call}.ensures", "content_wrong" if n else "unit_wrong"
+    given = f"(λ q. q) {clauses}.bare {clauses}.refused" if n else f"{clauses}.bare {clauses}.exact"
+    refused = REFUSED.format(call=f"{clauses}.err _ {at} _ {opened}", law=f"returns-in-Err-{call}-clause-law g c")
+    wrong = f"{start}{lemma} {refused} {at} _ {opened}\n    {given}"
+    return "".join(answer(f"returns-in-{arm}", term) for arm, term in (
+        (f"Ok-{call}-clause-law", ok), (f"Err-{call}-clause-law", err), (f"Err-{call}-clause-refused", wrong)))
 
 
 def calls_of(of):
@@ -97,8 +125,10 @@ def calls_of(of):
 
 def enum_read(of):
     text = "".join(variant_read(call, at, shape, len(of.variants)) for at, (call, shape) in enumerate(zip(calls_of(of), of.variants)))
-    opened = "\n    variant_unopened _ _ _ _ _ _ (search rules) _ (rw c.in-Err.is at c.deserialize_enum.follows.holds-at-none)"
-    return text + answer("returns-in-Err-clause-law", opened)
+    unopened = "(rw c.in-Err.is at c.deserialize_enum.follows.holds-at-none)"
+    text += answer("returns-in-Err-clause-law", f"\n    variant_unopened _ _ _ _ _ _ (search rules) _ {unopened}")
+    refused = REFUSED.format(call="f", law="returns-in-Err-clause-law g c").replace("left_by (f)", "unopened_by f")
+    return LEFT_BY + text + answer("returns-in-Err-clause-refused", f"\n    let f = {unopened[1:-1]} in\n    enum_unopened {refused} f")
 
 
 NO_BYTE = {"newtype": "newtype_no_byte", "tuple": "tuple_variant_no_byte", "named": "struct_variant_no_byte"}

@@ -2,11 +2,11 @@
 
 The law of a type parameter is named through the parameter, that of a type of the crate without parameters by the module in which it
 was proved, and that of any other type is spelled out from the lemmas of rmp_serde: of the types of std and of the wire, and of those
-of the file that have parameters.
+of the crate that have parameters, where the types of their fields are in scope, too.
 """
 import re
 
-from declarations import Declared, Field, Shape, split
+from declarations import PLAIN, PRELUDE, Declared, Field, Shape, identifiers, split
 from derived_terms import Words, by_cases, codes, listed, underscored, values_of
 
 # Of types without parts: that a value is read as it was written, and that none is written as nil.
@@ -113,14 +113,17 @@ def parted(kind):
 class Rounds:
     """The laws of types in terms, for the implementation of this type, where these types of the crate have laws."""
 
-    def __init__(self, of, own):
-        self.own, self.words, self.count = own, Words(of), 0
+    def __init__(self, own):
+        self.home, self.own, self.words, self.count = own, own.names, Words(own.of), 0
+        of = own.of
         names = [name for name, _ in of.parameters]
         flags = [f"{name}.borrows" for name in names]
         self.borrows = any_of(flags) if flags else None
         self.lent = dict(zip(names, lent(flags, "lent") if flags else []))
         # The parameters of which it is asked that no value is nil, and the laws that are named by their modules.
         self.asked, self.named = set(), {}
+        # The types of other files whose laws are spelled out, and the names of their fields' types.
+        self.others, self.brought = {}, set()
 
     def fresh(self):
         self.count += 1
@@ -149,9 +152,10 @@ class Rounds:
         return f"{laws}.{law}-law" + (f" {READER}" if trait == "RoundTrip" else "")
 
     def instance(self, name, parts):
-        """A type of the file at these parameters."""
-        if name not in self.own or self.own[name].names is not self.own or not self.own[name].has("RoundTrip"):
+        """A type of the crate at these parameters."""
+        if name not in self.own or "RoundTrip" not in self.own[name].derived or not self.own[name].has("RoundTrip"):
             raise Unknown(f"no RoundTrip of {name} is known")
+        self.bring(self.own[name])
         of = self.own[name].of
         parts = dict(zip((name for name, _ in of.parameters), parts))
 
@@ -160,6 +164,17 @@ class Rounds:
             return Shape(shape.name, shape.kind, [Field(field.name, kind) for field, kind in zip(shape.fields, kinds)])
 
         return Declared(of.name, [], of.shape and at_parts(of.shape), of.variants and [at_parts(shape) for shape in of.variants])
+
+    def bring(self, other):
+        """Sees that the types of another file's type are in scope."""
+        if other.names is self.own:
+            return
+        words = {word for kind in other.of.kinds() for word in identifiers(kind)} - {name for name, _ in other.of.parameters}
+        for word in sorted(words - PRELUDE - PLAIN):
+            if not self.home.sees(other, word):
+                raise Unknown(f"a field of {other.of.name} is of the type {word}, which no `use` brings in")
+            self.brought.add(word)
+        self.others[other.of.name] = other
 
     def order(self, kind):
         """That the order of keys is total."""
@@ -370,11 +385,23 @@ class Rounds:
 
 
 class Own:
-    """A type that a file of the crate declares, with the modules of its laws, by the traits that have them, and what the file names."""
+    """A type that a file of the crate declares, with the modules of its laws, by the traits that have them, and what the file names.
 
-    def __init__(self, of, derived, by_hand, modules, names):
+    `declared` is the module of its declaration, and `uses` has the names that the file brings in, with where they come from.
+    """
+
+    def __init__(self, of, derived, by_hand, modules, names, declared, uses):
         self.of, self.derived, self.by_hand, self.modules, self.names = of, derived, by_hand, modules, names
-        self.known = {}
+        self.declared, self.uses, self.known = declared, uses, {}
+        # The types of other files whose laws the implementations spell out, and the names of their fields' types.
+        self.others, self.brought = {}, set()
+
+    def sees(self, other, word):
+        """Whether a name stands for the same in this type's file as in that of another type."""
+        here, there = self.names.get(word), other.names.get(word)
+        if here or there:
+            return bool(here and there) and here.declared == there.declared
+        return word in self.uses and self.uses[word] == other.uses.get(word)
 
     def has(self, trait):
         """Whether it has `RoundTrip` or `NeverNil`."""
@@ -391,8 +418,10 @@ class Own:
 
     def implementation(self, trait):
         """That of `RoundTrip` or of `NeverNil`, in lines."""
-        rounds = Rounds(self.of, self.names)
+        rounds = Rounds(self)
         members = rounds_of(rounds, self.of) if trait == "RoundTrip" else other_of(rounds, self.of)
+        self.others |= rounds.others
+        self.brought |= rounds.brought
         laws = [f"    ghost use Rattle.{path}.TheImpl.Laws as {name};" for name, path in sorted(rounds.named.items())]
         if any(READER in member for member in members):
             laws.append("    ghost use mir.Syntax.{given};")

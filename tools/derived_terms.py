@@ -8,6 +8,7 @@ GHOST = {
     "rmp_encode.specs.Data": "unit_struct unit_variant",
     "rmp_encode.specs.Sizes": "one_of",
     "rmp_encode.specs.Trees": "wrapped_of sequence_of structure_of newtype_variant_of tuple_variant_of struct_variant_of tree_of",
+    "rmp_decode.specs.EnumRefusing": "RefusesEnum no_content with_content",
     "rmp_decode.specs.Exact": "RefusesExactly",
     "rmp_decode.specs.FieldRefusing": "RefusesFields",
     "rmp_decode.specs.Fields": "OfFields Field Absent NoField",
@@ -119,7 +120,7 @@ def by_cases(of, terms, value="v"):
 
 
 def refusal_of(words, shape):
-    """Which error says that a struct's fields aren't there."""
+    """Which error says that the fields of a struct, or of a variant that has some, aren't there."""
     kinds = [field.kind for field in shape.fields]
     if shape.kind == "unit":
         return "λ s. RefusesExactly s.strict (not_nothing s.room)"
@@ -130,6 +131,14 @@ def refusal_of(words, shape):
         return f"RefusesTuple ({listed(parts)})"
     fields = f"⟦<{nested(kinds)} as ReadFields<'de, R>>⟧"
     return f"RefusesFields ({codes(field.name for field in shape.fields)}) {fields}.reads {fields}.parts"
+
+
+def member_of_refusing(of, words):
+    """What stands for refuses."""
+    if of.shape:
+        return refusal_of(words, of.shape)
+    choices = [f"with_content ({refusal_of(words, shape)})" if shape.fields else "no_content" for shape in of.variants]
+    return f"RefusesEnum ({codes(shape.name for shape in of.variants)}) ({listed(choices)})"
 
 
 def members_of_writing(of, words):

@@ -3,11 +3,11 @@
 
     tools/elements.py [FOLDER]      writes below this folder in place of the repository's top
 """
+import halves
+from halves import FIELDS, NAMES, bodies, kinds, listed
 from lines import write
 
-NAMES = ["One", "Both", "Three", "Four", "Five", "Six", "Seven", "Eight"]
 WORDS = ["One element", "Two elements", "Three elements", "Four elements", "Five elements", "Six elements", "Seven elements", "Eight elements"]
-FIELDS = ["first", "second", "third", "fourth", "fifth", "sixth", "seventh", "eighth"]
 
 
 # How many of so many elements are written first; the others come behind them.
@@ -15,74 +15,20 @@ def half(n):
     return 2 if n < 5 else 4
 
 
-# The elements from one place to another, as a value.
-def some(start, end):
-    fields = " ".join(f"{FIELDS[i - start]}: self.{FIELDS[i]}," for i in range(start, end))
-    return f"{NAMES[end - start - 1]} {{ {fields} }}"
-
-
-# The list of these.
-def listed(words):
-    return "(" + " ∷ (".join(words) + " ∷ []" + ")" * len(words)
-
-
 def implementation(n):
     name = NAMES[n - 1]
-    kinds = [f"E{i + 1}" for i in range(n)]
-    bounds = ", ".join(f"{k}: Serialize" for k in kinds)
-    fields = "\n".join(f"    pub {FIELDS[i]}: &'r {k}," for i, k in enumerate(kinds))
-    data = " ∷ ".join(f"{k}.data_of v.{FIELDS[i]}.now human" for i, k in enumerate(kinds))
-    value = " × ".join(f"{k}.is_value v.{FIELDS[i]}.now" for i, k in enumerate(kinds))
-    memory = listed([f"{k}.takes_memory s" for k in kinds])
+    fields = "\n".join(f"    pub {FIELDS[i]}: &'r {kind}," for i, kind in enumerate(kinds(n)))
     elements = "\n".join(f"        Serialize::serialize(self.{FIELDS[i]}, se)?;" for i in range(n)) + "\n        Ok(())"
     named = "\n".join(f"        se.put_field(names[{i}], self.{FIELDS[i]})?;" for i in range(n)) + "\n        Ok(())"
     if n > 2:
-        k = half(n)
-        halves = f"""        let front = {some(0, k)};
-        let back = {some(k, n)};
-"""
-        elements = f"""{halves}        front.write(se)?;
-        back.write(se)"""
-        named = f"""{halves}        front.write_fields(&names[..{k}], se)?;
-        back.write_fields(&names[{k}..], se)"""
+        elements, named = bodies(n, half(n))
     return f"""
 /// {WORDS[n - 1]}.
 #[derive(Drop)]
-pub struct {name}<'r, {", ".join(kinds)}> {{
+pub struct {name}<'r, {", ".join(kinds(n))}> {{
 {fields}
 }}
-
-impl<'r, {bounds}> Elements for {name}<'r, {", ".join(kinds)}> {{
-    ghost count = {{ {n} }};
-
-    ghost parts_of = {{ λ v human. {data} ∷ [] }};
-
-    ghost are_values = {{ λ v. {value} }};
-
-    ghost takes_memory = {{ λ s. one_of {memory} }};
-
-    ghost counted = {{ λ v human. refl }};
-
-    #[inline(always)]
-    fn len(&self) -> usize {{
-        {n}
-    }}
-
-    #[inline(always)]
-    fn write<W: Sink, C: SerializerConfig>(&self, se: &mut Serializer<W, C>) -> Result<(), Error> {{
-{elements}
-    }}
-
-    #[inline(always)]
-    fn write_fields<W: Sink, C: SerializerConfig>(
-        &self,
-        names: &[&'static str],
-        se: &mut Serializer<W, C>,
-    ) -> Result<(), Error> {{
-{named}
-    }}
-}}
-"""
+{halves.implementation(name, n, elements, named)}"""
 
 
 def call(word, i):
@@ -130,8 +76,7 @@ def residual(word, i):
     return f"c.from_residual-in_err-{call(word, i)}" if i else "c.from_residual"
 
 
-def answers(n, word):
-    path = f"Rattle.rmp_encode.proofs.elements.{NAMES[n - 1]}Elements.{'write' if word == 'serialize' else 'write_fields'}"
+def answers(n, word, goals):
     each = listed([f"g.E{k + 1}.Serialize.takes_memory (settings_of old)" for k in range(n)])
     steps = (["goes"] if word == "serialize" else []) + (["keeps_then"] if n > 1 else [])
     uses = [f"Rattle.std.proofs.Common.{{{'' if word == 'serialize' else 'arith, '}◌∷◌, []}}"]
@@ -144,7 +89,7 @@ def answers(n, word):
     if steps:
         uses.append(f"Rattle.rmp_encode.proofs.Going.{{{', '.join(steps)}}}")
     uses.append("Rattle.rmp_encode.proofs.Parts.{one_of_or, part_takes}")
-    text = "".join(f"use {name}\n" for name in uses) + f"use {path}.Goals as goal\n"
+    text = "".join(f"use {name}\n" for name in uses) + f"use {goals}.Goals as goal\n"
     for i in range(n):
         this = call(word, i)
         goal = f"returns-in_err-{this}-clause-writes"
@@ -178,44 +123,6 @@ returns-clause-keeps g c = {keeps(word, n)}
     return text
 
 
-# The answers where the elements are written by two calls.
-def halves(n, word):
-    k = half(n)
-    call = "write" if word == "serialize" else "write_fields"
-    path = f"Rattle.rmp_encode.proofs.elements.{NAMES[n - 1]}Elements.{call}"
-    memory = lambda start, end: listed([f"g.E{i + 1}.Serialize.takes_memory (settings_of old)" for i in range(start, end)])
-    less = lambda side: f"({side}_or g.W.Sink.takes_memory {memory(0, k)} {memory(k, n)})"
-    data = lambda start, end: listed([f"g.E{i + 1}.Serialize.data_of c.args.self.now.{FIELDS[i]}.now (settings_of old).human" for i in range(start, end)])
-    first = "h" if word == "serialize" else f"(named_halves g.W.Sink c.args.names.now {k} {data(0, k)} {data(k, n)} rest refl (omega (arith, c.requires)) h)"
-    back = f"c.{call}-2.ensures.writes old t rest (c.in_ok-{call}.ensures.writes old t _ {first})"
-    uses = [
-        f"Rattle.std.proofs.Common.{{{'' if word == 'serialize' else 'arith, refl, '}◌∷◌, []}}",
-        "Rattle.std.proofs.lemmas.Result.{err_from_is_err_and}",
-        "Rattle.rmp_encode.specs.Going.{IsWriting}",
-        "Rattle.rmp_encode.specs.Ser.{sink_of, settings_of}",
-    ]
-    if word == "put_field":
-        uses.append("Rattle.rmp_encode.proofs.Fields.{named_halves}")
-    uses.append("Rattle.rmp_encode.proofs.Going.{going_more, keeps_then}")
-    uses.append("Rattle.rmp_encode.proofs.Parts.{front_or, back_or, part_takes}")
-    text = "".join(f"use {name}\n" for name in uses) + f"use {path}.Goals as goal\n"
-    return text + f"""
-pub returns-in_err-{call}-clause-writes : goal.returns-in_err-{call}-clause-writes
-returns-in_err-{call}-clause-writes g c =
-    let p = err_from_is_err_and c.from_residual.result c.from_residual.ensures.1 in
-    rw (p.1, p.2) (λ old t rest h. part_takes g.W.Sink _ {less("front")}
-    (c.in_err-{call}.ensures.writes old t _ {first}))
-
-pub returns-clause-writes : goal.returns-clause-writes
-returns-clause-writes g c = λ old t rest h. going_more g.W.Sink (IsWriting g.W.Sink old t rest c.{call}-2.new.se) t (sink_of old)
-    (sink_of c.{call}-2.new.se) c.{call}-2.result {less("back")}
-    ({back})
-
-pub returns-clause-keeps : goal.returns-clause-keeps
-returns-clause-keeps g c = keeps_then g.W.Sink c.{call}.ensures.keeps c.{call}-2.ensures.keeps
-"""
-
-
 def main():
     source = """//! One to eight elements of several types. Written by tools/elements.py.
 ghost use Rattle.std.specs.Prelude.{◌∷◌, [], refl};
@@ -232,7 +139,8 @@ use rmp_wire::config::SerializerConfig;
     write(source, "rmp_encode", "src", "elements", "kinds.rt")
     for n in range(1, len(NAMES) + 1):
         for word, method in (("serialize", "write"), ("put_field", "write_fields")):
-            text = (halves if n > 2 else answers)(n, word).replace("proofs.elements.", "proofs.elements.kinds.")
+            goals = f"Rattle.rmp_encode.proofs.elements.kinds.{NAMES[n - 1]}Elements.{method}"
+            text = halves.answers(n, half(n), method, goals) if n > 2 else answers(n, word, goals)
             write(text, "rmp_encode", "proofs", "elements", "kinds", f"{NAMES[n - 1]}Elements", method, "Answers.antt")
 
 

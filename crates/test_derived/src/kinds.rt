@@ -1,8 +1,8 @@
 //! Fields of types of every kind whose values are read as they were written.
 mod derived;
 
-use crate::enums::Four;
-use crate::structs::{Dog, Opt};
+use crate::enums::{Four, Mixed};
+use crate::structs::{Counted, Dog, Opt};
 use std::collections::{BTreeMap, BTreeSet, VecDeque};
 
 /// Two of a kind.
@@ -44,3 +44,10 @@ pub struct Row {
 /// One of two numbers, behind a name.
 #[derive(Drop)]
 pub struct Chosen(pub Either<u8>);
+
+/// Types of other files that have parameters.
+#[derive(Drop)]
+pub struct Guests {
+    pub counted: Counted<Opt>,
+    pub mixed: Mixed<bool>,
+}

@@ -9,6 +9,6 @@ mod structs;
 mod tests;
 
 pub use enums::{Four, Mixed, Two, V12};
-pub use kinds::{Chosen, Either, Kennel, Pair, Row, Sorted};
+pub use kinds::{Chosen, Either, Guests, Kennel, Pair, Row, Sorted};
 pub use rounds::{kennels_come_back, sorted_come_back};
-pub use structs::{Counted, Dog, Newtype, Opt, Point, Unit};
+pub use structs::{Counted, Dog, Newtype, Opt, Papers, Point, Unit};

@@ -1,5 +1,5 @@
 //! What the derived types are written as and read from.
-use crate::{Counted, Dog, Four, Mixed, Newtype, Opt, Point, Two, Unit, V12};
+use crate::{Counted, Dog, Four, Mixed, Newtype, Opt, Papers, Point, Two, Unit, V12};
 use rmp_decode::{Deserialize, Deserializer, Error, Text, from_slice, from_slice_strict};
 use rmp_encode::{Serialize, Serializer, to_vec, to_vec_named, write_named};
 use rmp_wire::Marker;
@@ -65,6 +65,44 @@ fn a_field_that_may_be_missing(rt: HostRuntime) -> Result<(), Fail> {
     assert!(rt; matches!(&read, Ok(Opt { v: None })));
     let read: Result<Opt, Error> = from_slice(rt.alloc(), b"\x90");
     assert!(rt; matches!(&read, Err(Error::Syntax(Text::InvalidLength))));
+    Ok(())
+}
+
+#[test]
+fn many_fields(rt: HostRuntime) -> Result<(), Fail> {
+    let papers = Papers {
+        number: 7,
+        name: String::from_str(rt.alloc(), "A")?,
+        born: 300,
+        chip: None,
+        mother: Some(1),
+        father: None,
+        weight: 9,
+        height: -1,
+        vaccinated: true,
+    };
+    assert_eq!(rt;
+        to_vec(rt.alloc(), &papers)?.as_slice(),
+        b"\x99\x07\xa1A\xcd\x01\x2c\xc0\x01\xc0\x09\xff\xc3".as_slice()
+    );
+    let read: Result<Papers, Error> = from_slice(
+        rt.alloc(),
+        b"\x86\xaavaccinated\xc3\xa6number\x07\xa4name\xa1A\xa6height\xff\xa6weight\x09\xa4born\xcd\x01\x2c",
+    );
+    assert!(rt;
+        matches!(
+            &read,
+            Ok(Papers {
+                number: 7,
+                chip: None,
+                height: -1,
+                vaccinated: true,
+                ..
+            })
+        )
+    );
+    let read: Result<Papers, Error> = from_slice(rt.alloc(), b"\x81\xa6number\x07");
+    assert!(rt; matches!(&read, Err(Error::Syntax(Text::MissingField))));
     Ok(())
 }
 
@@ -142,6 +180,11 @@ fn variants_in_a_row(rt: HostRuntime) -> Result<(), Fail> {
     assert!(rt; de.remaining_slice().is_empty());
     let read: Result<V12, Error> = from_slice(rt.alloc(), b"\xa2V2");
     assert!(rt; matches!(&read, Err(Error::Syntax(Text::InvalidType))));
+    // the content's error, and not that of a name
+    let read: Result<V12, Error> = from_slice(rt.alloc(), b"\x81\xa2V2\x91\x2a");
+    assert!(rt; matches!(&read, Err(Error::Syntax(Text::InvalidLength))));
+    let read: Result<V12, Error> = from_slice(rt.alloc(), b"\x81\xa2V2\x92\x2a\xff");
+    assert!(rt; matches!(&read, Err(Error::Syntax(Text::InvalidValue))));
     Ok(())
 }
 

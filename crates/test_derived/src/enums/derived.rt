@@ -1,5 +1,8 @@
 //! How the types of enums.rt are written and read. Written by tools/derive.py.
+ghost use Rattle.rmp_decode.specs.EnumRefusing.{RefusesEnum, no_content, with_content};
+ghost use Rattle.rmp_decode.specs.FieldRefusing.{RefusesFields};
 ghost use Rattle.rmp_decode.specs.Fields.{OfFields, Field, Absent, NoField};
+ghost use Rattle.rmp_decode.specs.Refusing.{RefusesTuple, part_of};
 ghost use Rattle.rmp_decode.specs.Rows.{AndThen, NoMore};
 ghost use Rattle.rmp_decode.specs.Seq.{OfRow};
 ghost use Rattle.rmp_decode.specs.Variants.{OfVariant, Case, NoCase, Bare, Content};
@@ -18,7 +21,7 @@ ghost use Rattle.test_derived.specs.declared.enums.Two.TheVariants as the_two;
 ghost use Rattle.test_derived.specs.declared.enums.V12.TheVariants as the_v12;
 
 use super::{Dog, Four, Mixed, Two, V12};
-use rmp_decode::{Deserialize, Deserializer};
+use rmp_decode::{Deserialize, Deserializer, ReadFields};
 use rmp_encode::{Serialize, Serializer};
 use rmp_serde::{NeverNil, RoundTrip};
 use rmp_wire::config::SerializerConfig;
@@ -64,6 +67,10 @@ impl<'de, R: ReadSlice<'de>> Deserialize<'de, R> for V12 {
         (AndThen (λ j. ⟦<u32 as Deserialize<'de, R>>⟧.reads human lends j a2) NoMore)) k) c) NoCase)) m };
 
     ghost absent = { None };
+
+    ghost refuses = { RefusesEnum (codes "V1" ∷ (codes "V2" ∷ []))
+        (no_content ∷ (with_content (RefusesTuple (part_of ⟦<u32 as Deserialize<'de, R>>⟧.reads ⟦<u32 as Deserialize<'de, R>>⟧.refuses
+        ∷ (part_of ⟦<u32 as Deserialize<'de, R>>⟧.reads ⟦<u32 as Deserialize<'de, R>>⟧.refuses ∷ []))) ∷ [])) };
 
     fn deserialize<C: SerializerConfig>(
         de: &mut Deserializer<R, C>,
@@ -137,6 +144,8 @@ impl<'de, R: ReadSlice<'de>> Deserialize<'de, R> for Two {
         (Case (λ c. (v ≡ the_two.First) × Bare c) (Case (λ c. (v ≡ the_two.Second) × Bare c) NoCase)) m };
 
     ghost absent = { None };
+
+    ghost refuses = { RefusesEnum (codes "First" ∷ (codes "Second" ∷ [])) (no_content ∷ (no_content ∷ [])) };
 
     fn deserialize<C: SerializerConfig>(
         de: &mut Deserializer<R, C>,
@@ -242,6 +251,13 @@ impl<'de, R: ReadSlice<'de>> Deserialize<'de, R> for Four {
         NoCase)))) m };
 
     ghost absent = { None };
+
+    ghost refuses = { RefusesEnum (codes "Unit" ∷ (codes "New" ∷ (codes "Tup" ∷ (codes "Str" ∷ []))))
+        (no_content ∷ (with_content (⟦<u8 as Deserialize<'de, R>>⟧.refuses)
+        ∷ (with_content (RefusesTuple (part_of ⟦<u8 as Deserialize<'de, R>>⟧.reads ⟦<u8 as Deserialize<'de, R>>⟧.refuses
+        ∷ (part_of ⟦<u16 as Deserialize<'de, R>>⟧.reads ⟦<u16 as Deserialize<'de, R>>⟧.refuses ∷ [])))
+        ∷ (with_content (RefusesFields (codes "a" ∷ (codes "b" ∷ [])) ⟦<(u8, (String, ())) as ReadFields<'de, R>>⟧.reads
+        ⟦<(u8, (String, ())) as ReadFields<'de, R>>⟧.parts) ∷ [])))) };
 
     fn deserialize<C: SerializerConfig>(
         de: &mut Deserializer<R, C>,
@@ -367,6 +383,10 @@ impl<'de, R: ReadSlice<'de>, T: Deserialize<'de, R>> Deserialize<'de, R> for Mix
         (Field (λ j. ⟦<Dog as Deserialize<'de, R>>⟧.reads human lends j a2) (Absent ⟦<Dog as Deserialize<'de, R>>⟧.absent a2) NoField)) k) c) NoCase)) m };
 
     ghost absent = { None };
+
+    ghost refuses = { RefusesEnum (codes "Other" ∷ (codes "Kept" ∷ []))
+        (with_content (T.refuses) ∷ (with_content (RefusesFields (codes "four" ∷ (codes "dog" ∷ []))
+        ⟦<(Option<Four>, (Dog, ())) as ReadFields<'de, R>>⟧.reads ⟦<(Option<Four>, (Dog, ())) as ReadFields<'de, R>>⟧.parts) ∷ [])) };
 
     fn deserialize<C: SerializerConfig>(
         de: &mut Deserializer<R, C>,

@@ -1,5 +1,6 @@
 //! How the types of kinds.rt are written and read. Written by tools/derive.py.
 ghost use Rattle.rmp_decode.specs.Arrays.{Exactly};
+ghost use Rattle.rmp_decode.specs.EnumRefusing.{RefusesEnum, with_content};
 ghost use Rattle.rmp_decode.specs.FieldRefusing.{RefusesFields};
 ghost use Rattle.rmp_decode.specs.Fields.{OfFields, Field, Absent, NoField};
 ghost use Rattle.rmp_decode.specs.Refusing.{RefusesTuple, part_of};
@@ -18,10 +19,12 @@ ghost use Rattle.rmp_wire.specs.Msg.{nil};
 ghost use Rattle.std.proofs.Common.{refl};
 ghost use Rattle.std.proofs.lemmas.Cmp.{on_total, nat_list_cmp_total};
 ghost use Rattle.std.specs.Prelude.{◌≡◌, ◌≢◌, ◌∷◌, [], None, Some, codes, IsSome, string_bytes};
+ghost use Rattle.test_derived.specs.declared.enums.Mixed.TheVariants as the_mixed;
 ghost use Rattle.test_derived.specs.declared.kinds.Either.TheVariants as the_either;
 
 use super::{
-    BTreeMap, BTreeSet, Chosen, Dog, Either, Four, Kennel, Opt, Pair, Row, Sorted, VecDeque,
+    BTreeMap, BTreeSet, Chosen, Counted, Dog, Either, Four, Guests, Kennel, Mixed, Opt, Pair, Row,
+    Sorted, VecDeque,
 };
 use rmp_decode::{Deserialize, Deserializer, ReadFields};
 use rmp_encode::{Serialize, Serializer};
@@ -143,6 +146,10 @@ impl<'de, R: ReadSlice<'de>, T: Deserialize<'de, R>> Deserialize<'de, R> for Eit
         NoField)) k) c) NoCase)) m };
 
     ghost absent = { None };
+
+    ghost refuses = { RefusesEnum (codes "Left" ∷ (codes "Right" ∷ []))
+        (with_content (T.refuses) ∷ (with_content (RefusesFields (codes "by" ∷ (codes "pair" ∷ []))
+        ⟦<(i32, (Option<Pair<T>>, ())) as ReadFields<'de, R>>⟧.reads ⟦<(i32, (Option<Pair<T>>, ())) as ReadFields<'de, R>>⟧.parts) ∷ [])) };
 
     fn deserialize<C: SerializerConfig>(
         de: &mut Deserializer<R, C>,
@@ -653,4 +660,117 @@ impl NeverNil for Chosen {
     ghost never_nil = { λ s v. newtype_other s (⟦<Either<u8> as Serialize>⟧.data_of v.0 s.human)
         ((let law : (x : _) → tree_of s (⟦<Either<u8> as Serialize>⟧.data_of x s.human) ≢ Some nil = elim
         [ the_either.Left a1 ↦ newtype_variant_other s (codes "Left") _ | the_either.Right a1 a2 ↦ struct_variant_other s (codes "Right") _ ] in law v.0)) };
+}
+
+impl Serialize for Guests {
+    ghost data_of = { λ v human. structure_of ((codes "counted", ⟦<Counted<Opt> as Serialize>⟧.data_of v.counted human)
+        ∷ ((codes "mixed", ⟦<Mixed<bool> as Serialize>⟧.data_of v.mixed human) ∷ [])) };
+
+    ghost is_value = { λ v. ⟦<Counted<Opt> as Serialize>⟧.is_value v.counted × ⟦<Mixed<bool> as Serialize>⟧.is_value v.mixed };
+
+    ghost takes_memory = { λ s. one_of (⟦<Counted<Opt> as Serialize>⟧.takes_memory s ∷ (⟦<Mixed<bool> as Serialize>⟧.takes_memory s ∷ [])) };
+
+    fn serialize<W: Sink, C: SerializerConfig>(
+        &self,
+        se: &mut Serializer<W, C>,
+    ) -> Result<(), rmp_encode::Error> {
+        let parts = rmp_encode::Both {
+            first: &self.counted,
+            second: &self.mixed,
+        };
+        se.serialize_fields("Guests", &["counted", "mixed"], &parts)
+    }
+
+    #[tactic(auto, using(rmp_encode::proofs::Fields::structure_no_byte))]
+    fn as_u8(&self, _human: bool) -> Option<u8> {
+        None
+    }
+}
+
+impl<'de, R: ReadSlice<'de>> Deserialize<'de, R> for Guests {
+    ghost reads = { λ human lends m v. OfFields (codes "counted" ∷ (codes "mixed" ∷ []))
+        (Field (λ j. ⟦<Counted<Opt> as Deserialize<'de, R>>⟧.reads human lends j v.counted)
+        (Absent ⟦<Counted<Opt> as Deserialize<'de, R>>⟧.absent v.counted)
+        (Field (λ j. ⟦<Mixed<bool> as Deserialize<'de, R>>⟧.reads human lends j v.mixed) (Absent ⟦<Mixed<bool> as Deserialize<'de, R>>⟧.absent v.mixed)
+        NoField)) m };
+
+    ghost absent = { None };
+
+    ghost refuses = { RefusesFields (codes "counted" ∷ (codes "mixed" ∷ [])) ⟦<(Counted<Opt>, (Mixed<bool>, ())) as ReadFields<'de, R>>⟧.reads
+        ⟦<(Counted<Opt>, (Mixed<bool>, ())) as ReadFields<'de, R>>⟧.parts };
+
+    fn deserialize<C: SerializerConfig>(
+        de: &mut Deserializer<R, C>,
+    ) -> Result<Guests, rmp_decode::Error> {
+        let read: Result<(Counted<Opt>, (Mixed<bool>, ())), rmp_decode::Error> =
+            de.deserialize_fields(&["counted", "mixed"]);
+        match read {
+            Ok(parts) => {
+                let (counted, (mixed, ())) = parts;
+                Ok(Guests { counted, mixed })
+            }
+            Err(e) => Err(e),
+        }
+    }
+
+    fn missing() -> Option<Guests> {
+        None
+    }
+}
+
+impl<'de, R: ReadSlice<'de>> RoundTrip<'de, R> for Guests {
+    ghost use Rattle.test_derived.specs.contracts.structs.derived.DogRoundTrip.TheImpl.Laws as dog_rounds;
+    ghost use Rattle.test_derived.specs.contracts.enums.derived.FourNeverNil.TheImpl.Laws as four_other;
+    ghost use Rattle.test_derived.specs.contracts.enums.derived.FourRoundTrip.TheImpl.Laws as four_rounds;
+    ghost use Rattle.test_derived.specs.contracts.structs.derived.OptRoundTrip.TheImpl.Laws as opt_rounds;
+    ghost use mir.Syntax.{given};
+
+    ghost has_data = { λ human v. structure_all ((codes "counted", ⟦<Counted<Opt> as Serialize>⟧.data_of v.counted human)
+        ∷ ((codes "mixed", ⟦<Mixed<bool> as Serialize>⟧.data_of v.mixed human) ∷ [])) (
+          (structure_all ((codes "value", ⟦<Opt as Serialize>⟧.data_of v.counted.value human)
+              ∷ ((codes "count", ⟦<u64 as Serialize>⟧.data_of v.counted.count human) ∷ []))
+              ((opt_rounds.has_data-law R.row R.ReadSlice.own (given 0) R.Source (given 0) human v.counted.value), (refl, tt))),
+          (
+            (let law : (x : _) → IsSome (⟦<Mixed<bool> as Serialize>⟧.data_of x human) = elim [
+              | the_mixed.Other a1 ↦ newtype_variant_some (codes "Other") (⟦<bool as Serialize>⟧.data_of a1 human) refl
+              | the_mixed.Kept a1 a2 ↦
+                  struct_variant_all (codes "Kept") ((codes "four", ⟦<Option<Four> as Serialize>⟧.data_of a1 human)
+                  ∷ ((codes "dog", ⟦<Dog as Serialize>⟧.data_of a2 human) ∷ [])) (
+                    (option_some (λ x. ⟦<Four as Serialize>⟧.data_of x human)
+                        (λ x4. (four_rounds.has_data-law R.row R.ReadSlice.own (given 0) R.Source (given 0) human x4)) a1),
+                    ((dog_rounds.has_data-law R.row R.ReadSlice.own (given 0) R.Source (given 0) human a2), tt),
+                  )
+            ] in law v.mixed),
+            tt,
+          ),
+        ) };
+
+    ghost round = { λ lent s v fits. structure_row s (codes "counted" ∷ (codes "mixed" ∷ [])) _ _ refl
+        (fields_cons s (codes "counted") _ _ _ (λ j. ⟦<Counted<Opt> as Deserialize<'de, R>>⟧.reads s.human R.lends j v.counted)
+        (Absent ⟦<Counted<Opt> as Deserialize<'de, R>>⟧.absent v.counted) _
+        (structure_row s (codes "value" ∷ (codes "count" ∷ [])) _ _ refl
+        (fields_cons s (codes "value") _ _ _ (λ j. ⟦<Opt as Deserialize<'de, R>>⟧.reads s.human R.lends j v.counted.value)
+        (Absent ⟦<Opt as Deserialize<'de, R>>⟧.absent v.counted.value) _
+        (opt_rounds.round-law R.row R.ReadSlice.own (given 0) R.Source (given 0) (λ e. cc) s v.counted.value fits.0.0)
+        (fields_cons s (codes "count") _ _ _ (λ j. ⟦<u64 as Deserialize<'de, R>>⟧.reads s.human R.lends j v.counted.count)
+        (Absent ⟦<u64 as Deserialize<'de, R>>⟧.absent v.counted.count) _ (unsigned_row_64 s v.counted.count fits.0.1) (fields_none s))))
+        (fields_cons s (codes "mixed") _ _ _ (λ j. ⟦<Mixed<bool> as Deserialize<'de, R>>⟧.reads s.human R.lends j v.mixed)
+        (Absent ⟦<Mixed<bool> as Deserialize<'de, R>>⟧.absent v.mixed) _ (let law : (x : _) → ⟦<Mixed<bool> as Serialize>⟧.is_value x
+        → LowersTo s (⟦<Mixed<bool> as Serialize>⟧.data_of x s.human) (λ m. ⟦<Mixed<bool> as Deserialize<'de, R>>⟧.reads s.human R.lends m x) = elim [
+          | the_mixed.Other a1 ↦ λ fits. newtype_variant_row s (codes "Other" ∷ (codes "Kept" ∷ [])) (codes "Other") 0 refl _ _
+              (λ j. ⟦<bool as Deserialize<'de, R>>⟧.reads s.human R.lends j a1) (λ m h. (a1, refl, h)) (truth_row s a1)
+          | the_mixed.Kept a1 a2 ↦ λ fits.
+              struct_variant_row s (codes "Other" ∷ (codes "Kept" ∷ [])) (codes "Kept") 1 refl _ (codes "four" ∷ (codes "dog" ∷ [])) _ _ refl
+              (λ m h. (a1, a2, refl, h)) (fields_cons s (codes "four") _ _ _ (λ j. ⟦<Option<Four> as Deserialize<'de, R>>⟧.reads s.human R.lends j a1)
+              (Absent ⟦<Option<Four> as Deserialize<'de, R>>⟧.absent a1) _
+              (option_row s (λ x. ⟦<Four as Serialize>⟧.data_of x s.human) ⟦<Four as Serialize>⟧.is_value (⟦<Four as Deserialize<'de, R>>⟧.reads s.human R.lends)
+              (λ x8. four_other.never_nil-law s x8) (λ x7 h7. (four_rounds.round-law R.row R.ReadSlice.own (given 0) R.Source (given 0) (λ e. cc) s x7 h7)) a1
+              fits.0) (fields_cons s (codes "dog") _ _ _ (λ j. ⟦<Dog as Deserialize<'de, R>>⟧.reads s.human R.lends j a2)
+              (Absent ⟦<Dog as Deserialize<'de, R>>⟧.absent a2) _ (dog_rounds.round-law R.row R.ReadSlice.own (given 0) R.Source (given 0) (λ e. cc) s a2 fits.1)
+              (fields_none s)))
+        ] in law v.mixed fits.1) (fields_none s))) };
+}
+
+impl NeverNil for Guests {
+    ghost never_nil = { λ s v. structure_other s _ };
 }

@@ -1,0 +1,117 @@
+"""Elements that are written by two calls, the front ones and those behind: their type and its proofs, for elements.py and derive.py."""
+
+FIELDS = ("first second third fourth fifth sixth seventh eighth"
+          " ninth tenth eleventh twelfth thirteenth fourteenth fifteenth sixteenth").split()
+# What struct holds so many.
+NAMES = "One Both Three Four Five Six Seven Eight".split()
+
+
+def listed(words):
+    """The list of these."""
+    return "(" + " ∷ (".join(words) + " ∷ []" + ")" * len(words)
+
+
+def kinds(n):
+    return [f"E{i + 1}" for i in range(n)]
+
+
+def some(start, end, path=""):
+    """The elements from one place to another, as a value."""
+    fields = " ".join(f"{FIELDS[i - start]}: self.{FIELDS[i]}," for i in range(start, end))
+    return f"{path}{NAMES[end - start - 1]} {{ {fields} }}"
+
+
+def bodies(n, k, path=""):
+    """How so many elements are written, the first k before the others: with names and without."""
+    parts = f"""        let front = {some(0, k, path)};
+        let back = {some(k, n, path)};
+"""
+    elements = f"""{parts}        front.write(se)?;
+        back.write(se)"""
+    named = f"""{parts}        front.write_fields(&names[..{k}], se)?;
+        back.write_fields(&names[{k}..], se)"""
+    return elements, named
+
+
+def implementation(name, n, elements, named, path=""):
+    """`Elements` of the struct with this name, by these bodies."""
+    names = kinds(n)
+    bounds = ", ".join(f"{kind}: Serialize" for kind in names)
+    data = " ∷ ".join(f"{kind}.data_of v.{FIELDS[i]}.now human" for i, kind in enumerate(names))
+    value = " × ".join(f"{kind}.is_value v.{FIELDS[i]}.now" for i, kind in enumerate(names))
+    memory = listed([f"{kind}.takes_memory s" for kind in names])
+    return f"""
+impl<'r, {bounds}> Elements for {name}<'r, {", ".join(names)}> {{
+    ghost count = {{ {n} }};
+
+    ghost parts_of = {{ λ v human. {data} ∷ [] }};
+
+    ghost are_values = {{ λ v. {value} }};
+
+    ghost takes_memory = {{ λ s. one_of {memory} }};
+
+    ghost counted = {{ λ v human. refl }};
+
+    #[inline(always)]
+    fn len(&self) -> usize {{
+        {n}
+    }}
+
+    #[inline(always)]
+    fn write<W: Sink, C: SerializerConfig>(&self, se: &mut Serializer<W, C>) -> Result<(), {path}Error> {{
+{elements}
+    }}
+
+    #[inline(always)]
+    fn write_fields<W: Sink, C: SerializerConfig>(
+        &self,
+        names: &[&'static str],
+        se: &mut Serializer<W, C>,
+    ) -> Result<(), {path}Error> {{
+{named}
+    }}
+}}
+"""
+
+
+def answers(n, k, word, goals):
+    """The answers of one of these bodies, `write` or `write_fields`, whose goals stand in this module."""
+
+    def memory(start, end):
+        return listed([f"g.E{i + 1}.Serialize.takes_memory (settings_of old)" for i in range(start, end)])
+
+    def data(start, end):
+        return listed([f"g.E{i + 1}.Serialize.data_of c.args.self.now.{FIELDS[i]}.now (settings_of old).human" for i in range(start, end)])
+
+    def less(side):
+        return f"({side}_or g.W.Sink.takes_memory {memory(0, k)} {memory(k, n)})"
+
+    named = f"(named_halves g.W.Sink c.args.names.now {k} {data(0, k)} {data(k, n)} rest refl (omega (arith, c.requires)) h)"
+    first = "h" if word == "write" else named
+    back = f"c.{word}-2.ensures.writes old t rest (c.in_ok-{word}.ensures.writes old t _ {first})"
+    uses = [
+        f"Rattle.std.proofs.Common.{{{'' if word == 'write' else 'arith, refl, '}◌∷◌, []}}",
+        "Rattle.std.proofs.lemmas.Result.{err_from_is_err_and}",
+        "Rattle.rmp_encode.specs.Going.{IsWriting}",
+        "Rattle.rmp_encode.specs.Ser.{sink_of, settings_of}",
+    ]
+    if word == "write_fields":
+        uses.append("Rattle.rmp_encode.proofs.Fields.{named_halves}")
+    uses.append("Rattle.rmp_encode.proofs.Going.{going_more, keeps_then}")
+    uses.append("Rattle.rmp_encode.proofs.Parts.{front_or, back_or, part_takes}")
+    return "".join(f"use {name}\n" for name in uses) + f"""use {goals}.Goals as goal
+
+pub returns-in_err-{word}-clause-writes : goal.returns-in_err-{word}-clause-writes
+returns-in_err-{word}-clause-writes g c =
+    let p = err_from_is_err_and c.from_residual.result c.from_residual.ensures.1 in
+    rw (p.1, p.2) (λ old t rest h. part_takes g.W.Sink _ {less("front")}
+    (c.in_err-{word}.ensures.writes old t _ {first}))
+
+pub returns-clause-writes : goal.returns-clause-writes
+returns-clause-writes g c = λ old t rest h. going_more g.W.Sink (IsWriting g.W.Sink old t rest c.{word}-2.new.se) t (sink_of old)
+    (sink_of c.{word}-2.new.se) c.{word}-2.result {less("back")}
+    ({back})
+
+pub returns-clause-keeps : goal.returns-clause-keeps
+returns-clause-keeps g c = keeps_then g.W.Sink c.{word}.ensures.keeps c.{word}-2.ensures.keeps
+"""
