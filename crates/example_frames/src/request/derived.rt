@@ -1,5 +1,7 @@
 //! How the types of request.rt are written and read. Written by tools/derive.py.
 ghost use Rattle.example_frames.specs.declared.request.Request.TheVariants as the_request;
+ghost use Rattle.rmp_decode.specs.EnumRefusing.{RefusesEnum, no_content, with_content};
+ghost use Rattle.rmp_decode.specs.Refusing.{RefusesTuple, part_of};
 ghost use Rattle.rmp_decode.specs.Rows.{AndThen, NoMore};
 ghost use Rattle.rmp_decode.specs.Seq.{OfRow};
 ghost use Rattle.rmp_decode.specs.Variants.{OfVariant, Case, NoCase, Bare, Content};
@@ -73,6 +75,11 @@ impl<'de, R: ReadSlice<'de>> Deserialize<'de, R> for Request {
         (AndThen (λ j. ⟦<Value as Deserialize<'de, R>>⟧.reads human lends j a2) NoMore)) k) c) NoCase))) m };
 
     ghost absent = { None };
+
+    ghost refuses = { RefusesEnum (codes "Ping" ∷ (codes "Get" ∷ (codes "Put" ∷ [])))
+        (no_content ∷ (with_content (⟦<u64 as Deserialize<'de, R>>⟧.refuses)
+        ∷ (with_content (RefusesTuple (part_of ⟦<u64 as Deserialize<'de, R>>⟧.reads ⟦<u64 as Deserialize<'de, R>>⟧.refuses
+        ∷ (part_of ⟦<Value as Deserialize<'de, R>>⟧.reads ⟦<Value as Deserialize<'de, R>>⟧.refuses ∷ []))) ∷ []))) };
 
     fn deserialize<C: SerializerConfig>(
         de: &mut Deserializer<R, C>,
