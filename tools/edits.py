@@ -17,22 +17,14 @@ CRATES = os.path.join(TOP, "crates")
 LIBRARIES = "rmp_wire rmp_encode rmp_decode rmp_serde canon_lines".split()
 # Functions whose body is another's, but for a width, a kind or a constant, or a call of it.
 ALIKE = {
-    "write_f64_bits": "write_f32_bits",
-    "write_map_len": "write_array_len",
-    "write_bin": "write_str",
     "number_8": "number_16",
     "number_32": "number_16",
-    "write_named": "write",
-    "serialize_f64_bits": "serialize_f32_bits",
     "serialize_u8": "serialize_u64",
     "serialize_u16": "serialize_u64",
     "serialize_u32": "serialize_u64",
     "serialize_i8": "serialize_i64",
     "serialize_i16": "serialize_i64",
     "serialize_i32": "serialize_i64",
-    "next_field_by": "next_field",
-    "missing_field_or": "missing_field",
-    "deserialize_u8": "deserialize_u16",
     "deserialize_i16": "deserialize_i8",
     "deserialize_i32": "deserialize_i8",
     "deserialize_i64": "deserialize_i8",
@@ -45,7 +37,6 @@ ALIKE = {
     "with_binary": "with_human_readable",
     "from_read_ref": "from_slice",
     "serialize_some": "serialize_newtype_struct",
-    "as_f64_bits": "as_f32_bits",
 }
 FUNCTION = re.compile(r"^impl\b[^{;]*|^(?:pub )?trait [^{;]*|^\}|^ *(pub )?(?:const )?fn (\w+)", re.M)
 # Nothing, a field or a reference to one, or a struct of what is given, with nothing read or written.
