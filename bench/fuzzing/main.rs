@@ -78,15 +78,12 @@ strict! {
     bench_strict_buffer as bench_read_buffer
     bench_strict_bytes as bench_read_bytes
     bench_strict_char as bench_read_char
-    bench_strict_eight as bench_read_eight
     bench_strict_f64 as bench_read_f64
     bench_strict_i64 as bench_read_i64
     bench_strict_map as bench_read_map
     bench_strict_option as bench_read_option
-    bench_strict_shape as bench_read_shape
     bench_strict_skip as bench_skip
     bench_strict_text as bench_read_text
-    bench_strict_two as bench_read_two
     bench_strict_u128 as bench_read_u128
 }
 

@@ -6,7 +6,6 @@
 #![tactic(auto)]
 
 mod shapes;
-mod strict;
 mod twelve;
 
 use rmp_decode::{Deserialize, Deserializer, Error, from_slice};

@@ -1,5 +1,9 @@
-//! The same loads, read strictly: a list counts where its spelling is canonical.
-use crate::shapes::{EightFields, Shape, Two};
+//! Strict reads of values of many types, for a program that compares them with other reads (`bench/fuzz`).
+//!
+//! Each export reads a list `reps` times, drops what it has read, and answers how many elements all the rounds came to: a list counts where
+//! its spelling is canonical. They stand apart from `bench_shapes`, since a second read of a type there would change what is measured.
+#![tactic(auto)]
+
 use rmp_decode::{Deserialize, Deserializer, Error, from_slice_strict};
 use rmp_wire::{ByteBuf, F64Bits, ReadRefReader};
 use std::alloc::Global;
@@ -20,24 +24,6 @@ fn reads<'de, T: Deserialize<'de, ReadRefReader<'de>>>(
         }
     }
     sum
-}
-
-/// Reads a list of structs of two fields.
-#[unsafe(no_mangle)]
-pub extern "C" fn bench_strict_two(alloc: Global, data: &[u8], reps: u32) -> usize {
-    reads::<Two>(alloc, data, reps)
-}
-
-/// Reads a list of structs of eight fields.
-#[unsafe(no_mangle)]
-pub extern "C" fn bench_strict_eight(alloc: Global, data: &[u8], reps: u32) -> usize {
-    reads::<EightFields>(alloc, data, reps)
-}
-
-/// Reads a list of variants of an enum.
-#[unsafe(no_mangle)]
-pub extern "C" fn bench_strict_shape(alloc: Global, data: &[u8], reps: u32) -> usize {
-    reads::<Shape>(alloc, data, reps)
 }
 
 /// Reads a list of numbers that may be nil.
