@@ -15,6 +15,7 @@ ghost use Rattle.rmp_decode.specs.VariantNames.{TakesName, StartsWithNoName, unk
 mod buffers;
 mod chars;
 mod ext;
+mod lent;
 pub(crate) mod pieces;
 mod strings;
 mod texts;

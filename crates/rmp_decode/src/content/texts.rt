@@ -10,6 +10,7 @@ ghost use Rattle.rmp_decode.specs.Read.{IsRaw, IsString, IsChar};
 
 use crate::content::Slices;
 use crate::content::chars::{apart_char, char_taken};
+use crate::content::lent::apart_lent;
 use crate::content::pieces::{lent_content, next_char, owned};
 use crate::deserializer::Deserializer;
 use crate::deserializer::kinds::{raw_in, text_in};
@@ -166,6 +167,39 @@ impl<R: Source, C: SerializerConfig> Deserializer<R, C> {
         ensures exact { RefusesLeaf R.Source IsRawHead not_raw (not_bytes R.lends) self.old self.new result }
         ensures memory { R.lends ≡ true → IfErr result (λ e. e ≢ Error.OutOfMemory) }
     {
+        match self.bin_front() {
+            Some(len) => self.bytes_lent_behind(len),
+            None => apart_lent::<R, C, &'de [u8], Slices<'de>>(self),
+        }
+    }
+
+    // Lends the bytes behind a head that was taken, so many.
+    #[inline(always)]
+    fn bytes_lent_behind<'de>(&mut self, len: u32) -> Result<&'de [u8], Error>
+    where
+        R: ReadSlice<'de>,
+        ensures law { AfterHead R.Source (λ m s. (R.lends ≡ true) × IsRaw m s.now) (Head.Bin len) self.old self.new result }
+        ensures exact { IfErr result (RefusesBehind R.Source IsRawHead not_raw (not_bytes R.lends) (Head.Bin len) self.old self.new) }
+        ensures memory { R.lends ≡ true → IfErr result (λ e. e ≢ Error.OutOfMemory) }
+    {
+        match lent_content(&mut self.reader, false, len as usize) {
+            Ok(bytes) => {
+                self.failed = false;
+                Ok(bytes)
+            }
+            Err(e) => Err(e),
+        }
+    }
+
+    // The same as `deserialize_bytes` by way of `head`, by a call.
+    #[inline(never)]
+    pub(crate) fn headed_bytes<'de>(&mut self) -> Result<&'de [u8], Error>
+    where
+        R: ReadSlice<'de>,
+        ensures law { Lawful R.Source (λ m s. (R.lends ≡ true) × IsRaw m s.now) self.old self.new result }
+        ensures exact { RefusesLeaf R.Source IsRawHead not_raw (not_bytes R.lends) self.old self.new result }
+        ensures memory { R.lends ≡ true → IfErr result (λ e. e ≢ Error.OutOfMemory) }
+    {
         match self.lent_raw() {
             Ok((_, bytes)) => Ok(bytes),
             Err(e) => Err(e),
@@ -179,6 +213,43 @@ impl<R: Source, C: SerializerConfig> Deserializer<R, C> {
     /// lend, bytes and a text that is UTF-8 are `Syntax("invalid type")`.
     #[inline(always)]
     pub fn deserialize_str<'de>(&mut self) -> Result<&'de str, Error>
+    where
+        R: ReadSlice<'de>,
+        ensures law { Lawful R.Source (λ m s. (R.lends ≡ true) × IsString m s.now) self.old self.new result }
+        ensures exact { RefusesLeaf R.Source IsRawHead not_raw (not_str R.lends) self.old self.new result }
+        ensures memory { R.lends ≡ true → IfErr result (λ e. e ≢ Error.OutOfMemory) }
+    {
+        match self.text_front() {
+            Some(len) => self.str_behind(len),
+            None => apart_lent::<R, C, &'de str, Slices<'de>>(self),
+        }
+    }
+
+    // Lends the text behind a head that was taken, of so many bytes.
+    #[inline(always)]
+    fn str_behind<'de>(&mut self, len: u32) -> Result<&'de str, Error>
+    where
+        R: ReadSlice<'de>,
+        ensures law { AfterHead R.Source (λ m s. (R.lends ≡ true) × IsString m s.now) (Head.Text len) self.old self.new result }
+        ensures exact { IfErr result (RefusesBehind R.Source IsRawHead not_raw (not_str R.lends) (Head.Text len) self.old self.new) }
+        ensures memory { R.lends ≡ true → IfErr result (λ e. e ≢ Error.OutOfMemory) }
+    {
+        let bytes = match lent_content(&mut self.reader, true, len as usize) {
+            Ok(bytes) => bytes,
+            Err(e) => return Err(e),
+        };
+        match str::from_utf8(bytes) {
+            Ok(s) => {
+                self.failed = false;
+                Ok(s)
+            }
+            Err(e) => Err(Error::Utf8Error(e)),
+        }
+    }
+
+    // The same as `deserialize_str` by way of `head`, by a call.
+    #[inline(never)]
+    pub(crate) fn headed_str<'de>(&mut self) -> Result<&'de str, Error>
     where
         R: ReadSlice<'de>,
         ensures law { Lawful R.Source (λ m s. (R.lends ≡ true) × IsString m s.now) self.old self.new result }

@@ -1,5 +1,9 @@
-use Rattle.rmp_decode.proofs.Laws.{lawful_err}
+use Rattle.std.proofs.Common.{◌≡◌, ℕ, List, Bor, true, subst}
+use Rattle.rmp_decode.specs.Law.{Lawful}
+use Rattle.rmp_decode.specs.Read.{IsRaw}
 use Rattle.rmp_decode.proofs.deserializer.Deserializer.deserialize_bytes.Goals as goal
 
-pub returns-in-Err-clause-law : goal.returns-in-Err-clause-law
-returns-in-Err-clause-law g c = lawful_err _ _ _ _ _ _ (λ m r. ((r.1.1.0, r.0), (r.1.0, r.1.1.1))) c.in-Err.ensures.law
+pub returns-in-None-clause-law : goal.returns-in-None-clause-law
+returns-in-None-clause-law g c =
+    subst (λ d. Lawful g.R.Source (λ m (s : Bor (List ℕ)). (g.R.ReadSlice.lends ≡ true) × IsRaw m s.now) d c.apart_lent.new.de c.apart_lent.result)
+    c.in-None.ensures.kept c.apart_lent.ensures.law
