@@ -10,7 +10,7 @@ use rmp_decode::{Deserialize, Deserializer, from_slice};
 use rmp_encode::{Error, Serialize, Serializer, write};
 use rmp_serde::Value;
 use rmp_wire::config::BytesMode;
-use rmp_wire::{ByteBuf, ReadReader, SliceSink, Source};
+use rmp_wire::{ByteBuf, ReadReader, Sink, SliceSink, Source};
 use std::alloc::Global;
 use std::collections::BTreeMap;
 use std::io::Cursor;
@@ -203,7 +203,7 @@ fn into_slice(rt: &(impl Print + AllocGlobal), value: &Nested) -> Result<(), Fau
 }
 
 // What a value is written as where bytes are made of all that may be bytes.
-fn forced<T: Serialize>(alloc: Global, sink: &mut SliceSink, value: &T) -> Result<(), Error> {
+fn forced<W: Sink, T: Serialize>(alloc: Global, sink: &mut W, value: &T) -> Result<(), Error> {
     let mut se = Serializer::new(alloc, sink).with_bytes(BytesMode::ForceAll);
     value.serialize(&mut se)
 }
