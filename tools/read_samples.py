@@ -2,7 +2,7 @@
 
 A line of the sample has a type, bytes in hex, what the Rust crate answers from a slice and from a reader, what the rules give
 for the port from a slice and from a reader, and how the two compare. The rows of the types that src/kinds.rt names are taken,
-with what the rules give from a slice and from a reader.
+with what the rules give from a slice.
 """
 import os
 import re
@@ -23,11 +23,11 @@ def rows(kinds):
         for line in sample:
             fields = line.rstrip("\n").split(" | ")
             if fields[0] in kinds:
-                yield fields[0], fields[1], fields[4], fields[5]
+                yield fields[0], fields[1], fields[4]
 
 
 def asked_and_answered():
     """The lines of the program's input, and what it must print for them."""
     found = list(rows(kinds()))
-    asked = [f"{kind} | {digits}\n" for kind, digits, *_ in found]
-    return asked, [" | ".join(row) + "\n" for row in found]
+    asked = [f"{kind} | {digits}\n" for kind, digits, _ in found]
+    return asked, [f"{kind} | {digits} | {answer}\n" for kind, digits, answer in found]

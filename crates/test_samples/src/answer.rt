@@ -1,24 +1,13 @@
-//! What came of a read, as the sample says it, in each way in which bytes are read: from a slice, from a cursor and a byte a pull,
-//! strictly and not.
+//! What came of a read, as the sample says it.
 use crate::fault::Fault;
-use crate::puts::each_room_filled;
 use faulty_io::Drip;
-use rmp_serde::decode::{Deserialize, Error, Text, from_read, from_slice, from_slice_strict};
+use rmp_serde::decode::{Deserialize, Error, from_read, from_slice};
 use rmp_serde::encode::{Serialize, to_vec};
-use rmp_serde::wire::{ReadReader, ReadRefReader, ReadSlice};
-use rmp_serde::{Canon, Deserializer, check_canonical};
+use rmp_serde::wire::{ReadReader, ReadRefReader};
 use std::alloc::Global;
-use std::io::Cursor;
 
 /// The most pulls of a source that are failed in turn.
-const PULLS: usize = 1100;
-
-/// What bytes are read as: from a slice, and from a reader, with how many bytes that took.
-#[derive(Drop)]
-pub struct Answer {
-    pub slice: String,
-    pub reader: String,
-}
+const PULLS: usize = 64;
 
 // The name of an error's variant, and what it holds but for causes.
 fn refused(alloc: Global, error: &Error) -> Result<String, Fault> {
@@ -42,7 +31,9 @@ fn refused(alloc: Global, error: &Error) -> Result<String, Fault> {
 fn said<T: Serialize + Drop>(alloc: Global, read: Result<T, Error>) -> Result<String, Fault> {
     match read {
         Ok(value) => {
-            let written = to_vec(alloc, &value)?;
+            let Ok(written) = to_vec(alloc, &value) else {
+                return Err(Fault::Memory);
+            };
             let digits = hex::encode(alloc, written.as_slice())?;
             Ok(format!(in alloc; "Ok {digits}")?)
         }
@@ -50,186 +41,53 @@ fn said<T: Serialize + Drop>(alloc: Global, read: Result<T, Error>) -> Result<St
     }
 }
 
-// Whether a reader that has refused something fails from then on.
-fn is_failed<'de, R: ReadSlice<'de>>(de: &mut Deserializer<R>) -> bool {
-    let next = de.deserialize_bool();
-    let last = de.deserialize_ignored_any();
-    matches!(&next, Err(Error::Uncategorized(Text::FailedBefore)))
-        && matches!(&last, Err(Error::Uncategorized(Text::FailedBefore)))
-}
-
-// The value's own spelling, or the refusal, after which the reader has failed for good.
-fn told<'de, R: ReadSlice<'de>, T: Deserialize<'de, R> + Serialize>(
+// What comes of a read from a source that gives one byte a pull and may fail.
+fn dripped<'a, T: Deserialize<'a, ReadReader<Drip<'a>>> + Serialize>(
     alloc: Global,
-    de: &mut Deserializer<R>,
-    strict: bool,
+    source: Drip<'a>,
 ) -> Result<String, Fault> {
-    de.set_strict(strict);
-    let read: Result<T, Error> = Deserialize::deserialize(de);
-    if read.is_err() && !is_failed(de) {
-        return Err(Fault::Reader);
-    }
+    let read: Result<T, Error> = from_read(alloc, source);
     said(alloc, read)
 }
 
-// The answer, with how many bytes a reader took for a value.
-fn with_taken(alloc: Global, answer: String, taken: u64) -> Result<String, Fault> {
-    if answer.as_str().starts_with("Ok") {
-        return Ok(format!(in alloc; "{answer} taken {taken}")?);
-    }
-    Ok(answer)
-}
-
-fn from_bytes<'de, T: Deserialize<'de, ReadRefReader<'de>> + Serialize>(
+// Fails each pull of a source in turn: the read says so, or gives the answer that it gave before.
+fn each_pull_failed<'a, T: Deserialize<'a, ReadReader<Drip<'a>>> + Serialize>(
     alloc: Global,
-    bytes: &'de [u8],
-    strict: bool,
-) -> Result<String, Fault> {
-    let mut de = Deserializer::from_read_ref(alloc, bytes);
-    told::<_, T>(alloc, &mut de, strict)
-}
-
-fn from_cursor<'de, T: Deserialize<'de, ReadReader<Cursor<&'de [u8]>>> + Serialize>(
-    alloc: Global,
-    bytes: &'de [u8],
-    strict: bool,
-) -> Result<String, Fault> {
-    let mut de = Deserializer::new(alloc, Cursor::new(bytes));
-    let answer = told::<_, T>(alloc, &mut de, strict)?;
-    with_taken(alloc, answer, de.position())
-}
-
-// What comes of a source that gives a byte a pull and fails after so many, and how many faults it had.
-fn dripped<'de, T: Deserialize<'de, ReadReader<Drip<'de>>> + Serialize>(
-    alloc: Global,
-    bytes: &'de [u8],
-    pulls: usize,
-    strict: bool,
-) -> Result<(String, u64), Fault> {
-    let mut de = Deserializer::new(alloc, Drip::new(bytes, pulls));
-    let answer = told::<_, T>(alloc, &mut de, strict)?;
-    let source = de.into_inner();
-    let taken = bytes.len().saturating_sub(source.rest.len());
-    Ok((with_taken(alloc, answer, taken as u64)?, source.faults))
-}
-
-// Whether an answer tells of a fault of the source, or of its end.
-fn tells_of_the_source(answer: &str) -> bool {
-    answer == "Err InvalidMarkerRead" || answer == "Err InvalidDataRead"
-}
-
-// Fails each pull of a source in turn: the read then says what it says of bytes that end there, and the fault is the only one. The
-// first source that is pulled often enough gives the answer.
-fn each_pull_failed<'de, T>(
-    alloc: Global,
-    bytes: &'de [u8],
-    strict: bool,
+    bytes: &'a [u8],
     answer: &str,
-) -> Result<(), Fault>
-where
-    T: Deserialize<'de, ReadRefReader<'de>> + Deserialize<'de, ReadReader<Drip<'de>>> + Serialize,
-{
+) -> Result<(), Fault> {
     for pulls in 0..PULLS.min(bytes.len()) {
-        let (failed, faults) = dripped::<T>(alloc, bytes, pulls, strict)?;
-        if faults == 0 {
-            return if failed.as_str() == answer {
-                Ok(())
-            } else {
-                Err(Fault::Pull)
-            };
-        }
-        let cut = from_bytes::<T>(alloc, &bytes[..pulls], strict)?;
-        if faults != 1 || failed.as_str() != cut.as_str() || !tells_of_the_source(cut.as_str()) {
-            return Err(Fault::Pull);
+        let failed = dripped::<T>(alloc, Drip::new(bytes, pulls))?;
+        let is_told = matches!(
+            failed.as_str(),
+            "Err InvalidMarkerRead" | "Err InvalidDataRead"
+        );
+        if !is_told && (pulls == 0 || failed.as_str() != answer) {
+            return Err(Fault::Drip);
         }
     }
     Ok(())
 }
 
-// What the bytes are read as in each way, strictly or not.
-fn ways<'de, T>(alloc: Global, bytes: &'de [u8], strict: bool) -> Result<Answer, Fault>
-where
-    T: Deserialize<'de, ReadRefReader<'de>>
-        + Deserialize<'de, ReadReader<Cursor<&'de [u8]>>>
-        + Deserialize<'de, ReadReader<Drip<'de>>>
-        + Serialize,
-{
-    let slice = from_bytes::<T>(alloc, bytes, strict)?;
-    let reader = from_cursor::<T>(alloc, bytes, strict)?;
-    let (drip, faults) = dripped::<T>(alloc, bytes, usize::MAX, strict)?;
-    if faults != 0 || drip.as_str() != reader.as_str() {
-        return Err(Fault::Reader);
-    }
-    each_pull_failed::<T>(alloc, bytes, strict, reader.as_str())?;
-    Ok(Answer { slice, reader })
-}
-
-// Whether a strict read answers as it has to: as any other where no head is at fault, and else with the refusal of a head, or as any
-// other where that one refuses too.
-fn is_strict(alloc: Global, bytes: &[u8], answer: &str, strict: &str) -> bool {
-    match check_canonical(alloc, bytes) {
-        Ok(Canon::Fault(_)) => {
-            strict == "Err NotCanonical" || answer.starts_with("Err") && strict == answer
-        }
-        _ => strict == answer,
-    }
-}
-
-// The same by the call that reads a slice; what was read fills each room that is too small.
-fn by_one_call<'de, T: Deserialize<'de, ReadRefReader<'de>> + Serialize>(
+/// Reads the bytes as a value of this type, which may be lent from them, and gives the value's own spelling, or the refusal.
+pub fn lent_row<'de, T: Deserialize<'de, ReadRefReader<'de>> + Serialize>(
     alloc: Global,
     bytes: &'de [u8],
 ) -> Result<String, Fault> {
     let read: Result<T, Error> = from_slice(alloc, bytes);
-    if let Ok(value) = &read {
-        let whole = to_vec(alloc, value)?;
-        each_room_filled(alloc, value, whole.as_slice())?;
-    }
     said(alloc, read)
 }
 
-// The same by the call that reads a slice strictly.
-fn by_one_strict_call<'de, T: Deserialize<'de, ReadRefReader<'de>> + Serialize>(
-    alloc: Global,
-    bytes: &'de [u8],
-) -> Result<String, Fault> {
-    let read: Result<T, Error> = from_slice_strict(alloc, bytes);
-    said(alloc, read)
-}
-
-// The same by the call that reads a source.
-fn by_call_of_a_source<'de, T: Deserialize<'de, ReadReader<Cursor<&'de [u8]>>> + Serialize>(
-    alloc: Global,
-    bytes: &'de [u8],
-) -> Result<String, Fault> {
-    let read: Result<T, Error> = from_read(alloc, Cursor::new(bytes));
-    said(alloc, read)
-}
-
-/// Reads the bytes as a value of this type, and gives the value's own spelling, or the refusal. Each way to read them has the same
-/// answer, and each pull that fails is told of.
-pub fn row<'de, T>(alloc: Global, bytes: &'de [u8]) -> Result<Answer, Fault>
+/// The same of a type that is read from any source: one that gives one byte a pull has the same answer, and one that fails at a
+/// pull is told of.
+pub fn row<'de, T>(alloc: Global, bytes: &'de [u8]) -> Result<String, Fault>
 where
-    T: Deserialize<'de, ReadRefReader<'de>>
-        + Deserialize<'de, ReadReader<Cursor<&'de [u8]>>>
-        + Deserialize<'de, ReadReader<Drip<'de>>>
-        + Serialize,
+    T: Deserialize<'de, ReadRefReader<'de>> + Deserialize<'de, ReadReader<Drip<'de>>> + Serialize,
 {
-    let answer = ways::<T>(alloc, bytes, false)?;
-    let strict = ways::<T>(alloc, bytes, true)?;
-    if !is_strict(alloc, bytes, answer.slice.as_str(), strict.slice.as_str())
-        || !is_strict(alloc, bytes, answer.reader.as_str(), strict.reader.as_str())
-    {
-        return Err(Fault::Strict);
+    let answer = lent_row::<T>(alloc, bytes)?;
+    if dripped::<T>(alloc, Drip::new(bytes, usize::MAX))?.as_str() != answer.as_str() {
+        return Err(Fault::Drip);
     }
-    if by_one_call::<T>(alloc, bytes)?.as_str() != answer.slice.as_str()
-        || by_one_strict_call::<T>(alloc, bytes)?.as_str() != strict.slice.as_str()
-    {
-        return Err(Fault::Call);
-    }
-    let called = by_call_of_a_source::<T>(alloc, bytes)?;
-    if !answer.reader.as_str().starts_with(called.as_str()) {
-        return Err(Fault::Call);
-    }
+    each_pull_failed::<T>(alloc, bytes, answer.as_str())?;
     Ok(answer)
 }

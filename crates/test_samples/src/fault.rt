@@ -16,16 +16,8 @@ pub enum Fault {
     Read,
     #[error("what was written isn't written again")]
     Again,
-    #[error("a reader or a cursor has another answer, or reads on")]
-    Reader,
-    #[error("a pull that fails has another answer")]
-    Pull,
-    #[error("a put that fails leaves something else")]
-    Put,
-    #[error("a strict read has another answer")]
-    Strict,
-    #[error("a read in one call has another answer")]
-    Call,
+    #[error("a source that drips or fails has another answer")]
+    Drip,
     #[error("a line has no type and bytes in hex")]
     NoRow,
     #[error("a line has a type that isn't read")]

@@ -1,16 +1,14 @@
 //! The types that are read, by their names in the sample.
-use crate::answer::{Answer, row};
+use crate::answer::{lent_row, row};
 use crate::fault::Fault;
-use crate::ignored::Ignored;
+use rmp_serde::Value;
 use rmp_serde::wire::{ByteBuf, Bytes, Ext, F32Bits, F64Bits};
-use rmp_serde::{Raw, RawRef, Value};
 use std::alloc::Global;
 use std::collections::{BTreeMap, BTreeSet, VecDeque};
-use test_derived::{Dog, Four, Newtype, Opt, Two, Unit, V12};
-use test_types::{Nested, Rose, Tree, TupleS, TupleS0};
+use test_types::{TupleS, TupleS0};
 
 // Reads one of the truths and numbers from zero on.
-fn leaves(alloc: Global, kind: &str, bytes: &[u8]) -> Result<Answer, Fault> {
+fn leaves(alloc: Global, kind: &str, bytes: &[u8]) -> Result<String, Fault> {
     match kind {
         "bool" => row::<bool>(alloc, bytes),
         "u8" => row::<u8>(alloc, bytes),
@@ -23,7 +21,7 @@ fn leaves(alloc: Global, kind: &str, bytes: &[u8]) -> Result<Answer, Fault> {
 }
 
 // Reads one of the numbers with a sign.
-fn signed(alloc: Global, kind: &str, bytes: &[u8]) -> Result<Answer, Fault> {
+fn signed(alloc: Global, kind: &str, bytes: &[u8]) -> Result<String, Fault> {
     match kind {
         "i8" => row::<i8>(alloc, bytes),
         "i16" => row::<i16>(alloc, bytes),
@@ -35,7 +33,7 @@ fn signed(alloc: Global, kind: &str, bytes: &[u8]) -> Result<Answer, Fault> {
 }
 
 // Reads one of the float bits, characters and texts.
-fn bits(alloc: Global, kind: &str, bytes: &[u8]) -> Result<Answer, Fault> {
+fn bits(alloc: Global, kind: &str, bytes: &[u8]) -> Result<String, Fault> {
     match kind {
         "F32Bits" => row::<F32Bits>(alloc, bytes),
         "F64Bits" => row::<F64Bits>(alloc, bytes),
@@ -47,7 +45,7 @@ fn bits(alloc: Global, kind: &str, bytes: &[u8]) -> Result<Answer, Fault> {
 }
 
 // Reads one of the bytes, extensions and values.
-fn owned(alloc: Global, kind: &str, bytes: &[u8]) -> Result<Answer, Fault> {
+fn owned(alloc: Global, kind: &str, bytes: &[u8]) -> Result<String, Fault> {
     match kind {
         "ByteBuf" => row::<ByteBuf>(alloc, bytes),
         "Ext" => row::<Ext>(alloc, bytes),
@@ -57,63 +55,18 @@ fn owned(alloc: Global, kind: &str, bytes: &[u8]) -> Result<Answer, Fault> {
 }
 
 // Reads one of the lent texts and bytes, and of the tuple structs.
-fn lent(alloc: Global, kind: &str, bytes: &[u8]) -> Result<Answer, Fault> {
+fn lent(alloc: Global, kind: &str, bytes: &[u8]) -> Result<String, Fault> {
     match kind {
-        "&str" => row::<&str>(alloc, bytes),
-        "Bytes" => row::<Bytes>(alloc, bytes),
+        "&str" => lent_row::<&str>(alloc, bytes),
+        "Bytes" => lent_row::<Bytes>(alloc, bytes),
         "TupleS" => row::<TupleS>(alloc, bytes),
         "TupleS0" => row::<TupleS0>(alloc, bytes),
-        _ => raw(alloc, kind, bytes),
-    }
-}
-
-// Reads one of the texts that may be no UTF-8, of the numbers of 128 bits, and what is passed over.
-fn raw(alloc: Global, kind: &str, bytes: &[u8]) -> Result<Answer, Fault> {
-    match kind {
-        "Raw" => row::<Raw>(alloc, bytes),
-        "RawRef" => row::<RawRef>(alloc, bytes),
-        "i128" => row::<i128>(alloc, bytes),
-        "u128" => row::<u128>(alloc, bytes),
-        "Ignored" => row::<Ignored>(alloc, bytes),
-        _ => declared(alloc, kind, bytes),
-    }
-}
-
-// Reads one of the structs and enums.
-fn declared(alloc: Global, kind: &str, bytes: &[u8]) -> Result<Answer, Fault> {
-    match kind {
-        "Dog" => row::<Dog>(alloc, bytes),
-        "Opt" => row::<Opt>(alloc, bytes),
-        "Unit" => row::<Unit>(alloc, bytes),
-        "Newtype" => row::<Newtype>(alloc, bytes),
-        "Four" => row::<Four>(alloc, bytes),
-        _ => declared_variants(alloc, kind, bytes),
-    }
-}
-
-// Reads one of the other enums, and of the types that lead back to themselves.
-fn declared_variants(alloc: Global, kind: &str, bytes: &[u8]) -> Result<Answer, Fault> {
-    match kind {
-        "V12" => row::<V12>(alloc, bytes),
-        "Two" => row::<Two>(alloc, bytes),
-        "Nested" => row::<Nested>(alloc, bytes),
-        "Tree" => row::<Tree>(alloc, bytes),
-        "Rose" => row::<Rose>(alloc, bytes),
-        _ => Err(Fault::NoType),
-    }
-}
-
-// Reads one of the options.
-fn options(alloc: Global, kind: &str, bytes: &[u8]) -> Result<Answer, Fault> {
-    match kind {
-        "Option<&str>" => row::<Option<&str>>(alloc, bytes),
-        "Option<Option<u32>>" => row::<Option<Option<u32>>>(alloc, bytes),
         _ => Err(Fault::NoType),
     }
 }
 
 // Reads one of the boxes, queues and sets.
-fn collections(alloc: Global, kind: &str, bytes: &[u8]) -> Result<Answer, Fault> {
+fn collections(alloc: Global, kind: &str, bytes: &[u8]) -> Result<String, Fault> {
     match kind {
         "Box<u8>" => row::<Box<u8>>(alloc, bytes),
         "Box<Vec<u8>>" => row::<Box<Vec<u8>>>(alloc, bytes),
@@ -126,7 +79,7 @@ fn collections(alloc: Global, kind: &str, bytes: &[u8]) -> Result<Answer, Fault>
 }
 
 // Reads one of the maps.
-fn maps(alloc: Global, kind: &str, bytes: &[u8]) -> Result<Answer, Fault> {
+fn maps(alloc: Global, kind: &str, bytes: &[u8]) -> Result<String, Fault> {
     match kind {
         "BTreeMap<u8,u8>" => row::<BTreeMap<u8, u8>>(alloc, bytes),
         "BTreeMap<String,u16>" => row::<BTreeMap<String, u16>>(alloc, bytes),
@@ -137,7 +90,7 @@ fn maps(alloc: Global, kind: &str, bytes: &[u8]) -> Result<Answer, Fault> {
 }
 
 // Reads one of the vectors of numbers, truths and units.
-fn vectors(alloc: Global, kind: &str, bytes: &[u8]) -> Result<Answer, Fault> {
+fn vectors(alloc: Global, kind: &str, bytes: &[u8]) -> Result<String, Fault> {
     match kind {
         "Vec<u8>" => row::<Vec<u8>>(alloc, bytes),
         "Vec<u16>" => row::<Vec<u16>>(alloc, bytes),
@@ -150,7 +103,7 @@ fn vectors(alloc: Global, kind: &str, bytes: &[u8]) -> Result<Answer, Fault> {
 }
 
 // Reads one of the vectors of other leaves.
-fn vectors_of_leaves(alloc: Global, kind: &str, bytes: &[u8]) -> Result<Answer, Fault> {
+fn vectors_of_leaves(alloc: Global, kind: &str, bytes: &[u8]) -> Result<String, Fault> {
     match kind {
         "Vec<char>" => row::<Vec<char>>(alloc, bytes),
         "Vec<String>" => row::<Vec<String>>(alloc, bytes),
@@ -162,44 +115,40 @@ fn vectors_of_leaves(alloc: Global, kind: &str, bytes: &[u8]) -> Result<Answer, 
 }
 
 // Reads one of the vectors of vectors, values, boxes and tuples.
-fn vectors_of_parts(alloc: Global, kind: &str, bytes: &[u8]) -> Result<Answer, Fault> {
+fn vectors_of_parts(alloc: Global, kind: &str, bytes: &[u8]) -> Result<String, Fault> {
     match kind {
         "Vec<Vec<u8>>" => row::<Vec<Vec<u8>>>(alloc, bytes),
         "Vec<Value>" => row::<Vec<Value>>(alloc, bytes),
         "Vec<Box<u8>>" => row::<Vec<Box<u8>>>(alloc, bytes),
         "Vec<(u8,)>" => row::<Vec<(u8,)>>(alloc, bytes),
-        "Vec<Ignored>" => row::<Vec<Ignored>>(alloc, bytes),
         _ => Err(Fault::NoType),
     }
 }
 
 // Reads one of the tuples.
-fn tuples(alloc: Global, kind: &str, bytes: &[u8]) -> Result<Answer, Fault> {
+fn tuples(alloc: Global, kind: &str, bytes: &[u8]) -> Result<String, Fault> {
     match kind {
         "(u8,)" => row::<(u8,)>(alloc, bytes),
         "(u8,u8)" => row::<(u8, u8)>(alloc, bytes),
         "(u8,u16,String)" => row::<(u8, u16, String)>(alloc, bytes),
         "(u32,String)" => row::<(u32, String)>(alloc, bytes),
-        "(&str,Bytes)" => row::<(&str, Bytes)>(alloc, bytes),
+        "(&str,Bytes)" => lent_row::<(&str, Bytes)>(alloc, bytes),
         _ => longer_tuples(alloc, kind, bytes),
     }
 }
 
 // Reads one of the tuples of tuples, of bytes and of eight.
-fn longer_tuples(alloc: Global, kind: &str, bytes: &[u8]) -> Result<Answer, Fault> {
+fn longer_tuples(alloc: Global, kind: &str, bytes: &[u8]) -> Result<String, Fault> {
     match kind {
         "((u8,u8),u8)" => row::<((u8, u8), u8)>(alloc, bytes),
         "(ByteBuf,ByteBuf)" => row::<(ByteBuf, ByteBuf)>(alloc, bytes),
         "(u8,u8,u8,u8,u8,u8,u8,u8)" => row::<(u8, u8, u8, u8, u8, u8, u8, u8)>(alloc, bytes),
-        "(Option<Option<u32>>,Option<Option<u32>>)" => {
-            row::<(Option<Option<u32>>, Option<Option<u32>>)>(alloc, bytes)
-        }
         _ => Err(Fault::NoType),
     }
 }
 
 // Reads one of the arrays.
-fn arrays(alloc: Global, kind: &str, bytes: &[u8]) -> Result<Answer, Fault> {
+fn arrays(alloc: Global, kind: &str, bytes: &[u8]) -> Result<String, Fault> {
     match kind {
         "[u8;0]" => row::<[u8; 0]>(alloc, bytes),
         "[u8;2]" => row::<[u8; 2]>(alloc, bytes),
@@ -212,15 +161,12 @@ fn arrays(alloc: Global, kind: &str, bytes: &[u8]) -> Result<Answer, Fault> {
 }
 
 /// Reads the bytes as the type of this name, and says what came of it.
-pub fn read(alloc: Global, kind: &str, bytes: &[u8]) -> Result<Answer, Fault> {
+pub fn read(alloc: Global, kind: &str, bytes: &[u8]) -> Result<String, Fault> {
     if kind.starts_with("Vec<") {
         return vectors(alloc, kind, bytes);
     }
     if kind.starts_with("VecDeque") || kind.starts_with("BTree") || kind.starts_with("Box") {
         return collections(alloc, kind, bytes);
-    }
-    if kind.starts_with("Option") {
-        return options(alloc, kind, bytes);
     }
     if kind.starts_with("[") {
         return arrays(alloc, kind, bytes);

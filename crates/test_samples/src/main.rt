@@ -2,15 +2,12 @@
 //!
 //! First it prints a line for each value that it writes: its type, the value and the setting as the sample names them, and the
 //! bytes in hex. Then it reads lines of a type and of bytes in hex from standard input, and prints each with what the bytes are
-//! read as, from a slice and from a reader, which took so many bytes. The exit status is 0, or 1 where a value couldn't be written, a
-//! line was none, another way to read or to write has another answer, or input or output failed.
+//! read as. The exit status is 0, or 1 where a value couldn't be written, a line was none, or input or output failed.
 #![tactic(auto)]
 
 mod answer;
 mod fault;
-mod ignored;
 mod kinds;
-mod puts;
 mod row;
 mod rows;
 
@@ -35,7 +32,7 @@ fn main(rt: HostRuntime) -> Result<(), Fault> {
             return Err(Fault::NoRow);
         };
         let answer = kinds::read(rt.alloc(), kind, bytes.as_slice())?;
-        println!(rt; "{line} | {} | {}", answer.slice, answer.reader)?;
+        println!(rt; "{line} | {answer}")?;
     }
     Ok(())
 }

@@ -6,7 +6,6 @@ ghost use Rattle.rmp_encode.specs.Trees.{tree_of};
 ghost use Rattle.test_samples.specs.Settings.{settings_in};
 
 use crate::fault::Fault;
-use crate::puts::each_write_failed;
 use rmp_serde::config::{BytesMode, SerializerConfig};
 use rmp_serde::encode::{Error, Serialize, Serializer};
 use rmp_serde::{Value, from_slice_strict, to_vec};
@@ -41,24 +40,6 @@ impl Setting {
             Setting::ForceAll => "ForceAll",
             Setting::NamedForceIterables => "named,ForceIterables",
             Setting::NamedForceAll => "named,ForceAll",
-        }
-    }
-
-    pub fn is_named(self) -> bool {
-        matches!(
-            self,
-            Setting::Named
-                | Setting::TupleNamed
-                | Setting::NamedForceIterables
-                | Setting::NamedForceAll
-        )
-    }
-
-    pub fn bytes(self) -> BytesMode {
-        match self {
-            Setting::ForceIterables | Setting::NamedForceIterables => BytesMode::ForceIterables,
-            Setting::ForceAll | Setting::NamedForceAll => BytesMode::ForceAll,
-            _ => BytesMode::Normal,
         }
     }
 }
@@ -142,7 +123,6 @@ impl Rows {
         for setting in settings {
             let bytes = spelling(self.alloc, *setting, value)?;
             read_again(self.alloc, bytes.as_slice())?;
-            each_write_failed(self.alloc, *setting, value, bytes.as_slice())?;
             self.line(kind, shown, setting.words(), bytes.as_slice())?;
         }
         Ok(())
