@@ -8,7 +8,7 @@ use Rattle.rmp_decode.specs.Fields.{Slot, given_all, name_refusal, pass_refusal}
 use Rattle.rmp_decode.specs.MapRefusing.{EntryRefused, KeyRefused}
 use Rattle.rmp_decode.specs.Maps.{map_inner, OpensMap, TakesKey}
 use Rattle.rmp_decode.specs.Names.{IsName}
-use Rattle.rmp_decode.specs.Refusing.{Setting, Refusals, Part, setting_of, element_setting, inside, RefusesParts, PartsRefused, Excess, no_refusal}
+use Rattle.rmp_decode.specs.Refusing.{Setting, Refusals, Part, setting_of, element_setting, inside, RefusesParts, RefusesTuple, PartsRefused, Excess, no_refusal}
 use Rattle.rmp_decode.specs.Seq.{SpellsRow, inner_of, Opens, TakesElement, Run}
 use Rattle.rmp_decode.specs.State.{left, faults_of}
 use Rattle.rmp_decode.specs.declared.deserializer.Deserializer.{Deserializer}
@@ -19,7 +19,7 @@ use Rattle.rmp_decode.specs.declared.error.Error.TheVariants.{LengthMismatch, Sy
 use Rattle.rmp_decode.specs.declared.text.Text.TheVariants.{MissingField}
 use Rattle.rmp_decode.proofs.Fields.{later_full}
 use Rattle.rmp_decode.proofs.Maps.{flat, in_pairs, count-flat, depth-flat, settled}
-use Rattle.rmp_decode.proofs.Refusings.{Held, run_ahead, all_read, whatever, behind_head}
+use Rattle.rmp_decode.proofs.Refusings.{Held, parts_wrong, parts_excess}
 use Rattle.rmp_decode.proofs.Settings.{setting_same, behind_opened}
 use Rattle.rmp_decode.proofs.Structs.{FieldsRun}
 
@@ -74,29 +74,27 @@ given_held s [] (item m ms) h = h
 given_held s (p ∷ ps) no_items h = h
 given_held s (p ∷ ps) (item m ms) h = (h.0, given_held s ps ms h.1)
 
+-- the same of a tuple
+module _ {R C : Type 0} (g : Ghosts R) (human : C → Bool) (lends : Bool) (old : Deserializer R C) (start : SeqAccess R C) (o : Opens g old start)
+    (after : ℕ) (e : Error) (ps : List Part) where
+  pub tuple_wrong : (now : SeqAccess R C) → after ≡ faults_of g now.de.now → PartsRefused g (human start.de.now.config) lends ps start now e
+      → RefusesTuple ps (setting_of (human old.config) lends old) (faults_of g old) after (left g old) e
+  tuple_wrong now q h = inr (parts_wrong g human lends old start o after e ps now q h)
+
+  pub tuple_excess : (mid : SeqAccess R C) (ms : Msgs) → Run g start mid ms
+      → PartsHold (inside (setting_of (human old.config) lends old) (inner_of start)) ps (given_all ms) → count ms ≡ length ps → 0 < mid.left
+      → e ≡ LengthMismatch (mid.count - mid.left)
+      → RefusesTuple ps (setting_of (human old.config) lends old) (faults_of g old) after (left g old) e
+  tuple_excess mid ms r h c l q = inr (parts_excess g human lends old start o after e ps mid ms r
+      (given_held (inside (setting_of (human old.config) lends old) (inner_of start)) ps ms h) c l q)
+
 module _ {R C V : Type 0} (g : Ghosts R) (human : C → Bool) (lends : Bool) (names : List (List ℕ)) (reads : Bool → Bool → List (Option Msg) → V
     → Type 0) (ps : List Part) (old : Deserializer R C) (after : ℕ) (e : Error) where
   module _ (start : SeqAccess R C) (o : Opens g old start) where
     -- one of them was refused
     pub listed_wrong : (now : SeqAccess R C) → after ≡ faults_of g now.de.now → PartsRefused g (human start.de.now.config) lends ps start now e
         → RefusesFields names reads ps (setting_of (human old.config) lends old) (faults_of g old) after (left g old) e
-    listed_wrong now q h =
-        let h' = behind_opened g human lends old start now o after q
-        (λ s a z. RefusesParts start.bytes s a z ps no_refusal start.left (left g start.de.now) e) h in
-        inr (inl (behind_head g human lends old start o after e (λ b i. RefusesParts b i (faults_of g old) after ps (Excess (length ps)))
-        (whatever (inside (setting_of (human old.config) lends old) (inner_of start)) start.bytes (faults_of g old) after e ps (Excess (length ps))
-        start.left (left g start.de.now) h')))
-
-    behind_all : (i : Setting) → start.de.now.strict ≡ i.strict → inner_of start ≡ i.room → (qs : List Part) (mid : SeqAccess R C) (ms : Msgs)
-        → Run g start mid ms → Held i qs ms → count ms ≡ length qs → 0 < mid.left → e ≡ LengthMismatch (mid.count - mid.left)
-        → RefusesParts start.bytes i (faults_of g old) after qs (Excess (length qs)) start.left (left g start.de.now) e
-    behind_all i a b [] mid ms r h c l q =
-        let d : mid.count - mid.left ≡ 0 = omega (arith, r.many, r.count_same, o.count, c) in
-        (omega (arith, l, c, r.many), q ∙ ap LengthMismatch d)
-    behind_all i a b (p ∷ qs) mid ms r h c l q =
-        let d : mid.count - mid.left ≡ length (p ∷ qs) = omega (arith, r.many, r.count_same, o.count, c) in
-        all_read i start.bytes (faults_of g old) after e p qs (Excess (length (p ∷ qs))) (left g start.de.now) start.left ms (left g mid.de.now) mid.left h
-        (run_ahead g start mid ms i a b r) (l, q ∙ ap LengthMismatch d)
+    listed_wrong now q h = inr (inl (parts_wrong g human lends old start o after e ps now q h))
 
     -- all of them were read, and there are more
     pub listed_excess : (mid : SeqAccess R C) (ms : Msgs) → Run g start mid ms
@@ -104,9 +102,8 @@ module _ {R C V : Type 0} (g : Ghosts R) (human : C → Bool) (lends : Bool) (na
         → e ≡ LengthMismatch (mid.count - mid.left)
         → RefusesFields names reads ps (setting_of (human old.config) lends old) (faults_of g old) after (left g old) e
     listed_excess mid ms r h c l q =
-        let i = inside (setting_of (human old.config) lends old) (inner_of start) in
-        inr (inl (behind_head g human lends old start o after e (λ b i. RefusesParts b i (faults_of g old) after ps (Excess (length ps)))
-        (behind_all i o.stays.strict refl ps mid ms r (given_held i ps ms h) c l q)))
+        inr (inl (parts_excess g human lends old start o after e ps mid ms r
+        (given_held (inside (setting_of (human old.config) lends old) (inner_of start)) ps ms h) c l q))
 
   -- ---- fields of a map
 

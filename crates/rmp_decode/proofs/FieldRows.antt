@@ -1,28 +1,29 @@
 -- What the read of a struct that is a list of as many elements says, from what the reads of its fields say.
-use Rattle.std.proofs.Common.{◌≡◌, ◌∙◌, sym, ap, subst, refl, inr, ℕ, suc, ◌+◌, ◌-◌, ◌<◌, max, arith, List, [], ◌∷◌, Bool, true, false, Option, None, Some, Ok, Err, length, ◌++◌}
-use Rattle.std.specs.Prelude.{IfSome}
+use Rattle.std.proofs.Common.{◌≡◌, ◌∙◌, sym, ap, subst, refl, inr, ℕ, suc, ◌+◌, ◌-◌, ◌<◌, max, arith, List, [], ◌∷◌, Bool, true, false, Option, None, Some, Result, Ok, Err, length, ◌++◌}
+use Rattle.std.specs.Prelude.{IfSome, IfOk, IfErr}
 use Rattle.std.proofs.KnownBytes.{Consumes-nil, Consumes-trans}
 use Rattle.rmp_wire.specs.declared.head.Head.TheVariants.{Array}
 use Rattle.rmp_wire.specs.declared.source.Source.{Ghosts}
 use Rattle.rmp_wire.specs.Canonical.{SpellsAs}
 use Rattle.rmp_wire.specs.Msg.{Msg, Msgs, no_items, item, count}
 use Rattle.rmp_decode.specs.FieldRefusing.{RefusesFields}
-use Rattle.rmp_decode.specs.FieldRows.{TakesRow, FailsRow}
+use Rattle.rmp_decode.specs.FieldRows.{TakesRow, FailsRow, ReadsRow, MissesRow, in_row}
 use Rattle.rmp_decode.specs.Fields.{Field, Absent, NoField, Slot, given_all, OfFields}
 use Rattle.rmp_decode.specs.Fronts.{TakesFront}
 use Rattle.rmp_decode.specs.Law.{Lawful, Readable, Refuses}
-use Rattle.rmp_decode.specs.Refusing.{Part, setting_of, inside, RefusesParts, no_refusal}
-use Rattle.rmp_decode.specs.Seq.{SpellsIn, SpellsRow, RefusesRow, Opens}
+use Rattle.rmp_decode.specs.Refusing.{Part, setting_of, RefusesParts, RefusesTuple, no_refusal}
+use Rattle.rmp_decode.specs.Seq.{SpellsIn, SpellsRow, RefusesRow, OfRow, Opens, TakesParts, FailsParts}
 use Rattle.rmp_decode.specs.State.{left, faults_of, room_of}
 use Rattle.rmp_decode.specs.declared.access.seq.SeqAccess.{SeqAccess}
 use Rattle.rmp_decode.specs.declared.deserializer.Deserializer.{Deserializer}
 use Rattle.rmp_decode.specs.declared.deserializer.Kept.TheVariants.{Nothing}
 use Rattle.rmp_decode.specs.declared.error.Error.{Error}
-use Rattle.rmp_decode.proofs.FieldRefusings.{listed_wrong}
+use Rattle.rmp_decode.proofs.FieldRefusings.{listed_wrong, tuple_wrong}
 use Rattle.rmp_decode.proofs.Laws.{stays_refl, stays_then}
 use Rattle.rmp_decode.proofs.Rows.{row-push, rest_refused, element_refused}
+use Rattle.rmp_decode.proofs.Seqs.{seq_done, seq_parts}
 use Rattle.rmp_decode.proofs.Settings.{setting_same}
-use Rattle.rmp_decode.proofs.Structs.{listed_done, listed_refused}
+use Rattle.rmp_decode.proofs.Structs.{Gives, listed_done, listed_refused}
 use Rattle.rmp_decode.proofs.Tuples.{row_narrower}
 
 pub if_some : {T : Type 0} {P Q : T → Type 0} (o : Option T) → ((x : T) → P x → Q x) → IfSome o P → IfSome o Q
@@ -129,7 +130,7 @@ module _ {R C V : Type 0} (g : Ghosts R) (reads : C → Msg → V → Type 0) (o
         refused = w2;
       })
 
--- ---- the whole struct
+-- ---- the whole list
 
 -- a reader behind the head of a list, seen as the access to its elements
 abbrev in_list : {R C : Type 0} → Deserializer R C → ℕ → ℕ → ℕ → SeqAccess R C
@@ -142,68 +143,121 @@ in_list d inner n all = record {
   sound = true;
 }
 
--- the reader that reads its elements, which may nest as deep as that
-abbrev pub inside_list : {R C : Type 0} → ℕ → Deserializer R C → Deserializer R C
-inside_list inner d = record d { room = inner; failed = false }
-
-module _ {R C V : Type 0} (g : Ghosts R) (human : C → Bool) (lends : Bool) (names : List (List ℕ))
-    (reads : Bool → Bool → List (Option Msg) → V → Type 0) (ps : List Part) (old mid now : Deserializer R C) (n inner : ℕ)
-    (counted : (fs : List (Option Msg)) (v : V) → reads (human old.config) lends fs v → length fs ≡ n) (len : length names ≡ n)
-    (fewer : inner ≡ mid.room - 1) (deep : 1 < old.room) (front : TakesFront g (Array n) old mid) where
-  opened : Opens g old (in_list mid inner n n)
+module _ {R C V : Type 0} (g : Ghosts R) (human : C → Bool) (lends : Bool) (reads : Bool → Bool → List (Option Msg) → V
+    → Type 0) (ps : List Part) (old mid new : Deserializer R C) (n : ℕ) (deep : 1 < old.room) (front : TakesFront g (Array n) old mid) where
+  opened : Opens g old (in_list mid (mid.room - 1) n n)
   opened =
       let room = front.begun.stays.room in
       record {
         fresh = front.begun.fresh;
         head = front.begun.ok;
         count = refl;
-        room = omega (arith, deep, room, fewer);
+        room = omega (arith, deep, room);
         stays = front.begun.stays;
         faults_same = front.begun.sound;
         opened = record { sound = refl; marked = front.begun.failed; clean = front.begun.clean };
       }
 
-  -- each field was read
-  pub row_done : (P : Msgs → Type 0) (t : TakesRow g P n (inside_list inner mid) now) (v : V) → reads (human mid.config) lends (given_all t.trees) v
-      → Lawful g (λ m v. OfFields names (λ fs. reads (human old.config) lends fs v) m) old (record now { room = mid.room }) (Ok v)
-  row_done P t v h =
-      let value = subst (λ z. reads (human z) lends (given_all t.trees) v) front.begun.stays.config h in
-      listed_done names (reads (human old.config) lends) n counted len g old (in_list mid inner n n)
-      (in_list (record now { failed = true; room = mid.room }) inner 0 n) opened _ v
-      (record {
-        trees = t.trees;
-        run = record {
-          bytes = t.bytes;
-          takes = t.takes;
-          spelled = t.spelled;
-          fits = t.fits;
-          many = omega (arith, t.many);
-          same_reference = refl;
-          count_same = refl;
-          inner = refl;
-          bytes_same = refl;
-          stays = record { config = t.stays.config; room = refl; limit = t.stays.limit; strict = t.stays.strict; place = t.stays.place };
-          faults_same = t.faults_same;
-          still = record { sound = refl; marked = refl; clean = t.clean };
-        };
-        value = value;
-      }) refl (ap (λ f. record now { failed = f; room = mid.room }) t.ready)
+  -- each element was read
+  module _ (v : V) (r : ReadsRow g (λ ms. reads (human mid.config) lends (given_all ms) v) n mid new) where
+    took : TakesParts g (Gives (reads (human old.config) lends)) (in_list mid (mid.room - 1) n n)
+        (in_list (record r.last { failed = true; room = mid.room }) (mid.room - 1) 0 n) v
+    took =
+        let t = r.row in
+        record {
+          trees = t.trees;
+          run = record {
+            bytes = t.bytes;
+            takes = t.takes;
+            spelled = t.spelled;
+            fits = t.fits;
+            many = omega (arith, t.many);
+            same_reference = refl;
+            count_same = refl;
+            inner = refl;
+            bytes_same = refl;
+            stays = record { config = t.stays.config; room = refl; limit = t.stays.limit; strict = t.stays.strict; place = t.stays.place };
+            faults_same = t.faults_same;
+            still = record { sound = refl; marked = refl; clean = t.clean };
+          };
+          value = subst (λ z. reads (human z) lends (given_all t.trees) v) front.begun.stays.config t.holds;
+        }
+
+    ready : new ≡ record r.last { failed = false; room = mid.room }
+    ready = r.is ∙ ap (λ f. record r.last { failed = f; room = mid.room }) r.row.ready
+
+    row_done : (names : List (List ℕ)) → ((fs : List (Option Msg)) (u : V) → reads (human old.config) lends fs u → length fs ≡ n) → length names ≡ n
+        → Lawful g (λ m u. OfFields names (λ fs. reads (human old.config) lends fs u) m) old new (Ok v)
+    row_done names counted len = listed_done names (reads (human old.config) lends) n counted len g old (in_list mid (mid.room - 1) n n)
+        (in_list (record r.last { failed = true; room = mid.room }) (mid.room - 1) 0 n) opened new v took refl ready
+
+    tuple_done : Lawful g (λ m u. OfRow (Gives (reads (human old.config) lends) u) m) old new (Ok v)
+    tuple_done = seq_done g (Gives (reads (human old.config) lends)) old (in_list mid (mid.room - 1) n n)
+        (in_list (record r.last { failed = true; room = mid.room }) (mid.room - 1) 0 n) took.trees opened took.run new v took.value refl ready
 
   -- one of them is refused
-  pub row_failed : (e : Error) → FailsRow g (λ ms. (v : V) × reads (human mid.config) lends (given_all ms) v) n (inside_list inner mid) now e
-      → Lawful g (λ m v. OfFields names (λ fs. reads (human old.config) lends fs v) m) old (record now { room = mid.room }) (Err e)
-  row_failed e f0 =
-      let f = subst (λ z. FailsRow g (λ ms. (v : V) × reads (human z) lends (given_all ms) v) n (inside_list inner mid) now e) front.begun.stays.config f0 in
-      listed_refused names (reads (human old.config) lends) n counted len g old (in_list mid inner n n)
-      (in_list (record now { room = mid.room }) inner 0 n) opened _ e
-      (record {
-        stays = record { config = f.stays.config; room = refl; limit = f.stays.limit; strict = f.stays.strict; place = f.stays.place };
-        failed = f.failed;
-        err = f.err;
-      }) refl
+  module _ (e : Error) (r : MissesRow g (λ ms. (v : V) × reads (human mid.config) lends (given_all ms) v) n mid new e) where
+    missed : FailsParts g (Gives (reads (human old.config) lends)) (in_list mid (mid.room - 1) n n)
+        (in_list (record r.last { room = mid.room }) (mid.room - 1) 0 n) e
+    missed =
+        let f = subst (λ z. FailsRow g (λ ms. (v : V) × reads (human z) lends (given_all ms) v) n (in_row mid) r.last e) front.begun.stays.config r.row in
+        record {
+          stays = record { config = f.stays.config; room = refl; limit = f.stays.limit; strict = f.stays.strict; place = f.stays.place };
+          failed = f.failed;
+          err = f.err;
+        }
 
-  pub row_refused : (e : Error)
-      → RefusesParts false (setting_of (human mid.config) lends (inside_list inner mid)) (faults_of g mid) (faults_of g now) ps no_refusal n (left g mid) e
-      → RefusesFields names reads ps (setting_of (human old.config) lends old) (faults_of g old) (faults_of g now) (left g old) e
-  row_refused e w = listed_wrong g human lends names reads ps old (faults_of g now) e (in_list mid inner n n) opened
-      (in_list (record now { room = mid.room }) inner 0 n) refl w
+    row_failed : (names : List (List ℕ)) → ((fs : List (Option Msg)) (u : V) → reads (human old.config) lends fs u → length fs ≡ n)
+        → length names ≡ n → Lawful g (λ m u. OfFields names (λ fs. reads (human old.config) lends fs u) m) old new (Err e)
+    row_failed names counted len = listed_refused names (reads (human old.config) lends) n counted len g old (in_list mid (mid.room - 1) n n)
+        (in_list (record r.last { room = mid.room }) (mid.room - 1) 0 n) opened new e missed r.is
+
+    tuple_failed : Lawful g (λ m u. OfRow (Gives (reads (human old.config) lends) u) m) old new (Err e)
+    tuple_failed = seq_parts g (Gives (reads (human old.config) lends)) old (in_list mid (mid.room - 1) n n)
+        (in_list (record r.last { room = mid.room }) (mid.room - 1) 0 n) opened new e missed r.is
+
+  -- why
+  module _ (e : Error) (w : RefusesParts false (setting_of (human mid.config) lends (in_row mid)) (faults_of g mid) (faults_of g new) ps no_refusal n
+      (left g mid) e) where
+    pub row_refused : (names : List (List ℕ))
+        → RefusesFields names reads ps (setting_of (human old.config) lends old) (faults_of g old) (faults_of g new) (left g old) e
+    row_refused names = listed_wrong g human lends names reads ps old (faults_of g new) e (in_list mid (mid.room - 1) n n) opened
+        (in_list new (mid.room - 1) 0 n) refl w
+
+    pub tuple_refused : RefusesTuple ps (setting_of (human old.config) lends old) (faults_of g old) (faults_of g new) (left g old) e
+    tuple_refused = tuple_wrong g human lends old (in_list mid (mid.room - 1) n n) opened (faults_of g new) e ps (in_list new (mid.room - 1) 0 n) refl w
+
+  -- whatever came of it
+  pub row_law : (r : Result V Error) (names : List (List ℕ)) → ((fs : List (Option Msg)) (u : V) → reads (human old.config) lends fs u → length fs ≡ n)
+      → length names ≡ n → IfOk r (λ v. ReadsRow g (λ ms. reads (human mid.config) lends (given_all ms) v) n mid new)
+      → IfErr r (MissesRow g (λ ms. (v : V) × reads (human mid.config) lends (given_all ms) v) n mid new)
+      → Lawful g (λ m u. OfFields names (λ fs. reads (human old.config) lends fs u) m) old new r
+  row_law (Ok v) names counted len a b = row_done v a names counted len
+  row_law (Err e) names counted len a b = row_failed e b names counted len
+
+  pub tuple_law : (r : Result V Error) → IfOk r (λ v. ReadsRow g (λ ms. reads (human mid.config) lends (given_all ms) v) n mid new)
+      → IfErr r (MissesRow g (λ ms. (v : V) × reads (human mid.config) lends (given_all ms) v) n mid new)
+      → Lawful g (λ m u. OfRow (Gives (reads (human old.config) lends) u) m) old new r
+  tuple_law (Ok v) a b = tuple_done v a
+  tuple_law (Err e) a b = tuple_failed e b
+
+pub if_err : {V : Type 0} {P Q : Error → Type 0} (r : Result V Error) → ((e : Error) → P e → Q e) → IfErr r P → IfErr r Q
+if_err (Ok v) f h = tt
+if_err (Err e) f h = f e h
+
+-- what was read is read as the value
+pub takes_as : {R C : Type 0} (g : Ghosts R) (P Q : Msgs → Type 0) (n : ℕ) (old new : Deserializer R C) → ((ms : Msgs) → P ms → Q ms)
+    → TakesRow g P n old new → TakesRow g Q n old new
+takes_as g P Q n old new f t = record {
+  bytes = t.bytes;
+  trees = t.trees;
+  takes = t.takes;
+  spelled = t.spelled;
+  many = t.many;
+  fits = t.fits;
+  holds = f t.trees t.holds;
+  stays = t.stays;
+  faults_same = t.faults_same;
+  ready = t.ready;
+  clean = t.clean;
+}

@@ -421,6 +421,11 @@ pub opens_sixteen : (b : ℕ) → b ≡ 0xc4 → Opens b (canon_head (Bin 16))
 unfolding canon_head
 opens_sixteen b e = e
 
+-- and of nil
+pub opens_nil : (b : ℕ) → b ≡ 0xc0 → Opens b (canon_head Nil)
+unfolding canon_head
+opens_nil b e = e
+
 -- and of a truth, of the bits of a float
 pub opens_false : (b : ℕ) → b ≡ 0xc2 → Opens b (canon_head (Truth false))
 unfolding canon_head

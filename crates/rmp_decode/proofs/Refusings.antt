@@ -218,26 +218,33 @@ module _ {R C : Type 0} (g : Ghosts R) (human : C → Bool) (lends : Bool) (old 
     refused = p;
   }
 
-  -- one of the elements of a tuple was refused
-  pub tuple_parts : (ps : List Part) (now : SeqAccess R C) → after ≡ faults_of g now.de.now
+  -- one of the elements was refused
+  pub parts_wrong : (ps : List Part) (now : SeqAccess R C) → after ≡ faults_of g now.de.now
       → PartsRefused g (human start.de.now.config) lends ps start now e
-      → RefusesTuple ps (setting_of (human old.config) lends old) (faults_of g old) after (left g old) e
-  tuple_parts ps now q h =
+      → Opened (setting_of (human old.config) lends old) (λ b i. RefusesParts b i (faults_of g old) after ps (Excess (length ps))) (left g old) e
+  parts_wrong ps now q h =
       let h' = behind_opened g human lends old start now o after q
       (λ s a z. RefusesParts start.bytes s a z ps no_refusal start.left (left g start.de.now) e) h in
-      inr (behind_head (λ b i. RefusesParts b i (faults_of g old) after ps (Excess (length ps)))
+      behind_head (λ b i. RefusesParts b i (faults_of g old) after ps (Excess (length ps)))
       (whatever (inside (setting_of (human old.config) lends old) (inner_of start)) start.bytes (faults_of g old) after e ps (Excess (length ps)) start.left
-      (left g start.de.now) h'))
+      (left g start.de.now) h')
+
+  behind_all : (i : Setting) → start.de.now.strict ≡ i.strict → inner_of start ≡ i.room → (ps : List Part) (mid : SeqAccess R C) (ms : Msgs)
+      → Run g start mid ms → Held i ps ms → count ms ≡ length ps → 0 < mid.left → e ≡ LengthMismatch (mid.count - mid.left)
+      → RefusesParts start.bytes i (faults_of g old) after ps (Excess (length ps)) start.left (left g start.de.now) e
+  behind_all i a b [] mid ms r h c l q =
+      let d : mid.count - mid.left ≡ 0 = omega (arith, r.many, r.count_same, o.count, c) in
+      (omega (arith, l, c, r.many), q ∙ ap LengthMismatch d)
+  behind_all i a b (p ∷ ps) mid ms r h c l q =
+      let d : mid.count - mid.left ≡ length (p ∷ ps) = omega (arith, r.many, r.count_same, o.count, c) in
+      all_read i start.bytes (faults_of g old) after e p ps (Excess (length (p ∷ ps))) (left g start.de.now) start.left ms (left g mid.de.now) mid.left h
+      (run_ahead g start mid ms i a b r) (l, q ∙ ap LengthMismatch d)
 
   -- all of them were read, and there are more
-  pub tuple_over : (p : Part) (ps : List Part) (mid : SeqAccess R C) (ms : Msgs) → Run g start mid ms
-      → Held (inside (setting_of (human old.config) lends old) (inner_of start)) (p ∷ ps) ms → count ms ≡ length (p ∷ ps) → 0 < mid.left
+  pub parts_excess : (ps : List Part) (mid : SeqAccess R C) (ms : Msgs) → Run g start mid ms
+      → Held (inside (setting_of (human old.config) lends old) (inner_of start)) ps ms → count ms ≡ length ps → 0 < mid.left
       → e ≡ LengthMismatch (mid.count - mid.left)
-      → RefusesTuple (p ∷ ps) (setting_of (human old.config) lends old) (faults_of g old) after (left g old) e
-  tuple_over p ps mid ms r h c l q =
-      let s = inside (setting_of (human old.config) lends old) (inner_of start) in
-      let n = length (p ∷ ps) in
-      let d : mid.count - mid.left ≡ n = omega (arith, r.many, r.count_same, o.count, c) in
-      inr (behind_head (λ b i. RefusesParts b i (faults_of g old) after (p ∷ ps) (Excess n))
-      (all_read s start.bytes (faults_of g old) after e p ps (Excess n) (left g start.de.now) start.left ms (left g mid.de.now) mid.left h
-      (run_ahead g start mid ms s o.stays.strict refl r) (l, q ∙ ap LengthMismatch d)))
+      → Opened (setting_of (human old.config) lends old) (λ b i. RefusesParts b i (faults_of g old) after ps (Excess (length ps))) (left g old) e
+  parts_excess ps mid ms r h c l q =
+      behind_head (λ b i. RefusesParts b i (faults_of g old) after ps (Excess (length ps)))
+      (behind_all (inside (setting_of (human old.config) lends old) (inner_of start)) o.stays.strict refl ps mid ms r h c l q)

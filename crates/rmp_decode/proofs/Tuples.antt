@@ -1,47 +1,57 @@
--- Elements of several types, one after another.
-use Rattle.std.proofs.Common.{◌≡◌, subst, ℕ, List, Option, None, Some, true}
+-- Tuples, read as the fields of a struct that is a list.
+use Rattle.std.proofs.Common.{◌≡◌, refl, subst, ℕ, List, Option, None, Some, Bool, true, false, ◌||◌}
 use Rattle.rmp_wire.specs.declared.source.Source.{Ghosts}
-use Rattle.rmp_wire.specs.Msg.{Msg, Msgs, no_items, item}
-use Rattle.rmp_decode.specs.Rows.{AndThen, Anything, NoMore}
+use Rattle.rmp_wire.specs.Msg.{Msg, nil, truth, whole, float32, float64, text, bin, list, map, extension, Msgs, no_items, item}
+use Rattle.rmp_decode.specs.Fields.{Field, NoField, given_all}
+use Rattle.rmp_decode.specs.Rows.{AndThen, NoMore}
 use Rattle.rmp_decode.specs.Law.{Readable}
-use Rattle.rmp_decode.specs.Seq.{SpellsIn, RefusesRow, inner_of, IsOpen, TakesElement, FailsElement, Run, TakesParts, FailsParts}
-use Rattle.rmp_decode.specs.State.{left}
+use Rattle.rmp_decode.specs.Seq.{OfRow, numbers, RefusesRow, IsOpen, TakesElement, FailsElement, Run, TakesParts, FailsParts}
 use Rattle.rmp_decode.specs.declared.access.seq.SeqAccess.{SeqAccess}
 use Rattle.rmp_decode.specs.declared.error.Error.{Error}
 use Rattle.rmp_decode.proofs.Rows.{push, append}
 use Rattle.rmp_decode.proofs.Seqs.{run_step, parts_element}
 
--- what holds of the rest holds behind one item more
-pub keep : (P : Msg → Type 0) (Q Q' : Msgs → Type 0) → ((ms : Msgs) → Q ms → Q' ms) → (ms : Msgs) → AndThen P Q ms → AndThen P Q' ms
-keep P Q Q' f no_items h = h
-keep P Q Q' f (item m ms) h = (h.0, f ms h.1)
+-- what is a row of such elements is one of others
+pub row_as : (P Q : Msgs → Type 0) → ((ms : Msgs) → P ms → Q ms) → (m : Msg) → OfRow P m → OfRow Q m
+row_as P Q f nil h = h
+row_as P Q f (truth t) h = h
+row_as P Q f (whole z) h = h
+row_as P Q f (float32 n) h = h
+row_as P Q f (float64 n) h = h
+row_as P Q f (text s) h = h
+row_as P Q f (bin s) h = f (numbers s) h
+row_as P Q f (list ms) h = f ms h
+row_as P Q f (map ps) h = h
+row_as P Q f (extension tag s) h = h
 
-pub anything : (Q : Msgs → Type 0) (ms : Msgs) → Q ms → Anything ms
-anything Q ms h = tt
+-- fields that are all there are elements
+pub each_field : (P : Msg → Type 0) (A : Type 0) (Q : List (Option Msg) → Type 0) (Q' : Msgs → Type 0) → ((ms : Msgs) → Q (given_all ms) → Q' ms)
+    → (ms : Msgs) → Field P A Q (given_all ms) → AndThen P Q' ms
+each_field P A Q Q' f no_items h = h
+each_field P A Q Q' f (item m ms) h = (h.0, f ms h.1)
 
--- with one item more behind the others
-pub extend : (P : Msg → Type 0) (Q Q' : Msgs → Type 0) (k : Msg) → ((ms : Msgs) → Q ms → Q' (push ms k)) → (ms : Msgs) → AndThen P Q ms
-    → AndThen P Q' (push ms k)
-extend P Q Q' k f no_items h = absurd h
-extend P Q Q' k f (item m ms) h = (h.0, f ms h.1)
+pub no_field : (ms : Msgs) → NoField (given_all ms) → NoMore ms
+no_field no_items h = h
+no_field (item m ms) h = h
 
-pub extend_end : (P : Msg → Type 0) (k : Msg) → P k → (ms : Msgs) → NoMore ms → AndThen P NoMore (push ms k)
-extend_end P k p no_items h = (p, tt)
-extend_end P k p (item m ms) h = absurd h
+-- and elements are fields that are all there
+pub field_each : (P : Msg → Type 0) (A : Type 0) (Q : List (Option Msg) → Type 0) (Q' : Msgs → Type 0) → ((ms : Msgs) → Q' ms → Q (given_all ms))
+    → (ms : Msgs) → AndThen P Q' ms → Field P A Q (given_all ms)
+field_each P A Q Q' f no_items h = h
+field_each P A Q Q' f (item m ms) h = (h.0, f ms h.1)
 
--- what the items behind the others say, where as many stand before them
-pub walk : {Z : Type 0} (P P' : Msg → Type 0) (Q Q' : Msgs → Type 0) (ts : Msgs) → ((ms : Msgs) → Q ms → Q' (append ms ts) → Z) → (ms : Msgs)
-    → AndThen P Q ms → AndThen P' Q' (append ms ts) → Z
-walk P P' Q Q' ts f no_items h k = absurd h
-walk P P' Q Q' ts f (item m ms) h k = f ms h.1 k.1
+pub field_none : (ms : Msgs) → NoMore ms → NoField (given_all ms)
+field_none no_items h = h
+field_none (item m ms) h = h
 
-pub next : (P : Msg → Type 0) (Q : Msgs → Type 0) (m : Msg) (ks : Msgs) (ms : Msgs) → NoMore ms → AndThen P Q (append ms (item m ks)) → P m
-next P Q m ks no_items h k = k.0
-next P Q m ks (item n ms) h k = absurd h
+-- none of them takes memory
+pub or_each : (a b c : Bool) → (b ≡ false → c ≡ false) → (a || b) ≡ false → (a || c) ≡ false
+or_each true b c f h = h
+or_each false b c f h = f h
 
-pub lacks : (P : Msg → Type 0) (Q : Msgs → Type 0) (ms : Msgs) → NoMore ms → AndThen P Q (append ms no_items) → ⊥
-lacks P Q no_items h k = k
-lacks P Q (item n ms) h k = absurd h
+pub or_none : (a : Bool) → a ≡ false → (a || false) ≡ false
+or_none true h = h
+or_none false h = refl
 
 pub row_narrower : (spells : List ℕ → Msg → Type 0) (P Q : Msgs → Type 0) (room n : ℕ) (known : Option (List ℕ)) → ((ms : Msgs) → Q ms → P ms)
     → RefusesRow spells P room n known → RefusesRow spells Q room n known
@@ -58,16 +68,6 @@ row_narrower spells P Q room n (Some xs) f r = λ a. r
       fits = a.fits;
       holds = f a.trees a.holds;
     })
-
--- a type that wants more of the parts
-pub parts_narrower : {R C V W : Type 0} (g : Ghosts R) (Q : V → Msgs → Type 0) (Q' : W → Msgs → Type 0) (old new : SeqAccess R C) (e : Error)
-    → ((w : W) (ms : Msgs) → Q' w ms → (v : V) × Q v ms) → FailsParts g Q old new e → FailsParts g Q' old new e
-parts_narrower g Q Q' old new e f x = record {
-  stays = x.stays;
-  failed = x.failed;
-  err = λ n k. row_narrower (SpellsIn old.de.now.strict old.bytes) (λ ms. (v : _) × Q v ms) (λ ms. (w : _) × Q' w ms) (inner_of old) old.left
-      (left g old.de.now) (λ ms h. f h.0 ms h.1) (x.err n k);
-}
 
 -- one element more, behind the parts that were read
 module _ {R C V W : Type 0} (g : Ghosts R) (reads : C → Msg → V → Type 0) (Q : W → Msgs

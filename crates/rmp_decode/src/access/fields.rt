@@ -1,5 +1,5 @@
 //! The fields of structs, which are named, or stand in order.
-ghost use Rattle.std.specs.Prelude.{◌≡◌, ◌≢◌, ◌⊎◌, ◌<◌, ℕ, Bool, List, Option, None, Some, true};
+ghost use Rattle.std.specs.Prelude.{◌≡◌, ◌≢◌, ◌⊎◌, ◌<◌, ◌||◌, ℕ, Bool, List, Option, None, Some, true};
 ghost use Rattle.std.specs.Prelude.{false, length, IfErr, IfOk, IfSome, IfNone, OnOk, OnErr, MatchOption, MatchResult, max};
 ghost use Rattle.std.specs.Borrow.{sem, RestsIfErr};
 ghost use Rattle.rmp_wire.specs.Msg.{Msg, Msgs};
@@ -7,7 +7,7 @@ ghost use Rattle.rmp_decode.specs.contracts.deserializer.Deserializer.{the_row};
 ghost use Rattle.rmp_decode.specs.Fields.{OfFields, Field, Absent, NoField, Slot, AreBlank, fields_head, parts_name};
 ghost use Rattle.rmp_decode.specs.Fields.{OpensFields, FailsToOpenFields, at, given_all, Fills, IsFull, name_refusal, pass_refusal};
 ghost use Rattle.rmp_decode.specs.FieldRefusing.{PartsHold, FillRefused, RefusesFields};
-ghost use Rattle.rmp_decode.specs.FieldRows.{TakesRow, FailsRow};
+ghost use Rattle.rmp_decode.specs.FieldRows.{TakesRow, FailsRow, ReadsRow, MissesRow, in_row};
 ghost use Rattle.rmp_decode.specs.Fronts.{TakesFront};
 ghost use Rattle.rmp_decode.specs.Kinds.{Finds};
 ghost use Rattle.rmp_decode.specs.Law.{Lawful, TakesHead, IsFailedBefore};
@@ -15,8 +15,8 @@ ghost use Rattle.rmp_decode.specs.MapRefusing.{PartRefused, KeyRefused};
 ghost use Rattle.rmp_decode.specs.Maps.{IsMapOpen, AtKey, AtValue, TakesKey, pairs_left, is_map_sound, map_lender, map_inner};
 ghost use Rattle.rmp_decode.specs.Names.{bytes_of, IsName};
 ghost use Rattle.rmp_decode.specs.Parts.{TakesPart, FailsPart};
-ghost use Rattle.rmp_decode.specs.Refusing.{Setting, Part, RefusesAs, RefusesParts, PartsRefused, setting_of, no_refusal};
-ghost use Rattle.rmp_decode.specs.Seq.{IsOpen, TakesParts, FailsParts, lender_of};
+ghost use Rattle.rmp_decode.specs.Refusing.{Setting, Part, RefusesAs, RefusesParts, RefusesTuple, PartsRefused, setting_of, no_refusal};
+ghost use Rattle.rmp_decode.specs.Seq.{IsOpen, OfRow, TakesParts, FailsParts, lender_of};
 ghost use Rattle.rmp_decode.specs.State.{left, config_of, faults_of, kept_of, is_failed, Stays};
 ghost use Rattle.rmp_decode.specs.declared.deserializer.Kept.TheVariants.{Nothing};
 
@@ -53,6 +53,9 @@ pub trait Fields<'de, R: ReadSlice<'de>>: Sized + Drop {
 
     // What each field wants, in order.
     ghost parts: { List Part };
+
+    // Whether reading them may answer `OutOfMemory`, by whether the source lends what it has.
+    ghost takes_memory: { Bool → Bool };
 
     ghost many: { length parts ≡ count };
 
@@ -111,7 +114,8 @@ pub trait Fields<'de, R: ReadSlice<'de>>: Sized + Drop {
             (FailsRow R.Source (λ ms. (v : Self) × reads (C.human (config_of de.old)) R.lends (given_all ms) v) count de.old de.new) }
         ensures refused { result ≡ false → IfSome refusal.new
             (RefusesParts false (setting_of (C.human (config_of de.old)) R.lends de.old) (faults_of R.Source de.old) (faults_of R.Source de.new)
-            parts no_refusal count (left R.Source de.old)) };
+            parts no_refusal count (left R.Source de.old)) }
+        ensures memory { takes_memory R.lends ≡ false → result ≡ false → IfSome refusal.new (λ e. e ≢ Error.OutOfMemory) };
 
     /// Reads the elements of a list as the fields.
     ///
@@ -123,7 +127,8 @@ pub trait Fields<'de, R: ReadSlice<'de>>: Sized + Drop {
         ensures ok { IfOk result (TakesParts R.Source (λ v ms. reads (C.human (config_of (lender_of seq.old))) R.lends (given_all ms) v) seq.old seq.new) }
         ensures err { IfErr result (FailsParts {V = Self} R.Source (λ v ms. reads (C.human (config_of (lender_of seq.old))) R.lends (given_all ms) v)
             seq.old seq.new) }
-        ensures refused { IfErr result (PartsRefused R.Source (C.human (config_of (lender_of seq.old))) R.lends parts seq.old seq.new) };
+        ensures refused { IfErr result (PartsRefused R.Source (C.human (config_of (lender_of seq.old))) R.lends parts seq.old seq.new) }
+        ensures memory { takes_memory R.lends ≡ false → IfErr result (λ e. e ≢ Error.OutOfMemory) };
 }
 
 impl<'de, R: ReadSlice<'de>> Fields<'de, R> for () {
@@ -145,6 +150,8 @@ impl<'de, R: ReadSlice<'de>> Fields<'de, R> for () {
     ghost taken = { λ human lends fs v n m. no_field_taken fs n m };
 
     ghost parts = { [] };
+
+    ghost takes_memory = { λ _. false };
 
     ghost many = { refl };
 
@@ -209,6 +216,8 @@ impl<'de, R: ReadSlice<'de>, A: Deserialize<'de, R>, B: Fields<'de, R>> Fields<'
         v.0 v.1 };
 
     ghost parts = { part_of A.reads A.refuses ∷ B.parts };
+
+    ghost takes_memory = { λ lends. A.takes_memory lends || B.takes_memory lends };
 
     ghost many = { ap suc B.many };
 
@@ -476,6 +485,79 @@ impl<R: Source, C: SerializerConfig> Deserializer<R, C> {
         }
     }
 
+    // Reads the elements of a list whose head was taken, as many as there are fields.
+    #[inline(always)]
+    fn row_ahead<'de, F: Fields<'de, R>>(&mut self) -> Result<F, Error>
+    where
+        R: ReadSlice<'de>,
+        requires clean { kept_of self.old ≡ Nothing }
+        ensures ok { IfOk result (λ v. ReadsRow R.Source (λ ms. F.reads (C.human (config_of self.old)) R.lends (given_all ms) v) F.count self.old self.new) }
+        ensures err { IfErr result (MissesRow R.Source (λ ms. (v : F) × F.reads (C.human (config_of self.old)) R.lends (given_all ms) v) F.count self.old
+            self.new) }
+        ensures refused { IfErr result (RefusesParts false (setting_of (C.human (config_of self.old)) R.lends (in_row self.old)) (faults_of R.Source self.old)
+            (faults_of R.Source self.new) F.parts no_refusal F.count (left R.Source self.old)) }
+        ensures memory { F.takes_memory R.lends ≡ false → IfErr result (λ e. e ≢ Error.OutOfMemory) }
+    {
+        let outer = self.room;
+        self.room = outer.saturating_sub(1);
+        self.failed = false;
+        let mut slots = F::empty();
+        let mut refusal = None;
+        if F::row(&mut slots, &mut refusal, self) {
+            self.room = outer;
+            match F::finish(slots) {
+                Some(values) => Ok(values),
+                None => unreachable!(),
+            }
+        } else {
+            self.room = outer;
+            match refusal {
+                Some(e) => Err(e),
+                None => unreachable!(),
+            }
+        }
+    }
+
+    // Reads a tuple: a list of as many elements, or bytes of as many.
+    #[inline(always)]
+    pub(crate) fn tuple_parts<'de, F: Fields<'de, R>>(&mut self, count: usize) -> Result<F, Error>
+    where
+        R: ReadSlice<'de>,
+        requires count { count ≡ F.count }
+        ensures law { Lawful R.Source (λ m v. OfRow (λ ms. F.reads (C.human (config_of self.old)) R.lends (given_all ms) v) m) self.old self.new result }
+        ensures refused { RefusesAs R.Source (C.human (config_of self.old)) R.lends (RefusesTuple F.parts) self.old self.new result }
+        ensures memory { F.takes_memory R.lends ≡ false → IfErr result (λ e. e ≢ Error.OutOfMemory) }
+    {
+        if self.row_front(count) {
+            self.row_ahead()
+        } else {
+            self.opened_tuple(count)
+        }
+    }
+
+    // The same, of elements that are counted as they are read.
+    #[inline(always)]
+    fn opened_tuple<'de, F: Fields<'de, R>>(&mut self, count: usize) -> Result<F, Error>
+    where
+        R: ReadSlice<'de>,
+        ensures law { Lawful R.Source (λ m v. OfRow (λ ms. F.reads (C.human (config_of self.old)) R.lends (given_all ms) v) m) self.old self.new result }
+        ensures refused { RefusesAs R.Source (C.human (config_of self.old)) R.lends (RefusesTuple F.parts) self.old self.new result }
+        ensures memory { F.takes_memory R.lends ≡ false → IfErr result (λ e. e ≢ Error.OutOfMemory) }
+    {
+        let mut seq = match self.deserialize_tuple(count) {
+            Ok(seq) => seq,
+            Err(e) => return Err(e),
+        };
+        let values = match F::listed(&mut seq) {
+            Ok(values) => values,
+            Err(e) => return Err(e),
+        };
+        match seq.end() {
+            Ok(()) => Ok(values),
+            Err(e) => Err(e),
+        }
+    }
+
     /// Reads the fields of a struct, from a list, from bytes as the list of their numbers, or from a map by the names. In a map
     /// they stand in any order, and what is of no name is passed over; for one that isn't there stands what its type says.
     ///
@@ -494,26 +576,10 @@ impl<R: Source, C: SerializerConfig> Deserializer<R, C> {
         ensures refused { RefusesAs R.Source (C.human (config_of self.old)) R.lends (RefusesFields (bytes_of names.now) F.reads F.parts) self.old self.new
             result }
     {
-        if !self.row_front(names.len()) {
-            return self.opened_fields(names);
-        }
-        let outer = self.room;
-        self.room = outer.saturating_sub(1);
-        self.failed = false;
-        let mut slots = F::empty();
-        let mut refusal = None;
-        if F::row(&mut slots, &mut refusal, self) {
-            self.room = outer;
-            match F::finish(slots) {
-                Some(values) => Ok(values),
-                None => unreachable!(),
-            }
+        if self.row_front(names.len()) {
+            self.row_ahead()
         } else {
-            self.room = outer;
-            match refusal {
-                Some(e) => Err(e),
-                None => unreachable!(),
-            }
+            self.opened_fields(names)
         }
     }
 

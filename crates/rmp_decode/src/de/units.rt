@@ -33,7 +33,22 @@ impl<R: Source, C: SerializerConfig> Deserializer<R, C> {
     /// # Errors
     /// `DepthLimitExceeded` for a list that would nest too deep, and `Syntax("invalid type")` for another list and another
     /// kind.
+    #[inline(always)]
     pub fn deserialize_unit_struct(&mut self, _name: &str) -> Result<(), Error>
+        ensures law { Lawful R.Source (λ m _. IsNothing m) self.old self.new result }
+        ensures exact { RefusesHead R.Source (not_nothing (room_of self.old)) self.old self.new result }
+        ensures memory { IfErr result (λ e. e ≢ Error.OutOfMemory) }
+    {
+        if self.unit_front() {
+            self.failed = false;
+            return Ok(());
+        }
+        self.headed_unit_struct()
+    }
+
+    // The same by way of `head`, by a call.
+    #[inline(never)]
+    fn headed_unit_struct(&mut self) -> Result<(), Error>
         ensures law { Lawful R.Source (λ m _. IsNothing m) self.old self.new result }
         ensures exact { RefusesHead R.Source (not_nothing (room_of self.old)) self.old self.new result }
         ensures memory { IfErr result (λ e. e ≢ Error.OutOfMemory) }

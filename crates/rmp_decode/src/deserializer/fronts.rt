@@ -9,7 +9,7 @@ ghost use Rattle.rmp_decode.specs.declared.deserializer.Kept.TheVariants.{Nothin
 mod kinds;
 
 use crate::deserializer::fronts::kinds::{
-    bin_at, f32_at, f64_at, head_at, leaf_at, signed_at, sixteen_at, truth_at,
+    bin_at, f32_at, f64_at, head_at, leaf_at, nil_at, signed_at, sixteen_at, truth_at,
 };
 use crate::deserializer::{Deserializer, Kept};
 use crate::error::Error;
@@ -251,6 +251,26 @@ impl<R: Source, C: SerializerConfig> Deserializer<R, C> {
                 }
             }
             None => None,
+        }
+    }
+
+    // Takes nil where it lies in memory, and leaves this failed until it is answered. Else nothing is taken.
+    #[inline(always)]
+    pub(crate) fn unit_front(&mut self) -> bool
+        ensures taken { result ≡ true → TakesFront R.Source Head.Nil self.old self.new }
+        ensures kept { result ≡ false → self.new ≡ self.old }
+    {
+        if !self.begins_ahead() {
+            return false;
+        }
+        if !nil_at(self.reader.front()) {
+            return false;
+        }
+        if self.reader.skip(1) {
+            self.failed = true;
+            true
+        } else {
+            false
         }
     }
 

@@ -192,6 +192,20 @@ impl<R: Source, C: SerializerConfig> Deserializer<R, C> {
         ensures exact { RefusesHead R.Source not_nil self.old self.new result }
         ensures memory { IfErr result (λ e. e ≢ Error.OutOfMemory) }
     {
+        if self.unit_front() {
+            self.failed = false;
+            return Ok(());
+        }
+        self.apart_unit()
+    }
+
+    // The same by way of `head`, by a call.
+    #[inline(never)]
+    fn headed_unit(&mut self) -> Result<(), Error>
+        ensures law { Lawful R.Source (λ m _. m ≡ Msg.nil) self.old self.new result }
+        ensures exact { RefusesHead R.Source not_nil self.old self.new result }
+        ensures memory { IfErr result (λ e. e ≢ Error.OutOfMemory) }
+    {
         match self.head() {
             Ok((_, head)) => match nil_in(head) {
                 Some(()) => {
@@ -202,6 +216,27 @@ impl<R: Source, C: SerializerConfig> Deserializer<R, C> {
             },
             Err(e) => Err(e),
         }
+    }
+
+    // The same of a copy of the reader.
+    #[inline(always)]
+    fn apart_unit(&mut self) -> Result<(), Error>
+        ensures law { Lawful R.Source (λ m _. m ≡ Msg.nil) self.old self.new result }
+        ensures exact { RefusesHead R.Source not_nil self.old self.new result }
+        ensures memory { IfErr result (λ e. e ≢ Error.OutOfMemory) }
+    {
+        replace_with(
+            self,
+            (),
+            |mut de: Deserializer<R, C>, _none: ()|
+                ensures law { Lawful R.Source (λ m _. m ≡ Msg.nil) de result.0 result.1 }
+                ensures exact { RefusesHead R.Source not_nil de result.0 result.1 }
+                ensures memory { IfErr result.1 (λ e. e ≢ Error.OutOfMemory) }
+            {
+                let read = de.headed_unit();
+                (de, read)
+            },
+        )
     }
 
     // A number without a sign, of any width, up to `most`.

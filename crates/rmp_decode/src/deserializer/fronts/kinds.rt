@@ -68,6 +68,17 @@ pub(super) fn sixteen_at(front: &[u8]) -> bool
     }
 }
 
+// Whether nil stands at the front. Its head has one byte.
+#[inline(always)]
+pub(super) fn nil_at(front: &[u8]) -> bool
+    ensures { result ≡ true → (strict : Bool) → StandsIn strict 1 Head.Nil front.now }
+{
+    match front {
+        [first, ..] => *first == 0xc0,
+        _ => false,
+    }
+}
+
 // A truth that stands at the front. Its head has one byte.
 #[inline(always)]
 pub(super) fn truth_at(front: &[u8]) -> Option<bool>
