@@ -1,16 +1,23 @@
-//! Types that the samples need and users write by hand, and what is written by the public calls of `rmp_encode`.
+//! Types as users write them by hand, which the samples and the tests need, and a caller that owns what it writes into.
 #![tactic(auto)]
 
+mod by_hand;
+mod called;
 mod newtype;
 mod optional;
+pub mod own_type;
 mod recursive;
+pub mod structs;
 mod tuple_struct;
 mod unknown;
-#[cfg(test)]
-mod writes;
+mod variants;
+pub mod written;
 
+pub use by_hand::Pup;
+pub use called::spell_into;
 pub use newtype::NewU8;
 pub use optional::OptionalByte;
 pub use recursive::{Nested, Rose, Tree};
 pub use tuple_struct::{TupleS, TupleS0};
 pub use unknown::{UnkMap, UnkSeq};
+pub use variants::Shape;

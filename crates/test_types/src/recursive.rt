@@ -268,6 +268,3 @@ impl<'de, R: ReadSlice<'de>> Deserialize<'de, R> for Rose {
         None
     }
 }
-
-#[cfg(test)]
-mod tests;

@@ -1,0 +1,27 @@
+use Rattle.std.proofs.Common.{rules, refl}
+use Rattle.std.proofs.lemmas.Result.{err_from_is_err_and}
+use Rattle.rmp_encode.proofs.Going.{unopened}
+use Rattle.rmp_encode.proofs.Parts.{rests_at}
+use Rattle.test_types.proofs.written.DogSerialize.serialize.Goals as goal
+
+pub returns-in_err-fields-clause-writes : goal.returns-in_err-fields-clause-writes
+returns-in_err-fields-clause-writes g c =
+    let p = err_from_is_err_and c.from_residual.result c.from_residual.ensures.1 in
+    rw (p.1, p.2) (unopened g.W.Sink _ _ _ c.args.se.now _ _ _ _ c.in_err-fields.was c.serialize_struct.follows.holds-at-none refl)
+
+pub returns-in_err-serialize_field-clause-writes : goal.returns-in_err-serialize_field-clause-writes
+returns-in_err-serialize_field-clause-writes g c =
+    let p = err_from_is_err_and c.from_residual-in_err-serialize_field.result c.from_residual-in_err-serialize_field.ensures.1 in
+    rw (p.1, p.2) (rests_at g.W.Sink (search rules) (c.in_err-serialize_field.ensures.writes c.args.se.now _ _ (c.in_ok-fields.ensures.opened _ refl)))
+
+pub returns-in_err-serialize_field-2-clause-writes : goal.returns-in_err-serialize_field-2-clause-writes
+returns-in_err-serialize_field-2-clause-writes g c =
+    let p = err_from_is_err_and c.from_residual-in_err-serialize_field-2.result c.from_residual-in_err-serialize_field-2.ensures.1 in
+    rw (p.1, p.2) (rests_at g.W.Sink (search rules) (c.in_err-serialize_field-2.ensures.writes c.args.se.now _ _
+    (c.in_ok-serialize_field.ensures.writes c.args.se.now _ _ (c.in_ok-fields.ensures.opened _ refl))))
+
+pub returns-clause-writes : goal.returns-clause-writes
+returns-clause-writes g c =
+    rests_at g.W.Sink (search rules) (c.end.ensures.writes c.args.se.now _
+    (c.in_ok-serialize_field-2.ensures.writes c.args.se.now _ _
+    (c.in_ok-serialize_field.ensures.writes c.args.se.now _ _ (c.in_ok-fields.ensures.opened _ refl))))

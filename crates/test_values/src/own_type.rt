@@ -1,8 +1,0 @@
-//! Types as a user writes them: docs/OWN_TYPES.md shows how, and is about these.
-mod named;
-mod point;
-#[cfg(test)]
-mod tests;
-
-pub use named::Named;
-pub use point::Point;

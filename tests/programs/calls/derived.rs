@@ -1,0 +1,228 @@
+//! What the derived types are written as and read from.
+use rmp_decode::{Deserialize, Deserializer, Error, Text, from_slice, from_slice_strict};
+use rmp_encode::{Serialize, Serializer, to_vec, to_vec_named, write_named};
+use rmp_wire::Marker;
+use std::alloc::Global;
+use std::test::Fail;
+use test_derived::{Counted, Dog, Four, Mixed, Newtype, Opt, Papers, Point, Two, Unit, V12};
+
+fn dog(alloc: Global, name: &str, age: u16) -> Result<Dog, Fail> {
+    Ok(Dog {
+        name: String::from_str(alloc, name)?,
+        age,
+    })
+}
+
+#[test]
+fn a_dog(rt: HostRuntime) -> Result<(), Fail> {
+    let bobby = dog(rt.alloc(), "Bobby", 8)?;
+    assert_eq!(rt;
+        to_vec(rt.alloc(), &bobby)?.as_slice(),
+        b"\x92\xa5Bobby\x08".as_slice()
+    );
+    assert_eq!(rt;
+        to_vec_named(rt.alloc(), &bobby)?.as_slice(),
+        b"\x82\xa4name\xa5Bobby\xa3age\x08".as_slice()
+    );
+    for input in [
+        b"\x83\xa1\x78\x81\x05\x90\xa3age\x08\xa4name\xa5Bobby".as_slice(),
+        b"\x82\x01\x08\x00\xa5Bobby",
+        b"\x92\xa5Bobby\x08",
+    ] {
+        let read: Result<Dog, Error> = from_slice(rt.alloc(), input);
+        assert!(rt; matches!(&read, Ok(dog) if dog.name.as_str() == "Bobby" && dog.age == 8));
+    }
+    Ok(())
+}
+
+#[test]
+fn no_dog(rt: HostRuntime) {
+    let read: Result<Dog, Error> = from_slice(rt.alloc(), b"\x82\xa3age\x08\xa3age\x08");
+    assert!(rt; matches!(&read, Err(Error::Syntax(Text::DuplicateField))));
+    let read: Result<Dog, Error> = from_slice(rt.alloc(), b"\x81\xa4name\xa1A");
+    assert!(rt; matches!(&read, Err(Error::Syntax(Text::MissingField))));
+    let read: Result<Dog, Error> = from_slice(rt.alloc(), b"\x92\xa5a");
+    assert!(rt; matches!(&read, Err(Error::InvalidDataRead(_))));
+    let read: Result<Dog, Error> = from_slice_strict(
+        rt.alloc(),
+        b"\x83\xa1\x78\x81\xcc\x05\x90\xa3age\x08\xa4name\xa5Bobby",
+    );
+    assert!(rt; matches!(&read, Err(Error::NotCanonical)));
+}
+
+#[test]
+fn a_field_that_may_be_missing(rt: HostRuntime) -> Result<(), Fail> {
+    let none = Opt { v: None };
+    assert_eq!(rt;
+        to_vec(rt.alloc(), &none)?.as_slice(),
+        b"\x91\xc0".as_slice()
+    );
+    assert_eq!(rt;
+        to_vec_named(rt.alloc(), &Opt { v: Some(1) })?.as_slice(),
+        b"\x81\xa1v\x01".as_slice()
+    );
+    let read: Result<Opt, Error> = from_slice(rt.alloc(), b"\x80");
+    assert!(rt; matches!(&read, Ok(Opt { v: None })));
+    let read: Result<Opt, Error> = from_slice(rt.alloc(), b"\x90");
+    assert!(rt; matches!(&read, Err(Error::Syntax(Text::InvalidLength))));
+    Ok(())
+}
+
+#[test]
+fn many_fields(rt: HostRuntime) -> Result<(), Fail> {
+    let papers = Papers {
+        number: 7,
+        name: String::from_str(rt.alloc(), "A")?,
+        born: 300,
+        chip: None,
+        mother: Some(1),
+        father: None,
+        weight: 9,
+        height: -1,
+        vaccinated: true,
+    };
+    assert_eq!(rt;
+        to_vec(rt.alloc(), &papers)?.as_slice(),
+        b"\x99\x07\xa1A\xcd\x01\x2c\xc0\x01\xc0\x09\xff\xc3".as_slice()
+    );
+    let read: Result<Papers, Error> = from_slice(
+        rt.alloc(),
+        b"\x86\xaavaccinated\xc3\xa6number\x07\xa4name\xa1A\xa6height\xff\xa6weight\x09\xa4born\xcd\x01\x2c",
+    );
+    assert!(rt;
+        matches!(
+            &read,
+            Ok(Papers {
+                number: 7,
+                chip: None,
+                height: -1,
+                vaccinated: true,
+                ..
+            })
+        )
+    );
+    let read: Result<Papers, Error> = from_slice(rt.alloc(), b"\x81\xa6number\x07");
+    assert!(rt; matches!(&read, Err(Error::Syntax(Text::MissingField))));
+    Ok(())
+}
+
+#[test]
+fn structs_without_names(rt: HostRuntime) -> Result<(), Fail> {
+    let point = Point(300, String::from_str(rt.alloc(), "a")?);
+    assert_eq!(rt;
+        to_vec(rt.alloc(), &point)?.as_slice(),
+        b"\x92\xcd\x01\x2c\xa1a".as_slice()
+    );
+    let read: Result<Point, Error> = from_slice(rt.alloc(), b"\x92\xcd\x01\x2c\xa1a");
+    assert!(rt; matches!(&read, Ok(point) if point.0 == 300 && point.1.as_str() == "a"));
+    let number = Newtype(42);
+    assert_eq!(rt; to_vec(rt.alloc(), &number)?.as_slice(), b"\x2a".as_slice());
+    let mut named = Vec::new(rt.alloc());
+    write_named(rt.alloc(), &mut named, &number)?;
+    assert_eq!(rt; named.as_slice(), b"\x2a".as_slice());
+    let read: Result<Newtype, Error> = from_slice(rt.alloc(), b"\x2a");
+    assert!(rt; matches!(&read, Ok(Newtype(42))));
+    assert_eq!(rt; to_vec(rt.alloc(), &Unit)?.as_slice(), b"\x90".as_slice());
+    let read: Result<Unit, Error> = from_slice(rt.alloc(), b"\xdc\x00\x00");
+    assert!(rt; read.is_ok());
+    let read: Result<Unit, Error> = from_slice_strict(rt.alloc(), b"\xdc\x00\x00");
+    assert!(rt; matches!(&read, Err(Error::NotCanonical)));
+    Ok(())
+}
+
+#[test]
+fn types_inside(rt: HostRuntime) -> Result<(), Fail> {
+    let counted = Counted {
+        value: dog(rt.alloc(), "A", 1)?,
+        count: 2,
+    };
+    assert_eq!(rt;
+        to_vec(rt.alloc(), &counted)?.as_slice(),
+        b"\x92\x92\xa1A\x01\x02".as_slice()
+    );
+    let read: Result<Counted<Dog>, Error> = from_slice(
+        rt.alloc(),
+        b"\x82\xa5count\x02\xa5value\x92\xa1A\x01",
+    );
+    assert!(rt; matches!(&read, Ok(counted) if counted.value.age == 1 && counted.count == 2));
+    let mixed: Mixed<u8> = Mixed::Kept {
+        four: Some(Four::New(200)),
+        dog: dog(rt.alloc(), "A", 1)?,
+    };
+    let bytes = to_vec(rt.alloc(), &mixed)?;
+    assert_eq!(rt;
+        bytes.as_slice(),
+        b"\x81\xa4Kept\x92\x81\xa3New\xcc\xc8\x92\xa1A\x01".as_slice()
+    );
+    let read: Result<Mixed<u8>, Error> = from_slice(rt.alloc(), bytes.as_slice());
+    assert!(rt;
+        matches!(
+            &read,
+            Ok(Mixed::Kept {
+                four: Some(Four::New(200)),
+                ..
+            })
+        )
+    );
+    Ok(())
+}
+
+#[test]
+fn variants_in_a_row(rt: HostRuntime) -> Result<(), Fail> {
+    let mut se = Serializer::new(rt.alloc(), Vec::new(rt.alloc()));
+    V12::V1.serialize(&mut se)?;
+    V12::V2(42, 100500).serialize(&mut se)?;
+    let bytes = b"\xa2V1\x81\xa2V2\x92\x2a\xce\x00\x01\x88\x94";
+    assert_eq!(rt; se.into_inner().as_slice(), bytes.as_slice());
+    let mut de = Deserializer::from_read_ref(rt.alloc(), bytes);
+    assert!(rt; matches!(&V12::deserialize(&mut de), Ok(V12::V1)));
+    assert!(rt; matches!(&V12::deserialize(&mut de), Ok(V12::V2(42, 100500))));
+    assert!(rt; de.remaining_slice().is_empty());
+    let read: Result<V12, Error> = from_slice(rt.alloc(), b"\xa2V2");
+    assert!(rt; matches!(&read, Err(Error::Syntax(Text::InvalidType))));
+    // the content's error, and not that of a name
+    let read: Result<V12, Error> = from_slice(rt.alloc(), b"\x81\xa2V2\x91\x2a");
+    assert!(rt; matches!(&read, Err(Error::Syntax(Text::InvalidLength))));
+    let read: Result<V12, Error> = from_slice(rt.alloc(), b"\x81\xa2V2\x92\x2a\xff");
+    assert!(rt; matches!(&read, Err(Error::Syntax(Text::InvalidValue))));
+    Ok(())
+}
+
+#[test]
+fn variants_without_content(rt: HostRuntime) {
+    let read: Result<Two, Error> = from_slice(rt.alloc(), b"\x82\x00\x24\x01\x25");
+    assert!(rt; matches!(&read, Err(Error::LengthMismatch(2))));
+    let read: Result<Two, Error> = from_slice(rt.alloc(), b"\x81\x00\x2a");
+    assert!(rt; matches!(&read, Err(Error::TypeMismatch(Marker::FixPos(42)))));
+    let read: Result<Two, Error> = from_slice(rt.alloc(), b"\x81\x02\xc0");
+    assert!(rt; matches!(&read, Err(Error::Syntax(Text::UnknownVariant))));
+    for input in [b"\x81\x00\xc0".as_slice(), b"\x81\xcd\x00\x00\xc0"] {
+        let read: Result<Two, Error> = from_slice(rt.alloc(), input);
+        assert!(rt; matches!(&read, Ok(Two::First)));
+    }
+    let read: Result<Two, Error> = from_slice_strict(rt.alloc(), b"\x81\xcd\x00\x00\xc0");
+    assert!(rt; matches!(&read, Err(Error::NotCanonical)));
+}
+
+#[test]
+fn variants_of_each_kind(rt: HostRuntime) -> Result<(), Fail> {
+    let b = String::from_str(rt.alloc(), "q")?;
+    let four = vec![in rt.alloc();
+        Four::Unit,
+        Four::New(200),
+        Four::Tup(200, 300),
+        Four::Str { a: 1, b },
+    ]?;
+    let bytes =
+        b"\x94\xa4Unit\x81\xa3New\xcc\xc8\x81\xa3Tup\x92\xcc\xc8\xcd\x01\x2c\x81\xa3Str\x92\x01\xa1q";
+    assert_eq!(rt; to_vec(rt.alloc(), &four)?.as_slice(), bytes.as_slice());
+    assert_eq!(rt;
+        to_vec_named(rt.alloc(), &four[3])?.as_slice(),
+        b"\x81\xa3Str\x82\xa1a\x01\xa1b\xa1q".as_slice()
+    );
+    let read: Result<Vec<Four>, Error> = from_slice(rt.alloc(), bytes);
+    assert!(rt;
+        matches!(&read, Ok(four) if four.len() == 4 && matches!(&four[2], Four::Tup(200, 300)))
+    );
+    Ok(())
+}

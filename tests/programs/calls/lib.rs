@@ -1,0 +1,17 @@
+//! What the public calls of the libraries come to: tests that are run and not proved.
+#![tactic(auto)]
+
+#[cfg(test)]
+mod derived;
+#[cfg(test)]
+mod lines;
+#[cfg(test)]
+mod reads;
+#[cfg(test)]
+mod recursive;
+#[cfg(test)]
+mod values;
+#[cfg(test)]
+mod wire;
+#[cfg(test)]
+mod writes;

@@ -1,0 +1,3 @@
+//! What lines of hex come to by the public calls of `canon_lines`.
+mod check;
+mod run;

@@ -1,0 +1,14 @@
+//! What is read by the public calls of `rmp_decode`.
+mod accesses;
+mod content;
+mod depths;
+mod errors;
+mod fields;
+mod interrupted;
+mod leaves;
+mod names;
+mod one_by_one;
+mod readers;
+mod rows;
+mod types;
+mod variants;

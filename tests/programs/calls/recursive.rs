@@ -1,0 +1,167 @@
+//! What types that lead back to themselves are written as and read from.
+use rmp_decode::{Deserialize, Deserializer, Error, from_slice_strict};
+use rmp_encode::{Serialize, to_vec, to_vec_named};
+use rmp_wire::ReadRefReader;
+use std::alloc::Global;
+use std::process::Abort;
+use std::test::Fail;
+use test_types::{Nested, Rose, Tree};
+
+const TREE: &[u8] = b"\x81\xa4Node\x92\x81\xa4Leaf\x01\x81\xa4Node\x90";
+
+const LISTED: &[u8] = b"\x91\x91\x91\x90";
+
+const NAMED: &[u8] = b"\x81\xa4kids\x91\x81\xa4kids\x90";
+
+const TOO_DEEP: &str = "depth limit exceeded";
+
+fn read<'de, T: Deserialize<'de, ReadRefReader<'de>>>(
+    alloc: Global,
+    limit: usize,
+    input: &'de [u8],
+) -> Result<T, Error> {
+    let mut de = Deserializer::from_read_ref(alloc, input);
+    de.set_max_depth(limit);
+    T::deserialize(&mut de)
+}
+
+// The value is written as these bytes, with its fields' names or without them.
+fn writes<T: Serialize>(rt: &impl Abort, alloc: Global, value: &T, is_named: bool, want: &[u8]) {
+    let written = if is_named {
+        to_vec_named(alloc, value)
+    } else {
+        to_vec(alloc, value)
+    };
+    match written {
+        Ok(bytes) => assert_eq!(rt; bytes.as_slice(), want),
+        Err(e) => panic!(rt; "{want:?} is refused: {e}"),
+    }
+}
+
+// The input is read under a limit, as the value that is written as these bytes.
+fn reads<'de, T: Deserialize<'de, ReadRefReader<'de>> + Serialize + Drop>(
+    rt: &impl Abort,
+    alloc: Global,
+    limit: usize,
+    input: &'de [u8],
+    is_named: bool,
+    want: &[u8],
+) {
+    match read::<T>(alloc, limit, input) {
+        Ok(value) => writes(rt, alloc, &value, is_named, want),
+        Err(e) => panic!(rt; "{want:?} is refused: {e}"),
+    }
+}
+
+// A read was refused, in these words.
+fn refused<T: Drop>(rt: &impl Abort, alloc: Global, read: Result<T, Error>, why: &str) {
+    match read {
+        Ok(_) => panic!(rt; "a value, and not: {why}"),
+        Err(e) => {
+            let words = format!(in alloc; "{e}").expect(rt, "memory");
+            assert_eq!(rt; words.as_str(), why);
+        }
+    }
+}
+
+fn strictly<'de, T: Deserialize<'de, ReadRefReader<'de>>>(
+    alloc: Global,
+    input: &'de [u8],
+) -> Result<T, Error> {
+    from_slice_strict(alloc, input)
+}
+
+#[test]
+fn trees_written(rt: HostRuntime) -> Result<(), Fail> {
+    let trees = vec![in rt.alloc(); Tree::Leaf(1), Tree::Node(Vec::new(rt.alloc()))]?;
+    writes(&rt, rt.alloc(), &Tree::Node(trees), false, TREE);
+    Ok(())
+}
+
+#[test]
+fn trees(rt: HostRuntime) {
+    let wide = b"\xde\x00\x01\xc4\x04Node\xdc\x00\x02\x81\x00\xcc\x01\x81\x01\xc4\x00";
+    for (limit, input) in [(5, TREE), (5, wide.as_slice()), (1024, TREE)] {
+        reads::<Tree>(&rt, rt.alloc(), limit, input, false, TREE);
+    }
+    refused::<Tree>(&rt, rt.alloc(), read(rt.alloc(), 4, TREE), TOO_DEEP);
+    refused::<Tree>(&rt, rt.alloc(), strictly(rt.alloc(), wide), "not canonical");
+    assert!(rt; strictly::<Tree>(rt.alloc(), TREE).is_ok());
+    let other = b"\x81\xa4Node\xc4\x01\x7f";
+    refused::<Tree>(
+        &rt,
+        rt.alloc(),
+        read(rt.alloc(), 1024, other),
+        "unknown variant",
+    );
+}
+
+#[test]
+fn lists(rt: HostRuntime) {
+    let nested = b"\x92\x91\x90\x90".as_slice();
+    for input in [nested, b"\xdc\x00\x02\x91\xc4\x00\xdd\x00\x00\x00\x00"] {
+        reads::<Nested>(&rt, rt.alloc(), 4, input, false, nested);
+    }
+    refused::<Nested>(&rt, rt.alloc(), read(rt.alloc(), 3, nested), TOO_DEEP);
+    refused::<Nested>(
+        &rt,
+        rt.alloc(),
+        read(rt.alloc(), 0, b"\xc4\x01\x00"),
+        "invalid type",
+    );
+    refused::<Nested>(
+        &rt,
+        rt.alloc(),
+        strictly(rt.alloc(), b"\x91\xdc\x00\x00"),
+        "not canonical",
+    );
+}
+
+#[test]
+fn roses(rt: HostRuntime) -> Result<(), Fail> {
+    let kids = vec![in rt.alloc();
+        Rose {
+            kids: Vec::new(rt.alloc())
+        },
+    ]?;
+    let rose = Rose { kids };
+    writes(&rt, rt.alloc(), &rose, false, LISTED);
+    writes(&rt, rt.alloc(), &rose, true, NAMED);
+    Ok(())
+}
+
+#[test]
+fn roses_read(rt: HostRuntime) {
+    let mixed = b"\x82\xa4more\x93\x01\x02\x03\xc4\x04kids\xdc\x00\x01\x81\x00\x90";
+    for (limit, input) in [
+        (5, LISTED),
+        (5, NAMED),
+        (1024, NAMED),
+        (5, mixed.as_slice()),
+    ] {
+        reads::<Rose>(&rt, rt.alloc(), limit, input, true, NAMED);
+    }
+    for input in [LISTED, NAMED] {
+        refused::<Rose>(&rt, rt.alloc(), read(rt.alloc(), 4, input), TOO_DEEP);
+        assert!(rt; strictly::<Rose>(rt.alloc(), input).is_ok());
+    }
+    refused::<Rose>(
+        &rt,
+        rt.alloc(),
+        strictly(rt.alloc(), mixed),
+        "not canonical",
+    );
+}
+
+#[test]
+fn roses_refused(rt: HostRuntime) {
+    for (input, why) in [
+        (b"\x80".as_slice(), "missing field"),
+        (b"\x90", "invalid length"),
+        (b"\x92\x90\x90", "array had incorrect length, expected 1"),
+        (b"\x82\xa4kids\x90\xa4kids\x90", "duplicate field"),
+        (b"\xc4\x01\x90", "invalid type"),
+    ] {
+        refused::<Rose>(&rt, rt.alloc(), read(rt.alloc(), 1024, input), why);
+    }
+}
