@@ -1,5 +1,5 @@
 -- Where fields are refused, by where their opening, their keys and their values are.
-use Rattle.std.proofs.Common.{◌≡◌, ◌∙◌, sym, ap, subst, refl, inl, inr, ◌⊎◌, ℕ, suc, ◌-◌, ◌<◌, max, arith, length, Bool, List, [], ◌∷◌, Option, None, Some}
+use Rattle.std.proofs.Common.{◌≡◌, ◌∙◌, sym, ap, subst, inl, inr, ◌⊎◌, ℕ, suc, ◌-◌, ◌<◌, max, arith, length, Bool, List, [], ◌∷◌, Option, None, Some}
 use Rattle.rmp_wire.specs.declared.source.Source.{Ghosts}
 use Rattle.rmp_wire.specs.Canonical.{SpellsAs}
 use Rattle.rmp_wire.specs.Msg.{Msg, Msgs, no_items, item, count}
@@ -8,7 +8,7 @@ use Rattle.rmp_decode.specs.Fields.{Slot, given_all, name_refusal, pass_refusal}
 use Rattle.rmp_decode.specs.MapRefusing.{EntryRefused, KeyRefused}
 use Rattle.rmp_decode.specs.Maps.{map_inner, OpensMap, TakesKey}
 use Rattle.rmp_decode.specs.Names.{IsName}
-use Rattle.rmp_decode.specs.Refusing.{Setting, Refusals, Part, setting_of, element_setting, inside, RefusesParts, RefusesTuple, PartsRefused, Excess, no_refusal}
+use Rattle.rmp_decode.specs.Refusing.{Setting, Refusals, Part, setting_of, element_setting, inside, RefusesParts, RefusesTuple, PartsRefused, no_refusal}
 use Rattle.rmp_decode.specs.Seq.{SpellsRow, inner_of, Opens, TakesElement, Run}
 use Rattle.rmp_decode.specs.State.{left, faults_of}
 use Rattle.rmp_decode.specs.declared.deserializer.Deserializer.{Deserializer}
@@ -20,7 +20,7 @@ use Rattle.rmp_decode.specs.declared.text.Text.TheVariants.{MissingField}
 use Rattle.rmp_decode.proofs.Fields.{later_full}
 use Rattle.rmp_decode.proofs.Maps.{flat, in_pairs, count-flat, depth-flat, settled}
 use Rattle.rmp_decode.proofs.Refusings.{Held, parts_wrong, parts_excess}
-use Rattle.rmp_decode.proofs.Settings.{setting_same, behind_opened}
+use Rattle.rmp_decode.proofs.Settings.{setting_same}
 use Rattle.rmp_decode.proofs.Structs.{FieldsRun}
 
 -- ---- one field's value

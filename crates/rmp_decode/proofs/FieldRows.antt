@@ -1,16 +1,16 @@
 -- What the read of a struct that is a list of as many elements says, from what the reads of its fields say.
-use Rattle.std.proofs.Common.{◌≡◌, ◌∙◌, sym, ap, subst, refl, inr, ℕ, suc, ◌+◌, ◌-◌, ◌<◌, max, arith, List, [], ◌∷◌, Bool, true, false, Option, None, Some, Result, Ok, Err, length, ◌++◌}
+use Rattle.std.proofs.Common.{◌≡◌, ◌∙◌, sym, ap, subst, refl, inr, ℕ, suc, ◌-◌, ◌<◌, max, arith, List, [], ◌∷◌, Bool, true, false, Option, None, Some, Result, Ok, Err, length, ◌++◌}
 use Rattle.std.specs.Prelude.{IfSome, IfOk, IfErr}
 use Rattle.std.proofs.KnownBytes.{Consumes-nil, Consumes-trans}
 use Rattle.rmp_wire.specs.declared.head.Head.TheVariants.{Array}
 use Rattle.rmp_wire.specs.declared.source.Source.{Ghosts}
 use Rattle.rmp_wire.specs.Canonical.{SpellsAs}
-use Rattle.rmp_wire.specs.Msg.{Msg, Msgs, no_items, item, count}
+use Rattle.rmp_wire.specs.Msg.{Msg, Msgs, no_items, item}
 use Rattle.rmp_decode.specs.FieldRefusing.{RefusesFields}
 use Rattle.rmp_decode.specs.FieldRows.{TakesRow, FailsRow, ReadsRow, MissesRow, in_row}
 use Rattle.rmp_decode.specs.Fields.{Field, Absent, NoField, Slot, given_all, OfFields}
 use Rattle.rmp_decode.specs.Fronts.{TakesFront}
-use Rattle.rmp_decode.specs.Law.{Lawful, Readable, Refuses}
+use Rattle.rmp_decode.specs.Law.{Lawful, Readable}
 use Rattle.rmp_decode.specs.Refusing.{Part, setting_of, RefusesParts, RefusesTuple, no_refusal}
 use Rattle.rmp_decode.specs.Seq.{SpellsIn, SpellsRow, RefusesRow, OfRow, Opens, TakesParts, FailsParts}
 use Rattle.rmp_decode.specs.State.{left, faults_of, room_of}

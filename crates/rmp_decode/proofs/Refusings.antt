@@ -4,22 +4,7 @@ use Rattle.std.proofs.lemmas.List.{append_assoc, append-nil}
 use Rattle.std.specs.Io.KnownBytes.{Consumes}
 use Rattle.rmp_wire.specs.declared.source.Source.{Ghosts}
 use Rattle.rmp_wire.specs.Msg.{Msg, Msgs, no_items, item, count, depth_all}
-use Rattle.rmp_decode.specs.Refusing.{
-  Setting,
-  setting_of,
-  element_setting,
-  inside,
-  ElementRefused,
-  Wanted,
-  Opened,
-  Part,
-  BehindElement,
-  RefusesParts,
-  RefusesTuple,
-  PartsRefused,
-  Excess,
-  no_refusal,
-}
+use Rattle.rmp_decode.specs.Refusing.{Setting, setting_of, inside, Opened, Part, BehindElement, RefusesParts, PartsRefused, Excess, no_refusal}
 use Rattle.rmp_decode.specs.Rows.{AndThen, NoMore}
 use Rattle.rmp_decode.specs.Seq.{SpellsIn, SpellsRow, Opens, Run, inner_of}
 use Rattle.rmp_decode.specs.State.{left, faults_of}
@@ -27,7 +12,7 @@ use Rattle.rmp_decode.specs.declared.deserializer.Deserializer.{Deserializer}
 use Rattle.rmp_decode.specs.declared.access.seq.SeqAccess.{SeqAccess}
 use Rattle.rmp_decode.specs.declared.error.Error.{Error}
 use Rattle.rmp_decode.specs.declared.error.Error.TheVariants.{LengthMismatch}
-use Rattle.rmp_decode.proofs.Settings.{element_behind, behind_opened}
+use Rattle.rmp_decode.proofs.Settings.{behind_opened}
 
 -- ---- parts of several types
 
@@ -116,14 +101,6 @@ module _ (s : Setting) where
   Held [] ms = NoMore ms
   Held (p ∷ ps) ms = AndThen (p.holds s) (Held ps) ms
 
-  pub held_first : (P : Msg → Type 0) (Q : Msgs → Type 0) (p : Part) (ps : List Part) → ((m : Msg) → P m → p.holds s m) → ((ms : Msgs) → Q ms → Held ps ms)
-      → (ms : Msgs) → AndThen P Q ms → Held (p ∷ ps) ms
-  held_first P Q p ps f h no_items k = absurd k
-  held_first P Q p ps f h (item m ms) k = (f m k.0, h ms k.1)
-
-  pub held_last : (ms : Msgs) → NoMore ms → Held [] ms
-  held_last ms k = k
-
   module _ (b : Bool) (before after : ℕ) (e : Error) where
     -- all of them were read
     pub all_read : (p : Part) (ps : List Part) (last : ℕ → Option (List ℕ) → Error
@@ -134,26 +111,6 @@ module _ (s : Setting) where
     all_read p (q ∷ ps) last known n ms rest still h a w =
         inr (then_read b s (p.holds s) (p.holds s) (λ m k. k) (RefusesParts b s before after (q ∷ ps) last) e (Held (q ∷ ps)) known n ms rest still h a
         (λ ks mid k g c. all_read q ps last mid k ks rest still g c w))
-
-    -- these, and then those
-    pub joined : (ps qs : List Part) (last : ℕ → Option (List ℕ) → Error → Type 0) (n : ℕ) (known : Option (List ℕ))
-        → RefusesParts b s before after ps (RefusesParts b s before after qs last) n known e → RefusesParts b s before after (ps ++ qs) last n known e
-    joined [] qs last n known h = h
-    joined (p ∷ ps) qs last n known h = elim h [
-      | inl w ↦ inl w
-      | inr r ↦ inr (record {
-        bytes = r.bytes;
-        rest = r.rest;
-        tree = r.tree;
-        still = r.still;
-        takes = r.takes;
-        spelled = r.spelled;
-        many = r.many;
-        fits = r.fits;
-        holds = r.holds;
-        refused = joined ps qs last r.still r.rest r.refused;
-      })
-    ]
 
     -- one of them is refused, whatever stands behind them
     pub whatever : (ps : List Part) (last : ℕ → Option (List ℕ) → Error → Type 0) (n : ℕ) (known : Option (List ℕ))
@@ -174,31 +131,6 @@ module _ (s : Setting) where
         refused = whatever ps last r.still r.rest r.refused;
       })
     ]
-
-module _ {R C : Type 0} (g : Ghosts R) (human : C → Bool) (lends : Bool) (start mid : SeqAccess R C) (ms : Msgs) (r : Run g start mid ms) where
-  -- behind those that were read the next one is wanted, and isn't there or is refused
-  pub next_refused : (p : Part) (ps : List Part) (q : Part) (now : SeqAccess R C) (e : Error)
-      → Held (element_setting (human start.de.now.config) lends start) (p ∷ ps) ms
-      → Wanted (ElementRefused g (human mid.de.now.config) lends q.refuses mid now) mid.left (left g mid.de.now) e
-      → PartsRefused g (human start.de.now.config) lends ((p ∷ ps) ++ (q ∷ [])) start now e
-  next_refused p ps q now e h w =
-      let s = element_setting (human start.de.now.config) lends start in
-      let a = faults_of g start.de.now in
-      let z = faults_of g now.de.now in
-      joined s start.bytes a z e (p ∷ ps) (q ∷ []) no_refusal start.left (left g start.de.now)
-      (all_read s start.bytes a z e p ps (RefusesParts start.bytes s a z (q ∷ []) no_refusal) (left g start.de.now) start.left ms (left g mid.de.now)
-      mid.left h (run_ahead g start mid ms s refl refl r)
-      (inl (element_behind g human lends start mid ms r (λ K. Wanted K mid.left (left g mid.de.now) e) q.refuses now w)))
-
--- one of them was refused, whatever is wanted behind them
-pub more_wanted : {R C : Type 0} (g : Ghosts R) (human lends : Bool) (ps qs : List Part) (old new : SeqAccess R C) (e : Error)
-    → PartsRefused g human lends ps old new e → PartsRefused g human lends (ps ++ qs) old new e
-more_wanted g human lends ps qs old new e h =
-    let s = element_setting human lends old in
-    let a = faults_of g old.de.now in
-    let z = faults_of g new.de.now in
-    joined s old.bytes a z e ps qs no_refusal old.left (left g old.de.now)
-    (whatever s old.bytes a z e ps (RefusesParts old.bytes s a z qs no_refusal) old.left (left g old.de.now) h)
 
 module _ {R C : Type 0} (g : Ghosts R) (human : C → Bool) (lends : Bool) (old : Deserializer R C) (start : SeqAccess R C) (o : Opens g old start)
     (after : ℕ) (e : Error) where

@@ -5,11 +5,11 @@ use Rattle.rmp_wire.specs.Msg.{Msg, nil, truth, whole, float32, float64, text, b
 use Rattle.rmp_decode.specs.Fields.{Field, NoField, given_all}
 use Rattle.rmp_decode.specs.Rows.{AndThen, NoMore}
 use Rattle.rmp_decode.specs.Law.{Readable}
-use Rattle.rmp_decode.specs.Seq.{OfRow, numbers, RefusesRow, IsOpen, TakesElement, FailsElement, Run, TakesParts, FailsParts}
+use Rattle.rmp_decode.specs.Seq.{OfRow, numbers, RefusesRow, IsOpen, FailsElement, Run, FailsParts}
 use Rattle.rmp_decode.specs.declared.access.seq.SeqAccess.{SeqAccess}
 use Rattle.rmp_decode.specs.declared.error.Error.{Error}
-use Rattle.rmp_decode.proofs.Rows.{push, append}
-use Rattle.rmp_decode.proofs.Seqs.{run_step, parts_element}
+use Rattle.rmp_decode.proofs.Rows.{append}
+use Rattle.rmp_decode.proofs.Seqs.{parts_element}
 
 -- what is a row of such elements is one of others
 pub row_as : (P Q : Msgs → Type 0) → ((ms : Msgs) → P ms → Q ms) → (m : Msg) → OfRow P m → OfRow Q m
@@ -69,16 +69,9 @@ row_narrower spells P Q room n (Some xs) f r = λ a. r
       holds = f a.trees a.holds;
     })
 
--- one element more, behind the parts that were read
+-- behind the parts that were read there was no element more, or it was refused
 module _ {R C V W : Type 0} (g : Ghosts R) (reads : C → Msg → V → Type 0) (Q : W → Msgs
     → Type 0) (start mid now : SeqAccess R C) (ms : Msgs) (r : Run g start mid ms) where
-  pub part_read : (v : V) (w : W) → (IsOpen mid → TakesElement g (reads mid.de.now.config) mid now v) → now.de.ghost_name ≡ mid.de.ghost_name
-      → ((m : Msg) → reads start.de.now.config m v → Q w (push ms m)) → TakesParts g Q start now w
-  part_read v w took n holds =
-      let x = subst (λ z. TakesElement g (reads z) mid now v) r.stays.config (took r.still) in
-      record { trees = push ms x.tree; run = run_step g (reads start.de.now.config) start mid now ms v r x n; value = holds x.tree x.value }
-
-  -- there was none, or it was refused
   pub part_refused : (e : Error) → (IsOpen mid → FailsElement g (reads mid.de.now.config) mid now e) → (mid.de.now.failed ≡ true → now.de.now.failed ≡ true)
       → ((m : Msg) (ks : Msgs) (w : W) → Q w (append ms (item m ks)) → Readable (reads start.de.now.config) m) → ((w : W) → Q w (append ms no_items) → ⊥)
       → FailsParts g Q start now e

@@ -1,5 +1,4 @@
 use Rattle.std.proofs.Common.{◌≡◌, ◌-◌, subst, refl, arith, false}
-use Rattle.rmp_wire.specs.Msg.{Msgs}
 use Rattle.rmp_decode.specs.FieldRows.{TakesRow, FailsRow}
 use Rattle.rmp_decode.specs.Fields.{given_all}
 use Rattle.rmp_decode.proofs.FieldRows.{takes_as}

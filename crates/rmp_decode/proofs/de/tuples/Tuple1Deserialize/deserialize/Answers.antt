@@ -1,5 +1,5 @@
 use Rattle.rmp_decode.proofs.Laws.{lawful_ok, lawful_err}
-use Rattle.rmp_decode.proofs.Tuples.{row_as, each_field, no_field, field_each, field_none, or_each, or_none}
+use Rattle.rmp_decode.proofs.Tuples.{row_as, each_field, no_field, field_each, field_none, or_none}
 use Rattle.rmp_decode.proofs.de.tuples.Tuple1Deserialize.deserialize.Goals as goal
 
 pub returns-in-Ok-clause-law : goal.returns-in-Ok-clause-law
