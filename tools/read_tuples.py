@@ -100,8 +100,9 @@ def no_memory(kinds):
 def answers(n):
     path = f"Rattle.rmp_decode.proofs.de.tuples.Tuple{n}Deserialize.deserialize"
     fields = fields_of([f"r.0.{i}" for i in range(n)]).replace("()", "tt")
+    memory_lemmas = "or_each, or_none" if n > 1 else "or_none"
     return f"""use Rattle.rmp_decode.proofs.Laws.{{lawful_ok, lawful_err}}
-use Rattle.rmp_decode.proofs.Tuples.{{row_as, each_field, no_field, field_each, field_none, or_each, or_none}}
+use Rattle.rmp_decode.proofs.Tuples.{{row_as, each_field, no_field, field_each, field_none, {memory_lemmas}}}
 use {path}.Goals as goal
 
 pub returns-in-Ok-clause-law : goal.returns-in-Ok-clause-law

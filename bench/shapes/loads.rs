@@ -466,6 +466,19 @@ fn parts(made: &mut Made, random: &mut Random) {
         "named_map",
         &many(200, random, named),
     );
+    made.reads("nil", "nil", &vec![Part::Nil; COUNT]);
+    let pairs = many(COUNT, random, |r| Part::List(two(r)));
+    made.reads("pairs of a number and a truth", "pair", &pairs);
+    for (name, call) in [("triples of numbers", "triple"), ("lists of three numbers", "nested")] {
+        let items = many(COUNT, random, |r| Part::List(numbers(r, 3)));
+        made.reads(name, call, &items);
+    }
+    let sets = many(COUNT, random, |r| {
+        Part::List((0..10).map(|n| Part::Number(100 * n + r.below(100))).collect())
+    });
+    made.reads("sets of ten numbers", "set", &sets);
+    let bytes = many(COUNT, random, |_| Part::Bytes(vec![7; 32]));
+    made.reads("bytes of 32 as arrays", "array", &bytes);
     let trees = many(200, random, tree);
     made.skips("skip, trees", &trees);
     let signed = many(COUNT, random, |r| {

@@ -21,6 +21,7 @@ exports! {
     bench_buffered_texts
     bench_cursor_numbers
     bench_cursor_texts
+    bench_read_array
     bench_read_bool
     bench_read_buffer
     bench_read_bytes
@@ -31,11 +32,16 @@ exports! {
     bench_read_i64
     bench_read_map
     bench_read_named_map
+    bench_read_nested
+    bench_read_nil
     bench_read_option
+    bench_read_pair
     bench_read_queue
+    bench_read_set
     bench_read_shape
     bench_read_str
     bench_read_text
+    bench_read_triple
     bench_read_twelve
     bench_read_two
     bench_read_u128

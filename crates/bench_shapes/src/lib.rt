@@ -12,7 +12,7 @@ use rmp_decode::{Deserialize, Deserializer, Error, from_slice};
 use rmp_wire::{BufSource, ByteBuf, F64Bits, IoSource, ReadReader, ReadRefReader};
 use shapes::{EightFields, Five, Shape, Two};
 use std::alloc::Global;
-use std::collections::{BTreeMap, VecDeque};
+use std::collections::{BTreeMap, BTreeSet, VecDeque};
 use std::io::{BufReader, Cursor};
 use twelve::Twelve;
 
@@ -139,6 +139,42 @@ pub extern "C" fn bench_read_named_map(alloc: Global, data: &[u8], reps: u32) ->
 #[unsafe(no_mangle)]
 pub extern "C" fn bench_read_u128(alloc: Global, data: &[u8], reps: u32) -> usize {
     reads::<u128>(alloc, data, reps)
+}
+
+/// Reads a list of nil.
+#[unsafe(no_mangle)]
+pub extern "C" fn bench_read_nil(alloc: Global, data: &[u8], reps: u32) -> usize {
+    reads::<()>(alloc, data, reps)
+}
+
+/// Reads a list of pairs of a number and a truth.
+#[unsafe(no_mangle)]
+pub extern "C" fn bench_read_pair(alloc: Global, data: &[u8], reps: u32) -> usize {
+    reads::<(u32, bool)>(alloc, data, reps)
+}
+
+/// Reads a list of triples of numbers.
+#[unsafe(no_mangle)]
+pub extern "C" fn bench_read_triple(alloc: Global, data: &[u8], reps: u32) -> usize {
+    reads::<(u32, u32, u32)>(alloc, data, reps)
+}
+
+/// Reads a list of lists of numbers.
+#[unsafe(no_mangle)]
+pub extern "C" fn bench_read_nested(alloc: Global, data: &[u8], reps: u32) -> usize {
+    reads::<Vec<u32>>(alloc, data, reps)
+}
+
+/// Reads a list of sets of numbers.
+#[unsafe(no_mangle)]
+pub extern "C" fn bench_read_set(alloc: Global, data: &[u8], reps: u32) -> usize {
+    reads::<BTreeSet<u32>>(alloc, data, reps)
+}
+
+/// Reads a list of arrays of 32 bytes.
+#[unsafe(no_mangle)]
+pub extern "C" fn bench_read_array(alloc: Global, data: &[u8], reps: u32) -> usize {
+    reads::<[u8; 32]>(alloc, data, reps)
 }
 
 /// Passes over a message, and answers how many were passed over.

@@ -5,7 +5,7 @@ use rmp_serde::{Serializer, from_slice};
 use serde::de::IgnoredAny;
 use serde::{Deserialize, Serialize};
 use serde_bytes::ByteBuf;
-use std::collections::{BTreeMap, VecDeque};
+use std::collections::{BTreeMap, BTreeSet, VecDeque};
 use std::io::{BufReader, Cursor};
 
 #[path = "../../loads.rs"]
@@ -98,6 +98,12 @@ fn main() {
         "map" BTreeMap<u32, u32>,
         "named_map" BTreeMap<String, u32>,
         "u128" u128,
+        "nil" (),
+        "pair" (u32, bool),
+        "triple" (u32, u32, u32),
+        "nested" Vec<u32>,
+        "set" BTreeSet<u32>,
+        "array" [u8; 32],
     ];
     calls.extend(written_types![
         "nil" (),
