@@ -9,7 +9,7 @@ ghost use Rattle.rmp_decode.specs.State.{config_of, kept_of};
 ghost use Rattle.rmp_decode.specs.declared.deserializer.Deserializer.{Deserializer};
 ghost use Rattle.rmp_decode.specs.declared.deserializer.Kept.TheVariants.{Nothing};
 
-use crate::access::seq::inner_room;
+use crate::access::seq::{data_fault, inner_room};
 use crate::de::Deserialize;
 use crate::deserializer::{Deserializer, Kept};
 use crate::error::Error;
@@ -95,10 +95,10 @@ fn read_row<'de, R: ReadSlice<'de>, C: SerializerConfig, T: Deserialize<'de, R>>
     while left > 0 {
         match de.offer_part(bytes) {
             Ok(()) => {}
-            Err(e) => {
+            Err(fault) => {
                 de.room = outer;
                 de.failed = true;
-                return Err(e);
+                return Err(data_fault(fault));
             }
         }
         match T::deserialize(de) {
