@@ -111,6 +111,27 @@ impl<R: Source, C: SerializerConfig> Deserializer<R, C> {
         }
     }
 
+    // The same, of bytes too: both heads are read where they lie.
+    #[inline(always)]
+    pub(crate) fn open_row(&mut self) -> Result<(bool, u32), Error>
+        ensures ok { IfOk result (λ p. TakesHead R.Source (seq_head p.0 p.1) self.old self.new) }
+        ensures deep { IfOk result (λ p. p.0 ≡ false → 1 < self.old.room) }
+        ensures stays { Stays R.Source self.old self.new }
+        ensures sound { OnOk result (faults_of R.Source self.new ≡ faults_of R.Source self.old) }
+        ensures fresh { OnOk result (is_failed self.old ≡ false) }
+        ensures clean { OnOk result (kept_of self.new ≡ Nothing) }
+        ensures failed { is_failed self.new ≡ true }
+        ensures err { IfErr result (FailsToOpen R.Source self.old self.new) }
+    {
+        match self.list_front() {
+            Some(len) => Ok((false, len)),
+            None => match self.bin_front() {
+                Some(len) => Ok((true, len)),
+                None => self.apart_seq(),
+            },
+        }
+    }
+
     // The same of a copy of the reader.
     #[inline(always)]
     fn apart_seq(&mut self) -> Result<(bool, u32), Error>

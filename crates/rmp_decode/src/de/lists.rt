@@ -136,7 +136,7 @@ fn read_vec<'de, R: ReadSlice<'de>, C: SerializerConfig, T: Deserialize<'de, R>>
         de.old de.new (Err e)) }
     ensures refused { RefusesAs R.Source (C.human (config_of de.old)) R.lends (RefusesEach T.reads T.refuses) de.old de.new result }
 {
-    match de.open_tuple() {
+    match de.open_row() {
         Ok((true, count)) => read_row(de, true, count),
         Ok((false, count)) => read_row(de, false, count),
         Err(e) => Err(e),

@@ -79,32 +79,58 @@ fn front_16<S: Source>(source: &mut S) -> Option<[u8; 16]>
     }
 }
 
-// The next 16 bytes.
+// The same, as a number without a sign: so the bytes go into it before the ways meet.
 #[inline(always)]
-fn take_16<S: Source>(source: &mut S) -> Result<[u8; 16], IoFault>
-    ensures bytes { Takes 16 (S.ahead source.old) (S.ahead source.new) (S.faults source.old) (S.faults source.new) result }
-    ensures place { S.place source.new ≡ S.place source.old }
+fn front_sixteen<S: Source>(source: &mut S) -> Option<u128>
+    ensures ok { IfSome result (TakesSixteen (S.ahead source.old) (S.ahead source.new)) }
+    ensures sound { IfSome result (λ _. S.faults source.new ≡ S.faults source.old) }
+    ensures place { IfSome result (λ _. S.place source.new ≡ S.place source.old) }
+    ensures kept { IfNone result (source.new ≡ source.old) }
 {
     match front_16(source) {
-        Some(bytes) => Ok(bytes),
-        None => apart_16(source),
+        Some(bytes) => Some(u128::from_be_bytes(bytes)),
+        None => None,
+    }
+}
+
+// The next 16 bytes as a number without a sign.
+#[inline(always)]
+fn next_sixteen<S: Source>(source: &mut S) -> Result<u128, Error>
+    ensures ok { IfOk result (TakesSixteen (S.ahead source.old) (S.ahead source.new)) }
+    ensures sound { OnOk result (S.faults source.new ≡ S.faults source.old) }
+    ensures err { IfErr result (λ e. Explains e (S.faults source.old) (S.faults source.new) (IsShort 16 (S.ahead source.old))) }
+    ensures end { IfErr result (λ e. Explains e (S.faults source.old) (S.faults source.new) (IsDataEnd e)) }
+    ensures memory { IfErr result (λ e. e ≢ Error.OutOfMemory) }
+    ensures place { S.place source.new ≡ S.place source.old }
+{
+    match front_sixteen(source) {
+        Some(n) => Ok(n),
+        None => apart_sixteen(source),
     }
 }
 
 // The same of a copy of the source.
 #[inline(always)]
-fn apart_16<S: Source>(source: &mut S) -> Result<[u8; 16], IoFault>
-    ensures bytes { Takes 16 (S.ahead source.old) (S.ahead source.new) (S.faults source.old) (S.faults source.new) result }
+fn apart_sixteen<S: Source>(source: &mut S) -> Result<u128, Error>
+    ensures ok { IfOk result (TakesSixteen (S.ahead source.old) (S.ahead source.new)) }
+    ensures sound { OnOk result (S.faults source.new ≡ S.faults source.old) }
+    ensures err { IfErr result (λ e. Explains e (S.faults source.old) (S.faults source.new) (IsShort 16 (S.ahead source.old))) }
+    ensures end { IfErr result (λ e. Explains e (S.faults source.old) (S.faults source.new) (IsDataEnd e)) }
+    ensures memory { IfErr result (λ e. e ≢ Error.OutOfMemory) }
     ensures place { S.place source.new ≡ S.place source.old }
 {
     replace_with(
         source,
         (),
         |mut source: S, _none: ()|
-            ensures bytes { Takes 16 (S.ahead source) (S.ahead result.0) (S.faults source) (S.faults result.0) result.1 }
+            ensures ok { IfOk result.1 (TakesSixteen (S.ahead source) (S.ahead result.0)) }
+            ensures sound { OnOk result.1 (S.faults result.0 ≡ S.faults source) }
+            ensures err { IfErr result.1 (λ e. Explains e (S.faults source) (S.faults result.0) (IsShort 16 (S.ahead source))) }
+            ensures end { IfErr result.1 (λ e. Explains e (S.faults source) (S.faults result.0) (IsDataEnd e)) }
+            ensures memory { IfErr result.1 (λ e. e ≢ Error.OutOfMemory) }
             ensures place { S.place result.0 ≡ S.place source }
         {
-            let pulled = pulled_16(&mut source);
+            let pulled = pulled_sixteen(&mut source);
             (source, pulled)
         },
     )
@@ -112,18 +138,7 @@ fn apart_16<S: Source>(source: &mut S) -> Result<[u8; 16], IoFault>
 
 // The same by `pull_exact`, by a call.
 #[inline(never)]
-fn pulled_16<S: Source>(source: &mut S) -> Result<[u8; 16], IoFault>
-    ensures bytes { Takes 16 (S.ahead source.old) (S.ahead source.new) (S.faults source.old) (S.faults source.new) result }
-    ensures place { S.place source.new ≡ S.place source.old }
-{
-    let mut bytes = [0; 16];
-    source.pull_exact(&mut bytes)?;
-    Ok(bytes)
-}
-
-// The same, as a number without a sign.
-#[inline(always)]
-fn next_sixteen<S: Source>(source: &mut S) -> Result<u128, Error>
+fn pulled_sixteen<S: Source>(source: &mut S) -> Result<u128, Error>
     ensures ok { IfOk result (TakesSixteen (S.ahead source.old) (S.ahead source.new)) }
     ensures sound { OnOk result (S.faults source.new ≡ S.faults source.old) }
     ensures err { IfErr result (λ e. Explains e (S.faults source.old) (S.faults source.new) (IsShort 16 (S.ahead source.old))) }
@@ -135,6 +150,17 @@ fn next_sixteen<S: Source>(source: &mut S) -> Result<u128, Error>
         Ok(bytes) => Ok(u128::from_be_bytes(bytes)),
         Err(fault) => Err(Error::InvalidDataRead(fault)),
     }
+}
+
+// The next 16 bytes.
+#[inline(always)]
+fn take_16<S: Source>(source: &mut S) -> Result<[u8; 16], IoFault>
+    ensures bytes { Takes 16 (S.ahead source.old) (S.ahead source.new) (S.faults source.old) (S.faults source.new) result }
+    ensures place { S.place source.new ≡ S.place source.old }
+{
+    let mut bytes = [0; 16];
+    source.pull_exact(&mut bytes)?;
+    Ok(bytes)
 }
 
 impl<R: Source, C: SerializerConfig> Deserializer<R, C> {
