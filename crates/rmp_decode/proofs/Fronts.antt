@@ -28,6 +28,7 @@ use Rattle.std.proofs.Common.{
   take,
   drop,
   get_or,
+  slice_index_or,
   append_assoc,
   Option,
   None,
@@ -58,16 +59,26 @@ use Rattle.rmp_decode.proofs.Contents.{bare}
 use Rattle.rmp_decode.proofs.Exactness.{stands_known}
 use Rattle.rmp_decode.proofs.ContentErrors.{same_front}
 
+-- bytes that lie in memory are those that were taken
+pub bytes_consumed : (n : ℕ) (bytes front : List ℕ) (known k : Option (List ℕ)) → IsFront front known → (rest : List ℕ) × (front ≡ bytes ++ rest)
+    → length bytes ≡ n → Skips n known k → Consumes known k bytes
+bytes_consumed n bytes front None k f s l c = tt
+bytes_consumed n bytes front (Some xs) None f s l c = absurd c.taken
+bytes_consumed n bytes front (Some xs) (Some ys) f s l c =
+    let split : xs ≡ bytes ++ (s.0 ++ f.0) = f.1 ∙ ap (λ t. t ++ f.0) s.1 ∙ append_assoc bytes s.0 f.0 in
+    let same : c.bytes ≡ bytes = same_front c.bytes bytes ys (s.0 ++ f.0) (c.long ∙ sym l) (sym c.taken ∙ split) in
+    subst (λ b. xs ≡ b ++ ys) same c.taken
+
+-- a first byte stands in front of the others
+pub first_byte : (xs : List ℕ) → 1 ≤ length xs → (rest : List ℕ) × (xs ≡ slice_index_or xs 0 0 ∷ rest)
+first_byte [] l = absurd (omega arith)
+first_byte (a ∷ xs) l = (xs, refl)
+
 -- the bytes that were taken are the head's
 front_consumed : (w : Bool) (n : ℕ) (h : Head) (front : List ℕ) (known k : Option (List ℕ)) → IsFront front known → (s : StandsIn w n h front)
     → Skips n known k → Consumes known k (s.stands.byte ∷ s.stands.behind)
-front_consumed w n h front None k f s c = tt
-front_consumed w n h front (Some xs) None f s c = absurd c.taken
-front_consumed w n h front (Some xs) (Some ys) f s c =
-    let head : List ℕ = s.stands.byte ∷ s.stands.behind in
-    let split : xs ≡ head ++ (s.stands.rest ++ f.0) = f.1 ∙ ap (λ t. t ++ f.0) s.stands.front ∙ append_assoc head s.stands.rest f.0 in
-    let same : c.bytes ≡ head = same_front c.bytes head ys (s.stands.rest ++ f.0) (c.long ∙ sym s.long) (sym c.taken ∙ split) in
-    subst (λ b. xs ≡ b ++ ys) same c.taken
+front_consumed w n h front known k f s c =
+    bytes_consumed n (s.stands.byte ∷ s.stands.behind) front known k f (s.stands.rest, s.stands.front) s.long c
 
 module _ {R C : Type 0} (g : Ghosts R) (old new : Deserializer R C) where
   pub front_taken : (n : ℕ) (h : Head) (front : List ℕ) → old.failed ≡ false → old.kept ≡ Nothing → new.failed ≡ true → new.kept ≡ Nothing

@@ -1,5 +1,5 @@
 -- Numbers of 128 bits.
-use Rattle.std.proofs.Common.{◌≡◌, ◌∙◌, sym, ap, subst, refl, ℕ, ℤ, pos, negsuc, ◌≤ℤ◌, List, inl, inr, arith, Option}
+use Rattle.std.proofs.Common.{◌≡◌, ◌∙◌, sym, ap, subst, refl, ℕ, ℤ, pos, negsuc, ◌≤ℤ◌, ◌≤◌, List, [], ◌∷◌, length, slice_index_or, inl, inr, arith, Option}
 use Rattle.std.proofs.lemmas.Int.{ints}
 use Rattle.rmp_wire.specs.declared.head.Head.{Head}
 use Rattle.rmp_wire.specs.declared.head.Head.TheVariants as head
@@ -71,3 +71,26 @@ not_negative_head h (negsuc n) i f w = subst IsUnsigned128Head i w
 -- 16 bytes that were taken are the number
 pub taken_sixteen : {old new : Option (List ℕ)} {n : ℕ} (t : TakesSixteen old new n) → IsSixteen (bin t.bytes) n
 taken_sixteen t = record { bytes = t.bytes; is = refl; long = t.long; number = t.number }
+
+-- the first 16 bytes of some stand in front of the others
+pub sixteen_first : (xs : List ℕ) → 16 ≤ length xs
+    → (rest : List ℕ) × (xs ≡ slice_index_or xs 0 0 ∷ slice_index_or xs 1 0 ∷ slice_index_or xs 2 0 ∷ slice_index_or xs 3 0 ∷ slice_index_or xs 4 0
+    ∷ slice_index_or xs 5 0 ∷ slice_index_or xs 6 0 ∷ slice_index_or xs 7 0 ∷ slice_index_or xs 8 0 ∷ slice_index_or xs 9 0 ∷ slice_index_or xs 10 0
+    ∷ slice_index_or xs 11 0 ∷ slice_index_or xs 12 0 ∷ slice_index_or xs 13 0 ∷ slice_index_or xs 14 0 ∷ slice_index_or xs 15 0 ∷ rest)
+sixteen_first [] long = absurd (omega arith)
+sixteen_first (a ∷ []) long = absurd (omega arith)
+sixteen_first (a ∷ b ∷ []) long = absurd (omega arith)
+sixteen_first (a ∷ b ∷ c ∷ []) long = absurd (omega arith)
+sixteen_first (a ∷ b ∷ c ∷ d ∷ []) long = absurd (omega arith)
+sixteen_first (a ∷ b ∷ c ∷ d ∷ e ∷ []) long = absurd (omega arith)
+sixteen_first (a ∷ b ∷ c ∷ d ∷ e ∷ f ∷ []) long = absurd (omega arith)
+sixteen_first (a ∷ b ∷ c ∷ d ∷ e ∷ f ∷ g ∷ []) long = absurd (omega arith)
+sixteen_first (a ∷ b ∷ c ∷ d ∷ e ∷ f ∷ g ∷ h ∷ []) long = absurd (omega arith)
+sixteen_first (a ∷ b ∷ c ∷ d ∷ e ∷ f ∷ g ∷ h ∷ i ∷ []) long = absurd (omega arith)
+sixteen_first (a ∷ b ∷ c ∷ d ∷ e ∷ f ∷ g ∷ h ∷ i ∷ j ∷ []) long = absurd (omega arith)
+sixteen_first (a ∷ b ∷ c ∷ d ∷ e ∷ f ∷ g ∷ h ∷ i ∷ j ∷ k ∷ []) long = absurd (omega arith)
+sixteen_first (a ∷ b ∷ c ∷ d ∷ e ∷ f ∷ g ∷ h ∷ i ∷ j ∷ k ∷ l ∷ []) long = absurd (omega arith)
+sixteen_first (a ∷ b ∷ c ∷ d ∷ e ∷ f ∷ g ∷ h ∷ i ∷ j ∷ k ∷ l ∷ m ∷ []) long = absurd (omega arith)
+sixteen_first (a ∷ b ∷ c ∷ d ∷ e ∷ f ∷ g ∷ h ∷ i ∷ j ∷ k ∷ l ∷ m ∷ n ∷ []) long = absurd (omega arith)
+sixteen_first (a ∷ b ∷ c ∷ d ∷ e ∷ f ∷ g ∷ h ∷ i ∷ j ∷ k ∷ l ∷ m ∷ n ∷ o ∷ []) long = absurd (omega arith)
+sixteen_first (a ∷ b ∷ c ∷ d ∷ e ∷ f ∷ g ∷ h ∷ i ∷ j ∷ k ∷ l ∷ m ∷ n ∷ o ∷ p ∷ rest) long = (rest, refl)

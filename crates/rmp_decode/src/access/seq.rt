@@ -1,5 +1,5 @@
 //! Lists, and bytes as the lists of their numbers, element by element.
-ghost use Rattle.std.specs.Prelude.{◌≡◌, ◌≢◌, ◌-◌, ◌<◌, true, false, IfSome, IfNone, IfOk, IfErr, OnOk, OnErr, MatchResult};
+ghost use Rattle.std.specs.Prelude.{◌≡◌, ◌≢◌, ◌-◌, ◌<◌, ◌∷◌, ℕ, List, true, false, IfSome, IfNone, IfOk, IfErr, OnOk, OnErr, MatchResult};
 ghost use Rattle.std.specs.Borrow.{sem, RestsIfErr};
 ghost use Rattle.std.specs.Io.KnownBytes.{IsAtEnd};
 ghost use Rattle.rmp_decode.specs.contracts.deserializer.Deserializer.{the_row};
@@ -87,7 +87,10 @@ impl<R: Source, C: SerializerConfig> Deserializer<R, C> {
         ensures failed { is_failed self.new ≡ true }
         ensures err { IfErr result (FailsToOpen R.Source self.old self.new) }
     {
-        self.open_seq()
+        match self.bin_front() {
+            Some(len) => Ok((true, len)),
+            None => self.open_seq(),
+        }
     }
 
     // The same, of a list that is likely to be short: its head is read where it lies.
@@ -105,6 +108,27 @@ impl<R: Source, C: SerializerConfig> Deserializer<R, C> {
         match self.list_front() {
             Some(len) => Ok((false, len)),
             None => self.apart_seq(),
+        }
+    }
+
+    // The same, of bytes too: both heads are read where they lie.
+    #[inline(always)]
+    pub(crate) fn open_row(&mut self) -> Result<(bool, u32), Error>
+        ensures ok { IfOk result (λ p. TakesHead R.Source (seq_head p.0 p.1) self.old self.new) }
+        ensures deep { IfOk result (λ p. p.0 ≡ false → 1 < self.old.room) }
+        ensures stays { Stays R.Source self.old self.new }
+        ensures sound { OnOk result (faults_of R.Source self.new ≡ faults_of R.Source self.old) }
+        ensures fresh { OnOk result (is_failed self.old ≡ false) }
+        ensures clean { OnOk result (kept_of self.new ≡ Nothing) }
+        ensures failed { is_failed self.new ≡ true }
+        ensures err { IfErr result (FailsToOpen R.Source self.old self.new) }
+    {
+        match self.list_front() {
+            Some(len) => Ok((false, len)),
+            None => match self.bin_front() {
+                Some(len) => Ok((true, len)),
+                None => self.apart_seq(),
+            },
         }
     }
 
@@ -208,7 +232,29 @@ impl<R: Source, C: SerializerConfig> Deserializer<R, C> {
         self.deserialize_tuple(len)
     }
 
-    // Takes a byte, and keeps it back as a number.
+    // Takes a byte where it lies in memory, and keeps it back as a number. Else nothing is taken.
+    #[inline(always)]
+    fn keep_front(&mut self) -> bool
+        ensures ok { result ≡ true → KeepsByte R.Source self.old self.new }
+        ensures sound { result ≡ true → faults_of R.Source self.new ≡ faults_of R.Source self.old }
+        ensures stays { result ≡ true → Stays R.Source self.old self.new }
+        ensures failed { result ≡ true → is_failed self.new ≡ is_failed self.old }
+        ensures kept { result ≡ false → self.new ≡ self.old }
+    {
+        match first_of(self.reader.front()) {
+            Some(byte) => {
+                if self.reader.skip(1) {
+                    self.kept = Kept::Number(byte);
+                    true
+                } else {
+                    false
+                }
+            }
+            None => false,
+        }
+    }
+
+    // Takes a byte, and keeps it back as a number. One that lies in memory is taken there, so that no fault is made ready for it.
     #[inline(always)]
     pub(crate) fn keep_byte(&mut self) -> Result<(), Error>
         ensures ok { OnOk result (KeepsByte R.Source self.old self.new) }
@@ -219,20 +265,16 @@ impl<R: Source, C: SerializerConfig> Deserializer<R, C> {
         ensures end { IfErr result (λ e. faults_of R.Source self.new ≡ faults_of R.Source self.old → IsDataEnd e) }
         ensures memory { IfErr result (λ e. e ≢ Error.OutOfMemory) }
     {
-        match self.reader.take_1() {
-            Ok(bytes) => {
-                self.kept = Kept::Number(bytes[0]);
-                Ok(())
-            }
-            Err(fault) => Err(data_fault(fault)),
+        if self.keep_front() {
+            return Ok(());
         }
+        self.keep_pulled()
     }
 
-    // Makes the next element ready to be read: of bytes a byte is kept back as a number, and of a list it stands ready.
+    // The same by way of `take_1`.
     #[inline(always)]
-    pub(crate) fn offer_part(&mut self, bytes: bool) -> Result<(), Error>
-        ensures ok { OnOk result (OffersPart R.Source bytes self.old self.new) }
-        ensures bytes { OnErr result (bytes ≡ true) }
+    fn keep_pulled(&mut self) -> Result<(), Error>
+        ensures ok { OnOk result (KeepsByte R.Source self.old self.new) }
         ensures sound { OnOk result (faults_of R.Source self.new ≡ faults_of R.Source self.old) }
         ensures stays { Stays R.Source self.old self.new }
         ensures failed { is_failed self.new ≡ is_failed self.old }
@@ -240,20 +282,68 @@ impl<R: Source, C: SerializerConfig> Deserializer<R, C> {
         ensures end { IfErr result (λ e. faults_of R.Source self.new ≡ faults_of R.Source self.old → IsDataEnd e) }
         ensures memory { IfErr result (λ e. e ≢ Error.OutOfMemory) }
     {
+        match self.pull_byte() {
+            Ok(()) => Ok(()),
+            Err(fault) => Err(data_fault(fault)),
+        }
+    }
+
+    // The same, which answers the fault.
+    #[inline(always)]
+    fn pull_byte(&mut self) -> Result<(), IoFault>
+        ensures ok { OnOk result (KeepsByte R.Source self.old self.new) }
+        ensures sound { OnOk result (faults_of R.Source self.new ≡ faults_of R.Source self.old) }
+        ensures stays { Stays R.Source self.old self.new }
+        ensures failed { is_failed self.new ≡ is_failed self.old }
+        ensures err { IfErr result (λ f. Explains (Error.InvalidDataRead f) (faults_of R.Source self.old) (faults_of R.Source self.new) (IsAtEnd (R.ahead self.old.reader))) }
+        ensures end { IfErr result (λ f. faults_of R.Source self.new ≡ faults_of R.Source self.old → IsDataEnd (Error.InvalidDataRead f)) }
+    {
+        match self.reader.take_1() {
+            Ok(bytes) => {
+                self.kept = Kept::Number(bytes[0]);
+                Ok(())
+            }
+            Err(fault) => Err(fault),
+        }
+    }
+
+    // Makes the next element ready to be read: of bytes a byte is kept back as a number, and of a list it stands ready. It answers the
+    // fault where there is one, since a larger error would be made ready for each element.
+    #[inline(always)]
+    pub(crate) fn offer_part(&mut self, bytes: bool) -> Result<(), IoFault>
+        ensures ok { OnOk result (OffersPart R.Source bytes self.old self.new) }
+        ensures bytes { OnErr result (bytes ≡ true) }
+        ensures sound { OnOk result (faults_of R.Source self.new ≡ faults_of R.Source self.old) }
+        ensures stays { Stays R.Source self.old self.new }
+        ensures failed { is_failed self.new ≡ is_failed self.old }
+        ensures err { IfErr result (λ f. Explains (Error.InvalidDataRead f) (faults_of R.Source self.old) (faults_of R.Source self.new) (IsAtEnd (R.ahead self.old.reader))) }
+        ensures end { IfErr result (λ f. faults_of R.Source self.new ≡ faults_of R.Source self.old → IsDataEnd (Error.InvalidDataRead f)) }
+    {
         if !bytes {
             return Ok(());
         }
-        match self.keep_byte() {
-            Ok(()) => Ok(()),
-            Err(e) => Err(e),
+        if self.keep_front() {
+            return Ok(());
         }
+        self.pull_byte()
+    }
+}
+
+// The first byte of some.
+#[inline(always)]
+fn first_of(front: &[u8]) -> Option<u8>
+    ensures { IfSome result (λ byte. (rest : List ℕ) × (front.now ≡ byte ∷ rest)) }
+{
+    match front {
+        [byte, ..] => Some(*byte),
+        _ => None,
     }
 }
 
 // The error of a fault behind a head. A call makes it, since the compiler would take a vector apart by the parts of an error that is
 // made where the vector could be answered.
 #[inline(never)]
-fn data_fault(fault: IoFault) -> Error
+pub(crate) fn data_fault(fault: IoFault) -> Error
     ensures { result ≡ Error.InvalidDataRead fault }
 {
     Error::InvalidDataRead(fault)

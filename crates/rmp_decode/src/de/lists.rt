@@ -9,7 +9,7 @@ ghost use Rattle.rmp_decode.specs.State.{config_of, kept_of};
 ghost use Rattle.rmp_decode.specs.declared.deserializer.Deserializer.{Deserializer};
 ghost use Rattle.rmp_decode.specs.declared.deserializer.Kept.TheVariants.{Nothing};
 
-use crate::access::seq::inner_room;
+use crate::access::seq::{data_fault, inner_room};
 use crate::de::Deserialize;
 use crate::deserializer::{Deserializer, Kept};
 use crate::error::Error;
@@ -95,10 +95,10 @@ fn read_row<'de, R: ReadSlice<'de>, C: SerializerConfig, T: Deserialize<'de, R>>
     while left > 0 {
         match de.offer_part(bytes) {
             Ok(()) => {}
-            Err(e) => {
+            Err(fault) => {
                 de.room = outer;
                 de.failed = true;
-                return Err(e);
+                return Err(data_fault(fault));
             }
         }
         match T::deserialize(de) {
@@ -136,7 +136,7 @@ fn read_vec<'de, R: ReadSlice<'de>, C: SerializerConfig, T: Deserialize<'de, R>>
         de.old de.new (Err e)) }
     ensures refused { RefusesAs R.Source (C.human (config_of de.old)) R.lends (RefusesEach T.reads T.refuses) de.old de.new result }
 {
-    match de.open_tuple() {
+    match de.open_row() {
         Ok((true, count)) => read_row(de, true, count),
         Ok((false, count)) => read_row(de, false, count),
         Err(e) => Err(e),

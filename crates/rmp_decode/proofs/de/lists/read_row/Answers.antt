@@ -1,6 +1,7 @@
 use Rattle.std.proofs.Common.{◌≡◌, ◌-◌, refl, rules, arith, true, false, Bool, ℕ, List, Vec, Global}
 use Rattle.rmp_decode.specs.Seq.{levels}
 use Rattle.rmp_decode.specs.declared.deserializer.Kept.TheVariants.{Nothing}
+use Rattle.rmp_decode.specs.declared.error.Error.TheVariants.{InvalidDataRead}
 use Rattle.rmp_decode.proofs.RowReads.{row_start, row_step, row_short, row_refused, row_wrong, row_ended, row_cut, row_whole, row_unkept}
 use Rattle.rmp_decode.proofs.de.lists.read_row.Goals as goal
 
@@ -14,21 +15,21 @@ loop-left-init g c = rw c.new-items.ensures.items (row_start g.R.Source _ c.args
 
 pub returns-in-Err-clause-law : goal.returns-in-Err-clause-law
 returns-in-Err-clause-law g c = λ d o.
-    row_ended g.R.Source g.C.SerializerConfig.human g.R.ReadSlice.lends g.T.Deserialize.reads c.args.de.now c.loop-left.de c.offer_part.new.self
+    rw c.data_fault.ensures (row_ended g.R.Source g.C.SerializerConfig.human g.R.ReadSlice.lends g.T.Deserialize.reads c.args.de.now c.loop-left.de c.offer_part.new.self
     c.offer_part.new.self c.args.bytes c.args.count c.loop-left.left c.loop-left.items.items c.loop-left.invariant c.loop-left-test.true
-    c.in-Err.ensures.stays d o c.in-Err.e c.in-Err.ensures.bytes refl c.in-Err.ensures.err (λ (v : Vec g.row.T.Denot Global). v.items)
+    c.in-Err.ensures.stays d o (InvalidDataRead c.in-Err.fault) c.in-Err.ensures.bytes refl c.in-Err.ensures.err (λ (v : Vec g.row.T.Denot Global). v.items))
 
 pub returns-in-Err-clause-unread : goal.returns-in-Err-clause-unread
 returns-in-Err-clause-unread g c = λ d o.
-    row_ended g.R.Source g.C.SerializerConfig.human g.R.ReadSlice.lends g.T.Deserialize.reads c.args.de.now c.loop-left.de c.offer_part.new.self
+    rw c.data_fault.ensures (row_ended g.R.Source g.C.SerializerConfig.human g.R.ReadSlice.lends g.T.Deserialize.reads c.args.de.now c.loop-left.de c.offer_part.new.self
     c.offer_part.new.self c.args.bytes c.args.count c.loop-left.left c.loop-left.items.items c.loop-left.invariant c.loop-left-test.true
-    c.in-Err.ensures.stays d o c.in-Err.e c.in-Err.ensures.bytes refl c.in-Err.ensures.err (λ (ns : List g.row.T.Denot). ns)
+    c.in-Err.ensures.stays d o (InvalidDataRead c.in-Err.fault) c.in-Err.ensures.bytes refl c.in-Err.ensures.err (λ (ns : List g.row.T.Denot). ns))
 
 pub returns-in-Err-clause-refused : goal.returns-in-Err-clause-refused
 returns-in-Err-clause-refused g c = λ d o _.
-    row_cut g.R.Source g.C.SerializerConfig.human g.R.ReadSlice.lends g.T.Deserialize.reads c.args.de.now c.loop-left.de c.offer_part.new.self
+    rw c.data_fault.ensures (row_cut g.R.Source g.C.SerializerConfig.human g.R.ReadSlice.lends g.T.Deserialize.reads c.args.de.now c.loop-left.de c.offer_part.new.self
     c.offer_part.new.self c.args.bytes c.args.count c.loop-left.left c.loop-left.items.items c.loop-left.invariant c.loop-left-test.true
-    c.in-Err.ensures.stays d o c.in-Err.e c.in-Err.ensures.bytes refl c.in-Err.ensures.err g.T.Deserialize.refuses c.in-Err.ensures.end
+    c.in-Err.ensures.stays d o (InvalidDataRead c.in-Err.fault) c.in-Err.ensures.bytes refl c.in-Err.ensures.err g.T.Deserialize.refuses c.in-Err.ensures.end)
 
 pub returns-in-Err-deserialize-clause-law : goal.returns-in-Err-deserialize-clause-law
 returns-in-Err-deserialize-clause-law g c = λ d o.

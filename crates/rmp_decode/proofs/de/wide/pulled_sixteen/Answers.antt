@@ -1,6 +1,6 @@
 use Rattle.std.proofs.Common.{rules}
 use Rattle.rmp_wire.proofs.Taken.{bytes_from}
-use Rattle.rmp_decode.proofs.de.wide.next_sixteen.Goals as goal
+use Rattle.rmp_decode.proofs.de.wide.pulled_sixteen.Goals as goal
 
 pub returns-in-Ok-clause-ok : goal.returns-in-Ok-clause-ok
 returns-in-Ok-clause-ok g c = record {
