@@ -35,6 +35,7 @@ use Rattle.std.proofs.Common.{
 }
 use Rattle.std.proofs.KnownBytes.{Consumes-trans}
 use Rattle.std.specs.Option.{option_and_then}
+use Rattle.std.specs.Prelude.{IfSome}
 use Rattle.rmp_wire.specs.declared.source.Source.{Ghosts}
 use Rattle.rmp_wire.specs.Msg.{Msg, nil, truth, whole, float32, float64, text, bin, list, map, extension, Msgs, no_items, item, count, count_pairs, depth}
 use Rattle.rmp_wire.specs.Canonical.{SpellsAs}
@@ -74,13 +75,9 @@ use Rattle.rmp_decode.proofs.Laws.{stays_then}
 use Rattle.rmp_decode.proofs.Seqs.{run_start, run_step, parts_refused}
 use Rattle.rmp_decode.proofs.Tuples.{row_narrower}
 
-pub on_ok : {T E P Q : Type 0} (r : Result T E) → (P → Q) → OnOk r P → OnOk r Q
-on_ok (Ok x) f p = f p
-on_ok (Err e) f p = tt
-
-pub if_err : {T E : Type 0} {P Q : E → Type 0} (r : Result T E) → ((e : E) → P e → Q e) → IfErr r P → IfErr r Q
-if_err (Ok x) f p = tt
-if_err (Err e) f p = f e p
+pub if_some : {A : Type 0} {P Q : A → Type 0} (o : Option A) → ((x : A) → P x → Q x) → IfSome o P → IfSome o Q
+if_some None f p = tt
+if_some (Some x) f p = f x p
 
 -- ---- fields of a list
 

@@ -44,7 +44,7 @@ use Rattle.std.proofs.lemmas.Nat.{be_bytes_2, be_bytes_4, be_bytes_8}
 use Rattle.std.specs.Io.KnownBytes.{Consumes}
 use Rattle.std.specs.Int.{Width, w8, w16, w32, w64, to_be_bytes}
 use Rattle.rmp_wire.specs.declared.head.Head.{Head}
-use Rattle.rmp_wire.specs.declared.head.Head.TheVariants.{Whole, Text, Array}
+use Rattle.rmp_wire.specs.declared.head.Head.TheVariants.{Whole, Text, Array, Map}
 use Rattle.rmp_wire.specs.declared.source.Source.{Ghosts}
 use Rattle.rmp_wire.specs.Canonical.{heads_of}
 use Rattle.rmp_wire.specs.Heads.{IsHead, canon_head}
@@ -154,6 +154,12 @@ unfolding IsHead canon_head
 list_head w x n l e =
     let yes : nat_lt n 16 ≡ true = lt-ltb n 16 l in
     one_byte w (Array n) x (inl (l, ap (λ t. t ∷ []) e)) (rw yes (ap (λ t. t ∷ []) (sym e)))
+
+map_head : (w : Bool) (x n : ℕ) → n < 16 → x ≡ 0x80 + n → heads_of w (Map n) (x ∷ [])
+unfolding IsHead canon_head
+map_head w x n l e =
+    let yes : nat_lt n 16 ≡ true = lt-ltb n 16 l in
+    one_byte w (Map n) x (inl (l, ap (λ t. t ∷ []) e)) (rw yes (ap (λ t. t ∷ []) (sym e)))
 
 pub small_stands : (w : Bool) (xs : List ℕ) (n : ℕ) → 1 ≤ length xs → get_or xs 0 0 < 128 → n ≡ get_or xs 0 0 → StandsIn w 1 (Whole (pos n)) xs
 unfolding IsHead
@@ -289,7 +295,7 @@ pub text_8 : (xs : List ℕ) (n : ℕ) → 1 ≤ length xs → get_or xs 0 0 ≡
 text_8 [] n l e m s f = absurd (omega arith)
 text_8 (x ∷ ys) n l e m s f = text_eight x n ys e (rw (behind_is x ys) at m) (rw (behind_is x ys) at s) (omega (arith, s, rw (behind_is x ys) at s, f 1))
 
--- ---- lists at the front
+-- ---- lists and maps at the front
 
 pub list_held : (w : Bool) (xs : List ℕ) (n : ℕ) → 1 ≤ length xs → 0x90 ≤ get_or xs 0 0 → get_or xs 0 0 < 0xa0 → n ≡ get_or xs 0 0 - 0x90
     → StandsIn w 1 (Array n) xs
@@ -300,5 +306,17 @@ list_held w (x ∷ xs) n l b t e =
     record {
       marker = marker_of x;
       stands = record { byte = x; behind = []; rest = xs; front = refl; is_marker = refl; is_head = list_head w x n (omega arith) same };
+      long = refl;
+    }
+
+pub map_held : (w : Bool) (xs : List ℕ) (n : ℕ) → 1 ≤ length xs → 0x80 ≤ get_or xs 0 0 → get_or xs 0 0 < 0x90 → n ≡ get_or xs 0 0 - 0x80
+    → StandsIn w 1 (Map n) xs
+unfolding IsHead
+map_held w [] n l b t e = absurd (omega arith)
+map_held w (x ∷ xs) n l b t e =
+    let same : x ≡ 0x80 + n = omega arith in
+    record {
+      marker = marker_of x;
+      stands = record { byte = x; behind = []; rest = xs; front = refl; is_marker = refl; is_head = map_head w x n (omega arith) same };
       long = refl;
     }

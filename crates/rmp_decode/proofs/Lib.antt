@@ -28,6 +28,7 @@ pub mod MapWiths
 pub mod Maps
 pub mod Meeting
 pub mod Names
+pub mod NamesAhead
 pub mod Numbers
 pub mod Offered
 pub mod Opening
@@ -57,6 +58,7 @@ pub mod Tuples
 pub mod VariantNames
 pub mod VariantSeqs
 pub mod Variants
+pub mod VariantsAhead
 pub mod Units
 pub mod Whole
 pub mod Wide

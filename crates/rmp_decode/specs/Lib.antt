@@ -17,6 +17,7 @@ pub mod Law
 pub mod MapRefusing
 pub mod Maps
 pub mod Names
+pub mod NamesAhead
 pub mod Open
 pub mod Options
 pub mod Parts

@@ -1,5 +1,5 @@
 //! The fields of structs, which are named, or stand in order.
-ghost use Rattle.std.specs.Prelude.{◌≡◌, ◌≢◌, ◌⊎◌, ◌<◌, ◌||◌, ℕ, Bool, List, Option, None, Some, true};
+ghost use Rattle.std.specs.Prelude.{◌≡◌, ◌≢◌, ◌⊎◌, ◌<◌, ◌≤◌, ◌||◌, ℕ, Bool, List, Option, None, Some, true};
 ghost use Rattle.std.specs.Prelude.{false, length, IfErr, IfOk, IfSome, IfNone, OnOk, OnErr, MatchOption, MatchResult, max};
 ghost use Rattle.std.specs.Borrow.{sem, RestsIfErr};
 ghost use Rattle.rmp_wire.specs.Msg.{Msg, Msgs};
@@ -10,10 +10,11 @@ ghost use Rattle.rmp_decode.specs.FieldRefusing.{PartsHold, FillRefused, Refuses
 ghost use Rattle.rmp_decode.specs.FieldRows.{TakesRow, FailsRow, ReadsRow, MissesRow, in_row};
 ghost use Rattle.rmp_decode.specs.Fronts.{TakesFront};
 ghost use Rattle.rmp_decode.specs.Kinds.{Finds};
-ghost use Rattle.rmp_decode.specs.Law.{Lawful, TakesHead, IsFailedBefore};
+ghost use Rattle.rmp_decode.specs.Law.{Lawful, TakesHead};
 ghost use Rattle.rmp_decode.specs.MapRefusing.{PartRefused, KeyRefused};
-ghost use Rattle.rmp_decode.specs.Maps.{IsMapOpen, AtKey, AtValue, TakesKey, pairs_left, is_map_sound, map_lender, map_inner};
+ghost use Rattle.rmp_decode.specs.Maps.{IsMapOpen, AtValue, TakesKey, pairs_left, map_lender, map_inner};
 ghost use Rattle.rmp_decode.specs.Names.{bytes_of, IsName};
+ghost use Rattle.rmp_decode.specs.NamesAhead.{IsBelow};
 ghost use Rattle.rmp_decode.specs.Parts.{TakesPart, FailsPart};
 ghost use Rattle.rmp_decode.specs.Refusing.{Setting, Part, RefusesAs, RefusesParts, RefusesTuple, PartsRefused, setting_of, no_refusal};
 ghost use Rattle.rmp_decode.specs.Seq.{IsOpen, OfRow, TakesParts, FailsParts, lender_of};
@@ -75,23 +76,25 @@ pub trait Fields<'de, R: ReadSlice<'de>>: Sized + Drop {
     fn empty() -> Self::Slots
         ensures { (human lends : Bool) (fs : List (Option Msg)) → AreBlank count fs → holds human lends fs result };
 
-    /// Reads the value of the key that was read last, as the field at the place.
-    ///
-    /// # Errors
-    /// `Syntax("duplicate field")` where it was read before; nothing is taken then.
+    /// Reads the value of the key that was read last, as the field at the place, and says whether it wasn't refused. Why it was is put
+    /// into `refusal`, beside the answer: `Syntax("duplicate field")` where the field was read before, and nothing is taken then.
     fn fill<'x, C: SerializerConfig>(
         slots: &mut Self::Slots,
+        refusal: &mut Option<Error>,
         place: usize,
         map: &mut MapAccess<'x, R, C>,
-    ) -> Result<(), Error>
+    ) -> bool
         requires at_value { AtValue map.old }
         requires still { IsMapOpen map.old }
         ensures same_reference { map.new.de.ghost_name ≡ map.old.de.ghost_name }
-        ensures ok { OnOk result (Fills R.Source (holds (C.human (config_of (map_lender map.old))) R.lends) place map.old map.new slots.old slots.new) }
-        ensures err { IfErr result (λ e. FailsPart R.Source (λ m (u : Unit {0}). takes (C.human (config_of (map_lender map.old))) R.lends place m)
-            (map_inner map.old) (map_lender map.old) (map_lender map.new) e
+        ensures ok { result ≡ true
+            → Fills R.Source (holds (C.human (config_of (map_lender map.old))) R.lends) place map.old map.new slots.old slots.new }
+        ensures some { result ≡ false → refusal.new ≢ None }
+        ensures err { result ≡ false → IfSome refusal.new (λ e. FailsPart R.Source
+            (λ m (u : Unit {0}). takes (C.human (config_of (map_lender map.old))) R.lends place m) (map_inner map.old) (map_lender map.old)
+            (map_lender map.new) e
             ⊎ IsFull (holds (C.human (config_of (map_lender map.old))) R.lends) place map.old map.new slots.old) }
-        ensures refused { IfErr result (FillRefused R.Source (C.human (config_of (map_lender map.old))) R.lends
+        ensures refused { result ≡ false → IfSome refusal.new (FillRefused R.Source (C.human (config_of (map_lender map.old))) R.lends
             (holds (C.human (config_of (map_lender map.old))) R.lends) parts place map.old map.new slots.old) };
 
     /// The values, or `None` where one is missing.
@@ -168,10 +171,12 @@ impl<'de, R: ReadSlice<'de>> Fields<'de, R> for () {
     #[inline(always)]
     fn fill<'x, C: SerializerConfig>(
         _slots: &mut (),
+        refusal: &mut Option<Error>,
         _place: usize,
         _map: &mut MapAccess<'x, R, C>,
-    ) -> Result<(), Error> {
-        Err(Error::Syntax(Text::DuplicateField))
+    ) -> bool {
+        *refusal = Some(Error::Syntax(Text::DuplicateField));
+        false
     }
 
     #[inline(always)]
@@ -237,21 +242,26 @@ impl<'de, R: ReadSlice<'de>, A: Deserialize<'de, R>, B: Fields<'de, R>> Fields<'
     #[inline(always)]
     fn fill<'x, C: SerializerConfig>(
         slots: &mut (Option<A>, B::Slots),
+        refusal: &mut Option<Error>,
         place: usize,
         map: &mut MapAccess<'x, R, C>,
-    ) -> Result<(), Error> {
+    ) -> bool {
         if place > 0 {
-            return B::fill(&mut slots.1, place - 1, map);
+            return B::fill(&mut slots.1, refusal, place - 1, map);
         }
         if slots.0.is_some() {
-            return Err(Error::Syntax(Text::DuplicateField));
+            *refusal = Some(Error::Syntax(Text::DuplicateField));
+            return false;
         }
         match map.next_value() {
             Ok(value) => {
                 slots.0 = Some(value);
-                Ok(())
+                true
             }
-            Err(e) => Err(e),
+            Err(why) => {
+                *refusal = Some(why);
+                false
+            }
         }
     }
 
@@ -333,6 +343,18 @@ enum FieldParts<'x, R, C> {
     Map(MapAccess<'x, R, C>),
 }
 
+// Why something was refused.
+#[inline(always)]
+fn given(refusal: Option<Error>) -> Error
+    requires { refusal ≢ None }
+    ensures { refusal ≡ Some result }
+{
+    match refusal {
+        Some(e) => e,
+        None => unreachable!(),
+    }
+}
+
 // Whether it is bytes, of a list; `None` of a map; and how many elements or pairs follow.
 #[inline(always)]
 fn parts_of(head: Head) -> Option<(Option<bool>, u32)>
@@ -377,7 +399,35 @@ impl<R: Source, C: SerializerConfig> Deserializer<R, C> {
         }
     }
 
-    // Takes the head of a list, of bytes, or of a map. That of a short list is read where it lies.
+    // The same, of the place of the name, or where the key is none of them of the count of the names. Why it is refused is put into
+    // `refusal`, by a call.
+    #[inline(never)]
+    fn place_part<'de>(
+        &mut self,
+        inner: u32,
+        names: &[&str],
+        refusal: &mut Option<Error>,
+    ) -> Option<usize>
+    where
+        R: ReadSlice<'de>,
+        ensures ok { IfSome result (TakesPart R.Source (IsBelow (bytes_of names.now)) (max 1 inner) self.old self.new) }
+        ensures within { IfSome result (λ n. n ≤ length names.now) }
+        ensures some { IfNone result (refusal.new ≢ None) }
+        ensures err { IfNone result (IfSome refusal.new (FailsPart R.Source (IsName (bytes_of names.now)) (max 1 inner) self.old self.new)) }
+        ensures refused { IfNone result (IfSome refusal.new
+            (PartRefused R.Source (C.human (config_of self.old)) R.lends name_refusal (max 1 inner) self.old self.new)) }
+    {
+        match self.name_part(inner, names) {
+            Ok(Some(place)) => Some(place),
+            Ok(None) => Some(names.len()),
+            Err(why) => {
+                *refusal = Some(why);
+                None
+            }
+        }
+    }
+
+    // Takes the head of a list, of bytes, or of a map. That of a short list or a short map is read where it lies.
     #[inline(always)]
     pub(crate) fn open_struct(&mut self) -> Result<(Option<bool>, u32), Error>
         ensures ok { IfOk result (λ p. TakesHead R.Source (fields_head p.0 p.1) self.old self.new) }
@@ -391,12 +441,15 @@ impl<R: Source, C: SerializerConfig> Deserializer<R, C> {
     {
         match self.list_front() {
             Some(len) => Ok((Some(false), len)),
-            None => self.headed_struct(),
+            None => match self.map_front() {
+                Some(len) => Ok((None, len)),
+                None => self.headed_struct(),
+            },
         }
     }
 
-    // The same by way of `head`.
-    #[inline(always)]
+    // The same by way of `head`, by a call.
+    #[inline(never)]
     fn headed_struct(&mut self) -> Result<(Option<bool>, u32), Error>
         ensures ok { IfOk result (λ p. TakesHead R.Source (fields_head p.0 p.1) self.old self.new) }
         ensures deep { IfOk result (λ p. p.0 ≢ Some true → 1 < self.old.room) }
@@ -607,18 +660,20 @@ impl<R: Source, C: SerializerConfig> Deserializer<R, C> {
             }
             Ok(FieldParts::Map(mut map)) => {
                 let mut slots = F::empty();
-                loop {
-                    match map.next_name(names) {
-                        Ok(Some(Some(place))) => match F::fill(&mut slots, place, &mut map) {
-                            Ok(()) => {}
+                let mut refusal = None;
+                while map.left > 0 {
+                    let place = match map.next_place(names, &mut refusal) {
+                        Some(place) => place,
+                        None => return Err(given(refusal)),
+                    };
+                    if place >= names.len() {
+                        match map.next_value::<Passed>() {
+                            Ok(_) => continue,
                             Err(e) => return Err(e),
-                        },
-                        Ok(Some(None)) => match map.next_value::<Passed>() {
-                            Ok(_) => {}
-                            Err(e) => return Err(e),
-                        },
-                        Ok(None) => break,
-                        Err(e) => return Err(e),
+                        }
+                    }
+                    if !F::fill(&mut slots, &mut refusal, place, &mut map) {
+                        return Err(given(refusal));
                     }
                 }
                 let Some(values) = F::finish(slots) else {
@@ -635,39 +690,37 @@ impl<R: Source, C: SerializerConfig> Deserializer<R, C> {
 }
 
 impl<'x, R: Source, C: SerializerConfig> MapAccess<'x, R, C> {
-    // Reads which of the names the next key is, if there is one.
+    // Reads which of the names the next key is: its place, or where it is none of them the count of the names. Why it is refused is put
+    // into `refusal`, so that no read carries room for an error along.
     #[inline(always)]
-    fn next_name<'de>(&mut self, names: &[&str]) -> Result<Option<Option<usize>>, Error>
+    fn next_place<'de>(&mut self, names: &[&str], refusal: &mut Option<Error>) -> Option<usize>
     where
         R: ReadSlice<'de>,
-        requires { AtKey self.old }
+        requires still { IsMapOpen self.old }
+        requires more { 0 < pairs_left self.old }
         ensures same_reference { self.new.de.ghost_name ≡ self.old.de.ghost_name }
-        ensures none { IfOk result (λ o. IfNone o ((pairs_left self.old ≡ 0) × (self.new ≡ self.old))) }
-        ensures some { IfOk result (λ o. IfSome o (TakesKey R.Source (IsName (bytes_of names.now)) self.old self.new)) }
-        ensures err { is_map_sound self.old ≡ true → IfErr result
-            (λ e. (0 < pairs_left self.old) × FailsPart R.Source (IsName (bytes_of names.now)) (map_inner self.old) (map_lender self.old)
-            (map_lender self.new) e) }
-        ensures refused { is_map_sound self.old ≡ true → IfErr result
-            (KeyRefused R.Source (C.human (config_of (map_lender self.old))) R.lends name_refusal self.old self.new) }
-        ensures memory { R.lends ≡ true → IfErr result (λ e. e ≢ Error.OutOfMemory) }
-        ensures failed { OnErr result (is_map_sound self.new ≡ false) }
-        ensures before { is_map_sound self.old ≡ false → MatchResult result (λ _. ⊥) IsFailedBefore × (self.new ≡ self.old) }
+        ensures ok { IfSome result (TakesKey R.Source (IsBelow (bytes_of names.now)) self.old self.new) }
+        ensures within { IfSome result (λ n. n ≤ length names.now) }
+        ensures some { IfNone result (refusal.new ≢ None) }
+        ensures err { IfNone result (IfSome refusal.new (FailsPart R.Source (IsName (bytes_of names.now)) (map_inner self.old) (map_lender self.old)
+            (map_lender self.new))) }
+        ensures refused { IfNone result (IfSome refusal.new
+            (KeyRefused R.Source (C.human (config_of (map_lender self.old))) R.lends name_refusal self.old self.new)) }
     {
-        if !self.sound {
-            return Err(Error::Uncategorized(Text::FailedBefore));
-        }
-        if self.left == 0 {
-            return Ok(None);
-        }
-        self.sound = false;
-        match self.de.name_part(self.inner, names) {
-            Ok(key) => {
+        match self.de.name_ahead(names, false) {
+            Some(place) => {
                 self.left -= 1;
                 self.owes = true;
-                self.sound = true;
-                Ok(Some(key))
+                Some(place)
             }
-            Err(e) => Err(e),
+            None => match self.de.place_part(self.inner, names, refusal) {
+                Some(place) => {
+                    self.left -= 1;
+                    self.owes = true;
+                    Some(place)
+                }
+                None => None,
+            },
         }
     }
 }

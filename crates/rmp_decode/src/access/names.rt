@@ -1,5 +1,5 @@
 //! Names, of which a message says one.
-ghost use Rattle.std.specs.Prelude.{◌≡◌, ◌≢◌, ℕ, List, true, length, IfErr, IfOk, OnOk};
+ghost use Rattle.std.specs.Prelude.{◌≡◌, ◌≢◌, ◌<◌, ◌≤◌, ℕ, List, true, length, IfErr, IfOk, IfSome, IfNone, OnOk};
 ghost use Rattle.std.specs.Io.KnownBytes.{Consumes};
 ghost use Rattle.rmp_wire.specs.Sources.{IsShort};
 ghost use Rattle.rmp_wire.specs.Spelling.{IsBytes};
@@ -8,9 +8,14 @@ ghost use Rattle.rmp_decode.specs.Content.{RefusesLeaf, RefusesBehind, not_raw, 
 ghost use Rattle.rmp_decode.specs.Exact.{IsDataEnd};
 ghost use Rattle.rmp_decode.specs.Law.{Lawful, Explains};
 ghost use Rattle.rmp_decode.specs.Names.{bytes_of, place_of, place_below, IsName, IsNameHead};
+ghost use Rattle.rmp_decode.specs.NamesAhead.{below, IsBelow, TextLies};
+ghost use Rattle.rmp_decode.specs.Parts.{TakesPart};
+ghost use Rattle.rmp_decode.specs.State.{is_failed, kept_of};
+ghost use Rattle.rmp_decode.specs.declared.deserializer.Kept.TheVariants.{Nothing};
 
 use crate::content::pieces::error_of;
 use crate::deserializer::Deserializer;
+use crate::deserializer::fronts::text_at;
 use crate::deserializer::kinds::{raw_in, whole_in};
 use crate::error::Error;
 use crate::text::Text;
@@ -28,6 +33,37 @@ pub(crate) fn place_of(names: &[&str], key: &[u8]) -> Option<usize>
         }
     }
     None
+}
+
+// The place of the first name that a text is, or where it is none the count of the names.
+#[inline(always)]
+fn place_or_count(names: &[&str], key: &[u8]) -> usize
+    ensures place { below (length names.now) result ≡ place_of (bytes_of names.now) key.now }
+    ensures within { result ≤ length names.now }
+{
+    match place_of(names, key) {
+        Some(place) => place,
+        None => names.len(),
+    }
+}
+
+// A text that stands at the front whole: the place of the name that it is, or where it is none the count of the names; and the
+// count of its bytes, with its head.
+#[inline(always)]
+fn name_at(front: &[u8], strict: bool, names: &[&str]) -> Option<(usize, usize)>
+    ensures lies { IfSome result (λ p. TextLies strict p.1 (λ s. below (length names.now) p.0 ≡ place_of (bytes_of names.now) s) front.now) }
+    ensures within { IfSome result (λ p. p.0 ≤ length names.now) }
+{
+    match text_at(front, strict) {
+        Some((len, head)) => {
+            let end = head + len as usize;
+            if end > front.len() {
+                return None;
+            }
+            Some((place_or_count(names, &front[head..end]), end))
+        }
+        None => None,
+    }
 }
 
 // A number as a place, where it is below how many there are.
@@ -134,6 +170,32 @@ impl<R: Source, C: SerializerConfig> Deserializer<R, C> {
                 },
             },
             Err(e) => Err(e),
+        }
+    }
+
+    // Takes a text that lies in memory whole, and answers the place of the name that it is, or where it is none the count of the
+    // names. Where only a name is wanted, another text isn't taken. Else nothing is taken.
+    #[inline(always)]
+    pub(crate) fn name_ahead(&mut self, names: &[&str], only_names: bool) -> Option<usize>
+        requires marked { is_failed self.old ≡ true }
+        requires clean { kept_of self.old ≡ Nothing }
+        ensures taken { IfSome result (λ n. (inner : ℕ) → 0 < inner → TakesPart R.Source (IsBelow (bytes_of names.now)) inner self.old self.new n) }
+        ensures within { IfSome result (λ n. n ≤ length names.now) }
+        ensures named { only_names ≡ true → IfSome result (λ n. n < length names.now) }
+        ensures kept { IfNone result (self.new ≡ self.old) }
+    {
+        match name_at(self.reader.front(), self.strict, names) {
+            Some((place, len)) => {
+                if only_names && place >= names.len() {
+                    return None;
+                }
+                if self.reader.skip(len) {
+                    Some(place)
+                } else {
+                    None
+                }
+            }
+            None => None,
         }
     }
 }

@@ -1,5 +1,5 @@
 //! Enums: the name of a variant, which stands alone or is the key of a map of one pair, and then the variant's content.
-ghost use Rattle.std.specs.Prelude.{◌≡◌, ◌≢◌, ◌<◌, ◌-◌, ℕ, ℤ, List, Ok, Err, Some, None, true, false, IfOk, IfErr, OnOk, OnErr, length, max};
+ghost use Rattle.std.specs.Prelude.{◌≡◌, ◌≢◌, ◌<◌, ◌-◌, ℕ, ℤ, List, Ok, Err, Some, None, true, false, IfOk, IfErr, IfSome, IfNone, OnOk, OnErr, length, max};
 ghost use Rattle.std.specs.Borrow.{sem, RestsIfErr};
 ghost use Rattle.std.specs.Fn.{FnOnceTakesAtMut};
 ghost use Rattle.std.specs.Io.KnownBytes.{Consumes};
@@ -19,7 +19,7 @@ ghost use Rattle.rmp_decode.specs.Names.{bytes_of, place_of, place_below};
 ghost use Rattle.rmp_decode.specs.Parts.{TakesPart, FailsPart};
 ghost use Rattle.rmp_decode.specs.Pieces.{RefusesPiece};
 ghost use Rattle.rmp_decode.specs.Seq.{seq_head, not_seq, IsSeq};
-ghost use Rattle.rmp_decode.specs.State.{left, faults_of, config_of, is_failed, is_strict, kept_of, Stays};
+ghost use Rattle.rmp_decode.specs.State.{left, faults_of, config_of, failed_of, is_failed, is_strict, kept_of, Stays};
 ghost use Rattle.rmp_decode.specs.VariantNames.{IsPlace, StartsWithNoName, TakesName, other_name, unknown_name, RefusesName};
 ghost use Rattle.rmp_decode.specs.Variants.{TakesNameOf, OpensVariant, FailsToOpenVariant, not_unit, is_bare, variant_lender, content_room, ReadsBare};
 ghost use Rattle.rmp_decode.specs.Variants.{RefusesBare, ReadsContent, RefusesContentOf, ContentRefusedBy, ContentGiven, OpensSeqIn, FailsToOpenSeqOf};
@@ -206,9 +206,79 @@ impl<R: Source, C: SerializerConfig> Deserializer<R, C> {
         }
     }
 
-    // Takes what stands before the content of a variant: its place, and whether its name stands alone.
+    // The same, and says that the name doesn't stand alone, by a call.
     #[inline(never)]
+    fn headed_pair<P: ReadContent<R>>(&mut self, names: &[&str]) -> Result<(usize, bool), Error>
+        ensures ok { IfOk result (λ p. TakesPart R.Source (IsPlace (bytes_of names.now)) (max 1 (self.old.room - 1)) self.old self.new p.0) }
+        ensures paired { IfOk result (λ p. p.1 ≡ false) }
+        ensures below { IfOk result (λ p. p.0 < length names.now) }
+        ensures stays { Stays R.Source self.old self.new }
+        ensures sound { OnOk result (faults_of R.Source self.new ≡ faults_of R.Source self.old) }
+        ensures clean { OnOk result (kept_of self.new ≡ Nothing) }
+        ensures failed { is_failed self.new ≡ true }
+        ensures err { IfErr result (FailsPart R.Source (IsPlace (bytes_of names.now)) (max 1 (self.old.room - 1)) self.old self.new) }
+        ensures exact { IfErr result (RefusesName (is_strict self.old) (faults_of R.Source self.old) (faults_of R.Source self.new) (left R.Source self.old)) }
+        ensures memory { P.lends ≡ true → IfErr result (λ e. e ≢ Error.OutOfMemory) }
+    {
+        match self.name_of_pair::<P>(names) {
+            Ok(place) => Ok((place, false)),
+            Err(e) => Err(e),
+        }
+    }
+
+    // Takes a name that stands alone and lies in memory whole, and answers its place. Else nothing is taken.
+    #[inline(always)]
+    fn bare_ahead(&mut self, names: &[&str]) -> Option<usize>
+        ensures fresh { IfSome result (λ _. is_failed self.old ≡ false) }
+        ensures taken { IfSome result (TakesPart R.Source (IsPlace (bytes_of names.now)) 1 (failed_of self.old) self.new) }
+        ensures below { IfSome result (λ n. n < length names.now) }
+        ensures kept { IfNone result (self.new ≡ self.old) }
+    {
+        if !self.begins_ahead() {
+            return None;
+        }
+        self.failed = true;
+        match self.name_ahead(names, true) {
+            Some(place) => Some(place),
+            None => {
+                self.failed = false;
+                None
+            }
+        }
+    }
+
+    // Takes what stands before the content of a variant: its place, and whether its name stands alone. What lies in memory whole is
+    // read where it lies.
+    #[inline(always)]
     fn open_variant<P: ReadContent<R>>(&mut self, names: &[&str]) -> Result<(usize, bool), Error>
+        ensures ok { IfOk result (λ p. TakesNameOf R.Source (bytes_of names.now) p.0 p.1 self.old self.new (self.old.room - 1)) }
+        ensures below { IfOk result (λ p. p.0 < length names.now) }
+        ensures stays { Stays R.Source self.old self.new }
+        ensures sound { OnOk result (faults_of R.Source self.new ≡ faults_of R.Source self.old) }
+        ensures fresh { OnOk result (is_failed self.old ≡ false) }
+        ensures clean { OnOk result (kept_of self.new ≡ Nothing) }
+        ensures failed { is_failed self.new ≡ true }
+        ensures err { IfErr result (FailsToOpenVariant R.Source (bytes_of names.now) self.old self.new) }
+        ensures memory { P.lends ≡ true → IfErr result (λ e. e ≢ Error.OutOfMemory) }
+    {
+        match self.bare_ahead(names) {
+            Some(place) => Ok((place, true)),
+            None => {
+                if self.pair_front() {
+                    match self.name_ahead(names, true) {
+                        Some(place) => Ok((place, false)),
+                        None => self.headed_pair::<P>(names),
+                    }
+                } else {
+                    self.headed_variant::<P>(names)
+                }
+            }
+        }
+    }
+
+    // The same by way of `head`, by a call.
+    #[inline(never)]
+    fn headed_variant<P: ReadContent<R>>(&mut self, names: &[&str]) -> Result<(usize, bool), Error>
         ensures ok { IfOk result (λ p. TakesNameOf R.Source (bytes_of names.now) p.0 p.1 self.old self.new (self.old.room - 1)) }
         ensures below { IfOk result (λ p. p.0 < length names.now) }
         ensures stays { Stays R.Source self.old self.new }

@@ -63,7 +63,7 @@ fn unsigned_at(front: &[u8]) -> Option<(u64, usize, u64)>
 
 // A text whose head stands at the front: the count of its bytes, and of the head's.
 #[inline(always)]
-fn text_at(front: &[u8], strict: bool) -> Option<(u32, usize)>
+pub(crate) fn text_at(front: &[u8], strict: bool) -> Option<(u32, usize)>
     ensures { IfSome result (λ p. StandsIn strict p.1 (Head.Text p.0) front.now) }
 {
     match front {
@@ -93,6 +93,20 @@ pub(crate) fn list_at(front: &[u8]) -> Option<u32>
     match front {
         [first, ..] => match first {
             0x90..=0x9f => Some(u32::from(*first - 0x90)),
+            _ => None,
+        },
+        _ => None,
+    }
+}
+
+// A map of up to 15 pairs whose head, of one byte, stands at the front: the count of its pairs.
+#[inline(always)]
+fn map_at(front: &[u8]) -> Option<u32>
+    ensures { IfSome result (λ n. (strict : Bool) → StandsIn strict 1 (Head.Map n) front.now) }
+{
+    match front {
+        [first, ..] => match first {
+            0x80..=0x8f => Some(u32::from(*first - 0x80)),
             _ => None,
         },
         _ => None,
@@ -439,6 +453,59 @@ impl<R: Source, C: SerializerConfig> Deserializer<R, C> {
             return None;
         }
         self.short_list_front()
+    }
+
+    // The same of a map of up to 15 pairs.
+    #[inline(always)]
+    pub(crate) fn map_front(&mut self) -> Option<u32>
+        ensures deep { IfSome result (λ _. 1 < self.old.room) }
+        ensures taken { IfSome result (λ n. TakesFront R.Source (Head.Map n) self.old self.new) }
+        ensures kept { IfNone result (self.new ≡ self.old) }
+    {
+        if self.room < 2 {
+            return None;
+        }
+        if !self.begins_ahead() {
+            return None;
+        }
+        match map_at(self.reader.front()) {
+            Some(n) => {
+                if self.reader.skip(1) {
+                    self.failed = true;
+                    Some(n)
+                } else {
+                    None
+                }
+            }
+            None => None,
+        }
+    }
+
+    // Takes the head of a map of one pair where it lies in memory, and leaves this failed until the pair is read. Else nothing is
+    // taken.
+    #[inline(always)]
+    pub(crate) fn pair_front(&mut self) -> bool
+        ensures deep { result ≡ true → 1 < self.old.room }
+        ensures taken { result ≡ true → TakesFront R.Source (Head.Map 1) self.old self.new }
+        ensures kept { result ≡ false → self.new ≡ self.old }
+    {
+        if self.room < 2 {
+            return false;
+        }
+        if !self.begins_ahead() {
+            return false;
+        }
+        match map_at(self.reader.front()) {
+            Some(n) => {
+                if n == 1 && self.reader.skip(1) {
+                    self.failed = true;
+                    true
+                } else {
+                    false
+                }
+            }
+            None => false,
+        }
     }
 
     // Takes a head of any kind but an extension where it lies in memory whole, and leaves this failed until the message is

@@ -1,61 +1,38 @@
-use Rattle.std.proofs.Common.{refl, arith, subst, rules, max, ◌-◌}
-use Rattle.rmp_decode.specs.Law.{TakesHead}
+use Rattle.std.proofs.Common.{subst, sym, refl, arith, max, ◌-◌}
+use Rattle.std.specs.Prelude.{IfOk, IfErr}
+use Rattle.rmp_wire.specs.declared.head.Head.TheVariants.{Map}
+use Rattle.rmp_decode.specs.Fronts.{TakesFront}
 use Rattle.rmp_decode.specs.Names.{bytes_of}
-use Rattle.rmp_decode.specs.Parts.{TakesPart, FailsPart}
-use Rattle.rmp_decode.specs.VariantNames.{IsPlace}
-use Rattle.rmp_decode.proofs.VariantNames.{no_variant_begins, other_count, variant_too_deep, no_name_alone, place_below_names}
-use Rattle.rmp_decode.proofs.Variants.{no_name_of_pair}
+use Rattle.rmp_decode.specs.Variants.{TakesKeyOf, TakesNameOf, FailsToOpenVariant}
+use Rattle.rmp_decode.specs.declared.deserializer.Deserializer.{Deserializer}
+use Rattle.rmp_decode.proofs.NamesAhead.{part_placed}
+use Rattle.rmp_decode.proofs.VariantsAhead.{pair_named, pair_named_in, pair_refused_in}
 use Rattle.rmp_decode.proofs.deserializer.Deserializer.open_variant.Goals as goal
 
-pub returns-in-Err-clause-err : goal.returns-in-Err-clause-err
-returns-in-Err-clause-err g c = no_variant_begins g.R.Source (bytes_of c.args.names.now) _ _ _ c.in-Err.ensures
+pub returns-in-Some-name_ahead-clause-ok : goal.returns-in-Some-name_ahead-clause-ok
+returns-in-Some-name_ahead-clause-ok g c =
+    let kept = c.in-None.ensures.kept in
+    let f = c.pair_front.ensures.taken c.if-pair_front.true in
+    let d = c.pair_front.ensures.deep c.if-pair_front.true in
+    let t = part_placed g.R.Source c.args.names.now (max 1 (c.pair_front.new.self.room - 1)) c.pair_front.new.self c.name_ahead.new.self c.in-Some-name_ahead.place
+    (c.in-Some-name_ahead.ensures.named refl) (c.in-Some-name_ahead.ensures.taken _ (omega arith)) in
+    subst (λ (z : Deserializer g.row.R.Denot g.row.C.Denot). TakesKeyOf g.R.Source (bytes_of c.args.names.now) c.in-Some-name_ahead.place z c.name_ahead.new.self (z.room - 1)) kept
+    (pair_named g.R.Source (bytes_of c.args.names.now) c.bare_ahead.new.self c.pair_front.new.self c.name_ahead.new.self f d c.in-Some-name_ahead.place t)
 
-pub returns-then-self-le1-clause-err : goal.returns-then-self-le1-clause-err
-returns-then-self-le1-clause-err g c = variant_too_deep g.R.Source (bytes_of c.args.names.now) _ _ _ (c.in-Ok.field-0-0, c.in-Ok.head) c.in-Ok.ensures
-    (search rules) (let h = c.in-Ok.ensures.stays.room in omega arith) refl
+pub returns-in-None-name_ahead-clause-ok : goal.returns-in-None-name_ahead-clause-ok
+returns-in-None-name_ahead-clause-ok g c =
+    let kept = c.in-None.ensures.kept in
+    let kn = c.in-None-name_ahead.ensures.kept in
+    let f2 = subst (λ (z : Deserializer g.row.R.Denot g.row.C.Denot). TakesFront g.R.Source (Map 1) c.bare_ahead.new.self z) (sym kn) (c.pair_front.ensures.taken c.if-pair_front.true) in
+    let d = c.pair_front.ensures.deep c.if-pair_front.true in
+    subst (λ (z : Deserializer g.row.R.Denot g.row.C.Denot). IfOk c.headed_pair.result (λ p. TakesNameOf g.R.Source (bytes_of c.args.names.now) p.0 p.1 z c.headed_pair.new.self (z.room - 1))) kept
+    (pair_named_in g.R.Source (bytes_of c.args.names.now) c.bare_ahead.new.self c.name_ahead.new.self c.headed_pair.new.self f2 d c.headed_pair.result c.headed_pair.ensures.ok c.headed_pair.ensures.paired)
 
-pub returns-in-Ok-name_of_pair-clause-ok : goal.returns-in-Ok-name_of_pair-clause-ok
-returns-in-Ok-name_of_pair-clause-ok g c =
-    let h = c.in-Ok.ensures in
-    record {
-      between = c.head.new.self;
-      head = subst (λ z. TakesHead g.R.Source z c.args.self.now c.head.new.self) (search rules) h.ok;
-      room = let r = h.stays.room in omega (arith, c.if-self-le1.false);
-      stays = h.stays;
-      faults_same = h.sound;
-      marked = h.failed;
-      clean = h.clean;
-      key = subst (λ z. TakesPart g.R.Source (IsPlace (bytes_of c.args.names.now)) (max 1 (z - 1)) c.head.new.self c.name_of_pair.new.self
-          c.in-Ok-name_of_pair.place) h.stays.room c.in-Ok-name_of_pair.ensures.ok;
-    }
-
-pub returns-in-Ok-name_of_pair-clause-below : goal.returns-in-Ok-name_of_pair-clause-below
-returns-in-Ok-name_of_pair-clause-below g c = let p = c.in-Ok-name_of_pair.ensures.ok in place_below_names c.args.names.now p.tree _ p.value
-
-pub returns-in-Err-name_of_pair-clause-err : goal.returns-in-Err-name_of_pair-clause-err
-returns-in-Err-name_of_pair-clause-err g c =
-    let h = c.in-Ok.ensures in
-    no_name_of_pair g.R.Source (bytes_of c.args.names.now) c.args.self c.args.self.now c.head.new.self _ (c.in-Ok.field-0-0, c.in-Ok.head)
-    (c.args.self.now.room - 1) _ h (search rules) (let r = h.stays.room in omega (arith, c.if-self-le1.false))
-    (subst (λ z. FailsPart g.R.Source (IsPlace (bytes_of c.args.names.now)) (max 1 (z - 1)) c.head.new.self c.name_of_pair.new.self c.in-Err-name_of_pair.e)
-    h.stays.room c.in-Err-name_of_pair.ensures.err) c.in-Err-name_of_pair.ensures.exact
-
-pub returns-in-Some-clause-err : goal.returns-in-Some-clause-err
-returns-in-Some-clause-err g c = other_count g.R.Source (bytes_of c.args.names.now) _ _ _ (c.in-Ok.field-0-0, c.in-Ok.head) c.in-Ok.ensures c.in-Some.len
-    c.in-Some.ensures (search rules) refl
-
-pub returns-in-Ok-name_behind-clause-ok : goal.returns-in-Ok-name_behind-clause-ok
-returns-in-Ok-name_behind-clause-ok g c =
-    let r = (c.in-Ok-name_behind.ensures.law c.args.self.now c.in-Ok.field-0-0 c.in-Ok.ensures).ok in
-    record { bytes = r.bytes; tree = r.tree; takes = r.takes; goes_on = r.goes_on; spelled = r.spelled; fits = r.fits; value = r.value }
-
-pub returns-in-Ok-name_behind-clause-below : goal.returns-in-Ok-name_behind-clause-below
-returns-in-Ok-name_behind-clause-below g c =
-    let r = (c.in-Ok-name_behind.ensures.law c.args.self.now c.in-Ok.field-0-0 c.in-Ok.ensures).ok in
-    place_below_names c.args.names.now r.tree _ r.value
-
-pub returns-in-Err-name_behind-clause-err : goal.returns-in-Err-name_behind-clause-err
-returns-in-Err-name_behind-clause-err g c =
-    let h = c.in-Ok.ensures in
-    no_name_alone g.R.Source (bytes_of c.args.names.now) c.args.self.now c.head.new.self _ (c.in-Ok.field-0-0, c.in-Ok.head) _ h c.in-None.ensures
-    (c.in-Err-name_behind.ensures.law c.args.self.now c.in-Ok.field-0-0 h) (c.in-Err-name_behind.ensures.exact c.args.self.now c.in-Ok.field-0-0 h)
+pub returns-in-None-name_ahead-clause-err : goal.returns-in-None-name_ahead-clause-err
+returns-in-None-name_ahead-clause-err g c =
+    let kept = c.in-None.ensures.kept in
+    let kn = c.in-None-name_ahead.ensures.kept in
+    let f2 = subst (λ (z : Deserializer g.row.R.Denot g.row.C.Denot). TakesFront g.R.Source (Map 1) c.bare_ahead.new.self z) (sym kn) (c.pair_front.ensures.taken c.if-pair_front.true) in
+    let d = c.pair_front.ensures.deep c.if-pair_front.true in
+    subst (λ (z : Deserializer g.row.R.Denot g.row.C.Denot). IfErr c.headed_pair.result (FailsToOpenVariant g.R.Source (bytes_of c.args.names.now) z c.headed_pair.new.self)) kept
+    (pair_refused_in g.R.Source (bytes_of c.args.names.now) c.bare_ahead.new.self c.name_ahead.new.self c.headed_pair.new.self f2 d c.args.self c.headed_pair.result c.headed_pair.ensures.err c.headed_pair.ensures.exact)
