@@ -1,39 +1,5 @@
 -- A name that lies in memory whole is the text that stands at the front of what is left.
-use Rattle.std.proofs.Common.{
-  ◌≡◌,
-  ◌∙◌,
-  sym,
-  ap,
-  subst,
-  refl,
-  arith,
-  ℕ,
-  zero,
-  suc,
-  ◌+◌,
-  ◌<◌,
-  ◌≤◌,
-  List,
-  [],
-  ◌∷◌,
-  get_or,
-  ◌++◌,
-  length,
-  length-append,
-  length-drop,
-  take,
-  drop,
-  append_assoc,
-  Bor,
-  Bool,
-  true,
-  false,
-  Option,
-  None,
-  Some,
-  cond,
-  nat_lt,
-}
+use Rattle.std.proofs.Common.{◌≡◌, ◌∙◌, sym, ap, subst, refl, arith, ℕ, zero, suc, ◌+◌, ◌<◌, ◌≤◌, List, [], ◌∷◌, get_or, ◌++◌, length, length-append, length-drop, take, drop, append_assoc, Bor, Bool, true, Option, None, Some}
 use Rattle.std.proofs.Math.Seq.{drop-append_seam}
 use Rattle.std.proofs.lemmas.Bool.{cond-true, cond-false, le-ltb, lt-ltb}
 use Rattle.std.proofs.lemmas.List.{take-append-drop, length-take-le}
@@ -77,12 +43,6 @@ bytes_take (suc n) [] b = tt
 bytes_take (suc n) (x ∷ xs) b = (b.0, bytes_take n xs b.1)
 
 -- ---- a text at the front
-
-pub head_within : (w : Bool) (n : ℕ) (h : Head) (xs : List ℕ) → StandsIn w n h xs → n ≤ length xs
-head_within w n h xs s =
-    let at = s.stands in
-    let l : length xs ≡ length (at.byte ∷ at.behind) + length at.rest = ap length at.front ∙ length-append (at.byte ∷ at.behind) at.rest in
-    omega (arith, l, s.long)
 
 behind_head : (w : Bool) (n : ℕ) (h : Head) (xs : List ℕ) → (s : StandsIn w n h xs) → drop n xs ≡ s.stands.rest
 behind_head w n h xs s =

@@ -1,6 +1,4 @@
-use Rattle.std.proofs.Common.{◌∙◌, refl, arith, length}
-use Rattle.rmp_decode.specs.Names.{bytes_of}
-use Rattle.rmp_decode.proofs.Names.{length_bytes}
+use Rattle.std.proofs.Common.{◌∙◌, arith, length}
 use Rattle.rmp_decode.proofs.NamesAhead.{below_named, below_unnamed, place_within}
 use Rattle.rmp_decode.proofs.access.names.place_or_count.Goals as goal
 

@@ -1,4 +1,4 @@
-use Rattle.std.proofs.Common.{refl, arith, rules}
+use Rattle.std.proofs.Common.{refl, arith}
 use Rattle.rmp_decode.specs.State.{failed_of}
 use Rattle.rmp_decode.proofs.NamesAhead.{part_placed}
 use Rattle.rmp_decode.proofs.deserializer.Deserializer.bare_ahead.Goals as goal

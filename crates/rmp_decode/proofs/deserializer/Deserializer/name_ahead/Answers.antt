@@ -1,4 +1,4 @@
-use Rattle.std.proofs.Common.{refl, arith, rules}
+use Rattle.std.proofs.Common.{refl}
 use Rattle.rmp_decode.proofs.NamesAhead.{name_taken}
 use Rattle.rmp_decode.proofs.deserializer.Deserializer.name_ahead.Goals as goal
 

@@ -1,6 +1,6 @@
-use Rattle.std.proofs.Common.{arith, ◌≡◌, ◌∙◌, sym, ap, subst, refl, rules, Option, None, Some, MatchOption, false, ◌⊎◌, inl}
+use Rattle.std.proofs.Common.{arith, ◌≡◌, ◌∙◌, sym, subst, refl, rules, Option, None, Some, MatchOption, false, ◌⊎◌, inl}
 use Rattle.rmp_decode.specs.Fields.{Fills, IsFull}
-use Rattle.rmp_decode.specs.Maps.{IsMapOpen, map_inner}
+use Rattle.rmp_decode.specs.Maps.{map_inner}
 use Rattle.rmp_decode.specs.Names.{bytes_of}
 use Rattle.rmp_decode.specs.Parts.{FailsPart}
 use Rattle.rmp_decode.specs.Seq.{TakesParts, FailsParts, inner_of}
@@ -198,7 +198,8 @@ returns-then-not-fill-clause-refused g c = λ u.
     (below_named _ _ (omega (arith, c.if-place-names.false))) c.in-Some.ensures.ok in
     let f = subst (λ z. FillRefused g.R.Source (g.C.SerializerConfig.human c.next_place.new.self.de.now.config) g.R.ReadSlice.lends
     (g.F.Fields.holds (g.C.SerializerConfig.human z) g.R.ReadSlice.lends) g.F.Fields.parts c.in-Some.place c.next_place.new.self c.fill.new.map
-    c.loop-map.slots c.given-then-not-fill.result) (key.part.stays.config ∙ r.run.stays.config ∙ o.stays.config) (rw c.given-then-not-fill.ensures at c.fill.ensures.refused no) in
+    c.loop-map.slots c.given-then-not-fill.result) (key.part.stays.config ∙ r.run.stays.config ∙ o.stays.config)
+    (rw c.given-then-not-fill.ensures at c.fill.ensures.refused no) in
     field_wrong g.R.Source g.C.SerializerConfig.human g.R.ReadSlice.lends (bytes_of c.args.names.now) g.F.Fields.reads g.F.Fields.parts c.args.self.now _
     c.given-then-not-fill.result c.in-Ok-Map.map c.loop-map.map o (g.F.Fields.holds (g.C.SerializerConfig.human c.args.self.now.config) g.R.ReadSlice.lends)
     (λ fs t. g.F.Fields.held (inside (setting_of (g.C.SerializerConfig.human c.args.self.now.config) g.R.ReadSlice.lends c.args.self.now)

@@ -1,4 +1,4 @@
-use Rattle.std.proofs.Common.{arith, rules, max}
+use Rattle.std.proofs.Common.{arith, max}
 use Rattle.rmp_decode.proofs.NamesAhead.{part_below}
 use Rattle.rmp_decode.proofs.VariantNames.{place_below_names}
 use Rattle.rmp_decode.proofs.deserializer.Deserializer.place_part.Goals as goal
