@@ -111,9 +111,9 @@ impl<R: Source, C: SerializerConfig> Deserializer<R, C> {
         }
     }
 
-    // The same, of bytes too: both heads are read where they lie.
+    // The same, where bytes may be as likely: their head is read where it lies too.
     #[inline(always)]
-    pub(crate) fn open_row(&mut self) -> Result<(bool, u32), Error>
+    pub(crate) fn open_row(&mut self, bytes: bool) -> Result<(bool, u32), Error>
         ensures ok { IfOk result (λ p. TakesHead R.Source (seq_head p.0 p.1) self.old self.new) }
         ensures deep { IfOk result (λ p. p.0 ≡ false → 1 < self.old.room) }
         ensures stays { Stays R.Source self.old self.new }
@@ -125,10 +125,34 @@ impl<R: Source, C: SerializerConfig> Deserializer<R, C> {
     {
         match self.list_front() {
             Some(len) => Ok((false, len)),
-            None => match self.bin_front() {
-                Some(len) => Ok((true, len)),
-                None => self.apart_seq(),
-            },
+            None => {
+                if bytes {
+                    self.open_bytes()
+                } else {
+                    self.apart_seq()
+                }
+            }
+        }
+    }
+
+    // The same of anything but a short list: the head of bytes is read where it lies, if it may have any width.
+    #[inline(always)]
+    fn open_bytes(&mut self) -> Result<(bool, u32), Error>
+        ensures ok { IfOk result (λ p. TakesHead R.Source (seq_head p.0 p.1) self.old self.new) }
+        ensures deep { IfOk result (λ p. p.0 ≡ false → 1 < self.old.room) }
+        ensures stays { Stays R.Source self.old self.new }
+        ensures sound { OnOk result (faults_of R.Source self.new ≡ faults_of R.Source self.old) }
+        ensures fresh { OnOk result (is_failed self.old ≡ false) }
+        ensures clean { OnOk result (kept_of self.new ≡ Nothing) }
+        ensures failed { is_failed self.new ≡ true }
+        ensures err { IfErr result (FailsToOpen R.Source self.old self.new) }
+    {
+        if self.strict {
+            return self.apart_seq();
+        }
+        match self.bin_front() {
+            Some(len) => Ok((true, len)),
+            None => self.apart_seq(),
         }
     }
 

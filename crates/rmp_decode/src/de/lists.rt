@@ -125,6 +125,13 @@ fn read_row<'de, R: ReadSlice<'de>, C: SerializerConfig, T: Deserialize<'de, R>>
     Ok(items)
 }
 
+// Whether an element is as small as a byte, so that bytes are a likely form of many.
+#[inline(always)]
+fn is_small<T: Drop>() -> bool {
+    let none: Option<T> = None;
+    size_of_val(&none) <= 2
+}
+
 // Reads the elements of a list, or the numbers of bytes: by a loop for each, so that neither asks which it is.
 #[inline(always)]
 fn read_vec<'de, R: ReadSlice<'de>, C: SerializerConfig, T: Deserialize<'de, R>>(
@@ -136,7 +143,7 @@ fn read_vec<'de, R: ReadSlice<'de>, C: SerializerConfig, T: Deserialize<'de, R>>
         de.old de.new (Err e)) }
     ensures refused { RefusesAs R.Source (C.human (config_of de.old)) R.lends (RefusesEach T.reads T.refuses) de.old de.new result }
 {
-    match de.open_row() {
+    match de.open_row(is_small::<T>()) {
         Ok((true, count)) => read_row(de, true, count),
         Ok((false, count)) => read_row(de, false, count),
         Err(e) => Err(e),
