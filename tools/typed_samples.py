@@ -1,24 +1,25 @@
 #!/usr/bin/env python3
-"""Writes the rows of crates/test_samples, its stdin and its stdout, from tests/samples/typed_write.txt and typed_read.txt.
+"""Writes the rows of the program tests/programs/samples, where it is laid out: the values that it writes, and the types that it reads.
 
-    tools/typed_samples.py [FOLDER]   writes below this folder in place of the repository's top
+    tools/typed_samples.py FOLDER   FOLDER is the crate's, with a src/
 
-A line of the sample has a type, a value, a setting, the bytes that the Rust crate writes, and '=' or the bytes that the rules
-give, all as they stand in Rust. A row is made for each type that the port has. `rt fmt` in the crate lays the rows out. Of what is read read_samples.py
-tells.
+src/rows.rt gets a call for each value of tests/samples/typed_write.txt with its settings, src/kinds.rt an arm for each type of
+typed_read.txt, and src/types/derived.rt the implementations of the types of src/types.rt, by tools/derive.py.
 """
 import os
 import re
+import subprocess
 import sys
 
 sys.dont_write_bytecode = True
+import declarations
 import read_samples
 
-TOP = os.path.join(os.path.dirname(os.path.abspath(__file__)), "..")
-SAMPLE = os.path.join(TOP, "tests", "samples", "typed_write.txt")
-# How many values a function has at most, and how many lines its statements take, about.
-VALUES, LINES = 4, 22
+TOOLS = os.path.dirname(os.path.abspath(__file__))
+# About how many lines the statements of a function take.
+LINES = 22
 
+# Each setting of the sample, and then the form that it is of, where that has another name.
 SETTINGS = {
     "default": "Default",
     "named": "Named",
@@ -30,23 +31,57 @@ SETTINGS = {
     "named,ForceIterables": "NamedForceIterables",
     "named,ForceAll": "NamedForceAll",
 }
-NUMBERS = "u8 u16 u32 u64 usize i8 i16 i32 i64 isize".split()
-# The modules, what they are about, and by which types they are found: the first that fits.
-MODULES = [
-    ("numbers", "Truths and whole numbers.", r"bool|[iu](8|16|32|64|size)"),
-    ("texts", "Bits of floats, characters and texts.", r"f32|f64|char|String|&str"),
-    ("unknown", "Lists and maps of unknown length.", r".*(UnkSeq|UnkMap|KnownSeq).*"),
-    ("values", "Extensions and messages of any kind.", r"Ext|Value|\(Ext, u8\)"),
-    ("bytes", "Bytes.", r".*(ByteBuf|Bytes).*"),
-    ("collections", "Queues, sets and maps.", r"(VecDeque|BTree).*"),
-    ("lists", "Vectors and slices.", r"Vec.*|&\[.*"),
-    ("arrays", "Arrays.", r"\[.*"),
-    ("tuples", "Pointers, tuples and tuple structs.", r".*"),
-]
+FORMS = {"Default": "Plain", "ForceIterables": "Plain", "ForceAll": "Plain", "NamedForceIterables": "Named", "NamedForceAll": "Named"}
+NUMBERS = "u8 u16 u32 u64 u128 usize i8 i16 i32 i64 i128 isize".split()
+# Where the names of types come from. Those of the program's own types are found in src/types.rt.
+HOMES = {
+    "crate::by_hand": "Empty VOpt",
+    "crate::ignored": "Ignored",
+    "rmp_serde": "Raw RawRef Value",
+    "rmp_serde::wire": "ByteBuf Bytes Ext F32Bits F64Bits",
+    "std::collections": "BTreeMap BTreeSet VecDeque",
+    "test_derived": "Dog Four Newtype Opt Two Unit V12",
+    "test_types": "Nested Rose Tree TupleS TupleS0 UnkMap UnkSeq",
+}
+HOME = {name: home for home, names in HOMES.items() for name in names.split()}
+# The fields of those that aren't derived here.
+SHAPES = """
+pub struct Dog { pub name: String, pub age: u16 }
+pub struct Opt { pub v: Option<u8> }
+pub struct Newtype(pub u64);
+pub struct Unit;
+pub struct TupleS(pub u8, pub u16);
+pub struct Rose { pub kids: Vec<Rose> }
+pub struct Empty {}
+pub enum Two { First, Second }
+pub enum V12 { V1, V2(u32, u32) }
+pub enum Four { Unit, New(u8), Tup(u8, u16), Str { a: u8, b: String } }
+pub enum Tree { Leaf(u8), Node(Vec<Tree>) }
+pub enum VOpt { N(Option<u8>), B(ByteBuf), T0() }
+"""
 
 
-class Absent(Exception):
-    """A type that the port doesn't have yet, or the checker doesn't cover."""
+def shapes_of(text):
+    """What stands behind the name of each struct and each variant that is declared: None, or a dict of the fields' types, by names or places."""
+    found = {}
+    bare = re.sub(r"//[^\n]*|#\[[^\]]*\]", "", text)
+    for word, name, at in [(it[1], it[2], it.end()) for it in re.finditer(r"(struct|enum) (\w+)", bare)]:
+        if word == "struct":
+            found[name] = fields_of(bare[at : bare.index(";", at) if bare[at] in "(;" else declarations.closing(bare, bare.index("{", at))])
+            continue
+        body = bare[bare.index("{", at) + 1 : declarations.closing(bare, bare.index("{", at)) - 1]
+        for part in split(body):
+            variant = re.match(r"\w+", part)[0]
+            found[f"{name}::{variant}"] = fields_of(part[len(variant) :])
+    return found
+
+
+def fields_of(body):
+    body = body.strip()
+    parts = [re.sub(r"^pub ", "", part) for part in split(body[1:-1])]
+    if body.startswith("{"):
+        return dict(re.fullmatch(r"(\w+): (.*)", part).groups() for part in parts)
+    return {str(at): part for at, part in enumerate(parts)} if body else None
 
 
 def split(text):
@@ -71,7 +106,7 @@ def split(text):
 
 def inside(text, before, after):
     if not (text.startswith(before) and text.endswith(after)):
-        raise Absent(text)
+        raise ValueError(text)
     return text[len(before) : len(text) - len(after)].strip()
 
 
@@ -116,16 +151,16 @@ def message(value):
         tag, data = split(rest)
         data = bytes(int(part) for part in split(inside(data, "vec![", "]")))
         return b"\xc9" + len(data).to_bytes(4, "big") + int(tag).to_bytes(1, "big", signed=True) + data
-    raise Absent(value)
+    raise ValueError(value)
 
 
 class Body:
     """The statements of a function."""
 
-    def __init__(self):
+    def __init__(self, shapes):
+        self.shapes = shapes
         self.lines = []
         self.names = 0
-        self.uses = set()
 
     def let(self, value, mutable=False, kind=None):
         self.names += 1
@@ -134,25 +169,11 @@ class Body:
         self.lines.append(f"let {'mut ' if mutable else ''}{name}{kind} = {value};")
         return name
 
-    def ours(self, kind):
-        """A type as the port names it."""
-        name, inner = of_generic(kind)
-        if inner:
-            if name in ("VecDeque", "BTreeMap", "BTreeSet"):
-                self.uses.add(f"std::collections::{name}")
-            if name in ("UnkSeq", "UnkMap"):
-                self.uses.add(f"test_types::{name}")
-            if kind == "Option<u8>":
-                self.uses.add("test_types::OptionalByte")
-                return "OptionalByte"
-            return f"{name}<{', '.join(self.ours(k) for k in inner)}>"
-        return kind
-
     def vec(self, kind, value):
         """A `Vec` of this type of element."""
         body = inside(value, "vec![", "]")
         if not body:
-            return self.let("Vec::new(alloc)", kind=f"Vec<{self.ours(kind)}>")
+            return self.let("Vec::new(alloc)", kind=f"Vec<{kind}>")
         item, _, count = body.partition(";")
         if count:
             return f"vec![in alloc; {self.value(kind, item)}; {count.strip()}]?"
@@ -179,9 +200,8 @@ class Body:
         return found
 
     def map_of(self, kinds, value):
-        self.uses.add("std::collections::BTreeMap")
         pairs = self.pairs(kinds, value)
-        of = f"BTreeMap<{', '.join(self.ours(k) for k in kinds)}>"
+        of = f"BTreeMap<{', '.join(k for k in kinds)}>"
         if len(pairs) > 8:
             name = self.let("BTreeMap::new(alloc)", mutable=True, kind=of)
             second = "i" if pairs[2][0] == pairs[2][1] else pairs[2][1]
@@ -193,46 +213,36 @@ class Body:
         return name
 
     def filled(self, name, kind, parts, call):
-        self.uses.add(f"std::collections::{name}")
-        made = self.let(f"{name}::new(alloc)", mutable=bool(parts), kind=f"{name}<{self.ours(kind)}>")
+        made = self.let(f"{name}::new(alloc)", mutable=bool(parts), kind=f"{name}<{kind}>")
         for part in parts:
             self.lines.append(f"{made}.{call}({self.value(kind, part)})?;")
         return made
 
     def ext(self, value):
-        self.uses.add("rmp_serde::wire::Ext")
         tag, data = split(inside(value, "ext(", ")"))
         return f"Ext::new({tag}, {self.vec('u8', 'vec!' + inside(data, '&', ''))})"
 
     def any_value(self, value):
-        self.uses.update(["rmp_serde::Value", "rmp_serde::from_slice"])
         wide = ", ".join(f"0x{b:02x}" for b in spelled(message(value)))
         return self.let(f"from_slice(alloc, &[{wide}])?", kind="Value")
 
     def value(self, kind, value):
         """An expression for a value of a type."""
         if kind in NUMBERS:
-            return f"{int(value)}{kind}"
+            return f"{int(value, 0)}{kind}"
         if kind in ("bool", "char", "&str", "()"):
             return value
         if kind in ("f32", "f64"):
-            bits = kind.upper() + "Bits"
-            self.uses.add(f"rmp_serde::wire::{bits}")
-            return f"{bits}({inside(value, kind + '::from_bits(', ')')})"
+            return f"{kind.upper()}Bits({inside(value, kind + '::from_bits(', ')')})"
         if kind == "String":
             return f"String::from_str(alloc, {text_of(value)})?"
         if kind == "Ext":
             return self.ext(value)
         if kind == "Value":
             return self.any_value(value)
-        if kind == "TupleS":
-            self.uses.add("test_types::TupleS")
-            return value
-        if kind == "NewU8":
-            self.uses.add("test_types::NewU8")
-            return value
-        if kind == "Option<u8>":
-            return f"{self.ours(kind)}({value})"
+        if kind == "Raw":
+            name, _, rest = value[:-1].partition("(")
+            return f"{name}({self.value('Vec<u8>' if rest.startswith('vec!') else 'String', rest)})"
         if kind.startswith("(") and kind.endswith(")"):
             kinds, parts = split(kind[1:-1]), split(value[1:-1])
             made = [self.value(k, p) for k, p in zip(kinds, parts, strict=True)]
@@ -246,17 +256,18 @@ class Body:
 
     def of_name(self, kind, value):
         if kind == "&Bytes":
-            self.uses.add("rmp_serde::wire::Bytes")
             return f"Bytes::new(&{self.slice('u8', inside(value, 'Bytes::new(&', ')'))})"
         if kind == "ByteBuf":
-            self.uses.add("rmp_serde::wire::ByteBuf")
             return f"ByteBuf::new({self.vec('u8', inside(value, 'ByteBuf::from(', ')'))})"
         if kind.startswith("&["):
             made = self.slice(kind[2:-1], inside(value, "&", ""))
             return f"{self.let(made, kind=f'[{kind[2:-1]}; 0]') if made == '[]' else made}.as_slice()"
         if kind.startswith("&"):
-            return f"&{self.value(kind[1:], inside(value, '&', ''))}"
+            inner = self.value(kind[1:], inside(value, "&", ""))
+            return f"&{self.let(inner) if inner.startswith('&') else inner}"
         name, inner = of_generic(kind)
+        if name == "Option":
+            return self.let("None", kind=kind) if value == "None" else f"Some({self.value(inner[0], inside(value, 'Some(', ')'))})"
         if name == "Box":
             return f"Box::new(alloc, {self.value(inner[0], inside(value, 'Box::new(', ')'))})?"
         if name == "Vec":
@@ -272,12 +283,27 @@ class Body:
             body = value if value.startswith("(0..") else inside(value, "BTreeMap::from(", ")")
             return self.map_of(inner, body)
         if name == "UnkSeq":
-            self.uses.add("test_types::UnkSeq")
             return f"UnkSeq {{ items: {self.vec(inner[0], inside(value, 'UnkSeq(', ')'))} }}"
         if name == "UnkMap":
-            self.uses.add("test_types::UnkMap")
             return f"UnkMap {{ entries: {self.map_of(inner, inside(value, 'UnkMap(', ')'))} }}"
-        raise Absent(kind)
+        return self.of_shape(kind, value)
+
+    def of_shape(self, kind, value):
+        """A struct or a variant, whose fields' types are known."""
+        if value.startswith("dog("):
+            name, age = split(inside(value, "dog(", ")"))
+            value = f"Dog {{ name: {name if name.startswith('s(') else f's({name})'}, age: {age} }}"
+        name = re.match(r"[\w:]+", value)[0]
+        if not (name == kind or name.startswith(f"{kind}::")):
+            raise ValueError(f"{value} of the type {kind}")
+        shape, rest = self.shapes[name], value[len(name) :].strip()
+        if not shape:
+            return value
+        if rest.startswith("{"):
+            parts = dict(part.split(": ", 1) for part in split(rest[1:-1]))
+            return f"{name} {{ {', '.join(f'{field}: {self.value(shape[field], part)}' for field, part in parts.items())} }}"
+        parts = [self.value(shape[str(at)], part) for at, part in enumerate(split(rest[1:-1]))]
+        return f"{name}({', '.join(parts)})"
 
 
 def text_of(value):
@@ -289,30 +315,16 @@ def quoted(text):
     return '"' + text.replace("\\", "\\\\").replace('"', '\\"') + '"'
 
 
-def sample():
-    """Type, value, and the settings with the bytes that the rules give, for values in the order of the sample."""
-    found = []
-    with open(SAMPLE, encoding="utf-8") as lines:
-        for line in lines:
-            if line.startswith("#"):
-                continue
-            kind, value, setting, wrote, rules = line.rstrip("\n").split(" | ")
-            if not found or found[-1][:2] != (kind, value):
-                found.append((kind, value, []))
-            found[-1][2].append((setting, wrote if rules == "=" else rules))
-    return found
-
-
-def statements(kind, value, rows):
-    body = Body()
-    call = "add"
-    if kind.startswith("Vec<&&"):
-        # The list is made where its elements are references to a type parameter: the checker doesn't follow it otherwise.
-        call, made = "add_lent", body.value(kind[5:-1], inside(value, "vec![&", "]"))
-    else:
-        made = body.value(kind, value)
-    settings = ", ".join(f"Setting::{SETTINGS[setting]}" for setting, _ in rows)
-    body.lines.append(f"rows.{call}({quoted(kind)}, {quoted(value)}, &[{settings}], &{made})?;")
+def statements(kind, value, rows, shapes):
+    body = Body(shapes)
+    made = body.value(kind, value)
+    name = made if re.fullmatch(r"value_\d+", made) else body.let(made, kind=kind if kind.startswith("Option") else None)
+    settings = [SETTINGS[setting] for setting, _ in rows]
+    for form in dict.fromkeys(FORMS.get(setting, setting) for setting in settings):
+        of = ", ".join(f"Setting::{setting}" for setting in settings if FORMS.get(setting, setting) == form)
+        body.lines.append(f"rows.add::<{form}, _>({quoted(kind)}, {quoted(value)}, &[{of}], &{name})?;")
+    if "Default" in settings:
+        body.lines.append(f"rows.fill(&{name})?;")
     return body
 
 
@@ -321,66 +333,53 @@ def renamed(lines, names):
     return [re.sub(r"\bvalue_(\d+)\b", lambda m: f"value_{int(m[1]) + names}", line) for line in lines]
 
 
-def module(about, bodies):
-    """The text of a module, whose functions have a few values each."""
-    functions, current, values, names = [], [], 0, 0
-    for body in bodies:
-        weight = sum(2 + len(line) // 90 for line in current + body.lines)
-        if current and (values >= VALUES or weight > LINES):
+def module(about, uses, lines, own):
+    """The text of a module, which brings in those names of types that stand in its lines."""
+    words = set(re.findall(r"\w+", "\n".join(re.sub(r'"(?:[^"\\\\]|\\\\.)*"', "", line) for line in lines)))
+    homes = {**HOME, **{name: "crate::types" for name in own}}
+    uses = uses + [f"{homes[word]}::{word}" for word in words & set(homes)]
+    return "\n".join([f"//! {about} Written by tools/typed_samples.py.", *(f"use {it};" for it in sorted(uses)), "", *lines]) + "\n"
+
+
+def rows_module(shapes, own):
+    functions, current, names = [], [], 0
+    for kind, value, rows in read_samples.written():
+        body = statements(kind, value, rows, shapes)
+        if current and sum(2 + len(line) // 90 for line in current + body.lines) > LINES:
             functions.append(current)
-            current, values, names = [], 0, 0
+            current, names = [], 0
         current = current + renamed(body.lines, names)
-        values, names = values + 1, names + body.names
+        names += body.names
     functions.append(current)
-    uses = set().union(*(body.uses for body in bodies)) | {"crate::fault::Fault", "crate::row::Rows", "crate::row::Setting"}
-    if any("alloc" in line for lines in functions for line in lines):
-        uses.add("std::alloc::Global")
-    text = [f"//! {about} Written by tools/typed_samples.py.", *(f"use {use};" for use in sorted(uses)), ""]
-    calls = []
-    for i, lines in enumerate(functions, 1):
-        allocates = any("alloc" in line for line in lines)
-        calls.append(f"rows_{i}({'alloc, ' if allocates else ''}rows)?;")
-        text += [f"fn rows_{i}({'alloc: Global, ' if allocates else ''}rows: &mut Rows) -> Result<(), Fault> {{", *lines, "Ok(())", "}", ""]
-    allocates = any("alloc" in call for call in calls)
-    text += [f"/// {about}", f"pub fn all({'alloc: Global, ' if allocates else ''}rows: &mut Rows) -> Result<(), Fault> {{", *calls, "Ok(())", "}"]
-    return "\n".join(text) + "\n", allocates
+    lines, calls = [], []
+    for i, statements_of in enumerate(functions, 1):
+        lines += [f"fn rows_{i}(alloc: Global, rows: &mut Rows) -> Result<(), Fault> {{", "let _ = alloc;", *statements_of, "Ok(())", "}", ""]
+        calls.append(f"rows_{i}(alloc, rows)?;")
+    lines += ["/// Adds each row.", "pub fn all(alloc: Global, rows: &mut Rows) -> Result<(), Fault> {", *calls, "Ok(())", "}"]
+    uses = ["crate::fault::Fault", "crate::form::Human", "crate::form::Named", "crate::form::NamedTuple", "crate::form::Plain",
+            "crate::form::TupleNamed", "crate::row::Rows", "crate::row::Setting", "rmp_serde::from_slice", "std::alloc::Global"]
+    return module("The rows of the sample.", uses, lines, own)
+
+
+def kinds_module(own):
+    lines = ["/// Reads the bytes as the type of this name, and says what came of it.",
+             "pub fn read(alloc: Global, kind: &str, bytes: &[u8], how: How) -> Result<Answer, Fault> {", "match kind {"]
+    lines += [f'"{kind}" => row::<{kind}>(alloc, bytes, how),' for kind in read_samples.kinds()]
+    lines += ["_ => Err(Fault::NoType),", "}", "}"]
+    uses = ["crate::answer::Answer", "crate::answer::How", "crate::answer::row", "crate::fault::Fault", "std::alloc::Global"]
+    return module("The types that are read, by their names in the sample.", uses, lines, own)
 
 
 def main():
-    bodies = {name: [] for name, _, _ in MODULES}
-    printed = {name: [] for name, _, _ in MODULES}
-    absent = 0
-    for kind, value, rows in sample():
-        try:
-            body = statements(kind, value, rows)
-        except Absent:
-            absent += len(rows)
-            continue
-        name = next(name for name, _, pattern in MODULES if re.fullmatch(pattern, kind))
-        bodies[name].append(body)
-        printed[name] += [f"{kind} | {value} | {setting} | {wrote}\n" for setting, wrote in rows]
-    crate = os.path.join(sys.argv[1] if len(sys.argv) > 1 else TOP, "crates", "test_samples")
-    folder = os.path.join(crate, "src", "rows")
-    os.makedirs(folder, exist_ok=True)
-    calls = []
-    for name, about, _ in MODULES:
-        text, allocates = module(about, bodies[name])
-        calls.append(f"{name}::all({'alloc, ' if allocates else ''}rows)?;")
-        with open(os.path.join(folder, f"{name}.rt"), "w", encoding="utf-8") as file:
+    crate = sys.argv[1]
+    sources = os.path.join(crate, "src")
+    with open(os.path.join(sources, "types.rt"), encoding="utf-8") as file:
+        derived = shapes_of(file.read())
+    own = {name.partition("::")[0] for name in derived}
+    for name, text in [("rows", rows_module({**shapes_of(SHAPES), **derived}, own)), ("kinds", kinds_module(own))]:
+        with open(os.path.join(sources, f"{name}.rt"), "w", encoding="utf-8") as file:
             file.write(text)
-    names = sorted(name for name, _, _ in MODULES)
-    text = ["//! The rows of the sample. Written by tools/typed_samples.py.", *(f"mod {name};" for name in names), ""]
-    text += ["use crate::fault::Fault;", "use crate::row::Rows;", "use std::alloc::Global;", ""]
-    text += ["/// Adds each row.", "pub fn all(alloc: Global, rows: &mut Rows) -> Result<(), Fault> {", *calls, "Ok(())", "}"]
-    with open(os.path.join(crate, "src", "rows.rt"), "w", encoding="utf-8") as file:
-        file.write("\n".join(text) + "\n")
-    lines = [line for name, _, _ in MODULES for line in printed[name]]
-    asked, answered = read_samples.asked_and_answered()
-    with open(os.path.join(crate, "stdin"), "w", encoding="utf-8") as file:
-        file.writelines(asked)
-    with open(os.path.join(crate, "stdout"), "w", encoding="utf-8") as file:
-        file.writelines(lines + answered)
-    print(f"{len(lines)} rows are written, and {absent} of the sample left out; {len(answered)} are read", file=sys.stderr)
+    subprocess.run([sys.executable, os.path.join(TOOLS, "derive.py"), crate, "types.rt"], check=True)
 
 
 if __name__ == "__main__":

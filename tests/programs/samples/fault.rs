@@ -1,12 +1,10 @@
-//! Why the samples weren't gone through to their end.
-ghost use Rattle.std.specs.Prelude.{◌≡◌};
-
+//! What is wrong with an answer, or why there is none.
 use rmp_serde::{decode, encode};
 use std::alloc::{AllocError, AllocFailed};
 use std::io;
 use thiserror::Error;
 
-/// Why the samples weren't gone through to their end.
+/// What is wrong with an answer, or why there is none.
 #[derive(Clone, Copy, Debug, Error)]
 pub enum Fault {
     #[error("a value was refused")]
@@ -16,8 +14,14 @@ pub enum Fault {
     Read,
     #[error("what was written isn't written again")]
     Again,
-    #[error("a source that drips or fails has another answer")]
-    Drip,
+    #[error("a reader or a cursor has another answer, or reads on")]
+    Reader,
+    #[error("a pull that fails has another answer")]
+    Pull,
+    #[error("a put that fails leaves something else")]
+    Put,
+    #[error("a strict read has another answer")]
+    Strict,
     #[error("a line has no type and bytes in hex")]
     NoRow,
     #[error("a line has a type that isn't read")]
@@ -29,10 +33,6 @@ pub enum Fault {
 }
 
 impl From<encode::Error> for Fault {
-    ghost use Rattle.test_samples.specs.Faults.{fault_of};
-
-    ghost from_gives = { λ e fault. fault ≡ fault_of e };
-
     fn from(e: encode::Error) -> Fault {
         match e {
             encode::Error::OutOfMemory => Fault::Memory,
@@ -51,30 +51,18 @@ impl From<decode::Error> for Fault {
 }
 
 impl From<io::Error> for Fault {
-    ghost use Rattle.test_samples.specs.declared.fault.Fault.TheVariants.{Io};
-
-    ghost from_gives = { λ _ fault. fault ≡ Io };
-
     fn from(_e: io::Error) -> Fault {
         Fault::Io
     }
 }
 
 impl From<AllocError> for Fault {
-    ghost use Rattle.test_samples.specs.declared.fault.Fault.TheVariants.{Memory};
-
-    ghost from_gives = { λ _ fault. fault ≡ Memory };
-
     fn from(_e: AllocError) -> Fault {
         Fault::Memory
     }
 }
 
 impl<T: Drop> From<AllocFailed<T>> for Fault {
-    ghost use Rattle.test_samples.specs.declared.fault.Fault.TheVariants.{Memory};
-
-    ghost from_gives = { λ _ fault. fault ≡ Memory };
-
     fn from(_e: AllocFailed<T>) -> Fault {
         Fault::Memory
     }

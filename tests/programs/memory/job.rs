@@ -1,6 +1,4 @@
 //! The jobs, and why one isn't done.
-ghost use Rattle.std.specs.Prelude.{◌≡◌};
-
 use crate::through::{Reading, Writing};
 use std::alloc::{AllocError, AllocFailed};
 use std::io;
@@ -19,30 +17,18 @@ pub enum Fault {
 }
 
 impl From<io::Error> for Fault {
-    ghost use Rattle.test_memory.specs.declared.job.Fault.TheVariants.{Io};
-
-    ghost from_gives = { λ _ fault. fault ≡ Io };
-
     fn from(_e: io::Error) -> Fault {
         Fault::Io
     }
 }
 
 impl From<AllocError> for Fault {
-    ghost use Rattle.test_memory.specs.declared.job.Fault.TheVariants.{Memory};
-
-    ghost from_gives = { λ _ fault. fault ≡ Memory };
-
     fn from(_e: AllocError) -> Fault {
         Fault::Memory
     }
 }
 
 impl<T: Drop> From<AllocFailed<T>> for Fault {
-    ghost use Rattle.test_memory.specs.declared.job.Fault.TheVariants.{Memory};
-
-    ghost from_gives = { λ _ fault. fault ≡ Memory };
-
     fn from(_e: AllocFailed<T>) -> Fault {
         Fault::Memory
     }

@@ -1,4 +1,4 @@
-//! `test_memory` does a job that needs memory, and prints what came of it.
+//! `memory` does a job that needs memory, and prints what came of it.
 //!
 //! Standard input has the name of the job, and how many allocations are to come before it, so that any allocation of the job
 //! can be made the one that fails. The exit status is 0, or 1 where the job wasn't begun or the output failed.

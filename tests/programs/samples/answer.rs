@@ -1,0 +1,204 @@
+//! What came of a read, as the sample says it, in each way in which bytes are read: from a slice, from a cursor and a byte a pull,
+//! strictly and not.
+use crate::fault::Fault;
+use crate::given::Given;
+use faulty_io::Drip;
+use rmp_serde::decode::{Deserialize, Error, Text};
+use rmp_serde::encode::{Serialize, to_vec};
+use rmp_serde::wire::{ReadReader, ReadRefReader, ReadSlice};
+use rmp_serde::{Canon, Deserializer, check_canonical};
+use std::alloc::Global;
+use std::io::Cursor;
+
+/// How bytes are read: how deep values nest at most, where it isn't as ever, and how many pulls are failed in turn.
+#[derive(Clone, Copy)]
+pub struct How {
+    pub depth: Option<usize>,
+    pub pulls: usize,
+}
+
+/// What bytes are read as: from a slice, and from a reader, with how many bytes that took.
+#[derive(Drop)]
+pub struct Answer {
+    pub slice: String,
+    pub reader: String,
+}
+
+// The name of an error's variant, and what it holds but for causes.
+fn refused(alloc: Global, error: &Error) -> Result<String, Fault> {
+    let said = match error {
+        Error::InvalidMarkerRead(_) => String::from_str(alloc, "Err InvalidMarkerRead"),
+        Error::InvalidDataRead(_) => String::from_str(alloc, "Err InvalidDataRead"),
+        Error::TypeMismatch(marker) => format!(in alloc; "Err TypeMismatch({marker:?})"),
+        Error::OutOfRange => String::from_str(alloc, "Err OutOfRange"),
+        Error::LengthMismatch(n) => format!(in alloc; "Err LengthMismatch({n})"),
+        Error::Uncategorized(text) => format!(in alloc; "Err Uncategorized({text})"),
+        Error::Syntax(text) => format!(in alloc; "Err Syntax({text})"),
+        Error::Utf8Error(_) => String::from_str(alloc, "Err Utf8Error"),
+        Error::DepthLimitExceeded => String::from_str(alloc, "Err DepthLimitExceeded"),
+        Error::OutOfMemory => return Err(Fault::Memory),
+        Error::NotCanonical => String::from_str(alloc, "Err NotCanonical"),
+    };
+    Ok(said?)
+}
+
+// The value's own spelling, or the refusal.
+#[inline(never)]
+fn said<T: Serialize + Drop>(alloc: Global, read: Result<T, Error>) -> Result<String, Fault> {
+    match read {
+        Ok(value) => {
+            let written = to_vec(alloc, &value)?;
+            let digits = hex::encode(alloc, written.as_slice())?;
+            Ok(format!(in alloc; "Ok {digits}")?)
+        }
+        Err(error) => refused(alloc, &error),
+    }
+}
+
+// Whether a reader that has refused something fails from then on.
+fn is_failed<'de, R: ReadSlice<'de>>(de: &mut Deserializer<R>) -> bool {
+    let next = de.deserialize_bool();
+    let last = de.deserialize_ignored_any();
+    matches!(&next, Err(Error::Uncategorized(Text::FailedBefore)))
+        && matches!(&last, Err(Error::Uncategorized(Text::FailedBefore)))
+}
+
+// The value's own spelling, or the refusal, after which the reader has failed for good.
+#[inline(never)]
+fn told<'de, R: ReadSlice<'de>, T: Deserialize<'de, R> + Serialize>(
+    alloc: Global,
+    de: &mut Deserializer<R>,
+    how: How,
+    strict: bool,
+) -> Result<String, Fault> {
+    de.set_strict(strict);
+    if let Some(depth) = how.depth {
+        de.set_max_depth(depth);
+    }
+    let read: Result<T, Error> = Deserialize::deserialize(de);
+    if read.is_err() && !is_failed(de) {
+        return Err(Fault::Reader);
+    }
+    said(alloc, read)
+}
+
+// The answer, with how many bytes a reader took for a value.
+fn with_taken(alloc: Global, answer: String, taken: u64) -> Result<String, Fault> {
+    if answer.as_str().starts_with("Ok") {
+        return Ok(format!(in alloc; "{answer} taken {taken}")?);
+    }
+    Ok(answer)
+}
+
+#[inline(never)]
+fn from_bytes<'de, T: Deserialize<'de, ReadRefReader<'de>> + Serialize>(
+    alloc: Global,
+    bytes: &'de [u8],
+    how: How,
+    strict: bool,
+) -> Result<String, Fault> {
+    let mut de = Deserializer::from_read_ref(alloc, bytes);
+    told::<_, T>(alloc, &mut de, how, strict)
+}
+
+// What comes of a source, with how many bytes it took for a value, and how many faults the source had.
+#[inline(never)]
+fn from_source<'de, T: Deserialize<'de, ReadReader<Given<'de>>> + Serialize>(
+    alloc: Global,
+    source: Given<'de>,
+    len: usize,
+    how: How,
+    strict: bool,
+) -> Result<(String, u64), Fault> {
+    let mut de = Deserializer::new(alloc, source);
+    let answer = told::<_, T>(alloc, &mut de, how, strict)?;
+    let (taken, faults) = de.into_inner().taken(len);
+    Ok((with_taken(alloc, answer, taken)?, faults))
+}
+
+// The same of one that gives a byte a pull and fails after so many.
+fn dripped<'de, T: Deserialize<'de, ReadReader<Given<'de>>> + Serialize>(
+    alloc: Global,
+    bytes: &'de [u8],
+    pulls: usize,
+    how: How,
+    strict: bool,
+) -> Result<(String, u64), Fault> {
+    let source = Given::Drip(Drip::new(bytes, pulls));
+    from_source::<T>(alloc, source, bytes.len(), how, strict)
+}
+
+// Whether an answer tells of a fault of the source, or of its end.
+fn tells_of_the_source(answer: &str) -> bool {
+    answer == "Err InvalidMarkerRead" || answer == "Err InvalidDataRead"
+}
+
+// Fails each of the first pulls of a source in turn: the read then tells of the source, and the fault is the only one. The first source
+// that is pulled often enough gives the answer.
+#[inline(never)]
+fn each_pull_failed<'de, T: Deserialize<'de, ReadReader<Given<'de>>> + Serialize>(
+    alloc: Global,
+    bytes: &'de [u8],
+    how: How,
+    strict: bool,
+    answer: &str,
+) -> Result<(), Fault> {
+    for pulls in 0..how.pulls.min(bytes.len()) {
+        let (failed, faults) = dripped::<T>(alloc, bytes, pulls, how, strict)?;
+        if faults == 0 {
+            return if failed.as_str() == answer {
+                Ok(())
+            } else {
+                Err(Fault::Pull)
+            };
+        }
+        if faults != 1 || !tells_of_the_source(failed.as_str()) {
+            return Err(Fault::Pull);
+        }
+    }
+    Ok(())
+}
+
+// What the bytes are read as in each way, strictly or not.
+#[inline(never)]
+fn ways<'de, T>(alloc: Global, bytes: &'de [u8], how: How, strict: bool) -> Result<Answer, Fault>
+where
+    T: Deserialize<'de, ReadRefReader<'de>> + Deserialize<'de, ReadReader<Given<'de>>> + Serialize,
+{
+    let slice = from_bytes::<T>(alloc, bytes, how, strict)?;
+    let source = Given::Cursor(Cursor::new(bytes));
+    let (reader, _) = from_source::<T>(alloc, source, bytes.len(), how, strict)?;
+    let (drip, faults) = dripped::<T>(alloc, bytes, usize::MAX, how, strict)?;
+    if faults != 0 || drip.as_str() != reader.as_str() {
+        return Err(Fault::Reader);
+    }
+    each_pull_failed::<T>(alloc, bytes, how, strict, reader.as_str())?;
+    Ok(Answer { slice, reader })
+}
+
+// Whether a strict read answers as it has to: as any other where no head is at fault, and else with the refusal of a head, or as any
+// other where that one refuses too.
+fn is_strict(alloc: Global, bytes: &[u8], answer: &str, strict: &str) -> bool {
+    match check_canonical(alloc, bytes) {
+        Ok(Canon::Fault(_)) => {
+            strict == "Err NotCanonical" || answer.starts_with("Err") && strict == answer
+        }
+        _ => strict == answer,
+    }
+}
+
+/// Reads the bytes as a value of this type, and gives the value's own spelling, or the refusal. Each way to read them has the same
+/// answer, and each pull that fails is told of.
+pub fn row<'de, T>(alloc: Global, bytes: &'de [u8], how: How) -> Result<Answer, Fault>
+where
+    T: Deserialize<'de, ReadRefReader<'de>> + Deserialize<'de, ReadReader<Given<'de>>> + Serialize,
+{
+    let answer = ways::<T>(alloc, bytes, how, false)?;
+    let strict = ways::<T>(alloc, bytes, how, true)?;
+    if !is_strict(alloc, bytes, answer.slice.as_str(), strict.slice.as_str())
+        || !is_strict(alloc, bytes, answer.reader.as_str(), strict.reader.as_str())
+    {
+        return Err(Fault::Strict);
+    }
+    Ok(answer)
+}
