@@ -11,6 +11,8 @@ mod raw;
 #[cfg(test)]
 mod reads;
 #[cfg(test)]
+mod text;
+#[cfg(test)]
 mod values;
 
 pub use own_type::{Named, Point};
