@@ -1,5 +1,5 @@
 -- A line in which no spaces and tabs stand.
-use Rattle.std.proofs.Common.{rules, ◌≡◌, ◌∙◌, refl, sym, ap, ℕ, Bool, true, false, nat_eq, List, [], ◌∷◌}
+use Rattle.std.proofs.Common.{rules, ◌≡◌, refl, ap, ℕ, Bool, true, false, nat_eq, List, [], ◌∷◌}
 use Rattle.std.specs.Prelude.{◌||◌, not, filter}
 use Rattle.std.specs.List.{list_any}
 use Rattle.canon_lines.specs.Lines.{is_blank}

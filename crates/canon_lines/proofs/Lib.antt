@@ -2,12 +2,10 @@ pub mod Arguments
 pub mod Blanks
 pub mod Checked
 pub mod Early
-pub mod LeafTexts
 pub mod MessageReads
 pub mod OneCheck
 pub mod OneOutput
 pub mod OneRefusal
-pub mod OpenTexts
 pub mod Printing
 pub mod Reading
 pub mod Shown

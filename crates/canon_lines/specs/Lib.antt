@@ -2,9 +2,7 @@ pub mod Checks
 pub mod Input
 pub mod Lines
 pub mod Messages
-pub mod OpenParts
 pub mod Output
 pub mod Prints
 pub mod Refusals
 pub mod Status
-pub mod TreeText

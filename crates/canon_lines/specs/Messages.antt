@@ -18,7 +18,7 @@ use Rattle.rmp_decode.specs.declared.error.Error.TheVariants.{
   OutOfMemory,
   NotCanonical,
 }
-use Rattle.canon_lines.specs.TreeText.{tree_text}
+use Rattle.rmp_serde.specs.TreeText.{tree_text}
 
 -- a message's tree, and its canonical spelling in hex
 abbrev pub message_text : Msg → List ℕ

@@ -7,6 +7,5 @@ pub mod laws;
 mod lines;
 pub mod run;
 pub mod task;
-mod tree_text;
 
 pub use lines::RunFault;

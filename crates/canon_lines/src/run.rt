@@ -1,5 +1,6 @@
 //! The engine: lines of hex in, lines of text out.
-ghost use Rattle.std.specs.Prelude.{◌≡◌, IfOk, IfErr, IfSome, string_bytes};
+ghost use Rattle.std.specs.Prelude.{◌≡◌, ◌++◌, IfOk, IfErr, IfSome, OnOk, string_bytes};
+ghost use Rattle.hex.specs.Hex.{encode_lower};
 ghost use Rattle.canon_lines.specs.Input.{ReadsInput};
 ghost use Rattle.canon_lines.specs.Lines.{lines_in};
 ghost use Rattle.canon_lines.specs.Messages.{message_text};
@@ -7,11 +8,10 @@ ghost use Rattle.canon_lines.specs.Output.{PrintsLines, PrintsRun};
 ghost use Rattle.canon_lines.specs.Prints.{PrintsMessages, StartsMessages, PrintsAll, StartsAll, Puts};
 
 use crate::lines::{self, RunFault, Shows, print_line, refuse_message};
-use crate::tree_text::{write_hex, write_tree};
 use rmp_decode::Deserializer;
 use rmp_serde::wire::{Sink, Source};
 use rmp_serde::{Value, to_vec};
-use std::alloc::Global;
+use std::alloc::{AllocError, Global};
 
 // A text has room for so many bytes from the start, so that short ones aren't moved.
 const SHORT_TEXT: usize = 128;
@@ -22,14 +22,21 @@ fn text_of(alloc: Global, value: &Value) -> Result<String, RunFault>
     ensures memory { IfErr result (λ fault. fault ≡ RunFault.Memory) }
 {
     let mut text = String::with_capacity(alloc, SHORT_TEXT)?;
-    write_tree(alloc, &mut text, value.root())?;
-    text.push_str(" ")?;
+    write!(text, "{value:?} ")?;
     // What has been read nests within the writer's limit, so that only memory can be wanting.
     let Ok(canonical) = to_vec(alloc, value) else {
         return Err(RunFault::Memory);
     };
     write_hex(alloc, &mut text, canonical.as_slice())?;
     Ok(text)
+}
+
+// Appends bytes in hex, in lower case.
+fn write_hex(alloc: Global, text: &mut String, bytes: &[u8]) -> Result<(), AllocError>
+    ensures { OnOk result (string_bytes text.new ≡ string_bytes text.old ++ encode_lower bytes.now) }
+{
+    let digits = hex::encode(alloc, bytes)?;
+    text.push_str(digits.as_str())
 }
 
 // The same of a message that isn't needed any more.

@@ -16,6 +16,7 @@ pub mod EqualLaws
 pub mod Flat
 pub mod LeafRounds
 pub mod MapRounds
+pub mod OpenParts
 pub mod PairsLeft
 pub mod Parts
 pub mod PartsLeft
@@ -30,6 +31,7 @@ pub mod Rounds
 pub mod Short
 pub mod StructRounds
 pub mod Tokens
+pub mod TreeText
 pub mod TreeWrites
 pub mod ValueData
 pub mod ValueLowers

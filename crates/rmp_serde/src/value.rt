@@ -4,6 +4,7 @@ pub(crate) mod flat;
 mod kind;
 mod read;
 mod reference;
+mod text;
 mod write;
 
 ghost use Rattle.std.specs.Prelude.{◌≡◌, ◌≤◌, ◌+◌, length, ◌∷◌};

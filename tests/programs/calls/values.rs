@@ -5,3 +5,4 @@ mod own_types;
 mod parts;
 mod raw;
 mod reads;
+mod text;

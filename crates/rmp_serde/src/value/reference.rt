@@ -15,6 +15,7 @@ use crate::value::flat::Node;
 use crate::value::{Kind, Value};
 pub use pairs::Pairs;
 pub use parts::Parts;
+use std::alloc::Global;
 use std::str;
 
 /// A part of a tree, or the whole.
@@ -39,7 +40,7 @@ impl Value {
 impl<'a> ValueRef<'a> {
     // Its first node, which is that of its head.
     #[inline(always)]
-    fn node(self) -> Node
+    pub(super) fn node(self) -> Node
         ensures head { head_in result ≡ head_of (tree self.entry) }
     {
         let value = self.value;
@@ -47,12 +48,18 @@ impl<'a> ValueRef<'a> {
     }
 
     // The content of a text, of bytes or of an extension.
-    fn content(self) -> &'a [u8]
+    pub(super) fn content(self) -> &'a [u8]
         ensures content { result.now ≡ content_of (tree self.entry) }
         ensures utf8 { IfSome (text_of (tree self.entry)) IsUtf8 }
     {
         let value = self.value;
         value.parts.content(value.parts.node(value.root, self.at))
+    }
+
+    // What the value's own memory comes from.
+    pub(super) fn alloc(self) -> Global {
+        let value = self.value;
+        *value.parts.nodes.allocator()
     }
 
     // The message that is so far behind the head of a list or a map.

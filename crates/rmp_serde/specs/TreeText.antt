@@ -4,7 +4,7 @@ use Rattle.std.specs.Fmt.{signed_decimal}
 use Rattle.std.specs.List.{join_with_byte}
 use Rattle.std.specs.Int.{to_be_bytes, w32, w64}
 use Rattle.hex.specs.Hex.{encode_lower}
-use Rattle.rmp_serde.specs.Msg.{Msg, nil, truth, whole, float32, float64, text, bin, list, map, extension, Msgs, no_items, item, Pairs, no_pairs, pair}
+use Rattle.rmp_wire.specs.Msg.{Msg, nil, truth, whole, float32, float64, text, bin, list, map, extension, Msgs, no_items, item, Pairs, no_pairs, pair}
 
 -- texts in a row, with a comma between each two
 abbrev pub with_commas : List (List ℕ) → List ℕ

@@ -1,7 +1,10 @@
 -- The text of lists and maps that are printed part by part.
-use Rattle.std.proofs.Common.{rules, arith, ◌≡◌, ℕ, suc, ◌+◌, ◌*◌, ◌<◌, List, [], ◌∷◌, ◌++◌, length, refl, sym, ap, ◌∙◌, append-nil, append_assoc}
+use Rattle.std.proofs.Common.{rules, arith, ◌≡◌, ◌≢◌, ℕ, suc, ◌+◌, ◌*◌, ◌<◌, List, [], ◌∷◌, ◌++◌, length, refl, sym, ap, ◌∙◌, append-nil, append_assoc}
 use Rattle.std.specs.Prelude.{codes, Bool, true, false}
+use Rattle.std.proofs.Output.{has_written_append}
 use Rattle.std.proofs.lemmas.List.{length-append}
+use Rattle.std.specs.Fmt.{HasWritten}
+use Rattle.std.specs.declared.fmt.Formatter.{Formatter}
 use Rattle.rmp_serde.specs.declared.value.kind.Kind.TheVariants.{List as ListKind, Map as MapKind}
 use Rattle.rmp_wire.specs.Msg.{
   Msg,
@@ -23,13 +26,14 @@ use Rattle.rmp_wire.specs.Msg.{
   pair,
   items_of,
 }
-use Rattle.rmp_serde.specs.Parts.{kind_of, parts_in_turn}
+use Rattle.rmp_wire.specs.Spelling.{head_of}
+use Rattle.rmp_serde.specs.Parts.{kind_of, content_of, parts_in_turn}
 use Rattle.rmp_serde.specs.PartsLeft.{parts_left}
 use Rattle.rmp_serde.specs.Tokens.{tokens, tokens_all, tokens_pairs, flat_pairs}
-use Rattle.canon_lines.specs.declared.tree_text.Open.{Open}
-use Rattle.canon_lines.specs.declared.tree_text.Sign.TheVariants.{Nothing, Comma}
-use Rattle.canon_lines.specs.OpenParts.{sign_text, next_sign, bracket_of, text_left, texts_left, heads_in, turns_left}
-use Rattle.canon_lines.specs.TreeText.{tree_text, with_commas, item_texts, pair_texts}
+use Rattle.rmp_serde.specs.declared.value.text.Open.{Open}
+use Rattle.rmp_serde.specs.declared.value.text.Sign.TheVariants.{Nothing, Comma}
+use Rattle.rmp_serde.specs.OpenParts.{head_text, sign_text, next_sign, bracket_of, text_left, texts_left, heads_among, turns_left, WritesToward}
+use Rattle.rmp_serde.specs.TreeText.{tree_text, with_commas, item_texts, pair_texts}
 
 -- ---- the innermost stands last
 
@@ -40,7 +44,7 @@ texts_push (x ∷ os) o =
     let first = text_left x.is_map x.sign (parts_left x.parts) in
     ap (λ s. s ++ first) (texts_push os o) ∙ append_assoc last (texts_left os) first
 
-pub turns_push : (os : List Open) (o : Open) → turns_left (os ++ (o ∷ [])) ≡ suc (2 * heads_in (parts_left o.parts)) + turns_left os
+pub turns_push : (os : List Open) (o : Open) → turns_left (os ++ (o ∷ [])) ≡ suc (2 * heads_among (parts_left o.parts)) + turns_left os
 turns_push [] o = refl
 turns_push (x ∷ os) o = omega (arith, turns_push os o)
 
@@ -60,7 +64,7 @@ joined_pairs (pair k v ps) x =
     append_assoc x (44 ∷ with_commas (entry ∷ pair_texts ps)) (codes "}")
     ∙ ap (λ s. x ++ (44 ∷ s)) (joined_pairs ps entry ∙ append_assoc (tree_text k ++ codes "=") (tree_text v) rest ∙ append_assoc (tree_text k) (codes "=") (tree_text v ++ rest))
 
-pub list_text : (m : Msg) → kind_of m ≡ ListKind → tree_text m ≡ codes "[" ++ text_left false Nothing (parts_in_turn m)
+pub list_text : (m : Msg) → kind_of m ≡ ListKind → tree_text m ≡ head_text (head_of m) (content_of m) ++ text_left false Nothing (parts_in_turn m)
 unfolding tree_text item_texts
 list_text (list no_items) e = refl
 list_text (list (item m ms)) e = ap (λ s. codes "[" ++ s) (joined ms (tree_text m))
@@ -74,7 +78,7 @@ list_text (bin s) e = absurd (search rules)
 list_text (map ps) e = absurd (search rules)
 list_text (extension tag s) e = absurd (search rules)
 
-pub map_text : (m : Msg) → kind_of m ≡ MapKind → tree_text m ≡ codes "{" ++ text_left true Nothing (parts_in_turn m)
+pub map_text : (m : Msg) → kind_of m ≡ MapKind → tree_text m ≡ head_text (head_of m) (content_of m) ++ text_left true Nothing (parts_in_turn m)
 unfolding tree_text pair_texts
 map_text (map no_pairs) e = refl
 map_text (map (pair k v ps)) e =
@@ -92,19 +96,34 @@ map_text (bin s) e = absurd (search rules)
 map_text (list ms) e = absurd (search rules)
 map_text (extension tag s) e = absurd (search rules)
 
+-- of a message that has no parts the head's text is the whole
+pub leaf_text : (m : Msg) → kind_of m ≢ ListKind → kind_of m ≢ MapKind → tree_text m ≡ head_text (head_of m) (content_of m)
+unfolding tree_text
+leaf_text nil l p = refl
+leaf_text (truth true) l p = refl
+leaf_text (truth false) l p = refl
+leaf_text (whole z) l p = refl
+leaf_text (float32 n) l p = refl
+leaf_text (float64 n) l p = refl
+leaf_text (text s) l p = refl
+leaf_text (bin s) l p = refl
+leaf_text (list ms) l p = absurd (l refl)
+leaf_text (map ps) l p = absurd (p refl)
+leaf_text (extension tag s) l p = refl
+
 -- ---- how many heads stand in it
 
-heads_of_items : (ms : Msgs) → length (tokens_all ms) ≡ heads_in (items_of ms)
+heads_of_items : (ms : Msgs) → length (tokens_all ms) ≡ heads_among (items_of ms)
 heads_of_items no_items = refl
 heads_of_items (item m ms) = omega (arith, length-append (tokens m) (tokens_all ms), heads_of_items ms)
 
-heads_of_pairs : (ps : Pairs) → length (tokens_pairs ps) ≡ heads_in (items_of (flat_pairs ps))
+heads_of_pairs : (ps : Pairs) → length (tokens_pairs ps) ≡ heads_among (items_of (flat_pairs ps))
 heads_of_pairs no_pairs = refl
 heads_of_pairs (pair k v ps) =
     omega (arith, length-append (tokens k) (tokens v ++ tokens_pairs ps), length-append (tokens v) (tokens_pairs ps), heads_of_pairs ps)
 
 -- one head is its own, and the others are those of its parts
-pub heads_of : (m : Msg) → length (tokens m) ≡ suc (heads_in (parts_in_turn m))
+pub heads_of : (m : Msg) → length (tokens m) ≡ suc (heads_among (parts_in_turn m))
 heads_of nil = refl
 heads_of (truth t) = refl
 heads_of (whole z) = refl
@@ -124,59 +143,84 @@ part_put before sign part left outer =
     append_assoc before sign (part ++ (left ++ outer))
     ∙ ap (λ s. before ++ s) (ap (λ s. sign ++ s) (sym (append_assoc part left outer)) ∙ sym (append_assoc sign (part ++ left) outer))
 
-abbrev pub opening : Bool → List ℕ
-opening true = codes "{"
-opening false = codes "["
-
 -- a list or a map is begun: its bracket was put, and it stands last among those that are open
-pub begun : (old front : List ℕ) (os : List Open) (o : Open) {new all : List ℕ} {after : List Open} → new ≡ old ++ front → after ≡ os ++ (o ∷ [])
-    → all ≡ front ++ text_left o.is_map o.sign (parts_left o.parts) → new ++ texts_left after ≡ old ++ (all ++ texts_left os)
-begun old front os o {new} {all} {after} put pushed is =
+pub begun : {W : Type 0} (took : W → List ℕ → W → Type 0) (f g : Formatter W) (front all : List ℕ) (os : List Open) (o : Open) {after : List Open}
+    → HasWritten took f front g → after ≡ os ++ (o ∷ []) → all ≡ front ++ text_left o.is_map o.sign (parts_left o.parts)
+    → WritesToward took f os all after g
+begun took f g front all os o {after} put pushed is =
     let rest = text_left o.is_map o.sign (parts_left o.parts) in
     let outer = texts_left os in
-    ap (λ s. s ++ texts_left after) put ∙ ap (λ z. (old ++ front) ++ texts_left z) pushed ∙ ap (λ s. (old ++ front) ++ s) (texts_push os o)
-    ∙ append_assoc old front (rest ++ outer) ∙ ap (λ s. old ++ s) (sym (append_assoc front rest outer) ∙ ap (λ s. s ++ outer) (sym is))
+    record {
+      text = front;
+      written = put;
+      whole = ap (λ z. front ++ texts_left z) pushed ∙ ap (λ s. front ++ s) (texts_push os o) ∙ sym (append_assoc front rest outer)
+          ∙ ap (λ s. s ++ outer) (sym is);
+    }
+
+-- a message that has no parts is whole with its head
+pub leaf_put : {W : Type 0} (took : W → List ℕ → W → Type 0) (f g : Formatter W) (m : Msg) (os : List Open) → kind_of m ≢ ListKind → kind_of m ≢ MapKind
+    → HasWritten took f (head_text (head_of m) (content_of m)) g → WritesToward took f os (tree_text m) os g
+leaf_put took f g m os no_list no_map put = record {
+  text = head_text (head_of m) (content_of m);
+  written = put;
+  whole = ap (λ s. s ++ texts_left os) (sym (leaf_text m no_list no_map));
+}
+
+pub leaf_turns : (m : Msg) (os : List Open) → turns_left os < turns_left os + 2 * length (tokens m)
+leaf_turns m os = omega (arith, heads_of m)
 
 pub begun_turns : (m : Msg) (os : List Open) (o : Open) {after : List Open} → after ≡ os ++ (o ∷ []) → parts_left o.parts ≡ parts_in_turn m
     → turns_left after < turns_left os + 2 * length (tokens m)
 begun_turns m os o {after} pushed is =
-    let turns : turns_left after ≡ suc (2 * heads_in (parts_left o.parts)) + turns_left os = ap turns_left pushed ∙ turns_push os o in
-    omega (arith, turns, ap heads_in is, heads_of m)
+    let turns : turns_left after ≡ suc (2 * heads_among (parts_left o.parts)) + turns_left os = ap turns_left pushed ∙ turns_push os o in
+    omega (arith, turns, ap heads_among is, heads_of m)
 
 -- a part was put behind its sign, and begun
-pub turn_put : (full before : List ℕ) (os : List Open) (o o' : Open) (m : Msg) {held pushed : List Open} {signed last : List ℕ}
-    → before ++ texts_left held ≡ full → held ≡ os ++ (o ∷ []) → parts_left o.parts ≡ m ∷ parts_left o'.parts → o'.is_map ≡ o.is_map
-    → o'.sign ≡ next_sign o.is_map o.sign → signed ≡ before ++ sign_text o.sign → pushed ≡ os ++ (o' ∷ [])
-    → last ≡ signed ++ (tree_text m ++ texts_left pushed) → last ≡ full
-turn_put full before os o o' m {held} {pushed} {signed} {last} holds stood parts is_map sign put again turned =
+pub turn_put : {W : Type 0} (took : W → List ℕ → W → Type 0) (old mid signed new : Formatter W) (all : List ℕ) (os : List Open) (o o' : Open) (m : Msg)
+    {held pushed last : List Open} → WritesToward took old [] all held mid → held ≡ os ++ (o ∷ []) → parts_left o.parts ≡ m ∷ parts_left o'.parts
+    → o'.is_map ≡ o.is_map → o'.sign ≡ next_sign o.is_map o.sign → HasWritten took mid (sign_text o.sign) signed → pushed ≡ os ++ (o' ∷ [])
+    → WritesToward took signed pushed (tree_text m) last new → WritesToward took old [] all last new
+turn_put took old mid signed new all os o o' m {held} {pushed} {last} before stood parts is_map sign put again turned =
     let left : text_left o'.is_map o'.sign (parts_left o'.parts) ≡ text_left o.is_map (next_sign o.is_map o.sign) (parts_left o'.parts) =
     rw (is_map, sign) refl in
     let rest = text_left o.is_map (next_sign o.is_map o.sign) (parts_left o'.parts) in
     let outer = texts_left os in
     let inner : texts_left pushed ≡ rest ++ outer = ap texts_left again ∙ texts_push os o' ∙ ap (λ s. s ++ outer) left in
-    let all : texts_left held ≡ (sign_text o.sign ++ (tree_text m ++ rest)) ++ outer =
+    let whole : texts_left held ≡ (sign_text o.sign ++ (tree_text m ++ rest)) ++ outer =
     ap texts_left stood ∙ texts_push os o ∙ ap (λ ms. text_left o.is_map o.sign ms ++ outer) parts in
-    turned ∙ ap (λ s. s ++ (tree_text m ++ texts_left pushed)) put ∙ ap (λ s. (before ++ sign_text o.sign) ++ (tree_text m ++ s)) inner
-    ∙ part_put before (sign_text o.sign) (tree_text m) rest outer ∙ ap (λ s. before ++ s) (sym all) ∙ holds
+    let front = before.text ++ sign_text o.sign in
+    record {
+      text = front ++ turned.text;
+      written = has_written_append took old front signed turned.text new
+          (has_written_append took old before.text mid (sign_text o.sign) signed before.written put) turned.written;
+      whole = append_assoc front turned.text (texts_left last) ∙ ap (λ s. front ++ s) (turned.whole ∙ ap (λ s. tree_text m ++ s) inner)
+          ∙ part_put before.text (sign_text o.sign) (tree_text m) rest outer ∙ ap (λ s. before.text ++ s) (sym whole) ∙ before.whole;
+    }
 
 pub turn_smaller : (os : List Open) (o o' : Open) (m : Msg) {held pushed : List Open} {n : ℕ} → held ≡ os ++ (o ∷ [])
     → parts_left o.parts ≡ m ∷ parts_left o'.parts → pushed ≡ os ++ (o' ∷ []) → n < turns_left pushed + 2 * length (tokens m) → n < turns_left held
 turn_smaller os o o' m {held} {pushed} {n} last parts again less =
-    let before : turns_left held ≡ suc (2 * heads_in (parts_left o.parts)) + turns_left os = ap turns_left last ∙ turns_push os o in
-    let behind : turns_left pushed ≡ suc (2 * heads_in (parts_left o'.parts)) + turns_left os = ap turns_left again ∙ turns_push os o' in
-    omega (arith, before, behind, ap heads_in parts, less)
+    let before : turns_left held ≡ suc (2 * heads_among (parts_left o.parts)) + turns_left os = ap turns_left last ∙ turns_push os o in
+    let behind : turns_left pushed ≡ suc (2 * heads_among (parts_left o'.parts)) + turns_left os = ap turns_left again ∙ turns_push os o' in
+    omega (arith, before, behind, ap heads_among parts, less)
 
 -- no part is left, and the bracket was put
-pub bracket_put : (full before : List ℕ) (os : List Open) (o : Open) {held : List Open} {behind : List ℕ} → before ++ texts_left held ≡ full
-    → held ≡ os ++ (o ∷ []) → parts_left o.parts ≡ [] → behind ≡ before ++ bracket_of o.is_map → behind ++ texts_left os ≡ full
-bracket_put full before os o {held} {behind} holds last none put =
+pub bracket_put : {W : Type 0} (took : W → List ℕ → W → Type 0) (old mid new : Formatter W) (all : List ℕ) (os : List Open) (o : Open) {held : List Open}
+    → WritesToward took old [] all held mid → held ≡ os ++ (o ∷ []) → parts_left o.parts ≡ [] → HasWritten took mid (bracket_of o.is_map) new
+    → WritesToward took old [] all os new
+bracket_put took old mid new all os o {held} before last none put =
     let outer = texts_left os in
-    let all : texts_left held ≡ bracket_of o.is_map ++ outer = ap texts_left last ∙ texts_push os o ∙ ap (λ ms. text_left o.is_map o.sign ms ++ outer) none in
-    ap (λ s. s ++ outer) put ∙ append_assoc before (bracket_of o.is_map) outer ∙ ap (λ s. before ++ s) (sym all) ∙ holds
+    let whole : texts_left held ≡ bracket_of o.is_map ++ outer =
+    ap texts_left last ∙ texts_push os o ∙ ap (λ ms. text_left o.is_map o.sign ms ++ outer) none in
+    record {
+      text = before.text ++ bracket_of o.is_map;
+      written = has_written_append took old before.text mid (bracket_of o.is_map) new before.written put;
+      whole = append_assoc before.text (bracket_of o.is_map) outer ∙ ap (λ s. before.text ++ s) (sym whole) ∙ before.whole;
+    }
 
 pub bracket_smaller : (os : List Open) (o : Open) {held : List Open} → held ≡ os ++ (o ∷ []) → turns_left os < turns_left held
 bracket_smaller os o {held} last =
-    let before : turns_left held ≡ suc (2 * heads_in (parts_left o.parts)) + turns_left os = ap turns_left last ∙ turns_push os o in omega (arith, before)
+    let before : turns_left held ≡ suc (2 * heads_among (parts_left o.parts)) + turns_left os = ap turns_left last ∙ turns_push os o in omega (arith, before)
 
 -- nothing is open any more
 pub none_open : (os : List Open) → length os ≡ 0 → os ≡ []

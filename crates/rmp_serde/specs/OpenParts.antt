@@ -1,0 +1,71 @@
+-- The lists and maps whose text isn't whole, and what is to come of it.
+use Rattle.std.specs.Prelude.{◌≡◌, ℕ, suc, ◌+◌, ◌*◌, Bool, true, false, List, [], ◌∷◌, ◌++◌, length, codes}
+use Rattle.std.specs.Fmt.{HasWritten, signed_decimal}
+use Rattle.std.specs.declared.fmt.Formatter.{Formatter}
+use Rattle.std.specs.Int.{to_be_bytes, w32, w64}
+use Rattle.hex.specs.Hex.{encode_lower}
+use Rattle.rmp_wire.specs.declared.head.Head.{Head}
+use Rattle.rmp_wire.specs.declared.head.Head.TheVariants.{Nil, Truth, Whole, F32Bits, F64Bits, Text, Bin, Array, Map, Ext}
+use Rattle.rmp_wire.specs.Msg.{Msg}
+use Rattle.rmp_serde.specs.PartsLeft.{parts_left}
+use Rattle.rmp_serde.specs.Tokens.{tokens}
+use Rattle.rmp_serde.specs.TreeText.{tree_text}
+use Rattle.rmp_serde.specs.declared.value.text.Open.{Open}
+use Rattle.rmp_serde.specs.declared.value.text.Sign.{Sign}
+use Rattle.rmp_serde.specs.declared.value.text.Sign.TheVariants.{Nothing, Comma, Equals}
+
+-- the text of a head and its content: of a list or a map the first bracket
+abbrev pub head_text : Head → List ℕ → List ℕ
+head_text Nil s = codes "nil"
+head_text (Truth true) s = codes "true"
+head_text (Truth false) s = codes "false"
+head_text (Whole z) s = signed_decimal z
+head_text (F32Bits n) s = codes "f32:" ++ encode_lower (to_be_bytes w32 n)
+head_text (F64Bits n) s = codes "f64:" ++ encode_lower (to_be_bytes w64 n)
+head_text (Text len) s = codes "t:" ++ encode_lower s
+head_text (Bin len) s = codes "b:" ++ encode_lower s
+head_text (Array n) s = codes "["
+head_text (Map n) s = codes "{"
+head_text (Ext len tag) s = codes "x(" ++ signed_decimal tag ++ codes "):" ++ encode_lower s
+
+abbrev pub sign_text : Sign → List ℕ
+sign_text Nothing = []
+sign_text Comma = codes ","
+sign_text Equals = codes "="
+
+-- what stands in front of the part behind: in a map keys and values take turns
+abbrev pub next_sign : Bool → Sign → Sign
+next_sign true Nothing = Equals
+next_sign true Comma = Equals
+next_sign _ _ = Comma
+
+abbrev pub bracket_of : Bool → List ℕ
+bracket_of true = codes "}"
+bracket_of false = codes "]"
+
+-- the text of parts that are to come, and the bracket behind them
+abbrev pub text_left : Bool → Sign → List Msg → List ℕ
+text_left is_map sign [] = bracket_of is_map
+text_left is_map sign (m ∷ ms) = sign_text sign ++ (tree_text m ++ text_left is_map (next_sign is_map sign) ms)
+
+-- the text that is to come of lists and maps in one another, the outermost first
+abbrev pub texts_left : List Open → List ℕ
+texts_left [] = []
+texts_left (o ∷ os) = texts_left os ++ text_left o.is_map o.sign (parts_left o.parts)
+
+-- how many heads stand in messages
+abbrev pub heads_among : List Msg → ℕ
+heads_among [] = 0
+heads_among (m ∷ ms) = length (tokens m) + heads_among ms
+
+-- at most so many turns of a loop over parts and brackets are to come
+abbrev pub turns_left : List Open → ℕ
+turns_left [] = 0
+turns_left (o ∷ os) = suc (2 * heads_among (parts_left o.parts)) + turns_left os
+
+-- Text was written, and with what is to come of the lists and maps that are open then it is this text and what was to come before.
+pub record WritesToward {W : Type 0} (took : W → List ℕ → W → Type 0) (old : Formatter W) (before : List Open) (wanted : List ℕ) (after : List Open)
+    (new : Formatter W) : Type 0 where
+  pub text : List ℕ
+  pub written : HasWritten took old text new
+  pub whole : text ++ texts_left after ≡ wanted ++ texts_left before
