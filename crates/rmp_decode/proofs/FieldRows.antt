@@ -1,5 +1,6 @@
 -- What the read of a struct that is a list of as many elements says, from what the reads of its fields say.
-use Rattle.std.proofs.Common.{◌≡◌, ◌∙◌, sym, ap, subst, refl, inr, ℕ, suc, ◌-◌, ◌<◌, max, arith, List, [], ◌∷◌, Bool, true, false, Option, None, Some, Result, Ok, Err, length, ◌++◌}
+use Rattle.std.proofs.Common.{◌≡◌, ◌∙◌, sym, ap, subst, refl, inr, ℕ, suc, ◌-◌, ◌<◌, max, arith}
+use Rattle.std.proofs.Common.{List, [], ◌∷◌, Bool, true, false, Option, None, Some, Result, Ok, Err, length, ◌++◌}
 use Rattle.std.specs.Prelude.{IfSome, IfOk, IfErr}
 use Rattle.std.proofs.KnownBytes.{Consumes-nil, Consumes-trans}
 use Rattle.rmp_wire.specs.declared.head.Head.TheVariants.{Array}

@@ -1,5 +1,6 @@
 -- What the read of fields says, from what the reads of its parts say.
-use Rattle.std.proofs.Common.{◌≡◌, ◌∙◌, sym, ap, subst, refl, inl, inr, ◌⊎◌, ℕ, suc, ◌<◌, ◌≤◌, length, Bool, arith, List, [], ◌∷◌, ◌++◌, true, false, Option, None, Some, is_some, max, Ok, Err}
+use Rattle.std.proofs.Common.{◌≡◌, ◌∙◌, sym, ap, subst, refl, inl, inr, ◌⊎◌, ℕ, suc, ◌<◌, ◌≤◌, length}
+use Rattle.std.proofs.Common.{Bool, arith, List, [], ◌∷◌, ◌++◌, true, false, Option, None, Some, is_some, max, Ok, Err}
 use Rattle.std.proofs.KnownBytes.{Consumes-trans}
 use Rattle.std.specs.Option.{option_and_then}
 use Rattle.std.specs.Prelude.{IfSome}

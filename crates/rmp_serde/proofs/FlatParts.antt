@@ -6,7 +6,8 @@ use Rattle.std.specs.Str.{IsUtf8}
 use Rattle.std.proofs.lemmas.List.{append-nil, drop-drop}
 use Rattle.rmp_wire.specs.declared.head.Head.{Head}
 use Rattle.rmp_wire.specs.declared.head.Head.TheVariants.{Nil, Truth, Whole, F32Bits, F64Bits, Text, Bin, Array, Map, Ext}
-use Rattle.rmp_wire.specs.Msg.{Msg, nil, truth, whole, float32, float64, text, bin, list, map, extension, Msgs, no_items, item, Pairs, no_pairs, pair, count, count_pairs, items_of, pairs_of, depth, depth_all, depth_pairs}
+use Rattle.rmp_wire.specs.Msg.{Msg, nil, truth, whole, float32, float64, text, bin, list, map, extension, Msgs}
+use Rattle.rmp_wire.specs.Msg.{no_items, item, Pairs, no_pairs, pair, count, count_pairs, items_of, pairs_of, depth, depth_all, depth_pairs}
 use Rattle.rmp_wire.specs.Spelling.{head_of, Fits}
 use Rattle.rmp_decode.proofs.Rows.{append}
 use Rattle.rmp_serde.specs.Flat.{head_in, parts_in, token_in, heads_in, heads_of, heads_all, EndsBy, IsFlat, IsRow, told_tree, span}

@@ -69,7 +69,13 @@ module _ (w : Bool) where
       let q = paired w ms n bytes c s in
       record {
         tree = map q.pairs;
-        spelled = record { first = head; second = bytes; is_first = subst (λ z. heads_of w (Map z) head) (sym q.many) i; is_second = q.spelled; is_whole = refl };
+        spelled = record {
+          first = head;
+          second = bytes;
+          is_first = subst (λ z. heads_of w (Map z) head) (sym q.many) i;
+          is_second = q.spelled;
+          is_whole = refl;
+        };
         deep = ap suc (sym (depth-in_turn q.pairs) ∙ ap depth_all (sym q.is));
         utf8 = paired_utf8 q.pairs (subst ItemsUtf8 q.is h);
         told = ap (λ z. (Map z, []) ∷ tokens_pairs q.pairs) q.many ∙ ap (λ z. (Map n, []) ∷ z) (sym (tokens_turned q.pairs) ∙ ap tokens_all (sym q.is));
@@ -77,7 +83,13 @@ module _ (w : Bool) where
   nest_tree false n ms head bytes i s c h =
       record {
         tree = list ms;
-        spelled = record { first = head; second = bytes; is_first = subst (λ z. heads_of w (Array z) head) (sym c) i; is_second = in_list w ms bytes s; is_whole = refl };
+        spelled = record {
+          first = head;
+          second = bytes;
+          is_first = subst (λ z. heads_of w (Array z) head) (sym c) i;
+          is_second = in_list w ms bytes s;
+          is_whole = refl;
+        };
         deep = refl;
         utf8 = h;
         told = ap (λ z. (Array z, []) ∷ tokens_all ms) c;
@@ -85,7 +97,8 @@ module _ (w : Bool) where
 
   -- ---- AllTextsUtf8 message in front
 
-  many_tree : (room n : ℕ) (m : Msg) (a b : List ℕ) (t : List Token) → SpellsAs w a m → depth m < room → AllTextsUtf8 m → SpellsTrees w room n b t → SpellsTrees w room (suc n) (a ++ b) (tokens m ++ t)
+  many_tree : (room n : ℕ) (m : Msg) (a b : List ℕ) (t : List Token) → SpellsAs w a m → depth m < room → AllTextsUtf8 m → SpellsTrees w room n b t
+      → SpellsTrees w room (suc n) (a ++ b) (tokens m ++ t)
   many_tree room n m a b t s d o r = record {
     trees = item m r.trees;
     spelled = record { first = a; second = b; is_first = s; is_second = r.spelled; is_whole = refl };
@@ -114,7 +127,8 @@ module _ (w : Bool) where
   -- ---- what stood there stands behind
 
   message_opens : (room n : ℕ) (counts : List ℕ) (m : Msg) (a c more : List ℕ) (mt : List Token) (x ys : List ℕ) (ts : Msgs) → SpellsAs w a m
-      → SpellsRow (SpellsAs w) c ts → count ts ≡ suc n → depth_all ts < room → ItemsUtf8 ts → SpellsOpenTrees w (suc room) counts more mt → (c ++ more) ++ x ≡ a ++ ys
+      → SpellsRow (SpellsAs w) c ts → count ts ≡ suc n → depth_all ts < room → ItemsUtf8 ts → SpellsOpenTrees w (suc room) counts more mt
+      → (c ++ more) ++ x ≡ a ++ ys
       → BehindTrees w room (n ∷ counts) x ys
   message_opens room n counts m a c more mt x ys no_items s t l d h o e = absurd (omega (arith, l))
   message_opens room n counts m a c more mt x ys (item k ks) s t l d h o e =
@@ -189,13 +203,15 @@ module _ (w : Bool) where
   parts_trees false (extension tag t) n room a x y s e d o f = absurd (cc)
 
   enter_opens : (is_map : Bool) (len room n : ℕ) (counts a c more : List ℕ) (mt : List Token) (x ys : List ℕ) (ts : Msgs)
-      → heads_of w (parts_head is_map len) a → SpellsRow (SpellsAs w) c ts → count ts ≡ suc n → depth_all ts < suc room → ItemsUtf8 ts → SpellsOpenTrees w (suc (suc room)) counts more mt
+      → heads_of w (parts_head is_map len) a → SpellsRow (SpellsAs w) c ts → count ts ≡ suc n → depth_all ts < suc room → ItemsUtf8 ts
+      → SpellsOpenTrees w (suc (suc room)) counts more mt
       → (c ++ more) ++ x ≡ a ++ ys → BehindTrees w room (parts_count is_map len ∷ n ∷ counts) x ys
   enter_opens is_map len room n counts a c more mt x ys no_items i t l d h o e = absurd (omega (arith, l))
   enter_opens is_map len room n counts a c more mt x ys (item k ks) i t l d h o e =
       let split : t.first ++ ((t.second ++ more) ++ x) ≡ a ++ ys = split_off w c t.first t.second more x t.is_whole ∙ e in
       let u = same_head w k (parts_head is_map len) t.first a ((t.second ++ more) ++ x) ys t.is_first i split in
-      let q : PartsTrees room (parts_count is_map len) ((t.second ++ more) ++ x) ys = parts_trees is_map k len room t.first ((t.second ++ more) ++ x) ys t.is_first u.0 (omega (arith, d)) (h.0)
+      let q : PartsTrees room (parts_count is_map len) ((t.second ++ more) ++ x) ys = parts_trees is_map k len room t.first ((t.second ++ more) ++ x) ys
+      t.is_first u.0 (omega (arith, d)) (h.0)
       (λ d c q j. (heads_apart_as w (head_of k) (parts_head is_map len) d a (c ++ ((t.second ++ more) ++ x)) ys j i
       (sym (append_assoc d c ((t.second ++ more) ++ x)) ∙ ap (λ z. z ++ ((t.second ++ more) ++ x)) (sym q) ∙ split)).2) in
       record {
@@ -235,7 +251,12 @@ module _ (w : Bool) where
     message_refuses : (room n : ℕ) (counts : List ℕ) (m : Msg) (a xs ys : List ℕ) (e : Error) → xs ≡ a ++ ys → SpellsAs w a m → depth m < room
         → AllTextsUtf8 m → OpenTreesRefusal w wrong room (n ∷ counts) e ys → OpenTreesRefusal w wrong room (suc n ∷ counts) e xs
     message_refuses room n counts m a xs ys e q s d h o = elim o [
-      | inl r ↦ let f = r.fewer in inl (record { many = suc r.many; before = row_tree room r.many m a xs ys q s d h r.before; fewer = omega (arith, f); next = r.next })
+      | inl r ↦ let f = r.fewer in inl (record {
+        many = suc r.many;
+        before = row_tree room r.many m a xs ys q s d h r.before;
+        fewer = omega (arith, f);
+        next = r.next;
+      })
       | inr b ↦ inr (row_tree room n m a xs ys q s d h b.0, b.1)
     ]
 
@@ -249,7 +270,12 @@ module _ (w : Bool) where
             before = no_row_tree (suc room) (a ++ ys) (omega arith);
             fewer = omega arith;
             next =
-                inside (record { parts = record { is_map = is_map; len = len; marker = marker_of f.byte; stands = stands f }; many = r.many; before = r.before; fewer = r.fewer }) r.next;
+                inside (record {
+                  parts = record { is_map = is_map; len = len; marker = marker_of f.byte; stands = stands f };
+                  many = r.many;
+                  before = r.before;
+                  fewer = r.fewer;
+                }) r.next;
           })
       | inr q ↦
           let b = q.0 in
@@ -259,7 +285,11 @@ module _ (w : Bool) where
     ]
 
     pub trees_none : (room : ℕ) (counts : List ℕ) → LeadsTrees w wrong room counts room counts [] []
-    trees_none room counts = record { closes = λ b t s. s; opens = λ b t x ys s e. record { bytes = b; heads = t; front = sym e; spelled = s }; refuses = λ e ys o. o }
+    trees_none room counts = record {
+      closes = λ b t s. s;
+      opens = λ b t x ys s e. record { bytes = b; heads = t; front = sym e; spelled = s };
+      refuses = λ e ys o. o;
+    }
 
     pub trees_then : (room : ℕ) (counts : List ℕ) (room' : ℕ) (counts' : List ℕ) (room'' : ℕ) (counts'' a b : List ℕ) (at bt : List Token)
         → LeadsTrees w wrong room counts room' counts' a at → LeadsTrees w wrong room' counts' room'' counts'' b bt
@@ -285,7 +315,8 @@ module _ (w : Bool) where
         is_whole = ap (λ z. a ++ z) r.is_whole ∙ sym (append_assoc a r.first r.second);
         all_heads = ap (λ z. tokens m ++ z) r.all_heads ∙ sym (append_assoc (tokens m) r.first_heads r.second_heads);
       };
-      opens = λ b t x ys r e. message_opens room n counts m a r.first r.second r.second_heads x ys r.is_first.trees s r.is_first.spelled r.is_first.many r.is_first.fits r.is_first.utf8 r.is_second (ap (λ z. z ++ x) (sym r.is_whole) ∙ e);
+      opens = λ b t x ys r e. message_opens room n counts m a r.first r.second r.second_heads x ys r.is_first.trees s r.is_first.spelled r.is_first.many
+          r.is_first.fits r.is_first.utf8 r.is_second (ap (λ z. z ++ x) (sym r.is_whole) ∙ e);
       refuses = λ e ys o. message_refuses room n counts m a (a ++ ys) ys e refl s d h o;
     }
 
@@ -296,8 +327,10 @@ module _ (w : Bool) where
       closes = λ b bt r.
           let t = r.is_second in
           let nest = nest_tree is_map len r.is_first.trees a r.first i r.is_first.spelled r.is_first.many r.is_first.utf8 in
-          let told : (parts_head is_map len, []) ∷ r.first_heads ≡ tokens nest.tree = ap (λ z. (parts_head is_map len, []) ∷ z) r.is_first.told ∙ sym nest.told in
-          let m = many_tree (suc room) n nest.tree (a ++ r.first) t.first t.first_heads nest.spelled (omega (arith, nest.deep, r.is_first.fits)) nest.utf8 t.is_first in
+          let told : (parts_head is_map len, []) ∷ r.first_heads ≡ tokens nest.tree = ap (λ z. (parts_head is_map len, []) ∷ z) r.is_first.told
+          ∙ sym nest.told in
+          let m = many_tree (suc room) n nest.tree (a ++ r.first) t.first t.first_heads nest.spelled (omega (arith, nest.deep, r.is_first.fits)) nest.utf8
+          t.is_first in
           record {
             first = (a ++ r.first) ++ t.first;
             second = t.second;
@@ -305,11 +338,13 @@ module _ (w : Bool) where
             second_heads = t.second_heads;
             is_first = m;
             is_second = t.is_second;
-            is_whole = ap (λ z. a ++ z) (r.is_whole ∙ ap (λ z. r.first ++ z) t.is_whole) ∙ sym (append_assoc a r.first (t.first ++ t.second)) ∙ sym (append_assoc (a ++ r.first) t.first t.second);
+            is_whole = ap (λ z. a ++ z) (r.is_whole ∙ ap (λ z. r.first ++ z) t.is_whole) ∙ sym (append_assoc a r.first (t.first ++ t.second))
+                ∙ sym (append_assoc (a ++ r.first) t.first t.second);
             all_heads = ap (λ z. (parts_head is_map len, []) ∷ z) (r.all_heads ∙ ap (λ z. r.first_heads ++ z) t.all_heads) ∙
                 ap (λ z. z ++ (t.first_heads ++ t.second_heads)) told ∙ sym (append_assoc (tokens nest.tree) t.first_heads t.second_heads);
           };
-      opens = λ b bt x ys r e. enter_opens is_map len room n counts a r.first r.second r.second_heads x ys r.is_first.trees i r.is_first.spelled r.is_first.many r.is_first.fits r.is_first.utf8 r.is_second (ap (λ z. z ++ x) (sym r.is_whole) ∙ e);
+      opens = λ b bt x ys r e. enter_opens is_map len room n counts a r.first r.second r.second_heads x ys r.is_first.trees i r.is_first.spelled
+          r.is_first.many r.is_first.fits r.is_first.utf8 r.is_second (ap (λ z. z ++ x) (sym r.is_whole) ∙ e);
       refuses = λ e ys o. enter_refuses is_map len room n counts a ys e i o;
     }
 
@@ -327,6 +362,7 @@ module _ (w : Bool) where
         is_whole = refl;
         all_heads = refl;
       };
-      opens = λ b t x ys r e. leave_opens room counts r.first r.second r.second_heads x ys r.is_first.trees r.is_first.spelled r.is_first.many r.is_second (ap (λ z. z ++ x) (sym r.is_whole) ∙ e);
+      opens = λ b t x ys r e. leave_opens room counts r.first r.second r.second_heads x ys r.is_first.trees r.is_first.spelled r.is_first.many r.is_second
+          (ap (λ z. z ++ x) (sym r.is_whole) ∙ e);
       refuses = λ e ys o. inr (no_row_tree room ys l, o);
     }

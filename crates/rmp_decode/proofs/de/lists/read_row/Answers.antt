@@ -15,19 +15,22 @@ loop-left-init g c = rw c.new-items.ensures.items (row_start g.R.Source _ c.args
 
 pub returns-in-Err-clause-law : goal.returns-in-Err-clause-law
 returns-in-Err-clause-law g c = λ d o.
-    rw c.data_fault.ensures (row_ended g.R.Source g.C.SerializerConfig.human g.R.ReadSlice.lends g.T.Deserialize.reads c.args.de.now c.loop-left.de c.offer_part.new.self
+    rw c.data_fault.ensures (row_ended g.R.Source g.C.SerializerConfig.human g.R.ReadSlice.lends g.T.Deserialize.reads c.args.de.now c.loop-left.de
+    c.offer_part.new.self
     c.offer_part.new.self c.args.bytes c.args.count c.loop-left.left c.loop-left.items.items c.loop-left.invariant c.loop-left-test.true
     c.in-Err.ensures.stays d o (InvalidDataRead c.in-Err.fault) c.in-Err.ensures.bytes refl c.in-Err.ensures.err (λ (v : Vec g.row.T.Denot Global). v.items))
 
 pub returns-in-Err-clause-unread : goal.returns-in-Err-clause-unread
 returns-in-Err-clause-unread g c = λ d o.
-    rw c.data_fault.ensures (row_ended g.R.Source g.C.SerializerConfig.human g.R.ReadSlice.lends g.T.Deserialize.reads c.args.de.now c.loop-left.de c.offer_part.new.self
+    rw c.data_fault.ensures (row_ended g.R.Source g.C.SerializerConfig.human g.R.ReadSlice.lends g.T.Deserialize.reads c.args.de.now c.loop-left.de
+    c.offer_part.new.self
     c.offer_part.new.self c.args.bytes c.args.count c.loop-left.left c.loop-left.items.items c.loop-left.invariant c.loop-left-test.true
     c.in-Err.ensures.stays d o (InvalidDataRead c.in-Err.fault) c.in-Err.ensures.bytes refl c.in-Err.ensures.err (λ (ns : List g.row.T.Denot). ns))
 
 pub returns-in-Err-clause-refused : goal.returns-in-Err-clause-refused
 returns-in-Err-clause-refused g c = λ d o _.
-    rw c.data_fault.ensures (row_cut g.R.Source g.C.SerializerConfig.human g.R.ReadSlice.lends g.T.Deserialize.reads c.args.de.now c.loop-left.de c.offer_part.new.self
+    rw c.data_fault.ensures (row_cut g.R.Source g.C.SerializerConfig.human g.R.ReadSlice.lends g.T.Deserialize.reads c.args.de.now c.loop-left.de
+    c.offer_part.new.self
     c.offer_part.new.self c.args.bytes c.args.count c.loop-left.left c.loop-left.items.items c.loop-left.invariant c.loop-left-test.true
     c.in-Err.ensures.stays d o (InvalidDataRead c.in-Err.fault) c.in-Err.ensures.bytes refl c.in-Err.ensures.err g.T.Deserialize.refuses c.in-Err.ensures.end)
 
@@ -60,15 +63,18 @@ loop-left-preserved g c = rw c.in-Ok-append.ensures (row_step g.R.Source g.C.Ser
 
 pub returns-in-Err-append-clause-law : goal.returns-in-Err-append-clause-law
 returns-in-Err-append-clause-law g c = λ d o.
-    row_unkept g.R.Source g.C.SerializerConfig.human g.R.ReadSlice.lends g.T.Deserialize.reads c.args.de.now (record c.deserialize.new.de { failed = false; kept = Nothing }) c.args.bytes c.args.count _
-    (λ (v : Vec g.row.T.Denot Global). v.items) d o (c.loop-left.left - 1) (row_step g.R.Source g.C.SerializerConfig.human g.R.ReadSlice.lends g.T.Deserialize.reads
+    row_unkept g.R.Source g.C.SerializerConfig.human g.R.ReadSlice.lends g.T.Deserialize.reads c.args.de.now
+    (record c.deserialize.new.de { failed = false; kept = Nothing }) c.args.bytes c.args.count _
+    (λ (v : Vec g.row.T.Denot Global). v.items) d o (c.loop-left.left - 1)
+    (row_step g.R.Source g.C.SerializerConfig.human g.R.ReadSlice.lends g.T.Deserialize.reads
     c.args.de.now c.loop-left.de c.offer_part.new.self c.deserialize.new.de c.args.bytes c.args.count c.loop-left.left c.loop-left.items.items
     c.loop-left.invariant c.loop-left-test.true c.in-Ok.ensures.stays c.in-Ok.ensures.ok c.in-Ok-deserialize.item (c.loop-left.left - 1)
     (let some = c.loop-left-test.true in omega arith) c.in-Ok-deserialize.ensures.law)
 
 pub returns-in-Err-append-clause-unread : goal.returns-in-Err-append-clause-unread
 returns-in-Err-append-clause-unread g c = λ d o.
-    row_unkept g.R.Source g.C.SerializerConfig.human g.R.ReadSlice.lends g.T.Deserialize.reads c.args.de.now (record c.deserialize.new.de { failed = false; kept = Nothing }) c.args.bytes c.args.count _
+    row_unkept g.R.Source g.C.SerializerConfig.human g.R.ReadSlice.lends g.T.Deserialize.reads c.args.de.now
+    (record c.deserialize.new.de { failed = false; kept = Nothing }) c.args.bytes c.args.count _
     (λ (ns : List g.row.T.Denot). ns) d o (c.loop-left.left - 1) (row_step g.R.Source g.C.SerializerConfig.human g.R.ReadSlice.lends g.T.Deserialize.reads
     c.args.de.now c.loop-left.de c.offer_part.new.self c.deserialize.new.de c.args.bytes c.args.count c.loop-left.left c.loop-left.items.items
     c.loop-left.invariant c.loop-left-test.true c.in-Ok.ensures.stays c.in-Ok.ensures.ok c.in-Ok-deserialize.item (c.loop-left.left - 1)

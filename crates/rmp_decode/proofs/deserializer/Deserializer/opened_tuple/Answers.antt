@@ -15,7 +15,8 @@ returns-in-Err-listed-clause-law g c =
     let o = c.in-Ok.ensures.opened in
     let f = subst (λ z. FailsParts {V = g.row.F.Denot} g.R.Source (Gives (g.F.Fields.reads (g.C.SerializerConfig.human z) g.R.ReadSlice.lends))
     c.in-Ok.seq c.listed.new.seq c.in-Err-listed.e) o.stays.config c.in-Err-listed.ensures.err in
-    seq_parts g.R.Source (Gives (g.F.Fields.reads (g.C.SerializerConfig.human c.args.self.now.config) g.R.ReadSlice.lends)) _ c.in-Ok.seq c.listed.new.seq o _ _ f (search rules)
+    seq_parts g.R.Source (Gives (g.F.Fields.reads (g.C.SerializerConfig.human c.args.self.now.config) g.R.ReadSlice.lends)) _ c.in-Ok.seq c.listed.new.seq o
+    _ _ f (search rules)
 
 pub returns-in-Ok-end-clause-law : goal.returns-in-Ok-end-clause-law
 returns-in-Ok-end-clause-law g c =
@@ -23,7 +24,8 @@ returns-in-Ok-end-clause-law g c =
     let t = subst (λ z. TakesParts {V = g.row.F.Denot} g.R.Source (Gives (g.F.Fields.reads (g.C.SerializerConfig.human z) g.R.ReadSlice.lends))
     c.in-Ok.seq c.listed.new.seq c.in-Ok-listed.values) o.stays.config c.in-Ok-listed.ensures.ok in
     let e = c.in-Ok-end.ensures.ok t.run.still in
-    seq_done g.R.Source (Gives (g.F.Fields.reads (g.C.SerializerConfig.human c.args.self.now.config) g.R.ReadSlice.lends)) _ c.in-Ok.seq c.listed.new.seq t.trees o t.run _ _ t.value e.0 (via c.end.new.self.0 (search rules) e.1)
+    seq_done g.R.Source (Gives (g.F.Fields.reads (g.C.SerializerConfig.human c.args.self.now.config) g.R.ReadSlice.lends)) _ c.in-Ok.seq c.listed.new.seq
+    t.trees o t.run _ _ t.value e.0 (via c.end.new.self.0 (search rules) e.1)
 
 pub returns-in-Err-end-clause-law : goal.returns-in-Err-end-clause-law
 returns-in-Err-end-clause-law g c =
@@ -31,7 +33,8 @@ returns-in-Err-end-clause-law g c =
     let t = subst (λ z. TakesParts {V = g.row.F.Denot} g.R.Source (Gives (g.F.Fields.reads (g.C.SerializerConfig.human z) g.R.ReadSlice.lends))
     c.in-Ok.seq c.listed.new.seq c.in-Ok-listed.values) o.stays.config c.in-Ok-listed.ensures.ok in
     let e = c.in-Err-end.ensures.err t.run.still in
-    seq_over g.R.Source (Gives (g.F.Fields.reads (g.C.SerializerConfig.human c.args.self.now.config) g.R.ReadSlice.lends)) _ c.in-Ok.seq c.listed.new.seq t.trees o t.run _ _ e.0 (via c.end.new.self.0 (search rules) e.1) g.F.Fields.count
+    seq_over g.R.Source (Gives (g.F.Fields.reads (g.C.SerializerConfig.human c.args.self.now.config) g.R.ReadSlice.lends)) _ c.in-Ok.seq c.listed.new.seq
+    t.trees o t.run _ _ e.0 (via c.end.new.self.0 (search rules) e.1) g.F.Fields.count
     (gives_counted [] (g.F.Fields.reads (g.C.SerializerConfig.human c.args.self.now.config) g.R.ReadSlice.lends) g.F.Fields.count
     (g.F.Fields.counted (g.C.SerializerConfig.human c.args.self.now.config) g.R.ReadSlice.lends)) _ t.value
 

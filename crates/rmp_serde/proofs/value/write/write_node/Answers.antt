@@ -21,7 +21,8 @@ returns-in_err-write_bin_len-in-Bytes-clause-writes g c =
     rw (p.1, p.2, c.in-Bytes.is) (puts_stop _ c.in_err-write_bin_len-in-Bytes.ensures.writes)
 
 pub returns-in_ok-write_bin_len-in-Bytes-clause-writes : goal.returns-in_ok-write_bin_len-in-Bytes-clause-writes
-returns-in_ok-write_bin_len-in-Bytes-clause-writes g c = rw c.in-Bytes.is ((rw c.content-in-Bytes.ensures.content at c.write_content-in-Bytes.ensures.writes) _ _ (head_some _) c.in_ok-write_bin_len-in-Bytes.ensures.writes)
+returns-in_ok-write_bin_len-in-Bytes-clause-writes g c = rw c.in-Bytes.is
+    ((rw c.content-in-Bytes.ensures.content at c.write_content-in-Bytes.ensures.writes) _ _ (head_some _) c.in_ok-write_bin_len-in-Bytes.ensures.writes)
 
 pub returns-in_err-write_ext_meta-in-Ext-clause-writes : goal.returns-in_err-write_ext_meta-in-Ext-clause-writes
 returns-in_err-write_ext_meta-in-Ext-clause-writes g c =
