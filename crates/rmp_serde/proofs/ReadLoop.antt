@@ -68,10 +68,11 @@ use Rattle.rmp_decode.proofs.Contents.{bare, text_content}
 use Rattle.rmp_decode.proofs.Laws.{stays_then, stays_refl}
 use Rattle.rmp_decode.proofs.Refusals.{content_of, refuses_short, refuses_none, refuses_by, same_head}
 use Rattle.rmp_decode.proofs.Skipping.{leaf_of, leaf_flat, leaf_spelled, content_fills, parts_refused}
+use Rattle.rmp_decode.proofs.SkipLoop.{to_do, falls_leaf, falls_in}
 use Rattle.rmp_decode.proofs.Wrong.{wrong_none, wrong_content, wrong_deep}
 use Rattle.rmp_serde.specs.Flat.{heads_in, EndsBy}
 use Rattle.rmp_serde.specs.Read.{AllTextsUtf8, ItemsUtf8, reads_value}
-use Rattle.rmp_serde.specs.ReadParts.{IsLeafHead, ContentUtf8, TakesLeaf, FailsLeaf, ReadsTrees}
+use Rattle.rmp_serde.specs.ReadParts.{IsLeafHead, ContentUtf8, TakesLeaf, FailsLeaf, Enters, ReadsTrees}
 use Rattle.rmp_serde.specs.Refuse.{UnreadFor}
 use Rattle.rmp_serde.specs.Tokens.{Token, tokens, tokens_all}
 use Rattle.rmp_serde.specs.declared.value.flat.Node.{Node}
@@ -226,6 +227,14 @@ module _ {R C : Type 0} (g : Ghosts R) where
 pub none_of : (xs : List ℕ) → length xs ≡ 0 → xs ≡ []
 none_of [] e = refl
 none_of (x ∷ xs) e = absurd (omega arith)
+
+-- less is to do once a list or a map was entered
+pub falls_entered : (room wanted n inner : ℕ) (outer : List ℕ) (then : ℕ × ℕ) (behind : List ℕ) → 0 < wanted → n ≡ wanted - 1 → 1 < room
+    → Enters inner (room, n) outer then behind → to_do then.0 then.1 behind < to_do room wanted outer
+falls_entered room wanted n inner outer then behind s q r o = elim o [
+  | inl x ↦ rw (x.room, x.kept) (falls_leaf room wanted then.1 outer s (x.wanted ∙ q))
+  | inr x ↦ falls_in room wanted n then.0 then.1 outer behind s q x.room (rw x.wanted x.few) x.kept r
+]
 
 -- what taking bytes with these heads leads to
 abbrev LeadsBy : Bool → ℕ → List ℕ → ℕ → List ℕ → List ℕ → List Token → Type 0
@@ -474,6 +483,15 @@ module _ {R C : Type 0} (g : Ghosts R) (all : ℕ) (start now : Deserializer R C
         step mid h.ok.bytes ((p.1, []) ∷ []) room' wanted' outer' heads' h.ok.takes t (leads_to l4) (omega (arith, d, r)) (omega (arith, d, r, long)) ready
         h.clean h.sound stays_mid
 
+    -- a list or a map was entered
+    pub wants_entered : (is_map : Bool) (len n : ℕ) (then : ℕ × ℕ) (behind : List ℕ) (heads' : List Token) → n ≡ wanted - 1 → p.1 ≡ parts_head is_map len
+        → Enters (parts_count is_map len) (room, n) outer then behind → 1 < room → heads' ≡ heads ++ (p.1, []) ∷ []
+        → Wants g all start mid then.0 then.1 behind before heads'
+    wants_entered is_map len n then behind heads' q i o r t = elim o [
+      | inl x ↦ rw (x.room, x.kept) (wants_empty is_map len then.1 heads' (x.wanted ∙ q) i x.none r t)
+      | inr x ↦ wants_in is_map len n then.0 then.1 behind heads' q x.room i x.wanted x.kept r t
+    ]
+
     -- ---- what it opens is refused
 
     head_is : (is_map : Bool) (len : ℕ) → p.1 ≡ parts_head is_map len → heads_of start.strict (parts_head is_map len) h.ok.bytes
@@ -496,6 +514,23 @@ module _ {R C : Type 0} (g : Ghosts R) (all : ℕ) (start now : Deserializer R C
     pub short_refused : (last : Deserializer R C) (after : List Token) → last.failed ≡ true → Stays g mid last
         → ReadsTrees g (room_of start - 1) all start last before after (Err errors.OutOfMemory)
     short_refused last after f st = wants_refused last errors.OutOfMemory after some f (stays_then g now mid last stays_mid st) (λ o _. absurd (o refl))
+
+    -- it couldn't be entered
+    pub unentered_refused : (is_map : Bool) (len : ℕ) (e : Error) (after : List Token) → p.1 ≡ parts_head is_map len
+        → (e ≡ errors.OutOfMemory) ⊎ ((e ≡ errors.DepthLimitExceeded) × (room ≤ 1))
+        → ReadsTrees g (room_of start - 1) all start (failed_of mid) before after (Err e)
+    unentered_refused is_map len e after i o = elim o [
+      | inl m ↦ wants_refused (failed_of mid) e after some refl h.stays (λ k _. absurd (k m))
+      | inr d ↦ deep_refused is_map len e after i d.1
+    ]
+
+    pub unentered_wrong : (is_map : Bool) (len : ℕ) (e : Error) → p.1 ≡ parts_head is_map len
+        → (e ≡ errors.OutOfMemory) ⊎ ((e ≡ errors.DepthLimitExceeded) × (room ≤ 1)) → e ≢ errors.OutOfMemory
+        → RefusesRowFirst g UnreadFor ItemsUtf8 (room_of start - 1) all start (failed_of mid) e
+    unentered_wrong is_map len e i o k = elim o [
+      | inl m ↦ absurd (k m)
+      | inr d ↦ rw d.0 (deep_wrong is_map len i d.1)
+    ]
 
     -- its content couldn't be taken
     leaf_fails : (last : Deserializer R C) (e : Error) → FailsLeaf g p.1 (failed_of mid) last e → LeafFails g start.strict room (left g now) (failed_of mid) last e

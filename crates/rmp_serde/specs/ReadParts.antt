@@ -1,5 +1,5 @@
 -- What reading values by their heads takes, and which heads it tells.
-use Rattle.std.specs.Prelude.{◌≡◌, ℕ, ◌<◌, List, [], ◌∷◌, ◌++◌, Bool, true, false, Result, OnOk, OnErr, IfErr, IsUtf8}
+use Rattle.std.specs.Prelude.{◌≡◌, ◌⊎◌, ℕ, ◌-◌, ◌<◌, List, [], ◌∷◌, ◌++◌, Bool, true, false, Result, OnOk, OnErr, IfErr, IsUtf8}
 use Rattle.std.specs.Io.KnownBytes.{Consumes}
 use Rattle.rmp_wire.specs.Canonical.{SpellsAs}
 use Rattle.rmp_wire.specs.Msg.{Msgs, count, depth_all}
@@ -45,6 +45,23 @@ pub record TakesLeaf {R C : Type 0} (g : Ghosts R) (h : Head) (old new : Deseria
 abbrev pub FailsLeaf : {R C : Type 0} → Ghosts R → Head → Deserializer R C → Deserializer R C → Error → Type 0
 FailsLeaf g (Text n) old new e = FailsText g n old new e
 FailsLeaf g h old new e = FailsContent g (content_len h) old new e
+
+-- nothing stands in a list or a map, so that the same is wanted behind its head, below the same depth
+pub record PassesEmpty (inner : ℕ) (around : ℕ × ℕ) (outer : List ℕ) (now : ℕ × ℕ) (behind : List ℕ) : Type 0 where
+  pub none : inner ≡ 0
+  pub room : now.0 ≡ around.0
+  pub wanted : now.1 ≡ around.1
+  pub kept : behind ≡ outer
+
+-- so many messages stand in it, and are wanted first, one level deeper; what was wanted is kept
+pub record GoesIn (inner : ℕ) (around : ℕ × ℕ) (outer : List ℕ) (now : ℕ × ℕ) (behind : List ℕ) : Type 0 where
+  pub room : now.0 ≡ around.0 - 1
+  pub wanted : now.1 ≡ inner
+  pub few : inner < 8589934592
+  pub kept : behind ≡ outer ++ around.1 ∷ []
+
+abbrev pub Enters : ℕ → ℕ × ℕ → List ℕ → ℕ × ℕ → List ℕ → Type 0
+Enters inner around outer now behind = PassesEmpty inner around outer now behind ⊎ GoesIn inner around outer now behind
 
 -- so many messages were taken, one after another, whose texts are UTF-8, and their heads stand behind those that were told before
 pub record TakesTrees {R C : Type 0} (g : Ghosts R) (room n : ℕ) (old new : Deserializer R C) (before after : List Token) : Type 0 where

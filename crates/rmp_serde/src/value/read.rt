@@ -1,5 +1,5 @@
 //! Reads a value, in whatever widths it is spelled.
-ghost use Rattle.std.specs.Prelude.{◌≡◌, ◌≢◌, ◌⊎◌, ◌-◌, ◌<◌, false, true, None, OnOk, OnErr, IfOk, IfErr};
+ghost use Rattle.std.specs.Prelude.{◌≡◌, ◌≢◌, ◌⊎◌, ◌-◌, ◌<◌, ◌≤◌, ◌++◌, ◌∷◌, [], false, true, None, OnOk, OnErr, IfOk, IfErr};
 ghost use Rattle.rmp_wire.specs.Heads.{fits_head};
 ghost use Rattle.rmp_decode.specs.Content.{IsRawHead, IsExtHead};
 ghost use Rattle.rmp_decode.specs.Kinds.{Finds};
@@ -10,7 +10,7 @@ ghost use Rattle.rmp_decode.specs.State.{failed_of, is_failed, kept_of, room_of,
 ghost use Rattle.rmp_decode.specs.declared.deserializer.Kept.TheVariants.{Nothing};
 ghost use Rattle.rmp_serde.specs.Flat.{heads_of, IsWithin};
 ghost use Rattle.rmp_serde.specs.Read.{reads_value, ItemsUtf8};
-ghost use Rattle.rmp_serde.specs.ReadParts.{IsLeafHead, TakesBehind, TakesLeaf, FailsLeaf, ReadsTrees};
+ghost use Rattle.rmp_serde.specs.ReadParts.{IsLeafHead, TakesBehind, TakesLeaf, FailsLeaf, Enters, ReadsTrees};
 ghost use Rattle.rmp_serde.specs.Refuse.{UnreadFor, RefusesValue};
 
 use crate::value::Value;
@@ -95,6 +95,45 @@ fn read_leaf<R: Source, C: SerializerConfig, P: ReadContent<R>>(
     }
 }
 
+// Tells the head of a list or a map that there is room for, and answers what is wanted then, and below which depth: where messages
+// stand in it, these, and what was wanted around it is kept.
+#[inline(always)]
+fn enter<R: Source, C: SerializerConfig>(
+    de: &mut Deserializer<R, C>,
+    head: Head,
+    parts: (bool, u32),
+    made: &mut Nodes,
+    outer: &mut Vec<u64>,
+    around: (u32, u64),
+) -> Result<(u32, u64), Error>
+    requires parts { head ≡ parts_head parts.0 parts.1 }
+    requires fits { fits_head head }
+    requires within { IsWithin made.old }
+    ensures told { OnOk result (heads_of made.new ≡ heads_of made.old ++ (head, []) ∷ []) }
+    ensures within { OnOk result (IsWithin made.new) }
+    ensures deep { OnOk result (1 < around.0) }
+    ensures wanted { IfOk result (λ now. Enters (parts_count parts.0 parts.1) around outer.old.items now outer.new.items) }
+    ensures same { OnOk result (de.new ≡ de.old) }
+    ensures err { IfErr result (λ e. (e ≡ Error.OutOfMemory) ⊎ ((e ≡ Error.DepthLimitExceeded) × (around.0 ≤ 1))) }
+    ensures failed { OnErr result (de.new ≡ failed_of de.old) }
+{
+    let (room, wanted) = around;
+    if room <= 1 {
+        return Err(de.refuse(Error::DepthLimitExceeded));
+    }
+    if made.push(head, 0).is_err() {
+        return Err(de.refuse(Error::OutOfMemory));
+    }
+    let inner = messages(parts.0, parts.1);
+    if inner == 0 {
+        return Ok(around);
+    }
+    if outer.push(wanted).is_err() {
+        return Err(de.refuse(Error::OutOfMemory));
+    }
+    Ok((room - 1, inner))
+}
+
 // Reads the messages of a list or a map whose head was taken, with all that stands in them, in one loop: what lists and maps that
 // stand open still want is counted.
 fn read_parts<R: Source, C: SerializerConfig, P: ReadContent<R>>(
@@ -125,35 +164,22 @@ fn read_parts<R: Source, C: SerializerConfig, P: ReadContent<R>>(
                 }
                 None => return Ok(()),
             }
-        } else {
-            wanted -= 1;
-            match de.deserialize_head() {
-                Ok(head) => match parts_in(head) {
-                    Some((is_map, n)) => {
-                        if room <= 1 {
-                            return Err(de.refuse(Error::DepthLimitExceeded));
-                        }
-                        match made.push(head, 0) {
-                            Ok(()) => {}
-                            Err(_) => return Err(de.refuse(Error::OutOfMemory)),
-                        }
-                        let inner = messages(is_map, n);
-                        if inner > 0 {
-                            match outer.push(wanted) {
-                                Ok(()) => {}
-                                Err(_) => return Err(de.refuse(Error::OutOfMemory)),
-                            }
-                            room -= 1;
-                            wanted = inner;
-                        }
-                    }
-                    None => match read_leaf::<R, C, P>(de, head, made) {
-                        Ok(()) => {}
-                        Err(e) => return Err(e),
-                    },
-                },
+            continue;
+        }
+        wanted -= 1;
+        let head = match de.deserialize_head() {
+            Ok(head) => head,
+            Err(e) => return Err(e),
+        };
+        match parts_in(head) {
+            Some(parts) => match enter(de, head, parts, made, &mut outer, (room, wanted)) {
+                Ok(now) => (room, wanted) = now,
                 Err(e) => return Err(e),
-            }
+            },
+            None => match read_leaf::<R, C, P>(de, head, made) {
+                Ok(()) => {}
+                Err(e) => return Err(e),
+            },
         }
     }
 }

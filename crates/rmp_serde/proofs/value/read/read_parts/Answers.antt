@@ -1,18 +1,17 @@
 use Rattle.std.proofs.Common.{refl, arith}
-use Rattle.rmp_decode.proofs.SkipLoop.{falls_leaf, falls_in}
+use Rattle.rmp_decode.proofs.SkipLoop.{falls_leaf}
 use Rattle.rmp_serde.specs.Flat.{heads_of}
 use Rattle.rmp_serde.proofs.ReadLoop.{
   fits_as,
-  parts_told,
+  falls_entered,
   none_of,
   wants_all,
   wants_out,
   wants_none,
   wants_leaf,
-  wants_empty,
-  wants_in,
-  deep_refused,
-  deep_wrong,
+  wants_entered,
+  unentered_refused,
+  unentered_wrong,
   left_refused,
   left_wrong,
   none_refused,
@@ -27,8 +26,8 @@ parts-init g c = (
   c.requires.within,
 )
 
-pub parts-preserved-in-Some : goal.parts-preserved-in-Some
-parts-preserved-in-Some g c = (
+pub parts-preserved-then-wanted-eq0 : goal.parts-preserved-then-wanted-eq0
+parts-preserved-then-wanted-eq0 g c = (
   wants_out g.R.Source c.args.count c.args.de.now c.parts.de c.parts.room c.parts.wanted c.parts.outer.items
       (heads_of c.args.made.now) (heads_of c.parts.made) c.parts.invariant.0 c.in-Some.n _ _ c.if-wanted-eq0.true c.in-Some.ensures.items refl,
   c.parts.invariant.1,
@@ -39,53 +38,37 @@ returns-in-None-clause-law g c = wants_none g.R.Source c.args.count c.args.de.no
     (heads_of c.args.made.now) (heads_of c.parts.made) c.parts.invariant.0 c.if-wanted-eq0.true
     (none_of c.parts.outer.items (omega (arith, c.in-None.ensures.cases.0)))
 
-pub returns-then-room-le1-clause-law : goal.returns-then-room-le1-clause-law
-returns-then-room-le1-clause-law g c = rw c.refuse.ensures.failed
-    (deep_refused g.R.Source c.args.count c.args.de.now c.parts.de c.parts.room c.parts.wanted c.parts.outer.items (heads_of c.args.made.now)
-    (heads_of c.parts.made) c.parts.invariant.0 c.deserialize_head.new.self (omega (arith, c.if-wanted-eq0.false))
-    (c.in-Ok.ensures.ok.marker, c.in-Ok.head) c.in-Ok.ensures.ok.begun c.in-Ok.ensures.ready c.in-Some-parts_in.is_map c.in-Some-parts_in.n _ _
-    c.in-Some-parts_in.ensures c.if-room-le1.true)
+pub enter-requires-clause-fits : goal.enter-requires-clause-fits
+enter-requires-clause-fits g c = fits_as c.parts.de.strict c.in-Ok.head _ c.in-Ok.ensures.ok.begun.ok.is_head
 
-pub returns-then-room-le1-clause-refusal : goal.returns-then-room-le1-clause-refusal
-returns-then-room-le1-clause-refusal g c = rw (c.refuse.ensures.failed, c.refuse.ensures.same)
-    (λ _. deep_wrong g.R.Source c.args.count c.args.de.now c.parts.de c.parts.room c.parts.wanted c.parts.outer.items (heads_of c.args.made.now)
-    (heads_of c.parts.made) c.parts.invariant.0 c.deserialize_head.new.self (omega (arith, c.if-wanted-eq0.false))
-    (c.in-Ok.ensures.ok.marker, c.in-Ok.head) c.in-Ok.ensures.ok.begun c.in-Ok.ensures.ready c.in-Some-parts_in.is_map c.in-Some-parts_in.n
-    c.in-Some-parts_in.ensures c.if-room-le1.true)
+pub parts-smaller-in-Ok-enter : goal.parts-smaller-in-Ok-enter
+parts-smaller-in-Ok-enter g c = falls_entered c.parts.room c.parts.wanted _ _ c.parts.outer.items c.in-Ok-enter.now c.enter.new.outer.items
+    (omega (arith, c.if-wanted-eq0.false)) refl c.in-Ok-enter.ensures.deep c.in-Ok-enter.ensures.wanted
 
-pub push-requires-clause-fits : goal.push-requires-clause-fits
-push-requires-clause-fits g c = fits_as c.parts.de.strict c.in-Ok.head _ c.in-Ok.ensures.ok.begun.ok.is_head
-
-pub parts-smaller-then-inner-gt0 : goal.parts-smaller-then-inner-gt0
-parts-smaller-then-inner-gt0 g c = falls_in c.parts.room c.parts.wanted _ _ _ c.parts.outer.items _ (omega (arith, c.if-wanted-eq0.false)) refl refl
-    c.messages-inner.ensures.below c.in-Ok-push-2.ensures.items (omega (arith, c.if-room-le1.false))
-
-pub parts-preserved-then-inner-gt0 : goal.parts-preserved-then-inner-gt0
-parts-preserved-then-inner-gt0 g c = (
-  wants_in g.R.Source c.args.count c.args.de.now c.parts.de c.parts.room c.parts.wanted c.parts.outer.items
+pub parts-preserved-in-Ok-enter : goal.parts-preserved-in-Ok-enter
+parts-preserved-in-Ok-enter g c = (
+  rw c.in-Ok-enter.ensures.same
+      (wants_entered g.R.Source c.args.count c.args.de.now c.parts.de c.parts.room c.parts.wanted c.parts.outer.items
       (heads_of c.args.made.now) (heads_of c.parts.made) c.parts.invariant.0 c.deserialize_head.new.self (omega (arith, c.if-wanted-eq0.false))
-      (c.in-Ok.ensures.ok.marker, c.in-Ok.head) c.in-Ok.ensures.ok.begun c.in-Ok.ensures.ready c.in-Some-parts_in.is_map c.in-Some-parts_in.n _ _ _ _ _
-      refl refl c.in-Some-parts_in.ensures c.messages-inner.ensures.same c.in-Ok-push-2.ensures.items (omega (arith, c.if-room-le1.false))
-      (parts_told (heads_of c.parts.made) _ c.in-Some-parts_in.is_map c.in-Some-parts_in.n 0 c.in-Ok.head c.parts.made.bytes.items
-      c.in-Some-parts_in.ensures
-      c.in-Ok-push.ensures.ok),
-  c.push.ensures.within,
+      (c.in-Ok.ensures.ok.marker, c.in-Ok.head) c.in-Ok.ensures.ok.begun c.in-Ok.ensures.ready c.in-Some-parts_in.parts.0 c.in-Some-parts_in.parts.1 _
+      c.in-Ok-enter.now c.enter.new.outer.items _ refl c.in-Some-parts_in.ensures c.in-Ok-enter.ensures.wanted c.in-Ok-enter.ensures.deep
+      c.in-Ok-enter.ensures.told),
+  c.in-Ok-enter.ensures.within,
 )
 
-pub parts-smaller-else-inner-gt0 : goal.parts-smaller-else-inner-gt0
-parts-smaller-else-inner-gt0 g c = falls_leaf c.parts.room c.parts.wanted _ c.parts.outer.items (omega (arith, c.if-wanted-eq0.false)) refl
+pub returns-in-Err-enter-clause-law : goal.returns-in-Err-enter-clause-law
+returns-in-Err-enter-clause-law g c = rw c.in-Err-enter.ensures.failed
+    (unentered_refused g.R.Source c.args.count c.args.de.now c.parts.de c.parts.room c.parts.wanted c.parts.outer.items (heads_of c.args.made.now)
+    (heads_of c.parts.made) c.parts.invariant.0 c.deserialize_head.new.self (omega (arith, c.if-wanted-eq0.false))
+    (c.in-Ok.ensures.ok.marker, c.in-Ok.head) c.in-Ok.ensures.ok.begun c.in-Ok.ensures.ready c.in-Some-parts_in.parts.0 c.in-Some-parts_in.parts.1
+    c.in-Err-enter.e _ c.in-Some-parts_in.ensures c.in-Err-enter.ensures.err)
 
-pub parts-preserved-else-inner-gt0 : goal.parts-preserved-else-inner-gt0
-parts-preserved-else-inner-gt0 g c = (
-  wants_empty g.R.Source c.args.count c.args.de.now c.parts.de c.parts.room c.parts.wanted c.parts.outer.items
-      (heads_of c.args.made.now) (heads_of c.parts.made) c.parts.invariant.0 c.deserialize_head.new.self (omega (arith, c.if-wanted-eq0.false))
-      (c.in-Ok.ensures.ok.marker, c.in-Ok.head) c.in-Ok.ensures.ok.begun c.in-Ok.ensures.ready c.in-Some-parts_in.is_map c.in-Some-parts_in.n _ _
-      refl c.in-Some-parts_in.ensures (omega (arith, c.if-inner-gt0.false, c.messages-inner.ensures.same)) (omega (arith, c.if-room-le1.false))
-      (parts_told (heads_of c.parts.made) _ c.in-Some-parts_in.is_map c.in-Some-parts_in.n 0 c.in-Ok.head c.parts.made.bytes.items
-      c.in-Some-parts_in.ensures
-      c.in-Ok-push.ensures.ok),
-  c.push.ensures.within,
-)
+pub returns-in-Err-enter-clause-refusal : goal.returns-in-Err-enter-clause-refusal
+returns-in-Err-enter-clause-refusal g c = rw c.in-Err-enter.ensures.failed
+    (unentered_wrong g.R.Source c.args.count c.args.de.now c.parts.de c.parts.room c.parts.wanted c.parts.outer.items (heads_of c.args.made.now)
+    (heads_of c.parts.made) c.parts.invariant.0 c.deserialize_head.new.self (omega (arith, c.if-wanted-eq0.false))
+    (c.in-Ok.ensures.ok.marker, c.in-Ok.head) c.in-Ok.ensures.ok.begun c.in-Ok.ensures.ready c.in-Some-parts_in.parts.0 c.in-Some-parts_in.parts.1
+    c.in-Err-enter.e c.in-Some-parts_in.ensures c.in-Err-enter.ensures.err)
 
 pub read_leaf-requires-clause-fits : goal.read_leaf-requires-clause-fits
 read_leaf-requires-clause-fits g c = fits_as c.parts.de.strict c.in-Ok.head _ c.in-Ok.ensures.ok.begun.ok.is_head

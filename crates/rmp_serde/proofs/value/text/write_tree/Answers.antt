@@ -1,4 +1,4 @@
-use Rattle.std.proofs.Common.{rules, arith, ◌≡◌, List, [], ◌++◌, ◌∙◌, ap, refl, sym, subst, append-nil}
+use Rattle.std.proofs.Common.{rules, arith, ◌≡◌, List, ◌++◌, ◌∙◌, ap, refl, sym, subst, append-nil}
 use Rattle.std.proofs.Output.{has_written_of_eq}
 use Rattle.rmp_serde.specs.OpenParts.{bracket_of, texts_left, WritesToward}
 use Rattle.rmp_serde.specs.Parts.{tree}
