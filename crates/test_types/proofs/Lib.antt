@@ -1,3 +1,5 @@
 pub mod Steps
 pub mod Levels
 pub mod Roses
+pub mod Induction
+pub mod Rounds

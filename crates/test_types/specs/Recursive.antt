@@ -1,5 +1,6 @@
 -- What types that lead back to themselves are read from and written as.
-use Rattle.std.specs.Prelude.{◌≡◌, ◌∷◌, [], ℕ, zero, suc, List, Option, None, Some, codes, Vec}
+use Rattle.std.specs.Prelude.{◌≡◌, ◌<◌, ◌∷◌, [], ℕ, zero, suc, List, Option, None, Some, codes, Vec}
+use Rattle.std.specs.List.{AllByRecursion}
 use Rattle.std.specs.declared.alloc.Global.{Global}
 use Rattle.rmp_wire.specs.Msg.{Msg}
 use Rattle.rmp_decode.specs.Fields.{OfFields, Field, Absent, NoField}
@@ -16,7 +17,7 @@ use Rattle.test_types.specs.declared.recursive.Rose.{Rose, out-Rose}
 use Rattle.test_types.specs.declared.recursive.Rose.TheFolds.{fold-Rose}
 use Rattle.test_types.specs.declared.recursive.Rose.TheOpen.{Rose-F}
 use Rattle.test_types.specs.declared.recursive.Tree.{Tree, out-Tree}
-use Rattle.test_types.specs.declared.recursive.Tree.TheFolds.{fold-Tree}
+use Rattle.test_types.specs.declared.recursive.Tree.TheFolds.{fold-Tree, rec-Tree}
 use Rattle.test_types.specs.declared.recursive.Tree.TheOpen.{Tree-F}
 
 -- a list, or bytes as the list of their numbers, of which each item is read so
@@ -87,3 +88,12 @@ rose_level v = structure_of ((codes "kids", slice_of v.kids.items) ∷ [])
 
 abbrev pub rose_data : Rose → Option Data
 rose_data = fold-Rose (Option Data) rose_level
+
+-- ---- what a tree has to be: each of its numbers is a byte
+
+abbrev pub layer_fits : (X : Type 0) → (X → Tree) → (X → Type 0) → Tree-F X → Type 0
+layer_fits X at fits (Tree-F.Leaf a) = a < 2 ^ 8
+layer_fits X at fits (Tree-F.Node ts) = AllByRecursion fits ts.items
+
+abbrev pub tree_fits : Tree → Type 0
+tree_fits = rec-Tree (Type 0) layer_fits

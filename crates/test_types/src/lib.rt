@@ -7,6 +7,7 @@ mod newtype;
 mod optional;
 pub mod own_type;
 mod recursive;
+mod rounds;
 pub mod structs;
 mod tuple_struct;
 mod unknown;

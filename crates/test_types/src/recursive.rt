@@ -4,7 +4,7 @@ ghost use Rattle.rmp_decode.specs.Read.{IsUnsigned};
 ghost use Rattle.rmp_decode.specs.Rows.{ReadsEach};
 ghost use Rattle.rmp_decode.specs.Seq.{OfRow};
 ghost use Rattle.std.specs.Prelude.{None, ⊤};
-ghost use Rattle.test_types.specs.Recursive.{IsNested, IsTree, IsRose, nested_data, tree_data, rose_data};
+ghost use Rattle.test_types.specs.Recursive.{IsNested, IsTree, IsRose, nested_data, tree_data, tree_fits, rose_data};
 
 use rmp_decode::{Deserialize, Deserializer, ReadContent, ReadPlaces, Slices};
 use rmp_encode::{Serialize, Serializer};
@@ -52,7 +52,7 @@ impl Serialize for Nested {
 impl Serialize for Tree {
     ghost data_of = { λ v human. tree_data v };
 
-    ghost is_value = { λ v. ⊤ };
+    ghost is_value = { λ v. tree_fits v };
 
     #[cycle(tree_writing)]
     fn serialize<W: Sink, C: SerializerConfig>(
