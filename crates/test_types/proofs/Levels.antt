@@ -1,25 +1,17 @@
 -- What types that lead back to themselves are written as, by what their parts are.
-use Rattle.std.proofs.Common.{◌≡◌, ◌∙◌, ap, map, [], ◌∷◌, Option, None}
-use Rattle.std.specs.Prelude.{codes}
+use Rattle.std.proofs.Common.{◌≡◌, ◌∙◌, ap, Option, None}
 use Rattle.rmp_encode.specs.Data.{Data}
-use Rattle.rmp_encode.specs.Trees.{byte_of, slice_of, structure_of}
+use Rattle.rmp_encode.specs.Trees.{byte_of}
 use Rattle.rmp_encode.proofs.Packing.{slice_no_byte}
 use Rattle.rmp_encode.proofs.Fields.{structure_no_byte}
 use Rattle.rmp_encode.proofs.Variants.{newtype_no_byte}
-use Rattle.test_types.specs.declared.recursive.Nested.{Nested, out-Nested}
-use Rattle.test_types.specs.declared.recursive.Nested.TheFolds.{fold_out-Nested}
-use Rattle.test_types.specs.declared.recursive.Rose.{Rose, out-Rose}
-use Rattle.test_types.specs.declared.recursive.Rose.TheFolds.{fold_out-Rose}
+use Rattle.test_types.specs.declared.recursive.Nested.{Nested}
+use Rattle.test_types.specs.declared.recursive.Rose.{Rose}
 use Rattle.test_types.specs.declared.recursive.Tree.{Tree}
 use Rattle.test_types.specs.declared.recursive.Tree.TheFolds.{fold_out-Tree}
 use Rattle.test_types.specs.declared.recursive.Tree.TheOpen.{Tree-F}
-use Rattle.test_types.specs.Recursive.{nested_level, nested_data, tree_level, tree_data, rose_level, rose_data}
-
-pub nested_is : (v : Nested) → nested_data v ≡ slice_of (map nested_data (out-Nested v).sub.items)
-nested_is v = fold_out-Nested (Option Data) nested_level v
-
-pub rose_is : (v : Rose) → rose_data v ≡ structure_of ((codes "kids", slice_of (map rose_data (out-Rose v).kids.items)) ∷ [])
-rose_is v = fold_out-Rose (Option Data) rose_level v
+use Rattle.test_types.specs.Recursive.{nested_data, tree_level, tree_data, rose_data}
+use Rattle.test_types.specs.Induction.{nested_is, rose_is}
 
 pub nested_no_byte : (v : Nested) → byte_of (nested_data v) ≡ None
 nested_no_byte v = ap byte_of (nested_is v) ∙ slice_no_byte _

@@ -1,67 +1,25 @@
 -- Nodes of a tree: what they are read from, in how many steps, and that their fields nest below them.
-use Rattle.std.proofs.Common.{◌≡◌, ◌∙◌, ap, subst, refl, arith, ℕ, zero, suc, ◌+◌, ◌*◌, ◌<◌, max, true, false, Bool, List, [], ◌∷◌, Option, None, Some, MatchOption}
-use Rattle.std.proofs.Common.{Vec, Global, Result, Ok, Err}
+use Rattle.std.proofs.Common.{◌≡◌, ◌∙◌, ap, subst, arith, ℕ, ◌<◌, max, true, false, Bool, List, [], ◌∷◌, Option, None, Some}
+use Rattle.std.proofs.Common.{Vec, Global, Ok}
 use Rattle.rmp_wire.specs.declared.source.Source.{Ghosts}
 use Rattle.rmp_wire.specs.Msg.{Msg}
 use Rattle.rmp_decode.specs.FieldAccess.{OpensStruct, OpensAs, SameStruct, as_seq}
-use Rattle.rmp_decode.specs.Fields.{OfFields, Slot, NoField, fields, at}
+use Rattle.rmp_decode.specs.Fields.{Slot, NoField, at}
 use Rattle.rmp_decode.specs.Law.{Lawful, Readable}
 use Rattle.rmp_decode.specs.Seq.{Opens}
 use Rattle.rmp_decode.specs.With.{Lends}
 use Rattle.rmp_decode.specs.declared.access.field_access.FieldAccess.{FieldAccess}
 use Rattle.rmp_decode.specs.declared.access.seq.SeqAccess.{SeqAccess}
 use Rattle.rmp_decode.specs.declared.deserializer.Deserializer.{Deserializer}
-use Rattle.rmp_decode.specs.declared.error.Error.{Error}
-use Rattle.rmp_decode.proofs.Laws.{lawful_ok, lawful_err}
+use Rattle.rmp_decode.proofs.Laws.{lawful_ok}
 use Rattle.rmp_decode.proofs.Seqs.{Values}
 use Rattle.test_types.specs.declared.recursive.Rose.{Rose, out-Rose}
-use Rattle.test_types.specs.Recursive.{Row, IsRose, RoseIn, RoseFields, rose_names}
-use Rattle.test_types.proofs.Steps.{row_as, row_in, row_done, steps_at, at_most, lent_steps}
+use Rattle.test_types.specs.Recursive.{Row, IsRose, RoseFields}
+use Rattle.test_types.proofs.Steps.{row_done, steps_at, at_most, lent_steps}
 
 -- what was read of the children
 abbrev pub KidsRead : List (Option Msg) → Option (Vec Rose Global) → Type 0
 KidsRead fs o = Slot (λ m (v : Vec Rose Global). Row IsRose m v.items) (λ gs (u : Unit {0}). NoField gs) fs o tt
-
-fields_as : (names : List (List ℕ)) (P Q : List (Option Msg) → Type 0) → ((fs : List (Option Msg)) → P fs → Q fs) → (m : Msg) → OfFields names P m
-    → OfFields names Q m
-fields_as names P Q f m h = go (fields names m) h
-  where
-    go : (x : Option (List (Option Msg))) → MatchOption x ⊥ P → MatchOption x ⊥ Q
-    go None h = h
-    go (Some fs) h = f fs h
-
-rose_as : (P Q : Msg → Rose → Type 0) → ((m : Msg) (v : Rose) → P m v → Q m v) → (v : Rose) (fs : List (Option Msg)) → RoseFields P fs v → RoseFields Q fs v
-rose_as P Q f v [] h = h
-rose_as P Q f v (None ∷ fs) h = h
-rose_as P Q f v (Some m ∷ fs) h = (row_as P Q f m (out-Rose v).kids.items h.0, h.1)
-
-rose_up : (n : ℕ) (m : Msg) (v : Rose) → RoseIn n m v → RoseIn (suc n) m v
-rose_up zero m v h = absurd h
-rose_up (suc n) m v h = fields_as rose_names (λ fs. RoseFields (RoseIn n) fs v) (λ fs. RoseFields (RoseIn (suc n)) fs v)
-    (rose_as (RoseIn n) (RoseIn (suc n)) (rose_up n) v) m h
-
-rose_in : (v : Rose) (fs : List (Option Msg)) → RoseFields IsRose fs v → (n : ℕ) × RoseFields (RoseIn n) fs v
-rose_in v [] h = absurd h
-rose_in v (None ∷ fs) h = (zero, h)
-rose_in v (Some m ∷ fs) h = let i = row_in RoseIn rose_up m (out-Rose v).kids.items h.0 in (i.0, (i.1, h.1))
-
-abbrev pub IsNode : Msg → Rose → Type 0
-IsNode m v = OfFields rose_names (λ fs. RoseFields IsRose fs v) m
-
-pub rose_made : (v : Rose) (m : Msg) → IsNode m v → IsRose m v
-rose_made v m h = let i = go (fields rose_names m) h in (suc i.0, i.1)
-  where
-    go : (x : Option (List (Option Msg))) → MatchOption x ⊥ (λ fs. RoseFields IsRose fs v) → (n : ℕ) × MatchOption x ⊥ (λ fs. RoseFields (RoseIn n) fs v)
-    go None h = absurd h
-    go (Some fs) h = rose_in v fs h
-
-pub rose_node : (m : Msg) → Readable IsRose m → Readable IsNode m
-rose_node m (v, (zero, h)) = absurd h
-rose_node m (v, (suc n, h)) = (
-  v,
-  fields_as rose_names (λ fs. RoseFields (RoseIn n) fs v) (λ fs. RoseFields IsRose fs v)
-      (rose_as (RoseIn n) IsRose (λ k w p. (n, p)) v) m h,
-)
 
 -- the children's tree is a list of nodes
 pub kids_named : (fs : List (Option Msg)) (v : Rose) (m : Msg) → RoseFields IsRose fs v → at 0 fs ≡ Some m → Row IsRose m (out-Rose v).kids.items

@@ -1,5 +1,5 @@
 -- What types that lead back to themselves are read from and written as.
-use Rattle.std.specs.Prelude.{◌≡◌, ◌<◌, ◌∷◌, [], ℕ, zero, suc, List, Option, None, Some, codes, Vec}
+use Rattle.std.specs.Prelude.{◌≡◌, ◌<◌, ◌^◌, ◌∷◌, [], ℕ, zero, suc, List, Option, None, Some, codes, Vec}
 use Rattle.std.specs.List.{AllByRecursion}
 use Rattle.std.specs.declared.alloc.Global.{Global}
 use Rattle.rmp_wire.specs.Msg.{Msg}

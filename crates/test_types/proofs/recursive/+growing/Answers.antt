@@ -1,7 +1,7 @@
-use Rattle.std.proofs.Common.{◌≡◌, ◌∙◌, ap, sym, subst, inl, inr, ◌⊎◌, true, false, refl, rules, arith, ◌<◌, length, [], ◌∷◌, List, Option, None, Some, Vec, Global}
+use Rattle.std.proofs.Common.{◌≡◌, ◌∙◌, ap, sym, subst, inl, inr, ◌⊎◌, false, refl, rules, arith, ◌<◌, length, List, Option, None, Some, Vec, Global}
 use Rattle.std.proofs.lemmas.Result.{err_from_is_err_and}
 use Rattle.rmp_wire.specs.Msg.{Msg}
-use Rattle.rmp_decode.specs.FieldAccess.{IsStructOpen, SameStruct, TakesPlace}
+use Rattle.rmp_decode.specs.FieldAccess.{IsStructOpen, TakesPlace}
 use Rattle.rmp_decode.specs.Fields.{Field, Absent, NoField, given_all}
 use Rattle.rmp_decode.specs.Names.{bytes_of}
 use Rattle.rmp_decode.specs.Seq.{IsOpen}
@@ -13,21 +13,9 @@ use Rattle.rmp_decode.proofs.StructRuns.{slot_first, slot_field, slot_gap, slot_
 use Rattle.rmp_decode.proofs.Structs.{fields_unopened}
 use Rattle.test_types.specs.declared.recursive.Rose.{Rose, out-Rose, out-roll-Rose}
 use Rattle.test_types.specs.Recursive.{Row, IsRose, RoseFields, rose_names}
-use Rattle.test_types.proofs.Roses.{KidsRead, IsNode, rose_made, rose_node, kids_named, roses_row, roses_done, field_steps, same_then}
-use Rattle.test_types.proofs.Steps.{
-  row_unopened,
-  row_refused,
-  row_unkept,
-  part_steps,
-  steps_at,
-  lent_law,
-  item_taken,
-  item_refused,
-  some_if,
-  some_if_err,
-  none_left,
-  never_none,
-}
+use Rattle.test_types.specs.Layers.{IsNode, rose_made, rose_node}
+use Rattle.test_types.proofs.Roses.{KidsRead, kids_named, roses_row, roses_done, field_steps, same_then}
+use Rattle.test_types.proofs.Steps.{row_unopened, row_refused, row_unkept, part_steps, steps_at, lent_law, item_taken, item_refused, some_if, some_if_err, none_left, never_none}
 use Rattle.test_types.proofs.recursive.+growing.Goals as goal
 use Rattle.test_types.proofs.recursive.+growing.Goals.{read_rose-in-Some, read_rose-in-None+in-Ok-missing_field_or}
 

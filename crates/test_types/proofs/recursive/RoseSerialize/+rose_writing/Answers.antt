@@ -2,7 +2,7 @@ use Rattle.std.proofs.Common.{rules, refl}
 use Rattle.std.proofs.lemmas.Result.{err_from_is_err_and}
 use Rattle.rmp_encode.proofs.Going.{unopened}
 use Rattle.rmp_encode.proofs.Parts.{rests_at, part_memory}
-use Rattle.test_types.proofs.Levels.{rose_is}
+use Rattle.test_types.specs.Induction.{rose_is}
 use Rattle.test_types.proofs.recursive.RoseSerialize.+rose_writing.Goals as goal
 
 pub returns-in_err-fields-clause-writes : goal.returns-in_err-fields-clause-writes

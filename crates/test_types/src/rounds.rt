@@ -1,0 +1,37 @@
+//! The types that lead back to themselves are read as they were written.
+ghost use Rattle.test_types.specs.ReadBack.{nested_some, nested_round, nested_other, tree_some, tree_round, tree_other};
+ghost use Rattle.test_types.specs.ReadBack.{rose_some, rose_round, rose_other};
+
+use crate::recursive::{Nested, Rose, Tree};
+use rmp_serde::{NeverNil, RoundTrip};
+use rmp_wire::ReadSlice;
+
+impl<'de, R: ReadSlice<'de>> RoundTrip<'de, R> for Nested {
+    ghost has_data = { λ human v. nested_some v };
+
+    ghost round = { λ lent s v fits. nested_round s v };
+}
+
+impl NeverNil for Nested {
+    ghost never_nil = { λ s v. nested_other s v };
+}
+
+impl<'de, R: ReadSlice<'de>> RoundTrip<'de, R> for Tree {
+    ghost has_data = { λ human v. tree_some v };
+
+    ghost round = { λ lent s v fits. tree_round s v fits };
+}
+
+impl NeverNil for Tree {
+    ghost never_nil = { λ s v. tree_other s v };
+}
+
+impl<'de, R: ReadSlice<'de>> RoundTrip<'de, R> for Rose {
+    ghost has_data = { λ human v. rose_some v };
+
+    ghost round = { λ lent s v fits. rose_round s v };
+}
+
+impl NeverNil for Rose {
+    ghost never_nil = { λ s v. rose_other s v };
+}
