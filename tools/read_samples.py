@@ -10,8 +10,6 @@ import os
 SAMPLES = os.path.join(os.path.dirname(os.path.abspath(__file__)), "..", "tests", "samples")
 # Two types more are read, whose elements are so large that no memory has room for as many as a head can claim.
 LARGE = ["Vec<[u64;400]>", "VecDeque<[u64;400]>"]
-# What is left out: an enum here is no key.
-NO_KEY = "BTreeMap<Two, u8>"
 
 
 def lines(name):
@@ -25,8 +23,6 @@ def written():
     """Type, value, and the settings with the bytes that the rules give, for values in the order of the sample."""
     found = []
     for kind, value, setting, wrote, rules in lines("typed_write.txt"):
-        if kind == NO_KEY:
-            continue
         if not found or found[-1][:2] != (kind, value):
             found.append((kind, value, []))
         found[-1][2].append((setting, wrote if rules == "=" else rules))

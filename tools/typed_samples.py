@@ -44,6 +44,8 @@ HOMES = {
     "test_types": "Nested Rose Tree TupleS TupleS0 UnkMap UnkSeq",
 }
 HOME = {name: home for home, names in HOMES.items() for name in names.split()}
+# The enum that is a key in the samples, and what stands for it, since a key has an order.
+KEYS = {"Two": "TwoKey"}
 # The fields of those that aren't derived here.
 SHAPES = """
 pub struct Dog { pub name: String, pub age: u16 }
@@ -200,6 +202,8 @@ class Body:
         return found
 
     def map_of(self, kinds, value):
+        key = KEYS.get(kinds[0], kinds[0])
+        kinds, value = [key, *kinds[1:]], value.replace(f"{kinds[0]}::", f"{key}::")
         pairs = self.pairs(kinds, value)
         of = f"BTreeMap<{', '.join(k for k in kinds)}>"
         if len(pairs) > 8:

@@ -64,6 +64,13 @@ pub struct Inner {
     pub n: u8,
 }
 
+/// Two names that are keys.
+#[derive(Drop, PartialEq, Eq, PartialOrd, Ord)]
+pub enum TwoKey {
+    First,
+    Second,
+}
+
 /// Variants of many kinds.
 #[derive(Drop)]
 pub enum EMix {
