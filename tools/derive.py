@@ -11,8 +11,8 @@ or of the wire, or of types of the crate that have `RoundTrip`, in this file or 
 parameters, the types of its fields have to be in scope, too. Of a type that doesn't get it the tool says why.
 
 Structs with names, tuple structs, newtypes, structs without fields, and enums with variants of each kind are derived, with
-type parameters or without. The type of a field is any that has both traits, also one of the file's own; an `Option` may be
-missing from a map. A trait that the file itself implements for a type isn't derived for it. What can't be derived is refused,
+type parameters or without, and with a lifetime where they borrow texts or bytes of what they are read from. The type of a field is any
+that has both traits, also one of the file's own; an `Option` may be missing from a map. A trait that the file itself implements for a type isn't derived for it. What can't be derived is refused,
 and the message says why.
 """
 import os
@@ -21,11 +21,11 @@ import sys
 
 sys.dont_write_bytecode = True
 import halves
-from declarations import MOST, PLAIN, PRELUDE, Refused, identifiers, read
+from declarations import MOST, PLAIN, PRELUDE, Declared, Field, Refused, Shape, identifiers, read
 from derived_proofs import answers, has_content
 from derived_rounds import LEMMAS, Own, Unknown
 from derived_rounds import implementations as rounds
-from derived_terms import GHOST, Words, alias, member_of_reading, member_of_refusing, members_of_writing, nested
+from derived_terms import GHOST, Words, alias, data_of, member_of_reading, member_of_refusing, members_of_writing, memory_of, nested, underscored
 from imports import imports
 from lines import broken
 
@@ -51,15 +51,14 @@ CODE = {
 
 
 def full_name(of):
-    names = [name for name, _ in of.parameters]
-    return of.name + (f"<{', '.join(names)}>" if names else "")
+    return of.name + of.arguments()
 
 
 def header(of, trait):
     """The beginning of an implementation."""
     is_read = trait == "Deserialize"
     bound = "Deserialize<'de, R>" if is_read else trait
-    bounds = ["'de", "R: ReadSlice<'de>"] if is_read else []
+    bounds = ["'de", "R: ReadSlice<'de>"] if is_read else [of.lifetime] * bool(of.lifetime)
     bounds += [f"{name}: {bound}" + (f" + {more}" if more else "") for name, more in of.parameters]
     return f"impl{'<' + ', '.join(bounds) + '>' if bounds else ''} {bound} for {full_name(of)} {{"
 
@@ -118,17 +117,32 @@ def handing_over(count):
     ]
 
 
-def body_of_struct(shape):
+def several(of, at, shape, values):
+    """How the fields of a struct or a variant are written, where there are several: they are handed over to one call."""
+    start = f'"{shape.name}"' if of.shape else f'"{of.name}", {at}, "{shape.name}"'
+    call = {True: "serialize_elements", False: "serialize_tuple_variant_of"}[bool(of.shape)]
+    if shape.kind == "named":
+        call = {True: "serialize_fields", False: "serialize_struct_variant_of"}[bool(of.shape)]
+        start += f", {field_names(shape)}"
+    return [f"let parts = {handed_over(values)};", f"se.{call}({start}, &parts)"]
+
+
+def written(of, at, shape, values):
+    """The same. Of a type that borrows, a function whose type parameters are those of the fields hands them over."""
+    if of.lifetime:
+        return [f"{apart(of, shape)}(se, {', '.join(values)})"]
+    return several(of, at, shape, values)
+
+
+def body_of_struct(of):
     """How a struct is written."""
+    shape = of.shape
     values = [f"&self.{field.name}" for field in shape.fields]
     if shape.kind == "unit":
         return [f'se.serialize_unit_struct("{shape.name}")']
     if shape.kind == "newtype":
         return [f'se.serialize_newtype_struct("{shape.name}", &self.0)']
-    parts = f"let parts = {handed_over(values)};"
-    if shape.kind == "tuple":
-        return [parts, f'se.serialize_elements("{shape.name}", &parts)']
-    return [parts, f'se.serialize_fields("{shape.name}", {field_names(shape)}, &parts)']
+    return written(of, 0, shape, values)
 
 
 def arm_of_writing(of, at, shape):
@@ -140,16 +154,43 @@ def arm_of_writing(of, at, shape):
         return [f"{pattern} => se.serialize_unit_variant{start}),"]
     if shape.kind == "newtype":
         return [f"{pattern} => se.serialize_newtype_variant{start}, {names[0]}),"]
-    parts = f"let parts = {handed_over(names)};"
-    if shape.kind == "tuple":
-        return [f"{pattern} => {{", parts, f"se.serialize_tuple_variant_of{start}, &parts)", "}"]
-    return [f"{pattern} => {{", parts, f"se.serialize_struct_variant_of{start}, {field_names(shape)}, &parts)", "}"]
+    return [f"{pattern} => {{", *written(of, at, shape, names), "}"]
 
 
 def body_of_writing(of):
     if of.shape:
-        return body_of_struct(of.shape)
+        return body_of_struct(of)
     return ["match self {", *(line for at, shape in enumerate(of.variants) for line in arm_of_writing(of, at, shape)), "}"]
+
+
+def apart(of, shape):
+    """The name of the function that writes the fields of a type that borrows."""
+    return f"put_{underscored(of.name)}" + ("" if of.shape else f"_{underscored(shape.name)}")
+
+
+def writing_apart(of, at, shape):
+    """That function. The type arguments of a call have at most one lifetime each, as the checker asks, so it has one for each field."""
+    kinds = halves.kinds(len(shape.fields))
+    places = PLACES[: len(kinds)]
+    general = Shape(shape.name, shape.kind, [Field(field.name, kind) for field, kind in zip(shape.fields, kinds)])
+    words = Words(Declared(of.name, [(kind, "") for kind in kinds]))
+    tree = data_of(words, general, "v" if of.shape else None, [f"{place}.now" for place in places], "(settings_of se.old).human")
+    known = " × ".join(f"{kind}.is_value {place}.now" for kind, place in zip(kinds, places))
+    return [
+        f"// Writes the fields of {'a struct' if of.shape else 'a variant'}, each of which may borrow.",
+        "#[inline(always)]",
+        f"fn {apart(of, shape)}<W: Sink, C: SerializerConfig, {', '.join(f'{kind}: Serialize' for kind in kinds)}>(",
+        "se: &mut Serializer<W, C>,",
+        *(f"{place}: &{kind}," for place, kind in zip(places, kinds)),
+        ") -> Result<(), rmp_encode::Error>",
+        f"    ensures writes {{ WritesTree W.Sink ({memory_of(words, general, '(settings_of se.old)')} || W.takes_memory)"
+        f" (tree_of (settings_of se.old) ({tree})) (sink_of se.old) (sink_of se.new) result }}",
+        "    ensures keeps { Keeps W.Sink se.old se.new }",
+        f"    ensures value {{ OnOk result ({known}) }}",
+        "{",
+        *several(of, at, shape, places),
+        "}\n",
+    ]
 
 
 def arm_of_reading(of, at, shape):
@@ -205,7 +246,9 @@ def writing(of):
     """The implementation of `Serialize`."""
     data, known, memory = members_of_writing(of, Words(of))
     lower = any(shape.kind == "unit" for shape in of.shapes())
+    several_of = [(at, shape) for at, shape in enumerate(of.shapes()) if shape.kind in ("tuple", "named")]
     return [
+        *(line for at, shape in several_of if of.lifetime for line in writing_apart(of, at, shape)),
         header(of, "Serialize"),
         f"    ghost data_of = {{ λ v human. {data} }};\n",
         f"    ghost is_value = {{ λ v. {known} }};\n",
@@ -221,6 +264,7 @@ def writing(of):
 
 def reading(of):
     """The implementation of `Deserialize`."""
+    of = of.lent_for("'de")
     return [
         header(of, "Deserialize"),
         f"    ghost reads = {{ λ human lends m v. {member_of_reading(of, Words(of))} }};\n",

@@ -24,6 +24,8 @@ LEAVES = {
     "Ext": ("ext_row s {v}", "extension_other s (tag_of {v}) (ext_bytes {v})"),
     "Raw": ("raw_row s (raw_bytes {v})", "raw_other s (raw_bytes {v})"),
     "Value": ("value_row s {v} {fits}.1", None),
+    "&'de str": ("str_row s {v}.now _ (lent refl) {fits}", "text_other s {v}.now"),
+    "Bytes<'de>": ("bytes_row s (bytes_of {v}) _ (lent refl)", "bytes_other s (bytes_of {v})"),
 }
 LEAVES |= {f"u{bits}": (f"unsigned_row_{bits} s {{v}} {{fits}}", "pos_other s {v}") for bits in (16, 32, 64)}
 LEAVES |= {f"i{bits}": (f"signed_row_{bits} s {{v}} {{fits}}", "whole_other s {v}") for bits in (8, 16, 32, 64)}
@@ -44,12 +46,12 @@ LEMMAS = {
     "std.proofs.Common": "refl rules",
     "std.proofs.lemmas.Cmp": "on_total nat_list_cmp_total",
     "std.specs.Cmp.Rules": "comparing",
-    "std.specs.Prelude": "◌||◌ string_bytes map",
-    "rmp_wire.specs.Types": "buffer_bytes tag_of ext_bytes",
+    "std.specs.Prelude": "◌||◌ string_bytes map true",
+    "rmp_wire.specs.Types": "buffer_bytes bytes_of tag_of ext_bytes",
     "rmp_decode.specs.Arrays": "Exactly",
     "rmp_decode.specs.Rows": "ReadsEach",
     "rmp_serde.specs.LeafRounds": "byte_row unsigned_row_16 unsigned_row_32 unsigned_row_64 signed_row_8 signed_row_16 signed_row_32 signed_row_64"
-    " truth_row unit_row float32_row float64_row char_row string_row buffer_row ext_row byte_other pos_other whole_other unsigned128_other"
+    " truth_row unit_row float32_row float64_row char_row string_row str_row bytes_row buffer_row ext_row byte_other pos_other whole_other unsigned128_other"
     " signed128_other truth_other float32_other float64_other char_other text_other bytes_other extension_other",
     "rmp_serde.specs.MapRounds": "mapping_some map_row map_other set_row",
     "rmp_serde.specs.RawRounds": "raw_row raw_other",
@@ -118,8 +120,11 @@ class Rounds:
         of = own.of
         names = [name for name, _ in of.parameters]
         flags = [f"{name}.borrows" for name in names]
-        self.borrows = any_of(flags) if flags else None
-        self.lent = dict(zip(names, lent(flags, "lent") if flags else []))
+        if of.lifetime:
+            self.borrows, proofs = "true", ["(λ _. lent refl)"] * len(names)
+        else:
+            self.borrows, proofs = any_of(flags) if flags else None, lent(flags, "lent") if flags else []
+        self.lent = dict(zip(names, proofs))
         # The parameters of which it is asked that no value is nil, and the laws that are named by their modules.
         self.asked, self.named = set(), {}
         # The types of other files whose laws are spelled out, and the names of their fields' types.
@@ -156,8 +161,8 @@ class Rounds:
         if name not in self.own or "RoundTrip" not in self.own[name].derived or not self.own[name].has("RoundTrip"):
             raise Unknown(f"no RoundTrip of {name} is known")
         self.bring(self.own[name])
-        of = self.own[name].of
-        parts = dict(zip((name for name, _ in of.parameters), parts))
+        of = self.own[name].of.lent_for("'de")
+        parts = dict(zip((name for name, _ in of.parameters), (part for part in parts if part != "'de")))
 
         def at_parts(shape):
             kinds = [re.sub(r"\w+", lambda word: parts.get(word[0], word[0]), field.kind) for field in shape.fields]
@@ -418,14 +423,14 @@ class Own:
 
     def implementation(self, trait):
         """That of `RoundTrip` or of `NeverNil`, in lines."""
-        rounds = Rounds(self)
-        members = rounds_of(rounds, self.of) if trait == "RoundTrip" else other_of(rounds, self.of)
+        rounds, of = Rounds(self), self.of.lent_for("'de")
+        members = rounds_of(rounds, of) if trait == "RoundTrip" else other_of(rounds, of)
         self.others |= rounds.others
         self.brought |= rounds.brought
         laws = [f"    ghost use Rattle.{path}.TheImpl.Laws as {name};" for name, path in sorted(rounds.named.items())]
         if any(READER in member for member in members):
             laws.append("    ghost use mir.Syntax.{given};")
-        return [header(self.of, trait, rounds.asked), *laws, *([""] if laws else []), *members, "}\n"]
+        return [header(of, trait, rounds.asked), *laws, *([""] if laws else []), *members, "}\n"]
 
 
 def rounds_of(rounds, of):
@@ -447,13 +452,12 @@ def other_of(rounds, of):
 def header(of, trait, asked):
     """The beginning of an implementation, where it is asked of some type parameters that no value of theirs is nil."""
     is_read = trait == "RoundTrip"
-    bounds = ["'de", "R: ReadSlice<'de>"] if is_read else []
+    bounds = ["'de"] * (is_read or bool(of.lifetime)) + ["R: ReadSlice<'de>"] * is_read
     for name, more in of.parameters:
         bound = ["RoundTrip<'de, R>"] * is_read + ["NeverNil"] * (name in asked) or ["Serialize"]
         bounds.append(f"{name}: " + " + ".join(bound + [more] * bool(more)))
-    names = ", ".join(name for name, _ in of.parameters)
     written = f"impl{'<' + ', '.join(bounds) + '>' if bounds else ''} {trait}{'<' + chr(39) + 'de, R>' if is_read else ''}"
-    return f"{written} for {of.name}{f'<{names}>' if names else ''} {{"
+    return f"{written} for {of.name}{of.arguments()} {{"
 
 
 def implementations(own):

@@ -4,10 +4,12 @@ import re
 # Where the words of the ghost members come from.
 GHOST = {
     "rmp_wire.specs.Msg": "nil",
-    "std.specs.Prelude": "◌≡◌ ◌≢◌ ◌∷◌ [] None Some codes false ⊤ IsSome",
+    "std.specs.Prelude": "◌≡◌ ◌≢◌ ◌∷◌ [] None Some codes false ⊤ IsSome OnOk",
     "rmp_encode.specs.Data": "unit_struct unit_variant",
+    "rmp_encode.specs.Ser": "sink_of settings_of",
     "rmp_encode.specs.Sizes": "one_of",
     "rmp_encode.specs.Trees": "wrapped_of sequence_of structure_of newtype_variant_of tuple_variant_of struct_variant_of tree_of",
+    "rmp_encode.specs.Writes": "Keeps WritesTree",
     "rmp_decode.specs.EnumRefusing": "RefusesEnum no_content with_content",
     "rmp_decode.specs.Exact": "RefusesExactly",
     "rmp_decode.specs.FieldRefusing": "RefusesFields",
@@ -53,9 +55,10 @@ def values_of(shape, value):
     return [f"a{at}" for at in range(1, len(shape.fields) + 1)]
 
 
-def data_of(words, shape, value=None):
-    """What the value is, of a struct, or of a variant where there is no value that has the fields."""
-    data = [f"{words.writes(field.kind, 'data_of')} {of} human" for field, of in zip(shape.fields, values_of(shape, value))]
+def data_of(words, shape, value=None, values=None, human="human"):
+    """What the value is, of a struct, or of a variant where there is no value that has the fields, which may be called otherwise."""
+    values = values or values_of(shape, value)
+    data = [f"{words.writes(field.kind, 'data_of')} {of} {human}" for field, of in zip(shape.fields, values)]
     name = "" if value else f'(codes "{shape.name}") '
     if shape.kind == "unit":
         return "Some unit_struct" if value else f'Some (unit_variant {name.strip()})'

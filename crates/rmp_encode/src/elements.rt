@@ -1,8 +1,8 @@
 //! Elements of several types, which one call writes: a tuple struct, a struct, or the content of a variant.
 //!
-//! The type's own `serialize` is then one call, whose contract is the type's law. An element of a type that borrows, such as `&str`,
-//! can't be handed over so: the checker doesn't cover a call with several lifetimes in a type argument. Such a type is written part
-//! by part.
+//! The type's own `serialize` is then one call, whose contract is the type's law. An element of a type that borrows, such as `&str`, is
+//! handed over by a function that has a type parameter for each element: the checker doesn't cover a call with several lifetimes in a
+//! type argument.
 ghost use Rattle.std.specs.Prelude.{◌≡◌, ◌^◌, ◌≤◌, ◌||◌, ℕ, Bool, List, Option, OnOk, length};
 ghost use Rattle.std.specs.List.{flat_map};
 ghost use Rattle.rmp_encode.specs.declared.settings.Settings.{Settings};

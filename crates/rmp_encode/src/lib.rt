@@ -1,21 +1,21 @@
 //! Writing typed values in the canonical spelling of MessagePack.
 #![tactic(auto)]
 
-pub mod compound;
-pub mod elements;
-pub mod error;
-pub mod extension;
+mod compound;
+mod elements;
+mod error;
+mod extension;
 pub mod laws;
 mod length;
-pub mod ser;
-pub mod serializer;
-pub mod series;
-pub mod settings;
+mod ser;
+mod serializer;
+mod series;
+mod settings;
 mod slice;
-pub mod tuple;
-pub mod underlying;
+mod tuple;
+mod underlying;
 mod variant;
-pub mod whole;
+mod whole;
 
 pub use compound::Compound;
 pub use elements::{Both, Eight, Elements, Five, Four, One, Seven, Six, Three};

@@ -1,10 +1,13 @@
 //! What the derived types are written as and read from.
-use rmp_decode::{Deserialize, Deserializer, Error, Text, from_slice, from_slice_strict};
+use rmp_decode::{Deserialize, Deserializer, Error, Text, from_read, from_slice, from_slice_strict};
 use rmp_encode::{Serialize, Serializer, to_vec, to_vec_named, write_named};
-use rmp_wire::Marker;
+use rmp_wire::{Bytes, Marker};
 use std::alloc::Global;
 use std::test::Fail;
-use test_derived::{Counted, Dog, Four, Mixed, Newtype, Opt, Papers, Point, Two, Unit, V12};
+use test_derived::{
+    Counted, Dog, Event, Four, Label, Line, Mixed, Newtype, Opt, Papers, Piece, Point, Two, Unit,
+    V12,
+};
 
 fn dog(alloc: Global, name: &str, age: u16) -> Result<Dog, Fail> {
     Ok(Dog {
@@ -224,5 +227,68 @@ fn variants_of_each_kind(rt: HostRuntime) -> Result<(), Fail> {
     assert!(rt;
         matches!(&read, Ok(four) if four.len() == 4 && matches!(&four[2], Four::Tup(200, 300)))
     );
+    Ok(())
+}
+
+// A line with a tag, and no source.
+const LINE: &[u8] = b"\x94\x02\xa4disk\x91\xa1a\xc0";
+
+#[test]
+fn texts_are_lent(rt: HostRuntime) -> Result<(), Fail> {
+    let read: Result<Line<'_>, Error> = from_slice(rt.alloc(), LINE);
+    match &read {
+        Ok(line) => {
+            assert_eq!(rt; line.text, "disk");
+            assert!(rt; line.level == 2 && line.source.is_none());
+            assert!(rt; matches!(line.tags.as_slice(), ["a"]));
+            assert_eq!(rt; to_vec(rt.alloc(), line)?.as_slice(), LINE);
+            assert_eq!(rt;
+                to_vec_named(rt.alloc(), line)?.as_slice(),
+                b"\x84\xa5level\x02\xa4text\xa4disk\xa4tags\x91\xa1a\xa6source\xc0".as_slice()
+            );
+        }
+        Err(_) => assert!(rt; false),
+    }
+    Ok(())
+}
+
+#[test]
+fn a_source_lends_no_text(rt: HostRuntime) {
+    let read: Result<Line<'_>, Error> = from_read(rt.alloc(), LINE);
+    assert!(rt; matches!(&read, Err(Error::Syntax(Text::InvalidType))));
+    let read: Result<Label<'_>, Error> = from_read(rt.alloc(), b"\xa1a".as_slice());
+    assert!(rt; matches!(&read, Err(Error::Syntax(Text::InvalidType))));
+}
+
+#[test]
+fn lent_bytes_come_back(rt: HostRuntime) -> Result<(), Fail> {
+    let piece = Piece(Bytes::new(&[1, 2, 3]), 7);
+    let message = to_vec(rt.alloc(), &piece)?;
+    assert_eq!(rt; message.as_slice(), b"\x92\xc4\x03\x01\x02\x03\x07".as_slice());
+    let read: Result<Piece<'_>, Error> = from_slice(rt.alloc(), message.as_slice());
+    assert!(rt; matches!(&read, Ok(Piece(bytes, 7)) if bytes.as_bytes() == [1, 2, 3].as_slice()));
+    Ok(())
+}
+
+#[test]
+fn variants_that_borrow_come_back(rt: HostRuntime) -> Result<(), Fail> {
+    let events: [(Event<'_, u16>, &[u8]); 5] = [
+        (Event::Started, b"\xa7Started"),
+        (Event::Said("hi"), b"\x81\xa4Said\xa2hi"),
+        (Event::Moved(-2, Label("up")), b"\x81\xa5Moved\x92\xfe\xa2up"),
+        (
+            Event::Put { key: "k", size: 300 },
+            b"\x81\xa3Put\x92\xa1k\xcd\x01\x2c",
+        ),
+        (Event::Held(9), b"\x81\xa4Held\x09"),
+    ];
+    for (event, bytes) in &events {
+        assert_eq!(rt; to_vec(rt.alloc(), event)?.as_slice(), *bytes);
+        let read: Result<Event<'_, u16>, Error> = from_slice(rt.alloc(), bytes);
+        match &read {
+            Ok(again) => assert_eq!(rt; to_vec(rt.alloc(), again)?.as_slice(), *bytes),
+            Err(_) => assert!(rt; false),
+        }
+    }
     Ok(())
 }

@@ -1,0 +1,499 @@
+//! How the types of lent.rt are written and read. Written by tools/derive.py.
+ghost use Rattle.rmp_decode.specs.EnumRefusing.{RefusesEnum, no_content, with_content};
+ghost use Rattle.rmp_decode.specs.FieldRefusing.{RefusesFields};
+ghost use Rattle.rmp_decode.specs.Fields.{OfFields, Field, Absent, NoField};
+ghost use Rattle.rmp_decode.specs.Refusing.{RefusesTuple, part_of};
+ghost use Rattle.rmp_decode.specs.Rows.{AndThen, NoMore, ReadsEach};
+ghost use Rattle.rmp_decode.specs.Seq.{OfRow};
+ghost use Rattle.rmp_decode.specs.Variants.{OfVariant, Case, NoCase, Bare, Content};
+ghost use Rattle.rmp_encode.specs.Data.{unit_variant};
+ghost use Rattle.rmp_encode.specs.Ser.{sink_of, settings_of};
+ghost use Rattle.rmp_encode.specs.Sizes.{one_of};
+ghost use Rattle.rmp_encode.specs.Trees.{wrapped_of, sequence_of, structure_of, newtype_variant_of, tuple_variant_of, struct_variant_of, tree_of};
+ghost use Rattle.rmp_encode.specs.Writes.{Keeps, WritesTree};
+ghost use Rattle.rmp_serde.specs.LeafRounds.{byte_row, unsigned_row_32, signed_row_16, str_row, bytes_row, text_other};
+ghost use Rattle.rmp_serde.specs.Rounds.{each_some, each_row, option_some, option_row, slice_some, slice_row, sequence_row, sequence_other, rows_none, rows_cons};
+ghost use Rattle.rmp_serde.specs.StructRounds.{sequence_all, tuple_variant_all, structure_all, struct_variant_all, structure_row, structure_other, fields_none, fields_cons};
+ghost use Rattle.rmp_serde.specs.VariantRounds.{newtype_some, newtype_variant_some, newtype_row, bare_row, newtype_variant_row, tuple_variant_row, struct_variant_row, newtype_other, bare_other, newtype_variant_other, tuple_variant_other, struct_variant_other};
+ghost use Rattle.rmp_wire.specs.Types.{bytes_of};
+ghost use Rattle.std.proofs.Common.{refl};
+ghost use Rattle.std.specs.Prelude.{◌≡◌, ◌∷◌, [], None, Some, codes, false, ⊤, OnOk, ◌||◌, true};
+ghost use Rattle.test_derived.specs.declared.lent.Event.TheVariants as the_event;
+
+use super::{Bytes, Event, Label, Line, Piece};
+use rmp_decode::{Deserialize, Deserializer, ReadFields};
+use rmp_encode::{Serialize, Serializer};
+use rmp_serde::{NeverNil, RoundTrip};
+use rmp_wire::config::SerializerConfig;
+use rmp_wire::{ReadSlice, Sink};
+
+// Writes the fields of a struct, each of which may borrow.
+#[inline(always)]
+fn put_line<
+    W: Sink,
+    C: SerializerConfig,
+    E1: Serialize,
+    E2: Serialize,
+    E3: Serialize,
+    E4: Serialize,
+>(
+    se: &mut Serializer<W, C>,
+    first: &E1,
+    second: &E2,
+    third: &E3,
+    fourth: &E4,
+) -> Result<(), rmp_encode::Error>
+    ensures writes { WritesTree W.Sink (one_of (E1.takes_memory (settings_of se.old)
+        ∷ (E2.takes_memory (settings_of se.old) ∷ (E3.takes_memory (settings_of se.old) ∷ (E4.takes_memory (settings_of se.old) ∷ [])))) || W.takes_memory)
+        (tree_of (settings_of se.old) (structure_of ((codes "level", E1.data_of first.now (settings_of se.old).human)
+        ∷ ((codes "text", E2.data_of second.now (settings_of se.old).human)
+        ∷ ((codes "tags", E3.data_of third.now (settings_of se.old).human) ∷ ((codes "source", E4.data_of fourth.now (settings_of se.old).human) ∷ []))))))
+        (sink_of se.old) (sink_of se.new) result }
+    ensures keeps { Keeps W.Sink se.old se.new }
+    ensures value { OnOk result (E1.is_value first.now × E2.is_value second.now × E3.is_value third.now × E4.is_value fourth.now) }
+{
+    let parts = rmp_encode::Four {
+        first,
+        second,
+        third,
+        fourth,
+    };
+    se.serialize_fields("Line", &["level", "text", "tags", "source"], &parts)
+}
+
+impl<'a> Serialize for Line<'a> {
+    ghost data_of = { λ v human. structure_of ((codes "level", ⟦<u8 as Serialize>⟧.data_of v.level human)
+        ∷ ((codes "text", ⟦<&'a str as Serialize>⟧.data_of v.text human)
+        ∷ ((codes "tags", ⟦<Vec<&'a str> as Serialize>⟧.data_of v.tags human)
+        ∷ ((codes "source", ⟦<Option<&'a str> as Serialize>⟧.data_of v.source human) ∷ [])))) };
+
+    ghost is_value = { λ v. ⟦<u8 as Serialize>⟧.is_value v.level × ⟦<&'a str as Serialize>⟧.is_value v.text × ⟦<Vec<&'a str> as Serialize>⟧.is_value v.tags
+        × ⟦<Option<&'a str> as Serialize>⟧.is_value v.source };
+
+    ghost takes_memory = { λ s. one_of (⟦<u8 as Serialize>⟧.takes_memory s
+        ∷ (⟦<&'a str as Serialize>⟧.takes_memory s ∷ (⟦<Vec<&'a str> as Serialize>⟧.takes_memory s
+        ∷ (⟦<Option<&'a str> as Serialize>⟧.takes_memory s ∷ [])))) };
+
+    fn serialize<W: Sink, C: SerializerConfig>(
+        &self,
+        se: &mut Serializer<W, C>,
+    ) -> Result<(), rmp_encode::Error> {
+        put_line(se, &self.level, &self.text, &self.tags, &self.source)
+    }
+
+    #[tactic(auto, using(rmp_encode::proofs::Fields::structure_no_byte))]
+    fn as_u8(&self, _human: bool) -> Option<u8> {
+        None
+    }
+}
+
+impl<'de, R: ReadSlice<'de>> Deserialize<'de, R> for Line<'de> {
+    ghost reads = { λ human lends m v. OfFields (codes "level" ∷ (codes "text" ∷ (codes "tags" ∷ (codes "source" ∷ []))))
+        (Field (λ j. ⟦<u8 as Deserialize<'de, R>>⟧.reads human lends j v.level) (Absent ⟦<u8 as Deserialize<'de, R>>⟧.absent v.level)
+        (Field (λ j. ⟦<&'de str as Deserialize<'de, R>>⟧.reads human lends j v.text) (Absent ⟦<&'de str as Deserialize<'de, R>>⟧.absent v.text)
+        (Field (λ j. ⟦<Vec<&'de str> as Deserialize<'de, R>>⟧.reads human lends j v.tags) (Absent ⟦<Vec<&'de str> as Deserialize<'de, R>>⟧.absent v.tags)
+        (Field (λ j. ⟦<Option<&'de str> as Deserialize<'de, R>>⟧.reads human lends j v.source)
+        (Absent ⟦<Option<&'de str> as Deserialize<'de, R>>⟧.absent v.source) NoField)))) m };
+
+    ghost absent = { None };
+
+    ghost refuses = { RefusesFields (codes "level" ∷ (codes "text" ∷ (codes "tags" ∷ (codes "source" ∷ []))))
+        ⟦<(u8, (&'de str, (Vec<&'de str>, (Option<&'de str>, ())))) as ReadFields<'de, R>>⟧.reads
+        ⟦<(u8, (&'de str, (Vec<&'de str>, (Option<&'de str>, ())))) as ReadFields<'de, R>>⟧.parts };
+
+    fn deserialize<C: SerializerConfig>(
+        de: &mut Deserializer<R, C>,
+    ) -> Result<Line<'de>, rmp_decode::Error> {
+        let read: Result<
+            (u8, (&'de str, (Vec<&'de str>, (Option<&'de str>, ())))),
+            rmp_decode::Error,
+        > = de.deserialize_fields(&["level", "text", "tags", "source"]);
+        match read {
+            Ok(parts) => {
+                let (level, (text, (tags, (source, ())))) = parts;
+                Ok(Line {
+                    level,
+                    text,
+                    tags,
+                    source,
+                })
+            }
+            Err(e) => Err(e),
+        }
+    }
+
+    fn missing() -> Option<Line<'de>> {
+        None
+    }
+}
+
+impl<'de, R: ReadSlice<'de>> RoundTrip<'de, R> for Line<'de> {
+    ghost borrows = { true };
+
+    ghost has_data = { λ human v. structure_all ((codes "level", ⟦<u8 as Serialize>⟧.data_of v.level human)
+        ∷ ((codes "text", ⟦<&'de str as Serialize>⟧.data_of v.text human)
+        ∷ ((codes "tags", ⟦<Vec<&'de str> as Serialize>⟧.data_of v.tags human)
+        ∷ ((codes "source", ⟦<Option<&'de str> as Serialize>⟧.data_of v.source human) ∷ [])))) (
+          refl,
+          (
+            refl,
+            (
+              (slice_some _ (each_some (λ x. ⟦<&'de str as Serialize>⟧.data_of x human) (λ x1. refl) v.tags.items)),
+              ((option_some (λ x. ⟦<&'de str as Serialize>⟧.data_of x human) (λ x2. refl) v.source), tt),
+            ),
+          ),
+        ) };
+
+    ghost round = { λ lent s v fits. structure_row s (codes "level" ∷ (codes "text" ∷ (codes "tags" ∷ (codes "source" ∷ [])))) _ _ refl
+        (fields_cons s (codes "level") _ _ _ (λ j. ⟦<u8 as Deserialize<'de, R>>⟧.reads s.human R.lends j v.level)
+        (Absent ⟦<u8 as Deserialize<'de, R>>⟧.absent v.level) _ (byte_row s v.level fits.0)
+        (fields_cons s (codes "text") _ _ _ (λ j. ⟦<&'de str as Deserialize<'de, R>>⟧.reads s.human R.lends j v.text)
+        (Absent ⟦<&'de str as Deserialize<'de, R>>⟧.absent v.text) _ (str_row s v.text.now _ (lent refl) fits.1)
+        (fields_cons s (codes "tags") _ _ _ (λ j. ⟦<Vec<&'de str> as Deserialize<'de, R>>⟧.reads s.human R.lends j v.tags)
+        (Absent ⟦<Vec<&'de str> as Deserialize<'de, R>>⟧.absent v.tags) _
+        (slice_row s _ (λ ms. ReadsEach (⟦<&'de str as Deserialize<'de, R>>⟧.reads s.human R.lends) ms v.tags.items)
+        (each_row s (λ x. ⟦<&'de str as Serialize>⟧.data_of x s.human) ⟦<&'de str as Serialize>⟧.is_value
+        (⟦<&'de str as Deserialize<'de, R>>⟧.reads s.human R.lends) (λ x3 h3. (str_row s x3.now _ (lent refl) h3)) v.tags.items fits.2))
+        (fields_cons s (codes "source") _ _ _ (λ j. ⟦<Option<&'de str> as Deserialize<'de, R>>⟧.reads s.human R.lends j v.source)
+        (Absent ⟦<Option<&'de str> as Deserialize<'de, R>>⟧.absent v.source) _
+        (option_row s (λ x. ⟦<&'de str as Serialize>⟧.data_of x s.human) ⟦<&'de str as Serialize>⟧.is_value
+        (⟦<&'de str as Deserialize<'de, R>>⟧.reads s.human R.lends) (λ x5. text_other s x5.now) (λ x4 h4. (str_row s x4.now _ (lent refl) h4)) v.source
+        fits.3) (fields_none s))))) };
+}
+
+impl<'de> NeverNil for Line<'de> {
+    ghost never_nil = { λ s v. structure_other s _ };
+}
+
+impl<'a> Serialize for Label<'a> {
+    ghost data_of = { λ v human. wrapped_of (⟦<&'a str as Serialize>⟧.data_of v.0 human) };
+
+    ghost is_value = { λ v. ⟦<&'a str as Serialize>⟧.is_value v.0 };
+
+    ghost takes_memory = { λ s. ⟦<&'a str as Serialize>⟧.takes_memory s };
+
+    fn serialize<W: Sink, C: SerializerConfig>(
+        &self,
+        se: &mut Serializer<W, C>,
+    ) -> Result<(), rmp_encode::Error> {
+        se.serialize_newtype_struct("Label", &self.0)
+    }
+
+    #[tactic(auto, using(rmp_encode::proofs::Wrapped::wrapped_no_byte))]
+    fn as_u8(&self, _human: bool) -> Option<u8> {
+        None
+    }
+}
+
+impl<'de, R: ReadSlice<'de>> Deserialize<'de, R> for Label<'de> {
+    ghost reads = { λ human lends m v. ⟦<&'de str as Deserialize<'de, R>>⟧.reads human lends m v.0 };
+
+    ghost absent = { None };
+
+    ghost refuses = { ⟦<&'de str as Deserialize<'de, R>>⟧.refuses };
+
+    fn deserialize<C: SerializerConfig>(
+        de: &mut Deserializer<R, C>,
+    ) -> Result<Label<'de>, rmp_decode::Error> {
+        match de.deserialize_newtype_struct("Label") {
+            Ok(first) => Ok(Label(first)),
+            Err(e) => Err(e),
+        }
+    }
+
+    fn missing() -> Option<Label<'de>> {
+        None
+    }
+}
+
+impl<'de, R: ReadSlice<'de>> RoundTrip<'de, R> for Label<'de> {
+    ghost borrows = { true };
+
+    ghost has_data = { λ human v. newtype_some (⟦<&'de str as Serialize>⟧.data_of v.0 human) refl };
+
+    ghost round = { λ lent s v fits. newtype_row s (⟦<&'de str as Serialize>⟧.data_of v.0 s.human)
+        (λ j. ⟦<&'de str as Deserialize<'de, R>>⟧.reads s.human R.lends j v.0) (str_row s v.0.now _ (lent refl) fits) };
+}
+
+impl<'de> NeverNil for Label<'de> {
+    ghost never_nil = { λ s v. newtype_other s (⟦<&'de str as Serialize>⟧.data_of v.0 s.human) (text_other s v.0.now) };
+}
+
+// Writes the fields of a struct, each of which may borrow.
+#[inline(always)]
+fn put_piece<W: Sink, C: SerializerConfig, E1: Serialize, E2: Serialize>(
+    se: &mut Serializer<W, C>,
+    first: &E1,
+    second: &E2,
+) -> Result<(), rmp_encode::Error>
+    ensures writes { WritesTree W.Sink (one_of (E1.takes_memory (settings_of se.old) ∷ (E2.takes_memory (settings_of se.old) ∷ [])) || W.takes_memory)
+        (tree_of (settings_of se.old) (sequence_of (E1.data_of first.now (settings_of se.old).human
+        ∷ (E2.data_of second.now (settings_of se.old).human ∷ [])))) (sink_of se.old) (sink_of se.new) result }
+    ensures keeps { Keeps W.Sink se.old se.new }
+    ensures value { OnOk result (E1.is_value first.now × E2.is_value second.now) }
+{
+    let parts = rmp_encode::Both { first, second };
+    se.serialize_elements("Piece", &parts)
+}
+
+impl<'a> Serialize for Piece<'a> {
+    ghost data_of = { λ v human. sequence_of (⟦<Bytes<'a> as Serialize>⟧.data_of v.0 human ∷ (⟦<u32 as Serialize>⟧.data_of v.1 human ∷ [])) };
+
+    ghost is_value = { λ v. ⟦<Bytes<'a> as Serialize>⟧.is_value v.0 × ⟦<u32 as Serialize>⟧.is_value v.1 };
+
+    ghost takes_memory = { λ s. one_of (⟦<Bytes<'a> as Serialize>⟧.takes_memory s ∷ (⟦<u32 as Serialize>⟧.takes_memory s ∷ [])) };
+
+    fn serialize<W: Sink, C: SerializerConfig>(
+        &self,
+        se: &mut Serializer<W, C>,
+    ) -> Result<(), rmp_encode::Error> {
+        put_piece(se, &self.0, &self.1)
+    }
+
+    #[tactic(auto, using(rmp_encode::proofs::Lists::sequence_no_byte))]
+    fn as_u8(&self, _human: bool) -> Option<u8> {
+        None
+    }
+}
+
+impl<'de, R: ReadSlice<'de>> Deserialize<'de, R> for Piece<'de> {
+    ghost reads = { λ human lends m v. OfRow (AndThen (λ j. ⟦<Bytes<'de> as Deserialize<'de, R>>⟧.reads human lends j v.0)
+        (AndThen (λ j. ⟦<u32 as Deserialize<'de, R>>⟧.reads human lends j v.1) NoMore)) m };
+
+    ghost absent = { None };
+
+    ghost refuses = { RefusesTuple (part_of ⟦<Bytes<'de> as Deserialize<'de, R>>⟧.reads ⟦<Bytes<'de> as Deserialize<'de, R>>⟧.refuses
+        ∷ (part_of ⟦<u32 as Deserialize<'de, R>>⟧.reads ⟦<u32 as Deserialize<'de, R>>⟧.refuses ∷ [])) };
+
+    fn deserialize<C: SerializerConfig>(
+        de: &mut Deserializer<R, C>,
+    ) -> Result<Piece<'de>, rmp_decode::Error> {
+        let read: Result<(Bytes<'de>, u32), rmp_decode::Error> = Deserialize::deserialize(de);
+        match read {
+            Ok(parts) => {
+                let (first, second) = parts;
+                Ok(Piece(first, second))
+            }
+            Err(e) => Err(e),
+        }
+    }
+
+    fn missing() -> Option<Piece<'de>> {
+        None
+    }
+}
+
+impl<'de, R: ReadSlice<'de>> RoundTrip<'de, R> for Piece<'de> {
+    ghost borrows = { true };
+
+    ghost has_data = { λ human v. sequence_all (⟦<Bytes<'de> as Serialize>⟧.data_of v.0 human ∷ (⟦<u32 as Serialize>⟧.data_of v.1 human ∷ []))
+        (refl, (refl, tt)) };
+
+    ghost round = { λ lent s v fits. sequence_row s _ _
+        (rows_cons s _ _ (λ j. ⟦<Bytes<'de> as Deserialize<'de, R>>⟧.reads s.human R.lends j v.0) _ (bytes_row s (bytes_of v.0) _ (lent refl))
+        (rows_cons s _ _ (λ j. ⟦<u32 as Deserialize<'de, R>>⟧.reads s.human R.lends j v.1) _ (unsigned_row_32 s v.1 fits.1) (rows_none s))) };
+}
+
+impl<'de> NeverNil for Piece<'de> {
+    ghost never_nil = { λ s v. sequence_other s _ };
+}
+
+// Writes the fields of a variant, each of which may borrow.
+#[inline(always)]
+fn put_event_moved<W: Sink, C: SerializerConfig, E1: Serialize, E2: Serialize>(
+    se: &mut Serializer<W, C>,
+    first: &E1,
+    second: &E2,
+) -> Result<(), rmp_encode::Error>
+    ensures writes { WritesTree W.Sink (one_of (E1.takes_memory (settings_of se.old) ∷ (E2.takes_memory (settings_of se.old) ∷ [])) || W.takes_memory)
+        (tree_of (settings_of se.old) (tuple_variant_of (codes "Moved")
+        (E1.data_of first.now (settings_of se.old).human ∷ (E2.data_of second.now (settings_of se.old).human ∷ [])))) (sink_of se.old) (sink_of se.new)
+        result }
+    ensures keeps { Keeps W.Sink se.old se.new }
+    ensures value { OnOk result (E1.is_value first.now × E2.is_value second.now) }
+{
+    let parts = rmp_encode::Both { first, second };
+    se.serialize_tuple_variant_of("Event", 2, "Moved", &parts)
+}
+
+// Writes the fields of a variant, each of which may borrow.
+#[inline(always)]
+fn put_event_put<W: Sink, C: SerializerConfig, E1: Serialize, E2: Serialize>(
+    se: &mut Serializer<W, C>,
+    first: &E1,
+    second: &E2,
+) -> Result<(), rmp_encode::Error>
+    ensures writes { WritesTree W.Sink (one_of (E1.takes_memory (settings_of se.old) ∷ (E2.takes_memory (settings_of se.old) ∷ [])) || W.takes_memory)
+        (tree_of (settings_of se.old) (struct_variant_of (codes "Put")
+        ((codes "key", E1.data_of first.now (settings_of se.old).human) ∷ ((codes "size", E2.data_of second.now (settings_of se.old).human) ∷ []))))
+        (sink_of se.old) (sink_of se.new) result }
+    ensures keeps { Keeps W.Sink se.old se.new }
+    ensures value { OnOk result (E1.is_value first.now × E2.is_value second.now) }
+{
+    let parts = rmp_encode::Both { first, second };
+    se.serialize_struct_variant_of("Event", 3, "Put", &["key", "size"], &parts)
+}
+
+impl<'a, T: Serialize> Serialize for Event<'a, T> {
+    ghost data_of = { λ v human. elim v [
+      | the_event.Started ↦ Some (unit_variant (codes "Started"))
+      | the_event.Said a1 ↦ newtype_variant_of (codes "Said")
+          (⟦<&'a str as Serialize>⟧.data_of a1 human)
+      | the_event.Moved a1 a2 ↦ tuple_variant_of (codes "Moved")
+          (⟦<i16 as Serialize>⟧.data_of a1 human ∷ (⟦<Label<'a> as Serialize>⟧.data_of a2 human ∷ []))
+      | the_event.Put a1 a2 ↦ struct_variant_of (codes "Put")
+          ((codes "key", ⟦<&'a str as Serialize>⟧.data_of a1 human) ∷ ((codes "size", ⟦<u32 as Serialize>⟧.data_of a2 human) ∷ []))
+      | the_event.Held a1 ↦
+          newtype_variant_of (codes "Held") (T.data_of a1 human)
+    ] };
+
+    ghost is_value = { λ v. elim v [
+      | the_event.Started ↦ ⊤
+      | the_event.Said a1 ↦ ⟦<&'a str as Serialize>⟧.is_value a1
+      | the_event.Moved a1 a2 ↦
+          ⟦<i16 as Serialize>⟧.is_value a1 × ⟦<Label<'a> as Serialize>⟧.is_value a2
+      | the_event.Put a1 a2 ↦ ⟦<&'a str as Serialize>⟧.is_value a1
+          × ⟦<u32 as Serialize>⟧.is_value a2
+      | the_event.Held a1 ↦ T.is_value a1
+    ] };
+
+    ghost takes_memory = { λ s. one_of (false ∷ (⟦<&'a str as Serialize>⟧.takes_memory s
+        ∷ (one_of (⟦<i16 as Serialize>⟧.takes_memory s ∷ (⟦<Label<'a> as Serialize>⟧.takes_memory s ∷ []))
+        ∷ (one_of (⟦<&'a str as Serialize>⟧.takes_memory s ∷ (⟦<u32 as Serialize>⟧.takes_memory s ∷ [])) ∷ (T.takes_memory s ∷ []))))) };
+
+    #[tactic(auto, unfolding(rmp_encode::specs::Data::lower))]
+    fn serialize<W: Sink, C: SerializerConfig>(
+        &self,
+        se: &mut Serializer<W, C>,
+    ) -> Result<(), rmp_encode::Error> {
+        match self {
+            Event::Started => se.serialize_unit_variant("Event", 0, "Started"),
+            Event::Said(first) => se.serialize_newtype_variant("Event", 1, "Said", first),
+            Event::Moved(first, second) => { put_event_moved(se, first, second) }
+            Event::Put { key, size } => { put_event_put(se, key, size) }
+            Event::Held(first) => se.serialize_newtype_variant("Event", 4, "Held", first),
+        }
+    }
+
+    fn as_u8(&self, _human: bool) -> Option<u8> {
+        match self {
+            Event::Started => None,
+            Event::Said(_) => None,
+            Event::Moved(_, _) => None,
+            Event::Put { .. } => None,
+            Event::Held(_) => None,
+        }
+    }
+}
+
+impl<'de, R: ReadSlice<'de>, T: Deserialize<'de, R>> Deserialize<'de, R> for Event<'de, T> {
+    ghost reads = { λ human lends m v. OfVariant (codes "Started" ∷ (codes "Said" ∷ (codes "Moved" ∷ (codes "Put" ∷ (codes "Held" ∷ [])))))
+        (Case (λ c. (v ≡ the_event.Started) × Bare c) (Case
+        (λ c. (a1 : _) × (v ≡ the_event.Said a1) × Content (λ k. ⟦<&'de str as Deserialize<'de, R>>⟧.reads human lends k a1) c)
+        (Case (λ c. (a1 : _) × (a2 : _) × (v ≡ the_event.Moved a1 a2)
+        × Content (λ k. OfRow (AndThen (λ j. ⟦<i16 as Deserialize<'de, R>>⟧.reads human lends j a1)
+        (AndThen (λ j. ⟦<Label<'de> as Deserialize<'de, R>>⟧.reads human lends j a2) NoMore)) k) c)
+        (Case (λ c. (a1 : _) × (a2 : _) × (v ≡ the_event.Put a1 a2)
+        × Content (λ k. OfFields (codes "key" ∷ (codes "size" ∷ []))
+        (Field (λ j. ⟦<&'de str as Deserialize<'de, R>>⟧.reads human lends j a1) (Absent ⟦<&'de str as Deserialize<'de, R>>⟧.absent a1)
+        (Field (λ j. ⟦<u32 as Deserialize<'de, R>>⟧.reads human lends j a2) (Absent ⟦<u32 as Deserialize<'de, R>>⟧.absent a2) NoField)) k) c)
+        (Case (λ c. (a1 : _) × (v ≡ the_event.Held a1) × Content (λ k. T.reads human lends k a1) c) NoCase))))) m };
+
+    ghost absent = { None };
+
+    ghost refuses = { RefusesEnum (codes "Started" ∷ (codes "Said" ∷ (codes "Moved" ∷ (codes "Put" ∷ (codes "Held" ∷ [])))))
+        (no_content ∷ (with_content (⟦<&'de str as Deserialize<'de, R>>⟧.refuses)
+        ∷ (with_content (RefusesTuple (part_of ⟦<i16 as Deserialize<'de, R>>⟧.reads ⟦<i16 as Deserialize<'de, R>>⟧.refuses
+        ∷ (part_of ⟦<Label<'de> as Deserialize<'de, R>>⟧.reads ⟦<Label<'de> as Deserialize<'de, R>>⟧.refuses ∷ [])))
+        ∷ (with_content (RefusesFields (codes "key" ∷ (codes "size" ∷ [])) ⟦<(&'de str, (u32, ())) as ReadFields<'de, R>>⟧.reads
+        ⟦<(&'de str, (u32, ())) as ReadFields<'de, R>>⟧.parts) ∷ (with_content (T.refuses) ∷ []))))) };
+
+    fn deserialize<C: SerializerConfig>(
+        de: &mut Deserializer<R, C>,
+    ) -> Result<Event<'de, T>, rmp_decode::Error> {
+        match de.deserialize_enum(&["Started", "Said", "Moved", "Put", "Held"]) {
+            Ok((0, variant)) => match variant.unit_variant() {
+                Ok(()) => Ok(Event::Started),
+                Err(e) => Err(e),
+            },
+            Ok((1, variant)) => match variant.newtype_variant() {
+                Ok(first) => Ok(Event::Said(first)),
+                Err(e) => Err(e),
+            },
+            Ok((2, variant)) => match variant.newtype_variant() {
+                Ok(parts) => {
+                    let (first, second) = parts;
+                    Ok(Event::Moved(first, second))
+                }
+                Err(e) => Err(e),
+            },
+            Ok((3, variant)) => match variant.fields_variant(&["key", "size"]) {
+                Ok(parts) => {
+                    let (key, (size, ())) = parts;
+                    Ok(Event::Put { key, size })
+                }
+                Err(e) => Err(e),
+            },
+            Ok((_, variant)) => match variant.newtype_variant() {
+                Ok(first) => Ok(Event::Held(first)),
+                Err(e) => Err(e),
+            },
+            Err(e) => Err(e),
+        }
+    }
+
+    fn missing() -> Option<Event<'de, T>> {
+        None
+    }
+}
+
+impl<'de, R: ReadSlice<'de>, T: RoundTrip<'de, R>> RoundTrip<'de, R> for Event<'de, T> {
+    ghost borrows = { true };
+
+    ghost has_data = { λ human. elim [
+      | the_event.Started ↦ refl
+      | the_event.Said a1 ↦ newtype_variant_some (codes "Said")
+          (⟦<&'de str as Serialize>⟧.data_of a1 human) refl
+      | the_event.Moved a1 a2 ↦ tuple_variant_all (codes "Moved")
+          (⟦<i16 as Serialize>⟧.data_of a1 human ∷ (⟦<Label<'de> as Serialize>⟧.data_of a2 human ∷ []))
+          (refl, ((newtype_some (⟦<&'de str as Serialize>⟧.data_of a2.0 human) refl), tt))
+      | the_event.Put a1 a2 ↦ struct_variant_all (codes "Put")
+          ((codes "key", ⟦<&'de str as Serialize>⟧.data_of a1 human) ∷ ((codes "size", ⟦<u32 as Serialize>⟧.data_of a2 human) ∷ [])) (refl, (refl, tt))
+      | the_event.Held a1 ↦ newtype_variant_some (codes "Held") (T.data_of a1 human) (T.has_data human a1)
+    ] };
+
+    ghost round = { λ lent s. elim [
+      | the_event.Started ↦ λ fits. bare_row s
+          (codes "Started" ∷ (codes "Said" ∷ (codes "Moved" ∷ (codes "Put" ∷ (codes "Held" ∷ []))))) (codes "Started") 0 refl _ (refl, tt)
+      | the_event.Said a1
+          ↦ λ fits. newtype_variant_row s (codes "Started" ∷ (codes "Said" ∷ (codes "Moved" ∷ (codes "Put" ∷ (codes "Held" ∷ []))))) (codes "Said") 1 refl _ _
+          (λ j. ⟦<&'de str as Deserialize<'de, R>>⟧.reads s.human R.lends j a1) (λ m h. (a1, refl, h)) (str_row s a1.now _ (lent refl) fits)
+      | the_event.Moved
+          a1 a2 ↦ λ fits. tuple_variant_row s (codes "Started" ∷ (codes "Said" ∷ (codes "Moved" ∷ (codes "Put" ∷ (codes "Held" ∷ []))))) (codes "Moved") 2
+          refl _ _ _ (λ m h. (a1, a2, refl, h)) (rows_cons s _ _ (λ j. ⟦<i16 as Deserialize<'de, R>>⟧.reads s.human R.lends j a1) _
+          (signed_row_16 s a1 fits.0) (rows_cons s _ _ (λ j. ⟦<Label<'de> as Deserialize<'de, R>>⟧.reads s.human R.lends j a2) _
+          (newtype_row s (⟦<&'de str as Serialize>⟧.data_of a2.0 s.human) (λ j. ⟦<&'de str as Deserialize<'de, R>>⟧.reads s.human R.lends j a2.0)
+          (str_row s a2.0.now _ (lent refl) fits.1)) (rows_none s)))
+      | the_event.Put a1 a2 ↦ λ fits. struct_variant_row s
+          (codes "Started" ∷ (codes "Said" ∷ (codes "Moved" ∷ (codes "Put" ∷ (codes "Held" ∷ []))))) (codes "Put") 3 refl _
+          (codes "key" ∷ (codes "size" ∷ [])) _ _ refl (λ m h. (a1, a2, refl, h))
+          (fields_cons s (codes "key") _ _ _ (λ j. ⟦<&'de str as Deserialize<'de, R>>⟧.reads s.human R.lends j a1)
+          (Absent ⟦<&'de str as Deserialize<'de, R>>⟧.absent a1) _ (str_row s a1.now _ (lent refl) fits.0)
+          (fields_cons s (codes "size") _ _ _ (λ j. ⟦<u32 as Deserialize<'de, R>>⟧.reads s.human R.lends j a2)
+          (Absent ⟦<u32 as Deserialize<'de, R>>⟧.absent a2) _ (unsigned_row_32 s a2 fits.1) (fields_none s)))
+      | the_event.Held a1 ↦ λ fits.
+          newtype_variant_row s (codes "Started" ∷ (codes "Said" ∷ (codes "Moved" ∷ (codes "Put" ∷ (codes "Held" ∷ []))))) (codes "Held") 4 refl _ _
+          (λ j. T.reads s.human R.lends j a1) (λ m h. (a1, refl, h)) (T.round (λ _. lent refl) s a1 fits)
+    ] };
+}
+
+impl<'de, T: Serialize> NeverNil for Event<'de, T> {
+    ghost never_nil = { λ s. elim [
+      | the_event.Started ↦ bare_other s (codes "Started")
+      | the_event.Said a1 ↦ newtype_variant_other s (codes "Said") _
+      | the_event.Moved a1 a2 ↦ tuple_variant_other s (codes "Moved") _
+      | the_event.Put a1 a2 ↦ struct_variant_other s (codes "Put") _
+      | the_event.Held a1 ↦
+          newtype_variant_other s (codes "Held") _
+    ] };
+}
