@@ -1,4 +1,4 @@
--- Arrays, from the elements of a list.
+-- Arrays, from places that hold the elements of a list.
 use Rattle.std.proofs.Common.{
   rules,
   ◌≡◌,
@@ -7,6 +7,7 @@ use Rattle.std.proofs.Common.{
   ap,
   subst,
   refl,
+  inl,
   ℕ,
   ◌+◌,
   ◌<◌,
@@ -18,8 +19,10 @@ use Rattle.std.proofs.Common.{
   ◌++◌,
   length,
   map,
-  take,
   slice_set,
+  take,
+  min,
+  Bool,
   true,
   false,
   Ok,
@@ -30,74 +33,42 @@ use Rattle.std.proofs.Common.{
   All,
 }
 use Rattle.std.proofs.lemmas.List.Elements.{All-map}
-use Rattle.std.proofs.lemmas.List.{take_more_set, take_all, length-take-le, length-set, length-map, map_push}
+use Rattle.std.proofs.lemmas.List.{take_more_set, take_all, length-set, length-append, map_push}
 use Rattle.rmp_wire.specs.declared.source.Source.{Ghosts}
 use Rattle.rmp_wire.specs.Msg.{Msg, Msgs, no_items, item, count}
-use Rattle.rmp_decode.specs.Arrays.{Exactly, TakesPlaces}
+use Rattle.rmp_decode.specs.Arrays.{Exactly, HoldsFirst}
+use Rattle.rmp_decode.specs.Inside.{access_at, TakesValues}
 use Rattle.rmp_decode.specs.Rows.{ReadsEach}
 use Rattle.rmp_decode.specs.Law.{Lawful}
-use Rattle.rmp_decode.specs.Seq.{OfRow, Opens, FailsToOpen, IsOpen, TakesElement, FailsElement, FailsParts}
+use Rattle.rmp_decode.specs.Seq.{OfRow, Opens}
 use Rattle.rmp_decode.specs.declared.deserializer.Deserializer.{Deserializer}
-use Rattle.rmp_decode.specs.declared.access.seq.SeqAccess.{SeqAccess}
 use Rattle.rmp_decode.specs.declared.error.Error.{Error}
+use Rattle.rmp_decode.proofs.Laws.{stays_refl}
+use Rattle.rmp_decode.proofs.RowEnds.{count_each}
 use Rattle.rmp_decode.proofs.Rows.{append}
-use Rattle.rmp_decode.proofs.Seqs.{Values, values_start, values_step, each_next, parts_element, count-append, seq_unopened, seq_parts, seq_done, seq_over}
+use Rattle.rmp_decode.proofs.Seqs.{each_next, count-append, seq_element, seq_done, seq_over}
 
--- as many values as items
-pub count_each : {V : Type 0} (reads : Msg → V → Type 0) (ms : Msgs) (vs : List V) → ReadsEach reads ms vs → count ms ≡ length vs
-count_each reads no_items [] r = refl
-count_each reads no_items (v ∷ vs) r = absurd r
-count_each reads (item m ms) [] r = absurd r
-count_each reads (item m ms) (v ∷ vs) r = let i = count_each reads ms vs r.1 in omega arith
+-- ---- places
 
--- the first i places hold the values that were read
-pub record Filled {R C V : Type 0} (g : Ghosts R) (reads : Msg → V → Type 0) (start now : SeqAccess R C) (places : List (Option V)) (i : ℕ) : Type 0 where
-  pub within : i ≤ length places
-  pub values : List V
-  pub held : map (λ v. Some v) values ≡ take i places
-  pub read : Values g reads start now values
-  pub count : now.count ≡ start.count
+pub places_start : {V : Type 0} (n : ℕ) (ps : List (Option V)) → length ps ≡ n → HoldsFirst n ps []
+places_start n ps l = record { long = l; within = omega arith; held = refl }
 
-module _ {R C V : Type 0} (g : Ghosts R) (reads : Msg → V → Type 0) where
-  pub filled_start : (s : SeqAccess R C) (ps : List (Option V)) → IsOpen s → Filled g reads s s ps 0
-  filled_start s ps o = record { within = omega arith; values = []; held = refl; read = values_start g reads s o; count = refl }
+pub places_put : {V : Type 0} (n : ℕ) (ps : List (Option V)) (i : ℕ) (vs : List V) (v : V) → i < n → length vs ≡ i → HoldsFirst n ps vs
+    → HoldsFirst n (slice_set ps i (Some v)) (vs ++ v ∷ [])
+places_put n ps i vs v l q h =
+    let long = h.long in
+    let more : length (vs ++ v ∷ []) ≡ i + 1 = omega (arith, length-append vs (v ∷ []), q) in
+    record {
+      long = length-set ps i (Some v) ∙ long;
+      within = omega (arith, more, l);
+      held = subst (λ k. map (λ v. Some v) (vs ++ v ∷ []) ≡ take k (slice_set ps i (Some v))) (sym more)
+          (map_push (λ v. Some v) vs v ∙ ap (λ z. z ++ Some v ∷ []) (subst (λ k. map (λ v. Some v) vs ≡ take k ps) q h.held)
+          ∙ sym (take_more_set ps i (Some v) (omega (arith, long, l))));
+    }
 
-  pub filled_step : (start mid now : SeqAccess R C) (ps : List (Option V)) (i : ℕ) (v : V) → i < length ps → Filled g reads start mid ps i
-      → TakesElement g reads mid now v → now.de.ghost_name ≡ mid.de.ghost_name → Filled g reads start now (slice_set ps i (Some v)) (i + 1)
-  filled_step start mid now ps i v l f t n = record {
-    within = omega (arith, length-set ps i (Some v));
-    values = f.values ++ v ∷ [];
-    held = map_push (λ v. Some v) f.values v ∙ ap (λ z. z ++ Some v ∷ []) f.held ∙ sym (take_more_set ps i (Some v) l);
-    read = values_step g reads start mid now f.values v f.read t n;
-    count = t.count ∙ f.count;
-  }
-
-  -- as many were read
-  pub filled_count : (start mid : SeqAccess R C) (ps : List (Option V)) (i : ℕ) (f : Filled g reads start mid ps i) → count f.read.trees ≡ i
-  filled_count start mid ps i f =
-      let long = length-map f.values (λ v. Some v) in
-      let same = ap length f.held in
-      omega (arith, count_each reads f.read.trees f.values f.read.values, long, same, length-take-le i ps f.within)
-
-  -- there was no element that would do, or none at all
-  pub filled_fails : (start mid now : SeqAccess R C) (ps : List (Option V)) (i n : ℕ) (e : Error) → i < length ps → length ps ≡ n
-      → Filled g reads start mid ps i → FailsElement g reads mid now e → now.de.now.failed ≡ true → FailsParts g (Exactly n reads) start now e
-  filled_fails start mid now ps i n e l k f x d =
-      parts_element g (Exactly n reads) start mid f.read.trees f.read.run reads now e x d (λ m ks v h. each_next reads f.read.trees m ks v h.1)
-      (λ v h. let all = count_each reads (append f.read.trees no_items) v h.1
-      in omega (arith, all, h.0, filled_count start mid ps i f, k, l, count-append f.read.trees no_items))
-
-  pub filled_whole : (start now : SeqAccess R C) (ps : List (Option V)) (i n : ℕ) → length ps ≤ i → length ps ≡ n → Filled g reads start now ps i
-      → TakesPlaces g n reads start now ps
-  filled_whole start now ps i n l k f = record {
-    values = f.values;
-    held = f.held ∙ take_all i ps l;
-    parts = record {
-      trees = f.read.trees;
-      run = f.read.run;
-      value = (omega (arith, count_each reads f.read.trees f.values f.read.values, filled_count start now ps i f, f.within, l, k), f.read.values);
-    };
-  }
+-- all of them hold one
+pub places_full : {V : Type 0} (n : ℕ) (ps : List (Option V)) (vs : List V) → n ≤ length vs → HoldsFirst n ps vs → map (λ v. Some v) vs ≡ ps
+places_full n ps vs l h = h.held ∙ take_all (length vs) ps (let long = h.long in omega (arith, long, l))
 
 -- each place holds a value
 pub all_held : {V : Type 0} (vs : List V) (ps : List (Option V)) → map (λ v. Some v) vs ≡ ps → All (λ p. IsSome p) ps
@@ -113,24 +84,57 @@ same_values (v ∷ vs) (w ∷ ws) e =
     let tail = same_values vs ws cc in
     cc
 
-module _ {R C V : Type 0} (g : Ghosts R) (reads : Msg → V → Type 0) (n : ℕ) (old : Deserializer R C) where
-  pub array_unopened : (last : Deserializer R C) (e : Error) → FailsToOpen g old last e → Lawful g (λ m v. OfRow (Exactly n reads v) m) old last (Err e)
-  array_unopened last e f = seq_unopened g (Exactly n reads) old last e f
+-- ---- the read
 
-  module _ (start now : SeqAccess R C) (o : Opens g old start) (k : ℕ) (long : k ≡ n) (last : Deserializer R C) where
-    pub array_fails : (e : Error) → FailsParts g (Exactly k reads) start now e → last ≡ now.de.now
-        → Lawful g (λ m v. OfRow (Exactly n reads v) m) old last (Err e)
-    array_fails e f q = seq_parts g (Exactly n reads) old start now o last e (subst (λ z. FailsParts g (Exactly z reads) start now e) long f) q
+-- as many were read as there are places
+pub array_full : {R C V : Type 0} (g : Ghosts R) (reads : Msg → V → Type 0) (start new : Deserializer R C) (b : Bool) (all rest : ℕ) (vs : List V)
+    → TakesValues g reads (access_at start b all all) (access_at new b rest all) vs → (n : ℕ) (ps : List (Option V)) → HoldsFirst n ps vs
+    → rest + min n all ≡ all → n ≤ all → rest ≡ 0 → map (λ v. Some v) vs ≡ ps
+array_full g reads start new b all rest vs t n ps h many l z =
+    let m = t.run.many in
+    let c = count_each reads t.trees vs t.value in
+    places_full n ps vs (omega (arith, m, c, many, l, z)) h
 
-    module _ (places : List (Option V)) (t : TakesPlaces g k reads start now places) where
-      pub array_done : (v : List V) → map (λ w. Some w) v ≡ places → now.left ≡ 0 → last ≡ record now.de.now { failed = false }
-          → Lawful g (λ m v. OfRow (Exactly n reads v) m) old last (Ok v)
-      array_done v h z q =
-          let same = same_values t.values v (t.held ∙ sym h) in
-          let whole : Exactly n reads t.values t.parts.trees = (t.parts.value.0 ∙ long, t.parts.value.1) in
-          seq_done g (Exactly n reads) old start now t.parts.trees o t.parts.run last v (subst (λ w. Exactly n reads w t.parts.trees) same whole) z q
+module _ {R C V : Type 0} (g : Ghosts R) (human : C → Bool) (lends : Bool) (reads : Bool → Bool → Msg → V → Type 0) (start new d : Deserializer R C)
+    (b : Bool) (all rest : ℕ) (o : Opens g d (access_at start b all all)) (vs : List V)
+    (t : TakesValues g (reads (human start.config) lends) (access_at start b all all) (access_at new b rest all) vs) (n : ℕ) (ps : List (Option V))
+    (h : HoldsFirst n ps vs) (many : rest + min n all ≡ all) where
+  here : Msg → V → Type 0
+  here = reads (human d.config) lends
 
-      -- there are more elements than the array has
-      pub array_over : (e : Error) → 0 < now.left → last ≡ now.de.now → Lawful g (λ m v. OfRow (Exactly n reads v) m) old last (Err e)
-      array_over e l q = seq_over g (Exactly n reads) old start now t.parts.trees o t.parts.run last e l q n (λ w ks h. count_each reads ks w h.1 ∙ h.0)
-          t.values (t.parts.value.0 ∙ long, t.parts.value.1)
+  each : ReadsEach here t.trees vs
+  unfolding here
+  each = subst (λ c. ReadsEach (reads (human c) lends) t.trees vs) o.stays.config t.value
+
+  -- as many were read
+  read : length vs + rest ≡ all
+  read = let m = t.run.many in let c = count_each (reads (human start.config) lends) t.trees vs t.value in omega (arith, m, c)
+
+  -- each place was filled, and no more were to come
+  pub array_done : n ≤ all → rest ≡ 0 → new.failed ≡ false → (v : List V) → map (λ w. Some w) v ≡ ps
+      → Lawful g (λ m v. OfRow (Exactly n (reads (human d.config) lends) v) m) d new (Ok v)
+  unfolding here
+  array_done l z f v q =
+      let same = same_values vs v (array_full g (reads (human start.config) lends) start new b all rest vs t n ps h many l z ∙ sym q) in
+      let whole : Exactly n here vs t.trees = (omega (arith, read, many, l, z), each) in
+      seq_done g (Exactly n here) d (access_at start b all all) (access_at new b rest all) t.trees o t.run new v
+      (subst (λ w. Exactly n here w t.trees) same whole) z (ap (λ f. record new { failed = f }) f)
+
+  -- there are more elements than the array has
+  pub array_over : n ≤ all → 0 < rest → (e : Error)
+      → Lawful g (λ m v. OfRow (Exactly n (reads (human d.config) lends) v) m) d (record new { failed = true }) (Err e)
+  unfolding here
+  array_over l z e = seq_over g (Exactly n here) d (access_at start b all all) (access_at new b rest all) t.trees o t.run (record new { failed = true }) e z refl n
+      (λ w ks x. count_each here ks w x.1 ∙ x.0) vs (omega (arith, read, many, l), each)
+
+  -- there are fewer
+  pub array_missing : all < n → (e : Error)
+      → Lawful g (λ m v. OfRow (Exactly n (reads (human d.config) lends) v) m) d (record new { failed = true }) (Err e)
+  unfolding here
+  array_missing l e = seq_element g (Exactly n here) d (access_at start b all all) (access_at new b rest all) t.trees o t.run (record new { failed = true })
+      here (access_at new b rest all) e (record { stays = stays_refl g (record new { failed = true }); err = inl (omega (arith, many, l)) }) refl refl
+      (λ m ks v x. each_next here t.trees m ks v x.1)
+      (λ v x.
+          let c = count_each here (append t.trees no_items) v x.1 in
+          let k = count_each here t.trees vs each in
+          omega (arith, c, k, read, x.0, l, count-append t.trees no_items))

@@ -38,6 +38,7 @@ pub mod Orders
 pub mod Places
 pub mod Refusals
 pub mod Refusings
+pub mod RowEnds
 pub mod RowReads
 pub mod Rows
 pub mod Seqs

@@ -8,7 +8,6 @@ use Rattle.std.proofs.Common.{
   refl,
   inl,
   inr,
-  ◌⊎◌,
   max,
   arith,
   ℕ,
@@ -24,33 +23,33 @@ use Rattle.std.proofs.Common.{
   false,
   Ok,
   Err,
+  length,
 }
+use Rattle.std.proofs.lemmas.List.{length-append}
 use Rattle.std.specs.Io.KnownBytes.{IsAtEnd}
 use Rattle.rmp_wire.specs.declared.source.Source.{Ghosts}
 use Rattle.rmp_wire.specs.Canonical.{SpellsAs}
-use Rattle.rmp_wire.specs.Msg.{Msg, count}
+use Rattle.rmp_wire.specs.Msg.{Msg}
 use Rattle.rmp_decode.specs.Exact.{IsDataEnd}
-use Rattle.rmp_decode.specs.Inside.{access_at}
+use Rattle.rmp_decode.specs.Inside.{access_at, TakesValues, ReadsRow, StopsRow}
 use Rattle.rmp_decode.specs.Law.{Lawful, TakesHead, Explains, Refuses, Readable}
 use Rattle.rmp_decode.specs.Parts.{TakesPart, FailsPart}
-use Rattle.rmp_decode.specs.Refusing.{Setting, Refusals, setting_of, element_setting, ElementRefused, RefusedIn, WhereSome, IsMemory, Behind, EachRead, RefusesEach}
-use Rattle.rmp_decode.specs.Rows.{ReadsEach}
-use Rattle.rmp_decode.specs.Seq.{OfRow, seq_head, levels, SpellsIn, SpellsRow, Opens, FailsToTake, TakesElement}
+use Rattle.rmp_decode.specs.Refusing.{Setting, Refusals, setting_of, element_setting, ElementRefused, RefusedIn}
+use Rattle.rmp_decode.specs.Seq.{seq_head, levels, SpellsIn, Opens, FailsToTake, TakesElement}
 use Rattle.rmp_decode.specs.State.{left, faults_of, Stays}
 use Rattle.rmp_decode.specs.With.{OffersPart}
 use Rattle.rmp_decode.specs.declared.deserializer.Deserializer.{Deserializer}
 use Rattle.rmp_decode.specs.declared.deserializer.Kept.TheVariants.{Nothing}
+use Rattle.rmp_decode.specs.declared.access.seq.SeqAccess.{SeqAccess}
 use Rattle.rmp_decode.specs.declared.error.Error.{Error}
 use Rattle.rmp_decode.specs.declared.error.Error.TheVariants.{OutOfMemory}
 use Rattle.rmp_decode.proofs.ByteParts.{number_missing, number_ended}
-use Rattle.rmp_decode.proofs.EachRefusings.{each_short}
 use Rattle.rmp_decode.proofs.Offered.{element_taken, element_fails, offered}
-use Rattle.rmp_decode.proofs.Refusings.{behind_head}
-use Rattle.rmp_decode.proofs.Seqs.{Values, values_start, values_step, each_next, seq_done, seq_take, seq_unkept}
-use Rattle.rmp_decode.proofs.Settings.{element_behind, behind_opened}
+use Rattle.rmp_decode.proofs.RowEnds.{count_each}
+use Rattle.rmp_decode.proofs.Seqs.{Values, values_start, values_step}
 
 -- a reader as it is seen from outside of the list: with the list's room, and failed until the list ends
-abbrev outside : {R C : Type 0} → ℕ → Deserializer R C → Deserializer R C
+abbrev pub outside : {R C : Type 0} → ℕ → Deserializer R C → Deserializer R C
 outside room d = record d { room = room; failed = true }
 
 -- these values were read so far from inside of the list
@@ -59,6 +58,11 @@ pub record RowSoFar {R C V : Type 0} (g : Ghosts R) (reads : Msg → V → Type 
   pub read : Values g reads (access_at start b all all) (access_at (outside start.room now) b still all) vs
   pub ready : now.failed ≡ false
   pub room : now.room ≡ start.room - levels b
+
+-- the same as it is told
+told : {R C V : Type 0} (g : Ghosts R) (reads : Msg → V → Type 0) (start now : SeqAccess R C) (vs : List V) → Values g reads start now vs
+    → TakesValues g reads start now vs
+told g reads start now vs v = record { trees = v.trees; run = v.run; value = v.values }
 
 -- the head was taken
 pub row_opens : {R C : Type 0} (g : Ghosts R) (old new : Deserializer R C) (b : Bool) (n : ℕ) → TakesHead g (seq_head b n) old new
@@ -145,54 +149,40 @@ module _ {R C V : Type 0} (g : Ghosts R) (human : C → Bool) (lends : Bool) (re
           subst (λ z. RowSoFar g (reads (human start.config) lends) start b all z fewer (vs ++ v ∷ [])) (sym (settled new law.ready law.clean)) so
 
       -- memory was short for it
-      pub row_short : (P : Setting → Refusals) (d : Deserializer R C) → Opens g d (access_at start b all all) → (after : ℕ)
-          → RefusesEach reads P (setting_of (human d.config) lends d) (faults_of g d) after (left g d) OutOfMemory
-      row_short P d o after =
-          let w = subst (λ z. Values g (reads (human z) lends) (access_at start b all all) (access_at (outside start.room now) b still all) vs)
-          o.stays.config r.read in
-          let t = subst (λ z. TakesElement g (reads (human z) lends) (access_at (outside start.room now) b still all)
-          (access_at (outside start.room new) b fewer all) v) o.stays.config taken in
-          each_short g human lends reads P d (access_at start b all all) (access_at (outside start.room now) b still all)
-          (access_at (outside start.room new) b fewer all) o vs v w t refl after
+      pub row_short : (grows : Bool) → grows ≡ true → (P : Setting → Refusals) (many : ℕ)
+          → StopsRow g human lends reads P grows start b all many (outside start.room (record new { failed = false; kept = Nothing })) OutOfMemory
+      row_short grows q P many = record {
+        failed = refl;
+        why = inr (q, record {
+          values = vs ++ v ∷ [];
+          still = fewer;
+          read = told g (reads (human start.config) lends) (access_at start b all all)
+              (access_at (outside start.room (record new { failed = false; kept = Nothing })) b fewer all) (vs ++ v ∷ []) row_step.read;
+          some = omega (arith, length-append vs (v ∷ []));
+          memory = refl;
+        });
+      }
 
   -- ---- one was refused
-  module _ (d : Deserializer R C) (o : Opens g d (access_at start b all all)) (e : Error) where
-    refused_law : {W : Type 0} (items : W → List V) (last : Deserializer R C)
-        → FailsToTake g (reads (human start.config) lends) (access_at (outside start.room now) b still all)
-        (access_at (outside start.room new) b still all) e → last ≡ outside start.room new
-        → Lawful g (λ m (w : W). OfRow (λ ms. ReadsEach (reads (human d.config) lends) ms (items w)) m) d last (Err e)
-    refused_law items last f q =
-        let f' = subst (λ z. FailsToTake g (reads (human z) lends) (access_at (outside start.room now) b still all)
-        (access_at (outside start.room new) b still all) e) o.stays.config f in
-        seq_take g (λ w ms. ReadsEach (reads (human d.config) lends) ms (items w)) d (access_at start b all all)
-        (access_at (outside start.room now) b still all) r.read.trees o r.read.run last (reads (human d.config) lends)
-        (access_at (outside start.room new) b still all) e f' refl q
-        (λ m ks w h. each_next (reads (human d.config) lends) r.read.trees m ks (items w) h)
-
-    refused_so : (P : Setting → Refusals) → ElementRefused g (human now.config) lends P (access_at (outside start.room now) b still all)
-        (access_at (outside start.room new) b still all) (left g now) e
-        → RefusesEach reads P (setting_of (human d.config) lends d) (faults_of g d) (faults_of g new) (left g d) e
-    refused_so P w =
-        let run = r.read.run in
-        let h0 = element_behind g human lends (access_at start b all all) (access_at (outside start.room now) b still all) r.read.trees run
-        (λ K. WhereSome K still (left g now) e) P (access_at (outside start.room new) b still all) (some, w) in
-        let h1 = behind_opened g human lends d (access_at start b all all) (access_at (outside start.room new) b still all) o (faults_of g new) refl
-        (λ i a z. WhereSome (RefusedIn b (P i) a z) still (left g now) e) h0 in
-        inr (behind_head g human lends d (access_at start b all all) o (faults_of g new) e
-        (λ b i n known e. Behind (SpellsIn i.strict b) (EachRead reads i) i.room n (WhereSome (RefusedIn b (P i) (faults_of g d) (faults_of g new))) known e
-        ⊎ Behind (SpellsIn i.strict b) (λ ms. (0 < count ms) × EachRead reads i ms) i.room n IsMemory known e)
-        (inl (record {
-          bytes = run.bytes;
-          rest = left g now;
-          trees = r.read.trees;
-          still = still;
-          takes = run.takes;
-          spelled = subst (λ z. SpellsRow (SpellsIn z b) run.bytes r.read.trees) o.stays.strict run.spelled;
-          many = run.many;
-          fits = run.fits;
-          holds = (vs, subst (λ z. ReadsEach (reads (human z) lends) r.read.trees vs) o.stays.config r.read.values);
-          refused = h1;
-        })))
+  module _ (P : Setting → Refusals) (grows : Bool) (many : ℕ) (fewer : length vs < many) (e : Error) where
+    stopped : (last : Deserializer R C) → last.failed ≡ true → last ≡ record new { room = start.room; failed = last.failed }
+        → FailsToTake g (reads (human start.config) lends) (access_at (outside start.room now) b still all) (access_at (outside start.room new) b still all) e
+        → ElementRefused g (human now.config) lends P (access_at (outside start.room now) b still all) (access_at (outside start.room new) b still all)
+        (left g now) e
+        → StopsRow g human lends reads P grows start b all many last e
+    stopped last d q f w = subst (λ z. StopsRow g human lends reads P grows start b all many z e) (sym (q ∙ ap (λ z. record new { room = start.room; failed = z }) d))
+        (record {
+          failed = refl;
+          why = inl (record {
+            values = vs;
+            mid = outside start.room now;
+            still = still;
+            read = told g (reads (human start.config) lends) (access_at start b all all) (access_at (outside start.room now) b still all) vs r.read;
+            fewer = fewer;
+            fails = f;
+            refused = w;
+          });
+        })
 
     -- by its type
     module _ (offers : OffersPart g b now from) (ready : from.failed ≡ false) where
@@ -207,57 +197,48 @@ module _ {R C V : Type 0} (g : Ghosts R) (human : C → Bool) (lends : Bool) (re
             subst (λ z. Refuses (SpellsAs from.strict) (Readable (reads (human z) lends)) (max 1 (start.room - levels b)) (left g from)) same_config r1;
       }
 
-      pub row_refused : {W : Type 0} (items : W → List V) → Lawful g (reads (human from.config) lends) from new (Err e)
-          → Lawful g (λ m (w : W). OfRow (λ ms. ReadsEach (reads (human d.config) lends) ms (items w)) m) d (record new { room = start.room }) (Err e)
-      row_refused items law = refused_law items (record new { room = start.room })
+      pub row_refused : Lawful g (reads (human from.config) lends) from new (Err e)
+          → P (setting_of (human from.config) lends from) (faults_of g from) (faults_of g new) (left g from) e
+          → StopsRow g human lends reads P grows start b all many (record new { room = start.room }) e
+      row_refused law w = stopped (record new { room = start.room }) law.failed refl
           (element_fails g (reads (human start.config) lends) (access_at (outside start.room now) b still all)
           (access_at (outside start.room new) b still all) (outside start.room from) r.read.run.still (offers_outside g start.room now from b offers) e some
-          (part_fails law)) (ap (λ f. record new { room = start.room; failed = f }) law.failed)
-
-      pub row_wrong : (P : Setting → Refusals) → P (setting_of (human from.config) lends from) (faults_of g from) (faults_of g new) (left g from) e
-          → RefusesEach reads P (setting_of (human d.config) lends d) (faults_of g d) (faults_of g new) (left g d) e
-      row_wrong P w = refused_so P (offered g human lends P (outside start.room now) (outside start.room from) (start.room - levels b) (faults_of g new) e
+          (part_fails law))
+          (offered g human lends P (outside start.room now) (outside start.room from) (start.room - levels b) (faults_of g new) e
           r.read.run.still.clean b (offers_outside g start.room now from b offers)
           (subst (λ z. P (record { human = human from.config; lends = lends; strict = from.strict; room = max 1 z }) (faults_of g from) (faults_of g new)
           (left g from) e) same_room w))
 
-  -- ---- the bytes ended before one
-  module _ (d : Deserializer R C) (o : Opens g d (access_at start b all all)) (e : Error) (is_bytes : b ≡ true) (same : new ≡ from)
-      (err : Explains e (faults_of g now) (faults_of g from) (IsAtEnd (g.ahead now.reader))) where
-    pub row_ended : {W : Type 0} (items : W → List V)
-        → Lawful g (λ m (w : W). OfRow (λ ms. ReadsEach (reads (human d.config) lends) ms (items w)) m) d (outside start.room new) (Err e)
-    row_ended items = refused_law d o e items (outside start.room new)
-        (record {
-          some = some;
-          stays = subst (λ z. Stays g (outside start.room now) (outside start.room z)) (sym same)
-              (record { config = s.config; room = refl; limit = s.limit; strict = s.strict; place = s.place });
-          err = λ n k. subst (λ z. Refuses (SpellsIn now.strict z) (Readable (reads (human start.config) lends)) (max 1 (start.room - levels b)) (left g now))
-              (sym is_bytes) (number_missing g now (Readable (reads (human start.config) lends)) (max 1 (start.room - levels b)) r.read.run.still.clean
-              (err n (ap (faults_of g) (sym same) ∙ k)));
-        }) refl
+    -- the bytes ended before it
+    module _ (is_bytes : b ≡ true) (same : new ≡ from) (err : Explains e (faults_of g now) (faults_of g from) (IsAtEnd (g.ahead now.reader)))
+        (ends : faults_of g from ≡ faults_of g now → IsDataEnd e) where
+      pub row_ended : StopsRow g human lends reads P grows start b all many (outside start.room new) e
+      row_ended = stopped (outside start.room new) refl refl
+          (record {
+            some = some;
+            stays = subst (λ z. Stays g (outside start.room now) (outside start.room z)) (sym same)
+                (record { config = s.config; room = refl; limit = s.limit; strict = s.strict; place = s.place });
+            err = λ n k. subst (λ z. Refuses (SpellsIn now.strict z) (Readable (reads (human start.config) lends)) (max 1 (start.room - levels b)) (left g now))
+                (sym is_bytes) (number_missing g now (Readable (reads (human start.config) lends)) (max 1 (start.room - levels b)) r.read.run.still.clean
+                (err n (ap (faults_of g) (sym same) ∙ k)));
+          })
+          (subst (λ z. RefusedIn z (P (element_setting (human now.config) lends (access_at (outside start.room now) b still all))) (faults_of g now)
+          (faults_of g new) (left g now) e) (sym is_bytes)
+          (number_ended g (P (element_setting (human now.config) lends (access_at (outside start.room now) b still all))) e now r.read.run.still.clean
+          (faults_of g new) (λ k. ends (ap (faults_of g) (sym same) ∙ k)) (λ n k. err n (ap (faults_of g) (sym same) ∙ k))))
 
-    pub row_cut : (P : Setting → Refusals) → (faults_of g from ≡ faults_of g now → IsDataEnd e)
-        → RefusesEach reads P (setting_of (human d.config) lends d) (faults_of g d) (faults_of g new) (left g d) e
-    row_cut P ends = refused_so d o e P
-        (subst (λ z. RefusedIn z (P (element_setting (human now.config) lends (access_at (outside start.room now) b still all))) (faults_of g now)
-        (faults_of g new) (left g now) e) (sym is_bytes)
-        (number_ended g (P (element_setting (human now.config) lends (access_at (outside start.room now) b still all))) e now r.read.run.still.clean
-        (faults_of g new) (λ k. ends (ap (faults_of g) (sym same) ∙ k)) (λ n k. err n (ap (faults_of g) (sym same) ∙ k))))
+-- how many were read
+pub row_many : {R C V : Type 0} (g : Ghosts R) (reads : Msg → V → Type 0) (start now : Deserializer R C) (b : Bool) (all still : ℕ) (vs : List V)
+    → RowSoFar g reads start b all now still vs → length vs + still ≡ all
+row_many g reads start now b all still vs r = let m = r.read.run.many in let c = count_each reads r.read.trees vs r.read.values in omega arith
 
-module _ {R C V : Type 0} (g : Ghosts R) (human : C → Bool) (lends : Bool) (reads : Bool → Bool → Msg → V → Type 0) (start now : Deserializer R C)
-    (b : Bool) (all : ℕ) (vs : List V) {W : Type 0} (items : W → List V) (d : Deserializer R C) (o : Opens g d (access_at start b all all)) where
-  -- all were read
-  pub row_whole : (still : ℕ) → RowSoFar g (reads (human start.config) lends) start b all now still vs → still ≡ 0 → (w : W) → items w ≡ vs
-      → Lawful g (λ m (w : W). OfRow (λ ms. ReadsEach (reads (human d.config) lends) ms (items w)) m) d (record now { room = start.room }) (Ok w)
-  row_whole still r z w i =
-      seq_done g (λ w ms. ReadsEach (reads (human d.config) lends) ms (items w)) d (access_at start b all all)
-      (access_at (outside start.room now) b still all) r.read.trees o r.read.run (record now { room = start.room }) w
-      (subst (λ z. ReadsEach (reads (human d.config) lends) r.read.trees z) (sym i)
-      (subst (λ z. ReadsEach (reads (human z) lends) r.read.trees vs) o.stays.config r.read.values)) z
-      (ap (λ f. record now { room = start.room; failed = f }) r.ready)
-
-  -- memory was short for the last one
-  pub row_unkept : (still : ℕ) → RowSoFar g (reads (human start.config) lends) start b all now still vs
-      → Lawful g (λ m (w : W). OfRow (λ ms. ReadsEach (reads (human d.config) lends) ms (items w)) m) d (outside start.room now) (Err OutOfMemory)
-  row_unkept still r = seq_unkept g (λ w ms. ReadsEach (reads (human d.config) lends) ms (items w)) d (access_at start b all all)
-      (access_at (outside start.room now) b still all) r.read.trees o r.read.run (outside start.room now) refl
+-- no more are wanted, or to come
+pub row_whole : {R C V W : Type 0} (g : Ghosts R) (reads : Msg → V → Type 0) (start now : Deserializer R C) (b : Bool) (all still : ℕ) (vs : List V)
+    → RowSoFar g reads start b all now still vs → (holds : W → List V → Type 0) (row : W) → holds row vs
+    → ReadsRow g reads holds start b all (record now { room = start.room }) row still
+row_whole g reads start now b all still vs r holds row h = record {
+  values = vs;
+  held = h;
+  read = told g reads (access_at start b all all) (access_at (outside start.room now) b still all) vs r.read;
+  ready = r.ready;
+}

@@ -1,8 +1,15 @@
 -- A reader behind the head of a list, or of bytes, as it is seen where their elements are counted.
-use Rattle.std.specs.Prelude.{◌-◌, ℕ, Bool, true}
-use Rattle.rmp_decode.specs.Seq.{levels}
+use Rattle.std.specs.Prelude.{◌≡◌, ◌⊎◌, ◌-◌, ◌<◌, ℕ, Bool, true, false, List, length}
+use Rattle.rmp_wire.specs.declared.source.Source.{Ghosts}
+use Rattle.rmp_wire.specs.Msg.{Msg}
+use Rattle.rmp_decode.specs.Refusing.{Setting, Refusals, ElementRefused}
+use Rattle.rmp_decode.specs.Rows.{ReadsEach}
+use Rattle.rmp_decode.specs.Seq.{levels, TakesParts, FailsToTake}
+use Rattle.rmp_decode.specs.State.{left}
 use Rattle.rmp_decode.specs.declared.access.seq.SeqAccess.{SeqAccess}
 use Rattle.rmp_decode.specs.declared.deserializer.Deserializer.{Deserializer}
+use Rattle.rmp_decode.specs.declared.error.Error.{Error}
+use Rattle.rmp_decode.specs.declared.error.Error.TheVariants.{OutOfMemory}
 
 -- the access to the elements, of which so many are still to come, of so many
 abbrev pub access_at : {R C : Type 0} → Deserializer R C → Bool → ℕ → ℕ → SeqAccess R C
@@ -14,3 +21,42 @@ access_at d bytes left count = record {
   bytes = bytes;
   sound = true;
 }
+
+-- these values were read so far, and the reader stands behind them
+abbrev pub TakesValues : {R C V : Type 0} → Ghosts R → (Msg → V → Type 0) → SeqAccess R C → SeqAccess R C → List V → Type 0
+TakesValues g reads = TakesParts g (λ vs ms. ReadsEach reads ms vs)
+
+-- elements were read until no more were wanted or to come, and this holds their values
+pub record ReadsRow {R C V W : Type 0} (g : Ghosts R) (reads : Msg → V → Type 0) (holds : W → List V → Type 0) (start : Deserializer R C) (b : Bool) (all : ℕ)
+    (new : Deserializer R C) (row : W) (left : ℕ) : Type 0 where
+  pub values : List V
+  pub held : holds row values
+  pub read : TakesValues g reads (access_at start b all all) (access_at new b left all) values
+  pub ready : new.failed ≡ false
+
+-- behind those that were read, fewer than so many, the next element was refused
+pub record StopsAtElement {R C V : Type 0} (g : Ghosts R) (human : C → Bool) (lends : Bool) (reads : Bool → Bool → Msg → V → Type 0) (P : Setting
+    → Refusals) (start : Deserializer R C) (b : Bool) (all many : ℕ) (new : Deserializer R C) (e : Error) : Type 0 where
+  pub values : List V
+  pub mid : Deserializer R C
+  pub still : ℕ
+  pub read : TakesValues g (reads (human start.config) lends) (access_at start b all all) (access_at mid b still all) values
+  pub fewer : length values < many
+  pub fails : FailsToTake g (reads (human start.config) lends) (access_at mid b still all) (access_at new b still all) e
+  pub refused : ElementRefused g (human mid.config) lends P (access_at mid b still all) (access_at new b still all) (left g mid) e
+
+-- memory was short for the last of those that were read
+pub record StopsFull {R C V : Type 0} (g : Ghosts R) (reads : Msg → V → Type 0) (start : Deserializer R C) (b : Bool) (all : ℕ) (new : Deserializer R C) (e : Error)
+    : Type 0 where
+  pub values : List V
+  pub still : ℕ
+  pub read : TakesValues g reads (access_at start b all all) (access_at new b still all) values
+  pub some : 0 < length values
+  pub memory : e ≡ OutOfMemory
+
+-- elements were read until one was refused, or until memory was short, where it may be
+pub record StopsRow {R C V : Type 0} (g : Ghosts R) (human : C → Bool) (lends : Bool) (reads : Bool → Bool → Msg → V → Type 0) (P : Setting
+    → Refusals) (grows : Bool) (start : Deserializer R C) (b : Bool) (all many : ℕ) (new : Deserializer R C) (e : Error) : Type 0 where
+  pub failed : new.failed ≡ true
+  pub why : StopsAtElement g human lends reads P start b all many new e
+      ⊎ ((grows ≡ true) × StopsFull g (reads (human start.config) lends) start b all new e)

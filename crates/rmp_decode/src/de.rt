@@ -12,6 +12,7 @@ mod maps;
 mod numbers;
 mod options;
 mod pointers;
+mod rows;
 mod sets;
 mod texts;
 mod tuples;

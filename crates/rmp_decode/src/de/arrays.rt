@@ -1,16 +1,22 @@
 //! Arrays, from lists of as many elements, or bytes of as many.
-ghost use Rattle.std.specs.Prelude.{◌≡◌, ◌≢◌, ◌<◌, true, false, None, Some, IsSome, OnOk, IfErr, All, map, length, slice_index_or, slice_set};
-ghost use Rattle.rmp_decode.specs.Arrays.{PlacesFit, Exactly, TakesPlaces};
-ghost use Rattle.rmp_decode.specs.Refusing.{OneWanted, element_setting};
-ghost use Rattle.rmp_decode.specs.Seq.{OfRow, IsOpen, FailsParts, count_in, in_bytes, left_in, lender_of};
-ghost use Rattle.rmp_decode.specs.State.{left, faults_of, config_of};
+ghost use Rattle.std.specs.Prelude.{◌≡◌, ◌⊎◌, ◌<◌, true, false, None, Some, IsSome, All, map, min, slice_index_or, slice_set};
+ghost use Rattle.rmp_decode.specs.Arrays.{PlacesFit, Exactly, HoldsFirst};
+ghost use Rattle.rmp_decode.specs.Inside.{access_at};
+ghost use Rattle.rmp_decode.specs.Law.{Lawful};
+ghost use Rattle.rmp_decode.specs.Refusing.{RefusesAs, RefusesTimes};
+ghost use Rattle.rmp_decode.specs.Seq.{OfRow, Opens};
+ghost use Rattle.rmp_decode.specs.State.{config_of, is_failed, kept_of};
+ghost use Rattle.rmp_decode.specs.declared.deserializer.Deserializer.{Deserializer};
+ghost use Rattle.rmp_decode.specs.declared.deserializer.Kept.TheVariants.{Nothing};
+ghost use Rattle.rmp_decode.specs.declared.error.Error.TheVariants.{OutOfMemory};
 
-use crate::access::seq::SeqAccess;
 use crate::de::Deserialize;
+use crate::de::rows::{Row, is_small, read_row};
 use crate::deserializer::Deserializer;
 use crate::error::Error;
+use crate::text::Text;
+use rmp_wire::ReadSlice;
 use rmp_wire::config::SerializerConfig;
-use rmp_wire::{ReadSlice, Source};
 use std::array::from_fn;
 use std::mem::size_of_val;
 
@@ -48,42 +54,62 @@ fn values_of<T: Drop, const N: usize>(mut places: [Option<T>; N]) -> [T; N]
     )
 }
 
-impl<'x, R: Source, C: SerializerConfig> SeqAccess<'x, R, C> {
-    // Reads an element into each place.
-    fn fill<'de, T: Deserialize<'de, R>>(&mut self, places: &mut [Option<T>]) -> Result<(), Error>
-    where
-        R: ReadSlice<'de>,
-        requires { IsOpen self.old }
-        ensures same_reference { self.new.de.ghost_name ≡ self.old.de.ghost_name }
-        ensures ok { OnOk result (TakesPlaces R.Source (length places.old) (T.reads (C.human (config_of (lender_of self.old))) R.lends) self.old self.new
-            places.new) }
-        ensures count { OnOk result (count_in self.new ≡ count_in self.old) }
-        ensures refused { IfErr result (OneWanted (length places.old) T.reads T.refuses (in_bytes self.old)
-            (element_setting (C.human (config_of (lender_of self.old))) R.lends self.old) (faults_of R.Source (lender_of self.old))
-            (faults_of R.Source (lender_of self.new)) (left_in self.old) (left R.Source (lender_of self.old))) }
-        ensures memory { T.takes_memory R.lends ≡ false → IfErr result (λ e. e ≢ Error.OutOfMemory) }
-        ensures err { IfErr result (FailsParts R.Source (Exactly (length places.old) (T.reads (C.human (config_of (lender_of self.old))) R.lends)) self.old
-            self.new) }
-    {
-        let mut i = 0;
-        while i < places.len() {
-            let item = match self.element() {
-                Ok(item) => item,
-                Err(e) => return Err(e),
-            };
-            places[i] = Some(item);
-            i += 1;
+// Places of which the first ones hold the elements so far.
+impl<T: Drop, const N: usize> Row<T> for [Option<T>; N] {
+    ghost holds = { HoldsFirst N };
+
+    ghost most = { min N };
+
+    ghost grows = { false };
+
+    #[inline(always)]
+    fn wanted(count: u32) -> u32 {
+        if N < count as usize { N as u32 } else { count }
+    }
+
+    #[inline(always)]
+    fn put(&mut self, item: T, at: u32, _left: u32) -> bool {
+        self[at as usize] = Some(item);
+        true
+    }
+}
+
+// Reads so many elements of a list, or numbers of bytes, from a reader that has taken the head.
+#[inline(always)]
+fn array_row<'de, R: ReadSlice<'de>, C: SerializerConfig, T: Deserialize<'de, R>, const N: usize>(
+    de: &mut Deserializer<R, C>,
+    bytes: bool,
+    count: u32,
+) -> Result<[T; N], Error>
+    requires clean { kept_of de.old ≡ Nothing }
+    requires failed { is_failed de.old ≡ true }
+    ensures law { (d : Deserializer R C) → Opens R.Source d (access_at de.old bytes count count)
+        → Lawful R.Source (λ m v. OfRow (Exactly N (T.reads (C.human (config_of d)) R.lends) v) m) d de.new result }
+    // Memory is short where so many places don't fit into it.
+    ensures refused { (d : Deserializer R C) → Opens R.Source d (access_at de.old bytes count count)
+        → RefusesAs R.Source (C.human (config_of d)) R.lends
+        (λ s before after known e. ((PlacesFit T.row N → ⊥) × (e ≡ OutOfMemory)) ⊎ RefusesTimes N T.reads T.refuses s before after known e) d de.new result }
+{
+    if !places_fit::<T, N>() {
+        return Err(Error::OutOfMemory);
+    }
+    let mut places: [Option<T>; N] = Default::default();
+    match read_row(de, bytes, count, &mut places) {
+        Ok(left) => {
+            if (count as usize) < N {
+                return Err(de.refuse(Error::Syntax(Text::InvalidLength)));
+            }
+            if left > 0 {
+                return Err(de.refuse(Error::LengthMismatch(count.saturating_sub(left))));
+            }
+            Ok(values_of(places))
         }
-        Ok(())
+        Err(e) => Err(e),
     }
 }
 
 impl<'de, R: ReadSlice<'de>, T: Deserialize<'de, R>, const N: usize> Deserialize<'de, R>
     for [T; N] {
-    ghost use Rattle.std.specs.Prelude.{◌⊎◌};
-    ghost use Rattle.rmp_decode.specs.Refusing.{RefusesTimes};
-    ghost use Rattle.rmp_decode.specs.declared.error.Error.TheVariants.{OutOfMemory};
-
     ghost reads = { λ human lends m v. OfRow (Exactly N (T.reads human lends) v) m };
 
     ghost absent = { None };
@@ -92,20 +118,9 @@ impl<'de, R: ReadSlice<'de>, T: Deserialize<'de, R>, const N: usize> Deserialize
     ghost refuses = { λ s before after known e. ((PlacesFit T.row N → ⊥) × (e ≡ OutOfMemory)) ⊎ RefusesTimes N T.reads T.refuses s before after known e };
 
     fn deserialize<C: SerializerConfig>(de: &mut Deserializer<R, C>) -> Result<[T; N], Error> {
-        let mut seq = match de.deserialize_tuple(N) {
-            Ok(seq) => seq,
-            Err(e) => return Err(e),
-        };
-        if !places_fit::<T, N>() {
-            return Err(Error::OutOfMemory);
-        }
-        let mut places: [Option<T>; N] = Default::default();
-        match seq.fill(&mut places) {
-            Ok(()) => {}
-            Err(e) => return Err(e),
-        }
-        match seq.end() {
-            Ok(()) => Ok(values_of(places)),
+        match de.open_row(is_small::<T>()) {
+            Ok((true, count)) => array_row(de, true, count),
+            Ok((false, count)) => array_row(de, false, count),
             Err(e) => Err(e),
         }
     }

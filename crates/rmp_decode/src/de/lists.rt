@@ -1,5 +1,5 @@
 //! Vectors and queues, from lists or bytes.
-ghost use Rattle.std.specs.Prelude.{◌≡◌, ◌<◌, ◌++◌, ◌∷◌, [], is_ok, if◌then◌else◌, None, Err, IfErr, List, true, vec_len, vec_capacity};
+ghost use Rattle.std.specs.Prelude.{◌≡◌, ◌<◌, None, Err, IfErr, List, true, vec_len, vec_capacity};
 ghost use Rattle.rmp_decode.specs.Inside.{access_at};
 ghost use Rattle.rmp_decode.specs.Law.{Lawful};
 ghost use Rattle.rmp_decode.specs.Refusing.{RefusesAs, RefusesEach};
@@ -9,28 +9,38 @@ ghost use Rattle.rmp_decode.specs.State.{config_of, kept_of};
 ghost use Rattle.rmp_decode.specs.declared.deserializer.Deserializer.{Deserializer};
 ghost use Rattle.rmp_decode.specs.declared.deserializer.Kept.TheVariants.{Nothing};
 
-use crate::access::seq::{data_fault, inner_room};
 use crate::de::Deserialize;
-use crate::deserializer::{Deserializer, Kept};
+use crate::de::rows::{Row, is_small, read_row};
+use crate::deserializer::Deserializer;
 use crate::error::Error;
 use core::mem::replace_with;
 use rmp_wire::config::SerializerConfig;
 use rmp_wire::{ReadSlice, Source};
-use std::alloc::AllocFailed;
 use std::collections::VecDeque;
 use std::marker::PhantomData;
 use std::mem::size_of_val;
 
-// Appends an element, of which so many more are to come. Only once there is a first one does it make room for them.
-#[inline(always)]
-fn append<T: Drop>(items: &mut Vec<T>, item: T, left: u32) -> Result<(), AllocFailed<T>>
-    ensures { items.new.items ≡ (if is_ok result then items.old.items ++ item ∷ [] else items.old.items) }
-{
-    if items.len() >= items.capacity() && !made_room(items, left) {
-        return Err(AllocFailed { value: item });
+impl<T: Drop> Row<T> for Vec<T> {
+    ghost holds = { λ v vs. v.items ≡ vs };
+
+    ghost most = { λ n. n };
+
+    ghost grows = { true };
+
+    #[inline(always)]
+    fn wanted(count: u32) -> u32 {
+        count
     }
-    items.push_reserved(item);
-    Ok(())
+
+    // Only once there is a first element it makes room for those to come.
+    #[inline(always)]
+    fn put(&mut self, item: T, _at: u32, left: u32) -> bool {
+        if self.len() >= self.capacity() && !made_room(self, left) {
+            return false;
+        }
+        self.push_reserved(item);
+        true
+    }
 }
 
 // Whether there is room for one more, of which so many are to come behind it. The call is given the vector by value, so that its parts
@@ -70,10 +80,9 @@ fn make_room<T: Drop>(items: &mut Vec<T>, left: u32) -> bool
     items.reserve(1).is_ok()
 }
 
-// Reads so many elements of a list, or numbers of bytes, from a reader that has taken the head. The room is set once for all of them. What
-// each read says of the reader is set again, so that the next one needn't look.
+// Reads so many elements of a list, or numbers of bytes, from a reader that has taken the head.
 #[inline(always)]
-fn read_row<'de, R: ReadSlice<'de>, C: SerializerConfig, T: Deserialize<'de, R>>(
+fn vec_row<'de, R: ReadSlice<'de>, C: SerializerConfig, T: Deserialize<'de, R>>(
     de: &mut Deserializer<R, C>,
     bytes: bool,
     count: u32,
@@ -87,49 +96,10 @@ fn read_row<'de, R: ReadSlice<'de>, C: SerializerConfig, T: Deserialize<'de, R>>
         → RefusesAs R.Source (C.human (config_of d)) R.lends (RefusesEach T.reads T.refuses) d de.new result }
 {
     let mut items = Vec::new(de.alloc());
-    let outer = de.room;
-    de.room = inner_room(outer, bytes);
-    de.failed = false;
-    de.kept = Kept::Nothing;
-    let mut left = count;
-    while left > 0 {
-        match de.offer_part(bytes) {
-            Ok(()) => {}
-            Err(fault) => {
-                de.room = outer;
-                de.failed = true;
-                return Err(data_fault(fault));
-            }
-        }
-        match T::deserialize(de) {
-            Ok(item) => {
-                de.failed = false;
-                de.kept = Kept::Nothing;
-                left -= 1;
-                match append(&mut items, item, left) {
-                    Ok(()) => {}
-                    Err(_) => {
-                        de.room = outer;
-                        de.failed = true;
-                        return Err(Error::OutOfMemory);
-                    }
-                }
-            }
-            Err(e) => {
-                de.room = outer;
-                return Err(e);
-            }
-        }
+    match read_row(de, bytes, count, &mut items) {
+        Ok(_) => Ok(items),
+        Err(e) => Err(e),
     }
-    de.room = outer;
-    Ok(items)
-}
-
-// Whether an element is as small as a byte, so that bytes are a likely form of many.
-#[inline(always)]
-fn is_small<T: Drop>() -> bool {
-    let none: Option<T> = None;
-    size_of_val(&none) <= 2
 }
 
 // Reads the elements of a list, or the numbers of bytes: by a loop for each, so that neither asks which it is.
@@ -144,8 +114,8 @@ fn read_vec<'de, R: ReadSlice<'de>, C: SerializerConfig, T: Deserialize<'de, R>>
     ensures refused { RefusesAs R.Source (C.human (config_of de.old)) R.lends (RefusesEach T.reads T.refuses) de.old de.new result }
 {
     match de.open_row(is_small::<T>()) {
-        Ok((true, count)) => read_row(de, true, count),
-        Ok((false, count)) => read_row(de, false, count),
+        Ok((true, count)) => vec_row(de, true, count),
+        Ok((false, count)) => vec_row(de, false, count),
         Err(e) => Err(e),
     }
 }

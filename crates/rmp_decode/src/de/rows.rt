@@ -1,0 +1,95 @@
+//! The elements of a list, or the numbers of bytes, read one after another into what holds them.
+ghost use Rattle.std.specs.Prelude.{◌≡◌, ◌+◌, ◌<◌, ◌≤◌, ◌++◌, ◌∷◌, [], ℕ, Bool, List, IfOk, IfErr, true, false, length};
+ghost use Rattle.rmp_decode.specs.Inside.{ReadsRow, StopsRow};
+ghost use Rattle.rmp_decode.specs.State.{config_of, kept_of};
+ghost use Rattle.rmp_decode.specs.declared.deserializer.Kept.TheVariants.{Nothing};
+
+use crate::access::seq::{data_fault, inner_room};
+use crate::de::Deserialize;
+use crate::deserializer::{Deserializer, Kept};
+use crate::error::Error;
+use rmp_wire::config::SerializerConfig;
+use rmp_wire::{ReadSlice, Source};
+use std::mem::size_of_val;
+
+// What elements are put into.
+pub(crate) trait Row<T: Drop>: Drop {
+    // whether these are the values that were put into it
+    ghost holds: { Self → List T → Type 0 };
+
+    // how many it takes of so many
+    ghost most: { ℕ → ℕ };
+
+    // whether memory may be short for an element
+    ghost grows: { Bool };
+
+    // How many it takes of so many.
+    fn wanted(count: u32) -> u32
+        ensures most { result ≡ most count }
+        ensures within { result ≤ count };
+
+    // Puts an element behind so many others, and says whether it could. So many more are to come.
+    fn put(&mut self, item: T, at: u32, left: u32) -> bool
+        requires { (vs : List T) × (all : ℕ) × holds self.old vs × (length vs ≡ at) × (at < most all) }
+        ensures held { result ≡ true → (vs : List T) → holds self.old vs → length vs ≡ at → holds self.new (vs ++ item ∷ []) }
+        ensures full { result ≡ false → grows ≡ true };
+}
+
+// Whether an element is as small as a byte, so that bytes are a likely form of many.
+#[inline(always)]
+pub(crate) fn is_small<T: Drop>() -> bool {
+    let none: Option<T> = None;
+    size_of_val(&none) <= 2
+}
+
+// Reads elements of a list, or numbers of bytes, of which there are so many, from a reader that has taken the head, and answers how many
+// are left. The room is set once for all of them. What each read says of the reader is set again, so that the next one needn't look.
+#[inline(always)]
+pub(crate) fn read_row<'de, R: ReadSlice<'de>, C: SerializerConfig, T: Deserialize<'de, R>, W: Row<T>>(
+    de: &mut Deserializer<R, C>,
+    bytes: bool,
+    count: u32,
+    row: &mut W,
+) -> Result<u32, Error>
+    requires clean { kept_of de.old ≡ Nothing }
+    requires empty { W.holds row.old [] }
+    ensures ok { IfOk result (ReadsRow R.Source (T.reads (C.human (config_of de.old)) R.lends) W.holds de.old bytes count de.new row.new) }
+    ensures rest { IfOk result (λ left. left + W.most count ≡ count) }
+    ensures err { IfErr result (StopsRow R.Source C.human R.lends T.reads T.refuses W.grows de.old bytes count (W.most count) de.new) }
+{
+    let outer = de.room;
+    de.room = inner_room(outer, bytes);
+    de.failed = false;
+    de.kept = Kept::Nothing;
+    let rest = count - W::wanted(count);
+    let mut left = count;
+    while left > rest {
+        match de.offer_part(bytes) {
+            Ok(()) => {}
+            Err(fault) => {
+                de.room = outer;
+                de.failed = true;
+                return Err(data_fault(fault));
+            }
+        }
+        match T::deserialize(de) {
+            Ok(item) => {
+                de.failed = false;
+                de.kept = Kept::Nothing;
+                let at = count - left;
+                left -= 1;
+                if !row.put(item, at, left) {
+                    de.room = outer;
+                    de.failed = true;
+                    return Err(Error::OutOfMemory);
+                }
+            }
+            Err(e) => {
+                de.room = outer;
+                return Err(e);
+            }
+        }
+    }
+    de.room = outer;
+    Ok(left)
+}
