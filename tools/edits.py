@@ -42,7 +42,7 @@ FUNCTION = re.compile(r"^impl\b[^{;]*|^(?:pub )?trait [^{;]*|^\}|^ *(pub )?(?:co
 # Nothing, a field or a reference to one, or a struct of what is given, with nothing read or written.
 PLAIN = re.compile(
     r"|(&(mut )?)?self(\.\w+)+(\.(as_slice|get_ref|get_mut|into_inner)\(\))?|\w+ \{ \w+(: self)? \}"
-    r"|(BufSource|ReadReader) \{\s*\w+(: \w+::new\(\w+\))?,(\s*\w+: \w+::new\(\w+\),)?\s*\}?"
+    r"|(AheadSource|BufSource|ReadReader) \{\s*\w+(: \w+::new\(\w+\))?,(\s*\w+: \w+::new\(\w+\),)?\s*\}?"
 )
 
 

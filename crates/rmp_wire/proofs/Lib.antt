@@ -8,6 +8,7 @@ pub mod Heads
 pub mod Lists
 pub mod Markers
 pub mod NextReads
+pub mod ReadAhead
 pub mod Reading
 pub mod Sources
 pub mod Spellings

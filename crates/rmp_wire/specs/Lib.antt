@@ -5,6 +5,7 @@ pub mod Cursors
 pub mod Faults
 pub mod Heads
 pub mod Msg
+pub mod ReadAhead
 pub mod Reading
 pub mod RefReader
 pub mod Settings

@@ -1,7 +1,7 @@
 //! Readers and writers of the world: interruptions, cursors and buffers.
 use rmp_wire::{
-    BufSource, Head, IoSink, IoSource, ReadReader, ReadSlice, Sink, SinkFault, Source, SourceFault,
-    read_head, read_marker,
+    AheadSource, BufSource, Head, IoSink, IoSource, ReadReader, ReadSlice, Sink, SinkFault, Source,
+    SourceFault, read_head, read_marker,
 };
 use std::alloc::Global;
 use std::io;
@@ -236,4 +236,37 @@ fn a_buffer_is_read_where_it_lies(rt: HostRuntime) {
         assert!(rt; gives(&mut reader, &bytes[n..n + 1]));
     }
     assert_eq!(rt; last_byte(reader.into_inner()), (Some(10), false, 0));
+}
+
+#[test]
+fn a_buffer_grows_where_it_is_filled(rt: HostRuntime) {
+    let mut bytes = [0u8; 4000];
+    bytes[0] = 1;
+    bytes[1023] = 2;
+    bytes[1024] = 3;
+    bytes[3071] = 4;
+    bytes[3072] = 5;
+    bytes[3999] = 6;
+    let mut source = AheadSource::new(rt.alloc(), Cursor::new(bytes.as_slice()));
+    assert_eq!(rt; source.take_1().ok(), Some([1]));
+    assert_eq!(rt; source.buffer().len(), 1023);
+    assert_eq!(rt; source.get_ref().position(), 1024);
+    let mut reader = ReadReader::new(rt.alloc(), source);
+    assert!(rt; gives(&mut reader, &bytes[1..1024]));
+    assert!(rt; gives(&mut reader, &bytes[1024..1025]));
+    assert_eq!(rt; reader.get_ref().get_ref().position(), 3072);
+    assert!(rt; gives(&mut reader, &bytes[1025..3100]));
+    assert_eq!(rt; reader.get_ref().buffer().len(), 900);
+    assert!(rt; is_cut(&mut reader, 901));
+    assert_eq!(rt; reader.into_inner().into_inner().position(), 4000);
+}
+
+#[test]
+fn reading_ahead_goes_on_where_it_was_interrupted(rt: HostRuntime) {
+    let bytes = [1u8, 2, 3, 4, 5];
+    let inner = Interrupting::new(rt.alloc(), &bytes, 2);
+    let mut reader = ReadReader::new(rt.alloc(), AheadSource::new(rt.alloc(), inner));
+    assert!(rt; gives(&mut reader, &bytes[..3]));
+    assert!(rt; gives(&mut reader, &bytes[3..]));
+    assert!(rt; is_cut(&mut reader, 1));
 }

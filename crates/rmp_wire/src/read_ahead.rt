@@ -1,0 +1,126 @@
+//! A source that reads ahead, into a buffer of its own.
+ghost use Rattle.std.specs.Prelude.{◌≡◌, ◌≢◌, ◌<◌, ◌≤◌, [], IfOk, OnOk, OnErr, IsTrue, take, length, min};
+ghost use Rattle.std.specs.Io.KnownBytes.{Consumes, IsAtEnd, Keeps};
+ghost use Rattle.rmp_wire.specs.ReadAhead.{faults_behind, held_of, reader_behind, told_ahead};
+ghost use Rattle.rmp_wire.specs.Sources.{IsFront, Skips};
+
+mod held;
+
+use crate::read_ahead::held::Held;
+use crate::source::Source;
+use crate::stream::IoSource;
+use std::alloc::Global;
+use std::io;
+use std::io::Read;
+
+/// A reader as a source, which is read ahead of what is asked for, into a buffer that is read where it lies: as fast as memory, but for
+/// the filling.
+///
+/// The buffer begins with 1024 bytes, and doubles each time a read has filled it, up to 8192 bytes, so that a short message takes little
+/// memory. Where memory is refused, the room stays as it was, and with no room the reader is read with no buffer. What the reader tells of
+/// the bytes ahead, if anything, the source tells. A read that was interrupted is tried again, at most 16 times in a row.
+#[derive(Drop)]
+pub struct AheadSource<R> {
+    source: IoSource<R>,
+    held: Held,
+}
+
+impl<R> AheadSource<R> {
+    /// Reads from `reader`. Memory for the buffer comes from `alloc`, with the first read.
+    pub fn new(alloc: Global, reader: R) -> AheadSource<R>
+        ensures reader { reader_behind result ≡ reader }
+        ensures held { held_of result ≡ [] }
+        ensures faults { faults_behind result ≡ 0 }
+    {
+        AheadSource {
+            source: IoSource::new(reader),
+            held: Held::new(alloc),
+        }
+    }
+
+    /// What it reads from, which has given what the buffer holds, too.
+    pub fn get_ref(&self) -> &R
+        ensures { result.now ≡ reader_behind self.now }
+    {
+        self.source.get_ref()
+    }
+
+    /// What was read and not yet taken.
+    pub fn buffer(&self) -> &[u8]
+        ensures { result.now ≡ held_of self.now }
+    {
+        self.held.as_slice()
+    }
+
+    /// What it reads from. What the buffer holds is lost.
+    pub fn into_inner(self) -> R
+        ensures { result ≡ reader_behind self }
+    {
+        self.source.into_inner()
+    }
+}
+
+impl<R: Read> AheadSource<R> {
+    // Moves bytes out of the buffer.
+    #[inline(always)]
+    fn take_held(&mut self, buf: &mut [u8]) -> usize
+        ensures size { length buf.new ≡ length buf.old }
+        ensures count { result ≡ min (length (held_of self.old)) (length buf.new) }
+        ensures bytes { Consumes (told_ahead R.remaining self.old) (told_ahead R.remaining self.new) (take result buf.new) }
+        ensures faults { faults_behind self.new ≡ faults_behind self.old }
+    {
+        self.held.take_into(buf)
+    }
+
+    // Moves bytes from those ahead, where the buffer has none. Pieces as large as the buffer go past it.
+    #[inline(never)]
+    fn pull_more(&mut self, buf: &mut [u8]) -> Result<usize, io::Error>
+        requires empty { held_of self.old ≡ [] }
+        ensures bound { IfOk result (λ n. n ≤ length buf.new) }
+        ensures bytes { IfOk result (λ n. Consumes (told_ahead R.remaining self.old) (told_ahead R.remaining self.new) (take n buf.new)) }
+        ensures end { IfOk result (λ n. n ≡ 0 → 0 < length buf.new → IsAtEnd (told_ahead R.remaining self.old)) }
+        ensures sound { OnOk result (faults_behind self.new ≡ faults_behind self.old) }
+        ensures kept { OnErr result (Keeps (told_ahead R.remaining self.old) (told_ahead R.remaining self.new)) }
+        ensures fault { OnErr result (faults_behind self.new ≢ faults_behind self.old) }
+    {
+        if buf.len() >= self.held.make_room() {
+            return self.source.pull(buf);
+        }
+        match self.held.fill(&mut self.source) {
+            Ok(()) => Ok(self.take_held(buf)),
+            Err(e) => Err(e),
+        }
+    }
+}
+
+impl<R: Read> Source for AheadSource<R> {
+    ghost use Rattle.rmp_wire.specs.ReadAhead.{faults_behind, told_ahead};
+
+    ghost ahead = { told_ahead R.remaining };
+
+    ghost faults = { faults_behind };
+
+    fn pull(&mut self, buf: &mut [u8]) -> Result<usize, io::Error> {
+        if self.held.len() == 0 {
+            return self.pull_more(buf);
+        }
+        Ok(self.take_held(buf))
+    }
+
+    #[inline(always)]
+    fn front(&self) -> &[u8]
+        ensures bytes { IsFront result.now (told_ahead R.remaining self.now) }
+        ensures all { result.now ≡ held_of self.now }
+    {
+        self.held.as_slice()
+    }
+
+    #[inline(always)]
+    fn skip(&mut self, len: usize) -> bool {
+        if len > self.held.len() {
+            return false;
+        }
+        self.held.skip(len);
+        true
+    }
+}
