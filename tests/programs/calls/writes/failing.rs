@@ -213,7 +213,8 @@ fn uncounted_map<W: Sink, C: SerializerConfig>(se: &mut Serializer<W, C>) -> Res
 }
 
 // What each of the values below is written as where all that may be bytes is, or, the last, where fields have names.
-const FORCED: [&[u8]; 7] = [
+const FORCED: [&[u8]; 8] = [
+    b"\x92\x2a\xaathe Answer",
     b"\xc4\x04\x01\x64\xc8\xfe",
     b"\x94\x01\x02\x03\x7f",
     b"\x92\x2a\xce\x00\x01\x88\x94",
@@ -232,12 +233,13 @@ fn put_forced<W: Sink, C: SerializerConfig>(
         age: 8,
     };
     match at {
-        0 => (1u8, 100u8, 200u8, 254u8).serialize(se),
-        1 => (1u8, 2u8, 3u8, 127u8).serialize(se),
-        2 => (42u32, 100500u32).serialize(se),
-        3 => [0u8; 0].as_slice().serialize(se),
-        4 => ([1u8, 200], 3u8).serialize(se),
-        5 => put_rest(se, 37),
+        0 => (42u32, "the Answer").serialize(se),
+        1 => (1u8, 100u8, 200u8, 254u8).serialize(se),
+        2 => (1u8, 2u8, 3u8, 127u8).serialize(se),
+        3 => (42u32, 100500u32).serialize(se),
+        4 => [0u8; 0].as_slice().serialize(se),
+        5 => ([1u8, 200], 3u8).serialize(se),
+        6 => put_rest(se, 37),
         _ => DOG.serialize(se),
     }
 }
