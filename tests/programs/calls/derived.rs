@@ -3,6 +3,7 @@ use rmp_decode::{Deserialize, Deserializer, Error, Text, from_read, from_slice, 
 use rmp_encode::{Serialize, Serializer, to_vec, to_vec_named, write_named};
 use rmp_wire::{Bytes, Marker};
 use std::alloc::Global;
+use std::io::Cursor;
 use std::test::Fail;
 use test_derived::{
     Counted, Dog, Event, Four, Label, Line, Mixed, Newtype, Opt, Papers, Piece, Point, Two, Unit,
@@ -36,6 +37,15 @@ fn a_dog(rt: HostRuntime) -> Result<(), Fail> {
         assert!(rt; matches!(&read, Ok(dog) if dog.name.as_str() == "Bobby" && dog.age == 8));
     }
     Ok(())
+}
+
+#[test]
+fn other_dogs(rt: HostRuntime) {
+    let read: Result<Dog, Error> = from_slice(rt.alloc(), b"\x82\x01\x08\x00\xa1A");
+    assert!(rt; matches!(&read, Ok(dog) if dog.name.as_str() == "A" && dog.age == 8));
+    let wide = b"\x83\xa1\x78\x81\xcc\x05\x90\xa3age\x08\xa4name\xa5Bobby";
+    let read: Result<Dog, Error> = from_slice(rt.alloc(), wide);
+    assert!(rt; matches!(&read, Ok(dog) if dog.name.as_str() == "Bobby" && dog.age == 8));
 }
 
 #[test]
@@ -189,6 +199,17 @@ fn variants_in_a_row(rt: HostRuntime) -> Result<(), Fail> {
     let read: Result<V12, Error> = from_slice(rt.alloc(), b"\x81\xa2V2\x92\x2a\xff");
     assert!(rt; matches!(&read, Err(Error::Syntax(Text::InvalidValue))));
     Ok(())
+}
+
+// Two variants, one after another, and where the cursor stands behind each.
+#[test]
+fn variants_over_a_cursor(rt: HostRuntime) {
+    let bytes = b"\xa2V1\x81\xa2V2\x92\x2a\xce\x00\x01\x88\x94".as_slice();
+    let mut de = Deserializer::new(rt.alloc(), Cursor::new(bytes));
+    assert!(rt; matches!(&V12::deserialize(&mut de), Ok(V12::V1)));
+    assert_eq!(rt; de.position(), 3);
+    assert!(rt; matches!(&V12::deserialize(&mut de), Ok(V12::V2(42, 100500))));
+    assert_eq!(rt; de.position(), 14);
 }
 
 #[test]

@@ -1,8 +1,10 @@
 //! What is read by the public calls of `rmp_decode`.
 mod accesses;
+mod claims;
 mod content;
 mod depths;
 mod errors;
+mod failing;
 mod fields;
 mod interrupted;
 mod leaves;

@@ -117,6 +117,27 @@ fn lists(rt: HostRuntime) {
     );
 }
 
+// So many lists of one, and then these bytes.
+fn nested(alloc: Global, times: usize, last: &[u8]) -> Result<Vec<u8>, Error> {
+    let mut input = Vec::new(alloc);
+    for _ in 0..times {
+        input.push(0x91)?;
+    }
+    input.extend_from_slice(last)?;
+    Ok(input)
+}
+
+#[test]
+fn a_hundred_lists(rt: HostRuntime) -> Result<(), Error> {
+    let deepest = nested(rt.alloc(), 98, b"\x90")?;
+    reads::<Nested>(&rt, rt.alloc(), 100, &deepest, false, &deepest);
+    for (times, last) in [(99, b"\x90".as_slice()), (100, b"")] {
+        let deeper = nested(rt.alloc(), times, last)?;
+        refused::<Nested>(&rt, rt.alloc(), read(rt.alloc(), 100, &deeper), TOO_DEEP);
+    }
+    Ok(())
+}
+
 #[test]
 fn roses(rt: HostRuntime) -> Result<(), Fail> {
     let kids = vec![in rt.alloc();

@@ -8,6 +8,7 @@ use std::test::Fail;
 
 mod calls;
 mod errors;
+mod failing;
 mod implementations;
 mod leaves;
 mod structs;

@@ -61,6 +61,17 @@ fn check(rt: &(impl AllocGlobal + Abort), line: &str, want: &str) -> Result<(), 
     Ok(())
 }
 
+#[test]
+fn a_line_that_is_refused_is_one_of_several(rt: HostRuntime) -> Result<(), RunFault> {
+    let lines = "2ac1\nabc\n82a16bd1ffff02c40100\n92\n";
+    let want =
+        "42 2a\nrefused at 1: TypeMismatch\nrefused: hex\n{t:6b=-1,2=b:00} 82a16bff02c40100\nrefused at 0: InvalidMarkerRead\n";
+    let (out, accepted) = run_lines(rt.alloc(), lines.as_bytes())?;
+    assert!(rt; !accepted);
+    assert!(rt; out.as_slice() == want.as_bytes());
+    Ok(())
+}
+
 // Appends a text so many times.
 fn push_many(text: &mut String, part: &str, times: usize) -> Result<(), AllocError> {
     for _ in 0..times {

@@ -60,6 +60,17 @@ fn elements_by_a_function(rt: HostRuntime) {
 }
 
 #[test]
+fn elements_that_are_left(rt: HostRuntime) {
+    let mut de = reader(&rt, &[0x93, 1, 2, 3]);
+    let mut seq = list(&rt, &mut de);
+    let first: Result<Option<u8>, Error> = seq.next_element();
+    gives(&rt, first, Some(1));
+    assert_eq!(rt; seq.left(), 2);
+    refused(&rt, end(seq), "array had incorrect length, expected 1");
+    next_refused::<u8>(&rt, &mut de, FAILED_BEFORE);
+}
+
+#[test]
 fn failures_of_the_function(rt: HostRuntime) {
     let mut de = reader(&rt, &[0x92, 0xa0, 1]);
     let mut seq = list(&rt, &mut de);

@@ -2,10 +2,10 @@
 use super::rows::{
     FAILED_BEFORE, INVALID_LENGTH, INVALID_TYPE, INVALID_VALUE, NO_DATA, NO_MARKER, NO_UTF8,
     NOT_CANONICAL, RESERVED, SliceReader, ahead, gives, gives_items, gives_text, next_refused,
-    reader, reads, reads_items, refused, refuses, refuses_strictly,
+    reader, reads, reads_items, reads_strictly, refused, refuses, refuses_strictly,
 };
 use rmp_decode::{Error, from_slice, from_slice_strict};
-use rmp_wire::{ByteBuf, Ext};
+use rmp_wire::{ByteBuf, Ext, F32Bits, F64Bits};
 use std::collections::{BTreeMap, BTreeSet, VecDeque};
 use std::process::Abort;
 
@@ -47,6 +47,24 @@ fn refusals_of_one_head(rt: HostRuntime) {
     refuses::<i64>(&rt, &[0xc1], RESERVED);
     refuses::<i64>(&rt, &[], NO_MARKER);
     refuses::<i64>(&rt, &[0xd2, 0, 0], NO_DATA);
+}
+
+#[test]
+fn numbers_at_the_ends(rt: HostRuntime) {
+    let ones = [0xcf, 0xff, 0xff, 0xff, 0xff, 0xff, 0xff, 0xff, 0xff];
+    reads(&rt, &ones, 18446744073709551615u64);
+    reads(&rt, &[0xd2, 0xff, 0xff, 0x7f, 0xff], -32769i32);
+    let long = [0xd3, 0xff, 0xff, 0xff, 0xff, 0x7f, 0xff, 0xff, 0xff];
+    reads(&rt, &long, -2147483649i64);
+}
+
+#[test]
+fn bits_of_floats(rt: HostRuntime) {
+    reads(&rt, &[0xca, 0x7f, 0x7f, 0xff, 0xff], F32Bits(0x7f7f_ffff));
+    refuses::<F64Bits>(&rt, &[0xca, 0x7f, 0x7f, 0xff, 0xff], INVALID_TYPE);
+    let double = [0xcb, 0x40, 0x45, 0, 0, 0, 0, 0, 0];
+    reads(&rt, &double, F64Bits(0x4045_0000_0000_0000));
+    refuses::<F32Bits>(&rt, &double, INVALID_TYPE);
 }
 
 #[test]
@@ -191,7 +209,9 @@ fn ext(de: &mut SliceReader) -> Result<Ext, Error> {
 #[test]
 fn extensions(rt: HostRuntime) {
     for (input, tag, content) in [
-        ([0xc7u8, 0, 2].as_slice(), 2, [].as_slice()),
+        ([0xd4u8, 2, 5].as_slice(), 2, [5].as_slice()),
+        (&[0xc7, 0, 2], 2, &[]),
+        (&[0xc7, 3, 2, 1, 2, 3], 2, &[1, 2, 3]),
         (&[0xd4, 0xff, 5], -1, &[5]),
         (&[0xc8, 0, 1, 0xff, 5], -1, &[5]),
     ] {
@@ -358,6 +378,8 @@ fn strictly(rt: HostRuntime) {
     refuses_strictly::<(u8, String)>(&rt, &[0x92, 0xcc, 0x05, 0xa1, 0x61], NOT_CANONICAL);
     refuses_strictly::<Numbers>(&rt, &[0xde, 0, 0], NOT_CANONICAL);
     refuses_strictly::<i8>(&rt, &[0xd0, 0x05], NOT_CANONICAL);
+    refuses_strictly::<u32>(&rt, &[0xd1, 0x01, 0x2c], NOT_CANONICAL);
+    reads_strictly(&rt, &[0xcd, 0x01, 0x2c], 300u32);
     refuses_strictly::<Ext>(&rt, &[0xc7, 0x01, 0x02, 0x05], NOT_CANONICAL);
     // A byte of bytes counts as canonical, and their head is tested.
     reads_numbers_strictly(&rt, &[0xc4, 0x02, 0x01, 0xc8], &[1, 200]);

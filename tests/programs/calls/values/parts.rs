@@ -2,7 +2,8 @@
 use rmp_serde::config::BytesMode;
 use rmp_serde::decode::Error;
 use rmp_serde::encode::{Serialize, Serializer, write};
-use rmp_serde::{Kind, Value, ValueRef, from_slice, to_vec, to_vec_named};
+use rmp_serde::{Kind, Value, ValueRef, from_slice, from_slice_strict, to_vec, to_vec_named};
+use std::alloc::Global;
 use std::test::Fail;
 
 // A list of a message of each kind, in the kinds' order, spelled canonically.
@@ -132,6 +133,60 @@ fn the_spelling_that_is_written_is_canonical(rt: HostRuntime) -> Result<(), Erro
     for spelling in [&ALL_KINDS[..], &WIDE[..]] {
         let all = from_slice::<Value>(rt.alloc(), spelling)?;
         assert!(rt; to_vec(rt.alloc(), &all).is_ok_and(|bytes| bytes.as_slice() == &ALL_KINDS[..]));
+    }
+    Ok(())
+}
+
+// What the message at the front of the input is written as again.
+fn again(alloc: Global, input: &[u8]) -> Result<Vec<u8>, Fail> {
+    Ok(to_vec(alloc, &from_slice::<Value>(alloc, input)?)?)
+}
+
+#[test]
+fn equal_trees_are_written_alike(rt: HostRuntime) -> Result<(), Fail> {
+    let canonical = b"\x92\x05\xa1a".as_slice();
+    for spelling in [b"\x92\xcd\x00\x05\xd9\x01a".as_slice(), canonical] {
+        let first = again(rt.alloc(), spelling)?;
+        assert_eq!(rt; first.as_slice(), canonical);
+        assert_eq!(rt; again(rt.alloc(), first.as_slice())?.as_slice(), canonical);
+    }
+    let other = again(rt.alloc(), b"\x92\x05\xa1b")?;
+    assert_eq!(rt; other.as_slice(), b"\x92\x05\xa1b".as_slice());
+    Ok(())
+}
+
+#[test]
+fn a_list_of_a_value_is_never_bytes(rt: HostRuntime) -> Result<(), Fail> {
+    let value = from_slice::<Value>(rt.alloc(), b"\x91\x01")?;
+    let mut se = Serializer::new(rt.alloc(), Vec::new(rt.alloc())).with_bytes(BytesMode::ForceAll);
+    value.serialize(&mut se)?;
+    assert_eq!(rt; se.into_inner().as_slice(), b"\x91\x01".as_slice());
+    Ok(())
+}
+
+// What other tests have written.
+const WRITTEN: [&[u8]; 14] = [
+    b"\x92\x2a\xaathe Answer",
+    b"\x96\x7f\xcc\x80\xcd\x01\x2c\xe0\xd0\xdf\xd1\xff\x7f",
+    b"\xc4\x04\x01\x64\xc8\xfe",
+    b"\x94\x01\x02\x03\x7f",
+    b"\x92\x2a\xce\x00\x01\x88\x94",
+    b"\x90",
+    b"\x82\xa4name\xa5Bobby\xa3age\x08",
+    b"\x92\xa5Bobby\x08",
+    b"\xa2V1",
+    b"\x81\xa2V2\x92\x2a\xce\x00\x01\x88\x94",
+    b"\x84\xa2f1\x00\xa2f2\x92\x08\x0d\xa2f4\x15\xa2f5\x22",
+    b"\xcd\x01\x2c",
+    b"\xc7\x03\x02\x01\x02\x03",
+    b"\xcb\x40\x45\x00\x00\x00\x00\x00\x00",
+];
+
+#[test]
+fn what_is_written_is_read_strictly(rt: HostRuntime) -> Result<(), Fail> {
+    for bytes in WRITTEN {
+        let value: Value = from_slice_strict(rt.alloc(), bytes)?;
+        assert_eq!(rt; to_vec(rt.alloc(), &value)?.as_slice(), bytes);
     }
     Ok(())
 }

@@ -1,6 +1,7 @@
 //! Texts that aren't UTF-8.
-use rmp_serde::decode::Error;
-use rmp_serde::{Raw, from_slice, to_vec};
+use faulty_io::Drip;
+use rmp_serde::decode::{Error, Text};
+use rmp_serde::{Raw, RawRef, from_read, from_slice, to_vec};
 
 // A text of four bytes that aren't UTF-8, from the first on.
 const INVALID: [u8; 5] = [0xa4, 0x92, 0xcc, 0xc8, 0x90];
@@ -26,4 +27,22 @@ fn bytes_that_are_no_text(rt: HostRuntime) -> Result<(), Error> {
         _ => assert!(rt; false),
     }
     Ok(())
+}
+
+#[test]
+fn bytes_that_are_no_text_are_lent(rt: HostRuntime) -> Result<(), Error> {
+    let raw = from_slice::<RawRef>(rt.alloc(), &INVALID)?;
+    assert!(rt; raw.is_err() && raw.as_bytes() == &INVALID[1..]);
+    assert!(rt; raw.as_err().is_some_and(|e| e.valid_up_to() == 0));
+    let key = from_slice::<RawRef>(rt.alloc(), b"\xa3key")?;
+    assert!(rt; matches!(key.as_str(), Some("key")));
+    Ok(())
+}
+
+#[test]
+fn a_reader_lends_no_bytes(rt: HostRuntime) {
+    let raw: Result<RawRef, Error> = from_read(rt.alloc(), Drip::new(&INVALID, 100));
+    assert!(rt; matches!(&raw, Err(Error::Utf8Error(e)) if e.valid_up_to() == 0));
+    let key: Result<RawRef, Error> = from_read(rt.alloc(), Drip::new(b"\xa3key", 100));
+    assert!(rt; matches!(&key, Err(Error::Syntax(Text::InvalidType))));
 }

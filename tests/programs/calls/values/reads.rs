@@ -1,5 +1,5 @@
 //! What is read as a value, and what is refused.
-use rmp_serde::decode::Error;
+use rmp_serde::decode::{Deserialize, Error, Text};
 use rmp_serde::{Deserializer, Kind, Value, ValueRef, from_slice, from_slice_strict, to_vec};
 use std::alloc::{AllocError, Global};
 use std::process::Abort;
@@ -289,4 +289,13 @@ fn only_canonical_heads_are_read_strictly(rt: HostRuntime) {
         is(&rt, strictly(alloc, input), "not canonical");
         assert!(rt; is_read(alloc, 0, &[], input));
     }
+}
+
+#[test]
+fn a_text_that_is_no_utf8_fails_the_reader(rt: HostRuntime) {
+    let mut de = Deserializer::from_read_ref(rt.alloc(), b"\xa1\xff\x2a");
+    let value: Result<Value, Error> = Deserialize::deserialize(&mut de);
+    assert!(rt; matches!(&value, Err(Error::Utf8Error(_))));
+    let number: Result<u8, Error> = Deserialize::deserialize(&mut de);
+    assert!(rt; matches!(&number, Err(Error::Uncategorized(Text::FailedBefore))));
 }

@@ -3,6 +3,7 @@ use faulty_io::Drip;
 use rmp_wire::{
     Head, IoFault, Marker, MarkerReadError, ValueReadError, next_head, read_head, read_marker,
 };
+use std::alloc::AllocError;
 use std::fmt::Debug;
 use std::io::ErrorKind;
 use std::process::Abort;
@@ -228,4 +229,22 @@ fn sizes(rt: HostRuntime) {
     assert_eq!(rt; size_of::<ValueReadError>(), 16);
     assert_eq!(rt; size_of::<Result<Marker, MarkerReadError>>(), 16);
     assert_eq!(rt; size_of::<Result<Head, ValueReadError>>(), 48);
+}
+
+#[test]
+fn errors_print_their_names(rt: HostRuntime) -> Result<(), AllocError> {
+    let end = IoFault::from(ErrorKind::UnexpectedEof);
+    let marker = format!(in rt.alloc(); "{}", MarkerReadError(end))?;
+    assert_eq!(rt; marker.as_str(), "MarkerReadError");
+    for (error, name) in [
+        (ValueReadError::InvalidMarkerRead(end), "InvalidMarkerRead"),
+        (ValueReadError::InvalidDataRead(end), "InvalidDataRead"),
+        (
+            ValueReadError::TypeMismatch(Marker::Reserved),
+            "TypeMismatch",
+        ),
+    ] {
+        assert_eq!(rt; format!(in rt.alloc(); "{error}")?.as_str(), name);
+    }
+    Ok(())
 }

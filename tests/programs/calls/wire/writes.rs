@@ -202,6 +202,18 @@ fn into_a_slice(rt: HostRuntime) {
 }
 
 #[test]
+fn into_an_empty_slice(rt: HostRuntime) {
+    let mut sink = SliceSink::new(&mut []);
+    let fault = IoFault::from(FULL);
+    is_answer(
+        &rt,
+        put_nil(&mut sink),
+        Err(ValueWriteError::InvalidMarkerWrite(fault)),
+    );
+    assert_eq!(rt; sink.written(), 0);
+}
+
+#[test]
 fn a_text_into_a_slice(rt: HostRuntime) {
     let mut buf = [9u8; 4];
     let mut sink = SliceSink::new(&mut buf);

@@ -27,6 +27,11 @@ fn numbers(rt: HostRuntime) -> Result<(), Fail> {
     assert!(rt; is_written(&rt, &-1isize, b"\xff")?);
     assert!(rt; is_written(&rt, &true, b"\xc3")?);
     assert!(rt; is_written(&rt, &(), b"\xc0")?);
+    let ones = b"\xcf\xff\xff\xff\xff\xff\xff\xff\xff";
+    assert!(rt; is_written(&rt, &18446744073709551615u64, ones)?);
+    assert!(rt; is_written(&rt, &-32769i32, b"\xd2\xff\xff\x7f\xff")?);
+    let forty_two = F64Bits(0x4045_0000_0000_0000);
+    assert!(rt; is_written(&rt, &forty_two, b"\xcb\x40\x45\x00\x00\x00\x00\x00\x00")?);
     assert!(rt; is_written(&rt, &F32Bits(0x7f7fffff), b"\xca\x7f\x7f\xff\xff")?);
     assert!(rt; is_written(&rt, &F64Bits(1), b"\xcb\x00\x00\x00\x00\x00\x00\x00\x01")?);
     Ok(())
@@ -123,6 +128,7 @@ fn pointers(rt: HostRuntime) -> Result<(), Fail> {
     assert!(rt; is_forced(&rt, BytesMode::ForceAll, &(&one, two), b"\xc4\x02\xc8\x01")?);
     let items = vec![in rt.alloc(); &one]?;
     assert!(rt; is_forced(&rt, BytesMode::ForceIterables, &items, b"\xc4\x01\xc8")?);
+    assert!(rt; is_forced(&rt, BytesMode::ForceAll, &items, b"\xc4\x01\xc8")?);
     Ok(())
 }
 
@@ -140,6 +146,9 @@ fn modes(rt: HostRuntime) -> Result<(), Fail> {
     assert!(rt; is_forced(&rt, all, &(200u8, 1u16), b"\x92\xcc\xc8\x01")?);
     let seven = vec![in rt.alloc(); 7u8, 7]?;
     assert!(rt; is_forced(&rt, all, &(seven, 3u8), b"\x92\xc4\x02\x07\x07\x03")?);
+    let mut queue = VecDeque::new(rt.alloc());
+    queue.push_back(1u8)?;
+    assert!(rt; is_forced(&rt, all, &queue, b"\x91\x01")?);
     let small = vec![in rt.alloc(); 1i8, -1]?;
     assert!(rt; is_forced(&rt, all, &small, b"\x92\x01\xff")?);
     Ok(())
@@ -157,6 +166,9 @@ fn unknown_lengths_of_items(rt: HostRuntime) -> Result<(), Fail> {
     assert!(rt; is_forced(&rt, BytesMode::ForceAll, &flat, b"\x92\xcc\xc8\x01")?);
     let none: UnkSeq<u8> = uncounted(Vec::new(rt.alloc()));
     assert!(rt; is_written(&rt, &none, b"\x90")?);
+    let zeros = uncounted(vec![in rt.alloc(); 0u8; 16]?);
+    let many = b"\xdc\x00\x10\x00\x00\x00\x00\x00\x00\x00\x00\x00\x00\x00\x00\x00\x00\x00\x00";
+    assert!(rt; is_written(&rt, &zeros, many)?);
     let pairs = uncounted(vec![in rt.alloc(); (1u8, 200u8), (3, 4)]?);
     assert!(rt; is_written(&rt, &pairs, b"\x92\x92\x01\xcc\xc8\x92\x03\x04")?);
     assert!(rt;
