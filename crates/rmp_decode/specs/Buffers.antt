@@ -55,7 +55,8 @@ AreBytes ms = (b : List ℕ) × ReadsEach (IsUnsigned 255) ms b
 abbrev pub NoByte : Bool → List ℕ → Type 0
 NoByte strict xs = Begins (SpellsAs strict) (Readable (IsUnsigned 255)) 1 xs → ⊥
 
--- Of n items that are wanted some stand whole at the front and are numbers up to 255. The next one isn't, and is refused as `deserialize_u8` refuses it; or memory was short for the last of these.
+-- Of n items that are wanted some stand whole at the front and are numbers up to 255. The next one isn't, and is refused as
+-- `deserialize_u8` refuses it; or memory was short for the last of these.
 pub record RefusesItem (strict : Bool) (n : ℕ) (e : Error) (xs : List ℕ) : Type 0 where
   pub many : ℕ
   pub before : BeginsRow (SpellsAs strict) AreBytes 1 many xs

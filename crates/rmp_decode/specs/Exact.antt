@@ -47,7 +47,8 @@ pub record OtherWidth (xs : List ℕ) : Type 0 where
   pub head : Head
   pub stands : Stands false marker head xs
 
--- The error where no such head stands whole at the front: the bytes end before it, the byte c1 is there, they end inside of it, or a head of another width stands there.
+-- The error where no such head stands whole at the front: the bytes end before it, the byte c1 is there, they end inside of it, or a
+-- head of another width stands there.
 abbrev pub Ends : List ℕ → Error → Type 0
 Ends [] e = IsMarkerEnd e
 Ends (b ∷ xs) e = (b ≡ 0xc1 → e ≡ TypeMismatch Reserved) × (b ≢ 0xc1 → (NoneStands false (b ∷ xs) × IsDataEnd e) ⊎ (OtherWidth (b ∷ xs) × (e ≡ NotCanonical)))

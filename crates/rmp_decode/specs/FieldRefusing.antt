@@ -49,7 +49,8 @@ Lacks {V} reads fs s left e = (left ≡ 0) × (e ≡ Syntax MissingField) × ((v
 abbrev pub AreMet : List (List ℕ) → List Part → List (Option Msg) → Setting → Pairs → Type 0
 AreMet names ps fs s pairs = (met names (blank names) pairs ≡ Some fs) × PartsHold s ps fs
 
--- How fields are refused: they can't be opened, an element of a list is refused or there are more or fewer, or behind some pairs of a map the next one is refused, or a field is missing.
+-- How fields are refused: they can't be opened, an element of a list is refused or there are more or fewer, or behind some pairs of a
+-- map the next one is refused, or a field is missing.
 abbrev pub RefusesFields : {V : Type 0} → List (List ℕ) → (Bool → Bool → List (Option Msg) → V → Type 0) → List Part → Setting → Refusals
 RefusesFields names reads ps s before after known e =
     RefusesBy s.strict (not_fields s.room) before after known e

@@ -266,5 +266,6 @@ module _ {W : Type 0} (g : Ghosts W) where
   pub marker_numbers : {m : Bool} (v : Vec ℕ Global) (len : ℕ) {k : Option (Vec ℕ Global)} → packs_tuple ForceAll v.items ≡ false → k ≡ Some v
       → {old mid : W} {u : Unit {0}} (new : W) (r : Result (Unit {0}) Error) → WritesPart g m (Unit {0}) (head_at false len) old mid (Ok u)
       → FirstAtMarker g (map number_head v.items) mid new r → FirstAtMarker g (items_kept k len) old new r
-  marker_numbers v len {k} listed is {old} new r w h = subst (λ l. FirstAtMarker g l old new r) (sym (ap (λ x. items_kept x len) is ∙ items_listed v len listed))
+  marker_numbers v len {k} listed is {old} new r w h = subst (λ l. FirstAtMarker g l old new r)
+      (sym (ap (λ x. items_kept x len) is ∙ items_listed v len listed))
       (marker_behind g (head_at false len) (map number_head v.items) new r w h)

@@ -51,5 +51,6 @@ one_within [] node end a e = (e, tt)
 one_within (first ∷ row) node end a e = (a.0, one_within row node end a.1 e)
 
 -- one more node
-pub made_of : (b : List ℕ) (row row' : List Node) (node : Node) (token : Token) → row' ≡ row ++ node ∷ [] → token_in b node ≡ token → heads_in b row' ≡ heads_in b row ++ token ∷ []
+pub made_of : (b : List ℕ) (row row' : List Node) (node : Node) (token : Token) → row' ≡ row ++ node ∷ [] → token_in b node ≡ token
+    → heads_in b row' ≡ heads_in b row ++ token ∷ []
 made_of b row row' node token r t = ap (heads_in b) r ∙ map-append (token_in b) row (node ∷ []) ∙ ap (λ z. heads_in b row ++ z ∷ []) t

@@ -1,5 +1,32 @@
 -- What stands at a place of a row.
-use Rattle.std.proofs.Common.{◌≡◌, ◌∙◌, sym, ap, subst, refl, ℕ, zero, suc, ◌+◌, ◌*◌, ◌<◌, ◌≤◌, ◌⊎◌, inl, inr, arith, List, [], ◌∷◌, ◌++◌, length, drop, get_or, Some, None}
+use Rattle.std.proofs.Common.{
+  ◌≡◌,
+  ◌∙◌,
+  sym,
+  ap,
+  subst,
+  refl,
+  ℕ,
+  zero,
+  suc,
+  ◌+◌,
+  ◌*◌,
+  ◌<◌,
+  ◌≤◌,
+  ◌⊎◌,
+  inl,
+  inr,
+  arith,
+  List,
+  [],
+  ◌∷◌,
+  ◌++◌,
+  length,
+  drop,
+  get_or,
+  Some,
+  None,
+}
 use Rattle.std.specs.Prelude.{slice_get, IfSome}
 use Rattle.std.specs.List.{AllByRecursion}
 use Rattle.std.specs.Str.{IsUtf8}
@@ -19,7 +46,20 @@ use Rattle.rmp_serde.specs.declared.value.flat.Nodes.{Nodes}
 use Rattle.rmp_serde.specs.declared.value.flat.Node.TheVariants as nodes
 use Rattle.rmp_serde.proofs.Tokens.{built_tree}
 use Rattle.rmp_serde.proofs.FlatTakes.{takes_drop, walk_place}
-use Rattle.rmp_serde.proofs.FlatRows.{row_tail, row_drop, tree_row, told_is, list_many, map_many, first-past, pairs-past, pairs-items, count-flat, count-first, built_rest}
+use Rattle.rmp_serde.proofs.FlatRows.{
+  row_tail,
+  row_drop,
+  tree_row,
+  told_is,
+  list_many,
+  map_many,
+  first-past,
+  pairs-past,
+  pairs-items,
+  count-flat,
+  count-first,
+  built_rest,
+}
 
 -- the first of these heads, or that of nil
 abbrev first_token : List Token → Token
@@ -74,7 +114,8 @@ pub row_told : (root : Node) (parts : Nodes) → IsFlat root parts → IsRow (he
 row_told root parts f = subst IsRow (sym f.told.told) (tree_row f.told.tree)
 
 pub node_is : (root : Node) (parts : Nodes) (m : Msg) (at : ℕ) → IsFlat root parts → told_tree (heads_all root parts) ≡ m
-    → token_in parts.bytes.items (get_or (root ∷ parts.nodes.items) at nodes.Nil) ≡ (head_of (told_tree (drop at (tokens m))), content_of (told_tree (drop at (tokens m))))
+    → token_in parts.bytes.items (get_or (root ∷ parts.nodes.items) at nodes.Nil) ≡
+    (head_of (told_tree (drop at (tokens m))), content_of (told_tree (drop at (tokens m))))
 node_is root parts m at f e =
     stands_at parts.bytes.items (root ∷ parts.nodes.items) at (row_told root parts f)
     ∙ ap (λ z. (head_of (told_tree (drop at z)), content_of (told_tree (drop at z)))) (heads_told root parts m f e)
@@ -100,7 +141,8 @@ utf8_tail (Text n) s ts r u = u.1
 utf8_tail (Bin n) s ts r u = u.1
 utf8_tail (Array n) s ts r u = subst ItemsUtf8 (first-past n (built ts)) (utf8_append (first_items n (built ts)) (past_items n (built ts)) u.0 u.1)
 utf8_tail (Map n) s ts r u =
-    subst ItemsUtf8 (pairs-past n (built ts) (map_many n s ts r)) (utf8_append (flat_pairs (first_pairs n (built ts))) (past_pairs n (built ts)) (utf8_flat (first_pairs n (built ts)) u.0) u.1)
+    subst ItemsUtf8 (pairs-past n (built ts) (map_many n s ts r))
+    (utf8_append (flat_pairs (first_pairs n (built ts))) (past_pairs n (built ts)) (utf8_flat (first_pairs n (built ts)) u.0) u.1)
 utf8_tail (Ext n tag) s ts r u = u.1
 
 pub utf8_at : (ts : List Token) (at : ℕ) → IsRow ts → ItemsUtf8 (built ts) → ItemsUtf8 (built (drop at ts))
@@ -144,7 +186,8 @@ parts_at ((Map n, s) ∷ ts) zero r =
 parts_at ((Ext n tag, s) ∷ ts) zero r = omega arith
 
 -- the message that is i behind a place of the row behind the first head
-pub later_is : (t : Token) (ts : List Token) (at q i : ℕ) → IsRow (drop at ts) → q ≡ at + span i (drop at ts) → built (drop (q + 1) (t ∷ ts)) ≡ past_items i (built (drop at ts))
+pub later_is : (t : Token) (ts : List Token) (at q i : ℕ) → IsRow (drop at ts) → q ≡ at + span i (drop at ts)
+    → built (drop (q + 1) (t ∷ ts)) ≡ past_items i (built (drop at ts))
 later_is t ts at q i r e =
     let next : q + 1 ≡ suc (at + span i (drop at ts)) = omega (arith, e) in
     ap (λ z. built (drop z (t ∷ ts))) next ∙ ap built (sym (drop-drop (span i (drop at ts)) at ts)) ∙ built_rest i (drop at ts) r
@@ -210,7 +253,8 @@ nth_pair (suc n) i (item k no_items) l = absurd (omega (arith, l))
 nth_pair (suc n) zero (item k (item v ms)) l = refl
 nth_pair (suc n) (suc i) (item k (item v ms)) l =
     let two : suc (suc (2 * i)) ≡ 2 * suc i = omega arith in
-    nth_pair n i ms (omega (arith, l)) ∙ ap (λ z. Some (first_tree (past_items z (item k (item v ms))), first_tree (past_items 1 (past_items z (item k (item v ms)))))) two
+    nth_pair n i ms (omega (arith, l)) ∙ ap (λ z. Some
+    (first_tree (past_items z (item k (item v ms))), first_tree (past_items 1 (past_items z (item k (item v ms)))))) two
 
 past_pair : (ps : Pairs) (i : ℕ) → count_pairs ps ≤ i → slice_get (pairs_of ps) i ≡ None
 past_pair no_pairs zero l = refl
@@ -249,7 +293,11 @@ no_pair ts at n i r e l =
 
 -- a pair of a map, by how far its key is behind the head
 pub pair_is : (ts : List Token) (at n i : ℕ) → IsRow ts → head_of (told_tree (drop at ts)) ≡ Map n → i < n
-    → (pair_of (told_tree (drop at ts)) i ≡ Some (first_tree (past_items (2 * i) (built (drop (suc at) ts))), first_tree (past_items 1 (past_items (2 * i) (built (drop (suc at) ts))))))
+    → (pair_of (told_tree (drop at ts)) i ≡ Some (
+      first_tree (past_items (2 * i) (built (drop (suc at) ts))),
+      first_tree
+          (past_items 1 (past_items (2 * i) (built (drop (suc at) ts)))),
+    ))
     × (depth (first_tree (past_items (2 * i) (built (drop (suc at) ts)))) < depth (told_tree (drop at ts)))
     × (depth (first_tree (past_items 1 (past_items (2 * i) (built (drop (suc at) ts))))) < depth (told_tree (drop at ts)))
 pair_is ts at n i r e l =
@@ -257,7 +305,8 @@ pair_is ts at n i r e l =
     let ms = built (drop (suc at) ts) in
     let k : i < count_pairs (first_pairs n ms) = omega (arith, l, s.many) in
     let flat = pairs-items n ms s.many in
-    let deep : depth (told_tree (drop at ts)) ≡ suc (depth_all (first_items (2 * n) ms)) = ap depth s.is ∙ ap suc (sym (depth-flat (first_pairs n ms)) ∙ ap depth_all flat) in
+    let deep : depth (told_tree (drop at ts)) ≡ suc (depth_all (first_items (2 * n) ms)) = ap depth s.is
+    ∙ ap suc (sym (depth-flat (first_pairs n ms)) ∙ ap depth_all flat) in
     let many : count (first_items (2 * n) ms) ≡ 2 * n = sym (ap count flat) ∙ count-flat (first_pairs n ms) ∙ ap (λ z. 2 * z) s.many in
     let a : 2 * i < count (first_items (2 * n) ms) = omega (arith, l, many) in
     let b : 2 * i + 1 < count (first_items (2 * n) ms) = omega (arith, l, many) in (
@@ -302,7 +351,8 @@ tree_parts (extension tag s) = refl
 pub parts_same : (node : Node) (m : Msg) → head_in node ≡ head_of m → parts_in node ≡ parts_of m
 parts_same node m e = node_parts node ∙ ap parts_told e ∙ tree_parts m
 
-turn_first : (t : Token) (ts : List Token) → IsRow (t ∷ ts) → parts_in_turn (told_tree (t ∷ ts)) ≡ items_of (first_items (parts_of (told_tree (t ∷ ts))) (built ts))
+turn_first : (t : Token) (ts : List Token) → IsRow (t ∷ ts)
+    → parts_in_turn (told_tree (t ∷ ts)) ≡ items_of (first_items (parts_of (told_tree (t ∷ ts))) (built ts))
 turn_first (Nil, s) ts r = refl
 turn_first (Truth t, s) ts r = refl
 turn_first (Whole z, s) ts r = refl
@@ -317,7 +367,8 @@ turn_first (Map n, s) ts r =
 turn_first (Ext n tag, s) ts r = refl
 
 -- the parts of the message at a place, one after another, are the first messages behind its head
-pub turn_at : (ts : List Token) (at : ℕ) → IsRow ts → parts_in_turn (told_tree (drop at ts)) ≡ items_of (first_items (parts_of (told_tree (drop at ts))) (built (drop (suc at) ts)))
+pub turn_at : (ts : List Token) (at : ℕ) → IsRow ts
+    → parts_in_turn (told_tree (drop at ts)) ≡ items_of (first_items (parts_of (told_tree (drop at ts))) (built (drop (suc at) ts)))
 turn_at [] zero r = refl
 turn_at [] (suc at) r = refl
 turn_at (t ∷ ts) zero r = turn_first t ts r
@@ -337,7 +388,8 @@ module _ (root : Node) (parts : Nodes) (m : Msg) (f : IsFlat root parts) (e : to
   behind_many p n l = omega (arith, l, ap (λ z. count (built (drop (suc p) z))) (heads_told root parts m f e))
 
   pub behind_there : (p q n : ℕ) → n < count (built (drop (suc p) (tokens m))) → q ≡ p + span n (drop p (heads_of parts)) → q < length parts.nodes.items
-  behind_there p q n l s = walk_place parts.bytes.items parts.nodes.items p (behind_row p) (takes_drop parts.bytes.items parts.nodes.items p f.takes) n q (behind_many p n l) s
+  behind_there p q n l s = walk_place parts.bytes.items parts.nodes.items p (behind_row p) (takes_drop parts.bytes.items parts.nodes.items p f.takes) n q
+      (behind_many p n l) s
 
   pub behind_later : (p q n : ℕ) → q ≡ p + span n (drop p (heads_of parts)) → built (drop (q + 1) (tokens m)) ≡ past_items n (built (drop (suc p) (tokens m)))
   behind_later p q n s =
@@ -351,7 +403,8 @@ past_count (suc i) no_items = inr (omega arith)
 past_count (suc i) (item m ms) = elim (past_count i ms) [ inl e ↦ inl (omega (arith, e)) | inr l ↦ inr (omega (arith, l)) ]
 
 -- behind a map's key stands its value
-pub value_there : (ts : List Token) (at n i : ℕ) → IsRow ts → head_of (told_tree (drop at ts)) ≡ Map n → i < n → 1 < count (past_items (2 * i) (built (drop (suc at) ts)))
+pub value_there : (ts : List Token) (at n i : ℕ) → IsRow ts → head_of (told_tree (drop at ts)) ≡ Map n → i < n
+    → 1 < count (past_items (2 * i) (built (drop (suc at) ts)))
 value_there ts at n i r e l =
     let s = map_at ts at n r e in
     let ms = built (drop (suc at) ts) in

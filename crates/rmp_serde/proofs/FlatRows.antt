@@ -3,7 +3,27 @@ use Rattle.std.proofs.Common.{◌≡◌, ◌∙◌, sym, ap, refl, ℕ, zero, su
 use Rattle.std.proofs.lemmas.List.{append-nil, drop_at}
 use Rattle.rmp_wire.specs.declared.head.Head.{Head}
 use Rattle.rmp_wire.specs.declared.head.Head.TheVariants.{Nil, Truth, Whole, F32Bits, F64Bits, Text, Bin, Array, Map, Ext}
-use Rattle.rmp_wire.specs.Msg.{Msg, nil, truth, whole, float32, float64, text, bin, list, map, extension, Msgs, no_items, item, Pairs, no_pairs, pair, count, count_pairs}
+use Rattle.rmp_wire.specs.Msg.{
+  Msg,
+  nil,
+  truth,
+  whole,
+  float32,
+  float64,
+  text,
+  bin,
+  list,
+  map,
+  extension,
+  Msgs,
+  no_items,
+  item,
+  Pairs,
+  no_pairs,
+  pair,
+  count,
+  count_pairs,
+}
 use Rattle.rmp_decode.proofs.Rows.{append}
 use Rattle.rmp_serde.specs.Flat.{IsRow, size_of, span, told_tree}
 use Rattle.rmp_serde.specs.Tokens.{Token, tokens, tokens_all, tokens_pairs, flat_pairs, first_items, past_items, first_pairs, past_pairs, built, first_tree}
@@ -86,7 +106,8 @@ row_tail (Bin n) s ts e = ap (drop 1) e
 row_tail (Array n) s ts e = ap (drop 1) e ∙ sym (tokens-append (first_items n (built ts)) (past_items n (built ts))) ∙ ap tokens_all (first-past n (built ts))
 row_tail (Map n) s ts e =
     let ms = built ts in
-    ap (drop 1) e ∙ ap (λ z. z ++ tokens_all (past_pairs n ms)) (sym (tokens-flat (first_pairs n ms))) ∙ sym (tokens-append (flat_pairs (first_pairs n ms)) (past_pairs n ms))
+    ap (drop 1) e ∙ ap (λ z. z ++ tokens_all (past_pairs n ms)) (sym (tokens-flat (first_pairs n ms)))
+    ∙ sym (tokens-append (flat_pairs (first_pairs n ms)) (past_pairs n ms))
     ∙ ap tokens_all (pairs-past n ms (map_many n s ts e))
 row_tail (Ext n tag) s ts e = ap (drop 1) e
 
@@ -101,7 +122,8 @@ row_drop (suc n) (t ∷ ts) e = row_drop n ts (row_tail t.0 t.1 ts e)
 pub rest_is : (n : ℕ) (ts : List Token) → IsRow ts → drop (span n ts) ts ≡ tokens_all (past_items n (built ts))
 rest_is n ts e =
     let ms = built ts in
-    let split : ts ≡ tokens_all (first_items n ms) ++ tokens_all (past_items n ms) = e ∙ ap tokens_all (sym (first-past n ms)) ∙ tokens-append (first_items n ms) (past_items n ms) in
+    let split : ts ≡ tokens_all (first_items n ms) ++ tokens_all (past_items n ms) = e ∙ ap tokens_all (sym (first-past n ms))
+    ∙ tokens-append (first_items n ms) (past_items n ms) in
     ap (λ z. drop (span n ts) z) split ∙ drop_at (tokens_all (first_items n ms)) (tokens_all (past_items n ms)) (span n ts) refl
 
 pub built_rest : (n : ℕ) (ts : List Token) → IsRow ts → built (drop (span n ts) ts) ≡ past_items n (built ts)
@@ -110,10 +132,12 @@ built_rest n ts e = ap built (rest_is n ts e) ∙ built_row (past_items n (built
 pub span_within : (n : ℕ) (ts : List Token) → IsRow ts → span n ts ≤ length ts
 span_within n ts e =
     let ms = built ts in
-    let split : ts ≡ tokens_all (first_items n ms) ++ tokens_all (past_items n ms) = e ∙ ap tokens_all (sym (first-past n ms)) ∙ tokens-append (first_items n ms) (past_items n ms) in
+    let split : ts ≡ tokens_all (first_items n ms) ++ tokens_all (past_items n ms) = e ∙ ap tokens_all (sym (first-past n ms))
+    ∙ tokens-append (first_items n ms) (past_items n ms) in
     omega (arith, ap length split ∙ length-append (tokens_all (first_items n ms)) (tokens_all (past_items n ms)))
 
-one_more : (n : ℕ) (ms : Msgs) → n < count ms → length (tokens_all (first_items (suc n) ms)) ≡ length (tokens_all (first_items n ms)) + length (tokens (first_tree (past_items n ms)))
+one_more : (n : ℕ) (ms : Msgs) → n < count ms → length (tokens_all (first_items (suc n) ms)) ≡ length (tokens_all (first_items n ms)) + length
+    (tokens (first_tree (past_items n ms)))
 one_more n no_items l = absurd (omega (arith, l))
 one_more zero (item m ms) l = omega (arith, ap length (append-nil (tokens m)))
 one_more (suc n) (item m ms) l =
@@ -147,7 +171,8 @@ count-past (suc n) (item m ms) l = count-past n ms (omega (arith, l))
 pub span_goes_on : (n : ℕ) (ts : List Token) → IsRow ts → n < count (built ts) → span n ts < length ts
 span_goes_on n ts e l =
     let ms = built ts in
-    let split : ts ≡ tokens_all (first_items n ms) ++ tokens_all (past_items n ms) = e ∙ ap tokens_all (sym (first-past n ms)) ∙ tokens-append (first_items n ms) (past_items n ms) in
+    let split : ts ≡ tokens_all (first_items n ms) ++ tokens_all (past_items n ms) = e ∙ ap tokens_all (sym (first-past n ms))
+    ∙ tokens-append (first_items n ms) (past_items n ms) in
     omega (arith, ap length split ∙ length-append (tokens_all (first_items n ms)) (tokens_all (past_items n ms)), count-past n ms l)
 
 -- ---- how many heads a list or a map has

@@ -17,7 +17,8 @@ takes_drop b row zero a = a
 takes_drop b [] (suc n) a = a
 takes_drop b (node ∷ row) (suc n) a = takes_drop b row n a.1
 
-takes_at : (b : List ℕ) (row : List Node) (n : ℕ) (node : Node) → AllTake b row → n < length row → node ≡ get_or row n node → takes_in node ≡ size_of (heads_in b (drop n row))
+takes_at : (b : List ℕ) (row : List Node) (n : ℕ) (node : Node) → AllTake b row → n < length row → node ≡ get_or row n node
+    → takes_in node ≡ size_of (heads_in b (drop n row))
 takes_at b [] n node a l e = absurd (omega (arith, l))
 takes_at b (first ∷ row) zero node a l e = ap takes_in e ∙ a.0
 takes_at b (first ∷ row) (suc n) node a l e = takes_at b row n node a.1 (omega (arith, l)) e
@@ -28,7 +29,8 @@ module _ (b : List ℕ) (row : List Node) (at : ℕ) (r : IsRow (drop at (heads_
   walk_place i place l e =
       omega (arith, e, span_goes_on i (drop at (heads_in b row)) r l, length-drop at (heads_in b row), length-map row (token_in b))
 
-  pub walk_step : (i : ℕ) (place : ℕ) (node : Node) → i < count (built (drop at (heads_in b row))) → place ≡ at + span i (drop at (heads_in b row)) → node ≡ get_or row place node
+  pub walk_step : (i : ℕ) (place : ℕ) (node : Node) → i < count (built (drop at (heads_in b row))) → place ≡ at + span i (drop at (heads_in b row))
+      → node ≡ get_or row place node
       → place + takes_in node ≡ at + span (suc i) (drop at (heads_in b row))
   walk_step i place node l e g =
       let heads = drop at (heads_in b row) in
@@ -44,13 +46,15 @@ module _ (b : List ℕ) (row : List Node) (at : ℕ) (r : IsRow (drop at (heads_
 
 -- ---- telling what a node takes
 
-pub heads_set : (b : List ℕ) (row : List Node) (at : ℕ) (node node' : Node) → node ≡ get_or row at node → head_in node' ≡ head_in node → content_in b node' ≡ content_in b node
+pub heads_set : (b : List ℕ) (row : List Node) (at : ℕ) (node node' : Node) → node ≡ get_or row at node → head_in node' ≡ head_in node
+    → content_in b node' ≡ content_in b node
     → heads_in b (set row at node') ≡ heads_in b row
 heads_set b [] at node node' g h c = refl
 heads_set b (first ∷ row) zero node node' g h c = λ i. ((h ∙ ap head_in g) i, (c ∙ ap (content_in b) g) i) ∷ heads_in b row
 heads_set b (first ∷ row) (suc at) node node' g h c = ap (λ z. (head_in first, content_in b first) ∷ z) (heads_set b row at node node' g h c)
 
-pub within_set : (end : ℕ) (row : List Node) (at : ℕ) (node node' : Node) → node ≡ get_or row at node → (EndsBy end node → EndsBy end node') → AllByRecursion (EndsBy end) row
+pub within_set : (end : ℕ) (row : List Node) (at : ℕ) (node node' : Node) → node ≡ get_or row at node → (EndsBy end node → EndsBy end node')
+    → AllByRecursion (EndsBy end) row
     → AllByRecursion (EndsBy end) (set row at node')
 within_set end [] at node node' g w a = a
 within_set end (first ∷ row) zero node node' g w a = (w (subst (EndsBy end) (sym g) a.0), a.1)
@@ -71,7 +75,8 @@ parts_behind b (nodes.List n takes) row r = list_parts n [] (heads_in b row) r
 parts_behind b (nodes.Map n takes) row r = map_parts n [] (heads_in b row) r
 
 -- how many nodes it takes, by where its parts end
-pub size_is : (b : List ℕ) (node : Node) (row : List Node) → IsRow (heads_in b (node ∷ row)) → takes_then (suc (span (parts_in node) (heads_in b row))) node ≡ size_of (heads_in b (node ∷ row))
+pub size_is : (b : List ℕ) (node : Node) (row : List Node) → IsRow (heads_in b (node ∷ row))
+    → takes_then (suc (span (parts_in node) (heads_in b row))) node ≡ size_of (heads_in b (node ∷ row))
 size_is b nodes.Nil row r = refl
 size_is b (nodes.Truth t) row r = refl
 size_is b (nodes.Unsigned n) row r = refl
@@ -85,12 +90,15 @@ size_is b (nodes.List n takes) row r = refl
 size_is b (nodes.Map n takes) row r = sym (map_size n [] (heads_in b row) r)
 
 -- what stands from a place on in a row
-pub from_place : (b : List ℕ) (row : List Node) (at : ℕ) (node : Node) → at < length row → node ≡ get_or row at node → drop at (heads_in b row) ≡ heads_in b (node ∷ drop (at + 1) row)
+pub from_place : (b : List ℕ) (row : List Node) (at : ℕ) (node : Node) → at < length row → node ≡ get_or row at node
+    → drop at (heads_in b row) ≡ heads_in b (node ∷ drop (at + 1) row)
 from_place b row at node l g = heads_drop b row at ∙ ap (heads_in b) (drop_more row at node l ∙ ap (λ z. z ∷ drop (at + 1) row) (sym g))
 
 -- one more node tells what it takes
-pub settled : (b : List ℕ) (row : List Node) (at end : ℕ) (node node' : Node) → at < length row → node ≡ get_or row at node → IsRow (heads_in b row) → AllTake b (drop (at + 1) row)
-    → end ≡ at + 1 + span (parts_in node) (drop (at + 1) (heads_in b row)) → head_in node' ≡ head_in node → content_in b node' ≡ content_in b node → takes_in node' ≡ takes_then (end - at) node
+pub settled : (b : List ℕ) (row : List Node) (at end : ℕ) (node node' : Node) → at < length row → node ≡ get_or row at node → IsRow (heads_in b row)
+    → AllTake b (drop (at + 1) row)
+    → end ≡ at + 1 + span (parts_in node) (drop (at + 1) (heads_in b row)) → head_in node' ≡ head_in node → content_in b node' ≡ content_in b node
+    → takes_in node' ≡ takes_then (end - at) node
     → AllTake b (drop at (set row at node'))
 settled b row at end node node' l g r t e h c k =
     let more = drop (at + 1) row in

@@ -62,7 +62,8 @@ joined_pairs (pair k v ps) x =
     let entry = tree_text k ++ codes "=" ++ tree_text v in
     let rest = text_left true Comma (items_of (flat_pairs ps)) in
     append_assoc x (44 ∷ with_commas (entry ∷ pair_texts ps)) (codes "}")
-    ∙ ap (λ s. x ++ (44 ∷ s)) (joined_pairs ps entry ∙ append_assoc (tree_text k ++ codes "=") (tree_text v) rest ∙ append_assoc (tree_text k) (codes "=") (tree_text v ++ rest))
+    ∙ ap (λ s. x ++ (44 ∷ s)) (joined_pairs ps entry ∙ append_assoc (tree_text k ++ codes "=") (tree_text v) rest
+    ∙ append_assoc (tree_text k) (codes "=") (tree_text v ++ rest))
 
 pub list_text : (m : Msg) → kind_of m ≡ ListKind → tree_text m ≡ head_text (head_of m) (content_of m) ++ text_left false Nothing (parts_in_turn m)
 unfolding tree_text item_texts

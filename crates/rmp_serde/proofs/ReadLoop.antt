@@ -533,7 +533,8 @@ module _ {R C : Type 0} (g : Ghosts R) (all : ℕ) (start now : Deserializer R C
     ]
 
     -- its content couldn't be taken
-    leaf_fails : (last : Deserializer R C) (e : Error) → FailsLeaf g p.1 (failed_of mid) last e → LeafFails g start.strict room (left g now) (failed_of mid) last e
+    leaf_fails : (last : Deserializer R C) (e : Error) → FailsLeaf g p.1 (failed_of mid) last e
+        → LeafFails g start.strict room (left g now) (failed_of mid) last e
     leaf_fails last e f = fails_leaf g p.1 start.strict room (left g now) h.ok.bytes (failed_of mid) last e h.ok.takes is_head h.clean f
 
     pub leaf_refused : (last : Deserializer R C) (e : Error) (after : List Token) → FailsLeaf g p.1 (failed_of mid) last e

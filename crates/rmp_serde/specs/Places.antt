@@ -94,7 +94,8 @@ pub record OpensOther (xs : List ℕ) : Type 0 where
 abbrev pub IsFault : List ℕ → ℕ → Type 0
 IsFault input p = Reaches OpensOther input p
 
--- why the message that is wanted at the front can't be passed over: the bytes end before it, inside of its head or inside of its content, or the byte c1 is there
+-- why the message that is wanted at the front can't be passed over: the bytes end before it, inside of its head or inside of its
+-- content, or the byte c1 is there
 abbrev pub StopsFor : Error → List ℕ → Type 0
 StopsFor (InvalidMarkerRead fault) xs = IsMarkerEnd (InvalidMarkerRead fault) × (xs ≡ [])
 StopsFor (InvalidDataRead fault) xs = IsDataEnd (InvalidDataRead fault) × (HeadIsCut xs ⊎ ContentIsCut true xs)

@@ -26,7 +26,8 @@ pub record OpensContent (strict : Bool) (xs : List ℕ) : Type 0 where
   pub stands : Stands strict marker head xs
   pub has_content : IsRawHead head ⊎ IsExtHead head
 
--- Why the value at the front can't be read: a text isn't UTF-8, memory was short for content or for the messages of a list or a map, or what is wrong with any message.
+-- Why the value at the front can't be read: a text isn't UTF-8, memory was short for content or for the messages of a list or a map, or
+-- what is wrong with any message.
 abbrev pub UnreadFor : Bool → ℕ → Error → List ℕ → Type 0
 UnreadFor strict room (Utf8Error why) xs = TextIsInvalid strict xs
 UnreadFor strict room OutOfMemory xs = OpensContent strict xs ⊎ ((1 < room) × OpensParts strict xs)

@@ -80,7 +80,8 @@ impl Held {
     pub(crate) fn fill<S: Source>(&mut self, source: &mut S) -> Result<(), io::Error>
         requires empty { slice_range self.old.bytes.items self.old.start self.old.end ≡ [] }
         requires room { 0 < vec_len self.old.bytes }
-        ensures bytes { OnOk result (Keeps (S.ahead source.old) (prepend_known (slice_range self.new.bytes.items self.new.start self.new.end) (S.ahead source.new))) }
+        ensures bytes { OnOk result (Keeps (S.ahead source.old)
+            (prepend_known (slice_range self.new.bytes.items self.new.start self.new.end) (S.ahead source.new))) }
         ensures end { OnOk result (slice_range self.new.bytes.items self.new.start self.new.end ≡ [] → IsAtEnd (S.ahead source.old)) }
         ensures sound { OnOk result (S.faults source.new ≡ S.faults source.old) }
         ensures kept { OnErr result (Keeps (S.ahead source.old) (S.ahead source.new)) }
@@ -103,7 +104,8 @@ impl Held {
     pub(crate) fn take_into(&mut self, buf: &mut [u8]) -> usize
         ensures size { length buf.new ≡ length buf.old }
         ensures count { result ≡ min (length (slice_range self.old.bytes.items self.old.start self.old.end)) (length buf.new) }
-        ensures bytes { slice_range self.old.bytes.items self.old.start self.old.end ≡ take result buf.new ++ slice_range self.new.bytes.items self.new.start self.new.end }
+        ensures bytes { slice_range self.old.bytes.items self.old.start self.old.end ≡ take result buf.new
+            ++ slice_range self.new.bytes.items self.new.start self.new.end }
     {
         let n = copy_front(self.as_slice(), buf);
         self.skip(n);

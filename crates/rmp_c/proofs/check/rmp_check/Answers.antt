@@ -6,10 +6,12 @@ pub returns-in-Ok-Whole-clause-finds_whole : goal.returns-in-Ok-Whole-clause-fin
 returns-in-Ok-Whole-clause-finds_whole c = λ n w. (refl, one_whole _ _ n (ap Ok c.in-Ok-Whole.field-0-is) ((c.in-Ok-Whole.ensures.whole n).1 w))
 
 pub returns-in-Ok-Whole-clause-finds_fault : goal.returns-in-Ok-Whole-clause-finds_fault
-returns-in-Ok-Whole-clause-finds_fault c = λ p f. absurd (never_both _ c.in-Ok-Whole.len p (ap Ok c.in-Ok-Whole.field-0-is) ((c.in-Ok-Whole.ensures.fault p).1 f))
+returns-in-Ok-Whole-clause-finds_fault c = λ p f. absurd
+    (never_both _ c.in-Ok-Whole.len p (ap Ok c.in-Ok-Whole.field-0-is) ((c.in-Ok-Whole.ensures.fault p).1 f))
 
 pub returns-in-Ok-Fault-clause-finds_whole : goal.returns-in-Ok-Fault-clause-finds_whole
-returns-in-Ok-Fault-clause-finds_whole c = λ n w. absurd (never_both _ n c.in-Ok-Fault.at ((c.in-Ok-Fault.ensures.whole n).1 w) (ap Ok c.in-Ok-Fault.field-0-is))
+returns-in-Ok-Fault-clause-finds_whole c = λ n w. absurd
+    (never_both _ n c.in-Ok-Fault.at ((c.in-Ok-Fault.ensures.whole n).1 w) (ap Ok c.in-Ok-Fault.field-0-is))
 
 pub returns-in-Ok-Fault-clause-finds_fault : goal.returns-in-Ok-Fault-clause-finds_fault
 returns-in-Ok-Fault-clause-finds_fault c = λ p f. (refl, one_fault _ _ p (ap Ok c.in-Ok-Fault.field-0-is) ((c.in-Ok-Fault.ensures.fault p).1 f))

@@ -43,7 +43,8 @@ returns g c =
                   λ all e. record {
                     sound = refl;
                     left_is = many_fields _ all c.args.len e;
-                    state = (rw c.is_named.ensures at c.in_ok-open_variant.ensures.begins) _ _ (made_struct_variant _ c.args.variant.now c.args.len all is_bytes e);
+                    state = (rw c.is_named.ensures at c.in_ok-open_variant.ensures.begins) _ _
+                        (made_struct_variant _ c.args.variant.now c.args.len all is_bytes e);
                   },
                   c.open_variant.ensures.keeps,
                 ),

@@ -49,7 +49,8 @@ pub returns-in-Ok-read_parts-clause-law : goal.returns-in-Ok-read_parts-clause-l
 returns-in-Ok-read_parts-clause-law g c = tree_law g.R.Source c.args.de.now c.read_parts.new.de _
     (nest_read g.R.Source c.args.de.now c.deserialize_head.new.self (c.in-Ok.ensures.ok.marker, c.in-Ok.head) c.in-Ok.ensures.ok.begun
     c.in-Some.is_map c.in-Some.n c.in-Some.ensures c.read_parts.new.de _ _ c.read_parts.new.made.bytes.items
-    (omega (arith, c.room.ensures, c.if-room-le1.false)) (rw (← c.messages.ensures.same) c.in-Ok-read_parts.ensures.law) c.new-made.ensures.none) _ c.from_parts.ensures.told
+    (omega (arith, c.room.ensures, c.if-room-le1.false)) (rw (← c.messages.ensures.same) c.in-Ok-read_parts.ensures.law) c.new-made.ensures.none) _
+    c.from_parts.ensures.told
 
 pub returns-in-Err-read_parts-clause-law : goal.returns-in-Err-read_parts-clause-law
 returns-in-Err-read_parts-clause-law g c =

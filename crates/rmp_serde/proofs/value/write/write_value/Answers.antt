@@ -6,7 +6,8 @@ use Rattle.rmp_serde.proofs.value.write.write_value.Goals as goal
 pub returns-in_err-write_node-clause-writes : goal.returns-in_err-write_node-clause-writes
 returns-in_err-write_node-clause-writes g c =
     let p = err_from_is_err_and c.from_residual.result c.from_residual.ensures.1 in
-    rw (p.1, p.2) (takes_as (spells_all c.value.inside.root c.value.inside.parts c.args.value.now c.value.invariant c.value.view_is) (takes_stop _ (tree_of_puts c.in_err-write_node.ensures.writes)))
+    rw (p.1, p.2) (takes_as (spells_all c.value.inside.root c.value.inside.parts c.args.value.now c.value.invariant c.value.view_is)
+    (takes_stop _ (tree_of_puts c.in_err-write_node.ensures.writes)))
 
 pub returns-clause-writes : goal.returns-clause-writes
 returns-clause-writes g c =

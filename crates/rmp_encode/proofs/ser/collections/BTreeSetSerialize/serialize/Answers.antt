@@ -48,4 +48,8 @@ returns-clause-writes g c = none_next g.W.Sink c.args.se.now _ _ _ _
     (ap (map (λ x. g.T.Serialize.data_of x (settings_of c.args.se.now).human)) c.in-None.ensures.steps.0) c.loop-item.invariant.writing
 
 pub returns-clause-value : goal.returns-clause-value
-returns-clause-value g c = (c.loop-item.invariant.values (subst (All g.T.Serialize.is_value) (sym c.in-None.ensures.steps.0) (All-nil g.T.Serialize.is_value)), c.len.ensures.ordered)
+returns-clause-value g c = (
+  c.loop-item.invariant.values
+      (subst (All g.T.Serialize.is_value) (sym c.in-None.ensures.steps.0) (All-nil g.T.Serialize.is_value)),
+  c.len.ensures.ordered,
+)

@@ -38,7 +38,8 @@ loop-at-preserved c =
       heads = heads_set b row at node node' g c.taking.ensures.head (c.taking.ensures.content b) ∙ c.loop-at.invariant.heads;
       bytes = c.loop-at.invariant.bytes;
       takes = settled b row at c.past-end.result node node' l g r (subst (λ z. AllTake b (drop z row)) next c.loop-at.invariant.takes)
-          (c.past-end.ensures.place ∙ ap (λ z. at + 1 + span z (drop (at + 1) (heads_in b row))) c.parts.ensures.parts) c.taking.ensures.head (c.taking.ensures.content b) c.taking.ensures.takes;
+          (c.past-end.ensures.place ∙ ap (λ z. at + 1 + span z (drop (at + 1) (heads_in b row))) c.parts.ensures.parts) c.taking.ensures.head
+          (c.taking.ensures.content b) c.taking.ensures.takes;
       within = within_set (length b) row at node node' g (c.taking.ensures.within (length b)) c.loop-at.invariant.within;
       there = omega (arith, l, length-set row at node');
     }

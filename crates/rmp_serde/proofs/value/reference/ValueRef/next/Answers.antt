@@ -23,10 +23,15 @@ overflow_add-result c =
     let m = c.args.self.value.now in
     let at : suc (c.args.self.at - 1) ≡ c.args.self.at = omega (arith, c.requires.part) in
     let l : 1 < count (built (drop (suc (c.args.self.at - 1)) (tokens m))) = omega (arith, c.requires.there, ap (λ z. count (built (drop z (tokens m)))) at) in
-    omega (arith, behind_there _ _ m c.value.invariant c.value.view_is (c.args.self.at - 1) c.past.result 1 l c.past.ensures.place, c.value.inside.parts.nodes.ok.0)
+    omega (
+      arith,
+      behind_there _ _ m c.value.invariant c.value.view_is (c.args.self.at - 1) c.past.result 1 l c.past.ensures.place,
+      c.value.inside.parts.nodes.ok.0,
+    )
 
 pub returns-clause-next : goal.returns-clause-next
 returns-clause-next c =
     let m = c.args.self.value.now in
     let at : suc (c.args.self.at - 1) ≡ c.args.self.at = omega (arith, c.requires.part) in
-    behind_later _ _ m c.value.invariant c.value.view_is (c.args.self.at - 1) c.past.result 1 c.past.ensures.place ∙ ap (λ z. past_items 1 (built (drop z (tokens m)))) at
+    behind_later _ _ m c.value.invariant c.value.view_is (c.args.self.at - 1) c.past.result 1 c.past.ensures.place
+    ∙ ap (λ z. past_items 1 (built (drop z (tokens m)))) at

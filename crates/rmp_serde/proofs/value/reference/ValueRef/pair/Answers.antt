@@ -9,7 +9,12 @@ use Rattle.rmp_serde.proofs.value.reference.ValueRef.pair.Goals as goal
 pub next-requires-clause-there : goal.next-requires-clause-there
 next-requires-clause-there c =
     let m = c.args.self.value.now in
-    omega (arith, ap count c.part-key.ensures.part, value_there (tokens m) c.args.self.at c.in-Map.len c.args.i (tree_row m) (sym c.in-Map.ensures.head) c.if-i-len.true)
+    omega (
+      arith,
+      ap count c.part-key.ensures.part,
+      value_there (tokens m) c.args.self.at c.in-Map.len c.args.i (tree_row m) (sym c.in-Map.ensures.head)
+          c.if-i-len.true,
+    )
 
 pub returns-then-i-len-clause-pair : goal.returns-then-i-len-clause-pair
 returns-then-i-len-clause-pair c =

@@ -15,14 +15,20 @@ past-requires-clause-takes c = takes_drop _ _ c.args.self.at c.value.invariant.t
 pub past-requires-clause-parts : goal.past-requires-clause-parts
 past-requires-clause-parts c =
     let m = c.args.self.value.now in
-    let l : c.args.i < count (built (drop (suc c.args.self.at) (tokens m))) = omega (arith, c.requires.there, parts_at (tokens m) c.args.self.at (tree_row m)) in
+    let l : c.args.i < count (built (drop (suc c.args.self.at) (tokens m))) = omega
+    (arith, c.requires.there, parts_at (tokens m) c.args.self.at (tree_row m)) in
     omega (arith, behind_many _ _ m c.value.invariant c.value.view_is c.args.self.at c.args.i l)
 
 pub overflow_add-result : goal.overflow_add-result
 overflow_add-result c =
     let m = c.args.self.value.now in
-    let l : c.args.i < count (built (drop (suc c.args.self.at) (tokens m))) = omega (arith, c.requires.there, parts_at (tokens m) c.args.self.at (tree_row m)) in
-    omega (arith, behind_there _ _ m c.value.invariant c.value.view_is c.args.self.at c.past.result c.args.i l c.past.ensures.place, c.value.inside.parts.nodes.ok.0)
+    let l : c.args.i < count (built (drop (suc c.args.self.at) (tokens m))) = omega
+    (arith, c.requires.there, parts_at (tokens m) c.args.self.at (tree_row m)) in
+    omega (
+      arith,
+      behind_there _ _ m c.value.invariant c.value.view_is c.args.self.at c.past.result c.args.i l c.past.ensures.place,
+      c.value.inside.parts.nodes.ok.0,
+    )
 
 pub returns-clause-part : goal.returns-clause-part
 returns-clause-part c = behind_later _ _ c.args.self.value.now c.value.invariant c.value.view_is c.args.self.at c.past.result c.args.i c.past.ensures.place

@@ -8,7 +8,8 @@ pub returns-in_err-write_value-clause-writes : goal.returns-in_err-write_value-c
 returns-in_err-write_value-clause-writes g c =
     let p = err_from_is_err_and c.from_residual.result c.from_residual.ensures.1 in
     value_writes g.W.Sink c.args.se.now.settings c.args.self.now (Err c.in_err-write_value.field-0.0) (p.1 ∙ ap Err p.2)
-    (value_told c.self.inside.root c.self.inside.parts c.args.self.now c.self.invariant c.self.view_is).0 (rw c.get_mut.ensures.value at c.in_err-write_value.ensures.writes)
+    (value_told c.self.inside.root c.self.inside.parts c.args.self.now c.self.invariant c.self.view_is).0
+    (rw c.get_mut.ensures.value at c.in_err-write_value.ensures.writes)
 
 pub returns-clause-writes : goal.returns-clause-writes
 returns-clause-writes g c = value_writes g.W.Sink c.args.se.now.settings c.args.self.now (Ok tt) refl
