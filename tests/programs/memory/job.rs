@@ -51,6 +51,26 @@ pub enum Kind {
     Texts,
     /// A struct of a text and a number, by their names.
     Dog,
+    /// A message of any kind that has two parts.
+    Pair,
+    /// The struct in a map with a name that it doesn't have.
+    Among,
+    /// A queue of texts.
+    Queue,
+    /// A set of texts.
+    Set,
+    /// Two texts.
+    Array,
+    /// Numbers behind pointers, behind a pointer.
+    Boxes,
+    /// Bytes, an extension, and a text that may be no UTF-8.
+    Buffers,
+    /// Variants of an enum, one of which has fields.
+    Variants,
+    /// Structs in one another, by their names.
+    Rose,
+    /// Lists of lists in one another.
+    Lists,
 }
 
 impl Kind {
@@ -64,6 +84,39 @@ impl Kind {
             "tree" => Some(Kind::Tree),
             "texts" => Some(Kind::Texts),
             "dog" => Some(Kind::Dog),
+            "pair" => Some(Kind::Pair),
+            "among" => Some(Kind::Among),
+            "queue" => Some(Kind::Queue),
+            "set" => Some(Kind::Set),
+            "array" => Some(Kind::Array),
+            "boxes" => Some(Kind::Boxes),
+            "buffers" => Some(Kind::Buffers),
+            "variants" => Some(Kind::Variants),
+            "rose" => Some(Kind::Rose),
+            "lists" => Some(Kind::Lists),
+            _ => None,
+        }
+    }
+}
+
+/// What is written that takes memory until it ends, into a vector.
+#[derive(Clone, Copy)]
+pub enum Kept {
+    /// A map of unknown length, with a struct among its values.
+    Map,
+    /// A pair of bytes and a number, where bytes are made of all that may be bytes.
+    Pair,
+    /// The same in a list of unknown length.
+    List,
+}
+
+impl Kept {
+    // What a word names.
+    fn named(name: &str) -> Option<Kept> {
+        match name {
+            "write-map" => Some(Kept::Map),
+            "write-pair" => Some(Kept::Pair),
+            "write-list" => Some(Kept::List),
             _ => None,
         }
     }
@@ -88,6 +141,8 @@ pub enum Job {
     Check,
     /// A message is read as a value of the type, and the value is written.
     Again(Kind),
+    /// Something is written that takes memory until it ends.
+    WriteKept(Kept),
     /// Something is read through a reader.
     ReadThrough(Reading),
     /// Something is written into another sink.
@@ -124,6 +179,9 @@ impl Job {
     fn named(name: &str) -> Result<Job, Fault> {
         if let Some(kind) = Kind::named(name) {
             return Ok(Job::Again(kind));
+        }
+        if let Some(kept) = Kept::named(name) {
+            return Ok(Job::WriteKept(kept));
         }
         if let Some(reading) = Reading::named(name) {
             return Ok(Job::ReadThrough(reading));

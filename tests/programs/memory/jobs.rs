@@ -1,14 +1,14 @@
 //! What the jobs do. None of them allocates for what it prints.
-use crate::job::{Fault, Kind};
+use crate::job::{Fault, Kept, Kind};
 use rmp_decode::{Deserialize, Deserializer, from_slice};
 use rmp_encode::{Error, Serialize, Serializer, to_vec, to_vec_named};
 use rmp_serde::{Canon, Raw, Value, check_canonical};
-use rmp_wire::ReadRefReader;
 use rmp_wire::config::BytesMode;
+use rmp_wire::{ByteBuf, Ext, ReadRefReader};
 use std::alloc::Global;
-use std::collections::BTreeMap;
-use test_derived::Dog;
-use test_types::{Tree, UnkMap, UnkSeq};
+use std::collections::{BTreeMap, BTreeSet, VecDeque};
+use test_derived::{Counted, Dog, Four};
+use test_types::{Nested as Lists, Rose, Tree, UnkMap, UnkSeq};
 
 /// Lists in maps in a list, and texts.
 pub type Nested = Vec<BTreeMap<String, Vec<Vec<u16>>>>;
@@ -66,6 +66,45 @@ fn forced<T: Serialize>(alloc: Global, value: &T) -> Result<Vec<u8>, Error> {
 /// The same, where bytes are made of all that may be bytes.
 pub fn write_unknown(rt: &(impl Print + AllocGlobal), value: &NestedUnknown) -> Result<(), Fault> {
     print_written(rt, forced(rt.alloc(), value))
+}
+
+// `{"f1": 0, "f2": (8, 13), "f4": 21, "f5": 34}`, whose length isn't told, in a vector.
+fn unknown_map(alloc: Global) -> Result<Vec<u8>, Error> {
+    let mut se = Serializer::new(alloc, Vec::new(alloc));
+    let mut map = se.serialize_map(None)?;
+    map.serialize_key(&"f1")?;
+    map.serialize_value(&0u8)?;
+    map.serialize_key(&"f2")?;
+    map.serialize_value(&Counted {
+        value: 8u8,
+        count: 13,
+    })?;
+    map.serialize_key(&"f4")?;
+    map.serialize_value(&21u8)?;
+    map.serialize_key(&"f5")?;
+    map.serialize_value(&34u8)?;
+    map.end()?;
+    Ok(se.into_inner())
+}
+
+// `[(1, 200), 5]`, whose length isn't told, in a vector where bytes are made of all that may be bytes.
+fn unknown_list(alloc: Global) -> Result<Vec<u8>, Error> {
+    let mut se = Serializer::new(alloc, Vec::new(alloc)).with_bytes(BytesMode::ForceAll);
+    let mut list = se.serialize_seq(None)?;
+    list.serialize_element(&(1u8, 200u8))?;
+    list.serialize_element(&5u8)?;
+    list.end()?;
+    Ok(se.into_inner())
+}
+
+/// Writes what takes memory until it ends, and prints the bytes or the error.
+pub fn write_kept(rt: &(impl Print + AllocGlobal), kept: Kept) -> Result<(), Fault> {
+    let written = match kept {
+        Kept::Map => unknown_map(rt.alloc()),
+        Kept::Pair => forced(rt.alloc(), &([1u8, 200u8], 3u8)),
+        Kept::List => unknown_list(rt.alloc()),
+    };
+    print_written(rt, written)
 }
 
 /// Reads a list of maps from texts to lists, in wide spellings, and prints it or the error.
@@ -135,6 +174,7 @@ pub fn again_as(rt: &(impl Print + AllocGlobal), kind: Kind) -> Result<(), Fault
             rt,
             b"\xdc\x00\x03\x81\xa1a\xc4\x01\x07\xd9\x01b\xc7\x01\x05\x09",
         ),
+        Kind::Pair => again::<Value>(rt, b"\x92\xcd\x00\x05\xd9\x01a"),
         Kind::Raw => again::<Raw>(rt, b"\xd9\x03\xffab"),
         Kind::Options => again::<Vec<Option<String>>>(rt, b"\xdc\x00\x02\xc0\xd9\x01a"),
         Kind::Wide => again::<Vec<(u128, i128)>>(rt, b"\xdc\x00\x01\x92\xcd\x00\x05\xd1\xff\xff"),
@@ -147,5 +187,25 @@ pub fn again_as(rt: &(impl Print + AllocGlobal), kind: Kind) -> Result<(), Fault
             b"\xde\x00\x02\xd9\x01a\xa1b\xa1c\xa0",
         ),
         Kind::Dog => again::<Dog>(rt, b"\xde\x00\x02\xd9\x03age\x05\xa4name\xd9\x03Rex"),
+        Kind::Among => again::<Dog>(rt, b"\x83\xa1x\x81\x05\x90\xa3age\x08\xa4name\xa5Bobby"),
+        _ => again_in_others(rt, kind),
+    }
+}
+
+// The same of the types of std, and of those that a user writes.
+fn again_in_others(rt: &(impl Print + AllocGlobal), kind: Kind) -> Result<(), Fault> {
+    const TEXTS: &[u8] = b"\xdc\x00\x02\xa1a\xd9\x01b";
+    match kind {
+        Kind::Queue => again::<VecDeque<String>>(rt, TEXTS),
+        Kind::Set => again::<BTreeSet<String>>(rt, TEXTS),
+        Kind::Array => again::<[String; 2]>(rt, TEXTS),
+        Kind::Boxes => again::<Box<Vec<Box<u16>>>>(rt, b"\x92\xcd\x00\x05\x01"),
+        Kind::Buffers => again::<(ByteBuf, Ext, Raw)>(
+            rt,
+            b"\x93\xc5\x00\x01\x07\xc7\x01\x05\x09\xd9\x01a",
+        ),
+        Kind::Variants => again::<Vec<Four>>(rt, b"\x92\xa4Unit\x81\xa3Str\x92\x01\xd9\x01q"),
+        Kind::Rose => again::<Rose>(rt, b"\x91\x91\x91\x90"),
+        _ => again::<Lists>(rt, b"\x92\x91\x90\x90"),
     }
 }

@@ -59,6 +59,10 @@ fn main(rt: HostRuntime) -> Result<(), Fault> {
             allocate(rt.alloc(), count)?;
             jobs::again_as(&rt, kind)
         }
+        Job::WriteKept(kept) => {
+            allocate(rt.alloc(), count)?;
+            jobs::write_kept(&rt, kept)
+        }
         Job::ReadThrough(reading) => {
             allocate(rt.alloc(), count)?;
             through::read(&rt, reading)

@@ -268,7 +268,7 @@ fn print_lines(
     Ok(())
 }
 
-/// Does what `mpcanon` does with two lines, or where it checks them.
+/// Does what `mpcanon` does with some lines, or where it checks them.
 pub fn lines(rt: &(impl Print + AllocGlobal), checks: bool) -> Result<(), Fault> {
     let mut out = Trickle::new(rt.alloc(), usize::MAX);
     if checks {
@@ -281,7 +281,8 @@ pub fn lines(rt: &(impl Print + AllocGlobal), checks: bool) -> Result<(), Fault>
             b"canonical 4\ncanonical 1\ncanonical 1\n",
         );
     }
-    let mut source = b"92cd0005c0\n2A\n".as_slice();
+    let mut source = b"92cd0005d90161\n2A c3\n93c0c2d3ffffffffffffffdf\n".as_slice();
     let ran = run(rt.alloc(), &mut source, &mut out);
-    print_lines(rt, ran, out.bytes.as_slice(), b"[5,nil] 9205c0\n42 2a\n")
+    let whole = b"[5,t:61] 9205a161\n42 2a\ntrue c3\n[nil,false,-33] 93c0c2d0df\n";
+    print_lines(rt, ran, out.bytes.as_slice(), whole)
 }
