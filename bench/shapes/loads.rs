@@ -338,6 +338,8 @@ fn many(count: usize, random: &mut Random, make: impl Fn(&mut Random) -> Part) -
 }
 
 const COUNT: usize = 200;
+/// How many fill a buffer more than once.
+const MORE: usize = 20_000;
 
 fn loads() -> Vec<Load<Calls>> {
     let mut made = Made { loads: Vec::new() };
@@ -492,12 +494,17 @@ fn parts(made: &mut Made, random: &mut Random) {
         &numbers(random, COUNT),
     );
     made.called("texts from a cursor", "bench_cursor_texts", &texts);
-    made.called(
-        "numbers from a buffer",
-        "bench_buffered_numbers",
-        &numbers(random, COUNT),
-    );
-    made.called("texts from a buffer", "bench_buffered_texts", &texts);
+    let some = numbers(random, COUNT);
+    let more = numbers(&mut Random::new(), MORE);
+    let more_texts = vec![text("some words"); MORE];
+    for (name, of) in [("from a buffer", "buffered"), ("read ahead", "ahead")] {
+        let (of_numbers, of_texts) = (format!("bench_{of}_numbers"), format!("bench_{of}_texts"));
+        made.called(&format!("numbers {name}"), &of_numbers, &some);
+        made.called(&format!("texts {name}"), &of_texts, &texts);
+        made.called(&format!("many numbers {name}"), &of_numbers, &more);
+        made.called(&format!("many texts {name}"), &of_texts, &more_texts);
+    }
+    made.called("many texts from a slice", "bench_read_text", &more_texts);
 }
 
 /// Numbers of a width, with their sign or the other one.

@@ -17,6 +17,8 @@ macro_rules! exports {
 }
 
 exports! {
+    bench_ahead_numbers
+    bench_ahead_texts
     bench_buffered_numbers
     bench_buffered_texts
     bench_cursor_numbers

@@ -9,7 +9,7 @@ mod shapes;
 mod twelve;
 
 use rmp_decode::{Deserialize, Deserializer, Error, from_slice};
-use rmp_wire::{BufSource, ByteBuf, F64Bits, IoSource, ReadReader, ReadRefReader};
+use rmp_wire::{AheadSource, BufSource, ByteBuf, F64Bits, ReadReader, ReadRefReader};
 use shapes::{EightFields, Five, Shape, Two};
 use std::alloc::Global;
 use std::collections::{BTreeMap, BTreeSet, VecDeque};
@@ -251,4 +251,34 @@ pub extern "C" fn bench_buffered_numbers(alloc: Global, data: &[u8], reps: u32) 
 #[unsafe(no_mangle)]
 pub extern "C" fn bench_buffered_texts(alloc: Global, data: &[u8], reps: u32) -> usize {
     buffered_reads::<String>(alloc, data, reps)
+}
+
+// Reads a list from a reader that is read ahead so many times.
+#[inline(always)]
+fn ahead_reads<'de, T: Deserialize<'de, ReadReader<AheadSource<Cursor<&'de [u8]>>>>>(
+    alloc: Global,
+    data: &'de [u8],
+    reps: u32,
+) -> usize {
+    let mut sum: usize = 0;
+    for _ in 0..reps {
+        let mut de = Deserializer::new(alloc, AheadSource::new(alloc, Cursor::new(data)));
+        let read: Result<Vec<T>, Error> = Deserialize::deserialize(&mut de);
+        if let Ok(items) = read {
+            sum = sum.wrapping_add(items.len());
+        }
+    }
+    sum
+}
+
+/// Reads a list of numbers from a reader that is read ahead.
+#[unsafe(no_mangle)]
+pub extern "C" fn bench_ahead_numbers(alloc: Global, data: &[u8], reps: u32) -> usize {
+    ahead_reads::<u32>(alloc, data, reps)
+}
+
+/// Reads a list of texts from a reader that is read ahead.
+#[unsafe(no_mangle)]
+pub extern "C" fn bench_ahead_texts(alloc: Global, data: &[u8], reps: u32) -> usize {
+    ahead_reads::<String>(alloc, data, reps)
 }

@@ -134,6 +134,8 @@ fn main() {
     calls.push(("bench_skip", skip));
     calls.push(("bench_cursor_numbers", cursor_reads::<u32>));
     calls.push(("bench_cursor_texts", cursor_reads::<String>));
+    calls.push(("bench_ahead_numbers", buffered_reads::<u32>));
+    calls.push(("bench_ahead_texts", buffered_reads::<String>));
     calls.push(("bench_buffered_numbers", buffered_reads::<u32>));
     calls.push(("bench_buffered_texts", buffered_reads::<String>));
     loads::main(&loads::Calls(calls));
