@@ -1,5 +1,5 @@
 //! Heads that lie in memory whole, read where they lie.
-ghost use Rattle.std.specs.Prelude.{◌≡◌, ◌<◌, ◌≤◌, ◌≤ℤ◌, pos, true, false, Bool, IfSome, IfNone, IfOk, IfErr};
+ghost use Rattle.std.specs.Prelude.{◌≡◌, ◌<◌, ◌≤◌, ◌≤ℤ◌, ◌+◌, ◌*◌, pos, true, false, Bool, length, get_or, IfSome, IfNone, IfOk, IfErr};
 ghost use Rattle.rmp_decode.specs.Ahead.{TakesLeaf};
 ghost use Rattle.rmp_decode.specs.Fronts.{StandsIn, TakesFront};
 ghost use Rattle.rmp_decode.specs.Law.{ReadsHead};
@@ -24,6 +24,45 @@ fn may_stand(n: u64, least: u64, strict: bool) -> bool
     !strict || n >= least
 }
 
+// The number whose two bytes stand at the front. These three bear no hint to inline always: what is inlined always counts towards how large a
+// caller may grow before its own hint is dropped, and they are inlined without it.
+fn number_16_at(bytes: &[u8]) -> Option<u16>
+    ensures long { IfSome result (λ n. 2 ≤ length bytes.now) }
+    ensures value { IfSome result (λ n. n ≡ get_or bytes.now 0 0 * 256 + get_or bytes.now 1 0) }
+{
+    match bytes {
+        [a, b, ..] => Some(u16::from_be_bytes([*a, *b])),
+        _ => None,
+    }
+}
+
+// The number whose four bytes stand at the front.
+fn number_32_at(bytes: &[u8]) -> Option<u32>
+    ensures long { IfSome result (λ n. 4 ≤ length bytes.now) }
+    ensures value { IfSome result (λ n. n ≡ get_or bytes.now 0 0 * 0x1000000 + get_or bytes.now 1 0 * 0x10000 + get_or bytes.now 2 0 * 0x100
+        + get_or bytes.now 3 0) }
+{
+    match bytes {
+        [a, b, c, d, ..] => Some(u32::from_be_bytes([*a, *b, *c, *d])),
+        _ => None,
+    }
+}
+
+// The number whose eight bytes stand at the front.
+fn number_64_at(bytes: &[u8]) -> Option<u64>
+    ensures long { IfSome result (λ n. 8 ≤ length bytes.now) }
+    ensures value { IfSome result (λ n. n ≡ get_or bytes.now 0 0 * 0x100000000000000 + get_or bytes.now 1 0 * 0x1000000000000
+        + get_or bytes.now 2 0 * 0x10000000000 + get_or bytes.now 3 0 * 0x100000000 + get_or bytes.now 4 0 * 0x1000000 + get_or bytes.now 5 0 * 0x10000
+        + get_or bytes.now 6 0 * 0x100 + get_or bytes.now 7 0) }
+{
+    match bytes {
+        [a, b, c, d, e, f, g, h, ..] => {
+            Some(u64::from_be_bytes([*a, *b, *c, *d, *e, *f, *g, *h]))
+        }
+        _ => None,
+    }
+}
+
 // A number without a sign whose head, of any width, stands at the front; the count of the head's bytes; and from which number
 // on the canonical head has as many.
 #[inline(always)]
@@ -38,22 +77,17 @@ fn unsigned_at(front: &[u8]) -> Option<(u64, usize, u64)>
                 [a, ..] => Some((u64::from(*a), 2, 0x80)),
                 _ => None,
             },
-            0xcd => match behind {
-                [a, b, ..] => Some((u64::from(u16::from_be_bytes([*a, *b])), 3, 1 << 8)),
-                _ => None,
+            0xcd => match number_16_at(behind) {
+                Some(n) => Some((u64::from(n), 3, 1 << 8)),
+                None => None,
             },
-            0xce => match behind {
-                [a, b, c, d, ..] => {
-                    Some((u64::from(u32::from_be_bytes([*a, *b, *c, *d])), 5, 1 << 16))
-                }
-                _ => None,
+            0xce => match number_32_at(behind) {
+                Some(n) => Some((u64::from(n), 5, 1 << 16)),
+                None => None,
             },
-            0xcf => match behind {
-                [a, b, c, d, e, f, g, h, ..] => {
-                    let n = u64::from_be_bytes([*a, *b, *c, *d, *e, *f, *g, *h]);
-                    Some((n, 9, 1 << 32))
-                }
-                _ => None,
+            0xcf => match number_64_at(behind) {
+                Some(n) => Some((n, 9, 1 << 32)),
+                None => None,
             },
             _ => None,
         },

@@ -17,25 +17,26 @@ pub returns-in-len1-up-behind-clause-canonical : goal.returns-in-len1-up-behind-
 returns-in-len1-up-behind-clause-canonical c = λ l. opened_stands _ _ _ c.args.front.now (λ e. opens_8 _ _ c.in-204.is l (search rules))
     (returns-in-len1-up-behind-clause-any c)
 
-pub returns-in-len2-up-clause-any : goal.returns-in-len2-up-clause-any
-returns-in-len2-up-clause-any c = stands_16 c.args.front.now _ c.in-len1-up.len_at_least c.in-205.is c.in-len2-up.len_at_least
-    (c.from-in-len2-up.ensures ∙ c.from_be_bytes.ensures) (λ i. search rules)
+pub returns-in-Some-clause-any : goal.returns-in-Some-clause-any
+returns-in-Some-clause-any c = stands_16 c.args.front.now _ c.in-len1-up.len_at_least c.in-205.is c.in-Some.ensures.long
+    (c.from-in-Some.ensures ∙ c.in-Some.ensures.value) (λ i. search rules)
 
-pub returns-in-len2-up-clause-canonical : goal.returns-in-len2-up-clause-canonical
-returns-in-len2-up-clause-canonical c = λ l. opened_stands _ _ _ c.args.front.now (λ e. opens_16 _ _ c.in-205.is l (search rules))
-    (returns-in-len2-up-clause-any c)
+pub returns-in-Some-clause-canonical : goal.returns-in-Some-clause-canonical
+returns-in-Some-clause-canonical c = λ l. opened_stands _ _ _ c.args.front.now (λ e. opens_16 _ _ c.in-205.is l (search rules))
+    (returns-in-Some-clause-any c)
 
-pub returns-in-len4-up-clause-any : goal.returns-in-len4-up-clause-any
-returns-in-len4-up-clause-any c = stands_32 c.args.front.now _ c.in-len1-up.len_at_least c.in-206.is c.in-len4-up.len_at_least
-    (c.from-in-len4-up.ensures ∙ c.from_be_bytes-in-len4-up.ensures) (λ i. search rules)
+pub returns-in-Some-number_32_at-clause-any : goal.returns-in-Some-number_32_at-clause-any
+returns-in-Some-number_32_at-clause-any c = stands_32 c.args.front.now _ c.in-len1-up.len_at_least c.in-206.is c.in-Some-number_32_at.ensures.long
+    (c.from-in-Some-number_32_at.ensures ∙ c.in-Some-number_32_at.ensures.value) (λ i. search rules)
 
-pub returns-in-len4-up-clause-canonical : goal.returns-in-len4-up-clause-canonical
-returns-in-len4-up-clause-canonical c = λ l. opened_stands _ _ _ c.args.front.now (λ e. opens_32 _ _ c.in-206.is l (search rules))
-    (returns-in-len4-up-clause-any c)
+pub returns-in-Some-number_32_at-clause-canonical : goal.returns-in-Some-number_32_at-clause-canonical
+returns-in-Some-number_32_at-clause-canonical c = λ l. opened_stands _ _ _ c.args.front.now (λ e. opens_32 _ _ c.in-206.is l (search rules))
+    (returns-in-Some-number_32_at-clause-any c)
 
-pub returns-in-len8-up-clause-any : goal.returns-in-len8-up-clause-any
-returns-in-len8-up-clause-any c = stands_64 c.args.front.now _ c.in-len1-up.len_at_least c.in-207.is c.in-len8-up.len_at_least (search rules)
-    c.from_be_bytes-n.ensures (λ i. search rules)
+pub returns-in-Some-number_64_at-clause-any : goal.returns-in-Some-number_64_at-clause-any
+returns-in-Some-number_64_at-clause-any c = stands_64 c.args.front.now _ c.in-len1-up.len_at_least c.in-207.is c.in-Some-number_64_at.ensures.long
+    (search rules) c.in-Some-number_64_at.ensures.value (λ i. search rules)
 
-pub returns-in-len8-up-clause-canonical : goal.returns-in-len8-up-clause-canonical
-returns-in-len8-up-clause-canonical c = λ l. opened_stands _ _ _ c.args.front.now (λ e. opens_64 _ _ c.in-207.is l) (returns-in-len8-up-clause-any c)
+pub returns-in-Some-number_64_at-clause-canonical : goal.returns-in-Some-number_64_at-clause-canonical
+returns-in-Some-number_64_at-clause-canonical c = λ l. opened_stands _ _ _ c.args.front.now (λ e. opens_64 _ _ c.in-207.is l)
+    (returns-in-Some-number_64_at-clause-any c)
