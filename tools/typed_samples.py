@@ -1,8 +1,9 @@
 #!/usr/bin/env python3
 """Writes the rows of the program tests/programs/samples, where it is laid out: the values that it writes, and the types that it reads.
 
-    tools/typed_samples.py FOLDER   FOLDER is the crate's, with a src/
+    tools/typed_samples.py FOLDER [PART PARTS]   FOLDER is the crate's, with a src/
 
+With PART and PARTS it takes one of so many parts of the values and of the types, so that several programs are made side by side.
 src/rows.rt gets a call for each value of tests/samples/typed_write.txt with its settings, src/kinds.rt an arm for each type of
 typed_read.txt, and src/types/derived.rt the implementations of the types of src/types.rt, by tools/derive.py.
 """
@@ -345,9 +346,9 @@ def module(about, uses, lines, own):
     return "\n".join([f"//! {about} Written by tools/typed_samples.py.", *(f"use {it};" for it in sorted(uses)), "", *lines]) + "\n"
 
 
-def rows_module(shapes, own):
+def rows_module(shapes, own, part, parts):
     functions, current, names = [], [], 0
-    for kind, value, rows in read_samples.written():
+    for kind, value, rows in list(read_samples.written())[part::parts]:
         body = statements(kind, value, rows, shapes)
         if current and sum(2 + len(line) // 90 for line in current + body.lines) > LINES:
             functions.append(current)
@@ -365,22 +366,26 @@ def rows_module(shapes, own):
     return module("The rows of the sample.", uses, lines, own)
 
 
-def kinds_module(own):
-    lines = ["/// Reads the bytes as the type of this name, and says what came of it.",
-             "pub fn read(alloc: Global, kind: &str, bytes: &[u8], how: How) -> Result<Answer, Fault> {", "match kind {"]
-    lines += [f'"{kind}" => row::<{kind}>(alloc, bytes, how),' for kind in read_samples.kinds()]
+def kinds_module(own, part, parts):
+    kinds = read_samples.kinds()[part::parts]
+    lines = ["/// The place of the type of this name.", "pub fn place(kind: &str) -> Option<usize> {", "match kind {"]
+    lines += [f'"{kind}" => Some({at}),' for at, kind in enumerate(kinds)]
+    lines += ["_ => None,", "}", "}", "", "/// Reads the next message as the type at this place, and says what came of it.",
+              "pub fn read<'de, R: ReadSlice<'de>>(alloc: Global, at: usize, de: &mut Deserializer<R>) -> Result<String, Fault> {", "match at {"]
+    lines += [f"{at} => said::<R, {kind}>(alloc, de)," for at, kind in enumerate(kinds)]
     lines += ["_ => Err(Fault::NoType),", "}", "}"]
-    uses = ["crate::answer::Answer", "crate::answer::How", "crate::answer::row", "crate::fault::Fault", "std::alloc::Global"]
+    uses = ["crate::answer::said", "crate::fault::Fault", "rmp_serde::Deserializer", "rmp_serde::wire::ReadSlice", "std::alloc::Global"]
     return module("The types that are read, by their names in the sample.", uses, lines, own)
 
 
 def main():
     crate = sys.argv[1]
+    part, parts = (int(sys.argv[2]), int(sys.argv[3])) if len(sys.argv) == 4 else (0, 1)
     sources = os.path.join(crate, "src")
     with open(os.path.join(sources, "types.rt"), encoding="utf-8") as file:
         derived = shapes_of(file.read())
     own = {name.partition("::")[0] for name in derived}
-    for name, text in [("rows", rows_module({**shapes_of(SHAPES), **derived}, own)), ("kinds", kinds_module(own))]:
+    for name, text in [("rows", rows_module({**shapes_of(SHAPES), **derived}, own, part, parts)), ("kinds", kinds_module(own, part, parts))]:
         with open(os.path.join(sources, f"{name}.rt"), "w", encoding="utf-8") as file:
             file.write(text)
     subprocess.run([sys.executable, os.path.join(TOOLS, "derive.py"), crate, "types.rt"], check=True)

@@ -2,17 +2,19 @@
 //! strictly and not.
 use crate::fault::Fault;
 use crate::given::Given;
+use crate::kinds;
 use faulty_io::Drip;
 use rmp_serde::decode::{Deserialize, Error, Text};
 use rmp_serde::encode::{Serialize, to_vec};
-use rmp_serde::wire::{ReadReader, ReadRefReader, ReadSlice};
+use rmp_serde::wire::ReadSlice;
 use rmp_serde::{Canon, Deserializer, check_canonical};
 use std::alloc::Global;
 use std::io::Cursor;
 
-/// How bytes are read: how deep values nest at most, where it isn't as ever, and how many pulls are failed in turn.
+/// How bytes are read: as which type, how deep values nest at most, where it isn't as ever, and how many pulls are failed in turn.
 #[derive(Clone, Copy)]
 pub struct How {
+    pub kind: usize,
     pub depth: Option<usize>,
     pub pulls: usize,
 }
@@ -42,9 +44,13 @@ fn refused(alloc: Global, error: &Error) -> Result<String, Fault> {
     Ok(said?)
 }
 
-// The value's own spelling, or the refusal.
+/// The own spelling of the next message's value, or the refusal.
 #[inline(never)]
-fn said<T: Serialize + Drop>(alloc: Global, read: Result<T, Error>) -> Result<String, Fault> {
+pub fn said<'de, R: ReadSlice<'de>, T: Deserialize<'de, R> + Serialize>(
+    alloc: Global,
+    de: &mut Deserializer<R>,
+) -> Result<String, Fault> {
+    let read: Result<T, Error> = Deserialize::deserialize(de);
     match read {
         Ok(value) => {
             let written = to_vec(alloc, &value)?;
@@ -65,7 +71,7 @@ fn is_failed<'de, R: ReadSlice<'de>>(de: &mut Deserializer<R>) -> bool {
 
 // The value's own spelling, or the refusal, after which the reader has failed for good.
 #[inline(never)]
-fn told<'de, R: ReadSlice<'de>, T: Deserialize<'de, R> + Serialize>(
+fn told<'de, R: ReadSlice<'de>>(
     alloc: Global,
     de: &mut Deserializer<R>,
     how: How,
@@ -75,11 +81,11 @@ fn told<'de, R: ReadSlice<'de>, T: Deserialize<'de, R> + Serialize>(
     if let Some(depth) = how.depth {
         de.set_max_depth(depth);
     }
-    let read: Result<T, Error> = Deserialize::deserialize(de);
-    if read.is_err() && !is_failed(de) {
+    let answer = kinds::read(alloc, how.kind, de)?;
+    if answer.as_str().starts_with("Err") && !is_failed(de) {
         return Err(Fault::Reader);
     }
-    said(alloc, read)
+    Ok(answer)
 }
 
 // The answer, with how many bytes a reader took for a value.
@@ -90,42 +96,35 @@ fn with_taken(alloc: Global, answer: String, taken: u64) -> Result<String, Fault
     Ok(answer)
 }
 
-#[inline(never)]
-fn from_bytes<'de, T: Deserialize<'de, ReadRefReader<'de>> + Serialize>(
-    alloc: Global,
-    bytes: &'de [u8],
-    how: How,
-    strict: bool,
-) -> Result<String, Fault> {
+fn from_bytes(alloc: Global, bytes: &[u8], how: How, strict: bool) -> Result<String, Fault> {
     let mut de = Deserializer::from_read_ref(alloc, bytes);
-    told::<_, T>(alloc, &mut de, how, strict)
+    told(alloc, &mut de, how, strict)
 }
 
 // What comes of a source, with how many bytes it took for a value, and how many faults the source had.
-#[inline(never)]
-fn from_source<'de, T: Deserialize<'de, ReadReader<Given<'de>>> + Serialize>(
+fn from_source(
     alloc: Global,
-    source: Given<'de>,
+    source: Given,
     len: usize,
     how: How,
     strict: bool,
 ) -> Result<(String, u64), Fault> {
     let mut de = Deserializer::new(alloc, source);
-    let answer = told::<_, T>(alloc, &mut de, how, strict)?;
+    let answer = told(alloc, &mut de, how, strict)?;
     let (taken, faults) = de.into_inner().taken(len);
     Ok((with_taken(alloc, answer, taken)?, faults))
 }
 
 // The same of one that gives a byte a pull and fails after so many.
-fn dripped<'de, T: Deserialize<'de, ReadReader<Given<'de>>> + Serialize>(
+fn dripped(
     alloc: Global,
-    bytes: &'de [u8],
+    bytes: &[u8],
     pulls: usize,
     how: How,
     strict: bool,
 ) -> Result<(String, u64), Fault> {
     let source = Given::Drip(Drip::new(bytes, pulls));
-    from_source::<T>(alloc, source, bytes.len(), how, strict)
+    from_source(alloc, source, bytes.len(), how, strict)
 }
 
 // Whether an answer tells of a fault of the source, or of its end.
@@ -135,16 +134,15 @@ fn tells_of_the_source(answer: &str) -> bool {
 
 // Fails each of the first pulls of a source in turn: the read then tells of the source, and the fault is the only one. The first source
 // that is pulled often enough gives the answer.
-#[inline(never)]
-fn each_pull_failed<'de, T: Deserialize<'de, ReadReader<Given<'de>>> + Serialize>(
+fn each_pull_failed(
     alloc: Global,
-    bytes: &'de [u8],
+    bytes: &[u8],
     how: How,
     strict: bool,
     answer: &str,
 ) -> Result<(), Fault> {
     for pulls in 0..how.pulls.min(bytes.len()) {
-        let (failed, faults) = dripped::<T>(alloc, bytes, pulls, how, strict)?;
+        let (failed, faults) = dripped(alloc, bytes, pulls, how, strict)?;
         if faults == 0 {
             return if failed.as_str() == answer {
                 Ok(())
@@ -160,19 +158,15 @@ fn each_pull_failed<'de, T: Deserialize<'de, ReadReader<Given<'de>>> + Serialize
 }
 
 // What the bytes are read as in each way, strictly or not.
-#[inline(never)]
-fn ways<'de, T>(alloc: Global, bytes: &'de [u8], how: How, strict: bool) -> Result<Answer, Fault>
-where
-    T: Deserialize<'de, ReadRefReader<'de>> + Deserialize<'de, ReadReader<Given<'de>>> + Serialize,
-{
-    let slice = from_bytes::<T>(alloc, bytes, how, strict)?;
+fn ways(alloc: Global, bytes: &[u8], how: How, strict: bool) -> Result<Answer, Fault> {
+    let slice = from_bytes(alloc, bytes, how, strict)?;
     let source = Given::Cursor(Cursor::new(bytes));
-    let (reader, _) = from_source::<T>(alloc, source, bytes.len(), how, strict)?;
-    let (drip, faults) = dripped::<T>(alloc, bytes, usize::MAX, how, strict)?;
+    let (reader, _) = from_source(alloc, source, bytes.len(), how, strict)?;
+    let (drip, faults) = dripped(alloc, bytes, usize::MAX, how, strict)?;
     if faults != 0 || drip.as_str() != reader.as_str() {
         return Err(Fault::Reader);
     }
-    each_pull_failed::<T>(alloc, bytes, how, strict, reader.as_str())?;
+    each_pull_failed(alloc, bytes, how, strict, reader.as_str())?;
     Ok(Answer { slice, reader })
 }
 
@@ -187,14 +181,11 @@ fn is_strict(alloc: Global, bytes: &[u8], answer: &str, strict: &str) -> bool {
     }
 }
 
-/// Reads the bytes as a value of this type, and gives the value's own spelling, or the refusal. Each way to read them has the same
+/// Reads the bytes as a value of the type, and gives the value's own spelling, or the refusal. Each way to read them has the same
 /// answer, and each pull that fails is told of.
-pub fn row<'de, T>(alloc: Global, bytes: &'de [u8], how: How) -> Result<Answer, Fault>
-where
-    T: Deserialize<'de, ReadRefReader<'de>> + Deserialize<'de, ReadReader<Given<'de>>> + Serialize,
-{
-    let answer = ways::<T>(alloc, bytes, how, false)?;
-    let strict = ways::<T>(alloc, bytes, how, true)?;
+pub fn row(alloc: Global, bytes: &[u8], how: How) -> Result<Answer, Fault> {
+    let answer = ways(alloc, bytes, how, false)?;
+    let strict = ways(alloc, bytes, how, true)?;
     if !is_strict(alloc, bytes, answer.slice.as_str(), strict.slice.as_str())
         || !is_strict(alloc, bytes, answer.reader.as_str(), strict.reader.as_str())
     {

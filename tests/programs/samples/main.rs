@@ -21,7 +21,7 @@ mod rows;
 mod taker;
 mod types;
 
-use answer::{Answer, How};
+use answer::{Answer, How, row};
 use fault::Fault;
 use row::Rows;
 use std::alloc::Global;
@@ -39,7 +39,10 @@ fn answered(alloc: Global, line: &str, pulls: usize) -> Result<Answer, Fault> {
         Some((kind, depth)) => (kind, depth.parse::<usize>().ok()),
         None => (kind, None),
     };
-    kinds::read(alloc, kind, bytes.as_slice(), How { depth, pulls })
+    let Some(kind) = kinds::place(kind) else {
+        return Err(Fault::NoType);
+    };
+    row(alloc, bytes.as_slice(), How { kind, depth, pulls })
 }
 
 fn main(rt: HostRuntime) -> Result<(), Fault> {
