@@ -135,6 +135,6 @@ module _ {R C V : Type 0} (g : Ghosts R) (human : C → Bool) (lends : Bool) (re
       here (access_at new b rest all) e (record { stays = stays_refl g (record new { failed = true }); err = inl (omega (arith, many, l)) }) refl refl
       (λ m ks v x. each_next here t.trees m ks v x.1)
       (λ v x.
-          let c = count_each here (append t.trees no_items) v x.1 in
-          let k = count_each here t.trees vs each in
-          omega (arith, c, k, read, x.0, l, count-append t.trees no_items))
+      let c = count_each here (append t.trees no_items) v x.1 in
+      let k = count_each here t.trees vs each in
+      omega (arith, c, k, read, x.0, l, count-append t.trees no_items))

@@ -9,7 +9,6 @@ pub mod ByteParts
 pub mod Characters
 pub mod ContentErrors
 pub mod Contents
-pub mod EachRefusings
 pub mod EnumRefusings
 pub mod Exactness
 pub mod FieldAccesses
@@ -42,7 +41,6 @@ pub mod RowEnds
 pub mod RowReads
 pub mod Rows
 pub mod Seqs
-pub mod Sets
 pub mod Settings
 pub mod SkipErrors
 pub mod SkipLoop

@@ -84,8 +84,10 @@ module _ {R C V : Type 0} (g : Ghosts R) (human : C → Bool) (lends : Bool) (re
               (WhereSome (RefusedIn b (P i) (faults_of g d) (faults_of g new))) e
               (f.fails.some, element_of_list f.mid f.still f.values P f.read (λ K. K (left g f.mid) e) f.refused))
           | inr p ↦ inr (behind_values new p.1.still p.1.values p.1.read (λ ms. (0 < count ms) × EachRead reads i ms)
-              (λ r. (let c = count_each (reads (human d.config) lends) p.1.read.trees p.1.values r in let some = p.1.some in omega (arith, c, some),
-              (p.1.values, r))) IsMemory e p.1.memory)
+              (λ r. (
+                let c = count_each (reads (human d.config) lends) p.1.read.trees p.1.values r in let some = p.1.some in omega (arith, c, some),
+                (p.1.values, r),
+              )) IsMemory e p.1.memory)
         ]))
       where
         i : Setting

@@ -153,14 +153,17 @@ module _ {R C V : Type 0} (g : Ghosts R) (human : C → Bool) (lends : Bool) (re
           → StopsRow g human lends reads P grows start b all many (outside start.room (record new { failed = false; kept = Nothing })) OutOfMemory
       row_short grows q P many = record {
         failed = refl;
-        why = inr (q, record {
-          values = vs ++ v ∷ [];
-          still = fewer;
-          read = told g (reads (human start.config) lends) (access_at start b all all)
-              (access_at (outside start.room (record new { failed = false; kept = Nothing })) b fewer all) (vs ++ v ∷ []) row_step.read;
-          some = omega (arith, length-append vs (v ∷ []));
-          memory = refl;
-        });
+        why = inr (
+          q,
+          record {
+            values = vs ++ v ∷ [];
+            still = fewer;
+            read = told g (reads (human start.config) lends) (access_at start b all all)
+                (access_at (outside start.room (record new { failed = false; kept = Nothing })) b fewer all) (vs ++ v ∷ []) row_step.read;
+            some = omega (arith, length-append vs (v ∷ []));
+            memory = refl;
+          },
+        );
       }
 
   -- ---- one was refused

@@ -45,12 +45,13 @@ pub(crate) fn is_small<T: Drop>() -> bool {
 // Reads elements of a list, or numbers of bytes, of which there are so many, from a reader that has taken the head, and answers how many
 // are left. The room is set once for all of them. What each read says of the reader is set again, so that the next one needn't look.
 #[inline(always)]
-pub(crate) fn read_row<'de, R: ReadSlice<'de>, C: SerializerConfig, T: Deserialize<'de, R>, W: Row<T>>(
-    de: &mut Deserializer<R, C>,
-    bytes: bool,
-    count: u32,
-    row: &mut W,
-) -> Result<u32, Error>
+pub(crate) fn read_row<
+    'de,
+    R: ReadSlice<'de>,
+    C: SerializerConfig,
+    T: Deserialize<'de, R>,
+    W: Row<T>,
+>(de: &mut Deserializer<R, C>, bytes: bool, count: u32, row: &mut W) -> Result<u32, Error>
     requires clean { kept_of de.old ≡ Nothing }
     requires empty { W.holds row.old [] }
     ensures ok { IfOk result (ReadsRow R.Source (T.reads (C.human (config_of de.old)) R.lends) W.holds de.old bytes count de.new row.new) }

@@ -28,10 +28,15 @@ returns-then-left-gt0-clause-refused g c = λ d o _.
 
 pub values_of-requires : goal.values_of-requires
 values_of-requires g c =
-    let r = c.in-Ok.ensures.ok in
-    (search rules, (search rules, all_held r.values c.read_row.new.row (array_full g.R.Source _ c.args.de.now c.read_row.new.de c.args.bytes c.args.count
-    c.in-Ok.left r.values r.read g.row.N c.read_row.new.row r.held c.in-Ok.ensures.rest (let f = c.if-count.false in omega (arith, f))
-    (let f = c.if-left-gt0.false in omega (arith, f)))))
+    let r = c.in-Ok.ensures.ok in (
+      search rules,
+      (
+        search rules,
+        all_held r.values c.read_row.new.row (array_full g.R.Source _ c.args.de.now c.read_row.new.de c.args.bytes c.args.count
+            c.in-Ok.left r.values r.read g.row.N c.read_row.new.row r.held c.in-Ok.ensures.rest (let f = c.if-count.false in omega (arith, f))
+            (let f = c.if-left-gt0.false in omega (arith, f))),
+      ),
+    )
 
 pub returns-else-left-gt0-clause-law : goal.returns-else-left-gt0-clause-law
 returns-else-left-gt0-clause-law g c = λ d o.

@@ -9,8 +9,14 @@ room_inside true room inner p q = let e = p refl in omega (arith, e)
 room_inside false room inner p q = q refl
 
 pub loop-left-init : goal.loop-left-init
-loop-left-init g c = ([], row_start g.R.Source _ c.args.de.now c.args.bytes c.args.count c.inner_room-de.result c.requires.clean
-    (room_inside c.args.bytes _ _ c.inner_room-de.ensures.bytes c.inner_room-de.ensures.list), c.requires.empty, omega arith, omega arith)
+loop-left-init g c = (
+  [],
+  row_start g.R.Source _ c.args.de.now c.args.bytes c.args.count c.inner_room-de.result c.requires.clean
+      (room_inside c.args.bytes _ _ c.inner_room-de.ensures.bytes c.inner_room-de.ensures.list),
+  c.requires.empty,
+  omega arith,
+  omega arith,
+)
 
 pub returns-in-Err-clause-err : goal.returns-in-Err-clause-err
 returns-in-Err-clause-err g c =
@@ -57,10 +63,15 @@ pub loop-left-preserved : goal.loop-left-preserved
 loop-left-preserved g c =
     let r = c.loop-left.invariant in
     let t = c.loop-left-test.true in
-    let m = row_many g.R.Source _ c.args.de.now c.loop-left.de c.args.bytes c.args.count c.loop-left.left r.0 r.1 in
-    (_, row_step g.R.Source g.C.SerializerConfig.human g.R.ReadSlice.lends g.T.Deserialize.reads c.args.de.now c.loop-left.de c.offer_part.new.self
-    c.deserialize.new.de c.args.bytes c.args.count c.loop-left.left r.0 r.1 (omega arith) c.in-Ok.ensures.stays c.in-Ok.ensures.ok
-    c.in-Ok-deserialize.item _ (omega arith) c.in-Ok-deserialize.ensures.law, c.put.ensures.held (search rules) r.0 r.2 (omega arith), omega arith, omega arith)
+    let m = row_many g.R.Source _ c.args.de.now c.loop-left.de c.args.bytes c.args.count c.loop-left.left r.0 r.1 in (
+      _,
+      row_step g.R.Source g.C.SerializerConfig.human g.R.ReadSlice.lends g.T.Deserialize.reads c.args.de.now c.loop-left.de c.offer_part.new.self
+          c.deserialize.new.de c.args.bytes c.args.count c.loop-left.left r.0 r.1 (omega arith) c.in-Ok.ensures.stays c.in-Ok.ensures.ok
+          c.in-Ok-deserialize.item _ (omega arith) c.in-Ok-deserialize.ensures.law,
+      c.put.ensures.held (search rules) r.0 r.2 (omega arith),
+      omega arith,
+      omega arith,
+    )
 
 pub returns-clause-ok : goal.returns-clause-ok
 returns-clause-ok g c =
