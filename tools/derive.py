@@ -35,6 +35,8 @@ MORE = "NineParts TenParts ElevenParts TwelveParts ThirteenParts FourteenParts F
 # The lemmas that a struct is no byte.
 NO_BYTE = {"newtype": "Wrapped::wrapped_no_byte", "tuple": "Lists::sequence_no_byte", "named": "Fields::structure_no_byte"}
 TRAITS = {"Serialize", "Deserialize", "RoundTrip", "NeverNil"}
+# Of how many fields a struct has at most whose reading is small enough to stand in its callers.
+FEW = 4
 # Names of the functions' own values.
 TAKEN = "se de e parts variant".split()
 # Where the words of the code come from.
@@ -262,6 +264,11 @@ def writing(of):
     ]
 
 
+def is_small(of):
+    """Whether it is a struct of few fields."""
+    return of.shape is not None and len(of.shape.fields) <= FEW
+
+
 def reading(of):
     """The implementation of `Deserialize`."""
     of = of.lent_for("'de")
@@ -270,6 +277,7 @@ def reading(of):
         f"    ghost reads = {{ λ human lends m v. {member_of_reading(of, Words(of))} }};\n",
         "    ghost absent = { None };\n",
         f"    ghost refuses = {{ {member_of_refusing(of, Words(of))} }};\n",
+        *["#[inline(always)]"] * is_small(of),
         f"fn deserialize<C: SerializerConfig>(de: &mut Deserializer<R, C>) -> Result<{full_name(of)}, rmp_decode::Error> {{",
         *body_of_reading(of),
         "}\n",

@@ -63,6 +63,7 @@ impl<'de, R: ReadSlice<'de>, T: Deserialize<'de, R>> Deserialize<'de, R> for Pai
 
     ghost refuses = { RefusesTuple (part_of T.reads T.refuses ∷ (part_of T.reads T.refuses ∷ [])) };
 
+    #[inline(always)]
     fn deserialize<C: SerializerConfig>(
         de: &mut Deserializer<R, C>,
     ) -> Result<Pair<T>, rmp_decode::Error> {
@@ -258,6 +259,7 @@ impl<'de, R: ReadSlice<'de>, K: Deserialize<'de, R> + Ord> Deserialize<'de, R> f
         ⟦<(BTreeMap<String, Dog>, (BTreeMap<K, u64>, (BTreeSet<i16>, ()))) as ReadFields<'de, R>>⟧.reads
         ⟦<(BTreeMap<String, Dog>, (BTreeMap<K, u64>, (BTreeSet<i16>, ()))) as ReadFields<'de, R>>⟧.parts };
 
+    #[inline(always)]
     fn deserialize<C: SerializerConfig>(
         de: &mut Deserializer<R, C>,
     ) -> Result<Sorted<K>, rmp_decode::Error> {
@@ -371,6 +373,7 @@ impl<'de, R: ReadSlice<'de>> Deserialize<'de, R> for Kennel {
         ⟦<(Vec<Dog>, (Box<Four>, (Pair<Opt>, (Option<Either<bool>>, ())))) as ReadFields<'de, R>>⟧.reads
         ⟦<(Vec<Dog>, (Box<Four>, (Pair<Opt>, (Option<Either<bool>>, ())))) as ReadFields<'de, R>>⟧.parts };
 
+    #[inline(always)]
     fn deserialize<C: SerializerConfig>(
         de: &mut Deserializer<R, C>,
     ) -> Result<Kennel, rmp_decode::Error> {
@@ -525,6 +528,7 @@ impl<'de, R: ReadSlice<'de>> Deserialize<'de, R> for Row {
         ⟦<(VecDeque<(char, i8)>, ([u16; 3], (Kennel, ()))) as ReadFields<'de, R>>⟧.reads
         ⟦<(VecDeque<(char, i8)>, ([u16; 3], (Kennel, ()))) as ReadFields<'de, R>>⟧.parts };
 
+    #[inline(always)]
     fn deserialize<C: SerializerConfig>(
         de: &mut Deserializer<R, C>,
     ) -> Result<Row, rmp_decode::Error> {
@@ -607,6 +611,7 @@ impl<'de, R: ReadSlice<'de>> Deserialize<'de, R> for Chosen {
 
     ghost refuses = { ⟦<Either<u8> as Deserialize<'de, R>>⟧.refuses };
 
+    #[inline(always)]
     fn deserialize<C: SerializerConfig>(
         de: &mut Deserializer<R, C>,
     ) -> Result<Chosen, rmp_decode::Error> {
@@ -699,6 +704,7 @@ impl<'de, R: ReadSlice<'de>> Deserialize<'de, R> for Guests {
     ghost refuses = { RefusesFields (codes "counted" ∷ (codes "mixed" ∷ [])) ⟦<(Counted<Opt>, (Mixed<bool>, ())) as ReadFields<'de, R>>⟧.reads
         ⟦<(Counted<Opt>, (Mixed<bool>, ())) as ReadFields<'de, R>>⟧.parts };
 
+    #[inline(always)]
     fn deserialize<C: SerializerConfig>(
         de: &mut Deserializer<R, C>,
     ) -> Result<Guests, rmp_decode::Error> {

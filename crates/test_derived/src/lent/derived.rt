@@ -101,6 +101,7 @@ impl<'de, R: ReadSlice<'de>> Deserialize<'de, R> for Line<'de> {
         ⟦<(u8, (&'de str, (Vec<&'de str>, (Option<&'de str>, ())))) as ReadFields<'de, R>>⟧.reads
         ⟦<(u8, (&'de str, (Vec<&'de str>, (Option<&'de str>, ())))) as ReadFields<'de, R>>⟧.parts };
 
+    #[inline(always)]
     fn deserialize<C: SerializerConfig>(
         de: &mut Deserializer<R, C>,
     ) -> Result<Line<'de>, rmp_decode::Error> {
@@ -192,6 +193,7 @@ impl<'de, R: ReadSlice<'de>> Deserialize<'de, R> for Label<'de> {
 
     ghost refuses = { ⟦<&'de str as Deserialize<'de, R>>⟧.refuses };
 
+    #[inline(always)]
     fn deserialize<C: SerializerConfig>(
         de: &mut Deserializer<R, C>,
     ) -> Result<Label<'de>, rmp_decode::Error> {
@@ -265,6 +267,7 @@ impl<'de, R: ReadSlice<'de>> Deserialize<'de, R> for Piece<'de> {
     ghost refuses = { RefusesTuple (part_of ⟦<Bytes<'de> as Deserialize<'de, R>>⟧.reads ⟦<Bytes<'de> as Deserialize<'de, R>>⟧.refuses
         ∷ (part_of ⟦<u32 as Deserialize<'de, R>>⟧.reads ⟦<u32 as Deserialize<'de, R>>⟧.refuses ∷ [])) };
 
+    #[inline(always)]
     fn deserialize<C: SerializerConfig>(
         de: &mut Deserializer<R, C>,
     ) -> Result<Piece<'de>, rmp_decode::Error> {

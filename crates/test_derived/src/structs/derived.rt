@@ -58,6 +58,7 @@ impl<'de, R: ReadSlice<'de>> Deserialize<'de, R> for Dog {
     ghost refuses = { RefusesFields (codes "name" ∷ (codes "age" ∷ [])) ⟦<(String, (u16, ())) as ReadFields<'de, R>>⟧.reads
         ⟦<(String, (u16, ())) as ReadFields<'de, R>>⟧.parts };
 
+    #[inline(always)]
     fn deserialize<C: SerializerConfig>(
         de: &mut Deserializer<R, C>,
     ) -> Result<Dog, rmp_decode::Error> {
@@ -122,6 +123,7 @@ impl<'de, R: ReadSlice<'de>> Deserialize<'de, R> for Opt {
 
     ghost refuses = { RefusesFields (codes "v" ∷ []) ⟦<(Option<u8>, ()) as ReadFields<'de, R>>⟧.reads ⟦<(Option<u8>, ()) as ReadFields<'de, R>>⟧.parts };
 
+    #[inline(always)]
     fn deserialize<C: SerializerConfig>(
         de: &mut Deserializer<R, C>,
     ) -> Result<Opt, rmp_decode::Error> {
@@ -188,6 +190,7 @@ impl<'de, R: ReadSlice<'de>> Deserialize<'de, R> for Point {
     ghost refuses = { RefusesTuple (part_of ⟦<u32 as Deserialize<'de, R>>⟧.reads ⟦<u32 as Deserialize<'de, R>>⟧.refuses
         ∷ (part_of ⟦<String as Deserialize<'de, R>>⟧.reads ⟦<String as Deserialize<'de, R>>⟧.refuses ∷ [])) };
 
+    #[inline(always)]
     fn deserialize<C: SerializerConfig>(
         de: &mut Deserializer<R, C>,
     ) -> Result<Point, rmp_decode::Error> {
@@ -245,6 +248,7 @@ impl<'de, R: ReadSlice<'de>> Deserialize<'de, R> for Newtype {
 
     ghost refuses = { ⟦<u64 as Deserialize<'de, R>>⟧.refuses };
 
+    #[inline(always)]
     fn deserialize<C: SerializerConfig>(
         de: &mut Deserializer<R, C>,
     ) -> Result<Newtype, rmp_decode::Error> {
@@ -297,6 +301,7 @@ impl<'de, R: ReadSlice<'de>> Deserialize<'de, R> for Unit {
 
     ghost refuses = { λ s. RefusesExactly s.strict (not_nothing s.room) };
 
+    #[inline(always)]
     fn deserialize<C: SerializerConfig>(
         de: &mut Deserializer<R, C>,
     ) -> Result<Unit, rmp_decode::Error> {
@@ -355,6 +360,7 @@ impl<'de, R: ReadSlice<'de>, T: Deserialize<'de, R>> Deserialize<'de, R> for Cou
     ghost refuses = { RefusesFields (codes "value" ∷ (codes "count" ∷ [])) ⟦<(T, (u64, ())) as ReadFields<'de, R>>⟧.reads
         ⟦<(T, (u64, ())) as ReadFields<'de, R>>⟧.parts };
 
+    #[inline(always)]
     fn deserialize<C: SerializerConfig>(
         de: &mut Deserializer<R, C>,
     ) -> Result<Counted<T>, rmp_decode::Error> {
