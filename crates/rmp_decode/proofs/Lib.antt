@@ -12,6 +12,7 @@ pub mod Contents
 pub mod EachRefusings
 pub mod EnumRefusings
 pub mod Exactness
+pub mod ExtFronts
 pub mod FieldAccesses
 pub mod FieldRefusings
 pub mod FieldRows
