@@ -11,6 +11,7 @@ pub mod ContentErrors
 pub mod Contents
 pub mod EnumRefusings
 pub mod Exactness
+pub mod ExtFronts
 pub mod FieldAccesses
 pub mod FieldRefusings
 pub mod FieldRows

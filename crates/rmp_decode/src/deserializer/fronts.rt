@@ -6,8 +6,10 @@ ghost use Rattle.rmp_decode.specs.Law.{ReadsHead};
 ghost use Rattle.rmp_decode.specs.State.{is_failed, is_strict, kept_of};
 ghost use Rattle.rmp_decode.specs.declared.deserializer.Kept.TheVariants.{Nothing};
 
+mod exts;
 mod kinds;
 
+use crate::deserializer::fronts::exts::ext_at;
 use crate::deserializer::fronts::kinds::{
     bin_at, f32_at, f64_at, head_at, leaf_at, nil_at, signed_at, sixteen_at, truth_at,
 };
@@ -453,6 +455,32 @@ impl<R: Source, C: SerializerConfig> Deserializer<R, C> {
         }
     }
 
+    // Takes the head of an extension of up to 255 bytes where it lies in memory whole and any width may be read, and leaves this failed
+    // until its bytes are read. Else nothing is taken.
+    #[inline(always)]
+    pub(crate) fn ext_front(&mut self) -> Option<(u32, i8)>
+        ensures taken { IfSome result (λ p. TakesFront R.Source (Head.Ext p.0 p.1) self.old self.new) }
+        ensures kept { IfNone result (self.new ≡ self.old) }
+    {
+        if self.strict {
+            return None;
+        }
+        if !self.begins_ahead() {
+            return None;
+        }
+        match ext_at(self.reader.front()) {
+            Some((n, tag, len)) => {
+                if self.reader.skip(len) {
+                    self.failed = true;
+                    Some((n, tag))
+                } else {
+                    None
+                }
+            }
+            None => None,
+        }
+    }
+
     // Takes the head of a list of up to 15 elements where it lies in memory, and leaves this failed until the list is read. Else
     // nothing is taken.
     #[inline(always)]
@@ -542,8 +570,8 @@ impl<R: Source, C: SerializerConfig> Deserializer<R, C> {
         }
     }
 
-    // Takes a head of any kind but an extension where it lies in memory whole, and leaves this failed until the message is
-    // read. Else nothing is taken.
+    // Takes a head of any kind, but of an extension of more than 255 bytes, where it lies in memory whole, and leaves this failed until
+    // the message is read. Else nothing is taken.
     #[inline(always)]
     pub(crate) fn head_front(&mut self) -> Option<Head>
         ensures taken { IfSome result (λ h. TakesFront R.Source h self.old self.new) }
@@ -565,8 +593,8 @@ impl<R: Source, C: SerializerConfig> Deserializer<R, C> {
         }
     }
 
-    // Takes the head of a leaf of any kind but an extension where it lies in memory whole, and leaves this failed until its content is
-    // taken, so many bytes. Else nothing is taken.
+    // Takes the head of a leaf, but of an extension of more than 255 bytes, where it lies in memory whole, and leaves this failed until
+    // its content is taken, so many bytes. Else nothing is taken.
     #[inline(always)]
     pub(crate) fn leaf_front(&mut self) -> Option<u32>
         ensures taken { IfSome result (λ n. TakesLeaf R.Source n self.old self.new) }

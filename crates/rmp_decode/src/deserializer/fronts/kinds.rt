@@ -1,8 +1,9 @@
-//! Heads of any kind but an extension that lie in memory whole.
+//! Heads of any kind that lie in memory whole, but those of extensions of more than 255 bytes.
 ghost use Rattle.std.specs.Prelude.{◌≡◌, ◌<ℤ◌, Bool, true, false, IfSome};
 ghost use Rattle.rmp_decode.specs.Ahead.{LeafStandsIn};
 ghost use Rattle.rmp_decode.specs.Fronts.{StandsIn};
 
+use crate::deserializer::fronts::exts::ext_at;
 use crate::deserializer::fronts::unsigned_at;
 use crate::deserializer::skip::leaf_in;
 use rmp_wire::{Head, Marker, is_canonical};
@@ -225,7 +226,7 @@ pub(super) fn signed_at(front: &[u8]) -> Option<(i64, usize, i64)>
     }
 }
 
-// A head of any width, of any kind but an extension, and the count of its bytes.
+// A head of any width and any kind, but of an extension of more than 255 bytes, and the count of its bytes.
 #[inline(always)]
 fn any_at(front: &[u8]) -> Option<(Head, usize)>
     ensures { IfSome result (λ p. StandsIn false p.1 p.0 front.now) }
@@ -240,6 +241,10 @@ fn any_at(front: &[u8]) -> Option<(Head, usize)>
             },
             0xcb => match f64_at(front) {
                 Some(bits) => Some((Head::F64Bits(bits), 9)),
+                None => None,
+            },
+            0xc7 | 0xd4..=0xd8 => match ext_at(front) {
+                Some((n, tag, len)) => Some((Head::Ext(n, tag), len)),
                 None => None,
             },
             0xd9..=0xdb => long_text_at(front),
@@ -257,8 +262,7 @@ fn any_at(front: &[u8]) -> Option<(Head, usize)>
     }
 }
 
-// A canonical head of any kind but an extension, and the count of its bytes, by a call: so the reads of any width keep nothing of
-// a head for the test.
+// A canonical one, and the count of its bytes, by a call: so the reads of any width keep nothing of a head for the test.
 #[inline(never)]
 fn canonical_at(front: &[u8]) -> Option<(Head, usize)>
     ensures { IfSome result (λ p. StandsIn true p.1 p.0 front.now) }
@@ -275,7 +279,7 @@ fn canonical_at(front: &[u8]) -> Option<(Head, usize)>
     }
 }
 
-// A head that may be read, of any kind but an extension, and the count of its bytes.
+// One that may be read, and the count of its bytes.
 #[inline(always)]
 pub(super) fn head_at(front: &[u8], strict: bool) -> Option<(Head, usize)>
     ensures { IfSome result (λ p. StandsIn strict p.1 p.0 front.now) }
@@ -338,7 +342,8 @@ pub(super) fn bin_at(front: &[u8], strict: bool) -> Option<(u32, usize)>
     }
 }
 
-// A head of a leaf that may be read, of any kind but an extension: how many bytes of content follow, and the count of its own.
+// A head of a leaf that may be read, but of an extension of more than 255 bytes: how many bytes of content follow, and the count of
+// its own.
 #[inline(always)]
 pub(super) fn leaf_at(front: &[u8], strict: bool) -> Option<(u32, usize)>
     ensures { IfSome result (λ p. LeafStandsIn strict p.1 p.0 front.now) }

@@ -6,7 +6,7 @@ use Rattle.rmp_decode.specs.Content.{IsExtHead, not_ext, never_refused}
 use Rattle.rmp_decode.proofs.Contents.{ext_content, content_read, content_short}
 use Rattle.rmp_decode.proofs.ContentErrors.{content_error, content_other, content_none, piece_ended, no_ext_head}
 use Rattle.rmp_decode.proofs.Laws.{refused_none, refused_head}
-use Rattle.rmp_decode.proofs.deserializer.Deserializer.deserialize_ext.Goals as goal
+use Rattle.rmp_decode.proofs.deserializer.Deserializer.headed_ext.Goals as goal
 
 pub returns-in-Ok-owned-clause-law : goal.returns-in-Ok-owned-clause-law
 returns-in-Ok-owned-clause-law g c =
