@@ -124,7 +124,8 @@ module _ {R C V : Type 0} (g : Ghosts R) (human : C → Bool) (lends : Bool) (re
   pub array_over : n ≤ all → 0 < rest → (e : Error)
       → Lawful g (λ m v. OfRow (Exactly n (reads (human d.config) lends) v) m) d (record new { failed = true }) (Err e)
   unfolding here
-  array_over l z e = seq_over g (Exactly n here) d (access_at start b all all) (access_at new b rest all) t.trees o t.run (record new { failed = true }) e z refl n
+  array_over l z e = seq_over g (Exactly n here) d (access_at start b all all) (access_at new b rest all) t.trees o t.run (record new { failed = true }) e z
+      refl n
       (λ w ks x. count_each here ks w x.1 ∙ x.0) vs (omega (arith, read, many, l), each)
 
   -- there are fewer

@@ -14,7 +14,8 @@ use Rattle.rmp_decode.specs.declared.error.Error.TheVariants.{Syntax}
 use Rattle.rmp_decode.specs.declared.text.Text.TheVariants.{InvalidType}
 use Rattle.rmp_decode.proofs.Settings.{setting_same}
 
-module _ {R C : Type 0} (g : Ghosts R) (human : C → Bool) (lends : Bool) (names : List (List ℕ)) (cs : List Choice) (old new last : Deserializer R C) (e : Error)
+module _ {R C : Type 0} (g : Ghosts R) (human : C → Bool) (lends : Bool) (names : List (List ℕ)) (cs : List Choice) (old new last : Deserializer R C)
+    (e : Error)
     (same : last ≡ new) where
   -- how a reader refuses an enum that was in one state and is in another then
   abbrev Refused : Deserializer R C → Type 0

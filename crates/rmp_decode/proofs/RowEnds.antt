@@ -52,7 +52,8 @@ module _ {R C V : Type 0} (g : Ghosts R) (human : C → Bool) (lends : Bool) (re
   -- the next element was refused, as it is told of the whole list
   pub element_of_list : (mid : Deserializer R C) (still : ℕ) (vs : List V) (P : Setting → Refusals)
       → (t : TakesValues g (reads (human start.config) lends) (access_at start b all all) (access_at mid b still all) vs)
-      → (F : (Option (List ℕ) → Error → Type 0) → Type 0) → F (ElementRefused g (human mid.config) lends P (access_at mid b still all) (access_at new b still all))
+      → (F : (Option (List ℕ) → Error → Type 0) → Type 0)
+      → F (ElementRefused g (human mid.config) lends P (access_at mid b still all) (access_at new b still all))
       → F (RefusedIn b (P (inside (setting_of (human d.config) lends d) (inner_of (access_at start b all all)))) (faults_of g d) (faults_of g new))
   element_of_list mid still vs P t F w =
       let h = element_behind g human lends (access_at start b all all) (access_at mid b still all) t.trees t.run F P (access_at new b still all) w in

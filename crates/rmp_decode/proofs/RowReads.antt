@@ -173,7 +173,8 @@ module _ {R C V : Type 0} (g : Ghosts R) (human : C → Bool) (lends : Bool) (re
         → ElementRefused g (human now.config) lends P (access_at (outside start.room now) b still all) (access_at (outside start.room new) b still all)
         (left g now) e
         → StopsRow g human lends reads P grows start b all many last e
-    stopped last d q f w = subst (λ z. StopsRow g human lends reads P grows start b all many z e) (sym (q ∙ ap (λ z. record new { room = start.room; failed = z }) d))
+    stopped last d q f w = subst (λ z. StopsRow g human lends reads P grows start b all many z e)
+        (sym (q ∙ ap (λ z. record new { room = start.room; failed = z }) d))
         (record {
           failed = refl;
           why = inl (record {

@@ -36,7 +36,8 @@ told_begins g reads source v t = begun (g.ahead source) (g.ahead t.last) t.takes
     begun (Some xs) None c = absurd c
     begun (Some xs) (Some ys) c = record { bytes = t.bytes; rest = ys; tree = t.tree; front = c; spelled = t.spelled; fits = t.fits; holds = t.value }
 
-module _ {R C V : Type 0} (g : Ghosts R) (reads : Msg → V → Type 0) (old new : Deserializer (ReadReader R) C) (source : R) (kept : old.kept ≡ Nothing) (same : source_of old ≡ source)
+module _ {R C V : Type 0} (g : Ghosts R) (reads : Msg → V
+    → Type 0) (old new : Deserializer (ReadReader R) C) (source : R) (kept : old.kept ≡ Nothing) (same : source_of old ≡ source)
     (room : room_of old ≡ 1024) (lenient : old.strict ≡ false) where
   was_ahead : left (under g) old ≡ g.ahead source
   was_ahead = nothing_kept old.kept (g.ahead (source_of old)) kept ∙ ap g.ahead same
@@ -60,12 +61,14 @@ module _ {R C V : Type 0} (g : Ghosts R) (reads : Msg → V → Type 0) (old new
   refused_from_source refuses (Ok v) ready l p = tt
   refused_from_source refuses (Err e) ready l p =
       let after = g.faults (source_of new) in
-      let e1 = subst (λ z. Explains e (g.faults z) after (Refuses (SpellsAs old.strict) (Readable reads) (room_of old) (left (under g) old))) same (l.err ready) in
+      let e1 = subst (λ z. Explains e (g.faults z) after (Refuses (SpellsAs old.strict) (Readable reads) (room_of old) (left (under g) old))) same
+      (l.err ready) in
       let e2 = subst (λ z. Explains e (g.faults source) after (Refuses (SpellsAs old.strict) (Readable reads) (room_of old) z)) was_ahead e1 in
       let e3 = subst (λ z. Explains e (g.faults source) after (Refuses (SpellsAs old.strict) (Readable reads) z (g.ahead source))) room e2 in
       let p1 = subst (λ z. refuses (setting_of false false old) (g.faults z) after (left (under g) old) e) same (p ready) in
       let p2 = subst (λ z. refuses (setting_of false false old) (g.faults source) after z e) was_ahead p1 in
-      let p3 = subst (λ z. refuses (record { human = false; lends = false; strict = old.strict; room = z }) (g.faults source) after (g.ahead source) e) room p2 in
+      let p3 = subst (λ z. refuses (record { human = false; lends = false; strict = old.strict; room = z }) (g.faults source) after (g.ahead source) e) room
+      p2 in
       record {
         last = source_of new;
         place = l.stays.place ∙ ap g.place same;

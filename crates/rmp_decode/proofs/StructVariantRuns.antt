@@ -87,7 +87,8 @@ module _ {R C : Type 0} (i : ℕ) where
     passes_as names zero old new p = ap map_as p
     passes_as names (suc n) old new p = (map_as p.0, passes_as names n old p.0 p.1, passes_pair_as p.2)
 
-    name_as : {names : List (List ℕ)} {place : ℕ} {old new : MapAccess R C} → TakesName g names place old new → TakesName g names place (map_as old) (map_as new)
+    name_as : {names : List (List ℕ)} {place : ℕ} {old new : MapAccess R C} → TakesName g names place old new
+        → TakesName g names place (map_as old) (map_as new)
     name_as {names} {place} {old} {new} t = record {
       many = t.many;
       mid = map_as t.mid;

@@ -46,7 +46,8 @@ pub record StopsAtElement {R C V : Type 0} (g : Ghosts R) (human : C → Bool) (
   pub refused : ElementRefused g (human mid.config) lends P (access_at mid b still all) (access_at new b still all) (left g mid) e
 
 -- memory was short for the last of those that were read
-pub record StopsFull {R C V : Type 0} (g : Ghosts R) (reads : Msg → V → Type 0) (start : Deserializer R C) (b : Bool) (all : ℕ) (new : Deserializer R C) (e : Error)
+pub record StopsFull {R C V : Type 0} (g : Ghosts R) (reads : Msg → V
+    → Type 0) (start : Deserializer R C) (b : Bool) (all : ℕ) (new : Deserializer R C) (e : Error)
     : Type 0 where
   pub values : List V
   pub still : ℕ

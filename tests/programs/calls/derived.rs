@@ -1,5 +1,7 @@
 //! What the derived types are written as and read from.
-use rmp_decode::{Deserialize, Deserializer, Error, Text, from_read, from_slice, from_slice_strict};
+use rmp_decode::{
+    Deserialize, Deserializer, Error, Text, from_read, from_slice, from_slice_strict,
+};
 use rmp_encode::{Serialize, Serializer, to_vec, to_vec_named, write_named};
 use rmp_wire::{Bytes, Marker};
 use std::alloc::Global;
@@ -285,7 +287,10 @@ fn a_source_lends_no_text(rt: HostRuntime) {
 fn lent_bytes_come_back(rt: HostRuntime) -> Result<(), Fail> {
     let piece = Piece(Bytes::new(&[1, 2, 3]), 7);
     let message = to_vec(rt.alloc(), &piece)?;
-    assert_eq!(rt; message.as_slice(), b"\x92\xc4\x03\x01\x02\x03\x07".as_slice());
+    assert_eq!(rt;
+        message.as_slice(),
+        b"\x92\xc4\x03\x01\x02\x03\x07".as_slice()
+    );
     let read: Result<Piece<'_>, Error> = from_slice(rt.alloc(), message.as_slice());
     assert!(rt; matches!(&read, Ok(Piece(bytes, 7)) if bytes.as_bytes() == [1, 2, 3].as_slice()));
     Ok(())
@@ -296,9 +301,15 @@ fn variants_that_borrow_come_back(rt: HostRuntime) -> Result<(), Fail> {
     let events: [(Event<'_, u16>, &[u8]); 5] = [
         (Event::Started, b"\xa7Started"),
         (Event::Said("hi"), b"\x81\xa4Said\xa2hi"),
-        (Event::Moved(-2, Label("up")), b"\x81\xa5Moved\x92\xfe\xa2up"),
         (
-            Event::Put { key: "k", size: 300 },
+            Event::Moved(-2, Label("up")),
+            b"\x81\xa5Moved\x92\xfe\xa2up",
+        ),
+        (
+            Event::Put {
+                key: "k",
+                size: 300,
+            },
             b"\x81\xa3Put\x92\xa1k\xcd\x01\x2c",
         ),
         (Event::Held(9), b"\x81\xa4Held\x09"),

@@ -319,7 +319,8 @@ impl<R: Source, C: SerializerConfig> Deserializer<R, C> {
         ensures sound { OnOk result (faults_of R.Source self.new ≡ faults_of R.Source self.old) }
         ensures stays { Stays R.Source self.old self.new }
         ensures failed { is_failed self.new ≡ is_failed self.old }
-        ensures err { IfErr result (λ f. Explains (Error.InvalidDataRead f) (faults_of R.Source self.old) (faults_of R.Source self.new) (IsAtEnd (R.ahead self.old.reader))) }
+        ensures err { IfErr result (λ f. Explains (Error.InvalidDataRead f) (faults_of R.Source self.old) (faults_of R.Source self.new)
+            (IsAtEnd (R.ahead self.old.reader))) }
         ensures end { IfErr result (λ f. faults_of R.Source self.new ≡ faults_of R.Source self.old → IsDataEnd (Error.InvalidDataRead f)) }
     {
         match self.reader.take_1() {
@@ -340,7 +341,8 @@ impl<R: Source, C: SerializerConfig> Deserializer<R, C> {
         ensures sound { OnOk result (faults_of R.Source self.new ≡ faults_of R.Source self.old) }
         ensures stays { Stays R.Source self.old self.new }
         ensures failed { is_failed self.new ≡ is_failed self.old }
-        ensures err { IfErr result (λ f. Explains (Error.InvalidDataRead f) (faults_of R.Source self.old) (faults_of R.Source self.new) (IsAtEnd (R.ahead self.old.reader))) }
+        ensures err { IfErr result (λ f. Explains (Error.InvalidDataRead f) (faults_of R.Source self.old) (faults_of R.Source self.new)
+            (IsAtEnd (R.ahead self.old.reader))) }
         ensures end { IfErr result (λ f. faults_of R.Source self.new ≡ faults_of R.Source self.old → IsDataEnd (Error.InvalidDataRead f)) }
     {
         if !bytes {

@@ -3,7 +3,8 @@ use Rattle.rmp_decode.proofs.NamesAhead.{below_named, below_unnamed, place_withi
 use Rattle.rmp_decode.proofs.access.names.place_or_count.Goals as goal
 
 pub returns-in-Some-clause-place : goal.returns-in-Some-clause-place
-returns-in-Some-clause-place c = below_named (length c.args.names.now) c.in-Some.place (place_within c.args.names.now c.args.key.now c.in-Some.place c.in-Some.ensures)
+returns-in-Some-clause-place c = below_named (length c.args.names.now) c.in-Some.place
+    (place_within c.args.names.now c.args.key.now c.in-Some.place c.in-Some.ensures)
     ∙ c.in-Some.ensures
 
 pub returns-in-None-clause-place : goal.returns-in-None-clause-place

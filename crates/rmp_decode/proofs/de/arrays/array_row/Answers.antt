@@ -9,7 +9,8 @@ pub returns-then-count-clause-law : goal.returns-then-count-clause-law
 returns-then-count-clause-law g c = λ d o.
     let r = c.in-Ok.ensures.ok in
     rw c.refuse.ensures.failed (array_missing g.R.Source g.C.SerializerConfig.human g.R.ReadSlice.lends g.T.Deserialize.reads
-    c.args.de.now c.read_row.new.de d c.args.bytes c.args.count c.in-Ok.left o r.values r.read g.row.N c.read_row.new.row r.held c.in-Ok.ensures.rest c.if-count.true
+    c.args.de.now c.read_row.new.de d c.args.bytes c.args.count c.in-Ok.left o r.values r.read g.row.N c.read_row.new.row r.held c.in-Ok.ensures.rest
+    c.if-count.true
     c.refuse.result)
 
 pub returns-then-left-gt0-clause-law : goal.returns-then-left-gt0-clause-law
@@ -48,7 +49,9 @@ returns-else-left-gt0-clause-law g c = λ d o.
 pub returns-in-Err-clause-law : goal.returns-in-Err-clause-law
 returns-in-Err-clause-law g c = λ d o.
     row_unread g.R.Source g.C.SerializerConfig.human g.R.ReadSlice.lends g.T.Deserialize.reads c.args.de.now c.read_row.new.de d c.args.bytes c.args.count o
-    g.T.Deserialize.refuses _ _ c.in-Err.e c.in-Err.ensures.err (λ (v : List g.row.T.Denot) ms. Exactly g.row.N (g.T.Deserialize.reads (g.C.SerializerConfig.human d.config) g.R.ReadSlice.lends) v ms) (λ v ms h. (v, h.1))
+    g.T.Deserialize.refuses _ _ c.in-Err.e c.in-Err.ensures.err
+    (λ (v : List g.row.T.Denot) ms. Exactly g.row.N (g.T.Deserialize.reads (g.C.SerializerConfig.human d.config) g.R.ReadSlice.lends) v ms)
+    (λ v ms h. (v, h.1))
 
 pub returns-in-Err-clause-refused : goal.returns-in-Err-clause-refused
 returns-in-Err-clause-refused g c = λ d o _.

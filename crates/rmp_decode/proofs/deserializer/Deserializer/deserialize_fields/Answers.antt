@@ -22,7 +22,8 @@ pub returns-then-row_front-clause-refused : goal.returns-then-row_front-clause-r
 returns-then-row_front-clause-refused g c = λ _.
     let front = subst (λ z. TakesFront g.R.Source (Array z) c.args.self.now c.row_front.new.self) c.requires.count
     (c.row_front.ensures.taken (search rules)) in
-    if_err c.row_ahead.result (λ e w. row_refused g.R.Source g.C.SerializerConfig.human g.R.ReadSlice.lends g.F.Fields.reads g.F.Fields.parts c.args.self.now c.row_front.new.self
+    if_err c.row_ahead.result (λ e w. row_refused g.R.Source g.C.SerializerConfig.human g.R.ReadSlice.lends g.F.Fields.reads g.F.Fields.parts
+    c.args.self.now c.row_front.new.self
     c.row_ahead.new.self g.F.Fields.count (c.row_front.ensures.deep (search rules)) front e w (bytes_of c.args.names.now)) c.row_ahead.ensures.refused
 
 pub returns-else-row_front-clause-law : goal.returns-else-row_front-clause-law

@@ -14,7 +14,8 @@ returns-in-Ok-clause-law g c =
     let t = c.sixteen_front.ensures.taken (search rules) in
     let s = c.in-Ok.ensures.ok in
     rw (to_z-of_z w128 c.cast_signed.result (search rules))
-    (content_read bin_content g.R.Source _ c.args.self.now c.sixteen_front.new.self _ (t.marker, Bin 16) t.begun s.bytes 16 _ refl s.long s.small s.takes refl refl
+    (content_read bin_content g.R.Source _ c.args.self.now c.sixteen_front.new.self _ (t.marker, Bin 16) t.begun s.bytes 16 _ refl s.long s.small s.takes
+    refl refl
     c.in-Ok.ensures.sound (record { config = refl; room = refl; limit = refl; strict = refl; place = c.in-Ok.ensures.place })
     (inr (c.in-Ok.n, taken_sixteen s, c.cast_signed.ensures)))
 

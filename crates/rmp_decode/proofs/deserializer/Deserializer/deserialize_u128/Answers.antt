@@ -11,7 +11,8 @@ pub returns-in-Ok-clause-law : goal.returns-in-Ok-clause-law
 returns-in-Ok-clause-law g c =
     let t = c.sixteen_front.ensures.taken (search rules) in
     let s = c.in-Ok.ensures.ok in
-    (content_read bin_content g.R.Source _ c.args.self.now c.sixteen_front.new.self _ (t.marker, Bin 16) t.begun s.bytes 16 _ refl s.long s.small s.takes refl refl
+    (content_read bin_content g.R.Source _ c.args.self.now c.sixteen_front.new.self _ (t.marker, Bin 16) t.begun s.bytes 16 _ refl s.long s.small s.takes
+    refl refl
     c.in-Ok.ensures.sound (record { config = refl; room = refl; limit = refl; strict = refl; place = c.in-Ok.ensures.place })
     (inr (taken_sixteen s)))
 

@@ -28,7 +28,8 @@ returns-clause-law g c = λ old m h.
 
 pub returns-in-Err-from_slice-clause-exact : goal.returns-in-Err-from_slice-clause-exact
 returns-in-Err-from_slice-clause-exact g c = λ old m h.
-    content_error g.R.Source IsExtHead not_ext never_refused old c.args.self.now _ (m, Ext c.args.len c.args.tag) (Ext c.args.len c.args.tag) c.args.len _ h refl refl tt
+    content_error g.R.Source IsExtHead not_ext never_refused old c.args.self.now _ (m, Ext c.args.len c.args.tag) (Ext c.args.len c.args.tag) c.args.len _ h
+    refl refl tt
     (λ n k. absurd (n refl))
 
 pub returns-in-Err-clause-law : goal.returns-in-Err-clause-law
@@ -40,6 +41,7 @@ returns-in-Err-clause-law g c = λ old m h.
 
 pub returns-in-Err-clause-exact : goal.returns-in-Err-clause-exact
 returns-in-Err-clause-exact g c = λ old m h.
-    content_error g.R.Source IsExtHead not_ext never_refused old c.args.self.now _ (m, Ext c.args.len c.args.tag) (Ext c.args.len c.args.tag) c.args.len _ h refl refl tt
+    content_error g.R.Source IsExtHead not_ext never_refused old c.args.self.now _ (m, Ext c.args.len c.args.tag) (Ext c.args.len c.args.tag) c.args.len _ h
+    refl refl tt
     (piece_blamed c.args.len (never_refused (Ext c.args.len c.args.tag)) c.in-Err.e _ _ (g.R.Source.ahead c.args.self.now.reader) _
     (rw c.in-Err.is at c.read_slice.follows.holds-at-none).0 c.error_of.ensures)

@@ -17,7 +17,8 @@ returns-in-Some-name_ahead-clause-ok g c =
     let t = part_placed g.R.Source c.args.names.now (max 1 (c.pair_front.new.self.room - 1)) c.pair_front.new.self c.name_ahead.new.self
     c.in-Some-name_ahead.place (c.in-Some-name_ahead.ensures.named refl) (c.in-Some-name_ahead.ensures.taken _ (omega arith)) in
     subst
-    (λ (z : Deserializer g.row.R.Denot g.row.C.Denot). TakesKeyOf g.R.Source (bytes_of c.args.names.now) c.in-Some-name_ahead.place z c.name_ahead.new.self (z.room - 1)) kept
+    (λ (z : Deserializer g.row.R.Denot g.row.C.Denot). TakesKeyOf g.R.Source (bytes_of c.args.names.now) c.in-Some-name_ahead.place z c.name_ahead.new.self
+    (z.room - 1)) kept
     (pair_named g.R.Source (bytes_of c.args.names.now) c.bare_ahead.new.self c.pair_front.new.self c.name_ahead.new.self f d c.in-Some-name_ahead.place t)
 
 pub returns-in-None-name_ahead-clause-ok : goal.returns-in-None-name_ahead-clause-ok

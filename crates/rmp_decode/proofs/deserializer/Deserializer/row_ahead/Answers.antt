@@ -29,6 +29,7 @@ returns-in-Some-refusal-clause-err g c =
     record {
       last = c.row.new.de;
       row = subst (λ z. FailsRow g.R.Source (λ ms. (v : g.row.F.Denot) × g.F.Fields.reads (g.C.SerializerConfig.human c.args.self.now.config)
-          g.R.ReadSlice.lends (given_all ms) v) g.F.Fields.count (record c.args.self.now { room = z; failed = false }) c.row.new.de c.in-Some-refusal.e) fewer f;
+          g.R.ReadSlice.lends (given_all ms) v) g.F.Fields.count (record c.args.self.now { room = z; failed = false }) c.row.new.de c.in-Some-refusal.e)
+          fewer f;
       is = refl;
     }

@@ -34,17 +34,20 @@ returns-in-None-clause-law g c = wants_none g.R.Source g.P.ReadContent.lends c.a
 
 pub returns-then-room-le1-clause-law : goal.returns-then-room-le1-clause-law
 returns-then-room-le1-clause-law g c = deep_refused g.R.Source g.P.ReadContent.lends c.args.count c.args.de.now c.parts.de c.parts.room c.parts.wanted
-    c.parts.outer.items c.parts.invariant _ c.any_head.new.self c.in-None-leaf_front.ensures.kept (omega (arith, c.if-wanted-eq0.false)) _ c.in-Ok-any_head.ensures.ok.begun
+    c.parts.outer.items c.parts.invariant _ c.any_head.new.self c.in-None-leaf_front.ensures.kept (omega (arith, c.if-wanted-eq0.false)) _
+    c.in-Ok-any_head.ensures.ok.begun
     c.in-Some-parts_in.is_map c.in-Some-parts_in.n _ c.in-Some-parts_in.ensures c.if-room-le1.true
 
 pub returns-then-room-le1-clause-exact : goal.returns-then-room-le1-clause-exact
 returns-then-room-le1-clause-exact g c = λ _. deep_wrong g.R.Source g.P.ReadContent.lends c.args.count c.args.de.now c.parts.de c.parts.room c.parts.wanted
-    c.parts.outer.items c.parts.invariant _ c.any_head.new.self c.in-None-leaf_front.ensures.kept (omega (arith, c.if-wanted-eq0.false)) _ c.in-Ok-any_head.ensures.ok.begun
+    c.parts.outer.items c.parts.invariant _ c.any_head.new.self c.in-None-leaf_front.ensures.kept (omega (arith, c.if-wanted-eq0.false)) _
+    c.in-Ok-any_head.ensures.ok.begun
     c.in-Some-parts_in.is_map c.in-Some-parts_in.n c.in-Some-parts_in.ensures c.if-room-le1.true
 
 pub returns-in-Err-push-clause-exact : goal.returns-in-Err-push-clause-exact
 returns-in-Err-push-clause-exact g c = λ _. memory_wrong g.R.Source g.P.ReadContent.lends c.args.count c.args.de.now c.parts.de c.parts.room c.parts.wanted
-    c.parts.outer.items c.parts.invariant _ c.any_head.new.self c.in-None-leaf_front.ensures.kept (omega (arith, c.if-wanted-eq0.false)) _ c.in-Ok-any_head.ensures.ok.begun
+    c.parts.outer.items c.parts.invariant _ c.any_head.new.self c.in-None-leaf_front.ensures.kept (omega (arith, c.if-wanted-eq0.false)) _
+    c.in-Ok-any_head.ensures.ok.begun
     c.in-Some-parts_in.is_map c.in-Some-parts_in.n c.in-Some-parts_in.ensures (omega (arith, c.if-inner-gt0.true, c.messages-inner.ensures.same))
 
 pub parts-smaller-then-inner-gt0 : goal.parts-smaller-then-inner-gt0
@@ -53,7 +56,8 @@ parts-smaller-then-inner-gt0 g c = falls_in c.parts.room c.parts.wanted _ _ _ c.
 
 pub parts-preserved-then-inner-gt0 : goal.parts-preserved-then-inner-gt0
 parts-preserved-then-inner-gt0 g c = wants_in g.R.Source g.P.ReadContent.lends c.args.count c.args.de.now c.parts.de c.parts.room c.parts.wanted
-    c.parts.outer.items c.parts.invariant _ c.any_head.new.self c.in-None-leaf_front.ensures.kept (omega (arith, c.if-wanted-eq0.false)) _ c.in-Ok-any_head.ensures.ok.begun
+    c.parts.outer.items c.parts.invariant _ c.any_head.new.self c.in-None-leaf_front.ensures.kept (omega (arith, c.if-wanted-eq0.false)) _
+    c.in-Ok-any_head.ensures.ok.begun
     c.in-Some-parts_in.is_map c.in-Some-parts_in.n _ _ _ _ refl refl c.in-Some-parts_in.ensures c.messages-inner.ensures.same c.in-Ok-push.ensures.items
     (omega (arith, c.if-room-le1.false))
 
@@ -62,7 +66,8 @@ parts-smaller-else-inner-gt0 g c = falls_leaf c.parts.room c.parts.wanted _ c.pa
 
 pub parts-preserved-else-inner-gt0 : goal.parts-preserved-else-inner-gt0
 parts-preserved-else-inner-gt0 g c = wants_empty g.R.Source g.P.ReadContent.lends c.args.count c.args.de.now c.parts.de c.parts.room c.parts.wanted
-    c.parts.outer.items c.parts.invariant _ c.any_head.new.self c.in-None-leaf_front.ensures.kept (omega (arith, c.if-wanted-eq0.false)) _ c.in-Ok-any_head.ensures.ok.begun
+    c.parts.outer.items c.parts.invariant _ c.any_head.new.self c.in-None-leaf_front.ensures.kept (omega (arith, c.if-wanted-eq0.false)) _
+    c.in-Ok-any_head.ensures.ok.begun
     c.in-Some-parts_in.is_map c.in-Some-parts_in.n _ refl c.in-Some-parts_in.ensures (omega (arith, c.if-inner-gt0.false, c.messages-inner.ensures.same))
     (omega (arith, c.if-room-le1.false))
 
@@ -73,7 +78,8 @@ pub parts-preserved : goal.parts-preserved
 parts-preserved g c =
     let o = c.in-Ok-pass.ensures in
     wants_leaf g.R.Source g.P.ReadContent.lends c.args.count c.args.de.now c.parts.de c.parts.room c.parts.wanted c.parts.outer.items c.parts.invariant _
-    c.any_head.new.self c.in-None-leaf_front.ensures.kept (omega (arith, c.if-wanted-eq0.false)) _ c.in-Ok-any_head.ensures.ok.begun _ _ refl c.in-None-parts_in.ensures
+    c.any_head.new.self c.in-None-leaf_front.ensures.kept (omega (arith, c.if-wanted-eq0.false)) _ c.in-Ok-any_head.ensures.ok.begun _ _ refl
+    c.in-None-parts_in.ensures
     (subst (λ z. Passes z (g.R.Source.ahead c.any_head.new.self.reader) (g.R.Source.ahead c.pass.new.reader)) c.content_in.ensures o.ok) refl refl
     o.sound (record { config = refl; room = refl; limit = refl; strict = refl; place = o.place })
 
@@ -95,11 +101,13 @@ returns-in-Err-pass-clause-exact g c = λ _.
 
 pub returns-in-Err-any_head-clause-law : goal.returns-in-Err-any_head-clause-law
 returns-in-Err-any_head-clause-law g c = none_refused g.R.Source g.P.ReadContent.lends c.args.count c.args.de.now c.parts.de c.parts.room c.parts.wanted
-    c.parts.outer.items c.parts.invariant _ c.any_head.new.self _ c.in-None-leaf_front.ensures.kept (omega (arith, c.if-wanted-eq0.false)) c.in-Err-any_head.ensures.err
+    c.parts.outer.items c.parts.invariant _ c.any_head.new.self _ c.in-None-leaf_front.ensures.kept (omega (arith, c.if-wanted-eq0.false))
+    c.in-Err-any_head.ensures.err
 
 pub returns-in-Err-any_head-clause-exact : goal.returns-in-Err-any_head-clause-exact
 returns-in-Err-any_head-clause-exact g c = λ _. none_wrong g.R.Source g.P.ReadContent.lends c.args.count c.args.de.now c.parts.de c.parts.room c.parts.wanted
-    c.parts.outer.items c.parts.invariant _ c.any_head.new.self _ c.in-None-leaf_front.ensures.kept (omega (arith, c.if-wanted-eq0.false)) c.in-Err-any_head.ensures.err
+    c.parts.outer.items c.parts.invariant _ c.any_head.new.self _ c.in-None-leaf_front.ensures.kept (omega (arith, c.if-wanted-eq0.false))
+    c.in-Err-any_head.ensures.err
 
 -- ---- a leaf whose head lies ahead
 

@@ -14,7 +14,8 @@ returns-then-place-gt0-clause-ok g c =
 pub returns-then-place-gt0-clause-err : goal.returns-then-place-gt0-clause-err
 returns-then-place-gt0-clause-err g c =
     let z : c.args.place ≡ suc (c.args.place - 1) = omega (arith, c.if-place-gt0.true) in
-    λ f. if_some c.fill.new.refusal (later_refused g.R.Source (g.A.Deserialize.reads (g.C.SerializerConfig.human c.args.map.now.de.now.config) g.R.ReadSlice.lends)
+    λ f. if_some c.fill.new.refusal (later_refused g.R.Source
+    (g.A.Deserialize.reads (g.C.SerializerConfig.human c.args.map.now.de.now.config) g.R.ReadSlice.lends)
     (g.B.Fields.holds (g.C.SerializerConfig.human c.args.map.now.de.now.config) g.R.ReadSlice.lends) c.args.map.now c.fill.new.map c.args.place
     (c.args.place - 1) z (g.B.Fields.takes (g.C.SerializerConfig.human c.args.map.now.de.now.config) g.R.ReadSlice.lends) c.args.slots.now.0
     c.args.slots.now.1) (c.fill.ensures.err f)
