@@ -33,6 +33,8 @@ enum Part {
     Text(String),
     Bytes(Vec<u8>),
     Wide(u128),
+    /// An extension of four bytes, of this type.
+    Ext(i8, [u8; 4]),
     List(Vec<Part>),
     Map(Vec<(Part, Part)>),
 }
@@ -106,6 +108,10 @@ fn spell(out: &mut Vec<u8>, part: &Part) {
         Part::Wide(n) => {
             out.extend([0xc4, 16]);
             out.extend(n.to_be_bytes());
+        }
+        Part::Ext(tag, bytes) => {
+            out.extend([0xd6, tag.cast_unsigned()]);
+            out.extend(bytes);
         }
         Part::List(items) => {
             head(
@@ -289,6 +295,12 @@ impl Made {
         self.loads.push(load);
     }
 
+    /// Reads one message by a call, which counts as one element.
+    fn single(&mut self, name: &str, call: &str, data: Vec<u8>) {
+        let load = call_over(name.into(), call.into(), 1, data, Answer::Sum(1));
+        self.loads.push(load);
+    }
+
     /// Passes over a list of these.
     fn skips(&mut self, name: &str, items: &[Part]) {
         let load = call_over(
@@ -348,6 +360,9 @@ fn loads() -> Vec<Load<Calls>> {
     variants(&mut made, &mut random);
     leaves(&mut made, &mut random);
     parts(&mut made, &mut random);
+    more_leaves(&mut made, &mut random);
+    more_parts(&mut made, &mut random);
+    singles(&mut made);
     written_leaves(&mut made, &mut random);
     written_parts(&mut made, &mut random);
     made.loads
@@ -471,12 +486,19 @@ fn parts(made: &mut Made, random: &mut Random) {
     made.reads("nil", "nil", &vec![Part::Nil; COUNT]);
     let pairs = many(COUNT, random, |r| Part::List(two(r)));
     made.reads("pairs of a number and a truth", "pair", &pairs);
-    for (name, call) in [("triples of numbers", "triple"), ("lists of three numbers", "nested")] {
+    for (name, call) in [
+        ("triples of numbers", "triple"),
+        ("lists of three numbers", "nested"),
+    ] {
         let items = many(COUNT, random, |r| Part::List(numbers(r, 3)));
         made.reads(name, call, &items);
     }
     let sets = many(COUNT, random, |r| {
-        Part::List((0..10).map(|n| Part::Number(100 * n + r.below(100))).collect())
+        Part::List(
+            (0..10)
+                .map(|n| Part::Number(100 * n + r.below(100)))
+                .collect(),
+        )
     });
     made.reads("sets of ten numbers", "set", &sets);
     let bytes = many(COUNT, random, |_| Part::Bytes(vec![7; 32]));
@@ -505,6 +527,90 @@ fn parts(made: &mut Made, random: &mut Random) {
         made.called(&format!("many texts {name}"), &of_texts, &more_texts);
     }
     made.called("many texts from a slice", "bench_read_text", &more_texts);
+}
+
+fn extensions() -> Vec<Part> {
+    vec![Part::Ext(5, [7; 4]); COUNT]
+}
+
+fn more_leaves(made: &mut Made, random: &mut Random) {
+    made.reads("extensions of four bytes", "ext", &extensions());
+    made.reads(
+        "texts as they stand",
+        "raw",
+        &vec![text("some words"); COUNT],
+    );
+    made.reads(
+        "lent bytes of 5",
+        "lent_bytes",
+        &vec![Part::Bytes(vec![7; 5]); COUNT],
+    );
+    for (character, bytes) in [("é", "two"), ("語", "three")] {
+        let items = vec![text(&character.repeat(66)); COUNT];
+        made.reads(
+            &format!("texts of 66 characters of {bytes} bytes"),
+            "text",
+            &items,
+        );
+    }
+    made.reads("texts of nothing", "text", &vec![text(""); COUNT]);
+    let options = many(COUNT, random, |r| match r.below(2) {
+        0 => Part::Nil,
+        _ => text("some words"),
+    });
+    made.reads("options of texts", "option_text", &options);
+    let small = many(COUNT, random, |r| Part::Number(r.below(128)));
+    made.reads("numbers of 128 bits in one byte", "u128", &small);
+    made.skips("skip, small numbers", &small);
+    made.skips("skip, extensions", &extensions());
+}
+
+fn more_parts(made: &mut Made, random: &mut Random) {
+    let rows = |r: &mut Random| Part::List((0..10).map(|_| Part::List(numbers(r, 10))).collect());
+    made.reads(
+        "lists of ten lists of ten",
+        "rows",
+        &many(COUNT, random, rows),
+    );
+    made.reads(
+        "lists of ten texts",
+        "texts",
+        &vec![Part::List(vec![text("some words"); 10]); COUNT],
+    );
+    let quads = many(COUNT, random, |r| {
+        Part::List(many(4, r, |r| Part::Number(r.below(128))))
+    });
+    made.reads("tuples of four bytes", "quad", &quads);
+    made.reads("trees of any kind", "value", &many(COUNT, random, tree));
+}
+
+/// One message a call: what is refused, and a struct from a cursor.
+fn singles(made: &mut Made) {
+    let spelled = |part: &Part| {
+        let mut out = Vec::new();
+        spell(&mut out, part);
+        out
+    };
+    made.single("refused, nothing there", "bench_refuse_byte", Vec::new());
+    made.single(
+        "refused, number out of range",
+        "bench_refuse_byte",
+        spelled(&Part::Number(300)),
+    );
+    let mut cut = spelled(&Part::List(vec![Part::Number(70_000); 10]));
+    cut.truncate(cut.len() - 2);
+    made.single("refused, list cut short", "bench_refuse_numbers", cut);
+    let two = |id: Part| structure(Form::Map, TWO, vec![id, Part::Truth(true)]);
+    made.single(
+        "refused, text for a field",
+        "bench_refuse_two",
+        spelled(&two(text("abc"))),
+    );
+    made.single(
+        "a struct from a cursor",
+        "bench_cursor_two",
+        spelled(&two(Part::Number(300))),
+    );
 }
 
 /// Numbers of a width, with their sign or the other one.

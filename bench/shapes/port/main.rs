@@ -23,30 +23,42 @@ exports! {
     bench_buffered_texts
     bench_cursor_numbers
     bench_cursor_texts
+    bench_cursor_two
     bench_read_array
     bench_read_bool
     bench_read_buffer
     bench_read_bytes
     bench_read_char
     bench_read_eight
+    bench_read_ext
     bench_read_f64
     bench_read_five
     bench_read_i64
+    bench_read_lent_bytes
     bench_read_map
     bench_read_named_map
     bench_read_nested
     bench_read_nil
     bench_read_option
+    bench_read_option_text
     bench_read_pair
+    bench_read_quad
     bench_read_queue
+    bench_read_raw
+    bench_read_rows
     bench_read_set
     bench_read_shape
     bench_read_str
     bench_read_text
+    bench_read_texts
     bench_read_triple
     bench_read_twelve
     bench_read_two
     bench_read_u128
+    bench_read_value
+    bench_refuse_byte
+    bench_refuse_numbers
+    bench_refuse_two
     bench_skip
     bench_write_bool
     bench_write_buffer

@@ -8,8 +8,11 @@
 mod shapes;
 mod twelve;
 
-use rmp_decode::{Deserialize, Deserializer, Error, from_slice};
-use rmp_wire::{AheadSource, BufSource, ByteBuf, F64Bits, ReadReader, ReadRefReader};
+use rmp_decode::{Deserialize, Deserializer, Error, from_read, from_slice};
+use rmp_serde::{Raw, Value};
+use rmp_wire::{
+    AheadSource, BufSource, ByteBuf, Ext, F64Bits, IoSource, ReadReader, ReadRefReader,
+};
 use shapes::{EightFields, Five, Shape, Two};
 use std::alloc::Global;
 use std::collections::{BTreeMap, BTreeSet, VecDeque};
@@ -175,6 +178,102 @@ pub extern "C" fn bench_read_set(alloc: Global, data: &[u8], reps: u32) -> usize
 #[unsafe(no_mangle)]
 pub extern "C" fn bench_read_array(alloc: Global, data: &[u8], reps: u32) -> usize {
     reads::<[u8; 32]>(alloc, data, reps)
+}
+
+/// Reads a list of extensions.
+#[unsafe(no_mangle)]
+pub extern "C" fn bench_read_ext(alloc: Global, data: &[u8], reps: u32) -> usize {
+    reads::<Ext>(alloc, data, reps)
+}
+
+/// Reads a list of texts and bytes as they stand.
+#[unsafe(no_mangle)]
+pub extern "C" fn bench_read_raw(alloc: Global, data: &[u8], reps: u32) -> usize {
+    reads::<Raw>(alloc, data, reps)
+}
+
+/// Reads a list of bytes that stay where they are.
+#[unsafe(no_mangle)]
+pub extern "C" fn bench_read_lent_bytes(alloc: Global, data: &[u8], reps: u32) -> usize {
+    reads::<&[u8]>(alloc, data, reps)
+}
+
+/// Reads a list of lists of lists of numbers.
+#[unsafe(no_mangle)]
+pub extern "C" fn bench_read_rows(alloc: Global, data: &[u8], reps: u32) -> usize {
+    reads::<Vec<Vec<u32>>>(alloc, data, reps)
+}
+
+/// Reads a list of lists of texts.
+#[unsafe(no_mangle)]
+pub extern "C" fn bench_read_texts(alloc: Global, data: &[u8], reps: u32) -> usize {
+    reads::<Vec<String>>(alloc, data, reps)
+}
+
+/// Reads a list of texts that may be nil.
+#[unsafe(no_mangle)]
+pub extern "C" fn bench_read_option_text(alloc: Global, data: &[u8], reps: u32) -> usize {
+    reads::<Option<String>>(alloc, data, reps)
+}
+
+/// Reads a list of tuples of four bytes.
+#[unsafe(no_mangle)]
+pub extern "C" fn bench_read_quad(alloc: Global, data: &[u8], reps: u32) -> usize {
+    reads::<(u8, u8, u8, u8)>(alloc, data, reps)
+}
+
+/// Reads a list of values of any kind.
+#[unsafe(no_mangle)]
+pub extern "C" fn bench_read_value(alloc: Global, data: &[u8], reps: u32) -> usize {
+    reads::<Value>(alloc, data, reps)
+}
+
+// Reads a message that is refused so many times, and answers how often it was.
+#[inline(always)]
+fn refusals<'de, T: Deserialize<'de, ReadRefReader<'de>>>(
+    alloc: Global,
+    data: &'de [u8],
+    reps: u32,
+) -> usize {
+    let mut sum: usize = 0;
+    for _ in 0..reps {
+        let read: Result<T, Error> = from_slice(alloc, data);
+        if let Err(_error) = read {
+            sum = sum.wrapping_add(1);
+        }
+    }
+    sum
+}
+
+/// Reads what is no number of a byte.
+#[unsafe(no_mangle)]
+pub extern "C" fn bench_refuse_byte(alloc: Global, data: &[u8], reps: u32) -> usize {
+    refusals::<u8>(alloc, data, reps)
+}
+
+/// Reads what is no list of numbers.
+#[unsafe(no_mangle)]
+pub extern "C" fn bench_refuse_numbers(alloc: Global, data: &[u8], reps: u32) -> usize {
+    refusals::<Vec<u64>>(alloc, data, reps)
+}
+
+/// Reads what is no struct of two fields.
+#[unsafe(no_mangle)]
+pub extern "C" fn bench_refuse_two(alloc: Global, data: &[u8], reps: u32) -> usize {
+    refusals::<Two>(alloc, data, reps)
+}
+
+/// Reads a struct of two fields from a cursor by one call.
+#[unsafe(no_mangle)]
+pub extern "C" fn bench_cursor_two(alloc: Global, data: &[u8], reps: u32) -> usize {
+    let mut sum: usize = 0;
+    for _ in 0..reps {
+        let read: Result<Two, Error> = from_read(alloc, Cursor::new(data));
+        if let Ok(_two) = read {
+            sum = sum.wrapping_add(1);
+        }
+    }
+    sum
 }
 
 /// Passes over a message, and answers how many were passed over.

@@ -1,11 +1,13 @@
 //! Measures the same loads over the original, the crate rmp-serde, written as crates/bench_shapes is.
 
 use rmp_serde::config::BytesMode;
-use rmp_serde::{Serializer, from_slice};
-use serde::de::IgnoredAny;
+use rmp_serde::{Raw, Serializer, from_slice};
+use serde::de::{IgnoredAny, MapAccess, SeqAccess, Visitor};
 use serde::{Deserialize, Serialize};
-use serde_bytes::ByteBuf;
+use serde_bytes::{ByteBuf, Bytes};
 use std::collections::{BTreeMap, BTreeSet, VecDeque};
+use std::fmt;
+use std::hint::black_box;
 use std::io::{BufReader, Cursor};
 
 #[path = "../../loads.rs"]
@@ -67,6 +69,11 @@ enum Shape {
     Str { a: u32, b: u32 },
 }
 
+#[derive(Deserialize)]
+#[serde(rename = "_ExtStruct")]
+#[expect(dead_code)]
+struct Ext((i8, ByteBuf));
+
 macro_rules! of_types {
     ($($name:literal $kind:ty),* $(,)?) => {
         vec![$((concat!("bench_read_", $name), reads::<$kind> as loads::OfBytes)),*]
@@ -104,6 +111,13 @@ fn main() {
         "nested" Vec<u32>,
         "set" BTreeSet<u32>,
         "array" [u8; 32],
+        "ext" Ext,
+        "raw" Raw,
+        "rows" Vec<Vec<u32>>,
+        "texts" Vec<String>,
+        "option_text" Option<String>,
+        "quad" (u8, u8, u8, u8),
+        "value" Value,
     ];
     calls.extend(written_types![
         "nil" (),
@@ -130,6 +144,11 @@ fn main() {
     calls.push(("bench_write_forced", |d, reps| {
         writes_bytes(d, reps, BytesMode::ForceAll)
     }));
+    calls.push(("bench_refuse_byte", refusals::<u8>));
+    calls.push(("bench_refuse_numbers", refusals::<Vec<u64>>));
+    calls.push(("bench_refuse_two", refusals::<Two>));
+    calls.push(("bench_cursor_two", cursor_two));
+    calls.push(("bench_read_lent_bytes", read_lent_bytes));
     calls.push(("bench_read_str", read_str));
     calls.push(("bench_skip", skip));
     calls.push(("bench_cursor_numbers", cursor_reads::<u32>));
@@ -158,6 +177,39 @@ fn read_str(data: &[u8], reps: u32) -> usize {
     for _ in 0..reps {
         if let Ok(items) = from_slice::<Vec<&str>>(data) {
             sum = sum.wrapping_add(items.len());
+        }
+    }
+    sum
+}
+
+#[inline(never)]
+fn read_lent_bytes(data: &[u8], reps: u32) -> usize {
+    let mut sum: usize = 0;
+    for _ in 0..reps {
+        if let Ok(items) = from_slice::<Vec<&Bytes>>(data) {
+            sum = sum.wrapping_add(items.len());
+        }
+    }
+    sum
+}
+
+#[inline(never)]
+fn refusals<T: for<'de> Deserialize<'de>>(data: &[u8], reps: u32) -> usize {
+    let mut sum: usize = 0;
+    for _ in 0..reps {
+        if from_slice::<T>(black_box(data)).is_err() {
+            sum = sum.wrapping_add(1);
+        }
+    }
+    sum
+}
+
+#[inline(never)]
+fn cursor_two(data: &[u8], reps: u32) -> usize {
+    let mut sum: usize = 0;
+    for _ in 0..reps {
+        if rmp_serde::from_read::<_, Two>(Cursor::new(black_box(data))).is_ok() {
+            sum = sum.wrapping_add(1);
         }
     }
     sum
@@ -224,4 +276,78 @@ fn writes_bytes(data: &[u8], reps: u32, mode: BytesMode) -> usize {
         }
     }
     se.get_ref().len()
+}
+
+/// A message of the kinds that the loads have. The original has no such type of its own.
+#[expect(dead_code)]
+enum Value {
+    Nil,
+    Truth(bool),
+    Whole(u64),
+    Below(i64),
+    F64(f64),
+    Text(String),
+    Bytes(Vec<u8>),
+    List(Vec<Value>),
+    Map(Vec<(Value, Value)>),
+}
+
+struct ValueVisitor;
+
+impl<'de> Visitor<'de> for ValueVisitor {
+    type Value = Value;
+
+    fn expecting(&self, f: &mut fmt::Formatter<'_>) -> fmt::Result {
+        f.write_str("a message")
+    }
+
+    fn visit_unit<E>(self) -> Result<Value, E> {
+        Ok(Value::Nil)
+    }
+
+    fn visit_bool<E>(self, b: bool) -> Result<Value, E> {
+        Ok(Value::Truth(b))
+    }
+
+    fn visit_u64<E>(self, n: u64) -> Result<Value, E> {
+        Ok(Value::Whole(n))
+    }
+
+    fn visit_i64<E>(self, n: i64) -> Result<Value, E> {
+        Ok(Value::Below(n))
+    }
+
+    fn visit_f64<E>(self, f: f64) -> Result<Value, E> {
+        Ok(Value::F64(f))
+    }
+
+    fn visit_str<E>(self, text: &str) -> Result<Value, E> {
+        Ok(Value::Text(text.to_owned()))
+    }
+
+    fn visit_bytes<E>(self, bytes: &[u8]) -> Result<Value, E> {
+        Ok(Value::Bytes(bytes.to_vec()))
+    }
+
+    fn visit_seq<A: SeqAccess<'de>>(self, mut seq: A) -> Result<Value, A::Error> {
+        let mut items = Vec::new();
+        while let Some(item) = seq.next_element()? {
+            items.push(item);
+        }
+        Ok(Value::List(items))
+    }
+
+    fn visit_map<A: MapAccess<'de>>(self, mut map: A) -> Result<Value, A::Error> {
+        let mut pairs = Vec::new();
+        while let Some(pair) = map.next_entry()? {
+            pairs.push(pair);
+        }
+        Ok(Value::Map(pairs))
+    }
+}
+
+impl<'de> Deserialize<'de> for Value {
+    fn deserialize<D: serde::Deserializer<'de>>(deserializer: D) -> Result<Value, D::Error> {
+        deserializer.deserialize_any(ValueVisitor)
+    }
 }
