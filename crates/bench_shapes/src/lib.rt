@@ -10,9 +10,7 @@ mod twelve;
 
 use rmp_decode::{Deserialize, Deserializer, Error, from_read, from_slice};
 use rmp_serde::{Raw, Value};
-use rmp_wire::{
-    AheadSource, BufSource, ByteBuf, Ext, F64Bits, IoSource, ReadReader, ReadRefReader,
-};
+use rmp_wire::{AheadSource, BufSource, ByteBuf, Ext, F64Bits, ReadReader, ReadRefReader};
 use shapes::{EightFields, Five, Shape, Two};
 use std::alloc::Global;
 use std::collections::{BTreeMap, BTreeSet, VecDeque};
