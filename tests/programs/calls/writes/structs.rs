@@ -1,9 +1,11 @@
 //! Structs and variants, as lists and with names.
 use super::is_written;
+use rmp_decode::from_slice;
 use rmp_encode::{Eight, Error, One, Serialize, Serializer, to_vec_named};
 use rmp_wire::config::{BytesMode, SerializerConfig};
 use rmp_wire::{Sink, SliceSink, ValueWriteError};
 use std::test::Fail;
+use test_types::Ticket;
 use test_types::written::{Cat, Dog, Leaf, Point};
 
 // A struct variant of two fields.
@@ -66,6 +68,39 @@ fn one_call(rt: HostRuntime) -> Result<(), Fail> {
         se.into_inner().as_slice(),
         b"\x81\xa2V2\x91\x07\x81\xa2V3\x91\x07\x81\xa2V3\x81\xa1a\x07".as_slice()
     );
+    Ok(())
+}
+
+#[test]
+fn five_fields_there_and_back(rt: HostRuntime) -> Result<(), Fail> {
+    let mut holder = String::new(rt.alloc());
+    holder.push_str("Ada")?;
+    let ticket = Ticket {
+        holder,
+        coach: 300,
+        seat: None,
+        stops: vec![in rt.alloc(); 1, 70000]?,
+        paid: true,
+    };
+    let list = b"\x95\xa3Ada\xcd\x01\x2c\xc0\x92\x01\xce\x00\x01\x11\x70\xc3";
+    let map =
+        b"\x85\xa6holder\xa3Ada\xa5coach\xcd\x01\x2c\xa4seat\xc0\xa5stops\x92\x01\xce\x00\x01\x11\x70\xa4paid\xc3";
+    assert!(rt; is_written(&rt, &ticket, list)?);
+    assert_eq!(rt;
+        to_vec_named(rt.alloc(), &ticket)?.as_slice(),
+        map.as_slice()
+    );
+    // in another order, without the seat
+    let turned =
+        b"\x84\xa4paid\xc3\xa5stops\x92\x01\xce\x00\x01\x11\x70\xa5coach\xcd\x01\x2c\xa6holder\xa3Ada";
+    for message in [list.as_slice(), map.as_slice(), turned.as_slice()] {
+        let read: Ticket = from_slice(rt.alloc(), message)?;
+        assert_eq!(rt;
+            (read.holder.as_str(), read.coach, read.seat, read.paid),
+            ("Ada", 300, None, true)
+        );
+        assert_eq!(rt; read.stops.as_slice(), [1, 70000].as_slice());
+    }
     Ok(())
 }
 

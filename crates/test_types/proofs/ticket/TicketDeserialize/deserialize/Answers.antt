@@ -1,0 +1,9 @@
+use Rattle.rmp_decode.proofs.Laws.{lawful_ok, lawful_err}
+use Rattle.test_types.proofs.ticket.TicketDeserialize.deserialize.Goals as goal
+
+pub returns-in-Ok-clause-law : goal.returns-in-Ok-clause-law
+returns-in-Ok-clause-law g c = lawful_ok _ _ _ _ _ _ _ (λ m r. r) c.in-Ok.ensures.law
+
+pub returns-in-Err-clause-law : goal.returns-in-Err-clause-law
+returns-in-Err-clause-law g c =
+    lawful_err _ _ _ _ _ _ (λ m r. ((r.0.holder, (r.0.coach, (r.0.seat, (r.0.stops, (r.0.paid, tt))))), r.1)) c.in-Err.ensures.law
