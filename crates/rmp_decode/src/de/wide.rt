@@ -176,7 +176,7 @@ impl<R: Source, C: SerializerConfig> Deserializer<R, C> {
         ensures memory { IfErr result (λ e. e ≢ Error.OutOfMemory) }
     {
         if !self.sixteen_front() {
-            return self.apart_i128();
+            return self.fronted_i128();
         }
         match next_sixteen(&mut self.reader) {
             Ok(n) => {
@@ -184,6 +184,38 @@ impl<R: Source, C: SerializerConfig> Deserializer<R, C> {
                 Ok(n.cast_signed())
             }
             Err(e) => Err(e),
+        }
+    }
+
+    // The same, where the head isn't that of 16 bytes: a number without a sign is looked for where it lies in memory.
+    #[inline(always)]
+    fn fronted_i128(&mut self) -> Result<i128, Error>
+        ensures law { Lawful R.Source IsSigned128 self.old self.new result }
+        ensures exact { RefusesLeaf R.Source IsSigned128Head not_wide never_refused self.old self.new result }
+        ensures memory { IfErr result (λ e. e ≢ Error.OutOfMemory) }
+    {
+        match self.unsigned_front(u64::MAX) {
+            Some(n) => {
+                self.failed = false;
+                Ok(i128::from(n))
+            }
+            None => self.fronted_below(),
+        }
+    }
+
+    // The same of one with a sign.
+    #[inline(always)]
+    fn fronted_below(&mut self) -> Result<i128, Error>
+        ensures law { Lawful R.Source IsSigned128 self.old self.new result }
+        ensures exact { RefusesLeaf R.Source IsSigned128Head not_wide never_refused self.old self.new result }
+        ensures memory { IfErr result (λ e. e ≢ Error.OutOfMemory) }
+    {
+        match self.signed_front(i64::MIN, i64::MAX) {
+            Some(z) => {
+                self.failed = false;
+                Ok(i128::from(z))
+            }
+            None => self.apart_i128(),
         }
     }
 
@@ -247,7 +279,7 @@ impl<R: Source, C: SerializerConfig> Deserializer<R, C> {
         ensures memory { IfErr result (λ e. e ≢ Error.OutOfMemory) }
     {
         if !self.sixteen_front() {
-            return self.apart_u128();
+            return self.fronted_u128();
         }
         match next_sixteen(&mut self.reader) {
             Ok(n) => {
@@ -255,6 +287,22 @@ impl<R: Source, C: SerializerConfig> Deserializer<R, C> {
                 Ok(n)
             }
             Err(e) => Err(e),
+        }
+    }
+
+    // The same, where the head isn't that of 16 bytes: a number without a sign is looked for where it lies in memory.
+    #[inline(always)]
+    fn fronted_u128(&mut self) -> Result<u128, Error>
+        ensures law { Lawful R.Source IsUnsigned128 self.old self.new result }
+        ensures exact { RefusesLeaf R.Source IsUnsigned128Head not_wide never_refused self.old self.new result }
+        ensures memory { IfErr result (λ e. e ≢ Error.OutOfMemory) }
+    {
+        match self.unsigned_front(u64::MAX) {
+            Some(n) => {
+                self.failed = false;
+                Ok(u128::from(n))
+            }
+            None => self.apart_u128(),
         }
     }
 
