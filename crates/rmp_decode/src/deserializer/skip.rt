@@ -73,6 +73,9 @@ fn pass_behind<R: Source, P: ReadContent<R>>(reader: &mut R, len: u32) -> Result
     ensures memory { P.lends ≡ true → IfErr result (λ e. e ≢ Error.OutOfMemory) }
     ensures place { R.place reader.new ≡ R.place reader.old }
 {
+    if len == 0 {
+        return Ok(());
+    }
     P::pass(reader, len as usize)
 }
 

@@ -342,17 +342,42 @@ pub(super) fn bin_at(front: &[u8], strict: bool) -> Option<(u32, usize)>
     }
 }
 
-// A head of a leaf that may be read, but of an extension of more than 255 bytes: how many bytes of content follow, and the count of
-// its own.
+// A head of a leaf, of any width, but of an extension of more than 255 bytes: how many bytes of content follow, and the count of its own.
 #[inline(always)]
-pub(super) fn leaf_at(front: &[u8], strict: bool) -> Option<(u32, usize)>
-    ensures { IfSome result (λ p. LeafStandsIn strict p.1 p.0 front.now) }
+fn any_leaf_at(front: &[u8]) -> Option<(u32, usize)>
+    ensures { IfSome result (λ p. LeafStandsIn false p.1 p.0 front.now) }
 {
-    match head_at(front, strict) {
+    match any_at(front) {
         Some((head, len)) => match leaf_in(head) {
             Some(n) => Some((n, len)),
             None => None,
         },
         None => None,
+    }
+}
+
+// The same of a canonical head, by a call: so the other way keeps nothing of a head.
+#[inline(never)]
+fn canonical_leaf_at(front: &[u8]) -> Option<(u32, usize)>
+    ensures { IfSome result (λ p. LeafStandsIn true p.1 p.0 front.now) }
+{
+    match canonical_at(front) {
+        Some((head, len)) => match leaf_in(head) {
+            Some(n) => Some((n, len)),
+            None => None,
+        },
+        None => None,
+    }
+}
+
+// The same of a head that may be read.
+#[inline(always)]
+pub(super) fn leaf_at(front: &[u8], strict: bool) -> Option<(u32, usize)>
+    ensures { IfSome result (λ p. LeafStandsIn strict p.1 p.0 front.now) }
+{
+    if strict {
+        canonical_leaf_at(front)
+    } else {
+        any_leaf_at(front)
     }
 }
