@@ -21,6 +21,10 @@ impl<R: Source, C: SerializerConfig> Deserializer<R, C> {
         ensures law { AfterHead R.Source (λ m s. IsRaw m (string_bytes s)) (Head.Text len) self.old self.new result }
         ensures exact { IfErr result (RefusesBehind R.Source IsRawHead not_raw not_string (Head.Text len) self.old self.new) }
     {
+        if len == 0 {
+            self.failed = false;
+            return Ok(String::new(self.alloc));
+        }
         let piece = match self.reader.read_slice(len as usize) {
             Ok(piece) => piece,
             Err(e) => return Err(error_of(e)),

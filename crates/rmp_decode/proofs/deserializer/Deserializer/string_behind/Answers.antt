@@ -1,4 +1,6 @@
-use Rattle.std.proofs.Common.{refl, rules, true}
+use Rattle.std.proofs.Common.{◌≡◌, refl, rules, true, [], ◌∷◌, length, Option, None, Some, List, ℕ}
+use Rattle.std.specs.Io.KnownBytes.{Consumes}
+use Rattle.rmp_wire.specs.Spelling.{IsBytes}
 use Rattle.std.specs.String.{string_bytes}
 use Rattle.rmp_wire.specs.declared.head.Head.TheVariants.{Text}
 use Rattle.rmp_decode.specs.Content.{IsRawHead, not_raw, not_string}
@@ -7,6 +9,19 @@ use Rattle.rmp_decode.proofs.ContentErrors.{content_error, piece_whole, piece_bl
 use Rattle.rmp_decode.proofs.Contents.{text_content, content_read}
 use Rattle.rmp_decode.proofs.Strings.{string_refused, text_blamed}
 use Rattle.rmp_decode.proofs.deserializer.Deserializer.string_behind.Goals as goal
+
+-- no byte is taken where none is
+takes_nothing : (known : Option (List ℕ)) (s : List ℕ) → s ≡ [] → (length s ≡ 0) × IsBytes s × Consumes known known s
+takes_nothing None [] e = (refl, tt, tt)
+takes_nothing (Some xs) [] e = (refl, tt, refl)
+takes_nothing known (b ∷ s) e = absurd (cc)
+
+pub returns-then-len-eq0-clause-law : goal.returns-then-len-eq0-clause-law
+returns-then-len-eq0-clause-law g c = λ old m h.
+    let none : c.args.len ≡ 0 = search rules in
+    let t = takes_nothing (g.R.Source.ahead c.args.self.now.reader) (string_bytes c.new.result) (search rules) in
+    content_read text_content g.R.Source _ old c.args.self.now _ (m, Text 0) (rw none at h) (string_bytes c.new.result) 0 _ refl t.0 t.1 t.2 refl refl
+    refl (record { config = refl; room = refl; limit = refl; strict = refl; place = refl }) (true, refl)
 
 pub returns-clause-law : goal.returns-clause-law
 returns-clause-law g c = λ old m h.
