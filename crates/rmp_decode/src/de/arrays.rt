@@ -11,7 +11,7 @@ ghost use Rattle.rmp_decode.specs.declared.deserializer.Kept.TheVariants.{Nothin
 ghost use Rattle.rmp_decode.specs.declared.error.Error.TheVariants.{OutOfMemory};
 
 use crate::de::Deserialize;
-use crate::de::rows::{Row, is_small, read_row};
+use crate::de::rows::{ByType, Row, is_small, numbers_taken_out, read_row};
 use crate::deserializer::Deserializer;
 use crate::error::Error;
 use crate::text::Text;
@@ -74,19 +74,18 @@ impl<T: Drop, const N: usize> Row<T> for [Option<T>; N] {
     }
 }
 
-// Reads so many elements of a list, or numbers of bytes, from a reader that has taken the head.
+// Reads so many elements of a list from a reader that has taken the head.
 #[inline(always)]
 fn array_row<'de, R: ReadSlice<'de>, C: SerializerConfig, T: Deserialize<'de, R>, const N: usize>(
     de: &mut Deserializer<R, C>,
-    bytes: bool,
     count: u32,
 ) -> Result<[T; N], Error>
     requires clean { kept_of de.old ≡ Nothing }
     requires failed { is_failed de.old ≡ true }
-    ensures law { (d : Deserializer R C) → Opens R.Source d (access_at de.old bytes count count)
+    ensures law { (d : Deserializer R C) → Opens R.Source d (access_at de.old false count count)
         → Lawful R.Source (λ m v. OfRow (Exactly N (T.reads (C.human (config_of d)) R.lends) v) m) d de.new result }
     // Memory is short where so many places don't fit into it.
-    ensures refused { (d : Deserializer R C) → Opens R.Source d (access_at de.old bytes count count)
+    ensures refused { (d : Deserializer R C) → Opens R.Source d (access_at de.old false count count)
         → RefusesAs R.Source (C.human (config_of d)) R.lends
         (λ s before after known e. ((PlacesFit T.row N → ⊥) × (e ≡ OutOfMemory)) ⊎ RefusesTimes N T.reads T.refuses s before after known e) d de.new result }
 {
@@ -94,7 +93,41 @@ fn array_row<'de, R: ReadSlice<'de>, C: SerializerConfig, T: Deserialize<'de, R>
         return Err(Error::OutOfMemory);
     }
     let mut places: [Option<T>; N] = Default::default();
-    match read_row(de, bytes, count, &mut places) {
+    match read_row(de, false, count, &mut places) {
+        Ok(left) => {
+            if (count as usize) < N {
+                return Err(de.refuse(Error::Syntax(Text::InvalidLength)));
+            }
+            if left > 0 {
+                return Err(de.refuse(Error::LengthMismatch(count.saturating_sub(left))));
+            }
+            Ok(values_of(places))
+        }
+        Err(e) => Err(e),
+    }
+}
+
+// The same of so many numbers of bytes, from a reader that is taken out of its place meanwhile.
+#[inline(always)]
+fn number_row<'de, R: ReadSlice<'de>, C: SerializerConfig, T: Deserialize<'de, R>, const N: usize>(
+    de: &mut Deserializer<R, C>,
+    count: u32,
+) -> Result<[T; N], Error>
+    requires clean { kept_of de.old ≡ Nothing }
+    requires failed { is_failed de.old ≡ true }
+    ensures law { (d : Deserializer R C) → Opens R.Source d (access_at de.old true count count)
+        → Lawful R.Source (λ m v. OfRow (Exactly N (T.reads (C.human (config_of d)) R.lends) v) m) d de.new result }
+    // Memory is short where so many places don't fit into it.
+    ensures refused { (d : Deserializer R C) → Opens R.Source d (access_at de.old true count count)
+        → RefusesAs R.Source (C.human (config_of d)) R.lends
+        (λ s before after known e. ((PlacesFit T.row N → ⊥) × (e ≡ OutOfMemory)) ⊎ RefusesTimes N T.reads T.refuses s before after known e) d de.new result }
+{
+    if !places_fit::<T, N>() {
+        return Err(Error::OutOfMemory);
+    }
+    let none: [Option<T>; N] = Default::default();
+    let (read, places) = numbers_taken_out::<R, C, T, [Option<T>; N], ByType<'de>>(de, count, none);
+    match read {
         Ok(left) => {
             if (count as usize) < N {
                 return Err(de.refuse(Error::Syntax(Text::InvalidLength)));
@@ -119,8 +152,8 @@ impl<'de, R: ReadSlice<'de>, T: Deserialize<'de, R>, const N: usize> Deserialize
 
     fn deserialize<C: SerializerConfig>(de: &mut Deserializer<R, C>) -> Result<[T; N], Error> {
         match de.open_row(is_small::<T>()) {
-            Ok((true, count)) => array_row(de, true, count),
-            Ok((false, count)) => array_row(de, false, count),
+            Ok((true, count)) => number_row(de, count),
+            Ok((false, count)) => array_row(de, count),
             Err(e) => Err(e),
         }
     }

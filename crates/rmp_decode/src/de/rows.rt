@@ -8,8 +8,10 @@ use crate::access::seq::{data_fault, inner_room};
 use crate::de::Deserialize;
 use crate::deserializer::{Deserializer, Kept};
 use crate::error::Error;
+use core::mem::replace_with;
 use rmp_wire::config::SerializerConfig;
 use rmp_wire::{ReadSlice, Source};
+use std::marker::PhantomData;
 use std::mem::size_of_val;
 
 // What elements are put into.
@@ -93,4 +95,84 @@ pub(crate) fn read_row<
     }
     de.room = outer;
     Ok(left)
+}
+
+// How numbers of bytes are read into what holds them, in a bound that names no lifetime: a function that hands on a closure has none that
+// does.
+pub(crate) trait ReadNumbers<R: Source, T: Drop, W: Row<T>> {
+    ghost use Rattle.std.specs.Prelude.{Bool};
+    ghost use Rattle.rmp_wire.specs.Msg.{Msg};
+    ghost use Rattle.rmp_decode.specs.Refusing.{Setting, Refusals};
+
+    ghost lends: { Bool };
+
+    ghost reads: { Bool → Bool → Msg → T → Type 0 };
+
+    ghost refuses: { Setting → Refusals };
+
+    fn read<C: SerializerConfig>(
+        de: &mut Deserializer<R, C>,
+        count: u32,
+        row: &mut W,
+    ) -> Result<u32, Error>
+        requires clean { kept_of de.old ≡ Nothing }
+        requires empty { W.holds row.old [] }
+        ensures ok { IfOk result (ReadsRow R.Source (reads (C.human (config_of de.old)) lends) W.holds de.old true count de.new row.new) }
+        ensures rest { IfOk result (λ left. left + W.most count ≡ count) }
+        ensures err { IfErr result (StopsRow R.Source C.human lends reads refuses W.grows de.old true count (W.most count) de.new) };
+}
+
+// Numbers that are read by their type.
+pub(crate) struct ByType<'de> {
+    of: PhantomData<&'de [u8]>,
+}
+
+impl<'de, R: ReadSlice<'de>, T: Deserialize<'de, R>, W: Row<T>> ReadNumbers<R, T, W>
+    for ByType<'de> {
+    ghost lends = { R.lends };
+
+    ghost reads = { T.reads };
+
+    ghost refuses = { T.refuses };
+
+    #[inline(always)]
+    fn read<C: SerializerConfig>(
+        de: &mut Deserializer<R, C>,
+        count: u32,
+        row: &mut W,
+    ) -> Result<u32, Error> {
+        read_row(de, true, count, row)
+    }
+}
+
+// Reads numbers of bytes from a reader that is taken out of its place meanwhile, and put back: so its parts stay in registers.
+#[inline(always)]
+pub(crate) fn numbers_taken_out<
+    R: Source,
+    C: SerializerConfig,
+    T: Drop,
+    W: Row<T>,
+    P: ReadNumbers<R, T, W>,
+>(de: &mut Deserializer<R, C>, count: u32, row: W) -> (Result<u32, Error>, W)
+    requires clean { kept_of de.old ≡ Nothing }
+    requires empty { W.holds row [] }
+    ensures ok { IfOk result.0 (ReadsRow R.Source (P.reads (C.human (config_of de.old)) P.lends) W.holds de.old true count de.new result.1) }
+    ensures rest { IfOk result.0 (λ left. left + W.most count ≡ count) }
+    ensures err { IfErr result.0 (StopsRow R.Source C.human P.lends P.reads P.refuses W.grows de.old true count (W.most count) de.new) }
+{
+    replace_with(
+        de,
+        (count, row),
+        |mut de: Deserializer<R, C>, given: (u32, W)|
+            requires clean { kept_of de ≡ Nothing }
+            requires empty { W.holds given.1 [] }
+            ensures ok { IfOk result.1.0 (ReadsRow R.Source (P.reads (C.human (config_of de)) P.lends) W.holds de true given.0 result.0 result.1.1) }
+            ensures rest { IfOk result.1.0 (λ left. left + W.most given.0 ≡ given.0) }
+            ensures err { IfErr result.1.0 (StopsRow R.Source C.human P.lends P.reads P.refuses W.grows de true given.0 (W.most given.0) result.0) }
+        {
+            let (count, mut row) = given;
+            let read = P::read(&mut de, count, &mut row);
+            (de, (read, row))
+        },
+    )
 }

@@ -1,6 +1,6 @@
-use Rattle.std.proofs.Common.{◌≡◌, ◌<◌, ◌≤◌, refl, rules, arith, inr, sym, ap, ◌∙◌, List}
+use Rattle.std.proofs.Common.{refl, rules, arith, inr, List, false}
 use Rattle.rmp_decode.specs.Arrays.{Exactly}
-use Rattle.rmp_decode.proofs.ArrayRefusings.{array_stopped, array_wanted, array_excess}
+use Rattle.rmp_decode.proofs.ArrayRefusings.{array_stopped, array_excess}
 use Rattle.rmp_decode.proofs.Arrays.{all_held, array_full, array_done, array_over, array_missing}
 use Rattle.rmp_decode.proofs.RowEnds.{row_unread}
 use Rattle.rmp_decode.proofs.de.arrays.array_row.Goals as goal
@@ -9,7 +9,7 @@ pub returns-then-count-clause-law : goal.returns-then-count-clause-law
 returns-then-count-clause-law g c = λ d o.
     let r = c.in-Ok.ensures.ok in
     rw c.refuse.ensures.failed (array_missing g.R.Source g.C.SerializerConfig.human g.R.ReadSlice.lends g.T.Deserialize.reads
-    c.args.de.now c.read_row.new.de d c.args.bytes c.args.count c.in-Ok.left o r.values r.read g.row.N c.read_row.new.row r.held c.in-Ok.ensures.rest
+    c.args.de.now c.read_row.new.de d false c.args.count c.in-Ok.left o r.values r.read g.row.N c.read_row.new.row r.held c.in-Ok.ensures.rest
     c.if-count.true
     c.refuse.result)
 
@@ -17,14 +17,14 @@ pub returns-then-left-gt0-clause-law : goal.returns-then-left-gt0-clause-law
 returns-then-left-gt0-clause-law g c = λ d o.
     let r = c.in-Ok.ensures.ok in
     rw c.refuse-then-left-gt0.ensures.failed (array_over g.R.Source g.C.SerializerConfig.human g.R.ReadSlice.lends g.T.Deserialize.reads
-    c.args.de.now c.read_row.new.de d c.args.bytes c.args.count c.in-Ok.left o r.values r.read g.row.N c.read_row.new.row r.held c.in-Ok.ensures.rest
+    c.args.de.now c.read_row.new.de d false c.args.count c.in-Ok.left o r.values r.read g.row.N c.read_row.new.row r.held c.in-Ok.ensures.rest
     (let f = c.if-count.false in omega (arith, f)) c.if-left-gt0.true c.refuse-then-left-gt0.result)
 
 pub returns-then-left-gt0-clause-refused : goal.returns-then-left-gt0-clause-refused
 returns-then-left-gt0-clause-refused g c = λ d o _.
     let r = c.in-Ok.ensures.ok in
     rw c.refuse-then-left-gt0.ensures.failed (inr (array_excess g.R.Source g.C.SerializerConfig.human g.R.ReadSlice.lends g.T.Deserialize.reads
-    g.T.Deserialize.refuses c.args.de.now c.read_row.new.de d c.args.bytes c.args.count o g.row.N c.refuse-then-left-gt0.result c.in-Ok.left r.values r.read
+    g.T.Deserialize.refuses c.args.de.now c.read_row.new.de d false c.args.count o g.row.N c.refuse-then-left-gt0.result c.in-Ok.left r.values r.read
     c.in-Ok.ensures.rest (let f = c.if-count.false in omega (arith, f)) c.if-left-gt0.true (search rules)))
 
 pub values_of-requires : goal.values_of-requires
@@ -33,7 +33,7 @@ values_of-requires g c =
       search rules,
       (
         search rules,
-        all_held r.values c.read_row.new.row (array_full g.R.Source _ c.args.de.now c.read_row.new.de c.args.bytes c.args.count
+        all_held r.values c.read_row.new.row (array_full g.R.Source _ c.args.de.now c.read_row.new.de false c.args.count
             c.in-Ok.left r.values r.read g.row.N c.read_row.new.row r.held c.in-Ok.ensures.rest (let f = c.if-count.false in omega (arith, f))
             (let f = c.if-left-gt0.false in omega (arith, f))),
       ),
@@ -42,13 +42,13 @@ values_of-requires g c =
 pub returns-else-left-gt0-clause-law : goal.returns-else-left-gt0-clause-law
 returns-else-left-gt0-clause-law g c = λ d o.
     let r = c.in-Ok.ensures.ok in
-    array_done g.R.Source g.C.SerializerConfig.human g.R.ReadSlice.lends g.T.Deserialize.reads c.args.de.now c.read_row.new.de d c.args.bytes c.args.count
+    array_done g.R.Source g.C.SerializerConfig.human g.R.ReadSlice.lends g.T.Deserialize.reads c.args.de.now c.read_row.new.de d false c.args.count
     c.in-Ok.left o r.values r.read g.row.N c.read_row.new.row r.held c.in-Ok.ensures.rest (let f = c.if-count.false in omega (arith, f))
     (let f = c.if-left-gt0.false in omega (arith, f)) r.ready c.values_of.result c.values_of.ensures
 
 pub returns-in-Err-clause-law : goal.returns-in-Err-clause-law
 returns-in-Err-clause-law g c = λ d o.
-    row_unread g.R.Source g.C.SerializerConfig.human g.R.ReadSlice.lends g.T.Deserialize.reads c.args.de.now c.read_row.new.de d c.args.bytes c.args.count o
+    row_unread g.R.Source g.C.SerializerConfig.human g.R.ReadSlice.lends g.T.Deserialize.reads c.args.de.now c.read_row.new.de d false c.args.count o
     g.T.Deserialize.refuses _ _ c.in-Err.e c.in-Err.ensures.err
     (λ (v : List g.row.T.Denot) ms. Exactly g.row.N (g.T.Deserialize.reads (g.C.SerializerConfig.human d.config) g.R.ReadSlice.lends) v ms)
     (λ v ms h. (v, h.1))
@@ -56,4 +56,4 @@ returns-in-Err-clause-law g c = λ d o.
 pub returns-in-Err-clause-refused : goal.returns-in-Err-clause-refused
 returns-in-Err-clause-refused g c = λ d o _.
     inr (array_stopped g.R.Source g.C.SerializerConfig.human g.R.ReadSlice.lends g.T.Deserialize.reads g.T.Deserialize.refuses c.args.de.now c.read_row.new.de d
-    c.args.bytes c.args.count o g.row.N c.in-Err.e _ refl _ (omega arith) c.in-Err.ensures.err)
+    false c.args.count o g.row.N c.in-Err.e _ refl _ (omega arith) c.in-Err.ensures.err)

@@ -1,4 +1,3 @@
-use Rattle.std.proofs.Common.{List}
 use Rattle.rmp_decode.specs.Arrays.{Exactly}
 use Rattle.rmp_decode.proofs.Seqs.{seq_unopened}
 use Rattle.rmp_decode.proofs.de.arrays.ArrayDeserialize.deserialize.Goals as goal

@@ -1,0 +1,71 @@
+use Rattle.std.proofs.Common.{refl, rules, arith, inr, List, true}
+use Rattle.rmp_decode.specs.Arrays.{Exactly}
+use Rattle.rmp_decode.proofs.ArrayRefusings.{array_stopped, array_excess}
+use Rattle.rmp_decode.proofs.Arrays.{all_held, array_full, array_done, array_over, array_missing}
+use Rattle.rmp_decode.proofs.RowEnds.{row_unread}
+use Rattle.rmp_decode.proofs.de.arrays.number_row.Goals as goal
+
+pub returns-then-count-clause-law : goal.returns-then-count-clause-law
+returns-then-count-clause-law g c = λ d o.
+    let n = c.numbers_taken_out-read in
+    let r = rw c.in-Ok.is at n.ensures.ok in
+    let rest = rw c.in-Ok.is at n.ensures.rest in
+    rw c.refuse.ensures.failed (array_missing g.R.Source g.C.SerializerConfig.human g.R.ReadSlice.lends g.T.Deserialize.reads
+    c.args.de.now n.new.de d true c.args.count c.in-Ok.left o r.values r.read g.row.N n.result.1 r.held rest
+    c.if-count.true
+    c.refuse.result)
+
+pub returns-then-left-gt0-clause-law : goal.returns-then-left-gt0-clause-law
+returns-then-left-gt0-clause-law g c = λ d o.
+    let n = c.numbers_taken_out-read in
+    let r = rw c.in-Ok.is at n.ensures.ok in
+    let rest = rw c.in-Ok.is at n.ensures.rest in
+    rw c.refuse-then-left-gt0.ensures.failed (array_over g.R.Source g.C.SerializerConfig.human g.R.ReadSlice.lends g.T.Deserialize.reads
+    c.args.de.now n.new.de d true c.args.count c.in-Ok.left o r.values r.read g.row.N n.result.1 r.held rest
+    (let f = c.if-count.false in omega (arith, f)) c.if-left-gt0.true c.refuse-then-left-gt0.result)
+
+pub returns-then-left-gt0-clause-refused : goal.returns-then-left-gt0-clause-refused
+returns-then-left-gt0-clause-refused g c = λ d o _.
+    let n = c.numbers_taken_out-read in
+    let r = rw c.in-Ok.is at n.ensures.ok in
+    let rest = rw c.in-Ok.is at n.ensures.rest in
+    rw c.refuse-then-left-gt0.ensures.failed (inr (array_excess g.R.Source g.C.SerializerConfig.human g.R.ReadSlice.lends g.T.Deserialize.reads
+    g.T.Deserialize.refuses c.args.de.now n.new.de d true c.args.count o g.row.N c.refuse-then-left-gt0.result c.in-Ok.left r.values r.read
+    rest (let f = c.if-count.false in omega (arith, f)) c.if-left-gt0.true (search rules)))
+
+pub values_of-requires : goal.values_of-requires
+values_of-requires g c =
+    let n = c.numbers_taken_out-read in
+    let r = rw c.in-Ok.is at n.ensures.ok in
+    let rest = rw c.in-Ok.is at n.ensures.rest in (
+      search rules,
+      (
+        search rules,
+        all_held r.values n.result.1 (array_full g.R.Source _ c.args.de.now n.new.de true c.args.count
+            c.in-Ok.left r.values r.read g.row.N n.result.1 r.held rest (let f = c.if-count.false in omega (arith, f))
+            (let f = c.if-left-gt0.false in omega (arith, f))),
+      ),
+    )
+
+pub returns-else-left-gt0-clause-law : goal.returns-else-left-gt0-clause-law
+returns-else-left-gt0-clause-law g c = λ d o.
+    let n = c.numbers_taken_out-read in
+    let r = rw c.in-Ok.is at n.ensures.ok in
+    let rest = rw c.in-Ok.is at n.ensures.rest in
+    array_done g.R.Source g.C.SerializerConfig.human g.R.ReadSlice.lends g.T.Deserialize.reads c.args.de.now n.new.de d true c.args.count
+    c.in-Ok.left o r.values r.read g.row.N n.result.1 r.held rest (let f = c.if-count.false in omega (arith, f))
+    (let f = c.if-left-gt0.false in omega (arith, f)) r.ready c.values_of.result c.values_of.ensures
+
+pub returns-in-Err-clause-law : goal.returns-in-Err-clause-law
+returns-in-Err-clause-law g c = λ d o.
+    let n = c.numbers_taken_out-read in
+    row_unread g.R.Source g.C.SerializerConfig.human g.R.ReadSlice.lends g.T.Deserialize.reads c.args.de.now n.new.de d true c.args.count o
+    g.T.Deserialize.refuses _ _ c.in-Err.e (rw c.in-Err.is at n.ensures.err)
+    (λ (v : List g.row.T.Denot) ms. Exactly g.row.N (g.T.Deserialize.reads (g.C.SerializerConfig.human d.config) g.R.ReadSlice.lends) v ms)
+    (λ v ms h. (v, h.1))
+
+pub returns-in-Err-clause-refused : goal.returns-in-Err-clause-refused
+returns-in-Err-clause-refused g c = λ d o _.
+    let n = c.numbers_taken_out-read in
+    inr (array_stopped g.R.Source g.C.SerializerConfig.human g.R.ReadSlice.lends g.T.Deserialize.reads g.T.Deserialize.refuses c.args.de.now n.new.de d
+    true c.args.count o g.row.N c.in-Err.e _ refl _ (omega arith) (rw c.in-Err.is at n.ensures.err))
