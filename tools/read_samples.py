@@ -6,6 +6,7 @@ bytes in hex, what the Rust crate answers from a slice and from a reader, what t
 reader, and how the two compare.
 """
 import os
+import re
 
 SAMPLES = os.path.join(os.path.dirname(os.path.abspath(__file__)), "..", "tests", "samples")
 # Two types more are read, whose elements are so large that no memory has room for as many as a head can claim.
@@ -35,6 +36,31 @@ def read():
         yield kind, digits, from_slice, from_reader
 
 
+def plain(kind):
+    """The name of a type as those that are read have it."""
+    return kind.replace("; ", ";").replace(", ", ",")
+
+
+def reading(kind):
+    """The type as which a written value is read, or None where it is behind a reference, or of a type that is only written."""
+    kind = plain(kind).replace("BTreeMap<Two,", "BTreeMap<TwoKey,")
+    kind = {"f32": "F32Bits", "f64": "F64Bits", "&Bytes": "Bytes"}.get(kind, kind)
+    return None if re.search(r"&(?!str\b)|UnkSeq|UnkMap|KnownSeq", kind) else kind
+
+
 def kinds():
     """The types that are read."""
-    return sorted({kind.partition("@")[0] for kind, *_ in read()} | set(LARGE))
+    found = {kind.partition("@")[0] for kind, *_ in read()} | {reading(kind) for kind, *_ in written()}
+    return sorted(found - {None} | set(LARGE))
+
+
+def part_of(parts):
+    """For each type, read or only written, which of so many parts it is in: types that are much alike are in one, and share what is compiled."""
+    found = sorted({reading(kind) or plain(kind) for kind, *_ in written()} | set(kinds()))
+    return {kind: at * parts // len(found) for at, kind in enumerate(found)}
+
+
+def written_of(part, parts):
+    """What is written, in a part of the types."""
+    of = part_of(parts)
+    return [it for it in written() if of[reading(it[0]) or plain(it[0])] == part]

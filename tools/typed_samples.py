@@ -348,7 +348,7 @@ def module(about, uses, lines, own):
 
 def rows_module(shapes, own, part, parts):
     functions, current, names = [], [], 0
-    for kind, value, rows in list(read_samples.written())[part::parts]:
+    for kind, value, rows in read_samples.written_of(part, parts):
         body = statements(kind, value, rows, shapes)
         if current and sum(2 + len(line) // 90 for line in current + body.lines) > LINES:
             functions.append(current)
@@ -367,14 +367,15 @@ def rows_module(shapes, own, part, parts):
 
 
 def kinds_module(own, part, parts):
-    kinds = read_samples.kinds()[part::parts]
+    part_of = read_samples.part_of(parts)
+    kinds = [kind for kind in read_samples.kinds() if part_of[kind] == part]
     lines = ["/// The place of the type of this name.", "pub fn place(kind: &str) -> Option<usize> {", "match kind {"]
     lines += [f'"{kind}" => Some({at}),' for at, kind in enumerate(kinds)]
     lines += ["_ => None,", "}", "}", "", "/// Reads the next message as the type at this place, and says what came of it.",
-              "pub fn read<'de, R: ReadSlice<'de>>(alloc: Global, at: usize, de: &mut Deserializer<R>) -> Result<String, Fault> {", "match at {"]
-    lines += [f"{at} => said::<R, {kind}>(alloc, de)," for at, kind in enumerate(kinds)]
-    lines += ["_ => Err(Fault::NoType),", "}", "}"]
-    uses = ["crate::answer::said", "crate::fault::Fault", "rmp_serde::Deserializer", "rmp_serde::wire::ReadSlice", "std::alloc::Global"]
+              "pub fn read<'de, R: ReadSlice<'de>>(alloc: Global, at: usize, de: &mut Deserializer<R>) -> Read {", "match at {"]
+    lines += [f"{at} => again::<R, {kind}>(alloc, de)," for at, kind in enumerate(kinds)]
+    lines += ["_ => Read::NoType,", "}", "}"]
+    uses = ["crate::answer::Read", "crate::answer::again", "rmp_serde::Deserializer", "rmp_serde::wire::ReadSlice", "std::alloc::Global"]
     return module("The types that are read, by their names in the sample.", uses, lines, own)
 
 

@@ -5,7 +5,7 @@ use crate::given::Given;
 use crate::kinds;
 use faulty_io::Drip;
 use rmp_serde::decode::{Deserialize, Error, Text};
-use rmp_serde::encode::{Serialize, to_vec};
+use rmp_serde::encode::{self, Serialize, to_vec};
 use rmp_serde::wire::ReadSlice;
 use rmp_serde::{Canon, Deserializer, check_canonical};
 use std::alloc::Global;
@@ -26,6 +26,31 @@ pub struct Answer {
     pub reader: String,
 }
 
+/// What came of reading a value: what it is written as, or why there is none.
+#[derive(Drop)]
+pub enum Read {
+    Value(Vec<u8>),
+    Unwritten(encode::Error),
+    Refused(Error),
+    NoType,
+}
+
+/// The own spelling of the next message's value, or the refusal. Each type is compiled for this alone, and for no more than that.
+#[inline(never)]
+pub fn again<'de, R: ReadSlice<'de>, T: Deserialize<'de, R> + Serialize>(
+    alloc: Global,
+    de: &mut Deserializer<R>,
+) -> Read {
+    let read: Result<T, Error> = Deserialize::deserialize(de);
+    match read {
+        Ok(value) => match to_vec(alloc, &value) {
+            Ok(bytes) => Read::Value(bytes),
+            Err(e) => Read::Unwritten(e),
+        },
+        Err(e) => Read::Refused(e),
+    }
+}
+
 // The name of an error's variant, and what it holds but for causes.
 fn refused(alloc: Global, error: &Error) -> Result<String, Fault> {
     let said = match error {
@@ -44,20 +69,16 @@ fn refused(alloc: Global, error: &Error) -> Result<String, Fault> {
     Ok(said?)
 }
 
-/// The own spelling of the next message's value, or the refusal.
-#[inline(never)]
-pub fn said<'de, R: ReadSlice<'de>, T: Deserialize<'de, R> + Serialize>(
-    alloc: Global,
-    de: &mut Deserializer<R>,
-) -> Result<String, Fault> {
-    let read: Result<T, Error> = Deserialize::deserialize(de);
+// What came of a read, as the sample says it.
+fn said(alloc: Global, read: Read) -> Result<String, Fault> {
     match read {
-        Ok(value) => {
-            let written = to_vec(alloc, &value)?;
-            let digits = hex::encode(alloc, written.as_slice())?;
+        Read::Value(bytes) => {
+            let digits = hex::encode(alloc, bytes.as_slice())?;
             Ok(format!(in alloc; "Ok {digits}")?)
         }
-        Err(error) => refused(alloc, &error),
+        Read::Unwritten(error) => Err(Fault::from(error)),
+        Read::Refused(error) => refused(alloc, &error),
+        Read::NoType => Err(Fault::NoType),
     }
 }
 
@@ -81,7 +102,7 @@ fn told<'de, R: ReadSlice<'de>>(
     if let Some(depth) = how.depth {
         de.set_max_depth(depth);
     }
-    let answer = kinds::read(alloc, how.kind, de)?;
+    let answer = said(alloc, kinds::read(alloc, how.kind, de))?;
     if answer.as_str().starts_with("Err") && !is_failed(de) {
         return Err(Fault::Reader);
     }

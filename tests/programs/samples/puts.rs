@@ -35,18 +35,16 @@ fn is_told(alloc: Global, answer: Result<(), Error>, written: &[u8]) -> bool {
     }
 }
 
-/// Writes a value into sinks that take a byte a put, each of which fails a put later, up to the last of what is written: what was taken
+/// Puts a value into sinks that take a byte a put, each of which fails a put later, up to the last of what is written: what was taken
 /// stands there, and the fault is the only one.
-#[inline(never)]
-pub fn each_put_failed<F: Form, T: Serialize>(
+pub fn each_put_failed(
     alloc: Global,
     mode: BytesMode,
-    value: &T,
+    put: &dyn Fn(Taker, BytesMode) -> (Result<(), Error>, Taker),
     whole: &[u8],
 ) -> Result<(), Fault> {
     for room in 0..whole.len() {
-        let trickle = Taker::Trickle(Trickle::new(alloc, room));
-        let (answer, sink) = put::<F, T>(alloc, trickle, mode, value);
+        let (answer, sink) = put(Taker::Trickle(Trickle::new(alloc, room)), mode);
         let written = &whole[..room];
         if !is_told(alloc, answer, written) || sink.faults() != 1 || sink.bytes() != written {
             return Err(Fault::Put);
@@ -55,17 +53,22 @@ pub fn each_put_failed<F: Form, T: Serialize>(
     Ok(())
 }
 
-// Writes a value into a slice by the call that takes a sink.
-fn put_into<T: Serialize>(alloc: Global, room: &mut [u8], value: &T) -> Result<(), Error> {
+/// Writes a value into a slice by the call that takes a sink.
+#[inline(never)]
+pub fn put_into<T: Serialize>(alloc: Global, room: &mut [u8], value: &T) -> Result<(), Error> {
     let mut sink = SliceSink::new(room);
     write(alloc, &mut sink, value)
 }
 
-/// Writes a value into slices, each of which has room for a byte more, up to the last of what is written: they are filled.
-pub fn each_room_filled<T: Serialize>(alloc: Global, value: &T, whole: &[u8]) -> Result<(), Fault> {
+/// Puts a value into slices, each of which has room for a byte more, up to the last of what is written: they are filled.
+pub fn each_room_filled(
+    alloc: Global,
+    put_into: &dyn Fn(&mut [u8]) -> Result<(), Error>,
+    whole: &[u8],
+) -> Result<(), Fault> {
     for room in 0..whole.len() {
         let mut bytes = vec![in alloc; 0u8; room]?;
-        let answer = put_into(alloc, bytes.as_mut_slice(), value);
+        let answer = put_into(bytes.as_mut_slice());
         let written = &whole[..room];
         if !is_told(alloc, answer, written) || bytes.as_slice() != written {
             return Err(Fault::Put);

@@ -1,10 +1,10 @@
 //! A row of the sample: a value, written in a setting.
 use crate::fault::Fault;
 use crate::form::Form;
-use crate::puts::{each_put_failed, each_room_filled, put};
+use crate::puts::{each_put_failed, each_room_filled, put, put_into};
 use crate::taker::Taker;
 use rmp_serde::config::BytesMode;
-use rmp_serde::encode::Serialize;
+use rmp_serde::encode::{Error, Serialize};
 use rmp_serde::{Value, from_slice_strict, to_vec};
 use std::alloc::{AllocError, Global};
 
@@ -59,12 +59,15 @@ fn read_again(alloc: Global, bytes: &[u8]) -> Result<(), Fault> {
 }
 
 // What a value is written as, and read from again. Each put that fails leaves a beginning of it.
-#[inline(never)]
-fn tried<F: Form, T: Serialize>(alloc: Global, mode: BytesMode, value: &T) -> Result<Taker, Fault> {
-    let (answer, sink) = put::<F, T>(alloc, Taker::Vector(Vec::new(alloc)), mode, value);
+fn tried(
+    alloc: Global,
+    mode: BytesMode,
+    put: &dyn Fn(Taker, BytesMode) -> (Result<(), Error>, Taker),
+) -> Result<Taker, Fault> {
+    let (answer, sink) = put(Taker::Vector(Vec::new(alloc)), mode);
     answer?;
     read_again(alloc, sink.bytes())?;
-    each_put_failed::<F, T>(alloc, mode, value, sink.bytes())?;
+    each_put_failed(alloc, mode, put, sink.bytes())?;
     Ok(sink)
 }
 
@@ -96,9 +99,32 @@ impl Rows {
         settings: &[Setting],
         value: &T,
     ) -> Result<(), AllocError> {
+        let alloc = self.alloc;
+        self.add_each(
+            kind,
+            shown,
+            settings,
+            &|sink, mode| { put::<F, T>(alloc, sink, mode, value) },
+        )
+    }
+
+    /// Writes a value in the default setting into slices that have too little room.
+    pub fn fill<T: Serialize>(&mut self, value: &T) -> Result<(), AllocError> {
+        let alloc = self.alloc;
+        self.fill_each(to_vec(alloc, value), &|room| put_into(alloc, room, value))
+    }
+
+    // The rows of a value that can be put into a sink. Apart from that its type is of no account, so this is compiled once.
+    fn add_each(
+        &mut self,
+        kind: &str,
+        shown: &str,
+        settings: &[Setting],
+        put: &dyn Fn(Taker, BytesMode) -> (Result<(), Error>, Taker),
+    ) -> Result<(), AllocError> {
         for setting in settings {
             write!(self.text, "{kind} | {shown} | {} | ", setting.words())?;
-            match tried::<F, T>(self.alloc, setting.bytes(), value) {
+            match tried(self.alloc, setting.bytes(), put) {
                 Ok(sink) => self.add_digits(sink.bytes())?,
                 Err(fault) => writeln!(self.text, "{fault}")?,
             }
@@ -106,10 +132,14 @@ impl Rows {
         Ok(())
     }
 
-    /// Writes a value in the default setting into slices that have too little room.
-    pub fn fill<T: Serialize>(&mut self, value: &T) -> Result<(), AllocError> {
-        let filled = match to_vec(self.alloc, value) {
-            Ok(whole) => each_room_filled(self.alloc, value, whole.as_slice()),
+    // Fills slices with what a value is written as.
+    fn fill_each(
+        &mut self,
+        whole: Result<Vec<u8>, Error>,
+        put_into: &dyn Fn(&mut [u8]) -> Result<(), Error>,
+    ) -> Result<(), AllocError> {
+        let filled = match whole {
+            Ok(whole) => each_room_filled(self.alloc, put_into, whole.as_slice()),
             Err(e) => Err(Fault::from(e)),
         };
         match filled {
