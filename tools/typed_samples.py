@@ -5,7 +5,7 @@
 
 With PART and PARTS it takes one of so many parts of the values and of the types, so that several programs are made side by side.
 src/rows.rt gets a call for each value of tests/samples/typed_write.txt with its settings, src/kinds.rt an arm for each type of
-typed_read.txt, and src/types/derived.rt the implementations of the types of src/types.rt, by tools/derive.py.
+typed_read.txt and for those of typed_write.txt that are read, and src/types/derived.rt the implementations of the types of src/types.rt, by tools/derive.py.
 """
 import os
 import re

@@ -193,12 +193,11 @@ fn ways(alloc: Global, bytes: &[u8], how: How, strict: bool) -> Result<Answer, F
 
 // Whether a strict read answers as it has to: as any other where no head is at fault, and else with the refusal of a head, or as any
 // other where that one refuses too.
-fn is_strict(alloc: Global, bytes: &[u8], answer: &str, strict: &str) -> bool {
-    match check_canonical(alloc, bytes) {
-        Ok(Canon::Fault(_)) => {
-            strict == "Err NotCanonical" || answer.starts_with("Err") && strict == answer
-        }
-        _ => strict == answer,
+fn is_strict(at_fault: bool, answer: &str, strict: &str) -> bool {
+    if at_fault {
+        strict == "Err NotCanonical" || answer.starts_with("Err") && strict == answer
+    } else {
+        strict == answer
     }
 }
 
@@ -207,8 +206,9 @@ fn is_strict(alloc: Global, bytes: &[u8], answer: &str, strict: &str) -> bool {
 pub fn row(alloc: Global, bytes: &[u8], how: How) -> Result<Answer, Fault> {
     let answer = ways(alloc, bytes, how, false)?;
     let strict = ways(alloc, bytes, how, true)?;
-    if !is_strict(alloc, bytes, answer.slice.as_str(), strict.slice.as_str())
-        || !is_strict(alloc, bytes, answer.reader.as_str(), strict.reader.as_str())
+    let at_fault = matches!(check_canonical(alloc, bytes), Ok(Canon::Fault(_)));
+    if !is_strict(at_fault, answer.slice.as_str(), strict.slice.as_str())
+        || !is_strict(at_fault, answer.reader.as_str(), strict.reader.as_str())
     {
         return Err(Fault::Strict);
     }

@@ -27,8 +27,24 @@ use row::Rows;
 use std::alloc::Global;
 use std::io::Read;
 
+// The place of the type of a line, which most often is that of the line before.
+fn place<'a>(kind: &'a str, last: &mut (&'a str, usize)) -> Result<usize, Fault> {
+    if kind != last.0 {
+        let Some(at) = kinds::place(kind) else {
+            return Err(Fault::NoType);
+        };
+        *last = (kind, at);
+    }
+    Ok(last.1)
+}
+
 // Reads the bytes of a line as its type.
-fn answered(alloc: Global, line: &str, pulls: usize) -> Result<Answer, Fault> {
+fn answered<'a>(
+    alloc: Global,
+    line: &'a str,
+    pulls: usize,
+    last: &mut (&'a str, usize),
+) -> Result<Answer, Fault> {
     let Some((kind, digits)) = line.split_once(" | ") else {
         return Err(Fault::NoRow);
     };
@@ -39,9 +55,7 @@ fn answered(alloc: Global, line: &str, pulls: usize) -> Result<Answer, Fault> {
         Some((kind, depth)) => (kind, depth.parse::<usize>().ok()),
         None => (kind, None),
     };
-    let Some(kind) = kinds::place(kind) else {
-        return Err(Fault::NoType);
-    };
+    let kind = place(kind, last)?;
     row(alloc, bytes.as_slice(), How { kind, depth, pulls })
 }
 
@@ -63,8 +77,9 @@ fn main(rt: HostRuntime) -> Result<(), Fault> {
     let Some(Ok(pulls)) = first.strip_prefix("read ").map(|n| n.parse::<usize>()) else {
         return Err(Fault::NoRow);
     };
+    let mut last = ("", 0);
     for line in lines.lines() {
-        match answered(rt.alloc(), line, pulls) {
+        match answered(rt.alloc(), line, pulls, &mut last) {
             Ok(answer) => println!(rt; "{} | {}", answer.slice, answer.reader)?,
             Err(fault) => println!(rt; "{fault}")?,
         }
