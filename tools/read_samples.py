@@ -5,12 +5,15 @@ give, all as they stand in Rust. A line of typed_read.txt has a type, behind whi
 bytes in hex, what the Rust crate answers from a slice and from a reader, what the rules give for the port from a slice and from a
 reader, and how the two compare.
 """
+import itertools
 import os
 import re
 
 SAMPLES = os.path.join(os.path.dirname(os.path.abspath(__file__)), "..", "tests", "samples")
 # Two types more are read, whose elements are so large that no memory has room for as many as a head can claim.
 LARGE = ["Vec<[u64;400]>", "VecDeque<[u64;400]>"]
+# As these every message is read, which takes as long as so many types do.
+OFTEN = {"Value": 20, "Ignored": 10}
 
 
 def lines(name):
@@ -57,7 +60,8 @@ def kinds():
 def part_of(parts):
     """For each type, read or only written, which of so many parts it is in: types that are much alike are in one, and share what is compiled."""
     found = sorted({reading(kind) or plain(kind) for kind, *_ in written()} | set(kinds()))
-    return {kind: at * parts // len(found) for at, kind in enumerate(found)}
+    behind = [*itertools.accumulate(OFTEN.get(kind, 1) for kind in found)]
+    return {kind: (it - 1) * parts // behind[-1] for kind, it in zip(found, behind)}
 
 
 def written_of(part, parts):
