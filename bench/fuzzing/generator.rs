@@ -45,6 +45,9 @@ struct Spelling<'a> {
     out: Vec<u8>,
 }
 
+/// How many kinds of elements there are.
+const KINDS: u64 = 24;
+
 const NAMES: &[&str] = &[
     "id", "on", "name", "age", "score", "note", "alpha", "beta", "gamma", "delta", "epsilon", "zeta", "eta", "theta", "a", "b", "Empty",
     "New", "Tup", "Str", "january", "december", "", "é", "\u{1f600}",
@@ -222,7 +225,132 @@ impl Spelling<'_> {
                     self.number();
                 }
             }
-            _ => self.any(3),
+            15 => self.any(3),
+            _ => self.typed(kind),
+        }
+    }
+
+    /// A number that mostly fits a byte.
+    fn small(&mut self) {
+        match self.random.below(12) {
+            0 => self.number(),
+            1 => self.out.push(0xc0),
+            2 => self.out.extend([0xcc, self.random.byte()]),
+            3 => self.out.extend([0xd0, self.random.byte()]),
+            _ => self.out.push(self.random.below(128) as u8),
+        }
+    }
+
+    /// Small numbers as a list, or as bytes.
+    fn smalls(&mut self, n: u64) {
+        if self.random.one_in(3) {
+            let content = self.random.bytes(n);
+            self.length(None, BYTES, n);
+            self.out.extend(content);
+        } else {
+            self.list(n);
+            (0..n).for_each(|_| self.small());
+        }
+    }
+
+    /// A name of a field or of a variant, or its place.
+    fn name_or_place(&mut self, names: &[&str]) {
+        let place = self.random.below(names.len() as u64 + 1);
+        match self.random.below(8) {
+            0 => self.out.push(place as u8),
+            1 => self.out.extend([0xcc, place as u8]),
+            2 => self.out.extend([0xd0, place as u8]),
+            3 => self.name(),
+            _ => {
+                let name = self.random.one_of(names);
+                self.length(Some((0xa0, 32)), TEXTS, name.len() as u64);
+                self.out.extend(name.as_bytes());
+            }
+        }
+    }
+
+    /// A struct of a text and a number, or something like it.
+    fn dog(&mut self) {
+        if self.random.one_in(2) {
+            self.list(2);
+            self.text();
+            self.number();
+            return;
+        }
+        let n = if self.random.one_in(4) { self.random.below(4) } else { 2 };
+        let first = self.random.below(2);
+        self.map(n);
+        for at in 0..n {
+            if self.random.one_in(6) {
+                self.name_or_place(&["name", "age"]);
+            } else {
+                let name = ["name", "age"][((first + at) % 2) as usize];
+                self.length(Some((0xa0, 32)), TEXTS, name.len() as u64);
+                self.out.extend(name.as_bytes());
+            }
+            let is_text = (first + at) % 2 == 0;
+            if is_text { self.text() } else { self.small() }
+        }
+    }
+
+    /// A variant with or without content.
+    fn other_variant(&mut self) {
+        if self.random.one_in(2) {
+            let of_one = self.random.one_in(8);
+            if of_one { self.list(1) } else { self.map(1) }
+        }
+        self.name_or_place(&["Unit", "New", "Tup", "Str"]);
+        match self.random.below(8) {
+            0 | 1 => self.out.push(0xc0),
+            2 => self.small(),
+            3 => self.smalls(2),
+            4 => self.dog(),
+            5 => self.fields(&["a", "b"]),
+            6 => {
+                self.list(2);
+                self.small();
+                self.text();
+            }
+            _ => {}
+        }
+    }
+
+    /// An element of the types that have a shape of their own.
+    fn typed(&mut self, kind: u64) {
+        match kind {
+            16 => self.dog(),
+            17 => self.other_variant(),
+            18 => {
+                self.list(5);
+                self.small();
+                self.small();
+                self.leaf(1);
+                self.name();
+                self.text();
+            }
+            19 => {
+                let n = self.random.below(6);
+                self.smalls(n);
+            }
+            20 => {
+                let content = self.random.bytes(16);
+                self.length(None, BYTES, 16);
+                self.out.extend(content);
+            }
+            21 => {
+                let n = self.random.below(2);
+                self.list(n);
+            }
+            22 => {
+                self.map(1);
+                self.name_or_place(&["v"]);
+                self.small();
+            }
+            _ => {
+                self.list(2);
+                self.small();
+                self.text();
+            }
         }
     }
 
@@ -236,7 +364,8 @@ impl Spelling<'_> {
                 self.out.push(0);
             }
         }
-        self.leaf(0);
+        let kind = self.random.below(8);
+        self.leaf(kind);
     }
 }
 
@@ -270,9 +399,13 @@ pub fn input(random: &mut Random) -> Vec<u8> {
     match spelling.random.below(200) {
         0 => spelling.deep(),
         1..60 => spelling.any(4),
+        60..110 => {
+            let kind = spelling.random.below(KINDS);
+            spelling.element(kind);
+        }
         _ => {
             let n = if spelling.random.one_in(10) { spelling.random.below(40) } else { spelling.random.below(5) };
-            let kind = spelling.random.below(16);
+            let kind = spelling.random.below(KINDS);
             spelling.list(n);
             (0..n).for_each(|_| spelling.element(kind));
         }

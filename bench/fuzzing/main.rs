@@ -1,8 +1,20 @@
-//! Gives the exports of crates/rmp_c and crates/bench_shapes messages that a generator makes and spoils, for so many seconds from a seed.
+//! Gives the exports of crates/rmp_c, crates/bench_shapes, crates/bench_strict and crates/bench_fuzz messages that a generator makes and
+//! spoils, for so many seconds from a seed.
 
+#[cfg(feature = "original")]
+mod beside;
 mod generator;
 mod model;
+#[cfg(feature = "original")]
+mod original;
+#[cfg(feature = "original")]
+mod reasons;
+mod typed;
 
+#[cfg(not(feature = "original"))]
+use alone::Compared;
+#[cfg(feature = "original")]
+use beside::Compared;
 use generator::Random;
 use model::Refusal;
 use std::time::{Duration, Instant};
@@ -90,7 +102,7 @@ strict! {
 /// What was answered, where it isn't what the model says.
 type Answered = Result<(), String>;
 
-fn same<T: PartialEq + std::fmt::Debug>(call: &str, said: T, wanted: T) -> Answered {
+pub fn same<T: PartialEq + std::fmt::Debug>(call: &str, said: T, wanted: T) -> Answered {
     if said == wanted { Ok(()) } else { Err(format!("{call}: {said:?}, and not {wanted:?}")) }
 }
 
@@ -144,7 +156,38 @@ fn read(call: OfBytes, bytes: &[u8], reps: u32) -> usize {
     unsafe { call(bytes.as_ptr(), bytes.len(), reps) }
 }
 
-/// Gives the bytes to every call.
+/// Where there is no original to compare with.
+#[cfg(not(feature = "original"))]
+mod alone {
+    use crate::typed::Answer;
+
+    #[derive(Default)]
+    pub struct Compared;
+
+    impl Compared {
+        pub fn of_type(&mut self, _kind: usize, _bytes: &[u8], _form: u32, _port: &Answer) -> Result<(), String> {
+            Ok(())
+        }
+
+        pub fn of_skip(&mut self, _bytes: &[u8], _port: &Answer) -> Result<(), String> {
+            Ok(())
+        }
+
+        pub fn print(&self) {}
+    }
+}
+
+/// Gives the bytes to every read of a type, with one of the forms to write in for each, and compares.
+fn try_types(bytes: &[u8], turn: u64, compared: &mut Compared) -> Answered {
+    compared.of_skip(bytes, &typed::try_skip(bytes)?)?;
+    for kind in 0..typed::TYPES.len() {
+        let form = ((turn + kind as u64) % 4) as u32;
+        compared.of_type(kind, bytes, form, &typed::try_type(kind, bytes, form)?)?;
+    }
+    Ok(())
+}
+
+/// Gives the bytes to every other call.
 fn try_all(bytes: &[u8]) -> Result<Option<Refusal>, String> {
     let wanted = model::check(bytes);
     let told = match check(bytes) {
@@ -192,12 +235,13 @@ fn main() {
     let words: Vec<u64> = std::env::args().skip(1).map(|word| word.parse().expect("a number")).collect();
     let (end, first) = (Instant::now() + Duration::from_secs(words[0]), words[1]);
     let (mut inputs, mut whole, mut refused) = (0u64, 0u64, [0u64; 8]);
+    let mut compared = Compared::default();
     for seed in first.. {
         eprintln!("seed {seed}");
         let mut random = Random::new(seed);
         for _ in 0..BLOCK {
             let bytes = generator::input(&mut random);
-            match try_all(&bytes) {
+            match try_types(&bytes, inputs, &mut compared).and_then(|()| try_all(&bytes)) {
                 Ok(None) => whole += 1,
                 Ok(Some(refusal)) => refused[refusal as usize] += 1,
                 Err(what) => {
@@ -213,6 +257,7 @@ fn main() {
         }
     }
     println!("{inputs} inputs, no difference and no crash: {whole} whole messages; refused {}", counts(&refused));
+    compared.print();
 }
 
 fn counts(refused: &[u64; 8]) -> String {

@@ -184,6 +184,31 @@ fn content<'a>(bytes: &'a [u8], met: &Met, len: usize) -> Result<&'a [u8], Refus
     bytes[met.len..].get(..len).ok_or(Refusal::Cut)
 }
 
+/// Where a head stands.
+#[cfg(feature = "original")]
+pub struct Place {
+    /// Its first byte.
+    pub first: u8,
+    /// Where what stands behind it begins, and how much of that is its content.
+    pub content: usize,
+    pub len: usize,
+}
+
+/// The heads of the message at the front, up to the first that is cut or has its content cut.
+#[cfg(feature = "original")]
+pub fn places(bytes: &[u8]) -> Vec<Place> {
+    let mut places = Vec::new();
+    let _ = walk(bytes, |at, front, met, _| {
+        let len = match met.head {
+            Head::Content { len, .. } => len,
+            _ => 0,
+        };
+        places.push(Place { first: front[0], content: at + met.len, len });
+        content(front, met, len).map(|_| ())
+    });
+    places
+}
+
 /// Whether the bytes begin with the canonical spelling of a message: how long it is, or the refusal and the place where it comes.
 pub fn check(bytes: &[u8]) -> Result<usize, (Refusal, usize)> {
     let mut place = 0;

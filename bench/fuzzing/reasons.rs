@@ -1,0 +1,116 @@
+//! Where the original answers otherwise, and docs/DIFFERENCES.md says so: by what stands in the bytes, and not by what is answered alone.
+
+use crate::model::{self, Place};
+use crate::original::ALL;
+use crate::typed::Answer;
+use Answer::{NotWritten, Refused, Whole};
+
+/// The kinds of errors that matter here, by their statuses.
+const CUT: u32 = 2;
+const MISMATCH: u32 = 3;
+const OUT_OF_RANGE: u32 = 4;
+const LENGTH: u32 = 5;
+const SYNTAX: u32 = 7;
+const NOT_UTF8: u32 = 8;
+const TOO_DEEP: u32 = 9;
+
+/// A difference that is documented.
+pub type Reason = &'static str;
+
+/// Both agree.
+pub const AGREED: Reason = "";
+
+const FLOATS: Reason = "floats of one size are read as the other, and whole numbers as floats: here each as the bits of its own size";
+const EXCESS: Reason = "bytes read as a tuple drop excess: here it is refused";
+const OFFERED: Reason = "bytes read as a list refuse options: here each is offered to the element's type";
+const WRAPS: Reason = "a negative number read as u128 wraps: here it is out of range";
+const WIDE: Reason = "128 bits are read from Bin8 alone: here from bytes of every width";
+const UNIT: Reason = "a unit struct's list is read only as 90: here in every width";
+const SIGNED: Reason = "a place of a field or a variant is refused in a head with a sign: here it counts by its value";
+const EXTENSIONS: Reason = "extensions count for the limit on nesting: here lists and maps alone";
+const NO_TREE: Reason = "a text that isn't UTF-8 is handed on as bytes: here a tree of any kind refuses it";
+const MIXED: Reason = "a tuple whose later element isn't a u8 is refused where tuples are bytes: here it is a list";
+const CONTENT: Reason = "both refuse: the content of a text or of bytes is read before its kind is refused: here its head alone";
+const HEAD: Reason = "both refuse: a marker of a wrong kind is refused before its length or number: here the head is read whole first";
+const ERRORS: Reason = "both refuse: by another error of the port's own table";
+
+const STRUCTS: &[&str] = &["dog", "optional", "dogs", "four", "v12"];
+
+/// Whether the read stopped inside of bytes, or at their head.
+fn is_in_bytes(places: &[Place], taken: usize) -> bool {
+    let holds = |place: &Place| matches!(place.first, 0xc4..=0xc6) && place.content <= taken && taken <= place.content + place.len;
+    places.iter().any(holds)
+}
+
+/// Whether some head is one of these.
+fn has(places: &[Place], wanted: impl Fn(u8) -> bool) -> bool {
+    places.iter().any(|place| wanted(place.first))
+}
+
+fn is_signed(first: u8) -> bool {
+    matches!(first, 0xd0..=0xd3)
+}
+
+fn is_extension(first: u8) -> bool {
+    matches!(first, 0xc7..=0xc9 | 0xd4..=0xd8)
+}
+
+fn is_number(first: u8) -> bool {
+    matches!(first, 0x00..=0x7f | 0xca..=0xd3 | 0xe0..=0xff)
+}
+
+/// Why the original reads what the port refuses by this error, with so many bytes taken.
+fn refused_here(name: &str, places: &[Place], error: u32, taken: usize) -> Option<Reason> {
+    let first = places.first()?.first;
+    match (error, name) {
+        (SYNTAX, "f32" | "f64") if is_number(first) => Some(FLOATS),
+        (LENGTH, "pair" | "array" | "point" | "four" | "v12") if is_in_bytes(places, taken) => Some(EXCESS),
+        (OUT_OF_RANGE, "u128") if is_signed(first) || first >= 0xe0 => Some(WRAPS),
+        (NOT_UTF8, "value") => Some(NO_TREE),
+        _ => None,
+    }
+}
+
+/// Why the original refuses by this error what the port reads.
+fn read_here(name: &str, places: &[Place], error: u32) -> Option<Reason> {
+    let first = places.first()?.first;
+    match (error, name) {
+        (MISMATCH, "u128" | "i128") if matches!(first, 0xc5 | 0xc6) => Some(WIDE),
+        (SYNTAX, "options" | "optional") if matches!(first, 0xc4..=0xc6) => Some(OFFERED),
+        (SYNTAX, "unit") if matches!(first, 0xdc | 0xdd) => Some(UNIT),
+        (SYNTAX, _) if STRUCTS.contains(&name) && has(places, is_signed) => Some(SIGNED),
+        (TOO_DEEP, "value" | "skip") if has(places, is_extension) => Some(EXTENSIONS),
+        _ => None,
+    }
+}
+
+/// Why both refuse, and the port by another error than the original.
+fn refused_by_both(name: &str, places: &[Place], here: u32, there: u32) -> Reason {
+    let is_extension_cut = || places.last().is_none_or(|place| is_extension(place.first));
+    match (here, there) {
+        (NOT_UTF8, _) if name == "value" => NO_TREE,
+        (SYNTAX, CUT | NOT_UTF8) | (LENGTH, CUT) => CONTENT,
+        (CUT, MISMATCH) => HEAD,
+        (_, SYNTAX) if STRUCTS.contains(&name) && has(places, is_signed) => SIGNED,
+        (LENGTH, SYNTAX) if name == "optional" => OFFERED,
+        (LENGTH, MISMATCH) if matches!(name, "u128" | "i128") => WIDE,
+        (_, TOO_DEEP) if is_extension_cut() => EXTENSIONS,
+        _ => ERRORS,
+    }
+}
+
+/// What the two answers have to do with one another: that they agree, or the reason why they don't, if there is one.
+pub fn reason(name: &str, bytes: &[u8], form: u32, port: &Answer, original: &Answer) -> Option<Reason> {
+    if port == original {
+        return Some(AGREED);
+    }
+    let places = model::places(bytes);
+    match (port, original) {
+        (Refused { error, .. }, Refused { error: other, .. }) if error == other => Some(AGREED),
+        (Refused { error, .. }, Refused { error: other, .. }) => Some(refused_by_both(name, &places, *error, *other)),
+        (Refused { error, left }, Whole { .. } | NotWritten { .. }) => refused_here(name, &places, *error, bytes.len() - left),
+        (Whole { .. } | NotWritten { .. }, Refused { error, .. }) => read_here(name, &places, *error),
+        (Whole { left, .. }, NotWritten { left: other }) if left == other && form == ALL && name == "mixed" => Some(MIXED),
+        _ => None,
+    }
+}
