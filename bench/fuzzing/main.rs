@@ -1,9 +1,13 @@
 //! Gives the exports of crates/rmp_c, crates/bench_shapes, crates/bench_strict and crates/bench_fuzz messages that a generator makes and
 //! spoils, for so many seconds from a seed.
 
+#[cfg(not(feature = "original"))]
+mod alone;
 #[cfg(feature = "original")]
 mod beside;
 mod generator;
+#[cfg(feature = "original")]
+mod lists;
 mod model;
 #[cfg(feature = "original")]
 mod original;
@@ -156,27 +160,6 @@ fn read(call: OfBytes, bytes: &[u8], reps: u32) -> usize {
     unsafe { call(bytes.as_ptr(), bytes.len(), reps) }
 }
 
-/// Where there is no original to compare with.
-#[cfg(not(feature = "original"))]
-mod alone {
-    use crate::typed::Answer;
-
-    #[derive(Default)]
-    pub struct Compared;
-
-    impl Compared {
-        pub fn of_type(&mut self, _kind: usize, _bytes: &[u8], _form: u32, _port: &Answer) -> Result<(), String> {
-            Ok(())
-        }
-
-        pub fn of_skip(&mut self, _bytes: &[u8], _port: &Answer) -> Result<(), String> {
-            Ok(())
-        }
-
-        pub fn print(&self) {}
-    }
-}
-
 /// Gives the bytes to every read of a type, with one of the forms to write in for each, and compares.
 fn try_types(bytes: &[u8], turn: u64, compared: &mut Compared) -> Answered {
     compared.of_skip(bytes, &typed::try_skip(bytes)?)?;
@@ -188,7 +171,7 @@ fn try_types(bytes: &[u8], turn: u64, compared: &mut Compared) -> Answered {
 }
 
 /// Gives the bytes to every other call.
-fn try_all(bytes: &[u8]) -> Result<Option<Refusal>, String> {
+fn try_all(bytes: &[u8], compared: &mut Compared) -> Result<Option<Refusal>, String> {
     let wanted = model::check(bytes);
     let told = match check(bytes) {
         // before a head that isn't canonical no place is said
@@ -205,6 +188,7 @@ fn try_all(bytes: &[u8]) -> Result<Option<Refusal>, String> {
     for (name, call) in TYPED {
         let once = read(*call, bytes, 1);
         same(&format!("{name}, twice"), read(*call, bytes, 2), 2 * once)?;
+        compared.of_list(name, bytes, once)?;
         if *name == "bench_skip" {
             same(name, once, passed)?;
         } else if let Ok(shortest) = &spelled {
@@ -241,7 +225,7 @@ fn main() {
         let mut random = Random::new(seed);
         for _ in 0..BLOCK {
             let bytes = generator::input(&mut random);
-            match try_types(&bytes, inputs, &mut compared).and_then(|()| try_all(&bytes)) {
+            match try_types(&bytes, inputs, &mut compared).and_then(|()| try_all(&bytes, &mut compared)) {
                 Ok(None) => whole += 1,
                 Ok(Some(refusal)) => refused[refusal as usize] += 1,
                 Err(what) => {

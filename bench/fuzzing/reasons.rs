@@ -28,17 +28,22 @@ const WIDE: Reason = "128 bits are read from Bin8 alone: here from bytes of ever
 const UNIT: Reason = "a unit struct's list is read only as 90: here in every width";
 const SIGNED: Reason = "a place of a field or a variant is refused in a head with a sign: here it counts by its value";
 const EXTENSIONS: Reason = "extensions count for the limit on nesting: here lists and maps alone";
-const NO_TREE: Reason = "a text that isn't UTF-8 is handed on as bytes: here a tree of any kind refuses it";
+const NO_TREE: Reason = "a text that isn't UTF-8 is handed on as bytes, and there is no tree of any kind: here that refuses it";
 const MIXED: Reason = "a tuple whose later element isn't a u8 is refused where tuples are bytes: here it is a list";
 const CONTENT: Reason = "both refuse: the content of a text or of bytes is read before its kind is refused: here its head alone";
 const HEAD: Reason = "both refuse: a marker of a wrong kind is refused before its length or number: here the head is read whole first";
+const EXTENSION_CUT: Reason = "both refuse: an extension's head that is cut, where something else is wanted, by its kind: here as cut";
 const ERRORS: Reason = "both refuse: by another error of the port's own table";
 
 const STRUCTS: &[&str] = &["dog", "optional", "dogs", "four", "v12"];
 
+fn is_bytes(first: u8) -> bool {
+    matches!(first, 0xc4..=0xc6)
+}
+
 /// Whether the read stopped inside of bytes, or at their head.
 fn is_in_bytes(places: &[Place], taken: usize) -> bool {
-    let holds = |place: &Place| matches!(place.first, 0xc4..=0xc6) && place.content <= taken && taken <= place.content + place.len;
+    let holds = |place: &Place| is_bytes(place.first) && place.content <= taken && taken <= place.content + place.len;
     places.iter().any(holds)
 }
 
@@ -76,7 +81,7 @@ fn read_here(name: &str, places: &[Place], error: u32) -> Option<Reason> {
     let first = places.first()?.first;
     match (error, name) {
         (MISMATCH, "u128" | "i128") if matches!(first, 0xc5 | 0xc6) => Some(WIDE),
-        (SYNTAX, "options" | "optional") if matches!(first, 0xc4..=0xc6) => Some(OFFERED),
+        (SYNTAX, "options" | "optional") if is_bytes(first) => Some(OFFERED),
         (SYNTAX, "unit") if matches!(first, 0xdc | 0xdd) => Some(UNIT),
         (SYNTAX, _) if STRUCTS.contains(&name) && has(places, is_signed) => Some(SIGNED),
         (TOO_DEEP, "value" | "skip") if has(places, is_extension) => Some(EXTENSIONS),
@@ -84,9 +89,15 @@ fn read_here(name: &str, places: &[Place], error: u32) -> Option<Reason> {
     }
 }
 
+/// Whether the first head that is cut, or has its content cut, is an extension's.
+fn ends_in_extension(bytes: &[u8], places: &[Place]) -> bool {
+    let end = places.last().map_or(0, |place| place.content + place.len);
+    let last = bytes.get(end).copied().or(places.last().map(|place| place.first));
+    last.is_some_and(is_extension)
+}
+
 /// Why both refuse, and the port by another error than the original.
-fn refused_by_both(name: &str, places: &[Place], here: u32, there: u32) -> Reason {
-    let is_extension_cut = || places.last().is_none_or(|place| is_extension(place.first));
+fn refused_by_both(name: &str, bytes: &[u8], places: &[Place], here: u32, there: u32) -> Reason {
     match (here, there) {
         (NOT_UTF8, _) if name == "value" => NO_TREE,
         (SYNTAX, CUT | NOT_UTF8) | (LENGTH, CUT) => CONTENT,
@@ -94,7 +105,8 @@ fn refused_by_both(name: &str, places: &[Place], here: u32, there: u32) -> Reaso
         (_, SYNTAX) if STRUCTS.contains(&name) && has(places, is_signed) => SIGNED,
         (LENGTH, SYNTAX) if name == "optional" => OFFERED,
         (LENGTH, MISMATCH) if matches!(name, "u128" | "i128") => WIDE,
-        (_, TOO_DEEP) if is_extension_cut() => EXTENSIONS,
+        (CUT, SYNTAX) if ends_in_extension(bytes, places) => EXTENSION_CUT,
+        (_, TOO_DEEP) if ends_in_extension(bytes, places) => EXTENSIONS,
         _ => ERRORS,
     }
 }
@@ -107,10 +119,29 @@ pub fn reason(name: &str, bytes: &[u8], form: u32, port: &Answer, original: &Ans
     let places = model::places(bytes);
     match (port, original) {
         (Refused { error, .. }, Refused { error: other, .. }) if error == other => Some(AGREED),
-        (Refused { error, .. }, Refused { error: other, .. }) => Some(refused_by_both(name, &places, *error, *other)),
+        (Refused { error, .. }, Refused { error: other, .. }) => Some(refused_by_both(name, bytes, &places, *error, *other)),
         (Refused { error, left }, Whole { .. } | NotWritten { .. }) => refused_here(name, &places, *error, bytes.len() - left),
         (Whole { .. } | NotWritten { .. }, Refused { error, .. }) => read_here(name, &places, *error),
         (Whole { left, .. }, NotWritten { left: other }) if left == other && form == ALL && name == "mixed" => Some(MIXED),
+        _ => None,
+    }
+}
+
+/// What two lengths of a list have to do with one another, in which a list that is refused has none.
+pub fn list_reason(name: &str, bytes: &[u8], here: usize, there: usize) -> Option<Reason> {
+    if here == there {
+        return Some(AGREED);
+    }
+    let places = model::places(bytes);
+    let is_struct = matches!(name, "bench_read_two" | "bench_read_five" | "bench_read_eight" | "bench_read_twelve" | "bench_read_shape");
+    match (name, here, there) {
+        ("bench_read_f64", 0, _) if has(&places, |b| is_number(b) || is_bytes(b)) => Some(FLOATS),
+        ("bench_read_u128", 0, _) if has(&places, |b| is_signed(b) || b >= 0xe0) => Some(WRAPS),
+        ("bench_read_u128", _, 0) if has(&places, |b| matches!(b, 0xc5 | 0xc6)) => Some(WIDE),
+        ("bench_read_option", _, 0) if has(&places, is_bytes) => Some(OFFERED),
+        ("bench_skip", 1, 0) if has(&places, is_extension) => Some(EXTENSIONS),
+        (_, 0, _) if is_struct && has(&places, is_bytes) => Some(EXCESS),
+        (_, _, 0) if is_struct && has(&places, is_signed) => Some(SIGNED),
         _ => None,
     }
 }
