@@ -22,7 +22,7 @@ pub const AGREED: Reason = "";
 
 const FLOATS: Reason = "floats of one size are read as the other, and whole numbers as floats: here each as the bits of its own size";
 const EXCESS: Reason = "bytes read as a tuple drop excess: here it is refused";
-const OFFERED: Reason = "bytes read as a list refuse options: here each is offered to the element's type";
+const OFFERED: Reason = "bytes read as a list refuse options and variants: here each is offered to the element's type";
 const WRAPS: Reason = "a negative number read as u128 wraps: here it is out of range";
 const WIDE: Reason = "128 bits are read from Bin8 alone: here from bytes of every width";
 const SIGNED: Reason = "a place of a field or a variant is refused in a head with a sign: here it counts by its value";
@@ -131,7 +131,7 @@ pub fn list_reason(name: &str, bytes: &[u8], here: usize, there: usize) -> Optio
         ("bench_read_f64", 0, _) if has(&places, |b| is_number(b) || is_bytes(b)) => Some(FLOATS),
         ("bench_read_u128", 0, _) if has(&places, |b| is_signed(b) || b >= 0xe0) => Some(WRAPS),
         ("bench_read_u128", _, 0) if has(&places, |b| matches!(b, 0xc5 | 0xc6)) => Some(WIDE),
-        ("bench_read_option", _, 0) if has(&places, is_bytes) => Some(OFFERED),
+        ("bench_read_option" | "bench_read_shape", _, 0) if has(&places, is_bytes) => Some(OFFERED),
         ("bench_skip", 1, 0) if has(&places, is_extension) => Some(EXTENSIONS),
         (_, 0, _) if is_struct && has(&places, is_bytes) => Some(EXCESS),
         (_, _, 0) if is_struct && has(&places, is_signed) => Some(SIGNED),
