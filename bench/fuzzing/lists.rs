@@ -1,67 +1,14 @@
 //! The reads of lists that crates/bench_shapes has, by the original: how many elements a list has, or none where it is refused.
 
 use rmp_serde::{from_read, from_slice};
-use serde::Deserialize;
 use serde::de::{DeserializeOwned, IgnoredAny};
 use serde_bytes::ByteBuf;
 use std::collections::{BTreeMap, VecDeque};
 use std::io::{BufReader, Cursor};
+use structs::{EightFields, Five, Shape, Twelve, Two};
 
-#[derive(Deserialize)]
-#[expect(dead_code)]
-struct Two {
-    id: u32,
-    on: bool,
-}
-
-#[derive(Deserialize)]
-#[expect(dead_code)]
-struct Five {
-    id: u32,
-    name: String,
-    age: u8,
-    score: i64,
-    note: Option<u16>,
-}
-
-#[derive(Deserialize)]
-#[expect(dead_code)]
-struct EightFields {
-    alpha: u32,
-    beta: u32,
-    gamma: u32,
-    delta: u32,
-    epsilon: u32,
-    zeta: u32,
-    eta: u32,
-    theta: u32,
-}
-
-#[derive(Deserialize)]
-#[expect(dead_code)]
-struct Twelve {
-    january: u32,
-    february: u32,
-    march: u32,
-    april: u32,
-    may: u32,
-    june: u32,
-    july: u32,
-    august: u32,
-    september: u32,
-    october: u32,
-    november: u32,
-    december: u32,
-}
-
-#[derive(Deserialize)]
-#[expect(dead_code)]
-enum Shape {
-    Empty,
-    New(u32),
-    Tup(u32, u32),
-    Str { a: u32, b: u32 },
-}
+#[path = "../types/structs.rs"]
+mod structs;
 
 fn of_slice<T: DeserializeOwned>(bytes: &[u8]) -> usize {
     from_slice::<Vec<T>>(bytes).map_or(0, |items| items.len())

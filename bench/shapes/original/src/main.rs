@@ -2,72 +2,21 @@
 
 use rmp_serde::config::BytesMode;
 use rmp_serde::{Raw, Serializer, from_slice};
-use serde::de::{IgnoredAny, MapAccess, SeqAccess, Visitor};
+use serde::de::IgnoredAny;
 use serde::{Deserialize, Serialize};
 use serde_bytes::{ByteBuf, Bytes};
 use std::collections::{BTreeMap, BTreeSet, VecDeque};
-use std::fmt;
 use std::hint::black_box;
 use std::io::{BufReader, Cursor};
+use structs::{EightFields, Five, Shape, Twelve, Two};
+use value::Value;
 
 #[path = "../../loads.rs"]
 mod loads;
-
-#[derive(Deserialize)]
-#[expect(dead_code)]
-struct Two {
-    id: u32,
-    on: bool,
-}
-
-#[derive(Deserialize)]
-#[expect(dead_code)]
-struct Five {
-    id: u32,
-    name: String,
-    age: u8,
-    score: i64,
-    note: Option<u16>,
-}
-
-#[derive(Deserialize)]
-#[expect(dead_code)]
-struct EightFields {
-    alpha: u32,
-    beta: u32,
-    gamma: u32,
-    delta: u32,
-    epsilon: u32,
-    zeta: u32,
-    eta: u32,
-    theta: u32,
-}
-
-#[derive(Deserialize)]
-#[expect(dead_code)]
-struct Twelve {
-    january: u32,
-    february: u32,
-    march: u32,
-    april: u32,
-    may: u32,
-    june: u32,
-    july: u32,
-    august: u32,
-    september: u32,
-    october: u32,
-    november: u32,
-    december: u32,
-}
-
-#[derive(Deserialize)]
-#[expect(dead_code)]
-enum Shape {
-    Empty,
-    New(u32),
-    Tup(u32, u32),
-    Str { a: u32, b: u32 },
-}
+#[path = "../../../types/structs.rs"]
+mod structs;
+#[path = "../../../types/value.rs"]
+mod value;
 
 #[derive(Deserialize)]
 #[serde(rename = "_ExtStruct")]
@@ -276,78 +225,4 @@ fn writes_bytes(data: &[u8], reps: u32, mode: BytesMode) -> usize {
         }
     }
     se.get_ref().len()
-}
-
-/// A message of the kinds that the loads have. The original has no such type of its own.
-#[expect(dead_code)]
-enum Value {
-    Nil,
-    Truth(bool),
-    Whole(u64),
-    Below(i64),
-    F64(f64),
-    Text(String),
-    Bytes(Vec<u8>),
-    List(Vec<Value>),
-    Map(Vec<(Value, Value)>),
-}
-
-struct ValueVisitor;
-
-impl<'de> Visitor<'de> for ValueVisitor {
-    type Value = Value;
-
-    fn expecting(&self, f: &mut fmt::Formatter<'_>) -> fmt::Result {
-        f.write_str("a message")
-    }
-
-    fn visit_unit<E>(self) -> Result<Value, E> {
-        Ok(Value::Nil)
-    }
-
-    fn visit_bool<E>(self, b: bool) -> Result<Value, E> {
-        Ok(Value::Truth(b))
-    }
-
-    fn visit_u64<E>(self, n: u64) -> Result<Value, E> {
-        Ok(Value::Whole(n))
-    }
-
-    fn visit_i64<E>(self, n: i64) -> Result<Value, E> {
-        Ok(Value::Below(n))
-    }
-
-    fn visit_f64<E>(self, f: f64) -> Result<Value, E> {
-        Ok(Value::F64(f))
-    }
-
-    fn visit_str<E>(self, text: &str) -> Result<Value, E> {
-        Ok(Value::Text(text.to_owned()))
-    }
-
-    fn visit_bytes<E>(self, bytes: &[u8]) -> Result<Value, E> {
-        Ok(Value::Bytes(bytes.to_vec()))
-    }
-
-    fn visit_seq<A: SeqAccess<'de>>(self, mut seq: A) -> Result<Value, A::Error> {
-        let mut items = Vec::new();
-        while let Some(item) = seq.next_element()? {
-            items.push(item);
-        }
-        Ok(Value::List(items))
-    }
-
-    fn visit_map<A: MapAccess<'de>>(self, mut map: A) -> Result<Value, A::Error> {
-        let mut pairs = Vec::new();
-        while let Some(pair) = map.next_entry()? {
-            pairs.push(pair);
-        }
-        Ok(Value::Map(pairs))
-    }
-}
-
-impl<'de> Deserialize<'de> for Value {
-    fn deserialize<D: serde::Deserializer<'de>>(deserializer: D) -> Result<Value, D::Error> {
-        deserializer.deserialize_any(ValueVisitor)
-    }
 }
