@@ -74,56 +74,28 @@ fn item_of(head: Head, start: usize, content: u32) -> Item
     ensures start { result.start ≡ start }
     ensures len { result.len ≡ content }
 {
-    let none = Item {
-        kind: 0,
-        items: 0,
-        number: 0,
-        start,
-        len: content as usize,
-    };
-    match head {
-        Head::Nil => none,
-        Head::Truth(false) => Item { kind: 1, ..none },
-        Head::Truth(true) => Item {
-            kind: 1,
-            number: 1,
-            ..none
-        },
+    let (kind, items, number) = match head {
+        Head::Nil => (0, 0, 0),
+        Head::Truth(false) => (1, 0, 0),
+        Head::Truth(true) => (1, 0, 1),
         Head::Whole(z) => {
             let (kind, number) = number_of(z);
-            Item {
-                kind,
-                number,
-                ..none
-            }
+            (kind, 0, number)
         }
-        Head::F32Bits(bits) => Item {
-            kind: 4,
-            number: u64::from(bits),
-            ..none
-        },
-        Head::F64Bits(bits) => Item {
-            kind: 5,
-            number: bits,
-            ..none
-        },
-        Head::Text(_) => Item { kind: 6, ..none },
-        Head::Bin(_) => Item { kind: 7, ..none },
-        Head::Array(items) => Item {
-            kind: 8,
-            items,
-            ..none
-        },
-        Head::Map(items) => Item {
-            kind: 9,
-            items,
-            ..none
-        },
-        Head::Ext(_, tag) => Item {
-            kind: 10,
-            number: u64::from(tag.cast_unsigned()),
-            ..none
-        },
+        Head::F32Bits(bits) => (4, 0, u64::from(bits)),
+        Head::F64Bits(bits) => (5, 0, bits),
+        Head::Text(_) => (6, 0, 0),
+        Head::Bin(_) => (7, 0, 0),
+        Head::Array(items) => (8, items, 0),
+        Head::Map(items) => (9, items, 0),
+        Head::Ext(_, tag) => (10, 0, u64::from(tag.cast_unsigned())),
+    };
+    Item {
+        kind,
+        items,
+        number,
+        start,
+        len: content as usize,
     }
 }
 
