@@ -42,16 +42,21 @@ fn a_frame_that_is_cut(rt: HostRuntime) -> Result<(), Fail> {
     Ok(())
 }
 
+// A length of 4 GB is within any limit, and past this one.
 #[test]
-fn what_is_no_request(rt: HostRuntime) {
+fn a_huge_length(rt: HostRuntime) {
     let alloc = rt.alloc();
-    // a length of 4 GB, within any limit, and past this one
     let huge = b"\xff\xff\xff\xff\xa4Ping";
     let refused = next_request(alloc, huge, u32::MAX);
     assert!(rt; matches!(refused, Err(Refusal::Cut)));
     let refused = next_request(alloc, huge, LIMIT);
     assert!(rt; matches!(refused, Err(Refusal::TooLong(u32::MAX))));
-    // a value that claims 4 GB of bytes, or as many items
+}
+
+// A value claims 4 GB of bytes, or as many items.
+#[test]
+fn a_huge_claim(rt: HostRuntime) {
+    let alloc = rt.alloc();
     let refused = next_request(
         alloc,
         b"\0\0\0\x0c\x81\xa3Put\x92\x01\xc6\xff\xff\xff\xff",
@@ -69,7 +74,12 @@ fn what_is_no_request(rt: HostRuntime) {
             Err(Refusal::NotRequest(Error::InvalidMarkerRead(_)))
         )
     );
-    // the byte that opens no message, a message of another kind, another name, and nothing
+}
+
+// The byte that opens no message, a message of another kind, another name, and nothing.
+#[test]
+fn what_is_no_request(rt: HostRuntime) {
+    let alloc = rt.alloc();
     let refused = next_request(alloc, b"\0\0\0\x01\xc1", LIMIT);
     assert!(rt;
         matches!(
@@ -98,7 +108,11 @@ fn what_is_no_request(rt: HostRuntime) {
             Err(Refusal::NotRequest(Error::InvalidMarkerRead(_)))
         )
     );
-    // a request and one more byte
+}
+
+#[test]
+fn a_request_and_a_byte_more(rt: HostRuntime) {
+    let alloc = rt.alloc();
     let refused = next_request(alloc, b"\0\0\0\x06\xa4Ping\xc0", LIMIT);
     assert!(rt; matches!(refused, Err(Refusal::Longer)));
 }
