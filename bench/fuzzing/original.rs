@@ -19,6 +19,40 @@ const ITERABLES: u32 = 2;
 pub const ALL: u32 = 3;
 
 #[derive(Deserialize, Serialize)]
+struct Dog {
+    name: String,
+    age: u16,
+}
+
+#[derive(Deserialize, Serialize)]
+struct Opt {
+    v: Option<u8>,
+}
+
+#[derive(Deserialize, Serialize)]
+struct Point(u32, String);
+
+#[derive(Deserialize, Serialize)]
+struct Newtype(u64);
+
+#[derive(Deserialize, Serialize)]
+struct Unit;
+
+#[derive(Deserialize, Serialize)]
+enum V12 {
+    V1,
+    V2(u32, u32),
+}
+
+#[derive(Deserialize, Serialize)]
+enum Four {
+    Unit,
+    New(u8),
+    Tup(u8, u16),
+    Str { a: u8, b: String },
+}
+
+#[derive(Deserialize, Serialize)]
 #[serde(rename = "_ExtStruct")]
 struct Ext((i8, ByteBuf));
 
@@ -58,6 +92,14 @@ types! {
     map BTreeMap<u8, u8>,
     named_map BTreeMap<String, u16>,
     set BTreeSet<u16>,
+    dog Dog,
+    optional Opt,
+    point Point,
+    newtype Newtype,
+    unit Unit,
+    dogs Vec<Dog>,
+    four Four,
+    v12 V12,
     value Value,
 }
 

@@ -25,6 +25,7 @@ const EXCESS: Reason = "bytes read as a tuple drop excess: here it is refused";
 const OFFERED: Reason = "bytes read as a list refuse options and variants: here each is offered to the element's type";
 const WRAPS: Reason = "a negative number read as u128 wraps: here it is out of range";
 const WIDE: Reason = "128 bits are read from Bin8 alone: here from bytes of every width";
+const UNIT: Reason = "a unit struct's list is read only as 90: here in every width";
 const SIGNED: Reason = "a place of a field or a variant is refused in a head with a sign: here it counts by its value";
 const EXTENSIONS: Reason = "extensions count for the limit on nesting: here lists and maps alone";
 const NO_TREE: Reason = "a text that isn't UTF-8 is handed on as bytes, and there is no tree of any kind: here that refuses it";
@@ -33,6 +34,8 @@ const CONTENT: Reason = "both refuse: the content of a text or of bytes is read 
 const HEAD: Reason = "both refuse: a marker of a wrong kind is refused before its length or number: here the head is read whole first";
 const EXTENSION_CUT: Reason = "both refuse: an extension's head that is cut, where something else is wanted, by its kind: here as cut";
 const ERRORS: Reason = "both refuse: by another error of the port's own table";
+
+const STRUCTS: &[&str] = &["dog", "optional", "dogs", "four", "v12"];
 
 fn is_bytes(first: u8) -> bool {
     matches!(first, 0xc4..=0xc6)
@@ -66,7 +69,7 @@ fn refused_here(name: &str, places: &[Place], error: u32, taken: usize) -> Optio
     let first = places.first()?.first;
     match (error, name) {
         (SYNTAX, "f32" | "f64") if is_number(first) => Some(FLOATS),
-        (LENGTH, "pair" | "array") if is_in_bytes(places, taken) => Some(EXCESS),
+        (LENGTH, "pair" | "array" | "point" | "four" | "v12") if is_in_bytes(places, taken) => Some(EXCESS),
         (OUT_OF_RANGE, "u128") if is_signed(first) || first >= 0xe0 => Some(WRAPS),
         (NOT_UTF8, "value") => Some(NO_TREE),
         _ => None,
@@ -78,7 +81,9 @@ fn read_here(name: &str, places: &[Place], error: u32) -> Option<Reason> {
     let first = places.first()?.first;
     match (error, name) {
         (MISMATCH, "u128" | "i128") if matches!(first, 0xc5 | 0xc6) => Some(WIDE),
-        (SYNTAX, "options") if is_bytes(first) => Some(OFFERED),
+        (SYNTAX, "options" | "optional") if is_bytes(first) => Some(OFFERED),
+        (SYNTAX, "unit") if matches!(first, 0xdc | 0xdd) => Some(UNIT),
+        (SYNTAX, _) if STRUCTS.contains(&name) && has(places, is_signed) => Some(SIGNED),
         (TOO_DEEP, "value" | "skip") if has(places, is_extension) => Some(EXTENSIONS),
         _ => None,
     }
@@ -97,6 +102,8 @@ fn refused_by_both(name: &str, bytes: &[u8], places: &[Place], here: u32, there:
         (NOT_UTF8, _) if name == "value" => NO_TREE,
         (SYNTAX, CUT | NOT_UTF8) | (LENGTH, CUT) => CONTENT,
         (CUT, MISMATCH) => HEAD,
+        (_, SYNTAX) if STRUCTS.contains(&name) && has(places, is_signed) => SIGNED,
+        (LENGTH, SYNTAX) if name == "optional" => OFFERED,
         (LENGTH, MISMATCH) if matches!(name, "u128" | "i128") => WIDE,
         (CUT, SYNTAX) if ends_in_extension(bytes, places) => EXTENSION_CUT,
         (_, TOO_DEEP) if ends_in_extension(bytes, places) => EXTENSIONS,

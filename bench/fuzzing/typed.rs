@@ -68,6 +68,14 @@ exports! {
     map fuzz_map
     named_map fuzz_named_map
     set fuzz_set
+    dog fuzz_dog
+    optional fuzz_optional
+    point fuzz_point
+    newtype fuzz_newtype
+    unit fuzz_unit
+    dogs fuzz_dogs
+    four fuzz_four
+    v12 fuzz_v12
     value fuzz_value
 }
 

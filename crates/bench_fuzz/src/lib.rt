@@ -15,6 +15,7 @@ use rmp_wire::config::BytesMode;
 use rmp_wire::{ByteBuf, Ext, F32Bits, F64Bits, ReadRefReader};
 use std::alloc::Global;
 use std::collections::{BTreeMap, BTreeSet};
+use test_derived::{Dog, Four, Newtype, Opt, Point, Unit, V12};
 
 /// What is told beside the status.
 #[repr(C)]
@@ -433,6 +434,110 @@ pub extern "C" fn fuzz_set(
     told: &mut Told,
 ) -> u32 {
     again::<BTreeSet<u16>>(alloc, data, strict, form, out, told)
+}
+
+/// A struct with names.
+#[unsafe(no_mangle)]
+pub extern "C" fn fuzz_dog(
+    alloc: Global,
+    data: &[u8],
+    strict: u32,
+    form: u32,
+    out: &mut [u8],
+    told: &mut Told,
+) -> u32 {
+    again::<Dog>(alloc, data, strict, form, out, told)
+}
+
+/// A struct whose field may be missing.
+#[unsafe(no_mangle)]
+pub extern "C" fn fuzz_optional(
+    alloc: Global,
+    data: &[u8],
+    strict: u32,
+    form: u32,
+    out: &mut [u8],
+    told: &mut Told,
+) -> u32 {
+    again::<Opt>(alloc, data, strict, form, out, told)
+}
+
+/// A tuple struct.
+#[unsafe(no_mangle)]
+pub extern "C" fn fuzz_point(
+    alloc: Global,
+    data: &[u8],
+    strict: u32,
+    form: u32,
+    out: &mut [u8],
+    told: &mut Told,
+) -> u32 {
+    again::<Point>(alloc, data, strict, form, out, told)
+}
+
+/// A struct of one number.
+#[unsafe(no_mangle)]
+pub extern "C" fn fuzz_newtype(
+    alloc: Global,
+    data: &[u8],
+    strict: u32,
+    form: u32,
+    out: &mut [u8],
+    told: &mut Told,
+) -> u32 {
+    again::<Newtype>(alloc, data, strict, form, out, told)
+}
+
+/// A struct of nothing.
+#[unsafe(no_mangle)]
+pub extern "C" fn fuzz_unit(
+    alloc: Global,
+    data: &[u8],
+    strict: u32,
+    form: u32,
+    out: &mut [u8],
+    told: &mut Told,
+) -> u32 {
+    again::<Unit>(alloc, data, strict, form, out, told)
+}
+
+/// A list of structs.
+#[unsafe(no_mangle)]
+pub extern "C" fn fuzz_dogs(
+    alloc: Global,
+    data: &[u8],
+    strict: u32,
+    form: u32,
+    out: &mut [u8],
+    told: &mut Told,
+) -> u32 {
+    again::<Vec<Dog>>(alloc, data, strict, form, out, told)
+}
+
+/// An enum of a variant of each kind.
+#[unsafe(no_mangle)]
+pub extern "C" fn fuzz_four(
+    alloc: Global,
+    data: &[u8],
+    strict: u32,
+    form: u32,
+    out: &mut [u8],
+    told: &mut Told,
+) -> u32 {
+    again::<Four>(alloc, data, strict, form, out, told)
+}
+
+/// An enum of two variants.
+#[unsafe(no_mangle)]
+pub extern "C" fn fuzz_v12(
+    alloc: Global,
+    data: &[u8],
+    strict: u32,
+    form: u32,
+    out: &mut [u8],
+    told: &mut Told,
+) -> u32 {
+    again::<V12>(alloc, data, strict, form, out, told)
 }
 
 /// A message of any kind.
