@@ -12,7 +12,7 @@ WORDS = {
     "rmp_decode.specs.Variants": "FailsToOpenVariant",
     "rmp_decode.specs.declared.deserializer.Deserializer": "Deserializer",
     "rmp_decode.specs.declared.error.Error": "Error",
-    "rmp_decode.proofs.EnumRefusings": "enum_unopened unit_wrong content_wrong",
+    "rmp_decode.proofs.EnumRefusals": "enum_unopened unit_wrong content_wrong",
     "rmp_decode.proofs.Laws": "lawful_ok lawful_err",
     "rmp_decode.proofs.Variants": "variant_ok variant_err variant_unopened readable",
     "rmp_encode.proofs.Variants": "newtype_no_byte tuple_variant_no_byte struct_variant_no_byte",

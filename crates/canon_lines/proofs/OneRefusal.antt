@@ -70,9 +70,9 @@ use Rattle.rmp_decode.specs.Skip.{parts_head, parts_count}
 use Rattle.rmp_decode.specs.declared.error.Error.{Error}
 use Rattle.rmp_decode.specs.declared.error.Error.TheVariants as errors
 use Rattle.rmp_decode.proofs.ContentErrors.{same_front}
-use Rattle.rmp_decode.proofs.Refusals.{content_of, opened, same_head}
+use Rattle.rmp_decode.proofs.NothingAccepted.{content_of, opened, same_head}
 use Rattle.rmp_decode.proofs.Rows.{listed}
-use Rattle.rmp_decode.proofs.Wrong.{Front, front_of, stands}
+use Rattle.rmp_decode.proofs.FirstFault.{Front, front_of, stands}
 use Rattle.rmp_serde.specs.Read.{AllTextsUtf8, ItemsUtf8, PairsUtf8}
 use Rattle.rmp_serde.specs.Refuse.{UnreadFor, TextIsInvalid}
 use Rattle.canon_lines.specs.Messages.{error_name}

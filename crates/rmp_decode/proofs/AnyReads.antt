@@ -43,7 +43,7 @@ use Rattle.rmp_decode.specs.declared.access.seq.SeqAccess.{SeqAccess}
 use Rattle.rmp_decode.specs.declared.error.Error.{Error}
 use Rattle.rmp_decode.proofs.ContentErrors.{same_front}
 use Rattle.rmp_decode.proofs.Contents.{Content, text_content, content_read, content_short, content_refused}
-use Rattle.rmp_decode.proofs.Refusals.{refuses_narrower, same_head}
+use Rattle.rmp_decode.proofs.NothingAccepted.{refuses_narrower, same_head}
 use Rattle.rmp_decode.proofs.Rows.{in_list}
 
 -- nothing could be opened

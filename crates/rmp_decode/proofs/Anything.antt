@@ -13,7 +13,7 @@ use Rattle.rmp_decode.specs.State.{left, room_of}
 use Rattle.rmp_decode.specs.declared.deserializer.Deserializer.{Deserializer}
 use Rattle.rmp_decode.specs.declared.error.Error.{Error}
 use Rattle.rmp_decode.specs.declared.error.Error.TheVariants.{DepthLimitExceeded}
-use Rattle.rmp_decode.proofs.Refusals.{refuses_none, refuses_by, same_head}
+use Rattle.rmp_decode.proofs.NothingAccepted.{refuses_none, refuses_by, same_head}
 
 -- a list or a map nests
 parts_nest : (is_map : Bool) (m : Msg) (n : ℕ) → head_of m ≡ parts_head is_map n → 0 < depth m

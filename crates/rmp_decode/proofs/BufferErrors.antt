@@ -55,7 +55,7 @@ use Rattle.rmp_decode.specs.declared.text.Text.TheVariants.{InvalidValue}
 use Rattle.rmp_decode.proofs.Exactness.{stand_once}
 use Rattle.rmp_decode.proofs.Rows.{push, count-push}
 use Rattle.rmp_decode.proofs.Seqs.{run_step, each-push}
-use Rattle.rmp_decode.proofs.Wrong.{is_memory, front_of, stands}
+use Rattle.rmp_decode.proofs.FirstFault.{is_memory, front_of, stands}
 
 -- numbers open no level
 flat : (ms : Msgs) (b : List ℕ) → ReadsEach (IsUnsigned 255) ms b → depth_all ms ≡ 0

@@ -19,9 +19,9 @@ use Rattle.rmp_decode.specs.declared.deserializer.Deserializer.{Deserializer}
 use Rattle.rmp_decode.specs.declared.access.seq.SeqAccess.{SeqAccess}
 use Rattle.rmp_decode.specs.declared.error.Error.{Error}
 use Rattle.rmp_decode.proofs.Laws.{refused, lawful_ok}
-use Rattle.rmp_decode.proofs.Opening.{nests}
+use Rattle.rmp_decode.proofs.ListOpening.{nests}
 use Rattle.rmp_decode.proofs.Seqs.{seq_done}
-use Rattle.rmp_decode.proofs.Refusals.{refuses_by, same_head}
+use Rattle.rmp_decode.proofs.NothingAccepted.{refuses_by, same_head}
 
 -- a type that reads no more under this head than another refuses what that one does
 refuses_at : (w : Bool) (P Q : Msg → Type 0) (room : ℕ) (known k : Option (List ℕ)) (b : List ℕ) (h : Head) → Consumes known k b → heads_of w h b

@@ -19,7 +19,7 @@ use Rattle.rmp_decode.specs.declared.deserializer.Kept.TheVariants.{Nothing}
 use Rattle.rmp_decode.specs.declared.error.Error.{Error}
 use Rattle.rmp_decode.proofs.Laws.{refused, refused_head, stays_then}
 use Rattle.rmp_wire.proofs.Strict.{heads_apart_as}
-use Rattle.rmp_decode.proofs.Refusals.{content_of, refuses_short, refuses_by, refuses_all}
+use Rattle.rmp_decode.proofs.NothingAccepted.{content_of, refuses_short, refuses_by, refuses_all}
 
 -- with nothing kept back, what is left is what the source has ahead
 bare_known : (known : Option (List ℕ)) → prepend_known [] known ≡ known

@@ -19,7 +19,7 @@ use Rattle.rmp_decode.specs.declared.access.seq.SeqAccess.{SeqAccess}
 use Rattle.rmp_decode.specs.declared.deserializer.Deserializer.{Deserializer}
 use Rattle.rmp_decode.specs.declared.deserializer.Kept.TheVariants.{Nothing}
 use Rattle.rmp_decode.specs.declared.error.Error.{Error}
-use Rattle.rmp_decode.proofs.FieldRefusings.{listed_wrong, tuple_wrong}
+use Rattle.rmp_decode.proofs.FieldRefusals.{listed_wrong, tuple_wrong}
 use Rattle.rmp_decode.proofs.Laws.{stays_refl, stays_then}
 use Rattle.rmp_decode.proofs.Rows.{row-push, rest_refused, element_refused}
 use Rattle.rmp_decode.proofs.Seqs.{seq_done, seq_parts}

@@ -20,8 +20,8 @@ use Rattle.rmp_decode.specs.declared.deserializer.Kept.TheVariants.{Nothing}
 use Rattle.rmp_decode.specs.declared.error.Error.{Error}
 use Rattle.rmp_decode.proofs.FieldAccesses.{seq_open, some_owed}
 use Rattle.rmp_decode.proofs.MapWiths.{value_taken, value_fails}
-use Rattle.rmp_decode.proofs.WithRefusings.{value_named, element_named}
-use Rattle.rmp_decode.proofs.Withs.{with_taken, with_refused}
+use Rattle.rmp_decode.proofs.PartErrors.{value_named, element_named}
+use Rattle.rmp_decode.proofs.ElementWiths.{with_taken, with_refused}
 
 answered : {X : Type 0} (r : Result X Error) → MatchResult r (λ x. as_element r ≡ Ok (Some x)) (λ e. as_element r ≡ Err e)
 answered (Ok x) = refl

@@ -11,7 +11,7 @@ use Rattle.rmp_wire.specs.Spelling.{head_of}
 use Rattle.rmp_wire.specs.declared.head.Head.{Head}
 use Rattle.rmp_wire.specs.declared.head.Head.TheVariants as head
 use Rattle.rmp_wire.specs.declared.marker.Marker.{Marker}
-use Rattle.rmp_decode.proofs.Refusals.{refuses_none, refuses_head, refuses_by, refuses_narrower, same_head}
+use Rattle.rmp_decode.proofs.NothingAccepted.{refuses_none, refuses_head, refuses_by, refuses_narrower, same_head}
 use Rattle.rmp_decode.specs.declared.deserializer.Deserializer.{Deserializer}
 use Rattle.rmp_decode.specs.Fields.{
   HasFields,

@@ -30,7 +30,7 @@ use Rattle.rmp_decode.specs.declared.error.Error.{Error}
 use Rattle.rmp_decode.specs.declared.error.Error.TheVariants.{OutOfMemory, NotCanonical}
 use Rattle.rmp_decode.proofs.Contents.{bare}
 use Rattle.rmp_decode.proofs.Exactness.{stands_known, number_stands, ends_none, ends_wide}
-use Rattle.rmp_decode.proofs.Refusals.{no_head, no_wide}
+use Rattle.rmp_decode.proofs.NothingAccepted.{no_head, no_wide}
 
 pub kept_first : (bs : List ℕ) (known : Option (List ℕ)) → Consumes (prepend_known bs known) known bs
 kept_first bs None = tt

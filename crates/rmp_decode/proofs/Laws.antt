@@ -10,7 +10,7 @@ use Rattle.rmp_decode.specs.State.{left, faults_of, room_of, Stays}
 use Rattle.rmp_decode.specs.Law.{Refuses, Readable, Lawful, Explains, ReadsHead}
 use Rattle.rmp_decode.specs.declared.deserializer.Deserializer.{Deserializer}
 use Rattle.rmp_decode.specs.declared.error.Error.{Error}
-use Rattle.rmp_decode.proofs.Refusals.{refuses_none, refuses_other, refuses_head, refuses_narrower}
+use Rattle.rmp_decode.proofs.NothingAccepted.{refuses_none, refuses_other, refuses_head, refuses_narrower}
 
 pub stays_refl : {R C : Type 0} (g : Ghosts R) (d : Deserializer R C) → Stays g d d
 stays_refl g d = record { config = refl; room = refl; limit = refl; strict = refl; place = refl }

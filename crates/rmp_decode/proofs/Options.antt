@@ -65,7 +65,7 @@ use Rattle.rmp_decode.specs.State.{faults_of, kept_bytes, left, room_of, Stays}
 use Rattle.rmp_decode.specs.declared.deserializer.Deserializer.{Deserializer}
 use Rattle.rmp_decode.specs.declared.error.Error.{Error}
 use Rattle.rmp_decode.proofs.Laws.{lawful_ok, stays_refl, stays_then}
-use Rattle.rmp_decode.proofs.Refusals.{opened, refuses_narrower, refuses_none}
+use Rattle.rmp_decode.proofs.NothingAccepted.{opened, refuses_narrower, refuses_none}
 
 -- nil is one byte
 nil_byte : (s : Bool) (b : List ℕ) → SpellsAs s b nil → b ≡ 0xc0 ∷ []

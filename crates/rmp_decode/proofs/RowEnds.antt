@@ -10,7 +10,7 @@ use Rattle.rmp_decode.specs.Seq.{OfRow, SpellsIn, SpellsRow, Opens, FailsToTake,
 use Rattle.rmp_decode.specs.State.{left, faults_of}
 use Rattle.rmp_decode.specs.declared.deserializer.Deserializer.{Deserializer}
 use Rattle.rmp_decode.specs.declared.error.Error.{Error}
-use Rattle.rmp_decode.proofs.Refusings.{behind_head}
+use Rattle.rmp_decode.proofs.ListRefusals.{behind_head}
 use Rattle.rmp_decode.proofs.Rows.{append}
 use Rattle.rmp_decode.proofs.Seqs.{each_next, seq_done, seq_take, seq_unkept}
 use Rattle.rmp_decode.proofs.Settings.{element_behind, behind_opened}

@@ -35,7 +35,7 @@ use Rattle.rmp_wire.specs.Spelling.{AllSpelledBy, IsBytes, head_of}
 use Rattle.rmp_wire.proofs.Strict.{heads_apart_as, spelled_once_as}
 use Rattle.rmp_decode.specs.Law.{Begins, Refuses}
 use Rattle.rmp_decode.specs.Seq.{numbers, OfRow, seq_head, SpellsByte, SpellsIn, levels, SpellsRow, BeginsRow, RefusesRow}
-use Rattle.rmp_decode.proofs.Refusals.{same_head}
+use Rattle.rmp_decode.proofs.NothingAccepted.{same_head}
 
 -- one more item behind the others
 abbrev pub push : Msgs → Msg → Msgs

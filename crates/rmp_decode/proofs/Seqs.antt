@@ -28,7 +28,7 @@ use Rattle.rmp_decode.specs.declared.access.seq.SeqAccess.{SeqAccess}
 use Rattle.rmp_decode.specs.declared.error.Error.{Error}
 use Rattle.rmp_decode.specs.declared.error.Error.TheVariants.{OutOfMemory}
 use Rattle.rmp_decode.proofs.Laws.{stays_refl, stays_then}
-use Rattle.rmp_decode.proofs.Refusals.{refuses_narrower}
+use Rattle.rmp_decode.proofs.NothingAccepted.{refuses_narrower}
 use Rattle.rmp_decode.proofs.Rows.{
   push,
   append,

@@ -41,7 +41,7 @@ use Rattle.rmp_decode.specs.declared.deserializer.Deserializer.{Deserializer}
 use Rattle.rmp_decode.specs.declared.error.Error.{Error}
 use Rattle.rmp_decode.specs.declared.error.Error.TheVariants as errors
 use Rattle.rmp_decode.proofs.Contents.{bare}
-use Rattle.rmp_decode.proofs.Wrong.{is_memory, wrong_none, wrong_content, wrong_memory, wrong_deep, wrong_nest}
+use Rattle.rmp_decode.proofs.FirstFault.{is_memory, wrong_none, wrong_content, wrong_memory, wrong_deep, wrong_nest}
 
 -- what is wrong with a message is a reason why it can't be passed over
 pub unpassed : (lends w : Bool) (room : ℕ) (e : Error) (xs : List ℕ) → IsWrong w room e xs → UnpassedFor lends w room e xs

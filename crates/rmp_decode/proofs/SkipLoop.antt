@@ -58,11 +58,11 @@ use Rattle.rmp_decode.specs.declared.error.Error.{Error}
 use Rattle.rmp_decode.specs.declared.error.Error.TheVariants as errors
 use Rattle.rmp_decode.proofs.Contents.{bare}
 use Rattle.rmp_decode.proofs.Laws.{stays_then, stays_refl}
-use Rattle.rmp_decode.proofs.Opens.{leads_none, leads_then, leads_message, leads_in, leads_out, no_row}
-use Rattle.rmp_decode.proofs.Refusals.{content_of, refuses_short, refuses_none}
+use Rattle.rmp_decode.proofs.WantedNext.{leads_none, leads_then, leads_message, leads_in, leads_out, no_row}
+use Rattle.rmp_decode.proofs.NothingAccepted.{content_of, refuses_short, refuses_none}
 use Rattle.rmp_decode.proofs.SkipErrors.{unpassed, unlent, some_parts}
-use Rattle.rmp_decode.proofs.Skipping.{leaf_of, leaf_flat, leaf_spelled, content_fills, parts_refused}
-use Rattle.rmp_decode.proofs.Wrong.{is_memory, wrong_none, wrong_content, wrong_memory, wrong_deep}
+use Rattle.rmp_decode.proofs.SkipLaws.{leaf_of, leaf_flat, leaf_spelled, content_fills, parts_refused}
+use Rattle.rmp_decode.proofs.FirstFault.{is_memory, wrong_none, wrong_content, wrong_memory, wrong_deep}
 
 -- ---- it ends
 

@@ -45,7 +45,7 @@ use Rattle.rmp_decode.specs.declared.error.Error.{Error}
 use Rattle.rmp_decode.proofs.Laws.{stays_refl, lawful_ok}
 use Rattle.rmp_decode.proofs.Maps.{MapRun, map_start, flat, push_pair, flat-push, map_key, map_value}
 use Rattle.rmp_decode.proofs.Meeting.{met_push, put_at}
-use Rattle.rmp_decode.proofs.Refusals.{refuses_narrower}
+use Rattle.rmp_decode.proofs.NothingAccepted.{refuses_narrower}
 use Rattle.rmp_decode.proofs.Rows.{push, append, count-push}
 use Rattle.rmp_decode.proofs.Seqs.{run_start, run_step, seq_done, seq_element, seq_take, seq_more, count-append}
 use Rattle.rmp_decode.proofs.Structs.{

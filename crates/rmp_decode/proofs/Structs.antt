@@ -51,7 +51,7 @@ use Rattle.rmp_decode.specs.declared.error.Error.{Error}
 use Rattle.rmp_decode.proofs.Laws.{stays_refl, lawful_ok}
 use Rattle.rmp_decode.proofs.Maps.{flat, push_pair, flat-push, Flat, MapRun, map_start, map_key, map_value, map_done, map_refused, map_take, to_come}
 use Rattle.rmp_decode.proofs.Meeting.{met_push, none_met, key_named, value_put}
-use Rattle.rmp_decode.proofs.Refusals.{refuses_narrower, same_head}
+use Rattle.rmp_decode.proofs.NothingAccepted.{refuses_narrower, same_head}
 use Rattle.rmp_decode.proofs.Rows.{push, append, count_refused}
 
 -- what is refused behind a head, of trees that begin with it

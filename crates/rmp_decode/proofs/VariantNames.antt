@@ -69,7 +69,7 @@ use Rattle.rmp_decode.proofs.Contents.{raw_content, content_refused}
 use Rattle.rmp_decode.proofs.Exactness.{stand_once}
 use Rattle.rmp_decode.proofs.MapOpening.{map_nests}
 use Rattle.rmp_decode.proofs.Names.{name_of_raw, length_bytes}
-use Rattle.rmp_decode.proofs.Refusals.{refuses_none, refuses_head, refuses_by, same_head}
+use Rattle.rmp_decode.proofs.NothingAccepted.{refuses_none, refuses_head, refuses_by, same_head}
 
 -- ---- a head that was taken
 

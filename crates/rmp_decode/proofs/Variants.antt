@@ -65,7 +65,7 @@ use Rattle.rmp_decode.specs.declared.text.Text.TheVariants.{InvalidType}
 use Rattle.rmp_decode.proofs.Laws.{lawful_ok, lawful_err, refused}
 use Rattle.rmp_decode.proofs.MapWiths.{part_taken, part_fails}
 use Rattle.rmp_decode.proofs.Maps.{flat, map_start, map_key, map_value, map_done, map_take}
-use Rattle.rmp_decode.proofs.Refusals.{refuses_narrower, refuses_other}
+use Rattle.rmp_decode.proofs.NothingAccepted.{refuses_narrower, refuses_other}
 use Rattle.rmp_decode.proofs.Rows.{push, append}
 use Rattle.rmp_decode.proofs.VariantNames.{lawful_behind, refuses_leaves}
 

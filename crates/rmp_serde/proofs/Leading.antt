@@ -32,11 +32,11 @@ use Rattle.rmp_decode.specs.Refuse.{inside}
 use Rattle.rmp_decode.specs.Seq.{SpellsRow, BeginsRow}
 use Rattle.rmp_decode.specs.Skip.{parts_head, parts_count}
 use Rattle.rmp_decode.specs.declared.error.Error.{Error}
-use Rattle.rmp_decode.proofs.Opens.{split_off}
-use Rattle.rmp_decode.proofs.Refusals.{same_head}
+use Rattle.rmp_decode.proofs.WantedNext.{split_off}
+use Rattle.rmp_decode.proofs.NothingAccepted.{same_head}
 use Rattle.rmp_decode.proofs.Rows.{in_list, listed}
-use Rattle.rmp_decode.proofs.Skipping.{in_turn, count-in_turn, depth-in_turn, turned, paired}
-use Rattle.rmp_decode.proofs.Wrong.{Front, front_of, stands}
+use Rattle.rmp_decode.proofs.SkipLaws.{in_turn, count-in_turn, depth-in_turn, turned, paired}
+use Rattle.rmp_decode.proofs.FirstFault.{Front, front_of, stands}
 use Rattle.rmp_serde.specs.Read.{AllTextsUtf8, ItemsUtf8, PairsUtf8}
 use Rattle.rmp_serde.specs.Tokens.{Token, tokens, tokens_all, tokens_pairs}
 use Rattle.rmp_serde.proofs.OpenTrees.{SpellsTrees, SpellsOpenTrees, BehindTrees, OpenTreesRefusal, LeadsTrees}

@@ -66,10 +66,10 @@ use Rattle.rmp_decode.specs.declared.error.Error.{Error}
 use Rattle.rmp_decode.specs.declared.error.Error.TheVariants as errors
 use Rattle.rmp_decode.proofs.Contents.{bare, text_content}
 use Rattle.rmp_decode.proofs.Laws.{stays_then, stays_refl}
-use Rattle.rmp_decode.proofs.Refusals.{content_of, refuses_short, refuses_none, refuses_by, same_head}
-use Rattle.rmp_decode.proofs.Skipping.{leaf_of, leaf_flat, leaf_spelled, content_fills, parts_refused}
+use Rattle.rmp_decode.proofs.NothingAccepted.{content_of, refuses_short, refuses_none, refuses_by, same_head}
+use Rattle.rmp_decode.proofs.SkipLaws.{leaf_of, leaf_flat, leaf_spelled, content_fills, parts_refused}
 use Rattle.rmp_decode.proofs.SkipLoop.{to_do, falls_leaf, falls_in}
-use Rattle.rmp_decode.proofs.Wrong.{wrong_none, wrong_content, wrong_deep}
+use Rattle.rmp_decode.proofs.FirstFault.{wrong_none, wrong_content, wrong_deep}
 use Rattle.rmp_serde.specs.Flat.{heads_in, EndsBy}
 use Rattle.rmp_serde.specs.Read.{AllTextsUtf8, ItemsUtf8, reads_value}
 use Rattle.rmp_serde.specs.ReadParts.{IsLeafHead, ContentUtf8, TakesLeaf, FailsLeaf, Enters, ReadsTrees}

@@ -54,9 +54,9 @@ use Rattle.rmp_decode.specs.declared.error.Error.{Error}
 use Rattle.rmp_decode.specs.declared.error.Error.TheVariants as errors
 use Rattle.rmp_decode.proofs.Contents.{bare}
 use Rattle.rmp_decode.proofs.Laws.{refused, stays_then}
-use Rattle.rmp_decode.proofs.Refusals.{refuses_by, same_head}
-use Rattle.rmp_decode.proofs.Skipping.{leaf_of, leaf_flat, leaf_spelled, parts_refused}
-use Rattle.rmp_decode.proofs.Wrong.{is_memory, wrong_none, wrong_deep, wrong_nest}
+use Rattle.rmp_decode.proofs.NothingAccepted.{refuses_by, same_head}
+use Rattle.rmp_decode.proofs.SkipLaws.{leaf_of, leaf_flat, leaf_spelled, parts_refused}
+use Rattle.rmp_decode.proofs.FirstFault.{is_memory, wrong_none, wrong_deep, wrong_nest}
 use Rattle.rmp_serde.specs.Flat.{IsTree, token_in, told_tree}
 use Rattle.rmp_serde.specs.Read.{AllTextsUtf8, ItemsUtf8, reads_value}
 use Rattle.rmp_serde.specs.ReadParts.{IsLeafHead, TakesBehind, FailsLeaf, ReadsTrees}

@@ -15,7 +15,7 @@ use Rattle.rmp_decode.specs.Skip.{parts_head}
 use Rattle.rmp_decode.specs.Pieces.{RefusesPiece}
 use Rattle.rmp_decode.specs.declared.error.Error.{Error}
 use Rattle.rmp_decode.specs.declared.error.Error.TheVariants as errors
-use Rattle.rmp_decode.proofs.Wrong.{wrong_memory, wrong_data, Front, front_of, stands}
+use Rattle.rmp_decode.proofs.FirstFault.{wrong_memory, wrong_data, Front, front_of, stands}
 use Rattle.rmp_serde.specs.Read.{ItemsUtf8}
 use Rattle.rmp_serde.specs.Refuse.{TextIsInvalid, UnreadFor}
 

@@ -25,7 +25,7 @@ use Rattle.rmp_decode.proofs.Laws.{lawful_ok}
 use Rattle.rmp_decode.proofs.HeadTaken.{fits_byte}
 use Rattle.rmp_decode.proofs.Seqs.{Values, each_next, seq_unopened, seq_take, seq_done, seq_unkept}
 use Rattle.rmp_decode.proofs.Variants.{variant_ok}
-use Rattle.rmp_decode.proofs.Withs.{with_taken, with_refused}
+use Rattle.rmp_decode.proofs.ElementWiths.{with_taken, with_refused}
 use Rattle.test_types.specs.declared.recursive.Nested.{Nested, out-Nested}
 use Rattle.test_types.specs.declared.recursive.Tree.{Tree, out-Tree}
 use Rattle.test_types.specs.declared.recursive.Tree.TheOpen.{Tree-F}

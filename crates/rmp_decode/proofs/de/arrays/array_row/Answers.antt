@@ -1,6 +1,6 @@
 use Rattle.std.proofs.Common.{refl, rules, arith, inr, List, false}
 use Rattle.rmp_decode.specs.Arrays.{Exactly}
-use Rattle.rmp_decode.proofs.ArrayRefusings.{array_stopped, array_excess}
+use Rattle.rmp_decode.proofs.ArrayRefusals.{array_stopped, array_excess}
 use Rattle.rmp_decode.proofs.Arrays.{all_held, array_full, array_done, array_over, array_missing}
 use Rattle.rmp_decode.proofs.RowEnds.{row_unread}
 use Rattle.rmp_decode.proofs.de.arrays.array_row.Goals as goal

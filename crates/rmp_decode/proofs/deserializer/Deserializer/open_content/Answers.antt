@@ -2,7 +2,7 @@ use Rattle.std.proofs.Common.{refl}
 use Rattle.rmp_wire.specs.Canonical.{SpellsAs}
 use Rattle.rmp_decode.specs.Law.{Readable}
 use Rattle.rmp_decode.specs.Seq.{IsSeq}
-use Rattle.rmp_decode.proofs.Refusals.{refuses_narrower}
+use Rattle.rmp_decode.proofs.NothingAccepted.{refuses_narrower}
 use Rattle.rmp_decode.proofs.deserializer.Deserializer.open_content.Goals as goal
 
 pub returns-in-Ok-clause-ok : goal.returns-in-Ok-clause-ok

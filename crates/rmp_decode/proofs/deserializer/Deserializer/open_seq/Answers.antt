@@ -1,6 +1,6 @@
 use Rattle.std.proofs.Common.{◌∙◌, ap, arith, refl, Bool}
 use Rattle.rmp_decode.specs.Seq.{seq_head}
-use Rattle.rmp_decode.proofs.Opening.{fails_to_begin, no_seq, too_deep}
+use Rattle.rmp_decode.proofs.ListOpening.{fails_to_begin, no_seq, too_deep}
 use Rattle.rmp_decode.proofs.deserializer.Deserializer.open_seq.Goals as goal
 
 pub returns-then-self-le1-clause-err : goal.returns-then-self-le1-clause-err

@@ -7,7 +7,7 @@ use Rattle.rmp_decode.specs.Seq.{TakesParts, FailsParts, inner_of}
 use Rattle.rmp_decode.specs.FieldRefusing.{FillRefused}
 use Rattle.rmp_decode.specs.Refusing.{setting_of, inside}
 use Rattle.rmp_decode.specs.declared.access.fields.Passed.{Passed}
-use Rattle.rmp_decode.proofs.FieldRefusings.{listed_wrong, listed_excess, name_wrong, pass_wrong, field_wrong, field_lacks}
+use Rattle.rmp_decode.proofs.FieldRefusals.{listed_wrong, listed_excess, name_wrong, pass_wrong, field_wrong, field_lacks}
 use Rattle.rmp_decode.proofs.Meeting.{blank_blank}
 use Rattle.rmp_decode.proofs.Names.{length_bytes}
 use Rattle.rmp_decode.proofs.NamesAhead.{below_named, below_unnamed, key_named_by}

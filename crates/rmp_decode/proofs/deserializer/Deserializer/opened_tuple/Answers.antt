@@ -1,7 +1,7 @@
 use Rattle.std.proofs.Common.{[], ◌∙◌, sym, subst, rules}
 use Rattle.rmp_decode.specs.Refusing.{setting_of, inside}
 use Rattle.rmp_decode.specs.Seq.{TakesParts, FailsParts, inner_of}
-use Rattle.rmp_decode.proofs.FieldRefusings.{tuple_wrong, tuple_excess}
+use Rattle.rmp_decode.proofs.FieldRefusals.{tuple_wrong, tuple_excess}
 use Rattle.rmp_decode.proofs.Seqs.{seq_unopened, seq_parts, seq_over, seq_done, via}
 use Rattle.rmp_decode.proofs.Structs.{Gives, gives_counted}
 use Rattle.rmp_decode.proofs.deserializer.Deserializer.opened_tuple.Goals as goal

@@ -6,7 +6,7 @@ use Rattle.rmp_decode.specs.State.{room_of}
 use Rattle.rmp_decode.specs.declared.error.Error.TheVariants as errors
 use Rattle.rmp_decode.proofs.Laws.{refused_none}
 use Rattle.rmp_decode.proofs.SkipErrors.{none_wrong, leaf_wrong, nest_wrong, nest_memory}
-use Rattle.rmp_decode.proofs.Skipping.{nest, skipped_leaf, skipped_short}
+use Rattle.rmp_decode.proofs.SkipLaws.{nest, skipped_leaf, skipped_short}
 use Rattle.rmp_decode.proofs.deserializer.skip.skip.Goals as goal
 
 pub returns-in-Some-clause-law : goal.returns-in-Some-clause-law

@@ -18,7 +18,7 @@ use Rattle.rmp_decode.proofs.SkipLoop.{
   none_refused,
   none_wrong,
 }
-use Rattle.rmp_decode.proofs.Skipping.{no_room}
+use Rattle.rmp_decode.proofs.SkipLaws.{no_room}
 use Rattle.rmp_decode.proofs.deserializer.skip.skip_parts.Goals as goal
 
 pub returns-then-de-le1-clause-law : goal.returns-then-de-le1-clause-law

@@ -1,4 +1,4 @@
-use Rattle.rmp_decode.proofs.EnumRefusings.{enum_unopened, unit_wrong, content_wrong}
+use Rattle.rmp_decode.proofs.EnumRefusals.{enum_unopened, unit_wrong, content_wrong}
 use Rattle.rmp_decode.proofs.Variants.{variant_ok, variant_err, variant_unopened, readable}
 use Rattle.rmp_decode.specs.Law.{Lawful}
 use Rattle.rmp_decode.specs.Variants.{FailsToOpenVariant}

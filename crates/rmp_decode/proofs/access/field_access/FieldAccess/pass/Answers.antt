@@ -1,7 +1,7 @@
 use Rattle.rmp_wire.specs.Canonical.{SpellsAs}
 use Rattle.rmp_decode.specs.Law.{Readable}
 use Rattle.rmp_decode.specs.Skip.{any_tree}
-use Rattle.rmp_decode.proofs.Refusals.{refuses_narrower}
+use Rattle.rmp_decode.proofs.NothingAccepted.{refuses_narrower}
 use Rattle.rmp_decode.proofs.access.field_access.FieldAccess.pass.Goals as goal
 
 pub returns-in-Err-clause-err : goal.returns-in-Err-clause-err

@@ -1,7 +1,7 @@
 use Rattle.std.proofs.Common.{◌≡◌, suc, ◌-◌, arith, inl, rules}
 use Rattle.rmp_decode.proofs.Fields.{fills_first, fills_later, later_refused, first_refused, if_some}
 use Rattle.rmp_decode.specs.Refusing.{part_of}
-use Rattle.rmp_decode.proofs.FieldRefusings.{later_wrong, first_wrong}
+use Rattle.rmp_decode.proofs.FieldRefusals.{later_wrong, first_wrong}
 use Rattle.rmp_decode.proofs.access.fields.Tuple2Fields.fill.Goals as goal
 
 pub returns-then-place-gt0-clause-ok : goal.returns-then-place-gt0-clause-ok

@@ -3,7 +3,7 @@ use Rattle.rmp_wire.specs.Msg.{no_items}
 use Rattle.rmp_decode.proofs.Seqs.{run_start}
 use Rattle.rmp_decode.proofs.Tuples.{part_refused}
 use Rattle.rmp_decode.specs.Refusing.{part_of}
-use Rattle.rmp_decode.proofs.FieldRefusings.{others_wrong}
+use Rattle.rmp_decode.proofs.FieldRefusals.{others_wrong}
 use Rattle.rmp_decode.proofs.Fields.{others_read, others_refused}
 use Rattle.rmp_decode.proofs.access.fields.Tuple2Fields.listed.Goals as goal
 

@@ -5,7 +5,7 @@ use Rattle.rmp_decode.specs.Maps.{ReadsPairs, Collects, IsMapOpen, map_inner, Ta
 use Rattle.rmp_decode.specs.Parts.{FailsPart}
 use Rattle.rmp_decode.specs.declared.error.Error.TheVariants.{OutOfMemory}
 use Rattle.rmp_decode.proofs.Maps.{flat, map_unopened, map_done, map_unkept, map_take, map_key, key_next, value_next, entries_step, gathers_start, gathers_step}
-use Rattle.rmp_decode.proofs.MapRefusings.{key_wrong, value_wrong, pair_short}
+use Rattle.rmp_decode.proofs.MapRefusals.{key_wrong, value_wrong, pair_short}
 use Rattle.rmp_decode.proofs.Rows.{push}
 use Rattle.rmp_decode.proofs.de.maps.BTreeMapDeserialize.deserialize.Goals as goal
 

@@ -10,7 +10,7 @@ use Rattle.rmp_decode.specs.declared.deserializer.Deserializer.{Deserializer}
 use Rattle.rmp_decode.specs.declared.error.Error.{Error}
 use Rattle.rmp_decode.specs.declared.error.Error.TheVariants.{LengthMismatch, Syntax}
 use Rattle.rmp_decode.specs.declared.text.Text.TheVariants.{InvalidLength}
-use Rattle.rmp_decode.proofs.Refusings.{behind_head}
+use Rattle.rmp_decode.proofs.ListRefusals.{behind_head}
 use Rattle.rmp_decode.proofs.RowEnds.{count_each, behind_values, element_of_list}
 
 module _ {R C V : Type 0} (g : Ghosts R) (human : C → Bool) (lends : Bool) (reads : Bool → Bool → Msg → V → Type 0) (P : Setting → Refusals)

@@ -76,7 +76,7 @@ use Rattle.rmp_decode.specs.declared.deserializer.Kept.TheVariants.{Nothing}
 use Rattle.rmp_decode.specs.declared.error.Error.{Error}
 use Rattle.rmp_decode.proofs.Contents.{bare}
 use Rattle.rmp_decode.proofs.Laws.{refused, stays_then, stays_refl}
-use Rattle.rmp_decode.proofs.Refusals.{content_of, refuses_short, refuses_by, same_head}
+use Rattle.rmp_decode.proofs.NothingAccepted.{content_of, refuses_short, refuses_by, same_head}
 use Rattle.rmp_decode.proofs.Rows.{in_list, listed}
 
 -- ---- leaves

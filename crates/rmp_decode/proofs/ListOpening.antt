@@ -15,7 +15,7 @@ use Rattle.rmp_decode.specs.declared.error.Error.{Error}
 use Rattle.rmp_decode.specs.declared.error.Error.TheVariants.{DepthLimitExceeded, Syntax}
 use Rattle.rmp_decode.specs.declared.text.Text.TheVariants.{InvalidType}
 use Rattle.rmp_decode.proofs.Exactness.{by_head, by_none}
-use Rattle.rmp_decode.proofs.Refusals.{refuses_none, refuses_head, refuses_by, same_head}
+use Rattle.rmp_decode.proofs.NothingAccepted.{refuses_none, refuses_head, refuses_by, same_head}
 
 seq_head_of : (m : Msg) → IsSeq m → (p : Bool × ℕ) × (head_of m ≡ seq_head p.0 p.1)
 seq_head_of nil i = absurd i

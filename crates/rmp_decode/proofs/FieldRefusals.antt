@@ -19,7 +19,7 @@ use Rattle.rmp_decode.specs.declared.error.Error.TheVariants.{LengthMismatch, Sy
 use Rattle.rmp_decode.specs.declared.text.Text.TheVariants.{MissingField}
 use Rattle.rmp_decode.proofs.Fields.{later_full}
 use Rattle.rmp_decode.proofs.Maps.{flat, in_pairs, count-flat, depth-flat, settled}
-use Rattle.rmp_decode.proofs.Refusings.{Held, parts_wrong, parts_excess}
+use Rattle.rmp_decode.proofs.ListRefusals.{Held, parts_wrong, parts_excess}
 use Rattle.rmp_decode.proofs.Settings.{setting_same}
 use Rattle.rmp_decode.proofs.Structs.{FieldsRun}
 

@@ -29,10 +29,10 @@ use Rattle.rmp_decode.specs.Refuse.{inside}
 use Rattle.rmp_decode.specs.Seq.{SpellsRow, BeginsRow}
 use Rattle.rmp_decode.specs.Skip.{any_row, parts_head, parts_count}
 use Rattle.rmp_decode.specs.declared.error.Error.{Error}
-use Rattle.rmp_decode.proofs.Refusals.{same_head}
+use Rattle.rmp_decode.proofs.NothingAccepted.{same_head}
 use Rattle.rmp_decode.proofs.Rows.{listed}
-use Rattle.rmp_decode.proofs.Skipping.{in_turn, count-in_turn, depth-in_turn, turned, nest_of}
-use Rattle.rmp_decode.proofs.Wrong.{Front, front_of, stands}
+use Rattle.rmp_decode.proofs.SkipLaws.{in_turn, count-in_turn, depth-in_turn, turned, nest_of}
+use Rattle.rmp_decode.proofs.FirstFault.{Front, front_of, stands}
 
 module _ (w : Bool) where
   -- ---- one message in front
