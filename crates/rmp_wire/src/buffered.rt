@@ -1,5 +1,5 @@
 //! A source over a reader with a buffer.
-ghost use Rattle.std.specs.Prelude.{◌≡◌, ◌≤◌, IfOk, IsTrue, length};
+ghost use Rattle.std.specs.Prelude.{◌≡◌, ◌<◌, ◌≤◌, IfOk, IsTrue, false, length};
 ghost use Rattle.std.specs.Io.Buffered.{reader_buffer, reader_remaining};
 ghost use Rattle.rmp_wire.specs.Buffered.{buffer_of, buffer_faults};
 ghost use Rattle.rmp_wire.specs.Sources.{IsFront, Skips};
@@ -76,7 +76,13 @@ impl<R: Read> Source for BufSource<R> {
     }
 
     #[inline(always)]
-    fn skip(&mut self, len: usize) -> bool {
+    fn skip(&mut self, len: usize) -> bool
+        ensures bytes { IsTrue result → Skips len (reader_remaining R.remaining (buffer_of self.old)) (reader_remaining R.remaining (buffer_of self.new)) }
+        ensures sound { IsTrue result → buffer_faults self.new ≡ buffer_faults self.old }
+        ensures enough { IsTrue result → len ≤ length (reader_buffer (buffer_of self.old)) }
+        ensures short { result ≡ false → length (reader_buffer (buffer_of self.old)) < len }
+        ensures kept { result ≡ false → self.new ≡ self.old }
+    {
         if len > self.held().len() {
             return false;
         }

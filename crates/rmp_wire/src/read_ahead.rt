@@ -1,5 +1,5 @@
 //! A source that reads ahead, into a buffer of its own.
-ghost use Rattle.std.specs.Prelude.{◌≡◌, ◌≢◌, ◌<◌, ◌≤◌, [], IfOk, OnOk, OnErr, IsTrue, take, length, min};
+ghost use Rattle.std.specs.Prelude.{◌≡◌, ◌≢◌, ◌<◌, ◌≤◌, [], IfOk, OnOk, OnErr, IsTrue, false, take, length, min};
 ghost use Rattle.std.specs.Io.KnownBytes.{Consumes, IsAtEnd, Keeps};
 ghost use Rattle.rmp_wire.specs.ReadAhead.{faults_behind, held_of, reader_behind, told_ahead};
 ghost use Rattle.rmp_wire.specs.Sources.{IsFront, Skips};
@@ -116,7 +116,13 @@ impl<R: Read> Source for AheadSource<R> {
     }
 
     #[inline(always)]
-    fn skip(&mut self, len: usize) -> bool {
+    fn skip(&mut self, len: usize) -> bool
+        ensures bytes { IsTrue result → Skips len (told_ahead R.remaining self.old) (told_ahead R.remaining self.new) }
+        ensures sound { IsTrue result → faults_behind self.new ≡ faults_behind self.old }
+        ensures enough { IsTrue result → len ≤ length (held_of self.old) }
+        ensures short { result ≡ false → length (held_of self.old) < len }
+        ensures kept { result ≡ false → self.new ≡ self.old }
+    {
         if len > self.held.len() {
             return false;
         }

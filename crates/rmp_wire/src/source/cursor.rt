@@ -1,5 +1,5 @@
 //! Cursors over bytes in memory.
-ghost use Rattle.std.specs.Prelude.{◌≡◌, ◌+◌, ◌-◌, ◌<◌, ◌≤◌, ◌++◌, [], ◌∷◌, Some, IfOk, IsTrue, OnErr, drop, take, length, min, true, ◌⊎◌};
+ghost use Rattle.std.specs.Prelude.{◌≡◌, ◌+◌, ◌-◌, ◌<◌, ◌≤◌, ◌++◌, [], ◌∷◌, Some, IfOk, IsTrue, OnErr, drop, take, false, length, min, true, ◌⊎◌};
 ghost use Rattle.std.specs.Io.Cursor.{cursor_inner, cursor_position};
 ghost use Rattle.rmp_wire.specs.Sources.{IsFront, Skips};
 ghost use Rattle.rmp_wire.specs.Cursors.{cursor_place};
@@ -71,7 +71,12 @@ impl Source for Cursor<&[u8]> {
     }
 
     #[inline(always)]
-    fn skip(&mut self, len: usize) -> bool {
+    fn skip(&mut self, len: usize) -> bool
+        ensures bytes { IsTrue result → Skips len (Some (drop (cursor_position self.old) (cursor_inner self.old).now)) (Some (drop (cursor_position self.new) (cursor_inner self.new).now)) }
+        ensures short { result ≡ false → length (cursor_inner self.old).now - cursor_position self.old < len }
+        ensures kept { result ≡ false → self.new ≡ self.old }
+        ensures place { IsTrue result → cursor_place (cursor_inner self.new).now (cursor_position self.new) ≡ cursor_place (cursor_inner self.old).now (cursor_position self.old) }
+    {
         let at = self.position();
         let fits = holds(self.get_ref(), at, len);
         if fits {
@@ -116,7 +121,12 @@ impl Source for Cursor<Vec<u8>> {
     }
 
     #[inline(always)]
-    fn skip(&mut self, len: usize) -> bool {
+    fn skip(&mut self, len: usize) -> bool
+        ensures bytes { IsTrue result → Skips len (Some (drop (cursor_position self.old) (cursor_inner self.old).items)) (Some (drop (cursor_position self.new) (cursor_inner self.new).items)) }
+        ensures short { result ≡ false → length (cursor_inner self.old).items - cursor_position self.old < len }
+        ensures kept { result ≡ false → self.new ≡ self.old }
+        ensures place { IsTrue result → cursor_place (cursor_inner self.new).items (cursor_position self.new) ≡ cursor_place (cursor_inner self.old).items (cursor_position self.old) }
+    {
         let at = self.position();
         let fits = holds(self.get_ref().as_slice(), at, len);
         if fits {
