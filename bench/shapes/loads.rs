@@ -39,14 +39,37 @@ enum Part {
     Map(Vec<(Part, Part)>),
 }
 
-/// The head of a text, of bytes, of a list or a map: the first byte of a short one and what it counts to, if there is a short
-/// one, and the first bytes of others.
-fn head(out: &mut Vec<u8>, len: usize, short: Option<(u8, usize)>, long: [Option<u8>; 3]) {
-    match short {
+/// The heads of a kind with a length: the first byte of a short one and what it counts to, if there is a short one, and the first bytes of
+/// those whose length stands in one, two and four bytes.
+struct Heads {
+    short: Option<(u8, usize)>,
+    long: [Option<u8>; 3],
+}
+
+const TEXTS: Heads = Heads {
+    short: Some((0xa0, 31)),
+    long: [Some(0xd9), Some(0xda), Some(0xdb)],
+};
+const BYTES: Heads = Heads {
+    short: None,
+    long: [Some(0xc4), Some(0xc5), Some(0xc6)],
+};
+const LISTS: Heads = Heads {
+    short: Some((0x90, 15)),
+    long: [None, Some(0xdc), Some(0xdd)],
+};
+const MAPS: Heads = Heads {
+    short: Some((0x80, 15)),
+    long: [None, Some(0xde), Some(0xdf)],
+};
+
+/// The shortest head of a length.
+fn head(out: &mut Vec<u8>, len: usize, of: Heads) {
+    match of.short {
         Some((first, most)) if len <= most => return out.push(first | len as u8),
         _ => {}
     }
-    match (len, long) {
+    match (len, of.long) {
         (0..=0xff, [Some(first), ..]) => out.extend([first, len as u8]),
         (0..=0xffff, [_, Some(first), _]) => {
             out.push(first);
@@ -93,16 +116,11 @@ fn spell(out: &mut Vec<u8>, part: &Part) {
             out.extend(f.to_bits().to_be_bytes());
         }
         Part::Text(s) => {
-            head(
-                out,
-                s.len(),
-                Some((0xa0, 31)),
-                [Some(0xd9), Some(0xda), Some(0xdb)],
-            );
+            head(out, s.len(), TEXTS);
             out.extend(s.as_bytes());
         }
         Part::Bytes(s) => {
-            head(out, s.len(), None, [Some(0xc4), Some(0xc5), Some(0xc6)]);
+            head(out, s.len(), BYTES);
             out.extend(s);
         }
         Part::Wide(n) => {
@@ -114,21 +132,11 @@ fn spell(out: &mut Vec<u8>, part: &Part) {
             out.extend(bytes);
         }
         Part::List(items) => {
-            head(
-                out,
-                items.len(),
-                Some((0x90, 15)),
-                [None, Some(0xdc), Some(0xdd)],
-            );
+            head(out, items.len(), LISTS);
             items.iter().for_each(|item| spell(out, item));
         }
         Part::Map(pairs) => {
-            head(
-                out,
-                pairs.len(),
-                Some((0x80, 15)),
-                [None, Some(0xde), Some(0xdf)],
-            );
+            head(out, pairs.len(), MAPS);
             for (key, value) in pairs {
                 spell(out, key);
                 spell(out, value);
@@ -334,12 +342,7 @@ impl Made {
 
 fn spelled(items: &[Part]) -> Vec<u8> {
     let mut out = Vec::new();
-    head(
-        &mut out,
-        items.len(),
-        Some((0x90, 15)),
-        [None, Some(0xdc), Some(0xdd)],
-    );
+    head(&mut out, items.len(), LISTS);
     items.iter().for_each(|item| spell(&mut out, item));
     out
 }
@@ -359,11 +362,16 @@ fn loads() -> Vec<Load<Calls>> {
     structs(&mut made, &mut random);
     variants(&mut made, &mut random);
     leaves(&mut made, &mut random);
-    parts(&mut made, &mut random);
+    numbers_and_truths(&mut made, &mut random);
+    maps(&mut made, &mut random);
+    rows(&mut made, &mut random);
+    skipped(&mut made, &mut random);
+    sources(&mut made, &mut random);
     more_leaves(&mut made, &mut random);
     more_parts(&mut made, &mut random);
     singles(&mut made);
     written_leaves(&mut made, &mut random);
+    written_bytes(&mut made);
     written_parts(&mut made, &mut random);
     made.loads
 }
@@ -446,6 +454,9 @@ fn leaves(made: &mut Made, random: &mut Random) {
     }
     made.reads("characters of one byte", "char", &vec![text("x"); COUNT]);
     made.reads("characters of three bytes", "char", &vec![text("€"); COUNT]);
+}
+
+fn numbers_and_truths(made: &mut Made, random: &mut Random) {
     let signed = many(COUNT, random, |r| match r.below(2) {
         0 => Part::Number(number_of_width(r.below(4), r.next())),
         _ => Part::Negative(!(number_of_width(r.below(4), r.next()) as i64)),
@@ -468,21 +479,26 @@ fn leaves(made: &mut Made, random: &mut Random) {
     );
 }
 
-fn parts(made: &mut Made, random: &mut Random) {
-    let map = |r: &mut Random| Part::Map((0..10).map(|n| (Part::Number(n), mixed(r))).collect());
-    made.reads("maps of ten numbers", "map", &many(200, random, map));
-    let named = |r: &mut Random| {
-        Part::Map(
-            (0..10)
-                .map(|n| (text(&format!("key {n}")), mixed(r)))
-                .collect(),
-        )
-    };
-    made.reads(
-        "maps from ten texts",
-        "named_map",
-        &many(200, random, named),
-    );
+/// A map from ten numbers.
+fn map(random: &mut Random) -> Part {
+    let pairs = (0..10).map(|n| (Part::Number(n), mixed(random)));
+    Part::Map(pairs.collect())
+}
+
+/// A map from ten texts.
+fn named_map(random: &mut Random) -> Part {
+    let pairs = (0..10).map(|n| (text(&format!("key {n}")), mixed(random)));
+    Part::Map(pairs.collect())
+}
+
+fn maps(made: &mut Made, random: &mut Random) {
+    let of_numbers = many(COUNT, random, map);
+    made.reads("maps of ten numbers", "map", &of_numbers);
+    let of_texts = many(COUNT, random, named_map);
+    made.reads("maps from ten texts", "named_map", &of_texts);
+}
+
+fn rows(made: &mut Made, random: &mut Random) {
     made.reads("nil", "nil", &vec![Part::Nil; COUNT]);
     let pairs = many(COUNT, random, |r| Part::List(two(r)));
     made.reads("pairs of a number and a truth", "pair", &pairs);
@@ -503,12 +519,18 @@ fn parts(made: &mut Made, random: &mut Random) {
     made.reads("sets of ten numbers", "set", &sets);
     let bytes = many(COUNT, random, |_| Part::Bytes(vec![7; 32]));
     made.reads("bytes of 32 as arrays", "array", &bytes);
-    let trees = many(200, random, tree);
+}
+
+fn skipped(made: &mut Made, random: &mut Random) {
+    let trees = many(COUNT, random, tree);
     made.skips("skip, trees", &trees);
     let signed = many(COUNT, random, |r| {
         Part::Negative(-1 - r.below(1 << 20) as i64)
     });
     made.skips("skip, numbers below zero", &signed);
+}
+
+fn sources(made: &mut Made, random: &mut Random) {
     let texts = vec![text("some words"); COUNT];
     made.called(
         "numbers from a cursor",
@@ -664,7 +686,7 @@ fn written_leaves(made: &mut Made, random: &mut Random) {
     }
 }
 
-fn written_parts(made: &mut Made, random: &mut Random) {
+fn written_bytes(made: &mut Made) {
     for len in [5, 200] {
         let lists = vec![Part::List(vec![Part::Number(7); len]); COUNT];
         let bytes = vec![Part::Bytes(vec![7; len]); COUNT];
@@ -682,6 +704,9 @@ fn written_parts(made: &mut Made, random: &mut Random) {
             &bytes,
         );
     }
+}
+
+fn written_parts(made: &mut Made, random: &mut Random) {
     let options = many(COUNT, random, |r| match r.below(2) {
         0 => Part::Nil,
         _ => mixed(r),
@@ -689,20 +714,10 @@ fn written_parts(made: &mut Made, random: &mut Random) {
     made.writes("options", "option", &options);
     let rows = |r: &mut Random| Part::List((0..3).map(|_| Part::List(numbers(r, 3))).collect());
     made.writes("lists of three lists", "nested", &many(COUNT, random, rows));
-    let map = |r: &mut Random| Part::Map((0..10).map(|n| (Part::Number(n), mixed(r))).collect());
-    made.writes("maps of ten numbers", "map", &many(COUNT, random, map));
-    let named = |r: &mut Random| {
-        Part::Map(
-            (0..10)
-                .map(|n| (text(&format!("key {n}")), mixed(r)))
-                .collect(),
-        )
-    };
-    made.writes(
-        "maps from ten texts",
-        "named_map",
-        &many(COUNT, random, named),
-    );
+    let of_numbers = many(COUNT, random, map);
+    made.writes("maps of ten numbers", "map", &of_numbers);
+    let of_texts = many(COUNT, random, named_map);
+    made.writes("maps from ten texts", "named_map", &of_texts);
     made.writes(
         "tuples of two",
         "tuple",

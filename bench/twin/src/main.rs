@@ -63,9 +63,23 @@ fn map(input: &mut &[u8], len: usize, room: u32) -> Option<Tree> {
     Some(Tree::Map(pairs))
 }
 
-/// Reads a message that nests at most so deep.
-fn read(input: &mut &[u8], room: u32) -> Option<Tree> {
-    Some(match read_marker(input).ok()? {
+/// Lengths of one, two and four bytes.
+fn short(input: &mut &[u8]) -> Option<usize> {
+    Some(input.read_data_u8().ok()?.into())
+}
+
+fn medium(input: &mut &[u8]) -> Option<usize> {
+    Some(input.read_data_u16().ok()?.into())
+}
+
+fn long(input: &mut &[u8]) -> Option<usize> {
+    Some(input.read_data_u32().ok()? as usize)
+}
+
+/// What follows a marker that stands for a value alone, or before a number.
+#[inline(always)]
+fn leaf(input: &mut &[u8], marker: Marker) -> Option<Tree> {
+    Some(match marker {
         Marker::Null => Tree::Nil,
         Marker::True => Tree::Truth(true),
         Marker::False => Tree::Truth(false),
@@ -81,68 +95,36 @@ fn read(input: &mut &[u8], room: u32) -> Option<Tree> {
         Marker::I64 => Tree::Signed(input.read_data_i64().ok()?),
         Marker::F32 => Tree::Float32(input.read_data_u32().ok()?),
         Marker::F64 => Tree::Float64(input.read_data_u64().ok()?),
-        Marker::FixStr(n) => text(input, n.into())?,
-        Marker::Str8 => {
-            let n = input.read_data_u8().ok()?;
-            text(input, n.into())?
-        }
-        Marker::Str16 => {
-            let n = input.read_data_u16().ok()?;
-            text(input, n.into())?
-        }
-        Marker::Str32 => {
-            let n = input.read_data_u32().ok()?;
-            text(input, n as usize)?
-        }
-        Marker::Bin8 => {
-            let n = input.read_data_u8().ok()?;
-            bytes(input, n.into())?
-        }
-        Marker::Bin16 => {
-            let n = input.read_data_u16().ok()?;
-            bytes(input, n.into())?
-        }
-        Marker::Bin32 => {
-            let n = input.read_data_u32().ok()?;
-            bytes(input, n as usize)?
-        }
-        Marker::FixArray(n) => list(input, n.into(), room)?,
-        Marker::Array16 => {
-            let n = input.read_data_u16().ok()?;
-            list(input, n.into(), room)?
-        }
-        Marker::Array32 => {
-            let n = input.read_data_u32().ok()?;
-            list(input, n as usize, room)?
-        }
-        Marker::FixMap(n) => map(input, n.into(), room)?,
-        Marker::Map16 => {
-            let n = input.read_data_u16().ok()?;
-            map(input, n.into(), room)?
-        }
-        Marker::Map32 => {
-            let n = input.read_data_u32().ok()?;
-            map(input, n as usize, room)?
-        }
-        Marker::FixExt1 => extension(input, 1)?,
-        Marker::FixExt2 => extension(input, 2)?,
-        Marker::FixExt4 => extension(input, 4)?,
-        Marker::FixExt8 => extension(input, 8)?,
-        Marker::FixExt16 => extension(input, 16)?,
-        Marker::Ext8 => {
-            let n = input.read_data_u8().ok()?;
-            extension(input, n.into())?
-        }
-        Marker::Ext16 => {
-            let n = input.read_data_u16().ok()?;
-            extension(input, n.into())?
-        }
-        Marker::Ext32 => {
-            let n = input.read_data_u32().ok()?;
-            extension(input, n as usize)?
-        }
-        Marker::Reserved => return None,
+        _ => return None,
     })
+}
+
+/// Reads a message that nests at most so deep.
+fn read(input: &mut &[u8], room: u32) -> Option<Tree> {
+    match read_marker(input).ok()? {
+        Marker::FixStr(n) => text(input, n.into()),
+        Marker::Str8 => short(input).and_then(|n| text(input, n)),
+        Marker::Str16 => medium(input).and_then(|n| text(input, n)),
+        Marker::Str32 => long(input).and_then(|n| text(input, n)),
+        Marker::Bin8 => short(input).and_then(|n| bytes(input, n)),
+        Marker::Bin16 => medium(input).and_then(|n| bytes(input, n)),
+        Marker::Bin32 => long(input).and_then(|n| bytes(input, n)),
+        Marker::FixArray(n) => list(input, n.into(), room),
+        Marker::Array16 => medium(input).and_then(|n| list(input, n, room)),
+        Marker::Array32 => long(input).and_then(|n| list(input, n, room)),
+        Marker::FixMap(n) => map(input, n.into(), room),
+        Marker::Map16 => medium(input).and_then(|n| map(input, n, room)),
+        Marker::Map32 => long(input).and_then(|n| map(input, n, room)),
+        Marker::FixExt1 => extension(input, 1),
+        Marker::FixExt2 => extension(input, 2),
+        Marker::FixExt4 => extension(input, 4),
+        Marker::FixExt8 => extension(input, 8),
+        Marker::FixExt16 => extension(input, 16),
+        Marker::Ext8 => short(input).and_then(|n| extension(input, n)),
+        Marker::Ext16 => medium(input).and_then(|n| extension(input, n)),
+        Marker::Ext32 => long(input).and_then(|n| extension(input, n)),
+        marker => leaf(input, marker),
+    }
 }
 
 const DIGITS: &[u8; 16] = b"0123456789abcdef";
@@ -153,6 +135,32 @@ fn push_hex(text: &mut String, bytes: &[u8]) {
         text.push(DIGITS[usize::from(byte >> 4)].into());
         text.push(DIGITS[usize::from(byte & 15)].into());
     }
+}
+
+/// Appends the items of a list as text.
+fn print_list(items: &[Tree], text: &mut String) {
+    text.push('[');
+    for (i, item) in items.iter().enumerate() {
+        if i > 0 {
+            text.push(',');
+        }
+        print(item, text);
+    }
+    text.push(']');
+}
+
+/// Appends the pairs of a map as text.
+fn print_map(pairs: &[(Tree, Tree)], text: &mut String) {
+    text.push('{');
+    for (i, (key, value)) in pairs.iter().enumerate() {
+        if i > 0 {
+            text.push(',');
+        }
+        print(key, text);
+        text.push('=');
+        print(value, text);
+    }
+    text.push('}');
 }
 
 /// Appends the tree as text.
@@ -172,28 +180,8 @@ fn print(tree: &Tree, text: &mut String) {
             text.push_str("b:");
             push_hex(text, bytes);
         }
-        Tree::List(items) => {
-            text.push('[');
-            for (i, item) in items.iter().enumerate() {
-                if i > 0 {
-                    text.push(',');
-                }
-                print(item, text);
-            }
-            text.push(']');
-        }
-        Tree::Map(pairs) => {
-            text.push('{');
-            for (i, (key, value)) in pairs.iter().enumerate() {
-                if i > 0 {
-                    text.push(',');
-                }
-                print(key, text);
-                text.push('=');
-                print(value, text);
-            }
-            text.push('}');
-        }
+        Tree::List(items) => print_list(items, text),
+        Tree::Map(pairs) => print_map(pairs, text),
         Tree::Extension(tag, bytes) => {
             write!(text, "x({tag}):").unwrap();
             push_hex(text, bytes);

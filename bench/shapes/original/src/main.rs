@@ -35,8 +35,11 @@ macro_rules! written_types {
     };
 }
 
-fn main() {
-    let mut calls = of_types![
+/// A call by its name.
+type Named = (&'static str, loads::OfBytes);
+
+fn reading() -> Vec<Named> {
+    of_types![
         "two" Two,
         "five" Five,
         "eight" EightFields,
@@ -67,8 +70,11 @@ fn main() {
         "option_text" Option<String>,
         "quad" (u8, u8, u8, u8),
         "value" Value,
-    ];
-    calls.extend(written_types![
+    ]
+}
+
+fn writing() -> Vec<Named> {
+    written_types![
         "nil" (),
         "bool" bool,
         "u32" u32,
@@ -86,27 +92,36 @@ fn main() {
         "map" BTreeMap<u32, u32>,
         "named_map" BTreeMap<String, u32>,
         "tuple" (u32, bool),
-    ]);
-    calls.push(("bench_write_iterables", |d, reps| {
-        writes_bytes(d, reps, BytesMode::ForceIterables)
-    }));
-    calls.push(("bench_write_forced", |d, reps| {
-        writes_bytes(d, reps, BytesMode::ForceAll)
-    }));
-    calls.push(("bench_refuse_byte", refusals::<u8>));
-    calls.push(("bench_refuse_numbers", refusals::<Vec<u64>>));
-    calls.push(("bench_refuse_two", refusals::<Two>));
-    calls.push(("bench_cursor_two", cursor_two));
-    calls.push(("bench_read_lent_bytes", read_lent_bytes));
-    calls.push(("bench_read_str", read_str));
-    calls.push(("bench_skip", skip));
-    calls.push(("bench_cursor_numbers", cursor_reads::<u32>));
-    calls.push(("bench_cursor_texts", cursor_reads::<String>));
-    calls.push(("bench_ahead_numbers", buffered_reads::<u32>));
-    calls.push(("bench_ahead_texts", buffered_reads::<String>));
-    calls.push(("bench_buffered_numbers", buffered_reads::<u32>));
-    calls.push(("bench_buffered_texts", buffered_reads::<String>));
-    loads::main(&loads::Calls(calls));
+    ]
+}
+
+/// What isn't a list that is read as a vector, or written as it was read.
+const OTHERS: [Named; 15] = [
+    ("bench_write_iterables", |data, reps| {
+        writes_bytes(data, reps, BytesMode::ForceIterables)
+    }),
+    ("bench_write_forced", |data, reps| {
+        writes_bytes(data, reps, BytesMode::ForceAll)
+    }),
+    ("bench_refuse_byte", refusals::<u8>),
+    ("bench_refuse_numbers", refusals::<Vec<u64>>),
+    ("bench_refuse_two", refusals::<Two>),
+    ("bench_cursor_two", cursor_two),
+    ("bench_read_lent_bytes", read_lent_bytes),
+    ("bench_read_str", read_str),
+    ("bench_skip", skip),
+    ("bench_cursor_numbers", cursor_reads::<u32>),
+    ("bench_cursor_texts", cursor_reads::<String>),
+    ("bench_ahead_numbers", buffered_reads::<u32>),
+    ("bench_ahead_texts", buffered_reads::<String>),
+    ("bench_buffered_numbers", buffered_reads::<u32>),
+    ("bench_buffered_texts", buffered_reads::<String>),
+];
+
+fn main() {
+    loads::main(&loads::Calls(
+        [reading(), writing(), OTHERS.to_vec()].concat(),
+    ));
 }
 
 #[inline(never)]
