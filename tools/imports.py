@@ -1,11 +1,25 @@
 """Which names a text has of those that a table lists by their modules."""
 import re
 
+# How long a line is at most that brings in names.
+LONGEST = 160
+
 
 def has_word(text, name):
     """Whether a text has a name, or an operator's sign."""
-    sign = name.replace("◌", "")
+    sign = name.strip("◌")
     return sign in text if not sign.isidentifier() else re.search(rf"(?<![\w.:]){sign}\b", text) is not None
+
+
+def short_lines(module, names, line):
+    """The line that brings in these names of a module, or as few as are short enough, of about as many names each."""
+    count = 1
+    while True:
+        size = -(-len(names) // count)
+        lines = [line(module, names[start : start + size]) for start in range(0, len(names), size)]
+        if size == 1 or max(len(each.strip()) for each in lines) <= LONGEST:
+            return lines
+        count += 1
 
 
 def imports(text, table, line):
@@ -14,5 +28,5 @@ def imports(text, table, line):
     for module, names in table.items():
         here = [name for name in names.split() if has_word(text, name)]
         if here:
-            found.append(line(module, here))
+            found += short_lines(module, here, line)
     return sorted(found)

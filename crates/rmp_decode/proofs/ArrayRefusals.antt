@@ -3,7 +3,8 @@ use Rattle.std.proofs.Common.{◌≡◌, ap, ◌∙◌, refl, inl, inr, arith, �
 use Rattle.rmp_wire.specs.declared.source.Source.{Ghosts}
 use Rattle.rmp_wire.specs.Msg.{Msg, count}
 use Rattle.rmp_decode.specs.Inside.{access_at, TakesValues, StopsRow}
-use Rattle.rmp_decode.specs.Refusing.{Setting, Refusals, setting_of, inside, RefusedIn, ElementRefused, Wanted, Excess, Behind, EachRead, OneWanted, RefusesTimes}
+use Rattle.rmp_decode.specs.Refusing.{Setting, Refusals, setting_of, inside, RefusedIn, ElementRefused}
+use Rattle.rmp_decode.specs.Refusing.{Wanted, Excess, Behind, EachRead, OneWanted, RefusesTimes}
 use Rattle.rmp_decode.specs.Seq.{SpellsIn, Opens, inner_of}
 use Rattle.rmp_decode.specs.State.{left, faults_of}
 use Rattle.rmp_decode.specs.declared.deserializer.Deserializer.{Deserializer}

@@ -11,7 +11,8 @@ use Rattle.rmp_wire.specs.declared.source.Source.{Ghosts}
 use Rattle.rmp_wire.specs.Msg.{Msg, nil, truth, whole, float32, float64, text, bin, list, extension}
 use Rattle.rmp_wire.specs.Msg.{map as mapping}
 use Rattle.rmp_decode.specs.FieldAccess.{begun, IsStructOpen, SameStruct, names_in, as_map, as_seq, Passes, TakesName, FailsKey, FailsToPass}
-use Rattle.rmp_decode.specs.FieldAccess.{FailsName, Meets, TakesPlace, TakesPlaceAs, FailsPlace, FailsPlaceAs, TakesField, TakesFieldAs, FailsField, FailsFieldAs}
+use Rattle.rmp_decode.specs.FieldAccess.{FailsName, Meets, TakesPlace, TakesPlaceAs, FailsPlace}
+use Rattle.rmp_decode.specs.FieldAccess.{FailsPlaceAs, TakesField, TakesFieldAs, FailsField, FailsFieldAs}
 use Rattle.rmp_decode.specs.Law.{Explains, Readable}
 use Rattle.rmp_decode.specs.Maps.{IsMapOpen, TakesKey, TakesValue}
 use Rattle.rmp_decode.specs.Names.{bytes_of, place_of, place_below, name_of, IsName}

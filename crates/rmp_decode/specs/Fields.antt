@@ -7,7 +7,8 @@ use Rattle.rmp_wire.specs.declared.head.Head.{Head}
 use Rattle.rmp_wire.specs.declared.head.Head.TheVariants.{Map, Array, Bin}
 use Rattle.rmp_wire.specs.declared.marker.Marker.{Marker}
 use Rattle.rmp_wire.specs.declared.source.Source.{Ghosts}
-use Rattle.rmp_wire.specs.Msg.{Msg, nil, truth, whole, float32, float64, text, bin, list, extension, Msgs, no_items, item, count, items_of, Pairs, no_pairs, pair}
+use Rattle.rmp_wire.specs.Msg.{Msg, nil, truth, whole, float32, float64, text, bin, list}
+use Rattle.rmp_wire.specs.Msg.{extension, Msgs, no_items, item, count, items_of, Pairs, no_pairs, pair}
 use Rattle.rmp_wire.specs.Msg.{map as mapping}
 use Rattle.rmp_decode.specs.Content.{RefusesContent, not_raw, never_refused}
 use Rattle.rmp_decode.specs.Exact.{RefusesBy}

@@ -1,6 +1,7 @@
 //! The reader of messages: its settings, its state, and the heads that it takes.
 ghost use Rattle.std.specs.Prelude.{◌≡◌, ◌<◌, ◌≤◌, false};
-ghost use Rattle.rmp_decode.specs.State.{room_of, reader_of, alloc_of, config_of, is_failed, kept_of, levels_left, limit_at, limit_of, limited, failed_of, is_strict, strict_of};
+ghost use Rattle.rmp_decode.specs.State.{room_of, reader_of, alloc_of, config_of, is_failed, kept_of, levels_left};
+ghost use Rattle.rmp_decode.specs.State.{limit_at, limit_of, limited, failed_of, is_strict, strict_of};
 ghost use Rattle.rmp_decode.specs.Law.{ReadsHead};
 ghost use Rattle.rmp_decode.specs.declared.deserializer.Kept.TheVariants.{Nothing};
 

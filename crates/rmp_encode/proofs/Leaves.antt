@@ -1,5 +1,6 @@
 -- What a writer of the wire wrote, as the law of a write says it.
-use Rattle.std.proofs.Common.{◌≡◌, ℕ, ◌<◌, ◌≤◌, ◌^◌, ◌/◌, ◌%◌, List, [], ◌∷◌, ◌++◌, ap, length, take, drop, Bool, Some, suc, sym, ◌∙◌, subst, arith, get_or, refl}
+use Rattle.std.proofs.Common.{◌≡◌, ℕ, ◌<◌, ◌≤◌, ◌^◌, ◌/◌, ◌%◌, List, [], ◌∷◌, ◌++◌}
+use Rattle.std.proofs.Common.{ap, length, take, drop, Bool, Some, suc, sym, ◌∙◌, subst, arith, get_or, refl}
 use Rattle.std.specs.Prelude.{Result, Ok, Err, ℤ, pos, negsuc, FitsSigned}
 use Rattle.std.specs.Int.{w8, w64, w128, to_be_bytes}
 use Rattle.std.specs.Io.KnownBytes.{Appends}

@@ -174,7 +174,8 @@ impl<W: Sink, C: SerializerConfig> Serializer<W, C> {
 }
 
 impl<'a, W: Sink, C: SerializerConfig> MaybeUnknownLengthCompound<'a, W, C> {
-    ghost use Rattle.rmp_encode.specs.Opens.{inside, reference, counted, left_of, not_begun, is_kept, is_map, is_sound, owed, owed_at, one_less, IsOpen, MayTake, MayEnd, Stays};
+    ghost use Rattle.rmp_encode.specs.Opens.{inside, reference, counted, left_of, not_begun, is_kept, is_map, is_sound};
+    ghost use Rattle.rmp_encode.specs.Opens.{owed, owed_at, one_less, IsOpen, MayTake, MayEnd, Stays};
 
     // Writes a part, or keeps it.
     //

@@ -12,7 +12,8 @@ ghost use Rattle.rmp_serde.specs.LeafRounds.{unsigned_row_64};
 ghost use Rattle.rmp_serde.specs.Rounds.{rows_none, rows_cons};
 ghost use Rattle.rmp_serde.specs.StructRounds.{tuple_variant_all};
 ghost use Rattle.rmp_serde.specs.ValueLowers.{value_row};
-ghost use Rattle.rmp_serde.specs.VariantRounds.{newtype_variant_some, bare_row, newtype_variant_row, tuple_variant_row, bare_other, newtype_variant_other, tuple_variant_other};
+ghost use Rattle.rmp_serde.specs.VariantRounds.{bare_other, newtype_variant_other, tuple_variant_other};
+ghost use Rattle.rmp_serde.specs.VariantRounds.{newtype_variant_some, bare_row, newtype_variant_row, tuple_variant_row};
 ghost use Rattle.std.proofs.Common.{refl};
 ghost use Rattle.std.specs.Prelude.{◌≡◌, ◌∷◌, [], None, Some, codes, false, ⊤};
 

@@ -3,7 +3,8 @@ ghost use Rattle.std.specs.Prelude.{◌≡◌, ◌≢◌, ◌<◌, false, true, 
 ghost use Rattle.std.specs.Borrow.{sem, RestsIfErr};
 ghost use Rattle.std.specs.String.{string_bytes};
 ghost use Rattle.rmp_decode.specs.contracts.deserializer.Deserializer.{the_row};
-ghost use Rattle.rmp_decode.specs.Anys.{any_name, OpensAny, FailsToOpenAny, leaf_value, leaf_lender, raw_len, raw_tag, raw_lender, TakesContent, FailsContent, FailsToLend, FailsText};
+ghost use Rattle.rmp_decode.specs.Anys.{any_name, OpensAny, FailsToOpenAny, leaf_value, leaf_lender, raw_len};
+ghost use Rattle.rmp_decode.specs.Anys.{raw_tag, raw_lender, TakesContent, FailsContent, FailsToLend, FailsText};
 ghost use Rattle.rmp_decode.specs.Law.{ReadsHead};
 ghost use Rattle.rmp_decode.specs.Skip.{parts_head};
 ghost use Rattle.rmp_decode.specs.State.{failed_of};

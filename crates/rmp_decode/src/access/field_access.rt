@@ -1,5 +1,6 @@
 //! The fields of structs, one after another.
-ghost use Rattle.std.specs.Prelude.{◌≡◌, ◌≢◌, ◌-◌, ◌<◌, ◌≤◌, ◌^◌, ℕ, Some, None, true, false, length, IfSome, IfNone, IfOk, IfErr, OnOk, OnErr, MatchResult, max};
+ghost use Rattle.std.specs.Prelude.{◌≡◌, ◌≢◌, ◌-◌, ◌<◌, ◌≤◌, ◌^◌, ℕ, Some, None, true};
+ghost use Rattle.std.specs.Prelude.{false, length, IfSome, IfNone, IfOk, IfErr, OnOk, OnErr, MatchResult, max};
 ghost use Rattle.std.specs.Int.{bit_at};
 ghost use Rattle.std.specs.Io.KnownBytes.{IsAtEnd};
 ghost use Rattle.rmp_decode.specs.Exact.{IsDataEnd, RefusesBy};
@@ -7,9 +8,11 @@ ghost use Rattle.rmp_decode.specs.Variants.{is_bare, variant_lender, content_roo
 ghost use Rattle.rmp_decode.specs.With.{OffersPart};
 ghost use Rattle.std.specs.Borrow.{sem, RestsIfErr};
 ghost use Rattle.rmp_decode.specs.contracts.deserializer.Deserializer.{the_row};
-ghost use Rattle.rmp_decode.specs.FieldAccess.{OpensStruct, IsStructOpen, SameStruct, AtField, AtFieldValue, TakesPlace, TakesPlaceAs, NoPlace, FailsPlace, NoName};
+ghost use Rattle.rmp_decode.specs.FieldAccess.{OpensStruct, IsStructOpen, SameStruct, AtField, AtFieldValue};
+ghost use Rattle.rmp_decode.specs.FieldAccess.{TakesPlace, TakesPlaceAs, NoPlace, FailsPlace, NoName};
 ghost use Rattle.rmp_decode.specs.FieldAccess.{TakesName, FailsName, EndsEarly, Meets, TakesField, FailsField, ValueRefused, FailsKey, FailsToPass, is_of_map};
-ghost use Rattle.rmp_decode.specs.FieldAccess.{fields_left, fields_in, owes_field, is_struct_sound, struct_lender, names_in, as_map, unsound, OpensStructIn, FailsToOpenStructOf};
+ghost use Rattle.rmp_decode.specs.FieldAccess.{fields_left, fields_in, owes_field, is_struct_sound, struct_lender};
+ghost use Rattle.rmp_decode.specs.FieldAccess.{names_in, as_map, unsound, OpensStructIn, FailsToOpenStructOf};
 ghost use Rattle.rmp_decode.specs.Fields.{FailsToOpenFields, HasFields, not_fields, fields_head};
 ghost use Rattle.rmp_decode.specs.Law.{IsFailedBefore, Explains, TakesHead};
 ghost use Rattle.rmp_decode.specs.Maps.{IsMapOpen, AtKey, TakesKey, TakesValue};

@@ -1,7 +1,8 @@
 //! Texts, characters, bytes and extensions.
 ghost use Rattle.std.specs.Prelude.{◌≡◌, if◌then◌else◌, true, false, None};
 ghost use Rattle.std.specs.String.{string_bytes};
-ghost use Rattle.rmp_decode.specs.Content.{IsTextHead, IsRawHead, RefusesContent, not_raw, never_refused, not_char, not_string, not_str, not_bytes, IsExtHead, not_ext, IsBufferHead, not_buffer};
+ghost use Rattle.rmp_decode.specs.Content.{IsTextHead, IsRawHead, RefusesContent, not_raw, never_refused, not_char, not_string};
+ghost use Rattle.rmp_decode.specs.Content.{not_str, not_bytes, IsExtHead, not_ext, IsBufferHead, not_buffer};
 ghost use Rattle.rmp_decode.specs.Read.{IsRaw, IsString, IsChar, IsExt};
 ghost use Rattle.rmp_wire.specs.Types.{buffer_bytes};
 ghost use Rattle.rmp_decode.specs.Buffers.{IsBuffer, RefusesListIn};

@@ -2,7 +2,8 @@
 ghost use Rattle.std.specs.Prelude.{map};
 ghost use Rattle.rmp_decode.specs.Arrays.{Exactly};
 ghost use Rattle.rmp_decode.specs.Rows.{ReadsEach};
-ghost use Rattle.rmp_serde.specs.Rounds.{each_some, each_row, rows_map, slice_some, slice_row, slice_other, sequence_some, sequence_row, sequence_other, tuple_some, tuple_row, tuple_other};
+ghost use Rattle.rmp_serde.specs.Rounds.{each_some, each_row, rows_map, slice_some, slice_row, slice_other};
+ghost use Rattle.rmp_serde.specs.Rounds.{sequence_some, sequence_row, sequence_other, tuple_some, tuple_row, tuple_other};
 
 use crate::round_trip::{NeverNil, RoundTrip};
 use rmp_encode::Serialize;

@@ -2,7 +2,8 @@
 ghost use Rattle.std.proofs.Common.{refl};
 ghost use Rattle.std.specs.Prelude.{true, string_bytes};
 ghost use Rattle.rmp_wire.specs.Types.{bytes_of, buffer_bytes, tag_of, ext_bytes};
-ghost use Rattle.rmp_serde.specs.LeafRounds.{char_row, string_row, str_row, bytes_row, buffer_row, ext_row, char_other, text_other, bytes_other, extension_other};
+ghost use Rattle.rmp_serde.specs.LeafRounds.{char_row, string_row, str_row, bytes_row, buffer_row};
+ghost use Rattle.rmp_serde.specs.LeafRounds.{ext_row, char_other, text_other, bytes_other, extension_other};
 
 use crate::round_trip::{NeverNil, RoundTrip};
 use rmp_wire::{ByteBuf, Bytes, Ext, ReadSlice};

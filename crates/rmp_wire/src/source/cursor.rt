@@ -2,7 +2,7 @@
 ghost use Rattle.std.specs.Prelude.{◌≡◌, ◌+◌, ◌-◌, ◌<◌, ◌≤◌, ◌++◌, [], ◌∷◌, Some, IfOk, IsTrue, OnErr, drop, take, false, length, min, true, ◌⊎◌};
 ghost use Rattle.std.specs.Io.Cursor.{cursor_inner, cursor_position};
 ghost use Rattle.rmp_wire.specs.Sources.{IsFront, Skips};
-ghost use Rattle.rmp_wire.specs.Cursors.{cursor_place};
+ghost use Rattle.rmp_wire.specs.Cursors.{cursor_place, slice_ahead, slice_place, vec_ahead, vec_place};
 
 use crate::error::IoFault;
 use crate::source::Source;
@@ -41,19 +41,16 @@ fn holds(all: &[u8], place: u64, len: usize) -> bool
     ensures skips { result ≡ true → Skips len (Some (drop place all.now)) (Some (drop (place + len) all.now)) }
     ensures past { result ≡ true → cursor_place all.now (place + len) ≡ cursor_place all.now place }
 {
-    if len > behind(all, place).len() {
-        return false;
-    }
-    true
+    len <= behind(all, place).len()
 }
 
 /// The bytes from the cursor's position on, in order. A call that fails leaves the cursor as it was.
 impl Source for Cursor<&[u8]> {
-    ghost ahead = { λ c. Some (drop (cursor_position c) (cursor_inner c).now) };
+    ghost ahead = { λ c. Some (slice_ahead c) };
 
     ghost faults = { λ _. 0 };
 
-    ghost place = { λ c. cursor_place (cursor_inner c).now (cursor_position c) };
+    ghost place = { slice_place };
 
     fn pull(&mut self, buf: &mut [u8]) -> Result<usize, io::Error> {
         let at = self.position();
@@ -64,18 +61,18 @@ impl Source for Cursor<&[u8]> {
 
     #[inline(always)]
     fn front(&self) -> &[u8]
-        ensures bytes { IsFront result.now (Some (drop (cursor_position self.now) (cursor_inner self.now).now)) }
-        ensures all { result.now ≡ drop (cursor_position self.now) (cursor_inner self.now).now }
+        ensures bytes { IsFront result.now (Some (slice_ahead self.now)) }
+        ensures all { result.now ≡ slice_ahead self.now }
     {
         behind(self.get_ref(), self.position())
     }
 
     #[inline(always)]
     fn skip(&mut self, len: usize) -> bool
-        ensures bytes { IsTrue result → Skips len (Some (drop (cursor_position self.old) (cursor_inner self.old).now)) (Some (drop (cursor_position self.new) (cursor_inner self.new).now)) }
+        ensures bytes { IsTrue result → Skips len (Some (slice_ahead self.old)) (Some (slice_ahead self.new)) }
         ensures short { result ≡ false → length (cursor_inner self.old).now - cursor_position self.old < len }
         ensures kept { result ≡ false → self.new ≡ self.old }
-        ensures place { IsTrue result → cursor_place (cursor_inner self.new).now (cursor_position self.new) ≡ cursor_place (cursor_inner self.old).now (cursor_position self.old) }
+        ensures place { IsTrue result → slice_place self.new ≡ slice_place self.old }
     {
         let at = self.position();
         let fits = holds(self.get_ref(), at, len);
@@ -99,11 +96,11 @@ impl Source for Cursor<&[u8]> {
 
 /// The bytes from the cursor's position on, in order. A call that fails leaves the cursor as it was.
 impl Source for Cursor<Vec<u8>> {
-    ghost ahead = { λ c. Some (drop (cursor_position c) (cursor_inner c).items) };
+    ghost ahead = { λ c. Some (vec_ahead c) };
 
     ghost faults = { λ _. 0 };
 
-    ghost place = { λ c. cursor_place (cursor_inner c).items (cursor_position c) };
+    ghost place = { vec_place };
 
     fn pull(&mut self, buf: &mut [u8]) -> Result<usize, io::Error> {
         let at = self.position();
@@ -114,18 +111,18 @@ impl Source for Cursor<Vec<u8>> {
 
     #[inline(always)]
     fn front(&self) -> &[u8]
-        ensures bytes { IsFront result.now (Some (drop (cursor_position self.now) (cursor_inner self.now).items)) }
-        ensures all { result.now ≡ drop (cursor_position self.now) (cursor_inner self.now).items }
+        ensures bytes { IsFront result.now (Some (vec_ahead self.now)) }
+        ensures all { result.now ≡ vec_ahead self.now }
     {
         behind(self.get_ref().as_slice(), self.position())
     }
 
     #[inline(always)]
     fn skip(&mut self, len: usize) -> bool
-        ensures bytes { IsTrue result → Skips len (Some (drop (cursor_position self.old) (cursor_inner self.old).items)) (Some (drop (cursor_position self.new) (cursor_inner self.new).items)) }
+        ensures bytes { IsTrue result → Skips len (Some (vec_ahead self.old)) (Some (vec_ahead self.new)) }
         ensures short { result ≡ false → length (cursor_inner self.old).items - cursor_position self.old < len }
         ensures kept { result ≡ false → self.new ≡ self.old }
-        ensures place { IsTrue result → cursor_place (cursor_inner self.new).items (cursor_position self.new) ≡ cursor_place (cursor_inner self.old).items (cursor_position self.old) }
+        ensures place { IsTrue result → vec_place self.new ≡ vec_place self.old }
     {
         let at = self.position();
         let fits = holds(self.get_ref().as_slice(), at, len);

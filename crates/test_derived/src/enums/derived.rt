@@ -12,7 +12,8 @@ ghost use Rattle.rmp_encode.specs.Trees.{newtype_variant_of, tuple_variant_of, s
 ghost use Rattle.rmp_serde.specs.LeafRounds.{byte_row, unsigned_row_16, unsigned_row_32, string_row};
 ghost use Rattle.rmp_serde.specs.Rounds.{option_some, option_row, rows_none, rows_cons};
 ghost use Rattle.rmp_serde.specs.StructRounds.{tuple_variant_all, struct_variant_all, fields_none, fields_cons};
-ghost use Rattle.rmp_serde.specs.VariantRounds.{newtype_variant_some, bare_row, newtype_variant_row, tuple_variant_row, struct_variant_row, bare_other, newtype_variant_other, tuple_variant_other, struct_variant_other};
+ghost use Rattle.rmp_serde.specs.VariantRounds.{bare_other, newtype_variant_other, tuple_variant_other, struct_variant_other};
+ghost use Rattle.rmp_serde.specs.VariantRounds.{newtype_variant_some, bare_row, newtype_variant_row, tuple_variant_row, struct_variant_row};
 ghost use Rattle.std.proofs.Common.{refl};
 ghost use Rattle.std.specs.Prelude.{◌≡◌, ◌∷◌, [], None, Some, codes, false, ⊤, string_bytes};
 ghost use Rattle.test_derived.specs.declared.enums.Four.TheVariants as the_four;

@@ -1,6 +1,7 @@
 //! Values of fields that a function reads.
 ghost use Rattle.std.specs.Prelude.{◌≡◌, true, false, OnOk, OnErr, MatchResult};
-ghost use Rattle.rmp_decode.specs.FieldAccess.{IsStructOpen, SameStruct, AtFieldValue, CanReadField, FieldRead, fields_left, owes_field, is_struct_sound, struct_lender};
+ghost use Rattle.rmp_decode.specs.FieldAccess.{IsStructOpen, SameStruct, AtFieldValue, CanReadField, FieldRead};
+ghost use Rattle.rmp_decode.specs.FieldAccess.{fields_left, owes_field, is_struct_sound, struct_lender};
 ghost use Rattle.rmp_decode.specs.Law.{IsFailedBefore};
 ghost use Rattle.rmp_decode.specs.State.{is_failed};
 

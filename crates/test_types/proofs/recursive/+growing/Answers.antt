@@ -15,7 +15,8 @@ use Rattle.test_types.specs.declared.recursive.Rose.{Rose, out-Rose, out-roll-Ro
 use Rattle.test_types.specs.Recursive.{Row, IsRose, RoseFields, rose_names}
 use Rattle.test_types.specs.Layers.{IsNode, rose_made, rose_node}
 use Rattle.test_types.proofs.Roses.{KidsRead, kids_named, roses_row, roses_done, field_steps, same_then}
-use Rattle.test_types.proofs.Steps.{row_unopened, row_refused, row_unkept, part_steps, steps_at, lent_law, item_taken, item_refused, some_if, some_if_err, none_left, never_none}
+use Rattle.test_types.proofs.Steps.{row_unopened, row_refused, row_unkept, part_steps, steps_at, lent_law}
+use Rattle.test_types.proofs.Steps.{item_taken, item_refused, some_if, some_if_err, none_left, never_none}
 use Rattle.test_types.proofs.recursive.+growing.Goals as goal
 use Rattle.test_types.proofs.recursive.+growing.Goals.{read_rose-in-Some, read_rose-in-None+in-Ok-missing_field_or}
 

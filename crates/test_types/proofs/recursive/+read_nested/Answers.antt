@@ -6,7 +6,8 @@ use Rattle.rmp_decode.proofs.Seqs.{values_start, values_step, via}
 use Rattle.test_types.specs.declared.recursive.Nested.{out-roll-Nested}
 use Rattle.test_types.specs.Recursive.{Row, IsNested}
 use Rattle.test_types.specs.Layers.{nested_row}
-use Rattle.test_types.proofs.Steps.{nested_done, row_unopened, row_refused, row_unkept, part_steps, steps_at, item_taken, item_refused, some_if, some_if_err, none_left, never_none}
+use Rattle.test_types.proofs.Steps.{nested_done, row_unopened, row_refused, row_unkept, part_steps, steps_at}
+use Rattle.test_types.proofs.Steps.{item_taken, item_refused, some_if, some_if_err, none_left, never_none}
 use Rattle.test_types.proofs.recursive.+read_nested.Goals as goal
 
 pub returns-in_err-seq : goal.returns-in_err-seq

@@ -10,7 +10,8 @@ use Rattle.test_types.specs.declared.recursive.Tree.{Tree, out-Tree, out-roll-Tr
 use Rattle.test_types.specs.declared.recursive.Tree.TheVariants.{rolls-Leaf, rolls-Node}
 use Rattle.test_types.specs.Recursive.{Row, IsTree, TreeCase, tree_names}
 use Rattle.test_types.specs.Layers.{tree_made, tree_variant}
-use Rattle.test_types.proofs.Steps.{trees_row, trees_done, tree_node, row_unopened, row_refused, row_unkept, part_room, content_room_falls, lent_law, item_taken, item_refused, some_if, some_if_err, none_left, never_none}
+use Rattle.test_types.proofs.Steps.{trees_row, trees_done, tree_node, row_unopened, row_refused, row_unkept}
+use Rattle.test_types.proofs.Steps.{part_room, content_room_falls, lent_law, item_taken, item_refused, some_if, some_if_err, none_left, never_none}
 use Rattle.test_types.proofs.recursive.+reading.Goals as goal
 
 pub read_trees-returns-in_err-seq : goal.read_trees-returns-in_err-seq

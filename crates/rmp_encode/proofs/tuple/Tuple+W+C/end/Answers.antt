@@ -4,7 +4,8 @@ use Rattle.rmp_encode.specs.Data.{packs_tuple}
 use Rattle.rmp_wire.specs.declared.config.BytesMode.TheVariants.{ForceAll}
 use Rattle.rmp_encode.proofs.Going.{closes}
 use Rattle.rmp_encode.proofs.Parts.{part_then, part_stops}
-use Rattle.rmp_encode.proofs.TupleSteps.{kept_none, kept_no_more, kept_some, marker_no_head, marker_numbers, marker_packed, probing_packs, probing_lists, list_state, probe_state}
+use Rattle.rmp_encode.proofs.TupleSteps.{kept_none, kept_no_more, kept_some, marker_no_head, marker_numbers}
+use Rattle.rmp_encode.proofs.TupleSteps.{marker_packed, probing_packs, probing_lists, list_state, probe_state}
 use Rattle.rmp_encode.proofs.tuple.Tuple+W+C.end.Goals as goal
 
 pub returns-in_default-clause-writes : goal.returns-in_default-clause-writes
