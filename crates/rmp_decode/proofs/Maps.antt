@@ -7,7 +7,6 @@ use Rattle.std.proofs.Common.{
   subst,
   refl,
   ℕ,
-  suc,
   ◌+◌,
   ◌<◌,
   max,
@@ -34,7 +33,7 @@ use Rattle.std.specs.Map.{keys_of, lookup}
 use Rattle.std.specs.Ordering.{is_eq}
 use Rattle.std.specs.declared.cmp.Ordering.{Ordering}
 use Rattle.std.specs.Io.KnownBytes.{Consumes}
-use Rattle.std.proofs.KnownBytes.{Consumes-nil, Consumes-trans}
+use Rattle.std.proofs.KnownBytes.{Consumes-trans}
 use Rattle.rmp_wire.specs.declared.head.Head.TheVariants.{Map}
 use Rattle.rmp_wire.specs.declared.source.Source.{Ghosts}
 use Rattle.rmp_wire.specs.Canonical.{heads_of, SpellsAs}
@@ -65,9 +64,10 @@ use Rattle.rmp_wire.specs.Msg.{
 use Rattle.rmp_wire.specs.Spelling.{PairsSpelledBy, head_of}
 use Rattle.rmp_wire.proofs.Strict.{heads_apart_as}
 use Rattle.rmp_decode.specs.Law.{Refuses, Readable, Explains, Lawful}
-use Rattle.rmp_decode.specs.Maps.{OfMap, IsMap, ReadsPairs, Collects, map_inner, IsMapOpen, OpensMap, FailsToOpenMap, TakesKey, TakesValue}
+use Rattle.rmp_decode.specs.Maps.{OfMap, IsMap, ReadsPairs, Collects, map_inner, owed, to_come, as_row}
+use Rattle.rmp_decode.specs.Maps.{IsMapOpen, OpensMap, FailsToOpenMap, TakesKey, TakesValue}
 use Rattle.rmp_decode.specs.Parts.{TakesPart, FailsPart}
-use Rattle.rmp_decode.specs.Seq.{SpellsRow, BeginsRow, RefusesRow}
+use Rattle.rmp_decode.specs.Seq.{SpellsRow, BeginsRow, RefusesRow, TakesElement, Run}
 use Rattle.rmp_decode.specs.State.{left, faults_of, room_of, kept_bytes, Stays}
 use Rattle.rmp_decode.specs.declared.deserializer.Deserializer.{Deserializer}
 use Rattle.rmp_decode.specs.declared.access.map.MapAccess.{MapAccess}
@@ -76,7 +76,8 @@ use Rattle.rmp_decode.specs.declared.error.Error.TheVariants.{OutOfMemory}
 use Rattle.rmp_decode.proofs.Laws.{stays_refl, stays_then}
 use Rattle.rmp_decode.proofs.Orders.{entries_none, entries_more}
 use Rattle.rmp_decode.proofs.NothingAccepted.{refuses_narrower, same_head}
-use Rattle.rmp_decode.proofs.Rows.{push, append, count-push, depth-push, row-push, rest_refused, element_refused, count_refused}
+use Rattle.rmp_decode.proofs.Rows.{push, append, rest_refused, element_refused, count_refused}
+use Rattle.rmp_decode.proofs.Seqs.{run_start, run_step}
 
 -- ---- the keys and values of pairs, in one row
 
@@ -203,78 +204,53 @@ is_map Q (extension tag s) r = r.1
 
 -- ---- keys and values that were read
 
--- how many keys and values are still to come
-abbrev pub owed : Bool → ℕ
-owed true = 1
-owed false = 0
-
-abbrev pub to_come : {R C : Type 0} → MapAccess R C → ℕ
-to_come a = a.left + a.left + owed a.owes
-
 pub settled : {R C : Type 0} (a : MapAccess R C) → a.owes ≡ false → to_come a ≡ a.left + a.left
 settled a e = omega (arith, ap owed e)
 
 -- these were read so far
-pub record MapRun {R C : Type 0} (g : Ghosts R) (start now : MapAccess R C) (ms : Msgs) : Type 0 where
-  pub bytes : List ℕ
-  pub takes : Consumes (left g start.de.now) (left g now.de.now) bytes
-  pub spelled : SpellsRow (SpellsAs start.de.now.strict) bytes ms
-  pub fits : depth_all ms < map_inner start
-  pub many : count ms + to_come now ≡ to_come start
-  pub same_reference : now.de.ghost_name ≡ start.de.ghost_name
-  pub inner : now.inner ≡ start.inner
-  pub stays : Stays g start.de.now now.de.now
-  pub faults_same : faults_of g now.de.now ≡ faults_of g start.de.now
-  pub still : IsMapOpen now
+abbrev pub MapRun : {R C : Type 0} → Ghosts R → MapAccess R C → MapAccess R C → Msgs → Type 0
+MapRun g start now ms = Run g (as_row start) (as_row now) ms
 
 pub map_start : {R C : Type 0} (g : Ghosts R) (a : MapAccess R C) → IsMapOpen a → MapRun g a a no_items
-map_start g a o = record {
-  bytes = [];
-  takes = Consumes-nil (left g a.de.now);
-  spelled = refl;
-  fits = omega arith;
-  many = omega arith;
-  same_reference = refl;
-  inner = refl;
-  stays = stays_refl g a.de.now;
-  faults_same = refl;
-  still = o;
+map_start g a o = run_start g (as_row a) o
+
+-- a key or a value that was read is an element of the list of them
+abbrev as_element : {R C V : Type 0} (g : Ghosts R) (reads : Msg → V → Type 0) (mid now : MapAccess R C) (v : V)
+    → TakesPart g reads (map_inner mid) mid.de.now now.de.now v → to_come mid ≡ to_come now + 1 → now.count ≡ mid.count → now.inner ≡ mid.inner
+    → IsMapOpen now → TakesElement g reads (as_row mid) (as_row now) v
+as_element g reads mid now v t fewer count inner still = record {
+  bytes = t.bytes;
+  tree = t.tree;
+  takes = t.takes;
+  spelled = t.spelled;
+  fits = t.fits;
+  value = t.value;
+  fewer = fewer;
+  count = count;
+  inner = inner;
+  bytes_same = refl;
+  stays = t.stays;
+  faults_same = t.faults_same;
+  still = still;
 }
 
-map_part : {R C V : Type 0} (g : Ghosts R) (reads : Msg → V → Type 0) (start mid now : MapAccess R C) (ms : Msgs) (v : V) → MapRun g start mid ms
-    → (t : TakesPart g reads (map_inner mid) mid.de.now now.de.now v) → to_come mid ≡ suc (to_come now) → now.inner ≡ mid.inner → IsMapOpen now
-    → now.de.ghost_name ≡ mid.de.ghost_name
-    → MapRun g start now (push ms t.tree)
-map_part g reads start mid now ms v r t c i o n =
-    let room : mid.inner ≡ start.inner = r.inner in
-    record {
-      bytes = r.bytes ++ t.bytes;
-      takes = Consumes-trans _ _ _ r.bytes t.bytes r.takes t.takes;
-      spelled = row-push (SpellsAs start.de.now.strict) ms t.tree r.bytes t.bytes r.spelled (subst (λ z. SpellsAs z t.bytes t.tree) r.stays.strict t.spelled);
-      fits = depth-push ms t.tree (map_inner start) r.fits (omega (arith, room, t.fits));
-      many = omega (arith, count-push ms t.tree, r.many, c);
-      same_reference = n ∙ r.same_reference;
-      inner = i ∙ r.inner;
-      stays = stays_then g start.de.now mid.de.now now.de.now r.stays t.stays;
-      faults_same = t.faults_same ∙ r.faults_same;
-      still = o;
-    }
-
-key_counts : {R C : Type 0} (mid now : MapAccess R C) → mid.left ≡ now.left + 1 → mid.owes ≡ false → now.owes ≡ true → to_come mid ≡ suc (to_come now)
+key_counts : {R C : Type 0} (mid now : MapAccess R C) → mid.left ≡ now.left + 1 → mid.owes ≡ false → now.owes ≡ true → to_come mid ≡ to_come now + 1
 key_counts mid now l p q = omega (arith, l, ap owed p, ap owed q)
 
-value_counts : {R C : Type 0} (mid now : MapAccess R C) → now.left ≡ mid.left → mid.owes ≡ true → now.owes ≡ false → to_come mid ≡ suc (to_come now)
+value_counts : {R C : Type 0} (mid now : MapAccess R C) → now.left ≡ mid.left → mid.owes ≡ true → now.owes ≡ false → to_come mid ≡ to_come now + 1
 value_counts mid now l p q = omega (arith, l, ap owed p, ap owed q)
 
 -- one key more
 pub map_key : {R C K : Type 0} (g : Ghosts R) (reads : Msg → K → Type 0) (start mid now : MapAccess R C) (ms : Msgs) (k : K) → MapRun g start mid ms
     → mid.owes ≡ false → (t : TakesKey g reads mid now k) → now.de.ghost_name ≡ mid.de.ghost_name → MapRun g start now (push ms t.part.tree)
-map_key g reads start mid now ms k r p t n = map_part g reads start mid now ms k r t.part (key_counts mid now t.fewer p t.owes) t.inner t.still n
+map_key g reads start mid now ms k r p t n = run_step g reads (as_row start) (as_row mid) (as_row now) ms k r
+    (as_element g reads mid now k t.part (key_counts mid now t.fewer p t.owes) t.count t.inner t.still) n
 
 -- one value more
 pub map_value : {R C V : Type 0} (g : Ghosts R) (reads : Msg → V → Type 0) (start mid now : MapAccess R C) (ms : Msgs) (v : V) → MapRun g start mid ms
     → mid.owes ≡ true → (t : TakesValue g reads mid now v) → now.de.ghost_name ≡ mid.de.ghost_name → MapRun g start now (push ms t.part.tree)
-map_value g reads start mid now ms v r p t n = map_part g reads start mid now ms v r t.part (value_counts mid now t.same_left p t.owes) t.inner t.still n
+map_value g reads start mid now ms v r p t n = run_step g reads (as_row start) (as_row mid) (as_row now) ms v r
+    (as_element g reads mid now v t.part (value_counts mid now t.same_left p t.owes) t.count t.inner t.still) n
 
 module _ {R C V : Type 0} (g : Ghosts R) (Q : V → Pairs → Type 0) (old : Deserializer R C) where
   pub map_unopened : (last : Deserializer R C) (e : Error) → FailsToOpenMap g old last e → Lawful g (λ m v. OfMap (Q v) m) old last (Err e)

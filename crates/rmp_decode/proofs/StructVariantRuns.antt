@@ -99,20 +99,6 @@ module _ {R C : Type 0} (i : ℕ) where
 
     -- ---- the runs
 
-    map_run_as : {start now : MapAccess R C} {ms : Msgs} → MapRun g start now ms → MapRun g (map_as start) (map_as now) ms
-    map_run_as r = record {
-      bytes = r.bytes;
-      takes = r.takes;
-      spelled = r.spelled;
-      fits = r.fits;
-      many = r.many;
-      same_reference = r.same_reference;
-      inner = r.inner;
-      stays = stays_as r.stays;
-      faults_same = r.faults_same;
-      still = map_open_as r.still;
-    }
-
     seq_run_as : {start now : SeqAccess R C} {ms : Msgs} → Run g start now ms → Run g (seq_as start) (seq_as now) ms
     seq_run_as r = record {
       bytes = r.bytes;
@@ -128,6 +114,9 @@ module _ {R C : Type 0} (i : ℕ) where
       faults_same = r.faults_same;
       still = seq_open_as r.still;
     }
+
+    map_run_as : {start now : MapAccess R C} {ms : Msgs} → MapRun g start now ms → MapRun g (map_as start) (map_as now) ms
+    map_run_as r = seq_run_as r
 
     module _ {S : Type 0} (names : List (List ℕ)) (holds : List (Option Msg) → S → Type 0) (start now : FieldAccess R C) (s : S) where
       met_so_as : (b : Bool) → MetSo b g names holds start now s → MetSo b g names holds (struct_within i start) (struct_within i now) s

@@ -37,7 +37,7 @@ use Rattle.rmp_wire.specs.Msg.{Msg, nil, truth, whole, float32, float64, text, b
 use Rattle.rmp_wire.specs.Spelling.{head_of}
 use Rattle.rmp_decode.specs.Fields.{blank, put, put_named, met, given, given_all, OfFields, at, Fills, IsFull, HasFields, FailsToOpenFields}
 use Rattle.rmp_decode.specs.Law.{Refuses, Readable, Lawful, TakesHead}
-use Rattle.rmp_decode.specs.Maps.{OfMap, map_inner, IsMapOpen, OpensMap, TakesKey, TakesValue}
+use Rattle.rmp_decode.specs.Maps.{OfMap, map_inner, owed, to_come, IsMapOpen, OpensMap, TakesKey, TakesValue}
 use Rattle.rmp_decode.specs.Names.{IsName}
 use Rattle.rmp_decode.specs.Parts.{FailsPart}
 use Rattle.rmp_decode.specs.Seq.{numbers, OfRow, seq_head, Opens, TakesParts, FailsParts}
@@ -49,7 +49,7 @@ use Rattle.rmp_decode.specs.declared.deserializer.Deserializer.{Deserializer}
 use Rattle.rmp_decode.specs.declared.access.map.MapAccess.{MapAccess}
 use Rattle.rmp_decode.specs.declared.error.Error.{Error}
 use Rattle.rmp_decode.proofs.Laws.{stays_refl, lawful_ok}
-use Rattle.rmp_decode.proofs.Maps.{flat, push_pair, flat-push, Flat, MapRun, map_start, map_key, map_value, map_done, map_refused, map_take, to_come}
+use Rattle.rmp_decode.proofs.Maps.{flat, push_pair, flat-push, Flat, MapRun, map_start, map_key, map_value, map_done, map_refused, map_take}
 use Rattle.rmp_decode.proofs.Meeting.{met_push, none_met, key_named, value_put}
 use Rattle.rmp_decode.proofs.NothingAccepted.{refuses_narrower, same_head}
 use Rattle.rmp_decode.proofs.Rows.{push, append, count_refused}
@@ -223,7 +223,7 @@ module _ {R C V S : Type 0} (g : Ghosts R) (names : List (List ℕ)) (holds : Li
     where
       none : (ks : Msgs) → Flat (λ ps. (v : V) × Meets names Q v ps) (append (flat r.trees) ks) → count ks ≡ to_come mid → ⊥
       none no_items h c = f h.2.0 (none_met names (λ fs. Q fs h.2.0) (blank names) r.met_trees r.trees r.is_met h.0 h.2.1 h.1)
-      none (item m ks) h c = omega (arith, z, ap Rattle.rmp_decode.proofs.Maps.owed r.at_key)
+      none (item m ks) h c = omega (arith, z, ap owed r.at_key)
 
   module _ (key : MapAccess R C) (m : key.de.ghost_name ≡ mid.de.ghost_name) where
     -- a value of a field was refused, or the field was read before
@@ -235,7 +235,7 @@ module _ {R C V S : Type 0} (g : Ghosts R) (names : List (List ℕ)) (holds : Li
         let half = map_key g (IsName names) start mid key (flat r.trees) (Some n) r.run r.at_key t m in
         widen e (elim h [
           | inl f ↦ map_take g (Meets names Q) old start key o last (push (flat r.trees) t.part.tree) half (λ m (u : Unit {0}). takes n m) now e
-              (omega (arith, ap Rattle.rmp_decode.proofs.Maps.owed t.owes)) f q
+              (omega (arith, ap owed t.owes)) f q
               (λ m ks v qs p h. let x = value_put names (λ fs. Q fs v) (blank names) r.met_trees r.trees r.is_met qs h t.part.tree n t.part.value m ks p
               in (tt, law x.1 v n m x.4 x.3))
           | inr f ↦ map_refused g (Meets names Q) old start key o last (push (flat r.trees) t.part.tree) half e
@@ -246,7 +246,7 @@ module _ {R C V S : Type 0} (g : Ghosts R) (names : List (List ℕ)) (holds : Li
       where
         none : (t : TakesKey g (IsName names) mid key (Some n)) → ((fs : List (Option Msg)) → holds fs s → (m : Msg) → put n m fs ≡ None) → (ks : Msgs)
             → Flat (λ ps. (v : V) × Meets names Q v ps) (append (push (flat r.trees) t.part.tree) ks) → count ks ≡ to_come key → ⊥
-        none t f no_items h c = omega (arith, ap Rattle.rmp_decode.proofs.Maps.owed t.owes)
+        none t f no_items h c = omega (arith, ap owed t.owes)
         none t f (item m ks) h c =
             let x = value_put names (λ fs. Q fs h.2.0) (blank names) r.met_trees r.trees r.is_met h.0 h.2.1 t.part.tree n t.part.value m ks h.1 in
             let y = f r.met_trees r.held m in
@@ -259,7 +259,7 @@ module _ {R C V S : Type 0} (g : Ghosts R) (names : List (List ℕ)) (holds : Li
     fields_passed reads all t now e f q =
         let half = map_key g (IsName names) start mid key (flat r.trees) None r.run r.at_key t m in
         widen e (map_take g (Meets names Q) old start key o last (push (flat r.trees) t.part.tree) half reads now e
-        (omega (arith, ap Rattle.rmp_decode.proofs.Maps.owed t.owes)) f q (λ m ks v qs p h. all m))
+        (omega (arith, ap owed t.owes)) f q (λ m ks v qs p h. all m))
 
 -- ---- fields of a list
 

@@ -13,10 +13,12 @@ use Rattle.rmp_wire.specs.Canonical.{SpellsAs}
 use Rattle.rmp_decode.specs.Exact.{RefusesBy}
 use Rattle.rmp_decode.specs.Law.{TakesHead, Refuses, Explains, IsFailedBefore}
 use Rattle.rmp_decode.specs.Parts.{TakesPart}
+use Rattle.rmp_decode.specs.Seq.{IsOpen}
 use Rattle.rmp_decode.specs.State.{left, faults_of, room_of, Stays}
 use Rattle.rmp_decode.specs.declared.deserializer.Deserializer.{Deserializer}
 use Rattle.rmp_decode.specs.declared.deserializer.Kept.TheVariants.{Nothing}
 use Rattle.rmp_decode.specs.declared.access.map.MapAccess.{MapAccess}
+use Rattle.rmp_decode.specs.declared.access.seq.SeqAccess.{SeqAccess}
 use Rattle.rmp_decode.specs.declared.error.Error.{Error}
 use Rattle.rmp_decode.specs.declared.error.Error.TheVariants.{DepthLimitExceeded, Syntax}
 use Rattle.rmp_decode.specs.declared.text.Text.TheVariants.{InvalidType}
@@ -90,11 +92,21 @@ AtKey a = a.sound ≡ true → a.owes ≡ false
 abbrev pub AtValue : {R C : Type 0} → MapAccess R C → Type 0
 AtValue a = a.sound ≡ true → a.owes ≡ true
 
+-- how many keys and values are still to come
+abbrev pub owed : Bool → ℕ
+owed true = 1
+owed false = 0
+
+abbrev pub to_come : {R C : Type 0} → MapAccess R C → ℕ
+to_come a = a.left + a.left + owed a.owes
+
+-- the access to the list of its keys and values that it is
+abbrev pub as_row : {R C : Type 0} → MapAccess R C → SeqAccess R C
+as_row a = record { de = a.de; left = to_come a; count = a.count; inner = a.inner; bytes = false; sound = a.sound }
+
 -- no call of the access has failed, and the reader is marked failed until the access ends
-pub record IsMapOpen {R C : Type 0} (a : MapAccess R C) : Type 0 where
-  pub sound : a.sound ≡ true
-  pub marked : a.de.now.failed ≡ true
-  pub clean : a.de.now.kept ≡ Nothing
+abbrev pub IsMapOpen : {R C : Type 0} → MapAccess R C → Type 0
+IsMapOpen a = IsOpen (as_row a)
 
 -- the head of a map was taken
 pub record OpensMap {R C : Type 0} (g : Ghosts R) (old : Deserializer R C) (a : MapAccess R C) : Type 0 where
