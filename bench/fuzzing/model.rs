@@ -102,16 +102,22 @@ fn extension(len: usize, n: u64, tag: u8) -> Met {
     Met { head: Head::Content { len: n as usize, is_text: false }, len, canonical }
 }
 
-fn head(bytes: &[u8]) -> Result<Met, Refusal> {
-    let (first, behind) = bytes.split_first().ok_or(Refusal::End)?;
+/// The heads of one byte.
+fn short_head(first: u8) -> Option<Met> {
+    match first {
+        0x00..=0x7f => Some(leaf(1, spelled_number(i128::from(first)))),
+        0x80..=0x8f => Some(map(1, u64::from(first - 0x80))),
+        0x90..=0x9f => Some(list(1, u64::from(first - 0x90))),
+        0xa0..=0xbf => Some(text(1, u64::from(first - 0xa0))),
+        0xc0 | 0xc2 | 0xc3 | 0xe0..=0xff => Some(leaf(1, vec![first])),
+        _ => None,
+    }
+}
+
+/// The heads that go on behind their first byte.
+fn long_head(first: u8, behind: &[u8]) -> Result<Met, Refusal> {
     let wide = |base: u8| 1usize << (first - base);
     Ok(match first {
-        0x00..=0x7f => leaf(1, spelled_number(i128::from(*first))),
-        0x80..=0x8f => map(1, u64::from(first - 0x80)),
-        0x90..=0x9f => list(1, u64::from(first - 0x90)),
-        0xa0..=0xbf => text(1, u64::from(first - 0xa0)),
-        0xc0 | 0xc2 | 0xc3 => leaf(1, vec![*first]),
-        0xc1 => return Err(Refusal::Reserved),
         0xc4..=0xc6 => {
             let width = wide(0xc4);
             let n = number(behind, width)?;
@@ -125,8 +131,8 @@ fn head(bytes: &[u8]) -> Result<Met, Refusal> {
         }
         0xca | 0xcb => {
             let width = 4 * wide(0xca);
-            number(behind, width)?;
-            leaf(1 + width, bytes[..1 + width].to_vec())
+            let bits = number(behind, width)?;
+            leaf(1 + width, [vec![first], big_endian(bits, width)].concat())
         }
         0xcc..=0xcf => {
             let width = wide(0xcc);
@@ -139,20 +145,19 @@ fn head(bytes: &[u8]) -> Result<Met, Refusal> {
             leaf(1 + width, spelled_number(i128::from(z)))
         }
         0xd4..=0xd8 => extension(2, 1 << (first - 0xd4), *behind.first().ok_or(Refusal::Cut)?),
-        0xd9..=0xdb => {
-            let width = wide(0xd9);
-            text(1 + width, number(behind, width)?)
-        }
-        0xdc | 0xdd => {
-            let width = 2 * wide(0xdc);
-            list(1 + width, number(behind, width)?)
-        }
-        0xde | 0xdf => {
-            let width = 2 * wide(0xde);
-            map(1 + width, number(behind, width)?)
-        }
-        0xe0..=0xff => leaf(1, vec![*first]),
+        0xd9..=0xdb => text(1 + wide(0xd9), number(behind, wide(0xd9))?),
+        0xdc | 0xdd => list(1 + 2 * wide(0xdc), number(behind, 2 * wide(0xdc))?),
+        0xde | 0xdf => map(1 + 2 * wide(0xde), number(behind, 2 * wide(0xde))?),
+        _ => return Err(Refusal::Reserved),
     })
+}
+
+fn head(bytes: &[u8]) -> Result<Met, Refusal> {
+    let (first, behind) = bytes.split_first().ok_or(Refusal::End)?;
+    match short_head(*first) {
+        Some(met) => Ok(met),
+        None => long_head(*first, behind),
+    }
 }
 
 /// Goes over the message at the front, with what is to be done about each head, and gives how long it is.
