@@ -100,9 +100,9 @@ owed false = 0
 abbrev pub to_come : {R C : Type 0} → MapAccess R C → ℕ
 to_come a = a.left + a.left + owed a.owes
 
--- the access to the list of its keys and values that it is
+-- the same access, to the list of its keys and values
 abbrev pub as_row : {R C : Type 0} → MapAccess R C → SeqAccess R C
-as_row a = record { de = a.de; left = to_come a; count = a.count; inner = a.inner; bytes = false; sound = a.sound }
+as_row a = record { de = a.de; left = to_come a; count = a.count + a.count; inner = a.inner; bytes = false; sound = a.sound }
 
 -- no call of the access has failed, and the reader is marked failed until the access ends
 abbrev pub IsMapOpen : {R C : Type 0} → MapAccess R C → Type 0

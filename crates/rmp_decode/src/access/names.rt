@@ -149,27 +149,29 @@ impl<R: Source, C: SerializerConfig> Deserializer<R, C> {
         ensures exact { RefusesLeaf R.Source IsNameHead not_raw never_refused self.old self.new result }
         ensures memory { R.lends ≡ true → IfErr result (λ e. e ≢ Error.OutOfMemory) }
     {
-        match self.head() {
-            Ok((_, head)) => match raw_in(head) {
-                Some((_, len)) => match next_place(&mut self.reader, names, len as usize) {
-                    Ok(place) => {
-                        self.failed = false;
-                        Ok(place)
-                    }
-                    Err(e) => Err(e),
-                },
-                None => match whole_in(head) {
-                    Some(z) => match place_below(names.len(), z) {
-                        Some(place) => {
-                            self.failed = false;
-                            Ok(place)
-                        }
-                        None => Err(Error::Syntax(Text::InvalidType)),
-                    },
-                    None => Err(Error::Syntax(Text::InvalidType)),
-                },
+        let head = match self.head() {
+            Ok((_, head)) => head,
+            Err(e) => return Err(e),
+        };
+        match raw_in(head) {
+            Some((_, len)) => match next_place(&mut self.reader, names, len as usize) {
+                Ok(place) => {
+                    self.failed = false;
+                    return Ok(place);
+                }
+                Err(e) => return Err(e),
             },
-            Err(e) => Err(e),
+            None => {}
+        }
+        match whole_in(head) {
+            Some(z) => match place_below(names.len(), z) {
+                Some(place) => {
+                    self.failed = false;
+                    Ok(place)
+                }
+                None => Err(Error::Syntax(Text::InvalidType)),
+            },
+            None => Err(Error::Syntax(Text::InvalidType)),
         }
     }
 

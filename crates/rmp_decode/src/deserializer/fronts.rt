@@ -106,13 +106,7 @@ pub(crate) fn text_at(front: &[u8], strict: bool) -> Option<(u32, usize)>
         [first, behind @ ..] => match first {
             0xa0..=0xbf => Some((u32::from(*first - 0xa0), 1)),
             0xd9 => match behind {
-                [a, ..] => {
-                    if may_stand(u64::from(*a), 32, strict) {
-                        Some((u32::from(*a), 2))
-                    } else {
-                        None
-                    }
-                }
+                [a, ..] if may_stand(u64::from(*a), 32, strict) => Some((u32::from(*a), 2)),
                 _ => None,
             },
             _ => None,

@@ -6,6 +6,6 @@ use Rattle.rmp_decode.proofs.deserializer.fronts.text_at.Goals as goal
 pub returns-in-160-to-191 : goal.returns-in-160-to-191
 returns-in-160-to-191 c = text_held c.args.strict c.args.front.now _ c.in-len1-up.len_at_least (search rules) (search rules) (search rules)
 
-pub returns-then-may_stand : goal.returns-then-may_stand
-returns-then-may_stand c = opened_stands c.args.strict 2 _ c.args.front.now (λ e. opens_text_8 _ _ c.in-217.is (search rules) (search rules))
+pub returns-in-len1-up-behind : goal.returns-in-len1-up-behind
+returns-in-len1-up-behind c = opened_stands c.args.strict 2 _ c.args.front.now (λ e. opens_text_8 _ _ c.in-217.is (search rules) (search rules))
     (text_8 c.args.front.now _ c.in-len1-up.len_at_least c.in-217.is c.in-len1-up-behind.len_at_least (search rules) (λ i. search rules))
