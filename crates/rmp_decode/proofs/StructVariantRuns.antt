@@ -6,7 +6,7 @@ use Rattle.rmp_decode.specs.FieldAccess.{IsStructOpen, SameStruct, OpensStructIn
 use Rattle.rmp_decode.specs.FieldAccess.{FailsKey, FailsBehind, FailsPlaceAs, FailsPlace, FailsFieldAs, FailsField, as_map}
 use Rattle.rmp_decode.specs.Fields.{OfFields, HasFields, at, blank, given_all}
 use Rattle.rmp_decode.specs.Law.{Readable, Lawful}
-use Rattle.rmp_decode.specs.Maps.{IsMapOpen, TakesKey, TakesValue}
+use Rattle.rmp_decode.specs.Maps.{TakesKey, TakesValue}
 use Rattle.rmp_decode.specs.Parts.{TakesPart, FailsPart}
 use Rattle.rmp_decode.specs.Seq.{IsOpen, Run}
 use Rattle.rmp_decode.specs.State.{Stays}
@@ -18,7 +18,6 @@ use Rattle.rmp_decode.specs.declared.access.map.MapAccess.{MapAccess}
 use Rattle.rmp_decode.specs.declared.access.seq.SeqAccess.{SeqAccess}
 use Rattle.rmp_decode.specs.declared.access.variant.Variant.{Variant}
 use Rattle.rmp_decode.specs.declared.error.Error.{Error}
-use Rattle.rmp_decode.proofs.Maps.{MapRun}
 use Rattle.rmp_decode.proofs.StructRuns.{MetSo, StructRun, AllMet, StructMet, struct_start, struct_done, struct_missing, struct_over, struct_place}
 use Rattle.rmp_decode.proofs.StructRuns.{struct_value}
 use Rattle.rmp_decode.proofs.Structs.{has_fields}
@@ -35,9 +34,6 @@ module _ {R C : Type 0} (i : ℕ) where
 
   abbrev pub seq_as : SeqAccess R C → SeqAccess R C
   seq_as a = record a { de = record a.de { now = record a.de.now { room = i } } }
-
-  map_open_as : {a : MapAccess R C} → IsMapOpen a → IsMapOpen (map_as a)
-  map_open_as o = record { sound = o.sound; marked = o.marked; clean = o.clean }
 
   seq_open_as : {a : SeqAccess R C} → IsOpen a → IsOpen (seq_as a)
   seq_open_as o = record { sound = o.sound; marked = o.marked; clean = o.clean }
@@ -74,11 +70,11 @@ module _ {R C : Type 0} (i : ℕ) where
 
     key_as : {K : Type 0} {reads : Msg → K → Type 0} {old new : MapAccess R C} {k : K} → TakesKey g reads old new k
         → TakesKey g reads (map_as old) (map_as new) k
-    key_as t = record { part = part_as t.part; fewer = t.fewer; owes = t.owes; count = t.count; inner = t.inner; still = map_open_as t.still }
+    key_as t = record { part = part_as t.part; fewer = t.fewer; owes = t.owes; count = t.count; inner = t.inner; still = seq_open_as t.still }
 
     value_as : {V : Type 0} {reads : Msg → V → Type 0} {old new : MapAccess R C} {v : V} → TakesValue g reads old new v
         → TakesValue g reads (map_as old) (map_as new) v
-    value_as t = record { part = part_as t.part; same_left = t.same_left; owes = t.owes; count = t.count; inner = t.inner; still = map_open_as t.still }
+    value_as t = record { part = part_as t.part; same_left = t.same_left; owes = t.owes; count = t.count; inner = t.inner; still = seq_open_as t.still }
 
     passes_pair_as : {names : List (List ℕ)} {old new : MapAccess R C} → PassesPair g names old new → PassesPair g names (map_as old) (map_as new)
     passes_pair_as p = record { key = map_as p.key; named = key_as p.named; value = value_as p.value; key_same = p.key_same; value_same = p.value_same }
@@ -115,16 +111,13 @@ module _ {R C : Type 0} (i : ℕ) where
       still = seq_open_as r.still;
     }
 
-    map_run_as : {start now : MapAccess R C} {ms : Msgs} → MapRun g start now ms → MapRun g (map_as start) (map_as now) ms
-    map_run_as r = seq_run_as r
-
     module _ {S : Type 0} (names : List (List ℕ)) (holds : List (Option Msg) → S → Type 0) (start now : FieldAccess R C) (s : S) where
       met_so_as : (b : Bool) → MetSo b g names holds start now s → MetSo b g names holds (struct_within i start) (struct_within i now) s
       met_so_as true f = record {
         fields = record {
           trees = f.fields.trees;
           met_trees = f.fields.met_trees;
-          run = map_run_as f.fields.run;
+          run = seq_run_as f.fields.run;
           is_met = f.fields.is_met;
           held = f.fields.held;
           at_key = f.fields.at_key;
