@@ -128,45 +128,45 @@ fn skip_parts<R: Source, C: SerializerConfig, P: ReadContent<R>>(
                 Some(n) => {
                     wanted = n;
                     room += 1;
-                    continue;
                 }
                 None => {
                     de.failed = false;
                     return Ok(());
                 }
             }
-        }
-        wanted -= 1;
-        de.failed = false;
-        match de.leaf_front() {
-            Some(len) => match pass_behind::<R, P>(&mut de.reader, len) {
-                Ok(()) => continue,
-                Err(e) => return Err(e),
-            },
-            None => {}
-        }
-        let head = match de.any_head() {
-            Ok(head) => head,
-            Err(e) => return Err(e),
-        };
-        let (is_map, n) = match parts_in(head) {
-            Some(parts) => parts,
-            None => match P::pass(&mut de.reader, content_in(head) as usize) {
-                Ok(()) => continue,
-                Err(e) => return Err(e),
-            },
-        };
-        if room <= 1 {
-            return Err(Error::DepthLimitExceeded);
-        }
-        let inner = messages(is_map, n);
-        if inner > 0 {
-            match outer.push(wanted) {
-                Ok(()) => {}
-                Err(_) => return Err(Error::OutOfMemory),
+        } else {
+            wanted -= 1;
+            de.failed = false;
+            match de.leaf_front() {
+                Some(len) => match pass_behind::<R, P>(&mut de.reader, len) {
+                    Ok(()) => continue,
+                    Err(e) => return Err(e),
+                },
+                None => {}
             }
-            room -= 1;
-            wanted = inner;
+            match de.any_head() {
+                Ok(head) => match parts_in(head) {
+                    Some((is_map, n)) => {
+                        if room <= 1 {
+                            return Err(Error::DepthLimitExceeded);
+                        }
+                        let inner = messages(is_map, n);
+                        if inner > 0 {
+                            match outer.push(wanted) {
+                                Ok(()) => {}
+                                Err(_) => return Err(Error::OutOfMemory),
+                            }
+                            room -= 1;
+                            wanted = inner;
+                        }
+                    }
+                    None => match P::pass(&mut de.reader, content_in(head) as usize) {
+                        Ok(()) => {}
+                        Err(e) => return Err(e),
+                    },
+                },
+                Err(e) => return Err(e),
+            }
         }
     }
 }

@@ -36,19 +36,19 @@ pub returns-then-room-le1-clause-law : goal.returns-then-room-le1-clause-law
 returns-then-room-le1-clause-law g c = deep_refused g.R.Source g.P.ReadContent.lends c.args.count c.args.de.now c.parts.de c.parts.room c.parts.wanted
     c.parts.outer.items c.parts.invariant _ c.any_head.new.self c.in-None-leaf_front.ensures.kept (omega (arith, c.if-wanted-eq0.false)) _
     c.in-Ok-any_head.ensures.ok.begun
-    c.in-Some-parts_in.parts.0 c.in-Some-parts_in.parts.1 _ c.in-Some-parts_in.ensures c.if-room-le1.true
+    c.in-Some-parts_in.is_map c.in-Some-parts_in.n _ c.in-Some-parts_in.ensures c.if-room-le1.true
 
 pub returns-then-room-le1-clause-exact : goal.returns-then-room-le1-clause-exact
 returns-then-room-le1-clause-exact g c = λ _. deep_wrong g.R.Source g.P.ReadContent.lends c.args.count c.args.de.now c.parts.de c.parts.room c.parts.wanted
     c.parts.outer.items c.parts.invariant _ c.any_head.new.self c.in-None-leaf_front.ensures.kept (omega (arith, c.if-wanted-eq0.false)) _
     c.in-Ok-any_head.ensures.ok.begun
-    c.in-Some-parts_in.parts.0 c.in-Some-parts_in.parts.1 c.in-Some-parts_in.ensures c.if-room-le1.true
+    c.in-Some-parts_in.is_map c.in-Some-parts_in.n c.in-Some-parts_in.ensures c.if-room-le1.true
 
 pub returns-in-Err-push-clause-exact : goal.returns-in-Err-push-clause-exact
 returns-in-Err-push-clause-exact g c = λ _. memory_wrong g.R.Source g.P.ReadContent.lends c.args.count c.args.de.now c.parts.de c.parts.room c.parts.wanted
     c.parts.outer.items c.parts.invariant _ c.any_head.new.self c.in-None-leaf_front.ensures.kept (omega (arith, c.if-wanted-eq0.false)) _
     c.in-Ok-any_head.ensures.ok.begun
-    c.in-Some-parts_in.parts.0 c.in-Some-parts_in.parts.1 c.in-Some-parts_in.ensures (omega (arith, c.if-inner-gt0.true, c.messages-inner.ensures.same))
+    c.in-Some-parts_in.is_map c.in-Some-parts_in.n c.in-Some-parts_in.ensures (omega (arith, c.if-inner-gt0.true, c.messages-inner.ensures.same))
 
 pub parts-smaller-then-inner-gt0 : goal.parts-smaller-then-inner-gt0
 parts-smaller-then-inner-gt0 g c = falls_in c.parts.room c.parts.wanted _ _ _ c.parts.outer.items _ (omega (arith, c.if-wanted-eq0.false)) refl refl
@@ -58,24 +58,24 @@ pub parts-preserved-then-inner-gt0 : goal.parts-preserved-then-inner-gt0
 parts-preserved-then-inner-gt0 g c = wants_in g.R.Source g.P.ReadContent.lends c.args.count c.args.de.now c.parts.de c.parts.room c.parts.wanted
     c.parts.outer.items c.parts.invariant _ c.any_head.new.self c.in-None-leaf_front.ensures.kept (omega (arith, c.if-wanted-eq0.false)) _
     c.in-Ok-any_head.ensures.ok.begun
-    c.in-Some-parts_in.parts.0 c.in-Some-parts_in.parts.1 _ _ _ _ refl refl c.in-Some-parts_in.ensures c.messages-inner.ensures.same c.in-Ok-push.ensures.items
+    c.in-Some-parts_in.is_map c.in-Some-parts_in.n _ _ _ _ refl refl c.in-Some-parts_in.ensures c.messages-inner.ensures.same c.in-Ok-push.ensures.items
+    (omega (arith, c.if-room-le1.false))
+
+pub parts-smaller-else-inner-gt0 : goal.parts-smaller-else-inner-gt0
+parts-smaller-else-inner-gt0 g c = falls_leaf c.parts.room c.parts.wanted _ c.parts.outer.items (omega (arith, c.if-wanted-eq0.false)) refl
+
+pub parts-preserved-else-inner-gt0 : goal.parts-preserved-else-inner-gt0
+parts-preserved-else-inner-gt0 g c = wants_empty g.R.Source g.P.ReadContent.lends c.args.count c.args.de.now c.parts.de c.parts.room c.parts.wanted
+    c.parts.outer.items c.parts.invariant _ c.any_head.new.self c.in-None-leaf_front.ensures.kept (omega (arith, c.if-wanted-eq0.false)) _
+    c.in-Ok-any_head.ensures.ok.begun
+    c.in-Some-parts_in.is_map c.in-Some-parts_in.n _ refl c.in-Some-parts_in.ensures (omega (arith, c.if-inner-gt0.false, c.messages-inner.ensures.same))
     (omega (arith, c.if-room-le1.false))
 
 pub parts-smaller : goal.parts-smaller
 parts-smaller g c = falls_leaf c.parts.room c.parts.wanted _ c.parts.outer.items (omega (arith, c.if-wanted-eq0.false)) refl
 
 pub parts-preserved : goal.parts-preserved
-parts-preserved g c = wants_empty g.R.Source g.P.ReadContent.lends c.args.count c.args.de.now c.parts.de c.parts.room c.parts.wanted
-    c.parts.outer.items c.parts.invariant _ c.any_head.new.self c.in-None-leaf_front.ensures.kept (omega (arith, c.if-wanted-eq0.false)) _
-    c.in-Ok-any_head.ensures.ok.begun
-    c.in-Some-parts_in.parts.0 c.in-Some-parts_in.parts.1 _ refl c.in-Some-parts_in.ensures (omega (arith, c.if-inner-gt0.false, c.messages-inner.ensures.same))
-    (omega (arith, c.if-room-le1.false))
-
-pub parts-smaller-in-Ok-pass : goal.parts-smaller-in-Ok-pass
-parts-smaller-in-Ok-pass g c = falls_leaf c.parts.room c.parts.wanted _ c.parts.outer.items (omega (arith, c.if-wanted-eq0.false)) refl
-
-pub parts-preserved-in-Ok-pass : goal.parts-preserved-in-Ok-pass
-parts-preserved-in-Ok-pass g c =
+parts-preserved g c =
     let o = c.in-Ok-pass.ensures in
     wants_leaf g.R.Source g.P.ReadContent.lends c.args.count c.args.de.now c.parts.de c.parts.room c.parts.wanted c.parts.outer.items c.parts.invariant _
     c.any_head.new.self c.in-None-leaf_front.ensures.kept (omega (arith, c.if-wanted-eq0.false)) _ c.in-Ok-any_head.ensures.ok.begun _ _ refl
