@@ -7,7 +7,7 @@ LONGEST = 160
 
 def has_word(text, name):
     """Whether a text has a name, or an operator's sign."""
-    sign = name.strip("◌")
+    sign = name.replace("◌", "")
     return sign in text if not sign.isidentifier() else re.search(rf"(?<![\w.:]){sign}\b", text) is not None
 
 
