@@ -122,13 +122,9 @@ impl Kept {
     }
 }
 
-/// What is to be done.
+/// What is to be done, for which nothing has to be made before.
 #[derive(Clone, Copy)]
-pub enum Job {
-    /// A list of maps of lists and texts is written.
-    Write,
-    /// Lists and maps of unknown length, in one another, are written, and bytes are made of what may be bytes.
-    WriteUnknown,
+pub enum Task {
     /// A list of maps from texts to lists is read.
     Read,
     /// A list is read that claims 2 ^ 32 - 1 elements and has none.
@@ -145,10 +141,48 @@ pub enum Job {
     WriteKept(Kept),
     /// Something is read through a reader.
     ReadThrough(Reading),
-    /// Something is written into another sink.
-    Put(Writing),
     /// Lines are gone through as `mpcanon` does, which checks them, or not.
     Lines(bool),
+}
+
+impl Task {
+    // The task that a word names.
+    fn named(name: &str) -> Option<Task> {
+        match name {
+            "read" => Some(Task::Read),
+            "read-claim" => Some(Task::ReadClaim),
+            "skip" => Some(Task::Skip),
+            "skip-empty" => Some(Task::SkipEmpty),
+            "check" => Some(Task::Check),
+            "run-lines" => Some(Task::Lines(false)),
+            "check-lines" => Some(Task::Lines(true)),
+            _ => Task::with_type(name),
+        }
+    }
+
+    // The task that a word names together with what is read or written.
+    fn with_type(name: &str) -> Option<Task> {
+        if let Some(kind) = Kind::named(name) {
+            return Some(Task::Again(kind));
+        }
+        if let Some(kept) = Kept::named(name) {
+            return Some(Task::WriteKept(kept));
+        }
+        Reading::named(name).map(Task::ReadThrough)
+    }
+}
+
+/// What is to be done.
+#[derive(Clone, Copy)]
+pub enum Job {
+    /// A list of maps of lists and texts is written.
+    Write,
+    /// Lists and maps of unknown length, in one another, are written, and bytes are made of what may be bytes.
+    WriteUnknown,
+    /// Something is put into another sink.
+    Put(Writing),
+    /// A task that has nothing to write.
+    Alone(Task),
 }
 
 impl Job {
@@ -163,36 +197,20 @@ impl Job {
         let Ok(count) = count.parse::<u32>() else {
             return Err(Fault::NoJob);
         };
-        match name {
-            "write" => Ok((Job::Write, count)),
-            "write-unknown" => Ok((Job::WriteUnknown, count)),
-            "read" => Ok((Job::Read, count)),
-            "read-claim" => Ok((Job::ReadClaim, count)),
-            "skip" => Ok((Job::Skip, count)),
-            "skip-empty" => Ok((Job::SkipEmpty, count)),
-            "check" => Ok((Job::Check, count)),
-            _ => Ok((Job::named(name)?, count)),
+        match Job::named(name) {
+            Some(job) => Ok((job, count)),
+            None => Err(Fault::NoJob),
         }
     }
 
-    // The job that a word names, of the others.
-    fn named(name: &str) -> Result<Job, Fault> {
-        if let Some(kind) = Kind::named(name) {
-            return Ok(Job::Again(kind));
-        }
-        if let Some(kept) = Kept::named(name) {
-            return Ok(Job::WriteKept(kept));
-        }
-        if let Some(reading) = Reading::named(name) {
-            return Ok(Job::ReadThrough(reading));
-        }
-        if let Some(writing) = Writing::named(name) {
-            return Ok(Job::Put(writing));
-        }
+    // The job that a word names.
+    fn named(name: &str) -> Option<Job> {
         match name {
-            "run-lines" => Ok(Job::Lines(false)),
-            "check-lines" => Ok(Job::Lines(true)),
-            _ => Err(Fault::NoJob),
+            "write" => Some(Job::Write),
+            "write-unknown" => Some(Job::WriteUnknown),
+            _ => Writing::named(name)
+                .map(Job::Put)
+                .or_else(|| Task::named(name).map(Job::Alone)),
         }
     }
 }
