@@ -1,6 +1,7 @@
 //! The same reads and writes by the original, the crate rmp-serde.
 
 use crate::typed::Answer;
+use derived::{Dog, Four};
 use rmp_serde::config::BytesMode;
 use rmp_serde::decode::Error;
 use rmp_serde::{Raw, Serializer, from_slice};
@@ -10,6 +11,8 @@ use serde_bytes::ByteBuf;
 use std::collections::{BTreeMap, BTreeSet};
 use value::Value;
 
+#[path = "../types/derived.rs"]
+mod derived;
 #[path = "../types/value.rs"]
 mod value;
 
@@ -17,12 +20,6 @@ mod value;
 const NAMED: u32 = 1;
 const ITERABLES: u32 = 2;
 pub const ALL: u32 = 3;
-
-#[derive(Deserialize, Serialize)]
-struct Dog {
-    name: String,
-    age: u16,
-}
 
 #[derive(Deserialize, Serialize)]
 struct Opt {
@@ -42,14 +39,6 @@ struct Unit;
 enum V12 {
     V1,
     V2(u32, u32),
-}
-
-#[derive(Deserialize, Serialize)]
-enum Four {
-    Unit,
-    New(u8),
-    Tup(u8, u16),
-    Str { a: u8, b: String },
 }
 
 #[derive(Deserialize, Serialize)]

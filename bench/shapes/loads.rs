@@ -3,6 +3,7 @@
 #[path = "../measure.rs"]
 #[allow(dead_code)]
 mod measure;
+mod written;
 
 use measure::{Answer, Load, Random, Runs, number, number_of_width};
 
@@ -338,6 +339,19 @@ impl Made {
             self.reads(&format!("{name}, {form_name}"), call, &made(form));
         }
     }
+
+    /// Structs of some fields that are written, as lists and by names.
+    fn written_structs(&mut self, name: &str, call: &str, names: &[&str], rows: Vec<Vec<Part>>) {
+        let made = |form| -> Vec<Part> {
+            rows.iter()
+                .map(|row| structure(form, names, row.clone()))
+                .collect()
+        };
+        let (lists, maps) = (made(Form::List), made(Form::Map));
+        self.writes(&format!("structs of {name}"), call, &lists);
+        let by_names = format!("structs of {name} by names");
+        self.writes_as(&by_names, &format!("{call}_named"), &lists, &maps);
+    }
 }
 
 fn spelled(items: &[Part]) -> Vec<u8> {
@@ -370,9 +384,7 @@ fn loads() -> Vec<Load<Calls>> {
     more_leaves(&mut made, &mut random);
     more_parts(&mut made, &mut random);
     singles(&mut made);
-    written_leaves(&mut made, &mut random);
-    written_bytes(&mut made);
-    written_parts(&mut made, &mut random);
+    written::make(&mut made, &mut random);
     made.loads
 }
 
@@ -632,96 +644,6 @@ fn singles(made: &mut Made) {
         "a struct from a cursor",
         "bench_cursor_two",
         spelled(&two(Part::Number(300))),
-    );
-}
-
-/// Numbers of a width, with their sign or the other one.
-fn wide(random: &mut Random, width: u64, below: bool) -> Part {
-    let n = number_of_width(width, random.next());
-    match below {
-        true => Part::Negative(!((n >> u32::from(width == 4)) as i64)),
-        false => Part::Number(n),
-    }
-}
-
-fn written_leaves(made: &mut Made, random: &mut Random) {
-    made.writes("nil", "nil", &vec![Part::Nil; COUNT]);
-    let truths = many(COUNT, random, |r| Part::Truth(r.below(2) == 0));
-    made.writes("truths", "bool", &truths);
-    for (width, bytes) in [(0, "one byte"), (1, "two"), (2, "three"), (3, "five")] {
-        let items = many(COUNT, random, |r| wide(r, width, false));
-        made.writes(&format!("numbers of 32 bits, {bytes}"), "u32", &items);
-    }
-    for (width, bytes) in [
-        (0, "one byte"),
-        (1, "two"),
-        (2, "three"),
-        (3, "five"),
-        (4, "nine"),
-    ] {
-        let items = many(COUNT, random, |r| wide(r, width, false));
-        made.writes(&format!("numbers of 64 bits, {bytes}"), "u64", &items);
-        let items = many(COUNT, random, |r| wide(r, width, true));
-        made.writes(&format!("numbers below zero, {bytes}"), "i64", &items);
-    }
-    let halves = many(COUNT, random, |r| Part::Wide(u128::from(r.next()) << 64));
-    made.writes("numbers of 128 bits", "u128", &halves);
-    let single = many(COUNT, random, |r| Part::Single(r.below(1000) as f32));
-    made.writes("floats of 32 bits", "f32", &single);
-    let double = many(COUNT, random, |r| Part::Float(r.below(1000) as f64));
-    made.writes("floats of 64 bits", "f64", &double);
-    made.writes("characters of one byte", "char", &vec![text("x"); COUNT]);
-    made.writes("characters of three bytes", "char", &vec![text("€"); COUNT]);
-    for len in [5, 200] {
-        made.writes(
-            &format!("texts of {len}"),
-            "text",
-            &vec![text(&"x".repeat(len)); COUNT],
-        );
-        made.writes(
-            &format!("bytes of {len}"),
-            "buffer",
-            &vec![Part::Bytes(vec![7; len]); COUNT],
-        );
-    }
-}
-
-fn written_bytes(made: &mut Made) {
-    for len in [5, 200] {
-        let lists = vec![Part::List(vec![Part::Number(7); len]); COUNT];
-        let bytes = vec![Part::Bytes(vec![7; len]); COUNT];
-        made.writes(&format!("vectors of {len} small numbers"), "bytes", &lists);
-        made.writes_as(
-            &format!("vectors of {len}, iterables as bytes"),
-            "iterables",
-            &lists,
-            &bytes,
-        );
-        made.writes_as(
-            &format!("vectors of {len}, all as bytes"),
-            "forced",
-            &lists,
-            &bytes,
-        );
-    }
-}
-
-fn written_parts(made: &mut Made, random: &mut Random) {
-    let options = many(COUNT, random, |r| match r.below(2) {
-        0 => Part::Nil,
-        _ => mixed(r),
-    });
-    made.writes("options", "option", &options);
-    let rows = |r: &mut Random| Part::List((0..3).map(|_| Part::List(numbers(r, 3))).collect());
-    made.writes("lists of three lists", "nested", &many(COUNT, random, rows));
-    let of_numbers = many(COUNT, random, map);
-    made.writes("maps of ten numbers", "map", &of_numbers);
-    let of_texts = many(COUNT, random, named_map);
-    made.writes("maps from ten texts", "named_map", &of_texts);
-    made.writes(
-        "tuples of two",
-        "tuple",
-        &many(COUNT, random, |r| Part::List(two(r))),
     );
 }
 

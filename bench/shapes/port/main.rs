@@ -64,9 +64,13 @@ exports! {
     bench_write_buffer
     bench_write_bytes
     bench_write_char
+    bench_write_dog
+    bench_write_dog_named
     bench_write_f32
     bench_write_f64
     bench_write_forced
+    bench_write_four
+    bench_write_four_named
     bench_write_i64
     bench_write_iterables
     bench_write_map
@@ -74,6 +78,8 @@ exports! {
     bench_write_nested
     bench_write_nil
     bench_write_option
+    bench_write_papers
+    bench_write_papers_named
     bench_write_text
     bench_write_tuple
     bench_write_u128

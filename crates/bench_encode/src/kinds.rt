@@ -1,11 +1,12 @@
 //! Lists of values of many types, each of which is read once and written over and over.
-use rmp_encode::{Serialize, Serializer};
+use rmp_encode::{Serialize, Serializer, write_named};
 use rmp_serde::decode::Deserialize;
 use rmp_serde::from_slice;
 use rmp_wire::config::BytesMode;
 use rmp_wire::{ByteBuf, F32Bits, F64Bits, ReadRefReader};
 use std::alloc::Global;
 use std::collections::BTreeMap;
+use test_derived::{Dog, Four, Papers};
 
 // Reads a list, and writes it so many times.
 #[inline(always)]
@@ -18,6 +19,26 @@ fn writes<'de, T: Deserialize<'de, ReadRefReader<'de>> + Serialize>(
         return 0;
     };
     crate::rounds(alloc, &items, reps).unwrap_or(0)
+}
+
+// Reads a list, and writes it so many times, its structs as maps from names.
+#[inline(always)]
+fn writes_named<'de, T: Deserialize<'de, ReadRefReader<'de>> + Serialize>(
+    alloc: Global,
+    data: &'de [u8],
+    reps: u32,
+) -> usize {
+    let Ok(items) = from_slice::<Vec<T>>(alloc, data) else {
+        return 0;
+    };
+    let mut out = Vec::new(alloc);
+    for _ in 0..reps {
+        out.clear();
+        if write_named(alloc, &mut out, &items).is_err() {
+            return 0;
+        }
+    }
+    out.len()
 }
 
 // Writes a list of lists of numbers so many times, under a mode of bytes.
@@ -148,4 +169,40 @@ pub extern "C" fn bench_write_iterables(alloc: Global, data: &[u8], reps: u32) -
 #[unsafe(no_mangle)]
 pub extern "C" fn bench_write_forced(alloc: Global, data: &[u8], reps: u32) -> usize {
     writes_bytes(alloc, data, reps, BytesMode::ForceAll)
+}
+
+/// Writes a list of structs of two fields.
+#[unsafe(no_mangle)]
+pub extern "C" fn bench_write_dog(alloc: Global, data: &[u8], reps: u32) -> usize {
+    writes::<Dog>(alloc, data, reps)
+}
+
+/// Writes a list of structs of two fields, by names.
+#[unsafe(no_mangle)]
+pub extern "C" fn bench_write_dog_named(alloc: Global, data: &[u8], reps: u32) -> usize {
+    writes_named::<Dog>(alloc, data, reps)
+}
+
+/// Writes a list of structs of nine fields.
+#[unsafe(no_mangle)]
+pub extern "C" fn bench_write_papers(alloc: Global, data: &[u8], reps: u32) -> usize {
+    writes::<Papers>(alloc, data, reps)
+}
+
+/// Writes a list of structs of nine fields, by names.
+#[unsafe(no_mangle)]
+pub extern "C" fn bench_write_papers_named(alloc: Global, data: &[u8], reps: u32) -> usize {
+    writes_named::<Papers>(alloc, data, reps)
+}
+
+/// Writes a list of variants.
+#[unsafe(no_mangle)]
+pub extern "C" fn bench_write_four(alloc: Global, data: &[u8], reps: u32) -> usize {
+    writes::<Four>(alloc, data, reps)
+}
+
+/// Writes a list of variants, their fields by names.
+#[unsafe(no_mangle)]
+pub extern "C" fn bench_write_four_named(alloc: Global, data: &[u8], reps: u32) -> usize {
+    writes_named::<Four>(alloc, data, reps)
 }

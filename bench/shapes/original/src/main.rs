@@ -1,5 +1,6 @@
 //! Measures the same loads over the original, the crate rmp-serde, written as crates/bench_shapes is.
 
+use derived::{Dog, Four};
 use rmp_serde::config::BytesMode;
 use rmp_serde::{Raw, Serializer, from_slice};
 use serde::de::IgnoredAny;
@@ -11,6 +12,8 @@ use std::io::{BufReader, Cursor};
 use structs::{EightFields, Five, Shape, Twelve, Two};
 use value::Value;
 
+#[path = "../../../types/derived.rs"]
+mod derived;
 #[path = "../../loads.rs"]
 mod loads;
 #[path = "../../../types/structs.rs"]
@@ -22,6 +25,19 @@ mod value;
 #[serde(rename = "_ExtStruct")]
 #[expect(dead_code)]
 struct Ext((i8, ByteBuf));
+
+#[derive(Deserialize, Serialize)]
+struct Papers {
+    number: u64,
+    name: String,
+    born: u16,
+    chip: Option<u64>,
+    mother: Option<u64>,
+    father: Option<u64>,
+    weight: u8,
+    height: i8,
+    vaccinated: bool,
+}
 
 macro_rules! of_types {
     ($($name:literal $kind:ty),* $(,)?) => {
@@ -92,11 +108,17 @@ fn writing() -> Vec<Named> {
         "map" BTreeMap<u32, u32>,
         "named_map" BTreeMap<String, u32>,
         "tuple" (u32, bool),
+        "dog" Dog,
+        "papers" Papers,
+        "four" Four,
     ]
 }
 
 /// What isn't a list that is read as a vector, or written as it was read.
-const OTHERS: [Named; 15] = [
+const OTHERS: [Named; 18] = [
+    ("bench_write_dog_named", writes_named::<Dog>),
+    ("bench_write_papers_named", writes_named::<Papers>),
+    ("bench_write_four_named", writes_named::<Four>),
     ("bench_write_iterables", |data, reps| {
         writes_bytes(data, reps, BytesMode::ForceIterables)
     }),
@@ -221,6 +243,21 @@ fn writes<T: for<'de> Deserialize<'de> + Serialize>(data: &[u8], reps: u32) -> u
     for _ in 0..reps {
         out.clear();
         if rmp_serde::encode::write(&mut out, &items).is_err() {
+            return 0;
+        }
+    }
+    out.len()
+}
+
+#[inline(never)]
+fn writes_named<T: for<'de> Deserialize<'de> + Serialize>(data: &[u8], reps: u32) -> usize {
+    let Ok(items) = from_slice::<Vec<T>>(data) else {
+        return 0;
+    };
+    let mut out = Vec::new();
+    for _ in 0..reps {
+        out.clear();
+        if rmp_serde::encode::write_named(&mut out, &items).is_err() {
             return 0;
         }
     }
