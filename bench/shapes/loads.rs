@@ -178,6 +178,12 @@ fn structure(form: Form, names: &[&str], values: Vec<Part>) -> Part {
     Part::Map(pairs)
 }
 
+/// Structs of these fields, each of a row of values.
+fn structures(form: Form, names: &[&str], rows: &[Vec<Part>]) -> Vec<Part> {
+    let of = |row: &Vec<Part>| structure(form, names, row.clone());
+    rows.iter().map(of).collect()
+}
+
 const TWO: &[&str] = &["id", "on"];
 const FIVE: &[&str] = &["id", "name", "age", "score", "note"];
 const EIGHT: &[&str] = &[
@@ -330,24 +336,16 @@ impl Made {
             ("map in reverse", Form::Reverse),
             ("map with unknown names", Form::Unknown),
         ];
-        let made = |form| -> Vec<Part> {
-            rows.iter()
-                .map(|row| structure(form, names, row.clone()))
-                .collect()
-        };
         for (form_name, form) in forms {
-            self.reads(&format!("{name}, {form_name}"), call, &made(form));
+            let items = structures(form, names, &rows);
+            self.reads(&format!("{name}, {form_name}"), call, &items);
         }
     }
 
     /// Structs of some fields that are written, as lists and by names.
     fn written_structs(&mut self, name: &str, call: &str, names: &[&str], rows: Vec<Vec<Part>>) {
-        let made = |form| -> Vec<Part> {
-            rows.iter()
-                .map(|row| structure(form, names, row.clone()))
-                .collect()
-        };
-        let (lists, maps) = (made(Form::List), made(Form::Map));
+        let lists = structures(Form::List, names, &rows);
+        let maps = structures(Form::Map, names, &rows);
         self.writes(&format!("structs of {name}"), call, &lists);
         let by_names = format!("structs of {name} by names");
         self.writes_as(&by_names, &format!("{call}_named"), &lists, &maps);

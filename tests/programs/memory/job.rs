@@ -181,7 +181,7 @@ pub enum Job {
     WriteUnknown,
     /// Something is put into another sink.
     Put(Writing),
-    /// A task that has nothing to write.
+    /// A task by itself.
     Alone(Task),
 }
 
