@@ -11,7 +11,7 @@ use Rattle.rmp_wire.specs.declared.sink.Sink.{Ghosts}
 use Rattle.rmp_wire.specs.declared.error.ValueWriteError.{ValueWriteError}
 use Rattle.rmp_wire.specs.declared.error.ValueWriteError.TheVariants as wire
 use Rattle.rmp_wire.specs.Msg.{Msg, whole, text, bin, extension}
-use Rattle.rmp_wire.specs.declared.head.Head.TheVariants.{Whole}
+use Rattle.rmp_wire.specs.declared.head.Head.TheVariants.{Text, Whole}
 use Rattle.rmp_wire.specs.Heads.{canon_head, fits_head}
 use Rattle.rmp_wire.specs.Sinks.{StopsAfter}
 use Rattle.rmp_wire.specs.Spelling.{canon, Fits, IsBytes}
@@ -21,7 +21,7 @@ use Rattle.rmp_wire.proofs.Writing.{puts_both, puts_then_stop}
 use Rattle.rmp_wire.specs.Faults.{past_first}
 use Rattle.rmp_encode.specs.declared.error.Error.{Error}
 use Rattle.rmp_encode.specs.declared.error.Error.TheVariants as errors
-use Rattle.rmp_encode.specs.Errors.{IsTooLong, error_of, answer_of}
+use Rattle.rmp_encode.specs.Errors.{IsTooLong, error_of, answer_of, at_marker}
 use Rattle.rmp_encode.specs.Trees.{HasTree, spell, ext_head}
 use Rattle.rmp_encode.specs.Writes.{FailsBy, HasBegun, NeverMarker, NoneAtMarker, WritesBehind, WritesPart, WritesTree}
 use Rattle.rmp_encode.proofs.Parts.{part_as, part_done, part_failed, part_refused}
@@ -97,6 +97,16 @@ module _ {W : Type 0} (g : Ghosts W) where
       → Writes g bs old new r → WritesPart g g.takes_memory (Unit {0}) bs old new answer
   wire_head bs {old} {new} r {answer} is w = subst (WritesPart g g.takes_memory (Unit {0}) bs old new) (sym is) (wire_part (Unit {0}) bs r tt w)
 
+  -- a piece of heads, each the first byte of an item
+  pub heads_err : (bs : List ℕ) {old new : W} (e : ValueWriteError) → Writes {A = Unit {0}} g bs old new (Err e)
+      → WritesPart g {A = Unit {0}} g.takes_memory (Unit {0}) bs old new (Err (at_marker e))
+  heads_err bs (wire.InvalidMarkerWrite fault) w = wire_part (Unit {0}) bs (Err (wire.InvalidMarkerWrite fault)) tt w
+  heads_err bs {old} {new} (wire.InvalidDataWrite fault) w =
+      part_failed g g.takes_memory (Unit {0}) bs old new _
+      (λ _. record { part = w.stops.part; rest = w.stops.rest; split = w.stops.split; appended = w.stops.appended })
+      (record { part = w.stops.part; appended = w.stops.appended; begun = tt }) (next_differs _ _ w.stops.cause.1)
+  heads_err bs wire.OutOfMemory w = wire_part (Unit {0}) bs (Err wire.OutOfMemory) tt w
+
   -- a message that fits, of which the wire wrote the canonical spelling
   pub wire_tree : (m : Msg) {old new : W} (r : Result (Unit {0}) ValueWriteError) {answer : Result (Unit {0}) Error} → answer ≡ answer_of r → Fits m
       → Writes g (canon m) old new r → WritesTree g g.takes_memory (Some m) old new answer
@@ -136,6 +146,12 @@ module _ {W : Type 0} (g : Ghosts W) where
   pub signed_tree : (z z' : ℤ) {old new : W} (r : Result (Unit {0}) ValueWriteError) {answer : Result (Unit {0}) Error} → z ≡ z' → FitsSigned w64 z'
       → answer ≡ answer_of r → Writes g (canon_head (Whole z)) old new r → WritesTree g g.takes_memory (Some (whole z')) old new answer
   signed_tree z z' {old} {new} r e f is w = wire_tree g (whole z') r is (signed_fits z' f) (subst (λ n. Writes g (canon_head (Whole n)) old new r) e w)
+
+  -- a text, from its head and its bytes
+  pub text_behind : {m : Bool} {P : Type 0} {old new : W} {r : Result (Unit {0}) Error} → P → (s : List ℕ) → length s < 2 ^ 32 → IsBytes s
+      → WritesPart g m P (canon_head (Text (length s)) ++ s) old new r → WritesTree g m (Some (text s)) old new r
+  unfolding HasTree spell fits_head
+  text_behind p s lt b w = part_as g (λ t. t) (λ _. (lt, b)) (λ _. p) (λ _. refl) w
 
   -- an extension, from its head and its bytes
   pub ext_as : {m : Bool} {P : Type 0} {old new : W} {r : Result (Unit {0}) Error} (n : ℕ) (z z' : ℤ) → z ≡ z' → WritesPart g m P (ext_head n z) old new r

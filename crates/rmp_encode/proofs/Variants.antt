@@ -3,6 +3,8 @@ use Rattle.std.proofs.Common.{
   ◌≡◌,
   ℕ,
   ◌<◌,
+  ◌+◌,
+  nat_lt,
   ◌^◌,
   List,
   [],
@@ -10,6 +12,7 @@ use Rattle.std.proofs.Common.{
   ◌++◌,
   length,
   Bool,
+  true,
   false,
   Option,
   None,
@@ -26,7 +29,9 @@ use Rattle.std.proofs.Common.{
 use Rattle.std.specs.Prelude.{Result, Ok, Err}
 use Rattle.std.specs.List.{flat_map}
 use Rattle.std.specs.Option.{option_map}
-use Rattle.rmp_wire.specs.Heads.{fits_head}
+use Rattle.std.proofs.lemmas.Bool.Decides.{nat_tests}
+use Rattle.rmp_wire.specs.declared.head.Head.TheVariants.{Text}
+use Rattle.rmp_wire.specs.Heads.{canon_head, fits_head}
 use Rattle.rmp_wire.specs.Msg as msg
 use Rattle.rmp_wire.specs.Msg.{Msg}
 use Rattle.rmp_wire.specs.Spelling.{canon, IsBytes}
@@ -156,3 +161,16 @@ struct_byte_at name (Some fs) = refl
 pub struct_variant_no_byte : (name : List ℕ) (fs : List (List ℕ × Option Data)) → byte_of (struct_variant_of name fs) ≡ None
 unfolding struct_variant_of
 struct_variant_no_byte name fs = struct_byte_at name (fields_of fs)
+
+-- the head of a short text
+pub word_head : (n : ℕ) → n < 32 → canon_head (Text n) ≡ (0xa0 + n) ∷ []
+unfolding canon_head
+word_head n l = let t : nat_lt n 32 ≡ true = grind (arith, nat_tests) in rw t refl
+
+-- the heads of a map of one pair and of a short text, of one byte each
+pub short_heads : (n : ℕ) → n < 32 → map_head 1 ++ canon_head (Text n) ≡ 0x81 ∷ ((0xa0 + n) ∷ [])
+unfolding canon_head
+short_heads n l = let t : nat_lt n 32 ≡ true = grind (arith, nat_tests) in rw t refl
+
+pub heads_some : (n : ℕ) → n < 32 → 0 < length (map_head 1 ++ canon_head (Text n))
+heads_some n l = rw (short_heads n l) (omega arith)

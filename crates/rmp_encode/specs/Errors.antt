@@ -10,6 +10,11 @@ abbrev pub error_of : ValueWriteError → Error
 error_of wire.OutOfMemory = errors.OutOfMemory
 error_of fault = errors.InvalidValueWrite fault
 
+-- the error of a piece of heads, each the first byte of an item: none of the item that it broke off was taken
+abbrev pub at_marker : ValueWriteError → Error
+at_marker (wire.InvalidDataWrite fault) = errors.InvalidValueWrite (wire.InvalidMarkerWrite fault)
+at_marker e = error_of e
+
 -- the words where a length has no head
 abbrev pub IsLength : List ℕ → Type 0
 IsLength t = t ≡ codes "length past 32 bits"

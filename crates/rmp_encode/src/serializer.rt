@@ -1,13 +1,13 @@
 //! A serializer over a sink.
-ghost use Rattle.std.specs.Prelude.{◌≡◌, ◌^◌, ◌<◌, ◌≤◌, ◌||◌, OnOk, true, false, [], Some, pos, length, encode_utf8};
+ghost use Rattle.std.specs.Prelude.{◌≡◌, ◌^◌, ◌<◌, ◌≤◌, ◌++◌, ◌||◌, OnOk, true, false, [], Some, pos, length, encode_utf8};
 ghost use Rattle.std.specs.Borrow.{sem};
-ghost use Rattle.rmp_wire.specs.declared.head.Head.TheVariants.{Bin};
+ghost use Rattle.rmp_wire.specs.declared.head.Head.TheVariants.{Bin, Text};
 ghost use Rattle.rmp_wire.specs.Heads.{canon_head};
 ghost use Rattle.rmp_wire.specs.Msg.{nil, truth, whole, float32, float64, text, bin, extension};
-ghost use Rattle.rmp_encode.specs.Errors.{answer_of};
+ghost use Rattle.rmp_encode.specs.Errors.{answer_of, at_marker};
 ghost use Rattle.rmp_encode.specs.Going.{head_at, Begins, Goes, IsWriting};
 ghost use Rattle.rmp_encode.specs.Ser.{sink_of, settings_of, LendsSink};
-ghost use Rattle.rmp_encode.specs.Trees.{ext_head, field_parts, name_parts, number_head};
+ghost use Rattle.rmp_encode.specs.Trees.{ext_head, field_parts, map_head, name_parts, number_head};
 ghost use Rattle.rmp_encode.specs.Writes.{Keeps, NoneAtMarker, NeverMarker, WritesBehind, WritesPart, WritesTree, StaysAtRefusal};
 
 mod leaves;
@@ -49,6 +49,19 @@ pub(crate) fn answer(r: Result<(), ValueWriteError>) -> Result<(), Error>
     match r {
         Ok(()) => Ok(()),
         Err(e) => Err(Error::from(e)),
+    }
+}
+
+// The error of a piece of heads, each the first byte of an item: none of the item that it broke off was taken.
+#[inline(always)]
+fn at_marker(e: ValueWriteError) -> Error
+    ensures { result ≡ at_marker e }
+{
+    match e {
+        ValueWriteError::InvalidDataWrite(fault) => {
+            Error::InvalidValueWrite(ValueWriteError::InvalidMarkerWrite(fault))
+        }
+        other => Error::from(other),
     }
 }
 
@@ -281,6 +294,19 @@ impl<W: Sink, C: SerializerConfig> Serializer<W, C> {
         answer(write_array_len(&mut self.wr, n))
     }
 
+    // The heads of a map of one pair and of a text of so many bytes.
+    #[inline(always)]
+    pub(crate) fn put_short_heads(&mut self, len: u8) -> Result<(), Error>
+        requires { len < 32 }
+        ensures writes { WritesPart W.Sink W.takes_memory (Unit {0}) (map_head 1 ++ canon_head (Text len)) (sink_of self.old) (sink_of self.new) result }
+        ensures keeps { Keeps W.Sink self.old self.new }
+    {
+        match self.wr.put_all(&[0x81, 0xa0 + len]) {
+            Ok(()) => Ok(()),
+            Err(e) => Err(at_marker(e)),
+        }
+    }
+
     // The head of a list of so many values, or of a map of so many pairs, which the caller writes right behind it. A number of
     // 2 ^ 32 or more is refused, and nothing is written.
     #[inline(always)]
@@ -295,6 +321,46 @@ impl<W: Sink, C: SerializerConfig> Serializer<W, C> {
         self.put_head(pairs, n)
     }
 
+    // A text that is likely short, as the names of types are.
+    #[inline(always)]
+    pub(crate) fn put_word(&mut self, word: &str) -> Result<(), Error>
+        ensures writes { WritesTree W.Sink W.takes_memory (Some (text word.now)) (sink_of self.old) (sink_of self.new) result }
+        ensures marker { NoneAtMarker W.Sink (sink_of self.old) (sink_of self.new) result }
+        ensures keeps { Keeps W.Sink self.old self.new }
+        ensures refused { StaysAtRefusal self.old self.new result }
+        ensures long { 2 ^ 32 ≤ length word.now → self.new ≡ self.old }
+    {
+        let len = word.len();
+        if len >= 32 {
+            return self.put_long_word(word);
+        }
+        self.put_word_head(len as u8)?;
+        self.put(word.as_bytes())
+    }
+
+    // The head of a text of so few bytes.
+    #[inline(always)]
+    fn put_word_head(&mut self, len: u8) -> Result<(), Error>
+        requires { len < 32 }
+        ensures writes { WritesPart W.Sink W.takes_memory (Unit {0}) (canon_head (Text len)) (sink_of self.old) (sink_of self.new) result }
+        ensures marker { NoneAtMarker W.Sink (sink_of self.old) (sink_of self.new) result }
+        ensures keeps { Keeps W.Sink self.old self.new }
+    {
+        answer(self.wr.put_all(&[0xa0 + len]))
+    }
+
+    // A text of any length, by a call.
+    #[inline(never)]
+    fn put_long_word(&mut self, word: &str) -> Result<(), Error>
+        ensures writes { WritesTree W.Sink W.takes_memory (Some (text word.now)) (sink_of self.old) (sink_of self.new) result }
+        ensures marker { NoneAtMarker W.Sink (sink_of self.old) (sink_of self.new) result }
+        ensures keeps { Keeps W.Sink self.old self.new }
+        ensures refused { StaysAtRefusal self.old self.new result }
+        ensures long { 2 ^ 32 ≤ length word.now → self.new ≡ self.old }
+    {
+        self.serialize_str(word)
+    }
+
     // The name of a field, where structs are written with names.
     #[inline(always)]
     fn put_name(&mut self, key: &str) -> Result<(), Error>
@@ -304,7 +370,7 @@ impl<W: Sink, C: SerializerConfig> Serializer<W, C> {
         if !self.is_named() {
             return Ok(());
         }
-        self.serialize_str(key)
+        self.put_word(key)
     }
 
     // A field: its value, and with names its name before it.

@@ -18,9 +18,24 @@ use rmp_wire::Sink;
 use rmp_wire::config::SerializerConfig;
 
 impl<W: Sink, C: SerializerConfig> Serializer<W, C> {
-    // What stands before a variant's content, where its name fits.
+    // What stands before a variant's content, where its name fits. The heads of the map and of a short name go out as one piece.
     #[inline(always)]
     fn put_variant(&mut self, name: &str) -> Result<(), Error>
+        requires { length name.now < 2 ^ 32 }
+        ensures writes { WritesPart W.Sink W.takes_memory (Unit {0}) (variant_head name.now) (sink_of self.old) (sink_of self.new) result }
+        ensures keeps { Keeps W.Sink self.old self.new }
+    {
+        let len = name.len();
+        if len >= 32 {
+            return self.put_long_variant(name);
+        }
+        self.put_short_heads(len as u8)?;
+        self.put(name.as_bytes())
+    }
+
+    // The same as `put_variant` of a name of any length, by a call.
+    #[inline(never)]
+    fn put_long_variant(&mut self, name: &str) -> Result<(), Error>
         requires { length name.now < 2 ^ 32 }
         ensures writes { WritesPart W.Sink W.takes_memory (Unit {0}) (variant_head name.now) (sink_of self.old) (sink_of self.new) result }
         ensures keeps { Keeps W.Sink self.old self.new }
@@ -70,7 +85,7 @@ impl<W: Sink, C: SerializerConfig> Serializer<W, C> {
         ensures refused { StaysAtRefusal self.old self.new result }
         ensures long { 2 ^ 32 ≤ length variant.now → self.new ≡ self.old }
     {
-        self.serialize_str(variant)
+        self.put_word(variant)
     }
 
     /// Writes a variant with one value for content: a map of one pair, from its name to the value.

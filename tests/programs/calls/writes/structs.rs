@@ -205,3 +205,23 @@ fn broken_struct(rt: HostRuntime) -> Result<(), Fail> {
     assert_eq!(rt; room.as_slice(), b"\x82\xa1x\xcd".as_slice());
     Ok(())
 }
+
+// The heads of a variant's map and of its name go out as one piece, and a fault between them is one before the name.
+#[test]
+fn broken_variant(rt: HostRuntime) -> Result<(), Fail> {
+    let begun = [false, false, true, true, false, true];
+    for (size, has_begun) in begun.iter().enumerate() {
+        let mut room = [0u8; 6];
+        let mut se = Serializer::new(rt.alloc(), SliceSink::new(&mut room[..size]));
+        let answer = se.serialize_newtype_variant("E", 2, "V3", &200u8);
+        let told = match answer {
+            Err(Error::InvalidValueWrite(ValueWriteError::InvalidMarkerWrite(_))) => Some(false),
+            Err(Error::InvalidValueWrite(ValueWriteError::InvalidDataWrite(_))) => Some(true),
+            _ => None,
+        };
+        assert!(rt; told == Some(*has_begun));
+        drop(se);
+        assert_eq!(rt; room[..size], b"\x81\xa2V3\xcc\xc8"[..size]);
+    }
+    Ok(())
+}

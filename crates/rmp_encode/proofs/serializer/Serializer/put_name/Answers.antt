@@ -10,6 +10,6 @@ returns-then-not-is_named-clause-writes g c = λ old t rest h. no_name g.W.Sink 
 pub returns-clause-writes : goal.returns-clause-writes
 unfolding lower
 returns-clause-writes g c = λ old t rest h.
-    goes g.W.Sink (λ _. g.W.Sink.takes_memory) (λ s. Some (text c.args.key.now)) c.args.self.now _ c.serialize_str.result c.serialize_str.ensures.keeps
-    c.serialize_str.ensures.writes old t rest
+    goes g.W.Sink (λ _. g.W.Sink.takes_memory) (λ s. Some (text c.args.key.now)) c.args.self.now _ c.put_word.result c.put_word.ensures.keeps
+    c.put_word.ensures.writes old t rest
     (with_name g.W.Sink c.args.key.now rest (sym c.is_named.ensures ∙ search rules) h)
