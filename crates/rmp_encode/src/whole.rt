@@ -10,6 +10,9 @@ use crate::serializer::Serializer;
 use rmp_wire::Sink;
 use std::alloc::Global;
 
+/// For how many bytes a vector has room that a value is written into: by growth from nothing, a spelling of more than eight is moved.
+const FIRST_ROOM: usize = 32;
+
 /// Writes a value into a sink. Structs are lists.
 ///
 /// # Errors
@@ -69,7 +72,7 @@ pub fn to_vec<T: Serialize>(alloc: Global, value: &T) -> Result<Vec<u8>, Error>
     ensures value { OnOk result (T.is_value value.now) }
     ensures err { IfErr result (ToVecFails (tree_of default_settings (T.data_of value.now false))) }
 {
-    let mut se = Serializer::new(alloc, Vec::new(alloc));
+    let mut se = Serializer::new(alloc, Vec::with_capacity(alloc, FIRST_ROOM)?);
     value.serialize(&mut se)?;
     Ok(se.into_inner())
 }
@@ -80,7 +83,7 @@ pub fn to_vec_named<T: Serialize>(alloc: Global, value: &T) -> Result<Vec<u8>, E
     ensures value { OnOk result (T.is_value value.now) }
     ensures err { IfErr result (ToVecFails (tree_of named_settings (T.data_of value.now false))) }
 {
-    let mut se = Serializer::named(alloc, Vec::new(alloc));
+    let mut se = Serializer::named(alloc, Vec::with_capacity(alloc, FIRST_ROOM)?);
     value.serialize(&mut se)?;
     Ok(se.into_inner())
 }
