@@ -382,6 +382,7 @@ fn loads() -> Vec<Load<Calls>> {
     more_leaves(&mut made, &mut random);
     more_parts(&mut made, &mut random);
     singles(&mut made);
+    small(&mut made, &mut random);
     written::make(&mut made, &mut random);
     made.loads
 }
@@ -529,6 +530,30 @@ fn rows(made: &mut Made, random: &mut Random) {
     made.reads("sets of ten numbers", "set", &sets);
     let bytes = many(COUNT, random, |_| Part::Bytes(vec![7; 32]));
     made.reads("bytes of 32 as arrays", "array", &bytes);
+}
+
+/// What little there is to read of, so that what is done once for each value shows.
+fn small(made: &mut Made, random: &mut Random) {
+    made.reads(
+        "structs without fields",
+        "nothing",
+        &vec![Part::List(Vec::new()); COUNT],
+    );
+    made.reads("boxed numbers", "boxed", &numbers(random, COUNT));
+    let fours = many(COUNT, random, |r| {
+        Part::List(many(4, r, |r| Part::Number(r.below(1 << 16))))
+    });
+    made.reads("arrays of four numbers", "four", &fours);
+    for (name, len) in [("no number", 0), ("one number", 1)] {
+        let lists = many(COUNT, random, |r| Part::List(numbers(r, len)));
+        made.reads(&format!("lists of {name}"), "nested", &lists);
+    }
+    for (name, len) in [("no number", 0), ("two numbers", 2)] {
+        let maps = many(COUNT, random, |r| {
+            Part::Map((0..len).map(|n| (Part::Number(n), mixed(r))).collect())
+        });
+        made.reads(&format!("maps of {name}"), "map", &maps);
+    }
 }
 
 fn skipped(made: &mut Made, random: &mut Random) {

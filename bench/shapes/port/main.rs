@@ -26,6 +26,7 @@ exports! {
     bench_cursor_two
     bench_read_array
     bench_read_bool
+    bench_read_boxed
     bench_read_buffer
     bench_read_bytes
     bench_read_char
@@ -33,12 +34,14 @@ exports! {
     bench_read_ext
     bench_read_f64
     bench_read_five
+    bench_read_four
     bench_read_i64
     bench_read_lent_bytes
     bench_read_map
     bench_read_named_map
     bench_read_nested
     bench_read_nil
+    bench_read_nothing
     bench_read_option
     bench_read_option_text
     bench_read_pair

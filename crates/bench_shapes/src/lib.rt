@@ -11,7 +11,7 @@ mod twelve;
 use rmp_decode::{Deserialize, Deserializer, Error, from_read, from_slice};
 use rmp_serde::{Raw, Value};
 use rmp_wire::{AheadSource, BufSource, ByteBuf, Ext, F64Bits, ReadReader, ReadRefReader};
-use shapes::{EightFields, Five, Shape, Two};
+use shapes::{EightFields, Five, Nothing, Shape, Two};
 use std::alloc::Global;
 use std::collections::{BTreeMap, BTreeSet, VecDeque};
 use std::io::{BufReader, Cursor};
@@ -218,6 +218,24 @@ pub extern "C" fn bench_read_option_text(alloc: Global, data: &[u8], reps: u32) 
 #[unsafe(no_mangle)]
 pub extern "C" fn bench_read_quad(alloc: Global, data: &[u8], reps: u32) -> usize {
     reads::<(u8, u8, u8, u8)>(alloc, data, reps)
+}
+
+/// Reads a list of structs without fields.
+#[unsafe(no_mangle)]
+pub extern "C" fn bench_read_nothing(alloc: Global, data: &[u8], reps: u32) -> usize {
+    reads::<Nothing>(alloc, data, reps)
+}
+
+/// Reads a list of numbers in boxes.
+#[unsafe(no_mangle)]
+pub extern "C" fn bench_read_boxed(alloc: Global, data: &[u8], reps: u32) -> usize {
+    reads::<Box<u64>>(alloc, data, reps)
+}
+
+/// Reads a list of arrays of four numbers.
+#[unsafe(no_mangle)]
+pub extern "C" fn bench_read_four(alloc: Global, data: &[u8], reps: u32) -> usize {
+    reads::<[u16; 4]>(alloc, data, reps)
 }
 
 /// Reads a list of values of any kind.

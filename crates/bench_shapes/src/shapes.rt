@@ -1,6 +1,10 @@
 //! Structs and enums of each kind.
 mod derived;
 
+/// No field.
+#[derive(Drop)]
+pub struct Nothing;
+
 /// A number and a truth.
 #[derive(Drop)]
 pub struct Two {

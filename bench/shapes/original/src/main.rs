@@ -26,6 +26,9 @@ mod value;
 #[expect(dead_code)]
 struct Ext((i8, ByteBuf));
 
+#[derive(Deserialize)]
+struct Nothing;
+
 #[derive(Deserialize, Serialize)]
 struct Papers {
     number: u64,
@@ -85,6 +88,9 @@ fn reading() -> Vec<Named> {
         "texts" Vec<String>,
         "option_text" Option<String>,
         "quad" (u8, u8, u8, u8),
+        "nothing" Nothing,
+        "boxed" Box<u64>,
+        "four" [u16; 4],
         "value" Value,
     ]
 }

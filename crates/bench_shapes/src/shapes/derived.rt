@@ -1,15 +1,39 @@
 //! How the types of shapes.rt are read: what tools/derive.py makes of them, but for how they are written.
 ghost use Rattle.bench_shapes.specs.declared.shapes.Shape.TheVariants as the_shape;
+ghost use Rattle.rmp_decode.specs.Exact.{RefusesExactly};
 ghost use Rattle.rmp_decode.specs.Fields.{OfFields, Field, Absent, NoField};
 ghost use Rattle.rmp_decode.specs.Rows.{AndThen, NoMore};
 ghost use Rattle.rmp_decode.specs.Seq.{OfRow};
+ghost use Rattle.rmp_decode.specs.Units.{IsNothing, not_nothing};
 ghost use Rattle.rmp_decode.specs.Variants.{OfVariant, Case, NoCase, Bare, Content};
 ghost use Rattle.std.specs.Prelude.{◌≡◌, ◌∷◌, [], None, Some, codes, false, ⊤};
 
-use super::{EightFields, Five, Shape, Two};
+use super::{EightFields, Five, Nothing, Shape, Two};
 use rmp_decode::{Deserialize, Deserializer};
 use rmp_wire::ReadSlice;
 use rmp_wire::config::SerializerConfig;
+
+impl<'de, R: ReadSlice<'de>> Deserialize<'de, R> for Nothing {
+    ghost reads = { λ human lends m v. IsNothing m };
+
+    ghost absent = { None };
+
+    ghost refuses = { λ s. RefusesExactly s.strict (not_nothing s.room) };
+
+    #[inline(always)]
+    fn deserialize<C: SerializerConfig>(
+        de: &mut Deserializer<R, C>,
+    ) -> Result<Nothing, rmp_decode::Error> {
+        match de.deserialize_unit_struct("Nothing") {
+            Ok(()) => Ok(Nothing),
+            Err(e) => Err(e),
+        }
+    }
+
+    fn missing() -> Option<Nothing> {
+        None
+    }
+}
 
 impl<'de, R: ReadSlice<'de>> Deserialize<'de, R> for Two {
     ghost reads = { λ human lends m v. OfFields (codes "id" ∷ (codes "on" ∷ []))

@@ -39,6 +39,10 @@ impl<R: Source, C: SerializerConfig> Deserializer<R, C> {
         ensures exact { RefusesHead R.Source (not_nothing (room_of self.old)) self.old self.new result }
         ensures memory { IfErr result (λ e. e ≢ Error.OutOfMemory) }
     {
+        if self.empty_front() {
+            self.failed = false;
+            return Ok(());
+        }
         if self.unit_front() {
             self.failed = false;
             return Ok(());

@@ -511,7 +511,35 @@ impl<R: Source, C: SerializerConfig> Deserializer<R, C> {
         self.short_list_front()
     }
 
-    // The same of a map of up to 15 pairs.
+    // Takes the head of a list without elements that may nest, where it lies in memory, and leaves this failed until the list is
+    // answered. Else nothing is taken.
+    #[inline(always)]
+    pub(crate) fn empty_front(&mut self) -> bool
+        ensures deep { result ≡ true → 1 < self.old.room }
+        ensures taken { result ≡ true → TakesFront R.Source (Head.Array 0) self.old self.new }
+        ensures kept { result ≡ false → self.new ≡ self.old }
+    {
+        if self.room < 2 {
+            return false;
+        }
+        if !self.begins_ahead() {
+            return false;
+        }
+        match list_at(self.reader.front()) {
+            Some(n) => {
+                if n == 0 && self.reader.skip(1) {
+                    self.failed = true;
+                    true
+                } else {
+                    false
+                }
+            }
+            None => false,
+        }
+    }
+
+    // Takes the head of a map of up to 15 pairs that may nest, where it lies in memory, and leaves this failed until the map is read. Else
+    // nothing is taken.
     #[inline(always)]
     pub(crate) fn map_front(&mut self) -> Option<u32>
         ensures deep { IfSome result (λ _. 1 < self.old.room) }
