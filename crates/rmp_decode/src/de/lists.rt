@@ -212,12 +212,7 @@ impl<'de, R: ReadSlice<'de>, T: Deserialize<'de, R>> Deserialize<'de, R> for Vec
 
     ghost refuses = { RefusesEach T.reads T.refuses };
 
-    // A list without elements is answered where it lies: what follows costs more than it does.
     fn deserialize<C: SerializerConfig>(de: &mut Deserializer<R, C>) -> Result<Vec<T>, Error> {
-        if de.empty_front() {
-            de.failed = false;
-            return Ok(Vec::new(de.alloc()));
-        }
         taken_out::<R, C, Vec<T>, Items<'de>>(de)
     }
 
@@ -236,10 +231,6 @@ impl<'de, R: ReadSlice<'de>, T: Deserialize<'de, R>> Deserialize<'de, R> for Vec
     ghost refuses = { RefusesEach T.reads T.refuses };
 
     fn deserialize<C: SerializerConfig>(de: &mut Deserializer<R, C>) -> Result<VecDeque<T>, Error> {
-        if de.empty_front() {
-            de.failed = false;
-            return Ok(VecDeque::new(de.alloc()));
-        }
         taken_out::<R, C, VecDeque<T>, Items<'de>>(de)
     }
 
