@@ -371,6 +371,7 @@ const MORE: usize = 20_000;
 fn loads() -> Vec<Load<Calls>> {
     let mut made = Made { loads: Vec::new() };
     let mut random = Random::new();
+    small(&mut made, &mut Random::new());
     structs(&mut made, &mut random);
     variants(&mut made, &mut random);
     leaves(&mut made, &mut random);
@@ -382,7 +383,6 @@ fn loads() -> Vec<Load<Calls>> {
     more_leaves(&mut made, &mut random);
     more_parts(&mut made, &mut random);
     singles(&mut made);
-    small(&mut made, &mut random);
     written::make(&mut made, &mut random);
     made.loads
 }
