@@ -1,9 +1,9 @@
 -- Where a list is refused of which so many elements of one type are wanted.
-use Rattle.std.proofs.Common.{◌≡◌, ap, ◌∙◌, refl, inl, inr, arith, ℕ, ◌-◌, ◌<◌, ◌≤◌, ◌⊎◌, ◌+◌, min, length, Bool, false, List, Option}
+use Rattle.std.proofs.Common.{◌≡◌, ap, ◌∙◌, inl, inr, arith, ℕ, ◌-◌, ◌<◌, ◌≤◌, ◌⊎◌, ◌+◌, min, length, Bool, false, List, Option}
 use Rattle.rmp_wire.specs.declared.source.Source.{Ghosts}
 use Rattle.rmp_wire.specs.Msg.{Msg, count}
 use Rattle.rmp_decode.specs.Inside.{access_at, TakesValues, StopsRow}
-use Rattle.rmp_decode.specs.Refusing.{Setting, Refusals, setting_of, inside, RefusedIn, ElementRefused}
+use Rattle.rmp_decode.specs.Refusing.{Setting, Refusals, setting_of, inside, RefusedIn}
 use Rattle.rmp_decode.specs.Refusing.{Wanted, Excess, Behind, EachRead, OneWanted, RefusesTimes}
 use Rattle.rmp_decode.specs.Seq.{SpellsIn, Opens, inner_of}
 use Rattle.rmp_decode.specs.State.{left, faults_of}

@@ -35,7 +35,7 @@ use Rattle.std.proofs.Common.{
 use Rattle.std.proofs.lemmas.List.Elements.{All-map}
 use Rattle.std.proofs.lemmas.List.{take_more_set, take_all, length-set, length-append, map_push}
 use Rattle.rmp_wire.specs.declared.source.Source.{Ghosts}
-use Rattle.rmp_wire.specs.Msg.{Msg, Msgs, no_items, item, count}
+use Rattle.rmp_wire.specs.Msg.{Msg, no_items}
 use Rattle.rmp_decode.specs.Arrays.{Exactly, HoldsFirst}
 use Rattle.rmp_decode.specs.Inside.{access_at, TakesValues}
 use Rattle.rmp_decode.specs.Rows.{ReadsEach}

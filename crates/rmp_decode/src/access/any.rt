@@ -182,6 +182,17 @@ impl<R: Source, C: SerializerConfig> Deserializer<R, C> {
         }
     }
 
+    // A leaf that was read whole.
+    #[inline(always)]
+    fn leaf<T: Copy>(&mut self, value: T) -> Leaf<'_, R, C, T>
+        ensures same_reference { result.de.ghost_name ≡ self.entry.ghost_name }
+        ensures value { leaf_value result ≡ value }
+        ensures ready { leaf_lender result ≡ record self.old { failed = false } }
+    {
+        self.failed = false;
+        Leaf { de: self, value }
+    }
+
     /// Reads a message of any kind: a leaf whole, and of the others what opens them.
     ///
     /// # Errors
@@ -195,29 +206,11 @@ impl<R: Source, C: SerializerConfig> Deserializer<R, C> {
         let inner = self.room.saturating_sub(1);
         match self.open_any() {
             Ok((_, head)) => match head {
-                Head::Nil => {
-                    self.failed = false;
-                    Ok(Any::Nil(Leaf {
-                        de: self,
-                        value: (),
-                    }))
-                }
-                Head::Truth(value) => {
-                    self.failed = false;
-                    Ok(Any::Truth(Leaf { de: self, value }))
-                }
-                Head::Whole(value) => {
-                    self.failed = false;
-                    Ok(Any::Whole(Leaf { de: self, value }))
-                }
-                Head::F32Bits(value) => {
-                    self.failed = false;
-                    Ok(Any::F32Bits(Leaf { de: self, value }))
-                }
-                Head::F64Bits(value) => {
-                    self.failed = false;
-                    Ok(Any::F64Bits(Leaf { de: self, value }))
-                }
+                Head::Nil => Ok(Any::Nil(self.leaf(()))),
+                Head::Truth(value) => Ok(Any::Truth(self.leaf(value))),
+                Head::Whole(value) => Ok(Any::Whole(self.leaf(value))),
+                Head::F32Bits(value) => Ok(Any::F32Bits(self.leaf(value))),
+                Head::F64Bits(value) => Ok(Any::F64Bits(self.leaf(value))),
                 Head::Text(len) => Ok(Any::Text(RawAccess {
                     de: self,
                     len,

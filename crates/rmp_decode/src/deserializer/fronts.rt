@@ -11,7 +11,7 @@ mod kinds;
 
 use crate::deserializer::fronts::exts::ext_at;
 use crate::deserializer::fronts::kinds::{
-    bin_at, f32_at, f64_at, head_at, leaf_at, nil_at, signed_at, sixteen_at, truth_at,
+    bin_at, f32_at, f64_at, head_at, leaf_at, nil_at, one_byte_at, signed_at, sixteen_at, truth_at,
 };
 use crate::deserializer::{Deserializer, Kept};
 use crate::error::Error;
@@ -630,6 +630,29 @@ impl<R: Source, C: SerializerConfig> Deserializer<R, C> {
                 if self.reader.skip(len) {
                     self.failed = true;
                     Some(n)
+                } else {
+                    None
+                }
+            }
+            None => None,
+        }
+    }
+
+    // Takes a head of one byte, of a number from 0 on, a text, a list or a map, where it lies in memory, and leaves this failed until the
+    // message is read. Else nothing is taken.
+    #[inline(always)]
+    pub(crate) fn one_byte_front(&mut self) -> Option<Head>
+        ensures taken { IfSome result (λ h. TakesFront R.Source h self.old self.new) }
+        ensures kept { IfNone result (self.new ≡ self.old) }
+    {
+        if !self.begins_ahead() {
+            return None;
+        }
+        match one_byte_at(self.reader.front()) {
+            Some(head) => {
+                if self.reader.skip(1) {
+                    self.failed = true;
+                    Some(head)
                 } else {
                     None
                 }

@@ -37,12 +37,18 @@ impl<R: Source, C: SerializerConfig> Deserializer<R, C> {
         ensures ready { OnOk result (is_failed self.new ≡ false) }
         ensures err { IfErr result (λ e. ReadsHead R.Source self.old self.new (Err e)) }
     {
-        match self.any_head() {
-            Ok(head) => {
+        match self.one_byte_front() {
+            Some(head) => {
                 self.failed = false;
                 Ok(head)
             }
-            Err(e) => Err(e),
+            None => match self.any_head() {
+                Ok(head) => {
+                    self.failed = false;
+                    Ok(head)
+                }
+                Err(e) => Err(e),
+            },
         }
     }
 

@@ -1,5 +1,5 @@
 //! A message as nodes one after another, in the order of its spelling, and one buffer for their content.
-ghost use Rattle.std.specs.Prelude.{◌≡◌, ◌≤◌, ◌+◌, ◌++◌, ℕ, List, [], ◌∷◌, length, take, drop, get_or, OnOk};
+ghost use Rattle.std.specs.Prelude.{◌≡◌, ◌≤◌, ◌+◌, ◌++◌, ◌<◌, ℕ, List, [], ◌∷◌, length, take, drop, get_or, OnOk, vec_len, vec_capacity};
 ghost use Rattle.rmp_wire.specs.Heads.{fits_head};
 ghost use Rattle.rmp_decode.specs.Kinds.{content_len};
 ghost use Rattle.rmp_wire.specs.Msg.{count as many};
@@ -120,6 +120,12 @@ impl Node {
     }
 }
 
+// How many nodes there is room for once there is a first one.
+const FIRST_NODES: usize = 16;
+
+// How many bytes of content there is room for once a part has some.
+const FIRST_BYTES: usize = 64;
+
 /// Nodes as they are made.
 #[derive(Drop)]
 pub(crate) struct Nodes {
@@ -140,8 +146,52 @@ impl Nodes {
         }
     }
 
+    // Makes room for one more node. The first ones get room for more, so that those of a short message are never moved; where that is
+    // refused, less is asked for.
+    #[inline(never)]
+    fn grow(&mut self) -> Result<(), AllocError>
+        ensures nodes { self.new.nodes.items ≡ self.old.nodes.items }
+        ensures bytes { self.new.bytes ≡ self.old.bytes }
+        ensures room { OnOk result (vec_len self.new.nodes < vec_capacity self.new.nodes) }
+    {
+        if self.nodes.is_empty() && self.nodes.reserve(FIRST_NODES).is_ok() {
+            return Ok(());
+        }
+        self.nodes.reserve(1)
+    }
+
+    // The same, where there is none.
+    #[inline(always)]
+    fn make_room(&mut self) -> Result<(), AllocError>
+        ensures nodes { self.new.nodes.items ≡ self.old.nodes.items }
+        ensures bytes { self.new.bytes ≡ self.old.bytes }
+        ensures room { OnOk result (vec_len self.new.nodes < vec_capacity self.new.nodes) }
+    {
+        if self.nodes.len() < self.nodes.capacity() {
+            return Ok(());
+        }
+        self.grow()
+    }
+
+    /// Makes room for the first content of parts, where some follows this head, and for more of it. Where memory is refused, the content
+    /// asks for less.
+    #[inline(always)]
+    pub(crate) fn make_room_for_content(&mut self, head: Head)
+        ensures nodes { self.new.nodes ≡ self.old.nodes }
+        ensures bytes { self.new.bytes.items ≡ self.old.bytes.items }
+    {
+        match head {
+            Head::Text(len) | Head::Bin(len) | Head::Ext(len, _) => {
+                if len > 0 && self.bytes.capacity() == 0 {
+                    let _made = self.bytes.reserve(FIRST_BYTES);
+                }
+            }
+            _ => {}
+        }
+    }
+
     /// One more head. What content it has stands in the buffer already, from a place on.
-    #[tactic(auto, using(crate::proofs::FlatMade::one_within, crate::proofs::FlatMade::made_of))]
+    #[tactic(auto, using(crate::proofs::FlatMade::made_of))]
     pub(crate) fn push(&mut self, head: Head, at: usize) -> Result<(), AllocError>
         requires fits { fits_head head }
         requires stands { at + content_len head ≤ length self.old.bytes.items }
@@ -150,7 +200,8 @@ impl Nodes {
         ensures bytes { self.new.bytes ≡ self.old.bytes }
         ensures within { IsWithin self.new }
     {
-        self.nodes.push(Node::new(head, at))?;
+        self.make_room()?;
+        self.nodes.push_reserved(Node::new(head, at));
         Ok(())
     }
 

@@ -85,6 +85,7 @@ fn read_leaf<R: Source, C: SerializerConfig, P: ReadContent<R>>(
     ensures failed { OnErr result (is_failed de.new ≡ true) }
     ensures stays { OnErr result (Stays R.Source de.old de.new) }
 {
+    made.make_room_for_content(head);
     let at = made.bytes.len();
     match read_content::<R, C, P>(de, head, &mut made.bytes) {
         Ok(()) => match made.push(head, at) {

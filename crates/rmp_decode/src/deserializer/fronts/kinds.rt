@@ -27,6 +27,24 @@ fn short_at(front: &[u8]) -> Option<(Head, usize)>
     }
 }
 
+// A head of one byte, of a number from 0 on, a text, a list or a map: what most messages begin with, and canonical.
+#[inline(always)]
+#[tactic(auto, using(crate::proofs::Fronts::small_stands))]
+pub(super) fn one_byte_at(front: &[u8]) -> Option<Head>
+    ensures { IfSome result (λ h. (strict : Bool) → StandsIn strict 1 h front.now) }
+{
+    match front {
+        [first, ..] => match first {
+            0x00..=0x7f => Some(Head::Whole(i128::from(*first))),
+            0x80..=0x8f => Some(Head::Map(u32::from(*first - 0x80))),
+            0x90..=0x9f => Some(Head::Array(u32::from(*first - 0x90))),
+            0xa0..=0xbf => Some(Head::Text(u32::from(*first - 0xa0))),
+            _ => None,
+        },
+        _ => None,
+    }
+}
+
 // A head of bytes.
 #[inline(always)]
 fn bytes_at(front: &[u8]) -> Option<(Head, usize)>

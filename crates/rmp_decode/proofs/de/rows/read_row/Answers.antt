@@ -1,4 +1,4 @@
-use Rattle.std.proofs.Common.{◌≡◌, ◌-◌, ◌+◌, ◌<◌, refl, rules, arith, true, false, Bool, ℕ, List, [], length}
+use Rattle.std.proofs.Common.{◌≡◌, ◌-◌, refl, rules, arith, true, false, Bool, ℕ, []}
 use Rattle.rmp_decode.specs.Seq.{levels}
 use Rattle.rmp_decode.specs.declared.error.Error.TheVariants.{InvalidDataRead}
 use Rattle.rmp_decode.proofs.RowReads.{row_start, row_step, row_short, row_refused, row_ended, row_many, row_whole}

@@ -1,5 +1,5 @@
 -- The values so far are the readings of the elements so far, and the reader is ready for the next one.
-use Rattle.std.proofs.Common.{◌≤◌, ◌-◌, List}
+use Rattle.std.proofs.Common.{◌≤◌, List}
 use Rattle.rmp_decode.proofs.RowReads.{RowSoFar}
 use Rattle.rmp_decode.proofs.de.rows.read_row.Given as goal
 
