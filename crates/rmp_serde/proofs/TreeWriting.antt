@@ -21,7 +21,7 @@ use Rattle.std.proofs.Common.{
   arith,
   append_assoc,
 }
-use Rattle.std.proofs.lemmas.List.{length-append}
+use Rattle.std.proofs.lemmas.List.{length-append, append-nil}
 use Rattle.std.specs.Io.KnownBytes.{Appends}
 use Rattle.std.proofs.KnownBytes.{Appends-trans}
 use Rattle.std.specs.Prelude.{Bool, Result, Ok, Err}
@@ -108,3 +108,23 @@ pub takes_until : {X : Type 0} {A B : Type 0} {m : Bool} {a b c : Option (List �
     → List ℕ) (xs : List X) (i : ℕ) (x : X) → i < length xs → x ≡ get_or xs i x
     → TakesTree m (flat_map f (take i xs)) a b k g (Ok u) → TakesTree {A = A} m (f x) b c g h (Err e) → TakesTree {A = A} m (flat_map f xs) a c k h (Err e)
 takes_until f xs i x within is p q = takes_as (flat_map_split f xs i x within is) (takes_stop (flat_map f (drop (suc i) xs)) (takes_then p q))
+
+-- an item within a row is there whatever stands past it
+pub stands_in : {X : Type 0} (xs : List X) (i : ℕ) (d x : X) → i < length xs → x ≡ get_or xs i d → x ≡ get_or xs i x
+stands_in [] i d x h e = absurd (omega arith)
+stands_in (y ∷ ys) zero d x h e = e
+stands_in (y ∷ ys) (suc i) d x h e = stands_in ys i d x (omega arith) e
+
+flat_map_next : {X : Type 0} (f : X → List ℕ) (xs : List X) (i : ℕ) (d x : X) → i < length xs → x ≡ get_or xs i d
+    → flat_map f (take i xs) ++ f x ≡ flat_map f (take (suc i) xs)
+flat_map_next f [] i d x h e = absurd (omega arith)
+flat_map_next f (y ∷ ys) zero d x h e = ap f e ∙ sym (append-nil (f y))
+flat_map_next f (y ∷ ys) (suc i) d x h e =
+    append_assoc (f y) (flat_map f (take i ys)) (f x) ∙ ap (λ l. f y ++ l) (flat_map_next f ys i d x (omega arith) e)
+
+-- the parts before one were taken whole, and that one too
+pub takes_next : {X : Type 0} {A B : Type 0} {m : Bool} {a b c : Option (List ℕ)} {k g h : ℕ} {u : B} {v : A} (f : X → List ℕ) (xs : List X)
+    (i j : ℕ) (d x : X) → i < length xs → j ≡ suc i → x ≡ get_or xs i d → TakesTree m (flat_map f (take i xs)) a b k g (Ok u)
+    → TakesTree {A = A} m (f x) b c g h (Ok v) → TakesTree {A = A} m (flat_map f (take j xs)) a c k h (Ok v)
+takes_next f xs i j d x within n is p q =
+    takes_as (flat_map_next f xs i d x within is ∙ ap (λ z. flat_map f (take z xs)) (sym n)) (takes_then p q)

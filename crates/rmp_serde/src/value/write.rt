@@ -1,5 +1,5 @@
 //! Writes the canonical spelling of a value.
-ghost use Rattle.std.specs.Prelude.{◌≡◌, length, false, Some};
+ghost use Rattle.std.specs.Prelude.{◌≡◌, ◌∷◌, length, false, Some};
 ghost use Rattle.std.specs.List.{flat_map};
 ghost use Rattle.rmp_wire.specs.Spelling.{canon, Fits};
 ghost use Rattle.rmp_wire.specs.Writing.{Writes};
@@ -49,14 +49,15 @@ fn write_node<W: Sink>(sink: &mut W, node: Node, parts: &Nodes) -> Result<(), Va
     }
 }
 
-// The nodes behind the root, one after another.
-fn write_parts<W: Sink>(sink: &mut W, parts: &Nodes) -> Result<(), ValueWriteError>
+// The root and the nodes behind it, one after another, by one call of `write_node`, which is so inlined into the loop.
+fn write_nodes<W: Sink>(sink: &mut W, root: Node, parts: &Nodes) -> Result<(), ValueWriteError>
+    requires root { EndsBy (length parts.now.bytes.items) root }
     requires within { IsWithin parts.now }
-    ensures writes { WritesTree W.Sink (flat_map (spelled_in parts.now.bytes.items) parts.now.nodes.items) sink.old sink.new result }
+    ensures writes { WritesTree W.Sink (flat_map (spelled_in parts.now.bytes.items) (root ∷ parts.now.nodes.items)) sink.old sink.new result }
     ensures place { W.place sink.new ≡ W.place sink.old }
 {
-    for node in &parts.nodes {
-        write_node(sink, *node, parts)?;
+    for at in 0..parts.nodes.len() + 1 {
+        write_node(sink, parts.node(root, at), parts)?;
     }
     Ok(())
 }
@@ -66,8 +67,7 @@ pub(crate) fn write_value<W: Sink>(sink: &mut W, value: &Value) -> Result<(), Va
     ensures writes { WritesTree W.Sink (canon value.now) sink.old sink.new result }
     ensures place { W.place sink.new ≡ W.place sink.old }
 {
-    write_node(sink, value.root, &value.parts)?;
-    write_parts(sink, &value.parts)
+    write_nodes(sink, value.root, &value.parts)
 }
 
 impl Serialize for Value {
