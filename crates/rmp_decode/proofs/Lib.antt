@@ -3,6 +3,7 @@ pub mod AnyReads
 pub mod Anything
 pub mod ArrayRefusals
 pub mod Arrays
+pub mod Ascending
 pub mod BufferErrors
 pub mod Buffers
 pub mod ByteParts

@@ -10,6 +10,7 @@ use Rattle.rmp_decode.specs.Seq.{OfRow, SpellsIn, SpellsRow, Opens, FailsToTake,
 use Rattle.rmp_decode.specs.State.{left, faults_of}
 use Rattle.rmp_decode.specs.declared.deserializer.Deserializer.{Deserializer}
 use Rattle.rmp_decode.specs.declared.error.Error.{Error}
+use Rattle.rmp_decode.specs.declared.error.Error.TheVariants.{OutOfMemory}
 use Rattle.rmp_decode.proofs.ListRefusals.{behind_head}
 use Rattle.rmp_decode.proofs.Rows.{append}
 use Rattle.rmp_decode.proofs.Seqs.{each_next, seq_done, seq_take, seq_unkept}
@@ -21,6 +22,26 @@ count_each reads no_items [] r = refl
 count_each reads no_items (v ∷ vs) r = absurd r
 count_each reads (item m ms) [] r = absurd r
 count_each reads (item m ms) (v ∷ vs) r = let i = count_each reads ms vs r.1 in omega arith
+
+-- all of them were read, and then memory was short
+pub row_full : {R C V W : Type 0} (g : Ghosts R) (human : C → Bool) (lends : Bool) (reads : Bool → Bool → Msg → V → Type 0) (start new : Deserializer R C)
+    (b : Bool) (all : ℕ) (P : Setting → Refusals) (many : ℕ) (holds : W → List V → Type 0) (row : W) (rest : ℕ)
+    → ReadsRow g (reads (human start.config) lends) holds start b all new row rest → rest ≡ 0 → 0 < all
+    → StopsRow g human lends reads P true start b all many (record new { failed = true }) OutOfMemory
+row_full g human lends reads start new b all P many holds row rest r z some = record {
+  failed = refl;
+  why = inr (
+    refl,
+    record {
+      values = r.values;
+      still = rest;
+      read = r.read;
+      some = let c = count_each (reads (human start.config) lends) r.read.trees r.values r.read.value in let m = r.read.run.many in
+          omega (arith, c, m, z, some);
+      memory = refl;
+    },
+  );
+}
 
 module _ {R C V : Type 0} (g : Ghosts R) (human : C → Bool) (lends : Bool) (reads : Bool → Bool → Msg → V → Type 0) (start new d : Deserializer R C)
     (b : Bool) (all : ℕ) (o : Opens g d (access_at start b all all)) where

@@ -59,6 +59,8 @@ pub enum Kind {
     Queue,
     /// A set of texts.
     Set,
+    /// A set of forty numbers.
+    LargeSet,
     /// Two texts.
     Array,
     /// Numbers behind pointers, behind a pointer.
@@ -88,6 +90,7 @@ impl Kind {
             "among" => Some(Kind::Among),
             "queue" => Some(Kind::Queue),
             "set" => Some(Kind::Set),
+            "large-set" => Some(Kind::LargeSet),
             "array" => Some(Kind::Array),
             "boxes" => Some(Kind::Boxes),
             "buffers" => Some(Kind::Buffers),

@@ -195,9 +195,11 @@ pub fn again_as(rt: &(impl Print + AllocGlobal), kind: Kind) -> Result<(), Fault
 // The same of the types of std, and of those that a user writes.
 fn again_in_others(rt: &(impl Print + AllocGlobal), kind: Kind) -> Result<(), Fault> {
     const TEXTS: &[u8] = b"\xdc\x00\x02\xa1a\xd9\x01b";
+    const NUMBERS: &[u8] = b"\xdc\x00\x280123456789@ABCDEFGHIJKLMNOPQRSTUVWXYZabc";
     match kind {
         Kind::Queue => again::<VecDeque<String>>(rt, TEXTS),
         Kind::Set => again::<BTreeSet<String>>(rt, TEXTS),
+        Kind::LargeSet => again::<BTreeSet<u8>>(rt, NUMBERS),
         Kind::Array => again::<[String; 2]>(rt, TEXTS),
         Kind::Boxes => again::<Box<Vec<Box<u16>>>>(rt, b"\x92\xcd\x00\x05\x01"),
         Kind::Buffers => again::<(ByteBuf, Ext, Raw)>(

@@ -1,10 +1,12 @@
 //! Sets, from lists or bytes.
-ghost use Rattle.std.specs.Prelude.{◌≡◌, List, None, true};
+ghost use Rattle.std.specs.Prelude.{◌≡◌, ◌<◌, ◌∷◌, ◌++◌, [], List, None, OnOk, true, false};
+ghost use Rattle.std.specs.BTreeSet.{insert_key};
+ghost use Rattle.std.specs.List.Sorted.{IsStrictlySortedBy};
 ghost use Rattle.rmp_decode.specs.Inside.{access_at};
 ghost use Rattle.rmp_decode.specs.Law.{Lawful};
 ghost use Rattle.rmp_decode.specs.Refusing.{RefusesAs, RefusesEach};
 ghost use Rattle.rmp_decode.specs.Seq.{Opens};
-ghost use Rattle.rmp_decode.specs.Sets.{CollectsKeys, ReadsKeys};
+ghost use Rattle.rmp_decode.specs.Sets.{CollectsKeys, IsEitherPlace, ReadsKeys, keys_so_far};
 ghost use Rattle.rmp_decode.specs.State.{config_of, kept_of};
 ghost use Rattle.rmp_decode.specs.declared.deserializer.Deserializer.{Deserializer};
 ghost use Rattle.rmp_decode.specs.declared.deserializer.Kept.TheVariants.{Nothing};
@@ -15,7 +17,12 @@ use crate::deserializer::Deserializer;
 use crate::error::Error;
 use rmp_wire::ReadSlice;
 use rmp_wire::config::SerializerConfig;
+use std::alloc::AllocError;
+use std::cmp::Ordering;
 use std::collections::BTreeSet;
+
+/// From so many elements on, keys that ascend stand in a row before they are put into the set.
+const MANY: u32 = 32;
 
 impl<T: Ord + Drop> Row<T> for BTreeSet<T> {
     ghost holds = { λ s vs. CollectsKeys T.cmp vs s.keys };
@@ -36,6 +43,107 @@ impl<T: Ord + Drop> Row<T> for BTreeSet<T> {
             Err(_) => return false,
         }
         true
+    }
+}
+
+// The keys of a large set that were read so far. `insert` looks for a key's place from the front: so those that ascend are kept in a row,
+// and put into the set from the last to the first.
+#[derive(Drop)]
+struct Keys<T: Ord> {
+    keys: BTreeSet<T>,
+    row: Vec<T>,
+    in_row: bool,
+}
+
+// Whether the key stands behind those of the row, which ascend.
+fn is_behind<T: Ord + Drop>(row: &[T], key: &T) -> bool
+    ensures { result ≡ true → IsStrictlySortedBy T.cmp row.now → IsStrictlySortedBy T.cmp (row.now ++ key.now ∷ []) }
+{
+    match row.last() {
+        Some(last) => matches!(last.cmp(key), Ordering::Less),
+        None => true,
+    }
+}
+
+impl<T: Ord + Drop> Keys<T> {
+    // Puts a key behind the others.
+    fn push(&mut self, key: T) -> Result<(), AllocError>
+        requires ordered { IsStrictlySortedBy T.cmp (keys_so_far self.old) }
+        requires apart { IsEitherPlace self.old }
+        ensures keys { OnOk result (keys_so_far self.new ≡ insert_key T.cmp (keys_so_far self.old) key) }
+        ensures ordered { OnOk result (IsStrictlySortedBy T.cmp (keys_so_far self.new)) }
+        ensures apart { OnOk result (IsEitherPlace self.new) }
+    {
+        if self.in_row && is_behind(self.row.as_slice(), &key) {
+            self.row.push(key)?;
+            return Ok(());
+        }
+        self.settle()?;
+        self.keys.insert(key)?;
+        Ok(())
+    }
+
+    // Puts the keys of the row into the set, from the last to the first.
+    fn settle(&mut self) -> Result<(), AllocError>
+        requires { IsStrictlySortedBy T.cmp (keys_so_far self.old) }
+        ensures keys { OnOk result (self.new.keys.keys ≡ keys_so_far self.old) }
+        ensures row { OnOk result (self.new.row.items ≡ []) }
+        ensures in_set { OnOk result (self.new.in_row ≡ false) }
+    {
+        self.in_row = false;
+        while let Some(key) = self.row.pop() {
+            self.keys.insert(key)?;
+        }
+        Ok(())
+    }
+}
+
+impl<T: Ord + Drop> Row<T> for Keys<T> {
+    ghost holds = { λ s vs. CollectsKeys T.cmp vs (keys_so_far s) × IsEitherPlace s };
+
+    ghost most = { λ n. n };
+
+    ghost grows = { true };
+
+    #[inline(always)]
+    fn wanted(count: u32) -> u32 {
+        count
+    }
+
+    #[inline(always)]
+    fn put(&mut self, item: T, _at: u32, _left: u32) -> bool {
+        match self.push(item) {
+            Ok(()) => true,
+            Err(_) => false,
+        }
+    }
+}
+
+// Reads so many elements of a list, or numbers of bytes, of which there are many, from a reader that has taken the head.
+#[inline(never)]
+fn many_row<'de, R: ReadSlice<'de>, C: SerializerConfig, T: Deserialize<'de, R> + Ord>(
+    de: &mut Deserializer<R, C>,
+    bytes: bool,
+    count: u32,
+) -> Result<BTreeSet<T>, Error>
+    requires clean { kept_of de.old ≡ Nothing }
+    requires some { 0 < count }
+    ensures law { (d : Deserializer R C) → Opens R.Source d (access_at de.old bytes count count)
+        → Lawful R.Source (λ m v. ReadsKeys T.cmp (T.reads (C.human (config_of d)) R.lends) v.keys m) d de.new result }
+    ensures refused { (d : Deserializer R C) → Opens R.Source d (access_at de.old bytes count count)
+        → RefusesAs R.Source (C.human (config_of d)) R.lends (RefusesEach T.reads T.refuses) d de.new result }
+{
+    let mut items = Keys {
+        keys: BTreeSet::new(de.alloc()),
+        row: Vec::new(de.alloc()),
+        in_row: true,
+    };
+    match read_row(de, bytes, count, &mut items) {
+        Ok(_) => match items.settle() {
+            Ok(()) => Ok(items.keys),
+            Err(_) => Err(de.refuse(Error::OutOfMemory)),
+        },
+        Err(e) => Err(e),
     }
 }
 
@@ -68,6 +176,7 @@ impl<'de, R: ReadSlice<'de>, T: Deserialize<'de, R> + Ord> Deserialize<'de, R> f
 
     fn deserialize<C: SerializerConfig>(de: &mut Deserializer<R, C>) -> Result<BTreeSet<T>, Error> {
         match de.open_row(is_small::<T>()) {
+            Ok((bytes, count)) if count >= MANY => many_row(de, bytes, count),
             Ok((true, count)) => set_row(de, true, count),
             Ok((false, count)) => set_row(de, false, count),
             Err(e) => Err(e),

@@ -274,6 +274,41 @@ fn reads_set(rt: &(impl Abort + AllocGlobal), input: &[u8]) {
     }
 }
 
+// The input is read as a set of these keys.
+fn reads_keys(rt: &(impl Abort + AllocGlobal), input: &[u8], keys: &[u8]) {
+    match from_slice::<BTreeSet<u8>>(rt.alloc(), input) {
+        Ok(it) => assert!(rt; it.len() == keys.len() && keys.iter().all(|key| it.contains(key))),
+        Err(e) => panic!(rt; "{e}"),
+    }
+}
+
+// Forty keys in order, or not: as a list, and as bytes.
+#[test]
+fn large_sets(rt: HostRuntime) {
+    let mut keys = [0u8; 40];
+    let mut input = [0u8; 43];
+    input[0] = 0xdc;
+    input[2] = 40;
+    for i in 0..40 {
+        keys[i] = 2 * i as u8;
+        input[3 + i] = 2 * i as u8;
+    }
+    reads_keys(&rt, &input, &keys);
+    refuses::<BTreeSet<u8>>(&rt, &input[..42], NO_MARKER);
+    input[42] = 8;
+    reads_keys(&rt, &input, &keys[..39]);
+    input[20] = 9;
+    keys[17] = 9;
+    reads_keys(&rt, &input, &keys[..39]);
+    for i in 0..40 {
+        input[42 - i] = keys[i];
+    }
+    reads_keys(&rt, &input, &keys);
+    input[1] = 0xc4;
+    reads_keys(&rt, &input[1..], &keys);
+    refuses::<BTreeSet<u8>>(&rt, &input[1..42], NO_DATA);
+}
+
 // One and two, in other hands.
 #[test]
 fn elements_in_other_hands(rt: HostRuntime) {
