@@ -6,6 +6,7 @@ mod measure;
 mod written;
 
 use measure::{Answer, Load, Random, Runs, number, number_of_width};
+use std::ops::Range;
 
 const RUNS: Runs = Runs { reps: 20, runs: 7 };
 
@@ -383,6 +384,7 @@ fn loads() -> Vec<Load<Calls>> {
     more_leaves(&mut made, &mut random);
     more_parts(&mut made, &mut random);
     singles(&mut made);
+    large(&mut made, &mut Random::new());
     written::make(&mut made, &mut random);
     made.loads
 }
@@ -490,23 +492,38 @@ fn numbers_and_truths(made: &mut Made, random: &mut Random) {
     );
 }
 
-/// A map from ten numbers.
-fn map(random: &mut Random) -> Part {
-    let pairs = (0..10).map(|n| (Part::Number(n), mixed(random)));
+/// A map from so many numbers.
+fn map(len: u64, random: &mut Random) -> Part {
+    let pairs = (0..len).map(|n| (Part::Number(n), mixed(random)));
     Part::Map(pairs.collect())
 }
 
-/// A map from ten texts.
-fn named_map(random: &mut Random) -> Part {
-    let pairs = (0..10).map(|n| (text(&format!("key {n}")), mixed(random)));
+/// A map from texts that end in these numbers.
+fn named_map(names: Range<u64>, random: &mut Random) -> Part {
+    let pairs = names.map(|n| (text(&format!("key {n}")), mixed(random)));
     Part::Map(pairs.collect())
+}
+
+/// A set of so many numbers.
+fn set(len: u64, random: &mut Random) -> Part {
+    let keys = (0..len).map(|n| Part::Number(100 * n + random.below(100)));
+    Part::List(keys.collect())
 }
 
 fn maps(made: &mut Made, random: &mut Random) {
-    let of_numbers = many(COUNT, random, map);
+    let of_numbers = many(COUNT, random, |r| map(10, r));
     made.reads("maps of ten numbers", "map", &of_numbers);
-    let of_texts = many(COUNT, random, named_map);
+    let of_texts = many(COUNT, random, |r| named_map(0..10, r));
     made.reads("maps from ten texts", "named_map", &of_texts);
+}
+
+fn large(made: &mut Made, random: &mut Random) {
+    let of_numbers = many(COUNT, random, |r| map(100, r));
+    made.reads("maps of a hundred numbers", "map", &of_numbers);
+    let of_texts = many(COUNT, random, |r| named_map(100..200, r));
+    made.reads("maps from a hundred texts", "named_map", &of_texts);
+    let sets = many(COUNT, random, |r| set(100, r));
+    made.reads("sets of a hundred numbers", "set", &sets);
 }
 
 fn rows(made: &mut Made, random: &mut Random) {
@@ -520,13 +537,7 @@ fn rows(made: &mut Made, random: &mut Random) {
         let items = many(COUNT, random, |r| Part::List(numbers(r, 3)));
         made.reads(name, call, &items);
     }
-    let sets = many(COUNT, random, |r| {
-        Part::List(
-            (0..10)
-                .map(|n| Part::Number(100 * n + r.below(100)))
-                .collect(),
-        )
-    });
+    let sets = many(COUNT, random, |r| set(10, r));
     made.reads("sets of ten numbers", "set", &sets);
     let bytes = many(COUNT, random, |_| Part::Bytes(vec![7; 32]));
     made.reads("bytes of 32 as arrays", "array", &bytes);

@@ -93,9 +93,9 @@ fn parts(made: &mut Made, random: &mut Random) {
     made.writes("options", "option", &options);
     let rows = |r: &mut Random| Part::List((0..3).map(|_| Part::List(numbers(r, 3))).collect());
     made.writes("lists of three lists", "nested", &many(COUNT, random, rows));
-    let of_numbers = many(COUNT, random, map);
+    let of_numbers = many(COUNT, random, |r| map(10, r));
     made.writes("maps of ten numbers", "map", &of_numbers);
-    let of_texts = many(COUNT, random, named_map);
+    let of_texts = many(COUNT, random, |r| named_map(0..10, r));
     made.writes("maps from ten texts", "named_map", &of_texts);
     made.writes(
         "tuples of two",
