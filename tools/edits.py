@@ -17,14 +17,18 @@ CRATES = os.path.join(TOP, "crates")
 LIBRARIES = "rmp_wire rmp_encode rmp_decode rmp_serde canon_lines".split()
 # Functions whose body is another's, but for a width, a kind or a constant, or a call of it.
 ALIKE = {
+    "IoSink_new": "IoSource_new",
     "number_8": "number_16",
     "number_32": "number_16",
+    "write_f64_bits": "write_f32_bits",
+    "write_map_len": "write_array_len",
     "serialize_u8": "serialize_u64",
     "serialize_u16": "serialize_u64",
     "serialize_u32": "serialize_u64",
     "serialize_i8": "serialize_i64",
     "serialize_i16": "serialize_i64",
     "serialize_i32": "serialize_i64",
+    "serialize_f64_bits": "serialize_f32_bits",
     "deserialize_i16": "deserialize_i8",
     "deserialize_i32": "deserialize_i8",
     "deserialize_i64": "deserialize_i8",
@@ -33,10 +37,15 @@ ALIKE = {
     "deserialize_enum_by": "deserialize_enum",
     "deserialize_option_with": "deserialize_option",
     "newtype_variant_with": "newtype_variant",
+    "next_key": "next_value",
     "next_key_with": "next_value_with",
+    "missing_field_or": "missing_field",
     "with_binary": "with_human_readable",
+    "with_struct_tuple": "with_struct_map",
     "from_read_ref": "from_slice",
     "serialize_some": "serialize_newtype_struct",
+    "as_f64_bits": "as_f32_bits",
+    "is_err": "is_str",
 }
 FUNCTION = re.compile(r"^impl\b[^{;]*|^(?:pub )?trait [^{;]*|^\}|^ *(pub )?(?:const )?fn (\w+)", re.M)
 # Nothing, a field or a reference to one, or a struct of what is given, with nothing read or written.
