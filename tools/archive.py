@@ -1,22 +1,26 @@
 #!/usr/bin/env python3
 """Gives the static library of a crate: the one that `rt lib` made, or one that is built over the libraries as the gate left them.
 
-    tools/archive.py CRATE FILE      CRATE is a crate of crates.txt, and FILE the library that is written
+    tools/archive.py CRATE FILE      CRATE is a crate of crates.txt or of bench/libraries, and FILE the library that is written
 
-`rt lib` proves every library below the crate once more. Over what the gate left the crate alone is proved, as it is built. Where neither
-left what is newer than its sources, `rt lib` makes it.
+The crate alone is proved, as it is built. Where what it stands on wasn't made from its sources as they are, `rt lib` makes that first, which
+proves it once more.
 """
+import glob
 import os
+import re
 import shutil
 import subprocess
 import sys
 import tempfile
 
 sys.dont_write_bytecode = True
-from crates import below, listed
+from crates import TOP, below, listed
+from derive import derive
+from lay_out import lay_out
 
-TOP = os.path.join(os.path.dirname(os.path.realpath(__file__)), "..")
 CRATES = os.path.join(TOP, "crates")
+BENCH = os.path.join(TOP, "bench", "libraries")
 PARTS = ["src", "specs", "proofs"]
 
 
@@ -34,31 +38,61 @@ def rlib(name):
     return os.path.join(CRATES, name, "out", "rlib", f"{name}.rlib")
 
 
-def words(name, libraries, crates, kit):
-    """What `rattle build` is told of the libraries."""
+def every_crate():
+    """The crates of crates.txt, and those of bench/libraries."""
+    return {**listed(os.path.join(TOP, "crates.txt")), **listed(os.path.join(BENCH, "libraries.txt"))}
+
+
+def is_for_measures(name):
+    return os.path.isdir(os.path.join(BENCH, name))
+
+
+def not_new(name, crates):
+    """The libraries below a crate that weren't made from their sources as they are."""
+    return [it for it in below(crates[name][1], crates) if not is_new(rlib(it), below([it], crates))]
+
+
+def copied(name, folder):
+    """Copies a crate into a folder, with what is derived of it, and answers where it stands there."""
+    crate = os.path.join(folder, "crates", name)
+    if not is_for_measures(name):
+        for part in PARTS:
+            if os.path.isdir(os.path.join(CRATES, name, part)):
+                shutil.copytree(os.path.join(CRATES, name, part), os.path.join(crate, part))
+        return crate
+    lay_out(folder, os.path.join(BENCH, name))
+    for path in glob.glob(os.path.join(crate, "src", "**", "*.rt"), recursive=True):
+        with open(path, encoding="utf-8") as file:
+            is_declared = re.search(r"^mod derived;", file.read(), re.M)
+        if is_declared:
+            derive(crate, os.path.relpath(path, os.path.join(crate, "src")))
+    return crate
+
+
+def kit_folder():
+    page = subprocess.run(["rt", "doc"], capture_output=True, text=True, check=True).stdout.strip()
+    return os.path.dirname(page)
+
+
+def words(name, crates, kit):
+    """What `rattle` is told of a crate, of its libraries and of the kit."""
     direct = crates[name][1]
-    found = ["-L", f"dependency={kit}/rlibs"]
+    found = ["--crate-name", name, "src/lib.rt", "-L", f"dependency={kit}/rlibs"]
     for it in ["std", *(it for it in direct if it not in crates)]:
         found += ["--extern", f"{it}={kit}/rlibs/{it}.rlib"]
-    for it in libraries:
+    for it in below(direct, crates):
         found += ["-L", f"dependency={os.path.dirname(rlib(it))}"]
         if it in direct:
             found += ["--extern", f"{it}={rlib(it)}"]
-    return found
+    found += ["--antt-project", f"{kit}/rattle/logic/antt-project.json", "--logic-built", f"{kit}/logic_built"]
+    return [*found, "--links", f"{name}=", "--jobs", "1"]
 
 
-def build(name, libraries, crates, file):
-    """Proves the crate and builds its library over these, and says whether that went well."""
-    page = subprocess.run(["rt", "doc"], capture_output=True, text=True, check=True).stdout.strip()
-    kit = os.path.dirname(page)
-    command = [f"{kit}/bin/rattle", "build", "--crate-name", name, "src/lib.rt", *words(name, libraries, crates, kit), "--jobs", "1"]
-    command += ["--antt-project", f"{kit}/rattle/logic/antt-project.json", "--logic-built", f"{kit}/logic_built"]
-    command += ["--links", f"{name}=", "--crate-type", "staticlib", "--toolchain", f"{kit}/toolchain", "--backend", "llvm", "-o", file]
+def rattle(verb, name, crates, kit, *more):
+    """Has `rattle` check or build a copy of a crate, and says whether that went well."""
+    command = [f"{kit}/bin/rattle", verb, *words(name, crates, kit), *more]
     with tempfile.TemporaryDirectory() as folder:
-        for part in PARTS:
-            if os.path.isdir(os.path.join(CRATES, name, part)):
-                shutil.copytree(os.path.join(CRATES, name, part), os.path.join(folder, part))
-        made = subprocess.run(command, cwd=folder, stdout=subprocess.PIPE, stderr=subprocess.STDOUT, text=True)
+        made = subprocess.run(command, cwd=copied(name, folder), stdout=subprocess.PIPE, stderr=subprocess.STDOUT, text=True)
     if made.returncode:
         print(made.stdout)
     return made.returncode == 0
@@ -66,15 +100,16 @@ def build(name, libraries, crates, file):
 
 def main():
     name, file = sys.argv[1:]
-    crates = listed(os.path.join(TOP, "crates.txt"))
-    libraries = [it for it in below([name], crates) if it != name]
+    crates, kit = every_crate(), kit_folder()
     made = os.path.join(CRATES, name, "out", f"lib{name}.a")
-    if not is_new(made, [name, *libraries]):
-        if all(is_new(rlib(it), [it]) for it in libraries):
-            return 0 if build(name, libraries, crates, os.path.abspath(file)) else 1
-        subprocess.run(["rt", "lib"], cwd=os.path.join(CRATES, name), check=True)
-    shutil.copy(made, file)
-    return 0
+    if not is_for_measures(name) and is_new(made, below([name], crates)):
+        shutil.copy(made, file)
+        return 0
+    if not_new(name, crates):
+        for it in below(crates[name][1], crates):
+            subprocess.run(["rt", "lib"], cwd=os.path.join(CRATES, it), check=True)
+    made_by = ["--crate-type", "staticlib", "--toolchain", f"{kit}/toolchain", "--backend", "llvm"]
+    return 0 if rattle("build", name, crates, kit, *made_by, "-o", os.path.abspath(file)) else 1
 
 
 if __name__ == "__main__":

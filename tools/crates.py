@@ -1,4 +1,7 @@
-"""The crates of this repository, as crates.txt lists them, for archive.py and tests/programs/lay_out."""
+"""The crates of this repository, as crates.txt lists them, for archive.py, fmt.py and lay_out.py."""
+import os
+
+TOP = os.path.join(os.path.dirname(os.path.realpath(__file__)), "..")
 
 
 def listed(path):

@@ -1,4 +1,4 @@
-//! The reads of lists that crates/bench_shapes has, by the original: how many elements a list has, or none where it is refused.
+//! The reads of lists that bench/libraries/bench_shapes has, by the original: how many elements a list has, or none where it is refused.
 
 use rmp_serde::{from_read, from_slice};
 use serde::de::{DeserializeOwned, IgnoredAny};

@@ -1,4 +1,4 @@
-//! Gives the exports of crates/rmp_c, crates/bench_shapes, crates/bench_strict and crates/bench_fuzz messages that a generator makes and
+//! Gives the exports of crates/rmp_c, and of bench_shapes, bench_strict and bench_fuzz in bench/libraries, messages that a generator makes and
 //! spoils, for so many seconds from a seed.
 
 #[cfg(not(feature = "original"))]

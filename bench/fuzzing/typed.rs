@@ -1,4 +1,4 @@
-//! Reads of values of many types and writes of what was read: what the exports of crates/bench_fuzz answer, and what has to hold of it
+//! Reads of values of many types and writes of what was read: what the exports of bench_fuzz answer, and what has to hold of it
 //! whatever the type is.
 
 use crate::model;

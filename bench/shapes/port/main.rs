@@ -1,4 +1,4 @@
-//! Measures the proved code: the exports of crates/bench_shapes, and those of crates/bench_encode that write values of many types.
+//! Measures the proved code: the exports of bench_shapes in bench/libraries, and those of bench_encode that write values of many types.
 
 #[path = "../loads.rs"]
 mod loads;

@@ -1,4 +1,4 @@
-//! Measures the proved code: the exports of crates/bench_encode and crates/bench_decode.
+//! Measures the proved code: the exports of bench_encode and bench_decode in bench/libraries.
 
 #[path = "../loads.rs"]
 mod loads;

@@ -1,4 +1,4 @@
-//! Measures the proved code: the exports of crates/bench_wire.
+//! Measures the proved code: the exports of bench/libraries/bench_wire.
 
 #[path = "../loads.rs"]
 mod loads;

@@ -1,4 +1,4 @@
-//! Measures the same loads over the original, the crate rmp-serde, written as crates/bench_shapes is.
+//! Measures the same loads over the original, the crate rmp-serde, written as bench/libraries/bench_shapes is.
 
 use derived::{Dog, Four};
 use rmp_serde::config::BytesMode;

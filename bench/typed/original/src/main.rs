@@ -1,4 +1,4 @@
-//! Measures the same loads over the original, the crate rmp-serde, written as crates/bench_encode and crates/bench_decode are.
+//! Measures the same loads over the original, the crate rmp-serde, written as bench_encode and bench_decode in bench/libraries are.
 
 use rmp::encode::{write_array_len, write_uint};
 use rmp_serde::encode::Error;

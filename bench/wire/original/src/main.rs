@@ -1,4 +1,4 @@
-//! Measures the same loads over the original, the crate rmp, written as crates/bench_wire is.
+//! Measures the same loads over the original, the crate rmp, written as bench/libraries/bench_wire is.
 
 use rmp::Marker;
 use rmp::decode::{RmpRead, ValueReadError, read_marker};

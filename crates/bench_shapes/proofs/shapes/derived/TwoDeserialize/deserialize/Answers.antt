@@ -1,8 +1,0 @@
-use Rattle.rmp_decode.proofs.Laws.{lawful_ok, lawful_err}
-use Rattle.bench_shapes.proofs.shapes.derived.TwoDeserialize.deserialize.Goals as goal
-
-pub returns-in-Ok-clause-law : goal.returns-in-Ok-clause-law
-returns-in-Ok-clause-law g c = lawful_ok _ _ _ _ _ _ _ (λ m r. r) c.in-Ok.ensures.law
-
-pub returns-in-Err-clause-law : goal.returns-in-Err-clause-law
-returns-in-Err-clause-law g c = lawful_err _ _ _ _ _ _ (λ m r. ((r.0.id, (r.0.on, tt)), r.1)) c.in-Err.ensures.law
