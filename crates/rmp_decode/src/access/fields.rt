@@ -582,14 +582,16 @@ impl<R: Source, C: SerializerConfig> Deserializer<R, C> {
         ensures memory { F.takes_memory R.lends ≡ false → IfErr result (λ e. e ≢ Error.OutOfMemory) }
     {
         if self.row_front(count) {
-            self.row_ahead()
-        } else {
-            self.opened_tuple(count)
+            return self.row_ahead();
+        }
+        match self.opened_tuple(count) {
+            Ok(values) => Ok(values),
+            Err(e) => Err(e),
         }
     }
 
-    // The same, of elements that are counted as they are read.
-    #[inline(always)]
+    // The same, of elements that are counted as they are read. It has no hint: beside a row that lies ahead it is too large to be inlined, and
+    // seldom runs. Its answer is taken apart where it is called, so that the caller's own stays out of memory.
     fn opened_tuple<'de, F: Fields<'de, R>>(&mut self, count: usize) -> Result<F, Error>
     where
         R: ReadSlice<'de>,
@@ -630,9 +632,11 @@ impl<R: Source, C: SerializerConfig> Deserializer<R, C> {
             result }
     {
         if self.row_front(names.len()) {
-            self.row_ahead()
-        } else {
-            self.opened_fields(names)
+            return self.row_ahead();
+        }
+        match self.opened_fields(names) {
+            Ok(values) => Ok(values),
+            Err(e) => Err(e),
         }
     }
 

@@ -420,8 +420,7 @@ impl<'x, R: Source, C: SerializerConfig> SeqAccess<'x, R, C> {
         }
     }
 
-    // Reads a byte of bytes as a number.
-    #[inline(always)]
+    // Reads a byte of bytes as a number. It has no hint, so that what a list's element inlines stays small.
     fn numbered<'de, T: Deserialize<'de, R>>(&mut self) -> Result<T, Error>
     where
         R: ReadSlice<'de>,
@@ -476,12 +475,13 @@ impl<'x, R: Source, C: SerializerConfig> SeqAccess<'x, R, C> {
         if self.left == 0 {
             return Ok(None);
         }
-        let element = if self.bytes {
-            self.numbered()
-        } else {
-            self.listed()
-        };
-        match element {
+        if self.bytes {
+            return match self.numbered() {
+                Ok(v) => Ok(Some(v)),
+                Err(e) => Err(e),
+            };
+        }
+        match self.listed() {
             Ok(v) => Ok(Some(v)),
             Err(e) => Err(e),
         }

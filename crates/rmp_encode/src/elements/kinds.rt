@@ -461,17 +461,17 @@ impl<
 
     #[inline(always)]
     fn write<W: Sink, C: SerializerConfig>(&self, se: &mut Serializer<W, C>) -> Result<(), Error> {
-        let front = Four {
+        let front = Five {
             first: self.first,
             second: self.second,
             third: self.third,
             fourth: self.fourth,
+            fifth: self.fifth,
         };
-        let back = Four {
-            first: self.fifth,
-            second: self.sixth,
-            third: self.seventh,
-            fourth: self.eighth,
+        let back = Three {
+            first: self.sixth,
+            second: self.seventh,
+            third: self.eighth,
         };
         front.write(se)?;
         back.write(se)
@@ -483,19 +483,19 @@ impl<
         names: &[&'static str],
         se: &mut Serializer<W, C>,
     ) -> Result<(), Error> {
-        let front = Four {
+        let front = Five {
             first: self.first,
             second: self.second,
             third: self.third,
             fourth: self.fourth,
+            fifth: self.fifth,
         };
-        let back = Four {
-            first: self.fifth,
-            second: self.sixth,
-            third: self.seventh,
-            fourth: self.eighth,
+        let back = Three {
+            first: self.sixth,
+            second: self.seventh,
+            third: self.eighth,
         };
-        front.write_fields(&names[..4], se)?;
-        back.write_fields(&names[4..], se)
+        front.write_fields(&names[..5], se)?;
+        back.write_fields(&names[5..], se)
     }
 }

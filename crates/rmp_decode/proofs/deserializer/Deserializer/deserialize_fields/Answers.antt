@@ -1,4 +1,5 @@
 use Rattle.std.proofs.Common.{◌∙◌, subst, rules}
+use Rattle.std.specs.Prelude.{Ok, Err}
 use Rattle.rmp_wire.specs.declared.head.Head.TheVariants.{Array}
 use Rattle.rmp_decode.specs.Fronts.{TakesFront}
 use Rattle.rmp_decode.specs.Fields.{OfFields}
@@ -26,8 +27,14 @@ returns-then-row_front-clause-refused g c = λ _.
     c.args.self.now c.row_front.new.self
     c.row_ahead.new.self g.F.Fields.count (c.row_front.ensures.deep (search rules)) front e w (bytes_of c.args.names.now)) c.row_ahead.ensures.refused
 
-pub returns-else-row_front-clause-law : goal.returns-else-row_front-clause-law
-returns-else-row_front-clause-law g c =
+pub returns-in-Ok-clause-law : goal.returns-in-Ok-clause-law
+returns-in-Ok-clause-law g c =
     subst (λ (z : Deserializer g.row.R.Denot g.row.C.Denot). Lawful g.R.Source (λ m v. OfFields (bytes_of c.args.names.now)
-    (λ fs. g.F.Fields.reads (g.C.SerializerConfig.human z.config) g.R.ReadSlice.lends fs v) m) z c.opened_fields.new.self c.opened_fields.result)
-    (c.row_front.ensures.kept (search rules)) c.opened_fields.ensures.law
+    (λ fs. g.F.Fields.reads (g.C.SerializerConfig.human z.config) g.R.ReadSlice.lends fs v) m) z c.opened_fields.new.self
+    (Ok c.in-Ok.values)) (c.row_front.ensures.kept (search rules)) c.in-Ok.ensures.law
+
+pub returns-in-Err-clause-law : goal.returns-in-Err-clause-law
+returns-in-Err-clause-law g c =
+    subst (λ (z : Deserializer g.row.R.Denot g.row.C.Denot). Lawful g.R.Source (λ m v. OfFields (bytes_of c.args.names.now)
+    (λ fs. g.F.Fields.reads (g.C.SerializerConfig.human z.config) g.R.ReadSlice.lends fs v) m) z c.opened_fields.new.self
+    (Err c.in-Err.e)) (c.row_front.ensures.kept (search rules)) c.in-Err.ensures.law

@@ -1,4 +1,5 @@
 use Rattle.std.proofs.Common.{subst, rules}
+use Rattle.std.specs.Prelude.{Ok, Err}
 use Rattle.rmp_wire.specs.declared.head.Head.TheVariants.{Array}
 use Rattle.rmp_decode.specs.Fronts.{TakesFront}
 use Rattle.rmp_decode.specs.Fields.{given_all}
@@ -23,8 +24,14 @@ returns-then-row_front-clause-refused g c = λ _.
     c.args.self.now c.row_front.new.self
     c.row_ahead.new.self g.F.Fields.count (c.row_front.ensures.deep (search rules)) front e w) c.row_ahead.ensures.refused
 
-pub returns-else-row_front-clause-law : goal.returns-else-row_front-clause-law
-returns-else-row_front-clause-law g c =
+pub returns-in-Ok-clause-law : goal.returns-in-Ok-clause-law
+returns-in-Ok-clause-law g c =
     subst (λ (z : Deserializer g.row.R.Denot g.row.C.Denot). Lawful g.R.Source (λ m v. OfRow
     (λ ms. g.F.Fields.reads (g.C.SerializerConfig.human z.config) g.R.ReadSlice.lends (given_all ms) v) m) z c.opened_tuple.new.self
-    c.opened_tuple.result) (c.row_front.ensures.kept (search rules)) c.opened_tuple.ensures.law
+    (Ok c.in-Ok.values)) (c.row_front.ensures.kept (search rules)) c.in-Ok.ensures.law
+
+pub returns-in-Err-clause-law : goal.returns-in-Err-clause-law
+returns-in-Err-clause-law g c =
+    subst (λ (z : Deserializer g.row.R.Denot g.row.C.Denot). Lawful g.R.Source (λ m v. OfRow
+    (λ ms. g.F.Fields.reads (g.C.SerializerConfig.human z.config) g.R.ReadSlice.lends (given_all ms) v) m) z c.opened_tuple.new.self
+    (Err c.in-Err.e)) (c.row_front.ensures.kept (search rules)) c.in-Err.ensures.law

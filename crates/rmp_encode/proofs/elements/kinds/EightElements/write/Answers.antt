@@ -12,18 +12,20 @@ returns-in_err-write-clause-writes g c =
     rw (p.1, p.2) (λ old t rest h. part_takes g.W.Sink _
     (front_or g.W.Sink.takes_memory (g.E1.Serialize.takes_memory (settings_of old)
     ∷ (g.E2.Serialize.takes_memory (settings_of old) ∷
-    (g.E3.Serialize.takes_memory (settings_of old) ∷ (g.E4.Serialize.takes_memory (settings_of old) ∷ []))))
-    (g.E5.Serialize.takes_memory (settings_of old) ∷ (g.E6.Serialize.takes_memory (settings_of old)
-    ∷ (g.E7.Serialize.takes_memory (settings_of old) ∷ (g.E8.Serialize.takes_memory (settings_of old) ∷ [])))))
+    (g.E3.Serialize.takes_memory (settings_of old) ∷ (g.E4.Serialize.takes_memory (settings_of old)
+    ∷ (g.E5.Serialize.takes_memory (settings_of old) ∷ [])))))
+    (g.E6.Serialize.takes_memory (settings_of old) ∷ (g.E7.Serialize.takes_memory (settings_of old)
+    ∷ (g.E8.Serialize.takes_memory (settings_of old) ∷ []))))
     (c.in_err-write.ensures.writes old t _ h))
 
 pub returns-clause-writes : goal.returns-clause-writes
 returns-clause-writes g c = λ old t rest h. going_more g.W.Sink (IsWriting g.W.Sink old t rest c.write-2.new.se) t (sink_of old)
     (sink_of c.write-2.new.se) c.write-2.result (back_or g.W.Sink.takes_memory
     (g.E1.Serialize.takes_memory (settings_of old) ∷ (g.E2.Serialize.takes_memory (settings_of old)
-    ∷ (g.E3.Serialize.takes_memory (settings_of old) ∷ (g.E4.Serialize.takes_memory (settings_of old) ∷ []))))
-    (g.E5.Serialize.takes_memory (settings_of old) ∷ (g.E6.Serialize.takes_memory (settings_of old)
-    ∷ (g.E7.Serialize.takes_memory (settings_of old) ∷ (g.E8.Serialize.takes_memory (settings_of old) ∷ [])))))
+    ∷ (g.E3.Serialize.takes_memory (settings_of old) ∷
+    (g.E4.Serialize.takes_memory (settings_of old) ∷ (g.E5.Serialize.takes_memory (settings_of old) ∷ [])))))
+    (g.E6.Serialize.takes_memory (settings_of old) ∷ (g.E7.Serialize.takes_memory (settings_of old)
+    ∷ (g.E8.Serialize.takes_memory (settings_of old) ∷ []))))
     (c.write-2.ensures.writes old t rest (c.in_ok-write.ensures.writes old t _ h))
 
 pub returns-clause-keeps : goal.returns-clause-keeps
