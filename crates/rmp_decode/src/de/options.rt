@@ -115,7 +115,10 @@ impl<R: Source, C: SerializerConfig> Deserializer<R, C> {
                 Ok(value) => Ok(Some(value)),
                 Err(e) => Err(e),
             },
-            None => self.kept_option(),
+            None => match self.kept_option() {
+                Ok(option) => Ok(option),
+                Err(e) => Err(e),
+            },
         }
     }
 
