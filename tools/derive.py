@@ -196,18 +196,21 @@ def writing_apart(of, at, shape):
 
 
 def arm_of_reading(of, at, shape):
-    """How a variant is read whose name was."""
+    """How a variant is read whose name was.
+
+    Each arm returns by itself: an answer that left the `match` as its value would be copied once more on its way.
+    """
     place = "_" if at == len(of.variants) - 1 else str(at)
     call = {"unit": "unit_variant()", "named": f"fields_variant({field_names(shape)})"}.get(shape.kind, "newtype_variant()")
     made = f"Ok({made_of(f'{of.name}::{shape.name}', shape)})"
     names = bound_names(shape)
     lines = [f"Ok(({place}, variant)) => match variant.{call} {{"]
     if len(shape.fields) < 2 and shape.kind != "named":
-        lines.append(f"Ok({names[0] if names else '()'}) => {made},")
+        lines.append(f"Ok({names[0] if names else '()'}) => return {made},")
     else:
         pattern = nested(names) if shape.kind == "named" else f"({', '.join(names)})"
-        lines += ["Ok(parts) => {", f"let {pattern} = parts;", made, "}"]
-    return [*lines, "Err(e) => Err(e),", "},"]
+        lines += ["Ok(parts) => {", f"let {pattern} = parts;", f"return {made};", "}"]
+    return [*lines, "Err(e) => return Err(e),", "},"]
 
 
 def body_of_reading(of):
@@ -215,18 +218,18 @@ def body_of_reading(of):
     shape = of.shape
     if shape is None:
         arms = [line for at, variant in enumerate(of.variants) for line in arm_of_reading(of, at, variant)]
-        return [f"match de.deserialize_enum({texts(variant.name for variant in of.variants)}) {{", *arms, "Err(e) => Err(e),", "}"]
+        return [f"match de.deserialize_enum({texts(variant.name for variant in of.variants)}) {{", *arms, "Err(e) => return Err(e),", "}"]
     made = f"Ok({made_of(shape.name, shape)})"
     if shape.kind in ("unit", "newtype"):
         pattern = "()" if shape.kind == "unit" else PLACES[0]
-        return [f'match de.deserialize_{shape.kind}_struct("{shape.name}") {{', f"Ok({pattern}) => {made},", "Err(e) => Err(e),", "}"]
+        return [f'match de.deserialize_{shape.kind}_struct("{shape.name}") {{', f"Ok({pattern}) => return {made},", "Err(e) => return Err(e),", "}"]
     kinds = [field.kind for field in shape.fields]
     if shape.kind == "tuple":
         call, kind, pattern = "Deserialize::deserialize(de)", f"({', '.join(kinds)})", f"({', '.join(bound_names(shape))})"
     else:
         call, kind, pattern = f"de.deserialize_fields({field_names(shape)})", nested(kinds), nested(bound_names(shape))
     read = f"let read: Result<{kind}, rmp_decode::Error> = {call};"
-    return [read, "match read {", "Ok(parts) => {", f"let {pattern} = parts;", made, "}", "Err(e) => Err(e),", "}"]
+    return [read, "match read {", "Ok(parts) => {", f"let {pattern} = parts;", f"return {made};", "}", "Err(e) => return Err(e),", "}"]
 
 
 def no_byte(of):

@@ -66,3 +66,4 @@ pub mod VariantsAhead
 pub mod WantedNext
 pub mod Whole
 pub mod Wide
+pub mod Words

@@ -1,5 +1,6 @@
 -- The words of a refusal.
 use Rattle.std.specs.Prelude.{ℕ, List, codes, take}
+use Rattle.std.specs.Str.Lossy.{utf8_valid_len}
 use Rattle.rmp_decode.specs.declared.text.OwnText.{OwnText}
 use Rattle.rmp_decode.specs.declared.text.Text.{Text}
 use Rattle.rmp_decode.specs.declared.text.Text.TheVariants.{
@@ -14,8 +15,9 @@ use Rattle.rmp_decode.specs.declared.text.Text.TheVariants.{
   Own,
 }
 
+-- the longest beginning of the bytes that is UTF-8
 abbrev pub own_words : OwnText → List ℕ
-own_words own = take own.len own.bytes
+own_words own = take (utf8_valid_len own.bytes) own.bytes
 
 -- `text.as_str()`
 abbrev pub words : Text → List ℕ

@@ -20,13 +20,15 @@ pub enum Text {
     Own(OwnText),
 }
 
-/// A type's own text.
+// What no text in UTF-8 has: it stands behind a text of fewer than 30 bytes.
+const NO_TEXT: u8 = 0xff;
+
+/// A type's own text: the longest beginning of its bytes that is UTF-8.
+///
+/// No length stands beside the bytes, since an error is copied with each answer of a read: one of 32 bytes in few pieces, and one of 33 in many.
 #[derive(Clone, Copy)]
 pub struct OwnText {
     bytes: [u8; 30],
-    len: u8,
-    ghost within: { len ≤ 30 },
-    ghost utf8: { ∥ IsUtf8 (take len bytes) ∥₁ },
 }
 
 impl OwnText {
@@ -36,18 +38,18 @@ impl OwnText {
         requires { length text.now ≤ 30 }
         ensures { own_words result ≡ text.now }
     {
-        let mut bytes = [0; 30];
+        let mut bytes = [NO_TEXT; 30];
         bytes[..text.len()].copy_from_slice(text.as_bytes());
-        OwnText {
-            bytes,
-            len: text.len() as u8,
-        }
+        OwnText { bytes }
     }
 
     fn as_str(&self) -> &str
         ensures { result.now ≡ own_words self.now }
     {
-        str::from_utf8(&self.bytes[..usize::from(self.len)]).unwrap()
+        match str::from_utf8(&self.bytes) {
+            Ok(words) => words,
+            Err(e) => str::from_utf8(&self.bytes[..e.valid_up_to()]).unwrap(),
+        }
     }
 }
 

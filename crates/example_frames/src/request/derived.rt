@@ -87,21 +87,21 @@ impl<'de, R: ReadSlice<'de>> Deserialize<'de, R> for Request {
     ) -> Result<Request, rmp_decode::Error> {
         match de.deserialize_enum(&["Ping", "Get", "Put"]) {
             Ok((0, variant)) => match variant.unit_variant() {
-                Ok(()) => Ok(Request::Ping),
-                Err(e) => Err(e),
+                Ok(()) => return Ok(Request::Ping),
+                Err(e) => return Err(e),
             },
             Ok((1, variant)) => match variant.newtype_variant() {
-                Ok(first) => Ok(Request::Get(first)),
-                Err(e) => Err(e),
+                Ok(first) => return Ok(Request::Get(first)),
+                Err(e) => return Err(e),
             },
             Ok((_, variant)) => match variant.newtype_variant() {
                 Ok(parts) => {
                     let (first, second) = parts;
-                    Ok(Request::Put(first, second))
+                    return Ok(Request::Put(first, second));
                 }
-                Err(e) => Err(e),
+                Err(e) => return Err(e),
             },
-            Err(e) => Err(e),
+            Err(e) => return Err(e),
         }
     }
 

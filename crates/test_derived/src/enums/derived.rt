@@ -78,17 +78,17 @@ impl<'de, R: ReadSlice<'de>> Deserialize<'de, R> for V12 {
     ) -> Result<V12, rmp_decode::Error> {
         match de.deserialize_enum(&["V1", "V2"]) {
             Ok((0, variant)) => match variant.unit_variant() {
-                Ok(()) => Ok(V12::V1),
-                Err(e) => Err(e),
+                Ok(()) => return Ok(V12::V1),
+                Err(e) => return Err(e),
             },
             Ok((_, variant)) => match variant.newtype_variant() {
                 Ok(parts) => {
                     let (first, second) = parts;
-                    Ok(V12::V2(first, second))
+                    return Ok(V12::V2(first, second));
                 }
-                Err(e) => Err(e),
+                Err(e) => return Err(e),
             },
-            Err(e) => Err(e),
+            Err(e) => return Err(e),
         }
     }
 
@@ -153,14 +153,14 @@ impl<'de, R: ReadSlice<'de>> Deserialize<'de, R> for Two {
     ) -> Result<Two, rmp_decode::Error> {
         match de.deserialize_enum(&["First", "Second"]) {
             Ok((0, variant)) => match variant.unit_variant() {
-                Ok(()) => Ok(Two::First),
-                Err(e) => Err(e),
+                Ok(()) => return Ok(Two::First),
+                Err(e) => return Err(e),
             },
             Ok((_, variant)) => match variant.unit_variant() {
-                Ok(()) => Ok(Two::Second),
-                Err(e) => Err(e),
+                Ok(()) => return Ok(Two::Second),
+                Err(e) => return Err(e),
             },
-            Err(e) => Err(e),
+            Err(e) => return Err(e),
         }
     }
 
@@ -265,28 +265,28 @@ impl<'de, R: ReadSlice<'de>> Deserialize<'de, R> for Four {
     ) -> Result<Four, rmp_decode::Error> {
         match de.deserialize_enum(&["Unit", "New", "Tup", "Str"]) {
             Ok((0, variant)) => match variant.unit_variant() {
-                Ok(()) => Ok(Four::Unit),
-                Err(e) => Err(e),
+                Ok(()) => return Ok(Four::Unit),
+                Err(e) => return Err(e),
             },
             Ok((1, variant)) => match variant.newtype_variant() {
-                Ok(first) => Ok(Four::New(first)),
-                Err(e) => Err(e),
+                Ok(first) => return Ok(Four::New(first)),
+                Err(e) => return Err(e),
             },
             Ok((2, variant)) => match variant.newtype_variant() {
                 Ok(parts) => {
                     let (first, second) = parts;
-                    Ok(Four::Tup(first, second))
+                    return Ok(Four::Tup(first, second));
                 }
-                Err(e) => Err(e),
+                Err(e) => return Err(e),
             },
             Ok((_, variant)) => match variant.fields_variant(&["a", "b"]) {
                 Ok(parts) => {
                     let (a, (b, ())) = parts;
-                    Ok(Four::Str { a, b })
+                    return Ok(Four::Str { a, b });
                 }
-                Err(e) => Err(e),
+                Err(e) => return Err(e),
             },
-            Err(e) => Err(e),
+            Err(e) => return Err(e),
         }
     }
 
@@ -394,17 +394,17 @@ impl<'de, R: ReadSlice<'de>, T: Deserialize<'de, R>> Deserialize<'de, R> for Mix
     ) -> Result<Mixed<T>, rmp_decode::Error> {
         match de.deserialize_enum(&["Other", "Kept"]) {
             Ok((0, variant)) => match variant.newtype_variant() {
-                Ok(first) => Ok(Mixed::Other(first)),
-                Err(e) => Err(e),
+                Ok(first) => return Ok(Mixed::Other(first)),
+                Err(e) => return Err(e),
             },
             Ok((_, variant)) => match variant.fields_variant(&["four", "dog"]) {
                 Ok(parts) => {
                     let (four, (dog, ())) = parts;
-                    Ok(Mixed::Kept { four, dog })
+                    return Ok(Mixed::Kept { four, dog });
                 }
-                Err(e) => Err(e),
+                Err(e) => return Err(e),
             },
-            Err(e) => Err(e),
+            Err(e) => return Err(e),
         }
     }
 

@@ -75,9 +75,9 @@ impl<'de, R: ReadSlice<'de>, T: Deserialize<'de, R>> Deserialize<'de, R> for Pai
         match read {
             Ok(parts) => {
                 let (first, second) = parts;
-                Ok(Pair(first, second))
+                return Ok(Pair(first, second));
             }
-            Err(e) => Err(e),
+            Err(e) => return Err(e),
         }
     }
 
@@ -161,17 +161,17 @@ impl<'de, R: ReadSlice<'de>, T: Deserialize<'de, R>> Deserialize<'de, R> for Eit
     ) -> Result<Either<T>, rmp_decode::Error> {
         match de.deserialize_enum(&["Left", "Right"]) {
             Ok((0, variant)) => match variant.newtype_variant() {
-                Ok(first) => Ok(Either::Left(first)),
-                Err(e) => Err(e),
+                Ok(first) => return Ok(Either::Left(first)),
+                Err(e) => return Err(e),
             },
             Ok((_, variant)) => match variant.fields_variant(&["by", "pair"]) {
                 Ok(parts) => {
                     let (by, (pair, ())) = parts;
-                    Ok(Either::Right { by, pair })
+                    return Ok(Either::Right { by, pair });
                 }
-                Err(e) => Err(e),
+                Err(e) => return Err(e),
             },
-            Err(e) => Err(e),
+            Err(e) => return Err(e),
         }
     }
 
@@ -277,13 +277,13 @@ impl<'de, R: ReadSlice<'de>, K: Deserialize<'de, R> + Ord> Deserialize<'de, R> f
         match read {
             Ok(parts) => {
                 let (dogs, (counts, (numbers, ()))) = parts;
-                Ok(Sorted {
+                return Ok(Sorted {
                     dogs,
                     counts,
                     numbers,
-                })
+                });
             }
-            Err(e) => Err(e),
+            Err(e) => return Err(e),
         }
     }
 
@@ -391,14 +391,14 @@ impl<'de, R: ReadSlice<'de>> Deserialize<'de, R> for Kennel {
         match read {
             Ok(parts) => {
                 let (dogs, (four, (pair, (either, ())))) = parts;
-                Ok(Kennel {
+                return Ok(Kennel {
                     dogs,
                     four,
                     pair,
                     either,
-                })
+                });
             }
-            Err(e) => Err(e),
+            Err(e) => return Err(e),
         }
     }
 
@@ -541,9 +541,9 @@ impl<'de, R: ReadSlice<'de>> Deserialize<'de, R> for Row {
         match read {
             Ok(parts) => {
                 let (left, (far, (kennel, ()))) = parts;
-                Ok(Row { left, far, kennel })
+                return Ok(Row { left, far, kennel });
             }
-            Err(e) => Err(e),
+            Err(e) => return Err(e),
         }
     }
 
@@ -620,8 +620,8 @@ impl<'de, R: ReadSlice<'de>> Deserialize<'de, R> for Chosen {
         de: &mut Deserializer<R, C>,
     ) -> Result<Chosen, rmp_decode::Error> {
         match de.deserialize_newtype_struct("Chosen") {
-            Ok(first) => Ok(Chosen(first)),
-            Err(e) => Err(e),
+            Ok(first) => return Ok(Chosen(first)),
+            Err(e) => return Err(e),
         }
     }
 
@@ -717,9 +717,9 @@ impl<'de, R: ReadSlice<'de>> Deserialize<'de, R> for Guests {
         match read {
             Ok(parts) => {
                 let (counted, (mixed, ())) = parts;
-                Ok(Guests { counted, mixed })
+                return Ok(Guests { counted, mixed });
             }
-            Err(e) => Err(e),
+            Err(e) => return Err(e),
         }
     }
 

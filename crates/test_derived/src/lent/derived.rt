@@ -116,14 +116,14 @@ impl<'de, R: ReadSlice<'de>> Deserialize<'de, R> for Line<'de> {
         match read {
             Ok(parts) => {
                 let (level, (text, (tags, (source, ())))) = parts;
-                Ok(Line {
+                return Ok(Line {
                     level,
                     text,
                     tags,
                     source,
-                })
+                });
             }
-            Err(e) => Err(e),
+            Err(e) => return Err(e),
         }
     }
 
@@ -202,8 +202,8 @@ impl<'de, R: ReadSlice<'de>> Deserialize<'de, R> for Label<'de> {
         de: &mut Deserializer<R, C>,
     ) -> Result<Label<'de>, rmp_decode::Error> {
         match de.deserialize_newtype_struct("Label") {
-            Ok(first) => Ok(Label(first)),
-            Err(e) => Err(e),
+            Ok(first) => return Ok(Label(first)),
+            Err(e) => return Err(e),
         }
     }
 
@@ -279,9 +279,9 @@ impl<'de, R: ReadSlice<'de>> Deserialize<'de, R> for Piece<'de> {
         match read {
             Ok(parts) => {
                 let (first, second) = parts;
-                Ok(Piece(first, second))
+                return Ok(Piece(first, second));
             }
-            Err(e) => Err(e),
+            Err(e) => return Err(e),
         }
     }
 
@@ -420,32 +420,32 @@ impl<'de, R: ReadSlice<'de>, T: Deserialize<'de, R>> Deserialize<'de, R> for Eve
     ) -> Result<Event<'de, T>, rmp_decode::Error> {
         match de.deserialize_enum(&["Started", "Said", "Moved", "Put", "Held"]) {
             Ok((0, variant)) => match variant.unit_variant() {
-                Ok(()) => Ok(Event::Started),
-                Err(e) => Err(e),
+                Ok(()) => return Ok(Event::Started),
+                Err(e) => return Err(e),
             },
             Ok((1, variant)) => match variant.newtype_variant() {
-                Ok(first) => Ok(Event::Said(first)),
-                Err(e) => Err(e),
+                Ok(first) => return Ok(Event::Said(first)),
+                Err(e) => return Err(e),
             },
             Ok((2, variant)) => match variant.newtype_variant() {
                 Ok(parts) => {
                     let (first, second) = parts;
-                    Ok(Event::Moved(first, second))
+                    return Ok(Event::Moved(first, second));
                 }
-                Err(e) => Err(e),
+                Err(e) => return Err(e),
             },
             Ok((3, variant)) => match variant.fields_variant(&["key", "size"]) {
                 Ok(parts) => {
                     let (key, (size, ())) = parts;
-                    Ok(Event::Put { key, size })
+                    return Ok(Event::Put { key, size });
                 }
-                Err(e) => Err(e),
+                Err(e) => return Err(e),
             },
             Ok((_, variant)) => match variant.newtype_variant() {
-                Ok(first) => Ok(Event::Held(first)),
-                Err(e) => Err(e),
+                Ok(first) => return Ok(Event::Held(first)),
+                Err(e) => return Err(e),
             },
-            Err(e) => Err(e),
+            Err(e) => return Err(e),
         }
     }
 

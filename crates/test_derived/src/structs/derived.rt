@@ -69,9 +69,9 @@ impl<'de, R: ReadSlice<'de>> Deserialize<'de, R> for Dog {
         match read {
             Ok(parts) => {
                 let (name, (age, ())) = parts;
-                Ok(Dog { name, age })
+                return Ok(Dog { name, age });
             }
-            Err(e) => Err(e),
+            Err(e) => return Err(e),
         }
     }
 
@@ -132,9 +132,9 @@ impl<'de, R: ReadSlice<'de>> Deserialize<'de, R> for Opt {
         match read {
             Ok(parts) => {
                 let (v, ()) = parts;
-                Ok(Opt { v })
+                return Ok(Opt { v });
             }
-            Err(e) => Err(e),
+            Err(e) => return Err(e),
         }
     }
 
@@ -199,9 +199,9 @@ impl<'de, R: ReadSlice<'de>> Deserialize<'de, R> for Point {
         match read {
             Ok(parts) => {
                 let (first, second) = parts;
-                Ok(Point(first, second))
+                return Ok(Point(first, second));
             }
-            Err(e) => Err(e),
+            Err(e) => return Err(e),
         }
     }
 
@@ -254,8 +254,8 @@ impl<'de, R: ReadSlice<'de>> Deserialize<'de, R> for Newtype {
         de: &mut Deserializer<R, C>,
     ) -> Result<Newtype, rmp_decode::Error> {
         match de.deserialize_newtype_struct("Newtype") {
-            Ok(first) => Ok(Newtype(first)),
-            Err(e) => Err(e),
+            Ok(first) => return Ok(Newtype(first)),
+            Err(e) => return Err(e),
         }
     }
 
@@ -307,8 +307,8 @@ impl<'de, R: ReadSlice<'de>> Deserialize<'de, R> for Unit {
         de: &mut Deserializer<R, C>,
     ) -> Result<Unit, rmp_decode::Error> {
         match de.deserialize_unit_struct("Unit") {
-            Ok(()) => Ok(Unit),
-            Err(e) => Err(e),
+            Ok(()) => return Ok(Unit),
+            Err(e) => return Err(e),
         }
     }
 
@@ -371,9 +371,9 @@ impl<'de, R: ReadSlice<'de>, T: Deserialize<'de, R>> Deserialize<'de, R> for Cou
         match read {
             Ok(parts) => {
                 let (value, (count, ())) = parts;
-                Ok(Counted { value, count })
+                return Ok(Counted { value, count });
             }
-            Err(e) => Err(e),
+            Err(e) => return Err(e),
         }
     }
 
@@ -517,7 +517,7 @@ impl<'de, R: ReadSlice<'de>> Deserialize<'de, R> for Papers {
                         (born, (chip, (mother, (father, (weight, (height, (vaccinated, ()))))))),
                     ),
                 ) = parts;
-                Ok(Papers {
+                return Ok(Papers {
                     number,
                     name,
                     born,
@@ -527,9 +527,9 @@ impl<'de, R: ReadSlice<'de>> Deserialize<'de, R> for Papers {
                     weight,
                     height,
                     vaccinated,
-                })
+                });
             }
-            Err(e) => Err(e),
+            Err(e) => return Err(e),
         }
     }
 

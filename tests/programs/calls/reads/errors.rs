@@ -52,6 +52,20 @@ fn prints_the_reason(rt: HostRuntime) -> Result<(), Fail> {
     Ok(())
 }
 
+#[test]
+fn keeps_own_words(rt: HostRuntime) {
+    for words in [
+        "",
+        "a",
+        "é",
+        "ends in\0",
+        "as many bytes as there are: 30",
+        "and so with a wide letter: 3é",
+    ] {
+        assert_eq!(rt; Text::new(words).as_str(), words);
+    }
+}
+
 // A refusal is handed up through every level of a read, so it stays small.
 #[test]
 fn is_small(rt: HostRuntime) {
@@ -60,5 +74,5 @@ fn is_small(rt: HostRuntime) {
         size_of::<Error>(),
         size_of::<Result<u8, Error>>(),
     );
-    assert_eq!(rt; sizes, (32, 40, 48));
+    assert_eq!(rt; sizes, (31, 32, 40));
 }
