@@ -1,6 +1,6 @@
 //! What messages are made of, and how they are spelled: from the MessagePack specification's table.
 
-use super::measure::number;
+use super::measure::{Random, number, number_of_width};
 
 /// Something that a message is made of.
 #[derive(Clone)]
@@ -170,3 +170,26 @@ pub fn structures(form: Form, names: &[&str], rows: &[Vec<Part>]) -> Vec<Part> {
     let of = |row: &Vec<Part>| structure(form, names, row.clone());
     rows.iter().map(of).collect()
 }
+
+/// A number in one of four spellings.
+pub fn mixed(random: &mut Random) -> Part {
+    Part::Number(number_of_width(random.below(4), random.next()))
+}
+
+/// The names of a struct of eight numbers.
+pub const EIGHT: &[&str] = &[
+    "alpha", "beta", "gamma", "delta", "epsilon", "zeta", "eta", "theta",
+];
+
+/// The names of a struct of nine fields of seven types.
+pub const NINE: &[&str] = &[
+    "number",
+    "name",
+    "born",
+    "chip",
+    "mother",
+    "father",
+    "weight",
+    "height",
+    "vaccinated",
+];

@@ -7,9 +7,9 @@ mod measure;
 #[allow(dead_code)]
 mod parts;
 
-use measure::{Answer, Load, Random, Runs, number_of_width};
+use measure::{Answer, Load, Random, Runs};
 use parts::Form::{List, Map};
-use parts::{Form, Part, spelled, structure, text};
+use parts::{EIGHT, Form, NINE, Part, mixed, spelled, structure, text};
 
 const RUNS: Runs = Runs { reps: 20, runs: 3 };
 
@@ -31,10 +31,6 @@ impl Calls {
 
 /// How a value of a kind stands in a message.
 type Spelling = fn(&mut Random, Form) -> Part;
-
-fn mixed(r: &mut Random) -> Part {
-    Part::Number(number_of_width(r.below(4), r.next()))
-}
 
 /// A number with a sign, of so many bits besides it.
 fn signed(r: &mut Random, bits: u32) -> Part {
@@ -145,21 +141,6 @@ const LEAVES: [(&str, &str, Spelling); 27] = [
         several(r, 3, mixed)
     }),
     ("boxed numbers", "boxed", |r, _| mixed(r)),
-];
-
-const EIGHT: &[&str] = &[
-    "alpha", "beta", "gamma", "delta", "epsilon", "zeta", "eta", "theta",
-];
-const NINE: &[&str] = &[
-    "number",
-    "name",
-    "born",
-    "chip",
-    "mother",
-    "father",
-    "weight",
-    "height",
-    "vaccinated",
 ];
 
 fn point(r: &mut Random, form: Form) -> Part {

@@ -8,7 +8,7 @@ mod parts;
 mod written;
 
 use measure::{Answer, Load, Random, Runs, number_of_width};
-use parts::{Form, Part, spell, spelled, structure, structures, text};
+use parts::{EIGHT, Form, NINE, Part, mixed, spell, spelled, structure, structures, text};
 use std::ops::Range;
 
 const RUNS: Runs = Runs { reps: 20, runs: 7 };
@@ -28,9 +28,6 @@ impl Calls {
 
 const TWO: &[&str] = &["id", "on"];
 const FIVE: &[&str] = &["id", "name", "age", "score", "note"];
-const EIGHT: &[&str] = &[
-    "alpha", "beta", "gamma", "delta", "epsilon", "zeta", "eta", "theta",
-];
 const TWELVE: &[&str] = &[
     "january",
     "february",
@@ -45,10 +42,6 @@ const TWELVE: &[&str] = &[
     "november",
     "december",
 ];
-
-fn mixed(random: &mut Random) -> Part {
-    Part::Number(number_of_width(random.below(4), random.next()))
-}
 
 fn two(random: &mut Random) -> Vec<Part> {
     vec![mixed(random), Part::Truth(random.below(2) == 1)]

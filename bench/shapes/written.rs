@@ -1,7 +1,7 @@
 //! The loads of values that are written.
 
 use super::{
-    COUNT, Form, Made, Part, Random, many, map, mixed, named_map, number_of_width, numbers,
+    COUNT, Form, Made, NINE, Part, Random, many, map, mixed, named_map, number_of_width, numbers,
     structure, text, two,
 };
 
@@ -105,17 +105,6 @@ fn parts(made: &mut Made, random: &mut Random) {
 }
 
 const DOG: &[&str] = &["name", "age"];
-const PAPERS: &[&str] = &[
-    "number",
-    "name",
-    "born",
-    "chip",
-    "mother",
-    "father",
-    "weight",
-    "height",
-    "vaccinated",
-];
 
 fn dog(random: &mut Random) -> Vec<Part> {
     vec![text("some words"), Part::Number(random.below(1 << 16))]
@@ -139,7 +128,7 @@ fn structs(made: &mut Made, random: &mut Random) {
     let dogs: Vec<_> = (0..COUNT).map(|_| dog(random)).collect();
     made.written_structs("two fields", "dog", DOG, dogs);
     let all: Vec<_> = (0..COUNT).map(|_| papers(random)).collect();
-    made.written_structs("nine fields", "papers", PAPERS, all);
+    made.written_structs("nine fields", "papers", NINE, all);
 }
 
 fn variants(made: &mut Made, random: &mut Random) {
