@@ -1,8 +1,9 @@
 #!/usr/bin/env python3
-"""Looks at the edits that the prover must refuse, crates/NAME/must-fail/FUNCTION__WHAT.edit.
+"""Looks at the edits that the prover must refuse: tests/edits/CRATE/FUNCTION__WHAT.edit, which tools/refused.py tries, and
+crates/CRATE/must-fail/FUNCTION__WHAT.edit, which the gate tries.
 
-Says which edit can't be applied, since a text that it replaces doesn't stand exactly once in its file, which has no such name,
-and which public function of the libraries has none. The status is 0 where nothing is said.
+Says which edit can't be applied, since a text that it replaces doesn't stand exactly once in its file, which has no such name, which of
+tests/edits doesn't say where it is refused, and which public function of the libraries has none. The status is 0 where nothing is said.
 
 An edit stands for the functions of its name, or, with the name of a type in front, as Type_function__what, for that type's.
 A function needs none that has no body, as a law, that answers a field or makes a struct of one, or whose body is that of
@@ -14,6 +15,7 @@ import sys
 
 TOP = os.path.join(os.path.dirname(os.path.abspath(__file__)), "..")
 CRATES = os.path.join(TOP, "crates")
+EDITS = os.path.join(TOP, "tests", "edits")
 LIBRARIES = "rmp_wire rmp_encode rmp_decode rmp_serde canon_lines".split()
 # Functions whose body is another's, but for a width, a kind or a constant, or a call of it.
 ALIKE = {
@@ -60,11 +62,11 @@ def read(path):
         return file.read()
 
 
-def files(crate, part, ending):
-    for folder, _, names in sorted(os.walk(os.path.join(CRATES, crate, part))):
+def files(folder, ending):
+    for at, _, names in sorted(os.walk(folder)):
         for name in sorted(names):
             if name.endswith(ending):
-                yield os.path.join(folder, name)
+                yield os.path.join(at, name)
 
 
 def pairs(edit):
@@ -78,6 +80,25 @@ def pairs(edit):
             old = rest
         elif word.startswith("new"):
             yield path, old, rest
+
+
+def refusals(edit):
+    """Each function that an edit says to be refused, and the goals that are open there."""
+    for line in read(edit).split("\n"):
+        word, _, rest = line.partition(": ")
+        if word == "refused":
+            function, *goals = rest.split()
+            yield function, goals
+
+
+def says_where(edit):
+    goals = [goals for _, goals in refusals(edit)]
+    return bool(goals) and all(goals)
+
+
+def edits_of(crate):
+    """The edits of a crate that tools/refused.py tries, and those that the gate does."""
+    return [*files(os.path.join(EDITS, crate), ".edit")], [*files(os.path.join(CRATES, crate, "must-fail"), ".edit")]
 
 
 def misapplied(crate, edit):
@@ -110,7 +131,7 @@ def type_of(head):
 
 def public_functions(crate):
     """Each public function outside of tests: its type, its name and its body."""
-    for path in files(crate, "src", ".rt"):
+    for path in files(os.path.join(CRATES, crate, "src"), ".rt"):
         if "tests" in os.path.relpath(path, CRATES):
             continue
         text = re.sub(r"^ *//.*$", "", read(path), flags=re.M)
@@ -133,12 +154,14 @@ def main():
     said = []
     for crate in sorted(os.listdir(CRATES)):
         names = set()
-        for edit in files(crate, "must-fail", ".edit"):
+        of_tests, of_gate = edits_of(crate)
+        for edit in [*of_tests, *of_gate]:
             name = os.path.basename(edit)[: -len(".edit")]
             names.add(name.partition("__")[0])
             if not re.fullmatch(r"\w+?__\w+", name):
                 said.append(f"{crate}/{name}: its name isn't FUNCTION__WHAT")
             said += [f"{crate}/{name}: {why}" for why in misapplied(crate, edit)]
+        said += [f"{os.path.relpath(edit, TOP)}: no line says where it is refused" for edit in of_tests if not says_where(edit)]
         if crate in LIBRARIES:
             said += [f"{crate}: {name} has no edit" for name in without_edit(crate, names)]
     print("\n".join(said) or "each edit can be applied, and each public function has one")

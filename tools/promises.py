@@ -2,7 +2,8 @@
 """Looks whether what docs/PROVED.md names in its table of promises is there.
 
 A row has a promise, a public function, a clause of its contract (none where it has one without a name), a test, which is a function
-of a crate or of tests/programs, or a file of tests/run or tests/lines, and an edit of must-fail/, or none. The status is 0 where nothing is said.
+of a crate or of tests/programs, or a file of tests/run or tests/lines, and an edit of tests/edits or must-fail/, or none. The status is 0
+where nothing is said.
 """
 import os
 import re
@@ -31,7 +32,7 @@ def main():
     written = sources + [read(it) for it in names_below("tests", "programs") if it.endswith(".rs")]
     tests = {name for text in written for name in re.findall(r"#\[test\]\s+fn (\w+)", text)}
     tests |= {os.path.basename(it).partition(".")[0] for part in ("run", "lines") for it in names_below("tests", part)}
-    edits = {os.path.basename(it)[:-5] for it in names_below("crates") if it.endswith(".edit")}
+    edits = {os.path.basename(it)[:-5] for it in names_below("crates") + names_below("tests", "edits") if it.endswith(".edit")}
     page = read("docs", "PROVED.md")
     rows = ROW.findall(page)
     faults = [] if len(rows) == len(re.findall(r"^\|", page, re.M)) - 2 else ["a row of the table has another form"]

@@ -1,0 +1,197 @@
+#!/usr/bin/env python3
+"""Tries the edits of tests/edits, many in one check: `tools/refused.py [--gate LOG] [--jobs N] [--write] [CRATE..]`.
+
+A copy of a crate is made, with as many of its edits as leave each other's lines and functions alone, and the functions that they name are
+proved there, with those that these call, from nothing. An edit is refused where the prover leaves the goals of its lines `refused:` open,
+each in the function that stands before them. A function waits for the proofs of those that it calls: what wasn't seen for that is tried in
+the next check, without the edits that were. A function that no edit names and that is open by itself is told, and counts as a failure.
+
+Crates are tried side by side, at most N. The libraries below a crate are taken as the gate built them. With --gate LOG, the gate is
+running, LOG has what it said so far, each line behind a number, and a crate's edits are tried as soon as its libraries are proved. With
+--write any goal counts that is open in a function that an edit names, and those that are go into its lines `refused:`. The last line is 'N
+passed, M failed'.
+"""
+import argparse
+import collections
+import concurrent.futures
+import dataclasses
+import os
+import re
+import subprocess
+import sys
+import tempfile
+import time
+
+sys.dont_write_bytecode = True
+from archive import CRATES, copied, every_crate, kit_folder, not_new, words
+from crates import below
+from edits import EDITS, edits_of, pairs, refusals
+
+# An error at a goal of a function's proof file, and the goals that are open where there is no file or it doesn't have them.
+AT_GOAL = re.compile(r"\./proofs/(\S+)/(?:Answers|Invariants|Proof)\.antt:\d+:\d+: error: `([^`]+)`(.*)")
+OPEN = re.compile(r"fn \w+?::(\S+): .*?`search` did not prove ((?:`[^`]+`(?:, )?)+)")
+# What is said of a proof file that names what an edit took away, which says nothing of the contract.
+GONE = re.compile(r"has no field|is not in scope|has no `|was not admitted")
+# How many edits are tried in one check: the more, the more memory it takes, which is 3 to 4 GB of the largest crate by so many.
+MOST = 45
+FAULT = re.compile(r"\S+:\d+:\d+: error\[[\w-]+\]|rattle: .*")
+
+
+@dataclasses.dataclass(frozen=True)
+class Edit:
+    """An edit of a crate: its file, the texts that it replaces in which file, and the goals that refuse it by their functions."""
+
+    path: str
+    pairs: tuple
+    refusals: dict
+
+    @property
+    def name(self):
+        return os.path.basename(self.path)[: -len(".edit")]
+
+    def made_in(self, texts, folder):
+        """The files that it changes, as they stand then, or None where a text that it replaces doesn't stand there once."""
+        made = {}
+        for path, old, new in self.pairs:
+            if path not in texts and path not in made:
+                with open(os.path.join(folder, path), encoding="utf-8") as file:
+                    made[path] = file.read()
+            text = made.get(path, texts.get(path))
+            if text.count(old) != 1:
+                return None
+            made[path] = text.replace(old, new)
+        return made
+
+    def is_refused(self, opened):
+        """Whether all its goals are among those that are open."""
+        return all(opened[function] and goals <= opened[function] for function, goals in self.refusals.items())
+
+
+def read_edits(crate):
+    for path in edits_of(crate)[0]:
+        yield Edit(path, tuple(pairs(path)), {function: set(goals) for function, goals in refusals(path)})
+
+
+def write_goals(edit, opened):
+    """Has an edit say at which goals it is refused."""
+    with open(edit.path, encoding="utf-8") as file:
+        lines = [line for line in file if not line.startswith("refused: ")]
+    with open(edit.path, "w", encoding="utf-8") as file:
+        file.writelines([*lines, *(f"refused: {it} {' '.join(sorted(opened[it]))}\n" for it in edit.refusals)])
+
+
+def open_goals(said):
+    """The goals that a check left open, by their functions. A goal that only waits for a function that is called isn't among them."""
+    opened = collections.defaultdict(set)
+    for line in said.split("\n"):
+        if (at := AT_GOAL.match(line)) and not GONE.search(at[3]):
+            opened[at[1].replace("/", "::")].add(at[2])
+        elif at := OPEN.match(line):
+            opened[at[1]].update(re.findall(r"`([^`]+)`", at[2]))
+    return opened
+
+
+def apply(edits, folder):
+    """Makes edits in a crate, of those that leave alone what others changed, and answers these."""
+    texts, functions, made = {}, set(), []
+    for edit in edits:
+        is_apart = len(made) < MOST and not functions & set(edit.refusals)
+        changed = edit.made_in(texts, folder) if is_apart else None
+        if changed is not None:
+            texts.update(changed)
+            functions.update(edit.refusals)
+            made.append(edit)
+    for path, text in texts.items():
+        with open(os.path.join(folder, path), "w", encoding="utf-8") as file:
+            file.write(text)
+    return made
+
+
+def check(crate, edits, kept):
+    """Tries some of the edits in one check, and answers these, the goals that are open, and what is wrong with the check itself."""
+    kit = kit_folder()
+    with tempfile.TemporaryDirectory() as folder:
+        place = copied(crate, folder)
+        made = apply(edits, place)
+        command = [f"{kit}/bin/rattle", "check", *words(crate, every_crate(), kit), "--incremental", kept]
+        # (functions that call one another have one proof, PATH::+CYCLE, and are asked for by their path)
+        for path in sorted({it.partition("::+")[0] for edit in made for it in edit.refusals}):
+            command += ["--only", path]
+        ran = subprocess.run(command, cwd=place, stdout=subprocess.PIPE, stderr=subprocess.STDOUT, text=True, errors="replace")
+    faults = [line[:300] for line in ran.stdout.split("\n") if FAULT.match(line)]
+    if not faults and not re.search(r"^only=\d+ proved=\d+\n?\Z", ran.stdout, re.M):
+        faults = [f"the check ended with status {ran.returncode}: {ran.stdout[-300:]}"]
+    return made, open_goals(ran.stdout), faults
+
+
+def try_edits(crate, is_written):
+    """Tries each edit of a crate, and answers what is said of it, by its name, and what else was wrong."""
+    left, said, wrong = list(read_edits(crate)), {}, []
+    if is_written:
+        left = [dataclasses.replace(edit, refusals=dict.fromkeys(edit.refusals, set())) for edit in left]
+    with tempfile.TemporaryDirectory() as kept:
+        while left:
+            made, opened, faults = check(crate, left, kept)
+            named = {function for edit in made for function in edit.refusals}
+            strays = sorted(set(opened) - named)
+            wrong += [*faults, *(f"{it} is open by itself, at {', '.join(sorted(opened[it]))}, and no edit names it" for it in strays)]
+            seen = [] if faults else [edit for edit in made if edit.is_refused(opened)]
+            for edit in seen:
+                at = (f"{function} at {', '.join(sorted(opened[function]))}" for function in edit.refusals)
+                said[edit.name] = "refused: " + "; ".join(at)
+                if is_written:
+                    write_goals(edit, opened)
+            if not seen:
+                wrong += [f"{edit.name} IS NOT REFUSED at what it names: {dict(edit.refusals)}" for edit in left]
+                break
+            left = [edit for edit in left if edit not in seen]
+    return said, wrong
+
+
+def wait_for(libraries, log):
+    """Waits until the gate has proved these libraries, and says whether it did."""
+    while True:
+        with open(log, encoding="utf-8", errors="replace") as file:
+            said = file.read()
+        if set(libraries) <= set(re.findall(r"^\d+ rt: (\w+) (?:proved$|is kept:)", said, re.M)):
+            return True
+        if re.search(r"^\d+ the gate ended$", said, re.M):
+            return False
+        time.sleep(1)
+
+
+def tried(crate, log, is_written):
+    """Tries a crate's edits behind the proofs of its libraries, says what came of each, and answers how many passed and failed."""
+    began, crates = time.monotonic(), every_crate()
+    if log and not wait_for(below(crates[crate][1], crates), log):
+        print(f"{crate}: its libraries aren't proved", flush=True)
+        return 0, len(list(read_edits(crate)))
+    waited = time.monotonic() - began
+    said, wrong = try_edits(crate, is_written)
+    lines = [f"edit {crate}/{name}: {what}" for name, what in sorted(said.items())] + [f"{crate}: {it}" for it in wrong]
+    lines.append(f"{crate}: {len(said)} edits are refused, {len(wrong)} failures, {time.monotonic() - began - waited:.0f} s")
+    print("\n".join(lines), flush=True)
+    return len(said), len(wrong)
+
+
+def main():
+    parser = argparse.ArgumentParser(description="Tries the edits that the prover must refuse.")
+    parser.add_argument("--gate", metavar="LOG")
+    parser.add_argument("--jobs", metavar="N", type=int, default=4)
+    parser.add_argument("--write", action="store_true")
+    parser.add_argument("crates", nargs="*", default=sorted(os.listdir(EDITS)))
+    given = parser.parse_args()
+    crates = every_crate()
+    names = sorted(given.crates, key=lambda it: len(below([it], crates)))
+    if not given.gate:
+        for library in dict.fromkeys(it for name in names for it in not_new(name, crates)):
+            subprocess.run(["rt", "lib"], cwd=os.path.join(CRATES, library), check=True)
+    with concurrent.futures.ThreadPoolExecutor(given.jobs) as pool:
+        counts = list(pool.map(lambda it: tried(it, given.gate, given.write), names))
+    failed = sum(count for _, count in counts)
+    print(f"{sum(count for count, _ in counts)} passed, {failed} failed")
+    return 1 if failed else 0
+
+
+if __name__ == "__main__":
+    sys.exit(main())
