@@ -2,7 +2,5 @@
 #![tactic(auto)]
 
 mod cache;
-#[cfg(test)]
-mod tests;
 
 pub use cache::Cache;

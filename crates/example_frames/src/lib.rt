@@ -3,8 +3,6 @@
 
 mod frames;
 mod request;
-#[cfg(test)]
-mod tests;
 
 pub use frames::{Refusal, next_request, write_request};
 pub use request::Request;

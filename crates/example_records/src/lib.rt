@@ -2,7 +2,5 @@
 #![tactic(auto)]
 
 mod records;
-#[cfg(test)]
-mod tests;
 
 pub use records::{Records, next_record, replay};

@@ -2,11 +2,17 @@
 #![tactic(auto)]
 
 #[cfg(test)]
+mod cache;
+#[cfg(test)]
 mod derived;
+#[cfg(test)]
+mod frames;
 #[cfg(test)]
 mod lines;
 #[cfg(test)]
 mod reads;
+#[cfg(test)]
+mod records;
 #[cfg(test)]
 mod recursive;
 #[cfg(test)]

@@ -1,5 +1,5 @@
-//! Peers that keep to the protocol, and hostile ones.
-use crate::{Refusal, Request, next_request, write_request};
+//! What the calls of the example `example_frames` come to: peers that keep to the protocol, and hostile ones.
+use example_frames::{Refusal, Request, next_request, write_request};
 use rmp_serde::Value;
 use rmp_serde::decode::{Error, Text};
 use rmp_wire::Marker;

@@ -1,5 +1,5 @@
-//! Questions of several types.
-use crate::Cache;
+//! What the calls of the example `example_cache` come to: questions of several types.
+use example_cache::Cache;
 use rmp_encode::Error;
 
 #[test]

@@ -1,5 +1,5 @@
-//! Records, and a cut one.
-use crate::{Records, replay};
+//! What the calls of the example `example_records` come to: records, and a cut one.
+use example_records::{Records, replay};
 use rmp_serde::Value;
 use rmp_serde::decode::Error;
 
