@@ -1,26 +1,22 @@
 #!/usr/bin/env python3
-"""Tries the edits of tests/edits, many in one check: `tools/refused.py [--gate LOG] [--seeds FOLDER] [--jobs N] [--write] [CRATE..]`.
+"""Tries the edits of tests/edits, many in one check: `tools/refused.py [--gate LOG] [--jobs N] [--write] [CRATE..]`.
 
 A copy of a crate is made, with as many of its edits as leave each other's lines and functions alone, and the functions that they name are
-proved there, with those that these call. An edit is refused where the prover leaves the goals of its lines `refused:` open, each in the
-function that stands before them. A function waits for the proofs of those that it calls: what wasn't seen for that is tried in the next
-check, without the edits that were. A function that no edit names and that is open by itself is told, and counts as a failure.
+proved there, with those that these call, from nothing. An edit is refused where the prover leaves the goals of its lines `refused:` open,
+each in the function that stands before them. A function waits for the proofs of those that it calls: what wasn't seen for that is tried in
+the next check, without the edits that were. A function that no edit names and that is open by itself is told, and counts as a failure.
 
-At most N checks are made side by side. The libraries below a crate are taken as the gate built them. With --gate LOG, the gate is running,
-LOG has what it said so far, each line behind a number, and a crate's edits are tried as soon as its libraries are proved. Where the gate
-tries edits of the crate too, it proves the crate for them into a folder of its own below FOLDER: these edits wait until that is there, and
-each check begins with a copy. With --write any goal counts that is open in a function that an edit names, and those that are go into its
-lines `refused:`. The last line is 'N passed, M failed'.
+Crates are tried side by side, at most N. The libraries below a crate are taken as the gate built them. With --gate LOG, the gate is
+running, LOG has what it said so far, each line behind a number, and a crate's edits are tried as soon as its libraries are proved. With
+--write any goal counts that is open in a function that an edit names, and those that are go into its lines `refused:`. The last line is 'N
+passed, M failed'.
 """
 import argparse
 import collections
 import concurrent.futures
 import dataclasses
-import glob
 import os
 import re
-import shutil
-import signal
 import subprocess
 import sys
 import tempfile
@@ -36,10 +32,8 @@ AT_GOAL = re.compile(r"\./proofs/(\S+)/(?:Answers|Invariants|Proof)\.antt:\d+:\d
 OPEN = re.compile(r"fn \w+?::(\S+): .*?`search` did not prove ((?:`[^`]+`(?:, )?)+)")
 # What is said of a proof file that names what an edit took away, which says nothing of the contract.
 GONE = re.compile(r"has no field|is not in scope|has no `|was not admitted")
-# How many edits are tried in one check: the more, the more memory it takes, which is 3 to 4 GB of the largest crate by so many. Where it
-# begins with what is proved, checks of fewer take hardly longer together, and are made side by side.
+# How many edits are tried in one check: the more, the more memory it takes, which is 3 to 4 GB of the largest crate by so many.
 MOST = 45
-FEW = 22
 FAULT = re.compile(r"\S+:\d+:\d+: error\[[\w-]+\]|rattle: .*")
 
 
@@ -123,28 +117,19 @@ def check(crate, edits, kept):
         # (functions that call one another have one proof, PATH::+CYCLE, and are asked for by their path)
         for path in sorted({it.partition("::+")[0] for edit in made for it in edit.refusals}):
             command += ["--only", path]
-        for _ in range(2):
-            ran = subprocess.run(command, cwd=place, stdout=subprocess.PIPE, stderr=subprocess.STDOUT, text=True, errors="replace")
-            if ran.returncode != -signal.SIGKILL:
-                break
-            # (most likely for memory, and the gate's proofs go on)
+        ran = subprocess.run(command, cwd=place, stdout=subprocess.PIPE, stderr=subprocess.STDOUT, text=True, errors="replace")
     faults = [line[:300] for line in ran.stdout.split("\n") if FAULT.match(line)]
     if not faults and not re.search(r"^only=\d+ proved=\d+\n?\Z", ran.stdout, re.M):
         faults = [f"the check ended with status {ran.returncode}: {ran.stdout[-300:]}"]
     return made, open_goals(ran.stdout), faults
 
 
-def try_edits(crate, left, seed, is_written):
-    """Tries each of these edits of a crate, and answers what is said of it, by its name, and what else was wrong."""
-    said, wrong = {}, []
+def try_edits(crate, is_written):
+    """Tries each edit of a crate, and answers what is said of it, by its name, and what else was wrong."""
+    left, said, wrong = list(read_edits(crate)), {}, []
     if is_written:
         left = [dataclasses.replace(edit, refusals=dict.fromkeys(edit.refusals, set())) for edit in left]
-    with tempfile.TemporaryDirectory() as folder:
-        kept = os.path.join(folder, "kept")
-        if seed:
-            copy_proved(seed, kept)
-        else:
-            os.mkdir(kept)
+    with tempfile.TemporaryDirectory() as kept:
         while left:
             made, opened, faults = check(crate, left, kept)
             named = {function for edit in made for function in edit.refusals}
@@ -163,68 +148,28 @@ def try_edits(crate, left, seed, is_written):
     return said, wrong
 
 
-def copy_proved(folder, to):
-    """Copies what was proved of a crate, by links: a check that proves something else writes the file anew."""
-    shutil.copytree(folder, to, copy_function=lambda one, other: (os.link if one.endswith(".oantt") else shutil.copy2)(one, other))
+def wait_for(libraries, log):
+    """Waits until the gate has proved these libraries, and says whether it did."""
+    while True:
+        with open(log, encoding="utf-8", errors="replace") as file:
+            said = file.read()
+        if set(libraries) <= set(re.findall(r"^\d+ rt: (\w+) (?:proved$|is kept:)", said, re.M)):
+            return True
+        if re.search(r"^\d+ the gate ended$", said, re.M):
+            return False
+        time.sleep(1)
 
 
-@dataclasses.dataclass(frozen=True)
-class Gate:
-    """A gate that is running: the file with what it said so far, and the folder below which it proves crates for their edits."""
-
-    log: str
-    seeds: str | None
-
-    def wait_for(self, crate, libraries):
-        """Waits until the libraries of a crate are proved, and so is the crate for the edits that the gate tries. Says whether they are.
-
-        The lowest crate isn't waited for: while the gate proves it, there is little else to do.
-        """
-        is_begun_with = self.seeds and libraries and len(edits_of(crate)[1]) > 1
-        while True:
-            with open(self.log, encoding="utf-8", errors="replace") as file:
-                said = file.read()
-            done = dict(re.findall(r"^\d+ rt: (\w+) (proved$|is kept:)", said, re.M))
-            is_over = re.search(r"^\d+ the gate ended$", said, re.M)
-            is_tried = re.search(rf"^\d+ rt: {crate}: trying its must-fail edits", said, re.M)
-            if set(libraries) <= set(done) and (is_tried or is_over or not is_begun_with or done.get(crate) == "is kept:"):
-                return True
-            if is_over:
-                return False
-            time.sleep(1)
-
-    def proved(self, crate, to):
-        """Copies what the gate proved of a crate for its edits, and says whether all of it was there."""
-        for seed in glob.glob(os.path.join(self.seeds or "", "rt-edits-*", "seed")):
-            if glob.glob(os.path.join(seed, "*", f"Rattle-{crate}-proofs.*")):
-                try:
-                    copy_proved(seed, to)
-                    return True
-                except (OSError, shutil.Error):
-                    # (the gate has done with it)
-                    return False
-        return False
-
-
-def tried(crate, gate, checks, is_written):
+def tried(crate, log, is_written):
     """Tries a crate's edits behind the proofs of its libraries, says what came of each, and answers how many passed and failed."""
-    edits, crates = list(read_edits(crate)), every_crate()
-    if gate and not gate.wait_for(crate, below(crates[crate][1], crates)):
+    began, crates = time.monotonic(), every_crate()
+    if log and not wait_for(below(crates[crate][1], crates), log):
         print(f"{crate}: its libraries aren't proved", flush=True)
-        return 0, len(edits)
-    began, said, wrong = time.monotonic(), {}, []
-    with tempfile.TemporaryDirectory() as folder:
-        seed = os.path.join(folder, "proved")
-        if not gate or not gate.proved(crate, seed):
-            seed = None
-        many = FEW if seed else len(edits)
-        groups = [edits[at : at + many] for at in range(0, len(edits), many)]
-        for found, other in checks.map(lambda group: try_edits(crate, group, seed, is_written), groups):
-            said.update(found)
-            wrong += other
+        return 0, len(list(read_edits(crate)))
+    waited = time.monotonic() - began
+    said, wrong = try_edits(crate, is_written)
     lines = [f"edit {crate}/{name}: {what}" for name, what in sorted(said.items())] + [f"{crate}: {it}" for it in wrong]
-    over = "over what the gate proved" if seed else "from nothing"
-    lines.append(f"{crate}: {len(said)} edits are refused, {len(wrong)} failures, {time.monotonic() - began:.0f} s, {over}")
+    lines.append(f"{crate}: {len(said)} edits are refused, {len(wrong)} failures, {time.monotonic() - began - waited:.0f} s")
     print("\n".join(lines), flush=True)
     return len(said), len(wrong)
 
@@ -232,20 +177,17 @@ def tried(crate, gate, checks, is_written):
 def main():
     parser = argparse.ArgumentParser(description="Tries the edits that the prover must refuse.")
     parser.add_argument("--gate", metavar="LOG")
-    parser.add_argument("--seeds", metavar="FOLDER")
     parser.add_argument("--jobs", metavar="N", type=int, default=4)
     parser.add_argument("--write", action="store_true")
     parser.add_argument("crates", nargs="*", default=sorted(os.listdir(EDITS)))
     given = parser.parse_args()
     crates = every_crate()
     names = sorted(given.crates, key=lambda it: len(below([it], crates)))
-    gate = Gate(given.gate, given.seeds) if given.gate else None
-    if not gate:
+    if not given.gate:
         for library in dict.fromkeys(it for name in names for it in not_new(name, crates)):
             subprocess.run(["rt", "lib"], cwd=os.path.join(CRATES, library), check=True)
-    pool = concurrent.futures.ThreadPoolExecutor
-    with pool(given.jobs) as checks, pool(len(names)) as waiting:
-        counts = list(waiting.map(lambda it: tried(it, gate, checks, given.write), names))
+    with concurrent.futures.ThreadPoolExecutor(given.jobs) as pool:
+        counts = list(pool.map(lambda it: tried(it, given.gate, given.write), names))
     failed = sum(count for _, count in counts)
     print(f"{sum(count for count, _ in counts)} passed, {failed} failed")
     return 1 if failed else 0
