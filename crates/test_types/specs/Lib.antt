@@ -1,1 +1,5 @@
 pub mod Optional
+pub mod Recursive
+pub mod Layers
+pub mod Induction
+pub mod ReadBack

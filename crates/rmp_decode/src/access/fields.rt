@@ -32,9 +32,9 @@ use rmp_wire::config::SerializerConfig;
 use rmp_wire::{Head, ReadSlice, Source};
 
 /// The fields of a struct in the order of their names: a pair of the first one's value and the others, or `()` for none.
-pub trait Fields<'de, R: ReadSlice<'de>>: Sized {
+pub trait Fields<'de, R: ReadSlice<'de>>: Sized + Drop {
     /// What was read of them so far.
-    type Slots;
+    type Slots: Drop;
 
     // How many there are.
     ghost count: { ℕ };
@@ -101,13 +101,6 @@ pub trait Fields<'de, R: ReadSlice<'de>>: Sized {
     fn finish(slots: Self::Slots) -> Option<Self>
         ensures { (human lends : Bool) (fs : List (Option Msg)) → holds human lends fs slots
             → MatchOption result ((v : Self) → reads human lends fs v → ⊥) (reads human lends fs) };
-
-    /// Drops what was read so far, by a call for each field: a bound in its place would have each caller prove how the pairs are dropped, at
-    /// each of their levels.
-    fn discard(slots: Self::Slots);
-
-    /// Drops the values, by a call for each field.
-    fn discard_values(self);
 
     /// Reads as many messages as there are fields, one after another, each into the place of its field, and says whether none was
     /// refused. Why one was is put into `refusal`, beside the answer, so that no read carries room for an error along.
@@ -190,10 +183,6 @@ impl<'de, R: ReadSlice<'de>> Fields<'de, R> for () {
     fn finish(_slots: ()) -> Option<()> {
         Some(())
     }
-
-    fn discard(_slots: ()) {}
-
-    fn discard_values(self) {}
 
     #[inline(always)]
     fn row<C: SerializerConfig>(
@@ -283,24 +272,13 @@ impl<'de, R: ReadSlice<'de>, A: Deserialize<'de, R>, B: Fields<'de, R>> Fields<'
             Some(first) => first,
             None => match A::missing() {
                 Some(first) => first,
-                None => {
-                    B::discard(others);
-                    return None;
-                }
+                None => return None,
             },
         };
         match B::finish(others) {
             Some(others) => Some((first, others)),
             None => None,
         }
-    }
-
-    fn discard(slots: (Option<A>, B::Slots)) {
-        B::discard(slots.1);
-    }
-
-    fn discard_values(self) {
-        B::discard_values(self.1);
     }
 
     #[inline(always)]
@@ -585,7 +563,6 @@ impl<R: Source, C: SerializerConfig> Deserializer<R, C> {
                 None => unreachable!(),
             }
         } else {
-            F::discard(slots);
             self.room = outer;
             match refusal {
                 Some(e) => Err(e),
@@ -632,10 +609,7 @@ impl<R: Source, C: SerializerConfig> Deserializer<R, C> {
         };
         match seq.end() {
             Ok(()) => Ok(values),
-            Err(e) => {
-                values.discard_values();
-                Err(e)
-            }
+            Err(e) => Err(e),
         }
     }
 
@@ -685,10 +659,7 @@ impl<R: Source, C: SerializerConfig> Deserializer<R, C> {
                 };
                 match seq.end() {
                     Ok(()) => Ok(values),
-                    Err(e) => {
-                        values.discard_values();
-                        Err(e)
-                    }
+                    Err(e) => Err(e),
                 }
             }
             Ok(FieldParts::Map(mut map)) => {
@@ -697,22 +668,15 @@ impl<R: Source, C: SerializerConfig> Deserializer<R, C> {
                 while map.left > 0 {
                     let place = match map.next_place(names, &mut refusal) {
                         Some(place) => place,
-                        None => {
-                            F::discard(slots);
-                            return Err(given(refusal));
-                        }
+                        None => return Err(given(refusal)),
                     };
                     if place >= names.len() {
                         match map.next_value::<Passed>() {
                             Ok(_) => continue,
-                            Err(e) => {
-                                F::discard(slots);
-                                return Err(e);
-                            }
+                            Err(e) => return Err(e),
                         }
                     }
                     if !F::fill(&mut slots, &mut refusal, place, &mut map) {
-                        F::discard(slots);
                         return Err(given(refusal));
                     }
                 }
@@ -721,10 +685,7 @@ impl<R: Source, C: SerializerConfig> Deserializer<R, C> {
                 };
                 match map.end() {
                     Ok(()) => Ok(values),
-                    Err(e) => {
-                        values.discard_values();
-                        Err(e)
-                    }
+                    Err(e) => Err(e),
                 }
             }
             Err(e) => Err(e),

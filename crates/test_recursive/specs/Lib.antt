@@ -1,4 +1,0 @@
-pub mod Recursive
-pub mod Layers
-pub mod Induction
-pub mod ReadBack
