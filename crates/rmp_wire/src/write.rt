@@ -114,16 +114,18 @@ pub fn write_sint<W: Sink>(sink: &mut W, z: i64) -> Result<(), ValueWriteError>
     if z >= 0 {
         return write_uint(sink, z.cast_unsigned());
     }
-    if z >= -32 {
+    // -1 - z, the number whose width is asked
+    let below = z.unsigned_abs() - 1;
+    if below < 32 {
         return put_marker(sink, Marker::FixNeg(z as i8));
     }
-    if z >= i64::from(i8::MIN) {
+    if below < 1 << 7 {
         return put_8(sink, Marker::I8, (z as i8).cast_unsigned());
     }
-    if z >= i64::from(i16::MIN) {
+    if below < 1 << 15 {
         return put_16(sink, Marker::I16, (z as i16).cast_unsigned());
     }
-    if z >= i64::from(i32::MIN) {
+    if below < 1 << 31 {
         return put_32(sink, Marker::I32, (z as i32).cast_unsigned());
     }
     put_64(sink, Marker::I64, z.cast_unsigned())

@@ -1,5 +1,1 @@
 pub mod Optional
-pub mod Recursive
-pub mod Layers
-pub mod Induction
-pub mod ReadBack

@@ -5,7 +5,7 @@ use rmp_wire::ReadRefReader;
 use std::alloc::Global;
 use std::process::Abort;
 use std::test::Fail;
-use test_types::{Nested, Rose, Tree};
+use test_recursive::{Nested, Rose, Tree};
 
 const TREE: &[u8] = b"\x81\xa4Node\x92\x81\xa4Leaf\x01\x81\xa4Node\x90";
 

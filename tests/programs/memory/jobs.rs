@@ -8,7 +8,8 @@ use rmp_wire::{ByteBuf, Ext, ReadRefReader};
 use std::alloc::Global;
 use std::collections::{BTreeMap, BTreeSet, VecDeque};
 use test_derived::{Counted, Dog, Four};
-use test_types::{Nested as Lists, Rose, Tree, UnkMap, UnkSeq};
+use test_recursive::{Nested as Lists, Rose, Tree};
+use test_types::{UnkMap, UnkSeq};
 
 /// Lists in maps in a list, and texts.
 pub type Nested = Vec<BTreeMap<String, Vec<Vec<u16>>>>;

@@ -4,7 +4,7 @@ ghost use Rattle.rmp_decode.specs.Read.{IsUnsigned};
 ghost use Rattle.rmp_decode.specs.Rows.{ReadsEach};
 ghost use Rattle.rmp_decode.specs.Seq.{OfRow};
 ghost use Rattle.std.specs.Prelude.{None, ⊤};
-ghost use Rattle.test_types.specs.Recursive.{IsNested, IsTree, IsRose, nested_data, tree_data, tree_fits, rose_data};
+ghost use Rattle.test_recursive.specs.Recursive.{IsNested, IsTree, IsRose, nested_data, tree_data, tree_fits, rose_data};
 
 use rmp_decode::{Deserialize, Deserializer, ReadContent, ReadPlaces, Slices};
 use rmp_encode::{Serialize, Serializer};

@@ -5,13 +5,13 @@ use Rattle.rmp_encode.specs.Trees.{byte_of}
 use Rattle.rmp_encode.proofs.Packing.{slice_no_byte}
 use Rattle.rmp_encode.proofs.Fields.{structure_no_byte}
 use Rattle.rmp_encode.proofs.Variants.{newtype_no_byte}
-use Rattle.test_types.specs.declared.recursive.Nested.{Nested}
-use Rattle.test_types.specs.declared.recursive.Rose.{Rose}
-use Rattle.test_types.specs.declared.recursive.Tree.{Tree}
-use Rattle.test_types.specs.declared.recursive.Tree.TheFolds.{fold_out-Tree}
-use Rattle.test_types.specs.declared.recursive.Tree.TheOpen.{Tree-F}
-use Rattle.test_types.specs.Recursive.{nested_data, tree_level, tree_data, rose_data}
-use Rattle.test_types.specs.Induction.{nested_is, rose_is}
+use Rattle.test_recursive.specs.declared.recursive.Nested.{Nested}
+use Rattle.test_recursive.specs.declared.recursive.Rose.{Rose}
+use Rattle.test_recursive.specs.declared.recursive.Tree.{Tree}
+use Rattle.test_recursive.specs.declared.recursive.Tree.TheFolds.{fold_out-Tree}
+use Rattle.test_recursive.specs.declared.recursive.Tree.TheOpen.{Tree-F}
+use Rattle.test_recursive.specs.Recursive.{nested_data, tree_level, tree_data, rose_data}
+use Rattle.test_recursive.specs.Induction.{nested_is, rose_is}
 
 pub nested_no_byte : (v : Nested) → byte_of (nested_data v) ≡ None
 nested_no_byte v = ap byte_of (nested_is v) ∙ slice_no_byte _

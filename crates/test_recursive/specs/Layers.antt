@@ -6,10 +6,10 @@ use Rattle.rmp_decode.specs.Law.{Readable}
 use Rattle.rmp_decode.specs.Rows.{ReadsEach}
 use Rattle.rmp_decode.specs.Seq.{numbers}
 use Rattle.rmp_decode.specs.Variants.{OfVariant, variant_of}
-use Rattle.test_types.specs.declared.recursive.Nested.{Nested, out-Nested}
-use Rattle.test_types.specs.declared.recursive.Rose.{Rose, out-Rose}
-use Rattle.test_types.specs.declared.recursive.Tree.{Tree}
-use Rattle.test_types.specs.Recursive.{
+use Rattle.test_recursive.specs.declared.recursive.Nested.{Nested, out-Nested}
+use Rattle.test_recursive.specs.declared.recursive.Rose.{Rose, out-Rose}
+use Rattle.test_recursive.specs.declared.recursive.Tree.{Tree}
+use Rattle.test_recursive.specs.Recursive.{
   Row,
   InSteps,
   NestedIn,

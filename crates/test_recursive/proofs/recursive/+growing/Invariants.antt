@@ -1,10 +1,10 @@
 use Rattle.std.proofs.Common.{◌+◌, ◌*◌}
 use Rattle.rmp_decode.proofs.Seqs.{Values}
 use Rattle.rmp_decode.proofs.StructRuns.{StructRun}
-use Rattle.test_types.specs.Recursive.{IsRose, rose_names}
-use Rattle.test_types.proofs.Roses.{KidsRead}
-use Rattle.test_types.proofs.Steps.{steps_at}
-use Rattle.test_types.proofs.recursive.+growing.Given as goal
+use Rattle.test_recursive.specs.Recursive.{IsRose, rose_names}
+use Rattle.test_recursive.proofs.Roses.{KidsRead}
+use Rattle.test_recursive.proofs.Steps.{steps_at}
+use Rattle.test_recursive.proofs.recursive.+growing.Given as goal
 
 -- The fields of a node nest below it, and so does an element of a list, unless it is a number out of bytes.
 abbrev pub decreases-read_rose : goal.decreases-read_rose

@@ -1,7 +1,7 @@
 use Rattle.rmp_decode.proofs.Seqs.{Values}
-use Rattle.test_types.specs.Recursive.{IsNested}
-use Rattle.test_types.proofs.Steps.{steps_at}
-use Rattle.test_types.proofs.recursive.+read_nested.Given as goal
+use Rattle.test_recursive.specs.Recursive.{IsNested}
+use Rattle.test_recursive.proofs.Steps.{steps_at}
+use Rattle.test_recursive.proofs.recursive.+read_nested.Given as goal
 
 abbrev pub decreases-read_nested : goal.decreases-read_nested
 decreases-read_nested g l = steps_at l.de.now

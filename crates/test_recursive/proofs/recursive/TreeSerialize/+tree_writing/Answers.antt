@@ -1,11 +1,11 @@
 use Rattle.std.proofs.Common.{◌∙◌, ap, sym, Result, Ok, Err}
 use Rattle.std.specs.Result.{OnOk}
-use Rattle.test_types.specs.Induction.{fits_in, all_by}
-use Rattle.test_types.specs.declared.recursive.Tree.{out-Tree}
-use Rattle.test_types.specs.declared.recursive.Tree.TheOpen.{Tree-F}
-use Rattle.test_types.specs.declared.recursive.Tree.TheVariants.{rolls-Leaf, rolls-Node}
-use Rattle.test_types.specs.declared.recursive.Tree.TheViews.{out-roll-Tree}
-use Rattle.test_types.proofs.recursive.TreeSerialize.+tree_writing.Goals as goal
+use Rattle.test_recursive.specs.Induction.{fits_in, all_by}
+use Rattle.test_recursive.specs.declared.recursive.Tree.{out-Tree}
+use Rattle.test_recursive.specs.declared.recursive.Tree.TheOpen.{Tree-F}
+use Rattle.test_recursive.specs.declared.recursive.Tree.TheVariants.{rolls-Leaf, rolls-Node}
+use Rattle.test_recursive.specs.declared.recursive.Tree.TheViews.{out-roll-Tree}
+use Rattle.test_recursive.proofs.recursive.TreeSerialize.+tree_writing.Goals as goal
 
 on_ok : {A E : Type 0} (r : Result A E) (P Q : Type 0) → (P → Q) → OnOk r P → OnOk r Q
 on_ok (Ok x) P Q f h = f h

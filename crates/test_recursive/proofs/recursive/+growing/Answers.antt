@@ -11,14 +11,14 @@ use Rattle.rmp_decode.proofs.Seqs.{values_start, values_step, via}
 use Rattle.rmp_decode.proofs.StructRuns.{struct_start, struct_step, struct_place, struct_value, struct_met, struct_missing, struct_over, struct_done}
 use Rattle.rmp_decode.proofs.StructRuns.{slot_first, slot_field, slot_gap, slot_lacks}
 use Rattle.rmp_decode.proofs.Structs.{fields_unopened}
-use Rattle.test_types.specs.declared.recursive.Rose.{Rose, out-Rose, out-roll-Rose}
-use Rattle.test_types.specs.Recursive.{Row, IsRose, RoseFields, rose_names}
-use Rattle.test_types.specs.Layers.{IsNode, rose_made, rose_node}
-use Rattle.test_types.proofs.Roses.{KidsRead, kids_named, roses_row, roses_done, field_steps, same_then}
-use Rattle.test_types.proofs.Steps.{row_unopened, row_refused, row_unkept, part_steps, steps_at, lent_law}
-use Rattle.test_types.proofs.Steps.{item_taken, item_refused, some_if, some_if_err, none_left, never_none}
-use Rattle.test_types.proofs.recursive.+growing.Goals as goal
-use Rattle.test_types.proofs.recursive.+growing.Goals.{read_rose-in-Some, read_rose-in-None+in-Ok-missing_field_or}
+use Rattle.test_recursive.specs.declared.recursive.Rose.{Rose, out-Rose, out-roll-Rose}
+use Rattle.test_recursive.specs.Recursive.{Row, IsRose, RoseFields, rose_names}
+use Rattle.test_recursive.specs.Layers.{IsNode, rose_made, rose_node}
+use Rattle.test_recursive.proofs.Roses.{KidsRead, kids_named, roses_row, roses_done, field_steps, same_then}
+use Rattle.test_recursive.proofs.Steps.{row_unopened, row_refused, row_unkept, part_steps, steps_at, lent_law}
+use Rattle.test_recursive.proofs.Steps.{item_taken, item_refused, some_if, some_if_err, none_left, never_none}
+use Rattle.test_recursive.proofs.recursive.+growing.Goals as goal
+use Rattle.test_recursive.proofs.recursive.+growing.Goals.{read_rose-in-Some, read_rose-in-None+in-Ok-missing_field_or}
 
 abbrev Fields : List (Option Msg) → Rose → Type 0
 Fields fs v = RoseFields IsRose fs v

@@ -1,7 +1,7 @@
 use Rattle.std.proofs.Common.{◌+◌, ◌*◌, max}
 use Rattle.rmp_decode.proofs.Seqs.{Values}
-use Rattle.test_types.specs.Recursive.{IsTree}
-use Rattle.test_types.proofs.recursive.+reading.Given as goal
+use Rattle.test_recursive.specs.Recursive.{IsTree}
+use Rattle.test_recursive.proofs.recursive.+reading.Given as goal
 
 -- The content of a variant nests below it, and an element no deeper than its list.
 abbrev pub decreases-read_tree : goal.decreases-read_tree

@@ -10,15 +10,15 @@ use Rattle.rmp_decode.specs.Seq.{OfRow}
 use Rattle.rmp_decode.specs.Variants.{OfVariant, Case, NoCase, Content}
 use Rattle.rmp_encode.specs.Data.{Data, byte}
 use Rattle.rmp_encode.specs.Trees.{slice_of, structure_of, newtype_variant_of}
-use Rattle.test_types.specs.declared.recursive.Nested.{Nested, out-Nested}
-use Rattle.test_types.specs.declared.recursive.Nested.TheFolds.{fold-Nested}
-use Rattle.test_types.specs.declared.recursive.Nested.TheOpen.{Nested-F}
-use Rattle.test_types.specs.declared.recursive.Rose.{Rose, out-Rose}
-use Rattle.test_types.specs.declared.recursive.Rose.TheFolds.{fold-Rose}
-use Rattle.test_types.specs.declared.recursive.Rose.TheOpen.{Rose-F}
-use Rattle.test_types.specs.declared.recursive.Tree.{Tree, out-Tree}
-use Rattle.test_types.specs.declared.recursive.Tree.TheFolds.{fold-Tree, rec-Tree}
-use Rattle.test_types.specs.declared.recursive.Tree.TheOpen.{Tree-F}
+use Rattle.test_recursive.specs.declared.recursive.Nested.{Nested, out-Nested}
+use Rattle.test_recursive.specs.declared.recursive.Nested.TheFolds.{fold-Nested}
+use Rattle.test_recursive.specs.declared.recursive.Nested.TheOpen.{Nested-F}
+use Rattle.test_recursive.specs.declared.recursive.Rose.{Rose, out-Rose}
+use Rattle.test_recursive.specs.declared.recursive.Rose.TheFolds.{fold-Rose}
+use Rattle.test_recursive.specs.declared.recursive.Rose.TheOpen.{Rose-F}
+use Rattle.test_recursive.specs.declared.recursive.Tree.{Tree, out-Tree}
+use Rattle.test_recursive.specs.declared.recursive.Tree.TheFolds.{fold-Tree, rec-Tree}
+use Rattle.test_recursive.specs.declared.recursive.Tree.TheOpen.{Tree-F}
 
 -- a list, or bytes as the list of their numbers, of which each item is read so
 abbrev pub Row : {V : Type 0} → (Msg → V → Type 0) → Msg → List V → Type 0

@@ -2,8 +2,8 @@ use Rattle.std.proofs.Common.{rules, refl}
 use Rattle.std.proofs.lemmas.Result.{err_from_is_err_and}
 use Rattle.rmp_encode.proofs.Going.{unopened}
 use Rattle.rmp_encode.proofs.Parts.{rests_at, part_memory}
-use Rattle.test_types.specs.Induction.{rose_is}
-use Rattle.test_types.proofs.recursive.RoseSerialize.+rose_writing.Goals as goal
+use Rattle.test_recursive.specs.Induction.{rose_is}
+use Rattle.test_recursive.proofs.recursive.RoseSerialize.+rose_writing.Goals as goal
 
 pub returns-in_err-fields-clause-writes : goal.returns-in_err-fields-clause-writes
 returns-in_err-fields-clause-writes g t c =

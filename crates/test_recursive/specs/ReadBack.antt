@@ -16,12 +16,12 @@ use Rattle.rmp_serde.specs.RoundTrip.{LowersTo}
 use Rattle.rmp_serde.specs.Rounds.{parts_cons, slice_some, each_row, slice_row, slice_other}
 use Rattle.rmp_serde.specs.StructRounds.{structure_all, structure_row, structure_other, fields_cons, fields_none}
 use Rattle.rmp_serde.specs.VariantRounds.{newtype_variant_some, newtype_variant_row, newtype_variant_other}
-use Rattle.test_types.specs.declared.recursive.Nested.{Nested, out-Nested}
-use Rattle.test_types.specs.declared.recursive.Rose.{Rose, out-Rose}
-use Rattle.test_types.specs.declared.recursive.Tree.{Tree, out-Tree}
-use Rattle.test_types.specs.declared.recursive.Tree.TheFolds.{map-Tree, fold_out-Tree}
-use Rattle.test_types.specs.declared.recursive.Tree.TheOpen.{Tree-F}
-use Rattle.test_types.specs.Recursive.{
+use Rattle.test_recursive.specs.declared.recursive.Nested.{Nested, out-Nested}
+use Rattle.test_recursive.specs.declared.recursive.Rose.{Rose, out-Rose}
+use Rattle.test_recursive.specs.declared.recursive.Tree.{Tree, out-Tree}
+use Rattle.test_recursive.specs.declared.recursive.Tree.TheFolds.{map-Tree, fold_out-Tree}
+use Rattle.test_recursive.specs.declared.recursive.Tree.TheOpen.{Tree-F}
+use Rattle.test_recursive.specs.Recursive.{
   Row,
   IsNested,
   IsTree,
@@ -36,8 +36,8 @@ use Rattle.test_types.specs.Recursive.{
   rose_data,
   tree_fits,
 }
-use Rattle.test_types.specs.Induction.{nested_induction, rose_induction, tree_induction, OfKids, LayerFits, fits_out, nested_is, rose_is}
-use Rattle.test_types.specs.Layers.{nested_made, tree_made, rose_made}
+use Rattle.test_recursive.specs.Induction.{nested_induction, rose_induction, tree_induction, OfKids, LayerFits, fits_out, nested_is, rose_is}
+use Rattle.test_recursive.specs.Layers.{nested_made, tree_made, rose_made}
 
 -- ---- no value is refused
 

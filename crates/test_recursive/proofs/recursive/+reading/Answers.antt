@@ -6,13 +6,13 @@ use Rattle.rmp_decode.proofs.Seqs.{values_start, values_step, via}
 use Rattle.rmp_decode.specs.Read.{IsUnsigned}
 use Rattle.rmp_decode.specs.Variants.{OfVariant, Content}
 use Rattle.rmp_decode.proofs.Variants.{variant_ok, variant_err, variant_unopened, readable, given_read, given_refused}
-use Rattle.test_types.specs.declared.recursive.Tree.{Tree, out-Tree, out-roll-Tree}
-use Rattle.test_types.specs.declared.recursive.Tree.TheVariants.{rolls-Leaf, rolls-Node}
-use Rattle.test_types.specs.Recursive.{Row, IsTree, TreeCase, tree_names}
-use Rattle.test_types.specs.Layers.{tree_made, tree_variant}
-use Rattle.test_types.proofs.Steps.{trees_row, trees_done, tree_node, row_unopened, row_refused, row_unkept}
-use Rattle.test_types.proofs.Steps.{part_room, content_room_falls, lent_law, item_taken, item_refused, some_if, some_if_err, none_left, never_none}
-use Rattle.test_types.proofs.recursive.+reading.Goals as goal
+use Rattle.test_recursive.specs.declared.recursive.Tree.{Tree, out-Tree, out-roll-Tree}
+use Rattle.test_recursive.specs.declared.recursive.Tree.TheVariants.{rolls-Leaf, rolls-Node}
+use Rattle.test_recursive.specs.Recursive.{Row, IsTree, TreeCase, tree_names}
+use Rattle.test_recursive.specs.Layers.{tree_made, tree_variant}
+use Rattle.test_recursive.proofs.Steps.{trees_row, trees_done, tree_node, row_unopened, row_refused, row_unkept}
+use Rattle.test_recursive.proofs.Steps.{part_room, content_room_falls, lent_law, item_taken, item_refused, some_if, some_if_err, none_left, never_none}
+use Rattle.test_recursive.proofs.recursive.+reading.Goals as goal
 
 pub read_trees-returns-in_err-seq : goal.read_trees-returns-in_err-seq
 read_trees-returns-in_err-seq g t c =

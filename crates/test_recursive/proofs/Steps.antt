@@ -26,11 +26,11 @@ use Rattle.rmp_decode.proofs.HeadTaken.{fits_byte}
 use Rattle.rmp_decode.proofs.Seqs.{Values, each_next, seq_unopened, seq_take, seq_done, seq_unkept}
 use Rattle.rmp_decode.proofs.Variants.{variant_ok}
 use Rattle.rmp_decode.proofs.ElementWiths.{with_taken, with_refused}
-use Rattle.test_types.specs.declared.recursive.Nested.{Nested, out-Nested}
-use Rattle.test_types.specs.declared.recursive.Tree.{Tree, out-Tree}
-use Rattle.test_types.specs.declared.recursive.Tree.TheOpen.{Tree-F}
-use Rattle.test_types.specs.Recursive.{Row, IsNested, tree_names, TreeCase, IsTree}
-use Rattle.test_types.specs.Layers.{nested_made, tree_made}
+use Rattle.test_recursive.specs.declared.recursive.Nested.{Nested, out-Nested}
+use Rattle.test_recursive.specs.declared.recursive.Tree.{Tree, out-Tree}
+use Rattle.test_recursive.specs.declared.recursive.Tree.TheOpen.{Tree-F}
+use Rattle.test_recursive.specs.Recursive.{Row, IsNested, tree_names, TreeCase, IsTree}
+use Rattle.test_recursive.specs.Layers.{nested_made, tree_made}
 
 -- the content of a tree was read, that has items
 pub tree_node : {R C : Type 0} (g : Ghosts R) (old new last : Deserializer R C) (ts : Vec Tree Global) (v : Tree) → out-Tree v ≡ Tree-F.Node ts

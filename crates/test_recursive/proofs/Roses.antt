@@ -13,9 +13,9 @@ use Rattle.rmp_decode.specs.declared.access.seq.SeqAccess.{SeqAccess}
 use Rattle.rmp_decode.specs.declared.deserializer.Deserializer.{Deserializer}
 use Rattle.rmp_decode.proofs.Laws.{lawful_ok}
 use Rattle.rmp_decode.proofs.Seqs.{Values}
-use Rattle.test_types.specs.declared.recursive.Rose.{Rose, out-Rose}
-use Rattle.test_types.specs.Recursive.{Row, IsRose, RoseFields}
-use Rattle.test_types.proofs.Steps.{row_done, steps_at, at_most, lent_steps}
+use Rattle.test_recursive.specs.declared.recursive.Rose.{Rose, out-Rose}
+use Rattle.test_recursive.specs.Recursive.{Row, IsRose, RoseFields}
+use Rattle.test_recursive.proofs.Steps.{row_done, steps_at, at_most, lent_steps}
 
 -- what was read of the children
 abbrev pub KidsRead : List (Option Msg) → Option (Vec Rose Global) → Type 0

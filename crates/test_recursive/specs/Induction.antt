@@ -5,17 +5,17 @@ use Rattle.std.specs.Prelude.{⊤, codes}
 use Rattle.rmp_encode.specs.Data.{Data}
 use Rattle.rmp_encode.specs.Trees.{slice_of, structure_of}
 use Rattle.std.proofs.lemmas.List.Elements.{All-nil, All-cons, All-head, All-tail}
-use Rattle.test_types.specs.declared.recursive.Nested.{Nested, out-Nested}
-use Rattle.test_types.specs.declared.recursive.Nested.TheFolds.{ind-Nested, fold_out-Nested}
-use Rattle.test_types.specs.declared.recursive.Nested.TheViews.{roll-Nested, out-roll-Nested}
-use Rattle.test_types.specs.declared.recursive.Rose.{Rose, out-Rose}
-use Rattle.test_types.specs.declared.recursive.Rose.TheFolds.{ind-Rose, fold_out-Rose}
-use Rattle.test_types.specs.declared.recursive.Rose.TheViews.{roll-Rose, out-roll-Rose}
-use Rattle.test_types.specs.declared.recursive.Tree.{Tree, out-Tree}
-use Rattle.test_types.specs.declared.recursive.Tree.TheFolds.{ind-Tree, map-Tree, rec-roll-Tree}
-use Rattle.test_types.specs.declared.recursive.Tree.TheOpen.{Tree-F}
-use Rattle.test_types.specs.declared.recursive.Tree.TheViews.{roll-Tree, out-roll-Tree, roll-out-Tree}
-use Rattle.test_types.specs.Recursive.{layer_fits, tree_fits, nested_level, nested_data, rose_level, rose_data}
+use Rattle.test_recursive.specs.declared.recursive.Nested.{Nested, out-Nested}
+use Rattle.test_recursive.specs.declared.recursive.Nested.TheFolds.{ind-Nested, fold_out-Nested}
+use Rattle.test_recursive.specs.declared.recursive.Nested.TheViews.{roll-Nested, out-roll-Nested}
+use Rattle.test_recursive.specs.declared.recursive.Rose.{Rose, out-Rose}
+use Rattle.test_recursive.specs.declared.recursive.Rose.TheFolds.{ind-Rose, fold_out-Rose}
+use Rattle.test_recursive.specs.declared.recursive.Rose.TheViews.{roll-Rose, out-roll-Rose}
+use Rattle.test_recursive.specs.declared.recursive.Tree.{Tree, out-Tree}
+use Rattle.test_recursive.specs.declared.recursive.Tree.TheFolds.{ind-Tree, map-Tree, rec-roll-Tree}
+use Rattle.test_recursive.specs.declared.recursive.Tree.TheOpen.{Tree-F}
+use Rattle.test_recursive.specs.declared.recursive.Tree.TheViews.{roll-Tree, out-roll-Tree, roll-out-Tree}
+use Rattle.test_recursive.specs.Recursive.{layer_fits, tree_fits, nested_level, nested_data, rose_level, rose_data}
 
 each_holds : {A B : Type 0} (P : A → Type 0) (first : B → A) → ((b : B) → P (first b)) → (bs : List B) → All P (map first bs)
 each_holds P first h [] = All-nil P

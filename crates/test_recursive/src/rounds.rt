@@ -1,6 +1,6 @@
 //! The types that lead back to themselves are read as they were written.
-ghost use Rattle.test_types.specs.ReadBack.{nested_some, nested_round, nested_other, tree_some, tree_round, tree_other};
-ghost use Rattle.test_types.specs.ReadBack.{rose_some, rose_round, rose_other};
+ghost use Rattle.test_recursive.specs.ReadBack.{nested_some, nested_round, nested_other, tree_some, tree_round, tree_other};
+ghost use Rattle.test_recursive.specs.ReadBack.{rose_some, rose_round, rose_other};
 
 use crate::recursive::{Nested, Rose, Tree};
 use rmp_serde::{NeverNil, RoundTrip};

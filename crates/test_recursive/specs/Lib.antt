@@ -1,0 +1,4 @@
+pub mod Recursive
+pub mod Layers
+pub mod Induction
+pub mod ReadBack

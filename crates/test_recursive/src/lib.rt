@@ -1,0 +1,7 @@
+//! Types that lead back to themselves, as users write them by hand, and that they are read as they were written.
+#![tactic(auto)]
+
+mod recursive;
+mod rounds;
+
+pub use recursive::{Nested, Rose, Tree};
