@@ -1,4 +1,5 @@
 """The proofs of what derive.py writes."""
+from derived_terms import nested, place_of
 from imports import imports
 
 # Where the lemmas and signs of the answers come from.
@@ -32,17 +33,13 @@ def tuple_of(words):
     return words[0] if len(words) == 1 else f"({', '.join(words)})"
 
 
-def nested(words):
-    return "".join(f"({word}, " for word in words) + "tt" + ")" * len(words)
-
-
 # The widths of the numbers with a sign.
 SIGNED = {"i8": "w8", "i16": "w16", "i32": "w32", "i64": "w64", "i128": "w128", "isize": "w64"}
 
 
 def part_of(shape, at):
-    """The name of a part that was read: of the only one, of a tuple's or of nested pairs'."""
-    return "first" if shape.kind == "newtype" else "parts" + (".1" * at + ".0" if shape.kind == "named" else f".{at}")
+    """The name of a part that was read: of the only one, of a tuple's or of nested tuples'."""
+    return "first" if shape.kind == "newtype" else "parts" + (place_of(at, len(shape.fields)) if shape.kind == "named" else f".{at}")
 
 
 def held(shape, arm, term):
@@ -63,7 +60,7 @@ def struct_read(shape):
     elif shape.kind == "tuple":
         forth = f"λ m r. ({tuple_of([f'r.0.{field.name}' for field in shape.fields])}, r.1)"
     else:
-        forth = f"λ m r. ({nested([f'r.0.{field.name}' for field in shape.fields])}, r.1)"
+        forth = f"λ m r. ({nested([f'r.0.{field.name}' for field in shape.fields], 'tt')}, r.1)"
     text = answer("returns-in-Ok-clause-law", held(shape, "c.in-Ok", f"lawful_ok _ _ _ _ _ _ _ ({back}) c.in-Ok.ensures.law"))
     text += answer("returns-in-Err-clause-law", f"lawful_err _ _ _ _ _ _ ({forth}) c.in-Err.ensures.law")
     return text + answer("returns-in-Err-clause-refused", f"c.in-Err.ensures.{refused}")
@@ -101,7 +98,7 @@ def variant_read(call, at, shape, count):
         opened = f"(rw c.in-Ok-eq{at}-default.field-0-0-test at c.in-Ok-eq{at}-default.ensures.opened)"
     done = f"λ k h. ({'_, ' * n}refl, h)"
     values = [f"h.{i}" for i in range(n)]
-    value = nested(values) if shape.kind == "named" else tuple_of(values) if n else ""
+    value = nested(values, 'tt') if shape.kind == "named" else tuple_of(values) if n else ""
     back = f"λ v k h. readable _ k {value} h.{n + 1}" if n else "λ v k h. h.1"
     ok = f"variant_ok _ _ _ _ _ _ (search rules) _ {at} _ _ ({done})\n    (c.in-Ok-{call}.ensures.ok _ {at} _ {opened})"
     ok = start + held(shape, f"c.in-Ok-{call}", ok)

@@ -22,9 +22,24 @@ GHOST = {
 }
 
 
-def nested(words):
-    """Pairs of the first and the others, which end in ()."""
-    return "".join(f"({word}, " for word in words) + "()" + ")" * len(words)
+# How many fields stand beside one another where there are as many left.
+GROUP = 4
+
+
+def nested(words, end="()"):
+    """Tuples of the first four and the others, and then pairs of the first and the others, which end in ()."""
+    if not words:
+        return end
+    n = GROUP if len(words) >= GROUP else 1
+    return f"({', '.join(words[:n])}, {nested(words[n:], end)})"
+
+
+def place_of(at, count):
+    """Where the value at a place stands in what so many values are nested as."""
+    whole = count // GROUP
+    if at < whole * GROUP:
+        return ".4" * (at // GROUP) + f".{at % GROUP}"
+    return ".4" * whole + ".1" * (at - whole * GROUP) + ".0"
 
 
 def listed(terms):

@@ -32,17 +32,3 @@ pub struct Counted<T> {
     pub value: T,
     pub count: u64,
 }
-
-/// A dog's papers, of more fields than are handed over at once.
-#[derive(Drop)]
-pub struct Papers {
-    pub number: u64,
-    pub name: String,
-    pub born: u16,
-    pub chip: Option<u64>,
-    pub mother: Option<u64>,
-    pub father: Option<u64>,
-    pub weight: u8,
-    pub height: i8,
-    pub vaccinated: bool,
-}

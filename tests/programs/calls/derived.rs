@@ -8,9 +8,9 @@ use std::alloc::Global;
 use std::io::Cursor;
 use std::test::Fail;
 use test_derived::{
-    Counted, Dog, Event, Four, Label, Line, Mixed, Newtype, Opt, Papers, Piece, Point, Two, Unit,
-    V12,
+    Counted, Dog, Event, Four, Label, Line, Mixed, Newtype, Opt, Piece, Point, Two, Unit, V12,
 };
+use test_wide::{Chart, Papers};
 
 fn dog(alloc: Global, name: &str, age: u16) -> Result<Dog, Fail> {
     Ok(Dog {
@@ -118,6 +118,57 @@ fn many_fields(rt: HostRuntime) -> Result<(), Fail> {
     );
     let read: Result<Papers, Error> = from_slice(rt.alloc(), b"\x81\xa6number\x07");
     assert!(rt; matches!(&read, Err(Error::Syntax(Text::MissingField))));
+    Ok(())
+}
+
+const CHART: &[u8] =
+    b"\xdc\x00\x10\x07\xa1A\xcd\x01\x2c\x09\xff\xd0\xdf\xcd\x80\x00\xd3\xff\xff\xff\xff\x00\x00\x00\x00\
+    \xc3\xc0\xa1B\x92\x01\xcd\x03\xe8\x91\xa1C\x50\x51\xa1D";
+
+const CHART_IN_REVERSE: &[u8] =
+    b"\xde\x00\x0f\xa4last\xa1D\xa5lungs\x51\xa5heart\x50\xa5notes\x91\xa1C\xa5shots\x92\x01\xcd\x03\xe8\
+    \xa5owner\xa1B\xa8neutered\xc3\xa7balance\xd3\xff\xff\xff\xff\x00\x00\x00\x00\xa6offset\xcd\x80\x00\xa5fever\xd0\xdf\
+    \xa6height\xff\xa6weight\x09\xa4born\xcd\x01\x2c\xa4name\xa1A\xa6number\x07";
+
+fn is_chart(chart: &Chart) -> bool {
+    let numbers = matches!(
+        chart,
+        Chart {
+            number: 7,
+            born: 300,
+            weight: 9,
+            height: -1,
+            fever: -33,
+            offset: 32768,
+            balance: -4294967296,
+            neutered: true,
+            chip: None,
+            heart: 80,
+            lungs: 81,
+            ..
+        }
+    );
+    let lists = matches!(chart.shots.as_slice(), [1, 1000])
+        && matches!(chart.notes.as_slice(), [note] if note.as_str() == "C");
+    let owned = matches!(&chart.owner, Some(owner) if owner.as_str() == "B");
+    numbers && lists && owned && chart.name.as_str() == "A" && chart.last.as_str() == "D"
+}
+
+#[test]
+fn as_many_fields_as_may_be(rt: HostRuntime) -> Result<(), Fail> {
+    let read: Result<Chart, Error> = from_slice(rt.alloc(), CHART);
+    assert!(rt; matches!(&read, Ok(chart) if is_chart(chart)));
+    if let Ok(chart) = &read {
+        assert_eq!(rt; to_vec(rt.alloc(), chart)?.as_slice(), CHART);
+    }
+    let read: Result<Chart, Error> = from_slice(rt.alloc(), CHART_IN_REVERSE);
+    assert!(rt; matches!(&read, Ok(chart) if is_chart(chart)));
+    let read: Result<Chart, Error> = from_slice(rt.alloc(), b"\x82\xa4last\xa1D\xa4last\xa1D");
+    assert!(rt; matches!(&read, Err(Error::Syntax(Text::DuplicateField))));
+    let read: Result<Chart, Error> = from_slice(rt.alloc(), b"\x81\xa4last\xa1D");
+    assert!(rt; matches!(&read, Err(Error::Syntax(Text::MissingField))));
+    let read: Result<Chart, Error> = from_slice(rt.alloc(), b"\x94\x07\xa1A\xcd\x01\x2c\x09");
+    assert!(rt; matches!(&read, Err(Error::Syntax(Text::InvalidLength))));
     Ok(())
 }
 

@@ -1,4 +1,6 @@
 //! The fields of structs, which are named, or stand in order.
+mod fours;
+
 ghost use Rattle.std.specs.Prelude.{◌≡◌, ◌≢◌, ◌⊎◌, ◌<◌, ◌≤◌, ◌||◌, ℕ, Bool, List, Option, None, Some, true};
 ghost use Rattle.std.specs.Prelude.{false, length, IfErr, IfOk, IfSome, IfNone, OnOk, OnErr, MatchOption, MatchResult, max};
 ghost use Rattle.std.specs.Borrow.{sem, RestsIfErr};
@@ -31,7 +33,8 @@ use crate::text::Text;
 use rmp_wire::config::SerializerConfig;
 use rmp_wire::{Head, ReadSlice, Source};
 
-/// The fields of a struct in the order of their names: a pair of the first one's value and the others, or `()` for none.
+/// The fields of a struct in the order of their names: a pair of the first one's value and the others, a tuple of the first four and the others,
+/// or `()` for none.
 pub trait Fields<'de, R: ReadSlice<'de>>: Sized + Drop {
     /// What was read of them so far.
     type Slots: Drop;

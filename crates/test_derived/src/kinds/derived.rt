@@ -374,23 +374,20 @@ impl<'de, R: ReadSlice<'de>> Deserialize<'de, R> for Kennel {
     ghost absent = { None };
 
     ghost refuses = { RefusesFields (codes "dogs" ∷ (codes "four" ∷ (codes "pair" ∷ (codes "either" ∷ []))))
-        ⟦<(Vec<Dog>, (Box<Four>, (Pair<Opt>, (Option<Either<bool>>, ())))) as ReadFields<'de, R>>⟧.reads
-        ⟦<(Vec<Dog>, (Box<Four>, (Pair<Opt>, (Option<Either<bool>>, ())))) as ReadFields<'de, R>>⟧.parts };
+        ⟦<(Vec<Dog>, Box<Four>, Pair<Opt>, Option<Either<bool>>, ()) as ReadFields<'de, R>>⟧.reads
+        ⟦<(Vec<Dog>, Box<Four>, Pair<Opt>, Option<Either<bool>>, ()) as ReadFields<'de, R>>⟧.parts };
 
     #[inline(always)]
     fn deserialize<C: SerializerConfig>(
         de: &mut Deserializer<R, C>,
     ) -> Result<Kennel, rmp_decode::Error> {
         let read: Result<
-            (
-                Vec<Dog>,
-                (Box<Four>, (Pair<Opt>, (Option<Either<bool>>, ()))),
-            ),
+            (Vec<Dog>, Box<Four>, Pair<Opt>, Option<Either<bool>>, ()),
             rmp_decode::Error,
         > = de.deserialize_fields(&["dogs", "four", "pair", "either"]);
         match read {
             Ok(parts) => {
-                let (dogs, (four, (pair, (either, ())))) = parts;
+                let (dogs, four, pair, either, ()) = parts;
                 return Ok(Kennel {
                     dogs,
                     four,

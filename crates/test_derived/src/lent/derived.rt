@@ -102,20 +102,18 @@ impl<'de, R: ReadSlice<'de>> Deserialize<'de, R> for Line<'de> {
     ghost absent = { None };
 
     ghost refuses = { RefusesFields (codes "level" ∷ (codes "text" ∷ (codes "tags" ∷ (codes "source" ∷ []))))
-        ⟦<(u8, (&'de str, (Vec<&'de str>, (Option<&'de str>, ())))) as ReadFields<'de, R>>⟧.reads
-        ⟦<(u8, (&'de str, (Vec<&'de str>, (Option<&'de str>, ())))) as ReadFields<'de, R>>⟧.parts };
+        ⟦<(u8, &'de str, Vec<&'de str>, Option<&'de str>, ()) as ReadFields<'de, R>>⟧.reads
+        ⟦<(u8, &'de str, Vec<&'de str>, Option<&'de str>, ()) as ReadFields<'de, R>>⟧.parts };
 
     #[inline(always)]
     fn deserialize<C: SerializerConfig>(
         de: &mut Deserializer<R, C>,
     ) -> Result<Line<'de>, rmp_decode::Error> {
-        let read: Result<
-            (u8, (&'de str, (Vec<&'de str>, (Option<&'de str>, ())))),
-            rmp_decode::Error,
-        > = de.deserialize_fields(&["level", "text", "tags", "source"]);
+        let read: Result<(u8, &'de str, Vec<&'de str>, Option<&'de str>, ()), rmp_decode::Error> =
+            de.deserialize_fields(&["level", "text", "tags", "source"]);
         match read {
             Ok(parts) => {
-                let (level, (text, (tags, (source, ())))) = parts;
+                let (level, text, tags, source, ()) = parts;
                 return Ok(Line {
                     level,
                     text,

@@ -5,7 +5,7 @@ pub returns-in-Ok-clause-law : goal.returns-in-Ok-clause-law
 returns-in-Ok-clause-law g c = lawful_ok _ _ _ _ _ _ _ (λ m r. r) c.in-Ok.ensures.law
 
 pub returns-in-Err-clause-law : goal.returns-in-Err-clause-law
-returns-in-Err-clause-law g c = lawful_err _ _ _ _ _ _ (λ m r. ((r.0.dogs, (r.0.four, (r.0.pair, (r.0.either, tt)))), r.1)) c.in-Err.ensures.law
+returns-in-Err-clause-law g c = lawful_err _ _ _ _ _ _ (λ m r. ((r.0.dogs, r.0.four, r.0.pair, r.0.either, tt), r.1)) c.in-Err.ensures.law
 
 pub returns-in-Err-clause-refused : goal.returns-in-Err-clause-refused
 returns-in-Err-clause-refused g c = c.in-Err.ensures.refused

@@ -4,7 +4,7 @@ use Rattle.rmp_encode.specs.Going.{IsWriting}
 use Rattle.rmp_encode.specs.Ser.{sink_of, settings_of}
 use Rattle.rmp_encode.proofs.Going.{going_more, keeps_then}
 use Rattle.rmp_encode.proofs.Parts.{front_or, back_or, part_takes}
-use Rattle.test_derived.proofs.structs.derived.NinePartsElements.write.Goals as goal
+use Rattle.test_wide.proofs.papers.derived.NinePartsElements.write.Goals as goal
 
 pub returns-in_err-write-clause-writes : goal.returns-in_err-write-clause-writes
 returns-in_err-write-clause-writes g c =

@@ -5,7 +5,7 @@ use Rattle.rmp_encode.specs.Ser.{sink_of, settings_of}
 use Rattle.rmp_encode.proofs.Fields.{named_halves}
 use Rattle.rmp_encode.proofs.Going.{going_more, keeps_then}
 use Rattle.rmp_encode.proofs.Parts.{front_or, back_or, part_takes}
-use Rattle.test_derived.proofs.structs.derived.NinePartsElements.write_fields.Goals as goal
+use Rattle.test_wide.proofs.papers.derived.SixteenPartsElements.write_fields.Goals as goal
 
 pub returns-in_err-write_fields-clause-writes : goal.returns-in_err-write_fields-clause-writes
 returns-in_err-write_fields-clause-writes g c =
@@ -16,7 +16,12 @@ returns-in_err-write_fields-clause-writes g c =
     (g.E3.Serialize.takes_memory (settings_of old) ∷ (g.E4.Serialize.takes_memory (settings_of old)
     ∷ (g.E5.Serialize.takes_memory (settings_of old) ∷
     (g.E6.Serialize.takes_memory (settings_of old) ∷ (g.E7.Serialize.takes_memory (settings_of old)
-    ∷ (g.E8.Serialize.takes_memory (settings_of old) ∷ [])))))))) (g.E9.Serialize.takes_memory (settings_of old) ∷ []))
+    ∷ (g.E8.Serialize.takes_memory (settings_of old) ∷ []))))))))
+    (g.E9.Serialize.takes_memory (settings_of old) ∷ (g.E10.Serialize.takes_memory (settings_of old)
+    ∷ (g.E11.Serialize.takes_memory (settings_of old) ∷
+    (g.E12.Serialize.takes_memory (settings_of old) ∷ (g.E13.Serialize.takes_memory (settings_of old)
+    ∷ (g.E14.Serialize.takes_memory (settings_of old) ∷
+    (g.E15.Serialize.takes_memory (settings_of old) ∷ (g.E16.Serialize.takes_memory (settings_of old) ∷ [])))))))))
     (c.in_err-write_fields.ensures.writes old t _ (named_halves g.W.Sink c.args.names.now 8
     (g.E1.Serialize.data_of c.args.self.now.first.now (settings_of old).human
     ∷ (g.E2.Serialize.data_of c.args.self.now.second.now (settings_of old).human
@@ -26,7 +31,14 @@ returns-in_err-write_fields-clause-writes g c =
     ∷ (g.E6.Serialize.data_of c.args.self.now.sixth.now (settings_of old).human
     ∷ (g.E7.Serialize.data_of c.args.self.now.seventh.now (settings_of old).human
     ∷ (g.E8.Serialize.data_of c.args.self.now.eighth.now (settings_of old).human ∷ []))))))))
-    (g.E9.Serialize.data_of c.args.self.now.ninth.now (settings_of old).human ∷ []) rest refl (omega (arith, c.requires)) h)))
+    (g.E9.Serialize.data_of c.args.self.now.ninth.now (settings_of old).human
+    ∷ (g.E10.Serialize.data_of c.args.self.now.tenth.now (settings_of old).human
+    ∷ (g.E11.Serialize.data_of c.args.self.now.eleventh.now (settings_of old).human
+    ∷ (g.E12.Serialize.data_of c.args.self.now.twelfth.now (settings_of old).human
+    ∷ (g.E13.Serialize.data_of c.args.self.now.thirteenth.now (settings_of old).human
+    ∷ (g.E14.Serialize.data_of c.args.self.now.fourteenth.now (settings_of old).human
+    ∷ (g.E15.Serialize.data_of c.args.self.now.fifteenth.now (settings_of old).human
+    ∷ (g.E16.Serialize.data_of c.args.self.now.sixteenth.now (settings_of old).human ∷ [])))))))) rest refl (omega (arith, c.requires)) h)))
 
 pub returns-clause-writes : goal.returns-clause-writes
 returns-clause-writes g c = λ old t rest h. going_more g.W.Sink (IsWriting g.W.Sink old t rest c.write_fields-2.new.se) t (sink_of old)
@@ -36,7 +48,12 @@ returns-clause-writes g c = λ old t rest h. going_more g.W.Sink (IsWriting g.W.
     (g.E3.Serialize.takes_memory (settings_of old) ∷ (g.E4.Serialize.takes_memory (settings_of old)
     ∷ (g.E5.Serialize.takes_memory (settings_of old) ∷
     (g.E6.Serialize.takes_memory (settings_of old) ∷ (g.E7.Serialize.takes_memory (settings_of old)
-    ∷ (g.E8.Serialize.takes_memory (settings_of old) ∷ [])))))))) (g.E9.Serialize.takes_memory (settings_of old) ∷ []))
+    ∷ (g.E8.Serialize.takes_memory (settings_of old) ∷ []))))))))
+    (g.E9.Serialize.takes_memory (settings_of old) ∷ (g.E10.Serialize.takes_memory (settings_of old)
+    ∷ (g.E11.Serialize.takes_memory (settings_of old) ∷
+    (g.E12.Serialize.takes_memory (settings_of old) ∷ (g.E13.Serialize.takes_memory (settings_of old)
+    ∷ (g.E14.Serialize.takes_memory (settings_of old) ∷
+    (g.E15.Serialize.takes_memory (settings_of old) ∷ (g.E16.Serialize.takes_memory (settings_of old) ∷ [])))))))))
     (c.write_fields-2.ensures.writes old t rest (c.in_ok-write_fields.ensures.writes old t _
     (named_halves g.W.Sink c.args.names.now 8 (g.E1.Serialize.data_of c.args.self.now.first.now (settings_of old).human
     ∷ (g.E2.Serialize.data_of c.args.self.now.second.now (settings_of old).human
@@ -46,7 +63,14 @@ returns-clause-writes g c = λ old t rest h. going_more g.W.Sink (IsWriting g.W.
     ∷ (g.E6.Serialize.data_of c.args.self.now.sixth.now (settings_of old).human
     ∷ (g.E7.Serialize.data_of c.args.self.now.seventh.now (settings_of old).human
     ∷ (g.E8.Serialize.data_of c.args.self.now.eighth.now (settings_of old).human ∷ []))))))))
-    (g.E9.Serialize.data_of c.args.self.now.ninth.now (settings_of old).human ∷ []) rest refl (omega (arith, c.requires)) h)))
+    (g.E9.Serialize.data_of c.args.self.now.ninth.now (settings_of old).human
+    ∷ (g.E10.Serialize.data_of c.args.self.now.tenth.now (settings_of old).human
+    ∷ (g.E11.Serialize.data_of c.args.self.now.eleventh.now (settings_of old).human
+    ∷ (g.E12.Serialize.data_of c.args.self.now.twelfth.now (settings_of old).human
+    ∷ (g.E13.Serialize.data_of c.args.self.now.thirteenth.now (settings_of old).human
+    ∷ (g.E14.Serialize.data_of c.args.self.now.fourteenth.now (settings_of old).human
+    ∷ (g.E15.Serialize.data_of c.args.self.now.fifteenth.now (settings_of old).human
+    ∷ (g.E16.Serialize.data_of c.args.self.now.sixteenth.now (settings_of old).human ∷ [])))))))) rest refl (omega (arith, c.requires)) h)))
 
 pub returns-clause-keeps : goal.returns-clause-keeps
 returns-clause-keeps g c = keeps_then g.W.Sink c.write_fields.ensures.keeps c.write_fields-2.ensures.keeps

@@ -1,0 +1,705 @@
+//! How the types of papers.rt are written and read. Written by tools/derive.py.
+ghost use Rattle.rmp_decode.specs.FieldRefusing.{RefusesFields};
+ghost use Rattle.rmp_decode.specs.Fields.{OfFields, Field, Absent, NoField};
+ghost use Rattle.rmp_decode.specs.Rows.{ReadsEach};
+ghost use Rattle.rmp_encode.specs.Sizes.{one_of};
+ghost use Rattle.rmp_encode.specs.Trees.{structure_of};
+ghost use Rattle.rmp_serde.specs.LeafRounds.{byte_row, unsigned_row_16, unsigned_row_32, unsigned_row_64, signed_row_8, signed_row_16};
+ghost use Rattle.rmp_serde.specs.LeafRounds.{signed_row_32, signed_row_64, truth_row, string_row, pos_other, text_other};
+ghost use Rattle.rmp_serde.specs.Rounds.{each_some, each_row, option_some, option_row, slice_some, slice_row};
+ghost use Rattle.rmp_serde.specs.StructRounds.{structure_all, structure_row, structure_other, fields_none, fields_cons};
+ghost use Rattle.std.proofs.Common.{refl};
+ghost use Rattle.std.specs.Prelude.{◌∷◌, [], None, codes, string_bytes};
+
+use super::{Chart, Papers};
+use rmp_decode::{Deserialize, Deserializer, ReadFields};
+use rmp_encode::{Elements, Serialize, Serializer};
+use rmp_serde::{NeverNil, RoundTrip};
+use rmp_wire::config::SerializerConfig;
+use rmp_wire::{ReadSlice, Sink};
+
+impl Serialize for Papers {
+    ghost data_of = { λ v human. structure_of ((codes "number", ⟦<u64 as Serialize>⟧.data_of v.number human)
+        ∷ ((codes "name", ⟦<String as Serialize>⟧.data_of v.name human)
+        ∷ ((codes "born", ⟦<u16 as Serialize>⟧.data_of v.born human)
+        ∷ ((codes "chip", ⟦<Option<u64> as Serialize>⟧.data_of v.chip human)
+        ∷ ((codes "mother", ⟦<Option<u64> as Serialize>⟧.data_of v.mother human)
+        ∷ ((codes "father", ⟦<Option<u64> as Serialize>⟧.data_of v.father human)
+        ∷ ((codes "weight", ⟦<u8 as Serialize>⟧.data_of v.weight human)
+        ∷ ((codes "height", ⟦<i8 as Serialize>⟧.data_of v.height human)
+        ∷ ((codes "vaccinated", ⟦<bool as Serialize>⟧.data_of v.vaccinated human) ∷ []))))))))) };
+
+    ghost is_value = { λ v. ⟦<u64 as Serialize>⟧.is_value v.number × ⟦<String as Serialize>⟧.is_value v.name × ⟦<u16 as Serialize>⟧.is_value v.born
+        × ⟦<Option<u64> as Serialize>⟧.is_value v.chip × ⟦<Option<u64> as Serialize>⟧.is_value v.mother × ⟦<Option<u64> as Serialize>⟧.is_value v.father
+        × ⟦<u8 as Serialize>⟧.is_value v.weight × ⟦<i8 as Serialize>⟧.is_value v.height × ⟦<bool as Serialize>⟧.is_value v.vaccinated };
+
+    ghost takes_memory = { λ s. one_of (⟦<u64 as Serialize>⟧.takes_memory s
+        ∷ (⟦<String as Serialize>⟧.takes_memory s ∷ (⟦<u16 as Serialize>⟧.takes_memory s
+        ∷ (⟦<Option<u64> as Serialize>⟧.takes_memory s ∷ (⟦<Option<u64> as Serialize>⟧.takes_memory s
+        ∷ (⟦<Option<u64> as Serialize>⟧.takes_memory s ∷ (⟦<u8 as Serialize>⟧.takes_memory s
+        ∷ (⟦<i8 as Serialize>⟧.takes_memory s ∷ (⟦<bool as Serialize>⟧.takes_memory s ∷ []))))))))) };
+
+    fn serialize<W: Sink, C: SerializerConfig>(
+        &self,
+        se: &mut Serializer<W, C>,
+    ) -> Result<(), rmp_encode::Error> {
+        let parts = NineParts {
+            first: &self.number,
+            second: &self.name,
+            third: &self.born,
+            fourth: &self.chip,
+            fifth: &self.mother,
+            sixth: &self.father,
+            seventh: &self.weight,
+            eighth: &self.height,
+            ninth: &self.vaccinated,
+        };
+        se.serialize_fields(
+            "Papers",
+            &[
+                "number",
+                "name",
+                "born",
+                "chip",
+                "mother",
+                "father",
+                "weight",
+                "height",
+                "vaccinated",
+            ],
+            &parts,
+        )
+    }
+
+    #[tactic(auto, using(rmp_encode::proofs::Fields::structure_no_byte))]
+    fn as_u8(&self, _human: bool) -> Option<u8> {
+        None
+    }
+}
+
+impl<'de, R: ReadSlice<'de>> Deserialize<'de, R> for Papers {
+    ghost reads = { λ human lends m v. OfFields (codes "number"
+        ∷ (codes "name" ∷ (codes "born" ∷ (codes "chip" ∷ (codes "mother"
+        ∷ (codes "father" ∷ (codes "weight" ∷ (codes "height" ∷ (codes "vaccinated" ∷ [])))))))))
+        (Field (λ j. ⟦<u64 as Deserialize<'de, R>>⟧.reads human lends j v.number) (Absent ⟦<u64 as Deserialize<'de, R>>⟧.absent v.number)
+        (Field (λ j. ⟦<String as Deserialize<'de, R>>⟧.reads human lends j v.name) (Absent ⟦<String as Deserialize<'de, R>>⟧.absent v.name)
+        (Field (λ j. ⟦<u16 as Deserialize<'de, R>>⟧.reads human lends j v.born) (Absent ⟦<u16 as Deserialize<'de, R>>⟧.absent v.born)
+        (Field (λ j. ⟦<Option<u64> as Deserialize<'de, R>>⟧.reads human lends j v.chip) (Absent ⟦<Option<u64> as Deserialize<'de, R>>⟧.absent v.chip)
+        (Field (λ j. ⟦<Option<u64> as Deserialize<'de, R>>⟧.reads human lends j v.mother) (Absent ⟦<Option<u64> as Deserialize<'de, R>>⟧.absent v.mother)
+        (Field (λ j. ⟦<Option<u64> as Deserialize<'de, R>>⟧.reads human lends j v.father) (Absent ⟦<Option<u64> as Deserialize<'de, R>>⟧.absent v.father)
+        (Field (λ j. ⟦<u8 as Deserialize<'de, R>>⟧.reads human lends j v.weight) (Absent ⟦<u8 as Deserialize<'de, R>>⟧.absent v.weight)
+        (Field (λ j. ⟦<i8 as Deserialize<'de, R>>⟧.reads human lends j v.height) (Absent ⟦<i8 as Deserialize<'de, R>>⟧.absent v.height)
+        (Field (λ j. ⟦<bool as Deserialize<'de, R>>⟧.reads human lends j v.vaccinated) (Absent ⟦<bool as Deserialize<'de, R>>⟧.absent v.vaccinated)
+        NoField))))))))) m };
+
+    ghost absent = { None };
+
+    ghost refuses = { RefusesFields (codes "number" ∷ (codes "name"
+        ∷ (codes "born" ∷ (codes "chip" ∷ (codes "mother" ∷ (codes "father" ∷ (codes "weight" ∷ (codes "height" ∷ (codes "vaccinated" ∷ [])))))))))
+        ⟦<(u64, String, u16, Option<u64>, (Option<u64>, Option<u64>, u8, i8, (bool, ()))) as ReadFields<'de, R>>⟧.reads
+        ⟦<(u64, String, u16, Option<u64>, (Option<u64>, Option<u64>, u8, i8, (bool, ()))) as ReadFields<'de, R>>⟧.parts };
+
+    fn deserialize<C: SerializerConfig>(
+        de: &mut Deserializer<R, C>,
+    ) -> Result<Papers, rmp_decode::Error> {
+        let read: Result<
+            (
+                u64,
+                String,
+                u16,
+                Option<u64>,
+                (Option<u64>, Option<u64>, u8, i8, (bool, ())),
+            ),
+            rmp_decode::Error,
+        > = de.deserialize_fields(&[
+            "number",
+            "name",
+            "born",
+            "chip",
+            "mother",
+            "father",
+            "weight",
+            "height",
+            "vaccinated",
+        ]);
+        match read {
+            Ok(parts) => {
+                let (number, name, born, chip, (mother, father, weight, height, (vaccinated, ()))) =
+                    parts;
+                return Ok(Papers {
+                    number,
+                    name,
+                    born,
+                    chip,
+                    mother,
+                    father,
+                    weight,
+                    height,
+                    vaccinated,
+                });
+            }
+            Err(e) => return Err(e),
+        }
+    }
+
+    fn missing() -> Option<Papers> {
+        None
+    }
+}
+
+impl<'de, R: ReadSlice<'de>> RoundTrip<'de, R> for Papers {
+    ghost has_data = { λ human v. structure_all ((codes "number", ⟦<u64 as Serialize>⟧.data_of v.number human)
+        ∷ ((codes "name", ⟦<String as Serialize>⟧.data_of v.name human)
+        ∷ ((codes "born", ⟦<u16 as Serialize>⟧.data_of v.born human)
+        ∷ ((codes "chip", ⟦<Option<u64> as Serialize>⟧.data_of v.chip human)
+        ∷ ((codes "mother", ⟦<Option<u64> as Serialize>⟧.data_of v.mother human)
+        ∷ ((codes "father", ⟦<Option<u64> as Serialize>⟧.data_of v.father human)
+        ∷ ((codes "weight", ⟦<u8 as Serialize>⟧.data_of v.weight human)
+        ∷ ((codes "height", ⟦<i8 as Serialize>⟧.data_of v.height human)
+        ∷ ((codes "vaccinated", ⟦<bool as Serialize>⟧.data_of v.vaccinated human) ∷ []))))))))) (
+          refl,
+          (
+            refl,
+            (
+              refl,
+              (
+                (option_some (λ x. ⟦<u64 as Serialize>⟧.data_of x human) (λ x1. refl) v.chip),
+                (
+                  (option_some (λ x. ⟦<u64 as Serialize>⟧.data_of x human) (λ x2. refl) v.mother),
+                  ((option_some (λ x. ⟦<u64 as Serialize>⟧.data_of x human) (λ x3. refl) v.father), (refl, (refl, (refl, tt)))),
+                ),
+              ),
+            ),
+          ),
+        ) };
+
+    ghost round = { λ lent s v fits. structure_row s (codes "number"
+        ∷ (codes "name" ∷ (codes "born" ∷ (codes "chip" ∷ (codes "mother"
+        ∷ (codes "father" ∷ (codes "weight" ∷ (codes "height" ∷ (codes "vaccinated" ∷ []))))))))) _ _ refl
+        (fields_cons s (codes "number") _ _ _ (λ j. ⟦<u64 as Deserialize<'de, R>>⟧.reads s.human R.lends j v.number)
+        (Absent ⟦<u64 as Deserialize<'de, R>>⟧.absent v.number) _ (unsigned_row_64 s v.number fits.0)
+        (fields_cons s (codes "name") _ _ _ (λ j. ⟦<String as Deserialize<'de, R>>⟧.reads s.human R.lends j v.name)
+        (Absent ⟦<String as Deserialize<'de, R>>⟧.absent v.name) _ (string_row s (string_bytes v.name))
+        (fields_cons s (codes "born") _ _ _ (λ j. ⟦<u16 as Deserialize<'de, R>>⟧.reads s.human R.lends j v.born)
+        (Absent ⟦<u16 as Deserialize<'de, R>>⟧.absent v.born) _ (unsigned_row_16 s v.born fits.2)
+        (fields_cons s (codes "chip") _ _ _ (λ j. ⟦<Option<u64> as Deserialize<'de, R>>⟧.reads s.human R.lends j v.chip)
+        (Absent ⟦<Option<u64> as Deserialize<'de, R>>⟧.absent v.chip) _
+        (option_row s (λ x. ⟦<u64 as Serialize>⟧.data_of x s.human) ⟦<u64 as Serialize>⟧.is_value (⟦<u64 as Deserialize<'de, R>>⟧.reads s.human R.lends)
+        (λ x5. pos_other s x5) (λ x4 h4. (unsigned_row_64 s x4 h4)) v.chip fits.3)
+        (fields_cons s (codes "mother") _ _ _ (λ j. ⟦<Option<u64> as Deserialize<'de, R>>⟧.reads s.human R.lends j v.mother)
+        (Absent ⟦<Option<u64> as Deserialize<'de, R>>⟧.absent v.mother) _
+        (option_row s (λ x. ⟦<u64 as Serialize>⟧.data_of x s.human) ⟦<u64 as Serialize>⟧.is_value (⟦<u64 as Deserialize<'de, R>>⟧.reads s.human R.lends)
+        (λ x7. pos_other s x7) (λ x6 h6. (unsigned_row_64 s x6 h6)) v.mother fits.4)
+        (fields_cons s (codes "father") _ _ _ (λ j. ⟦<Option<u64> as Deserialize<'de, R>>⟧.reads s.human R.lends j v.father)
+        (Absent ⟦<Option<u64> as Deserialize<'de, R>>⟧.absent v.father) _
+        (option_row s (λ x. ⟦<u64 as Serialize>⟧.data_of x s.human) ⟦<u64 as Serialize>⟧.is_value (⟦<u64 as Deserialize<'de, R>>⟧.reads s.human R.lends)
+        (λ x9. pos_other s x9) (λ x8 h8. (unsigned_row_64 s x8 h8)) v.father fits.5)
+        (fields_cons s (codes "weight") _ _ _ (λ j. ⟦<u8 as Deserialize<'de, R>>⟧.reads s.human R.lends j v.weight)
+        (Absent ⟦<u8 as Deserialize<'de, R>>⟧.absent v.weight) _ (byte_row s v.weight fits.6)
+        (fields_cons s (codes "height") _ _ _ (λ j. ⟦<i8 as Deserialize<'de, R>>⟧.reads s.human R.lends j v.height)
+        (Absent ⟦<i8 as Deserialize<'de, R>>⟧.absent v.height) _ (signed_row_8 s v.height fits.7)
+        (fields_cons s (codes "vaccinated") _ _ _ (λ j. ⟦<bool as Deserialize<'de, R>>⟧.reads s.human R.lends j v.vaccinated)
+        (Absent ⟦<bool as Deserialize<'de, R>>⟧.absent v.vaccinated) _ (truth_row s v.vaccinated) (fields_none s)))))))))) };
+}
+
+impl NeverNil for Papers {
+    ghost never_nil = { λ s v. structure_other s _ };
+}
+
+impl Serialize for Chart {
+    ghost data_of = { λ v human. structure_of ((codes "number", ⟦<u64 as Serialize>⟧.data_of v.number human)
+        ∷ ((codes "name", ⟦<String as Serialize>⟧.data_of v.name human)
+        ∷ ((codes "born", ⟦<u16 as Serialize>⟧.data_of v.born human)
+        ∷ ((codes "weight", ⟦<u8 as Serialize>⟧.data_of v.weight human)
+        ∷ ((codes "height", ⟦<i8 as Serialize>⟧.data_of v.height human)
+        ∷ ((codes "fever", ⟦<i16 as Serialize>⟧.data_of v.fever human)
+        ∷ ((codes "offset", ⟦<i32 as Serialize>⟧.data_of v.offset human)
+        ∷ ((codes "balance", ⟦<i64 as Serialize>⟧.data_of v.balance human)
+        ∷ ((codes "neutered", ⟦<bool as Serialize>⟧.data_of v.neutered human)
+        ∷ ((codes "chip", ⟦<Option<u64> as Serialize>⟧.data_of v.chip human)
+        ∷ ((codes "owner", ⟦<Option<String> as Serialize>⟧.data_of v.owner human)
+        ∷ ((codes "shots", ⟦<Vec<u16> as Serialize>⟧.data_of v.shots human)
+        ∷ ((codes "notes", ⟦<Vec<String> as Serialize>⟧.data_of v.notes human)
+        ∷ ((codes "heart", ⟦<u32 as Serialize>⟧.data_of v.heart human)
+        ∷ ((codes "lungs", ⟦<u32 as Serialize>⟧.data_of v.lungs human) ∷ ((codes "last", ⟦<String as Serialize>⟧.data_of v.last human) ∷ [])))))))))))))))) };
+
+    ghost is_value = { λ v. ⟦<u64 as Serialize>⟧.is_value v.number × ⟦<String as Serialize>⟧.is_value v.name × ⟦<u16 as Serialize>⟧.is_value v.born
+        × ⟦<u8 as Serialize>⟧.is_value v.weight × ⟦<i8 as Serialize>⟧.is_value v.height × ⟦<i16 as Serialize>⟧.is_value v.fever
+        × ⟦<i32 as Serialize>⟧.is_value v.offset × ⟦<i64 as Serialize>⟧.is_value v.balance × ⟦<bool as Serialize>⟧.is_value v.neutered
+        × ⟦<Option<u64> as Serialize>⟧.is_value v.chip × ⟦<Option<String> as Serialize>⟧.is_value v.owner × ⟦<Vec<u16> as Serialize>⟧.is_value v.shots
+        × ⟦<Vec<String> as Serialize>⟧.is_value v.notes × ⟦<u32 as Serialize>⟧.is_value v.heart × ⟦<u32 as Serialize>⟧.is_value v.lungs
+        × ⟦<String as Serialize>⟧.is_value v.last };
+
+    ghost takes_memory = { λ s. one_of (⟦<u64 as Serialize>⟧.takes_memory s
+        ∷ (⟦<String as Serialize>⟧.takes_memory s ∷ (⟦<u16 as Serialize>⟧.takes_memory s
+        ∷ (⟦<u8 as Serialize>⟧.takes_memory s ∷ (⟦<i8 as Serialize>⟧.takes_memory s
+        ∷ (⟦<i16 as Serialize>⟧.takes_memory s ∷ (⟦<i32 as Serialize>⟧.takes_memory s
+        ∷ (⟦<i64 as Serialize>⟧.takes_memory s ∷ (⟦<bool as Serialize>⟧.takes_memory s
+        ∷ (⟦<Option<u64> as Serialize>⟧.takes_memory s ∷ (⟦<Option<String> as Serialize>⟧.takes_memory s
+        ∷ (⟦<Vec<u16> as Serialize>⟧.takes_memory s ∷ (⟦<Vec<String> as Serialize>⟧.takes_memory s
+        ∷ (⟦<u32 as Serialize>⟧.takes_memory s ∷ (⟦<u32 as Serialize>⟧.takes_memory s ∷ (⟦<String as Serialize>⟧.takes_memory s ∷ [])))))))))))))))) };
+
+    fn serialize<W: Sink, C: SerializerConfig>(
+        &self,
+        se: &mut Serializer<W, C>,
+    ) -> Result<(), rmp_encode::Error> {
+        let parts = SixteenParts {
+            first: &self.number,
+            second: &self.name,
+            third: &self.born,
+            fourth: &self.weight,
+            fifth: &self.height,
+            sixth: &self.fever,
+            seventh: &self.offset,
+            eighth: &self.balance,
+            ninth: &self.neutered,
+            tenth: &self.chip,
+            eleventh: &self.owner,
+            twelfth: &self.shots,
+            thirteenth: &self.notes,
+            fourteenth: &self.heart,
+            fifteenth: &self.lungs,
+            sixteenth: &self.last,
+        };
+        se.serialize_fields(
+            "Chart",
+            &[
+                "number", "name", "born", "weight", "height", "fever", "offset", "balance",
+                "neutered", "chip", "owner", "shots", "notes", "heart", "lungs", "last",
+            ],
+            &parts,
+        )
+    }
+
+    #[tactic(auto, using(rmp_encode::proofs::Fields::structure_no_byte))]
+    fn as_u8(&self, _human: bool) -> Option<u8> {
+        None
+    }
+}
+
+impl<'de, R: ReadSlice<'de>> Deserialize<'de, R> for Chart {
+    ghost reads = { λ human lends m v. OfFields (codes "number"
+        ∷ (codes "name" ∷ (codes "born" ∷ (codes "weight" ∷
+        (codes "height" ∷ (codes "fever" ∷ (codes "offset"
+        ∷ (codes "balance" ∷ (codes "neutered" ∷ (codes "chip"
+        ∷ (codes "owner" ∷ (codes "shots" ∷ (codes "notes" ∷ (codes "heart" ∷ (codes "lungs" ∷ (codes "last" ∷ []))))))))))))))))
+        (Field (λ j. ⟦<u64 as Deserialize<'de, R>>⟧.reads human lends j v.number) (Absent ⟦<u64 as Deserialize<'de, R>>⟧.absent v.number)
+        (Field (λ j. ⟦<String as Deserialize<'de, R>>⟧.reads human lends j v.name) (Absent ⟦<String as Deserialize<'de, R>>⟧.absent v.name)
+        (Field (λ j. ⟦<u16 as Deserialize<'de, R>>⟧.reads human lends j v.born) (Absent ⟦<u16 as Deserialize<'de, R>>⟧.absent v.born)
+        (Field (λ j. ⟦<u8 as Deserialize<'de, R>>⟧.reads human lends j v.weight) (Absent ⟦<u8 as Deserialize<'de, R>>⟧.absent v.weight)
+        (Field (λ j. ⟦<i8 as Deserialize<'de, R>>⟧.reads human lends j v.height) (Absent ⟦<i8 as Deserialize<'de, R>>⟧.absent v.height)
+        (Field (λ j. ⟦<i16 as Deserialize<'de, R>>⟧.reads human lends j v.fever) (Absent ⟦<i16 as Deserialize<'de, R>>⟧.absent v.fever)
+        (Field (λ j. ⟦<i32 as Deserialize<'de, R>>⟧.reads human lends j v.offset) (Absent ⟦<i32 as Deserialize<'de, R>>⟧.absent v.offset)
+        (Field (λ j. ⟦<i64 as Deserialize<'de, R>>⟧.reads human lends j v.balance) (Absent ⟦<i64 as Deserialize<'de, R>>⟧.absent v.balance)
+        (Field (λ j. ⟦<bool as Deserialize<'de, R>>⟧.reads human lends j v.neutered) (Absent ⟦<bool as Deserialize<'de, R>>⟧.absent v.neutered)
+        (Field (λ j. ⟦<Option<u64> as Deserialize<'de, R>>⟧.reads human lends j v.chip) (Absent ⟦<Option<u64> as Deserialize<'de, R>>⟧.absent v.chip)
+        (Field (λ j. ⟦<Option<String> as Deserialize<'de, R>>⟧.reads human lends j v.owner)
+        (Absent ⟦<Option<String> as Deserialize<'de, R>>⟧.absent v.owner)
+        (Field (λ j. ⟦<Vec<u16> as Deserialize<'de, R>>⟧.reads human lends j v.shots) (Absent ⟦<Vec<u16> as Deserialize<'de, R>>⟧.absent v.shots)
+        (Field (λ j. ⟦<Vec<String> as Deserialize<'de, R>>⟧.reads human lends j v.notes) (Absent ⟦<Vec<String> as Deserialize<'de, R>>⟧.absent v.notes)
+        (Field (λ j. ⟦<u32 as Deserialize<'de, R>>⟧.reads human lends j v.heart) (Absent ⟦<u32 as Deserialize<'de, R>>⟧.absent v.heart)
+        (Field (λ j. ⟦<u32 as Deserialize<'de, R>>⟧.reads human lends j v.lungs) (Absent ⟦<u32 as Deserialize<'de, R>>⟧.absent v.lungs)
+        (Field (λ j. ⟦<String as Deserialize<'de, R>>⟧.reads human lends j v.last) (Absent ⟦<String as Deserialize<'de, R>>⟧.absent v.last)
+        NoField)))))))))))))))) m };
+
+    ghost absent = { None };
+
+    ghost refuses = { RefusesFields (codes "number" ∷ (codes "name"
+        ∷ (codes "born" ∷ (codes "weight" ∷ (codes "height"
+        ∷ (codes "fever" ∷ (codes "offset" ∷ (codes "balance"
+        ∷ (codes "neutered" ∷ (codes "chip" ∷ (codes "owner"
+        ∷ (codes "shots" ∷ (codes "notes" ∷ (codes "heart" ∷ (codes "lungs" ∷ (codes "last" ∷ []))))))))))))))))
+        ⟦<(u64, String, u16, u8, (i8, i16, i32, i64, (bool, Option<u64>, Option<String>, Vec<u16>, (Vec<String>, u32, u32, String, ())))) as ReadFields<'de, R>>⟧.reads ⟦<(u64, String, u16, u8, (i8, i16, i32, i64, (bool, Option<u64>, Option<String>, Vec<u16>, (Vec<String>, u32, u32, String, ())))) as ReadFields<'de, R>>⟧.parts };
+
+    fn deserialize<C: SerializerConfig>(
+        de: &mut Deserializer<R, C>,
+    ) -> Result<Chart, rmp_decode::Error> {
+        let read: Result<
+            (
+                u64,
+                String,
+                u16,
+                u8,
+                (
+                    i8,
+                    i16,
+                    i32,
+                    i64,
+                    (
+                        bool,
+                        Option<u64>,
+                        Option<String>,
+                        Vec<u16>,
+                        (Vec<String>, u32, u32, String, ()),
+                    ),
+                ),
+            ),
+            rmp_decode::Error,
+        > = de.deserialize_fields(&[
+            "number", "name", "born", "weight", "height", "fever", "offset", "balance", "neutered",
+            "chip", "owner", "shots", "notes", "heart", "lungs", "last",
+        ]);
+        match read {
+            Ok(parts) => {
+                let (
+                    number,
+                    name,
+                    born,
+                    weight,
+                    (
+                        height,
+                        fever,
+                        offset,
+                        balance,
+                        (neutered, chip, owner, shots, (notes, heart, lungs, last, ())),
+                    ),
+                ) = parts;
+                return Ok(Chart {
+                    number,
+                    name,
+                    born,
+                    weight,
+                    height,
+                    fever,
+                    offset,
+                    balance,
+                    neutered,
+                    chip,
+                    owner,
+                    shots,
+                    notes,
+                    heart,
+                    lungs,
+                    last,
+                });
+            }
+            Err(e) => return Err(e),
+        }
+    }
+
+    fn missing() -> Option<Chart> {
+        None
+    }
+}
+
+impl<'de, R: ReadSlice<'de>> RoundTrip<'de, R> for Chart {
+    ghost has_data = { λ human v. structure_all ((codes "number", ⟦<u64 as Serialize>⟧.data_of v.number human)
+        ∷ ((codes "name", ⟦<String as Serialize>⟧.data_of v.name human)
+        ∷ ((codes "born", ⟦<u16 as Serialize>⟧.data_of v.born human)
+        ∷ ((codes "weight", ⟦<u8 as Serialize>⟧.data_of v.weight human)
+        ∷ ((codes "height", ⟦<i8 as Serialize>⟧.data_of v.height human)
+        ∷ ((codes "fever", ⟦<i16 as Serialize>⟧.data_of v.fever human)
+        ∷ ((codes "offset", ⟦<i32 as Serialize>⟧.data_of v.offset human)
+        ∷ ((codes "balance", ⟦<i64 as Serialize>⟧.data_of v.balance human)
+        ∷ ((codes "neutered", ⟦<bool as Serialize>⟧.data_of v.neutered human)
+        ∷ ((codes "chip", ⟦<Option<u64> as Serialize>⟧.data_of v.chip human)
+        ∷ ((codes "owner", ⟦<Option<String> as Serialize>⟧.data_of v.owner human)
+        ∷ ((codes "shots", ⟦<Vec<u16> as Serialize>⟧.data_of v.shots human)
+        ∷ ((codes "notes", ⟦<Vec<String> as Serialize>⟧.data_of v.notes human)
+        ∷ ((codes "heart", ⟦<u32 as Serialize>⟧.data_of v.heart human)
+        ∷ ((codes "lungs", ⟦<u32 as Serialize>⟧.data_of v.lungs human) ∷ ((codes "last", ⟦<String as Serialize>⟧.data_of v.last human) ∷ [])))))))))))))))) (
+          refl,
+          (
+            refl,
+            (
+              refl,
+              (
+                refl,
+                (
+                  refl,
+                  (
+                    refl,
+                    (
+                      refl,
+                      (
+                        refl,
+                        (
+                          refl,
+                          (
+                            (option_some (λ x. ⟦<u64 as Serialize>⟧.data_of x human) (λ x1. refl) v.chip),
+                            (
+                              (option_some (λ x. ⟦<String as Serialize>⟧.data_of x human) (λ x2. refl) v.owner),
+                              (
+                                (slice_some _ (each_some (λ x. ⟦<u16 as Serialize>⟧.data_of x human) (λ x3. refl) v.shots.items)),
+                                ((slice_some _ (each_some (λ x. ⟦<String as Serialize>⟧.data_of x human) (λ x4. refl) v.notes.items)), (refl, (refl, (refl, tt)))),
+                              ),
+                            ),
+                          ),
+                        ),
+                      ),
+                    ),
+                  ),
+                ),
+              ),
+            ),
+          ),
+        ) };
+
+    ghost round = { λ lent s v fits. structure_row s (codes "number"
+        ∷ (codes "name" ∷ (codes "born" ∷ (codes "weight" ∷
+        (codes "height" ∷ (codes "fever" ∷ (codes "offset"
+        ∷ (codes "balance" ∷ (codes "neutered" ∷ (codes "chip"
+        ∷ (codes "owner" ∷ (codes "shots" ∷ (codes "notes" ∷ (codes "heart" ∷ (codes "lungs" ∷ (codes "last" ∷ [])))))))))))))))) _ _ refl
+        (fields_cons s (codes "number") _ _ _ (λ j. ⟦<u64 as Deserialize<'de, R>>⟧.reads s.human R.lends j v.number)
+        (Absent ⟦<u64 as Deserialize<'de, R>>⟧.absent v.number) _ (unsigned_row_64 s v.number fits.0)
+        (fields_cons s (codes "name") _ _ _ (λ j. ⟦<String as Deserialize<'de, R>>⟧.reads s.human R.lends j v.name)
+        (Absent ⟦<String as Deserialize<'de, R>>⟧.absent v.name) _ (string_row s (string_bytes v.name))
+        (fields_cons s (codes "born") _ _ _ (λ j. ⟦<u16 as Deserialize<'de, R>>⟧.reads s.human R.lends j v.born)
+        (Absent ⟦<u16 as Deserialize<'de, R>>⟧.absent v.born) _ (unsigned_row_16 s v.born fits.2)
+        (fields_cons s (codes "weight") _ _ _ (λ j. ⟦<u8 as Deserialize<'de, R>>⟧.reads s.human R.lends j v.weight)
+        (Absent ⟦<u8 as Deserialize<'de, R>>⟧.absent v.weight) _ (byte_row s v.weight fits.3)
+        (fields_cons s (codes "height") _ _ _ (λ j. ⟦<i8 as Deserialize<'de, R>>⟧.reads s.human R.lends j v.height)
+        (Absent ⟦<i8 as Deserialize<'de, R>>⟧.absent v.height) _ (signed_row_8 s v.height fits.4)
+        (fields_cons s (codes "fever") _ _ _ (λ j. ⟦<i16 as Deserialize<'de, R>>⟧.reads s.human R.lends j v.fever)
+        (Absent ⟦<i16 as Deserialize<'de, R>>⟧.absent v.fever) _ (signed_row_16 s v.fever fits.5)
+        (fields_cons s (codes "offset") _ _ _ (λ j. ⟦<i32 as Deserialize<'de, R>>⟧.reads s.human R.lends j v.offset)
+        (Absent ⟦<i32 as Deserialize<'de, R>>⟧.absent v.offset) _ (signed_row_32 s v.offset fits.6)
+        (fields_cons s (codes "balance") _ _ _ (λ j. ⟦<i64 as Deserialize<'de, R>>⟧.reads s.human R.lends j v.balance)
+        (Absent ⟦<i64 as Deserialize<'de, R>>⟧.absent v.balance) _ (signed_row_64 s v.balance fits.7)
+        (fields_cons s (codes "neutered") _ _ _ (λ j. ⟦<bool as Deserialize<'de, R>>⟧.reads s.human R.lends j v.neutered)
+        (Absent ⟦<bool as Deserialize<'de, R>>⟧.absent v.neutered) _ (truth_row s v.neutered)
+        (fields_cons s (codes "chip") _ _ _ (λ j. ⟦<Option<u64> as Deserialize<'de, R>>⟧.reads s.human R.lends j v.chip)
+        (Absent ⟦<Option<u64> as Deserialize<'de, R>>⟧.absent v.chip) _
+        (option_row s (λ x. ⟦<u64 as Serialize>⟧.data_of x s.human) ⟦<u64 as Serialize>⟧.is_value (⟦<u64 as Deserialize<'de, R>>⟧.reads s.human R.lends)
+        (λ x6. pos_other s x6) (λ x5 h5. (unsigned_row_64 s x5 h5)) v.chip fits.9)
+        (fields_cons s (codes "owner") _ _ _ (λ j. ⟦<Option<String> as Deserialize<'de, R>>⟧.reads s.human R.lends j v.owner)
+        (Absent ⟦<Option<String> as Deserialize<'de, R>>⟧.absent v.owner) _
+        (option_row s (λ x. ⟦<String as Serialize>⟧.data_of x s.human) ⟦<String as Serialize>⟧.is_value
+        (⟦<String as Deserialize<'de, R>>⟧.reads s.human R.lends) (λ x8. text_other s (string_bytes x8)) (λ x7 h7. (string_row s (string_bytes x7))) v.owner
+        fits.10) (fields_cons s (codes "shots") _ _ _ (λ j. ⟦<Vec<u16> as Deserialize<'de, R>>⟧.reads s.human R.lends j v.shots)
+        (Absent ⟦<Vec<u16> as Deserialize<'de, R>>⟧.absent v.shots) _
+        (slice_row s _ (λ ms. ReadsEach (⟦<u16 as Deserialize<'de, R>>⟧.reads s.human R.lends) ms v.shots.items)
+        (each_row s (λ x. ⟦<u16 as Serialize>⟧.data_of x s.human) ⟦<u16 as Serialize>⟧.is_value (⟦<u16 as Deserialize<'de, R>>⟧.reads s.human R.lends)
+        (λ x9 h9. (unsigned_row_16 s x9 h9)) v.shots.items fits.11))
+        (fields_cons s (codes "notes") _ _ _ (λ j. ⟦<Vec<String> as Deserialize<'de, R>>⟧.reads s.human R.lends j v.notes)
+        (Absent ⟦<Vec<String> as Deserialize<'de, R>>⟧.absent v.notes) _
+        (slice_row s _ (λ ms. ReadsEach (⟦<String as Deserialize<'de, R>>⟧.reads s.human R.lends) ms v.notes.items)
+        (each_row s (λ x. ⟦<String as Serialize>⟧.data_of x s.human) ⟦<String as Serialize>⟧.is_value
+        (⟦<String as Deserialize<'de, R>>⟧.reads s.human R.lends) (λ x10 h10. (string_row s (string_bytes x10))) v.notes.items fits.12))
+        (fields_cons s (codes "heart") _ _ _ (λ j. ⟦<u32 as Deserialize<'de, R>>⟧.reads s.human R.lends j v.heart)
+        (Absent ⟦<u32 as Deserialize<'de, R>>⟧.absent v.heart) _ (unsigned_row_32 s v.heart fits.13)
+        (fields_cons s (codes "lungs") _ _ _ (λ j. ⟦<u32 as Deserialize<'de, R>>⟧.reads s.human R.lends j v.lungs)
+        (Absent ⟦<u32 as Deserialize<'de, R>>⟧.absent v.lungs) _ (unsigned_row_32 s v.lungs fits.14)
+        (fields_cons s (codes "last") _ _ _ (λ j. ⟦<String as Deserialize<'de, R>>⟧.reads s.human R.lends j v.last)
+        (Absent ⟦<String as Deserialize<'de, R>>⟧.absent v.last) _ (string_row s (string_bytes v.last)) (fields_none s))))))))))))))))) };
+}
+
+impl NeverNil for Chart {
+    ghost never_nil = { λ s v. structure_other s _ };
+}
+
+// 9 values, the first 8 of which are written before the others.
+#[derive(Drop)]
+struct NineParts<'r, E1, E2, E3, E4, E5, E6, E7, E8, E9> {
+    first: &'r E1,
+    second: &'r E2,
+    third: &'r E3,
+    fourth: &'r E4,
+    fifth: &'r E5,
+    sixth: &'r E6,
+    seventh: &'r E7,
+    eighth: &'r E8,
+    ninth: &'r E9,
+}
+
+impl<
+    'r,
+    E1: Serialize,
+    E2: Serialize,
+    E3: Serialize,
+    E4: Serialize,
+    E5: Serialize,
+    E6: Serialize,
+    E7: Serialize,
+    E8: Serialize,
+    E9: Serialize,
+> Elements for NineParts<'r, E1, E2, E3, E4, E5, E6, E7, E8, E9> {
+    ghost count = { 9 };
+
+    ghost parts_of = { λ v human. E1.data_of v.first.now human ∷ E2.data_of v.second.now human ∷ E3.data_of v.third.now human
+        ∷ E4.data_of v.fourth.now human ∷ E5.data_of v.fifth.now human ∷ E6.data_of v.sixth.now human ∷ E7.data_of v.seventh.now human
+        ∷ E8.data_of v.eighth.now human ∷ E9.data_of v.ninth.now human ∷ [] };
+
+    ghost are_values = { λ v. E1.is_value v.first.now × E2.is_value v.second.now × E3.is_value v.third.now × E4.is_value v.fourth.now
+        × E5.is_value v.fifth.now × E6.is_value v.sixth.now × E7.is_value v.seventh.now × E8.is_value v.eighth.now × E9.is_value v.ninth.now };
+
+    ghost takes_memory = { λ s. one_of (E1.takes_memory s
+        ∷ (E2.takes_memory s ∷ (E3.takes_memory s ∷ (E4.takes_memory s
+        ∷ (E5.takes_memory s ∷ (E6.takes_memory s ∷ (E7.takes_memory s ∷ (E8.takes_memory s ∷ (E9.takes_memory s ∷ []))))))))) };
+
+    ghost counted = { λ v human. refl };
+
+    #[inline(always)]
+    fn len(&self) -> usize {
+        9
+    }
+
+    #[inline(always)]
+    fn write<W: Sink, C: SerializerConfig>(
+        &self,
+        se: &mut Serializer<W, C>,
+    ) -> Result<(), rmp_encode::Error> {
+        let front = rmp_encode::Eight {
+            first: self.first,
+            second: self.second,
+            third: self.third,
+            fourth: self.fourth,
+            fifth: self.fifth,
+            sixth: self.sixth,
+            seventh: self.seventh,
+            eighth: self.eighth,
+        };
+        let back = rmp_encode::One { first: self.ninth };
+        front.write(se)?;
+        back.write(se)
+    }
+
+    #[inline(always)]
+    fn write_fields<W: Sink, C: SerializerConfig>(
+        &self,
+        names: &[&'static str],
+        se: &mut Serializer<W, C>,
+    ) -> Result<(), rmp_encode::Error> {
+        let front = rmp_encode::Eight {
+            first: self.first,
+            second: self.second,
+            third: self.third,
+            fourth: self.fourth,
+            fifth: self.fifth,
+            sixth: self.sixth,
+            seventh: self.seventh,
+            eighth: self.eighth,
+        };
+        let back = rmp_encode::One { first: self.ninth };
+        front.write_fields(&names[..8], se)?;
+        back.write_fields(&names[8..], se)
+    }
+}
+
+// 16 values, the first 8 of which are written before the others.
+#[derive(Drop)]
+struct SixteenParts<'r, E1, E2, E3, E4, E5, E6, E7, E8, E9, E10, E11, E12, E13, E14, E15, E16> {
+    first: &'r E1,
+    second: &'r E2,
+    third: &'r E3,
+    fourth: &'r E4,
+    fifth: &'r E5,
+    sixth: &'r E6,
+    seventh: &'r E7,
+    eighth: &'r E8,
+    ninth: &'r E9,
+    tenth: &'r E10,
+    eleventh: &'r E11,
+    twelfth: &'r E12,
+    thirteenth: &'r E13,
+    fourteenth: &'r E14,
+    fifteenth: &'r E15,
+    sixteenth: &'r E16,
+}
+
+impl<
+    'r,
+    E1: Serialize,
+    E2: Serialize,
+    E3: Serialize,
+    E4: Serialize,
+    E5: Serialize,
+    E6: Serialize,
+    E7: Serialize,
+    E8: Serialize,
+    E9: Serialize,
+    E10: Serialize,
+    E11: Serialize,
+    E12: Serialize,
+    E13: Serialize,
+    E14: Serialize,
+    E15: Serialize,
+    E16: Serialize,
+> Elements
+    for SixteenParts<'r, E1, E2, E3, E4, E5, E6, E7, E8, E9, E10, E11, E12, E13, E14, E15, E16> {
+    ghost count = { 16 };
+
+    ghost parts_of = { λ v human. E1.data_of v.first.now human ∷ E2.data_of v.second.now human ∷ E3.data_of v.third.now human
+        ∷ E4.data_of v.fourth.now human ∷ E5.data_of v.fifth.now human ∷ E6.data_of v.sixth.now human ∷ E7.data_of v.seventh.now human
+        ∷ E8.data_of v.eighth.now human ∷ E9.data_of v.ninth.now human ∷ E10.data_of v.tenth.now human ∷ E11.data_of v.eleventh.now human
+        ∷ E12.data_of v.twelfth.now human ∷ E13.data_of v.thirteenth.now human ∷ E14.data_of v.fourteenth.now human ∷ E15.data_of v.fifteenth.now human
+        ∷ E16.data_of v.sixteenth.now human ∷ [] };
+
+    ghost are_values = { λ v. E1.is_value v.first.now × E2.is_value v.second.now × E3.is_value v.third.now × E4.is_value v.fourth.now
+        × E5.is_value v.fifth.now × E6.is_value v.sixth.now × E7.is_value v.seventh.now × E8.is_value v.eighth.now × E9.is_value v.ninth.now
+        × E10.is_value v.tenth.now × E11.is_value v.eleventh.now × E12.is_value v.twelfth.now × E13.is_value v.thirteenth.now
+        × E14.is_value v.fourteenth.now × E15.is_value v.fifteenth.now × E16.is_value v.sixteenth.now };
+
+    ghost takes_memory = { λ s. one_of (E1.takes_memory s
+        ∷ (E2.takes_memory s ∷ (E3.takes_memory s ∷ (E4.takes_memory s
+        ∷ (E5.takes_memory s ∷ (E6.takes_memory s ∷ (E7.takes_memory s
+        ∷ (E8.takes_memory s ∷ (E9.takes_memory s ∷ (E10.takes_memory s
+        ∷ (E11.takes_memory s ∷ (E12.takes_memory s ∷ (E13.takes_memory s
+        ∷ (E14.takes_memory s ∷ (E15.takes_memory s ∷ (E16.takes_memory s ∷ [])))))))))))))))) };
+
+    ghost counted = { λ v human. refl };
+
+    #[inline(always)]
+    fn len(&self) -> usize {
+        16
+    }
+
+    #[inline(always)]
+    fn write<W: Sink, C: SerializerConfig>(
+        &self,
+        se: &mut Serializer<W, C>,
+    ) -> Result<(), rmp_encode::Error> {
+        let front = rmp_encode::Eight {
+            first: self.first,
+            second: self.second,
+            third: self.third,
+            fourth: self.fourth,
+            fifth: self.fifth,
+            sixth: self.sixth,
+            seventh: self.seventh,
+            eighth: self.eighth,
+        };
+        let back = rmp_encode::Eight {
+            first: self.ninth,
+            second: self.tenth,
+            third: self.eleventh,
+            fourth: self.twelfth,
+            fifth: self.thirteenth,
+            sixth: self.fourteenth,
+            seventh: self.fifteenth,
+            eighth: self.sixteenth,
+        };
+        front.write(se)?;
+        back.write(se)
+    }
+
+    #[inline(always)]
+    fn write_fields<W: Sink, C: SerializerConfig>(
+        &self,
+        names: &[&'static str],
+        se: &mut Serializer<W, C>,
+    ) -> Result<(), rmp_encode::Error> {
+        let front = rmp_encode::Eight {
+            first: self.first,
+            second: self.second,
+            third: self.third,
+            fourth: self.fourth,
+            fifth: self.fifth,
+            sixth: self.sixth,
+            seventh: self.seventh,
+            eighth: self.eighth,
+        };
+        let back = rmp_encode::Eight {
+            first: self.ninth,
+            second: self.tenth,
+            third: self.eleventh,
+            fourth: self.twelfth,
+            fifth: self.thirteenth,
+            sixth: self.fourteenth,
+            seventh: self.fifteenth,
+            eighth: self.sixteenth,
+        };
+        front.write_fields(&names[..8], se)?;
+        back.write_fields(&names[8..], se)
+    }
+}
