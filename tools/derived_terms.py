@@ -148,7 +148,7 @@ def refusal_of(words, shape):
         parts = [f"part_of {words.reads(kind, 'reads')} {words.reads(kind, 'refuses')}" for kind in kinds]
         return f"RefusesTuple ({listed(parts)})"
     fields = f"⟦<{nested(kinds)} as ReadFields<'de, R>>⟧"
-    return f"RefusesFields ({codes(field.name for field in shape.fields)}) {fields}.reads {fields}.parts"
+    return f"RefusesFields ({codes(field.name for field in shape.fields)}) {fields}.reads\n        {fields}.parts"
 
 
 def member_of_refusing(of, words):

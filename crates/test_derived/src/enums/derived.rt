@@ -387,7 +387,8 @@ impl<'de, R: ReadSlice<'de>, T: Deserialize<'de, R>> Deserialize<'de, R> for Mix
 
     ghost refuses = { RefusesEnum (codes "Other" ∷ (codes "Kept" ∷ []))
         (with_content (T.refuses) ∷ (with_content (RefusesFields (codes "four" ∷ (codes "dog" ∷ []))
-        ⟦<(Option<Four>, (Dog, ())) as ReadFields<'de, R>>⟧.reads ⟦<(Option<Four>, (Dog, ())) as ReadFields<'de, R>>⟧.parts) ∷ [])) };
+        ⟦<(Option<Four>, (Dog, ())) as ReadFields<'de, R>>⟧.reads
+        ⟦<(Option<Four>, (Dog, ())) as ReadFields<'de, R>>⟧.parts) ∷ [])) };
 
     fn deserialize<C: SerializerConfig>(
         de: &mut Deserializer<R, C>,

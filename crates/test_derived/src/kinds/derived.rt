@@ -154,7 +154,8 @@ impl<'de, R: ReadSlice<'de>, T: Deserialize<'de, R>> Deserialize<'de, R> for Eit
 
     ghost refuses = { RefusesEnum (codes "Left" ∷ (codes "Right" ∷ []))
         (with_content (T.refuses) ∷ (with_content (RefusesFields (codes "by" ∷ (codes "pair" ∷ []))
-        ⟦<(i32, (Option<Pair<T>>, ())) as ReadFields<'de, R>>⟧.reads ⟦<(i32, (Option<Pair<T>>, ())) as ReadFields<'de, R>>⟧.parts) ∷ [])) };
+        ⟦<(i32, (Option<Pair<T>>, ())) as ReadFields<'de, R>>⟧.reads
+        ⟦<(i32, (Option<Pair<T>>, ())) as ReadFields<'de, R>>⟧.parts) ∷ [])) };
 
     fn deserialize<C: SerializerConfig>(
         de: &mut Deserializer<R, C>,

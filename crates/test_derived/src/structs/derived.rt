@@ -121,7 +121,8 @@ impl<'de, R: ReadSlice<'de>> Deserialize<'de, R> for Opt {
 
     ghost absent = { None };
 
-    ghost refuses = { RefusesFields (codes "v" ∷ []) ⟦<(Option<u8>, ()) as ReadFields<'de, R>>⟧.reads ⟦<(Option<u8>, ()) as ReadFields<'de, R>>⟧.parts };
+    ghost refuses = { RefusesFields (codes "v" ∷ []) ⟦<(Option<u8>, ()) as ReadFields<'de, R>>⟧.reads
+        ⟦<(Option<u8>, ()) as ReadFields<'de, R>>⟧.parts };
 
     #[inline(always)]
     fn deserialize<C: SerializerConfig>(

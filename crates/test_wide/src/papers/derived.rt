@@ -309,7 +309,8 @@ impl<'de, R: ReadSlice<'de>> Deserialize<'de, R> for Chart {
         ∷ (codes "fever" ∷ (codes "offset" ∷ (codes "balance"
         ∷ (codes "neutered" ∷ (codes "chip" ∷ (codes "owner"
         ∷ (codes "shots" ∷ (codes "notes" ∷ (codes "heart" ∷ (codes "lungs" ∷ (codes "last" ∷ []))))))))))))))))
-        ⟦<(u64, String, u16, u8, (i8, i16, i32, i64, (bool, Option<u64>, Option<String>, Vec<u16>, (Vec<String>, u32, u32, String, ())))) as ReadFields<'de, R>>⟧.reads ⟦<(u64, String, u16, u8, (i8, i16, i32, i64, (bool, Option<u64>, Option<String>, Vec<u16>, (Vec<String>, u32, u32, String, ())))) as ReadFields<'de, R>>⟧.parts };
+        ⟦<(u64, String, u16, u8, (i8, i16, i32, i64, (bool, Option<u64>, Option<String>, Vec<u16>, (Vec<String>, u32, u32, String, ())))) as ReadFields<'de, R>>⟧.reads
+        ⟦<(u64, String, u16, u8, (i8, i16, i32, i64, (bool, Option<u64>, Option<String>, Vec<u16>, (Vec<String>, u32, u32, String, ())))) as ReadFields<'de, R>>⟧.parts };
 
     fn deserialize<C: SerializerConfig>(
         de: &mut Deserializer<R, C>,
