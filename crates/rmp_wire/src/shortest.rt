@@ -1,7 +1,7 @@
 //! Which head is the canonical one of its kind and number.
 #![tactic(auto, unfolding(crate::specs::Heads::canon_head, crate::specs::Heads::fits_head, crate::specs::Taking::byte_of))]
 
-ghost use Rattle.std.specs.Prelude.{◌≡◌, ◌↔◌, ◌<◌, true, pos, negsuc, ℤ};
+ghost use Rattle.std.specs.Prelude.{◌≡◌, ◌↔◌, ◌<◌, true, pos, ℤ};
 ghost use Rattle.rmp_wire.specs.Canonical.{Opens};
 ghost use Rattle.rmp_wire.specs.Heads.{canon_head, fits_head};
 ghost use Rattle.rmp_wire.specs.Taking.{byte_of};
@@ -10,48 +10,28 @@ ghost use Rattle.rmp_wire.specs.declared.head.Head.TheVariants.{Whole, Text, Bin
 use crate::head::Head;
 use crate::marker::Marker;
 
-// The first byte of the canonical head of a number from 0 on.
-fn natural_byte(n: u128) -> u8
-    ensures { Opens result (canon_head (Whole (pos n))) }
+// The first byte of the canonical head of a number.
+fn whole_byte(z: i128) -> u8
+    ensures { fits_head (Whole z) → Opens result (canon_head (Whole z)) }
 {
-    if n < 128 {
-        n as u8
-    } else if n < 1 << 8 {
-        0xcc
-    } else if n < 1 << 16 {
-        0xcd
-    } else if n < 1 << 32 {
-        0xce
-    } else {
+    if z >= 1 << 32 {
         0xcf
-    }
-}
-
-// That of the number -1 - n.
-fn negative_byte(n: u128) -> u8
-    ensures { Opens result (canon_head (Whole (negsuc n))) }
-{
-    if n < 32 {
-        0xff - n as u8
-    } else if n < 1 << 7 {
+    } else if z >= 1 << 16 {
+        0xce
+    } else if z >= 1 << 8 {
+        0xcd
+    } else if z >= 128 {
+        0xcc
+    } else if z >= -32 {
+        (z as i8).cast_unsigned()
+    } else if z >= i128::from(i8::MIN) {
         0xd0
-    } else if n < 1 << 15 {
+    } else if z >= i128::from(i16::MIN) {
         0xd1
-    } else if n < 1 << 31 {
+    } else if z >= i128::from(i32::MIN) {
         0xd2
     } else {
         0xd3
-    }
-}
-
-// That of any number.
-fn whole_byte(z: i128) -> u8
-    ensures { Opens result (canon_head (Whole z)) }
-{
-    if z >= 0 {
-        natural_byte(z.cast_unsigned())
-    } else {
-        negative_byte(z.unsigned_abs() - 1)
     }
 }
 

@@ -114,18 +114,16 @@ pub fn write_sint<W: Sink>(sink: &mut W, z: i64) -> Result<(), ValueWriteError>
     if z >= 0 {
         return write_uint(sink, z.cast_unsigned());
     }
-    // -1 - z, the number whose width is asked
-    let below = z.unsigned_abs() - 1;
-    if below < 32 {
+    if z >= -32 {
         return put_marker(sink, Marker::FixNeg(z as i8));
     }
-    if below < 1 << 7 {
+    if z >= i64::from(i8::MIN) {
         return put_8(sink, Marker::I8, (z as i8).cast_unsigned());
     }
-    if below < 1 << 15 {
+    if z >= i64::from(i16::MIN) {
         return put_16(sink, Marker::I16, (z as i16).cast_unsigned());
     }
-    if below < 1 << 31 {
+    if z >= i64::from(i32::MIN) {
         return put_32(sink, Marker::I32, (z as i32).cast_unsigned());
     }
     put_64(sink, Marker::I64, z.cast_unsigned())
