@@ -1,6 +1,5 @@
 //! Four fields and the others, as one tuple. A struct of many fields is read as such tuples in one another, since what a proof of it takes grows
 //! with how deep they stand.
-ghost use Rattle.rmp_decode.specs.Fields.{given_all};
 
 use super::Fields;
 use crate::access::map::MapAccess;
