@@ -4,13 +4,11 @@
 mod called;
 mod enums;
 mod kinds;
-mod lent;
 mod rounds;
 mod structs;
 
 pub use called::{canonical, older, restocked};
 pub use enums::{Four, Mixed, Two, V12};
 pub use kinds::{Chosen, Either, Guests, Kennel, Pair, Row, Sorted};
-pub use lent::{Event, Label, Line, Piece};
 pub use rounds::{kennels_come_back, sorted_come_back};
 pub use structs::{Counted, Dog, Newtype, Opt, Point, Unit};

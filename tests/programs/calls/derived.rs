@@ -7,9 +7,8 @@ use rmp_wire::{Bytes, Marker};
 use std::alloc::Global;
 use std::io::Cursor;
 use std::test::Fail;
-use test_derived::{
-    Counted, Dog, Event, Four, Label, Line, Mixed, Newtype, Opt, Piece, Point, Two, Unit, V12,
-};
+use test_derived::{Counted, Dog, Four, Mixed, Newtype, Opt, Point, Two, Unit, V12};
+use test_lent::{Event, Label, Line, Piece};
 use test_wide::{Chart, Papers};
 
 fn dog(alloc: Global, name: &str, age: u16) -> Result<Dog, Fail> {

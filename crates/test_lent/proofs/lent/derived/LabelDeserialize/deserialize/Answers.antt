@@ -1,5 +1,5 @@
 use Rattle.rmp_decode.proofs.Laws.{lawful_ok, lawful_err}
-use Rattle.test_derived.proofs.lent.derived.LabelDeserialize.deserialize.Goals as goal
+use Rattle.test_lent.proofs.lent.derived.LabelDeserialize.deserialize.Goals as goal
 
 pub returns-in-Ok-clause-law : goal.returns-in-Ok-clause-law
 returns-in-Ok-clause-law g c = lawful_ok _ _ _ _ _ _ _ (λ m r. r.1) c.in-Ok.ensures.law

@@ -9,7 +9,7 @@ use Rattle.rmp_wire.specs.declared.source.Source.{Ghosts}
 use Rattle.std.proofs.Common.{◌≡◌, refl, arith, rules, Result, List, ℕ}
 use Rattle.std.proofs.lemmas.Int.{to_z-of_z}
 use Rattle.std.specs.Int.{w16}
-use Rattle.test_derived.proofs.lent.derived.EventDeserialize.deserialize.Goals as goal
+use Rattle.test_lent.proofs.lent.derived.EventDeserialize.deserialize.Goals as goal
 
 -- the reader that a law speaks of
 abbrev left_by : {R C V : Type 0} {g : Ghosts R} {reads : Msg → V → Type 0} {old last : Deserializer R C} {result : Result V Error}

@@ -22,7 +22,7 @@ ghost use Rattle.rmp_serde.specs.VariantRounds.{newtype_variant_row, tuple_varia
 ghost use Rattle.rmp_wire.specs.Types.{bytes_of};
 ghost use Rattle.std.proofs.Common.{refl};
 ghost use Rattle.std.specs.Prelude.{◌≡◌, ◌∷◌, [], None, Some, codes, false, ⊤, OnOk, ◌||◌, true};
-ghost use Rattle.test_derived.specs.declared.lent.Event.TheVariants as the_event;
+ghost use Rattle.test_lent.specs.declared.lent.Event.TheVariants as the_event;
 
 use super::{Bytes, Event, Label, Line, Piece};
 use rmp_decode::{Deserialize, Deserializer, ReadFields};

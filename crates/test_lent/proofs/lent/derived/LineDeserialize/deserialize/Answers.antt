@@ -1,11 +1,11 @@
 use Rattle.rmp_decode.proofs.Laws.{lawful_ok, lawful_err}
-use Rattle.test_derived.proofs.lent.derived.PieceDeserialize.deserialize.Goals as goal
+use Rattle.test_lent.proofs.lent.derived.LineDeserialize.deserialize.Goals as goal
 
 pub returns-in-Ok-clause-law : goal.returns-in-Ok-clause-law
 returns-in-Ok-clause-law g c = lawful_ok _ _ _ _ _ _ _ (λ m r. r) c.in-Ok.ensures.law
 
 pub returns-in-Err-clause-law : goal.returns-in-Err-clause-law
-returns-in-Err-clause-law g c = lawful_err _ _ _ _ _ _ (λ m r. ((r.0.0, r.0.1), r.1)) c.in-Err.ensures.law
+returns-in-Err-clause-law g c = lawful_err _ _ _ _ _ _ (λ m r. ((r.0.level, r.0.text, r.0.tags, r.0.source, tt), r.1)) c.in-Err.ensures.law
 
 pub returns-in-Err-clause-refused : goal.returns-in-Err-clause-refused
 returns-in-Err-clause-refused g c = c.in-Err.ensures.refused

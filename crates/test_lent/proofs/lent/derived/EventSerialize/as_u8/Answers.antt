@@ -1,6 +1,6 @@
 use Rattle.rmp_encode.proofs.Variants.{newtype_no_byte, tuple_variant_no_byte, struct_variant_no_byte}
 use Rattle.std.proofs.Common.{rules}
-use Rattle.test_derived.proofs.lent.derived.EventSerialize.as_u8.Goals as goal
+use Rattle.test_lent.proofs.lent.derived.EventSerialize.as_u8.Goals as goal
 
 pub returns-in-Said-clause-byte : goal.returns-in-Said-clause-byte
 returns-in-Said-clause-byte g c = search (rules, newtype_no_byte)
