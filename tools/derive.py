@@ -5,10 +5,11 @@
 
 The file declares its types as in Rust, each with `#[derive(Drop)]`, and has a line `mod derived;`. Of src/pets.rt the
 implementations go to src/pets/derived.rt, and the proofs below proofs/pets/derived/; `rt fmt` and `rt check` in the crate
-are all that follows. The crate stands on rmp_encode, rmp_decode and rmp_wire. Where crates.txt names rmp_serde for it too, each type
-gets `RoundTrip`, and `NeverNil` where no value is nil, if the laws of its fields are known: they are of parameters, of types of std
-or of the wire, or of types of the crate that have `RoundTrip`, in this file or in one that a `use` names; where such a type has
-parameters, the types of its fields have to be in scope, too. Of a type that doesn't get it the tool says why.
+are all that follows. The crate stands on rmp_encode, rmp_decode and rmp_wire. Where crates.txt names rmp_serde for it too, or
+rmp_round_trip, on which that stands, each type gets `RoundTrip`, and `NeverNil` where no value is nil, if the laws of its fields are
+known: they are of parameters, of types of std or of the wire, or of types of the crate that have `RoundTrip`, in this file or in one
+that a `use` names; where such a type has parameters, the types of its fields have to be in scope, too. Of a type that doesn't get it
+the tool says why.
 
 Structs with names, tuple structs, newtypes, structs without fields, and enums with variants of each kind are derived, with
 type parameters or without, and with a lifetime where they borrow texts or bytes of what they are read from. The type of a field is any
@@ -43,7 +44,7 @@ TAKEN = "se de e parts variant".split()
 CODE = {
     "rmp_decode": "Deserialize Deserializer ReadFields",
     "rmp_encode": "Elements Serialize Serializer",
-    "rmp_serde": "NeverNil RoundTrip",
+    "rmp_round_trip": "NeverNil RoundTrip",
     "rmp_wire": "ReadSlice Sink",
     "rmp_wire::config": "SerializerConfig",
 }
@@ -335,13 +336,14 @@ class Module:
         """The name of a module below the crate, where this file's module stands in it."""
         return ".".join(word for word in (self.at.rstrip("/").replace("/", "."), *words) if word)
 
-    def has_rounds(self):
-        """Whether the crate stands on rmp_serde, as crates.txt says, which stands at the top of the repository."""
+    def rounds(self):
+        """The library through which the crate names `RoundTrip`, if it has any, by crates.txt, which stands at the top of the repository."""
         try:
             with open(os.path.join(self.crate, "..", "..", "crates.txt"), encoding="utf-8") as file:
-                return bool(re.search(rf"^{self.name}(?: \w+)?:.*\brmp_serde\b", file.read(), re.M))
+                line = re.search(rf"^{self.name}(?: \w+)?:(.*)", file.read(), re.M)
         except OSError:
-            return False
+            return None
+        return next((name for name in ("rmp_serde", "rmp_round_trip") if line and name in line[1].split()), None)
 
     def source(self):
         with open(os.path.join(self.crate, "src", self.path), encoding="utf-8") as file:
@@ -350,7 +352,7 @@ class Module:
     def traits(self, by_hand):
         """The traits to derive, where these are implemented by hand: the last two go by the forms of the others."""
         traits = {"Serialize", "Deserialize"} - by_hand
-        return traits | {"RoundTrip", "NeverNil"} - by_hand if len(traits) == 2 and self.has_rounds() else traits
+        return traits | {"RoundTrip", "NeverNil"} - by_hand if len(traits) == 2 and self.rounds() else traits
 
     def other(self, path):
         """The file of a module that a `use` names, where it is one of the crate."""
@@ -396,6 +398,11 @@ class Module:
             out.write(broken(text, place.endswith(".antt")))
 
 
+def through(library, table):
+    """The same names, those of rmp_round_trip by way of this library, if there is one."""
+    return {re.sub(r"^rmp_round_trip\b", library or "rmp_round_trip", path): names for path, names in table.items()}
+
+
 def implementations(module, wanted):
     """The text of src/../derived.rt."""
     items = []
@@ -410,13 +417,13 @@ def implementations(module, wanted):
         items += handing_over(count)
     text = "\n".join(items)
     table = {name: f"{GHOST.get(name, '')} {LEMMAS.get(name, '')}" for name in {**GHOST, **LEMMAS}}
-    ghosts = imports(text, table, ghost_line)
+    ghosts = imports(text, through(module.rounds(), table), ghost_line)
     others = {other.declared: other for own in wanted for other in own.others.values()}
     for own in [*wanted, *others.values()]:
         if own.of.variants and f"{alias(own.of)}." in text:
             ghosts.append(f"ghost use Rattle.{own.declared}.TheVariants as {alias(own.of)};\n")
     brought = set().union(*(own.brought for own in wanted))
-    uses = [code_line("super", sorted(brought.union(named_types([own.of for own in wanted])))), *imports(text, CODE, code_line)]
+    uses = [code_line("super", sorted(brought.union(named_types([own.of for own in wanted])))), *imports(text, through(module.rounds(), CODE), code_line)]
     about = f"//! How the types of {module.path} are written and read. Written by tools/derive.py.\n"
     return about + "".join(sorted(ghosts)) + "\n" + "".join(uses) + "\n" + text
 

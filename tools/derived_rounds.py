@@ -1,7 +1,7 @@
 """Writes `RoundTrip` and `NeverNil` for what derive.py derives: values are read as they were written.
 
 The law of a type parameter is named through the parameter, that of a type of the crate without parameters by the module in which it
-was proved, and that of any other type is spelled out from the lemmas of rmp_serde: of the types of std and of the wire, and of those
+was proved, and that of any other type is spelled out from the lemmas of rmp_round_trip and rmp_serde: of the types of std and of the wire, and of those
 of the crate that have parameters, where the types of their fields are in scope, too.
 """
 import re
@@ -41,7 +41,7 @@ ORDERS |= {kind: "(Prim.search (comparing, rules))" for kind in "u8 u16 u32 u64 
 # What a law of another type takes before its own arguments: the reader's type with what its traits say, and where their methods
 # are, which no law depends on.
 READER = "R.row R.ReadSlice.own (given 0) R.Source (given 0)"
-# Where the lemmas stand.
+# Where the lemmas stand. Those of rmp_round_trip can be named through rmp_serde too.
 LEMMAS = {
     "std.proofs.Common": "refl rules",
     "std.proofs.lemmas.Cmp": "on_total nat_list_cmp_total",
@@ -50,21 +50,21 @@ LEMMAS = {
     "rmp_wire.specs.Types": "buffer_bytes bytes_of tag_of ext_bytes",
     "rmp_decode.specs.Arrays": "Exactly",
     "rmp_decode.specs.Rows": "ReadsEach",
-    "rmp_serde.specs.LeafRounds": "byte_row unsigned_row_16 unsigned_row_32 unsigned_row_64 signed_row_8 signed_row_16 signed_row_32 signed_row_64"
+    "rmp_round_trip.specs.LeafRounds": "byte_row unsigned_row_16 unsigned_row_32 unsigned_row_64 signed_row_8 signed_row_16 signed_row_32 signed_row_64"
     " truth_row unit_row float32_row float64_row char_row string_row str_row bytes_row buffer_row ext_row byte_other pos_other whole_other unsigned128_other"
     " signed128_other truth_other float32_other float64_other char_other text_other bytes_other extension_other",
-    "rmp_serde.specs.MapRounds": "mapping_some map_row map_other set_row",
+    "rmp_round_trip.specs.MapRounds": "mapping_some map_row map_other set_row",
     "rmp_serde.specs.RawRounds": "raw_row raw_other",
     "rmp_serde.specs.Raws": "raw_bytes",
-    "rmp_serde.specs.RoundTrip": "LowersTo",
-    "rmp_serde.specs.Rounds": "first_lent second_lent each_some each_row rows_map option_some option_row slice_some slice_row"
+    "rmp_round_trip.specs.RoundTrip": "LowersTo",
+    "rmp_round_trip.specs.Rounds": "first_lent second_lent each_some each_row rows_map option_some option_row slice_some slice_row"
     " slice_other tuple_some tuple_row tuple_other sequence_some sequence_row sequence_other rows_none rows_cons",
-    "rmp_serde.specs.StructRounds": "sequence_all tuple_all tuple_variant_all structure_all struct_variant_all structure_row structure_other fields_none fields_cons",
+    "rmp_round_trip.specs.StructRounds": "sequence_all tuple_all tuple_variant_all structure_all struct_variant_all structure_row structure_other fields_none fields_cons",
     "rmp_serde.specs.ValueLowers": "value_row",
-    "rmp_serde.specs.VariantRounds": "newtype_some newtype_variant_some nothing_row newtype_row bare_row"
+    "rmp_round_trip.specs.VariantRounds": "newtype_some newtype_variant_some nothing_row newtype_row bare_row"
     " newtype_variant_row tuple_variant_row struct_variant_row nothing_other newtype_other bare_other newtype_variant_other"
     " tuple_variant_other struct_variant_other",
-    "rmp_serde.specs.WideRounds": "unsigned128_row signed128_row",
+    "rmp_round_trip.specs.WideRounds": "unsigned128_row signed128_row",
 }
 
 

@@ -104,7 +104,7 @@ def exports(path):
 
 def names_here():
     """The paths of rmp_serde's public names, as the list has them."""
-    crates = {it: crate_of(it) for it in ("rmp_wire", "rmp_encode", "rmp_decode", "rmp_serde")}
+    crates = {it: crate_of(it) for it in ("rmp_wire", "rmp_encode", "rmp_decode", "rmp_round_trip", "rmp_serde")}
     found = set()
     for module in ("", "encode", "decode"):
         path = ["crates", "rmp_serde", "src", f"{module or 'lib'}.rt"]

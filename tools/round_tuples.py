@@ -12,7 +12,7 @@ KINDS = "ABDEFGHI"
 MOST = len(KINDS)
 HEAD = """//! Tuples. Written by tools/round_tuples.py.
 ghost use Rattle.std.specs.Prelude.{◌∷◌, ◌||◌, [], true};
-ghost use Rattle.rmp_serde.specs.Rounds.{rows_none, rows_cons, parts_none, parts_cons, tuple_some, tuple_row, tuple_other, first_lent, second_lent};
+ghost use Rattle.rmp_round_trip.specs.Rounds.{rows_none, rows_cons, parts_none, parts_cons, tuple_some, tuple_row, tuple_other, first_lent, second_lent};
 
 use crate::round_trip::{NeverNil, RoundTrip};
 use rmp_encode::Serialize;
@@ -71,7 +71,7 @@ impl<{bounds(kinds, "Serialize")}> NeverNil for {tuple_of(kinds)} {{
 
 
 def main():
-    write(HEAD + "".join(implementations(KINDS[:n]) for n in range(1, MOST + 1)), "rmp_serde", "src", "round_trip", "tuples.rt")
+    write(HEAD + "".join(implementations(KINDS[:n]) for n in range(1, MOST + 1)), "rmp_round_trip", "src", "round_trip", "tuples.rt")
 
 
 main()

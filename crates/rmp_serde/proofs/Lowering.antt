@@ -16,17 +16,10 @@ use Rattle.rmp_encode.specs.Trees.{HasTree, spell, byte_of, tree_of}
 use Rattle.rmp_encode.specs.Writes as encode
 use Rattle.rmp_encode.specs.Writes.{FailsBy, HasBegun, WritesPart}
 use Rattle.rmp_encode.proofs.Parts.{part_done, part_failed}
+use Rattle.rmp_round_trip.proofs.RoundLaws.{some_is}
 use Rattle.rmp_serde.specs.TreeWrites.{StopsWithin, WritesTree}
 use Rattle.rmp_serde.specs.ValueData.{value_data}
 use Rattle.rmp_serde.specs.ValueLowers.{value_tree}
-
-tree_or : Msg → Option Msg → Msg
-tree_or m None = m
-tree_or m (Some n) = n
-
-pub some_is : {a b : Msg} → Some a ≡ Some b → a ≡ b
-unfolding tree_or
-some_is {a} {b} e = ap (tree_or a) e
 
 -- bytes that spell what a value lowers to
 pub value_spelled : (s : Settings) (m : Msg) (b : List ℕ) → IsSpelled (tree_of s (Some (value_data m))) b → b ≡ canon m

@@ -8,7 +8,7 @@ use Rattle.rmp_encode.specs.Trees.{tree_of}
 use Rattle.rmp_encode.specs.declared.settings.Settings.{Settings}
 use Rattle.rmp_decode.specs.Read.{IsRaw}
 use Rattle.rmp_serde.specs.Raws.{raw_data}
-use Rattle.rmp_serde.specs.RoundTrip.{LowersTo}
+use Rattle.rmp_round_trip.specs.RoundTrip.{LowersTo}
 
 module _ (s : Settings) where
   either_row : (b : Bool) (t : List ℕ) → LowersTo s (Some (cond b (text t) (bytes t))) (λ m. IsRaw m t)

@@ -6,7 +6,7 @@ use Rattle.rmp_encode.specs.Data.{lower, lower_parts, lower_entries}
 use Rattle.rmp_encode.specs.Trees.{tree_of}
 use Rattle.rmp_encode.specs.declared.settings.Settings.{Settings}
 use Rattle.rmp_serde.specs.Read.{AllTextsUtf8, reads_value}
-use Rattle.rmp_serde.specs.RoundTrip.{LowersTo}
+use Rattle.rmp_round_trip.specs.RoundTrip.{LowersTo}
 use Rattle.rmp_serde.specs.ValueData.{value_data, values_data, pairs_data}
 
 mutual

@@ -6,14 +6,13 @@ pub mod decode;
 pub mod encode;
 pub mod laws;
 mod raw;
-mod round_trip;
 mod value;
 
 pub use check::{Canon, check_canonical};
 pub use decode::{Deserializer, from_read, from_read_ref, from_slice, from_slice_strict};
 pub use encode::{Serializer, to_vec, to_vec_named};
 pub use raw::{Raw, RawRef};
+pub use rmp_round_trip::{NeverNil, RoundTrip};
 pub use rmp_wire as wire;
 pub use rmp_wire::{MSGPACK_EXT_STRUCT_NAME, Marker, config};
-pub use round_trip::{NeverNil, RoundTrip};
 pub use value::{Kind, Pairs, Parts, Value, ValueRef};

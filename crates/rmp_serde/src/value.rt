@@ -4,6 +4,7 @@ pub(crate) mod flat;
 mod kind;
 mod read;
 mod reference;
+mod round_trip;
 mod text;
 mod write;
 

@@ -1,6 +1,7 @@
 //! Callers that promise nothing: what they call is proved to be called as it may be, and nothing is written for it.
 use crate::structs::Dog;
-use rmp_serde::{Value, from_slice, to_vec};
+use rmp_decode::from_slice;
+use rmp_encode::to_vec;
 use std::alloc::Global;
 
 /// How many there are of each thing.
@@ -13,12 +14,6 @@ pub fn restocked(alloc: Global, message: &[u8]) -> Option<Vec<u8>> {
         *count = count.saturating_add(1);
     }
     to_vec(alloc, &stock).ok()
-}
-
-/// The one canonical spelling of a message that may stand in any widths.
-pub fn canonical(alloc: Global, message: &[u8]) -> Option<Vec<u8>> {
-    let value: Value = from_slice(alloc, message).ok()?;
-    to_vec(alloc, &value).ok()
 }
 
 /// The message with a dog that is a year older, or nothing where it is no dog or memory is short.

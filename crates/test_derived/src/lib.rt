@@ -7,7 +7,7 @@ mod kinds;
 mod rounds;
 mod structs;
 
-pub use called::{canonical, older, restocked};
+pub use called::{older, restocked};
 pub use enums::{Four, Mixed, Two, V12};
 pub use kinds::{Chosen, Either, Guests, Kennel, Pair, Row, Sorted};
 pub use rounds::{kennels_come_back, sorted_come_back};

@@ -4,15 +4,15 @@ ghost use Rattle.rmp_decode.specs.Law.{Begins};
 ghost use Rattle.rmp_encode.specs.Calls.{IsSpelled};
 ghost use Rattle.rmp_encode.specs.Trees.{tree_of};
 ghost use Rattle.rmp_encode.specs.declared.settings.Settings.{Settings};
-ghost use Rattle.rmp_serde.specs.RoundTrip.{LowersTo};
+ghost use Rattle.rmp_round_trip.specs.RoundTrip.{LowersTo};
 ghost use Rattle.rmp_wire.specs.Msg.{depth};
 ghost use Rattle.rmp_wire.specs.Spelling.{Spells};
 
 use crate::kinds::{Kennel, Sorted};
 use rmp_decode::Deserialize;
 use rmp_encode::Serialize;
-use rmp_serde::RoundTrip;
-use rmp_serde::laws::written_is_read;
+use rmp_round_trip::RoundTrip;
+use rmp_round_trip::laws::written_is_read;
 use rmp_wire::ReadSlice;
 
 /// A kennel that was written is read.

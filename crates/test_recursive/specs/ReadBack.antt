@@ -11,11 +11,11 @@ use Rattle.rmp_decode.specs.Variants.{OfVariant}
 use Rattle.rmp_encode.specs.Data.{Data, byte}
 use Rattle.rmp_encode.specs.Trees.{tree_of, parts_of, slice_of, structure_of}
 use Rattle.rmp_encode.specs.declared.settings.Settings.{Settings}
-use Rattle.rmp_serde.specs.LeafRounds.{byte_row}
-use Rattle.rmp_serde.specs.RoundTrip.{LowersTo}
-use Rattle.rmp_serde.specs.Rounds.{parts_cons, slice_some, each_row, slice_row, slice_other}
-use Rattle.rmp_serde.specs.StructRounds.{structure_all, structure_row, structure_other, fields_cons, fields_none}
-use Rattle.rmp_serde.specs.VariantRounds.{newtype_variant_some, newtype_variant_row, newtype_variant_other}
+use Rattle.rmp_round_trip.specs.LeafRounds.{byte_row}
+use Rattle.rmp_round_trip.specs.RoundTrip.{LowersTo}
+use Rattle.rmp_round_trip.specs.Rounds.{parts_cons, slice_some, each_row, slice_row, slice_other}
+use Rattle.rmp_round_trip.specs.StructRounds.{structure_all, structure_row, structure_other, fields_cons, fields_none}
+use Rattle.rmp_round_trip.specs.VariantRounds.{newtype_variant_some, newtype_variant_row, newtype_variant_other}
 use Rattle.test_recursive.specs.declared.recursive.Nested.{Nested, out-Nested}
 use Rattle.test_recursive.specs.declared.recursive.Rose.{Rose, out-Rose}
 use Rattle.test_recursive.specs.declared.recursive.Tree.{Tree, out-Tree}

@@ -3,7 +3,7 @@ ghost use Rattle.test_recursive.specs.ReadBack.{nested_some, nested_round, neste
 ghost use Rattle.test_recursive.specs.ReadBack.{rose_some, rose_round, rose_other};
 
 use crate::recursive::{Nested, Rose, Tree};
-use rmp_serde::{NeverNil, RoundTrip};
+use rmp_round_trip::{NeverNil, RoundTrip};
 use rmp_wire::ReadSlice;
 
 impl<'de, R: ReadSlice<'de>> RoundTrip<'de, R> for Nested {

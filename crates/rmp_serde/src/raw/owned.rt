@@ -12,9 +12,9 @@ ghost use Rattle.rmp_serde.specs.RawRounds.{raw_row, raw_other};
 ghost use Rattle.rmp_serde.specs.Raws.{raw_bytes, raw_data};
 
 use crate::raw::{Content, Other, Raw};
-use crate::round_trip::{NeverNil, RoundTrip};
 use rmp_decode::{Deserialize, Deserializer, Error};
 use rmp_encode::{Serialize, Serializer};
+use rmp_round_trip::{NeverNil, RoundTrip};
 use rmp_wire::config::SerializerConfig;
 use rmp_wire::{ReadSlice, Sink};
 use std::str::Utf8Error;

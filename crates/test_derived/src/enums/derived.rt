@@ -9,11 +9,11 @@ ghost use Rattle.rmp_decode.specs.Variants.{OfVariant, Case, NoCase, Bare, Conte
 ghost use Rattle.rmp_encode.specs.Data.{unit_variant};
 ghost use Rattle.rmp_encode.specs.Sizes.{one_of};
 ghost use Rattle.rmp_encode.specs.Trees.{newtype_variant_of, tuple_variant_of, struct_variant_of};
-ghost use Rattle.rmp_serde.specs.LeafRounds.{byte_row, unsigned_row_16, unsigned_row_32, string_row};
-ghost use Rattle.rmp_serde.specs.Rounds.{option_some, option_row, rows_none, rows_cons};
-ghost use Rattle.rmp_serde.specs.StructRounds.{tuple_variant_all, struct_variant_all, fields_none, fields_cons};
-ghost use Rattle.rmp_serde.specs.VariantRounds.{bare_other, newtype_variant_other, tuple_variant_other, struct_variant_other};
-ghost use Rattle.rmp_serde.specs.VariantRounds.{newtype_variant_some, bare_row, newtype_variant_row, tuple_variant_row, struct_variant_row};
+ghost use Rattle.rmp_round_trip.specs.LeafRounds.{byte_row, unsigned_row_16, unsigned_row_32, string_row};
+ghost use Rattle.rmp_round_trip.specs.Rounds.{option_some, option_row, rows_none, rows_cons};
+ghost use Rattle.rmp_round_trip.specs.StructRounds.{tuple_variant_all, struct_variant_all, fields_none, fields_cons};
+ghost use Rattle.rmp_round_trip.specs.VariantRounds.{bare_other, newtype_variant_other, tuple_variant_other, struct_variant_other};
+ghost use Rattle.rmp_round_trip.specs.VariantRounds.{newtype_variant_some, bare_row, newtype_variant_row, tuple_variant_row, struct_variant_row};
 ghost use Rattle.std.proofs.Common.{refl};
 ghost use Rattle.std.specs.Prelude.{◌≡◌, ◌∷◌, [], None, Some, codes, false, ⊤, string_bytes};
 ghost use Rattle.test_derived.specs.declared.enums.Four.TheVariants as the_four;
@@ -24,7 +24,7 @@ ghost use Rattle.test_derived.specs.declared.enums.V12.TheVariants as the_v12;
 use super::{Dog, Four, Mixed, Two, V12};
 use rmp_decode::{Deserialize, Deserializer, ReadFields};
 use rmp_encode::{Serialize, Serializer};
-use rmp_serde::{NeverNil, RoundTrip};
+use rmp_round_trip::{NeverNil, RoundTrip};
 use rmp_wire::config::SerializerConfig;
 use rmp_wire::{ReadSlice, Sink};
 

@@ -9,17 +9,17 @@ ghost use Rattle.rmp_decode.specs.Units.{IsNothing, not_nothing};
 ghost use Rattle.rmp_encode.specs.Data.{unit_struct};
 ghost use Rattle.rmp_encode.specs.Sizes.{one_of};
 ghost use Rattle.rmp_encode.specs.Trees.{wrapped_of, sequence_of, structure_of};
-ghost use Rattle.rmp_serde.specs.LeafRounds.{byte_row, unsigned_row_16, unsigned_row_32, unsigned_row_64, string_row, byte_other, pos_other};
-ghost use Rattle.rmp_serde.specs.Rounds.{option_some, option_row, sequence_row, sequence_other, rows_none, rows_cons};
-ghost use Rattle.rmp_serde.specs.StructRounds.{sequence_all, structure_all, structure_row, structure_other, fields_none, fields_cons};
-ghost use Rattle.rmp_serde.specs.VariantRounds.{newtype_some, nothing_row, newtype_row, nothing_other, newtype_other};
+ghost use Rattle.rmp_round_trip.specs.LeafRounds.{byte_row, unsigned_row_16, unsigned_row_32, unsigned_row_64, string_row, byte_other, pos_other};
+ghost use Rattle.rmp_round_trip.specs.Rounds.{option_some, option_row, sequence_row, sequence_other, rows_none, rows_cons};
+ghost use Rattle.rmp_round_trip.specs.StructRounds.{sequence_all, structure_all, structure_row, structure_other, fields_none, fields_cons};
+ghost use Rattle.rmp_round_trip.specs.VariantRounds.{newtype_some, nothing_row, newtype_row, nothing_other, newtype_other};
 ghost use Rattle.std.proofs.Common.{refl};
 ghost use Rattle.std.specs.Prelude.{◌∷◌, [], None, Some, codes, false, ⊤, string_bytes};
 
 use super::{Counted, Dog, Newtype, Opt, Point, Unit};
 use rmp_decode::{Deserialize, Deserializer, ReadFields};
 use rmp_encode::{Serialize, Serializer};
-use rmp_serde::{NeverNil, RoundTrip};
+use rmp_round_trip::{NeverNil, RoundTrip};
 use rmp_wire::config::SerializerConfig;
 use rmp_wire::{ReadSlice, Sink};
 

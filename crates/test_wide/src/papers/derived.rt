@@ -4,17 +4,17 @@ ghost use Rattle.rmp_decode.specs.Fields.{OfFields, Field, Absent, NoField};
 ghost use Rattle.rmp_decode.specs.Rows.{ReadsEach};
 ghost use Rattle.rmp_encode.specs.Sizes.{one_of};
 ghost use Rattle.rmp_encode.specs.Trees.{structure_of};
-ghost use Rattle.rmp_serde.specs.LeafRounds.{byte_row, unsigned_row_16, unsigned_row_32, unsigned_row_64, signed_row_8, signed_row_16};
-ghost use Rattle.rmp_serde.specs.LeafRounds.{signed_row_32, signed_row_64, truth_row, string_row, pos_other, text_other};
-ghost use Rattle.rmp_serde.specs.Rounds.{each_some, each_row, option_some, option_row, slice_some, slice_row};
-ghost use Rattle.rmp_serde.specs.StructRounds.{structure_all, structure_row, structure_other, fields_none, fields_cons};
+ghost use Rattle.rmp_round_trip.specs.LeafRounds.{byte_row, unsigned_row_16, unsigned_row_32, unsigned_row_64, signed_row_8, signed_row_16};
+ghost use Rattle.rmp_round_trip.specs.LeafRounds.{signed_row_32, signed_row_64, truth_row, string_row, pos_other, text_other};
+ghost use Rattle.rmp_round_trip.specs.Rounds.{each_some, each_row, option_some, option_row, slice_some, slice_row};
+ghost use Rattle.rmp_round_trip.specs.StructRounds.{structure_all, structure_row, structure_other, fields_none, fields_cons};
 ghost use Rattle.std.proofs.Common.{refl};
 ghost use Rattle.std.specs.Prelude.{◌∷◌, [], None, codes, string_bytes};
 
 use super::{Chart, Papers};
 use rmp_decode::{Deserialize, Deserializer, ReadFields};
 use rmp_encode::{Elements, Serialize, Serializer};
-use rmp_serde::{NeverNil, RoundTrip};
+use rmp_round_trip::{NeverNil, RoundTrip};
 use rmp_wire::config::SerializerConfig;
 use rmp_wire::{ReadSlice, Sink};
 

@@ -1,4 +1,4 @@
-use Rattle.rmp_serde.proofs.RoundLaws.{values_equal, values_again}
+use Rattle.rmp_serde.proofs.ValueLaws.{values_equal, values_again}
 use Rattle.rmp_serde.proofs.laws.values_are_their_trees.Goals as goal
 
 pub returns-clause-equal : goal.returns-clause-equal

@@ -1,0 +1,7 @@
+//! Types whose values are read as they were written, and what follows for them.
+#![tactic(auto)]
+
+pub mod laws;
+mod round_trip;
+
+pub use round_trip::{NeverNil, RoundTrip};

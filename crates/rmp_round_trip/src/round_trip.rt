@@ -1,0 +1,40 @@
+//! Types whose values are read as they were written.
+ghost use Rattle.std.specs.Prelude.{◌≡◌, ◌≢◌, Bool, true, false, Option, Some, IsSome};
+ghost use Rattle.rmp_encode.specs.Trees.{tree_of};
+ghost use Rattle.rmp_encode.specs.declared.settings.Settings.{Settings};
+ghost use Rattle.rmp_round_trip.specs.RoundTrip.{LowersTo};
+ghost use Rattle.rmp_wire.specs.Msg.{nil};
+
+use rmp_decode::Deserialize;
+use rmp_encode::Serialize;
+use rmp_wire::ReadSlice;
+
+mod lists;
+mod maps;
+mod numbers;
+mod options;
+mod texts;
+mod tuples;
+
+/// A type whose values are read as they were written, whatever the settings, if they are the same on both sides.
+///
+/// It has no calls. Contracts of generic code use its laws: a function over `T: RoundTrip<'de, R>` that writes a value and reads it
+/// has the value back, by a call of `laws::written_is_read::<R, T>()`.
+pub trait RoundTrip<'de, R: ReadSlice<'de>>: Serialize + Deserialize<'de, R> {
+    // Whether a value borrows what it is read from, so that it is read only where the source lends its bytes.
+    ghost borrows: { Bool } = { false };
+
+    // No value is refused.
+    ghost has_data: { (human : Bool) (v : Self) → IsSome (Self.data_of v human) };
+
+    // With names or without, and in each mode, what a value lowers to is read as that value.
+    ghost round: { (borrows ≡ true → R.lends ≡ true) → (s : Settings) (v : Self) → Self.is_value v
+        → LowersTo s (Self.data_of v s.human) (λ m. Self.reads s.human R.lends m v) };
+}
+
+/// A type no value of which is written as nil.
+///
+/// It has no calls. Contracts of generic code use its law.
+pub trait NeverNil: Serialize {
+    ghost never_nil: { (s : Settings) (v : Self) → tree_of s (Self.data_of v s.human) ≢ Some nil };
+}

@@ -1,0 +1,165 @@
+//! Truth values, numbers, floats and unit.
+ghost use Rattle.std.proofs.Common.{refl};
+ghost use Rattle.rmp_round_trip.specs.LeafRounds.{byte_row, unsigned_row_16, unsigned_row_32, unsigned_row_64, signed_row_8, signed_row_16, signed_row_32};
+ghost use Rattle.rmp_round_trip.specs.LeafRounds.{signed_row_64, truth_row, unit_row, float32_row, float64_row, byte_other, pos_other};
+ghost use Rattle.rmp_round_trip.specs.LeafRounds.{whole_other, unsigned128_other, signed128_other, truth_other, float32_other, float64_other};
+ghost use Rattle.rmp_round_trip.specs.WideRounds.{unsigned128_row, signed128_row};
+
+use crate::round_trip::{NeverNil, RoundTrip};
+use rmp_wire::{F32Bits, F64Bits, ReadSlice};
+
+impl<'de, R: ReadSlice<'de>> RoundTrip<'de, R> for () {
+    ghost has_data = { λ human v. refl };
+
+    ghost round = { λ lent s v fits. unit_row s };
+}
+
+impl<'de, R: ReadSlice<'de>> RoundTrip<'de, R> for bool {
+    ghost has_data = { λ human v. refl };
+
+    ghost round = { λ lent s v fits. truth_row s v };
+}
+
+impl NeverNil for bool {
+    ghost never_nil = { λ s v. truth_other s v };
+}
+
+impl<'de, R: ReadSlice<'de>> RoundTrip<'de, R> for u8 {
+    ghost has_data = { λ human v. refl };
+
+    ghost round = { λ lent s v fits. byte_row s v fits };
+}
+
+impl NeverNil for u8 {
+    ghost never_nil = { λ s v. byte_other s v };
+}
+
+impl<'de, R: ReadSlice<'de>> RoundTrip<'de, R> for u16 {
+    ghost has_data = { λ human v. refl };
+
+    ghost round = { λ lent s v fits. unsigned_row_16 s v fits };
+}
+
+impl NeverNil for u16 {
+    ghost never_nil = { λ s v. pos_other s v };
+}
+
+impl<'de, R: ReadSlice<'de>> RoundTrip<'de, R> for u32 {
+    ghost has_data = { λ human v. refl };
+
+    ghost round = { λ lent s v fits. unsigned_row_32 s v fits };
+}
+
+impl NeverNil for u32 {
+    ghost never_nil = { λ s v. pos_other s v };
+}
+
+impl<'de, R: ReadSlice<'de>> RoundTrip<'de, R> for u64 {
+    ghost has_data = { λ human v. refl };
+
+    ghost round = { λ lent s v fits. unsigned_row_64 s v fits };
+}
+
+impl NeverNil for u64 {
+    ghost never_nil = { λ s v. pos_other s v };
+}
+
+impl<'de, R: ReadSlice<'de>> RoundTrip<'de, R> for usize {
+    ghost has_data = { λ human v. refl };
+
+    ghost round = { λ lent s v fits. unsigned_row_64 s v fits };
+}
+
+impl NeverNil for usize {
+    ghost never_nil = { λ s v. pos_other s v };
+}
+
+impl<'de, R: ReadSlice<'de>> RoundTrip<'de, R> for i8 {
+    ghost has_data = { λ human v. refl };
+
+    ghost round = { λ lent s v fits. signed_row_8 s v fits };
+}
+
+impl NeverNil for i8 {
+    ghost never_nil = { λ s v. whole_other s v };
+}
+
+impl<'de, R: ReadSlice<'de>> RoundTrip<'de, R> for i16 {
+    ghost has_data = { λ human v. refl };
+
+    ghost round = { λ lent s v fits. signed_row_16 s v fits };
+}
+
+impl NeverNil for i16 {
+    ghost never_nil = { λ s v. whole_other s v };
+}
+
+impl<'de, R: ReadSlice<'de>> RoundTrip<'de, R> for i32 {
+    ghost has_data = { λ human v. refl };
+
+    ghost round = { λ lent s v fits. signed_row_32 s v fits };
+}
+
+impl NeverNil for i32 {
+    ghost never_nil = { λ s v. whole_other s v };
+}
+
+impl<'de, R: ReadSlice<'de>> RoundTrip<'de, R> for i64 {
+    ghost has_data = { λ human v. refl };
+
+    ghost round = { λ lent s v fits. signed_row_64 s v fits };
+}
+
+impl NeverNil for i64 {
+    ghost never_nil = { λ s v. whole_other s v };
+}
+
+impl<'de, R: ReadSlice<'de>> RoundTrip<'de, R> for isize {
+    ghost has_data = { λ human v. refl };
+
+    ghost round = { λ lent s v fits. signed_row_64 s v fits };
+}
+
+impl NeverNil for isize {
+    ghost never_nil = { λ s v. whole_other s v };
+}
+
+impl<'de, R: ReadSlice<'de>> RoundTrip<'de, R> for u128 {
+    ghost has_data = { λ human v. refl };
+
+    ghost round = { λ lent s v fits. unsigned128_row s v fits };
+}
+
+impl NeverNil for u128 {
+    ghost never_nil = { λ s v. unsigned128_other s v };
+}
+
+impl<'de, R: ReadSlice<'de>> RoundTrip<'de, R> for i128 {
+    ghost has_data = { λ human v. refl };
+
+    ghost round = { λ lent s v fits. signed128_row s v fits };
+}
+
+impl NeverNil for i128 {
+    ghost never_nil = { λ s v. signed128_other s v };
+}
+
+impl<'de, R: ReadSlice<'de>> RoundTrip<'de, R> for F32Bits {
+    ghost has_data = { λ human v. refl };
+
+    ghost round = { λ lent s v fits. float32_row s v.0 };
+}
+
+impl NeverNil for F32Bits {
+    ghost never_nil = { λ s v. float32_other s v.0 };
+}
+
+impl<'de, R: ReadSlice<'de>> RoundTrip<'de, R> for F64Bits {
+    ghost has_data = { λ human v. refl };
+
+    ghost round = { λ lent s v fits. float64_row s v.0 };
+}
+
+impl NeverNil for F64Bits {
+    ghost never_nil = { λ s v. float64_other s v.0 };
+}

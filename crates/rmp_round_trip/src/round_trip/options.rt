@@ -1,0 +1,29 @@
+//! Options, boxes and references.
+ghost use Rattle.rmp_round_trip.specs.Rounds.{option_some, option_row};
+
+use crate::round_trip::{NeverNil, RoundTrip};
+use rmp_wire::ReadSlice;
+
+impl<'de, R: ReadSlice<'de>, T: RoundTrip<'de, R> + NeverNil> RoundTrip<'de, R> for Option<T> {
+    ghost borrows = { T.borrows };
+
+    ghost has_data = { λ human v. option_some (λ x. T.data_of x human) (T.has_data human) v };
+
+    ghost round = { λ lent s v fits. option_row s (λ x. T.data_of x s.human) T.is_value (T.reads s.human R.lends) (T.never_nil s) (T.round lent s) v fits };
+}
+
+impl<'de, R: ReadSlice<'de>, T: RoundTrip<'de, R>> RoundTrip<'de, R> for Box<T> {
+    ghost borrows = { T.borrows };
+
+    ghost has_data = { λ human v. T.has_data human v.value };
+
+    ghost round = { λ lent s v fits. T.round lent s v.value fits };
+}
+
+impl<T: NeverNil> NeverNil for Box<T> {
+    ghost never_nil = { λ s v. T.never_nil s v.value };
+}
+
+impl<T: NeverNil> NeverNil for &T {
+    ghost never_nil = { λ s v. T.never_nil s v.now };
+}

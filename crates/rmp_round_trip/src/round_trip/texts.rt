@@ -1,0 +1,73 @@
+//! Characters, texts, bytes and extensions.
+ghost use Rattle.std.proofs.Common.{refl};
+ghost use Rattle.std.specs.Prelude.{true, string_bytes};
+ghost use Rattle.rmp_wire.specs.Types.{bytes_of, buffer_bytes, tag_of, ext_bytes};
+ghost use Rattle.rmp_round_trip.specs.LeafRounds.{char_row, string_row, str_row, bytes_row, buffer_row};
+ghost use Rattle.rmp_round_trip.specs.LeafRounds.{ext_row, char_other, text_other, bytes_other, extension_other};
+
+use crate::round_trip::{NeverNil, RoundTrip};
+use rmp_wire::{ByteBuf, Bytes, Ext, ReadSlice};
+
+impl<'de, R: ReadSlice<'de>> RoundTrip<'de, R> for char {
+    ghost has_data = { λ human v. refl };
+
+    ghost round = { λ lent s v fits. char_row s v fits };
+}
+
+impl NeverNil for char {
+    ghost never_nil = { λ s v. char_other s v };
+}
+
+impl<'de, R: ReadSlice<'de>> RoundTrip<'de, R> for String {
+    ghost has_data = { λ human v. refl };
+
+    ghost round = { λ lent s v fits. string_row s (string_bytes v) };
+}
+
+impl NeverNil for String {
+    ghost never_nil = { λ s v. text_other s (string_bytes v) };
+}
+
+impl<'de, R: ReadSlice<'de>> RoundTrip<'de, R> for &'de str {
+    ghost borrows = { true };
+
+    ghost has_data = { λ human v. refl };
+
+    ghost round = { λ lent s v fits. str_row s v.now _ (lent refl) fits };
+}
+
+impl NeverNil for &str {
+    ghost never_nil = { λ s v. text_other s v.now };
+}
+
+impl<'de, R: ReadSlice<'de>> RoundTrip<'de, R> for Bytes<'de> {
+    ghost borrows = { true };
+
+    ghost has_data = { λ human v. refl };
+
+    ghost round = { λ lent s v fits. bytes_row s (bytes_of v) _ (lent refl) };
+}
+
+impl NeverNil for Bytes<'_> {
+    ghost never_nil = { λ s v. bytes_other s (bytes_of v) };
+}
+
+impl<'de, R: ReadSlice<'de>> RoundTrip<'de, R> for ByteBuf {
+    ghost has_data = { λ human v. refl };
+
+    ghost round = { λ lent s v fits. buffer_row s (buffer_bytes v) };
+}
+
+impl NeverNil for ByteBuf {
+    ghost never_nil = { λ s v. bytes_other s (buffer_bytes v) };
+}
+
+impl<'de, R: ReadSlice<'de>> RoundTrip<'de, R> for Ext {
+    ghost has_data = { λ human v. refl };
+
+    ghost round = { λ lent s v fits. ext_row s v };
+}
+
+impl NeverNil for Ext {
+    ghost never_nil = { λ s v. extension_other s (tag_of v) (ext_bytes v) };
+}

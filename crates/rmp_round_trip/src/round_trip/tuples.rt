@@ -1,0 +1,318 @@
+//! Tuples. Written by tools/round_tuples.py.
+ghost use Rattle.std.specs.Prelude.{◌∷◌, ◌||◌, [], true};
+ghost use Rattle.rmp_round_trip.specs.Rounds.{rows_none, rows_cons, parts_none, parts_cons, tuple_some, tuple_row, tuple_other, first_lent, second_lent};
+
+use crate::round_trip::{NeverNil, RoundTrip};
+use rmp_encode::Serialize;
+use rmp_wire::ReadSlice;
+
+impl<'de, R: ReadSlice<'de>, A: RoundTrip<'de, R>> RoundTrip<'de, R> for (A,) {
+    ghost borrows = { A.borrows };
+
+    ghost has_data = { λ human v. tuple_some _ (parts_cons _ _ (A.has_data human v.0) parts_none) };
+
+    ghost round = { λ lent s v fits. tuple_row s _ _ (rows_cons s _ _ (λ m. A.reads s.human R.lends m v.0) _ (A.round lent s v.0 fits) (rows_none s)) };
+}
+
+impl<A: Serialize> NeverNil for (A,) {
+    ghost never_nil = { λ s v. tuple_other s (A.data_of v.0 s.human ∷ []) };
+}
+
+impl<'de, R: ReadSlice<'de>, A: RoundTrip<'de, R>, B: RoundTrip<'de, R>> RoundTrip<'de, R>
+    for (A, B) {
+    ghost borrows = { (A.borrows || B.borrows) };
+
+    ghost has_data = { λ human v. tuple_some _ (parts_cons _ _ (A.has_data human v.0) (parts_cons _ _ (B.has_data human v.1) parts_none)) };
+
+    ghost round = { λ lent s v fits. tuple_row s _ _ (rows_cons s _ _ (λ m. A.reads s.human R.lends m v.0) _
+        (A.round (first_lent A.borrows B.borrows R.lends lent) s v.0 fits.0)
+        (rows_cons s _ _ (λ m. B.reads s.human R.lends m v.1) _ (B.round (second_lent A.borrows B.borrows R.lends lent) s v.1 fits.1) (rows_none s))) };
+}
+
+impl<A: Serialize, B: Serialize> NeverNil for (A, B) {
+    ghost never_nil = { λ s v. tuple_other s (A.data_of v.0 s.human ∷ B.data_of v.1 s.human ∷ []) };
+}
+
+impl<
+    'de,
+    R: ReadSlice<'de>,
+    A: RoundTrip<'de, R>,
+    B: RoundTrip<'de, R>,
+    D: RoundTrip<'de, R>,
+> RoundTrip<'de, R> for (A, B, D) {
+    ghost borrows = { (A.borrows || (B.borrows || D.borrows)) };
+
+    ghost has_data = { λ human v. tuple_some _ (parts_cons _ _ (A.has_data human v.0)
+        (parts_cons _ _ (B.has_data human v.1) (parts_cons _ _ (D.has_data human v.2) parts_none))) };
+
+    ghost round = { λ lent s v fits. tuple_row s _ _ (rows_cons s _ _ (λ m. A.reads s.human R.lends m v.0) _
+        (A.round (first_lent A.borrows (B.borrows || D.borrows) R.lends lent) s v.0 fits.0)
+        (rows_cons s _ _ (λ m. B.reads s.human R.lends m v.1) _
+        (B.round (first_lent B.borrows D.borrows R.lends (second_lent A.borrows (B.borrows || D.borrows) R.lends lent)) s v.1 fits.1)
+        (rows_cons s _ _ (λ m. D.reads s.human R.lends m v.2) _
+        (D.round (second_lent B.borrows D.borrows R.lends (second_lent A.borrows (B.borrows || D.borrows) R.lends lent)) s v.2 fits.2) (rows_none s)))) };
+}
+
+impl<A: Serialize, B: Serialize, D: Serialize> NeverNil for (A, B, D) {
+    ghost never_nil = { λ s v. tuple_other s (A.data_of v.0 s.human ∷ B.data_of v.1 s.human ∷ D.data_of v.2 s.human ∷ []) };
+}
+
+impl<
+    'de,
+    R: ReadSlice<'de>,
+    A: RoundTrip<'de, R>,
+    B: RoundTrip<'de, R>,
+    D: RoundTrip<'de, R>,
+    E: RoundTrip<'de, R>,
+> RoundTrip<'de, R> for (A, B, D, E) {
+    ghost borrows = { (A.borrows || (B.borrows || (D.borrows || E.borrows))) };
+
+    ghost has_data = { λ human v. tuple_some _ (parts_cons _ _ (A.has_data human v.0)
+        (parts_cons _ _ (B.has_data human v.1) (parts_cons _ _ (D.has_data human v.2) (parts_cons _ _ (E.has_data human v.3) parts_none)))) };
+
+    ghost round = { λ lent s v fits. tuple_row s _ _ (rows_cons s _ _ (λ m. A.reads s.human R.lends m v.0) _
+        (A.round (first_lent A.borrows (B.borrows || (D.borrows || E.borrows)) R.lends lent) s v.0 fits.0)
+        (rows_cons s _ _ (λ m. B.reads s.human R.lends m v.1) _
+        (B.round (first_lent B.borrows (D.borrows || E.borrows) R.lends (second_lent A.borrows (B.borrows || (D.borrows || E.borrows)) R.lends lent)) s v.1
+        fits.1) (rows_cons s _ _ (λ m. D.reads s.human R.lends m v.2) _
+        (D.round (first_lent D.borrows E.borrows R.lends (second_lent B.borrows (D.borrows || E.borrows) R.lends
+        (second_lent A.borrows (B.borrows || (D.borrows || E.borrows)) R.lends lent))) s v.2 fits.2)
+        (rows_cons s _ _ (λ m. E.reads s.human R.lends m v.3) _
+        (E.round (second_lent D.borrows E.borrows R.lends (second_lent B.borrows (D.borrows || E.borrows) R.lends
+        (second_lent A.borrows (B.borrows || (D.borrows || E.borrows)) R.lends lent))) s v.3 fits.3) (rows_none s))))) };
+}
+
+impl<A: Serialize, B: Serialize, D: Serialize, E: Serialize> NeverNil for (A, B, D, E) {
+    ghost never_nil = { λ s v. tuple_other s (A.data_of v.0 s.human ∷ B.data_of v.1 s.human ∷ D.data_of v.2 s.human ∷ E.data_of v.3 s.human ∷ []) };
+}
+
+impl<
+    'de,
+    R: ReadSlice<'de>,
+    A: RoundTrip<'de, R>,
+    B: RoundTrip<'de, R>,
+    D: RoundTrip<'de, R>,
+    E: RoundTrip<'de, R>,
+    F: RoundTrip<'de, R>,
+> RoundTrip<'de, R> for (A, B, D, E, F) {
+    ghost borrows = { (A.borrows || (B.borrows || (D.borrows || (E.borrows || F.borrows)))) };
+
+    ghost has_data = { λ human v. tuple_some _ (parts_cons _ _ (A.has_data human v.0)
+        (parts_cons _ _ (B.has_data human v.1) (parts_cons _ _ (D.has_data human v.2)
+        (parts_cons _ _ (E.has_data human v.3) (parts_cons _ _ (F.has_data human v.4) parts_none))))) };
+
+    ghost round = { λ lent s v fits. tuple_row s _ _ (rows_cons s _ _ (λ m. A.reads s.human R.lends m v.0) _
+        (A.round (first_lent A.borrows (B.borrows || (D.borrows || (E.borrows || F.borrows))) R.lends lent) s v.0 fits.0)
+        (rows_cons s _ _ (λ m. B.reads s.human R.lends m v.1) _
+        (B.round (first_lent B.borrows (D.borrows || (E.borrows || F.borrows)) R.lends
+        (second_lent A.borrows (B.borrows || (D.borrows || (E.borrows || F.borrows))) R.lends lent)) s v.1 fits.1)
+        (rows_cons s _ _ (λ m. D.reads s.human R.lends m v.2) _
+        (D.round (first_lent D.borrows (E.borrows || F.borrows) R.lends
+        (second_lent B.borrows (D.borrows || (E.borrows || F.borrows)) R.lends
+        (second_lent A.borrows (B.borrows || (D.borrows || (E.borrows || F.borrows))) R.lends lent))) s v.2 fits.2)
+        (rows_cons s _ _ (λ m. E.reads s.human R.lends m v.3) _
+        (E.round (first_lent E.borrows F.borrows R.lends (second_lent D.borrows (E.borrows || F.borrows) R.lends
+        (second_lent B.borrows (D.borrows || (E.borrows || F.borrows)) R.lends
+        (second_lent A.borrows (B.borrows || (D.borrows || (E.borrows || F.borrows))) R.lends lent)))) s v.3 fits.3)
+        (rows_cons s _ _ (λ m. F.reads s.human R.lends m v.4) _
+        (F.round (second_lent E.borrows F.borrows R.lends (second_lent D.borrows (E.borrows || F.borrows) R.lends
+        (second_lent B.borrows (D.borrows || (E.borrows || F.borrows)) R.lends
+        (second_lent A.borrows (B.borrows || (D.borrows || (E.borrows || F.borrows))) R.lends lent)))) s v.4 fits.4) (rows_none s)))))) };
+}
+
+impl<A: Serialize, B: Serialize, D: Serialize, E: Serialize, F: Serialize> NeverNil
+    for (A, B, D, E, F) {
+    ghost never_nil = { λ s v. tuple_other s (A.data_of v.0 s.human ∷ B.data_of v.1 s.human ∷ D.data_of v.2 s.human ∷ E.data_of v.3 s.human
+        ∷ F.data_of v.4 s.human ∷ []) };
+}
+
+impl<
+    'de,
+    R: ReadSlice<'de>,
+    A: RoundTrip<'de, R>,
+    B: RoundTrip<'de, R>,
+    D: RoundTrip<'de, R>,
+    E: RoundTrip<'de, R>,
+    F: RoundTrip<'de, R>,
+    G: RoundTrip<'de, R>,
+> RoundTrip<'de, R> for (A, B, D, E, F, G) {
+    ghost borrows = { (A.borrows || (B.borrows || (D.borrows || (E.borrows || (F.borrows || G.borrows))))) };
+
+    ghost has_data = { λ human v. tuple_some _ (parts_cons _ _ (A.has_data human v.0)
+        (parts_cons _ _ (B.has_data human v.1) (parts_cons _ _ (D.has_data human v.2)
+        (parts_cons _ _ (E.has_data human v.3) (parts_cons _ _ (F.has_data human v.4) (parts_cons _ _ (G.has_data human v.5) parts_none)))))) };
+
+    ghost round = { λ lent s v fits. tuple_row s _ _ (rows_cons s _ _ (λ m. A.reads s.human R.lends m v.0) _
+        (A.round (first_lent A.borrows (B.borrows || (D.borrows || (E.borrows || (F.borrows || G.borrows)))) R.lends lent) s v.0 fits.0)
+        (rows_cons s _ _ (λ m. B.reads s.human R.lends m v.1) _
+        (B.round (first_lent B.borrows (D.borrows || (E.borrows || (F.borrows || G.borrows))) R.lends
+        (second_lent A.borrows (B.borrows || (D.borrows || (E.borrows || (F.borrows || G.borrows)))) R.lends lent)) s v.1 fits.1)
+        (rows_cons s _ _ (λ m. D.reads s.human R.lends m v.2) _
+        (D.round (first_lent D.borrows (E.borrows || (F.borrows || G.borrows)) R.lends
+        (second_lent B.borrows (D.borrows || (E.borrows || (F.borrows || G.borrows))) R.lends
+        (second_lent A.borrows (B.borrows || (D.borrows || (E.borrows || (F.borrows || G.borrows)))) R.lends lent))) s v.2 fits.2)
+        (rows_cons s _ _ (λ m. E.reads s.human R.lends m v.3) _
+        (E.round (first_lent E.borrows (F.borrows || G.borrows) R.lends
+        (second_lent D.borrows (E.borrows || (F.borrows || G.borrows)) R.lends
+        (second_lent B.borrows (D.borrows || (E.borrows || (F.borrows || G.borrows))) R.lends
+        (second_lent A.borrows (B.borrows || (D.borrows || (E.borrows || (F.borrows || G.borrows)))) R.lends lent)))) s v.3 fits.3)
+        (rows_cons s _ _ (λ m. F.reads s.human R.lends m v.4) _
+        (F.round (first_lent F.borrows G.borrows R.lends (second_lent E.borrows (F.borrows || G.borrows) R.lends
+        (second_lent D.borrows (E.borrows || (F.borrows || G.borrows)) R.lends
+        (second_lent B.borrows (D.borrows || (E.borrows || (F.borrows || G.borrows))) R.lends
+        (second_lent A.borrows (B.borrows || (D.borrows || (E.borrows || (F.borrows || G.borrows)))) R.lends lent))))) s v.4 fits.4)
+        (rows_cons s _ _ (λ m. G.reads s.human R.lends m v.5) _
+        (G.round (second_lent F.borrows G.borrows R.lends (second_lent E.borrows (F.borrows || G.borrows) R.lends
+        (second_lent D.borrows (E.borrows || (F.borrows || G.borrows)) R.lends
+        (second_lent B.borrows (D.borrows || (E.borrows || (F.borrows || G.borrows))) R.lends
+        (second_lent A.borrows (B.borrows || (D.borrows || (E.borrows || (F.borrows || G.borrows)))) R.lends lent))))) s v.5 fits.5) (rows_none s))))))) };
+}
+
+impl<A: Serialize, B: Serialize, D: Serialize, E: Serialize, F: Serialize, G: Serialize> NeverNil
+    for (A, B, D, E, F, G) {
+    ghost never_nil = { λ s v. tuple_other s (A.data_of v.0 s.human ∷ B.data_of v.1 s.human ∷ D.data_of v.2 s.human ∷ E.data_of v.3 s.human
+        ∷ F.data_of v.4 s.human ∷ G.data_of v.5 s.human ∷ []) };
+}
+
+impl<
+    'de,
+    R: ReadSlice<'de>,
+    A: RoundTrip<'de, R>,
+    B: RoundTrip<'de, R>,
+    D: RoundTrip<'de, R>,
+    E: RoundTrip<'de, R>,
+    F: RoundTrip<'de, R>,
+    G: RoundTrip<'de, R>,
+    H: RoundTrip<'de, R>,
+> RoundTrip<'de, R> for (A, B, D, E, F, G, H) {
+    ghost borrows = { (A.borrows || (B.borrows || (D.borrows || (E.borrows || (F.borrows || (G.borrows || H.borrows)))))) };
+
+    ghost has_data = { λ human v. tuple_some _ (parts_cons _ _ (A.has_data human v.0)
+        (parts_cons _ _ (B.has_data human v.1) (parts_cons _ _ (D.has_data human v.2)
+        (parts_cons _ _ (E.has_data human v.3) (parts_cons _ _ (F.has_data human v.4)
+        (parts_cons _ _ (G.has_data human v.5) (parts_cons _ _ (H.has_data human v.6) parts_none))))))) };
+
+    ghost round = { λ lent s v fits. tuple_row s _ _ (rows_cons s _ _ (λ m. A.reads s.human R.lends m v.0) _
+        (A.round (first_lent A.borrows (B.borrows || (D.borrows || (E.borrows || (F.borrows || (G.borrows || H.borrows))))) R.lends lent) s v.0 fits.0)
+        (rows_cons s _ _ (λ m. B.reads s.human R.lends m v.1) _
+        (B.round (first_lent B.borrows (D.borrows || (E.borrows || (F.borrows || (G.borrows || H.borrows)))) R.lends
+        (second_lent A.borrows (B.borrows || (D.borrows || (E.borrows || (F.borrows || (G.borrows || H.borrows))))) R.lends lent)) s v.1 fits.1)
+        (rows_cons s _ _ (λ m. D.reads s.human R.lends m v.2) _
+        (D.round (first_lent D.borrows (E.borrows || (F.borrows || (G.borrows || H.borrows))) R.lends
+        (second_lent B.borrows (D.borrows || (E.borrows || (F.borrows || (G.borrows || H.borrows)))) R.lends
+        (second_lent A.borrows (B.borrows || (D.borrows || (E.borrows || (F.borrows || (G.borrows || H.borrows))))) R.lends lent))) s v.2 fits.2)
+        (rows_cons s _ _ (λ m. E.reads s.human R.lends m v.3) _
+        (E.round (first_lent E.borrows (F.borrows || (G.borrows || H.borrows)) R.lends
+        (second_lent D.borrows (E.borrows || (F.borrows || (G.borrows || H.borrows))) R.lends
+        (second_lent B.borrows (D.borrows || (E.borrows || (F.borrows || (G.borrows || H.borrows)))) R.lends
+        (second_lent A.borrows (B.borrows || (D.borrows || (E.borrows || (F.borrows || (G.borrows || H.borrows))))) R.lends lent)))) s v.3 fits.3)
+        (rows_cons s _ _ (λ m. F.reads s.human R.lends m v.4) _
+        (F.round (first_lent F.borrows (G.borrows || H.borrows) R.lends
+        (second_lent E.borrows (F.borrows || (G.borrows || H.borrows)) R.lends
+        (second_lent D.borrows (E.borrows || (F.borrows || (G.borrows || H.borrows))) R.lends
+        (second_lent B.borrows (D.borrows || (E.borrows || (F.borrows || (G.borrows || H.borrows)))) R.lends
+        (second_lent A.borrows (B.borrows || (D.borrows || (E.borrows || (F.borrows || (G.borrows || H.borrows))))) R.lends lent))))) s v.4 fits.4)
+        (rows_cons s _ _ (λ m. G.reads s.human R.lends m v.5) _
+        (G.round (first_lent G.borrows H.borrows R.lends (second_lent F.borrows (G.borrows || H.borrows) R.lends
+        (second_lent E.borrows (F.borrows || (G.borrows || H.borrows)) R.lends
+        (second_lent D.borrows (E.borrows || (F.borrows || (G.borrows || H.borrows))) R.lends
+        (second_lent B.borrows (D.borrows || (E.borrows || (F.borrows || (G.borrows || H.borrows)))) R.lends
+        (second_lent A.borrows (B.borrows || (D.borrows || (E.borrows || (F.borrows || (G.borrows || H.borrows))))) R.lends lent)))))) s v.5 fits.5)
+        (rows_cons s _ _ (λ m. H.reads s.human R.lends m v.6) _
+        (H.round (second_lent G.borrows H.borrows R.lends (second_lent F.borrows (G.borrows || H.borrows) R.lends
+        (second_lent E.borrows (F.borrows || (G.borrows || H.borrows)) R.lends
+        (second_lent D.borrows (E.borrows || (F.borrows || (G.borrows || H.borrows))) R.lends
+        (second_lent B.borrows (D.borrows || (E.borrows || (F.borrows || (G.borrows || H.borrows)))) R.lends
+        (second_lent A.borrows (B.borrows || (D.borrows || (E.borrows || (F.borrows || (G.borrows || H.borrows))))) R.lends lent)))))) s v.6 fits.6)
+        (rows_none s)))))))) };
+}
+
+impl<
+    A: Serialize,
+    B: Serialize,
+    D: Serialize,
+    E: Serialize,
+    F: Serialize,
+    G: Serialize,
+    H: Serialize,
+> NeverNil for (A, B, D, E, F, G, H) {
+    ghost never_nil = { λ s v. tuple_other s (A.data_of v.0 s.human ∷ B.data_of v.1 s.human ∷ D.data_of v.2 s.human ∷ E.data_of v.3 s.human
+        ∷ F.data_of v.4 s.human ∷ G.data_of v.5 s.human ∷ H.data_of v.6 s.human ∷ []) };
+}
+
+impl<
+    'de,
+    R: ReadSlice<'de>,
+    A: RoundTrip<'de, R>,
+    B: RoundTrip<'de, R>,
+    D: RoundTrip<'de, R>,
+    E: RoundTrip<'de, R>,
+    F: RoundTrip<'de, R>,
+    G: RoundTrip<'de, R>,
+    H: RoundTrip<'de, R>,
+    I: RoundTrip<'de, R>,
+> RoundTrip<'de, R> for (A, B, D, E, F, G, H, I) {
+    ghost borrows = { (A.borrows || (B.borrows || (D.borrows || (E.borrows || (F.borrows || (G.borrows || (H.borrows || I.borrows))))))) };
+
+    ghost has_data = { λ human v. tuple_some _ (parts_cons _ _ (A.has_data human v.0)
+        (parts_cons _ _ (B.has_data human v.1) (parts_cons _ _ (D.has_data human v.2)
+        (parts_cons _ _ (E.has_data human v.3) (parts_cons _ _ (F.has_data human v.4)
+        (parts_cons _ _ (G.has_data human v.5) (parts_cons _ _ (H.has_data human v.6) (parts_cons _ _ (I.has_data human v.7) parts_none)))))))) };
+
+    ghost round = { λ lent s v fits. tuple_row s _ _ (rows_cons s _ _ (λ m. A.reads s.human R.lends m v.0) _
+        (A.round (first_lent A.borrows (B.borrows || (D.borrows || (E.borrows || (F.borrows || (G.borrows || (H.borrows || I.borrows)))))) R.lends lent) s
+        v.0 fits.0) (rows_cons s _ _ (λ m. B.reads s.human R.lends m v.1) _
+        (B.round (first_lent B.borrows (D.borrows || (E.borrows || (F.borrows || (G.borrows || (H.borrows || I.borrows))))) R.lends
+        (second_lent A.borrows (B.borrows || (D.borrows || (E.borrows || (F.borrows || (G.borrows || (H.borrows || I.borrows)))))) R.lends lent)) s v.1
+        fits.1) (rows_cons s _ _ (λ m. D.reads s.human R.lends m v.2) _
+        (D.round (first_lent D.borrows (E.borrows || (F.borrows || (G.borrows || (H.borrows || I.borrows)))) R.lends
+        (second_lent B.borrows (D.borrows || (E.borrows || (F.borrows || (G.borrows || (H.borrows || I.borrows))))) R.lends
+        (second_lent A.borrows (B.borrows || (D.borrows || (E.borrows || (F.borrows || (G.borrows || (H.borrows || I.borrows)))))) R.lends lent))) s v.2
+        fits.2) (rows_cons s _ _ (λ m. E.reads s.human R.lends m v.3) _
+        (E.round (first_lent E.borrows (F.borrows || (G.borrows || (H.borrows || I.borrows))) R.lends
+        (second_lent D.borrows (E.borrows || (F.borrows || (G.borrows || (H.borrows || I.borrows)))) R.lends
+        (second_lent B.borrows (D.borrows || (E.borrows || (F.borrows || (G.borrows || (H.borrows || I.borrows))))) R.lends
+        (second_lent A.borrows (B.borrows || (D.borrows || (E.borrows || (F.borrows || (G.borrows || (H.borrows || I.borrows)))))) R.lends lent)))) s v.3
+        fits.3) (rows_cons s _ _ (λ m. F.reads s.human R.lends m v.4) _
+        (F.round (first_lent F.borrows (G.borrows || (H.borrows || I.borrows)) R.lends
+        (second_lent E.borrows (F.borrows || (G.borrows || (H.borrows || I.borrows))) R.lends
+        (second_lent D.borrows (E.borrows || (F.borrows || (G.borrows || (H.borrows || I.borrows)))) R.lends
+        (second_lent B.borrows (D.borrows || (E.borrows || (F.borrows || (G.borrows || (H.borrows || I.borrows))))) R.lends
+        (second_lent A.borrows (B.borrows || (D.borrows || (E.borrows || (F.borrows || (G.borrows || (H.borrows || I.borrows)))))) R.lends lent))))) s v.4
+        fits.4) (rows_cons s _ _ (λ m. G.reads s.human R.lends m v.5) _
+        (G.round (first_lent G.borrows (H.borrows || I.borrows) R.lends
+        (second_lent F.borrows (G.borrows || (H.borrows || I.borrows)) R.lends
+        (second_lent E.borrows (F.borrows || (G.borrows || (H.borrows || I.borrows))) R.lends
+        (second_lent D.borrows (E.borrows || (F.borrows || (G.borrows || (H.borrows || I.borrows)))) R.lends
+        (second_lent B.borrows (D.borrows || (E.borrows || (F.borrows || (G.borrows || (H.borrows || I.borrows))))) R.lends
+        (second_lent A.borrows (B.borrows || (D.borrows || (E.borrows || (F.borrows || (G.borrows || (H.borrows || I.borrows)))))) R.lends lent)))))) s v.5
+        fits.5) (rows_cons s _ _ (λ m. H.reads s.human R.lends m v.6) _
+        (H.round (first_lent H.borrows I.borrows R.lends (second_lent G.borrows (H.borrows || I.borrows) R.lends
+        (second_lent F.borrows (G.borrows || (H.borrows || I.borrows)) R.lends
+        (second_lent E.borrows (F.borrows || (G.borrows || (H.borrows || I.borrows))) R.lends
+        (second_lent D.borrows (E.borrows || (F.borrows || (G.borrows || (H.borrows || I.borrows)))) R.lends
+        (second_lent B.borrows (D.borrows || (E.borrows || (F.borrows || (G.borrows || (H.borrows || I.borrows))))) R.lends
+        (second_lent A.borrows (B.borrows || (D.borrows || (E.borrows || (F.borrows || (G.borrows || (H.borrows || I.borrows)))))) R.lends lent))))))) s v.6
+        fits.6) (rows_cons s _ _ (λ m. I.reads s.human R.lends m v.7) _
+        (I.round (second_lent H.borrows I.borrows R.lends (second_lent G.borrows (H.borrows || I.borrows) R.lends
+        (second_lent F.borrows (G.borrows || (H.borrows || I.borrows)) R.lends
+        (second_lent E.borrows (F.borrows || (G.borrows || (H.borrows || I.borrows))) R.lends
+        (second_lent D.borrows (E.borrows || (F.borrows || (G.borrows || (H.borrows || I.borrows)))) R.lends
+        (second_lent B.borrows (D.borrows || (E.borrows || (F.borrows || (G.borrows || (H.borrows || I.borrows))))) R.lends
+        (second_lent A.borrows (B.borrows || (D.borrows || (E.borrows || (F.borrows || (G.borrows || (H.borrows || I.borrows)))))) R.lends lent))))))) s v.7
+        fits.7) (rows_none s))))))))) };
+}
+
+impl<
+    A: Serialize,
+    B: Serialize,
+    D: Serialize,
+    E: Serialize,
+    F: Serialize,
+    G: Serialize,
+    H: Serialize,
+    I: Serialize,
+> NeverNil for (A, B, D, E, F, G, H, I) {
+    ghost never_nil = { λ s v. tuple_other s (A.data_of v.0 s.human ∷ B.data_of v.1 s.human ∷ D.data_of v.2 s.human ∷ E.data_of v.3 s.human
+        ∷ F.data_of v.4 s.human ∷ G.data_of v.5 s.human ∷ H.data_of v.6 s.human ∷ I.data_of v.7 s.human ∷ []) };
+}

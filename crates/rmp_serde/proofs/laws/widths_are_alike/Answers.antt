@@ -1,5 +1,0 @@
-use Rattle.rmp_serde.proofs.RoundLaws.{read_alike}
-use Rattle.rmp_serde.proofs.laws.widths_are_alike.Goals as goal
-
-pub returns : goal.returns
-returns g c = λ human room a b x y m v. read_alike (g.T.Deserialize.reads human g.R.ReadSlice.lends) room a b x y m v

@@ -1,0 +1,13 @@
+//! Trees are read as they were written.
+ghost use Rattle.std.proofs.Common.{refl};
+ghost use Rattle.rmp_serde.specs.ValueLowers.{value_row};
+
+use crate::value::Value;
+use rmp_round_trip::RoundTrip;
+use rmp_wire::ReadSlice;
+
+impl<'de, R: ReadSlice<'de>> RoundTrip<'de, R> for Value {
+    ghost has_data = { λ human v. refl };
+
+    ghost round = { λ lent s v fits. value_row s v fits.1 };
+}
