@@ -1,8 +1,8 @@
 //! Callers of `canon_lines` that have the lines in memory, and one of `Value`.
 #![tactic(auto)]
 
-mod canonical;
 mod memory;
+mod value;
 
-pub use canonical::canonical;
 pub use memory::{check_lines, run_lines};
+pub use value::canonical;
