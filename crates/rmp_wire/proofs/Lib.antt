@@ -16,4 +16,5 @@ pub mod Strict
 pub mod Taken
 pub mod Told
 pub mod Unique
+pub mod WholeHeads
 pub mod Writing
