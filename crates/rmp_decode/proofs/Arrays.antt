@@ -22,6 +22,10 @@ use Rattle.std.proofs.Common.{
   slice_set,
   take,
   min,
+  ◌*◌,
+  ◌^◌,
+  zero,
+  suc,
   Bool,
   true,
   false,
@@ -32,6 +36,10 @@ use Rattle.std.proofs.Common.{
   IsSome,
   All,
 }
+use native.Mathlib.Nat.{mul_comm}
+use prog.Capped.{capped_is, capped_small}
+use prog.Memory.{capped}
+use Rattle.std.proofs.lemmas.Nat.{mul-le}
 use Rattle.std.proofs.lemmas.List.Elements.{All-map}
 use Rattle.std.proofs.lemmas.List.{take_more_set, take_all, length-set, length-append, map_push}
 use Rattle.rmp_wire.specs.declared.source.Source.{Ghosts}
@@ -139,3 +147,30 @@ module _ {R C V : Type 0} (g : Ghosts R) (human : C → Bool) (lends : Bool) (re
       let c = count_each here (append t.trees no_items) v x.1 in
       let k = count_each here t.trees vs each in
       omega (arith, c, k, read, x.0, l, count-append t.trees no_items))
+
+-- ---- counts
+
+pub none_left : (n : ℕ) → n ≤ 0 → n ≡ 0
+none_left n l = omega (arith, l)
+
+pub least_within : (n k : ℕ) → min n k ≤ n
+least_within n k = omega arith
+
+-- ---- whether the places fit in memory, of which a word holds how long one is
+
+same_word : (n k : ℕ) → k < 2 ^ 63 → capped k * n ≡ n * k
+same_word n k l = ap (λ z. z * n) (capped_is k (omega (arith, l))) ∙ mul_comm k n
+
+pub places_small : (n k size : ℕ) → size ≡ capped k * n → size < 2 ^ 63 → n * k < 2 ^ 63
+places_small zero k size q l = omega arith
+places_small (suc n) k size q l =
+    let short : capped k < 2 ^ 63 = omega (arith, q, l, mul-le (capped k) 1 (capped k) (suc n) (omega arith) (omega arith)) in
+    let same = same_word (suc n) k (capped_small k short) in
+    omega (arith, same, q, l)
+
+pub places_large : (n k : ℕ) → 2 ^ 63 ≤ capped k * n → n * k < 2 ^ 63 → ⊥
+places_large zero k h l = omega (arith, h)
+places_large (suc n) k h l =
+    let short : k < 2 ^ 63 = omega (arith, l, mul-le 1 k (suc n) k (omega arith) (omega arith)) in
+    let same = same_word (suc n) k short in
+    omega (arith, same, h, l)

@@ -96,6 +96,17 @@ pub piece_blamed : (n : ℕ) (refused : List ℕ → Error → Type 0) (fault : 
 piece_blamed n refused Memory before after known e s b = λ m _. absurd (m b)
 piece_blamed n refused (Io cause) before after known e s b = λ _ k. let x = s k in piece_cut n refused known e x.0 (b.1 x.1)
 
+-- a fault says that the bytes were too few, and what comes of it that the data ended
+pub blamed_short : (n : ℕ) (fault : SourceFault) (before after : ℕ) (known : Option (List ℕ)) (e : Error) → Blames fault before after known n
+    → Blamed fault e → Explains e before after (IsShort n known)
+blamed_short n Memory before after known e s b = λ m _. absurd (m b)
+blamed_short n (Io cause) before after known e s b = λ _ k. (s k).0
+
+pub blamed_end : (n : ℕ) (fault : SourceFault) (before after : ℕ) (known : Option (List ℕ)) (e : Error) → Blames fault before after known n
+    → Blamed fault e → Explains e before after (IsDataEnd e)
+blamed_end n Memory before after known e s b = λ m _. absurd (m b)
+blamed_end n (Io cause) before after known e s b = λ _ k. b.1 (s k).1
+
 short_char : (n : ℕ) (known : Option (List ℕ)) → IsShort n known → StartsWithNoChar n known
 short_char n None h = tt
 short_char n (Some xs) h = λ c r _ m q. absurd (let long = ap length q ∙ length-append (encode_utf8 c) r in omega (arith, long, m, h))

@@ -34,6 +34,7 @@ pub mod Maps
 pub mod Meeting
 pub mod Names
 pub mod NamesAhead
+pub mod Nexts
 pub mod NothingAccepted
 pub mod Numbers
 pub mod Offered

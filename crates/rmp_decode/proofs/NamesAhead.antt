@@ -148,6 +148,14 @@ part_below g names inner old new n =
     ∙ below_named (length names) n (place_below_names names m n h) in
     h ∙ ap (λ (z : Option ℕ). Some z) (sym same))
 
+-- no name is at the place behind them all
+pub part_past : {R C : Type 0} (g : Ghosts R) (names : List (Bor (List ℕ))) (inner : ℕ) (old new : Deserializer R C)
+    → TakesPart g (IsName (bytes_of names)) inner old new None → TakesPart g (IsBelow (bytes_of names)) inner old new (length names)
+part_past g names inner old new =
+    let same : below (length (bytes_of names)) (length names) ≡ None =
+    ap (λ k. below k (length names)) (length_bytes names) ∙ below_unnamed (length names) (length names) (omega arith) in
+    part_read g (IsName (bytes_of names)) (IsBelow (bytes_of names)) inner old new None (length names) (λ m h. h ∙ ap (λ (z : Option ℕ). Some z) (sym same))
+
 pub key_named_by : {R C : Type 0} (g : Ghosts R) (names : List (Bor (List ℕ))) (old new : MapAccess R C) (n : ℕ) (o : Option ℕ)
     → below (length names) n ≡ o → TakesKey g (IsBelow (bytes_of names)) old new n → TakesKey g (IsName (bytes_of names)) old new o
 key_named_by g names old new n o e k = record {

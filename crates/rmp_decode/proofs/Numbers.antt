@@ -1,14 +1,15 @@
 -- What is read of numbers, texts and bytes.
-use Rattle.std.proofs.Common.{◌≡◌, ◌<◌, ◌≤◌, ◌^◌, ℕ, ℤ, pos, negsuc, ◌≤ℤ◌, arith, List, Bool, true, false, refl}
+use Rattle.std.proofs.Common.{◌≡◌, ◌<◌, ◌≤◌, ◌^◌, ℕ, ℤ, pos, negsuc, ◌≤ℤ◌, arith, List, Bool, true, false, refl, ap, ◌∙◌}
 use Rattle.rmp_wire.specs.declared.head.Head.{Head}
 use Rattle.rmp_wire.specs.declared.head.Head.TheVariants.{Nil, Truth, Whole, F32Bits, F64Bits, Text, Bin, Array, Map, Ext}
 use Rattle.rmp_wire.specs.declared.marker.Marker.{Marker}
 use Rattle.rmp_decode.specs.Kinds.{raw_msg, other_kind, other_number}
 use Rattle.std.proofs.Math.IntN.{nat_abs}
-use Rattle.std.proofs.lemmas.Int.{ints}
+use Rattle.std.proofs.lemmas.Int.{ints, to_z-of_z}
 use Rattle.std.specs.Int.{w64}
 use Rattle.std.specs.Prelude.{FitsSigned}
-use mir.Val.{to_z}
+use mir.Val.{to_z, of_z, hbits, SFits}
+use mir.Syntax.{Width}
 use Rattle.rmp_wire.specs.Msg.{whole}
 use Rattle.rmp_decode.specs.Law.{Readable}
 use Rattle.rmp_decode.specs.Read.{IsUnsigned, IsSigned}
@@ -58,3 +59,13 @@ not_whole m (Bin k) n = refl
 not_whole m (Array k) n = refl
 not_whole m (Map k) n = refl
 not_whole m (Ext k tag) n = refl
+
+-- ---- numbers in narrower words
+
+fits_between : (w : Width) (m : ℕ) (z : ℤ) → negsuc m ≤ℤ z → z ≤ℤ pos m → m < 2 ^ hbits w → SFits w z
+fits_between w m (pos n) l h b = record { sfits = omega (arith, ints, h, b) }
+fits_between w m (negsuc n) l h b = record { sfits = omega (arith, ints, l, b) }
+
+-- a number of 64 bits that fits a narrower word stays when it is put there
+pub narrowed : (w : Width) (m : ℕ) (z : ℤ) → negsuc m ≤ℤ z → z ≤ℤ pos m → m < 2 ^ hbits w → m < 2 ^ 63 → to_z w (of_z w (to_z w64 (of_z w64 z))) ≡ z
+narrowed w m z l h b k = ap (λ t. to_z w (of_z w t)) (to_z-of_z w64 z (fits_between w64 m z l h k)) ∙ to_z-of_z w z (fits_between w m z l h b)

@@ -64,7 +64,7 @@ use Rattle.rmp_decode.specs.Variants.{OfVariant, IsVariant, placed, FailsToOpenV
 use Rattle.rmp_decode.specs.declared.deserializer.Deserializer.{Deserializer}
 use Rattle.rmp_decode.specs.declared.error.Error.{Error}
 use Rattle.rmp_decode.specs.declared.error.Error.TheVariants.{LengthMismatch, DepthLimitExceeded}
-use Rattle.rmp_decode.proofs.ContentErrors.{content_none, content_other, content_apart}
+use Rattle.rmp_decode.proofs.ContentErrors.{content_none, content_other, content_apart, same_front}
 use Rattle.rmp_decode.proofs.Contents.{raw_content, content_refused}
 use Rattle.rmp_decode.proofs.Exactness.{stand_once}
 use Rattle.rmp_decode.proofs.MapOpening.{map_nests}
@@ -141,6 +141,14 @@ pub name_blamed : (names : List (List ℕ)) (n : ℕ) (fault : SourceFault) (bef
     → Blames fault before after known n → Blamed fault e → Explains e before after (StartsWithNoName names n known)
 name_blamed names n Memory before after known e s b = λ m _. absurd (m b)
 name_blamed names n (Io cause) before after known e s b = λ _ k. short_name names n known (s k).0
+
+-- the bytes that were taken are no name
+pub no_name_taken : (names : List (List ℕ)) (n : ℕ) (bytes : List ℕ) (known k : Option (List ℕ)) → Consumes known k bytes → length bytes ≡ n
+    → place_of names bytes ≡ None → StartsWithNoName names n known
+no_name_taken names n bytes None k c l h = tt
+no_name_taken names n bytes (Some xs) None c l h = absurd c
+no_name_taken names n bytes (Some xs) (Some ys) c l h = λ s r p q m t.
+    let none : place_of names s ≡ None = subst (λ z. place_of names z ≡ None) (same_front bytes s ys r (l ∙ sym m) (sym c ∙ q)) h in cc
 
 raw_of_head : (t : Bool) (n : ℕ) (m : Msg) → head_of m ≡ raw_head t n → (s : List ℕ) × (m ≡ raw_msg t s)
 raw_of_head true n nil e = absurd (cc)

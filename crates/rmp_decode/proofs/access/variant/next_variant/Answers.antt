@@ -3,8 +3,13 @@ use Rattle.rmp_decode.specs.Kinds.{raw_head}
 use Rattle.rmp_decode.specs.Names.{bytes_of}
 use Rattle.rmp_decode.specs.VariantNames.{unknown_name}
 use Rattle.rmp_decode.proofs.ContentErrors.{piece_whole, piece_blamed}
-use Rattle.rmp_decode.proofs.VariantNames.{name_blamed, unknown_piece}
+use Rattle.rmp_decode.proofs.VariantNames.{name_blamed, no_name_taken, unknown_piece}
 use Rattle.rmp_decode.proofs.access.variant.next_variant.Goals as goal
+
+pub returns-in-Err-place_named-clause-err : goal.returns-in-Err-place_named-clause-err
+returns-in-Err-place_named-clause-err g c = λ _ _.
+    no_name_taken (bytes_of c.args.names.now) c.args.len c.as_bytes.result.now (g.R.Source.ahead c.args.reader.now)
+    (g.R.Source.ahead c.read_slice.follows.lender-at-none) (search rules) (search rules) c.in-Err-place_named.ensures.err
 
 pub returns-in-Err-place_named-clause-exact : goal.returns-in-Err-place_named-clause-exact
 returns-in-Err-place_named-clause-exact g c = λ n k.

@@ -1,5 +1,6 @@
 use Rattle.std.proofs.Common.{◌∙◌, ap, ◌++◌}
 use Rattle.rmp_wire.specs.Slices.{reference_bytes}
+use Rattle.rmp_decode.proofs.ContentErrors.{blamed_short, blamed_end}
 use Rattle.rmp_decode.proofs.content.SlicesReadContent.append.Goals as goal
 
 pub returns-in-Ok-extend_from_slice-clause-ok : goal.returns-in-Ok-extend_from_slice-clause-ok
@@ -12,3 +13,11 @@ returns-in-Ok-extend_from_slice-clause-ok g c = record {
   };
   whole = c.in-Ok-extend_from_slice.ensures.items ∙ ap (λ z. c.args.bytes.now.items ++ z) c.as_bytes.ensures;
 }
+
+pub returns-in-Err-clause-err : goal.returns-in-Err-clause-err
+returns-in-Err-clause-err g c = blamed_short c.args.len c.in-Err.e _ _ (g.R.Source.ahead c.args.reader.now) _
+    (rw c.in-Err.is at c.read_slice.follows.holds-at-none).0 c.error_of.ensures
+
+pub returns-in-Err-clause-end : goal.returns-in-Err-clause-end
+returns-in-Err-clause-end g c = blamed_end c.args.len c.in-Err.e _ _ (g.R.Source.ahead c.args.reader.now) _
+    (rw c.in-Err.is at c.read_slice.follows.holds-at-none).0 c.error_of.ensures

@@ -1,7 +1,7 @@
-use Rattle.std.proofs.Common.{refl, rules, arith, inr, List, true}
+use Rattle.std.proofs.Common.{refl, rules, inl, inr, List, true}
 use Rattle.rmp_decode.specs.Arrays.{Exactly}
-use Rattle.rmp_decode.proofs.ArrayRefusals.{array_stopped, array_excess}
-use Rattle.rmp_decode.proofs.Arrays.{all_held, array_full, array_done, array_over, array_missing}
+use Rattle.rmp_decode.proofs.ArrayRefusals.{array_stopped, array_wanted, array_excess}
+use Rattle.rmp_decode.proofs.Arrays.{all_held, array_full, array_done, array_over, array_missing, none_left, least_within}
 use Rattle.rmp_decode.proofs.RowEnds.{row_unread}
 use Rattle.rmp_decode.proofs.de.arrays.number_row.Goals as goal
 
@@ -15,6 +15,15 @@ returns-then-count-clause-law g c = λ d o.
     c.if-count.true
     c.refuse.result)
 
+pub returns-then-count-clause-refused : goal.returns-then-count-clause-refused
+returns-then-count-clause-refused g c = λ d o _.
+    let n = c.numbers_taken_out-read in
+    let r = rw c.in-Ok.is at n.ensures.ok in
+    let rest = rw c.in-Ok.is at n.ensures.rest in
+    rw c.refuse.ensures.failed (inr (array_wanted g.R.Source g.C.SerializerConfig.human g.R.ReadSlice.lends g.T.Deserialize.reads
+    g.T.Deserialize.refuses c.args.de.now n.new.de d true c.args.count o g.row.N c.refuse.result c.in-Ok.left r.values r.read
+    rest c.if-count.true (search rules)))
+
 pub returns-then-left-gt0-clause-law : goal.returns-then-left-gt0-clause-law
 returns-then-left-gt0-clause-law g c = λ d o.
     let n = c.numbers_taken_out-read in
@@ -22,7 +31,7 @@ returns-then-left-gt0-clause-law g c = λ d o.
     let rest = rw c.in-Ok.is at n.ensures.rest in
     rw c.refuse-then-left-gt0.ensures.failed (array_over g.R.Source g.C.SerializerConfig.human g.R.ReadSlice.lends g.T.Deserialize.reads
     c.args.de.now n.new.de d true c.args.count c.in-Ok.left o r.values r.read g.row.N n.result.1 r.held rest
-    (let f = c.if-count.false in omega (arith, f)) c.if-left-gt0.true c.refuse-then-left-gt0.result)
+    c.if-count.false c.if-left-gt0.true c.refuse-then-left-gt0.result)
 
 pub returns-then-left-gt0-clause-refused : goal.returns-then-left-gt0-clause-refused
 returns-then-left-gt0-clause-refused g c = λ d o _.
@@ -31,7 +40,7 @@ returns-then-left-gt0-clause-refused g c = λ d o _.
     let rest = rw c.in-Ok.is at n.ensures.rest in
     rw c.refuse-then-left-gt0.ensures.failed (inr (array_excess g.R.Source g.C.SerializerConfig.human g.R.ReadSlice.lends g.T.Deserialize.reads
     g.T.Deserialize.refuses c.args.de.now n.new.de d true c.args.count o g.row.N c.refuse-then-left-gt0.result c.in-Ok.left r.values r.read
-    rest (let f = c.if-count.false in omega (arith, f)) c.if-left-gt0.true (search rules)))
+    rest c.if-count.false c.if-left-gt0.true (search rules)))
 
 pub values_of-requires : goal.values_of-requires
 values_of-requires g c =
@@ -42,8 +51,8 @@ values_of-requires g c =
       (
         search rules,
         all_held r.values n.result.1 (array_full g.R.Source _ c.args.de.now n.new.de true c.args.count
-            c.in-Ok.left r.values r.read g.row.N n.result.1 r.held rest (let f = c.if-count.false in omega (arith, f))
-            (let f = c.if-left-gt0.false in omega (arith, f))),
+            c.in-Ok.left r.values r.read g.row.N n.result.1 r.held rest c.if-count.false
+            (none_left c.in-Ok.left c.if-left-gt0.false)),
       ),
     )
 
@@ -53,8 +62,8 @@ returns-else-left-gt0-clause-law g c = λ d o.
     let r = rw c.in-Ok.is at n.ensures.ok in
     let rest = rw c.in-Ok.is at n.ensures.rest in
     array_done g.R.Source g.C.SerializerConfig.human g.R.ReadSlice.lends g.T.Deserialize.reads c.args.de.now n.new.de d true c.args.count
-    c.in-Ok.left o r.values r.read g.row.N n.result.1 r.held rest (let f = c.if-count.false in omega (arith, f))
-    (let f = c.if-left-gt0.false in omega (arith, f)) r.ready c.values_of.result c.values_of.ensures
+    c.in-Ok.left o r.values r.read g.row.N n.result.1 r.held rest c.if-count.false
+    (none_left c.in-Ok.left c.if-left-gt0.false) r.ready c.values_of.result c.values_of.ensures
 
 pub returns-in-Err-clause-law : goal.returns-in-Err-clause-law
 returns-in-Err-clause-law g c = λ d o.
@@ -68,4 +77,13 @@ pub returns-in-Err-clause-refused : goal.returns-in-Err-clause-refused
 returns-in-Err-clause-refused g c = λ d o _.
     let n = c.numbers_taken_out-read in
     inr (array_stopped g.R.Source g.C.SerializerConfig.human g.R.ReadSlice.lends g.T.Deserialize.reads g.T.Deserialize.refuses c.args.de.now n.new.de d
-    true c.args.count o g.row.N c.in-Err.e _ refl _ (omega arith) (rw c.in-Err.is at n.ensures.err))
+    true c.args.count o g.row.N c.in-Err.e _ refl _ (least_within g.row.N c.args.count) (rw c.in-Err.is at n.ensures.err))
+
+pub returns-then-not-places_fit-clause-refused : goal.returns-then-not-places_fit-clause-refused
+returns-then-not-places_fit-clause-refused g c = λ d o f. inl (c.if-not-places_fit.ensures.unfit refl, refl)
+
+pub array_drop-places-requires : goal.array_drop-places-requires
+array_drop-places-requires g c = c.if-not-places_fit.ensures.fit refl
+
+pub array_drop-places-requires-then-left-gt0 : goal.array_drop-places-requires-then-left-gt0
+array_drop-places-requires-then-left-gt0 g c = c.if-not-places_fit.ensures.fit refl

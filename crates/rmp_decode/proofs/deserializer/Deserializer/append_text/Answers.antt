@@ -3,7 +3,7 @@ use Rattle.rmp_wire.specs.declared.head.Head.TheVariants.{Text}
 use Rattle.rmp_decode.specs.Content.{not_string}
 use Rattle.rmp_decode.proofs.AnyReads.{no_text, short_text}
 use Rattle.rmp_decode.proofs.ContentErrors.{piece_cut, piece_whole}
-use Rattle.rmp_decode.proofs.Steps.{appended_is}
+use Rattle.rmp_decode.proofs.Steps.{appended_is, kept_is}
 use Rattle.rmp_decode.proofs.deserializer.Deserializer.append_text.Goals as goal
 
 pub returns-in-Ok-from_utf8-clause-ok : goal.returns-in-Ok-from_utf8-clause-ok
@@ -49,3 +49,9 @@ returns-in-Err-clause-err g c = record {
   err = λ n k. short_text c.args.len _ (c.in-Err.ensures.err n k);
   exact = λ n k. piece_cut c.args.len (not_string (Text c.args.len)) _ _ (c.in-Err.ensures.err n k) (c.in-Err.ensures.end n k);
 }
+
+pub returns-in-Err-from_utf8-clause-kept : goal.returns-in-Err-from_utf8-clause-kept
+returns-in-Err-from_utf8-clause-kept g c =
+    let o = c.in-Ok.ensures.ok in
+    c.truncate.ensures.items ∙ kept_is c.len-at.result c.args.bytes.now.items o.passes.bytes c.append.new.bytes.items o.whole
+    (omega (arith, c.len-at.ensures, c.args.bytes.now.ok.0))

@@ -34,6 +34,7 @@ loop-items-preserved g c =
 pub returns-in_err-item-clause-law : goal.returns-in_err-item-clause-law
 returns-in_err-item-clause-law g c = λ old m h.
     let r = c.loop-items.invariant in
+    let same = sym c.in_ok-seq.ensures.same_reference ∙ sym r.run.same_reference ∙ sym c.next_number.ensures.same_reference in
     let o = opened_behind g.R.Source old c.args.self.now m c.args.len c.in_ok-seq.seq h c.in_ok-seq.ensures.opened in
     let p = err_from_is_err_and c.from_residual-in_err-item.result c.from_residual-in_err-item.ensures.1 in
     let f = c.in_err-item.ensures.err r.run.still in
@@ -45,6 +46,7 @@ returns-in_err-item-clause-law g c = λ old m h.
 pub returns-in_err-push-clause-law : goal.returns-in_err-push-clause-law
 returns-in_err-push-clause-law g c = λ old m h.
     let r = c.loop-items.invariant in
+    let same = sym c.in_ok-seq.ensures.same_reference ∙ sym r.run.same_reference ∙ sym c.next_number.ensures.same_reference in
     let o = opened_behind g.R.Source old c.args.self.now m c.args.len c.in_ok-seq.seq h c.in_ok-seq.ensures.opened in
     let p = err_from_is_err_and c.from_residual-in_err-push.result c.from_residual-in_err-push.ensures.1 in
     let t = rw c.in-Some.is at (c.in_ok-item.ensures.some r.run.still) in
@@ -61,7 +63,7 @@ at_none (Some x) n p = absurd (n x refl)
 pub returns-in_err-end-clause-law : goal.returns-in_err-end-clause-law
 returns-in_err-end-clause-law g c =
     let r = c.loop-items.invariant in
-    let n = at_none c.in_ok-item.field-0 (search rules) (c.in_ok-item.ensures.none r.run.still) in
+    let n = at_none c.in_ok-item.field-0 c.in_default.not-Some (c.in_ok-item.ensures.none r.run.still) in
     let h = c.in_err-end.ensures.err (subst IsOpen (sym n.1) r.run.still) in
     let left = ap (λ s. s.left) n.1 in
     absurd (omega (arith, h.0, n.0, left))
@@ -69,8 +71,9 @@ returns-in_err-end-clause-law g c =
 pub returns-clause-law : goal.returns-clause-law
 returns-clause-law g c = λ old m h.
     let r = c.loop-items.invariant in
+    let same = sym c.in_ok-seq.ensures.same_reference ∙ sym r.run.same_reference ∙ sym c.next_number.ensures.same_reference in
     let o = opened_behind g.R.Source old c.args.self.now m c.args.len c.in_ok-seq.seq h c.in_ok-seq.ensures.opened in
-    let n = at_none c.in_ok-item.field-0 (search rules) (c.in_ok-item.ensures.none r.run.still) in
+    let n = at_none c.in_ok-item.field-0 c.in_default.not-Some (c.in_ok-item.ensures.none r.run.still) in
     let e = (c.in_ok-end.ensures.ok (subst IsOpen (sym n.1) r.run.still)).1 in
     buffer_done g.R.Source old c.in_ok-seq.seq c.loop-items.seq r.trees o r.run _ _ r.values n.0
     (via c.end.new.self.0 (search rules) (e ∙ ap (λ s. record s.de.now { failed = false }) n.1))
@@ -80,6 +83,7 @@ returns-clause-law g c = λ old m h.
 pub returns-in_err-item-clause-items : goal.returns-in_err-item-clause-items
 returns-in_err-item-clause-items g c =
     let r = c.loop-items.invariant in
+    let same = sym c.in_ok-seq.ensures.same_reference ∙ sym r.run.same_reference ∙ sym c.next_number.ensures.same_reference in
     let p = err_from_is_err_and c.from_residual-in_err-item.result c.from_residual-in_err-item.ensures.1 in
     let f = c.in_err-item.ensures.err r.run.still in
     rw (p.1, p.2) (λ _. number_refused g.R.Source c.args.self.now _ c.in_ok-seq.seq c.args.len c.in_ok-seq.ensures.opened c.loop-items.seq

@@ -16,3 +16,12 @@ returns-in-Err-clause-law g c =
     told_refused g.R.Source _ c.args.self.now c.deserialize.new.de c.in-Err.e s.1.0 s.0
     (subst (λ d. Lawful g.R.Source (g.T.Deserialize.reads (g.C.SerializerConfig.human d.config) g.R.ReadSlice.lends) d c.deserialize.new.de
     (Err c.in-Err.e)) s.1.1 c.in-Err.ensures.law)
+
+pub returns-in-Ok-kept_option-clause-law : goal.returns-in-Ok-kept_option-clause-law
+returns-in-Ok-kept_option-clause-law g c = rw c.in-None.ensures at c.in-Ok-kept_option.ensures.law
+
+pub returns-in-Err-kept_option-clause-law : goal.returns-in-Err-kept_option-clause-law
+returns-in-Err-kept_option-clause-law g c = rw c.in-None.ensures at c.in-Err-kept_option.ensures.law
+
+pub returns-in-Err-kept_option-clause-refused : goal.returns-in-Err-kept_option-clause-refused
+returns-in-Err-kept_option-clause-refused g c = rw c.in-None.ensures at c.in-Err-kept_option.ensures.refused

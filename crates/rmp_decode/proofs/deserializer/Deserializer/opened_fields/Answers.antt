@@ -41,6 +41,7 @@ returns-in-Err-clause-law g c =
 
 pub returns-in-Err-listed-clause-law : goal.returns-in-Err-listed-clause-law
 returns-in-Err-listed-clause-law g c =
+    let same = sym (rw c.in-Ok-Seq.field-0-is at c.in-Ok-Seq.ensures.same_reference) ∙ sym c.listed.ensures.same_reference in
     let o = rw c.in-Ok-Seq.field-0-is at c.in-Ok-Seq.ensures.opened in
     let f = subst (λ z. FailsParts {V = g.row.F.Denot} g.R.Source (Gives (g.F.Fields.reads (g.C.SerializerConfig.human z) g.R.ReadSlice.lends))
     c.in-Ok-Seq.seq c.listed.new.seq c.in-Err-listed.e) o.stays.config c.in-Err-listed.ensures.err in
@@ -50,6 +51,7 @@ returns-in-Err-listed-clause-law g c =
 
 pub returns-in-Ok-end-clause-law : goal.returns-in-Ok-end-clause-law
 returns-in-Ok-end-clause-law g c =
+    let same = sym (rw c.in-Ok-Seq.field-0-is at c.in-Ok-Seq.ensures.same_reference) ∙ sym c.listed.ensures.same_reference in
     let o = rw c.in-Ok-Seq.field-0-is at c.in-Ok-Seq.ensures.opened in
     let t = subst (λ z. TakesParts {V = g.row.F.Denot} g.R.Source (Gives (g.F.Fields.reads (g.C.SerializerConfig.human z) g.R.ReadSlice.lends))
     c.in-Ok-Seq.seq c.listed.new.seq c.in-Ok.values) o.stays.config c.in-Ok.ensures.ok in
@@ -60,6 +62,7 @@ returns-in-Ok-end-clause-law g c =
 
 pub returns-in-Err-end-clause-law : goal.returns-in-Err-end-clause-law
 returns-in-Err-end-clause-law g c =
+    let same = sym (rw c.in-Ok-Seq.field-0-is at c.in-Ok-Seq.ensures.same_reference) ∙ sym c.listed.ensures.same_reference in
     let o = rw c.in-Ok-Seq.field-0-is at c.in-Ok-Seq.ensures.opened in
     let t = subst (λ z. TakesParts {V = g.row.F.Denot} g.R.Source (Gives (g.F.Fields.reads (g.C.SerializerConfig.human z) g.R.ReadSlice.lends))
     c.in-Ok-Seq.seq c.listed.new.seq c.in-Ok.values) o.stays.config c.in-Ok.ensures.ok in
@@ -78,6 +81,7 @@ loop-map-init g c =
 pub returns-in-None-clause-law : goal.returns-in-None-clause-law
 returns-in-None-clause-law g c =
     let r = c.loop-map.invariant in
+    let same = sym (rw c.in-Ok-Map.field-0-is at c.in-Ok-Map.ensures.same_reference) ∙ sym r.run.same_reference ∙ sym c.next_place.ensures.same_reference in
     let o = rw c.in-Ok-Map.field-0-is at c.in-Ok-Map.ensures.opened in
     let h = rw c.given.ensures at c.in-None.ensures.err in
     fields_key g.R.Source (bytes_of c.args.names.now) (g.F.Fields.holds (g.C.SerializerConfig.human c.args.self.now.config) g.R.ReadSlice.lends)
@@ -100,6 +104,8 @@ pub returns-then-not-fill-clause-law : goal.returns-then-not-fill-clause-law
 returns-then-not-fill-clause-law g c =
     let no : c.fill.result ≡ false = search rules in
     let r = c.loop-map.invariant in
+    let same = sym (rw c.in-Ok-Map.field-0-is at c.in-Ok-Map.ensures.same_reference) ∙ sym r.run.same_reference
+    ∙ sym c.next_place.ensures.same_reference ∙ sym c.fill.ensures.same_reference in
     let o = rw c.in-Ok-Map.field-0-is at c.in-Ok-Map.ensures.opened in
     let key = key_named_by g.R.Source c.args.names.now c.loop-map.map c.next_place.new.self c.in-Some.place (Some c.in-Some.place)
     (below_named _ _ (omega (arith, c.if-place-names.false))) c.in-Some.ensures.ok in
@@ -116,6 +122,8 @@ returns-then-not-fill-clause-law g c =
 pub returns-in-Err-next_value-clause-law : goal.returns-in-Err-next_value-clause-law
 returns-in-Err-next_value-clause-law g c =
     let r = c.loop-map.invariant in
+    let same = sym (rw c.in-Ok-Map.field-0-is at c.in-Ok-Map.ensures.same_reference) ∙ sym r.run.same_reference
+    ∙ sym c.next_place.ensures.same_reference ∙ sym c.next_value.ensures.same_reference in
     let o = rw c.in-Ok-Map.field-0-is at c.in-Ok-Map.ensures.opened in
     let key = key_named_by g.R.Source c.args.names.now c.loop-map.map c.next_place.new.self c.in-Some.place None
     (below_unnamed _ _ c.if-place-names.true) c.in-Some.ensures.ok in
@@ -135,9 +143,10 @@ loop-map-preserved-in-Ok-next_value g c =
 
 pub returns-in_default-clause-law : goal.returns-in_default-clause-law
 returns-in_default-clause-law g c =
-    let r = c.loop-map.invariant in
-    let o = rw c.in-Ok-Map.field-0-is at c.in-Ok-Map.ensures.opened in
     let z : c.loop-map.map.left ≡ 0 = omega (arith, c.loop-map-test.false) in
+    let r = c.loop-map.invariant in
+    let same = sym (rw c.in-Ok-Map.field-0-is at c.in-Ok-Map.ensures.same_reference) ∙ sym r.run.same_reference in
+    let o = rw c.in-Ok-Map.field-0-is at c.in-Ok-Map.ensures.opened in
     let f = none_reads _ c.finish.result c.in_default.not-Some (c.finish.ensures _ _ r.met_trees r.held) in
     fields_missing g.R.Source (bytes_of c.args.names.now) (g.F.Fields.holds (g.C.SerializerConfig.human c.args.self.now.config) g.R.ReadSlice.lends)
     (g.F.Fields.reads (g.C.SerializerConfig.human c.args.self.now.config) g.R.ReadSlice.lends) _ c.in-Ok-Map.map c.loop-map.map o c.loop-map.slots r
@@ -145,14 +154,21 @@ returns-in_default-clause-law g c =
 
 pub returns-in-Ok-end-2-clause-law : goal.returns-in-Ok-end-2-clause-law
 returns-in-Ok-end-2-clause-law g c =
-    let r = c.loop-map.invariant in
-    let o = rw c.in-Ok-Map.field-0-is at c.in-Ok-Map.ensures.opened in
     let z : c.loop-map.map.left ≡ 0 = omega (arith, c.loop-map-test.false) in
+    let r = c.loop-map.invariant in
+    let same = sym (rw c.in-Ok-Map.field-0-is at c.in-Ok-Map.ensures.same_reference) ∙ sym r.run.same_reference in
+    let o = rw c.in-Ok-Map.field-0-is at c.in-Ok-Map.ensures.opened in
     let e = c.in-Ok-end-2.ensures.ok r.run.still in
     let f = rw c.in-Some-finish.is at c.finish.ensures (g.C.SerializerConfig.human c.args.self.now.config) g.R.ReadSlice.lends r.met_trees r.held in
     fields_done g.R.Source (bytes_of c.args.names.now) (g.F.Fields.holds (g.C.SerializerConfig.human c.args.self.now.config) g.R.ReadSlice.lends)
     (g.F.Fields.reads (g.C.SerializerConfig.human c.args.self.now.config) g.R.ReadSlice.lends) _ c.in-Ok-Map.map c.loop-map.map o c.loop-map.slots r
     _ _ f z (via c.end-in-Ok-Map.new.self.0 (search rules) e.1)
+
+pub returns-in-Err-end-2 : goal.returns-in-Err-end-2
+returns-in-Err-end-2 g c =
+    let z : c.loop-map.map.left ≡ 0 = omega (arith, c.loop-map-test.false) in
+    let h = c.in-Err-end-2.ensures.err c.loop-map.invariant.run.still in
+    absurd (omega (arith, h.0, z))
 
 -- ---- which error
 
@@ -162,6 +178,7 @@ returns-in-Err-clause-refused g c = λ u.
 
 pub returns-in-Err-listed-clause-refused : goal.returns-in-Err-listed-clause-refused
 returns-in-Err-listed-clause-refused g c = λ u.
+    let same = sym (rw c.in-Ok-Seq.field-0-is at c.in-Ok-Seq.ensures.same_reference) ∙ sym c.listed.ensures.same_reference in
     let o = rw c.in-Ok-Seq.field-0-is at c.in-Ok-Seq.ensures.opened in
     listed_wrong g.R.Source g.C.SerializerConfig.human g.R.ReadSlice.lends (bytes_of c.args.names.now) g.F.Fields.reads g.F.Fields.parts c.args.self.now _
     c.in-Err-listed.e c.in-Ok-Seq.seq o c.listed.new.seq (search rules) c.in-Err-listed.ensures.refused
@@ -183,6 +200,7 @@ returns-in-Err-end-clause-refused g c = λ u.
 pub returns-in-None-clause-refused : goal.returns-in-None-clause-refused
 returns-in-None-clause-refused g c = λ u.
     let r = c.loop-map.invariant in
+    let same = sym (rw c.in-Ok-Map.field-0-is at c.in-Ok-Map.ensures.same_reference) ∙ sym r.run.same_reference ∙ sym c.next_place.ensures.same_reference in
     let o = rw c.in-Ok-Map.field-0-is at c.in-Ok-Map.ensures.opened in
     name_wrong g.R.Source g.C.SerializerConfig.human g.R.ReadSlice.lends (bytes_of c.args.names.now) g.F.Fields.reads g.F.Fields.parts c.args.self.now _
     c.given.result c.in-Ok-Map.map c.loop-map.map o (g.F.Fields.holds (g.C.SerializerConfig.human c.args.self.now.config) g.R.ReadSlice.lends)
@@ -193,6 +211,8 @@ pub returns-then-not-fill-clause-refused : goal.returns-then-not-fill-clause-ref
 returns-then-not-fill-clause-refused g c = λ u.
     let no : c.fill.result ≡ false = search rules in
     let r = c.loop-map.invariant in
+    let same = sym (rw c.in-Ok-Map.field-0-is at c.in-Ok-Map.ensures.same_reference) ∙ sym r.run.same_reference
+    ∙ sym c.next_place.ensures.same_reference ∙ sym c.fill.ensures.same_reference in
     let o = rw c.in-Ok-Map.field-0-is at c.in-Ok-Map.ensures.opened in
     let key = key_named_by g.R.Source c.args.names.now c.loop-map.map c.next_place.new.self c.in-Some.place (Some c.in-Some.place)
     (below_named _ _ (omega (arith, c.if-place-names.false))) c.in-Some.ensures.ok in
@@ -208,6 +228,8 @@ returns-then-not-fill-clause-refused g c = λ u.
 pub returns-in-Err-next_value-clause-refused : goal.returns-in-Err-next_value-clause-refused
 returns-in-Err-next_value-clause-refused g c = λ u.
     let r = c.loop-map.invariant in
+    let same = sym (rw c.in-Ok-Map.field-0-is at c.in-Ok-Map.ensures.same_reference) ∙ sym r.run.same_reference
+    ∙ sym c.next_place.ensures.same_reference ∙ sym c.next_value.ensures.same_reference in
     let o = rw c.in-Ok-Map.field-0-is at c.in-Ok-Map.ensures.opened in
     let key = key_named_by g.R.Source c.args.names.now c.loop-map.map c.next_place.new.self c.in-Some.place None
     (below_unnamed _ _ c.if-place-names.true) c.in-Some.ensures.ok in
@@ -219,9 +241,9 @@ returns-in-Err-next_value-clause-refused g c = λ u.
 
 pub returns-in_default-clause-refused : goal.returns-in_default-clause-refused
 returns-in_default-clause-refused g c = λ u.
+    let z : c.loop-map.map.left ≡ 0 = omega (arith, c.loop-map-test.false) in
     let r = c.loop-map.invariant in
     let o = rw c.in-Ok-Map.field-0-is at c.in-Ok-Map.ensures.opened in
-    let z : c.loop-map.map.left ≡ 0 = omega (arith, c.loop-map-test.false) in
     let f = none_reads _ c.finish.result c.in_default.not-Some (c.finish.ensures _ _ r.met_trees r.held) in
     field_lacks g.R.Source g.C.SerializerConfig.human g.R.ReadSlice.lends (bytes_of c.args.names.now) g.F.Fields.reads g.F.Fields.parts c.args.self.now _ _
     c.in-Ok-Map.map c.loop-map.map o (g.F.Fields.holds (g.C.SerializerConfig.human c.args.self.now.config) g.R.ReadSlice.lends)

@@ -1,4 +1,5 @@
 use Rattle.std.proofs.Common.{refl, true}
+use Rattle.std.proofs.lemmas.Bool.{true≢false}
 use Rattle.rmp_wire.specs.declared.head.Head.TheVariants.{Text}
 use Rattle.rmp_decode.specs.Content.{IsRawHead, not_raw, not_bytes, not_str}
 use Rattle.rmp_decode.proofs.AnyReads.{no_text}
@@ -28,7 +29,7 @@ returns-in-Err-from_utf8-clause-exact g c = λ old m h.
     content_error g.R.Source IsRawHead not_raw (not_str g.R.ReadSlice.lends) old c.args.self.now _ (m, Text c.args.len) (Text c.args.len) c.args.len _ h
     refl refl tt (λ n k. piece_whole c.args.len (not_str g.R.ReadSlice.lends (Text c.args.len)) _ _ c.in-Ok.bytes.now _ o.2 o.0
     (not_utf8_str g.R.ReadSlice.lends true c.args.len c.in-Ok.bytes.now _ c.in-Ok.ensures.lends c.in-Err-from_utf8.ensures.cases.0 (λ _. tt)
-    (λ n. absurd (cc))))
+    (λ n. absurd (true≢false n))))
 
 pub returns-in-Err-clause-law : goal.returns-in-Err-clause-law
 returns-in-Err-clause-law g c = λ old m h.

@@ -1,4 +1,5 @@
-use Rattle.std.proofs.Common.{◌≡◌, ℕ, List, Bool, true, false, rules}
+use Rattle.std.proofs.Common.{◌≡◌, ◌∙◌, sym, ℕ, List, Bool, true, false, rules}
+use Rattle.std.proofs.lemmas.Bool.{true≢false}
 use Rattle.rmp_wire.specs.Canonical.{IsCanonicalHead, heads_of}
 use Rattle.rmp_wire.specs.Heads.{IsHead}
 use Rattle.rmp_wire.specs.Taking.{byte_of}
@@ -23,7 +24,7 @@ pub returns-else-not-strict-clause-other : goal.returns-else-not-strict-clause-o
 returns-else-not-strict-clause-other c = λ f rest i.
     let k = of_strict _ _ _ (search rules) i in
     let t : c.is_canonical.result ≡ true = (c.is_canonical.ensures (head_fits _ _ k.is_head)).1 (test_failed _ (byte_of c.args.marker) rest k) in
-    absurd (cc)
+    absurd (true≢false (sym t ∙ f))
 
 lenient : (s : Bool) (h : Head) (b : List ℕ) → s ≡ false → IsHead h b → heads_of s h b
 lenient false h b e i = i

@@ -8,6 +8,7 @@ use Rattle.rmp_decode.proofs.SkipLoop.{
   wants_leaf,
   wants_empty,
   wants_in,
+  falls_out,
   falls_leaf,
   falls_in,
   deep_refused,
@@ -27,6 +28,9 @@ returns-then-de-le1-clause-law g c = no_room g.R.Source c.args.count c.args.de.n
 pub parts-preserved-in-Some : goal.parts-preserved-in-Some
 parts-preserved-in-Some g c = wants_out g.R.Source g.P.ReadContent.lends c.args.count c.args.de.now c.parts.de c.parts.room c.parts.wanted
     c.parts.outer.items c.parts.invariant c.in-Some.n _ _ c.if-wanted-eq0.true c.in-Some.ensures.items refl
+
+pub parts-smaller-in-Some : goal.parts-smaller-in-Some
+parts-smaller-in-Some g c = falls_out c.parts.room c.parts.wanted c.in-Some.n _ c.parts.outer.items _ c.if-wanted-eq0.true c.in-Some.ensures.items refl
 
 pub returns-in-None-clause-law : goal.returns-in-None-clause-law
 returns-in-None-clause-law g c = wants_none g.R.Source g.P.ReadContent.lends c.args.count c.args.de.now c.parts.de c.parts.room c.parts.wanted

@@ -1,4 +1,5 @@
 use Rattle.std.proofs.Common.{refl}
+use Rattle.std.proofs.lemmas.Bool.{false≢true}
 use Rattle.rmp_wire.specs.declared.head.Head.TheVariants.{Text}
 use Rattle.rmp_decode.specs.Content.{not_string}
 use Rattle.rmp_decode.proofs.AnyReads.{no_text, short_text}
@@ -13,9 +14,9 @@ returns-clause-err g c = elim c.match-take.branch [
     failed = refl;
     stays = record { config = refl; room = refl; limit = refl; strict = refl; place = w.in-Ok.ensures.place };
     err = λ n k. let o = w.in-Ok.ensures.ok in no_text c.args.self.len _ _ w.in-Ok.bytes.items o.2 o.0 (λ u. let no = w.in-Err-from_utf8.ensures.succeeds u
-        in absurd (cc));
+        in absurd (false≢true no));
     exact = λ n k. let o = w.in-Ok.ensures.ok in piece_whole c.args.self.len (not_string (Text c.args.self.len)) _ _ w.in-Ok.bytes.items _ o.2 o.0
-        (λ u. let no = w.in-Err-from_utf8.ensures.succeeds u in absurd (cc), tt);
+        (λ u. let no = w.in-Err-from_utf8.ensures.succeeds u in absurd (false≢true no), tt);
   })
   | in-Err w ↦ rw (w.result-is, w.de-is) (record {
     failed = refl;

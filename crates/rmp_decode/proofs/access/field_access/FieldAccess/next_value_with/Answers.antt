@@ -1,7 +1,21 @@
 use Rattle.std.proofs.Common.{ap, refl, rules, subst}
 use Rattle.rmp_decode.specs.With.{PartGiven, part_reader}
 use Rattle.rmp_decode.proofs.FieldWiths.{field_given, field_ended}
+use Rattle.rmp_decode.proofs.Nexts.{clash}
 use Rattle.rmp_decode.proofs.access.field_access.FieldAccess.next_value_with.Goals as goal
+
+pub returns-then-not-self : goal.returns-then-not-self
+returns-then-not-self g c = record {
+  same_reference = refl;
+  same = record { is_map = refl; bytes = refl; names = refl; count = refl; inner = refl };
+  before = λ _. (refl, refl);
+  part = λ o. clash c.args.self.now.sound o.sound c.if-not-self.true;
+  owes = tt;
+  left = refl;
+  still = tt;
+  failed = c.if-not-self.true;
+  marked = λ h. h;
+}
 
 pub returns-in-Err-clause-part : goal.returns-in-Err-clause-part
 returns-in-Err-clause-part g c = λ o.
@@ -30,3 +44,12 @@ returns-in-Err-part_with-clause-part g c = λ o.
     (record { is_map = refl; bytes = refl; names = refl; count = refl; inner = refl }) refl refl _ tt
     (rw c.in-Err-part_with.is at (subst (λ z. PartGiven g.F.FnOnce c.args.f z c.offer.new.self.de.now c.part_with.new.self c.part_with.result) k.same.inner
     c.part_with.ensures))
+
+pub returns-in-Err-clause-before : goal.returns-in-Err-clause-before
+returns-in-Err-clause-before g c = λ h. clash c.args.self.now.sound c.if-not-self.false h
+
+pub returns-in-Ok-part_with-clause-before : goal.returns-in-Ok-part_with-clause-before
+returns-in-Ok-part_with-clause-before g c = λ h. clash c.args.self.now.sound c.if-not-self.false h
+
+pub returns-in-Err-part_with-clause-before : goal.returns-in-Err-part_with-clause-before
+returns-in-Err-part_with-clause-before g c = λ h. clash c.args.self.now.sound c.if-not-self.false h

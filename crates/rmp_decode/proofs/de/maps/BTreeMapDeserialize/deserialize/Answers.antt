@@ -1,8 +1,9 @@
-use Rattle.std.proofs.Common.{◌≡◌, sym, ◌∙◌, ap, subst, arith, refl, rules, false, List, Option, None, Some, IfNone, Global}
+use Rattle.std.proofs.Common.{◌≡◌, ◌<◌, sym, ◌∙◌, ap, subst, arith, refl, rules, true, false, List, Option, None, Some, IfNone, Global}
 use Rattle.std.proofs.lemmas.Result.{err_from_is_err_and}
 use Rattle.std.specs.declared.collections.BTreeMap.{BTreeMap}
-use Rattle.rmp_decode.specs.Maps.{ReadsPairs, Collects, IsMapOpen, map_inner, TakesKey, TakesValue}
+use Rattle.rmp_decode.specs.Maps.{ReadsPairs, Collects, IsMapOpen, map_inner, to_come, TakesKey, TakesValue}
 use Rattle.rmp_decode.specs.Parts.{FailsPart}
+use Rattle.rmp_decode.specs.declared.access.map.MapAccess.{MapAccess}
 use Rattle.rmp_decode.specs.declared.error.Error.TheVariants.{OutOfMemory}
 use Rattle.rmp_decode.proofs.Maps.{flat, map_unopened, map_done, map_unkept, map_take, map_key, key_next, value_next, entries_step, gathers_start, gathers_step}
 use Rattle.rmp_decode.proofs.MapRefusals.{key_wrong, value_wrong, pair_short}
@@ -11,6 +12,9 @@ use Rattle.rmp_decode.proofs.de.maps.BTreeMapDeserialize.deserialize.Goals as go
 
 via : {A : Type 0} {x z : A} (y : A) → x ≡ y → y ≡ z → x ≡ z
 via y p q = p ∙ q
+
+owing : {R C : Type 0} (a : MapAccess R C) → a.owes ≡ true → 0 < to_come a
+owing a e = rw e (omega arith)
 
 pub returns-in_err-map-clause-law : goal.returns-in_err-map-clause-law
 returns-in_err-map-clause-law g c =
@@ -32,6 +36,7 @@ next_value-requires g c κs = ((refl, (refl, tt)), λ _. let p = rw c.in-Some.is
 pub returns-in_err-key-clause-law : goal.returns-in_err-key-clause-law
 returns-in_err-key-clause-law g c =
     let r = c.loop-entries.invariant in
+    let same = sym c.in_ok-map.ensures.same_reference ∙ sym r.read.run.same_reference ∙ sym c.next_key.ensures.same_reference in
     let o = c.in_ok-map.ensures.opened in
     let e = r.read.run.stays.config ∙ o.stays.config in
     let p = err_from_is_err_and c.from_residual-in_err-key.result c.from_residual-in_err-key.ensures.1 in
@@ -47,6 +52,8 @@ returns-in_err-key-clause-law g c =
 pub returns-in_err-value-clause-law : goal.returns-in_err-value-clause-law
 returns-in_err-value-clause-law g c =
     let r = c.loop-entries.invariant in
+    let same = sym c.in_ok-map.ensures.same_reference ∙ sym r.read.run.same_reference ∙ sym c.next_key.ensures.same_reference
+    ∙ sym c.next_value.ensures.same_reference in
     let o = c.in_ok-map.ensures.opened in
     let e = r.read.run.stays.config ∙ o.stays.config in
     let p = subst (λ z. TakesKey g.R.Source (g.K.Deserialize.reads (g.C.SerializerConfig.human z) g.R.ReadSlice.lends) c.loop-entries.map
@@ -60,12 +67,14 @@ returns-in_err-value-clause-law g c =
     rw (x.1, x.2) (map_take g.R.Source (λ (v : BTreeMap g.row.K.Denot g.row.V.Denot Global) ps. (ns : List (g.row.K.Denot × g.row.V.Denot))
     × ReadsPairs (g.K.Deserialize.reads (g.C.SerializerConfig.human c.args.de.now.config) g.R.ReadSlice.lends)
     (g.V.Deserialize.reads (g.C.SerializerConfig.human c.args.de.now.config) g.R.ReadSlice.lends) ps ns × Collects g.K.Ord.cmp ns v.entries) _
-    c.in_ok-map.map c.next_key.new.self o _ (push (flat r.read.trees) p.part.tree) half _ c.next_value.new.self _ (rw p.owes (omega arith)) f
+    c.in_ok-map.map c.next_key.new.self o _ (push (flat r.read.trees) p.part.tree) half _ c.next_value.new.self _ (owing c.next_key.new.self p.owes) f
     (search rules) (λ m ks v ps i h. value_next _ _ r.read.trees ps p.part.tree m ks h.0 i h.1))
 
 pub returns-in_err-insert-clause-law : goal.returns-in_err-insert-clause-law
 returns-in_err-insert-clause-law g c =
     let r = c.loop-entries.invariant in
+    let same = sym c.in_ok-map.ensures.same_reference ∙ sym r.read.run.same_reference ∙ sym c.next_key.ensures.same_reference
+    ∙ sym c.next_value.ensures.same_reference in
     let o = c.in_ok-map.ensures.opened in
     let e = r.read.run.stays.config ∙ o.stays.config in
     let p = subst (λ z. TakesKey g.R.Source (g.K.Deserialize.reads (g.C.SerializerConfig.human z) g.R.ReadSlice.lends) c.loop-entries.map
@@ -124,13 +133,13 @@ at_none (Some x) n p = absurd (n x refl)
 
 pub end-requires : goal.end-requires
 end-requires g c =
-    let n = at_none c.in_ok-key.field-0 (search rules) c.in_ok-key.ensures.none in
+    let n = at_none c.in_ok-key.field-0 c.in_default.not-Some c.in_ok-key.ensures.none in
     λ _. ap (λ a. a.owes) n.1 ∙ c.loop-entries.invariant.read.at_key
 
 pub returns-in_err-end-clause-law : goal.returns-in_err-end-clause-law
 returns-in_err-end-clause-law g c =
     let r = c.loop-entries.invariant in
-    let n = at_none c.in_ok-key.field-0 (search rules) c.in_ok-key.ensures.none in
+    let n = at_none c.in_ok-key.field-0 c.in_default.not-Some c.in_ok-key.ensures.none in
     let h = c.in_err-end.ensures.err (subst IsMapOpen (sym n.1) r.read.run.still) in
     let left = ap (λ a. a.left) n.1 in
     absurd (omega (arith, h.0, n.0, left))
@@ -138,7 +147,8 @@ returns-in_err-end-clause-law g c =
 pub returns-clause-law : goal.returns-clause-law
 returns-clause-law g c =
     let r = c.loop-entries.invariant in
-    let n = at_none c.in_ok-key.field-0 (search rules) c.in_ok-key.ensures.none in
+    let same = sym c.in_ok-map.ensures.same_reference ∙ sym r.read.run.same_reference ∙ sym c.next_key.ensures.same_reference in
+    let n = at_none c.in_ok-key.field-0 c.in_default.not-Some c.in_ok-key.ensures.none in
     let e = (c.in_ok-end.ensures.ok (subst IsMapOpen (sym n.1) r.read.run.still)).1 in
     map_done g.R.Source (λ (v : BTreeMap g.row.K.Denot g.row.V.Denot Global) ps. (ns : List (g.row.K.Denot × g.row.V.Denot))
     × ReadsPairs (g.K.Deserialize.reads (g.C.SerializerConfig.human c.args.de.now.config) g.R.ReadSlice.lends)
@@ -149,6 +159,7 @@ returns-clause-law g c =
 pub returns-in_err-key-clause-refused : goal.returns-in_err-key-clause-refused
 returns-in_err-key-clause-refused g c = λ _.
     let r = c.loop-entries.invariant in
+    let same = sym c.in_ok-map.ensures.same_reference ∙ sym r.read.run.same_reference ∙ sym c.next_key.ensures.same_reference in
     let p = err_from_is_err_and c.from_residual-in_err-key.result c.from_residual-in_err-key.ensures.1 in
     rw (p.1, p.2) (key_wrong g.R.Source g.C.SerializerConfig.human g.R.ReadSlice.lends g.K.Deserialize.reads g.V.Deserialize.reads g.K.Deserialize.refuses
     g.V.Deserialize.refuses c.args.de.now c.in_ok-map.map c.loop-entries.map c.in_ok-map.ensures.opened r.pairs r.read _ c.in_err-key.field-0.0
@@ -158,6 +169,8 @@ returns-in_err-key-clause-refused g c = λ _.
 pub returns-in_err-value-clause-refused : goal.returns-in_err-value-clause-refused
 returns-in_err-value-clause-refused g c = λ _.
     let r = c.loop-entries.invariant in
+    let same = sym c.in_ok-map.ensures.same_reference ∙ sym r.read.run.same_reference ∙ sym c.next_key.ensures.same_reference
+    ∙ sym c.next_value.ensures.same_reference in
     let e = r.read.run.stays.config ∙ c.in_ok-map.ensures.opened.stays.config in
     let t = subst (λ z. TakesKey g.R.Source (g.K.Deserialize.reads (g.C.SerializerConfig.human z) g.R.ReadSlice.lends) c.loop-entries.map
     c.next_key.new.self c.in-Some.key) e (rw c.in-Some.is at c.in_ok-key.ensures.some) in

@@ -1,0 +1,10 @@
+use Rattle.rmp_decode.proofs.ContentErrors.{blamed_short, blamed_end}
+use Rattle.rmp_decode.proofs.content.SlicesReadContent.pass.Goals as goal
+
+pub returns-in-Err-clause-err : goal.returns-in-Err-clause-err
+returns-in-Err-clause-err g c = blamed_short c.args.len c.in-Err.e _ _ (g.R.Source.ahead c.args.reader.now) _
+    (rw c.in-Err.is at c.read_slice.follows.holds-at-none).0 c.error_of.ensures
+
+pub returns-in-Err-clause-end : goal.returns-in-Err-clause-end
+returns-in-Err-clause-end g c = blamed_end c.args.len c.in-Err.e _ _ (g.R.Source.ahead c.args.reader.now) _
+    (rw c.in-Err.is at c.read_slice.follows.holds-at-none).0 c.error_of.ensures
