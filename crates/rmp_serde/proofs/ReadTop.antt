@@ -131,6 +131,10 @@ module _ {R C : Type 0} (g : Ghosts R) (old last : Deserializer R C) (heads : Li
   }
 
 -- the head of a list or a map has no content
+pub bare_len : (is_map : Bool) (n : ℕ) (h : Head) → h ≡ parts_head is_map n → content_len h ≡ 0
+bare_len true n h e = ap content_len e
+bare_len false n h e = ap content_len e
+
 bare_content : (is_map : Bool) (n at : ℕ) (h : Head) (b : List ℕ) → h ≡ parts_head is_map n → take (content_len h) (drop at b) ≡ []
 bare_content true n at h b i = ap (λ z. take (content_len z) (drop at b)) i
 bare_content false n at h b i = ap (λ z. take (content_len z) (drop at b)) i

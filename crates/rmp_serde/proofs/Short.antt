@@ -7,6 +7,7 @@ use Rattle.std.proofs.Common.{
   subst,
   refl,
   ℕ,
+  zero,
   suc,
   ◌+◌,
   ◌-◌,
@@ -36,7 +37,7 @@ use Rattle.std.proofs.Common.{
   ◌==◌,
   ◌&&◌,
 }
-use Rattle.std.proofs.lemmas.Bool.{cases_lt, lt-ltb, le-ltb, agree_below, agree_below_at, eqb-true}
+use Rattle.std.proofs.lemmas.Bool.{cases_lt, lt-ltb, le-ltb, eqb-true}
 use Rattle.std.proofs.lemmas.Bool.Decides.{nat_tests}
 use Rattle.std.proofs.lemmas.Int.{ints}
 use Rattle.std.proofs.lemmas.List.{append-nil, take-append-drop, length-take-le, length-drop, get_or-drop, drop-drop}
@@ -128,8 +129,38 @@ same_is (x ∷ xs) (y ∷ ys) e =
 abbrev row : List ℕ → ℕ → List ℕ
 row table m = get_or table (4 * m) 0 ∷ get_or table (4 * m + 1) 0 ∷ get_or table (4 * m + 2) 0 ∷ get_or table (4 * m + 3) 0 ∷ []
 
-pub table_says : (table : List ℕ) → agree_below (λ m. same (entry m) (row table m)) (λ m. true) 256 ≡ true → (m : ℕ) → m < 256 → entry m ≡ row table m
-table_says table e m l = same_is (entry m) (row table m) (agree_below_at (λ k. same (entry k) (row table k)) (λ k. true) 256 m e l)
+-- each four numbers of a table are what is said of their first byte, for so many bytes from one on
+abbrev says : ℕ → ℕ → List ℕ → Bool
+says zero k table = true
+says (suc n) k (a ∷ b ∷ c ∷ d ∷ table) = same (entry k) (a ∷ b ∷ c ∷ d ∷ []) && says n (suc k) table
+says (suc n) k _ = false
+
+row_behind : (a b c d : ℕ) (table : List ℕ) (m : ℕ) → row table m ≡ row (a ∷ b ∷ c ∷ d ∷ table) (suc m)
+row_behind a b c d table m =
+    let at : (x y : ℕ) → suc (suc (suc (suc x))) ≡ y → get_or table x 0 ≡ get_or (a ∷ b ∷ c ∷ d ∷ table) y 0 = λ x y e.
+    ap (λ z. get_or (a ∷ b ∷ c ∷ d ∷ table) z 0) e in
+    rw (
+      at (4 * m) (4 * suc m) (omega arith),
+      at (4 * m + 1) (4 * suc m + 1) (omega arith),
+      at (4 * m + 2) (4 * suc m + 2) (omega arith),
+      at (4 * m + 3) (4 * suc m + 3) (omega arith),
+    ) refl
+
+row_says : (n m k j : ℕ) (table : List ℕ) → j ≡ m + k → m < n → says n k table ≡ true → entry j ≡ row table m
+row_says zero m k j table i l e = absurd (omega arith)
+row_says (suc n) m k j [] i l e = absurd cc
+row_says (suc n) m k j (a ∷ []) i l e = absurd cc
+row_says (suc n) m k j (a ∷ b ∷ []) i l e = absurd cc
+row_says (suc n) m k j (a ∷ b ∷ c ∷ []) i l e = absurd cc
+row_says (suc n) zero k j (a ∷ b ∷ c ∷ d ∷ table) i l e =
+    let here : j ≡ k = omega arith in
+    ap entry here ∙ same_is (entry k) (a ∷ b ∷ c ∷ d ∷ []) (both (same (entry k) (a ∷ b ∷ c ∷ d ∷ [])) (says n (suc k) table) e).0
+row_says (suc n) (suc m) k j (a ∷ b ∷ c ∷ d ∷ table) i l e =
+    let rest = both (same (entry k) (a ∷ b ∷ c ∷ d ∷ [])) (says n (suc k) table) e in
+    row_says n m (suc k) j table (omega arith) (omega arith) rest.1 ∙ row_behind a b c d table m
+
+pub table_says : (table : List ℕ) → says 256 0 table ≡ true → (m : ℕ) → m < 256 → entry m ≡ row table m
+table_says table e m l = row_says 256 m 0 m table (omega arith) l e
 
 -- ---- nodes
 

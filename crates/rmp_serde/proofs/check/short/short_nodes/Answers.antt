@@ -28,3 +28,24 @@ table-preserved c =
       most = omega arith;
       block = v.block;
     }
+
+pub table-init : goal.table-init
+table-init c =
+    let none : c.small.at ≡ c.small.at + (c.min-block.result - c.min-block.result) = omega arith in
+    record {
+      nodes = subst (λ z. TakesNodes z 0 c.args.bytes.now (drop c.small.at c.args.bytes.now)) none c.small.invariant.nodes;
+      long = omega arith;
+      few = omega arith;
+      most = omega arith;
+      block = omega arith;
+    }
+
+pub overflow_add-parts : goal.overflow_add-parts
+overflow_add-parts c =
+    let e = c.entry_of-entry.result in
+    let b = entry_bounds (get_or c.args.bytes.now c.table.at 0) e.added e.least e.size e.parts (omega (arith, c.type_inv.bytes c.table.at))
+    c.entry_of-entry.ensures in
+    omega (arith, b)
+
+pub returns-clause-nodes : goal.returns-clause-nodes
+returns-clause-nodes c = c.table.invariant.nodes

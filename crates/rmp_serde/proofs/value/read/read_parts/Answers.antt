@@ -108,3 +108,12 @@ pub returns-in-Err-clause-refusal : goal.returns-in-Err-clause-refusal
 returns-in-Err-clause-refusal g c = λ _. none_wrong g.R.Source c.args.count c.args.de.now c.parts.de c.parts.room c.parts.wanted c.parts.outer.items
     (heads_of c.args.made.now) (heads_of c.parts.made) c.parts.invariant.0 c.deserialize_head.new.self c.in-Err.e (omega (arith, c.if-wanted-eq0.false))
     c.in-Err.ensures.err
+
+pub enter-requires-clause-parts : goal.enter-requires-clause-parts
+enter-requires-clause-parts g c = c.in-Some-parts_in.ensures
+
+pub enter-requires-clause-within : goal.enter-requires-clause-within
+enter-requires-clause-within g c = c.parts.invariant.1
+
+pub read_leaf-requires-clause-leaf : goal.read_leaf-requires-clause-leaf
+read_leaf-requires-clause-leaf g c = c.in-None-parts_in.ensures

@@ -1,7 +1,9 @@
-use Rattle.std.proofs.Common.{arith}
+use Rattle.std.proofs.Common.{arith, ap, length}
+use Rattle.std.proofs.lemmas.List.{length-append}
 use Rattle.rmp_serde.specs.Flat.{heads_of}
 use Rattle.rmp_serde.proofs.ReadLoop.{fits_as}
 use Rattle.rmp_serde.proofs.ReadTop.{
+  bare_len,
   is_tree,
   tree_law,
   leaf_read,
@@ -86,3 +88,20 @@ returns-in-Err-clause-law g c = refused_none _ _ _ _ _ c.in-Err.ensures.err
 
 pub returns-in-Err-clause-refusal : goal.returns-in-Err-clause-refusal
 returns-in-Err-clause-refusal g c = none_wrong _ _ _ _ c.in-Err.ensures.err
+
+pub read_content-requires-clause-leaf : goal.read_content-requires-clause-leaf
+read_content-requires-clause-leaf g c = c.in-None.ensures
+
+pub read_parts-requires-clause-deep : goal.read_parts-requires-clause-deep
+read_parts-requires-clause-deep g c = omega (arith, c.room.ensures, c.if-room-le1.false)
+
+pub from_parts-requires-clause-stands : goal.from_parts-requires-clause-stands
+from_parts-requires-clause-stands g c = omega (arith, bare_len c.in-Some.is_map c.in-Some.n c.in-Ok.head c.in-Some.ensures)
+
+pub from_parts-requires-clause-within : goal.from_parts-requires-clause-within
+from_parts-requires-clause-within g c = c.in-Ok-read_parts.ensures.within
+
+pub from_parts-requires-in-Ok-read_content-clause-stands : goal.from_parts-requires-in-Ok-read_content-clause-stands
+from_parts-requires-in-Ok-read_content-clause-stands g c =
+    let o = c.in-Ok-read_content.ensures.ok in
+    omega (arith, ap length o.whole, length-append c.new-made.result.bytes.items o.content, o.taken.long)

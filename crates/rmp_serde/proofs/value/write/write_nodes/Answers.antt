@@ -1,5 +1,6 @@
 use Rattle.std.proofs.Common.{rules, arith, ◌∷◌}
 use Rattle.std.proofs.lemmas.Result.{err_from_is_err_and}
+use Rattle.rmp_serde.proofs.FlatParts.{ends_at}
 use Rattle.rmp_serde.proofs.TreeWriting.{tree_of_puts, takes_until, takes_next, stands_in}
 use Rattle.rmp_serde.proofs.value.write.write_nodes.Goals as goal
 
@@ -18,3 +19,8 @@ loop-at-preserved g c = (
       (omega (arith, c.loop-at-test.true, c.len-at-end.ensures)) (omega arith) c.node.ensures.node c.loop-at.invariant.1
       (tree_of_puts c.in_ok-write_node.ensures.writes),
 )
+
+pub write_node-requires : goal.write_node-requires
+write_node-requires g c = record {
+  within = rw c.node.ensures.node (ends_at _ (c.args.root ∷ c.args.parts.now.nodes.items) c.loop-at.at (c.requires.root, c.requires.within));
+}
