@@ -30,6 +30,8 @@ use Rattle.std.proofs.lemmas.List.{length-append}
 use Rattle.hex.specs.Hex.{decode_of}
 use Rattle.hex.specs.declared.error.FromHexError.{FromHexError}
 use Rattle.hex.specs.declared.error.FromHexError.TheVariants as hex
+use Rattle.rmp_wire.specs.Sinks.{PutsPart}
+use Rattle.rmp_wire.specs.declared.error.ValueWriteError.{ValueWriteError}
 use Rattle.rmp_wire.specs.declared.sink.Sink.{Ghosts}
 use Rattle.rmp_wire.specs.Spelling.{Spells}
 use Rattle.rmp_serde.specs.Msg.{Msg}
@@ -62,6 +64,11 @@ if_some (Some a) P f = f a
 module _ {W : Type 0} (g : Ghosts W) where
   pub nothing_put : {P : List ℕ → Type 0} (s : W) → P [] → Puts g P s s
   nothing_put s p = record { out = []; appended = Appends-nil (g.told s); shown = p }
+
+  -- a beginning of one line was put
+  pub line_begun : {old new : W} (text bytes : List ℕ) (e : ValueWriteError) → bytes ≡ text ++ 10 ∷ []
+      → PutsPart g.takes_memory bytes (g.told old) (g.told new) (g.faults old) (g.faults new) e → Puts g (IsStart (line text)) old new
+  line_begun text bytes e is p = record { out = p.part; appended = p.appended; shown = record { more = p.rest; split = sym is ∙ p.split } }
 
   -- ---- messages
 

@@ -1,4 +1,4 @@
-use Rattle.std.proofs.Common.{rules, arith, ◌≡◌, ◌∙◌, Ok, ap, subst, length, string_bytes}
+use Rattle.std.proofs.Common.{rules, arith, ◌≡◌, ◌∙◌, Ok, inl, ap, refl, subst, length, string_bytes}
 use Rattle.std.specs.Io.KnownBytes.{Appends}
 use Rattle.std.proofs.lemmas.List.{length-append, length-drop}
 use Rattle.std.proofs.lemmas.Result.{err_from_is_err_and}
@@ -9,6 +9,7 @@ use Rattle.canon_lines.proofs.Checked.{
   whole_some,
   fault_within,
   left_behind,
+  all_checked,
   checked_more,
   fault_ends,
   stop_ends,
@@ -19,7 +20,7 @@ use Rattle.canon_lines.proofs.Checked.{
 }
 use Rattle.canon_lines.proofs.Early.{on_err}
 use Rattle.canon_lines.proofs.MessageReads.{prints_failed}
-use Rattle.canon_lines.proofs.Printing.{puts_both, prints_after}
+use Rattle.canon_lines.proofs.Printing.{puts_both, prints_ok, prints_err, prints_after}
 use Rattle.canon_lines.proofs.check.check_messages.Goals as goal
 
 pub slice_bounds-left-count : goal.slice_bounds-left-count
@@ -46,7 +47,7 @@ loop-left-preserved g c =
     let inv = c.loop-left.invariant in
     let whole : IsWhole c.loop-left.left.now c.in-Ok-Whole.len = (c.check_canonical.ensures.whole c.in-Ok-Whole.len).0
     (c.in-Ok-Whole.is ∙ ap Ok c.in-Ok-Whole.field-0-is) in
-    let text : string_bytes c.in_ok-format-in-Ok-Whole.field-0 ≡ canonical_text c.in-Ok-Whole.len = search rules in
+    let text : string_bytes c.in_ok-format-in-Ok-Whole.field-0 ≡ canonical_text c.in-Ok-Whole.len = c.in_ok-format-in-Ok-Whole.ensures.ok in
     let printed = subst (λ s. Appends (g.W.Sink.told c.loop-left.sink) (g.W.Sink.told c.print_line.new.sink) (line s)) text
     c.in_ok-print_line-in-Ok-Whole.ensures.line in
     record {
@@ -75,7 +76,7 @@ pub returns-in-Ok-Fault-clause-shown : goal.returns-in-Ok-Fault-clause-shown
 returns-in-Ok-Fault-clause-shown g c =
     let fault : IsFault c.loop-left.left.now c.in-Ok-Fault.at = (c.check_canonical.ensures.fault c.in-Ok-Fault.at).0
     (c.in-Ok-Fault.is ∙ ap Ok c.in-Ok-Fault.field-0-is) in
-    fault_ends g.W.Sink c.args.bytes.now c.loop-left.left.now _ c.in-Ok-Fault.at c.refuse.result _ c.loop-left.invariant.read (search rules) fault
+    fault_ends g.W.Sink c.args.bytes.now c.loop-left.left.now _ c.in-Ok-Fault.at c.refuse.result _ c.loop-left.invariant.read refl fault
     c.refuse.ensures.refused c.refuse.ensures.line
 
 pub returns-in-Ok-Fault-clause-prints : goal.returns-in-Ok-Fault-clause-prints
@@ -83,7 +84,7 @@ returns-in-Ok-Fault-clause-prints g c = prints_after g.W.Sink c.refuse.result c.
 
 pub returns-in-Err-clause-shown : goal.returns-in-Err-clause-shown
 returns-in-Err-clause-shown g c =
-    stop_ends g.W.Sink c.args.bytes.now c.loop-left.left.now _ c.in-Err.error c.refuse_message.result _ c.loop-left.invariant.read (search rules)
+    stop_ends g.W.Sink c.args.bytes.now c.loop-left.left.now _ c.in-Err.error c.refuse_message.result _ c.loop-left.invariant.read refl
     (search rules) c.in-Err.ensures.stops c.refuse_message.ensures.memory c.refuse_message.ensures.refused c.refuse_message.ensures.line
 
 pub returns-in-Err-clause-prints : goal.returns-in-Err-clause-prints
@@ -98,7 +99,7 @@ pub returns-in_err-print_line-in-Ok-Whole-clause-early : goal.returns-in_err-pri
 returns-in_err-print_line-in-Ok-Whole-clause-early g c =
     let whole : IsWhole c.loop-left.left.now c.in-Ok-Whole.len = (c.check_canonical.ensures.whole c.in-Ok-Whole.len).0
     (c.in-Ok-Whole.is ∙ ap Ok c.in-Ok-Whole.field-0-is) in
-    let text : string_bytes c.in_ok-format-in-Ok-Whole.field-0 ≡ canonical_text c.in-Ok-Whole.len = search rules in
+    let text : string_bytes c.in_ok-format-in-Ok-Whole.field-0 ≡ canonical_text c.in-Ok-Whole.len = c.in_ok-format-in-Ok-Whole.ensures.ok in
     let put = subst (λ s. Puts g.W.Sink (IsStart (line s)) c.loop-left.sink c.print_line.new.sink) text c.in_err-print_line-in-Ok-Whole.ensures.early in
     on_err c.from_residual-in_err-print_line-in-Ok-Whole.result _
     (whole_early g.W.Sink c.args.bytes.now c.loop-left.left.now c.in-Ok-Whole.len c.print_line.new.sink c.loop-left.invariant.read whole put)
@@ -107,10 +108,21 @@ pub returns-in-Ok-Fault-clause-early : goal.returns-in-Ok-Fault-clause-early
 returns-in-Ok-Fault-clause-early g c =
     let fault : IsFault c.loop-left.left.now c.in-Ok-Fault.at = (c.check_canonical.ensures.fault c.in-Ok-Fault.at).0
     (c.in-Ok-Fault.is ∙ ap Ok c.in-Ok-Fault.field-0-is) in
-    fault_early g.W.Sink c.args.bytes.now c.loop-left.left.now _ c.in-Ok-Fault.at c.refuse.result _ c.loop-left.invariant.read (search rules) fault
+    fault_early g.W.Sink c.args.bytes.now c.loop-left.left.now _ c.in-Ok-Fault.at c.refuse.result _ c.loop-left.invariant.read refl fault
     c.refuse.ensures.early
 
 pub returns-in-Err-clause-early : goal.returns-in-Err-clause-early
 returns-in-Err-clause-early g c =
-    stop_early g.W.Sink c.args.bytes.now c.loop-left.left.now _ c.in-Err.error c.refuse_message.result _ c.loop-left.invariant.read (search rules)
+    stop_early g.W.Sink c.args.bytes.now c.loop-left.left.now _ c.in-Err.error c.refuse_message.result _ c.loop-left.invariant.read refl
     (search rules) c.in-Err.ensures.stops c.refuse_message.ensures.early
+
+pub returns-in_err-format-in-Ok-Whole-clause-prints : goal.returns-in_err-format-in-Ok-Whole-clause-prints
+returns-in_err-format-in-Ok-Whole-clause-prints g c =
+    let p = err_from_is_err_and c.from_residual.result c.from_residual.ensures.1 in
+    rw (p.1, p.2) (prints_err g.W.Sink (inl c.loop-left.invariant.lines) c.loop-left.invariant.place)
+
+pub returns-clause-shown : goal.returns-clause-shown
+returns-clause-shown g c = all_checked g.W.Sink c.args.bytes.now _ c.loop-left.invariant.read (search rules)
+
+pub returns-clause-prints : goal.returns-clause-prints
+returns-clause-prints g c = prints_ok g.W.Sink c.loop-left.invariant.lines c.loop-left.invariant.place
