@@ -1,5 +1,6 @@
 //! Messages that are read, changed and written, and one that is written canonically.
-use test_derived::{canonical, older, restocked};
+use test_derived::{older, restocked};
+use test_lines::canonical;
 
 #[test]
 fn example(rt: HostRuntime) {
