@@ -45,12 +45,11 @@ def memory(kinds):
     return text
 
 
-# The elements as the fields of a struct: a pair of the first one and the others.
+# The elements as the fields of a struct: a pair of the first one and the others, and of more than four a tuple of the first four and the others.
 def fields_of(parts):
-    text = "()"
-    for part in reversed(parts):
-        text = f"({part}, {text})"
-    return text
+    if len(parts) > 4:
+        return f"({', '.join(parts[:4])}, {fields_of(parts[4:])})"
+    return f"({parts[0]}, {fields_of(parts[1:])})" if parts else "()"
 
 
 def implementation(n):

@@ -142,7 +142,7 @@ impl<
         de: &mut Deserializer<R, C>,
     ) -> Result<(A, B, D, E, F), Error> {
         match de.tuple_parts(5) {
-            Ok((a, (b, (d, (e, (f, ())))))) => Ok((a, b, d, e, f)),
+            Ok((a, b, d, e, (f, ()))) => Ok((a, b, d, e, f)),
             Err(e) => Err(e),
         }
     }
@@ -179,7 +179,7 @@ impl<
         de: &mut Deserializer<R, C>,
     ) -> Result<(A, B, D, E, F, G), Error> {
         match de.tuple_parts(6) {
-            Ok((a, (b, (d, (e, (f, (g, ()))))))) => Ok((a, b, d, e, f, g)),
+            Ok((a, b, d, e, (f, (g, ())))) => Ok((a, b, d, e, f, g)),
             Err(e) => Err(e),
         }
     }
@@ -219,7 +219,7 @@ impl<
         de: &mut Deserializer<R, C>,
     ) -> Result<(A, B, D, E, F, G, H), Error> {
         match de.tuple_parts(7) {
-            Ok((a, (b, (d, (e, (f, (g, (h, ())))))))) => Ok((a, b, d, e, f, g, h)),
+            Ok((a, b, d, e, (f, (g, (h, ()))))) => Ok((a, b, d, e, f, g, h)),
             Err(e) => Err(e),
         }
     }
@@ -260,7 +260,7 @@ impl<
         de: &mut Deserializer<R, C>,
     ) -> Result<(A, B, D, E, F, G, H, I), Error> {
         match de.tuple_parts(8) {
-            Ok((a, (b, (d, (e, (f, (g, (h, (i, ()))))))))) => Ok((a, b, d, e, f, g, h, i)),
+            Ok((a, b, d, e, (f, (g, (h, (i, ())))))) => Ok((a, b, d, e, f, g, h, i)),
             Err(e) => Err(e),
         }
     }

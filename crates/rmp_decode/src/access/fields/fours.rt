@@ -48,7 +48,7 @@ impl<
         λ h. let w = r h in ((w.0.0, w.0.1.0, w.0.1.1.0, w.0.1.1.1.0, w.0.1.1.1.1), w.1) };
 
     fn empty() -> (Option<A>, (Option<B>, (Option<D>, (Option<E>, F::Slots)))) {
-        <(A, (B, (D, (E, F)))) as Fields<'de, R>>::empty()
+        (None, (None, (None, (None, F::empty()))))
     }
 
     #[inline(always)]

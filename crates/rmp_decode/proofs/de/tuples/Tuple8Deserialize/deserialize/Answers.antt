@@ -11,7 +11,7 @@ returns-in-Ok-clause-law g c = lawful_ok g.R.Source _ _ _ _ _ _
 pub returns-in-Err-clause-law : goal.returns-in-Err-clause-law
 returns-in-Err-clause-law g c =
     lawful_err g.R.Source _ _ _ _ _ (λ m r. (
-      (r.0.0, (r.0.1, (r.0.2, (r.0.3, (r.0.4, (r.0.5, (r.0.6, (r.0.7, tt)))))))),
+      (r.0.0, r.0.1, r.0.2, r.0.3, (r.0.4, (r.0.5, (r.0.6, (r.0.7, tt))))),
       row_as _ _
           (field_each _ _ _ _ (field_each _ _ _ _ (field_each _ _ _ _
           (field_each _ _ _ _ (field_each _ _ _ _ (field_each _ _ _ _ (field_each _ _ _ _ (field_each _ _ _ _ field_none)))))))) m r.1,
