@@ -15,27 +15,11 @@ import sys
 import tempfile
 
 sys.dont_write_bytecode = True
-from crates import TOP, below, listed
+from crates import CRATES, PARTS, TOP, below, is_new, listed, rlib
 from derive import derive
 from lay_out import lay_out
 
-CRATES = os.path.join(TOP, "crates")
 BENCH = os.path.join(TOP, "bench", "libraries")
-PARTS = ["src", "specs", "proofs"]
-
-
-def is_new(made, names):
-    """Whether this was made, behind the last change to the sources of these crates."""
-    if not os.path.exists(made):
-        return False
-    folders = [os.path.join(CRATES, name, part) for name in names for part in PARTS]
-    sources = [os.path.join(at, file) for folder in folders for at, _, files in os.walk(folder) for file in files]
-    return all(os.path.getmtime(file) <= os.path.getmtime(made) for file in sources)
-
-
-def rlib(name):
-    """The proved library of a crate, where the gate leaves it."""
-    return os.path.join(CRATES, name, "out", "rlib", f"{name}.rlib")
 
 
 def every_crate():
@@ -74,10 +58,10 @@ def kit_folder():
     return os.path.dirname(page)
 
 
-def words(name, crates, kit):
+def words(name, crates, kit, root="src/lib.rt"):
     """What `rattle` is told of a crate, of its libraries and of the kit."""
     direct = crates[name][1]
-    found = ["--crate-name", name, "src/lib.rt", "-L", f"dependency={kit}/rlibs"]
+    found = ["--crate-name", name, root, "-L", f"dependency={kit}/rlibs"]
     for it in ["std", *(it for it in direct if it not in crates)]:
         found += ["--extern", f"{it}={kit}/rlibs/{it}.rlib"]
     for it in below(direct, crates):

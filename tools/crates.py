@@ -1,7 +1,9 @@
-"""The crates of this repository, as crates.txt lists them, for archive.py, fmt.py and lay_out.py."""
+"""The crates of this repository, as crates.txt lists them, their sources and what is made of them, for the other tools."""
 import os
 
-TOP = os.path.join(os.path.dirname(os.path.realpath(__file__)), "..")
+TOP = os.path.dirname(os.path.dirname(os.path.realpath(__file__)))
+CRATES = os.path.join(TOP, "crates")
+PARTS = ["src", "specs", "proofs"]
 
 
 def listed(path):
@@ -18,3 +20,21 @@ def below(names, crates):
         if name in crates:
             found += [*below(crates[name][1], crates), name]
     return list(dict.fromkeys(found))
+
+
+def sources(name):
+    """The files that a crate is proved and built from."""
+    folders = [os.path.join(CRATES, name, part) for part in PARTS]
+    return [os.path.join(at, file) for folder in folders for at, _, files in os.walk(folder) for file in files]
+
+
+def is_new(made, names):
+    """Whether this was made, and after the last change to the sources of these crates."""
+    if not os.path.exists(made):
+        return False
+    return all(os.path.getmtime(file) <= os.path.getmtime(made) for name in names for file in sources(name))
+
+
+def rlib(name):
+    """The proved library of a crate, where `rt` leaves it."""
+    return os.path.join(CRATES, name, "out", "rlib", f"{name}.rlib")

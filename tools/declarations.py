@@ -1,70 +1,237 @@
 """Reads the structs and enums that a Rattle file declares, for derive.py.
 
-What can't be derived is refused by a `Refused` that says why, with the type's name.
+What can't be derived is refused by a `Refused` that says why, with the type's name and the line.
 """
-import re
+from __future__ import annotations
 
-# Types that are named without a `use`, and the words of types that stand for something else.
+import contextlib
+import dataclasses
+import re
+from typing import Iterator, Optional
+
+import renaming
+from defaults import Default, NoDefault, default_of
+
+# Types that are named without a `use`, and the words of types that have a meaning of their own.
 PRELUDE = set("String Vec Option Box".split())
 PLAIN = set("u8 u16 u32 u64 usize i8 i16 i32 i64 isize u128 i128 bool char str Self".split())
+# Types of Rust that can't be a field's, and what to take in their place.
 INSTEAD = {"f32": "F32Bits", "f64": "F64Bits", "str": "String"}
+# The same of types of std, where the crate has none of the name.
+INSTEAD_OF_STD = {
+    "HashMap": "BTreeMap, whose keys are written in order",
+    "HashSet": "BTreeSet, whose elements are written in order",
+    "BinaryHeap": "Vec",
+    "LinkedList": "Vec or VecDeque",
+    "Rc": "Box, or the value itself",
+    "Arc": "Box, or the value itself",
+    "Cell": "the value itself",
+    "RefCell": "the value itself",
+    "Mutex": "the value itself",
+    "Cow": "String, or &'a str where the type borrows",
+    "Duration": "(u64, u32), its seconds and nanoseconds",
+    "SystemTime": "(u64, u32), the seconds and nanoseconds since 1970",
+    "Instant": "(u64, u32), seconds and nanoseconds since a time of your own",
+    "PathBuf": "String",
+    "OsString": "String",
+    "PhantomData": "() as a field's type, or none",
+}
 # Names that a ghost item may not have, or that are words of its language.
 WORDS = set("ground assumption data record deriving module package unfoldable abbrev axiom unfold unfolding ruleset mutual infix infixl infixr elim do".split())
-ITEM = re.compile(r"((?:^#\[[^\]]*\]\s*)*)^(?:pub(?:\([^)]*\))? )?(struct|enum) (\w+)", re.M)
+ITEM = re.compile(r"((?:^[ \t]*#\[[^\]]*\]\s*)*)^([ \t]*)(?:pub(?:\([^)]*\))? )?(struct|enum) (\w+)", re.M)
+ALIAS = re.compile(r"^(?:pub(?:\([^)]*\))? )?type (\w+)\s*=\s*([^;]*);", re.M)
+# What the text of a file is made of where a comment may begin: texts, characters, and comments.
+TOKEN = re.compile(r'"(?:\\.|[^"\\])*"|\'(?:\\[^\']*|[^\\\'])\'|//[^\n]*|/\*', re.S)
+NOTE = re.compile(r"//\s*derive:\s*(.*)")
 # How many elements a tuple has at most, and how many fields with names a struct or a variant.
 MOST = 8
 MOST_NAMED = 16
+# For how many fields with names rmp_decode has a call of its own.
+LEAST_FLAT, MOST_FLAT = 2, 12
 
 
 class Refused(Exception):
-    """Why a declaration can't be derived."""
+    """Why a declaration can't be derived, and the line of the file that says it, where that is known."""
+
+    def __init__(self, why: str, line: Optional[int] = None) -> None:
+        super().__init__(why)
+        self.line = line
 
 
+@dataclasses.dataclass(repr=False)
 class Field:
-    """A field: its name, or its place in a tuple, and its type."""
+    """A field: its name, or its place in a tuple, its type, the name that is written, and what stands for it where it is missing."""
 
-    def __init__(self, name, kind):
-        self.name, self.kind = name, kind
+    name: str
+    kind: str
+    key: str = ""
+    default: Optional[Default] = None
+
+    def __post_init__(self) -> None:
+        self.key = self.key or self.name
+
+    def __repr__(self) -> str:
+        default = f", default={self.default!r}" if self.default else ""
+        return f"Field(name={self.name!r}, kind={self.kind!r}, key={self.key!r}{default})"
+
+    def read_as(self) -> str:
+        """The type that it is read as."""
+        return f"Defaulted<{self.kind}>" if self.default else self.kind
 
 
+@dataclasses.dataclass
 class Shape:
-    """What a struct or a variant holds. `kind` is unit, newtype, tuple or named."""
+    """What a struct or a variant holds. `kind` is unit, newtype, tuple or named, and `key` the name that is written."""
 
-    def __init__(self, name, kind, fields):
-        self.name, self.kind, self.fields = name, kind, fields
+    name: str
+    kind: str
+    fields: list[Field]
+    key: str = ""
+
+    def __post_init__(self) -> None:
+        self.key = self.key or self.name
 
 
+@dataclasses.dataclass
 class Declared:
     """A struct, whose shape is `shape`, or an enum, whose variants are `variants`. `lifetime` is that of what it borrows, if it does."""
 
-    def __init__(self, name, parameters, shape=None, variants=None, lifetime=None):
-        self.name, self.parameters, self.shape, self.variants, self.lifetime = name, parameters, shape, variants, lifetime
+    name: str
+    parameters: list[tuple[str, str]]
+    shape: Optional[Shape] = None
+    variants: Optional[list[Shape]] = None
+    lifetime: Optional[str] = None
 
-    def lent_for(self, lifetime):
+    def lent_for(self, lifetime: str) -> Declared:
         """The type, where what it borrows is lent for this lifetime."""
         if self.lifetime is None:
             return self
 
-        def lent(shape):
-            fields = [Field(field.name, re.sub(rf"{self.lifetime}\b", lifetime, field.kind)) for field in shape.fields]
-            return Shape(shape.name, shape.kind, fields)
+        def lent(shape: Shape) -> Shape:
+            fields = [dataclasses.replace(field, kind=re.sub(rf"{self.lifetime}\b", lifetime, field.kind)) for field in shape.fields]
+            return dataclasses.replace(shape, fields=fields)
 
         shape, variants = self.shape and lent(self.shape), self.variants and [lent(variant) for variant in self.variants]
         return Declared(self.name, self.parameters, shape, variants, lifetime)
 
-    def arguments(self):
+    def arguments(self) -> str:
         """Its lifetime and its type parameters, in brackets."""
         names = [self.lifetime] * bool(self.lifetime) + [name for name, _ in self.parameters]
         return f"<{', '.join(names)}>" if names else ""
 
-    def shapes(self):
+    def shapes(self) -> list[Shape]:
         return self.variants if self.shape is None else [self.shape]
 
-    def kinds(self):
+    def kinds(self) -> list[str]:
         return [field.kind for shape in self.shapes() for field in shape.fields]
 
+    def constants(self) -> set[str]:
+        """The constants of the file that are defaults."""
+        return {field.default.constant for shape in self.shapes() for field in shape.fields if field.default and field.default.constant}
 
-def split(text):
+
+# ---- the text of a file
+
+
+class Source:
+    """A file's text without its comments, and the notes that `// derive:` lines have, by their places."""
+
+    def __init__(self, text: str) -> None:
+        self.notes: dict[int, str] = {}
+        self.used: set[int] = set()
+        self.blocks: list[int] = []
+        self.text = self.without_comments(text)
+        self.aliases = {name: laid_out(kind) for name, kind in ALIAS.findall(self.text)}
+        # the names of the crate's own types
+        self.own = set(re.findall(r"\b(?:struct|enum|type) (\w+)", self.text))
+        for path in re.findall(r"^(?:pub(?:\([^)]*\))? )?use (?:crate|super|self)::([^;]*);", self.text, re.M):
+            self.own |= set(re.findall(r"\w+", path))
+
+    def without_comments(self, text: str) -> str:
+        """The text with a space for each sign of a comment, so that each place is the same."""
+        parts, last = [], 0
+        for found in iter(lambda: TOKEN.search(text, last), None):
+            parts.append(text[last : found.start()])
+            token, last = found[0], found.end()
+            if token == "/*":
+                self.blocks.append(found.start())
+                end = text.find("*/", last)
+                last = len(text) if end < 0 else end + 2
+                token = text[found.start() : last]
+            elif token.startswith("//"):
+                note = NOTE.match(token)
+                if note:
+                    self.notes[found.start()] = note[1].strip()
+            else:
+                parts.append(token)
+                continue
+            parts.append(re.sub(r"[^\n]", " ", token))
+        return "".join([*parts, text[last:]])
+
+    def line(self, place: int) -> int:
+        return self.text.count("\n", 0, place) + 1
+
+
+@dataclasses.dataclass
+class Span:
+    """A part of a file's text."""
+
+    source: Source
+    start: int
+    end: int
+
+    def __str__(self) -> str:
+        return self.source.text[self.start : self.end]
+
+    def line(self) -> int:
+        return self.source.line(self.start)
+
+    def strip(self) -> Span:
+        text = str(self)
+        return Span(self.source, self.start + len(text) - len(text.lstrip()), self.start + len(text.rstrip()))
+
+    def after(self, count: int) -> Span:
+        return Span(self.source, self.start + count, self.end)
+
+    def inside(self) -> Span:
+        """What the brackets have around which it is."""
+        return Span(self.source, self.start + 1, self.end - 1)
+
+    def parts(self) -> list[Span]:
+        """The parts of a list, at the commas outside of brackets, each with what was above it."""
+        found, depth, start = [], 0, self.start
+        for place in range(self.start, self.end):
+            sign = self.source.text[place]
+            depth += (sign in "<([{") - (sign in ">)]}")
+            if sign == "," and not depth:
+                found.append(Span(self.source, start, place))
+                start = place + 1
+        last = Span(self.source, start, self.end)
+        return found + [last] * bool(str(last).strip())
+
+    def notes(self, until: int) -> renaming.Notes:
+        """What the notes say that stand from its beginning to a place."""
+        found = renaming.Notes()
+        for place, text in self.source.notes.items():
+            if self.start <= place < until:
+                self.source.used.add(place)
+                with lines(self.source.line(place)):
+                    found.read(text)
+        return found
+
+
+@contextlib.contextmanager
+def lines(line: int, name: str = "") -> Iterator[None]:
+    """What is refused here is refused with this line, where no part had one of its own, and with the name."""
+    try:
+        yield
+    except (renaming.BadNote, NoDefault) as why:
+        raise Refused(f"{name}: {why}" if name else str(why), line) from why
+    except Refused as why:
+        raise Refused(f"{name}: {why}" if name else str(why), why.line or line) from why
+
+
+def split(text: str) -> list[str]:
     """The parts of a list, at the commas outside of brackets."""
     parts, depth, word = [], 0, ""
     for sign in text + ",":
@@ -77,7 +244,7 @@ def split(text):
     return parts[:-1] if parts and not parts[-1] else parts
 
 
-def closing(text, at):
+def closing(text: str, at: int) -> int:
     """The place behind the bracket that closes the one at this place."""
     depth = 0
     for place in range(at, len(text)):
@@ -87,11 +254,14 @@ def closing(text, at):
     raise Refused("a bracket isn't closed")
 
 
-def identifiers(kind):
+def identifiers(kind: str) -> list[str]:
     return re.findall(r"[A-Za-z_]\w*", kind)
 
 
-def laid_out(kind):
+# ---- types
+
+
+def laid_out(kind: str) -> str:
     """A type as `rt fmt` lays it out."""
     kind = re.sub(r"&\s*('\w+)\s+", r"&\1|", kind)
     kind = re.sub(r"\s+", "", kind).replace("|", " ")
@@ -99,7 +269,7 @@ def laid_out(kind):
     return re.sub(r", ([>\])])", r"\1", kind) if not re.fullmatch(r"\([^,]*, \)", kind) else kind.replace(", )", ",)")
 
 
-def check_tuple(kind, lifetime):
+def check_tuple(kind: str, lifetime: Optional[str]) -> None:
     parts = split(kind[1:-1])
     if len(parts) > MOST:
         raise Refused(f"a tuple has up to {MOST} elements, and {kind} has {len(parts)}")
@@ -107,7 +277,7 @@ def check_tuple(kind, lifetime):
         check_type(part, lifetime)
 
 
-def check_borrowed(kind, lifetime):
+def check_borrowed(kind: str, lifetime: Optional[str]) -> None:
     """Refuses a reference, but to a text or to bytes that are lent for the type's own lifetime."""
     if not re.fullmatch(r"&('\w+ )?(str|\[u8\])", kind):
         raise Refused(f"{kind} can't be read: what is lent are texts and bytes, as &'a str, &'a [u8] and Bytes<'a>")
@@ -115,7 +285,7 @@ def check_borrowed(kind, lifetime):
         raise Refused(f"{kind} is lent for a lifetime of the type: declare it, and write it, as &'a str")
 
 
-def check_type(kind, lifetime=None):
+def check_type(kind: str, lifetime: Optional[str] = None) -> None:
     """Refuses a type that has no implementation to name, where what is borrowed is lent for this lifetime."""
     if kind.startswith("&"):
         return check_borrowed(kind, lifetime)
@@ -142,59 +312,118 @@ def check_type(kind, lifetime=None):
     return None
 
 
-def typed(text, lifetime):
-    if not text.strip():
+def check_std(kind: str, own: set[str]) -> None:
+    """Refuses a type of std that has no implementation, where the name is none of the crate's own."""
+    for word in identifiers(kind):
+        if word in INSTEAD_OF_STD and word not in own:
+            raise Refused(f"in place of {word} write {INSTEAD_OF_STD[word]}")
+
+
+def declared_at(text: str, name: str) -> int:
+    found = re.search(rf"\b(?:struct|enum) {name}\b", text)
+    return text.count("\n", 0, found.start()) + 1
+
+
+def with_aliases(kind: str, aliases: dict[str, str]) -> str:
+    """The type with each alias of the file written out."""
+    for _ in range(len(aliases)):
+        kind = re.sub(r"(?<!')\b[A-Za-z_]\w*", lambda word: aliases.get(word[0], word[0]), kind)
+    return kind
+
+
+def typed(span: Span, lifetime: Optional[str]) -> str:
+    if not str(span).strip():
         raise Refused("a field has no type")
-    kind = laid_out(text)
+    kind = with_aliases(laid_out(str(span)), span.source.aliases)
+    check_std(kind, span.source.own)
     check_type(kind, lifetime)
     return kind
 
 
-def check_names(what, names):
-    for at, name in enumerate(names):
-        if name in names[:at]:
-            raise Refused(f"{what} {name} stands there twice")
-        if name in WORDS or name.startswith("r#"):
-            raise Refused(f"{what} {name} is a word of the language: give it another name")
+# ---- fields and variants
 
 
-def without_visibility(text):
-    return re.sub(r"^pub(\([^)]*\))?\s+", "", text)
+def check_word(what: str, name: str) -> None:
+    if not name.isascii():
+        raise Refused(f"{what} {name} is not ASCII, and such a name is not in the language")
+    if name in WORDS or name.startswith("r#"):
+        raise Refused(f"{what} {name} is a word of the language: give it another name")
 
 
-def named_fields(body, lifetime):
+def check_names(what: str, named: list) -> None:
+    """Refuses two of the same name, or two that are written by one name."""
+    for at, it in enumerate(named):
+        for other in named[:at]:
+            if it.name == other.name:
+                raise Refused(f"{what} {it.name} is declared twice")
+            if it.key == other.key:
+                raise Refused(f'{what}s {other.name} and {it.name} are both written as "{it.key}"')
+
+
+def without_visibility(span: Span) -> Span:
+    return span.after(re.match(r"(pub(\([^)]*\))?\s+)?", str(span)).end())
+
+
+def refuse_attribute(span: Span, what: str) -> None:
+    """Refuses an attribute, and says what to write in its place, if anything."""
+    if str(span).startswith("#"):
+        attribute = str(span)[: closing(str(span), 1)]
+        raise Refused(renaming.in_place_of(attribute, what), span.line())
+
+
+def noted(span: Span, what: str) -> tuple[Span, renaming.Notes]:
+    """A part of a list from its first word on, and what the notes above say."""
+    bare = span.strip()
+    refuse_attribute(bare, what)
+    return bare, span.notes(bare.start)
+
+
+def named_fields(body: Span, lifetime: Optional[str], rule: Optional[str]) -> list[Field]:
     fields = []
-    for part in split(body):
-        if part.startswith("#"):
-            raise Refused(f"an attribute of a field isn't read: {part}")
-        name, colon, kind = without_visibility(part).partition(":")
-        if not colon or not re.fullmatch(r"(r#)?[a-z_]\w*", name.strip()):
-            raise Refused(f"{part} is no field")
-        fields.append(Field(name.strip(), typed(kind, lifetime)))
-    check_names("the field", [field.name for field in fields])
+    for part in body.parts():
+        bare, notes = noted(part, "a field")
+        with lines(bare.line()):
+            bare = without_visibility(bare)
+            name, colon, _ = str(bare).partition(":")
+            if not colon or not re.fullmatch(r"(r#)?[^\W\d]\w*", name.strip()):
+                raise Refused(f"{bare} is no field")
+            check_word("the field", name.strip())
+            notes.only("rename", "default")
+            key = notes.rename or renaming.field(rule, name.strip())
+            kind = typed(bare.after(len(name) + 1), lifetime)
+            default = None if notes.default is None else default_of(kind, notes.default)
+            fields.append(Field(name.strip(), kind, key, default))
+    check_names("the field", fields)
     return fields
 
 
-def tuple_fields(body, lifetime):
-    return [Field(str(at), typed(without_visibility(part), lifetime)) for at, part in enumerate(split(body))]
+def tuple_fields(body: Span, lifetime: Optional[str]) -> list[Field]:
+    fields = []
+    for at, part in enumerate(body.parts()):
+        bare, notes = noted(part, "a field")
+        with lines(bare.line()):
+            notes.only()
+            fields.append(Field(str(at), typed(without_visibility(bare), lifetime)))
+    return fields
 
 
-def shape_of(name, body, lifetime):
-    """What stands behind a struct's or a variant's name."""
+def shape_of(name: str, body: Span, lifetime: Optional[str], rule: Optional[str], key: str = "") -> Shape:
+    """What is written behind a struct's or a variant's name, whose fields are renamed by this rule."""
     body = body.strip()
-    if not body:
-        return Shape(name, "unit", [])
-    if body.startswith("{"):
-        return Shape(name, "named", named_fields(body[1:-1], lifetime))
-    if not body.startswith("("):
-        raise Refused(f"{name} {body} can't be derived")
-    fields = tuple_fields(body[1 : closing(body, 0) - 1], lifetime)
+    text = str(body)
+    if not text:
+        return Shape(name, "unit", [], key)
+    if text.startswith("{"):
+        return Shape(name, "named", named_fields(body.inside(), lifetime, rule), key)
+    if not text.startswith("("):
+        raise Refused(f"{name} {text} can't be derived")
+    fields = tuple_fields(Span(body.source, body.start + 1, body.start + closing(text, 0) - 1), lifetime)
     if not fields:
         raise Refused(f"{name}() has no fields: write {name}, or an implementation by hand")
-    return Shape(name, "newtype" if len(fields) == 1 else "tuple", fields)
+    return Shape(name, "newtype" if len(fields) == 1 else "tuple", fields, key)
 
 
-def parameters_of(text):
+def parameters_of(text: str) -> tuple[Optional[str], list[tuple[str, str]]]:
     """The lifetime, if there is one, and the type parameters, each with its bounds."""
     lifetime, found = None, []
     for part in split(text):
@@ -210,20 +439,31 @@ def parameters_of(text):
     return lifetime, found
 
 
-def variants_of(body, lifetime):
+def variants_of(body: Span, lifetime: Optional[str], notes: renaming.Notes) -> list[Shape]:
     variants = []
-    for part in split(body):
-        found = re.match(r"[A-Z]\w*", part)
-        if not found:
-            raise Refused(f"{part} is no variant: attributes and numbers of variants aren't read")
-        variants.append(shape_of(found[0], part[found.end() :], lifetime))
+    for part in body.parts():
+        bare, own = noted(part, "a variant")
+        with lines(bare.line()):
+            found = re.match(r"[^\W\d]\w*", str(bare))
+            if not found:
+                raise Refused(f"{bare} is no variant")
+            if str(bare)[found.end() :].lstrip().startswith("="):
+                raise Refused(f"{bare}: the number of a variant isn't written: its name is")
+            check_word("the variant", found[0])
+            own.only("rename", "rename_all")
+            key = own.rename or renaming.variant(notes.rename_all, found[0])
+            variants.append(shape_of(found[0], bare.after(found.end()), lifetime, own.rename_all or notes.rename_all_fields, key))
+            if any(field.default for field in variants[-1].fields):
+                raise Refused("a variant's field has no default: put the fields in a struct")
+            if own.rename_all and variants[-1].kind != "named":
+                raise Refused(f"{found[0]} has no fields with names to rename")
     if not variants:
         raise Refused("it has no variants, so it has no values")
-    check_names("the variant", [variant.name for variant in variants])
+    check_names("the variant", variants)
     return variants
 
 
-def check_shape(shape):
+def check_shape(shape: Shape) -> None:
     """Refuses a shape that no call writes or reads at once."""
     count = len(shape.fields)
     most = MOST_NAMED if shape.kind == "named" else MOST
@@ -235,31 +475,44 @@ def check_shape(shape):
         raise Refused("this name stands for an extension: give it another")
 
 
-def check_mixed(of):
-    """Refuses a shape of which one field borrows and another is of a type parameter: the checker doesn't follow a call that reads both."""
+def is_flat(shape: Shape) -> bool:
+    """Whether a struct's fields are read by the call of rmp_decode for so many, whose contract says each field's part in one list."""
+    return shape.kind == "named" and LEAST_FLAT <= len(shape.fields) <= MOST_FLAT
+
+
+def check_mixed(of: Declared) -> None:
+    """Refuses a shape of which one field borrows and another is of a type parameter, where one call reads both in one type: the checker
+    doesn't follow it. The call for so many fields has a type parameter for each."""
     parameters = {name for name, _ in of.parameters}
     for shape in of.shapes():
         lent = [field.kind for field in shape.fields if of.lifetime and of.lifetime in field.kind]
         free = [field.kind for field in shape.fields if parameters & set(identifiers(field.kind))]
-        if lent and free:
+        if lent and free and not (of.shape and is_flat(shape)):
             raise Refused(f"{lent[0]} borrows beside {free[0]}, which is of a type parameter: {shape.name} is written by hand")
 
 
-def declared(text, word, name, at):
+# ---- declarations
+
+
+def declared(source: Source, word: str, name: str, at: int, notes: renaming.Notes) -> Declared:
     """The declaration of this name, whose rest begins at this place."""
-    lifetime, parameters = None, []
+    lifetime, parameters, text = None, [], source.text
     if text.startswith("<", at):
         end = closing(text, at)
         (lifetime, parameters), at = parameters_of(text[at + 1 : end - 1]), end
-    while text[at] == " ":
+    while text[at] in " \n":
         at += 1
     if text.startswith("where", at):
         raise Refused("a `where` isn't read: write the bounds at the parameters")
     end = at if text[at] == ";" else closing(text, at)
     if word == "enum":
-        found = Declared(name, parameters, variants=variants_of(text[at + 1 : end - 1], lifetime), lifetime=lifetime)
+        notes.only("rename_all", "rename_all_fields")
+        found = Declared(name, parameters, variants=variants_of(Span(source, at + 1, end - 1), lifetime, notes), lifetime=lifetime)
     else:
-        found = Declared(name, parameters, shape=shape_of(name, text[at:end], lifetime), lifetime=lifetime)
+        notes.only("rename_all")
+        found = Declared(name, parameters, shape=shape_of(name, Span(source, at, end), lifetime, notes.rename_all), lifetime=lifetime)
+        if notes.rename_all and found.shape.kind != "named":
+            raise Refused("it has no fields with names to rename")
     if lifetime and not any(re.search(rf"{lifetime}\b", kind) for kind in found.kinds()):
         raise Refused(f"no field borrows for {lifetime}")
     check_mixed(found)
@@ -268,7 +521,7 @@ def declared(text, word, name, at):
     return found
 
 
-def check_recursion(types):
+def check_recursion(types: dict[str, Declared], text: str) -> None:
     """Refuses a type that leads back to itself."""
     inner = {name: {word for kind in of.kinds() for word in identifiers(kind)} & set(types) for name, of in types.items()}
     for name in types:
@@ -276,25 +529,64 @@ def check_recursion(types):
         while todo:
             word = todo.pop()
             if word == name:
-                raise Refused(f"{name}: it leads back to itself, and such a type is written by hand")
+                raise Refused(f"{name}: it leads back to itself, and such a type is written by hand", declared_at(text, name))
             if word not in seen:
                 seen.add(word)
                 todo += inner[word]
 
 
-def read(text):
+def enclosing(text: str, place: int) -> str:
+    """The heads of the items around a place, the outermost first."""
+    heads, start = [], 0
+    for at in range(place):
+        if text[at] == "{":
+            heads.append(text[start:at])
+            start = at + 1
+        elif text[at] == "}":
+            heads = heads[:-1]
+            start = at + 1
+        elif text[at] == ";":
+            start = at + 1
+    return "\n".join(heads)
+
+
+def is_outer(source: Source, found: re.Match) -> bool:
+    """Whether a declaration is one of the file itself; one of a test or of a function's body is passed over, and one of another module refused."""
+    around = enclosing(source.text, found.start(3))
+    if re.search(r"\bmod \w+\s*$", around, re.M) and "fn " not in around and "cfg(test)" not in around:
+        raise Refused(f"{found[4]}: it is declared in an inner module: move it to a file of its own", source.line(found.start(3)))
+    return not around
+
+
+def notes_above(source: Source, start: int, until: int) -> Span:
+    """The lines of comments and attributes that end where a declaration begins."""
+    while start and not source.text[source.text.rfind("\n", 0, start - 1) + 1 : start].strip():
+        start = source.text.rfind("\n", 0, start - 1) + 1
+    return Span(source, start, until)
+
+
+def read(text: str) -> dict[str, Declared]:
     """Each type that a file declares, by its name."""
-    bare = re.sub(r"//[^\n]*", "", text)
+    source = Source(text)
     types = {}
-    for found in ITEM.finditer(bare):
-        attributes, word, name = found.groups()
-        try:
+    for found in ITEM.finditer(source.text):
+        attributes, _, word, name = found.groups()
+        if not is_outer(source, found):
+            continue
+        with lines(source.line(found.start(3)), name):
+            check_word("the type", name)
             if name in types:
                 raise Refused("it is declared twice")
+            if "serde(" in attributes:
+                serde = re.search(r"#\[serde\(.*?\)\]", attributes, re.S)
+                raise Refused(renaming.in_place_of(serde[0], "a type"), source.line(found.start(1) + serde.start()))
             if not re.search(r"derive\([^)]*\bDrop\b", attributes):
                 raise Refused("what is read has to be let go: write #[derive(Drop)]")
-            types[name] = declared(bare, word, name, found.end())
-        except Refused as why:
-            raise Refused(f"{name}: {why}") from why
-    check_recursion(types)
+            notes = notes_above(source, found.start(1), found.start(3)).notes(found.start(3))
+            types[name] = declared(source, word, name, found.end(), notes)
+    for place in source.blocks:
+        raise Refused("a block comment isn't read: begin each of its lines with //", source.line(place))
+    for place in sorted(set(source.notes) - source.used):
+        raise Refused("a `derive:` line is above a type, a variant or a field", source.line(place))
+    check_recursion(types, source.text)
     return types

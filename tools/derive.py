@@ -1,48 +1,62 @@
 #!/usr/bin/env python3
 """Writes `Serialize`, `Deserialize` and `RoundTrip` for the structs and enums of a file, and the proofs.
 
-    tools/derive.py CRATE FILE..      CRATE is the crate's folder, and FILE a path below its src/
+    tools/derive.py CRATE FILE..            writes them; CRATE is the crate's folder, and FILE a path below its src/
+    tools/derive.py --check CRATE FILE..    ends with 1, and names the types that changed since they were derived
 
-The file declares its types as in Rust, each with `#[derive(Drop)]`, and has a line `mod derived;`. Of src/pets.rt the
-implementations go to src/pets/derived.rt, and the proofs below proofs/pets/derived/; `rt fmt` and `rt check` in the crate
-are all that follows. The crate stands on rmp_encode, rmp_decode and rmp_wire. Where crates.txt names rmp_serde for it too, or
-rmp_round_trip, on which that stands, each type gets `RoundTrip`, and `NeverNil` where no value is nil, if the laws of its fields are
-known: they are of parameters, of types of std or of the wire, or of types of the crate that have `RoundTrip`, in this file or in one
-that a `use` names; where such a type has parameters, the types of its fields have to be in scope, too. Of a type that doesn't get it
-the tool says why.
+The file declares its types as in Rust, each with `#[derive(Drop)]`, and has a line `mod derived;`. For src/pets.rt the
+implementations go to src/pets/derived.rt, and the proofs below proofs/pets/derived/, laid out; `rt check` in the crate is all that
+follows. The crate stands on rmp_encode, rmp_decode and rmp_wire, in crates.txt.
 
-Structs with names, tuple structs, newtypes, structs without fields, and enums with variants of each kind are derived, with
-type parameters or without, and with a lifetime where they borrow texts or bytes of what they are read from. The type of a field is any
-that has both traits, also one of the file's own; an `Option` may be missing from a map. A trait that the file itself implements for a type isn't derived for it. What can't be derived is refused,
-and the message says why.
+Structs with names, tuple structs, newtypes, structs without fields, and enums with variants of each kind are derived, with type
+parameters or without, and with a lifetime where they borrow texts or bytes of what they are read from. The type of a field is any
+that has both traits, also one of the file's own; an `Option` may be missing from a map.
+
+A comment line above a field, a variant or a type says what an attribute of serde would say:
+
+    // derive: rename = "id"                  above a field or a variant: the name that is written
+    // derive: rename_all = "camelCase"       above a struct, an enum, or a variant with fields: the rule for the names in it
+    // derive: rename_all_fields = "camelCase"    above an enum: the rule for the fields of its variants
+    // derive: default                        above a struct's field: a map may be without it, and it is empty, nought or false then
+    // derive: default = LIMIT                the same: it is this constant of the file, number, character or truth then
+
+The rules are those of serde. What can't be derived is refused, and the message says why, with the line. A trait that the file itself
+implements for a type isn't derived for it.
+
+Where crates.txt names rmp_serde for the crate too, or rmp_round_trip, on which that stands, each type gets `RoundTrip`, and
+`NeverNil` where no value is nil, if the laws of its fields are known: they are of parameters, of types of std or of the wire, or of
+types of the crate that have `RoundTrip`, in this file or in one that a `use` names; where such a type has parameters, the types of
+its fields have to be in scope, too. Of a type that doesn't get it the tool says why.
 """
+from __future__ import annotations
+
+import dataclasses
 import os
 import re
 import sys
+from typing import Iterator
 
 sys.dont_write_bytecode = True
 import halves
-from declarations import MOST, PLAIN, PRELUDE, Declared, Field, Refused, Shape, identifiers, read
+from declarations import MOST, PLAIN, PRELUDE, Declared, Refused, identifiers, is_flat
 from derived_proofs import answers, has_content
 from derived_rounds import LEMMAS, Own, Unknown
 from derived_rounds import implementations as rounds
-from derived_terms import GHOST, Words, alias, data_of, member_of_reading, member_of_refusing, members_of_writing, memory_of, nested, underscored
+from derived_terms import GHOST, GROUP, Words, alias, bound_name, data_of, member_of_reading, member_of_refusing, members_of_writing, memory_of, nested, place_of, underscored
 from imports import imports
-from lines import broken
+from modules import Files, Module, stale, sums_lines
+from shared import texts
 
 PLACES = halves.FIELDS
 # What hands over more values than one struct of rmp_encode does.
 MORE = "NineParts TenParts ElevenParts TwelveParts ThirteenParts FourteenParts FifteenParts SixteenParts".split()
 # The lemmas that a struct is no byte.
 NO_BYTE = {"newtype": "Wrapped::wrapped_no_byte", "tuple": "Lists::sequence_no_byte", "named": "Fields::structure_no_byte"}
-TRAITS = {"Serialize", "Deserialize", "RoundTrip", "NeverNil"}
 # Of how many fields a struct has at most whose reading is small enough to stand in its callers.
 FEW = 4
-# Names of the functions' own values.
-TAKEN = "se de e parts variant".split()
 # Where the words of the code come from.
 CODE = {
-    "rmp_decode": "Deserialize Deserializer ReadFields",
+    "rmp_decode": "Defaulted Deserialize Deserializer ReadFields",
     "rmp_encode": "Elements Serialize Serializer",
     "rmp_round_trip": "NeverNil RoundTrip",
     "rmp_wire": "ReadSlice Sink",
@@ -69,7 +83,7 @@ def header(of, trait):
 def bound_names(shape):
     """What patterns call the fields."""
     if shape.kind == "named":
-        return [f"{field.name}_" if field.name in TAKEN else field.name for field in shape.fields]
+        return [bound_name(field) for field in shape.fields]
     return PLACES[: len(shape.fields)]
 
 
@@ -84,12 +98,8 @@ def made_of(path, shape):
     return f"{path} {{ {', '.join(fields)} }}"
 
 
-def texts(names):
-    return "&[" + ", ".join(f'"{name}"' for name in names) + "]"
-
-
 def field_names(shape):
-    return texts(field.name for field in shape.fields)
+    return texts(field.key for field in shape.fields)
 
 
 def handed_over(values):
@@ -122,7 +132,7 @@ def handing_over(count):
 
 def several(of, at, shape, values):
     """How the fields of a struct or a variant are written, where there are several: they are handed over to one call."""
-    start = f'"{shape.name}"' if of.shape else f'"{of.name}", {at}, "{shape.name}"'
+    start = f'"{shape.name}"' if of.shape else f'"{of.name}", {at}, "{shape.key}"'
     call = {True: "serialize_elements", False: "serialize_tuple_variant_of"}[bool(of.shape)]
     if shape.kind == "named":
         call = {True: "serialize_fields", False: "serialize_struct_variant_of"}[bool(of.shape)]
@@ -150,7 +160,7 @@ def body_of_struct(of):
 
 def arm_of_writing(of, at, shape):
     """How a variant is written."""
-    start = f'("{of.name}", {at}, "{shape.name}"'
+    start = f'("{of.name}", {at}, "{shape.key}"'
     pattern = made_of(f"{of.name}::{shape.name}", shape)
     names = bound_names(shape)
     if shape.kind == "unit":
@@ -175,7 +185,8 @@ def writing_apart(of, at, shape):
     """That function. The type arguments of a call have at most one lifetime each, as the checker asks, so it has one for each field."""
     kinds = halves.kinds(len(shape.fields))
     places = PLACES[: len(kinds)]
-    general = Shape(shape.name, shape.kind, [Field(field.name, kind) for field, kind in zip(shape.fields, kinds)])
+    fields = [dataclasses.replace(field, kind=kind) for field, kind in zip(shape.fields, kinds)]
+    general = dataclasses.replace(shape, fields=fields)
     words = Words(Declared(of.name, [(kind, "") for kind in kinds]))
     tree = data_of(words, general, "v" if of.shape else None, [f"{place}.now" for place in places], "(settings_of se.old).human")
     known = " × ".join(f"{kind}.is_value {place}.now" for kind, place in zip(kinds, places))
@@ -196,6 +207,27 @@ def writing_apart(of, at, shape):
     ]
 
 
+def taken_apart(shape):
+    """How the parts that were read get the fields' names.
+
+    It is one pattern, or, where an array is two tuples deep, one for each tuple: the borrow checker covers no move of such an array.
+    """
+    names = bound_names(shape)
+    if shape.kind != "named":
+        return [f"let ({', '.join(names)}) = parts;"]
+    made = [f"let {name} = {name}.value.unwrap_or({field.default.made});" for name, field in zip(names, shape.fields) if field.default]
+    depths = [place_of(at, len(names)).count(".") for at, field in enumerate(shape.fields) if field.kind.startswith("[")]
+    if max(depths, default=0) < 3:
+        return [f"let {nested(names)} = parts;", *made]
+    lines, whole = [], "parts"
+    while names:
+        size = GROUP if len(names) >= GROUP else 1
+        names, first = names[size:], names[:size]
+        lines.append(f"let ({', '.join(first)}, {'others' if names else '()'}) = {whole};")
+        whole = "others"
+    return lines + made
+
+
 def arm_of_reading(of, at, shape):
     """How a variant is read whose name was.
 
@@ -209,8 +241,7 @@ def arm_of_reading(of, at, shape):
     if len(shape.fields) < 2 and shape.kind != "named":
         lines.append(f"Ok({names[0] if names else '()'}) => return {made},")
     else:
-        pattern = nested(names) if shape.kind == "named" else f"({', '.join(names)})"
-        lines += ["Ok(parts) => {", f"let {pattern} = parts;", f"return {made};", "}"]
+        lines += ["Ok(parts) => {", *taken_apart(shape), f"return {made};", "}"]
     return [*lines, "Err(e) => return Err(e),", "},"]
 
 
@@ -219,18 +250,20 @@ def body_of_reading(of):
     shape = of.shape
     if shape is None:
         arms = [line for at, variant in enumerate(of.variants) for line in arm_of_reading(of, at, variant)]
-        return [f"match de.deserialize_enum({texts(variant.name for variant in of.variants)}) {{", *arms, "Err(e) => return Err(e),", "}"]
+        return [f"match de.deserialize_enum({texts(variant.key for variant in of.variants)}) {{", *arms, "Err(e) => return Err(e),", "}"]
     made = f"Ok({made_of(shape.name, shape)})"
     if shape.kind in ("unit", "newtype"):
         pattern = "()" if shape.kind == "unit" else PLACES[0]
         return [f'match de.deserialize_{shape.kind}_struct("{shape.name}") {{', f"Ok({pattern}) => return {made},", "Err(e) => return Err(e),", "}"]
-    kinds = [field.kind for field in shape.fields]
+    kinds = [field.read_as() for field in shape.fields]
     if shape.kind == "tuple":
-        call, kind, pattern = "Deserialize::deserialize(de)", f"({', '.join(kinds)})", f"({', '.join(bound_names(shape))})"
+        call, kind = "Deserialize::deserialize(de)", f"({', '.join(kinds)})"
     else:
-        call, kind, pattern = f"de.deserialize_fields({field_names(shape)})", nested(kinds), nested(bound_names(shape))
+        names = field_names(shape)
+        call = f"rmp_decode::read_fields_{len(kinds)}(de, {names})" if is_flat(shape) else f"de.deserialize_fields({names})"
+        kind = nested(kinds)
     read = f"let read: Result<{kind}, rmp_decode::Error> = {call};"
-    return [read, "match read {", "Ok(parts) => {", f"let {pattern} = parts;", f"return {made};", "}", "Err(e) => return Err(e),", "}"]
+    return [read, "match read {", "Ok(parts) => {", *taken_apart(shape), f"return {made};", "}", "Err(e) => return Err(e),", "}"]
 
 
 def no_byte(of):
@@ -308,94 +341,7 @@ def named_types(types):
     words = {word for of in types for kind in of.kinds() for word in identifiers(kind)}
     own = {name for of in types for name, _ in of.parameters}
     capital = {word for word in words if word[0].isupper() and not word.isupper()}
-    return sorted((capital | {of.name for of in types}) - PRELUDE - PLAIN - own)
-
-
-def implemented(text, name):
-    """The traits that the file itself implements for a type."""
-    return set(re.findall(rf"^impl\b[^{{]*?\b(\w+)(?:<[^<>{{]*>)?\s+for\s+{name}\b", text, re.M)) & TRAITS
-
-
-def brought_in(text):
-    """The names that the `use` lines of a file bring in, each with the module that it comes from."""
-    for path, names in re.findall(r"^(?:pub(?:\([^)]*\))? )?use ([\w:]+?)::(\{[^{}]*\}|\w+);", text, re.M):
-        for name in re.findall(r"\w+", names):
-            yield name, path.split("::")
-
-
-class Module:
-    """A file of a crate, by its path below src/."""
-
-    def __init__(self, crate, path):
-        self.crate, self.path = crate, path
-        self.name = os.path.basename(os.path.abspath(crate))
-        stem = re.sub(r"\.rt$", "", path)
-        self.at = "" if stem in ("lib", "main") else stem + "/"
-
-    def below(self, *words):
-        """The name of a module below the crate, where this file's module stands in it."""
-        return ".".join(word for word in (self.at.rstrip("/").replace("/", "."), *words) if word)
-
-    def rounds(self):
-        """The library through which the crate names `RoundTrip`, if it has any, by crates.txt, which stands at the top of the repository."""
-        try:
-            with open(os.path.join(self.crate, "..", "..", "crates.txt"), encoding="utf-8") as file:
-                line = re.search(rf"^{self.name}(?: \w+)?:(.*)", file.read(), re.M)
-        except OSError:
-            return None
-        return next((name for name in ("rmp_serde", "rmp_round_trip") if line and name in line[1].split()), None)
-
-    def source(self):
-        with open(os.path.join(self.crate, "src", self.path), encoding="utf-8") as file:
-            return file.read()
-
-    def traits(self, by_hand):
-        """The traits to derive, where these are implemented by hand: the last two go by the forms of the others."""
-        traits = {"Serialize", "Deserialize"} - by_hand
-        return traits | {"RoundTrip", "NeverNil"} - by_hand if len(traits) == 2 and self.rounds() else traits
-
-    def other(self, path):
-        """The file of a module that a `use` names, where it is one of the crate."""
-        words = self.below().split(".") if self.at else []
-        if path[0] == "crate":
-            words = []
-        elif path[0] == "super":
-            words = words[:-1]
-        elif path[0] != "self":
-            words = [*words, path[0]]
-        words += path[1:]
-        found = Module(self.crate, "/".join(words) + ".rt" if words else "lib.rt")
-        return found if os.path.exists(os.path.join(self.crate, "src", found.path)) else None
-
-    def types(self, seen=()):
-        """The types of the crate that the file names, its own first, by their names."""
-        source, names = self.source(), {}
-        has_derived = re.search(r"^mod derived;", source, re.M)
-        for name, of in read(source).items():
-            by_hand = implemented(source, name)
-            derived = self.traits(by_hand) if has_derived else set()
-            modules = {trait: f"{self.name}.specs.contracts.{self.below(*['derived'] * (trait in derived))}" for trait in TRAITS}
-            declared = f"{self.name}.specs.declared.{self.below(name)}"
-            names[name] = Own(of, derived, by_hand, modules, names, declared, dict(brought_in(source)))
-        for name, path in brought_in(source):
-            other = self.other(path)
-            if other and other.path not in (self.path, *seen):
-                names.update(other.named(name, (self.path, *seen)))
-        return names
-
-    def named(self, name, seen):
-        """The type of this name, where it can be read."""
-        try:
-            types = self.types(seen)
-        except Refused:
-            return {}
-        return {name: types[name]} if name in types else {}
-
-    def write(self, text, *path):
-        place = os.path.join(self.crate, *path)
-        os.makedirs(os.path.dirname(place), exist_ok=True)
-        with open(place, "w", encoding="utf-8") as out:
-            out.write(broken(text, place.endswith(".antt")))
+    return sorted(capital.union({of.name for of in types}, *(of.constants() for of in types)) - PRELUDE - PLAIN - own)
 
 
 def through(library, table):
@@ -403,7 +349,7 @@ def through(library, table):
     return {re.sub(r"^rmp_round_trip\b", library or "rmp_round_trip", path): names for path, names in table.items()}
 
 
-def implementations(module, wanted):
+def implementations(module: Module, wanted: list[Own]) -> str:
     """The text of src/../derived.rt."""
     items = []
     for own in wanted:
@@ -422,40 +368,65 @@ def implementations(module, wanted):
     for own in [*wanted, *others.values()]:
         if own.of.variants and f"{alias(own.of)}." in text:
             ghosts.append(f"ghost use Rattle.{own.declared}.TheVariants as {alias(own.of)};\n")
+    named = sorted(set().union(*(own.of.constants() for own in wanted)))
+    if named:
+        ghosts.append(ghost_line(f"{module.name}.specs.declared.{module.below('TheConstants')}", named))
     brought = set().union(*(own.brought for own in wanted))
     uses = [code_line("super", sorted(brought.union(named_types([own.of for own in wanted])))), *imports(text, through(module.rounds(), CODE), code_line)]
-    about = f"//! How the types of {module.path} are written and read. Written by tools/derive.py.\n"
+    about = f"//! How the types of {module.path} are written and read. Written by tools/derive.py.\n//!\n{sums_lines(wanted)}"
     return about + "".join(sorted(ghosts)) + "\n" + "".join(uses) + "\n" + text
 
 
-def derive(crate, path):
-    """Writes what stands for the types of a file."""
-    module = Module(crate, path)
-    if not re.search(r"^mod derived;", module.source(), re.M):
-        raise Refused("it has no line `mod derived;`")
-    types = module.types()
-    wanted = [own for own in types.values() if own.names is types and own.derived]
-    if not wanted:
-        raise Refused("it declares no type that has an implementation to derive")
-    module.write(implementations(module, wanted), "src", f"{module.at}derived.rt")
+def proofs(module: Module, wanted: list[Own]) -> Iterator[tuple[str, ...]]:
+    """Each proof's text, and then its path below the module's."""
     for own in wanted:
         for trait, method, text in answers(own.of, own.derived, module):
-            module.write(text, "proofs", f"{module.at}derived", f"{own.of.name}{trait}", method, "Answers.antt")
+            yield text, f"{own.of.name}{trait}", method
     for count in more_parts(wanted):
         name = f"{MORE[count - MOST - 1]}Elements"
         for method in ("write", "write_fields"):
             goals = f"Rattle.{module.name}.proofs.{module.below('derived', name, method)}"
-            module.write(halves.answers(count, MOST, method, goals), "proofs", f"{module.at}derived", name, method, "Answers.antt")
+            yield halves.answers(count, MOST, method, goals), name, method
 
 
-def main():
-    if len(sys.argv) < 3:
+def derive(crate: str, path: str) -> None:
+    """Writes the implementations and the proofs of the types of a file."""
+    module = Module(crate, path)
+    wanted = module.wanted()
+    files = Files()
+    files.add(implementations(module, wanted), "src", f"{module.at}derived.rt")
+    for text, *words in proofs(module, wanted):
+        files.add(text, "proofs", f"{module.at}derived", *words, "Answers.antt")
+    files.write(crate, os.path.join("proofs", f"{module.at}derived"))
+
+
+def check(crate: str, path: str) -> None:
+    """Refuses a file of which a type was changed since its implementations were written."""
+    module = Module(crate, path)
+    changed = stale(module, module.wanted())
+    if changed:
+        raise Refused(f"{changed}: run tools/derive.py {crate} {path}")
+
+
+def main() -> None:
+    words = sys.argv[1:]
+    if "--help" in words or "-h" in words:
+        print(__doc__)
+        return
+    job = check if words[:1] == ["--check"] else derive
+    words = words[job is check :]
+    if len(words) < 2 or any(word.startswith("-") for word in words):
         sys.exit(__doc__)
-    for path in sys.argv[2:]:
+    failed = False
+    for path in words[1:]:
         try:
-            derive(sys.argv[1], path)
+            job(words[0], path)
         except Refused as why:
-            sys.exit(f"derive: {path}: {why}")
+            print(f"derive: {path}{f':{why.line}' if why.line else ''}: {why}", file=sys.stderr)
+            failed = True
+            if job is derive:
+                break
+    sys.exit(1 if failed else 0)
 
 
 if __name__ == "__main__":

@@ -1,18 +1,31 @@
 """The proofs of what derive.py writes."""
-from derived_terms import nested, place_of
+from __future__ import annotations
+
+from collections.abc import Iterable, Iterator
+from typing import TYPE_CHECKING
+
+from declarations import Declared, Field, Shape
+from derived_terms import bound_name, codes, nested, place_of
 from imports import imports
+from shared import numbered, tuple_of
+
+if TYPE_CHECKING:
+    from modules import Module
 
 # Where the lemmas and signs of the answers come from.
 WORDS = {
     "std.proofs.Common": "◌≡◌ refl arith rules Result List ℕ",
     "std.proofs.lemmas.Int": "to_z-of_z",
     "std.specs.Int": "w8 w16 w32 w64 w128",
+    "std.specs.Prelude": "◌∷◌ [] codes true false pos negsuc string_bytes",
     "rmp_wire.specs.Msg": "Msg",
+    "rmp_wire.specs.Types": "buffer_bytes",
     "rmp_wire.specs.declared.source.Source": "Ghosts",
     "rmp_decode.specs.Law": "Lawful",
     "rmp_decode.specs.Variants": "FailsToOpenVariant",
     "rmp_decode.specs.declared.deserializer.Deserializer": "Deserializer",
     "rmp_decode.specs.declared.error.Error": "Error",
+    "rmp_decode.proofs.Defaults": "fields_given plain_field given_field fields_needed plain_needed given_needed none_needed given",
     "rmp_decode.proofs.EnumRefusals": "enum_unopened unit_wrong content_wrong",
     "rmp_decode.proofs.Laws": "lawful_ok lawful_err",
     "rmp_decode.proofs.Variants": "variant_ok variant_err variant_unopened readable",
@@ -20,37 +33,58 @@ WORDS = {
 }
 
 
-def answer(goal, term, given="g c"):
+def answer(goal: str, term: str, given: str = "g c") -> str:
     return f"\npub {goal} : goal.{goal}\n{goal} {given} = {term}\n"
 
 
-def numbered(word, at):
-    """The name of a call, of which others of the same name may stand before."""
-    return word if at == 0 else f"{word}-{at + 1}"
-
-
-def tuple_of(words):
-    return words[0] if len(words) == 1 else f"({', '.join(words)})"
+def values_of(words: list[str]) -> str:
+    """One value, or a tuple of several."""
+    return words[0] if len(words) == 1 else tuple_of(words)
 
 
 # The widths of the numbers with a sign.
 SIGNED = {"i8": "w8", "i16": "w16", "i32": "w32", "i64": "w64", "i128": "w128", "isize": "w64"}
 
 
-def part_of(shape, at):
+def part_of(shape: Shape, at: int) -> str:
     """The name of a part that was read: of the only one, of a tuple's or of nested tuples'."""
     return "first" if shape.kind == "newtype" else "parts" + (place_of(at, len(shape.fields)) if shape.kind == "named" else f".{at}")
 
 
-def held(shape, arm, term):
+def held(shape: Shape, arm: str, term: str) -> str:
     """The term, where each number with a sign that was read in this arm is the same after a field held it."""
     for at, field in enumerate(shape.fields):
         if field.kind in SIGNED:
-            term = f"rw (to_z-of_z {SIGNED[field.kind]} {arm}.{part_of(shape, at)} (search rules)) ({term})"
+            read = f"{filled(field)}.result" if field.default else f"{arm}.{part_of(shape, at)}"
+            term = f"rw (to_z-of_z {SIGNED[field.kind]} {read} (search rules)) ({term})"
     return term
 
 
-def struct_read(shape):
+def filled(field: Field) -> str:
+    """The call that puts a default in the place of a missing field's value."""
+    return f"c.unwrap_or-{bound_name(field)}"
+
+
+def defaulted_read(shape: Shape) -> tuple[str, str]:
+    """What the law of a struct is made of where a field has a default: from what was read to the value, and from a value to what is read."""
+    back, needed, values, place = "(λ fs h. h)", "none_needed", [], "x.0"
+    for field in shape.fields:
+        values.append(f"given {place}.0" if field.default else f"r.0.{field.name}")
+        place += ".1" * bool(field.default)
+    for field in reversed(shape.fields):
+        if field.default:
+            fact = f"(λ v. {field.default.holds('v')})"
+            back = f"(given_field _ _ {back} _ {fact} _ _ _ {field.default.proof} {filled(field)}.ensures)"
+            needed = f"(given_needed _ _ {needed} _ _ r.0.{field.name})"
+        else:
+            back = f"(plain_field _ _ {back} _ _)"
+            needed = f"(plain_needed _ _ {needed} _ _)"
+    names = f"({codes(field.key for field in shape.fields)})"
+    forth = f"let x = fields_needed {names} _ _ {needed} m r.1 in ({nested(values, 'tt')}, x.1)"
+    return f"λ m r. fields_given {names} _ _ {back} m r", f"λ m r. {forth}"
+
+
+def struct_read(shape: Shape) -> str:
     """The answers of a struct that is read by one call."""
     back, forth, refused = "λ m r. r", "λ m r. r", "refused"
     if shape.kind == "unit":
@@ -58,7 +92,9 @@ def struct_read(shape):
     elif shape.kind == "newtype":
         back, forth, refused = "λ m r. r.1", "λ m r. (r.0.0, ((λ e. cc), r.1))", "refused (λ e. cc)"
     elif shape.kind == "tuple":
-        forth = f"λ m r. ({tuple_of([f'r.0.{field.name}' for field in shape.fields])}, r.1)"
+        forth = f"λ m r. ({values_of([f'r.0.{field.name}' for field in shape.fields])}, r.1)"
+    elif any(field.default for field in shape.fields):
+        back, forth = defaulted_read(shape)
     else:
         forth = f"λ m r. ({nested([f'r.0.{field.name}' for field in shape.fields], 'tt')}, r.1)"
     text = answer("returns-in-Ok-clause-law", held(shape, "c.in-Ok", f"lawful_ok _ _ _ _ _ _ _ ({back}) c.in-Ok.ensures.law"))
@@ -85,7 +121,7 @@ unopened_by {R} {C} {g} {names} {old} {new} {e} f = new
 """
 
 
-def variant_read(call, at, shape, count):
+def variant_read(call: str, at: int, shape: Shape, count: int) -> str:
     """The three answers of a variant."""
     n = len(shape.fields)
     last = at == count - 1
@@ -98,7 +134,7 @@ def variant_read(call, at, shape, count):
         opened = f"(rw c.in-Ok-eq{at}-default.field-0-0-test at c.in-Ok-eq{at}-default.ensures.opened)"
     done = f"λ k h. ({'_, ' * n}refl, h)"
     values = [f"h.{i}" for i in range(n)]
-    value = nested(values, 'tt') if shape.kind == "named" else tuple_of(values) if n else ""
+    value = nested(values, 'tt') if shape.kind == "named" else values_of(values) if n else ""
     back = f"λ v k h. readable _ k {value} h.{n + 1}" if n else "λ v k h. h.1"
     ok = f"variant_ok _ _ _ _ _ _ (search rules) _ {at} _ _ ({done})\n    (c.in-Ok-{call}.ensures.ok _ {at} _ {opened})"
     ok = start + held(shape, f"c.in-Ok-{call}", ok)
@@ -111,7 +147,7 @@ def variant_read(call, at, shape, count):
         (f"Ok-{call}-clause-law", ok), (f"Err-{call}-clause-law", err), (f"Err-{call}-clause-refused", wrong)))
 
 
-def calls_of(of):
+def calls_of(of: Declared) -> Iterator[str]:
     """The name of each variant's call, with its number."""
     seen = {}
     for shape in of.variants:
@@ -120,7 +156,7 @@ def calls_of(of):
         seen[call] = seen.get(call, 0) + 1
 
 
-def enum_read(of):
+def enum_read(of: Declared) -> str:
     text = "".join(variant_read(call, at, shape, len(of.variants)) for at, (call, shape) in enumerate(zip(calls_of(of), of.variants)))
     unopened = "(rw c.in-Err.is at c.deserialize_enum.follows.holds-at-none)"
     text += answer("returns-in-Err-clause-law", f"\n    variant_unopened _ _ _ _ _ _ (search rules) _ {unopened}")
@@ -131,12 +167,12 @@ def enum_read(of):
 NO_BYTE = {"newtype": "newtype_no_byte", "tuple": "tuple_variant_no_byte", "named": "struct_variant_no_byte"}
 
 
-def has_content(of):
+def has_content(of: Declared) -> bool:
     """Whether it is an enum of which a variant has content."""
     return any(shape.fields for shape in of.variants or [])
 
 
-def enum_no_byte(of):
+def enum_no_byte(of: Declared) -> str:
     """An answer for each variant with content: it is no byte."""
     given = "g c" if of.parameters else "c"
     # the only variant is no arm of its own
@@ -144,15 +180,16 @@ def enum_no_byte(of):
     return "".join(answer(f"returns{arm}-clause-byte", f"search (rules, {NO_BYTE[shape.kind]})", given) for arm, shape in arms)
 
 
-def answers(of, traits, module):
+def answers(of: Declared, traits: set[str], module: Module) -> Iterator[tuple[str, str, str]]:
     """The trait, the method, and the text of each proof."""
     if "Serialize" in traits and has_content(of):
         yield "Serialize", "as_u8", with_imports(enum_no_byte(of), module, f"{of.name}Serialize.as_u8")
     if "Deserialize" in traits:
         text = struct_read(of.shape) if of.shape else enum_read(of)
-        yield "Deserialize", "deserialize", with_imports(text, module, f"{of.name}Deserialize.deserialize")
+        yield "Deserialize", "deserialize", with_imports(text, module, f"{of.name}Deserialize.deserialize", of.constants())
 
 
-def with_imports(text, module, goals):
-    lines = imports(text, WORDS, lambda of, names: f"use Rattle.{of}.{{{', '.join(names)}}}\n")
+def with_imports(text: str, module: Module, goals: str, constants: Iterable[str] = ()) -> str:
+    table = WORDS | {f"{module.name}.specs.declared.{module.below('TheConstants')}": " ".join(sorted(constants))}
+    lines = imports(text, table, lambda of, names: f"use Rattle.{of}.{{{', '.join(names)}}}\n")
     return "".join(lines) + f"use Rattle.{module.name}.proofs.{module.below('derived', goals)}.Goals as goal\n" + text

@@ -1,5 +1,12 @@
 """The terms of what derive.py writes: what a value is, and which trees it is read from."""
+from __future__ import annotations
+
 import re
+from collections.abc import Iterable
+from typing import Optional
+
+from declarations import LEAST_FLAT, MOST_FLAT, Declared, Field, Shape, is_flat
+from shared import list_of
 
 # Where the words of the ghost members come from.
 GHOST = {
@@ -14,6 +21,7 @@ GHOST = {
     "rmp_decode.specs.Exact": "RefusesExactly",
     "rmp_decode.specs.FieldRefusing": "RefusesFields",
     "rmp_decode.specs.Fields": "OfFields Field Absent NoField",
+    "rmp_decode.specs.ReadFields": " ".join(f"reads_{count}" for count in range(LEAST_FLAT, MOST_FLAT + 1)),
     "rmp_decode.specs.Refusing": "RefusesTuple part_of",
     "rmp_decode.specs.Rows": "AndThen NoMore",
     "rmp_decode.specs.Seq": "OfRow",
@@ -22,6 +30,8 @@ GHOST = {
 }
 
 
+# Names of the functions' own values.
+TAKEN = "se de e parts others variant".split()
 # How many fields stand beside one another where there are as many left.
 GROUP = 4
 
@@ -34,7 +44,7 @@ def nested(words, end="()"):
     return f"({', '.join(words[:n])}, {nested(words[n:], end)})"
 
 
-def place_of(at, count):
+def place_of(at: int, count: int) -> str:
     """Where the value at a place stands in what so many values are nested as."""
     whole = count // GROUP
     if at < whole * GROUP:
@@ -42,64 +52,68 @@ def place_of(at, count):
     return ".4" * whole + ".1" * (at - whole * GROUP) + ".0"
 
 
-def listed(terms):
-    return " ∷ (".join(terms) + " ∷ []" + ")" * (len(terms) - 1) if terms else "[]"
+def codes(names: Iterable[str]) -> str:
+    return list_of([f'codes "{name}"' for name in names])
 
 
-def codes(names):
-    return listed([f'codes "{name}"' for name in names])
+def bound_name(field: Field) -> str:
+    """What patterns call a field that has a name."""
+    return f"{field.name}_" if field.name in TAKEN else field.name
 
 
 class Words:
     """What the ghost members of a field's type are called where a type with these parameters is implemented."""
 
-    def __init__(self, of):
+    def __init__(self, of: Declared) -> None:
         self.names = [name for name, _ in of.parameters]
 
-    def writes(self, kind, word):
+    def writes(self, kind: str, word: str) -> str:
         return f"{kind}.{word}" if kind in self.names else f"⟦<{kind} as Serialize>⟧.{word}"
 
-    def reads(self, kind, word):
+    def reads(self, kind: str, word: str) -> str:
         return f"{kind}.{word}" if kind in self.names else f"⟦<{kind} as Deserialize<'de, R>>⟧.{word}"
 
+    def rounds(self, kind, word):
+        return f"{kind}.{word}" if kind in self.names else f"⟦<{kind} as RoundTrip<'de, R>>⟧.{word}"
 
-def values_of(shape, value):
+
+def values_of(shape: Shape, value: Optional[str]) -> list[str]:
     """What the fields are called: of a struct, its projections; of a variant, the names that a case gives them."""
     if value:
         return [f"{value}.{field.name}" for field in shape.fields]
     return [f"a{at}" for at in range(1, len(shape.fields) + 1)]
 
 
-def data_of(words, shape, value=None, values=None, human="human"):
+def data_of(words: Words, shape: Shape, value: Optional[str] = None, values: Optional[list[str]] = None, human: str = "human") -> str:
     """What the value is, of a struct, or of a variant where there is no value that has the fields, which may be called otherwise."""
     values = values or values_of(shape, value)
     data = [f"{words.writes(field.kind, 'data_of')} {of} {human}" for field, of in zip(shape.fields, values)]
-    name = "" if value else f'(codes "{shape.name}") '
+    name = "" if value else f'(codes "{shape.key}") '
     if shape.kind == "unit":
         return "Some unit_struct" if value else f'Some (unit_variant {name.strip()})'
     if shape.kind == "newtype":
         return f"{'wrapped_of' if value else 'newtype_variant_of'} {name}({data[0]})"
     if shape.kind == "tuple":
-        return f"{'sequence_of' if value else 'tuple_variant_of'} {name}({listed(data)})"
-    pairs = [f'(codes "{field.name}", {term})' for field, term in zip(shape.fields, data)]
-    return f"{'structure_of' if value else 'struct_variant_of'} {name}({listed(pairs)})"
+        return f"{'sequence_of' if value else 'tuple_variant_of'} {name}({list_of(data)})"
+    pairs = [f'(codes "{field.key}", {term})' for field, term in zip(shape.fields, data)]
+    return f"{'structure_of' if value else 'struct_variant_of'} {name}({list_of(pairs)})"
 
 
-def known_of(words, shape, value=None):
+def known_of(words: Words, shape: Shape, value: Optional[str] = None) -> str:
     """What is known of the value."""
     known = [f"{words.writes(field.kind, 'is_value')} {of}" for field, of in zip(shape.fields, values_of(shape, value))]
     return " × ".join(known) or "⊤"
 
 
-def memory_of(words, shape, settings="s"):
+def memory_of(words: Words, shape: Shape, settings: str = "s") -> str:
     """Whether writing the value may take memory."""
     flags = [f"{words.writes(field.kind, 'takes_memory')} {settings}" for field in shape.fields]
     if shape.kind == "newtype":
         return flags[0]
-    return f"one_of ({listed(flags)})" if flags else "false"
+    return f"one_of ({list_of(flags)})" if flags else "false"
 
 
-def reading_of(words, shape, tree, value=None):
+def reading_of(words: Words, shape: Shape, tree: str, value: Optional[str] = None) -> str:
     """What holds of a tree that is read as the value."""
     values = values_of(shape, value)
     if shape.kind == "unit":
@@ -109,12 +123,17 @@ def reading_of(words, shape, tree, value=None):
     reads = [f"λ j. {words.reads(field.kind, 'reads')} human lends j {of}" for field, of in zip(shape.fields, values)]
     if shape.kind == "tuple":
         return f"OfRow ({chained([f'AndThen ({term})' for term in reads], 'NoMore')}) {tree}"
-    absent = [f"Absent {words.reads(field.kind, 'absent')} {of}" for field, of in zip(shape.fields, values)]
+    absent = [absent_of(words, field, of) for field, of in zip(shape.fields, values)]
     fields = chained([f"Field ({there}) ({missing})" for there, missing in zip(reads, absent)], "NoField")
-    return f"OfFields ({codes(field.name for field in shape.fields)}) ({fields}) {tree}"
+    return f"OfFields ({codes(field.key for field in shape.fields)}) ({fields}) {tree}"
 
 
-def chained(heads, end):
+def absent_of(words: Words, field: Field, value: str) -> str:
+    """What holds of the value of a field that isn't there."""
+    return field.default.holds(value) if field.default else f"Absent {words.reads(field.kind, 'absent')} {value}"
+
+
+def chained(heads: list[str], end: str) -> str:
     """The terms, each with the next as its last argument."""
     term = end
     for head in reversed(heads):
@@ -122,54 +141,58 @@ def chained(heads, end):
     return term
 
 
-def underscored(name):
+def underscored(name: str) -> str:
     """A type's name as that of a module."""
     return re.sub(r"(?<=[a-z0-9])(?=[A-Z])", "_", name).lower()
 
 
-def alias(of):
+def alias(of: Declared) -> str:
     """What an enum's variants are called by in terms."""
     return f"the_{underscored(of.name)}"
 
 
-def by_cases(of, terms, value="v"):
+def by_cases(of: Declared, terms: list[str], value: Optional[str] = "v") -> str:
     cases = [f"{' '.join([f'{alias(of)}.{shape.name}', *values_of(shape, None)])} ↦ {term}" for shape, term in zip(of.variants, terms)]
     return f"elim {value}{' ' * bool(value)}[ {' | '.join(cases)} ]"
 
 
-def refusal_of(words, shape):
+def refusal_of(words: Words, shape: Shape, flat: bool = False) -> str:
     """Which error says that the fields of a struct, or of a variant that has some, aren't there."""
-    kinds = [field.kind for field in shape.fields]
+    kinds = [field.read_as() for field in shape.fields]
     if shape.kind == "unit":
         return "λ s. RefusesExactly s.strict (not_nothing s.room)"
     if shape.kind == "newtype":
         return words.reads(kinds[0], "refuses")
     if shape.kind == "tuple":
         parts = [f"part_of {words.reads(kind, 'reads')} {words.reads(kind, 'refuses')}" for kind in kinds]
-        return f"RefusesTuple ({listed(parts)})"
+        return f"RefusesTuple ({list_of(parts)})"
+    if flat:
+        given = " ".join(f"{words.reads(kind, 'reads')} {words.reads(kind, 'absent')}" for kind in kinds)
+        parts = [f"part_of {words.reads(kind, 'reads')} {words.reads(kind, 'refuses')}" for kind in kinds]
+        return f"RefusesFields ({codes(field.key for field in shape.fields)}) (reads_{len(kinds)} {given}) ({list_of(parts)})"
     fields = f"⟦<{nested(kinds)} as ReadFields<'de, R>>⟧"
-    return f"RefusesFields ({codes(field.name for field in shape.fields)}) {fields}.reads\n        {fields}.parts"
+    return f"RefusesFields ({codes(field.key for field in shape.fields)}) {fields}.reads\n        {fields}.parts"
 
 
-def member_of_refusing(of, words):
+def member_of_refusing(of: Declared, words: Words) -> str:
     """What stands for refuses."""
     if of.shape:
-        return refusal_of(words, of.shape)
+        return refusal_of(words, of.shape, is_flat(of.shape))
     choices = [f"with_content ({refusal_of(words, shape)})" if shape.fields else "no_content" for shape in of.variants]
-    return f"RefusesEnum ({codes(shape.name for shape in of.variants)}) ({listed(choices)})"
+    return f"RefusesEnum ({codes(shape.key for shape in of.variants)}) ({list_of(choices)})"
 
 
-def members_of_writing(of, words):
+def members_of_writing(of: Declared, words: Words) -> tuple[str, str, str]:
     """What stands for data_of, is_value and takes_memory."""
     if of.shape:
         return data_of(words, of.shape, "v"), known_of(words, of.shape, "v"), memory_of(words, of.shape)
     data = by_cases(of, [data_of(words, shape) for shape in of.variants])
     known = by_cases(of, [known_of(words, shape) for shape in of.variants])
     flags = [memory_of(words, shape) for shape in of.variants]
-    return data, known, "false" if set(flags) == {"false"} else f"one_of ({listed(flags)})"
+    return data, known, "false" if set(flags) == {"false"} else f"one_of ({list_of(flags)})"
 
 
-def member_of_reading(of, words):
+def member_of_reading(of: Declared, words: Words) -> str:
     """What stands for reads."""
     if of.shape:
         return reading_of(words, of.shape, "m", "v")
@@ -179,4 +202,4 @@ def member_of_reading(of, words):
         value = " ".join([f"{alias(of)}.{shape.name}", *values])
         holds = f"Content (λ k. {reading_of(words, shape, 'k')}) c" if values else "Bare c"
         cases.append(f"Case (λ c. {''.join(f'({name} : _) × ' for name in values)}(v ≡ {value}) × {holds})")
-    return f"OfVariant ({codes(shape.name for shape in of.variants)}) ({chained(cases, 'NoCase')}) m"
+    return f"OfVariant ({codes(shape.key for shape in of.variants)}) ({chained(cases, 'NoCase')}) m"

@@ -16,7 +16,7 @@ import sys
 TOP = os.path.join(os.path.dirname(os.path.abspath(__file__)), "..")
 CRATES = os.path.join(TOP, "crates")
 EDITS = os.path.join(TOP, "tests", "edits")
-LIBRARIES = "rmp_wire rmp_encode rmp_decode rmp_round_trip rmp_serde canon_lines".split()
+LIBRARIES = "rmp_wire rmp_encode rmp_decode rmp_scan rmp_round_trip rmp_serde canon_lines".split()
 # Functions whose body is another's, but for a width, a kind or a constant, or a call of it.
 ALIKE = {
     "IoSink_new": "IoSource_new",
@@ -36,6 +36,7 @@ ALIKE = {
     "deserialize_i64": "deserialize_i8",
     "deserialize_f64_bits": "deserialize_f32_bits",
     "deserialize_tuple_struct": "deserialize_tuple",
+    **{f"read_fields_{count}": "read_fields_2" for count in range(3, 13)},
     "deserialize_enum_by": "deserialize_enum",
     "deserialize_option_with": "deserialize_option",
     "newtype_variant_with": "newtype_variant",

@@ -4,8 +4,9 @@
     tools/elements.py [FOLDER]      writes below this folder in place of the repository's top
 """
 import halves
-from halves import FIELDS, NAMES, bodies, kinds, listed
+from halves import FIELDS, NAMES, bodies, kinds
 from lines import write
+from shared import bracketed, numbered
 
 WORDS = ["One element", "Two elements", "Three elements", "Four elements", "Five elements", "Six elements", "Seven elements", "Eight elements"]
 
@@ -32,10 +33,6 @@ pub struct {name}<'r, {", ".join(kinds(n))}> {{
 {halves.implementation(name, n, elements, named)}"""
 
 
-def call(word, i):
-    return word if i == 0 else f"{word}-{i + 1}"
-
-
 def takes(i):
     return f"(λ s. g.E{i + 1}.Serialize.takes_memory s || g.W.Sink.takes_memory)"
 
@@ -48,14 +45,14 @@ def data(i):
 def keeps(word, i):
     if i == 1:
         return f"c.{word}.ensures.keeps"
-    return f"(keeps_then g.W.Sink {keeps(word, i - 1)} c.{call(word, i - 1)}.ensures.keeps)"
+    return f"(keeps_then g.W.Sink {keeps(word, i - 1)} c.{numbered(word, i - 1)}.ensures.keeps)"
 
 
 # What is still to come after the first i elements were written.
 def state(i):
     if i == 0:
         return "h"
-    word = call("serialize", i - 1)
+    word = numbered("serialize", i - 1)
     return f"(goes g.W.Sink {takes(i - 1)} {data(i - 1)} _ _ (Ok _) c.{word}.ensures.keeps c.in_ok-{word}.ensures.writes old t _ {state(i - 1)})"
 
 
@@ -63,22 +60,22 @@ def state(i):
 def named(i, n):
     if i == 0:
         return "h"
-    word = call("put_field", i - 1)
+    word = numbered("put_field", i - 1)
     return f"(c.in_ok-{word}.ensures.writes old t _ {named_step(i - 1, n)})"
 
 
 def named_step(i, n):
     each = [f"g.E{k + 1}.Serialize.data_of c.args.self.now.{FIELDS[k]}.now (settings_of old).human" for k in range(n)]
-    rest = listed(each[i + 1 :]) if i + 1 < n else "[]"
+    rest = bracketed(each[i + 1 :]) if i + 1 < n else "[]"
     return f"(next_named g.W.Sink c.args.names.now {i} _ ({each[i]}) {rest} rest (omega (arith, c.requires)) {named(i, n)})"
 
 
 def residual(word, i):
-    return f"c.from_residual-in_err-{call(word, i)}" if i else "c.from_residual"
+    return f"c.from_residual-in_err-{numbered(word, i)}" if i else "c.from_residual"
 
 
 def answers(n, word, goals):
-    each = listed([f"g.E{k + 1}.Serialize.takes_memory (settings_of old)" for k in range(n)])
+    each = bracketed([f"g.E{k + 1}.Serialize.takes_memory (settings_of old)" for k in range(n)])
     steps = (["goes"] if word == "serialize" else []) + (["keeps_then"] if n > 1 else [])
     uses = [f"Rattle.std.proofs.Common.{{{'' if word == 'serialize' else 'arith, '}◌∷◌, []}}"]
     if word == "serialize":
@@ -92,7 +89,7 @@ def answers(n, word, goals):
     uses.append("Rattle.rmp_encode.proofs.Parts.{one_of_or, part_takes}")
     text = "".join(f"use {name}\n" for name in uses) + f"use {goals}.Goals as goal\n"
     for i in range(n):
-        this = call(word, i)
+        this = numbered(word, i)
         goal = f"returns-in_err-{this}-clause-writes"
         if word == "serialize":
             failed = f"(goes g.W.Sink {takes(i)} {data(i)} _ _ (Err _) c.{this}.ensures.keeps c.in_err-{this}.ensures.writes old t _ {state(i)})"

@@ -1,14 +1,11 @@
 """Elements that are written by two calls, the front ones and those behind: their type and its proofs, for elements.py and derive.py."""
 
+from shared import bracketed
+
 FIELDS = ("first second third fourth fifth sixth seventh eighth"
           " ninth tenth eleventh twelfth thirteenth fourteenth fifteenth sixteenth").split()
 # What struct holds so many.
 NAMES = "One Both Three Four Five Six Seven Eight".split()
-
-
-def listed(words):
-    """The list of these."""
-    return "(" + " ∷ (".join(words) + " ∷ []" + ")" * len(words)
 
 
 def kinds(n):
@@ -39,7 +36,7 @@ def implementation(name, n, elements, named, path=""):
     bounds = ", ".join(f"{kind}: Serialize" for kind in names)
     data = " ∷ ".join(f"{kind}.data_of v.{FIELDS[i]}.now human" for i, kind in enumerate(names))
     value = " × ".join(f"{kind}.is_value v.{FIELDS[i]}.now" for i, kind in enumerate(names))
-    memory = listed([f"{kind}.takes_memory s" for kind in names])
+    memory = bracketed([f"{kind}.takes_memory s" for kind in names])
     return f"""
 impl<'r, {bounds}> Elements for {name}<'r, {", ".join(names)}> {{
     ghost count = {{ {n} }};
@@ -78,10 +75,10 @@ def answers(n, k, word, goals):
     """The answers of one of these bodies, `write` or `write_fields`, whose goals stand in this module."""
 
     def memory(start, end):
-        return listed([f"g.E{i + 1}.Serialize.takes_memory (settings_of old)" for i in range(start, end)])
+        return bracketed([f"g.E{i + 1}.Serialize.takes_memory (settings_of old)" for i in range(start, end)])
 
     def data(start, end):
-        return listed([f"g.E{i + 1}.Serialize.data_of c.args.self.now.{FIELDS[i]}.now (settings_of old).human" for i in range(start, end)])
+        return bracketed([f"g.E{i + 1}.Serialize.data_of c.args.self.now.{FIELDS[i]}.now (settings_of old).human" for i in range(start, end)])
 
     def less(side):
         return f"({side}_or g.W.Sink.takes_memory {memory(0, k)} {memory(k, n)})"

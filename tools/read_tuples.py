@@ -6,6 +6,7 @@
 A tuple is read as the fields of a struct that is a list. Run `rt fmt` in the crate afterwards.
 """
 from lines import write
+from shared import tuple_of
 
 KINDS = "ABDEFGHI"
 MOST = len(KINDS)
@@ -13,10 +14,6 @@ MOST = len(KINDS)
 
 def names(n):
     return [k.lower() for k in KINDS[:n]]
-
-
-def tuple_of(parts):
-    return f"({parts[0]},)" if len(parts) == 1 else f"({', '.join(parts)})"
 
 
 def bounds(n):

@@ -5,23 +5,23 @@
 
 Run `rt fmt` in the crate afterwards.
 """
-from derived_rounds import any_of, lent
+from derived_rounds import any_of, both_of, lent
 from lines import write
+from shared import tuple_of
 
 KINDS = "ABDEFGHI"
 MOST = len(KINDS)
 HEAD = """//! Tuples. Written by tools/round_tuples.py.
 ghost use Rattle.std.specs.Prelude.{◌∷◌, ◌||◌, [], true};
+ghost use Rattle.rmp_round_trip.specs.OnlyRows.{item_only, last_only, lowers_then, row_both};
+ghost use Rattle.rmp_round_trip.specs.RoundTrip.{Only};
 ghost use Rattle.rmp_round_trip.specs.Rounds.{rows_none, rows_cons, parts_none, parts_cons, tuple_some, tuple_row, tuple_other, first_lent, second_lent};
 
 use crate::round_trip::{NeverNil, RoundTrip};
+use rmp_decode::Deserialize;
 use rmp_encode::Serialize;
 use rmp_wire::ReadSlice;
 """
-
-
-def tuple_of(kinds):
-    return f"({', '.join(kinds)}{',' if len(kinds) == 1 else ''})"
 
 
 def bounds(kinds, bound):
@@ -50,6 +50,30 @@ def rounds(kinds, proofs, at=0):
     return f"(rows_cons s _ _ {reads} _ ({kinds[at]}.round {proofs[at]} s {value} {fits}) {rounds(kinds, proofs, at + 1)})"
 
 
+# Nothing else is read of them.
+def onlys(kinds, at=0):
+    if at == len(kinds):
+        return "(rows_none s)"
+    value = f"v.{at}"
+    fits = "fits" if len(kinds) == 1 else f"fits.{at}"
+    only = f"(λ m. Only ({kinds[at]}.reads s.human R.lends) {kinds[at]}.same m {value})"
+    return f"(rows_cons s _ _ {only} _ ({kinds[at]}.only s {value} {fits}) {onlys(kinds, at + 1)})"
+
+
+# What the two facts of the items say of each.
+def both(kinds):
+    parts = [(f"({k}.reads s.human R.lends)", f"{k}.same", f"v.{at}", f"w.{at}") for at, k in enumerate(kinds)]
+    return both_of(parts, "row_both _ _ _ m q r", "item_only", "last_only")
+
+
+def sames(kinds):
+    return " × ".join(f"{k}.same v.{at} w.{at}" for at, k in enumerate(kinds))
+
+
+def only(kinds):
+    return f"(λ m. (w : _) → ⟦<{tuple_of(kinds)} as Deserialize<'de, R>>⟧.reads s.human R.lends m w → {sames(kinds)})"
+
+
 def data(kinds):
     return "".join(f"{k}.data_of v.{i} s.human ∷ " for i, k in enumerate(kinds)) + "[]"
 
@@ -62,6 +86,10 @@ impl<'de, R: ReadSlice<'de>, {bounds(kinds, "RoundTrip<'de, R>")}> RoundTrip<'de
     ghost has_data = {{ λ human v. tuple_some _ {stated(kinds)} }};
 
     ghost round = {{ λ lent s v fits. tuple_row s _ _ {rounds(kinds, lent([f"{k}.borrows" for k in kinds], "lent"))} }};
+
+    ghost same = {{ λ v w. {sames(kinds)} }};
+
+    ghost only = {{ λ s v fits. lowers_then s _ _ {only(kinds)} (tuple_row s _ _ {onlys(kinds)}) (λ m q w r. {both(kinds)}) }};
 }}
 
 impl<{bounds(kinds, "Serialize")}> NeverNil for {tuple_of(kinds)} {{

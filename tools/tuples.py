@@ -6,35 +6,28 @@
 Run `rt fmt` in the crate afterwards.
 """
 from lines import write
+from shared import bracketed, numbered, tuple_of
 
 MOST = 8
 
 
-# The list of these.
-def listed(words):
-    return "(" + " ∷ (".join(words) + " ∷ []" + ")" * len(words)
-
-
-# The elements that each call writes, by where they begin and end: four, two, or one.
+# The elements that each call writes, by where they begin and end: up to four, and then each alone. Two calls for several elements would
+# be of one function where all are of one type, and the compiler inlines what is called once.
 def groups(n):
-    found, at = [], 0
-    for size in (4, 4, 2, 1):
-        if n - at >= size:
-            found.append((at, at + size))
-            at += size
-    return found
+    first = min(n, 4)
+    return [(0, first)] + [(at, at + 1) for at in range(first, n)]
 
 
-WORDS = {1: "serialize_element", 2: "two", 4: "four"}
+WORDS = {1: "serialize_element", 2: "two", 3: "three", 4: "four"}
 
 
 def implementation(n):
     kinds = [f"E{i + 1}" for i in range(n)]
     bounds = ", ".join(f"{k}: Serialize" for k in kinds)
-    of = f"({kinds[0]},)" if n == 1 else f"({', '.join(kinds)})"
+    of = tuple_of(kinds)
     data = " ∷ ".join(f"{k}.data_of v.{i} human" for i, k in enumerate(kinds))
     value = " × ".join(f"{k}.is_value v.{i}" for i, k in enumerate(kinds))
-    memory = listed([f"{k}.takes_memory s" for k in kinds])
+    memory = bracketed([f"{k}.takes_memory s" for k in kinds])
     written = lambda i, j: ", ".join(f"&self.{k}" for k in range(i, j))
     elements = "\n".join(f"        tup.{WORDS[j - i]}({written(i, j)})?;" for i, j in groups(n))
     return f"""
@@ -67,7 +60,7 @@ impl<{bounds}> Serialize for {of} {{
 def call(all, at):
     word = WORDS[all[at][1] - all[at][0]]
     before = sum(1 for i, j in all[:at] if WORDS[j - i] == word)
-    return f"{word}-{before + 1}" if before else word
+    return numbered(word, before)
 
 
 # What is still to come after the first calls.
@@ -79,7 +72,7 @@ def state(all, at):
 
 # That memory may be taken where these elements of n may take it.
 def memory(i, j, n):
-    each = lambda i, j: listed([f"g.E{k + 1}.Serialize.takes_memory (settings_of c.args.se.now)" for k in range(i, j)]) if i < j else "[]"
+    each = lambda i, j: bracketed([f"g.E{k + 1}.Serialize.takes_memory (settings_of c.args.se.now)" for k in range(i, j)]) if i < j else "[]"
     start = "(forces_all (settings_of c.args.se.now).bytes) g.W.Sink.takes_memory"
     if j - i == 1:
         return f"(or_one_of {start} {each(0, n)} {i})"

@@ -1,30 +1,58 @@
-/* Messages of MessagePack: docs/C.md shows these calls. Link librmp_c.a and the kit's c/liblibc_c.a. */
+/* Messages of MessagePack, from C and C++: docs/C.md shows these calls. Link librmp_c.a and the kit's c/liblibc_c.a. */
 #ifndef RMP_H
 #define RMP_H
 
 #include <stddef.h>
 #include <stdint.h>
 
-/* What a call answers. */
+#ifdef __cplusplus
+extern "C" {
+#endif
+
+/* What a call returns. */
 enum {
     RMP_OK = 0,
-    RMP_END = 1,           /* the bytes end where a message is wanted */
-    RMP_CUT = 2,           /* the bytes end inside of a head or its content */
-    RMP_RESERVED = 3,      /* the byte c1, which opens no message */
+    RMP_END = 1,           /* the input ends where a message should begin */
+    RMP_CUT = 2,           /* the input ends inside a head or its payload */
+    RMP_RESERVED = 3,      /* the byte c1, which begins no message */
     RMP_NOT_CANONICAL = 4, /* a head that isn't the canonical one */
     RMP_NOT_UTF8 = 5,      /* a text that isn't UTF-8 */
-    RMP_TOO_DEEP = 6,      /* lists and maps that nest to 1024 */
-    RMP_LONGER = 7,        /* something stands behind the message */
-    RMP_TOO_SHORT = 8,     /* the room for the answer is too short */
-    RMP_NO_MEMORY = 9
+    RMP_TOO_DEEP = 6,      /* lists and maps nest to 1024 levels */
+    RMP_LONGER = 7,        /* bytes follow the message */
+    RMP_TOO_SHORT = 8,     /* the buffer is too short */
+    RMP_NO_MEMORY = 9,     /* out of memory */
+    RMP_MORE = 10,         /* the message goes on after the piece */
+    RMP_TOO_LONG = 11,     /* the message asks for more bytes than the limit */
+    RMP_FAILED = 12        /* an earlier call failed */
 };
+
+/* What a status means, as a text for people. */
+static inline const char *rmp_text(uint32_t status)
+{
+    switch (status) {
+    case RMP_OK: return "ok";
+    case RMP_END: return "the input ends where a message should begin";
+    case RMP_CUT: return "the input ends inside a head or its payload";
+    case RMP_RESERVED: return "the byte c1, which begins no message";
+    case RMP_NOT_CANONICAL: return "a head that isn't the canonical one";
+    case RMP_NOT_UTF8: return "a text that isn't UTF-8";
+    case RMP_TOO_DEEP: return "lists and maps nest to 1024 levels";
+    case RMP_LONGER: return "bytes follow the message";
+    case RMP_TOO_SHORT: return "the buffer is too short";
+    case RMP_NO_MEMORY: return "out of memory";
+    case RMP_MORE: return "the message goes on after the piece";
+    case RMP_TOO_LONG: return "the message asks for more bytes than the limit";
+    case RMP_FAILED: return "an earlier call failed";
+    default: return "no status of rmp.h";
+    }
+}
 
 /* The kinds of messages. */
 enum {
     RMP_NIL = 0,
     RMP_TRUTH = 1,
-    RMP_UNSIGNED = 2, /* a number from 0 on */
-    RMP_NEGATIVE = 3, /* a number below 0 */
+    RMP_UNSIGNED = 2, /* an integer from 0 on */
+    RMP_NEGATIVE = 3, /* an integer below 0 */
     RMP_F32 = 4,
     RMP_F64 = 5,
     RMP_TEXT = 6,
@@ -34,26 +62,50 @@ enum {
     RMP_EXTENSION = 10
 };
 
-/* What stands at a place. */
+/* What a head says, and where its payload is. */
 typedef struct {
     uint32_t kind;
-    uint32_t items;  /* how many messages a list has, or pairs a map */
-    uint64_t number; /* a truth as 0 or 1, a number (one below 0 as an int64_t), the bits of a float, the type of an extension */
-    size_t start;    /* where the content of a text, of bytes or of an extension lies */
-    size_t len;      /* how many bytes of content there are */
+    uint32_t items;  /* the number of elements of a list, or of pairs of a map */
+    uint64_t number; /* a truth as 0 or 1, an integer (below 0 as an int64_t), the bits of a float, the type of an extension */
+    size_t start;    /* the offset after the head: that of the payload of a text, of bytes or of an extension */
+    size_t len;      /* the length of the payload in bytes */
 } rmp_item;
 
-/* Says what stands at the place `at`. The next message stands at `item->start + item->len`: for a list or a map its first part.
- * RMP_END, RMP_CUT or RMP_RESERVED: no message begins there, and the item stays as it was. */
+/* Reads the head at the offset `at`. The next message is at `item->start + item->len`: for a list or a map, its first element or key.
+ * RMP_END, RMP_CUT or RMP_RESERVED: no whole head with its payload is there, and `*item` is unchanged. */
 uint32_t rmp_next(const uint8_t *bytes, size_t len, size_t at, rmp_item *item);
 
-/* Whether the bytes begin with the canonical spelling of a message. RMP_OK: of `*place` bytes. RMP_NOT_CANONICAL: at `*place` stands the
- * first head that isn't canonical. RMP_END, RMP_CUT or RMP_RESERVED comes before that. */
+/* Whether the bytes begin with the canonical encoding of a message. RMP_OK: `*place` is its length. RMP_NOT_CANONICAL: `*place` is the
+ * offset of the first head that isn't canonical. RMP_END, RMP_CUT or RMP_RESERVED comes before that, and `*place` is unchanged. */
 uint32_t rmp_check(const uint8_t *bytes, size_t len, size_t *place);
 
-/* Writes the canonical spelling of the message that the bytes are, in whatever widths, to `out`, which has room for `room` bytes, and
- * says in `*written` how long it is; with RMP_TOO_SHORT how long it would be. RMP_OK, RMP_END, RMP_CUT, RMP_RESERVED, RMP_NOT_UTF8,
- * RMP_TOO_DEEP, RMP_LONGER, RMP_TOO_SHORT or RMP_NO_MEMORY. */
+/* Writes the canonical encoding of the message that the bytes are, in any widths, to `out`, a buffer of `room` bytes, and its length to
+ * `*written`. It is no longer than the message. RMP_TOO_SHORT: `*written` is the length that is needed, and `out` is unchanged.
+ * RMP_END, RMP_CUT, RMP_RESERVED, RMP_NOT_UTF8, RMP_TOO_DEEP, RMP_LONGER, RMP_NO_MEMORY: both are unchanged. */
 uint32_t rmp_canonical(const uint8_t *bytes, size_t len, uint8_t *out, size_t room, size_t *written);
+
+/* What rmp_scan keeps between pieces. A program copies it as it likes, and looks at none of its members. */
+typedef struct {
+    uint64_t limit;
+    uint64_t taken;
+    uint64_t messages;
+    uint64_t number;
+    uint32_t next;
+    uint32_t missing;
+} rmp_scanner;
+
+/* Sets a scanner to wait for the first byte of a message of at most `limit` bytes. RMP_OK is returned. */
+uint32_t rmp_scan_init(rmp_scanner *scanner, size_t limit);
+
+/* Goes through the next piece of a message. RMP_OK: the first `*used` bytes of the piece end the message, and the scanner waits for the
+ * next one, which begins with what follows in the piece. RMP_MORE: the message goes on after the piece.
+ * RMP_RESERVED: the byte c1 is at the offset `*used` of the piece, where a message is wanted. RMP_TOO_LONG: the heads so far ask for more
+ * bytes than the limit, which is found before the payload arrives. After either each call is RMP_FAILED until rmp_scan_init.
+ * Except for RMP_OK and RMP_RESERVED, `*used` is unchanged. */
+uint32_t rmp_scan(rmp_scanner *scanner, const uint8_t *piece, size_t len, size_t *used);
+
+#ifdef __cplusplus
+}
+#endif
 
 #endif

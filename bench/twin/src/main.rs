@@ -1,10 +1,9 @@
 //! What `mpcanon` prints for lines of hex, by the crate `rmp`: each message is read into a tree, which is printed as text and as its
-//! canonical spelling. What is refused is told by the place alone.
+//! canonical spelling. Hex goes by tables, and the buffers of a line are kept for the next one. What is refused is told by the place alone.
 
 use rmp::Marker;
 use rmp::decode::{RmpRead, read_marker};
 use rmp::encode;
-use std::fmt::Write as _;
 use std::io::{self, BufWriter, Read, Write};
 
 /// A message of any kind.
@@ -127,57 +126,70 @@ fn read(input: &mut &[u8], room: u32) -> Option<Tree> {
     }
 }
 
-const DIGITS: &[u8; 16] = b"0123456789abcdef";
-
-fn push_hex(text: &mut String, bytes: &[u8]) {
-    text.reserve(2 * bytes.len());
-    for byte in bytes {
-        text.push(DIGITS[usize::from(byte >> 4)].into());
-        text.push(DIGITS[usize::from(byte & 15)].into());
+/// The two digits of each byte.
+const PAIRS: [[u8; 2]; 256] = {
+    let digits = b"0123456789abcdef";
+    let mut pairs = [[0; 2]; 256];
+    let mut byte = 0;
+    while byte < 256 {
+        pairs[byte] = [digits[byte >> 4], digits[byte & 15]];
+        byte += 1;
     }
+    pairs
+};
+
+fn push_hex(text: &mut Vec<u8>, bytes: &[u8]) {
+    text.reserve(2 * bytes.len());
+    text.extend(bytes.iter().flat_map(|byte| PAIRS[usize::from(*byte)]));
 }
 
 /// Appends the items of a list as text.
-fn print_list(items: &[Tree], text: &mut String) {
-    text.push('[');
+fn print_list(items: &[Tree], text: &mut Vec<u8>) {
+    text.push(b'[');
     for (i, item) in items.iter().enumerate() {
         if i > 0 {
-            text.push(',');
+            text.push(b',');
         }
         print(item, text);
     }
-    text.push(']');
+    text.push(b']');
 }
 
 /// Appends the pairs of a map as text.
-fn print_map(pairs: &[(Tree, Tree)], text: &mut String) {
-    text.push('{');
+fn print_map(pairs: &[(Tree, Tree)], text: &mut Vec<u8>) {
+    text.push(b'{');
     for (i, (key, value)) in pairs.iter().enumerate() {
         if i > 0 {
-            text.push(',');
+            text.push(b',');
         }
         print(key, text);
-        text.push('=');
+        text.push(b'=');
         print(value, text);
     }
-    text.push('}');
+    text.push(b'}');
 }
 
 /// Appends the tree as text.
-fn print(tree: &Tree, text: &mut String) {
+fn print(tree: &Tree, text: &mut Vec<u8>) {
     match tree {
-        Tree::Nil => text.push_str("nil"),
-        Tree::Truth(truth) => text.push_str(if *truth { "true" } else { "false" }),
+        Tree::Nil => text.extend_from_slice(b"nil"),
+        Tree::Truth(truth) => text.extend_from_slice(if *truth { b"true" } else { b"false" }),
         Tree::Unsigned(n) => write!(text, "{n}").unwrap(),
         Tree::Signed(n) => write!(text, "{n}").unwrap(),
-        Tree::Float32(bits) => write!(text, "f32:{bits:08x}").unwrap(),
-        Tree::Float64(bits) => write!(text, "f64:{bits:016x}").unwrap(),
+        Tree::Float32(bits) => {
+            text.extend_from_slice(b"f32:");
+            push_hex(text, &bits.to_be_bytes());
+        }
+        Tree::Float64(bits) => {
+            text.extend_from_slice(b"f64:");
+            push_hex(text, &bits.to_be_bytes());
+        }
         Tree::Text(characters) => {
-            text.push_str("t:");
+            text.extend_from_slice(b"t:");
             push_hex(text, characters.as_bytes());
         }
         Tree::Bytes(bytes) => {
-            text.push_str("b:");
+            text.extend_from_slice(b"b:");
             push_hex(text, bytes);
         }
         Tree::List(items) => print_list(items, text),
@@ -221,36 +233,67 @@ fn spell(tree: &Tree, out: &mut Vec<u8>) -> Result<(), encode::ValueWriteError> 
     }
 }
 
-fn digit(byte: u8) -> Option<u8> {
-    Some(match byte {
-        b'0'..=b'9' => byte - b'0',
-        b'a'..=b'f' => byte - b'a' + 10,
-        b'A'..=b'F' => byte - b'A' + 10,
-        _ => return None,
+/// What is no digit.
+const NONE: u8 = 0xFF;
+
+/// The value of each digit.
+const VALUES: [u8; 256] = {
+    let mut values = [NONE; 256];
+    let mut value = 0;
+    while value < 16 {
+        values[PAIRS[value as usize][1] as usize] = value;
+        values[PAIRS[value as usize][1].to_ascii_uppercase() as usize] = value;
+        value += 1;
+    }
+    values
+};
+
+/// Puts the bytes of pairs of digits into a buffer that is emptied, where there are only such.
+fn unhex(digits: &[u8], bytes: &mut Vec<u8>) -> Option<()> {
+    let (pairs, []) = digits.as_chunks::<2>() else {
+        return None;
+    };
+    bytes.clear();
+    bytes.reserve(pairs.len());
+    for [high, low] in pairs {
+        let (high, low) = (VALUES[usize::from(*high)], VALUES[usize::from(*low)]);
+        if high | low == NONE {
+            return None;
+        }
+        bytes.push(high << 4 | low);
+    }
+    Some(())
+}
+
+/// The same of a line, whose spaces and tabs, and a carriage return at its end, are dropped.
+fn unhex_line(line: &[u8], bytes: &mut Vec<u8>) -> Option<()> {
+    let line = line.strip_suffix(b"\r").unwrap_or(line);
+    unhex(line, bytes).or_else(|| {
+        let is_digit = |byte: &u8| !b" \t".contains(byte);
+        let digits: Vec<u8> = line.iter().copied().filter(is_digit).collect();
+        unhex(&digits, bytes)
     })
 }
 
-fn unhex(line: &[u8]) -> Option<Vec<u8>> {
-    let digits: Vec<u8> = line
-        .iter()
-        .copied()
-        .filter(|byte| !b" \t\r".contains(byte))
-        .collect();
-    if digits.len() % 2 == 1 {
-        return None;
-    }
-    digits
-        .chunks_exact(2)
-        .map(|pair| Some(digit(pair[0])? << 4 | digit(pair[1])?))
-        .collect()
+/// What is kept from line to line.
+#[derive(Default)]
+struct Buffers {
+    bytes: Vec<u8>,
+    spelled: Vec<u8>,
+    text: Vec<u8>,
 }
 
 /// Prints a line's messages, and says whether none was refused.
-fn show(line: &[u8], out: &mut impl Write) -> io::Result<bool> {
-    let Some(bytes) = unhex(line) else {
+fn show(line: &[u8], buffers: &mut Buffers, out: &mut impl Write) -> io::Result<bool> {
+    let Buffers {
+        bytes,
+        spelled,
+        text,
+    } = buffers;
+    if unhex_line(line, bytes).is_none() {
         writeln!(out, "refused: hex")?;
         return Ok(false);
-    };
+    }
     let mut left = bytes.as_slice();
     while !left.is_empty() {
         let at = bytes.len() - left.len();
@@ -258,14 +301,14 @@ fn show(line: &[u8], out: &mut impl Write) -> io::Result<bool> {
             writeln!(out, "refused at {at}")?;
             return Ok(false);
         };
-        let mut spelled = Vec::new();
-        spell(&tree, &mut spelled).map_err(io::Error::other)?;
-        let mut text = String::new();
-        print(&tree, &mut text);
-        text.push(' ');
-        push_hex(&mut text, &spelled);
-        text.push('\n');
-        out.write_all(text.as_bytes())?;
+        spelled.clear();
+        spell(&tree, spelled).map_err(io::Error::other)?;
+        text.clear();
+        print(&tree, text);
+        text.push(b' ');
+        push_hex(text, spelled);
+        text.push(b'\n');
+        out.write_all(text)?;
     }
     Ok(true)
 }
@@ -274,13 +317,14 @@ fn main() -> io::Result<()> {
     let mut input = Vec::new();
     io::stdin().read_to_end(&mut input)?;
     let mut out = BufWriter::new(io::stdout().lock());
+    let mut buffers = Buffers::default();
     let mut accepted = true;
     for line in input
         .strip_suffix(b"\n")
         .unwrap_or(&input)
         .split(|byte| *byte == b'\n')
     {
-        accepted &= show(line, &mut out)?;
+        accepted &= show(line, &mut buffers, &mut out)?;
     }
     out.flush()?;
     std::process::exit(if accepted { 0 } else { 1 })

@@ -40,7 +40,7 @@ use Rattle.rmp_serde.specs.Msg.{Msg}
 use Rattle.rmp_serde.specs.Places.{IsWhole, IsFault, Stops}
 use Rattle.rmp_decode.specs.declared.error.Error.{Error}
 use Rattle.rmp_decode.specs.declared.error.Error.TheVariants.{OutOfMemory}
-use Rattle.canon_lines.specs.declared.lines.RunFault.{RunFault}
+use Rattle.canon_lines.specs.declared.lines.Stop.{Stop}
 use Rattle.canon_lines.specs.Checks.{HoldsCanonical, EndsCheck, StartsChecks, PrintsChecks}
 use Rattle.canon_lines.specs.Messages.{canonical_text, fault_text, refused_text}
 use Rattle.canon_lines.specs.Prints.{line, IsStart, Puts}
@@ -48,7 +48,7 @@ use Rattle.canon_lines.proofs.Early.{nothing_put, start_none}
 use Rattle.canon_lines.proofs.MessageReads.{shorter}
 use Rattle.canon_lines.proofs.Shown.{flat_more}
 
--- what stands behind a canonical message
+-- what follows a canonical message
 pub record Behind (input : List ℕ) (n : ℕ) : Type 0 where
   pub some : 0 < n
   pub within : n ≤ length input
@@ -63,7 +63,7 @@ whole_some input n w =
 pub fault_within : (input : List ℕ) (p : ℕ) → IsFault input p → p ≤ length input
 fault_within input p f = let all = ap length f.front ∙ length-append f.before f.there in omega (arith, all, f.place)
 
--- what is left behind n bytes, as a slice
+-- what remains after n bytes, as a slice
 pub left_behind : (n : ℕ) (xs : List ℕ) → take (length xs - n) (drop n xs) ≡ drop n xs
 left_behind n xs = take_all (length xs - n) (drop n xs) (omega (arith, length-drop n xs))
 
@@ -147,7 +147,7 @@ module _ {W : Type 0} (g : Ghosts W) where
   place_is bytes rest place p at = let whole = ap length p.holds.split ∙ length-append p.front rest in omega (arith, at, whole)
 
   -- a refusal that was printed
-  refused : (bytes rest last : List ℕ) (r : Result Bool RunFault) {old mid : W} (new : W) (p : Checked g bytes rest old mid)
+  refused : (bytes rest last : List ℕ) (r : Result Bool Stop) {old mid : W} (new : W) (p : Checked g bytes rest old mid)
       → (OnOk r (EndsCheck false (length p.front) rest last)) → IfOk r (λ a. a ≡ false) → OnOk r (Appends (g.told mid) (g.told new) last)
       → IfOk r (λ a. Puts g (λ out. PrintsChecks bytes out a) old new)
   refused bytes rest last (Ok a) {old} new p ends f appended = subst (λ x. Puts g (λ out. PrintsChecks bytes out x) old new) (sym f)
@@ -163,7 +163,7 @@ module _ {W : Type 0} (g : Ghosts W) where
   on_both (Err e) P Q f p = tt
 
   -- a head that isn't canonical ends the line
-  pub fault_ends : (bytes rest : List ℕ) (place at : ℕ) (r : Result Bool RunFault) {old mid : W} (new : W) → Checked g bytes rest old mid
+  pub fault_ends : (bytes rest : List ℕ) (place at : ℕ) (r : Result Bool Stop) {old mid : W} (new : W) → Checked g bytes rest old mid
       → place ≡ length bytes - length rest → IsFault rest at → IfOk r (λ a. a ≡ false)
       → OnOk r (Appends (g.told mid) (g.told new) (line (fault_text (place + at))))
       → IfOk r (λ a. Puts g (λ out. PrintsChecks bytes out a) old new)
@@ -174,7 +174,7 @@ module _ {W : Type 0} (g : Ghosts W) where
       (inl (record { at = at; fault = fault; shown = ap (λ n. line (fault_text (n + at))) here }))) f appended
 
   -- what is no message ends it
-  pub stop_ends : (bytes rest : List ℕ) (place : ℕ) (e : Error) (r : Result Bool RunFault) {old mid : W} (new : W) → Checked g bytes rest old mid
+  pub stop_ends : (bytes rest : List ℕ) (place : ℕ) (e : Error) (r : Result Bool Stop) {old mid : W} (new : W) → Checked g bytes rest old mid
       → place ≡ length bytes - length rest → 0 < length rest → Stops rest e → OnOk r (e ≢ OutOfMemory) → IfOk r (λ a. a ≡ false)
       → OnOk r (Appends (g.told mid) (g.told new) (line (refused_text place e))) → IfOk r (λ a. Puts g (λ out. PrintsChecks bytes out a) old new)
   stop_ends bytes rest place e r new p is some stops n f appended =
@@ -236,7 +236,7 @@ module _ {W : Type 0} (g : Ghosts W) where
     };
   }
 
-  pub fault_early : (bytes rest : List ℕ) (place at : ℕ) (r : Result Bool RunFault) {old mid : W} (new : W) → Checked g bytes rest old mid
+  pub fault_early : (bytes rest : List ℕ) (place at : ℕ) (r : Result Bool Stop) {old mid : W} (new : W) → Checked g bytes rest old mid
       → place ≡ length bytes - length rest → IsFault rest at → IfErr r (λ x. Puts g (IsStart (line (fault_text (place + at)))) mid new)
       → IfErr r (λ x. Puts g (StartsChecks bytes) old new)
   fault_early bytes rest place at (Ok a) new p is fault q = tt
@@ -245,7 +245,7 @@ module _ {W : Type 0} (g : Ghosts W) where
       ends_early bytes rest (line (fault_text (place + at))) p
       (inr (inl (record { at = at; fault = fault; shown = ap (λ n. line (fault_text (n + at))) here }))) q
 
-  pub stop_early : (bytes rest : List ℕ) (place : ℕ) (e : Error) (r : Result Bool RunFault) {old mid : W} (new : W) → Checked g bytes rest old mid
+  pub stop_early : (bytes rest : List ℕ) (place : ℕ) (e : Error) (r : Result Bool Stop) {old mid : W} (new : W) → Checked g bytes rest old mid
       → place ≡ length bytes - length rest → 0 < length rest → Stops rest e
       → IfErr r (λ x. Puts g (λ out. (out ≡ []) ⊎ ((e ≢ OutOfMemory) × IsStart (line (refused_text place e)) out)) mid new)
       → IfErr r (λ x. Puts g (StartsChecks bytes) old new)

@@ -40,7 +40,7 @@ use Rattle.rmp_serde.specs.Refuse.{UnreadFor}
 use Rattle.rmp_decode.specs.Refuse.{Refusal}
 use Rattle.rmp_decode.specs.declared.error.Error.{Error}
 use Rattle.rmp_decode.specs.declared.error.Error.TheVariants as errors
-use Rattle.canon_lines.specs.declared.lines.RunFault.{RunFault}
+use Rattle.canon_lines.specs.declared.lines.Stop.{Stop}
 use Rattle.canon_lines.specs.Lines.{digits_in}
 use Rattle.canon_lines.specs.Messages.{message_text, refused_text, no_hex_text}
 use Rattle.canon_lines.specs.Prints.{line, IsAccepted, NoneBegins, RefusesAt, IsStart, StartsMessages, StartsDecoded, StartsLine, StartsFirst, StartsAll, Puts}
@@ -118,7 +118,7 @@ module _ {W : Type 0} (g : Ghosts W) where
   }
 
   -- the refusal was put in part, or not at all
-  pub refused_early : (bytes rest : List ℕ) (place : ℕ) (e : Error) (r : Result Bool RunFault) {old mid : W} (new : W) → SoFar g bytes rest old mid
+  pub refused_early : (bytes rest : List ℕ) (place : ℕ) (e : Error) (r : Result Bool Stop) {old mid : W} (new : W) → SoFar g bytes rest old mid
       → place ≡ length bytes - length rest → 0 < length rest → (e ≢ errors.OutOfMemory → NoneBegins rest)
       → Refusal false (UnreadFor false) ItemsUtf8 1024 e rest
       → IfErr r (λ x. Puts g (λ out. (out ≡ []) ⊎ ((e ≢ errors.OutOfMemory) × IsStart (line (refused_text place e)) out)) mid new)
@@ -141,14 +141,14 @@ module _ {W : Type 0} (g : Ghosts W) where
     unfolding StartsLine
     line_none text s = nothing_put s (inl refl)
 
-    pub line_early : (text bytes : List ℕ) (r : Result Bool RunFault) (old new : W) → decode_of (digits_in text) ≡ Ok bytes
+    pub line_early : (text bytes : List ℕ) (r : Result Bool Stop) (old new : W) → decode_of (digits_in text) ≡ Ok bytes
         → IfErr r (λ x. Puts g (begins bytes) old new) → IfErr r (λ x. Puts g (StartsLine begins text) old new)
     unfolding StartsLine
     line_early text bytes (Ok a) old new e q = tt
     line_early text bytes (Err x) old new e q = record
         { out = q.out; appended = q.appended; shown = inr (subst (λ d. StartsDecoded begins d q.out) (sym e) q.shown) }
 
-    pub hex_early : (text : List ℕ) (e : FromHexError) (r : Result Bool RunFault) (old new : W)
+    pub hex_early : (text : List ℕ) (e : FromHexError) (r : Result Bool Stop) (old new : W)
         → (e ≡ hex.OutOfMemory) ⊎ (decode_of (digits_in text) ≡ Err e)
         → IfErr r (λ x. Puts g (λ out. (out ≡ []) ⊎ ((e ≢ hex.OutOfMemory) × IsStart (line no_hex_text) out)) old new)
         → IfErr r (λ x. Puts g (StartsLine begins text) old new)

@@ -1,6 +1,6 @@
 pub mod Arguments
-pub mod Blanks
 pub mod Checked
+pub mod DigitPairs
 pub mod Early
 pub mod MessageReads
 pub mod OneCheck

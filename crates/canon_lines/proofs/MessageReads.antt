@@ -25,7 +25,7 @@ use Rattle.rmp_serde.specs.Read.{reads_value, ItemsUtf8}
 use Rattle.rmp_serde.specs.Refuse.{UnreadFor, RefusesValue}
 use Rattle.canon_lines.specs.Messages.{message_text, refused_text}
 use Rattle.canon_lines.specs.Output.{PrintsLines}
-use Rattle.canon_lines.specs.declared.lines.RunFault.{RunFault}
+use Rattle.canon_lines.specs.declared.lines.Stop.{Stop}
 use Rattle.canon_lines.specs.Prints.{line, NoneBegins, IsStart, StartsMessages, PrintsMessages, Puts}
 use Rattle.canon_lines.proofs.Early.{message_early}
 use Rattle.canon_lines.proofs.Shown.{SoFar, message_more, then_refused}
@@ -107,10 +107,10 @@ module _ {C : Type 0} (h : Ghosts ReadRefReader) (tells : TellsRest h) (old new 
       subst (λ n. Refusal false (UnreadFor false) ItemsUtf8 (max 1 n) e (rest_of old.reader)) room refused
 
 -- a failure says the same whatever the answer would have been
-pub prints_failed : {A B W : Type 0} (g : Sinks W) {old new : W} {e : RunFault} → PrintsLines {A = A} g old new (Err e) → PrintsLines {A = B} g old new (Err e)
+pub prints_failed : {A B W : Type 0} (g : Sinks W) {old new : W} {e : Stop} → PrintsLines {A = A} g old new (Err e) → PrintsLines {A = B} g old new (Err e)
 prints_failed g p = record { whole = tt; stops = p.stops; place = p.place }
 
-pub message_refused : {W : Type 0} (g : Sinks W) (bytes rest : List ℕ) (place : ℕ) (e : Error) (r : Result Bool RunFault) {old mid : W} (new : W)
+pub message_refused : {W : Type 0} (g : Sinks W) (bytes rest : List ℕ) (place : ℕ) (e : Error) (r : Result Bool Stop) {old mid : W} (new : W)
     → SoFar g bytes rest old mid → place ≡ length bytes - length rest → 0 < length rest → (e ≢ OutOfMemory → NoneBegins rest)
     → Refusal false (UnreadFor false) ItemsUtf8 1024 e rest → OnOk r (e ≢ OutOfMemory) → IfOk r (λ a. a ≡ false)
     → OnOk r (Appends (g.told mid) (g.told new) (line (refused_text place e))) → IfOk r (λ a. Puts g (λ out. PrintsMessages bytes out a) old new)

@@ -92,7 +92,7 @@ messages_once bytes out other a b p q =
       u.1,
     )
 
--- ---- want of memory has no line
+-- ---- out of memory has no line
 
 name_length : (e : Error) → e ≢ errors.OutOfMemory → length (error_name e) ≢ 11
 name_length (errors.InvalidMarkerRead x) n = λ q. omega (arith, q)
@@ -107,7 +107,7 @@ name_length errors.DepthLimitExceeded n = λ q. omega (arith, q)
 name_length errors.OutOfMemory n = absurd (n refl)
 name_length errors.NotCanonical n = λ q. omega (arith, q)
 
--- a line that names another error isn't that for want of memory
+-- a line that names another error isn't that for out of memory
 pub other_name : (place : ℕ) (e : Error) → e ≢ errors.OutOfMemory → line (refused_text place errors.OutOfMemory) ≡ line (refused_text place e) → ⊥
 other_name place e n q =
     let front = codes "refused at " ++ decimal place ++ codes ": " in

@@ -79,12 +79,12 @@ use Rattle.canon_lines.specs.Messages.{error_name}
 
 -- ---- names
 
--- where no head of any width stands whole at the front
+-- the bytes begin with no whole head of any width
 abbrev NamedFront : List ℕ → List ℕ → Type 0
 NamedFront [] name = name ≡ codes "InvalidMarkerRead"
 NamedFront (b ∷ xs) name = (b ≡ 0xc1 → name ≡ codes "TypeMismatch") × (b ≢ 0xc1 → name ≡ codes "InvalidDataRead")
 
--- where a head does that may be read, with so many bytes behind it
+-- the bytes begin with a head that may be read, with this many bytes after it
 abbrev head_name : Head → ℕ → List ℕ
 head_name (head.Array n) k = codes "DepthLimitExceeded"
 head_name (head.Map n) k = codes "DepthLimitExceeded"
@@ -152,7 +152,7 @@ utf8-in_turn (pair k v ps) u = (u.0, (u.1, utf8-in_turn ps u.2))
 -- ---- whether reading is strict or not
 
 module _ (strict : Bool) where
-  -- a head that stands at the front is one of some width
+  -- a head that the bytes begin with is one of some width
   wide : (m : Marker) (h : Head) (xs : List ℕ) → Stands strict m h xs → Stands false m h xs
   wide m h xs s = record {
     byte = s.byte;
@@ -164,7 +164,7 @@ module _ (strict : Bool) where
         (s.byte ∷ s.behind) s.is_head;
   }
 
-  -- one head at most stands there
+  -- the bytes begin with at most one head
   one_head : {m n : Marker} {h k : Head} {xs : List ℕ} (s : Stands strict m h xs) (t : Stands strict n k xs) → (h ≡ k) × (s.rest ≡ t.rest)
   one_head {m} {n} {h} {k} s t = let u = heads_apart_as strict h k (s.byte ∷ s.behind) (t.byte ∷ t.behind) s.rest t.rest s.is_head t.is_head
       (sym s.front ∙ t.front) in (u.0, u.2)
@@ -175,7 +175,7 @@ module _ (strict : Bool) where
     pub stands : Stands strict marker head xs
     pub is : name ≡ head_name head (length stands.rest)
 
-  -- What stands at the front determines the name: no head, one of another width, or one that may be read.
+  -- What the bytes begin with determines the name: no head, one of another width, or one that may be read.
   data Named (xs name : List ℕ) : Type 0 where
     front : NoneStands false xs → NamedFront xs name → Named xs name
     width : WidthIsWrong strict xs → name ≡ codes "NotCanonical" → Named xs name
@@ -245,7 +245,7 @@ module _ (strict : Bool) where
   deep room errors.OutOfMemory xs n p w = absurd (n refl)
   deep room errors.NotCanonical xs n p w = absurd (w.none p.marker (parts_head p.is_map p.len) p.stands)
 
-  -- ---- messages that stand whole
+  -- ---- messages that are whole
 
   -- the text of such a message isn't invalid
   text_valid : (m : Msg) (b rest xs : List ℕ) (t : TextIsInvalid strict xs) → head_of m ≡ head.Text (length t.text) → SpellsAs strict b m → AllTextsUtf8 m
@@ -259,7 +259,7 @@ module _ (strict : Bool) where
       t.invalid (subst (λ z. AllTextsUtf8 (text z)) (same_front s t.text rest t.stands.behind long content) u)
   text_valid m b rest xs t e sp u f = absurd (cc)
 
-  -- the head of a message that stands at the front
+  -- the head of a message that the bytes begin with
   record Opening (m : Msg) (xs : List ℕ) : Type 0 where
     pub marker : Marker
     pub stands : Stands strict marker (head_of m) xs
@@ -277,7 +277,7 @@ module _ (strict : Bool) where
       (sym a.front ∙ t.stands.front) in
       omega (arith, t.short, u.1, whole_fills a.tree, ap content_len u.0)
 
-  -- the first thing that is wrong isn't at the front, where a message stands whole there
+  -- the first thing that is wrong isn't at the front, if a whole message is there
   here_none : (room : ℕ) (e : Error) (xs : List ℕ) → e ≢ errors.OutOfMemory → UnreadFor strict room e xs → Begins (SpellsAs strict) AllTextsUtf8 room xs → ⊥
   here_none room (errors.InvalidMarkerRead x) xs n w a = let o = opening AllTextsUtf8 room xs a
       in none_stands strict o.marker (head_of a.tree) (subst (Stands strict o.marker (head_of a.tree)) w.1 o.stands)
@@ -317,7 +317,7 @@ module _ (strict : Bool) where
     is_whole = s.is_whole;
   }
 
-  -- the parts of a list or a map that stands whole
+  -- the parts of a list or a map that is whole
   parts_of : (is_map : Bool) (m : Msg) (n room : ℕ) (a x y : List ℕ) → SpellsAs strict a m → head_of m ≡ parts_head is_map n → depth m < suc room
       → AllTextsUtf8 m → ((d c : List ℕ) → a ≡ d ++ c → heads_of strict (head_of m) d → c ++ x ≡ y)
       → BeginsRow (SpellsAs strict) ItemsUtf8 room (parts_count is_map n) y
@@ -349,7 +349,7 @@ module _ (strict : Bool) where
       }
   parts_of false m n room a x y s e d u f = absurd (cc)
 
-  -- what stands behind the first messages of two rows
+  -- what follows the first messages of two rows
   row_behind : (m t : Msg) (ms ts : Msgs) (a b x y : List ℕ) (p : SpellsRow (SpellsAs strict) a (item m ms)) (q : SpellsRow (SpellsAs strict) b (item t ts))
       → a ++ x ≡ b ++ y → p.second ++ x ≡ q.second ++ y
   row_behind m t ms ts a b x y p q e =
@@ -357,7 +357,7 @@ module _ (strict : Bool) where
       ∙ ap (λ z. z ++ y) q.is_whole ∙ append_assoc q.first q.second y in
       (spelled_once_as strict m t p.first q.first (p.second ++ x) (q.second ++ y) p.is_first q.is_first split).2
 
-  -- the next message behind a beginning of a row
+  -- the next message after a beginning of a row
   next_in : (room : ℕ) (ms ts : Msgs) (a b x y : List ℕ) → SpellsRow (SpellsAs strict) a ms → SpellsRow (SpellsAs strict) b ts → a ++ x ≡ b ++ y
       → count ms < count ts → depth_all ts < room → ItemsUtf8 ts → Begins (SpellsAs strict) AllTextsUtf8 room x
   next_in room no_items no_items a b x y p q e l d u = absurd (omega arith)
@@ -385,7 +385,7 @@ module _ (strict : Bool) where
 
   -- ---- the refusal
 
-  -- where a message stands whole, nothing is wrong
+  -- where a message is whole, nothing is wrong
   refused_none : (room : ℕ) (e : Error) (xs : List ℕ) → e ≢ errors.OutOfMemory → Refusal strict (UnreadFor strict) ItemsUtf8 room e xs
       → Begins (SpellsAs strict) AllTextsUtf8 room xs → ⊥
   refused_none room e xs n (here w) a = here_none room e xs n w a
@@ -401,7 +401,7 @@ module _ (strict : Bool) where
       refused_none room e p.before.rest n r (next_in room p.before.trees row.trees p.before.bytes row.bytes p.before.rest row.rest p.before.spelled
       row.spelled (sym p.before.front ∙ row.front) fewer row.fits row.holds)
 
-  -- behind fewer messages that stand whole nothing is wrong
+  -- after fewer whole messages nothing is wrong
   sooner : (room : ℕ) (e : Error) (xs ys : List ℕ) (many later : ℕ) → e ≢ errors.OutOfMemory → (p : BeginsRow (SpellsAs strict) ItemsUtf8 room many xs)
       → BeginsRow (SpellsAs strict) ItemsUtf8 room later ys → xs ≡ ys → many < later → Refusal strict (UnreadFor strict) ItemsUtf8 room e p.rest → ⊥
   sooner room e xs ys many later n p q same l r =

@@ -1,7 +1,8 @@
 -- Lines, one after another, and how printing stops.
-use Rattle.std.proofs.Common.{◌≡◌, ℕ, List, [], ◌∷◌, ◌++◌, inl, inr, refl, sym, ap, ◌∙◌, subst, append_assoc, append-nil}
-use Rattle.std.specs.Prelude.{Option, None, Some, IfSome, Result, Ok, Err}
+use Rattle.std.proofs.Common.{◌≡◌, ℕ, Bool, List, [], ◌∷◌, ◌++◌, inl, inr, refl, sym, ap, ◌∙◌, subst, append_assoc, append-nil}
+use Rattle.std.specs.Prelude.{Option, None, Some, IfSome, Result, Ok, Err, IfOk, IfErr}
 use Rattle.std.specs.Io.KnownBytes.{Appends, Consumes}
+use Rattle.std.specs.declared.io.Error.{Error}
 use Rattle.std.proofs.KnownBytes.{Appends-nil, Appends-trans}
 use Rattle.rmp_wire.specs.declared.error.IoFault.{IoFault}
 use Rattle.rmp_wire.specs.declared.error.ValueWriteError.{ValueWriteError}
@@ -11,8 +12,10 @@ use Rattle.rmp_wire.specs.declared.source.Source.{Ghosts as Sources}
 use Rattle.rmp_wire.specs.Sinks.{next_fault, PutsPart}
 use Rattle.canon_lines.specs.declared.lines.RunFault.{RunFault}
 use Rattle.canon_lines.specs.declared.lines.RunFault.TheVariants.{Input, Output, Memory}
+use Rattle.canon_lines.specs.declared.lines.Stop.{Stop}
+use Rattle.canon_lines.specs.declared.lines.Stop.TheVariants as stops
 use Rattle.canon_lines.specs.Input.{StopsReading, CountsInput, ReadsInput}
-use Rattle.canon_lines.specs.Output.{IsLines, PutsLines, PutsBeginning, FailsOutput, LacksMemory, StopsPrinting, StopsRun, PrintsLines, PrintsRun}
+use Rattle.canon_lines.specs.Output.{IsLines, PutsLines, PutsBeginning, FailsOutput, LacksMemory, StopsPrinting, StopsRun, PrintsLines, PrintsRun, answer_of}
 
 lines_append : (a b : List ℕ) → IsLines a → IsLines b → IsLines (a ++ b)
 lines_append a b (inl e) (inl f) = inl (rw (e, f) refl)
@@ -43,12 +46,11 @@ module _ {W : Type 0} (g : Ghosts W) where
     appended = Appends-trans _ _ _ p.lines q.part p.appended q.appended;
   }
 
-  -- printing stopped behind whole lines
-  pub stops_later : (old mid new : W) (e : RunFault) → PutsLines g old mid → StopsPrinting g mid new e → StopsPrinting g old new e
-  stops_later old mid new (Input e) p q = q
-  stops_later old mid new (Output e) p q = record { beginning = puts_beginning p q.beginning; fault = q.fault ∙ ap next_fault p.sound }
-  stops_later old mid new Memory p (inl q) = inl (puts_both p q)
-  stops_later old mid new Memory p (inr q) = inr (record { beginning = puts_beginning p q.beginning; sound = q.sound ∙ p.sound; takes = q.takes })
+  -- printing stopped after whole lines
+  pub stops_later : (old mid new : W) (e : Stop) → PutsLines g old mid → StopsPrinting g mid new e → StopsPrinting g old new e
+  stops_later old mid new stops.Output p q = record { beginning = puts_beginning p q.beginning; fault = q.fault ∙ ap next_fault p.sound }
+  stops_later old mid new stops.Memory p (inl q) = inl (puts_both p q)
+  stops_later old mid new stops.Memory p (inr q) = inr (record { beginning = puts_beginning p q.beginning; sound = q.sound ∙ p.sound; takes = q.takes })
 
   -- a beginning of one line was put
   line_beginning : {old new : W} (text bytes : List ℕ) (e : ValueWriteError) → bytes ≡ text ++ 10 ∷ []
@@ -77,28 +79,24 @@ module _ {W : Type 0} (g : Ghosts W) where
   pub prints_ok : {A : Type 0} {old new : W} {x : A} → PutsLines g old new → g.place new ≡ g.place old → PrintsLines g old new (Ok x)
   prints_ok p place = record { whole = p; stops = tt; place = place }
 
-  pub prints_err : {A : Type 0} {old new : W} {e : RunFault} → StopsPrinting g old new e → g.place new ≡ g.place old → PrintsLines {A = A} g old new (Err e)
+  pub prints_err : {A : Type 0} {old new : W} {e : Stop} → StopsPrinting g old new e → g.place new ≡ g.place old → PrintsLines {A = A} g old new (Err e)
   prints_err p place = record { whole = tt; stops = p; place = place }
 
-  -- memory was wanting before anything was printed
-  pub prints_none : {A : Type 0} (s : W) → PrintsLines {A = A} g s s (Err Memory)
+  -- memory ran out before anything was printed
+  pub prints_none : {A : Type 0} (s : W) → PrintsLines {A = A} g s s (Err stops.Memory)
   prints_none s = prints_err (inl (puts_none s)) refl
 
   -- what followed whole lines
-  pub prints_after : {A : Type 0} {old mid new : W} (r : Result A RunFault) → PutsLines g old mid → g.place mid ≡ g.place old → PrintsLines g mid new r
+  pub prints_after : {A : Type 0} {old mid new : W} (r : Result A Stop) → PutsLines g old mid → g.place mid ≡ g.place old → PrintsLines g mid new r
       → PrintsLines g old new r
   prints_after (Ok x) p place q = prints_ok (puts_both p q.whole) (q.place ∙ place)
   prints_after (Err e) p place q = prints_err (stops_later _ _ _ e p q.stops) (q.place ∙ place)
 
   -- a run whose input was read prints as its lines do
-  run_stops : (old new : W) (e : RunFault) → StopsPrinting g old new e → StopsRun g old new e
-  run_stops old new (Input e) p = absurd p
-  run_stops old new (Output e) p = p
-  run_stops old new Memory p = p
-
-  pub run_prints : {A : Type 0} {old new : W} (r : Result A RunFault) → PrintsLines g old new r → PrintsRun g old new r
-  run_prints (Ok x) p = record { whole = p.whole; stops = tt; place = p.place }
-  run_prints (Err e) p = record { whole = tt; stops = run_stops _ _ e p.stops; place = p.place }
+  pub run_prints : {old new : W} (r : Result Bool Stop) (e : Error) → PrintsLines g old new r → PrintsRun g old new (answer_of r e)
+  run_prints (Ok x) e p = record { whole = p.whole; stops = tt; place = p.place }
+  run_prints (Err stops.Output) e p = record { whole = tt; stops = p.stops; place = p.place }
+  run_prints (Err stops.Memory) e p = record { whole = tt; stops = p.stops; place = p.place }
 
   -- a run whose input could not be read prints nothing
   unread_stops : (s : W) (before after : ℕ) (e : RunFault) → StopsReading before after e → StopsRun g s s e
@@ -110,17 +108,23 @@ module _ {W : Type 0} (g : Ghosts W) where
   unread_prints s before after e p = record { whole = tt; stops = unread_stops s before after e p; place = refl }
 
   -- printing leaves the source alone
-  printing_counts : (old new : W) (before after : ℕ) (e : RunFault) → after ≡ before → StopsPrinting g old new e → CountsInput before after e
-  printing_counts old new before after (Input e) same p = absurd p
-  printing_counts old new before after (Output e) same p = same
-  printing_counts old new before after Memory same p = same
-
-  pub printing_reads : {A S : Type 0} (h : Sources S) {old new : W} {from to : S} (r : Result A RunFault)
+  pub printing_reads : {S : Type 0} (h : Sources S) {from to : S} (r : Result Bool Stop) (e : Error)
       → IfSome (h.ahead from) (Consumes (h.ahead from) (h.ahead to)) → h.faults to ≡ h.faults from → h.place to ≡ h.place from
-      → PrintsLines g old new r → ReadsInput h from to r
-  printing_reads h (Ok x) whole sound place p = record { whole = whole; sound = sound; stops = tt; place = place }
-  printing_reads h {from} {to} (Err e) whole sound place p = record
-      { whole = tt; sound = tt; stops = printing_counts _ _ (h.faults from) (h.faults to) e sound p.stops; place = place }
+      → ReadsInput h from to (answer_of r e)
+  printing_reads h (Ok x) e whole sound place = record { whole = whole; sound = sound; stops = tt; place = place }
+  printing_reads h (Err stops.Output) e whole sound place = record { whole = tt; sound = tt; stops = sound; place = place }
+  printing_reads h (Err stops.Memory) e whole sound place = record { whole = tt; sound = tt; stops = sound; place = place }
+
+-- what holds of the answer of the lines holds of that of the run
+pub run_ok : (r : Result Bool Stop) (e : Error) (P : Bool → Type 0) → IfOk r P → IfOk (answer_of r e) P
+run_ok (Ok x) e P p = p
+run_ok (Err stops.Output) e P p = tt
+run_ok (Err stops.Memory) e P p = tt
+
+pub run_err : (r : Result Bool Stop) (e : Error) (P : Type 0) → IfErr r (λ s. P) → IfErr (answer_of r e) (λ f. P)
+run_err (Ok x) e P p = tt
+run_err (Err stops.Output) e P p = p
+run_err (Err stops.Memory) e P p = p
 
 reading_counts : (before after : ℕ) (e : RunFault) → StopsReading before after e → CountsInput before after e
 reading_counts before after (Input e) p = p

@@ -30,7 +30,7 @@ use Rattle.std.specs.Io.KnownBytes.{Appends}
 use Rattle.hex.specs.Hex.{decode_of}
 use Rattle.hex.specs.declared.error.FromHexError.{FromHexError}
 use Rattle.hex.specs.declared.error.FromHexError.TheVariants.{OutOfMemory}
-use Rattle.canon_lines.specs.declared.lines.RunFault.{RunFault}
+use Rattle.canon_lines.specs.declared.lines.Stop.{Stop}
 use Rattle.canon_lines.specs.Lines.{digits_in}
 use Rattle.std.proofs.KnownBytes.{Appends-nil, Appends-trans}
 use Rattle.std.proofs.lemmas.List.Elements.{All-push}
@@ -103,7 +103,7 @@ module _ (shows : List ℕ → List ℕ → Bool → Type 0) where
   unfolding PrintsLine
   line_refused text e a is f = subst (λ r. PrintsDecoded shows r (line no_hex_text) a) (sym is) (refl, f)
 
-  pub hex_refused : {W : Type 0} (g : Ghosts W) (old new : W) (text : List ℕ) (e : FromHexError) (r : Result Bool RunFault)
+  pub hex_refused : {W : Type 0} (g : Ghosts W) (old new : W) (text : List ℕ) (e : FromHexError) (r : Result Bool Stop)
       → (e ≡ OutOfMemory) ⊎ (decode_of (digits_in text) ≡ Err e) → OnOk r (e ≢ OutOfMemory) → IfOk r (λ a. a ≡ false)
       → OnOk r (Appends (g.told old) (g.told new) (line no_hex_text))
       → IfOk r (λ a. Puts g (λ out. PrintsLine shows text out a) old new)

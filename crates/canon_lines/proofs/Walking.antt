@@ -15,7 +15,6 @@ use Rattle.std.proofs.Common.{
   [],
   ◌∷◌,
   ◌++◌,
-  All,
   Bor,
   take,
   drop,
@@ -34,15 +33,12 @@ use Rattle.std.specs.Prelude.{◌&&◌, Option, None, Some}
 use Rattle.std.proofs.KnownBytes.{Appends-trans}
 use Rattle.std.proofs.lemmas.List.{map_more}
 use Rattle.std.proofs.lemmas.List.Splits.{slice_split_at, slice_split_none}
-use Rattle.std.proofs.lemmas.List.Elements.{All-push}
+use Rattle.std.proofs.lemmas.List.Elements.{All-append, All-push}
+use Rattle.std.proofs.Math.Seq.{take-add}
 use Rattle.rmp_wire.specs.declared.sink.Sink.{Ghosts}
-use Rattle.canon_lines.specs.Lines.{lines_in}
+use Rattle.canon_lines.specs.Lines.{lines_in, NoEnd}
 use Rattle.canon_lines.specs.Prints.{PrintsAll, PrintsLine, StartsAll, StartsLine, Puts}
 use Rattle.canon_lines.proofs.Shown.{prints_more, puts_nothing}
-
--- no line ends in these bytes
-abbrev pub NoEnd : List ℕ → Type 0
-NoEnd xs = All (λ b. eqb b 10 ≡ false) xs
 
 cut_at : (xs : List ℕ) (i : ℕ) (d : ℕ) → i < length xs → xs ≡ take i xs ++ (get_or xs i d ∷ drop (suc i) xs)
 cut_at [] i d l = absurd (omega arith)
@@ -56,6 +52,11 @@ take_more xs i d l = sym (map-id (take (i + 1) xs)) ∙ map_more (λ x. x) xs i 
 pub none_more : (xs : List ℕ) (i d : ℕ) → i < length xs → NoEnd (take i xs) → eqb (get_or xs i d) 10 ≡ false → NoEnd (take (i + 1) xs)
 none_more xs i d l none e =
     subst NoEnd (sym (take_more xs i d l)) (All-push (λ b. eqb b 10 ≡ false) (take i xs) (get_or xs i d) none e)
+
+-- no line ends in more bytes
+pub none_both : (xs : List ℕ) (i n : ℕ) → NoEnd (take i xs) → NoEnd (take n (drop i xs)) → NoEnd (take (i + n) xs)
+none_both xs i n none more =
+    subst NoEnd (sym (take-add i n xs)) (All-append (λ b. eqb b 10 ≡ false) (take i xs) (take n (drop i xs)) none more)
 
 -- the first line ends here
 pub ends_at : (xs : List ℕ) (i d : ℕ) → i < length xs → NoEnd (take i xs) → get_or xs i d ≡ 10 → lines_in xs ≡ take i xs ∷ lines_in (drop (i + 1) xs)

@@ -6,3 +6,4 @@ pub mod Output
 pub mod Prints
 pub mod Refusals
 pub mod Status
+pub mod Texts

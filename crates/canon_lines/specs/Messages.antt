@@ -38,7 +38,7 @@ error_name DepthLimitExceeded = codes "DepthLimitExceeded"
 error_name OutOfMemory = codes "OutOfMemory"
 error_name NotCanonical = codes "NotCanonical"
 
--- a message that is refused, at a place of the line's bytes
+-- a message that is refused, at an offset of the line's bytes
 abbrev pub refused_text : ℕ → Error → List ℕ
 refused_text at e = codes "refused at " ++ decimal at ++ codes ": " ++ error_name e
 
@@ -46,10 +46,10 @@ refused_text at e = codes "refused at " ++ decimal at ++ codes ": " ++ error_nam
 abbrev pub no_hex_text : List ℕ
 no_hex_text = codes "refused: hex"
 
--- a message that is spelled canonically, in so many bytes
+-- a message that is spelled canonically, of this many bytes
 abbrev pub canonical_text : ℕ → List ℕ
 canonical_text n = codes "canonical " ++ decimal n
 
--- a head that isn't canonical, at a place of the line's bytes
+-- a head that isn't canonical, at an offset of the line's bytes
 abbrev pub fault_text : ℕ → List ℕ
 fault_text at = codes "fault at " ++ decimal at

@@ -23,17 +23,18 @@ pub record IsAccepted (m : Msg) : Type 0 where
   pub nested : depth m < 1024
   pub utf8 : AllTextsUtf8 m
 
--- no such message begins there
+-- no accepted message begins there
 abbrev pub NoneBegins : List ℕ → Type 0
 NoneBegins xs = (b rest : List ℕ) (m : Msg) → xs ≡ b ++ rest → Spells b m → IsAccepted m → ⊥
 
--- a beginning of the bytes spells such messages, one after another, and this is what follows it
+-- the bytes begin with the spellings of these messages, in order, and this is what follows them
 pub record HoldsMessages (ms : List Msg) (bytes front rest : List ℕ) : Type 0 where
   pub split : bytes ≡ front ++ rest
   pub spelled : SpellsAll front (msgs ms)
   pub accepted : All IsAccepted ms
 
--- what is left begins with no message, and its refusal is printed, which names the first thing that is wrong there
+-- the remaining bytes begin with no message, and their refusal is printed, which names the first thing that is
+-- wrong there
 pub record RefusesAt (place : ℕ) (rest out : List ℕ) : Type 0 where
   pub error : Error
   pub some : 0 < length rest
@@ -42,7 +43,7 @@ pub record RefusesAt (place : ℕ) (rest out : List ℕ) : Type 0 where
   pub wrong : Refusal false (UnreadFor false) ItemsUtf8 1024 error rest
   pub shown : out ≡ line (refused_text place error)
 
--- how the messages of a line end: nothing is left, or no message begins there
+-- how the messages of a line end: nothing remains, or no message begins there
 abbrev pub EndsAs : Bool → ℕ → List ℕ → List ℕ → Type 0
 EndsAs true place rest out = (rest ≡ []) × (out ≡ [])
 EndsAs false place rest out = RefusesAt place rest out
@@ -52,7 +53,8 @@ pub record IsStart (whole out : List ℕ) : Type 0 where
   pub more : List ℕ
   pub split : whole ≡ out ++ more
 
--- What the bytes of a line print where the run ends early: a beginning of the lines of some first messages, and of the refusal behind them.
+-- What the bytes of a line print if the run ends early: a beginning of the lines of some first messages, and of
+-- the refusal after them.
 pub record StartsMessages (bytes out : List ℕ) : Type 0 where
   pub messages : List Msg
   pub front : List ℕ
@@ -62,7 +64,7 @@ pub record StartsMessages (bytes out : List ℕ) : Type 0 where
   pub ends : (last ≡ []) ⊎ RefusesAt (length front) rest last
   pub start : IsStart (flat_map (λ m. line (message_text m)) messages ++ last) out
 
--- Each message of a line prints a line, in order; a refusal prints its own behind them.
+-- Each message of a line prints a line, in order; a refusal prints its own after them.
 pub record PrintsMessages (bytes out : List ℕ) (accepted : Bool) : Type 0 where
   pub messages : List Msg
   pub front : List ℕ
@@ -72,7 +74,7 @@ pub record PrintsMessages (bytes out : List ℕ) (accepted : Bool) : Type 0 wher
   pub ends : EndsAs accepted (length front) rest last
   pub printed : out ≡ flat_map (λ m. line (message_text m)) messages ++ last
 
--- what a line prints where its bytes print such, and whether nothing in it is refused
+-- what a line prints if its bytes print this, and whether nothing in it is refused
 abbrev pub PrintsDecoded : (List ℕ → List ℕ → Bool → Type 0) → Result (List ℕ) FromHexError → List ℕ → Bool → Type 0
 PrintsDecoded shows (Ok bytes) out accepted = shows bytes out accepted
 PrintsDecoded shows (Err e) out accepted = (out ≡ line no_hex_text) × (accepted ≡ false)
@@ -80,7 +82,7 @@ PrintsDecoded shows (Err e) out accepted = (out ≡ line no_hex_text) × (accept
 unfoldable pub PrintsLine : (List ℕ → List ℕ → Bool → Type 0) → List ℕ → List ℕ → Bool → Type 0
 PrintsLine shows text out accepted = PrintsDecoded shows (decode_of (digits_in text)) out accepted
 
--- the same where the run ends early
+-- what a line prints if the run ends early
 abbrev pub StartsDecoded : (List ℕ → List ℕ → Type 0) → Result (List ℕ) FromHexError → List ℕ → Type 0
 StartsDecoded starts (Ok bytes) out = starts bytes out
 StartsDecoded starts (Err e) out = IsStart (line no_hex_text) out
@@ -88,7 +90,7 @@ StartsDecoded starts (Err e) out = IsStart (line no_hex_text) out
 unfoldable pub StartsLine : (List ℕ → List ℕ → Type 0) → List ℕ → List ℕ → Type 0
 StartsLine starts text out = (out ≡ []) ⊎ StartsDecoded starts (decode_of (digits_in text)) out
 
--- one output, and behind it another
+-- one output, and after it another
 pub record InTurn (P Q : List ℕ → Bool → Type 0) (out : List ℕ) (accepted : Bool) : Type 0 where
   pub first : List ℕ
   pub second : List ℕ
@@ -104,12 +106,13 @@ unfoldable pub PrintsAll : (List ℕ → List ℕ → Bool → Type 0) → List 
 PrintsAll shows [] out accepted = (out ≡ []) × (accepted ≡ true)
 PrintsAll shows (text ∷ texts) out accepted = InTurn (PrintsLine shows text) (PrintsAll shows texts) out accepted
 
--- what the first of some lines prints where the run ends early
+-- what the first of some lines prints if the run ends early
 abbrev pub StartsFirst : (List ℕ → List ℕ → Type 0) → List (List ℕ) → List ℕ → Type 0
 StartsFirst starts [] out = out ≡ []
 StartsFirst starts (text ∷ texts) out = StartsLine starts text out
 
--- What lines print where the run ends early: some first ones all that they come to, and the next one a beginning.
+-- What lines print if the run ends early: the first ones print all of theirs, and the next one a beginning of
+-- it.
 pub record StartsAll (shows : List ℕ → List ℕ → Bool → Type 0) (starts : List ℕ → List ℕ → Type 0) (texts : List (List ℕ)) (out : List ℕ) : Type 0 where
   pub before : List (List ℕ)
   pub behind : List (List ℕ)
@@ -121,7 +124,7 @@ pub record StartsAll (shows : List ℕ → List ℕ → Bool → Type 0) (starts
   pub next : StartsFirst starts behind second
   pub printed : out ≡ first ++ second
 
--- such bytes were put into the sink
+-- bytes that P holds of were written to the sink
 pub record Puts {W : Type 0} (g : Ghosts W) (P : List ℕ → Type 0) (old new : W) : Type 0 where
   pub out : List ℕ
   pub appended : Appends (g.told old) (g.told new) out

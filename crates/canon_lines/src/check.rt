@@ -6,14 +6,22 @@ ghost use Rattle.canon_lines.specs.Lines.{lines_in};
 ghost use Rattle.canon_lines.specs.Output.{PrintsLines, PrintsRun};
 ghost use Rattle.canon_lines.specs.Prints.{PrintsAll, StartsAll, Puts};
 
-use crate::lines::{self, Refusal, RunFault, Shows, print_line, refuse, refuse_message};
+use crate::lines::{self, Refusal, RunFault, Shows, Stop, print_line, refuse, refuse_message};
+use crate::text::Text;
 use rmp_serde::wire::{Sink, Source};
 use rmp_serde::{Canon, check_canonical};
 use std::alloc::Global;
+use std::io;
 
 // Prints which of the messages of a line's bytes are canonical, up to the first fault or refusal, and says whether there
 // was none.
-fn check_messages<W: Sink>(alloc: Global, bytes: &[u8], sink: &mut W) -> Result<bool, RunFault>
+fn check_messages<W: Sink>(
+    alloc: Global,
+    bytes: &[u8],
+    text: &mut Text,
+    sink: &mut W,
+    fault: &mut io::Error,
+) -> Result<bool, Stop>
     ensures shown { IfOk result (λ accepted. Puts W.Sink (λ out. PrintsChecks bytes.now out accepted) sink.old sink.new) }
     ensures prints { PrintsLines W.Sink sink.old sink.new result }
     ensures early { IfErr result (λ e. Puts W.Sink (StartsChecks bytes.now) sink.old sink.new) }
@@ -23,18 +31,22 @@ fn check_messages<W: Sink>(alloc: Global, bytes: &[u8], sink: &mut W) -> Result<
         let place = bytes.len() - left.len();
         match check_canonical(alloc, left) {
             Ok(Canon::Whole(len)) => {
-                print_line(sink, format!(in alloc; "canonical {len}")?)?;
+                text.print(format_args!("canonical {len}"))?;
+                print_line(sink, text, fault)?;
                 left = &left[len..];
             }
-            Ok(Canon::Fault(at)) => return refuse(alloc, sink, Refusal::Fault(place + at)),
-            Err(error) => return refuse_message(alloc, sink, place, error),
+            Ok(Canon::Fault(at)) => return refuse(alloc, sink, Refusal::Fault(place + at), fault),
+            Err(error) => return refuse_message(alloc, sink, place, error, fault),
         }
     }
     Ok(true)
 }
 
-// A line's messages, each by the length of its canonical spelling.
-struct Checks;
+// A line's messages, each by the length of its canonical spelling. The memory of a printed line is kept for the next one.
+#[derive(Drop)]
+struct Checks {
+    text: Text,
+}
 
 impl Shows for Checks {
     ghost use Rattle.canon_lines.specs.Checks.{PrintsChecks, StartsChecks};
@@ -43,8 +55,14 @@ impl Shows for Checks {
 
     ghost starts = { StartsChecks };
 
-    fn show<W: Sink>(alloc: Global, bytes: &[u8], sink: &mut W) -> Result<bool, RunFault> {
-        check_messages(alloc, bytes, sink)
+    fn show<W: Sink>(
+        &mut self,
+        alloc: Global,
+        bytes: &[u8],
+        sink: &mut W,
+        fault: &mut io::Error,
+    ) -> Result<bool, Stop> {
+        check_messages(alloc, bytes, &mut self.text, sink, fault)
     }
 }
 
@@ -75,5 +93,8 @@ pub fn check<R: Source, W: Sink>(
     ensures early { IfErr result (λ e. IfSome (R.ahead source.old)
         (λ input. Puts W.Sink (StartsAll PrintsChecks StartsChecks (lines_in input)) sink.old sink.new)) }
 {
-    lines::show_input::<Checks, R, W>(alloc, source, sink)
+    let mut shows = Checks {
+        text: Text::new(alloc),
+    };
+    lines::show_input(alloc, source, &mut shows, sink)
 }

@@ -3,9 +3,11 @@
 #![tactic(auto)]
 
 pub mod check;
+mod digits;
 pub mod laws;
 mod lines;
 pub mod run;
 pub mod task;
+mod text;
 
 pub use lines::RunFault;

@@ -1,21 +1,24 @@
 //! Lines of hex: how the input is read, and how what each line comes to is printed.
-ghost use Rattle.std.specs.Prelude.{◌≡◌, ◌≢◌, ◌<◌, ◌⊎◌, ◌++◌, ◌∷◌, ℕ, Bool, not, List, [], filter, length, false, IfOk, OnOk, IfErr, IfSome, string_bytes};
-ghost use Rattle.std.specs.Cow.{cow_slice_items};
+ghost use Rattle.std.specs.Prelude.{◌≡◌, ◌≢◌, ◌<◌, ◌⊎◌, ◌++◌, ◌∷◌, ℕ, Bool, List, [], length, false, true, IfOk, OnOk, IfErr, IfSome};
 ghost use Rattle.std.specs.Io.KnownBytes.{Appends, Consumes};
-ghost use Rattle.std.specs.Str.Lines.{strip_carriage_return};
 ghost use Rattle.canon_lines.specs.Input.{StopsReading, ReadsInput};
-ghost use Rattle.canon_lines.specs.Lines.{lines_in, lines_left, is_blank, digits_in};
+ghost use Rattle.canon_lines.specs.Lines.{lines_in, lines_left, NoEnd};
 ghost use Rattle.canon_lines.specs.Messages.{refused_text, error_name, no_hex_text};
-ghost use Rattle.canon_lines.specs.Output.{PrintsLines, PrintsRun};
+ghost use Rattle.canon_lines.specs.Output.{answer_of, PrintsLines, PrintsRun};
 ghost use Rattle.canon_lines.specs.Prints.{line, IsStart, PrintsLine, StartsLine, PrintsAll, StartsAll, Puts};
 ghost use Rattle.canon_lines.specs.Refusals.{refusal_text};
+ghost use Rattle.canon_lines.specs.Texts.{text_bytes};
 
+use crate::digits::decode_line;
+use crate::text::Text;
 use hex::FromHexError;
 use rmp_decode::Error;
 use rmp_serde::wire::{Sink, Source, ValueWriteError};
-use std::alloc::{AllocError, AllocFailed, Global};
-use std::borrow::CowSlice;
+use std::alloc::{AllocError, Global};
 use std::{fmt, io};
+
+// How many bytes of the input are looked at together for the end of a line.
+const BLOCK: usize = 16;
 
 // How many bytes of the input are pulled at a time, at most.
 const CHUNK: usize = 4096;
@@ -41,13 +44,22 @@ impl From<AllocError> for RunFault {
     }
 }
 
-impl<T: Drop> From<AllocFailed<T>> for RunFault {
-    ghost use Rattle.canon_lines.specs.declared.lines.RunFault.TheVariants.{Memory};
+/// Why printing stopped. A `RunFault` would hold the sink's error, whose bytes each call copies where it succeeds too.
+#[derive(Clone, Copy)]
+pub enum Stop {
+    /// The sink failed. Its error was put aside.
+    Output,
+    /// Memory was wanting, here or in the output.
+    Memory,
+}
 
-    ghost from_gives = { λ _ fault. fault ≡ Memory };
+impl From<AllocError> for Stop {
+    ghost use Rattle.canon_lines.specs.declared.lines.Stop.TheVariants.{Memory};
 
-    fn from(_e: AllocFailed<T>) -> RunFault {
-        RunFault::Memory
+    ghost from_gives = { λ _ stop. stop ≡ Memory };
+
+    fn from(_e: AllocError) -> Stop {
+        Stop::Memory
     }
 }
 
@@ -97,35 +109,6 @@ fn name_of(error: &Error) -> &'static str
     }
 }
 
-// A line without one carriage return at its end.
-fn without_return(line: &[u8]) -> &[u8]
-    ensures { result.now ≡ strip_carriage_return line.now }
-{
-    line.strip_suffix(b"\r").unwrap_or(line)
-}
-
-// A copy of a line without its spaces and tabs.
-fn without_blanks(alloc: Global, line: &[u8]) -> Result<Vec<u8>, AllocError>
-    ensures { IfOk result (λ v. v.items ≡ filter (λ b. not (is_blank b)) line.now) }
-{
-    line.iter()
-        .copied()
-        .filter(|byte| *byte != b' ' && *byte != b'\t')
-        .collect(alloc)
-}
-
-// The digits of a line: all but one carriage return at its end, and the spaces and tabs anywhere. They are copied only where some of
-// these stand among them.
-fn digits_of<'a>(alloc: Global, line: &'a [u8]) -> Result<CowSlice<'a, u8, Global>, AllocError>
-    ensures digits { IfOk result (λ v. cow_slice_items v ≡ digits_in line.now) }
-{
-    let line = without_return(line);
-    if line.contains(&b' ') || line.contains(&b'\t') {
-        return Ok(CowSlice::Owned(without_blanks(alloc, line)?));
-    }
-    Ok(CowSlice::Borrowed(line))
-}
-
 // Puts bytes behind others. Where these fill their memory, it grows by an eighth, so that little of it is left unused.
 fn append(input: &mut Vec<u8>, piece: &[u8]) -> Result<(), AllocError>
     ensures ok { OnOk result (input.new.items ≡ input.old.items ++ piece.now) }
@@ -155,29 +138,43 @@ fn read_to_end<R: Source>(alloc: Global, source: &mut R) -> Result<Vec<u8>, RunF
     }
 }
 
-/// Prints a text and the end of its line, as one piece.
-pub fn print_line<W: Sink>(sink: &mut W, mut text: String) -> Result<(), RunFault>
-    ensures line { OnOk result (Appends (W.told sink.old) (W.told sink.new) (line (string_bytes text))) }
+/// Prints a text and the end of its line, as one piece. Where the sink fails, `fault` is its error.
+#[inline(always)]
+pub fn print_line<W: Sink>(sink: &mut W, text: &mut Text, fault: &mut io::Error) -> Result<(), Stop>
+    ensures line { OnOk result (Appends (W.told sink.old) (W.told sink.new) (line (text_bytes text.old))) }
     ensures prints { PrintsLines W.Sink sink.old sink.new result }
-    ensures early { IfErr result (λ e. Puts W.Sink (IsStart (line (string_bytes text))) sink.old sink.new) }
+    ensures early { IfErr result (λ e. Puts W.Sink (IsStart (line (text_bytes text.old))) sink.old sink.new) }
 {
-    text.push('\n')?;
+    text.end_line()?;
     match sink.put_all(text.as_bytes()) {
         Ok(()) => Ok(()),
-        Err(ValueWriteError::InvalidMarkerWrite(e)) => Err(RunFault::Output(io::Error::from(e))),
-        Err(ValueWriteError::InvalidDataWrite(e)) => Err(RunFault::Output(io::Error::from(e))),
-        Err(ValueWriteError::OutOfMemory) => Err(RunFault::Memory),
+        Err(ValueWriteError::InvalidMarkerWrite(e)) => {
+            *fault = io::Error::from(e);
+            Err(Stop::Output)
+        }
+        Err(ValueWriteError::InvalidDataWrite(e)) => {
+            *fault = io::Error::from(e);
+            Err(Stop::Output)
+        }
+        Err(ValueWriteError::OutOfMemory) => Err(Stop::Memory),
     }
 }
 
 /// Prints a refusal.
-pub fn refuse<W: Sink>(alloc: Global, sink: &mut W, refusal: Refusal) -> Result<bool, RunFault>
+pub fn refuse<W: Sink>(
+    alloc: Global,
+    sink: &mut W,
+    refusal: Refusal,
+    fault: &mut io::Error,
+) -> Result<bool, Stop>
     ensures refused { IfOk result (λ accepted. accepted ≡ false) }
     ensures line { OnOk result (Appends (W.told sink.old) (W.told sink.new) (line (refusal_text refusal))) }
     ensures prints { PrintsLines W.Sink sink.old sink.new result }
     ensures early { IfErr result (λ e. Puts W.Sink (IsStart (line (refusal_text refusal))) sink.old sink.new) }
 {
-    print_line(sink, format!(in alloc; "{refusal}")?)?;
+    let mut text = Text::new(alloc);
+    text.print(refusal)?;
+    print_line(sink, &mut text, fault)?;
     Ok(false)
 }
 
@@ -187,7 +184,8 @@ pub fn refuse_message<W: Sink>(
     sink: &mut W,
     place: usize,
     error: Error,
-) -> Result<bool, RunFault>
+    fault: &mut io::Error,
+) -> Result<bool, Stop>
     ensures memory { OnOk result (error ≢ Error.OutOfMemory) }
     ensures refused { IfOk result (λ accepted. accepted ≡ false) }
     ensures line { OnOk result (Appends (W.told sink.old) (W.told sink.new) (line (refused_text place error))) }
@@ -196,13 +194,18 @@ pub fn refuse_message<W: Sink>(
         (λ out. (out ≡ []) ⊎ ((error ≢ Error.OutOfMemory) × IsStart (line (refused_text place error)) out)) sink.old sink.new) }
 {
     match error {
-        Error::OutOfMemory => Err(RunFault::Memory),
-        other => refuse(alloc, sink, Refusal::Message(place, other)),
+        Error::OutOfMemory => Err(Stop::Memory),
+        other => refuse(alloc, sink, Refusal::Message(place, other), fault),
     }
 }
 
 // Prints the refusal of a line that isn't hex.
-fn refuse_hex<W: Sink>(alloc: Global, sink: &mut W, error: FromHexError) -> Result<bool, RunFault>
+fn refuse_hex<W: Sink>(
+    alloc: Global,
+    sink: &mut W,
+    error: FromHexError,
+    fault: &mut io::Error,
+) -> Result<bool, Stop>
     ensures hex { OnOk result (error ≢ FromHexError.OutOfMemory) }
     ensures refused { IfOk result (λ accepted. accepted ≡ false) }
     ensures line { OnOk result (Appends (W.told sink.old) (W.told sink.new) (line no_hex_text)) }
@@ -211,8 +214,8 @@ fn refuse_hex<W: Sink>(alloc: Global, sink: &mut W, error: FromHexError) -> Resu
         (λ out. (out ≡ []) ⊎ ((error ≢ FromHexError.OutOfMemory) × IsStart (line no_hex_text) out)) sink.old sink.new) }
 {
     match error {
-        FromHexError::OutOfMemory => Err(RunFault::Memory),
-        _ => refuse(alloc, sink, Refusal::Hex),
+        FromHexError::OutOfMemory => Err(Stop::Memory),
+        _ => refuse(alloc, sink, Refusal::Hex, fault),
     }
 }
 
@@ -224,31 +227,59 @@ pub trait Shows {
     // and this, where the run ends early
     ghost starts: { List ℕ → List ℕ → Type 0 };
 
-    fn show<W: Sink>(alloc: Global, bytes: &[u8], sink: &mut W) -> Result<bool, RunFault>
+    fn show<W: Sink>(
+        &mut self,
+        alloc: Global,
+        bytes: &[u8],
+        sink: &mut W,
+        fault: &mut io::Error,
+    ) -> Result<bool, Stop>
         ensures shown { IfOk result (λ accepted. Puts W.Sink (λ out. shows bytes.now out accepted) sink.old sink.new) }
         ensures early { IfErr result (λ e. Puts W.Sink (starts bytes.now) sink.old sink.new) }
         ensures prints { PrintsLines W.Sink sink.old sink.new result };
 }
 
-// Prints what a line comes to, and says whether nothing in it was refused.
-fn show_line<S: Shows, W: Sink>(alloc: Global, line: &[u8], sink: &mut W) -> Result<bool, RunFault>
+// Prints what a line comes to, and says whether nothing in it was refused. The memory of `bytes` is used again for each line.
+fn show_line<S: Shows, W: Sink>(
+    alloc: Global,
+    line: &[u8],
+    shows: &mut S,
+    bytes: &mut Vec<u8>,
+    sink: &mut W,
+    fault: &mut io::Error,
+) -> Result<bool, Stop>
     ensures shown { IfOk result (λ accepted. Puts W.Sink (λ out. PrintsLine S.shows line.now out accepted) sink.old sink.new) }
     ensures prints { PrintsLines W.Sink sink.old sink.new result }
     ensures early { IfErr result (λ e. Puts W.Sink (StartsLine S.starts line.now) sink.old sink.new) }
 {
-    let digits = digits_of(alloc, line)?;
-    match hex::decode(alloc, digits.as_slice()) {
-        Ok(bytes) => S::show(alloc, bytes.as_slice(), sink),
-        Err(e) => refuse_hex(alloc, sink, e),
+    match decode_line(alloc, line, bytes) {
+        Ok(()) => shows.show(alloc, bytes.as_slice(), sink, fault),
+        Err(e) => refuse_hex(alloc, sink, e, fault),
     }
 }
 
+// Whether no line ends in a block. It looks at all of the block, so that many bytes are compared at once.
+#[inline(always)]
+fn has_no_end(block: &[u8]) -> bool
+    ensures none { result ≡ true → NoEnd block.now }
+{
+    let mut found = false;
+    for i in 0..block.len() {
+        found |= block[i] == b'\n';
+    }
+    !found
+}
+
 // The first line, and what stands behind its end, where it has one.
+#[inline(always)]
 fn first_line(text: &[u8]) -> (&[u8], Option<&[u8]>)
     ensures lines { lines_in text.now ≡ result.0.now ∷ lines_left result.1 }
     ensures shorter { IfSome result.1 (λ more. length more.now < length text.now) }
 {
     let mut at = 0;
+    while text.len() - at >= BLOCK && has_no_end(&text[at..at + BLOCK]) {
+        at += BLOCK;
+    }
     while at < text.len() {
         if text[at] == b'\n' {
             return (&text[..at], Some(&text[at + 1..]));
@@ -262,20 +293,34 @@ fn first_line(text: &[u8]) -> (&[u8], Option<&[u8]>)
 fn show_lines<S: Shows, W: Sink>(
     alloc: Global,
     input: &[u8],
+    shows: &mut S,
     sink: &mut W,
-) -> Result<bool, RunFault>
+    fault: &mut io::Error,
+) -> Result<bool, Stop>
     ensures shown { IfOk result (λ accepted. Puts W.Sink (λ out. PrintsAll S.shows (lines_in input.now) out accepted) sink.old sink.new) }
     ensures prints { PrintsLines W.Sink sink.old sink.new result }
     ensures early { IfErr result (λ e. Puts W.Sink (StartsAll S.shows S.starts (lines_in input.now)) sink.old sink.new) }
 {
     let mut accepted = true;
+    let mut bytes = Vec::new(alloc);
     let mut left = Some(input);
     while let Some(text) = left {
         let (line, more) = first_line(text);
-        accepted &= show_line::<S, W>(alloc, line, sink)?;
+        accepted &= show_line(alloc, line, shows, &mut bytes, sink, fault)?;
         left = more;
     }
     Ok(accepted)
+}
+
+// What a run answers, where printing stopped at this error of the sink, if it did.
+fn run_answer(answer: Result<bool, Stop>, fault: io::Error) -> Result<bool, RunFault>
+    ensures { result ≡ answer_of answer fault }
+{
+    match answer {
+        Ok(accepted) => Ok(accepted),
+        Err(Stop::Output) => Err(RunFault::Output(fault)),
+        Err(Stop::Memory) => Err(RunFault::Memory),
+    }
 }
 
 /// Prints what each line of the input comes to, and says whether nothing was refused.
@@ -286,6 +331,7 @@ fn show_lines<S: Shows, W: Sink>(
 pub fn show_input<S: Shows, R: Source, W: Sink>(
     alloc: Global,
     source: &mut R,
+    shows: &mut S,
     sink: &mut W,
 ) -> Result<bool, RunFault>
     ensures shown { IfOk result (λ accepted. IfSome (R.ahead source.old)
@@ -295,5 +341,7 @@ pub fn show_input<S: Shows, R: Source, W: Sink>(
     ensures early { IfErr result (λ e. IfSome (R.ahead source.old) (λ input. Puts W.Sink (StartsAll S.shows S.starts (lines_in input)) sink.old sink.new)) }
 {
     let input = read_to_end(alloc, source)?;
-    show_lines::<S, W>(alloc, input.as_slice(), sink)
+    let mut fault = io::Error::from(io::ErrorKind::Other);
+    let answer = show_lines(alloc, input.as_slice(), shows, sink, &mut fault);
+    run_answer(answer, fault)
 }

@@ -1,54 +1,53 @@
 //! The engine: lines of hex in, lines of text out.
-ghost use Rattle.std.specs.Prelude.{◌≡◌, ◌++◌, IfOk, IfErr, IfSome, OnOk, string_bytes};
-ghost use Rattle.hex.specs.Hex.{encode_lower};
+ghost use Rattle.std.specs.Prelude.{◌≡◌, IfOk, IfErr, IfSome, OnOk};
 ghost use Rattle.canon_lines.specs.Input.{ReadsInput};
 ghost use Rattle.canon_lines.specs.Lines.{lines_in};
 ghost use Rattle.canon_lines.specs.Messages.{message_text};
 ghost use Rattle.canon_lines.specs.Output.{PrintsLines, PrintsRun};
 ghost use Rattle.canon_lines.specs.Prints.{PrintsMessages, StartsMessages, PrintsAll, StartsAll, Puts};
+ghost use Rattle.canon_lines.specs.Texts.{text_bytes};
 
-use crate::lines::{self, RunFault, Shows, print_line, refuse_message};
+use crate::lines::{self, RunFault, Shows, Stop, print_line, refuse_message};
+use crate::text::Text;
 use rmp_decode::Deserializer;
+use rmp_serde::Value;
+use rmp_serde::encode::write;
 use rmp_serde::wire::{Sink, Source};
-use rmp_serde::{Value, to_vec};
 use std::alloc::{AllocError, Global};
+use std::io;
 
-// A text has room for so many bytes from the start, so that short ones aren't moved.
-const SHORT_TEXT: usize = 128;
-
-// A message's tree and its canonical spelling in hex.
-fn text_of(alloc: Global, value: &Value) -> Result<String, RunFault>
-    ensures text { IfOk result (λ text. string_bytes text ≡ message_text value.now) }
-    ensures memory { IfErr result (λ fault. fault ≡ RunFault.Memory) }
-{
-    let mut text = String::with_capacity(alloc, SHORT_TEXT)?;
-    write!(text, "{value:?} ")?;
-    // What has been read nests within the writer's limit, so that only memory can be wanting.
-    let Ok(canonical) = to_vec(alloc, value) else {
-        return Err(RunFault::Memory);
-    };
-    write_hex(alloc, &mut text, canonical.as_slice())?;
-    Ok(text)
+// The memory of a message's line, which is kept for the next one.
+#[derive(Drop)]
+struct Messages {
+    text: Text,
+    // its canonical spelling
+    canonical: Vec<u8>,
 }
 
-// Appends bytes in hex, in lower case.
-fn write_hex(alloc: Global, text: &mut String, bytes: &[u8]) -> Result<(), AllocError>
-    ensures { OnOk result (string_bytes text.new ≡ string_bytes text.old ++ encode_lower bytes.now) }
-{
-    let digits = hex::encode(alloc, bytes)?;
-    text.push_str(digits.as_str())
-}
-
-// The same of a message that isn't needed any more.
-fn text_of_owned(alloc: Global, value: Value) -> Result<String, RunFault>
-    ensures text { IfOk result (λ text. string_bytes text ≡ message_text value) }
-    ensures memory { IfErr result (λ fault. fault ≡ RunFault.Memory) }
-{
-    text_of(alloc, &value)
+impl Messages {
+    // A message's tree and its canonical spelling in hex.
+    fn tell(&mut self, alloc: Global, value: &Value) -> Result<(), AllocError>
+        ensures text { OnOk result (text_bytes self.new.text ≡ message_text value.now) }
+    {
+        self.text.print(format_args!("{value:?}"))?;
+        self.canonical.clear();
+        // What has been read nests within the writer's limit, so that only memory can be wanting.
+        let Ok(()) = write(alloc, &mut self.canonical, value) else {
+            return Err(AllocError);
+        };
+        self.text.push_hex(self.canonical.as_slice())?;
+        Ok(())
+    }
 }
 
 // Prints the messages of a line's bytes, up to the first refusal, and says whether there was none.
-fn run_messages<W: Sink>(alloc: Global, bytes: &[u8], sink: &mut W) -> Result<bool, RunFault>
+fn run_messages<W: Sink>(
+    alloc: Global,
+    bytes: &[u8],
+    kept: &mut Messages,
+    sink: &mut W,
+    fault: &mut io::Error,
+) -> Result<bool, Stop>
     ensures shown { IfOk result (λ accepted. Puts W.Sink (λ out. PrintsMessages bytes.now out accepted) sink.old sink.new) }
     ensures prints { PrintsLines W.Sink sink.old sink.new result }
     ensures early { IfErr result (λ e. Puts W.Sink (StartsMessages bytes.now) sink.old sink.new) }
@@ -57,16 +56,17 @@ fn run_messages<W: Sink>(alloc: Global, bytes: &[u8], sink: &mut W) -> Result<bo
     while !de.remaining_slice().is_empty() {
         let place = bytes.len() - de.remaining_slice().len();
         match Value::read(&mut de) {
-            Ok(value) => print_line(sink, text_of_owned(alloc, value)?)?,
-            Err(error) => return refuse_message(alloc, sink, place, error),
+            Ok(value) => {
+                kept.tell(alloc, &value)?;
+                print_line(sink, &mut kept.text, fault)?;
+            }
+            Err(error) => return refuse_message(alloc, sink, place, error, fault),
         }
     }
     Ok(true)
 }
 
 // A line's messages, each as its tree and its canonical spelling.
-struct Messages;
-
 impl Shows for Messages {
     ghost use Rattle.canon_lines.specs.Prints.{PrintsMessages, StartsMessages};
 
@@ -74,8 +74,14 @@ impl Shows for Messages {
 
     ghost starts = { StartsMessages };
 
-    fn show<W: Sink>(alloc: Global, bytes: &[u8], sink: &mut W) -> Result<bool, RunFault> {
-        run_messages(alloc, bytes, sink)
+    fn show<W: Sink>(
+        &mut self,
+        alloc: Global,
+        bytes: &[u8],
+        sink: &mut W,
+        fault: &mut io::Error,
+    ) -> Result<bool, Stop> {
+        run_messages(alloc, bytes, self, sink, fault)
     }
 }
 
@@ -108,5 +114,9 @@ pub fn run<R: Source, W: Sink>(
     ensures early { IfErr result (λ e. IfSome (R.ahead source.old)
         (λ input. Puts W.Sink (StartsAll PrintsMessages StartsMessages (lines_in input)) sink.old sink.new)) }
 {
-    lines::show_input::<Messages, R, W>(alloc, source, sink)
+    let mut shows = Messages {
+        text: Text::new(alloc),
+        canonical: Vec::new(alloc),
+    };
+    lines::show_input(alloc, source, &mut shows, sink)
 }

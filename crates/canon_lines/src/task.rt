@@ -12,11 +12,11 @@ pub const FAULT: u8 = 2;
 pub enum Task {
     Run,
     Check,
-    /// They are none that are known.
+    /// They aren't known.
     Usage,
 }
 
-/// What the arguments ask for, of which the first is the program's name.
+/// Returns what the arguments ask for. The first is the program's name.
 pub fn task_of(arguments: &[String]) -> Task
     ensures run { (result ≡ Task.Run) ↔ (length arguments.now < 2) }
     ensures check { (result ≡ Task.Check) ↔ ((name : List ℕ) × (map (λ a. string_bytes a) arguments.now ≡ name ∷ codes "--check" ∷ [])) }
@@ -28,7 +28,7 @@ pub fn task_of(arguments: &[String]) -> Task
     }
 }
 
-/// The exit status: 0 where nothing was refused, 1 where something was, and 2 where the run ended early.
+/// Returns the exit status: 0 if nothing was refused, 1 if something was, and 2 if the run ended early.
 pub fn status_of(answer: &Result<bool, RunFault>) -> u8
     ensures { result ≡ status_in answer.now }
 {

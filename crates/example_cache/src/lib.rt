@@ -1,4 +1,4 @@
-//! A cache of answers to questions of any type, each kept under the canonical spelling of its question.
+//! A cache of answers to questions of any type, each under the canonical encoding of its question.
 #![tactic(auto)]
 
 mod cache;

@@ -1,4 +1,4 @@
--- Frames stand apart: where two begin the same bytes, they hold the same.
+-- Frames are distinct: two that begin the same bytes have the same content.
 use Rattle.std.specs.Prelude.{[], ◌++◌, ◌<◌, ◌^◌, length, take, drop}
 use Rattle.rmp_decode.specs.State.{limit_at}
 use Rattle.std.proofs.Common.{◌≡◌, ◌≢◌, ◌∙◌, ◌-◌, max, ℕ, List, Option, Some, refl, sym, ap, subst, arith, append_assoc}

@@ -11,30 +11,30 @@ use Rattle.example_frames.specs.declared.frames.Refusal.TheVariants.{Cut, TooLon
 use Rattle.example_frames.specs.declared.request.Request.{Request}
 use Rattle.example_frames.specs.declared.request.Request.TheVariants.{Ping, Get, Put}
 
--- The message that a request is.
+-- The message of a request.
 abbrev pub message_of : Request → Msg
 message_of Ping = text (codes "Ping")
 message_of (Get n) = map (pair (text (codes "Get")) (whole (pos n)) no_pairs)
 message_of (Put n v) = map (pair (text (codes "Put")) (list (item (whole (pos n)) (item v no_items))) no_pairs)
 
--- these bytes are a length, in four bytes of which the highest is first, and then the rest
+-- these bytes are a length, in four big-endian bytes, and then the rest
 abbrev pub SaysLength : ℕ → List ℕ → List ℕ → Type 0
 SaysLength n rest bytes = (n < 2 ^ 32) × (bytes ≡ to_be_bytes w32 n ++ rest)
 
--- the frame of a request: how long its message's canonical spelling is, and the spelling
+-- the frame of a request: the length of its message's canonical spelling, and the spelling
 pub record IsFrame (r : Request) (frame : List ℕ) : Type 0 where
   pub fits : Fits (message_of r)
   pub texts : AllTextsUtf8 (message_of r)
   pub is : SaysLength (length (canon (message_of r))) (canon (message_of r)) frame
 
--- a frame stands first that is no longer than the limit, P holds of what is in it, and this is left
+-- the bytes begin with a frame that is no longer than the limit, P holds of its content, and `rest` follows
 pub record Framed (limit : ℕ) (P : List ℕ → Type 0) (rest bytes : List ℕ) : Type 0 where
   pub body : List ℕ
   pub is : SaysLength (length body) (body ++ rest) bytes
   pub within : length body ≤ limit
   pub holds : P body
 
--- these bytes spell a message, which nests below 16, is read so, and leaves these
+-- these bytes spell a message that nests below 16, P holds of it, and `more` follows
 pub record Asks (P : Msg → Type 0) (more body : List ℕ) : Type 0 where
   pub bytes : List ℕ
   pub tree : Msg
@@ -43,7 +43,7 @@ pub record Asks (P : Msg → Type 0) (more body : List ℕ) : Type 0 where
   pub fits : depth tree < 16
   pub holds : P tree
 
--- a request was taken with its frame, which held nothing else
+-- a request was consumed with its frame, which contained nothing else
 abbrev pub Taken : {V : Type 0} → (Msg → V → Type 0) → ℕ → V → List ℕ → List ℕ → Type 0
 Taken reads limit r rest bytes = Framed limit (Asks (λ m. reads m r) []) rest bytes
 
@@ -51,20 +51,20 @@ Taken reads limit r rest bytes = Framed limit (Asks (λ m. reads m r) []) rest b
 abbrev pub IsCut : ℕ → List ℕ → Type 0
 IsCut limit bytes = (length bytes < 4) ⊎ ((n : ℕ) × (rest : List ℕ) × SaysLength n rest bytes × (n ≤ limit) × (length rest < n))
 
--- why no frame within the limit stands first
+-- why the bytes begin with no frame within the limit
 abbrev pub StopsFor : ℕ → List ℕ → Refusal → Type 0
 StopsFor limit bytes Cut = IsCut limit bytes
 StopsFor limit bytes (TooLong n) = (rest : List ℕ) × SaysLength n rest bytes × (limit < n)
 StopsFor limit bytes (NotRequest e) = ⊥
 StopsFor limit bytes Longer = ⊥
 
--- why what is in a frame is no request
+-- why the content of a frame isn't a request
 abbrev pub WrongFor : {V : Type 0} → (Msg → V → Type 0) → List ℕ → Refusal → Type 0
 WrongFor reads body Cut = ⊥
 WrongFor reads body (TooLong n) = ⊥
 WrongFor reads body (NotRequest e) = e ≢ OutOfMemory → Begins Spells (Readable reads) 16 body → ⊥
 WrongFor reads body Longer = (more : List ℕ) × (more ≢ []) × Asks (Readable reads) more body
 
--- Why the bytes are refused: of a frame that isn't within the limit nothing is looked at.
+-- Why the bytes are refused: the content of a frame past the limit isn't looked at.
 abbrev pub RefusedFor : {V : Type 0} → (Msg → V → Type 0) → ℕ → List ℕ → Refusal → Type 0
 RefusedFor reads limit bytes e = StopsFor limit bytes e ⊎ ((rest : List ℕ) × Framed limit (λ body. WrongFor reads body e) rest bytes)

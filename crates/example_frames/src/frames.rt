@@ -17,30 +17,30 @@ use rmp_wire::ReadRefReader;
 use rmp_wire::read::number_32;
 use std::alloc::Global;
 
-/// How deep a request may nest: below this.
+/// The depth limit of a request: it must nest below this.
 const MAX_DEPTH: usize = 16;
 
 /// Why a peer's bytes are refused.
 #[derive(Debug, Drop, thiserror::Error)]
 pub enum Refusal {
-    /// They end before the frame does: more may come.
+    /// They end before the frame does: more may follow.
     #[error("the frame is cut")]
     Cut,
-    /// The frame is to be so long, past the limit. What is in it wasn't looked at.
+    /// The frame's length is this, past the limit. Its content wasn't looked at.
     #[error("a frame of {0} bytes is too long")]
     TooLong(u32),
-    /// What is in the frame isn't a request, or memory was short.
+    /// The frame's content isn't a request, or memory ran out.
     #[error("not a request: {0}")]
     NotRequest(Error),
-    /// Something stands behind the request in its frame.
+    /// More bytes follow the request in its frame.
     #[error("the frame is longer than its request")]
     Longer,
 }
 
-/// The frame of a request.
+/// Returns the frame of a request.
 ///
 /// # Errors
-/// Those of `to_vec`, and `InvalidDataModel` where the request's length is past 32 bits.
+/// Those of `to_vec`, and `InvalidDataModel` for a request of 2 ^ 32 bytes or more.
 pub fn write_request(alloc: Global, request: &Request) -> Result<Vec<u8>, encode::Error>
     ensures { IfOk result (λ frame. IsFrame request.now frame.items) }
 {
@@ -55,7 +55,7 @@ pub fn write_request(alloc: Global, request: &Request) -> Result<Vec<u8>, encode
     Ok(frame)
 }
 
-/// Reads the request in the first frame, and answers it with what stands behind the frame.
+/// Reads the request in the first frame, and returns it with the bytes after the frame.
 ///
 /// # Errors
 /// Each `Refusal`, for the reason that it names.
@@ -64,14 +64,14 @@ pub fn next_request<'de>(
     bytes: &'de [u8],
     limit: u32,
 ) -> Result<(Request, &'de [u8]), Refusal>
-    // A frame within the limit was taken, and all that is in it is the request.
+    // A frame within the limit was consumed, and the request is all of its content.
     ensures taken { IfOk result (λ r. Taken (⟦<Request as Deserialize<'de, ReadRefReader<'de>>>⟧.reads false true) limit r.0 r.1.now bytes.now) }
-    // Where a peer wrote the frame, it is the peer's request, and what followed the frame is left.
+    // If a peer wrote the frame, it is the peer's request, and the bytes after the frame remain.
     ensures back { IfOk result (λ r. (asked : Request) (frame rest : List ℕ) → IsFrame asked frame → bytes.now ≡ frame ++ rest
         → (r.0 ≡ asked) × (r.1.now ≡ rest)) }
     // Each refusal has its reason,
     ensures refused { IfErr result (RefusedFor (⟦<Request as Deserialize<'de, ReadRefReader<'de>>>⟧.reads false true) limit bytes.now) }
-    // and what a peer wrote within the limits is refused only for want of memory.
+    // and what a peer wrote within the limits is refused only out of memory.
     ensures whole { IfErr result (λ e. e ≢ refusal.NotRequest OutOfMemory → (asked : Request) (frame rest : List ℕ) → IsFrame asked frame
         → bytes.now ≡ frame ++ rest → length frame ≤ 4 + limit → depth (message_of asked) < 16 → ⊥) }
 {
@@ -99,7 +99,7 @@ fn read_as<'de>()
     ensures one { (r s : Request) → ⟦<Request as Deserialize<'de, ReadRefReader<'de>>>⟧.reads false true (message_of r) s → s ≡ r }
 {}
 
-// Takes the first frame apart into what is in it and what stands behind it.
+// Splits the bytes into the content of the first frame and the bytes after the frame.
 fn next_frame<'de>(bytes: &'de [u8], limit: u32) -> Result<(&'de [u8], &'de [u8]), Refusal>
     ensures ok { IfOk result (λ r. SaysLength (length r.0.now) (r.0.now ++ r.1.now) bytes.now × (length r.0.now ≤ limit)) }
     ensures err { IfErr result (StopsFor limit bytes.now) }

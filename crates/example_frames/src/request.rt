@@ -3,13 +3,13 @@ mod derived;
 
 use rmp_serde::Value;
 
-/// What a peer asks for.
+/// A request of a peer.
 #[derive(Drop)]
 pub enum Request {
-    /// Whether anyone is there.
+    /// A check that the server responds.
     Ping,
-    /// What is kept under a number.
+    /// What is stored under a number.
     Get(u64),
-    /// That a value is kept under a number.
+    /// A value, to be stored under a number.
     Put(u64, Value),
 }

@@ -1,4 +1,4 @@
--- Records written one behind the other.
+-- Records, one after another.
 use Rattle.std.specs.Prelude.{◌++◌, false, ◌<◌, ◌≢◌, All}
 use Rattle.std.proofs.Common.{◌≡◌, ℕ, zero, suc, List, [], ◌∷◌, Option, None, Some, length, refl, sym, subst, ◌∙◌, ap, arith, ◌+◌}
 use Rattle.std.proofs.lemmas.List.{append_assoc, append-nil, length-append, nil_from_length}

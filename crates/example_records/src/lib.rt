@@ -1,6 +1,6 @@
-//! A file of records, one written behind the other, that is read again after its last record was cut.
+//! A log file of records, one after another, that is read again after its last record was cut.
 #![tactic(auto)]
 
 mod records;
 
-pub use records::{Records, next_record, replay};
+pub use records::{Records, Tail, next_record, replay, tail_of};

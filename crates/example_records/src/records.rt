@@ -1,22 +1,26 @@
 //! The records.
-ghost use Rattle.std.specs.Prelude.{◌≡◌, ◌≢◌, ◌<◌, ◌++◌, List, ℕ, [], ◌∷◌, OnErr, OnOk, IfOk, IfErr, All, length};
+ghost use Rattle.std.specs.Prelude.{◌≡◌, ◌≢◌, ◌↔◌, ◌<◌, ◌++◌, List, ℕ, [], ◌∷◌, OnErr, OnOk, IfOk, IfErr, All, Some, length};
 ghost use Rattle.example_records.specs.Held.{held, written, IsRecord, IsCut, is_memory};
 ghost use Rattle.rmp_wire.specs.Msg.{Msg, depth};
 ghost use Rattle.rmp_wire.specs.Spelling.{Fits};
+ghost use Rattle.rmp_encode.specs.Calls.{default_settings, ToVecFails};
+ghost use Rattle.rmp_encode.specs.Trees.{tree_of};
+ghost use Rattle.rmp_scan.specs.Scans.{IsBeginning};
 ghost use Rattle.rmp_serde.specs.Read.{AllTextsUtf8};
+ghost use Rattle.rmp_serde.specs.ValueData.{value_data};
 
 use rmp_serde::decode::Error;
-use rmp_serde::{Deserializer, Value, encode, laws, to_vec};
+use rmp_serde::{Deserializer, Value, encode, laws, message_len, to_vec};
 use std::alloc::Global;
 
-/// What a file of records holds.
+/// The content of a log file.
 #[derive(Drop)]
 pub struct Records {
     bytes: Vec<u8>,
 }
 
 impl Records {
-    /// No record.
+    /// Makes an empty log.
     pub fn new(alloc: Global) -> Records
         ensures { held result ≡ [] }
     {
@@ -25,21 +29,22 @@ impl Records {
         }
     }
 
-    /// The bytes for the file.
+    /// Returns the bytes for the file.
     pub fn as_slice(&self) -> &[u8]
         ensures { result.now ≡ held self.now }
     {
         self.bytes.as_slice()
     }
 
-    /// Writes a record behind the others.
+    /// Appends a record.
     ///
     /// # Errors
-    /// Those of `to_vec`, and `OutOfMemory` where there is no room. Nothing is added then.
+    /// Those of `to_vec`, and `OutOfMemory` if the log can't grow. Then nothing is appended.
     pub fn append(&mut self, alloc: Global, entry: &Value) -> Result<(), encode::Error>
-        // Its canonical spelling stands behind what was there.
+        // Its canonical encoding follows what was there.
         ensures added { OnOk result ((ms : List Msg) → held self.old ≡ written ms → held self.new ≡ written (ms ++ entry.now ∷ [])) }
         ensures kept { OnErr result (held self.new ≡ held self.old) }
+        ensures err { IfErr result (ToVecFails (tree_of default_settings (Some (value_data entry.now)))) }
     {
         let bytes = to_vec(alloc, entry)?;
         laws::value_is_its_tree();
@@ -50,15 +55,16 @@ impl Records {
     }
 }
 
-/// Reads the first record of a log, and answers it with what stands behind it.
+/// Reads the first record of a log, and returns it with the bytes after it.
 ///
 /// # Errors
-/// Any error but `OutOfMemory` says that no whole record stands first.
+/// Each error except `OutOfMemory` says that the log begins with no whole record.
 pub fn next_record<'de>(alloc: Global, log: &'de [u8]) -> Result<(Value, &'de [u8]), Error>
-    // What was appended first comes back, and what was appended after it is left, with what is there of a cut record.
+    // What was appended first comes back. What was appended after it remains, with what is there of a cut
+    // record.
     ensures back { IfOk result (λ r. (m : Msg) (ms : List Msg) (cut : List ℕ) → Fits m → log.now ≡ written (m ∷ ms) ++ cut
         → (r.0 ≡ m) × (r.1.now ≡ written ms ++ cut)) }
-    // A whole record that nests below the limit, whose texts are UTF-8, isn't refused.
+    // A whole record that nests below the limit, and whose texts are UTF-8, isn't refused.
     ensures whole { IfErr result (λ e. e ≢ Error.OutOfMemory → (m : Msg) (ms : List Msg) (cut : List ℕ) → Fits m → AllTextsUtf8 m
         → depth m < 1024 → log.now ≡ written (m ∷ ms) ++ cut → ⊥) }
     // What is there of a cut record is no record.
@@ -72,13 +78,13 @@ pub fn next_record<'de>(alloc: Global, log: &'de [u8]) -> Result<(Value, &'de [u
     }
 }
 
-/// Reads the whole records of a log, and answers them with what stands behind the last of them: nothing, or what is there of a
-/// record that was cut.
+/// Reads the whole records of a log, and returns them with the bytes after the last: none, or what is there of
+/// a cut record.
 ///
 /// # Errors
-/// `OutOfMemory` alone.
+/// Only `OutOfMemory`.
 pub fn replay<'de>(alloc: Global, log: &'de [u8]) -> Result<(Vec<Value>, &'de [u8]), Error>
-    // What was appended whole comes back, in order, and what is there of a cut record is left.
+    // What was appended whole comes back, in order, and what is there of a cut record remains.
     ensures back { IfOk result (λ r. (ms : List Msg) (cut : List ℕ) → All IsRecord ms → IsCut cut → log.now ≡ written ms ++ cut
         → (r.0.items ≡ ms) × (r.1.now ≡ cut)) }
     ensures memory { IfErr result (λ e. e ≡ Error.OutOfMemory) }
@@ -101,7 +107,33 @@ pub fn replay<'de>(alloc: Global, log: &'de [u8]) -> Result<(Vec<Value>, &'de [u
     }
 }
 
-// Whether memory was short.
+/// What follows the last whole record of a log.
+#[derive(Clone, Copy, Debug, PartialEq)]
+pub enum Tail {
+    /// Nothing.
+    Clean,
+    /// The beginning of a record, whose end is missing.
+    Cut,
+    /// Bytes that begin no record, or a whole message that is no record.
+    Broken,
+}
+
+/// Tells a record that was cut from one that is broken, by what `replay` leaves.
+pub fn tail_of(rest: &[u8]) -> Tail
+    ensures clean { (result ≡ Tail.Clean) ↔ (rest.now ≡ []) }
+    ensures cut { (result ≡ Tail.Cut) ↔ ((rest.now ≢ []) × IsBeginning rest.now) }
+{
+    if rest.is_empty() {
+        return Tail::Clean;
+    }
+    match message_len(rest) {
+        Ok(None) => Tail::Cut,
+        Ok(Some(_)) => Tail::Broken,
+        Err(_) => Tail::Broken,
+    }
+}
+
+// Whether the error is `OutOfMemory`.
 fn is_memory(error: &Error) -> bool
     ensures { result ≡ is_memory error.now }
 {

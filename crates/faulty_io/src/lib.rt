@@ -1,4 +1,4 @@
-//! A source and a sink for tests: they move a byte a call, and fail once they were called so many times.
+//! A source and a sink for tests: each call moves one byte, and calls fail from a given count on.
 #![tactic(auto)]
 
 mod sink;

@@ -7,19 +7,19 @@ use rmp_wire::{Sink, SinkFault};
 use std::alloc::Global;
 use std::io::{self, ErrorKind};
 
-/// Takes one byte a put, and fails once it has taken so many.
+/// Takes one byte a put, and fails after `until_fault` bytes.
 #[derive(Drop)]
 pub struct Trickle {
-    /// What was taken.
+    /// The bytes taken so far.
     pub bytes: Vec<u8>,
-    /// How many bytes are taken before the first fault.
+    /// How many more bytes are taken before the first fault.
     pub until_fault: usize,
-    /// How many faults there were.
+    /// The number of faults so far.
     pub faults: u64,
 }
 
 impl Trickle {
-    /// A sink that has taken nothing, and fails after so many bytes.
+    /// Makes an empty sink that fails after `until_fault` bytes.
     pub fn new(alloc: Global, until_fault: usize) -> Trickle
         ensures bytes { result.bytes.items ≡ [] }
         ensures until_fault { result.until_fault ≡ until_fault }
@@ -43,8 +43,8 @@ impl Sink for Trickle {
     ghost faults = { λ s. s.faults };
 
     /// # Errors
-    /// `Io` of the kind `BrokenPipe` for a piece that isn't empty, once so many bytes were taken, and `Memory` where memory
-    /// was refused for the byte.
+    /// `Io` of the kind `BrokenPipe` if `until_fault` is 0 and the piece isn't empty. `Memory` if the byte
+    /// couldn't be allocated.
     fn put(&mut self, piece: &[u8]) -> Result<usize, SinkFault>
         ensures count { IfOk result (λ n. n ≤ length piece.now) }
         ensures bytes { WriteAppends (Some self.old.bytes.items) (Some self.new.bytes.items) result piece.now }

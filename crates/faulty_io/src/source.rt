@@ -1,23 +1,25 @@
 //! A source that drips and fails.
-ghost use Rattle.std.specs.Prelude.{◌≡◌, ◌≢◌, ◌↔◌, ◌-◌, ◌<◌, ◌≤◌, Some, IfOk, IsErr, OnErr, OnOk, length, take};
+ghost use Rattle.std.specs.Prelude.{◌≡◌, ◌↔◌, ◌-◌, ◌<◌, ◌≤◌, Some, IfOk, IsErr, OnErr, OnOk, length, take};
 ghost use Rattle.std.specs.Io.KnownBytes.{Consumes, IsAtEnd, Keeps};
+ghost use Rattle.rmp_wire.specs.Sinks.{next_fault};
 
 use rmp_wire::Source;
 use std::io::{self, ErrorKind};
 
-/// Gives one byte a pull, and fails once it was pulled so many times.
+/// Returns one byte a pull, and fails after `until_fault` pulls.
 #[derive(Drop)]
 pub struct Drip<'a> {
-    /// What is ahead.
+    /// The remaining bytes.
     pub rest: &'a [u8],
-    /// How many pulls are answered before the first fault.
+    /// How many more pulls succeed before the first fault.
     pub until_fault: usize,
-    /// How many faults there were.
+    /// The number of faults so far.
     pub faults: u64,
 }
 
 impl<'a> Drip<'a> {
-    /// A source of these bytes that fails after so many pulls; the one that finds the end counts too.
+    /// Makes a source of these bytes that fails after `until_fault` pulls. A pull at the end of the bytes
+    /// counts too.
     pub fn new(rest: &'a [u8], until_fault: usize) -> Drip<'a>
         ensures rest { result.rest.now ≡ rest.now }
         ensures until_fault { result.until_fault ≡ until_fault }
@@ -37,14 +39,14 @@ impl<'a> Source for Drip<'a> {
     ghost faults = { λ s. s.faults };
 
     /// # Errors
-    /// `TimedOut` once it was pulled so many times; nothing is taken then.
+    /// `TimedOut` if `until_fault` is 0. Then nothing is consumed.
     fn pull(&mut self, buf: &mut [u8]) -> Result<usize, io::Error>
         ensures bound { IfOk result (λ n. n ≤ length buf.new) }
         ensures bytes { IfOk result (λ n. Consumes (Some self.old.rest.now) (Some self.new.rest.now) (take n buf.new)) }
         ensures end { IfOk result (λ n. n ≡ 0 → 0 < length buf.new → IsAtEnd (Some self.old.rest.now)) }
         ensures sound { OnOk result (self.new.faults ≡ self.old.faults) }
         ensures kept { OnErr result (Keeps (Some self.old.rest.now) (Some self.new.rest.now)) }
-        ensures fault { OnErr result (self.new.faults ≢ self.old.faults) }
+        ensures fault { OnErr result (self.new.faults ≡ next_fault self.old.faults) }
         ensures drips { IfOk result (λ n. n ≤ 1) }
         ensures fails { IsErr result ↔ (self.old.until_fault ≡ 0) }
         ensures counts { self.new.until_fault ≡ self.old.until_fault - 1 }

@@ -1,3 +1,4 @@
 pub mod Items
+pub mod Pieces
 pub mod Respelled
 pub mod Statuses

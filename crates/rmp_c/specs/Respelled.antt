@@ -1,4 +1,4 @@
--- What another spelling of the same message is.
+-- The canonical spelling of a message that is spelled in any widths.
 use Rattle.std.specs.Prelude.{◌≡◌, ◌≢◌, ℕ, List, [], ◌++◌, length, take}
 use Rattle.rmp_wire.specs.Msg.{Msg}
 use Rattle.rmp_wire.specs.Spelling.{canon, Spells}
@@ -11,7 +11,7 @@ pub record Respelled (bytes spelled : List ℕ) : Type 0 where
   pub spells : Spells bytes tree
   pub is : spelled ≡ canon tree
 
--- the canonical spelling stands at the front, and is so long
+-- the first `len` bytes are the canonical spelling
 abbrev pub WritesInto : List ℕ → ℕ → List ℕ → Type 0
 WritesInto bytes len out = Respelled bytes (take len out) × (length (take len out) ≡ len)
 

@@ -1,4 +1,4 @@
--- The numbers that errors are.
+-- The numbers of errors.
 use Rattle.std.specs.Prelude.{ℕ}
 use Rattle.rmp_decode.specs.declared.error.Error.{Error}
 use Rattle.rmp_decode.specs.declared.error.Error.TheVariants.{InvalidMarkerRead, InvalidDataRead, TypeMismatch, Utf8Error, DepthLimitExceeded}

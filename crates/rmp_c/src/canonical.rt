@@ -1,4 +1,4 @@
-//! The canonical spelling of a message.
+//! The canonical encoding of a message.
 ghost use Rattle.std.specs.Prelude.{◌≡◌, ◌≢◌, ◌<◌, ℕ, List, IfOk, IfErr, length};
 ghost use Rattle.rmp_c.specs.Respelled.{Respelled, WritesInto, HasMore, NoValue};
 
@@ -6,23 +6,24 @@ use crate::check::status_of;
 use rmp_serde::{Deserializer, Value, laws, to_vec};
 use std::alloc::Global;
 
-/// Writes the canonical spelling of the message that the bytes are, in whatever widths, to the front of `out`, and says in `len` how
-/// long it is. It is never longer than the bytes.
+/// Writes the canonical encoding of a message to the front of `out`, and sets `len` to its length. The message
+/// may be encoded in any widths. Its canonical encoding is never longer.
 ///
-/// The status is 1 where the bytes end before a message that is wanted, 2 where they end inside of a head or of content, 3 at the
-/// byte c1, 5 at a text that isn't UTF-8, 6 where lists and maps nest to 1024, 7 where something stands behind the message, 8 where
-/// `out` is too short (`len` says how long it has to be), and 9 where memory is short.
+/// The status is 1 if the bytes end before a message, 2 if they end inside of a head or its content, and 3 at
+/// the byte c1. It is 5 at a text that isn't UTF-8, 6 if lists and maps nest to 1024, and 7 if more bytes
+/// follow the message. It is 8 if `out` is too short; then `len` is the length that it needs. It is 9 out of
+/// memory.
 #[unsafe(no_mangle)]
 pub extern "C" fn rmp_canonical(alloc: Global, bytes: &[u8], out: &mut [u8], len: &mut usize) -> u32
     ensures written { result ≡ 0 → WritesInto bytes.now len.new out.new }
-    // Otherwise it says how long the spelling is, past the room,
+    // Otherwise `len` is the length of the encoding, which `out` has no room for,
     ensures short { result ≡ 8 → (length out.new < len.new) × ((spelled : List ℕ) × Respelled bytes.now spelled × (len.new ≡ length spelled)) }
-    // or what stands behind the message makes the bytes no message,
+    // or the bytes after the message make the bytes no message,
     ensures longer { result ≡ 7 → HasMore bytes.now }
-    // or memory was short, or no message that nests below 1024 and whose texts are UTF-8 begins the bytes.
+    // or memory ran out, or the bytes begin with no message that nests below 1024 and whose texts are UTF-8.
     ensures refused { result ≢ 0 → result ≢ 7 → result ≢ 8 → result ≢ 9 → NoValue bytes.now }
     ensures room { length out.new ≡ length out.old }
-    // What isn't told stays as it was.
+    // What isn't set doesn't change.
     ensures kept { result ≢ 0 → out.new ≡ out.old }
     ensures len_kept { result ≢ 0 → result ≢ 8 → len.new ≡ len.old }
 {
@@ -40,7 +41,7 @@ pub extern "C" fn rmp_canonical(alloc: Global, bytes: &[u8], out: &mut [u8], len
     }
 }
 
-// The canonical spelling, or the status that says why there is none.
+// The canonical encoding, or the status that says why there is none.
 fn spelled_again(alloc: Global, bytes: &[u8]) -> Result<Vec<u8>, u32>
     ensures ok { IfOk result (λ spelled. Respelled bytes.now spelled.items) }
     ensures err { IfErr result (λ status. (status ≢ 0) × (status ≢ 8)) }

@@ -8,19 +8,22 @@ use rmp_serde::decode::Error;
 use rmp_serde::{Canon, check_canonical};
 use std::alloc::Global;
 
-/// Whether the bytes begin with the canonical spelling of a message. The status is 0 where they do, and `place` is how long it is; it
-/// is 4 where a head stands first that isn't canonical, and `place` is where. What follows the message isn't looked at.
+/// Checks whether the bytes begin with the canonical encoding of a message. What follows the message isn't
+/// checked.
 ///
-/// Before that the status is 1 where the bytes end before a message that is wanted, 2 where they end inside of a head or of content,
-/// and 3 at the byte c1; `place` stays as it was then.
+/// The status is 0 if they do, and `place` is set to the length of that encoding. It is 4 if a head that isn't
+/// canonical comes first, and `place` is set to its offset.
+///
+/// If neither comes first, `place` doesn't change. The status is 1 if the bytes end before a message, 2 if they
+/// end inside of a head or its content, and 3 at the byte c1.
 #[unsafe(no_mangle)]
 pub extern "C" fn rmp_check(alloc: Global, bytes: &[u8], place: &mut usize) -> u32
     ensures whole { result ≡ 0 → IsWhole bytes.now place.new }
     ensures fault { result ≡ 4 → IsFault bytes.now place.new }
-    // Each is answered where it is so,
+    // Each is returned where it is so,
     ensures finds_whole { (n : ℕ) → IsWhole bytes.now n → (result ≡ 0) × (place.new ≡ n) }
     ensures finds_fault { (p : ℕ) → IsFault bytes.now p → (result ≡ 4) × (place.new ≡ p) }
-    // and any other status says what is wrong at some such place.
+    // and any other status says what is wrong in such a place.
     ensures stops { result ≢ 0 → result ≢ 4 → (e : Error) × (result ≡ status_of e) × Stops bytes.now e }
     ensures kept { result ≢ 0 → result ≢ 4 → place.new ≡ place.old }
 {
@@ -37,7 +40,7 @@ pub extern "C" fn rmp_check(alloc: Global, bytes: &[u8], place: &mut usize) -> u
     }
 }
 
-// The status that an error is.
+// The status of an error.
 pub(crate) fn status_of(e: &Error) -> u32
     ensures status { result ≡ status_of e.now }
     ensures other { (result ≢ 0) × (result ≢ 4) × (result ≢ 7) × (result ≢ 8) }

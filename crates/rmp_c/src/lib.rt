@@ -1,8 +1,9 @@
 //! Messages for programs in C: rmp.h declares these calls, and docs/C.md shows them.
 //!
-//! A call answers a status, which is 0 where it did what it says, and else names why it didn't.
+//! Each call returns a status: 0 if it did what it says, and the reason if it didn't.
 #![tactic(auto)]
 
 mod canonical;
 mod check;
+mod scan;
 mod walk;

@@ -1,43 +1,47 @@
 //! Walking over the heads of a message.
-ghost use Rattle.std.specs.Prelude.{◌≡◌, ◌≢◌, ℕ, List, [], drop};
+ghost use Rattle.std.specs.Prelude.{◌≡◌, ◌≢◌, ◌↔◌, ℕ, List, [], drop};
 ghost use Rattle.rmp_decode.specs.Kinds.{content_len};
 ghost use Rattle.rmp_wire.specs.Heads.{fits_head};
 ghost use Rattle.rmp_wire.specs.declared.head.Head.TheVariants.{Whole};
-ghost use Rattle.rmp_c.specs.Items.{Node, IsItem, Says, SaysNumber, OpensReserved};
+ghost use Rattle.rmp_c.specs.Items.{Node, IsItem, Says, SaysNumber, OpensReserved, EndsInside};
 
 use rmp_wire::{Head, ValueReadError, next_head};
 
-/// What stands at a place: what its head says, and where its content lies.
+/// The node at an offset: what its head says, and where its content is.
 #[repr(C)]
 #[derive(Clone, Copy)]
 pub struct Item {
-    /// 0 nil, 1 truth, 2 a number from 0 on, 3 a number below 0, 4 and 5 floats of 32 and 64 bits, 6 a text, 7 bytes, 8 a list,
-    /// 9 a map, 10 an extension.
+    /// 0 nil, 1 truth; 2 a number from 0 on, 3 a number below 0; 4 and 5 floats of 32 and 64 bits; 6 a text, 7 bytes;
+    /// 8 a list, 9 a map; 10 an extension.
     pub kind: u32,
-    /// How many messages a list has, or pairs a map.
+    /// How many messages a list contains, or pairs a map.
     pub items: u32,
     /// The truth as 0 or 1, the number (below 0 in two's complement), the bits of the float, or the byte of the extension's type.
     pub number: u64,
-    /// Where the content lies: behind the head.
+    /// The offset of the content, which is after the head.
     pub start: usize,
     /// How many bytes of content there are.
     pub len: usize,
 }
 
-/// Says what stands at a place: its kind, and where its content lies. The next message, or the first of a list or a map, stands behind
-/// the content. Neither what a text holds is looked at, nor what a list or a map does.
+/// Reads the node at an offset: its kind, and where its content is. The next message, or the first one in a
+/// list or a map, comes after the content. Neither the content of a text is checked, nor that of a list or a
+/// map.
 ///
-/// The status is 1 where the bytes end there, 2 where they end inside of the head or its content, and 3 at the byte c1.
+/// The status is 1 if the bytes end there, 2 if they end inside of the head or its content, and 3 at the byte
+/// c1.
 #[tactic(auto, unfolding(rmp_wire::specs::Taking::byte_of))]
 #[unsafe(no_mangle)]
 pub extern "C" fn rmp_next(bytes: &[u8], at: usize, item: &mut Item) -> u32
     ensures item { result ≡ 0 → IsItem bytes.now at item.new }
-    // Otherwise no head stands there with its content,
+    // Otherwise there is no head with its content,
     ensures none { result ≢ 0 → Node bytes.now at → ⊥ }
-    // and the item stays as it was.
+    // and the item doesn't change.
     ensures kept { result ≢ 0 → item.new ≡ item.old }
-    ensures end { result ≡ 1 → drop at bytes.now ≡ [] }
-    ensures reserved { result ≡ 3 → OpensReserved (drop at bytes.now) }
+    // Each status is returned exactly where it is so.
+    ensures end { (result ≡ 1) ↔ (drop at bytes.now ≡ []) }
+    ensures reserved { (result ≡ 3) ↔ OpensReserved (drop at bytes.now) }
+    ensures cut { (result ≡ 2) ↔ EndsInside bytes.now at }
 {
     if at >= bytes.len() {
         return 1;
@@ -45,7 +49,7 @@ pub extern "C" fn rmp_next(bytes: &[u8], at: usize, item: &mut Item) -> u32
     let mut rest: &[u8] = &bytes[at..];
     match next_head(&mut rest) {
         Ok((_, head)) => {
-            let content = content_in(head);
+            let content = head.content_len();
             if rest.len() < content as usize {
                 return 2;
             }
@@ -55,16 +59,6 @@ pub extern "C" fn rmp_next(bytes: &[u8], at: usize, item: &mut Item) -> u32
         Err(ValueReadError::InvalidMarkerRead(_)) => 1,
         Err(ValueReadError::InvalidDataRead(_)) => 2,
         Err(ValueReadError::TypeMismatch(_)) => 3,
-    }
-}
-
-// How many bytes of content stand behind a head.
-fn content_in(head: Head) -> u32
-    ensures { result ≡ content_len head }
-{
-    match head {
-        Head::Text(len) | Head::Bin(len) | Head::Ext(len, _) => len,
-        _ => 0,
     }
 }
 

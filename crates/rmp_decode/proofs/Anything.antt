@@ -3,7 +3,7 @@ use Rattle.std.proofs.Common.{◌≡◌, ◌∙◌, sym, subst, ℕ, ◌<◌, �
 use Rattle.rmp_wire.specs.declared.head.Head.{Head}
 use Rattle.rmp_wire.specs.declared.marker.Marker.{Marker}
 use Rattle.rmp_wire.specs.declared.source.Source.{Ghosts}
-use Rattle.rmp_wire.specs.Msg.{Msg, nil, truth, whole, float32, float64, text, bin, list, map, extension, depth}
+use Rattle.rmp_wire.specs.Msg.{Msg, depth}
 use Rattle.rmp_wire.specs.Spelling.{head_of}
 use Rattle.rmp_decode.specs.Anys.{RefusesAny, FailsToOpenAny}
 use Rattle.rmp_decode.specs.Exact.{Stands, EndsExactly}
@@ -13,30 +13,13 @@ use Rattle.rmp_decode.specs.State.{left, room_of}
 use Rattle.rmp_decode.specs.declared.deserializer.Deserializer.{Deserializer}
 use Rattle.rmp_decode.specs.declared.error.Error.{Error}
 use Rattle.rmp_decode.specs.declared.error.Error.TheVariants.{DepthLimitExceeded}
+use Rattle.rmp_decode.proofs.Opening.{nests, map_nests}
 use Rattle.rmp_decode.proofs.NothingAccepted.{refuses_none, refuses_by, same_head}
 
 -- a list or a map nests
 parts_nest : (is_map : Bool) (m : Msg) (n : ℕ) → head_of m ≡ parts_head is_map n → 0 < depth m
-parts_nest true nil n e = absurd (cc)
-parts_nest true (truth t) n e = absurd (cc)
-parts_nest true (whole z) n e = absurd (cc)
-parts_nest true (float32 k) n e = absurd (cc)
-parts_nest true (float64 k) n e = absurd (cc)
-parts_nest true (text s) n e = absurd (cc)
-parts_nest true (bin s) n e = absurd (cc)
-parts_nest true (list ms) n e = omega arith
-parts_nest true (map ps) n e = omega arith
-parts_nest true (extension tag s) n e = absurd (cc)
-parts_nest false nil n e = absurd (cc)
-parts_nest false (truth t) n e = absurd (cc)
-parts_nest false (whole z) n e = absurd (cc)
-parts_nest false (float32 k) n e = absurd (cc)
-parts_nest false (float64 k) n e = absurd (cc)
-parts_nest false (text s) n e = absurd (cc)
-parts_nest false (bin s) n e = absurd (cc)
-parts_nest false (list ms) n e = omega arith
-parts_nest false (map ps) n e = omega arith
-parts_nest false (extension tag s) n e = absurd (cc)
+parts_nest true = map_nests
+parts_nest false = nests
 
 any_none : (w : Bool) (room before after : ℕ) (known : Option (List ℕ)) (e : Error) → EndsExactly w before after known e
     → RefusesAny w room before after known e

@@ -16,11 +16,8 @@ use Rattle.std.proofs.Common.{
   List,
   [],
   ◌∷◌,
-  ◌++◌,
   length,
   map,
-  slice_set,
-  take,
   min,
   ◌*◌,
   ◌^◌,
@@ -41,7 +38,7 @@ use prog.Capped.{capped_is, capped_small}
 use prog.Memory.{capped}
 use Rattle.std.proofs.lemmas.Nat.{mul-le}
 use Rattle.std.proofs.lemmas.List.Elements.{All-map}
-use Rattle.std.proofs.lemmas.List.{take_more_set, take_all, length-set, length-append, map_push}
+use Rattle.std.proofs.lemmas.List.{take_all}
 use Rattle.rmp_wire.specs.declared.source.Source.{Ghosts}
 use Rattle.rmp_wire.specs.Msg.{Msg, no_items}
 use Rattle.rmp_decode.specs.Arrays.{Exactly, HoldsFirst}
@@ -57,22 +54,6 @@ use Rattle.rmp_decode.proofs.Rows.{append}
 use Rattle.rmp_decode.proofs.Seqs.{each_next, count-append, seq_element, seq_done, seq_over}
 
 -- ---- places
-
-pub places_start : {V : Type 0} (n : ℕ) (ps : List (Option V)) → length ps ≡ n → HoldsFirst n ps []
-places_start n ps l = record { long = l; within = omega arith; held = refl }
-
-pub places_put : {V : Type 0} (n : ℕ) (ps : List (Option V)) (i : ℕ) (vs : List V) (v : V) → i < n → length vs ≡ i → HoldsFirst n ps vs
-    → HoldsFirst n (slice_set ps i (Some v)) (vs ++ v ∷ [])
-places_put n ps i vs v l q h =
-    let long = h.long in
-    let more : length (vs ++ v ∷ []) ≡ i + 1 = omega (arith, length-append vs (v ∷ []), q) in
-    record {
-      long = length-set ps i (Some v) ∙ long;
-      within = omega (arith, more, l);
-      held = subst (λ k. map (λ v. Some v) (vs ++ v ∷ []) ≡ take k (slice_set ps i (Some v))) (sym more)
-          (map_push (λ v. Some v) vs v ∙ ap (λ z. z ++ Some v ∷ []) (subst (λ k. map (λ v. Some v) vs ≡ take k ps) q h.held)
-          ∙ sym (take_more_set ps i (Some v) (omega (arith, long, l))));
-    }
 
 -- all of them hold one
 pub places_full : {V : Type 0} (n : ℕ) (ps : List (Option V)) (vs : List V) → n ≤ length vs → HoldsFirst n ps vs → map (λ v. Some v) vs ≡ ps

@@ -19,7 +19,7 @@ use Rattle.rmp_decode.specs.declared.deserializer.Deserializer.{Deserializer}
 use Rattle.rmp_decode.specs.declared.access.seq.SeqAccess.{SeqAccess}
 use Rattle.rmp_decode.specs.declared.error.Error.{Error}
 use Rattle.rmp_decode.proofs.Laws.{refused, lawful_ok}
-use Rattle.rmp_decode.proofs.ListOpening.{nests}
+use Rattle.rmp_decode.proofs.Opening.{nests}
 use Rattle.rmp_decode.proofs.Seqs.{seq_done}
 use Rattle.rmp_decode.proofs.NothingAccepted.{refuses_by, same_head}
 

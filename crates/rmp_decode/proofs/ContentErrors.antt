@@ -122,13 +122,6 @@ unlent true t n m s e l q = absurd (cc)
 unlent false true n m s e l q = q
 unlent false false n m s e l q = q
 
--- what is refused so is refused in a wider way
-pub piece_wider : (n : ℕ) (refused wider : List ℕ → Error → Type 0) (known : Option (List ℕ)) (e : Error) → ((s : List ℕ) → refused s e → wider s e)
-    → RefusesPiece n refused known e → RefusesPiece n wider known e
-unfolding RefusesPiece
-piece_wider n refused wider None e f p = tt
-piece_wider n refused wider (Some xs) e f p = record { cut = p.cut; whole = λ s r q l. f s (p.whole s r q l) }
-
 -- ---- heads and content
 
 module _ (strict : Bool) (wanted : Head → Type 0) (other : Marker → Head → Error) (refused : Head → List ℕ → Error → Type 0) (before after : ℕ) where

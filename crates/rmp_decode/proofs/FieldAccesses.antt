@@ -27,7 +27,7 @@ use Rattle.rmp_decode.specs.declared.text.Text.TheVariants.{DuplicateField}
 use Rattle.rmp_decode.proofs.ByteParts.{number_missing}
 use Rattle.rmp_decode.proofs.Offered.{element_taken, element_fails}
 use Rattle.rmp_decode.specs.declared.access.field_access.FieldAccess.{FieldAccess}
-use Rattle.rmp_decode.proofs.Laws.{stays_refl, stays_then}
+use Rattle.rmp_decode.proofs.Laws.{stays_then}
 
 -- ---- the bits of the fields that were met
 
@@ -73,9 +73,6 @@ pub record Passing {R C : Type 0} (g : Ghosts R) (start now : FieldAccess R C) :
   pub passed : IsMapOpen (as_map start) → PassedSo g start now
 
 module _ {R C : Type 0} (g : Ghosts R) (start : FieldAccess R C) where
-  pub passed_none : IsMapOpen (as_map start) → start.owes ≡ false → PassedSo g start start
-  passed_none o w = record { many = 0; passed = refl; stays = stays_refl g start.de.now; at_key = w; still = o }
-
   pub passed_more : (mid key now : FieldAccess R C) → mid.names ≡ start.names → PassedSo g start mid
       → TakesKey g (IsName (names_in mid)) (as_map mid) (as_map key) None → key.de.ghost_name ≡ mid.de.ghost_name
       → TakesValue g any_tree (as_map key) (as_map now) tt → now.de.ghost_name ≡ key.de.ghost_name → PassedSo g start now

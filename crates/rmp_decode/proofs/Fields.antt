@@ -11,13 +11,13 @@ use Rattle.rmp_wire.specs.Spelling.{head_of}
 use Rattle.rmp_wire.specs.declared.head.Head.{Head}
 use Rattle.rmp_wire.specs.declared.head.Head.TheVariants as head
 use Rattle.rmp_wire.specs.declared.marker.Marker.{Marker}
-use Rattle.rmp_decode.proofs.NothingAccepted.{refuses_none, refuses_head, refuses_by, refuses_narrower, same_head}
+use Rattle.rmp_decode.proofs.NothingAccepted.{refuses_narrower}
 use Rattle.rmp_decode.specs.declared.deserializer.Deserializer.{Deserializer}
 use Rattle.rmp_decode.specs.Fields.{
   HasFields,
   not_fields,
   fields_head,
-  FailsToOpenFields,
+  TakesFieldsHead,
   Field,
   Absent,
   NoField,
@@ -31,14 +31,14 @@ use Rattle.rmp_decode.specs.Fields.{
 use Rattle.rmp_decode.specs.Law.{Readable, ReadsHead}
 use Rattle.rmp_decode.specs.Maps.{TakesValue, map_inner}
 use Rattle.rmp_decode.specs.Parts.{FailsPart}
-use Rattle.rmp_decode.specs.Seq.{SpellsIn, RefusesRow, inner_of, IsOpen, TakesElement, Run, TakesParts, FailsParts}
+use Rattle.rmp_decode.specs.Seq.{SpellsIn, RefusesRow, inner_of, IsOpen, TakesElement, TakesParts, FailsParts}
 use Rattle.rmp_decode.specs.State.{left, room_of}
 use Rattle.rmp_decode.specs.declared.access.map.MapAccess.{MapAccess}
 use Rattle.rmp_decode.specs.declared.access.seq.SeqAccess.{SeqAccess}
 use Rattle.rmp_decode.specs.declared.error.Error.{Error}
 use Rattle.rmp_decode.specs.declared.error.Error.TheVariants.{DepthLimitExceeded, Syntax}
 use Rattle.rmp_decode.specs.declared.text.Text.TheVariants.{InvalidType}
-use Rattle.rmp_decode.proofs.Exactness.{by_head, by_none}
+use Rattle.rmp_decode.proofs.Opening.{nests, map_nests, opening_other, opening_deep}
 use Rattle.rmp_decode.proofs.Laws.{stays_then}
 use Rattle.rmp_decode.proofs.Seqs.{run_start, run_step, parts_refused}
 use Rattle.rmp_decode.proofs.Tuples.{row_narrower}
@@ -147,11 +147,6 @@ module _ {R C V S : Type 0} (g : Ghosts R) (reads : Msg → V → Type 0) (holds
   slot_full o s n (None ∷ fs) h m = absurd (let p = ap is_some h.0 in cc)
   slot_full o s n (Some k ∷ fs) h m = refl
 
-  -- it was read before
-  pub first_full : (o : Option V) (s : S) → place ≡ 0 → is_some o ≡ true → new ≡ old
-      → IsFull (λ fs (t : Option V × S). Slot reads holds fs t.0 t.1) place old new (o, s)
-  first_full o s z n q = record { full = λ fs h m. rw z (slot_full o s n fs h m); same = q }
-
   module _ (n : ℕ) (z : place ≡ suc n) where
     later_filled : (o : Option V) (s t : S) (m : Msg) → ((fs : List (Option Msg)) → holds fs s
         → (gs : List (Option Msg)) × (put n m fs ≡ Some gs) × holds gs t) → (fs : List (Option Msg)) → Slot reads holds fs o s
@@ -205,32 +200,9 @@ fields_head_of (extension tag s) i = absurd i
 
 -- a list or a map nests
 fields_nest : (m : Msg) (k : Option Bool) (n : ℕ) → (k ≡ Some true → ⊥) → head_of m ≡ fields_head k n → 0 < depth m
-fields_nest nil None n f e = absurd (cc)
-fields_nest nil (Some true) n f e = absurd (f refl)
-fields_nest nil (Some false) n f e = absurd (cc)
-fields_nest (truth t) None n f e = absurd (cc)
-fields_nest (truth t) (Some true) n f e = absurd (f refl)
-fields_nest (truth t) (Some false) n f e = absurd (cc)
-fields_nest (whole z) None n f e = absurd (cc)
-fields_nest (whole z) (Some true) n f e = absurd (f refl)
-fields_nest (whole z) (Some false) n f e = absurd (cc)
-fields_nest (float32 k) None n f e = absurd (cc)
-fields_nest (float32 k) (Some true) n f e = absurd (f refl)
-fields_nest (float32 k) (Some false) n f e = absurd (cc)
-fields_nest (float64 k) None n f e = absurd (cc)
-fields_nest (float64 k) (Some true) n f e = absurd (f refl)
-fields_nest (float64 k) (Some false) n f e = absurd (cc)
-fields_nest (text s) None n f e = absurd (cc)
-fields_nest (text s) (Some true) n f e = absurd (f refl)
-fields_nest (text s) (Some false) n f e = absurd (cc)
-fields_nest (bin s) None n f e = absurd (cc)
-fields_nest (bin s) (Some true) n f e = absurd (f refl)
-fields_nest (bin s) (Some false) n f e = absurd (cc)
-fields_nest (list ms) k n f e = omega arith
-fields_nest (map ps) k n f e = omega arith
-fields_nest (extension tag s) None n f e = absurd (cc)
-fields_nest (extension tag s) (Some true) n f e = absurd (f refl)
-fields_nest (extension tag s) (Some false) n f e = absurd (cc)
+fields_nest m None n f e = map_nests m n e
+fields_nest m (Some true) n f e = absurd (f refl)
+fields_nest m (Some false) n f e = nests m n e
 
 other_than_fields : (room : ℕ) (m : Marker) (h : Head) (e : Error) → ((a : Option Bool × ℕ) → h ≡ fields_head a.0 a.1 → ⊥) → e ≡ Syntax InvalidType
     → not_fields room m h e
@@ -251,43 +223,15 @@ deep_fields room m None n e f r i = (r, i)
 deep_fields room m (Some true) n e f r i = absurd (f refl)
 deep_fields room m (Some false) n e f r i = (r, i)
 
-module _ {R C : Type 0} (g : Ghosts R) (old new : Deserializer R C) (e : Error) where
-  pub no_fields_begin : ReadsHead g old new (Err e) → FailsToOpenFields g old new e
-  no_fields_begin h = record {
-    failed = h.failed;
-    stays = h.stays;
-    before = h.before;
-    err = λ o n k. refuses_none _ _ _ _ (h.err o n k);
-    memory = h.memory;
-    exact = λ o. by_none _ (not_fields (room_of old)) _ _ _ e (h.ends o);
-  }
+module _ {R C : Type 0} (g : Ghosts R) (old new : Deserializer R C) (e : Error) (p : Marker × Head) (h : ReadsHead g old new (Ok p)) where
+  -- another kind was there
+  pub no_fields : ((a : Option Bool × ℕ) → p.1 ≡ fields_head a.0 a.1 → ⊥) → e ≡ Syntax InvalidType → TakesFieldsHead g old new (Err e)
+  no_fields f t = opening_other g _ _ HasFields not_fields old new e p h (λ z. absurd (let u = sym t ∙ z in cc))
+      (other_than_fields (room_of old) p.0 p.1 e f t) (λ m j q. let a = fields_head_of m j in f a.0 (sym q ∙ a.1))
 
-  module _ (p : Marker × Head) (h : ReadsHead g old new (Ok p)) where
-    -- another kind was there
-    pub no_fields : ((a : Option Bool × ℕ) → p.1 ≡ fields_head a.0 a.1 → ⊥) → e ≡ Syntax InvalidType → FailsToOpenFields g old new e
-    no_fields f t = record {
-      failed = h.failed;
-      stays = h.stays;
-      before = λ b. absurd (let o = h.fresh in cc);
-      err = λ _ _ _. refuses_head _ HasFields (room_of old) (left g old) (left g new) h.ok.bytes p.1 h.ok.takes h.ok.is_head
-          (λ m j q. let a = fields_head_of m j in f a.0 (sym q ∙ a.1));
-      memory = λ z. absurd (let u = sym t ∙ z in cc);
-      exact = λ _. by_head _ (not_fields (room_of old)) _ _ _ p.0 p.1 e h.marked (other_than_fields (room_of old) p.0 p.1 e f t);
-    }
-
-    -- it would nest too deep
-    pub fields_too_deep : (k : Option Bool) (n : ℕ) → (k ≡ Some true → ⊥) → p.1 ≡ fields_head k n → room_of old ≤ 1 → e ≡ DepthLimitExceeded
-        → FailsToOpenFields g old new e
-    fields_too_deep k n f i l t = record {
-      failed = h.failed;
-      stays = h.stays;
-      before = λ b. absurd (let o = h.fresh in cc);
-      err = λ _ _ _. refuses_by _ HasFields (room_of old) (left g old) (left g new) h.ok.bytes h.ok.takes (λ ys q a.
-          let u = same_head _ a.tree p.1 a.bytes h.ok.bytes a.rest ys a.spelled h.ok.is_head (sym a.front) in
-          let below = fields_nest a.tree k n f (u.0 ∙ i) in
-          let z = a.fits in
-          omega arith);
-      memory = λ z. absurd (let u = sym t ∙ z in cc);
-      exact = λ _. by_head _ (not_fields (room_of old)) _ _ _ p.0 p.1 e h.marked
-          (subst (λ z. not_fields (room_of old) p.0 z e) (sym i) (deep_fields (room_of old) p.0 k n e f (omega (arith, l)) t));
-    }
+  -- it would nest too deep
+  pub fields_too_deep : (k : Option Bool) (n : ℕ) → (k ≡ Some true → ⊥) → p.1 ≡ fields_head k n → room_of old ≤ 1 → e ≡ DepthLimitExceeded
+      → TakesFieldsHead g old new (Err e)
+  fields_too_deep k n f i l t = opening_deep g _ _ HasFields not_fields old new e p h (λ z. absurd (let u = sym t ∙ z in cc))
+      (subst (λ z. not_fields (room_of old) p.0 z e) (sym i) (deep_fields (room_of old) p.0 k n e f (omega (arith, l)) t))
+      (λ m q. fields_nest m k n f (q ∙ i)) l

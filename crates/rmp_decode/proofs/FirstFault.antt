@@ -1,18 +1,16 @@
 -- What is wrong with a message, from what was taken before and what was refused then.
-use Rattle.std.proofs.Common.{◌≡◌, ◌≢◌, ◌∙◌, sym, ap, subst, refl, ℕ, suc, ◌+◌, ◌<◌, ◌⊎◌, inl, inr, arith, List, [], ◌∷◌, ◌++◌, Option, Some, None, Bool}
+use Rattle.std.proofs.Common.{◌≡◌, ◌≢◌, ◌∙◌, sym, ap, subst, refl, ℕ, suc, ◌+◌, ◌⊎◌, inl, inr, arith, List, [], ◌∷◌, ◌++◌, Option, Some, None, Bool}
 use Rattle.std.proofs.lemmas.Bool.{cases_eq}
 use Rattle.std.specs.Io.KnownBytes.{Consumes}
 use Rattle.rmp_wire.specs.declared.head.Head.{Head}
 use Rattle.rmp_wire.specs.declared.marker.Marker.{Marker}
-use Rattle.rmp_wire.specs.Msg.{Msgs, count, depth_all}
+use Rattle.rmp_wire.specs.Msg.{Msgs}
 use Rattle.rmp_wire.specs.Sources.{IsShort}
-use Rattle.rmp_wire.specs.Canonical.{heads_of, SpellsAs}
+use Rattle.rmp_wire.specs.Canonical.{heads_of}
 use Rattle.rmp_wire.specs.Taking.{marker_of}
-use Rattle.rmp_decode.specs.Anys.{RefusesAny}
 use Rattle.rmp_decode.specs.Exact.{Stands, NoneStands, Ends, EndsExactly, IsMarkerEnd, IsDataEnd}
 use Rattle.rmp_decode.specs.Kinds.{content_len}
 use Rattle.rmp_decode.specs.Refuse.{HeadIsCut, ContentIsCut, IsWrong, Refusal, here, inside, RefusedFor, RowRefusedFor}
-use Rattle.rmp_decode.specs.Seq.{SpellsRow}
 use Rattle.rmp_decode.specs.Skip.{parts_head, parts_count}
 use Rattle.rmp_decode.specs.declared.error.Error.{Error}
 use Rattle.rmp_decode.specs.declared.error.Error.TheVariants as errors
@@ -97,16 +95,6 @@ module _ (w : Bool) (wrong : ℕ → Error → List ℕ → Type 0) (readable : 
   wrong_none room before after None e q r = tt
   wrong_none room before after (Some xs) e q r = here (wider room e xs (wrong_end w room e xs (r q).0 (r q).1))
 
-  -- nothing could be opened
-  pub wrong_any : (room before after : ℕ) (known : Option (List ℕ)) (e : Error) → after ≡ before → RefusesAny w room before after known e
-      → RefusedFor w wrong readable room e known
-  unfolding RefusesAny RefusedFor
-  wrong_any room before after None e q r = tt
-  wrong_any room before after (Some xs) e q r = elim (r q) [
-    | inl p ↦ here (wider room e xs (wrong_end w room e xs p.0 p.1))
-    | inr p ↦ here (wider room e xs (subst (λ z. IsWrong w room z xs) (sym p.2) (p.1, p.0)))
-  ]
-
   -- a leaf's content is cut
   pub wrong_content : (room : ℕ) (known k : Option (List ℕ)) (bytes : List ℕ) (h : Head) (e : Error) → Consumes known k bytes → heads_of w h bytes
       → IsShort (content_len h) k → IsDataEnd e → RefusedFor w wrong readable room e known
@@ -137,19 +125,6 @@ module _ (w : Bool) (wrong : ℕ → Error → List ℕ → Type 0) (readable : 
   wrong_memory room (Some xs) (Some ys) bytes h t i f = let u : Front w h xs ys = front_of w h bytes xs ys t i in here (f xs (marker_of u.byte) (stands u))
 
   -- ---- inside of a list or a map
-
-  -- some messages were read, and the next one is refused
-  pub wrong_row : (room n : ℕ) (mid k : Option (List ℕ)) (row : List ℕ) (ms : Msgs) (e : Error) → Consumes mid k row → SpellsRow (SpellsAs w) row ms
-      → depth_all ms < room → readable ms → count ms < n → RefusedFor w wrong readable room e k → RowRefusedFor w wrong readable room n e mid
-  unfolding RefusedFor RowRefusedFor
-  wrong_row room n None k row ms e u s d p c r = tt
-  wrong_row room n (Some ys) None row ms e u s d p c r = absurd u
-  wrong_row room n (Some ys) (Some zs) row ms e u s d p c r = record {
-    many = count ms;
-    before = record { bytes = row; rest = zs; trees = ms; front = u; spelled = s; many = refl; fits = d; holds = p };
-    fewer = c;
-    next = r;
-  }
 
   -- a list or a map was opened, and its messages are refused
   pub wrong_nest : (outer room : ℕ) (is_map : Bool) (len : ℕ) (known mid : Option (List ℕ)) (bytes : List ℕ) (e : Error) → Consumes known mid bytes

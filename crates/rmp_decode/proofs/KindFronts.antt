@@ -35,11 +35,11 @@ use Rattle.std.proofs.Common.{
 }
 use Rattle.std.proofs.lemmas.Int.{ints, to_z-of_z}
 use Rattle.std.proofs.lemmas.Nat.{be_bytes_2, be_bytes_4, be_bytes_8}
-use Rattle.std.specs.Int.{Width, w8, w16, w32, w64, w128, to_be_bytes, cast_signed}
+use Rattle.std.specs.Int.{Width, w8, w16, w32, w64, to_be_bytes, cast_signed}
 use Rattle.std.specs.Prelude.{FitsSigned, ℤ, negsuc, ◌<ℤ◌}
 use mir.Val.{bits, to_z, of_z}
 use Rattle.rmp_wire.proofs.Taken.{signed_made, signed_head, fits_signed}
-use Rattle.rmp_wire.proofs.HeadReads.{widened, fits_unsigned}
+use Rattle.rmp_wire.proofs.HeadReads.{widened}
 use Rattle.rmp_wire.specs.declared.head.Head.{Head}
 use Rattle.rmp_wire.specs.declared.head.Head.TheVariants.{Nil, Whole, Text, Bin, Array, Map, Truth, F32Bits, F64Bits}
 use Rattle.rmp_wire.specs.Canonical.{Opens, heads_of}
@@ -152,10 +152,6 @@ any_64 h (x ∷ ys) n l m s f i = any_sixty_four h x n ys (rw (behind_is x ys) a
 stored : (k : ℕ) (v z : ℤ) (xs : List ℕ) → v ≡ z → FitsSigned w64 z → StandsIn false k (Whole z) xs → StandsIn false k (Whole (to_z w64 (of_z w64 v))) xs
 stored k v z xs e f s = subst (λ t. StandsIn false k (Whole t) xs) (sym (ap (λ t. to_z w64 (of_z w64 t)) e ∙ to_z-of_z w64 z f)) s
 
-pub stored_pos : (k : ℕ) (v : ℤ) (n : ℕ) (xs : List ℕ) → v ≡ pos n → n < 2 ^ 32 → StandsIn false k (Whole (pos n)) xs
-    → StandsIn false k (Whole (to_z w64 (of_z w64 v))) xs
-stored_pos k v n xs e f s = stored k v (pos n) xs e (grind (arith, ints)) s
-
 abbrev FitsIn64 : Width → Type 0
 FitsIn64 w = (n : ℕ) → n < 2 ^ bits w → FitsSigned w64 (cast_signed w n)
 
@@ -249,11 +245,6 @@ pub f64_stands : (xs : List ℕ) (n : ℕ) → 1 ≤ length xs → get_or xs 0 0
     (behind xs) 7 0
     → ((i : ℕ) → get_or xs i 0 < 256) → StandsIn false 9 (F64Bits n) xs
 f64_stands xs n l e m b s f = any_64 (F64Bits n) xs n l m s f (f64_head _ n e b)
-
--- a number below 2 ^ 63 that was counted as one with a sign
-pub unsigned_64 : (xs : List ℕ) (n : ℕ) (v : ℤ) → n < 2 ^ 63 → v ≡ to_z w64 n → StandsIn false 9 (Whole (pos n)) xs
-    → StandsIn false 9 (Whole (to_z w64 (of_z w64 v))) xs
-unsigned_64 xs n v b d s = let e : to_z w64 n ≡ pos n = grind (arith, ints) in stored 9 v (pos n) xs (d ∙ e) (grind (arith, ints)) s
 
 -- ---- any head at the front
 
@@ -516,14 +507,3 @@ opens_signed_32 b n v u e h c d l =
 
 pub opens_signed_64 : (b : ℕ) (z : ℤ) → b ≡ 0xd3 → z <ℤ negsuc 2147483647 → Opens b (canon_head (Whole z))
 opens_signed_64 b z e l = opens_below_2_31 b z e l
-
--- where reading is strict, a canonical head may
-pub canonical_stands : (w : Bool) (n : ℕ) (h : Head) (xs : List ℕ) → w ≡ true → StandsIn true n h xs → StandsIn w n h xs
-canonical_stands true n h xs e s = s
-canonical_stands false n h xs e s = absurd (cc)
-
--- the number of a head, as it is stored
-pub stored_whole : (k n : ℕ) (v : ℤ) (xs : List ℕ) → v ≡ pos n → n < 2 ^ 64 → StandsIn false k (Whole (pos n)) xs
-    → StandsIn false k (Whole (to_z w128 (of_z w128 v))) xs
-stored_whole k n v xs e l s = subst (λ z. StandsIn false k (Whole z) xs)
-    (sym (ap (λ t. to_z w128 (of_z w128 t)) e ∙ to_z-of_z w128 (pos n) (fits_unsigned n l))) s

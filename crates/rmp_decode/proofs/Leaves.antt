@@ -1,13 +1,16 @@
 -- Messages that are their head.
-use Rattle.std.proofs.Common.{◌≡◌, ℕ, List, refl, sym, ◌∙◌, ap, subst, Bool, false, Ok, Err}
+use Rattle.std.proofs.Common.{◌≡◌, ℕ, List, refl, sym, ◌∙◌, ap, subst, Bool, false, Ok, Err, Option, None, Some}
 use Rattle.rmp_wire.specs.declared.head.Head.{Head}
 use Rattle.rmp_wire.specs.declared.head.Head.TheVariants as head
+use Rattle.rmp_wire.specs.declared.head.Head.TheVariants.{Nil, Truth, Whole, F32Bits, F64Bits, Text, Bin, Array, Map, Ext}
 use Rattle.rmp_wire.specs.declared.marker.Marker.{Marker}
 use Rattle.rmp_wire.specs.declared.source.Source.{Ghosts}
 use Rattle.rmp_wire.specs.Canonical.{heads_of, SpellsAs}
 use Rattle.rmp_wire.specs.Msg.{Msg, nil, truth, whole, float32, float64, depth}
 use Rattle.rmp_wire.specs.Spelling.{head_of}
+use Rattle.rmp_decode.specs.Kinds.{Finds}
 use Rattle.rmp_decode.specs.Law.{Readable, Lawful, ReadsHead}
+use Rattle.rmp_decode.specs.Leaves.{IsAlone, HoldsAs, Holds}
 use Rattle.rmp_decode.specs.declared.deserializer.Deserializer.{Deserializer}
 use Rattle.rmp_decode.specs.declared.error.Error.{Error}
 use Rattle.rmp_decode.proofs.Laws.{refused_head, refused_leaf, answered_leaf}
@@ -17,21 +20,22 @@ pub record Leaf {A : Type 0} (make : A → Msg) (heads : A → Head) : Type 0 wh
   pub is : (a : A) → head_of (make a) ≡ heads a
   pub spells : (s : Bool) (a : A) (b : List ℕ) → heads_of s (heads a) b → SpellsAs s b (make a)
   pub flat : (a : A) → depth (make a) ≡ 0
+  pub alone : (a : A) → IsAlone (heads a) (make a)
 
 pub nil_leaf : Leaf (λ (u : Unit {0}). nil) (λ u. head.Nil)
-nil_leaf = record { is = λ a. refl; spells = λ s a b h. h; flat = λ a. refl }
+nil_leaf = record { is = λ a. refl; spells = λ s a b h. h; flat = λ a. refl; alone = λ a. refl }
 
 pub truth_leaf : Leaf truth head.Truth
-truth_leaf = record { is = λ a. refl; spells = λ s a b h. h; flat = λ a. refl }
+truth_leaf = record { is = λ a. refl; spells = λ s a b h. h; flat = λ a. refl; alone = λ a. refl }
 
 pub whole_leaf : Leaf whole head.Whole
-whole_leaf = record { is = λ a. refl; spells = λ s a b h. h; flat = λ a. refl }
+whole_leaf = record { is = λ a. refl; spells = λ s a b h. h; flat = λ a. refl; alone = λ a. refl }
 
 pub float32_leaf : Leaf float32 head.F32Bits
-float32_leaf = record { is = λ a. refl; spells = λ s a b h. h; flat = λ a. refl }
+float32_leaf = record { is = λ a. refl; spells = λ s a b h. h; flat = λ a. refl; alone = λ a. refl }
 
 pub float64_leaf : Leaf float64 head.F64Bits
-float64_leaf = record { is = λ a. refl; spells = λ s a b h. h; flat = λ a. refl }
+float64_leaf = record { is = λ a. refl; spells = λ s a b h. h; flat = λ a. refl; alone = λ a. refl }
 
 module _ {R C A V : Type 0} {make : A → Msg} {heads : A → Head} (leaf : Leaf make heads) (g : Ghosts R) (reads : Msg → V
     → Type 0) (old mid : Deserializer R C) (p : Marker × Head) (h : ReadsHead g old mid (Ok p)) where
@@ -48,3 +52,42 @@ module _ {R C A V : Type 0} {make : A → Msg} {heads : A → Head} (leaf : Leaf
   -- it was there, and isn't read
   pub leaf_refused : (a : A) (e : Error) → p.1 ≡ heads a → (Readable reads (make a) → ⊥) → Lawful g reads old mid (Err e)
   leaf_refused a e i n = refused_leaf g reads old mid p e (make a) h (λ b k. leaf.spells old.strict a b (subst (λ j. heads_of old.strict j b) i k)) n
+
+-- what a head of that kind holds
+pub holds_found : {A : Type 0} {make : A → Msg} {heads : A → Head} → Leaf make heads → (h : Head) (found : Option A) → Finds (λ k a. k ≡ heads a) h found
+    → Holds (λ m a. m ≡ make a) h found
+holds_found leaf h None n = λ m r i. n r.0 (sym i ∙ ap head_of r.1 ∙ leaf.is r.0)
+holds_found {make = make} leaf h (Some a) e =
+    record { tree = make a; alone = subst (λ k. IsAlone k (make a)) (sym e) (leaf.alone a); value = refl }
+
+-- ---- of any kind
+
+alone_spells : (w : Bool) (h : Head) (m : Msg) (b : List ℕ) → IsAlone h m → heads_of w h b → SpellsAs w b m
+alone_spells w Nil m b e i = subst (SpellsAs w b) (sym e) i
+alone_spells w (Truth t) m b e i = subst (SpellsAs w b) (sym e) i
+alone_spells w (Whole z) m b e i = subst (SpellsAs w b) (sym e) i
+alone_spells w (F32Bits n) m b e i = subst (SpellsAs w b) (sym e) i
+alone_spells w (F64Bits n) m b e i = subst (SpellsAs w b) (sym e) i
+alone_spells w (Text n) m b e i = absurd e
+alone_spells w (Bin n) m b e i = absurd e
+alone_spells w (Array n) m b e i = absurd e
+alone_spells w (Map n) m b e i = absurd e
+alone_spells w (Ext n tag) m b e i = absurd e
+
+alone_flat : (h : Head) (m : Msg) → IsAlone h m → depth m ≡ 0
+alone_flat Nil m e = ap depth e
+alone_flat (Truth t) m e = ap depth e
+alone_flat (Whole z) m e = ap depth e
+alone_flat (F32Bits n) m e = ap depth e
+alone_flat (F64Bits n) m e = ap depth e
+alone_flat (Text n) m e = absurd e
+alone_flat (Bin n) m e = absurd e
+alone_flat (Array n) m e = absurd e
+alone_flat (Map n) m e = absurd e
+alone_flat (Ext n tag) m e = absurd e
+
+-- the head that was taken is a message, which is read so
+pub held_read : {R C V : Type 0} (g : Ghosts R) (reads : Msg → V → Type 0) (old mid : Deserializer R C) (p : Marker × Head) → ReadsHead g old mid (Ok p)
+    → (new : Deserializer R C) (v : V) → HoldsAs reads p.1 v → new ≡ record mid { failed = false } → Lawful g reads old new (Ok v)
+held_read g reads old mid p h new v a q =
+    answered_leaf g reads old mid new p a.tree v h q (λ b i. alone_spells old.strict p.1 a.tree b a.alone i) (alone_flat p.1 a.tree a.alone) a.value

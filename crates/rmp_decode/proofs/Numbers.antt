@@ -1,31 +1,12 @@
 -- What is read of numbers, texts and bytes.
-use Rattle.std.proofs.Common.{◌≡◌, ◌<◌, ◌≤◌, ◌^◌, ℕ, ℤ, pos, negsuc, ◌≤ℤ◌, arith, List, Bool, true, false, refl, ap, ◌∙◌}
-use Rattle.rmp_wire.specs.declared.head.Head.{Head}
-use Rattle.rmp_wire.specs.declared.head.Head.TheVariants.{Nil, Truth, Whole, F32Bits, F64Bits, Text, Bin, Array, Map, Ext}
-use Rattle.rmp_wire.specs.declared.marker.Marker.{Marker}
-use Rattle.rmp_decode.specs.Kinds.{raw_msg, other_kind, other_number}
+use Rattle.std.proofs.Common.{◌≡◌, ◌<◌, ◌≤◌, ◌^◌, ℕ, ℤ, pos, negsuc, ◌≤ℤ◌, arith, List, Bool, true, false, ap, ◌∙◌}
+use Rattle.rmp_decode.specs.Kinds.{raw_msg}
 use Rattle.std.proofs.Math.IntN.{nat_abs}
 use Rattle.std.proofs.lemmas.Int.{ints, to_z-of_z}
 use Rattle.std.specs.Int.{w64}
 use Rattle.std.specs.Prelude.{FitsSigned}
 use mir.Val.{to_z, of_z, hbits, SFits}
 use mir.Syntax.{Width}
-use Rattle.rmp_wire.specs.Msg.{whole}
-use Rattle.rmp_decode.specs.Law.{Readable}
-use Rattle.rmp_decode.specs.Read.{IsUnsigned, IsSigned}
-
-pub unsigned_within : (most : ℕ) (z : ℤ) → Readable (IsUnsigned most) (whole z) → (pos 0 ≤ℤ z) × (z ≤ℤ pos most)
-unsigned_within most z r =
-    let same = r.1.0 in
-    let e : z ≡ pos r.0 = cc in
-    let l = r.1.1 in
-    rw e (omega (arith, ints), omega (arith, ints))
-
-pub signed_within : (least most z : ℤ) → Readable (IsSigned least most) (whole z) → (least ≤ℤ z) × (z ≤ℤ most)
-signed_within least most z r =
-    let same = r.1.0 in
-    let e : z ≡ r.0 = cc in
-    rw e (r.1.1, r.1.2)
 
 -- a number up to one that isn't below zero, by that one's size
 pub abs_within : (n : ℕ) (most : ℤ) → pos 0 ≤ℤ most → n ≤ nat_abs most → pos n ≤ℤ most
@@ -43,22 +24,6 @@ raw_same true true s r e = cc
 raw_same true false s r e = absurd (cc)
 raw_same false true s r e = absurd (cc)
 raw_same false false s r e = cc
-
-pub not_both : (b : Bool) → b ≡ false → b ≡ true → ⊥
-not_both b p q = cc
-
--- another kind than a number
-pub not_whole : (m : Marker) (h : Head) → ((z : ℤ) → h ≡ Whole z → ⊥) → other_kind m h ≡ other_number m h
-not_whole m (Whole z) n = absurd (n z refl)
-not_whole m Nil n = refl
-not_whole m (Truth t) n = refl
-not_whole m (F32Bits k) n = refl
-not_whole m (F64Bits k) n = refl
-not_whole m (Text k) n = refl
-not_whole m (Bin k) n = refl
-not_whole m (Array k) n = refl
-not_whole m (Map k) n = refl
-not_whole m (Ext k tag) n = refl
 
 -- ---- numbers in narrower words
 

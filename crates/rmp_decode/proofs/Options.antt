@@ -64,7 +64,7 @@ use Rattle.rmp_decode.specs.Options.{BeginsOther, FailsToSee, IsNil, IsOption, S
 use Rattle.rmp_decode.specs.State.{faults_of, kept_bytes, left, room_of, Stays}
 use Rattle.rmp_decode.specs.declared.deserializer.Deserializer.{Deserializer}
 use Rattle.rmp_decode.specs.declared.error.Error.{Error}
-use Rattle.rmp_decode.proofs.Laws.{lawful_ok, stays_refl, stays_then}
+use Rattle.rmp_decode.proofs.Laws.{stays_refl, stays_then}
 use Rattle.rmp_decode.proofs.NothingAccepted.{opened, refuses_narrower, refuses_none}
 
 -- nil is one byte
@@ -150,13 +150,13 @@ at_end_is fault None e k = tt
 at_end_is fault (Some xs) e k = (e, k)
 
 -- what was left is still left
-kept_consumes : (a b c : Option (List ℕ)) (bs : List ℕ) → Keeps a b → Consumes b c bs → Consumes a c bs
+pub kept_consumes : (a b c : Option (List ℕ)) (bs : List ℕ) → Keeps a b → Consumes b c bs → Consumes a c bs
 kept_consumes None b c bs p q = tt
 kept_consumes (Some x) None c bs p q = absurd p
 kept_consumes (Some x) (Some y) None bs p q = absurd q
 kept_consumes (Some x) (Some y) (Some z) bs p q = sym p ∙ q
 
-kept_refuses : (spells : List ℕ → Msg → Type 0) (P : Msg → Type 0) (room : ℕ) (a b : Option (List ℕ)) → Keeps a b → Refuses spells P room b
+pub kept_refuses : (spells : List ℕ → Msg → Type 0) (P : Msg → Type 0) (room : ℕ) (a b : Option (List ℕ)) → Keeps a b → Refuses spells P room b
     → Refuses spells P room a
 unfolding Refuses
 kept_refuses spells P room None b p r = tt
@@ -168,7 +168,7 @@ kept_same None = tt
 kept_same (Some x) = refl
 
 -- a byte that was taken is kept back
-kept_byte : (n : ℕ) (a b : Option (List ℕ)) → Consumes a b (n ∷ []) → Keeps a (prepend_known (n ∷ []) b)
+pub kept_byte : (n : ℕ) (a b : Option (List ℕ)) → Consumes a b (n ∷ []) → Keeps a (prepend_known (n ∷ []) b)
 kept_byte n None b c = tt
 kept_byte n (Some x) None c = absurd c
 kept_byte n (Some x) (Some y) c = sym c
@@ -252,9 +252,6 @@ sees_kept g old f b = record {
   stays = stays_refl g old;
 }
 
-pub first_other : (k : Kept) (b : ℕ) → k ≡ First b → b ≢ 0xc0 → BeginsOther (kept_bytes k)
-first_other k b e n = record { byte = b; behind = []; is = rw e refl; other = n }
-
 pub number_other : (k : Kept) (n : ℕ) → k ≡ Number n → BeginsOther (kept_bytes k)
 number_other k n e = rw e (number_begins n)
 
@@ -272,10 +269,6 @@ sees_none g old new fault o f k s m = record {
 }
 
 module _ {R C V : Type 0} (g : Ghosts R) (reads : Msg → V → Type 0) (old : Deserializer R C) where
-  -- nil was taken
-  pub option_none : (new : Deserializer R C) → Lawful g IsNil old new (Ok tt) → Lawful g (IsOption reads) old new (Ok None)
-  option_none new l = lawful_ok g IsNil (IsOption reads) old new tt None (λ m r. r) l
-
   -- there is nothing to look at
   pub option_missing : (new : Deserializer R C) (e : Error) → FailsToSee g old new e → Lawful g (IsOption reads) old new (Err e)
   option_missing new e f = record {

@@ -61,10 +61,6 @@ module _ {K : Type 0} {cmp : K → K → Ordering} (o : IsTotalOrder cmp) where
   find_insert q k [] s = refl
   find_insert q k (x ∷ xs) s = place q k x xs (cmp k x) (cmp q k) refl refl s.0 (find_insert q k xs s.1)
 
-  pub keys_none : (ks : List K) → ks ≡ [] → CollectsKeys cmp [] ks
-  unfolding IsStrictlySortedBy
-  keys_none ks e = rw e (record { ordered = tt; first = λ q. refl })
-
   -- one element more
   pub keys_more : (ns ks ls : List K) (k : K) → CollectsKeys cmp ns ks → ls ≡ insert_key cmp ks k → IsStrictlySortedBy cmp ls
       → CollectsKeys cmp (ns ++ k ∷ []) ls

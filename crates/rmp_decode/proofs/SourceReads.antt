@@ -9,7 +9,7 @@ use Rattle.rmp_wire.specs.Copying.{copied_from}
 use Rattle.rmp_wire.specs.Msg.{Msg}
 use Rattle.rmp_wire.specs.Spelling.{Spells}
 use Rattle.rmp_decode.specs.Law.{Begins, Explains, Lawful, Readable, Refuses}
-use Rattle.rmp_decode.specs.Readers.{source_of, source_setting, TakenFrom, RefusedFrom}
+use Rattle.rmp_decode.specs.Readers.{source_of, source_setting, ReadFrom, RefusedBy}
 use Rattle.rmp_decode.specs.Refusing.{Setting, Refusals, RefusesAs, setting_of}
 use Rattle.rmp_decode.specs.State.{kept_bytes, left, room_of}
 use Rattle.rmp_decode.specs.declared.deserializer.Deserializer.{Deserializer}
@@ -27,9 +27,9 @@ abbrev pub under : {R : Type 0} → Ghosts R → Ghosts (ReadReader R)
 under g = record { ahead = λ r. g.ahead (copied_from r); faults = λ r. g.faults (copied_from r); place = λ r. g.place (copied_from r) }
 
 -- where the bytes are told, a beginning of them spells the tree that was read
-pub told_begins : {R V : Type 0} (g : Ghosts R) (reads : Msg → V → Type 0) (source : R) (v : V) → TakenFrom g reads source v
-    → IfSome (g.ahead source) (Begins Spells (λ m. reads m v) 1024)
-told_begins g reads source v t = begun (g.ahead source) (g.ahead t.last) t.takes
+pub told_begins : {R V : Type 0} (g : Ghosts R) (reads : Msg → V → Type 0) (old new : R) (v : V) → ReadFrom g reads old new v
+    → IfSome (g.ahead old) (Begins Spells (λ m. reads m v) 1024)
+told_begins g reads old new v t = begun (g.ahead old) (g.ahead new) t.takes
   where
     begun : (known after : Option (List ℕ)) → Consumes known after t.bytes → IfSome known (Begins Spells (λ m. reads m v) 1024)
     begun None after c = tt
@@ -42,9 +42,8 @@ module _ {R C V : Type 0} (g : Ghosts R) (reads : Msg → V
   was_ahead : left (under g) old ≡ g.ahead source
   was_ahead = nothing_kept old.kept (g.ahead (source_of old)) kept ∙ ap g.ahead same
 
-  pub taken_from : (r : Result V Error) → Lawful (under g) reads old new r → IfOk r (TakenFrom g reads source)
-  taken_from (Ok v) l = record {
-    last = source_of new;
+  pub read_from : (r : Result V Error) → Lawful (under g) reads old new r → IfOk r (ReadFrom g reads source (source_of new))
+  read_from (Ok v) l = record {
     bytes = l.ok.bytes;
     tree = l.ok.tree;
     takes = subst (λ z. Consumes z (g.ahead (source_of new)) l.ok.bytes) was_ahead
@@ -54,12 +53,12 @@ module _ {R C V : Type 0} (g : Ghosts R) (reads : Msg → V
     fits = rw room at l.ok.fits;
     value = l.ok.value;
   }
-  taken_from (Err e) l = tt
+  read_from (Err e) l = tt
 
-  pub refused_from_source : (refuses : Setting → Refusals) (r : Result V Error) → old.failed ≡ false → Lawful (under g) reads old new r
-      → RefusesAs (under g) false false refuses old new r → IfErr r (RefusedFrom g reads (refuses source_setting) source)
-  refused_from_source refuses (Ok v) ready l p = tt
-  refused_from_source refuses (Err e) ready l p =
+  pub refused_by : (refuses : Setting → Refusals) (r : Result V Error) → old.failed ≡ false → Lawful (under g) reads old new r
+      → RefusesAs (under g) false false refuses old new r → IfErr r (RefusedBy g reads (refuses source_setting) source (source_of new))
+  refused_by refuses (Ok v) ready l p = tt
+  refused_by refuses (Err e) ready l p =
       let after = g.faults (source_of new) in
       let e1 = subst (λ z. Explains e (g.faults z) after (Refuses (SpellsAs old.strict) (Readable reads) (room_of old) (left (under g) old))) same
       (l.err ready) in
@@ -70,8 +69,6 @@ module _ {R C V : Type 0} (g : Ghosts R) (reads : Msg → V
       let p3 = subst (λ z. refuses (record { human = false; lends = false; strict = old.strict; room = z }) (g.faults source) after (g.ahead source) e) room
       p2 in
       record {
-        last = source_of new;
-        place = l.stays.place ∙ ap g.place same;
         explains = subst (λ z. Explains e (g.faults source) after (Refuses (SpellsAs z) (Readable reads) 1024 (g.ahead source))) lenient e3;
         refused = subst (λ z. refuses (record { human = false; lends = false; strict = z; room = 1024 }) (g.faults source) after (g.ahead source) e) lenient p3;
       }

@@ -554,9 +554,3 @@ module _ {V W : Type 0} (reads : Msg → V → Type 0) (rest : List (Option Msg)
   slot_lacks absent Q w v [] e h f = h
   slot_lacks absent Q w v (None ∷ fs) e h f = let z = f.0 in absurd (cc)
   slot_lacks absent Q w v (Some m ∷ fs) e h f = absurd (let z = h.0.1 in cc)
-
-  pub slot_lacks_later : (A : Type 0) (P : Msg → Type 0) (Q : List (Option Msg) → Type 0) (o : Option V) (w : W) (fs : List (Option Msg))
-      → ((gs : List (Option Msg)) → rest gs w → Q gs → ⊥) → Slot reads rest fs o w → Field P A Q fs → ⊥
-  slot_lacks_later A P Q o w [] f h k = h
-  slot_lacks_later A P Q o w (None ∷ fs) f h k = f fs h.1 k.1
-  slot_lacks_later A P Q o w (Some m ∷ fs) f h k = f fs h.1 k.1

@@ -3,7 +3,7 @@ use Rattle.std.proofs.Common.{◌≡◌, ◌≢◌, ◌∙◌, refl, sym, subst,
 use Rattle.rmp_wire.specs.declared.source.Source.{Ghosts}
 use Rattle.rmp_decode.specs.Exact.{RefusesBy}
 use Rattle.rmp_wire.specs.declared.head.Head.TheVariants.{Map}
-use Rattle.rmp_decode.specs.FieldAccess.{begun, names_in, as_seq, as_map, struct_within, IsStructOpen, OpensAs, OpensStruct, OpensStructIn, FailsToOpenStructOf}
+use Rattle.rmp_decode.specs.FieldAccess.{begun, names_in, struct_within, IsStructOpen, OpensAs, OpensStruct, OpensStructIn, FailsToOpenStructOf}
 use Rattle.rmp_decode.specs.Fields.{HasFields, not_fields}
 use Rattle.rmp_decode.specs.Law.{Readable, TakesHead}
 use Rattle.rmp_decode.specs.Parts.{FailsPart}

@@ -16,7 +16,7 @@ use Rattle.rmp_decode.specs.declared.error.Error.{Error}
 use Rattle.rmp_decode.specs.declared.error.Error.TheVariants.{DepthLimitExceeded, Syntax}
 use Rattle.rmp_decode.specs.declared.text.Text.TheVariants.{InvalidType}
 use Rattle.rmp_decode.proofs.Laws.{lawful_err, lawful_ok, refused}
-use Rattle.rmp_decode.proofs.ListOpening.{nests}
+use Rattle.rmp_decode.proofs.Opening.{nests}
 use Rattle.rmp_decode.proofs.NothingAccepted.{refuses_all, refuses_by, same_head}
 
 abbrev pub NothingIs : Msg → Unit {0} → Type 0

@@ -67,7 +67,7 @@ use Rattle.rmp_decode.specs.declared.error.Error.TheVariants.{LengthMismatch, De
 use Rattle.rmp_decode.proofs.ContentErrors.{content_none, content_other, content_apart, same_front}
 use Rattle.rmp_decode.proofs.Contents.{raw_content, content_refused}
 use Rattle.rmp_decode.proofs.Exactness.{stand_once}
-use Rattle.rmp_decode.proofs.MapOpening.{map_nests}
+use Rattle.rmp_decode.proofs.Opening.{map_nests}
 use Rattle.rmp_decode.proofs.Names.{name_of_raw, length_bytes}
 use Rattle.rmp_decode.proofs.NothingAccepted.{refuses_none, refuses_head, refuses_by, same_head}
 

@@ -36,6 +36,10 @@ abbrev pub IsDataEnd : Error → Type 0
 IsDataEnd (InvalidDataRead fault) = fault_kind fault ≡ UnexpectedEof
 IsDataEnd _ = ⊥
 
+-- the input ended before or behind it
+abbrev pub IsEnd : Error → Type 0
+IsEnd e = IsMarkerEnd e ⊎ IsDataEnd e
+
 -- a text isn't UTF-8
 abbrev pub IsUtf8Error : Error → Type 0
 IsUtf8Error (Utf8Error why) = Unit {0}

@@ -1,5 +1,5 @@
 -- What a struct's fields are read from, whatever stands for its names.
-use Rattle.std.specs.Prelude.{◌≡◌, ◌≢◌, ℕ, zero, suc, Bool, true, false, List, [], ◌∷◌, map, length, Option, Some, None, MatchOption, cond, nat_eq}
+use Rattle.std.specs.Prelude.{◌≡◌, ◌≢◌, ℕ, zero, suc, Bool, true, List, [], ◌∷◌, map, length, Option, Some, None, MatchOption, cond, nat_eq, Result}
 use Rattle.std.proofs.Common.{refl, ap, subst}
 use Rattle.std.specs.Borrow.{GName}
 use Rattle.std.specs.Option.{option_and_then}
@@ -7,27 +7,26 @@ use Rattle.rmp_wire.specs.declared.head.Head.{Head}
 use Rattle.rmp_wire.specs.declared.head.Head.TheVariants.{Map, Array, Bin}
 use Rattle.rmp_wire.specs.declared.marker.Marker.{Marker}
 use Rattle.rmp_wire.specs.declared.source.Source.{Ghosts}
+pub use Rattle.rmp_wire.specs.Kinds.{fields_head}
 use Rattle.rmp_wire.specs.Msg.{Msg, nil, truth, whole, float32, float64, text, bin, list}
 use Rattle.rmp_wire.specs.Msg.{extension, Msgs, no_items, item, count, items_of, Pairs, no_pairs, pair}
 use Rattle.rmp_wire.specs.Msg.{map as mapping}
 use Rattle.rmp_decode.specs.Content.{RefusesContent, not_raw, never_refused}
-use Rattle.rmp_decode.specs.Exact.{RefusesBy}
-use Rattle.rmp_decode.specs.Law.{Readable, Refuses, Explains, IsFailedBefore}
+use Rattle.rmp_decode.specs.Opening.{FailsToOpenAs, TakesOpening}
+use Rattle.rmp_decode.specs.Law.{Readable}
 use Rattle.rmp_decode.specs.Maps.{TakesValue, OpensMap}
 use Rattle.rmp_decode.specs.Names.{name_of, IsNameHead}
-use Rattle.rmp_wire.specs.Canonical.{SpellsAs}
 use Rattle.rmp_decode.specs.Refuse.{UnpassedFor, RefusedFor}
 use Rattle.rmp_decode.specs.Refusing.{Setting, Refusals}
-use Rattle.rmp_decode.specs.Seq.{numbers, seq_head, Opens}
+use Rattle.rmp_decode.specs.Seq.{numbers, Opens}
 use Rattle.rmp_decode.specs.declared.access.fields.FieldParts.{FieldParts}
 use Rattle.rmp_decode.specs.declared.access.fields.FieldParts.TheVariants as parts
 use Rattle.rmp_decode.specs.declared.access.fields.FieldParts.TheVariants.{Seq}
 use Rattle.rmp_decode.specs.Skip.{any_tree, any_row}
-use Rattle.rmp_decode.specs.State.{left, faults_of, room_of, Stays}
 use Rattle.rmp_decode.specs.declared.deserializer.Deserializer.{Deserializer}
 use Rattle.rmp_decode.specs.declared.access.map.MapAccess.{MapAccess}
 use Rattle.rmp_decode.specs.declared.error.Error.{Error}
-use Rattle.rmp_decode.specs.declared.error.Error.TheVariants.{DepthLimitExceeded, OutOfMemory, Syntax}
+use Rattle.rmp_decode.specs.declared.error.Error.TheVariants.{DepthLimitExceeded, Syntax}
 use Rattle.rmp_decode.specs.declared.text.Text.TheVariants.{InvalidType}
 
 -- ---- the trees of fields, each in the place of its name, or none where it isn't there
@@ -169,11 +168,6 @@ slot_full reads absent rest holds law (item m ms) o s h =
 
 -- ---- heads
 
--- the head of bytes or of a list, or of a map
-abbrev pub fields_head : Option Bool → ℕ → Head
-fields_head None n = Map n
-fields_head (Some b) n = seq_head b n
-
 -- a list, bytes or a map
 abbrev pub HasFields : Msg → Type 0
 HasFields nil = ⊥
@@ -195,13 +189,12 @@ not_fields room m (Bin n) e = ⊥
 not_fields room m h e = e ≡ Syntax InvalidType
 
 -- none of them could be opened
-pub record FailsToOpenFields {R C : Type 0} (g : Ghosts R) (old new : Deserializer R C) (e : Error) : Type 0 where
-  pub failed : new.failed ≡ true
-  pub stays : Stays g old new
-  pub before : old.failed ≡ true → IsFailedBefore e × (new ≡ old)
-  pub err : old.failed ≡ false → Explains e (faults_of g old) (faults_of g new) (Refuses (SpellsAs old.strict) HasFields (room_of old) (left g old))
-  pub memory : e ≢ OutOfMemory
-  pub exact : old.failed ≡ false → RefusesBy old.strict (not_fields (room_of old)) (faults_of g old) (faults_of g new) (left g old) e
+abbrev pub FailsToOpenFields : {R C : Type 0} → Ghosts R → Deserializer R C → Deserializer R C → Error → Type 0
+FailsToOpenFields g = FailsToOpenAs g HasFields not_fields
+
+-- the head of a list, of bytes (Some true), or of a map (None) was consumed; bytes don't nest
+abbrev pub TakesFieldsHead : {R C : Type 0} → Ghosts R → Deserializer R C → Deserializer R C → Result (Option Bool × ℕ) Error → Type 0
+TakesFieldsHead g = TakesOpening g (λ p. fields_head p.0 p.1) (λ p. p.0 ≢ Some true) HasFields not_fields
 
 -- how a key is refused that says nothing
 abbrev pub name_refusal : Setting → Refusals

@@ -1,16 +1,13 @@
 -- What a head holds, where it is of one kind.
-use Rattle.std.specs.Prelude.{ℕ, List, Bool, true, false, Option, MatchOption}
+use Rattle.std.specs.Prelude.{ℕ, List, Bool, true, false}
 use Rattle.rmp_wire.specs.Msg.{Msg, text, bin}
+pub use Rattle.rmp_wire.specs.Kinds.{Finds, raw_head, content_len}
 use Rattle.rmp_wire.specs.declared.head.Head.{Head}
 use Rattle.rmp_wire.specs.declared.head.Head.TheVariants.{Nil, Truth, Whole, F32Bits, F64Bits, Text, Bin, Array, Map, Ext}
 use Rattle.rmp_wire.specs.declared.marker.Marker.{Marker}
 use Rattle.rmp_decode.specs.declared.error.Error.{Error}
 use Rattle.rmp_decode.specs.declared.error.Error.TheVariants.{Syntax, TypeMismatch}
 use Rattle.rmp_decode.specs.declared.text.Text.TheVariants.{InvalidType, InvalidValue}
-
--- the head is of the kind, and holds this, or it is of no such kind
-abbrev pub Finds : {A : Type 0} → (Head → A → Type 0) → Head → Option A → Type 0
-Finds {A} Is h found = MatchOption found ((a : A) → Is h a → ⊥) (Is h)
 
 -- how a message of another kind is refused where a truth, a number or the bits of a float is wanted
 abbrev pub other_kind : Marker → Head → Error
@@ -38,21 +35,3 @@ not_nil m h = Syntax InvalidType
 abbrev pub raw_msg : Bool → List ℕ → Msg
 raw_msg true s = text s
 raw_msg false s = bin s
-
--- the head of a text, or of bytes
-abbrev pub raw_head : Bool → ℕ → Head
-raw_head true n = Text n
-raw_head false n = Bin n
-
--- how many bytes of content stand behind the head of a leaf
-abbrev pub content_len : Head → ℕ
-content_len Nil = 0
-content_len (Truth t) = 0
-content_len (Whole z) = 0
-content_len (F32Bits n) = 0
-content_len (F64Bits n) = 0
-content_len (Text n) = n
-content_len (Bin n) = n
-content_len (Array n) = 0
-content_len (Map n) = 0
-content_len (Ext n tag) = n

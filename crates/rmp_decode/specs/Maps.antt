@@ -1,5 +1,5 @@
 -- What an access to the pairs of a map does to the `Deserializer` that it borrows.
-use Rattle.std.specs.Prelude.{◌≡◌, ℕ, ◌+◌, max, Bool, true, false, List, [], ◌∷◌, reverse}
+use Rattle.std.specs.Prelude.{◌≡◌, ℕ, ◌+◌, max, Bool, true, false, List, [], ◌∷◌, reverse, Result}
 use Rattle.std.specs.BTreeMap.{is_at}
 use Rattle.std.specs.List.Sorted.{IsStrictlySortedBy}
 use Rattle.std.specs.Map.{keys_of, lookup, lookup_key}
@@ -9,12 +9,11 @@ use Rattle.rmp_wire.specs.declared.head.Head.TheVariants.{Map}
 use Rattle.rmp_wire.specs.declared.marker.Marker.{Marker}
 use Rattle.rmp_wire.specs.declared.source.Source.{Ghosts}
 use Rattle.rmp_wire.specs.Msg.{Msg, nil, truth, whole, float32, float64, text, bin, list, map, extension, Pairs, no_pairs, pair}
-use Rattle.rmp_wire.specs.Canonical.{SpellsAs}
-use Rattle.rmp_decode.specs.Exact.{RefusesBy}
-use Rattle.rmp_decode.specs.Law.{TakesHead, Refuses, Explains, IsFailedBefore}
+use Rattle.rmp_decode.specs.Opening.{FailsToOpenAs, TakesOpening}
+use Rattle.rmp_decode.specs.Law.{TakesHead}
 use Rattle.rmp_decode.specs.Parts.{TakesPart}
 use Rattle.rmp_decode.specs.Seq.{IsOpen}
-use Rattle.rmp_decode.specs.State.{left, faults_of, room_of, Stays}
+use Rattle.rmp_decode.specs.State.{faults_of, room_of, Stays}
 use Rattle.rmp_decode.specs.declared.deserializer.Deserializer.{Deserializer}
 use Rattle.rmp_decode.specs.declared.access.map.MapAccess.{MapAccess}
 use Rattle.rmp_decode.specs.declared.access.seq.SeqAccess.{SeqAccess}
@@ -124,12 +123,12 @@ not_map room m (Map n) e = (room ≡ 1) × (e ≡ DepthLimitExceeded)
 not_map room m h e = e ≡ Syntax InvalidType
 
 -- no map could be opened
-pub record FailsToOpenMap {R C : Type 0} (g : Ghosts R) (old new : Deserializer R C) (e : Error) : Type 0 where
-  pub failed : new.failed ≡ true
-  pub stays : Stays g old new
-  pub before : old.failed ≡ true → IsFailedBefore e × (new ≡ old)
-  pub err : old.failed ≡ false → Explains e (faults_of g old) (faults_of g new) (Refuses (SpellsAs old.strict) IsMap (room_of old) (left g old))
-  pub exact : old.failed ≡ false → RefusesBy old.strict (not_map (room_of old)) (faults_of g old) (faults_of g new) (left g old) e
+abbrev pub FailsToOpenMap : {R C : Type 0} → Ghosts R → Deserializer R C → Deserializer R C → Error → Type 0
+FailsToOpenMap g = FailsToOpenAs g IsMap not_map
+
+-- the head of a map was consumed
+abbrev pub TakesMapHead : {R C : Type 0} → Ghosts R → Deserializer R C → Deserializer R C → Result ℕ Error → Type 0
+TakesMapHead g = TakesOpening g Map (λ n. Unit {0}) IsMap not_map
 
 -- the next key was read
 pub record TakesKey {R C K : Type 0} (g : Ghosts R) (reads : Msg → K → Type 0) (old new : MapAccess R C) (k : K) : Type 0 where

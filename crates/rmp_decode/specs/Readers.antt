@@ -24,20 +24,27 @@ abbrev pub source_setting : Setting
 source_setting = record { human = false; lends = false; strict = false; room = 1024 }
 
 -- A spelling of a tree was taken from the front of a source that tells its bytes or doesn't, and just that; the tree is read as v.
-pub record TakenFrom {R V : Type 0} (g : Ghosts R) (reads : Msg → V → Type 0) (source : R) (v : V) : Type 0 where
-  pub last : R
+pub record ReadFrom {R V : Type 0} (g : Ghosts R) (reads : Msg → V → Type 0) (old new : R) (v : V) : Type 0 where
   pub bytes : List ℕ
   pub tree : Msg
-  pub takes : Consumes (g.ahead source) (g.ahead last) bytes
-  pub sound : g.faults last ≡ g.faults source
+  pub takes : Consumes (g.ahead old) (g.ahead new) bytes
+  pub sound : g.faults new ≡ g.faults old
   pub spelled : Spells bytes tree
   pub fits : depth tree < 1024
   pub value : reads tree v
 
--- A source refused, and was left in some state: unless memory was short or it had a fault, none of its beginnings was one to read; and the
--- error is as the type says.
+-- A source refused: unless memory was short or it had a fault, none of its beginnings was one to read; and the error is as the type says.
+pub record RefusedBy {R V : Type 0} (g : Ghosts R) (reads : Msg → V → Type 0) (refuses : Refusals) (old new : R) (e : Error) : Type 0 where
+  pub explains : Explains e (g.faults old) (g.faults new) (Refuses Spells (Readable reads) 1024 (g.ahead old))
+  pub refused : refuses (g.faults old) (g.faults new) (g.ahead old) e
+
+-- a value was read from a source, which isn't given back
+pub record TakenFrom {R V : Type 0} (g : Ghosts R) (reads : Msg → V → Type 0) (source : R) (v : V) : Type 0 where
+  pub last : R
+  pub read : ReadFrom g reads source last v
+
+-- a source refused, and was left in some state
 pub record RefusedFrom {R V : Type 0} (g : Ghosts R) (reads : Msg → V → Type 0) (refuses : Refusals) (source : R) (e : Error) : Type 0 where
   pub last : R
   pub place : g.place last ≡ g.place source
-  pub explains : Explains e (g.faults source) (g.faults last) (Refuses Spells (Readable reads) 1024 (g.ahead source))
-  pub refused : refuses (g.faults source) (g.faults last) (g.ahead source) e
+  pub refusal : RefusedBy g reads refuses source last e

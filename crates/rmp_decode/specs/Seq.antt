@@ -1,6 +1,7 @@
 -- What an access to the elements of a list does to the `Deserializer` that it borrows.
-use Rattle.std.specs.Prelude.{◌≡◌, ◌≢◌, ◌⊎◌, ℕ, ◌+◌, ◌<◌, max, Bool, true, false, List, [], ◌∷◌, ◌++◌, Option, IfSome, pos}
+use Rattle.std.specs.Prelude.{◌≡◌, ◌⊎◌, ℕ, ◌+◌, ◌<◌, max, Bool, true, false, List, [], ◌∷◌, ◌++◌, Option, Result, IfSome, pos}
 use Rattle.std.specs.Io.KnownBytes.{Consumes}
+pub use Rattle.rmp_wire.specs.Kinds.{seq_head}
 use Rattle.rmp_wire.specs.declared.head.Head.{Head}
 use Rattle.rmp_wire.specs.declared.head.Head.TheVariants.{Array, Bin}
 use Rattle.rmp_wire.specs.declared.marker.Marker.{Marker}
@@ -8,14 +9,14 @@ use Rattle.rmp_wire.specs.declared.source.Source.{Ghosts}
 use Rattle.rmp_wire.specs.Msg.{Msg, nil, truth, whole, float32, float64, text, bin, list, map, extension, Msgs, no_items, item, count, depth, depth_all}
 use Rattle.rmp_wire.specs.Canonical.{SpellsAs}
 use Rattle.rmp_wire.specs.Spelling.{Joined}
-use Rattle.rmp_decode.specs.Exact.{RefusesBy}
-use Rattle.rmp_decode.specs.Law.{TakesHead, Refuses, Readable, Explains, IsFailedBefore}
+use Rattle.rmp_decode.specs.Law.{TakesHead, Refuses, Readable, Explains}
+use Rattle.rmp_decode.specs.Opening.{FailsToOpenAs, TakesOpening}
 use Rattle.rmp_decode.specs.State.{left, faults_of, room_of, Stays}
 use Rattle.rmp_decode.specs.declared.deserializer.Deserializer.{Deserializer}
 use Rattle.rmp_decode.specs.declared.deserializer.Kept.TheVariants.{Nothing, Number}
 use Rattle.rmp_decode.specs.declared.access.seq.SeqAccess.{SeqAccess}
 use Rattle.rmp_decode.specs.declared.error.Error.{Error}
-use Rattle.rmp_decode.specs.declared.error.Error.TheVariants.{DepthLimitExceeded, OutOfMemory, Syntax}
+use Rattle.rmp_decode.specs.declared.error.Error.TheVariants.{DepthLimitExceeded, Syntax}
 use Rattle.rmp_decode.specs.declared.text.Text.TheVariants.{InvalidType}
 
 -- the numbers that bytes are
@@ -38,11 +39,6 @@ OfRow Q (extension tag s) = ⊥
 
 abbrev pub IsSeq : Msg → Type 0
 IsSeq m = OfRow (λ ms. Unit {0}) m
-
--- the head of bytes, or of a list
-abbrev pub seq_head : Bool → ℕ → Head
-seq_head true n = Bin n
-seq_head false n = Array n
 
 -- a byte of bytes spells the number that it is
 pub record SpellsByte (bytes : List ℕ) (m : Msg) : Type 0 where
@@ -108,13 +104,12 @@ not_seq room m (Bin n) e = ⊥
 not_seq room m h e = e ≡ Syntax InvalidType
 
 -- no list could be opened
-pub record FailsToOpen {R C : Type 0} (g : Ghosts R) (old new : Deserializer R C) (e : Error) : Type 0 where
-  pub failed : new.failed ≡ true
-  pub stays : Stays g old new
-  pub before : old.failed ≡ true → IsFailedBefore e × (new ≡ old)
-  pub err : old.failed ≡ false → Explains e (faults_of g old) (faults_of g new) (Refuses (SpellsAs old.strict) IsSeq (room_of old) (left g old))
-  pub memory : e ≢ OutOfMemory
-  pub exact : old.failed ≡ false → RefusesBy old.strict (not_seq (room_of old)) (faults_of g old) (faults_of g new) (left g old) e
+abbrev pub FailsToOpen : {R C : Type 0} → Ghosts R → Deserializer R C → Deserializer R C → Error → Type 0
+FailsToOpen g = FailsToOpenAs g IsSeq not_seq
+
+-- the head of bytes (true) or of a list was consumed; a list nests
+abbrev pub TakesSeqHead : {R C : Type 0} → Ghosts R → Deserializer R C → Deserializer R C → Result (Bool × ℕ) Error → Type 0
+TakesSeqHead g = TakesOpening g (λ p. seq_head p.0 p.1) (λ p. p.0 ≡ false) IsSeq not_seq
 
 -- the next element was read
 pub record TakesElement {R C V : Type 0} (g : Ghosts R) (reads : Msg → V → Type 0) (old new : SeqAccess R C) (v : V) : Type 0 where

@@ -1,8 +1,7 @@
 -- What passing over messages takes.
 use Rattle.std.specs.Prelude.{◌≡◌, ℕ, ◌*◌, ◌<◌, Bool, true, false, List, length, Option, Result, OnOk, OnErr, IfErr}
 use Rattle.std.specs.Io.KnownBytes.{Consumes}
-use Rattle.rmp_wire.specs.declared.head.Head.{Head}
-use Rattle.rmp_wire.specs.declared.head.Head.TheVariants.{Array, Map}
+pub use Rattle.rmp_wire.specs.Kinds.{parts_head}
 use Rattle.rmp_wire.specs.declared.source.Source.{Ghosts}
 use Rattle.rmp_wire.specs.Msg.{Msg, Msgs, count, depth_all}
 use Rattle.rmp_wire.specs.Canonical.{SpellsAs}
@@ -20,11 +19,6 @@ any_tree m u = Unit {0}
 
 abbrev pub any_row : Msgs → Type 0
 any_row ms = Unit {0}
-
--- the head of a list, or of a map
-abbrev pub parts_head : Bool → ℕ → Head
-parts_head true n = Map n
-parts_head false n = Array n
 
 -- how many messages stand behind it
 abbrev pub parts_count : Bool → ℕ → ℕ

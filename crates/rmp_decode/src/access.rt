@@ -4,6 +4,8 @@ pub(crate) mod field_access;
 pub(crate) mod fields;
 pub(crate) mod map;
 pub(crate) mod names;
+mod open;
 mod parts;
+pub(crate) mod read_fields;
 pub(crate) mod seq;
 pub(crate) mod variant;

@@ -14,10 +14,8 @@ ghost use Rattle.rmp_decode.specs.VariantNames.{TakesName, StartsWithNoName, unk
 
 mod buffers;
 mod chars;
-mod ext;
-mod lent;
+pub(crate) mod cold;
 pub(crate) mod pieces;
-mod strings;
 mod texts;
 
 use crate::access::variant::next_variant;

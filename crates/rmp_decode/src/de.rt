@@ -7,17 +7,16 @@ ghost use Rattle.rmp_decode.specs.Law.{Begins, Readable, Lawful};
 ghost use Rattle.rmp_decode.specs.Refusing.{slice_setting};
 
 mod arrays;
+pub(crate) mod defaults;
+mod elements;
 mod lists;
 mod maps;
 mod numbers;
 mod options;
 mod pointers;
-mod rows;
 mod sets;
 mod texts;
 mod tuples;
-mod units;
-mod wide;
 
 use crate::deserializer::Deserializer;
 use crate::error::Error;
@@ -34,14 +33,14 @@ pub trait Deserialize<'de, R: ReadSlice<'de>>: Sized + Drop {
     // bytes.
     ghost reads: { Bool → Bool → Msg → Self → Type 0 };
 
-    // What stands for a field that isn't there, if anything does.
+    // The value of a field that is missing, if there is one.
     ghost absent: { Option Self };
 
     // What is known of the error of a read of a ready reader, by what the read depends on, how many faults the source had before
     // and after, and what was left.
     ghost refuses: { Setting → Refusals } = { λ _. any_refusal };
 
-    // Whether a read may answer that memory was short, by whether the source lends its bytes.
+    // Whether a read may return `OutOfMemory`, by whether the source lends its bytes.
     ghost takes_memory: { Bool → Bool } = { λ _. true };
 
     /// Reads one message.
@@ -50,7 +49,7 @@ pub trait Deserialize<'de, R: ReadSlice<'de>>: Sized + Drop {
         ensures refused { RefusesAs R.Source (C.human (config_of de.old)) R.lends refuses de.old de.new result }
         ensures memory { takes_memory R.lends ≡ false → IfErr result (λ e. e ≢ Error.OutOfMemory) };
 
-    /// What stands for a field that isn't there, if anything does.
+    /// The value of a field that is missing, if there is one.
     fn missing() -> Option<Self>
         ensures { result ≡ absent };
 }
@@ -64,7 +63,7 @@ pub trait Deserialize<'de, R: ReadSlice<'de>>: Sized + Drop {
 /// ```
 /// use rmp_serde::from_slice;
 ///
-/// // the 42 stands in three bytes, and the text is lent from the input
+/// // the 42 takes three bytes, and the text is borrowed from the input
 /// let input = [0x92, 0xcd, 0x00, 0x2a, 0xa2, 0x69, 0x74];
 /// let (number, text): (u8, &str) = from_slice(alloc, &input)?;
 /// assert_eq!(rt; number, 42);
@@ -112,14 +111,14 @@ pub fn from_slice_strict<'de, T: Deserialize<'de, ReadRefReader<'de>>>(
     ensures refused { IfErr result (T.refuses (slice_setting true) 0 0 (Some input.now)) }
     ensures memory { T.takes_memory true ≡ false → IfErr result (λ e. e ≢ Error.OutOfMemory) }
 {
-    // The settings say the same as the default ones, by another type: so strict reads are compiled apart from lenient ones, and a
-    // list's loop is inlined into both.
+    // The settings are the default ones under another type: so strict reads are compiled separately, and a list's loop is inlined into
+    // both.
     let mut de = Deserializer::from_read_ref(alloc, input).with_binary();
     de.set_strict(true);
     T::deserialize(&mut de)
 }
 
-/// The same as `from_slice`.
+/// Reads the value that a beginning of the input spells, as `from_slice` does.
 ///
 /// # Errors
 /// As `from_slice`.

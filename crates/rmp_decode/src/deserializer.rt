@@ -5,13 +5,16 @@ ghost use Rattle.rmp_decode.specs.State.{limit_at, limit_of, limited, failed_of,
 ghost use Rattle.rmp_decode.specs.Law.{ReadsHead};
 ghost use Rattle.rmp_decode.specs.declared.deserializer.Kept.TheVariants.{Nothing};
 
-pub(crate) mod fronts;
 mod heads;
-pub(crate) mod kinds;
+mod leaf;
+pub(crate) mod messages;
+mod next;
 mod numbers;
+mod options;
+pub(crate) mod peek;
 pub(crate) mod reader;
+pub(crate) mod refusal;
 pub(crate) mod skip;
-mod steps;
 
 use crate::deserializer::heads::{next_head, rest_of_head};
 use crate::error::Error;
@@ -29,6 +32,7 @@ const MAX_DEPTH: usize = 65535;
 /// What a reader keeps back.
 #[derive(Clone, Copy, Debug)]
 pub enum Kept {
+    /// Nothing.
     Nothing,
     /// The first byte of the next message, which was looked at.
     First(u8),
@@ -38,8 +42,7 @@ pub enum Kept {
 
 /// Reads values from a source, one message after another.
 ///
-/// It is ready, or failed for good: after an error of any read each read answers `Uncategorized("failed before")` and takes
-/// nothing.
+/// After an error every further read returns `Uncategorized("failed before")` and consumes nothing.
 #[derive(Drop)]
 pub struct Deserializer<R, C = DefaultConfig> {
     pub(crate) reader: R,
@@ -55,7 +58,7 @@ pub struct Deserializer<R, C = DefaultConfig> {
 impl<'de> Deserializer<ReadRefReader<'de>, DefaultConfig> {
     ghost use Rattle.rmp_wire.specs.RefReader.{rest_of, whole_of};
 
-    /// Reads from a slice, whose texts and bytes it lends. What it needs memory for comes from `alloc`.
+    /// Reads from a slice, from which texts and bytes are borrowed. Memory comes from `alloc`.
     ///
     /// # Examples
     /// ```
@@ -93,14 +96,14 @@ impl<'de> Deserializer<ReadRefReader<'de>, DefaultConfig> {
 impl<'de, C> Deserializer<ReadRefReader<'de>, C> {
     ghost use Rattle.rmp_wire.specs.RefReader.{rest_of, whole_of};
 
-    /// The whole slice that it reads from, which stays as it reads on.
+    /// The whole slice that it reads from, what was read included.
     pub fn get_ref(&self) -> &'de [u8]
         ensures { result.now ≡ whole_of (reader_of self.now) }
     {
         self.reader.whole()
     }
 
-    /// What its source has ahead.
+    /// The remaining bytes of its source.
     pub fn remaining_slice(&self) -> &'de [u8]
         ensures { result.now ≡ rest_of (reader_of self.now) }
     {
@@ -133,8 +136,8 @@ impl<R, C> Deserializer<R, C> {
     /// Sets how deep lists and maps may nest: a message is read whose depth is below the limit. At first it is 1024; it is at most
     /// 65535, and 0 acts as 1.
     ///
-    /// Inside of a list or a map it is the limit of the whole message, of which the levels that stand open are taken; it holds
-    /// until the part ends that is being read, and the parts behind it have the limit from before.
+    /// Inside of a list or a map it is the limit of the whole message, from which the open levels are subtracted. It holds until the
+    /// end of the part that is being read; the parts after it have the limit from before.
     pub fn set_max_depth(&mut self, depth: usize)
         ensures { self.new ≡ limited self.old depth }
     {
@@ -144,7 +147,7 @@ impl<R, C> Deserializer<R, C> {
         self.room = limit.saturating_sub(open);
     }
 
-    /// Fails this for good, and answers the error: what a type does that refuses what it has read.
+    /// Leaves the reader failed, and returns the error: what a type does that refuses what it has read.
     pub fn refuse(&mut self, error: Error) -> Error
         ensures same { result ≡ error }
         ensures failed { self.new ≡ failed_of self.old }
@@ -255,7 +258,7 @@ fn number_marker(n: u8) -> Marker
     }
 }
 
-// The limit that a depth stands for.
+// The limit that a depth sets.
 fn limit_at(depth: usize) -> u32
     ensures { result ≡ limit_at depth }
 {

@@ -1,10 +1,11 @@
 //! Why a read failed.
-ghost use Rattle.std.specs.Prelude.{◌≡◌};
+ghost use Rattle.std.specs.Prelude.{◌≡◌, ◌↔◌, true};
 ghost use Rattle.rmp_decode.specs.declared.error.Error.TheVariants as errors;
 
 use crate::text::Text;
 use rmp_wire::{IoFault, Marker, MarkerReadError, ValueReadError};
 use std::alloc::{AllocError, AllocFailed};
+use std::io::ErrorKind;
 use std::str::Utf8Error;
 use thiserror::Error;
 
@@ -44,6 +45,33 @@ pub enum Error {
     /// A head that isn't the canonical one, while only those are read.
     #[error("not canonical")]
     NotCanonical,
+}
+
+impl Error {
+    ghost use Rattle.rmp_decode.specs.Exact.{IsEnd};
+
+    /// Whether the input ended before the message did: `InvalidMarkerRead` or `InvalidDataRead` with the kind `UnexpectedEof`. Then
+    /// more bytes may complete the message. Any other error says that something else is wrong.
+    ///
+    /// # Examples
+    /// ```
+    /// use rmp_serde::from_slice;
+    ///
+    /// // a text of two bytes, of which one is there
+    /// let cut = from_slice::<String>(alloc, &[0xa2, 0x69]);
+    /// assert!(rt; matches!(cut, Err(e) if e.is_incomplete()));
+    /// let number = from_slice::<String>(alloc, &[0x2a]);
+    /// assert!(rt; matches!(number, Err(e) if !e.is_incomplete()));
+    /// ```
+    pub fn is_incomplete(&self) -> bool
+        ensures { (result ≡ true) ↔ IsEnd self.now }
+    {
+        match self {
+            Error::InvalidMarkerRead(fault) => fault.kind() == ErrorKind::UnexpectedEof,
+            Error::InvalidDataRead(fault) => fault.kind() == ErrorKind::UnexpectedEof,
+            _ => false,
+        }
+    }
 }
 
 impl From<MarkerReadError> for Error {

@@ -6,26 +6,36 @@ use std::{fmt, str};
 
 /// Why something was refused, in words: one of the reader's own texts, or a type's.
 ///
-/// A type's own text has at most 30 bytes, which lie in the value itself, so that no refusal takes memory.
+/// A type's own text has at most 30 bytes, which are part of the value, so that no refusal allocates memory.
 #[derive(Clone, Copy)]
 pub enum Text {
+    /// An earlier read from this reader failed.
     FailedBefore,
+    /// The message is of a kind that the type doesn't take.
     InvalidType,
+    /// The message is of the right kind, but has no value of the type.
     InvalidValue,
+    /// The number of elements isn't the one that is needed.
     InvalidLength,
+    /// No variant has this name or number.
     UnknownVariant,
+    /// A field comes twice.
     DuplicateField,
+    /// A field is missing that is needed.
     MissingField,
+    /// `deserialize_any` met an extension, which only `deserialize_ext` reads.
     ReadByExt,
+    /// A type's own text.
     Own(OwnText),
 }
 
-// What no text in UTF-8 has: it stands behind a text of fewer than 30 bytes.
+// A byte that no UTF-8 text has. It follows a text of fewer than 30 bytes.
 const NO_TEXT: u8 = 0xff;
 
 /// A type's own text: the longest beginning of its bytes that is UTF-8.
 ///
-/// No length stands beside the bytes, since an error is copied with each answer of a read: one of 32 bytes in few pieces, and one of 33 in many.
+/// The length isn't stored: each result of a read has room for an error, and one of 32 bytes is copied in fewer
+/// instructions than one of 33.
 #[derive(Clone, Copy)]
 pub struct OwnText {
     bytes: [u8; 30],

@@ -238,7 +238,7 @@ fields_split ns [] qs l = refl
 fields_split [] (p ∷ ps) qs l = absurd (omega (arith, l))
 fields_split (n ∷ ns) (p ∷ ps) qs l = ap (λ fs. (n.now, p) ∷ fs) (fields_split ns ps qs (omega (arith, l)))
 
--- so many fields, and then the others
+-- the first fields, and then the others
 pub named_halves : {W C : Type 0} (g : Ghosts W) {old now : Serializer W C} {t : Option Msg} (ns : List (Bor (List ℕ))) (k : ℕ)
     (ps qs rest : List (Option Data)) → length ps ≡ k → k ≤ length ns
     → IsWriting g old t (flat_map (field_parts (settings_of old).named) (fields_by ns (ps ++ qs)) ++ rest) now

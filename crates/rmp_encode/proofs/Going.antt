@@ -134,7 +134,7 @@ module _ {W C : Type 0} (g : Ghosts W) where
   pub begins_not : {P : Type 0} (head : List ℕ) (old : Serializer W C) (e : Error) → IsTooLong e → ¬ P → Begins g P head old old (Err e)
   begins_not head old e is not = λ t parts h. part_refused g g.takes_memory (HasTree t) (spell t) (sink_of old) e is (λ a. not (h.can a).0)
 
-  -- what went before, and then one part
+  -- what was written before, and then one part
   with_next : (m : Bool) (d : Settings → Option Data) {now : Serializer W C} (now' : Serializer W C) {r : Result (Unit {0}) Error} {old : Serializer W C}
       {t : Option Msg} {rest : List (Option Data)} (h : IsWriting g old t (d (settings_of old) ∷ rest) now)
       → WritesTree g m (tree_of (settings_of now) (d (settings_of now))) (sink_of now) (sink_of now') r
@@ -165,12 +165,12 @@ module _ {W C : Type 0} (g : Ghosts W) where
       (with_next (m (settings_of old)) d now' h (subst (λ z. WritesTree g {A = Unit {0}} (m z) (tree_of (settings_of now) (d (settings_of now)))
       (sink_of now) (sink_of now') (Err e)) h.keeps.settings w))
 
-  -- nothing is to come
+  -- nothing remains
   pub closes : (m : Bool) (old : Serializer W C) (t : Option Msg) (now : Serializer W C) (u : Unit {0}) → IsWriting g old t [] now
       → WritesTree g m t (sink_of old) (sink_of now) (Ok u)
   closes m old t now u h = made_ended g (settings_of old) t (made_of (append-nil h.front) h.made) (part_any g m u h.writes)
 
-  -- the same parts are to come
+  -- the same parts remain
   pub still_written : {old : Serializer W C} {t : Option Msg} {some rest : List (Option Data)} {now : Serializer W C} → some ≡ rest
       → IsWriting g old t some now → IsWriting g old t rest now
   still_written {old} {t} {some} {rest} {now} e h = subst (λ l. IsWriting g old t l now) e h
@@ -192,7 +192,7 @@ module _ {W C : Type 0} (g : Ghosts W) where
       → IsWriting g old t rest now → WritesTree g m t (sink_of old) (sink_of now) (Ok u)
   none_next {m} old t rest now u e h = closes m old t now u (still_written e h)
 
-  -- all that was to come was written, or some of it failed
+  -- all that remained was written, or some of it failed
   pub all_written : (m : Settings → Bool) (parts : Settings → List (Option Data)) (now now' : Serializer W C) (r : Result (Unit {0}) Error)
       → Goes g (IsWriting g) (λ n. n) m parts now now' r
       → (old : Serializer W C) (t : Option Msg) → IsWriting g old t (parts (settings_of old)) now

@@ -21,7 +21,7 @@ use Rattle.rmp_wire.proofs.Writing.{puts_both, puts_then_stop}
 use Rattle.rmp_wire.specs.Faults.{past_first}
 use Rattle.rmp_encode.specs.declared.error.Error.{Error}
 use Rattle.rmp_encode.specs.declared.error.Error.TheVariants as errors
-use Rattle.rmp_encode.specs.Errors.{IsTooLong, error_of, answer_of, at_marker}
+use Rattle.rmp_encode.specs.Errors.{IsTooLong, error_of, answer_of}
 use Rattle.rmp_encode.specs.Trees.{HasTree, spell, ext_head}
 use Rattle.rmp_encode.specs.Writes.{FailsBy, HasBegun, NeverMarker, NoneAtMarker, WritesBehind, WritesPart, WritesTree}
 use Rattle.rmp_encode.proofs.Parts.{part_as, part_done, part_failed, part_refused}
@@ -38,7 +38,7 @@ begun_by m old new part (wire.InvalidMarkerWrite fault) c = tt
 begun_by m old new part (wire.InvalidDataWrite fault) c = c.0
 begun_by m old new part wire.OutOfMemory c = tt
 
--- a fault behind an item's first byte
+-- a fault after an item's first byte
 pub past_marker : (e : ValueWriteError) → NeverMarker {A = Unit {0}} (Err (error_of (past_first e)))
 past_marker (wire.InvalidMarkerWrite fault) = tt
 past_marker (wire.InvalidDataWrite fault) = tt
@@ -82,7 +82,7 @@ module _ {W : Type 0} (g : Ghosts W) where
       (record { part = w.stops.part; appended = w.stops.appended; begun = begun_by g.takes_memory _ _ w.stops.part e w.stops.cause })
       (fails_by g.takes_memory P _ _ w.stops.part e w.stops.cause)
 
-  -- a piece behind a head
+  -- a piece after a head
   pub piece_ok : (piece : List ℕ) {mid new : W} (u : Unit {0}) → Writes {A = Unit {0}} g piece mid new (Ok u) → WritesBehind g piece mid new (Ok tt)
   piece_ok piece {mid} {new} u w = λ front old some p. wire_part (Unit {0}) (front ++ piece) (Ok tt) tt
       (puts_both {B = Unit {0}} {u = tt} (record { whole = p.whole; sound = p.no_fault; stops = tt }) w)
@@ -96,16 +96,6 @@ module _ {W : Type 0} (g : Ghosts W) where
   pub wire_head : (bs : List ℕ) {old new : W} (r : Result (Unit {0}) ValueWriteError) {answer : Result (Unit {0}) Error} → answer ≡ answer_of r
       → Writes g bs old new r → WritesPart g g.takes_memory (Unit {0}) bs old new answer
   wire_head bs {old} {new} r {answer} is w = subst (WritesPart g g.takes_memory (Unit {0}) bs old new) (sym is) (wire_part (Unit {0}) bs r tt w)
-
-  -- a piece of heads, each the first byte of an item
-  pub heads_err : (bs : List ℕ) {old new : W} (e : ValueWriteError) → Writes {A = Unit {0}} g bs old new (Err e)
-      → WritesPart g {A = Unit {0}} g.takes_memory (Unit {0}) bs old new (Err (at_marker e))
-  heads_err bs (wire.InvalidMarkerWrite fault) w = wire_part (Unit {0}) bs (Err (wire.InvalidMarkerWrite fault)) tt w
-  heads_err bs {old} {new} (wire.InvalidDataWrite fault) w =
-      part_failed g g.takes_memory (Unit {0}) bs old new _
-      (λ _. record { part = w.stops.part; rest = w.stops.rest; split = w.stops.split; appended = w.stops.appended })
-      (record { part = w.stops.part; appended = w.stops.appended; begun = tt }) (next_differs _ _ w.stops.cause.1)
-  heads_err bs wire.OutOfMemory w = wire_part (Unit {0}) bs (Err wire.OutOfMemory) tt w
 
   -- a message that fits, of which the wire wrote the canonical spelling
   pub wire_tree : (m : Msg) {old new : W} (r : Result (Unit {0}) ValueWriteError) {answer : Result (Unit {0}) Error} → answer ≡ answer_of r → Fits m
@@ -185,7 +175,7 @@ low_half n =
     same_cons (omega arith) (same_cons (omega arith) (same_cons (omega arith) (same_cons (omega arith)
     (same_cons (omega arith) (same_cons (omega arith) (same_cons (omega arith) (same_cons (omega arith) refl)))))))
 
--- the head of sixteen bytes, and the halves behind it
+-- the head of sixteen bytes, and the halves after it
 pub wide_piece : (n : ℕ) → 0xc4 ∷ 16 ∷ (to_be_bytes w64 (n / 2 ^ 64) ++ to_be_bytes w64 (n % 2 ^ 64)) ≡ canon (bin (to_be_bytes w128 n))
 unfolding canon_head
 wide_piece n = ap (λ l. 0xc4 ∷ 16 ∷ l) (high_half n _ _ (low_half n))

@@ -17,7 +17,7 @@ module _ {W C : Type 0} (g : Ghosts W) where
   takes_at pairs old t x rest None count now h = omega (arith, h.0)
   takes_at pairs old t x rest (Some b) count now h = tt
 
-  -- where a part is still to come, one may come
+  -- where a part remains, one is allowed
   pub takes : {old : Serializer W C} {t : Option Msg} {x : Option Data} {rest : List (Option Data)} {q : Open W C} → IsOpen g old t (x ∷ rest) q
       → MayTake (left_of q)
   takes {old} {t} {x} {rest} {q} h = takes_at q.pairs old t x rest q.buffer q.count q.se.now h.state
@@ -43,7 +43,7 @@ module _ {W C : Type 0} (g : Ghosts W) where
       → q.count ≡ length rest → IsWriting g old t rest q.se.now → IsOpen g old t rest q
   in_none {old} {t} {rest} {q} s e n h = record { sound = s; state = subst (λ b. IsOpenAt g q.pairs old t rest b q.count q.se.now) (sym e) (n, h) }
 
-  -- the same values are to come
+  -- the same values remain
   pub still_open : {old : Serializer W C} {t : Option Msg} {rest rest' : List (Option Data)} {q : Open W C} → rest ≡ rest' → IsOpen g old t rest q
       → IsOpen g old t rest' q
   still_open {old} {t} {rest} {rest'} {q} e h = subst (λ ds. IsOpen g old t ds q) e h
@@ -52,7 +52,7 @@ module _ {W C : Type 0} (g : Ghosts W) where
 pub before : {B : Type 0} (b : Option B) (n : ℕ) → b ≡ None → MayTake (left_at b n) → 0 < n
 before b n e h = subst (λ x. MayTake (left_at x n)) e h
 
--- parts that wait in a buffer may take memory
+-- parts in a buffer may allocate
 pub kept_takes : {B : Type 0} (b : Option B) (v : B) (n : ℕ) (m : Bool) → b ≡ Some v → is_kept (left_at b n) || m ≡ true
 kept_takes b v n m e = ap (λ x. is_kept (left_at x n) || m) e
 

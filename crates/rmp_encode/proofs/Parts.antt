@@ -52,7 +52,7 @@ part_after {x} {y} {z} a {b} p q = record {
 pub part_none : (x : Option (List ℕ)) (a : List ℕ) → AppendsPart x x a
 part_none x a = record { part = []; rest = a; split = refl; appended = Appends-nil x }
 
--- where no fault was counted, no item was broken off
+-- where no fault was counted, no item was interrupted
 begun_none : (m : Bool) (P : Type 0) (n : ℕ) (e : Error) → FailsBy m P n n e → HasBegun e []
 begun_none m P n (InvalidValueWrite (wire.InvalidMarkerWrite fault)) h = tt
 begun_none m P n (InvalidValueWrite (wire.InvalidDataWrite fault)) h = absurd (h refl)
@@ -63,7 +63,7 @@ begun_none m P n DepthLimitExceeded h = tt
 begun_none m P n (Syntax t) h = tt
 begun_none m P n OutOfMemory h = tt
 
--- an item that was broken off behind other bytes
+-- an item that was interrupted after other bytes
 begun_after : (e : Error) (a b : List ℕ) → HasBegun e b → HasBegun e (a ++ b)
 begun_after (InvalidValueWrite (wire.InvalidMarkerWrite fault)) a b h = tt
 begun_after (InvalidValueWrite (wire.InvalidDataWrite fault)) a b h = omega (arith, h, length-append a b)
@@ -78,7 +78,7 @@ begun_after OutOfMemory a b h = tt
 pub some_after : {x y z : Option (List ℕ)} (e : Error) (a : List ℕ) → Appends x y a → AppendsSome e y z → AppendsSome e x z
 some_after {x} {y} {z} e a p q = record { part = a ++ q.part; appended = Appends-trans x y z a q.part p q.appended; begun = begun_after e a q.part q.begun }
 
--- an error's cause under a stronger condition, and for a write that may take memory
+-- an error's cause under a stronger condition, and for a write that may allocate
 pub fails_as : (m n : Bool) (P Q : Type 0) (old new : ℕ) (e : Error) → (IsTrue m → IsTrue n) → (Q → P) → FailsBy m P old new e → FailsBy n Q old new e
 fails_as m n P Q old new (InvalidValueWrite (wire.InvalidMarkerWrite fault)) h f p = p
 fails_as m n P Q old new (InvalidValueWrite (wire.InvalidDataWrite fault)) h f p = p
@@ -133,7 +133,7 @@ or_one_of false m bs i h = or_as (get_or bs i false) (one_of bs) m (one_at bs i)
 pub one_of_or : (m : Bool) (bs : List Bool) (i : ℕ) → IsTrue (get_or bs i false || m) → IsTrue (one_of bs || m)
 one_of_or m bs i h = or_as (get_or bs i false) (one_of bs) m (one_at bs i) h
 
--- of parts behind others, the front ones may take memory, or those behind
+-- of parts after others, the first ones may allocate, or the later ones
 front_some : (bs cs : List Bool) → IsTrue (one_of bs) → IsTrue (one_of (bs ++ cs))
 front_some [] cs h = absurd cc
 front_some (true ∷ bs) cs h = refl
@@ -195,7 +195,7 @@ module _ {W : Type 0} (g : Ghosts W) where
       part_failed m (P × Q) (a ++ b) old new x (λ k. part_after a p.whole (q.part k.1)) (some_after x a p.whole q.front)
       (fails_as m m Q (P × Q) _ _ x (λ t. t) (λ k. k.1) (fails_from m Q _ _ _ x p.no_fault q.cause))
 
-  -- a part that failed, where more was to come
+  -- a part that failed, where more remained
   pub part_stops : {A B : Type 0} {m : Bool} {P Q : Type 0} {a : List ℕ} (b : List ℕ) {old new : W} {e : Error} → WritesPart g {A = A} m P a old new (Err e)
       → WritesPart g {A = B} m (P × Q) (a ++ b) old new (Err e)
   part_stops {m} {P} {Q} {a} b {old} {new} {e} p = part_failed m (P × Q) (a ++ b) old new e (λ k. part_more b (p.part k.0)) p.front
@@ -215,7 +215,7 @@ module _ {W : Type 0} (g : Ghosts W) where
       → WritesPart g m P bs old last r
   rests_at {A} {m} {P} {bs} {old} {w} {last} {r} e h = subst (λ l. WritesPart g m P bs old l r) (sym e) h
 
-  -- a write that went well took no more memory than any
+  -- a write that succeeded allocates no more than any other
   pub part_any : {A B : Type 0} {m : Bool} (n : Bool) {P : Type 0} {a : List ℕ} {old new : W} {u : A} (v : B) → WritesPart g m P a old new (Ok u)
       → WritesPart g n P a old new (Ok v)
   part_any n {P} {a} {old} {new} v p = part_done n P a old new v p.may p.whole p.no_fault
@@ -230,12 +230,12 @@ module _ {W : Type 0} (g : Ghosts W) where
       → WritesPart g m P a old new r → WritesPart g n P a old new r
   part_takes n h w = part_as h (λ p. p) (λ p. p) (λ _. refl) w
 
-  -- the same write, where a value may take memory too
+  -- the same write, where a value may allocate too
   pub part_or : {A : Type 0} {m : Bool} (b : Bool) {P : Type 0} {a : List ℕ} {old new : W} {r : Result A Error} → WritesPart g m P a old new r
       → WritesPart g (b || m) P a old new r
   part_or {A} {m} b w = part_takes (b || m) (or_right b m) w
 
-  -- a part takes memory by the settings that stood before
+  -- a part allocates under the settings from before
   pub part_settings : {A : Type 0} (f : Settings → Bool) (m : Bool) {P : Type 0} {a : List ℕ} {old new : W} {r : Result A Error} {s t : Settings} → t ≡ s
       → WritesPart g (f t || m) P a old new r → WritesPart g (f s || m) P a old new r
   part_settings f m {P} {a} {old} {new} {r} e w = subst (λ s. WritesPart g (f s || m) P a old new r) e w

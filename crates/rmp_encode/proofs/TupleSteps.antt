@@ -123,7 +123,7 @@ module _ {W C : Type 0} (g : Ghosts W) where
         have = subst (AllByRecursion (Has s)) (sym front) (all_append (Has s) (map a_byte kept) (a_byte b ∷ []) h.have (has_byte s b lt, tt));
       }
 
-  -- keeping bytes takes memory, under the mode that forces all
+  -- keeping bytes allocates, in the mode `ForceAll`
   pub probe_takes : {old : Serializer W C} {t : Option Msg} {rest : List (Option Data)} {kept : List ℕ} {len : ℕ} {now : Serializer W C} (m n : Bool)
       → IsProbing g old t rest kept len now → (forces_all (settings_of old).bytes || m) || n ≡ true
   probe_takes m n h = ap (λ b. (forces_all b || m) || n) h.mode
@@ -222,7 +222,7 @@ module _ {W C : Type 0} (g : Ghosts W) where
       → q.left ≡ length rest → kept_of q ≡ Some v → IsProbing g old t rest v.items q.len q.se.now → IsTupling g old t rest q
   in_probe {old} {t} {rest} {q} v s l e h = record { sound = s; left_is = l; state = subst (λ b. IsTuplingAt g old t rest b q.len q.se.now) (sym e) h }
 
-  -- an element went to the sink, as the tuple's state says
+  -- an element was written to the sink, as the tuple's state says
   pub tuple_goes : (m : Settings → Bool) (d : Settings → Option Data) (left : ℕ) (now : Serializer W C) (q' : OpenTuple W C) (r : Result (Unit {0}) Error)
       → q'.sound ≡ true → kept_of q' ≡ None → q'.left + 1 ≡ left → Keeps g now q'.se.now
       → WritesTree g (m (settings_of now) || g.takes_memory) (tree_of (settings_of now) (d (settings_of now))) (sink_of now) (sink_of q'.se.now) r

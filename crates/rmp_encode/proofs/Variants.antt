@@ -23,6 +23,7 @@ use Rattle.std.proofs.Common.{
   ap,
   subst,
   arith,
+  take,
   append_assoc,
   append-nil,
 }
@@ -30,6 +31,7 @@ use Rattle.std.specs.Prelude.{Result, Ok, Err}
 use Rattle.std.specs.List.{flat_map}
 use Rattle.std.specs.Option.{option_map}
 use Rattle.std.proofs.lemmas.Bool.Decides.{nat_tests}
+use Rattle.std.proofs.lemmas.List.{take_at}
 use Rattle.rmp_wire.specs.declared.head.Head.TheVariants.{Text}
 use Rattle.rmp_wire.specs.Heads.{canon_head, fits_head}
 use Rattle.rmp_wire.specs.Msg as msg
@@ -64,7 +66,7 @@ use Rattle.rmp_encode.proofs.Fields.{made_struct}
 use Rattle.rmp_encode.proofs.Going.{made_as, goes, closes}
 use Rattle.rmp_encode.proofs.Lists.{made_list}
 
--- its content's tree, behind a name
+-- its content's tree, after a name
 abbrev behind : List ℕ → Option Msg → Option Msg
 behind name t = option_map (variant name) t
 
@@ -84,7 +86,7 @@ behind_text name None h = absurd h
 behind_text name (Some m) h = append_assoc (map_head 1) (canon (msg.text name)) (canon m)
     ∙ ap (λ l. map_head 1 ++ (canon (msg.text name) ++ l)) (sym (append-nil (canon m)))
 
--- what the content is made of, behind the name
+-- what the content is made of, after the name
 pub made_behind : {s : Settings} {t : Option Msg} {P : Type 0} {head : List ℕ} {parts : List (Option Data)} (name : List ℕ) → IsBytes name
     → IsMadeOf s t P head parts
     → IsMadeOf s (behind name t) ((length name < 2 ^ 32) × P) (variant_head name ++ head) parts
@@ -167,10 +169,8 @@ pub word_head : (n : ℕ) → n < 32 → canon_head (Text n) ≡ (0xa0 + n) ∷ 
 unfolding canon_head
 word_head n l = let t : nat_lt n 32 ≡ true = grind (arith, nat_tests) in rw t refl
 
--- the heads of a map of one pair and of a short text, of one byte each
-pub short_heads : (n : ℕ) → n < 32 → map_head 1 ++ canon_head (Text n) ≡ 0x81 ∷ ((0xa0 + n) ∷ [])
-unfolding canon_head
-short_heads n l = let t : nat_lt n 32 ≡ true = grind (arith, nat_tests) in rw t refl
-
-pub heads_some : (n : ℕ) → n < 32 → 0 < length (map_head 1 ++ canon_head (Text n))
-heads_some n l = rw (short_heads n l) (omega arith)
+-- a short text: its head and its bytes, where each copy of the bytes has its own name
+pub short_piece : (s bytes copied rest : List ℕ) → bytes ≡ s → copied ≡ bytes → length s < 32
+    → take (1 + length bytes) ((0xa0 + length bytes) ∷ (copied ++ rest)) ≡ canon (msg.text s)
+short_piece s bytes copied rest e f l =
+    rw (f, e) (take_at ((0xa0 + length s) ∷ s) rest (1 + length s) (omega arith) ∙ sym (ap (λ h. h ++ s) (word_head (length s) l)))

@@ -35,7 +35,7 @@ option_no_byte f (Some x) = sym (wrapped_no_byte (f x))
 pub newtype_named : (name : List ℕ) (d : Option Data) → bytes_eq name (codes "_ExtStruct") ≡ false → newtype_of name d ≡ wrapped_of d
 newtype_named name d e = ap (λ b. cond b None (wrapped_of d)) e
 
--- and under the name that stands for an extension
+-- and under the name of an extension
 pub newtype_refused : (name : List ℕ) (d : Option Data) → bytes_eq name (codes "_ExtStruct") ≡ true → newtype_of name d ≡ None
 newtype_refused name d e = ap (λ b. cond b None (wrapped_of d)) e
 

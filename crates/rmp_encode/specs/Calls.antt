@@ -12,11 +12,12 @@ use Rattle.rmp_encode.specs.Trees.{HasTree}
 abbrev pub default_settings : Settings
 default_settings = record { named = false; human = false; bytes = Normal }
 
--- the same, but structs are maps from the names of their fields
+-- the default settings, except that structs are maps from field names
 abbrev pub named_settings : Settings
 named_settings = record { named = true; human = false; bytes = Normal }
 
--- The tree is there, these bytes are its canonical spelling, every tree that they spell is this one, and no spelling of it is shorter.
+-- The tree exists, these bytes are its canonical spelling, every tree that they spell is this one, and no
+-- spelling of it is shorter.
 pub record IsSpelled (t : Option Msg) (bytes : List ℕ) : Type 0 where
   pub tree : Msg
   pub is : t ≡ Some tree
@@ -26,7 +27,7 @@ pub record IsSpelled (t : Option Msg) (bytes : List ℕ) : Type 0 where
   pub only : (m : Msg) → Spells bytes m → m ≡ tree
   pub least : (b : List ℕ) → Spells b tree → length bytes ≤ length b
 
--- the causes of an error where the sink is a `Vec`, which has no faults
+-- the causes of an error if the sink is a `Vec`, which has no faults
 abbrev pub ToVecFails : Option Msg → Error → Type 0
 ToVecFails t (InvalidValueWrite e) = ⊥
 ToVecFails t UnknownLength = ⊥

@@ -1,4 +1,4 @@
--- What a contract sees of a tuple struct, a struct or the content of a variant that is open.
+-- What a contract sees of an open tuple struct, struct or variant's content.
 use Rattle.std.specs.Prelude.{◌≡◌, ℕ, Bool, true, ◌&&◌, List, Option}
 use Rattle.std.specs.Borrow.{GName}
 use Rattle.rmp_wire.specs.Msg.{Msg}
@@ -10,14 +10,14 @@ use Rattle.rmp_encode.specs.Going.{AreMany, IsWriting}
 use Rattle.rmp_encode.specs.Ser.{settings_of}
 
 module _ {W C : Type 0} where
-  -- the serializer that it writes into, and the reference to it
+  -- the serializer that it writes to, and the reference to it
   abbrev pub inside : Compound W C → Serializer W C
   inside q = q.se.now
 
   abbrev pub reference : Compound W C → GName
   reference q = q.se.ghost_name
 
-  -- how many elements or fields haven't begun
+  -- how many elements or fields remain
   abbrev pub left_of : Compound W C → ℕ
   left_of q = q.left
 
@@ -25,12 +25,12 @@ module _ {W C : Type 0} where
   abbrev pub has_fields : Compound W C → Bool
   has_fields q = q.fields
 
-  -- no call answered an error
+  -- no call has returned an error
   abbrev pub is_sound : Compound W C → Bool
   is_sound q = q.sound
 
 module _ {W C : Type 0} (g : Ghosts W) where
-  -- of the tree t of what was opened at old, `rest` is still to come; with names each field is two parts
+  -- of the tree t of what was opened at old, `rest` remains; with names each field is two parts
   pub record IsFilling (old : Serializer W C) (t : Option Msg) (rest : List (Option Data)) (q : Compound W C) : Type 0 where
     pub sound : q.sound ≡ true
     pub left_is : AreMany (q.fields && (settings_of old).named) q.left rest

@@ -47,7 +47,7 @@ mutual
     no_fields : Fields
     field : List ℕ → Data → Fields → Fields
 
--- the byte, where the value is a `u8`
+-- the byte, if the value is a `u8`
 abbrev pub byte_in : Data → Option ℕ
 byte_in (byte n) = Some n
 byte_in d = None
@@ -57,7 +57,7 @@ push_byte None o = None
 push_byte (Some b) None = None
 push_byte (Some b) (Some s) = Some (b ∷ s)
 
--- the bytes that the parts are, where each is a `u8`
+-- the bytes that the parts are, if each is a `u8`
 abbrev pub all_bytes : Parts → Option (List ℕ)
 all_bytes no_parts = Some []
 all_bytes (part d ds) = push_byte (byte_in d) (all_bytes ds)
@@ -68,7 +68,7 @@ packs_slice Normal s = false
 packs_slice ForceIterables s = nat_le 1 (length s)
 packs_slice ForceAll s = nat_le 1 (length s)
 
--- the same of a tuple: where bytes are no longer than the list of numbers
+-- for a tuple: where bytes are no longer than the list of numbers
 unfoldable pub packs_tuple : BytesMode → List ℕ → Bool
 packs_tuple Normal s = false
 packs_tuple ForceIterables s = false
@@ -78,12 +78,12 @@ abbrev pub bin_or_list : Bool → List ℕ → Msgs → Msg
 bin_or_list true s ms = msg.bin s
 bin_or_list false s ms = msg.list ms
 
--- bytes, where the parts are bytes that are packed, or else the list
+-- bytes, if the parts are bytes that are packed, and the list otherwise
 abbrev pub packed : (List ℕ → Bool) → Option (List ℕ) → Msgs → Msg
 packed packs None ms = msg.list ms
 packed packs (Some s) ms = bin_or_list (packs s) s ms
 
--- a struct: with names a map from each name, or else the list of the values
+-- a struct: with names a map from each name, and the list of the values otherwise
 abbrev pub map_or_list : Bool → Pairs → Msgs → Msg
 map_or_list true ps ms = msg.map ps
 map_or_list false ps ms = msg.list ms

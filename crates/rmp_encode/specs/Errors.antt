@@ -1,33 +1,28 @@
--- The errors of writing that come from the wire, and the words of the refusals.
+-- The errors of writing that come from rmp_wire, and the texts of the refusals.
 use Rattle.std.specs.Prelude.{◌≡◌, ◌⊎◌, ℕ, List, codes, Result, Ok, Err}
 use Rattle.rmp_wire.specs.declared.error.ValueWriteError.{ValueWriteError}
 use Rattle.rmp_wire.specs.declared.error.ValueWriteError.TheVariants as wire
 use Rattle.rmp_encode.specs.declared.error.Error.{Error}
 use Rattle.rmp_encode.specs.declared.error.Error.TheVariants as errors
 
--- want of memory is named as such, and every other error is kept
+-- out of memory is an error of its own, and each other error is kept
 abbrev pub error_of : ValueWriteError → Error
 error_of wire.OutOfMemory = errors.OutOfMemory
 error_of fault = errors.InvalidValueWrite fault
 
--- the error of a piece of heads, each the first byte of an item: none of the item that it broke off was taken
-abbrev pub at_marker : ValueWriteError → Error
-at_marker (wire.InvalidDataWrite fault) = errors.InvalidValueWrite (wire.InvalidMarkerWrite fault)
-at_marker e = error_of e
-
--- the words where a length has no head
+-- the text for a length that has no head
 abbrev pub IsLength : List ℕ → Type 0
 IsLength t = t ≡ codes "length past 32 bits"
 
--- the words where a newtype struct has the name that stands for an extension
+-- the text for a newtype struct with the name of an extension
 abbrev pub IsNoTuple : List ℕ → Type 0
 IsNoTuple t = t ≡ codes "expected tuple"
 
--- why a value has no message tree that fits: the words of the error
+-- why a value has no message tree that fits: the texts of the error
 abbrev pub IsReason : List ℕ → Type 0
 IsReason t = IsLength t ⊎ IsNoTuple t
 
--- the refusal of a name that stands for an extension: nothing is written
+-- the refusal of the name of an extension: nothing is written
 abbrev pub RefusesName : {A S : Type 0} → S → S → Result A Error → Type 0
 RefusesName old new (Ok u) = ⊥
 RefusesName old new (Err (errors.InvalidDataModel t)) = IsNoTuple t.now × (new ≡ old)

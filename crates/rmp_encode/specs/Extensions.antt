@@ -1,4 +1,4 @@
--- What a contract sees of an extension that is open.
+-- What a contract sees of an open extension.
 use Rattle.std.specs.Prelude.{ℤ}
 use Rattle.std.specs.Borrow.{GName}
 use Rattle.rmp_encode.specs.declared.extension.ExtSerializer.{ExtSerializer}
@@ -6,14 +6,14 @@ use Rattle.rmp_encode.specs.declared.extension.ExtFieldSerializer.{ExtFieldSeria
 use Rattle.rmp_encode.specs.declared.serializer.Serializer.{Serializer}
 
 module _ {W C : Type 0} where
-  -- the serializer that it writes into, and the reference to it, before its type is told
+  -- the serializer that it writes to, and the reference to it, before the type is set
   abbrev pub inside : ExtSerializer W C → Serializer W C
   inside q = q.se.now
 
   abbrev pub reference : ExtSerializer W C → GName
   reference q = q.se.ghost_name
 
-  -- the same, and the type, once it is told
+  -- the serializer, the reference, and the type, once it is set
   abbrev pub tagged_inside : ExtFieldSerializer W C → Serializer W C
   tagged_inside q = q.se.now
 

@@ -10,20 +10,20 @@ use Rattle.rmp_encode.specs.Opens.{Open, IsOpen}
 use Rattle.rmp_encode.specs.Ser.{sink_of, settings_of}
 use Rattle.rmp_encode.specs.Trees.{mapping_of, sequence_of, tree_of}
 
--- the same bytes were appended here and there
+-- the same bytes were appended to both
 pub record AppendSame (old new old' new' : Option (List ℕ)) : Type 0 where
   pub bytes : List ℕ
   pub here : Appends old new bytes
   pub there : Appends old' new' bytes
 
 module _ {W C : Type 0} (g : Ghosts W) where
-  -- a list of these parts was opened at old, each part was handed over, and an end that went well left this sink
+  -- a list of these parts was opened at old, each part was written, and an end that succeeded left this sink
   pub record IsListWritten (old : Serializer W C) (all : List (Option Data)) (last : W) : Type 0 where
     pub compound : Open W C
     pub handed : IsOpen g old (tree_of (settings_of old) (sequence_of all)) [] compound
     pub ended : Ends g (IsOpen g) compound last done
 
-  -- the same of a map whose keys and values are these in turn
+  -- a map, with these keys and values in turn
   pub record IsMapWritten (old : Serializer W C) (all : List (Option Data)) (last : W) : Type 0 where
     pub compound : Open W C
     pub handed : IsOpen g old (tree_of (settings_of old) (mapping_of all)) [] compound

@@ -15,6 +15,6 @@ module _ {W C : Type 0} where
   with_sink s w = record s { wr = w }
 
 module _ (W C : RattleType) where
-  -- the serializer ends with the sink that the caller left behind the reference
+  -- the serializer ends with the sink that the caller left in the reference
   abbrev pub LendsSink : MutBor (Serializer W.Denot C.Denot) → MutBor W.Denot → Fml
   LendsSink s r = Lends (the_row W C) W s r (with_sink s.now)

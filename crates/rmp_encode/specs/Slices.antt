@@ -1,11 +1,11 @@
--- What the values of a slice are, where the mode asks for bytes.
+-- What the values of a slice are, if the mode asks for bytes.
 use Rattle.std.specs.Prelude.{◌≡◌, ℕ, ◌++◌, ◌∷◌, List, map, Option, None}
 use Rattle.std.specs.Option.{unwrap_or}
 use Rattle.rmp_wire.specs.Spelling.{IsBytes}
 use Rattle.rmp_encode.specs.Data.{Data}
 use Rattle.rmp_encode.specs.Trees.{a_byte, byte_of}
 
--- one is no byte
+-- one isn't a byte
 pub record OneIsNone (ds : List (Option Data)) : Type 0 where
   pub front : List (Option Data)
   pub d : Option Data
@@ -13,7 +13,7 @@ pub record OneIsNone (ds : List (Option Data)) : Type 0 where
   pub split : ds ≡ front ++ d ∷ rest
   pub isnt : byte_of d ≡ None
 
--- the number of a byte, and 0 of anything else
+-- the number of a byte, and 0 for anything else
 abbrev pub number_of : Option Data → ℕ
 number_of d = unwrap_or (byte_of d) 0
 

@@ -1,4 +1,4 @@
--- The message tree of a value, which is none where the type refuses the value, and the tree's spelling.
+-- The message tree of a value, `None` where the type refuses the value, and the tree's spelling.
 use Rattle.std.specs.Prelude.{ℕ, ℤ, pos, List, [], ◌∷◌, ◌++◌, Bool, true, false, Option, None, Some, IsSomeAnd, cond, codes}
 use Rattle.std.specs.Str.{bytes_eq}
 use Rattle.std.specs.Borrow.{Bor}
@@ -31,7 +31,7 @@ use Rattle.rmp_encode.specs.Data.{
 }
 use Rattle.rmp_encode.specs.Data.{Entries, no_entries, entry, Fields, no_fields, field, byte_in, lower}
 
--- a tree is there, and each number and length in it fits its head
+-- there is a tree, and each number and length in it fits its head
 unfoldable pub HasTree : Option Msg → Type 0
 HasTree t = IsSomeAnd t Fits
 
@@ -40,7 +40,7 @@ unfoldable pub spell : Option Msg → List ℕ
 spell None = []
 spell (Some m) = canon m
 
--- the tree, where the value isn't refused
+-- the tree, if the value isn't refused
 abbrev pub tree_of : Settings → Option Data → Option Msg
 tree_of s d = option_map (lower s) d
 
@@ -51,7 +51,7 @@ Has s d = HasTree (tree_of s d)
 abbrev pub spelling : Settings → Option Data → List ℕ
 spelling s d = spell (tree_of s d)
 
--- what an option is that holds a value, from what the value is
+-- what a `Some` is, from what the value is
 abbrev pub wrapped_of : Option Data → Option Data
 wrapped_of d = option_map wrapped d
 
@@ -60,7 +60,7 @@ abbrev pub option_of : {A : Type 0} → (A → Option Data) → Option A → Opt
 option_of f None = Some unit
 option_of f (Some x) = wrapped_of (f x)
 
--- what a newtype struct is, from its name and from what its value is: the name that stands for an extension is refused
+-- what a newtype struct is, from its name and from what its value is: the name of an extension is refused
 abbrev pub newtype_of : List ℕ → Option Data → Option Data
 newtype_of name d = cond (bytes_eq name (codes "_ExtStruct")) None (wrapped_of d)
 
@@ -131,7 +131,7 @@ tuple_variant_of name ds = option_map (tuple_variant name) (parts_of ds)
 unfoldable pub struct_variant_of : List ℕ → List (List ℕ × Option Data) → Option Data
 struct_variant_of name fs = option_map (struct_variant name) (fields_of fs)
 
--- the byte, where the value is a `u8`
+-- the byte, if the value is a `u8`
 abbrev pub byte_of : Option Data → Option ℕ
 byte_of None = None
 byte_of (Some d) = byte_in d
@@ -140,7 +140,7 @@ byte_of (Some d) = byte_in d
 abbrev pub a_byte : ℕ → Option Data
 a_byte b = Some (byte b)
 
--- whether a mode makes bytes of tuples, and of slices
+-- whether a mode turns tuples, and slices, into bytes
 abbrev pub forces_all : BytesMode → Bool
 forces_all Normal = false
 forces_all ForceIterables = false
@@ -158,7 +158,7 @@ array_head n = canon_head (Array n)
 abbrev pub map_head : ℕ → List ℕ
 map_head n = canon_head (Map n)
 
--- what stands before a variant's content: the head of a map of one pair, and the name
+-- what precedes a variant's content: the head of a map of one pair, and the name
 abbrev pub variant_head : List ℕ → List ℕ
 variant_head name = map_head 1 ++ canon (msg.text name)
 

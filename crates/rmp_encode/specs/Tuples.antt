@@ -1,4 +1,4 @@
--- What a contract sees of a tuple that is open.
+-- What a contract sees of an open tuple.
 use Rattle.std.specs.Prelude.{if◌then◌else◌, ◌≡◌, ℕ, ◌<◌, ◌^◌, ◌++◌, Bool, true, false, List, [], ◌∷◌, length, map, Option, None, Some}
 use Rattle.std.specs.List.{AllByRecursion}
 use Rattle.std.specs.Borrow.{GName}
@@ -15,34 +15,34 @@ use Rattle.rmp_encode.specs.Trees.{Has, a_byte, array_head, number_head, tree_of
 use Rattle.rmp_encode.specs.Ser.{settings_of}
 use Rattle.rmp_encode.specs.Going.{IsWriting}
 
--- the tuple's own type, with what it keeps
+-- the tuple's own type, with the elements that it keeps
 abbrev pub OpenTuple : Type 0 → Type 0 → Type 0
 OpenTuple W C = Tuple W C (Option (Vec ℕ Global))
 
--- the bytes that are kept, where the elements so far were all bytes
+-- the bytes that are kept, if the elements so far were all bytes
 abbrev pub kept_at : {B : Type 0} → Option B → Bool → Option B
 kept_at None probing = None
 kept_at (Some b) true = Some b
 kept_at (Some b) false = None
 
--- the items that the end writes of what is kept: the bytes as one, or the head of a list and the numbers
+-- the items that `end` writes of what is kept: the bytes as one, or the head of a list and the numbers
 unfoldable pub items_kept : Option (Vec ℕ Global) → ℕ → List (List ℕ)
 items_kept None len = []
 items_kept (Some v) len = if packs_tuple ForceAll v.items then canon (bin v.items) ∷ [] else array_head len ∷ map number_head v.items
 
 module _ {W C : Type 0} where
-  -- the serializer that it writes into, and the reference to it
+  -- the serializer that it writes to, and the reference to it
   abbrev pub inside : {P : Type 0} → Tuple W C P → Serializer W C
   inside q = q.se.now
 
   abbrev pub reference : OpenTuple W C → GName
   reference q = q.se.ghost_name
 
-  -- how many elements haven't begun
+  -- how many elements remain
   abbrev pub left_of : OpenTuple W C → ℕ
   left_of q = q.left
 
-  -- no call answered an error
+  -- no call has returned an error
   abbrev pub is_sound : OpenTuple W C → Bool
   is_sound q = q.sound
 
@@ -54,7 +54,7 @@ module _ {W C : Type 0} where
   items_left q = items_kept (kept_of q) q.len
 
 module _ {W C : Type 0} (g : Ghosts W) where
-  -- what went before was bytes, which are kept, and nothing has reached the sink
+  -- the elements so far were bytes, which are kept, and nothing has reached the sink
   pub record IsProbing (old : Serializer W C) (t : Option Msg) (rest : List (Option Data)) (kept : List ℕ) (len : ℕ) (now : Serializer W C) : Type 0 where
     pub tree : t ≡ tree_of (settings_of old) (tuple_of (map a_byte kept ++ rest))
     pub len_is : len ≡ length (map a_byte kept ++ rest)
@@ -67,7 +67,7 @@ module _ {W C : Type 0} (g : Ghosts W) where
   IsTuplingAt old t rest None len now = IsWriting g old t rest now
   IsTuplingAt old t rest (Some v) len now = IsProbing old t rest v.items len now
 
-  -- of the tree t of the tuple that was opened at old, `rest` is still to come
+  -- of the tree t of the tuple that was opened at old, `rest` remains
   pub record IsTupling (old : Serializer W C) (t : Option Msg) (rest : List (Option Data)) (q : OpenTuple W C) : Type 0 where
     pub sound : q.sound ≡ true
     pub left_is : q.left ≡ length rest

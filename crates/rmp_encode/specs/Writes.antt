@@ -12,25 +12,25 @@ use Rattle.rmp_encode.specs.Errors.{IsReason, IsLength}
 use Rattle.rmp_encode.specs.Ser.{sink_of, settings_of}
 use Rattle.rmp_encode.specs.Trees.{HasTree, spell}
 
--- where an error says that the first byte of an item was taken, something was
+-- if an error says that the first byte of an item was taken, some byte was
 abbrev pub HasBegun : Error → List ℕ → Type 0
 HasBegun (InvalidValueWrite (wire.InvalidDataWrite fault)) part = 0 < length part
 HasBegun e part = Unit {0}
 
--- the old bytes stand in front of what a sink tells at an error
+-- after an error, what a sink tells begins with the old bytes
 pub record AppendsSome (e : Error) (old new : Option (List ℕ)) : Type 0 where
   pub part : List ℕ
   pub appended : Appends old new part
   pub begun : HasBegun e part
 
--- the told bytes grew by a beginning of these
+-- a beginning of these was appended to the told bytes
 pub record AppendsPart (old new : Option (List ℕ)) (bs : List ℕ) : Type 0 where
   pub part : List ℕ
   pub rest : List ℕ
   pub split : bs ≡ part ++ rest
   pub appended : Appends old new part
 
--- of these items the told bytes grew by the first ones, each whole, and by nothing of the next
+-- the first of these items were appended to the told bytes, each whole, and nothing of the next
 pub record AppendsFirst (items : List (List ℕ)) (old new : Option (List ℕ)) : Type 0 where
   pub front : List (List ℕ)
   pub next : List ℕ
@@ -38,8 +38,8 @@ pub record AppendsFirst (items : List (List ℕ)) (old new : Option (List ℕ)) 
   pub split : items ≡ front ++ next ∷ rest
   pub appended : Appends old new (flat_map (λ item. item) front)
 
--- The causes of an error, where P says that there is something to write: a fault of the sink was counted, or there is nothing to write, or
--- memory was refused, if m says that memory may be taken.
+-- The causes of an error, where P says that there is something to write: a fault of the sink was counted, or
+-- there is nothing to write, or memory ran out, if m says that memory may be allocated.
 abbrev pub FailsBy : Bool → Type 0 → ℕ → ℕ → Error → Type 0
 FailsBy m P old new (InvalidValueWrite wire.OutOfMemory) = ⊥
 FailsBy m P old new (InvalidValueWrite fault) = new ≢ old
@@ -54,14 +54,15 @@ abbrev pub NeverMarker : {A : Type 0} → Result A Error → Type 0
 NeverMarker (Err (InvalidValueWrite (wire.InvalidMarkerWrite fault))) = ⊥
 NeverMarker r = Unit {0}
 
--- what is refused is refused for its length, and leaves all as it was
+-- what is refused is refused for its length, and changes nothing
 abbrev pub StaysAtRefusal : {A S : Type 0} → S → S → Result A Error → Type 0
 StaysAtRefusal old new (Ok u) = Unit {0}
 StaysAtRefusal old new (Err (InvalidDataModel t)) = IsLength t.now × (new ≡ old)
 StaysAtRefusal old new (Err e) = Unit {0}
 
 module _ {W : Type 0} (g : Ghosts W) where
-  -- At `Ok` P holds and bs was appended. At an error there is a cause, the old bytes stand in front, and under P a beginning of bs was appended.
+  -- At `Ok` P holds and bs was appended. At an error there is a cause, the old bytes come first, and under P a
+  -- beginning of bs was appended.
   pub record WritesPart {A : Type 0} (m : Bool) (P : Type 0) (bs : List ℕ) (old new : W) (r : Result A Error) : Type 0 where
     pub may : OnOk r P
     pub whole : OnOk r (Appends (g.told old) (g.told new) bs)
@@ -70,27 +71,28 @@ module _ {W : Type 0} (g : Ghosts W) where
     pub front : IfErr r (λ e. AppendsSome e (g.told old) (g.told new))
     pub cause : IfErr r (FailsBy m P (g.faults old) (g.faults new))
 
-  -- a piece behind bytes that went out before it: with those, whichever they are, it is a write of both
+  -- a later piece of an item: together with the bytes written before it, whichever they are, it is a write of
+  -- both
   abbrev pub WritesBehind : List ℕ → W → W → Result (Unit {0}) Error → Type 0
   WritesBehind bs mid new r =
       (front : List ℕ) (old : W) → 0 < length front → WritesPart {A = Unit {0}} g.takes_memory (Unit {0}) front old mid (Ok tt)
       → WritesPart g.takes_memory (Unit {0}) (front ++ bs) old new r
 
-  -- of one item: where an error says that its first byte wasn't taken, nothing was
+  -- of one item: if an error says that its first byte wasn't taken, nothing was
   abbrev pub NoneAtMarker : {A : Type 0} → W → W → Result A Error → Type 0
   NoneAtMarker old new (Err (InvalidValueWrite (wire.InvalidMarkerWrite fault))) = Appends (g.told old) (g.told new) []
   NoneAtMarker old new r = Unit {0}
 
-  -- of several items: where an error says that the first byte of one wasn't taken, those before it are whole
+  -- of several items: if an error says that the first byte of one wasn't taken, those before it are whole
   abbrev pub FirstAtMarker : {A : Type 0} → List (List ℕ) → W → W → Result A Error → Type 0
   FirstAtMarker items old new (Err (InvalidValueWrite (wire.InvalidMarkerWrite fault))) = AppendsFirst items (g.told old) (g.told new)
   FirstAtMarker items old new r = Unit {0}
 
-  -- the canonical spelling of the tree, if one is there that fits
+  -- the canonical spelling of the tree, if there is one that fits
   abbrev pub WritesTree : {A : Type 0} → Bool → Option Msg → W → W → Result A Error → Type 0
   WritesTree m t = WritesPart m (HasTree t) (spell t)
 
-  -- settings stay, and where the bytes go
+  -- neither the settings change, nor the place that the bytes go to
   pub record Keeps {C : Type 0} (old new : Serializer W C) : Type 0 where
     pub settings : settings_of new ≡ settings_of old
     pub place : g.place (sink_of new) ≡ g.place (sink_of old)

@@ -1,4 +1,5 @@
-//! Tuple structs and structs, and the content of variants that are like them: their parts are written in order.
+//! Tuple structs and structs, and the content of variants that are like them: their elements or fields are
+//! written in order.
 ghost use Rattle.std.specs.Prelude.{◌≡◌, ◌^◌, ◌+◌, ◌<◌, ◌||◌, ◌∷◌, [], true, false, IfOk, OnOk, OnErr, IsOk, length};
 ghost use Rattle.std.specs.Borrow.{sem};
 ghost use Rattle.std.specs.List.{flat_map};
@@ -14,25 +15,27 @@ use crate::serializer::Serializer;
 use rmp_wire::Sink;
 use rmp_wire::config::SerializerConfig;
 
-/// The elements of a tuple struct, or the fields of a struct, that are still to be written. A variant's content is one of them.
+/// A tuple struct, a struct, or the content of a variant that is being written, an element or a field at a
+/// time.
 ///
-/// Once a call answers an error, the compound isn't sound any more, and no further call may be asked of it: it is dropped.
+/// Once a call has returned an error, the compound is no longer sound: no call may follow, and it can only be
+/// dropped.
 #[derive(Drop)]
 pub struct Compound<'a, W, C> {
     pub(crate) se: &'a mut Serializer<W, C>,
     pub(crate) left: usize,
-    // a struct is open, whose parts are its fields
+    // a struct is open, and its fields are written
     pub(crate) fields: bool,
-    // no call answered an error
+    // no call has returned an error
     pub(crate) sound: bool,
 }
 
 impl<W: Sink, C: SerializerConfig> Serializer<W, C> {
-    /// Opens a tuple struct of so many elements, which is written as a list.
+    /// Opens a tuple struct of `len` elements, which is written as a list.
     ///
     /// # Errors
     ///
-    /// `InvalidDataModel` where the number is 2 ^ 32 or more, and nothing is written; else what the sink answers.
+    /// `InvalidDataModel` for 2 ^ 32 elements or more, and nothing is written; otherwise those of the sink.
     pub fn serialize_tuple_struct(
         &mut self,
         _name: &'static str,
@@ -56,11 +59,11 @@ impl<W: Sink, C: SerializerConfig> Serializer<W, C> {
         })
     }
 
-    /// Opens a struct of so many fields. It is written as the list of their values, or with names as the map from their names.
+    /// Opens a struct of `len` fields, which is written as the list of their values, or with names as a map.
     ///
     /// # Errors
     ///
-    /// `InvalidDataModel` where the number is 2 ^ 32 or more, and nothing is written; else what the sink answers.
+    /// `InvalidDataModel` for 2 ^ 32 fields or more, and nothing is written; otherwise those of the sink.
     pub fn serialize_struct(
         &mut self,
         _name: &'static str,
@@ -87,12 +90,12 @@ impl<W: Sink, C: SerializerConfig> Serializer<W, C> {
 }
 
 impl<'a, W: Sink, C: SerializerConfig> Compound<'a, W, C> {
-    /// Writes the next element of a tuple struct or a tuple variant. The caller's conditions: it is one, `is_sound`, and `left`
-    /// isn't 0.
+    /// Writes the next element of a tuple struct or a tuple variant. The caller's conditions: it is one of
+    /// these, `is_sound`, and `left` isn't 0.
     ///
     /// # Errors
     ///
-    /// What the element's type or the sink answers. The compound isn't sound afterwards.
+    /// Those of the element's type and of the sink. The compound is no longer sound.
     #[inline(always)]
     pub fn serialize_element<T: Serialize>(&mut self, value: &T) -> Result<(), Error>
         requires sound { is_sound self.old ≡ true }
@@ -118,13 +121,13 @@ impl<'a, W: Sink, C: SerializerConfig> Compound<'a, W, C> {
         }
     }
 
-    /// Writes the next field of a struct or a struct variant: its value, and with names its name before it. The caller's
-    /// conditions: it is one, `is_sound`, and `left` isn't 0.
+    /// Writes the next field of a struct or a struct variant: its value, and with names its name before it. The
+    /// caller's conditions: it is one of these, `is_sound`, and `left` isn't 0.
     ///
     /// # Errors
     ///
-    /// What the value's type or the sink answers, and `InvalidDataModel` where the name is written and has 2 ^ 32 bytes or more.
-    /// The compound isn't sound afterwards.
+    /// Those of the value's type and of the sink, and `InvalidDataModel` where the name is written and has 2 ^
+    /// 32 bytes or more. The compound is no longer sound.
     #[inline(always)]
     pub fn serialize_field<T: Serialize>(
         &mut self,
@@ -154,21 +157,22 @@ impl<'a, W: Sink, C: SerializerConfig> Compound<'a, W, C> {
         }
     }
 
-    /// How many elements or fields haven't begun.
+    /// Returns how many elements or fields remain.
     pub fn left(&self) -> usize
         ensures { result ≡ left_of self.now }
     {
         self.left
     }
 
-    /// Whether no call has answered an error.
+    /// Returns whether no call has returned an error.
     pub fn is_sound(&self) -> bool
         ensures { result ≡ is_sound self.now }
     {
         self.sound
     }
 
-    /// Ends what is open. Nothing is written, and it doesn't fail. The caller's conditions: `is_sound`, and `left` is 0.
+    /// Ends the compound, and writes nothing. It never fails. The caller's conditions: `is_sound`, and `left`
+    /// is 0.
     pub fn end(self) -> Result<(), Error>
         requires sound { is_sound self ≡ true }
         requires whole { left_of self ≡ 0 }

@@ -1,8 +1,8 @@
-//! Elements of several types, which one call writes: a tuple struct, a struct, or the content of a variant.
+//! Elements of several types that one call writes: a tuple struct, a struct, or the content of a variant.
 //!
-//! The type's own `serialize` is then one call, whose contract is the type's law. An element of a type that borrows, such as `&str`, is
-//! handed over by a function that has a type parameter for each element: the checker doesn't cover a call with several lifetimes in a
-//! type argument.
+//! The type's own `serialize` is then one call, whose contract is the type's law. An element of a type that
+//! borrows, such as `&str`, goes through a function with a type parameter for each element: the checker doesn't
+//! cover a call with several lifetimes in a type argument.
 ghost use Rattle.std.specs.Prelude.{◌≡◌, ◌^◌, ◌≤◌, ◌||◌, ℕ, Bool, List, Option, OnOk, length};
 ghost use Rattle.std.specs.List.{flat_map};
 ghost use Rattle.rmp_encode.specs.declared.settings.Settings.{Settings};
@@ -21,34 +21,40 @@ mod kinds;
 
 pub use kinds::{Both, Eight, Five, Four, One, Seven, Six, Three};
 
-/// Elements in order. `One`, `Both`, `Three` to `Eight` are such.
+/// Elements in order, of several types: `One`, `Both`, and `Three` to `Eight` implement it.
 pub trait Elements {
     // How many there are.
     ghost count: { ℕ };
 
-    // What they are, for a serializer that writes for humans or not.
+    // What they are for a serializer that writes for humans, or one that doesn't.
     ghost parts_of: { Self → Bool → List (Option Data) };
 
     // What is known of them.
     ghost are_values: { Self → Type 0 };
 
-    // Whether writing them may take memory under these settings, whatever the sink takes.
+    // Whether writing them may allocate under these settings, apart from what the sink allocates.
     ghost takes_memory: { Settings → Bool };
 
     ghost counted: { (v : Self) (human : Bool) → length (parts_of v human) ≡ count };
 
-    /// How many there are.
+    /// Returns how many there are.
     fn len(&self) -> usize
         ensures { result ≡ count };
 
-    /// Writes them, one after the other. It fails as an element's type or the sink does.
+    /// Writes them in order.
+    ///
+    /// # Errors
+    /// Those of an element's type and of the sink.
     fn write<W: Sink, C: SerializerConfig>(&self, se: &mut Serializer<W, C>) -> Result<(), Error>
         ensures writes { Goes W.Sink (IsWriting W.Sink) (λ n. n) (λ s. takes_memory s || W.takes_memory) (λ s. parts_of self.now s.human) se.old se.new result }
         ensures keeps { Keeps W.Sink se.old se.new }
         ensures value { OnOk result (are_values self.now) };
 
-    /// Writes them, each behind its name where structs are written with names. There are as many names as values: the caller's
-    /// condition. It fails as `serialize_fields` does.
+    /// Writes them in order, each after its name where structs are written with names. The caller's condition:
+    /// there are as many names as values.
+    ///
+    /// # Errors
+    /// As for `serialize_fields`.
     fn write_fields<W: Sink, C: SerializerConfig>(
         &self,
         names: &[&'static str],
@@ -66,7 +72,7 @@ impl<W: Sink, C: SerializerConfig> Serializer<W, C> {
     ///
     /// # Errors
     ///
-    /// What an element's type or the sink answers.
+    /// Those of an element's type and of the sink.
     #[inline(always)]
     pub fn serialize_elements<E: Elements>(
         &mut self,
@@ -83,12 +89,13 @@ impl<W: Sink, C: SerializerConfig> Serializer<W, C> {
         elements.write(self)
     }
 
-    /// Writes a struct of fields with these names and values: the list of the values, or with names the map. There are as many
-    /// names as values: the caller's condition.
+    /// Writes a struct with these field names and values: a list of the values, or with names a map. The
+    /// caller's condition: there are as many names as values.
     ///
     /// # Errors
     ///
-    /// What a value's type or the sink answers, and `InvalidDataModel` where a name is written and has 2 ^ 32 bytes or more.
+    /// Those of a value's type and of the sink, and `InvalidDataModel` where a name is written and has 2 ^ 32
+    /// bytes or more.
     #[inline(always)]
     pub fn serialize_fields<E: Elements>(
         &mut self,
@@ -111,8 +118,8 @@ impl<W: Sink, C: SerializerConfig> Serializer<W, C> {
     ///
     /// # Errors
     ///
-    /// `InvalidDataModel` where the name has 2 ^ 32 bytes or more, and nothing is written; else what an element's type or the sink
-    /// answers.
+    /// `InvalidDataModel` where the name has 2 ^ 32 bytes or more, and nothing is written; otherwise those of
+    /// an element's type and of the sink.
     #[inline(always)]
     pub fn serialize_tuple_variant_of<E: Elements>(
         &mut self,
@@ -132,13 +139,13 @@ impl<W: Sink, C: SerializerConfig> Serializer<W, C> {
         elements.write(self)
     }
 
-    /// Writes a variant whose content is like a struct of fields with these names and values. There are as many names as values:
-    /// the caller's condition.
+    /// Writes a variant whose content is like a struct with these field names and values. The caller's
+    /// condition: there are as many names as values.
     ///
     /// # Errors
     ///
-    /// `InvalidDataModel` where the variant's name has 2 ^ 32 bytes or more, and nothing is written, or where a field's name is
-    /// written and has; else what a value's type or the sink answers.
+    /// `InvalidDataModel` where the variant's name has 2 ^ 32 bytes or more, and nothing is written, or where a
+    /// field's name is written and has as many; otherwise those of a value's type and of the sink.
     #[inline(always)]
     pub fn serialize_struct_variant_of<E: Elements>(
         &mut self,

@@ -9,23 +9,23 @@ use thiserror::Error;
 /// Why a write failed.
 #[derive(Debug, Drop, Error)]
 pub enum Error {
-    /// The sink failed: before it took the first byte of an item (`InvalidMarkerWrite`), or after it (`InvalidDataWrite`). What
-    /// waited in a buffer for its number is one item with its head.
+    /// The sink failed: before it took the first byte of an item (`InvalidMarkerWrite`), or after it
+    /// (`InvalidDataWrite`). A list or map of unknown length is one item with its head.
     #[error("invalid value write: {0}")]
     InvalidValueWrite(ValueWriteError),
-    /// Never answered: lists and maps of unknown length are counted first.
+    /// Never returned: lists and maps of unknown length are counted first.
     #[error("attempt to serialize struct, sequence or map with unknown length")]
     UnknownLength,
-    /// A length is past 32 bits, or a newtype struct has the name that stands for an extension, as the text says.
+    /// A length of 2 ^ 32 or more, or a newtype struct with the name of an extension; the text says which.
     #[error("serialize data model is invalid: {0}")]
     InvalidDataModel(&'static str),
-    /// Never answered.
+    /// Never returned.
     #[error("depth limit exceeded")]
     DepthLimitExceeded,
     /// A type's own refusal.
     #[error("{0}")]
     Syntax(&'static str),
-    /// Memory was refused.
+    /// Out of memory.
     #[error("out of memory")]
     OutOfMemory,
 }

@@ -10,13 +10,13 @@ use crate::serializer::Serializer;
 use rmp_wire::Sink;
 use rmp_wire::config::SerializerConfig;
 
-/// An extension whose type is still to be told.
+/// An extension that is being written, whose type comes next.
 #[derive(Drop)]
 pub struct ExtSerializer<'a, W, C> {
     se: &'a mut Serializer<W, C>,
 }
 
-/// An extension whose bytes are still to be written.
+/// An extension that is being written, whose bytes come next.
 #[derive(Drop)]
 pub struct ExtFieldSerializer<'a, W, C> {
     se: &'a mut Serializer<W, C>,
@@ -34,7 +34,7 @@ impl<W: Sink, C: SerializerConfig> Serializer<W, C> {
 }
 
 impl<'a, W: Sink, C: SerializerConfig> ExtSerializer<'a, W, C> {
-    /// Tells the type. Nothing is written.
+    /// Sets the type. Nothing is written.
     pub fn tag(self, tag: i8) -> ExtFieldSerializer<'a, W, C>
         ensures same_reference { tagged_reference result ≡ reference self.entry }
         ensures stays { tagged_inside result ≡ inside self.entry }
@@ -45,8 +45,10 @@ impl<'a, W: Sink, C: SerializerConfig> ExtSerializer<'a, W, C> {
 }
 
 impl<'a, W: Sink, C: SerializerConfig> ExtFieldSerializer<'a, W, C> {
-    /// Writes the extension. 2 ^ 32 bytes or more are refused by `InvalidDataModel`, and nothing is written; else it fails as the
-    /// sink does.
+    /// Writes the extension.
+    ///
+    /// # Errors
+    /// `InvalidDataModel` for 2 ^ 32 bytes or more, and nothing is written; otherwise those of the sink.
     pub fn bytes(self, bytes: &[u8]) -> Result<(), Error>
         ensures writes { WritesTree W.Sink W.takes_memory (Some (extension (type_of self.entry) bytes.now)) (sink_of (tagged_inside self.entry))
             (sink_of self.exit.0.now) result }

@@ -1,10 +1,10 @@
-//! Lengths, which a head has room for below 2 ^ 32.
+//! Lengths. A head has room for those below 2 ^ 32.
 ghost use Rattle.std.specs.Prelude.{◌≡◌, ◌^◌, ◌<◌, ◌≤◌, OnOk, OnErr, IfOk, IfErr};
 ghost use Rattle.rmp_encode.specs.Errors.{IsTooLong};
 
 use crate::error::Error;
 
-// The refusal of a length.
+// The error of a length that is too large.
 #[inline(always)]
 pub(crate) fn too_long() -> Error
     ensures { IsTooLong result }
@@ -12,7 +12,7 @@ pub(crate) fn too_long() -> Error
     Error::InvalidDataModel("length past 32 bits")
 }
 
-// The length as a head says it. One of 2 ^ 32 or more is refused.
+// Returns the length as a head states it. One of 2 ^ 32 or more is refused.
 #[inline(always)]
 pub(crate) fn fits_u32(len: usize) -> Result<u32, Error>
     ensures same { IfOk result (λ n. n ≡ len) }

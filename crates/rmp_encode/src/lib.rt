@@ -1,4 +1,4 @@
-//! Writing typed values in the canonical spelling of MessagePack.
+//! Writes typed values in the canonical encoding of MessagePack.
 #![tactic(auto)]
 
 mod compound;

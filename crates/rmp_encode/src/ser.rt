@@ -21,22 +21,24 @@ mod texts;
 mod tuples;
 mod wide;
 
-/// What can be written.
+/// A type whose values can be written.
 pub trait Serialize {
-    // What the value is, as a serializer sees it that writes for humans or not. None: the type refuses the value.
+    // What the value is for a serializer that writes for humans, or one that doesn't. `None`: the type refuses
+    // the value.
     ghost data_of: { Self → Bool → Option Data };
 
     // What is known of a value of the type.
     ghost is_value: { Self → Type 0 };
 
-    // Whether writing a value of the type may take memory under these settings, whatever the sink takes.
+    // Whether writing a value may allocate under these settings, apart from what the sink allocates.
     ghost takes_memory: { Settings → Bool } = { λ _. true };
 
     /// Writes the value.
     ///
     /// # Errors
-    /// The sink's fault, a length past 32 bits, the type's own refusal, or want of memory. A beginning of the spelling, if there
-    /// is one, stands behind the old bytes then.
+    /// `InvalidValueWrite` where the sink fails, `InvalidDataModel` for a length of 2 ^ 32 or more,
+    /// `OutOfMemory`, or the type's own refusal. The sink then holds what it held before, followed by a
+    /// beginning of the encoding, which may be empty.
     fn serialize<W: Sink, C: SerializerConfig>(
         &self,
         se: &mut Serializer<W, C>,
@@ -46,7 +48,7 @@ pub trait Serialize {
         ensures keeps { Keeps W.Sink se.old se.new }
         ensures value { OnOk result (is_value self.now) };
 
-    /// The number, exactly where the value is written by one call of `serialize_u8`.
+    /// Returns the number, exactly where the value is written by one call of `serialize_u8`.
     fn as_u8(&self, human: bool) -> Option<u8>
         ensures byte { result ≡ byte_of (data_of self.now human) }
         ensures value { OnSome result (is_value self.now) };

@@ -1,13 +1,14 @@
 //! A serializer over a sink.
 ghost use Rattle.std.specs.Prelude.{◌≡◌, ◌^◌, ◌<◌, ◌≤◌, ◌++◌, ◌||◌, OnOk, true, false, [], Some, pos, length, encode_utf8};
 ghost use Rattle.std.specs.Borrow.{sem};
-ghost use Rattle.rmp_wire.specs.declared.head.Head.TheVariants.{Bin, Text};
+ghost use Rattle.rmp_wire.specs.declared.head.Head.TheVariants.{Bin};
 ghost use Rattle.rmp_wire.specs.Heads.{canon_head};
+ghost use Rattle.rmp_wire.specs.Spelling.{canon};
 ghost use Rattle.rmp_wire.specs.Msg.{nil, truth, whole, float32, float64, text, bin, extension};
-ghost use Rattle.rmp_encode.specs.Errors.{answer_of, at_marker};
+ghost use Rattle.rmp_encode.specs.Errors.{answer_of};
 ghost use Rattle.rmp_encode.specs.Going.{head_at, Begins, Goes, IsWriting};
 ghost use Rattle.rmp_encode.specs.Ser.{sink_of, settings_of, LendsSink};
-ghost use Rattle.rmp_encode.specs.Trees.{ext_head, field_parts, map_head, name_parts, number_head};
+ghost use Rattle.rmp_encode.specs.Trees.{ext_head, field_parts, name_parts, number_head};
 ghost use Rattle.rmp_encode.specs.Writes.{Keeps, NoneAtMarker, NeverMarker, WritesBehind, WritesPart, WritesTree, StaysAtRefusal};
 
 mod leaves;
@@ -28,11 +29,11 @@ use rmp_wire::{Sink, ValueWriteError};
 use std::alloc::Global;
 use std::marker::PhantomData;
 
-/// Writes values into a sink, each in its canonical spelling.
+/// Writes values to a sink, each in its canonical encoding.
 ///
-/// A fault of the sink is named by the item that it broke off: `InvalidMarkerWrite` where nothing of it was taken, and
-/// `InvalidDataWrite` where its first byte was. A value whose length is past 32 bits is refused by `InvalidDataModel`, and nothing
-/// of it is written.
+/// A fault of the sink names the item that it interrupted: `InvalidMarkerWrite` where no byte of it was taken,
+/// and `InvalidDataWrite` otherwise. A value with a length of 2 ^ 32 or more is refused by `InvalidDataModel`,
+/// and nothing of it is written.
 #[derive(Drop)]
 pub struct Serializer<W, C = DefaultConfig> {
     wr: W,
@@ -41,7 +42,7 @@ pub struct Serializer<W, C = DefaultConfig> {
     config: PhantomData<C>,
 }
 
-// The answer of a write, from the wire's.
+// The result of a write, from that of rmp_wire.
 #[inline(always)]
 pub(crate) fn answer(r: Result<(), ValueWriteError>) -> Result<(), Error>
     ensures { result ≡ answer_of r }
@@ -52,21 +53,9 @@ pub(crate) fn answer(r: Result<(), ValueWriteError>) -> Result<(), Error>
     }
 }
 
-// The error of a piece of heads, each the first byte of an item: none of the item that it broke off was taken.
-#[inline(always)]
-fn at_marker(e: ValueWriteError) -> Error
-    ensures { result ≡ at_marker e }
-{
-    match e {
-        ValueWriteError::InvalidDataWrite(fault) => {
-            Error::InvalidValueWrite(ValueWriteError::InvalidMarkerWrite(fault))
-        }
-        other => Error::from(other),
-    }
-}
-
 impl<W: Sink> Serializer<W> {
-    /// A serializer with the default settings: structs are lists, values are written compactly, and no list is made bytes.
+    /// Makes a serializer with the default settings: structs are lists, values are written compactly, and no
+    /// list is written as bytes.
     ///
     /// `let mut se = Serializer::new(alloc, Vec::new(alloc)); se.serialize_u16(300)?; se.into_inner()` is `cd 01 2c`.
     ///
@@ -99,7 +88,7 @@ impl<W: Sink> Serializer<W> {
 }
 
 impl<W: Sink> Serializer<W, StructMapConfig<DefaultConfig>> {
-    // A serializer with the default settings, but structs are maps from the names of their fields.
+    // A serializer with the default settings, except that structs are maps from field names.
     pub(crate) fn named(alloc: Global, wr: W) -> Serializer<W, StructMapConfig<DefaultConfig>>
         ensures sink { sink_of result ≡ wr }
         ensures settings { settings_of result ≡ record { named = true; human = false; bytes = BytesMode.Normal } }
@@ -118,14 +107,14 @@ impl<W: Sink> Serializer<W, StructMapConfig<DefaultConfig>> {
 }
 
 impl<W: Sink, C: SerializerConfig> Serializer<W, C> {
-    /// The sink.
+    /// Returns a reference to the sink.
     pub fn get_ref(&self) -> &W
         ensures { result.now ≡ sink_of self.now }
     {
         &self.wr
     }
 
-    /// The sink, to be changed.
+    /// Returns a mutable reference to the sink.
     pub fn get_mut(&mut self) -> &mut W
         ensures* writes_back { sem 𝓛 (LendsSink W.row C.row self.entry result) }
         ensures value { result.now ≡ sink_of self.old }
@@ -133,14 +122,14 @@ impl<W: Sink, C: SerializerConfig> Serializer<W, C> {
         &mut self.wr
     }
 
-    /// The sink, given back.
+    /// Returns the sink, and drops the serializer.
     pub fn into_inner(self) -> W
         ensures { result ≡ sink_of self }
     {
         self.wr
     }
 
-    /// Whether values are written for humans.
+    /// Returns whether values are written for humans.
     #[inline(always)]
     pub fn is_human_readable(&self) -> bool
         ensures { result ≡ (settings_of self.now).human }
@@ -148,7 +137,7 @@ impl<W: Sink, C: SerializerConfig> Serializer<W, C> {
         self.settings.human
     }
 
-    /// Whether structs are maps from names.
+    /// Returns whether structs are written as maps from field names.
     #[inline(always)]
     pub fn is_named(&self) -> bool
         ensures { result ≡ (settings_of self.now).named }
@@ -156,7 +145,7 @@ impl<W: Sink, C: SerializerConfig> Serializer<W, C> {
         self.settings.named
     }
 
-    /// Which lists of `u8` are written as bytes.
+    /// Returns which lists of `u8` are written as bytes.
     #[inline(always)]
     pub fn bytes(&self) -> BytesMode
         ensures { result ≡ (settings_of self.now).bytes }
@@ -164,7 +153,7 @@ impl<W: Sink, C: SerializerConfig> Serializer<W, C> {
         self.settings.bytes
     }
 
-    /// The same with this mode.
+    /// Sets the mode.
     pub fn with_bytes(self, mode: BytesMode) -> Serializer<W, C>
         ensures sink { sink_of result ≡ sink_of self }
         ensures settings { settings_of result ≡ record (settings_of self) { bytes = mode } }
@@ -176,7 +165,7 @@ impl<W: Sink, C: SerializerConfig> Serializer<W, C> {
         self.with_settings(settings)
     }
 
-    /// The same, where structs are maps from names.
+    /// Writes structs as maps from field names from here on.
     pub fn with_struct_map(self) -> Serializer<W, StructMapConfig<C>>
         ensures sink { sink_of result ≡ sink_of self }
         ensures settings { settings_of result ≡ record (settings_of self) { named = true } }
@@ -184,7 +173,7 @@ impl<W: Sink, C: SerializerConfig> Serializer<W, C> {
         self.with_names(true)
     }
 
-    /// The same, where structs are lists.
+    /// Writes structs as lists from here on.
     pub fn with_struct_tuple(self) -> Serializer<W, StructTupleConfig<C>>
         ensures sink { sink_of result ≡ sink_of self }
         ensures settings { settings_of result ≡ record (settings_of self) { named = false } }
@@ -192,7 +181,7 @@ impl<W: Sink, C: SerializerConfig> Serializer<W, C> {
         self.with_names(false)
     }
 
-    /// The same, where values are written for humans.
+    /// Writes values for humans from here on.
     pub fn with_human_readable(self) -> Serializer<W, HumanReadableConfig<C>>
         ensures sink { sink_of result ≡ sink_of self }
         ensures settings { settings_of result ≡ record (settings_of self) { human = true } }
@@ -200,7 +189,7 @@ impl<W: Sink, C: SerializerConfig> Serializer<W, C> {
         self.with_readable(true)
     }
 
-    /// The same, where values are written compactly.
+    /// Writes values compactly from here on.
     pub fn with_binary(self) -> Serializer<W, BinaryConfig<C>>
         ensures sink { sink_of result ≡ sink_of self }
         ensures settings { settings_of result ≡ record (settings_of self) { human = false } }
@@ -208,12 +197,12 @@ impl<W: Sink, C: SerializerConfig> Serializer<W, C> {
         self.with_readable(false)
     }
 
-    /// Changes nothing: writing has no limit on nesting.
+    /// Does nothing: writing has no depth limit.
     pub fn unstable_set_max_depth(&mut self, _depth: usize)
         ensures { self.new ≡ self.old }
     {}
 
-    // The same settings over another sink.
+    // A serializer with the same settings over another sink.
     pub(crate) fn over<V>(&self, wr: V) -> Serializer<V, C>
         ensures sink { sink_of result ≡ wr }
         ensures settings { settings_of result ≡ settings_of self.now }
@@ -226,7 +215,7 @@ impl<W: Sink, C: SerializerConfig> Serializer<W, C> {
         }
     }
 
-    // A vector that holds nothing.
+    // An empty vector.
     pub(crate) fn empty(&self) -> Vec<u8>
         ensures { result.items ≡ [] }
     {
@@ -269,7 +258,7 @@ impl<W: Sink, C: SerializerConfig> Serializer<W, C> {
 }
 
 impl<W: Sink, C: SerializerConfig> Serializer<W, C> {
-    // Puts bytes that stand behind a head. A fault is `InvalidDataWrite`.
+    // Writes bytes that follow a head. A fault is `InvalidDataWrite`.
     #[inline(always)]
     pub(crate) fn put(&mut self, piece: &[u8]) -> Result<(), Error>
         ensures writes { WritesBehind W.Sink piece.now (sink_of self.old) (sink_of self.new) result }
@@ -294,21 +283,8 @@ impl<W: Sink, C: SerializerConfig> Serializer<W, C> {
         answer(write_array_len(&mut self.wr, n))
     }
 
-    // The heads of a map of one pair and of a text of so many bytes.
-    #[inline(always)]
-    pub(crate) fn put_short_heads(&mut self, len: u8) -> Result<(), Error>
-        requires { len < 32 }
-        ensures writes { WritesPart W.Sink W.takes_memory (Unit {0}) (map_head 1 ++ canon_head (Text len)) (sink_of self.old) (sink_of self.new) result }
-        ensures keeps { Keeps W.Sink self.old self.new }
-    {
-        match self.wr.put_all(&[0x81, 0xa0 + len]) {
-            Ok(()) => Ok(()),
-            Err(e) => Err(at_marker(e)),
-        }
-    }
-
-    // The head of a list of so many values, or of a map of so many pairs, which the caller writes right behind it. A number of
-    // 2 ^ 32 or more is refused, and nothing is written.
+    // Writes the head of a list of `len` values, or of a map of `len` pairs, which the caller writes next. 2 ^
+    // 32 or more are refused, and nothing is written.
     #[inline(always)]
     pub(crate) fn put_len(&mut self, pairs: bool, len: usize) -> Result<(), Error>
         ensures begins { Begins W.Sink (len < 2 ^ 32) (head_at pairs len) self.old self.new result }
@@ -321,7 +297,7 @@ impl<W: Sink, C: SerializerConfig> Serializer<W, C> {
         self.put_head(pairs, n)
     }
 
-    // A text that is likely short, as the names of types are.
+    // Writes a text that is likely to be short, such as a name of a type.
     #[inline(always)]
     pub(crate) fn put_word(&mut self, word: &str) -> Result<(), Error>
         ensures writes { WritesTree W.Sink W.takes_memory (Some (text word.now)) (sink_of self.old) (sink_of self.new) result }
@@ -330,26 +306,29 @@ impl<W: Sink, C: SerializerConfig> Serializer<W, C> {
         ensures refused { StaysAtRefusal self.old self.new result }
         ensures long { 2 ^ 32 ≤ length word.now → self.new ≡ self.old }
     {
-        let len = word.len();
-        if len >= 32 {
+        if word.len() >= 32 {
             return self.put_long_word(word);
         }
-        self.put_word_head(len as u8)?;
-        self.put(word.as_bytes())
+        self.put_short_word(word)
     }
 
-    // The head of a text of so few bytes.
+    // Writes a text of fewer than 32 bytes, its head and its bytes as one piece.
     #[inline(always)]
-    fn put_word_head(&mut self, len: u8) -> Result<(), Error>
-        requires { len < 32 }
-        ensures writes { WritesPart W.Sink W.takes_memory (Unit {0}) (canon_head (Text len)) (sink_of self.old) (sink_of self.new) result }
+    fn put_short_word(&mut self, word: &str) -> Result<(), Error>
+        requires { length word.now < 32 }
+        ensures writes { WritesPart W.Sink W.takes_memory (Unit {0}) (canon (text word.now)) (sink_of self.old) (sink_of self.new) result }
         ensures marker { NoneAtMarker W.Sink (sink_of self.old) (sink_of self.new) result }
         ensures keeps { Keeps W.Sink self.old self.new }
     {
-        answer(self.wr.put_all(&[0xa0 + len]))
+        let bytes = word.as_bytes();
+        let end = 1 + bytes.len();
+        let mut piece = [0; 32];
+        piece[0] = 0xa0 + bytes.len() as u8;
+        piece[1..end].copy_from_slice(bytes);
+        answer(self.wr.put_all(&piece[..end]))
     }
 
-    // A text of any length, by a call.
+    // Writes a text of any length, out of line.
     #[inline(never)]
     fn put_long_word(&mut self, word: &str) -> Result<(), Error>
         ensures writes { WritesTree W.Sink W.takes_memory (Some (text word.now)) (sink_of self.old) (sink_of self.new) result }
@@ -361,7 +340,7 @@ impl<W: Sink, C: SerializerConfig> Serializer<W, C> {
         self.serialize_str(word)
     }
 
-    // The name of a field, where structs are written with names.
+    // Writes the name of a field, where structs are written with names.
     #[inline(always)]
     fn put_name(&mut self, key: &str) -> Result<(), Error>
         ensures writes { Goes W.Sink (IsWriting W.Sink) (λ se. se) (λ _. W.takes_memory) (λ s. name_parts s.named key.now) self.old self.new result }
@@ -373,7 +352,7 @@ impl<W: Sink, C: SerializerConfig> Serializer<W, C> {
         self.put_word(key)
     }
 
-    // A field: its value, and with names its name before it.
+    // Writes a field: its value, and with names its name before it.
     #[inline(always)]
     pub(crate) fn put_field<T: Serialize>(&mut self, key: &str, value: &T) -> Result<(), Error>
         ensures writes { Goes W.Sink (IsWriting W.Sink) (λ se. se) (λ s. T.takes_memory s || W.takes_memory)
@@ -385,7 +364,7 @@ impl<W: Sink, C: SerializerConfig> Serializer<W, C> {
         value.serialize(self)
     }
 
-    // A byte as a number.
+    // Writes a byte as a number.
     #[inline(always)]
     pub(crate) fn put_byte(&mut self, n: u8) -> Result<(), Error>
         ensures writes { WritesPart W.Sink W.takes_memory (Unit {0}) (number_head n) (sink_of self.old) (sink_of self.new) result }
@@ -395,7 +374,10 @@ impl<W: Sink, C: SerializerConfig> Serializer<W, C> {
         answer(write_uint(&mut self.wr, u64::from(n)))
     }
 
-    /// Writes nil. It fails as the sink does.
+    /// Writes nil.
+    ///
+    /// # Errors
+    /// `InvalidValueWrite` where the sink fails, and `OutOfMemory` where it cannot allocate.
     #[inline(always)]
     pub fn serialize_unit(&mut self) -> Result<(), Error>
         ensures writes { WritesTree W.Sink W.takes_memory (Some nil) (sink_of self.old) (sink_of self.new) result }
@@ -405,7 +387,10 @@ impl<W: Sink, C: SerializerConfig> Serializer<W, C> {
         answer(write_nil(&mut self.wr))
     }
 
-    /// Writes a truth value. It fails as the sink does.
+    /// Writes a truth value.
+    ///
+    /// # Errors
+    /// `InvalidValueWrite` where the sink fails, and `OutOfMemory` where it cannot allocate.
     #[inline(always)]
     pub fn serialize_bool(&mut self, b: bool) -> Result<(), Error>
         ensures writes { WritesTree W.Sink W.takes_memory (Some (truth b)) (sink_of self.old) (sink_of self.new) result }
@@ -415,7 +400,10 @@ impl<W: Sink, C: SerializerConfig> Serializer<W, C> {
         answer(write_bool(&mut self.wr, b))
     }
 
-    /// Writes a whole number. It fails as the sink does.
+    /// Writes a `u8` as a whole number.
+    ///
+    /// # Errors
+    /// `InvalidValueWrite` where the sink fails, and `OutOfMemory` where it cannot allocate.
     #[inline(always)]
     pub fn serialize_u8(&mut self, n: u8) -> Result<(), Error>
         ensures writes { WritesTree W.Sink W.takes_memory (Some (whole (pos n))) (sink_of self.old) (sink_of self.new) result }
@@ -425,7 +413,10 @@ impl<W: Sink, C: SerializerConfig> Serializer<W, C> {
         answer(write_uint(&mut self.wr, u64::from(n)))
     }
 
-    /// Writes a whole number. It fails as the sink does.
+    /// Writes a `u16` as a whole number.
+    ///
+    /// # Errors
+    /// `InvalidValueWrite` where the sink fails, and `OutOfMemory` where it cannot allocate.
     #[inline(always)]
     pub fn serialize_u16(&mut self, n: u16) -> Result<(), Error>
         ensures writes { WritesTree W.Sink W.takes_memory (Some (whole (pos n))) (sink_of self.old) (sink_of self.new) result }
@@ -435,7 +426,10 @@ impl<W: Sink, C: SerializerConfig> Serializer<W, C> {
         answer(write_uint(&mut self.wr, u64::from(n)))
     }
 
-    /// Writes a whole number. It fails as the sink does.
+    /// Writes a `u32` as a whole number.
+    ///
+    /// # Errors
+    /// `InvalidValueWrite` where the sink fails, and `OutOfMemory` where it cannot allocate.
     #[inline(always)]
     pub fn serialize_u32(&mut self, n: u32) -> Result<(), Error>
         ensures writes { WritesTree W.Sink W.takes_memory (Some (whole (pos n))) (sink_of self.old) (sink_of self.new) result }
@@ -445,7 +439,10 @@ impl<W: Sink, C: SerializerConfig> Serializer<W, C> {
         answer(write_uint(&mut self.wr, u64::from(n)))
     }
 
-    /// Writes a whole number. It fails as the sink does.
+    /// Writes a `u64` as a whole number.
+    ///
+    /// # Errors
+    /// `InvalidValueWrite` where the sink fails, and `OutOfMemory` where it cannot allocate.
     #[inline(always)]
     pub fn serialize_u64(&mut self, n: u64) -> Result<(), Error>
         ensures writes { WritesTree W.Sink W.takes_memory (Some (whole (pos n))) (sink_of self.old) (sink_of self.new) result }
@@ -455,7 +452,10 @@ impl<W: Sink, C: SerializerConfig> Serializer<W, C> {
         answer(write_uint(&mut self.wr, n))
     }
 
-    /// Writes a whole number. It fails as the sink does.
+    /// Writes an `i8` as a whole number.
+    ///
+    /// # Errors
+    /// `InvalidValueWrite` where the sink fails, and `OutOfMemory` where it cannot allocate.
     #[inline(always)]
     pub fn serialize_i8(&mut self, n: i8) -> Result<(), Error>
         ensures writes { WritesTree W.Sink W.takes_memory (Some (whole n)) (sink_of self.old) (sink_of self.new) result }
@@ -465,7 +465,10 @@ impl<W: Sink, C: SerializerConfig> Serializer<W, C> {
         self.serialize_i64(i64::from(n))
     }
 
-    /// Writes a whole number. It fails as the sink does.
+    /// Writes an `i16` as a whole number.
+    ///
+    /// # Errors
+    /// `InvalidValueWrite` where the sink fails, and `OutOfMemory` where it cannot allocate.
     #[inline(always)]
     pub fn serialize_i16(&mut self, n: i16) -> Result<(), Error>
         ensures writes { WritesTree W.Sink W.takes_memory (Some (whole n)) (sink_of self.old) (sink_of self.new) result }
@@ -475,7 +478,10 @@ impl<W: Sink, C: SerializerConfig> Serializer<W, C> {
         self.serialize_i64(i64::from(n))
     }
 
-    /// Writes a whole number. It fails as the sink does.
+    /// Writes an `i32` as a whole number.
+    ///
+    /// # Errors
+    /// `InvalidValueWrite` where the sink fails, and `OutOfMemory` where it cannot allocate.
     #[inline(always)]
     pub fn serialize_i32(&mut self, n: i32) -> Result<(), Error>
         ensures writes { WritesTree W.Sink W.takes_memory (Some (whole n)) (sink_of self.old) (sink_of self.new) result }
@@ -485,7 +491,10 @@ impl<W: Sink, C: SerializerConfig> Serializer<W, C> {
         self.serialize_i64(i64::from(n))
     }
 
-    /// Writes a whole number. It fails as the sink does.
+    /// Writes an `i64` as a whole number.
+    ///
+    /// # Errors
+    /// `InvalidValueWrite` where the sink fails, and `OutOfMemory` where it cannot allocate.
     #[inline(always)]
     pub fn serialize_i64(&mut self, n: i64) -> Result<(), Error>
         ensures writes { WritesTree W.Sink W.takes_memory (Some (whole n)) (sink_of self.old) (sink_of self.new) result }
@@ -495,7 +504,10 @@ impl<W: Sink, C: SerializerConfig> Serializer<W, C> {
         answer(write_sint(&mut self.wr, n))
     }
 
-    /// Writes a float of 32 bits, from its bits. It fails as the sink does.
+    /// Writes the bits of a 32-bit float.
+    ///
+    /// # Errors
+    /// `InvalidValueWrite` where the sink fails, and `OutOfMemory` where it cannot allocate.
     #[inline(always)]
     pub fn serialize_f32_bits(&mut self, bits: u32) -> Result<(), Error>
         ensures writes { WritesTree W.Sink W.takes_memory (Some (float32 bits)) (sink_of self.old) (sink_of self.new) result }
@@ -505,7 +517,10 @@ impl<W: Sink, C: SerializerConfig> Serializer<W, C> {
         answer(write_f32_bits(&mut self.wr, bits))
     }
 
-    /// Writes a float of 64 bits, from its bits. It fails as the sink does.
+    /// Writes the bits of a 64-bit float.
+    ///
+    /// # Errors
+    /// `InvalidValueWrite` where the sink fails, and `OutOfMemory` where it cannot allocate.
     #[inline(always)]
     pub fn serialize_f64_bits(&mut self, bits: u64) -> Result<(), Error>
         ensures writes { WritesTree W.Sink W.takes_memory (Some (float64 bits)) (sink_of self.old) (sink_of self.new) result }
@@ -515,7 +530,10 @@ impl<W: Sink, C: SerializerConfig> Serializer<W, C> {
         answer(write_f64_bits(&mut self.wr, bits))
     }
 
-    /// Writes a character as the text of its bytes in UTF-8. It fails as the sink does.
+    /// Writes a character, as the text of its UTF-8 bytes.
+    ///
+    /// # Errors
+    /// `InvalidValueWrite` where the sink fails, and `OutOfMemory` where it cannot allocate.
     pub fn serialize_char(&mut self, c: char) -> Result<(), Error>
         ensures writes { WritesTree W.Sink W.takes_memory (Some (text (encode_utf8 c))) (sink_of self.old) (sink_of self.new) result }
         ensures marker { NoneAtMarker W.Sink (sink_of self.old) (sink_of self.new) result }
@@ -525,8 +543,11 @@ impl<W: Sink, C: SerializerConfig> Serializer<W, C> {
         self.serialize_str(c.encode_utf8(&mut room))
     }
 
-    /// Writes a text. One of 2 ^ 32 bytes or more is refused, in the words `length past 32 bits`, and nothing is written. Else it
-    /// fails as the sink does.
+    /// Writes a text.
+    ///
+    /// # Errors
+    /// `InvalidDataModel("length past 32 bits")` for 2 ^ 32 bytes or more, and nothing is written; otherwise
+    /// those of the sink.
     #[inline(always)]
     pub fn serialize_str(&mut self, s: &str) -> Result<(), Error>
         ensures writes { WritesTree W.Sink W.takes_memory (Some (text s.now)) (sink_of self.old) (sink_of self.new) result }
@@ -539,7 +560,11 @@ impl<W: Sink, C: SerializerConfig> Serializer<W, C> {
         answer(write_str(&mut self.wr, s))
     }
 
-    /// Writes bytes. 2 ^ 32 of them or more are refused as a text is, and nothing is written. Else it fails as the sink does.
+    /// Writes bytes.
+    ///
+    /// # Errors
+    /// `InvalidDataModel("length past 32 bits")` for 2 ^ 32 bytes or more, and nothing is written; otherwise
+    /// those of the sink.
     #[inline(always)]
     pub fn serialize_bytes(&mut self, bytes: &[u8]) -> Result<(), Error>
         ensures writes { WritesTree W.Sink W.takes_memory (Some (bin bytes.now)) (sink_of self.old) (sink_of self.new) result }
@@ -552,11 +577,14 @@ impl<W: Sink, C: SerializerConfig> Serializer<W, C> {
         answer(write_bin(&mut self.wr, bytes))
     }
 
-    /// Writes an extension: its type, from -128 to 127, and its bytes. 2 ^ 32 bytes or more are refused as a text is, and nothing
-    /// is written. Else it fails as the sink does.
+    /// Writes an extension: its type, from -128 to 127, and its bytes.
     ///
-    /// This is an own call. It does what `extension().tag(t).bytes(b)` does, in one step, so that a type that is written by it
-    /// can say what becomes of its serializer.
+    /// The Rust crate has no such call. It does what `extension().tag(t).bytes(b)` does, in one step. So a type
+    /// that is written by it can say what becomes of its serializer.
+    ///
+    /// # Errors
+    /// `InvalidDataModel("length past 32 bits")` for 2 ^ 32 bytes or more, and nothing is written; otherwise
+    /// those of the sink.
     pub fn serialize_ext(&mut self, tag: i8, bytes: &[u8]) -> Result<(), Error>
         ensures writes { WritesTree W.Sink W.takes_memory (Some (extension tag bytes.now)) (sink_of self.old) (sink_of self.new) result }
         ensures marker { NoneAtMarker W.Sink (sink_of self.old) (sink_of self.new) result }
@@ -578,7 +606,7 @@ impl<W: Sink, C: SerializerConfig> Serializer<W, C> {
         answer(write_ext_meta(&mut self.wr, len, tag))
     }
 
-    // The head of so many bytes.
+    // Writes the head of `len` bytes.
     #[inline(always)]
     pub(crate) fn put_bin_head(&mut self, len: u32) -> Result<(), Error>
         ensures writes { WritesPart W.Sink W.takes_memory (Unit {0}) (canon_head (Bin len)) (sink_of self.old) (sink_of self.new) result }

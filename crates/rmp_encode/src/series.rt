@@ -1,4 +1,4 @@
-//! Lists and maps of a known length, or of an unknown one, whose parts wait in a buffer until its end.
+//! Lists and maps, of a known length, or of an unknown one, whose elements are buffered until the end.
 ghost use Rattle.std.specs.Prelude.{◌≡◌, ◌+◌, ◌≤◌, ◌<◌, ◌^◌, ◌||◌, ◌∷◌, [], true, false, OnOk, OnErr, IfOk, Some, None};
 ghost use Rattle.std.specs.Borrow.{sem};
 ghost use Rattle.rmp_encode.specs.Going.{Ends, Goes, Rests};
@@ -15,20 +15,21 @@ use rmp_wire::Sink;
 use rmp_wire::config::SerializerConfig;
 use std::mem;
 
-/// The elements of a list, or the keys and values of a map, that are still to be written.
+/// A list or a map that is being written: an element at a time, or a key and its value.
 ///
-/// Where the length was told, each part is written at once. Where it wasn't, the parts are written into a buffer, and the head and the
-/// buffer at the end.
+/// With a known length, each element is written at once. With an unknown one, the elements are written to a
+/// buffer, and `end` writes the head and the buffer.
 ///
-/// Once a call answers an error, the list or the map isn't sound any more, and no further call may be asked of it: it is dropped.
+/// Once a call has returned an error, the list or map is no longer sound: no call may follow, and it can only
+/// be dropped.
 pub struct MaybeUnknownLengthCompound<'a, W, C, P = Option<Serializer<Vec<u8>, C>>> {
     se: &'a mut Serializer<W, C>,
     buffer: P,
-    // with no buffer, the parts that haven't begun; else those that wait in it
+    // without a buffer: the elements, or keys and values, that remain; with one: those in the buffer
     count: u64,
-    // a map is open, whose parts are its keys and values in turn
+    // a map is open, whose keys and values take turns
     pairs: bool,
-    // no call answered an error
+    // no call has returned an error
     sound: bool,
 }
 
@@ -51,7 +52,7 @@ impl<W, C, P: Drop> Drop for MaybeUnknownLengthCompound<'_, W, C, P> {
 // The bytes that a buffer has room for at first.
 const ROOM: usize = 128;
 
-// The most parts that a head has room for.
+// The most elements, or keys and values, that a head can count.
 fn most(pairs: bool) -> u64
     ensures value { result ≡ most pairs }
     ensures small { result < 2 ^ 34 }
@@ -59,14 +60,14 @@ fn most(pairs: bool) -> u64
     if pairs { (1 << 33) - 1 } else { (1 << 32) - 1 }
 }
 
-// How many elements or pairs so many parts are.
+// How many elements or pairs these parts are.
 fn whole(pairs: bool, parts: u64) -> u64
     ensures { result ≡ size_at pairs parts }
 {
     if pairs { parts / 2 } else { parts }
 }
 
-// The number that the head of so many parts says.
+// The number that the head of a list or map with these parts states.
 fn size(pairs: bool, count: u64) -> u32
     requires { count ≤ most pairs }
     ensures { result ≡ size_at pairs count }
@@ -80,7 +81,7 @@ fn size(pairs: bool, count: u64) -> u32
 impl<W: Sink, C: SerializerConfig> Serializer<W, C> {
     ghost use Rattle.rmp_encode.specs.Opens.{inside, reference, left_of, is_map, is_sound, owed, twice, IsLong, IsMapLong, IsOpen, MayOpen, Stays};
 
-    // A serializer with the same settings into an empty buffer, which has room where there is memory.
+    // A serializer with the same settings and an empty buffer, which has room unless out of memory.
     fn buffer(&self) -> Serializer<Vec<u8>, C>
         ensures settings { settings_of result ≡ settings_of self.now }
         ensures empty { (sink_of result).items ≡ [] }
@@ -90,11 +91,11 @@ impl<W: Sink, C: SerializerConfig> Serializer<W, C> {
         self.over(bytes)
     }
 
-    /// Opens a list of so many elements, or of a number that isn't known yet. After it go as many calls of `serialize_element`,
-    /// and `end`.
+    /// Opens a list of `len` elements, or of an unknown number (`None`). `serialize_element` writes each, and
+    /// then `end` closes the list.
     ///
     /// # Errors
-    /// `InvalidDataModel` for a number of 2 ^ 32 or more, and nothing is written; else what the sink answers.
+    /// `InvalidDataModel` for 2 ^ 32 elements or more, and nothing is written; otherwise those of the sink.
     #[inline(always)]
     pub fn serialize_seq(
         &mut self,
@@ -131,11 +132,11 @@ impl<W: Sink, C: SerializerConfig> Serializer<W, C> {
         })
     }
 
-    /// Opens a map of so many pairs, or of a number that isn't known yet. After it go as many pairs of calls of `serialize_key`
-    /// and `serialize_value`, and `end`.
+    /// Opens a map of `len` pairs, or of an unknown number (`None`). `serialize_key` and `serialize_value`
+    /// write each pair, and then `end` closes the map.
     ///
     /// # Errors
-    /// `InvalidDataModel` for a number of 2 ^ 32 or more, and nothing is written; else what the sink answers.
+    /// `InvalidDataModel` for 2 ^ 32 pairs or more, and nothing is written; otherwise those of the sink.
     #[inline(always)]
     pub fn serialize_map(
         &mut self,
@@ -177,9 +178,10 @@ impl<'a, W: Sink, C: SerializerConfig> MaybeUnknownLengthCompound<'a, W, C> {
     ghost use Rattle.rmp_encode.specs.Opens.{inside, reference, counted, left_of, not_begun, is_kept, is_map, is_sound};
     ghost use Rattle.rmp_encode.specs.Opens.{owed, owed_at, one_less, IsOpen, MayTake, MayEnd, Stays};
 
-    // Writes a part, or keeps it.
+    // Writes an element, or a key or a value, to the sink or to the buffer.
     //
-    // The buffer is moved out while a part is written into it. So no reference into the compound is handed on, and a compound
+    // The buffer is moved out of the compound while it is written to. So no reference into the compound is
+    // passed on, and a compound without a buffer can stay in registers.
     // that has no buffer can stay in registers.
     #[inline(always)]
     fn put_part<T: Serialize>(&mut self, value: &T) -> Result<(), Error>
@@ -232,9 +234,12 @@ impl<'a, W: Sink, C: SerializerConfig> MaybeUnknownLengthCompound<'a, W, C> {
         }
     }
 
-    /// Writes the next element of a list, or keeps it. The caller's conditions: it is a list, `is_sound`, and `left` isn't `Some(0)`. An
-    /// error of the element's type or of the sink, and `InvalidDataModel` for element 2 ^ 32 of an unknown number, leaves the
-    /// list unsound.
+    /// Writes the next element of a list, to the sink or to the buffer. The caller's conditions: it is a list,
+    /// `is_sound`, and `left` isn't `Some(0)`.
+    ///
+    /// # Errors
+    /// Those of the element's type and of the sink, and `InvalidDataModel` at element 2 ^ 32 of an unknown
+    /// number. The list is no longer sound.
     #[inline(always)]
     pub fn serialize_element<T: Serialize>(&mut self, value: &T) -> Result<(), Error>
         requires sound { is_sound self.old ≡ true }
@@ -255,8 +260,11 @@ impl<'a, W: Sink, C: SerializerConfig> MaybeUnknownLengthCompound<'a, W, C> {
         self.put_part(value)
     }
 
-    /// Writes the next key of a map, or keeps it. Its value has to follow. The caller's conditions: it is a map whose last value
-    /// was written, `is_sound`, and `left` isn't `Some(0)`. An error, as of `serialize_element`, leaves the map unsound.
+    /// Writes the next key of a map, to the sink or to the buffer; its value must follow. The caller's
+    /// conditions: it is a map whose last value was written, `is_sound`, and `left` isn't `Some(0)`.
+    ///
+    /// # Errors
+    /// As for `serialize_element`. The map is no longer sound.
     #[inline(always)]
     pub fn serialize_key<T: Serialize>(&mut self, key: &T) -> Result<(), Error>
         requires sound { is_sound self.old ≡ true }
@@ -278,8 +286,11 @@ impl<'a, W: Sink, C: SerializerConfig> MaybeUnknownLengthCompound<'a, W, C> {
         self.put_part(key)
     }
 
-    /// Writes the value of the last key, or keeps it. The caller's conditions: a key was written and not its value, and
-    /// `is_sound`. An error, as of `serialize_element`, leaves the map unsound.
+    /// Writes the value of the last key, to the sink or to the buffer. The caller's conditions: a key was
+    /// written but not its value, and `is_sound`.
+    ///
+    /// # Errors
+    /// As for `serialize_element`. The map is no longer sound.
     #[inline(always)]
     pub fn serialize_value<T: Serialize>(&mut self, value: &T) -> Result<(), Error>
         requires sound { is_sound self.old ≡ true }
@@ -300,7 +311,7 @@ impl<'a, W: Sink, C: SerializerConfig> MaybeUnknownLengthCompound<'a, W, C> {
         self.put_part(value)
     }
 
-    /// How many elements or pairs haven't begun, where their number was told.
+    /// Returns how many elements or pairs remain, if their number was known at the opening.
     pub fn left(&self) -> Option<usize>
         ensures { result ≡ not_begun self.now }
     {
@@ -310,19 +321,19 @@ impl<'a, W: Sink, C: SerializerConfig> MaybeUnknownLengthCompound<'a, W, C> {
         }
     }
 
-    /// Whether no call has answered an error.
+    /// Returns whether no call has returned an error.
     pub fn is_sound(&self) -> bool
         ensures { result ≡ is_sound self.now }
     {
         self.sound
     }
 
-    /// Ends the list or the map. What waits in a buffer is written behind its head. The caller's conditions: `is_sound`, no key
-    /// is without its value, and of a number that was told `left` is 0.
+    /// Ends the list or map, and writes the head and the buffer if the length was unknown. The caller's
+    /// conditions: `is_sound`, the last key has its value, and `left` isn't `Some` of a number above 0.
     ///
     /// # Errors
-    /// What the sink answers. Head and buffer are one item: `InvalidMarkerWrite` where nothing of them was taken,
-    /// `InvalidDataWrite` where a beginning was.
+    /// Those of the sink. Head and buffer are one item: `InvalidMarkerWrite` where no byte of them was taken,
+    /// `InvalidDataWrite` where some were.
     #[inline(always)]
     pub fn end(self) -> Result<(), Error>
         requires sound { is_sound self ≡ true }

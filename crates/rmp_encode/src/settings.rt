@@ -1,12 +1,12 @@
-//! The settings that stand.
+//! The settings of a serializer.
 use rmp_wire::config::BytesMode;
 
-/// How a serializer writes, from here on.
+/// How a serializer writes.
 #[derive(Clone, Copy, Debug, PartialEq, Eq)]
 pub struct Settings {
-    /// Structs are written as maps from the names of their fields.
+    /// Structs are written as maps from field names.
     pub named: bool,
-    /// Types that have a form for people are written in it.
+    /// Types with a human-readable form are written in it.
     pub human: bool,
     /// Which lists of numbers are written as bytes.
     pub bytes: BytesMode,

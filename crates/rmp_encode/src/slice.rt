@@ -1,4 +1,4 @@
-//! The items of a slice or a `Vec`, which are written as bytes where the mode says so.
+//! The items of a slice or a `Vec`, which may be written as bytes, depending on the mode.
 ghost use Rattle.std.specs.Prelude.{◌≡◌, ◌^◌, ◌≤◌, ◌<◌, ◌||◌, map, take, All, Some, true, false, OnOk, length};
 ghost use Rattle.rmp_wire.specs.Msg.{bin};
 ghost use Rattle.rmp_encode.specs.Ser.{sink_of, settings_of};
@@ -16,7 +16,7 @@ use rmp_wire::config::{BytesMode, SerializerConfig};
 // How many bytes are written at a time.
 const PIECE: usize = 64;
 
-// So many bytes or fewer go out one by one: to gather them first would take longer.
+// At most this many bytes are written one by one: to gather them first would take longer.
 const SHORT: usize = 8;
 
 // Whether each value is a `u8`.
@@ -34,7 +34,7 @@ pub(crate) fn are_bytes<T: Serialize>(values: &[T], human: bool) -> bool
     true
 }
 
-// Puts the numbers of these values into the front of a piece, which has room for them: the caller's condition.
+// Copies the numbers of these values to the front of a piece, which must have room for them.
 #[inline(always)]
 fn fill<T: Serialize>(piece: &mut [u8], values: &[T], human: bool)
     requires { length values.now ≤ length piece.old }
@@ -55,7 +55,7 @@ impl<W: Sink, C: SerializerConfig> Serializer<W, C> {
         }
     }
 
-    // Whether the mode makes these values bytes.
+    // Whether the mode turns these values into bytes.
     #[inline(always)]
     fn packs_slice<T: Serialize>(&self, values: &[T]) -> bool
         ensures bytes { result ≡ true → AllBytes (map (λ x. T.data_of x (settings_of self.now).human) values.now) }
@@ -74,7 +74,7 @@ impl<W: Sink, C: SerializerConfig> Serializer<W, C> {
         are_bytes(values, self.is_human_readable())
     }
 
-    // Values that are all `u8`, as bytes.
+    // Writes values that are all `u8` as bytes.
     pub(crate) fn put_packed<T: Serialize>(&mut self, values: &[T]) -> Result<(), Error>
         requires { AllBytes (map (λ x. T.data_of x (settings_of self.old).human) values.now) }
         ensures writes { WritesTree W.Sink W.takes_memory (Some (bin (map number_of (map (λ x. T.data_of x (settings_of self.old).human) values.now))))
@@ -89,7 +89,7 @@ impl<W: Sink, C: SerializerConfig> Serializer<W, C> {
         self.put_pieces(values)
     }
 
-    // The same, a value at a time.
+    // Writes values that are all `u8` as bytes, a value at a time.
     fn put_short<T: Serialize>(&mut self, values: &[T]) -> Result<(), Error>
         requires { AllBytes (map (λ x. T.data_of x (settings_of self.old).human) values.now) }
         ensures writes { WritesTree W.Sink W.takes_memory (Some (bin (map number_of (map (λ x. T.data_of x (settings_of self.old).human) values.now))))
@@ -108,7 +108,7 @@ impl<W: Sink, C: SerializerConfig> Serializer<W, C> {
         Ok(())
     }
 
-    // The same, a piece at a time.
+    // Writes values that are all `u8` as bytes, a piece at a time.
     fn put_pieces<T: Serialize>(&mut self, values: &[T]) -> Result<(), Error>
         requires { AllBytes (map (λ x. T.data_of x (settings_of self.old).human) values.now) }
         ensures writes { WritesTree W.Sink W.takes_memory (Some (bin (map number_of (map (λ x. T.data_of x (settings_of self.old).human) values.now))))
@@ -128,7 +128,7 @@ impl<W: Sink, C: SerializerConfig> Serializer<W, C> {
         Ok(())
     }
 
-    // A list of values, which are never made bytes. 2 ^ 32 of them or more are refused, and nothing is written.
+    // Writes a list of values, never as bytes. 2 ^ 32 values or more are refused, and nothing is written.
     pub(crate) fn put_list<T: Serialize>(&mut self, values: &[T]) -> Result<(), Error>
         ensures writes { WritesTree W.Sink (T.takes_memory (settings_of self.old) || W.takes_memory)
             (tree_of (settings_of self.old) (sequence_of (map (λ x. T.data_of x (settings_of self.old).human) values.now))) (sink_of self.old)
@@ -147,12 +147,12 @@ impl<W: Sink, C: SerializerConfig> Serializer<W, C> {
 
     /// Writes the items of a slice.
     ///
-    /// Under the modes that force bytes, items that are all `u8` are bytes, where there are some. In the mode `Normal` no memory
-    /// is taken but by the items and the sink.
+    /// In the modes `ForceIterables` and `ForceAll`, items that are all `u8` are written as bytes, unless the
+    /// slice is empty. In the mode `Normal` only the items and the sink may allocate.
     ///
     /// # Errors
-    /// `InvalidDataModel` for 2 ^ 32 items or more, and nothing is written; else what an item's type or the sink answers, or want
-    /// of memory.
+    /// `InvalidDataModel` for 2 ^ 32 items or more, and nothing is written; otherwise those of an item's type
+    /// and of the sink, or `OutOfMemory`.
     pub fn collect_seq<T: Serialize>(&mut self, values: &[T]) -> Result<(), Error>
         ensures writes { WritesTree W.Sink ((forces_slices (settings_of self.old).bytes || T.takes_memory (settings_of self.old)) || W.takes_memory)
             (tree_of (settings_of self.old) (slice_of (map (λ x. T.data_of x (settings_of self.old).human) values.now))) (sink_of self.old)

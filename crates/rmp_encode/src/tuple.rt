@@ -1,4 +1,4 @@
-//! Tuples, whose elements are written as bytes where the mode and the table say so.
+//! Tuples, whose elements may be written as bytes, depending on the mode.
 ghost use Rattle.std.specs.Prelude.{◌≡◌, ◌^◌, ◌≤◌, ◌+◌, ◌<◌, ◌||◌, ◌∷◌, [], nat_le, map, All, Some, true, false, OnOk, OnErr, IfOk, length};
 ghost use Rattle.std.specs.Borrow.{sem};
 ghost use Rattle.std.specs.List.{list_any, flat_map};
@@ -22,20 +22,21 @@ use rmp_wire::Sink;
 use rmp_wire::config::{BytesMode, SerializerConfig};
 use std::mem;
 
-/// The elements of a tuple that are still to be written.
+/// A tuple that is being written, an element at a time.
 ///
-/// Under the mode that forces all, elements that are `u8` are kept until one is none, or until the end.
+/// In the mode `ForceAll`, elements that are `u8` are kept until one isn't, or until the end.
 ///
-/// Once a call answers an error, the tuple isn't sound any more, and no further call may be asked of it: it is dropped.
+/// Once a call has returned an error, the tuple is no longer sound: no call may follow, and it can only be
+/// dropped.
 pub struct Tuple<'a, W, C, P = Option<Vec<u8>>> {
     se: &'a mut Serializer<W, C>,
-    // `Some` under that mode, and `None` under the others, from the opening to `end`: the compiler can test for it once
+    // `Some` in the mode `ForceAll`, and `None` otherwise, until `end`: the compiler can test for it once
     kept: P,
     // the elements so far were all `u8`, and are kept
     probing: bool,
     len: u32,
     left: usize,
-    // no call answered an error
+    // no call has returned an error
     sound: bool,
 }
 
@@ -65,7 +66,7 @@ fn any_high(bytes: &[u8]) -> bool
     false
 }
 
-// Whether a tuple of these bytes is written as bytes, under the mode that forces all.
+// Whether a tuple of these bytes is written as bytes in the mode `ForceAll`.
 #[tactic(auto, unfolding(crate::specs::Data::packs_tuple))]
 pub(crate) fn packs(bytes: &[u8]) -> bool
     ensures { result ≡ packs_tuple ForceAll bytes.now }
@@ -91,7 +92,7 @@ fn any_high_value<T: Serialize>(values: &[T], human: bool) -> bool
     false
 }
 
-// The same as `packs`, of values that are all `u8`.
+// As `packs`, for values that are all `u8`.
 #[tactic(auto, unfolding(crate::specs::Data::packs_tuple))]
 fn packs_values<T: Serialize>(values: &[T], human: bool) -> bool
     ensures { result ≡ packs_tuple ForceAll (map number_of (map (λ x. T.data_of x human) values.now)) }
@@ -106,7 +107,7 @@ fn packs_values<T: Serialize>(values: &[T], human: bool) -> bool
 }
 
 impl<W: Sink, C: SerializerConfig> Serializer<W, C> {
-    // Each byte as a number.
+    // Writes each byte as a number.
     pub(crate) fn put_numbers(&mut self, bytes: &[u8]) -> Result<(), Error>
         ensures writes { WritesPart W.Sink W.takes_memory (Unit {0}) (flat_map number_head bytes.now) (sink_of self.old) (sink_of self.new) result }
         ensures marker { FirstAtMarker W.Sink (map number_head bytes.now) (sink_of self.old) (sink_of self.new) result }
@@ -127,7 +128,7 @@ impl<W: Sink, C: SerializerConfig> Serializer<W, C> {
         }
     }
 
-    // Whether the mode makes a tuple of these values bytes.
+    // Whether the mode turns a tuple of these values into bytes.
     #[inline(always)]
     fn packs_tuple<T: Serialize>(&self, values: &[T]) -> bool
         ensures bytes { result ≡ true → AllBytes (map (λ x. T.data_of x (settings_of self.now).human) values.now) }
@@ -147,8 +148,10 @@ impl<W: Sink, C: SerializerConfig> Serializer<W, C> {
         packs_values(values, human)
     }
 
-    /// Opens a tuple of so many elements. A number of 2 ^ 32 or more is refused by `InvalidDataModel`, and nothing is written;
-    /// else it fails as the sink does.
+    /// Opens a tuple of `len` elements. `serialize_element` writes each, and then `end` closes the tuple.
+    ///
+    /// # Errors
+    /// `InvalidDataModel` for 2 ^ 32 elements or more, and nothing is written; otherwise those of the sink.
     #[inline(always)]
     pub fn serialize_tuple(&mut self, len: usize) -> Result<Tuple<'_, W, C>, Error>
         ensures* refused { sem 𝓛 (Rests W.row C.row W.Sink reference (len < 2 ^ 32) (λ all. length all ≡ len) tuple_of self.entry result) }
@@ -184,8 +187,10 @@ impl<W: Sink, C: SerializerConfig> Serializer<W, C> {
 }
 
 impl<'a, W: Sink, C: SerializerConfig> Tuple<'a, W, C> {
-    /// Writes the next element, or keeps it. The caller's conditions: `is_sound`, and `left` isn't 0. An error of the element's
-    /// type or of the sink, or want of memory, leaves the tuple unsound.
+    /// Writes the next element, or keeps it. The caller's conditions: `is_sound`, and `left` isn't 0.
+    ///
+    /// # Errors
+    /// Those of the element's type and of the sink, and `OutOfMemory`. The tuple is no longer sound.
     #[inline(always)]
     pub fn serialize_element<T: Serialize>(&mut self, value: &T) -> Result<(), Error>
         requires sound { is_sound self.old ≡ true }
@@ -226,7 +231,30 @@ impl<'a, W: Sink, C: SerializerConfig> Tuple<'a, W, C> {
         self.serialize_element(b)
     }
 
-    // Writes the next four elements.
+    // Writes the next three elements.
+    #[inline(always)]
+    pub(crate) fn three<A: Serialize, B: Serialize, D: Serialize>(
+        &mut self,
+        a: &A,
+        b: &B,
+        d: &D,
+    ) -> Result<(), Error>
+        requires sound { is_sound self.old ≡ true }
+        requires room { 2 < left_of self.old }
+        ensures same_reference { reference self.new ≡ reference self.old }
+        ensures left { OnOk result (left_of self.new + 3 ≡ left_of self.old) }
+        ensures sound { OnOk result (is_sound self.new ≡ true) }
+        ensures writes { Goes W.Sink (IsTupling W.Sink) inside
+            (λ s. (forces_all s.bytes || one_of (A.takes_memory s ∷ (B.takes_memory s ∷ (D.takes_memory s ∷ [])))) || W.takes_memory)
+            (λ s. A.data_of a.now s.human ∷ B.data_of b.now s.human ∷ D.data_of d.now s.human ∷ []) self.old self.new result }
+        ensures keeps { Keeps W.Sink (inside self.old) (inside self.new) }
+        ensures value { OnOk result (A.is_value a.now × B.is_value b.now × D.is_value d.now) }
+    {
+        self.two(a, b)?;
+        self.serialize_element(d)
+    }
+
+    // Writes the next four elements. Of four of one type, two and two would be one function, and the compiler inlines what is called once.
     #[inline(always)]
     pub(crate) fn four<A: Serialize, B: Serialize, D: Serialize, E: Serialize>(
         &mut self,
@@ -246,13 +274,14 @@ impl<'a, W: Sink, C: SerializerConfig> Tuple<'a, W, C> {
         ensures keeps { Keeps W.Sink (inside self.old) (inside self.new) }
         ensures value { OnOk result (A.is_value a.now × B.is_value b.now × D.is_value d.now × E.is_value e.now) }
     {
-        self.two(a, b)?;
-        self.two(d, e)
+        self.three(a, b, d)?;
+        self.serialize_element(e)
     }
 
-    // Writes the next element, or keeps it, whatever becomes of the tuple at an error.
+    // Writes the next element, or keeps it, without marking the tuple after an error.
     //
-    // What is kept is moved out while it grows, so that no reference into the tuple is handed on.
+    // The kept elements are moved out of the tuple while they grow, so that no reference into the tuple is
+    // passed on.
     #[inline(always)]
     fn put_element<T: Serialize>(&mut self, value: &T) -> Result<(), Error>
         requires { 0 < left_of self.old }
@@ -288,25 +317,26 @@ impl<'a, W: Sink, C: SerializerConfig> Tuple<'a, W, C> {
         value.serialize(&mut *self.se)
     }
 
-    /// How many elements haven't begun.
+    /// Returns how many elements remain.
     pub fn left(&self) -> usize
         ensures { result ≡ left_of self.now }
     {
         self.left
     }
 
-    /// Whether no call has answered an error.
+    /// Returns whether no call has returned an error.
     pub fn is_sound(&self) -> bool
         ensures { result ≡ is_sound self.now }
     {
         self.sound
     }
 
-    /// Ends the tuple. What was kept is written. The caller's conditions: `is_sound`, and `left` is 0.
+    /// Ends the tuple, and writes the kept elements. The caller's conditions: `is_sound`, and `left` is 0.
     ///
     /// # Errors
-    /// What the sink answers: `InvalidMarkerWrite` where nothing of an item was taken and those before it are whole, and
-    /// `InvalidDataWrite` where a beginning of one was. Bytes are one item; of a list the head is one, and each number.
+    /// Those of the sink: `InvalidMarkerWrite` where no byte of an item was taken, and all items before it
+    /// whole; `InvalidDataWrite` where some bytes of an item were. Bytes are one item. In a list, the head is
+    /// one, and each number.
     #[inline(always)]
     pub fn end(self) -> Result<(), Error>
         requires sound { is_sound self ≡ true }
@@ -337,7 +367,7 @@ impl<'a, W: Sink, C: SerializerConfig> Tuple<'a, W, C> {
     }
 }
 
-// A tuple of values of one type. 2 ^ 32 of them or more are refused, and nothing is written.
+// Writes a tuple of values of one type. 2 ^ 32 values or more are refused, and nothing is written.
 pub(crate) fn put_tuple<W: Sink, C: SerializerConfig, T: Serialize>(
     se: &mut Serializer<W, C>,
     values: &[T],

@@ -6,7 +6,7 @@ use crate::serializer::Serializer;
 use rmp_wire::Sink;
 use rmp_wire::config::SerializerConfig;
 
-/// What writes into a sink, and shows it.
+/// A writer over a sink, which it gives access to.
 pub trait UnderlyingWrite {
     type Write: Sink;
 
@@ -15,16 +15,16 @@ pub trait UnderlyingWrite {
 
     ghost with_sink: { Self → Self.Write → Self };
 
-    /// The sink.
+    /// Returns a reference to the sink.
     fn get_ref(&self) -> &Self::Write
         ensures { result.now ≡ sink self.now };
 
-    /// The sink, to be changed.
+    /// Returns a mutable reference to the sink.
     fn get_mut(&mut self) -> &mut Self::Write
         ensures* writes_back { sem 𝓛 (Lends Self.row Self.Write.row self.entry result (with_sink self.old)) }
         ensures value { result.now ≡ sink self.old };
 
-    /// The sink, given back.
+    /// Returns the sink, and drops the writer.
     fn into_inner(self) -> Self::Write
     where
         Self: Sized,

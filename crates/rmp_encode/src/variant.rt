@@ -18,33 +18,18 @@ use rmp_wire::Sink;
 use rmp_wire::config::SerializerConfig;
 
 impl<W: Sink, C: SerializerConfig> Serializer<W, C> {
-    // What stands before a variant's content, where its name fits. The heads of the map and of a short name go out as one piece.
+    // Writes what precedes a variant's content: the head of a map of one pair, and the name.
     #[inline(always)]
     fn put_variant(&mut self, name: &str) -> Result<(), Error>
         requires { length name.now < 2 ^ 32 }
         ensures writes { WritesPart W.Sink W.takes_memory (Unit {0}) (variant_head name.now) (sink_of self.old) (sink_of self.new) result }
         ensures keeps { Keeps W.Sink self.old self.new }
     {
-        let len = name.len();
-        if len >= 32 {
-            return self.put_long_variant(name);
-        }
-        self.put_short_heads(len as u8)?;
-        self.put(name.as_bytes())
-    }
-
-    // The same as `put_variant` of a name of any length, by a call.
-    #[inline(never)]
-    fn put_long_variant(&mut self, name: &str) -> Result<(), Error>
-        requires { length name.now < 2 ^ 32 }
-        ensures writes { WritesPart W.Sink W.takes_memory (Unit {0}) (variant_head name.now) (sink_of self.old) (sink_of self.new) result }
-        ensures keeps { Keeps W.Sink self.old self.new }
-    {
         self.put_head(true, 1)?;
-        self.serialize_str(name)
+        self.put_word(name)
     }
 
-    // What stands before a variant's content, and the head of that, which is a list or a map.
+    // Writes what precedes a variant's content, and the content's head, of a list or a map.
     //
     // Nothing is written where the name or the number is refused.
     #[inline(always)]
@@ -71,7 +56,8 @@ impl<W: Sink, C: SerializerConfig> Serializer<W, C> {
     ///
     /// # Errors
     ///
-    /// `InvalidDataModel` where the name has 2 ^ 32 bytes or more, and nothing is written; else what the sink answers.
+    /// `InvalidDataModel` where the name has 2 ^ 32 bytes or more, and nothing is written; otherwise those of
+    /// the sink.
     #[inline(always)]
     pub fn serialize_unit_variant(
         &mut self,
@@ -88,12 +74,12 @@ impl<W: Sink, C: SerializerConfig> Serializer<W, C> {
         self.put_word(variant)
     }
 
-    /// Writes a variant with one value for content: a map of one pair, from its name to the value.
+    /// Writes a variant with one value as its content: a map of one pair, from its name to the value.
     ///
     /// # Errors
     ///
-    /// `InvalidDataModel` where the name has 2 ^ 32 bytes or more, and nothing is written; else what the value's type or the sink
-    /// answers.
+    /// `InvalidDataModel` where the name has 2 ^ 32 bytes or more, and nothing is written; otherwise those of
+    /// the value's type and of the sink.
     #[inline(always)]
     pub fn serialize_newtype_variant<T: Serialize>(
         &mut self,
@@ -114,12 +100,13 @@ impl<W: Sink, C: SerializerConfig> Serializer<W, C> {
         value.serialize(self)
     }
 
-    /// Opens a variant whose content is like a tuple struct of so many elements: a map of one pair, from its name to the list.
+    /// Opens a variant whose content is like a tuple struct of `len` elements: a map of one pair, from its name
+    /// to the list.
     ///
     /// # Errors
     ///
-    /// `InvalidDataModel` where the number, or that of the name's bytes, is 2 ^ 32 or more, and nothing is written; else what the
-    /// sink answers.
+    /// `InvalidDataModel` for 2 ^ 32 elements or more, or a name of as many bytes, and nothing is written;
+    /// otherwise those of the sink.
     pub fn serialize_tuple_variant(
         &mut self,
         _name: &'static str,
@@ -147,12 +134,13 @@ impl<W: Sink, C: SerializerConfig> Serializer<W, C> {
         })
     }
 
-    /// Opens a variant whose content is like a struct of so many fields: a map of one pair, from its name to what the struct is.
+    /// Opens a variant whose content is like a struct of `len` fields: a map of one pair, from its name to what
+    /// the struct is.
     ///
     /// # Errors
     ///
-    /// `InvalidDataModel` where the number, or that of the name's bytes, is 2 ^ 32 or more, and nothing is written; else what the
-    /// sink answers.
+    /// `InvalidDataModel` for 2 ^ 32 fields or more, or a name of as many bytes, and nothing is written;
+    /// otherwise those of the sink.
     pub fn serialize_struct_variant(
         &mut self,
         _name: &'static str,

@@ -1,4 +1,4 @@
-//! Whole values, into a sink or into a vector.
+//! Writes whole values, to a sink or to a vector.
 ghost use Rattle.std.specs.Prelude.{◌≡◌, ◌||◌, true, false, OnOk, IfOk, IfErr};
 ghost use Rattle.rmp_encode.specs.Calls.{default_settings, named_settings, IsSpelled, ToVecFails};
 ghost use Rattle.rmp_encode.specs.Trees.{tree_of, spell};
@@ -10,14 +10,16 @@ use crate::serializer::Serializer;
 use rmp_wire::Sink;
 use std::alloc::Global;
 
-/// For how many bytes a vector has room that a value is written into: by growth from nothing, a spelling of more than eight is moved.
+/// The bytes that `to_vec`'s vector has room for at first. Grown from nothing, an encoding of more than eight
+/// bytes would be moved.
 const FIRST_ROOM: usize = 32;
 
-/// Writes a value into a sink. Structs are lists.
+/// Writes a value to a sink. Structs are written as lists.
 ///
 /// # Errors
-/// The sink's fault, a length past 32 bits, the type's own refusal, or want of memory. The sink holds what it held before, and
-/// behind it a beginning of the spelling, if there is one.
+/// `InvalidValueWrite` where the sink fails, `InvalidDataModel` for a length of 2 ^ 32 or more, `OutOfMemory`,
+/// or the type's own refusal. The sink then holds what it held before, followed by a beginning of the encoding,
+/// which may be empty.
 ///
 /// # Examples
 /// ```
@@ -42,7 +44,10 @@ pub fn write<W: Sink, T: Serialize>(alloc: Global, wr: &mut W, value: &T) -> Res
     value.serialize(&mut se)
 }
 
-/// Writes a value into a sink. Structs are maps from the names of their fields. It fails as `write` does.
+/// Writes a value to a sink. Structs are written as maps from field names.
+///
+/// # Errors
+/// Those of `write`.
 pub fn write_named<W: Sink, T: Serialize>(alloc: Global, wr: &mut W, value: &T) -> Result<(), Error>
     ensures writes { WritesTree W.Sink (T.takes_memory named_settings || W.takes_memory) (tree_of named_settings (T.data_of value.now false)) wr.old wr.new
         result }
@@ -55,10 +60,12 @@ pub fn write_named<W: Sink, T: Serialize>(alloc: Global, wr: &mut W, value: &T) 
     value.serialize(&mut se)
 }
 
-/// The canonical spelling of a value. Structs are lists. `to_vec(alloc, &(42u8, "it"))` is `92 2a a2 69 74`.
+/// Returns the canonical encoding of a value. Structs are written as lists. `to_vec(alloc, &(42u8, "it"))` is
+/// `92 2a a2 69 74`.
 ///
 /// # Errors
-/// `OutOfMemory`, a length past 32 bits (`InvalidDataModel`), or the type's own refusal (`Syntax`).
+/// `OutOfMemory`, `InvalidDataModel` for a length of 2 ^ 32 or more, or `Syntax` where the type refuses the
+/// value.
 ///
 /// # Examples
 /// ```
@@ -77,7 +84,10 @@ pub fn to_vec<T: Serialize>(alloc: Global, value: &T) -> Result<Vec<u8>, Error>
     Ok(se.into_inner())
 }
 
-/// The canonical spelling of a value. Structs are maps from the names of their fields. It fails as `to_vec` does.
+/// Returns the canonical encoding of a value. Structs are written as maps from field names.
+///
+/// # Errors
+/// Those of `to_vec`.
 pub fn to_vec_named<T: Serialize>(alloc: Global, value: &T) -> Result<Vec<u8>, Error>
     ensures bytes { IfOk result (λ v. IsSpelled (tree_of named_settings (T.data_of value.now false)) v.items) }
     ensures value { OnOk result (T.is_value value.now) }

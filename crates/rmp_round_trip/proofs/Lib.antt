@@ -1,1 +1,3 @@
+pub mod Evolution
 pub mod RoundLaws
+mod InTurn

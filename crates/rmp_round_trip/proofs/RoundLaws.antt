@@ -8,6 +8,7 @@ use Rattle.rmp_wire.proofs.Canonical.{canonical_iff}
 use Rattle.rmp_wire.proofs.Unique.{spelled_once}
 use Rattle.rmp_encode.specs.Calls.{IsSpelled}
 use Rattle.rmp_decode.specs.Law.{Begins}
+use Rattle.rmp_round_trip.specs.RoundTrip.{Only}
 
 tree_or : Msg → Option Msg → Msg
 tree_or m None = m
@@ -55,3 +56,15 @@ pub written_once : (t : Option Msg) (b x c y : List ℕ) (m : Msg) → IsSpelled
 written_once t b x c y m i h e =
     let u = spelled_once i.tree m b c x y i.spells h e in
     (i.is ∙ ap Some u.1, sym u.0, sym u.2)
+
+only_there : {V : Type 0} (reads : Msg → V → Type 0) (same : V → V → Type 0) (t : Option Msg) (m : Msg) (v w : V) → IsSomeAnd t (λ k. Only reads same k v)
+    → t ≡ Some m → reads m w → same v w
+only_there reads same None m v w h e r = absurd h
+only_there reads same (Some k) m v w h e r = h w (subst (λ j. reads j w) (sym (some_is e)) r)
+
+-- whatever it is read as is that value, and what follows is left
+pub read_only : {V : Type 0} (reads : Msg → V → Type 0) (same : V → V → Type 0) (t : Option Msg) (v w : V) (b x c y : List ℕ) (m : Msg)
+    → IsSomeAnd t (λ k. Only reads same k v) → IsSpelled t b → Spells c m → b ++ x ≡ c ++ y → reads m w → same v w × (y ≡ x)
+read_only reads same t v w b x c y m h i p e r =
+    let u = written_once t b x c y m i p e in
+    (only_there reads same t m v w h u.0 r, u.2)

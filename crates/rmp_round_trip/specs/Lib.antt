@@ -1,5 +1,11 @@
+pub mod Evolution
+pub mod InTurn
 pub mod LeafRounds
 pub mod MapRounds
+pub mod OnlyFields
+pub mod OnlyLeaves
+pub mod OnlyMaps
+pub mod OnlyRows
 pub mod RoundTrip
 pub mod Rounds
 pub mod StructRounds

@@ -17,7 +17,7 @@ use Rattle.rmp_wire.specs.Msg.{Msg, Msgs, Pairs}
 use Rattle.rmp_encode.specs.Data.{Data, mapping, Entries, no_entries, entry, lower, lower_entries}
 use Rattle.rmp_encode.specs.Trees.{tree_of, entries_of, in_turn, mapping_of, sequence_of}
 use Rattle.rmp_encode.specs.declared.settings.Settings.{Settings}
-use Rattle.rmp_decode.specs.Maps.{Collects, ReadsEntries, ReadsPairs}
+use Rattle.rmp_decode.specs.Maps.{Collects, OfMap, ReadsEntries, ReadsPairs}
 use Rattle.rmp_decode.specs.Rows.{ReadsEach}
 use Rattle.rmp_decode.specs.Sets.{CollectsKeys, ReadsKeys}
 use Rattle.rmp_round_trip.specs.RoundTrip.{LowersTo}
@@ -115,6 +115,12 @@ module _ (s : Settings) where
         let h = All-head (λ e. is_key e.0 × is_value e.1) e es a in
         turns_cons keys values e es (k e.0) (v e.1) (in_turn k v es) (hk e.0 h.0) (hv e.1 h.1)
         (turns es (All-tail (λ e. is_key e.0 × is_value e.1) e es a))
+
+    pub pairs_row : (es : List (K × V)) → All (λ e. is_key e.0 × is_value e.1) es
+        → LowersTo s (mapping_of (in_turn k v es)) (OfMap (λ ps. ReadsPairs keys values ps es))
+    unfolding lower mapping_of
+    pairs_row es a =
+        let t = turns es a in subst (λ z. LowersTo s (option_map mapping z) (OfMap (λ ps. ReadsPairs keys values ps es))) (sym t.is) t.holds
 
     pub map_row : {cmp : K → K → Ordering} → IsTotalOrder cmp → (es : List (K × V)) → IsStrictlySortedBy cmp (keys_of es)
         → All (λ e. is_key e.0 × is_value e.1) es → LowersTo s (mapping_of (in_turn k v es)) (λ m. ReadsEntries cmp keys values es m)

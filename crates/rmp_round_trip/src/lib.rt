@@ -3,5 +3,6 @@
 
 pub mod laws;
 mod round_trip;
+mod turns;
 
 pub use round_trip::{NeverNil, RoundTrip};

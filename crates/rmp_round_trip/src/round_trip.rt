@@ -2,7 +2,7 @@
 ghost use Rattle.std.specs.Prelude.{◌≡◌, ◌≢◌, Bool, true, false, Option, Some, IsSome};
 ghost use Rattle.rmp_encode.specs.Trees.{tree_of};
 ghost use Rattle.rmp_encode.specs.declared.settings.Settings.{Settings};
-ghost use Rattle.rmp_round_trip.specs.RoundTrip.{LowersTo};
+ghost use Rattle.rmp_round_trip.specs.RoundTrip.{LowersTo, Only};
 ghost use Rattle.rmp_wire.specs.Msg.{nil};
 
 use rmp_decode::Deserialize;
@@ -16,7 +16,7 @@ mod options;
 mod texts;
 mod tuples;
 
-/// A type whose values are read as they were written, whatever the settings, if they are the same on both sides.
+/// A type whose values are read as they were written, and as nothing else, whatever the settings, if they are the same on both sides.
 ///
 /// It has no calls. Contracts of generic code use its laws: a function over `T: RoundTrip<'de, R>` that writes a value and reads it
 /// has the value back, by a call of `laws::written_is_read::<R, T>()`.
@@ -30,6 +30,13 @@ pub trait RoundTrip<'de, R: ReadSlice<'de>>: Serialize + Deserialize<'de, R> {
     // With names or without, and in each mode, what a value lowers to is read as that value.
     ghost round: { (borrows ≡ true → R.lends ≡ true) → (s : Settings) (v : Self) → Self.is_value v
         → LowersTo s (Self.data_of v s.human) (λ m. Self.reads s.human R.lends m v) };
+
+    // Whether two values have the same content: what `PartialEq` would compare. Capacity and allocator are no part of it.
+    ghost same: { Self → Self → Type 0 };
+
+    // Nothing else is read there: with names or without, and in each mode, whatever is read of what a value lowers to has its content.
+    ghost only: { (s : Settings) (v : Self) → Self.is_value v
+        → LowersTo s (Self.data_of v s.human) (λ m. Only (Self.reads s.human R.lends) same m v) };
 }
 
 /// A type no value of which is written as nil.

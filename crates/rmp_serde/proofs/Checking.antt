@@ -152,7 +152,7 @@ module _ (xs ys rest : List ℕ) (m : Marker) (h : Head) (i : IsHead h (byte_of 
         many = many;
       }
 
--- ---- where none stands, no message begins
+-- ---- where there is none, no message begins
 
 own_first : (m : Msg) (z : List ℕ) → Fits m → own m ++ z ≡ [] → ⊥
 own_first m z f e =
@@ -261,7 +261,7 @@ stops_memory errors.NotCanonical xs s q = absurd (cc)
 pub rest_is : (n : ℕ) (xs : List ℕ) → drop n xs ≡ take (length xs - n) (drop n xs)
 rest_is n xs = sym (take_all (length xs - n) (drop n xs) (omega (arith, length-drop n xs)))
 
--- So many messages are wanted from what is left, or more than it has bytes: then the count only says so.
+-- This many messages remain, or more than there are bytes: then the count says only that.
 pub record Wants (input : List ℕ) (wanted : ℕ) (left : List ℕ) : Type 0 where
   pub all : ℕ
   pub at : ℕ
@@ -282,7 +282,7 @@ nodes_long (suc n) parts xs zs t =
     let q = ap length k.front in
     omega (arith, i, l, q, length-append (canon_head k.head ++ k.content) zs, length-append (canon_head k.head) k.content)
 
--- so many canonical heads and their contents were taken
+-- this many canonical heads and their contents were consumed
 record Passed (input : List ℕ) (all : ℕ) (left : List ℕ) (n : ℕ) (zs : List ℕ) : Type 0 where
   pub at : ℕ
   pub follows : Follows input all zs at

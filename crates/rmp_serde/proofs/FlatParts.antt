@@ -1,4 +1,4 @@
--- What stands at a place of a row.
+-- What is at an index of a row.
 use Rattle.std.proofs.Common.{
   ◌≡◌,
   ◌∙◌,
@@ -122,7 +122,7 @@ node_is root parts m at f e =
 
 -- ---- messages from a place on
 
--- what holds of each message in a row holds of those behind each head
+-- what holds of each message in a row holds of those after each head
 utf8_append : (ms ks : Msgs) → ItemsUtf8 ms → ItemsUtf8 ks → ItemsUtf8 (append ms ks)
 utf8_append no_items ks a b = b
 utf8_append (item m ms) ks a b = (a.0, utf8_append ms ks a.1 b)
@@ -166,7 +166,7 @@ pub first_utf8 : (ms : Msgs) → ItemsUtf8 ms → IfSome (text_of (first_tree ms
 first_utf8 no_items u = tt
 first_utf8 (item m ms) u = text_utf8 m u.0
 
--- behind the head of a list or a map stand its parts
+-- after the head of a list or a map come its parts
 pub parts_at : (ts : List Token) (at : ℕ) → IsRow ts → parts_of (told_tree (drop at ts)) ≤ count (built (drop (suc at) ts))
 parts_at [] zero r = omega arith
 parts_at [] (suc at) r = omega arith
@@ -185,14 +185,14 @@ parts_at ((Map n, s) ∷ ts) zero r =
     omega (arith, count-flat (first_pairs n ms), ap count (pairs-items n ms many), count-first (2 * n) ms)
 parts_at ((Ext n tag, s) ∷ ts) zero r = omega arith
 
--- the message that is i behind a place of the row behind the first head
+-- the message i places after an index of the row that follows the first head
 pub later_is : (t : Token) (ts : List Token) (at q i : ℕ) → IsRow (drop at ts) → q ≡ at + span i (drop at ts)
     → built (drop (q + 1) (t ∷ ts)) ≡ past_items i (built (drop at ts))
 later_is t ts at q i r e =
     let next : q + 1 ≡ suc (at + span i (drop at ts)) = omega (arith, e) in
     ap (λ z. built (drop z (t ∷ ts))) next ∙ ap built (sym (drop-drop (span i (drop at ts)) at ts)) ∙ built_rest i (drop at ts) r
 
--- ---- the parts of a list or a map, by the messages that stand behind its head
+-- ---- the parts of a list or a map, by the messages that follow its head
 
 head_first : (t : Token) (ts : List Token) (h : Head) → IsRow (t ∷ ts) → head_of (told_tree (t ∷ ts)) ≡ h → t.0 ≡ h
 head_first t ts h r e = ap (λ z. z.0) (ap first_token r ∙ first_of_row (built (t ∷ ts))) ∙ e
@@ -271,7 +271,7 @@ past_more zero ms = refl
 past_more (suc i) no_items = ap (λ z. past_items z no_items) (let e : suc i + 1 ≡ suc (i + 1) = omega arith in e)
 past_more (suc i) (item m ms) = ap (λ z. past_items z (item m ms)) (let e : suc i + 1 ≡ suc (i + 1) = omega arith in e) ∙ past_more i ms
 
--- an item of a list, by how far it is behind the head
+-- an item of a list, by its distance from the head
 pub item_is : (ts : List Token) (at n i : ℕ) → IsRow ts → head_of (told_tree (drop at ts)) ≡ Array n → i < n
     → (item_of (told_tree (drop at ts)) i ≡ Some (first_tree (past_items i (built (drop (suc at) ts))))) ×
     (depth (first_tree (past_items i (built (drop (suc at) ts)))) < depth (told_tree (drop at ts)))
@@ -291,7 +291,7 @@ no_pair ts at n i r e l =
     let s = map_at ts at n r e in
     ap (λ z. pair_of z i) s.is ∙ past_pair (first_pairs n (built (drop (suc at) ts))) i (omega (arith, l, s.many))
 
--- a pair of a map, by how far its key is behind the head
+-- a pair of a map, by the distance of its key from the head
 pub pair_is : (ts : List Token) (at n i : ℕ) → IsRow ts → head_of (told_tree (drop at ts)) ≡ Map n → i < n
     → (pair_of (told_tree (drop at ts)) i ≡ Some (
       first_tree (past_items (2 * i) (built (drop (suc at) ts))),
@@ -366,7 +366,7 @@ turn_first (Map n, s) ts r =
     ap items_of (pairs-items n (built ts) many) ∙ ap (λ z. items_of (first_items (2 * z) (built ts))) (sym many)
 turn_first (Ext n tag, s) ts r = refl
 
--- the parts of the message at a place, one after another, are the first messages behind its head
+-- the parts of the message at an index, in order, are the first messages after its head
 pub turn_at : (ts : List Token) (at : ℕ) → IsRow ts
     → parts_in_turn (told_tree (drop at ts)) ≡ items_of (first_items (parts_of (told_tree (drop at ts))) (built (drop (suc at) ts)))
 turn_at [] zero r = refl
@@ -402,7 +402,7 @@ past_count zero ms = inl (omega arith)
 past_count (suc i) no_items = inr (omega arith)
 past_count (suc i) (item m ms) = elim (past_count i ms) [ inl e ↦ inl (omega (arith, e)) | inr l ↦ inr (omega (arith, l)) ]
 
--- behind a map's key stands its value
+-- after a map's key comes its value
 pub value_there : (ts : List Token) (at n i : ℕ) → IsRow ts → head_of (told_tree (drop at ts)) ≡ Map n → i < n
     → 1 < count (past_items (2 * i) (built (drop (suc at) ts)))
 value_there ts at n i r e l =

@@ -47,7 +47,7 @@ first-past zero ms = refl
 first-past (suc n) no_items = refl
 first-past (suc n) (item m ms) = ap (λ z. item m z) (first-past n ms)
 
--- ---- the pairs of a map are the messages behind its head, two by two
+-- ---- the pairs of a map are the messages after its head, two by two
 
 pub pairs-past : (n : ℕ) (ms : Msgs) → count_pairs (first_pairs n ms) ≡ n → append (flat_pairs (first_pairs n ms)) (past_pairs n ms) ≡ ms
 pairs-past zero ms e = refl
@@ -95,7 +95,7 @@ list_many n s ts e = sym (ap parts_first e)
 pub map_many : (n : ℕ) (s : List ℕ) (ts : List Token) → IsRow ((Map n, s) ∷ ts) → count_pairs (first_pairs n (built ts)) ≡ n
 map_many n s ts e = sym (ap parts_first e)
 
--- behind each head of a row stands a row
+-- after each head of a row comes a row
 pub row_tail : (h : Head) (s : List ℕ) (ts : List Token) → IsRow ((h, s) ∷ ts) → IsRow ts
 row_tail Nil s ts e = ap (drop 1) e
 row_tail (Truth t) s ts e = ap (drop 1) e
@@ -119,7 +119,7 @@ row_drop (suc n) (t ∷ ts) e = row_drop n ts (row_tail t.0 t.1 ts e)
 
 -- ---- from one message of a row to the next
 
--- behind the first n messages stand the others
+-- after the first n messages come the others
 pub rest_is : (n : ℕ) (ts : List Token) → IsRow ts → drop (span n ts) ts ≡ tokens_all (past_items n (built ts))
 rest_is n ts e =
     let ms = built ts in
@@ -168,7 +168,7 @@ count-past n no_items l = absurd (omega (arith, l))
 count-past zero (item m ms) l = omega (arith, has_head m, length-append (tokens m) (tokens_all ms))
 count-past (suc n) (item m ms) l = count-past n ms (omega (arith, l))
 
--- where one more message stands, the row goes on
+-- where one more message begins, the row goes on
 pub span_goes_on : (n : ℕ) (ts : List Token) → IsRow ts → n < count (built ts) → span n ts < length ts
 span_goes_on n ts e l =
     let ms = built ts in
@@ -192,7 +192,7 @@ pub count-flat : (ps : Pairs) → count (flat_pairs ps) ≡ 2 * count_pairs ps
 count-flat no_pairs = refl
 count-flat (pair k v ps) = omega (arith, count-flat ps)
 
--- behind the head of a list or a map stand at least its parts
+-- after the head of a list or a map come at least its parts
 pub list_parts : (n : ℕ) (s : List ℕ) (ts : List Token) → IsRow ((Array n, s) ∷ ts) → n ≤ count (built ts)
 list_parts n s ts e = omega (arith, list_many n s ts e, count-first n (built ts))
 

@@ -23,7 +23,7 @@ takes_at b [] n node a l e = absurd (omega (arith, l))
 takes_at b (first ∷ row) zero node a l e = ap takes_in e ∙ a.0
 takes_at b (first ∷ row) (suc n) node a l e = takes_at b row n node a.1 (omega (arith, l)) e
 
--- where a walk stands after i messages of a row that begins at a place
+-- where a walk is after i messages of a row that begins at an index
 module _ (b : List ℕ) (row : List Node) (at : ℕ) (r : IsRow (drop at (heads_in b row))) (t : AllTake b (drop at row)) where
   pub walk_place : (i : ℕ) (place : ℕ) → i < count (built (drop at (heads_in b row))) → place ≡ at + span i (drop at (heads_in b row)) → place < length row
   walk_place i place l e =
@@ -60,7 +60,7 @@ within_set end [] at node node' g w a = a
 within_set end (first ∷ row) zero node node' g w a = (w (subst (EndsBy end) (sym g) a.0), a.1)
 within_set end (first ∷ row) (suc at) node node' g w a = (a.0, within_set end row at node node' g w a.1)
 
--- behind a head stand its parts
+-- after a head come its parts
 pub parts_behind : (b : List ℕ) (node : Node) (row : List Node) → IsRow (heads_in b (node ∷ row)) → parts_in node ≤ count (built (heads_in b row))
 parts_behind b nodes.Nil row r = omega arith
 parts_behind b (nodes.Truth t) row r = omega arith
@@ -89,7 +89,7 @@ size_is b (nodes.Ext tag len at) row r = refl
 size_is b (nodes.List n takes) row r = refl
 size_is b (nodes.Map n takes) row r = sym (map_size n [] (heads_in b row) r)
 
--- what stands from a place on in a row
+-- the messages from an index of a row on
 pub from_place : (b : List ℕ) (row : List Node) (at : ℕ) (node : Node) → at < length row → node ≡ get_or row at node
     → drop at (heads_in b row) ≡ heads_in b (node ∷ drop (at + 1) row)
 from_place b row at node l g = heads_drop b row at ∙ ap (heads_in b) (drop_more row at node l ∙ ap (λ z. z ∷ drop (at + 1) row) (sym g))

@@ -39,7 +39,7 @@ spells_all root parts m f e =
     spelled_all parts.bytes.items (root ∷ parts.nodes.items) ∙ ap canon_tokens (heads_told root parts m f e ∙ sym (append-nil (tokens m)))
     ∙ sym (canon_told m []) ∙ append-nil (canon m)
 
--- the content of each of them stands within the buffer
+-- the content of each of them is within the buffer
 pub one_ends : (end : ℕ) (row : List Node) (i : ℕ) (node : Node) → AllByRecursion (EndsBy end) row → i < length row → node ≡ get_or row i node → EndsBy end node
 one_ends end [] i node a l e = absurd (omega (arith, l))
 one_ends end (first ∷ row) zero node a l e = subst (EndsBy end) (sym e) a.0

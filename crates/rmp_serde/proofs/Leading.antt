@@ -124,7 +124,7 @@ module _ (w : Bool) where
   abbrev pub no_row_tree : (room : ℕ) (xs : List ℕ) → 0 < room → BeginsRow (SpellsAs w) ItemsUtf8 room 0 xs
   no_row_tree room xs l = record { bytes = []; rest = xs; trees = no_items; front = refl; spelled = refl; many = refl; fits = omega (arith, l); holds = tt }
 
-  -- ---- what stood there stands behind
+  -- ---- what was there comes after it
 
   message_opens : (room n : ℕ) (counts : List ℕ) (m : Msg) (a c more : List ℕ) (mt : List Token) (x ys : List ℕ) (ts : Msgs) → SpellsAs w a m
       → SpellsRow (SpellsAs w) c ts → count ts ≡ suc n → depth_all ts < room → ItemsUtf8 ts → SpellsOpenTrees w (suc room) counts more mt

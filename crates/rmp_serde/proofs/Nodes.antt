@@ -286,7 +286,7 @@ turned_begins no_pairs q b = b
 turned_begins (pair k v ps) q (inl b) = inl b
 turned_begins (pair k v ps) q (inr a) = inr (a.0, a.1, elim a.2 [ inl b ↦ inl b | inr c ↦ inr (c.0, c.1, turned_begins ps c.0 c.2) ])
 
--- the first node begins at 0, and each other one behind its head and content, among its parts
+-- the first node begins at 0, and each other one after its head and content, among its parts
 abbrev Later : Msg → Msgs → ℕ → Type 0
 Later m ms p = (p ≡ 0) ⊎ After (length (own m)) (λ q. BeginsAmong ms q) p
 
@@ -331,7 +331,7 @@ first_begins (list ms) = inl refl
 first_begins (map ps) = inl refl
 first_begins (extension tag s) = refl
 
--- in the first part, or behind all of it
+-- in the first part, or after all of it
 long_all : (m : Msg) (ms : Msgs) → length (canon_all (item m ms)) ≡ length (canon m) + length (canon_all ms)
 long_all m ms = length-append (canon m) (canon_all ms)
 
@@ -355,7 +355,7 @@ of_append (item m xs) ys q (inr a) = elim (of_append xs ys a.0 a.2) [
 node_long : (m : Msg) → length (canon m) ≡ length (own m) + length (canon_all (parts m))
 node_long m = ap length (canon_node m) ∙ length-append (own m) (canon_all (parts m))
 
--- a node of a row begins at 0, or behind the first one's head and content, in its parts or in the others
+-- a node of a row begins at 0, or after the first one's head and content, in its parts or in the others
 pub begins_later : (m : Msg) (ms : Msgs) (p : ℕ) → BeginsAmong (item m ms) p → Later m (append (parts m) ms) p
 begins_later m ms p (inl b) = elim (begins_own m p b) [ inl z ↦ inl z | inr a ↦ inr (a.0, a.1, in_append (parts m) ms a.0 a.2) ]
 begins_later m ms p (inr a) =

@@ -35,7 +35,7 @@ use Rattle.rmp_serde.specs.declared.value.text.Sign.TheVariants.{Nothing, Comma}
 use Rattle.rmp_serde.specs.OpenParts.{head_text, sign_text, next_sign, bracket_of, text_left, texts_left, heads_among, turns_left, WritesToward}
 use Rattle.rmp_serde.specs.TreeText.{tree_text, with_commas, item_texts, pair_texts}
 
--- ---- the innermost stands last
+-- ---- the innermost is last
 
 pub texts_push : (os : List Open) (o : Open) → texts_left (os ++ (o ∷ [])) ≡ text_left o.is_map o.sign (parts_left o.parts) ++ texts_left os
 texts_push [] o = sym (append-nil (text_left o.is_map o.sign (parts_left o.parts)))
@@ -112,7 +112,7 @@ leaf_text (list ms) l p = absurd (l refl)
 leaf_text (map ps) l p = absurd (p refl)
 leaf_text (extension tag s) l p = refl
 
--- ---- how many heads stand in it
+-- ---- how many heads it has
 
 heads_of_items : (ms : Msgs) → length (tokens_all ms) ≡ heads_among (items_of ms)
 heads_of_items no_items = refl
@@ -144,7 +144,7 @@ part_put before sign part left outer =
     append_assoc before sign (part ++ (left ++ outer))
     ∙ ap (λ s. before ++ s) (ap (λ s. sign ++ s) (sym (append_assoc part left outer)) ∙ sym (append_assoc sign (part ++ left) outer))
 
--- a list or a map is begun: its bracket was put, and it stands last among those that are open
+-- a list or a map is begun: its bracket was written, and it is last among those that are open
 pub begun : {W : Type 0} (took : W → List ℕ → W → Type 0) (f g : Formatter W) (front all : List ℕ) (os : List Open) (o : Open) {after : List Open}
     → HasWritten took f front g → after ≡ os ++ (o ∷ []) → all ≡ front ++ text_left o.is_map o.sign (parts_left o.parts)
     → WritesToward took f os all after g
@@ -176,7 +176,7 @@ begun_turns m os o {after} pushed is =
     let turns : turns_left after ≡ suc (2 * heads_among (parts_left o.parts)) + turns_left os = ap turns_left pushed ∙ turns_push os o in
     omega (arith, turns, ap heads_among is, heads_of m)
 
--- a part was put behind its sign, and begun
+-- a part was written after its sign, and begun
 pub turn_put : {W : Type 0} (took : W → List ℕ → W → Type 0) (old mid signed new : Formatter W) (all : List ℕ) (os : List Open) (o o' : Open) (m : Msg)
     {held pushed last : List Open} → WritesToward took old [] all held mid → held ≡ os ++ (o ∷ []) → parts_left o.parts ≡ m ∷ parts_left o'.parts
     → o'.is_map ≡ o.is_map → o'.sign ≡ next_sign o.is_map o.sign → HasWritten took mid (sign_text o.sign) signed → pushed ≡ os ++ (o' ∷ [])

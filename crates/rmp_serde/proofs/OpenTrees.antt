@@ -1,4 +1,4 @@
--- What lists and maps that stand open still want, where the texts in them have to be UTF-8, and which heads the bytes spell.
+-- What remains in open lists and maps, whose texts must be UTF-8, and which heads the bytes spell.
 use Rattle.std.specs.Prelude.{◌≡◌, ◌⊎◌, ℕ, suc, ◌<◌, Bool, List, [], ◌∷◌, ◌++◌}
 use Rattle.rmp_wire.specs.Canonical.{SpellsAs}
 use Rattle.rmp_wire.specs.Msg.{Msgs, count, depth_all}
@@ -8,7 +8,7 @@ use Rattle.rmp_decode.specs.declared.error.Error.{Error}
 use Rattle.rmp_serde.specs.Read.{ItemsUtf8}
 use Rattle.rmp_serde.specs.Tokens.{Token, tokens_all}
 
--- these bytes spell so many messages, which nest below the room and have these heads
+-- these bytes spell this many messages, which nest below the room and have these heads
 pub record SpellsTrees (strict : Bool) (room n : ℕ) (bytes : List ℕ) (heads : List Token) : Type 0 where
   pub trees : Msgs
   pub spelled : SpellsRow (SpellsAs strict) bytes trees
@@ -28,26 +28,27 @@ pub record JoinedTrees (P Q : List ℕ → List Token → Type 0) (bytes : List 
   pub is_whole : bytes ≡ first ++ second
   pub all_heads : heads ≡ first_heads ++ second_heads
 
--- These bytes spell all that is wanted, innermost first, and a level further out each has one more level of room.
+-- These bytes spell all that remains, innermost first, and each level further out has one more level of room.
 abbrev pub SpellsOpenTrees : Bool → ℕ → List ℕ → List ℕ → List Token → Type 0
 SpellsOpenTrees strict room [] bytes heads = (bytes ≡ []) × (heads ≡ [])
 SpellsOpenTrees strict room (n ∷ counts) bytes heads = JoinedTrees (SpellsTrees strict room n) (SpellsOpenTrees strict (suc room) counts) bytes heads
 
--- bytes that spell what is wanted stand in ys, and then the rest
+-- ys begins with bytes that spell what remains, and then comes the rest
 pub record BehindTrees (strict : Bool) (room : ℕ) (counts rest ys : List ℕ) : Type 0 where
   pub bytes : List ℕ
   pub heads : List Token
   pub front : ys ≡ bytes ++ rest
   pub spelled : SpellsOpenTrees strict room counts bytes heads
 
--- the first thing that is wrong with what is wanted
+-- the first thing that is wrong with what remains
 abbrev pub OpenTreesRefusal : Bool → (ℕ → Error → List ℕ → Type 0) → ℕ → List ℕ → Error → List ℕ → Type 0
 OpenTreesRefusal strict wrong room [] e xs = ⊥
 OpenTreesRefusal strict wrong room (n ∷ counts) e xs = RowRefusal strict wrong ItemsUtf8 room n e xs
     ⊎ ((before : BeginsRow (SpellsAs strict) ItemsUtf8 room n xs) × OpenTreesRefusal strict wrong (suc room) counts e before.rest)
 
--- Taking these bytes, with these heads, leads from what was wanted to what is wanted then: what spells the one behind them spells the other with them,
--- what stood there stands behind them, and so does what is wrong.
+-- Consuming these bytes, with these heads, leads from what remained before to what remains then. What spells the
+-- latter spells the former with these bytes before it. After these bytes, what remains then is spelled wherever
+-- what remained before was, and what is wrong is wrong for both.
 pub record LeadsTrees (strict : Bool) (wrong : ℕ → Error → List ℕ → Type 0) (room : ℕ) (counts : List ℕ) (room' : ℕ) (counts' taken : List ℕ)
     (heads : List Token) : Type 0 where
   pub closes : (b : List ℕ) (t : List Token) → SpellsOpenTrees strict room' counts' b t → SpellsOpenTrees strict room counts (taken ++ b) (heads ++ t)

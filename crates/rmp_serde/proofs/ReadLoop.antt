@@ -156,7 +156,7 @@ text_utf8 n (list ms) e r = absurd (cc)
 text_utf8 n (map ps) e r = absurd (cc)
 text_utf8 n (extension tag s) e r = absurd (cc)
 
--- the bytes behind the head of a text aren't one
+-- the bytes after the head of a text aren't one
 text_refused : (w : Bool) (room n : ℕ) (known k : Option (List ℕ)) (b : List ℕ) → Consumes known k b → heads_of w (head.Text n) b → StartsWithNoText n k
     → Refuses (SpellsAs w) (Readable reads_value) room known
 text_refused w room n known k b c i x = refuses_by w (Readable reads_value) room known k b c (λ ys q a.
@@ -222,7 +222,7 @@ module _ {R C : Type 0} (g : Ghosts R) where
   fails_leaf (head.Map n) w room known b old new e t i c f = content_fails (head.Map n) w room known b old new e t i c f
   fails_leaf (head.Ext n tag) w room known b old new e t i c f = content_fails (head.Ext n tag) w room known b old new e t i c f
 
--- ---- what is still wanted
+-- ---- what remains
 
 pub none_of : (xs : List ℕ) → length xs ≡ 0 → xs ≡ []
 none_of [] e = refl
@@ -240,7 +240,8 @@ falls_entered room wanted n inner outer then behind s q r o = elim o [
 abbrev LeadsBy : Bool → ℕ → List ℕ → ℕ → List ℕ → List ℕ → List Token → Type 0
 LeadsBy strict = LeadsTrees strict (UnreadFor strict)
 
--- what was taken leads from so many messages to what is wanted now: by the innermost, and by those that stand open around it, the outermost first
+-- what was consumed leads from n messages to what remains now: in the innermost list or map, and in those that
+-- are open around it, the outermost first
 pub record Wants {R C : Type 0} (g : Ghosts R) (all : ℕ) (start now : Deserializer R C) (room wanted : ℕ) (outer : List ℕ) (before heads : List Token)
     : Type 0 where
   pub taken : List ℕ

@@ -1,4 +1,4 @@
--- A value from its first head and what was read behind it.
+-- A value from its first head and what was read after it.
 use Rattle.std.proofs.Common.{
   ◌≡◌,
   ◌≢◌,
@@ -68,7 +68,7 @@ use Rattle.rmp_serde.proofs.ReadLoop.{none_fits, leaf_tokens, leaf_utf8, fails_l
 use Rattle.rmp_serde.proofs.Refusing.{wider, short_content, short_parts}
 use Rattle.rmp_serde.proofs.Tokens.{tree_told}
 
--- where no readable messages stand behind the head, no readable message stands before it
+-- where no readable messages follow the head, no readable message begins before it
 nest_refused : (w is_map : Bool) (n room : ℕ) (known k : Option (List ℕ)) (b : List ℕ) → Consumes known k b → heads_of w (parts_head is_map n) b → 1 < room
     → RefusesRow (SpellsAs w) ItemsUtf8 (room - 1) (parts_count is_map n) k → Refuses (SpellsAs w) (Readable reads_value) room known
 unfolding RefusesRow

@@ -78,7 +78,7 @@ wrong_piece w room len (Some xs) (Some ys) bytes e t i p = elim (cases_lt (lengt
       wrong_utf8 w room s (drop len ys) xs ys bytes e t (subst (λ n. heads_of w (head.Text n) bytes) (sym long) i) split bad.0 bad.1
 ]
 
--- memory was short for what is behind a head
+-- memory ran out for what follows a head
 pub short_content : (w : Bool) (h : Head) → IsRawHead h ⊎ IsExtHead h → (room : ℕ) (known k : Option (List ℕ)) (bytes : List ℕ) → Consumes known k bytes
     → heads_of w h bytes → RefusedFor w (UnreadFor w) ItemsUtf8 room errors.OutOfMemory known
 short_content w h c room known k bytes t i = wrong_memory w (UnreadFor w) ItemsUtf8 room known k bytes h t i

@@ -129,7 +129,7 @@ same_is (x ∷ xs) (y ∷ ys) e =
 abbrev row : List ℕ → ℕ → List ℕ
 row table m = get_or table (4 * m) 0 ∷ get_or table (4 * m + 1) 0 ∷ get_or table (4 * m + 2) 0 ∷ get_or table (4 * m + 3) 0 ∷ []
 
--- each four numbers of a table are what is said of their first byte, for so many bytes from one on
+-- each four numbers of a table are those of their first byte, for the bytes from one on
 abbrev says : ℕ → ℕ → List ℕ → Bool
 says zero k table = true
 says (suc n) k (a ∷ b ∷ c ∷ d ∷ table) = same (entry k) (a ∷ b ∷ c ∷ d ∷ []) && says n (suc k) table
@@ -300,7 +300,8 @@ text_node m n r g l e k = record {
 abbrev pub word : ℕ → ℕ → ℕ → ℕ → ℕ
 word a b c d = a * 0x1000000 + b * 0x10000 + c * 0x100 + d
 
--- A head whose first byte has this entry, and whose next four bytes are as it asks, is canonical and stands whole with its content.
+-- A head whose first byte has this entry, and whose next four bytes are as it asks, is canonical and whole with
+-- its content.
 module _ (m a b c d e f g h : ℕ) (r : List ℕ) (s : IsBytes (m ∷ a ∷ b ∷ c ∷ d ∷ e ∷ f ∷ g ∷ h ∷ r))
     (long : 32 ≤ length (m ∷ a ∷ b ∷ c ∷ d ∷ e ∷ f ∷ g ∷ h ∷ r)) where
   l1 : a < 256
@@ -502,7 +503,7 @@ nine xs l =
       is = cc (p.is, q.is, t.is);
     }
 
--- a node stands at the front
+-- the bytes begin with a node
 front_node : (ys : List ℕ) (next added least size parts : ℕ) → 32 ≤ length ys → ((i : ℕ) → get_or ys i 0 < 256)
     → next ≡ word (get_or ys 1 0) (get_or ys 2 0) (get_or ys 3 0) (get_or ys 4 0) → entry (get_or ys 0 0) ≡ added ∷ least ∷ size ∷ parts ∷ []
     → least ≤ (next + added) % 2 ^ 64

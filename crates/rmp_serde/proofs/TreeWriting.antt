@@ -109,7 +109,7 @@ pub takes_until : {X : Type 0} {A B : Type 0} {m : Bool} {a b c : Option (List �
     → TakesTree m (flat_map f (take i xs)) a b k g (Ok u) → TakesTree {A = A} m (f x) b c g h (Err e) → TakesTree {A = A} m (flat_map f xs) a c k h (Err e)
 takes_until f xs i x within is p q = takes_as (flat_map_split f xs i x within is) (takes_stop (flat_map f (drop (suc i) xs)) (takes_then p q))
 
--- an item within a row is there whatever stands past it
+-- an item within a row is there whatever comes after it
 pub stands_in : {X : Type 0} (xs : List X) (i : ℕ) (d x : X) → i < length xs → x ≡ get_or xs i d → x ≡ get_or xs i x
 stands_in [] i d x h e = absurd (omega arith)
 stands_in (y ∷ ys) zero d x h e = e

@@ -1,4 +1,4 @@
--- So many messages are wanted one after another: what their heads, taken one by one, leave wanted.
+-- A number of messages remains: how many remain after their heads are consumed one by one.
 use Rattle.std.proofs.Common.{◌≡◌, ◌∙◌, sym, ap, subst, refl, ℕ, zero, suc, ◌+◌, ◌<◌, ◌⊎◌, inl, inr, arith, List, [], ◌∷◌, ◌++◌, length, append_assoc, false}
 use Rattle.std.proofs.lemmas.List.{append-nil, length-append}
 use Rattle.rmp_wire.specs.declared.head.Head.{Head}
@@ -34,7 +34,7 @@ use Rattle.rmp_serde.proofs.Nodes.{
   content_long,
 }
 
--- the canonical spellings of n messages stand at the front, in k bytes
+-- the bytes begin with the canonical spellings of n messages, in k bytes
 pub record Row (n : ℕ) (ys : List ℕ) (k : ℕ) : Type 0 where
   pub trees : Msgs
   pub rest : List ℕ
@@ -43,7 +43,8 @@ pub record Row (n : ℕ) (ys : List ℕ) (k : ℕ) : Type 0 where
   pub front : ys ≡ canon_all trees ++ rest
   pub long : k ≡ length (canon_all trees)
 
--- a node of one of n messages begins at the place, their canonical spellings stand before it, and P holds of what stands there
+-- a node of one of n messages begins at the offset, their canonical spellings come before it, and P holds of
+-- the bytes from there on
 pub record Among (P : List ℕ → Type 0) (n : ℕ) (ys : List ℕ) (p : ℕ) : Type 0 where
   pub trees : Msgs
   pub before : List ℕ
@@ -59,7 +60,7 @@ pub record Among (P : List ℕ → Type 0) (n : ℕ) (ys : List ℕ) (p : ℕ) :
 
 -- ---- the first head and content
 
--- what is behind the first head and content of a row
+-- the bytes after the first head and content of a row
 record OpensRow (n : ℕ) (ys : List ℕ) (k : ℕ) : Type 0 where
   pub tree : Msg
   pub left : List ℕ
@@ -99,7 +100,7 @@ row_opens n ys k (item m ms) rest c f e l = record {
   };
 }
 
--- what stands behind a beginning of both
+-- the bytes after a beginning of both
 record Past (o c before behind : List ℕ) (q : ℕ) : Type 0 where
   pub more : List ℕ
   pub is : before ≡ o ++ more
@@ -156,7 +157,7 @@ opens_row {n} {ys} {k} r = row_opens n ys k r.trees r.rest r.many r.fits r.front
 opens_among : {P : List ℕ → Type 0} {n : ℕ} {ys : List ℕ} {p : ℕ} → Among P (suc n) ys p → ((p ≡ 0) × P ys) ⊎ OpensAmong P n ys p
 opens_among {P} {n} {ys} {p} r = among_opens P n ys p r.trees r.before r.behind r.there r.many r.fits r.begins r.place r.spelled r.front r.holds
 
--- ---- no canonical head and content stands at the front
+-- ---- the bytes begin with no canonical head and content
 
 abbrev pub NoNode : List ℕ → Type 0
 NoNode ys = (m : Msg) (z : List ℕ) → Fits m → ys ≡ own m ++ z → ⊥
@@ -195,7 +196,7 @@ among_here P n ys h = record {
   holds = h;
 }
 
--- another head stands there
+-- another head is there
 pub other_none : (ys : List ℕ) → OpensOther ys → NoNode ys
 other_none ys o m z f e =
     let c = canon_head (head_of m) in
@@ -321,9 +322,9 @@ reaches P input p (item m no_items) before behind there c f (inl b) l s e h = re
 reaches P input p (item m no_items) before behind there c f (inr a) l s e h = absurd a.2
 reaches P input p (item m (item x ms)) before behind there c f b l s e h = absurd (omega arith)
 
--- ---- all that was taken, and what is wanted then
+-- ---- all that was consumed, and what remains then
 
--- What is said of the input is said of what is left of it, where so many messages are wanted.
+-- What holds of the input holds of its remaining bytes, where this many messages remain.
 pub record Follows (input : List ℕ) (wanted : ℕ) (left : List ℕ) (at : ℕ) : Type 0 where
   pub whole_to : (k : ℕ) → Row wanted left k → IsWhole input (at + k)
   pub whole_from : (n : ℕ) → IsWhole input n → (k : ℕ) × (n ≡ at + k) × Row wanted left k
@@ -388,7 +389,7 @@ among_empty no_items p c b = b
 among_empty (item m ms) p c b = absurd (omega arith)
 
 module _ (input left : List ℕ) (at : ℕ) where
-  -- no more is wanted
+  -- no more remains
   module _ (w : Follows input 0 left at) where
     pub done_whole : IsWhole input at
     done_whole = subst (IsWhole input) (nothing_more at) (w.whole_to 0 (empty_row left))
@@ -399,7 +400,7 @@ module _ (input left : List ℕ) (at : ℕ) where
     pub done_fault : (p : ℕ) → IsFault input p → ⊥
     done_fault p i = let o = w.fault_from p i in among_empty o.2.trees o.0 o.2.many o.2.begins
 
-  -- another message is wanted
+  -- another message remains
   module _ (n : ℕ) (w : Follows input (suc n) left at) where
     pub none_whole : NoNode left → (k : ℕ) → IsWhole input k → ⊥
     none_whole none k i = let o = w.whole_from k i in no_row n left o.0 none o.2

@@ -13,7 +13,7 @@ use Rattle.rmp_serde.specs.declared.value.flat.Node.{Node}
 use Rattle.rmp_serde.specs.declared.value.flat.Nodes.{Nodes}
 use Rattle.rmp_serde.specs.declared.value.flat.Node.TheVariants as nodes
 
--- the head that a node stands for
+-- the head of a node
 abbrev pub head_in : Node → Head
 head_in nodes.Nil = Nil
 head_in (nodes.Truth t) = Truth t
@@ -27,7 +27,7 @@ head_in (nodes.Ext tag len at) = Ext len tag
 head_in (nodes.List n takes) = Array n
 head_in (nodes.Map n takes) = Map n
 
--- its content, which stands in the buffer
+-- its content, which is in the buffer
 abbrev pub content_in : List ℕ → Node → List ℕ
 content_in buffer (nodes.Text len at) = take len (drop at buffer)
 content_in buffer (nodes.Bytes len at) = take len (drop at buffer)
@@ -44,18 +44,18 @@ heads_in buffer row = map (token_in buffer) row
 abbrev pub heads_of : Nodes → List Token
 heads_of made = heads_in made.bytes.items made.nodes.items
 
--- a head whose content, where it has some, stands in the buffer from a place on
+-- a head whose content, if it has some, is in the buffer from an offset on
 abbrev pub content_at : Nodes → Head → ℕ → Token
 content_at made head at = (head, take (content_len head) (drop at made.bytes.items))
 
--- the content of a node stands within so many bytes
+-- the content of a node ends within this many bytes
 abbrev pub EndsBy : ℕ → Node → Type 0
 EndsBy end (nodes.Text len at) = at + len ≤ end
 EndsBy end (nodes.Bytes len at) = at + len ≤ end
 EndsBy end (nodes.Ext tag len at) = at + len ≤ end
 EndsBy end node = Unit {0}
 
--- the content of each node stands within the buffer
+-- the content of each node is within the buffer
 abbrev pub IsWithin : Nodes → Type 0
 IsWithin made = AllByRecursion (EndsBy (length made.bytes.items)) made.nodes.items
 
@@ -66,27 +66,27 @@ spelled_in buffer (nodes.Bytes len at) = canon_head (Bin len) ++ take len (drop 
 spelled_in buffer (nodes.Ext tag len at) = canon_head (Ext len tag) ++ take len (drop at buffer)
 spelled_in buffer node = canon_head (head_in node)
 
--- how many nodes it takes, with those of all that stands in it
+-- how many nodes it takes, with all that is nested in it
 abbrev pub takes_in : Node → ℕ
 takes_in (nodes.List n takes) = takes
 takes_in (nodes.Map n takes) = takes
 takes_in node = 1
 
--- the same once it is told of a list or a map
+-- how many it takes once that is set, for a list or a map
 abbrev pub takes_then : ℕ → Node → ℕ
 takes_then takes (nodes.List n old) = takes
 takes_then takes (nodes.Map n old) = takes
 takes_then takes node = 1
 
--- how many messages stand in a list or a map: of a map two a pair
+-- how many messages a list or a map contains; each pair of a map counts as two
 abbrev pub parts_in : Node → ℕ
 parts_in (nodes.List n takes) = n
 parts_in (nodes.Map n takes) = 2 * n
 parts_in node = 0
 
--- ---- what the heads tell
+-- ---- what the heads say
 
--- they are those of messages, one after another
+-- they are those of messages, in order
 abbrev pub IsRow : List Token → Type 0
 IsRow heads = heads ≡ tokens_all (built heads)
 
@@ -98,11 +98,11 @@ told_tree heads = first_tree (built heads)
 abbrev pub size_of : List Token → ℕ
 size_of heads = length (tokens (told_tree heads))
 
--- how many the first n messages have
+-- how many heads the first n messages have
 abbrev pub span : ℕ → List Token → ℕ
 span n heads = length (tokens_all (first_items n (built heads)))
 
--- each node says how many the message has that begins with it
+-- each node says how many heads the message has that begins with it
 abbrev pub AllTake : List ℕ → List Node → Type 0
 AllTake buffer [] = ⊤
 AllTake buffer (node ∷ more) = (takes_in node ≡ size_of (heads_in buffer (node ∷ more))) × AllTake buffer more

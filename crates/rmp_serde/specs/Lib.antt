@@ -11,8 +11,13 @@ pub use Rattle.rmp_encode.specs.Slices
 pub use Rattle.rmp_encode.specs.Trees
 pub use Rattle.rmp_encode.specs.Tuples
 pub use Rattle.rmp_encode.specs.Writes
+pub use Rattle.rmp_round_trip.specs.InTurn
 pub use Rattle.rmp_round_trip.specs.LeafRounds
 pub use Rattle.rmp_round_trip.specs.MapRounds
+pub use Rattle.rmp_round_trip.specs.OnlyFields
+pub use Rattle.rmp_round_trip.specs.OnlyLeaves
+pub use Rattle.rmp_round_trip.specs.OnlyMaps
+pub use Rattle.rmp_round_trip.specs.OnlyRows
 pub use Rattle.rmp_round_trip.specs.RoundTrip
 pub use Rattle.rmp_round_trip.specs.Rounds
 pub use Rattle.rmp_round_trip.specs.StructRounds

@@ -1,4 +1,4 @@
--- The lists and maps whose text isn't whole, and what is to come of it.
+-- The lists and maps whose text isn't complete, and what remains of it.
 use Rattle.std.specs.Prelude.{◌≡◌, ℕ, suc, ◌+◌, ◌*◌, Bool, true, false, List, [], ◌∷◌, ◌++◌, length, codes}
 use Rattle.std.specs.Fmt.{HasWritten, signed_decimal}
 use Rattle.std.specs.declared.fmt.Formatter.{Formatter}
@@ -14,7 +14,7 @@ use Rattle.rmp_serde.specs.declared.value.text.Open.{Open}
 use Rattle.rmp_serde.specs.declared.value.text.Sign.{Sign}
 use Rattle.rmp_serde.specs.declared.value.text.Sign.TheVariants.{Nothing, Comma, Equals}
 
--- the text of a head and its content: of a list or a map the first bracket
+-- the text of a head and its content; of a list or a map, the opening bracket
 abbrev pub head_text : Head → List ℕ → List ℕ
 head_text Nil s = codes "nil"
 head_text (Truth true) s = codes "true"
@@ -33,7 +33,7 @@ sign_text Nothing = []
 sign_text Comma = codes ","
 sign_text Equals = codes "="
 
--- what stands in front of the part behind: in a map keys and values take turns
+-- the punctuation before the next part: in a map keys and values take turns
 abbrev pub next_sign : Bool → Sign → Sign
 next_sign true Nothing = Equals
 next_sign true Comma = Equals
@@ -43,27 +43,28 @@ abbrev pub bracket_of : Bool → List ℕ
 bracket_of true = codes "}"
 bracket_of false = codes "]"
 
--- the text of parts that are to come, and the bracket behind them
+-- the text of the parts that remain, and the closing bracket
 abbrev pub text_left : Bool → Sign → List Msg → List ℕ
 text_left is_map sign [] = bracket_of is_map
 text_left is_map sign (m ∷ ms) = sign_text sign ++ (tree_text m ++ text_left is_map (next_sign is_map sign) ms)
 
--- the text that is to come of lists and maps in one another, the outermost first
+-- the text that remains of nested lists and maps, the outermost first
 abbrev pub texts_left : List Open → List ℕ
 texts_left [] = []
 texts_left (o ∷ os) = texts_left os ++ text_left o.is_map o.sign (parts_left o.parts)
 
--- how many heads stand in messages
+-- the number of heads in messages
 abbrev pub heads_among : List Msg → ℕ
 heads_among [] = 0
 heads_among (m ∷ ms) = length (tokens m) + heads_among ms
 
--- at most so many turns of a loop over parts and brackets are to come
+-- how many turns of a loop over parts and brackets remain, at most
 abbrev pub turns_left : List Open → ℕ
 turns_left [] = 0
 turns_left (o ∷ os) = suc (2 * heads_among (parts_left o.parts)) + turns_left os
 
--- Text was written, and with what is to come of the lists and maps that are open then it is this text and what was to come before.
+-- Text was written. Followed by what remains of the lists and maps that are open then, it is this text,
+-- followed by what remained before.
 pub record WritesToward {W : Type 0} (took : W → List ℕ → W → Type 0) (old : Formatter W) (before : List Open) (wanted : List ℕ) (after : List Open)
     (new : Formatter W) : Type 0 where
   pub text : List ℕ

@@ -6,15 +6,15 @@ use Rattle.rmp_serde.specs.declared.value.kind.Kind.{Kind}
 use Rattle.rmp_serde.specs.declared.value.kind.Kind.TheVariants as kinds
 use Rattle.rmp_serde.specs.declared.value.reference.ValueRef.{ValueRef}
 
--- the messages that stand in the value from the reference's place on, one after another
+-- the messages of the value from the reference's index on, in order
 abbrev pub row_at : ValueRef → Msgs
 row_at v = built (drop v.at (tokens v.value.now))
 
--- those that stand behind the head there
+-- the messages after the head at that index
 abbrev pub row_behind : ValueRef → Msgs
 row_behind v = built (drop (suc v.at) (tokens v.value.now))
 
--- the tree that a reference leads to: the one whose heads begin at the reference's place among those of the whole
+-- the tree of a reference: the one whose heads begin at the reference's index among those of the whole
 abbrev pub tree : ValueRef → Msg
 tree v = first_tree (row_at v)
 
@@ -38,12 +38,12 @@ abbrev pub whole_of : Msg → Option ℤ
 whole_of (whole z) = Some z
 whole_of _ = None
 
--- the bits of a float of 32 bits
+-- the bits of a 32-bit float
 abbrev pub float32_of : Msg → Option ℕ
 float32_of (float32 n) = Some n
 float32_of _ = None
 
--- the bits of a float of 64 bits
+-- the bits of a 64-bit float
 abbrev pub float64_of : Msg → Option ℕ
 float64_of (float64 n) = Some n
 float64_of _ = None
@@ -61,18 +61,18 @@ abbrev pub extension_of : Msg → Option (ℤ × List ℕ)
 extension_of (extension tag s) = Some (tag, s)
 extension_of _ = None
 
--- how many items a list has, or pairs a map; 0 where it is neither
+-- the number of items of a list, or of pairs of a map; 0 for any other kind
 abbrev pub parts_count : Msg → ℕ
 parts_count (list ms) = count ms
 parts_count (map ps) = count_pairs ps
 parts_count _ = 0
 
--- a list's item at an index from 0
+-- a list's item at an index, which starts at 0
 abbrev pub item_of : Msg → ℕ → Option Msg
 item_of (list ms) i = slice_get (items_of ms) i
 item_of _ i = None
 
--- the key and the value of a map's pair at an index from 0
+-- the key and the value of a map's pair at an index, which starts at 0
 abbrev pub pair_of : Msg → ℕ → Option (Msg × Msg)
 pair_of (map ps) i = slice_get (pairs_of ps) i
 pair_of _ i = None
@@ -84,7 +84,7 @@ content_of (bin s) = s
 content_of (extension tag s) = s
 content_of _ = []
 
--- how many messages stand in a list or a map: of a map two a pair
+-- how many messages a list or a map contains; each pair of a map counts as two
 abbrev pub parts_of : Msg → ℕ
 parts_of (list ms) = count ms
 parts_of (map ps) = 2 * count_pairs ps

@@ -1,4 +1,4 @@
--- The parts of a list or a map that are still to come.
+-- The parts of a list or a map that remain.
 use Rattle.std.specs.Prelude.{◌≡◌, List, [], ◌∷◌, Option, MatchOption}
 use Rattle.rmp_wire.specs.Msg.{Msg, items_of}
 use Rattle.rmp_serde.specs.Parts.{tree, row_at}
@@ -9,6 +9,6 @@ use Rattle.rmp_serde.specs.declared.value.reference.parts.Parts.{Parts}
 abbrev pub parts_left : Parts → List Msg
 parts_left s = items_of (first_items s.left (row_at s.front))
 
--- the first of them comes and the others are left, or there is none
+-- the first is returned and the others remain, or there is none
 abbrev pub YieldsPart : Parts → Option ValueRef → Parts → Type 0
 YieldsPart s result t = MatchOption result ((parts_left s ≡ []) × (parts_left t ≡ [])) (λ v. parts_left s ≡ tree v ∷ parts_left t)

@@ -1,5 +1,5 @@
--- Where the nodes of a tree begin in its canonical spelling, and what a checker of such a spelling answers.
-use Rattle.std.specs.Prelude.{◌≡◌, ◌⊎◌, ℕ, zero, suc, ◌+◌, ◌*◌, List, [], ◌++◌, length, true, Option, Some, None, Result, Ok, Err}
+-- Where the nodes of a tree begin in its canonical spelling, and what a check of such a spelling returns.
+use Rattle.std.specs.Prelude.{◌≡◌, ◌⊎◌, ℕ, zero, suc, ◌+◌, List, [], ◌++◌, length, true, Option, Some, None, Result, Ok, Err}
 use Rattle.rmp_wire.specs.declared.head.Head.{Head}
 use Rattle.rmp_wire.specs.declared.head.Head.TheVariants.{Array, Map}
 use Rattle.rmp_wire.specs.declared.marker.Marker.TheVariants.{Reserved}
@@ -28,17 +28,18 @@ use Rattle.rmp_wire.specs.Msg.{
 }
 use Rattle.rmp_wire.specs.Spelling.{canon, Fits}
 use Rattle.rmp_decode.specs.Exact.{IsMarkerEnd, IsDataEnd}
+pub use Rattle.rmp_scan.specs.Parts.{parts_behind}
 use Rattle.rmp_decode.specs.Kinds.{content_len}
 use Rattle.rmp_decode.specs.Refuse.{HeadIsCut, ContentIsCut, IsReserved}
 use Rattle.rmp_decode.specs.declared.error.Error.{Error}
 use Rattle.rmp_decode.specs.declared.error.Error.TheVariants.{InvalidMarkerRead, InvalidDataRead, TypeMismatch}
 
--- P holds of what is left of the place, behind so many bytes
+-- the offset is at least n, and P holds of the offset less n
 abbrev pub After : ℕ → (ℕ → Type 0) → ℕ → Type 0
 After n P p = (q : ℕ) × (p ≡ n + q) × P q
 
--- A node of the tree begins at this place of the tree's canonical spelling: the tree itself at 0, and behind the head of a list or a map, and behind
--- the parts before some part, each node of that part.
+-- A node of the tree begins at this offset of the tree's canonical spelling: the tree itself at 0. In a list or
+-- a map, after the head and the parts before some part, each node of that part.
 abbrev mutual
   pub BeginsAt : Msg → ℕ → Type 0
   BeginsAt nil p = p ≡ 0
@@ -68,7 +69,8 @@ pub record IsWhole (input : List ℕ) (n : ℕ) : Type 0 where
   pub front : input ≡ canon tree ++ rest
   pub long : n ≡ length (canon tree)
 
--- A node of some message begins at the place p, the first p bytes are those of the message's canonical spelling, and P holds of what stands there.
+-- A node of some message begins at the offset p, the first p bytes are those of the message's canonical
+-- spelling, and P holds of the bytes from there on.
 pub record Reaches (P : List ℕ → Type 0) (input : List ℕ) (p : ℕ) : Type 0 where
   pub tree : Msg
   pub before : List ℕ
@@ -81,7 +83,7 @@ pub record Reaches (P : List ℕ → Type 0) (input : List ℕ) (p : ℕ) : Type
   pub front : input ≡ before ++ there
   pub holds : P there
 
--- a head stands whole at the front that isn't the canonical one of its kind and number
+-- the bytes begin with a whole head that isn't the canonical one of its kind and number
 pub record OpensOther (xs : List ℕ) : Type 0 where
   pub head : Head
   pub bytes : List ℕ
@@ -90,29 +92,24 @@ pub record OpensOther (xs : List ℕ) : Type 0 where
   pub is_head : IsHead head bytes
   pub other : IsCanonicalHead head bytes → ⊥
 
--- at this place stands the first head that isn't canonical
+-- at this offset is the first head that isn't canonical
 abbrev pub IsFault : List ℕ → ℕ → Type 0
 IsFault input p = Reaches OpensOther input p
 
--- why the message that is wanted at the front can't be passed over: the bytes end before it, inside of its head or inside of its
--- content, or the byte c1 is there
+-- why the bytes don't begin with a head and its content: they end before the message, inside of its head or
+-- inside of its content, or the byte c1 is there
 abbrev pub StopsFor : Error → List ℕ → Type 0
 StopsFor (InvalidMarkerRead fault) xs = IsMarkerEnd (InvalidMarkerRead fault) × (xs ≡ [])
 StopsFor (InvalidDataRead fault) xs = IsDataEnd (InvalidDataRead fault) × (HeadIsCut xs ⊎ ContentIsCut true xs)
 StopsFor (TypeMismatch marker) xs = (marker ≡ Reserved) × IsReserved xs
 StopsFor e xs = ⊥
 
--- the error says why, at some place, and as far as that the input is canonical
+-- the error says why, at some offset, up to which the input is canonical
 abbrev pub Stops : List ℕ → Error → Type 0
 Stops input e = (p : ℕ) × Reaches (StopsFor e) input p
 
--- how many messages stand behind a head
-abbrev pub parts_behind : Head → ℕ
-parts_behind (Array n) = n
-parts_behind (Map n) = 2 * n
-parts_behind h = 0
-
--- a canonical head and its content stand at the front, and then the rest, in which so many messages are the parts of this one
+-- the bytes begin with a canonical head and its content, and then come the rest, where n messages follow as its
+-- parts
 pub record TakesNode (xs rest : List ℕ) (n : ℕ) : Type 0 where
   pub head : Head
   pub content : List ℕ
@@ -121,13 +118,15 @@ pub record TakesNode (xs rest : List ℕ) (n : ℕ) : Type 0 where
   pub front : xs ≡ (canon_head head ++ content) ++ rest
   pub many : n ≡ parts_behind head
 
--- What taking a head and its content does: they are canonical and were taken, the head isn't canonical, or it says why neither is.
+-- What reading a head and its content does: they are canonical and were consumed, the head isn't canonical, or
+-- the error says why neither is so.
 abbrev pub NextNode : List ℕ → List ℕ → Result (Option ℕ) Error → Type 0
 NextNode old new (Ok (Some n)) = TakesNode old new n
 NextNode old new (Ok None) = OpensOther old × (new ≡ old)
 NextNode old new (Err e) = StopsFor e old
 
--- So many canonical heads and their contents stand at the front, one after another, and then the rest, in which so many messages are their parts.
+-- The bytes begin with this many canonical heads and their contents, in order, and then come the rest, where n
+-- messages follow as their parts.
 abbrev pub TakesNodes : ℕ → ℕ → List ℕ → List ℕ → Type 0
 TakesNodes zero parts xs zs = (parts ≡ 0) × (xs ≡ zs)
 TakesNodes (suc n) parts xs zs = (ys : List ℕ) × (before : ℕ) × (last : ℕ) × TakesNodes n before xs ys × TakesNode ys zs last × (parts ≡ before + last)

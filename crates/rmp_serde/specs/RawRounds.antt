@@ -8,6 +8,8 @@ use Rattle.rmp_encode.specs.Trees.{tree_of}
 use Rattle.rmp_encode.specs.declared.settings.Settings.{Settings}
 use Rattle.rmp_decode.specs.Read.{IsRaw}
 use Rattle.rmp_serde.specs.Raws.{raw_data}
+use Rattle.rmp_round_trip.specs.OnlyLeaves.{raw_is}
+use Rattle.rmp_round_trip.specs.OnlyRows.{lowers_then}
 use Rattle.rmp_round_trip.specs.RoundTrip.{LowersTo}
 
 module _ (s : Settings) where
@@ -26,6 +28,19 @@ module _ (s : Settings) where
 
   pub raw_other : (t : List ℕ) → tree_of s (Some (raw_data t)) ≢ Some msg.nil
   raw_other t = either_other (is_utf8 t) t
+
+  module _ {W : Type 0} (f : W → List ℕ) where
+    either_only : (b : Bool) (t : List ℕ) → LowersTo s (Some (cond b (text t) (bytes t))) (λ m. (w : W) → IsRaw m (f w) → t ≡ f w)
+    unfolding lower
+    either_only true t = λ w r. raw_is true r.0 t (f w) r.1
+    either_only false t = λ w r. raw_is false r.0 t (f w) r.1
+
+    pub raw_only : (t : List ℕ) → LowersTo s (Some (raw_data t)) (λ m. (w : W) → IsRaw m (f w) → t ≡ f w)
+    raw_only t = either_only (is_utf8 t) t
+
+    pub raw_ref_only : (t : List ℕ) (lends : Bool) → LowersTo s (Some (raw_data t)) (λ m. (w : W) → (lends ≡ true) × IsRaw m (f w) → t ≡ f w)
+    raw_ref_only t lends = lowers_then s (Some (raw_data t)) (λ m. (w : W) → IsRaw m (f w) → t ≡ f w)
+        (λ m. (w : W) → (lends ≡ true) × IsRaw m (f w) → t ≡ f w) (raw_only t) (λ m q w r. q w r.1)
 
   either_lent : (b : Bool) (t : List ℕ) (lends : Bool) → lends ≡ true → LowersTo s (Some (cond b (text t) (bytes t))) (λ m. (lends ≡ true) × IsRaw m t)
   unfolding lower

@@ -1,4 +1,4 @@
--- The bytes of texts that may be no UTF-8, and what they are to a serializer.
+-- The bytes of texts that needn't be UTF-8, and what they are for a serializer.
 use Rattle.std.specs.Prelude.{ℕ, List, cond}
 use Rattle.std.specs.Str.{is_utf8}
 use Rattle.std.specs.String.{string_bytes}
@@ -24,6 +24,6 @@ content_ref_bytes (borrowed.Other o) = o.bytes.now
 abbrev pub raw_ref_bytes : RawRef → List ℕ
 raw_ref_bytes r = content_ref_bytes r.content
 
--- a text where they are UTF-8, and else bytes
+-- a text if they are UTF-8, and bytes otherwise
 abbrev pub raw_data : List ℕ → Data
 raw_data s = cond (is_utf8 s) (text s) (bytes s)

@@ -25,6 +25,6 @@ abbrev mutual
   PairsUtf8 no_pairs = ⊤
   PairsUtf8 (pair k v ps) = AllTextsUtf8 k × AllTextsUtf8 v × PairsUtf8 ps
 
--- the tree itself, whose texts have to be UTF-8
+-- the tree itself, whose texts must be UTF-8
 abbrev pub reads_value : Msg → Msg → Type 0
 reads_value m v = (v ≡ m) × AllTextsUtf8 m

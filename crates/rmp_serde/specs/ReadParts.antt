@@ -1,4 +1,4 @@
--- What reading values by their heads takes, and which heads it tells.
+-- What reading values by their heads consumes, and which heads it records.
 use Rattle.std.specs.Prelude.{◌≡◌, ◌⊎◌, ℕ, ◌-◌, ◌<◌, List, [], ◌∷◌, ◌++◌, Bool, true, false, Result, OnOk, OnErr, IfErr, IsUtf8}
 use Rattle.std.specs.Io.KnownBytes.{Consumes}
 use Rattle.rmp_wire.specs.Canonical.{SpellsAs}
@@ -18,7 +18,7 @@ use Rattle.rmp_decode.specs.declared.error.Error.{Error}
 use Rattle.rmp_serde.specs.Read.{ItemsUtf8}
 use Rattle.rmp_serde.specs.Tokens.{Token, tokens_all}
 
--- it opens no list and no map
+-- it begins no list and no map
 abbrev pub IsLeafHead : Head → Type 0
 IsLeafHead h = (q : Bool × ℕ) → h ≡ parts_head q.0 q.1 → ⊥
 
@@ -27,33 +27,33 @@ abbrev pub ContentUtf8 : Head → List ℕ → Type 0
 ContentUtf8 (Text n) s = IsUtf8 s
 ContentUtf8 h s = Unit {0}
 
--- the content behind this head was taken, and stands behind the bytes that were there
+-- the content after this head was consumed, and appended to the bytes in the buffer
 pub record TakesBehind {R C : Type 0} (g : Ghosts R) (h : Head) (old new : Deserializer R C) (before after : List ℕ) : Type 0 where
   pub content : List ℕ
   pub taken : TakesContent g (content_len h) old new content
   pub utf8 : ContentUtf8 h content
   pub whole : after ≡ before ++ content
 
--- the content behind this head was taken, and both stand behind the heads that were told before
+-- the content after this head was consumed, and both were appended to the heads recorded before
 pub record TakesLeaf {R C : Type 0} (g : Ghosts R) (h : Head) (old new : Deserializer R C) (before after : List Token) : Type 0 where
   pub content : List ℕ
   pub taken : TakesContent g (content_len h) old new content
   pub utf8 : ContentUtf8 h content
   pub told : after ≡ before ++ (h, content) ∷ []
 
--- it couldn't be taken
+-- it couldn't be read
 abbrev pub FailsLeaf : {R C : Type 0} → Ghosts R → Head → Deserializer R C → Deserializer R C → Error → Type 0
 FailsLeaf g (Text n) old new e = FailsText g n old new e
 FailsLeaf g h old new e = FailsContent g (content_len h) old new e
 
--- nothing stands in a list or a map, so that the same is wanted behind its head, below the same depth
+-- a list or a map is empty, so that as many messages remain after its head, at the same depth
 pub record PassesEmpty (inner : ℕ) (around : ℕ × ℕ) (outer : List ℕ) (now : ℕ × ℕ) (behind : List ℕ) : Type 0 where
   pub none : inner ≡ 0
   pub room : now.0 ≡ around.0
   pub wanted : now.1 ≡ around.1
   pub kept : behind ≡ outer
 
--- so many messages stand in it, and are wanted first, one level deeper; what was wanted is kept
+-- it contains this many messages, which come next, one level deeper; what remained is kept
 pub record GoesIn (inner : ℕ) (around : ℕ × ℕ) (outer : List ℕ) (now : ℕ × ℕ) (behind : List ℕ) : Type 0 where
   pub room : now.0 ≡ around.0 - 1
   pub wanted : now.1 ≡ inner
@@ -63,7 +63,8 @@ pub record GoesIn (inner : ℕ) (around : ℕ × ℕ) (outer : List ℕ) (now : 
 abbrev pub Enters : ℕ → ℕ × ℕ → List ℕ → ℕ × ℕ → List ℕ → Type 0
 Enters inner around outer now behind = PassesEmpty inner around outer now behind ⊎ GoesIn inner around outer now behind
 
--- so many messages were taken, one after another, whose texts are UTF-8, and their heads stand behind those that were told before
+-- n messages were consumed, in order, whose texts are UTF-8, and their heads were appended to those recorded
+-- before
 pub record TakesTrees {R C : Type 0} (g : Ghosts R) (room n : ℕ) (old new : Deserializer R C) (before after : List Token) : Type 0 where
   pub bytes : List ℕ
   pub trees : Msgs

@@ -1,8 +1,9 @@
 -- What a first byte says of a short head.
 use Rattle.std.specs.Prelude.{ℕ, ◌-◌, ◌*◌, List, [], ◌∷◌, cond, nat_lt}
 
--- By the first byte: what is added to the number in the four bytes behind it, what the sum has to be at least, how many bytes the head and its content
--- take then, and how many messages stand behind them.
+-- For each first byte, four numbers. The first is added to the big-endian number in the next four bytes, and
+-- the second is the least that the sum may be. Then the head and its content take the third in bytes, and the
+-- fourth is how many messages follow as its parts.
 abbrev pub entry : ℕ → List ℕ
 entry m = cond (nat_lt m 0x80) (0 ∷ 0 ∷ 1 ∷ 0 ∷ [])
     (cond (nat_lt m 0x90) (0 ∷ 0 ∷ 1 ∷ (2 * (m - 0x80)) ∷ [])

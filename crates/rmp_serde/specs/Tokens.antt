@@ -1,4 +1,5 @@
--- The heads of a message in the order of its spelling, and the message that is built from them. (MessagePack specification, "Formats".)
+-- The heads of a message in the order of its spelling, and the message that is built from them. (MessagePack
+-- specification, "Formats".)
 use Rattle.std.specs.Prelude.{ℕ, zero, suc, List, [], ◌∷◌, ◌++◌, length}
 use Rattle.rmp_wire.specs.declared.head.Head.{Head}
 use Rattle.rmp_wire.specs.declared.head.Head.TheVariants.{Nil, Truth, Whole, F32Bits, F64Bits, Text, Bin, Array, Map, Ext}
@@ -25,7 +26,7 @@ use Rattle.rmp_wire.specs.Msg.{
   count_pairs,
 }
 
--- a head and the content behind it: what one node of a flat tree holds
+-- a head and its content: what one node of a flat tree holds
 abbrev pub Token : Type 0
 Token = Head × List ℕ
 
@@ -61,7 +62,8 @@ abbrev pub flat_pairs : Pairs → Msgs
 flat_pairs no_pairs = no_items
 flat_pairs (pair k v ps) = item k (item v (flat_pairs ps))
 
--- ---- a tree from its heads: from the last head to the first, each list and map takes its parts from those that were made
+-- ---- a tree from its heads: from the last head to the first, each list and map takes its parts from the
+-- messages that were made
 
 -- the first n of them
 abbrev pub first_items : ℕ → Msgs → Msgs
@@ -89,7 +91,7 @@ past_pairs (suc n) no_items = no_items
 past_pairs (suc n) (item k no_items) = no_items
 past_pairs (suc n) (item k (item v ms)) = past_pairs n ms
 
--- one more head in front of what was made
+-- adds a head before the messages that were made
 abbrev pub put_head : Head → List ℕ → Msgs → Msgs
 put_head Nil s ms = item nil ms
 put_head (Truth t) s ms = item (truth t) ms
@@ -102,7 +104,7 @@ put_head (Array n) s ms = item (list (first_items n ms)) (past_items n ms)
 put_head (Map n) s ms = item (map (first_pairs n ms)) (past_pairs n ms)
 put_head (Ext n tag) s ms = item (extension tag s) ms
 
--- the messages that stand one after another with these heads
+-- the messages, in order, that have these heads
 abbrev pub built : List Token → Msgs
 built [] = no_items
 built (t ∷ ts) = put_head t.0 t.1 (built ts)

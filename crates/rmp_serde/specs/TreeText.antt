@@ -6,11 +6,11 @@ use Rattle.std.specs.Int.{to_be_bytes, w32, w64}
 use Rattle.hex.specs.Hex.{encode_lower}
 use Rattle.rmp_wire.specs.Msg.{Msg, nil, truth, whole, float32, float64, text, bin, list, map, extension, Msgs, no_items, item, Pairs, no_pairs, pair}
 
--- texts in a row, with a comma between each two
+-- texts in order, with a comma between each two
 abbrev pub with_commas : List (List ℕ) → List ℕ
 with_commas texts = join_with_byte 44 texts
 
--- Numbers are decimal, bits and bytes are hex in lower case.
+-- Numbers are decimal; bits and bytes are lower-case hex.
 unfoldable mutual
   pub tree_text : Msg → List ℕ
   tree_text nil = codes "nil"

@@ -6,8 +6,8 @@ use Rattle.rmp_wire.specs.declared.sink.Sink.{Ghosts}
 use Rattle.rmp_wire.specs.declared.error.ValueWriteError.{ValueWriteError}
 use Rattle.rmp_wire.specs.declared.error.ValueWriteError.TheVariants.{InvalidMarkerWrite, InvalidDataWrite, OutOfMemory}
 
--- Why a write stopped once `part` of the bytes was taken: by one fault, before the first byte of one of the tree's
--- messages or behind it, or since memory was refused.
+-- Why a write stopped once `part` of the bytes was taken: by one fault, before the first byte of one of the
+-- tree's messages or after it, or out of memory.
 abbrev pub StopsWithin : Bool → ℕ → ℕ → List ℕ → ValueWriteError → Type 0
 StopsWithin takes_memory old new part (InvalidMarkerWrite fault) = new ≡ next_fault old
 StopsWithin takes_memory old new part (InvalidDataWrite fault) = (0 < length part) × (new ≡ next_fault old)

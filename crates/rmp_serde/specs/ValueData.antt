@@ -1,9 +1,10 @@
--- What a value is to a serializer.
+-- What a value is for a serializer.
 use Rattle.rmp_wire.specs.Msg.{Msg, nil, truth, whole, float32, float64, text, bin, list, map, extension, Msgs, no_items, item, Pairs, no_pairs, pair}
 use Rattle.rmp_encode.specs.Data as call
 use Rattle.rmp_encode.specs.Data.{Data, Parts, no_parts, part, Entries, no_entries, entry}
 
--- A list is a sequence and a map a mapping, so that no mode makes bytes of them. A whole number is never a `u8`.
+-- A list is a sequence and a map a mapping, so that no mode turns them into bytes. A whole number is never a
+-- `u8`.
 unfoldable mutual
   pub value_data : Msg → Data
   value_data nil = call.unit

@@ -38,3 +38,6 @@ value_tree s m = ap Some (lower_value s m)
 
 pub value_row : (s : Settings) (m : Msg) → AllTextsUtf8 m → LowersTo s (Some (value_data m)) (λ k. reads_value k m)
 value_row s m u = subst (λ t. IsSomeAnd t (λ k. reads_value k m)) (sym (value_tree s m)) (refl, u)
+
+pub value_only : (s : Settings) (m : Msg) → LowersTo s (Some (value_data m)) (λ k. (w : Msg) → reads_value k w → m ≡ w)
+value_only s m = subst (λ t. IsSomeAnd t (λ k. (w : Msg) → reads_value k w → m ≡ w)) (sym (value_tree s m)) (λ w r. sym r.0)

@@ -14,20 +14,10 @@ use std::io::ErrorKind;
 /// What a check of an input finds.
 #[derive(Clone, Copy, Debug, PartialEq)]
 pub enum Canon {
-    /// The input begins with the canonical spelling of a message, of so many bytes.
+    /// The input begins with the canonical encoding of a message, of this length in bytes.
     Whole(usize),
-    /// At this place stands the first head that isn't the canonical one of its kind and number.
+    /// At this offset is the first head that isn't the canonical one of its kind and number.
     Fault(usize),
-}
-
-// How many bytes of content stand behind a head.
-fn content_in(head: &Head) -> u32
-    ensures { result ≡ content_len head.now }
-{
-    match head {
-        Head::Text(len) | Head::Bin(len) | Head::Ext(len, _) => *len,
-        _ => 0,
-    }
 }
 
 // How many messages stand behind a head.
@@ -41,8 +31,8 @@ fn parts_in(head: &Head) -> u64
     }
 }
 
-// Takes a canonical head and its content, and says how many messages stand behind it. `None` where a head stands whole
-// that isn't canonical: nothing was taken then.
+// Consumes a canonical head and its content, and returns how many messages follow it as its parts. Returns
+// `None` and consumes nothing where a complete head isn't canonical.
 fn next_node(left: &mut &[u8]) -> Result<Option<u64>, Error>
     ensures { NextNode left.old.now left.new.now result }
 {
@@ -51,44 +41,46 @@ fn next_node(left: &mut &[u8]) -> Result<Option<u64>, Error>
     if !is_canonical(marker, &head) {
         return Ok(None);
     }
-    if !rest.skip(content_in(&head) as usize) {
+    if !rest.skip(head.content_len() as usize) {
         return Err(Error::InvalidDataRead(IoFault::from(ErrorKind::UnexpectedEof)));
     }
     *left = rest;
     Ok(Some(parts_in(&head)))
 }
 
-/// Whether the input begins with the canonical spelling of a message, and of how many bytes, or where the first head stands that
-/// isn't canonical, whatever follows it. Of `92 05 a1 61 c0` it is `Whole(4)`, of `92 05 d9 01 61` it is `Fault(2)`.
+/// Checks whether the input begins with the canonical encoding of a message.
 ///
-/// Lists and maps may nest as deep as they like, and texts may be no UTF-8. What follows the message isn't looked at. It takes no
-/// memory, from `_alloc` or elsewhere.
+/// It returns the length of that encoding, or the offset of the first head that isn't canonical, whatever
+/// follows that head. Of `92 05 a1 61 c0` it is `Whole(4)`, of `92 05 d9 01 61` it is `Fault(2)`.
+///
+/// Lists and maps may nest to any depth, and texts needn't be UTF-8. What follows the message isn't checked.
+/// Nothing is allocated, from `_alloc` or elsewhere.
 ///
 /// # Errors
-/// Where no such head comes before it: `InvalidMarkerRead` where the input ends before a message that is wanted,
-/// `InvalidDataRead` where it ends inside of a head or of content, and `TypeMismatch` at the byte c1.
+/// Unless a head that isn't canonical comes first: `InvalidMarkerRead` where the input ends before a message,
+/// `InvalidDataRead` where it ends inside of a head or its content, and `TypeMismatch` at the byte c1.
 ///
 /// # Examples
 /// ```
 /// use rmp_serde::{Canon, check_canonical};
 ///
 /// assert!(rt; matches!(check_canonical(alloc, &[0x92, 0x05, 0xa1, 0x61, 0xc0])?, Canon::Whole(4)));
-/// // the head of the text stands in two bytes
+/// // the head of the text has two bytes, and one would suffice
 /// assert!(rt; matches!(check_canonical(alloc, &[0x92, 0x05, 0xd9, 0x01, 0x61])?, Canon::Fault(2)));
 /// ```
 pub fn check_canonical(_alloc: Global, input: &[u8]) -> Result<Canon, Error>
     // `Whole` exactly where a beginning of the input is the canonical spelling of a message,
     ensures whole { (n : ℕ) → (result ≡ Ok (Canon.Whole n)) ↔ IsWhole input.now n }
-    // `Fault` exactly where a head that isn't canonical stands where a message of a canonical spelling begins,
+    // `Fault` exactly where a head that isn't canonical is in the place of a message of a canonical encoding,
     ensures fault { (p : ℕ) → (result ≡ Ok (Canon.Fault p)) ↔ IsFault input.now p }
-    // and an error says what is wrong at some such place.
+    // and an error says what is wrong in such a place.
     ensures stops { IfErr result (Stops input.now) }
     ensures memory { IfErr result (λ e. e ≢ Error.OutOfMemory) }
 {
     let len = input.len();
     let mut left: &[u8] = input;
-    // How many messages are still to come in all the lists and maps that stand open. There are never more than the input has
-    // bytes, or the input ends before they do: so the number may stop growing where it has no room to.
+    // How many messages remain in all open lists and maps. There are never more than the input has bytes, or
+    // the input ends first. So the number may stop growing where it would overflow.
     let mut wanted: u64 = 1;
     while wanted > 0 {
         let most = wanted.min(left.len() as u64 / LONGEST);

@@ -1,4 +1,4 @@
-//! The laws of the grammar, over the definitions alone. Each stands on the contract of a function that does nothing.
+//! The laws of the grammar, over the definitions alone. Each is the contract of a function that does nothing.
 //!
 //! A caller uses a law by calling its function: what the call ensures is the law, for every argument.
 
@@ -20,7 +20,10 @@ ghost use Rattle.rmp_serde.specs.Read.{reads_value};
 ghost use Rattle.rmp_serde.specs.ValueData.{value_data};
 
 pub use rmp_encode::laws::known_and_unknown_lengths;
-pub use rmp_round_trip::laws::{values_come_back, widths_are_alike, written_is_read};
+pub use rmp_round_trip::laws::{
+    names_are_found, values_come_back, values_in_turn, versions_are_read, widths_are_alike,
+    written_is_read,
+};
 
 /// No head begins a different head: where two stand at the beginning of one input, they are the same.
 pub fn no_head_begins_another()
@@ -32,8 +35,8 @@ pub fn at_most_one_message()
     ensures { (a b x y : List ℕ) (m n : Msg) → Spells a m → Spells b n → a ++ x ≡ b ++ y → (a ≡ b) × (m ≡ n) × (x ≡ y) }
 {}
 
-/// The table of canonical heads gives the one head that no other is shorter than, and of a number from 0 on the one
-/// without a sign.
+/// The table of canonical heads gives the one head that no other is shorter than. For a number from 0 on, it is
+/// the one without a sign.
 pub fn canonical_head()
     ensures { (h : Head) (a : List ℕ) → IsCanonicalHead h a ↔ (fits_head h × (a ≡ canon_head h)) }
 {}
@@ -45,8 +48,8 @@ pub fn canonical_spelling()
     ensures least { (b : List ℕ) (m : Msg) → Spells b m → length (canon m) ≤ length b }
 {}
 
-/// What a strict read takes, the canonical spelling of a tree, a lenient one takes too, as the same tree; and what is written,
-/// which is that spelling, a strict read takes.
+/// A lenient read accepts whatever a strict read accepts, the canonical spelling of a tree, and as the same
+/// tree. A strict read accepts whatever was written, which is that spelling.
 pub fn strict_reading()
     ensures lenient { (b : List ℕ) (m : Msg) → IsCanonical b m → Spells b m }
     ensures one { (a b x y : List ℕ) (m n : Msg) → IsCanonical a m → Spells b n → a ++ x ≡ b ++ y → (a ≡ b) × (m ≡ n) × (x ≡ y) }
@@ -59,8 +62,8 @@ pub fn spelled_fits()
     ensures bytes { (b : List ℕ) (m : Msg) → Spells b m → IsBytes b }
 {}
 
-/// What a `Value` lowers to is its own tree, whatever the settings. So where `to_vec` answers `Ok` for a `Value`, the
-/// bytes are the canonical spelling of its tree, and spell no other. `to_vec` fails only for want of memory.
+/// A `Value` is written as its own tree, whatever the settings. So where `to_vec` returns `Ok` for a `Value`,
+/// the bytes are the canonical spelling of its tree, and spell no other. `to_vec` fails only out of memory.
 pub fn value_is_its_tree()
     ensures tree { (s : Settings) (m : Msg) → tree_of s (Some (value_data m)) ≡ Some m }
     ensures bytes { (s : Settings) (m : Msg) (b : List ℕ) → IsSpelled (tree_of s (Some (value_data m))) b → b ≡ canon m }
@@ -68,16 +71,16 @@ pub fn value_is_its_tree()
     ensures memory { (s : Settings) (m : Msg) (e : Error) → Fits m → ToVecFails (tree_of s (Some (value_data m))) e → e ≡ errors.OutOfMemory }
 {}
 
-/// A checker of canonical spellings has one answer for an input: at most one length is that of a whole message, at most one
-/// place is at fault, and never are there both.
+/// A check of canonical spelling has one answer for an input: at most one length is that of a whole message, at
+/// most one offset is at fault, and never are there both.
 pub fn one_canonical_answer()
     ensures whole { (input : List ℕ) (m n : ℕ) → IsWhole input m → IsWhole input n → m ≡ n }
     ensures fault { (input : List ℕ) (p q : ℕ) → IsFault input p → IsFault input q → p ≡ q }
     ensures never_both { (input : List ℕ) (n p : ℕ) → IsWhole input n → IsFault input p → ⊥ }
 {}
 
-/// Where a cursor's place stays, as each read leaves it, its position moves on by the length of what was taken: values that were
-/// written one after another are read with the sum of their lengths as `position`.
+/// A cursor's position moves on by the length of what each read consumes. So after reading values that were
+/// written one after another, `position` is the sum of their lengths.
 pub fn positions_add_up()
     ensures { (bytes more taken : List ℕ) (p q : ℕ) → cursor_place more q ≡ cursor_place bytes p
         → Consumes (Some (drop p bytes)) (Some (drop q more)) taken → q ≡ p + length taken }

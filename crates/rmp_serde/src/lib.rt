@@ -1,6 +1,7 @@
 //! MessagePack for typed values, with the one canonical spelling.
 #![tactic(auto)]
 
+mod canonical;
 mod check;
 pub mod decode;
 pub mod encode;
@@ -8,11 +9,13 @@ pub mod laws;
 mod raw;
 mod value;
 
+pub use canonical::{from_slice_canonical, from_slice_canonical_named};
 pub use check::{Canon, check_canonical};
 pub use decode::{Deserializer, from_read, from_read_ref, from_slice, from_slice_strict};
 pub use encode::{Serializer, to_vec, to_vec_named};
 pub use raw::{Raw, RawRef};
 pub use rmp_round_trip::{NeverNil, RoundTrip};
+pub use rmp_scan::{Scan, Scanner, message_len};
 pub use rmp_wire as wire;
 pub use rmp_wire::{MSGPACK_EXT_STRUCT_NAME, Marker, config};
 pub use value::{Kind, Pairs, Parts, Value, ValueRef};

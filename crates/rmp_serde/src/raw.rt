@@ -1,4 +1,4 @@
-//! The bytes of texts, which may be no UTF-8.
+//! The bytes of texts, which needn't be UTF-8.
 ghost use Rattle.std.specs.Prelude.{◌≡◌, IsUtf8};
 ghost use Rattle.std.specs.Str.{valid_up_to};
 ghost use Rattle.std.specs.Str.Lossy.{utf8_valid_len};
@@ -8,7 +8,7 @@ mod owned;
 
 use std::str::Utf8Error;
 
-/// The bytes of a text, which may be no UTF-8. Two are equal exactly if the bytes are.
+/// The bytes of a text, which needn't be UTF-8. Two are equal exactly if their bytes are.
 ///
 /// Bytes that are UTF-8 are written as a text, and all others as bytes. It is read from a text or from bytes.
 #[derive(Debug, Drop)]
@@ -31,9 +31,10 @@ struct Other {
     ghost place: { valid_up_to error ≡ utf8_valid_len bytes.items },
 }
 
-/// The bytes of a text, which may be no UTF-8, where they lie. Two are equal exactly if the bytes are.
+/// The borrowed bytes of a text, which needn't be UTF-8. Two are equal exactly if their bytes are.
 ///
-/// Bytes that are UTF-8 are written as a text, and all others as bytes. It is read from a text or from bytes that are lent.
+/// Bytes that are UTF-8 are written as a text, and all others as bytes. It is read from a text or from bytes,
+/// and only from input that can be borrowed.
 #[derive(Clone, Copy, Debug)]
 pub struct RawRef<'a> {
     content: ContentRef<'a>,

@@ -20,13 +20,15 @@ pub use reference::{Pairs, Parts, ValueRef};
 use rmp_wire::Head;
 use std::marker::Model;
 
-/// A message of any kind, as a tree. Of `let value: Value = from_slice(alloc, b"\x92\xcd\x00\x05\xc0")?` the `root()` is a list,
-/// whose `item(0)` is the number 5; `to_vec(alloc, &value)` is `92 05 c0`.
+/// A message of any kind, as a tree.
 ///
-/// Contracts see it as the message tree itself, every length and number of which has room in a head (`Fits`), and every text of which
-/// is UTF-8.
+/// Of `let value: Value = from_slice(alloc, b"\x92\xcd\x00\x05\xc0")?` the `root()` is a list, whose `item(0)`
+/// is the number 5; `to_vec(alloc, &value)` is `92 05 c0`.
 ///
-/// It is held as one row of nodes, in the order of the spelling, and one buffer for all content.
+/// Contracts see it as the message tree itself. Each length and number has room in a head (`Fits`), and each
+/// text is UTF-8.
+///
+/// In memory it is one vector of nodes, in the order of the encoding, and one buffer for all content.
 #[derive(Drop)]
 pub struct Value {
     pub(crate) root: Node,

@@ -220,7 +220,7 @@ canonical_head_iff h a = (λ c. canonical_head_is h a c, λ p. subst (IsCanonica
 
 -- ---- messages
 
--- a canonical head, and then the one thing that may stand behind it
+-- a canonical head, and then the one thing that may follow it
 joined_is : {Q : List ℕ → Type 0} (h : Head) (c b : List ℕ) (j : Joined (IsCanonicalHead h) Q b) → j.second ≡ c → fits_head h × (b ≡ canon_head h ++ c)
 joined_is h c b j e =
     let p : fits_head h × (j.first ≡ canon_head h) = canonical_head_is h j.first j.is_first in

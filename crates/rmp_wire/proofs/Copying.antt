@@ -1,4 +1,4 @@
--- What lies in memory ahead of a source, copied and then skipped.
+-- Buffered bytes of a source, copied and then skipped.
 use Rattle.std.proofs.Common.{◌≡◌, ◌∙◌, sym, ap, ℕ, ◌+◌, ◌-◌, ◌<◌, ◌≤◌, List, [], ◌++◌, take, length, arith, Option, None, Some, IfSome, drop, subst}
 use Rattle.std.proofs.lemmas.List.{length-take-le, take-append-le, take-append-drop, length-append}
 use Rattle.std.proofs.Math.Seq.{take-append_seam}
@@ -11,7 +11,7 @@ use Rattle.rmp_wire.specs.declared.slice.SourceFault.TheVariants.{Memory, Io}
 use Rattle.rmp_wire.specs.Sources.{IsFront, Skips}
 use Rattle.rmp_wire.proofs.Sources.{short_before}
 
--- what is skipped are the first bytes of those that lie ahead
+-- what is skipped are the first of the buffered bytes
 skips_front : (old new : Option (List ℕ)) (front : List ℕ) (n : ℕ) → IsFront front old → Skips n old new → n ≤ length front → Consumes old new (take n front)
 skips_front None new front n f s l = tt
 skips_front (Some xs) None front n f s l = s.taken
@@ -31,7 +31,7 @@ gained old new front held held' n most f s l some within e =
       behind = e;
     }
 
--- a reader that has a buffer in front lost the first n bytes of those ahead, which lay in the buffer
+-- a buffered reader lost the first n of the remaining bytes, which were buffered
 pub consumed : (old new : Option (List ℕ)) (front : List ℕ) (n : ℕ) → IsFront front old → n ≤ length front
     → IfSome old (λ xs. n ≤ length front → new ≡ Some (drop n xs))
     → Skips n old new
@@ -42,7 +42,7 @@ consumed (Some xs) new front n f l d = record {
   taken = subst (λ o. Consumes (Some xs) o (take n xs)) (sym (d l)) (sym (take-append-drop n xs));
 }
 
--- bytes that were pulled into a buffer stand behind those that were held
+-- bytes that were pulled into a buffer follow those that were held
 pub pulled : (old new : Option (List ℕ)) (buf rest held held' : List ℕ) (n most : ℕ) → n ≤ length buf → 0 < n → n ≤ most → Consumes old new (take n buf)
     → held' ≡ held ++ take n (buf ++ rest) → Gains old new most held held'
 pulled old new buf rest held held' n most bound some within taken e =

@@ -51,7 +51,7 @@ use Rattle.rmp_wire.proofs.Reading.{tail_len, reserved_opens_none, short_of_more
 not_reserved : (k : Marker) (h : Head) (x : List ℕ) → IsHead h (byte_of k ∷ x) → k ≡ Reserved → ⊥
 not_reserved k h x p e = reserved_opens_none h x (subst (λ m. IsHead h (byte_of m ∷ x)) e p)
 
--- a marker that has bytes behind it isn't the reserved one
+-- a marker that more bytes follow isn't the reserved one
 long_not_reserved : (k : Marker) → 0 < tail_len k → k ≡ Reserved → ⊥
 long_not_reserved k l e = let none : tail_len k ≡ 0 = ap tail_len e in omega arith
 
@@ -132,7 +132,7 @@ module _ {S : Type 0} (g : Ghosts S) where
       → ReadsHead g m s s (Ok (make a))
   reads_held_number m k make a n s is same p = subst (λ t. ReadsHead g m s s (Ok (make t))) (sym same) (reads_held m k (make n) s is p)
 
-  -- a number stands behind the marker
+  -- a number follows the marker
   pub reads_number : (w : Width) (m k : Marker) (make : ℕ → Head) (a n : ℕ) (old new : S) → m ≡ k → a ≡ n → ReadsNumber g w old new (Ok n)
       → (n < 2 ^ bits w → IsHead (make n) (byte_of k ∷ to_be_bytes w n)) → ReadsHead g m old new (Ok (make a))
   reads_number w m k make a n old new is same r p =
@@ -144,14 +144,14 @@ module _ {S : Type 0} (g : Ghosts S) where
       subst (λ t. ReadsHead g m old new (Ok (Whole t))) (sym (ap (λ t. to_z w128 (of_z w128 t)) same ∙ to_z-of_z w128 z fits))
       (ahead_taken m k (Whole z) (to_be_bytes w n) old new is p r.ok r.sound r.place)
 
-  -- an extension's tag stands behind the marker
+  -- an extension's type follows the marker
   pub reads_tag : (m k : Marker) (n : ℕ) (tag : ℤ) (old new : S) → m ≡ k → ReadsTag g old new (Ok tag)
       → (FitsSigned w8 tag → IsHead (Ext n tag) (byte_of k ∷ tag_byte tag ∷ [])) → ReadsHead g m old new (Ok (Ext n (to_z w8 (of_z w8 tag))))
   reads_tag m k n tag old new is r p =
       subst (λ t. ReadsHead g m old new (Ok (Ext n t))) (sym (to_z-of_z w8 tag r.fits))
       (ahead_taken m k (Ext n tag) (tag_byte tag ∷ []) old new is (p r.fits) r.ok r.sound r.place)
 
-  -- an extension's length and its tag stand behind the marker
+  -- an extension's length and its type follow the marker
   pub reads_ext : (w : Width) (m k : Marker) (a n : ℕ) (tag : ℤ) (old mid new : S) → m ≡ k → a ≡ n → ReadsNumber g w old mid (Ok n)
       → ReadsTag g mid new (Ok tag)
       → (n < 2 ^ bits w → FitsSigned w8 tag → IsHead (Ext n tag) (byte_of k ∷ (to_be_bytes w n ++ tag_byte tag ∷ [])))

@@ -83,7 +83,7 @@ pub marker_neg : (n : ℕ) → n < 32 → marker_of (0xff - n) ≡ marker.FixNeg
 unfolding marker_of
 marker_neg n h = grind (arith, nat_tests)
 
--- what stands behind a marker that holds its number
+-- what follows a marker that holds its number
 held : (m k : Marker) (make : ℕ → Head) (n j : ℕ) (x : List ℕ) → m ≡ k → head_after k x ≡ Some (make j, x) → j ≡ n → head_after m x ≡ Some (make n, x)
 held m k make n j x is e same = ap (λ t. head_after t x) is ∙ e ∙ ap (λ t. Some (make t, x)) same
 

@@ -40,7 +40,7 @@ none_behind m xs ys c q h (b ∷ x) rest s p =
     let behind : ys ≡ x ++ rest = cc in
     q h x rest behind (subst (λ t. IsHead h (t ∷ x)) first p)
 
--- where the marker's byte was ahead, and then bytes that complete no head of it
+-- the marker's byte remained, and then bytes that complete no head of it
 no_head_cut : (m : Marker) (old mid : Option (List ℕ)) → Consumes old mid (byte_of m ∷ []) → IsCut m mid → NoHead old
 no_head_cut m None mid c q = tt
 no_head_cut m (Some xs) None c q = absurd c

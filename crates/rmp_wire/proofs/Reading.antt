@@ -1,4 +1,4 @@
--- How many bytes stand behind a marker, and what follows where fewer are ahead.
+-- How many bytes follow a marker, and what follows if fewer remain.
 use Rattle.std.proofs.Common.{◌≡◌, ◌∙◌, sym, ap, ℕ, negsuc, ◌+◌, ◌-◌, ◌%◌, List, [], ◌∷◌, ◌++◌, length, drop, Option, None, Some, refl, arith, nat_lt, false}
 use Rattle.std.specs.Int.{Width, w8, w16, w32, w64, byte_len, from_be_bytes, cast_unsigned}
 use Rattle.std.specs.Prelude.{take}
@@ -18,7 +18,7 @@ use Rattle.rmp_wire.specs.Taking.{marker_of, byte_of, take_number, take_head, he
 use Rattle.rmp_wire.proofs.Heads.{marker_pos, marker_map, marker_array, marker_str, marker_neg, take_head_takes}
 use Rattle.rmp_wire.proofs.Taken.{taken_unless, taken_map, taken_then}
 
--- how many bytes stand behind the marker in its heads
+-- how many bytes follow the marker in its heads
 abbrev pub tail_len : Marker → ℕ
 tail_len marker.Bin8 = 1
 tail_len marker.Bin16 = 2
@@ -57,7 +57,7 @@ number_len w s n x e =
     let u : (nat_lt (length s) k ≡ false) × ((from_be_bytes w (take k s), drop k s) ≡ (n, x)) = taken_unless _ _ _ e in
     omega (arith, ltb-false (length s) k u.0, length-drop k s, ap (λ p. length p.1) u.1)
 
--- nothing is left behind what was taken from x
+-- nothing remains after what was taken from x
 whole_len : (x : List ℕ) → length (x ++ []) ≡ length x
 whole_len x = ap length (append-nil x)
 
@@ -140,7 +140,7 @@ cut_by_length : (m : Marker) (n : ℕ) (ahead : Option (List ℕ)) → tail_len 
 cut_by_length m n None l s = tt
 cut_by_length m n (Some xs) l s = λ h x rest e p. absurd (omega (arith, tail_length m h x p, ap length e, length-append x rest))
 
--- Where a call that wants all the bytes behind the marker fails, the head is cut.
+-- Where a call that needs all the bytes after the marker fails, the head is cut.
 pub cuts_short : (m : Marker) (n : ℕ) (old new : Option (List ℕ)) (before after : ℕ) (fault : IoFault) → tail_len m ≡ n
     → TakesShort n old new before after fault → CutsHead m old new before after fault
 cuts_short m n old new before after fault l t = record {
@@ -158,6 +158,7 @@ pub short_of_more : (n more : ℕ) (old new : Option (List ℕ)) (before after :
     → TakesShort (n + more) old new before after fault
 short_of_more n more old new before after fault t = record {
   part = record { part = t.part.part; short = omega (arith, t.part.short); taken = t.part.taken };
+  counts = t.counts;
   short = λ e. short_more n more old (t.short e);
   rest = t.rest;
   end = t.end;

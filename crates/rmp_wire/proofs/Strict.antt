@@ -109,7 +109,7 @@ spells_any strict = spelled_wider (heads_of strict) IsHead (any_width strict)
 
 -- ---- what the test of a head says
 
--- behind its first byte a head is determined
+-- after its first byte a head is determined
 same_behind : (h : Head) (b : ℕ) (x y : List ℕ) → IsHead h (b ∷ x) → canon_head h ≡ b ∷ y → b ∷ x ≡ canon_head h
 unfolding IsHead canon_head
 same_behind Nil b x y i e = i

@@ -125,7 +125,7 @@ number_from w spelled s n x h e =
 
 -- ---- heads
 
--- behind the byte b stands the rest of a head of h
+-- after the byte b comes the rest of a head of h
 pub record Took (h : Head) (b : ℕ) (s x : List ℕ) : Type 0 where
   pub rest : List ℕ
   pub is_head : IsHead h (b ∷ rest)

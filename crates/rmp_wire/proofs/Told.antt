@@ -15,14 +15,14 @@ use Rattle.rmp_wire.specs.Sinks.{next_fault, stopped_after, StopsAfter, PutsPart
 pub next_differs : (n m : ℕ) → m ≡ next_fault n → m ≢ n
 next_differs n m e h = omega (arith, e, h)
 
--- where n more bytes of the piece were put
+-- where n more bytes of the piece were written
 pub take_further : (a b c : Option (List ℕ)) (bs : List ℕ) (i n : ℕ) → Appends a b (take i bs) → Appends b c (take n (take (length bs - i) (drop i bs)))
     → Appends a c (take (i + n) bs)
 take_further a b c bs i n p q =
     let tail : Appends b c (take n (drop i bs)) = subst (λ l. Appends b c (take n l)) (take_rest bs i) q in
     subst (Appends a c) (sym (take-add i n bs)) (Appends-trans a b c _ _ p tail)
 
--- where no more was put
+-- where no more was written
 pub take_same : (a b c : Option (List ℕ)) (bs : List ℕ) (i n : ℕ) → n ≡ 0 → Appends a b (take i bs)
     → Appends b c (take n (take (length bs - i) (drop i bs))) → Appends a c (take i bs)
 take_same a b c bs i n none p q = subst (λ k. Appends a c (take k bs)) (omega (arith, none)) (take_further a b c bs i n p q)
@@ -47,7 +47,7 @@ part_of_take m bytes a b f g i e p cause = record {
   cause = cause;
 }
 
--- a fault after so many bytes
+-- a fault after n bytes
 pub stops_at : (m : Bool) (bytes : List ℕ) (f g i : ℕ) (fault : IoFault) → i ≤ length bytes → g ≡ next_fault f
     → StopsAfter m f g (take i bytes) (stopped_after i fault)
 stops_at m bytes f g zero fault h moved = (refl, moved)

@@ -75,7 +75,7 @@ unfolding take_msg rest_at some_items some_pairs
 take_msg_is zero bytes = refl
 take_msg_is (suc d) bytes = refl
 
--- a message that is its head, and one with bytes behind its head
+-- a message that is its head, and one with bytes after its head
 take_leaf : (d : ℕ) (h : Head) (m : Msg) (b x : List ℕ) → ((rest : List ℕ) → rest_at d h rest ≡ Some (m, rest)) → IsHead h b → take_msg d (b ++ x) ≡ Some (m, x)
 take_leaf d h m b x e s = take_msg_is d (b ++ x) ∙ take_alone (rest_at d) h b x _ s (e x)
 

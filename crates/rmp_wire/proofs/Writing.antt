@@ -43,7 +43,7 @@ puts_then_stop {m} {bs} {cs} {a} {b} {c} {f} {g} {h} {e} some p q =
       cause = stops_later m f g h bs q.stops.part e some p.sound q.stops.cause;
     })
 
--- a piece was not taken whole, and more was to come
+-- a piece was not taken whole, and more remained
 pub puts_stop : {A B : Type 0} {m : Bool} {bs : List ℕ} {a b : Option (List ℕ)} {f g : ℕ} {e : ValueWriteError} (cs : List ℕ)
     → Puts {A = A} m bs a b f g (Err e) → Puts {A = B} m (bs ++ cs) a b f g (Err e)
 puts_stop {m} {bs} {a} {b} {f} {g} {e} cs p =

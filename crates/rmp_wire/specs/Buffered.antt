@@ -1,4 +1,4 @@
--- What a source over a reader with a buffer shows.
+-- What a source over a buffered reader shows.
 use Rattle.std.specs.Prelude.{ℕ}
 use Rattle.std.specs.declared.alloc.Global.{Global}
 use Rattle.std.specs.declared.io.buffered.BufReader.{BufReader}

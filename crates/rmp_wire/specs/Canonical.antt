@@ -1,4 +1,4 @@
--- Which spelling is the canonical one: every head is a shortest one, and of a number from 0 on one without a sign.
+-- Which spelling is the canonical one: each head is a shortest one, and a number from 0 on has an unsigned one.
 use Rattle.std.specs.Prelude.{◌≡◌, ℕ, ◌≤◌, List, [], ◌∷◌, Bool, true, false, length, pos}
 use Rattle.rmp_wire.specs.declared.head.Head.{Head}
 use Rattle.rmp_wire.specs.declared.head.Head.TheVariants.{Whole}
@@ -22,7 +22,7 @@ AreCanonical = AllSpelledBy IsCanonicalHead
 abbrev pub ArePairsCanonical : List ℕ → Pairs → Type 0
 ArePairsCanonical = PairsSpelledBy IsCanonicalHead
 
--- what heads are, while reading is strict: the canonical ones; else those of any width.
+-- which heads a read accepts: the canonical ones if it is strict, and those of any width otherwise
 abbrev pub heads_of : Bool → Head → List ℕ → Type 0
 heads_of false = IsHead
 heads_of true = IsCanonicalHead
@@ -32,6 +32,6 @@ abbrev pub Opens : ℕ → List ℕ → Type 0
 Opens b [] = ⊥
 Opens b (first ∷ rest) = b ≡ first
 
--- What spells a message while reading is strict, and else.
+-- what spells a message for a strict read, and for a lenient one
 abbrev pub SpellsAs : Bool → List ℕ → Msg → Type 0
 SpellsAs strict = SpelledBy (heads_of strict)

@@ -13,11 +13,11 @@ fault_kind fault = fault.kind
 abbrev pub fault_code : IoFault → Option ℤ
 fault_code fault = fault.os_error
 
--- a fault of this kind that has no number of the system's
+-- a fault of this kind without a system error number
 abbrev pub IsPlain : ErrorKind → IoFault → Type 0
 IsPlain kind fault = (fault_kind fault ≡ kind) × (fault_code fault ≡ None)
 
--- the same failure, where bytes of the item were taken before it
+-- the same failure, of an item whose first byte was already taken
 abbrev pub past_first : ValueWriteError → ValueWriteError
 past_first (InvalidMarkerWrite fault) = InvalidDataWrite fault
 past_first (InvalidDataWrite fault) = InvalidDataWrite fault

@@ -1,4 +1,4 @@
--- The heads of messages: what may open a message, and which of several heads is the canonical one.
+-- The heads of messages: what may begin a message, and which of several heads is the canonical one.
 -- (MessagePack specification, "Formats"; numbers and lengths are big-endian, "Notation in diagrams".)
 use Rattle.std.specs.Prelude.{◌≡◌, ℕ, ◌+◌, ◌-◌, ◌^◌, ◌<◌, ◌⊎◌, List, [], ◌∷◌, ◌++◌, true, false, cond, nat_lt, nat_eq, ℤ, pos, negsuc, FitsSigned}
 use Rattle.std.specs.Int.{Width, w8, w16, w32, w64, to_be_bytes, cast_unsigned}
@@ -10,7 +10,7 @@ use Rattle.rmp_wire.specs.declared.head.Head.TheVariants.{Nil, Truth, Whole, F32
 abbrev pub Fixed : ℕ → ℕ → ℕ → List ℕ → Type 0
 Fixed first k n head = (n < k) × (head ≡ (first + n) ∷ [])
 
--- a marker byte, then n in the bytes of the width, the highest first
+-- a marker byte, then n in big-endian bytes of the width
 abbrev pub Wide : ℕ → Width → ℕ → List ℕ → Type 0
 Wide marker w n head = (n < 2 ^ bits w) × (head ≡ marker ∷ to_be_bytes w n)
 

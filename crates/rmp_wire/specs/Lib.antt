@@ -4,6 +4,7 @@ pub mod Copying
 pub mod Cursors
 pub mod Faults
 pub mod Heads
+pub mod Kinds
 pub mod Msg
 pub mod ReadAhead
 pub mod Reading

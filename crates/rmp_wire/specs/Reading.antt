@@ -1,4 +1,4 @@
--- What reading a marker or a head takes of the bytes ahead, and what it means where none could be read.
+-- Which of the remaining bytes a read of a marker or a head consumes, and what a failure means.
 use Rattle.std.specs.Prelude.{◌≡◌, ◌≢◌, ℕ, ◌<◌, ◌^◌, List, [], ◌∷◌, ◌++◌, length, ℤ, FitsSigned, Option, IfSome, Result, Err, IfOk, OnOk, IfErr}
 use Rattle.std.specs.Int.{Width, w8, to_be_bytes, byte_len}
 use mir.Val.{bits}
@@ -17,42 +17,43 @@ use Rattle.rmp_wire.specs.Heads.{IsHead, tag_byte}
 use Rattle.rmp_wire.specs.Sources.{TakesShort}
 use Rattle.rmp_wire.specs.Taking.{marker_of, byte_of}
 
--- the first byte ahead was taken, and this is its marker
+-- the first remaining byte was consumed, and this is its marker
 pub record TakesMarker (m : Marker) (old new : Option (List ℕ)) : Type 0 where
   pub byte : ℕ
   pub is_byte : byte < 256
   pub is_marker : m ≡ marker_of byte
   pub taken : Consumes old new (byte ∷ [])
 
--- No first byte could be read: nothing was taken, and where the source had no fault (it counts them: before, after) nothing is ahead.
+-- No first byte could be read: nothing was consumed, and if the source had no fault (it counts them: before,
+-- after), no byte remains.
 pub record FailsMarker (old new : Option (List ℕ)) (before after : ℕ) (fault : IoFault) : Type 0 where
   pub kept : Keeps old new
   pub none_ahead : after ≡ before → IsAtEnd old
   pub end : after ≡ before → fault_kind fault ≡ UnexpectedEof
 
--- what stands behind the marker's byte in a head was taken
+-- the rest of a head was consumed, after its marker
 pub record TakesHead (m : Marker) (h : Head) (old new : Option (List ℕ)) : Type 0 where
   pub rest : List ℕ
   pub is_head : IsHead h (byte_of m ∷ rest)
   pub taken : Consumes old new rest
 
--- the marker's byte and then the bytes ahead begin with no head
+-- the marker's byte and the remaining bytes begin with no head
 abbrev pub IsCut : Marker → Option (List ℕ) → Type 0
 IsCut m ahead = IfSome ahead (λ xs. (h : Head) (x rest : List ℕ) → xs ≡ x ++ rest → IsHead h (byte_of m ∷ x) → ⊥)
 
--- of the bytes ahead fewer were taken than any head of the marker has behind it
+-- fewer bytes were consumed than follow the marker in any of its heads
 pub record TakesHeadPart (m : Marker) (old new : Option (List ℕ)) : Type 0 where
   pub part : List ℕ
   pub short : (h : Head) (x : List ℕ) → IsHead h (byte_of m ∷ x) → length part < length x
   pub taken : Consumes old new part
 
--- A head was cut: only a part of it was taken, and where the source had no fault no more than a part is ahead.
+-- A head was cut: only a part of it was consumed, and if the source had no fault, no more than a part remains.
 pub record CutsHead (m : Marker) (old new : Option (List ℕ)) (before after : ℕ) (fault : IoFault) : Type 0 where
   pub part : TakesHeadPart m old new
   pub cut : after ≡ before → IsCut m old
   pub end : after ≡ before → fault_kind fault ≡ UnexpectedEof
 
--- why no head stands behind the marker: the marker opens none, or the head was cut
+-- why no head follows the marker: the marker begins none, or the head was cut
 abbrev pub FailsHead : Marker → Option (List ℕ) → Option (List ℕ) → ℕ → ℕ → ValueReadError → Type 0
 FailsHead m old new before after (InvalidMarkerRead fault) = ⊥
 FailsHead m old new before after (InvalidDataRead fault) = CutsHead m old new before after fault
@@ -60,18 +61,18 @@ FailsHead m old new before after (TypeMismatch k) = (m ≡ Reserved) × (k ≡ R
 
 -- ---- a marker and its head together
 
--- the bytes of one head were taken, and this is its marker
+-- the bytes of one head were consumed, and this is its marker
 pub record TakesNext (m : Marker) (h : Head) (old new : Option (List ℕ)) : Type 0 where
   pub rest : List ℕ
   pub is_head : IsHead h (byte_of m ∷ rest)
   pub is_marker : marker_of (byte_of m) ≡ m
   pub taken : Consumes old new (byte_of m ∷ rest)
 
--- the bytes ahead begin with no head
+-- the remaining bytes begin with no head
 abbrev pub NoHead : Option (List ℕ) → Type 0
 NoHead ahead = IfSome ahead (λ xs. (h : Head) (x rest : List ℕ) → xs ≡ x ++ rest → IsHead h x → ⊥)
 
--- of the bytes ahead a marker's byte and a part of its head were taken
+-- a marker's byte and a part of its head were consumed
 pub record TakesNextPart (old new : Option (List ℕ)) : Type 0 where
   pub marker : Marker
   pub opens : marker ≢ Reserved
@@ -79,34 +80,34 @@ pub record TakesNextPart (old new : Option (List ℕ)) : Type 0 where
   pub short : (h : Head) (x : List ℕ) → IsHead h (byte_of marker ∷ x) → length part < length x
   pub taken : Consumes old new (byte_of marker ∷ part)
 
--- how much of the bytes ahead was taken with each error
+-- how many bytes were consumed with each error
 abbrev pub LeavesNext : Option (List ℕ) → Option (List ℕ) → ℕ → ℕ → ValueReadError → Type 0
 LeavesNext old new before after (InvalidMarkerRead fault) = FailsMarker old new before after fault
 LeavesNext old new before after (InvalidDataRead fault) = TakesNextPart old new × (after ≡ before → fault_kind fault ≡ UnexpectedEof)
 LeavesNext old new before after (TypeMismatch k) = (k ≡ Reserved) × Consumes old new (byte_of Reserved ∷ []) × (after ≡ before)
 
--- No head could be read: where the source had no fault, the bytes ahead begin with none.
+-- No head could be read: if the source had no fault, the remaining bytes begin with none.
 pub record FailsNext (old new : Option (List ℕ)) (before after : ℕ) (e : ValueReadError) : Type 0 where
   pub none : after ≡ before → NoHead old
   pub leaves : LeavesNext old new before after e
 
 -- ---- the calls, over what the source tells
 
--- a call failed that wants n bytes behind the marker
+-- a call failed that needs n bytes after the marker
 abbrev pub FailsData : ℕ → Option (List ℕ) → Option (List ℕ) → ℕ → ℕ → ValueReadError → Type 0
 FailsData n old new before after (InvalidMarkerRead fault) = ⊥
 FailsData n old new before after (InvalidDataRead fault) = TakesShort n old new before after fault
 FailsData n old new before after (TypeMismatch k) = ⊥
 
 module _ {S : Type 0} (g : Ghosts S) where
-  -- A first byte is taken, or nothing is.
+  -- A first byte is consumed, or nothing is.
   pub record ReadsMarker (old new : S) (r : Result Marker MarkerReadError) : Type 0 where
     pub ok : IfOk r (λ m. TakesMarker m (g.ahead old) (g.ahead new))
     pub sound : OnOk r (g.faults new ≡ g.faults old)
     pub err : IfErr r (λ e. FailsMarker (g.ahead old) (g.ahead new) (g.faults old) (g.faults new) e.0)
     pub place : g.place new ≡ g.place old
 
-  -- What stands behind the marker's byte in a head is taken, or none stands there. The reserved marker opens no head.
+  -- The rest of a head is consumed, after its marker, or none follows. The reserved marker begins no head.
   pub record ReadsHead (m : Marker) (old new : S) (r : Result Head ValueReadError) : Type 0 where
     pub ok : IfOk r (λ h. TakesHead m h (g.ahead old) (g.ahead new))
     pub sound : OnOk r (g.faults new ≡ g.faults old)
@@ -114,14 +115,14 @@ module _ {S : Type 0} (g : Ghosts S) where
     pub reserved : m ≡ Reserved → r ≡ Err (TypeMismatch Reserved)
     pub place : g.place new ≡ g.place old
 
-  -- One head is taken, or the bytes ahead begin with none.
+  -- One head is consumed, or the remaining bytes begin with none.
   pub record ReadsNext (old new : S) (r : Result (Marker × Head) ValueReadError) : Type 0 where
     pub ok : IfOk r (λ next. TakesNext next.0 next.1 (g.ahead old) (g.ahead new))
     pub sound : OnOk r (g.faults new ≡ g.faults old)
     pub err : IfErr r (FailsNext (g.ahead old) (g.ahead new) (g.faults old) (g.faults new))
     pub place : g.place new ≡ g.place old
 
-  -- A number of the width is taken, the highest byte first.
+  -- A big-endian number of the width is consumed.
   pub record ReadsNumber (w : Width) (old new : S) (r : Result ℕ ValueReadError) : Type 0 where
     pub below : IfOk r (λ n. n < 2 ^ bits w)
     pub ok : IfOk r (λ n. Consumes (g.ahead old) (g.ahead new) (to_be_bytes w n))
@@ -129,7 +130,7 @@ module _ {S : Type 0} (g : Ghosts S) where
     pub err : IfErr r (FailsData (byte_len w) (g.ahead old) (g.ahead new) (g.faults old) (g.faults new))
     pub place : g.place new ≡ g.place old
 
-  -- The tag of an extension is taken.
+  -- The type of an extension is consumed.
   pub record ReadsTag (old new : S) (r : Result ℤ ValueReadError) : Type 0 where
     pub fits : IfOk r (FitsSigned w8)
     pub ok : IfOk r (λ tag. Consumes (g.ahead old) (g.ahead new) (tag_byte tag ∷ []))

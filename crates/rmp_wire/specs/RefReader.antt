@@ -12,6 +12,6 @@ rest_of r = r.rest.now
 abbrev pub whole_of : ReadRefReader → List ℕ
 whole_of r = r.whole.now
 
--- it reads through no reference that changes, and its slice stays
+-- it reads through no mutable reference, and its slice never changes
 abbrev pub place_of : ReadRefReader → List Place
 place_of r = made_of (whole_of r) ∷ []

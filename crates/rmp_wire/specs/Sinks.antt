@@ -1,4 +1,4 @@
--- What a sink does with the bytes that it is given.
+-- What a sink does with the bytes that are written to it.
 use Rattle.std.specs.Prelude.{◌≡◌, ℕ, ◌+◌, ◌%◌, ◌^◌, ◌<◌, ◌++◌, Bool, IsTrue, List, [], length, Option, Result, Ok, Err, OnOk, IfErr, if◌then◌else◌, ◌==◌}
 use Rattle.std.specs.Io.KnownBytes.{Appends}
 use Rattle.rmp_wire.specs.declared.sink.SinkFault.{SinkFault}
@@ -18,11 +18,12 @@ PutCounts takes_memory old new piece (Ok n) =
 PutCounts takes_memory old new piece (Err (Io e)) = new ≡ next_fault old
 PutCounts takes_memory old new piece (Err Memory) = (new ≡ old) × IsTrue takes_memory
 
--- the error of a fault after so many bytes were taken
+-- the error of a fault after n bytes were taken
 abbrev pub stopped_after : ℕ → IoFault → ValueWriteError
 stopped_after taken fault = if taken == 0 then InvalidMarkerWrite fault else InvalidDataWrite fault
 
--- why a write stopped once `part` of its bytes was taken: by one fault, before the first byte or after it, or since memory was refused
+-- why a write stopped once `part` of its bytes was taken: by one fault, before the first byte or after it, or
+-- out of memory
 abbrev pub StopsAfter : Bool → ℕ → ℕ → List ℕ → ValueWriteError → Type 0
 StopsAfter takes_memory old new part (InvalidMarkerWrite fault) = (part ≡ []) × (new ≡ next_fault old)
 StopsAfter takes_memory old new part (InvalidDataWrite fault) = (0 < length part) × (new ≡ next_fault old)

@@ -7,7 +7,7 @@ use Rattle.rmp_wire.specs.declared.sink.SliceSink.{SliceSink}
 abbrev pub written_bytes : SliceSink → List ℕ
 written_bytes s = take s.at s.buf.now
 
--- what the slice holds behind them
+-- the rest of the slice, after them
 abbrev pub unwritten : SliceSink → List ℕ
 unwritten s = drop s.at s.buf.now
 

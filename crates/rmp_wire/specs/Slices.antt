@@ -1,4 +1,4 @@
--- What a call that answers a piece of the input gives.
+-- What a call that returns a slice of the input gives.
 use Rattle.std.specs.Prelude.{◌≡◌, ℕ, Bool, true, false, List, Option, Result, MatchResult}
 use Rattle.std.specs.Io.KnownBytes.{Consumes}
 use Rattle.std.specs.IoError.{error_kind}
@@ -9,21 +9,23 @@ use Rattle.rmp_wire.specs.declared.slice.SourceFault.{SourceFault}
 use Rattle.rmp_wire.specs.declared.slice.SourceFault.TheVariants.{Io, Memory}
 use Rattle.rmp_wire.specs.Sources.{IsShort}
 
--- the bytes, wherever they lie
+-- the bytes, borrowed or copied
 abbrev pub reference_bytes : Reference → List ℕ
 reference_bytes (Borrowed s) = s.now
 reference_bytes (Copied s) = s.now
 
--- whether they are lent for as long as the input lies in memory
+-- whether they are borrowed from the input
 abbrev pub is_lent : Reference → Bool
 is_lent (Borrowed s) = true
 is_lent (Copied s) = false
 
--- a fault that isn't want of memory comes of the source, or says that the input ended, where fewer bytes are ahead than were asked for
+-- unless out of memory, the fault is the source's, or says that the input ended, where fewer bytes remain than
+-- were asked for
 abbrev pub Blames : SourceFault → ℕ → ℕ → Option (List ℕ) → ℕ → Type 0
 Blames Memory before after ahead len = Unit {0}
 Blames (Io e) before after ahead len = after ≡ before → IsShort len ahead × (error_kind e ≡ UnexpectedEof)
 
--- the bytes were taken with no fault of the source (it counts them: before, after), or the error is blamed
+-- the bytes were consumed with no fault of the source (it counts them: before, after), or the error has its
+-- cause
 abbrev pub SliceRead : Option (List ℕ) → Option (List ℕ) → ℕ → ℕ → ℕ → Result Reference SourceFault → Type 0
 SliceRead old new before after len r = MatchResult r (λ s. Consumes old new (reference_bytes s) × (after ≡ before)) (λ e. Blames e before after old len)

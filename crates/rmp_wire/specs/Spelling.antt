@@ -29,7 +29,7 @@ use Rattle.rmp_wire.specs.Msg.{
 abbrev pub IsBytes : List ℕ → Type 0
 IsBytes bytes = AllByRecursion (λ b. b < 256) bytes
 
--- bytes of which P holds, and then bytes of which Q does
+-- bytes that P holds of, and then bytes that Q holds of
 pub record Joined (P Q : List ℕ → Type 0) (whole : List ℕ) : Type 0 where
   pub first : List ℕ
   pub second : List ℕ
@@ -41,7 +41,8 @@ pub record Joined (P Q : List ℕ → Type 0) (whole : List ℕ) : Type 0 where
 abbrev pub IsContent : List ℕ → List ℕ → Type 0
 IsContent s content = (content ≡ s) × IsBytes s
 
--- These bytes spell the message, where heads are these: one of its heads, and then its content, or a spelling of each part in order.
+-- These bytes spell the message with these heads: one of its heads, and then its content, or a spelling of each
+-- part in order.
 module _ (heads : Head → List ℕ → Type 0) where
   abbrev mutual
     pub SpelledBy : List ℕ → Msg → Type 0
@@ -74,7 +75,7 @@ SpellsAll = AllSpelledBy IsHead
 abbrev pub SpellsPairs : List ℕ → Pairs → Type 0
 SpellsPairs = PairsSpelledBy IsHead
 
--- The spelling whose every head is the canonical one.
+-- The spelling with only canonical heads.
 abbrev mutual
   pub canon : Msg → List ℕ
   canon nil = canon_head Nil
@@ -96,7 +97,7 @@ abbrev mutual
   canon_pairs no_pairs = []
   canon_pairs (pair k v ps) = canon k ++ (canon v ++ canon_pairs ps)
 
--- Each number, length, tag and byte is in the range that a head or a byte has room for.
+-- Each number, length, type and byte is in the range of a head or a byte.
 abbrev mutual
   pub Fits : Msg → Type 0
   Fits nil = fits_head Nil

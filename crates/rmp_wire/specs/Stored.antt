@@ -1,4 +1,5 @@
--- How the logic stores a message, so that a Rust type may have one as the value that contracts see. No contract cites what stands here.
+-- How the logic stores a message, so that a Rust type may have one as the value that contracts see. No contract
+-- cites this module.
 use Rattle.std.specs.Prelude.{◌≡◌, ℕ, List, [], ◌∷◌, ℤ, pos, negsuc, Bool, true, false, slice_index_or, refl}
 use Rattle.std.specs.Coded.{Coded, code_by}
 use base.Stored.{Gv, gnil, gnum, gcons}

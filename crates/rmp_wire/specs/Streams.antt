@@ -1,4 +1,4 @@
--- What a reader that is a source, and a writer that is a sink, show.
+-- What a reader as a source, and a writer as a sink, show.
 use Rattle.std.specs.Prelude.{ℕ}
 use Rattle.rmp_wire.specs.declared.stream.IoSource.{IoSource}
 use Rattle.rmp_wire.specs.declared.stream.IoSink.{IoSink}

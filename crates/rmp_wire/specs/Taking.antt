@@ -1,4 +1,5 @@
--- What stands at the beginning of bytes: a marker, a head, and a message within a depth. Each is a function, since no head begins a different head.
+-- What bytes begin with: a marker, a head, and a message within a depth. Each is a function, since no head
+-- begins a different head.
 use Rattle.std.specs.Prelude.{
   ℕ,
   zero,
@@ -40,14 +41,14 @@ named_markers =
     ∷ marker.FixExt1 ∷ marker.FixExt2 ∷ marker.FixExt4 ∷ marker.FixExt8 ∷ marker.FixExt16 ∷ marker.Str8 ∷ marker.Str16 ∷ marker.Str32
     ∷ marker.Array16 ∷ marker.Array32 ∷ marker.Map16 ∷ marker.Map32 ∷ []
 
--- the marker that a first byte is
+-- the marker of a first byte
 unfoldable pub marker_of : ℕ → Marker
 marker_of b =
     cond (nat_lt b 0x80) (marker.FixPos b) (cond (nat_lt b 0x90) (marker.FixMap (b - 0x80))
     (cond (nat_lt b 0xa0) (marker.FixArray (b - 0x90)) (cond (nat_lt b 0xc0) (marker.FixStr (b - 0xa0))
     (cond (nat_lt b 0xe0) (slice_index_or named_markers (b - 0xc0) marker.Reserved) (marker.FixNeg (negsuc (0xff - b)))))))
 
--- the byte of a marker; a payload out of range gives its low bits
+-- the byte of a marker; a number that is out of range counts by its low bits
 unfoldable pub byte_of : Marker → ℕ
 byte_of (marker.FixPos n) = n % 0x80
 byte_of (marker.FixMap n) = 0x80 + n % 0x10
@@ -90,7 +91,7 @@ byte_of marker.Map32 = 0xdf
 abbrev pub Takes : Type 0 → Type 0
 Takes A = List ℕ → Option (A × List ℕ)
 
--- a number of that width, the highest byte first
+-- a big-endian number of the width
 unfoldable pub take_number : Width → Takes ℕ
 take_number w bytes = cond (nat_lt (length bytes) (byte_len w)) None (Some (from_be_bytes w (take (byte_len w) bytes), drop (byte_len w) bytes))
 
@@ -103,11 +104,11 @@ take_then taken f = option_and_then (λ p. f p.0 p.1) taken
 abbrev pub take_signed : Width → Takes Head
 take_signed w bytes = take_map (λ n. Whole (cast_signed w n)) (take_number w bytes)
 
--- the tag of an extension of n bytes
+-- the type of an extension of n bytes
 abbrev pub take_tag : ℕ → Takes Head
 take_tag n bytes = take_map (λ tag. Ext n (cast_signed w8 tag)) (take_number w8 bytes)
 
--- the head that goes on behind its marker
+-- the rest of a head, after its marker
 unfoldable pub head_after : Marker → Takes Head
 head_after (marker.FixPos n) bytes = Some (Whole (pos (n % 0x80)), bytes)
 head_after (marker.FixMap n) bytes = Some (Map (n % 0x10), bytes)
@@ -147,7 +148,7 @@ head_after marker.Map16 bytes = take_map Map (take_number w16 bytes)
 head_after marker.Map32 bytes = take_map Map (take_number w32 bytes)
 head_after (marker.FixNeg z) bytes = Some (Whole (negsuc (0x1f - cast_unsigned w8 z % 0x20)), bytes)
 
--- the head at the beginning of the bytes, and what follows it
+-- the head that the bytes begin with, and what follows it
 unfoldable pub take_head : Takes Head
 unfolding marker_of head_after
 take_head [] = None
@@ -157,17 +158,17 @@ take_head (b ∷ bytes) = head_after (marker_of b) bytes
 unfoldable pub take_bytes : ℕ → Takes (List ℕ)
 take_bytes n bytes = cond (nat_lt (length bytes) n) None (Some (take n bytes, drop n bytes))
 
--- n items, each taken by one
+-- n items, each taken by the given function
 unfoldable pub take_items : Takes Msg → ℕ → Takes Msgs
 take_items one zero bytes = Some (no_items, bytes)
 take_items one (suc n) bytes = take_then (one bytes) (λ m rest. take_map (item m) (take_items one n rest))
 
--- n pairs, each key and each value taken by one
+-- n pairs, each key and each value taken by the given function
 unfoldable pub take_pairs : Takes Msg → ℕ → Takes Pairs
 take_pairs one zero bytes = Some (no_pairs, bytes)
 take_pairs one (suc n) bytes = take_then (one bytes) (λ k rest. take_then (one rest) (λ v after. take_map (pair k v) (take_pairs one n after)))
 
--- what follows a head, where items and pairs are taken so
+-- what follows a head, with the given functions for items and pairs
 unfoldable pub take_rest : (ℕ → Takes Msgs) → (ℕ → Takes Pairs) → Head → Takes Msg
 take_rest some_items some_pairs Nil bytes = Some (nil, bytes)
 take_rest some_items some_pairs (Truth t) bytes = Some (truth t, bytes)
@@ -180,7 +181,8 @@ take_rest some_items some_pairs (Array n) bytes = take_map list (some_items n by
 take_rest some_items some_pairs (Map n) bytes = take_map map (some_pairs n bytes)
 take_rest some_items some_pairs (Ext n tag) bytes = take_map (extension tag) (take_bytes n bytes)
 
--- the message at the beginning of the bytes, and what follows it, where its lists and maps nest no deeper than the number
+-- the message that the bytes begin with, and what follows it, if its lists and maps nest no deeper than the
+-- number
 unfoldable pub take_msg : ℕ → Takes Msg
 unfolding take_head take_items take_pairs take_rest take_bytes
 take_msg zero bytes = take_then (take_head bytes) (take_rest (λ n rest. None) (λ n rest. None))

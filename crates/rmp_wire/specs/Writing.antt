@@ -8,10 +8,11 @@ use Rattle.rmp_wire.specs.Sinks.{Puts}
 abbrev pub Writes : {A W : Type 0} → Ghosts W → List ℕ → W → W → Result A ValueWriteError → Type 0
 Writes g bytes old new r = Puts g.takes_memory bytes (g.told old) (g.told new) (g.faults old) (g.faults new) r
 
--- all went well
+-- the result of a write that succeeded
 abbrev pub done : Result (Unit {0}) ValueWriteError
 done = Ok tt
 
--- A piece behind bytes that went out before it: with those, whichever they are, it is a write of both.
+-- A later piece of an item: together with the bytes written before it, whichever they are, it is a write of
+-- both.
 abbrev pub WritesContent : {W : Type 0} → Ghosts W → List ℕ → W → W → Result (Unit {0}) ValueWriteError → Type 0
 WritesContent {W} g bytes mid new r = (front : List ℕ) (old : W) → 0 < length front → Writes g front old mid done → Writes g (front ++ bytes) old new r

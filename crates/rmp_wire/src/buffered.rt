@@ -1,4 +1,4 @@
-//! A source over a reader with a buffer.
+//! A source over a buffered reader.
 ghost use Rattle.std.specs.Prelude.{◌≡◌, ◌<◌, ◌≤◌, IfOk, IsTrue, false, length};
 ghost use Rattle.std.specs.Io.Buffered.{reader_buffer, reader_remaining};
 ghost use Rattle.rmp_wire.specs.Buffered.{buffer_of, buffer_faults};
@@ -9,10 +9,11 @@ use crate::stream::IoSource;
 use std::io;
 use std::io::{BufRead, BufReader, Read};
 
-/// A reader with a buffer as a source, which is read where the buffer lies: as fast as memory, but for the filling.
+/// A buffered reader as a source. Reads come straight from the buffer, so they are as fast as from memory,
+/// except for filling it.
 ///
-/// What the reader tells of the bytes ahead, if anything, the source tells. A read that was interrupted is tried again,
-/// at most 16 times in a row. Nothing is taken out of the buffer but what is read from the source.
+/// It tells which bytes remain if the reader does. An interrupted read is retried, at most 16 times in a row.
+/// Nothing is removed from the buffer that the source didn't consume.
 #[derive(Drop)]
 pub struct BufSource<R> {
     source: IoSource<BufReader<R>>,
@@ -29,14 +30,14 @@ impl<R> BufSource<R> {
         }
     }
 
-    /// What it reads from.
+    /// Returns a reference to the reader.
     pub fn get_ref(&self) -> &BufReader<R>
         ensures { result.now ≡ buffer_of self.now }
     {
         self.source.get_ref()
     }
 
-    /// What it reads from, with what the buffer has ahead.
+    /// Returns the reader, with what remains in its buffer.
     pub fn into_inner(self) -> BufReader<R>
         ensures { result ≡ buffer_of self }
     {
@@ -45,7 +46,7 @@ impl<R> BufSource<R> {
 }
 
 impl<R: Read> BufSource<R> {
-    // What the buffer has ahead.
+    // What remains in the buffer.
     #[inline(always)]
     fn held(&self) -> &[u8]
         ensures bytes { IsFront result.now (reader_remaining R.remaining (buffer_of self.now)) }

@@ -5,16 +5,16 @@ ghost use Rattle.rmp_wire.specs.declared.config.BytesMode.{BytesMode};
 /// Which lists of numbers are written as bytes.
 #[derive(Clone, Copy, Debug, Default, PartialEq, Eq)]
 pub enum BytesMode {
-    /// Those of the types for bytes alone.
+    /// Only values of the types for bytes.
     #[default]
     Normal,
-    /// The items of a slice or a `Vec` too, where there are some and each is a `u8`.
+    /// Also the items of a slice or a `Vec`, where there is at least one and each is a `u8`.
     ForceIterables,
-    /// Tuples and arrays too, where that is no longer than the list.
+    /// Also tuples and arrays, where the bytes are no longer than the list.
     ForceAll,
 }
 
-/// Settings that a type states.
+/// Settings that a type fixes.
 pub trait SerializerConfig: Copy {
     ghost human: { Self → Bool };
 
@@ -22,11 +22,11 @@ pub trait SerializerConfig: Copy {
 
     ghost mode: { Self → BytesMode };
 
-    /// Whether types that have a form for people and a compact one are written in the first.
+    /// Whether types with a human-readable and a compact form are written in the human-readable form.
     fn is_human_readable(&self) -> bool
         ensures { result ≡ human self.now };
 
-    /// Whether structs are written as maps from the names of their fields.
+    /// Whether structs are written as maps from field names.
     fn is_named(&self) -> bool
         ensures { result ≡ named self.now };
 
@@ -35,7 +35,7 @@ pub trait SerializerConfig: Copy {
         ensures { result ≡ mode self.now };
 }
 
-/// Compact forms, structs as lists, and bytes for the types for bytes alone.
+/// The default settings: compact forms, structs as lists, and bytes only for the types for bytes.
 #[derive(Clone, Copy, Debug)]
 pub struct DefaultConfig;
 
@@ -61,7 +61,7 @@ impl SerializerConfig for DefaultConfig {
     }
 }
 
-/// The settings of `inner`, but structs are written as maps from the names of their fields.
+/// The settings of `inner`, except that structs are written as maps from field names.
 #[derive(Clone, Copy, Debug)]
 pub struct StructMapConfig<C> {
     inner: C,
@@ -70,7 +70,7 @@ pub struct StructMapConfig<C> {
 impl<C> StructMapConfig<C> {
     ghost use Rattle.rmp_wire.specs.Settings.{map_inner};
 
-    /// The settings of `inner`, with names.
+    /// Adds field names to the settings of `inner`.
     pub fn new(inner: C) -> StructMapConfig<C>
         ensures { map_inner result ≡ inner }
     {
@@ -100,7 +100,7 @@ impl<C: SerializerConfig> SerializerConfig for StructMapConfig<C> {
     }
 }
 
-/// The settings of `inner`, but structs are written as lists.
+/// The settings of `inner`, except that structs are written as lists.
 #[derive(Clone, Copy, Debug)]
 pub struct StructTupleConfig<C> {
     inner: C,
@@ -109,7 +109,7 @@ pub struct StructTupleConfig<C> {
 impl<C> StructTupleConfig<C> {
     ghost use Rattle.rmp_wire.specs.Settings.{tuple_inner};
 
-    /// The settings of `inner`, without names.
+    /// Drops field names from the settings of `inner`.
     pub fn new(inner: C) -> StructTupleConfig<C>
         ensures { tuple_inner result ≡ inner }
     {
@@ -139,7 +139,7 @@ impl<C: SerializerConfig> SerializerConfig for StructTupleConfig<C> {
     }
 }
 
-/// The settings of `inner`, but types that have a form for people are written in it.
+/// The settings of `inner`, except that types with a human-readable form are written in it.
 #[derive(Clone, Copy, Debug)]
 pub struct HumanReadableConfig<C> {
     inner: C,
@@ -148,7 +148,7 @@ pub struct HumanReadableConfig<C> {
 impl<C> HumanReadableConfig<C> {
     ghost use Rattle.rmp_wire.specs.Settings.{readable_inner};
 
-    /// The settings of `inner`, in the form for people.
+    /// Makes the settings of `inner` human-readable.
     pub fn new(inner: C) -> HumanReadableConfig<C>
         ensures { readable_inner result ≡ inner }
     {
@@ -178,7 +178,7 @@ impl<C: SerializerConfig> SerializerConfig for HumanReadableConfig<C> {
     }
 }
 
-/// The settings of `inner`, but types that have a compact form are written in it.
+/// The settings of `inner`, except that types with a compact form are written in it.
 #[derive(Clone, Copy, Debug)]
 pub struct BinaryConfig<C> {
     inner: C,
@@ -187,7 +187,7 @@ pub struct BinaryConfig<C> {
 impl<C> BinaryConfig<C> {
     ghost use Rattle.rmp_wire.specs.Settings.{binary_inner};
 
-    /// The settings of `inner`, in the compact form.
+    /// Makes the settings of `inner` compact.
     pub fn new(inner: C) -> BinaryConfig<C>
         ensures { binary_inner result ≡ inner }
     {

@@ -7,10 +7,10 @@ use crate::marker::Marker;
 use std::{fmt, io};
 use thiserror::Error;
 
-/// Why a sink or a source failed: the kind of an `io::Error`, and the system's error number where it has one.
+/// Why a sink or a source failed: the kind of an `io::Error`, and the system's error number if there is one.
 ///
-/// It stands in every error of this library in place of the `io::Error` itself, which is six times as large. What is
-/// lost is the text of an error that a program made with words of its own.
+/// Each error of this library holds it in place of the `io::Error`, which is six times as large. The custom
+/// message of an `io::Error` is lost.
 #[derive(Clone, Copy, Debug, PartialEq, Eq)]
 pub struct IoFault {
     kind: io::ErrorKind,
@@ -18,14 +18,14 @@ pub struct IoFault {
 }
 
 impl IoFault {
-    /// What sort of failure it is.
+    /// Returns the kind of failure.
     pub fn kind(&self) -> io::ErrorKind
         ensures { result ≡ fault_kind self.now }
     {
         self.kind
     }
 
-    /// The system's number of the error, where it came from the system.
+    /// Returns the system's error number, if the failure came from the system.
     pub fn raw_os_error(&self) -> Option<i32>
         ensures { result ≡ fault_code self.now }
     {
@@ -74,7 +74,7 @@ impl fmt::Display for IoFault {
 
 impl std::error::Error for IoFault {}
 
-/// Why a write of one item failed. It prints its variant's name.
+/// Why a write of one item failed. Its `Display` is the variant's name.
 #[derive(Clone, Copy, Debug, PartialEq, Eq, Error)]
 pub enum ValueWriteError {
     /// The sink failed before it took the item's first byte.
@@ -83,7 +83,7 @@ pub enum ValueWriteError {
     /// The sink failed after it took the item's first byte.
     #[error("InvalidDataWrite")]
     InvalidDataWrite(IoFault),
-    /// The sink was refused memory.
+    /// The sink couldn't allocate memory.
     #[error("OutOfMemory")]
     OutOfMemory,
 }
@@ -91,7 +91,8 @@ pub enum ValueWriteError {
 impl ValueWriteError {
     ghost use Rattle.rmp_wire.specs.Faults.{past_first};
 
-    /// The same failure, where bytes of the item were taken before the piece that failed.
+    /// Returns the same failure, of an item whose first byte was already taken: `InvalidMarkerWrite` becomes
+    /// `InvalidDataWrite`.
     #[inline(always)]
     pub fn past_first(self) -> ValueWriteError
         ensures { result ≡ past_first self }
@@ -103,21 +104,22 @@ impl ValueWriteError {
     }
 }
 
-/// Why the first byte of a message couldn't be read: the input's end, or the source's fault. It prints its own name.
+/// Why the first byte of a message couldn't be read: the input ended, or the source failed. Its `Display` is
+/// the type's name.
 #[derive(Clone, Copy, Debug, PartialEq, Eq, Error)]
 #[error("MarkerReadError")]
 pub struct MarkerReadError(pub IoFault);
 
-/// Why a head couldn't be read. It prints its variant's name.
+/// Why a head couldn't be read. Its `Display` is the variant's name.
 #[derive(Clone, Copy, Debug, PartialEq, Eq, Error)]
 pub enum ValueReadError {
-    /// The input ended, or the source failed, where a message's first byte is wanted.
+    /// The input ended, or the source failed, before a message's first byte.
     #[error("InvalidMarkerRead")]
     InvalidMarkerRead(IoFault),
     /// The input ended, or the source failed, after a message's first byte.
     #[error("InvalidDataRead")]
     InvalidDataRead(IoFault),
-    /// The marker opens no message of the wanted kind.
+    /// The marker begins no message of the wanted kind.
     #[error("TypeMismatch")]
     TypeMismatch(Marker),
 }

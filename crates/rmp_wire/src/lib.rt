@@ -1,4 +1,5 @@
-//! The bytes of MessagePack: markers and heads, what they are written into and read from, and small types.
+//! The bytes of MessagePack: markers and heads, the sinks that they are written to, the sources that they are
+//! read from, and small types.
 #![tactic(auto)]
 
 pub mod buffered;

@@ -4,60 +4,91 @@ ghost use Rattle.rmp_wire.specs.Taking.{marker_of, byte_of};
 
 /// What the first byte of a message says (the MessagePack specification's "Formats", "Overview").
 ///
-/// The payload of the five fixed markers is the number or length that the byte itself holds.
+/// Each of the five fixed markers holds the number or length that is part of the byte itself.
 #[derive(Clone, Copy, Debug, PartialEq, Eq)]
 pub enum Marker {
     /// A number from 0 to 127.
     FixPos(u8),
     /// A number from -32 to -1.
     FixNeg(i8),
-    /// A map of up to 15 pairs.
+    /// A map of at most 15 pairs.
     FixMap(u8),
-    /// A list of up to 15 messages.
+    /// A list of at most 15 messages.
     FixArray(u8),
-    /// A text of up to 31 bytes.
+    /// A text of at most 31 bytes.
     FixStr(u8),
+    /// c0: nil.
     Null,
-    /// The byte c1, which opens no message.
+    /// The byte c1, which begins no message.
     Reserved,
+    /// c2.
     False,
+    /// c3.
     True,
+    /// c4: bytes, with their number in one byte.
     Bin8,
+    /// c5: bytes, with their number in two bytes.
     Bin16,
+    /// c6: bytes, with their number in four bytes.
     Bin32,
+    /// c7: an extension, with the number of its bytes in one byte.
     Ext8,
+    /// c8: an extension, with the number of its bytes in two bytes.
     Ext16,
+    /// c9: an extension, with the number of its bytes in four bytes.
     Ext32,
+    /// ca: a 32-bit float.
     F32,
+    /// cb: a 64-bit float.
     F64,
+    /// cc: an unsigned number in one byte.
     U8,
+    /// cd: an unsigned number in two bytes.
     U16,
+    /// ce: an unsigned number in four bytes.
     U32,
+    /// cf: an unsigned number in eight bytes.
     U64,
+    /// d0: a signed number in one byte.
     I8,
+    /// d1: a signed number in two bytes.
     I16,
+    /// d2: a signed number in four bytes.
     I32,
+    /// d3: a signed number in eight bytes.
     I64,
+    /// d4: an extension of one byte.
     FixExt1,
+    /// d5: an extension of two bytes.
     FixExt2,
+    /// d6: an extension of four bytes.
     FixExt4,
+    /// d7: an extension of eight bytes.
     FixExt8,
+    /// d8: an extension of 16 bytes.
     FixExt16,
+    /// d9: a text, with the number of its bytes in one byte.
     Str8,
+    /// da: a text, with the number of its bytes in two bytes.
     Str16,
+    /// db: a text, with the number of its bytes in four bytes.
     Str32,
+    /// dc: a list, with the number of its messages in two bytes.
     Array16,
+    /// dd: a list, with the number of its messages in four bytes.
     Array32,
+    /// de: a map, with the number of its pairs in two bytes.
     Map16,
+    /// df: a map, with the number of its pairs in four bytes.
     Map32,
 }
 
 impl Marker {
-    /// The marker that a byte is.
+    /// Returns the marker of a byte.
     #[tactic(auto, unfolding(crate::specs::Taking::marker_of, crate::specs::Taking::byte_of))]
     pub fn from_u8(byte: u8) -> Marker
         ensures marker { result ≡ marker_of byte }
-        // `to_u8` gives the byte back.
+        // `to_u8` returns the byte again.
         ensures round { byte_of result ≡ byte }
     {
         match byte {
@@ -101,7 +132,7 @@ impl Marker {
         }
     }
 
-    /// The byte of a marker. A payload out of its range gives its low bits.
+    /// Returns the byte of a marker. A number that is out of range counts by its low bits.
     #[tactic(auto, unfolding(crate::specs::Taking::byte_of))]
     pub fn to_u8(self) -> u8
         ensures { result ≡ byte_of self }

@@ -1,4 +1,4 @@
-//! Reads the head of a message: its first byte, and the number, the length or the type behind it.
+//! Reads the head of a message: its first byte, and the number, the length or the type that follows it.
 ghost use Rattle.std.specs.Int.{w8, w16, w32, w64};
 ghost use Rattle.rmp_wire.specs.Reading.{ReadsMarker, ReadsHead, ReadsNext, ReadsNumber, ReadsTag};
 
@@ -7,10 +7,10 @@ use crate::head::Head;
 use crate::marker::Marker;
 use crate::source::Source;
 
-/// Takes the first byte of a message.
+/// Reads the first byte of a message.
 ///
 /// # Errors
-/// The source's fault, or `UnexpectedEof` where no byte is ahead. Nothing was taken then.
+/// `UnexpectedEof` where no byte remains, and otherwise the source's fault. Then nothing is consumed.
 #[inline(always)]
 pub fn read_marker<S: Source>(source: &mut S) -> Result<Marker, MarkerReadError>
     ensures reads { ReadsMarker S.Source source.old source.new result }
@@ -21,13 +21,14 @@ pub fn read_marker<S: Source>(source: &mut S) -> Result<Marker, MarkerReadError>
     }
 }
 
-/// Takes what stands behind a marker's byte in a head, and says what the head says.
+/// Reads the rest of a head, after its marker, and returns the head.
 ///
-/// A marker's payload out of its range counts by its low bits, as in `Marker::to_u8`.
+/// A marker's number that is out of range counts by its low bits, as in `Marker::to_u8`.
 ///
 /// # Errors
-/// `TypeMismatch(Marker::Reserved)` for that marker, which opens no message: nothing was taken. `InvalidDataRead` where
-/// the source failed, or with `UnexpectedEof` where too few bytes are ahead: a part of the head was taken then.
+/// `TypeMismatch(Marker::Reserved)` for that marker, which begins no message; nothing is consumed.
+/// `InvalidDataRead` where the source fails, or with `UnexpectedEof` where the input ends inside of the head;
+/// then part of the head is consumed.
 #[inline(always)]
 pub fn read_head<S: Source>(marker: Marker, source: &mut S) -> Result<Head, ValueReadError>
     ensures reads { ReadsHead S.Source marker source.old source.new result }
@@ -73,10 +74,10 @@ pub fn read_head<S: Source>(marker: Marker, source: &mut S) -> Result<Head, Valu
     }
 }
 
-/// Takes one head, and answers its marker too.
+/// Reads one head, and returns its marker too.
 ///
 /// # Errors
-/// `InvalidMarkerRead` where its first byte couldn't be read, and otherwise as `read_head`.
+/// `InvalidMarkerRead` where its first byte can't be read, and otherwise as `read_head`.
 #[inline(always)]
 pub fn next_head<S: Source>(source: &mut S) -> Result<(Marker, Head), ValueReadError>
     ensures reads { ReadsNext S.Source source.old source.new result }
@@ -86,10 +87,10 @@ pub fn next_head<S: Source>(source: &mut S) -> Result<(Marker, Head), ValueReadE
     Ok((marker, head))
 }
 
-/// Takes a number of 8 bits, the highest byte first: what stands behind the first byte of many heads.
+/// Reads a big-endian number of 8 bits, which follows the first byte of many heads.
 ///
 /// # Errors
-/// `InvalidDataRead` where the source failed, or with `UnexpectedEof` where fewer bytes are ahead.
+/// `InvalidDataRead` where the source fails, or with `UnexpectedEof` where fewer bytes remain.
 #[inline(always)]
 pub fn number_8<S: Source>(source: &mut S) -> Result<u8, ValueReadError>
     ensures reads { ReadsNumber S.Source w8 source.old source.new result }
@@ -100,10 +101,10 @@ pub fn number_8<S: Source>(source: &mut S) -> Result<u8, ValueReadError>
     }
 }
 
-/// Takes a number of 16 bits, the highest byte first: what stands behind the first byte of many heads.
+/// Reads a big-endian number of 16 bits, which follows the first byte of many heads.
 ///
 /// # Errors
-/// `InvalidDataRead` where the source failed, or with `UnexpectedEof` where fewer bytes are ahead.
+/// `InvalidDataRead` where the source fails, or with `UnexpectedEof` where fewer bytes remain.
 #[inline(always)]
 pub fn number_16<S: Source>(source: &mut S) -> Result<u16, ValueReadError>
     ensures reads { ReadsNumber S.Source w16 source.old source.new result }
@@ -114,10 +115,10 @@ pub fn number_16<S: Source>(source: &mut S) -> Result<u16, ValueReadError>
     }
 }
 
-/// Takes a number of 32 bits, the highest byte first: what stands behind the first byte of many heads.
+/// Reads a big-endian number of 32 bits, which follows the first byte of many heads.
 ///
 /// # Errors
-/// `InvalidDataRead` where the source failed, or with `UnexpectedEof` where fewer bytes are ahead.
+/// `InvalidDataRead` where the source fails, or with `UnexpectedEof` where fewer bytes remain.
 #[inline(always)]
 pub fn number_32<S: Source>(source: &mut S) -> Result<u32, ValueReadError>
     ensures reads { ReadsNumber S.Source w32 source.old source.new result }
@@ -138,7 +139,7 @@ fn number_64<S: Source>(source: &mut S) -> Result<u64, ValueReadError>
     }
 }
 
-/// The type of an extension.
+/// Reads the type of an extension.
 #[inline(always)]
 fn tag<S: Source>(source: &mut S) -> Result<i8, ValueReadError>
     ensures reads { ReadsTag S.Source source.old source.new result }

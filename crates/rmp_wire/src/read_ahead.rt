@@ -1,8 +1,9 @@
 //! A source that reads ahead, into a buffer of its own.
-ghost use Rattle.std.specs.Prelude.{◌≡◌, ◌≢◌, ◌<◌, ◌≤◌, [], IfOk, OnOk, OnErr, IsTrue, false, take, length, min};
+ghost use Rattle.std.specs.Prelude.{◌≡◌, ◌<◌, ◌≤◌, [], IfOk, OnOk, OnErr, IsTrue, false, take, length, min};
 ghost use Rattle.std.specs.Io.KnownBytes.{Consumes, IsAtEnd, Keeps};
 ghost use Rattle.rmp_wire.specs.ReadAhead.{faults_behind, held_of, reader_behind, told_ahead};
 ghost use Rattle.rmp_wire.specs.Sources.{IsFront, Skips};
+ghost use Rattle.rmp_wire.specs.Sinks.{next_fault};
 
 mod held;
 
@@ -13,12 +14,14 @@ use std::alloc::Global;
 use std::io;
 use std::io::Read;
 
-/// A reader as a source, which is read ahead of what is asked for, into a buffer that is read where it lies: as fast as memory, but for
-/// the filling.
+/// A reader as a source with its own buffer, which it fills by reading ahead. Reads come straight from the
+/// buffer, so they are as fast as from memory, except for filling it.
 ///
-/// The buffer begins with 1024 bytes, and doubles each time a read has filled it, up to 8192 bytes, so that a short message takes little
-/// memory. Where memory is refused, the room stays as it was, and with no room the reader is read with no buffer. What the reader tells of
-/// the bytes ahead, if anything, the source tells. A read that was interrupted is tried again, at most 16 times in a row.
+/// The buffer starts with 1024 bytes and doubles each time that a read has filled it, up to 8192 bytes. So a
+/// short message needs little memory. Out of memory, the buffer keeps its size; if it has none, reads go directly
+/// to the reader.
+///
+/// It tells which bytes remain if the reader does. An interrupted read is retried, at most 16 times in a row.
 #[derive(Drop)]
 pub struct AheadSource<R> {
     source: IoSource<R>,
@@ -26,7 +29,7 @@ pub struct AheadSource<R> {
 }
 
 impl<R> AheadSource<R> {
-    /// Reads from `reader`. Memory for the buffer comes from `alloc`, with the first read.
+    /// Reads from `reader`. Memory for the buffer comes from `alloc`, from the first read on.
     pub fn new(alloc: Global, reader: R) -> AheadSource<R>
         ensures reader { reader_behind result ≡ reader }
         ensures held { held_of result ≡ [] }
@@ -38,21 +41,21 @@ impl<R> AheadSource<R> {
         }
     }
 
-    /// What it reads from, which has given what the buffer holds, too.
+    /// Returns the reader, from which the buffered bytes were already read.
     pub fn get_ref(&self) -> &R
         ensures { result.now ≡ reader_behind self.now }
     {
         self.source.get_ref()
     }
 
-    /// What was read and not yet taken.
+    /// Returns the bytes that are buffered and not yet consumed.
     pub fn buffer(&self) -> &[u8]
         ensures { result.now ≡ held_of self.now }
     {
         self.held.as_slice()
     }
 
-    /// What it reads from. What the buffer holds is lost.
+    /// Returns the reader. Buffered bytes are lost.
     pub fn into_inner(self) -> R
         ensures { result ≡ reader_behind self }
     {
@@ -72,7 +75,7 @@ impl<R: Read> AheadSource<R> {
         self.held.take_into(buf)
     }
 
-    // Moves bytes from those ahead, where the buffer has none. Pieces as large as the buffer go past it.
+    // Reads where the buffer is empty. A piece as large as the buffer is read past it.
     #[inline(never)]
     fn pull_more(&mut self, buf: &mut [u8]) -> Result<usize, io::Error>
         requires empty { held_of self.old ≡ [] }
@@ -81,7 +84,7 @@ impl<R: Read> AheadSource<R> {
         ensures end { IfOk result (λ n. n ≡ 0 → 0 < length buf.new → IsAtEnd (told_ahead R.remaining self.old)) }
         ensures sound { OnOk result (faults_behind self.new ≡ faults_behind self.old) }
         ensures kept { OnErr result (Keeps (told_ahead R.remaining self.old) (told_ahead R.remaining self.new)) }
-        ensures fault { OnErr result (faults_behind self.new ≢ faults_behind self.old) }
+        ensures fault { OnErr result (faults_behind self.new ≡ next_fault (faults_behind self.old)) }
     {
         if buf.len() >= self.held.make_room() {
             return self.source.pull(buf);

@@ -35,7 +35,7 @@ fn whole_byte(z: i128) -> u8
     }
 }
 
-// That of a text.
+// The first byte of the canonical head of a text.
 fn text_byte(len: u32) -> u8
     ensures { Opens result (canon_head (Text len)) }
 {
@@ -50,7 +50,7 @@ fn text_byte(len: u32) -> u8
     }
 }
 
-// That of bytes.
+// The first byte of the canonical head of bytes.
 fn bin_byte(len: u32) -> u8
     ensures { Opens result (canon_head (Bin len)) }
 {
@@ -63,7 +63,7 @@ fn bin_byte(len: u32) -> u8
     }
 }
 
-// That of a list.
+// The first byte of the canonical head of a list.
 fn array_byte(len: u32) -> u8
     ensures { Opens result (canon_head (Array len)) }
 {
@@ -76,7 +76,7 @@ fn array_byte(len: u32) -> u8
     }
 }
 
-// That of a map.
+// The first byte of the canonical head of a map.
 fn map_byte(len: u32) -> u8
     ensures { Opens result (canon_head (Map len)) }
 {
@@ -89,7 +89,7 @@ fn map_byte(len: u32) -> u8
     }
 }
 
-// That of an extension.
+// The first byte of the canonical head of an extension.
 fn ext_byte(len: u32, tag: i8) -> u8
     ensures { Opens result (canon_head (Ext len tag)) }
 {
@@ -111,7 +111,7 @@ fn ext_byte(len: u32, tag: i8) -> u8
     }
 }
 
-// The first byte of the canonical head.
+// The first byte of the canonical head of the same kind and number.
 fn first_byte(head: Head) -> u8
     ensures { fits_head head → Opens result (canon_head head) }
 {
@@ -130,7 +130,7 @@ fn first_byte(head: Head) -> u8
     }
 }
 
-/// Whether the marker opens the canonical head of this kind and number.
+/// Returns whether the marker begins the canonical head of the same kind and number.
 pub fn is_canonical(marker: Marker, head: &Head) -> bool
     ensures { fits_head head.now → (result ≡ true) ↔ Opens (byte_of marker) (canon_head head.now) }
 {

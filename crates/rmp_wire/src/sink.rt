@@ -1,6 +1,6 @@
-//! Where bytes are put.
+//! Where bytes are written to.
 ghost use Rattle.std.specs.Prelude.{◌≡◌, ℕ, ◌≤◌, ◌++◌, ◌↔◌, Bool, true, false, List, [], ◌∷◌, length, take, drop, min};
-ghost use Rattle.std.specs.Prelude.{Option, None, Some, IfOk, IfErr, IsOk};
+ghost use Rattle.std.specs.Prelude.{Option, None, Some, Ok, IfOk, IfErr, IsOk};
 ghost use Rattle.std.specs.Borrow.{GName};
 ghost use Rattle.std.specs.Io.KnownBytes.{WriteAppends};
 ghost use Rattle.rmp_wire.specs.Sinks.{PutCounts, Puts, stopped_after};
@@ -13,45 +13,47 @@ use std::io;
 pub enum SinkFault {
     /// The sink failed.
     Io(io::Error),
-    /// The sink was refused memory.
+    /// The sink couldn't allocate memory.
     Memory,
 }
 
-/// Where bytes are put, a piece at a time.
+/// A sink of bytes, which are written to it a piece at a time.
 ///
-/// A sink that fails takes nothing of that piece, and counts one fault. Room that has run out is a fault as well: it is
-/// the answer `Ok(0)` to a piece that isn't empty. Memory that is refused is no fault. What can't fail counts none.
+/// A sink that fails takes nothing of that piece, and counts one fault. To be full is a fault as well: the
+/// result `Ok(0)` for a piece that isn't empty. To be out of memory is no fault. A sink that can't fail counts
+/// none.
 pub trait Sink {
-    /// Whether the sink takes memory, which it may be refused.
+    /// Whether the sink allocates memory, and so may be out of memory.
     const TAKES_MEMORY: bool;
 
     // What `TAKES_MEMORY` says.
     ghost takes_memory: { Bool };
 
-    // The bytes that were put so far, where the sink tells them.
+    // The bytes written so far, where the sink tells them.
     ghost told: { Self → Option (List ℕ) } = { λ _. None };
 
-    // How many faults the sink counted; after 2 ^ 64 - 1 comes 0.
+    // The number of faults so far; 2 ^ 64 - 1 is followed by 0.
     ghost faults: { Self → ℕ };
 
     // The references that the sink writes through.
     ghost place: { Self → List GName } = { λ _. [] };
 
-    /// Takes the first bytes of the piece, and says how many.
+    /// Writes the first bytes of the piece, and returns how many.
     ///
     /// # Errors
-    /// `Io` where the sink failed, and `Memory` where a sink that takes memory was refused it. Nothing was taken then.
+    /// `Io` where the sink fails, and `Memory` where a sink that allocates is out of memory. Then nothing is
+    /// taken.
     fn put(&mut self, piece: &[u8]) -> Result<usize, SinkFault>
         ensures count { IfOk result (λ n. n ≤ length piece.now) }
         ensures bytes { WriteAppends (told self.old) (told self.new) result piece.now }
         ensures counts { PutCounts takes_memory (faults self.old) (faults self.new) piece.now result }
         ensures place { place self.new ≡ place self.old };
 
-    /// Puts the piece until it is whole, and stops at the first fault.
+    /// Writes the whole piece, and stops at the first fault.
     ///
     /// # Errors
-    /// `InvalidMarkerWrite` where the piece's first byte wasn't taken, and `InvalidDataWrite` where it was; room that has run out
-    /// is a fault of the kind `WriteZero`. `OutOfMemory` where memory was refused.
+    /// `InvalidMarkerWrite` where the piece's first byte wasn't taken, and `InvalidDataWrite` where it was. A
+    /// full sink is a fault of the kind `WriteZero`. `OutOfMemory` where memory couldn't be allocated.
     fn put_all(&mut self, piece: &[u8]) -> Result<(), ValueWriteError>
         ensures writes { Puts takes_memory piece.now (told self.old) (told self.new)
             (faults self.old) (faults self.new) result }
@@ -70,7 +72,7 @@ pub trait Sink {
     }
 }
 
-// The error of a fault after so many bytes of an item.
+// The error of a fault after `taken` bytes of an item.
 fn stopped(taken: usize, fault: IoFault) -> ValueWriteError
     ensures { result ≡ stopped_after taken fault }
 {
@@ -81,7 +83,7 @@ fn stopped(taken: usize, fault: IoFault) -> ValueWriteError
     }
 }
 
-/// A sink through a reference is the sink.
+/// A reference to a sink is a sink.
 impl<S: Sink> Sink for &mut S {
     const TAKES_MEMORY: bool = S::TAKES_MEMORY;
 
@@ -103,7 +105,7 @@ impl<S: Sink> Sink for &mut S {
     }
 }
 
-/// A vector takes each piece whole, unless it is refused memory.
+/// A vector takes each piece whole, unless out of memory.
 impl Sink for Vec<u8> {
     const TAKES_MEMORY: bool = true;
 
@@ -135,7 +137,7 @@ impl Sink for Vec<u8> {
     }
 }
 
-/// A sink that takes what fits into a slice, from its front on, and then nothing more.
+/// A sink that fills a slice from its front, and takes nothing more once it is full.
 #[derive(Debug, Drop)]
 pub struct SliceSink<'a> {
     buf: &'a mut [u8],
@@ -147,7 +149,7 @@ pub struct SliceSink<'a> {
 impl<'a> SliceSink<'a> {
     ghost use Rattle.rmp_wire.specs.SliceSink.{written_bytes, unwritten, slice_bytes, slice_name, slice_faults};
 
-    /// A sink at the front of the slice.
+    /// Starts at the front of the slice.
     pub fn new(buf: &'a mut [u8]) -> SliceSink<'a>
         ensures same_reference { slice_name result ≡ buf.entry.ghost_name }
         ensures nothing_written { written_bytes result ≡ [] }
@@ -161,7 +163,7 @@ impl<'a> SliceSink<'a> {
         }
     }
 
-    /// How many bytes were written, which are the first of the slice.
+    /// Returns how many bytes were written, which are the first of the slice.
     pub fn written(&self) -> usize
         ensures count { result ≡ length (written_bytes self.now) }
         ensures front { take result (slice_bytes self.now) ≡ written_bytes self.now }
@@ -170,7 +172,7 @@ impl<'a> SliceSink<'a> {
         self.at
     }
 
-    // Copies what fits of the piece, and says how many bytes it was.
+    // Copies what fits of the piece, and returns how many bytes.
     #[inline(always)]
     fn copy_front(&mut self, piece: &[u8]) -> usize
         ensures count { result ≡ min (length piece.now) (length (unwritten self.old)) }
@@ -208,6 +210,7 @@ impl Sink for SliceSink<'_> {
         ensures counts { PutCounts false (slice_faults self.old) (slice_faults self.new) piece.now result }
         ensures place { slice_name self.new ∷ [] ≡ slice_name self.old ∷ [] }
         ensures rest { IfOk result (λ n. unwritten self.new ≡ drop n (unwritten self.old)) }
+        ensures fits { result ≡ Ok (min (length piece.now) (length (unwritten self.old))) }
     {
         let n = self.copy_front(piece);
         if n == 0 && !piece.is_empty() {

@@ -1,4 +1,4 @@
-//! Sources that answer whole pieces of their bytes, lent where they can be.
+//! Sources that return whole slices of their bytes, borrowed from the input where possible.
 ghost use Rattle.std.specs.Prelude.{◌≡◌, ◌≢◌, ℕ, Bool, true, false, Option, None, Some, IfOk, IfErr, IfSome, IsTrue, OnErr, MatchOption, length, ◌<◌, ◌++◌};
 ghost use Rattle.std.specs.Borrow.{sem};
 ghost use Rattle.std.specs.Io.BufRead.{Rests};
@@ -14,15 +14,17 @@ pub use copying::ReadReader;
 use std::io;
 use std::io::ErrorKind;
 
-/// Bytes of the input: lent for as long as the input lies in memory, or copied, and there until the next read.
+/// Bytes of the input: either borrowed from it, or copied into a buffer that the next read replaces.
 #[derive(Clone, Copy, Debug, PartialEq)]
 pub enum Reference<'b, 'c> {
+    /// Bytes of the input itself, which live as long as it does.
     Borrowed(&'b [u8]),
+    /// A copy, which is replaced by the next read.
     Copied(&'c [u8]),
 }
 
 impl<'b, 'c> Reference<'b, 'c> {
-    /// The bytes, wherever they lie.
+    /// Returns the bytes, borrowed or copied.
     pub fn as_bytes(&self) -> &[u8]
         ensures { result.now ≡ reference_bytes self.now }
     {
@@ -33,32 +35,33 @@ impl<'b, 'c> Reference<'b, 'c> {
     }
 }
 
-/// Why a piece of the input couldn't be had.
+/// Why a slice of the input couldn't be read.
 #[derive(Debug, Drop)]
 pub enum SourceFault {
-    /// The source failed, or, with `UnexpectedEof`, too few bytes are ahead.
+    /// The source failed, or, with `UnexpectedEof`, too few bytes remain.
     Io(io::Error),
-    /// Memory for a copy was refused.
+    /// Out of memory for a copy.
     Memory,
 }
 
-/// A source that answers a whole piece of its bytes at once.
+/// A source that returns a whole slice of its bytes at once.
 pub trait ReadSlice<'de>: Source {
     ghost use Rattle.std.specs.Prelude.{Result};
     ghost use Rattle.rmp_wire.specs.declared.slice.Reference.{Reference};
     ghost use Rattle.rmp_wire.specs.declared.slice.SourceFault.{SourceFault};
     ghost use Rattle.rmp_wire.specs.declared.slice.SourceFault.TheVariants.{Memory};
 
-    // Whether it lends its bytes. One that does takes no memory.
+    // Whether the slices are borrowed. Then no memory is allocated.
     ghost lends: { Bool };
 
-    // What else a call with this count leaves, beside what is said of every source.
+    // What else holds after a call with this length, besides what holds of every source.
     ghost leaves: { Self → Self → ℕ → Result Reference SourceFault → Type 0 };
 
-    /// Takes `len` bytes from the front of those ahead.
+    /// Consumes `len` bytes, and returns them.
     ///
     /// # Errors
-    /// `Io` with `UnexpectedEof` where fewer are ahead, and else the source's fault; `Memory` where a copy found no room.
+    /// `Io` with `UnexpectedEof` where fewer bytes remain, and otherwise with the source's fault. `Memory`
+    /// where a copy couldn't be allocated.
     fn read_slice<'a>(&'a mut self, len: usize) -> Result<Reference<'de, 'a>, SourceFault>
         ensures* after { sem 𝓛 (Rests Self.row self.entry (λ new. SliceRead (Self.ahead self.old) (Self.ahead new) (Self.faults self.old) (Self.faults new)
             len result
@@ -68,12 +71,13 @@ pub trait ReadSlice<'de>: Source {
         ensures kind { IfOk result (λ r. is_lent r ≡ lends) }
         ensures memory { lends ≡ true → IfErr result (λ e. e ≢ Memory) };
 
-    /// Whether it tells the bytes ahead, as one over memory does. One that may not, or doesn't know, answers that it doesn't.
+    /// Returns whether the source tells its remaining bytes, as one over memory does. One that may not tell
+    /// them, or doesn't know, returns `false`.
     fn tells(&self) -> bool
         ensures told { IsTrue result → Self.ahead self.now ≢ None };
 }
 
-/// Lends parts of a slice for as long as the slice lies in memory.
+/// A source over a slice, which returns slices borrowed from it.
 #[derive(Clone, Copy, Debug)]
 pub struct ReadRefReader<'a> {
     rest: &'a [u8],
@@ -83,7 +87,7 @@ pub struct ReadRefReader<'a> {
 impl<'a> ReadRefReader<'a> {
     ghost use Rattle.rmp_wire.specs.RefReader.{rest_of, whole_of};
 
-    /// Reads `whole` from its beginning.
+    /// Starts at the beginning of `whole`.
     pub fn new(whole: &'a [u8]) -> ReadRefReader<'a>
         ensures rest { rest_of result ≡ whole.now }
         ensures whole { whole_of result ≡ whole.now }
@@ -91,14 +95,14 @@ impl<'a> ReadRefReader<'a> {
         ReadRefReader { rest: whole, whole }
     }
 
-    /// The slice that it was made of.
+    /// Returns the slice that the reader was made of.
     pub fn whole(&self) -> &'a [u8]
         ensures { result.now ≡ whole_of self.now }
     {
         self.whole
     }
 
-    /// What it hasn't taken yet.
+    /// Returns the remaining bytes.
     pub fn remaining_slice(&self) -> &'a [u8]
         ensures { result.now ≡ rest_of self.now }
     {
@@ -106,7 +110,7 @@ impl<'a> ReadRefReader<'a> {
     }
 }
 
-/// The bytes of the slice, in order. A call that fails leaves them as they were, and `whole` stays.
+/// Reads the bytes of the slice, in order. A call that fails leaves them unchanged, and `whole` never changes.
 impl<'a> Source for ReadRefReader<'a> {
     ghost use Rattle.rmp_wire.specs.RefReader.{rest_of, whole_of, place_of};
 
@@ -211,7 +215,7 @@ impl<'a> ReadSlice<'a> for ReadRefReader<'a> {
     }
 }
 
-// The first `len` bytes and the rest, where there are so many.
+// The first `len` bytes and the rest, if there are as many.
 #[inline(always)]
 fn split_front(all: &[u8], len: usize) -> Option<(&[u8], &[u8])>
     ensures parts { MatchOption result (length all.now < len) (λ p. (length p.0.now ≡ len) × (all.now ≡ p.0.now ++ p.1.now)) }

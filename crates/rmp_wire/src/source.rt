@@ -1,7 +1,8 @@
-//! Where bytes come from.
-ghost use Rattle.std.specs.Prelude.{◌≡◌, ◌≢◌, ℕ, List, [], ◌∷◌, Option, Some, IfOk, OnOk, OnErr, IsTrue, false, take, length, ◌<◌, ◌≤◌};
+//! Where bytes are read from.
+ghost use Rattle.std.specs.Prelude.{◌≡◌, ℕ, List, [], ◌∷◌, Option, Some, IfOk, OnOk, OnErr, IsTrue, false, take, length, ◌<◌, ◌≤◌};
 ghost use Rattle.std.specs.Io.KnownBytes.{Keeps, Consumes, IsAtEnd};
 ghost use Rattle.rmp_wire.specs.Sources.{IsFront, Place, Skips, Takes, TakesInto};
+ghost use Rattle.rmp_wire.specs.Sinks.{next_fault};
 
 mod cursor;
 
@@ -9,44 +10,45 @@ use crate::error::IoFault;
 use std::io;
 use std::io::ErrorKind;
 
-/// What bytes are read from.
+/// A source of bytes, which calls consume from the front.
 ///
-/// A source has bytes ahead of it, and calls take them from the front. It may tell them, and then contracts say what was
-/// read; one that tells none, as a socket, is read by the same code.
+/// A source may tell which bytes remain. Then contracts say which bytes a read consumed. A source that doesn't
+/// tell, such as a socket, is read by the same code.
 pub trait Source {
-    // The bytes ahead, where they are told.
+    // The remaining bytes, where the source tells them.
     ghost ahead: { Self → Option (List ℕ) };
 
-    // How many faults there were.
+    // The number of faults so far; 2 ^ 64 - 1 is followed by 0.
     ghost faults: { Self → ℕ };
 
-    // What stays of the source while it is read: the references that it reads through, and the slice that it was made of.
+    // What reads don't change: the references that the source reads through, and the slice that it was made of.
     ghost place: { Self → List Place } = { λ _. [] };
 
-    /// Moves bytes from the front of those ahead into the front of `buf`, and says how many.
+    /// Reads bytes into the front of `buf`, and returns how many.
     ///
-    /// It may move fewer than `buf` has room for. `Ok(0)` for a `buf` that isn't empty says that the input has ended.
+    /// It may read fewer bytes than `buf` has room for. `Ok(0)` for a `buf` that isn't empty means that the
+    /// input has ended.
     ///
     /// # Errors
-    /// The source's fault: nothing was taken, and one more is counted.
+    /// The source's fault. Then nothing is consumed, and one more fault is counted.
     fn pull(&mut self, buf: &mut [u8]) -> Result<usize, io::Error>
         ensures bound { IfOk result (λ n. n ≤ length buf.new) }
         ensures bytes { IfOk result (λ n. Consumes (ahead self.old) (ahead self.new) (take n buf.new)) }
         ensures end { IfOk result (λ n. n ≡ 0 → 0 < length buf.new → IsAtEnd (ahead self.old)) }
         ensures sound { OnOk result (faults self.new ≡ faults self.old) }
         ensures kept { OnErr result (Keeps (ahead self.old) (ahead self.new)) }
-        ensures fault { OnErr result (faults self.new ≢ faults self.old) }
+        ensures fault { OnErr result (faults self.new ≡ next_fault (faults self.old)) }
         ensures place { place self.new ≡ place self.old };
 
-    /// Looks at bytes ahead that lie in memory, without taking them: a beginning of those ahead, and none where there is
-    /// nothing to look at.
+    /// Returns buffered bytes without consuming them. They begin the remaining bytes, and are empty where
+    /// nothing is buffered.
     fn front(&self) -> &[u8]
         ensures bytes { IsFront result.now (ahead self.now) }
     {
         &[]
     }
 
-    /// Takes so many bytes where they lie in memory, and says whether it did. Else nothing was taken.
+    /// Consumes `_len` buffered bytes. Returns `false` and consumes nothing where that isn't possible.
     fn skip(&mut self, _len: usize) -> bool
         ensures bytes { IsTrue result → Skips _len (ahead self.old) (ahead self.new) }
         ensures sound { IsTrue result → faults self.new ≡ faults self.old }
@@ -56,11 +58,11 @@ pub trait Source {
         false
     }
 
-    /// Fills `buf` from the bytes ahead.
+    /// Fills `buf`, and consumes as many bytes.
     ///
     /// # Errors
-    /// `UnexpectedEof` where too few bytes are ahead, and else the source's first fault, after which nothing more is
-    /// pulled. What was taken before it is lost.
+    /// `UnexpectedEof` where fewer bytes remain, and otherwise the source's first fault, after which nothing
+    /// more is pulled. Bytes consumed before the error are lost.
     fn pull_exact(&mut self, buf: &mut [u8]) -> Result<(), IoFault>
         ensures bytes { TakesInto buf.new (ahead self.old) (ahead self.new) (faults self.old) (faults self.new) result }
         ensures place { place self.new ≡ place self.old }
@@ -76,7 +78,10 @@ pub trait Source {
         Ok(())
     }
 
-    /// Takes one byte. It fails as `pull_exact` does.
+    /// Consumes one byte.
+    ///
+    /// # Errors
+    /// Those of `pull_exact`.
     fn take_1(&mut self) -> Result<[u8; 1], IoFault>
         ensures bytes { Takes 1 (ahead self.old) (ahead self.new) (faults self.old) (faults self.new) result }
         ensures place { place self.new ≡ place self.old }
@@ -86,7 +91,10 @@ pub trait Source {
         Ok(bytes)
     }
 
-    /// Takes two bytes. It fails as `pull_exact` does.
+    /// Consumes two bytes.
+    ///
+    /// # Errors
+    /// Those of `pull_exact`.
     fn take_2(&mut self) -> Result<[u8; 2], IoFault>
         ensures bytes { Takes 2 (ahead self.old) (ahead self.new) (faults self.old) (faults self.new) result }
         ensures place { place self.new ≡ place self.old }
@@ -96,7 +104,10 @@ pub trait Source {
         Ok(bytes)
     }
 
-    /// Takes four bytes. It fails as `pull_exact` does.
+    /// Consumes four bytes.
+    ///
+    /// # Errors
+    /// Those of `pull_exact`.
     fn take_4(&mut self) -> Result<[u8; 4], IoFault>
         ensures bytes { Takes 4 (ahead self.old) (ahead self.new) (faults self.old) (faults self.new) result }
         ensures place { place self.new ≡ place self.old }
@@ -106,7 +117,10 @@ pub trait Source {
         Ok(bytes)
     }
 
-    /// Takes eight bytes. It fails as `pull_exact` does.
+    /// Consumes eight bytes.
+    ///
+    /// # Errors
+    /// Those of `pull_exact`.
     fn take_8(&mut self) -> Result<[u8; 8], IoFault>
         ensures bytes { Takes 8 (ahead self.old) (ahead self.new) (faults self.old) (faults self.new) result }
         ensures place { place self.new ≡ place self.old }
@@ -166,7 +180,7 @@ impl<S: Source> Source for &mut S {
     }
 }
 
-/// The bytes of memory, in order. A call that fails leaves them as they were.
+/// Reads the bytes of the slice, in order. A call that fails leaves the slice unchanged.
 impl Source for &[u8] {
     ghost ahead = { λ s. Some s.now };
 

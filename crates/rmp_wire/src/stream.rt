@@ -1,4 +1,4 @@
-//! Readers and writers of the world as sources and sinks.
+//! Readers and writers of std as sources and sinks.
 ghost use Rattle.std.specs.Prelude.{◌≡◌, ◌≤◌, false, IfOk, length};
 ghost use Rattle.std.specs.Borrow.{sem, follows};
 ghost use Rattle.std.specs.Io.KnownBytes.{ReadConsumes, WriteAppends};
@@ -11,12 +11,12 @@ use crate::source::Source;
 use std::io;
 use std::io::{ErrorKind, Read, Write};
 
-/// How often a call is tried again after it was interrupted.
+/// How many times in a row an interrupted call is retried.
 const MOST_RETRIES: u32 = 16;
 
-/// A reader as a source: what it tells of the bytes ahead, if anything, the source tells.
+/// A reader as a source. It tells which bytes remain if the reader does.
 ///
-/// A read that was interrupted is tried again, at most 16 times in a row.
+/// An interrupted read is retried, at most 16 times in a row.
 #[derive(Debug, Drop)]
 pub struct IoSource<R> {
     reader: R,
@@ -32,14 +32,14 @@ impl<R> IoSource<R> {
         IoSource { reader, faults: 0 }
     }
 
-    /// What it reads from.
+    /// Returns a reference to the reader.
     pub fn get_ref(&self) -> &R
         ensures { result.now ≡ reader_of self.now }
     {
         &self.reader
     }
 
-    /// What it reads from, to be changed.
+    /// Returns a mutable reference to the reader.
     pub fn get_mut(&mut self) -> &mut R
         ensures* writes_back { sem 𝓛 (follows (source_row R.row) R.row self.entry.ghost_name result.ghost_name (with_reader self.old)) }
         ensures value { result.now ≡ reader_of self.old }
@@ -47,7 +47,7 @@ impl<R> IoSource<R> {
         &mut self.reader
     }
 
-    /// What it reads from, which has given just the bytes that were taken.
+    /// Returns the reader, from which no more was read than what was consumed.
     pub fn into_inner(self) -> R
         ensures { result ≡ reader_of self }
     {
@@ -56,7 +56,7 @@ impl<R> IoSource<R> {
 }
 
 impl<R: Read> IoSource<R> {
-    // One read, tried again where it was interrupted.
+    // One read, retried where it was interrupted.
     fn read(&mut self, buf: &mut [u8]) -> Result<usize, io::Error>
         ensures bound { IfOk result (λ n. n ≤ length buf.new) }
         ensures bytes { ReadConsumes (R.remaining (reader_of self.old)) (R.remaining (reader_of self.new)) result buf.new }
@@ -88,9 +88,9 @@ impl<R: Read> Source for IoSource<R> {
     }
 }
 
-/// A writer as a sink: what it tells of the bytes that it holds, if anything, the sink tells.
+/// A writer as a sink. It tells which bytes were written if the writer does.
 ///
-/// A write that was interrupted is tried again, at most 16 times in a row. Nothing is flushed.
+/// An interrupted write is retried, at most 16 times in a row. Nothing is flushed.
 #[derive(Debug, Drop)]
 pub struct IoSink<W> {
     writer: W,
@@ -98,7 +98,7 @@ pub struct IoSink<W> {
 }
 
 impl<W> IoSink<W> {
-    /// Writes into `writer`.
+    /// Writes to `writer`.
     pub fn new(writer: W) -> IoSink<W>
         ensures writer { writer_of result ≡ writer }
         ensures faults { write_faults result ≡ 0 }
@@ -106,14 +106,14 @@ impl<W> IoSink<W> {
         IoSink { writer, faults: 0 }
     }
 
-    /// What it writes into.
+    /// Returns a reference to the writer.
     pub fn get_ref(&self) -> &W
         ensures { result.now ≡ writer_of self.now }
     {
         &self.writer
     }
 
-    /// What it writes into, to be changed.
+    /// Returns a mutable reference to the writer.
     pub fn get_mut(&mut self) -> &mut W
         ensures* writes_back { sem 𝓛 (follows (sink_row W.row) W.row self.entry.ghost_name result.ghost_name (with_writer self.old)) }
         ensures value { result.now ≡ writer_of self.old }
@@ -121,7 +121,7 @@ impl<W> IoSink<W> {
         &mut self.writer
     }
 
-    /// What it writes into.
+    /// Returns the writer.
     pub fn into_inner(self) -> W
         ensures { result ≡ writer_of self }
     {
@@ -130,7 +130,7 @@ impl<W> IoSink<W> {
 }
 
 impl<W: Write> IoSink<W> {
-    // One write, tried again where it was interrupted.
+    // One write, retried where it was interrupted.
     fn write(&mut self, piece: &[u8]) -> Result<usize, io::Error>
         ensures count { IfOk result (λ n. n ≤ length piece.now) }
         ensures bytes { WriteAppends (W.contents (writer_of self.old)) (W.contents (writer_of self.new)) result piece.now }

@@ -1,25 +1,25 @@
-//! Types that have a kind of message of their own: bytes, the bits of floats, and extensions.
+//! Types that have a MessagePack kind of their own: bytes, the bits of floats, and extensions.
 ghost use Rattle.std.specs.Prelude.{◌≡◌};
 ghost use Rattle.rmp_wire.specs.Types.{bytes_of, buffer_bytes, tag_of, ext_bytes};
 
-/// The name of the newtype struct that stands for an extension in the Rust crate. Here it is refused.
+/// The name of the newtype struct that the Rust crate uses for an extension. Here that name is refused.
 pub const MSGPACK_EXT_STRUCT_NAME: &str = "_ExtStruct";
 
-/// Bytes that lie elsewhere. They are written as bytes and not as a list of numbers.
+/// Borrowed bytes. They are written as bytes, not as a list of numbers.
 #[derive(Clone, Copy, Debug, PartialEq)]
 pub struct Bytes<'a> {
     bytes: &'a [u8],
 }
 
 impl<'a> Bytes<'a> {
-    /// These bytes.
+    /// Wraps borrowed bytes.
     pub fn new(bytes: &'a [u8]) -> Bytes<'a>
         ensures { bytes_of result ≡ bytes.now }
     {
         Bytes { bytes }
     }
 
-    /// The bytes, for as long as they lie there.
+    /// Returns the bytes, borrowed for as long as what they were made of.
     pub fn as_bytes(&self) -> &'a [u8]
         ensures { result.now ≡ bytes_of self.now }
     {
@@ -27,28 +27,28 @@ impl<'a> Bytes<'a> {
     }
 }
 
-/// Bytes of its own. They are written as bytes and not as a list of numbers.
+/// Owned bytes. They are written as bytes, not as a list of numbers.
 #[derive(Debug, Drop, PartialEq)]
 pub struct ByteBuf {
     bytes: Vec<u8>,
 }
 
 impl ByteBuf {
-    /// These bytes.
+    /// Wraps a vector of bytes.
     pub fn new(bytes: Vec<u8>) -> ByteBuf
         ensures { buffer_bytes result ≡ bytes.items }
     {
         ByteBuf { bytes }
     }
 
-    /// The bytes.
+    /// Returns the bytes.
     pub fn as_bytes(&self) -> &[u8]
         ensures { result.now ≡ buffer_bytes self.now }
     {
         self.bytes.as_slice()
     }
 
-    /// The bytes, in the vector that was given.
+    /// Returns the vector of the bytes.
     pub fn into_vec(self) -> Vec<u8>
         ensures { result.items ≡ buffer_bytes self }
     {
@@ -56,17 +56,17 @@ impl ByteBuf {
     }
 }
 
-/// The bits of a float of 32 bits, as `f32::to_bits` gives them.
+/// The bits of a 32-bit float, as `f32::to_bits` returns them.
 #[derive(Clone, Copy, Debug, PartialEq, Eq)]
 pub struct F32Bits(pub u32);
 
-/// The bits of a float of 64 bits, as `f64::to_bits` gives them.
+/// The bits of a 64-bit float, as `f64::to_bits` returns them.
 #[derive(Clone, Copy, Debug, PartialEq, Eq)]
 pub struct F64Bits(pub u64);
 
 /// An extension: a type, from -128 to 127, and its bytes.
 ///
-/// The MessagePack specification keeps the types below 0 for itself; -1 is a timestamp.
+/// The MessagePack specification reserves the types below 0; -1 is a timestamp.
 #[derive(Debug, Drop, PartialEq)]
 pub struct Ext {
     tag: i8,
@@ -74,7 +74,7 @@ pub struct Ext {
 }
 
 impl Ext {
-    /// An extension of this type and these bytes.
+    /// Makes an extension of a type and its bytes.
     pub fn new(tag: i8, bytes: Vec<u8>) -> Ext
         ensures tag { tag_of result ≡ tag }
         ensures bytes { ext_bytes result ≡ bytes.items }
@@ -82,21 +82,21 @@ impl Ext {
         Ext { tag, bytes }
     }
 
-    /// The type.
+    /// Returns the type.
     pub fn tag(&self) -> i8
         ensures { result ≡ tag_of self.now }
     {
         self.tag
     }
 
-    /// The bytes.
+    /// Returns the bytes.
     pub fn as_bytes(&self) -> &[u8]
         ensures { result.now ≡ ext_bytes self.now }
     {
         self.bytes.as_slice()
     }
 
-    /// The bytes, in the vector that was given.
+    /// Returns the vector of the bytes.
     pub fn into_bytes(self) -> Vec<u8>
         ensures { result.items ≡ ext_bytes self }
     {

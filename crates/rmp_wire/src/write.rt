@@ -1,8 +1,8 @@
-//! Writes of single items, each in its canonical spelling, into any sink.
+//! Writes single items, each in its canonical encoding, to any sink.
 //!
-//! A head goes out as one piece of a size that each branch knows: the marker, and the bytes of the number behind it. A text
-//! and bytes go out from where they lie. A fault before an item's first byte is `InvalidMarkerWrite`, and a later one `InvalidDataWrite`; no
-//! call goes on after a fault.
+//! A head is one piece, the marker and the bytes of its number; each branch knows its size. Texts and bytes are
+//! written without a copy. A fault before an item's first byte is `InvalidMarkerWrite`, and a later one
+//! `InvalidDataWrite`. No call continues after a fault.
 #![tactic(auto, unfolding(crate::specs::Heads::canon_head, crate::specs::Taking::byte_of))]
 
 ghost use Rattle.std.specs.Prelude.{◌≡◌, ℕ, ◌<◌, ◌^◌, [], ◌∷◌, ◌++◌, length, pos};
@@ -18,7 +18,7 @@ use crate::error::ValueWriteError;
 use crate::marker::Marker;
 use crate::sink::Sink;
 
-// ---- a marker, and a number of so many bits behind it
+// ---- a marker, and a number that follows it
 
 #[inline(always)]
 fn put_marker<W: Sink>(sink: &mut W, marker: Marker) -> Result<(), ValueWriteError>
@@ -66,7 +66,10 @@ fn put_64<W: Sink>(sink: &mut W, marker: Marker, n: u64) -> Result<(), ValueWrit
     sink.put_all(&piece)
 }
 
-/// Writes nil. It fails as `Sink::put_all` does.
+/// Writes nil.
+///
+/// # Errors
+/// Those of `Sink::put_all`.
 #[inline(always)]
 pub fn write_nil<W: Sink>(sink: &mut W) -> Result<(), ValueWriteError>
     ensures writes { Writes W.Sink (canon_head Nil) sink.old sink.new result }
@@ -75,7 +78,10 @@ pub fn write_nil<W: Sink>(sink: &mut W) -> Result<(), ValueWriteError>
     put_marker(sink, Marker::Null)
 }
 
-/// Writes a truth value. It fails as `Sink::put_all` does.
+/// Writes a truth value.
+///
+/// # Errors
+/// Those of `Sink::put_all`.
 #[inline(always)]
 pub fn write_bool<W: Sink>(sink: &mut W, b: bool) -> Result<(), ValueWriteError>
     ensures writes { Writes W.Sink (canon_head (Truth b)) sink.old sink.new result }
@@ -84,7 +90,10 @@ pub fn write_bool<W: Sink>(sink: &mut W, b: bool) -> Result<(), ValueWriteError>
     sink.put_all(&[0xc2 | u8::from(b)])
 }
 
-/// Writes a number from 0 on, in its shortest spelling. It fails as `Sink::put_all` does.
+/// Writes an unsigned number in its shortest encoding.
+///
+/// # Errors
+/// Those of `Sink::put_all`.
 #[inline(always)]
 pub fn write_uint<W: Sink>(sink: &mut W, n: u64) -> Result<(), ValueWriteError>
     ensures writes { Writes W.Sink (canon_head (Whole (pos n))) sink.old sink.new result }
@@ -105,7 +114,10 @@ pub fn write_uint<W: Sink>(sink: &mut W, n: u64) -> Result<(), ValueWriteError>
     put_64(sink, Marker::U64, n)
 }
 
-/// Writes a whole number in its shortest spelling. From 0 on it is the unsigned one. It fails as `Sink::put_all` does.
+/// Writes a signed number in its shortest encoding, which is that of `write_uint` from 0 on.
+///
+/// # Errors
+/// Those of `Sink::put_all`.
 #[inline(always)]
 pub fn write_sint<W: Sink>(sink: &mut W, z: i64) -> Result<(), ValueWriteError>
     ensures writes { Writes W.Sink (canon_head (Whole z)) sink.old sink.new result }
@@ -129,7 +141,10 @@ pub fn write_sint<W: Sink>(sink: &mut W, z: i64) -> Result<(), ValueWriteError>
     put_64(sink, Marker::I64, z.cast_unsigned())
 }
 
-/// Writes a float of 32 bits, from its bits. It fails as `Sink::put_all` does.
+/// Writes the bits of a 32-bit float.
+///
+/// # Errors
+/// Those of `Sink::put_all`.
 #[inline(always)]
 pub fn write_f32_bits<W: Sink>(sink: &mut W, bits: u32) -> Result<(), ValueWriteError>
     ensures writes { Writes W.Sink (canon_head (F32Bits bits)) sink.old sink.new result }
@@ -138,7 +153,10 @@ pub fn write_f32_bits<W: Sink>(sink: &mut W, bits: u32) -> Result<(), ValueWrite
     put_32(sink, Marker::F32, bits)
 }
 
-/// Writes a float of 64 bits, from its bits. It fails as `Sink::put_all` does.
+/// Writes the bits of a 64-bit float.
+///
+/// # Errors
+/// Those of `Sink::put_all`.
 #[inline(always)]
 pub fn write_f64_bits<W: Sink>(sink: &mut W, bits: u64) -> Result<(), ValueWriteError>
     ensures writes { Writes W.Sink (canon_head (F64Bits bits)) sink.old sink.new result }
@@ -147,7 +165,10 @@ pub fn write_f64_bits<W: Sink>(sink: &mut W, bits: u64) -> Result<(), ValueWrite
     put_64(sink, Marker::F64, bits)
 }
 
-/// Writes the head of a text of so many bytes. It fails as `Sink::put_all` does.
+/// Writes the head of a text of `len` bytes.
+///
+/// # Errors
+/// Those of `Sink::put_all`.
 #[inline(always)]
 pub fn write_str_len<W: Sink>(sink: &mut W, len: u32) -> Result<(), ValueWriteError>
     ensures writes { Writes W.Sink (canon_head (Text len)) sink.old sink.new result }
@@ -165,7 +186,10 @@ pub fn write_str_len<W: Sink>(sink: &mut W, len: u32) -> Result<(), ValueWriteEr
     put_32(sink, Marker::Str32, len)
 }
 
-/// Writes the head of so many bytes. It fails as `Sink::put_all` does.
+/// Writes the head of `len` bytes.
+///
+/// # Errors
+/// Those of `Sink::put_all`.
 #[inline(always)]
 pub fn write_bin_len<W: Sink>(sink: &mut W, len: u32) -> Result<(), ValueWriteError>
     ensures writes { Writes W.Sink (canon_head (Bin len)) sink.old sink.new result }
@@ -180,7 +204,10 @@ pub fn write_bin_len<W: Sink>(sink: &mut W, len: u32) -> Result<(), ValueWriteEr
     put_32(sink, Marker::Bin32, len)
 }
 
-/// Writes the head of a list of so many messages. It fails as `Sink::put_all` does.
+/// Writes the head of a list of `len` messages.
+///
+/// # Errors
+/// Those of `Sink::put_all`.
 #[inline(always)]
 pub fn write_array_len<W: Sink>(sink: &mut W, len: u32) -> Result<(), ValueWriteError>
     ensures writes { Writes W.Sink (canon_head (Array len)) sink.old sink.new result }
@@ -195,7 +222,10 @@ pub fn write_array_len<W: Sink>(sink: &mut W, len: u32) -> Result<(), ValueWrite
     put_32(sink, Marker::Array32, len)
 }
 
-/// Writes the head of a map of so many pairs. It fails as `Sink::put_all` does.
+/// Writes the head of a map of `len` pairs.
+///
+/// # Errors
+/// Those of `Sink::put_all`.
 #[inline(always)]
 pub fn write_map_len<W: Sink>(sink: &mut W, len: u32) -> Result<(), ValueWriteError>
     ensures writes { Writes W.Sink (canon_head (Map len)) sink.old sink.new result }
@@ -210,7 +240,7 @@ pub fn write_map_len<W: Sink>(sink: &mut W, len: u32) -> Result<(), ValueWriteEr
     put_32(sink, Marker::Map32, len)
 }
 
-// An extension's marker with a length of 16 bits behind it, and the tag.
+// An extension's marker, a length of 16 bits, and the type.
 #[inline(always)]
 fn put_ext_16<W: Sink>(sink: &mut W, len: u16, tag: u8) -> Result<(), ValueWriteError>
     ensures writes { Writes W.Sink (0xc8 ∷ (to_be_bytes w16 len ++ tag ∷ [])) sink.old sink.new result }
@@ -233,7 +263,10 @@ fn put_ext_32<W: Sink>(sink: &mut W, len: u32, tag: u8) -> Result<(), ValueWrite
     sink.put_all(&piece)
 }
 
-/// Writes the head of an extension of so many bytes, and its tag. It fails as `Sink::put_all` does.
+/// Writes the head of an extension: the length of its payload, `len` bytes, and its type.
+///
+/// # Errors
+/// Those of `Sink::put_all`.
 #[inline(always)]
 pub fn write_ext_meta<W: Sink>(sink: &mut W, len: u32, tag: i8) -> Result<(), ValueWriteError>
     ensures writes { Writes W.Sink (canon_head (Ext len tag)) sink.old sink.new result }
@@ -252,7 +285,10 @@ pub fn write_ext_meta<W: Sink>(sink: &mut W, len: u32, tag: i8) -> Result<(), Va
     }
 }
 
-/// Writes bytes that stand behind a head, from where they lie. It fails as `Sink::put_all` does, each fault as `InvalidDataWrite`.
+/// Writes the payload that follows a head, without a copy.
+///
+/// # Errors
+/// Those of `Sink::put_all`, each fault as `InvalidDataWrite`.
 #[inline(always)]
 pub fn write_content<W: Sink>(sink: &mut W, content: &[u8]) -> Result<(), ValueWriteError>
     ensures writes { WritesContent W.Sink content.now sink.old sink.new result }
@@ -264,8 +300,10 @@ pub fn write_content<W: Sink>(sink: &mut W, content: &[u8]) -> Result<(), ValueW
     }
 }
 
-/// Writes a text, which has fewer than 2 ^ 32 bytes: the caller's condition. It goes out from where it lies. It fails as
-/// `Sink::put_all` does.
+/// Writes a text, without a copy. The caller's condition: it has fewer than 2 ^ 32 bytes.
+///
+/// # Errors
+/// Those of `Sink::put_all`.
 #[inline(always)]
 pub fn write_str<W: Sink>(sink: &mut W, s: &str) -> Result<(), ValueWriteError>
     requires { length s.now < 2 ^ 32 }
@@ -276,8 +314,10 @@ pub fn write_str<W: Sink>(sink: &mut W, s: &str) -> Result<(), ValueWriteError>
     write_content(sink, s.as_bytes())
 }
 
-/// Writes bytes, fewer than 2 ^ 32 of them: the caller's condition. They go out from where they lie. It fails as `Sink::put_all`
-/// does.
+/// Writes bytes, without a copy. The caller's condition: there are fewer than 2 ^ 32.
+///
+/// # Errors
+/// Those of `Sink::put_all`.
 #[inline(always)]
 pub fn write_bin<W: Sink>(sink: &mut W, bytes: &[u8]) -> Result<(), ValueWriteError>
     requires { length bytes.now < 2 ^ 32 }

@@ -2,13 +2,19 @@
 #![tactic(auto)]
 
 mod called;
+mod defaults;
 mod enums;
 mod kinds;
+mod renamed;
 mod rounds;
 mod structs;
+mod versions;
 
 pub use called::{older, restocked};
+pub use defaults::{Level, Lists, Once, Server};
 pub use enums::{Four, Mixed, Two, V12};
 pub use kinds::{Chosen, Either, Guests, Kennel, Pair, Row, Sorted};
+pub use renamed::{Parcel, Way};
 pub use rounds::{kennels_come_back, sorted_come_back};
 pub use structs::{Counted, Dog, Newtype, Opt, Point, Unit};
+pub use versions::{First, Second};

@@ -78,9 +78,12 @@ nested_up (suc n) m v h = row_as (NestedIn n) (NestedIn (suc n)) (nested_up n) m
 pub nested_made : (v : Nested) (vs : List Nested) → vs ≡ (out-Nested v).sub.items → (m : Msg) → Row IsNested m vs → IsNested m v
 nested_made v vs e m h = let i = row_in NestedIn nested_up m vs h in (suc i.0, subst (Row (NestedIn i.0) m) e i.1)
 
+pub nested_out : (m : Msg) (v : Nested) → IsNested m v → Row IsNested m (out-Nested v).sub.items
+nested_out m v (zero, h) = absurd h
+nested_out m v (suc n, h) = row_as (NestedIn n) IsNested (λ k w p. (n, p)) m (out-Nested v).sub.items h
+
 pub nested_row : (m : Msg) → Readable IsNested m → Readable (Row IsNested) m
-nested_row m (v, (zero, h)) = absurd h
-nested_row m (v, (suc n, h)) = ((out-Nested v).sub.items, row_as (NestedIn n) IsNested (λ k w p. (n, p)) m (out-Nested v).sub.items h)
+nested_row m (v, h) = ((out-Nested v).sub.items, nested_out m v h)
 
 -- ---- trees
 
@@ -118,9 +121,12 @@ tree_made v m h = let i = go (variant_of tree_names m) h in (suc i.0, i.1)
     go None h = absurd h
     go (Some p) h = tree_in v p.0 p.1 h
 
+pub tree_out : (m : Msg) (v : Tree) → IsTree m v → OfVariant tree_names (TreeCase IsTree v) m
+tree_out m v (zero, h) = absurd h
+tree_out m v (suc n, h) = variant_as tree_names (TreeCase (TreeIn n) v) (TreeCase IsTree v) (tree_as (TreeIn n) IsTree (λ k w p. (n, p)) v) m h
+
 pub tree_variant : (m : Msg) → Readable IsTree m → Readable (λ k v. OfVariant tree_names (TreeCase IsTree v) k) m
-tree_variant m (v, (zero, h)) = absurd h
-tree_variant m (v, (suc n, h)) = (v, variant_as tree_names (TreeCase (TreeIn n) v) (TreeCase IsTree v) (tree_as (TreeIn n) IsTree (λ k w p. (n, p)) v) m h)
+tree_variant m (v, h) = (v, tree_out m v h)
 
 -- ---- nodes of a tree
 
@@ -157,10 +163,10 @@ rose_made v m h = let i = go (fields rose_names m) h in (suc i.0, i.1)
     go None h = absurd h
     go (Some fs) h = rose_in v fs h
 
+pub rose_out : (m : Msg) (v : Rose) → IsRose m v → IsNode m v
+rose_out m v (zero, h) = absurd h
+rose_out m v (suc n, h) =
+    fields_as rose_names (λ fs. RoseFields (RoseIn n) fs v) (λ fs. RoseFields IsRose fs v) (rose_as (RoseIn n) IsRose (λ k w p. (n, p)) v) m h
+
 pub rose_node : (m : Msg) → Readable IsRose m → Readable IsNode m
-rose_node m (v, (zero, h)) = absurd h
-rose_node m (v, (suc n, h)) = (
-  v,
-  fields_as rose_names (λ fs. RoseFields (RoseIn n) fs v) (λ fs. RoseFields IsRose fs v)
-      (rose_as (RoseIn n) IsRose (λ k w p. (n, p)) v) m h,
-)
+rose_node m (v, h) = (v, rose_out m v h)

@@ -1,6 +1,7 @@
 //! The types that lead back to themselves are read as they were written.
 ghost use Rattle.test_recursive.specs.ReadBack.{nested_some, nested_round, nested_other, tree_some, tree_round, tree_other};
 ghost use Rattle.test_recursive.specs.ReadBack.{rose_some, rose_round, rose_other};
+ghost use Rattle.test_recursive.specs.ReadOnly.{SameNested, SameRose, SameTree, nested_only, rose_only, tree_only};
 
 use crate::recursive::{Nested, Rose, Tree};
 use rmp_round_trip::{NeverNil, RoundTrip};
@@ -10,6 +11,10 @@ impl<'de, R: ReadSlice<'de>> RoundTrip<'de, R> for Nested {
     ghost has_data = { λ human v. nested_some v };
 
     ghost round = { λ lent s v fits. nested_round s v };
+
+    ghost same = { SameNested };
+
+    ghost only = { λ s v fits. nested_only s v };
 }
 
 impl NeverNil for Nested {
@@ -20,6 +25,10 @@ impl<'de, R: ReadSlice<'de>> RoundTrip<'de, R> for Tree {
     ghost has_data = { λ human v. tree_some v };
 
     ghost round = { λ lent s v fits. tree_round s v fits };
+
+    ghost same = { SameTree };
+
+    ghost only = { λ s v fits. tree_only s v };
 }
 
 impl NeverNil for Tree {
@@ -30,6 +39,10 @@ impl<'de, R: ReadSlice<'de>> RoundTrip<'de, R> for Rose {
     ghost has_data = { λ human v. rose_some v };
 
     ghost round = { λ lent s v fits. rose_round s v };
+
+    ghost same = { SameRose };
+
+    ghost only = { λ s v fits. rose_only s v };
 }
 
 impl NeverNil for Rose {

@@ -1,6 +1,8 @@
 //! Structs of many fields that are declared alone, whose implementations and proofs tools/derive.py wrote.
 #![tactic(auto)]
 
+mod mixed;
 mod papers;
 
+pub use mixed::{Course, Spot, Voyage};
 pub use papers::{Chart, Papers};

@@ -10,6 +10,8 @@ mod frames;
 #[cfg(test)]
 mod lines;
 #[cfg(test)]
+mod notes;
+#[cfg(test)]
 mod reads;
 #[cfg(test)]
 mod records;

@@ -1,5 +1,5 @@
 //! What the calls of the example `example_records` come to: records, and a cut one.
-use example_records::{Records, replay};
+use example_records::{Records, Tail, replay, tail_of};
 use rmp_serde::Value;
 use rmp_serde::decode::Error;
 
@@ -18,4 +18,11 @@ fn whole_records_come_back_in_order(rt: HostRuntime) -> Result<(), Error> {
     assert!(rt; read.as_slice() == [first, second].as_slice());
     assert_eq!(rt; rest.len(), 4);
     Ok(())
+}
+
+#[test]
+fn a_cut_tail_is_told_from_a_broken_one(rt: HostRuntime) {
+    assert_eq!(rt; tail_of(b""), Tail::Clean);
+    assert_eq!(rt; tail_of(b"\x92\x2a\xa2i"), Tail::Cut);
+    assert_eq!(rt; tail_of(b"\x92\x2a\xc1"), Tail::Broken);
 }

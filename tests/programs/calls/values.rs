@@ -1,8 +1,11 @@
 //! What the public calls of `rmp_serde` come to.
+mod canonical;
 mod check;
 mod example;
+mod messages;
 mod own_types;
 mod parts;
 mod raw;
 mod reads;
+mod scan;
 mod text;

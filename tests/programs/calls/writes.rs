@@ -102,6 +102,14 @@ fn forced_bytes(rt: HostRuntime) -> Result<(), Fail> {
 }
 
 #[test]
+fn the_mode_is_normal_by_default(rt: HostRuntime) -> Result<(), Fail> {
+    assert!(rt; BytesMode::default() == BytesMode::Normal);
+    let some = vec![in rt.alloc(); 1u8, 2]?;
+    assert!(rt; is_forced(&rt, BytesMode::default(), &some, b"\x92\x01\x02")?);
+    Ok(())
+}
+
+#[test]
 fn unknown_lengths(rt: HostRuntime) -> Result<(), Fail> {
     let mut se = Serializer::new(rt.alloc(), Vec::new(rt.alloc()));
     let mut list = se.serialize_seq(None)?;

@@ -1,24 +1,28 @@
-//! A message of any kind.
-ghost use Rattle.std.specs.Prelude.{◌≡◌, ◌≢◌, ◌<◌, false, true, ℕ, Bool, Ok, IfOk, IfErr};
+//! A message of any kind, by its parts or by its head alone.
+ghost use Rattle.std.specs.Prelude.{◌≡◌, ◌≢◌, ◌<◌, false, true, ℕ, Bool, Ok, IfOk, IfErr, OnOk, OnErr};
 ghost use Rattle.std.specs.Borrow.{sem, RestsIfErr};
 ghost use Rattle.std.specs.String.{string_bytes};
 ghost use Rattle.rmp_decode.specs.contracts.deserializer.Deserializer.{the_row};
-ghost use Rattle.rmp_decode.specs.Anys.{any_name, OpensAny, FailsToOpenAny, leaf_value, leaf_lender, raw_len};
-ghost use Rattle.rmp_decode.specs.Anys.{raw_tag, raw_lender, TakesContent, FailsContent, FailsToLend, FailsText};
+ghost use Rattle.rmp_decode.specs.Anys.{any_name, OpensAny, FailsToOpenAny, leaf_value, leaf_lender, raw_len, raw_tag, raw_lender, TakesContent, FailsContent};
+ghost use Rattle.rmp_decode.specs.Anys.{FailsToLend, FailsText};
 ghost use Rattle.rmp_decode.specs.Law.{ReadsHead};
 ghost use Rattle.rmp_decode.specs.Skip.{parts_head};
-ghost use Rattle.rmp_decode.specs.State.{failed_of};
+ghost use Rattle.rmp_decode.specs.State.{failed_of, room_of, is_failed, kept_of};
+ghost use Rattle.rmp_decode.specs.Fronts.{TakesFront};
+ghost use Rattle.rmp_decode.specs.Steps.{AppendsContent, AppendsText};
+ghost use Rattle.rmp_decode.specs.declared.deserializer.Kept.TheVariants.{Nothing};
 
 use crate::access::map::MapAccess;
 use crate::access::seq::SeqAccess;
 use crate::content::ReadContent;
 use crate::content::pieces::lent;
 use crate::deserializer::Deserializer;
-use crate::deserializer::skip::parts_in;
+use crate::deserializer::peek::OneByteHead;
 use crate::error::Error;
 use crate::text::Text;
 use rmp_wire::config::SerializerConfig;
 use rmp_wire::{Head, Marker, ReadSlice, Source};
+use std::str;
 
 /// A leaf that was read whole. The reader is ready again.
 #[derive(Drop)]
@@ -36,7 +40,7 @@ impl<'x, R, C, T: Copy> Leaf<'x, R, C, T> {
         self.value
     }
 
-    /// Fails the reader for good, and answers the error: what a type does that doesn't want such a leaf.
+    /// Leaves the reader failed, and returns the error: what a type does that doesn't take such a leaf.
     pub fn refuse(self, error: Error) -> Error
         ensures same { result ≡ error }
         ensures reader { self.exit.0.now ≡ failed_of (leaf_lender self.entry) }
@@ -48,7 +52,7 @@ impl<'x, R, C, T: Copy> Leaf<'x, R, C, T> {
 
 /// The content of a text, of bytes or of an extension, which is still to be read.
 ///
-/// While it stands the reader counts as failed; reading the content makes it ready again.
+/// While it exists the reader counts as failed. Reading the content makes it ready again.
 #[derive(Drop)]
 pub struct RawAccess<'x, R, C> {
     de: &'x mut Deserializer<R, C>,
@@ -118,7 +122,7 @@ impl<'x, R: Source, C: SerializerConfig> RawAccess<'x, R, C> {
         }
     }
 
-    /// Lends the bytes for the input's whole life, without memory.
+    /// Borrows the bytes from the input, for as long as it lives, and allocates nothing.
     ///
     /// # Errors
     /// `InvalidDataRead` where they end too soon or the source failed, and `Syntax("invalid type")` where it doesn't lend.
@@ -147,16 +151,25 @@ impl<'x, R: Source, C: SerializerConfig> RawAccess<'x, R, C> {
 /// A message of any kind: a leaf that was read, or the access to what the message holds.
 #[derive(Drop)]
 pub enum Any<'x, R, C> {
+    /// Nil.
     Nil(Leaf<'x, R, C, ()>),
+    /// `true` or `false`.
     Truth(Leaf<'x, R, C, bool>),
+    /// A whole number.
     Whole(Leaf<'x, R, C, i128>),
+    /// The bits of a 32-bit float.
     F32Bits(Leaf<'x, R, C, u32>),
+    /// The bits of a 64-bit float.
     F64Bits(Leaf<'x, R, C, u64>),
     /// The bytes of a text, which may be no UTF-8.
     Text(RawAccess<'x, R, C>),
+    /// Bytes.
     Bytes(RawAccess<'x, R, C>),
+    /// A list: its elements are still to be read.
     Seq(SeqAccess<'x, R, C>),
+    /// A map: its pairs are still to be read.
     Map(MapAccess<'x, R, C>),
+    /// An extension: its bytes are still to be read.
     Ext(RawAccess<'x, R, C>),
 }
 
@@ -169,7 +182,7 @@ impl<R: Source, C: SerializerConfig> Deserializer<R, C> {
         ensures err { IfErr result (FailsToOpenAny R.Source self.old self.new) }
     {
         match self.head() {
-            Ok((marker, head)) => match parts_in(head) {
+            Ok((marker, head)) => match head.as_parts() {
                 Some((_, _)) => {
                     if self.room <= 1 {
                         return Err(Error::DepthLimitExceeded);
@@ -240,6 +253,101 @@ impl<R: Source, C: SerializerConfig> Deserializer<R, C> {
                 })),
             },
             Err(e) => Err(e),
+        }
+    }
+
+    /// How deep the next message may nest: below this.
+    #[inline(always)]
+    pub fn room(&self) -> u32
+        ensures { result ≡ room_of self.now }
+    {
+        self.room.max(1)
+    }
+
+    /// Reads the head of a message alone, and leaves what follows it: the payload of a text, of bytes or of an extension, which
+    /// `append_content` takes, or the messages of a list or a map, one after another.
+    ///
+    /// No level of nesting is counted: a caller that reads by heads compares the levels with `room` itself.
+    ///
+    /// # Errors
+    /// `InvalidMarkerRead` where the input ends before the head, `InvalidDataRead` where it ends inside of it, `TypeMismatch` at the
+    /// byte c1, and `NotCanonical` at a head of another width while reading is strict.
+    #[inline(always)]
+    pub fn deserialize_head(&mut self) -> Result<Head, Error>
+        ensures ok { IfOk result (λ h. TakesFront R.Source h self.old (failed_of self.new)) }
+        ensures ready { OnOk result (is_failed self.new ≡ false) }
+        ensures err { IfErr result (λ e. ReadsHead R.Source self.old self.new (Err e)) }
+    {
+        match self.take(OneByteHead) {
+            Some(head) => {
+                self.failed = false;
+                Ok(head)
+            }
+            None => match self.any_head() {
+                Ok(head) => {
+                    self.failed = false;
+                    Ok(head)
+                }
+                Err(e) => Err(e),
+            },
+        }
+    }
+
+    /// Appends the payload of a head that was read, `len` bytes, to a vector.
+    ///
+    /// # Errors
+    /// `InvalidDataRead` where it ends too soon or the source failed, and `OutOfMemory`. The vector stays then.
+    #[inline(always)]
+    pub fn append_content<P: ReadContent<R>>(
+        &mut self,
+        len: u32,
+        bytes: &mut Vec<u8>,
+    ) -> Result<(), Error>
+        requires ready { is_failed self.old ≡ false }
+        requires clean { kept_of self.old ≡ Nothing }
+        ensures ok { OnOk result (AppendsContent R.Source len self.old self.new bytes.old.items bytes.new.items) }
+        ensures err { IfErr result (FailsContent R.Source len (failed_of self.old) self.new) }
+        ensures kept { OnErr result (bytes.new.items ≡ bytes.old.items) }
+    {
+        match P::append(&mut self.reader, len as usize, bytes) {
+            Ok(()) => Ok(()),
+            Err(e) => {
+                self.failed = true;
+                Err(e)
+            }
+        }
+    }
+
+    /// Appends the payload of a text, which has to be UTF-8, to a vector.
+    ///
+    /// # Errors
+    /// `Utf8Error` where it isn't UTF-8, and otherwise as `append_content`. The vector stays then.
+    #[inline(always)]
+    pub fn append_text<P: ReadContent<R>>(
+        &mut self,
+        len: u32,
+        bytes: &mut Vec<u8>,
+    ) -> Result<(), Error>
+        requires ready { is_failed self.old ≡ false }
+        requires clean { kept_of self.old ≡ Nothing }
+        ensures ok { OnOk result (AppendsText R.Source len self.old self.new bytes.old.items bytes.new.items) }
+        ensures err { IfErr result (FailsText R.Source len (failed_of self.old) self.new) }
+        ensures kept { OnErr result (bytes.new.items ≡ bytes.old.items) }
+    {
+        let at = bytes.len();
+        match P::append(&mut self.reader, len as usize, bytes) {
+            Ok(()) => match str::from_utf8(&bytes[at..]) {
+                Ok(_) => Ok(()),
+                Err(e) => {
+                    bytes.truncate(at);
+                    self.failed = true;
+                    Err(Error::Utf8Error(e))
+                }
+            },
+            Err(e) => {
+                self.failed = true;
+                Err(e)
+            }
         }
     }
 }

@@ -1,5 +1,5 @@
 //! The fields of structs, one after another.
-ghost use Rattle.std.specs.Prelude.{◌≡◌, ◌≢◌, ◌-◌, ◌<◌, ◌≤◌, ◌^◌, ℕ, Some, None, true};
+ghost use Rattle.std.specs.Prelude.{◌≡◌, ◌≢◌, ◌-◌, ◌<◌, ◌≤◌, ◌^◌, Some, None, true};
 ghost use Rattle.std.specs.Prelude.{false, length, IfSome, IfNone, IfOk, IfErr, OnOk, OnErr, MatchResult, max};
 ghost use Rattle.std.specs.Int.{bit_at};
 ghost use Rattle.std.specs.Io.KnownBytes.{IsAtEnd};
@@ -8,12 +8,12 @@ ghost use Rattle.rmp_decode.specs.Variants.{is_bare, variant_lender, content_roo
 ghost use Rattle.rmp_decode.specs.With.{OffersPart};
 ghost use Rattle.std.specs.Borrow.{sem, RestsIfErr};
 ghost use Rattle.rmp_decode.specs.contracts.deserializer.Deserializer.{the_row};
-ghost use Rattle.rmp_decode.specs.FieldAccess.{OpensStruct, IsStructOpen, SameStruct, AtField, AtFieldValue};
+ghost use Rattle.rmp_decode.specs.FieldAccess.{IsStructOpen, SameStruct, AtField, AtFieldValue};
 ghost use Rattle.rmp_decode.specs.FieldAccess.{TakesPlace, TakesPlaceAs, NoPlace, FailsPlace, NoName};
 ghost use Rattle.rmp_decode.specs.FieldAccess.{TakesName, FailsName, EndsEarly, Meets, TakesField, FailsField, ValueRefused, FailsKey, FailsToPass, is_of_map};
 ghost use Rattle.rmp_decode.specs.FieldAccess.{fields_left, fields_in, owes_field, is_struct_sound, struct_lender};
 ghost use Rattle.rmp_decode.specs.FieldAccess.{names_in, as_map, unsound, OpensStructIn, FailsToOpenStructOf};
-ghost use Rattle.rmp_decode.specs.Fields.{FailsToOpenFields, HasFields, not_fields, fields_head};
+ghost use Rattle.rmp_decode.specs.Fields.{HasFields, not_fields, fields_head};
 ghost use Rattle.rmp_decode.specs.Law.{IsFailedBefore, Explains, TakesHead};
 ghost use Rattle.rmp_decode.specs.Maps.{IsMapOpen, AtKey, TakesKey, TakesValue};
 ghost use Rattle.rmp_decode.specs.Names.{bytes_of, IsName};
@@ -22,7 +22,7 @@ ghost use Rattle.rmp_decode.specs.State.{left, config_of, faults_of, is_failed, 
 ghost use Rattle.rmp_decode.specs.declared.deserializer.Kept.TheVariants.{Nothing};
 ghost use Rattle.rmp_decode.specs.Parts.{FailsPart};
 
-pub(crate) mod by;
+pub(crate) mod recursive;
 mod with;
 
 use crate::access::fields::Passed;
@@ -37,7 +37,7 @@ use rmp_wire::{ReadSlice, Source};
 
 /// The fields of a struct that is being read, each its place among the names and then its value.
 ///
-/// While it stands the reader counts as failed; `end` makes it ready again, and one that is dropped before leaves it failed.
+/// While it exists the reader counts as failed. `end` makes it ready again; an access that is dropped before leaves it failed.
 #[derive(Drop)]
 pub struct FieldAccess<'x, R, C> {
     pub(crate) de: &'x mut Deserializer<R, C>,
@@ -59,55 +59,6 @@ fn bit_of(place: usize) -> u128
     ensures { place < 128 → result ≡ 2 ^ place }
 {
     if place < 128 { 1 << place } else { 0 }
-}
-
-impl<R: Source, C: SerializerConfig> Deserializer<R, C> {
-    /// Opens the fields of a struct: a list, bytes as the list of their numbers, or a map from the names. The struct's name
-    /// isn't looked at. There may be 128 names.
-    ///
-    /// # Errors
-    /// `Syntax("invalid type")` for another kind, and `DepthLimitExceeded` for a list or a map that would nest too deep.
-    #[inline(always)]
-    pub fn deserialize_struct<'x>(
-        &'x mut self,
-        _name: &str,
-        names: &'x [&'x str],
-    ) -> Result<FieldAccess<'x, R, C>, Error>
-        requires few { length names.now ≤ 128 }
-        ensures* refused { sem 𝓛 (RestsIfErr (the_row R.row C.row) self.entry (λ a. a.de.ghost_name) result
-            (λ last. IfErr result (FailsToOpenFields R.Source self.old last))) }
-        ensures same_reference { IfOk result (λ a. a.de.ghost_name ≡ self.entry.ghost_name) }
-        ensures opened { IfOk result (OpensStruct R.Source (bytes_of names.now) self.old) }
-    {
-        let room = self.room;
-        match self.open_struct() {
-            Ok((Some(bytes), left)) => Ok(FieldAccess {
-                de: self,
-                names,
-                left,
-                count: left,
-                inner: inner_room(room, bytes),
-                is_map: false,
-                bytes,
-                owes: false,
-                sound: true,
-                met: 0,
-            }),
-            Ok((None, left)) => Ok(FieldAccess {
-                de: self,
-                names,
-                left,
-                count: left,
-                inner: room.saturating_sub(1),
-                is_map: true,
-                bytes: false,
-                owes: false,
-                sound: true,
-                met: 0,
-            }),
-            Err(e) => Err(e),
-        }
-    }
 }
 
 impl<R: Source, C: SerializerConfig> Deserializer<R, C> {
@@ -262,7 +213,7 @@ impl<'x, R: Source, C: SerializerConfig> FieldAccess<'x, R, C> {
         Ok(Some(place))
     }
 
-    // Keeps in mind that a field was met, unless it was before.
+    // Notes that a field was met, unless it was met before.
     #[inline(always)]
     fn meet(&mut self, place: usize) -> Result<(), Error>
         ensures same_reference { self.new.de.ghost_name ≡ self.old.de.ghost_name }
@@ -322,7 +273,7 @@ impl<'x, R: Source, C: SerializerConfig> FieldAccess<'x, R, C> {
         }
     }
 
-    // Takes the next byte of bytes and keeps it back; another value stands ready.
+    // Takes the next byte of bytes and keeps it back. Before another value it does nothing.
     #[inline(always)]
     fn offer(&mut self) -> Result<(), Error>
         ensures same_reference { self.new.de.ghost_name ≡ self.old.de.ghost_name }
@@ -388,10 +339,10 @@ impl<'x, R: Source, C: SerializerConfig> FieldAccess<'x, R, C> {
         }
     }
 
-    /// What stands for a field that isn't there: in a map what its type says, and in a list nothing.
+    /// The value of a field that is missing: in a map what its type says, and in a list none.
     ///
     /// # Errors
-    /// `Syntax("missing field")` where nothing stands for it.
+    /// `Syntax("missing field")` where there is none.
     #[inline(always)]
     pub fn missing_field<'de, T: Deserialize<'de, R>>(&mut self) -> Result<T, Error>
     where
@@ -416,7 +367,7 @@ impl<'x, R: Source, C: SerializerConfig> FieldAccess<'x, R, C> {
         Err(Error::Syntax(Text::MissingField))
     }
 
-    /// Ends the reading, and makes the reader ready again.
+    /// Ends the struct, and makes the reader ready again.
     ///
     /// The value of each field whose place was answered has to be read first.
     ///
@@ -459,7 +410,7 @@ impl<'x, R: Source, C: SerializerConfig> Variant<'x, R, C> {
     /// names, of which there may be 128. The fields' end is that of the variant.
     ///
     /// # Errors
-    /// `Syntax("invalid type")` where the name stands alone, and otherwise as `deserialize_struct`.
+    /// `Syntax("invalid type")` where the variant is its name alone, and otherwise as `deserialize_struct`.
     #[inline(always)]
     pub fn struct_variant(self, names: &'x [&'x str]) -> Result<FieldAccess<'x, R, C>, Error>
         requires few { length names.now ≤ 128 }

@@ -1,18 +1,16 @@
-//! The fields of structs, which are named, or stand in order.
-mod fours;
+//! The fields of structs, by name or in order.
+mod wide;
 
 ghost use Rattle.std.specs.Prelude.{◌≡◌, ◌≢◌, ◌⊎◌, ◌<◌, ◌≤◌, ◌||◌, ℕ, Bool, List, Option, None, Some, true};
-ghost use Rattle.std.specs.Prelude.{false, length, IfErr, IfOk, IfSome, IfNone, OnOk, OnErr, MatchOption, MatchResult, max};
+ghost use Rattle.std.specs.Prelude.{false, length, IfErr, IfOk, IfSome, IfNone, MatchOption, max};
 ghost use Rattle.std.specs.Borrow.{sem, RestsIfErr};
 ghost use Rattle.rmp_wire.specs.Msg.{Msg, Msgs};
 ghost use Rattle.rmp_decode.specs.contracts.deserializer.Deserializer.{the_row};
-ghost use Rattle.rmp_decode.specs.Fields.{OfFields, Field, Absent, NoField, Slot, AreBlank, fields_head, parts_name};
+ghost use Rattle.rmp_decode.specs.Fields.{OfFields, Field, Absent, NoField, Slot, AreBlank, parts_name};
 ghost use Rattle.rmp_decode.specs.Fields.{OpensFields, FailsToOpenFields, at, given_all, Fills, IsFull, name_refusal, pass_refusal};
 ghost use Rattle.rmp_decode.specs.FieldRefusing.{PartsHold, FillRefused, RefusesFields};
 ghost use Rattle.rmp_decode.specs.FieldRows.{TakesRow, FailsRow, ReadsRow, MissesRow, in_row};
-ghost use Rattle.rmp_decode.specs.Fronts.{TakesFront};
-ghost use Rattle.rmp_decode.specs.Kinds.{Finds};
-ghost use Rattle.rmp_decode.specs.Law.{Lawful, TakesHead};
+ghost use Rattle.rmp_decode.specs.Law.{Lawful};
 ghost use Rattle.rmp_decode.specs.MapRefusing.{PartRefused, KeyRefused};
 ghost use Rattle.rmp_decode.specs.Maps.{IsMapOpen, AtValue, TakesKey, pairs_left, map_lender, map_inner};
 ghost use Rattle.rmp_decode.specs.Names.{bytes_of, IsName};
@@ -20,18 +18,18 @@ ghost use Rattle.rmp_decode.specs.NamesAhead.{IsBelow};
 ghost use Rattle.rmp_decode.specs.Parts.{TakesPart, FailsPart};
 ghost use Rattle.rmp_decode.specs.Refusing.{Setting, Part, RefusesAs, RefusesParts, RefusesTuple, PartsRefused, setting_of, no_refusal};
 ghost use Rattle.rmp_decode.specs.Seq.{IsOpen, OfRow, TakesParts, FailsParts, lender_of};
-ghost use Rattle.rmp_decode.specs.State.{left, config_of, faults_of, kept_of, is_failed, Stays};
+ghost use Rattle.rmp_decode.specs.State.{left, config_of, faults_of, kept_of, is_failed};
 ghost use Rattle.rmp_decode.specs.declared.deserializer.Kept.TheVariants.{Nothing};
 
 use crate::access::map::MapAccess;
 use crate::access::seq::{SeqAccess, inner_room};
 use crate::de::Deserialize;
 use crate::deserializer::Deserializer;
-use crate::deserializer::fronts::list_at;
+use crate::deserializer::peek::ListOf;
 use crate::error::Error;
 use crate::text::Text;
 use rmp_wire::config::SerializerConfig;
-use rmp_wire::{Head, ReadSlice, Source};
+use rmp_wire::{ReadSlice, Source};
 
 /// The fields of a struct in the order of their names: a pair of the first one's value and the others, a tuple of the first four and the others,
 /// or `()` for none.
@@ -348,7 +346,7 @@ enum FieldParts<'x, R, C> {
 
 // Why something was refused.
 #[inline(always)]
-fn given(refusal: Option<Error>) -> Error
+fn refusal_in(refusal: Option<Error>) -> Error
     requires { refusal ≢ None }
     ensures { refusal ≡ Some result }
 {
@@ -358,21 +356,8 @@ fn given(refusal: Option<Error>) -> Error
     }
 }
 
-// Whether it is bytes, of a list; `None` of a map; and how many elements or pairs follow.
-#[inline(always)]
-fn parts_of(head: Head) -> Option<(Option<bool>, u32)>
-    ensures { Finds (λ h p. h ≡ fields_head p.0 p.1) head result }
-{
-    match head {
-        Head::Bin(n) => Some((Some(true), n)),
-        Head::Array(n) => Some((Some(false), n)),
-        Head::Map(n) => Some((None, n)),
-        _ => None,
-    }
-}
-
 impl<R: Source, C: SerializerConfig> Deserializer<R, C> {
-    // Reads which of the names a key is, and stays failed until the access to the pairs ends.
+    // Reads which of the names a key is. The reader stays failed until the access ends.
     #[inline(always)]
     pub(crate) fn name_part<'de>(
         &mut self,
@@ -402,8 +387,8 @@ impl<R: Source, C: SerializerConfig> Deserializer<R, C> {
         }
     }
 
-    // The same, of the place of the name, or where the key is none of them of the count of the names. Why it is refused is put into
-    // `refusal`, by a call.
+    // Reads the place of the name that a key is, or the count of the names where it is none of them. A refusal is put into `refusal`. Out
+    // of line.
     #[inline(never)]
     fn place_part<'de>(
         &mut self,
@@ -427,60 +412,6 @@ impl<R: Source, C: SerializerConfig> Deserializer<R, C> {
                 *refusal = Some(why);
                 None
             }
-        }
-    }
-
-    // Takes the head of a list, of bytes, or of a map. That of a short list or a short map is read where it lies.
-    #[inline(always)]
-    pub(crate) fn open_struct(&mut self) -> Result<(Option<bool>, u32), Error>
-        ensures ok { IfOk result (λ p. TakesHead R.Source (fields_head p.0 p.1) self.old self.new) }
-        ensures deep { IfOk result (λ p. p.0 ≢ Some true → 1 < self.old.room) }
-        ensures stays { Stays R.Source self.old self.new }
-        ensures sound { OnOk result (faults_of R.Source self.new ≡ faults_of R.Source self.old) }
-        ensures fresh { OnOk result (is_failed self.old ≡ false) }
-        ensures clean { OnOk result (kept_of self.new ≡ Nothing) }
-        ensures failed { is_failed self.new ≡ true }
-        ensures err { IfErr result (FailsToOpenFields R.Source self.old self.new) }
-    {
-        match self.list_front() {
-            Some(len) => Ok((Some(false), len)),
-            None => match self.map_front() {
-                Some(len) => Ok((None, len)),
-                None => self.headed_struct(),
-            },
-        }
-    }
-
-    // The same by way of `head`, by a call.
-    #[inline(never)]
-    fn headed_struct(&mut self) -> Result<(Option<bool>, u32), Error>
-        ensures ok { IfOk result (λ p. TakesHead R.Source (fields_head p.0 p.1) self.old self.new) }
-        ensures deep { IfOk result (λ p. p.0 ≢ Some true → 1 < self.old.room) }
-        ensures stays { Stays R.Source self.old self.new }
-        ensures sound { OnOk result (faults_of R.Source self.new ≡ faults_of R.Source self.old) }
-        ensures fresh { OnOk result (is_failed self.old ≡ false) }
-        ensures clean { OnOk result (kept_of self.new ≡ Nothing) }
-        ensures failed { is_failed self.new ≡ true }
-        ensures err { IfErr result (FailsToOpenFields R.Source self.old self.new) }
-    {
-        match self.head() {
-            Ok((_, head)) => match parts_of(head) {
-                Some((Some(true), len)) => Ok((Some(true), len)),
-                Some((Some(false), len)) => {
-                    if self.room <= 1 {
-                        return Err(Error::DepthLimitExceeded);
-                    }
-                    Ok((Some(false), len))
-                }
-                Some((None, len)) => {
-                    if self.room <= 1 {
-                        return Err(Error::DepthLimitExceeded);
-                    }
-                    Ok((None, len))
-                }
-                None => Err(Error::Syntax(Text::InvalidType)),
-            },
-            Err(e) => Err(e),
         }
     }
 
@@ -511,33 +442,6 @@ impl<R: Source, C: SerializerConfig> Deserializer<R, C> {
                 sound: true,
             })),
             Err(e) => Err(e),
-        }
-    }
-
-    // Takes the head of a list of so many elements, up to 15, where it lies in memory, and leaves this failed until they are read. Else
-    // nothing is taken.
-    #[inline(always)]
-    fn row_front(&mut self, count: usize) -> bool
-        ensures deep { result ≡ true → 1 < self.old.room }
-        ensures taken { result ≡ true → TakesFront R.Source (Head.Array count) self.old self.new }
-        ensures kept { result ≡ false → self.new ≡ self.old }
-    {
-        if self.room <= 1 {
-            return false;
-        }
-        if !self.begins_ahead() {
-            return false;
-        }
-        match list_at(self.reader.front()) {
-            Some(n) => {
-                if n as usize == count && self.reader.skip(1) {
-                    self.failed = true;
-                    true
-                } else {
-                    false
-                }
-            }
-            None => false,
         }
     }
 
@@ -584,17 +488,17 @@ impl<R: Source, C: SerializerConfig> Deserializer<R, C> {
         ensures refused { RefusesAs R.Source (C.human (config_of self.old)) R.lends (RefusesTuple F.parts) self.old self.new result }
         ensures memory { F.takes_memory R.lends ≡ false → IfErr result (λ e. e ≢ Error.OutOfMemory) }
     {
-        if self.row_front(count) {
-            return self.row_ahead();
-        }
-        match self.opened_tuple(count) {
-            Ok(values) => Ok(values),
-            Err(e) => Err(e),
+        match self.take_nested(ListOf { count }) {
+            Some(()) => self.row_ahead(),
+            None => match self.opened_tuple(count) {
+                Ok(values) => Ok(values),
+                Err(e) => Err(e),
+            },
         }
     }
 
-    // The same, of elements that are counted as they are read. It has no hint: beside a row that lies ahead it is too large to be inlined, and
-    // seldom runs. Its answer is taken apart where it is called, so that the caller's own stays out of memory.
+    // Reads a tuple whose elements are counted as they are read. It is seldom called, and too large to be inlined beside the fast path. The
+    // caller destructures its result, so that the caller's own result stays in registers.
     fn opened_tuple<'de, F: Fields<'de, R>>(&mut self, count: usize) -> Result<F, Error>
     where
         R: ReadSlice<'de>,
@@ -617,7 +521,7 @@ impl<R: Source, C: SerializerConfig> Deserializer<R, C> {
     }
 
     /// Reads the fields of a struct, from a list, from bytes as the list of their numbers, or from a map by the names. In a map
-    /// they stand in any order, and what is of no name is passed over; for one that isn't there stands what its type says.
+    /// they come in any order, and unknown names are skipped. A missing field has the value that its type says.
     ///
     /// # Errors
     /// Those of the fields' types; `Syntax("invalid type")` for another kind, and for a key that is no text, bytes or number
@@ -634,16 +538,16 @@ impl<R: Source, C: SerializerConfig> Deserializer<R, C> {
         ensures refused { RefusesAs R.Source (C.human (config_of self.old)) R.lends (RefusesFields (bytes_of names.now) F.reads F.parts) self.old self.new
             result }
     {
-        if self.row_front(names.len()) {
-            return self.row_ahead();
-        }
-        match self.opened_fields(names) {
-            Ok(values) => Ok(values),
-            Err(e) => Err(e),
+        match self.take_nested(ListOf { count: names.len() }) {
+            Some(()) => self.row_ahead(),
+            None => match self.opened_fields(names) {
+                Ok(values) => Ok(values),
+                Err(e) => Err(e),
+            },
         }
     }
 
-    // The same, of elements or pairs that are counted as they are read.
+    // Reads fields from elements or pairs that are counted as they are read.
     #[inline(always)]
     fn opened_fields<'de, F: Fields<'de, R>>(&mut self, names: &[&str]) -> Result<F, Error>
     where
@@ -671,7 +575,7 @@ impl<R: Source, C: SerializerConfig> Deserializer<R, C> {
                 while map.left > 0 {
                     let place = match map.next_place(names, &mut refusal) {
                         Some(place) => place,
-                        None => return Err(given(refusal)),
+                        None => return Err(refusal_in(refusal)),
                     };
                     if place >= names.len() {
                         match map.next_value::<Passed>() {
@@ -680,7 +584,7 @@ impl<R: Source, C: SerializerConfig> Deserializer<R, C> {
                         }
                     }
                     if !F::fill(&mut slots, &mut refusal, place, &mut map) {
-                        return Err(given(refusal));
+                        return Err(refusal_in(refusal));
                     }
                 }
                 let Some(values) = F::finish(slots) else {
@@ -714,7 +618,7 @@ impl<'x, R: Source, C: SerializerConfig> MapAccess<'x, R, C> {
         ensures refused { IfNone result (IfSome refusal.new
             (KeyRefused R.Source (C.human (config_of (map_lender self.old))) R.lends name_refusal self.old self.new)) }
     {
-        match self.de.name_ahead(names, false) {
+        match self.de.take_name(names, false) {
             Some(place) => {
                 self.left -= 1;
                 self.owes = true;

@@ -1,15 +1,11 @@
 //! Maps, key by key and value by value.
-ghost use Rattle.std.specs.Prelude.{◌≡◌, ◌≢◌, ◌-◌, ◌<◌, true, false, IfSome, IfNone, IfOk, IfErr, OnOk, OnErr, MatchResult, max};
-ghost use Rattle.std.specs.Borrow.{sem, RestsIfErr};
-ghost use Rattle.rmp_decode.specs.contracts.deserializer.Deserializer.{the_row};
-ghost use Rattle.rmp_decode.specs.Kinds.{Finds};
-ghost use Rattle.rmp_decode.specs.Law.{IsFailedBefore, TakesHead};
-ghost use Rattle.rmp_decode.specs.MapRefusing.{PartRefused, EntryRefused, KeyRefused};
-ghost use Rattle.rmp_decode.specs.Maps.{OpensMap, FailsToOpenMap, IsMapOpen, AtKey, AtValue, TakesKey, TakesValue};
+ghost use Rattle.std.specs.Prelude.{◌≡◌, ◌≢◌, ◌-◌, ◌<◌, true, false, IfSome, IfNone, IfOk, IfErr, OnOk, OnErr, MatchResult};
+ghost use Rattle.rmp_decode.specs.Law.{IsFailedBefore};
+ghost use Rattle.rmp_decode.specs.MapRefusing.{EntryRefused, KeyRefused};
+ghost use Rattle.rmp_decode.specs.Maps.{IsMapOpen, AtKey, AtValue, TakesKey, TakesValue};
 ghost use Rattle.rmp_decode.specs.Maps.{pairs_left, pairs_in, owes_value, is_map_sound, map_lender, map_inner};
-ghost use Rattle.rmp_decode.specs.Parts.{TakesPart, FailsPart};
-ghost use Rattle.rmp_decode.specs.State.{faults_of, config_of, is_failed, kept_of, Stays};
-ghost use Rattle.rmp_decode.specs.declared.deserializer.Kept.TheVariants.{Nothing};
+ghost use Rattle.rmp_decode.specs.Parts.{FailsPart};
+ghost use Rattle.rmp_decode.specs.State.{config_of};
 
 mod with;
 
@@ -18,11 +14,11 @@ use crate::deserializer::Deserializer;
 use crate::error::Error;
 use crate::text::Text;
 use rmp_wire::config::SerializerConfig;
-use rmp_wire::{Head, ReadSlice, Source};
+use rmp_wire::{ReadSlice, Source};
 
 /// The pairs of a map that is being read, each a key and then its value.
 ///
-/// While it stands the reader counts as failed; `end` makes it ready again, and one that is dropped before leaves it failed.
+/// While it exists the reader counts as failed. `end` makes it ready again; an access that is dropped before leaves it failed.
 #[derive(Drop)]
 pub struct MapAccess<'x, R, C> {
     pub(crate) de: &'x mut Deserializer<R, C>,
@@ -31,70 +27,6 @@ pub struct MapAccess<'x, R, C> {
     pub(crate) inner: u32,
     pub(crate) owes: bool,
     pub(crate) sound: bool,
-}
-
-// How many pairs follow.
-#[inline(always)]
-pub(crate) fn map_in(head: Head) -> Option<u32>
-    ensures { Finds (λ h n. h ≡ Head.Map n) head result }
-{
-    match head {
-        Head::Map(n) => Some(n),
-        _ => None,
-    }
-}
-
-impl<R: Source, C: SerializerConfig> Deserializer<R, C> {
-    // Takes the head of a map.
-    #[inline(always)]
-    fn open_map(&mut self) -> Result<u32, Error>
-        ensures ok { IfOk result (λ n. TakesHead R.Source (Head.Map n) self.old self.new) }
-        ensures deep { OnOk result (1 < self.old.room) }
-        ensures stays { Stays R.Source self.old self.new }
-        ensures sound { OnOk result (faults_of R.Source self.new ≡ faults_of R.Source self.old) }
-        ensures fresh { OnOk result (is_failed self.old ≡ false) }
-        ensures clean { OnOk result (kept_of self.new ≡ Nothing) }
-        ensures failed { is_failed self.new ≡ true }
-        ensures err { IfErr result (FailsToOpenMap R.Source self.old self.new) }
-    {
-        match self.head() {
-            Ok((_, head)) => match map_in(head) {
-                Some(len) => {
-                    if self.room <= 1 {
-                        return Err(Error::DepthLimitExceeded);
-                    }
-                    Ok(len)
-                }
-                None => Err(Error::Syntax(Text::InvalidType)),
-            },
-            Err(e) => Err(e),
-        }
-    }
-
-    /// Opens a map.
-    ///
-    /// # Errors
-    /// `Syntax("invalid type")` for another kind, and `DepthLimitExceeded` for a map that would nest too deep.
-    #[inline(always)]
-    pub fn deserialize_map(&mut self) -> Result<MapAccess<'_, R, C>, Error>
-        ensures* refused { sem 𝓛 (RestsIfErr (the_row R.row C.row) self.entry (λ a. a.de.ghost_name) result
-            (λ last. IfErr result (FailsToOpenMap R.Source self.old last))) }
-        ensures same_reference { IfOk result (λ a. a.de.ghost_name ≡ self.entry.ghost_name) }
-        ensures opened { IfOk result (OpensMap R.Source self.old) }
-    {
-        let room = self.room;
-        match self.open_map() {
-            Ok(left) => Ok(MapAccess {
-                de: self,
-                left,
-                count: left,
-                inner: room.saturating_sub(1),
-                owes: false,
-                sound: true,
-            }),
-            Err(e) => Err(e),
-        }
-    }
 }
 
 impl<'x, R: Source, C: SerializerConfig> MapAccess<'x, R, C> {
@@ -181,7 +113,7 @@ impl<'x, R: Source, C: SerializerConfig> MapAccess<'x, R, C> {
         }
     }
 
-    /// Ends the reading, and makes the reader ready again.
+    /// Ends the map, and makes the reader ready again.
     ///
     /// The value of each key that was read has to be read first.
     ///

@@ -1,4 +1,4 @@
-//! Names, of which a message says one.
+//! Names of fields, of which a message is one.
 ghost use Rattle.std.specs.Prelude.{◌≡◌, ◌≢◌, ◌<◌, ◌≤◌, ℕ, List, true, length, IfErr, IfOk, IfSome, IfNone, OnOk};
 ghost use Rattle.std.specs.Io.KnownBytes.{Consumes};
 ghost use Rattle.rmp_wire.specs.Sources.{IsShort};
@@ -15,8 +15,7 @@ ghost use Rattle.rmp_decode.specs.declared.deserializer.Kept.TheVariants.{Nothin
 
 use crate::content::pieces::error_of;
 use crate::deserializer::Deserializer;
-use crate::deserializer::fronts::text_at;
-use crate::deserializer::kinds::{raw_in, whole_in};
+use crate::deserializer::peek::{Peek, TextHead};
 use crate::error::Error;
 use crate::text::Text;
 use rmp_wire::config::SerializerConfig;
@@ -47,14 +46,14 @@ fn place_or_count(names: &[&str], key: &[u8]) -> usize
     }
 }
 
-// A text that stands at the front whole: the place of the name that it is, or where it is none the count of the names; and the
-// count of its bytes, with its head.
+// A whole text at the front: the place of the name that it is, or the count of the names where it is none; and the count of its
+// bytes, with its head.
 #[inline(always)]
 fn name_at(front: &[u8], strict: bool, names: &[&str]) -> Option<(usize, usize)>
     ensures lies { IfSome result (λ p. TextLies strict p.1 (λ s. below (length names.now) p.0 ≡ place_of (bytes_of names.now) s) front.now) }
     ensures within { IfSome result (λ p. p.0 ≤ length names.now) }
 {
-    match text_at(front, strict) {
+    match TextHead.at(front, strict) {
         Some((len, head)) => {
             let end = head + len as usize;
             if end > front.len() {
@@ -116,15 +115,15 @@ impl<R: Source, C: SerializerConfig> Deserializer<R, C> {
         ensures exact { RefusesLeaf R.Source IsNameHead not_raw never_refused self.old self.new result }
         ensures memory { R.lends ≡ true → IfErr result (λ e. e ≢ Error.OutOfMemory) }
     {
-        match self.text_front() {
-            Some(len) => self.name_behind_text(len, names),
-            None => self.headed_identifier(names),
+        match self.take(TextHead) {
+            Some(len) => self.identifier_payload(len, names),
+            None => self.slow_identifier(names),
         }
     }
 
-    // Reads the text behind a head that was taken, of so many bytes, as the name that it is. They are looked at where they lie.
+    // Reads the payload of a text, `len` bytes, as the name that it is. The bytes are compared where they are buffered.
     #[inline(always)]
-    fn name_behind_text<'de>(&mut self, len: u32, names: &[&str]) -> Result<Option<usize>, Error>
+    fn identifier_payload<'de>(&mut self, len: u32, names: &[&str]) -> Result<Option<usize>, Error>
     where
         R: ReadSlice<'de>,
         ensures law { AfterHead R.Source (IsName (bytes_of names.now)) (Head.Text len) self.old self.new result }
@@ -140,9 +139,9 @@ impl<R: Source, C: SerializerConfig> Deserializer<R, C> {
         }
     }
 
-    // The same as `deserialize_identifier` by way of `head`, by a call.
+    // The slow path of `deserialize_identifier`.
     #[inline(never)]
-    fn headed_identifier<'de>(&mut self, names: &[&str]) -> Result<Option<usize>, Error>
+    fn slow_identifier<'de>(&mut self, names: &[&str]) -> Result<Option<usize>, Error>
     where
         R: ReadSlice<'de>,
         ensures law { Lawful R.Source (IsName (bytes_of names.now)) self.old self.new result }
@@ -153,7 +152,7 @@ impl<R: Source, C: SerializerConfig> Deserializer<R, C> {
             Ok((_, head)) => head,
             Err(e) => return Err(e),
         };
-        match raw_in(head) {
+        match head.as_raw() {
             Some((_, len)) => match next_place(&mut self.reader, names, len as usize) {
                 Ok(place) => {
                     self.failed = false;
@@ -163,7 +162,7 @@ impl<R: Source, C: SerializerConfig> Deserializer<R, C> {
             },
             None => {}
         }
-        match whole_in(head) {
+        match head.as_whole() {
             Some(z) => match place_below(names.len(), z) {
                 Some(place) => {
                     self.failed = false;
@@ -175,10 +174,10 @@ impl<R: Source, C: SerializerConfig> Deserializer<R, C> {
         }
     }
 
-    // Takes a text that lies in memory whole, and answers the place of the name that it is, or where it is none the count of the
-    // names. Where only a name is wanted, another text isn't taken. Else nothing is taken.
+    // Consumes a buffered text, and answers the place of the name that it is, or the count of the names where it is none of them. With
+    // `only_names` another text isn't consumed. Returns `None` and consumes nothing otherwise.
     #[inline(always)]
-    pub(crate) fn name_ahead(&mut self, names: &[&str], only_names: bool) -> Option<usize>
+    pub(crate) fn take_name(&mut self, names: &[&str], only_names: bool) -> Option<usize>
         requires marked { is_failed self.old ≡ true }
         requires clean { kept_of self.old ≡ Nothing }
         ensures taken { IfSome result (λ n. (inner : ℕ) → 0 < inner → TakesPart R.Source (IsBelow (bytes_of names.now)) inner self.old self.new n) }

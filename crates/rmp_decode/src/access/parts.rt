@@ -41,7 +41,7 @@ impl<R: Source, C: SerializerConfig> Deserializer<R, C> {
         }
     }
 
-    // The same by `f`.
+    // Reads a part by `f`, which may nest as deep as `inner` says.
     #[inline(always)]
     pub(crate) fn part_with<X: Drop, F>(&mut self, inner: u32, f: F) -> Result<X, Error>
     where

@@ -1,15 +1,12 @@
 //! Lists, and bytes as the lists of their numbers, element by element.
 ghost use Rattle.std.specs.Prelude.{◌≡◌, ◌≢◌, ◌-◌, ◌<◌, ◌∷◌, ℕ, List, true, false, IfSome, IfNone, IfOk, IfErr, OnOk, OnErr, MatchResult};
-ghost use Rattle.std.specs.Borrow.{sem, RestsIfErr};
 ghost use Rattle.std.specs.Io.KnownBytes.{IsAtEnd};
-ghost use Rattle.rmp_decode.specs.contracts.deserializer.Deserializer.{the_row};
-ghost use Rattle.rmp_decode.specs.Kinds.{Finds};
-ghost use Rattle.rmp_decode.specs.Law.{Explains, IsFailedBefore, TakesHead};
+ghost use Rattle.rmp_decode.specs.Law.{Explains, IsFailedBefore};
 ghost use Rattle.rmp_decode.specs.Exact.{IsDataEnd};
 ghost use Rattle.rmp_decode.specs.Refusing.{element_setting, ElementRefused, WhereSome, Wanted};
-ghost use Rattle.rmp_decode.specs.Seq.{seq_head, Opens, FailsToOpen, IsOpen, TakesElement, FailsToTake, FailsElement};
+ghost use Rattle.rmp_decode.specs.Seq.{IsOpen, TakesElement, FailsToTake, FailsElement};
 ghost use Rattle.rmp_decode.specs.Seq.{KeepsByte, left_in, count_in, in_bytes, is_sound, lender_of};
-ghost use Rattle.rmp_decode.specs.State.{left, faults_of, config_of, is_failed, kept_of, Stays};
+ghost use Rattle.rmp_decode.specs.State.{left, faults_of, config_of, is_failed, Stays};
 ghost use Rattle.rmp_decode.specs.With.{OffersPart};
 ghost use Rattle.rmp_decode.specs.declared.deserializer.Kept.TheVariants.{Nothing};
 
@@ -19,13 +16,12 @@ use crate::de::Deserialize;
 use crate::deserializer::{Deserializer, Kept};
 use crate::error::Error;
 use crate::text::Text;
-use core::mem::replace_with;
 use rmp_wire::config::SerializerConfig;
-use rmp_wire::{Head, IoFault, ReadSlice, Source};
+use rmp_wire::{IoFault, ReadSlice, Source};
 
 /// The elements of a list that is being read, or the numbers of bytes.
 ///
-/// While it stands the reader counts as failed; `end` makes it ready again, and one that is dropped before leaves it failed.
+/// While it exists the reader counts as failed. `end` makes it ready again; an access that is dropped before leaves it failed.
 #[derive(Drop)]
 pub struct SeqAccess<'x, R, C> {
     pub(crate) de: &'x mut Deserializer<R, C>,
@@ -36,230 +32,10 @@ pub struct SeqAccess<'x, R, C> {
     pub(crate) sound: bool,
 }
 
-// Whether it is bytes, and how many elements follow.
-#[inline(always)]
-fn seq_in(head: Head) -> Option<(bool, u32)>
-    ensures { Finds (λ h p. h ≡ seq_head p.0 p.1) head result }
-{
-    match head {
-        Head::Bin(n) => Some((true, n)),
-        Head::Array(n) => Some((false, n)),
-        _ => None,
-    }
-}
-
 impl<R: Source, C: SerializerConfig> Deserializer<R, C> {
-    // Takes the head of a list or of bytes.
+    // Consumes a buffered byte, and keeps it back as a number. Returns `false` and consumes nothing otherwise.
     #[inline(always)]
-    fn open_seq(&mut self) -> Result<(bool, u32), Error>
-        ensures ok { IfOk result (λ p. TakesHead R.Source (seq_head p.0 p.1) self.old self.new) }
-        ensures deep { IfOk result (λ p. p.0 ≡ false → 1 < self.old.room) }
-        ensures stays { Stays R.Source self.old self.new }
-        ensures sound { OnOk result (faults_of R.Source self.new ≡ faults_of R.Source self.old) }
-        ensures fresh { OnOk result (is_failed self.old ≡ false) }
-        ensures clean { OnOk result (kept_of self.new ≡ Nothing) }
-        ensures failed { is_failed self.new ≡ true }
-        ensures err { IfErr result (FailsToOpen R.Source self.old self.new) }
-    {
-        match self.head() {
-            Ok((_, head)) => match seq_in(head) {
-                Some((true, len)) => Ok((true, len)),
-                Some((false, len)) => {
-                    if self.room <= 1 {
-                        return Err(Error::DepthLimitExceeded);
-                    }
-                    Ok((false, len))
-                }
-                None => Err(Error::Syntax(Text::InvalidType)),
-            },
-            Err(e) => Err(e),
-        }
-    }
-
-    // The same, by a call.
-    #[inline(never)]
-    fn headed_seq(&mut self) -> Result<(bool, u32), Error>
-        ensures ok { IfOk result (λ p. TakesHead R.Source (seq_head p.0 p.1) self.old self.new) }
-        ensures deep { IfOk result (λ p. p.0 ≡ false → 1 < self.old.room) }
-        ensures stays { Stays R.Source self.old self.new }
-        ensures sound { OnOk result (faults_of R.Source self.new ≡ faults_of R.Source self.old) }
-        ensures fresh { OnOk result (is_failed self.old ≡ false) }
-        ensures clean { OnOk result (kept_of self.new ≡ Nothing) }
-        ensures failed { is_failed self.new ≡ true }
-        ensures err { IfErr result (FailsToOpen R.Source self.old self.new) }
-    {
-        match self.bin_front() {
-            Some(len) => Ok((true, len)),
-            None => self.open_seq(),
-        }
-    }
-
-    // The same, of a list that is likely to be short: its head is read where it lies.
-    #[inline(always)]
-    pub(crate) fn open_tuple(&mut self) -> Result<(bool, u32), Error>
-        ensures ok { IfOk result (λ p. TakesHead R.Source (seq_head p.0 p.1) self.old self.new) }
-        ensures deep { IfOk result (λ p. p.0 ≡ false → 1 < self.old.room) }
-        ensures stays { Stays R.Source self.old self.new }
-        ensures sound { OnOk result (faults_of R.Source self.new ≡ faults_of R.Source self.old) }
-        ensures fresh { OnOk result (is_failed self.old ≡ false) }
-        ensures clean { OnOk result (kept_of self.new ≡ Nothing) }
-        ensures failed { is_failed self.new ≡ true }
-        ensures err { IfErr result (FailsToOpen R.Source self.old self.new) }
-    {
-        match self.list_front() {
-            Some(len) => Ok((false, len)),
-            None => self.apart_seq(),
-        }
-    }
-
-    // The same, where bytes may be as likely: their head is read where it lies too.
-    #[inline(always)]
-    pub(crate) fn open_row(&mut self, bytes: bool) -> Result<(bool, u32), Error>
-        ensures ok { IfOk result (λ p. TakesHead R.Source (seq_head p.0 p.1) self.old self.new) }
-        ensures deep { IfOk result (λ p. p.0 ≡ false → 1 < self.old.room) }
-        ensures stays { Stays R.Source self.old self.new }
-        ensures sound { OnOk result (faults_of R.Source self.new ≡ faults_of R.Source self.old) }
-        ensures fresh { OnOk result (is_failed self.old ≡ false) }
-        ensures clean { OnOk result (kept_of self.new ≡ Nothing) }
-        ensures failed { is_failed self.new ≡ true }
-        ensures err { IfErr result (FailsToOpen R.Source self.old self.new) }
-    {
-        match self.list_front() {
-            Some(len) => Ok((false, len)),
-            None => {
-                if bytes {
-                    self.open_bytes()
-                } else {
-                    self.apart_seq()
-                }
-            }
-        }
-    }
-
-    // The same of anything but a short list: the head of bytes is read where it lies, if it may have any width.
-    #[inline(always)]
-    fn open_bytes(&mut self) -> Result<(bool, u32), Error>
-        ensures ok { IfOk result (λ p. TakesHead R.Source (seq_head p.0 p.1) self.old self.new) }
-        ensures deep { IfOk result (λ p. p.0 ≡ false → 1 < self.old.room) }
-        ensures stays { Stays R.Source self.old self.new }
-        ensures sound { OnOk result (faults_of R.Source self.new ≡ faults_of R.Source self.old) }
-        ensures fresh { OnOk result (is_failed self.old ≡ false) }
-        ensures clean { OnOk result (kept_of self.new ≡ Nothing) }
-        ensures failed { is_failed self.new ≡ true }
-        ensures err { IfErr result (FailsToOpen R.Source self.old self.new) }
-    {
-        if self.strict {
-            return self.apart_seq();
-        }
-        match self.bin_front() {
-            Some(len) => Ok((true, len)),
-            None => self.apart_seq(),
-        }
-    }
-
-    // The same of a copy of the reader.
-    #[inline(always)]
-    fn apart_seq(&mut self) -> Result<(bool, u32), Error>
-        ensures ok { IfOk result (λ p. TakesHead R.Source (seq_head p.0 p.1) self.old self.new) }
-        ensures deep { IfOk result (λ p. p.0 ≡ false → 1 < self.old.room) }
-        ensures stays { Stays R.Source self.old self.new }
-        ensures sound { OnOk result (faults_of R.Source self.new ≡ faults_of R.Source self.old) }
-        ensures fresh { OnOk result (is_failed self.old ≡ false) }
-        ensures clean { OnOk result (kept_of self.new ≡ Nothing) }
-        ensures failed { is_failed self.new ≡ true }
-        ensures err { IfErr result (FailsToOpen R.Source self.old self.new) }
-    {
-        replace_with(
-            self,
-            (),
-            |mut de: Deserializer<R, C>, _none: ()|
-                ensures ok { IfOk result.1 (λ p. TakesHead R.Source (seq_head p.0 p.1) de result.0) }
-                ensures deep { IfOk result.1 (λ p. p.0 ≡ false → 1 < de.room) }
-                ensures stays { Stays R.Source de result.0 }
-                ensures sound { OnOk result.1 (faults_of R.Source result.0 ≡ faults_of R.Source de) }
-                ensures fresh { OnOk result.1 (is_failed de ≡ false) }
-                ensures clean { OnOk result.1 (kept_of result.0 ≡ Nothing) }
-                ensures failed { is_failed result.0 ≡ true }
-                ensures err { IfErr result.1 (FailsToOpen R.Source de result.0) }
-            {
-                let opened = de.headed_seq();
-                (de, opened)
-            },
-        )
-    }
-
-    /// Opens a list, or bytes as the list of their numbers.
-    ///
-    /// # Errors
-    /// `Syntax("invalid type")` for another kind, and `DepthLimitExceeded` for a list that would nest too deep.
-    #[inline(always)]
-    pub fn deserialize_seq(&mut self) -> Result<SeqAccess<'_, R, C>, Error>
-        ensures* refused { sem 𝓛 (RestsIfErr (the_row R.row C.row) self.entry (λ s. s.de.ghost_name) result
-            (λ last. IfErr result (FailsToOpen R.Source self.old last))) }
-        ensures same_reference { IfOk result (λ s. s.de.ghost_name ≡ self.entry.ghost_name) }
-        ensures opened { IfOk result (Opens R.Source self.old) }
-    {
-        let room = self.room;
-        match self.open_tuple() {
-            Ok((bytes, left)) => Ok(SeqAccess {
-                de: self,
-                left,
-                count: left,
-                inner: inner_room(room, bytes),
-                bytes,
-                sound: true,
-            }),
-            Err(e) => Err(e),
-        }
-    }
-
-    /// Opens a list, or bytes as the list of their numbers, for a tuple. The tuple's own reading says how many elements it
-    /// wants, so `len` isn't looked at.
-    ///
-    /// # Errors
-    /// As `deserialize_seq`.
-    #[inline(always)]
-    pub fn deserialize_tuple(&mut self, _len: usize) -> Result<SeqAccess<'_, R, C>, Error>
-        ensures* refused { sem 𝓛 (RestsIfErr (the_row R.row C.row) self.entry (λ s. s.de.ghost_name) result
-            (λ last. IfErr result (FailsToOpen R.Source self.old last))) }
-        ensures same_reference { IfOk result (λ s. s.de.ghost_name ≡ self.entry.ghost_name) }
-        ensures opened { IfOk result (Opens R.Source self.old) }
-    {
-        let room = self.room;
-        match self.open_tuple() {
-            Ok((bytes, left)) => Ok(SeqAccess {
-                de: self,
-                left,
-                count: left,
-                inner: inner_room(room, bytes),
-                bytes,
-                sound: true,
-            }),
-            Err(e) => Err(e),
-        }
-    }
-
-    /// The same for a struct without names of fields. Its name isn't written.
-    ///
-    /// # Errors
-    /// As `deserialize_seq`.
-    #[inline(always)]
-    pub fn deserialize_tuple_struct(
-        &mut self,
-        _name: &str,
-        len: usize,
-    ) -> Result<SeqAccess<'_, R, C>, Error>
-        ensures* refused { sem 𝓛 (RestsIfErr (the_row R.row C.row) self.entry (λ s. s.de.ghost_name) result
-            (λ last. IfErr result (FailsToOpen R.Source self.old last))) }
-        ensures same_reference { IfOk result (λ s. s.de.ghost_name ≡ self.entry.ghost_name) }
-        ensures opened { IfOk result (Opens R.Source self.old) }
-    {
-        self.deserialize_tuple(len)
-    }
-
-    // Takes a byte where it lies in memory, and keeps it back as a number. Else nothing is taken.
-    #[inline(always)]
-    fn keep_front(&mut self) -> bool
+    fn keep_buffered(&mut self) -> bool
         ensures ok { result ≡ true → KeepsByte R.Source self.old self.new }
         ensures sound { result ≡ true → faults_of R.Source self.new ≡ faults_of R.Source self.old }
         ensures stays { result ≡ true → Stays R.Source self.old self.new }
@@ -279,7 +55,7 @@ impl<R: Source, C: SerializerConfig> Deserializer<R, C> {
         }
     }
 
-    // Takes a byte, and keeps it back as a number. One that lies in memory is taken there, so that no fault is made ready for it.
+    // Takes a byte, and keeps it back as a number. A buffered one is consumed by the fast path, which makes no error.
     #[inline(always)]
     pub(crate) fn keep_byte(&mut self) -> Result<(), Error>
         ensures ok { OnOk result (KeepsByte R.Source self.old self.new) }
@@ -290,30 +66,16 @@ impl<R: Source, C: SerializerConfig> Deserializer<R, C> {
         ensures end { IfErr result (λ e. faults_of R.Source self.new ≡ faults_of R.Source self.old → IsDataEnd e) }
         ensures memory { IfErr result (λ e. e ≢ Error.OutOfMemory) }
     {
-        if self.keep_front() {
+        if self.keep_buffered() {
             return Ok(());
         }
-        self.keep_pulled()
-    }
-
-    // The same by way of `take_1`.
-    #[inline(always)]
-    fn keep_pulled(&mut self) -> Result<(), Error>
-        ensures ok { OnOk result (KeepsByte R.Source self.old self.new) }
-        ensures sound { OnOk result (faults_of R.Source self.new ≡ faults_of R.Source self.old) }
-        ensures stays { Stays R.Source self.old self.new }
-        ensures failed { is_failed self.new ≡ is_failed self.old }
-        ensures err { IfErr result (λ e. Explains e (faults_of R.Source self.old) (faults_of R.Source self.new) (IsAtEnd (R.ahead self.old.reader))) }
-        ensures end { IfErr result (λ e. faults_of R.Source self.new ≡ faults_of R.Source self.old → IsDataEnd e) }
-        ensures memory { IfErr result (λ e. e ≢ Error.OutOfMemory) }
-    {
         match self.pull_byte() {
             Ok(()) => Ok(()),
             Err(fault) => Err(data_fault(fault)),
         }
     }
 
-    // The same, which answers the fault.
+    // Pulls a byte out of the source, and keeps it back as a number. The error is the source's fault alone.
     #[inline(always)]
     fn pull_byte(&mut self) -> Result<(), IoFault>
         ensures ok { OnOk result (KeepsByte R.Source self.old self.new) }
@@ -333,8 +95,8 @@ impl<R: Source, C: SerializerConfig> Deserializer<R, C> {
         }
     }
 
-    // Makes the next element ready to be read: of bytes a byte is kept back as a number, and of a list it stands ready. It answers the
-    // fault where there is one, since a larger error would be made ready for each element.
+    // Prepares the next element: of bytes a byte is kept back as a number, and of a list nothing is done. It returns the fault where
+    // there is one, since a larger error would be prepared for each element.
     #[inline(always)]
     pub(crate) fn offer_part(&mut self, bytes: bool) -> Result<(), IoFault>
         ensures ok { OnOk result (OffersPart R.Source bytes self.old self.new) }
@@ -349,7 +111,7 @@ impl<R: Source, C: SerializerConfig> Deserializer<R, C> {
         if !bytes {
             return Ok(());
         }
-        if self.keep_front() {
+        if self.keep_buffered() {
             return Ok(());
         }
         self.pull_byte()
@@ -367,8 +129,8 @@ fn first_of(front: &[u8]) -> Option<u8>
     }
 }
 
-// The error of a fault behind a head. A call makes it, since the compiler would take a vector apart by the parts of an error that is
-// made where the vector could be answered.
+// The error of a fault after a head. It is a call: made in place, the error would have the compiler split the vector that is returned
+// otherwise.
 #[inline(never)]
 pub(crate) fn data_fault(fault: IoFault) -> Error
     ensures { result ≡ Error.InvalidDataRead fault }
@@ -385,7 +147,7 @@ pub(crate) fn inner_room(room: u32, bytes: bool) -> u32
 }
 
 impl<'x, R: Source, C: SerializerConfig> SeqAccess<'x, R, C> {
-    /// How many elements are still to come.
+    /// How many elements remain.
     pub fn left(&self) -> u32
         ensures { result ≡ left_in self.now }
     {
@@ -516,7 +278,7 @@ impl<'x, R: Source, C: SerializerConfig> SeqAccess<'x, R, C> {
         }
     }
 
-    /// Ends the reading, and makes the reader ready again.
+    /// Ends the list, and makes the reader ready again.
     ///
     /// # Errors
     /// `LengthMismatch` with the count of the elements that were read, where some are left. They aren't looked at.

@@ -1,10 +1,8 @@
-//! Enums: the name of a variant, which stands alone or is the key of a map of one pair, and then the variant's content.
-ghost use Rattle.std.specs.Prelude.{◌≡◌, ◌≢◌, ◌<◌, ◌-◌, ℕ, ℤ, List, Ok, Err, Some, None, true, false, IfOk, IfErr, IfSome, IfNone, OnOk, OnErr, length, max};
+//! Enums: a variant is its name alone, or a map of one pair, from the name to the variant's content.
+ghost use Rattle.std.specs.Prelude.{◌≡◌, ◌≢◌, ◌<◌, ◌-◌, ℕ, ℤ, Ok, Err, Some, None, true, false, IfOk, IfErr, IfSome, IfNone, OnOk, OnErr, length, max};
 ghost use Rattle.std.specs.Borrow.{sem, RestsIfErr};
 ghost use Rattle.std.specs.Fn.{FnOnceTakesAtMut};
-ghost use Rattle.std.specs.Io.KnownBytes.{Consumes};
 ghost use Rattle.rmp_wire.specs.Msg.{Msg};
-ghost use Rattle.rmp_wire.specs.Spelling.{IsBytes};
 ghost use Rattle.rmp_decode.specs.contracts.deserializer.Deserializer.{the_row};
 ghost use Rattle.rmp_decode.specs.declared.deserializer.Kept.TheVariants.{Nothing};
 ghost use Rattle.rmp_decode.specs.Buffers.{AfterHead};
@@ -26,14 +24,13 @@ ghost use Rattle.rmp_decode.specs.Variants.{RefusesBare, ReadsContent, RefusesCo
 ghost use Rattle.rmp_decode.specs.With.{part_reader};
 
 use crate::access::fields::Fields;
-use crate::access::map::map_in;
 use crate::access::names::{place_below, place_of};
 use crate::access::seq::{SeqAccess, inner_room};
 use crate::content::pieces::error_of;
 use crate::content::{ReadContent, Slices};
 use crate::de::Deserialize;
 use crate::deserializer::Deserializer;
-use crate::deserializer::kinds::{nil_in, raw_in, whole_in};
+use crate::deserializer::peek::{PairHead, TextHead};
 use crate::error::Error;
 use crate::text::Text;
 use rmp_wire::config::SerializerConfig;
@@ -42,7 +39,7 @@ use std::str;
 
 /// A variant of an enum whose name was read, and whose content, if there is any, is still to be read.
 ///
-/// While it stands the reader counts as failed. Reading the content, or that there is none, makes it ready again; a variant that
+/// While it exists the reader counts as failed. Reading the content, or that there is none, makes it ready again; a variant that
 /// is dropped before leaves it failed.
 #[derive(Drop)]
 pub struct Variant<'x, R, C> {
@@ -128,21 +125,25 @@ fn place_in(count: usize, head: Head) -> Result<usize, Error>
     ensures exact { (IsRawHead head → ⊥) → IfErr result (λ e. (m : Marker) → e ≡ other_name m head) }
     ensures memory { IfErr result (λ e. e ≢ Error.OutOfMemory) }
 {
-    match whole_in(head) {
+    match head.as_whole() {
         Some(z) => numbered_place(count, z),
         None => Err(Error::Syntax(Text::InvalidType)),
     }
 }
 
 impl<R: Source, C: SerializerConfig> Deserializer<R, C> {
-    // Reads the rest of a name whose head was taken.
+    // Reads the rest of a name whose head was consumed.
     #[inline(always)]
-    fn name_behind<P: ReadContent<R>>(&mut self, head: Head, names: &[&str]) -> Result<usize, Error>
+    fn rest_of_name<P: ReadContent<R>>(
+        &mut self,
+        head: Head,
+        names: &[&str],
+    ) -> Result<usize, Error>
         ensures law { AfterHead R.Source (IsPlace (bytes_of names.now)) head self.old self.new result }
         ensures exact { IfErr result (RefusesBehind R.Source IsRawHead other_name unknown_name head self.old self.new) }
         ensures memory { P.lends ≡ true → IfErr result (λ e. e ≢ Error.OutOfMemory) }
     {
-        match raw_in(head) {
+        match head.as_raw() {
             Some((is_text, len)) => {
                 match P::variant(&mut self.reader, names, is_text, len as usize) {
                     Ok(place) => {
@@ -169,21 +170,21 @@ impl<R: Source, C: SerializerConfig> Deserializer<R, C> {
         ensures exact { RefusesLeaf R.Source IsRawHead other_name unknown_name self.old self.new result }
         ensures memory { P.lends ≡ true → IfErr result (λ e. e ≢ Error.OutOfMemory) }
     {
-        match self.text_front() {
-            Some(len) => self.name_behind::<P>(Head::Text(len), names),
-            None => self.headed_variant_name::<P>(names),
+        match self.take(TextHead) {
+            Some(len) => self.rest_of_name::<P>(Head::Text(len), names),
+            None => self.slow_variant_name::<P>(names),
         }
     }
 
-    // The same by way of `head`, by a call.
+    // The slow path of `variant_name`.
     #[inline(never)]
-    fn headed_variant_name<P: ReadContent<R>>(&mut self, names: &[&str]) -> Result<usize, Error>
+    fn slow_variant_name<P: ReadContent<R>>(&mut self, names: &[&str]) -> Result<usize, Error>
         ensures law { Lawful R.Source (IsPlace (bytes_of names.now)) self.old self.new result }
         ensures exact { RefusesLeaf R.Source IsRawHead other_name unknown_name self.old self.new result }
         ensures memory { P.lends ≡ true → IfErr result (λ e. e ≢ Error.OutOfMemory) }
     {
         match self.head() {
-            Ok((_, head)) => self.name_behind::<P>(head, names),
+            Ok((_, head)) => self.rest_of_name::<P>(head, names),
             Err(e) => Err(e),
         }
     }
@@ -206,9 +207,9 @@ impl<R: Source, C: SerializerConfig> Deserializer<R, C> {
         }
     }
 
-    // The same, and says that the name doesn't stand alone, by a call.
+    // Reads a name as the key of a map, out of line, and says that it has content.
     #[inline(never)]
-    fn headed_pair<P: ReadContent<R>>(&mut self, names: &[&str]) -> Result<(usize, bool), Error>
+    fn slow_pair<P: ReadContent<R>>(&mut self, names: &[&str]) -> Result<(usize, bool), Error>
         ensures ok { IfOk result (λ p. TakesPart R.Source (IsPlace (bytes_of names.now)) (max 1 (self.old.room - 1)) self.old self.new p.0) }
         ensures paired { IfOk result (λ p. p.1 ≡ false) }
         ensures below { IfOk result (λ p. p.0 < length names.now) }
@@ -226,9 +227,9 @@ impl<R: Source, C: SerializerConfig> Deserializer<R, C> {
         }
     }
 
-    // Takes a name that stands alone and lies in memory whole, and answers its place. Else nothing is taken.
+    // Consumes a buffered name without content, and returns its place. Returns `None` and consumes nothing otherwise.
     #[inline(always)]
-    fn bare_ahead(&mut self, names: &[&str]) -> Option<usize>
+    fn take_bare_name(&mut self, names: &[&str]) -> Option<usize>
         ensures fresh { IfSome result (λ _. is_failed self.old ≡ false) }
         ensures taken { IfSome result (TakesPart R.Source (IsPlace (bytes_of names.now)) 1 (failed_of self.old) self.new) }
         ensures below { IfSome result (λ n. n < length names.now) }
@@ -238,7 +239,7 @@ impl<R: Source, C: SerializerConfig> Deserializer<R, C> {
             return None;
         }
         self.failed = true;
-        match self.name_ahead(names, true) {
+        match self.take_name(names, true) {
             Some(place) => Some(place),
             None => {
                 self.failed = false;
@@ -247,8 +248,8 @@ impl<R: Source, C: SerializerConfig> Deserializer<R, C> {
         }
     }
 
-    // Takes what stands before the content of a variant: its place, and whether its name stands alone. What lies in memory whole is
-    // read where it lies.
+    // Consumes what precedes the content of a variant. Returns its place, and whether it is a name alone. What is buffered is read by
+    // the fast path.
     #[inline(always)]
     fn open_variant<P: ReadContent<R>>(&mut self, names: &[&str]) -> Result<(usize, bool), Error>
         ensures ok { IfOk result (λ p. TakesNameOf R.Source (bytes_of names.now) p.0 p.1 self.old self.new (self.old.room - 1)) }
@@ -261,24 +262,21 @@ impl<R: Source, C: SerializerConfig> Deserializer<R, C> {
         ensures err { IfErr result (FailsToOpenVariant R.Source (bytes_of names.now) self.old self.new) }
         ensures memory { P.lends ≡ true → IfErr result (λ e. e ≢ Error.OutOfMemory) }
     {
-        match self.bare_ahead(names) {
+        match self.take_bare_name(names) {
             Some(place) => Ok((place, true)),
-            None => {
-                if self.pair_front() {
-                    match self.name_ahead(names, true) {
-                        Some(place) => Ok((place, false)),
-                        None => self.headed_pair::<P>(names),
-                    }
-                } else {
-                    self.headed_variant::<P>(names)
-                }
-            }
+            None => match self.take_nested(PairHead) {
+                Some(()) => match self.take_name(names, true) {
+                    Some(place) => Ok((place, false)),
+                    None => self.slow_pair::<P>(names),
+                },
+                None => self.slow_variant::<P>(names),
+            },
         }
     }
 
-    // The same by way of `head`, by a call.
+    // The slow path of `open_variant`.
     #[inline(never)]
-    fn headed_variant<P: ReadContent<R>>(&mut self, names: &[&str]) -> Result<(usize, bool), Error>
+    fn slow_variant<P: ReadContent<R>>(&mut self, names: &[&str]) -> Result<(usize, bool), Error>
         ensures ok { IfOk result (λ p. TakesNameOf R.Source (bytes_of names.now) p.0 p.1 self.old self.new (self.old.room - 1)) }
         ensures below { IfOk result (λ p. p.0 < length names.now) }
         ensures stays { Stays R.Source self.old self.new }
@@ -290,7 +288,7 @@ impl<R: Source, C: SerializerConfig> Deserializer<R, C> {
         ensures memory { P.lends ≡ true → IfErr result (λ e. e ≢ Error.OutOfMemory) }
     {
         match self.head() {
-            Ok((_, head)) => match map_in(head) {
+            Ok((_, head)) => match head.as_map() {
                 Some(1) => {
                     if self.room <= 1 {
                         return Err(Error::DepthLimitExceeded);
@@ -301,7 +299,7 @@ impl<R: Source, C: SerializerConfig> Deserializer<R, C> {
                     }
                 }
                 Some(len) => Err(Error::LengthMismatch(len)),
-                None => match self.name_behind::<P>(head, names) {
+                None => match self.rest_of_name::<P>(head, names) {
                     Ok(place) => {
                         self.failed = true;
                         Ok((place, true))
@@ -316,7 +314,7 @@ impl<R: Source, C: SerializerConfig> Deserializer<R, C> {
     /// Reads which variant of an enum is there: its place among the names, and the access to its content. A variant is its name
     /// alone, or a map of one pair, from its name to its content; a name is a text or bytes, or a number as a place.
     ///
-    /// The answer is taken apart where the call stands: `match de.deserialize_enum(&names) { Ok((0, variant)) => .. }`.
+    /// The result is destructured by the caller: `match de.deserialize_enum(&names) { Ok((0, variant)) => .. }`.
     ///
     /// # Errors
     /// `LengthMismatch` with the count of pairs of a map of another count, `DepthLimitExceeded` for a map of one pair that would
@@ -339,8 +337,8 @@ impl<R: Source, C: SerializerConfig> Deserializer<R, C> {
         self.deserialize_enum_by::<Slices<'de>>(names)
     }
 
-    /// The same, where `P` says how content is taken: a function that calls itself may have no bound that names a lifetime, and
-    /// is called with `Slices`.
+    /// Reads which variant of an enum is there, as `deserialize_enum` does. `P` says how payloads are read: a function that calls itself
+    /// may have no bound that names a lifetime, and is called with `Slices`.
     ///
     /// # Errors
     /// As `deserialize_enum`.
@@ -407,7 +405,7 @@ impl<R: Source, C: SerializerConfig> Deserializer<R, C> {
         ensures memory { IfErr result (λ e. e ≢ Error.OutOfMemory) }
     {
         match self.head() {
-            Ok((marker, head)) => match nil_in(head) {
+            Ok((marker, head)) => match head.as_nil() {
                 Some(()) => {
                     self.failed = false;
                     Ok(())
@@ -420,7 +418,7 @@ impl<R: Source, C: SerializerConfig> Deserializer<R, C> {
 }
 
 impl<'x, R: Source, C: SerializerConfig> Variant<'x, R, C> {
-    /// Whether the name stands alone: such a variant has no content.
+    /// Whether the variant is its name alone, without content.
     pub fn is_bare(&self) -> bool
         ensures { result ≡ is_bare self.now }
     {
@@ -479,7 +477,7 @@ impl<'x, R: Source, C: SerializerConfig> Variant<'x, R, C> {
         Ok(content)
     }
 
-    /// Reads the content of a variant by `f`. The reader that `f` is given is ready and stands before the content. An `f` that
+    /// Reads the content of a variant by `f`. `f` is given a reader that is ready, before the content. An `f` that
     /// answers `Ok` has to have read the content and nothing else.
     ///
     /// # Errors

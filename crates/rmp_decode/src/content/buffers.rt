@@ -1,13 +1,13 @@
-//! Bytes of its own: from a text, from bytes, or from a list of numbers.
+//! Bytes of its own, from a text, from bytes or from a list of numbers, and extensions.
 ghost use Rattle.std.specs.Prelude.{◌≡◌, ◌≤◌, ◌<◌, true, false, IfOk, IfErr, IfSome, IfNone};
 ghost use Rattle.std.specs.Borrow.{sem, RestsIfErr};
 ghost use Rattle.rmp_decode.specs.Buffers.{IsBuffer, AfterHead, IsBehind, RefusesItems, RefusesList};
 ghost use Rattle.rmp_decode.specs.contracts.deserializer.Deserializer.{the_row};
-ghost use Rattle.rmp_decode.specs.Content.{IsBufferHead, RefusesBehind, RefusesLeaf, not_raw, not_buffer};
+ghost use Rattle.rmp_decode.specs.Content.{IsBufferHead, RefusesBehind, RefusesLeaf, not_raw, not_buffer, IsExtHead, never_refused, not_ext};
 ghost use Rattle.rmp_decode.specs.Exact.{RefusesExactly};
-ghost use Rattle.rmp_decode.specs.Kinds.{Finds, other_number};
+ghost use Rattle.rmp_decode.specs.Kinds.{other_number};
 ghost use Rattle.rmp_decode.specs.Law.{Lawful};
-ghost use Rattle.rmp_decode.specs.Read.{IsUnsigned};
+ghost use Rattle.rmp_decode.specs.Read.{IsUnsigned, IsExt};
 ghost use Rattle.rmp_decode.specs.Seq.{IsOpen, TakesElement, FailsToTake, left_in, in_bytes, lender_of};
 ghost use Rattle.rmp_decode.specs.State.{left, faults_of, is_failed, kept_of, is_strict};
 ghost use Rattle.rmp_decode.specs.declared.deserializer.Kept.TheVariants.{Nothing};
@@ -15,22 +15,11 @@ ghost use Rattle.rmp_decode.specs.declared.deserializer.Kept.TheVariants.{Nothin
 use crate::access::seq::SeqAccess;
 use crate::content::pieces::{error_of, owned};
 use crate::deserializer::Deserializer;
-use crate::deserializer::kinds::raw_in;
+use crate::deserializer::peek::{BinHead, ExtHead};
 use crate::error::Error;
 use crate::text::Text;
 use rmp_wire::config::SerializerConfig;
-use rmp_wire::{Head, ReadSlice, Source};
-
-// How many elements a list has.
-#[inline(always)]
-fn list_in(head: Head) -> Option<u32>
-    ensures { Finds (λ h n. h ≡ Head.Array n) head result }
-{
-    match head {
-        Head::Array(n) => Some(n),
-        _ => None,
-    }
-}
+use rmp_wire::{Ext, Head, ReadSlice, Source};
 
 impl<R: Source, C: SerializerConfig> Deserializer<R, C> {
     /// Reads the bytes of a text, which may be no UTF-8, or of bytes, or a list of numbers up to 255.
@@ -47,15 +36,15 @@ impl<R: Source, C: SerializerConfig> Deserializer<R, C> {
         // A list is refused as a whole where it would nest too deep, and else at an item.
         ensures list { is_failed self.old ≡ false → IfErr result (RefusesList R.Source self.old self.new) }
     {
-        match self.bin_front() {
-            Some(len) => self.bytes_behind(len),
-            None => self.headed_byte_buf(),
+        match self.take(BinHead) {
+            Some(len) => self.byte_buf_payload(len),
+            None => self.slow_byte_buf(),
         }
     }
 
-    // Reads the bytes behind a head that was taken, so many. They are copied once.
+    // Copies the payload of bytes, `len` of them, once.
     #[inline(never)]
-    fn bytes_behind<'de>(&mut self, len: u32) -> Result<Vec<u8>, Error>
+    fn byte_buf_payload<'de>(&mut self, len: u32) -> Result<Vec<u8>, Error>
     where
         R: ReadSlice<'de>,
         ensures law { AfterHead R.Source (λ m v. IsBuffer m v.items) (Head.Bin len) self.old self.new result }
@@ -73,9 +62,9 @@ impl<R: Source, C: SerializerConfig> Deserializer<R, C> {
         Ok(bytes)
     }
 
-    // The same as `deserialize_byte_buf` by way of `head`, by a call.
+    // The slow path of `deserialize_byte_buf`.
     #[inline(never)]
-    fn headed_byte_buf<'de>(&mut self) -> Result<Vec<u8>, Error>
+    fn slow_byte_buf<'de>(&mut self) -> Result<Vec<u8>, Error>
     where
         R: ReadSlice<'de>,
         ensures law { Lawful R.Source (λ m v. IsBuffer m v.items) self.old self.new result }
@@ -83,7 +72,7 @@ impl<R: Source, C: SerializerConfig> Deserializer<R, C> {
         ensures list { is_failed self.old ≡ false → IfErr result (RefusesList R.Source self.old self.new) }
     {
         match self.head() {
-            Ok((_, head)) => match raw_in(head) {
+            Ok((_, head)) => match head.as_raw() {
                 Some((_, len)) => match owned(self.alloc, &mut self.reader, len as usize) {
                     Ok(bytes) => {
                         self.failed = false;
@@ -91,7 +80,7 @@ impl<R: Source, C: SerializerConfig> Deserializer<R, C> {
                     }
                     Err(e) => Err(e),
                 },
-                None => match list_in(head) {
+                None => match head.as_array() {
                     Some(len) => self.byte_list(len),
                     None => Err(Error::Syntax(Text::InvalidType)),
                 },
@@ -100,9 +89,9 @@ impl<R: Source, C: SerializerConfig> Deserializer<R, C> {
         }
     }
 
-    // Opens a list whose head was taken.
+    // Opens a list whose head was consumed.
     #[inline(always)]
-    fn open_behind(&mut self, len: u32) -> Result<SeqAccess<'_, R, C>, Error>
+    fn open_list(&mut self, len: u32) -> Result<SeqAccess<'_, R, C>, Error>
         ensures* refused { sem 𝓛 (RestsIfErr (the_row R.row C.row) self.entry (λ s. s.de.ghost_name) result
             (λ last. IfErr result (λ e. (self.old.room ≤ 1) × (last ≡ self.old) × (e ≡ Error.DepthLimitExceeded)))) }
         ensures same_reference { IfOk result (λ s. s.de.ghost_name ≡ self.entry.ghost_name) }
@@ -122,7 +111,7 @@ impl<R: Source, C: SerializerConfig> Deserializer<R, C> {
         })
     }
 
-    // The numbers of a list whose head was taken.
+    // Reads the numbers of a list whose head was consumed.
     fn byte_list(&mut self, len: u32) -> Result<Vec<u8>, Error>
         requires marked { is_failed self.old ≡ true }
         requires clean { kept_of self.old ≡ Nothing }
@@ -131,12 +120,72 @@ impl<R: Source, C: SerializerConfig> Deserializer<R, C> {
         ensures items { IfErr result (λ e. 1 < self.old.room → RefusesItems R.Source len self.old self.new e) }
     {
         let mut items = Vec::new(self.alloc);
-        let mut seq = self.open_behind(len)?;
+        let mut seq = self.open_list(len)?;
         while let Some(item) = seq.next_number()? {
             items.push(item)?;
         }
         seq.end()?;
         Ok(items)
+    }
+
+    /// Reads an extension. It opens no level of nesting.
+    ///
+    /// # Errors
+    /// `TypeMismatch` with the marker that was there, for another kind.
+    #[inline(always)]
+    pub fn deserialize_ext<'de>(&mut self) -> Result<Ext, Error>
+    where
+        R: ReadSlice<'de>,
+        ensures law { Lawful R.Source IsExt self.old self.new result }
+        ensures exact { RefusesLeaf R.Source IsExtHead not_ext never_refused self.old self.new result }
+    {
+        match self.take(ExtHead) {
+            Some((len, tag)) => self.ext_payload(len, tag),
+            None => self.slow_ext(),
+        }
+    }
+
+    // Copies the payload of an extension, `len` bytes, once.
+    #[inline(never)]
+    fn ext_payload<'de>(&mut self, len: u32, tag: i8) -> Result<Ext, Error>
+    where
+        R: ReadSlice<'de>,
+        ensures law { AfterHead R.Source IsExt (Head.Ext len tag) self.old self.new result }
+        ensures exact { IfErr result (RefusesBehind R.Source IsExtHead not_ext never_refused (Head.Ext len tag) self.old self.new) }
+    {
+        let piece = match self.reader.read_slice(len as usize) {
+            Ok(piece) => piece,
+            Err(e) => return Err(error_of(e)),
+        };
+        let bytes = match Vec::from_slice(self.alloc, piece.as_bytes()) {
+            Ok(bytes) => bytes,
+            Err(_) => return Err(Error::OutOfMemory),
+        };
+        self.failed = false;
+        Ok(Ext::new(tag, bytes))
+    }
+
+    // The slow path of `deserialize_ext`.
+    #[inline(never)]
+    fn slow_ext<'de>(&mut self) -> Result<Ext, Error>
+    where
+        R: ReadSlice<'de>,
+        ensures law { Lawful R.Source IsExt self.old self.new result }
+        ensures exact { RefusesLeaf R.Source IsExtHead not_ext never_refused self.old self.new result }
+    {
+        match self.head() {
+            Ok((marker, head)) => match head.as_ext() {
+                Some((len, tag)) => match owned(self.alloc, &mut self.reader, len as usize) {
+                    Ok(bytes) => {
+                        self.failed = false;
+                        Ok(Ext::new(tag, bytes))
+                    }
+                    Err(e) => Err(e),
+                },
+                None => Err(Error::TypeMismatch(marker)),
+            },
+            Err(e) => Err(e),
+        }
     }
 }
 

@@ -1,21 +1,16 @@
 //! Characters, decoded where they lie.
-ghost use Rattle.std.specs.Prelude.{◌≡◌, ◌≢◌, ◌∷◌, [], Bool, true, IfSome, IfNone, IfOk, IfErr, OnOk, length, encode_utf8};
+ghost use Rattle.std.specs.Prelude.{◌≡◌, ◌∷◌, [], Bool, IfSome, IfNone, length, encode_utf8};
 ghost use Rattle.std.specs.Char.{IsScalar};
 ghost use Rattle.std.specs.Io.KnownBytes.{Consumes};
 ghost use Rattle.rmp_wire.specs.Spelling.{IsBytes};
 ghost use Rattle.rmp_decode.specs.Ahead.{CharLies, SpellsChar};
-ghost use Rattle.rmp_decode.specs.Content.{IsTextHead, RefusesLeaf, not_char, not_raw};
-ghost use Rattle.rmp_decode.specs.Law.{Explains, Lawful};
-ghost use Rattle.rmp_decode.specs.Pieces.{RefusesPiece, StartsWithNoChar};
-ghost use Rattle.rmp_decode.specs.Read.{IsChar};
+ghost use Rattle.rmp_decode.specs.Pieces.{ReadsChar};
 
 use crate::content::Slices;
 use crate::content::pieces::next_char;
-use crate::deserializer::Deserializer;
 use crate::error::Error;
 use core::mem::replace_with;
-use rmp_wire::config::SerializerConfig;
-use rmp_wire::{Head, ReadSlice, Source};
+use rmp_wire::{ReadSlice, Source};
 
 // The character of that code, if these two bytes are its UTF-8.
 #[inline(always)]
@@ -92,7 +87,7 @@ fn char_of_4(a: u8, b: u8, d: u8, e: u8) -> Option<char>
     coded_4(code, a, b, d, e)
 }
 
-// The character that so many bytes at the front are, if they are one's.
+// The character that the first `len` bytes are, if they are one's.
 #[inline(always)]
 fn char_at(front: &[u8], len: u32) -> Option<char>
     ensures { IfSome result (λ c. CharLies c len front.now) }
@@ -124,7 +119,7 @@ fn char_at(front: &[u8], len: u32) -> Option<char>
     }
 }
 
-// Takes so many bytes as a character where they lie in memory whole. Else nothing is taken.
+// Consumes `len` buffered bytes as one character. Returns `None` and consumes nothing otherwise.
 #[inline(always)]
 fn char_ahead<S: Source>(source: &mut S, len: u32) -> Option<char>
     ensures taken { IfSome result (λ c. IsScalar c × (length (encode_utf8 c) ≡ len) × IsBytes (encode_utf8 c)
@@ -149,105 +144,43 @@ pub(crate) trait ReadChar<R: Source> {
     ghost lends: { Bool };
 
     // The next bytes, as one character.
-    fn behind(reader: &mut R, len: usize) -> Result<char, Error>
-        ensures ok { IfOk result (λ c. IsScalar c × (length (encode_utf8 c) ≡ len) × IsBytes (encode_utf8 c)
-            × Consumes (R.ahead reader.old) (R.ahead reader.new) (encode_utf8 c)) }
-        ensures sound { OnOk result (R.faults reader.new ≡ R.faults reader.old) }
-        ensures err { IfErr result (λ e. Explains e (R.faults reader.old) (R.faults reader.new) (StartsWithNoChar len (R.ahead reader.old))) }
-        ensures exact { IfErr result (λ e. Explains e (R.faults reader.old) (R.faults reader.new)
-            (RefusesPiece len (not_char (Head.Text len)) (R.ahead reader.old) e)) }
-        ensures memory { lends ≡ true → IfErr result (λ e. e ≢ Error.OutOfMemory) }
-        ensures place { R.place reader.new ≡ R.place reader.old };
-
-    // A text of one character, by way of its head.
-    fn headed<C: SerializerConfig>(de: &mut Deserializer<R, C>) -> Result<char, Error>
-        ensures law { Lawful R.Source IsChar de.old de.new result }
-        ensures exact { RefusesLeaf R.Source IsTextHead not_raw not_char de.old de.new result }
-        ensures memory { lends ≡ true → IfErr result (λ e. e ≢ Error.OutOfMemory) };
+    fn payload(reader: &mut R, len: usize) -> Result<char, Error>
+        ensures { ReadsChar R.Source lends len reader.old reader.new result };
 }
 
 impl<'de, R: ReadSlice<'de>> ReadChar<R> for Slices<'de> {
     ghost lends = { R.lends };
 
     #[inline(always)]
-    fn behind(reader: &mut R, len: usize) -> Result<char, Error> {
+    fn payload(reader: &mut R, len: usize) -> Result<char, Error> {
         next_char(reader, len)
-    }
-
-    #[inline(always)]
-    fn headed<C: SerializerConfig>(de: &mut Deserializer<R, C>) -> Result<char, Error> {
-        de.headed_char()
     }
 }
 
-// The next bytes, as one character, by a call that is given a copy of the reader: so its parts stay in registers.
+// Reads the next `len` bytes as one character, out of line and on a moved reader.
 #[inline(always)]
-fn apart_behind<R: Source, P: ReadChar<R>>(reader: &mut R, len: usize) -> Result<char, Error>
-    ensures ok { IfOk result (λ c. IsScalar c × (length (encode_utf8 c) ≡ len) × IsBytes (encode_utf8 c)
-        × Consumes (R.ahead reader.old) (R.ahead reader.new) (encode_utf8 c)) }
-    ensures sound { OnOk result (R.faults reader.new ≡ R.faults reader.old) }
-    ensures err { IfErr result (λ e. Explains e (R.faults reader.old) (R.faults reader.new) (StartsWithNoChar len (R.ahead reader.old))) }
-    ensures exact { IfErr result (λ e. Explains e (R.faults reader.old) (R.faults reader.new)
-        (RefusesPiece len (not_char (Head.Text len)) (R.ahead reader.old) e)) }
-    ensures memory { P.lends ≡ true → IfErr result (λ e. e ≢ Error.OutOfMemory) }
-    ensures place { R.place reader.new ≡ R.place reader.old }
+fn cold_char_payload<R: Source, P: ReadChar<R>>(reader: &mut R, len: usize) -> Result<char, Error>
+    ensures { ReadsChar R.Source P.lends len reader.old reader.new result }
 {
     replace_with(
         reader,
         len,
         |mut reader: R, len: usize|
-            ensures ok { IfOk result.1 (λ c. IsScalar c × (length (encode_utf8 c) ≡ len) × IsBytes (encode_utf8 c)
-                × Consumes (R.ahead reader) (R.ahead result.0) (encode_utf8 c)) }
-            ensures sound { OnOk result.1 (R.faults result.0 ≡ R.faults reader) }
-            ensures err { IfErr result.1 (λ e. Explains e (R.faults reader) (R.faults result.0) (StartsWithNoChar len (R.ahead reader))) }
-            ensures exact { IfErr result.1 (λ e. Explains e (R.faults reader) (R.faults result.0)
-                (RefusesPiece len (not_char (Head.Text len)) (R.ahead reader) e)) }
-            ensures memory { P.lends ≡ true → IfErr result.1 (λ e. e ≢ Error.OutOfMemory) }
-            ensures place { R.place result.0 ≡ R.place reader }
+            ensures { ReadsChar R.Source P.lends len reader result.0 result.1 }
         {
-            let read = P::behind(&mut reader, len);
+            let read = P::payload(&mut reader, len);
             (reader, read)
         },
     )
 }
 
-// A text of one character, by way of its head, by a call that is given a copy of the reader.
-#[inline(always)]
-pub(crate) fn apart_char<R: Source, C: SerializerConfig, P: ReadChar<R>>(
-    de: &mut Deserializer<R, C>,
-) -> Result<char, Error>
-    ensures law { Lawful R.Source IsChar de.old de.new result }
-    ensures exact { RefusesLeaf R.Source IsTextHead not_raw not_char de.old de.new result }
-    ensures memory { P.lends ≡ true → IfErr result (λ e. e ≢ Error.OutOfMemory) }
-{
-    replace_with(
-        de,
-        (),
-        |mut de: Deserializer<R, C>, _none: ()|
-            ensures law { Lawful R.Source IsChar de result.0 result.1 }
-            ensures exact { RefusesLeaf R.Source IsTextHead not_raw not_char de result.0 result.1 }
-            ensures memory { P.lends ≡ true → IfErr result.1 (λ e. e ≢ Error.OutOfMemory) }
-        {
-            let read = P::headed(&mut de);
-            (de, read)
-        },
-    )
-}
-
-// So many bytes behind a head, as one character: where they lie, or by a call.
+// Reads the next `len` bytes as one character: by the fast path where they are buffered, and out of line otherwise.
 #[inline(always)]
 pub(crate) fn char_taken<R: Source, P: ReadChar<R>>(reader: &mut R, len: u32) -> Result<char, Error>
-    ensures ok { IfOk result (λ c. IsScalar c × (length (encode_utf8 c) ≡ len) × IsBytes (encode_utf8 c)
-        × Consumes (R.ahead reader.old) (R.ahead reader.new) (encode_utf8 c)) }
-    ensures sound { OnOk result (R.faults reader.new ≡ R.faults reader.old) }
-    ensures err { IfErr result (λ e. Explains e (R.faults reader.old) (R.faults reader.new) (StartsWithNoChar len (R.ahead reader.old))) }
-    ensures exact { IfErr result (λ e. Explains e (R.faults reader.old) (R.faults reader.new)
-        (RefusesPiece len (not_char (Head.Text len)) (R.ahead reader.old) e)) }
-    ensures memory { P.lends ≡ true → IfErr result (λ e. e ≢ Error.OutOfMemory) }
-    ensures place { R.place reader.new ≡ R.place reader.old }
+    ensures { ReadsChar R.Source P.lends len reader.old reader.new result }
 {
     match char_ahead(reader, len) {
         Some(c) => Ok(c),
-        None => apart_behind::<R, P>(reader, len as usize),
+        None => cold_char_payload::<R, P>(reader, len as usize),
     }
 }

@@ -123,7 +123,7 @@ fn char_of(bytes: &[u8]) -> Result<char, Error>
     }
 }
 
-// The next bytes, as one character, by a call.
+// Reads the next bytes as one character, out of line.
 #[inline(never)]
 pub(crate) fn next_char<'de, R: ReadSlice<'de>>(reader: &mut R, len: usize) -> Result<char, Error>
     ensures ok { IfOk result (λ c. IsScalar c × (length (encode_utf8 c) ≡ len) × IsBytes (encode_utf8 c)

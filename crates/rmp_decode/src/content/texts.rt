@@ -2,18 +2,19 @@
 ghost use Rattle.std.specs.Prelude.{◌≡◌, ◌≢◌, true, false, IfErr};
 ghost use Rattle.std.specs.String.{string_bytes};
 ghost use Rattle.rmp_decode.specs.Buffers.{AfterHead};
-ghost use Rattle.rmp_decode.specs.Content.{IsTextHead, IsRawHead, RefusesLeaf, RefusesBehind, not_raw, never_refused, not_char, not_string, not_str, not_bytes};
+ghost use Rattle.rmp_decode.specs.Content.{IsTextHead, IsRawHead, RefusesLeaf, RefusesBehind, not_raw, never_refused, not_char, not_string, not_str};
+ghost use Rattle.rmp_decode.specs.Content.{not_bytes};
 ghost use Rattle.rmp_decode.specs.Exact.{IsUtf8Error};
 ghost use Rattle.rmp_decode.specs.Law.{Lawful};
-ghost use Rattle.rmp_decode.specs.Kinds.{raw_msg};
+ghost use Rattle.rmp_decode.specs.Kinds.{raw_head, raw_msg};
 ghost use Rattle.rmp_decode.specs.Read.{IsRaw, IsString, IsChar};
 
 use crate::content::Slices;
-use crate::content::chars::{apart_char, char_taken};
-use crate::content::lent::apart_lent;
-use crate::content::pieces::{lent_content, next_char, owned};
+use crate::content::chars::char_taken;
+use crate::content::cold::read_cold;
+use crate::content::pieces::{error_of, lent_content, next_char, owned};
 use crate::deserializer::Deserializer;
-use crate::deserializer::kinds::{raw_in, text_in};
+use crate::deserializer::peek::{RawHead, TextHead};
 use crate::error::Error;
 use crate::text::Text;
 use rmp_wire::config::SerializerConfig;
@@ -34,7 +35,7 @@ fn not_utf8(is_text: bool, e: Utf8Error) -> Error
 }
 
 impl<R: Source, C: SerializerConfig> Deserializer<R, C> {
-    // The bytes of a text or of bytes, lent, and whether they are a text's.
+    // Borrows the bytes of a text or of bytes, and tells whether they are a text's.
     #[inline(always)]
     fn lent_raw<'de>(&mut self) -> Result<(bool, &'de [u8]), Error>
     where
@@ -44,7 +45,7 @@ impl<R: Source, C: SerializerConfig> Deserializer<R, C> {
         ensures memory { R.lends ≡ true → IfErr result (λ e. e ≢ Error.OutOfMemory) }
     {
         match self.head() {
-            Ok((_, head)) => match raw_in(head) {
+            Ok((_, head)) => match head.as_raw() {
                 Some((is_text, len)) => {
                     match lent_content(&mut self.reader, is_text, len as usize) {
                         Ok(bytes) => {
@@ -60,7 +61,7 @@ impl<R: Source, C: SerializerConfig> Deserializer<R, C> {
         }
     }
 
-    // The bytes of a text or of bytes, in a vector, and whether they are a text's.
+    // Copies the bytes of a text or of bytes into a vector, and tells whether they are a text's.
     fn owned_raw<'de>(&mut self) -> Result<(bool, Vec<u8>), Error>
     where
         R: ReadSlice<'de>,
@@ -68,16 +69,26 @@ impl<R: Source, C: SerializerConfig> Deserializer<R, C> {
         ensures exact { RefusesLeaf R.Source IsRawHead not_raw never_refused self.old self.new result }
     {
         match self.head() {
-            Ok((_, head)) => match raw_in(head) {
-                Some((is_text, len)) => match owned(self.alloc, &mut self.reader, len as usize) {
-                    Ok(bytes) => {
-                        self.failed = false;
-                        Ok((is_text, bytes))
-                    }
-                    Err(e) => Err(e),
-                },
+            Ok((_, head)) => match head.as_raw() {
+                Some((is_text, len)) => self.owned_payload(is_text, len),
                 None => Err(Error::Syntax(Text::InvalidType)),
             },
+            Err(e) => Err(e),
+        }
+    }
+
+    // Copies the payload of a text or of bytes, `len` bytes, into a vector.
+    fn owned_payload<'de>(&mut self, is_text: bool, len: u32) -> Result<(bool, Vec<u8>), Error>
+    where
+        R: ReadSlice<'de>,
+        ensures law { AfterHead R.Source (λ m p. m ≡ raw_msg p.0 p.1.items) (raw_head is_text len) self.old self.new result }
+        ensures exact { IfErr result (RefusesBehind R.Source IsRawHead not_raw never_refused (raw_head is_text len) self.old self.new) }
+    {
+        match owned(self.alloc, &mut self.reader, len as usize) {
+            Ok(bytes) => {
+                self.failed = false;
+                Ok((is_text, bytes))
+            }
             Err(e) => Err(e),
         }
     }
@@ -92,7 +103,10 @@ impl<R: Source, C: SerializerConfig> Deserializer<R, C> {
         ensures law { Lawful R.Source (λ m p. m ≡ raw_msg p.0 p.1.items) self.old self.new result }
         ensures exact { RefusesLeaf R.Source IsRawHead not_raw never_refused self.old self.new result }
     {
-        self.owned_raw()
+        match self.take(RawHead) {
+            Some((is_text, len)) => self.owned_payload(is_text, len),
+            None => self.owned_raw(),
+        }
     }
 
     /// Reads a text of one character.
@@ -107,15 +121,15 @@ impl<R: Source, C: SerializerConfig> Deserializer<R, C> {
         ensures exact { RefusesLeaf R.Source IsTextHead not_raw not_char self.old self.new result }
         ensures memory { R.lends ≡ true → IfErr result (λ e. e ≢ Error.OutOfMemory) }
     {
-        match self.text_front() {
-            Some(len) => self.char_behind(len),
-            None => apart_char::<R, C, Slices<'de>>(self),
+        match self.take(TextHead) {
+            Some(len) => self.char_payload(len),
+            None => read_cold::<R, C, char, Slices<'de>>(self),
         }
     }
 
-    // Reads the text behind a head that was taken, of so many bytes, as a character.
+    // Reads the payload of a text, `len` bytes, as one character.
     #[inline(always)]
-    fn char_behind<'de>(&mut self, len: u32) -> Result<char, Error>
+    fn char_payload<'de>(&mut self, len: u32) -> Result<char, Error>
     where
         R: ReadSlice<'de>,
         ensures law { AfterHead R.Source IsChar (Head.Text len) self.old self.new result }
@@ -131,9 +145,9 @@ impl<R: Source, C: SerializerConfig> Deserializer<R, C> {
         }
     }
 
-    // The same as `deserialize_char` by way of `head`, by a call.
+    // The slow path of `deserialize_char`.
     #[inline(never)]
-    pub(crate) fn headed_char<'de>(&mut self) -> Result<char, Error>
+    pub(crate) fn slow_char<'de>(&mut self) -> Result<char, Error>
     where
         R: ReadSlice<'de>,
         ensures law { Lawful R.Source IsChar self.old self.new result }
@@ -141,7 +155,7 @@ impl<R: Source, C: SerializerConfig> Deserializer<R, C> {
         ensures memory { R.lends ≡ true → IfErr result (λ e. e ≢ Error.OutOfMemory) }
     {
         match self.head() {
-            Ok((_, head)) => match text_in(head) {
+            Ok((_, head)) => match head.as_text() {
                 Some(len) => match next_char(&mut self.reader, len as usize) {
                     Ok(c) => {
                         self.failed = false;
@@ -167,22 +181,22 @@ impl<R: Source, C: SerializerConfig> Deserializer<R, C> {
         ensures exact { RefusesLeaf R.Source IsRawHead not_raw (not_bytes R.lends) self.old self.new result }
         ensures memory { R.lends ≡ true → IfErr result (λ e. e ≢ Error.OutOfMemory) }
     {
-        match self.bin_front() {
-            Some(len) => self.bytes_lent_behind(len),
-            None => apart_lent::<R, C, &'de [u8], Slices<'de>>(self),
+        match self.take(RawHead) {
+            Some((is_text, len)) => self.bytes_payload(is_text, len),
+            None => read_cold::<R, C, &'de [u8], Slices<'de>>(self),
         }
     }
 
-    // Lends the bytes behind a head that was taken, so many.
+    // Borrows the payload of a text or of bytes, `len` bytes.
     #[inline(always)]
-    fn bytes_lent_behind<'de>(&mut self, len: u32) -> Result<&'de [u8], Error>
+    fn bytes_payload<'de>(&mut self, is_text: bool, len: u32) -> Result<&'de [u8], Error>
     where
         R: ReadSlice<'de>,
-        ensures law { AfterHead R.Source (λ m s. (R.lends ≡ true) × IsRaw m s.now) (Head.Bin len) self.old self.new result }
-        ensures exact { IfErr result (RefusesBehind R.Source IsRawHead not_raw (not_bytes R.lends) (Head.Bin len) self.old self.new) }
+        ensures law { AfterHead R.Source (λ m s. (R.lends ≡ true) × IsRaw m s.now) (raw_head is_text len) self.old self.new result }
+        ensures exact { IfErr result (RefusesBehind R.Source IsRawHead not_raw (not_bytes R.lends) (raw_head is_text len) self.old self.new) }
         ensures memory { R.lends ≡ true → IfErr result (λ e. e ≢ Error.OutOfMemory) }
     {
-        match lent_content(&mut self.reader, false, len as usize) {
+        match lent_content(&mut self.reader, is_text, len as usize) {
             Ok(bytes) => {
                 self.failed = false;
                 Ok(bytes)
@@ -191,9 +205,9 @@ impl<R: Source, C: SerializerConfig> Deserializer<R, C> {
         }
     }
 
-    // The same as `deserialize_bytes` by way of `head`, by a call.
+    // The slow path of `deserialize_bytes`.
     #[inline(never)]
-    pub(crate) fn headed_bytes<'de>(&mut self) -> Result<&'de [u8], Error>
+    pub(crate) fn slow_bytes<'de>(&mut self) -> Result<&'de [u8], Error>
     where
         R: ReadSlice<'de>,
         ensures law { Lawful R.Source (λ m s. (R.lends ≡ true) × IsRaw m s.now) self.old self.new result }
@@ -219,15 +233,15 @@ impl<R: Source, C: SerializerConfig> Deserializer<R, C> {
         ensures exact { RefusesLeaf R.Source IsRawHead not_raw (not_str R.lends) self.old self.new result }
         ensures memory { R.lends ≡ true → IfErr result (λ e. e ≢ Error.OutOfMemory) }
     {
-        match self.text_front() {
-            Some(len) => self.str_behind(len),
-            None => apart_lent::<R, C, &'de str, Slices<'de>>(self),
+        match self.take(TextHead) {
+            Some(len) => self.str_payload(len),
+            None => read_cold::<R, C, &'de str, Slices<'de>>(self),
         }
     }
 
-    // Lends the text behind a head that was taken, of so many bytes.
+    // Borrows the payload of a text, `len` bytes.
     #[inline(always)]
-    fn str_behind<'de>(&mut self, len: u32) -> Result<&'de str, Error>
+    fn str_payload<'de>(&mut self, len: u32) -> Result<&'de str, Error>
     where
         R: ReadSlice<'de>,
         ensures law { AfterHead R.Source (λ m s. (R.lends ≡ true) × IsString m s.now) (Head.Text len) self.old self.new result }
@@ -247,9 +261,9 @@ impl<R: Source, C: SerializerConfig> Deserializer<R, C> {
         }
     }
 
-    // The same as `deserialize_str` by way of `head`, by a call.
+    // The slow path of `deserialize_str`.
     #[inline(never)]
-    pub(crate) fn headed_str<'de>(&mut self) -> Result<&'de str, Error>
+    pub(crate) fn slow_str<'de>(&mut self) -> Result<&'de str, Error>
     where
         R: ReadSlice<'de>,
         ensures law { Lawful R.Source (λ m s. (R.lends ≡ true) × IsString m s.now) self.old self.new result }
@@ -276,15 +290,43 @@ impl<R: Source, C: SerializerConfig> Deserializer<R, C> {
         ensures law { Lawful R.Source (λ m s. IsRaw m (string_bytes s)) self.old self.new result }
         ensures exact { RefusesLeaf R.Source IsRawHead not_raw not_string self.old self.new result }
     {
-        match self.text_front() {
-            Some(len) => self.string_behind(len),
-            None => self.headed_string(),
+        match self.take(TextHead) {
+            Some(len) => self.string_payload(len),
+            None => self.slow_string(),
         }
     }
 
-    // The same by way of `head`, by a call.
+    // Reads the payload of a text, `len` bytes. They are checked where they are buffered, and copied once.
     #[inline(never)]
-    fn headed_string<'de>(&mut self) -> Result<String, Error>
+    pub(crate) fn string_payload<'de>(&mut self, len: u32) -> Result<String, Error>
+    where
+        R: ReadSlice<'de>,
+        ensures law { AfterHead R.Source (λ m s. IsRaw m (string_bytes s)) (Head.Text len) self.old self.new result }
+        ensures exact { IfErr result (RefusesBehind R.Source IsRawHead not_raw not_string (Head.Text len) self.old self.new) }
+    {
+        if len == 0 {
+            self.failed = false;
+            return Ok(String::new(self.alloc));
+        }
+        let piece = match self.reader.read_slice(len as usize) {
+            Ok(piece) => piece,
+            Err(e) => return Err(error_of(e)),
+        };
+        let s = match str::from_utf8(piece.as_bytes()) {
+            Ok(s) => s,
+            Err(e) => return Err(Error::Utf8Error(e)),
+        };
+        let text = match String::from_str(self.alloc, s) {
+            Ok(text) => text,
+            Err(_) => return Err(Error::OutOfMemory),
+        };
+        self.failed = false;
+        Ok(text)
+    }
+
+    // The slow path of `deserialize_string`.
+    #[inline(never)]
+    fn slow_string<'de>(&mut self) -> Result<String, Error>
     where
         R: ReadSlice<'de>,
         ensures law { Lawful R.Source (λ m s. IsRaw m (string_bytes s)) self.old self.new result }

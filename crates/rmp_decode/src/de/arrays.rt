@@ -11,7 +11,7 @@ ghost use Rattle.rmp_decode.specs.declared.deserializer.Kept.TheVariants.{Nothin
 ghost use Rattle.rmp_decode.specs.declared.error.Error.TheVariants.{OutOfMemory};
 
 use crate::de::Deserialize;
-use crate::de::rows::{ByType, Row, is_small, numbers_taken_out, read_row};
+use crate::de::elements::{ByType, Row, is_small, numbers_taken_out, read_row};
 use crate::deserializer::Deserializer;
 use crate::error::Error;
 use crate::text::Text;
@@ -74,7 +74,7 @@ impl<T: Drop, const N: usize> Row<T> for [Option<T>; N] {
     }
 }
 
-// Reads so many elements of a list from a reader that has taken the head.
+// Reads `count` elements of a list whose head was consumed.
 #[inline(always)]
 fn array_row<'de, R: ReadSlice<'de>, C: SerializerConfig, T: Deserialize<'de, R>, const N: usize>(
     de: &mut Deserializer<R, C>,
@@ -107,7 +107,7 @@ fn array_row<'de, R: ReadSlice<'de>, C: SerializerConfig, T: Deserialize<'de, R>
     }
 }
 
-// The same of so many numbers of bytes, from a reader that is taken out of its place meanwhile.
+// Reads `count` numbers of bytes, from a reader that is moved meanwhile.
 #[inline(always)]
 fn number_row<'de, R: ReadSlice<'de>, C: SerializerConfig, T: Deserialize<'de, R>, const N: usize>(
     de: &mut Deserializer<R, C>,

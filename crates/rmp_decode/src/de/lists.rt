@@ -10,7 +10,7 @@ ghost use Rattle.rmp_decode.specs.declared.deserializer.Deserializer.{Deserializ
 ghost use Rattle.rmp_decode.specs.declared.deserializer.Kept.TheVariants.{Nothing};
 
 use crate::de::Deserialize;
-use crate::de::rows::{Row, is_small, read_row};
+use crate::de::elements::{Row, is_small, read_row};
 use crate::deserializer::Deserializer;
 use crate::error::Error;
 use core::mem::replace_with;
@@ -120,7 +120,7 @@ fn read_vec<'de, R: ReadSlice<'de>, C: SerializerConfig, T: Deserialize<'de, R>>
     }
 }
 
-// The same into a queue.
+// Reads elements into a queue.
 #[inline(always)]
 fn read_queue<'de, R: ReadSlice<'de>, C: SerializerConfig, T: Deserialize<'de, R>>(
     de: &mut Deserializer<R, C>,

@@ -4,10 +4,12 @@ ghost use Rattle.rmp_wire.specs.Msg.{Msg};
 ghost use Rattle.rmp_decode.specs.Exact.{RefusesExactly};
 ghost use Rattle.rmp_decode.specs.Kinds.{other_kind, other_number, not_nil};
 ghost use Rattle.rmp_decode.specs.Read.{IsUnsigned, IsSigned};
+ghost use Rattle.rmp_decode.specs.Content.{RefusesContent, never_refused};
+ghost use Rattle.rmp_decode.specs.Wide.{IsSigned128, IsUnsigned128, IsSigned128Head, IsUnsigned128Head, not_wide};
 
 use crate::de::Deserialize;
 use crate::deserializer::Deserializer;
-use crate::deserializer::kinds::other_kind;
+use crate::deserializer::refusal::other_kind;
 use crate::error::Error;
 use rmp_wire::config::SerializerConfig;
 use rmp_wire::{F32Bits, F64Bits, ReadSlice};
@@ -286,6 +288,44 @@ impl<'de, R: ReadSlice<'de>> Deserialize<'de, R> for () {
     }
 
     fn missing() -> Option<()> {
+        None
+    }
+}
+
+impl<'de, R: ReadSlice<'de>> Deserialize<'de, R> for i128 {
+    ghost reads = { λ human lends. IsSigned128 };
+
+    ghost absent = { None };
+
+    ghost refuses = { λ s. RefusesContent s.strict IsSigned128Head not_wide never_refused };
+
+    ghost takes_memory = { λ _. false };
+
+    #[inline(always)]
+    fn deserialize<C: SerializerConfig>(de: &mut Deserializer<R, C>) -> Result<i128, Error> {
+        de.deserialize_i128()
+    }
+
+    fn missing() -> Option<i128> {
+        None
+    }
+}
+
+impl<'de, R: ReadSlice<'de>> Deserialize<'de, R> for u128 {
+    ghost reads = { λ human lends. IsUnsigned128 };
+
+    ghost absent = { None };
+
+    ghost refuses = { λ s. RefusesContent s.strict IsUnsigned128Head not_wide never_refused };
+
+    ghost takes_memory = { λ _. false };
+
+    #[inline(always)]
+    fn deserialize<C: SerializerConfig>(de: &mut Deserializer<R, C>) -> Result<u128, Error> {
+        de.deserialize_u128()
+    }
+
+    fn missing() -> Option<u128> {
         None
     }
 }

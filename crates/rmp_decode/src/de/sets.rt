@@ -12,7 +12,7 @@ ghost use Rattle.rmp_decode.specs.declared.deserializer.Deserializer.{Deserializ
 ghost use Rattle.rmp_decode.specs.declared.deserializer.Kept.TheVariants.{Nothing};
 
 use crate::de::Deserialize;
-use crate::de::rows::{Row, is_small, read_row};
+use crate::de::elements::{Row, is_small, read_row};
 use crate::deserializer::Deserializer;
 use crate::error::Error;
 use rmp_wire::ReadSlice;

@@ -1,12 +1,12 @@
-//! Messages that are passed over.
+//! Skipping messages.
 ghost use Rattle.std.specs.Prelude.{◌≡◌, ◌≢◌, ◌-◌, ◌<◌, true, OnOk, IfErr, IfSome};
 ghost use Rattle.rmp_wire.specs.Sources.{IsShort};
 ghost use Rattle.rmp_decode.specs.Ahead.{IsLeafHead};
 ghost use Rattle.rmp_decode.specs.Exact.{IsDataEnd};
-ghost use Rattle.rmp_decode.specs.Kinds.{Finds, content_len};
+ghost use Rattle.rmp_decode.specs.Kinds.{content_len};
 ghost use Rattle.rmp_decode.specs.Law.{Explains, Lawful};
 ghost use Rattle.rmp_decode.specs.Refuse.{UnpassedFor, OpensSome, RefusesFirst, RefusesRowFirst};
-ghost use Rattle.rmp_decode.specs.Skip.{Passes, parts_head, SkipsRow, any_tree, any_row, parts_count};
+ghost use Rattle.rmp_decode.specs.Skip.{Passes, SkipsRow, any_tree, any_row, parts_count};
 ghost use Rattle.rmp_decode.specs.State.{is_failed, is_strict, kept_of, left, room_of};
 ghost use Rattle.rmp_decode.specs.declared.deserializer.Kept.TheVariants.{Nothing};
 
@@ -16,37 +16,14 @@ use crate::error::Error;
 use rmp_wire::config::SerializerConfig;
 use rmp_wire::{Head, ReadSlice, Source};
 
-// Whether it is a map, and how many items or pairs follow.
-#[inline(always)]
-pub(crate) fn parts_in(head: Head) -> Option<(bool, u32)>
-    ensures { Finds (λ h p. h ≡ parts_head p.0 p.1) head result }
-{
-    match head {
-        Head::Array(n) => Some((false, n)),
-        Head::Map(n) => Some((true, n)),
-        _ => None,
-    }
-}
-
-// How many bytes of content follow the head of a leaf.
-#[inline(always)]
-fn content_in(head: Head) -> u32
-    ensures { result ≡ content_len head }
-{
-    match head {
-        Head::Text(n) | Head::Bin(n) | Head::Ext(n, _) => n,
-        _ => 0,
-    }
-}
-
 // How many bytes of content follow, if it is the head of a leaf.
 #[inline(always)]
 pub(crate) fn leaf_in(head: Head) -> Option<u32>
     ensures { IfSome result (IsLeafHead head) }
 {
-    match parts_in(head) {
+    match head.as_parts() {
         Some(_) => None,
-        None => Some(content_in(head)),
+        None => Some(head.content_len()),
     }
 }
 
@@ -63,9 +40,9 @@ fn messages(is_map: bool, n: u32) -> u64
     }
 }
 
-// Passes over the content of a leaf, of so many bytes.
+// Passes over the payload of a leaf, `len` bytes.
 #[inline(always)]
-fn pass_behind<R: Source, P: ReadContent<R>>(reader: &mut R, len: u32) -> Result<(), Error>
+fn pass_payload<R: Source, P: ReadContent<R>>(reader: &mut R, len: u32) -> Result<(), Error>
     ensures ok { OnOk result (Passes len (R.ahead reader.old) (R.ahead reader.new)) }
     ensures sound { OnOk result (R.faults reader.new ≡ R.faults reader.old) }
     ensures err { IfErr result (λ e. Explains e (R.faults reader.old) (R.faults reader.new) (IsShort len (R.ahead reader.old))) }
@@ -88,9 +65,9 @@ fn skip<R: Source, C: SerializerConfig, P: ReadContent<R>>(
     ensures memory { P.lends ≡ true → IfErr result (λ e. e ≡ Error.OutOfMemory → IfSome (left R.Source de.old) (OpensSome (is_strict de.old))) }
 {
     match de.any_head() {
-        Ok(head) => match parts_in(head) {
+        Ok(head) => match head.as_parts() {
             Some((is_map, n)) => skip_parts::<R, C, P>(de, messages(is_map, n)),
-            None => match P::pass(&mut de.reader, content_in(head) as usize) {
+            None => match P::pass(&mut de.reader, head.content_len() as usize) {
                 Ok(()) => {
                     de.failed = false;
                     Ok(())
@@ -102,7 +79,7 @@ fn skip<R: Source, C: SerializerConfig, P: ReadContent<R>>(
     }
 }
 
-// Passes over the parts of a list or a map whose head was taken, and over all that stands in them.
+// Skips the parts of a list or a map whose head was consumed, with all that is nested in them.
 fn skip_parts<R: Source, C: SerializerConfig, P: ReadContent<R>>(
     de: &mut Deserializer<R, C>,
     count: u64,
@@ -137,15 +114,15 @@ fn skip_parts<R: Source, C: SerializerConfig, P: ReadContent<R>>(
         } else {
             wanted -= 1;
             de.failed = false;
-            match de.leaf_front() {
-                Some(len) => match pass_behind::<R, P>(&mut de.reader, len) {
+            match de.take_leaf_head() {
+                Some(len) => match pass_payload::<R, P>(&mut de.reader, len) {
                     Ok(()) => continue,
                     Err(e) => return Err(e),
                 },
                 None => {}
             }
             match de.any_head() {
-                Ok(head) => match parts_in(head) {
+                Ok(head) => match head.as_parts() {
                     Some((is_map, n)) => {
                         if room <= 1 {
                             return Err(Error::DepthLimitExceeded);
@@ -160,7 +137,7 @@ fn skip_parts<R: Source, C: SerializerConfig, P: ReadContent<R>>(
                             wanted = inner;
                         }
                     }
-                    None => match P::pass(&mut de.reader, content_in(head) as usize) {
+                    None => match P::pass(&mut de.reader, head.content_len() as usize) {
                         Ok(()) => {}
                         Err(e) => return Err(e),
                     },

@@ -1,6 +1,6 @@
 //! Queues, sets and maps.
 //!
-//! Writing them takes no memory but by their elements and the sink. 2 ^ 32 elements or pairs or more are refused, and nothing is
+//! Only their elements and the sink may allocate. 2 ^ 32 elements or pairs or more are refused, and nothing is
 //! written.
 ghost use Rattle.std.specs.Prelude.{◌≡◌, ◌^◌, ◌≤◌, ◌||◌, map, length, All, OnOk};
 ghost use Rattle.std.specs.List.Sorted.{IsStrictlySortedBy};

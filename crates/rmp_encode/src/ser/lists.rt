@@ -1,7 +1,7 @@
 //! Vectors, slices and arrays.
 //!
-//! In the mode `Normal` writing them takes no memory but by their elements and the sink. A vector or a slice of 2 ^ 32 elements or
-//! more is refused, and nothing is written.
+//! In the mode `Normal` only their elements and the sink may allocate. A vector or a slice of 2 ^ 32 elements
+//! or more is refused, and nothing is written.
 ghost use Rattle.std.specs.Prelude.{◌≡◌, ◌^◌, ◌≤◌, ◌||◌, map, length, All, OnOk};
 ghost use Rattle.rmp_encode.specs.Ser.{sink_of, settings_of};
 ghost use Rattle.rmp_encode.specs.Trees.{tree_of, slice_of, tuple_of, forces_all, forces_slices};

@@ -1,4 +1,4 @@
-//! What is written as what it points to.
+//! Pointers, which are written as the value that they point to.
 use crate::error::Error;
 use crate::ser::Serialize;
 use crate::serializer::Serializer;

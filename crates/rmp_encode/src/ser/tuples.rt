@@ -69,8 +69,7 @@ impl<E1: Serialize, E2: Serialize, E3: Serialize> Serialize for (E1, E2, E3) {
         se: &mut Serializer<W, C>,
     ) -> Result<(), Error> {
         let mut tup = se.serialize_tuple(3)?;
-        tup.two(&self.0, &self.1)?;
-        tup.serialize_element(&self.2)?;
+        tup.three(&self.0, &self.1, &self.2)?;
         tup.end()
     }
 
@@ -153,7 +152,8 @@ impl<
     ) -> Result<(), Error> {
         let mut tup = se.serialize_tuple(6)?;
         tup.four(&self.0, &self.1, &self.2, &self.3)?;
-        tup.two(&self.4, &self.5)?;
+        tup.serialize_element(&self.4)?;
+        tup.serialize_element(&self.5)?;
         tup.end()
     }
 
@@ -188,7 +188,8 @@ impl<
     ) -> Result<(), Error> {
         let mut tup = se.serialize_tuple(7)?;
         tup.four(&self.0, &self.1, &self.2, &self.3)?;
-        tup.two(&self.4, &self.5)?;
+        tup.serialize_element(&self.4)?;
+        tup.serialize_element(&self.5)?;
         tup.serialize_element(&self.6)?;
         tup.end()
     }
@@ -226,7 +227,10 @@ impl<
     ) -> Result<(), Error> {
         let mut tup = se.serialize_tuple(8)?;
         tup.four(&self.0, &self.1, &self.2, &self.3)?;
-        tup.four(&self.4, &self.5, &self.6, &self.7)?;
+        tup.serialize_element(&self.4)?;
+        tup.serialize_element(&self.5)?;
+        tup.serialize_element(&self.6)?;
+        tup.serialize_element(&self.7)?;
         tup.end()
     }
 

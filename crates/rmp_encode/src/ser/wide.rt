@@ -1,4 +1,4 @@
-//! Numbers of 128 bits.
+//! 128-bit numbers.
 #![tactic(auto, unfolding(crate::specs::Data::lower), using(crate::proofs::Parts::part_memory))]
 
 ghost use Rattle.std.specs.Prelude.{◌<◌, ◌^◌, Some, FitsSigned, false};

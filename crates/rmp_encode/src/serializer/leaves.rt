@@ -1,4 +1,4 @@
-//! Options, structs without fields, newtype structs, and numbers of 128 bits.
+//! Options, unit structs, newtype structs, and 128-bit numbers.
 ghost use Rattle.std.specs.Prelude.{◌≡◌, ◌/◌, ◌^◌, ◌||◌, Some, OnOk, IfErr, codes};
 ghost use Rattle.std.specs.Int.{w128, to_be_bytes, cast_unsigned};
 ghost use Rattle.rmp_wire.specs.Msg.{nil, bin, list, no_items};
@@ -13,8 +13,8 @@ use crate::serializer::{Serializer, answer};
 use rmp_wire::config::SerializerConfig;
 use rmp_wire::{MSGPACK_EXT_STRUCT_NAME, Sink};
 
-// The upper half of a number. It is never less than the highest bit: to ask that changes nothing, but keeps the compiler from reading
-// the bytes of the half one by one where the number lies in memory.
+// The upper half of a number. It is never less than the highest bit. The test changes nothing, but keeps the
+// compiler from reading the half byte by byte where the number is in memory.
 #[inline(always)]
 fn high_half(n: u128) -> u64
     ensures { result ≡ n / 2 ^ 64 }
@@ -28,10 +28,10 @@ fn high_half(n: u128) -> u64
 }
 
 impl<W: Sink, C: SerializerConfig> Serializer<W, C> {
-    /// Writes what stands for an option that holds nothing: nil.
+    /// Writes `None`, as nil.
     ///
     /// # Errors
-    /// `InvalidValueWrite` where the sink failed, and `OutOfMemory` where memory was refused to a sink that takes it.
+    /// `InvalidValueWrite` where the sink fails, and `OutOfMemory` where it cannot allocate.
     #[inline(always)]
     pub fn serialize_none(&mut self) -> Result<(), Error>
         ensures writes { WritesTree W.Sink W.takes_memory (Some nil) (sink_of self.old) (sink_of self.new) result }
@@ -41,7 +41,8 @@ impl<W: Sink, C: SerializerConfig> Serializer<W, C> {
         self.serialize_unit()
     }
 
-    /// Writes what an option holds, as it is without the option. So an option that holds nil is read as one that holds nothing.
+    /// Writes the value of a `Some`, without a wrapper. So `Some` of a value that is written as nil is read as
+    /// `None`.
     ///
     /// # Errors
     /// Those of the value.
@@ -55,10 +56,10 @@ impl<W: Sink, C: SerializerConfig> Serializer<W, C> {
         value.serialize(self)
     }
 
-    /// Writes a struct without fields: the empty list. Its name isn't written.
+    /// Writes a unit struct, as the empty list. Its name isn't written.
     ///
     /// # Errors
-    /// `InvalidValueWrite` where the sink failed, and `OutOfMemory` where memory was refused to a sink that takes it.
+    /// `InvalidValueWrite` where the sink fails, and `OutOfMemory` where it cannot allocate.
     #[inline(always)]
     pub fn serialize_unit_struct(&mut self, _name: &'static str) -> Result<(), Error>
         ensures writes { WritesTree W.Sink W.takes_memory (Some (list no_items)) (sink_of self.old) (sink_of self.new) result }
@@ -68,11 +69,11 @@ impl<W: Sink, C: SerializerConfig> Serializer<W, C> {
         self.put_head(false, 0)
     }
 
-    /// Writes what a newtype struct holds, as it is without the struct. Its name isn't written.
+    /// Writes the value of a newtype struct, without a wrapper. The struct's name isn't written.
     ///
     /// # Errors
-    /// `InvalidDataModel("expected tuple")` where the name is `MSGPACK_EXT_STRUCT_NAME`, which stands for an extension in the Rust
-    /// crate: nothing is written then. Else those of the value.
+    /// `InvalidDataModel("expected tuple")` where the name is `MSGPACK_EXT_STRUCT_NAME`, which the Rust crate
+    /// uses for an extension; then nothing is written. Otherwise those of the value.
     #[inline(always)]
     pub fn serialize_newtype_struct<T: Serialize>(
         &mut self,
@@ -92,10 +93,10 @@ impl<W: Sink, C: SerializerConfig> Serializer<W, C> {
         value.serialize(self)
     }
 
-    /// Writes a number of 128 bits: its bytes, of which there are 16, the highest first.
+    /// Writes an unsigned 128-bit number, as its 16 bytes in big-endian order.
     ///
     /// # Errors
-    /// `InvalidValueWrite` where the sink failed, and `OutOfMemory` where memory was refused to a sink that takes it.
+    /// `InvalidValueWrite` where the sink fails, and `OutOfMemory` where it cannot allocate.
     #[inline(always)]
     pub fn serialize_u128(&mut self, n: u128) -> Result<(), Error>
         ensures writes { WritesTree W.Sink W.takes_memory (Some (bin (to_be_bytes w128 n))) (sink_of self.old) (sink_of self.new) result }
@@ -111,10 +112,10 @@ impl<W: Sink, C: SerializerConfig> Serializer<W, C> {
         answer(self.wr.put_all(&piece))
     }
 
-    /// Writes a number of 128 bits: its bytes in two's complement, of which there are 16, the highest first.
+    /// Writes a signed 128-bit number, as the 16 bytes of its two's complement in big-endian order.
     ///
     /// # Errors
-    /// `InvalidValueWrite` where the sink failed, and `OutOfMemory` where memory was refused to a sink that takes it.
+    /// `InvalidValueWrite` where the sink fails, and `OutOfMemory` where it cannot allocate.
     #[inline(always)]
     pub fn serialize_i128(&mut self, n: i128) -> Result<(), Error>
         ensures writes { WritesTree W.Sink W.takes_memory (Some (bin (to_be_bytes w128 (cast_unsigned w128 n)))) (sink_of self.old) (sink_of self.new) result }

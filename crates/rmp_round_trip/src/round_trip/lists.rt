@@ -2,6 +2,8 @@
 ghost use Rattle.std.specs.Prelude.{map};
 ghost use Rattle.rmp_decode.specs.Arrays.{Exactly};
 ghost use Rattle.rmp_decode.specs.Rows.{ReadsEach};
+ghost use Rattle.rmp_round_trip.specs.OnlyRows.{array_only, list_only};
+ghost use Rattle.rmp_round_trip.specs.RoundTrip.{Alike, Only};
 ghost use Rattle.rmp_round_trip.specs.Rounds.{each_some, each_row, rows_map, slice_some, slice_row, slice_other};
 ghost use Rattle.rmp_round_trip.specs.Rounds.{sequence_some, sequence_row, sequence_other, tuple_some, tuple_row, tuple_other};
 
@@ -17,6 +19,12 @@ impl<'de, R: ReadSlice<'de>, T: RoundTrip<'de, R>> RoundTrip<'de, R> for Vec<T> 
 
     ghost round = { λ lent s v fits. slice_row s _ (λ ms. ReadsEach (T.reads s.human R.lends) ms v.items)
         (each_row s (λ x. T.data_of x s.human) T.is_value (T.reads s.human R.lends) (T.round lent s) v.items fits) };
+
+    ghost same = { λ v w. Alike T.same v.items w.items };
+
+    ghost only = { λ s v fits. list_only s _ (λ w. w.items) (T.reads s.human R.lends) T.same v.items
+        (slice_row s _ (λ ms. ReadsEach (Only (T.reads s.human R.lends) T.same) ms v.items)
+        (each_row s (λ x. T.data_of x s.human) T.is_value (Only (T.reads s.human R.lends) T.same) (T.only s) v.items fits)) };
 }
 
 impl<T: Serialize> NeverNil for Vec<T> {
@@ -34,6 +42,12 @@ impl<'de, R: ReadSlice<'de>, T: RoundTrip<'de, R>> RoundTrip<'de, R> for VecDequ
 
     ghost round = { λ lent s v fits. sequence_row s _ (λ ms. ReadsEach (T.reads s.human R.lends) ms v.items)
         (each_row s (λ x. T.data_of x s.human) T.is_value (T.reads s.human R.lends) (T.round lent s) v.items fits) };
+
+    ghost same = { λ v w. Alike T.same v.items w.items };
+
+    ghost only = { λ s v fits. list_only s _ (λ w. w.items) (T.reads s.human R.lends) T.same v.items
+        (sequence_row s _ (λ ms. ReadsEach (Only (T.reads s.human R.lends) T.same) ms v.items)
+        (each_row s (λ x. T.data_of x s.human) T.is_value (Only (T.reads s.human R.lends) T.same) (T.only s) v.items fits)) };
 }
 
 impl<T: Serialize> NeverNil for VecDeque<T> {
@@ -48,6 +62,12 @@ impl<'de, R: ReadSlice<'de>, T: RoundTrip<'de, R>, const N: usize> RoundTrip<'de
     ghost round = { λ lent s v fits. tuple_row s _ (Exactly N (T.reads s.human R.lends) v)
         (rows_map s _ _ _ (λ ms each. (fits.0, each))
         (each_row s (λ x. T.data_of x s.human) T.is_value (T.reads s.human R.lends) (T.round lent s) v fits.1)) };
+
+    ghost same = { λ v w. Alike T.same v w };
+
+    ghost only = { λ s v fits. array_only s _ N (T.reads s.human R.lends) T.same v
+        (tuple_row s _ (λ ms. ReadsEach (Only (T.reads s.human R.lends) T.same) ms v)
+        (each_row s (λ x. T.data_of x s.human) T.is_value (Only (T.reads s.human R.lends) T.same) (T.only s) v fits.1)) };
 }
 
 impl<T: Serialize, const N: usize> NeverNil for [T; N] {

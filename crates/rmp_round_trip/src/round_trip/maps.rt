@@ -1,8 +1,11 @@
 //! Sets and maps.
 ghost use Rattle.std.specs.Prelude.{map};
 ghost use Rattle.rmp_encode.specs.Trees.{in_turn};
-ghost use Rattle.rmp_round_trip.specs.MapRounds.{mapping_some, map_row, map_other, set_row};
-ghost use Rattle.rmp_round_trip.specs.Rounds.{each_some, sequence_some, sequence_other};
+ghost use Rattle.rmp_decode.specs.Rows.{ReadsEach};
+ghost use Rattle.rmp_round_trip.specs.MapRounds.{mapping_some, map_row, map_other, pairs_row, set_row};
+ghost use Rattle.rmp_round_trip.specs.OnlyMaps.{map_only, set_only};
+ghost use Rattle.rmp_round_trip.specs.RoundTrip.{AlikeEntries, AlikeKeys, Only};
+ghost use Rattle.rmp_round_trip.specs.Rounds.{each_row, each_some, sequence_some, sequence_row, sequence_other};
 
 use crate::round_trip::{NeverNil, RoundTrip};
 use rmp_encode::Serialize;
@@ -15,6 +18,12 @@ impl<'de, R: ReadSlice<'de>, T: RoundTrip<'de, R> + Ord> RoundTrip<'de, R> for B
     ghost has_data = { λ human v. sequence_some _ (each_some (λ x. T.data_of x human) (T.has_data human) v.keys) };
 
     ghost round = { λ lent s v fits. set_row s (λ x. T.data_of x s.human) T.is_value (T.reads s.human R.lends) (T.round lent s) T.cmp v.keys fits.1 fits.0 };
+
+    ghost same = { λ v w. AlikeKeys T.cmp T.same v.keys w.keys };
+
+    ghost only = { λ s v fits. set_only s _ (λ w. w.keys) T.cmp (T.reads s.human R.lends) T.same v.keys
+        (sequence_row s _ (λ ms. ReadsEach (Only (T.reads s.human R.lends) T.same) ms v.keys)
+        (each_row s (λ x. T.data_of x s.human) T.is_value (Only (T.reads s.human R.lends) T.same) (T.only s) v.keys fits.0)) };
 }
 
 impl<T: Serialize + Ord> NeverNil for BTreeSet<T> {
@@ -33,6 +42,12 @@ impl<'de, R: ReadSlice<'de>, K: RoundTrip<'de, R> + Ord, V: RoundTrip<'de, R>> R
     ghost round = { λ lent s v fits. map_row s (λ x. K.data_of x s.human) (λ x. V.data_of x s.human) K.is_value V.is_value (K.reads s.human R.lends)
         (V.reads s.human R.lends) (K.round (first_lent K.borrows V.borrows R.lends lent) s) (V.round (second_lent K.borrows V.borrows R.lends lent) s)
         K.total v.entries fits.1 fits.0 };
+
+    ghost same = { λ v w. AlikeEntries K.cmp K.same V.same v.entries w.entries };
+
+    ghost only = { λ s v fits. map_only (K.reads s.human R.lends) (V.reads s.human R.lends) K.same V.same s _ (λ w. w.entries) K.cmp v.entries
+        (pairs_row s (λ x. K.data_of x s.human) (λ x. V.data_of x s.human) K.is_value V.is_value
+        (Only (K.reads s.human R.lends) K.same) (Only (V.reads s.human R.lends) V.same) (K.only s) (V.only s) v.entries fits.0) };
 }
 
 impl<K: Serialize + Ord, V: Serialize> NeverNil for BTreeMap<K, V> {

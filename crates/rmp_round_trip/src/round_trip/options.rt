@@ -1,4 +1,6 @@
 //! Options, boxes and references.
+ghost use Rattle.rmp_round_trip.specs.OnlyRows.{inside_only, option_only};
+ghost use Rattle.rmp_round_trip.specs.RoundTrip.{AlikeOption, Only};
 ghost use Rattle.rmp_round_trip.specs.Rounds.{option_some, option_row};
 
 use crate::round_trip::{NeverNil, RoundTrip};
@@ -10,6 +12,11 @@ impl<'de, R: ReadSlice<'de>, T: RoundTrip<'de, R> + NeverNil> RoundTrip<'de, R> 
     ghost has_data = { λ human v. option_some (λ x. T.data_of x human) (T.has_data human) v };
 
     ghost round = { λ lent s v fits. option_row s (λ x. T.data_of x s.human) T.is_value (T.reads s.human R.lends) (T.never_nil s) (T.round lent s) v fits };
+
+    ghost same = { λ v w. AlikeOption T.same v w };
+
+    ghost only = { λ s v fits. option_only s _ (T.reads s.human R.lends) T.same v
+        (option_row s (λ x. T.data_of x s.human) T.is_value (Only (T.reads s.human R.lends) T.same) (T.never_nil s) (T.only s) v fits) };
 }
 
 impl<'de, R: ReadSlice<'de>, T: RoundTrip<'de, R>> RoundTrip<'de, R> for Box<T> {
@@ -18,6 +25,10 @@ impl<'de, R: ReadSlice<'de>, T: RoundTrip<'de, R>> RoundTrip<'de, R> for Box<T> 
     ghost has_data = { λ human v. T.has_data human v.value };
 
     ghost round = { λ lent s v fits. T.round lent s v.value fits };
+
+    ghost same = { λ v w. T.same v.value w.value };
+
+    ghost only = { λ s v fits. inside_only s _ (λ w. w.value) (T.reads s.human R.lends) T.same v.value (T.only s v.value fits) };
 }
 
 impl<T: NeverNil> NeverNil for Box<T> {

@@ -4,6 +4,8 @@ ghost use Rattle.std.specs.Prelude.{true, string_bytes};
 ghost use Rattle.rmp_wire.specs.Types.{bytes_of, buffer_bytes, tag_of, ext_bytes};
 ghost use Rattle.rmp_round_trip.specs.LeafRounds.{char_row, string_row, str_row, bytes_row, buffer_row};
 ghost use Rattle.rmp_round_trip.specs.LeafRounds.{ext_row, char_other, text_other, bytes_other, extension_other};
+ghost use Rattle.rmp_round_trip.specs.OnlyLeaves.{char_only, string_only, str_only, bytes_only, buffer_only, ext_only};
+ghost use Rattle.std.specs.Prelude.{◌≡◌};
 
 use crate::round_trip::{NeverNil, RoundTrip};
 use rmp_wire::{ByteBuf, Bytes, Ext, ReadSlice};
@@ -12,6 +14,10 @@ impl<'de, R: ReadSlice<'de>> RoundTrip<'de, R> for char {
     ghost has_data = { λ human v. refl };
 
     ghost round = { λ lent s v fits. char_row s v fits };
+
+    ghost same = { λ v w. v ≡ w };
+
+    ghost only = { λ s v fits. char_only s v fits };
 }
 
 impl NeverNil for char {
@@ -22,6 +28,10 @@ impl<'de, R: ReadSlice<'de>> RoundTrip<'de, R> for String {
     ghost has_data = { λ human v. refl };
 
     ghost round = { λ lent s v fits. string_row s (string_bytes v) };
+
+    ghost same = { λ v w. string_bytes v ≡ string_bytes w };
+
+    ghost only = { λ s v fits. string_only s (λ w. string_bytes w) (string_bytes v) };
 }
 
 impl NeverNil for String {
@@ -34,6 +44,10 @@ impl<'de, R: ReadSlice<'de>> RoundTrip<'de, R> for &'de str {
     ghost has_data = { λ human v. refl };
 
     ghost round = { λ lent s v fits. str_row s v.now _ (lent refl) fits };
+
+    ghost same = { λ v w. v.now ≡ w.now };
+
+    ghost only = { λ s v fits. str_only s (λ w. w.now) v.now R.lends };
 }
 
 impl NeverNil for &str {
@@ -46,6 +60,10 @@ impl<'de, R: ReadSlice<'de>> RoundTrip<'de, R> for Bytes<'de> {
     ghost has_data = { λ human v. refl };
 
     ghost round = { λ lent s v fits. bytes_row s (bytes_of v) _ (lent refl) };
+
+    ghost same = { λ v w. bytes_of v ≡ bytes_of w };
+
+    ghost only = { λ s v fits. bytes_only s (λ w. bytes_of w) (bytes_of v) R.lends };
 }
 
 impl NeverNil for Bytes<'_> {
@@ -56,6 +74,10 @@ impl<'de, R: ReadSlice<'de>> RoundTrip<'de, R> for ByteBuf {
     ghost has_data = { λ human v. refl };
 
     ghost round = { λ lent s v fits. buffer_row s (buffer_bytes v) };
+
+    ghost same = { λ v w. buffer_bytes v ≡ buffer_bytes w };
+
+    ghost only = { λ s v fits. buffer_only s (λ w. buffer_bytes w) (buffer_bytes v) };
 }
 
 impl NeverNil for ByteBuf {
@@ -66,6 +88,10 @@ impl<'de, R: ReadSlice<'de>> RoundTrip<'de, R> for Ext {
     ghost has_data = { λ human v. refl };
 
     ghost round = { λ lent s v fits. ext_row s v };
+
+    ghost same = { λ v w. (tag_of v ≡ tag_of w) × (ext_bytes v ≡ ext_bytes w) };
+
+    ghost only = { λ s v fits. ext_only s v };
 }
 
 impl NeverNil for Ext {

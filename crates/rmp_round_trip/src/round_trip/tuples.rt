@@ -1,8 +1,11 @@
 //! Tuples. Written by tools/round_tuples.py.
 ghost use Rattle.std.specs.Prelude.{◌∷◌, ◌||◌, [], true};
+ghost use Rattle.rmp_round_trip.specs.OnlyRows.{item_only, last_only, lowers_then, row_both};
+ghost use Rattle.rmp_round_trip.specs.RoundTrip.{Only};
 ghost use Rattle.rmp_round_trip.specs.Rounds.{rows_none, rows_cons, parts_none, parts_cons, tuple_some, tuple_row, tuple_other, first_lent, second_lent};
 
 use crate::round_trip::{NeverNil, RoundTrip};
+use rmp_decode::Deserialize;
 use rmp_encode::Serialize;
 use rmp_wire::ReadSlice;
 
@@ -12,6 +15,12 @@ impl<'de, R: ReadSlice<'de>, A: RoundTrip<'de, R>> RoundTrip<'de, R> for (A,) {
     ghost has_data = { λ human v. tuple_some _ (parts_cons _ _ (A.has_data human v.0) parts_none) };
 
     ghost round = { λ lent s v fits. tuple_row s _ _ (rows_cons s _ _ (λ m. A.reads s.human R.lends m v.0) _ (A.round lent s v.0 fits) (rows_none s)) };
+
+    ghost same = { λ v w. A.same v.0 w.0 };
+
+    ghost only = { λ s v fits. lowers_then s _ _ (λ m. (w : _) → ⟦<(A,) as Deserialize<'de, R>>⟧.reads s.human R.lends m w
+        → A.same v.0 w.0) (tuple_row s _ _ (rows_cons s _ _ (λ m. Only (A.reads s.human R.lends) A.same m v.0) _ (A.only s v.0 fits) (rows_none s)))
+        (λ m q w r. row_both _ _ _ m q r (last_only (A.reads s.human R.lends) A.same v.0 w.0)) };
 }
 
 impl<A: Serialize> NeverNil for (A,) {
@@ -27,6 +36,14 @@ impl<'de, R: ReadSlice<'de>, A: RoundTrip<'de, R>, B: RoundTrip<'de, R>> RoundTr
     ghost round = { λ lent s v fits. tuple_row s _ _ (rows_cons s _ _ (λ m. A.reads s.human R.lends m v.0) _
         (A.round (first_lent A.borrows B.borrows R.lends lent) s v.0 fits.0)
         (rows_cons s _ _ (λ m. B.reads s.human R.lends m v.1) _ (B.round (second_lent A.borrows B.borrows R.lends lent) s v.1 fits.1) (rows_none s))) };
+
+    ghost same = { λ v w. A.same v.0 w.0 × B.same v.1 w.1 };
+
+    ghost only = { λ s v fits. lowers_then s _ _ (λ m. (w : _) → ⟦<(A, B) as Deserialize<'de, R>>⟧.reads s.human R.lends m w
+        → A.same v.0 w.0 × B.same v.1 w.1) (tuple_row s _ _
+        (rows_cons s _ _ (λ m. Only (A.reads s.human R.lends) A.same m v.0) _ (A.only s v.0 fits.0)
+        (rows_cons s _ _ (λ m. Only (B.reads s.human R.lends) B.same m v.1) _ (B.only s v.1 fits.1) (rows_none s))))
+        (λ m q w r. row_both _ _ _ m q r (item_only (A.reads s.human R.lends) A.same v.0 w.0 _ _ _ (last_only (B.reads s.human R.lends) B.same v.1 w.1))) };
 }
 
 impl<A: Serialize, B: Serialize> NeverNil for (A, B) {
@@ -51,6 +68,16 @@ impl<
         (B.round (first_lent B.borrows D.borrows R.lends (second_lent A.borrows (B.borrows || D.borrows) R.lends lent)) s v.1 fits.1)
         (rows_cons s _ _ (λ m. D.reads s.human R.lends m v.2) _
         (D.round (second_lent B.borrows D.borrows R.lends (second_lent A.borrows (B.borrows || D.borrows) R.lends lent)) s v.2 fits.2) (rows_none s)))) };
+
+    ghost same = { λ v w. A.same v.0 w.0 × B.same v.1 w.1 × D.same v.2 w.2 };
+
+    ghost only = { λ s v fits. lowers_then s _ _ (λ m. (w : _) → ⟦<(A, B, D) as Deserialize<'de, R>>⟧.reads s.human R.lends m w
+        → A.same v.0 w.0 × B.same v.1 w.1 × D.same v.2 w.2)
+        (tuple_row s _ _ (rows_cons s _ _ (λ m. Only (A.reads s.human R.lends) A.same m v.0) _ (A.only s v.0 fits.0)
+        (rows_cons s _ _ (λ m. Only (B.reads s.human R.lends) B.same m v.1) _ (B.only s v.1 fits.1)
+        (rows_cons s _ _ (λ m. Only (D.reads s.human R.lends) D.same m v.2) _ (D.only s v.2 fits.2) (rows_none s)))))
+        (λ m q w r. row_both _ _ _ m q r (λ ks i j. let x = item_only (A.reads s.human R.lends) A.same v.0 w.0 _ _ _
+        (item_only (B.reads s.human R.lends) B.same v.1 w.1 _ _ _ (last_only (D.reads s.human R.lends) D.same v.2 w.2)) ks i j in (x.0, x.1.0, x.1.1))) };
 }
 
 impl<A: Serialize, B: Serialize, D: Serialize> NeverNil for (A, B, D) {
@@ -80,6 +107,19 @@ impl<
         (rows_cons s _ _ (λ m. E.reads s.human R.lends m v.3) _
         (E.round (second_lent D.borrows E.borrows R.lends (second_lent B.borrows (D.borrows || E.borrows) R.lends
         (second_lent A.borrows (B.borrows || (D.borrows || E.borrows)) R.lends lent))) s v.3 fits.3) (rows_none s))))) };
+
+    ghost same = { λ v w. A.same v.0 w.0 × B.same v.1 w.1 × D.same v.2 w.2 × E.same v.3 w.3 };
+
+    ghost only = { λ s v fits. lowers_then s _ _ (λ m. (w : _) → ⟦<(A, B, D, E) as Deserialize<'de, R>>⟧.reads s.human R.lends m w
+        → A.same v.0 w.0 × B.same v.1 w.1 × D.same v.2 w.2 × E.same v.3 w.3)
+        (tuple_row s _ _ (rows_cons s _ _ (λ m. Only (A.reads s.human R.lends) A.same m v.0) _ (A.only s v.0 fits.0)
+        (rows_cons s _ _ (λ m. Only (B.reads s.human R.lends) B.same m v.1) _ (B.only s v.1 fits.1)
+        (rows_cons s _ _ (λ m. Only (D.reads s.human R.lends) D.same m v.2) _ (D.only s v.2 fits.2)
+        (rows_cons s _ _ (λ m. Only (E.reads s.human R.lends) E.same m v.3) _ (E.only s v.3 fits.3) (rows_none s))))))
+        (λ m q w r. row_both _ _ _ m q r (λ ks i j. let x = item_only (A.reads s.human R.lends) A.same v.0 w.0 _ _ _
+        (item_only (B.reads s.human R.lends) B.same v.1 w.1 _ _ _
+        (item_only (D.reads s.human R.lends) D.same v.2 w.2 _ _ _ (last_only (E.reads s.human R.lends) E.same v.3 w.3))) ks i j
+        in (x.0, x.1.0, x.1.1.0, x.1.1.1))) };
 }
 
 impl<A: Serialize, B: Serialize, D: Serialize, E: Serialize> NeverNil for (A, B, D, E) {
@@ -118,6 +158,21 @@ impl<
         (F.round (second_lent E.borrows F.borrows R.lends (second_lent D.borrows (E.borrows || F.borrows) R.lends
         (second_lent B.borrows (D.borrows || (E.borrows || F.borrows)) R.lends
         (second_lent A.borrows (B.borrows || (D.borrows || (E.borrows || F.borrows))) R.lends lent)))) s v.4 fits.4) (rows_none s)))))) };
+
+    ghost same = { λ v w. A.same v.0 w.0 × B.same v.1 w.1 × D.same v.2 w.2 × E.same v.3 w.3 × F.same v.4 w.4 };
+
+    ghost only = { λ s v fits. lowers_then s _ _ (λ m. (w : _) → ⟦<(A, B, D, E, F) as Deserialize<'de, R>>⟧.reads s.human R.lends m w
+        → A.same v.0 w.0 × B.same v.1 w.1 × D.same v.2 w.2 × E.same v.3 w.3 × F.same v.4 w.4)
+        (tuple_row s _ _ (rows_cons s _ _ (λ m. Only (A.reads s.human R.lends) A.same m v.0) _ (A.only s v.0 fits.0)
+        (rows_cons s _ _ (λ m. Only (B.reads s.human R.lends) B.same m v.1) _ (B.only s v.1 fits.1)
+        (rows_cons s _ _ (λ m. Only (D.reads s.human R.lends) D.same m v.2) _ (D.only s v.2 fits.2)
+        (rows_cons s _ _ (λ m. Only (E.reads s.human R.lends) E.same m v.3) _ (E.only s v.3 fits.3)
+        (rows_cons s _ _ (λ m. Only (F.reads s.human R.lends) F.same m v.4) _ (F.only s v.4 fits.4) (rows_none s)))))))
+        (λ m q w r. row_both _ _ _ m q r (λ ks i j. let x = item_only (A.reads s.human R.lends) A.same v.0 w.0 _ _ _
+        (item_only (B.reads s.human R.lends) B.same v.1 w.1 _ _ _
+        (item_only (D.reads s.human R.lends) D.same v.2 w.2 _ _ _
+        (item_only (E.reads s.human R.lends) E.same v.3 w.3 _ _ _ (last_only (F.reads s.human R.lends) F.same v.4 w.4)))) ks i j
+        in (x.0, x.1.0, x.1.1.0, x.1.1.1.0, x.1.1.1.1))) };
 }
 
 impl<A: Serialize, B: Serialize, D: Serialize, E: Serialize, F: Serialize> NeverNil
@@ -166,6 +221,23 @@ impl<
         (second_lent D.borrows (E.borrows || (F.borrows || G.borrows)) R.lends
         (second_lent B.borrows (D.borrows || (E.borrows || (F.borrows || G.borrows))) R.lends
         (second_lent A.borrows (B.borrows || (D.borrows || (E.borrows || (F.borrows || G.borrows)))) R.lends lent))))) s v.5 fits.5) (rows_none s))))))) };
+
+    ghost same = { λ v w. A.same v.0 w.0 × B.same v.1 w.1 × D.same v.2 w.2 × E.same v.3 w.3 × F.same v.4 w.4 × G.same v.5 w.5 };
+
+    ghost only = { λ s v fits. lowers_then s _ _ (λ m. (w : _) → ⟦<(A, B, D, E, F, G) as Deserialize<'de, R>>⟧.reads s.human R.lends m w
+        → A.same v.0 w.0 × B.same v.1 w.1 × D.same v.2 w.2 × E.same v.3 w.3 × F.same v.4 w.4 × G.same v.5 w.5)
+        (tuple_row s _ _ (rows_cons s _ _ (λ m. Only (A.reads s.human R.lends) A.same m v.0) _ (A.only s v.0 fits.0)
+        (rows_cons s _ _ (λ m. Only (B.reads s.human R.lends) B.same m v.1) _ (B.only s v.1 fits.1)
+        (rows_cons s _ _ (λ m. Only (D.reads s.human R.lends) D.same m v.2) _ (D.only s v.2 fits.2)
+        (rows_cons s _ _ (λ m. Only (E.reads s.human R.lends) E.same m v.3) _ (E.only s v.3 fits.3)
+        (rows_cons s _ _ (λ m. Only (F.reads s.human R.lends) F.same m v.4) _ (F.only s v.4 fits.4)
+        (rows_cons s _ _ (λ m. Only (G.reads s.human R.lends) G.same m v.5) _ (G.only s v.5 fits.5) (rows_none s))))))))
+        (λ m q w r. row_both _ _ _ m q r (λ ks i j. let x = item_only (A.reads s.human R.lends) A.same v.0 w.0 _ _ _
+        (item_only (B.reads s.human R.lends) B.same v.1 w.1 _ _ _
+        (item_only (D.reads s.human R.lends) D.same v.2 w.2 _ _ _
+        (item_only (E.reads s.human R.lends) E.same v.3 w.3 _ _ _
+        (item_only (F.reads s.human R.lends) F.same v.4 w.4 _ _ _ (last_only (G.reads s.human R.lends) G.same v.5 w.5))))) ks i j
+        in (x.0, x.1.0, x.1.1.0, x.1.1.1.0, x.1.1.1.1.0, x.1.1.1.1.1))) };
 }
 
 impl<A: Serialize, B: Serialize, D: Serialize, E: Serialize, F: Serialize, G: Serialize> NeverNil
@@ -225,6 +297,25 @@ impl<
         (second_lent B.borrows (D.borrows || (E.borrows || (F.borrows || (G.borrows || H.borrows)))) R.lends
         (second_lent A.borrows (B.borrows || (D.borrows || (E.borrows || (F.borrows || (G.borrows || H.borrows))))) R.lends lent)))))) s v.6 fits.6)
         (rows_none s)))))))) };
+
+    ghost same = { λ v w. A.same v.0 w.0 × B.same v.1 w.1 × D.same v.2 w.2 × E.same v.3 w.3 × F.same v.4 w.4 × G.same v.5 w.5 × H.same v.6 w.6 };
+
+    ghost only = { λ s v fits. lowers_then s _ _ (λ m. (w : _) → ⟦<(A, B, D, E, F, G, H) as Deserialize<'de, R>>⟧.reads s.human R.lends m w
+        → A.same v.0 w.0 × B.same v.1 w.1 × D.same v.2 w.2 × E.same v.3 w.3 × F.same v.4 w.4 × G.same v.5 w.5 × H.same v.6 w.6)
+        (tuple_row s _ _ (rows_cons s _ _ (λ m. Only (A.reads s.human R.lends) A.same m v.0) _ (A.only s v.0 fits.0)
+        (rows_cons s _ _ (λ m. Only (B.reads s.human R.lends) B.same m v.1) _ (B.only s v.1 fits.1)
+        (rows_cons s _ _ (λ m. Only (D.reads s.human R.lends) D.same m v.2) _ (D.only s v.2 fits.2)
+        (rows_cons s _ _ (λ m. Only (E.reads s.human R.lends) E.same m v.3) _ (E.only s v.3 fits.3)
+        (rows_cons s _ _ (λ m. Only (F.reads s.human R.lends) F.same m v.4) _ (F.only s v.4 fits.4)
+        (rows_cons s _ _ (λ m. Only (G.reads s.human R.lends) G.same m v.5) _ (G.only s v.5 fits.5)
+        (rows_cons s _ _ (λ m. Only (H.reads s.human R.lends) H.same m v.6) _ (H.only s v.6 fits.6) (rows_none s)))))))))
+        (λ m q w r. row_both _ _ _ m q r (λ ks i j. let x = item_only (A.reads s.human R.lends) A.same v.0 w.0 _ _ _
+        (item_only (B.reads s.human R.lends) B.same v.1 w.1 _ _ _
+        (item_only (D.reads s.human R.lends) D.same v.2 w.2 _ _ _
+        (item_only (E.reads s.human R.lends) E.same v.3 w.3 _ _ _
+        (item_only (F.reads s.human R.lends) F.same v.4 w.4 _ _ _
+        (item_only (G.reads s.human R.lends) G.same v.5 w.5 _ _ _ (last_only (H.reads s.human R.lends) H.same v.6 w.6)))))) ks i j
+        in (x.0, x.1.0, x.1.1.0, x.1.1.1.0, x.1.1.1.1.0, x.1.1.1.1.1.0, x.1.1.1.1.1.1))) };
 }
 
 impl<
@@ -301,6 +392,28 @@ impl<
         (second_lent B.borrows (D.borrows || (E.borrows || (F.borrows || (G.borrows || (H.borrows || I.borrows))))) R.lends
         (second_lent A.borrows (B.borrows || (D.borrows || (E.borrows || (F.borrows || (G.borrows || (H.borrows || I.borrows)))))) R.lends lent))))))) s v.7
         fits.7) (rows_none s))))))))) };
+
+    ghost same = { λ v w. A.same v.0 w.0 × B.same v.1 w.1 × D.same v.2 w.2 × E.same v.3 w.3 × F.same v.4 w.4 × G.same v.5 w.5 × H.same v.6 w.6
+        × I.same v.7 w.7 };
+
+    ghost only = { λ s v fits. lowers_then s _ _ (λ m. (w : _) → ⟦<(A, B, D, E, F, G, H, I) as Deserialize<'de, R>>⟧.reads s.human R.lends m w
+        → A.same v.0 w.0 × B.same v.1 w.1 × D.same v.2 w.2 × E.same v.3 w.3 × F.same v.4 w.4 × G.same v.5 w.5 × H.same v.6 w.6 × I.same v.7 w.7)
+        (tuple_row s _ _ (rows_cons s _ _ (λ m. Only (A.reads s.human R.lends) A.same m v.0) _ (A.only s v.0 fits.0)
+        (rows_cons s _ _ (λ m. Only (B.reads s.human R.lends) B.same m v.1) _ (B.only s v.1 fits.1)
+        (rows_cons s _ _ (λ m. Only (D.reads s.human R.lends) D.same m v.2) _ (D.only s v.2 fits.2)
+        (rows_cons s _ _ (λ m. Only (E.reads s.human R.lends) E.same m v.3) _ (E.only s v.3 fits.3)
+        (rows_cons s _ _ (λ m. Only (F.reads s.human R.lends) F.same m v.4) _ (F.only s v.4 fits.4)
+        (rows_cons s _ _ (λ m. Only (G.reads s.human R.lends) G.same m v.5) _ (G.only s v.5 fits.5)
+        (rows_cons s _ _ (λ m. Only (H.reads s.human R.lends) H.same m v.6) _ (H.only s v.6 fits.6)
+        (rows_cons s _ _ (λ m. Only (I.reads s.human R.lends) I.same m v.7) _ (I.only s v.7 fits.7) (rows_none s))))))))))
+        (λ m q w r. row_both _ _ _ m q r (λ ks i j. let x = item_only (A.reads s.human R.lends) A.same v.0 w.0 _ _ _
+        (item_only (B.reads s.human R.lends) B.same v.1 w.1 _ _ _
+        (item_only (D.reads s.human R.lends) D.same v.2 w.2 _ _ _
+        (item_only (E.reads s.human R.lends) E.same v.3 w.3 _ _ _
+        (item_only (F.reads s.human R.lends) F.same v.4 w.4 _ _ _
+        (item_only (G.reads s.human R.lends) G.same v.5 w.5 _ _ _
+        (item_only (H.reads s.human R.lends) H.same v.6 w.6 _ _ _ (last_only (I.reads s.human R.lends) I.same v.7 w.7))))))) ks i j
+        in (x.0, x.1.0, x.1.1.0, x.1.1.1.0, x.1.1.1.1.0, x.1.1.1.1.1.0, x.1.1.1.1.1.1.0, x.1.1.1.1.1.1.1))) };
 }
 
 impl<

@@ -1,4 +1,4 @@
-//! Passes over short nodes by a table.
+//! The fast path for short nodes: a table of first bytes.
 ghost use Rattle.std.specs.Prelude.{◌≡◌, ◌≤◌, ◌*◌, [], ◌∷◌, length, drop};
 ghost use Rattle.rmp_serde.specs.Places.{TakesNodes};
 ghost use Rattle.rmp_serde.specs.Short.{entry};
@@ -6,23 +6,23 @@ ghost use Rattle.rmp_serde.specs.Short.{entry};
 // What a first byte says of a head.
 #[derive(Clone, Copy)]
 struct Entry {
-    // This is added to the number in the four bytes behind it,
+    // This is added to the big-endian number in the next four bytes,
     added: u64,
-    // and where the sum is at least this, the head is canonical;
+    // and if the sum is at least this, the head is canonical;
     least: u64,
-    // then it has so many bytes with its content,
+    // then it has this many bytes with its content,
     size: u64,
-    // and so many messages stand behind them.
+    // and this many messages follow as its parts.
     parts: u64,
 }
 
-// How many bytes a short head takes with its content, at most.
+// The most bytes that a short head has with its content.
 pub(super) const LONGEST: u64 = 32;
 
-// What no sum reaches: the table tells nothing of such a head.
+// No sum is as large as this: such a head isn't in the table.
 const NEVER: u64 = u64::MAX;
 
-// For a number below 0 the sum passes 2^64 where it would have a shorter head.
+// For a number below 0, the sum passes 2^64 if a shorter head exists.
 const I8_ADDED: u64 = 0xffff_ffff_2000_0000;
 
 const I8_LEAST: u64 = 0xffff_ffff_a000_0000;
@@ -39,7 +39,7 @@ const I64_ADDED: u64 = 0xffff_ffff_0000_0001;
 
 const I64_LEAST: u64 = 0xffff_ffff_8000_0001;
 
-// The four numbers of each first byte.
+// The four numbers for each first byte.
 const NODES: [u64; 1024] = [
     0, 0, 1, 0, 0, 0, 1, 0, 0, 0, 1, 0, 0, 0, 1, 0, 0, 0, 1, 0, 0, 0, 1, 0, 0, 0, 1, 0, 0, 0, 1, 0,
     0, 0, 1, 0, 0, 0, 1, 0, 0, 0, 1, 0, 0, 0, 1, 0, 0, 0, 1, 0, 0, 0, 1, 0, 0, 0, 1, 0, 0, 0, 1, 0,
@@ -91,11 +91,11 @@ fn entry_of(first: u8) -> Entry
     }
 }
 
-// How many heads the table passes over before small numbers are looked for again.
+// The number of heads that the table handles before small numbers are looked for again.
 const BLOCK: u64 = 4096;
 
-// Passes over canonical heads and their contents, up to so many, as far as the table goes. It says how many bytes they took, how
-// many they are, and how many messages stand behind them all together.
+// Skips canonical heads and their contents, at most `most`, as far as the table goes. Returns how many bytes
+// they have, how many they are, and how many messages follow as their parts.
 pub(super) fn short_nodes(bytes: &[u8], most: u64) -> (usize, u64, u64)
     requires room { LONGEST * most ≤ length bytes.now }
     ensures within { result.0 ≤ length bytes.now }
@@ -103,7 +103,7 @@ pub(super) fn short_nodes(bytes: &[u8], most: u64) -> (usize, u64, u64)
     ensures nodes { TakesNodes result.1 result.2 bytes.now (drop result.0 bytes.now) }
 {
     let mut at: usize = 0;
-    // A row of small numbers: here the next place doesn't wait for the table.
+    // A run of small numbers: here the next offset doesn't depend on the table.
     'small: while (at as u64) < most && bytes[at] < 0x80 {
         at += 1;
     }

@@ -1,4 +1,4 @@
-//! Bytes that lie elsewhere.
+//! Borrowed bytes.
 #![tactic(auto, unfolding(rmp_encode::specs::Data::lower), using(rmp_encode::proofs::Parts::part_memory))]
 
 ghost use Rattle.std.specs.Prelude.{◌≡◌, ◌↔◌, None, Some, IsTrue, IsUtf8, MatchOption, false, if◌then◌else◌, true};
@@ -8,7 +8,7 @@ ghost use Rattle.std.specs.Cmp.{on_per, partial_equiv_from_equiv};
 ghost use Rattle.std.proofs.lemmas.Cmp.{nat_list_eq_equiv};
 ghost use Rattle.rmp_decode.specs.Content.{IsRawHead, RefusesContent, not_raw, not_bytes};
 ghost use Rattle.rmp_decode.specs.Read.{IsRaw};
-ghost use Rattle.rmp_serde.specs.RawRounds.{raw_ref_row, raw_other};
+ghost use Rattle.rmp_serde.specs.RawRounds.{raw_ref_only, raw_ref_row, raw_other};
 ghost use Rattle.rmp_serde.specs.Raws.{raw_ref_bytes, raw_data};
 
 use crate::raw::{ContentRef, OtherRef, RawRef};
@@ -21,7 +21,7 @@ use std::str;
 use std::str::Utf8Error;
 
 impl<'a> RawRef<'a> {
-    /// The bytes of a text.
+    /// Makes a `RawRef` of a text.
     pub fn new(text: &'a str) -> RawRef<'a>
         ensures { raw_ref_bytes result ≡ text.now }
     {
@@ -30,7 +30,7 @@ impl<'a> RawRef<'a> {
         }
     }
 
-    /// These bytes, whether they are UTF-8 or not.
+    /// Makes a `RawRef` of bytes, whether they are UTF-8 or not.
     ///
     /// # Examples
     /// ```
@@ -51,21 +51,21 @@ impl<'a> RawRef<'a> {
         }
     }
 
-    /// Whether the bytes are UTF-8.
+    /// Returns whether the bytes are UTF-8.
     pub fn is_str(&self) -> bool
         ensures { IsTrue result ↔ IsUtf8 (raw_ref_bytes self.now) }
     {
         self.as_str().is_some()
     }
 
-    /// Whether the bytes aren't UTF-8.
+    /// Returns whether the bytes aren't UTF-8.
     pub fn is_err(&self) -> bool
         ensures { IsTrue result ↔ (IsUtf8 (raw_ref_bytes self.now) → ⊥) }
     {
         !self.is_str()
     }
 
-    /// The text, where the bytes are UTF-8, for as long as it lies there.
+    /// Returns the text, if the bytes are UTF-8, borrowed for as long as what it was made of.
     pub fn as_str(&self) -> Option<&'a str>
         ensures { MatchOption result (IsUtf8 (raw_ref_bytes self.now) → ⊥)
             (λ s. (s.now ≡ raw_ref_bytes self.now) × IsUtf8 (raw_ref_bytes self.now)) }
@@ -76,7 +76,7 @@ impl<'a> RawRef<'a> {
         }
     }
 
-    /// Why the bytes aren't UTF-8, where they aren't, and up to which place they are.
+    /// Returns why the bytes aren't UTF-8, if they aren't, and up to which offset they are.
     pub fn as_err(&self) -> Option<&Utf8Error>
         ensures { MatchOption result (IsUtf8 (raw_ref_bytes self.now))
             (λ e. (IsUtf8 (raw_ref_bytes self.now) → ⊥) × (valid_up_to e.now ≡ utf8_valid_len (raw_ref_bytes self.now))) }
@@ -91,7 +91,7 @@ impl<'a> RawRef<'a> {
         }
     }
 
-    /// The bytes, for as long as they lie there.
+    /// Returns the bytes, borrowed for as long as what they were made of.
     pub fn as_bytes(&self) -> &'a [u8]
         ensures { result.now ≡ raw_ref_bytes self.now }
     {
@@ -167,6 +167,10 @@ impl<'de, R: ReadSlice<'de>> RoundTrip<'de, R> for RawRef<'de> {
     ghost has_data = { λ human v. refl };
 
     ghost round = { λ lent s v fits. raw_ref_row s (raw_ref_bytes v) R.lends (lent refl) };
+
+    ghost same = { λ v w. raw_ref_bytes v ≡ raw_ref_bytes w };
+
+    ghost only = { λ s v fits. raw_ref_only s (λ w. raw_ref_bytes w) (raw_ref_bytes v) R.lends };
 }
 
 impl NeverNil for RawRef<'_> {

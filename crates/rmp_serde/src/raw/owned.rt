@@ -1,4 +1,4 @@
-//! Bytes of its own.
+//! Owned bytes.
 #![tactic(auto, unfolding(rmp_encode::specs::Data::lower), using(rmp_encode::proofs::Parts::part_memory))]
 
 ghost use Rattle.std.specs.Prelude.{◌≡◌, ◌↔◌, None, Some, IsTrue, IsUtf8, MatchOption, false, string_bytes};
@@ -8,7 +8,7 @@ ghost use Rattle.std.specs.Cmp.{on_per, partial_equiv_from_equiv};
 ghost use Rattle.std.proofs.lemmas.Cmp.{nat_list_eq_equiv};
 ghost use Rattle.rmp_decode.specs.Content.{IsRawHead, RefusesContent, not_raw, never_refused};
 ghost use Rattle.rmp_decode.specs.Read.{IsRaw};
-ghost use Rattle.rmp_serde.specs.RawRounds.{raw_row, raw_other};
+ghost use Rattle.rmp_serde.specs.RawRounds.{raw_only, raw_row, raw_other};
 ghost use Rattle.rmp_serde.specs.Raws.{raw_bytes, raw_data};
 
 use crate::raw::{Content, Other, Raw};
@@ -20,7 +20,7 @@ use rmp_wire::{ReadSlice, Sink};
 use std::str::Utf8Error;
 
 impl Raw {
-    /// The bytes of a text.
+    /// Makes a `Raw` of a text.
     pub fn new(text: String) -> Raw
         ensures { raw_bytes result ≡ string_bytes text }
     {
@@ -29,7 +29,7 @@ impl Raw {
         }
     }
 
-    /// These bytes, whether they are UTF-8 or not.
+    /// Makes a `Raw` of bytes, whether they are UTF-8 or not.
     pub fn from_utf8(bytes: Vec<u8>) -> Raw
         ensures { raw_bytes result ≡ bytes.items }
     {
@@ -45,7 +45,7 @@ impl Raw {
         }
     }
 
-    /// Whether the bytes are UTF-8.
+    /// Returns whether the bytes are UTF-8.
     pub fn is_str(&self) -> bool
         ensures { IsTrue result ↔ IsUtf8 (raw_bytes self.now) }
     {
@@ -55,14 +55,14 @@ impl Raw {
         }
     }
 
-    /// Whether the bytes aren't UTF-8.
+    /// Returns whether the bytes aren't UTF-8.
     pub fn is_err(&self) -> bool
         ensures { IsTrue result ↔ (IsUtf8 (raw_bytes self.now) → ⊥) }
     {
         !self.is_str()
     }
 
-    /// The text, where the bytes are UTF-8.
+    /// Returns the text, if the bytes are UTF-8.
     pub fn as_str(&self) -> Option<&str>
         ensures { MatchOption result (IsUtf8 (raw_bytes self.now) → ⊥) (λ s. (s.now ≡ raw_bytes self.now) × IsUtf8 (raw_bytes self.now)) }
     {
@@ -72,7 +72,7 @@ impl Raw {
         }
     }
 
-    /// Why the bytes aren't UTF-8, where they aren't, and up to which place they are.
+    /// Returns why the bytes aren't UTF-8, if they aren't, and up to which offset they are.
     pub fn as_err(&self) -> Option<&Utf8Error>
         ensures { MatchOption result (IsUtf8 (raw_bytes self.now))
             (λ e. (IsUtf8 (raw_bytes self.now) → ⊥) × (valid_up_to e.now ≡ utf8_valid_len (raw_bytes self.now))) }
@@ -83,7 +83,7 @@ impl Raw {
         }
     }
 
-    /// The bytes.
+    /// Returns the bytes.
     pub fn as_bytes(&self) -> &[u8]
         ensures { result.now ≡ raw_bytes self.now }
     {
@@ -93,7 +93,7 @@ impl Raw {
         }
     }
 
-    /// The text, where the bytes are UTF-8.
+    /// Returns the text, if the bytes are UTF-8.
     pub fn into_str(self) -> Option<String>
         ensures { MatchOption result (IsUtf8 (raw_bytes self) → ⊥) (λ s. (string_bytes s ≡ raw_bytes self) × IsUtf8 (raw_bytes self)) }
     {
@@ -103,7 +103,7 @@ impl Raw {
         }
     }
 
-    /// The bytes, in a vector.
+    /// Returns the bytes, as a vector.
     pub fn into_bytes(self) -> Vec<u8>
         ensures { result.items ≡ raw_bytes self }
     {
@@ -175,6 +175,10 @@ impl<'de, R: ReadSlice<'de>> RoundTrip<'de, R> for Raw {
     ghost has_data = { λ human v. refl };
 
     ghost round = { λ lent s v fits. raw_row s (raw_bytes v) };
+
+    ghost same = { λ v w. raw_bytes v ≡ raw_bytes w };
+
+    ghost only = { λ s v fits. raw_only s (λ w. raw_bytes w) (raw_bytes v) };
 }
 
 impl NeverNil for Raw {

@@ -8,7 +8,7 @@ ghost use Rattle.rmp_serde.specs.Flat.{heads_of, token_in, EndsBy, IsWithin};
 use crate::value::Value;
 use crate::value::flat::{Node, Nodes};
 
-// The two have the same head and the same content.
+// Whether the two nodes have the same head and the same content.
 #[inline(always)]
 fn same_node(x: Node, xs: &Nodes, y: Node, ys: &Nodes) -> bool
     requires first { EndsBy (length xs.now.bytes.items) x }
@@ -34,7 +34,7 @@ fn same_parts(xs: &Nodes, ys: &Nodes) -> bool
     true
 }
 
-// Two values have the same heads, one after another, exactly if their trees are equal.
+// Whether two values have the same heads and contents, in order; they do exactly if their trees are equal.
 fn same(a: &Value, b: &Value) -> bool
     ensures same { IsTrue result ↔ (a.now ≡ b.now) }
 {

@@ -1,4 +1,4 @@
-//! A message as nodes one after another, in the order of its spelling, and one buffer for their content.
+//! A message as nodes in the order of its encoding, and one buffer for their content.
 ghost use Rattle.std.specs.Prelude.{◌≡◌, ◌≤◌, ◌+◌, ◌++◌, ◌<◌, ℕ, List, [], ◌∷◌, length, take, drop, get_or, OnOk, vec_len, vec_capacity};
 ghost use Rattle.rmp_wire.specs.Heads.{fits_head};
 ghost use Rattle.rmp_decode.specs.Kinds.{content_len};
@@ -10,7 +10,7 @@ ghost use Rattle.rmp_serde.specs.declared.value.flat.Node.TheVariants as nodes;
 use rmp_wire::Head;
 use std::alloc::{AllocError, Global};
 
-/// A head, and what belongs to it.
+/// A head, with the place of its content or the number of its nodes.
 #[derive(Clone, Copy)]
 pub(crate) enum Node {
     Nil,
@@ -21,20 +21,22 @@ pub(crate) enum Node {
     Signed(i64),
     F32(u32),
     F64(u64),
-    /// How long a text is, and where it begins in the buffer.
+    /// How long a text is, and its offset in the buffer.
     Text(u32, usize),
-    /// The same of bytes.
+    /// How many bytes there are, and their offset in the buffer.
     Bytes(u32, usize),
-    /// The same of an extension, behind its type.
+    /// An extension's type, how many bytes it has, and their offset in the buffer.
     Ext(i8, u32, usize),
-    /// How many items a list has, and how many nodes it takes with all that stands in it; of a value's root that isn't told.
+    /// How many items a list has, and how many nodes the list takes, with all that is nested in it. The second
+    /// isn't set for a value's root.
     List(u32, usize),
-    /// The same of a map and its pairs.
+    /// How many pairs a map has, and how many nodes the map takes, as for a list.
     Map(u32, usize),
 }
 
 impl Node {
-    /// A node of a head whose content begins here. What a list or a map takes isn't told yet.
+    /// Makes a node of a head whose content begins at an offset. How many nodes a list or a map takes isn't set
+    /// yet.
     #[inline(always)]
     #[tactic(auto, unfolding(rmp_wire::specs::Heads::fits_head))]
     pub(crate) fn new(head: Head, at: usize) -> Node
@@ -63,7 +65,7 @@ impl Node {
         }
     }
 
-    /// The head that it stands for.
+    /// Returns the head of the node.
     #[inline(always)]
     pub(crate) fn head(self) -> Head
         ensures head { result ≡ head_in self }
@@ -83,7 +85,7 @@ impl Node {
         }
     }
 
-    /// How many nodes it takes, with those of all that stands in it.
+    /// Returns how many nodes the message takes, with all that is nested in it.
     #[inline(always)]
     pub(crate) fn takes(self) -> usize
         ensures takes { result ≡ takes_in self }
@@ -94,7 +96,7 @@ impl Node {
         }
     }
 
-    /// How many messages stand in a list or a map: of a map two a pair.
+    /// Returns how many messages a list or a map contains; each pair of a map counts as two.
     pub(crate) fn parts(self) -> usize
         ensures parts { result ≡ parts_in self }
     {
@@ -105,7 +107,7 @@ impl Node {
         }
     }
 
-    // The same node, which takes so many.
+    // The node, where a list or a map takes `count` nodes.
     fn taking(self, count: usize) -> Node
         ensures head { head_in result ≡ head_in self }
         ensures content { (buffer : List ℕ) → content_in buffer result ≡ content_in buffer self }
@@ -120,13 +122,13 @@ impl Node {
     }
 }
 
-// How many nodes there is room for once there is a first one.
+// The number of nodes that there is room for once there is one.
 const FIRST_NODES: usize = 16;
 
-// How many bytes of content there is room for once a part has some.
+// The number of bytes of content that there is room for once a part has some.
 const FIRST_BYTES: usize = 64;
 
-/// Nodes as they are made.
+/// Nodes while they are made.
 #[derive(Drop)]
 pub(crate) struct Nodes {
     pub(crate) nodes: Vec<Node>,
@@ -134,7 +136,7 @@ pub(crate) struct Nodes {
 }
 
 impl Nodes {
-    /// None yet.
+    /// Makes an empty row of nodes.
     pub(crate) fn new(alloc: Global) -> Nodes
         ensures none { heads_of result ≡ [] }
         ensures empty { result.bytes.items ≡ [] }
@@ -146,8 +148,8 @@ impl Nodes {
         }
     }
 
-    // Makes room for one more node. The first ones get room for more, so that those of a short message are never moved; where that is
-    // refused, less is asked for.
+    // Allocates room for one more node. The first time it is room for several, so that the nodes of a short
+    // message are never moved. If that fails, less is tried.
     #[inline(never)]
     fn grow(&mut self) -> Result<(), AllocError>
         ensures nodes { self.new.nodes.items ≡ self.old.nodes.items }
@@ -160,7 +162,7 @@ impl Nodes {
         self.nodes.reserve(1)
     }
 
-    // The same, where there is none.
+    // Makes room for one more node, if there is none.
     #[inline(always)]
     fn make_room(&mut self) -> Result<(), AllocError>
         ensures nodes { self.new.nodes.items ≡ self.old.nodes.items }
@@ -173,8 +175,8 @@ impl Nodes {
         self.grow()
     }
 
-    /// Makes room for the first content of parts, where some follows this head, and for more of it. Where memory is refused, the content
-    /// asks for less.
+    /// Makes room for the first content of parts, if this head is followed by some, and for more of it. If that
+    /// allocation fails, the content itself asks for less.
     #[inline(always)]
     pub(crate) fn make_room_for_content(&mut self, head: Head)
         ensures nodes { self.new.nodes ≡ self.old.nodes }
@@ -190,7 +192,7 @@ impl Nodes {
         }
     }
 
-    /// One more head. What content it has stands in the buffer already, from a place on.
+    /// Adds a head, whose content is already in the buffer, from an offset on.
     #[tactic(auto, using(crate::proofs::FlatMade::made_of))]
     pub(crate) fn push(&mut self, head: Head, at: usize) -> Result<(), AllocError>
         requires fits { fits_head head }
@@ -205,7 +207,7 @@ impl Nodes {
         Ok(())
     }
 
-    /// The place behind so many messages that stand from a place on.
+    /// Returns the index after `count` messages that begin at an index.
     pub(crate) fn past(&self, at: usize, count: usize) -> usize
         requires row { IsRow (drop at (heads_of self.now)) }
         requires takes { AllTake self.now.bytes.items (drop at self.now.nodes.items) }
@@ -219,7 +221,7 @@ impl Nodes {
         place
     }
 
-    /// Tells of each list and map how many nodes it takes.
+    /// Sets how many nodes each list and each map takes.
     pub(crate) fn settle(&mut self)
         requires row { IsRow (heads_of self.old) }
         requires within { IsWithin self.old }
@@ -237,7 +239,7 @@ impl Nodes {
         }
     }
 
-    /// The node at a place, where the root stands before all of them, and nil past the last one.
+    /// Returns the node at an index. The root comes before all of them, and nil is returned past the last one.
     #[inline(always)]
     pub(crate) fn node(&self, root: Node, at: usize) -> Node
         ensures node { result ≡ get_or (root ∷ self.now.nodes.items) at nodes.Nil }
@@ -251,7 +253,7 @@ impl Nodes {
         }
     }
 
-    /// The content of a node.
+    /// Returns the content of a node.
     #[inline(always)]
     pub(crate) fn content(&self, node: Node) -> &[u8]
         requires within { EndsBy (length self.now.bytes.items) node }

@@ -2,7 +2,6 @@
 ghost use Rattle.std.specs.Prelude.{◌≡◌, ◌≢◌, ◌⊎◌, ◌-◌, ◌<◌, ◌≤◌, ◌++◌, ◌∷◌, [], false, true, None, OnOk, OnErr, IfOk, IfErr};
 ghost use Rattle.rmp_wire.specs.Heads.{fits_head};
 ghost use Rattle.rmp_decode.specs.Content.{IsRawHead, IsExtHead};
-ghost use Rattle.rmp_decode.specs.Kinds.{Finds};
 ghost use Rattle.rmp_decode.specs.Law.{Lawful};
 ghost use Rattle.rmp_decode.specs.Refuse.{Refusal, RefusesRowFirst};
 ghost use Rattle.rmp_decode.specs.Skip.{parts_head, parts_count};
@@ -20,18 +19,6 @@ use rmp_wire::config::{DefaultConfig, SerializerConfig};
 use rmp_wire::{Head, ReadRefReader, ReadSlice, Source};
 use std::alloc::Global;
 
-// Whether a head opens a map or a list, and how many pairs or items follow.
-#[inline(always)]
-fn parts_in(head: Head) -> Option<(bool, u32)>
-    ensures { Finds (λ h p. h ≡ parts_head p.0 p.1) head result }
-{
-    match head {
-        Head::Array(n) => Some((false, n)),
-        Head::Map(n) => Some((true, n)),
-        _ => None,
-    }
-}
-
 // How many messages follow the head of a list or a map: of a map two a pair.
 #[inline(always)]
 fn messages(is_map: bool, n: u32) -> u64
@@ -45,7 +32,7 @@ fn messages(is_map: bool, n: u32) -> u64
     }
 }
 
-// Takes the content behind the head of a leaf, where it has some, to the end of the buffer.
+// Reads the payload of a leaf, if it has one, to the end of the buffer.
 #[inline(always)]
 fn read_content<R: Source, C: SerializerConfig, P: ReadContent<R>>(
     de: &mut Deserializer<R, C>,
@@ -67,7 +54,7 @@ fn read_content<R: Source, C: SerializerConfig, P: ReadContent<R>>(
     }
 }
 
-// Reads what stands behind the head of a leaf, and makes a node of both.
+// Reads the payload of a leaf, and makes a node of its head and payload.
 #[inline(always)]
 fn read_leaf<R: Source, C: SerializerConfig, P: ReadContent<R>>(
     de: &mut Deserializer<R, C>,
@@ -96,8 +83,9 @@ fn read_leaf<R: Source, C: SerializerConfig, P: ReadContent<R>>(
     }
 }
 
-// Tells the head of a list or a map that there is room for, and answers what is wanted then, and below which depth: where messages
-// stand in it, these, and what was wanted around it is kept.
+// Handles the head of a list or a map, which is refused if it nests too deep. Returns the depth that is left,
+// and how many messages remain at it: those of the list or map if it has any, and then what remains around it
+// is pushed to `outer`. Otherwise it returns `around`.
 #[inline(always)]
 fn enter<R: Source, C: SerializerConfig>(
     de: &mut Deserializer<R, C>,
@@ -135,8 +123,8 @@ fn enter<R: Source, C: SerializerConfig>(
     Ok((room - 1, inner))
 }
 
-// Reads the messages of a list or a map whose head was taken, with all that stands in them, in one loop: what lists and maps that
-// stand open still want is counted.
+// Reads the messages of a list or a map whose head was consumed, with all that is nested in them. It isn't
+// recursive: one loop counts what remains in each open list and map.
 fn read_parts<R: Source, C: SerializerConfig, P: ReadContent<R>>(
     de: &mut Deserializer<R, C>,
     count: u64,
@@ -151,10 +139,10 @@ fn read_parts<R: Source, C: SerializerConfig, P: ReadContent<R>>(
     ensures refusal { IfErr result (λ e. e ≢ Error.OutOfMemory
         → RefusesRowFirst R.Source UnreadFor ItemsUtf8 (room_of de.old - 1) count de.old de.new e) }
 {
-    // What the innermost list or map still wants nests below this.
+    // The depth that is left for the messages of the innermost list or map.
     let mut room = de.room() - 1;
     let mut wanted = count;
-    // What those that stand open around it still want, the outermost first.
+    // How many messages remain in each list or map around it, the outermost first.
     let mut outer: Vec<u64> = Vec::new(de.alloc());
     'parts: loop {
         if wanted == 0 {
@@ -172,7 +160,7 @@ fn read_parts<R: Source, C: SerializerConfig, P: ReadContent<R>>(
             Ok(head) => head,
             Err(e) => return Err(e),
         };
-        match parts_in(head) {
+        match head.as_parts() {
             Some(parts) => match enter(de, head, parts, made, &mut outer, (room, wanted)) {
                 Ok(now) => (room, wanted) = now,
                 Err(e) => return Err(e),
@@ -185,10 +173,10 @@ fn read_parts<R: Source, C: SerializerConfig, P: ReadContent<R>>(
     }
 }
 
-/// Reads a message of any kind whose texts are UTF-8. The content of texts, bytes and extensions is taken by `P`.
+/// Reads a message of any kind, whose texts are UTF-8. `P` reads the content of texts, bytes and extensions.
 ///
 /// # Errors
-/// As `Value::read`.
+/// Those of `Value::read`.
 pub fn read_value<R: Source, C: SerializerConfig, P: ReadContent<R>>(
     de: &mut Deserializer<R, C>,
 ) -> Result<Value, Error>
@@ -198,7 +186,7 @@ pub fn read_value<R: Source, C: SerializerConfig, P: ReadContent<R>>(
     match de.deserialize_head() {
         Ok(head) => {
             let mut made = Nodes::new(de.alloc());
-            match parts_in(head) {
+            match head.as_parts() {
                 Some((is_map, n)) => {
                     if de.room() <= 1 {
                         return Err(de.refuse(Error::DepthLimitExceeded));
@@ -222,11 +210,11 @@ impl Value {
     ghost use Rattle.rmp_wire.specs.Spelling.{Spells};
     ghost use Rattle.rmp_decode.specs.Law.{Begins, Readable};
 
-    /// Reads the value that a beginning of the input spells. What follows isn't looked at. It does the same as `from_slice`, and
-    /// says of each refusal what is wrong, and where.
+    /// Reads the value that the beginning of the input encodes. What follows it isn't looked at. It does the
+    /// same as `from_slice`, and its contract says of each error what is wrong, and where.
     ///
     /// # Errors
-    /// As `read`.
+    /// Those of `Value::read`.
     ///
     /// # Examples
     /// ```
@@ -240,22 +228,23 @@ impl Value {
     pub fn from_slice<'de>(alloc: Global, input: &'de [u8]) -> Result<Value, Error>
         // A beginning of the input spells the value, which nests below the limit; its texts are UTF-8.
         ensures ok { IfOk result (λ v. Begins Spells (λ m. reads_value m v) 1024 input.now) }
-        // A refusal that isn't for memory means that no beginning spells such a message,
+        // An error other than `OutOfMemory` means that no beginning spells such a message,
         ensures err { IfErr result (λ e. e ≢ Error.OutOfMemory → Begins Spells (Readable reads_value) 1024 input.now → ⊥) }
-        // and each names the first thing that is wrong, or where memory was short.
+        // and each error names the first thing that is wrong, or where memory ran out.
         ensures refusal { IfErr result (λ e. Refusal false (UnreadFor false) ItemsUtf8 1024 e input.now) }
     {
         let mut de = Deserializer::from_read_ref(alloc, input);
         read_value::<ReadRefReader<'de>, DefaultConfig, Slices<'de>>(&mut de)
     }
 
-    /// Reads the next value. It does the same as `deserialize`, and says of each refusal what is wrong, and where.
+    /// Reads the next value. It does the same as `deserialize`, and its contract says of each error what is
+    /// wrong, and where.
     ///
     /// # Errors
-    /// That of the first thing that is wrong: `InvalidMarkerRead` where the input ends before a message that is wanted,
-    /// `InvalidDataRead` where it ends inside of a head or of content, `TypeMismatch` at the byte c1, `Utf8Error` at a text that
-    /// isn't UTF-8, and `DepthLimitExceeded` at a list or map that would nest too deep. `OutOfMemory` at the content of a text, of
-    /// bytes or of an extension, and at a list or map.
+    /// The first thing that is wrong. Where the input ends: `InvalidMarkerRead` before a message, `InvalidDataRead`
+    /// inside of a head or its content. `TypeMismatch` at the byte c1, `Utf8Error` at a text that isn't UTF-8, and
+    /// `DepthLimitExceeded` at a list or a map that would nest too deep. `OutOfMemory` at the content of a text, of
+    /// bytes or of an extension, and at a list or a map.
     pub fn read<'de, R: ReadSlice<'de>, C: SerializerConfig>(
         de: &mut Deserializer<R, C>,
     ) -> Result<Value, Error>

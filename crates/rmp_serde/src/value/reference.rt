@@ -18,18 +18,18 @@ pub use parts::Parts;
 use std::alloc::Global;
 use std::str;
 
-/// A part of a tree, or the whole.
+/// A reference to a part of a tree, or to the whole.
 ///
-/// No call on it takes memory: texts and bytes are lent from where they lie.
+/// No call on it allocates: texts and bytes are borrowed from the value.
 #[derive(Clone, Copy)]
 pub struct ValueRef<'a> {
     value: &'a Value,
-    // The place of its first node: 0 is the root's, and each part's is one more than its index.
+    // The index of its first node: 0 is the root's, and each part's is one more than its index among the parts.
     at: usize,
 }
 
 impl Value {
-    /// The whole tree.
+    /// Returns a reference to the whole tree.
     pub fn root(&self) -> ValueRef<'_>
         ensures whole { tree result ≡ self.now }
     {
@@ -38,7 +38,7 @@ impl Value {
 }
 
 impl<'a> ValueRef<'a> {
-    // Its first node, which is that of its head.
+    // Its first node, which is the node of its head.
     #[inline(always)]
     pub(super) fn node(self) -> Node
         ensures head { head_in result ≡ head_of (tree self.entry) }
@@ -56,13 +56,13 @@ impl<'a> ValueRef<'a> {
         value.parts.content(value.parts.node(value.root, self.at))
     }
 
-    // What the value's own memory comes from.
+    // The allocator of the value.
     pub(super) fn alloc(self) -> Global {
         let value = self.value;
         *value.parts.nodes.allocator()
     }
 
-    // The message that is so far behind the head of a list or a map.
+    // The part of a list or a map at an index, which starts at 0.
     fn part(self, i: usize) -> ValueRef<'a>
         requires there { i < parts_of (tree self) }
         ensures part { row_at result ≡ past_items i (row_behind self.entry) }
@@ -75,7 +75,7 @@ impl<'a> ValueRef<'a> {
         }
     }
 
-    // The message behind this one, which is a part.
+    // The message after this one, which must be a part.
     fn next(self) -> ValueRef<'a>
         requires part { 0 < self.at }
         requires there { 1 < count (row_at self) }
@@ -89,7 +89,7 @@ impl<'a> ValueRef<'a> {
         }
     }
 
-    /// What kind of message it is.
+    /// Returns the kind of message.
     pub fn kind(self) -> Kind
         ensures kind { result ≡ kind_of (tree self.entry) }
     {
@@ -107,7 +107,7 @@ impl<'a> ValueRef<'a> {
         }
     }
 
-    /// The truth value, if it is one.
+    /// Returns the truth value, if it is one.
     pub fn as_truth(self) -> Option<bool>
         ensures truth { result ≡ truth_of (tree self.entry) }
     {
@@ -117,7 +117,7 @@ impl<'a> ValueRef<'a> {
         }
     }
 
-    /// The whole number, if it is one: from -9223372036854775808 to 18446744073709551615.
+    /// Returns the whole number, if it is one: from -9223372036854775808 to 18446744073709551615.
     pub fn as_whole(self) -> Option<i128>
         ensures number { result ≡ whole_of (tree self.entry) }
     {
@@ -128,7 +128,7 @@ impl<'a> ValueRef<'a> {
         }
     }
 
-    /// The bits of the float of 32 bits, if it is one. A float of 64 bits isn't.
+    /// Returns the bits of a 32-bit float, if it is one. A 64-bit float isn't.
     pub fn as_f32_bits(self) -> Option<u32>
         ensures bits { result ≡ float32_of (tree self.entry) }
     {
@@ -138,7 +138,7 @@ impl<'a> ValueRef<'a> {
         }
     }
 
-    /// The bits of the float of 64 bits, if it is one. A float of 32 bits isn't.
+    /// Returns the bits of a 64-bit float, if it is one. A 32-bit float isn't.
     pub fn as_f64_bits(self) -> Option<u64>
         ensures bits { result ≡ float64_of (tree self.entry) }
     {
@@ -148,7 +148,7 @@ impl<'a> ValueRef<'a> {
         }
     }
 
-    /// The text, if it is one.
+    /// Returns the text, if it is one.
     pub fn as_str(self) -> Option<&'a str>
         ensures text { option_map (λ s. s.now) result ≡ text_of (tree self.entry) }
     {
@@ -161,7 +161,7 @@ impl<'a> ValueRef<'a> {
         }
     }
 
-    /// The bytes, if it is of that kind. An extension isn't.
+    /// Returns the bytes, if it is of that kind. An extension isn't.
     pub fn as_bytes(self) -> Option<&'a [u8]>
         ensures bytes { option_map (λ s. s.now) result ≡ bytes_of (tree self.entry) }
     {
@@ -171,7 +171,7 @@ impl<'a> ValueRef<'a> {
         }
     }
 
-    /// The extension's type and its bytes, if it is one.
+    /// Returns the extension's type and its bytes, if it is one.
     pub fn as_ext(self) -> Option<(i8, &'a [u8])>
         ensures extension { option_map (λ e. (e.0, e.1.now)) result ≡ extension_of (tree self.entry) }
     {
@@ -181,7 +181,7 @@ impl<'a> ValueRef<'a> {
         }
     }
 
-    /// How many items a list or pairs a map has, and 0 for any other kind.
+    /// Returns the number of items of a list or of pairs of a map, and 0 for any other kind.
     pub fn len(self) -> usize
         ensures count { result ≡ parts_count (tree self.entry) }
     {
@@ -191,10 +191,10 @@ impl<'a> ValueRef<'a> {
         }
     }
 
-    /// The item of a list at an index from 0, where it has one.
+    /// Returns the item of a list at an index, if there is one. Indexes start at 0.
     pub fn item(self, i: usize) -> Option<ValueRef<'a>>
         ensures item { option_map tree result ≡ item_of (tree self.entry) i }
-        // A part is less deep than the whole.
+        // A part nests less deep than the whole.
         ensures smaller { IfSome result (λ v. depth (tree v) < depth (tree self.entry)) }
     {
         match self.node() {
@@ -209,10 +209,10 @@ impl<'a> ValueRef<'a> {
         }
     }
 
-    /// The key and the value of a map's pair at an index from 0, where it has one.
+    /// Returns the key and the value of a map's pair at an index, if there is one. Indexes start at 0.
     pub fn pair(self, i: usize) -> Option<(ValueRef<'a>, ValueRef<'a>)>
         ensures pair { option_map (λ p. (tree p.0, tree p.1)) result ≡ pair_of (tree self.entry) i }
-        // A part is less deep than the whole.
+        // A part nests less deep than the whole.
         ensures smaller_key { IfSome result (λ p. depth (tree p.0) < depth (tree self.entry)) }
         ensures smaller_value { IfSome result (λ p. depth (tree p.1) < depth (tree self.entry)) }
     {

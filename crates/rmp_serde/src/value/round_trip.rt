@@ -1,6 +1,7 @@
 //! Trees are read as they were written.
 ghost use Rattle.std.proofs.Common.{refl};
-ghost use Rattle.rmp_serde.specs.ValueLowers.{value_row};
+ghost use Rattle.std.specs.Prelude.{◌≡◌};
+ghost use Rattle.rmp_serde.specs.ValueLowers.{value_only, value_row};
 
 use crate::value::Value;
 use rmp_round_trip::RoundTrip;
@@ -10,4 +11,8 @@ impl<'de, R: ReadSlice<'de>> RoundTrip<'de, R> for Value {
     ghost has_data = { λ human v. refl };
 
     ghost round = { λ lent s v fits. value_row s v fits.1 };
+
+    ghost same = { λ v w. v ≡ w };
+
+    ghost only = { λ s v fits. value_only s v };
 }

@@ -13,14 +13,16 @@ use crate::value::{Kind, Parts, Value, ValueRef};
 use std::alloc::AllocError;
 use std::{fmt, str};
 
-// So many bytes are turned into digits at a time.
+// The number of bytes that are turned into hex digits at a time.
 const BLOCK: usize = 64;
 
-/// Prints the tree, on one line whatever the options are: `nil`, `true`, a decimal number, `f32:` or `f64:` and the bits in hex, `t:`
-/// or `b:` and bytes in hex, `[a,b]`, `{k=v,k=v}`, or `x(TAG):` and bytes in hex.
+/// Prints the tree. The text is on one line, whatever the options are.
 ///
-/// No call leads back here, however deep the message nests: the lists and maps that aren't closed yet stand in a vector. It is an error
-/// where there is no memory for that.
+/// It is `nil`, `true`, `false`, a decimal number, `f32:` or `f64:` and the bits in hex, `t:` or `b:` and bytes
+/// in hex, `[a,b]`, `{k=v,k=v}`, or `x(TAG):` and bytes in hex.
+///
+/// It isn't recursive, however deep the message nests: a vector holds the lists and maps that aren't closed
+/// yet. Out of memory for the vector, it returns an error.
 impl fmt::Debug for Value {
     ghost use Rattle.std.specs.Prelude.{Some};
     ghost use Rattle.rmp_serde.specs.TreeText.{tree_text};
@@ -45,7 +47,7 @@ impl fmt::Debug for ValueRef<'_> {
     }
 }
 
-// A message's tree.
+// Writes the text of a message.
 fn write_tree<W: fmt::Write>(f: &mut fmt::Formatter<W>, value: ValueRef<'_>) -> fmt::Result
     ensures writes { WritesOnOk W.write_str_gives f.old result (tree_text (tree value.entry)) f.new }
 {
@@ -54,7 +56,7 @@ fn write_tree<W: fmt::Write>(f: &mut fmt::Formatter<W>, value: ValueRef<'_>) -> 
     while let Some(mut last) = unclosed.pop() {
         match last.parts.next() {
             Some(part) => {
-                f.write_str(last.sign.text())?;
+                last.sign.write(f)?;
                 last.sign = last.sign.next(last.is_map);
                 put_last(&mut unclosed, last)?;
                 begin(f, &mut unclosed, part)?;
@@ -65,7 +67,7 @@ fn write_tree<W: fmt::Write>(f: &mut fmt::Formatter<W>, value: ValueRef<'_>) -> 
     Ok(())
 }
 
-// What stands in front of a part.
+// The punctuation before a part.
 #[derive(Clone, Copy)]
 enum Sign {
     Nothing,
@@ -74,17 +76,18 @@ enum Sign {
 }
 
 impl Sign {
-    fn text(self) -> &'static str
-        ensures { result.now ≡ sign_text self }
+    // Each text is written by a call of its own, which has a constant length.
+    fn write<W: fmt::Write>(self, f: &mut fmt::Formatter<W>) -> fmt::Result
+        ensures writes { WritesOnOk W.write_str_gives f.old result (sign_text self) f.new }
     {
         match self {
-            Sign::Nothing => "",
-            Sign::Comma => ",",
-            Sign::Equals => "=",
+            Sign::Nothing => f.write_str(""),
+            Sign::Comma => f.write_str(","),
+            Sign::Equals => f.write_str("="),
         }
     }
 
-    // What stands in front of the part behind the one that this stands in front of.
+    // The punctuation before the next part.
     fn next(self, is_map: bool) -> Sign
         ensures { result ≡ next_sign is_map self }
     {
@@ -95,7 +98,7 @@ impl Sign {
     }
 }
 
-// A list or a map whose text isn't whole: the parts that are to come, and what stands in front of the next.
+// A list or a map whose text isn't complete: the remaining parts, and the punctuation before the next.
 #[derive(Drop)]
 struct Open<'a> {
     parts: Parts<'a>,
@@ -103,7 +106,7 @@ struct Open<'a> {
     sign: Sign,
 }
 
-// The innermost stands last.
+// Adds a list or map. The innermost is last.
 fn put_last<'a>(unclosed: &mut Vec<Open<'a>>, last: Open<'a>) -> Result<(), AllocError>
     ensures last { OnOk result (unclosed.new.items ≡ unclosed.old.items ++ last.entry ∷ []) }
 {
@@ -111,7 +114,9 @@ fn put_last<'a>(unclosed: &mut Vec<Open<'a>>, last: Open<'a>) -> Result<(), Allo
     Ok(())
 }
 
-// Begins the text of a message: of one that has no parts it is the whole, of a list or a map the bracket, and it is open then.
+// Writes the start of a message's text. A message without parts is complete then; a list or a map has its
+// bracket, and is open.
+#[inline(always)]
 fn begin<'a, W: fmt::Write>(
     f: &mut fmt::Formatter<W>,
     unclosed: &mut Vec<Open<'a>>,
@@ -138,7 +143,7 @@ fn begin<'a, W: fmt::Write>(
     Ok(())
 }
 
-// The text of a message that has no parts, and of a list or a map its first bracket.
+// Writes the text of a message without parts, or the opening bracket of a list or a map.
 fn write_head<W: fmt::Write>(f: &mut fmt::Formatter<W>, value: ValueRef<'_>) -> fmt::Result
     ensures writes { WritesOnOk W.write_str_gives f.old result (head_text (head_of (tree value.entry)) (content_of (tree value.entry))) f.new }
 {
@@ -172,7 +177,7 @@ fn write_head<W: fmt::Write>(f: &mut fmt::Formatter<W>, value: ValueRef<'_>) -> 
     }
 }
 
-// Bytes in hex, in lower case.
+// Writes bytes in lower-case hex.
 fn write_digits<W: fmt::Write>(f: &mut fmt::Formatter<W>, bytes: &[u8]) -> fmt::Result
     ensures writes { WritesOnOk W.write_str_gives f.old result (encode_lower bytes.now) f.new }
 {
@@ -182,7 +187,7 @@ fn write_digits<W: fmt::Write>(f: &mut fmt::Formatter<W>, bytes: &[u8]) -> fmt::
     Ok(())
 }
 
-// A few bytes in hex.
+// Writes a few bytes in lower-case hex.
 fn write_block<W: fmt::Write>(f: &mut fmt::Formatter<W>, block: &[u8]) -> fmt::Result
     requires few { length block.now ≤ 64 }
     ensures writes { WritesOnOk W.write_str_gives f.old result (encode_lower block.now) f.new }

@@ -1,4 +1,4 @@
-//! Writes the canonical spelling of a value.
+//! Writes the canonical encoding of a value.
 ghost use Rattle.std.specs.Prelude.{◌≡◌, ◌∷◌, length, false, Some};
 ghost use Rattle.std.specs.List.{flat_map};
 ghost use Rattle.rmp_wire.specs.Spelling.{canon, Fits};
@@ -18,7 +18,7 @@ use rmp_wire::write::{
 };
 use rmp_wire::{Sink, ValueWriteError};
 
-// A head and its content, which goes out from where it lies.
+// Writes a head and its content, without a copy of the content.
 #[inline(always)]
 fn write_node<W: Sink>(sink: &mut W, node: Node, parts: &Nodes) -> Result<(), ValueWriteError>
     requires within { EndsBy (length parts.now.bytes.items) node }
@@ -49,7 +49,8 @@ fn write_node<W: Sink>(sink: &mut W, node: Node, parts: &Nodes) -> Result<(), Va
     }
 }
 
-// The root and the nodes behind it, one after another, by one call of `write_node`, which is so inlined into the loop.
+// Writes the root and the nodes after it, in order. There is one call of `write_node`, so it is inlined into
+// the loop.
 fn write_nodes<W: Sink>(sink: &mut W, root: Node, parts: &Nodes) -> Result<(), ValueWriteError>
     requires root { EndsBy (length parts.now.bytes.items) root }
     requires within { IsWithin parts.now }
@@ -62,7 +63,7 @@ fn write_nodes<W: Sink>(sink: &mut W, root: Node, parts: &Nodes) -> Result<(), V
     Ok(())
 }
 
-// The canonical spelling of a value.
+// Writes the canonical encoding of a value.
 pub(crate) fn write_value<W: Sink>(sink: &mut W, value: &Value) -> Result<(), ValueWriteError>
     ensures writes { WritesTree W.Sink (canon value.now) sink.old sink.new result }
     ensures place { W.place sink.new ≡ W.place sink.old }

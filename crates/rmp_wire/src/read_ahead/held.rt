@@ -1,17 +1,18 @@
 //! The bytes that a source has read ahead.
-ghost use Rattle.std.specs.Prelude.{◌≡◌, ◌≢◌, ◌-◌, ◌+◌, ◌<◌, ◌≤◌, ◌++◌, [], OnOk, OnErr, take, drop, length, min, slice_range, vec_len};
+ghost use Rattle.std.specs.Prelude.{◌≡◌, ◌-◌, ◌+◌, ◌<◌, ◌≤◌, ◌++◌, [], OnOk, OnErr, take, drop, length, min, slice_range, vec_len};
 ghost use Rattle.std.specs.Io.KnownBytes.{Keeps, IsAtEnd, prepend_known};
+ghost use Rattle.rmp_wire.specs.Sinks.{next_fault};
 
 use crate::source::Source;
 use std::alloc::Global;
 use std::io;
 
-/// How much room the buffer has at first, and at most.
+/// The size of the buffer at first, and at most.
 const LEAST_ROOM: usize = 1024;
 
 const MOST_ROOM: usize = 8192;
 
-// `bytes[start..end]` was read and not yet taken. The length of `bytes` is the room.
+// `bytes[start..end]` is buffered and not yet consumed. The length of `bytes` is the size of the buffer.
 #[derive(Drop)]
 pub(crate) struct Held {
     bytes: Vec<u8>,
@@ -22,7 +23,7 @@ pub(crate) struct Held {
 }
 
 impl Held {
-    // Nothing, with no room.
+    // An empty buffer, with no room.
     pub(crate) fn new(alloc: Global) -> Held
         ensures { slice_range result.bytes.items result.start result.end ≡ [] }
     {
@@ -43,7 +44,7 @@ impl Held {
         &all[start..end]
     }
 
-    // How many there are.
+    // The number of buffered bytes.
     #[inline(always)]
     pub(crate) fn len(&self) -> usize
         ensures value { result ≡ self.now.end - self.now.start }
@@ -52,7 +53,7 @@ impl Held {
         self.end - self.start
     }
 
-    // Forgets the first ones.
+    // Drops the first `len` buffered bytes.
     #[inline(always)]
     pub(crate) fn skip(&mut self, len: usize)
         requires { len ≤ self.old.end - self.old.start }
@@ -61,7 +62,8 @@ impl Held {
         self.start += len;
     }
 
-    // Forgets all, and says how much room there is. Where all of it was filled it doubles, up to the most, if memory isn't refused.
+    // Drops all buffered bytes, and returns the room. A buffer that was filled doubles, up to the most, unless
+    // out of memory.
     pub(crate) fn make_room(&mut self) -> usize
         ensures empty { slice_range self.new.bytes.items self.new.start self.new.end ≡ [] }
         ensures room { result ≡ vec_len self.new.bytes }
@@ -76,7 +78,7 @@ impl Held {
         self.bytes.len()
     }
 
-    // Pulls once from a source, where nothing is left.
+    // Pulls once from a source, where nothing is buffered.
     pub(crate) fn fill<S: Source>(&mut self, source: &mut S) -> Result<(), io::Error>
         requires empty { slice_range self.old.bytes.items self.old.start self.old.end ≡ [] }
         requires room { 0 < vec_len self.old.bytes }
@@ -86,7 +88,7 @@ impl Held {
         ensures sound { OnOk result (S.faults source.new ≡ S.faults source.old) }
         ensures kept { OnErr result (Keeps (S.ahead source.old) (S.ahead source.new)) }
         ensures none { OnErr result (slice_range self.new.bytes.items self.new.start self.new.end ≡ []) }
-        ensures fault { OnErr result (S.faults source.new ≢ S.faults source.old) }
+        ensures fault { OnErr result (S.faults source.new ≡ next_fault (S.faults source.old)) }
     {
         self.start = 0;
         self.end = 0;
@@ -99,7 +101,7 @@ impl Held {
         }
     }
 
-    // Moves bytes from the front into the front of `buf`, as many as both have room for.
+    // Moves buffered bytes into the front of `buf`, as many as there are and fit.
     #[inline(always)]
     pub(crate) fn take_into(&mut self, buf: &mut [u8]) -> usize
         ensures size { length buf.new ≡ length buf.old }
@@ -113,7 +115,7 @@ impl Held {
     }
 }
 
-// Moves as many bytes as both have from the front of the one to the front of the other.
+// Copies from the front of one slice to the front of the other, as many bytes as both have.
 #[inline(always)]
 fn copy_front(from: &[u8], to: &mut [u8]) -> usize
     ensures size { length to.new ≡ length to.old }

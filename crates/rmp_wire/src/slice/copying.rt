@@ -14,13 +14,12 @@ use std::alloc::Global;
 use std::io;
 use std::io::ErrorKind;
 
-/// How many bytes are pulled at once, at most.
+/// The most bytes that are pulled at once.
 const PIECE: usize = 128;
 
-/// Reads from a source of any kind: each piece that is asked for is copied into one vector, which the next piece replaces.
+/// Reads from any source, and copies each slice into one vector, which the next slice replaces.
 ///
-/// Nothing is read ahead of what is asked for, and nothing is reserved by the count that is asked for: the vector grows
-/// as bytes come.
+/// It reads no further than the slice, and reserves nothing for its length: the vector grows as bytes arrive.
 #[derive(Drop)]
 pub struct ReadReader<R> {
     rd: R,
@@ -28,7 +27,7 @@ pub struct ReadReader<R> {
 }
 
 impl<R> ReadReader<R> {
-    /// Reads from `rd`. Memory for the pieces comes from `alloc`, with the first piece that isn't empty.
+    /// Reads from `rd`. Memory for the copies comes from `alloc`, from the first slice on that isn't empty.
     pub fn new(alloc: Global, rd: R) -> ReadReader<R>
         ensures source { copied_from result ≡ rd }
         ensures scratch { scratch_of result ≡ [] }
@@ -39,14 +38,14 @@ impl<R> ReadReader<R> {
         }
     }
 
-    /// What it reads from.
+    /// Returns a reference to the source.
     pub fn get_ref(&self) -> &R
         ensures { result.now ≡ copied_from self.now }
     {
         &self.rd
     }
 
-    /// What it reads from, to be changed.
+    /// Returns a mutable reference to the source.
     pub fn get_mut(&mut self) -> &mut R
         ensures* writes_back { sem 𝓛 (follows (the_row R.row) R.row self.entry.ghost_name result.ghost_name (copying_with self.old)) }
         ensures value { result.now ≡ copied_from self.old }
@@ -54,7 +53,7 @@ impl<R> ReadReader<R> {
         &mut self.rd
     }
 
-    /// What it reads from, which has given just the bytes that were taken.
+    /// Returns the source, from which no more was read than what was consumed.
     pub fn into_inner(self) -> R
         ensures { result ≡ copied_from self }
     {
@@ -62,7 +61,7 @@ impl<R> ReadReader<R> {
     }
 }
 
-/// The source that it reads from, which every call reaches.
+/// Reads from the underlying source; each call is passed on to it.
 impl<R: Source> Source for ReadReader<R> {
     ghost use Rattle.rmp_wire.specs.Copying.{copied_from};
 
@@ -112,7 +111,7 @@ impl<R: Source> Source for ReadReader<R> {
     }
 }
 
-/// A piece is there until the next read. What was taken before a failure is lost.
+/// A copied slice is valid until the next read. Bytes consumed before a failure are lost.
 impl<'de, R: Source> ReadSlice<'de> for ReadReader<R> {
     ghost use Rattle.rmp_wire.specs.Copying.{Begun, copied_from, scratch_of};
 
@@ -136,7 +135,7 @@ impl<'de, R: Source> ReadSlice<'de> for ReadReader<R> {
     }
 }
 
-// The slice, of which contracts see that it is one of bytes.
+// Returns the slice; its contract adds that its items are bytes.
 #[inline(always)]
 fn known(bytes: &[u8]) -> &[u8]
     ensures same { result.now ≡ bytes.now }
@@ -145,7 +144,7 @@ fn known(bytes: &[u8]) -> &[u8]
     bytes
 }
 
-// Puts the next bytes into the vector, in place of what it held.
+// Reads the next `len` bytes into the vector, in place of what it held.
 fn fill<S: Source>(source: &mut S, scratch: &mut Vec<u8>, len: usize) -> Result<(), SourceFault>
     ensures count { OnOk result (length scratch.new.items ≡ len) }
     ensures taken { OnOk result (Consumes (S.ahead source.old) (S.ahead source.new) scratch.new.items) }
@@ -164,7 +163,7 @@ fn fill<S: Source>(source: &mut S, scratch: &mut Vec<u8>, len: usize) -> Result<
     Ok(())
 }
 
-// Moves bytes that lie in memory, at most so many, behind those of the vector, and says whether there were any.
+// Appends buffered bytes, at most `most`, to the vector, and returns whether there were any.
 fn copied_front<S: Source>(
     source: &mut S,
     scratch: &mut Vec<u8>,
@@ -192,7 +191,7 @@ fn copied_front<S: Source>(
     Ok(true)
 }
 
-// Pulls bytes, at most so many, and puts them behind those of the vector.
+// Pulls bytes, at most `most`, and appends them to the vector.
 fn pull_piece<S: Source>(
     source: &mut S,
     scratch: &mut Vec<u8>,

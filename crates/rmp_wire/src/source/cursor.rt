@@ -1,7 +1,7 @@
 //! Cursors over bytes in memory.
-ghost use Rattle.std.specs.Prelude.{◌≡◌, ◌+◌, ◌-◌, ◌<◌, ◌≤◌, ◌++◌, [], ◌∷◌, Some, IfOk, IsTrue, OnErr, drop, take, false, length, min, true, ◌⊎◌};
+ghost use Rattle.std.specs.Prelude.{◌≡◌, ◌+◌, ◌-◌, ◌<◌, ◌≤◌, ◌++◌, [], ◌∷◌, Some, IfErr, IfOk, IsTrue, OnErr, drop, take, false, length, min, true, ◌⊎◌};
 ghost use Rattle.std.specs.Io.Cursor.{cursor_inner, cursor_position};
-ghost use Rattle.rmp_wire.specs.Sources.{IsFront, Skips};
+ghost use Rattle.rmp_wire.specs.Sources.{IsFront, Skips, TakesInto};
 ghost use Rattle.rmp_wire.specs.Cursors.{cursor_place, slice_ahead, slice_place, vec_ahead, vec_place};
 
 use crate::error::IoFault;
@@ -9,7 +9,7 @@ use crate::source::Source;
 use std::io;
 use std::io::{Cursor, ErrorKind};
 
-// The bytes from a place on: none where it lies past the end.
+// The bytes from an offset on; none where the offset is past the end.
 #[inline(always)]
 fn behind(all: &[u8], place: u64) -> &[u8]
     ensures bytes { result.now ≡ drop place all.now }
@@ -19,7 +19,7 @@ fn behind(all: &[u8], place: u64) -> &[u8]
     &all[start..]
 }
 
-// Copies bytes from a place on into the front of `buf`, and says how many.
+// Copies bytes from an offset on into the front of `buf`, and returns how many.
 #[inline(always)]
 fn copy_from(all: &[u8], place: u64, buf: &mut [u8]) -> usize
     ensures size { length buf.new ≡ length buf.old }
@@ -33,7 +33,7 @@ fn copy_from(all: &[u8], place: u64, buf: &mut [u8]) -> usize
     n
 }
 
-// Whether so many bytes lie from a place on.
+// Whether at least `len` bytes follow an offset.
 #[inline(always)]
 fn holds(all: &[u8], place: u64, len: usize) -> bool
     ensures enough { result ≡ true → len ≤ length all.now - place }
@@ -44,7 +44,7 @@ fn holds(all: &[u8], place: u64, len: usize) -> bool
     len <= behind(all, place).len()
 }
 
-/// The bytes from the cursor's position on, in order. A call that fails leaves the cursor as it was.
+/// Reads the bytes from the cursor's position on, in order. A call that fails leaves the cursor unchanged.
 impl Source for Cursor<&[u8]> {
     ghost ahead = { λ c. Some (slice_ahead c) };
 
@@ -83,7 +83,11 @@ impl Source for Cursor<&[u8]> {
     }
 
     #[inline(always)]
-    fn pull_exact(&mut self, buf: &mut [u8]) -> Result<(), IoFault> {
+    fn pull_exact(&mut self, buf: &mut [u8]) -> Result<(), IoFault>
+        ensures bytes { TakesInto buf.new (Some (slice_ahead self.old)) (Some (slice_ahead self.new)) 0 0 result }
+        ensures place { slice_place self.new ≡ slice_place self.old }
+        ensures kept { IfErr result (λ _. self.new ≡ self.old) }
+    {
         let at = self.position();
         if !holds(self.get_ref(), at, buf.len()) {
             return Err(IoFault::from(ErrorKind::UnexpectedEof));
@@ -94,7 +98,7 @@ impl Source for Cursor<&[u8]> {
     }
 }
 
-/// The bytes from the cursor's position on, in order. A call that fails leaves the cursor as it was.
+/// Reads the bytes from the cursor's position on, in order. A call that fails leaves the cursor unchanged.
 impl Source for Cursor<Vec<u8>> {
     ghost ahead = { λ c. Some (vec_ahead c) };
 
@@ -133,7 +137,11 @@ impl Source for Cursor<Vec<u8>> {
     }
 
     #[inline(always)]
-    fn pull_exact(&mut self, buf: &mut [u8]) -> Result<(), IoFault> {
+    fn pull_exact(&mut self, buf: &mut [u8]) -> Result<(), IoFault>
+        ensures bytes { TakesInto buf.new (Some (vec_ahead self.old)) (Some (vec_ahead self.new)) 0 0 result }
+        ensures place { vec_place self.new ≡ vec_place self.old }
+        ensures kept { IfErr result (λ _. self.new ≡ self.old) }
+    {
         let at = self.position();
         if !holds(self.get_ref().as_slice(), at, buf.len()) {
             return Err(IoFault::from(ErrorKind::UnexpectedEof));

@@ -1,8 +1,17 @@
 //! How the types of kinds.rt are written and read. Written by tools/derive.py.
+//!
+//! Sum of Pair: 8cf411dd.
+//! Sum of Either: 5f629e26.
+//! Sum of Sorted: 28cfe3ed.
+//! Sum of Kennel: e1456d7d.
+//! Sum of Row: 82bebcad.
+//! Sum of Chosen: 1856182c.
+//! Sum of Guests: 2f171fe5.
 ghost use Rattle.rmp_decode.specs.Arrays.{Exactly};
 ghost use Rattle.rmp_decode.specs.EnumRefusing.{RefusesEnum, with_content};
 ghost use Rattle.rmp_decode.specs.FieldRefusing.{RefusesFields};
 ghost use Rattle.rmp_decode.specs.Fields.{OfFields, Field, Absent, NoField};
+ghost use Rattle.rmp_decode.specs.ReadFields.{reads_2, reads_3, reads_4};
 ghost use Rattle.rmp_decode.specs.Refusing.{RefusesTuple, part_of};
 ghost use Rattle.rmp_decode.specs.Rows.{AndThen, NoMore, ReadsEach};
 ghost use Rattle.rmp_decode.specs.Seq.{OfRow};
@@ -11,8 +20,12 @@ ghost use Rattle.rmp_encode.specs.Sizes.{one_of};
 ghost use Rattle.rmp_encode.specs.Trees.{wrapped_of, sequence_of, structure_of, newtype_variant_of, struct_variant_of, tree_of};
 ghost use Rattle.rmp_round_trip.specs.LeafRounds.{byte_row, unsigned_row_16, unsigned_row_64, signed_row_8, signed_row_16};
 ghost use Rattle.rmp_round_trip.specs.LeafRounds.{signed_row_32, truth_row, char_row, string_row};
-ghost use Rattle.rmp_round_trip.specs.MapRounds.{mapping_some, map_row, set_row};
-ghost use Rattle.rmp_round_trip.specs.RoundTrip.{LowersTo};
+ghost use Rattle.rmp_round_trip.specs.MapRounds.{mapping_some, map_row, pairs_row, set_row};
+ghost use Rattle.rmp_round_trip.specs.OnlyFields.{AtPlace, content_fields, content_only, field_only, fields_both, last_field, variant_both};
+ghost use Rattle.rmp_round_trip.specs.OnlyLeaves.{truth_only, byte_only, unsigned_only, signed_only, char_only, string_only};
+ghost use Rattle.rmp_round_trip.specs.OnlyMaps.{map_only, set_only};
+ghost use Rattle.rmp_round_trip.specs.OnlyRows.{array_only, item_only, last_only, list_only, lowers_then, option_only, row_both};
+ghost use Rattle.rmp_round_trip.specs.RoundTrip.{LowersTo, Only};
 ghost use Rattle.rmp_round_trip.specs.Rounds.{each_some, each_row, rows_map, option_some, option_row, slice_some, slice_row};
 ghost use Rattle.rmp_round_trip.specs.Rounds.{tuple_some, tuple_row, sequence_some, sequence_row, sequence_other, rows_none, rows_cons};
 ghost use Rattle.rmp_round_trip.specs.StructRounds.{sequence_all, tuple_all, structure_all, struct_variant_all};
@@ -22,7 +35,7 @@ ghost use Rattle.rmp_round_trip.specs.VariantRounds.{struct_variant_row, newtype
 ghost use Rattle.rmp_wire.specs.Msg.{nil};
 ghost use Rattle.std.proofs.Common.{refl};
 ghost use Rattle.std.proofs.lemmas.Cmp.{on_total, nat_list_cmp_total};
-ghost use Rattle.std.specs.Prelude.{◌≡◌, ◌≢◌, ◌∷◌, [], None, Some, codes, IsSome, string_bytes};
+ghost use Rattle.std.specs.Prelude.{◌≡◌, ◌≢◌, ◌∷◌, [], None, Some, codes, IsSome, string_bytes, pos, negsuc};
 ghost use Rattle.test_derived.specs.declared.enums.Mixed.TheVariants as the_mixed;
 ghost use Rattle.test_derived.specs.declared.kinds.Either.TheVariants as the_either;
 
@@ -94,6 +107,14 @@ impl<'de, R: ReadSlice<'de>, T: RoundTrip<'de, R>> RoundTrip<'de, R> for Pair<T>
     ghost round = { λ lent s v fits. sequence_row s _ _
         (rows_cons s _ _ (λ j. T.reads s.human R.lends j v.0) _ (T.round lent s v.0 fits.0)
         (rows_cons s _ _ (λ j. T.reads s.human R.lends j v.1) _ (T.round lent s v.1 fits.1) (rows_none s))) };
+
+    ghost same = { λ v w. T.same v.0 w.0 × T.same v.1 w.1 };
+
+    ghost only = { λ s v fits. lowers_then s _ _ (λ m. (w : _) → (⟦<Pair<T> as Deserialize<'de, R>>⟧.reads s.human R.lends) m w
+        → T.same v.0 w.0 × T.same v.1 w.1) (sequence_row s _ _
+        (rows_cons s _ _ (λ j. Only (T.reads s.human R.lends) T.same j v.0) _ (T.only s v.0 fits.0)
+        (rows_cons s _ _ (λ j. Only (T.reads s.human R.lends) T.same j v.1) _ (T.only s v.1 fits.1) (rows_none s))))
+        (λ m q w r. row_both _ _ _ m q r (item_only (T.reads s.human R.lends) T.same v.0 w.0 _ _ _ (last_only (T.reads s.human R.lends) T.same v.1 w.1))) };
 }
 
 impl<T: Serialize> NeverNil for Pair<T> {
@@ -210,6 +231,49 @@ impl<'de, R: ReadSlice<'de>, T: RoundTrip<'de, R>> RoundTrip<'de, R> for Either<
           (λ x3 h3. (sequence_row s _ _ (rows_cons s _ _ (λ j. T.reads s.human R.lends j x3.0) _ (T.round lent s x3.0 h3.0)
           (rows_cons s _ _ (λ j. T.reads s.human R.lends j x3.1) _ (T.round lent s x3.1 h3.1) (rows_none s))))) a2 fits.1) (fields_none s)))
     ] };
+
+    ghost same = { λ v w. elim v [
+      | the_either.Left a1 ↦ (b1 : _) × (w ≡ the_either.Left b1) × T.same a1 b1
+      | the_either.Right a1 a2 ↦ (b1 : _) × (b2 : _)
+          × (w ≡ the_either.Right b1 b2) × ⟦<i32 as RoundTrip<'de, R>>⟧.same a1 b1 × ⟦<Option<Pair<T>> as RoundTrip<'de, R>>⟧.same a2 b2
+    ] };
+
+    ghost only = { λ s. elim [
+      | the_either.Left a1 ↦ λ fits. lowers_then s _ _ (λ m. (w : _)
+          → (⟦<Either<T> as Deserialize<'de, R>>⟧.reads s.human R.lends) m w
+          → (b1 : _) × (w ≡ the_either.Left b1) × T.same a1 b1)
+          (newtype_variant_row s (codes "Left" ∷ (codes "Right" ∷ [])) (codes "Left") 0 refl
+          (AtPlace 0 (Content (λ j. Only (T.reads s.human R.lends) T.same j a1))) _ (λ j. Only (T.reads s.human R.lends) T.same j a1) (λ m h. (refl, h))
+          (T.only s a1 fits)) (λ m q w r. variant_both (codes "Left" ∷ (codes "Right" ∷ [])) 0 _ _ _ m q r
+          (λ c a b. (b.0, b.1, content_only (T.reads s.human R.lends) T.same a1 b.0 c a b.2)))
+      | the_either.Right a1 a2 ↦ λ fits. lowers_then s _ _
+          (λ m. (w : _) → (⟦<Either<T> as Deserialize<'de, R>>⟧.reads s.human R.lends) m w
+          → (b1 : _) × (b2 : _) × (w ≡ the_either.Right b1 b2) × ⟦<i32 as RoundTrip<'de, R>>⟧.same a1 b1
+          × ⟦<Option<Pair<T>> as RoundTrip<'de, R>>⟧.same a2 b2)
+          (struct_variant_row s (codes "Left" ∷ (codes "Right" ∷ [])) (codes "Right") 1 refl
+          (AtPlace 1 (Content (OfFields (codes "by" ∷ (codes "pair" ∷ []))
+          (Field (λ j. Only (⟦<i32 as Deserialize<'de, R>>⟧.reads s.human R.lends) ⟦<i32 as RoundTrip<'de, R>>⟧.same j a1) ⊥
+          (Field (λ j. Only (⟦<Option<Pair<T>> as Deserialize<'de, R>>⟧.reads s.human R.lends) ⟦<Option<Pair<T>> as RoundTrip<'de, R>>⟧.same j a2) ⊥
+          NoField))))) (codes "by" ∷ (codes "pair" ∷ [])) _ _ refl (λ m h. (refl, h))
+          (fields_cons s (codes "by") _ _ _ (λ j. Only (⟦<i32 as Deserialize<'de, R>>⟧.reads s.human R.lends) ⟦<i32 as RoundTrip<'de, R>>⟧.same j a1) ⊥ _
+          (signed_only s (negsuc 2147483647) (pos 2147483647) a1)
+          (fields_cons s (codes "pair") _ _ _ (λ j. Only (⟦<Option<Pair<T>> as Deserialize<'de, R>>⟧.reads s.human R.lends)
+          ⟦<Option<Pair<T>> as RoundTrip<'de, R>>⟧.same j a2) ⊥ _
+          (option_only s _ (⟦<Pair<T> as Deserialize<'de, R>>⟧.reads s.human R.lends) ⟦<Pair<T> as RoundTrip<'de, R>>⟧.same a2
+          (option_row s (λ x. ⟦<Pair<T> as Serialize>⟧.data_of x s.human) ⟦<Pair<T> as Serialize>⟧.is_value
+          (Only (⟦<Pair<T> as Deserialize<'de, R>>⟧.reads s.human R.lends) ⟦<Pair<T> as RoundTrip<'de, R>>⟧.same) (λ x2. sequence_other s _)
+          (λ x1 h1. (lowers_then s _ _ (λ m. (w : _) → (⟦<Pair<T> as Deserialize<'de, R>>⟧.reads s.human R.lends) m w
+          → T.same x1.0 w.0 × T.same x1.1 w.1) (sequence_row s _ _
+          (rows_cons s _ _ (λ j. Only (T.reads s.human R.lends) T.same j x1.0) _ (T.only s x1.0 h1.0)
+          (rows_cons s _ _ (λ j. Only (T.reads s.human R.lends) T.same j x1.1) _ (T.only s x1.1 h1.1) (rows_none s))))
+          (λ m q w r. row_both _ _ _ m q r (item_only (T.reads s.human R.lends) T.same x1.0 w.0 _ _ _
+          (last_only (T.reads s.human R.lends) T.same x1.1 w.1))))) a2 fits.1)) (fields_none s))))
+          (λ m q w r. variant_both (codes "Left" ∷ (codes "Right" ∷ [])) 1 _ _ _ m q r
+          (λ c a b. content_fields (codes "by" ∷ (codes "pair" ∷ [])) _ _ _ c a b.3
+          (λ ks i j. let x = field_only (⟦<i32 as Deserialize<'de, R>>⟧.reads s.human R.lends) ⟦<i32 as RoundTrip<'de, R>>⟧.same a1 b.0 _ _ _ _
+          (last_field (⟦<Option<Pair<T>> as Deserialize<'de, R>>⟧.reads s.human R.lends) ⟦<Option<Pair<T>> as RoundTrip<'de, R>>⟧.same a2 b.1 _) ks i j
+          in (b.0, b.1, b.2, x.0, x.1))))
+    ] };
 }
 
 impl<T: Serialize> NeverNil for Either<T> {
@@ -261,8 +325,12 @@ impl<'de, R: ReadSlice<'de>, K: Deserialize<'de, R> + Ord> Deserialize<'de, R> f
     ghost absent = { None };
 
     ghost refuses = { RefusesFields (codes "dogs" ∷ (codes "counts" ∷ (codes "numbers" ∷ [])))
-        ⟦<(BTreeMap<String, Dog>, (BTreeMap<K, u64>, (BTreeSet<i16>, ()))) as ReadFields<'de, R>>⟧.reads
-        ⟦<(BTreeMap<String, Dog>, (BTreeMap<K, u64>, (BTreeSet<i16>, ()))) as ReadFields<'de, R>>⟧.parts };
+        (reads_3 ⟦<BTreeMap<String, Dog> as Deserialize<'de, R>>⟧.reads ⟦<BTreeMap<String, Dog> as Deserialize<'de, R>>⟧.absent
+        ⟦<BTreeMap<K, u64> as Deserialize<'de, R>>⟧.reads ⟦<BTreeMap<K, u64> as Deserialize<'de, R>>⟧.absent ⟦<BTreeSet<i16> as Deserialize<'de, R>>⟧.reads
+        ⟦<BTreeSet<i16> as Deserialize<'de, R>>⟧.absent) (part_of ⟦<BTreeMap<String, Dog> as Deserialize<'de, R>>⟧.reads
+        ⟦<BTreeMap<String, Dog> as Deserialize<'de, R>>⟧.refuses
+        ∷ (part_of ⟦<BTreeMap<K, u64> as Deserialize<'de, R>>⟧.reads ⟦<BTreeMap<K, u64> as Deserialize<'de, R>>⟧.refuses
+        ∷ (part_of ⟦<BTreeSet<i16> as Deserialize<'de, R>>⟧.reads ⟦<BTreeSet<i16> as Deserialize<'de, R>>⟧.refuses ∷ []))) };
 
     #[inline(always)]
     fn deserialize<C: SerializerConfig>(
@@ -274,7 +342,7 @@ impl<'de, R: ReadSlice<'de>, K: Deserialize<'de, R> + Ord> Deserialize<'de, R> f
                 (BTreeMap<K, u64>, (BTreeSet<i16>, ())),
             ),
             rmp_decode::Error,
-        > = de.deserialize_fields(&["dogs", "counts", "numbers"]);
+        > = rmp_decode::read_fields_3(de, &["dogs", "counts", "numbers"]);
         match read {
             Ok(parts) => {
                 let (dogs, (counts, (numbers, ()))) = parts;
@@ -326,6 +394,43 @@ impl<'de, R: ReadSlice<'de>, K: RoundTrip<'de, R> + Ord> RoundTrip<'de, R> for S
         (Absent ⟦<BTreeSet<i16> as Deserialize<'de, R>>⟧.absent v.numbers) _
         (set_row s (λ x. ⟦<i16 as Serialize>⟧.data_of x s.human) ⟦<i16 as Serialize>⟧.is_value (⟦<i16 as Deserialize<'de, R>>⟧.reads s.human R.lends)
         (λ x9 h9. (signed_row_16 s x9 h9)) ⟦<i16 as Ord>⟧.cmp v.numbers.keys fits.2.1 fits.2.0) (fields_none s)))) };
+
+    ghost same = { λ v w. ⟦<BTreeMap<String, Dog> as RoundTrip<'de, R>>⟧.same v.dogs w.dogs
+        × ⟦<BTreeMap<K, u64> as RoundTrip<'de, R>>⟧.same v.counts w.counts × ⟦<BTreeSet<i16> as RoundTrip<'de, R>>⟧.same v.numbers w.numbers };
+
+    ghost only = { λ s v fits. lowers_then s _ _ (λ m. (w : _) → (⟦<Sorted<K> as Deserialize<'de, R>>⟧.reads s.human R.lends) m w
+        → ⟦<BTreeMap<String, Dog> as RoundTrip<'de, R>>⟧.same v.dogs w.dogs × ⟦<BTreeMap<K, u64> as RoundTrip<'de, R>>⟧.same v.counts w.counts
+        × ⟦<BTreeSet<i16> as RoundTrip<'de, R>>⟧.same v.numbers w.numbers)
+        (structure_row s (codes "dogs" ∷ (codes "counts" ∷ (codes "numbers" ∷ []))) _ _ refl
+        (fields_cons s (codes "dogs") _ _ _ (λ j. Only (⟦<BTreeMap<String, Dog> as Deserialize<'de, R>>⟧.reads s.human R.lends)
+        ⟦<BTreeMap<String, Dog> as RoundTrip<'de, R>>⟧.same j v.dogs) ⊥ _
+        (map_only (⟦<String as Deserialize<'de, R>>⟧.reads s.human R.lends) (⟦<Dog as Deserialize<'de, R>>⟧.reads s.human R.lends)
+        ⟦<String as RoundTrip<'de, R>>⟧.same ⟦<Dog as RoundTrip<'de, R>>⟧.same s _ (λ w. w.entries) ⟦<String as Ord>⟧.cmp v.dogs.entries
+        (pairs_row s (λ x. ⟦<String as Serialize>⟧.data_of x s.human) (λ x. ⟦<Dog as Serialize>⟧.data_of x s.human) ⟦<String as Serialize>⟧.is_value
+        ⟦<Dog as Serialize>⟧.is_value (Only (⟦<String as Deserialize<'de, R>>⟧.reads s.human R.lends) ⟦<String as RoundTrip<'de, R>>⟧.same)
+        (Only (⟦<Dog as Deserialize<'de, R>>⟧.reads s.human R.lends) ⟦<Dog as RoundTrip<'de, R>>⟧.same)
+        (λ x1 h1. (string_only s (λ w. string_bytes w) (string_bytes x1)))
+        (λ x2 h2. (dog_rounds.only-law R.row R.ReadSlice.own (given 0) R.Source (given 0) s x2 h2)) v.dogs.entries fits.0.0))
+        (fields_cons s (codes "counts") _ _ _ (λ j. Only (⟦<BTreeMap<K, u64> as Deserialize<'de, R>>⟧.reads s.human R.lends)
+        ⟦<BTreeMap<K, u64> as RoundTrip<'de, R>>⟧.same j v.counts) ⊥ _
+        (map_only (K.reads s.human R.lends) (⟦<u64 as Deserialize<'de, R>>⟧.reads s.human R.lends) K.same ⟦<u64 as RoundTrip<'de, R>>⟧.same s _
+        (λ w. w.entries) K.cmp v.counts.entries (pairs_row s (λ x. K.data_of x s.human) (λ x. ⟦<u64 as Serialize>⟧.data_of x s.human) K.is_value
+        ⟦<u64 as Serialize>⟧.is_value (Only (K.reads s.human R.lends) K.same)
+        (Only (⟦<u64 as Deserialize<'de, R>>⟧.reads s.human R.lends) ⟦<u64 as RoundTrip<'de, R>>⟧.same) (λ x3 h3. (K.only s x3 h3))
+        (λ x4 h4. (unsigned_only s 18446744073709551615 x4)) v.counts.entries fits.1.0))
+        (fields_cons s (codes "numbers") _ _ _ (λ j. Only (⟦<BTreeSet<i16> as Deserialize<'de, R>>⟧.reads s.human R.lends)
+        ⟦<BTreeSet<i16> as RoundTrip<'de, R>>⟧.same j v.numbers) ⊥ _
+        (set_only s _ (λ w. w.keys) ⟦<i16 as Ord>⟧.cmp (⟦<i16 as Deserialize<'de, R>>⟧.reads s.human R.lends) ⟦<i16 as RoundTrip<'de, R>>⟧.same
+        v.numbers.keys (sequence_row s _ (λ ms. ReadsEach (Only (⟦<i16 as Deserialize<'de, R>>⟧.reads s.human R.lends) ⟦<i16 as RoundTrip<'de, R>>⟧.same) ms
+        v.numbers.keys) (each_row s (λ x. ⟦<i16 as Serialize>⟧.data_of x s.human) ⟦<i16 as Serialize>⟧.is_value
+        (Only (⟦<i16 as Deserialize<'de, R>>⟧.reads s.human R.lends) ⟦<i16 as RoundTrip<'de, R>>⟧.same)
+        (λ x5 h5. (signed_only s (negsuc 32767) (pos 32767) x5)) v.numbers.keys fits.2.0))) (fields_none s)))))
+        (λ m q w r. fields_both (codes "dogs" ∷ (codes "counts" ∷ (codes "numbers" ∷ []))) _ _ _ m q r
+        (λ ks i j. let x = field_only (⟦<BTreeMap<String, Dog> as Deserialize<'de, R>>⟧.reads s.human R.lends)
+        ⟦<BTreeMap<String, Dog> as RoundTrip<'de, R>>⟧.same v.dogs w.dogs _ _ _ _
+        (field_only (⟦<BTreeMap<K, u64> as Deserialize<'de, R>>⟧.reads s.human R.lends) ⟦<BTreeMap<K, u64> as RoundTrip<'de, R>>⟧.same v.counts w.counts _ _
+        _ _ (last_field (⟦<BTreeSet<i16> as Deserialize<'de, R>>⟧.reads s.human R.lends) ⟦<BTreeSet<i16> as RoundTrip<'de, R>>⟧.same v.numbers w.numbers _))
+        ks i j in (x.0, x.1.0, x.1.1))) };
 }
 
 impl<K: Serialize + Ord> NeverNil for Sorted<K> {
@@ -375,8 +480,13 @@ impl<'de, R: ReadSlice<'de>> Deserialize<'de, R> for Kennel {
     ghost absent = { None };
 
     ghost refuses = { RefusesFields (codes "dogs" ∷ (codes "four" ∷ (codes "pair" ∷ (codes "either" ∷ []))))
-        ⟦<(Vec<Dog>, Box<Four>, Pair<Opt>, Option<Either<bool>>, ()) as ReadFields<'de, R>>⟧.reads
-        ⟦<(Vec<Dog>, Box<Four>, Pair<Opt>, Option<Either<bool>>, ()) as ReadFields<'de, R>>⟧.parts };
+        (reads_4 ⟦<Vec<Dog> as Deserialize<'de, R>>⟧.reads ⟦<Vec<Dog> as Deserialize<'de, R>>⟧.absent ⟦<Box<Four> as Deserialize<'de, R>>⟧.reads
+        ⟦<Box<Four> as Deserialize<'de, R>>⟧.absent ⟦<Pair<Opt> as Deserialize<'de, R>>⟧.reads ⟦<Pair<Opt> as Deserialize<'de, R>>⟧.absent
+        ⟦<Option<Either<bool>> as Deserialize<'de, R>>⟧.reads ⟦<Option<Either<bool>> as Deserialize<'de, R>>⟧.absent)
+        (part_of ⟦<Vec<Dog> as Deserialize<'de, R>>⟧.reads ⟦<Vec<Dog> as Deserialize<'de, R>>⟧.refuses
+        ∷ (part_of ⟦<Box<Four> as Deserialize<'de, R>>⟧.reads ⟦<Box<Four> as Deserialize<'de, R>>⟧.refuses
+        ∷ (part_of ⟦<Pair<Opt> as Deserialize<'de, R>>⟧.reads ⟦<Pair<Opt> as Deserialize<'de, R>>⟧.refuses
+        ∷ (part_of ⟦<Option<Either<bool>> as Deserialize<'de, R>>⟧.reads ⟦<Option<Either<bool>> as Deserialize<'de, R>>⟧.refuses ∷ [])))) };
 
     #[inline(always)]
     fn deserialize<C: SerializerConfig>(
@@ -385,7 +495,7 @@ impl<'de, R: ReadSlice<'de>> Deserialize<'de, R> for Kennel {
         let read: Result<
             (Vec<Dog>, Box<Four>, Pair<Opt>, Option<Either<bool>>, ()),
             rmp_decode::Error,
-        > = de.deserialize_fields(&["dogs", "four", "pair", "either"]);
+        > = rmp_decode::read_fields_4(de, &["dogs", "four", "pair", "either"]);
         match read {
             Ok(parts) => {
                 let (dogs, four, pair, either, ()) = parts;
@@ -483,6 +593,85 @@ impl<'de, R: ReadSlice<'de>> RoundTrip<'de, R> for Kennel {
               (rows_cons s _ _ (λ j. ⟦<bool as Deserialize<'de, R>>⟧.reads s.human R.lends j x13.1) _ (truth_row s x13.1) (rows_none s))))) a2 fits.1)
               (fields_none s)))
         ] in law x12 h12)) v.either fits.3) (fields_none s))))) };
+
+    ghost same = { λ v w. ⟦<Vec<Dog> as RoundTrip<'de, R>>⟧.same v.dogs w.dogs × ⟦<Box<Four> as RoundTrip<'de, R>>⟧.same v.four w.four
+        × ⟦<Pair<Opt> as RoundTrip<'de, R>>⟧.same v.pair w.pair × ⟦<Option<Either<bool>> as RoundTrip<'de, R>>⟧.same v.either w.either };
+
+    ghost only = { λ s v fits. lowers_then s _ _ (λ m. (w : _) → (⟦<Kennel as Deserialize<'de, R>>⟧.reads s.human R.lends) m w
+        → ⟦<Vec<Dog> as RoundTrip<'de, R>>⟧.same v.dogs w.dogs × ⟦<Box<Four> as RoundTrip<'de, R>>⟧.same v.four w.four
+        × ⟦<Pair<Opt> as RoundTrip<'de, R>>⟧.same v.pair w.pair × ⟦<Option<Either<bool>> as RoundTrip<'de, R>>⟧.same v.either w.either)
+        (structure_row s (codes "dogs" ∷ (codes "four" ∷ (codes "pair" ∷ (codes "either" ∷ [])))) _ _ refl
+        (fields_cons s (codes "dogs") _ _ _ (λ j. Only (⟦<Vec<Dog> as Deserialize<'de, R>>⟧.reads s.human R.lends) ⟦<Vec<Dog> as RoundTrip<'de, R>>⟧.same j
+        v.dogs) ⊥ _ (list_only s _ (λ w. w.items) (⟦<Dog as Deserialize<'de, R>>⟧.reads s.human R.lends) ⟦<Dog as RoundTrip<'de, R>>⟧.same v.dogs.items
+        (slice_row s _ (λ ms. ReadsEach (Only (⟦<Dog as Deserialize<'de, R>>⟧.reads s.human R.lends) ⟦<Dog as RoundTrip<'de, R>>⟧.same) ms v.dogs.items)
+        (each_row s (λ x. ⟦<Dog as Serialize>⟧.data_of x s.human) ⟦<Dog as Serialize>⟧.is_value
+        (Only (⟦<Dog as Deserialize<'de, R>>⟧.reads s.human R.lends) ⟦<Dog as RoundTrip<'de, R>>⟧.same)
+        (λ x1 h1. (dog_rounds.only-law R.row R.ReadSlice.own (given 0) R.Source (given 0) s x1 h1)) v.dogs.items fits.0)))
+        (fields_cons s (codes "four") _ _ _ (λ j. Only (⟦<Box<Four> as Deserialize<'de, R>>⟧.reads s.human R.lends) ⟦<Box<Four> as RoundTrip<'de, R>>⟧.same
+        j v.four) ⊥ _ (lowers_then s (⟦<Four as Serialize>⟧.data_of v.four.value s.human)
+        (λ j. Only (⟦<Four as Deserialize<'de, R>>⟧.reads s.human R.lends) ⟦<Four as RoundTrip<'de, R>>⟧.same j v.four.value)
+        (λ j. Only (⟦<Box<Four> as Deserialize<'de, R>>⟧.reads s.human R.lends) ⟦<Box<Four> as RoundTrip<'de, R>>⟧.same j v.four)
+        (four_rounds.only-law R.row R.ReadSlice.own (given 0) R.Source (given 0) s v.four.value fits.1) (λ m q w r. q w.value r))
+        (fields_cons s (codes "pair") _ _ _ (λ j. Only (⟦<Pair<Opt> as Deserialize<'de, R>>⟧.reads s.human R.lends) ⟦<Pair<Opt> as RoundTrip<'de, R>>⟧.same
+        j v.pair) ⊥ _ (lowers_then s _ _ (λ m. (w : _) → (⟦<Pair<Opt> as Deserialize<'de, R>>⟧.reads s.human R.lends) m w
+        → ⟦<Opt as RoundTrip<'de, R>>⟧.same v.pair.0 w.0 × ⟦<Opt as RoundTrip<'de, R>>⟧.same v.pair.1 w.1)
+        (sequence_row s _ _ (rows_cons s _ _ (λ j. Only (⟦<Opt as Deserialize<'de, R>>⟧.reads s.human R.lends) ⟦<Opt as RoundTrip<'de, R>>⟧.same j v.pair.0)
+        _ (opt_rounds.only-law R.row R.ReadSlice.own (given 0) R.Source (given 0) s v.pair.0 fits.2.0)
+        (rows_cons s _ _ (λ j. Only (⟦<Opt as Deserialize<'de, R>>⟧.reads s.human R.lends) ⟦<Opt as RoundTrip<'de, R>>⟧.same j v.pair.1) _
+        (opt_rounds.only-law R.row R.ReadSlice.own (given 0) R.Source (given 0) s v.pair.1 fits.2.1) (rows_none s))))
+        (λ m q w r. row_both _ _ _ m q r (item_only (⟦<Opt as Deserialize<'de, R>>⟧.reads s.human R.lends) ⟦<Opt as RoundTrip<'de, R>>⟧.same v.pair.0 w.0 _
+        _ _ (last_only (⟦<Opt as Deserialize<'de, R>>⟧.reads s.human R.lends) ⟦<Opt as RoundTrip<'de, R>>⟧.same v.pair.1 w.1))))
+        (fields_cons s (codes "either") _ _ _ (λ j. Only (⟦<Option<Either<bool>> as Deserialize<'de, R>>⟧.reads s.human R.lends)
+        ⟦<Option<Either<bool>> as RoundTrip<'de, R>>⟧.same j v.either) ⊥ _
+        (option_only s _ (⟦<Either<bool> as Deserialize<'de, R>>⟧.reads s.human R.lends) ⟦<Either<bool> as RoundTrip<'de, R>>⟧.same v.either
+        (option_row s (λ x. ⟦<Either<bool> as Serialize>⟧.data_of x s.human) ⟦<Either<bool> as Serialize>⟧.is_value
+        (Only (⟦<Either<bool> as Deserialize<'de, R>>⟧.reads s.human R.lends) ⟦<Either<bool> as RoundTrip<'de, R>>⟧.same)
+        (λ x5. (let law : (x : _) → tree_of s (⟦<Either<bool> as Serialize>⟧.data_of x s.human) ≢ Some nil = elim
+        [ the_either.Left a1 ↦ newtype_variant_other s (codes "Left") _ | the_either.Right a1 a2 ↦ struct_variant_other s (codes "Right") _ ] in law x5))
+        (λ x2 h2. (let law : (x : _) → ⟦<Either<bool> as Serialize>⟧.is_value x
+        → LowersTo s (⟦<Either<bool> as Serialize>⟧.data_of x s.human)
+        (λ m. (Only (⟦<Either<bool> as Deserialize<'de, R>>⟧.reads s.human R.lends) ⟦<Either<bool> as RoundTrip<'de, R>>⟧.same) m x) = elim [
+          | the_either.Left a1 ↦ λ fits. lowers_then s _ _ (λ m. (w : _) → (⟦<Either<bool> as Deserialize<'de, R>>⟧.reads s.human R.lends) m w
+              → (b1 : _) × (w ≡ the_either.Left b1) × ⟦<bool as RoundTrip<'de, R>>⟧.same a1 b1)
+              (newtype_variant_row s (codes "Left" ∷ (codes "Right" ∷ [])) (codes "Left") 0 refl
+              (AtPlace 0 (Content (λ j. Only (⟦<bool as Deserialize<'de, R>>⟧.reads s.human R.lends) ⟦<bool as RoundTrip<'de, R>>⟧.same j a1))) _
+              (λ j. Only (⟦<bool as Deserialize<'de, R>>⟧.reads s.human R.lends) ⟦<bool as RoundTrip<'de, R>>⟧.same j a1) (λ m h. (refl, h)) (truth_only s a1))
+              (λ m q w r. variant_both (codes "Left" ∷ (codes "Right" ∷ [])) 0 _ _ _ m q r
+              (λ c a b. (b.0, b.1, content_only (⟦<bool as Deserialize<'de, R>>⟧.reads s.human R.lends) ⟦<bool as RoundTrip<'de, R>>⟧.same a1 b.0 c a b.2)))
+          | the_either.Right a1 a2 ↦ λ fits. lowers_then s _ _ (λ m. (w : _) → (⟦<Either<bool> as Deserialize<'de, R>>⟧.reads s.human R.lends) m w
+              → (b1 : _) × (b2 : _) × (w ≡ the_either.Right b1 b2) × ⟦<i32 as RoundTrip<'de, R>>⟧.same a1 b1
+              × ⟦<Option<Pair<bool>> as RoundTrip<'de, R>>⟧.same a2 b2)
+              (struct_variant_row s (codes "Left" ∷ (codes "Right" ∷ [])) (codes "Right") 1 refl
+              (AtPlace 1 (Content (OfFields (codes "by" ∷ (codes "pair" ∷ []))
+              (Field (λ j. Only (⟦<i32 as Deserialize<'de, R>>⟧.reads s.human R.lends) ⟦<i32 as RoundTrip<'de, R>>⟧.same j a1) ⊥
+              (Field (λ j. Only (⟦<Option<Pair<bool>> as Deserialize<'de, R>>⟧.reads s.human R.lends) ⟦<Option<Pair<bool>> as RoundTrip<'de, R>>⟧.same j a2) ⊥
+              NoField))))) (codes "by" ∷ (codes "pair" ∷ [])) _ _ refl (λ m h. (refl, h))
+              (fields_cons s (codes "by") _ _ _ (λ j. Only (⟦<i32 as Deserialize<'de, R>>⟧.reads s.human R.lends) ⟦<i32 as RoundTrip<'de, R>>⟧.same j a1) ⊥ _
+              (signed_only s (negsuc 2147483647) (pos 2147483647) a1)
+              (fields_cons s (codes "pair") _ _ _ (λ j. Only (⟦<Option<Pair<bool>> as Deserialize<'de, R>>⟧.reads s.human R.lends)
+              ⟦<Option<Pair<bool>> as RoundTrip<'de, R>>⟧.same j a2) ⊥ _
+              (option_only s _ (⟦<Pair<bool> as Deserialize<'de, R>>⟧.reads s.human R.lends) ⟦<Pair<bool> as RoundTrip<'de, R>>⟧.same a2
+              (option_row s (λ x. ⟦<Pair<bool> as Serialize>⟧.data_of x s.human) ⟦<Pair<bool> as Serialize>⟧.is_value
+              (Only (⟦<Pair<bool> as Deserialize<'de, R>>⟧.reads s.human R.lends) ⟦<Pair<bool> as RoundTrip<'de, R>>⟧.same) (λ x4. sequence_other s _)
+              (λ x3 h3. (lowers_then s _ _ (λ m. (w : _) → (⟦<Pair<bool> as Deserialize<'de, R>>⟧.reads s.human R.lends) m w
+              → ⟦<bool as RoundTrip<'de, R>>⟧.same x3.0 w.0 × ⟦<bool as RoundTrip<'de, R>>⟧.same x3.1 w.1)
+              (sequence_row s _ _ (rows_cons s _ _ (λ j. Only (⟦<bool as Deserialize<'de, R>>⟧.reads s.human R.lends) ⟦<bool as RoundTrip<'de, R>>⟧.same j x3.0) _
+              (truth_only s x3.0) (rows_cons s _ _ (λ j. Only (⟦<bool as Deserialize<'de, R>>⟧.reads s.human R.lends) ⟦<bool as RoundTrip<'de, R>>⟧.same j x3.1) _
+              (truth_only s x3.1) (rows_none s)))) (λ m q w r. row_both _ _ _ m q r
+              (item_only (⟦<bool as Deserialize<'de, R>>⟧.reads s.human R.lends) ⟦<bool as RoundTrip<'de, R>>⟧.same x3.0 w.0 _ _ _
+              (last_only (⟦<bool as Deserialize<'de, R>>⟧.reads s.human R.lends) ⟦<bool as RoundTrip<'de, R>>⟧.same x3.1 w.1))))) a2 fits.1)) (fields_none s))))
+              (λ m q w r. variant_both (codes "Left" ∷ (codes "Right" ∷ [])) 1 _ _ _ m q r
+              (λ c a b. content_fields (codes "by" ∷ (codes "pair" ∷ [])) _ _ _ c a b.3
+              (λ ks i j. let x = field_only (⟦<i32 as Deserialize<'de, R>>⟧.reads s.human R.lends) ⟦<i32 as RoundTrip<'de, R>>⟧.same a1 b.0 _ _ _ _
+              (last_field (⟦<Option<Pair<bool>> as Deserialize<'de, R>>⟧.reads s.human R.lends) ⟦<Option<Pair<bool>> as RoundTrip<'de, R>>⟧.same a2 b.1 _) ks i j
+              in (b.0, b.1, b.2, x.0, x.1))))
+        ] in law x2 h2)) v.either fits.3)) (fields_none s))))))
+        (λ m q w r. fields_both (codes "dogs" ∷ (codes "four" ∷ (codes "pair" ∷ (codes "either" ∷ [])))) _ _ _ m q r
+        (λ ks i j. let x = field_only (⟦<Vec<Dog> as Deserialize<'de, R>>⟧.reads s.human R.lends) ⟦<Vec<Dog> as RoundTrip<'de, R>>⟧.same v.dogs w.dogs _ _ _
+        _ (field_only (⟦<Box<Four> as Deserialize<'de, R>>⟧.reads s.human R.lends) ⟦<Box<Four> as RoundTrip<'de, R>>⟧.same v.four w.four _ _ _ _
+        (field_only (⟦<Pair<Opt> as Deserialize<'de, R>>⟧.reads s.human R.lends) ⟦<Pair<Opt> as RoundTrip<'de, R>>⟧.same v.pair w.pair _ _ _ _
+        (last_field (⟦<Option<Either<bool>> as Deserialize<'de, R>>⟧.reads s.human R.lends) ⟦<Option<Either<bool>> as RoundTrip<'de, R>>⟧.same v.either
+        w.either _))) ks i j in (x.0, x.1.0, x.1.1.0, x.1.1.1))) };
 }
 
 impl NeverNil for Kennel {
@@ -527,15 +716,19 @@ impl<'de, R: ReadSlice<'de>> Deserialize<'de, R> for Row {
     ghost absent = { None };
 
     ghost refuses = { RefusesFields (codes "left" ∷ (codes "far" ∷ (codes "kennel" ∷ [])))
-        ⟦<(VecDeque<(char, i8)>, ([u16; 3], (Kennel, ()))) as ReadFields<'de, R>>⟧.reads
-        ⟦<(VecDeque<(char, i8)>, ([u16; 3], (Kennel, ()))) as ReadFields<'de, R>>⟧.parts };
+        (reads_3 ⟦<VecDeque<(char, i8)> as Deserialize<'de, R>>⟧.reads ⟦<VecDeque<(char, i8)> as Deserialize<'de, R>>⟧.absent
+        ⟦<[u16; 3] as Deserialize<'de, R>>⟧.reads ⟦<[u16; 3] as Deserialize<'de, R>>⟧.absent ⟦<Kennel as Deserialize<'de, R>>⟧.reads
+        ⟦<Kennel as Deserialize<'de, R>>⟧.absent) (part_of ⟦<VecDeque<(char, i8)> as Deserialize<'de, R>>⟧.reads
+        ⟦<VecDeque<(char, i8)> as Deserialize<'de, R>>⟧.refuses
+        ∷ (part_of ⟦<[u16; 3] as Deserialize<'de, R>>⟧.reads ⟦<[u16; 3] as Deserialize<'de, R>>⟧.refuses
+        ∷ (part_of ⟦<Kennel as Deserialize<'de, R>>⟧.reads ⟦<Kennel as Deserialize<'de, R>>⟧.refuses ∷ []))) };
 
     #[inline(always)]
     fn deserialize<C: SerializerConfig>(
         de: &mut Deserializer<R, C>,
     ) -> Result<Row, rmp_decode::Error> {
         let read: Result<(VecDeque<(char, i8)>, ([u16; 3], (Kennel, ()))), rmp_decode::Error> =
-            de.deserialize_fields(&["left", "far", "kennel"]);
+            rmp_decode::read_fields_3(de, &["left", "far", "kennel"]);
         match read {
             Ok(parts) => {
                 let (left, (far, (kennel, ()))) = parts;
@@ -580,6 +773,39 @@ impl<'de, R: ReadSlice<'de>> RoundTrip<'de, R> for Row {
         (fields_cons s (codes "kennel") _ _ _ (λ j. ⟦<Kennel as Deserialize<'de, R>>⟧.reads s.human R.lends j v.kennel)
         (Absent ⟦<Kennel as Deserialize<'de, R>>⟧.absent v.kennel) _
         (kennel_rounds.round-law R.row R.ReadSlice.own (given 0) R.Source (given 0) (λ e. cc) s v.kennel fits.2) (fields_none s)))) };
+
+    ghost same = { λ v w. ⟦<VecDeque<(char, i8)> as RoundTrip<'de, R>>⟧.same v.left w.left × ⟦<[u16; 3] as RoundTrip<'de, R>>⟧.same v.far w.far
+        × ⟦<Kennel as RoundTrip<'de, R>>⟧.same v.kennel w.kennel };
+
+    ghost only = { λ s v fits. lowers_then s _ _ (λ m. (w : _) → (⟦<Row as Deserialize<'de, R>>⟧.reads s.human R.lends) m w
+        → ⟦<VecDeque<(char, i8)> as RoundTrip<'de, R>>⟧.same v.left w.left × ⟦<[u16; 3] as RoundTrip<'de, R>>⟧.same v.far w.far
+        × ⟦<Kennel as RoundTrip<'de, R>>⟧.same v.kennel w.kennel)
+        (structure_row s (codes "left" ∷ (codes "far" ∷ (codes "kennel" ∷ []))) _ _ refl
+        (fields_cons s (codes "left") _ _ _ (λ j. Only (⟦<VecDeque<(char, i8)> as Deserialize<'de, R>>⟧.reads s.human R.lends)
+        ⟦<VecDeque<(char, i8)> as RoundTrip<'de, R>>⟧.same j v.left) ⊥ _
+        (list_only s _ (λ w. w.items) (⟦<(char, i8) as Deserialize<'de, R>>⟧.reads s.human R.lends) ⟦<(char, i8) as RoundTrip<'de, R>>⟧.same v.left.items
+        (sequence_row s _ (λ ms. ReadsEach (Only (⟦<(char, i8) as Deserialize<'de, R>>⟧.reads s.human R.lends) ⟦<(char, i8) as RoundTrip<'de, R>>⟧.same) ms
+        v.left.items) (each_row s (λ x. ⟦<(char, i8) as Serialize>⟧.data_of x s.human) ⟦<(char, i8) as Serialize>⟧.is_value
+        (Only (⟦<(char, i8) as Deserialize<'de, R>>⟧.reads s.human R.lends) ⟦<(char, i8) as RoundTrip<'de, R>>⟧.same)
+        (λ x1 h1. (lowers_then s _ _ (λ j. Only (⟦<(char, i8) as Deserialize<'de, R>>⟧.reads s.human R.lends) ⟦<(char, i8) as RoundTrip<'de, R>>⟧.same j x1)
+        (tuple_row s _ _ (rows_cons s _ _ (λ j. Only (⟦<char as Deserialize<'de, R>>⟧.reads s.human R.lends) ⟦<char as RoundTrip<'de, R>>⟧.same j x1.0) _
+        (char_only s x1.0 h1.0) (rows_cons s _ _ (λ j. Only (⟦<i8 as Deserialize<'de, R>>⟧.reads s.human R.lends) ⟦<i8 as RoundTrip<'de, R>>⟧.same j x1.1) _
+        (signed_only s (negsuc 127) (pos 127) x1.1) (rows_none s))))
+        (λ m q w r. row_both _ _ _ m q r (item_only (⟦<char as Deserialize<'de, R>>⟧.reads s.human R.lends) ⟦<char as RoundTrip<'de, R>>⟧.same x1.0 w.0 _ _
+        _ (last_only (⟦<i8 as Deserialize<'de, R>>⟧.reads s.human R.lends) ⟦<i8 as RoundTrip<'de, R>>⟧.same x1.1 w.1))))) v.left.items fits.0)))
+        (fields_cons s (codes "far") _ _ _ (λ j. Only (⟦<[u16; 3] as Deserialize<'de, R>>⟧.reads s.human R.lends) ⟦<[u16; 3] as RoundTrip<'de, R>>⟧.same j
+        v.far) ⊥ _ (array_only s _ 3 (⟦<u16 as Deserialize<'de, R>>⟧.reads s.human R.lends) ⟦<u16 as RoundTrip<'de, R>>⟧.same v.far
+        (tuple_row s _ (λ ms. ReadsEach (Only (⟦<u16 as Deserialize<'de, R>>⟧.reads s.human R.lends) ⟦<u16 as RoundTrip<'de, R>>⟧.same) ms v.far)
+        (each_row s (λ x. ⟦<u16 as Serialize>⟧.data_of x s.human) ⟦<u16 as Serialize>⟧.is_value
+        (Only (⟦<u16 as Deserialize<'de, R>>⟧.reads s.human R.lends) ⟦<u16 as RoundTrip<'de, R>>⟧.same) (λ x2 h2. (unsigned_only s 65535 x2)) v.far
+        fits.1.1))) (fields_cons s (codes "kennel") _ _ _ (λ j. Only (⟦<Kennel as Deserialize<'de, R>>⟧.reads s.human R.lends)
+        ⟦<Kennel as RoundTrip<'de, R>>⟧.same j v.kennel) ⊥ _ (kennel_rounds.only-law R.row R.ReadSlice.own (given 0) R.Source (given 0) s v.kennel fits.2)
+        (fields_none s))))) (λ m q w r. fields_both (codes "left" ∷ (codes "far" ∷ (codes "kennel" ∷ []))) _ _ _ m q r
+        (λ ks i j. let x = field_only (⟦<VecDeque<(char, i8)> as Deserialize<'de, R>>⟧.reads s.human R.lends)
+        ⟦<VecDeque<(char, i8)> as RoundTrip<'de, R>>⟧.same v.left w.left _ _ _ _
+        (field_only (⟦<[u16; 3] as Deserialize<'de, R>>⟧.reads s.human R.lends) ⟦<[u16; 3] as RoundTrip<'de, R>>⟧.same v.far w.far _ _ _ _
+        (last_field (⟦<Kennel as Deserialize<'de, R>>⟧.reads s.human R.lends) ⟦<Kennel as RoundTrip<'de, R>>⟧.same v.kennel w.kennel _)) ks i j
+        in (x.0, x.1.0, x.1.1))) };
 }
 
 impl NeverNil for Row {
@@ -661,6 +887,52 @@ impl<'de, R: ReadSlice<'de>> RoundTrip<'de, R> for Chosen {
               (rows_cons s _ _ (λ j. ⟦<u8 as Deserialize<'de, R>>⟧.reads s.human R.lends j x4.1) _ (byte_row s x4.1 h4.1) (rows_none s))))) a2 fits.1)
               (fields_none s)))
         ] in law v.0 fits) };
+
+    ghost same = { λ v w. ⟦<Either<u8> as RoundTrip<'de, R>>⟧.same v.0 w.0 };
+
+    ghost only = { λ s v fits. lowers_then s (wrapped_of (⟦<Either<u8> as Serialize>⟧.data_of v.0 s.human))
+        (λ j. Only (⟦<Either<u8> as Deserialize<'de, R>>⟧.reads s.human R.lends) ⟦<Either<u8> as RoundTrip<'de, R>>⟧.same j v.0) (λ m. (w : _)
+        → (⟦<Chosen as Deserialize<'de, R>>⟧.reads s.human R.lends) m w
+        → ⟦<Either<u8> as RoundTrip<'de, R>>⟧.same v.0 w.0)
+        (newtype_row s (⟦<Either<u8> as Serialize>⟧.data_of v.0 s.human)
+        (λ j. Only (⟦<Either<u8> as Deserialize<'de, R>>⟧.reads s.human R.lends) ⟦<Either<u8> as RoundTrip<'de, R>>⟧.same j v.0) (let law : (x : _)
+        → ⟦<Either<u8> as Serialize>⟧.is_value x → LowersTo s (⟦<Either<u8> as Serialize>⟧.data_of x s.human)
+        (λ m. (Only (⟦<Either<u8> as Deserialize<'de, R>>⟧.reads s.human R.lends) ⟦<Either<u8> as RoundTrip<'de, R>>⟧.same) m x) = elim [
+          | the_either.Left a1 ↦ λ fits. lowers_then s _ _ (λ m. (w : _) → (⟦<Either<u8> as Deserialize<'de, R>>⟧.reads s.human R.lends) m w
+              → (b1 : _) × (w ≡ the_either.Left b1) × ⟦<u8 as RoundTrip<'de, R>>⟧.same a1 b1)
+              (newtype_variant_row s (codes "Left" ∷ (codes "Right" ∷ [])) (codes "Left") 0 refl
+              (AtPlace 0 (Content (λ j. Only (⟦<u8 as Deserialize<'de, R>>⟧.reads s.human R.lends) ⟦<u8 as RoundTrip<'de, R>>⟧.same j a1))) _
+              (λ j. Only (⟦<u8 as Deserialize<'de, R>>⟧.reads s.human R.lends) ⟦<u8 as RoundTrip<'de, R>>⟧.same j a1) (λ m h. (refl, h)) (byte_only s a1))
+              (λ m q w r. variant_both (codes "Left" ∷ (codes "Right" ∷ [])) 0 _ _ _ m q r
+              (λ c a b. (b.0, b.1, content_only (⟦<u8 as Deserialize<'de, R>>⟧.reads s.human R.lends) ⟦<u8 as RoundTrip<'de, R>>⟧.same a1 b.0 c a b.2)))
+          | the_either.Right a1 a2 ↦ λ fits. lowers_then s _ _ (λ m. (w : _) → (⟦<Either<u8> as Deserialize<'de, R>>⟧.reads s.human R.lends) m w
+              → (b1 : _) × (b2 : _) × (w ≡ the_either.Right b1 b2) × ⟦<i32 as RoundTrip<'de, R>>⟧.same a1 b1
+              × ⟦<Option<Pair<u8>> as RoundTrip<'de, R>>⟧.same a2 b2)
+              (struct_variant_row s (codes "Left" ∷ (codes "Right" ∷ [])) (codes "Right") 1 refl
+              (AtPlace 1 (Content (OfFields (codes "by" ∷ (codes "pair" ∷ []))
+              (Field (λ j. Only (⟦<i32 as Deserialize<'de, R>>⟧.reads s.human R.lends) ⟦<i32 as RoundTrip<'de, R>>⟧.same j a1) ⊥
+              (Field (λ j. Only (⟦<Option<Pair<u8>> as Deserialize<'de, R>>⟧.reads s.human R.lends) ⟦<Option<Pair<u8>> as RoundTrip<'de, R>>⟧.same j a2) ⊥
+              NoField))))) (codes "by" ∷ (codes "pair" ∷ [])) _ _ refl (λ m h. (refl, h))
+              (fields_cons s (codes "by") _ _ _ (λ j. Only (⟦<i32 as Deserialize<'de, R>>⟧.reads s.human R.lends) ⟦<i32 as RoundTrip<'de, R>>⟧.same j a1) ⊥ _
+              (signed_only s (negsuc 2147483647) (pos 2147483647) a1)
+              (fields_cons s (codes "pair") _ _ _ (λ j. Only (⟦<Option<Pair<u8>> as Deserialize<'de, R>>⟧.reads s.human R.lends)
+              ⟦<Option<Pair<u8>> as RoundTrip<'de, R>>⟧.same j a2) ⊥ _
+              (option_only s _ (⟦<Pair<u8> as Deserialize<'de, R>>⟧.reads s.human R.lends) ⟦<Pair<u8> as RoundTrip<'de, R>>⟧.same a2
+              (option_row s (λ x. ⟦<Pair<u8> as Serialize>⟧.data_of x s.human) ⟦<Pair<u8> as Serialize>⟧.is_value
+              (Only (⟦<Pair<u8> as Deserialize<'de, R>>⟧.reads s.human R.lends) ⟦<Pair<u8> as RoundTrip<'de, R>>⟧.same) (λ x2. sequence_other s _)
+              (λ x1 h1. (lowers_then s _ _ (λ m. (w : _) → (⟦<Pair<u8> as Deserialize<'de, R>>⟧.reads s.human R.lends) m w
+              → ⟦<u8 as RoundTrip<'de, R>>⟧.same x1.0 w.0 × ⟦<u8 as RoundTrip<'de, R>>⟧.same x1.1 w.1)
+              (sequence_row s _ _ (rows_cons s _ _ (λ j. Only (⟦<u8 as Deserialize<'de, R>>⟧.reads s.human R.lends) ⟦<u8 as RoundTrip<'de, R>>⟧.same j x1.0) _
+              (byte_only s x1.0) (rows_cons s _ _ (λ j. Only (⟦<u8 as Deserialize<'de, R>>⟧.reads s.human R.lends) ⟦<u8 as RoundTrip<'de, R>>⟧.same j x1.1) _
+              (byte_only s x1.1) (rows_none s)))) (λ m q w r. row_both _ _ _ m q r
+              (item_only (⟦<u8 as Deserialize<'de, R>>⟧.reads s.human R.lends) ⟦<u8 as RoundTrip<'de, R>>⟧.same x1.0 w.0 _ _ _
+              (last_only (⟦<u8 as Deserialize<'de, R>>⟧.reads s.human R.lends) ⟦<u8 as RoundTrip<'de, R>>⟧.same x1.1 w.1))))) a2 fits.1)) (fields_none s))))
+              (λ m q w r. variant_both (codes "Left" ∷ (codes "Right" ∷ [])) 1 _ _ _ m q r
+              (λ c a b. content_fields (codes "by" ∷ (codes "pair" ∷ [])) _ _ _ c a b.3
+              (λ ks i j. let x = field_only (⟦<i32 as Deserialize<'de, R>>⟧.reads s.human R.lends) ⟦<i32 as RoundTrip<'de, R>>⟧.same a1 b.0 _ _ _ _
+              (last_field (⟦<Option<Pair<u8>> as Deserialize<'de, R>>⟧.reads s.human R.lends) ⟦<Option<Pair<u8>> as RoundTrip<'de, R>>⟧.same a2 b.1 _) ks i j
+              in (b.0, b.1, b.2, x.0, x.1))))
+        ] in law v.0 fits)) (λ m q w r. q w.0 r) };
 }
 
 impl NeverNil for Chosen {
@@ -703,15 +975,18 @@ impl<'de, R: ReadSlice<'de>> Deserialize<'de, R> for Guests {
 
     ghost absent = { None };
 
-    ghost refuses = { RefusesFields (codes "counted" ∷ (codes "mixed" ∷ [])) ⟦<(Counted<Opt>, (Mixed<bool>, ())) as ReadFields<'de, R>>⟧.reads
-        ⟦<(Counted<Opt>, (Mixed<bool>, ())) as ReadFields<'de, R>>⟧.parts };
+    ghost refuses = { RefusesFields (codes "counted" ∷ (codes "mixed" ∷ []))
+        (reads_2 ⟦<Counted<Opt> as Deserialize<'de, R>>⟧.reads ⟦<Counted<Opt> as Deserialize<'de, R>>⟧.absent ⟦<Mixed<bool> as Deserialize<'de, R>>⟧.reads
+        ⟦<Mixed<bool> as Deserialize<'de, R>>⟧.absent) (part_of ⟦<Counted<Opt> as Deserialize<'de, R>>⟧.reads
+        ⟦<Counted<Opt> as Deserialize<'de, R>>⟧.refuses ∷ (part_of ⟦<Mixed<bool> as Deserialize<'de, R>>⟧.reads
+        ⟦<Mixed<bool> as Deserialize<'de, R>>⟧.refuses ∷ [])) };
 
     #[inline(always)]
     fn deserialize<C: SerializerConfig>(
         de: &mut Deserializer<R, C>,
     ) -> Result<Guests, rmp_decode::Error> {
         let read: Result<(Counted<Opt>, (Mixed<bool>, ())), rmp_decode::Error> =
-            de.deserialize_fields(&["counted", "mixed"]);
+            rmp_decode::read_fields_2(de, &["counted", "mixed"]);
         match read {
             Ok(parts) => {
                 let (counted, (mixed, ())) = parts;
@@ -777,6 +1052,59 @@ impl<'de, R: ReadSlice<'de>> RoundTrip<'de, R> for Guests {
               (Absent ⟦<Dog as Deserialize<'de, R>>⟧.absent a2) _ (dog_rounds.round-law R.row R.ReadSlice.own (given 0) R.Source (given 0) (λ e. cc) s a2 fits.1)
               (fields_none s)))
         ] in law v.mixed fits.1) (fields_none s))) };
+
+    ghost same = { λ v w. ⟦<Counted<Opt> as RoundTrip<'de, R>>⟧.same v.counted w.counted × ⟦<Mixed<bool> as RoundTrip<'de, R>>⟧.same v.mixed w.mixed };
+
+    ghost only = { λ s v fits. lowers_then s _ _ (λ m. (w : _) → (⟦<Guests as Deserialize<'de, R>>⟧.reads s.human R.lends) m w
+        → ⟦<Counted<Opt> as RoundTrip<'de, R>>⟧.same v.counted w.counted × ⟦<Mixed<bool> as RoundTrip<'de, R>>⟧.same v.mixed w.mixed)
+        (structure_row s (codes "counted" ∷ (codes "mixed" ∷ [])) _ _ refl
+        (fields_cons s (codes "counted") _ _ _ (λ j. Only (⟦<Counted<Opt> as Deserialize<'de, R>>⟧.reads s.human R.lends)
+        ⟦<Counted<Opt> as RoundTrip<'de, R>>⟧.same j v.counted) ⊥ _
+        (lowers_then s _ _ (λ m. (w : _) → (⟦<Counted<Opt> as Deserialize<'de, R>>⟧.reads s.human R.lends) m w
+        → ⟦<Opt as RoundTrip<'de, R>>⟧.same v.counted.value w.value × ⟦<u64 as RoundTrip<'de, R>>⟧.same v.counted.count w.count)
+        (structure_row s (codes "value" ∷ (codes "count" ∷ [])) _ _ refl
+        (fields_cons s (codes "value") _ _ _ (λ j. Only (⟦<Opt as Deserialize<'de, R>>⟧.reads s.human R.lends) ⟦<Opt as RoundTrip<'de, R>>⟧.same j
+        v.counted.value) ⊥ _ (opt_rounds.only-law R.row R.ReadSlice.own (given 0) R.Source (given 0) s v.counted.value fits.0.0)
+        (fields_cons s (codes "count") _ _ _ (λ j. Only (⟦<u64 as Deserialize<'de, R>>⟧.reads s.human R.lends) ⟦<u64 as RoundTrip<'de, R>>⟧.same j
+        v.counted.count) ⊥ _ (unsigned_only s 18446744073709551615 v.counted.count) (fields_none s))))
+        (λ m q w r. fields_both (codes "value" ∷ (codes "count" ∷ [])) _ _ _ m q r
+        (field_only (⟦<Opt as Deserialize<'de, R>>⟧.reads s.human R.lends) ⟦<Opt as RoundTrip<'de, R>>⟧.same v.counted.value w.value _ _ _ _
+        (last_field (⟦<u64 as Deserialize<'de, R>>⟧.reads s.human R.lends) ⟦<u64 as RoundTrip<'de, R>>⟧.same v.counted.count w.count _))))
+        (fields_cons s (codes "mixed") _ _ _ (λ j. Only (⟦<Mixed<bool> as Deserialize<'de, R>>⟧.reads s.human R.lends)
+        ⟦<Mixed<bool> as RoundTrip<'de, R>>⟧.same j v.mixed) ⊥ _ (let law : (x : _) → ⟦<Mixed<bool> as Serialize>⟧.is_value x
+        → LowersTo s (⟦<Mixed<bool> as Serialize>⟧.data_of x s.human)
+        (λ m. (Only (⟦<Mixed<bool> as Deserialize<'de, R>>⟧.reads s.human R.lends) ⟦<Mixed<bool> as RoundTrip<'de, R>>⟧.same) m x) = elim [
+          | the_mixed.Other a1 ↦ λ fits. lowers_then s _ _ (λ m. (w : _) → (⟦<Mixed<bool> as Deserialize<'de, R>>⟧.reads s.human R.lends) m w
+              → (b1 : _) × (w ≡ the_mixed.Other b1) × ⟦<bool as RoundTrip<'de, R>>⟧.same a1 b1)
+              (newtype_variant_row s (codes "Other" ∷ (codes "Kept" ∷ [])) (codes "Other") 0 refl
+              (AtPlace 0 (Content (λ j. Only (⟦<bool as Deserialize<'de, R>>⟧.reads s.human R.lends) ⟦<bool as RoundTrip<'de, R>>⟧.same j a1))) _
+              (λ j. Only (⟦<bool as Deserialize<'de, R>>⟧.reads s.human R.lends) ⟦<bool as RoundTrip<'de, R>>⟧.same j a1) (λ m h. (refl, h)) (truth_only s a1))
+              (λ m q w r. variant_both (codes "Other" ∷ (codes "Kept" ∷ [])) 0 _ _ _ m q r
+              (λ c a b. (b.0, b.1, content_only (⟦<bool as Deserialize<'de, R>>⟧.reads s.human R.lends) ⟦<bool as RoundTrip<'de, R>>⟧.same a1 b.0 c a b.2)))
+          | the_mixed.Kept a1 a2 ↦ λ fits. lowers_then s _ _ (λ m. (w : _) → (⟦<Mixed<bool> as Deserialize<'de, R>>⟧.reads s.human R.lends) m w
+              → (b1 : _) × (b2 : _) × (w ≡ the_mixed.Kept b1 b2) × ⟦<Option<Four> as RoundTrip<'de, R>>⟧.same a1 b1 × ⟦<Dog as RoundTrip<'de, R>>⟧.same a2 b2)
+              (struct_variant_row s (codes "Other" ∷ (codes "Kept" ∷ [])) (codes "Kept") 1 refl
+              (AtPlace 1 (Content (OfFields (codes "four" ∷ (codes "dog" ∷ []))
+              (Field (λ j. Only (⟦<Option<Four> as Deserialize<'de, R>>⟧.reads s.human R.lends) ⟦<Option<Four> as RoundTrip<'de, R>>⟧.same j a1) ⊥
+              (Field (λ j. Only (⟦<Dog as Deserialize<'de, R>>⟧.reads s.human R.lends) ⟦<Dog as RoundTrip<'de, R>>⟧.same j a2) ⊥ NoField)))))
+              (codes "four" ∷ (codes "dog" ∷ [])) _ _ refl (λ m h. (refl, h))
+              (fields_cons s (codes "four") _ _ _ (λ j. Only (⟦<Option<Four> as Deserialize<'de, R>>⟧.reads s.human R.lends)
+              ⟦<Option<Four> as RoundTrip<'de, R>>⟧.same j a1) ⊥ _
+              (option_only s _ (⟦<Four as Deserialize<'de, R>>⟧.reads s.human R.lends) ⟦<Four as RoundTrip<'de, R>>⟧.same a1
+              (option_row s (λ x. ⟦<Four as Serialize>⟧.data_of x s.human) ⟦<Four as Serialize>⟧.is_value
+              (Only (⟦<Four as Deserialize<'de, R>>⟧.reads s.human R.lends) ⟦<Four as RoundTrip<'de, R>>⟧.same) (λ x2. four_other.never_nil-law s x2)
+              (λ x1 h1. (four_rounds.only-law R.row R.ReadSlice.own (given 0) R.Source (given 0) s x1 h1)) a1 fits.0))
+              (fields_cons s (codes "dog") _ _ _ (λ j. Only (⟦<Dog as Deserialize<'de, R>>⟧.reads s.human R.lends) ⟦<Dog as RoundTrip<'de, R>>⟧.same j a2) ⊥ _
+              (dog_rounds.only-law R.row R.ReadSlice.own (given 0) R.Source (given 0) s a2 fits.1) (fields_none s))))
+              (λ m q w r. variant_both (codes "Other" ∷ (codes "Kept" ∷ [])) 1 _ _ _ m q r
+              (λ c a b. content_fields (codes "four" ∷ (codes "dog" ∷ [])) _ _ _ c a b.3
+              (λ ks i j. let x = field_only (⟦<Option<Four> as Deserialize<'de, R>>⟧.reads s.human R.lends) ⟦<Option<Four> as RoundTrip<'de, R>>⟧.same a1 b.0 _ _
+              _ _ (last_field (⟦<Dog as Deserialize<'de, R>>⟧.reads s.human R.lends) ⟦<Dog as RoundTrip<'de, R>>⟧.same a2 b.1 _) ks i j
+              in (b.0, b.1, b.2, x.0, x.1))))
+        ] in law v.mixed fits.1) (fields_none s))))
+        (λ m q w r. fields_both (codes "counted" ∷ (codes "mixed" ∷ [])) _ _ _ m q r
+        (field_only (⟦<Counted<Opt> as Deserialize<'de, R>>⟧.reads s.human R.lends) ⟦<Counted<Opt> as RoundTrip<'de, R>>⟧.same v.counted w.counted _ _ _ _
+        (last_field (⟦<Mixed<bool> as Deserialize<'de, R>>⟧.reads s.human R.lends) ⟦<Mixed<bool> as RoundTrip<'de, R>>⟧.same v.mixed w.mixed _))) };
 }
 
 impl NeverNil for Guests {

@@ -1,7 +1,15 @@
 //! How the types of structs.rt are written and read. Written by tools/derive.py.
+//!
+//! Sum of Dog: 8a3ed735.
+//! Sum of Opt: d6c3fdaa.
+//! Sum of Point: df6ecd07.
+//! Sum of Newtype: 40674827.
+//! Sum of Unit: b6d64e11.
+//! Sum of Counted: cf4b956d.
 ghost use Rattle.rmp_decode.specs.Exact.{RefusesExactly};
 ghost use Rattle.rmp_decode.specs.FieldRefusing.{RefusesFields};
 ghost use Rattle.rmp_decode.specs.Fields.{OfFields, Field, Absent, NoField};
+ghost use Rattle.rmp_decode.specs.ReadFields.{reads_2};
 ghost use Rattle.rmp_decode.specs.Refusing.{RefusesTuple, part_of};
 ghost use Rattle.rmp_decode.specs.Rows.{AndThen, NoMore};
 ghost use Rattle.rmp_decode.specs.Seq.{OfRow};
@@ -10,6 +18,10 @@ ghost use Rattle.rmp_encode.specs.Data.{unit_struct};
 ghost use Rattle.rmp_encode.specs.Sizes.{one_of};
 ghost use Rattle.rmp_encode.specs.Trees.{wrapped_of, sequence_of, structure_of};
 ghost use Rattle.rmp_round_trip.specs.LeafRounds.{byte_row, unsigned_row_16, unsigned_row_32, unsigned_row_64, string_row, byte_other, pos_other};
+ghost use Rattle.rmp_round_trip.specs.OnlyFields.{field_only, fields_both, last_field};
+ghost use Rattle.rmp_round_trip.specs.OnlyLeaves.{byte_only, unsigned_only, string_only};
+ghost use Rattle.rmp_round_trip.specs.OnlyRows.{item_only, last_only, lowers_then, option_only, row_both};
+ghost use Rattle.rmp_round_trip.specs.RoundTrip.{Only};
 ghost use Rattle.rmp_round_trip.specs.Rounds.{option_some, option_row, sequence_row, sequence_other, rows_none, rows_cons};
 ghost use Rattle.rmp_round_trip.specs.StructRounds.{sequence_all, structure_all, structure_row, structure_other, fields_none, fields_cons};
 ghost use Rattle.rmp_round_trip.specs.VariantRounds.{newtype_some, nothing_row, newtype_row, nothing_other, newtype_other};
@@ -55,16 +67,19 @@ impl<'de, R: ReadSlice<'de>> Deserialize<'de, R> for Dog {
 
     ghost absent = { None };
 
-    ghost refuses = { RefusesFields (codes "name" ∷ (codes "age" ∷ [])) ⟦<(String, (u16, ())) as ReadFields<'de, R>>⟧.reads
-        ⟦<(String, (u16, ())) as ReadFields<'de, R>>⟧.parts };
+    ghost refuses = { RefusesFields (codes "name" ∷ (codes "age" ∷ []))
+        (reads_2 ⟦<String as Deserialize<'de, R>>⟧.reads ⟦<String as Deserialize<'de, R>>⟧.absent ⟦<u16 as Deserialize<'de, R>>⟧.reads
+        ⟦<u16 as Deserialize<'de, R>>⟧.absent) (part_of ⟦<String as Deserialize<'de, R>>⟧.reads ⟦<String as Deserialize<'de, R>>⟧.refuses
+        ∷ (part_of ⟦<u16 as Deserialize<'de, R>>⟧.reads ⟦<u16 as Deserialize<'de, R>>⟧.refuses ∷ [])) };
 
     #[inline(always)]
     fn deserialize<C: SerializerConfig>(
         de: &mut Deserializer<R, C>,
     ) -> Result<Dog, rmp_decode::Error> {
-        let read: Result<(String, (u16, ())), rmp_decode::Error> = de.deserialize_fields(&[
-            "name", "age",
-        ]);
+        let read: Result<(String, (u16, ())), rmp_decode::Error> = rmp_decode::read_fields_2(
+            de,
+            &["name", "age"],
+        );
         match read {
             Ok(parts) => {
                 let (name, (age, ())) = parts;
@@ -88,6 +103,18 @@ impl<'de, R: ReadSlice<'de>> RoundTrip<'de, R> for Dog {
         (Absent ⟦<String as Deserialize<'de, R>>⟧.absent v.name) _ (string_row s (string_bytes v.name))
         (fields_cons s (codes "age") _ _ _ (λ j. ⟦<u16 as Deserialize<'de, R>>⟧.reads s.human R.lends j v.age)
         (Absent ⟦<u16 as Deserialize<'de, R>>⟧.absent v.age) _ (unsigned_row_16 s v.age fits.1) (fields_none s))) };
+
+    ghost same = { λ v w. ⟦<String as RoundTrip<'de, R>>⟧.same v.name w.name × ⟦<u16 as RoundTrip<'de, R>>⟧.same v.age w.age };
+
+    ghost only = { λ s v fits. lowers_then s _ _ (λ m. (w : _) → (⟦<Dog as Deserialize<'de, R>>⟧.reads s.human R.lends) m w
+        → ⟦<String as RoundTrip<'de, R>>⟧.same v.name w.name × ⟦<u16 as RoundTrip<'de, R>>⟧.same v.age w.age)
+        (structure_row s (codes "name" ∷ (codes "age" ∷ [])) _ _ refl
+        (fields_cons s (codes "name") _ _ _ (λ j. Only (⟦<String as Deserialize<'de, R>>⟧.reads s.human R.lends) ⟦<String as RoundTrip<'de, R>>⟧.same j
+        v.name) ⊥ _ (string_only s (λ w. string_bytes w) (string_bytes v.name))
+        (fields_cons s (codes "age") _ _ _ (λ j. Only (⟦<u16 as Deserialize<'de, R>>⟧.reads s.human R.lends) ⟦<u16 as RoundTrip<'de, R>>⟧.same j v.age) ⊥ _
+        (unsigned_only s 65535 v.age) (fields_none s)))) (λ m q w r. fields_both (codes "name" ∷ (codes "age" ∷ [])) _ _ _ m q r
+        (field_only (⟦<String as Deserialize<'de, R>>⟧.reads s.human R.lends) ⟦<String as RoundTrip<'de, R>>⟧.same v.name w.name _ _ _ _
+        (last_field (⟦<u16 as Deserialize<'de, R>>⟧.reads s.human R.lends) ⟦<u16 as RoundTrip<'de, R>>⟧.same v.age w.age _))) };
 }
 
 impl NeverNil for Dog {
@@ -152,6 +179,18 @@ impl<'de, R: ReadSlice<'de>> RoundTrip<'de, R> for Opt {
         (Absent ⟦<Option<u8> as Deserialize<'de, R>>⟧.absent v.v) _
         (option_row s (λ x. ⟦<u8 as Serialize>⟧.data_of x s.human) ⟦<u8 as Serialize>⟧.is_value (⟦<u8 as Deserialize<'de, R>>⟧.reads s.human R.lends)
         (λ x3. byte_other s x3) (λ x2 h2. (byte_row s x2 h2)) v.v fits) (fields_none s)) };
+
+    ghost same = { λ v w. ⟦<Option<u8> as RoundTrip<'de, R>>⟧.same v.v w.v };
+
+    ghost only = { λ s v fits. lowers_then s _ _ (λ m. (w : _) → (⟦<Opt as Deserialize<'de, R>>⟧.reads s.human R.lends) m w
+        → ⟦<Option<u8> as RoundTrip<'de, R>>⟧.same v.v w.v)
+        (structure_row s (codes "v" ∷ []) _ _ refl (fields_cons s (codes "v") _ _ _
+        (λ j. Only (⟦<Option<u8> as Deserialize<'de, R>>⟧.reads s.human R.lends) ⟦<Option<u8> as RoundTrip<'de, R>>⟧.same j v.v) ⊥ _
+        (option_only s _ (⟦<u8 as Deserialize<'de, R>>⟧.reads s.human R.lends) ⟦<u8 as RoundTrip<'de, R>>⟧.same v.v
+        (option_row s (λ x. ⟦<u8 as Serialize>⟧.data_of x s.human) ⟦<u8 as Serialize>⟧.is_value
+        (Only (⟦<u8 as Deserialize<'de, R>>⟧.reads s.human R.lends) ⟦<u8 as RoundTrip<'de, R>>⟧.same) (λ x2. byte_other s x2) (λ x1 h1. (byte_only s x1))
+        v.v fits)) (fields_none s))) (λ m q w r. fields_both (codes "v" ∷ []) _ _ _ m q r
+        (last_field (⟦<Option<u8> as Deserialize<'de, R>>⟧.reads s.human R.lends) ⟦<Option<u8> as RoundTrip<'de, R>>⟧.same v.v w.v _)) };
 }
 
 impl NeverNil for Opt {
@@ -216,6 +255,16 @@ impl<'de, R: ReadSlice<'de>> RoundTrip<'de, R> for Point {
     ghost round = { λ lent s v fits. sequence_row s _ _
         (rows_cons s _ _ (λ j. ⟦<u32 as Deserialize<'de, R>>⟧.reads s.human R.lends j v.0) _ (unsigned_row_32 s v.0 fits.0)
         (rows_cons s _ _ (λ j. ⟦<String as Deserialize<'de, R>>⟧.reads s.human R.lends j v.1) _ (string_row s (string_bytes v.1)) (rows_none s))) };
+
+    ghost same = { λ v w. ⟦<u32 as RoundTrip<'de, R>>⟧.same v.0 w.0 × ⟦<String as RoundTrip<'de, R>>⟧.same v.1 w.1 };
+
+    ghost only = { λ s v fits. lowers_then s _ _ (λ m. (w : _) → (⟦<Point as Deserialize<'de, R>>⟧.reads s.human R.lends) m w
+        → ⟦<u32 as RoundTrip<'de, R>>⟧.same v.0 w.0 × ⟦<String as RoundTrip<'de, R>>⟧.same v.1 w.1)
+        (sequence_row s _ _ (rows_cons s _ _ (λ j. Only (⟦<u32 as Deserialize<'de, R>>⟧.reads s.human R.lends) ⟦<u32 as RoundTrip<'de, R>>⟧.same j v.0) _
+        (unsigned_only s 4294967295 v.0) (rows_cons s _ _ (λ j. Only (⟦<String as Deserialize<'de, R>>⟧.reads s.human R.lends)
+        ⟦<String as RoundTrip<'de, R>>⟧.same j v.1) _ (string_only s (λ w. string_bytes w) (string_bytes v.1)) (rows_none s))))
+        (λ m q w r. row_both _ _ _ m q r (item_only (⟦<u32 as Deserialize<'de, R>>⟧.reads s.human R.lends) ⟦<u32 as RoundTrip<'de, R>>⟧.same v.0 w.0 _ _ _
+        (last_only (⟦<String as Deserialize<'de, R>>⟧.reads s.human R.lends) ⟦<String as RoundTrip<'de, R>>⟧.same v.1 w.1))) };
 }
 
 impl NeverNil for Point {
@@ -269,6 +318,15 @@ impl<'de, R: ReadSlice<'de>> RoundTrip<'de, R> for Newtype {
 
     ghost round = { λ lent s v fits. newtype_row s (⟦<u64 as Serialize>⟧.data_of v.0 s.human)
         (λ j. ⟦<u64 as Deserialize<'de, R>>⟧.reads s.human R.lends j v.0) (unsigned_row_64 s v.0 fits) };
+
+    ghost same = { λ v w. ⟦<u64 as RoundTrip<'de, R>>⟧.same v.0 w.0 };
+
+    ghost only = { λ s v fits. lowers_then s (wrapped_of (⟦<u64 as Serialize>⟧.data_of v.0 s.human))
+        (λ j. Only (⟦<u64 as Deserialize<'de, R>>⟧.reads s.human R.lends) ⟦<u64 as RoundTrip<'de, R>>⟧.same j v.0) (λ m. (w : _)
+        → (⟦<Newtype as Deserialize<'de, R>>⟧.reads s.human R.lends) m w
+        → ⟦<u64 as RoundTrip<'de, R>>⟧.same v.0 w.0) (newtype_row s (⟦<u64 as Serialize>⟧.data_of v.0 s.human)
+        (λ j. Only (⟦<u64 as Deserialize<'de, R>>⟧.reads s.human R.lends) ⟦<u64 as RoundTrip<'de, R>>⟧.same j v.0)
+        (unsigned_only s 18446744073709551615 v.0)) (λ m q w r. q w.0 r) };
 }
 
 impl NeverNil for Newtype {
@@ -321,6 +379,11 @@ impl<'de, R: ReadSlice<'de>> RoundTrip<'de, R> for Unit {
     ghost has_data = { λ human v. refl };
 
     ghost round = { λ lent s v fits. nothing_row s };
+
+    ghost same = { λ v w. ⊤ };
+
+    ghost only = { λ s v fits. lowers_then s (Some unit_struct) IsNothing (λ m. (w : _) → (⟦<Unit as Deserialize<'de, R>>⟧.reads s.human R.lends) m w
+        → ⊤) (nothing_row s) (λ m q w r. tt) };
 }
 
 impl NeverNil for Unit {
@@ -358,16 +421,18 @@ impl<'de, R: ReadSlice<'de>, T: Deserialize<'de, R>> Deserialize<'de, R> for Cou
 
     ghost absent = { None };
 
-    ghost refuses = { RefusesFields (codes "value" ∷ (codes "count" ∷ [])) ⟦<(T, (u64, ())) as ReadFields<'de, R>>⟧.reads
-        ⟦<(T, (u64, ())) as ReadFields<'de, R>>⟧.parts };
+    ghost refuses = { RefusesFields (codes "value" ∷ (codes "count" ∷ []))
+        (reads_2 T.reads T.absent ⟦<u64 as Deserialize<'de, R>>⟧.reads ⟦<u64 as Deserialize<'de, R>>⟧.absent)
+        (part_of T.reads T.refuses ∷ (part_of ⟦<u64 as Deserialize<'de, R>>⟧.reads ⟦<u64 as Deserialize<'de, R>>⟧.refuses ∷ [])) };
 
     #[inline(always)]
     fn deserialize<C: SerializerConfig>(
         de: &mut Deserializer<R, C>,
     ) -> Result<Counted<T>, rmp_decode::Error> {
-        let read: Result<(T, (u64, ())), rmp_decode::Error> = de.deserialize_fields(&[
-            "value", "count",
-        ]);
+        let read: Result<(T, (u64, ())), rmp_decode::Error> = rmp_decode::read_fields_2(
+            de,
+            &["value", "count"],
+        );
         match read {
             Ok(parts) => {
                 let (value, (count, ())) = parts;
@@ -392,6 +457,18 @@ impl<'de, R: ReadSlice<'de>, T: RoundTrip<'de, R>> RoundTrip<'de, R> for Counted
         (fields_cons s (codes "value") _ _ _ (λ j. T.reads s.human R.lends j v.value) (Absent T.absent v.value) _ (T.round lent s v.value fits.0)
         (fields_cons s (codes "count") _ _ _ (λ j. ⟦<u64 as Deserialize<'de, R>>⟧.reads s.human R.lends j v.count)
         (Absent ⟦<u64 as Deserialize<'de, R>>⟧.absent v.count) _ (unsigned_row_64 s v.count fits.1) (fields_none s))) };
+
+    ghost same = { λ v w. T.same v.value w.value × ⟦<u64 as RoundTrip<'de, R>>⟧.same v.count w.count };
+
+    ghost only = { λ s v fits. lowers_then s _ _ (λ m. (w : _) → (⟦<Counted<T> as Deserialize<'de, R>>⟧.reads s.human R.lends) m w
+        → T.same v.value w.value × ⟦<u64 as RoundTrip<'de, R>>⟧.same v.count w.count)
+        (structure_row s (codes "value" ∷ (codes "count" ∷ [])) _ _ refl
+        (fields_cons s (codes "value") _ _ _ (λ j. Only (T.reads s.human R.lends) T.same j v.value) ⊥ _ (T.only s v.value fits.0)
+        (fields_cons s (codes "count") _ _ _ (λ j. Only (⟦<u64 as Deserialize<'de, R>>⟧.reads s.human R.lends) ⟦<u64 as RoundTrip<'de, R>>⟧.same j v.count)
+        ⊥ _ (unsigned_only s 18446744073709551615 v.count) (fields_none s))))
+        (λ m q w r. fields_both (codes "value" ∷ (codes "count" ∷ [])) _ _ _ m q r
+        (field_only (T.reads s.human R.lends) T.same v.value w.value _ _ _ _
+        (last_field (⟦<u64 as Deserialize<'de, R>>⟧.reads s.human R.lends) ⟦<u64 as RoundTrip<'de, R>>⟧.same v.count w.count _))) };
 }
 
 impl<T: Serialize> NeverNil for Counted<T> {

@@ -1,7 +1,13 @@
 //! How the types of lent.rt are written and read. Written by tools/derive.py.
+//!
+//! Sum of Line: 7f6e0419.
+//! Sum of Label: 5857933c.
+//! Sum of Piece: 58c280b5.
+//! Sum of Event: 9495e6ae.
 ghost use Rattle.rmp_decode.specs.EnumRefusing.{RefusesEnum, no_content, with_content};
 ghost use Rattle.rmp_decode.specs.FieldRefusing.{RefusesFields};
 ghost use Rattle.rmp_decode.specs.Fields.{OfFields, Field, Absent, NoField};
+ghost use Rattle.rmp_decode.specs.ReadFields.{reads_4};
 ghost use Rattle.rmp_decode.specs.Refusing.{RefusesTuple, part_of};
 ghost use Rattle.rmp_decode.specs.Rows.{AndThen, NoMore, ReadsEach};
 ghost use Rattle.rmp_decode.specs.Seq.{OfRow};
@@ -12,6 +18,11 @@ ghost use Rattle.rmp_encode.specs.Sizes.{one_of};
 ghost use Rattle.rmp_encode.specs.Trees.{wrapped_of, sequence_of, structure_of, newtype_variant_of, tuple_variant_of, struct_variant_of, tree_of};
 ghost use Rattle.rmp_encode.specs.Writes.{Keeps, WritesTree};
 ghost use Rattle.rmp_round_trip.specs.LeafRounds.{byte_row, unsigned_row_32, signed_row_16, str_row, bytes_row, text_other};
+ghost use Rattle.rmp_round_trip.specs.OnlyFields.{AtPlace, AnyContent, content_fields, content_only, content_row};
+ghost use Rattle.rmp_round_trip.specs.OnlyFields.{field_only, fields_both, last_field, variant_both};
+ghost use Rattle.rmp_round_trip.specs.OnlyLeaves.{byte_only, unsigned_only, signed_only, str_only, bytes_only};
+ghost use Rattle.rmp_round_trip.specs.OnlyRows.{item_only, last_only, list_only, lowers_then, option_only, row_both};
+ghost use Rattle.rmp_round_trip.specs.RoundTrip.{Only};
 ghost use Rattle.rmp_round_trip.specs.Rounds.{each_some, each_row, option_some, option_row, slice_some};
 ghost use Rattle.rmp_round_trip.specs.Rounds.{slice_row, sequence_row, sequence_other, rows_none, rows_cons};
 ghost use Rattle.rmp_round_trip.specs.StructRounds.{sequence_all, tuple_variant_all, structure_all, struct_variant_all};
@@ -21,7 +32,7 @@ ghost use Rattle.rmp_round_trip.specs.VariantRounds.{newtype_some, newtype_varia
 ghost use Rattle.rmp_round_trip.specs.VariantRounds.{newtype_variant_row, tuple_variant_row, struct_variant_row, newtype_other};
 ghost use Rattle.rmp_wire.specs.Types.{bytes_of};
 ghost use Rattle.std.proofs.Common.{refl};
-ghost use Rattle.std.specs.Prelude.{◌≡◌, ◌∷◌, [], None, Some, codes, false, ⊤, OnOk, ◌||◌, true};
+ghost use Rattle.std.specs.Prelude.{◌≡◌, ◌∷◌, [], None, Some, codes, false, ⊤, OnOk, ◌||◌, true, pos, negsuc};
 ghost use Rattle.test_lent.specs.declared.lent.Event.TheVariants as the_event;
 
 use super::{Bytes, Event, Label, Line, Piece};
@@ -102,15 +113,20 @@ impl<'de, R: ReadSlice<'de>> Deserialize<'de, R> for Line<'de> {
     ghost absent = { None };
 
     ghost refuses = { RefusesFields (codes "level" ∷ (codes "text" ∷ (codes "tags" ∷ (codes "source" ∷ []))))
-        ⟦<(u8, &'de str, Vec<&'de str>, Option<&'de str>, ()) as ReadFields<'de, R>>⟧.reads
-        ⟦<(u8, &'de str, Vec<&'de str>, Option<&'de str>, ()) as ReadFields<'de, R>>⟧.parts };
+        (reads_4 ⟦<u8 as Deserialize<'de, R>>⟧.reads ⟦<u8 as Deserialize<'de, R>>⟧.absent ⟦<&'de str as Deserialize<'de, R>>⟧.reads
+        ⟦<&'de str as Deserialize<'de, R>>⟧.absent ⟦<Vec<&'de str> as Deserialize<'de, R>>⟧.reads ⟦<Vec<&'de str> as Deserialize<'de, R>>⟧.absent
+        ⟦<Option<&'de str> as Deserialize<'de, R>>⟧.reads ⟦<Option<&'de str> as Deserialize<'de, R>>⟧.absent)
+        (part_of ⟦<u8 as Deserialize<'de, R>>⟧.reads ⟦<u8 as Deserialize<'de, R>>⟧.refuses
+        ∷ (part_of ⟦<&'de str as Deserialize<'de, R>>⟧.reads ⟦<&'de str as Deserialize<'de, R>>⟧.refuses
+        ∷ (part_of ⟦<Vec<&'de str> as Deserialize<'de, R>>⟧.reads ⟦<Vec<&'de str> as Deserialize<'de, R>>⟧.refuses
+        ∷ (part_of ⟦<Option<&'de str> as Deserialize<'de, R>>⟧.reads ⟦<Option<&'de str> as Deserialize<'de, R>>⟧.refuses ∷ [])))) };
 
     #[inline(always)]
     fn deserialize<C: SerializerConfig>(
         de: &mut Deserializer<R, C>,
     ) -> Result<Line<'de>, rmp_decode::Error> {
         let read: Result<(u8, &'de str, Vec<&'de str>, Option<&'de str>, ()), rmp_decode::Error> =
-            de.deserialize_fields(&["level", "text", "tags", "source"]);
+            rmp_decode::read_fields_4(de, &["level", "text", "tags", "source"]);
         match read {
             Ok(parts) => {
                 let (level, text, tags, source, ()) = parts;
@@ -162,6 +178,36 @@ impl<'de, R: ReadSlice<'de>> RoundTrip<'de, R> for Line<'de> {
         (option_row s (λ x. ⟦<&'de str as Serialize>⟧.data_of x s.human) ⟦<&'de str as Serialize>⟧.is_value
         (⟦<&'de str as Deserialize<'de, R>>⟧.reads s.human R.lends) (λ x5. text_other s x5.now) (λ x4 h4. (str_row s x4.now _ (lent refl) h4)) v.source
         fits.3) (fields_none s))))) };
+
+    ghost same = { λ v w. ⟦<u8 as RoundTrip<'de, R>>⟧.same v.level w.level × ⟦<&'de str as RoundTrip<'de, R>>⟧.same v.text w.text
+        × ⟦<Vec<&'de str> as RoundTrip<'de, R>>⟧.same v.tags w.tags × ⟦<Option<&'de str> as RoundTrip<'de, R>>⟧.same v.source w.source };
+
+    ghost only = { λ s v fits. lowers_then s _ _ (λ m. (w : _) → (⟦<Line<'de> as Deserialize<'de, R>>⟧.reads s.human R.lends) m w
+        → ⟦<u8 as RoundTrip<'de, R>>⟧.same v.level w.level × ⟦<&'de str as RoundTrip<'de, R>>⟧.same v.text w.text
+        × ⟦<Vec<&'de str> as RoundTrip<'de, R>>⟧.same v.tags w.tags × ⟦<Option<&'de str> as RoundTrip<'de, R>>⟧.same v.source w.source)
+        (structure_row s (codes "level" ∷ (codes "text" ∷ (codes "tags" ∷ (codes "source" ∷ [])))) _ _ refl
+        (fields_cons s (codes "level") _ _ _ (λ j. Only (⟦<u8 as Deserialize<'de, R>>⟧.reads s.human R.lends) ⟦<u8 as RoundTrip<'de, R>>⟧.same j v.level) ⊥
+        _ (byte_only s v.level) (fields_cons s (codes "text") _ _ _
+        (λ j. Only (⟦<&'de str as Deserialize<'de, R>>⟧.reads s.human R.lends) ⟦<&'de str as RoundTrip<'de, R>>⟧.same j v.text) ⊥ _
+        (str_only s (λ w. w.now) v.text.now R.lends) (fields_cons s (codes "tags") _ _ _
+        (λ j. Only (⟦<Vec<&'de str> as Deserialize<'de, R>>⟧.reads s.human R.lends) ⟦<Vec<&'de str> as RoundTrip<'de, R>>⟧.same j v.tags) ⊥ _
+        (list_only s _ (λ w. w.items) (⟦<&'de str as Deserialize<'de, R>>⟧.reads s.human R.lends) ⟦<&'de str as RoundTrip<'de, R>>⟧.same v.tags.items
+        (slice_row s _ (λ ms. ReadsEach (Only (⟦<&'de str as Deserialize<'de, R>>⟧.reads s.human R.lends) ⟦<&'de str as RoundTrip<'de, R>>⟧.same) ms
+        v.tags.items) (each_row s (λ x. ⟦<&'de str as Serialize>⟧.data_of x s.human) ⟦<&'de str as Serialize>⟧.is_value
+        (Only (⟦<&'de str as Deserialize<'de, R>>⟧.reads s.human R.lends) ⟦<&'de str as RoundTrip<'de, R>>⟧.same)
+        (λ x1 h1. (str_only s (λ w. w.now) x1.now R.lends)) v.tags.items fits.2)))
+        (fields_cons s (codes "source") _ _ _ (λ j. Only (⟦<Option<&'de str> as Deserialize<'de, R>>⟧.reads s.human R.lends)
+        ⟦<Option<&'de str> as RoundTrip<'de, R>>⟧.same j v.source) ⊥ _
+        (option_only s _ (⟦<&'de str as Deserialize<'de, R>>⟧.reads s.human R.lends) ⟦<&'de str as RoundTrip<'de, R>>⟧.same v.source
+        (option_row s (λ x. ⟦<&'de str as Serialize>⟧.data_of x s.human) ⟦<&'de str as Serialize>⟧.is_value
+        (Only (⟦<&'de str as Deserialize<'de, R>>⟧.reads s.human R.lends) ⟦<&'de str as RoundTrip<'de, R>>⟧.same) (λ x3. text_other s x3.now)
+        (λ x2 h2. (str_only s (λ w. w.now) x2.now R.lends)) v.source fits.3)) (fields_none s))))))
+        (λ m q w r. fields_both (codes "level" ∷ (codes "text" ∷ (codes "tags" ∷ (codes "source" ∷ [])))) _ _ _ m q r
+        (λ ks i j. let x = field_only (⟦<u8 as Deserialize<'de, R>>⟧.reads s.human R.lends) ⟦<u8 as RoundTrip<'de, R>>⟧.same v.level w.level _ _ _ _
+        (field_only (⟦<&'de str as Deserialize<'de, R>>⟧.reads s.human R.lends) ⟦<&'de str as RoundTrip<'de, R>>⟧.same v.text w.text _ _ _ _
+        (field_only (⟦<Vec<&'de str> as Deserialize<'de, R>>⟧.reads s.human R.lends) ⟦<Vec<&'de str> as RoundTrip<'de, R>>⟧.same v.tags w.tags _ _ _ _
+        (last_field (⟦<Option<&'de str> as Deserialize<'de, R>>⟧.reads s.human R.lends) ⟦<Option<&'de str> as RoundTrip<'de, R>>⟧.same v.source w.source
+        _))) ks i j in (x.0, x.1.0, x.1.1.0, x.1.1.1))) };
 }
 
 impl<'de> NeverNil for Line<'de> {
@@ -217,6 +263,15 @@ impl<'de, R: ReadSlice<'de>> RoundTrip<'de, R> for Label<'de> {
 
     ghost round = { λ lent s v fits. newtype_row s (⟦<&'de str as Serialize>⟧.data_of v.0 s.human)
         (λ j. ⟦<&'de str as Deserialize<'de, R>>⟧.reads s.human R.lends j v.0) (str_row s v.0.now _ (lent refl) fits) };
+
+    ghost same = { λ v w. ⟦<&'de str as RoundTrip<'de, R>>⟧.same v.0 w.0 };
+
+    ghost only = { λ s v fits. lowers_then s (wrapped_of (⟦<&'de str as Serialize>⟧.data_of v.0 s.human))
+        (λ j. Only (⟦<&'de str as Deserialize<'de, R>>⟧.reads s.human R.lends) ⟦<&'de str as RoundTrip<'de, R>>⟧.same j v.0) (λ m. (w : _)
+        → (⟦<Label<'de> as Deserialize<'de, R>>⟧.reads s.human R.lends) m w
+        → ⟦<&'de str as RoundTrip<'de, R>>⟧.same v.0 w.0) (newtype_row s (⟦<&'de str as Serialize>⟧.data_of v.0 s.human)
+        (λ j. Only (⟦<&'de str as Deserialize<'de, R>>⟧.reads s.human R.lends) ⟦<&'de str as RoundTrip<'de, R>>⟧.same j v.0)
+        (str_only s (λ w. w.now) v.0.now R.lends)) (λ m q w r. q w.0 r) };
 }
 
 impl<'de> NeverNil for Label<'de> {
@@ -297,6 +352,17 @@ impl<'de, R: ReadSlice<'de>> RoundTrip<'de, R> for Piece<'de> {
     ghost round = { λ lent s v fits. sequence_row s _ _
         (rows_cons s _ _ (λ j. ⟦<Bytes<'de> as Deserialize<'de, R>>⟧.reads s.human R.lends j v.0) _ (bytes_row s (bytes_of v.0) _ (lent refl))
         (rows_cons s _ _ (λ j. ⟦<u32 as Deserialize<'de, R>>⟧.reads s.human R.lends j v.1) _ (unsigned_row_32 s v.1 fits.1) (rows_none s))) };
+
+    ghost same = { λ v w. ⟦<Bytes<'de> as RoundTrip<'de, R>>⟧.same v.0 w.0 × ⟦<u32 as RoundTrip<'de, R>>⟧.same v.1 w.1 };
+
+    ghost only = { λ s v fits. lowers_then s _ _ (λ m. (w : _) → (⟦<Piece<'de> as Deserialize<'de, R>>⟧.reads s.human R.lends) m w
+        → ⟦<Bytes<'de> as RoundTrip<'de, R>>⟧.same v.0 w.0 × ⟦<u32 as RoundTrip<'de, R>>⟧.same v.1 w.1)
+        (sequence_row s _ _ (rows_cons s _ _ (λ j. Only (⟦<Bytes<'de> as Deserialize<'de, R>>⟧.reads s.human R.lends)
+        ⟦<Bytes<'de> as RoundTrip<'de, R>>⟧.same j v.0) _ (bytes_only s (λ w. bytes_of w) (bytes_of v.0) R.lends)
+        (rows_cons s _ _ (λ j. Only (⟦<u32 as Deserialize<'de, R>>⟧.reads s.human R.lends) ⟦<u32 as RoundTrip<'de, R>>⟧.same j v.1) _
+        (unsigned_only s 4294967295 v.1) (rows_none s)))) (λ m q w r. row_both _ _ _ m q r
+        (item_only (⟦<Bytes<'de> as Deserialize<'de, R>>⟧.reads s.human R.lends) ⟦<Bytes<'de> as RoundTrip<'de, R>>⟧.same v.0 w.0 _ _ _
+        (last_only (⟦<u32 as Deserialize<'de, R>>⟧.reads s.human R.lends) ⟦<u32 as RoundTrip<'de, R>>⟧.same v.1 w.1))) };
 }
 
 impl<'de> NeverNil for Piece<'de> {
@@ -489,6 +555,83 @@ impl<'de, R: ReadSlice<'de>, T: RoundTrip<'de, R>> RoundTrip<'de, R> for Event<'
       | the_event.Held a1 ↦ λ fits.
           newtype_variant_row s (codes "Started" ∷ (codes "Said" ∷ (codes "Moved" ∷ (codes "Put" ∷ (codes "Held" ∷ []))))) (codes "Held") 4 refl _ _
           (λ j. T.reads s.human R.lends j a1) (λ m h. (a1, refl, h)) (T.round (λ _. lent refl) s a1 fits)
+    ] };
+
+    ghost same = { λ v w. elim v [
+      | the_event.Started ↦ (w ≡ the_event.Started)
+      | the_event.Said a1 ↦ (b1 : _) × (w ≡ the_event.Said b1)
+          × ⟦<&'de str as RoundTrip<'de, R>>⟧.same a1 b1
+      | the_event.Moved a1 a2 ↦ (b1 : _) × (b2 : _) × (w ≡ the_event.Moved b1 b2)
+          × ⟦<i16 as RoundTrip<'de, R>>⟧.same a1 b1 × ⟦<Label<'de> as RoundTrip<'de, R>>⟧.same a2 b2
+      | the_event.Put a1 a2 ↦ (b1 : _) × (b2 : _)
+          × (w ≡ the_event.Put b1 b2) × ⟦<&'de str as RoundTrip<'de, R>>⟧.same a1 b1 × ⟦<u32 as RoundTrip<'de, R>>⟧.same a2 b2
+      | the_event.Held a1 ↦ (b1 : _)
+          × (w ≡ the_event.Held b1) × T.same a1 b1
+    ] };
+
+    ghost only = { λ s. elim [
+      | the_event.Started ↦ λ fits. lowers_then s (Some (unit_variant (codes "Started")))
+          (OfVariant (codes "Started" ∷ (codes "Said" ∷ (codes "Moved" ∷ (codes "Put" ∷ (codes "Held" ∷ []))))) (AtPlace 0 AnyContent)) (λ m. (w : _)
+          → (⟦<Event<'de, T> as Deserialize<'de, R>>⟧.reads s.human R.lends) m w
+          → (w ≡ the_event.Started)) (bare_row s (codes "Started" ∷ (codes "Said" ∷ (codes "Moved" ∷ (codes "Put" ∷ (codes "Held" ∷ []))))) (codes "Started")
+          0 refl (AtPlace 0 AnyContent) (refl, tt)) (λ m q w r. variant_both
+          (codes "Started" ∷ (codes "Said" ∷ (codes "Moved" ∷ (codes "Put" ∷ (codes "Held" ∷ []))))) 0 AnyContent _ _ m q r (λ c a b. b.0))
+      | the_event.Said
+          a1 ↦ λ fits. lowers_then s _ _ (λ m. (w : _) → (⟦<Event<'de, T> as Deserialize<'de, R>>⟧.reads s.human R.lends) m w
+          → (b1 : _) × (w ≡ the_event.Said b1) × ⟦<&'de str as RoundTrip<'de, R>>⟧.same a1 b1)
+          (newtype_variant_row s (codes "Started" ∷ (codes "Said" ∷ (codes "Moved" ∷ (codes "Put" ∷ (codes "Held" ∷ []))))) (codes "Said") 1 refl
+          (AtPlace 1 (Content (λ j. Only (⟦<&'de str as Deserialize<'de, R>>⟧.reads s.human R.lends) ⟦<&'de str as RoundTrip<'de, R>>⟧.same j a1))) _
+          (λ j. Only (⟦<&'de str as Deserialize<'de, R>>⟧.reads s.human R.lends) ⟦<&'de str as RoundTrip<'de, R>>⟧.same j a1) (λ m h. (refl, h))
+          (str_only s (λ w. w.now) a1.now R.lends)) (λ m q w r. variant_both
+          (codes "Started" ∷ (codes "Said" ∷ (codes "Moved" ∷ (codes "Put" ∷ (codes "Held" ∷ []))))) 1 _ _ _ m q r
+          (λ c a b. (
+            b.0,
+            b.1,
+            content_only (⟦<&'de str as Deserialize<'de, R>>⟧.reads s.human R.lends) ⟦<&'de str as RoundTrip<'de, R>>⟧.same a1 b.0 c a
+                b.2,
+          )))
+      | the_event.Moved a1 a2 ↦ λ fits. lowers_then s _ _ (λ m. (w : _) → (⟦<Event<'de, T> as Deserialize<'de, R>>⟧.reads s.human R.lends) m w
+          → (b1 : _) × (b2 : _) × (w ≡ the_event.Moved b1 b2) × ⟦<i16 as RoundTrip<'de, R>>⟧.same a1 b1 × ⟦<Label<'de> as RoundTrip<'de, R>>⟧.same a2 b2)
+          (tuple_variant_row s (codes "Started" ∷ (codes "Said" ∷ (codes "Moved" ∷ (codes "Put" ∷ (codes "Held" ∷ []))))) (codes "Moved") 2 refl
+          (AtPlace 2 (Content (OfRow (AndThen (λ j. Only (⟦<i16 as Deserialize<'de, R>>⟧.reads s.human R.lends) ⟦<i16 as RoundTrip<'de, R>>⟧.same j a1)
+          (AndThen (λ j. Only (⟦<Label<'de> as Deserialize<'de, R>>⟧.reads s.human R.lends) ⟦<Label<'de> as RoundTrip<'de, R>>⟧.same j a2) NoMore))))) _ _
+          (λ m h. (refl, h)) (rows_cons s _ _ (λ j. Only (⟦<i16 as Deserialize<'de, R>>⟧.reads s.human R.lends) ⟦<i16 as RoundTrip<'de, R>>⟧.same j a1) _
+          (signed_only s (negsuc 32767) (pos 32767) a1) (rows_cons s _ _
+          (λ j. Only (⟦<Label<'de> as Deserialize<'de, R>>⟧.reads s.human R.lends) ⟦<Label<'de> as RoundTrip<'de, R>>⟧.same j a2) _
+          (lowers_then s (wrapped_of (⟦<&'de str as Serialize>⟧.data_of a2.0 s.human))
+          (λ j. Only (⟦<&'de str as Deserialize<'de, R>>⟧.reads s.human R.lends) ⟦<&'de str as RoundTrip<'de, R>>⟧.same j a2.0) (λ m. (w : _)
+          → (⟦<Label<'de> as Deserialize<'de, R>>⟧.reads s.human R.lends) m w
+          → ⟦<&'de str as RoundTrip<'de, R>>⟧.same a2.0 w.0)
+          (newtype_row s (⟦<&'de str as Serialize>⟧.data_of a2.0 s.human)
+          (λ j. Only (⟦<&'de str as Deserialize<'de, R>>⟧.reads s.human R.lends) ⟦<&'de str as RoundTrip<'de, R>>⟧.same j a2.0)
+          (str_only s (λ w. w.now) a2.0.now R.lends)) (λ m q w r. q w.0 r)) (rows_none s))))
+          (λ m q w r. variant_both (codes "Started" ∷ (codes "Said" ∷ (codes "Moved" ∷ (codes "Put" ∷ (codes "Held" ∷ []))))) 2 _ _ _ m q r
+          (λ c a b. content_row _ _ _ c a b.3 (λ ks i j. let x = item_only (⟦<i16 as Deserialize<'de, R>>⟧.reads s.human R.lends)
+          ⟦<i16 as RoundTrip<'de, R>>⟧.same a1 b.0 _ _ _ (last_only (⟦<Label<'de> as Deserialize<'de, R>>⟧.reads s.human R.lends)
+          ⟦<Label<'de> as RoundTrip<'de, R>>⟧.same a2 b.1) ks i j in (b.0, b.1, b.2, x.0, x.1))))
+      | the_event.Put a1 a2 ↦ λ fits. lowers_then s _ _
+          (λ m. (w : _) → (⟦<Event<'de, T> as Deserialize<'de, R>>⟧.reads s.human R.lends) m w
+          → (b1 : _) × (b2 : _) × (w ≡ the_event.Put b1 b2) × ⟦<&'de str as RoundTrip<'de, R>>⟧.same a1 b1 × ⟦<u32 as RoundTrip<'de, R>>⟧.same a2 b2)
+          (struct_variant_row s (codes "Started" ∷ (codes "Said" ∷ (codes "Moved" ∷ (codes "Put" ∷ (codes "Held" ∷ []))))) (codes "Put") 3 refl
+          (AtPlace 3 (Content (OfFields (codes "key" ∷ (codes "size" ∷ []))
+          (Field (λ j. Only (⟦<&'de str as Deserialize<'de, R>>⟧.reads s.human R.lends) ⟦<&'de str as RoundTrip<'de, R>>⟧.same j a1) ⊥
+          (Field (λ j. Only (⟦<u32 as Deserialize<'de, R>>⟧.reads s.human R.lends) ⟦<u32 as RoundTrip<'de, R>>⟧.same j a2) ⊥ NoField)))))
+          (codes "key" ∷ (codes "size" ∷ [])) _ _ refl (λ m h. (refl, h))
+          (fields_cons s (codes "key") _ _ _ (λ j. Only (⟦<&'de str as Deserialize<'de, R>>⟧.reads s.human R.lends) ⟦<&'de str as RoundTrip<'de, R>>⟧.same j
+          a1) ⊥ _ (str_only s (λ w. w.now) a1.now R.lends) (fields_cons s (codes "size") _ _ _
+          (λ j. Only (⟦<u32 as Deserialize<'de, R>>⟧.reads s.human R.lends) ⟦<u32 as RoundTrip<'de, R>>⟧.same j a2) ⊥ _ (unsigned_only s 4294967295 a2)
+          (fields_none s)))) (λ m q w r. variant_both (codes "Started" ∷ (codes "Said" ∷ (codes "Moved" ∷ (codes "Put" ∷ (codes "Held" ∷ []))))) 3 _ _ _ m q r
+          (λ c a b. content_fields (codes "key" ∷ (codes "size" ∷ [])) _ _ _ c a b.3
+          (λ ks i j. let x = field_only (⟦<&'de str as Deserialize<'de, R>>⟧.reads s.human R.lends) ⟦<&'de str as RoundTrip<'de, R>>⟧.same a1 b.0 _ _ _ _
+          (last_field (⟦<u32 as Deserialize<'de, R>>⟧.reads s.human R.lends) ⟦<u32 as RoundTrip<'de, R>>⟧.same a2 b.1 _) ks i j
+          in (b.0, b.1, b.2, x.0, x.1))))
+      | the_event.Held a1 ↦ λ fits. lowers_then s _ _ (λ m. (w : _)
+          → (⟦<Event<'de, T> as Deserialize<'de, R>>⟧.reads s.human R.lends) m w
+          → (b1 : _) × (w ≡ the_event.Held b1) × T.same a1 b1)
+          (newtype_variant_row s (codes "Started" ∷ (codes "Said" ∷ (codes "Moved" ∷ (codes "Put" ∷ (codes "Held" ∷ []))))) (codes "Held") 4 refl
+          (AtPlace 4 (Content (λ j. Only (T.reads s.human R.lends) T.same j a1))) _ (λ j. Only (T.reads s.human R.lends) T.same j a1) (λ m h. (refl, h))
+          (T.only s a1 fits)) (λ m q w r. variant_both (codes "Started" ∷ (codes "Said" ∷ (codes "Moved" ∷ (codes "Put" ∷ (codes "Held" ∷ []))))) 4 _ _ _ m q
+          r (λ c a b. (b.0, b.1, content_only (T.reads s.human R.lends) T.same a1 b.0 c a b.2)))
     ] };
 }
 

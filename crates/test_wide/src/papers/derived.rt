@@ -1,15 +1,24 @@
 //! How the types of papers.rt are written and read. Written by tools/derive.py.
+//!
+//! Sum of Papers: 72d1b4b2.
+//! Sum of Chart: fdf2c1d4.
 ghost use Rattle.rmp_decode.specs.FieldRefusing.{RefusesFields};
 ghost use Rattle.rmp_decode.specs.Fields.{OfFields, Field, Absent, NoField};
+ghost use Rattle.rmp_decode.specs.ReadFields.{reads_9};
+ghost use Rattle.rmp_decode.specs.Refusing.{part_of};
 ghost use Rattle.rmp_decode.specs.Rows.{ReadsEach};
 ghost use Rattle.rmp_encode.specs.Sizes.{one_of};
 ghost use Rattle.rmp_encode.specs.Trees.{structure_of};
 ghost use Rattle.rmp_round_trip.specs.LeafRounds.{byte_row, unsigned_row_16, unsigned_row_32, unsigned_row_64, signed_row_8, signed_row_16};
 ghost use Rattle.rmp_round_trip.specs.LeafRounds.{signed_row_32, signed_row_64, truth_row, string_row, pos_other, text_other};
+ghost use Rattle.rmp_round_trip.specs.OnlyFields.{field_only, fields_both, last_field};
+ghost use Rattle.rmp_round_trip.specs.OnlyLeaves.{truth_only, byte_only, unsigned_only, signed_only, string_only};
+ghost use Rattle.rmp_round_trip.specs.OnlyRows.{list_only, lowers_then, option_only};
+ghost use Rattle.rmp_round_trip.specs.RoundTrip.{Only};
 ghost use Rattle.rmp_round_trip.specs.Rounds.{each_some, each_row, option_some, option_row, slice_some, slice_row};
 ghost use Rattle.rmp_round_trip.specs.StructRounds.{structure_all, structure_row, structure_other, fields_none, fields_cons};
 ghost use Rattle.std.proofs.Common.{refl};
-ghost use Rattle.std.specs.Prelude.{◌∷◌, [], None, codes, string_bytes};
+ghost use Rattle.std.specs.Prelude.{◌∷◌, [], None, codes, string_bytes, pos, negsuc};
 
 use super::{Chart, Papers};
 use rmp_decode::{Deserialize, Deserializer, ReadFields};
@@ -96,8 +105,21 @@ impl<'de, R: ReadSlice<'de>> Deserialize<'de, R> for Papers {
 
     ghost refuses = { RefusesFields (codes "number" ∷ (codes "name"
         ∷ (codes "born" ∷ (codes "chip" ∷ (codes "mother" ∷ (codes "father" ∷ (codes "weight" ∷ (codes "height" ∷ (codes "vaccinated" ∷ [])))))))))
-        ⟦<(u64, String, u16, Option<u64>, (Option<u64>, Option<u64>, u8, i8, (bool, ()))) as ReadFields<'de, R>>⟧.reads
-        ⟦<(u64, String, u16, Option<u64>, (Option<u64>, Option<u64>, u8, i8, (bool, ()))) as ReadFields<'de, R>>⟧.parts };
+        (reads_9 ⟦<u64 as Deserialize<'de, R>>⟧.reads ⟦<u64 as Deserialize<'de, R>>⟧.absent ⟦<String as Deserialize<'de, R>>⟧.reads
+        ⟦<String as Deserialize<'de, R>>⟧.absent ⟦<u16 as Deserialize<'de, R>>⟧.reads ⟦<u16 as Deserialize<'de, R>>⟧.absent
+        ⟦<Option<u64> as Deserialize<'de, R>>⟧.reads ⟦<Option<u64> as Deserialize<'de, R>>⟧.absent ⟦<Option<u64> as Deserialize<'de, R>>⟧.reads
+        ⟦<Option<u64> as Deserialize<'de, R>>⟧.absent ⟦<Option<u64> as Deserialize<'de, R>>⟧.reads ⟦<Option<u64> as Deserialize<'de, R>>⟧.absent
+        ⟦<u8 as Deserialize<'de, R>>⟧.reads ⟦<u8 as Deserialize<'de, R>>⟧.absent ⟦<i8 as Deserialize<'de, R>>⟧.reads ⟦<i8 as Deserialize<'de, R>>⟧.absent
+        ⟦<bool as Deserialize<'de, R>>⟧.reads ⟦<bool as Deserialize<'de, R>>⟧.absent)
+        (part_of ⟦<u64 as Deserialize<'de, R>>⟧.reads ⟦<u64 as Deserialize<'de, R>>⟧.refuses
+        ∷ (part_of ⟦<String as Deserialize<'de, R>>⟧.reads ⟦<String as Deserialize<'de, R>>⟧.refuses
+        ∷ (part_of ⟦<u16 as Deserialize<'de, R>>⟧.reads ⟦<u16 as Deserialize<'de, R>>⟧.refuses
+        ∷ (part_of ⟦<Option<u64> as Deserialize<'de, R>>⟧.reads ⟦<Option<u64> as Deserialize<'de, R>>⟧.refuses
+        ∷ (part_of ⟦<Option<u64> as Deserialize<'de, R>>⟧.reads ⟦<Option<u64> as Deserialize<'de, R>>⟧.refuses
+        ∷ (part_of ⟦<Option<u64> as Deserialize<'de, R>>⟧.reads ⟦<Option<u64> as Deserialize<'de, R>>⟧.refuses
+        ∷ (part_of ⟦<u8 as Deserialize<'de, R>>⟧.reads ⟦<u8 as Deserialize<'de, R>>⟧.refuses
+        ∷ (part_of ⟦<i8 as Deserialize<'de, R>>⟧.reads ⟦<i8 as Deserialize<'de, R>>⟧.refuses
+        ∷ (part_of ⟦<bool as Deserialize<'de, R>>⟧.reads ⟦<bool as Deserialize<'de, R>>⟧.refuses ∷ []))))))))) };
 
     fn deserialize<C: SerializerConfig>(
         de: &mut Deserializer<R, C>,
@@ -111,17 +133,20 @@ impl<'de, R: ReadSlice<'de>> Deserialize<'de, R> for Papers {
                 (Option<u64>, Option<u64>, u8, i8, (bool, ())),
             ),
             rmp_decode::Error,
-        > = de.deserialize_fields(&[
-            "number",
-            "name",
-            "born",
-            "chip",
-            "mother",
-            "father",
-            "weight",
-            "height",
-            "vaccinated",
-        ]);
+        > = rmp_decode::read_fields_9(
+            de,
+            &[
+                "number",
+                "name",
+                "born",
+                "chip",
+                "mother",
+                "father",
+                "weight",
+                "height",
+                "vaccinated",
+            ],
+        );
         match read {
             Ok(parts) => {
                 let (number, name, born, chip, (mother, father, weight, height, (vaccinated, ()))) =
@@ -200,6 +225,62 @@ impl<'de, R: ReadSlice<'de>> RoundTrip<'de, R> for Papers {
         (Absent ⟦<i8 as Deserialize<'de, R>>⟧.absent v.height) _ (signed_row_8 s v.height fits.7)
         (fields_cons s (codes "vaccinated") _ _ _ (λ j. ⟦<bool as Deserialize<'de, R>>⟧.reads s.human R.lends j v.vaccinated)
         (Absent ⟦<bool as Deserialize<'de, R>>⟧.absent v.vaccinated) _ (truth_row s v.vaccinated) (fields_none s)))))))))) };
+
+    ghost same = { λ v w. ⟦<u64 as RoundTrip<'de, R>>⟧.same v.number w.number × ⟦<String as RoundTrip<'de, R>>⟧.same v.name w.name
+        × ⟦<u16 as RoundTrip<'de, R>>⟧.same v.born w.born × ⟦<Option<u64> as RoundTrip<'de, R>>⟧.same v.chip w.chip
+        × ⟦<Option<u64> as RoundTrip<'de, R>>⟧.same v.mother w.mother × ⟦<Option<u64> as RoundTrip<'de, R>>⟧.same v.father w.father
+        × ⟦<u8 as RoundTrip<'de, R>>⟧.same v.weight w.weight × ⟦<i8 as RoundTrip<'de, R>>⟧.same v.height w.height
+        × ⟦<bool as RoundTrip<'de, R>>⟧.same v.vaccinated w.vaccinated };
+
+    ghost only = { λ s v fits. lowers_then s _ _ (λ m. (w : _) → (⟦<Papers as Deserialize<'de, R>>⟧.reads s.human R.lends) m w
+        → ⟦<u64 as RoundTrip<'de, R>>⟧.same v.number w.number × ⟦<String as RoundTrip<'de, R>>⟧.same v.name w.name
+        × ⟦<u16 as RoundTrip<'de, R>>⟧.same v.born w.born × ⟦<Option<u64> as RoundTrip<'de, R>>⟧.same v.chip w.chip
+        × ⟦<Option<u64> as RoundTrip<'de, R>>⟧.same v.mother w.mother × ⟦<Option<u64> as RoundTrip<'de, R>>⟧.same v.father w.father
+        × ⟦<u8 as RoundTrip<'de, R>>⟧.same v.weight w.weight × ⟦<i8 as RoundTrip<'de, R>>⟧.same v.height w.height
+        × ⟦<bool as RoundTrip<'de, R>>⟧.same v.vaccinated w.vaccinated)
+        (structure_row s (codes "number" ∷ (codes "name" ∷
+        (codes "born" ∷ (codes "chip" ∷ (codes "mother" ∷ (codes "father" ∷ (codes "weight" ∷ (codes "height" ∷ (codes "vaccinated" ∷ []))))))))) _ _ refl
+        (fields_cons s (codes "number") _ _ _ (λ j. Only (⟦<u64 as Deserialize<'de, R>>⟧.reads s.human R.lends) ⟦<u64 as RoundTrip<'de, R>>⟧.same j
+        v.number) ⊥ _ (unsigned_only s 18446744073709551615 v.number)
+        (fields_cons s (codes "name") _ _ _ (λ j. Only (⟦<String as Deserialize<'de, R>>⟧.reads s.human R.lends) ⟦<String as RoundTrip<'de, R>>⟧.same j
+        v.name) ⊥ _ (string_only s (λ w. string_bytes w) (string_bytes v.name))
+        (fields_cons s (codes "born") _ _ _ (λ j. Only (⟦<u16 as Deserialize<'de, R>>⟧.reads s.human R.lends) ⟦<u16 as RoundTrip<'de, R>>⟧.same j v.born) ⊥
+        _ (unsigned_only s 65535 v.born) (fields_cons s (codes "chip") _ _ _
+        (λ j. Only (⟦<Option<u64> as Deserialize<'de, R>>⟧.reads s.human R.lends) ⟦<Option<u64> as RoundTrip<'de, R>>⟧.same j v.chip) ⊥ _
+        (option_only s _ (⟦<u64 as Deserialize<'de, R>>⟧.reads s.human R.lends) ⟦<u64 as RoundTrip<'de, R>>⟧.same v.chip
+        (option_row s (λ x. ⟦<u64 as Serialize>⟧.data_of x s.human) ⟦<u64 as Serialize>⟧.is_value
+        (Only (⟦<u64 as Deserialize<'de, R>>⟧.reads s.human R.lends) ⟦<u64 as RoundTrip<'de, R>>⟧.same) (λ x2. pos_other s x2)
+        (λ x1 h1. (unsigned_only s 18446744073709551615 x1)) v.chip fits.3))
+        (fields_cons s (codes "mother") _ _ _ (λ j. Only (⟦<Option<u64> as Deserialize<'de, R>>⟧.reads s.human R.lends)
+        ⟦<Option<u64> as RoundTrip<'de, R>>⟧.same j v.mother) ⊥ _
+        (option_only s _ (⟦<u64 as Deserialize<'de, R>>⟧.reads s.human R.lends) ⟦<u64 as RoundTrip<'de, R>>⟧.same v.mother
+        (option_row s (λ x. ⟦<u64 as Serialize>⟧.data_of x s.human) ⟦<u64 as Serialize>⟧.is_value
+        (Only (⟦<u64 as Deserialize<'de, R>>⟧.reads s.human R.lends) ⟦<u64 as RoundTrip<'de, R>>⟧.same) (λ x4. pos_other s x4)
+        (λ x3 h3. (unsigned_only s 18446744073709551615 x3)) v.mother fits.4))
+        (fields_cons s (codes "father") _ _ _ (λ j. Only (⟦<Option<u64> as Deserialize<'de, R>>⟧.reads s.human R.lends)
+        ⟦<Option<u64> as RoundTrip<'de, R>>⟧.same j v.father) ⊥ _
+        (option_only s _ (⟦<u64 as Deserialize<'de, R>>⟧.reads s.human R.lends) ⟦<u64 as RoundTrip<'de, R>>⟧.same v.father
+        (option_row s (λ x. ⟦<u64 as Serialize>⟧.data_of x s.human) ⟦<u64 as Serialize>⟧.is_value
+        (Only (⟦<u64 as Deserialize<'de, R>>⟧.reads s.human R.lends) ⟦<u64 as RoundTrip<'de, R>>⟧.same) (λ x6. pos_other s x6)
+        (λ x5 h5. (unsigned_only s 18446744073709551615 x5)) v.father fits.5))
+        (fields_cons s (codes "weight") _ _ _ (λ j. Only (⟦<u8 as Deserialize<'de, R>>⟧.reads s.human R.lends) ⟦<u8 as RoundTrip<'de, R>>⟧.same j v.weight)
+        ⊥ _ (byte_only s v.weight) (fields_cons s (codes "height") _ _ _
+        (λ j. Only (⟦<i8 as Deserialize<'de, R>>⟧.reads s.human R.lends) ⟦<i8 as RoundTrip<'de, R>>⟧.same j v.height) ⊥ _
+        (signed_only s (negsuc 127) (pos 127) v.height) (fields_cons s (codes "vaccinated") _ _ _
+        (λ j. Only (⟦<bool as Deserialize<'de, R>>⟧.reads s.human R.lends) ⟦<bool as RoundTrip<'de, R>>⟧.same j v.vaccinated) ⊥ _
+        (truth_only s v.vaccinated) (fields_none s)))))))))))
+        (λ m q w r. fields_both (codes "number" ∷ (codes "name"
+        ∷ (codes "born" ∷ (codes "chip" ∷ (codes "mother" ∷ (codes "father" ∷ (codes "weight" ∷ (codes "height" ∷ (codes "vaccinated" ∷ []))))))))) _ _ _ m
+        q r (λ ks i j. let x = field_only (⟦<u64 as Deserialize<'de, R>>⟧.reads s.human R.lends) ⟦<u64 as RoundTrip<'de, R>>⟧.same v.number w.number _ _ _ _
+        (field_only (⟦<String as Deserialize<'de, R>>⟧.reads s.human R.lends) ⟦<String as RoundTrip<'de, R>>⟧.same v.name w.name _ _ _ _
+        (field_only (⟦<u16 as Deserialize<'de, R>>⟧.reads s.human R.lends) ⟦<u16 as RoundTrip<'de, R>>⟧.same v.born w.born _ _ _ _
+        (field_only (⟦<Option<u64> as Deserialize<'de, R>>⟧.reads s.human R.lends) ⟦<Option<u64> as RoundTrip<'de, R>>⟧.same v.chip w.chip _ _ _ _
+        (field_only (⟦<Option<u64> as Deserialize<'de, R>>⟧.reads s.human R.lends) ⟦<Option<u64> as RoundTrip<'de, R>>⟧.same v.mother w.mother _ _ _ _
+        (field_only (⟦<Option<u64> as Deserialize<'de, R>>⟧.reads s.human R.lends) ⟦<Option<u64> as RoundTrip<'de, R>>⟧.same v.father w.father _ _ _ _
+        (field_only (⟦<u8 as Deserialize<'de, R>>⟧.reads s.human R.lends) ⟦<u8 as RoundTrip<'de, R>>⟧.same v.weight w.weight _ _ _ _
+        (field_only (⟦<i8 as Deserialize<'de, R>>⟧.reads s.human R.lends) ⟦<i8 as RoundTrip<'de, R>>⟧.same v.height w.height _ _ _ _
+        (last_field (⟦<bool as Deserialize<'de, R>>⟧.reads s.human R.lends) ⟦<bool as RoundTrip<'de, R>>⟧.same v.vaccinated w.vaccinated _)))))))) ks i j
+        in (x.0, x.1.0, x.1.1.0, x.1.1.1.0, x.1.1.1.1.0, x.1.1.1.1.1.0, x.1.1.1.1.1.1.0, x.1.1.1.1.1.1.1.0, x.1.1.1.1.1.1.1.1))) };
 }
 
 impl NeverNil for Papers {
@@ -483,6 +564,115 @@ impl<'de, R: ReadSlice<'de>> RoundTrip<'de, R> for Chart {
         (Absent ⟦<u32 as Deserialize<'de, R>>⟧.absent v.lungs) _ (unsigned_row_32 s v.lungs fits.14)
         (fields_cons s (codes "last") _ _ _ (λ j. ⟦<String as Deserialize<'de, R>>⟧.reads s.human R.lends j v.last)
         (Absent ⟦<String as Deserialize<'de, R>>⟧.absent v.last) _ (string_row s (string_bytes v.last)) (fields_none s))))))))))))))))) };
+
+    ghost same = { λ v w. ⟦<u64 as RoundTrip<'de, R>>⟧.same v.number w.number × ⟦<String as RoundTrip<'de, R>>⟧.same v.name w.name
+        × ⟦<u16 as RoundTrip<'de, R>>⟧.same v.born w.born × ⟦<u8 as RoundTrip<'de, R>>⟧.same v.weight w.weight
+        × ⟦<i8 as RoundTrip<'de, R>>⟧.same v.height w.height × ⟦<i16 as RoundTrip<'de, R>>⟧.same v.fever w.fever
+        × ⟦<i32 as RoundTrip<'de, R>>⟧.same v.offset w.offset × ⟦<i64 as RoundTrip<'de, R>>⟧.same v.balance w.balance
+        × ⟦<bool as RoundTrip<'de, R>>⟧.same v.neutered w.neutered × ⟦<Option<u64> as RoundTrip<'de, R>>⟧.same v.chip w.chip
+        × ⟦<Option<String> as RoundTrip<'de, R>>⟧.same v.owner w.owner × ⟦<Vec<u16> as RoundTrip<'de, R>>⟧.same v.shots w.shots
+        × ⟦<Vec<String> as RoundTrip<'de, R>>⟧.same v.notes w.notes × ⟦<u32 as RoundTrip<'de, R>>⟧.same v.heart w.heart
+        × ⟦<u32 as RoundTrip<'de, R>>⟧.same v.lungs w.lungs × ⟦<String as RoundTrip<'de, R>>⟧.same v.last w.last };
+
+    ghost only = { λ s v fits. lowers_then s _ _ (λ m. (w : _) → (⟦<Chart as Deserialize<'de, R>>⟧.reads s.human R.lends) m w
+        → ⟦<u64 as RoundTrip<'de, R>>⟧.same v.number w.number × ⟦<String as RoundTrip<'de, R>>⟧.same v.name w.name
+        × ⟦<u16 as RoundTrip<'de, R>>⟧.same v.born w.born × ⟦<u8 as RoundTrip<'de, R>>⟧.same v.weight w.weight
+        × ⟦<i8 as RoundTrip<'de, R>>⟧.same v.height w.height × ⟦<i16 as RoundTrip<'de, R>>⟧.same v.fever w.fever
+        × ⟦<i32 as RoundTrip<'de, R>>⟧.same v.offset w.offset × ⟦<i64 as RoundTrip<'de, R>>⟧.same v.balance w.balance
+        × ⟦<bool as RoundTrip<'de, R>>⟧.same v.neutered w.neutered × ⟦<Option<u64> as RoundTrip<'de, R>>⟧.same v.chip w.chip
+        × ⟦<Option<String> as RoundTrip<'de, R>>⟧.same v.owner w.owner × ⟦<Vec<u16> as RoundTrip<'de, R>>⟧.same v.shots w.shots
+        × ⟦<Vec<String> as RoundTrip<'de, R>>⟧.same v.notes w.notes × ⟦<u32 as RoundTrip<'de, R>>⟧.same v.heart w.heart
+        × ⟦<u32 as RoundTrip<'de, R>>⟧.same v.lungs w.lungs × ⟦<String as RoundTrip<'de, R>>⟧.same v.last w.last)
+        (structure_row s (codes "number" ∷ (codes "name" ∷
+        (codes "born" ∷ (codes "weight" ∷ (codes "height" ∷
+        (codes "fever" ∷ (codes "offset" ∷ (codes "balance"
+        ∷ (codes "neutered" ∷ (codes "chip" ∷ (codes "owner"
+        ∷ (codes "shots" ∷ (codes "notes" ∷ (codes "heart" ∷ (codes "lungs" ∷ (codes "last" ∷ [])))))))))))))))) _ _ refl
+        (fields_cons s (codes "number") _ _ _ (λ j. Only (⟦<u64 as Deserialize<'de, R>>⟧.reads s.human R.lends) ⟦<u64 as RoundTrip<'de, R>>⟧.same j
+        v.number) ⊥ _ (unsigned_only s 18446744073709551615 v.number)
+        (fields_cons s (codes "name") _ _ _ (λ j. Only (⟦<String as Deserialize<'de, R>>⟧.reads s.human R.lends) ⟦<String as RoundTrip<'de, R>>⟧.same j
+        v.name) ⊥ _ (string_only s (λ w. string_bytes w) (string_bytes v.name))
+        (fields_cons s (codes "born") _ _ _ (λ j. Only (⟦<u16 as Deserialize<'de, R>>⟧.reads s.human R.lends) ⟦<u16 as RoundTrip<'de, R>>⟧.same j v.born) ⊥
+        _ (unsigned_only s 65535 v.born) (fields_cons s (codes "weight") _ _ _
+        (λ j. Only (⟦<u8 as Deserialize<'de, R>>⟧.reads s.human R.lends) ⟦<u8 as RoundTrip<'de, R>>⟧.same j v.weight) ⊥ _ (byte_only s v.weight)
+        (fields_cons s (codes "height") _ _ _ (λ j. Only (⟦<i8 as Deserialize<'de, R>>⟧.reads s.human R.lends) ⟦<i8 as RoundTrip<'de, R>>⟧.same j v.height)
+        ⊥ _ (signed_only s (negsuc 127) (pos 127) v.height)
+        (fields_cons s (codes "fever") _ _ _ (λ j. Only (⟦<i16 as Deserialize<'de, R>>⟧.reads s.human R.lends) ⟦<i16 as RoundTrip<'de, R>>⟧.same j v.fever)
+        ⊥ _ (signed_only s (negsuc 32767) (pos 32767) v.fever)
+        (fields_cons s (codes "offset") _ _ _ (λ j. Only (⟦<i32 as Deserialize<'de, R>>⟧.reads s.human R.lends) ⟦<i32 as RoundTrip<'de, R>>⟧.same j
+        v.offset) ⊥ _ (signed_only s (negsuc 2147483647) (pos 2147483647) v.offset)
+        (fields_cons s (codes "balance") _ _ _ (λ j. Only (⟦<i64 as Deserialize<'de, R>>⟧.reads s.human R.lends) ⟦<i64 as RoundTrip<'de, R>>⟧.same j
+        v.balance) ⊥ _ (signed_only s (negsuc 9223372036854775807) (pos 9223372036854775807) v.balance)
+        (fields_cons s (codes "neutered") _ _ _ (λ j. Only (⟦<bool as Deserialize<'de, R>>⟧.reads s.human R.lends) ⟦<bool as RoundTrip<'de, R>>⟧.same j
+        v.neutered) ⊥ _ (truth_only s v.neutered) (fields_cons s (codes "chip") _ _ _
+        (λ j. Only (⟦<Option<u64> as Deserialize<'de, R>>⟧.reads s.human R.lends) ⟦<Option<u64> as RoundTrip<'de, R>>⟧.same j v.chip) ⊥ _
+        (option_only s _ (⟦<u64 as Deserialize<'de, R>>⟧.reads s.human R.lends) ⟦<u64 as RoundTrip<'de, R>>⟧.same v.chip
+        (option_row s (λ x. ⟦<u64 as Serialize>⟧.data_of x s.human) ⟦<u64 as Serialize>⟧.is_value
+        (Only (⟦<u64 as Deserialize<'de, R>>⟧.reads s.human R.lends) ⟦<u64 as RoundTrip<'de, R>>⟧.same) (λ x2. pos_other s x2)
+        (λ x1 h1. (unsigned_only s 18446744073709551615 x1)) v.chip fits.9))
+        (fields_cons s (codes "owner") _ _ _ (λ j. Only (⟦<Option<String> as Deserialize<'de, R>>⟧.reads s.human R.lends)
+        ⟦<Option<String> as RoundTrip<'de, R>>⟧.same j v.owner) ⊥ _
+        (option_only s _ (⟦<String as Deserialize<'de, R>>⟧.reads s.human R.lends) ⟦<String as RoundTrip<'de, R>>⟧.same v.owner
+        (option_row s (λ x. ⟦<String as Serialize>⟧.data_of x s.human) ⟦<String as Serialize>⟧.is_value
+        (Only (⟦<String as Deserialize<'de, R>>⟧.reads s.human R.lends) ⟦<String as RoundTrip<'de, R>>⟧.same) (λ x4. text_other s (string_bytes x4))
+        (λ x3 h3. (string_only s (λ w. string_bytes w) (string_bytes x3))) v.owner fits.10))
+        (fields_cons s (codes "shots") _ _ _ (λ j. Only (⟦<Vec<u16> as Deserialize<'de, R>>⟧.reads s.human R.lends) ⟦<Vec<u16> as RoundTrip<'de, R>>⟧.same j
+        v.shots) ⊥ _ (list_only s _ (λ w. w.items) (⟦<u16 as Deserialize<'de, R>>⟧.reads s.human R.lends) ⟦<u16 as RoundTrip<'de, R>>⟧.same v.shots.items
+        (slice_row s _ (λ ms. ReadsEach (Only (⟦<u16 as Deserialize<'de, R>>⟧.reads s.human R.lends) ⟦<u16 as RoundTrip<'de, R>>⟧.same) ms v.shots.items)
+        (each_row s (λ x. ⟦<u16 as Serialize>⟧.data_of x s.human) ⟦<u16 as Serialize>⟧.is_value
+        (Only (⟦<u16 as Deserialize<'de, R>>⟧.reads s.human R.lends) ⟦<u16 as RoundTrip<'de, R>>⟧.same) (λ x5 h5. (unsigned_only s 65535 x5)) v.shots.items
+        fits.11))) (fields_cons s (codes "notes") _ _ _ (λ j. Only (⟦<Vec<String> as Deserialize<'de, R>>⟧.reads s.human R.lends)
+        ⟦<Vec<String> as RoundTrip<'de, R>>⟧.same j v.notes) ⊥ _
+        (list_only s _ (λ w. w.items) (⟦<String as Deserialize<'de, R>>⟧.reads s.human R.lends) ⟦<String as RoundTrip<'de, R>>⟧.same v.notes.items
+        (slice_row s _ (λ ms. ReadsEach (Only (⟦<String as Deserialize<'de, R>>⟧.reads s.human R.lends) ⟦<String as RoundTrip<'de, R>>⟧.same) ms
+        v.notes.items) (each_row s (λ x. ⟦<String as Serialize>⟧.data_of x s.human) ⟦<String as Serialize>⟧.is_value
+        (Only (⟦<String as Deserialize<'de, R>>⟧.reads s.human R.lends) ⟦<String as RoundTrip<'de, R>>⟧.same)
+        (λ x6 h6. (string_only s (λ w. string_bytes w) (string_bytes x6))) v.notes.items fits.12)))
+        (fields_cons s (codes "heart") _ _ _ (λ j. Only (⟦<u32 as Deserialize<'de, R>>⟧.reads s.human R.lends) ⟦<u32 as RoundTrip<'de, R>>⟧.same j v.heart)
+        ⊥ _ (unsigned_only s 4294967295 v.heart) (fields_cons s (codes "lungs") _ _ _
+        (λ j. Only (⟦<u32 as Deserialize<'de, R>>⟧.reads s.human R.lends) ⟦<u32 as RoundTrip<'de, R>>⟧.same j v.lungs) ⊥ _
+        (unsigned_only s 4294967295 v.lungs) (fields_cons s (codes "last") _ _ _
+        (λ j. Only (⟦<String as Deserialize<'de, R>>⟧.reads s.human R.lends) ⟦<String as RoundTrip<'de, R>>⟧.same j v.last) ⊥ _
+        (string_only s (λ w. string_bytes w) (string_bytes v.last)) (fields_none s))))))))))))))))))
+        (λ m q w r. fields_both (codes "number" ∷ (codes "name"
+        ∷ (codes "born" ∷ (codes "weight" ∷ (codes "height"
+        ∷ (codes "fever" ∷ (codes "offset" ∷ (codes "balance"
+        ∷ (codes "neutered" ∷ (codes "chip" ∷ (codes "owner"
+        ∷ (codes "shots" ∷ (codes "notes" ∷ (codes "heart" ∷ (codes "lungs" ∷ (codes "last" ∷ [])))))))))))))))) _ _ _ m q r
+        (λ ks i j. let x = field_only (⟦<u64 as Deserialize<'de, R>>⟧.reads s.human R.lends) ⟦<u64 as RoundTrip<'de, R>>⟧.same v.number w.number _ _ _ _
+        (field_only (⟦<String as Deserialize<'de, R>>⟧.reads s.human R.lends) ⟦<String as RoundTrip<'de, R>>⟧.same v.name w.name _ _ _ _
+        (field_only (⟦<u16 as Deserialize<'de, R>>⟧.reads s.human R.lends) ⟦<u16 as RoundTrip<'de, R>>⟧.same v.born w.born _ _ _ _
+        (field_only (⟦<u8 as Deserialize<'de, R>>⟧.reads s.human R.lends) ⟦<u8 as RoundTrip<'de, R>>⟧.same v.weight w.weight _ _ _ _
+        (field_only (⟦<i8 as Deserialize<'de, R>>⟧.reads s.human R.lends) ⟦<i8 as RoundTrip<'de, R>>⟧.same v.height w.height _ _ _ _
+        (field_only (⟦<i16 as Deserialize<'de, R>>⟧.reads s.human R.lends) ⟦<i16 as RoundTrip<'de, R>>⟧.same v.fever w.fever _ _ _ _
+        (field_only (⟦<i32 as Deserialize<'de, R>>⟧.reads s.human R.lends) ⟦<i32 as RoundTrip<'de, R>>⟧.same v.offset w.offset _ _ _ _
+        (field_only (⟦<i64 as Deserialize<'de, R>>⟧.reads s.human R.lends) ⟦<i64 as RoundTrip<'de, R>>⟧.same v.balance w.balance _ _ _ _
+        (field_only (⟦<bool as Deserialize<'de, R>>⟧.reads s.human R.lends) ⟦<bool as RoundTrip<'de, R>>⟧.same v.neutered w.neutered _ _ _ _
+        (field_only (⟦<Option<u64> as Deserialize<'de, R>>⟧.reads s.human R.lends) ⟦<Option<u64> as RoundTrip<'de, R>>⟧.same v.chip w.chip _ _ _ _
+        (field_only (⟦<Option<String> as Deserialize<'de, R>>⟧.reads s.human R.lends) ⟦<Option<String> as RoundTrip<'de, R>>⟧.same v.owner w.owner _ _ _ _
+        (field_only (⟦<Vec<u16> as Deserialize<'de, R>>⟧.reads s.human R.lends) ⟦<Vec<u16> as RoundTrip<'de, R>>⟧.same v.shots w.shots _ _ _ _
+        (field_only (⟦<Vec<String> as Deserialize<'de, R>>⟧.reads s.human R.lends) ⟦<Vec<String> as RoundTrip<'de, R>>⟧.same v.notes w.notes _ _ _ _
+        (field_only (⟦<u32 as Deserialize<'de, R>>⟧.reads s.human R.lends) ⟦<u32 as RoundTrip<'de, R>>⟧.same v.heart w.heart _ _ _ _
+        (field_only (⟦<u32 as Deserialize<'de, R>>⟧.reads s.human R.lends) ⟦<u32 as RoundTrip<'de, R>>⟧.same v.lungs w.lungs _ _ _ _
+        (last_field (⟦<String as Deserialize<'de, R>>⟧.reads s.human R.lends) ⟦<String as RoundTrip<'de, R>>⟧.same v.last w.last _))))))))))))))) ks i j
+        in (
+          x.0,
+          x.1.0,
+          x.1.1.0,
+          x.1.1.1.0,
+          x.1.1.1.1.0,
+          x.1.1.1.1.1.0,
+          x.1.1.1.1.1.1.0,
+          x.1.1.1.1.1.1.1.0,
+          x.1.1.1.1.1.1.1.1.0,
+          x.1.1.1.1.1.1.1.1.1.0,
+          x.1.1.1.1.1.1.1.1.1.1.0,
+          x.1.1.1.1.1.1.1.1.1.1.1.0,
+          x.1.1.1.1.1.1.1.1.1.1.1.1.0,
+          x.1.1.1.1.1.1.1.1.1.1.1.1.1.0,
+          x.1.1.1.1.1.1.1.1.1.1.1.1.1.1.0,
+          x.1.1.1.1.1.1.1.1.1.1.1.1.1.1.1,
+        ))) };
 }
 
 impl NeverNil for Chart {

@@ -3,7 +3,7 @@ use super::rows::{
     FAILED_BEFORE, INVALID_TYPE, NO_DATA, NO_MARKER, gives, gives_items, gives_text, refused,
 };
 use faulty_io::Drip;
-use rmp_decode::{Deserialize, Deserializer, Error, from_read, from_slice};
+use rmp_decode::{Deserialize, Deserializer, Error, from_read, from_slice, read};
 use rmp_wire::{ByteBuf, Ext, ReadReader};
 use std::alloc::Global;
 use std::collections::{BTreeMap, BTreeSet, VecDeque};
@@ -325,4 +325,14 @@ fn lent(alloc: Global, bytes: &[u8]) -> Result<(u8, &str), Error> {
 #[test]
 fn a_lent_text_outlives_the_reader(rt: HostRuntime) {
     gives(&rt, lent(rt.alloc(), b"\x92\x05\xa2hi"), (5, "hi"));
+}
+
+// A source that is lent is left at the byte after each message, and a refusal takes nothing past what it read.
+#[test]
+fn a_lent_source_is_left_after_each_message(rt: HostRuntime) {
+    let mut messages = b"\x2a\xa2it\xc3\xc0".as_slice();
+    gives::<u8>(&rt, read(rt.alloc(), &mut messages), 42);
+    gives_text(&rt, read(rt.alloc(), &mut messages), "it");
+    refused::<u8>(&rt, read(rt.alloc(), &mut messages), INVALID_TYPE);
+    assert_eq!(rt; messages, b"\xc0".as_slice());
 }

@@ -224,6 +224,33 @@ fn through_a_reference(rt: HostRuntime) {
 }
 
 #[test]
+fn what_a_head_holds(rt: HostRuntime) {
+    assert_eq!(rt; Head::Nil.as_nil(), Some(()));
+    assert_eq!(rt; Head::Truth(true).as_bool(), Some(true));
+    assert_eq!(rt; Head::Whole(-1).as_whole(), Some(-1));
+    assert_eq!(rt; Head::F32Bits(7).as_f32_bits(), Some(7));
+    assert_eq!(rt; Head::F64Bits(7).as_f64_bits(), Some(7));
+    assert_eq!(rt; Head::Text(5).as_text(), Some(5));
+    assert_eq!(rt; Head::Bin(5).as_bin(), Some(5));
+    assert_eq!(rt; Head::Array(5).as_array(), Some(5));
+    assert_eq!(rt; Head::Map(5).as_map(), Some(5));
+    assert_eq!(rt; Head::Ext(5, -1).as_ext(), Some((5, -1)));
+    assert_eq!(rt; Head::Text(5).as_raw(), Some((true, 5)));
+    assert_eq!(rt; Head::Bin(5).as_raw(), Some((false, 5)));
+    assert_eq!(rt; Head::Bin(5).as_seq(), Some((true, 5)));
+    assert_eq!(rt; Head::Array(5).as_seq(), Some((false, 5)));
+    assert_eq!(rt; Head::Map(5).as_parts(), Some((true, 5)));
+    assert_eq!(rt; Head::Array(5).as_parts(), Some((false, 5)));
+    assert_eq!(rt; Head::Bin(5).as_fields(), Some((Some(true), 5)));
+    assert_eq!(rt; Head::Array(5).as_fields(), Some((Some(false), 5)));
+    assert_eq!(rt; Head::Map(5).as_fields(), Some((None, 5)));
+    assert_eq!(rt; Head::Ext(5, -1).content_len(), 5);
+    assert_eq!(rt; Head::Array(5).content_len(), 0);
+    assert_eq!(rt; Head::Map(5).as_text(), None);
+    assert_eq!(rt; Head::Nil.as_bool(), None);
+}
+
+#[test]
 fn sizes(rt: HostRuntime) {
     assert_eq!(rt; size_of::<MarkerReadError>(), 12);
     assert_eq!(rt; size_of::<ValueReadError>(), 16);

@@ -1,9 +1,10 @@
-use Rattle.std.proofs.Common.{rules, arith, ◌≡◌, ◌∙◌, Ok, inl, ap, refl, subst, length, string_bytes}
+use Rattle.std.proofs.Common.{rules, arith, ◌≡◌, ◌∙◌, Ok, inl, ap, refl, subst, length}
 use Rattle.std.specs.Io.KnownBytes.{Appends}
 use Rattle.std.proofs.lemmas.List.{length-append, length-drop}
 use Rattle.std.proofs.lemmas.Result.{err_from_is_err_and}
 use Rattle.rmp_serde.specs.Places.{IsWhole, IsFault}
 use Rattle.canon_lines.specs.Messages.{canonical_text}
+use Rattle.canon_lines.specs.Texts.{text_bytes}
 use Rattle.canon_lines.specs.Prints.{line, IsStart, Puts}
 use Rattle.canon_lines.proofs.Checked.{
   whole_some,
@@ -47,7 +48,7 @@ loop-left-preserved g c =
     let inv = c.loop-left.invariant in
     let whole : IsWhole c.loop-left.left.now c.in-Ok-Whole.len = (c.check_canonical.ensures.whole c.in-Ok-Whole.len).0
     (c.in-Ok-Whole.is ∙ ap Ok c.in-Ok-Whole.field-0-is) in
-    let text : string_bytes c.in_ok-format-in-Ok-Whole.field-0 ≡ canonical_text c.in-Ok-Whole.len = c.in_ok-format-in-Ok-Whole.ensures.ok in
+    let text : text_bytes c.print.new.self ≡ canonical_text c.in-Ok-Whole.len = c.in_ok-print-in-Ok-Whole.ensures.text in
     let printed = subst (λ s. Appends (g.W.Sink.told c.loop-left.sink) (g.W.Sink.told c.print_line.new.sink) (line s)) text
     c.in_ok-print_line-in-Ok-Whole.ensures.line in
     record {
@@ -91,15 +92,15 @@ pub returns-in-Err-clause-prints : goal.returns-in-Err-clause-prints
 returns-in-Err-clause-prints g c = prints_after g.W.Sink c.refuse_message.result c.loop-left.invariant.lines c.loop-left.invariant.place
     c.refuse_message.ensures.prints
 
-pub returns-in_err-format-in-Ok-Whole-clause-early : goal.returns-in_err-format-in-Ok-Whole-clause-early
-returns-in_err-format-in-Ok-Whole-clause-early g c = on_err c.from_residual.result _
+pub returns-in_err-print-in-Ok-Whole-clause-early : goal.returns-in_err-print-in-Ok-Whole-clause-early
+returns-in_err-print-in-Ok-Whole-clause-early g c = on_err c.from_residual.result _
     (checked_early g.W.Sink c.args.bytes.now c.loop-left.left.now c.loop-left.invariant.read)
 
 pub returns-in_err-print_line-in-Ok-Whole-clause-early : goal.returns-in_err-print_line-in-Ok-Whole-clause-early
 returns-in_err-print_line-in-Ok-Whole-clause-early g c =
     let whole : IsWhole c.loop-left.left.now c.in-Ok-Whole.len = (c.check_canonical.ensures.whole c.in-Ok-Whole.len).0
     (c.in-Ok-Whole.is ∙ ap Ok c.in-Ok-Whole.field-0-is) in
-    let text : string_bytes c.in_ok-format-in-Ok-Whole.field-0 ≡ canonical_text c.in-Ok-Whole.len = c.in_ok-format-in-Ok-Whole.ensures.ok in
+    let text : text_bytes c.print.new.self ≡ canonical_text c.in-Ok-Whole.len = c.in_ok-print-in-Ok-Whole.ensures.text in
     let put = subst (λ s. Puts g.W.Sink (IsStart (line s)) c.loop-left.sink c.print_line.new.sink) text c.in_err-print_line-in-Ok-Whole.ensures.early in
     on_err c.from_residual-in_err-print_line-in-Ok-Whole.result _
     (whole_early g.W.Sink c.args.bytes.now c.loop-left.left.now c.in-Ok-Whole.len c.print_line.new.sink c.loop-left.invariant.read whole put)
@@ -116,8 +117,8 @@ returns-in-Err-clause-early g c =
     stop_early g.W.Sink c.args.bytes.now c.loop-left.left.now _ c.in-Err.error c.refuse_message.result _ c.loop-left.invariant.read refl
     (search rules) c.in-Err.ensures.stops c.refuse_message.ensures.early
 
-pub returns-in_err-format-in-Ok-Whole-clause-prints : goal.returns-in_err-format-in-Ok-Whole-clause-prints
-returns-in_err-format-in-Ok-Whole-clause-prints g c =
+pub returns-in_err-print-in-Ok-Whole-clause-prints : goal.returns-in_err-print-in-Ok-Whole-clause-prints
+returns-in_err-print-in-Ok-Whole-clause-prints g c =
     let p = err_from_is_err_and c.from_residual.result c.from_residual.ensures.1 in
     rw (p.1, p.2) (prints_err g.W.Sink (inl c.loop-left.invariant.lines) c.loop-left.invariant.place)
 

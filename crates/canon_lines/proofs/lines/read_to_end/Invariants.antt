@@ -1,4 +1,4 @@
--- What was taken so far stands in the vector, with no fault.
+-- What was consumed so far is in the vector, with no fault.
 use Rattle.std.proofs.Common.{◌≡◌, ◌-◌, ◌^◌, length}
 use Rattle.std.specs.Io.KnownBytes.{Consumes}
 use Rattle.canon_lines.proofs.lines.read_to_end.Given as goal

@@ -17,7 +17,7 @@ pub loop-de-preserved : goal.loop-de-preserved
 loop-de-preserved g c =
     let inv = c.loop-de.invariant in
     let shown : Appends (g.W.Sink.told c.loop-de.sink) (g.W.Sink.told c.print_line.new.sink) (line (message_text c.in-Ok.value)) =
-    subst (λ s. Appends (g.W.Sink.told c.loop-de.sink) (g.W.Sink.told c.print_line.new.sink) (line s)) c.in_ok-text_of_owned-in-Ok.ensures.text
+    subst (λ s. Appends (g.W.Sink.told c.loop-de.sink) (g.W.Sink.told c.print_line.new.sink) (line s)) c.in_ok-tell-in-Ok.ensures.text
     c.in_ok-print_line-in-Ok.ensures.line in
     record {
       read = message_read _ (record { ahead = λ r. refl; sound = λ r s. refl }) c.loop-de.de c.read.new.de inv.kept inv.room inv.lenient g.W.Sink
@@ -58,13 +58,13 @@ returns-in-Err g c =
 pub returns-clause-shown : goal.returns-clause-shown
 returns-clause-shown g c = all_read g.W.Sink c.args.bytes.now _ c.loop-de.invariant.read (search rules)
 
-pub returns-in_err-text_of_owned-in-Ok-clause-early : goal.returns-in_err-text_of_owned-in-Ok-clause-early
-returns-in_err-text_of_owned-in-Ok-clause-early g c = on_err c.from_residual.result _ (so_far_early g.W.Sink c.args.bytes.now _ c.loop-de.invariant.read)
+pub returns-in_err-tell-in-Ok-clause-early : goal.returns-in_err-tell-in-Ok-clause-early
+returns-in_err-tell-in-Ok-clause-early g c = on_err c.from_residual.result _ (so_far_early g.W.Sink c.args.bytes.now _ c.loop-de.invariant.read)
 
 pub returns-in_err-print_line-in-Ok-clause-early : goal.returns-in_err-print_line-in-Ok-clause-early
 returns-in_err-print_line-in-Ok-clause-early g c =
     let inv = c.loop-de.invariant in
-    let put = subst (λ s. Puts g.W.Sink (IsStart (line s)) c.loop-de.sink c.print_line.new.sink) c.in_ok-text_of_owned-in-Ok.ensures.text
+    let put = subst (λ s. Puts g.W.Sink (IsStart (line s)) c.loop-de.sink c.print_line.new.sink) c.in_ok-tell-in-Ok.ensures.text
     c.in_err-print_line-in-Ok.ensures.early in
     on_err c.from_residual-in_err-print_line-in-Ok.result _
     (message_put slice_source (record { ahead = λ r. refl; sound = λ r s. refl }) c.loop-de.de c.read.new.de inv.kept inv.room inv.lenient g.W.Sink

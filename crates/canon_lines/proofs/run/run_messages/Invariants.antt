@@ -1,4 +1,4 @@
--- Each message takes bytes of the line. The reader stands ready behind those that were read.
+-- Each message consumes bytes of the line. The reader is ready after those that were read.
 use Rattle.std.proofs.Common.{◌≡◌, false, length}
 use Rattle.rmp_wire.specs.RefReader.{rest_of}
 use Rattle.rmp_decode.specs.State.{reader_of, kept_of, levels_left, is_failed, is_strict}

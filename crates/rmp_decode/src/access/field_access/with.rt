@@ -13,7 +13,7 @@ use rmp_wire::Source;
 use rmp_wire::config::SerializerConfig;
 
 impl<'x, R: Source, C: SerializerConfig> FieldAccess<'x, R, C> {
-    /// Reads the value of the field whose place was answered last, by `f`. The reader that `f` is given is ready and stands
+    /// Reads the value of the field whose place was answered last, by `f`. `f` is given a reader that is ready,
     /// before the value. An `f` that answers `Ok` has to have read the value and nothing else.
     ///
     /// # Errors

@@ -1,4 +1,4 @@
-//! Keys and values that a function reads, as the types that lead back to themselves want.
+//! Keys and values that a function reads, as recursive types need.
 ghost use Rattle.std.specs.Prelude.{◌≡◌, ◌<◌, true, false, Ok, None, OnOk, OnErr, MatchResult};
 ghost use Rattle.std.specs.Fn.{FnOnceTakesAtMut};
 ghost use Rattle.rmp_decode.specs.Law.{IsFailedBefore};
@@ -13,7 +13,7 @@ use rmp_wire::Source;
 use rmp_wire::config::SerializerConfig;
 
 impl<'x, R: Source, C: SerializerConfig> MapAccess<'x, R, C> {
-    /// Reads the next key by `f`, if there is one. The reader that `f` is given is ready and stands before the key. An `f`
+    /// Reads the next key by `f`, if there is one. `f` is given a reader that is ready, before the key. An `f`
     /// that answers `Ok` has to have read the key and nothing else.
     ///
     /// The value of the key before it has to be read first.
@@ -52,7 +52,7 @@ impl<'x, R: Source, C: SerializerConfig> MapAccess<'x, R, C> {
         }
     }
 
-    /// Reads the value of the key that was read last, by `f`. The reader that `f` is given is ready and stands before the
+    /// Reads the value of the key that was read last, by `f`. `f` is given a reader that is ready, before the
     /// value. An `f` that answers `Ok` has to have read the value and nothing else.
     ///
     /// # Errors

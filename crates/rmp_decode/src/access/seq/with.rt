@@ -1,4 +1,4 @@
-//! Elements that a function reads, as the types that lead back to themselves want.
+//! Elements that a function reads, as recursive types need.
 ghost use Rattle.std.specs.Prelude.{◌≡◌, ◌<◌, ◌⊎◌, true, false, Ok, None, OnOk, OnErr, IfErr, MatchResult};
 ghost use Rattle.std.specs.Io.KnownBytes.{IsAtEnd};
 ghost use Rattle.rmp_decode.specs.Exact.{IsDataEnd};
@@ -15,7 +15,7 @@ use rmp_wire::Source;
 use rmp_wire::config::SerializerConfig;
 
 impl<'x, R: Source, C: SerializerConfig> SeqAccess<'x, R, C> {
-    // Takes the next byte of bytes and keeps it back; a list's next element stands ready.
+    // Takes the next byte of bytes and keeps it back. Before an element of a list it does nothing.
     #[inline(never)]
     fn offer(&mut self) -> Result<(), Error>
         ensures same_reference { self.new.de.ghost_name ≡ self.old.de.ghost_name }
@@ -41,7 +41,7 @@ impl<'x, R: Source, C: SerializerConfig> SeqAccess<'x, R, C> {
         }
     }
 
-    /// Reads the next element by `f`, if there is one. The reader that `f` is given is ready and stands before the element.
+    /// Reads the next element by `f`, if there is one. `f` is given a reader that is ready, before the element.
     /// An `f` that answers `Ok` has to have read the element and nothing else.
     ///
     /// # Errors

@@ -1,4 +1,4 @@
--- The numbers before the index stand in front.
+-- The numbers before the index are already copied.
 use Rattle.std.proofs.Common.{◌≡◌, map, take, length}
 use Rattle.rmp_encode.specs.Slices.{number_of}
 use Rattle.rmp_encode.proofs.slice.fill.Given as goal

@@ -1,4 +1,4 @@
--- Each answer says what stands at the place that was reached.
+-- Each result says what is at the offset that was reached.
 use Rattle.std.proofs.Common.{arith, refl, ap, subst, ◌∙◌, Err, ◌<◌, ◌^◌, ◌-◌, length}
 use Rattle.std.proofs.lemmas.Result.{err_from_is_err_and}
 use Rattle.rmp_serde.specs.Places.{TakesNodes}

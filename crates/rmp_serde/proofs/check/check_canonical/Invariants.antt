@@ -1,4 +1,4 @@
--- What was taken is canonical, and leaves so many messages wanted.
+-- What was consumed is canonical, and leaves this many messages.
 use Rattle.std.proofs.Common.{length}
 use Rattle.rmp_serde.proofs.Checking.{Wants}
 use Rattle.rmp_serde.proofs.check.check_canonical.Given as goal

@@ -20,7 +20,7 @@ returns-then-not-is_canonical c =
 pub returns-then-not-skip : goal.returns-then-not-skip
 returns-then-not-skip c =
     let t = c.in_ok-marker.ensures.reads.ok in
-    let short = subst (λ n. length c.next_head.new.source.now < n) c.content_in.ensures (c.if-not-skip.ensures.short refl) in (
+    let short = subst (λ n. length c.next_head.new.source.now < n) c.content_len.ensures (c.if-not-skip.ensures.short refl) in (
       c.from.ensures.0,
       inr (next_cut c.args.left.now.now c.next_head.new.source.now t.rest c.in_ok-marker.marker c.in_ok-marker.head t.is_head t.taken
           c.is_canonical.result c.is_canonical.ensures c.if-not-is_canonical.false t.is_marker short),
@@ -32,4 +32,4 @@ returns c =
     let skipped = c.if-not-skip.ensures.bytes (search rules) in
     next_taken c.args.left.now.now c.next_head.new.source.now t.rest c.in_ok-marker.marker c.in_ok-marker.head t.is_head t.taken c.is_canonical.result
     c.is_canonical.ensures c.if-not-is_canonical.false
-    c.skip.new.self.now c.content_in.result c.parts_in.result c.content_in.ensures skipped c.parts_in.ensures
+    c.skip.new.self.now c.content_len.result c.parts_in.result c.content_len.ensures skipped c.parts_in.ensures

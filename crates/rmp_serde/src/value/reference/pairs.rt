@@ -1,12 +1,12 @@
-//! The pairs of a map, one after another.
+//! The pairs of a map, in order.
 
 use crate::value::ValueRef;
 use crate::value::flat::Node;
 use crate::value::reference::parts::Parts;
 
-/// The pairs of a map, one after another: each key with its value.
+/// An iterator over the pairs of a map, each its key and its value.
 ///
-/// Each step takes as long, wherever the pair stands, and no memory.
+/// Each step takes constant time, and allocates nothing.
 #[derive(Drop)]
 pub struct Pairs<'a> {
     parts: Parts<'a>,
@@ -17,7 +17,7 @@ impl<'a> ValueRef<'a> {
     ghost use Rattle.rmp_serde.specs.Parts.{tree};
     ghost use Rattle.rmp_serde.specs.PairsLeft.{pairs_left, pairs_in_turn};
 
-    /// The pairs of a map, each a key and its value. Of any other kind none.
+    /// Returns the pairs of a map, each a key and its value. Any other kind has none.
     #[tactic(auto, using(crate::proofs::PairsLeft::turn_of_map))]
     pub fn pairs(self) -> Pairs<'a>
         ensures pairs { pairs_left result ≡ pairs_in_turn (tree self.entry) }

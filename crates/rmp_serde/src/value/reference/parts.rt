@@ -1,13 +1,13 @@
-//! The parts of a list or a map, one after another.
+//! The parts of a list or a map, in order.
 ghost use Rattle.std.specs.Prelude.{◌≡◌, ◌≤◌, ◌*◌, min};
 ghost use Rattle.rmp_wire.specs.Msg.{count};
 ghost use Rattle.rmp_serde.specs.Parts.{row_at};
 
 use crate::value::ValueRef;
 
-/// The items of a list, or the keys and values of a map in turn, one after another.
+/// An iterator over the items of a list, or over the keys and values of a map in turn.
 ///
-/// Each step takes as long, wherever the part stands, and no memory.
+/// Each step takes constant time, and allocates nothing.
 #[derive(Drop)]
 pub struct Parts<'a> {
     front: ValueRef<'a>,
@@ -20,7 +20,7 @@ impl<'a> Parts<'a> {
     ghost use Rattle.std.specs.Prelude.{[]};
     ghost use Rattle.rmp_serde.specs.PartsLeft.{parts_left};
 
-    // None at all.
+    // No parts at all.
     pub(super) fn none(front: ValueRef<'a>) -> Parts<'a>
         ensures none { parts_left result ≡ [] }
     {
@@ -32,7 +32,8 @@ impl<'a> ValueRef<'a> {
     ghost use Rattle.rmp_serde.specs.Parts.{tree, parts_in_turn};
     ghost use Rattle.rmp_serde.specs.PartsLeft.{parts_left};
 
-    /// The items of a list, or the keys and values of a map in turn: each key, and then its value. Of any other kind none.
+    /// Returns the items of a list, or the keys and values of a map in turn: each key, and then its value. Any
+    /// other kind has none.
     pub fn parts(self) -> Parts<'a>
         ensures parts { parts_left result ≡ parts_in_turn (tree self.entry) }
     {

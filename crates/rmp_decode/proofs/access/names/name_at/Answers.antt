@@ -8,7 +8,7 @@ pub returns-else-end-front-clause-lies : goal.returns-else-end-front-clause-lies
 returns-else-end-front-clause-lies c =
     let front = c.args.front.now in
     let same : c.in-Some.head + c.in-Some.len - c.in-Some.head ≡ c.in-Some.len = omega arith in
-    text_lies c.args.strict c.in-Some.head c.in-Some.len _ front c.in-Some.ensures (omega (arith, c.if-end-front.false))
+    text_lies c.args.strict c.in-Some.head c.in-Some.len _ front c.in-Some.ensures.stands (omega (arith, c.if-end-front.false))
     (bytes_take c.in-Some.len (drop c.in-Some.head front) (bytes_drop c.in-Some.head front (are_all front (λ i. search rules))))
     (subst (λ k. below (length c.args.names.now) c.place_or_count.result ≡ place_of (bytes_of c.args.names.now) (take k (drop c.in-Some.head front))) same
     c.place_or_count.ensures.place)

@@ -16,7 +16,7 @@ via y p q = p ∙ q
 pub returns-in_err-seq-clause-law : goal.returns-in_err-seq-clause-law
 returns-in_err-seq-clause-law g c = λ old m h.
     let p = err_from_is_err_and c.from_residual.result c.from_residual.ensures.1 in
-    let f = rw c.in_err-seq.was at c.open_behind.follows.holds-at-none in
+    let f = rw c.in_err-seq.was at c.open_list.follows.holds-at-none in
     rw (p.1, f.1) (list_too_deep g.R.Source (λ t v. IsBuffer t v.items) old c.args.self.now m c.args.len _ h f.0)
 
 pub loop-items-init : goal.loop-items-init

@@ -12,6 +12,6 @@ bytes_apart : (len n : ℕ) → Bin len ≡ Array n → ⊥
 bytes_apart len n e = absurd (cc)
 
 pub returns-in-Some-clause-list : goal.returns-in-Some-clause-list
-returns-in-Some-clause-list g c = λ _. each_error c.bytes_behind.result
+returns-in-Some-clause-list g c = λ _. each_error c.byte_buf_payload.result
     (λ e. list_other g.R.Source c.args.self.now e _ c.in-Some.ensures.taken.marker (Bin c.in-Some.len) c.in-Some.ensures.taken.begun.marked
     (bytes_apart c.in-Some.len))

@@ -5,5 +5,5 @@ use Rattle.rmp_decode.proofs.deserializer.Deserializer.deserialize_bytes.Goals a
 
 pub returns-in-None-clause-law : goal.returns-in-None-clause-law
 returns-in-None-clause-law g c =
-    subst (λ d. Lawful g.R.Source (λ m (s : Bor (List ℕ)). (g.R.ReadSlice.lends ≡ true) × IsRaw m s.now) d c.apart_lent.new.de c.apart_lent.result)
-    c.in-None.ensures.kept c.apart_lent.ensures.law
+    subst (λ d. Lawful g.R.Source (λ m (s : Bor (List ℕ)). (g.R.ReadSlice.lends ≡ true) × IsRaw m s.now) d c.read_cold.new.de c.read_cold.result)
+    c.in-None.ensures.kept c.read_cold.ensures.law

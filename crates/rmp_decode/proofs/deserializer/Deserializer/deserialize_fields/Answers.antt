@@ -1,4 +1,4 @@
-use Rattle.std.proofs.Common.{◌∙◌, subst, rules}
+use Rattle.std.proofs.Common.{◌∙◌, subst}
 use Rattle.std.specs.Prelude.{Ok, Err}
 use Rattle.rmp_wire.specs.declared.head.Head.TheVariants.{Array}
 use Rattle.rmp_decode.specs.Fronts.{TakesFront}
@@ -10,31 +10,31 @@ use Rattle.rmp_decode.proofs.FieldRows.{row_law, row_refused, if_err}
 use Rattle.rmp_decode.proofs.Names.{length_bytes}
 use Rattle.rmp_decode.proofs.deserializer.Deserializer.deserialize_fields.Goals as goal
 
-pub returns-then-row_front-clause-law : goal.returns-then-row_front-clause-law
-returns-then-row_front-clause-law g c =
-    let front = subst (λ z. TakesFront g.R.Source (Array z) c.args.self.now c.row_front.new.self) c.requires.count
-    (c.row_front.ensures.taken (search rules)) in
-    row_law g.R.Source g.C.SerializerConfig.human g.R.ReadSlice.lends g.F.Fields.reads g.F.Fields.parts c.args.self.now c.row_front.new.self
-    c.row_ahead.new.self g.F.Fields.count (c.row_front.ensures.deep (search rules)) front c.row_ahead.result (bytes_of c.args.names.now)
+pub returns-in-Some-clause-law : goal.returns-in-Some-clause-law
+returns-in-Some-clause-law g c =
+    let front = subst (λ z. TakesFront g.R.Source (Array z) c.args.self.now c.take_nested.new.self) c.requires.count
+    c.in-Some.ensures.taken in
+    row_law g.R.Source g.C.SerializerConfig.human g.R.ReadSlice.lends g.F.Fields.reads g.F.Fields.parts c.args.self.now c.take_nested.new.self
+    c.row_ahead.new.self g.F.Fields.count c.in-Some.ensures.deep front c.row_ahead.result (bytes_of c.args.names.now)
     (g.F.Fields.counted (g.C.SerializerConfig.human c.args.self.now.config) g.R.ReadSlice.lends) (length_bytes c.args.names.now ∙ c.requires.count)
     c.row_ahead.ensures.ok c.row_ahead.ensures.err
 
-pub returns-then-row_front-clause-refused : goal.returns-then-row_front-clause-refused
-returns-then-row_front-clause-refused g c = λ _.
-    let front = subst (λ z. TakesFront g.R.Source (Array z) c.args.self.now c.row_front.new.self) c.requires.count
-    (c.row_front.ensures.taken (search rules)) in
+pub returns-in-Some-clause-refused : goal.returns-in-Some-clause-refused
+returns-in-Some-clause-refused g c = λ _.
+    let front = subst (λ z. TakesFront g.R.Source (Array z) c.args.self.now c.take_nested.new.self) c.requires.count
+    c.in-Some.ensures.taken in
     if_err c.row_ahead.result (λ e w. row_refused g.R.Source g.C.SerializerConfig.human g.R.ReadSlice.lends g.F.Fields.reads g.F.Fields.parts
-    c.args.self.now c.row_front.new.self
-    c.row_ahead.new.self g.F.Fields.count (c.row_front.ensures.deep (search rules)) front e w (bytes_of c.args.names.now)) c.row_ahead.ensures.refused
+    c.args.self.now c.take_nested.new.self
+    c.row_ahead.new.self g.F.Fields.count c.in-Some.ensures.deep front e w (bytes_of c.args.names.now)) c.row_ahead.ensures.refused
 
 pub returns-in-Ok-clause-law : goal.returns-in-Ok-clause-law
 returns-in-Ok-clause-law g c =
     subst (λ (z : Deserializer g.row.R.Denot g.row.C.Denot). Lawful g.R.Source (λ m v. OfFields (bytes_of c.args.names.now)
     (λ fs. g.F.Fields.reads (g.C.SerializerConfig.human z.config) g.R.ReadSlice.lends fs v) m) z c.opened_fields.new.self
-    (Ok c.in-Ok.values)) (c.row_front.ensures.kept (search rules)) c.in-Ok.ensures.law
+    (Ok c.in-Ok.values)) c.in-None.ensures.kept c.in-Ok.ensures.law
 
 pub returns-in-Err-clause-law : goal.returns-in-Err-clause-law
 returns-in-Err-clause-law g c =
     subst (λ (z : Deserializer g.row.R.Denot g.row.C.Denot). Lawful g.R.Source (λ m v. OfFields (bytes_of c.args.names.now)
     (λ fs. g.F.Fields.reads (g.C.SerializerConfig.human z.config) g.R.ReadSlice.lends fs v) m) z c.opened_fields.new.self
-    (Err c.in-Err.e)) (c.row_front.ensures.kept (search rules)) c.in-Err.ensures.law
+    (Err c.in-Err.e)) c.in-None.ensures.kept c.in-Err.ensures.law

@@ -11,22 +11,22 @@ use Rattle.rmp_decode.proofs.deserializer.Deserializer.deserialize_i128.Goals as
 
 pub returns-in-Ok-clause-law : goal.returns-in-Ok-clause-law
 returns-in-Ok-clause-law g c =
-    let t = c.sixteen_front.ensures.taken (search rules) in
+    let t = c.in-Some.ensures.taken in
     let s = c.in-Ok.ensures.ok in
     rw (to_z-of_z w128 c.cast_signed.result (search rules))
-    (content_read bin_content g.R.Source _ c.args.self.now c.sixteen_front.new.self _ (t.marker, Bin 16) t.begun s.bytes 16 _ refl s.long s.small s.takes
+    (content_read bin_content g.R.Source _ c.args.self.now c.take.new.self _ (t.marker, Bin 16) t.begun s.bytes 16 _ refl s.long s.small s.takes
     refl refl
     c.in-Ok.ensures.sound (record { config = refl; room = refl; limit = refl; strict = refl; place = c.in-Ok.ensures.place })
     (inr (c.in-Ok.n, taken_sixteen s, c.cast_signed.ensures)))
 
 pub returns-in-Err-clause-law : goal.returns-in-Err-clause-law
 returns-in-Err-clause-law g c =
-    let t = c.sixteen_front.ensures.taken (search rules) in
-    content_short bin_content g.R.Source _ c.args.self.now c.sixteen_front.new.self _ (t.marker, Bin 16) t.begun 16 _ refl c.in-Err.ensures.err
+    let t = c.in-Some.ensures.taken in
+    content_short bin_content g.R.Source _ c.args.self.now c.take.new.self _ (t.marker, Bin 16) t.begun 16 _ refl c.in-Err.ensures.err
     t.begun.failed (record { config = refl; room = refl; limit = refl; strict = refl; place = c.in-Err.ensures.place })
 
 pub returns-in-Err-clause-exact : goal.returns-in-Err-clause-exact
 returns-in-Err-clause-exact g c = λ _.
-    let t = c.sixteen_front.ensures.taken (search rules) in
-    content_error g.R.Source IsSigned128Head not_wide never_refused c.args.self.now c.sixteen_front.new.self _ (t.marker, Bin 16) (Bin 16) 16 _ t.begun refl
+    let t = c.in-Some.ensures.taken in
+    content_error g.R.Source IsSigned128Head not_wide never_refused c.args.self.now c.take.new.self _ (t.marker, Bin 16) (Bin 16) 16 _ t.begun refl
     refl refl (piece_ended _ _ _ _ _ _ c.in-Err.ensures.err c.in-Err.ensures.end)

@@ -83,7 +83,7 @@ returns-in-None-clause-law g c =
     let r = c.loop-map.invariant in
     let same = sym (rw c.in-Ok-Map.field-0-is at c.in-Ok-Map.ensures.same_reference) ∙ sym r.run.same_reference ∙ sym c.next_place.ensures.same_reference in
     let o = rw c.in-Ok-Map.field-0-is at c.in-Ok-Map.ensures.opened in
-    let h = rw c.given.ensures at c.in-None.ensures.err in
+    let h = rw c.refusal_in.ensures at c.in-None.ensures.err in
     fields_key g.R.Source (bytes_of c.args.names.now) (g.F.Fields.holds (g.C.SerializerConfig.human c.args.self.now.config) g.R.ReadSlice.lends)
     (g.F.Fields.reads (g.C.SerializerConfig.human c.args.self.now.config) g.R.ReadSlice.lends) _ c.in-Ok-Map.map c.loop-map.map o c.loop-map.slots r
     _ c.next_place.new.self _ (omega (arith, c.loop-map-test.true)) h (search rules)
@@ -110,9 +110,9 @@ returns-then-not-fill-clause-law g c =
     let key = key_named_by g.R.Source c.args.names.now c.loop-map.map c.next_place.new.self c.in-Some.place (Some c.in-Some.place)
     (below_named _ _ (omega (arith, c.if-place-names.false))) c.in-Some.ensures.ok in
     let f = subst (λ z. FailsPart g.R.Source (λ m (u : Unit {0}). g.F.Fields.takes (g.C.SerializerConfig.human z) g.R.ReadSlice.lends
-    c.in-Some.place m) (map_inner c.next_place.new.self) c.next_place.new.self.de.now c.fill.new.map.de.now c.given-then-not-fill.result
+    c.in-Some.place m) (map_inner c.next_place.new.self) c.next_place.new.self.de.now c.fill.new.map.de.now c.refusal_in-then-not-fill.result
     ⊎ IsFull (g.F.Fields.holds (g.C.SerializerConfig.human z) g.R.ReadSlice.lends) c.in-Some.place c.next_place.new.self c.fill.new.map
-    c.loop-map.slots) (key.part.stays.config ∙ r.run.stays.config ∙ o.stays.config) (rw c.given-then-not-fill.ensures at c.fill.ensures.err no) in
+    c.loop-map.slots) (key.part.stays.config ∙ r.run.stays.config ∙ o.stays.config) (rw c.refusal_in-then-not-fill.ensures at c.fill.ensures.err no) in
     fields_value g.R.Source (bytes_of c.args.names.now) (g.F.Fields.holds (g.C.SerializerConfig.human c.args.self.now.config) g.R.ReadSlice.lends)
     (g.F.Fields.reads (g.C.SerializerConfig.human c.args.self.now.config) g.R.ReadSlice.lends) _ c.in-Ok-Map.map c.loop-map.map o c.loop-map.slots r
     _ c.next_place.new.self c.next_place.ensures.same_reference c.in-Some.place key c.fill.new.map _
@@ -203,9 +203,9 @@ returns-in-None-clause-refused g c = λ u.
     let same = sym (rw c.in-Ok-Map.field-0-is at c.in-Ok-Map.ensures.same_reference) ∙ sym r.run.same_reference ∙ sym c.next_place.ensures.same_reference in
     let o = rw c.in-Ok-Map.field-0-is at c.in-Ok-Map.ensures.opened in
     name_wrong g.R.Source g.C.SerializerConfig.human g.R.ReadSlice.lends (bytes_of c.args.names.now) g.F.Fields.reads g.F.Fields.parts c.args.self.now _
-    c.given.result c.in-Ok-Map.map c.loop-map.map o (g.F.Fields.holds (g.C.SerializerConfig.human c.args.self.now.config) g.R.ReadSlice.lends)
+    c.refusal_in.result c.in-Ok-Map.map c.loop-map.map o (g.F.Fields.holds (g.C.SerializerConfig.human c.args.self.now.config) g.R.ReadSlice.lends)
     (λ fs t. g.F.Fields.held (inside (setting_of (g.C.SerializerConfig.human c.args.self.now.config) g.R.ReadSlice.lends c.args.self.now)
-    (map_inner c.in-Ok-Map.map)) fs t) c.loop-map.slots r c.next_place.new.self (search rules) (rw c.given.ensures at c.in-None.ensures.refused)
+    (map_inner c.in-Ok-Map.map)) fs t) c.loop-map.slots r c.next_place.new.self (search rules) (rw c.refusal_in.ensures at c.in-None.ensures.refused)
 
 pub returns-then-not-fill-clause-refused : goal.returns-then-not-fill-clause-refused
 returns-then-not-fill-clause-refused g c = λ u.
@@ -218,10 +218,10 @@ returns-then-not-fill-clause-refused g c = λ u.
     (below_named _ _ (omega (arith, c.if-place-names.false))) c.in-Some.ensures.ok in
     let f = subst (λ z. FillRefused g.R.Source (g.C.SerializerConfig.human c.next_place.new.self.de.now.config) g.R.ReadSlice.lends
     (g.F.Fields.holds (g.C.SerializerConfig.human z) g.R.ReadSlice.lends) g.F.Fields.parts c.in-Some.place c.next_place.new.self c.fill.new.map
-    c.loop-map.slots c.given-then-not-fill.result) (key.part.stays.config ∙ r.run.stays.config ∙ o.stays.config)
-    (rw c.given-then-not-fill.ensures at c.fill.ensures.refused no) in
+    c.loop-map.slots c.refusal_in-then-not-fill.result) (key.part.stays.config ∙ r.run.stays.config ∙ o.stays.config)
+    (rw c.refusal_in-then-not-fill.ensures at c.fill.ensures.refused no) in
     field_wrong g.R.Source g.C.SerializerConfig.human g.R.ReadSlice.lends (bytes_of c.args.names.now) g.F.Fields.reads g.F.Fields.parts c.args.self.now _
-    c.given-then-not-fill.result c.in-Ok-Map.map c.loop-map.map o (g.F.Fields.holds (g.C.SerializerConfig.human c.args.self.now.config) g.R.ReadSlice.lends)
+    c.refusal_in-then-not-fill.result c.in-Ok-Map.map c.loop-map.map o (g.F.Fields.holds (g.C.SerializerConfig.human c.args.self.now.config) g.R.ReadSlice.lends)
     (λ fs t. g.F.Fields.held (inside (setting_of (g.C.SerializerConfig.human c.args.self.now.config) g.R.ReadSlice.lends c.args.self.now)
     (map_inner c.in-Ok-Map.map)) fs t) c.loop-map.slots r c.next_place.new.self c.fill.new.map _ key (search rules) c.in-Some.place refl f
 

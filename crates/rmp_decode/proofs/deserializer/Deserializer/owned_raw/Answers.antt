@@ -7,31 +7,12 @@ use Rattle.rmp_decode.proofs.Contents.{raw_content, content_read, content_short}
 use Rattle.rmp_decode.proofs.Laws.{refused_none, refused_head}
 use Rattle.rmp_decode.proofs.deserializer.Deserializer.owned_raw.Goals as goal
 
-pub returns-in-Ok-owned-clause-law : goal.returns-in-Ok-owned-clause-law
-returns-in-Ok-owned-clause-law g c =
-    let o = c.in-Ok-owned.ensures.ok in
-    content_read (raw_content c.in-Some.is_text) g.R.Source _ c.args.self.now c.head.new.self _ (c.in-Ok.field-0-0, c.in-Ok.head) c.in-Ok.ensures
-    c.in-Ok-owned.bytes.items c.in-Some.len _ c.in-Some.ensures o.0 o.1 o.2 refl refl c.in-Ok-owned.ensures.sound
-    (record { config = refl; room = refl; limit = refl; strict = refl; place = c.in-Ok-owned.ensures.place }) refl
-
-pub returns-in-Err-owned-clause-law : goal.returns-in-Err-owned-clause-law
-returns-in-Err-owned-clause-law g c =
-    content_short (raw_content c.in-Some.is_text) g.R.Source _ c.args.self.now c.head.new.self _ (c.in-Ok.field-0-0, c.in-Ok.head) c.in-Ok.ensures
-    c.in-Some.len _ c.in-Some.ensures c.in-Err-owned.ensures.err c.in-Ok.ensures.failed
-    (record { config = refl; room = refl; limit = refl; strict = refl; place = c.in-Err-owned.ensures.place })
-
 pub returns-in-None-clause-law : goal.returns-in-None-clause-law
 returns-in-None-clause-law g c = refused_head g.R.Source _ c.args.self.now _ (c.in-Ok.field-0-0, c.in-Ok.head) _ c.in-Ok.ensures
     (λ m r i. c.in-None.ensures (r.0.0, length r.0.1.items) (sym i ∙ ap head_of r.1 ∙ (raw_content r.0.0).is r.0.1.items))
 
 pub returns-in-Err-clause-law : goal.returns-in-Err-clause-law
 returns-in-Err-clause-law g c = refused_none _ _ _ _ _ c.in-Err.ensures
-
-pub returns-in-Err-owned-clause-exact : goal.returns-in-Err-owned-clause-exact
-returns-in-Err-owned-clause-exact g c = λ _.
-    content_error g.R.Source IsRawHead not_raw never_refused c.args.self.now c.head.new.self _ (c.in-Ok.field-0-0, c.in-Ok.head)
-    (raw_head c.in-Some.is_text c.in-Some.len) c.in-Some.len _ c.in-Ok.ensures c.in-Some.ensures (raw_len c.in-Some.is_text c.in-Some.len)
-    (raw_wanted c.in-Some.is_text c.in-Some.len) (piece_ended _ _ _ _ _ _ c.in-Err-owned.ensures.err c.in-Err-owned.ensures.end)
 
 pub returns-in-None-clause-exact : goal.returns-in-None-clause-exact
 returns-in-None-clause-exact g c = λ _. content_other _ IsRawHead not_raw never_refused _ _ _ c.in-Ok.field-0-0 c.in-Ok.head _ c.in-Ok.ensures.marked

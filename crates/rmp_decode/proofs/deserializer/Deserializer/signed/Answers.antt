@@ -10,7 +10,7 @@ use Rattle.rmp_decode.proofs.deserializer.Deserializer.signed.Goals as goal
 
 pub returns-in-Some-clause-law : goal.returns-in-Some-clause-law
 returns-in-Some-clause-law g c =
-    let w : c.in-Some.n ≤ nat_abs c.args.most = rw (to_z-of_z w64 c.args.most (search rules)) at c.in-Some.ensures.within in
+    let w : c.in-Some.n ≤ nat_abs c.args.most = rw (to_z-of_z w64 c.args.most (search rules)) at c.in-Some.ensures.wanted in
     let p : pos c.in-Some.n ≤ℤ c.args.most = abs_within _ _ c.requires.most w in
     let l : c.args.least ≤ℤ pos c.in-Some.n = omega (arith, ints, c.requires.least) in
     let same : to_z w64 c.in-Some.n ≡ pos c.in-Some.n = small_signed _ _ p (search rules) in

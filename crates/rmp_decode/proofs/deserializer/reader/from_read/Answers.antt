@@ -1,20 +1,13 @@
-use Rattle.std.proofs.lemmas.Result.{IfOk-weaker}
-use Rattle.rmp_decode.proofs.SourceReads.{told_begins, taken_from, refused_from_source}
+use Rattle.std.proofs.lemmas.Result.{IfOk-weaker, IfErr-weaker}
+use Rattle.rmp_decode.proofs.SourceReads.{told_begins}
 use Rattle.rmp_decode.proofs.deserializer.reader.from_read.Goals as goal
 
 pub returns-clause-taken : goal.returns-clause-taken
-returns-clause-taken g c =
-    let d = c.new-de.ensures in
-    taken_from g.R.Source _ c.new-de.result c.deserialize.new.de c.args.rd d.kept d.source d.room d.lenient c.deserialize.result c.deserialize.ensures.law
+returns-clause-taken g c = IfOk-weaker c.read.result _ _ (λ v t. record { last = c.read.new.rd; read = t }) c.read.ensures.ok
 
 pub returns-clause-ok : goal.returns-clause-ok
-returns-clause-ok g c =
-    let d = c.new-de.ensures in
-    IfOk-weaker c.deserialize.result _ _ (λ v t. told_begins g.R.Source _ c.args.rd v t)
-    (taken_from g.R.Source _ c.new-de.result c.deserialize.new.de c.args.rd d.kept d.source d.room d.lenient c.deserialize.result c.deserialize.ensures.law)
+returns-clause-ok g c = IfOk-weaker c.read.result _ _ (λ v t. told_begins g.R.Source _ c.args.rd c.read.new.rd v t) c.read.ensures.ok
 
 pub returns-clause-err : goal.returns-clause-err
 returns-clause-err g c =
-    let d = c.new-de.ensures in
-    refused_from_source g.R.Source _ c.new-de.result c.deserialize.new.de c.args.rd d.kept d.source d.room d.lenient g.T.Deserialize.refuses
-    c.deserialize.result d.ready c.deserialize.ensures.law c.deserialize.ensures.refused
+    IfErr-weaker c.read.result _ _ (λ e r. record { last = c.read.new.rd; place = c.read.ensures.place; refusal = r }) c.read.ensures.err

@@ -34,14 +34,14 @@ pub returns-in-Ok-pass-clause-law : goal.returns-in-Ok-pass-clause-law
 returns-in-Ok-pass-clause-law g c =
     let o = c.in-Ok-pass.ensures in
     skipped_leaf g.R.Source c.args.de.now c.any_head.new.self _ (c.in-Ok.ensures.ok.marker, c.in-Ok.head) c.in-Ok.ensures.ok.begun c.in-None.ensures
-    (subst (λ z. Passes z (g.R.Source.ahead c.any_head.new.self.reader) (g.R.Source.ahead c.pass.new.reader)) c.content_in.ensures o.ok) refl refl
+    (subst (λ z. Passes z (g.R.Source.ahead c.any_head.new.self.reader) (g.R.Source.ahead c.pass.new.reader)) c.content_len.ensures o.ok) refl refl
     o.sound (record { config = refl; room = refl; limit = refl; strict = refl; place = o.place })
 
 pub returns-in-Err-pass-clause-law : goal.returns-in-Err-pass-clause-law
 returns-in-Err-pass-clause-law g c =
     let o = c.in-Err-pass.ensures in
     skipped_short g.R.Source c.args.de.now c.any_head.new.self _ (c.in-Ok.ensures.ok.marker, c.in-Ok.head) c.in-Ok.ensures.ok.begun _
-    (λ n k. subst (λ z. IsShort z (g.R.Source.ahead c.any_head.new.self.reader)) c.content_in.ensures (o.err n k)) c.in-Ok.ensures.ok.begun.failed
+    (λ n k. subst (λ z. IsShort z (g.R.Source.ahead c.any_head.new.self.reader)) c.content_len.ensures (o.err n k)) c.in-Ok.ensures.ok.begun.failed
     (record { config = refl; room = refl; limit = refl; strict = refl; place = o.place })
 
 pub returns-in-Err-pass-clause-exact : goal.returns-in-Err-pass-clause-exact
@@ -49,7 +49,7 @@ returns-in-Err-pass-clause-exact g c =
     let o = c.in-Err-pass.ensures in
     leaf_wrong g.R.Source g.P.ReadContent.lends c.args.de.now c.any_head.new.self (record c.any_head.new.self { reader = c.pass.new.reader })
     (c.in-Ok.ensures.ok.marker, c.in-Ok.head) c.in-Ok.ensures.ok.begun c.in-Err-pass.e o.memory c.in-None.ensures
-    (λ n k. subst (λ z. IsShort z (g.R.Source.ahead c.any_head.new.self.reader)) c.content_in.ensures (o.err n k)) o.end
+    (λ n k. subst (λ z. IsShort z (g.R.Source.ahead c.any_head.new.self.reader)) c.content_len.ensures (o.err n k)) o.end
 
 pub returns-in-Err-clause-law : goal.returns-in-Err-clause-law
 returns-in-Err-clause-law g c = refused_none _ _ _ _ _ c.in-Err.ensures.err

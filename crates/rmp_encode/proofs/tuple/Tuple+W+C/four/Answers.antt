@@ -4,24 +4,23 @@ use Rattle.rmp_encode.specs.Ser.{sink_of, settings_of}
 use Rattle.rmp_encode.specs.Trees.{forces_all}
 use Rattle.rmp_encode.specs.Tuples.{inside, IsTupling}
 use Rattle.rmp_encode.proofs.Going.{going_more, keeps_then}
-use Rattle.rmp_encode.proofs.Parts.{part_takes, or_front, or_back}
+use Rattle.rmp_encode.proofs.Parts.{part_takes, or_front, or_one_of}
 use Rattle.rmp_encode.proofs.tuple.Tuple+W+C.four.Goals as goal
 
-pub returns-in_err-two-clause-writes : goal.returns-in_err-two-clause-writes
-returns-in_err-two-clause-writes g c =
+pub returns-in_err-three-clause-writes : goal.returns-in_err-three-clause-writes
+returns-in_err-three-clause-writes g c =
     let p = err_from_is_err_and c.from_residual.result c.from_residual.ensures.1 in
     rw (p.1, p.2) (λ old t rest h. part_takes g.W.Sink _
     (or_front (forces_all (settings_of old).bytes) g.W.Sink.takes_memory
-    (g.A.Serialize.takes_memory (settings_of old) ∷ (g.B.Serialize.takes_memory (settings_of old) ∷ []))
-    (g.D.Serialize.takes_memory (settings_of old) ∷ (g.E.Serialize.takes_memory (settings_of old) ∷ []))) (c.in_err-two.ensures.writes old t _ h))
+    (g.A.Serialize.takes_memory (settings_of old) ∷ (g.B.Serialize.takes_memory (settings_of old) ∷ (g.D.Serialize.takes_memory (settings_of old) ∷ [])))
+    (g.E.Serialize.takes_memory (settings_of old) ∷ [])) (c.in_err-three.ensures.writes old t _ h))
 
 pub returns-clause-writes : goal.returns-clause-writes
-returns-clause-writes g c = λ old t rest h. going_more g.W.Sink (IsTupling g.W.Sink old t rest c.two-2.new.self) t (sink_of old)
-    (sink_of (inside c.two-2.new.self)) c.two-2.result
-    (or_back (forces_all (settings_of old).bytes) g.W.Sink.takes_memory
-    (g.A.Serialize.takes_memory (settings_of old) ∷ (g.B.Serialize.takes_memory (settings_of old) ∷ []))
-    (g.D.Serialize.takes_memory (settings_of old) ∷ (g.E.Serialize.takes_memory (settings_of old) ∷ [])))
-    (c.two-2.ensures.writes old t rest (c.in_ok-two.ensures.writes old t _ h))
+returns-clause-writes g c = λ old t rest h. going_more g.W.Sink (IsTupling g.W.Sink old t rest c.serialize_element.new.self) t (sink_of old)
+    (sink_of (inside c.serialize_element.new.self)) c.serialize_element.result
+    (or_one_of (forces_all (settings_of old).bytes) g.W.Sink.takes_memory
+    (g.A.Serialize.takes_memory (settings_of old) ∷ (g.B.Serialize.takes_memory (settings_of old) ∷ (g.D.Serialize.takes_memory (settings_of old) ∷ (g.E.Serialize.takes_memory (settings_of old) ∷ [])))) 3)
+    (c.serialize_element.ensures.writes old t rest (c.in_ok-three.ensures.writes old t _ h))
 
 pub returns-clause-keeps : goal.returns-clause-keeps
-returns-clause-keeps g c = keeps_then g.W.Sink c.two.ensures.keeps c.two-2.ensures.keeps
+returns-clause-keeps g c = keeps_then g.W.Sink c.three.ensures.keeps c.serialize_element.ensures.keeps

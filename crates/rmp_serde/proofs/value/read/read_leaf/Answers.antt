@@ -12,7 +12,7 @@ use Rattle.rmp_serde.proofs.FlatMade.{all_later}
 use Rattle.rmp_serde.proofs.ReadLoop.{leaf_told}
 use Rattle.rmp_serde.proofs.value.read.read_leaf.Goals as goal
 
--- where the content wasn't taken, the reader is failed, and all else of it stays
+-- where the content wasn't read, the reader is failed, and nothing else of it changes
 module _ {R C : Type 0} (g : Ghosts R) (old new : Deserializer R C) (e : Error) where
   again : Stays g (failed_of old) new → Stays g old new
   again s = record { config = s.config; room = s.room; limit = s.limit; strict = s.strict; place = s.place }

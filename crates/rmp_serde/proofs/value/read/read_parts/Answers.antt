@@ -50,8 +50,8 @@ parts-preserved-in-Ok-enter g c = (
   rw c.in-Ok-enter.ensures.same
       (wants_entered g.R.Source c.args.count c.args.de.now c.parts.de c.parts.room c.parts.wanted c.parts.outer.items
       (heads_of c.args.made.now) (heads_of c.parts.made) c.parts.invariant.0 c.deserialize_head.new.self (omega (arith, c.if-wanted-eq0.false))
-      (c.in-Ok.ensures.ok.marker, c.in-Ok.head) c.in-Ok.ensures.ok.begun c.in-Ok.ensures.ready c.in-Some-parts_in.parts.0 c.in-Some-parts_in.parts.1 _
-      c.in-Ok-enter.now c.enter.new.outer.items _ refl c.in-Some-parts_in.ensures c.in-Ok-enter.ensures.wanted c.in-Ok-enter.ensures.deep
+      (c.in-Ok.ensures.ok.marker, c.in-Ok.head) c.in-Ok.ensures.ok.begun c.in-Ok.ensures.ready c.in-Some-as_parts.parts.0 c.in-Some-as_parts.parts.1 _
+      c.in-Ok-enter.now c.enter.new.outer.items _ refl c.in-Some-as_parts.ensures c.in-Ok-enter.ensures.wanted c.in-Ok-enter.ensures.deep
       c.in-Ok-enter.ensures.told),
   c.in-Ok-enter.ensures.within,
 )
@@ -60,15 +60,15 @@ pub returns-in-Err-enter-clause-law : goal.returns-in-Err-enter-clause-law
 returns-in-Err-enter-clause-law g c = rw c.in-Err-enter.ensures.failed
     (unentered_refused g.R.Source c.args.count c.args.de.now c.parts.de c.parts.room c.parts.wanted c.parts.outer.items (heads_of c.args.made.now)
     (heads_of c.parts.made) c.parts.invariant.0 c.deserialize_head.new.self (omega (arith, c.if-wanted-eq0.false))
-    (c.in-Ok.ensures.ok.marker, c.in-Ok.head) c.in-Ok.ensures.ok.begun c.in-Ok.ensures.ready c.in-Some-parts_in.parts.0 c.in-Some-parts_in.parts.1
-    c.in-Err-enter.e _ c.in-Some-parts_in.ensures c.in-Err-enter.ensures.err)
+    (c.in-Ok.ensures.ok.marker, c.in-Ok.head) c.in-Ok.ensures.ok.begun c.in-Ok.ensures.ready c.in-Some-as_parts.parts.0 c.in-Some-as_parts.parts.1
+    c.in-Err-enter.e _ c.in-Some-as_parts.ensures c.in-Err-enter.ensures.err)
 
 pub returns-in-Err-enter-clause-refusal : goal.returns-in-Err-enter-clause-refusal
 returns-in-Err-enter-clause-refusal g c = rw c.in-Err-enter.ensures.failed
     (unentered_wrong g.R.Source c.args.count c.args.de.now c.parts.de c.parts.room c.parts.wanted c.parts.outer.items (heads_of c.args.made.now)
     (heads_of c.parts.made) c.parts.invariant.0 c.deserialize_head.new.self (omega (arith, c.if-wanted-eq0.false))
-    (c.in-Ok.ensures.ok.marker, c.in-Ok.head) c.in-Ok.ensures.ok.begun c.in-Ok.ensures.ready c.in-Some-parts_in.parts.0 c.in-Some-parts_in.parts.1
-    c.in-Err-enter.e c.in-Some-parts_in.ensures c.in-Err-enter.ensures.err)
+    (c.in-Ok.ensures.ok.marker, c.in-Ok.head) c.in-Ok.ensures.ok.begun c.in-Ok.ensures.ready c.in-Some-as_parts.parts.0 c.in-Some-as_parts.parts.1
+    c.in-Err-enter.e c.in-Some-as_parts.ensures c.in-Err-enter.ensures.err)
 
 pub read_leaf-requires-clause-fits : goal.read_leaf-requires-clause-fits
 read_leaf-requires-clause-fits g c = fits_as c.parts.de.strict c.in-Ok.head _ c.in-Ok.ensures.ok.begun.ok.is_head
@@ -80,7 +80,7 @@ pub parts-preserved : goal.parts-preserved
 parts-preserved g c = (
   wants_leaf g.R.Source c.args.count c.args.de.now c.parts.de c.parts.room c.parts.wanted c.parts.outer.items
       (heads_of c.args.made.now) (heads_of c.parts.made) c.parts.invariant.0 c.deserialize_head.new.self (omega (arith, c.if-wanted-eq0.false))
-      (c.in-Ok.ensures.ok.marker, c.in-Ok.head) c.in-Ok.ensures.ok.begun c.in-Ok.ensures.ready c.read_leaf.new.de _ _ refl c.in-None-parts_in.ensures
+      (c.in-Ok.ensures.ok.marker, c.in-Ok.head) c.in-Ok.ensures.ok.begun c.in-Ok.ensures.ready c.read_leaf.new.de _ _ refl c.in-None-as_parts.ensures
       c.in-Ok-read_leaf.ensures.ok,
   c.in-Ok-read_leaf.ensures.within,
 )
@@ -110,10 +110,10 @@ returns-in-Err-clause-refusal g c = λ _. none_wrong g.R.Source c.args.count c.a
     c.in-Err.ensures.err
 
 pub enter-requires-clause-parts : goal.enter-requires-clause-parts
-enter-requires-clause-parts g c = c.in-Some-parts_in.ensures
+enter-requires-clause-parts g c = c.in-Some-as_parts.ensures
 
 pub enter-requires-clause-within : goal.enter-requires-clause-within
 enter-requires-clause-within g c = c.parts.invariant.1
 
 pub read_leaf-requires-clause-leaf : goal.read_leaf-requires-clause-leaf
-read_leaf-requires-clause-leaf g c = c.in-None-parts_in.ensures
+read_leaf-requires-clause-leaf g c = c.in-None-as_parts.ensures

@@ -3,7 +3,7 @@ use Rattle.rmp_serde.specs.Flat.{heads_of, IsWithin}
 use Rattle.rmp_serde.proofs.ReadLoop.{Wants}
 use Rattle.rmp_serde.proofs.value.read.read_parts.Given as goal
 
--- what was taken so far leads to what is wanted, and content stands in the buffer
+-- what was consumed so far leads to what remains, and content is in the buffer
 abbrev pub invariant-parts : goal.invariant-parts
 invariant-parts g l = Wants g.R.Source l.count l.fn.de l.de l.room l.wanted l.outer.items (heads_of l.fn.made) (heads_of l.made) × IsWithin l.made
 

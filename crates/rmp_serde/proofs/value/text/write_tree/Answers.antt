@@ -20,7 +20,7 @@ loop-last-smaller-in_ok-begin-in-Some-next g c = turn_smaller c.pop.new.self.ite
 pub loop-last-preserved-in_ok-begin-in-Some-next : goal.loop-last-preserved-in_ok-begin-in-Some-next
 loop-last-preserved-in_ok-begin-in-Some-next g c = λ plain.
     let before = c.loop-last.invariant plain in
-    let signed = has_written_of_eq _ _ _ _ _ c.text.ensures (c.in_ok-write_str-in-Some-next.ensures.writes before.written.plain refl) in
+    let signed = c.in_ok-write-in-Some-next.ensures.writes before.written.plain refl in
     turn_put _ _ _ _ _ _ c.pop.new.self.items c.in-Some.last _ (tree c.in-Some-next.part) before c.in-Some.ensures.items
     c.in-Some-next.ensures.steps refl c.next-last.ensures signed c.in_ok-put_last-in-Some-next.ensures.last
     (c.in_ok-begin-in-Some-next.ensures.text signed.plain refl)

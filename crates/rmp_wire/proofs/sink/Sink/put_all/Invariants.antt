@@ -1,4 +1,4 @@
--- What was put so far is the front of the piece, and no fault was counted.
+-- What was written so far is the front of the piece, and no fault was counted.
 use Rattle.std.proofs.Common.{length, ◌-◌, ◌≡◌, ◌≤◌, take}
 use Rattle.std.specs.Io.KnownBytes.{Appends}
 use Rattle.rmp_wire.proofs.sink.Sink.put_all.Given as goal

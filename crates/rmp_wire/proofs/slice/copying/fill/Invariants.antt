@@ -1,4 +1,4 @@
--- What was taken so far lies in the vector.
+-- What was consumed so far is in the vector.
 use Rattle.std.proofs.Common.{◌≡◌, ◌-◌, ◌≤◌, length}
 use Rattle.std.specs.Io.KnownBytes.{Consumes}
 use Rattle.rmp_wire.proofs.slice.copying.fill.Given as goal

@@ -1,9 +1,10 @@
--- What was pulled is a front of the piece: of so many bytes as the source says, which the room bounds.
+-- What was pulled is the front of the piece: the number of bytes that the source returned, at most the room.
 use Rattle.std.proofs.Common.{◌≡◌, ◌∙◌, sym, ℕ, ◌≤◌, List, [], ◌++◌, length, take, arith}
 use Rattle.std.proofs.lemmas.List.{length-take-le, length-append}
 use Rattle.std.proofs.KnownBytes.{Consumes-nil, Consumes-kept}
 use Rattle.rmp_wire.proofs.Copying.{pulled}
 use Rattle.rmp_wire.proofs.Sources.{short_at_end}
+use Rattle.rmp_wire.proofs.Told.{next_differs}
 use Rattle.rmp_wire.proofs.slice.copying.pull_piece.Goals as goal
 
 le_append : (n : ℕ) (a b : List ℕ) → n ≤ length a → n ≤ length (a ++ b)
@@ -38,7 +39,7 @@ returns-in-Err-extend_from_slice-clause-lost g c =
     (take c.in-Ok.n c.pull.new.buf, omega (arith, c.in-Ok.ensures.bound), c.in-Ok.ensures.bytes)
 
 pub returns-in-Err-clause-err : goal.returns-in-Err-clause-err
-returns-in-Err-clause-err g c = λ same. absurd (c.in-Err.ensures.fault same)
+returns-in-Err-clause-err g c = λ same. absurd (next_differs _ _ c.in-Err.ensures.fault same)
 
 pub returns-in-Err-clause-lost : goal.returns-in-Err-clause-lost
 returns-in-Err-clause-lost g c = ([], omega arith, Consumes-kept _ _ _ [] (Consumes-nil _) c.in-Err.ensures.kept)

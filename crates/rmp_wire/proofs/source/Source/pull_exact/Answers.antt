@@ -28,7 +28,8 @@ returns-in-Ok-eq0-clause-bytes g c =
       ok = tt;
       sound = tt;
       err = stopped_at_end _ _ _ (take c.loop-at.at c.loop-at.buf) _ _ _ _ c.loop-at.invariant.taken (search rules)
-          (c.in-Ok-eq0.ensures.end c.in-Ok-eq0.field-0-test (search rules)) (rw c.in-Ok-eq0.field-0-test at c.in-Ok-eq0.ensures.bytes) c.from.ensures.0;
+          (c.in-Ok-eq0.ensures.end c.in-Ok-eq0.field-0-test (search rules)) (rw c.in-Ok-eq0.field-0-test at c.in-Ok-eq0.ensures.bytes)
+          (c.in-Ok-eq0.ensures.sound ∙ c.loop-at.invariant.faults) c.from.ensures.0;
     }
 
 pub returns-clause-bytes : goal.returns-clause-bytes

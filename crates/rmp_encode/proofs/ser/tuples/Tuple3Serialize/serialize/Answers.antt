@@ -3,7 +3,7 @@ use Rattle.std.proofs.lemmas.Result.{err_from_is_err_and}
 use Rattle.rmp_encode.specs.Ser.{settings_of}
 use Rattle.rmp_encode.specs.Trees.{forces_all}
 use Rattle.rmp_encode.proofs.Going.{unopened}
-use Rattle.rmp_encode.proofs.Parts.{rests_at, part_or, part_takes, or_front, or_one_of}
+use Rattle.rmp_encode.proofs.Parts.{rests_at, part_or, part_takes, or_front}
 use Rattle.rmp_encode.proofs.ser.tuples.Tuple3Serialize.serialize.Goals as goal
 
 pub returns-in_err-tup-clause-writes : goal.returns-in_err-tup-clause-writes
@@ -11,25 +11,15 @@ returns-in_err-tup-clause-writes g c =
     let p = err_from_is_err_and c.from_residual.result c.from_residual.ensures.1 in
     rw (p.1, p.2) (part_or g.W.Sink _ (unopened g.W.Sink _ _ _ c.args.se.now _ _ _ _ c.in_err-tup.was c.serialize_tuple.follows.holds-at-none refl))
 
-pub returns-in_err-two-clause-writes : goal.returns-in_err-two-clause-writes
-returns-in_err-two-clause-writes g c =
-    let p = err_from_is_err_and c.from_residual-in_err-two.result c.from_residual-in_err-two.ensures.1 in
+pub returns-in_err-three-clause-writes : goal.returns-in_err-three-clause-writes
+returns-in_err-three-clause-writes g c =
+    let p = err_from_is_err_and c.from_residual-in_err-three.result c.from_residual-in_err-three.ensures.1 in
     rw (p.1, p.2) (part_takes g.W.Sink _ (or_front (forces_all (settings_of c.args.se.now).bytes) g.W.Sink.takes_memory
-    (g.E1.Serialize.takes_memory (settings_of c.args.se.now) ∷ (g.E2.Serialize.takes_memory (settings_of c.args.se.now) ∷ []))
-    (g.E3.Serialize.takes_memory (settings_of c.args.se.now) ∷ []))
-    (rests_at g.W.Sink (search rules) (c.in_err-two.ensures.writes c.args.se.now _ _ (c.in_ok-tup.ensures.opened _ refl))))
-
-pub returns-in_err-serialize_element-clause-writes : goal.returns-in_err-serialize_element-clause-writes
-returns-in_err-serialize_element-clause-writes g c =
-    let p = err_from_is_err_and c.from_residual-in_err-serialize_element.result c.from_residual-in_err-serialize_element.ensures.1 in
-    rw (p.1, p.2) (part_takes g.W.Sink _ (or_one_of (forces_all (settings_of c.args.se.now).bytes) g.W.Sink.takes_memory
     (g.E1.Serialize.takes_memory (settings_of c.args.se.now)
-    ∷ (g.E2.Serialize.takes_memory (settings_of c.args.se.now) ∷ (g.E3.Serialize.takes_memory (settings_of c.args.se.now) ∷ []))) 2)
-    (rests_at g.W.Sink (search rules) (c.in_err-serialize_element.ensures.writes c.args.se.now _ _
-    (c.in_ok-two.ensures.writes _ _ _ (c.in_ok-tup.ensures.opened _ refl)))))
+    ∷ (g.E2.Serialize.takes_memory (settings_of c.args.se.now) ∷ (g.E3.Serialize.takes_memory (settings_of c.args.se.now) ∷ []))) [])
+    (rests_at g.W.Sink (search rules) (c.in_err-three.ensures.writes c.args.se.now _ _ (c.in_ok-tup.ensures.opened _ refl))))
 
 pub returns-clause-writes : goal.returns-clause-writes
 returns-clause-writes g c =
     part_or g.W.Sink _ (rests_at g.W.Sink (search rules)
-    (c.end.ensures.writes c.args.se.now _ (c.in_ok-serialize_element.ensures.writes _ _ _
-    (c.in_ok-two.ensures.writes _ _ _ (c.in_ok-tup.ensures.opened _ refl)))))
+    (c.end.ensures.writes c.args.se.now _ (c.in_ok-three.ensures.writes _ _ _ (c.in_ok-tup.ensures.opened _ refl))))

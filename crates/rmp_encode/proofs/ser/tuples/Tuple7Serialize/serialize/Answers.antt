@@ -3,7 +3,7 @@ use Rattle.std.proofs.lemmas.Result.{err_from_is_err_and}
 use Rattle.rmp_encode.specs.Ser.{settings_of}
 use Rattle.rmp_encode.specs.Trees.{forces_all}
 use Rattle.rmp_encode.proofs.Going.{unopened}
-use Rattle.rmp_encode.proofs.Parts.{rests_at, part_or, part_takes, or_front, or_back, or_one_of}
+use Rattle.rmp_encode.proofs.Parts.{rests_at, part_or, part_takes, or_front, or_one_of}
 use Rattle.rmp_encode.proofs.ser.tuples.Tuple7Serialize.serialize.Goals as goal
 
 pub returns-in_err-tup-clause-writes : goal.returns-in_err-tup-clause-writes
@@ -22,20 +22,6 @@ returns-in_err-four-clause-writes g c =
     ∷ (g.E6.Serialize.takes_memory (settings_of c.args.se.now) ∷ (g.E7.Serialize.takes_memory (settings_of c.args.se.now) ∷ []))))
     (rests_at g.W.Sink (search rules) (c.in_err-four.ensures.writes c.args.se.now _ _ (c.in_ok-tup.ensures.opened _ refl))))
 
-pub returns-in_err-two-clause-writes : goal.returns-in_err-two-clause-writes
-returns-in_err-two-clause-writes g c =
-    let p = err_from_is_err_and c.from_residual-in_err-two.result c.from_residual-in_err-two.ensures.1 in
-    rw (p.1, p.2) (part_takes g.W.Sink _ (λ k. or_back (forces_all (settings_of c.args.se.now).bytes) g.W.Sink.takes_memory
-    (g.E1.Serialize.takes_memory (settings_of c.args.se.now)
-    ∷ (g.E2.Serialize.takes_memory (settings_of c.args.se.now)
-    ∷ (g.E3.Serialize.takes_memory (settings_of c.args.se.now) ∷ (g.E4.Serialize.takes_memory (settings_of c.args.se.now) ∷ []))))
-    (g.E5.Serialize.takes_memory (settings_of c.args.se.now)
-    ∷ (g.E6.Serialize.takes_memory (settings_of c.args.se.now) ∷ (g.E7.Serialize.takes_memory (settings_of c.args.se.now) ∷ [])))
-    (or_front (forces_all (settings_of c.args.se.now).bytes) g.W.Sink.takes_memory
-    (g.E5.Serialize.takes_memory (settings_of c.args.se.now) ∷ (g.E6.Serialize.takes_memory (settings_of c.args.se.now) ∷ []))
-    (g.E7.Serialize.takes_memory (settings_of c.args.se.now) ∷ []) k))
-    (rests_at g.W.Sink (search rules) (c.in_err-two.ensures.writes c.args.se.now _ _ (c.in_ok-four.ensures.writes _ _ _ (c.in_ok-tup.ensures.opened _ refl)))))
-
 pub returns-in_err-serialize_element-clause-writes : goal.returns-in_err-serialize_element-clause-writes
 returns-in_err-serialize_element-clause-writes g c =
     let p = err_from_is_err_and c.from_residual-in_err-serialize_element.result c.from_residual-in_err-serialize_element.ensures.1 in
@@ -45,12 +31,40 @@ returns-in_err-serialize_element-clause-writes g c =
     ∷ (g.E3.Serialize.takes_memory (settings_of c.args.se.now)
     ∷ (g.E4.Serialize.takes_memory (settings_of c.args.se.now)
     ∷ (g.E5.Serialize.takes_memory (settings_of c.args.se.now)
-    ∷ (g.E6.Serialize.takes_memory (settings_of c.args.se.now) ∷ (g.E7.Serialize.takes_memory (settings_of c.args.se.now) ∷ []))))))) 6)
+    ∷ (g.E6.Serialize.takes_memory (settings_of c.args.se.now) ∷ (g.E7.Serialize.takes_memory (settings_of c.args.se.now) ∷ []))))))) 4)
     (rests_at g.W.Sink (search rules) (c.in_err-serialize_element.ensures.writes c.args.se.now _ _
-    (c.in_ok-two.ensures.writes _ _ _ (c.in_ok-four.ensures.writes _ _ _ (c.in_ok-tup.ensures.opened _ refl))))))
+    (c.in_ok-four.ensures.writes _ _ _ (c.in_ok-tup.ensures.opened _ refl)))))
+
+pub returns-in_err-serialize_element-2-clause-writes : goal.returns-in_err-serialize_element-2-clause-writes
+returns-in_err-serialize_element-2-clause-writes g c =
+    let p = err_from_is_err_and c.from_residual-in_err-serialize_element-2.result c.from_residual-in_err-serialize_element-2.ensures.1 in
+    rw (p.1, p.2) (part_takes g.W.Sink _ (or_one_of (forces_all (settings_of c.args.se.now).bytes) g.W.Sink.takes_memory
+    (g.E1.Serialize.takes_memory (settings_of c.args.se.now)
+    ∷ (g.E2.Serialize.takes_memory (settings_of c.args.se.now)
+    ∷ (g.E3.Serialize.takes_memory (settings_of c.args.se.now)
+    ∷ (g.E4.Serialize.takes_memory (settings_of c.args.se.now)
+    ∷ (g.E5.Serialize.takes_memory (settings_of c.args.se.now)
+    ∷ (g.E6.Serialize.takes_memory (settings_of c.args.se.now) ∷ (g.E7.Serialize.takes_memory (settings_of c.args.se.now) ∷ []))))))) 5)
+    (rests_at g.W.Sink (search rules) (c.in_err-serialize_element-2.ensures.writes c.args.se.now _ _
+    (c.in_ok-serialize_element.ensures.writes _ _ _ (c.in_ok-four.ensures.writes _ _ _ (c.in_ok-tup.ensures.opened _ refl))))))
+
+pub returns-in_err-serialize_element-3-clause-writes : goal.returns-in_err-serialize_element-3-clause-writes
+returns-in_err-serialize_element-3-clause-writes g c =
+    let p = err_from_is_err_and c.from_residual-in_err-serialize_element-3.result c.from_residual-in_err-serialize_element-3.ensures.1 in
+    rw (p.1, p.2) (part_takes g.W.Sink _ (or_one_of (forces_all (settings_of c.args.se.now).bytes) g.W.Sink.takes_memory
+    (g.E1.Serialize.takes_memory (settings_of c.args.se.now)
+    ∷ (g.E2.Serialize.takes_memory (settings_of c.args.se.now)
+    ∷ (g.E3.Serialize.takes_memory (settings_of c.args.se.now)
+    ∷ (g.E4.Serialize.takes_memory (settings_of c.args.se.now)
+    ∷ (g.E5.Serialize.takes_memory (settings_of c.args.se.now)
+    ∷ (g.E6.Serialize.takes_memory (settings_of c.args.se.now) ∷ (g.E7.Serialize.takes_memory (settings_of c.args.se.now) ∷ []))))))) 6)
+    (rests_at g.W.Sink (search rules) (c.in_err-serialize_element-3.ensures.writes c.args.se.now _ _
+    (c.in_ok-serialize_element-2.ensures.writes _ _ _ (c.in_ok-serialize_element.ensures.writes _ _ _
+    (c.in_ok-four.ensures.writes _ _ _ (c.in_ok-tup.ensures.opened _ refl)))))))
 
 pub returns-clause-writes : goal.returns-clause-writes
 returns-clause-writes g c =
     part_or g.W.Sink _ (rests_at g.W.Sink (search rules)
-    (c.end.ensures.writes c.args.se.now _ (c.in_ok-serialize_element.ensures.writes _ _ _
-    (c.in_ok-two.ensures.writes _ _ _ (c.in_ok-four.ensures.writes _ _ _ (c.in_ok-tup.ensures.opened _ refl))))))
+    (c.end.ensures.writes c.args.se.now _ (c.in_ok-serialize_element-3.ensures.writes _ _ _
+    (c.in_ok-serialize_element-2.ensures.writes _ _ _ (c.in_ok-serialize_element.ensures.writes _ _ _
+    (c.in_ok-four.ensures.writes _ _ _ (c.in_ok-tup.ensures.opened _ refl)))))))

@@ -1,6 +1,0 @@
-use Rattle.std.proofs.Common.{refl}
-use Rattle.rmp_decode.proofs.Leaves.{float32_leaf, leaf_read}
-use Rattle.rmp_decode.proofs.deserializer.Deserializer.deserialize_f32_bits.Goals as goal
-
-pub returns-in-Some-clause-law : goal.returns-in-Some-clause-law
-returns-in-Some-clause-law g c = leaf_read float32_leaf _ _ _ _ (_, _) c.in-Some.ensures.taken.begun _ _ _ refl refl refl

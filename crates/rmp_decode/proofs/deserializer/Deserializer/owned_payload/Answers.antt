@@ -1,0 +1,23 @@
+use Rattle.std.proofs.Common.{refl}
+use Rattle.rmp_decode.specs.Content.{IsRawHead, not_raw, never_refused}
+use Rattle.rmp_decode.specs.Kinds.{raw_head}
+use Rattle.rmp_decode.proofs.ContentErrors.{content_error, piece_ended, raw_len, raw_wanted}
+use Rattle.rmp_decode.proofs.Contents.{raw_content, content_read, content_short}
+use Rattle.rmp_decode.proofs.deserializer.Deserializer.owned_payload.Goals as goal
+
+pub returns-in-Ok-clause-law : goal.returns-in-Ok-clause-law
+returns-in-Ok-clause-law g c = λ old m h.
+    let o = c.in-Ok.ensures.ok in
+    content_read (raw_content c.args.is_text) g.R.Source _ old c.args.self.now _ (m, _) h c.in-Ok.bytes.items c.args.len _ refl o.0 o.1 o.2 refl refl
+    c.in-Ok.ensures.sound (record { config = refl; room = refl; limit = refl; strict = refl; place = c.in-Ok.ensures.place }) refl
+
+pub returns-in-Err-clause-law : goal.returns-in-Err-clause-law
+returns-in-Err-clause-law g c = λ old m h.
+    content_short (raw_content c.args.is_text) g.R.Source _ old c.args.self.now _ (m, raw_head c.args.is_text c.args.len) h c.args.len _ refl
+    c.in-Err.ensures.err h.failed (record { config = refl; room = refl; limit = refl; strict = refl; place = c.in-Err.ensures.place })
+
+pub returns-in-Err-clause-exact : goal.returns-in-Err-clause-exact
+returns-in-Err-clause-exact g c = λ old m h.
+    content_error g.R.Source IsRawHead not_raw never_refused old c.args.self.now _ (m, raw_head c.args.is_text c.args.len)
+    (raw_head c.args.is_text c.args.len) c.args.len _ h refl (raw_len c.args.is_text c.args.len) (raw_wanted c.args.is_text c.args.len)
+    (piece_ended _ _ _ _ _ _ c.in-Err.ensures.err c.in-Err.ensures.end)

@@ -1,0 +1,76 @@
+use Rattle.std.proofs.Common.{◌∙◌, sym, subst, refl, Result, Ok, Err, IfErr}
+use Rattle.rmp_wire.specs.declared.head.Head.TheVariants.{Array}
+use Rattle.rmp_decode.specs.Content.{IsBufferHead, not_raw, not_buffer}
+use Rattle.rmp_decode.specs.Kinds.{raw_head}
+use Rattle.rmp_decode.specs.Law.{ReadsHead}
+use Rattle.rmp_decode.specs.declared.error.Error.{Error}
+use Rattle.rmp_decode.proofs.BufferErrors.{list_none, list_other, list_behind, raw_no_list}
+use Rattle.rmp_decode.proofs.Buffers.{raw_buffer, no_buffer}
+use Rattle.rmp_decode.proofs.ContentErrors.{content_error, content_other, content_none, content_apart, piece_ended, raw_len, buffer_wanted, no_buffer_head}
+use Rattle.rmp_decode.proofs.Contents.{raw_content, content_read, content_short}
+use Rattle.rmp_decode.proofs.Laws.{refused_none, refused_head}
+use Rattle.rmp_decode.proofs.deserializer.Deserializer.slow_byte_buf.Goals as goal
+
+pub returns-in-Ok-owned-clause-law : goal.returns-in-Ok-owned-clause-law
+returns-in-Ok-owned-clause-law g c =
+    let o = c.in-Ok-owned.ensures.ok in
+    content_read (raw_content c.in-Some.field-0-0) g.R.Source _ c.args.self.now c.head.new.self _ (c.in-Ok.field-0-0, c.in-Ok.head) c.in-Ok.ensures
+    c.in-Ok-owned.bytes.items c.in-Some.len _ c.in-Some.ensures o.0 o.1 o.2 refl refl c.in-Ok-owned.ensures.sound
+    (record { config = refl; room = refl; limit = refl; strict = refl; place = c.in-Ok-owned.ensures.place })
+    (raw_buffer c.in-Some.field-0-0 c.in-Ok-owned.bytes.items)
+
+pub returns-in-Err-owned-clause-law : goal.returns-in-Err-owned-clause-law
+returns-in-Err-owned-clause-law g c =
+    content_short (raw_content c.in-Some.field-0-0) g.R.Source _ c.args.self.now c.head.new.self _ (c.in-Ok.field-0-0, c.in-Ok.head) c.in-Ok.ensures
+    c.in-Some.len _ c.in-Some.ensures c.in-Err-owned.ensures.err c.in-Ok.ensures.failed
+    (record { config = refl; room = refl; limit = refl; strict = refl; place = c.in-Err-owned.ensures.place })
+
+pub returns-in-None-as_array-clause-law : goal.returns-in-None-as_array-clause-law
+returns-in-None-as_array-clause-law g c = refused_head g.R.Source _ c.args.self.now _ (c.in-Ok.field-0-0, c.in-Ok.head) _ c.in-Ok.ensures
+    (λ m r i. no_buffer m r.0.items c.in-Ok.head r.1 i c.in-None.ensures c.in-None-as_array.ensures)
+
+pub returns-in-Err-clause-law : goal.returns-in-Err-clause-law
+returns-in-Err-clause-law g c = refused_none _ _ _ _ _ c.in-Err.ensures
+
+pub returns-in-Some-as_array-clause-law : goal.returns-in-Some-as_array-clause-law
+returns-in-Some-as_array-clause-law g c = c.byte_list.ensures.law c.args.self.now c.in-Ok.field-0-0
+    (subst (λ h. ReadsHead g.R.Source c.args.self.now c.head.new.self (Ok (c.in-Ok.field-0-0, h))) c.in-Some-as_array.ensures c.in-Ok.ensures)
+
+pub returns-in-Err-owned-clause-exact : goal.returns-in-Err-owned-clause-exact
+returns-in-Err-owned-clause-exact g c = λ _.
+    content_error g.R.Source IsBufferHead not_raw not_buffer c.args.self.now c.head.new.self _ (c.in-Ok.field-0-0, c.in-Ok.head)
+    (raw_head c.in-Some.field-0-0 c.in-Some.len) c.in-Some.len _ c.in-Ok.ensures c.in-Some.ensures (raw_len c.in-Some.field-0-0 c.in-Some.len)
+    (buffer_wanted c.in-Some.field-0-0 c.in-Some.len) (piece_ended _ _ _ _ _ _ c.in-Err-owned.ensures.err c.in-Err-owned.ensures.end)
+
+pub returns-in-None-as_array-clause-exact : goal.returns-in-None-as_array-clause-exact
+returns-in-None-as_array-clause-exact g c = λ _. content_other _ IsBufferHead not_raw not_buffer _ _ _ c.in-Ok.field-0-0 c.in-Ok.head _
+    c.in-Ok.ensures.marked (no_buffer_head c.in-Ok.head c.in-None.ensures c.in-None-as_array.ensures) refl
+
+under_list : {A : Type 0} (r : Result A Error) {P : Error → Type 0} → ((e : Error) → P e) → IfErr r P
+under_list (Ok a) f = tt
+under_list (Err e) f = f e
+
+pub returns-in-Some-as_array-clause-exact : goal.returns-in-Some-as_array-clause-exact
+returns-in-Some-as_array-clause-exact g c = λ _. under_list c.byte_list.result
+    (λ e. content_apart _ IsBufferHead not_raw not_buffer _ _ _ c.in-Ok.field-0-0 c.in-Ok.head (Array c.in-Some-as_array.len) e c.in-Ok.ensures.marked
+    c.in-Some-as_array.ensures refl tt (λ s. tt))
+
+pub returns-in-Err-clause-exact : goal.returns-in-Err-clause-exact
+returns-in-Err-clause-exact g c = λ o. content_none _ IsBufferHead not_raw not_buffer _ _ _ _ (c.in-Err.ensures.ends o)
+
+-- ---- a list
+
+pub returns-in-Err-owned-clause-list : goal.returns-in-Err-owned-clause-list
+returns-in-Err-owned-clause-list g c = λ _. list_other g.R.Source c.args.self.now _ _ c.in-Ok.field-0-0 c.in-Ok.head c.in-Ok.ensures.marked
+    (λ n e. raw_no_list c.in-Some.field-0-0 c.in-Some.len n (sym c.in-Some.ensures ∙ e))
+
+pub returns-in-Some-as_array-clause-list : goal.returns-in-Some-as_array-clause-list
+returns-in-Some-as_array-clause-list g c = λ _. list_behind g.R.Source c.args.self.now c.head.new.self _ c.in-Ok.field-0-0 c.in-Ok.head c.in-Some-as_array.len
+    c.byte_list.result c.in-Ok.ensures c.in-Some-as_array.ensures c.byte_list.ensures.deep c.byte_list.ensures.items
+
+pub returns-in-None-as_array-clause-list : goal.returns-in-None-as_array-clause-list
+returns-in-None-as_array-clause-list g c = λ _. list_other g.R.Source c.args.self.now _ _ c.in-Ok.field-0-0 c.in-Ok.head c.in-Ok.ensures.marked
+    c.in-None-as_array.ensures
+
+pub returns-in-Err-clause-list : goal.returns-in-Err-clause-list
+returns-in-Err-clause-list g c = λ o. list_none g.R.Source c.args.self.now _ _ (c.in-Err.ensures.ends o)

@@ -1,9 +1,0 @@
-use Rattle.std.proofs.Common.{refl, rules}
-use Rattle.rmp_decode.proofs.Fronts.{any_stands, front_taken}
-use Rattle.rmp_decode.proofs.deserializer.Deserializer.unsigned_ahead.Goals as goal
-
-pub returns-then-skip-clause-taken : goal.returns-then-skip-clause-taken
-returns-then-skip-clause-taken g c =
-    front_taken g.R.Source _ _ c.in-Some.len _ _ (search rules) (search rules) refl (search rules) refl refl refl refl c.front.ensures.bytes
-    (any_stands c.args.self.now.strict _ _ _ (search rules) c.in-Some.ensures.any) (c.skip.ensures.bytes c.if-skip.true)
-    (c.skip.ensures.sound c.if-skip.true) (c.skip.ensures.place c.if-skip.true)

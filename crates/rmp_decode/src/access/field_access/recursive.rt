@@ -1,0 +1,98 @@
+//! The fields of a recursive struct.
+ghost use Rattle.std.specs.Prelude.{◌≡◌, ◌<◌, Bool, true, false, Some, None, IfSome, IfNone, IfOk, IfErr, OnErr, MatchResult};
+ghost use Rattle.rmp_decode.specs.FieldAccess.{IsStructOpen, SameStruct, AtField, TakesPlace, NoPlace, FailsPlace};
+ghost use Rattle.rmp_decode.specs.FieldAccess.{fields_left, is_of_map, is_struct_sound, struct_lender, unsound};
+ghost use Rattle.rmp_decode.specs.Law.{IsFailedBefore};
+ghost use Rattle.rmp_decode.specs.State.{config_of};
+
+use super::FieldAccess;
+use crate::content::Slices;
+use crate::error::Error;
+use crate::text::Text;
+use rmp_wire::config::SerializerConfig;
+use rmp_wire::{ReadSlice, Source};
+
+/// How the places of fields are read. A function that calls itself may have no bound that names a lifetime, so it has this one in
+/// place of `ReadSlice`, and is called with `Slices`.
+pub trait ReadPlaces<R: Source> {
+    // Whether text is lent.
+    ghost lends: { Bool };
+
+    /// The place of the next field among the names, if there is one.
+    ///
+    /// # Errors
+    /// As `FieldAccess::next_field`.
+    fn next_field<'x, C: SerializerConfig>(
+        fields: &mut FieldAccess<'x, R, C>,
+    ) -> Result<Option<usize>, Error>
+        requires { AtField fields.old }
+        ensures same_reference { fields.new.de.ghost_name ≡ fields.old.de.ghost_name }
+        ensures same { SameStruct fields.old fields.new }
+        ensures none { IsStructOpen fields.old → IfOk result (λ o. IfNone o (NoPlace R.Source fields.old fields.new)) }
+        ensures some { IsStructOpen fields.old → IfOk result (λ o. IfSome o (TakesPlace R.Source fields.old fields.new)) }
+        ensures err { IsStructOpen fields.old → IfErr result
+            (FailsPlace R.Source (C.human (config_of (struct_lender fields.old))) lends fields.old fields.new) }
+        ensures fewer { IfOk result (λ o. IfSome o (λ _. fields_left fields.new < fields_left fields.old)) }
+        ensures failed { OnErr result (is_struct_sound fields.new ≡ false) }
+        ensures before { is_struct_sound fields.old ≡ false → MatchResult result (λ _. ⊥) IsFailedBefore × (fields.new ≡ fields.old) };
+}
+
+impl<'de, R: ReadSlice<'de>> ReadPlaces<R> for Slices<'de> {
+    ghost lends = { R.lends };
+
+    #[inline(always)]
+    fn next_field<'x, C: SerializerConfig>(
+        fields: &mut FieldAccess<'x, R, C>,
+    ) -> Result<Option<usize>, Error> {
+        fields.next_field()
+    }
+}
+
+impl<'x, R: Source, C: SerializerConfig> FieldAccess<'x, R, C> {
+    /// Reads which field comes next, as `next_field` does. `P` says how it is read: a function that calls itself may have no bound that names a
+    /// lifetime, and is called with `Slices`.
+    ///
+    /// # Errors
+    /// As `next_field`.
+    #[inline(always)]
+    pub fn next_field_by<P: ReadPlaces<R>>(&mut self) -> Result<Option<usize>, Error>
+        requires { AtField self.old }
+        ensures same_reference { self.new.de.ghost_name ≡ self.old.de.ghost_name }
+        ensures same { SameStruct self.old self.new }
+        ensures none { IsStructOpen self.old → IfOk result (λ o. IfNone o (NoPlace R.Source self.old self.new)) }
+        ensures some { IsStructOpen self.old → IfOk result (λ o. IfSome o (TakesPlace R.Source self.old self.new)) }
+        ensures err { IsStructOpen self.old → IfErr result
+            (FailsPlace R.Source (C.human (config_of (struct_lender self.old))) P.lends self.old self.new) }
+        ensures fewer { IfOk result (λ o. IfSome o (λ _. fields_left self.new < fields_left self.old)) }
+        ensures failed { OnErr result (is_struct_sound self.new ≡ false) }
+        ensures before { is_struct_sound self.old ≡ false → MatchResult result (λ _. ⊥) IsFailedBefore × (self.new ≡ self.old) }
+    {
+        P::next_field(self)
+    }
+
+    /// The value of a field that is missing, as `missing_field` says it. `absent` is that value in a map.
+    ///
+    /// # Errors
+    /// `Syntax("missing field")` where there is none.
+    #[inline(always)]
+    pub fn missing_field_or<T: Drop>(&mut self, absent: Option<T>) -> Result<T, Error>
+        ensures same_reference { self.new.de.ghost_name ≡ self.old.de.ghost_name }
+        ensures ok { IfOk result (λ v. (is_of_map self.old ≡ true) × (absent ≡ Some v) × (self.new ≡ self.old)) }
+        ensures err { is_struct_sound self.old ≡ true → IfErr result (λ e. (e ≡ Error.Syntax Text.MissingField)
+            × (is_of_map self.old ≡ true → absent ≡ None) × (self.new ≡ unsound self.old)) }
+        ensures failed { OnErr result (is_struct_sound self.new ≡ false) }
+        ensures before { is_struct_sound self.old ≡ false → MatchResult result (λ _. ⊥) IsFailedBefore × (self.new ≡ self.old) }
+    {
+        if !self.sound {
+            return Err(Error::Uncategorized(Text::FailedBefore));
+        }
+        if self.is_map {
+            match absent {
+                Some(value) => return Ok(value),
+                None => {}
+            }
+        }
+        self.sound = false;
+        Err(Error::Syntax(Text::MissingField))
+    }
+}

@@ -1,0 +1,286 @@
+//! Opening lists, bytes, maps and structs: the head is consumed, and an access reads the parts.
+ghost use Rattle.std.specs.Prelude.{◌≡◌, ◌≤◌, length, IfOk, IfErr};
+ghost use Rattle.std.specs.Borrow.{sem, RestsIfErr};
+ghost use Rattle.rmp_decode.specs.contracts.deserializer.Deserializer.{the_row};
+ghost use Rattle.rmp_decode.specs.FieldAccess.{OpensStruct};
+ghost use Rattle.rmp_decode.specs.Fields.{TakesFieldsHead, FailsToOpenFields};
+ghost use Rattle.rmp_decode.specs.Maps.{OpensMap, TakesMapHead, FailsToOpenMap};
+ghost use Rattle.rmp_decode.specs.Names.{bytes_of};
+ghost use Rattle.rmp_decode.specs.Seq.{TakesSeqHead, Opens, FailsToOpen};
+
+use crate::access::field_access::FieldAccess;
+use crate::access::map::MapAccess;
+use crate::access::seq::{SeqAccess, inner_room};
+use crate::deserializer::Deserializer;
+use crate::deserializer::peek::{BinHead, ListHead, MapHead};
+use crate::error::Error;
+use crate::text::Text;
+use core::mem::replace_with;
+use rmp_wire::Source;
+use rmp_wire::config::SerializerConfig;
+
+impl<R: Source, C: SerializerConfig> Deserializer<R, C> {
+    // Consumes the head of a list or of bytes, out of line.
+    #[inline(never)]
+    fn slow_seq(&mut self) -> Result<(bool, u32), Error>
+        ensures { TakesSeqHead R.Source self.old self.new result }
+    {
+        if let Some(len) = self.take(BinHead) {
+            return Ok((true, len));
+        }
+        match self.head() {
+            Ok((_, head)) => match head.as_seq() {
+                Some((bytes, len)) => {
+                    if !bytes && self.room <= 1 {
+                        return Err(Error::DepthLimitExceeded);
+                    }
+                    Ok((bytes, len))
+                }
+                None => Err(Error::Syntax(Text::InvalidType)),
+            },
+            Err(e) => Err(e),
+        }
+    }
+
+    // Consumes the head of a list or of bytes: that of a short list by the fast path.
+    #[inline(always)]
+    pub(crate) fn open_tuple(&mut self) -> Result<(bool, u32), Error>
+        ensures { TakesSeqHead R.Source self.old self.new result }
+    {
+        match self.take_nested(ListHead) {
+            Some(len) => Ok((false, len)),
+            None => self.cold_seq(),
+        }
+    }
+
+    // Consumes the head of a list or of bytes: that of a short list by the fast path, and where bytes are as likely that of bytes too.
+    #[inline(always)]
+    pub(crate) fn open_row(&mut self, bytes: bool) -> Result<(bool, u32), Error>
+        ensures { TakesSeqHead R.Source self.old self.new result }
+    {
+        match self.take_nested(ListHead) {
+            Some(len) => Ok((false, len)),
+            None => {
+                if bytes {
+                    self.open_bytes()
+                } else {
+                    self.cold_seq()
+                }
+            }
+        }
+    }
+
+    // Consumes the head of bytes by the fast path, if it may have any width, and any other out of line.
+    #[inline(always)]
+    fn open_bytes(&mut self) -> Result<(bool, u32), Error>
+        ensures { TakesSeqHead R.Source self.old self.new result }
+    {
+        if self.strict {
+            return self.cold_seq();
+        }
+        match self.take(BinHead) {
+            Some(len) => Ok((true, len)),
+            None => self.cold_seq(),
+        }
+    }
+
+    // Consumes the head of a list or of bytes out of line, on a moved reader.
+    #[inline(always)]
+    fn cold_seq(&mut self) -> Result<(bool, u32), Error>
+        ensures { TakesSeqHead R.Source self.old self.new result }
+    {
+        replace_with(
+            self,
+            (),
+            |mut de: Deserializer<R, C>, _none: ()|
+                ensures { TakesSeqHead R.Source de result.0 result.1 }
+            {
+                let opened = de.slow_seq();
+                (de, opened)
+            },
+        )
+    }
+
+    /// Opens a list, or bytes as the list of their numbers.
+    ///
+    /// # Errors
+    /// `Syntax("invalid type")` for another kind, and `DepthLimitExceeded` for a list that would nest too deep.
+    #[inline(always)]
+    pub fn deserialize_seq(&mut self) -> Result<SeqAccess<'_, R, C>, Error>
+        ensures* refused { sem 𝓛 (RestsIfErr (the_row R.row C.row) self.entry (λ s. s.de.ghost_name) result
+            (λ last. IfErr result (FailsToOpen R.Source self.old last))) }
+        ensures same_reference { IfOk result (λ s. s.de.ghost_name ≡ self.entry.ghost_name) }
+        ensures opened { IfOk result (Opens R.Source self.old) }
+    {
+        let room = self.room;
+        match self.open_tuple() {
+            Ok((bytes, left)) => Ok(SeqAccess {
+                de: self,
+                left,
+                count: left,
+                inner: inner_room(room, bytes),
+                bytes,
+                sound: true,
+            }),
+            Err(e) => Err(e),
+        }
+    }
+
+    /// Opens a list, or bytes as the list of their numbers, for a tuple. The tuple's own reading says how many elements it
+    /// wants, so `len` isn't looked at.
+    ///
+    /// # Errors
+    /// As `deserialize_seq`.
+    #[inline(always)]
+    pub fn deserialize_tuple(&mut self, _len: usize) -> Result<SeqAccess<'_, R, C>, Error>
+        ensures* refused { sem 𝓛 (RestsIfErr (the_row R.row C.row) self.entry (λ s. s.de.ghost_name) result
+            (λ last. IfErr result (FailsToOpen R.Source self.old last))) }
+        ensures same_reference { IfOk result (λ s. s.de.ghost_name ≡ self.entry.ghost_name) }
+        ensures opened { IfOk result (Opens R.Source self.old) }
+    {
+        self.deserialize_seq()
+    }
+
+    /// Opens a list, or bytes as the list of their numbers, for a struct without names of fields. Its name isn't looked at.
+    ///
+    /// # Errors
+    /// As `deserialize_seq`.
+    #[inline(always)]
+    pub fn deserialize_tuple_struct(
+        &mut self,
+        _name: &str,
+        len: usize,
+    ) -> Result<SeqAccess<'_, R, C>, Error>
+        ensures* refused { sem 𝓛 (RestsIfErr (the_row R.row C.row) self.entry (λ s. s.de.ghost_name) result
+            (λ last. IfErr result (FailsToOpen R.Source self.old last))) }
+        ensures same_reference { IfOk result (λ s. s.de.ghost_name ≡ self.entry.ghost_name) }
+        ensures opened { IfOk result (Opens R.Source self.old) }
+    {
+        self.deserialize_tuple(len)
+    }
+
+    // Takes the head of a map.
+    #[inline(always)]
+    fn open_map(&mut self) -> Result<u32, Error>
+        ensures { TakesMapHead R.Source self.old self.new result }
+    {
+        match self.head() {
+            Ok((_, head)) => match head.as_map() {
+                Some(len) => {
+                    if self.room <= 1 {
+                        return Err(Error::DepthLimitExceeded);
+                    }
+                    Ok(len)
+                }
+                None => Err(Error::Syntax(Text::InvalidType)),
+            },
+            Err(e) => Err(e),
+        }
+    }
+
+    /// Opens a map.
+    ///
+    /// # Errors
+    /// `Syntax("invalid type")` for another kind, and `DepthLimitExceeded` for a map that would nest too deep.
+    #[inline(always)]
+    pub fn deserialize_map(&mut self) -> Result<MapAccess<'_, R, C>, Error>
+        ensures* refused { sem 𝓛 (RestsIfErr (the_row R.row C.row) self.entry (λ a. a.de.ghost_name) result
+            (λ last. IfErr result (FailsToOpenMap R.Source self.old last))) }
+        ensures same_reference { IfOk result (λ a. a.de.ghost_name ≡ self.entry.ghost_name) }
+        ensures opened { IfOk result (OpensMap R.Source self.old) }
+    {
+        let room = self.room;
+        match self.open_map() {
+            Ok(left) => Ok(MapAccess {
+                de: self,
+                left,
+                count: left,
+                inner: room.saturating_sub(1),
+                owes: false,
+                sound: true,
+            }),
+            Err(e) => Err(e),
+        }
+    }
+
+    // Consumes the head of a list, of bytes or of a map: that of a short list or a short map by the fast path.
+    #[inline(always)]
+    pub(crate) fn open_struct(&mut self) -> Result<(Option<bool>, u32), Error>
+        ensures { TakesFieldsHead R.Source self.old self.new result }
+    {
+        match self.take_nested(ListHead) {
+            Some(len) => Ok((Some(false), len)),
+            None => match self.take_nested(MapHead) {
+                Some(len) => Ok((None, len)),
+                None => self.slow_struct(),
+            },
+        }
+    }
+
+    // Consumes the head of a list, of bytes or of a map, out of line.
+    #[inline(never)]
+    fn slow_struct(&mut self) -> Result<(Option<bool>, u32), Error>
+        ensures { TakesFieldsHead R.Source self.old self.new result }
+    {
+        match self.head() {
+            Ok((_, head)) => match head.as_fields() {
+                Some((Some(true), len)) => Ok((Some(true), len)),
+                Some((kind, len)) => {
+                    if self.room <= 1 {
+                        return Err(Error::DepthLimitExceeded);
+                    }
+                    Ok((kind, len))
+                }
+                None => Err(Error::Syntax(Text::InvalidType)),
+            },
+            Err(e) => Err(e),
+        }
+    }
+
+    /// Opens the fields of a struct: a list, bytes as the list of their numbers, or a map from the names. The struct's name
+    /// isn't looked at. There may be 128 names.
+    ///
+    /// # Errors
+    /// `Syntax("invalid type")` for another kind, and `DepthLimitExceeded` for a list or a map that would nest too deep.
+    #[inline(always)]
+    pub fn deserialize_struct<'x>(
+        &'x mut self,
+        _name: &str,
+        names: &'x [&'x str],
+    ) -> Result<FieldAccess<'x, R, C>, Error>
+        requires few { length names.now ≤ 128 }
+        ensures* refused { sem 𝓛 (RestsIfErr (the_row R.row C.row) self.entry (λ a. a.de.ghost_name) result
+            (λ last. IfErr result (FailsToOpenFields R.Source self.old last))) }
+        ensures same_reference { IfOk result (λ a. a.de.ghost_name ≡ self.entry.ghost_name) }
+        ensures opened { IfOk result (OpensStruct R.Source (bytes_of names.now) self.old) }
+    {
+        let room = self.room;
+        match self.open_struct() {
+            Ok((Some(bytes), left)) => Ok(FieldAccess {
+                de: self,
+                names,
+                left,
+                count: left,
+                inner: inner_room(room, bytes),
+                is_map: false,
+                bytes,
+                owes: false,
+                sound: true,
+                met: 0,
+            }),
+            Ok((None, left)) => Ok(FieldAccess {
+                de: self,
+                names,
+                left,
+                count: left,
+                inner: room.saturating_sub(1),
+                is_map: true,
+                bytes: false,
+                owes: false,
+                sound: true,
+                met: 0,
+            }),
+            Err(e) => Err(e),
+        }
+    }
+}

@@ -1,0 +1,294 @@
+//! Messages that are their head: how each is read.
+ghost use Rattle.std.specs.Prelude.{◌≡◌, ◌≢◌, pos, refl, Ok, IfErr, IfSome, IfNone};
+ghost use Rattle.rmp_wire.specs.Msg.{Msg};
+ghost use Rattle.rmp_decode.specs.Exact.{RefusesHead};
+ghost use Rattle.rmp_decode.specs.Kinds.{not_nil, other_kind, other_number};
+ghost use Rattle.rmp_decode.specs.Law.{Lawful};
+ghost use Rattle.rmp_decode.specs.Read.{IsUnsigned, IsSigned};
+
+use crate::deserializer::peek::{F32Head, F64Head, NilHead, Peek, TruthHead, Unsigned, WithSign};
+use crate::deserializer::refusal::{other_kind, other_number};
+use crate::deserializer::{Deserializer, Kept};
+use crate::error::Error;
+use crate::text::Text;
+use core::mem::replace_with;
+use rmp_wire::config::SerializerConfig;
+use rmp_wire::{Head, Marker, Source};
+
+// A kind of message that is its head.
+pub(crate) trait Leaf: Peek {
+    ghost use Rattle.std.specs.Prelude.{◌≡◌, ◌≢◌, pos};
+    ghost use Rattle.rmp_wire.specs.Msg.{Msg};
+    ghost use Rattle.rmp_wire.specs.declared.head.Head.{Head};
+    ghost use Rattle.rmp_wire.specs.declared.head.Head.TheVariants.{Whole};
+    ghost use Rattle.rmp_wire.specs.declared.marker.Marker.{Marker};
+    ghost use Rattle.rmp_decode.specs.Leaves.{Holds, HoldsAs};
+    ghost use Rattle.rmp_decode.specs.declared.error.Error.{Error};
+    ghost use Rattle.rmp_decode.specs.declared.error.Error.TheVariants.{OutOfMemory};
+
+    // what is read of a tree
+    ghost reads: { Self → Msg → Self.Value → Type 0 };
+
+    // how another message is refused
+    ghost refused: { Marker → Head → Error };
+
+    // What a head holds.
+    fn held(self, head: Head) -> Option<Self::Value>
+        ensures { Holds (reads self) head result };
+
+    // What a number holds that was kept back as a byte. A kind of numbers compares it as it is: by `held`, an element of bytes costs more.
+    fn held_byte(self, byte: u8) -> Option<Self::Value>
+        ensures { Holds (reads self) (Whole (pos byte)) result };
+
+    // How a head is refused that holds nothing that is read.
+    fn refusal(marker: Marker, head: Head) -> Error
+        ensures same { result ≡ refused marker head }
+        ensures memory { result ≢ OutOfMemory };
+
+    // what was found where its head lay is read of it
+    ghost found: { (k : Self) (v : Self.Value) → Self.wants k v → HoldsAs (reads k) (Self.head k v) v };
+}
+
+impl<R: Source, C: SerializerConfig> Deserializer<R, C> {
+    // Reads a message that is its head: by the fast path where it is buffered, as a number that was kept back, or out of line.
+    #[inline(always)]
+    pub(crate) fn read_leaf<K: Leaf>(&mut self, kind: K) -> Result<K::Value, Error>
+        ensures law { Lawful R.Source (K.reads kind) self.old self.new result }
+        ensures exact { RefusesHead R.Source K.refused self.old self.new result }
+        ensures memory { IfErr result (λ e. e ≢ Error.OutOfMemory) }
+    {
+        match self.take(kind) {
+            Some(value) => {
+                self.failed = false;
+                Ok(value)
+            }
+            None => match self.offered(kind) {
+                Some(value) => Ok(value),
+                None => self.cold_leaf(kind),
+            },
+        }
+    }
+
+    // Takes a number that was kept back, where it is read as this kind. Returns `None` and consumes nothing otherwise.
+    #[inline(always)]
+    fn offered<K: Leaf>(&mut self, kind: K) -> Option<K::Value>
+        ensures law { IfSome result (λ v. Lawful R.Source (K.reads kind) self.old self.new (Ok v)) }
+        ensures kept { IfNone result (self.new ≡ self.old) }
+    {
+        if self.failed {
+            return None;
+        }
+        match self.kept {
+            Kept::Number(byte) => match kind.held_byte(byte) {
+                Some(value) => {
+                    self.kept = Kept::Nothing;
+                    Some(value)
+                }
+                None => None,
+            },
+            _ => None,
+        }
+    }
+
+    // The slow path of `read_leaf`, on a moved reader.
+    #[inline(always)]
+    fn cold_leaf<K: Leaf>(&mut self, kind: K) -> Result<K::Value, Error>
+        ensures law { Lawful R.Source (K.reads kind) self.old self.new result }
+        ensures exact { RefusesHead R.Source K.refused self.old self.new result }
+        ensures memory { IfErr result (λ e. e ≢ Error.OutOfMemory) }
+    {
+        replace_with(
+            self,
+            kind,
+            |mut de: Deserializer<R, C>, kind: K|
+                ensures law { Lawful R.Source (K.reads kind) de result.0 result.1 }
+                ensures exact { RefusesHead R.Source K.refused de result.0 result.1 }
+                ensures memory { IfErr result.1 (λ e. e ≢ Error.OutOfMemory) }
+            {
+                let read = de.slow_leaf(kind);
+                (de, read)
+            },
+        )
+    }
+
+    // The slow path of `read_leaf`.
+    #[inline(never)]
+    fn slow_leaf<K: Leaf>(&mut self, kind: K) -> Result<K::Value, Error>
+        ensures law { Lawful R.Source (K.reads kind) self.old self.new result }
+        ensures exact { RefusesHead R.Source K.refused self.old self.new result }
+        ensures memory { IfErr result (λ e. e ≢ Error.OutOfMemory) }
+    {
+        match self.head() {
+            Ok((marker, head)) => match kind.held(head) {
+                Some(value) => {
+                    self.failed = false;
+                    Ok(value)
+                }
+                None => Err(K::refusal(marker, head)),
+            },
+            Err(e) => Err(e),
+        }
+    }
+}
+
+impl Leaf for NilHead {
+    ghost reads = { λ _ m _. m ≡ Msg.nil };
+
+    ghost refused = { not_nil };
+
+    ghost found = { λ _ _ _. record { tree = Msg.nil; alone = refl; value = refl } };
+
+    #[inline(always)]
+    fn held(self, head: Head) -> Option<()> {
+        head.as_nil()
+    }
+
+    #[inline(always)]
+    fn held_byte(self, _byte: u8) -> Option<()> {
+        None
+    }
+
+    #[inline(always)]
+    fn refusal(_marker: Marker, _head: Head) -> Error {
+        Error::Syntax(Text::InvalidType)
+    }
+}
+
+impl Leaf for TruthHead {
+    ghost reads = { λ _ m t. m ≡ Msg.truth t };
+
+    ghost refused = { other_kind };
+
+    ghost found = { λ _ t _. record { tree = Msg.truth t; alone = refl; value = refl } };
+
+    #[inline(always)]
+    fn held(self, head: Head) -> Option<bool> {
+        head.as_bool()
+    }
+
+    #[inline(always)]
+    fn held_byte(self, _byte: u8) -> Option<bool> {
+        None
+    }
+
+    #[inline(always)]
+    fn refusal(marker: Marker, head: Head) -> Error {
+        other_kind(marker, head)
+    }
+}
+
+impl Leaf for F32Head {
+    ghost reads = { λ _ m n. m ≡ Msg.float32 n };
+
+    ghost refused = { other_kind };
+
+    ghost found = { λ _ n _. record { tree = Msg.float32 n; alone = refl; value = refl } };
+
+    #[inline(always)]
+    fn held(self, head: Head) -> Option<u32> {
+        head.as_f32_bits()
+    }
+
+    #[inline(always)]
+    fn held_byte(self, _byte: u8) -> Option<u32> {
+        None
+    }
+
+    #[inline(always)]
+    fn refusal(marker: Marker, head: Head) -> Error {
+        other_kind(marker, head)
+    }
+}
+
+impl Leaf for F64Head {
+    ghost reads = { λ _ m n. m ≡ Msg.float64 n };
+
+    ghost refused = { other_kind };
+
+    ghost found = { λ _ n _. record { tree = Msg.float64 n; alone = refl; value = refl } };
+
+    #[inline(always)]
+    fn held(self, head: Head) -> Option<u64> {
+        head.as_f64_bits()
+    }
+
+    #[inline(always)]
+    fn held_byte(self, _byte: u8) -> Option<u64> {
+        None
+    }
+
+    #[inline(always)]
+    fn refusal(marker: Marker, head: Head) -> Error {
+        other_kind(marker, head)
+    }
+}
+
+impl Leaf for Unsigned {
+    ghost reads = { λ k. IsUnsigned k.most };
+
+    ghost refused = { other_number };
+
+    ghost found = { λ _ n w. record { tree = Msg.whole (pos n); alone = refl; value = (refl, w) } };
+
+    #[inline(always)]
+    fn held(self, head: Head) -> Option<u64> {
+        match head.as_whole() {
+            Some(z) => {
+                if z < 0 || z > i128::from(self.most) {
+                    return None;
+                }
+                Some(z as u64)
+            }
+            None => None,
+        }
+    }
+
+    #[inline(always)]
+    fn held_byte(self, byte: u8) -> Option<u64> {
+        let n = u64::from(byte);
+        if n > self.most {
+            return None;
+        }
+        Some(n)
+    }
+
+    #[inline(always)]
+    fn refusal(marker: Marker, head: Head) -> Error {
+        other_number(marker, head)
+    }
+}
+
+impl Leaf for WithSign {
+    ghost reads = { λ k. IsSigned k.least k.most };
+
+    ghost refused = { other_number };
+
+    ghost found = { λ _ z w. record { tree = Msg.whole z; alone = refl; value = (refl, w.0, w.1) } };
+
+    #[inline(always)]
+    fn held(self, head: Head) -> Option<i64> {
+        match head.as_whole() {
+            Some(z) => {
+                if z < i128::from(self.least) || z > i128::from(self.most) {
+                    return None;
+                }
+                Some(z as i64)
+            }
+            None => None,
+        }
+    }
+
+    #[inline(always)]
+    fn held_byte(self, byte: u8) -> Option<i64> {
+        let n = i64::from(byte);
+        if n < self.least || n > self.most {
+            return None;
+        }
+        Some(n)
+    }
+
+    #[inline(always)]
+    fn refusal(marker: Marker, head: Head) -> Error {
+        other_number(marker, head)
+    }
+}

@@ -1,0 +1,77 @@
+//! The messages of a source, one after another.
+ghost use Rattle.std.specs.Prelude.{◌≡◌, false};
+ghost use Rattle.rmp_decode.specs.Messages.{messages_left, YieldsMessage};
+ghost use Rattle.rmp_decode.specs.State.{config_of};
+
+use crate::de::Deserialize;
+use crate::deserializer::Deserializer;
+use crate::error::Error;
+use rmp_wire::ReadSlice;
+use rmp_wire::config::{DefaultConfig, SerializerConfig};
+use std::marker::PhantomData;
+
+/// An iterator over the messages of a source, each read as a `T`. After an error it returns `None`.
+#[derive(Drop)]
+pub struct Messages<'x, 'de, T, R, C = DefaultConfig> {
+    pub(crate) de: &'x mut Deserializer<R, C>,
+    pub(crate) done: bool,
+    of: PhantomData<(&'de [u8], T)>,
+}
+
+impl<R, C> Deserializer<R, C> {
+    /// Returns an iterator over the messages up to the end of the source, or up to the first error.
+    ///
+    /// # Examples
+    /// ```
+    /// use rmp_serde::Deserializer;
+    ///
+    /// let mut de = Deserializer::from_read_ref(alloc, &[0x2a, 0xcd, 0x01, 0x00]);
+    /// let mut sum = 0;
+    /// for number in de.messages::<u64>() {
+    ///     sum += number?;
+    /// }
+    /// assert_eq!(rt; sum, 298);
+    /// ```
+    pub fn messages<'de, T>(&mut self) -> Messages<'_, 'de, T, R, C>
+        ensures same_reference { result.de.ghost_name ≡ self.entry.ghost_name }
+        ensures same { result.de.now ≡ self.old }
+        ensures ready { result.done ≡ false }
+    {
+        Messages {
+            de: self,
+            done: false,
+            of: PhantomData,
+        }
+    }
+}
+
+impl<'x, 'de, T: Deserialize<'de, R>, R: ReadSlice<'de>, C: SerializerConfig> Iterator
+    for Messages<'x, 'de, T, R, C> {
+    type Item = Result<T, Error>;
+
+    ghost next_gives = { λ s r t. YieldsMessage R.Source (T.reads (C.human (config_of s.de.now)) R.lends) s r t };
+
+    ghost remaining = { messages_left R.Source };
+
+    fn next(&mut self) -> Option<Result<T, Error>> {
+        if self.done {
+            return None;
+        }
+        match self.de.next() {
+            Ok(Some(value)) => Some(Ok(value)),
+            Ok(None) => {
+                self.done = true;
+                None
+            }
+            Err(e) => {
+                self.done = true;
+                Some(Err(e))
+            }
+        }
+    }
+
+    // (the trait's own body says the same, and is not covered by the borrow checker where `self` holds a `&mut`)
+    fn size_hint(&self) -> (usize, Option<usize>) {
+        (0, None)
+    }
+}

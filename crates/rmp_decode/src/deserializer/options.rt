@@ -1,0 +1,258 @@
+//! Options, unit structs and newtype structs.
+ghost use Rattle.std.specs.Prelude.{◌≡◌, ◌≢◌, ◌≤◌, false, None, Some, get_or, length, IfErr, IfSome, true, Err};
+ghost use Rattle.std.specs.Fn.{FnOnceTakesAtMut};
+ghost use Rattle.rmp_decode.specs.Law.{Lawful};
+ghost use Rattle.rmp_decode.specs.Options.{IsOption, Looks, LooksAhead, OptionRead, RefusesOption, SeesOther};
+ghost use Rattle.rmp_decode.specs.Refusing.{RefusesAs};
+ghost use Rattle.rmp_decode.specs.State.{config_of, is_failed, failed_of, room_of};
+ghost use Rattle.rmp_decode.specs.Exact.{RefusesHead};
+ghost use Rattle.rmp_decode.specs.Units.{IsExtName, IsNewtype, IsNothing, not_nothing};
+ghost use Rattle.rmp_decode.specs.declared.text.Text.TheVariants as words;
+
+use crate::de::Deserialize;
+use crate::deserializer::peek::{ListOf, NilHead};
+use crate::deserializer::{Deserializer, Kept};
+use crate::error::Error;
+use crate::text::Text;
+use rmp_wire::config::SerializerConfig;
+use rmp_wire::read::read_marker;
+use rmp_wire::{MSGPACK_EXT_STRUCT_NAME, ReadSlice, Source};
+
+/// The byte of nil.
+const NIL: u8 = 0xc0;
+
+// The first buffered byte.
+#[inline(always)]
+fn first_at(front: &[u8]) -> Option<u8>
+    ensures { IfSome result (λ b. (1 ≤ length front.now) × (b ≡ get_or front.now 0 0)) }
+{
+    match front {
+        [first, ..] => Some(*first),
+        _ => None,
+    }
+}
+
+impl<R: Source, C: SerializerConfig> Deserializer<R, C> {
+    // Consumes a buffered nil, or leaves another buffered message where the source tells its bytes; answers which. Returns `None` and
+    // consumes nothing otherwise.
+    #[inline(always)]
+    fn peek_nil<'de>(&mut self) -> Option<bool>
+    where
+        R: ReadSlice<'de>,
+        ensures { LooksAhead R.Source self.old self.new result }
+    {
+        if !self.begins_ahead() {
+            return None;
+        }
+        match first_at(self.reader.front()) {
+            Some(byte) => {
+                if byte == NIL {
+                    return if self.reader.skip(1) {
+                        Some(true)
+                    } else {
+                        None
+                    };
+                }
+                if self.reader.tells() {
+                    Some(false)
+                } else {
+                    None
+                }
+            }
+            None => None,
+        }
+    }
+
+    // Takes nil, or keeps back the first byte of another message; says which.
+    #[inline(always)]
+    fn take_nil(&mut self) -> Result<bool, Error>
+        ensures { Looks R.Source self.old self.new result }
+    {
+        if self.failed {
+            return Err(Error::Uncategorized(Text::FailedBefore));
+        }
+        match self.kept {
+            Kept::Nothing => match read_marker(&mut self.reader) {
+                Ok(marker) => {
+                    let byte = marker.to_u8();
+                    if byte == NIL {
+                        return Ok(true);
+                    }
+                    self.kept = Kept::First(byte);
+                    Ok(false)
+                }
+                Err(e) => {
+                    self.failed = true;
+                    Err(Error::InvalidMarkerRead(e.0))
+                }
+            },
+            Kept::First(byte) => {
+                if byte == NIL {
+                    self.kept = Kept::Nothing;
+                    return Ok(true);
+                }
+                Ok(false)
+            }
+            Kept::Number(_) => Ok(false),
+        }
+    }
+
+    /// Reads an option: nil as `None`, and any other message as its value. So `Some` of what is written as nil isn't read
+    /// back.
+    ///
+    /// The first byte of the message is looked at. Where it isn't nil it is left for the value's read: in the buffer, or else kept back.
+    ///
+    /// # Errors
+    /// `InvalidMarkerRead` where the input ends before the message, and else those of the value.
+    #[inline(always)]
+    pub fn deserialize_option<'de, T: Deserialize<'de, R>>(&mut self) -> Result<Option<T>, Error>
+    where
+        R: ReadSlice<'de>,
+        ensures law { Lawful R.Source (IsOption (T.reads (C.human (config_of self.old)) R.lends)) self.old self.new result }
+        ensures refused { RefusesAs R.Source (C.human (config_of self.old)) R.lends (RefusesOption T.refuses) self.old self.new result }
+        ensures memory { T.takes_memory R.lends ≡ false → IfErr result (λ e. e ≢ Error.OutOfMemory) }
+    {
+        match self.peek_nil() {
+            Some(true) => Ok(None),
+            Some(false) => match T::deserialize(self) {
+                Ok(value) => Ok(Some(value)),
+                Err(e) => Err(e),
+            },
+            None => match self.kept_option() {
+                Ok(option) => Ok(option),
+                Err(e) => Err(e),
+            },
+        }
+    }
+
+    // Reads an option whose first byte is kept back. Out of line.
+    #[inline(never)]
+    fn kept_option<'de, T: Deserialize<'de, R>>(&mut self) -> Result<Option<T>, Error>
+    where
+        R: ReadSlice<'de>,
+        ensures law { Lawful R.Source (IsOption (T.reads (C.human (config_of self.old)) R.lends)) self.old self.new result }
+        ensures refused { RefusesAs R.Source (C.human (config_of self.old)) R.lends (RefusesOption T.refuses) self.old self.new result }
+        ensures memory { T.takes_memory R.lends ≡ false → IfErr result (λ e. e ≢ Error.OutOfMemory) }
+    {
+        match self.take_nil() {
+            Ok(true) => Ok(None),
+            Ok(false) => match T::deserialize(self) {
+                Ok(value) => Ok(Some(value)),
+                Err(e) => Err(e),
+            },
+            Err(e) => Err(e),
+        }
+    }
+
+    /// Reads an option whose value `f` reads, as `deserialize_option` does by the value's type. `f` is given a reader that is
+    /// ready, before the value. An `f` that answers `Ok` has to have read the value and nothing else.
+    ///
+    /// # Errors
+    /// `InvalidMarkerRead` where the input ends before the message; else those of `f`, and `Uncategorized("failed before")`
+    /// where `f` answered `Ok` and left its reader failed.
+    #[inline(never)]
+    pub fn deserialize_option_with<X: Drop, F>(&mut self, f: F) -> Result<Option<X>, Error>
+    where
+        F: FnOnce(&mut Deserializer<R, C>) -> Result<X, Error>,
+        requires { is_failed self.old ≡ false → (d : Deserializer R C) → SeesOther R.Source self.old d → FnOnceTakesAtMut F.FnOnce f d }
+        ensures { OptionRead R.Source F.FnOnce f self.old self.new result }
+    {
+        match self.take_nil() {
+            Ok(true) => return Ok(None),
+            Ok(false) => {}
+            Err(e) => return Err(e),
+        }
+        match f(self) {
+            Ok(value) => {
+                if self.failed {
+                    return Err(Error::Uncategorized(Text::FailedBefore));
+                }
+                Ok(Some(value))
+            }
+            Err(e) => {
+                self.failed = true;
+                Err(e)
+            }
+        }
+    }
+
+    /// Reads a struct without fields: nil, or the list without elements in any width. Its name isn't looked at.
+    ///
+    /// # Errors
+    /// `DepthLimitExceeded` for a list that would nest too deep, and `Syntax("invalid type")` for another list and another
+    /// kind.
+    #[inline(always)]
+    pub fn deserialize_unit_struct(&mut self, _name: &str) -> Result<(), Error>
+        ensures law { Lawful R.Source (λ m _. IsNothing m) self.old self.new result }
+        ensures exact { RefusesHead R.Source (not_nothing (room_of self.old)) self.old self.new result }
+        ensures memory { IfErr result (λ e. e ≢ Error.OutOfMemory) }
+    {
+        if let Some(()) = self.take_nested(ListOf { count: 0 }) {
+            self.failed = false;
+            return Ok(());
+        }
+        if let Some(()) = self.take(NilHead) {
+            self.failed = false;
+            return Ok(());
+        }
+        self.slow_unit_struct()
+    }
+
+    // The slow path of `deserialize_unit_struct`.
+    #[inline(never)]
+    fn slow_unit_struct(&mut self) -> Result<(), Error>
+        ensures law { Lawful R.Source (λ m _. IsNothing m) self.old self.new result }
+        ensures exact { RefusesHead R.Source (not_nothing (room_of self.old)) self.old self.new result }
+        ensures memory { IfErr result (λ e. e ≢ Error.OutOfMemory) }
+    {
+        let (_, head) = match self.head() {
+            Ok(next) => next,
+            Err(e) => return Err(e),
+        };
+        if let Some(()) = head.as_nil() {
+            self.failed = false;
+            return Ok(());
+        }
+        match head.as_array() {
+            Some(len) => {
+                if self.room <= 1 {
+                    return Err(Error::DepthLimitExceeded);
+                }
+                if len > 0 {
+                    return Err(Error::Syntax(Text::InvalidType));
+                }
+                self.failed = false;
+                Ok(())
+            }
+            None => Err(Error::Syntax(Text::InvalidType)),
+        }
+    }
+
+    /// Reads a newtype struct: what it holds, as it is without the struct. The name isn't looked at but for the one that stands
+    /// for an extension in the Rust crate.
+    ///
+    /// # Errors
+    /// `Syntax("extensions are read by deserialize_ext")` where the name is `MSGPACK_EXT_STRUCT_NAME`: nothing is taken then.
+    /// Else those of the content.
+    #[inline(always)]
+    pub fn deserialize_newtype_struct<'de, T: Deserialize<'de, R>>(
+        &mut self,
+        name: &str,
+    ) -> Result<T, Error>
+    where
+        R: ReadSlice<'de>,
+        ensures law { Lawful R.Source (IsNewtype name.now (T.reads (C.human (config_of self.old)) R.lends)) self.old self.new result }
+        ensures refused { (IsExtName name.now → ⊥) → RefusesAs R.Source (C.human (config_of self.old)) R.lends T.refuses self.old self.new result }
+        ensures named { IsExtName name.now → is_failed self.old ≡ false → (result ≡ Err (Error.Syntax words.ReadByExt)) × (self.new ≡ failed_of self.old) }
+        ensures memory { T.takes_memory R.lends ≡ false → IfErr result (λ e. e ≢ Error.OutOfMemory) }
+    {
+        if name == MSGPACK_EXT_STRUCT_NAME {
+            if self.failed {
+                return Err(Error::Uncategorized(Text::FailedBefore));
+            }
+            self.failed = true;
+            return Err(Error::Syntax(Text::ReadByExt));
+        }
+        T::deserialize(self)
+    }
+}

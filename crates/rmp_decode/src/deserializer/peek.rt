@@ -1,0 +1,542 @@
+//! The fast path: a buffered head of one kind is recognized by its bytes, and consumed.
+ghost use Rattle.std.specs.Prelude.{◌≡◌, ◌<◌, ◌≤◌, ◌≤ℤ◌, Bool, pos, true, false, IfSome, IfNone, IfOk, IfErr};
+ghost use Rattle.rmp_wire.specs.declared.head.Head.TheVariants as heads;
+ghost use Rattle.rmp_decode.specs.Ahead.{TakesLeaf};
+ghost use Rattle.rmp_decode.specs.Fronts.{StandsIn, TakesFront};
+ghost use Rattle.rmp_decode.specs.Kinds.{raw_head};
+ghost use Rattle.rmp_decode.specs.Law.{ReadsHead};
+ghost use Rattle.rmp_decode.specs.State.{is_failed, is_strict, kept_of};
+ghost use Rattle.rmp_decode.specs.declared.deserializer.Kept.TheVariants.{Nothing};
+
+pub(super) mod exts;
+pub(super) mod table;
+pub(super) mod widths;
+
+use crate::deserializer::peek::exts::ext_at;
+use crate::deserializer::peek::table::{
+    any_at, any_bin_at, canonical_at, canonical_bin_at, leaf_at, signed_at,
+};
+use crate::deserializer::peek::widths::{may_stand, needs_bytes, needs_signed_bytes, unsigned_at};
+use crate::deserializer::{Deserializer, Kept};
+use crate::error::Error;
+use rmp_wire::config::SerializerConfig;
+use rmp_wire::{Head, Source};
+
+// A kind of head, and what is looked for in one.
+pub(crate) trait Peek: Copy {
+    ghost use Rattle.std.specs.Prelude.{◌≡◌, Bool, IfSome};
+    ghost use Rattle.rmp_wire.specs.declared.head.Head.{Head};
+    ghost use Rattle.rmp_decode.specs.Fronts.{StandsIn};
+
+    type Value: Copy;
+
+    // the head that holds a value
+    ghost head: { Self → Self.Value → Head };
+
+    // what is wanted of a value
+    ghost wants: { Self → Self.Value → Type 0 } = { λ _ _. Unit {0} };
+
+    // The value whose head stands at the front, and the count of the head's bytes.
+    fn at(self, front: &[u8], strict: bool) -> Option<(Self::Value, usize)>
+        ensures stands { IfSome result (λ p. StandsIn strict p.1 (head self p.0) front.now) }
+        ensures wanted { IfSome result (λ p. wants self p.0) };
+}
+
+impl<R: Source, C: SerializerConfig> Deserializer<R, C> {
+    // Consumes a buffered head, and leaves this failed until the message is read. Returns `None` and consumes nothing otherwise.
+    #[inline(always)]
+    pub(crate) fn take<K: Peek>(&mut self, kind: K) -> Option<K::Value>
+        ensures taken { IfSome result (λ v. TakesFront R.Source (K.head kind v) self.old self.new) }
+        ensures wanted { IfSome result (λ v. K.wants kind v) }
+        ensures kept { IfNone result (self.new ≡ self.old) }
+    {
+        if !self.begins_ahead() {
+            return None;
+        }
+        self.take_ahead(kind, self.strict)
+    }
+
+    // Consumes a buffered head, where nothing was kept back and no read failed.
+    #[inline(always)]
+    fn take_ahead<K: Peek>(&mut self, kind: K, strict: bool) -> Option<K::Value>
+        requires fresh { is_failed self.old ≡ false }
+        requires clean { kept_of self.old ≡ Nothing }
+        requires same { strict ≡ is_strict self.old }
+        ensures taken { IfSome result (λ v. TakesFront R.Source (K.head kind v) self.old self.new) }
+        ensures wanted { IfSome result (λ v. K.wants kind v) }
+        ensures kept { IfNone result (self.new ≡ self.old) }
+    {
+        match kind.at(self.reader.front(), strict) {
+            Some((value, len)) => {
+                if self.reader.skip(len) {
+                    self.failed = true;
+                    Some(value)
+                } else {
+                    None
+                }
+            }
+            None => None,
+        }
+    }
+
+    // Consumes the buffered head of a list or a map, where a level of nesting is left for it.
+    #[inline(always)]
+    pub(crate) fn take_nested<K: Peek>(&mut self, kind: K) -> Option<K::Value>
+        ensures deep { IfSome result (λ _. 1 < self.old.room) }
+        ensures taken { IfSome result (λ v. TakesFront R.Source (K.head kind v) self.old self.new) }
+        ensures wanted { IfSome result (λ v. K.wants kind v) }
+        ensures kept { IfNone result (self.new ≡ self.old) }
+    {
+        if self.room <= 1 {
+            return None;
+        }
+        self.take(kind)
+    }
+
+    // Whether the next message begins with the bytes ahead of the source: nothing was kept back, and no read failed.
+    #[inline(always)]
+    pub(crate) fn begins_ahead(&self) -> bool
+        ensures fresh { result ≡ true → is_failed self.now ≡ false }
+        ensures clean { result ≡ true → kept_of self.now ≡ Nothing }
+    {
+        match self.kept {
+            Kept::Nothing => !self.failed,
+            _ => false,
+        }
+    }
+
+    // Consumes the buffered head of a leaf, but of an extension of more than 255 bytes, and answers how many bytes its payload has. It
+    // leaves this failed until the payload is read. Returns `None` and consumes nothing otherwise.
+    #[inline(always)]
+    pub(crate) fn take_leaf_head(&mut self) -> Option<u32>
+        ensures taken { IfSome result (λ n. TakesLeaf R.Source n self.old self.new) }
+        ensures kept { IfNone result (self.new ≡ self.old) }
+    {
+        if !self.begins_ahead() {
+            return None;
+        }
+        match leaf_at(self.reader.front(), self.strict) {
+            Some((n, len)) => {
+                if self.reader.skip(len) {
+                    self.failed = true;
+                    Some(n)
+                } else {
+                    None
+                }
+            }
+            None => None,
+        }
+    }
+
+    // Consumes a head of any kind, and leaves this failed until the message is read. That of a short list is looked for first, so that
+    // what opens one is known without a head.
+    #[inline(always)]
+    pub(crate) fn any_head(&mut self) -> Result<Head, Error>
+        ensures ok { IfOk result (λ h. TakesFront R.Source h self.old self.new) }
+        ensures err { IfErr result (λ e. ReadsHead R.Source self.old self.new (Err e)) }
+    {
+        match self.take(ListHead) {
+            Some(n) => Ok(Head::Array(n)),
+            None => match self.take(AnyHead) {
+                Some(head) => Ok(head),
+                None => self.slow_head(),
+            },
+        }
+    }
+
+    // The slow path of `any_head`.
+    #[inline(never)]
+    fn slow_head(&mut self) -> Result<Head, Error>
+        ensures ok { IfOk result (λ h. TakesFront R.Source h self.old self.new) }
+        ensures err { IfErr result (λ e. ReadsHead R.Source self.old self.new (Err e)) }
+    {
+        match self.head() {
+            Ok((_, head)) => Ok(head),
+            Err(e) => Err(e),
+        }
+    }
+}
+
+// Nil.
+#[derive(Clone, Copy)]
+pub(crate) struct NilHead;
+
+impl Peek for NilHead {
+    type Value = ();
+
+    ghost head = { λ _ _. heads.Nil };
+
+    #[inline(always)]
+    fn at(self, front: &[u8], _strict: bool) -> Option<((), usize)> {
+        match front {
+            [first, ..] => match first {
+                0xc0 => Some(((), 1)),
+                _ => None,
+            },
+            _ => None,
+        }
+    }
+}
+
+// A truth.
+#[derive(Clone, Copy)]
+pub(crate) struct TruthHead;
+
+impl Peek for TruthHead {
+    type Value = bool;
+
+    ghost head = { λ _ t. heads.Truth t };
+
+    #[inline(always)]
+    fn at(self, front: &[u8], _strict: bool) -> Option<(bool, usize)> {
+        match front {
+            [first, ..] => match first {
+                0xc2 => Some((false, 1)),
+                0xc3 => Some((true, 1)),
+                _ => None,
+            },
+            _ => None,
+        }
+    }
+}
+
+// The bits of a float of 32 bits.
+#[derive(Clone, Copy)]
+pub(crate) struct F32Head;
+
+impl Peek for F32Head {
+    type Value = u32;
+
+    ghost head = { λ _ n. heads.F32Bits n };
+
+    #[inline(always)]
+    fn at(self, front: &[u8], _strict: bool) -> Option<(u32, usize)> {
+        match front {
+            [first, behind @ ..] => match first {
+                0xca => match behind {
+                    [a, b, c, d, ..] => Some((u32::from_be_bytes([*a, *b, *c, *d]), 5)),
+                    _ => None,
+                },
+                _ => None,
+            },
+            _ => None,
+        }
+    }
+}
+
+// The bits of a float of 64 bits.
+#[derive(Clone, Copy)]
+pub(crate) struct F64Head;
+
+impl Peek for F64Head {
+    type Value = u64;
+
+    ghost head = { λ _ n. heads.F64Bits n };
+
+    #[inline(always)]
+    fn at(self, front: &[u8], _strict: bool) -> Option<(u64, usize)> {
+        match front {
+            [first, behind @ ..] => match first {
+                0xcb => match behind {
+                    [a, b, c, d, e, f, g, h, ..] => {
+                        Some((u64::from_be_bytes([*a, *b, *c, *d, *e, *f, *g, *h]), 9))
+                    }
+                    _ => None,
+                },
+                _ => None,
+            },
+            _ => None,
+        }
+    }
+}
+
+// A number without a sign, up to `most`.
+#[derive(Clone, Copy)]
+pub(crate) struct Unsigned {
+    pub(crate) most: u64,
+}
+
+impl Peek for Unsigned {
+    type Value = u64;
+
+    ghost head = { λ _ n. heads.Whole (pos n) };
+
+    ghost wants = { λ k n. n ≤ k.most };
+
+    #[inline(always)]
+    fn at(self, front: &[u8], strict: bool) -> Option<(u64, usize)> {
+        match unsigned_at(front) {
+            Some((n, len, _)) => {
+                if n <= self.most && (!strict || needs_bytes(n, len)) {
+                    Some((n, len))
+                } else {
+                    None
+                }
+            }
+            None => None,
+        }
+    }
+}
+
+// A number between two others, in a format with a sign.
+#[derive(Clone, Copy)]
+pub(crate) struct WithSign {
+    pub(crate) least: i64,
+    pub(crate) most: i64,
+}
+
+impl Peek for WithSign {
+    type Value = i64;
+
+    ghost head = { λ _ z. heads.Whole z };
+
+    ghost wants = { λ k z. (k.least ≤ℤ z) × (z ≤ℤ k.most) };
+
+    #[inline(always)]
+    fn at(self, front: &[u8], strict: bool) -> Option<(i64, usize)> {
+        match signed_at(front) {
+            Some((z, len, _)) => {
+                if z >= self.least && z <= self.most && (!strict || needs_signed_bytes(z, len)) {
+                    Some((z, len))
+                } else {
+                    None
+                }
+            }
+            None => None,
+        }
+    }
+}
+
+// A text of up to 255 bytes.
+#[derive(Clone, Copy)]
+pub(crate) struct TextHead;
+
+impl Peek for TextHead {
+    type Value = u32;
+
+    ghost head = { λ _ n. heads.Text n };
+
+    #[inline(always)]
+    fn at(self, front: &[u8], strict: bool) -> Option<(u32, usize)> {
+        match front {
+            [first, behind @ ..] => match first {
+                0xa0..=0xbf => Some((u32::from(*first - 0xa0), 1)),
+                0xd9 => match behind {
+                    [a, ..] if may_stand(u64::from(*a), 32, strict) => Some((u32::from(*a), 2)),
+                    _ => None,
+                },
+                _ => None,
+            },
+            _ => None,
+        }
+    }
+}
+
+// Bytes of any count.
+#[derive(Clone, Copy)]
+pub(crate) struct BinHead;
+
+impl Peek for BinHead {
+    type Value = u32;
+
+    ghost head = { λ _ n. heads.Bin n };
+
+    #[inline(always)]
+    fn at(self, front: &[u8], strict: bool) -> Option<(u32, usize)> {
+        if strict {
+            canonical_bin_at(front)
+        } else {
+            any_bin_at(front)
+        }
+    }
+}
+
+// A text of up to 255 bytes, or bytes of any count: whether it is a text, and how many bytes it has.
+#[derive(Clone, Copy)]
+pub(crate) struct RawHead;
+
+impl Peek for RawHead {
+    type Value = (bool, u32);
+
+    ghost head = { λ _ p. raw_head p.0 p.1 };
+
+    #[inline(always)]
+    fn at(self, front: &[u8], strict: bool) -> Option<((bool, u32), usize)> {
+        match TextHead.at(front, strict) {
+            Some((n, len)) => Some(((true, n), len)),
+            None => match BinHead.at(front, strict) {
+                Some((n, len)) => Some(((false, n), len)),
+                None => None,
+            },
+        }
+    }
+}
+
+// Sixteen bytes.
+#[derive(Clone, Copy)]
+pub(crate) struct SixteenHead;
+
+impl Peek for SixteenHead {
+    type Value = ();
+
+    ghost head = { λ _ _. heads.Bin 16 };
+
+    #[inline(always)]
+    fn at(self, front: &[u8], _strict: bool) -> Option<((), usize)> {
+        match front {
+            [first, behind @ ..] => match first {
+                0xc4 => match behind {
+                    [a, ..] if *a == 16 => Some(((), 2)),
+                    _ => None,
+                },
+                _ => None,
+            },
+            _ => None,
+        }
+    }
+}
+
+// A list of up to 15 elements, whose head has one byte.
+#[derive(Clone, Copy)]
+pub(crate) struct ListHead;
+
+impl Peek for ListHead {
+    type Value = u32;
+
+    ghost head = { λ _ n. heads.Array n };
+
+    #[inline(always)]
+    fn at(self, front: &[u8], _strict: bool) -> Option<(u32, usize)> {
+        match front {
+            [first, ..] => match first {
+                0x90..=0x9f => Some((u32::from(*first - 0x90), 1)),
+                _ => None,
+            },
+            _ => None,
+        }
+    }
+}
+
+// A map of up to 15 pairs, whose head has one byte.
+#[derive(Clone, Copy)]
+pub(crate) struct MapHead;
+
+impl Peek for MapHead {
+    type Value = u32;
+
+    ghost head = { λ _ n. heads.Map n };
+
+    #[inline(always)]
+    fn at(self, front: &[u8], _strict: bool) -> Option<(u32, usize)> {
+        match front {
+            [first, ..] => match first {
+                0x80..=0x8f => Some((u32::from(*first - 0x80), 1)),
+                _ => None,
+            },
+            _ => None,
+        }
+    }
+}
+
+// A list of `count` elements, whose head has one byte.
+#[derive(Clone, Copy)]
+pub(crate) struct ListOf {
+    pub(crate) count: usize,
+}
+
+impl Peek for ListOf {
+    type Value = ();
+
+    ghost head = { λ k _. heads.Array k.count };
+
+    #[inline(always)]
+    fn at(self, front: &[u8], strict: bool) -> Option<((), usize)> {
+        match ListHead.at(front, strict) {
+            Some((n, len)) if n as usize == self.count => Some(((), len)),
+            _ => None,
+        }
+    }
+}
+
+// A map of one pair.
+#[derive(Clone, Copy)]
+pub(crate) struct PairHead;
+
+impl Peek for PairHead {
+    type Value = ();
+
+    ghost head = { λ _ _. heads.Map 1 };
+
+    #[inline(always)]
+    fn at(self, front: &[u8], strict: bool) -> Option<((), usize)> {
+        match MapHead.at(front, strict) {
+            Some((1, len)) => Some(((), len)),
+            _ => None,
+        }
+    }
+}
+
+// An extension of up to 255 bytes, where any width may be read: how many bytes it has, and its type.
+#[derive(Clone, Copy)]
+pub(crate) struct ExtHead;
+
+impl Peek for ExtHead {
+    type Value = (u32, i8);
+
+    ghost head = { λ _ p. heads.Ext p.0 p.1 };
+
+    #[inline(always)]
+    fn at(self, front: &[u8], strict: bool) -> Option<((u32, i8), usize)> {
+        if strict {
+            return None;
+        }
+        match ext_at(front) {
+            Some((n, tag, len)) => Some(((n, tag), len)),
+            None => None,
+        }
+    }
+}
+
+// A head of any kind, but of an extension of more than 255 bytes.
+#[derive(Clone, Copy)]
+pub(crate) struct AnyHead;
+
+impl Peek for AnyHead {
+    type Value = Head;
+
+    ghost head = { λ _ h. h };
+
+    #[inline(always)]
+    fn at(self, front: &[u8], strict: bool) -> Option<(Head, usize)> {
+        if strict {
+            canonical_at(front)
+        } else {
+            any_at(front)
+        }
+    }
+}
+
+// A head of one byte, of a number from 0 on, a text, a list or a map: what most messages begin with, and canonical.
+#[derive(Clone, Copy)]
+pub(crate) struct OneByteHead;
+
+impl Peek for OneByteHead {
+    type Value = Head;
+
+    ghost head = { λ _ h. h };
+
+    #[inline(always)]
+    #[tactic(auto, using(crate::proofs::Fronts::small_stands))]
+    fn at(self, front: &[u8], _strict: bool) -> Option<(Head, usize)> {
+        match front {
+            [first, ..] => match first {
+                0x00..=0x7f => Some((Head::Whole(i128::from(*first)), 1)),
+                0x80..=0x8f => Some((Head::Map(u32::from(*first - 0x80)), 1)),
+                0x90..=0x9f => Some((Head::Array(u32::from(*first - 0x90)), 1)),
+                0xa0..=0xbf => Some((Head::Text(u32::from(*first - 0xa0)), 1)),
+                _ => None,
+            },
+            _ => None,
+        }
+    }
+}

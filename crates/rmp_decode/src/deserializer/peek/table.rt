@@ -1,0 +1,271 @@
+//! Heads of any kind that lie in memory whole, but those of extensions of more than 255 bytes.
+ghost use Rattle.std.specs.Prelude.{◌≡◌, ◌<ℤ◌, true, false, IfSome};
+ghost use Rattle.rmp_decode.specs.Ahead.{LeafStandsIn};
+ghost use Rattle.rmp_decode.specs.Fronts.{StandsIn, bound_of};
+
+use crate::deserializer::peek::exts::ext_at;
+use crate::deserializer::peek::widths::unsigned_at;
+use crate::deserializer::peek::{F32Head, F64Head, Peek};
+use crate::deserializer::skip::leaf_in;
+use rmp_wire::{Head, Marker, is_canonical};
+
+// A head of one byte that isn't a number's.
+#[inline(always)]
+fn short_at(front: &[u8]) -> Option<(Head, usize)>
+    ensures { IfSome result (λ p. StandsIn false p.1 p.0 front.now) }
+{
+    match front {
+        [first, ..] => match first {
+            0x80..=0x8f => Some((Head::Map(u32::from(*first - 0x80)), 1)),
+            0x90..=0x9f => Some((Head::Array(u32::from(*first - 0x90)), 1)),
+            0xa0..=0xbf => Some((Head::Text(u32::from(*first - 0xa0)), 1)),
+            0xc0 => Some((Head::Nil, 1)),
+            0xc2 => Some((Head::Truth(false), 1)),
+            0xc3 => Some((Head::Truth(true), 1)),
+            _ => None,
+        },
+        _ => None,
+    }
+}
+
+// A head of bytes.
+#[inline(always)]
+fn bytes_at(front: &[u8]) -> Option<(Head, usize)>
+    ensures { IfSome result (λ p. StandsIn false p.1 p.0 front.now) }
+{
+    match front {
+        [first, behind @ ..] => match first {
+            0xc4 => match behind {
+                [a, ..] => Some((Head::Bin(u32::from(*a)), 2)),
+                _ => None,
+            },
+            0xc5 => match behind {
+                [a, b, ..] => Some((Head::Bin(u32::from(u16::from_be_bytes([*a, *b]))), 3)),
+                _ => None,
+            },
+            0xc6 => match behind {
+                [a, b, c, d, ..] => Some((Head::Bin(u32::from_be_bytes([*a, *b, *c, *d])), 5)),
+                _ => None,
+            },
+            _ => None,
+        },
+        _ => None,
+    }
+}
+
+// A head of a text of any length.
+#[inline(always)]
+fn long_text_at(front: &[u8]) -> Option<(Head, usize)>
+    ensures { IfSome result (λ p. StandsIn false p.1 p.0 front.now) }
+{
+    match front {
+        [first, behind @ ..] => match first {
+            0xd9 => match behind {
+                [a, ..] => Some((Head::Text(u32::from(*a)), 2)),
+                _ => None,
+            },
+            0xda => match behind {
+                [a, b, ..] => Some((Head::Text(u32::from(u16::from_be_bytes([*a, *b]))), 3)),
+                _ => None,
+            },
+            0xdb => match behind {
+                [a, b, c, d, ..] => Some((Head::Text(u32::from_be_bytes([*a, *b, *c, *d])), 5)),
+                _ => None,
+            },
+            _ => None,
+        },
+        _ => None,
+    }
+}
+
+// A head of a list or of a map of any length.
+#[inline(always)]
+fn long_parts_at(front: &[u8]) -> Option<(Head, usize)>
+    ensures { IfSome result (λ p. StandsIn false p.1 p.0 front.now) }
+{
+    match front {
+        [first, behind @ ..] => match first {
+            0xdc => match behind {
+                [a, b, ..] => Some((Head::Array(u32::from(u16::from_be_bytes([*a, *b]))), 3)),
+                _ => None,
+            },
+            0xdd => match behind {
+                [a, b, c, d, ..] => Some((Head::Array(u32::from_be_bytes([*a, *b, *c, *d])), 5)),
+                _ => None,
+            },
+            0xde => match behind {
+                [a, b, ..] => Some((Head::Map(u32::from(u16::from_be_bytes([*a, *b]))), 3)),
+                _ => None,
+            },
+            0xdf => match behind {
+                [a, b, c, d, ..] => Some((Head::Map(u32::from_be_bytes([*a, *b, *c, *d])), 5)),
+                _ => None,
+            },
+            _ => None,
+        },
+        _ => None,
+    }
+}
+
+// A number in a format with a sign that stands at the front; the count of its head's bytes; and below which number the canonical
+// head has as many.
+#[inline(always)]
+pub(crate) fn signed_at(front: &[u8]) -> Option<(i64, usize, i64)>
+    ensures any { IfSome result (λ p. StandsIn false p.1 (Head.Whole p.0) front.now) }
+    ensures canonical { IfSome result (λ p. p.0 <ℤ p.2 → StandsIn true p.1 (Head.Whole p.0) front.now) }
+    ensures bound { IfSome result (λ p. p.2 ≡ bound_of p.1) }
+{
+    match front {
+        [first, behind @ ..] => match first {
+            0xe0..=0xff => Some((i64::from(first.cast_signed()), 1, 0)),
+            0xd0 => match behind {
+                [a, ..] => Some((i64::from(a.cast_signed()), 2, -0x20)),
+                _ => None,
+            },
+            0xd1 => match behind {
+                [a, b, ..] => {
+                    let n = u16::from_be_bytes([*a, *b]);
+                    Some((i64::from(n.cast_signed()), 3, -0x80))
+                }
+                _ => None,
+            },
+            0xd2 => match behind {
+                [a, b, c, d, ..] => {
+                    let n = u32::from_be_bytes([*a, *b, *c, *d]);
+                    Some((i64::from(n.cast_signed()), 5, -0x8000))
+                }
+                _ => None,
+            },
+            0xd3 => match behind {
+                [a, b, c, d, e, f, g, h, ..] => {
+                    let n = u64::from_be_bytes([*a, *b, *c, *d, *e, *f, *g, *h]);
+                    Some((n.cast_signed(), 9, -0x8000_0000))
+                }
+                _ => None,
+            },
+            _ => None,
+        },
+        _ => None,
+    }
+}
+
+// A head of any width and any kind, but of an extension of more than 255 bytes, and the count of its bytes.
+#[inline(always)]
+pub(crate) fn any_at(front: &[u8]) -> Option<(Head, usize)>
+    ensures { IfSome result (λ p. StandsIn false p.1 p.0 front.now) }
+{
+    match front {
+        [first, ..] => match first {
+            0x80..=0xbf | 0xc0 | 0xc2 | 0xc3 => short_at(front),
+            0xc4..=0xc6 => bytes_at(front),
+            0xca => match F32Head.at(front, false) {
+                Some((bits, len)) => Some((Head::F32Bits(bits), len)),
+                None => None,
+            },
+            0xcb => match F64Head.at(front, false) {
+                Some((bits, len)) => Some((Head::F64Bits(bits), len)),
+                None => None,
+            },
+            0xc7 | 0xd4..=0xd8 => match ext_at(front) {
+                Some((n, tag, len)) => Some((Head::Ext(n, tag), len)),
+                None => None,
+            },
+            0xd9..=0xdb => long_text_at(front),
+            0xdc..=0xdf => long_parts_at(front),
+            0xd0..=0xd3 | 0xe0..=0xff => match signed_at(front) {
+                Some((z, len, _)) => Some((Head::Whole(i128::from(z)), len)),
+                None => None,
+            },
+            _ => match unsigned_at(front) {
+                Some((n, len, _)) => Some((Head::Whole(i128::from(n)), len)),
+                None => None,
+            },
+        },
+        _ => None,
+    }
+}
+
+// A canonical head, and the count of its bytes. Out of line: so the reads of any width keep nothing of a head for the test.
+#[inline(never)]
+pub(crate) fn canonical_at(front: &[u8]) -> Option<(Head, usize)>
+    ensures { IfSome result (λ p. StandsIn true p.1 p.0 front.now) }
+{
+    match any_at(front) {
+        Some((head, len)) => {
+            if is_canonical(Marker::from_u8(front[0]), &head) {
+                Some((head, len))
+            } else {
+                None
+            }
+        }
+        None => None,
+    }
+}
+
+// A head of bytes, of any width: the count of the bytes, and of the head's.
+#[inline(always)]
+pub(crate) fn any_bin_at(front: &[u8]) -> Option<(u32, usize)>
+    ensures { IfSome result (λ p. StandsIn false p.1 (Head.Bin p.0) front.now) }
+{
+    match bytes_at(front) {
+        Some((head, len)) => match head.as_bin() {
+            Some(n) => Some((n, len)),
+            None => None,
+        },
+        None => None,
+    }
+}
+
+// A canonical head of bytes: the count of the bytes, and of the head's.
+#[inline(always)]
+pub(crate) fn canonical_bin_at(front: &[u8]) -> Option<(u32, usize)>
+    ensures { IfSome result (λ p. StandsIn true p.1 (Head.Bin p.0) front.now) }
+{
+    match canonical_at(front) {
+        Some((head, len)) => match head.as_bin() {
+            Some(n) => Some((n, len)),
+            None => None,
+        },
+        None => None,
+    }
+}
+
+// A head of a leaf, of any width, but of an extension of more than 255 bytes: how many bytes of content follow, and the count of its own.
+#[inline(always)]
+fn any_leaf_at(front: &[u8]) -> Option<(u32, usize)>
+    ensures { IfSome result (λ p. LeafStandsIn false p.1 p.0 front.now) }
+{
+    match any_at(front) {
+        Some((head, len)) => match leaf_in(head) {
+            Some(n) => Some((n, len)),
+            None => None,
+        },
+        None => None,
+    }
+}
+
+// A canonical head of a leaf. Out of line: so the other path keeps nothing of a head.
+#[inline(never)]
+fn canonical_leaf_at(front: &[u8]) -> Option<(u32, usize)>
+    ensures { IfSome result (λ p. LeafStandsIn true p.1 p.0 front.now) }
+{
+    match canonical_at(front) {
+        Some((head, len)) => match leaf_in(head) {
+            Some(n) => Some((n, len)),
+            None => None,
+        },
+        None => None,
+    }
+}
+
+// The head of a leaf that may be read: any, or where reading is strict a canonical one.
+#[inline(always)]
+pub(super) fn leaf_at(front: &[u8], strict: bool) -> Option<(u32, usize)>
+    ensures { IfSome result (λ p. LeafStandsIn strict p.1 p.0 front.now) }
+{
+    if strict {
+        canonical_leaf_at(front)
+    } else {
+        any_leaf_at(front)
+    }
+}

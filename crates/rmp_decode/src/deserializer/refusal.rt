@@ -1,0 +1,31 @@
+//! What a head holds, where it is of one kind.
+ghost use Rattle.std.specs.Prelude.{◌≡◌, ◌≢◌};
+ghost use Rattle.rmp_decode.specs.Kinds.{other_kind, other_number};
+
+use crate::error::Error;
+use crate::text::Text;
+use rmp_wire::{Head, Marker};
+
+// The refusal of a message of another kind where a truth, a number or the bits of a float is wanted.
+pub(crate) fn other_kind(marker: Marker, head: Head) -> Error
+    ensures same { result ≡ other_kind marker head }
+    ensures memory { result ≢ Error.OutOfMemory }
+{
+    match head {
+        Head::Nil | Head::Truth(_) | Head::Whole(_) | Head::F32Bits(_) | Head::F64Bits(_) => {
+            Error::Syntax(Text::InvalidType)
+        }
+        _ => Error::TypeMismatch(marker),
+    }
+}
+
+// The refusal of a message where a number in a range is wanted.
+pub(crate) fn other_number(marker: Marker, head: Head) -> Error
+    ensures same { result ≡ other_number marker head }
+    ensures memory { result ≢ Error.OutOfMemory }
+{
+    match head {
+        Head::Whole(_) => Error::Syntax(Text::InvalidValue),
+        _ => other_kind(marker, head),
+    }
+}

@@ -1,0 +1,6 @@
+pub mod Completing
+pub mod FirstByte
+pub mod Passing
+pub mod Rows
+pub mod Scanning
+pub mod Stepping

@@ -1,0 +1,13 @@
+//! Messages that arrive in pieces: where each ends, and whether it can end at all.
+#![tactic(auto)]
+
+mod length;
+mod length_of;
+mod opening;
+mod scanner;
+mod state;
+mod want;
+
+pub use length_of::message_len;
+pub use scanner::{Scan, Scanner};
+pub use state::State;

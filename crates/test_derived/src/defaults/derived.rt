@@ -1,0 +1,714 @@
+//! How the types of defaults.rt are written and read. Written by tools/derive.py.
+//!
+//! Sum of Level: b3b4bf0f.
+//! Sum of Server: 1829f2cb.
+//! Sum of Lists: 2f4b45a7.
+//! Sum of Once: 1a11c33a.
+ghost use Rattle.rmp_decode.specs.EnumRefusing.{RefusesEnum, no_content};
+ghost use Rattle.rmp_decode.specs.FieldRefusing.{RefusesFields};
+ghost use Rattle.rmp_decode.specs.Fields.{OfFields, Field, Absent, NoField};
+ghost use Rattle.rmp_decode.specs.ReadFields.{reads_5, reads_9};
+ghost use Rattle.rmp_decode.specs.Refusing.{part_of};
+ghost use Rattle.rmp_decode.specs.Rows.{ReadsEach};
+ghost use Rattle.rmp_decode.specs.Variants.{OfVariant, Case, NoCase, Bare};
+ghost use Rattle.rmp_encode.specs.Data.{unit_variant};
+ghost use Rattle.rmp_encode.specs.Sizes.{one_of};
+ghost use Rattle.rmp_encode.specs.Trees.{structure_of};
+ghost use Rattle.rmp_round_trip.specs.LeafRounds.{byte_row, unsigned_row_16, unsigned_row_32, unsigned_row_64, signed_row_8, signed_row_32};
+ghost use Rattle.rmp_round_trip.specs.LeafRounds.{truth_row, char_row, string_row, buffer_row, text_other};
+ghost use Rattle.rmp_round_trip.specs.MapRounds.{mapping_some, map_row, pairs_row, set_row};
+ghost use Rattle.rmp_round_trip.specs.OnlyFields.{AtPlace, AnyContent, field_only, fields_both, last_field, variant_both};
+ghost use Rattle.rmp_round_trip.specs.OnlyLeaves.{truth_only, byte_only, unsigned_only, signed_only, char_only, string_only, buffer_only};
+ghost use Rattle.rmp_round_trip.specs.OnlyMaps.{map_only, set_only};
+ghost use Rattle.rmp_round_trip.specs.OnlyRows.{item_only, last_only, list_only, lowers_then, option_only, row_both};
+ghost use Rattle.rmp_round_trip.specs.RoundTrip.{Only};
+ghost use Rattle.rmp_round_trip.specs.Rounds.{each_some, each_row, option_some, option_row, slice_some, slice_row};
+ghost use Rattle.rmp_round_trip.specs.Rounds.{tuple_row, sequence_some, sequence_row, rows_none, rows_cons};
+ghost use Rattle.rmp_round_trip.specs.StructRounds.{tuple_all, structure_all, structure_row, structure_other, fields_none, fields_cons};
+ghost use Rattle.rmp_round_trip.specs.VariantRounds.{bare_row, bare_other};
+ghost use Rattle.rmp_wire.specs.Types.{buffer_bytes};
+ghost use Rattle.std.proofs.Common.{refl};
+ghost use Rattle.std.proofs.lemmas.Cmp.{on_total, nat_list_cmp_total};
+ghost use Rattle.std.specs.Prelude.{◌≡◌, ◌∷◌, [], None, Some, codes, false, ⊤, string_bytes, true, pos, negsuc};
+ghost use Rattle.test_derived.specs.declared.defaults.Level.TheVariants as the_level;
+ghost use Rattle.test_derived.specs.declared.defaults.TheConstants.{CORNER, PLAIN, TRIES};
+
+use super::{BTreeMap, BTreeSet, ByteBuf, CORNER, Level, Lists, Once, PLAIN, Server, TRIES};
+use rmp_decode::{Defaulted, Deserialize, Deserializer, ReadFields};
+use rmp_encode::{Elements, Serialize, Serializer};
+use rmp_round_trip::{NeverNil, RoundTrip};
+use rmp_wire::config::SerializerConfig;
+use rmp_wire::{ReadSlice, Sink};
+
+impl Serialize for Level {
+    ghost data_of = { λ v human. elim v [ the_level.Quiet ↦ Some (unit_variant (codes "Quiet")) | the_level.Loud ↦ Some (unit_variant (codes "Loud")) ] };
+
+    ghost is_value = { λ v. elim v [ the_level.Quiet ↦ ⊤ | the_level.Loud ↦ ⊤ ] };
+
+    ghost takes_memory = { λ s. false };
+
+    #[tactic(auto, unfolding(rmp_encode::specs::Data::lower))]
+    fn serialize<W: Sink, C: SerializerConfig>(
+        &self,
+        se: &mut Serializer<W, C>,
+    ) -> Result<(), rmp_encode::Error> {
+        match self {
+            Level::Quiet => se.serialize_unit_variant("Level", 0, "Quiet"),
+            Level::Loud => se.serialize_unit_variant("Level", 1, "Loud"),
+        }
+    }
+
+    fn as_u8(&self, _human: bool) -> Option<u8> {
+        None
+    }
+}
+
+impl<'de, R: ReadSlice<'de>> Deserialize<'de, R> for Level {
+    ghost reads = { λ human lends m v. OfVariant (codes "Quiet" ∷ (codes "Loud" ∷ []))
+        (Case (λ c. (v ≡ the_level.Quiet) × Bare c) (Case (λ c. (v ≡ the_level.Loud) × Bare c) NoCase)) m };
+
+    ghost absent = { None };
+
+    ghost refuses = { RefusesEnum (codes "Quiet" ∷ (codes "Loud" ∷ [])) (no_content ∷ (no_content ∷ [])) };
+
+    fn deserialize<C: SerializerConfig>(
+        de: &mut Deserializer<R, C>,
+    ) -> Result<Level, rmp_decode::Error> {
+        match de.deserialize_enum(&["Quiet", "Loud"]) {
+            Ok((0, variant)) => match variant.unit_variant() {
+                Ok(()) => return Ok(Level::Quiet),
+                Err(e) => return Err(e),
+            },
+            Ok((_, variant)) => match variant.unit_variant() {
+                Ok(()) => return Ok(Level::Loud),
+                Err(e) => return Err(e),
+            },
+            Err(e) => return Err(e),
+        }
+    }
+
+    fn missing() -> Option<Level> {
+        None
+    }
+}
+
+impl<'de, R: ReadSlice<'de>> RoundTrip<'de, R> for Level {
+    ghost has_data = { λ human. elim [ the_level.Quiet ↦ refl | the_level.Loud ↦ refl ] };
+
+    ghost round = { λ lent s. elim [
+      | the_level.Quiet ↦ λ fits. bare_row s (codes "Quiet" ∷ (codes "Loud" ∷ [])) (codes "Quiet") 0 refl _ (refl, tt)
+      | the_level.Loud ↦ λ fits. bare_row s (codes "Quiet" ∷ (codes "Loud" ∷ [])) (codes "Loud") 1 refl _ (refl, tt)
+    ] };
+
+    ghost same = { λ v w. elim v [ the_level.Quiet ↦ (w ≡ the_level.Quiet) | the_level.Loud ↦ (w ≡ the_level.Loud) ] };
+
+    ghost only = { λ s. elim [
+      | the_level.Quiet ↦ λ fits. lowers_then s (Some (unit_variant (codes "Quiet")))
+          (OfVariant (codes "Quiet" ∷ (codes "Loud" ∷ [])) (AtPlace 0 AnyContent)) (λ m. (w : _)
+          → (⟦<Level as Deserialize<'de, R>>⟧.reads s.human R.lends) m w
+          → (w ≡ the_level.Quiet)) (bare_row s (codes "Quiet" ∷ (codes "Loud" ∷ [])) (codes "Quiet") 0 refl (AtPlace 0 AnyContent) (refl, tt))
+          (λ m q w r. variant_both (codes "Quiet" ∷ (codes "Loud" ∷ [])) 0 AnyContent _ _ m q r (λ c a b. b.0))
+      | the_level.Loud ↦ λ fits. lowers_then s
+          (Some (unit_variant (codes "Loud"))) (OfVariant (codes "Quiet" ∷ (codes "Loud" ∷ [])) (AtPlace 1 AnyContent)) (λ m. (w : _)
+          → (⟦<Level as Deserialize<'de, R>>⟧.reads s.human R.lends) m w
+          → (w ≡ the_level.Loud)) (bare_row s (codes "Quiet" ∷ (codes "Loud" ∷ [])) (codes "Loud") 1 refl (AtPlace 1 AnyContent) (refl, tt))
+          (λ m q w r. variant_both (codes "Quiet" ∷ (codes "Loud" ∷ [])) 1 AnyContent _ _ m q r (λ c a b. b.0))
+    ] };
+}
+
+impl NeverNil for Level {
+    ghost never_nil = { λ s. elim [ the_level.Quiet ↦ bare_other s (codes "Quiet") | the_level.Loud ↦ bare_other s (codes "Loud") ] };
+}
+
+impl Serialize for Server {
+    ghost data_of = { λ v human. structure_of ((codes "host", ⟦<String as Serialize>⟧.data_of v.host human)
+        ∷ ((codes "port", ⟦<u16 as Serialize>⟧.data_of v.port human)
+        ∷ ((codes "tries", ⟦<i32 as Serialize>⟧.data_of v.tries human)
+        ∷ ((codes "shift", ⟦<i8 as Serialize>⟧.data_of v.shift human)
+        ∷ ((codes "note", ⟦<Option<String> as Serialize>⟧.data_of v.note human)
+        ∷ ((codes "open", ⟦<bool as Serialize>⟧.data_of v.open human)
+        ∷ ((codes "sign", ⟦<char as Serialize>⟧.data_of v.sign human)
+        ∷ ((codes "corner", ⟦<(u16, u16) as Serialize>⟧.data_of v.corner human)
+        ∷ ((codes "level", ⟦<Level as Serialize>⟧.data_of v.level human) ∷ []))))))))) };
+
+    ghost is_value = { λ v. ⟦<String as Serialize>⟧.is_value v.host × ⟦<u16 as Serialize>⟧.is_value v.port × ⟦<i32 as Serialize>⟧.is_value v.tries
+        × ⟦<i8 as Serialize>⟧.is_value v.shift × ⟦<Option<String> as Serialize>⟧.is_value v.note × ⟦<bool as Serialize>⟧.is_value v.open
+        × ⟦<char as Serialize>⟧.is_value v.sign × ⟦<(u16, u16) as Serialize>⟧.is_value v.corner × ⟦<Level as Serialize>⟧.is_value v.level };
+
+    ghost takes_memory = { λ s. one_of (⟦<String as Serialize>⟧.takes_memory s
+        ∷ (⟦<u16 as Serialize>⟧.takes_memory s ∷ (⟦<i32 as Serialize>⟧.takes_memory s
+        ∷ (⟦<i8 as Serialize>⟧.takes_memory s ∷ (⟦<Option<String> as Serialize>⟧.takes_memory s
+        ∷ (⟦<bool as Serialize>⟧.takes_memory s ∷ (⟦<char as Serialize>⟧.takes_memory s
+        ∷ (⟦<(u16, u16) as Serialize>⟧.takes_memory s ∷ (⟦<Level as Serialize>⟧.takes_memory s ∷ []))))))))) };
+
+    fn serialize<W: Sink, C: SerializerConfig>(
+        &self,
+        se: &mut Serializer<W, C>,
+    ) -> Result<(), rmp_encode::Error> {
+        let parts = NineParts {
+            first: &self.host,
+            second: &self.port,
+            third: &self.tries,
+            fourth: &self.shift,
+            fifth: &self.note,
+            sixth: &self.open,
+            seventh: &self.sign,
+            eighth: &self.corner,
+            ninth: &self.level,
+        };
+        se.serialize_fields(
+            "Server",
+            &[
+                "host", "port", "tries", "shift", "note", "open", "sign", "corner", "level",
+            ],
+            &parts,
+        )
+    }
+
+    #[tactic(auto, using(rmp_encode::proofs::Fields::structure_no_byte))]
+    fn as_u8(&self, _human: bool) -> Option<u8> {
+        None
+    }
+}
+
+impl<'de, R: ReadSlice<'de>> Deserialize<'de, R> for Server {
+    ghost reads = { λ human lends m v. OfFields (codes "host"
+        ∷ (codes "port" ∷ (codes "tries" ∷ (codes "shift" ∷ (codes "note" ∷ (codes "open" ∷ (codes "sign" ∷ (codes "corner" ∷ (codes "level" ∷ [])))))))))
+        (Field (λ j. ⟦<String as Deserialize<'de, R>>⟧.reads human lends j v.host) (Absent ⟦<String as Deserialize<'de, R>>⟧.absent v.host)
+        (Field (λ j. ⟦<u16 as Deserialize<'de, R>>⟧.reads human lends j v.port) (v.port ≡ 8080)
+        (Field (λ j. ⟦<i32 as Deserialize<'de, R>>⟧.reads human lends j v.tries) (v.tries ≡ TRIES)
+        (Field (λ j. ⟦<i8 as Deserialize<'de, R>>⟧.reads human lends j v.shift) (v.shift ≡ pos 0)
+        (Field (λ j. ⟦<Option<String> as Deserialize<'de, R>>⟧.reads human lends j v.note) (Absent ⟦<Option<String> as Deserialize<'de, R>>⟧.absent v.note)
+        (Field (λ j. ⟦<bool as Deserialize<'de, R>>⟧.reads human lends j v.open) (v.open ≡ true)
+        (Field (λ j. ⟦<char as Deserialize<'de, R>>⟧.reads human lends j v.sign) (v.sign ≡ 47)
+        (Field (λ j. ⟦<(u16, u16) as Deserialize<'de, R>>⟧.reads human lends j v.corner) (v.corner ≡ CORNER)
+        (Field (λ j. ⟦<Level as Deserialize<'de, R>>⟧.reads human lends j v.level) (v.level ≡ PLAIN) NoField))))))))) m };
+
+    ghost absent = { None };
+
+    ghost refuses = { RefusesFields (codes "host" ∷ (codes "port"
+        ∷ (codes "tries" ∷ (codes "shift" ∷ (codes "note" ∷ (codes "open" ∷ (codes "sign" ∷ (codes "corner" ∷ (codes "level" ∷ [])))))))))
+        (reads_9 ⟦<String as Deserialize<'de, R>>⟧.reads ⟦<String as Deserialize<'de, R>>⟧.absent ⟦<Defaulted<u16> as Deserialize<'de, R>>⟧.reads
+        ⟦<Defaulted<u16> as Deserialize<'de, R>>⟧.absent ⟦<Defaulted<i32> as Deserialize<'de, R>>⟧.reads ⟦<Defaulted<i32> as Deserialize<'de, R>>⟧.absent
+        ⟦<Defaulted<i8> as Deserialize<'de, R>>⟧.reads ⟦<Defaulted<i8> as Deserialize<'de, R>>⟧.absent ⟦<Option<String> as Deserialize<'de, R>>⟧.reads
+        ⟦<Option<String> as Deserialize<'de, R>>⟧.absent ⟦<Defaulted<bool> as Deserialize<'de, R>>⟧.reads ⟦<Defaulted<bool> as Deserialize<'de, R>>⟧.absent
+        ⟦<Defaulted<char> as Deserialize<'de, R>>⟧.reads ⟦<Defaulted<char> as Deserialize<'de, R>>⟧.absent
+        ⟦<Defaulted<(u16, u16)> as Deserialize<'de, R>>⟧.reads ⟦<Defaulted<(u16, u16)> as Deserialize<'de, R>>⟧.absent
+        ⟦<Defaulted<Level> as Deserialize<'de, R>>⟧.reads ⟦<Defaulted<Level> as Deserialize<'de, R>>⟧.absent)
+        (part_of ⟦<String as Deserialize<'de, R>>⟧.reads ⟦<String as Deserialize<'de, R>>⟧.refuses
+        ∷ (part_of ⟦<Defaulted<u16> as Deserialize<'de, R>>⟧.reads ⟦<Defaulted<u16> as Deserialize<'de, R>>⟧.refuses
+        ∷ (part_of ⟦<Defaulted<i32> as Deserialize<'de, R>>⟧.reads ⟦<Defaulted<i32> as Deserialize<'de, R>>⟧.refuses
+        ∷ (part_of ⟦<Defaulted<i8> as Deserialize<'de, R>>⟧.reads ⟦<Defaulted<i8> as Deserialize<'de, R>>⟧.refuses
+        ∷ (part_of ⟦<Option<String> as Deserialize<'de, R>>⟧.reads ⟦<Option<String> as Deserialize<'de, R>>⟧.refuses
+        ∷ (part_of ⟦<Defaulted<bool> as Deserialize<'de, R>>⟧.reads ⟦<Defaulted<bool> as Deserialize<'de, R>>⟧.refuses
+        ∷ (part_of ⟦<Defaulted<char> as Deserialize<'de, R>>⟧.reads ⟦<Defaulted<char> as Deserialize<'de, R>>⟧.refuses
+        ∷ (part_of ⟦<Defaulted<(u16, u16)> as Deserialize<'de, R>>⟧.reads ⟦<Defaulted<(u16, u16)> as Deserialize<'de, R>>⟧.refuses
+        ∷ (part_of ⟦<Defaulted<Level> as Deserialize<'de, R>>⟧.reads ⟦<Defaulted<Level> as Deserialize<'de, R>>⟧.refuses ∷ []))))))))) };
+
+    fn deserialize<C: SerializerConfig>(
+        de: &mut Deserializer<R, C>,
+    ) -> Result<Server, rmp_decode::Error> {
+        let read: Result<
+            (
+                String,
+                Defaulted<u16>,
+                Defaulted<i32>,
+                Defaulted<i8>,
+                (
+                    Option<String>,
+                    Defaulted<bool>,
+                    Defaulted<char>,
+                    Defaulted<(u16, u16)>,
+                    (Defaulted<Level>, ()),
+                ),
+            ),
+            rmp_decode::Error,
+        > = rmp_decode::read_fields_9(
+            de,
+            &[
+                "host", "port", "tries", "shift", "note", "open", "sign", "corner", "level",
+            ],
+        );
+        match read {
+            Ok(parts) => {
+                let (host, port, tries, shift, (note, open, sign, corner, (level, ()))) = parts;
+                let port = port.value.unwrap_or(8080);
+                let tries = tries.value.unwrap_or(TRIES);
+                let shift = shift.value.unwrap_or(0);
+                let open = open.value.unwrap_or(true);
+                let sign = sign.value.unwrap_or('/');
+                let corner = corner.value.unwrap_or(CORNER);
+                let level = level.value.unwrap_or(PLAIN);
+                return Ok(Server {
+                    host,
+                    port,
+                    tries,
+                    shift,
+                    note,
+                    open,
+                    sign,
+                    corner,
+                    level,
+                });
+            }
+            Err(e) => return Err(e),
+        }
+    }
+
+    fn missing() -> Option<Server> {
+        None
+    }
+}
+
+impl<'de, R: ReadSlice<'de>> RoundTrip<'de, R> for Server {
+    ghost use Rattle.test_derived.specs.contracts.defaults.derived.LevelRoundTrip.TheImpl.Laws as level_rounds;
+    ghost use mir.Syntax.{given};
+
+    ghost has_data = { λ human v. structure_all ((codes "host", ⟦<String as Serialize>⟧.data_of v.host human)
+        ∷ ((codes "port", ⟦<u16 as Serialize>⟧.data_of v.port human)
+        ∷ ((codes "tries", ⟦<i32 as Serialize>⟧.data_of v.tries human)
+        ∷ ((codes "shift", ⟦<i8 as Serialize>⟧.data_of v.shift human)
+        ∷ ((codes "note", ⟦<Option<String> as Serialize>⟧.data_of v.note human)
+        ∷ ((codes "open", ⟦<bool as Serialize>⟧.data_of v.open human)
+        ∷ ((codes "sign", ⟦<char as Serialize>⟧.data_of v.sign human)
+        ∷ ((codes "corner", ⟦<(u16, u16) as Serialize>⟧.data_of v.corner human)
+        ∷ ((codes "level", ⟦<Level as Serialize>⟧.data_of v.level human) ∷ []))))))))) (
+          refl,
+          (
+            refl,
+            (
+              refl,
+              (
+                refl,
+                (
+                  (option_some (λ x. ⟦<String as Serialize>⟧.data_of x human) (λ x1. refl) v.note),
+                  (
+                    refl,
+                    (
+                      refl,
+                      (
+                        (tuple_all (⟦<u16 as Serialize>⟧.data_of v.corner.0 human ∷ (⟦<u16 as Serialize>⟧.data_of v.corner.1 human ∷ []))
+                            (refl, (refl, tt))),
+                        ((level_rounds.has_data-law R.row R.ReadSlice.own (given 0) R.Source (given 0) human v.level), tt),
+                      ),
+                    ),
+                  ),
+                ),
+              ),
+            ),
+          ),
+        ) };
+
+    ghost round = { λ lent s v fits. structure_row s (codes "host"
+        ∷ (codes "port" ∷ (codes "tries" ∷ (codes "shift" ∷ (codes "note" ∷ (codes "open" ∷ (codes "sign" ∷ (codes "corner" ∷ (codes "level" ∷ []))))))))) _
+        _ refl (fields_cons s (codes "host") _ _ _ (λ j. ⟦<String as Deserialize<'de, R>>⟧.reads s.human R.lends j v.host)
+        (Absent ⟦<String as Deserialize<'de, R>>⟧.absent v.host) _ (string_row s (string_bytes v.host))
+        (fields_cons s (codes "port") _ _ _ (λ j. ⟦<u16 as Deserialize<'de, R>>⟧.reads s.human R.lends j v.port) (v.port ≡ 8080) _
+        (unsigned_row_16 s v.port fits.1) (fields_cons s (codes "tries") _ _ _ (λ j. ⟦<i32 as Deserialize<'de, R>>⟧.reads s.human R.lends j v.tries)
+        (v.tries ≡ TRIES) _ (signed_row_32 s v.tries fits.2)
+        (fields_cons s (codes "shift") _ _ _ (λ j. ⟦<i8 as Deserialize<'de, R>>⟧.reads s.human R.lends j v.shift) (v.shift ≡ pos 0) _
+        (signed_row_8 s v.shift fits.3) (fields_cons s (codes "note") _ _ _ (λ j. ⟦<Option<String> as Deserialize<'de, R>>⟧.reads s.human R.lends j v.note)
+        (Absent ⟦<Option<String> as Deserialize<'de, R>>⟧.absent v.note) _
+        (option_row s (λ x. ⟦<String as Serialize>⟧.data_of x s.human) ⟦<String as Serialize>⟧.is_value
+        (⟦<String as Deserialize<'de, R>>⟧.reads s.human R.lends) (λ x4. text_other s (string_bytes x4)) (λ x3 h3. (string_row s (string_bytes x3))) v.note
+        fits.4) (fields_cons s (codes "open") _ _ _ (λ j. ⟦<bool as Deserialize<'de, R>>⟧.reads s.human R.lends j v.open) (v.open ≡ true) _
+        (truth_row s v.open) (fields_cons s (codes "sign") _ _ _ (λ j. ⟦<char as Deserialize<'de, R>>⟧.reads s.human R.lends j v.sign) (v.sign ≡ 47) _
+        (char_row s v.sign fits.6) (fields_cons s (codes "corner") _ _ _ (λ j. ⟦<(u16, u16) as Deserialize<'de, R>>⟧.reads s.human R.lends j v.corner)
+        (v.corner ≡ CORNER) _ (tuple_row s _ _ (rows_cons s _ _ (λ j. ⟦<u16 as Deserialize<'de, R>>⟧.reads s.human R.lends j v.corner.0) _
+        (unsigned_row_16 s v.corner.0 fits.7.0) (rows_cons s _ _ (λ j. ⟦<u16 as Deserialize<'de, R>>⟧.reads s.human R.lends j v.corner.1) _
+        (unsigned_row_16 s v.corner.1 fits.7.1) (rows_none s))))
+        (fields_cons s (codes "level") _ _ _ (λ j. ⟦<Level as Deserialize<'de, R>>⟧.reads s.human R.lends j v.level) (v.level ≡ PLAIN) _
+        (level_rounds.round-law R.row R.ReadSlice.own (given 0) R.Source (given 0) (λ e. cc) s v.level fits.8) (fields_none s)))))))))) };
+
+    ghost same = { λ v w. ⟦<String as RoundTrip<'de, R>>⟧.same v.host w.host × ⟦<u16 as RoundTrip<'de, R>>⟧.same v.port w.port
+        × ⟦<i32 as RoundTrip<'de, R>>⟧.same v.tries w.tries × ⟦<i8 as RoundTrip<'de, R>>⟧.same v.shift w.shift
+        × ⟦<Option<String> as RoundTrip<'de, R>>⟧.same v.note w.note × ⟦<bool as RoundTrip<'de, R>>⟧.same v.open w.open
+        × ⟦<char as RoundTrip<'de, R>>⟧.same v.sign w.sign × ⟦<(u16, u16) as RoundTrip<'de, R>>⟧.same v.corner w.corner
+        × ⟦<Level as RoundTrip<'de, R>>⟧.same v.level w.level };
+
+    ghost only = { λ s v fits. lowers_then s _ _ (λ m. (w : _) → (⟦<Server as Deserialize<'de, R>>⟧.reads s.human R.lends) m w
+        → ⟦<String as RoundTrip<'de, R>>⟧.same v.host w.host × ⟦<u16 as RoundTrip<'de, R>>⟧.same v.port w.port
+        × ⟦<i32 as RoundTrip<'de, R>>⟧.same v.tries w.tries × ⟦<i8 as RoundTrip<'de, R>>⟧.same v.shift w.shift
+        × ⟦<Option<String> as RoundTrip<'de, R>>⟧.same v.note w.note × ⟦<bool as RoundTrip<'de, R>>⟧.same v.open w.open
+        × ⟦<char as RoundTrip<'de, R>>⟧.same v.sign w.sign × ⟦<(u16, u16) as RoundTrip<'de, R>>⟧.same v.corner w.corner
+        × ⟦<Level as RoundTrip<'de, R>>⟧.same v.level w.level)
+        (structure_row s (codes "host" ∷ (codes "port" ∷ (codes "tries"
+        ∷ (codes "shift" ∷ (codes "note" ∷ (codes "open" ∷ (codes "sign" ∷ (codes "corner" ∷ (codes "level" ∷ []))))))))) _ _ refl
+        (fields_cons s (codes "host") _ _ _ (λ j. Only (⟦<String as Deserialize<'de, R>>⟧.reads s.human R.lends) ⟦<String as RoundTrip<'de, R>>⟧.same j
+        v.host) ⊥ _ (string_only s (λ w. string_bytes w) (string_bytes v.host))
+        (fields_cons s (codes "port") _ _ _ (λ j. Only (⟦<u16 as Deserialize<'de, R>>⟧.reads s.human R.lends) ⟦<u16 as RoundTrip<'de, R>>⟧.same j v.port) ⊥
+        _ (unsigned_only s 65535 v.port) (fields_cons s (codes "tries") _ _ _
+        (λ j. Only (⟦<i32 as Deserialize<'de, R>>⟧.reads s.human R.lends) ⟦<i32 as RoundTrip<'de, R>>⟧.same j v.tries) ⊥ _
+        (signed_only s (negsuc 2147483647) (pos 2147483647) v.tries)
+        (fields_cons s (codes "shift") _ _ _ (λ j. Only (⟦<i8 as Deserialize<'de, R>>⟧.reads s.human R.lends) ⟦<i8 as RoundTrip<'de, R>>⟧.same j v.shift) ⊥
+        _ (signed_only s (negsuc 127) (pos 127) v.shift) (fields_cons s (codes "note") _ _ _
+        (λ j. Only (⟦<Option<String> as Deserialize<'de, R>>⟧.reads s.human R.lends) ⟦<Option<String> as RoundTrip<'de, R>>⟧.same j v.note) ⊥ _
+        (option_only s _ (⟦<String as Deserialize<'de, R>>⟧.reads s.human R.lends) ⟦<String as RoundTrip<'de, R>>⟧.same v.note
+        (option_row s (λ x. ⟦<String as Serialize>⟧.data_of x s.human) ⟦<String as Serialize>⟧.is_value
+        (Only (⟦<String as Deserialize<'de, R>>⟧.reads s.human R.lends) ⟦<String as RoundTrip<'de, R>>⟧.same) (λ x2. text_other s (string_bytes x2))
+        (λ x1 h1. (string_only s (λ w. string_bytes w) (string_bytes x1))) v.note fits.4))
+        (fields_cons s (codes "open") _ _ _ (λ j. Only (⟦<bool as Deserialize<'de, R>>⟧.reads s.human R.lends) ⟦<bool as RoundTrip<'de, R>>⟧.same j v.open)
+        ⊥ _ (truth_only s v.open) (fields_cons s (codes "sign") _ _ _
+        (λ j. Only (⟦<char as Deserialize<'de, R>>⟧.reads s.human R.lends) ⟦<char as RoundTrip<'de, R>>⟧.same j v.sign) ⊥ _ (char_only s v.sign fits.6)
+        (fields_cons s (codes "corner") _ _ _ (λ j. Only (⟦<(u16, u16) as Deserialize<'de, R>>⟧.reads s.human R.lends)
+        ⟦<(u16, u16) as RoundTrip<'de, R>>⟧.same j v.corner) ⊥ _
+        (lowers_then s _ _ (λ j. Only (⟦<(u16, u16) as Deserialize<'de, R>>⟧.reads s.human R.lends) ⟦<(u16, u16) as RoundTrip<'de, R>>⟧.same j v.corner)
+        (tuple_row s _ _ (rows_cons s _ _ (λ j. Only (⟦<u16 as Deserialize<'de, R>>⟧.reads s.human R.lends) ⟦<u16 as RoundTrip<'de, R>>⟧.same j v.corner.0)
+        _ (unsigned_only s 65535 v.corner.0) (rows_cons s _ _
+        (λ j. Only (⟦<u16 as Deserialize<'de, R>>⟧.reads s.human R.lends) ⟦<u16 as RoundTrip<'de, R>>⟧.same j v.corner.1) _
+        (unsigned_only s 65535 v.corner.1) (rows_none s))))
+        (λ m q w r. row_both _ _ _ m q r (item_only (⟦<u16 as Deserialize<'de, R>>⟧.reads s.human R.lends) ⟦<u16 as RoundTrip<'de, R>>⟧.same v.corner.0 w.0
+        _ _ _ (last_only (⟦<u16 as Deserialize<'de, R>>⟧.reads s.human R.lends) ⟦<u16 as RoundTrip<'de, R>>⟧.same v.corner.1 w.1))))
+        (fields_cons s (codes "level") _ _ _ (λ j. Only (⟦<Level as Deserialize<'de, R>>⟧.reads s.human R.lends) ⟦<Level as RoundTrip<'de, R>>⟧.same j
+        v.level) ⊥ _ (level_rounds.only-law R.row R.ReadSlice.own (given 0) R.Source (given 0) s v.level fits.8) (fields_none s)))))))))))
+        (λ m q w r. fields_both (codes "host" ∷ (codes "port"
+        ∷ (codes "tries" ∷ (codes "shift" ∷ (codes "note" ∷ (codes "open" ∷ (codes "sign" ∷ (codes "corner" ∷ (codes "level" ∷ []))))))))) _ _ _ m q r
+        (λ ks i j. let x = field_only (⟦<String as Deserialize<'de, R>>⟧.reads s.human R.lends) ⟦<String as RoundTrip<'de, R>>⟧.same v.host w.host _ _ _ _
+        (field_only (⟦<u16 as Deserialize<'de, R>>⟧.reads s.human R.lends) ⟦<u16 as RoundTrip<'de, R>>⟧.same v.port w.port _ _ _ _
+        (field_only (⟦<i32 as Deserialize<'de, R>>⟧.reads s.human R.lends) ⟦<i32 as RoundTrip<'de, R>>⟧.same v.tries w.tries _ _ _ _
+        (field_only (⟦<i8 as Deserialize<'de, R>>⟧.reads s.human R.lends) ⟦<i8 as RoundTrip<'de, R>>⟧.same v.shift w.shift _ _ _ _
+        (field_only (⟦<Option<String> as Deserialize<'de, R>>⟧.reads s.human R.lends) ⟦<Option<String> as RoundTrip<'de, R>>⟧.same v.note w.note _ _ _ _
+        (field_only (⟦<bool as Deserialize<'de, R>>⟧.reads s.human R.lends) ⟦<bool as RoundTrip<'de, R>>⟧.same v.open w.open _ _ _ _
+        (field_only (⟦<char as Deserialize<'de, R>>⟧.reads s.human R.lends) ⟦<char as RoundTrip<'de, R>>⟧.same v.sign w.sign _ _ _ _
+        (field_only (⟦<(u16, u16) as Deserialize<'de, R>>⟧.reads s.human R.lends) ⟦<(u16, u16) as RoundTrip<'de, R>>⟧.same v.corner w.corner _ _ _ _
+        (last_field (⟦<Level as Deserialize<'de, R>>⟧.reads s.human R.lends) ⟦<Level as RoundTrip<'de, R>>⟧.same v.level w.level _)))))))) ks i j
+        in (x.0, x.1.0, x.1.1.0, x.1.1.1.0, x.1.1.1.1.0, x.1.1.1.1.1.0, x.1.1.1.1.1.1.0, x.1.1.1.1.1.1.1.0, x.1.1.1.1.1.1.1.1))) };
+}
+
+impl NeverNil for Server {
+    ghost never_nil = { λ s v. structure_other s _ };
+}
+
+impl Serialize for Lists {
+    ghost data_of = { λ v human. structure_of ((codes "name", ⟦<String as Serialize>⟧.data_of v.name human)
+        ∷ ((codes "all", ⟦<Vec<u16> as Serialize>⟧.data_of v.list human)
+        ∷ ((codes "counts", ⟦<BTreeMap<String, u64> as Serialize>⟧.data_of v.counts human)
+        ∷ ((codes "seen", ⟦<BTreeSet<u32> as Serialize>⟧.data_of v.seen human) ∷ ((codes "raw", ⟦<ByteBuf as Serialize>⟧.data_of v.raw human) ∷ []))))) };
+
+    ghost is_value = { λ v. ⟦<String as Serialize>⟧.is_value v.name × ⟦<Vec<u16> as Serialize>⟧.is_value v.list
+        × ⟦<BTreeMap<String, u64> as Serialize>⟧.is_value v.counts × ⟦<BTreeSet<u32> as Serialize>⟧.is_value v.seen
+        × ⟦<ByteBuf as Serialize>⟧.is_value v.raw };
+
+    ghost takes_memory = { λ s. one_of (⟦<String as Serialize>⟧.takes_memory s
+        ∷ (⟦<Vec<u16> as Serialize>⟧.takes_memory s ∷ (⟦<BTreeMap<String, u64> as Serialize>⟧.takes_memory s
+        ∷ (⟦<BTreeSet<u32> as Serialize>⟧.takes_memory s ∷ (⟦<ByteBuf as Serialize>⟧.takes_memory s ∷ []))))) };
+
+    fn serialize<W: Sink, C: SerializerConfig>(
+        &self,
+        se: &mut Serializer<W, C>,
+    ) -> Result<(), rmp_encode::Error> {
+        let parts = rmp_encode::Five {
+            first: &self.name,
+            second: &self.list,
+            third: &self.counts,
+            fourth: &self.seen,
+            fifth: &self.raw,
+        };
+        se.serialize_fields("Lists", &["name", "all", "counts", "seen", "raw"], &parts)
+    }
+
+    #[tactic(auto, using(rmp_encode::proofs::Fields::structure_no_byte))]
+    fn as_u8(&self, _human: bool) -> Option<u8> {
+        None
+    }
+}
+
+impl<'de, R: ReadSlice<'de>> Deserialize<'de, R> for Lists {
+    ghost reads = { λ human lends m v. OfFields (codes "name" ∷ (codes "all" ∷ (codes "counts" ∷ (codes "seen" ∷ (codes "raw" ∷ [])))))
+        (Field (λ j. ⟦<String as Deserialize<'de, R>>⟧.reads human lends j v.name) (string_bytes v.name ≡ [])
+        (Field (λ j. ⟦<Vec<u16> as Deserialize<'de, R>>⟧.reads human lends j v.list) (v.list.items ≡ [])
+        (Field (λ j. ⟦<BTreeMap<String, u64> as Deserialize<'de, R>>⟧.reads human lends j v.counts) (v.counts.entries ≡ [])
+        (Field (λ j. ⟦<BTreeSet<u32> as Deserialize<'de, R>>⟧.reads human lends j v.seen) (v.seen.keys ≡ [])
+        (Field (λ j. ⟦<ByteBuf as Deserialize<'de, R>>⟧.reads human lends j v.raw) (buffer_bytes v.raw ≡ []) NoField))))) m };
+
+    ghost absent = { None };
+
+    ghost refuses = { RefusesFields (codes "name" ∷ (codes "all" ∷ (codes "counts" ∷ (codes "seen" ∷ (codes "raw" ∷ [])))))
+        (reads_5 ⟦<Defaulted<String> as Deserialize<'de, R>>⟧.reads ⟦<Defaulted<String> as Deserialize<'de, R>>⟧.absent
+        ⟦<Defaulted<Vec<u16>> as Deserialize<'de, R>>⟧.reads ⟦<Defaulted<Vec<u16>> as Deserialize<'de, R>>⟧.absent
+        ⟦<Defaulted<BTreeMap<String, u64>> as Deserialize<'de, R>>⟧.reads ⟦<Defaulted<BTreeMap<String, u64>> as Deserialize<'de, R>>⟧.absent
+        ⟦<Defaulted<BTreeSet<u32>> as Deserialize<'de, R>>⟧.reads ⟦<Defaulted<BTreeSet<u32>> as Deserialize<'de, R>>⟧.absent
+        ⟦<Defaulted<ByteBuf> as Deserialize<'de, R>>⟧.reads ⟦<Defaulted<ByteBuf> as Deserialize<'de, R>>⟧.absent)
+        (part_of ⟦<Defaulted<String> as Deserialize<'de, R>>⟧.reads ⟦<Defaulted<String> as Deserialize<'de, R>>⟧.refuses
+        ∷ (part_of ⟦<Defaulted<Vec<u16>> as Deserialize<'de, R>>⟧.reads ⟦<Defaulted<Vec<u16>> as Deserialize<'de, R>>⟧.refuses
+        ∷ (part_of ⟦<Defaulted<BTreeMap<String, u64>> as Deserialize<'de, R>>⟧.reads ⟦<Defaulted<BTreeMap<String, u64>> as Deserialize<'de, R>>⟧.refuses
+        ∷ (part_of ⟦<Defaulted<BTreeSet<u32>> as Deserialize<'de, R>>⟧.reads ⟦<Defaulted<BTreeSet<u32>> as Deserialize<'de, R>>⟧.refuses
+        ∷ (part_of ⟦<Defaulted<ByteBuf> as Deserialize<'de, R>>⟧.reads ⟦<Defaulted<ByteBuf> as Deserialize<'de, R>>⟧.refuses ∷ []))))) };
+
+    fn deserialize<C: SerializerConfig>(
+        de: &mut Deserializer<R, C>,
+    ) -> Result<Lists, rmp_decode::Error> {
+        let read: Result<
+            (
+                Defaulted<String>,
+                Defaulted<Vec<u16>>,
+                Defaulted<BTreeMap<String, u64>>,
+                Defaulted<BTreeSet<u32>>,
+                (Defaulted<ByteBuf>, ()),
+            ),
+            rmp_decode::Error,
+        > = rmp_decode::read_fields_5(de, &["name", "all", "counts", "seen", "raw"]);
+        match read {
+            Ok(parts) => {
+                let (name, list, counts, seen, (raw, ())) = parts;
+                let name = name.value.unwrap_or(String::new(de.alloc()));
+                let list = list.value.unwrap_or(Vec::new(de.alloc()));
+                let counts = counts.value.unwrap_or(BTreeMap::new(de.alloc()));
+                let seen = seen.value.unwrap_or(BTreeSet::new(de.alloc()));
+                let raw = raw.value.unwrap_or(ByteBuf::new(Vec::new(de.alloc())));
+                return Ok(Lists {
+                    name,
+                    list,
+                    counts,
+                    seen,
+                    raw,
+                });
+            }
+            Err(e) => return Err(e),
+        }
+    }
+
+    fn missing() -> Option<Lists> {
+        None
+    }
+}
+
+impl<'de, R: ReadSlice<'de>> RoundTrip<'de, R> for Lists {
+    ghost has_data = { λ human v. structure_all ((codes "name", ⟦<String as Serialize>⟧.data_of v.name human)
+        ∷ ((codes "all", ⟦<Vec<u16> as Serialize>⟧.data_of v.list human)
+        ∷ ((codes "counts", ⟦<BTreeMap<String, u64> as Serialize>⟧.data_of v.counts human)
+        ∷ ((codes "seen", ⟦<BTreeSet<u32> as Serialize>⟧.data_of v.seen human) ∷ ((codes "raw", ⟦<ByteBuf as Serialize>⟧.data_of v.raw human) ∷ []))))) (
+          refl,
+          (
+            (slice_some _ (each_some (λ x. ⟦<u16 as Serialize>⟧.data_of x human) (λ x1. refl) v.list.items)),
+            (
+              (mapping_some (λ x. ⟦<String as Serialize>⟧.data_of x human) (λ x. ⟦<u64 as Serialize>⟧.data_of x human) (λ x2. refl) (λ x2. refl)
+                  v.counts.entries),
+              ((sequence_some _ (each_some (λ x. ⟦<u32 as Serialize>⟧.data_of x human) (λ x3. refl) v.seen.keys)), (refl, tt)),
+            ),
+          ),
+        ) };
+
+    ghost round = { λ lent s v fits. structure_row s (codes "name" ∷ (codes "all" ∷ (codes "counts" ∷ (codes "seen" ∷ (codes "raw" ∷ []))))) _ _ refl
+        (fields_cons s (codes "name") _ _ _ (λ j. ⟦<String as Deserialize<'de, R>>⟧.reads s.human R.lends j v.name) (string_bytes v.name ≡ []) _
+        (string_row s (string_bytes v.name)) (fields_cons s (codes "all") _ _ _ (λ j. ⟦<Vec<u16> as Deserialize<'de, R>>⟧.reads s.human R.lends j v.list)
+        (v.list.items ≡ []) _ (slice_row s _ (λ ms. ReadsEach (⟦<u16 as Deserialize<'de, R>>⟧.reads s.human R.lends) ms v.list.items)
+        (each_row s (λ x. ⟦<u16 as Serialize>⟧.data_of x s.human) ⟦<u16 as Serialize>⟧.is_value (⟦<u16 as Deserialize<'de, R>>⟧.reads s.human R.lends)
+        (λ x4 h4. (unsigned_row_16 s x4 h4)) v.list.items fits.1))
+        (fields_cons s (codes "counts") _ _ _ (λ j. ⟦<BTreeMap<String, u64> as Deserialize<'de, R>>⟧.reads s.human R.lends j v.counts)
+        (v.counts.entries ≡ []) _ (map_row s (λ x. ⟦<String as Serialize>⟧.data_of x s.human) (λ x. ⟦<u64 as Serialize>⟧.data_of x s.human)
+        ⟦<String as Serialize>⟧.is_value ⟦<u64 as Serialize>⟧.is_value (⟦<String as Deserialize<'de, R>>⟧.reads s.human R.lends)
+        (⟦<u64 as Deserialize<'de, R>>⟧.reads s.human R.lends) (λ x5 h5. (string_row s (string_bytes x5))) (λ x6 h6. (unsigned_row_64 s x6 h6))
+        (on_total (λ x. string_bytes x) nat_list_cmp_total) v.counts.entries fits.2.1 fits.2.0)
+        (fields_cons s (codes "seen") _ _ _ (λ j. ⟦<BTreeSet<u32> as Deserialize<'de, R>>⟧.reads s.human R.lends j v.seen) (v.seen.keys ≡ []) _
+        (set_row s (λ x. ⟦<u32 as Serialize>⟧.data_of x s.human) ⟦<u32 as Serialize>⟧.is_value (⟦<u32 as Deserialize<'de, R>>⟧.reads s.human R.lends)
+        (λ x7 h7. (unsigned_row_32 s x7 h7)) ⟦<u32 as Ord>⟧.cmp v.seen.keys fits.3.1 fits.3.0)
+        (fields_cons s (codes "raw") _ _ _ (λ j. ⟦<ByteBuf as Deserialize<'de, R>>⟧.reads s.human R.lends j v.raw) (buffer_bytes v.raw ≡ []) _
+        (buffer_row s (buffer_bytes v.raw)) (fields_none s)))))) };
+
+    ghost same = { λ v w. ⟦<String as RoundTrip<'de, R>>⟧.same v.name w.name × ⟦<Vec<u16> as RoundTrip<'de, R>>⟧.same v.list w.list
+        × ⟦<BTreeMap<String, u64> as RoundTrip<'de, R>>⟧.same v.counts w.counts × ⟦<BTreeSet<u32> as RoundTrip<'de, R>>⟧.same v.seen w.seen
+        × ⟦<ByteBuf as RoundTrip<'de, R>>⟧.same v.raw w.raw };
+
+    ghost only = { λ s v fits. lowers_then s _ _ (λ m. (w : _) → (⟦<Lists as Deserialize<'de, R>>⟧.reads s.human R.lends) m w
+        → ⟦<String as RoundTrip<'de, R>>⟧.same v.name w.name × ⟦<Vec<u16> as RoundTrip<'de, R>>⟧.same v.list w.list
+        × ⟦<BTreeMap<String, u64> as RoundTrip<'de, R>>⟧.same v.counts w.counts × ⟦<BTreeSet<u32> as RoundTrip<'de, R>>⟧.same v.seen w.seen
+        × ⟦<ByteBuf as RoundTrip<'de, R>>⟧.same v.raw w.raw)
+        (structure_row s (codes "name" ∷ (codes "all" ∷ (codes "counts" ∷ (codes "seen" ∷ (codes "raw" ∷ []))))) _ _ refl
+        (fields_cons s (codes "name") _ _ _ (λ j. Only (⟦<String as Deserialize<'de, R>>⟧.reads s.human R.lends) ⟦<String as RoundTrip<'de, R>>⟧.same j
+        v.name) ⊥ _ (string_only s (λ w. string_bytes w) (string_bytes v.name))
+        (fields_cons s (codes "all") _ _ _ (λ j. Only (⟦<Vec<u16> as Deserialize<'de, R>>⟧.reads s.human R.lends) ⟦<Vec<u16> as RoundTrip<'de, R>>⟧.same j
+        v.list) ⊥ _ (list_only s _ (λ w. w.items) (⟦<u16 as Deserialize<'de, R>>⟧.reads s.human R.lends) ⟦<u16 as RoundTrip<'de, R>>⟧.same v.list.items
+        (slice_row s _ (λ ms. ReadsEach (Only (⟦<u16 as Deserialize<'de, R>>⟧.reads s.human R.lends) ⟦<u16 as RoundTrip<'de, R>>⟧.same) ms v.list.items)
+        (each_row s (λ x. ⟦<u16 as Serialize>⟧.data_of x s.human) ⟦<u16 as Serialize>⟧.is_value
+        (Only (⟦<u16 as Deserialize<'de, R>>⟧.reads s.human R.lends) ⟦<u16 as RoundTrip<'de, R>>⟧.same) (λ x1 h1. (unsigned_only s 65535 x1)) v.list.items
+        fits.1))) (fields_cons s (codes "counts") _ _ _ (λ j. Only (⟦<BTreeMap<String, u64> as Deserialize<'de, R>>⟧.reads s.human R.lends)
+        ⟦<BTreeMap<String, u64> as RoundTrip<'de, R>>⟧.same j v.counts) ⊥ _
+        (map_only (⟦<String as Deserialize<'de, R>>⟧.reads s.human R.lends) (⟦<u64 as Deserialize<'de, R>>⟧.reads s.human R.lends)
+        ⟦<String as RoundTrip<'de, R>>⟧.same ⟦<u64 as RoundTrip<'de, R>>⟧.same s _ (λ w. w.entries) ⟦<String as Ord>⟧.cmp v.counts.entries
+        (pairs_row s (λ x. ⟦<String as Serialize>⟧.data_of x s.human) (λ x. ⟦<u64 as Serialize>⟧.data_of x s.human) ⟦<String as Serialize>⟧.is_value
+        ⟦<u64 as Serialize>⟧.is_value (Only (⟦<String as Deserialize<'de, R>>⟧.reads s.human R.lends) ⟦<String as RoundTrip<'de, R>>⟧.same)
+        (Only (⟦<u64 as Deserialize<'de, R>>⟧.reads s.human R.lends) ⟦<u64 as RoundTrip<'de, R>>⟧.same)
+        (λ x2 h2. (string_only s (λ w. string_bytes w) (string_bytes x2))) (λ x3 h3. (unsigned_only s 18446744073709551615 x3)) v.counts.entries fits.2.0))
+        (fields_cons s (codes "seen") _ _ _ (λ j. Only (⟦<BTreeSet<u32> as Deserialize<'de, R>>⟧.reads s.human R.lends)
+        ⟦<BTreeSet<u32> as RoundTrip<'de, R>>⟧.same j v.seen) ⊥ _
+        (set_only s _ (λ w. w.keys) ⟦<u32 as Ord>⟧.cmp (⟦<u32 as Deserialize<'de, R>>⟧.reads s.human R.lends) ⟦<u32 as RoundTrip<'de, R>>⟧.same v.seen.keys
+        (sequence_row s _ (λ ms. ReadsEach (Only (⟦<u32 as Deserialize<'de, R>>⟧.reads s.human R.lends) ⟦<u32 as RoundTrip<'de, R>>⟧.same) ms v.seen.keys)
+        (each_row s (λ x. ⟦<u32 as Serialize>⟧.data_of x s.human) ⟦<u32 as Serialize>⟧.is_value
+        (Only (⟦<u32 as Deserialize<'de, R>>⟧.reads s.human R.lends) ⟦<u32 as RoundTrip<'de, R>>⟧.same) (λ x4 h4. (unsigned_only s 4294967295 x4))
+        v.seen.keys fits.3.0))) (fields_cons s (codes "raw") _ _ _
+        (λ j. Only (⟦<ByteBuf as Deserialize<'de, R>>⟧.reads s.human R.lends) ⟦<ByteBuf as RoundTrip<'de, R>>⟧.same j v.raw) ⊥ _
+        (buffer_only s (λ w. buffer_bytes w) (buffer_bytes v.raw)) (fields_none s)))))))
+        (λ m q w r. fields_both (codes "name" ∷ (codes "all" ∷ (codes "counts" ∷ (codes "seen" ∷ (codes "raw" ∷ []))))) _ _ _ m q r
+        (λ ks i j. let x = field_only (⟦<String as Deserialize<'de, R>>⟧.reads s.human R.lends) ⟦<String as RoundTrip<'de, R>>⟧.same v.name w.name _ _ _ _
+        (field_only (⟦<Vec<u16> as Deserialize<'de, R>>⟧.reads s.human R.lends) ⟦<Vec<u16> as RoundTrip<'de, R>>⟧.same v.list w.list _ _ _ _
+        (field_only (⟦<BTreeMap<String, u64> as Deserialize<'de, R>>⟧.reads s.human R.lends) ⟦<BTreeMap<String, u64> as RoundTrip<'de, R>>⟧.same v.counts
+        w.counts _ _ _ _ (field_only (⟦<BTreeSet<u32> as Deserialize<'de, R>>⟧.reads s.human R.lends) ⟦<BTreeSet<u32> as RoundTrip<'de, R>>⟧.same v.seen
+        w.seen _ _ _ _ (last_field (⟦<ByteBuf as Deserialize<'de, R>>⟧.reads s.human R.lends) ⟦<ByteBuf as RoundTrip<'de, R>>⟧.same v.raw w.raw _)))) ks i j
+        in (x.0, x.1.0, x.1.1.0, x.1.1.1.0, x.1.1.1.1))) };
+}
+
+impl NeverNil for Lists {
+    ghost never_nil = { λ s v. structure_other s _ };
+}
+
+impl Serialize for Once {
+    ghost data_of = { λ v human. structure_of ((codes "times", ⟦<u8 as Serialize>⟧.data_of v.times human) ∷ []) };
+
+    ghost is_value = { λ v. ⟦<u8 as Serialize>⟧.is_value v.times };
+
+    ghost takes_memory = { λ s. one_of (⟦<u8 as Serialize>⟧.takes_memory s ∷ []) };
+
+    fn serialize<W: Sink, C: SerializerConfig>(
+        &self,
+        se: &mut Serializer<W, C>,
+    ) -> Result<(), rmp_encode::Error> {
+        let parts = rmp_encode::One { first: &self.times };
+        se.serialize_fields("Once", &["times"], &parts)
+    }
+
+    #[tactic(auto, using(rmp_encode::proofs::Fields::structure_no_byte))]
+    fn as_u8(&self, _human: bool) -> Option<u8> {
+        None
+    }
+}
+
+impl<'de, R: ReadSlice<'de>> Deserialize<'de, R> for Once {
+    ghost reads = { λ human lends m v. OfFields (codes "times" ∷ [])
+        (Field (λ j. ⟦<u8 as Deserialize<'de, R>>⟧.reads human lends j v.times) (v.times ≡ 3) NoField) m };
+
+    ghost absent = { None };
+
+    ghost refuses = { RefusesFields (codes "times" ∷ []) ⟦<(Defaulted<u8>, ()) as ReadFields<'de, R>>⟧.reads
+        ⟦<(Defaulted<u8>, ()) as ReadFields<'de, R>>⟧.parts };
+
+    #[inline(always)]
+    fn deserialize<C: SerializerConfig>(
+        de: &mut Deserializer<R, C>,
+    ) -> Result<Once, rmp_decode::Error> {
+        let read: Result<(Defaulted<u8>, ()), rmp_decode::Error> = de.deserialize_fields(&[
+            "times",
+        ]);
+        match read {
+            Ok(parts) => {
+                let (times, ()) = parts;
+                let times = times.value.unwrap_or(3);
+                return Ok(Once { times });
+            }
+            Err(e) => return Err(e),
+        }
+    }
+
+    fn missing() -> Option<Once> {
+        None
+    }
+}
+
+impl<'de, R: ReadSlice<'de>> RoundTrip<'de, R> for Once {
+    ghost has_data = { λ human v. structure_all ((codes "times", ⟦<u8 as Serialize>⟧.data_of v.times human) ∷ []) (refl, tt) };
+
+    ghost round = { λ lent s v fits. structure_row s (codes "times" ∷ []) _ _ refl
+        (fields_cons s (codes "times") _ _ _ (λ j. ⟦<u8 as Deserialize<'de, R>>⟧.reads s.human R.lends j v.times) (v.times ≡ 3) _ (byte_row s v.times fits)
+        (fields_none s)) };
+
+    ghost same = { λ v w. ⟦<u8 as RoundTrip<'de, R>>⟧.same v.times w.times };
+
+    ghost only = { λ s v fits. lowers_then s _ _ (λ m. (w : _) → (⟦<Once as Deserialize<'de, R>>⟧.reads s.human R.lends) m w
+        → ⟦<u8 as RoundTrip<'de, R>>⟧.same v.times w.times)
+        (structure_row s (codes "times" ∷ []) _ _ refl (fields_cons s (codes "times") _ _ _
+        (λ j. Only (⟦<u8 as Deserialize<'de, R>>⟧.reads s.human R.lends) ⟦<u8 as RoundTrip<'de, R>>⟧.same j v.times) ⊥ _ (byte_only s v.times)
+        (fields_none s))) (λ m q w r. fields_both (codes "times" ∷ []) _ _ _ m q r
+        (last_field (⟦<u8 as Deserialize<'de, R>>⟧.reads s.human R.lends) ⟦<u8 as RoundTrip<'de, R>>⟧.same v.times w.times _)) };
+}
+
+impl NeverNil for Once {
+    ghost never_nil = { λ s v. structure_other s _ };
+}
+
+// 9 values, the first 8 of which are written before the others.
+#[derive(Drop)]
+struct NineParts<'r, E1, E2, E3, E4, E5, E6, E7, E8, E9> {
+    first: &'r E1,
+    second: &'r E2,
+    third: &'r E3,
+    fourth: &'r E4,
+    fifth: &'r E5,
+    sixth: &'r E6,
+    seventh: &'r E7,
+    eighth: &'r E8,
+    ninth: &'r E9,
+}
+
+impl<
+    'r,
+    E1: Serialize,
+    E2: Serialize,
+    E3: Serialize,
+    E4: Serialize,
+    E5: Serialize,
+    E6: Serialize,
+    E7: Serialize,
+    E8: Serialize,
+    E9: Serialize,
+> Elements for NineParts<'r, E1, E2, E3, E4, E5, E6, E7, E8, E9> {
+    ghost count = { 9 };
+
+    ghost parts_of = { λ v human. E1.data_of v.first.now human ∷ E2.data_of v.second.now human ∷ E3.data_of v.third.now human
+        ∷ E4.data_of v.fourth.now human ∷ E5.data_of v.fifth.now human ∷ E6.data_of v.sixth.now human ∷ E7.data_of v.seventh.now human
+        ∷ E8.data_of v.eighth.now human ∷ E9.data_of v.ninth.now human ∷ [] };
+
+    ghost are_values = { λ v. E1.is_value v.first.now × E2.is_value v.second.now × E3.is_value v.third.now × E4.is_value v.fourth.now
+        × E5.is_value v.fifth.now × E6.is_value v.sixth.now × E7.is_value v.seventh.now × E8.is_value v.eighth.now × E9.is_value v.ninth.now };
+
+    ghost takes_memory = { λ s. one_of (E1.takes_memory s
+        ∷ (E2.takes_memory s ∷ (E3.takes_memory s ∷ (E4.takes_memory s
+        ∷ (E5.takes_memory s ∷ (E6.takes_memory s ∷ (E7.takes_memory s ∷ (E8.takes_memory s ∷ (E9.takes_memory s ∷ []))))))))) };
+
+    ghost counted = { λ v human. refl };
+
+    #[inline(always)]
+    fn len(&self) -> usize {
+        9
+    }
+
+    #[inline(always)]
+    fn write<W: Sink, C: SerializerConfig>(
+        &self,
+        se: &mut Serializer<W, C>,
+    ) -> Result<(), rmp_encode::Error> {
+        let front = rmp_encode::Eight {
+            first: self.first,
+            second: self.second,
+            third: self.third,
+            fourth: self.fourth,
+            fifth: self.fifth,
+            sixth: self.sixth,
+            seventh: self.seventh,
+            eighth: self.eighth,
+        };
+        let back = rmp_encode::One { first: self.ninth };
+        front.write(se)?;
+        back.write(se)
+    }
+
+    #[inline(always)]
+    fn write_fields<W: Sink, C: SerializerConfig>(
+        &self,
+        names: &[&'static str],
+        se: &mut Serializer<W, C>,
+    ) -> Result<(), rmp_encode::Error> {
+        let front = rmp_encode::Eight {
+            first: self.first,
+            second: self.second,
+            third: self.third,
+            fourth: self.fourth,
+            fifth: self.fifth,
+            sixth: self.sixth,
+            seventh: self.seventh,
+            eighth: self.eighth,
+        };
+        let back = rmp_encode::One { first: self.ninth };
+        front.write_fields(&names[..8], se)?;
+        back.write_fields(&names[8..], se)
+    }
+}

@@ -1,0 +1,189 @@
+"""The files that derive.py reads and writes: a module of a crate with its types, the sums of what was derived, and what is laid out."""
+from __future__ import annotations
+
+import os
+import re
+import shutil
+import subprocess
+import tempfile
+import zlib
+from typing import Iterator, Optional
+
+from crates import listed
+from declarations import Refused, identifiers, read
+from derived_rounds import Own
+from lines import broken
+
+TRAITS = {"Serialize", "Deserialize", "RoundTrip", "NeverNil"}
+LIBRARIES = "rmp_encode rmp_decode rmp_wire".split()
+DERIVED = re.compile(r"^mod derived;", re.M)
+# The sums of the declarations in a derived file's head, and how many of them a line has.
+SUM = re.compile(r"^//! Sum of (\w+): ([0-9a-f]{8})\.$", re.M)
+
+
+def implemented(text: str, name: str) -> set[str]:
+    """The traits that the file itself implements for a type."""
+    return set(re.findall(rf"^impl\b[^{{]*?\b(\w+)(?:<[^<>{{]*>)?\s+for\s+{name}\b", text, re.M)) & TRAITS
+
+
+def brought_in(text: str) -> Iterator[tuple[str, list[str]]]:
+    """The names that the `use` lines of a file bring in, each with the module that it comes from."""
+    for path, names in re.findall(r"^(?:pub(?:\([^)]*\))? )?use ([\w:]+?)::(\{[^{}]*\}|\w+);", text, re.M):
+        for name in re.findall(r"\w+", names):
+            yield name, path.split("::")
+
+
+class Module:
+    """A file of a crate, by its path below src/."""
+
+    def __init__(self, crate: str, path: str) -> None:
+        self.crate, self.path = crate, path
+        self.name = os.path.basename(os.path.abspath(crate))
+        stem = re.sub(r"\.rt$", "", path)
+        self.at = "" if stem in ("lib", "main") else stem + "/"
+
+    def below(self, *words: str) -> str:
+        """The name of a module below the crate, where this file's module is in it."""
+        return ".".join(word for word in (self.at.rstrip("/").replace("/", "."), *words) if word)
+
+    def libraries(self) -> list[str]:
+        """The libraries that crates.txt lists for the crate."""
+        place = os.path.join(self.crate, "..", "..", "crates.txt")
+        if not os.path.isfile(place):
+            raise Refused(f"{self.crate} is no folder of a crate: there is no crates.txt two folders above")
+        crates = listed(place)
+        if self.name not in crates:
+            raise Refused(f"crates.txt doesn't list {self.name}: add the line {self.name}: {' '.join(LIBRARIES)}")
+        return crates[self.name][1]
+
+    def rounds(self) -> Optional[str]:
+        """The library through which the crate names `RoundTrip`, if it has any."""
+        return next((name for name in ("rmp_serde", "rmp_round_trip") if name in self.libraries()), None)
+
+    def source(self) -> str:
+        if self.path.startswith("src/"):
+            raise Refused(f"a file is named by its path below src/: write {self.path[4:]}")
+        place = os.path.join(self.crate, "src", self.path)
+        if not os.path.isfile(place):
+            raise Refused(f"there is no file {place}")
+        with open(place, encoding="utf-8") as file:
+            return file.read()
+
+    def wanted(self) -> list[Own]:
+        """The types of the file for which there is a trait to derive."""
+        source = self.source()
+        missing = [name for name in LIBRARIES if name not in self.libraries()]
+        if missing:
+            raise Refused(f"crates.txt doesn't name {missing[0]} for {self.name}")
+        if not DERIVED.search(source):
+            raise Refused("it has no line `mod derived;`")
+        types = self.types()
+        wanted = [own for own in types.values() if own.names is types and own.derived]
+        if not wanted:
+            raise Refused("it declares no type that has an implementation to derive")
+        return wanted
+
+    def traits(self, by_hand: set[str]) -> set[str]:
+        """The traits to derive, where these are implemented by hand: the last two go by the forms of the others."""
+        traits = {"Serialize", "Deserialize"} - by_hand
+        return traits | {"RoundTrip", "NeverNil"} - by_hand if len(traits) == 2 and self.rounds() else traits
+
+    def other(self, path: list[str]) -> Optional[Module]:
+        """The file of a module that a `use` names, where it is one of the crate."""
+        words = self.below().split(".") if self.at else []
+        if path[0] == "crate":
+            words = []
+        elif path[0] == "super":
+            words = words[:-1]
+        elif path[0] != "self":
+            words = [*words, path[0]]
+        words += path[1:]
+        found = Module(self.crate, "/".join(words) + ".rt" if words else "lib.rt")
+        return found if os.path.exists(os.path.join(self.crate, "src", found.path)) else None
+
+    def types(self, seen: tuple[str, ...] = ()) -> dict[str, Own]:
+        """The types of the crate that the file names, its own first, by their names."""
+        source, names = self.source(), {}
+        has_derived = DERIVED.search(source)
+        for name, of in read(source).items():
+            by_hand = implemented(source, name)
+            derived = self.traits(by_hand) if has_derived else set()
+            modules = {trait: f"{self.name}.specs.contracts.{self.below(*['derived'] * (trait in derived))}" for trait in TRAITS}
+            declared = f"{self.name}.specs.declared.{self.below(name)}"
+            names[name] = Own(of, derived, by_hand, modules, names, declared, dict(brought_in(source)))
+        for name, path in brought_in(source):
+            other = self.other(path)
+            if other and other.path not in (self.path, *seen):
+                names.update(other.named(name, (self.path, *seen)))
+        return names
+
+    def named(self, name: str, seen: tuple[str, ...]) -> dict[str, Own]:
+        """The type of this name, where it can be read."""
+        try:
+            types = self.types(seen)
+        except Refused:
+            return {}
+        return {name: types[name]} if name in types else {}
+
+# ---- sums
+
+
+def sum_of(own: Own) -> str:
+    """The sum of a type's declaration, of the traits that are derived, and of the types with parameters that it names."""
+    seen, todo = {}, [own]
+    while todo:
+        it = todo.pop()
+        if it.declared not in seen:
+            seen[it.declared] = f"{it.of!r} {sorted(it.derived) if it is own else ''}"
+            words = {word for kind in it.of.kinds() for word in identifiers(kind)}
+            todo += [it.names[word] for word in words if word in it.names and it.names[word].of.parameters]
+    return f"{zlib.crc32(repr(sorted(seen.items())).encode()):08x}"
+
+
+def sums_lines(wanted: list[Own]) -> str:
+    """The lines of a derived file's head that have the sums."""
+    return "".join(f"//! Sum of {own.of.name}: {sum_of(own)}.\n" for own in wanted)
+
+
+def stale(module: Module, wanted: list[Own]) -> str:
+    """What has changed since the implementations were written, if anything."""
+    place = os.path.join(module.crate, "src", f"{module.at}derived.rt")
+    if not os.path.isfile(place):
+        return "nothing is derived yet"
+    with open(place, encoding="utf-8") as file:
+        written = dict(SUM.findall(file.read()))
+    sums = {own.of.name: sum_of(own) for own in wanted}
+    changed = [name for name in {**sums, **written} if sums.get(name) != written.get(name)]
+    return f"{', '.join(changed)} changed since {'it was' if len(changed) == 1 else 'they were'} derived" if changed else ""
+
+
+# ---- what is written
+
+
+class Files:
+    """The files of a crate that are written together, laid out as `rt fmt` does."""
+
+    def __init__(self) -> None:
+        self.texts: dict[str, str] = {}
+
+    def add(self, text: str, *path: str) -> None:
+        place = os.path.join(*path)
+        self.texts[place] = broken(text, place.endswith(".antt"))
+
+    def write(self, crate: str, replaced: str) -> None:
+        """Writes them below a crate, in place of all that a folder of it has."""
+        with tempfile.TemporaryDirectory() as folder:
+            for place, text in self.texts.items():
+                os.makedirs(os.path.dirname(os.path.join(folder, place)), exist_ok=True)
+                with open(os.path.join(folder, place), "w", encoding="utf-8") as out:
+                    out.write(text)
+            try:
+                subprocess.run(["rt", "fmt"], cwd=folder, check=True, stdout=subprocess.DEVNULL)
+            except FileNotFoundError as why:
+                raise Refused("the command rt isn't there, which lays the files out") from why
+            except subprocess.CalledProcessError as why:
+                raise Refused("rt fmt can't lay out what was written") from why
+            shutil.rmtree(os.path.join(crate, replaced), ignore_errors=True)
+            for place in self.texts:
+                os.makedirs(os.path.dirname(os.path.join(crate, place)), exist_ok=True)
+                shutil.copyfile(os.path.join(folder, place), os.path.join(crate, place))
