@@ -12,7 +12,7 @@ from declarations import LEAST_FLAT, MOST_FLAT
 from derived_terms import chained, nested, place_of
 from lines import write
 
-HEAD = """//! Reads of so many fields, whose contracts say each field's part in one list. Written by tools/read_fields.py.
+HEAD = """//! Reads of 2 to 12 fields, whose contracts name each field's part in one list. Written by tools/read_fields.py.
 ghost use Rattle.std.specs.Prelude.{◌≡◌, ◌∷◌, [], length, IfErr};
 ghost use Rattle.rmp_decode.specs.FieldRefusing.{RefusesFields};
 ghost use Rattle.rmp_decode.specs.Fields.{OfFields};

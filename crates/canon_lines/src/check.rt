@@ -68,10 +68,10 @@ impl Shows for Checks {
 
 /// Prints which of the messages on each line of the input are spelled canonically, and says whether all were.
 ///
-/// Lines, hex and want of memory are those of `run`. Each canonical message prints a line with its length. The first that
-/// isn't canonical ends its line, and prints at which place in the line's bytes the first head stands that isn't the
-/// canonical one, whatever follows that head; where the bytes stop being a message before such a head, the message is
-/// refused at the place where it begins.
+/// Lines, hex and lack of memory are those of `run`. Each canonical message prints a line with its length. The first that
+/// isn't canonical ends its line, and prints the offset in the line's bytes of the first head that isn't canonical,
+/// whatever follows that head. Where the bytes stop being a message before such a head, the message is refused at its
+/// first byte.
 ///
 /// # Errors
 /// As `run`.

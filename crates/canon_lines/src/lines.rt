@@ -70,7 +70,7 @@ pub enum Refusal {
     Hex,
     /// No message begins at this place of the line's bytes.
     Message(usize, Error),
-    /// At this place of the line's bytes stands a head that isn't canonical.
+    /// The head at this offset of the line's bytes isn't canonical.
     Fault(usize),
 }
 
@@ -109,7 +109,7 @@ fn name_of(error: &Error) -> &'static str
     }
 }
 
-// Puts bytes behind others. Where these fill their memory, it grows by an eighth, so that little of it is left unused.
+// Appends bytes to others. Where these fill their memory, it grows by an eighth, so that little of it is left unused.
 fn append(input: &mut Vec<u8>, piece: &[u8]) -> Result<(), AllocError>
     ensures ok { OnOk result (input.new.items ≡ input.old.items ++ piece.now) }
 {
@@ -178,7 +178,7 @@ pub fn refuse<W: Sink>(
     Ok(false)
 }
 
-/// Prints the refusal of what stands at a place of a line's bytes.
+/// Prints the refusal of what is at an offset of a line's bytes.
 pub fn refuse_message<W: Sink>(
     alloc: Global,
     sink: &mut W,
@@ -270,7 +270,7 @@ fn has_no_end(block: &[u8]) -> bool
     !found
 }
 
-// The first line, and what stands behind its end, where it has one.
+// The first line, and what follows its end, where it has one.
 #[inline(always)]
 fn first_line(text: &[u8]) -> (&[u8], Option<&[u8]>)
     ensures lines { lines_in text.now ≡ result.0.now ∷ lines_left result.1 }

@@ -89,7 +89,7 @@ impl Shows for Messages {
 ///
 /// A line ends at a line feed, and the last one may lack it. One carriage return at a line's end is dropped, and spaces
 /// and tabs anywhere. A line that is then empty prints nothing; the rest is read as hex, and its messages as values: each
-/// prints a line, and the first that is refused prints where it stands, and the name of the error that says what is wrong
+/// prints a line, and the first that is refused prints its offset, and the name of the error that says what is wrong
 /// there first. The source is read to its end before the first line is printed, and each line is one piece for the sink.
 ///
 /// # Errors

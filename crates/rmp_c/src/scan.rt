@@ -8,7 +8,7 @@ ghost use Rattle.rmp_c.specs.Pieces.{Scans, is_too_long};
 use rmp_scan::{Scan, Scanner, State};
 use rmp_serde::decode::Error;
 
-/// Sets a scanner to wait for the first byte of a message of at most so many bytes. The status is 0.
+/// Sets a scanner to wait for the first byte of a message of at most `limit` bytes. The status is 0.
 #[unsafe(no_mangle)]
 pub extern "C" fn rmp_scan_init(state: &mut State, limit: usize) -> u32
     ensures status { result ≡ 0 }

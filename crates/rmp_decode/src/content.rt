@@ -25,7 +25,7 @@ use rmp_wire::{ReadSlice, Source};
 use std::alloc::Global;
 use std::marker::PhantomData;
 
-/// How content is taken from a reader. A function that calls itself may have no bound that names a lifetime, so it has this
+/// How content is read from a reader. A function that calls itself may have no bound that names a lifetime, so it has this
 /// one in place of `ReadSlice`, and is called with `Slices`.
 pub trait ReadContent<R: Source> {
     // Whether content is passed over without memory.
@@ -54,7 +54,7 @@ pub trait ReadContent<R: Source> {
         ensures end { IfErr result (λ e. Explains e (R.faults reader.old) (R.faults reader.new) (IsDataEnd e)) }
         ensures place { R.place reader.new ≡ R.place reader.old };
 
-    /// Takes the next bytes to the end of a vector, which stays as it was where they can't be taken.
+    /// Appends the next bytes to a vector, which stays as it was where they can't be read.
     ///
     /// # Errors
     /// As `take`.

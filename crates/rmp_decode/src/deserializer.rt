@@ -36,7 +36,7 @@ pub enum Kept {
     Nothing,
     /// The first byte of the next message, which was looked at.
     First(u8),
-    /// A number that stands for the next message: a byte of bytes that are read as a list.
+    /// A number that is read as the next message: a byte of bytes that are read as a list.
     Number(u8),
 }
 

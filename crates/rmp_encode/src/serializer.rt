@@ -31,7 +31,7 @@ use std::marker::PhantomData;
 
 /// Writes values to a sink, each in its canonical encoding.
 ///
-/// A fault of the sink names the item that it interrupted: `InvalidMarkerWrite` where no byte of it was taken,
+/// A fault of the sink names the item that it interrupted: `InvalidMarkerWrite` where no byte of it was written,
 /// and `InvalidDataWrite` otherwise. A value with a length of 2 ^ 32 or more is refused by `InvalidDataModel`,
 /// and nothing of it is written.
 #[derive(Drop)]

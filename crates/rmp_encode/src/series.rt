@@ -332,7 +332,7 @@ impl<'a, W: Sink, C: SerializerConfig> MaybeUnknownLengthCompound<'a, W, C> {
     /// conditions: `is_sound`, the last key has its value, and `left` isn't `Some` of a number above 0.
     ///
     /// # Errors
-    /// Those of the sink. Head and buffer are one item: `InvalidMarkerWrite` where no byte of them was taken,
+    /// Those of the sink. Head and buffer are one item: `InvalidMarkerWrite` where no byte of them was written,
     /// `InvalidDataWrite` where some were.
     #[inline(always)]
     pub fn end(self) -> Result<(), Error>

@@ -334,7 +334,7 @@ impl<'a, W: Sink, C: SerializerConfig> Tuple<'a, W, C> {
     /// Ends the tuple, and writes the kept elements. The caller's conditions: `is_sound`, and `left` is 0.
     ///
     /// # Errors
-    /// Those of the sink: `InvalidMarkerWrite` where no byte of an item was taken, and all items before it
+    /// Those of the sink: `InvalidMarkerWrite` where no byte of an item was written, and all items before it
     /// whole; `InvalidDataWrite` where some bytes of an item were. Bytes are one item. In a list, the head is
     /// one, and each number.
     #[inline(always)]

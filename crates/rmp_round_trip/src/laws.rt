@@ -1,4 +1,4 @@
-//! The laws of types whose values are read as they were written. Each stands on the contract of a function that does nothing.
+//! The laws of types whose values are read as they were written. Each is the contract of a function that does nothing.
 //!
 //! A caller uses a law by calling its function: what the call ensures is the law, for every argument.
 
@@ -39,7 +39,7 @@ pub fn values_come_back<'de, R: ReadSlice<'de>, T: RoundTrip<'de, R>>()
 {}
 
 /// What a value is written as is read as that value, and as nothing else, with the same settings, whatever follows it, where it nests
-/// below the limit. It is all that is taken: what follows is left, as the next value.
+/// below the limit. Nothing more is consumed: what follows is left, as the next value.
 pub fn written_is_read<'de, R: ReadSlice<'de>, T: RoundTrip<'de, R>>()
     ensures read { (T.borrows ≡ true → R.lends ≡ true) → (s : Settings) (v : T) (b x : List ℕ) (room : ℕ) → T.is_value v
         → IsSpelled (tree_of s (T.data_of v s.human)) b → LowersTo s (T.data_of v s.human) (λ m. depth m < room)
@@ -48,10 +48,10 @@ pub fn written_is_read<'de, R: ReadSlice<'de>, T: RoundTrip<'de, R>>()
     ensures strict { (T.borrows ≡ true → R.lends ≡ true) → (s : Settings) (v : T) (b x : List ℕ) (room : ℕ) → T.is_value v
         → IsSpelled (tree_of s (T.data_of v s.human)) b → LowersTo s (T.data_of v s.human) (λ m. depth m < room)
         → Begins IsCanonical (λ m. T.reads s.human R.lends m v) room (b ++ x) }
-    // whatever is taken there
+    // whatever is consumed there
     ensures one { (s : Settings) (v : T) (b x c y : List ℕ) (m : Msg) → IsSpelled (tree_of s (T.data_of v s.human)) b → Spells c m
         → b ++ x ≡ c ++ y → (tree_of s (T.data_of v s.human) ≡ Some m) × (c ≡ b) × (y ≡ x) }
-    // Whatever a read answers has the content of what was written, and is all that is taken.
+    // Whatever a read answers has the content of what was written, and is all that is consumed.
     ensures same { (s : Settings) (v w : T) (b x : List ℕ) → T.is_value v → IsSpelled (tree_of s (T.data_of v s.human)) b
         → (c y : List ℕ) (m : Msg) → Spells c m → b ++ x ≡ c ++ y → T.reads s.human R.lends m w → T.same v w × (y ≡ x) }
 {

@@ -19,9 +19,9 @@ pub(crate) enum Counts {
 // What a first byte says of its message.
 #[derive(Clone, Copy)]
 pub(crate) enum Opening {
-    // So many bytes follow, and then so many messages are its parts.
+    // `payload` bytes follow, and then `parts` messages.
     Fixed { payload: u8, parts: u8 },
-    // A length of so many bytes follows.
+    // A length of `width` bytes follows.
     Counted { counts: Counts, width: u8 },
     // The byte c1.
     Reserved,
@@ -187,8 +187,8 @@ pub(crate) const MOST: u128 = 0x4000_0000_0000_0000;
 
 const BLOCK: usize = 0x1_0000_0000;
 
-// Passes over messages that their first byte tells the length of, as far as they are whole. It says how many bytes they took, and how many
-// of so many messages are wanted then.
+// Passes over messages whose first byte tells their length, as far as they are whole. It returns how many bytes they have, and how many
+// of the `most` messages are still wanted.
 pub(crate) fn pass_small(bytes: &[u8], most: u64) -> (usize, u64)
     requires room { most ≤ MOST }
     ensures within { result.0 ≤ length bytes.now }

@@ -135,7 +135,7 @@ impl Want {
         }
     }
 
-    // Goes through a piece, where the message may have so many bytes more.
+    // Goes through a piece, where the message may have `room` bytes more.
     pub(crate) fn advance(self, room: u128, piece: &[u8]) -> Step
         requires room { room ≤ 2 ^ 100 }
         requires counted { self.messages ≤ 2 ^ 100 }
@@ -166,7 +166,7 @@ impl Want {
     }
 }
 
-// What is wanted behind a length of which so many bytes are missing, and behind that so many messages.
+// What is wanted after a length of which `missing` bytes are missing, and after that `messages` messages.
 fn after_length(counts: Counts, missing: u8, value: u32, messages: u128) -> Want
     requires messages { messages ≤ 2 ^ 100 }
     requires room { HasRoom missing value }

@@ -20,7 +20,7 @@ pub enum Canon {
     Fault(usize),
 }
 
-// How many messages stand behind a head.
+// How many messages follow a head as its parts.
 fn parts_in(head: &Head) -> u64
     ensures { result ≡ parts_behind head.now }
 {

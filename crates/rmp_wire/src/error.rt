@@ -91,7 +91,7 @@ pub enum ValueWriteError {
 impl ValueWriteError {
     ghost use Rattle.rmp_wire.specs.Faults.{past_first};
 
-    /// Returns the same failure, of an item whose first byte was already taken: `InvalidMarkerWrite` becomes
+    /// Returns the same failure, of an item whose first byte was already written: `InvalidMarkerWrite` becomes
     /// `InvalidDataWrite`.
     #[inline(always)]
     pub fn past_first(self) -> ValueWriteError

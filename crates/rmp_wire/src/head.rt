@@ -26,7 +26,7 @@ pub enum Head {
     Array(u32),
     /// A map: the number of its pairs.
     Map(u32),
-    /// An extension of so many bytes, and its type.
+    /// An extension: the length of its data in bytes, and its type.
     Ext(u32, i8),
 }
 

@@ -42,7 +42,7 @@ pub trait Sink {
     ///
     /// # Errors
     /// `Io` where the sink fails, and `Memory` where a sink that allocates is out of memory. Then nothing is
-    /// taken.
+    /// written.
     fn put(&mut self, piece: &[u8]) -> Result<usize, SinkFault>
         ensures count { IfOk result (λ n. n ≤ length piece.now) }
         ensures bytes { WriteAppends (told self.old) (told self.new) result piece.now }
@@ -52,7 +52,7 @@ pub trait Sink {
     /// Writes the whole piece, and stops at the first fault.
     ///
     /// # Errors
-    /// `InvalidMarkerWrite` where the piece's first byte wasn't taken, and `InvalidDataWrite` where it was. A
+    /// `InvalidMarkerWrite` where the piece's first byte wasn't written, and `InvalidDataWrite` where it was. A
     /// full sink is a fault of the kind `WriteZero`. `OutOfMemory` where memory couldn't be allocated.
     fn put_all(&mut self, piece: &[u8]) -> Result<(), ValueWriteError>
         ensures writes { Puts takes_memory piece.now (told self.old) (told self.new)

@@ -41,7 +41,7 @@ pub struct Row {
     pub kennel: Kennel,
 }
 
-/// One of two numbers, behind a name.
+/// One of two numbers, in a newtype variant.
 #[derive(Drop)]
 pub struct Chosen(pub Either<u8>);
 

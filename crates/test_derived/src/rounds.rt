@@ -1,4 +1,4 @@
-//! What was written of some of the types is read as the value that was written, with the same settings, and is all that is taken.
+//! What was written of some of the types is read as the value that was written, with the same settings, and is all that is consumed.
 ghost use Rattle.std.specs.Prelude.{◌≡◌, ◌<◌, ◌++◌, ℕ, List, true};
 ghost use Rattle.rmp_decode.specs.Law.{Begins};
 ghost use Rattle.rmp_encode.specs.Calls.{IsSpelled};

@@ -18,7 +18,7 @@ pub struct Opt {
 #[derive(Drop)]
 pub struct Point(pub u32, pub String);
 
-/// A number behind a name.
+/// A newtype struct of a number.
 #[derive(Drop)]
 pub struct Newtype(pub u64);
 

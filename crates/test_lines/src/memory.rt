@@ -1,4 +1,4 @@
-//! What lines that lie in memory print.
+//! What lines that are in memory print.
 ghost use Rattle.std.specs.Prelude.{◌≡◌, IfOk, IfErr};
 ghost use Rattle.canon_lines.specs.Checks.{PrintsChecks};
 ghost use Rattle.canon_lines.specs.Lines.{lines_in};

@@ -6,7 +6,7 @@ use rmp_encode::{Error, Serialize, Serializer};
 use rmp_wire::Sink;
 use rmp_wire::config::SerializerConfig;
 
-/// A byte behind a name. It is written as the byte, but a list of such is never packed as bytes.
+/// A newtype struct of a byte. It is written as the byte, but a list of such is never packed as bytes.
 #[derive(Clone, Copy, Drop)]
 pub struct NewU8(pub u8);
 

@@ -8,7 +8,7 @@ use rmp_decode::{Deserialize, Deserializer, Error};
 use rmp_wire::ReadSlice;
 use rmp_wire::config::SerializerConfig;
 
-/// A number for which 7 stands where it isn't there.
+/// A number that is 7 where it is missing.
 #[derive(Clone, Copy)]
 pub struct Weight {
     pub grams: u32,

@@ -78,7 +78,7 @@ pub trait Fields<'de, R: ReadSlice<'de>>: Sized + Drop {
         ensures { (human lends : Bool) (fs : List (Option Msg)) → AreBlank count fs → holds human lends fs result };
 
     /// Reads the value of the key that was read last, as the field at the place, and says whether it wasn't refused. Why it was is put
-    /// into `refusal`, beside the answer: `Syntax("duplicate field")` where the field was read before, and nothing is taken then.
+    /// into `refusal`, beside the answer: `Syntax("duplicate field")` where the field was read before, and then nothing is consumed.
     fn fill<'x, C: SerializerConfig>(
         slots: &mut Self::Slots,
         refusal: &mut Option<Error>,
@@ -445,7 +445,7 @@ impl<R: Source, C: SerializerConfig> Deserializer<R, C> {
         }
     }
 
-    // Reads the elements of a list whose head was taken, as many as there are fields.
+    // Reads the elements of a list whose head was consumed, as many as there are fields.
     #[inline(always)]
     fn row_ahead<'de, F: Fields<'de, R>>(&mut self) -> Result<F, Error>
     where

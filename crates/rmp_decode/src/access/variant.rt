@@ -102,7 +102,7 @@ pub(crate) fn next_variant<'de, R: ReadSlice<'de>>(
     }
 }
 
-// The place that a number is, of so many.
+// The place that a number names, of `count` places.
 #[inline(always)]
 fn numbered_place(count: usize, z: i128) -> Result<usize, Error>
     ensures ok { IfOk result (λ n. place_below count z ≡ Some (Some n)) }
@@ -453,7 +453,7 @@ impl<'x, R: Source, C: SerializerConfig> Variant<'x, R, C> {
     /// Reads the content of a variant.
     ///
     /// # Errors
-    /// `Syntax("invalid type")` where the name stands alone, and otherwise those of the content's type.
+    /// `Syntax("invalid type")` where the name has no content, and otherwise those of the content's type.
     #[inline(always)]
     pub fn newtype_variant<'de, T: Deserialize<'de, R>>(self) -> Result<T, Error>
     where
@@ -481,7 +481,7 @@ impl<'x, R: Source, C: SerializerConfig> Variant<'x, R, C> {
     /// answers `Ok` has to have read the content and nothing else.
     ///
     /// # Errors
-    /// `Syntax("invalid type")` where the name stands alone, and `f` isn't called; those of `f`; and
+    /// `Syntax("invalid type")` where the name has no content, and `f` isn't called; those of `f`; and
     /// `Uncategorized("failed before")` where `f` answered `Ok` and left its reader failed.
     #[inline(never)]
     pub fn newtype_variant_with<X: Drop, F>(self, f: F) -> Result<X, Error>
@@ -507,7 +507,7 @@ impl<'x, R: Source, C: SerializerConfig> Variant<'x, R, C> {
     /// elements are wanted is said by who reads them, so `len` isn't looked at.
     ///
     /// # Errors
-    /// `Syntax("invalid type")` where the name stands alone, and otherwise as `deserialize_seq`.
+    /// `Syntax("invalid type")` where the name has no content, and otherwise as `deserialize_seq`.
     #[inline(always)]
     pub fn tuple_variant(self, _len: usize) -> Result<SeqAccess<'x, R, C>, Error>
         ensures* refused { sem 𝓛 (RestsIfErr (the_row R.row C.row) self.entry.de (λ s. s.de.ghost_name) result
@@ -537,7 +537,7 @@ impl<'x, R: Source, C: SerializerConfig> Variant<'x, R, C> {
     /// Reads the content of a variant as the fields of a struct, by their names.
     ///
     /// # Errors
-    /// `Syntax("invalid type")` where the name stands alone, and otherwise as `deserialize_fields`.
+    /// `Syntax("invalid type")` where the name has no content, and otherwise as `deserialize_fields`.
     #[inline(always)]
     pub fn fields_variant<'de, F: Fields<'de, R>>(self, names: &[&str]) -> Result<F, Error>
     where

@@ -20,7 +20,7 @@ use rmp_wire::config::SerializerConfig;
 use std::array::from_fn;
 use std::mem::size_of_val;
 
-// Whether so many places fit in memory, each of which holds a value or none.
+// Whether an array of `N` options fits in memory.
 #[inline(always)]
 fn places_fit<T: Drop, const N: usize>() -> bool
     ensures fit { result ≡ true → PlacesFit T.row N }
@@ -84,7 +84,7 @@ fn array_row<'de, R: ReadSlice<'de>, C: SerializerConfig, T: Deserialize<'de, R>
     requires failed { is_failed de.old ≡ true }
     ensures law { (d : Deserializer R C) → Opens R.Source d (access_at de.old false count count)
         → Lawful R.Source (λ m v. OfRow (Exactly N (T.reads (C.human (config_of d)) R.lends) v) m) d de.new result }
-    // Memory is short where so many places don't fit into it.
+    // The read is out of memory where the array doesn't fit in memory.
     ensures refused { (d : Deserializer R C) → Opens R.Source d (access_at de.old false count count)
         → RefusesAs R.Source (C.human (config_of d)) R.lends
         (λ s before after known e. ((PlacesFit T.row N → ⊥) × (e ≡ OutOfMemory)) ⊎ RefusesTimes N T.reads T.refuses s before after known e) d de.new result }
@@ -107,7 +107,7 @@ fn array_row<'de, R: ReadSlice<'de>, C: SerializerConfig, T: Deserialize<'de, R>
     }
 }
 
-// Reads `count` numbers of bytes, from a reader that is moved meanwhile.
+// Reads `count` numbers of bytes. The reader is moved into a local variable and back.
 #[inline(always)]
 fn number_row<'de, R: ReadSlice<'de>, C: SerializerConfig, T: Deserialize<'de, R>, const N: usize>(
     de: &mut Deserializer<R, C>,
@@ -117,7 +117,7 @@ fn number_row<'de, R: ReadSlice<'de>, C: SerializerConfig, T: Deserialize<'de, R
     requires failed { is_failed de.old ≡ true }
     ensures law { (d : Deserializer R C) → Opens R.Source d (access_at de.old true count count)
         → Lawful R.Source (λ m v. OfRow (Exactly N (T.reads (C.human (config_of d)) R.lends) v) m) d de.new result }
-    // Memory is short where so many places don't fit into it.
+    // The read is out of memory where the array doesn't fit in memory.
     ensures refused { (d : Deserializer R C) → Opens R.Source d (access_at de.old true count count)
         → RefusesAs R.Source (C.human (config_of d)) R.lends
         (λ s before after known e. ((PlacesFit T.row N → ⊥) × (e ≡ OutOfMemory)) ⊎ RefusesTimes N T.reads T.refuses s before after known e) d de.new result }
@@ -147,7 +147,7 @@ impl<'de, R: ReadSlice<'de>, T: Deserialize<'de, R>, const N: usize> Deserialize
 
     ghost absent = { None };
 
-    // Memory is short where so many places don't fit into it.
+    // The read is out of memory where the array doesn't fit in memory.
     ghost refuses = { λ s before after known e. ((PlacesFit T.row N → ⊥) × (e ≡ OutOfMemory)) ⊎ RefusesTimes N T.reads T.refuses s before after known e };
 
     fn deserialize<C: SerializerConfig>(de: &mut Deserializer<R, C>) -> Result<[T; N], Error> {

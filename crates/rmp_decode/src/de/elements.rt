@@ -19,18 +19,18 @@ pub(crate) trait Row<T: Drop>: Drop {
     // whether these are the values that were put into it
     ghost holds: { Self → List T → Type 0 };
 
-    // how many it takes of so many
+    // how many it takes of a count
     ghost most: { ℕ → ℕ };
 
     // whether memory may be short for an element
     ghost grows: { Bool };
 
-    // How many it takes of so many.
+    // How many it takes of a count.
     fn wanted(count: u32) -> u32
         ensures most { result ≡ most count }
         ensures within { result ≤ count };
 
-    // Puts an element behind so many others, and says whether it could. So many more are to come.
+    // Appends an element to the `at` others, and says whether it could. `left` more follow.
     fn put(&mut self, item: T, at: u32, left: u32) -> bool
         requires { (vs : List T) × (all : ℕ) × holds self.old vs × (length vs ≡ at) × (at < most all) }
         ensures held { result ≡ true → (vs : List T) → holds self.old vs → length vs ≡ at → holds self.new (vs ++ item ∷ []) }
@@ -44,8 +44,8 @@ pub(crate) fn is_small<T: Drop>() -> bool {
     size_of_val(&none) <= 2
 }
 
-// Reads elements of a list, or numbers of bytes, of which there are so many, from a reader that has taken the head, and answers how many
-// are left. The room is set once for all of them. What each read says of the reader is set again, so that the next one needn't look.
+// Reads `count` elements of a list, or numbers of bytes, from a reader that has read the head, and returns how many are left. The depth is
+// set once for all of them. What each read says of the reader is set again, so that the next one needn't look.
 #[inline(always)]
 pub(crate) fn read_row<
     'de,
@@ -145,7 +145,7 @@ impl<'de, R: ReadSlice<'de>, T: Deserialize<'de, R>, W: Row<T>> ReadNumbers<R, T
     }
 }
 
-// Reads numbers of bytes from a reader that is taken out of its place meanwhile, and put back: so its parts stay in registers.
+// Reads numbers of bytes. The reader is moved into a local variable and back, so that its fields stay in registers.
 #[inline(always)]
 pub(crate) fn numbers_taken_out<
     R: Source,

@@ -43,7 +43,7 @@ impl<T: Drop> Row<T> for Vec<T> {
     }
 }
 
-// Whether there is room for one more, of which so many are to come behind it. The call is given the vector by value, so that its parts
+// Whether there is room for one more, of which so many are to follow it. The call is given the vector by value, so that its parts
 // stay in registers where there is room.
 #[inline(always)]
 fn made_room<T: Drop>(items: &mut Vec<T>, left: u32) -> bool
@@ -80,7 +80,7 @@ fn make_room<T: Drop>(items: &mut Vec<T>, left: u32) -> bool
     items.reserve(1).is_ok()
 }
 
-// Reads so many elements of a list, or numbers of bytes, from a reader that has taken the head.
+// Reads `count` elements of a list, or numbers of bytes, from a reader that has read the head.
 #[inline(always)]
 fn vec_row<'de, R: ReadSlice<'de>, C: SerializerConfig, T: Deserialize<'de, R>>(
     de: &mut Deserializer<R, C>,
@@ -182,7 +182,7 @@ impl<'de, R: ReadSlice<'de>, T: Deserialize<'de, R>> ReadHere<R, VecDeque<T>> fo
     }
 }
 
-// Reads a value from a reader that is taken out of its place meanwhile, and put back: so its parts stay in registers.
+// Reads a value. The reader is moved into a local variable and back, so that its fields stay in registers.
 #[inline(always)]
 fn taken_out<R: Source, C: SerializerConfig, V: Drop, P: ReadHere<R, V>>(
     de: &mut Deserializer<R, C>,

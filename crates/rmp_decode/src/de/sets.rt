@@ -21,7 +21,7 @@ use std::alloc::AllocError;
 use std::cmp::Ordering;
 use std::collections::BTreeSet;
 
-/// From so many elements on, keys that ascend stand in a row before they are put into the set.
+/// From this many elements on, ascending keys are kept in a row before they are inserted into the set.
 const MANY: u32 = 32;
 
 impl<T: Ord + Drop> Row<T> for BTreeSet<T> {
@@ -55,7 +55,7 @@ struct Keys<T: Ord> {
     in_row: bool,
 }
 
-// Whether the key stands behind those of the row, which ascend.
+// Whether the key is above those of the row, which ascend.
 fn is_behind<T: Ord + Drop>(row: &[T], key: &T) -> bool
     ensures { result ≡ true → IsStrictlySortedBy T.cmp row.now → IsStrictlySortedBy T.cmp (row.now ++ key.now ∷ []) }
 {
@@ -66,7 +66,7 @@ fn is_behind<T: Ord + Drop>(row: &[T], key: &T) -> bool
 }
 
 impl<T: Ord + Drop> Keys<T> {
-    // Puts a key behind the others.
+    // Appends a key to the others.
     fn push(&mut self, key: T) -> Result<(), AllocError>
         requires ordered { IsStrictlySortedBy T.cmp (keys_so_far self.old) }
         requires apart { IsEitherPlace self.old }
@@ -119,7 +119,7 @@ impl<T: Ord + Drop> Row<T> for Keys<T> {
     }
 }
 
-// Reads so many elements of a list, or numbers of bytes, of which there are many, from a reader that has taken the head.
+// Reads `count` elements of a list, or numbers of bytes, of which there are many, from a reader that has read the head.
 #[inline(never)]
 fn many_row<'de, R: ReadSlice<'de>, C: SerializerConfig, T: Deserialize<'de, R> + Ord>(
     de: &mut Deserializer<R, C>,
@@ -147,7 +147,7 @@ fn many_row<'de, R: ReadSlice<'de>, C: SerializerConfig, T: Deserialize<'de, R> 
     }
 }
 
-// Reads so many elements of a list, or numbers of bytes, from a reader that has taken the head.
+// Reads `count` elements of a list, or numbers of bytes, from a reader that has read the head.
 #[inline(always)]
 fn set_row<'de, R: ReadSlice<'de>, C: SerializerConfig, T: Deserialize<'de, R> + Ord>(
     de: &mut Deserializer<R, C>,

@@ -9,7 +9,7 @@ use crate::error::Error;
 use rmp_wire::read::{number_8, number_16, number_32, read_head, read_marker};
 use rmp_wire::{Head, IoFault, Marker, MarkerReadError, Source, ValueReadError, is_canonical};
 
-// Why no head could be taken: as the wire says, or because it isn't canonical, while only those are read.
+// Why no head could be read: as the wire says, or because it isn't canonical, while only those are read.
 #[derive(Clone, Copy)]
 pub(crate) enum HeadError {
     InvalidMarkerRead(IoFault),
@@ -60,7 +60,7 @@ impl From<HeadError> for Error {
     }
 }
 
-// Whether a head that was read may be taken: any, or where reading is strict the canonical one.
+// Whether a head that was read is accepted: any, or where reading is strict the canonical one.
 #[inline(always)]
 fn allows(strict: bool, marker: Marker, head: &Head) -> bool
     ensures allowed { result ≡ true → (rest : List ℕ) → IsHead head.now (byte_of marker ∷ rest) → heads_of strict head.now (byte_of marker ∷ rest) }
@@ -69,7 +69,7 @@ fn allows(strict: bool, marker: Marker, head: &Head) -> bool
     !strict || is_canonical(marker, head)
 }
 
-// Takes what stands behind a marker's byte, by a call: so the reads into which the common heads go stay small. Where reading is
+// Reads the rest of a head after its marker's byte, by a call: so the reads into which the common heads go stay small. Where reading is
 // strict, this is where a head is tested.
 #[inline(never)]
 pub(crate) fn rest_of_head<S: Source>(
@@ -92,7 +92,7 @@ pub(crate) fn rest_of_head<S: Source>(
     }
 }
 
-// Takes what stands behind a marker's byte. A head of one byte is canonical.
+// Reads the rest of a head after its marker's byte. A head of one byte is canonical.
 #[inline(always)]
 fn head_of<S: Source>(strict: bool, marker: Marker, source: &mut S) -> Result<Head, HeadError>
     ensures taken { IfOk result (BehindAllowed S.Source strict marker source.old source.new) }

@@ -228,12 +228,12 @@ impl<R: Source, C: SerializerConfig> Deserializer<R, C> {
         }
     }
 
-    /// Reads a newtype struct: what it holds, as it is without the struct. The name isn't looked at but for the one that stands
-    /// for an extension in the Rust crate.
+    /// Reads a newtype struct: what it holds, as it is without the struct. The name is ignored, except for the one that names
+    /// an extension in the Rust crate.
     ///
     /// # Errors
-    /// `Syntax("extensions are read by deserialize_ext")` where the name is `MSGPACK_EXT_STRUCT_NAME`: nothing is taken then.
-    /// Else those of the content.
+    /// `Syntax("extensions are read by deserialize_ext")` where the name is `MSGPACK_EXT_STRUCT_NAME`: then nothing is consumed.
+    /// Otherwise those of the content.
     #[inline(always)]
     pub fn deserialize_newtype_struct<'de, T: Deserialize<'de, R>>(
         &mut self,

@@ -36,7 +36,7 @@ pub(crate) trait Peek: Copy {
     // what is wanted of a value
     ghost wants: { Self → Self.Value → Type 0 } = { λ _ _. Unit {0} };
 
-    // The value whose head stands at the front, and the count of the head's bytes.
+    // The value whose head is at the front, and the count of the head's bytes.
     fn at(self, front: &[u8], strict: bool) -> Option<(Self::Value, usize)>
         ensures stands { IfSome result (λ p. StandsIn strict p.1 (head self p.0) front.now) }
         ensures wanted { IfSome result (λ p. wants self p.0) };

@@ -194,7 +194,7 @@ pub fn from_read<'de, R: Source + Drop, T: Deserialize<'de, ReadReader<R>>>(
 ) -> Result<T, Error>
     // The value is the reading of a tree that a beginning of the source's bytes spells.
     ensures ok { IfOk result (λ v. IfSome (R.ahead rd) (Begins Spells (λ m. T.reads false false m v) 1024)) }
-    // It is the reading of a tree where the source doesn't tell its bytes, too, and just the spelling was taken.
+    // It is the reading of a tree where the source doesn't tell its bytes, too, and just the encoding was consumed.
     ensures taken { IfOk result (TakenFrom R.Source (T.reads false false) rd) }
     // A refusal that is neither for memory nor for a fault means that no beginning spells a tree that the type reads.
     ensures err { IfErr result (RefusedFrom R.Source (T.reads false false) (T.refuses source_setting) rd) }

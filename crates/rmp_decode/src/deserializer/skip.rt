@@ -161,7 +161,7 @@ impl<R: Source, C: SerializerConfig> Deserializer<R, C> {
         ensures law { Lawful R.Source any_tree self.old self.new result }
         // An error names the first thing that is wrong.
         ensures exact { IfErr result (RefusesFirst R.Source (UnpassedFor R.lends) any_row self.old self.new) }
-        // Where the source lends, memory is taken for a list or a map alone that isn't empty.
+        // Where the source lends, only a list or a map that isn't empty takes memory.
         ensures memory { R.lends ≡ true → IfErr result (λ e. e ≡ Error.OutOfMemory → IfSome (left R.Source self.old) (OpensSome (is_strict self.old))) }
     {
         skip::<R, C, Slices<'de>>(self)

@@ -1,4 +1,4 @@
-//! Heads of extensions that lie in memory whole.
+//! Heads of extensions that are buffered whole.
 ghost use Rattle.std.specs.Prelude.{IfSome, false};
 ghost use Rattle.rmp_decode.specs.Fronts.{StandsIn};
 
@@ -42,7 +42,7 @@ fn short_ext_at(front: &[u8]) -> Option<(u32, i8)>
     }
 }
 
-// The head of an extension of up to 255 bytes that stands at the front: how many bytes it has, its type, and the count of the head's
+// The head of an extension of up to 255 bytes at the front: how many bytes it has, its type, and the count of the head's
 // bytes.
 #[inline(always)]
 pub(crate) fn ext_at(front: &[u8]) -> Option<(u32, i8, usize)>

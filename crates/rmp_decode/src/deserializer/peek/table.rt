@@ -1,4 +1,4 @@
-//! Heads of any kind that lie in memory whole, but those of extensions of more than 255 bytes.
+//! Heads of any kind that are buffered whole, except those of extensions of more than 255 bytes.
 ghost use Rattle.std.specs.Prelude.{◌≡◌, ◌<ℤ◌, true, false, IfSome};
 ghost use Rattle.rmp_decode.specs.Ahead.{LeafStandsIn};
 ghost use Rattle.rmp_decode.specs.Fronts.{StandsIn, bound_of};
@@ -107,7 +107,7 @@ fn long_parts_at(front: &[u8]) -> Option<(Head, usize)>
     }
 }
 
-// A number in a format with a sign that stands at the front; the count of its head's bytes; and below which number the canonical
+// A number at the front in a format with a sign; the count of its head's bytes; and below which number the canonical
 // head has as many.
 #[inline(always)]
 pub(crate) fn signed_at(front: &[u8]) -> Option<(i64, usize, i64)>

@@ -12,8 +12,8 @@ pub(super) fn may_stand(n: u64, least: u64, strict: bool) -> bool
     !strict || n >= least
 }
 
-// Whether the canonical head of a number without a sign has so many bytes or more. It is computed of the count, so that where any width may be
-// read nothing but the number and the count is kept.
+// Whether the canonical head of a number without a sign has `len` bytes or more. It is computed from `len`, so that a
+// lenient read keeps nothing but the number and `len`.
 #[inline(always)]
 pub(super) fn needs_bytes(n: u64, len: usize) -> bool
     ensures { result ≡ true → least_of len ≤ n }
@@ -28,7 +28,7 @@ pub(super) fn needs_bytes(n: u64, len: usize) -> bool
     n >= least
 }
 
-// Whether the canonical head of a number below zero has so many bytes or more.
+// Whether the canonical head of a number below zero has `len` bytes or more.
 #[inline(always)]
 pub(super) fn needs_signed_bytes(z: i64, len: usize) -> bool
     ensures { result ≡ true → z <ℤ bound_of len }
@@ -82,7 +82,7 @@ fn number_64_at(bytes: &[u8]) -> Option<u64>
     }
 }
 
-// A number without a sign whose head, of any width, stands at the front; the count of the head's bytes; and from which number
+// A number without a sign whose head, of any width, is at the front; the count of the head's bytes; and from which number
 // on the canonical head has as many.
 #[inline(always)]
 pub(super) fn unsigned_at(front: &[u8]) -> Option<(u64, usize, u64)>
