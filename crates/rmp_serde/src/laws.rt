@@ -2,14 +2,16 @@
 //!
 //! A caller uses a law by calling its function: what the call ensures is the law, for every argument.
 
-ghost use Rattle.std.specs.Prelude.{◌≡◌, ◌≤◌, ◌↔◌, ◌+◌, ℕ, List, ◌++◌, length, drop, Some};
+ghost use Rattle.std.specs.Prelude.{◌≡◌, ◌≤◌, ◌↔◌, ◌+◌, ℕ, List, ◌++◌, length, drop, Some, true};
 ghost use Rattle.std.specs.Io.KnownBytes.{Consumes};
 ghost use Rattle.rmp_wire.specs.declared.head.Head.{Head};
 ghost use Rattle.rmp_wire.specs.Heads.{IsHead, canon_head, fits_head};
 ghost use Rattle.rmp_wire.specs.Canonical.{IsCanonicalHead, IsCanonical};
 ghost use Rattle.rmp_wire.specs.Cursors.{cursor_place};
 ghost use Rattle.rmp_wire.specs.Msg.{Msg};
+ghost use Rattle.rmp_wire.specs.Slices.{reference_bytes, is_lent};
 ghost use Rattle.rmp_wire.specs.Spelling.{Spells, canon, Fits, IsBytes};
+ghost use Rattle.rmp_wire.specs.Types.{bytes_of, buffer_bytes, tag_of, ext_bytes};
 ghost use Rattle.rmp_encode.specs.Calls.{IsSpelled, ToVecFails};
 ghost use Rattle.rmp_encode.specs.Trees.{tree_of};
 ghost use Rattle.rmp_encode.specs.declared.error.Error.{Error};
@@ -18,6 +20,8 @@ ghost use Rattle.rmp_encode.specs.declared.settings.Settings.{Settings};
 ghost use Rattle.rmp_serde.specs.Places.{IsWhole, IsFault};
 ghost use Rattle.rmp_serde.specs.Read.{reads_value};
 ghost use Rattle.rmp_serde.specs.ValueData.{value_data};
+
+use rmp_wire::{ByteBuf, Bytes, Ext, Reference};
 
 pub use rmp_encode::laws::known_and_unknown_lengths;
 pub use rmp_round_trip::laws::{
@@ -92,4 +96,13 @@ pub fn values_are_their_trees()
         → IsSpelled (tree_of s (Some (value_data v))) c → IsSpelled (tree_of t (Some (value_data w))) d → (c ≡ d) ↔ (m ≡ n) }
     ensures again { (s t : Settings) (m n v w : Msg) (c d : List ℕ) → reads_value m v → IsSpelled (tree_of s (Some (value_data v))) c
         → Spells c n → reads_value n w → IsSpelled (tree_of t (Some (value_data w))) d → (n ≡ m) × (d ≡ c) }
+{}
+
+/// Two values are equal exactly where their bytes are: of extensions also the types, and of references whether both are borrowed.
+pub fn equality<'a, 'b>()
+    ensures bytes { (a b : Bytes) → (⟦<Bytes<'a> as PartialEq>⟧.eq a b ≡ true) ↔ (bytes_of a ≡ bytes_of b) }
+    ensures buffers { (a b : ByteBuf) → (⟦<ByteBuf as PartialEq>⟧.eq a b ≡ true) ↔ (buffer_bytes a ≡ buffer_bytes b) }
+    ensures exts { (a b : Ext) → (⟦<Ext as PartialEq>⟧.eq a b ≡ true) ↔ ((tag_of a ≡ tag_of b) × (ext_bytes a ≡ ext_bytes b)) }
+    ensures references { (a b : Reference) → (⟦<Reference<'a, 'b> as PartialEq>⟧.eq a b ≡ true)
+        ↔ ((is_lent a ≡ is_lent b) × (reference_bytes a ≡ reference_bytes b)) }
 {}

@@ -1,7 +1,7 @@
 //! Which head is the canonical one of its kind and number.
 #![tactic(auto, unfolding(crate::specs::Heads::canon_head, crate::specs::Heads::fits_head, crate::specs::Taking::byte_of))]
 
-ghost use Rattle.std.specs.Prelude.{◌≡◌, ◌↔◌, ◌<◌, true, pos, ℤ};
+ghost use Rattle.std.specs.Prelude.{◌≡◌, ◌↔◌, ◌<◌, true, false, pos, ℤ, IfSome, IfNone};
 ghost use Rattle.rmp_wire.specs.Canonical.{Opens};
 ghost use Rattle.rmp_wire.specs.Heads.{canon_head, fits_head};
 ghost use Rattle.rmp_wire.specs.Taking.{byte_of};
@@ -111,28 +111,39 @@ fn ext_byte(len: u32, tag: i8) -> u8
     }
 }
 
-// The first byte of the canonical head of the same kind and number.
-fn first_byte(head: Head) -> u8
-    ensures { fits_head head → Opens result (canon_head head) }
+// The first byte of the canonical head of the same kind and number, or `None` for a whole number that no format holds.
+fn first_byte(head: Head) -> Option<u8>
+    ensures fits { IfSome result (λ b. fits_head head × Opens b (canon_head head)) }
+    ensures outside { IfNone result (fits_head head → ⊥) }
 {
     match head {
-        Head::Nil => 0xc0,
-        Head::Truth(false) => 0xc2,
-        Head::Truth(true) => 0xc3,
-        Head::Whole(z) => whole_byte(z),
-        Head::F32Bits(_) => 0xca,
-        Head::F64Bits(_) => 0xcb,
-        Head::Text(len) => text_byte(len),
-        Head::Bin(len) => bin_byte(len),
-        Head::Array(len) => array_byte(len),
-        Head::Map(len) => map_byte(len),
-        Head::Ext(len, tag) => ext_byte(len, tag),
+        Head::Nil => Some(0xc0),
+        Head::Truth(false) => Some(0xc2),
+        Head::Truth(true) => Some(0xc3),
+        Head::Whole(z) => {
+            if z >= i128::from(i64::MIN) && z <= i128::from(u64::MAX) {
+                Some(whole_byte(z))
+            } else {
+                None
+            }
+        }
+        Head::F32Bits(_) => Some(0xca),
+        Head::F64Bits(_) => Some(0xcb),
+        Head::Text(len) => Some(text_byte(len)),
+        Head::Bin(len) => Some(bin_byte(len)),
+        Head::Array(len) => Some(array_byte(len)),
+        Head::Map(len) => Some(map_byte(len)),
+        Head::Ext(len, tag) => Some(ext_byte(len, tag)),
     }
 }
 
-/// Returns whether the marker begins the canonical head of the same kind and number.
+/// Returns whether the marker begins the canonical head of the same kind and number. A number that no format holds has none.
 pub fn is_canonical(marker: Marker, head: &Head) -> bool
-    ensures { fits_head head.now → (result ≡ true) ↔ Opens (byte_of marker) (canon_head head.now) }
+    ensures canonical { fits_head head.now → (result ≡ true) ↔ Opens (byte_of marker) (canon_head head.now) }
+    ensures outside { (fits_head head.now → ⊥) → result ≡ false }
 {
-    marker.to_u8() == first_byte(*head)
+    match first_byte(*head) {
+        Some(byte) => marker.to_u8() == byte,
+        None => false,
+    }
 }

@@ -13,7 +13,7 @@ pub returns-then-not-is_canonical : goal.returns-then-not-is_canonical
 returns-then-not-is_canonical c =
     let t = c.in_ok-marker.ensures.reads.ok in (
       next_other c.args.left.now.now c.next_head.new.source.now t.rest c.in_ok-marker.marker c.in_ok-marker.head t.is_head t.taken c.is_canonical.result
-          c.is_canonical.ensures c.if-not-is_canonical.true,
+          c.is_canonical.ensures.canonical c.if-not-is_canonical.true,
       refl,
     )
 
@@ -23,7 +23,7 @@ returns-then-not-skip c =
     let short = subst (λ n. length c.next_head.new.source.now < n) c.content_len.ensures (c.if-not-skip.ensures.short refl) in (
       c.from.ensures.0,
       inr (next_cut c.args.left.now.now c.next_head.new.source.now t.rest c.in_ok-marker.marker c.in_ok-marker.head t.is_head t.taken
-          c.is_canonical.result c.is_canonical.ensures c.if-not-is_canonical.false t.is_marker short),
+          c.is_canonical.result c.is_canonical.ensures.canonical c.if-not-is_canonical.false t.is_marker short),
     )
 
 pub returns : goal.returns
@@ -31,5 +31,5 @@ returns c =
     let t = c.in_ok-marker.ensures.reads.ok in
     let skipped = c.if-not-skip.ensures.bytes (search rules) in
     next_taken c.args.left.now.now c.next_head.new.source.now t.rest c.in_ok-marker.marker c.in_ok-marker.head t.is_head t.taken c.is_canonical.result
-    c.is_canonical.ensures c.if-not-is_canonical.false
+    c.is_canonical.ensures.canonical c.if-not-is_canonical.false
     c.skip.new.self.now c.content_len.result c.parts_in.result c.content_len.ensures skipped c.parts_in.ensures

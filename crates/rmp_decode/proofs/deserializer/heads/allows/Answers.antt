@@ -18,12 +18,12 @@ of_strict false h b e i = absurd (cc)
 
 pub returns-else-not-strict-clause-allowed : goal.returns-else-not-strict-clause-allowed
 returns-else-not-strict-clause-allowed c = λ t rest i. in_strict _ _ _ (search rules)
-    (test_passed _ (byte_of c.args.marker) rest i ((c.is_canonical.ensures (head_fits _ _ i)).0 t))
+    (test_passed _ (byte_of c.args.marker) rest i ((c.is_canonical.ensures.canonical (head_fits _ _ i)).0 t))
 
 pub returns-else-not-strict-clause-other : goal.returns-else-not-strict-clause-other
 returns-else-not-strict-clause-other c = λ f rest i.
     let k = of_strict _ _ _ (search rules) i in
-    let t : c.is_canonical.result ≡ true = (c.is_canonical.ensures (head_fits _ _ k.is_head)).1 (test_failed _ (byte_of c.args.marker) rest k) in
+    let t : c.is_canonical.result ≡ true = (c.is_canonical.ensures.canonical (head_fits _ _ k.is_head)).1 (test_failed _ (byte_of c.args.marker) rest k) in
     absurd (true≢false (sym t ∙ f))
 
 lenient : (s : Bool) (h : Head) (b : List ℕ) → s ≡ false → IsHead h b → heads_of s h b

@@ -9,5 +9,5 @@ use Rattle.rmp_decode.proofs.deserializer.peek.table.canonical_at.Goals as goal
 pub returns-then-is_canonical : goal.returns-then-is_canonical
 returns-then-is_canonical c = allowed_stands _ _ _ c.args.front.now
     (λ rest i. test_passed c.in-Some.head _ rest i (subst (λ b. Opens b (canon_head c.in-Some.head)) c.from_u8.ensures.round
-    ((c.is_canonical.ensures (head_fits _ _ i)).0 c.if-is_canonical.true)))
+    ((c.is_canonical.ensures.canonical (head_fits _ _ i)).0 c.if-is_canonical.true)))
     (c.in-Some.ensures {u = tt})
