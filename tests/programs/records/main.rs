@@ -1,6 +1,6 @@
-//! Keeps a log of records in the file `log`: appends some, loses the end of the last, and goes on behind the last whole one.
+//! Keeps a log of records in the file `log`: appends some, loses the end of the last, and goes on after the last whole one.
 //!
-//! Each time the file was read it prints its records, a line each, and how many bytes stand behind the last whole one.
+//! Each time the file was read it prints its records, a line each, and how many bytes follow the last whole one.
 #![tactic(auto)]
 
 use example_records::{Records, replay};
@@ -9,7 +9,7 @@ use std::alloc::Global;
 use std::io::ErrorKind;
 use std::{fs, io};
 
-// Appends a record that is spelled so.
+// Appends a record with this encoding.
 fn append(records: &mut Records, alloc: Global, message: &[u8]) -> io::Result<()> {
     let Ok(entry) = Value::from_slice(alloc, message) else {
         return Err(ErrorKind::InvalidData.into());
@@ -20,7 +20,7 @@ fn append(records: &mut Records, alloc: Global, message: &[u8]) -> io::Result<()
     }
 }
 
-// Reads the records of the file, prints them, and answers them as they are held.
+// Reads the records of the file, prints them, and returns them.
 fn replay_file(rt: &HostRuntime) -> io::Result<Records> {
     let alloc = rt.alloc();
     let log = fs::read(rt, "log")?;
