@@ -156,7 +156,8 @@ fields_are : (s : Settings) (fs : Wanted) (x : Fields) → fields_of fs ≡ Some
 fields_are s [] x e = let is : no_fields ≡ x = cc in subst (IsOf s []) is (refl, λ n. refl)
 fields_are s (f ∷ fs) x e = go (λ y q. fields_are s fs y q) f.1 refl (fields_of fs) refl e
   where
-    go : ((y : Fields) → fields_of fs ≡ Some y → IsOf s fs y) → (d : Option Data) → f.1 ≡ d → (o : Option Fields) → fields_of fs ≡ o → push_field f.0 d o ≡ Some x → IsOf s (f ∷ fs) x
+    go : ((y : Fields) → fields_of fs ≡ Some y → IsOf s fs y) → (d : Option Data) → f.1 ≡ d → (o : Option Fields) → fields_of fs ≡ o
+        → push_field f.0 d o ≡ Some x → IsOf s (f ∷ fs) x
     go ih None p o q h = absurd (cc)
     go ih (Some d) p None q h = absurd (cc)
     go ih (Some d) p (Some y) q h =

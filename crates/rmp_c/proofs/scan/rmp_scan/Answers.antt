@@ -8,7 +8,8 @@ pub returns-in-Ok-Whole-clause-law : goal.returns-in-Ok-Whole-clause-law
 returns-in-Ok-Whole-clause-law c = λ before h.
     let is = c.in-Some.ensures.some in
     let a = held c.in-Some.scanner c.args.state.now before is h in
-    whole_law before c.args.piece.now c.args.state.now.limit c.in-Some.scanner.limit c.in-Ok-Whole.n c.scan.new.self _ (let r = c.in-Some.ensures.range in let l = is.limit in omega (arith, r, l)) is.limit
+    whole_law before c.args.piece.now c.args.state.now.limit c.in-Some.scanner.limit c.in-Ok-Whole.n c.scan.new.self _
+    (let r = c.in-Some.ensures.range in let l = is.limit in omega (arith, r, l)) is.limit
     c.in-Ok-Whole.ensures.limit (rw c.in-Ok-Whole.field-0-is at (c.in-Ok-Whole.ensures.law before a)) c.keep.ensures.holds
 
 pub returns-in-Ok-Whole-clause-whole : goal.returns-in-Ok-Whole-clause-whole
@@ -26,7 +27,8 @@ pub returns-in-Ok-More-clause-law : goal.returns-in-Ok-More-clause-law
 returns-in-Ok-More-clause-law c = λ before h.
     let is = c.in-Some.ensures.some in
     let a = held c.in-Some.scanner c.args.state.now before is h in
-    more_law before c.args.piece.now c.args.state.now.limit c.in-Some.scanner.limit c.args.used.now c.scan.new.self _ (let r = c.in-Some.ensures.range in let l = is.limit in omega (arith, r, l)) is.limit
+    more_law before c.args.piece.now c.args.state.now.limit c.in-Some.scanner.limit c.args.used.now c.scan.new.self _
+    (let r = c.in-Some.ensures.range in let l = is.limit in omega (arith, r, l)) is.limit
     c.in-Ok-More.ensures.limit (rw c.in-Ok-More.field-0-is at (c.in-Ok-More.ensures.law before a)) c.keep-in-Ok-More.ensures.holds
 
 pub returns-in-Ok-More-clause-whole : goal.returns-in-Ok-More-clause-whole

@@ -19,7 +19,8 @@ pub returns-clause-writes : goal.returns-clause-writes
 returns-clause-writes g c = λ old t rest h. going_more g.W.Sink (IsTupling g.W.Sink old t rest c.serialize_element.new.self) t (sink_of old)
     (sink_of (inside c.serialize_element.new.self)) c.serialize_element.result
     (or_one_of (forces_all (settings_of old).bytes) g.W.Sink.takes_memory
-    (g.A.Serialize.takes_memory (settings_of old) ∷ (g.B.Serialize.takes_memory (settings_of old) ∷ (g.D.Serialize.takes_memory (settings_of old) ∷ (g.E.Serialize.takes_memory (settings_of old) ∷ [])))) 3)
+    (g.A.Serialize.takes_memory (settings_of old) ∷ (g.B.Serialize.takes_memory (settings_of old)
+    ∷ (g.D.Serialize.takes_memory (settings_of old) ∷ (g.E.Serialize.takes_memory (settings_of old) ∷ [])))) 3)
     (c.serialize_element.ensures.writes old t rest (c.in_ok-three.ensures.writes old t _ h))
 
 pub returns-clause-keeps : goal.returns-clause-keeps
