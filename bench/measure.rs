@@ -18,7 +18,7 @@ pub struct Load<C> {
     pub name: &'static str,
     /// How many elements one round has: what a line of the table is about.
     pub count: usize,
-    /// Goes so many times over its input.
+    /// Goes this many times over its input.
     pub work: Box<dyn Fn(&C, u32) -> u64>,
     pub answer: Answer,
 }
@@ -145,7 +145,7 @@ pub fn number(out: &mut Vec<u8>, n: u64) {
 }
 
 /// Runs what the arguments name: `names`, one a line; `counts`, how many elements each load has; `time`, nanoseconds for one
-/// element of each load in that order; or `load NAME REPS`, one load so many times and nothing else, for a count of
+/// element of each load in that order; or `load NAME REPS`, one load REPS times and nothing else, for a count of
 /// instructions.
 pub fn main<C>(loads: &[Load<C>], runs: Runs, calls: &C) {
     let arguments: Vec<String> = env::args().skip(1).collect();

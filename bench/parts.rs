@@ -21,7 +21,7 @@ pub enum Part {
 }
 
 /// The heads of a kind with a length: the first byte of a short one and what it counts to, if there is a short one, and the first bytes of
-/// those whose length stands in one, two and four bytes.
+/// those whose length is in one, two and four bytes.
 struct Heads {
     short: Option<(u8, usize)>,
     long: [Option<u8>; 3],

@@ -24,7 +24,7 @@ WIDE = 100
 INTRO = """# The public items
 
 Written by `tools/api.py` from the sources: run it again after a change, and `tests/run/generated` sees that it was run. Each item
-stands under its path in `rmp_serde`, with its signature, the first sentence of its doc comment and its errors. The doc comments
+is under its path in `rmp_serde`, with its signature, the first sentence of its doc comment and its errors. The doc comments
 say more, and have examples.
 
 *Promises* are the names of the clauses of its contract (`ensures`), and *asks* those of what a caller must show (`requires`). The
@@ -37,7 +37,7 @@ def paragraph(lines: list[str]) -> str:
 
 
 def first_sentence(doc: list[str]) -> str:
-    """The first sentence of a doc comment: up to a stop that is outside of backquotes, with a space behind it."""
+    """The first sentence of a doc comment: up to a stop that is outside of backquotes, and that a space follows."""
     text = paragraph(doc[: doc.index("")] if "" in doc else doc)
     for stop in re.finditer(r"[.!?](?= |$)", text):
         if text[: stop.end()].count("`") % 2 == 0:

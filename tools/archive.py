@@ -3,7 +3,7 @@
 
     tools/archive.py CRATE FILE      CRATE is a crate of crates.txt or of bench/libraries, and FILE the library that is written
 
-The crate alone is proved, as it is built. Where what it stands on wasn't made from its sources as they are, `rt lib` makes that first, which
+The crate alone is proved, as it is built. Where what it builds on wasn't made from its sources as they are, `rt lib` makes that first, which
 proves it once more.
 """
 import glob
@@ -37,7 +37,7 @@ def not_new(name, crates):
 
 
 def copied(name, folder):
-    """Copies a crate into a folder, with what is derived of it, and answers where it stands there."""
+    """Copies a crate into a folder, with what is derived of it, and returns its folder there."""
     crate = os.path.join(folder, "crates", name)
     if not is_for_measures(name):
         for part in PARTS:

@@ -7,14 +7,14 @@ PARTS = ["src", "specs", "proofs"]
 
 
 def listed(path):
-    """The lines of a list of crates: for each name what stands before and behind its colon."""
+    """The lines of a list of crates: for each name what is before and after its colon."""
     with open(path, encoding="utf-8") as file:
         parts = [line.partition("#")[0].partition(":") for line in file]
     return {head.split()[0]: (head.strip(), libraries.split()) for head, _, libraries in parts if head.strip()}
 
 
 def below(names, crates):
-    """The crates of this repository on which these stand, themselves among them, each behind those that it stands on."""
+    """The crates of this repository that these build on, themselves among them, each after those that it builds on."""
     found = []
     for name in names:
         if name in crates:

@@ -245,7 +245,7 @@ def split(text: str) -> list[str]:
 
 
 def closing(text: str, at: int) -> int:
-    """The place behind the bracket that closes the one at this place."""
+    """The place after the bracket that closes the one at this place."""
     depth = 0
     for place in range(at, len(text)):
         depth += (text[place] in "<([{") - (text[place] in ">)]}")
@@ -408,7 +408,7 @@ def tuple_fields(body: Span, lifetime: Optional[str]) -> list[Field]:
 
 
 def shape_of(name: str, body: Span, lifetime: Optional[str], rule: Optional[str], key: str = "") -> Shape:
-    """What is written behind a struct's or a variant's name, whose fields are renamed by this rule."""
+    """What is written after a struct's or a variant's name, whose fields are renamed by this rule."""
     body = body.strip()
     text = str(body)
     if not text:

@@ -1,4 +1,4 @@
-"""What stands for a field that a map doesn't have: `// derive: default` and `// derive: default = VALUE`.
+"""The value of a field that a map doesn't have: `// derive: default` and `// derive: default = VALUE`.
 
 Such a field is read as `rmp_decode::Defaulted`, and its default is put in the place of `None`.
 """
@@ -40,7 +40,7 @@ class Default:
 
 
 def default_of(kind: str, value: str) -> Default:
-    """The default of a field of this type: `value` is what is written behind the word, or nothing."""
+    """The default of a field of this type: `value` is what is written after the word, or nothing."""
     name = kind.partition("<")[0]
     if name == "Option":
         raise NoDefault("a field of type Option is None where it is missing: `default` has no effect on it")

@@ -116,7 +116,7 @@ def misapplied(crate, edit):
 
 
 def body_of(text, at):
-    """What stands between the braces of the function that begins there. The clauses before it are lines of their own."""
+    """What is between the braces of the function that begins there. The clauses before it are lines of their own."""
     found = re.compile(r"(?:^ *|[^\n{]* )\{\n(.*?)^ *\}$|\{\}$", re.M | re.S).search(text, at)
     return (found[1] or "").strip()
 

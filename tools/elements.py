@@ -56,7 +56,7 @@ def state(i):
     return f"(goes g.W.Sink {takes(i - 1)} {data(i - 1)} _ _ (Ok _) c.{word}.ensures.keeps c.in_ok-{word}.ensures.writes old t _ {state(i - 1)})"
 
 
-# The same, where each stands behind its name.
+# The same, where each has its name before it.
 def named(i, n):
     if i == 0:
         return "h"

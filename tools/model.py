@@ -143,7 +143,7 @@ def walk(data, limit=None, utf8=False):
 
 
 def claims():
-    """Heads that claim all that they can, with little behind them."""
+    """Heads that claim all that they can, with few bytes after them."""
     for first in (*range(0xC4, 0xCA), *range(0xD4, 0xE0), 0x8F, 0x9F, 0xBF):
         width = next((it[2][first - it[1]] for it in LONG if it[1] <= first < it[1] + len(it[2])), 0)
         claim = bytes([first]) + b"\xff" * width

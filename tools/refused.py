@@ -3,11 +3,11 @@
 
 A copy of a crate is made, with as many of its edits as leave each other's lines and functions alone, and the functions that they name are
 proved there, with those that these call, from nothing. An edit is refused where the prover leaves the goals of its lines `refused:` open,
-each in the function that stands before them. A function waits for the proofs of those that it calls: what wasn't seen for that is tried in
+each in the function that is named before them. A function waits for the proofs of those that it calls: what wasn't seen for that is tried in
 the next check, without the edits that were. A function that no edit names and that is open by itself is told, and counts as a failure.
 
 Crates are tried side by side, at most N. The libraries below a crate are taken as the gate built them. With --gate LOG, the gate is
-running, LOG has what it said so far, each line behind a number, and a crate's edits are tried as soon as its libraries are proved. With
+running, LOG has what it said so far, each line after a number, and a crate's edits are tried as soon as its libraries are proved. With
 --write any goal counts that is open in a function that an edit names, and those that are go into its lines `refused:`. The last line is 'N
 passed, M failed'.
 """
