@@ -266,7 +266,7 @@ impl Peek for Unsigned {
     #[inline(always)]
     fn at(self, front: &[u8], strict: bool) -> Option<(u64, usize)> {
         match unsigned_at(front) {
-            Some((n, len, _)) => {
+            Some((n, len)) => {
                 if n <= self.most && (!strict || needs_bytes(n, len)) {
                     Some((n, len))
                 } else {
@@ -295,7 +295,7 @@ impl Peek for WithSign {
     #[inline(always)]
     fn at(self, front: &[u8], strict: bool) -> Option<(i64, usize)> {
         match signed_at(front) {
-            Some((z, len, _)) => {
+            Some((z, len)) => {
                 if z >= self.least && z <= self.most && (!strict || needs_signed_bytes(z, len)) {
                     Some((z, len))
                 } else {

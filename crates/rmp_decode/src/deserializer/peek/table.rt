@@ -107,39 +107,37 @@ fn long_parts_at(front: &[u8]) -> Option<(Head, usize)>
     }
 }
 
-// A number at the front in a format with a sign; the count of its head's bytes; and below which number the canonical
-// head has as many.
+// A number at the front in a format with a sign, and the length of its head.
 #[inline(always)]
-pub(crate) fn signed_at(front: &[u8]) -> Option<(i64, usize, i64)>
+pub(crate) fn signed_at(front: &[u8]) -> Option<(i64, usize)>
     ensures any { IfSome result (λ p. StandsIn false p.1 (Head.Whole p.0) front.now) }
-    ensures canonical { IfSome result (λ p. p.0 <ℤ p.2 → StandsIn true p.1 (Head.Whole p.0) front.now) }
-    ensures bound { IfSome result (λ p. p.2 ≡ bound_of p.1) }
+    ensures canonical { IfSome result (λ p. p.0 <ℤ bound_of p.1 → StandsIn true p.1 (Head.Whole p.0) front.now) }
 {
     match front {
         [first, behind @ ..] => match first {
-            0xe0..=0xff => Some((i64::from(first.cast_signed()), 1, 0)),
+            0xe0..=0xff => Some((i64::from(first.cast_signed()), 1)),
             0xd0 => match behind {
-                [a, ..] => Some((i64::from(a.cast_signed()), 2, -0x20)),
+                [a, ..] => Some((i64::from(a.cast_signed()), 2)),
                 _ => None,
             },
             0xd1 => match behind {
                 [a, b, ..] => {
                     let n = u16::from_be_bytes([*a, *b]);
-                    Some((i64::from(n.cast_signed()), 3, -0x80))
+                    Some((i64::from(n.cast_signed()), 3))
                 }
                 _ => None,
             },
             0xd2 => match behind {
                 [a, b, c, d, ..] => {
                     let n = u32::from_be_bytes([*a, *b, *c, *d]);
-                    Some((i64::from(n.cast_signed()), 5, -0x8000))
+                    Some((i64::from(n.cast_signed()), 5))
                 }
                 _ => None,
             },
             0xd3 => match behind {
                 [a, b, c, d, e, f, g, h, ..] => {
                     let n = u64::from_be_bytes([*a, *b, *c, *d, *e, *f, *g, *h]);
-                    Some((n.cast_signed(), 9, -0x8000_0000))
+                    Some((n.cast_signed(), 9))
                 }
                 _ => None,
             },
@@ -173,11 +171,11 @@ pub(crate) fn any_at(front: &[u8]) -> Option<(Head, usize)>
             0xd9..=0xdb => long_text_at(front),
             0xdc..=0xdf => long_parts_at(front),
             0xd0..=0xd3 | 0xe0..=0xff => match signed_at(front) {
-                Some((z, len, _)) => Some((Head::Whole(i128::from(z)), len)),
+                Some((z, len)) => Some((Head::Whole(i128::from(z)), len)),
                 None => None,
             },
             _ => match unsigned_at(front) {
-                Some((n, len, _)) => Some((Head::Whole(i128::from(n)), len)),
+                Some((n, len)) => Some((Head::Whole(i128::from(n)), len)),
                 None => None,
             },
         },

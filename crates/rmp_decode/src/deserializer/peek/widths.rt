@@ -82,31 +82,29 @@ fn number_64_at(bytes: &[u8]) -> Option<u64>
     }
 }
 
-// A number without a sign whose head, of any width, is at the front; the count of the head's bytes; and from which number
-// on the canonical head has as many.
+// A number without a sign whose head, of any width, is at the front, and the length of that head.
 #[inline(always)]
-pub(super) fn unsigned_at(front: &[u8]) -> Option<(u64, usize, u64)>
+pub(super) fn unsigned_at(front: &[u8]) -> Option<(u64, usize)>
     ensures any { IfSome result (λ p. StandsIn false p.1 (Head.Whole (pos p.0)) front.now) }
-    ensures canonical { IfSome result (λ p. p.2 ≤ p.0 → StandsIn true p.1 (Head.Whole (pos p.0)) front.now) }
-    ensures least { IfSome result (λ p. p.2 ≡ least_of p.1) }
+    ensures canonical { IfSome result (λ p. least_of p.1 ≤ p.0 → StandsIn true p.1 (Head.Whole (pos p.0)) front.now) }
 {
     match front {
         [first, behind @ ..] => match first {
-            0x00..=0x7f => Some((u64::from(*first), 1, 0)),
+            0x00..=0x7f => Some((u64::from(*first), 1)),
             0xcc => match behind {
-                [a, ..] => Some((u64::from(*a), 2, 0x80)),
+                [a, ..] => Some((u64::from(*a), 2)),
                 _ => None,
             },
             0xcd => match number_16_at(behind) {
-                Some(n) => Some((u64::from(n), 3, 1 << 8)),
+                Some(n) => Some((u64::from(n), 3)),
                 None => None,
             },
             0xce => match number_32_at(behind) {
-                Some(n) => Some((u64::from(n), 5, 1 << 16)),
+                Some(n) => Some((u64::from(n), 5)),
                 None => None,
             },
             0xcf => match number_64_at(behind) {
-                Some(n) => Some((n, 9, 1 << 32)),
+                Some(n) => Some((n, 9)),
                 None => None,
             },
             _ => None,
