@@ -159,9 +159,20 @@ impl<R: Source, C: SerializerConfig> Deserializer<R, C> {
         self.deserialize_tuple(len)
     }
 
-    // Takes the head of a map.
+    // Consumes the head of a map: that of a short one by the fast path.
     #[inline(always)]
     fn open_map(&mut self) -> Result<u32, Error>
+        ensures { TakesMapHead R.Source self.old self.new result }
+    {
+        match self.take_nested(MapHead) {
+            Some(len) => Ok(len),
+            None => self.slow_map(),
+        }
+    }
+
+    // Consumes the head of a map, out of line.
+    #[inline(never)]
+    fn slow_map(&mut self) -> Result<u32, Error>
         ensures { TakesMapHead R.Source self.old self.new result }
     {
         match self.head() {

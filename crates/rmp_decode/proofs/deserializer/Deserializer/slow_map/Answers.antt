@@ -1,7 +1,7 @@
 use Rattle.std.proofs.Common.{arith, refl}
 use Rattle.rmp_decode.proofs.Opening.{no_map, map_too_deep}
 use Rattle.rmp_decode.proofs.Opening.{opening_ends}
-use Rattle.rmp_decode.proofs.deserializer.Deserializer.open_map.Goals as goal
+use Rattle.rmp_decode.proofs.deserializer.Deserializer.slow_map.Goals as goal
 
 pub returns-then-self-le1 : goal.returns-then-self-le1
 returns-then-self-le1 g c = map_too_deep g.R.Source _ _ _ (c.in-Ok.field-0-0, c.in-Ok.head) c.in-Ok.ensures c.in-Some.len c.in-Some.ensures
