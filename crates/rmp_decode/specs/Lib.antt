@@ -14,6 +14,7 @@ pub mod Fields
 pub mod Fronts
 pub mod Inside
 pub mod Kinds
+pub mod LargeMaps
 pub mod Law
 pub mod Leaves
 pub mod MapRefusing
