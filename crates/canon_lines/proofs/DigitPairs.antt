@@ -85,9 +85,6 @@ pair_is a b x y i p q = rw (p, q) refl
 abbrev pub Decoded : List ℕ → List ℕ → ℕ → Type 0
 Decoded digits bytes i = decode_pairs 0 digits ≡ prepend bytes (decode_pairs (2 * i) (drop (2 * i) digits))
 
-pub decoded_none : (digits : List ℕ) → Decoded digits [] 0
-decoded_none digits = decode_start digits []
-
 pub decoded_more : (digits bytes : List ℕ) (i v : ℕ) → 2 * i + 1 < length digits
     → pair_value (slice_index digits (2 * i)) (slice_index digits (2 * i + 1)) (2 * i) ≡ Ok v → Decoded digits bytes i → Decoded digits (bytes ++ v ∷ []) (i + 1)
 decoded_more digits bytes i v fits ok inv =

@@ -5,12 +5,6 @@ use Rattle.std.proofs.lemmas.List.Elements.{All-push, All-cons}
 use Rattle.hex.specs.Hex.{decode_pairs}
 use Rattle.canon_lines.specs.Lines.{digits_in, IsHex}
 
--- an empty line counts as hex
-pub no_digits_hex : (line digits : List ℕ) → digits ≡ digits_in line → length digits ≡ 0 → IsHex line
-unfolding decode_pairs
-no_digits_hex line [] e h = rw (sym e)
-no_digits_hex line (x ∷ xs) e h = absurd (omega arith)
-
 abbrev pub Split : {B : Type 0} → (B → Type 0) → List B → B → Type 0
 Split P ys y = All P ys × P y
 

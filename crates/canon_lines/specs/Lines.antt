@@ -26,10 +26,6 @@ is_blank b = b == 32 || b == 9
 abbrev pub digits_in : List ℕ → List ℕ
 digits_in line = filter (λ b. not (is_blank b)) (strip_carriage_return line)
 
--- the line has no digits
-abbrev pub IsBlank : List ℕ → Type 0
-IsBlank line = digits_in line ≡ []
-
 -- the line is hex, or blank
 abbrev pub IsHex : List ℕ → Type 0
 IsHex line = IsOk (decode_of (digits_in line))

@@ -93,9 +93,6 @@ pub record Replayed (ms : List Msg) (cut : List ℕ) (read : List Msg) (rest : L
   pub whole : All IsRecord left
   pub front : rest ≡ written left ++ cut
 
-pub none_read : (ms : List Msg) (cut log : List ℕ) → All IsRecord ms → log ≡ written ms ++ cut → Replayed ms cut [] log
-none_read ms cut log whole e = record { left = ms; all = refl; whole = whole; front = e }
-
 -- one record more
 module _ (ms : List Msg) (cut : List ℕ) (read : List Msg) (rest : List ℕ) (m : Msg) (behind : List ℕ) where
   more : (left : List Msg) → ms ≡ read ++ left → All IsRecord left → rest ≡ written left ++ cut → IsCut cut → (IsCut rest → ⊥)

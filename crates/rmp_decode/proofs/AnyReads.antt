@@ -46,20 +46,6 @@ use Rattle.rmp_decode.proofs.Contents.{Content, text_content, content_read, cont
 use Rattle.rmp_decode.proofs.NothingAccepted.{refuses_narrower, same_head}
 use Rattle.rmp_decode.proofs.Rows.{in_list}
 
--- nothing could be opened
-pub any_unopened : {R C V : Type 0} (g : Ghosts R) (reads : Msg → V → Type 0) (old last : Deserializer R C) (e : Error) → FailsToOpenAny g old last e
-    → Lawful g reads old last (Err e)
-any_unopened g reads old last e f = record {
-  ok = tt;
-  ready = tt;
-  clean = tt;
-  sound = tt;
-  failed = f.failed;
-  before = f.before;
-  stays = f.stays;
-  err = λ o n k. refuses_narrower (SpellsAs old.strict) (λ m. Unit {0}) _ _ _ (λ m r. tt) (f.err o n k);
-}
-
 -- what is refused of the messages under a head that stands there
 refuses_under : (w : Bool) (Q P : Msg → Type 0) (room : ℕ) (known k : Option (List ℕ)) (b : List ℕ) (h : Head) → Consumes known k b → heads_of w h b
     → ((m : Msg) → head_of m ≡ h → P m → Q m) → Refuses (SpellsAs w) Q room known → Refuses (SpellsAs w) P room known
@@ -95,64 +81,9 @@ lawful_under g reads reads' old mid new h e t f l = record {
 
 -- ---- lists
 
--- how a list's items stand
-as_list : (w b : Bool) (bytes : List ℕ) (ms : Msgs) → b ≡ false → SpellsRow (SpellsIn w b) bytes ms → SpellsRow (SpellsAs w) bytes ms
-as_list w true bytes ms e s = absurd (cc)
-as_list w false bytes ms e s = s
-
 list_head : (w b : Bool) (n : ℕ) (x : List ℕ) → b ≡ false → heads_of w (seq_head b n) x → heads_of w (head.Array n) x
 list_head w true n x e i = absurd (cc)
 list_head w false n x e i = i
-
-list_level : (b : Bool) → b ≡ false → levels b ≡ 1
-list_level true e = absurd (cc)
-list_level false e = refl
-
--- the list is whole
-pub list_read : {R C V : Type 0} (g : Ghosts R) (reads : Msg → V
-    → Type 0) (old : Deserializer R C) (start mid : SeqAccess R C) (ms : Msgs) (o : Opens g old start) (r : Run g start mid ms) (last : Deserializer R C)
-    (v : V)
-    → start.bytes ≡ false → reads (list ms) v → mid.left ≡ 0 → last ≡ record mid.de.now { failed = false } → Lawful g reads old last (Ok v)
-list_read g reads old start mid ms o r last v b q z e =
-    let many : count ms ≡ start.left = omega (arith, r.many) in
-    let level = list_level start.bytes b in
-    rw e (record {
-      ok = record {
-        bytes = o.head.bytes ++ r.bytes;
-        tree = list ms;
-        takes = Consumes-trans _ _ _ o.head.bytes r.bytes o.head.takes r.takes;
-        goes_on = record {
-          more = o.head.goes_on.more ++ r.bytes;
-          whole = ap (λ t. t ++ r.bytes) o.head.goes_on.whole
-              ∙ append_assoc (kept_bytes old.kept) o.head.goes_on.more r.bytes;
-        };
-        spelled = record {
-          first = o.head.bytes;
-          second = r.bytes;
-          is_first = subst (λ n. heads_of old.strict (head.Array n) o.head.bytes) (sym many)
-              (list_head old.strict start.bytes start.left o.head.bytes b o.head.is_head);
-          is_second = in_list old.strict ms r.bytes
-              (subst (λ z. SpellsRow (SpellsAs z) r.bytes ms) o.stays.strict (as_list start.de.now.strict start.bytes r.bytes ms b r.spelled));
-          is_whole = refl;
-        };
-        fits = omega (arith, r.fits, o.room, level);
-        value = q;
-      };
-      ready = refl;
-      clean = r.still.clean;
-      sound = r.faults_same ∙ o.faults_same;
-      err = λ _. tt;
-      failed = tt;
-      before = λ h. absurd (let f = o.fresh in cc);
-      stays = record {
-        config = r.stays.config ∙ o.stays.config;
-        room = r.stays.room ∙ o.stays.room;
-        limit = r.stays.limit ∙ o.stays.limit;
-        strict = r.stays.strict
-            ∙ o.stays.strict;
-        place = r.stays.place ∙ o.stays.place;
-      };
-    })
 
 -- ---- content
 
@@ -182,12 +113,3 @@ pub text_under : (n : ℕ) (known : Option (List ℕ)) → StartsWithNoText n kn
     → IfSome known (λ ys. (s r : List ℕ) → ys ≡ s ++ r → length s ≡ n → Readable (λ m t. (m ≡ text t) × IsUtf8 t) (text s) → ⊥)
 text_under n None h = tt
 text_under n (Some xs) h = λ s r e m t. let p = t.1.0 in let same : s ≡ t.0 = cc in h s r e m (subst IsUtf8 (sym same) t.1.1)
-
--- a text was wanted there, and its bytes are none
-pub raw_not_text : {R C V : Type 0} (g : Ghosts R) (reads : Msg → V
-    → Type 0) (old last : Deserializer R C) (a : RawAccess R C) (o : OpensRaw g (head.Text a.len) old a) (e : Error) → FailsText g a.len a.de.now last e
-    → ((m : Msg) → head_of m ≡ head.Text a.len → Readable reads m → Readable (λ m t. (m ≡ text t) × IsUtf8 t) m) → Lawful g reads old last (Err e)
-raw_not_text g reads old last a o e t f =
-    lawful_under g (λ m t. (m ≡ text t) × IsUtf8 t) reads old a.de.now last (head.Text a.len) e o.begun.ok f
-    (content_refused text_content g (λ m t. (m ≡ text t) × IsUtf8 t) old a.de.now last (o.marker, head.Text a.len) o.begun a.len e refl
-    (λ m r. (r.0, r.1.0)) (λ n k. text_under a.len (g.ahead a.de.now.reader) (t.err n k)) (t.failed ∙ o.begun.failed) t.stays)

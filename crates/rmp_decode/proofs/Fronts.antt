@@ -120,14 +120,6 @@ behind xs = take (length xs - 1) (drop 1 xs)
 pub behind_is : (x : ℕ) (ys : List ℕ) → behind (x ∷ ys) ≡ ys
 behind_is x ys = let l : length (x ∷ ys) - 1 ≡ length ys = omega arith in rw l (take_all (length ys) ys (omega arith))
 
-pub same_stands : (w v : Bool) (n : ℕ) (h : Head) (xs : List ℕ) → w ≡ v → StandsIn w n h xs → StandsIn v n h xs
-same_stands w v n h xs e s = subst (λ z. StandsIn z n h xs) e s
-
--- where a head is canonical if it has to be, it may be read
-pub wanted_stands : (w : Bool) (n : ℕ) (h : Head) (xs : List ℕ) → StandsIn false n h xs → (w ≡ true → StandsIn true n h xs) → StandsIn w n h xs
-wanted_stands false n h xs s c = s
-wanted_stands true n h xs s c = c refl
-
 -- where any width may be read, what stands there is such a head
 pub any_stands : (w : Bool) (n : ℕ) (h : Head) (xs : List ℕ) → w ≡ false → StandsIn false n h xs → StandsIn w n h xs
 any_stands w n h xs e s = subst (λ z. StandsIn z n h xs) (sym e) s

@@ -158,20 +158,6 @@ module _ {R C V : Type 0} (g : Ghosts R) (reads : Msg → V → Type 0) (old mid
     stays = stays_then g old mid new s.stays l.stays;
   }
 
--- no first byte was found
-pub next_unfound : {R C V : Type 0} (g : Ghosts R) (reads : Msg → V → Type 0) (old new : Deserializer R C) (e : Error) → FailsToFind g old new e
-    → Lawful g reads old new (Err e)
-next_unfound g reads old new e f = record {
-  ok = tt;
-  ready = tt;
-  clean = tt;
-  sound = tt;
-  err = λ o n k. absurd ((f.fault o).0 k);
-  failed = f.failed;
-  before = f.before;
-  stays = f.stays;
-}
-
 -- a spelling is at least one byte
 spelled_some : (s : Bool) (b : List ℕ) (m : Msg) → SpellsAs s b m → 0 < length b
 spelled_some s b m i =

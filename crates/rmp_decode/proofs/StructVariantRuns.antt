@@ -230,12 +230,6 @@ module _ {R C : Type 0} (g : Ghosts R) where
 
 -- ---- what is read of the variant
 
--- content that has fields
-pub fields_there : {V : Type 0} (names : List (List ℕ)) (Q : List (Option Msg) → V → Type 0) (c : Option Msg) (v : V)
-    → Content (λ m. OfFields names (λ fs. Q fs v) m) c → Content (Readable (λ m (u : Unit {0}). HasFields m)) c
-fields_there names Q None v h = h
-fields_there names Q (Some m) v h = (tt, has_fields names (λ fs. Q fs v) m h)
-
 module _ {R C S : Type 0} (g : Ghosts R) (fields : List (List ℕ)) (holds : List (Option Msg) → S → Type 0) (names : List (List ℕ)) (n : ℕ)
     (old : Deserializer R C) (v : Variant R C) (o : OpensVariant g names n old v) (b : v.bare ≡ false)
     (start : FieldAccess R C) (p : OpensStructIn g fields v.inner v.de.now start) (s : S) where

@@ -159,9 +159,6 @@ or_front a m bs cs h = or_each a (one_of bs) (one_of (bs ++ cs)) m (front_some b
 pub or_back : (a m : Bool) (bs cs : List Bool) → IsTrue ((a || one_of cs) || m) → IsTrue ((a || one_of (bs ++ cs)) || m)
 or_back a m bs cs h = or_each a (one_of cs) (one_of (bs ++ cs)) m (back_some bs cs) h
 
-pub or_given : (b c m : Bool) → b ≡ true → (b || c) || m ≡ true
-or_given b c m e = ap (λ x. (x || c) || m) e
-
 module _ {W : Type 0} (g : Ghosts W) where
   -- a write that was done
   pub part_done : {A : Type 0} (m : Bool) (P : Type 0) (a : List ℕ) (old new : W) (u : A) → P → Appends (g.told old) (g.told new) a

@@ -137,12 +137,6 @@ struct_found s names fs x all is h hx =
     subst (λ o. LowersTo s (option_map structure o) (λ m. fields names m ≡ Some (map (tree_named s x) names))) (sym all)
     (named_read s s.named names x is h hx)
 
--- what has these fields is read so by a type whose fields are read so
-pub read_so : (o : Option Msg) (names : List (List ℕ)) (fs : List (Option Msg)) (Q : List (Option Msg) → Type 0)
-    → IsSomeAnd o (λ m. fields names m ≡ Some fs) → Q fs → IsSomeAnd o (OfFields names Q)
-read_so None names fs Q h q = h
-read_so (Some m) names fs Q h q = subst (λ o. MatchOption o ⊥ Q) (sym h) q
-
 -- ---- fields that may be refused
 
 abbrev Wanted : Type 0

@@ -66,9 +66,6 @@ abbrev first_token : List Token → Token
 first_token [] = (Nil, [])
 first_token (t ∷ ts) = t
 
-token_of : Msg → Token
-token_of m = (head_of m, content_of m)
-
 first_is : (m : Msg) (x : List Token) → first_token (tokens m ++ x) ≡ (head_of m, content_of m)
 first_is nil x = refl
 first_is (truth t) x = refl

@@ -92,10 +92,6 @@ mutual
 pub tree_told : (m : Msg) → first_tree (built (tokens m)) ≡ m
 tree_told m = ap (λ z. first_tree (built z)) (sym (append-nil (tokens m))) ∙ ap first_tree (built_tree m [])
 
--- trees with the same heads in front are the same
-pub tokens_once : (m n : Msg) (x y : List Token) → tokens m ++ x ≡ tokens n ++ y → m ≡ n
-tokens_once m n x y e = ap first_tree (sym (built_tree m x) ∙ ap built e ∙ built_tree n y)
-
 -- the canonical spelling is that of the heads
 mutual
   pub canon_told : (m : Msg) (x : List Token) → canon m ++ canon_tokens x ≡ canon_tokens (tokens m ++ x)

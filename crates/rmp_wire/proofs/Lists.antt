@@ -23,9 +23,6 @@ pub pairs-pairs_of : (ps : Pairs) → pairs (pairs_of ps) ≡ ps
 pairs-pairs_of no_pairs = refl
 pairs-pairs_of (pair k v ps) = ap (pair k v) (pairs-pairs_of ps)
 
-pub msgs_injective : (xs ys : List Msg) → msgs xs ≡ msgs ys → xs ≡ ys
-msgs_injective xs ys e = sym (items_of-msgs xs) ∙ ap items_of e ∙ items_of-msgs ys
-
 pub count-msgs : (ms : List Msg) → count (msgs ms) ≡ length ms
 count-msgs [] = refl
 count-msgs (m ∷ ms) = ap suc (count-msgs ms)
@@ -33,12 +30,6 @@ count-msgs (m ∷ ms) = ap suc (count-msgs ms)
 pub canon_all-msgs : (ms : List Msg) → canon_all (msgs ms) ≡ flat_map canon ms
 canon_all-msgs [] = refl
 canon_all-msgs (m ∷ ms) = ap (λ s. canon m ++ s) (canon_all-msgs ms)
-
-pub list_pushed : (f : ℕ → Msg) (xs ys : List ℕ) (n : ℕ) (ms : List Msg) → ys ≡ xs ++ n ∷ [] → list (msgs (map f xs)) ≡ list (msgs ms)
-    → list (msgs (map f ys)) ≡ list (msgs (ms ++ f n ∷ []))
-list_pushed f xs ys n ms e h =
-    let inner : msgs (map f xs) ≡ msgs ms = cc in
-    ap (λ l. list (msgs l)) (ap (map f) e ∙ map-append f xs (n ∷ []) ∙ ap (λ l. l ++ f n ∷ []) (msgs_injective (map f xs) ms inner))
 
 -- ---- canonical spellings, part by part
 
@@ -60,10 +51,6 @@ pub canon-map : (ps : List (Msg × Msg)) → canon (Rattle.rmp_wire.specs.Msg.ma
 canon-map ps = ap (λ n. canon_head (Map n) ++ canon_pairs (pairs ps)) (count_pairs-pairs ps)
     ∙ ap (λ s. canon_head (Map (length ps)) ++ s) (canon_pairs-pairs ps)
 
--- one more item
-pub canon_more : (old : List ℕ) (ms : List Msg) (m : Msg) → (old ++ flat_map canon ms) ++ canon m ≡ old ++ flat_map canon (ms ++ m ∷ [])
-canon_more old ms m = flat_map_more canon old ms m
-
 -- ---- spellings in any widths, part by part
 
 pub spells_one : (b : List ℕ) (m : Msg) → Spells b m → SpellsAll b (msgs (m ∷ []))
@@ -83,17 +70,6 @@ spells_append (m ∷ xs) ys a b p q = record {
 pub spells_more : (ms : List Msg) (m : Msg) (a b : List ℕ) → SpellsAll a (msgs ms) → Spells b m → SpellsAll (a ++ b) (msgs (ms ++ m ∷ []))
 spells_more ms m a b p q = spells_append ms (m ∷ []) a b p (spells_one b m q)
 
--- a head of their count, and then the items
-pub spells_list : (ms : List Msg) (n : ℕ) (head b : List ℕ) → IsHead (Array n) head → length ms ≡ n → SpellsAll b (msgs ms)
-    → Spells (head ++ b) (list (msgs ms))
-spells_list ms n head b is e s = record {
-  first = head;
-  second = b;
-  is_first = subst (λ k. IsHead (Array k) head) (sym e ∙ sym (count-msgs ms)) is;
-  is_second = s;
-  is_whole = refl;
-}
-
 -- the spellings of the items, one after the other
 pub spells_all_from : (bs : List (List ℕ)) (ms : List Msg) → AllZip Spells bs ms → SpellsAll (flat_map (λ b. b) bs) (msgs ms)
 spells_all_from [] [] h = refl
@@ -112,11 +88,3 @@ spells_all_parts [] b s = ([], tt, s)
 spells_all_parts (m ∷ ms) b s =
     let rest : (bs : List (List ℕ)) × AllZip Spells bs ms × (s.second ≡ flat_map (λ c. c) bs) = spells_all_parts ms s.second s.is_second in
     (s.first ∷ rest.0, (s.is_first, rest.1), s.is_whole ∙ ap (λ t. s.first ++ t) rest.2)
-
--- the exit of a loop that wrote the items of ns, each seen by f
-pub list_written : {X : Type 0} (f : X → Msg) (ns : List X) (i : ℕ) (old new : List ℕ) → length ns ≤ i
-    → new ≡ (old ++ canon_head (Array (length ns))) ++ flat_map canon (map f (take i ns)) → new ≡ old ++ canon (list (msgs (map f ns)))
-list_written f ns i old new h e =
-    e ∙ ap (λ xs. (old ++ canon_head (Array (length ns))) ++ flat_map canon (map f xs)) (take_all i ns h)
-    ∙ append_assoc old (canon_head (Array (length ns))) (flat_map canon (map f ns))
-    ∙ ap (λ n. old ++ (canon_head (Array n) ++ flat_map canon (map f ns))) (sym (length-map ns f)) ∙ ap (λ s. old ++ s) (sym (canon-list (map f ns)))

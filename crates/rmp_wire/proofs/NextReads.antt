@@ -127,22 +127,6 @@ module _ {S : Type 0} (g : Ghosts S) where
 
 -- ---- the same by the functions that take a head
 
-pub head_after_takes : (m : Marker) (h : Head) (xs : List ℕ) (new : Option (List ℕ)) → TakesHead m h (Some xs) new
-    → (ys : List ℕ) × (new ≡ Some ys) × (take_head (byte_of m ∷ xs) ≡ Some (h, ys))
-head_after_takes m h xs None t = absurd t.taken
-head_after_takes m h xs (Some ys) t = (ys, refl, ap (λ k. take_head (byte_of m ∷ k)) t.taken ∙ take_head_takes h (byte_of m ∷ t.rest) ys t.is_head)
-
-pub next_takes : (m : Marker) (h : Head) (xs : List ℕ) (new : Option (List ℕ)) → TakesNext m h (Some xs) new
-    → (ys : List ℕ) × (new ≡ Some ys) × (take_head xs ≡ Some (h, ys))
-next_takes m h xs None t = absurd t.taken
-next_takes m h xs (Some ys) t = (ys, refl, ap take_head t.taken ∙ take_head_takes h (byte_of m ∷ t.rest) ys t.is_head)
-
 none_taken : (xs : List ℕ) (r : Option (Head × List ℕ)) → take_head xs ≡ r → IsBytes xs → NoHead (Some xs) → r ≡ None
 none_taken xs None e bs q = refl
 none_taken xs (Some p) e bs q = let t : TookHead p.0 xs p.1 = take_head_took xs p.0 p.1 bs e in absurd (q p.0 t.head p.1 t.split t.is_head)
-
-pub no_head_takes_none : (xs : List ℕ) → IsBytes xs → NoHead (Some xs) → take_head xs ≡ None
-no_head_takes_none xs bs q = none_taken xs (take_head xs) refl bs q
-
-pub cut_takes_none : (m : Marker) (xs : List ℕ) → byte_of m < 256 → IsBytes xs → IsCut m (Some xs) → take_head (byte_of m ∷ xs) ≡ None
-cut_takes_none m xs b bs q = no_head_takes_none (byte_of m ∷ xs) (b, bs) (none_behind m (byte_of m ∷ xs) xs refl q)

@@ -94,10 +94,6 @@ pub any_width : (strict : Bool) (h : Head) (b : List ℕ) → heads_of strict h 
 any_width false h b i = i
 any_width true h b i = i.is_head
 
--- where any width is allowed, each head is one
-pub in_any : (h : Head) (b : List ℕ) → IsHead h b → heads_of false h b
-in_any h b i = i
-
 -- a canonical head is one, whichever heads are allowed
 pub canon_in : (strict : Bool) (h : Head) → fits_head h → heads_of strict h (canon_head h)
 canon_in false h f = canon_is_head h f

@@ -53,20 +53,7 @@ impl<R: Source, C: SerializerConfig> Deserializer<R, C> {
         if !self.begins_ahead() {
             return None;
         }
-        self.take_ahead(kind, self.strict)
-    }
-
-    // Consumes a buffered head, where nothing was kept back and no read failed.
-    #[inline(always)]
-    fn take_ahead<K: Peek>(&mut self, kind: K, strict: bool) -> Option<K::Value>
-        requires fresh { is_failed self.old ≡ false }
-        requires clean { kept_of self.old ≡ Nothing }
-        requires same { strict ≡ is_strict self.old }
-        ensures taken { IfSome result (λ v. TakesFront R.Source (K.head kind v) self.old self.new) }
-        ensures wanted { IfSome result (λ v. K.wants kind v) }
-        ensures kept { IfNone result (self.new ≡ self.old) }
-    {
-        match kind.at(self.reader.front(), strict) {
+        match kind.at(self.reader.front(), self.strict) {
             Some((value, len)) => {
                 if self.reader.skip(len) {
                     self.failed = true;

@@ -1,8 +1,0 @@
-use Rattle.std.proofs.Common.{refl, rules}
-use Rattle.rmp_decode.proofs.Fronts.{front_taken, same_stands}
-use Rattle.rmp_decode.proofs.deserializer.Deserializer.take_ahead.Goals as goal
-
-pub returns-then-skip-clause-taken : goal.returns-then-skip-clause-taken
-returns-then-skip-clause-taken g c =
-    front_taken g.R.Source _ _ _ _ _ (search rules) (search rules) refl (search rules) refl refl refl refl c.front.ensures.bytes
-    (same_stands c.args.strict _ _ _ _ c.requires.same c.in-Some.ensures.stands) (c.skip.ensures.bytes c.if-skip.true) (c.skip.ensures.sound c.if-skip.true) (c.skip.ensures.place c.if-skip.true)
