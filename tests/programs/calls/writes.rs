@@ -11,6 +11,7 @@ mod errors;
 mod failing;
 mod implementations;
 mod leaves;
+mod refusing;
 mod structs;
 
 // Whether a value is written as these bytes.
