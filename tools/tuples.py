@@ -106,7 +106,7 @@ use {path}.Goals as goal
 pub returns-in_err-tup-clause-writes : goal.returns-in_err-tup-clause-writes
 returns-in_err-tup-clause-writes g c =
     let p = err_from_is_err_and c.from_residual.result c.from_residual.ensures.1 in
-    rw (p.1, p.2) (part_or g.W.Sink _ (unopened g.W.Sink _ _ _ c.args.se.now _ _ _ _ c.in_err-tup.was c.serialize_tuple.follows.holds-at-none refl))
+    rw (p.1, p.2) (part_or g.W.Sink _ (unopened g.W.Sink _ _ _ _ c.args.se.now _ _ _ _ c.in_err-tup.was c.serialize_tuple.follows.holds-at-none refl))
 {steps}
 pub returns-clause-writes : goal.returns-clause-writes
 returns-clause-writes g c =

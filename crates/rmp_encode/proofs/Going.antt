@@ -202,12 +202,12 @@ module _ {W C : Type 0} (g : Ghosts W) where
   all_written m parts now now' (Err e) w old t h = w old t [] (still_written (sym (append-nil (parts (settings_of old)))) h)
 
   -- nothing was opened
-  pub unopened : {A X : Type 0} (P : Type 0) (may : X → Type 0) (value : X
-      → Option Data) (old last : Serializer W C) (all : X) (r : Result A Error) (e : Error) → r ≡ Err e → OnErr r (FailsToOpen g P may value old r last)
+  pub unopened : {A X : Type 0} (items : List (List ℕ)) (P : Type 0) (may : X → Type 0) (value : X
+      → Option Data) (old last : Serializer W C) (all : X) (r : Result A Error) (e : Error) → r ≡ Err e → OnErr r (FailsToOpen g items P may value old r last)
       → may all
       → WritesTree g {A = Unit {0}} g.takes_memory (tree_of (settings_of old) (value all)) (sink_of old) (sink_of last) (Err e)
-  unopened {A} {X} P may value old last all r e is h l =
-      let f : FailsToOpen g {A = A} P may value old (Err e) last = subst (λ k. OnErr k (FailsToOpen g P may value old k last)) is h in
+  unopened {A} {X} items P may value old last all r e is h l =
+      let f : FailsToOpen g {A = A} items P may value old (Err e) last = subst (λ k. OnErr k (FailsToOpen g items P may value old k last)) is h in
       f.writes all l
 
 -- what can't be refused isn't

@@ -9,6 +9,7 @@ pub mod OpenSteps
 pub mod Packed
 pub mod Packing
 pub mod Parts
+pub mod Refusals
 pub mod Spelled
 pub mod TupleSteps
 pub mod Variants

@@ -108,3 +108,41 @@ module _ {W : Type 0} (g : Ghosts W) where
       → WritesPart g {A = Unit {0}} m (Unit {0}) (flat_map f bs) old new (Err e)
   number_fails f bs i d lt w q = part_as g (λ t. t) (λ _. tt) (λ _. ((tt, tt), tt)) (λ _. around f bs i d lt)
       (part_stops g {B = Unit {0}} {Q = Unit {0}} (flat_map f (drop (i + 1) bs)) (part_then g w q))
+
+  -- with more items after them
+  pub marker_more : (items more : List (List ℕ)) (old new : W) (e : Error) → FirstAtMarker g {A = Unit {0}} items old new (Err e)
+      → FirstAtMarker g {A = Unit {0}} (items ++ more) old new (Err e)
+  marker_more items more old new (errors.InvalidValueWrite (wire.InvalidMarkerWrite fault)) h = record {
+    front = h.front;
+    next = h.next;
+    rest = h.rest ++ more;
+    split = ap (λ l. l ++ more) h.split ∙ append_assoc h.front (h.next ∷ h.rest) more;
+    appended = h.appended;
+  }
+  marker_more items more old new (errors.InvalidValueWrite (wire.InvalidDataWrite fault)) h = tt
+  marker_more items more old new (errors.InvalidValueWrite wire.OutOfMemory) h = tt
+  marker_more items more old new errors.UnknownLength h = tt
+  marker_more items more old new (errors.InvalidDataModel t) h = tt
+  marker_more items more old new errors.DepthLimitExceeded h = tt
+  marker_more items more old new (errors.Syntax t) h = tt
+  marker_more items more old new errors.OutOfMemory h = tt
+
+  -- the items before the last are whole
+  pub marker_last : {m : Bool} (a b last : List ℕ) {old mid : W} (new : W) {u : Unit {0}} (r : Result (Unit {0}) Error)
+      → WritesPart g m (Unit {0}) (a ++ b) old mid (Ok u) → NoneAtMarker g mid new r → FirstAtMarker g (a ∷ b ∷ last ∷ []) old new r
+  marker_last a b last new (Ok u) w none = tt
+  marker_last a b last {old} {mid} new (Err (errors.InvalidValueWrite (wire.InvalidMarkerWrite fault))) w none = record {
+    front = a ∷ b ∷ [];
+    next = last;
+    rest = [];
+    split = refl;
+    appended = subst (Appends (g.told old) (g.told new)) (append_assoc a b [])
+        (Appends-trans (g.told old) (g.told mid) (g.told new) (a ++ b) [] w.whole none);
+  }
+  marker_last a b last new (Err (errors.InvalidValueWrite (wire.InvalidDataWrite fault))) w none = tt
+  marker_last a b last new (Err (errors.InvalidValueWrite wire.OutOfMemory)) w none = tt
+  marker_last a b last new (Err errors.UnknownLength) w none = tt
+  marker_last a b last new (Err (errors.InvalidDataModel t)) w none = tt
+  marker_last a b last new (Err errors.DepthLimitExceeded) w none = tt
+  marker_last a b last new (Err (errors.Syntax t)) w none = tt
+  marker_last a b last new (Err errors.OutOfMemory) w none = tt

@@ -13,10 +13,11 @@ use Rattle.rmp_encode.specs.contracts.serializer.Serializer.{the_row}
 use Rattle.rmp_encode.specs.declared.settings.Settings.{Settings}
 use Rattle.rmp_encode.specs.declared.error.Error.{Error}
 use Rattle.rmp_encode.specs.Data.{Data}
+use Rattle.rmp_encode.specs.Refusals.{RefusesLength}
 use Rattle.rmp_encode.specs.Sizes.{most}
 use Rattle.rmp_encode.specs.Ser.{sink_of, settings_of}
 use Rattle.rmp_encode.specs.Trees.{Has, HasTree, spell, spelling, array_head, map_head, sequence_of, mapping_of, tree_of}
-use Rattle.rmp_encode.specs.Writes.{Keeps, StaysAtRefusal, WritesPart, WritesTree}
+use Rattle.rmp_encode.specs.Writes.{FirstAtMarker, Keeps, StaysAtRefusal, WritesPart, WritesTree}
 
 -- it succeeded
 abbrev pub done : Result (Unit {0}) Error
@@ -90,17 +91,18 @@ module _ {W C : Type 0} (g : Ghosts W) where
   abbrev pub Ends : {Q : Type 0} → States W C Q → Q → W → Result (Unit {0}) Error → Type 0
   Ends state q last r = (old : Serializer W C) (t : Option Msg) → state old t [] q → WritesTree g g.takes_memory t (sink_of old) last r
 
-  -- What the serializer is left as where nothing is opened. P says that the numbers at the opening fit, and
+  -- What the serializer is left as where nothing is opened. The opening writes these items. P says that the numbers at the opening fit, and
   -- `may` of which parts they may be the numbers.
-  pub record FailsToOpen {A X : Type 0} (P : Type 0) (may : X → Type 0) (value : X
+  pub record FailsToOpen {A X : Type 0} (items : List (List ℕ)) (P : Type 0) (may : X → Type 0) (value : X
       → Option Data) (old : Serializer W C) (r : Result A Error) (last : Serializer W C) : Type 0 where
     pub keeps : Keeps g old last
     pub refused : StaysAtRefusal old last r
-    pub long : ¬ P → last ≡ old
+    pub long : ¬ P → RefusesLength old last r
+    pub marker : FirstAtMarker g items (sink_of old) (sink_of last) r
     pub writes : (all : X) → may all → IfErr r (λ e. WritesTree g {A = Unit {0}} g.takes_memory (tree_of (settings_of old) (value all)) (sink_of old)
         (sink_of last) (Err e))
 
 module _ (W C : RattleType) (g : Ghosts W.Denot) where
   -- the serializer is borrowed by what is opened, or it is left as `FailsToOpen` says
-  abbrev pub Rests : {Q X : Type 0} → (Q → GName) → Type 0 → (X → Type 0) → (X → Option Data) → MutBor (Serializer W.Denot C.Denot) → Result Q Error → Fml
-  Rests reference P may value s r = RestsIfErr (the_row W C) s reference r (FailsToOpen g P may value s.now r)
+  abbrev pub Rests : {Q X : Type 0} → (Q → GName) → List (List ℕ) → Type 0 → (X → Type 0) → (X → Option Data) → MutBor (Serializer W.Denot C.Denot) → Result Q Error → Fml
+  Rests reference items P may value s r = RestsIfErr (the_row W C) s reference r (FailsToOpen g items P may value s.now r)

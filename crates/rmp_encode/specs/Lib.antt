@@ -6,6 +6,7 @@ pub mod Extensions
 pub mod Going
 pub mod Laws
 pub mod Opens
+pub mod Refusals
 pub mod Ser
 pub mod Sizes
 pub mod Slices

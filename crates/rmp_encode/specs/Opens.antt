@@ -1,5 +1,5 @@
 -- What a contract sees of an open list or map, of a known length or an unknown one.
-use Rattle.std.specs.Prelude.{◌≡◌, ℕ, ◌+◌, ◌<◌, ◌^◌, ◌-◌, ◌%◌, Bool, true, false, List, length, Option, None, Some}
+use Rattle.std.specs.Prelude.{◌≡◌, ℕ, ◌+◌, ◌≤◌, ◌<◌, [], ◌∷◌, ◌^◌, ◌-◌, ◌%◌, Bool, true, false, List, length, Option, None, Some}
 use Rattle.std.specs.Borrow.{GName}
 use Rattle.std.specs.declared.vec.Vec.{Vec}
 use Rattle.std.specs.declared.alloc.Global.{Global}
@@ -8,8 +8,8 @@ use Rattle.rmp_wire.specs.declared.sink.Sink.{Ghosts}
 use Rattle.rmp_encode.specs.declared.serializer.Serializer.{Serializer}
 use Rattle.rmp_encode.specs.declared.series.MaybeUnknownLengthCompound.{MaybeUnknownLengthCompound}
 use Rattle.rmp_encode.specs.Data.{Data}
-use Rattle.rmp_encode.specs.Going.{AreMany, IsWriting, IsKeepingAt}
-use Rattle.rmp_encode.specs.Sizes.{size_at}
+use Rattle.rmp_encode.specs.Going.{AreMany, head_at, IsWriting, IsKeepingAt}
+use Rattle.rmp_encode.specs.Sizes.{most, size_at}
 
 -- the compound's own type, with its buffer
 abbrev pub Open : Type 0 → Type 0 → Type 0
@@ -72,6 +72,15 @@ MayTake (Some n) = 0 < n
 abbrev pub MayEnd : Option ℕ → Type 0
 MayEnd None = Unit {0}
 MayEnd (Some n) = n ≡ 0
+
+-- as many are kept as a head can count
+abbrev pub IsFull : {W C : Type 0} → Open W C → Type 0
+IsFull q = (left_of q ≡ None) × (most q.pairs ≤ q.count)
+
+-- what the opening writes: a head, if the number is known
+abbrev pub head_items : Bool → Option ℕ → List (List ℕ)
+head_items pairs None = []
+head_items pairs (Some n) = head_at pairs n ∷ []
 
 -- after one more
 abbrev pub one_less : Option ℕ → Option ℕ

@@ -162,6 +162,10 @@ map_head n = canon_head (Map n)
 abbrev pub variant_head : List ℕ → List ℕ
 variant_head name = map_head 1 ++ canon (msg.text name)
 
+-- the items at the opening of a variant's content, of which this is the head
+abbrev pub variant_items : List ℕ → List ℕ → List (List ℕ)
+variant_items name head = map_head 1 ∷ canon (msg.text name) ∷ head ∷ []
+
 abbrev pub number_head : ℕ → List ℕ
 number_head n = canon_head (Whole (pos n))
 

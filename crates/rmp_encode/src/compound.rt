@@ -1,10 +1,11 @@
 //! Tuple structs and structs, and the content of variants that are like them: their elements or fields are
 //! written in order.
-ghost use Rattle.std.specs.Prelude.{◌≡◌, ◌^◌, ◌+◌, ◌<◌, ◌||◌, ◌∷◌, [], true, false, IfOk, OnOk, OnErr, IsOk, length};
+ghost use Rattle.std.specs.Prelude.{◌≡◌, ◌^◌, ◌+◌, ◌≤◌, ◌<◌, ◌||◌, ◌∷◌, [], true, false, IfOk, IfErr, OnOk, OnErr, IsOk, length};
 ghost use Rattle.std.specs.Borrow.{sem};
 ghost use Rattle.std.specs.List.{flat_map};
 ghost use Rattle.rmp_encode.specs.Compounds.{inside, reference, left_of, has_fields, is_sound, IsFilling};
-ghost use Rattle.rmp_encode.specs.Going.{Ends, Goes, Rests};
+ghost use Rattle.rmp_encode.specs.Going.{head_at, Ends, Goes, Rests};
+ghost use Rattle.rmp_encode.specs.Refusals.{OfParts};
 ghost use Rattle.rmp_encode.specs.Ser.{sink_of, settings_of};
 ghost use Rattle.rmp_encode.specs.Trees.{tree_of, field_parts, sequence_of, structure_of};
 ghost use Rattle.rmp_encode.specs.Writes.{Keeps};
@@ -41,7 +42,7 @@ impl<W: Sink, C: SerializerConfig> Serializer<W, C> {
         _name: &'static str,
         len: usize,
     ) -> Result<Compound<'_, W, C>, Error>
-        ensures* refused { sem 𝓛 (Rests W.row C.row W.Sink reference (len < 2 ^ 32) (λ all. length all ≡ len) sequence_of self.entry result) }
+        ensures* refused { sem 𝓛 (Rests W.row C.row W.Sink reference (head_at false len ∷ []) (len < 2 ^ 32) (λ all. length all ≡ len) sequence_of self.entry result) }
         ensures same_reference { IfOk result (λ q. reference q ≡ self.entry.ghost_name) }
         ensures fits { OnOk result (len < 2 ^ 32) }
         ensures left { IfOk result (λ q. left_of q ≡ len) }
@@ -69,7 +70,8 @@ impl<W: Sink, C: SerializerConfig> Serializer<W, C> {
         _name: &'static str,
         len: usize,
     ) -> Result<Compound<'_, W, C>, Error>
-        ensures* refused { sem 𝓛 (Rests W.row C.row W.Sink reference (len < 2 ^ 32) (λ fs. length fs ≡ len) structure_of self.entry result) }
+        ensures* refused { sem 𝓛 (Rests W.row C.row W.Sink reference (head_at (settings_of self.old).named len ∷ []) (len < 2 ^ 32) (λ fs. length fs ≡ len)
+            structure_of self.entry result) }
         ensures same_reference { IfOk result (λ q. reference q ≡ self.entry.ghost_name) }
         ensures fits { OnOk result (len < 2 ^ 32) }
         ensures left { IfOk result (λ q. left_of q ≡ len) }
@@ -106,6 +108,7 @@ impl<'a, W: Sink, C: SerializerConfig> Compound<'a, W, C> {
         ensures kind { has_fields self.new ≡ has_fields self.old }
         ensures sound { OnOk result (is_sound self.new ≡ true) }
         ensures broken { OnErr result (is_sound self.new ≡ false) }
+        ensures error { IfErr result (T.refuses value.now) }
         ensures writes { Goes W.Sink (IsFilling W.Sink) inside (λ s. T.takes_memory s || W.takes_memory) (λ s. T.data_of value.now s.human ∷ []) self.old
             self.new result }
         ensures keeps { Keeps W.Sink (inside self.old) (inside self.new) }
@@ -142,6 +145,7 @@ impl<'a, W: Sink, C: SerializerConfig> Compound<'a, W, C> {
         ensures kind { has_fields self.new ≡ has_fields self.old }
         ensures sound { OnOk result (is_sound self.new ≡ true) }
         ensures broken { OnErr result (is_sound self.new ≡ false) }
+        ensures error { IfErr result (OfParts (2 ^ 32 ≤ length key.now) (T.refuses value.now ∷ [])) }
         ensures writes { Goes W.Sink (IsFilling W.Sink) inside (λ s. T.takes_memory s || W.takes_memory)
             (λ s. field_parts s.named (key.now, T.data_of value.now s.human)) self.old self.new result }
         ensures keeps { Keeps W.Sink (inside self.old) (inside self.new) }

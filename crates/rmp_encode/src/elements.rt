@@ -8,6 +8,7 @@ ghost use Rattle.std.specs.List.{flat_map};
 ghost use Rattle.rmp_encode.specs.declared.settings.Settings.{Settings};
 ghost use Rattle.rmp_encode.specs.Data.{Data};
 ghost use Rattle.rmp_encode.specs.Going.{Goes, IsWriting};
+ghost use Rattle.rmp_encode.specs.Refusals.{RefusesLength};
 ghost use Rattle.rmp_encode.specs.Ser.{sink_of, settings_of};
 ghost use Rattle.rmp_encode.specs.Trees.{tree_of, field_parts, fields_by, sequence_of, structure_of, tuple_variant_of, struct_variant_of};
 ghost use Rattle.rmp_encode.specs.Writes.{Keeps, WritesTree};
@@ -132,7 +133,7 @@ impl<W: Sink, C: SerializerConfig> Serializer<W, C> {
             (tree_of (settings_of self.old) (tuple_variant_of variant.now (E.parts_of elements.now (settings_of self.old).human))) (sink_of self.old)
             (sink_of self.new) result }
         ensures keeps { Keeps W.Sink self.old self.new }
-        ensures long { 2 ^ 32 ≤ length variant.now → self.new ≡ self.old }
+        ensures long { 2 ^ 32 ≤ length variant.now → RefusesLength self.old self.new result }
         ensures value { OnOk result (E.are_values elements.now) }
     {
         self.open_variant(variant, false, elements.len())?;
@@ -160,7 +161,7 @@ impl<W: Sink, C: SerializerConfig> Serializer<W, C> {
             (tree_of (settings_of self.old) (struct_variant_of variant.now (fields_by names.now (E.parts_of elements.now (settings_of self.old).human))))
             (sink_of self.old) (sink_of self.new) result }
         ensures keeps { Keeps W.Sink self.old self.new }
-        ensures long { 2 ^ 32 ≤ length variant.now → self.new ≡ self.old }
+        ensures long { 2 ^ 32 ≤ length variant.now → RefusesLength self.old self.new result }
         ensures value { OnOk result (E.are_values elements.now) }
     {
         self.open_variant(variant, self.is_named(), elements.len())?;

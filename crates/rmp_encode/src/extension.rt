@@ -1,9 +1,10 @@
 //! Extensions: a type, and then the bytes.
-ghost use Rattle.std.specs.Prelude.{◌≡◌, Some};
+ghost use Rattle.std.specs.Prelude.{◌≡◌, ◌≤◌, ◌^◌, Some, IfErr, length};
 ghost use Rattle.rmp_wire.specs.Msg.{extension};
 ghost use Rattle.rmp_encode.specs.Extensions.{inside, reference, tagged_inside, tagged_reference, type_of};
+ghost use Rattle.rmp_encode.specs.Refusals.{OfLength, RefusesLength};
 ghost use Rattle.rmp_encode.specs.Ser.{sink_of};
-ghost use Rattle.rmp_encode.specs.Writes.{Keeps, WritesTree, StaysAtRefusal};
+ghost use Rattle.rmp_encode.specs.Writes.{Keeps, NoneAtMarker, WritesTree, StaysAtRefusal};
 
 use crate::error::Error;
 use crate::serializer::Serializer;
@@ -53,7 +54,10 @@ impl<'a, W: Sink, C: SerializerConfig> ExtFieldSerializer<'a, W, C> {
         ensures writes { WritesTree W.Sink W.takes_memory (Some (extension (type_of self.entry) bytes.now)) (sink_of (tagged_inside self.entry))
             (sink_of self.exit.0.now) result }
         ensures keeps { Keeps W.Sink (tagged_inside self.entry) self.exit.0.now }
+        ensures marker { NoneAtMarker W.Sink (sink_of (tagged_inside self.entry)) (sink_of self.exit.0.now) result }
+        ensures error { IfErr result (OfLength (2 ^ 32 ≤ length bytes.now)) }
         ensures refused { StaysAtRefusal (tagged_inside self.entry) self.exit.0.now result }
+        ensures long { 2 ^ 32 ≤ length bytes.now → RefusesLength (tagged_inside self.entry) self.exit.0.now result }
     {
         let ExtFieldSerializer { se, tag } = self;
         se.serialize_ext(tag, bytes)

@@ -1,7 +1,8 @@
 //! What can be written.
-ghost use Rattle.std.specs.Prelude.{◌≡◌, ◌||◌, Bool, true, Option, OnOk, OnSome};
+ghost use Rattle.std.specs.Prelude.{◌≡◌, ◌||◌, Bool, true, Option, OnOk, OnSome, IfErr};
 ghost use Rattle.rmp_encode.specs.declared.settings.Settings.{Settings};
 ghost use Rattle.rmp_encode.specs.Data.{Data};
+ghost use Rattle.rmp_encode.specs.Refusals.{Errors, any_error};
 ghost use Rattle.rmp_encode.specs.Trees.{tree_of, byte_of};
 ghost use Rattle.rmp_encode.specs.Ser.{sink_of, settings_of};
 ghost use Rattle.rmp_encode.specs.Writes.{Keeps, WritesTree};
@@ -33,6 +34,9 @@ pub trait Serialize {
     // Whether writing a value may allocate under these settings, apart from what the sink allocates.
     ghost takes_memory: { Settings → Bool } = { λ _. true };
 
+    // What is known of the error that writing the value answers.
+    ghost refuses: { Self → Errors } = { λ _. any_error };
+
     /// Writes the value.
     ///
     /// # Errors
@@ -46,6 +50,7 @@ pub trait Serialize {
         ensures writes { WritesTree W.Sink (takes_memory (settings_of se.old) || W.takes_memory)
             (tree_of (settings_of se.old) (data_of self.now (settings_of se.old).human)) (sink_of se.old) (sink_of se.new) result }
         ensures keeps { Keeps W.Sink se.old se.new }
+        ensures error { IfErr result (refuses self.now) }
         ensures value { OnOk result (is_value self.now) };
 
     /// Returns the number, exactly where the value is written by one call of `serialize_u8`.

@@ -1,5 +1,5 @@
 //! A serializer over a sink.
-ghost use Rattle.std.specs.Prelude.{◌≡◌, ◌^◌, ◌<◌, ◌≤◌, ◌++◌, ◌||◌, OnOk, true, false, [], Some, pos, length, encode_utf8};
+ghost use Rattle.std.specs.Prelude.{◌≡◌, ◌^◌, ◌<◌, ◌≤◌, ◌++◌, ◌||◌, ◌∷◌, OnOk, IfErr, true, false, [], Some, pos, length, encode_utf8};
 ghost use Rattle.std.specs.Borrow.{sem};
 ghost use Rattle.rmp_wire.specs.declared.head.Head.TheVariants.{Bin};
 ghost use Rattle.rmp_wire.specs.Heads.{canon_head};
@@ -7,6 +7,7 @@ ghost use Rattle.rmp_wire.specs.Spelling.{canon};
 ghost use Rattle.rmp_wire.specs.Msg.{nil, truth, whole, float32, float64, text, bin, extension};
 ghost use Rattle.rmp_encode.specs.Errors.{answer_of};
 ghost use Rattle.rmp_encode.specs.Going.{head_at, Begins, Goes, IsWriting};
+ghost use Rattle.rmp_encode.specs.Refusals.{OfLength, OfParts, OfSink, RefusesLength};
 ghost use Rattle.rmp_encode.specs.Ser.{sink_of, settings_of, LendsSink};
 ghost use Rattle.rmp_encode.specs.Trees.{ext_head, field_parts, name_parts, number_head};
 ghost use Rattle.rmp_encode.specs.Writes.{Keeps, NoneAtMarker, NeverMarker, WritesBehind, WritesPart, WritesTree, StaysAtRefusal};
@@ -45,7 +46,8 @@ pub struct Serializer<W, C = DefaultConfig> {
 // The result of a write, from that of rmp_wire.
 #[inline(always)]
 pub(crate) fn answer(r: Result<(), ValueWriteError>) -> Result<(), Error>
-    ensures { result ≡ answer_of r }
+    ensures is { result ≡ answer_of r }
+    ensures error { IfErr result OfSink }
 {
     match r {
         Ok(()) => Ok(()),
@@ -263,6 +265,7 @@ impl<W: Sink, C: SerializerConfig> Serializer<W, C> {
     pub(crate) fn put(&mut self, piece: &[u8]) -> Result<(), Error>
         ensures writes { WritesBehind W.Sink piece.now (sink_of self.old) (sink_of self.new) result }
         ensures marker { NeverMarker result }
+        ensures error { IfErr result OfSink }
         ensures keeps { Keeps W.Sink self.old self.new }
     {
         match self.wr.put_all(piece) {
@@ -275,6 +278,7 @@ impl<W: Sink, C: SerializerConfig> Serializer<W, C> {
     pub(crate) fn put_head(&mut self, pairs: bool, n: u32) -> Result<(), Error>
         ensures writes { WritesPart W.Sink W.takes_memory (Unit {0}) (head_at pairs n) (sink_of self.old) (sink_of self.new) result }
         ensures marker { NoneAtMarker W.Sink (sink_of self.old) (sink_of self.new) result }
+        ensures error { IfErr result OfSink }
         ensures keeps { Keeps W.Sink self.old self.new }
     {
         if pairs {
@@ -289,8 +293,10 @@ impl<W: Sink, C: SerializerConfig> Serializer<W, C> {
     pub(crate) fn put_len(&mut self, pairs: bool, len: usize) -> Result<(), Error>
         ensures begins { Begins W.Sink (len < 2 ^ 32) (head_at pairs len) self.old self.new result }
         ensures keeps { Keeps W.Sink self.old self.new }
+        ensures marker { NoneAtMarker W.Sink (sink_of self.old) (sink_of self.new) result }
+        ensures error { IfErr result (OfLength (2 ^ 32 ≤ len)) }
         ensures stays { StaysAtRefusal self.old self.new result }
-        ensures refused { 2 ^ 32 ≤ len → self.new ≡ self.old }
+        ensures long { 2 ^ 32 ≤ len → RefusesLength self.old self.new result }
         ensures fits { OnOk result (len < 2 ^ 32) }
     {
         let n = fits_u32(len)?;
@@ -302,9 +308,10 @@ impl<W: Sink, C: SerializerConfig> Serializer<W, C> {
     pub(crate) fn put_word(&mut self, word: &str) -> Result<(), Error>
         ensures writes { WritesTree W.Sink W.takes_memory (Some (text word.now)) (sink_of self.old) (sink_of self.new) result }
         ensures marker { NoneAtMarker W.Sink (sink_of self.old) (sink_of self.new) result }
+        ensures error { IfErr result (OfLength (2 ^ 32 ≤ length word.now)) }
         ensures keeps { Keeps W.Sink self.old self.new }
         ensures refused { StaysAtRefusal self.old self.new result }
-        ensures long { 2 ^ 32 ≤ length word.now → self.new ≡ self.old }
+        ensures long { 2 ^ 32 ≤ length word.now → RefusesLength self.old self.new result }
     {
         if word.len() >= 32 {
             return self.put_long_word(word);
@@ -318,6 +325,7 @@ impl<W: Sink, C: SerializerConfig> Serializer<W, C> {
         requires { length word.now < 32 }
         ensures writes { WritesPart W.Sink W.takes_memory (Unit {0}) (canon (text word.now)) (sink_of self.old) (sink_of self.new) result }
         ensures marker { NoneAtMarker W.Sink (sink_of self.old) (sink_of self.new) result }
+        ensures error { IfErr result OfSink }
         ensures keeps { Keeps W.Sink self.old self.new }
     {
         let bytes = word.as_bytes();
@@ -333,9 +341,10 @@ impl<W: Sink, C: SerializerConfig> Serializer<W, C> {
     fn put_long_word(&mut self, word: &str) -> Result<(), Error>
         ensures writes { WritesTree W.Sink W.takes_memory (Some (text word.now)) (sink_of self.old) (sink_of self.new) result }
         ensures marker { NoneAtMarker W.Sink (sink_of self.old) (sink_of self.new) result }
+        ensures error { IfErr result (OfLength (2 ^ 32 ≤ length word.now)) }
         ensures keeps { Keeps W.Sink self.old self.new }
         ensures refused { StaysAtRefusal self.old self.new result }
-        ensures long { 2 ^ 32 ≤ length word.now → self.new ≡ self.old }
+        ensures long { 2 ^ 32 ≤ length word.now → RefusesLength self.old self.new result }
     {
         self.serialize_str(word)
     }
@@ -345,6 +354,7 @@ impl<W: Sink, C: SerializerConfig> Serializer<W, C> {
     fn put_name(&mut self, key: &str) -> Result<(), Error>
         ensures writes { Goes W.Sink (IsWriting W.Sink) (λ se. se) (λ _. W.takes_memory) (λ s. name_parts s.named key.now) self.old self.new result }
         ensures keeps { Keeps W.Sink self.old self.new }
+        ensures error { IfErr result (OfLength (2 ^ 32 ≤ length key.now)) }
     {
         if !self.is_named() {
             return Ok(());
@@ -358,6 +368,7 @@ impl<W: Sink, C: SerializerConfig> Serializer<W, C> {
         ensures writes { Goes W.Sink (IsWriting W.Sink) (λ se. se) (λ s. T.takes_memory s || W.takes_memory)
             (λ s. field_parts s.named (key.now, T.data_of value.now s.human)) self.old self.new result }
         ensures keeps { Keeps W.Sink self.old self.new }
+        ensures error { IfErr result (OfParts (2 ^ 32 ≤ length key.now) (T.refuses value.now ∷ [])) }
         ensures value { OnOk result (T.is_value value.now) }
     {
         self.put_name(key)?;
@@ -382,6 +393,7 @@ impl<W: Sink, C: SerializerConfig> Serializer<W, C> {
     pub fn serialize_unit(&mut self) -> Result<(), Error>
         ensures writes { WritesTree W.Sink W.takes_memory (Some nil) (sink_of self.old) (sink_of self.new) result }
         ensures marker { NoneAtMarker W.Sink (sink_of self.old) (sink_of self.new) result }
+        ensures error { IfErr result OfSink }
         ensures keeps { Keeps W.Sink self.old self.new }
     {
         answer(write_nil(&mut self.wr))
@@ -395,6 +407,7 @@ impl<W: Sink, C: SerializerConfig> Serializer<W, C> {
     pub fn serialize_bool(&mut self, b: bool) -> Result<(), Error>
         ensures writes { WritesTree W.Sink W.takes_memory (Some (truth b)) (sink_of self.old) (sink_of self.new) result }
         ensures marker { NoneAtMarker W.Sink (sink_of self.old) (sink_of self.new) result }
+        ensures error { IfErr result OfSink }
         ensures keeps { Keeps W.Sink self.old self.new }
     {
         answer(write_bool(&mut self.wr, b))
@@ -408,6 +421,7 @@ impl<W: Sink, C: SerializerConfig> Serializer<W, C> {
     pub fn serialize_u8(&mut self, n: u8) -> Result<(), Error>
         ensures writes { WritesTree W.Sink W.takes_memory (Some (whole (pos n))) (sink_of self.old) (sink_of self.new) result }
         ensures marker { NoneAtMarker W.Sink (sink_of self.old) (sink_of self.new) result }
+        ensures error { IfErr result OfSink }
         ensures keeps { Keeps W.Sink self.old self.new }
     {
         answer(write_uint(&mut self.wr, u64::from(n)))
@@ -421,6 +435,7 @@ impl<W: Sink, C: SerializerConfig> Serializer<W, C> {
     pub fn serialize_u16(&mut self, n: u16) -> Result<(), Error>
         ensures writes { WritesTree W.Sink W.takes_memory (Some (whole (pos n))) (sink_of self.old) (sink_of self.new) result }
         ensures marker { NoneAtMarker W.Sink (sink_of self.old) (sink_of self.new) result }
+        ensures error { IfErr result OfSink }
         ensures keeps { Keeps W.Sink self.old self.new }
     {
         answer(write_uint(&mut self.wr, u64::from(n)))
@@ -434,6 +449,7 @@ impl<W: Sink, C: SerializerConfig> Serializer<W, C> {
     pub fn serialize_u32(&mut self, n: u32) -> Result<(), Error>
         ensures writes { WritesTree W.Sink W.takes_memory (Some (whole (pos n))) (sink_of self.old) (sink_of self.new) result }
         ensures marker { NoneAtMarker W.Sink (sink_of self.old) (sink_of self.new) result }
+        ensures error { IfErr result OfSink }
         ensures keeps { Keeps W.Sink self.old self.new }
     {
         answer(write_uint(&mut self.wr, u64::from(n)))
@@ -447,6 +463,7 @@ impl<W: Sink, C: SerializerConfig> Serializer<W, C> {
     pub fn serialize_u64(&mut self, n: u64) -> Result<(), Error>
         ensures writes { WritesTree W.Sink W.takes_memory (Some (whole (pos n))) (sink_of self.old) (sink_of self.new) result }
         ensures marker { NoneAtMarker W.Sink (sink_of self.old) (sink_of self.new) result }
+        ensures error { IfErr result OfSink }
         ensures keeps { Keeps W.Sink self.old self.new }
     {
         answer(write_uint(&mut self.wr, n))
@@ -460,6 +477,7 @@ impl<W: Sink, C: SerializerConfig> Serializer<W, C> {
     pub fn serialize_i8(&mut self, n: i8) -> Result<(), Error>
         ensures writes { WritesTree W.Sink W.takes_memory (Some (whole n)) (sink_of self.old) (sink_of self.new) result }
         ensures marker { NoneAtMarker W.Sink (sink_of self.old) (sink_of self.new) result }
+        ensures error { IfErr result OfSink }
         ensures keeps { Keeps W.Sink self.old self.new }
     {
         self.serialize_i64(i64::from(n))
@@ -473,6 +491,7 @@ impl<W: Sink, C: SerializerConfig> Serializer<W, C> {
     pub fn serialize_i16(&mut self, n: i16) -> Result<(), Error>
         ensures writes { WritesTree W.Sink W.takes_memory (Some (whole n)) (sink_of self.old) (sink_of self.new) result }
         ensures marker { NoneAtMarker W.Sink (sink_of self.old) (sink_of self.new) result }
+        ensures error { IfErr result OfSink }
         ensures keeps { Keeps W.Sink self.old self.new }
     {
         self.serialize_i64(i64::from(n))
@@ -486,6 +505,7 @@ impl<W: Sink, C: SerializerConfig> Serializer<W, C> {
     pub fn serialize_i32(&mut self, n: i32) -> Result<(), Error>
         ensures writes { WritesTree W.Sink W.takes_memory (Some (whole n)) (sink_of self.old) (sink_of self.new) result }
         ensures marker { NoneAtMarker W.Sink (sink_of self.old) (sink_of self.new) result }
+        ensures error { IfErr result OfSink }
         ensures keeps { Keeps W.Sink self.old self.new }
     {
         self.serialize_i64(i64::from(n))
@@ -499,6 +519,7 @@ impl<W: Sink, C: SerializerConfig> Serializer<W, C> {
     pub fn serialize_i64(&mut self, n: i64) -> Result<(), Error>
         ensures writes { WritesTree W.Sink W.takes_memory (Some (whole n)) (sink_of self.old) (sink_of self.new) result }
         ensures marker { NoneAtMarker W.Sink (sink_of self.old) (sink_of self.new) result }
+        ensures error { IfErr result OfSink }
         ensures keeps { Keeps W.Sink self.old self.new }
     {
         answer(write_sint(&mut self.wr, n))
@@ -512,6 +533,7 @@ impl<W: Sink, C: SerializerConfig> Serializer<W, C> {
     pub fn serialize_f32_bits(&mut self, bits: u32) -> Result<(), Error>
         ensures writes { WritesTree W.Sink W.takes_memory (Some (float32 bits)) (sink_of self.old) (sink_of self.new) result }
         ensures marker { NoneAtMarker W.Sink (sink_of self.old) (sink_of self.new) result }
+        ensures error { IfErr result OfSink }
         ensures keeps { Keeps W.Sink self.old self.new }
     {
         answer(write_f32_bits(&mut self.wr, bits))
@@ -525,6 +547,7 @@ impl<W: Sink, C: SerializerConfig> Serializer<W, C> {
     pub fn serialize_f64_bits(&mut self, bits: u64) -> Result<(), Error>
         ensures writes { WritesTree W.Sink W.takes_memory (Some (float64 bits)) (sink_of self.old) (sink_of self.new) result }
         ensures marker { NoneAtMarker W.Sink (sink_of self.old) (sink_of self.new) result }
+        ensures error { IfErr result OfSink }
         ensures keeps { Keeps W.Sink self.old self.new }
     {
         answer(write_f64_bits(&mut self.wr, bits))
@@ -537,6 +560,7 @@ impl<W: Sink, C: SerializerConfig> Serializer<W, C> {
     pub fn serialize_char(&mut self, c: char) -> Result<(), Error>
         ensures writes { WritesTree W.Sink W.takes_memory (Some (text (encode_utf8 c))) (sink_of self.old) (sink_of self.new) result }
         ensures marker { NoneAtMarker W.Sink (sink_of self.old) (sink_of self.new) result }
+        ensures error { IfErr result OfSink }
         ensures keeps { Keeps W.Sink self.old self.new }
     {
         let mut room = [0; 4];
@@ -552,9 +576,10 @@ impl<W: Sink, C: SerializerConfig> Serializer<W, C> {
     pub fn serialize_str(&mut self, s: &str) -> Result<(), Error>
         ensures writes { WritesTree W.Sink W.takes_memory (Some (text s.now)) (sink_of self.old) (sink_of self.new) result }
         ensures marker { NoneAtMarker W.Sink (sink_of self.old) (sink_of self.new) result }
+        ensures error { IfErr result (OfLength (2 ^ 32 ≤ length s.now)) }
         ensures keeps { Keeps W.Sink self.old self.new }
         ensures refused { StaysAtRefusal self.old self.new result }
-        ensures long { 2 ^ 32 ≤ length s.now → self.new ≡ self.old }
+        ensures long { 2 ^ 32 ≤ length s.now → RefusesLength self.old self.new result }
     {
         fits_u32(s.len())?;
         answer(write_str(&mut self.wr, s))
@@ -569,9 +594,10 @@ impl<W: Sink, C: SerializerConfig> Serializer<W, C> {
     pub fn serialize_bytes(&mut self, bytes: &[u8]) -> Result<(), Error>
         ensures writes { WritesTree W.Sink W.takes_memory (Some (bin bytes.now)) (sink_of self.old) (sink_of self.new) result }
         ensures marker { NoneAtMarker W.Sink (sink_of self.old) (sink_of self.new) result }
+        ensures error { IfErr result (OfLength (2 ^ 32 ≤ length bytes.now)) }
         ensures keeps { Keeps W.Sink self.old self.new }
         ensures refused { StaysAtRefusal self.old self.new result }
-        ensures long { 2 ^ 32 ≤ length bytes.now → self.new ≡ self.old }
+        ensures long { 2 ^ 32 ≤ length bytes.now → RefusesLength self.old self.new result }
     {
         fits_u32(bytes.len())?;
         answer(write_bin(&mut self.wr, bytes))
@@ -588,9 +614,10 @@ impl<W: Sink, C: SerializerConfig> Serializer<W, C> {
     pub fn serialize_ext(&mut self, tag: i8, bytes: &[u8]) -> Result<(), Error>
         ensures writes { WritesTree W.Sink W.takes_memory (Some (extension tag bytes.now)) (sink_of self.old) (sink_of self.new) result }
         ensures marker { NoneAtMarker W.Sink (sink_of self.old) (sink_of self.new) result }
+        ensures error { IfErr result (OfLength (2 ^ 32 ≤ length bytes.now)) }
         ensures keeps { Keeps W.Sink self.old self.new }
         ensures refused { StaysAtRefusal self.old self.new result }
-        ensures long { 2 ^ 32 ≤ length bytes.now → self.new ≡ self.old }
+        ensures long { 2 ^ 32 ≤ length bytes.now → RefusesLength self.old self.new result }
     {
         let n = fits_u32(bytes.len())?;
         self.put_ext_head(n, tag)?;

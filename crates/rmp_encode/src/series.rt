@@ -1,7 +1,8 @@
 //! Lists and maps, of a known length, or of an unknown one, whose elements are buffered until the end.
-ghost use Rattle.std.specs.Prelude.{◌≡◌, ◌+◌, ◌≤◌, ◌<◌, ◌^◌, ◌||◌, ◌∷◌, [], true, false, OnOk, OnErr, IfOk, Some, None};
+ghost use Rattle.std.specs.Prelude.{◌≡◌, ◌+◌, ◌≤◌, ◌<◌, ◌^◌, ◌||◌, ◌∷◌, [], true, false, OnOk, OnErr, IfOk, IfErr, Some, None};
 ghost use Rattle.std.specs.Borrow.{sem};
 ghost use Rattle.rmp_encode.specs.Going.{Ends, Goes, Rests};
+ghost use Rattle.rmp_encode.specs.Refusals.{OfParts};
 ghost use Rattle.rmp_encode.specs.Ser.{sink_of, settings_of};
 ghost use Rattle.rmp_encode.specs.Sizes.{most, size_at};
 ghost use Rattle.rmp_encode.specs.Trees.{tree_of, sequence_of, mapping_of};
@@ -79,7 +80,7 @@ fn size(pairs: bool, count: u64) -> u32
 }
 
 impl<W: Sink, C: SerializerConfig> Serializer<W, C> {
-    ghost use Rattle.rmp_encode.specs.Opens.{inside, reference, left_of, is_map, is_sound, owed, twice, IsLong, IsMapLong, IsOpen, MayOpen, Stays};
+    ghost use Rattle.rmp_encode.specs.Opens.{head_items, inside, reference, left_of, is_map, is_sound, owed, twice, IsLong, IsMapLong, IsOpen, MayOpen, Stays};
 
     // A serializer with the same settings and an empty buffer, which has room unless out of memory.
     fn buffer(&self) -> Serializer<Vec<u8>, C>
@@ -101,7 +102,7 @@ impl<W: Sink, C: SerializerConfig> Serializer<W, C> {
         &mut self,
         len: Option<usize>,
     ) -> Result<MaybeUnknownLengthCompound<'_, W, C>, Error>
-        ensures* refused { sem 𝓛 (Rests W.row C.row W.Sink reference (MayOpen len) (IsLong len) sequence_of self.entry result) }
+        ensures* refused { sem 𝓛 (Rests W.row C.row W.Sink reference (head_items false len) (MayOpen len) (IsLong len) sequence_of self.entry result) }
         ensures same_reference { IfOk result (λ q. reference q ≡ self.entry.ghost_name) }
         ensures kind { IfOk result (λ q. is_map q ≡ false) }
         ensures owed { IfOk result (λ q. owed q ≡ 0) }
@@ -142,7 +143,7 @@ impl<W: Sink, C: SerializerConfig> Serializer<W, C> {
         &mut self,
         len: Option<usize>,
     ) -> Result<MaybeUnknownLengthCompound<'_, W, C>, Error>
-        ensures* refused { sem 𝓛 (Rests W.row C.row W.Sink reference (MayOpen len) (IsMapLong len) mapping_of self.entry result) }
+        ensures* refused { sem 𝓛 (Rests W.row C.row W.Sink reference (head_items true len) (MayOpen len) (IsMapLong len) mapping_of self.entry result) }
         ensures same_reference { IfOk result (λ q. reference q ≡ self.entry.ghost_name) }
         ensures kind { IfOk result (λ q. is_map q ≡ true) }
         ensures owed { IfOk result (λ q. owed q ≡ 0) }
@@ -176,7 +177,7 @@ impl<W: Sink, C: SerializerConfig> Serializer<W, C> {
 
 impl<'a, W: Sink, C: SerializerConfig> MaybeUnknownLengthCompound<'a, W, C> {
     ghost use Rattle.rmp_encode.specs.Opens.{inside, reference, counted, left_of, not_begun, is_kept, is_map, is_sound};
-    ghost use Rattle.rmp_encode.specs.Opens.{owed, owed_at, one_less, IsOpen, MayTake, MayEnd, Stays};
+    ghost use Rattle.rmp_encode.specs.Opens.{owed, owed_at, one_less, IsFull, IsOpen, MayTake, MayEnd, Stays};
 
     // Writes an element, or a key or a value, to the sink or to the buffer.
     //
@@ -193,6 +194,7 @@ impl<'a, W: Sink, C: SerializerConfig> MaybeUnknownLengthCompound<'a, W, C> {
         ensures left { left_of self.new ≡ one_less (left_of self.old) }
         ensures kind { is_map self.new ≡ is_map self.old }
         ensures turn { OnOk result (owed_at true (counted self.old) + owed_at true (counted self.new) ≡ 1) }
+        ensures error { IfErr result (OfParts (IsFull self.old) (T.refuses value.now ∷ [])) }
         ensures writes { Goes W.Sink (IsOpen W.Sink) inside (λ s. is_kept (left_of self.old) || (T.takes_memory s || W.takes_memory))
             (λ s. T.data_of value.now s.human ∷ []) self.old self.new result }
         ensures stays { Stays (left_of self.old) (inside self.old) (inside self.new) }
@@ -251,6 +253,7 @@ impl<'a, W: Sink, C: SerializerConfig> MaybeUnknownLengthCompound<'a, W, C> {
         ensures kind { is_map self.new ≡ false }
         ensures owed { owed self.new ≡ 0 }
         ensures left { left_of self.new ≡ one_less (left_of self.old) }
+        ensures error { IfErr result (OfParts (IsFull self.old) (T.refuses value.now ∷ [])) }
         ensures writes { Goes W.Sink (IsOpen W.Sink) inside (λ s. is_kept (left_of self.old) || (T.takes_memory s || W.takes_memory))
             (λ s. T.data_of value.now s.human ∷ []) self.old self.new result }
         ensures stays { Stays (left_of self.old) (inside self.old) (inside self.new) }
@@ -277,6 +280,7 @@ impl<'a, W: Sink, C: SerializerConfig> MaybeUnknownLengthCompound<'a, W, C> {
         ensures kind { is_map self.new ≡ true }
         ensures owed { OnOk result (owed self.new ≡ 1) }
         ensures left { left_of self.new ≡ one_less (left_of self.old) }
+        ensures error { IfErr result (OfParts (IsFull self.old) (T.refuses key.now ∷ [])) }
         ensures writes { Goes W.Sink (IsOpen W.Sink) inside (λ s. is_kept (left_of self.old) || (T.takes_memory s || W.takes_memory))
             (λ s. T.data_of key.now s.human ∷ []) self.old self.new result }
         ensures stays { Stays (left_of self.old) (inside self.old) (inside self.new) }
@@ -302,6 +306,7 @@ impl<'a, W: Sink, C: SerializerConfig> MaybeUnknownLengthCompound<'a, W, C> {
         ensures kind { is_map self.new ≡ true }
         ensures owed { OnOk result (owed self.new ≡ 0) }
         ensures left { left_of self.new ≡ one_less (left_of self.old) }
+        ensures error { IfErr result (OfParts (IsFull self.old) (T.refuses value.now ∷ [])) }
         ensures writes { Goes W.Sink (IsOpen W.Sink) inside (λ s. is_kept (left_of self.old) || (T.takes_memory s || W.takes_memory))
             (λ s. T.data_of value.now s.human ∷ []) self.old self.new result }
         ensures stays { Stays (left_of self.old) (inside self.old) (inside self.new) }

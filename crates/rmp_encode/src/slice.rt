@@ -1,10 +1,11 @@
 //! The items of a slice or a `Vec`, which may be written as bytes, depending on the mode.
-ghost use Rattle.std.specs.Prelude.{◌≡◌, ◌^◌, ◌≤◌, ◌<◌, ◌||◌, map, take, All, Some, true, false, OnOk, length};
+ghost use Rattle.std.specs.Prelude.{◌≡◌, ◌^◌, ◌≤◌, ◌<◌, ◌||◌, map, take, All, Some, true, false, OnOk, IfErr, length};
 ghost use Rattle.rmp_wire.specs.Msg.{bin};
+ghost use Rattle.rmp_encode.specs.Refusals.{OfItems, OfLength, RefusesLength};
 ghost use Rattle.rmp_encode.specs.Ser.{sink_of, settings_of};
 ghost use Rattle.rmp_encode.specs.Slices.{number_of, OneIsNone, AllBytes};
 ghost use Rattle.rmp_encode.specs.Trees.{tree_of, sequence_of, slice_of, forces_slices};
-ghost use Rattle.rmp_encode.specs.Writes.{Keeps, StaysAtRefusal, WritesTree};
+ghost use Rattle.rmp_encode.specs.Writes.{Keeps, WritesTree};
 
 use crate::error::Error;
 use crate::length::fits_u32;
@@ -80,8 +81,8 @@ impl<W: Sink, C: SerializerConfig> Serializer<W, C> {
         ensures writes { WritesTree W.Sink W.takes_memory (Some (bin (map number_of (map (λ x. T.data_of x (settings_of self.old).human) values.now))))
             (sink_of self.old) (sink_of self.new) result }
         ensures keeps { Keeps W.Sink self.old self.new }
-        ensures refused { 2 ^ 32 ≤ length values.now → self.new ≡ self.old }
-        ensures reason { 2 ^ 32 ≤ length values.now → StaysAtRefusal self.old self.new result }
+        ensures long { 2 ^ 32 ≤ length values.now → RefusesLength self.old self.new result }
+        ensures error { IfErr result (OfLength (2 ^ 32 ≤ length values.now)) }
     {
         if values.len() <= SHORT {
             return self.put_short(values);
@@ -95,8 +96,8 @@ impl<W: Sink, C: SerializerConfig> Serializer<W, C> {
         ensures writes { WritesTree W.Sink W.takes_memory (Some (bin (map number_of (map (λ x. T.data_of x (settings_of self.old).human) values.now))))
             (sink_of self.old) (sink_of self.new) result }
         ensures keeps { Keeps W.Sink self.old self.new }
-        ensures refused { 2 ^ 32 ≤ length values.now → self.new ≡ self.old }
-        ensures reason { 2 ^ 32 ≤ length values.now → StaysAtRefusal self.old self.new result }
+        ensures long { 2 ^ 32 ≤ length values.now → RefusesLength self.old self.new result }
+        ensures error { IfErr result (OfLength (2 ^ 32 ≤ length values.now)) }
     {
         let human = self.is_human_readable();
         let len = fits_u32(values.len())?;
@@ -114,8 +115,8 @@ impl<W: Sink, C: SerializerConfig> Serializer<W, C> {
         ensures writes { WritesTree W.Sink W.takes_memory (Some (bin (map number_of (map (λ x. T.data_of x (settings_of self.old).human) values.now))))
             (sink_of self.old) (sink_of self.new) result }
         ensures keeps { Keeps W.Sink self.old self.new }
-        ensures refused { 2 ^ 32 ≤ length values.now → self.new ≡ self.old }
-        ensures reason { 2 ^ 32 ≤ length values.now → StaysAtRefusal self.old self.new result }
+        ensures long { 2 ^ 32 ≤ length values.now → RefusesLength self.old self.new result }
+        ensures error { IfErr result (OfLength (2 ^ 32 ≤ length values.now)) }
     {
         let human = self.is_human_readable();
         let len = fits_u32(values.len())?;
@@ -134,8 +135,8 @@ impl<W: Sink, C: SerializerConfig> Serializer<W, C> {
             (tree_of (settings_of self.old) (sequence_of (map (λ x. T.data_of x (settings_of self.old).human) values.now))) (sink_of self.old)
             (sink_of self.new) result }
         ensures keeps { Keeps W.Sink self.old self.new }
-        ensures refused { 2 ^ 32 ≤ length values.now → self.new ≡ self.old }
-        ensures reason { 2 ^ 32 ≤ length values.now → StaysAtRefusal self.old self.new result }
+        ensures long { 2 ^ 32 ≤ length values.now → RefusesLength self.old self.new result }
+        ensures error { IfErr result (OfItems T.refuses values.now) }
         ensures value { OnOk result (All T.is_value values.now) }
     {
         self.put_len(false, values.len())?;
@@ -158,8 +159,8 @@ impl<W: Sink, C: SerializerConfig> Serializer<W, C> {
             (tree_of (settings_of self.old) (slice_of (map (λ x. T.data_of x (settings_of self.old).human) values.now))) (sink_of self.old)
             (sink_of self.new) result }
         ensures keeps { Keeps W.Sink self.old self.new }
-        ensures refused { 2 ^ 32 ≤ length values.now → self.new ≡ self.old }
-        ensures reason { 2 ^ 32 ≤ length values.now → StaysAtRefusal self.old self.new result }
+        ensures long { 2 ^ 32 ≤ length values.now → RefusesLength self.old self.new result }
+        ensures error { IfErr result (OfItems T.refuses values.now) }
         ensures value { OnOk result (All T.is_value values.now) }
     {
         if self.packs_slice(values) {

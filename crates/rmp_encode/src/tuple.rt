@@ -1,17 +1,18 @@
 //! Tuples, whose elements may be written as bytes, depending on the mode.
-ghost use Rattle.std.specs.Prelude.{◌≡◌, ◌^◌, ◌≤◌, ◌+◌, ◌<◌, ◌||◌, ◌∷◌, [], nat_le, map, All, Some, true, false, OnOk, OnErr, IfOk, length};
+ghost use Rattle.std.specs.Prelude.{◌≡◌, ◌^◌, ◌≤◌, ◌+◌, ◌<◌, ◌||◌, ◌∷◌, [], nat_le, map, All, Some, true, false, OnOk, OnErr, IfOk, IfErr, length};
 ghost use Rattle.std.specs.Borrow.{sem};
 ghost use Rattle.std.specs.List.{list_any, flat_map};
 ghost use Rattle.rmp_wire.specs.Msg.{bin};
 ghost use Rattle.rmp_wire.specs.declared.config.BytesMode.TheVariants.{ForceAll};
 ghost use Rattle.rmp_encode.specs.Data.{packs_tuple};
-ghost use Rattle.rmp_encode.specs.Going.{Ends, Goes, Rests};
+ghost use Rattle.rmp_encode.specs.Going.{head_at, Ends, Goes, Rests};
+ghost use Rattle.rmp_encode.specs.Refusals.{OfItems, OfParts, RefusesLength};
 ghost use Rattle.rmp_encode.specs.Ser.{sink_of, settings_of};
 ghost use Rattle.rmp_encode.specs.Sizes.{one_of};
 ghost use Rattle.rmp_encode.specs.Slices.{number_of, AllBytes};
 ghost use Rattle.rmp_encode.specs.Trees.{tree_of, sequence_of, tuple_of, forces_all, number_head};
 ghost use Rattle.rmp_encode.specs.Tuples.{inside, reference, items_left, left_of, is_sound, IsTupling};
-ghost use Rattle.rmp_encode.specs.Writes.{FirstAtMarker, Keeps, WritesPart, StaysAtRefusal, WritesTree};
+ghost use Rattle.rmp_encode.specs.Writes.{FirstAtMarker, Keeps, WritesPart, WritesTree};
 
 use crate::error::Error;
 use crate::length::fits_u32;
@@ -154,7 +155,7 @@ impl<W: Sink, C: SerializerConfig> Serializer<W, C> {
     /// `InvalidDataModel` for 2 ^ 32 elements or more, and nothing is written; otherwise those of the sink.
     #[inline(always)]
     pub fn serialize_tuple(&mut self, len: usize) -> Result<Tuple<'_, W, C>, Error>
-        ensures* refused { sem 𝓛 (Rests W.row C.row W.Sink reference (len < 2 ^ 32) (λ all. length all ≡ len) tuple_of self.entry result) }
+        ensures* refused { sem 𝓛 (Rests W.row C.row W.Sink reference (head_at false len ∷ []) (len < 2 ^ 32) (λ all. length all ≡ len) tuple_of self.entry result) }
         ensures same_reference { IfOk result (λ q. reference q ≡ self.entry.ghost_name) }
         ensures fits { OnOk result (len < 2 ^ 32) }
         ensures left { IfOk result (λ q. left_of q ≡ len) }
@@ -199,6 +200,7 @@ impl<'a, W: Sink, C: SerializerConfig> Tuple<'a, W, C> {
         ensures left { left_of self.new + 1 ≡ left_of self.old }
         ensures sound { OnOk result (is_sound self.new ≡ true) }
         ensures broken { OnErr result (is_sound self.new ≡ false) }
+        ensures error { IfErr result (OfParts ⊥ (T.refuses value.now ∷ [])) }
         ensures writes { Goes W.Sink (IsTupling W.Sink) inside (λ s. (forces_all s.bytes || T.takes_memory s) || W.takes_memory)
             (λ s. T.data_of value.now s.human ∷ []) self.old self.new result }
         ensures keeps { Keeps W.Sink (inside self.old) (inside self.new) }
@@ -288,6 +290,7 @@ impl<'a, W: Sink, C: SerializerConfig> Tuple<'a, W, C> {
         ensures same_reference { reference self.new ≡ reference self.old }
         ensures left { left_of self.new + 1 ≡ left_of self.old }
         ensures sound { is_sound self.new ≡ is_sound self.old }
+        ensures error { IfErr result (OfParts ⊥ (T.refuses value.now ∷ [])) }
         ensures writes { Goes W.Sink (IsTupling W.Sink) inside (λ s. (forces_all s.bytes || T.takes_memory s) || W.takes_memory)
             (λ s. T.data_of value.now s.human ∷ []) self.old self.new result }
         ensures keeps { Keeps W.Sink (inside self.old) (inside self.new) }
@@ -375,8 +378,8 @@ pub(crate) fn put_tuple<W: Sink, C: SerializerConfig, T: Serialize>(
     ensures writes { WritesTree W.Sink ((forces_all (settings_of se.old).bytes || T.takes_memory (settings_of se.old)) || W.takes_memory)
         (tree_of (settings_of se.old) (tuple_of (map (λ x. T.data_of x (settings_of se.old).human) values.now))) (sink_of se.old) (sink_of se.new) result }
     ensures keeps { Keeps W.Sink se.old se.new }
-    ensures refused { 2 ^ 32 ≤ length values.now → se.new ≡ se.old }
-    ensures reason { 2 ^ 32 ≤ length values.now → StaysAtRefusal se.old se.new result }
+    ensures long { 2 ^ 32 ≤ length values.now → RefusesLength se.old se.new result }
+    ensures error { IfErr result (OfItems T.refuses values.now) }
     ensures value { OnOk result (All T.is_value values.now) }
 {
     if se.packs_tuple(values) {

@@ -1,13 +1,15 @@
 //! Variants of enums: a name alone, or a map of one pair from the name to the content.
-ghost use Rattle.std.specs.Prelude.{◌≡◌, ◌^◌, ◌<◌, ◌≤◌, ◌++◌, ◌||◌, true, false, Some, IfOk, OnOk, length};
+ghost use Rattle.std.specs.Prelude.{◌≡◌, ◌^◌, ◌<◌, ◌≤◌, ◌++◌, ◌||◌, true, false, Some, IfOk, IfErr, OnOk, length, ◌∷◌, []};
 ghost use Rattle.std.specs.Borrow.{sem};
 ghost use Rattle.std.specs.List.{flat_map};
 ghost use Rattle.rmp_wire.specs.Msg.{text};
+ghost use Rattle.rmp_wire.specs.Spelling.{canon};
 ghost use Rattle.rmp_encode.specs.Compounds.{inside, reference, left_of, has_fields, is_sound, IsFilling};
 ghost use Rattle.rmp_encode.specs.Going.{head_at, Begins, Rests};
+ghost use Rattle.rmp_encode.specs.Refusals.{OfLength, OfParts, RefusesLength};
 ghost use Rattle.rmp_encode.specs.Ser.{sink_of, settings_of};
-ghost use Rattle.rmp_encode.specs.Trees.{tree_of, field_parts, newtype_variant_of, tuple_variant_of, struct_variant_of, variant_head};
-ghost use Rattle.rmp_encode.specs.Writes.{Keeps, NoneAtMarker, StaysAtRefusal, WritesPart, WritesTree};
+ghost use Rattle.rmp_encode.specs.Trees.{tree_of, field_parts, newtype_variant_of, tuple_variant_of, map_head, struct_variant_of, variant_head, variant_items};
+ghost use Rattle.rmp_encode.specs.Writes.{FirstAtMarker, Keeps, NoneAtMarker, StaysAtRefusal, WritesPart, WritesTree};
 
 use crate::compound::Compound;
 use crate::error::Error;
@@ -23,6 +25,7 @@ impl<W: Sink, C: SerializerConfig> Serializer<W, C> {
     fn put_variant(&mut self, name: &str) -> Result<(), Error>
         requires { length name.now < 2 ^ 32 }
         ensures writes { WritesPart W.Sink W.takes_memory (Unit {0}) (variant_head name.now) (sink_of self.old) (sink_of self.new) result }
+        ensures marker { FirstAtMarker W.Sink (map_head 1 ∷ canon (text name.now) ∷ []) (sink_of self.old) (sink_of self.new) result }
         ensures keeps { Keeps W.Sink self.old self.new }
     {
         self.put_head(true, 1)?;
@@ -43,7 +46,8 @@ impl<W: Sink, C: SerializerConfig> Serializer<W, C> {
             result }
         ensures keeps { Keeps W.Sink self.old self.new }
         ensures stays { StaysAtRefusal self.old self.new result }
-        ensures refused { ¬ ((length variant.now < 2 ^ 32) × (len < 2 ^ 32)) → self.new ≡ self.old }
+        ensures long { ¬ ((length variant.now < 2 ^ 32) × (len < 2 ^ 32)) → RefusesLength self.old self.new result }
+        ensures marker { FirstAtMarker W.Sink (variant_items variant.now (head_at pairs len)) (sink_of self.old) (sink_of self.new) result }
         ensures fits { OnOk result ((length variant.now < 2 ^ 32) × (len < 2 ^ 32)) }
     {
         let n = fits_u32(len)?;
@@ -67,9 +71,10 @@ impl<W: Sink, C: SerializerConfig> Serializer<W, C> {
     ) -> Result<(), Error>
         ensures writes { WritesTree W.Sink W.takes_memory (Some (text variant.now)) (sink_of self.old) (sink_of self.new) result }
         ensures marker { NoneAtMarker W.Sink (sink_of self.old) (sink_of self.new) result }
+        ensures error { IfErr result (OfLength (2 ^ 32 ≤ length variant.now)) }
         ensures keeps { Keeps W.Sink self.old self.new }
         ensures refused { StaysAtRefusal self.old self.new result }
-        ensures long { 2 ^ 32 ≤ length variant.now → self.new ≡ self.old }
+        ensures long { 2 ^ 32 ≤ length variant.now → RefusesLength self.old self.new result }
     {
         self.put_word(variant)
     }
@@ -92,7 +97,8 @@ impl<W: Sink, C: SerializerConfig> Serializer<W, C> {
             (tree_of (settings_of self.old) (newtype_variant_of variant.now (T.data_of value.now (settings_of self.old).human))) (sink_of self.old)
             (sink_of self.new) result }
         ensures keeps { Keeps W.Sink self.old self.new }
-        ensures long { 2 ^ 32 ≤ length variant.now → self.new ≡ self.old }
+        ensures long { 2 ^ 32 ≤ length variant.now → RefusesLength self.old self.new result }
+        ensures error { IfErr result (OfParts (2 ^ 32 ≤ length variant.now) (T.refuses value.now ∷ [])) }
         ensures value { OnOk result (T.is_value value.now) }
     {
         fits_u32(variant.len())?;
@@ -114,7 +120,7 @@ impl<W: Sink, C: SerializerConfig> Serializer<W, C> {
         variant: &'static str,
         len: usize,
     ) -> Result<Compound<'_, W, C>, Error>
-        ensures* refused { sem 𝓛 (Rests W.row C.row W.Sink reference ((length variant.now < 2 ^ 32) × (len < 2 ^ 32)) (λ all. length all ≡ len)
+        ensures* refused { sem 𝓛 (Rests W.row C.row W.Sink reference (variant_items variant.now (head_at false len)) ((length variant.now < 2 ^ 32) × (len < 2 ^ 32)) (λ all. length all ≡ len)
             (tuple_variant_of variant.now) self.entry result) }
         ensures same_reference { IfOk result (λ q. reference q ≡ self.entry.ghost_name) }
         ensures fits { OnOk result ((length variant.now < 2 ^ 32) × (len < 2 ^ 32)) }
@@ -148,7 +154,7 @@ impl<W: Sink, C: SerializerConfig> Serializer<W, C> {
         variant: &'static str,
         len: usize,
     ) -> Result<Compound<'_, W, C>, Error>
-        ensures* refused { sem 𝓛 (Rests W.row C.row W.Sink reference ((length variant.now < 2 ^ 32) × (len < 2 ^ 32)) (λ fs. length fs ≡ len)
+        ensures* refused { sem 𝓛 (Rests W.row C.row W.Sink reference (variant_items variant.now (head_at (settings_of self.old).named len)) ((length variant.now < 2 ^ 32) × (len < 2 ^ 32)) (λ fs. length fs ≡ len)
             (struct_variant_of variant.now) self.entry result) }
         ensures same_reference { IfOk result (λ q. reference q ≡ self.entry.ghost_name) }
         ensures fits { OnOk result ((length variant.now < 2 ^ 32) × (len < 2 ^ 32)) }

@@ -1,5 +1,5 @@
 //! Writes whole values, to a sink or to a vector.
-ghost use Rattle.std.specs.Prelude.{◌≡◌, ◌||◌, true, false, OnOk, IfOk, IfErr};
+ghost use Rattle.std.specs.Prelude.{◌≡◌, ◌≢◌, ◌||◌, true, false, OnOk, IfOk, IfErr};
 ghost use Rattle.rmp_encode.specs.Calls.{default_settings, named_settings, IsSpelled, ToVecFails};
 ghost use Rattle.rmp_encode.specs.Trees.{tree_of, spell};
 ghost use Rattle.rmp_encode.specs.Writes.{WritesTree};
@@ -38,6 +38,7 @@ pub fn write<W: Sink, T: Serialize>(alloc: Global, wr: &mut W, value: &T) -> Res
     ensures spelled { OnOk result (IsSpelled (tree_of default_settings (T.data_of value.now false))
         (spell (tree_of default_settings (T.data_of value.now false)))) }
     ensures place { W.place wr.new ≡ W.place wr.old }
+    ensures error { IfErr result (T.refuses value.now) }
     ensures value { OnOk result (T.is_value value.now) }
 {
     let mut se = Serializer::new(alloc, wr);
@@ -54,6 +55,7 @@ pub fn write_named<W: Sink, T: Serialize>(alloc: Global, wr: &mut W, value: &T) 
     ensures spelled { OnOk result (IsSpelled (tree_of named_settings (T.data_of value.now false))
         (spell (tree_of named_settings (T.data_of value.now false)))) }
     ensures place { W.place wr.new ≡ W.place wr.old }
+    ensures error { IfErr result (T.refuses value.now) }
     ensures value { OnOk result (T.is_value value.now) }
 {
     let mut se = Serializer::named(alloc, wr);
@@ -78,6 +80,7 @@ pub fn to_vec<T: Serialize>(alloc: Global, value: &T) -> Result<Vec<u8>, Error>
     ensures bytes { IfOk result (λ v. IsSpelled (tree_of default_settings (T.data_of value.now false)) v.items) }
     ensures value { OnOk result (T.is_value value.now) }
     ensures err { IfErr result (ToVecFails (tree_of default_settings (T.data_of value.now false))) }
+    ensures error { IfErr result (λ e. e ≢ Error.OutOfMemory → T.refuses value.now e) }
 {
     let mut se = Serializer::new(alloc, Vec::with_capacity(alloc, FIRST_ROOM)?);
     value.serialize(&mut se)?;
@@ -92,6 +95,7 @@ pub fn to_vec_named<T: Serialize>(alloc: Global, value: &T) -> Result<Vec<u8>, E
     ensures bytes { IfOk result (λ v. IsSpelled (tree_of named_settings (T.data_of value.now false)) v.items) }
     ensures value { OnOk result (T.is_value value.now) }
     ensures err { IfErr result (ToVecFails (tree_of named_settings (T.data_of value.now false))) }
+    ensures error { IfErr result (λ e. e ≢ Error.OutOfMemory → T.refuses value.now e) }
 {
     let mut se = Serializer::named(alloc, Vec::with_capacity(alloc, FIRST_ROOM)?);
     value.serialize(&mut se)?;

@@ -1,9 +1,13 @@
 //! Bytes, the bits of floats, and extensions.
 #![tactic(auto, unfolding(crate::specs::Data::lower), using(crate::proofs::Parts::part_memory))]
 
-ghost use Rattle.std.specs.Prelude.{◌<◌, ◌^◌, Some, false};
+ghost use Rattle.std.specs.Prelude.{◌<◌, ◌^◌, ◌||◌, ◌≤◌, Some, false, IfErr, OnOk, length};
 ghost use Rattle.rmp_wire.specs.Types.{bytes_of, buffer_bytes, tag_of, ext_bytes};
 ghost use Rattle.rmp_encode.specs.Data.{bytes, extension, float32, float64};
+ghost use Rattle.rmp_encode.specs.Refusals.{OfLength, OfSink, RefusesLength};
+ghost use Rattle.rmp_encode.specs.Ser.{sink_of, settings_of};
+ghost use Rattle.rmp_encode.specs.Trees.{tree_of};
+ghost use Rattle.rmp_encode.specs.Writes.{Keeps, NoneAtMarker, WritesTree};
 
 use crate::error::Error;
 use crate::ser::Serialize;
@@ -18,11 +22,19 @@ impl Serialize for F32Bits {
 
     ghost takes_memory = { λ _. false };
 
+    ghost refuses = { λ _. OfSink };
+
     #[inline(always)]
     fn serialize<W: Sink, C: SerializerConfig>(
         &self,
         se: &mut Serializer<W, C>,
-    ) -> Result<(), Error> {
+    ) -> Result<(), Error>
+        ensures writes { WritesTree W.Sink (false || W.takes_memory) (tree_of (settings_of se.old) (Some (float32 self.now.0))) (sink_of se.old) (sink_of se.new) result }
+        ensures marker { NoneAtMarker W.Sink (sink_of se.old) (sink_of se.new) result }
+        ensures keeps { Keeps W.Sink se.old se.new }
+        ensures error { IfErr result OfSink }
+        ensures value { OnOk result (self.now.0 < 2 ^ 32) }
+    {
         se.serialize_f32_bits(self.0)
     }
 
@@ -39,11 +51,19 @@ impl Serialize for F64Bits {
 
     ghost takes_memory = { λ _. false };
 
+    ghost refuses = { λ _. OfSink };
+
     #[inline(always)]
     fn serialize<W: Sink, C: SerializerConfig>(
         &self,
         se: &mut Serializer<W, C>,
-    ) -> Result<(), Error> {
+    ) -> Result<(), Error>
+        ensures writes { WritesTree W.Sink (false || W.takes_memory) (tree_of (settings_of se.old) (Some (float64 self.now.0))) (sink_of se.old) (sink_of se.new) result }
+        ensures marker { NoneAtMarker W.Sink (sink_of se.old) (sink_of se.new) result }
+        ensures keeps { Keeps W.Sink se.old se.new }
+        ensures error { IfErr result OfSink }
+        ensures value { OnOk result (self.now.0 < 2 ^ 64) }
+    {
         se.serialize_f64_bits(self.0)
     }
 
@@ -60,11 +80,20 @@ impl Serialize for Bytes<'_> {
 
     ghost takes_memory = { λ _. false };
 
+    ghost refuses = { λ v. OfLength (2 ^ 32 ≤ length (bytes_of v)) };
+
     #[inline(always)]
     fn serialize<W: Sink, C: SerializerConfig>(
         &self,
         se: &mut Serializer<W, C>,
-    ) -> Result<(), Error> {
+    ) -> Result<(), Error>
+        ensures writes { WritesTree W.Sink (false || W.takes_memory) (tree_of (settings_of se.old) (Some (bytes (bytes_of self.now)))) (sink_of se.old) (sink_of se.new) result }
+        ensures marker { NoneAtMarker W.Sink (sink_of se.old) (sink_of se.new) result }
+        ensures keeps { Keeps W.Sink se.old se.new }
+        ensures error { IfErr result (OfLength (2 ^ 32 ≤ length (bytes_of self.now))) }
+        ensures long { 2 ^ 32 ≤ length (bytes_of self.now) → RefusesLength se.old se.new result }
+        ensures value { OnOk result (Unit {0}) }
+    {
         se.serialize_bytes(self.as_bytes())
     }
 
@@ -81,11 +110,20 @@ impl Serialize for ByteBuf {
 
     ghost takes_memory = { λ _. false };
 
+    ghost refuses = { λ v. OfLength (2 ^ 32 ≤ length (buffer_bytes v)) };
+
     #[inline(always)]
     fn serialize<W: Sink, C: SerializerConfig>(
         &self,
         se: &mut Serializer<W, C>,
-    ) -> Result<(), Error> {
+    ) -> Result<(), Error>
+        ensures writes { WritesTree W.Sink (false || W.takes_memory) (tree_of (settings_of se.old) (Some (bytes (buffer_bytes self.now)))) (sink_of se.old) (sink_of se.new) result }
+        ensures marker { NoneAtMarker W.Sink (sink_of se.old) (sink_of se.new) result }
+        ensures keeps { Keeps W.Sink se.old se.new }
+        ensures error { IfErr result (OfLength (2 ^ 32 ≤ length (buffer_bytes self.now))) }
+        ensures long { 2 ^ 32 ≤ length (buffer_bytes self.now) → RefusesLength se.old se.new result }
+        ensures value { OnOk result (Unit {0}) }
+    {
         se.serialize_bytes(self.as_bytes())
     }
 
@@ -102,11 +140,20 @@ impl Serialize for Ext {
 
     ghost takes_memory = { λ _. false };
 
+    ghost refuses = { λ v. OfLength (2 ^ 32 ≤ length (ext_bytes v)) };
+
     #[inline(always)]
     fn serialize<W: Sink, C: SerializerConfig>(
         &self,
         se: &mut Serializer<W, C>,
-    ) -> Result<(), Error> {
+    ) -> Result<(), Error>
+        ensures writes { WritesTree W.Sink (false || W.takes_memory) (tree_of (settings_of se.old) (Some (extension (tag_of self.now) (ext_bytes self.now)))) (sink_of se.old) (sink_of se.new) result }
+        ensures marker { NoneAtMarker W.Sink (sink_of se.old) (sink_of se.new) result }
+        ensures keeps { Keeps W.Sink se.old se.new }
+        ensures error { IfErr result (OfLength (2 ^ 32 ≤ length (ext_bytes self.now))) }
+        ensures long { 2 ^ 32 ≤ length (ext_bytes self.now) → RefusesLength se.old se.new result }
+        ensures value { OnOk result (Unit {0}) }
+    {
         se.serialize_ext(self.tag(), self.as_bytes())
     }
 

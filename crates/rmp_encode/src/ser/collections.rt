@@ -2,12 +2,13 @@
 //!
 //! Only their elements and the sink may allocate. 2 ^ 32 elements or pairs or more are refused, and nothing is
 //! written.
-ghost use Rattle.std.specs.Prelude.{◌≡◌, ◌^◌, ◌≤◌, ◌||◌, map, length, All, OnOk};
+ghost use Rattle.std.specs.Prelude.{◌≡◌, ◌^◌, ◌≤◌, ◌||◌, map, length, All, IfErr, OnOk};
 ghost use Rattle.std.specs.List.Sorted.{IsStrictlySortedBy};
 ghost use Rattle.std.specs.Map.{keys_of};
+ghost use Rattle.rmp_encode.specs.Refusals.{OfEntries, OfItems, RefusesLength};
 ghost use Rattle.rmp_encode.specs.Ser.{sink_of, settings_of};
 ghost use Rattle.rmp_encode.specs.Trees.{tree_of, sequence_of, mapping_of, in_turn};
-ghost use Rattle.rmp_encode.specs.Writes.{Keeps, StaysAtRefusal, WritesTree};
+ghost use Rattle.rmp_encode.specs.Writes.{Keeps, WritesTree};
 
 use crate::error::Error;
 use crate::ser::Serialize;
@@ -23,6 +24,8 @@ impl<T: Serialize> Serialize for VecDeque<T> {
 
     ghost takes_memory = { T.takes_memory };
 
+    ghost refuses = { λ v. OfItems T.refuses v.items };
+
     fn serialize<W: Sink, C: SerializerConfig>(
         &self,
         se: &mut Serializer<W, C>,
@@ -31,8 +34,8 @@ impl<T: Serialize> Serialize for VecDeque<T> {
             (tree_of (settings_of se.old) (sequence_of (map (λ x. T.data_of x (settings_of se.old).human) self.now.items))) (sink_of se.old)
             (sink_of se.new) result }
         ensures keeps { Keeps W.Sink se.old se.new }
-        ensures refused { 2 ^ 32 ≤ length self.now.items → se.new ≡ se.old }
-        ensures reason { 2 ^ 32 ≤ length self.now.items → StaysAtRefusal se.old se.new result }
+        ensures long { 2 ^ 32 ≤ length self.now.items → RefusesLength se.old se.new result }
+        ensures error { IfErr result (OfItems T.refuses self.now.items) }
         ensures value { OnOk result (All T.is_value self.now.items) }
     {
         se.put_len(false, self.len())?;
@@ -56,6 +59,8 @@ impl<T: Serialize + Ord> Serialize for BTreeSet<T> {
 
     ghost takes_memory = { T.takes_memory };
 
+    ghost refuses = { λ v. OfItems T.refuses v.keys };
+
     fn serialize<W: Sink, C: SerializerConfig>(
         &self,
         se: &mut Serializer<W, C>,
@@ -64,8 +69,8 @@ impl<T: Serialize + Ord> Serialize for BTreeSet<T> {
             (tree_of (settings_of se.old) (sequence_of (map (λ x. T.data_of x (settings_of se.old).human) self.now.keys))) (sink_of se.old) (sink_of se.new)
             result }
         ensures keeps { Keeps W.Sink se.old se.new }
-        ensures refused { 2 ^ 32 ≤ length self.now.keys → se.new ≡ se.old }
-        ensures reason { 2 ^ 32 ≤ length self.now.keys → StaysAtRefusal se.old se.new result }
+        ensures long { 2 ^ 32 ≤ length self.now.keys → RefusesLength se.old se.new result }
+        ensures error { IfErr result (OfItems T.refuses self.now.keys) }
         ensures value { OnOk result (All T.is_value self.now.keys × IsStrictlySortedBy T.cmp self.now.keys) }
     {
         se.put_len(false, self.len())?;
@@ -89,6 +94,8 @@ impl<K: Serialize + Ord, V: Serialize> Serialize for BTreeMap<K, V> {
 
     ghost takes_memory = { λ s. K.takes_memory s || V.takes_memory s };
 
+    ghost refuses = { λ v. OfEntries K.refuses V.refuses v.entries };
+
     fn serialize<W: Sink, C: SerializerConfig>(
         &self,
         se: &mut Serializer<W, C>,
@@ -97,8 +104,8 @@ impl<K: Serialize + Ord, V: Serialize> Serialize for BTreeMap<K, V> {
             (tree_of (settings_of se.old) (mapping_of (in_turn (λ k. K.data_of k (settings_of se.old).human) (λ x. V.data_of x (settings_of se.old).human)
             self.now.entries))) (sink_of se.old) (sink_of se.new) result }
         ensures keeps { Keeps W.Sink se.old se.new }
-        ensures refused { 2 ^ 32 ≤ length self.now.entries → se.new ≡ se.old }
-        ensures reason { 2 ^ 32 ≤ length self.now.entries → StaysAtRefusal se.old se.new result }
+        ensures long { 2 ^ 32 ≤ length self.now.entries → RefusesLength se.old se.new result }
+        ensures error { IfErr result (OfEntries K.refuses V.refuses self.now.entries) }
         ensures value { OnOk result (All (λ e. K.is_value e.0 × V.is_value e.1) self.now.entries × IsStrictlySortedBy K.cmp (keys_of self.now.entries)) }
     {
         se.put_len(true, self.len())?;

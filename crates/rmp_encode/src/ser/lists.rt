@@ -2,10 +2,11 @@
 //!
 //! In the mode `Normal` only their elements and the sink may allocate. A vector or a slice of 2 ^ 32 elements
 //! or more is refused, and nothing is written.
-ghost use Rattle.std.specs.Prelude.{◌≡◌, ◌^◌, ◌≤◌, ◌||◌, map, length, All, OnOk};
+ghost use Rattle.std.specs.Prelude.{◌≡◌, ◌^◌, ◌≤◌, ◌||◌, map, length, All, IfErr, OnOk};
+ghost use Rattle.rmp_encode.specs.Refusals.{OfItems, RefusesLength};
 ghost use Rattle.rmp_encode.specs.Ser.{sink_of, settings_of};
 ghost use Rattle.rmp_encode.specs.Trees.{tree_of, slice_of, tuple_of, forces_all, forces_slices};
-ghost use Rattle.rmp_encode.specs.Writes.{Keeps, StaysAtRefusal, WritesTree};
+ghost use Rattle.rmp_encode.specs.Writes.{Keeps, WritesTree};
 
 use crate::error::Error;
 use crate::ser::Serialize;
@@ -21,6 +22,8 @@ impl<T: Serialize> Serialize for Vec<T> {
 
     ghost takes_memory = { λ s. forces_slices s.bytes || T.takes_memory s };
 
+    ghost refuses = { λ v. OfItems T.refuses v.items };
+
     fn serialize<W: Sink, C: SerializerConfig>(
         &self,
         se: &mut Serializer<W, C>,
@@ -29,8 +32,8 @@ impl<T: Serialize> Serialize for Vec<T> {
             (tree_of (settings_of se.old) (slice_of (map (λ x. T.data_of x (settings_of se.old).human) self.now.items))) (sink_of se.old) (sink_of se.new)
             result }
         ensures keeps { Keeps W.Sink se.old se.new }
-        ensures refused { 2 ^ 32 ≤ length self.now.items → se.new ≡ se.old }
-        ensures reason { 2 ^ 32 ≤ length self.now.items → StaysAtRefusal se.old se.new result }
+        ensures long { 2 ^ 32 ≤ length self.now.items → RefusesLength se.old se.new result }
+        ensures error { IfErr result (OfItems T.refuses self.now.items) }
         ensures value { OnOk result (All T.is_value self.now.items) }
     {
         se.collect_seq(self.as_slice())
@@ -50,6 +53,8 @@ impl<T: Serialize> Serialize for &[T] {
 
     ghost takes_memory = { λ s. forces_slices s.bytes || T.takes_memory s };
 
+    ghost refuses = { λ v. OfItems T.refuses v.now };
+
     fn serialize<W: Sink, C: SerializerConfig>(
         &self,
         se: &mut Serializer<W, C>,
@@ -58,8 +63,8 @@ impl<T: Serialize> Serialize for &[T] {
             (tree_of (settings_of se.old) (slice_of (map (λ x. T.data_of x (settings_of se.old).human) self.now.now))) (sink_of se.old) (sink_of se.new)
             result }
         ensures keeps { Keeps W.Sink se.old se.new }
-        ensures refused { 2 ^ 32 ≤ length self.now.now → se.new ≡ se.old }
-        ensures reason { 2 ^ 32 ≤ length self.now.now → StaysAtRefusal se.old se.new result }
+        ensures long { 2 ^ 32 ≤ length self.now.now → RefusesLength se.old se.new result }
+        ensures error { IfErr result (OfItems T.refuses self.now.now) }
         ensures value { OnOk result (All T.is_value self.now.now) }
     {
         se.collect_seq(self)
@@ -78,6 +83,8 @@ impl<T: Serialize, const N: usize> Serialize for [T; N] {
     ghost is_value = { λ v. (length v ≡ N) × All T.is_value v };
 
     ghost takes_memory = { λ s. forces_all s.bytes || T.takes_memory s };
+
+    ghost refuses = { OfItems T.refuses };
 
     fn serialize<W: Sink, C: SerializerConfig>(
         &self,

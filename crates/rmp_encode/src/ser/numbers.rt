@@ -1,9 +1,13 @@
 //! Truth values and numbers.
 #![tactic(auto, unfolding(crate::specs::Data::lower), using(crate::proofs::Parts::part_memory))]
 
-ghost use Rattle.std.specs.Prelude.{◌<◌, ◌^◌, Some, pos, FitsSigned, false};
+ghost use Rattle.std.specs.Prelude.{◌<◌, ◌^◌, ◌||◌, Some, pos, FitsSigned, false, IfErr, OnOk};
 ghost use Rattle.std.specs.Int.{w8, w16, w32, w64};
 ghost use Rattle.rmp_encode.specs.Data.{byte, truth, whole, unit};
+ghost use Rattle.rmp_encode.specs.Refusals.{OfSink};
+ghost use Rattle.rmp_encode.specs.Ser.{sink_of, settings_of};
+ghost use Rattle.rmp_encode.specs.Trees.{tree_of};
+ghost use Rattle.rmp_encode.specs.Writes.{Keeps, NoneAtMarker, WritesTree};
 
 use crate::error::Error;
 use crate::ser::Serialize;
@@ -18,11 +22,19 @@ impl Serialize for () {
 
     ghost takes_memory = { λ _. false };
 
+    ghost refuses = { λ _. OfSink };
+
     #[inline(always)]
     fn serialize<W: Sink, C: SerializerConfig>(
         &self,
         se: &mut Serializer<W, C>,
-    ) -> Result<(), Error> {
+    ) -> Result<(), Error>
+        ensures writes { WritesTree W.Sink (false || W.takes_memory) (tree_of (settings_of se.old) (Some (unit))) (sink_of se.old) (sink_of se.new) result }
+        ensures marker { NoneAtMarker W.Sink (sink_of se.old) (sink_of se.new) result }
+        ensures keeps { Keeps W.Sink se.old se.new }
+        ensures error { IfErr result OfSink }
+        ensures value { OnOk result (Unit {0}) }
+    {
         se.serialize_unit()
     }
 
@@ -39,11 +51,19 @@ impl Serialize for bool {
 
     ghost takes_memory = { λ _. false };
 
+    ghost refuses = { λ _. OfSink };
+
     #[inline(always)]
     fn serialize<W: Sink, C: SerializerConfig>(
         &self,
         se: &mut Serializer<W, C>,
-    ) -> Result<(), Error> {
+    ) -> Result<(), Error>
+        ensures writes { WritesTree W.Sink (false || W.takes_memory) (tree_of (settings_of se.old) (Some (truth self.now))) (sink_of se.old) (sink_of se.new) result }
+        ensures marker { NoneAtMarker W.Sink (sink_of se.old) (sink_of se.new) result }
+        ensures keeps { Keeps W.Sink se.old se.new }
+        ensures error { IfErr result OfSink }
+        ensures value { OnOk result (Unit {0}) }
+    {
         se.serialize_bool(*self)
     }
 
@@ -60,11 +80,19 @@ impl Serialize for u8 {
 
     ghost takes_memory = { λ _. false };
 
+    ghost refuses = { λ _. OfSink };
+
     #[inline(always)]
     fn serialize<W: Sink, C: SerializerConfig>(
         &self,
         se: &mut Serializer<W, C>,
-    ) -> Result<(), Error> {
+    ) -> Result<(), Error>
+        ensures writes { WritesTree W.Sink (false || W.takes_memory) (tree_of (settings_of se.old) (Some (byte self.now))) (sink_of se.old) (sink_of se.new) result }
+        ensures marker { NoneAtMarker W.Sink (sink_of se.old) (sink_of se.new) result }
+        ensures keeps { Keeps W.Sink se.old se.new }
+        ensures error { IfErr result OfSink }
+        ensures value { OnOk result (self.now < 2 ^ 8) }
+    {
         se.serialize_u8(*self)
     }
 
@@ -81,11 +109,19 @@ impl Serialize for u16 {
 
     ghost takes_memory = { λ _. false };
 
+    ghost refuses = { λ _. OfSink };
+
     #[inline(always)]
     fn serialize<W: Sink, C: SerializerConfig>(
         &self,
         se: &mut Serializer<W, C>,
-    ) -> Result<(), Error> {
+    ) -> Result<(), Error>
+        ensures writes { WritesTree W.Sink (false || W.takes_memory) (tree_of (settings_of se.old) (Some (whole (pos self.now)))) (sink_of se.old) (sink_of se.new) result }
+        ensures marker { NoneAtMarker W.Sink (sink_of se.old) (sink_of se.new) result }
+        ensures keeps { Keeps W.Sink se.old se.new }
+        ensures error { IfErr result OfSink }
+        ensures value { OnOk result (self.now < 2 ^ 16) }
+    {
         se.serialize_u16(*self)
     }
 
@@ -102,11 +138,19 @@ impl Serialize for u32 {
 
     ghost takes_memory = { λ _. false };
 
+    ghost refuses = { λ _. OfSink };
+
     #[inline(always)]
     fn serialize<W: Sink, C: SerializerConfig>(
         &self,
         se: &mut Serializer<W, C>,
-    ) -> Result<(), Error> {
+    ) -> Result<(), Error>
+        ensures writes { WritesTree W.Sink (false || W.takes_memory) (tree_of (settings_of se.old) (Some (whole (pos self.now)))) (sink_of se.old) (sink_of se.new) result }
+        ensures marker { NoneAtMarker W.Sink (sink_of se.old) (sink_of se.new) result }
+        ensures keeps { Keeps W.Sink se.old se.new }
+        ensures error { IfErr result OfSink }
+        ensures value { OnOk result (self.now < 2 ^ 32) }
+    {
         se.serialize_u32(*self)
     }
 
@@ -123,11 +167,19 @@ impl Serialize for u64 {
 
     ghost takes_memory = { λ _. false };
 
+    ghost refuses = { λ _. OfSink };
+
     #[inline(always)]
     fn serialize<W: Sink, C: SerializerConfig>(
         &self,
         se: &mut Serializer<W, C>,
-    ) -> Result<(), Error> {
+    ) -> Result<(), Error>
+        ensures writes { WritesTree W.Sink (false || W.takes_memory) (tree_of (settings_of se.old) (Some (whole (pos self.now)))) (sink_of se.old) (sink_of se.new) result }
+        ensures marker { NoneAtMarker W.Sink (sink_of se.old) (sink_of se.new) result }
+        ensures keeps { Keeps W.Sink se.old se.new }
+        ensures error { IfErr result OfSink }
+        ensures value { OnOk result (self.now < 2 ^ 64) }
+    {
         se.serialize_u64(*self)
     }
 
@@ -144,11 +196,19 @@ impl Serialize for usize {
 
     ghost takes_memory = { λ _. false };
 
+    ghost refuses = { λ _. OfSink };
+
     #[inline(always)]
     fn serialize<W: Sink, C: SerializerConfig>(
         &self,
         se: &mut Serializer<W, C>,
-    ) -> Result<(), Error> {
+    ) -> Result<(), Error>
+        ensures writes { WritesTree W.Sink (false || W.takes_memory) (tree_of (settings_of se.old) (Some (whole (pos self.now)))) (sink_of se.old) (sink_of se.new) result }
+        ensures marker { NoneAtMarker W.Sink (sink_of se.old) (sink_of se.new) result }
+        ensures keeps { Keeps W.Sink se.old se.new }
+        ensures error { IfErr result OfSink }
+        ensures value { OnOk result (self.now < 2 ^ 64) }
+    {
         se.serialize_u64(*self as u64)
     }
 
@@ -165,11 +225,19 @@ impl Serialize for i8 {
 
     ghost takes_memory = { λ _. false };
 
+    ghost refuses = { λ _. OfSink };
+
     #[inline(always)]
     fn serialize<W: Sink, C: SerializerConfig>(
         &self,
         se: &mut Serializer<W, C>,
-    ) -> Result<(), Error> {
+    ) -> Result<(), Error>
+        ensures writes { WritesTree W.Sink (false || W.takes_memory) (tree_of (settings_of se.old) (Some (whole self.now))) (sink_of se.old) (sink_of se.new) result }
+        ensures marker { NoneAtMarker W.Sink (sink_of se.old) (sink_of se.new) result }
+        ensures keeps { Keeps W.Sink se.old se.new }
+        ensures error { IfErr result OfSink }
+        ensures value { OnOk result (FitsSigned w8 self.now) }
+    {
         se.serialize_i8(*self)
     }
 
@@ -186,11 +254,19 @@ impl Serialize for i16 {
 
     ghost takes_memory = { λ _. false };
 
+    ghost refuses = { λ _. OfSink };
+
     #[inline(always)]
     fn serialize<W: Sink, C: SerializerConfig>(
         &self,
         se: &mut Serializer<W, C>,
-    ) -> Result<(), Error> {
+    ) -> Result<(), Error>
+        ensures writes { WritesTree W.Sink (false || W.takes_memory) (tree_of (settings_of se.old) (Some (whole self.now))) (sink_of se.old) (sink_of se.new) result }
+        ensures marker { NoneAtMarker W.Sink (sink_of se.old) (sink_of se.new) result }
+        ensures keeps { Keeps W.Sink se.old se.new }
+        ensures error { IfErr result OfSink }
+        ensures value { OnOk result (FitsSigned w16 self.now) }
+    {
         se.serialize_i16(*self)
     }
 
@@ -207,11 +283,19 @@ impl Serialize for i32 {
 
     ghost takes_memory = { λ _. false };
 
+    ghost refuses = { λ _. OfSink };
+
     #[inline(always)]
     fn serialize<W: Sink, C: SerializerConfig>(
         &self,
         se: &mut Serializer<W, C>,
-    ) -> Result<(), Error> {
+    ) -> Result<(), Error>
+        ensures writes { WritesTree W.Sink (false || W.takes_memory) (tree_of (settings_of se.old) (Some (whole self.now))) (sink_of se.old) (sink_of se.new) result }
+        ensures marker { NoneAtMarker W.Sink (sink_of se.old) (sink_of se.new) result }
+        ensures keeps { Keeps W.Sink se.old se.new }
+        ensures error { IfErr result OfSink }
+        ensures value { OnOk result (FitsSigned w32 self.now) }
+    {
         se.serialize_i32(*self)
     }
 
@@ -228,11 +312,19 @@ impl Serialize for i64 {
 
     ghost takes_memory = { λ _. false };
 
+    ghost refuses = { λ _. OfSink };
+
     #[inline(always)]
     fn serialize<W: Sink, C: SerializerConfig>(
         &self,
         se: &mut Serializer<W, C>,
-    ) -> Result<(), Error> {
+    ) -> Result<(), Error>
+        ensures writes { WritesTree W.Sink (false || W.takes_memory) (tree_of (settings_of se.old) (Some (whole self.now))) (sink_of se.old) (sink_of se.new) result }
+        ensures marker { NoneAtMarker W.Sink (sink_of se.old) (sink_of se.new) result }
+        ensures keeps { Keeps W.Sink se.old se.new }
+        ensures error { IfErr result OfSink }
+        ensures value { OnOk result (FitsSigned w64 self.now) }
+    {
         se.serialize_i64(*self)
     }
 
@@ -249,11 +341,19 @@ impl Serialize for isize {
 
     ghost takes_memory = { λ _. false };
 
+    ghost refuses = { λ _. OfSink };
+
     #[inline(always)]
     fn serialize<W: Sink, C: SerializerConfig>(
         &self,
         se: &mut Serializer<W, C>,
-    ) -> Result<(), Error> {
+    ) -> Result<(), Error>
+        ensures writes { WritesTree W.Sink (false || W.takes_memory) (tree_of (settings_of se.old) (Some (whole self.now))) (sink_of se.old) (sink_of se.new) result }
+        ensures marker { NoneAtMarker W.Sink (sink_of se.old) (sink_of se.new) result }
+        ensures keeps { Keeps W.Sink se.old se.new }
+        ensures error { IfErr result OfSink }
+        ensures value { OnOk result (FitsSigned w64 self.now) }
+    {
         se.serialize_i64(*self as i64)
     }
 

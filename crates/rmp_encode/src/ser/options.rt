@@ -1,5 +1,6 @@
 //! Options.
-ghost use Rattle.std.specs.Prelude.{IfSome};
+ghost use Rattle.std.specs.Prelude.{IfSome, MatchOption};
+ghost use Rattle.rmp_encode.specs.Refusals.{OfSink};
 ghost use Rattle.rmp_encode.specs.Trees.{option_of};
 
 use crate::error::Error;
@@ -14,6 +15,8 @@ impl<T: Serialize> Serialize for Option<T> {
     ghost is_value = { λ v. IfSome v T.is_value };
 
     ghost takes_memory = { T.takes_memory };
+
+    ghost refuses = { λ v e. MatchOption v (OfSink e) (λ x. T.refuses x e) };
 
     #[inline(always)]
     fn serialize<W: Sink, C: SerializerConfig>(

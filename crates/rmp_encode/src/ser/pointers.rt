@@ -12,6 +12,8 @@ impl<T: Serialize> Serialize for &T {
 
     ghost takes_memory = { T.takes_memory };
 
+    ghost refuses = { λ v. T.refuses v.now };
+
     #[inline(always)]
     fn serialize<W: Sink, C: SerializerConfig>(
         &self,
@@ -32,6 +34,8 @@ impl<T: Serialize> Serialize for Box<T> {
     ghost is_value = { λ v. T.is_value v.value };
 
     ghost takes_memory = { T.takes_memory };
+
+    ghost refuses = { λ v. T.refuses v.value };
 
     #[inline(always)]
     fn serialize<W: Sink, C: SerializerConfig>(

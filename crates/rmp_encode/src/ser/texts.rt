@@ -1,9 +1,13 @@
 //! Characters and texts.
 #![tactic(auto, unfolding(crate::specs::Data::lower), using(crate::proofs::Parts::part_memory))]
 
-ghost use Rattle.std.specs.Prelude.{Some, IsUtf8, string_bytes, false};
+ghost use Rattle.std.specs.Prelude.{◌||◌, ◌≤◌, ◌^◌, Some, IsUtf8, string_bytes, false, IfErr, OnOk, length};
 ghost use Rattle.std.specs.Char.{IsScalar};
 ghost use Rattle.rmp_encode.specs.Data.{char, text};
+ghost use Rattle.rmp_encode.specs.Refusals.{OfLength, OfSink, RefusesLength};
+ghost use Rattle.rmp_encode.specs.Ser.{sink_of, settings_of};
+ghost use Rattle.rmp_encode.specs.Trees.{tree_of};
+ghost use Rattle.rmp_encode.specs.Writes.{Keeps, NoneAtMarker, WritesTree};
 
 use crate::error::Error;
 use crate::ser::Serialize;
@@ -18,11 +22,19 @@ impl Serialize for char {
 
     ghost takes_memory = { λ _. false };
 
+    ghost refuses = { λ _. OfSink };
+
     #[inline(always)]
     fn serialize<W: Sink, C: SerializerConfig>(
         &self,
         se: &mut Serializer<W, C>,
-    ) -> Result<(), Error> {
+    ) -> Result<(), Error>
+        ensures writes { WritesTree W.Sink (false || W.takes_memory) (tree_of (settings_of se.old) (Some (char self.now))) (sink_of se.old) (sink_of se.new) result }
+        ensures marker { NoneAtMarker W.Sink (sink_of se.old) (sink_of se.new) result }
+        ensures keeps { Keeps W.Sink se.old se.new }
+        ensures error { IfErr result OfSink }
+        ensures value { OnOk result (IsScalar self.now) }
+    {
         se.serialize_char(*self)
     }
 
@@ -39,11 +51,20 @@ impl Serialize for String {
 
     ghost takes_memory = { λ _. false };
 
+    ghost refuses = { λ v. OfLength (2 ^ 32 ≤ length (string_bytes v)) };
+
     #[inline(always)]
     fn serialize<W: Sink, C: SerializerConfig>(
         &self,
         se: &mut Serializer<W, C>,
-    ) -> Result<(), Error> {
+    ) -> Result<(), Error>
+        ensures writes { WritesTree W.Sink (false || W.takes_memory) (tree_of (settings_of se.old) (Some (text (string_bytes self.now)))) (sink_of se.old) (sink_of se.new) result }
+        ensures marker { NoneAtMarker W.Sink (sink_of se.old) (sink_of se.new) result }
+        ensures keeps { Keeps W.Sink se.old se.new }
+        ensures error { IfErr result (OfLength (2 ^ 32 ≤ length (string_bytes self.now))) }
+        ensures long { 2 ^ 32 ≤ length (string_bytes self.now) → RefusesLength se.old se.new result }
+        ensures value { OnOk result (IsUtf8 (string_bytes self.now)) }
+    {
         se.serialize_str(self.as_str())
     }
 
@@ -60,11 +81,20 @@ impl Serialize for &str {
 
     ghost takes_memory = { λ _. false };
 
+    ghost refuses = { λ v. OfLength (2 ^ 32 ≤ length v.now) };
+
     #[inline(always)]
     fn serialize<W: Sink, C: SerializerConfig>(
         &self,
         se: &mut Serializer<W, C>,
-    ) -> Result<(), Error> {
+    ) -> Result<(), Error>
+        ensures writes { WritesTree W.Sink (false || W.takes_memory) (tree_of (settings_of se.old) (Some (text self.now.now))) (sink_of se.old) (sink_of se.new) result }
+        ensures marker { NoneAtMarker W.Sink (sink_of se.old) (sink_of se.new) result }
+        ensures keeps { Keeps W.Sink se.old se.new }
+        ensures error { IfErr result (OfLength (2 ^ 32 ≤ length self.now.now)) }
+        ensures long { 2 ^ 32 ≤ length self.now.now → RefusesLength se.old se.new result }
+        ensures value { OnOk result (IsUtf8 self.now.now) }
+    {
         se.serialize_str(self)
     }
 

@@ -1,8 +1,9 @@
 //! Options, unit structs, newtype structs, and 128-bit numbers.
-ghost use Rattle.std.specs.Prelude.{◌≡◌, ◌/◌, ◌^◌, ◌||◌, Some, OnOk, IfErr, codes};
+ghost use Rattle.std.specs.Prelude.{◌≡◌, ◌≢◌, ◌/◌, ◌^◌, ◌||◌, Some, OnOk, IfErr, codes};
 ghost use Rattle.std.specs.Int.{w128, to_be_bytes, cast_unsigned};
 ghost use Rattle.rmp_wire.specs.Msg.{nil, bin, list, no_items};
 ghost use Rattle.rmp_encode.specs.Errors.{RefusesName};
+ghost use Rattle.rmp_encode.specs.Refusals.{OfSink};
 ghost use Rattle.rmp_encode.specs.Ser.{sink_of, settings_of};
 ghost use Rattle.rmp_encode.specs.Trees.{tree_of, wrapped_of, newtype_of};
 ghost use Rattle.rmp_encode.specs.Writes.{Keeps, NoneAtMarker, WritesTree};
@@ -36,6 +37,7 @@ impl<W: Sink, C: SerializerConfig> Serializer<W, C> {
     pub fn serialize_none(&mut self) -> Result<(), Error>
         ensures writes { WritesTree W.Sink W.takes_memory (Some nil) (sink_of self.old) (sink_of self.new) result }
         ensures marker { NoneAtMarker W.Sink (sink_of self.old) (sink_of self.new) result }
+        ensures error { IfErr result OfSink }
         ensures keeps { Keeps W.Sink self.old self.new }
     {
         self.serialize_unit()
@@ -51,6 +53,7 @@ impl<W: Sink, C: SerializerConfig> Serializer<W, C> {
         ensures writes { WritesTree W.Sink (T.takes_memory (settings_of self.old) || W.takes_memory)
             (tree_of (settings_of self.old) (wrapped_of (T.data_of value.now (settings_of self.old).human))) (sink_of self.old) (sink_of self.new) result }
         ensures keeps { Keeps W.Sink self.old self.new }
+        ensures error { IfErr result (T.refuses value.now) }
         ensures value { OnOk result (T.is_value value.now) }
     {
         value.serialize(self)
@@ -64,6 +67,7 @@ impl<W: Sink, C: SerializerConfig> Serializer<W, C> {
     pub fn serialize_unit_struct(&mut self, _name: &'static str) -> Result<(), Error>
         ensures writes { WritesTree W.Sink W.takes_memory (Some (list no_items)) (sink_of self.old) (sink_of self.new) result }
         ensures marker { NoneAtMarker W.Sink (sink_of self.old) (sink_of self.new) result }
+        ensures error { IfErr result OfSink }
         ensures keeps { Keeps W.Sink self.old self.new }
     {
         self.put_head(false, 0)
@@ -85,6 +89,7 @@ impl<W: Sink, C: SerializerConfig> Serializer<W, C> {
             result }
         ensures keeps { Keeps W.Sink self.old self.new }
         ensures refused { name.now ≡ codes "_ExtStruct" → RefusesName self.old self.new result }
+        ensures error { name.now ≢ codes "_ExtStruct" → IfErr result (T.refuses value.now) }
         ensures value { OnOk result (T.is_value value.now) }
     {
         if name == MSGPACK_EXT_STRUCT_NAME {
@@ -101,6 +106,7 @@ impl<W: Sink, C: SerializerConfig> Serializer<W, C> {
     pub fn serialize_u128(&mut self, n: u128) -> Result<(), Error>
         ensures writes { WritesTree W.Sink W.takes_memory (Some (bin (to_be_bytes w128 n))) (sink_of self.old) (sink_of self.new) result }
         ensures marker { NoneAtMarker W.Sink (sink_of self.old) (sink_of self.new) result }
+        ensures error { IfErr result OfSink }
         ensures keeps { Keeps W.Sink self.old self.new }
     {
         let high = high_half(n);
@@ -120,6 +126,7 @@ impl<W: Sink, C: SerializerConfig> Serializer<W, C> {
     pub fn serialize_i128(&mut self, n: i128) -> Result<(), Error>
         ensures writes { WritesTree W.Sink W.takes_memory (Some (bin (to_be_bytes w128 (cast_unsigned w128 n)))) (sink_of self.old) (sink_of self.new) result }
         ensures marker { NoneAtMarker W.Sink (sink_of self.old) (sink_of self.new) result }
+        ensures error { IfErr result OfSink }
         ensures keeps { Keeps W.Sink self.old self.new }
     {
         self.serialize_u128(n.cast_unsigned())

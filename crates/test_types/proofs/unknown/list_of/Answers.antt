@@ -11,7 +11,7 @@ use Rattle.test_types.proofs.unknown.list_of.Goals as goal
 pub returns-in_err-seq-clause-writes : goal.returns-in_err-seq-clause-writes
 returns-in_err-seq-clause-writes g c =
     let p = err_from_is_err_and c.from_residual.result c.from_residual.ensures.1 in
-    rw (p.1, p.2) (part_memory g.W.Sink (unopened g.W.Sink _ _ _ c.args.se.now _ _ _ _ c.in_err-seq.was c.serialize_seq.follows.holds-at-none tt))
+    rw (p.1, p.2) (part_memory g.W.Sink (unopened g.W.Sink _ _ _ _ c.args.se.now _ _ _ _ c.in_err-seq.was c.serialize_seq.follows.holds-at-none tt))
 
 pub loop-value-init : goal.loop-value-init
 loop-value-init g c = record {

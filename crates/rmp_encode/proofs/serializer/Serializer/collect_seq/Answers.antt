@@ -3,6 +3,7 @@ use Rattle.rmp_encode.specs.Trees.{forces_slices}
 use Rattle.rmp_encode.proofs.Going.{on_ok}
 use Rattle.rmp_encode.proofs.TupleSteps.{as_tree}
 use Rattle.rmp_encode.proofs.Parts.{part_or, part_takes, or_second}
+use Rattle.rmp_encode.proofs.Refusals.{on_number}
 use Rattle.rmp_encode.proofs.serializer.Serializer.collect_seq.Goals as goal
 
 pub returns-then-packs_slice-clause-writes : goal.returns-then-packs_slice-clause-writes
@@ -16,3 +17,6 @@ pub returns-clause-writes : goal.returns-clause-writes
 returns-clause-writes g c = as_tree g.W.Sink (c.packs_slice.ensures.listed c.if-packs_slice.false)
     (part_takes g.W.Sink _ (or_second (forces_slices (settings_of c.args.self.now).bytes) (g.T.Serialize.takes_memory (settings_of c.args.self.now))
     g.W.Sink.takes_memory) c.put_list.ensures.writes)
+
+pub returns-then-packs_slice-clause-error : goal.returns-then-packs_slice-clause-error
+returns-then-packs_slice-clause-error g c = on_number g.T.Serialize.refuses c.args.values.now c.put_packed.result c.put_packed.ensures.error

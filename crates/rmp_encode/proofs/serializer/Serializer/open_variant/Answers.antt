@@ -1,9 +1,13 @@
-use Rattle.std.proofs.Common.{arith, refl, ◌++◌}
+use Rattle.std.proofs.Common.{arith, refl, ◌++◌, ◌∷◌, []}
 use Rattle.std.proofs.lemmas.Result.{err_from_is_err_and}
 use Rattle.rmp_encode.specs.Going.{head_at}
 use Rattle.rmp_encode.specs.Trees.{variant_head}
 use Rattle.rmp_encode.proofs.Going.{begins, begins_not, keeps_then, never_refused, never_refused_by, stays_refused}
 use Rattle.rmp_encode.proofs.Parts.{part_as, part_stops, part_then}
+use Rattle.rmp_encode.proofs.Numbers.{marker_last, marker_first, marker_more}
+use Rattle.rmp_encode.proofs.Refusals.{none_too_long, refuses_length}
+use Rattle.rmp_encode.specs.Ser.{sink_of}
+use Rattle.std.specs.Prelude.{Err}
 use Rattle.rmp_encode.proofs.serializer.Serializer.open_variant.Goals as goal
 
 pub returns-in_err-n-clause-begins : goal.returns-in_err-n-clause-begins
@@ -52,3 +56,34 @@ returns-clause-keeps g c = keeps_then g.W.Sink c.put_variant.ensures.keeps c.put
 
 pub returns-clause-stays : goal.returns-clause-stays
 returns-clause-stays g c = never_refused_by g.W.Sink.takes_memory _ _ _ _ c.put_head.result c.put_head.ensures.writes.cause
+
+pub returns-in_err-n-clause-marker : goal.returns-in_err-n-clause-marker
+returns-in_err-n-clause-marker g c =
+    let p = err_from_is_err_and c.from_residual.result c.from_residual.ensures.1 in
+    rw (p.1, p.2) (marker_first g.W.Sink _ _ (sink_of c.args.self.now) (sink_of c.args.self.now) (Err c.in_err-n.field-0.0)
+    (none_too_long g.W.Sink _ _ c.in_err-n.field-0.0 c.in_err-n.ensures.refused))
+
+pub returns-in_err-fits_u32-clause-marker : goal.returns-in_err-fits_u32-clause-marker
+returns-in_err-fits_u32-clause-marker g c =
+    let p = err_from_is_err_and c.from_residual-in_err-fits_u32.result c.from_residual-in_err-fits_u32.ensures.1 in
+    rw (p.1, p.2) (marker_first g.W.Sink _ _ (sink_of c.args.self.now) (sink_of c.args.self.now) (Err c.in_err-fits_u32.field-0.0)
+    (none_too_long g.W.Sink _ _ c.in_err-fits_u32.field-0.0 c.in_err-fits_u32.ensures.refused))
+
+pub returns-in_err-n-clause-long : goal.returns-in_err-n-clause-long
+returns-in_err-n-clause-long g c = λ none.
+    let p = err_from_is_err_and c.from_residual.result c.from_residual.ensures.1 in
+    rw (p.1, p.2) (refuses_length _ _ c.in_err-n.ensures.refused)
+
+pub returns-in_err-fits_u32-clause-long : goal.returns-in_err-fits_u32-clause-long
+returns-in_err-fits_u32-clause-long g c = λ none.
+    let p = err_from_is_err_and c.from_residual-in_err-fits_u32.result c.from_residual-in_err-fits_u32.ensures.1 in
+    rw (p.1, p.2) (refuses_length _ _ c.in_err-fits_u32.ensures.refused)
+
+pub returns-in_err-put_variant-clause-marker : goal.returns-in_err-put_variant-clause-marker
+returns-in_err-put_variant-clause-marker g c =
+    let p = err_from_is_err_and c.from_residual-in_err-put_variant.result c.from_residual-in_err-put_variant.ensures.1 in
+    rw (p.1, p.2) (marker_more g.W.Sink _ (head_at c.args.pairs c.args.len ∷ []) (sink_of c.args.self.now) (sink_of c.put_variant.new.self) c.in_err-put_variant.field-0.0 c.in_err-put_variant.ensures.marker)
+
+pub returns-clause-marker : goal.returns-clause-marker
+returns-clause-marker g c = marker_last g.W.Sink _ _ _ _ c.put_head.result c.in_ok-put_variant.ensures.writes
+    c.put_head.ensures.marker

@@ -3,6 +3,8 @@ use Rattle.std.proofs.lemmas.Result.{err_from_is_err_and}
 use Rattle.rmp_encode.proofs.Fields.{field_split}
 use Rattle.rmp_encode.proofs.Going.{goes, keeps_then}
 use Rattle.rmp_encode.proofs.Parts.{part_or}
+use Rattle.rmp_encode.proofs.Refusals.{on_part}
+use Rattle.std.proofs.Common.{inr}
 use Rattle.rmp_encode.proofs.serializer.Serializer.put_field.Goals as goal
 
 pub returns-in_err-put_name-clause-writes : goal.returns-in_err-put_name-clause-writes
@@ -18,3 +20,11 @@ returns-clause-writes g c = λ old t rest h.
 
 pub returns-clause-keeps : goal.returns-clause-keeps
 returns-clause-keeps g c = keeps_then g.W.Sink c.put_name.ensures.keeps c.serialize.ensures.keeps
+
+pub returns-in_err-put_name-clause-error : goal.returns-in_err-put_name-clause-error
+returns-in_err-put_name-clause-error g c =
+    let p = err_from_is_err_and c.from_residual.result c.from_residual.ensures.1 in
+    rw (p.1, p.2) (inr c.in_err-put_name.ensures.error)
+
+pub returns-clause-error : goal.returns-clause-error
+returns-clause-error g c = on_part _ (g.T.Serialize.refuses c.args.value.now) c.serialize.result c.serialize.ensures.error

@@ -1,4 +1,4 @@
-use Rattle.std.proofs.Common.{rules, arith, ◌∙◌, subst, All}
+use Rattle.std.proofs.Common.{rules, arith, ◌∙◌, subst, All, inl, inr}
 use Rattle.std.specs.Prelude.{◌||◌}
 use Rattle.std.proofs.lemmas.List.{length-map, take_all}
 use Rattle.std.proofs.lemmas.List.Elements.{All-more}
@@ -7,6 +7,7 @@ use Rattle.rmp_encode.specs.Ser.{settings_of}
 use Rattle.rmp_encode.proofs.Going.{map_rest, map_rest_none, keeps_then, next_ok, next_err, none_next}
 use Rattle.rmp_encode.proofs.Lists.{made_list}
 use Rattle.rmp_encode.proofs.Parts.{part_or}
+use Rattle.rmp_encode.proofs.Refusals.{any_at}
 use Rattle.rmp_encode.proofs.serializer.Serializer.put_list.Goals as goal
 
 pub returns-in_err-put_len-clause-writes : goal.returns-in_err-put_len-clause-writes
@@ -55,3 +56,19 @@ returns-clause-writes g c =
 
 pub returns-clause-value : goal.returns-clause-value
 returns-clause-value g c = subst (All g.T.Serialize.is_value) (take_all _ _ c.loop-value-test.false) c.loop-value.invariant.values
+
+pub returns-in_err-put_len-clause-error : goal.returns-in_err-put_len-clause-error
+returns-in_err-put_len-clause-error g c =
+    let p = err_from_is_err_and c.from_residual.result c.from_residual.ensures.1 in
+    rw (p.1, p.2) (inl c.in_err-put_len.ensures.error)
+
+pub returns-in_err-serialize-clause-error : goal.returns-in_err-serialize-clause-error
+returns-in_err-serialize-clause-error g c =
+    let p = err_from_is_err_and c.from_residual-in_err-serialize.result c.from_residual-in_err-serialize.ensures.1 in
+    rw (p.1, p.2) (inr (any_at _ c.args.values.now c.loop-value.value-index c.value-item.result c.loop-value-test.true c.value-item.is
+    c.in_err-serialize.ensures.error))
+
+pub returns-in_err-put_len-clause-long : goal.returns-in_err-put_len-clause-long
+returns-in_err-put_len-clause-long g c = λ le.
+    let p = err_from_is_err_and c.from_residual.result c.from_residual.ensures.1 in
+    rw (p.1, p.2) (c.in_err-put_len.ensures.long le)

@@ -5,6 +5,7 @@ use Rattle.rmp_encode.specs.Ser.{settings_of}
 use Rattle.rmp_encode.proofs.Going.{keeps_then}
 use Rattle.rmp_encode.proofs.Leaves.{bin_too_long}
 use Rattle.rmp_encode.proofs.Packed.{as_many, written_head, written_more, written_all, head_fails, piece_fails}
+use Rattle.rmp_encode.proofs.Refusals.{of_cause, of_long, of_sink, refuses_length}
 use Rattle.rmp_encode.proofs.serializer.Serializer.put_pieces.Goals as goal
 
 pub returns-in_err-len-clause-writes : goal.returns-in_err-len-clause-writes
@@ -53,3 +54,23 @@ returns-in_err-put-clause-writes g c =
 
 pub returns-clause-writes : goal.returns-clause-writes
 returns-clause-writes g c = written_all g.W.Sink c.in_ok-len.ensures.fits c.requires.small c.in-None.ensures.steps.1.0 c.loop-chunk.invariant.writes
+
+pub returns-in_err-len-clause-error : goal.returns-in_err-len-clause-error
+returns-in_err-len-clause-error g c =
+    let p = err_from_is_err_and c.from_residual.result c.from_residual.ensures.1 in
+    rw (p.1, p.2) (of_long _ c.in_err-len.ensures.refused c.in_err-len.ensures.long)
+
+pub returns-in_err-len-clause-long : goal.returns-in_err-len-clause-long
+returns-in_err-len-clause-long g c = λ le.
+    let p = err_from_is_err_and c.from_residual.result c.from_residual.ensures.1 in
+    rw (p.1, p.2) (refuses_length _ _ c.in_err-len.ensures.refused)
+
+pub returns-in_err-put_bin_head-clause-error : goal.returns-in_err-put_bin_head-clause-error
+returns-in_err-put_bin_head-clause-error g c =
+    let p = err_from_is_err_and c.from_residual-in_err-put_bin_head.result c.from_residual-in_err-put_bin_head.ensures.1 in
+    rw (p.1, p.2) (of_sink _ _ (of_cause _ _ _ _ c.in_err-put_bin_head.ensures.writes.cause))
+
+pub returns-in_err-put-clause-error : goal.returns-in_err-put-clause-error
+returns-in_err-put-clause-error g c =
+    let p = err_from_is_err_and c.from_residual-in_err-put.result c.from_residual-in_err-put.ensures.1 in
+    rw (p.1, p.2) (of_sink _ _ c.in_err-put.ensures.error)

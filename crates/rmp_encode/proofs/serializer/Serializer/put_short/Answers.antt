@@ -6,6 +6,7 @@ use Rattle.rmp_encode.specs.Ser.{settings_of}
 use Rattle.rmp_encode.proofs.Going.{keeps_then}
 use Rattle.rmp_encode.proofs.Leaves.{bin_too_long}
 use Rattle.rmp_encode.proofs.Packed.{as_many, written_head, written_more, written_all, head_fails, piece_fails}
+use Rattle.rmp_encode.proofs.Refusals.{of_cause, of_long, of_sink, refuses_length}
 use Rattle.rmp_encode.proofs.serializer.Serializer.put_short.Goals as goal
 
 pub returns-in_err-len-clause-writes : goal.returns-in_err-len-clause-writes
@@ -58,3 +59,23 @@ returns-clause-writes g c =
     let none : length (drop c.loop-value.value-index c.args.values.now) ≡ 0 =
     omega (arith, length-drop c.loop-value.value-index c.args.values.now, c.loop-value-test.false) in
     written_all g.W.Sink c.in_ok-len.ensures.fits c.requires.small none c.loop-value.invariant.writes
+
+pub returns-in_err-len-clause-error : goal.returns-in_err-len-clause-error
+returns-in_err-len-clause-error g c =
+    let p = err_from_is_err_and c.from_residual.result c.from_residual.ensures.1 in
+    rw (p.1, p.2) (of_long _ c.in_err-len.ensures.refused c.in_err-len.ensures.long)
+
+pub returns-in_err-len-clause-long : goal.returns-in_err-len-clause-long
+returns-in_err-len-clause-long g c = λ le.
+    let p = err_from_is_err_and c.from_residual.result c.from_residual.ensures.1 in
+    rw (p.1, p.2) (refuses_length _ _ c.in_err-len.ensures.refused)
+
+pub returns-in_err-put_bin_head-clause-error : goal.returns-in_err-put_bin_head-clause-error
+returns-in_err-put_bin_head-clause-error g c =
+    let p = err_from_is_err_and c.from_residual-in_err-put_bin_head.result c.from_residual-in_err-put_bin_head.ensures.1 in
+    rw (p.1, p.2) (of_sink _ _ (of_cause _ _ _ _ c.in_err-put_bin_head.ensures.writes.cause))
+
+pub returns-in_err-put-clause-error : goal.returns-in_err-put-clause-error
+returns-in_err-put-clause-error g c =
+    let p = err_from_is_err_and c.from_residual-in_err-put.result c.from_residual-in_err-put.ensures.1 in
+    rw (p.1, p.2) (of_sink _ _ c.in_err-put.ensures.error)

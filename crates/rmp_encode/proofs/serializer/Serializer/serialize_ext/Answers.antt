@@ -6,6 +6,7 @@ use Rattle.rmp_wire.proofs.Writing.{head_some}
 use Rattle.rmp_encode.proofs.Leaves.{ext_too_long, ext_tree, ext_as, bytes_from, none_by_never}
 use Rattle.rmp_encode.proofs.Going.{never_refused, never_refused_by, stays_refused}
 use Rattle.rmp_encode.proofs.Parts.{part_stops}
+use Rattle.rmp_encode.proofs.Refusals.{of_cause, of_long, of_sink, on_sink, refuses_length}
 use Rattle.rmp_encode.proofs.serializer.Serializer.serialize_ext.Goals as goal
 
 pub returns-in_err-n-clause-writes : goal.returns-in_err-n-clause-writes
@@ -47,3 +48,21 @@ returns-in_err-put_ext_head-clause-marker g c =
 
 pub returns-clause-marker : goal.returns-clause-marker
 returns-clause-marker g c = none_by_never g.W.Sink _ _ c.put.result c.put.ensures.marker
+
+pub returns-in_err-n-clause-error : goal.returns-in_err-n-clause-error
+returns-in_err-n-clause-error g c =
+    let p = err_from_is_err_and c.from_residual.result c.from_residual.ensures.1 in
+    rw (p.1, p.2) (of_long _ c.in_err-n.ensures.refused c.in_err-n.ensures.long)
+
+pub returns-in_err-n-clause-long : goal.returns-in_err-n-clause-long
+returns-in_err-n-clause-long g c = λ le.
+    let p = err_from_is_err_and c.from_residual.result c.from_residual.ensures.1 in
+    rw (p.1, p.2) (refuses_length _ _ c.in_err-n.ensures.refused)
+
+pub returns-in_err-put_ext_head-clause-error : goal.returns-in_err-put_ext_head-clause-error
+returns-in_err-put_ext_head-clause-error g c =
+    let p = err_from_is_err_and c.from_residual-in_err-put_ext_head.result c.from_residual-in_err-put_ext_head.ensures.1 in
+    rw (p.1, p.2) (of_sink _ _ (of_cause _ _ _ _ c.in_err-put_ext_head.ensures.writes.cause))
+
+pub returns-clause-error : goal.returns-clause-error
+returns-clause-error g c = on_sink _ c.put.result c.put.ensures.error

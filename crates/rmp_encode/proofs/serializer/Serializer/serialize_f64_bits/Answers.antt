@@ -5,7 +5,7 @@ use Rattle.rmp_encode.proofs.serializer.Serializer.serialize_f64_bits.Goals as g
 
 pub returns-clause-writes : goal.returns-clause-writes
 unfolding fits_head
-returns-clause-writes g c = wire_tree g.W.Sink _ c.write_f64_bits.result c.answer.ensures (omega arith) c.write_f64_bits.ensures.writes
+returns-clause-writes g c = wire_tree g.W.Sink _ c.write_f64_bits.result c.answer.ensures.is (omega arith) c.write_f64_bits.ensures.writes
 
 pub returns-clause-marker : goal.returns-clause-marker
-returns-clause-marker g c = wire_marker g.W.Sink _ c.write_f64_bits.result c.answer.ensures c.write_f64_bits.ensures.writes
+returns-clause-marker g c = wire_marker g.W.Sink _ c.write_f64_bits.result c.answer.ensures.is c.write_f64_bits.ensures.writes

@@ -1,9 +1,13 @@
-use Rattle.std.proofs.Common.{arith, rules, refl, subst, sym, ap, true}
+use Rattle.std.proofs.Common.{arith, rules, refl, subst, sym, ap, true, []}
 use Rattle.std.proofs.lemmas.Result.{err_from_is_err_and}
 use Rattle.rmp_encode.specs.Going.{open_of}
-use Rattle.rmp_encode.specs.Opens.{IsMapLong, IsPaired, twice, MayOpen}
+use Rattle.rmp_encode.specs.Opens.{IsMapLong, IsPaired, twice, MayOpen, head_items}
 use Rattle.rmp_encode.proofs.Keeping.{keeping_opened}
+use Rattle.rmp_encode.proofs.Numbers.{marker_first}
 use Rattle.rmp_encode.proofs.Lists.{made_map, not_less}
+use Rattle.rmp_encode.specs.Ser.{sink_of}
+use Rattle.std.specs.Prelude.{Err}
+use Rattle.rmp_encode.specs.Writes.{FirstAtMarker}
 use Rattle.rmp_encode.proofs.serializer.Serializer.serialize_map.Goals as goal
 
 pub returns-in_default : goal.returns-in_default
@@ -39,7 +43,9 @@ returns-in_err-put_len g c =
         record {
           keeps = c.put_len.ensures.keeps;
           refused = c.in_err-put_len.ensures.stays;
-          long = λ h. c.put_len.ensures.refused (not_less (subst (λ l. ¬ MayOpen l) c.in-Some.is h));
+          long = λ h. c.in_err-put_len.ensures.long (not_less (subst (λ l. ¬ MayOpen l) c.in-Some.is h));
+          marker = subst (λ l. FirstAtMarker g.W.Sink {A = Unit {0}} (head_items true l) (sink_of c.args.self.now) (sink_of c.put_len.new.self) (Err c.in_err-put_len.field-0.0)) (sym c.in-Some.is)
+              (marker_first g.W.Sink _ [] (sink_of c.args.self.now) (sink_of c.put_len.new.self) (Err c.in_err-put_len.field-0.0) c.in_err-put_len.ensures.marker);
           writes = λ all e. c.in_err-put_len.ensures.begins _ _ (made_map _ _ all (subst (λ l. IsMapLong l all) c.in-Some.is e));
         },
       ),

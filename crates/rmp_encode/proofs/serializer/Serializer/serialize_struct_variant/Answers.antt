@@ -1,9 +1,14 @@
-use Rattle.std.proofs.Common.{arith, rules, refl}
+use Rattle.std.proofs.Common.{arith, rules, refl, subst}
 use Rattle.std.proofs.lemmas.Result.{err_from_is_err_and}
 use Rattle.rmp_wire.specs.Spelling.{IsBytes}
 use Rattle.rmp_encode.proofs.Fields.{many_fields}
 use Rattle.rmp_encode.proofs.Leaves.{bytes_from}
 use Rattle.rmp_encode.proofs.Variants.{made_struct_variant}
+use Rattle.std.specs.Prelude.{Err}
+use Rattle.rmp_encode.specs.Going.{head_at}
+use Rattle.rmp_encode.specs.Ser.{sink_of}
+use Rattle.rmp_encode.specs.Trees.{variant_items}
+use Rattle.rmp_encode.specs.Writes.{FirstAtMarker}
 use Rattle.rmp_encode.proofs.serializer.Serializer.serialize_struct_variant.Goals as goal
 
 pub returns-in_err-open_variant : goal.returns-in_err-open_variant
@@ -17,7 +22,9 @@ returns-in_err-open_variant g c =
         record {
           keeps = c.open_variant.ensures.keeps;
           refused = c.in_err-open_variant.ensures.stays;
-          long = c.open_variant.ensures.refused;
+          long = c.in_err-open_variant.ensures.long;
+          marker = subst (λ named. FirstAtMarker g.W.Sink {A = Unit {0}} (variant_items c.args.variant.now (head_at named c.args.len)) (sink_of c.args.self.now)
+              (sink_of c.open_variant.new.self) (Err c.in_err-open_variant.field-0.0)) c.is_named.ensures c.in_err-open_variant.ensures.marker;
           writes = λ all e. (rw c.is_named.ensures at c.in_err-open_variant.ensures.begins) _ _
               (made_struct_variant _ c.args.variant.now c.args.len all is_bytes e);
         },

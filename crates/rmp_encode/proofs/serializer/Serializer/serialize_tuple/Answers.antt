@@ -1,8 +1,12 @@
-use Rattle.std.proofs.Common.{rules, refl, sym, ◌∙◌, false}
+use Rattle.std.proofs.Common.{rules, refl, sym, ◌∙◌, false, []}
 use Rattle.std.proofs.lemmas.Result.{err_from_is_err_and}
 use Rattle.rmp_encode.specs.Going.{head_at}
 use Rattle.rmp_encode.proofs.Going.{begins, never_refused, stays_refused}
+use Rattle.rmp_encode.proofs.Numbers.{marker_first}
+use Rattle.rmp_encode.proofs.Refusals.{none_too_long, refuses_length}
 use Rattle.rmp_encode.proofs.TupleSteps.{made_tuple, tuple_too_long, probing_opened}
+use Rattle.rmp_encode.specs.Ser.{sink_of}
+use Rattle.std.specs.Prelude.{Err}
 use Rattle.rmp_encode.proofs.serializer.Serializer.serialize_tuple.Goals as goal
 
 pub returns-in_err-n : goal.returns-in_err-n
@@ -15,7 +19,9 @@ returns-in_err-n g c =
         record {
           keeps = record { settings = refl; place = refl };
           refused = stays_refused c.args.self.now _ c.in_err-n.ensures.refused;
-          long = λ _. refl;
+          long = λ _. refuses_length c.args.self.now _ c.in_err-n.ensures.refused;
+          marker = marker_first g.W.Sink _ [] (sink_of c.args.self.now) (sink_of c.args.self.now) (Err c.in_err-n.field-0.0)
+              (none_too_long g.W.Sink _ _ c.in_err-n.field-0.0 c.in_err-n.ensures.refused);
           writes = λ all e. tuple_too_long g.W.Sink c.args.self.now c.args.len _ c.in_err-n.ensures.refused c.in_err-n.ensures.long all e;
         },
       ),
@@ -53,6 +59,7 @@ returns-in_err-put_head g c =
           keeps = c.put_head.ensures.keeps;
           refused = never_refused g.W.Sink.takes_memory _ _ _ _ _ c.in_err-put_head.ensures.writes.cause;
           long = λ h. absurd (h c.in_ok-n.ensures.fits);
+          marker = marker_first g.W.Sink _ [] (sink_of c.args.self.now) (sink_of c.put_head.new.self) (Err c.in_err-put_head.field-0.0) c.in_err-put_head.ensures.marker;
           writes = λ all e. begins g.W.Sink (head_at false c.args.len) c.args.self.now c.put_head.new.self _ c.in_ok-n.ensures.fits c.put_head.ensures.keeps
               (rw c.in_ok-n.ensures.same at c.in_err-put_head.ensures.writes) _ all
               (made_tuple _ all c.args.len (sym c.forces_all.ensures ∙ c.if-forces_all.false) e);

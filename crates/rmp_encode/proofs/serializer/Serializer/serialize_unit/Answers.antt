@@ -4,7 +4,7 @@ use Rattle.rmp_encode.proofs.serializer.Serializer.serialize_unit.Goals as goal
 
 pub returns-clause-writes : goal.returns-clause-writes
 unfolding fits_head
-returns-clause-writes g c = wire_tree g.W.Sink _ c.write_nil.result c.answer.ensures (tt) c.write_nil.ensures.writes
+returns-clause-writes g c = wire_tree g.W.Sink _ c.write_nil.result c.answer.ensures.is (tt) c.write_nil.ensures.writes
 
 pub returns-clause-marker : goal.returns-clause-marker
-returns-clause-marker g c = wire_marker g.W.Sink _ c.write_nil.result c.answer.ensures c.write_nil.ensures.writes
+returns-clause-marker g c = wire_marker g.W.Sink _ c.write_nil.result c.answer.ensures.is c.write_nil.ensures.writes

@@ -1,4 +1,4 @@
-use Rattle.std.proofs.Common.{Some, refl, arith, rules, sym, ◌∙◌, ap}
+use Rattle.std.proofs.Common.{Some, refl, arith, rules, sym, ◌∙◌, ap, inl, inr}
 use Rattle.std.proofs.lemmas.Result.{err_from_is_err_and}
 use Rattle.rmp_encode.specs.Trees.{byte_of}
 use Rattle.rmp_encode.proofs.Parts.{part_then, part_stops}
@@ -16,6 +16,7 @@ use Rattle.rmp_encode.proofs.TupleSteps.{
   probe_state,
   in_probe,
 }
+use Rattle.rmp_encode.proofs.Refusals.{of_cause, of_sink, on_part}
 use Rattle.rmp_encode.proofs.tuple.Tuple+W+C.put_element.Goals as goal
 
 pub returns-in_default-clause-writes : goal.returns-in_default-clause-writes
@@ -66,3 +67,22 @@ returns-clause-writes g c =
     (keeps_then g.W.Sink c.put_head.ensures.keeps c.put_numbers.ensures.keeps)
     (part_then g.W.Sink c.in_ok-put_head.ensures.writes (rw c.as_slice.ensures.value at c.in_ok-put_numbers.ensures.writes)) old t rest
     (probe_state g.W.Sink c.in-Some.kept (kept_some c.in-Some.kept c.in-Some.is c.if-not-self.false) h))
+
+pub returns-in_default-clause-error : goal.returns-in_default-clause-error
+returns-in_default-clause-error g c = on_part _ (g.T.Serialize.refuses c.args.value.now) c.serialize.result c.serialize.ensures.error
+
+pub returns-then-not-self-clause-error : goal.returns-then-not-self-clause-error
+returns-then-not-self-clause-error g c = on_part _ (g.T.Serialize.refuses c.args.value.now) c.serialize-then-not-self.result c.serialize-then-not-self.ensures.error
+
+pub returns-in_err-put_head-clause-error : goal.returns-in_err-put_head-clause-error
+returns-in_err-put_head-clause-error g c =
+    let p = err_from_is_err_and c.from_residual.result c.from_residual.ensures.1 in
+    rw (p.1, p.2) (inr (of_cause _ _ _ _ c.in_err-put_head.ensures.writes.cause))
+
+pub returns-in_err-put_numbers-clause-error : goal.returns-in_err-put_numbers-clause-error
+returns-in_err-put_numbers-clause-error g c =
+    let p = err_from_is_err_and c.from_residual-in_err-put_numbers.result c.from_residual-in_err-put_numbers.ensures.1 in
+    rw (p.1, p.2) (inr (of_cause _ _ _ _ c.in_err-put_numbers.ensures.writes.cause))
+
+pub returns-clause-error : goal.returns-clause-error
+returns-clause-error g c = on_part _ (g.T.Serialize.refuses c.args.value.now) c.serialize-2.result c.serialize-2.ensures.error

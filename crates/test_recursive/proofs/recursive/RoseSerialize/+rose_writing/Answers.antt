@@ -9,7 +9,7 @@ pub returns-in_err-fields-clause-writes : goal.returns-in_err-fields-clause-writ
 returns-in_err-fields-clause-writes g t c =
     let p = err_from_is_err_and c.from_residual.result c.from_residual.ensures.1 in
     rw (p.1, p.2, rose_is c.args.self.now)
-    (part_memory g.W.Sink (unopened g.W.Sink _ _ _ c.args.se.now _ _ _ _ c.in_err-fields.was c.serialize_struct.follows.holds-at-none refl))
+    (part_memory g.W.Sink (unopened g.W.Sink _ _ _ _ c.args.se.now _ _ _ _ c.in_err-fields.was c.serialize_struct.follows.holds-at-none refl))
 
 pub returns-in_err-serialize_field-clause-writes : goal.returns-in_err-serialize_field-clause-writes
 returns-in_err-serialize_field-clause-writes g t c =

@@ -12,7 +12,7 @@ use Rattle.test_types.proofs.unknown.UnkMapSerialize.serialize.Goals as goal
 pub returns-in_err-map-clause-writes : goal.returns-in_err-map-clause-writes
 returns-in_err-map-clause-writes g c =
     let p = err_from_is_err_and c.from_residual.result c.from_residual.ensures.1 in
-    rw (p.1, p.2) (part_memory g.W.Sink (unopened g.W.Sink _ _ _ c.args.se.now _ _ _ _ c.in_err-map.was c.serialize_map.follows.holds-at-none
+    rw (p.1, p.2) (part_memory g.W.Sink (unopened g.W.Sink _ _ _ _ c.args.se.now _ _ _ _ c.in_err-map.was c.serialize_map.follows.holds-at-none
     (record {
       size = length c.args.self.now.entries.entries;
       many = length-in_turn (λ k. g.K.Serialize.data_of k (settings_of c.args.se.now).human)

@@ -1,5 +1,5 @@
-use Rattle.std.proofs.Common.{rules, refl, sym, ap, subst, All}
-use Rattle.std.specs.Prelude.{◌||◌}
+use Rattle.std.proofs.Common.{rules, refl, sym, ap, subst, All, inl, inr, ◌≡◌, ◌≤◌, ◌^◌, length}
+use Rattle.std.specs.Prelude.{◌||◌, ◌⊎◌}
 use Rattle.std.proofs.lemmas.List.Elements.{All-nil, All-cons}
 use Rattle.std.proofs.lemmas.Result.{err_from_is_err_and}
 use Rattle.rmp_encode.specs.Ser.{settings_of}
@@ -7,6 +7,8 @@ use Rattle.rmp_encode.specs.Trees.{in_turn}
 use Rattle.rmp_encode.proofs.Going.{keeps_then, still_written, next_ok, next_err, none_next}
 use Rattle.rmp_encode.proofs.Lists.{length-in_turn, made_map}
 use Rattle.rmp_encode.proofs.Parts.{part_or, part_takes, or_first, or_second}
+use Rattle.rmp_encode.proofs.Refusals.{any_head, any_tail, of_weaker}
+use Rattle.std.specs.List.{Any}
 use Rattle.rmp_encode.proofs.ser.collections.BTreeMapSerialize.serialize.Goals as goal
 
 pub returns-in_err-put_len-clause-writes : goal.returns-in_err-put_len-clause-writes
@@ -27,6 +29,7 @@ loop-key-init g c =
           c.args.self.now.entries _ (search rules))));
       keeps = c.put_len.ensures.keeps;
       values = λ h. subst (All (λ e. g.K.Serialize.is_value e.0 × g.V.Serialize.is_value e.1)) all h;
+      among = λ e h. subst (Any (λ x. g.K.Serialize.refuses x.0 e ⊎ g.V.Serialize.refuses x.1 e)) all h;
     }
 
 pub returns-in_err-serialize-clause-writes : goal.returns-in_err-serialize-clause-writes
@@ -72,6 +75,8 @@ loop-key-preserved g c =
       values = λ h. c.loop-key.invariant.values (subst (All (λ e. g.K.Serialize.is_value e.0 × g.V.Serialize.is_value e.1)) (sym c.in-Some.ensures.steps)
           (All-cons (λ e. g.K.Serialize.is_value e.0 × g.V.Serialize.is_value e.1) (c.in-Some.key.now, c.in-Some.value.now) _
           (c.in_ok-serialize.ensures.value, c.in_ok-serialize-2.ensures.value) h));
+      among = λ e h. c.loop-key.invariant.among e (subst (Any (λ x. g.K.Serialize.refuses x.0 e ⊎ g.V.Serialize.refuses x.1 e)) (sym c.in-Some.ensures.steps)
+          (any_tail (λ x. g.K.Serialize.refuses x.0 e ⊎ g.V.Serialize.refuses x.1 e) (c.in-Some.key.now, c.in-Some.value.now) _ h));
     }
 
 pub returns-clause-writes : goal.returns-clause-writes
@@ -86,3 +91,27 @@ returns-clause-value g c = (
       (All-nil (λ e. g.K.Serialize.is_value e.0 × g.V.Serialize.is_value e.1))),
   c.len.ensures.ordered,
 )
+
+pub returns-in_err-put_len-clause-error : goal.returns-in_err-put_len-clause-error
+returns-in_err-put_len-clause-error g c =
+    let p = err_from_is_err_and c.from_residual.result c.from_residual.ensures.1 in
+    let same : c.len.result ≡ length c.args.self.now.entries = search rules in
+    rw (p.1, p.2) (inl (of_weaker (λ le. subst (λ n. 2 ^ 32 ≤ n) same le) _ c.in_err-put_len.ensures.error))
+
+pub returns-in_err-put_len-clause-long : goal.returns-in_err-put_len-clause-long
+returns-in_err-put_len-clause-long g c = λ le.
+    let p = err_from_is_err_and c.from_residual.result c.from_residual.ensures.1 in
+    let same : c.len.result ≡ length c.args.self.now.entries = search rules in
+    rw (p.1, p.2) (c.in_err-put_len.ensures.long (subst (λ n. 2 ^ 32 ≤ n) (sym same) le))
+
+pub returns-in_err-serialize-clause-error : goal.returns-in_err-serialize-clause-error
+returns-in_err-serialize-clause-error g c =
+    let p = err_from_is_err_and c.from_residual-in_err-serialize.result c.from_residual-in_err-serialize.ensures.1 in
+    rw (p.1, p.2) (inr (c.loop-key.invariant.among c.in_err-serialize.field-0.0 (subst (Any (λ x. g.K.Serialize.refuses x.0 c.in_err-serialize.field-0.0 ⊎ g.V.Serialize.refuses x.1 c.in_err-serialize.field-0.0)) (sym c.in-Some.ensures.steps)
+    (any_head (λ x. g.K.Serialize.refuses x.0 c.in_err-serialize.field-0.0 ⊎ g.V.Serialize.refuses x.1 c.in_err-serialize.field-0.0) (c.in-Some.key.now, c.in-Some.value.now) _ (inl c.in_err-serialize.ensures.error)))))
+
+pub returns-in_err-serialize-2-clause-error : goal.returns-in_err-serialize-2-clause-error
+returns-in_err-serialize-2-clause-error g c =
+    let p = err_from_is_err_and c.from_residual-in_err-serialize-2.result c.from_residual-in_err-serialize-2.ensures.1 in
+    rw (p.1, p.2) (inr (c.loop-key.invariant.among c.in_err-serialize-2.field-0.0 (subst (Any (λ x. g.K.Serialize.refuses x.0 c.in_err-serialize-2.field-0.0 ⊎ g.V.Serialize.refuses x.1 c.in_err-serialize-2.field-0.0)) (sym c.in-Some.ensures.steps)
+    (any_head (λ x. g.K.Serialize.refuses x.0 c.in_err-serialize-2.field-0.0 ⊎ g.V.Serialize.refuses x.1 c.in_err-serialize-2.field-0.0) (c.in-Some.key.now, c.in-Some.value.now) _ (inr c.in_err-serialize-2.ensures.error)))))

@@ -1,5 +1,8 @@
 -- The head was written, and the entries up to those that the iterator has left.
 use Rattle.std.proofs.Common.{All}
+use Rattle.std.specs.Prelude.{◌⊎◌}
+use Rattle.std.specs.List.{Any}
+use Rattle.rmp_encode.specs.declared.error.Error.{Error}
 use Rattle.rmp_encode.specs.Going.{IsWriting}
 use Rattle.rmp_encode.specs.Ser.{settings_of}
 use Rattle.rmp_encode.specs.Trees.{in_turn, mapping_of, tree_of}
@@ -15,4 +18,6 @@ invariant-loop-key g l = record {
   keeps : Keeps g.W.Sink l.fn.se l.se;
   values : All (λ e. g.K.Serialize.is_value e.0 × g.V.Serialize.is_value e.1) l.key-iterator
       → All (λ e. g.K.Serialize.is_value e.0 × g.V.Serialize.is_value e.1) l.fn.self.entries;
+  among : (e : Error) → Any (λ x. g.K.Serialize.refuses x.0 e ⊎ g.V.Serialize.refuses x.1 e) l.key-iterator
+      → Any (λ x. g.K.Serialize.refuses x.0 e ⊎ g.V.Serialize.refuses x.1 e) l.fn.self.entries;
 }

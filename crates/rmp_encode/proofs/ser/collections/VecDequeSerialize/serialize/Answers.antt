@@ -1,4 +1,4 @@
-use Rattle.std.proofs.Common.{◌≡◌, [], rules, arith, sym, ◌∙◌, ap, subst, map, All}
+use Rattle.std.proofs.Common.{◌≡◌, [], rules, arith, sym, ◌∙◌, ap, subst, map, All, inl, inr, ◌≤◌, ◌^◌, length}
 use Rattle.std.specs.VecDeque.Iter.{deque_iter_rest}
 use Rattle.std.specs.Prelude.{◌||◌}
 use Rattle.std.proofs.lemmas.Grind.{common_steps}
@@ -9,6 +9,8 @@ use Rattle.rmp_encode.specs.Ser.{settings_of}
 use Rattle.rmp_encode.proofs.Going.{keeps_then, still_written, next_ok, next_err, none_next}
 use Rattle.rmp_encode.proofs.Lists.{made_list}
 use Rattle.rmp_encode.proofs.Parts.{part_or}
+use Rattle.rmp_encode.proofs.Refusals.{any_head, any_tail, of_weaker}
+use Rattle.std.specs.List.{Any}
 use Rattle.rmp_encode.proofs.ser.collections.VecDequeSerialize.serialize.Goals as goal
 
 pub returns-in_err-put_len-clause-writes : goal.returns-in_err-put_len-clause-writes
@@ -24,6 +26,7 @@ loop-item-init g c =
           (c.in_ok-put_len.ensures.begins _ _ (made_list _ _ _ (length-map _ _ ∙ search rules)));
       keeps = c.put_len.ensures.keeps;
       values = λ h. subst (All g.T.Serialize.is_value) all h;
+      among = λ e h. subst (Any (λ x. g.T.Serialize.refuses x e)) all h;
     }
 
 pub loop-item-preserved : goal.loop-item-preserved
@@ -33,6 +36,8 @@ loop-item-preserved g c = record {
   keeps = keeps_then g.W.Sink c.loop-item.invariant.keeps c.serialize.ensures.keeps;
   values = λ h. c.loop-item.invariant.values (subst (All g.T.Serialize.is_value) (sym c.in-Some.ensures.steps)
       (All-cons g.T.Serialize.is_value _ _ c.in_ok-serialize.ensures.value h));
+  among = λ e h. c.loop-item.invariant.among e (subst (Any (λ x. g.T.Serialize.refuses x e)) (sym c.in-Some.ensures.steps)
+      (any_tail (λ x. g.T.Serialize.refuses x e) _ _ h));
 }
 
 pub returns-in_err-serialize-clause-writes : goal.returns-in_err-serialize-clause-writes
@@ -54,3 +59,21 @@ pub returns-clause-value : goal.returns-clause-value
 returns-clause-value g c =
     let none : deque_iter_rest c.loop-item.item-iterator ≡ [] = grind (arith, common_steps, c.in-None.ensures.steps.0) in
     c.loop-item.invariant.values (subst (All g.T.Serialize.is_value) (sym none) (All-nil g.T.Serialize.is_value))
+
+pub returns-in_err-put_len-clause-error : goal.returns-in_err-put_len-clause-error
+returns-in_err-put_len-clause-error g c =
+    let p = err_from_is_err_and c.from_residual.result c.from_residual.ensures.1 in
+    let same : c.len.result ≡ length c.args.self.now.items = search rules in
+    rw (p.1, p.2) (inl (of_weaker (λ le. subst (λ n. 2 ^ 32 ≤ n) same le) _ c.in_err-put_len.ensures.error))
+
+pub returns-in_err-put_len-clause-long : goal.returns-in_err-put_len-clause-long
+returns-in_err-put_len-clause-long g c = λ le.
+    let p = err_from_is_err_and c.from_residual.result c.from_residual.ensures.1 in
+    let same : c.len.result ≡ length c.args.self.now.items = search rules in
+    rw (p.1, p.2) (c.in_err-put_len.ensures.long (subst (λ n. 2 ^ 32 ≤ n) (sym same) le))
+
+pub returns-in_err-serialize-clause-error : goal.returns-in_err-serialize-clause-error
+returns-in_err-serialize-clause-error g c =
+    let p = err_from_is_err_and c.from_residual-in_err-serialize.result c.from_residual-in_err-serialize.ensures.1 in
+    rw (p.1, p.2) (inr (c.loop-item.invariant.among c.in_err-serialize.field-0.0 (subst (Any (λ x. g.T.Serialize.refuses x c.in_err-serialize.field-0.0)) (sym c.in-Some.ensures.steps)
+    (any_head (λ x. g.T.Serialize.refuses x c.in_err-serialize.field-0.0) c.in-Some.item.now _ c.in_err-serialize.ensures.error))))

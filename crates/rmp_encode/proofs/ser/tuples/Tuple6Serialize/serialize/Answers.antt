@@ -9,7 +9,7 @@ use Rattle.rmp_encode.proofs.ser.tuples.Tuple6Serialize.serialize.Goals as goal
 pub returns-in_err-tup-clause-writes : goal.returns-in_err-tup-clause-writes
 returns-in_err-tup-clause-writes g c =
     let p = err_from_is_err_and c.from_residual.result c.from_residual.ensures.1 in
-    rw (p.1, p.2) (part_or g.W.Sink _ (unopened g.W.Sink _ _ _ c.args.se.now _ _ _ _ c.in_err-tup.was c.serialize_tuple.follows.holds-at-none refl))
+    rw (p.1, p.2) (part_or g.W.Sink _ (unopened g.W.Sink _ _ _ _ c.args.se.now _ _ _ _ c.in_err-tup.was c.serialize_tuple.follows.holds-at-none refl))
 
 pub returns-in_err-four-clause-writes : goal.returns-in_err-four-clause-writes
 returns-in_err-four-clause-writes g c =

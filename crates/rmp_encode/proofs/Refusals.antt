@@ -1,0 +1,95 @@
+-- Whose error a write answers.
+use Rattle.std.proofs.Common.{◌≡◌, ℕ, suc, ◌<◌, ◌≤◌, ◌^◌, List, [], ◌∷◌, length, get_or, Bool, inl, inr, refl, sym, arith}
+use Rattle.std.specs.Prelude.{Result, Ok, Err, IfErr}
+use Rattle.std.specs.List.{Any}
+use Rattle.std.proofs.lemmas.Result.{IfErr-weaker}
+use Rattle.rmp_wire.specs.declared.error.ValueWriteError.{ValueWriteError}
+use Rattle.rmp_wire.specs.declared.error.ValueWriteError.TheVariants as wire
+use Rattle.rmp_wire.specs.declared.sink.Sink.{Ghosts}
+use Rattle.rmp_wire.specs.Faults.{past_first}
+use Rattle.rmp_encode.specs.declared.error.Error.{Error}
+use Rattle.rmp_encode.specs.declared.error.Error.TheVariants.{InvalidValueWrite, UnknownLength, InvalidDataModel, DepthLimitExceeded, Syntax, OutOfMemory}
+use Rattle.rmp_encode.specs.Errors.{IsTooLong, error_of}
+use Rattle.rmp_encode.specs.Refusals.{Errors, OfItems, OfLength, OfParts, OfSink, RefusesLength}
+use Rattle.rmp_encode.specs.Writes.{FailsBy, NoneAtMarker}
+
+-- an error of the wire is the sink's or memory's
+pub of_wire : (e : ValueWriteError) → OfSink (error_of e)
+of_wire (wire.InvalidMarkerWrite fault) = tt
+of_wire (wire.InvalidDataWrite fault) = tt
+of_wire wire.OutOfMemory = tt
+
+-- and so is that of what can't be refused
+pub of_cause : (m : Bool) (n k : ℕ) (e : Error) → FailsBy m (Unit {0}) n k e → OfSink e
+of_cause m n k (InvalidValueWrite fault) h = tt
+of_cause m n k UnknownLength h = h
+of_cause m n k (InvalidDataModel t) h = absurd (h.1 tt)
+of_cause m n k DepthLimitExceeded h = h
+of_cause m n k (Syntax t) h = absurd (h.0 tt)
+of_cause m n k OutOfMemory h = tt
+
+pub on_cause : (m : Bool) (n k : ℕ) (r : Result (Unit {0}) Error) → IfErr r (FailsBy m (Unit {0}) n k) → IfErr r OfSink
+on_cause m n k r h = IfErr-weaker r (FailsBy m (Unit {0}) n k) OfSink (of_cause m n k) h
+
+-- under another condition
+pub of_weaker : {P Q : Type 0} → (P → Q) → (e : Error) → OfLength P e → OfLength Q e
+of_weaker f (InvalidValueWrite fault) h = tt
+of_weaker f UnknownLength h = h
+of_weaker f (InvalidDataModel t) h = (f h.0, h.1)
+of_weaker f DepthLimitExceeded h = h
+of_weaker f (Syntax t) h = h
+of_weaker f OutOfMemory h = tt
+
+pub on_weaker : {P Q : Type 0} (r : Result (Unit {0}) Error) → (P → Q) → IfErr r (OfLength P) → IfErr r (OfLength Q)
+on_weaker {P} {Q} r f h = IfErr-weaker r (OfLength P) (OfLength Q) (of_weaker f) h
+
+pub of_sink : (P : Type 0) (e : Error) → OfSink e → OfLength P e
+of_sink P e h = of_weaker {Q = P} absurd e h
+
+pub on_sink : (P : Type 0) (r : Result (Unit {0}) Error) → IfErr r OfSink → IfErr r (OfLength P)
+on_sink P r h = on_weaker {Q = P} r absurd h
+
+-- the refusal of a length
+pub of_long : {P : Type 0} (e : Error) → IsTooLong e → P → OfLength P e
+of_long (InvalidDataModel t) is p = (p, is)
+of_long (InvalidValueWrite fault) is p = absurd is
+of_long UnknownLength is p = absurd is
+of_long DepthLimitExceeded is p = absurd is
+of_long (Syntax t) is p = absurd is
+of_long OutOfMemory is p = absurd is
+
+pub refuses_length : {S : Type 0} (old : S) (e : Error) → IsTooLong e → RefusesLength {A = Unit {0}} old old (Err e)
+refuses_length old (InvalidDataModel t) is = (is, refl)
+refuses_length old (InvalidValueWrite fault) is = absurd is
+refuses_length old UnknownLength is = absurd is
+refuses_length old DepthLimitExceeded is = absurd is
+refuses_length old (Syntax t) is = absurd is
+refuses_length old OutOfMemory is = absurd is
+
+module _ {W : Type 0} (g : Ghosts W) where
+  pub none_too_long : (old new : W) (e : Error) → IsTooLong e → NoneAtMarker g {A = Unit {0}} old new (Err e)
+  none_too_long old new (InvalidDataModel t) is = tt
+  none_too_long old new (InvalidValueWrite fault) is = absurd is
+  none_too_long old new UnknownLength is = tt
+  none_too_long old new DepthLimitExceeded is = tt
+  none_too_long old new (Syntax t) is = tt
+  none_too_long old new OutOfMemory is = tt
+
+-- of one part
+pub on_part : (P : Type 0) (part : Errors) (r : Result (Unit {0}) Error) → IfErr r part → IfErr r (OfParts P (part ∷ []))
+on_part P part r h = IfErr-weaker r part (OfParts P (part ∷ [])) (λ e p. inl p) h
+
+-- of one element
+module _ {X : Type 0} (P : X → Type 0) where
+  pub any_at : (xs : List X) (i : ℕ) (x : X) → i < length xs → x ≡ get_or xs i x → P x → Any P xs
+  any_at xs i x lt is p = (i, x, lt, sym is, p)
+
+  pub any_head : (x : X) (xs : List X) → P x → Any P (x ∷ xs)
+  any_head x xs p = (0, x, omega arith, refl, p)
+
+  pub any_tail : (x : X) (xs : List X) → Any P xs → Any P (x ∷ xs)
+  any_tail x xs h = (suc h.0, h.1, (let lt = h.2 in omega (arith, lt)), h.3, h.4)
+
+module _ {X : Type 0} (refuses : X → Errors) where
+  pub on_number : (xs : List X) (r : Result (Unit {0}) Error) → IfErr r (OfLength (2 ^ 32 ≤ length xs)) → IfErr r (OfItems refuses xs)
+  on_number xs r h = IfErr-weaker r (OfLength (2 ^ 32 ≤ length xs)) (OfItems refuses xs) (λ e p. inl p) h
