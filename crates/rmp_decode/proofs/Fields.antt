@@ -47,6 +47,14 @@ pub if_some : {A : Type 0} {P Q : A → Type 0} (o : Option A) → ((x : A) → 
 if_some None f p = tt
 if_some (Some x) f p = f x p
 
+pub or_left : {A B C : Type 0} → (A → B) → A ⊎ C → B ⊎ C
+or_left f (inl a) = inl (f a)
+or_left f (inr c) = inr c
+
+pub or_right : {A B C : Type 0} → (B → C) → A ⊎ B → A ⊎ C
+or_right f (inl a) = inl a
+or_right f (inr b) = inr (f b)
+
 -- ---- fields of a list
 
 pub no_field_listed : {R C : Type 0} (g : Ghosts R) (s : SeqAccess R C) → IsOpen s → TakesParts g (λ (v : Unit {0}) ms. NoField (given_all ms)) s s tt

@@ -1,4 +1,5 @@
 //! The fields of structs, by name or in order.
+pub(crate) mod eight;
 mod wide;
 
 ghost use Rattle.std.specs.Prelude.{◌≡◌, ◌≢◌, ◌⊎◌, ◌<◌, ◌≤◌, ◌||◌, ℕ, Bool, List, Option, None, Some, true};
