@@ -3,4 +3,5 @@ pub mod FirstByte
 pub mod Passing
 pub mod Rows
 pub mod Scanning
+pub mod Table
 pub mod Stepping

@@ -89,6 +89,12 @@ Opens first (Fixed payload parts) = (n : ℕ) (bytes : List ℕ) → SpellsSome 
 Opens first (Counted counts width) = (n : ℕ) (bytes : List ℕ) → SpellsSome (suc n) (first ∷ bytes) ↔ WantsLength counts width 0 n bytes
 Opens first Reserved = (n : ℕ) (bytes : List ℕ) → SpellsSome (suc n) (first ∷ bytes) → ⊥
 
+-- what the table says of it: so many bytes and parts follow a first byte that tells both, and 2^32 - 1 bytes any other
+abbrev pub Tells : Opening → ℕ → ℕ → Type 0
+Tells (Fixed payload parts) payload' parts' = (payload' ≡ payload) × (parts' ≡ parts)
+Tells (Counted counts width) payload' parts' = payload' ≡ 0xffffffff
+Tells Reserved payload' parts' = payload' ≡ 0xffffffff
+
 -- With these bytes the first of n + k messages are passed, so that j + k are wanted then, whatever k is.
 abbrev pub Passes : List ℕ → ℕ → ℕ → Type 0
 Passes passed n j = (k : ℕ) (rest : List ℕ) → SpellsSome (n + k) (passed ++ rest) ↔ SpellsSome (j + k) rest

@@ -5,6 +5,7 @@ mod length;
 mod length_of;
 mod opening;
 mod scanner;
+mod small;
 mod state;
 mod want;
 

@@ -1,7 +1,7 @@
 //! What a first byte says of its message.
-ghost use Rattle.std.specs.Prelude.{◌≡◌, ◌+◌, ◌*◌, ◌≤◌, length, take};
+ghost use Rattle.std.specs.Prelude.{◌≡◌};
 ghost use Rattle.rmp_wire.specs.Taking.{marker_of};
-ghost use Rattle.rmp_scan.specs.Openings.{opening_of, IsNarrow, Passes};
+ghost use Rattle.rmp_scan.specs.Openings.{opening_of, IsNarrow};
 
 // What the length in a head counts.
 #[derive(Clone, Copy, Debug)]
@@ -180,32 +180,4 @@ pub(crate) fn read_opening(first: u8) -> Opening
             parts: 0,
         },
     }
-}
-
-// How many messages are counted at once, and among how many bytes, so that no count wraps.
-pub(crate) const MOST: u128 = 0x4000_0000_0000_0000;
-
-const BLOCK: usize = 0x1_0000_0000;
-
-// Passes over messages whose first byte tells their length, as far as they are whole. It returns how many bytes they have, and how many
-// of the `most` messages are still wanted.
-pub(crate) fn pass_small(bytes: &[u8], most: u64) -> (usize, u64)
-    requires room { most ≤ MOST }
-    ensures within { result.0 ≤ length bytes.now }
-    ensures passes { Passes (take result.0 bytes.now) most result.1 }
-    ensures claims { result.1 ≤ most + 30 * result.0 }
-{
-    let len = bytes.len().min(BLOCK);
-    let mut at: usize = 0;
-    let mut wanted = most;
-    'small: while wanted > 0 && at < len {
-        match read_opening(bytes[at]) {
-            Opening::Fixed { payload, parts } if (payload as usize) < len - at => {
-                at += 1 + payload as usize;
-                wanted = wanted - 1 + u64::from(parts);
-            }
-            _ => break,
-        }
-    }
-    (at, wanted)
 }

@@ -4,7 +4,8 @@ ghost use Rattle.rmp_scan.specs.Openings.{HasRoom, WantsLength};
 ghost use Rattle.rmp_scan.specs.Completes.{Completes, least_of, is_whole, Steps, Sticks, Advances};
 
 use crate::length::Length;
-use crate::opening::{Counts, MOST, Opening, pass_small, read_opening};
+use crate::opening::{Counts, Opening, read_opening};
+use crate::small::{MOST, pass_small};
 
 // What comes next.
 #[derive(Clone, Copy, Debug)]

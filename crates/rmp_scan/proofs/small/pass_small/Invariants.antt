@@ -1,7 +1,7 @@
 -- What was passed are whole messages.
 use Rattle.std.proofs.Common.{◌+◌, ◌-◌, ◌*◌, ◌≤◌, take}
 use Rattle.rmp_scan.specs.Openings.{Passes}
-use Rattle.rmp_scan.proofs.opening.pass_small.Given as goal
+use Rattle.rmp_scan.proofs.small.pass_small.Given as goal
 
 abbrev pub invariant-small : goal.invariant-small
 invariant-small l = record { within : l.at ≤ l.len; passes : Passes (take l.at l.bytes) l.most l.wanted; claims : l.wanted ≤ l.most + 30 * l.at }
