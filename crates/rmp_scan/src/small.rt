@@ -68,8 +68,8 @@ fn pass_numbers(bytes: &[u8], most: usize) -> usize
     at
 }
 
-// Passes over messages that their first byte tells the length of, as far as they are whole. It says how many bytes they took, and how many
-// of so many messages are wanted then.
+// Passes over messages whose first byte tells their length, as far as they are whole. It returns how many bytes they have, and how many
+// of the `most` messages are still wanted.
 pub(crate) fn pass_small(bytes: &[u8], most: u64) -> (usize, u64)
     requires room { most ≤ MOST }
     ensures within { result.0 ≤ length bytes.now }
