@@ -50,7 +50,7 @@ at_least want bytes c = long_next want.next want.messages bytes c
 
 -- ---- and there are some
 
-abbrev nils : ℕ → List ℕ
+abbrev pub nils : ℕ → List ℕ
 nils zero = []
 nils (suc n) = 0xc0 ∷ nils n
 
@@ -72,7 +72,7 @@ unfolding nil_trees
 nils_spelled zero = refl
 nils_spelled (suc n) = record { first = 0xc0 ∷ []; second = nils n; is_first = nil_head; is_second = nils_spelled n; is_whole = refl }
 
-nils_some : (n : ℕ) → SpellsSome n (nils n)
+pub nils_some : (n : ℕ) → SpellsSome n (nils n)
 nils_some n = record { trees = nil_trees n; many = nils_many n; spelled = nils_spelled n }
 
 some_next : (x : Next) (n : ℕ) → (bytes : List ℕ) × CompletesNext x n bytes

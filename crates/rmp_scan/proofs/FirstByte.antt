@@ -249,49 +249,68 @@ reserved n r s =
     let h = some_head n (byte_of marker.Reserved ∷ r) s in
     reserved_opens_none h.head h.behind (subst (λ z. IsHead h.head (z ∷ h.behind)) (first_is h.byte (byte_of marker.Reserved) _ r (sym h.front)) h.is_head)
 
+-- a first byte that tells its length, with so many bytes more, is a head with its payload, and one whose length follows with that and its payload
+abbrev pub Nodes : ℕ → Opening → Type 0
+Nodes b (Fixed payload parts) = (t : List ℕ) → length t ≡ payload → IsBytes t → Node (b ∷ t) parts
+Nodes b (Counted counts width) = (q s : List ℕ) → length q ≡ width → length s ≡ payload_of counts (number 0 q) → IsBytes q → IsBytes s
+    → Node (b ∷ (q ++ s)) (parts_of counts (number 0 q))
+Nodes b Reserved = b ≡ 0xc1
+
+marker_nodes : (m : Marker) → Nodes (byte_of m) (opening_of m)
+unfolding head_after byte_of
+marker_nodes (marker.FixPos n) = alone (marker.FixPos n) (Whole (pos (n % 0x80))) 0 0 (λ s. refl) refl refl
+marker_nodes (marker.FixMap n) = alone (marker.FixMap n) (Map (n % 0x10)) 0 _ (λ s. refl) refl refl
+marker_nodes (marker.FixArray n) = alone (marker.FixArray n) (Array (n % 0x10)) 0 _ (λ s. refl) refl refl
+marker_nodes (marker.FixStr n) = alone (marker.FixStr n) (Text (n % 0x20)) _ 0 (λ s. refl) refl refl
+marker_nodes (marker.FixNeg z) = alone (marker.FixNeg z) (Whole (negsuc (0x1f - cast_unsigned w8 z % 0x20))) 0 0 (λ s. refl) refl refl
+marker_nodes marker.Null = alone marker.Null Nil 0 0 (λ s. refl) refl refl
+marker_nodes marker.False = alone marker.False (Truth false) 0 0 (λ s. refl) refl refl
+marker_nodes marker.True = alone marker.True (Truth true) 0 0 (λ s. refl) refl refl
+marker_nodes marker.Reserved = refl
+marker_nodes marker.Bin8 = counted marker.Bin8 Payload w8 Bin number_8 (λ s. refl) (λ n. refl) (λ n. refl)
+marker_nodes marker.Bin16 = counted marker.Bin16 Payload w16 Bin number_16 (λ s. refl) (λ n. refl) (λ n. refl)
+marker_nodes marker.Bin32 = counted marker.Bin32 Payload w32 Bin number_32 (λ s. refl) (λ n. refl) (λ n. refl)
+marker_nodes marker.Str8 = counted marker.Str8 Payload w8 Text number_8 (λ s. refl) (λ n. refl) (λ n. refl)
+marker_nodes marker.Str16 = counted marker.Str16 Payload w16 Text number_16 (λ s. refl) (λ n. refl) (λ n. refl)
+marker_nodes marker.Str32 = counted marker.Str32 Payload w32 Text number_32 (λ s. refl) (λ n. refl) (λ n. refl)
+marker_nodes marker.Array16 = counted marker.Array16 Items w16 Array number_16 (λ s. refl) (λ n. refl) (λ n. refl)
+marker_nodes marker.Array32 = counted marker.Array32 Items w32 Array number_32 (λ s. refl) (λ n. refl) (λ n. refl)
+marker_nodes marker.Map16 = counted marker.Map16 Pairs w16 Map number_16 (λ s. refl) (λ n. refl) (λ n. refl)
+marker_nodes marker.Map32 = counted marker.Map32 Pairs w32 Map number_32 (λ s. refl) (λ n. refl) (λ n. refl)
+marker_nodes marker.Ext8 = extended marker.Ext8 w8 number_8 (λ s. refl)
+marker_nodes marker.Ext16 = extended marker.Ext16 w16 number_16 (λ s. refl)
+marker_nodes marker.Ext32 = extended marker.Ext32 w32 number_32 (λ s. refl)
+marker_nodes marker.F32 = wide marker.F32 w32 F32Bits (λ s. refl) (λ n. refl) (λ n. refl)
+marker_nodes marker.F64 = wide marker.F64 w64 F64Bits (λ s. refl) (λ n. refl) (λ n. refl)
+marker_nodes marker.U8 = wide marker.U8 w8 (λ n. Whole (pos n)) (λ s. refl) (λ n. refl) (λ n. refl)
+marker_nodes marker.U16 = wide marker.U16 w16 (λ n. Whole (pos n)) (λ s. refl) (λ n. refl) (λ n. refl)
+marker_nodes marker.U32 = wide marker.U32 w32 (λ n. Whole (pos n)) (λ s. refl) (λ n. refl) (λ n. refl)
+marker_nodes marker.U64 = wide marker.U64 w64 (λ n. Whole (pos n)) (λ s. refl) (λ n. refl) (λ n. refl)
+marker_nodes marker.I8 = wide marker.I8 w8 (λ n. Whole (cast_signed w8 n)) (λ s. refl) (λ n. refl) (λ n. refl)
+marker_nodes marker.I16 = wide marker.I16 w16 (λ n. Whole (cast_signed w16 n)) (λ s. refl) (λ n. refl) (λ n. refl)
+marker_nodes marker.I32 = wide marker.I32 w32 (λ n. Whole (cast_signed w32 n)) (λ s. refl) (λ n. refl) (λ n. refl)
+marker_nodes marker.I64 = wide marker.I64 w64 (λ n. Whole (cast_signed w64 n)) (λ s. refl) (λ n. refl) (λ n. refl)
+marker_nodes marker.FixExt1 = tagged marker.FixExt1 1 (λ s. refl)
+marker_nodes marker.FixExt2 = tagged marker.FixExt2 2 (λ s. refl)
+marker_nodes marker.FixExt4 = tagged marker.FixExt4 4 (λ s. refl)
+marker_nodes marker.FixExt8 = tagged marker.FixExt8 8 (λ s. refl)
+marker_nodes marker.FixExt16 = tagged marker.FixExt16 16 (λ s. refl)
+
+opens : (m : Marker) (o : Opening) → Nodes (byte_of m) o → Opens (byte_of m) o
+unfolding byte_of
+opens m (Fixed payload parts) f = opens_fixed m payload parts f
+opens m (Counted counts width) f = opens_counted m counts width f
+opens m Reserved f = λ n r s. reserved n r (subst (λ z. SpellsSome (suc n) (z ∷ r)) f s)
+
 pub marker_opens : (m : Marker) → Opens (byte_of m) (opening_of m)
-unfolding head_after
-marker_opens (marker.FixPos n) = opens_fixed _ 0 0 (alone (marker.FixPos n) (Whole (pos (n % 0x80))) 0 0 (λ s. refl) refl refl)
-marker_opens (marker.FixMap n) = opens_fixed _ 0 _ (alone (marker.FixMap n) (Map (n % 0x10)) 0 _ (λ s. refl) refl refl)
-marker_opens (marker.FixArray n) = opens_fixed _ 0 _ (alone (marker.FixArray n) (Array (n % 0x10)) 0 _ (λ s. refl) refl refl)
-marker_opens (marker.FixStr n) = opens_fixed _ _ 0 (alone (marker.FixStr n) (Text (n % 0x20)) _ 0 (λ s. refl) refl refl)
-marker_opens (marker.FixNeg z) = opens_fixed _ 0 0 (alone (marker.FixNeg z) (Whole (negsuc (0x1f - cast_unsigned w8 z % 0x20))) 0 0 (λ s. refl) refl refl)
-marker_opens marker.Null = opens_fixed _ 0 0 (alone marker.Null Nil 0 0 (λ s. refl) refl refl)
-marker_opens marker.False = opens_fixed _ 0 0 (alone marker.False (Truth false) 0 0 (λ s. refl) refl refl)
-marker_opens marker.True = opens_fixed _ 0 0 (alone marker.True (Truth true) 0 0 (λ s. refl) refl refl)
-marker_opens marker.Reserved = reserved
-marker_opens marker.Bin8 = opens_counted _ Payload 1 (counted marker.Bin8 Payload w8 Bin number_8 (λ s. refl) (λ n. refl) (λ n. refl))
-marker_opens marker.Bin16 = opens_counted _ Payload 2 (counted marker.Bin16 Payload w16 Bin number_16 (λ s. refl) (λ n. refl) (λ n. refl))
-marker_opens marker.Bin32 = opens_counted _ Payload 4 (counted marker.Bin32 Payload w32 Bin number_32 (λ s. refl) (λ n. refl) (λ n. refl))
-marker_opens marker.Str8 = opens_counted _ Payload 1 (counted marker.Str8 Payload w8 Text number_8 (λ s. refl) (λ n. refl) (λ n. refl))
-marker_opens marker.Str16 = opens_counted _ Payload 2 (counted marker.Str16 Payload w16 Text number_16 (λ s. refl) (λ n. refl) (λ n. refl))
-marker_opens marker.Str32 = opens_counted _ Payload 4 (counted marker.Str32 Payload w32 Text number_32 (λ s. refl) (λ n. refl) (λ n. refl))
-marker_opens marker.Array16 = opens_counted _ Items 2 (counted marker.Array16 Items w16 Array number_16 (λ s. refl) (λ n. refl) (λ n. refl))
-marker_opens marker.Array32 = opens_counted _ Items 4 (counted marker.Array32 Items w32 Array number_32 (λ s. refl) (λ n. refl) (λ n. refl))
-marker_opens marker.Map16 = opens_counted _ Pairs 2 (counted marker.Map16 Pairs w16 Map number_16 (λ s. refl) (λ n. refl) (λ n. refl))
-marker_opens marker.Map32 = opens_counted _ Pairs 4 (counted marker.Map32 Pairs w32 Map number_32 (λ s. refl) (λ n. refl) (λ n. refl))
-marker_opens marker.Ext8 = opens_counted _ Extension 1 (extended marker.Ext8 w8 number_8 (λ s. refl))
-marker_opens marker.Ext16 = opens_counted _ Extension 2 (extended marker.Ext16 w16 number_16 (λ s. refl))
-marker_opens marker.Ext32 = opens_counted _ Extension 4 (extended marker.Ext32 w32 number_32 (λ s. refl))
-marker_opens marker.F32 = opens_fixed _ 4 0 (wide marker.F32 w32 F32Bits (λ s. refl) (λ n. refl) (λ n. refl))
-marker_opens marker.F64 = opens_fixed _ 8 0 (wide marker.F64 w64 F64Bits (λ s. refl) (λ n. refl) (λ n. refl))
-marker_opens marker.U8 = opens_fixed _ 1 0 (wide marker.U8 w8 (λ n. Whole (pos n)) (λ s. refl) (λ n. refl) (λ n. refl))
-marker_opens marker.U16 = opens_fixed _ 2 0 (wide marker.U16 w16 (λ n. Whole (pos n)) (λ s. refl) (λ n. refl) (λ n. refl))
-marker_opens marker.U32 = opens_fixed _ 4 0 (wide marker.U32 w32 (λ n. Whole (pos n)) (λ s. refl) (λ n. refl) (λ n. refl))
-marker_opens marker.U64 = opens_fixed _ 8 0 (wide marker.U64 w64 (λ n. Whole (pos n)) (λ s. refl) (λ n. refl) (λ n. refl))
-marker_opens marker.I8 = opens_fixed _ 1 0 (wide marker.I8 w8 (λ n. Whole (cast_signed w8 n)) (λ s. refl) (λ n. refl) (λ n. refl))
-marker_opens marker.I16 = opens_fixed _ 2 0 (wide marker.I16 w16 (λ n. Whole (cast_signed w16 n)) (λ s. refl) (λ n. refl) (λ n. refl))
-marker_opens marker.I32 = opens_fixed _ 4 0 (wide marker.I32 w32 (λ n. Whole (cast_signed w32 n)) (λ s. refl) (λ n. refl) (λ n. refl))
-marker_opens marker.I64 = opens_fixed _ 8 0 (wide marker.I64 w64 (λ n. Whole (cast_signed w64 n)) (λ s. refl) (λ n. refl) (λ n. refl))
-marker_opens marker.FixExt1 = opens_fixed _ 2 0 (tagged marker.FixExt1 1 (λ s. refl))
-marker_opens marker.FixExt2 = opens_fixed _ 3 0 (tagged marker.FixExt2 2 (λ s. refl))
-marker_opens marker.FixExt4 = opens_fixed _ 5 0 (tagged marker.FixExt4 4 (λ s. refl))
-marker_opens marker.FixExt8 = opens_fixed _ 9 0 (tagged marker.FixExt8 8 (λ s. refl))
-marker_opens marker.FixExt16 = opens_fixed _ 17 0 (tagged marker.FixExt16 16 (λ s. refl))
+marker_opens m = opens m (opening_of m) (marker_nodes m)
 
 -- by the byte itself
 pub byte_opens : (b : ℕ) → b < 256 → Opens b (opening_of (marker_of b))
 byte_opens b l = subst (λ z. Opens z (opening_of (marker_of b))) (byte_of-marker_of b l) (marker_opens (marker_of b))
+
+pub byte_nodes : (b : ℕ) → b < 256 → Nodes b (opening_of (marker_of b))
+byte_nodes b l = subst (λ z. Nodes z (opening_of (marker_of b))) (byte_of-marker_of b l) (marker_nodes (marker_of b))
 
 -- a first byte tells of few bytes and parts, and c1 alone of none
 abbrev IsFew : ℕ → Opening → Type 0

@@ -1,4 +1,5 @@
 pub mod Completing
+pub mod Cutting
 pub mod FirstByte
 pub mod Passing
 pub mod Rows

@@ -221,7 +221,7 @@ some_byte : (b : List ℕ) → 0 < length b → (x : ℕ) × (y : List ℕ) × (
 some_byte [] l = absurd (omega arith)
 some_byte (x ∷ y) l = (x, y, refl)
 
-head_byte : (h : Head) (b : List ℕ) → IsHead h b → (x : ℕ) × (y : List ℕ) × (b ≡ x ∷ y)
+pub head_byte : (h : Head) (b : List ℕ) → IsHead h b → (x : ℕ) × (y : List ℕ) × (b ≡ x ∷ y)
 head_byte h b i = some_byte b (omega (arith, canon_head_least h b i, head_some h))
 
 -- ---- and the other way round

@@ -25,14 +25,14 @@ use Rattle.rmp_scan.proofs.Stepping.{chain, same_of, messages_next, unfinished}
 
 -- ---- a message is wanted at first
 
-one_message : (bytes : List ℕ) → IsMessage bytes → SpellsSome 1 bytes
+pub one_message : (bytes : List ℕ) → IsMessage bytes → SpellsSome 1 bytes
 one_message bytes m = record {
   trees = item m.0 no_items;
   many = refl;
   spelled = record { first = bytes; second = []; is_first = m.1; is_second = refl; is_whole = sym (append-nil bytes) };
 }
 
-first_message : (ms : Msgs) (bytes : List ℕ) → count ms ≡ 1 → SpellsAll bytes ms → IsMessage bytes
+pub first_message : (ms : Msgs) (bytes : List ℕ) → count ms ≡ 1 → SpellsAll bytes ms → IsMessage bytes
 first_message no_items bytes c s = absurd (omega (arith, c))
 first_message (item m no_items) bytes c s =
     (m, subst (λ z. Spells z m) (sym (s.is_whole ∙ ap (λ z. s.first ++ z) s.is_second ∙ append-nil s.first)) s.is_first)

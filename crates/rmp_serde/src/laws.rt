@@ -2,7 +2,7 @@
 //!
 //! A caller uses a law by calling its function: what the call ensures is the law, for every argument.
 
-ghost use Rattle.std.specs.Prelude.{◌≡◌, ◌≤◌, ◌↔◌, ◌+◌, ℕ, List, ◌++◌, length, drop, Some, true};
+ghost use Rattle.std.specs.Prelude.{◌≡◌, ◌≤◌, ◌↔◌, ◌+◌, ℕ, List, ◌++◌, length, take, drop, Some, true, false};
 ghost use Rattle.std.specs.Io.KnownBytes.{Consumes};
 ghost use Rattle.rmp_wire.specs.declared.head.Head.{Head};
 ghost use Rattle.rmp_wire.specs.Heads.{IsHead, canon_head, fits_head};
@@ -12,13 +12,19 @@ ghost use Rattle.rmp_wire.specs.Msg.{Msg};
 ghost use Rattle.rmp_wire.specs.Slices.{reference_bytes, is_lent};
 ghost use Rattle.rmp_wire.specs.Spelling.{Spells, canon, Fits, IsBytes};
 ghost use Rattle.rmp_wire.specs.Types.{bytes_of, buffer_bytes, tag_of, ext_bytes};
+ghost use Rattle.rmp_decode.specs.Exact.{IsEnd};
+ghost use Rattle.rmp_decode.specs.Law.{Begins, Readable};
+ghost use Rattle.rmp_decode.specs.Refuse.{Refusal};
+ghost use Rattle.rmp_decode.specs.declared.error.Error.{Error as ReadError};
 ghost use Rattle.rmp_encode.specs.Calls.{IsSpelled, ToVecFails};
 ghost use Rattle.rmp_encode.specs.Trees.{tree_of};
 ghost use Rattle.rmp_encode.specs.declared.error.Error.{Error};
 ghost use Rattle.rmp_encode.specs.declared.error.Error.TheVariants as errors;
 ghost use Rattle.rmp_encode.specs.declared.settings.Settings.{Settings};
+ghost use Rattle.rmp_scan.specs.Scans.{IsBeginning, MessageEnds};
 ghost use Rattle.rmp_serde.specs.Places.{IsWhole, IsFault};
-ghost use Rattle.rmp_serde.specs.Read.{reads_value};
+ghost use Rattle.rmp_serde.specs.Read.{reads_value, ItemsUtf8};
+ghost use Rattle.rmp_serde.specs.Refuse.{UnreadFor};
 ghost use Rattle.rmp_serde.specs.ValueData.{value_data};
 
 use rmp_wire::{ByteBuf, Bytes, Ext, Reference};
@@ -105,4 +111,25 @@ pub fn equality<'a, 'b>()
     ensures exts { (a b : Ext) → (⟦<Ext as PartialEq>⟧.eq a b ≡ true) ↔ ((tag_of a ≡ tag_of b) × (ext_bytes a ≡ ext_bytes b)) }
     ensures references { (a b : Reference) → (⟦<Reference<'a, 'b> as PartialEq>⟧.eq a b ≡ true)
         ↔ ((is_lent a ≡ is_lent b) × (reference_bytes a ≡ reference_bytes b)) }
+{}
+
+/// A read of a `Value` from this slice meets its end only where more bytes would complete a message: where `is_incomplete` is true of its
+/// error, `message_len` of the slice is `None`. And where that is `Some`, no read of a `Value` from the slice meets its end.
+pub fn an_end_is_inside_a_message(input: &[u8])
+    ensures begins { (room : ℕ) (e : ReadError) → Refusal false (UnreadFor false) ItemsUtf8 room e input.now → IsEnd e → IsBeginning input.now }
+    ensures whole { (room n : ℕ) (e : ReadError) → Refusal false (UnreadFor false) ItemsUtf8 room e input.now → MessageEnds input.now n → IsEnd e → ⊥ }
+{
+    // The contract speaks of its bytes, each of which is below 256.
+    let _bytes = input;
+}
+
+/// Where `message_len` of an input is `Some(n)`, a read from the first n bytes gives what a read from all of them gives: each value or none,
+/// and what is read are those n bytes.
+pub fn a_message_is_read_alone()
+    ensures same { (input : List ℕ) (n room : ℕ) (v : Msg) → MessageEnds input n
+        → Begins Spells (λ m. reads_value m v) room (take n input) ↔ Begins Spells (λ m. reads_value m v) room input }
+    ensures refused { (input : List ℕ) (n room : ℕ) → MessageEnds input n
+        → Begins Spells (Readable reads_value) room (take n input) ↔ Begins Spells (Readable reads_value) room input }
+    ensures consumed { (input : List ℕ) (n : ℕ) (b r : List ℕ) (m : Msg) → MessageEnds input n → Spells b m → input ≡ b ++ r
+        → (length b ≡ n) × (b ≡ take n input) }
 {}
