@@ -3,6 +3,7 @@ ghost use Rattle.std.specs.Prelude.{◌≡◌, ◌≢◌, ◌↔◌, ◌<◌, �
 ghost use Rattle.example_records.specs.Held.{held, written, IsRecord, IsCut, is_memory};
 ghost use Rattle.rmp_wire.specs.Msg.{Msg, depth};
 ghost use Rattle.rmp_wire.specs.Spelling.{Fits};
+ghost use Rattle.rmp_decode.specs.Exact.{IsEnd};
 ghost use Rattle.rmp_encode.specs.Calls.{default_settings, ToVecFails};
 ghost use Rattle.rmp_encode.specs.Trees.{tree_of};
 ghost use Rattle.rmp_scan.specs.Scans.{IsBeginning};
@@ -69,8 +70,11 @@ pub fn next_record<'de>(alloc: Global, log: &'de [u8]) -> Result<(Value, &'de [u
         → depth m < 1024 → log.now ≡ written (m ∷ ms) ++ cut → ⊥) }
     // What is there of a cut record is no record.
     ensures cut { IfOk result (λ r. IsCut log.now → ⊥) }
+    // An error whose `is_incomplete` is true says that the log is the beginning of a message.
+    ensures incomplete { IfErr result (λ e. IsEnd e → IsBeginning log.now) }
     ensures shorter { IfOk result (λ r. length r.1.now < length log.now) }
 {
+    laws::an_end_is_inside_a_message(log);
     let mut de = Deserializer::from_read_ref(alloc, log);
     match Value::read(&mut de) {
         Ok(value) => Ok((value, de.remaining_slice())),

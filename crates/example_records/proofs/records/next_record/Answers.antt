@@ -2,6 +2,7 @@ use Rattle.std.specs.Prelude.{false}
 use Rattle.std.proofs.Common.{◌∙◌, refl, sym, subst}
 use Rattle.rmp_wire.specs.Canonical.{SpellsAs}
 use Rattle.rmp_decode.proofs.Whole.{known_left, none_begins}
+use Rattle.rmp_serde.proofs.Refusing.{first_wrong}
 use Rattle.example_records.proofs.Log.{consumed, first_back, first_begins, cut_is_none, some_taken}
 use Rattle.example_records.proofs.records.next_record.Goals as goal
 
@@ -36,3 +37,9 @@ returns-in-Ok-clause-shorter c =
     let r = law.ok in
     let front = consumed _ _ _ _ r.bytes (known_left _ _ _ d.kept d.rest) (known_left _ _ _ law.clean (sym c.remaining_slice.ensures)) r.takes in
     some_taken c.args.log.now r.bytes c.remaining_slice.result.now r.tree front (subst (λ z. SpellsAs z r.bytes r.tree) d.lenient r.spelled)
+
+pub returns-in-Err-clause-incomplete : goal.returns-in-Err-clause-incomplete
+returns-in-Err-clause-incomplete c = λ end.
+    let d = c.from_read_ref-de.ensures in
+    c.an_end_is_inside_a_message.ensures.begins 1024 c.in-Err.e
+    (first_wrong _ 1024 _ c.in-Err.e _ c.args.log.now d.room d.lenient (known_left _ _ _ d.kept d.rest) (c.in-Err.ensures.refusal d.ready refl)) end
