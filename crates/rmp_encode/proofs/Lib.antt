@@ -4,6 +4,7 @@ pub mod Going
 pub mod Keeping
 pub mod Leaves
 pub mod Lists
+pub mod Markers
 pub mod Numbers
 pub mod OpenSteps
 pub mod Packed

@@ -5,6 +5,7 @@ pub mod Errors
 pub mod Extensions
 pub mod Going
 pub mod Laws
+pub mod Markers
 pub mod Opens
 pub mod Refusals
 pub mod Ser

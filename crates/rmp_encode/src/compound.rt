@@ -42,7 +42,8 @@ impl<W: Sink, C: SerializerConfig> Serializer<W, C> {
         _name: &'static str,
         len: usize,
     ) -> Result<Compound<'_, W, C>, Error>
-        ensures* refused { sem 𝓛 (Rests W.row C.row W.Sink reference (head_at false len ∷ []) (len < 2 ^ 32) (λ all. length all ≡ len) sequence_of self.entry result) }
+        ensures* refused { sem 𝓛 (Rests W.row C.row W.Sink reference (head_at false len ∷ []) (len < 2 ^ 32)
+            (λ all. length all ≡ len) sequence_of self.entry result) }
         ensures same_reference { IfOk result (λ q. reference q ≡ self.entry.ghost_name) }
         ensures fits { OnOk result (len < 2 ^ 32) }
         ensures left { IfOk result (λ q. left_of q ≡ len) }
@@ -70,8 +71,8 @@ impl<W: Sink, C: SerializerConfig> Serializer<W, C> {
         _name: &'static str,
         len: usize,
     ) -> Result<Compound<'_, W, C>, Error>
-        ensures* refused { sem 𝓛 (Rests W.row C.row W.Sink reference (head_at (settings_of self.old).named len ∷ []) (len < 2 ^ 32) (λ fs. length fs ≡ len)
-            structure_of self.entry result) }
+        ensures* refused { sem 𝓛 (Rests W.row C.row W.Sink reference (head_at (settings_of self.old).named len ∷ []) (len < 2 ^ 32)
+            (λ fs. length fs ≡ len) structure_of self.entry result) }
         ensures same_reference { IfOk result (λ q. reference q ≡ self.entry.ghost_name) }
         ensures fits { OnOk result (len < 2 ^ 32) }
         ensures left { IfOk result (λ q. left_of q ≡ len) }

@@ -102,7 +102,8 @@ impl<W: Sink, C: SerializerConfig> Serializer<W, C> {
         &mut self,
         len: Option<usize>,
     ) -> Result<MaybeUnknownLengthCompound<'_, W, C>, Error>
-        ensures* refused { sem 𝓛 (Rests W.row C.row W.Sink reference (head_items false len) (MayOpen len) (IsLong len) sequence_of self.entry result) }
+        ensures* refused { sem 𝓛 (Rests W.row C.row W.Sink reference (head_items false len)
+            (MayOpen len) (IsLong len) sequence_of self.entry result) }
         ensures same_reference { IfOk result (λ q. reference q ≡ self.entry.ghost_name) }
         ensures kind { IfOk result (λ q. is_map q ≡ false) }
         ensures owed { IfOk result (λ q. owed q ≡ 0) }
@@ -143,7 +144,8 @@ impl<W: Sink, C: SerializerConfig> Serializer<W, C> {
         &mut self,
         len: Option<usize>,
     ) -> Result<MaybeUnknownLengthCompound<'_, W, C>, Error>
-        ensures* refused { sem 𝓛 (Rests W.row C.row W.Sink reference (head_items true len) (MayOpen len) (IsMapLong len) mapping_of self.entry result) }
+        ensures* refused { sem 𝓛 (Rests W.row C.row W.Sink reference (head_items true len)
+            (MayOpen len) (IsMapLong len) mapping_of self.entry result) }
         ensures same_reference { IfOk result (λ q. reference q ≡ self.entry.ghost_name) }
         ensures kind { IfOk result (λ q. is_map q ≡ true) }
         ensures owed { IfOk result (λ q. owed q ≡ 0) }

@@ -155,7 +155,8 @@ impl<W: Sink, C: SerializerConfig> Serializer<W, C> {
     /// `InvalidDataModel` for 2 ^ 32 elements or more, and nothing is written; otherwise those of the sink.
     #[inline(always)]
     pub fn serialize_tuple(&mut self, len: usize) -> Result<Tuple<'_, W, C>, Error>
-        ensures* refused { sem 𝓛 (Rests W.row C.row W.Sink reference (head_at false len ∷ []) (len < 2 ^ 32) (λ all. length all ≡ len) tuple_of self.entry result) }
+        ensures* refused { sem 𝓛 (Rests W.row C.row W.Sink reference (head_at false len ∷ []) (len < 2 ^ 32)
+            (λ all. length all ≡ len) tuple_of self.entry result) }
         ensures same_reference { IfOk result (λ q. reference q ≡ self.entry.ghost_name) }
         ensures fits { OnOk result (len < 2 ^ 32) }
         ensures left { IfOk result (λ q. left_of q ≡ len) }

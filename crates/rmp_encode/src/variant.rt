@@ -6,6 +6,7 @@ ghost use Rattle.rmp_wire.specs.Msg.{text};
 ghost use Rattle.rmp_wire.specs.Spelling.{canon};
 ghost use Rattle.rmp_encode.specs.Compounds.{inside, reference, left_of, has_fields, is_sound, IsFilling};
 ghost use Rattle.rmp_encode.specs.Going.{head_at, Begins, Rests};
+ghost use Rattle.rmp_encode.specs.Markers.{BeforeValue};
 ghost use Rattle.rmp_encode.specs.Refusals.{OfLength, OfParts, RefusesLength};
 ghost use Rattle.rmp_encode.specs.Ser.{sink_of, settings_of};
 ghost use Rattle.rmp_encode.specs.Trees.{tree_of, field_parts, newtype_variant_of, tuple_variant_of, map_head, struct_variant_of, variant_head, variant_items};
@@ -98,6 +99,7 @@ impl<W: Sink, C: SerializerConfig> Serializer<W, C> {
             (sink_of self.new) result }
         ensures keeps { Keeps W.Sink self.old self.new }
         ensures long { 2 ^ 32 ≤ length variant.now → RefusesLength self.old self.new result }
+        ensures marker { BeforeValue W.Sink (map_head 1 ∷ canon (text variant.now) ∷ []) (sink_of self.old) (sink_of self.new) result }
         ensures error { IfErr result (OfParts (2 ^ 32 ≤ length variant.now) (T.refuses value.now ∷ [])) }
         ensures value { OnOk result (T.is_value value.now) }
     {
@@ -120,7 +122,8 @@ impl<W: Sink, C: SerializerConfig> Serializer<W, C> {
         variant: &'static str,
         len: usize,
     ) -> Result<Compound<'_, W, C>, Error>
-        ensures* refused { sem 𝓛 (Rests W.row C.row W.Sink reference (variant_items variant.now (head_at false len)) ((length variant.now < 2 ^ 32) × (len < 2 ^ 32)) (λ all. length all ≡ len)
+        ensures* refused { sem 𝓛 (Rests W.row C.row W.Sink reference (variant_items variant.now (head_at false len))
+            ((length variant.now < 2 ^ 32) × (len < 2 ^ 32)) (λ all. length all ≡ len)
             (tuple_variant_of variant.now) self.entry result) }
         ensures same_reference { IfOk result (λ q. reference q ≡ self.entry.ghost_name) }
         ensures fits { OnOk result ((length variant.now < 2 ^ 32) × (len < 2 ^ 32)) }
@@ -154,7 +157,8 @@ impl<W: Sink, C: SerializerConfig> Serializer<W, C> {
         variant: &'static str,
         len: usize,
     ) -> Result<Compound<'_, W, C>, Error>
-        ensures* refused { sem 𝓛 (Rests W.row C.row W.Sink reference (variant_items variant.now (head_at (settings_of self.old).named len)) ((length variant.now < 2 ^ 32) × (len < 2 ^ 32)) (λ fs. length fs ≡ len)
+        ensures* refused { sem 𝓛 (Rests W.row C.row W.Sink reference (variant_items variant.now (head_at (settings_of self.old).named len))
+            ((length variant.now < 2 ^ 32) × (len < 2 ^ 32)) (λ fs. length fs ≡ len)
             (struct_variant_of variant.now) self.entry result) }
         ensures same_reference { IfOk result (λ q. reference q ≡ self.entry.ghost_name) }
         ensures fits { OnOk result ((length variant.now < 2 ^ 32) × (len < 2 ^ 32)) }

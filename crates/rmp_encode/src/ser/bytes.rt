@@ -29,7 +29,8 @@ impl Serialize for F32Bits {
         &self,
         se: &mut Serializer<W, C>,
     ) -> Result<(), Error>
-        ensures writes { WritesTree W.Sink (false || W.takes_memory) (tree_of (settings_of se.old) (Some (float32 self.now.0))) (sink_of se.old) (sink_of se.new) result }
+        ensures writes { WritesTree W.Sink (false || W.takes_memory) (tree_of (settings_of se.old) (Some (float32 self.now.0)))
+            (sink_of se.old) (sink_of se.new) result }
         ensures marker { NoneAtMarker W.Sink (sink_of se.old) (sink_of se.new) result }
         ensures keeps { Keeps W.Sink se.old se.new }
         ensures error { IfErr result OfSink }
@@ -58,7 +59,8 @@ impl Serialize for F64Bits {
         &self,
         se: &mut Serializer<W, C>,
     ) -> Result<(), Error>
-        ensures writes { WritesTree W.Sink (false || W.takes_memory) (tree_of (settings_of se.old) (Some (float64 self.now.0))) (sink_of se.old) (sink_of se.new) result }
+        ensures writes { WritesTree W.Sink (false || W.takes_memory) (tree_of (settings_of se.old) (Some (float64 self.now.0)))
+            (sink_of se.old) (sink_of se.new) result }
         ensures marker { NoneAtMarker W.Sink (sink_of se.old) (sink_of se.new) result }
         ensures keeps { Keeps W.Sink se.old se.new }
         ensures error { IfErr result OfSink }
@@ -87,7 +89,8 @@ impl Serialize for Bytes<'_> {
         &self,
         se: &mut Serializer<W, C>,
     ) -> Result<(), Error>
-        ensures writes { WritesTree W.Sink (false || W.takes_memory) (tree_of (settings_of se.old) (Some (bytes (bytes_of self.now)))) (sink_of se.old) (sink_of se.new) result }
+        ensures writes { WritesTree W.Sink (false || W.takes_memory) (tree_of (settings_of se.old) (Some (bytes (bytes_of self.now))))
+            (sink_of se.old) (sink_of se.new) result }
         ensures marker { NoneAtMarker W.Sink (sink_of se.old) (sink_of se.new) result }
         ensures keeps { Keeps W.Sink se.old se.new }
         ensures error { IfErr result (OfLength (2 ^ 32 ≤ length (bytes_of self.now))) }
@@ -117,7 +120,8 @@ impl Serialize for ByteBuf {
         &self,
         se: &mut Serializer<W, C>,
     ) -> Result<(), Error>
-        ensures writes { WritesTree W.Sink (false || W.takes_memory) (tree_of (settings_of se.old) (Some (bytes (buffer_bytes self.now)))) (sink_of se.old) (sink_of se.new) result }
+        ensures writes { WritesTree W.Sink (false || W.takes_memory) (tree_of (settings_of se.old) (Some (bytes (buffer_bytes self.now))))
+            (sink_of se.old) (sink_of se.new) result }
         ensures marker { NoneAtMarker W.Sink (sink_of se.old) (sink_of se.new) result }
         ensures keeps { Keeps W.Sink se.old se.new }
         ensures error { IfErr result (OfLength (2 ^ 32 ≤ length (buffer_bytes self.now))) }
@@ -147,7 +151,8 @@ impl Serialize for Ext {
         &self,
         se: &mut Serializer<W, C>,
     ) -> Result<(), Error>
-        ensures writes { WritesTree W.Sink (false || W.takes_memory) (tree_of (settings_of se.old) (Some (extension (tag_of self.now) (ext_bytes self.now)))) (sink_of se.old) (sink_of se.new) result }
+        ensures writes { WritesTree W.Sink (false || W.takes_memory) (tree_of (settings_of se.old) (Some (extension (tag_of self.now) (ext_bytes self.now))))
+            (sink_of se.old) (sink_of se.new) result }
         ensures marker { NoneAtMarker W.Sink (sink_of se.old) (sink_of se.new) result }
         ensures keeps { Keeps W.Sink se.old se.new }
         ensures error { IfErr result (OfLength (2 ^ 32 ≤ length (ext_bytes self.now))) }

@@ -29,7 +29,8 @@ impl Serialize for () {
         &self,
         se: &mut Serializer<W, C>,
     ) -> Result<(), Error>
-        ensures writes { WritesTree W.Sink (false || W.takes_memory) (tree_of (settings_of se.old) (Some (unit))) (sink_of se.old) (sink_of se.new) result }
+        ensures writes { WritesTree W.Sink (false || W.takes_memory) (tree_of (settings_of se.old) (Some (unit)))
+            (sink_of se.old) (sink_of se.new) result }
         ensures marker { NoneAtMarker W.Sink (sink_of se.old) (sink_of se.new) result }
         ensures keeps { Keeps W.Sink se.old se.new }
         ensures error { IfErr result OfSink }
@@ -58,7 +59,8 @@ impl Serialize for bool {
         &self,
         se: &mut Serializer<W, C>,
     ) -> Result<(), Error>
-        ensures writes { WritesTree W.Sink (false || W.takes_memory) (tree_of (settings_of se.old) (Some (truth self.now))) (sink_of se.old) (sink_of se.new) result }
+        ensures writes { WritesTree W.Sink (false || W.takes_memory) (tree_of (settings_of se.old) (Some (truth self.now)))
+            (sink_of se.old) (sink_of se.new) result }
         ensures marker { NoneAtMarker W.Sink (sink_of se.old) (sink_of se.new) result }
         ensures keeps { Keeps W.Sink se.old se.new }
         ensures error { IfErr result OfSink }
@@ -87,7 +89,8 @@ impl Serialize for u8 {
         &self,
         se: &mut Serializer<W, C>,
     ) -> Result<(), Error>
-        ensures writes { WritesTree W.Sink (false || W.takes_memory) (tree_of (settings_of se.old) (Some (byte self.now))) (sink_of se.old) (sink_of se.new) result }
+        ensures writes { WritesTree W.Sink (false || W.takes_memory) (tree_of (settings_of se.old) (Some (byte self.now)))
+            (sink_of se.old) (sink_of se.new) result }
         ensures marker { NoneAtMarker W.Sink (sink_of se.old) (sink_of se.new) result }
         ensures keeps { Keeps W.Sink se.old se.new }
         ensures error { IfErr result OfSink }
@@ -116,7 +119,8 @@ impl Serialize for u16 {
         &self,
         se: &mut Serializer<W, C>,
     ) -> Result<(), Error>
-        ensures writes { WritesTree W.Sink (false || W.takes_memory) (tree_of (settings_of se.old) (Some (whole (pos self.now)))) (sink_of se.old) (sink_of se.new) result }
+        ensures writes { WritesTree W.Sink (false || W.takes_memory) (tree_of (settings_of se.old) (Some (whole (pos self.now))))
+            (sink_of se.old) (sink_of se.new) result }
         ensures marker { NoneAtMarker W.Sink (sink_of se.old) (sink_of se.new) result }
         ensures keeps { Keeps W.Sink se.old se.new }
         ensures error { IfErr result OfSink }
@@ -145,7 +149,8 @@ impl Serialize for u32 {
         &self,
         se: &mut Serializer<W, C>,
     ) -> Result<(), Error>
-        ensures writes { WritesTree W.Sink (false || W.takes_memory) (tree_of (settings_of se.old) (Some (whole (pos self.now)))) (sink_of se.old) (sink_of se.new) result }
+        ensures writes { WritesTree W.Sink (false || W.takes_memory) (tree_of (settings_of se.old) (Some (whole (pos self.now))))
+            (sink_of se.old) (sink_of se.new) result }
         ensures marker { NoneAtMarker W.Sink (sink_of se.old) (sink_of se.new) result }
         ensures keeps { Keeps W.Sink se.old se.new }
         ensures error { IfErr result OfSink }
@@ -174,7 +179,8 @@ impl Serialize for u64 {
         &self,
         se: &mut Serializer<W, C>,
     ) -> Result<(), Error>
-        ensures writes { WritesTree W.Sink (false || W.takes_memory) (tree_of (settings_of se.old) (Some (whole (pos self.now)))) (sink_of se.old) (sink_of se.new) result }
+        ensures writes { WritesTree W.Sink (false || W.takes_memory) (tree_of (settings_of se.old) (Some (whole (pos self.now))))
+            (sink_of se.old) (sink_of se.new) result }
         ensures marker { NoneAtMarker W.Sink (sink_of se.old) (sink_of se.new) result }
         ensures keeps { Keeps W.Sink se.old se.new }
         ensures error { IfErr result OfSink }
@@ -203,7 +209,8 @@ impl Serialize for usize {
         &self,
         se: &mut Serializer<W, C>,
     ) -> Result<(), Error>
-        ensures writes { WritesTree W.Sink (false || W.takes_memory) (tree_of (settings_of se.old) (Some (whole (pos self.now)))) (sink_of se.old) (sink_of se.new) result }
+        ensures writes { WritesTree W.Sink (false || W.takes_memory) (tree_of (settings_of se.old) (Some (whole (pos self.now))))
+            (sink_of se.old) (sink_of se.new) result }
         ensures marker { NoneAtMarker W.Sink (sink_of se.old) (sink_of se.new) result }
         ensures keeps { Keeps W.Sink se.old se.new }
         ensures error { IfErr result OfSink }
@@ -232,7 +239,8 @@ impl Serialize for i8 {
         &self,
         se: &mut Serializer<W, C>,
     ) -> Result<(), Error>
-        ensures writes { WritesTree W.Sink (false || W.takes_memory) (tree_of (settings_of se.old) (Some (whole self.now))) (sink_of se.old) (sink_of se.new) result }
+        ensures writes { WritesTree W.Sink (false || W.takes_memory) (tree_of (settings_of se.old) (Some (whole self.now)))
+            (sink_of se.old) (sink_of se.new) result }
         ensures marker { NoneAtMarker W.Sink (sink_of se.old) (sink_of se.new) result }
         ensures keeps { Keeps W.Sink se.old se.new }
         ensures error { IfErr result OfSink }
@@ -261,7 +269,8 @@ impl Serialize for i16 {
         &self,
         se: &mut Serializer<W, C>,
     ) -> Result<(), Error>
-        ensures writes { WritesTree W.Sink (false || W.takes_memory) (tree_of (settings_of se.old) (Some (whole self.now))) (sink_of se.old) (sink_of se.new) result }
+        ensures writes { WritesTree W.Sink (false || W.takes_memory) (tree_of (settings_of se.old) (Some (whole self.now)))
+            (sink_of se.old) (sink_of se.new) result }
         ensures marker { NoneAtMarker W.Sink (sink_of se.old) (sink_of se.new) result }
         ensures keeps { Keeps W.Sink se.old se.new }
         ensures error { IfErr result OfSink }
@@ -290,7 +299,8 @@ impl Serialize for i32 {
         &self,
         se: &mut Serializer<W, C>,
     ) -> Result<(), Error>
-        ensures writes { WritesTree W.Sink (false || W.takes_memory) (tree_of (settings_of se.old) (Some (whole self.now))) (sink_of se.old) (sink_of se.new) result }
+        ensures writes { WritesTree W.Sink (false || W.takes_memory) (tree_of (settings_of se.old) (Some (whole self.now)))
+            (sink_of se.old) (sink_of se.new) result }
         ensures marker { NoneAtMarker W.Sink (sink_of se.old) (sink_of se.new) result }
         ensures keeps { Keeps W.Sink se.old se.new }
         ensures error { IfErr result OfSink }
@@ -319,7 +329,8 @@ impl Serialize for i64 {
         &self,
         se: &mut Serializer<W, C>,
     ) -> Result<(), Error>
-        ensures writes { WritesTree W.Sink (false || W.takes_memory) (tree_of (settings_of se.old) (Some (whole self.now))) (sink_of se.old) (sink_of se.new) result }
+        ensures writes { WritesTree W.Sink (false || W.takes_memory) (tree_of (settings_of se.old) (Some (whole self.now)))
+            (sink_of se.old) (sink_of se.new) result }
         ensures marker { NoneAtMarker W.Sink (sink_of se.old) (sink_of se.new) result }
         ensures keeps { Keeps W.Sink se.old se.new }
         ensures error { IfErr result OfSink }
@@ -348,7 +359,8 @@ impl Serialize for isize {
         &self,
         se: &mut Serializer<W, C>,
     ) -> Result<(), Error>
-        ensures writes { WritesTree W.Sink (false || W.takes_memory) (tree_of (settings_of se.old) (Some (whole self.now))) (sink_of se.old) (sink_of se.new) result }
+        ensures writes { WritesTree W.Sink (false || W.takes_memory) (tree_of (settings_of se.old) (Some (whole self.now)))
+            (sink_of se.old) (sink_of se.new) result }
         ensures marker { NoneAtMarker W.Sink (sink_of se.old) (sink_of se.new) result }
         ensures keeps { Keeps W.Sink se.old se.new }
         ensures error { IfErr result OfSink }

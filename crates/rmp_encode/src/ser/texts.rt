@@ -29,7 +29,8 @@ impl Serialize for char {
         &self,
         se: &mut Serializer<W, C>,
     ) -> Result<(), Error>
-        ensures writes { WritesTree W.Sink (false || W.takes_memory) (tree_of (settings_of se.old) (Some (char self.now))) (sink_of se.old) (sink_of se.new) result }
+        ensures writes { WritesTree W.Sink (false || W.takes_memory) (tree_of (settings_of se.old) (Some (char self.now)))
+            (sink_of se.old) (sink_of se.new) result }
         ensures marker { NoneAtMarker W.Sink (sink_of se.old) (sink_of se.new) result }
         ensures keeps { Keeps W.Sink se.old se.new }
         ensures error { IfErr result OfSink }
@@ -58,7 +59,8 @@ impl Serialize for String {
         &self,
         se: &mut Serializer<W, C>,
     ) -> Result<(), Error>
-        ensures writes { WritesTree W.Sink (false || W.takes_memory) (tree_of (settings_of se.old) (Some (text (string_bytes self.now)))) (sink_of se.old) (sink_of se.new) result }
+        ensures writes { WritesTree W.Sink (false || W.takes_memory) (tree_of (settings_of se.old) (Some (text (string_bytes self.now))))
+            (sink_of se.old) (sink_of se.new) result }
         ensures marker { NoneAtMarker W.Sink (sink_of se.old) (sink_of se.new) result }
         ensures keeps { Keeps W.Sink se.old se.new }
         ensures error { IfErr result (OfLength (2 ^ 32 ≤ length (string_bytes self.now))) }
@@ -88,7 +90,8 @@ impl Serialize for &str {
         &self,
         se: &mut Serializer<W, C>,
     ) -> Result<(), Error>
-        ensures writes { WritesTree W.Sink (false || W.takes_memory) (tree_of (settings_of se.old) (Some (text self.now.now))) (sink_of se.old) (sink_of se.new) result }
+        ensures writes { WritesTree W.Sink (false || W.takes_memory) (tree_of (settings_of se.old) (Some (text self.now.now)))
+            (sink_of se.old) (sink_of se.new) result }
         ensures marker { NoneAtMarker W.Sink (sink_of se.old) (sink_of se.new) result }
         ensures keeps { Keeps W.Sink se.old se.new }
         ensures error { IfErr result (OfLength (2 ^ 32 ≤ length self.now.now)) }

@@ -29,7 +29,8 @@ impl Serialize for u128 {
         &self,
         se: &mut Serializer<W, C>,
     ) -> Result<(), Error>
-        ensures writes { WritesTree W.Sink (false || W.takes_memory) (tree_of (settings_of se.old) (Some (unsigned128 self.now))) (sink_of se.old) (sink_of se.new) result }
+        ensures writes { WritesTree W.Sink (false || W.takes_memory) (tree_of (settings_of se.old) (Some (unsigned128 self.now)))
+            (sink_of se.old) (sink_of se.new) result }
         ensures marker { NoneAtMarker W.Sink (sink_of se.old) (sink_of se.new) result }
         ensures keeps { Keeps W.Sink se.old se.new }
         ensures error { IfErr result OfSink }
@@ -58,7 +59,8 @@ impl Serialize for i128 {
         &self,
         se: &mut Serializer<W, C>,
     ) -> Result<(), Error>
-        ensures writes { WritesTree W.Sink (false || W.takes_memory) (tree_of (settings_of se.old) (Some (signed128 self.now))) (sink_of se.old) (sink_of se.new) result }
+        ensures writes { WritesTree W.Sink (false || W.takes_memory) (tree_of (settings_of se.old) (Some (signed128 self.now)))
+            (sink_of se.old) (sink_of se.new) result }
         ensures marker { NoneAtMarker W.Sink (sink_of se.old) (sink_of se.new) result }
         ensures keeps { Keeps W.Sink se.old se.new }
         ensures error { IfErr result OfSink }

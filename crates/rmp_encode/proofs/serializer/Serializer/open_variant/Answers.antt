@@ -82,7 +82,8 @@ returns-in_err-fits_u32-clause-long g c = λ none.
 pub returns-in_err-put_variant-clause-marker : goal.returns-in_err-put_variant-clause-marker
 returns-in_err-put_variant-clause-marker g c =
     let p = err_from_is_err_and c.from_residual-in_err-put_variant.result c.from_residual-in_err-put_variant.ensures.1 in
-    rw (p.1, p.2) (marker_more g.W.Sink _ (head_at c.args.pairs c.args.len ∷ []) (sink_of c.args.self.now) (sink_of c.put_variant.new.self) c.in_err-put_variant.field-0.0 c.in_err-put_variant.ensures.marker)
+    rw (p.1, p.2) (marker_more g.W.Sink _ (head_at c.args.pairs c.args.len ∷ []) (sink_of c.args.self.now) (sink_of c.put_variant.new.self)
+    c.in_err-put_variant.field-0.0 c.in_err-put_variant.ensures.marker)
 
 pub returns-clause-marker : goal.returns-clause-marker
 returns-clause-marker g c = marker_last g.W.Sink _ _ _ _ c.put_head.result c.in_ok-put_variant.ensures.writes

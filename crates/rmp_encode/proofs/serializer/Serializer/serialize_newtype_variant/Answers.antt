@@ -7,6 +7,8 @@ use Rattle.rmp_encode.proofs.Leaves.{bytes_from}
 use Rattle.rmp_encode.proofs.Parts.{part_or}
 use Rattle.rmp_encode.proofs.Variants.{made_newtype, last_written}
 use Rattle.rmp_encode.proofs.Refusals.{of_cause, of_long, of_sink, on_part, refuses_length}
+use Rattle.rmp_encode.proofs.Markers.{after_both, before_first, before_long}
+use Rattle.rmp_encode.specs.Ser.{sink_of}
 use Rattle.rmp_encode.proofs.serializer.Serializer.serialize_newtype_variant.Goals as goal
 
 pub returns-in_err-fits_u32-clause-writes : goal.returns-in_err-fits_u32-clause-writes
@@ -51,3 +53,17 @@ returns-in_err-put_variant-clause-error g c =
 
 pub returns-clause-error : goal.returns-clause-error
 returns-clause-error g c = on_part _ (g.T.Serialize.refuses c.args.value.now) c.serialize.result c.serialize.ensures.error
+
+pub returns-in_err-fits_u32-clause-marker : goal.returns-in_err-fits_u32-clause-marker
+returns-in_err-fits_u32-clause-marker g c =
+    let p = err_from_is_err_and c.from_residual.result c.from_residual.ensures.1 in
+    rw (p.1, p.2) (before_long g.W.Sink _ (sink_of c.args.self.now) (sink_of c.args.self.now) c.in_err-fits_u32.field-0.0 c.in_err-fits_u32.ensures.refused)
+
+pub returns-in_err-put_variant-clause-marker : goal.returns-in_err-put_variant-clause-marker
+returns-in_err-put_variant-clause-marker g c =
+    let p = err_from_is_err_and c.from_residual-in_err-put_variant.result c.from_residual-in_err-put_variant.ensures.1 in
+    rw (p.1, p.2) (before_first g.W.Sink _ (sink_of c.args.self.now) (sink_of c.put_variant.new.self) c.in_err-put_variant.field-0.0
+    c.in_err-put_variant.ensures.marker)
+
+pub returns-clause-marker : goal.returns-clause-marker
+returns-clause-marker g c = after_both g.W.Sink _ _ _ c.serialize.result c.in_ok-put_variant.ensures.writes c.serialize.ensures.writes.front

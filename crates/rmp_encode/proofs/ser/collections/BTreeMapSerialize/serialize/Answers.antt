@@ -107,11 +107,17 @@ returns-in_err-put_len-clause-long g c = λ le.
 pub returns-in_err-serialize-clause-error : goal.returns-in_err-serialize-clause-error
 returns-in_err-serialize-clause-error g c =
     let p = err_from_is_err_and c.from_residual-in_err-serialize.result c.from_residual-in_err-serialize.ensures.1 in
-    rw (p.1, p.2) (inr (c.loop-key.invariant.among c.in_err-serialize.field-0.0 (subst (Any (λ x. g.K.Serialize.refuses x.0 c.in_err-serialize.field-0.0 ⊎ g.V.Serialize.refuses x.1 c.in_err-serialize.field-0.0)) (sym c.in-Some.ensures.steps)
-    (any_head (λ x. g.K.Serialize.refuses x.0 c.in_err-serialize.field-0.0 ⊎ g.V.Serialize.refuses x.1 c.in_err-serialize.field-0.0) (c.in-Some.key.now, c.in-Some.value.now) _ (inl c.in_err-serialize.ensures.error)))))
+    rw (p.1, p.2) (inr (c.loop-key.invariant.among c.in_err-serialize.field-0.0
+    (subst (Any (λ x. g.K.Serialize.refuses x.0 c.in_err-serialize.field-0.0 ⊎ g.V.Serialize.refuses x.1 c.in_err-serialize.field-0.0))
+    (sym c.in-Some.ensures.steps)
+    (any_head (λ x. g.K.Serialize.refuses x.0 c.in_err-serialize.field-0.0 ⊎ g.V.Serialize.refuses x.1 c.in_err-serialize.field-0.0)
+    (c.in-Some.key.now, c.in-Some.value.now) _ (inl c.in_err-serialize.ensures.error)))))
 
 pub returns-in_err-serialize-2-clause-error : goal.returns-in_err-serialize-2-clause-error
 returns-in_err-serialize-2-clause-error g c =
     let p = err_from_is_err_and c.from_residual-in_err-serialize-2.result c.from_residual-in_err-serialize-2.ensures.1 in
-    rw (p.1, p.2) (inr (c.loop-key.invariant.among c.in_err-serialize-2.field-0.0 (subst (Any (λ x. g.K.Serialize.refuses x.0 c.in_err-serialize-2.field-0.0 ⊎ g.V.Serialize.refuses x.1 c.in_err-serialize-2.field-0.0)) (sym c.in-Some.ensures.steps)
-    (any_head (λ x. g.K.Serialize.refuses x.0 c.in_err-serialize-2.field-0.0 ⊎ g.V.Serialize.refuses x.1 c.in_err-serialize-2.field-0.0) (c.in-Some.key.now, c.in-Some.value.now) _ (inr c.in_err-serialize-2.ensures.error)))))
+    rw (p.1, p.2) (inr (c.loop-key.invariant.among c.in_err-serialize-2.field-0.0
+    (subst (Any (λ x. g.K.Serialize.refuses x.0 c.in_err-serialize-2.field-0.0 ⊎ g.V.Serialize.refuses x.1 c.in_err-serialize-2.field-0.0))
+    (sym c.in-Some.ensures.steps)
+    (any_head (λ x. g.K.Serialize.refuses x.0 c.in_err-serialize-2.field-0.0 ⊎ g.V.Serialize.refuses x.1 c.in_err-serialize-2.field-0.0)
+    (c.in-Some.key.now, c.in-Some.value.now) _ (inr c.in_err-serialize-2.ensures.error)))))
