@@ -1,6 +1,6 @@
 -- The text of lists and maps that are printed part by part.
 use Rattle.std.proofs.Common.{rules, arith, ◌≡◌, ◌≢◌, ℕ, suc, ◌+◌, ◌*◌, ◌<◌, List, [], ◌∷◌, ◌++◌, length, refl, sym, ap, ◌∙◌, append-nil, append_assoc}
-use Rattle.std.specs.Prelude.{codes, true, false}
+use Rattle.std.specs.Prelude.{codes, true, false, Option, None, Some}
 use Rattle.std.proofs.Output.{has_written_append}
 use Rattle.std.proofs.lemmas.List.{length-append}
 use Rattle.std.specs.Fmt.{HasWritten}
@@ -32,7 +32,7 @@ use Rattle.rmp_serde.specs.PartsLeft.{parts_left}
 use Rattle.rmp_serde.specs.Tokens.{tokens, tokens_all, tokens_pairs, flat_pairs}
 use Rattle.rmp_serde.specs.declared.value.text.Open.{Open}
 use Rattle.rmp_serde.specs.declared.value.text.Sign.TheVariants.{Nothing, Comma}
-use Rattle.rmp_serde.specs.OpenParts.{head_text, sign_text, next_sign, bracket_of, text_left, texts_left, heads_among, turns_left, WritesToward}
+use Rattle.rmp_serde.specs.OpenParts.{head_text, sign_text, next_sign, bracket_of, text_left, texts_left, heads_among, turns_left, WritesToward, Begins}
 use Rattle.rmp_serde.specs.TreeText.{tree_text, with_commas, item_texts, pair_texts}
 
 -- ---- the innermost is last
@@ -158,23 +158,17 @@ begun took f g front all os o {after} put pushed is =
           ∙ ap (λ s. s ++ outer) (sym is);
     }
 
--- a message that has no parts is whole with its head
-pub leaf_put : {W : Type 0} (took : W → List ℕ → W → Type 0) (f g : Formatter W) (m : Msg) (os : List Open) → kind_of m ≢ ListKind → kind_of m ≢ MapKind
-    → HasWritten took f (head_text (head_of m) (content_of m)) g → WritesToward took f os (tree_text m) os g
-leaf_put took f g m os no_list no_map put = record {
-  text = head_text (head_of m) (content_of m);
-  written = put;
-  whole = ap (λ s. s ++ texts_left os) (sym (leaf_text m no_list no_map));
-}
-
-pub leaf_turns : (m : Msg) (os : List Open) → turns_left os < turns_left os + 2 * length (tokens m)
-leaf_turns m os = omega (arith, heads_of m)
-
 pub begun_turns : (m : Msg) (os : List Open) (o : Open) {after : List Open} → after ≡ os ++ (o ∷ []) → parts_left o.parts ≡ parts_in_turn m
     → turns_left after < turns_left os + 2 * length (tokens m)
 begun_turns m os o {after} pushed is =
     let turns : turns_left after ≡ suc (2 * heads_among (parts_left o.parts)) + turns_left os = ap turns_left pushed ∙ turns_push os o in
     omega (arith, turns, ap heads_among is, heads_of m)
+
+-- what is begun, and isn't open, is whole
+pub none_begun : {W : Type 0} (took : W → List ℕ → W → Type 0) (f g : Formatter W) (m : Msg) (b : Option Open) → ((o : Open) → b ≡ Some o → ⊥)
+    → Begins took f m b g → HasWritten took f (tree_text m) g
+none_begun took f g m None none put = put
+none_begun took f g m (Some o) none put = absurd (none o refl)
 
 -- a part was written after its sign, and begun
 pub turn_put : {W : Type 0} (took : W → List ℕ → W → Type 0) (old mid signed new : Formatter W) (all : List ℕ) (os : List Open) (o o' : Open) (m : Msg)
@@ -204,6 +198,31 @@ turn_smaller os o o' m {held} {pushed} {n} last parts again less =
     let before : turns_left held ≡ suc (2 * heads_among (parts_left o.parts)) + turns_left os = ap turns_left last ∙ turns_push os o in
     let behind : turns_left pushed ≡ suc (2 * heads_among (parts_left o'.parts)) + turns_left os = ap turns_left again ∙ turns_push os o' in
     omega (arith, before, behind, ap heads_among parts, less)
+
+-- a part was written that isn't open
+pub leaf_turn : {W : Type 0} (took : W → List ℕ → W → Type 0) (old mid signed new : Formatter W) (all : List ℕ) (os : List Open) (o o' : Open) (m : Msg)
+    → WritesToward took old [] all (os ++ (o ∷ [])) mid → parts_left o.parts ≡ m ∷ parts_left o'.parts → o'.is_map ≡ o.is_map
+    → o'.sign ≡ next_sign o.is_map o.sign → HasWritten took mid (sign_text o.sign) signed → HasWritten took signed (tree_text m) new
+    → WritesToward took old [] all (os ++ (o' ∷ [])) new
+leaf_turn took old mid signed new all os o o' m before parts is_map sign put again =
+    turn_put took old mid signed new all os o o' m before refl parts is_map sign put refl (record { text = tree_text m; written = again; whole = refl })
+
+pub leaf_smaller : (os : List Open) (o o' : Open) (m : Msg) → parts_left o.parts ≡ m ∷ parts_left o'.parts
+    → turns_left (os ++ (o' ∷ [])) < turns_left (os ++ (o ∷ []))
+leaf_smaller os o o' m parts = turn_smaller os o o' m refl parts refl (omega (arith, heads_of m))
+
+-- a list or a map was begun, and is open
+pub part_turn : {W : Type 0} (took : W → List ℕ → W → Type 0) (old mid signed new : Formatter W) (all : List ℕ) (os : List Open) (o o' i : Open) (m : Msg)
+    → WritesToward took old [] all (os ++ (o ∷ [])) mid → parts_left o.parts ≡ m ∷ parts_left o'.parts → o'.is_map ≡ o.is_map
+    → o'.sign ≡ next_sign o.is_map o.sign → HasWritten took mid (sign_text o.sign) signed → Begins took signed m (Some i) new
+    → WritesToward took old [] all ((os ++ (o' ∷ [])) ++ (i ∷ [])) new
+part_turn took old mid signed new all os o o' i m before parts is_map sign put begins =
+    turn_put took old mid signed new all os o o' m before refl parts is_map sign put refl
+    (begun took signed new begins.text (tree_text m) (os ++ (o' ∷ [])) i begins.written refl begins.whole)
+
+pub part_smaller : (os : List Open) (o o' i : Open) (m : Msg) → parts_left o.parts ≡ m ∷ parts_left o'.parts → parts_left i.parts ≡ parts_in_turn m
+    → turns_left ((os ++ (o' ∷ [])) ++ (i ∷ [])) < turns_left (os ++ (o ∷ []))
+part_smaller os o o' i m parts is = turn_smaller os o o' m refl parts refl (begun_turns m (os ++ (o' ∷ [])) i refl is)
 
 -- no part is left, and the bracket was put
 pub bracket_put : {W : Type 0} (took : W → List ℕ → W → Type 0) (old mid new : Formatter W) (all : List ℕ) (os : List Open) (o : Open) {held : List Open}

@@ -1,5 +1,5 @@
 -- The lists and maps whose text isn't complete, and what remains of it.
-use Rattle.std.specs.Prelude.{◌≡◌, ℕ, suc, ◌+◌, ◌*◌, Bool, true, false, List, [], ◌∷◌, ◌++◌, length, codes}
+use Rattle.std.specs.Prelude.{◌≡◌, ℕ, suc, ◌+◌, ◌*◌, Bool, true, false, List, [], ◌∷◌, ◌++◌, length, codes, Option, None, Some}
 use Rattle.std.specs.Fmt.{HasWritten, signed_decimal}
 use Rattle.std.specs.declared.fmt.Formatter.{Formatter}
 use Rattle.std.specs.Int.{to_be_bytes, w32, w64}
@@ -70,3 +70,14 @@ pub record WritesToward {W : Type 0} (took : W → List ℕ → W → Type 0) (o
   pub text : List ℕ
   pub written : HasWritten took old text new
   pub whole : text ++ texts_left after ≡ wanted ++ texts_left before
+
+-- The beginning of a message's text was written, up to its parts, which remain.
+pub record BeginsParts {W : Type 0} (took : W → List ℕ → W → Type 0) (old : Formatter W) (m : Msg) (o : Open) (new : Formatter W) : Type 0 where
+  pub text : List ℕ
+  pub written : HasWritten took old text new
+  pub whole : tree_text m ≡ text ++ text_left o.is_map o.sign (parts_left o.parts)
+
+-- a message's text was written, or that of a list or a map up to its parts
+abbrev pub Begins : {W : Type 0} → (W → List ℕ → W → Type 0) → Formatter W → Msg → Option Open → Formatter W → Type 0
+Begins took old m None new = HasWritten took old (tree_text m) new
+Begins took old m (Some o) new = BeginsParts took old m o new

@@ -1,17 +1,17 @@
 //! A message as text.
-ghost use Rattle.std.specs.Prelude.{◌≡◌, ◌≤◌, ◌<◌, ◌+◌, ◌*◌, ◌++◌, ◌∷◌, [], length, IsOk, OnOk};
+ghost use Rattle.std.specs.Prelude.{◌≡◌, ◌≤◌, ◌++◌, ◌∷◌, [], length, IfOk, IfSome, OnOk};
 ghost use Rattle.std.specs.Fmt.{IsPlainFormatter, WritesOnOk};
 ghost use Rattle.hex.specs.Hex.{encode_lower};
 ghost use Rattle.rmp_wire.specs.Spelling.{head_of};
-ghost use Rattle.rmp_serde.specs.OpenParts.{head_text, sign_text, next_sign, turns_left, WritesToward};
-ghost use Rattle.rmp_serde.specs.Parts.{tree, content_of};
-ghost use Rattle.rmp_serde.specs.Tokens.{tokens};
+ghost use Rattle.rmp_serde.specs.OpenParts.{head_text, sign_text, next_sign, Begins};
+ghost use Rattle.rmp_serde.specs.Parts.{tree, content_of, parts_in_turn};
+ghost use Rattle.rmp_serde.specs.PartsLeft.{parts_left};
 ghost use Rattle.rmp_serde.specs.TreeText.{tree_text};
 
 use crate::value::flat::Node;
 use crate::value::{Kind, Parts, Value, ValueRef};
 use std::alloc::AllocError;
-use std::{fmt, str};
+use std::{fmt, mem, str};
 
 // The number of bytes that are turned into hex digits at a time.
 const BLOCK: usize = 64;
@@ -47,24 +47,34 @@ impl fmt::Debug for ValueRef<'_> {
     }
 }
 
-// Writes the text of a message.
+// Writes the text of a message. The innermost list or map that is open isn't in the vector, so that a message in which none
+// contains another allocates nothing.
 fn write_tree<W: fmt::Write>(f: &mut fmt::Formatter<W>, value: ValueRef<'_>) -> fmt::Result
     ensures writes { WritesOnOk W.write_str_gives f.old result (tree_text (tree value.entry)) f.new }
 {
-    let mut unclosed = Vec::new(value.alloc());
-    begin(f, &mut unclosed, value)?;
-    while let Some(mut last) = unclosed.pop() {
+    let Some(first) = begin(f, value)? else {
+        return Ok(());
+    };
+    let mut last = first;
+    let mut around = Vec::new(value.alloc());
+    'parts: loop {
         match last.parts.next() {
             Some(part) => {
                 last.sign.write(f)?;
                 last.sign = last.sign.next(last.is_map);
-                put_last(&mut unclosed, last)?;
-                begin(f, &mut unclosed, part)?;
+                if let Some(inner) = begin(f, part)? {
+                    put_last(&mut around, mem::replace(&mut last, inner))?;
+                }
             }
-            None => f.write_str(if last.is_map { "}" } else { "]" })?,
+            None => {
+                f.write_str(if last.is_map { "}" } else { "]" })?;
+                match around.pop() {
+                    Some(outer) => last = outer,
+                    None => return Ok(()),
+                }
+            }
         }
     }
-    Ok(())
 }
 
 // The punctuation before a part.
@@ -107,40 +117,34 @@ struct Open<'a> {
 }
 
 // Adds a list or map. The innermost is last.
-fn put_last<'a>(unclosed: &mut Vec<Open<'a>>, last: Open<'a>) -> Result<(), AllocError>
-    ensures last { OnOk result (unclosed.new.items ≡ unclosed.old.items ++ last.entry ∷ []) }
+fn put_last<'a>(around: &mut Vec<Open<'a>>, last: Open<'a>) -> Result<(), AllocError>
+    ensures last { OnOk result (around.new.items ≡ around.old.items ++ last.entry ∷ []) }
 {
-    unclosed.push(last)?;
+    around.push(last)?;
     Ok(())
 }
 
-// Writes the start of a message's text. A message without parts is complete then; a list or a map has its
-// bracket, and is open.
+// Writes the start of a message's text. A message without parts is complete then; of a list or a map it is the bracket, and the
+// parts are returned.
 #[inline(always)]
 fn begin<'a, W: fmt::Write>(
     f: &mut fmt::Formatter<W>,
-    unclosed: &mut Vec<Open<'a>>,
     value: ValueRef<'a>,
-) -> fmt::Result
-    ensures text { IsPlainFormatter f.old → IsOk result
-        → WritesToward W.write_str_gives f.old unclosed.old.items (tree_text (tree value.entry)) unclosed.new.items f.new }
-    ensures less { OnOk result (turns_left unclosed.new.items < turns_left unclosed.old.items + 2 * length (tokens (tree value.entry))) }
+) -> Result<Option<Open<'a>>, fmt::Error>
+    ensures text { IsPlainFormatter f.old → IfOk result (λ begun. Begins W.write_str_gives f.old (tree value.entry) begun f.new) }
+    ensures parts { IfOk result (λ begun. IfSome begun (λ o. parts_left o.parts ≡ parts_in_turn (tree value.entry))) }
 {
     write_head(f, value)?;
     let is_map = match value.kind() {
         Kind::List => false,
         Kind::Map => true,
-        _ => return Ok(()),
+        _ => return Ok(None),
     };
-    put_last(
-        unclosed,
-        Open {
-            parts: value.parts(),
-            is_map,
-            sign: Sign::Nothing,
-        },
-    )?;
-    Ok(())
+    Ok(Some(Open {
+        parts: value.parts(),
+        is_map,
+        sign: Sign::Nothing,
+    }))
 }
 
 // Writes the text of a message without parts, or the opening bracket of a list or a map.
