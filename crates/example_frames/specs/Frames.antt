@@ -4,6 +4,7 @@ use Rattle.std.specs.Int.{w32, to_be_bytes}
 use Rattle.rmp_wire.specs.Msg.{Msg, whole, text, list, map, no_items, item, no_pairs, pair, depth}
 use Rattle.rmp_wire.specs.Spelling.{canon, Fits, Spells}
 use Rattle.rmp_decode.specs.Law.{Begins, Readable}
+use Rattle.rmp_decode.specs.declared.error.Error.{Error}
 use Rattle.rmp_decode.specs.declared.error.Error.TheVariants.{OutOfMemory}
 use Rattle.rmp_serde.specs.Read.{AllTextsUtf8}
 use Rattle.example_frames.specs.declared.frames.Refusal.{Refusal}
@@ -58,11 +59,15 @@ StopsFor limit bytes (TooLong n) = (rest : List ℕ) × SaysLength n rest bytes 
 StopsFor limit bytes (NotRequest e) = ⊥
 StopsFor limit bytes Longer = ⊥
 
+-- unless memory ran out, no prefix of the bytes encodes a message that nests below 16 and is read as a request
+abbrev pub NoneFor : {V : Type 0} → (Msg → V → Type 0) → List ℕ → Error → Type 0
+NoneFor reads bytes e = e ≢ OutOfMemory → Begins Spells (Readable reads) 16 bytes → ⊥
+
 -- why the content of a frame isn't a request
 abbrev pub WrongFor : {V : Type 0} → (Msg → V → Type 0) → List ℕ → Refusal → Type 0
 WrongFor reads body Cut = ⊥
 WrongFor reads body (TooLong n) = ⊥
-WrongFor reads body (NotRequest e) = e ≢ OutOfMemory → Begins Spells (Readable reads) 16 body → ⊥
+WrongFor reads body (NotRequest e) = NoneFor reads body e
 WrongFor reads body Longer = (more : List ℕ) × (more ≢ []) × Asks (Readable reads) more body
 
 -- Why the bytes are refused: the content of a frame past the limit isn't looked at.

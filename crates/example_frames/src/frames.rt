@@ -1,6 +1,6 @@
 //! Frames: written, and read from peers that aren't trusted.
 ghost use Rattle.std.specs.Prelude.{◌≡◌, Some, ◌≢◌, ◌≤◌, ◌<◌, ◌+◌, ◌++◌, List, ℕ, false, true, length, IfOk, IfErr, [], ◌∷◌};
-ghost use Rattle.example_frames.specs.Frames.{SaysLength, message_of, IsFrame, Asks, Taken, RefusedFor, StopsFor, WrongFor};
+ghost use Rattle.example_frames.specs.Frames.{SaysLength, message_of, IsFrame, Asks, Taken, NoneFor, RefusedFor, StopsFor, WrongFor};
 ghost use Rattle.example_frames.specs.declared.frames.Refusal.TheVariants as refusal;
 ghost use Rattle.rmp_decode.specs.declared.error.Error.TheVariants.{OutOfMemory};
 ghost use Rattle.rmp_encode.specs.Calls.{default_settings};
@@ -87,13 +87,13 @@ pub fn next_request<'de>(
 }
 
 // What a request is written as.
-fn written_as()
+pub(crate) fn written_as()
     ensures tree { (r : Request) → tree_of default_settings (⟦<Request as Serialize>⟧.data_of r false) ≡ Some (message_of r) }
     ensures texts { (r : Request) → ⟦<Request as Serialize>⟧.is_value r → AllTextsUtf8 (message_of r) }
 {}
 
 // What is read of that message: the request, and no other.
-fn read_as<'de>()
+pub(crate) fn read_as<'de>()
     ensures reads { (r : Request) → Fits (message_of r) → AllTextsUtf8 (message_of r)
         → ⟦<Request as Deserialize<'de, ReadRefReader<'de>>>⟧.reads false true (message_of r) r }
     ensures one { (r s : Request) → ⟦<Request as Deserialize<'de, ReadRefReader<'de>>>⟧.reads false true (message_of r) s → s ≡ r }
@@ -122,16 +122,30 @@ fn request_in<'de>(alloc: Global, body: &'de [u8]) -> Result<Request, Refusal>
     ensures ok { IfOk result (λ r. Asks (λ m. ⟦<Request as Deserialize<'de, ReadRefReader<'de>>>⟧.reads false true m r) [] body.now) }
     ensures err { IfErr result (WrongFor (⟦<Request as Deserialize<'de, ReadRefReader<'de>>>⟧.reads false true) body.now) }
 {
-    let mut de = Deserializer::from_read_ref(alloc, body);
-    de.set_max_depth(MAX_DEPTH);
-    match Request::deserialize(&mut de) {
-        Ok(request) => {
-            if de.remaining_slice().is_empty() {
+    match first_request(alloc, body) {
+        Ok((request, rest)) => {
+            if rest.is_empty() {
                 Ok(request)
             } else {
                 Err(Refusal::Longer)
             }
         }
         Err(e) => Err(Refusal::NotRequest(e)),
+    }
+}
+
+// Reads the request that the bytes begin with, and returns it with what follows it.
+pub(crate) fn first_request<'de>(
+    alloc: Global,
+    bytes: &'de [u8],
+) -> Result<(Request, &'de [u8]), Error>
+    ensures ok { IfOk result (λ r. Asks (λ m. ⟦<Request as Deserialize<'de, ReadRefReader<'de>>>⟧.reads false true m r.0) r.1.now bytes.now) }
+    ensures err { IfErr result (NoneFor (⟦<Request as Deserialize<'de, ReadRefReader<'de>>>⟧.reads false true) bytes.now) }
+{
+    let mut de = Deserializer::from_read_ref(alloc, bytes);
+    de.set_max_depth(MAX_DEPTH);
+    match Request::deserialize(&mut de) {
+        Ok(request) => Ok((request, de.remaining_slice())),
+        Err(e) => Err(e),
     }
 }

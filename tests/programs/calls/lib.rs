@@ -18,6 +18,8 @@ mod records;
 #[cfg(test)]
 mod recursive;
 #[cfg(test)]
+mod streams;
+#[cfg(test)]
 mod values;
 #[cfg(test)]
 mod wire;

@@ -4,7 +4,7 @@ use Rattle.rmp_decode.specs.declared.deserializer.Deserializer.{Deserializer}
 use Rattle.rmp_wire.specs.RefReader.{rest_of}
 use Rattle.rmp_decode.proofs.Whole.{known_left, none_begins}
 use Rattle.example_frames.proofs.Apart.{deep_enough}
-use Rattle.example_frames.proofs.frames.request_in.Goals as goal
+use Rattle.example_frames.proofs.frames.first_request.Goals as goal
 
 pub returns-in-Err-clause-err : goal.returns-in-Err-clause-err
 returns-in-Err-clause-err c = λ n.
