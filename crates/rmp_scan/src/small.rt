@@ -53,8 +53,7 @@ pub(crate) const MOST: u128 = 0x4000_0000_0000_0000;
 
 const BLOCK: usize = NEVER as usize;
 
-// Passes over at most `most` small numbers of one byte, and returns how many there were. In a run of them no offset depends on the table,
-// which saves 9 instructions for each.
+// Passes over at most `most` small numbers of one byte, and returns how many there were: in a run of them no offset depends on the table.
 #[inline(always)]
 fn pass_numbers(bytes: &[u8], most: usize) -> usize
     requires room { most ≤ length bytes.now }

@@ -118,10 +118,7 @@ pub fn equality<'a, 'b>()
 pub fn an_end_is_inside_a_message(input: &[u8])
     ensures begins { (room : ℕ) (e : ReadError) → Refusal false (UnreadFor false) ItemsUtf8 room e input.now → IsEnd e → IsBeginning input.now }
     ensures whole { (room n : ℕ) (e : ReadError) → Refusal false (UnreadFor false) ItemsUtf8 room e input.now → MessageEnds input.now n → IsEnd e → ⊥ }
-{
-    // The contract speaks of its bytes, each of which is below 256.
-    let _bytes = input;
-}
+{}
 
 /// Where `message_len` of an input is `Some(n)`, a read from the first n bytes gives what a read from all of them gives: each value or none,
 /// and what is read are those n bytes.
