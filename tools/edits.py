@@ -51,9 +51,9 @@ ALIKE = {
     "is_err": "is_str",
 }
 FUNCTION = re.compile(r"^impl\b[^{;]*|^(?:pub )?trait [^{;]*|^\}|^ *(pub )?(?:const )?fn (\w+)", re.M)
-# Nothing (a law may name its argument), a field or a reference to one, or a struct of what is given, with nothing read or written.
+# Nothing, a field or a reference to one, or a struct of what is given, with nothing read or written.
 PLAIN = re.compile(
-    r"|let _\w+ = \w+;|(&(mut )?)?self(\.\w+)+(\.(as_slice|get_ref|get_mut|into_inner)\(\))?|\w+ \{ \w+(: self)? \}"
+    r"|(&(mut )?)?self(\.\w+)+(\.(as_slice|get_ref|get_mut|into_inner)\(\))?|\w+ \{ \w+(: self)? \}"
     r"|(AheadSource|BufSource|ReadReader) \{\s*\w+(: \w+::new\(\w+\))?,(\s*\w+: \w+::new\(\w+\),)?\s*\}?"
 )
 
