@@ -130,10 +130,9 @@ fn read_pairs<
     ensures ok { IfOk result (λ _. (ps : List (K × V)) × W.holds pairs.new 0 ps
         × Lawful R.Source (λ m (es : List (K × V)). OfMap (λ ts. ReadsPairs (K.reads (C.human (config_of de.old)) R.lends)
         (V.reads (C.human (config_of de.old)) R.lends) ts es) m) de.old de.new (Ok ps)) }
-    ensures unread { IfErr result (λ e. Lawful R.Source (λ m (es : List (K × V)). OfMap (λ ts. ReadsPairs
-        (K.reads (C.human (config_of de.old)) R.lends) (V.reads (C.human (config_of de.old)) R.lends) ts es) m) de.old de.new (Err e)) }
-    ensures refused { RefusesAs R.Source (C.human (config_of de.old)) R.lends (RefusesPairs K.reads V.reads K.refuses V.refuses)
-        de.old de.new result }
+    ensures unread { IfErr result (λ e. Lawful R.Source (λ m (es : List (K × V)). OfMap (λ ts. ReadsPairs (K.reads (C.human (config_of de.old)) R.lends)
+        (V.reads (C.human (config_of de.old)) R.lends) ts es) m) de.old de.new (Err e)) }
+    ensures refused { RefusesAs R.Source (C.human (config_of de.old)) R.lends (RefusesPairs K.reads V.reads K.refuses V.refuses) de.old de.new result }
 {
     let mut map = de.deserialize_map()?;
     while let Some(key) = map.next_key()? {
@@ -170,8 +169,7 @@ fn large_map<
 >(de: &mut Deserializer<R, C>) -> Result<BTreeMap<K, V>, Error>
     ensures law { Lawful R.Source (λ m v. ReadsEntries K.cmp (K.reads (C.human (config_of de.old)) R.lends)
         (V.reads (C.human (config_of de.old)) R.lends) v.entries m) de.old de.new result }
-    ensures refused { RefusesAs R.Source (C.human (config_of de.old)) R.lends (RefusesPairs K.reads V.reads K.refuses V.refuses)
-        de.old de.new result }
+    ensures refused { RefusesAs R.Source (C.human (config_of de.old)) R.lends (RefusesPairs K.reads V.reads K.refuses V.refuses) de.old de.new result }
 {
     let mut pairs = LargeMap {
         map: BTreeMap::new(de.alloc()),

@@ -1,4 +1,4 @@
-use Rattle.std.proofs.Common.{◌∙◌, ap, subst, refl, ◌++◌, Global}
+use Rattle.std.proofs.Common.{◌∙◌, ap, subst, refl, List, ◌++◌, Global}
 use Rattle.std.specs.declared.collections.BTreeMap.{BTreeMap}
 use Rattle.rmp_decode.specs.Maps.{Collects}
 use Rattle.rmp_decode.proofs.Laws.{lawful_ok, lawful_err}

@@ -1,4 +1,4 @@
-use Rattle.std.proofs.Common.{sym, subst, refl, arith, Vec, Global}
+use Rattle.std.proofs.Common.{sym, subst, refl, arith, List, Vec, Global}
 use Rattle.rmp_wire.specs.Msg.{no_items}
 use Rattle.rmp_decode.specs.Rows.{ReadsEach}
 use Rattle.rmp_decode.specs.Seq.{OfRow}
