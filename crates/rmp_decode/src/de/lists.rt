@@ -12,7 +12,6 @@ ghost use Rattle.rmp_decode.specs.declared.deserializer.Kept.TheVariants.{Nothin
 use crate::de::Deserialize;
 use crate::de::elements::{Row, is_small, read_row};
 use crate::deserializer::Deserializer;
-use crate::deserializer::peek::ListOf;
 use crate::error::Error;
 use core::mem::replace_with;
 use rmp_wire::config::SerializerConfig;
@@ -214,10 +213,6 @@ impl<'de, R: ReadSlice<'de>, T: Deserialize<'de, R>> Deserialize<'de, R> for Vec
     ghost refuses = { RefusesEach T.reads T.refuses };
 
     fn deserialize<C: SerializerConfig>(de: &mut Deserializer<R, C>) -> Result<Vec<T>, Error> {
-        if let Some(()) = de.take_nested(ListOf { count: 0 }) {
-            de.failed = false;
-            return Ok(Vec::new(de.alloc()));
-        }
         taken_out::<R, C, Vec<T>, Items<'de>>(de)
     }
 
