@@ -4,7 +4,6 @@ pub mod Anything
 pub mod ArrayRefusals
 pub mod Arrays
 pub mod Ascending
-pub mod AscendingPairs
 pub mod BufferErrors
 pub mod Buffers
 pub mod ByteParts

@@ -18,6 +18,7 @@ use Rattle.std.proofs.Common.{
   Bool,
   true,
   false,
+  cond,
   Option,
   None,
   Some,
@@ -25,6 +26,11 @@ use Rattle.std.proofs.Common.{
   Err,
   append_assoc,
 }
+use Rattle.std.specs.BTreeMap.{insert_entry, is_at}
+use Rattle.std.specs.Cmp.{IsTotalOrder}
+use Rattle.std.specs.List.Sorted.{IsStrictlySortedBy}
+use Rattle.std.specs.Map.{keys_of, lookup}
+use Rattle.std.specs.Ordering.{is_eq}
 use Rattle.std.specs.declared.cmp.Ordering.{Ordering}
 use Rattle.std.specs.Io.KnownBytes.{Consumes}
 use Rattle.std.proofs.KnownBytes.{Consumes-trans}
@@ -58,7 +64,7 @@ use Rattle.rmp_wire.specs.Msg.{
 use Rattle.rmp_wire.specs.Spelling.{PairsSpelledBy, head_of}
 use Rattle.rmp_wire.proofs.Strict.{heads_apart_as}
 use Rattle.rmp_decode.specs.Law.{Refuses, Readable, Explains, Lawful}
-use Rattle.rmp_decode.specs.Maps.{OfMap, IsMap, ReadsPairs, Collects, ReadsEntries, map_inner, owed, to_come, as_row}
+use Rattle.rmp_decode.specs.Maps.{OfMap, IsMap, ReadsPairs, Collects, map_inner, owed, to_come, as_row}
 use Rattle.rmp_decode.specs.Maps.{IsMapOpen, OpensMap, FailsToOpenMap, TakesKey, TakesValue}
 use Rattle.rmp_decode.specs.Parts.{TakesPart, FailsPart}
 use Rattle.rmp_decode.specs.Seq.{SpellsRow, BeginsRow, RefusesRow, TakesElement, Run}
@@ -68,6 +74,7 @@ use Rattle.rmp_decode.specs.declared.access.map.MapAccess.{MapAccess}
 use Rattle.rmp_decode.specs.declared.error.Error.{Error}
 use Rattle.rmp_decode.specs.declared.error.Error.TheVariants.{OutOfMemory}
 use Rattle.rmp_decode.proofs.Laws.{stays_refl, stays_then}
+use Rattle.rmp_decode.proofs.Orders.{entries_none, entries_more}
 use Rattle.rmp_decode.proofs.NothingAccepted.{refuses_narrower, same_head}
 use Rattle.rmp_decode.proofs.Rows.{push, append, rest_refused, element_refused, count_refused}
 use Rattle.rmp_decode.proofs.Seqs.{run_start, run_step}
@@ -413,51 +420,24 @@ entries_step g keys values start mid key now es k v r p m q n =
       at_key = q.owes;
     }
 
--- the pairs that were read so far were put into what holds them
-pub record Gathers {R C K V : Type 0} (g : Ghosts R) (keys : Msg → K → Type 0) (values : Msg → V → Type 0) (start now : MapAccess R C)
-    (holds : List (K × V) → Type 0) : Type 0 where
+-- the pairs that were read so far were put into a map
+pub record Gathers {R C K V : Type 0} (g : Ghosts R) (cmp : K → K → Ordering) (keys : Msg → K → Type 0) (values : Msg → V
+    → Type 0) (start now : MapAccess R C) (es : List (K × V)) : Type 0 where
   pub pairs : List (K × V)
   pub read : Entries g keys values start now pairs
-  pub gathered : holds pairs
+  pub gathered : Collects cmp pairs es
 
-module _ {R C K V : Type 0} (g : Ghosts R) (keys : Msg → K → Type 0) (values : Msg → V → Type 0) where
-  pub gathers_start : (a : MapAccess R C) (holds : List (K × V) → Type 0) → a.owes ≡ false → IsMapOpen a → holds [] → Gathers g keys values a a holds
-  gathers_start a holds w p h = record { pairs = []; read = entries_start g keys values a w p; gathered = h }
+module _ {R C K V : Type 0} (g : Ghosts R) {cmp : K → K → Ordering} (o : IsTotalOrder cmp) (keys : Msg → K → Type 0) (values : Msg → V → Type 0) where
+  pub gathers_start : (a : MapAccess R C) (es : List (K × V)) → a.owes ≡ false → IsMapOpen a → es ≡ [] → Gathers g cmp keys values a a es
+  gathers_start a es w p e = record { pairs = []; read = entries_start g keys values a w p; gathered = entries_none o es e }
 
-  pub gathers_step : (start mid key now : MapAccess R C) (held holds : List (K × V) → Type 0) (k : K) (v : V) → (r : Gathers g keys values start mid held)
+  pub gathers_step : (start mid key now : MapAccess R C) (es fs : List (K × V)) (k : K) (v : V) → Gathers g cmp keys values start mid es
       → TakesKey g keys mid key k → key.de.ghost_name ≡ mid.de.ghost_name → TakesValue g values key now v → now.de.ghost_name ≡ key.de.ghost_name
-      → holds (r.pairs ++ (k, v) ∷ []) → Gathers g keys values start now holds
-  gathers_step start mid key now held holds k v r p m q n h = record {
+      → fs ≡ insert_entry cmp es k v
+      → IsStrictlySortedBy cmp (keys_of fs) → ((q : K) → lookup (is_at (cmp q)) fs ≡ cond (is_eq (cmp k q)) (Some v) (lookup (is_at (cmp q)) es))
+      → Gathers g cmp keys values start now fs
+  gathers_step start mid key now es fs k v r p m q n e s u = record {
     pairs = r.pairs ++ (k, v) ∷ [];
     read = entries_step g keys values start mid key now r.pairs k v r.read p m q n;
-    gathered = h;
+    gathered = entries_more o r.pairs es fs k v r.gathered e s u;
   }
-
--- a map whose pairs these are has the entries that they make
-pub with_entries : {K V : Type 0} (cmp : K → K → Ordering) (keys : Msg → K → Type 0) (values : Msg → V → Type 0) (es fs : List (K × V))
-    → Collects cmp es fs → (m : Msg) → OfMap (λ ps. ReadsPairs keys values ps es) m → ReadsEntries cmp keys values fs m
-with_entries cmp keys values es fs c nil r = r
-with_entries cmp keys values es fs c (truth t) r = r
-with_entries cmp keys values es fs c (whole z) r = r
-with_entries cmp keys values es fs c (float32 n) r = r
-with_entries cmp keys values es fs c (float64 n) r = r
-with_entries cmp keys values es fs c (text s) r = r
-with_entries cmp keys values es fs c (bin s) r = r
-with_entries cmp keys values es fs c (list ms) r = r
-with_entries cmp keys values es fs c (map ps) r = (es, r, c)
-with_entries cmp keys values es fs c (extension tag s) r = r
-
--- a map that has entries has the pairs that make them
-pub with_pairs : {X K V : Type 0} (keys : Msg → K → Type 0) (values : Msg → V → Type 0) (C : X → List (K × V) → Type 0) (m : Msg)
-    → (x : X) × OfMap (λ ps. (es : List (K × V)) × ReadsPairs keys values ps es × C x es) m
-    → (es : List (K × V)) × OfMap (λ ps. ReadsPairs keys values ps es) m
-with_pairs keys values C nil r = absurd r.1
-with_pairs keys values C (truth t) r = absurd r.1
-with_pairs keys values C (whole z) r = absurd r.1
-with_pairs keys values C (float32 n) r = absurd r.1
-with_pairs keys values C (float64 n) r = absurd r.1
-with_pairs keys values C (text s) r = absurd r.1
-with_pairs keys values C (bin s) r = absurd r.1
-with_pairs keys values C (list ms) r = absurd r.1
-with_pairs keys values C (map ps) r = (r.1.0, r.1.1)
-with_pairs keys values C (extension tag s) r = absurd r.1

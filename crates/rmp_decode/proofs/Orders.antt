@@ -23,7 +23,7 @@ behind_first : {X : Type 0} (b : Bool) (x : X) (f p z : Option X) → f ≡ opti
 behind_first true x f p z e = refl
 behind_first false x f p z e = e
 
-pub reversed : (r : Ordering) → is_eq (ordering_reverse r) ≡ is_eq r
+reversed : (r : Ordering) → is_eq (ordering_reverse r) ≡ is_eq r
 reversed Less = refl
 reversed Equal = refl
 reversed Greater = refl
@@ -87,7 +87,7 @@ module _ {K : Type 0} {cmp : K → K → Ordering} (o : IsTotalOrder cmp) where
     keys_inserted k v (e ∷ es) = keys_placed k v e es (insert_entry cmp es k v) (cmp k e.0)
         ∙ ap (λ z. match_ordering (cmp k e.0) (k ∷ e.0 ∷ keys_of es) (e.0 ∷ keys_of es) (e.0 ∷ z)) (keys_inserted k v es)
 
-    pub keys_appended : (ns ms : List (K × V)) → keys_of (ns ++ ms) ≡ keys_of ns ++ keys_of ms
+    keys_appended : (ns ms : List (K × V)) → keys_of (ns ++ ms) ≡ keys_of ns ++ keys_of ms
     keys_appended [] ms = refl
     keys_appended (n ∷ ns) ms = ap (λ z. n.0 ∷ z) (keys_appended ns ms)
 

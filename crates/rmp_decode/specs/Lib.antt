@@ -14,7 +14,6 @@ pub mod Fields
 pub mod Fronts
 pub mod Inside
 pub mod Kinds
-pub mod LargeMaps
 pub mod Law
 pub mod Leaves
 pub mod MapRefusing
