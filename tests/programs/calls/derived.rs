@@ -9,7 +9,7 @@ use std::io::Cursor;
 use std::test::Fail;
 use test_derived::{Counted, Dog, Four, Mixed, Newtype, Opt, Point, Two, Unit, V12};
 use test_lent::{Event, Label, Line, Piece};
-use test_wide::{Chart, Papers};
+use test_wide::{Chart, Manifest, Papers};
 
 fn dog(alloc: Global, name: &str, age: u16) -> Result<Dog, Fail> {
     Ok(Dog {
@@ -372,5 +372,47 @@ fn variants_that_borrow_come_back(rt: HostRuntime) -> Result<(), Fail> {
             Err(_) => assert!(rt; false),
         }
     }
+    Ok(())
+}
+
+const MANIFEST: &[u8] = b"\xdc\x00\x14\xa1A\x81\xa6Toward\xa1B\x91\x92\x01\xa1C\
+    \xc4\x10\0\0\0\0\0\0\0\0\0\0\0\0\0\0\0\x07\xc0\xa1D\x92\xff\xc0\x81\xa1E\x05\x93\x01\xcd\x01\x00\x03\xc0\
+    \xc4\x02\x08\x09\x92\xd0\xdf\xc3\xa1F\x09\xcb\x3f\xf0\0\0\0\0\0\0\x91\xa1G\xff\
+    \xc4\x10\xff\xff\xff\xff\xff\xff\xff\xff\xff\xff\xff\xff\xff\xff\xff\xff\x92\x01\x02\xc3";
+
+#[test]
+fn twenty_fields_of_many_kinds(rt: HostRuntime) -> Result<(), Fail> {
+    let read: Result<Manifest, Error> = from_slice(rt.alloc(), MANIFEST);
+    let Ok(manifest) = read else {
+        return Err(Fail::from("a manifest is refused"));
+    };
+    assert_eq!(rt; to_vec(rt.alloc(), &manifest)?.as_slice(), MANIFEST);
+    assert!(rt;
+        matches!(
+            &manifest,
+            Manifest {
+                seal: 7,
+                flag: 'D',
+                last: None,
+                pair: (-33, Some(true)),
+                tonnage: 9,
+                heading: -1,
+                debt: -1,
+                done: true,
+                ..
+            }
+        )
+    );
+    let named = to_vec_named(rt.alloc(), &manifest)?;
+    assert!(rt; named.as_slice().starts_with(b"\xde\x00\x14\xa4ship\xa1A\xa6course\x81\xa6Toward\xa1B\xa4crew"));
+    let again: Result<Manifest, Error> = from_slice(rt.alloc(), named.as_slice());
+    let Ok(again) = again else {
+        return Err(Fail::from("a named manifest is refused"));
+    };
+    assert_eq!(rt; to_vec(rt.alloc(), &again)?.as_slice(), MANIFEST);
+    let read: Result<Manifest, Error> = from_slice(rt.alloc(), b"\x82\xa4done\xc3\xa4done\xc3");
+    assert!(rt; matches!(&read, Err(Error::Syntax(Text::DuplicateField))));
+    let read: Result<Manifest, Error> = from_slice(rt.alloc(), b"\x81\xa4done\xc3");
+    assert!(rt; matches!(&read, Err(Error::Syntax(Text::MissingField))));
     Ok(())
 }
