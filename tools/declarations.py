@@ -43,9 +43,10 @@ ALIAS = re.compile(r"^(?:pub(?:\([^)]*\))? )?type (\w+)\s*=\s*([^;]*);", re.M)
 # What the text of a file is made of where a comment may begin: texts, characters, and comments.
 TOKEN = re.compile(r'"(?:\\.|[^"\\])*"|\'(?:\\[^\']*|[^\\\'])\'|//[^\n]*|/\*', re.S)
 NOTE = re.compile(r"//\s*derive:\s*(.*)")
-# How many elements a tuple has at most, and how many fields with names a struct or a variant.
+# How many elements a tuple has at most, and how many fields with names a struct and a variant.
 MOST = 8
-MOST_NAMED = 16
+MOST_NAMED = 32
+MOST_NAMED_IN_VARIANT = 16
 # For how many fields with names rmp_decode has a call of its own.
 LEAST_FLAT, MOST_FLAT = 2, 12
 
@@ -463,10 +464,10 @@ def variants_of(body: Span, lifetime: Optional[str], notes: renaming.Notes) -> l
     return variants
 
 
-def check_shape(shape: Shape) -> None:
+def check_shape(shape: Shape, most_named: int) -> None:
     """Refuses a shape that no call writes or reads at once."""
     count = len(shape.fields)
-    most = MOST_NAMED if shape.kind == "named" else MOST
+    most = most_named if shape.kind == "named" else MOST
     if count > most:
         raise Refused(f"{shape.name} has {count} fields, and up to {most} can be derived: group some of them in a type of their own")
     if shape.kind == "named" and not count:
@@ -517,7 +518,7 @@ def declared(source: Source, word: str, name: str, at: int, notes: renaming.Note
         raise Refused(f"no field borrows for {lifetime}")
     check_mixed(found)
     for shape in found.shapes():
-        check_shape(shape)
+        check_shape(shape, MOST_NAMED if found.shape else MOST_NAMED_IN_VARIANT)
     return found
 
 

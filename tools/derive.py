@@ -42,21 +42,19 @@ from declarations import MOST, PLAIN, PRELUDE, Declared, Refused, identifiers, i
 from derived_proofs import answers, has_content
 from derived_rounds import LEMMAS, Own, Unknown
 from derived_rounds import implementations as rounds
-from derived_terms import GHOST, GROUP, Words, alias, bound_name, data_of, member_of_reading, member_of_refusing, members_of_writing, memory_of, nested, place_of, underscored
+from derived_terms import EIGHT, GHOST, GROUP, MOST_IN_TUPLES, Words, alias, bound_name, data_of, eight_bound, member_of_reading, member_of_refusing, members_of_writing, memory_of, nested, place_of, underscored
 from imports import imports
 from modules import Files, Module, stale, sums_lines
 from shared import texts
 
 PLACES = halves.FIELDS
-# What hands over more values than one struct of rmp_encode does.
-MORE = "NineParts TenParts ElevenParts TwelveParts ThirteenParts FourteenParts FifteenParts SixteenParts".split()
 # The lemmas that a struct is no byte.
 NO_BYTE = {"newtype": "Wrapped::wrapped_no_byte", "tuple": "Lists::sequence_no_byte", "named": "Fields::structure_no_byte"}
 # Of how many fields a struct has at most whose reading is small enough to stand in its callers.
 FEW = 4
 # Where the words of the code come from.
 CODE = {
-    "rmp_decode": "Defaulted Deserialize Deserializer ReadFields",
+    "rmp_decode": "Defaulted Deserialize Deserializer EightThen ReadFields",
     "rmp_encode": "Elements Serialize Serializer",
     "rmp_round_trip": "NeverNil RoundTrip",
     "rmp_wire": "ReadSlice Sink",
@@ -105,23 +103,31 @@ def field_names(shape):
 def handed_over(values):
     """The struct that hands several values over."""
     fields = [value if value == place else f"{place}: {value}" for place, value in zip(PLACES, values)]
-    count = len(values)
-    return f"{f'rmp_encode::{halves.NAMES[count - 1]}' if count <= MOST else MORE[count - MOST - 1]} {{ {', '.join(fields)} }}"
+    return f"{halves.holder(len(values), 'rmp_encode::')} {{ {', '.join(fields)} }}"
+
+
+def front_of(count):
+    """How many of so many values are written before the others: no more than twice as many as one struct of rmp_encode hands over."""
+    return MOST if count <= 3 * MOST else 2 * MOST
 
 
 def more_parts(wanted):
-    """Of how many fields there are more than one struct of rmp_encode hands over."""
+    """Of how many values there are more than one struct of rmp_encode hands over: of the fields, and of the parts of more."""
     counts = {len(shape.fields) for own in wanted if "Serialize" in own.derived for shape in own.of.shapes()}
+    for count in sorted(counts, reverse=True):
+        while count > MOST:
+            counts |= {front_of(count), count - front_of(count)}
+            count = max(front_of(count), count - front_of(count))
     return sorted(count for count in counts if count > MOST)
 
 
 def handing_over(count):
     """The struct that hands so many values over."""
-    name, kinds = MORE[count - MOST - 1], halves.kinds(count)
+    name, kinds, front = halves.holder(count), halves.kinds(count), front_of(count)
     fields = [f"{place}: &'r {kind}," for place, kind in zip(PLACES, kinds)]
-    elements, named = halves.bodies(count, MOST, "rmp_encode::")
+    elements, named = halves.bodies(count, front, "rmp_encode::")
     return [
-        f"// {count} values, the first {MOST} of which are written before the others.",
+        f"// {count} values, the first {front} of which are written before the others.",
         "#[derive(Drop)]",
         f"struct {name}<'r, {', '.join(kinds)}> {{",
         *fields,
@@ -210,16 +216,22 @@ def writing_apart(of, at, shape):
 def taken_apart(shape):
     """How the parts that were read get the fields' names.
 
-    It is one pattern, or, where an array is two tuples deep, one for each tuple: the borrow checker covers no move of such an array.
+    It is one pattern, or, where an array is two tuples deep, one for each tuple: the borrow checker covers no move of such an array. Of more
+    than tuples hold, it is one for each struct.
     """
     names = bound_names(shape)
     if shape.kind != "named":
         return [f"let ({', '.join(names)}) = parts;"]
     made = [f"let {name} = {name}.value.unwrap_or({field.default.made});" for name, field in zip(names, shape.fields) if field.default]
-    depths = [place_of(at, len(names)).count(".") for at, field in enumerate(shape.fields) if field.kind.startswith("[")]
-    if max(depths, default=0) < 3:
-        return [f"let {nested(names)} = parts;", *made]
     lines, whole = [], "parts"
+    while len(names) >= len(EIGHT) and len(shape.fields) > MOST_IN_TUPLES:
+        names, first = names[len(EIGHT) :], names[: len(EIGHT)]
+        lines.append(f"let {eight_bound(first, 'others' if names else '()')} = {whole};")
+        whole = "others"
+    fields = shape.fields[len(shape.fields) - len(names) :]
+    depths = [place_of(at, len(names)).count(".") for at, field in enumerate(fields) if field.kind.startswith("[")]
+    if names and max(depths, default=0) < 3:
+        return [*lines, f"let {nested(names)} = {whole};", *made]
     while names:
         size = GROUP if len(names) >= GROUP else 1
         names, first = names[size:], names[:size]
@@ -383,10 +395,10 @@ def proofs(module: Module, wanted: list[Own]) -> Iterator[tuple[str, ...]]:
         for trait, method, text in answers(own.of, own.derived, module):
             yield text, f"{own.of.name}{trait}", method
     for count in more_parts(wanted):
-        name = f"{MORE[count - MOST - 1]}Elements"
+        name = f"{halves.holder(count)}Elements"
         for method in ("write", "write_fields"):
             goals = f"Rattle.{module.name}.proofs.{module.below('derived', name, method)}"
-            yield halves.answers(count, MOST, method, goals), name, method
+            yield halves.answers(count, front_of(count), method, goals), name, method
 
 
 def derive(crate: str, path: str) -> None:

@@ -5,7 +5,7 @@ from collections.abc import Iterable, Iterator
 from typing import TYPE_CHECKING
 
 from declarations import Declared, Field, Shape
-from derived_terms import bound_name, codes, nested, place_of
+from derived_terms import bound_name, codes, eight_values, nested, place_of
 from imports import imports
 from shared import numbered, tuple_of
 
@@ -80,7 +80,7 @@ def defaulted_read(shape: Shape) -> tuple[str, str]:
             back = f"(plain_field _ _ {back} _ _)"
             needed = f"(plain_needed _ _ {needed} _ _)"
     names = f"({codes(field.key for field in shape.fields)})"
-    forth = f"let x = fields_needed {names} _ _ {needed} m r.1 in ({nested(values, 'tt')}, x.1)"
+    forth = f"let x = fields_needed {names} _ _ {needed} m r.1 in ({nested(values, 'tt', eight_values)}, x.1)"
     return f"λ m r. fields_given {names} _ _ {back} m r", f"λ m r. {forth}"
 
 
@@ -96,7 +96,7 @@ def struct_read(shape: Shape) -> str:
     elif any(field.default for field in shape.fields):
         back, forth = defaulted_read(shape)
     else:
-        forth = f"λ m r. ({nested([f'r.0.{field.name}' for field in shape.fields], 'tt')}, r.1)"
+        forth = f"λ m r. ({nested([f'r.0.{field.name}' for field in shape.fields], 'tt', eight_values)}, r.1)"
     text = answer("returns-in-Ok-clause-law", held(shape, "c.in-Ok", f"lawful_ok _ _ _ _ _ _ _ ({back}) c.in-Ok.ensures.law"))
     text += answer("returns-in-Err-clause-law", f"lawful_err _ _ _ _ _ _ ({forth}) c.in-Err.ensures.law")
     return text + answer("returns-in-Err-clause-refused", f"c.in-Err.ensures.{refused}")
@@ -134,7 +134,7 @@ def variant_read(call: str, at: int, shape: Shape, count: int) -> str:
         opened = f"(rw c.in-Ok-eq{at}-default.field-0-0-test at c.in-Ok-eq{at}-default.ensures.opened)"
     done = f"λ k h. ({'_, ' * n}refl, h)"
     values = [f"h.{i}" for i in range(n)]
-    value = nested(values, 'tt') if shape.kind == "named" else values_of(values) if n else ""
+    value = nested(values, 'tt', eight_values) if shape.kind == "named" else values_of(values) if n else ""
     back = f"λ v k h. readable _ k {value} h.{n + 1}" if n else "λ v k h. h.1"
     ok = f"variant_ok _ _ _ _ _ _ (search rules) _ {at} _ _ ({done})\n    (c.in-Ok-{call}.ensures.ok _ {at} _ {opened})"
     ok = start + held(shape, f"c.in-Ok-{call}", ok)

@@ -27,6 +27,7 @@ GHOST = {
     "rmp_decode.specs.Seq": "OfRow",
     "rmp_decode.specs.Units": "IsNothing not_nothing",
     "rmp_decode.specs.Variants": "OfVariant Case NoCase Bare Content",
+    "rmp_decode.specs.declared.access.fields.eight.EightThen": "EightThen",
 }
 
 
@@ -34,18 +35,49 @@ GHOST = {
 TAKEN = "se de e parts others variant".split()
 # How many fields stand beside one another where there are as many left.
 GROUP = 4
+# How many are read as nested tuples at most, and what EightThen calls its first eight.
+MOST_IN_TUPLES = 16
+EIGHT = "first second third fourth fifth sixth seventh eighth".split()
 
 
-def nested(words, end="()"):
-    """Tuples of the first four and the others, and then pairs of the first and the others, which end in ()."""
+def eight_kinds(words: list[str], rest: str) -> str:
+    """The type of eight fields and the others."""
+    return f"EightThen<{', '.join([*words, rest])}>"
+
+
+def eight_bound(words: list[str], rest: str) -> str:
+    """A pattern of them."""
+    return f"EightThen {{ {', '.join(f'{place}: {word}' for place, word in zip(EIGHT, words))}, rest: {rest} }}"
+
+
+def eight_values(words: list[str], rest: str) -> str:
+    """Their values, in a term."""
+    return f"record {{ {''.join(f'{place} = {word}; ' for place, word in zip(EIGHT, words))}rest = {rest} }}"
+
+
+def nested(words, end="()", eight=eight_kinds):
+    """Tuples of the first four and the others, and then pairs of the first and the others, which end in (). Of more than are read as
+    tuples, first structs of eight and the others."""
+    if len(words) > MOST_IN_TUPLES:
+        return in_eights(words, end, eight)
     if not words:
         return end
     n = GROUP if len(words) >= GROUP else 1
     return f"({', '.join(words[:n])}, {nested(words[n:], end)})"
 
 
+def in_eights(words, end, eight):
+    n = len(EIGHT)
+    return nested(words, end) if len(words) < n else eight(words[:n], in_eights(words[n:], end, eight))
+
+
 def place_of(at: int, count: int) -> str:
-    """Where the value at a place stands in what so many values are nested as."""
+    """Where the value at a place is in what so many values are nested as."""
+    if count > MOST_IN_TUPLES:
+        whole = count // len(EIGHT)
+        before = min(at // len(EIGHT), whole)
+        at, count = at - before * len(EIGHT), count - whole * len(EIGHT)
+        return ".rest" * before + (f".{EIGHT[at]}" if before < whole else place_of(at, count))
     whole = count // GROUP
     if at < whole * GROUP:
         return ".4" * (at // GROUP) + f".{at % GROUP}"
@@ -170,8 +202,29 @@ def refusal_of(words: Words, shape: Shape, flat: bool = False) -> str:
         given = " ".join(f"{words.reads(kind, 'reads')} {words.reads(kind, 'absent')}" for kind in kinds)
         parts = [f"part_of {words.reads(kind, 'reads')} {words.reads(kind, 'refuses')}" for kind in kinds]
         return f"RefusesFields ({codes(field.key for field in shape.fields)}) (reads_{len(kinds)} {given}) ({list_of(parts)})"
+    if len(kinds) > MOST_IN_TUPLES:
+        return refusal_of_eights(words, shape, kinds)
     fields = f"⟦<{nested(kinds)} as ReadFields<'de, R>>⟧"
     return f"RefusesFields ({codes(field.key for field in shape.fields)}) {fields}.reads\n        {fields}.parts"
+
+
+def refusal_of_eights(words: Words, shape: Shape, kinds: list[str]) -> str:
+    """The same of more fields than are read as tuples: each field's part in one list, as what is known of all of them costs more to compare."""
+    values = [f"v{place_of(at, len(kinds))}" for at in range(len(kinds))]
+    heads = [f"Field (λ j. {words.reads(kind, 'reads')} human lends j {of}) (Absent {words.reads(kind, 'absent')} {of})" for kind, of in zip(kinds, values)]
+    parts = [f"part_of {words.reads(kind, 'reads')} {words.reads(kind, 'refuses')}" for kind in kinds]
+    reads = f"λ human lends fs v. ({chained(heads, 'NoField')}) fs"
+    return f"RefusesFields {{V = {eights_of(len(kinds))}}} ({codes(field.key for field in shape.fields)})\n        ({reads})\n        ({list_of(parts)})"
+
+
+def eights_of(count: int) -> str:
+    """The type that so many values are read as, in a term."""
+    if count >= len(EIGHT):
+        return f"EightThen {'_ ' * len(EIGHT)}({eights_of(count - len(EIGHT))})"
+    if not count:
+        return "Unit {0}"
+    size = GROUP if count >= GROUP else 1
+    return f"{'_ × ' * size}({eights_of(count - size)})"
 
 
 def member_of_refusing(of: Declared, words: Words) -> str:

@@ -3,19 +3,30 @@
 from shared import bracketed
 
 FIELDS = ("first second third fourth fifth sixth seventh eighth"
-          " ninth tenth eleventh twelfth thirteenth fourteenth fifteenth sixteenth").split()
+          " ninth tenth eleventh twelfth thirteenth fourteenth fifteenth sixteenth"
+          " seventeenth eighteenth nineteenth twentieth twenty_first twenty_second twenty_third twenty_fourth"
+          " twenty_fifth twenty_sixth twenty_seventh twenty_eighth twenty_ninth thirtieth thirty_first thirty_second").split()
 # What struct holds so many.
 NAMES = "One Both Three Four Five Six Seven Eight".split()
+# What holds more than one of those, in the crate of a type that has so many fields.
+MORE = ("NineParts TenParts ElevenParts TwelveParts ThirteenParts FourteenParts FifteenParts SixteenParts"
+        " SeventeenParts EighteenParts NineteenParts TwentyParts TwentyOneParts TwentyTwoParts TwentyThreeParts TwentyFourParts"
+        " TwentyFiveParts TwentySixParts TwentySevenParts TwentyEightParts TwentyNineParts ThirtyParts ThirtyOneParts ThirtyTwoParts").split()
 
 
 def kinds(n):
     return [f"E{i + 1}" for i in range(n)]
 
 
+def holder(n, path=""):
+    """The struct that holds so many."""
+    return f"{path}{NAMES[n - 1]}" if n <= len(NAMES) else MORE[n - len(NAMES) - 1]
+
+
 def some(start, end, path=""):
     """The elements from one place to another, as a value."""
     fields = " ".join(f"{FIELDS[i - start]}: self.{FIELDS[i]}," for i in range(start, end))
-    return f"{path}{NAMES[end - start - 1]} {{ {fields} }}"
+    return f"{holder(end - start, path)} {{ {fields} }}"
 
 
 def bodies(n, k, path=""):

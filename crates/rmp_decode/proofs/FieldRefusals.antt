@@ -94,6 +94,7 @@ module _ {R C V : Type 0} (g : Ghosts R) (human : C → Bool) (lends : Bool) (na
     -- one of them was refused
     pub listed_wrong : (now : SeqAccess R C) → after ≡ faults_of g now.de.now → PartsRefused g (human start.de.now.config) lends ps start now e
         → RefusesFields names reads ps (setting_of (human old.config) lends old) (faults_of g old) after (left g old) e
+    unfolding RefusesFields
     listed_wrong now q h = inr (inl (parts_wrong g human lends old start o after e ps now q h))
 
     -- all of them were read, and there are more
@@ -101,6 +102,7 @@ module _ {R C V : Type 0} (g : Ghosts R) (human : C → Bool) (lends : Bool) (na
         → PartsHold (inside (setting_of (human old.config) lends old) (inner_of start)) ps (given_all ms) → count ms ≡ length ps → 0 < mid.left
         → e ≡ LengthMismatch (mid.count - mid.left)
         → RefusesFields names reads ps (setting_of (human old.config) lends old) (faults_of g old) after (left g old) e
+    unfolding RefusesFields
     listed_excess mid ms r h c l q =
         inr (inl (parts_excess g human lends old start o after e ps mid ms r
         (given_held (inside (setting_of (human old.config) lends old) (inner_of start)) ps ms h) c l q))
@@ -116,6 +118,7 @@ module _ {R C V : Type 0} (g : Ghosts R) (human : C → Bool) (lends : Bool) (na
 
     behind_met : PairFails names ps r.met_trees Inner (faults_of g old) after mid.left (left g mid.de.now) e ⊎ Lacks reads r.met_trees Inner mid.left e
         → RefusesFields names reads ps (setting_of (human old.config) lends old) (faults_of g old) after (left g old) e
+    unfolding RefusesFields
     behind_met w = inr (inr (record {
       inner = map_inner start;
       many = start.left;
@@ -147,6 +150,7 @@ module _ {R C V : Type 0} (g : Ghosts R) (human : C → Bool) (lends : Bool) (na
     -- the next key was refused
     pub name_wrong : (now : MapAccess R C) → after ≡ faults_of g now.de.now → KeyRefused g (human mid.de.now.config) lends name_refusal mid now e
         → RefusesFields names reads ps (setting_of (human old.config) lends old) (faults_of g old) after (left g old) e
+    unfolding RefusesFields
     name_wrong now q h =
         let s = setting_same human lends mid.de.now old (map_inner mid) (map_inner start) (r.run.stays.config ∙ o.stays.config)
         (r.run.stays.strict ∙ o.stays.strict) mid_room in
@@ -157,6 +161,7 @@ module _ {R C V : Type 0} (g : Ghosts R) (human : C → Bool) (lends : Bool) (na
     -- a field is missing
     pub field_lacks : mid.left ≡ 0 → e ≡ Syntax MissingField → ((v : V) → reads (human old.config) lends r.met_trees v → ⊥)
         → RefusesFields names reads ps (setting_of (human old.config) lends old) (faults_of g old) after (left g old) e
+    unfolding RefusesFields
     field_lacks z q f = behind_met (inr (z, q, f))
 
     module _ (key now : MapAccess R C) (k : Option ℕ) (t : TakesKey g (IsName names) mid key k) (q : after ≡ faults_of g now.de.now) where
@@ -176,6 +181,7 @@ module _ {R C V : Type 0} (g : Ghosts R) (human : C → Bool) (lends : Bool) (na
       -- it couldn't be passed over
       pub pass_wrong : k ≡ None → EntryRefused g (human key.de.now.config) lends pass_refusal key now e
           → RefusesFields names reads ps (setting_of (human old.config) lends old) (faults_of g old) after (left g old) e
+      unfolding RefusesFields
       pass_wrong n h = behind_met (inl (
         some_left,
         inr (inl (record {
@@ -193,6 +199,7 @@ module _ {R C V : Type 0} (g : Ghosts R) (human : C → Bool) (lends : Bool) (na
       -- it is of a field that was met before, or was refused
       pub field_wrong : (n : ℕ) → k ≡ Some n → FillRefused g (human key.de.now.config) lends holds ps n key now slots e
           → RefusesFields names reads ps (setting_of (human old.config) lends old) (faults_of g old) after (left g old) e
+      unfolding RefusesFields
       field_wrong n i h = behind_met (inl (
         some_left,
         inr (inr (

@@ -51,7 +51,7 @@ AreMet names ps fs s pairs = (met names (blank names) pairs ≡ Some fs) × Part
 
 -- How fields are refused: they can't be opened, an element of a list is refused or there are more or fewer, or behind some pairs of a
 -- map the next one is refused, or a field is missing.
-abbrev pub RefusesFields : {V : Type 0} → List (List ℕ) → (Bool → Bool → List (Option Msg) → V → Type 0) → List Part → Setting → Refusals
+unfoldable pub RefusesFields : {V : Type 0} → List (List ℕ) → (Bool → Bool → List (Option Msg) → V → Type 0) → List Part → Setting → Refusals
 RefusesFields names reads ps s before after known e =
     RefusesBy s.strict (not_fields s.room) before after known e
     ⊎ Opened s (λ b i. RefusesParts b i before after ps (Excess (length ps))) known e

@@ -4,7 +4,7 @@ use Rattle.rmp_decode.specs.Maps.{map_inner}
 use Rattle.rmp_decode.specs.Names.{bytes_of}
 use Rattle.rmp_decode.specs.Parts.{FailsPart}
 use Rattle.rmp_decode.specs.Seq.{TakesParts, FailsParts, inner_of}
-use Rattle.rmp_decode.specs.FieldRefusing.{FillRefused}
+use Rattle.rmp_decode.specs.FieldRefusing.{FillRefused, RefusesFields}
 use Rattle.rmp_decode.specs.Refusing.{setting_of, inside}
 use Rattle.rmp_decode.specs.declared.access.fields.Passed.{Passed}
 use Rattle.rmp_decode.proofs.FieldRefusals.{listed_wrong, listed_excess, name_wrong, pass_wrong, field_wrong, field_lacks}
@@ -173,6 +173,7 @@ returns-in-Err-end-2 g c =
 -- ---- which error
 
 pub returns-in-Err-clause-refused : goal.returns-in-Err-clause-refused
+unfolding RefusesFields
 returns-in-Err-clause-refused g c = λ u.
     inl ((rw c.in-Err.is at c.open_fields.follows.holds-at-none).exact u)
 
