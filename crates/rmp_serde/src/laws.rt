@@ -27,13 +27,12 @@ ghost use Rattle.rmp_serde.specs.Read.{reads_value, ItemsUtf8};
 ghost use Rattle.rmp_serde.specs.Refuse.{UnreadFor};
 ghost use Rattle.rmp_serde.specs.ValueData.{value_data};
 
-use rmp_wire::{ByteBuf, Bytes, Ext, Reference};
-
 pub use rmp_encode::laws::known_and_unknown_lengths;
 pub use rmp_round_trip::laws::{
     names_are_found, values_come_back, values_in_turn, versions_are_read, widths_are_alike,
     written_is_read,
 };
+use rmp_wire::{ByteBuf, Bytes, Ext, Reference};
 
 /// No head begins a different head: where two stand at the beginning of one input, they are the same.
 pub fn no_head_begins_another()
