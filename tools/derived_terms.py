@@ -211,8 +211,9 @@ def refusal_of(words: Words, shape: Shape, flat: bool = False) -> str:
 def refusal_of_eights(words: Words, shape: Shape, kinds: list[str]) -> str:
     """The same of more fields than are read as tuples: each field's part in one list, as what is known of all of them costs more to compare."""
     values = [f"v{place_of(at, len(kinds))}" for at in range(len(kinds))]
-    heads = [f"Field (λ j. {words.reads(kind, 'reads')} human lends j {of}) (Absent {words.reads(kind, 'absent')} {of})" for kind, of in zip(kinds, values)]
-    parts = [f"part_of {words.reads(kind, 'reads')} {words.reads(kind, 'refuses')}" for kind in kinds]
+    line = "\n            "
+    heads = [f"{line}Field (λ j. {words.reads(kind, 'reads')} human lends j {of}) (Absent {words.reads(kind, 'absent')} {of})" for kind, of in zip(kinds, values)]
+    parts = [f"{line}part_of {words.reads(kind, 'reads')} {words.reads(kind, 'refuses')}" for kind in kinds]
     reads = f"λ human lends fs v. ({chained(heads, 'NoField')}) fs"
     return f"RefusesFields {{V = {eights_of(len(kinds))}}} ({codes(field.key for field in shape.fields)})\n        ({reads})\n        ({list_of(parts)})"
 
