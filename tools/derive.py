@@ -187,7 +187,7 @@ def apart(of, shape):
     return f"put_{underscored(of.name)}" + ("" if of.shape else f"_{underscored(shape.name)}")
 
 
-def writing_apart(of, at, shape):
+def writing_differ(of, at, shape):
     """That function. The type arguments of a call have at most one lifetime each, as the checker asks, so it has one for each field."""
     kinds = halves.kinds(len(shape.fields))
     places = PLACES[: len(kinds)]
@@ -213,7 +213,7 @@ def writing_apart(of, at, shape):
     ]
 
 
-def taken_apart(shape):
+def taken_differ(shape):
     """How the parts that were read get the fields' names.
 
     It is one pattern, or, where an array is two tuples deep, one for each tuple: the borrow checker covers no move of such an array. Of more
@@ -253,7 +253,7 @@ def arm_of_reading(of, at, shape):
     if len(shape.fields) < 2 and shape.kind != "named":
         lines.append(f"Ok({names[0] if names else '()'}) => return {made},")
     else:
-        lines += ["Ok(parts) => {", *taken_apart(shape), f"return {made};", "}"]
+        lines += ["Ok(parts) => {", *taken_differ(shape), f"return {made};", "}"]
     return [*lines, "Err(e) => return Err(e),", "},"]
 
 
@@ -275,7 +275,7 @@ def body_of_reading(of):
         call = f"rmp_decode::read_fields_{len(kinds)}(de, {names})" if is_flat(shape) else f"de.deserialize_fields({names})"
         kind = nested(kinds)
     read = f"let read: Result<{kind}, rmp_decode::Error> = {call};"
-    return [read, "match read {", "Ok(parts) => {", *taken_apart(shape), f"return {made};", "}", "Err(e) => return Err(e),", "}"]
+    return [read, "match read {", "Ok(parts) => {", *taken_differ(shape), f"return {made};", "}", "Err(e) => return Err(e),", "}"]
 
 
 def no_byte(of):
@@ -299,7 +299,7 @@ def writing(of):
     lower = any(shape.kind == "unit" for shape in of.shapes())
     several_of = [(at, shape) for at, shape in enumerate(of.shapes()) if shape.kind in ("tuple", "named")]
     return [
-        *(line for at, shape in several_of if of.lifetime for line in writing_apart(of, at, shape)),
+        *(line for at, shape in several_of if of.lifetime for line in writing_differ(of, at, shape)),
         header(of, "Serialize"),
         f"    ghost data_of = {{ λ v human. {data} }};\n",
         f"    ghost is_value = {{ λ v. {known} }};\n",

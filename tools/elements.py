@@ -11,7 +11,7 @@ from shared import bracketed, numbered
 WORDS = ["One element", "Two elements", "Three elements", "Four elements", "Five elements", "Six elements", "Seven elements", "Eight elements"]
 
 
-# How many of so many elements are written first; the others come behind them. Of eight of one type it is no half: both halves would be
+# How many of so many elements are written first; the others come after them. Of eight of one type it is no half: both halves would be
 # one function, and the compiler inlines what is called once.
 def half(n):
     return 2 if n < 5 else 4 if n < 8 else 5

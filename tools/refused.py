@@ -95,8 +95,8 @@ def apply(edits, folder):
     """Makes edits in a crate, of those that leave alone what others changed, and answers these."""
     texts, functions, made = {}, set(), []
     for edit in edits:
-        is_apart = len(made) < MOST and not functions & set(edit.refusals)
-        changed = edit.made_in(texts, folder) if is_apart else None
+        is_differ = len(made) < MOST and not functions & set(edit.refusals)
+        changed = edit.made_in(texts, folder) if is_differ else None
         if changed is not None:
             texts.update(changed)
             functions.update(edit.refusals)

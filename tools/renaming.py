@@ -26,7 +26,7 @@ class Notes:
         self.rename: Optional[str] = None
         self.rename_all: Optional[str] = None
         self.rename_all_fields: Optional[str] = None
-        # What is behind the word, or nothing.
+        # What is after the word, or nothing.
         self.default: Optional[str] = None
 
     def read(self, text: str) -> None:

@@ -46,7 +46,7 @@ HOMES = {
     "test_types": "TupleS TupleS0 UnkMap UnkSeq",
 }
 HOME = {name: home for home, names in HOMES.items() for name in names.split()}
-# The enum that is a key in the samples, and what stands for it, since a key has an order.
+# The enum that is a key in the samples, and what means it, since a key has an order.
 KEYS = {"Two": "TwoKey"}
 # The fields of those that aren't derived here.
 SHAPES = """

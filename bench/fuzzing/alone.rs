@@ -1,4 +1,4 @@
-//! What stands in the place of beside.rs where there is no original to compare with.
+//! What is in the place of beside.rs where there is no original to compare with.
 
 use crate::typed::Answer;
 

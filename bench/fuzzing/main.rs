@@ -23,7 +23,7 @@ use generator::Random;
 use model::Refusal;
 use std::time::{Duration, Instant};
 
-/// What stands at a place, as rmp.h says it.
+/// What is at a place, as rmp.h says it.
 #[repr(C)]
 #[derive(Default)]
 struct Item {

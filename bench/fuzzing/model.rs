@@ -114,7 +114,7 @@ fn short_head(first: u8) -> Option<Met> {
     }
 }
 
-/// The heads that go on behind their first byte.
+/// The heads that go on after their first byte.
 fn long_head(first: u8, behind: &[u8]) -> Result<Met, Refusal> {
     let wide = |base: u8| 1usize << (first - base);
     Ok(match first {
@@ -194,7 +194,7 @@ fn content<'a>(bytes: &'a [u8], met: &Met, len: usize) -> Result<&'a [u8], Refus
 pub struct Place {
     /// Its first byte.
     pub first: u8,
-    /// Where what stands behind it begins, and how much of that is its content.
+    /// Where what is there after it begins, and how much of that is its content.
     pub content: usize,
     pub len: usize,
 }

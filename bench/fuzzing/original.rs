@@ -107,8 +107,8 @@ fn status_of(error: &Error) -> u32 {
     }
 }
 
-/// How many bytes are left behind a value. A read from a slice doesn't say it, so they are read again from a reader.
-fn left_behind<T: DeserializeOwned>(bytes: &[u8]) -> usize {
+/// How many bytes are left after a value. A read from a slice doesn't say it, so they are read again from a reader.
+fn left_after<T: DeserializeOwned>(bytes: &[u8]) -> usize {
     let mut de = rmp_serde::Deserializer::new(bytes);
     let read = T::deserialize(&mut de);
     assert!(read.is_ok(), "the original reads a slice, and not the same bytes from a reader");
@@ -131,7 +131,7 @@ fn again<T: DeserializeOwned + Serialize>(bytes: &[u8], form: u32) -> Answer {
         Ok(value) => value,
         Err(e) => return Answer::Refused { error: status_of(&e), left: 0 },
     };
-    let left = left_behind::<T>(bytes);
+    let left = left_after::<T>(bytes);
     match spelled(&value, form) {
         Some(written) => Answer::Whole { left, written },
         None => Answer::NotWritten { left },
@@ -141,7 +141,7 @@ fn again<T: DeserializeOwned + Serialize>(bytes: &[u8], form: u32) -> Answer {
 /// Passes over a message.
 pub fn skip(bytes: &[u8]) -> Answer {
     match from_slice::<IgnoredAny>(bytes) {
-        Ok(_) => Answer::Whole { left: left_behind::<IgnoredAny>(bytes), written: Vec::new() },
+        Ok(_) => Answer::Whole { left: left_after::<IgnoredAny>(bytes), written: Vec::new() },
         Err(e) => Answer::Refused { error: status_of(&e), left: 0 },
     }
 }

@@ -1,4 +1,4 @@
-//! Where the original answers otherwise, and docs/DIFFERENCES.md says so: by what stands in the bytes, and not by what is answered alone.
+//! Where the original answers otherwise, and docs/DIFFERENCES.md says so: by what is in the bytes, and not by what is answered alone.
 
 use crate::model::{self, Place};
 use crate::original::ALL;

@@ -14,7 +14,7 @@ struct Told {
 /// What a read and a write of a value came to.
 #[derive(Clone, Debug, PartialEq, Eq)]
 pub enum Answer {
-    /// It was read, with so many bytes left behind it, and written again.
+    /// It was read, with so many bytes left after it, and written again.
     Whole { left: usize, written: Vec<u8> },
     /// It was read, and its write refused.
     NotWritten { left: usize },

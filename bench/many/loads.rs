@@ -29,7 +29,7 @@ impl Calls {
     }
 }
 
-/// How a value of a kind stands in a message.
+/// How a value of a kind is in a message.
 type Spelling = fn(&mut Random, Form) -> Part;
 
 /// A number with a sign, of so many bits besides it.

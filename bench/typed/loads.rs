@@ -16,7 +16,7 @@ pub type OfBytes = fn(&[u8], u32) -> usize;
 pub struct Calls {
     pub write_numbers: OfNumbers,
     /// The same list, whose elements are written one by one: by the wire's calls, one for the head and one for each number,
-    /// with no serializer; by the serializer's calls of single values, behind a head that the wire writes; as a list whose
+    /// with no serializer; by the serializer's calls of single values, after a head that the wire writes; as a list whose
     /// length is told, as a tuple, and as a list whose length isn't told.
     pub write_wire: OfNumbers,
     pub write_values: OfNumbers,

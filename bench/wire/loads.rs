@@ -16,7 +16,7 @@ const RUNS: Runs = Runs {
 pub struct Calls {
     /// Writes the numbers, and answers how many bytes they came to in one round.
     pub write_uints: fn(&[u64], u32) -> usize,
-    /// Writes the texts of ten bytes each that stand one behind the other, and answers the bytes of one round.
+    /// Writes the texts of ten bytes each that stand one after the other, and answers the bytes of one round.
     pub write_texts: fn(&[u8], u32) -> usize,
     /// Reads the heads, and answers the sum of what they say over all rounds, modulo 2 ^ 64.
     pub read_heads: fn(&[u8], u32) -> u64,
@@ -46,7 +46,7 @@ const KINDS: [(&[u8], u64); 20] = [
     (&[0x05], 5),
 ];
 
-/// The spellings of numbers, one behind the other.
+/// The spellings of numbers, one after the other.
 fn spelled(numbers: &[u64]) -> Vec<u8> {
     let mut out = Vec::new();
     numbers.iter().for_each(|n| number(&mut out, *n));

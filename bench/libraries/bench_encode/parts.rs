@@ -39,7 +39,7 @@ pub fn write_tuple<W: Sink, C: SerializerConfig>(
     tuple.end()
 }
 
-/// By the serializer's calls of single values, behind a head that the wire writes.
+/// By the serializer's calls of single values, after a head that the wire writes.
 pub fn write_values<W: Sink, C: SerializerConfig>(
     se: &mut Serializer<W, C>,
     numbers: &[u32],

@@ -280,7 +280,7 @@ pub extern "C" fn fuzz_buffer(
     again::<ByteBuf>(alloc, data, strict, form, out, told)
 }
 
-/// A text or bytes as they stand.
+/// A text or bytes as they are encoded.
 #[unsafe(no_mangle)]
 pub extern "C" fn fuzz_raw(
     alloc: Global,

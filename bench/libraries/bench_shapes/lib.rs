@@ -182,7 +182,7 @@ pub extern "C" fn bench_read_ext(alloc: Global, data: &[u8], reps: u32) -> usize
     reads::<Ext>(alloc, data, reps)
 }
 
-/// Reads a list of texts and bytes as they stand.
+/// Reads a list of texts and bytes as they are encoded.
 #[unsafe(no_mangle)]
 pub extern "C" fn bench_read_raw(alloc: Global, data: &[u8], reps: u32) -> usize {
     reads::<Raw>(alloc, data, reps)

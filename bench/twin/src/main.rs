@@ -75,7 +75,7 @@ fn long(input: &mut &[u8]) -> Option<usize> {
     Some(input.read_data_u32().ok()? as usize)
 }
 
-/// What follows a marker that stands for a value alone, or before a number.
+/// What follows a marker that means a value alone, or before a number.
 #[inline(always)]
 fn leaf(input: &mut &[u8], marker: Marker) -> Option<Tree> {
     Some(match marker {

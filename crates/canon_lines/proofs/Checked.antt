@@ -49,11 +49,11 @@ use Rattle.canon_lines.proofs.MessageReads.{shorter}
 use Rattle.canon_lines.proofs.Shown.{flat_more}
 
 -- what follows a canonical message
-pub record Behind (input : List ℕ) (n : ℕ) : Type 0 where
+pub record EndsAfter (input : List ℕ) (n : ℕ) : Type 0 where
   pub some : 0 < n
   pub within : n ≤ length input
 
-pub whole_some : (input : List ℕ) (n : ℕ) → IsWhole input n → Behind input n
+pub whole_some : (input : List ℕ) (n : ℕ) → IsWhole input n → EndsAfter input n
 whole_some input n w =
     let less = shorter w.tree (canon w.tree) input w.rest (canon_spells w.tree w.fits) w.front in
     let all = ap length w.front ∙ length-append (canon w.tree) w.rest in
@@ -64,8 +64,8 @@ pub fault_within : (input : List ℕ) (p : ℕ) → IsFault input p → p ≤ le
 fault_within input p f = let all = ap length f.front ∙ length-append f.before f.there in omega (arith, all, f.place)
 
 -- what remains after n bytes, as a slice
-pub left_behind : (n : ℕ) (xs : List ℕ) → take (length xs - n) (drop n xs) ≡ drop n xs
-left_behind n xs = take_all (length xs - n) (drop n xs) (omega (arith, length-drop n xs))
+pub left_after : (n : ℕ) (xs : List ℕ) → take (length xs - n) (drop n xs) ≡ drop n xs
+left_after n xs = take_all (length xs - n) (drop n xs) (omega (arith, length-drop n xs))
 
 -- what was printed for the messages so far, and what is left of the line
 pub record Checked {W : Type 0} (g : Ghosts W) (bytes rest : List ℕ) (old new : W) : Type 0 where

@@ -81,7 +81,7 @@ value_below c v e = grind arith
 pub pair_is : (a b x y i : ℕ) → hex_digit_value a ≡ Some x → hex_digit_value b ≡ Some y → pair_value a b i ≡ Ok (x * 16 + y)
 pair_is a b x y i p q = rw (p, q) refl
 
--- the bytes of the pairs so far stand before those of the rest
+-- the bytes of the pairs so far come before those of the rest
 abbrev pub Decoded : List ℕ → List ℕ → ℕ → Type 0
 Decoded digits bytes i = decode_pairs 0 digits ≡ prepend bytes (decode_pairs (2 * i) (drop (2 * i) digits))
 

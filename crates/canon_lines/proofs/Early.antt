@@ -171,7 +171,7 @@ module _ {W : Type 0} (g : Ghosts W) where
       pub all_none : (texts : List (List ℕ)) (s : W) → Puts g (StartsAll shows begins texts) s s
       all_none texts s = nothing_put s (record {
         before = [];
-        behind = texts;
+        following = texts;
         split = refl;
         first = [];
         second = [];

@@ -103,7 +103,7 @@ module _ {W : Type 0} (g : Ghosts W) (shows : List ℕ → List ℕ → Bool →
     appended = Appends-trans _ _ _ p.puts.out q.out p.puts.appended q.appended;
     shown = record {
       before = p.before;
-      behind = line ∷ left;
+      following = line ∷ left;
       split = p.split;
       first = p.puts.out;
       second = q.out;

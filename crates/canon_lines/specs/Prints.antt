@@ -115,13 +115,13 @@ StartsFirst starts (text ∷ texts) out = StartsLine starts text out
 -- it.
 pub record StartsAll (shows : List ℕ → List ℕ → Bool → Type 0) (starts : List ℕ → List ℕ → Type 0) (texts : List (List ℕ)) (out : List ℕ) : Type 0 where
   pub before : List (List ℕ)
-  pub behind : List (List ℕ)
-  pub split : texts ≡ before ++ behind
+  pub following : List (List ℕ)
+  pub split : texts ≡ before ++ following
   pub first : List ℕ
   pub second : List ℕ
   pub accepted : Bool
   pub prints : PrintsAll shows before first accepted
-  pub next : StartsFirst starts behind second
+  pub next : StartsFirst starts following second
   pub printed : out ≡ first ++ second
 
 -- bytes that P holds of were written to the sink

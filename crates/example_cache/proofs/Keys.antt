@@ -21,8 +21,8 @@ at_tree None bytes P s p = tt
 at_tree (Some m) bytes P s p = subst P (s.canonical ∙ ap canon (sym (ap or_nil s.is))) p
 
 -- another tree has another spelling
-pub apart_from : (t : Option Msg) (bytes : List ℕ) (n : Msg) → IsSpelled t bytes → Fits n → t ≢ Some n → bytes ≢ canon n
-apart_from t bytes n s fits ne e = ne (s.is ∙ ap Some (sym (s.only n (subst (λ b. Spells b n) (sym e) (canon_spells n fits)))))
+pub differ_from : (t : Option Msg) (bytes : List ℕ) (n : Msg) → IsSpelled t bytes → Fits n → t ≢ Some n → bytes ≢ canon n
+differ_from t bytes n s fits ne e = ne (s.is ∙ ap Some (sym (s.only n (subst (λ b. Spells b n) (sym e) (canon_spells n fits)))))
 
 -- two keys that compare as equal are the same bytes
 pub same_bytes : (xs ys : List ℕ) → is_eq (slice_cmp nat_cmp xs ys) ≡ true → xs ≡ ys

@@ -1,3 +1,3 @@
-pub mod Apart
+pub mod Differing
 pub mod Requests
 pub mod Sent

@@ -30,16 +30,16 @@ consumed (Some zs) (Some ws) xs ys bs p q c =
     let left : ws ≡ ys = cc in
     same ∙ c ∙ ap (λ t. bs ++ t) left
 
--- the first record of a log, apart
-pub first_apart : (m : Msg) (ms : List Msg) (cut : List ℕ) → written (m ∷ ms) ++ cut ≡ canon m ++ (written ms ++ cut)
+-- the first record of a log, by itself
+pub first_differ : (m : Msg) (ms : List Msg) (cut : List ℕ) → written (m ∷ ms) ++ cut ≡ canon m ++ (written ms ++ cut)
 unfolding written
-first_apart m ms cut = append_assoc (canon m) (written ms) cut
+first_differ m ms cut = append_assoc (canon m) (written ms) cut
 
 -- what is taken is the first record
 pub first_back : (log b rest : List ℕ) (tree m : Msg) (ms : List Msg) (cut : List ℕ) → log ≡ b ++ rest → Spells b tree → Fits m
     → log ≡ written (m ∷ ms) ++ cut → (tree ≡ m) × (rest ≡ written ms ++ cut)
 first_back log b rest tree m ms cut e s fits f =
-    let p = spelled_once tree m b (canon m) rest (written ms ++ cut) s (canon_spells m fits) (sym e ∙ f ∙ first_apart m ms cut) in
+    let p = spelled_once tree m b (canon m) rest (written ms ++ cut) s (canon_spells m fits) (sym e ∙ f ∙ first_differ m ms cut) in
     (p.1, p.2)
 
 -- a whole record begins a log
@@ -50,7 +50,7 @@ first_begins log m ms cut fits texts deep f =
       bytes = canon m;
       rest = written ms ++ cut;
       tree = m;
-      front = f ∙ first_apart m ms cut;
+      front = f ∙ first_differ m ms cut;
       spelled = canon_spells m fits;
       fits = deep;
       holds = (m, (refl, texts));
@@ -61,12 +61,12 @@ unfolding take_msg
 none_taken zero = refl
 none_taken (suc d) = refl
 
-apart : (o : Option (Msg × List ℕ)) (x : Msg × List ℕ) → o ≡ None → o ≡ Some x → ⊥
-apart o x p q = absurd cc
+differ : (o : Option (Msg × List ℕ)) (x : Msg × List ℕ) → o ≡ None → o ≡ Some x → ⊥
+differ o x p q = absurd cc
 
 no_bytes : (b : List ℕ) (m : Msg) → Spells b m → b ≡ [] → ⊥
 no_bytes b m s e =
-    apart (take_msg (depth m) []) (m, []) (none_taken (depth m)) (take_msg_takes m (depth m) [] [] (subst (λ z. Spells z m) e s) (omega arith))
+    differ (take_msg (depth m) []) (m, []) (none_taken (depth m)) (take_msg_takes m (depth m) [] [] (subst (λ z. Spells z m) e s) (omega arith))
 
 -- a message takes some bytes
 some_bytes : (b : List ℕ) (m : Msg) → Spells b m → (n : ℕ) → length b ≡ n → 0 < n
@@ -94,10 +94,10 @@ pub record Replayed (ms : List Msg) (cut : List ℕ) (read : List Msg) (rest : L
   pub front : rest ≡ written left ++ cut
 
 -- one record more
-module _ (ms : List Msg) (cut : List ℕ) (read : List Msg) (rest : List ℕ) (m : Msg) (behind : List ℕ) where
+module _ (ms : List Msg) (cut : List ℕ) (read : List Msg) (rest : List ℕ) (m : Msg) (following : List ℕ) where
   more : (left : List Msg) → ms ≡ read ++ left → All IsRecord left → rest ≡ written left ++ cut → IsCut cut → (IsCut rest → ⊥)
-      → ((n : Msg) (ns : List Msg) (c : List ℕ) → Fits n → rest ≡ written (n ∷ ns) ++ c → (m ≡ n) × (behind ≡ written ns ++ c))
-      → Replayed ms cut (read ++ m ∷ []) behind
+      → ((n : Msg) (ns : List Msg) (c : List ℕ) → Fits n → rest ≡ written (n ∷ ns) ++ c → (m ≡ n) × (following ≡ written ns ++ c))
+      → Replayed ms cut (read ++ m ∷ []) following
   unfolding written
   more [] all whole front is_cut no_cut back = absurd (no_cut (subst IsCut (sym front) is_cut))
   more (n ∷ ns) all whole front is_cut no_cut back =
@@ -110,8 +110,8 @@ module _ (ms : List Msg) (cut : List ℕ) (read : List Msg) (rest : List ℕ) (m
       }
 
   pub one_more : Replayed ms cut read rest → IsCut cut → (IsCut rest → ⊥)
-      → ((n : Msg) (ns : List Msg) (c : List ℕ) → Fits n → rest ≡ written (n ∷ ns) ++ c → (m ≡ n) × (behind ≡ written ns ++ c))
-      → Replayed ms cut (read ++ m ∷ []) behind
+      → ((n : Msg) (ns : List Msg) (c : List ℕ) → Fits n → rest ≡ written (n ∷ ns) ++ c → (m ≡ n) × (following ≡ written ns ++ c))
+      → Replayed ms cut (read ++ m ∷ []) following
   one_more r = more r.left r.all r.whole r.front
 
 -- the end, where no whole record is left

@@ -97,9 +97,9 @@ pub fn replay<'de>(alloc: Global, log: &'de [u8]) -> Result<(Vec<Value>, &'de [u
     let mut rest = log;
     loop {
         match next_record(alloc, rest) {
-            Ok((record, behind)) => {
+            Ok((record, following)) => {
                 records.push(record)?;
-                rest = behind;
+                rest = following;
             }
             Err(error) => {
                 if is_memory(&error) {

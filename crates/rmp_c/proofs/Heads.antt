@@ -10,7 +10,7 @@ use Rattle.rmp_wire.specs.Heads.{IsHead, canon_head}
 use Rattle.rmp_wire.specs.Reading.{TakesNext}
 use Rattle.rmp_wire.specs.Taking.{byte_of}
 use Rattle.rmp_wire.proofs.Canon.{canon_head_least, head_fits}
-use Rattle.rmp_wire.proofs.Heads.{heads_apart}
+use Rattle.rmp_wire.proofs.Heads.{heads_differ}
 use Rattle.rmp_wire.proofs.Reading.{reserved_opens_none}
 use Rattle.rmp_wire.proofs.Writing.{head_some}
 use Rattle.rmp_wire.specs.Heads.{fits_head}
@@ -30,7 +30,7 @@ none_left bytes at past n =
 pub none_cut : (bytes ahead rest : List ℕ) (at : ℕ) (m : Marker) (h : Head) → ahead ≡ drop at bytes → TakesNext m h (Some ahead) (Some rest)
     → length rest < content_len h → Node bytes at → ⊥
 none_cut bytes ahead rest at m h e t short n =
-    let p = heads_apart h n.head (byte_of m ∷ t.rest) n.spelled rest (n.content ++ n.rest) t.is_head n.is_head (sym t.taken ∙ e ∙ n.front) in
+    let p = heads_differ h n.head (byte_of m ∷ t.rest) n.spelled rest (n.content ++ n.rest) t.is_head n.is_head (sym t.taken ∙ e ∙ n.front) in
     let a = ap length p.2 ∙ length-append n.content n.rest in
     let b = n.long in
     let d = ap content_len p.0 in omega (arith, a, b, d, short)
@@ -41,7 +41,7 @@ pub found : (bytes ahead rest : List ℕ) (at : ℕ) (m : Marker) (h : Head) (i 
     → i.len ≡ content_len h → IsItem bytes at i
 found bytes ahead rest at m h i within e t long says start len =
     let a = sym (length-drop at bytes) ∙ ap length (sym e ∙ t.taken) ∙ length-append (byte_of m ∷ t.rest) rest in
-    let behind : i.start ≡ at + length (byte_of m ∷ t.rest) = start ∙ omega (arith, a, within) in
+    let following : i.start ≡ at + length (byte_of m ∷ t.rest) = start ∙ omega (arith, a, within) in
     record {
       node = record {
         head = h;
@@ -53,7 +53,7 @@ found bytes ahead rest at m h i within e t long says start len =
         long = length-take-le (content_len h) rest long;
       };
       says = says (head_fits h _ t.is_head);
-      start = behind;
+      start = following;
       len = len ∙ sym (length-take-le (content_len h) rest long);
     }
 

@@ -12,7 +12,7 @@ pub record Ends (before piece : List ℕ) (limit : ℕ) (new : State) (used : �
   pub short : length before + used ≤ limit
   pub holds : Holds [] new
 
--- the message goes on behind the piece
+-- the message goes on after the piece
 pub record GoesOn (before piece : List ℕ) (new : State) : Type 0 where
   pub begins : IsBeginning (before ++ piece)
   pub holds : Holds (before ++ piece) new

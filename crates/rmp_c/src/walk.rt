@@ -62,7 +62,7 @@ pub extern "C" fn rmp_next(bytes: &[u8], at: usize, item: &mut Item) -> u32
     }
 }
 
-// What a head says, where its content lies there.
+// What a head says, where its payload is buffered.
 fn item_of(head: Head, start: usize, content: u32) -> Item
     ensures says { fits_head head → Says head result }
     ensures start { result.start ≡ start }

@@ -42,7 +42,7 @@ use Rattle.rmp_wire.specs.Taking.{byte_of}
 use Rattle.rmp_wire.proofs.HeadReads.{reads_held_number, reads_held_whole}
 use Rattle.rmp_wire.proofs.NextReads.{reads_next, fails_at_marker, fails_at_head}
 use Rattle.rmp_wire.proofs.Strict.{test_passed}
-use Rattle.rmp_decode.specs.Allowed.{AllAllowed, BehindAllowed, FailsBehind, FailsNextAllowed}
+use Rattle.rmp_decode.specs.Allowed.{AllAllowed, AfterAllowed, FailsAfter, FailsNextAllowed}
 use Rattle.rmp_decode.specs.ReadErrors.{of_wire}
 use Rattle.rmp_decode.specs.declared.deserializer.heads.HeadError.{HeadError}
 use Rattle.rmp_decode.specs.declared.deserializer.heads.HeadError.TheVariants as heads
@@ -76,7 +76,7 @@ opens_map n l = let yes : nat_lt n 16 ≡ true = lt-ltb n 16 l in rw yes refl
 module _ {S : Type 0} (g : Ghosts S) (w : Bool) where
   -- the head of a number or of a length that the marker's byte holds
   pub held_whole : (m k : Marker) (v z : ℤ) (s : S) → m ≡ k → v ≡ z → FitsSigned w128 z → IsHead (Whole z) (byte_of k ∷ [])
-      → Opens (byte_of k) (canon_head (Whole z)) → BehindAllowed g w m s s (Whole (to_z w128 (of_z w128 v)))
+      → Opens (byte_of k) (canon_head (Whole z)) → AfterAllowed g w m s s (Whole (to_z w128 (of_z w128 v)))
   held_whole m k v z s e q f i o =
       let same : to_z w128 (of_z w128 v) ≡ z = ap (λ t. to_z w128 (of_z w128 t)) q ∙ to_z-of_z w128 z f in
       record {
@@ -87,7 +87,7 @@ module _ {S : Type 0} (g : Ghosts S) (w : Bool) where
       }
 
   pub held_number : (m k : Marker) (make : ℕ → Head) (a n : ℕ) (s : S) → m ≡ k → a ≡ n → IsHead (make n) (byte_of k ∷ [])
-      → Opens (byte_of k) (canon_head (make n)) → BehindAllowed g w m s s (make a)
+      → Opens (byte_of k) (canon_head (make n)) → AfterAllowed g w m s s (make a)
   held_number m k make a n s e q i o = record {
     read = reads_held_number g m k make a n s e q i;
     allowed = opened_allowed w m (make a) (subst (λ t. Opens (byte_of t) (canon_head (make a))) (sym e)
@@ -95,30 +95,30 @@ module _ {S : Type 0} (g : Ghosts S) (w : Bool) where
   }
 
   -- a head that was read where reading isn't strict
-  pub lenient_read : (m : Marker) (old new : S) (h : Head) → w ≡ false → ReadsHead g m old new (Ok h) → BehindAllowed g w m old new h
+  pub lenient_read : (m : Marker) (old new : S) (h : Head) → w ≡ false → ReadsHead g m old new (Ok h) → AfterAllowed g w m old new h
   lenient_read m old new h e r = record { read = r; allowed = lenient_allowed w m h e }
 
-  -- the wire's refusal of what stands behind the marker's byte
-  pub wire_refused : (m : Marker) (old new : S) (e : ValueReadError) → ReadsHead g m old new (Err e) → FailsBehind g w m old new (of_wire e)
+  -- the wire's refusal of what follows the marker's byte
+  pub wire_refused : (m : Marker) (old new : S) (e : ValueReadError) → ReadsHead g m old new (Err e) → FailsAfter g w m old new (of_wire e)
   wire_refused m old new (wire.InvalidMarkerRead fault) r = r
   wire_refused m old new (wire.InvalidDataRead fault) r = r
   wire_refused m old new (wire.TypeMismatch marker) r = r
 
   -- an error that another one was made from
   pub wire_failed : (m : Marker) (old new : S) (e : ValueReadError) (r : Result Head HeadError) → r ≡ Err (of_wire e) → ReadsHead g m old new (Err e)
-      → IfErr r (FailsBehind g w m old new)
+      → IfErr r (FailsAfter g w m old new)
   wire_failed m old new e r q h = rw q (wire_refused m old new e h)
 
   pub marker_failed : (old new : S) (e : MarkerReadError) (r : Result (Marker × Head) HeadError) → r ≡ Err (heads.InvalidMarkerRead e.0)
       → ReadsMarker g old new (Err e) → IfErr r (FailsNextAllowed g w old new)
   marker_failed old new e r q h = rw q (fails_at_marker g e _ old new refl h)
 
-  rest_failed : (m : Marker) (old mid new : S) (e : HeadError) → ReadsMarker g old mid (Ok m) → FailsBehind g w m mid new e → FailsNextAllowed g w old new e
+  rest_failed : (m : Marker) (old mid new : S) (e : HeadError) → ReadsMarker g old mid (Ok m) → FailsAfter g w m mid new e → FailsNextAllowed g w old new e
   rest_failed m old mid new (heads.InvalidMarkerRead fault) r f = fails_at_head g m (wire.InvalidMarkerRead fault) _ old mid new refl r f
   rest_failed m old mid new (heads.InvalidDataRead fault) r f = fails_at_head g m (wire.InvalidDataRead fault) _ old mid new refl r f
   rest_failed m old mid new (heads.TypeMismatch k) r f = fails_at_head g m (wire.TypeMismatch k) _ old mid new refl r f
   rest_failed m old mid new heads.NotCanonical r f = ((m, f.0), reads_next g m f.0 old mid new r f.1, f.2)
 
   pub head_failed : (m : Marker) (old mid new : S) (e : HeadError) (r : Result (Marker × Head) HeadError) → r ≡ Err e → ReadsMarker g old mid (Ok m)
-      → FailsBehind g w m mid new e → IfErr r (FailsNextAllowed g w old new)
+      → FailsAfter g w m mid new e → IfErr r (FailsNextAllowed g w old new)
   head_failed m old mid new e r q h f = rw q (rest_failed m old mid new e h f)

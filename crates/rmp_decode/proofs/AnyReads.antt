@@ -46,7 +46,7 @@ use Rattle.rmp_decode.proofs.Contents.{Content, text_content, content_read, cont
 use Rattle.rmp_decode.proofs.NothingAccepted.{refuses_narrower, same_head}
 use Rattle.rmp_decode.proofs.Rows.{in_list}
 
--- what is refused of the messages under a head that stands there
+-- what is refused of the messages under a head that is there
 refuses_under : (w : Bool) (Q P : Msg → Type 0) (room : ℕ) (known k : Option (List ℕ)) (b : List ℕ) (h : Head) → Consumes known k b → heads_of w h b
     → ((m : Msg) → head_of m ≡ h → P m → Q m) → Refuses (SpellsAs w) Q room known → Refuses (SpellsAs w) P room known
 unfolding Refuses
@@ -64,7 +64,7 @@ refuses_under w Q P room (Some xs) (Some ys) b h t i f r = λ a.
           (same_head _ a.tree h a.bytes b a.rest ys a.spelled i (sym a.front ∙ t)).0 a.holds;
     })
 
--- a refusal of one kind is one of all kinds, where a head of it stands there
+-- a refusal of one kind is one of all kinds, where a head of it is there
 pub lawful_under : {R C V W : Type 0} (g : Ghosts R) (reads : Msg → V → Type 0) (reads' : Msg → W
     → Type 0) (old mid new : Deserializer R C) (h : Head) (e : Error) → TakesHead g h old mid
     → ((m : Msg) → head_of m ≡ h → Readable reads' m → Readable reads m) → Lawful g reads old new (Err e) → Lawful g reads' old new (Err e)
@@ -98,13 +98,13 @@ module _ {R C V : Type 0} {make : List ℕ → Msg} {heads : ℕ → Head} (cont
 
 -- ---- texts
 
--- the bytes that stand there aren't UTF-8
+-- the bytes that are there aren't UTF-8
 pub no_text : (n : ℕ) (known k : Option (List ℕ)) (bytes : List ℕ) → Consumes known k bytes → length bytes ≡ n → (IsUtf8 bytes → ⊥) → StartsWithNoText n known
 no_text n None k bytes c l f = tt
 no_text n (Some xs) None bytes c l f = absurd c
 no_text n (Some xs) (Some ys) bytes c l f = λ s r e m u. f (subst IsUtf8 (same_front s bytes r ys (m ∙ sym l) (sym e ∙ c)) u)
 
--- too few bytes stand there
+-- too few bytes are there
 pub short_text : (n : ℕ) (known : Option (List ℕ)) → IsShort n known → StartsWithNoText n known
 short_text n None h = tt
 short_text n (Some xs) h = λ s r e m u. let long = ap length e ∙ length-append s r in omega (arith, long, m, h)

@@ -6,7 +6,7 @@ use Rattle.rmp_wire.specs.declared.source.Source.{Ghosts}
 use Rattle.rmp_wire.specs.Msg.{Msg, depth}
 use Rattle.rmp_wire.specs.Spelling.{head_of}
 use Rattle.rmp_decode.specs.Anys.{RefusesAny, FailsToOpenAny}
-use Rattle.rmp_decode.specs.Exact.{Stands, EndsExactly}
+use Rattle.rmp_decode.specs.Exact.{BeginsWith, EndsExactly}
 use Rattle.rmp_decode.specs.Law.{ReadsHead}
 use Rattle.rmp_decode.specs.Skip.{parts_head}
 use Rattle.rmp_decode.specs.State.{left, room_of}
@@ -28,10 +28,10 @@ any_none w room before after None e s = λ _. tt
 any_none w room before after (Some xs) e s = λ same. inl (s same)
 
 any_deep : (w : Bool) (room before after : ℕ) (known : Option (List ℕ)) (m : Marker) (is_map : Bool) (n : ℕ) (e : Error)
-    → IfSome known (Stands w m (parts_head is_map n)) → room ≡ 1 → e ≡ DepthLimitExceeded → RefusesAny w room before after known e
+    → IfSome known (BeginsWith w m (parts_head is_map n)) → room ≡ 1 → e ≡ DepthLimitExceeded → RefusesAny w room before after known e
 unfolding RefusesAny
 any_deep w room before after None m is_map n e s l is = λ _. tt
-any_deep w room before after (Some xs) m is_map n e s l is = λ _. inr (record { is_map = is_map; len = n; marker = m; stands = s }, l, is)
+any_deep w room before after (Some xs) m is_map n e s l is = λ _. inr (record { is_map = is_map; len = n; marker = m; starts = s }, l, is)
 
 module _ {R C : Type 0} (g : Ghosts R) (old new : Deserializer R C) (e : Error) where
   pub any_missing : ReadsHead g old new (Err e) → FailsToOpenAny g old new e
@@ -56,6 +56,6 @@ module _ {R C : Type 0} (g : Ghosts R) (old new : Deserializer R C) (e : Error) 
         let d = parts_nest q.0 a.tree q.1 (u.0 ∙ i) in
         let f = a.fits in
         omega arith);
-    exact = λ _. any_deep _ (room_of old) _ _ (left g old) p.0 q.0 q.1 e (subst (λ t. IfSome (left g old) (Stands old.strict p.0 t)) i h.marked)
+    exact = λ _. any_deep _ (room_of old) _ _ (left g old) p.0 q.0 q.1 e (subst (λ t. IfSome (left g old) (BeginsWith old.strict p.0 t)) i h.marked)
         (omega arith) is;
   }

@@ -4,15 +4,15 @@ use Rattle.rmp_wire.specs.declared.source.Source.{Ghosts}
 use Rattle.rmp_wire.specs.Msg.{Msg, count}
 use Rattle.rmp_decode.specs.Inside.{access_at, TakesValues, StopsRow}
 use Rattle.rmp_decode.specs.Refusing.{Setting, Refusals, setting_of, inside, RefusedIn}
-use Rattle.rmp_decode.specs.Refusing.{Wanted, Excess, Behind, EachRead, OneWanted, RefusesTimes}
+use Rattle.rmp_decode.specs.Refusing.{Wanted, Excess, AfterItems, EachRead, OneWanted, RefusesTimes}
 use Rattle.rmp_decode.specs.Seq.{SpellsIn, Opens, inner_of}
 use Rattle.rmp_decode.specs.State.{left, faults_of}
 use Rattle.rmp_decode.specs.declared.deserializer.Deserializer.{Deserializer}
 use Rattle.rmp_decode.specs.declared.error.Error.{Error}
 use Rattle.rmp_decode.specs.declared.error.Error.TheVariants.{LengthMismatch, Syntax}
 use Rattle.rmp_decode.specs.declared.text.Text.TheVariants.{InvalidLength}
-use Rattle.rmp_decode.proofs.ListRefusals.{behind_head}
-use Rattle.rmp_decode.proofs.RowEnds.{count_each, behind_values, element_of_list}
+use Rattle.rmp_decode.proofs.ListRefusals.{after_head}
+use Rattle.rmp_decode.proofs.RowEnds.{count_each, after_values, element_of_list}
 
 module _ {R C V : Type 0} (g : Ghosts R) (human : C → Bool) (lends : Bool) (reads : Bool → Bool → Msg → V → Type 0) (P : Setting → Refusals)
     (start new d : Deserializer R C) (b : Bool) (all : ℕ) (o : Opens g d (access_at start b all all)) (n : ℕ) (e : Error) where
@@ -22,15 +22,15 @@ module _ {R C V : Type 0} (g : Ghosts R) (human : C → Bool) (lends : Bool) (re
   Then : ℕ → Option (List ℕ) → Error → Type 0
   Then = Wanted (RefusedIn b (P i) (faults_of g d) (faults_of g new))
 
-  -- an element was wanted behind these
+  -- an element was wanted after these
   wanted : (mid : Deserializer R C) (still : ℕ) (vs : List V)
       → TakesValues g (reads (human start.config) lends) (access_at start b all all) (access_at mid b still all) vs → length vs < n → Then still (left g mid) e
       → RefusesTimes n reads P (setting_of (human d.config) lends d) (faults_of g d) (faults_of g new) (left g d) e
   unfolding i Then
-  wanted mid still vs t l w = inr (behind_head g human lends d (access_at start b all all) o (faults_of g new) e
+  wanted mid still vs t l w = inr (after_head g human lends d (access_at start b all all) o (faults_of g new) e
       (λ b i many known e. OneWanted n reads P b i (faults_of g d) (faults_of g new) many known e
-      ⊎ Behind (SpellsIn i.strict b) (λ ms. (count ms ≡ n) × EachRead reads i ms) i.room many (Excess n) known e)
-      (inl (behind_values g human lends reads start new d b all o mid still vs t (λ ms. (count ms < n) × EachRead reads i ms)
+      ⊎ AfterItems (SpellsIn i.strict b) (λ ms. (count ms ≡ n) × EachRead reads i ms) i.room many (Excess n) known e)
+      (inl (after_values g human lends reads start new d b all o mid still vs t (λ ms. (count ms < n) × EachRead reads i ms)
       (λ r. (let c = count_each (reads (human d.config) lends) t.trees vs r in omega arith, (vs, r))) Then e w)))
 
   -- it was refused
@@ -60,9 +60,9 @@ module _ {R C V : Type 0} (g : Ghosts R) (human : C → Bool) (lends : Bool) (re
     unfolding i
     array_excess l z q =
         let same : all - rest ≡ n = omega (arith, many, l) in
-        inr (behind_head g human lends d (access_at start b all all) o (faults_of g new) e
+        inr (after_head g human lends d (access_at start b all all) o (faults_of g new) e
         (λ b i many known e. OneWanted n reads P b i (faults_of g d) (faults_of g new) many known e
-        ⊎ Behind (SpellsIn i.strict b) (λ ms. (count ms ≡ n) × EachRead reads i ms) i.room many (Excess n) known e)
-        (inr (behind_values g human lends reads start new d b all o new rest vs t (λ ms. (count ms ≡ n) × EachRead reads i ms)
+        ⊎ AfterItems (SpellsIn i.strict b) (λ ms. (count ms ≡ n) × EachRead reads i ms) i.room many (Excess n) known e)
+        (inr (after_values g human lends reads start new d b all o new rest vs t (λ ms. (count ms ≡ n) × EachRead reads i ms)
         (λ r. (let c = count_each (reads (human d.config) lends) t.trees vs r in omega (arith, c, read, many, l), (vs, r))) (Excess n) e
         (z, q ∙ ap LengthMismatch same))))

@@ -38,9 +38,9 @@ use Rattle.rmp_wire.specs.declared.source.Source.{Ghosts}
 use Rattle.rmp_wire.specs.Canonical.{heads_of, SpellsAs}
 use Rattle.rmp_wire.specs.Msg.{Msgs, no_items, item, count, depth, depth_all}
 use Rattle.rmp_wire.specs.Taking.{marker_of}
-use Rattle.rmp_wire.proofs.Strict.{heads_apart_as}
-use Rattle.rmp_decode.specs.Buffers.{IsBehind, NoByte, RefusesItem, RefusesItems, RefusesListOf, RefusesListIn, RefusesList}
-use Rattle.rmp_decode.specs.Exact.{Stands, Exact, RefusesExactly, EndsExactly}
+use Rattle.rmp_wire.proofs.Strict.{heads_differ_as}
+use Rattle.rmp_decode.specs.Buffers.{ListAfterHead, NoByte, RefusesItem, RefusesItems, RefusesListOf, RefusesListIn, RefusesList}
+use Rattle.rmp_decode.specs.Exact.{BeginsWith, Exact, RefusesExactly, EndsExactly}
 use Rattle.rmp_decode.specs.Kinds.{raw_head, other_number}
 use Rattle.rmp_decode.specs.Law.{Begins, Refuses, Readable, ReadsHead}
 use Rattle.rmp_decode.specs.Read.{IsUnsigned}
@@ -52,10 +52,10 @@ use Rattle.rmp_decode.specs.declared.access.seq.SeqAccess.{SeqAccess}
 use Rattle.rmp_decode.specs.declared.error.Error.{Error}
 use Rattle.rmp_decode.specs.declared.error.Error.TheVariants.{DepthLimitExceeded, OutOfMemory, Syntax}
 use Rattle.rmp_decode.specs.declared.text.Text.TheVariants.{InvalidValue}
-use Rattle.rmp_decode.proofs.Exactness.{stand_once}
+use Rattle.rmp_decode.proofs.Exactness.{start_once}
 use Rattle.rmp_decode.proofs.Rows.{push, count-push}
 use Rattle.rmp_decode.proofs.Seqs.{run_step, each-push}
-use Rattle.rmp_decode.proofs.FirstFault.{is_memory, front_of, stands}
+use Rattle.rmp_decode.proofs.FirstFault.{is_memory, front_of, starts}
 
 -- numbers open no level
 flat : (ms : Msgs) (b : List ℕ) → ReadsEach (IsUnsigned 255) ms b → depth_all ms ≡ 0
@@ -64,14 +64,14 @@ flat no_items (n ∷ b) r = absurd r
 flat (item m ms) [] r = absurd r
 flat (item m ms) (n ∷ b) r = let i = flat ms b r.1 in let d : depth m ≡ 0 = ap depth r.0.0 in omega (arith, i, d)
 
--- no number stands where one was refused
+-- there is no number where one was refused
 no_byte : (w : Bool) (room : ℕ) (ys : List ℕ) (e : Error) → 0 < room → (e ≢ OutOfMemory → Begins (SpellsAs w) (Readable (IsUnsigned 255)) room ys → ⊥)
     → Exact w other_number ys e → NoByte w ys
 no_byte w room ys e some none x = elim (is_memory e) [
   | inl m ↦ (λ a.
       let number = a.holds.1.0 in
       let f = front_of w (Whole (pos a.holds.0)) a.bytes ys a.rest a.front (subst (SpellsAs w a.bytes) number a.spelled) in
-      let is : e ≡ Syntax InvalidValue = x.stands (marker_of f.byte) (Whole (pos a.holds.0)) (stands f) in
+      let is : e ≡ Syntax InvalidValue = x.starts (marker_of f.byte) (Whole (pos a.holds.0)) (starts f) in
       absurd (cc))
   | inr o ↦ (λ a. none o (record {
     bytes = a.bytes;
@@ -110,7 +110,7 @@ item_unkept w n (Some xs) (Some ys) bytes ms b t s r some l = record {
 }
 
 -- by the access that reads them
-module _ {R C : Type 0} (g : Ghosts R) (d last : Deserializer R C) (start : SeqAccess R C) (len : ℕ) (o : IsBehind len d start) where
+module _ {R C : Type 0} (g : Ghosts R) (d last : Deserializer R C) (start : SeqAccess R C) (len : ℕ) (o : ListAfterHead len d start) where
   pub number_refused : (mid now : SeqAccess R C) (ms : Msgs) (b : List ℕ) (e : Error) → Run g start mid ms → ReadsEach (IsUnsigned 255) ms b
       → FailsToTake g (IsUnsigned 255) mid now e → last ≡ now.de.now
       → RefusesExactly mid.de.now.strict other_number (faults_of g mid.de.now) (faults_of g now.de.now) (left g mid.de.now) e
@@ -145,35 +145,35 @@ module _ {R C : Type 0} (g : Ghosts R) (d last : Deserializer R C) (start : SeqA
 
 module _ {R C : Type 0} (g : Ghosts R) (old : Deserializer R C) (e : Error) where
   none_listed : (before after : ℕ) (known : Option (List ℕ)) → EndsExactly old.strict before after known e → after ≡ before
-      → IfSome known (λ xs. (m : Marker) (n : ℕ) → (s : Stands old.strict m (Array n) xs) → RefusesListOf old.strict (room_of old) n e s.rest)
+      → IfSome known (λ xs. (m : Marker) (n : ℕ) → (s : BeginsWith old.strict m (Array n) xs) → RefusesListOf old.strict (room_of old) n e s.rest)
   unfolding EndsExactly
   none_listed before after None x q = tt
   none_listed before after (Some xs) x q = λ m n s. absurd ((x q).0 m (Array n) s)
 
-  -- no head stands at the front
+  -- the bytes begin with no head
   pub list_none : (after : ℕ) → EndsExactly old.strict (faults_of g old) after (left g old) e
       → RefusesListIn old.strict (room_of old) (faults_of g old) after (left g old) e
   unfolding RefusesListIn
   list_none after x = none_listed (faults_of g old) after (left g old) x
 
-  other_listed : (m : Marker) (h : Head) (known : Option (List ℕ)) → IfSome known (Stands old.strict m h) → ((n : ℕ) → h ≡ Array n → ⊥)
-      → IfSome known (λ xs. (m : Marker) (n : ℕ) → (s : Stands old.strict m (Array n) xs) → RefusesListOf old.strict (room_of old) n e s.rest)
+  other_listed : (m : Marker) (h : Head) (known : Option (List ℕ)) → IfSome known (BeginsWith old.strict m h) → ((n : ℕ) → h ≡ Array n → ⊥)
+      → IfSome known (λ xs. (m : Marker) (n : ℕ) → (s : BeginsWith old.strict m (Array n) xs) → RefusesListOf old.strict (room_of old) n e s.rest)
   other_listed m h None s f = tt
-  other_listed m h (Some xs) s f = λ k n t. absurd (f n (sym (stand_once _ k m (Array n) h xs t s).1))
+  other_listed m h (Some xs) s f = λ k n t. absurd (f n (sym (start_once _ k m (Array n) h xs t s).1))
 
   -- another message's does
-  pub list_other : (after : ℕ) (m : Marker) (h : Head) → IfSome (left g old) (Stands old.strict m h) → ((n : ℕ) → h ≡ Array n → ⊥)
+  pub list_other : (after : ℕ) (m : Marker) (h : Head) → IfSome (left g old) (BeginsWith old.strict m h) → ((n : ℕ) → h ≡ Array n → ⊥)
       → RefusesListIn old.strict (room_of old) (faults_of g old) after (left g old) e
   unfolding RefusesListIn
   list_other after m h s f = λ _. other_listed m h (left g old) s f
 
-  behind_listed : (n : ℕ) (known k : Option (List ℕ)) (bytes : List ℕ) → Consumes known k bytes → heads_of old.strict (Array n) bytes
+  after_listed : (n : ℕ) (known k : Option (List ℕ)) (bytes : List ℕ) → Consumes known k bytes → heads_of old.strict (Array n) bytes
       → (room_of old ≡ 1 → e ≡ DepthLimitExceeded) → (1 < room_of old → IfSome k (RefusesItem old.strict n e))
-      → IfSome known (λ xs. (m : Marker) (n : ℕ) → (s : Stands old.strict m (Array n) xs) → RefusesListOf old.strict (room_of old) n e s.rest)
-  behind_listed n None k bytes t i d r = tt
-  behind_listed n (Some xs) None bytes t i d r = absurd t
-  behind_listed n (Some xs) (Some ys) bytes t i d r = λ m l s.
-      let u = heads_apart_as old.strict (Array l) (Array n) (s.byte ∷ s.behind) bytes s.rest ys s.is_head i (sym s.front ∙ t) in
+      → IfSome known (λ xs. (m : Marker) (n : ℕ) → (s : BeginsWith old.strict m (Array n) xs) → RefusesListOf old.strict (room_of old) n e s.rest)
+  after_listed n None k bytes t i d r = tt
+  after_listed n (Some xs) None bytes t i d r = absurd t
+  after_listed n (Some xs) (Some ys) bytes t i d r = λ m l s.
+      let u = heads_differ_as old.strict (Array l) (Array n) (s.byte ∷ s.following) bytes s.rest ys s.is_head i (sym s.front ∙ t) in
       let same : l ≡ n = let a = u.0 in cc in
       record {
         deep = d;
@@ -181,22 +181,22 @@ module _ {R C : Type 0} (g : Ghosts R) (old : Deserializer R C) (e : Error) wher
             (subst (λ z. RefusesItem old.strict n e z) (sym u.2) (r more));
       }
 
-  -- a list's was taken, and what is behind it is refused
-  behind_head : (new mid : Deserializer R C) (m : Marker) (h : Head) (n : ℕ) → ReadsHead g old mid (Ok (m, h)) → h ≡ Array n
+  -- a list's was taken, and what follows it is refused
+  after_head : (new mid : Deserializer R C) (m : Marker) (h : Head) (n : ℕ) → ReadsHead g old mid (Ok (m, h)) → h ≡ Array n
       → (mid.room ≤ 1 → e ≡ DepthLimitExceeded) → (1 < mid.room → RefusesItems g n mid new e) → RefusesList g old new e
   unfolding RefusesItems RefusesListIn
-  behind_head new mid m h n o i deep items = λ k.
+  after_head new mid m h n o i deep items = λ k.
       let room : mid.room ≡ old.room = o.stays.room in
-      behind_listed n (left g old) (left g mid) o.ok.bytes o.ok.takes (subst (λ z. heads_of old.strict z o.ok.bytes) i o.ok.is_head)
+      after_listed n (left g old) (left g mid) o.ok.bytes o.ok.takes (subst (λ z. heads_of old.strict z o.ok.bytes) i o.ok.is_head)
       (λ one. deep (omega (arith, room, one))) (λ more. subst (λ z. IfSome (left g mid) (RefusesItem z n e)) o.stays.strict
       (items (omega (arith, room, more)) (k ∙ sym o.sound)))
 
-pub list_behind : {R C V : Type 0} (g : Ghosts R) (old mid new : Deserializer R C) (m : Marker) (h : Head) (n : ℕ) (r : Result V Error)
+pub list_after : {R C V : Type 0} (g : Ghosts R) (old mid new : Deserializer R C) (m : Marker) (h : Head) (n : ℕ) (r : Result V Error)
     → ReadsHead g old mid (Ok (m, h)) → h ≡ Array n → IfErr r (λ e. mid.room ≤ 1 → e ≡ DepthLimitExceeded)
     → IfErr r (λ e. 1 < mid.room → RefusesItems g n mid new e)
     → IfErr r (RefusesList g old new)
-list_behind g old mid new m h n (Ok v) o i deep items = tt
-list_behind g old mid new m h n (Err e) o i deep items = behind_head g old e new mid m h n o i deep items
+list_after g old mid new m h n (Ok v) o i deep items = tt
+list_after g old mid new m h n (Err e) o i deep items = after_head g old e new mid m h n o i deep items
 
 pub raw_no_list : (t : Bool) (len n : ℕ) → raw_head t len ≡ Array n → ⊥
 raw_no_list true len n e = absurd (cc)

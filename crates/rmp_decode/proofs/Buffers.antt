@@ -8,7 +8,7 @@ use Rattle.rmp_wire.specs.declared.source.Source.{Ghosts}
 use Rattle.rmp_wire.specs.Canonical.{heads_of, SpellsAs}
 use Rattle.rmp_wire.specs.Msg.{Msg, nil, truth, whole, float32, float64, text, bin, list, map, extension, Msgs}
 use Rattle.rmp_wire.specs.Spelling.{head_of}
-use Rattle.rmp_decode.specs.Buffers.{IsBuffer, IsBehind}
+use Rattle.rmp_decode.specs.Buffers.{IsBuffer, ListAfterHead}
 use Rattle.rmp_decode.specs.Kinds.{raw_head, raw_msg}
 use Rattle.rmp_decode.specs.Law.{Refuses, Readable, Lawful, ReadsHead}
 use Rattle.rmp_decode.specs.Read.{IsUnsigned}
@@ -97,9 +97,9 @@ no_buffer (map ps) b h r e f g = r
 no_buffer (extension tag s) b h r e f g = r
 
 -- the access to a list whose head was taken
-pub opened_behind : {R C : Type 0} (g : Ghosts R) (old mid : Deserializer R C) (m : Marker) (len : ℕ) (s : SeqAccess R C)
-    → ReadsHead g old mid (Ok (m, Array len)) → IsBehind len mid s → Opens g old s
-opened_behind g old mid m len s h b =
+pub opened_after : {R C : Type 0} (g : Ghosts R) (old mid : Deserializer R C) (m : Marker) (len : ℕ) (s : SeqAccess R C)
+    → ReadsHead g old mid (Ok (m, Array len)) → ListAfterHead len mid s → Opens g old s
+opened_after g old mid m len s h b =
     let room : mid.room ≡ old.room = h.stays.room in
     record {
       fresh = h.fresh;

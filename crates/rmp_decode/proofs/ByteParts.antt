@@ -69,12 +69,12 @@ module _ {R C : Type 0} (g : Ghosts R) (old mid part : Deserializer R C) (clean 
       let alone = s.alone in
       let same : n ∷ ys ≡ s.byte ∷ a.rest = sym t ∙ a.front ∙ ap (λ z. z ++ a.rest) alone in
       let first : s.byte ≡ n = cc in
-      let behind : ys ≡ a.rest = cc in
+      let following : ys ≡ a.rest = cc in
       r (record {
         bytes = canon_head (Whole (pos n));
         rest = a.rest;
         tree = whole (pos n);
-        front = ap (λ z. canon_head (Whole (pos n)) ++ z) behind;
+        front = ap (λ z. canon_head (Whole (pos n)) ++ z) following;
         spelled = canon_in w (Whole (pos n)) (fits_byte n small);
         fits = some;
         holds = subst P (s.number ∙ ap (λ z. whole (pos z)) first) a.holds;
@@ -106,8 +106,8 @@ module _ (P : Refusals) (e : Error) (before after : ℕ) where
   byte_wrong (Some []) (Some ys) n t p = absurd (cc)
   byte_wrong (Some (b ∷ xs)) (Some ys) n t p = λ _.
       let first : n ≡ b = cc in
-      let behind : ys ≡ xs = cc in
-      rw (first, behind) at p
+      let following : ys ≡ xs = cc in
+      rw (first, following) at p
 
   byte_missing : (known : Option (List ℕ)) → (after ≡ before → IsDataEnd e × IsAtEnd known) → RefusedIn true P before after known e
   byte_missing None h = tt

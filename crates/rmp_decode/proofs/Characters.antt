@@ -1,4 +1,4 @@
--- Characters that are decoded where they lie.
+-- Characters that are decoded in the buffer.
 use Rattle.std.proofs.Common.{
   ◌≡◌,
   ◌∙◌,
@@ -32,7 +32,7 @@ use Rattle.std.specs.Io.KnownBytes.{Consumes}
 use Rattle.std.specs.Prelude.{SomeIff, IfSome}
 use Rattle.rmp_wire.specs.Sources.{IsFront, Skips}
 use Rattle.rmp_wire.specs.Spelling.{IsBytes}
-use Rattle.rmp_decode.specs.Ahead.{SpellsChar, CharLies}
+use Rattle.rmp_decode.specs.Ahead.{SpellsChar, CharIn}
 use Rattle.rmp_decode.proofs.ContentErrors.{same_front}
 
 -- ---- the UTF-8 of a character by its length
@@ -77,9 +77,9 @@ char_4 (Some c) code a b d e s l h p q t u = record {
   spelled = rw (s.1, p, q, t, u) (four code l);
 }
 
--- ---- it stands at the front
+-- ---- the bytes begin with it
 
-pub lies_1 : (front : List ℕ) (c len : ℕ) → len ≡ 1 → 1 ≤ length front → get_or front 0 0 < 128 → c ≡ get_or front 0 0 → CharLies c len front
+pub lies_1 : (front : List ℕ) (c len : ℕ) → len ≡ 1 → 1 ≤ length front → get_or front 0 0 < 128 → c ≡ get_or front 0 0 → CharIn c len front
 lies_1 [] c len i l b e = absurd (omega arith)
 lies_1 (x ∷ xs) c len i l b e = record {
   bytes = x ∷ [];
@@ -89,46 +89,46 @@ lies_1 (x ∷ xs) c len i l b e = record {
     spelled = ap encode_utf8 e ∙ encode_ascii x b;
   };
   long = sym i;
-  behind = xs;
+  following = xs;
   begins = refl;
 }
 
 pub lies_2 : (r : Option ℕ) (front : List ℕ) (len : ℕ) → len ≡ 2 → 2 ≤ length front
-    → IfSome r (λ c. SpellsChar c (get_or front 0 0 ∷ get_or front 1 0 ∷ [])) → IfSome r (λ c. CharLies c len front)
+    → IfSome r (λ c. SpellsChar c (get_or front 0 0 ∷ get_or front 1 0 ∷ [])) → IfSome r (λ c. CharIn c len front)
 lies_2 None front len i l s = tt
 lies_2 (Some c) [] len i l s = absurd (omega arith)
 lies_2 (Some c) (x ∷ []) len i l s = absurd (omega arith)
-lies_2 (Some c) (x ∷ y ∷ xs) len i l s = record { bytes = x ∷ y ∷ []; spells = s; long = sym i; behind = xs; begins = refl }
+lies_2 (Some c) (x ∷ y ∷ xs) len i l s = record { bytes = x ∷ y ∷ []; spells = s; long = sym i; following = xs; begins = refl }
 
 pub lies_3 : (r : Option ℕ) (front : List ℕ) (len : ℕ) → len ≡ 3 → 3 ≤ length front
-    → IfSome r (λ c. SpellsChar c (get_or front 0 0 ∷ get_or front 1 0 ∷ get_or front 2 0 ∷ [])) → IfSome r (λ c. CharLies c len front)
+    → IfSome r (λ c. SpellsChar c (get_or front 0 0 ∷ get_or front 1 0 ∷ get_or front 2 0 ∷ [])) → IfSome r (λ c. CharIn c len front)
 lies_3 None front len i l s = tt
 lies_3 (Some c) [] len i l s = absurd (omega arith)
 lies_3 (Some c) (x ∷ []) len i l s = absurd (omega arith)
 lies_3 (Some c) (x ∷ y ∷ []) len i l s = absurd (omega arith)
-lies_3 (Some c) (x ∷ y ∷ z ∷ xs) len i l s = record { bytes = x ∷ y ∷ z ∷ []; spells = s; long = sym i; behind = xs; begins = refl }
+lies_3 (Some c) (x ∷ y ∷ z ∷ xs) len i l s = record { bytes = x ∷ y ∷ z ∷ []; spells = s; long = sym i; following = xs; begins = refl }
 
 pub lies_4 : (r : Option ℕ) (front : List ℕ) (len : ℕ) → len ≡ 4 → 4 ≤ length front
-    → IfSome r (λ c. SpellsChar c (get_or front 0 0 ∷ get_or front 1 0 ∷ get_or front 2 0 ∷ get_or front 3 0 ∷ [])) → IfSome r (λ c. CharLies c len front)
+    → IfSome r (λ c. SpellsChar c (get_or front 0 0 ∷ get_or front 1 0 ∷ get_or front 2 0 ∷ get_or front 3 0 ∷ [])) → IfSome r (λ c. CharIn c len front)
 lies_4 None front len i l s = tt
 lies_4 (Some c) [] len i l s = absurd (omega arith)
 lies_4 (Some c) (x ∷ []) len i l s = absurd (omega arith)
 lies_4 (Some c) (x ∷ y ∷ []) len i l s = absurd (omega arith)
 lies_4 (Some c) (x ∷ y ∷ z ∷ []) len i l s = absurd (omega arith)
-lies_4 (Some c) (x ∷ y ∷ z ∷ w ∷ xs) len i l s = record { bytes = x ∷ y ∷ z ∷ w ∷ []; spells = s; long = sym i; behind = xs; begins = refl }
+lies_4 (Some c) (x ∷ y ∷ z ∷ w ∷ xs) len i l s = record { bytes = x ∷ y ∷ z ∷ w ∷ []; spells = s; long = sym i; following = xs; begins = refl }
 
 -- ---- it is taken
 
-bytes_consumed : (c len : ℕ) (front : List ℕ) (known k : Option (List ℕ)) → (a : CharLies c len front) → IsFront front known → Skips len known k
+bytes_consumed : (c len : ℕ) (front : List ℕ) (known k : Option (List ℕ)) → (a : CharIn c len front) → IsFront front known → Skips len known k
     → Consumes known k a.bytes
 bytes_consumed c len front None k a f s = tt
 bytes_consumed c len front (Some xs) None a f s = absurd s.taken
 bytes_consumed c len front (Some xs) (Some ys) a f s =
-    let split : xs ≡ a.bytes ++ (a.behind ++ f.0) = f.1 ∙ ap (λ t. t ++ f.0) a.begins ∙ append_assoc a.bytes a.behind f.0 in
-    let same : s.bytes ≡ a.bytes = same_front s.bytes a.bytes ys (a.behind ++ f.0) (s.long ∙ sym a.long) (sym s.taken ∙ split) in
+    let split : xs ≡ a.bytes ++ (a.following ++ f.0) = f.1 ∙ ap (λ t. t ++ f.0) a.begins ∙ append_assoc a.bytes a.following f.0 in
+    let same : s.bytes ≡ a.bytes = same_front s.bytes a.bytes ys (a.following ++ f.0) (s.long ∙ sym a.long) (sym s.taken ∙ split) in
     subst (λ b. xs ≡ b ++ ys) same s.taken
 
-pub char_consumed : (c len : ℕ) (front : List ℕ) (known k : Option (List ℕ)) → CharLies c len front → IsFront front known → Skips len known k
+pub char_consumed : (c len : ℕ) (front : List ℕ) (known k : Option (List ℕ)) → CharIn c len front → IsFront front known → Skips len known k
     → IsScalar c × (length (encode_utf8 c) ≡ len) × IsBytes (encode_utf8 c) × Consumes known k (encode_utf8 c)
 char_consumed c len front known k a f s =
     let e = sym a.spells.spelled in

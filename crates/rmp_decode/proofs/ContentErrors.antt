@@ -1,4 +1,4 @@
--- Which error comes where a head and the content behind it are wanted.
+-- Which error comes where a head and the content after it are wanted.
 use Rattle.std.proofs.Common.{
   ◌≡◌,
   ◌∙◌,
@@ -40,10 +40,10 @@ use Rattle.rmp_wire.specs.Slices.{Blames}
 use Rattle.rmp_wire.specs.Sources.{IsShort}
 use Rattle.rmp_wire.specs.Taking.{marker_of}
 use Rattle.rmp_wire.proofs.Canon.{canon_head_least}
-use Rattle.rmp_wire.proofs.Strict.{any_width, heads_apart_as}
+use Rattle.rmp_wire.proofs.Strict.{any_width, heads_differ_as}
 use Rattle.rmp_wire.proofs.Writing.{head_some}
 use Rattle.rmp_decode.specs.Content.{RefusesContent, IsTextHead, IsRawHead, IsBufferHead, IsExtHead, not_lent, not_bytes, not_string, not_str}
-use Rattle.rmp_decode.specs.Exact.{Stands, EndsExactly, IsDataEnd, IsUtf8Error}
+use Rattle.rmp_decode.specs.Exact.{BeginsWith, EndsExactly, IsDataEnd, IsUtf8Error}
 use Rattle.rmp_decode.specs.Kinds.{raw_head, raw_msg, content_len}
 use Rattle.rmp_decode.specs.Law.{Explains, ReadsHead, Reads}
 use Rattle.rmp_decode.specs.Pieces.{Blamed, StartsWithNoChar, RefusesPiece}
@@ -53,7 +53,7 @@ use Rattle.rmp_decode.specs.declared.error.Error.{Error}
 use Rattle.rmp_decode.specs.declared.error.Error.TheVariants.{Syntax}
 use Rattle.rmp_decode.specs.declared.text.Text.TheVariants.{InvalidValue}
 use Rattle.rmp_decode.proofs.Contents.{bare, raw_content}
-use Rattle.rmp_decode.proofs.Exactness.{stand_once, stands_known}
+use Rattle.rmp_decode.proofs.Exactness.{start_once, starts_known}
 
 -- ---- pieces
 
@@ -125,63 +125,63 @@ unlent false false n m s e l q = q
 -- ---- heads and content
 
 module _ (strict : Bool) (wanted : Head → Type 0) (other : Marker → Head → Error) (refused : Head → List ℕ → Error → Type 0) (before after : ℕ) where
-  -- no head stands at the front
+  -- the bytes begin with no head
   pub content_none : (known : Option (List ℕ)) (e : Error) → EndsExactly strict before after known e
       → RefusesContent strict wanted other refused before after known e
   unfolding RefusesContent EndsExactly
   content_none None e s = λ _. tt
   content_none (Some xs) e s = λ k. record {
     others = λ m h t _. absurd ((s k).0 m h t);
-    cut = λ h _ t. absurd ((s k).0 t.marker h t.stands);
-    whole = λ h c _ t. absurd ((s k).0 t.marker h t.stands);
+    cut = λ h _ t. absurd ((s k).0 t.marker h t.starts);
+    whole = λ h c _ t. absurd ((s k).0 t.marker h t.starts);
     ends = λ _. (s k).1;
   }
 
   -- another one does
-  pub content_other : (known : Option (List ℕ)) (m : Marker) (h : Head) (e : Error) → IfSome known (Stands strict m h) → (wanted h → ⊥) → e ≡ other m h
+  pub content_other : (known : Option (List ℕ)) (m : Marker) (h : Head) (e : Error) → IfSome known (BeginsWith strict m h) → (wanted h → ⊥) → e ≡ other m h
       → RefusesContent strict wanted other refused before after known e
   unfolding RefusesContent
   content_other None m h e s f q = λ _. tt
   content_other (Some xs) m h e s f q = λ _. record {
-    others = λ n k t _. let u = stand_once _ n m k h xs t s in q ∙ ap (λ z. other z h) (sym u.0) ∙ ap (other n) (sym u.1);
-    cut = λ k w t. absurd (f (subst wanted (stand_once _ t.marker m k h xs t.stands s).1 w));
-    whole = λ k c w t. absurd (f (subst wanted (stand_once _ t.marker m k h xs t.stands s).1 w));
+    others = λ n k t _. let u = start_once _ n m k h xs t s in q ∙ ap (λ z. other z h) (sym u.0) ∙ ap (other n) (sym u.1);
+    cut = λ k w t. absurd (f (subst wanted (start_once _ t.marker m k h xs t.starts s).1 w));
+    whole = λ k c w t. absurd (f (subst wanted (start_once _ t.marker m k h xs t.starts s).1 w));
     ends = λ none. absurd (none m h s);
   }
 
-  -- a wanted one does, and what is behind it is refused
-  pub content_behind : (known k : Option (List ℕ)) (b : List ℕ) (m : Marker) (h : Head) (e : Error) → Consumes known k b → heads_of strict h b
-      → IfSome known (Stands strict m h) → wanted h → Explains e before after (RefusesPiece (content_len h) (refused h) k e)
+  -- a wanted one does, and what follows it is refused
+  pub content_after : (known k : Option (List ℕ)) (b : List ℕ) (m : Marker) (h : Head) (e : Error) → Consumes known k b → heads_of strict h b
+      → IfSome known (BeginsWith strict m h) → wanted h → Explains e before after (RefusesPiece (content_len h) (refused h) k e)
       → RefusesContent strict wanted other refused before after known e
   unfolding RefusesContent RefusesPiece
-  content_behind None k b m h e c i s w r = λ _. tt
-  content_behind (Some xs) None b m h e c i s w r = absurd c
-  content_behind (Some xs) (Some ys) b m h e c i s w r = λ q.
+  content_after None k b m h e c i s w r = λ _. tt
+  content_after (Some xs) None b m h e c i s w r = absurd c
+  content_after (Some xs) (Some ys) b m h e c i s w r = λ q.
       record {
-        others = λ m' h' t f. absurd (f (subst wanted (stand_once _ m m' h h' xs s t).1 w));
+        others = λ m' h' t f. absurd (f (subst wanted (start_once _ m m' h h' xs s t).1 w));
         cut = λ h' _ t n.
             let p = r n q in
-            let t0 = t.stands in
+            let t0 = t.starts in
             let short = t.short in
-            let u = heads_apart_as strict h' h (t0.byte ∷ t0.behind) b t0.rest ys t0.is_head i (sym t0.front ∙ c) in
+            let u = heads_differ_as strict h' h (t0.byte ∷ t0.following) b t0.rest ys t0.is_head i (sym t0.front ∙ c) in
             p.cut (omega (arith, short, ap content_len u.0, ap length u.2));
         whole = λ h' s' _ t n.
             let p = r n q in
-            let t0 = t.stands in
-            let u = heads_apart_as strict h' h (t0.byte ∷ t0.behind) b t0.rest ys t0.is_head i (sym t0.front ∙ c) in
-            subst (λ z. refused z s' e) (sym u.0) (p.whole s' t.behind (sym u.2 ∙ t.content) (t.long ∙ ap content_len u.0));
+            let t0 = t.starts in
+            let u = heads_differ_as strict h' h (t0.byte ∷ t0.following) b t0.rest ys t0.is_head i (sym t0.front ∙ c) in
+            subst (λ z. refused z s' e) (sym u.0) (p.whole s' t.following (sym u.2 ∙ t.content) (t.long ∙ ap content_len u.0));
         ends = λ none. absurd (none m h s);
       }
 
   -- a wanted one does that has no content of its own
-  pub content_apart : (known : Option (List ℕ)) (m : Marker) (h k : Head) (e : Error) → IfSome known (Stands strict m h) → h ≡ k → content_len k ≡ 0
+  pub content_differ : (known : Option (List ℕ)) (m : Marker) (h k : Head) (e : Error) → IfSome known (BeginsWith strict m h) → h ≡ k → content_len k ≡ 0
       → wanted k → ((s : List ℕ) → refused k s e) → RefusesContent strict wanted other refused before after known e
   unfolding RefusesContent
-  content_apart None m h k e s i z w f = λ _. tt
-  content_apart (Some xs) m h k e s i z w f = λ _. record {
-    others = λ n j t n0. absurd (n0 (subst wanted (sym i ∙ sym (stand_once _ n m j h xs t s).1) w));
-    cut = λ j _ t. absurd (let short = t.short in let u = (stand_once _ t.marker m j h xs t.stands s).1 ∙ i in omega (arith, short, z, ap content_len u));
-    whole = λ j c _ t _. subst (λ y. refused y c e) (sym ((stand_once _ t.marker m j h xs t.stands s).1 ∙ i)) (f c);
+  content_differ None m h k e s i z w f = λ _. tt
+  content_differ (Some xs) m h k e s i z w f = λ _. record {
+    others = λ n j t n0. absurd (n0 (subst wanted (sym i ∙ sym (start_once _ n m j h xs t s).1) w));
+    cut = λ j _ t. absurd (let short = t.short in let u = (start_once _ t.marker m j h xs t.starts s).1 ∙ i in omega (arith, short, z, ap content_len u));
+    whole = λ j c _ t _. subst (λ y. refused y c e) (sym ((start_once _ t.marker m j h xs t.starts s).1 ∙ i)) (f c);
     ends = λ none. absurd (none m h s);
   }
 
@@ -202,12 +202,12 @@ some_byte (x ∷ y) l = (x, y, refl)
 pub head_byte : (strict : Bool) (h : Head) (b : List ℕ) → heads_of strict h b → (x : ℕ) × (y : List ℕ) × (b ≡ x ∷ y)
 head_byte strict h b i = some_byte b (omega (arith, canon_head_least h b (any_width strict h b i), head_some h))
 
-stands_some : (strict : Bool) (h : Head) (b : List ℕ) (known k : Option (List ℕ)) → heads_of strict h b → Consumes known k b
-    → (m : Marker) × IfSome known (Stands strict m h)
-stands_some strict h b known k i c =
+starts_some : (strict : Bool) (h : Head) (b : List ℕ) (known k : Option (List ℕ)) → heads_of strict h b → Consumes known k b
+    → (m : Marker) × IfSome known (BeginsWith strict m h)
+starts_some strict h b known k i c =
     let t = head_byte strict h b i in
     let front = t.2 in
-    (marker_of t.0, stands_known _ (marker_of t.0) h t.0 t.1 known k (subst (Consumes known k) front c) refl (subst (heads_of strict h) front i))
+    (marker_of t.0, starts_known _ (marker_of t.0) h t.0 t.1 known k (subst (Consumes known k) front c) refl (subst (heads_of strict h) front i))
 
 split_known : (known k : Option (List ℕ)) (a s : List ℕ) → Consumes known k (a ++ s) → Consumes known (prepend_known s k) a
 split_known None k a s c = tt
@@ -289,7 +289,7 @@ module _ {R C : Type 0} (g : Ghosts R) (wanted : Head → Type 0) (other : Marke
       → Explains e (g.faults mid.reader) after (RefusesPiece n (refused h) (g.ahead mid.reader) e)
       → RefusesContent old.strict wanted other refused (faults_of g old) after (left g old) e
   content_error p h n e r i l w x =
-      content_behind old.strict wanted other refused (faults_of g old) after (left g old) (left g mid) r.ok.bytes p.0 p.1 e r.ok.takes r.ok.is_head r.marked
+      content_after old.strict wanted other refused (faults_of g old) after (left g old) (left g mid) r.ok.bytes p.0 p.1 e r.ok.takes r.ok.is_head r.marked
       (subst wanted (sym i) w) (λ o k.
       rw (bare g mid r.clean, i, l) (x o (k ∙ sym r.sound)))
 
@@ -302,8 +302,8 @@ module _ {R C : Type 0} (g : Ghosts R) (wanted : Head → Type 0) (other : Marke
       let h = raw_head t (length s) in
       let same : r.bytes ≡ j.first ++ s = j.is_whole ∙ ap (λ z. j.first ++ z) j.is_second.0 in
       let taken = split_known (left g old) (left g mid) j.first s (subst (Consumes (left g old) (left g mid)) same r.takes) in
-      let m = stands_some old.strict h j.first (left g old) (prepend_known s (left g mid)) j.is_first taken in
-      content_behind old.strict wanted other refused (faults_of g old) after (left g old) (prepend_known s (left g mid)) j.first m.0 h e taken j.is_first
+      let m = starts_some old.strict h j.first (left g old) (prepend_known s (left g mid)) j.is_first taken in
+      content_after old.strict wanted other refused (faults_of g old) after (left g old) (prepend_known s (left g mid)) j.first m.0 h e taken j.is_first
       m.1 w (λ _ _.
       piece_whole (content_len h) (refused h) (prepend_known s (left g mid)) (left g mid) s e (front_known (left g mid) s) (sym (raw_len t (length s))) f)
 

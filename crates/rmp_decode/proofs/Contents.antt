@@ -1,4 +1,4 @@
--- Messages that are a head and bytes behind it.
+-- Messages that are a head and bytes after it.
 use Rattle.std.proofs.Common.{◌≡◌, ℕ, ℤ, ◌≤◌, List, [], ◌++◌, length, refl, sym, ◌∙◌, ap, subst, arith, Bool, true, false, Option, None, Some, IfSome, Ok, Err}
 use Rattle.std.specs.Io.KnownBytes.{Consumes, prepend_known}
 use Rattle.std.proofs.KnownBytes.{Consumes-trans}
@@ -18,7 +18,7 @@ use Rattle.rmp_decode.specs.declared.deserializer.Deserializer.{Deserializer}
 use Rattle.rmp_decode.specs.declared.deserializer.Kept.TheVariants.{Nothing}
 use Rattle.rmp_decode.specs.declared.error.Error.{Error}
 use Rattle.rmp_decode.proofs.Laws.{refused, refused_head, stays_then}
-use Rattle.rmp_wire.proofs.Strict.{heads_apart_as}
+use Rattle.rmp_wire.proofs.Strict.{heads_differ_as}
 use Rattle.rmp_decode.proofs.NothingAccepted.{content_of, refuses_short, refuses_by, refuses_all}
 
 -- with nothing kept back, what is left is what the source has ahead
@@ -126,14 +126,14 @@ module _ {R C V : Type 0} {make : List ℕ → Msg} {heads : ℕ → Head} (cont
         stays = stays_then g old mid new h.stays st;
       }
 
-  -- too few bytes are behind the head
+  -- too few bytes are after the head
   pub content_short : (n : ℕ) (e : Error) → p.1 ≡ heads n → Explains e (g.faults mid.reader) (g.faults new.reader) (IsShort n (g.ahead mid.reader))
       → new.failed ≡ true → Stays g mid new → Lawful g reads old new (Err e)
   content_short n e i x f st = refused g reads old new e h.fresh f (stays_then g old mid new h.stays st) (λ o k.
       let s : IsShort n (left g mid) = rw (bare g mid h.clean) (x o (k ∙ sym h.sound)) in
       refuses_short _ (Readable reads) _ n (left g old) (left g mid) h.ok.bytes p.1 h.ok.takes h.ok.is_head s (λ m r q. content.fills m n (q ∙ i)))
 
-  -- too few bytes are behind the head, or the source doesn't lend, and only what is lent is read
+  -- too few bytes are after the head, or the source doesn't lend, and only what is lent is read
   pub content_lent : (lends : Bool) (n : ℕ) (e : Error) → p.1 ≡ heads n → ((m : Msg) → Readable reads m → lends ≡ true)
       → (lends ≡ true → Explains e (g.faults mid.reader) (g.faults new.reader) (IsShort n (g.ahead mid.reader))) → new.failed ≡ true → Stays g mid new
       → Lawful g reads old new (Err e)
@@ -161,6 +161,6 @@ module _ {R C V : Type 0} {make : List ℕ → Msg} {heads : ℕ → Head} (cont
       let j = content.opens old.strict t0 a.bytes (subst (SpellsAs old.strict a.bytes) same_tree a.spelled) in
       let split : j.first ++ (j.second ++ a.rest) ≡ h.ok.bytes ++ ys = sym (append_assoc j.first j.second a.rest) ∙ ap (λ z. z ++ a.rest) (sym j.is_whole)
       ∙ sym a.front in
-      let u = heads_apart_as old.strict (heads (length t0)) p.1 j.first h.ok.bytes (j.second ++ a.rest) ys j.is_first h.ok.is_head split in
+      let u = heads_differ_as old.strict (heads (length t0)) p.1 j.first h.ok.bytes (j.second ++ a.rest) ys j.is_first h.ok.is_head split in
       let at : (s r : List ℕ) → ys ≡ s ++ r → length s ≡ n → Readable reads (make s) → ⊥ = rw q at none in
       at t0 a.rest (sym u.2 ∙ ap (λ z. z ++ a.rest) j.is_second.0) (content.same _ _ (u.0 ∙ i)) (subst (Readable reads) same_tree a.holds)))

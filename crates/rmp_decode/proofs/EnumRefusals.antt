@@ -45,9 +45,9 @@ module _ {R C : Type 0} (g : Ghosts R) (human : C → Bool) (lends : Bool) (name
           },
         ))
 
-    behind_name : v.bare ≡ false → PartRefused g (human v.de.now.config) lends ((choice_at cs n).content) (max 1 v.inner) v.de.now new e → Refused new
+    after_name : v.bare ≡ false → PartRefused g (human v.de.now.config) lends ((choice_at cs n).content) (max 1 v.inner) v.de.now new e → Refused new
     unfolding RefusesEnum
-    behind_name b h =
+    after_name b h =
         let t = subst (λ z. TakesNameOf g names n z old v.de.now v.inner) b o.name in
         let P = (choice_at cs n).content in
         let s = setting_same human lends v.de.now old (max 1 v.inner) (max 1 v.inner) o.stays.config o.stays.strict refl in
@@ -87,13 +87,13 @@ module _ {R C : Type 0} (g : Ghosts R) (human : C → Bool) (lends : Bool) (name
         go true f h = f refl
         go false f h = h refl
 
-    -- the variant at the place has no content, and such stood there
+    -- the variant at the place has no content, and such was there
     pub unit_wrong : {A : Type 0} → (v.bare ≡ true → ⊥ × A)
         → (v.bare ≡ false → PartRefused g (human v.de.now.config) lends ((choice_at cs n).content) (max 1 v.inner) v.de.now new e) → Refused last
-    unit_wrong f h = by_bare (λ b. absurd (f b).0) (λ b. behind_name b (h b))
+    unit_wrong f h = by_bare (λ b. absurd (f b).0) (λ b. after_name b (h b))
 
     -- it has content, which isn't there or is refused
     pub content_wrong : {V A : Type 0} → (e ≡ Syntax InvalidType → (choice_at cs n).alone e)
         → (v.bare ≡ true → (◌≡◌ {A = Result V Error} (Err e) (Err (Syntax InvalidType))) × A)
         → (v.bare ≡ false → PartRefused g (human v.de.now.config) lends ((choice_at cs n).content) (max 1 v.inner) v.de.now new e) → Refused last
-    content_wrong wanted f h = by_bare (λ b. alone_wrong b (wanted (let p = (f b).0 in cc))) (λ b. behind_name b (h b))
+    content_wrong wanted f h = by_bare (λ b. alone_wrong b (wanted (let p = (f b).0 in cc))) (λ b. after_name b (h b))

@@ -39,25 +39,25 @@ use Rattle.rmp_wire.specs.Canonical.{heads_of}
 use Rattle.rmp_wire.specs.Heads.{IsHead, canon_head, fits_head}
 use Rattle.rmp_wire.specs.Reading.{NoHead, FailsNext}
 use Rattle.rmp_wire.specs.Taking.{byte_of, marker_of}
-use Rattle.rmp_wire.proofs.Heads.{heads_apart, marker_pos}
-use Rattle.rmp_wire.proofs.Strict.{any_width, canon_in, heads_apart_as}
-use Rattle.rmp_decode.specs.Exact.{Stands, NoneStands, Ends, RefusesExactly, RefusesBy, EndsExactly}
+use Rattle.rmp_wire.proofs.Heads.{heads_differ, marker_pos}
+use Rattle.rmp_wire.proofs.Strict.{any_width, canon_in, heads_differ_as}
+use Rattle.rmp_decode.specs.Exact.{BeginsWith, BeginsWithNone, Ends, RefusesExactly, RefusesBy, EndsExactly}
 use Rattle.rmp_decode.specs.ReadErrors.{error_of}
 use Rattle.rmp_decode.specs.declared.error.Error.{Error}
 use Rattle.rmp_decode.specs.declared.error.Error.TheVariants.{TypeMismatch, NotCanonical}
 
--- ---- a head that stands at the front
+-- ---- a head that the bytes begin with
 
-pub stands_known : (s : Bool) (m : Marker) (h : Head) (b : ℕ) (behind : List ℕ) (known k : Option (List ℕ)) → Consumes known k (b ∷ behind)
-    → m ≡ marker_of b → heads_of s h (b ∷ behind) → IfSome known (Stands s m h)
-stands_known s m h b behind None k c e i = tt
-stands_known s m h b behind (Some xs) None c e i = absurd c
-stands_known s m h b behind (Some xs) (Some ys) c e i = record { byte = b; behind = behind; rest = ys; front = c; is_marker = e; is_head = i }
+pub starts_known : (s : Bool) (m : Marker) (h : Head) (b : ℕ) (following : List ℕ) (known k : Option (List ℕ)) → Consumes known k (b ∷ following)
+    → m ≡ marker_of b → heads_of s h (b ∷ following) → IfSome known (BeginsWith s m h)
+starts_known s m h b following None k c e i = tt
+starts_known s m h b following (Some xs) None c e i = absurd c
+starts_known s m h b following (Some xs) (Some ys) c e i = record { byte = b; following = following; rest = ys; front = c; is_marker = e; is_head = i }
 
 -- at most one does
-pub stand_once : (strict : Bool) (m n : Marker) (h k : Head) (xs : List ℕ) → Stands strict m h xs → Stands strict n k xs → (m ≡ n) × (h ≡ k)
-stand_once strict m n h k xs s t =
-    let u = heads_apart_as strict h k (s.byte ∷ s.behind) (t.byte ∷ t.behind) s.rest t.rest s.is_head t.is_head (sym s.front ∙ t.front) in
+pub start_once : (strict : Bool) (m n : Marker) (h k : Head) (xs : List ℕ) → BeginsWith strict m h xs → BeginsWith strict n k xs → (m ≡ n) × (h ≡ k)
+start_once strict m n h k xs s t =
+    let u = heads_differ_as strict h k (s.byte ∷ s.following) (t.byte ∷ t.following) s.rest t.rest s.is_head t.is_head (sym s.front ∙ t.front) in
     let bytes = u.1 in
     let first : s.byte ≡ t.byte = cc in
     (s.is_marker ∙ ap marker_of first ∙ sym t.is_marker, u.0)
@@ -65,28 +65,28 @@ stand_once strict m n h k xs s t =
 -- the canonical head of a byte
 record ByteHead (m : Marker) (head : List ℕ) : Type 0 where
   pub byte : ℕ
-  pub behind : List ℕ
-  pub is : head ≡ byte ∷ behind
+  pub following : List ℕ
+  pub is : head ≡ byte ∷ following
   pub is_marker : m ≡ marker_of byte
 
 byte_head : (n : ℕ) → n < 256 → (m : Marker) → (n < 128 → m ≡ marker.FixPos n) → (128 ≤ n → m ≡ marker.U8) → ByteHead m (canon_head (Whole (pos n)))
 unfolding canon_head marker_of
 byte_head n l m small wide = elim (cases_lt n 128) [
-  | inl lt ↦ let yes : nat_lt n 128 ≡ true = lt-ltb n 128 lt in record { byte = n; behind = []; is = rw yes refl; is_marker = small lt ∙ sym (marker_pos n lt) }
+  | inl lt ↦ let yes : nat_lt n 128 ≡ true = lt-ltb n 128 lt in record { byte = n; following = []; is = rw yes refl; is_marker = small lt ∙ sym (marker_pos n lt) }
   | inr ge ↦
       let no : nat_lt n 128 ≡ false = le-ltb n 128 ge in
       let yes : nat_lt n 256 ≡ true = lt-ltb n 256 l in
-      record { byte = 0xcc; behind = to_be_bytes w8 n; is = rw (no, yes) refl; is_marker = wide ge }
+      record { byte = 0xcc; following = to_be_bytes w8 n; is = rw (no, yes) refl; is_marker = wide ge }
 ]
 
-pub number_stands : (s : Bool) (n : ℕ) → n < 256 → fits_head (Whole (pos n)) → (m : Marker) → (n < 128 → m ≡ marker.FixPos n) → (128 ≤ n → m ≡ marker.U8)
-    → (known : Option (List ℕ)) → IfSome (prepend_known (canon_head (Whole (pos n))) known) (Stands s m (Whole (pos n)))
-number_stands s n l f m small wide None = tt
-number_stands s n l f m small wide (Some ys) =
+pub number_starts : (s : Bool) (n : ℕ) → n < 256 → fits_head (Whole (pos n)) → (m : Marker) → (n < 128 → m ≡ marker.FixPos n) → (128 ≤ n → m ≡ marker.U8)
+    → (known : Option (List ℕ)) → IfSome (prepend_known (canon_head (Whole (pos n))) known) (BeginsWith s m (Whole (pos n)))
+number_starts s n l f m small wide None = tt
+number_starts s n l f m small wide (Some ys) =
     let b = byte_head n l m small wide in
     record {
       byte = b.byte;
-      behind = b.behind;
+      following = b.following;
       rest = ys;
       front = ap (λ z. z ++ ys) b.is;
       is_marker = b.is_marker;
@@ -97,11 +97,11 @@ number_stands s n l f m small wide (Some ys) =
 -- ---- the error
 
 pub exact_head : (s : Bool) (table : Marker → Head → Error) (before after : ℕ) (known : Option (List ℕ)) (m : Marker) (h : Head) (e : Error)
-    → IfSome known (Stands s m h) → e ≡ table m h → RefusesExactly s table before after known e
+    → IfSome known (BeginsWith s m h) → e ≡ table m h → RefusesExactly s table before after known e
 unfolding RefusesExactly
 exact_head w table before after None m h e s q = λ _. tt
 exact_head w table before after (Some xs) m h e s q = λ _. record {
-  stands = λ n k t. let u = stand_once _ n m k h xs t s in q ∙ ap (λ z. table z h) (sym u.0) ∙ ap (table n) (sym u.1);
+  starts = λ n k t. let u = start_once _ n m k h xs t s in q ∙ ap (λ z. table z h) (sym u.0) ∙ ap (table n) (sym u.1);
   ends = λ none. absurd (none m h s);
 }
 
@@ -109,14 +109,14 @@ pub exact_none : (s : Bool) (table : Marker → Head → Error) (before after : 
     → RefusesExactly s table before after known e
 unfolding RefusesExactly EndsExactly
 exact_none w table before after None e s = λ _. tt
-exact_none w table before after (Some xs) e s = λ same. record { stands = λ m h t. absurd ((s same).0 m h t); ends = λ _. (s same).1 }
+exact_none w table before after (Some xs) e s = λ same. record { starts = λ m h t. absurd ((s same).0 m h t); ends = λ _. (s same).1 }
 
 pub by_head : (s : Bool) (table : Marker → Head → Error → Type 0) (before after : ℕ) (known : Option (List ℕ)) (m : Marker) (h : Head) (e : Error)
-    → IfSome known (Stands s m h) → table m h e → RefusesBy s table before after known e
+    → IfSome known (BeginsWith s m h) → table m h e → RefusesBy s table before after known e
 unfolding RefusesBy
 by_head w table before after None m h e s q = λ _. tt
 by_head w table before after (Some xs) m h e s q = λ _. record {
-  stands = λ n k t. let u = stand_once _ n m k h xs t s in subst (λ z. table n z e) (sym u.1) (subst (λ z. table z h e) (sym u.0) q);
+  starts = λ n k t. let u = start_once _ n m k h xs t s in subst (λ z. table n z e) (sym u.1) (subst (λ z. table z h e) (sym u.0) q);
   ends = λ none. absurd (none m h s);
 }
 
@@ -124,7 +124,7 @@ pub by_none : (s : Bool) (table : Marker → Head → Error → Type 0) (before 
     → EndsExactly s before after known e → RefusesBy s table before after known e
 unfolding RefusesBy EndsExactly
 by_none w table before after None e s = λ _. tt
-by_none w table before after (Some xs) e s = λ same. record { stands = λ m h t. absurd ((s same).0 m h t); ends = λ _. (s same).1 }
+by_none w table before after (Some xs) e s = λ same. record { starts = λ m h t. absurd ((s same).0 m h t); ends = λ _. (s same).1 }
 
 -- ---- no head
 
@@ -176,11 +176,11 @@ same_first : (a b : ℕ) (xs part : List ℕ) (new : Option (List ℕ)) → Cons
 same_first a b xs part None c = absurd c
 same_first a b xs part (Some ys) c = let u : a ∷ xs ≡ b ∷ (part ++ ys) = c in cc
 
-none_stands : (strict : Bool) (xs : List ℕ) → NoHead (Some xs) → NoneStands strict xs
-none_stands strict xs n m h s = n h (s.byte ∷ s.behind) s.rest s.front (any_width strict h (s.byte ∷ s.behind) s.is_head)
+none_starts : (strict : Bool) (xs : List ℕ) → NoHead (Some xs) → BeginsWithNone strict xs
+none_starts strict xs n m h s = n h (s.byte ∷ s.following) s.rest s.front (any_width strict h (s.byte ∷ s.following) s.is_head)
 
 ends_known : (xs : List ℕ) (new : Option (List ℕ)) (before after : ℕ) (e : ValueReadError) → after ≡ before → FailsNext (Some xs) new before after e
-    → NoneStands false xs → Ends xs (error_of e)
+    → BeginsWithNone false xs → Ends xs (error_of e)
 unfolding byte_of
 ends_known [] new before after (wire.InvalidMarkerRead f) q r none = r.leaves.end q
 ends_known [] new before after (wire.InvalidDataRead f) q r none = let t = r.leaves.0 in absurd (not_begun [] (byte_of t.marker) t.part new refl t.taken)
@@ -198,7 +198,7 @@ pub ends_none : (s : Bool) (known new : Option (List ℕ)) (before after : ℕ) 
     → EndsExactly s before after known (error_of e)
 unfolding EndsExactly
 ends_none s None new before after e r = λ _. tt
-ends_none s (Some xs) new before after e r = λ q. (none_stands s xs (r.none q), ends_known xs new before after e q r (none_stands false xs (r.none q)))
+ends_none s (Some xs) new before after e r = λ q. (none_starts s xs (r.none q), ends_known xs new before after e q r (none_starts false xs (r.none q)))
 
 -- ---- a head that isn't canonical
 
@@ -218,24 +218,24 @@ not_reserved (Array n) b x i e = grind arith
 not_reserved (Map n) b x i e = grind arith
 not_reserved (Ext n tag) b x i e = grind arith
 
--- another head of some width stands there, so none that is allowed does
-pub wide_stands_none : (strict : Bool) (h : Head) (b : ℕ) (behind xs ys : List ℕ) → xs ≡ (b ∷ behind) ++ ys → IsHead h (b ∷ behind)
-    → (heads_of strict h (b ∷ behind) → ⊥) → NoneStands strict xs
-wide_stands_none strict h b behind xs ys c i n = λ m k s.
-    let u = heads_apart k h (s.byte ∷ s.behind) (b ∷ behind) s.rest ys (any_width strict k (s.byte ∷ s.behind) s.is_head) i (sym s.front ∙ c) in
-    n (subst (λ z. heads_of strict z (b ∷ behind)) u.0 (subst (heads_of strict k) u.1 s.is_head))
+-- another head of some width is there, so none that is allowed does
+pub wide_starts_none : (strict : Bool) (h : Head) (b : ℕ) (following xs ys : List ℕ) → xs ≡ (b ∷ following) ++ ys → IsHead h (b ∷ following)
+    → (heads_of strict h (b ∷ following) → ⊥) → BeginsWithNone strict xs
+wide_starts_none strict h b following xs ys c i n = λ m k s.
+    let u = heads_differ k h (s.byte ∷ s.following) (b ∷ following) s.rest ys (any_width strict k (s.byte ∷ s.following) s.is_head) i (sym s.front ∙ c) in
+    n (subst (λ z. heads_of strict z (b ∷ following)) u.0 (subst (heads_of strict k) u.1 s.is_head))
 
-pub ends_wide : (s : Bool) (before after : ℕ) (known k : Option (List ℕ)) (h : Head) (b : ℕ) (behind : List ℕ) → Consumes known k (b ∷ behind)
-    → IsHead h (b ∷ behind) → (heads_of s h (b ∷ behind) → ⊥) → EndsExactly s before after known NotCanonical
+pub ends_wide : (s : Bool) (before after : ℕ) (known k : Option (List ℕ)) (h : Head) (b : ℕ) (following : List ℕ) → Consumes known k (b ∷ following)
+    → IsHead h (b ∷ following) → (heads_of s h (b ∷ following) → ⊥) → EndsExactly s before after known NotCanonical
 unfolding EndsExactly
-ends_wide s before after None k h b behind c i n = λ _. tt
-ends_wide s before after (Some xs) None h b behind c i n = absurd c
-ends_wide s before after (Some xs) (Some ys) h b behind c i n = λ _. (
-  wide_stands_none s h b behind xs ys c i n,
+ends_wide s before after None k h b following c i n = λ _. tt
+ends_wide s before after (Some xs) None h b following c i n = absurd c
+ends_wide s before after (Some xs) (Some ys) h b following c i n = λ _. (
+  wide_starts_none s h b following xs ys c i n,
   subst (λ z. Ends z NotCanonical) (sym c) (
-    λ e. absurd (not_reserved h b behind i e),
+    λ e. absurd (not_reserved h b following i e),
     λ _. inr (
-      record { marker = marker_of b; head = h; stands = record { byte = b; behind = behind; rest = ys; front = refl; is_marker = refl; is_head = i } },
+      record { marker = marker_of b; head = h; starts = record { byte = b; following = following; rest = ys; front = refl; is_marker = refl; is_head = i } },
       refl,
     ),
   ),

@@ -42,7 +42,7 @@ module _ {R C V S : Type 0} (g : Ghosts R) (human lends : Bool) (reads : Msg →
 
 -- ---- fields of a list
 
--- behind the first one another was refused
+-- after the first one another was refused
 pub others_wrong : {R C V : Type 0} (g : Ghosts R) (human : C → Bool) (lends : Bool) (reads : Msg → V
     → Type 0) (p : Part) (ps : List Part) (old mid new : SeqAccess R C) (v : V) (took : TakesElement g reads old mid v) (e : Error)
     → p.holds (element_setting (human old.de.now.config) lends old) took.tree
@@ -116,10 +116,10 @@ module _ {R C V : Type 0} (g : Ghosts R) (human : C → Bool) (lends : Bool) (na
     abbrev Inner : Setting
     Inner = inside (setting_of (human old.config) lends old) (map_inner start)
 
-    behind_met : PairFails names ps r.met_trees Inner (faults_of g old) after mid.left (left g mid.de.now) e ⊎ Lacks reads r.met_trees Inner mid.left e
+    after_met : PairFails names ps r.met_trees Inner (faults_of g old) after mid.left (left g mid.de.now) e ⊎ Lacks reads r.met_trees Inner mid.left e
         → RefusesFields names reads ps (setting_of (human old.config) lends old) (faults_of g old) after (left g old) e
     unfolding RefusesFields
-    behind_met w = inr (inr (record {
+    after_met w = inr (inr (record {
       inner = map_inner start;
       many = start.left;
       bytes = o.head.bytes;
@@ -156,13 +156,13 @@ module _ {R C V : Type 0} (g : Ghosts R) (human : C → Bool) (lends : Bool) (na
         (r.run.stays.strict ∙ o.stays.strict) mid_room in
         let w1 = subst (λ z. name_refusal z (faults_of g mid.de.now) (faults_of g now.de.now) (left g mid.de.now) e) s h.1 in
         let w2 = subst (λ z. name_refusal Inner z (faults_of g now.de.now) (left g mid.de.now) e) (r.run.faults_same ∙ o.faults_same) w1 in
-        behind_met (inl (h.0, inl (subst (λ z. name_refusal Inner (faults_of g old) z (left g mid.de.now) e) (sym q) w2)))
+        after_met (inl (h.0, inl (subst (λ z. name_refusal Inner (faults_of g old) z (left g mid.de.now) e) (sym q) w2)))
 
     -- a field is missing
     pub field_lacks : mid.left ≡ 0 → e ≡ Syntax MissingField → ((v : V) → reads (human old.config) lends r.met_trees v → ⊥)
         → RefusesFields names reads ps (setting_of (human old.config) lends old) (faults_of g old) after (left g old) e
     unfolding RefusesFields
-    field_lacks z q f = behind_met (inr (z, q, f))
+    field_lacks z q f = after_met (inr (z, q, f))
 
     module _ (key now : MapAccess R C) (k : Option ℕ) (t : TakesKey g (IsName names) mid key k) (q : after ≡ faults_of g now.de.now) where
       -- how the value of the key that was read last is
@@ -182,7 +182,7 @@ module _ {R C V : Type 0} (g : Ghosts R) (human : C → Bool) (lends : Bool) (na
       pub pass_wrong : k ≡ None → EntryRefused g (human key.de.now.config) lends pass_refusal key now e
           → RefusesFields names reads ps (setting_of (human old.config) lends old) (faults_of g old) after (left g old) e
       unfolding RefusesFields
-      pass_wrong n h = behind_met (inl (
+      pass_wrong n h = after_met (inl (
         some_left,
         inr (inl (record {
           bytes = t.part.bytes;
@@ -200,7 +200,7 @@ module _ {R C V : Type 0} (g : Ghosts R) (human : C → Bool) (lends : Bool) (na
       pub field_wrong : (n : ℕ) → k ≡ Some n → FillRefused g (human key.de.now.config) lends holds ps n key now slots e
           → RefusesFields names reads ps (setting_of (human old.config) lends old) (faults_of g old) after (left g old) e
       unfolding RefusesFields
-      field_wrong n i h = behind_met (inl (
+      field_wrong n i h = after_met (inl (
         some_left,
         inr (inr (
           n,

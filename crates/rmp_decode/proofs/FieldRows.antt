@@ -10,7 +10,7 @@ use Rattle.rmp_wire.specs.Msg.{Msg, Msgs, no_items, item}
 use Rattle.rmp_decode.specs.FieldRefusing.{RefusesFields}
 use Rattle.rmp_decode.specs.FieldRows.{TakesRow, FailsRow, ReadsRow, MissesRow, in_row}
 use Rattle.rmp_decode.specs.Fields.{Field, Absent, NoField, Slot, given_all, OfFields}
-use Rattle.rmp_decode.specs.Fronts.{TakesFront}
+use Rattle.rmp_decode.specs.BufferedHeads.{ConsumesHead}
 use Rattle.rmp_decode.specs.Law.{Lawful, Readable}
 use Rattle.rmp_decode.specs.Refusing.{Part, setting_of, RefusesParts, RefusesTuple, no_refusal}
 use Rattle.rmp_decode.specs.Seq.{SpellsIn, SpellsRow, RefusesRow, OfRow, Opens, TakesParts, FailsParts}
@@ -133,7 +133,7 @@ module _ {R C V : Type 0} (g : Ghosts R) (reads : C → Msg → V → Type 0) (o
 
 -- ---- the whole list
 
--- a reader behind the head of a list, seen as the access to its elements
+-- a reader after the head of a list, seen as the access to its elements
 abbrev in_list : {R C : Type 0} → Deserializer R C → ℕ → ℕ → ℕ → SeqAccess R C
 in_list d inner n all = record {
   de = record { ref_ptr = (0, 0); ghost_name = 0; now = d };
@@ -145,7 +145,7 @@ in_list d inner n all = record {
 }
 
 module _ {R C V : Type 0} (g : Ghosts R) (human : C → Bool) (lends : Bool) (reads : Bool → Bool → List (Option Msg) → V
-    → Type 0) (ps : List Part) (old mid new : Deserializer R C) (n : ℕ) (deep : 1 < old.room) (front : TakesFront g (Array n) old mid) where
+    → Type 0) (ps : List Part) (old mid new : Deserializer R C) (n : ℕ) (deep : 1 < old.room) (front : ConsumesHead g (Array n) old mid) where
   opened : Opens g old (in_list mid (mid.room - 1) n n)
   opened =
       let room = front.begun.stays.room in

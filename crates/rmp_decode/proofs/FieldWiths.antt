@@ -65,7 +65,7 @@ module _ {F R C X : Type 0} (g : Ghosts R) (once : Reading F R C X) (f : F) (old
       go true m = absurd (let z = o.pairs m in cc)
       go false m = inr (record { bytes = y; error = e; answers = refl; stays = s; err = k; end = d })
 
-  -- a map's values are lent as they stand there
+  -- a map's values are lent as they are
   pub lent_value : old.is_map ≡ true → Lends g (as_seq old) (part_reader old.de.now old.inner)
   lent_value m = record { from = old.de.now; offers = subst (λ b. OffersPart g b old.de.now old.de.now) (sym (o.pairs m)) refl; lent = refl }
 

@@ -8,7 +8,7 @@ use Rattle.rmp_wire.specs.Msg.{Msgs}
 use Rattle.rmp_wire.specs.Sources.{IsShort}
 use Rattle.rmp_wire.specs.Canonical.{heads_of}
 use Rattle.rmp_wire.specs.Taking.{marker_of}
-use Rattle.rmp_decode.specs.Exact.{Stands, NoneStands, Ends, EndsExactly, IsMarkerEnd, IsDataEnd}
+use Rattle.rmp_decode.specs.Exact.{BeginsWith, BeginsWithNone, Ends, EndsExactly, IsMarkerEnd, IsDataEnd}
 use Rattle.rmp_decode.specs.Kinds.{content_len}
 use Rattle.rmp_decode.specs.Refuse.{HeadIsCut, ContentIsCut, IsWrong, Refusal, here, inside, RefusedFor, RowRefusedFor}
 use Rattle.rmp_decode.specs.Skip.{parts_head, parts_count}
@@ -44,12 +44,12 @@ wrong_data w room errors.DepthLimitExceeded xs c h = absurd h
 wrong_data w room errors.OutOfMemory xs c h = absurd h
 wrong_data w room errors.NotCanonical xs c h = absurd h
 
-wrong_end : (w : Bool) (room : ℕ) (e : Error) (xs : List ℕ) → NoneStands w xs → Ends xs e → IsWrong w room e xs
+wrong_end : (w : Bool) (room : ℕ) (e : Error) (xs : List ℕ) → BeginsWithNone w xs → Ends xs e → IsWrong w room e xs
 wrong_end w room e [] n h = wrong_marker w room e [] refl h
 wrong_end w room e (b ∷ xs) n h = elim (cases_eq b 0xc1) [
-  | inl same ↦ subst (λ z. IsWrong w room z (b ∷ xs)) (sym (h.0 same)) (refl, record { behind = xs; front = ap (λ z. z ∷ xs) same })
+  | inl same ↦ subst (λ z. IsWrong w room z (b ∷ xs)) (sym (h.0 same)) (refl, record { following = xs; front = ap (λ z. z ∷ xs) same })
   | inr other ↦ elim (h.1 other) [
-    | inl cut ↦ wrong_data w room e (b ∷ xs) (inl (record { byte = b; behind = xs; front = refl; opens = other; none = cut.0 })) cut.1
+    | inl cut ↦ wrong_data w room e (b ∷ xs) (inl (record { byte = b; following = xs; front = refl; opens = other; none = cut.0 })) cut.1
     | inr wide ↦ subst (λ z. IsWrong w room z (b ∷ xs)) (sym wide.1) (record { other = wide.0; none = n })
   ]
 ]
@@ -68,27 +68,27 @@ is_memory errors.DepthLimitExceeded = inr (λ q. absurd (cc))
 is_memory errors.OutOfMemory = inl refl
 is_memory errors.NotCanonical = inr (λ q. absurd (cc))
 
--- ---- a head that stands at the front
+-- ---- a head that the bytes begin with
 
 pub record Front (w : Bool) (h : Head) (xs ys : List ℕ) : Type 0 where
   pub byte : ℕ
-  pub behind : List ℕ
-  pub front : xs ≡ (byte ∷ behind) ++ ys
-  pub is_head : heads_of w h (byte ∷ behind)
+  pub following : List ℕ
+  pub front : xs ≡ (byte ∷ following) ++ ys
+  pub is_head : heads_of w h (byte ∷ following)
 
 pub front_of : (w : Bool) (h : Head) (bytes xs ys : List ℕ) → xs ≡ bytes ++ ys → heads_of w h bytes → Front w h xs ys
 front_of w h bytes xs ys t i = let b = head_byte w h bytes i
-    in record { byte = b.0; behind = b.1; front = t ∙ ap (λ z. z ++ ys) b.2; is_head = subst (heads_of w h) b.2 i }
+    in record { byte = b.0; following = b.1; front = t ∙ ap (λ z. z ++ ys) b.2; is_head = subst (heads_of w h) b.2 i }
 
-abbrev pub stands : {w : Bool} {h : Head} {xs ys : List ℕ} (f : Front w h xs ys) → Stands w (marker_of f.byte) h xs
-stands {w} {h} {xs} {ys} f = record { byte = f.byte; behind = f.behind; rest = ys; front = f.front; is_marker = refl; is_head = f.is_head }
+abbrev pub starts : {w : Bool} {h : Head} {xs ys : List ℕ} (f : Front w h xs ys) → BeginsWith w (marker_of f.byte) h xs
+starts {w} {h} {xs} {ys} f = record { byte = f.byte; following = f.following; rest = ys; front = f.front; is_marker = refl; is_head = f.is_head }
 
 -- ---- where the bytes are told
 
 -- by any telling of what is wrong that has what is wrong with each message
 module _ (w : Bool) (wrong : ℕ → Error → List ℕ → Type 0) (readable : Msgs → Type 0) (wider : (room : ℕ) (e : Error) (xs : List ℕ) → IsWrong w room e xs
     → wrong room e xs) where
-  -- no head stands at the front
+  -- the bytes begin with no head
   pub wrong_none : (room before after : ℕ) (known : Option (List ℕ)) (e : Error) → after ≡ before → EndsExactly w before after known e
       → RefusedFor w wrong readable room e known
   unfolding EndsExactly RefusedFor
@@ -103,7 +103,7 @@ module _ (w : Bool) (wrong : ℕ → Error → List ℕ → Type 0) (readable : 
   wrong_content room (Some xs) None bytes h e t i s d = absurd t
   wrong_content room (Some xs) (Some ys) bytes h e t i s d =
       let f : Front w h xs ys = front_of w h bytes xs ys t i in
-      here (wider room e xs (wrong_data w room e xs (inr (h, record { marker = marker_of f.byte; stands = stands f; short = s })) d))
+      here (wider room e xs (wrong_data w room e xs (inr (h, record { marker = marker_of f.byte; starts = starts f; short = s })) d))
 
   -- a list or a map would nest too deep
   pub wrong_deep : (room : ℕ) (is_map : Bool) (len : ℕ) (known k : Option (List ℕ)) (bytes : List ℕ) → Consumes known k bytes
@@ -113,16 +113,16 @@ module _ (w : Bool) (wrong : ℕ → Error → List ℕ → Type 0) (readable : 
   wrong_deep room is_map len (Some xs) None bytes t i o = absurd t
   wrong_deep room is_map len (Some xs) (Some ys) bytes t i o =
       let f : Front w (parts_head is_map len) xs ys = front_of w (parts_head is_map len) bytes xs ys t i in
-      here (wider room errors.DepthLimitExceeded xs (o, record { is_map = is_map; len = len; marker = marker_of f.byte; stands = stands f }))
+      here (wider room errors.DepthLimitExceeded xs (o, record { is_map = is_map; len = len; marker = marker_of f.byte; starts = starts f }))
 
 module _ (w : Bool) (wrong : ℕ → Error → List ℕ → Type 0) (readable : Msgs → Type 0) where
-  -- memory was short for what is behind a head
+  -- memory was short for what follows a head
   pub wrong_memory : (room : ℕ) (known k : Option (List ℕ)) (bytes : List ℕ) (h : Head) → Consumes known k bytes → heads_of w h bytes
-      → ((xs : List ℕ) (m : Marker) → Stands w m h xs → wrong room errors.OutOfMemory xs) → RefusedFor w wrong readable room errors.OutOfMemory known
+      → ((xs : List ℕ) (m : Marker) → BeginsWith w m h xs → wrong room errors.OutOfMemory xs) → RefusedFor w wrong readable room errors.OutOfMemory known
   unfolding RefusedFor
   wrong_memory room None k bytes h t i f = tt
   wrong_memory room (Some xs) None bytes h t i f = absurd t
-  wrong_memory room (Some xs) (Some ys) bytes h t i f = let u : Front w h xs ys = front_of w h bytes xs ys t i in here (f xs (marker_of u.byte) (stands u))
+  wrong_memory room (Some xs) (Some ys) bytes h t i f = let u : Front w h xs ys = front_of w h bytes xs ys t i in here (f xs (marker_of u.byte) (starts u))
 
   -- ---- inside of a list or a map
 
@@ -138,7 +138,7 @@ module _ (w : Bool) (wrong : ℕ → Error → List ℕ → Type 0) (readable : 
       let is : suc room ≡ outer = omega (arith, l) in
       subst (λ z. Refusal w wrong readable z e xs) is (inside
       (record {
-        parts = record { is_map = is_map; len = len; marker = marker_of f.byte; stands = stands f };
+        parts = record { is_map = is_map; len = len; marker = marker_of f.byte; starts = starts f };
         many = r.many;
         before = r.before;
         fewer = r.fewer;

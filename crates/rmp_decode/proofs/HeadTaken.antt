@@ -17,8 +17,8 @@ use Rattle.rmp_wire.specs.Reading.{ReadsHead as WireHead, ReadsNext, FailsNext}
 use Rattle.rmp_wire.specs.Taking.{byte_of, marker_of}
 use Rattle.rmp_wire.proofs.Strict.{canon_in}
 use Rattle.rmp_wire.proofs.NextReads.{fails_after}
-use Rattle.rmp_decode.specs.Allowed.{FailsNextAllowed, FailsBehind}
-use Rattle.rmp_decode.specs.Fronts.{TakesFront}
+use Rattle.rmp_decode.specs.Allowed.{FailsNextAllowed, FailsAfter}
+use Rattle.rmp_decode.specs.BufferedHeads.{ConsumesHead}
 use Rattle.rmp_decode.specs.Law.{ReadsHead}
 use Rattle.rmp_decode.specs.ReadErrors.{error_of, head_error_of}
 use Rattle.rmp_decode.specs.State.{left}
@@ -29,7 +29,7 @@ use Rattle.rmp_decode.specs.declared.deserializer.heads.HeadError.TheVariants as
 use Rattle.rmp_decode.specs.declared.error.Error.{Error}
 use Rattle.rmp_decode.specs.declared.error.Error.TheVariants.{OutOfMemory, NotCanonical}
 use Rattle.rmp_decode.proofs.Contents.{bare}
-use Rattle.rmp_decode.proofs.Exactness.{stands_known, number_stands, ends_none, ends_wide}
+use Rattle.rmp_decode.proofs.Exactness.{starts_known, number_starts, ends_none, ends_wide}
 use Rattle.rmp_decode.proofs.NothingAccepted.{no_head, no_wide}
 
 pub kept_first : (bs : List ℕ) (known : Option (List ℕ)) → Consumes (prepend_known bs known) known bs
@@ -59,7 +59,7 @@ module _ {R C : Type 0} (g : Ghosts R) (old new : Deserializer R C) (fresh : old
           { more = byte_of p.0 ∷ r.ok.rest; whole = rw k refl };
       is_head = i;
     };
-    marked = rw (bare g old k) (stands_known _ p.0 p.1 (byte_of p.0) r.ok.rest (g.ahead old.reader) (g.ahead new.reader) r.ok.taken (sym r.ok.is_marker) i);
+    marked = rw (bare g old k) (starts_known _ p.0 p.1 (byte_of p.0) r.ok.rest (g.ahead old.reader) (g.ahead new.reader) r.ok.taken (sym r.ok.is_marker) i);
     clean = clean;
     fresh = fresh;
     sound = r.sound;
@@ -88,16 +88,16 @@ module _ {R C : Type 0} (g : Ghosts R) (old new : Deserializer R C) (fresh : old
   }
 
   -- a head's first byte was kept back
-  pub head_behind : (b : ℕ) (m : Marker) (h : Head) → m ≡ marker_of b → byte_of m ≡ b → old.kept ≡ First b → (r : WireHead g m old.reader new.reader (Ok h))
+  pub head_after : (b : ℕ) (m : Marker) (h : Head) → m ≡ marker_of b → byte_of m ≡ b → old.kept ≡ First b → (r : WireHead g m old.reader new.reader (Ok h))
       → heads_of old.strict h (byte_of m ∷ r.ok.rest) → ReadsHead g old new (Ok (m, h))
-  head_behind b m h i w k r j = record {
+  head_after b m h i w k r j = record {
     ok = record {
       bytes = byte_of m ∷ r.ok.rest;
       takes = rw (k, bare g new clean, w) (Consumes-trans _ (g.ahead old.reader) _ (b ∷ []) r.ok.rest (kept_first (b ∷ []) (g.ahead old.reader)) r.ok.taken);
       goes_on = record { more = r.ok.rest; whole = rw (k, w) refl };
       is_head = j;
     };
-    marked = rw k (stands_known _ m h b r.ok.rest (prepend_known (b ∷ []) (g.ahead old.reader)) (g.ahead new.reader)
+    marked = rw k (starts_known _ m h b r.ok.rest (prepend_known (b ∷ []) (g.ahead old.reader)) (g.ahead new.reader)
         (Consumes-trans _ (g.ahead old.reader) _ (b ∷ []) r.ok.rest (kept_first (b ∷ []) (g.ahead old.reader)) r.ok.taken) i
         (subst (λ z. heads_of old.strict h (z ∷ r.ok.rest)) w j));
     clean = clean;
@@ -111,9 +111,9 @@ module _ {R C : Type 0} (g : Ghosts R) (old new : Deserializer R C) (fresh : old
     stays = record { config = config; room = room; limit = limit; strict = strict; place = r.place };
   }
 
-  no_head_behind : (b : ℕ) (m : Marker) (e : ValueReadError) (f : Error) → byte_of m ≡ b → f ≡ error_of e → old.kept ≡ First b
+  no_head_after : (b : ℕ) (m : Marker) (e : ValueReadError) (f : Error) → byte_of m ≡ b → f ≡ error_of e → old.kept ≡ First b
       → WireHead g m old.reader new.reader (Err e) → ReadsHead g old new (Err f)
-  no_head_behind b m e f w i k r = record {
+  no_head_after b m e f w i k r = record {
     ok = tt;
     marked = tt;
     clean = tt;
@@ -133,16 +133,16 @@ module _ {R C : Type 0} (g : Ghosts R) (old new : Deserializer R C) (fresh : old
           (kept_first (b ∷ []) (g.ahead old.reader))) refl r.reserved r.err
 
   -- a head was taken that isn't allowed
-  wide : (b : ℕ) (behind : List ℕ) (h : Head) → Consumes (left g old) (g.ahead new.reader) (b ∷ behind) → IsHead h (b ∷ behind)
-      → (heads_of old.strict h (b ∷ behind) → ⊥) → g.place new.reader ≡ g.place old.reader → ReadsHead g old new (Err NotCanonical)
-  wide b behind h t i n place = record {
+  wide : (b : ℕ) (following : List ℕ) (h : Head) → Consumes (left g old) (g.ahead new.reader) (b ∷ following) → IsHead h (b ∷ following)
+      → (heads_of old.strict h (b ∷ following) → ⊥) → g.place new.reader ≡ g.place old.reader → ReadsHead g old new (Err NotCanonical)
+  wide b following h t i n place = record {
     ok = tt;
     marked = tt;
     clean = tt;
     fresh = tt;
     sound = tt;
-    err = λ _ _ _. no_wide _ (left g old) (g.ahead new.reader) (b ∷ behind) h t i n;
-    ends = λ _. ends_wide _ _ _ (left g old) (g.ahead new.reader) h b behind t i n;
+    err = λ _ _ _. no_wide _ (left g old) (g.ahead new.reader) (b ∷ following) h t i n;
+    ends = λ _. ends_wide _ _ _ (left g old) (g.ahead new.reader) h b following t i n;
     memory = λ m. absurd cc;
     failed = failed;
     before = λ f. absurd cc;
@@ -153,9 +153,9 @@ module _ {R C : Type 0} (g : Ghosts R) (old new : Deserializer R C) (fresh : old
       → ((rest : List ℕ) → heads_of old.strict p.1 (byte_of p.0 ∷ rest) → ⊥) → ReadsHead g old new (Err NotCanonical)
   head_wide p k r n = wide (byte_of p.0) r.ok.rest p.1 (rw (bare g old k) r.ok.taken) r.ok.is_head (n r.ok.rest) r.place
 
-  wide_behind : (b : ℕ) (m : Marker) (h : Head) → byte_of m ≡ b → old.kept ≡ First b → WireHead g m old.reader new.reader (Ok h)
+  wide_after : (b : ℕ) (m : Marker) (h : Head) → byte_of m ≡ b → old.kept ≡ First b → WireHead g m old.reader new.reader (Ok h)
       → ((rest : List ℕ) → heads_of old.strict h (byte_of m ∷ rest) → ⊥) → ReadsHead g old new (Err NotCanonical)
-  wide_behind b m h w k r n =
+  wide_after b m h w k r n =
       wide (byte_of m) r.ok.rest h (rw (k, w) (Consumes-trans _ (g.ahead old.reader) _ (b ∷ []) r.ok.rest (kept_first (b ∷ []) (g.ahead old.reader))
       r.ok.taken)) r.ok.is_head (n r.ok.rest) r.place
 
@@ -169,13 +169,13 @@ module _ {R C : Type 0} (g : Ghosts R) (old new : Deserializer R C) (fresh : old
 
   -- a head's first byte was kept back, and its rest may not be read
   pub rest_refused : (b : ℕ) (m : Marker) (e : HeadError) (f : Error) → byte_of m ≡ b → f ≡ head_error_of e → old.kept ≡ First b
-      → FailsBehind g old.strict m old.reader new.reader e → ReadsHead g old new (Err f)
-  rest_refused b m (heads.InvalidMarkerRead fault) f w i k r = no_head_behind b m (wire.InvalidMarkerRead fault) f w i k r
-  rest_refused b m (heads.InvalidDataRead fault) f w i k r = no_head_behind b m (wire.InvalidDataRead fault) f w i k r
-  rest_refused b m (heads.TypeMismatch marker) f w i k r = no_head_behind b m (wire.TypeMismatch marker) f w i k r
-  rest_refused b m heads.NotCanonical f w i k r = subst (λ z. ReadsHead g old new (Err z)) (sym i) (wide_behind b m r.0 w k r.1 r.2)
+      → FailsAfter g old.strict m old.reader new.reader e → ReadsHead g old new (Err f)
+  rest_refused b m (heads.InvalidMarkerRead fault) f w i k r = no_head_after b m (wire.InvalidMarkerRead fault) f w i k r
+  rest_refused b m (heads.InvalidDataRead fault) f w i k r = no_head_after b m (wire.InvalidDataRead fault) f w i k r
+  rest_refused b m (heads.TypeMismatch marker) f w i k r = no_head_after b m (wire.TypeMismatch marker) f w i k r
+  rest_refused b m heads.NotCanonical f w i k r = subst (λ z. ReadsHead g old new (Err z)) (sym i) (wide_after b m r.0 w k r.1 r.2)
 
-  -- a number was kept back, which stands for a message
+  -- a number was kept back, which is a message
   pub head_number : (m : Marker) (z : ℤ) (n : ℕ) → z ≡ pos n → n < 256 → (n < 128 → m ≡ FixPos n) → (128 ≤ n → m ≡ U8) → old.kept ≡ Number n
       → new.reader ≡ old.reader → ReadsHead g old new (Ok (m, Whole z))
   head_number m z n e l small wide k q = rw e (record {
@@ -185,7 +185,7 @@ module _ {R C : Type 0} (g : Ghosts R) (old new : Deserializer R C) (fresh : old
       goes_on = record { more = []; whole = rw k (sym (append-nil (canon_head (Whole (pos n))))) };
       is_head = canon_in old.strict (Whole (pos n)) (fits_byte n l);
     };
-    marked = rw k (number_stands _ n l (fits_byte n l) m small wide (g.ahead old.reader));
+    marked = rw k (number_starts _ n l (fits_byte n l) m small wide (g.ahead old.reader));
     clean = clean;
     fresh = fresh;
     sound = ap g.faults q;
@@ -198,7 +198,7 @@ module _ {R C : Type 0} (g : Ghosts R) (old new : Deserializer R C) (fresh : old
   })
 
   -- the same under its marker
-  pub number_taken : (n : ℕ) → n < 256 → old.kept ≡ Number n → new.reader ≡ old.reader → TakesFront g (Whole (pos n)) old new
+  pub number_taken : (n : ℕ) → n < 256 → old.kept ≡ Number n → new.reader ≡ old.reader → ConsumesHead g (Whole (pos n)) old new
   number_taken n l k q = elim (cases_lt n 128) [
     | inl lt ↦ record { marker = FixPos n; begun = head_number (FixPos n) (pos n) n refl l (λ _. refl) (λ ge. absurd (omega (arith, lt, ge))) k q }
     | inr ge ↦ record { marker = U8; begun = head_number U8 (pos n) n refl l (λ lt. absurd (omega (arith, lt, ge))) (λ _. refl) k q }

@@ -4,7 +4,7 @@ use Rattle.std.proofs.lemmas.List.{append_assoc, append-nil}
 use Rattle.std.specs.Io.KnownBytes.{Consumes}
 use Rattle.rmp_wire.specs.declared.source.Source.{Ghosts}
 use Rattle.rmp_wire.specs.Msg.{Msg, Msgs, no_items, item, count, depth_all}
-use Rattle.rmp_decode.specs.Refusing.{Setting, setting_of, inside, Opened, Part, BehindElement, RefusesParts, PartsRefused, Excess, no_refusal}
+use Rattle.rmp_decode.specs.Refusing.{Setting, setting_of, inside, Opened, Part, AfterElement, RefusesParts, PartsRefused, Excess, no_refusal}
 use Rattle.rmp_decode.specs.Rows.{AndThen, NoMore}
 use Rattle.rmp_decode.specs.Seq.{SpellsIn, SpellsRow, Opens, Run, inner_of}
 use Rattle.rmp_decode.specs.State.{left, faults_of}
@@ -12,11 +12,11 @@ use Rattle.rmp_decode.specs.declared.deserializer.Deserializer.{Deserializer}
 use Rattle.rmp_decode.specs.declared.access.seq.SeqAccess.{SeqAccess}
 use Rattle.rmp_decode.specs.declared.error.Error.{Error}
 use Rattle.rmp_decode.specs.declared.error.Error.TheVariants.{LengthMismatch}
-use Rattle.rmp_decode.proofs.Settings.{behind_opened}
+use Rattle.rmp_decode.proofs.Settings.{after_opened}
 
 -- ---- parts of several types
 
--- the items stand here, of n in all, and behind them so many are still to come
+-- the items are here, of n in all, and after them so many are still to come
 pub record Ahead (b : Bool) (s : Setting) (known : Option (List ℕ)) (n : ℕ) (ms : Msgs) (rest : Option (List ℕ)) (still : ℕ) : Type 0 where
   pub bytes : List ℕ
   pub takes : Consumes known rest bytes
@@ -55,7 +55,7 @@ module _ (b : Bool) (s : Setting) (P P' : Msg → Type 0) (f : (m : Msg) → P m
   -- the first of them was read
   pub then_read : (Q : Msgs → Type 0) (known : Option (List ℕ)) (n : ℕ) (ms : Msgs) (rest : Option (List ℕ)) (still : ℕ) → AndThen P Q ms
       → Ahead b s known n ms rest still
-      → ((ks : Msgs) (mid : Option (List ℕ)) (k : ℕ) → Q ks → Ahead b s mid k ks rest still → next k mid e) → BehindElement b s P' next n known e
+      → ((ks : Msgs) (mid : Option (List ℕ)) (k : ℕ) → Q ks → Ahead b s mid k ks rest still → next k mid e) → AfterElement b s P' next n known e
   then_read Q known n no_items rest still h a go = absurd h
   then_read Q known n (item m ks) rest still h a go =
       let j = a.spelled in
@@ -77,7 +77,7 @@ module _ (b : Bool) (s : Setting) (P P' : Msg → Type 0) (f : (m : Msg) → P m
 
   -- the last of them was read
   pub then_last : (known : Option (List ℕ)) (n : ℕ) (ms : Msgs) (rest : Option (List ℕ)) (still : ℕ) → AndThen P NoMore ms → Ahead b s known n ms rest still
-      → next still rest e → BehindElement b s P' next n known e
+      → next still rest e → AfterElement b s P' next n known e
   then_last known n no_items rest still h a w = absurd h
   then_last known n (item m (item k ks)) rest still h a w = absurd h.1
   then_last known n (item m no_items) rest still h a w =
@@ -112,7 +112,7 @@ module _ (s : Setting) where
         inr (then_read b s (p.holds s) (p.holds s) (λ m k. k) (RefusesParts b s before after (q ∷ ps) last) e (Held (q ∷ ps)) known n ms rest still h a
         (λ ks mid k g c. all_read q ps last mid k ks rest still g c w))
 
-    -- one of them is refused, whatever stands behind them
+    -- one of them is refused, whatever comes after them
     pub whatever : (ps : List Part) (last : ℕ → Option (List ℕ) → Error → Type 0) (n : ℕ) (known : Option (List ℕ))
         → RefusesParts b s before after ps no_refusal n known e → RefusesParts b s before after ps last n known e
     whatever [] last n known h = absurd h
@@ -134,11 +134,11 @@ module _ (s : Setting) where
 
 module _ {R C : Type 0} (g : Ghosts R) (human : C → Bool) (lends : Bool) (old : Deserializer R C) (start : SeqAccess R C) (o : Opens g old start)
     (after : ℕ) (e : Error) where
-  -- behind the head that was taken
-  pub behind_head : (P : Bool → Setting → ℕ → Option (List ℕ) → Error → Type 0)
+  -- after the head that was taken
+  pub after_head : (P : Bool → Setting → ℕ → Option (List ℕ) → Error → Type 0)
       → P start.bytes (inside (setting_of (human old.config) lends old) (inner_of start)) start.left (left g start.de.now) e
       → Opened (setting_of (human old.config) lends old) P (left g old) e
-  behind_head P p = record {
+  after_head P p = record {
     is_bytes = start.bytes;
     inner = inner_of start;
     many = start.left;
@@ -155,19 +155,19 @@ module _ {R C : Type 0} (g : Ghosts R) (human : C → Bool) (lends : Bool) (old 
       → PartsRefused g (human start.de.now.config) lends ps start now e
       → Opened (setting_of (human old.config) lends old) (λ b i. RefusesParts b i (faults_of g old) after ps (Excess (length ps))) (left g old) e
   parts_wrong ps now q h =
-      let h' = behind_opened g human lends old start now o after q
+      let h' = after_opened g human lends old start now o after q
       (λ s a z. RefusesParts start.bytes s a z ps no_refusal start.left (left g start.de.now) e) h in
-      behind_head (λ b i. RefusesParts b i (faults_of g old) after ps (Excess (length ps)))
+      after_head (λ b i. RefusesParts b i (faults_of g old) after ps (Excess (length ps)))
       (whatever (inside (setting_of (human old.config) lends old) (inner_of start)) start.bytes (faults_of g old) after e ps (Excess (length ps)) start.left
       (left g start.de.now) h')
 
-  behind_all : (i : Setting) → start.de.now.strict ≡ i.strict → inner_of start ≡ i.room → (ps : List Part) (mid : SeqAccess R C) (ms : Msgs)
+  after_all : (i : Setting) → start.de.now.strict ≡ i.strict → inner_of start ≡ i.room → (ps : List Part) (mid : SeqAccess R C) (ms : Msgs)
       → Run g start mid ms → Held i ps ms → count ms ≡ length ps → 0 < mid.left → e ≡ LengthMismatch (mid.count - mid.left)
       → RefusesParts start.bytes i (faults_of g old) after ps (Excess (length ps)) start.left (left g start.de.now) e
-  behind_all i a b [] mid ms r h c l q =
+  after_all i a b [] mid ms r h c l q =
       let d : mid.count - mid.left ≡ 0 = omega (arith, r.many, r.count_same, o.count, c) in
       (omega (arith, l, c, r.many), q ∙ ap LengthMismatch d)
-  behind_all i a b (p ∷ ps) mid ms r h c l q =
+  after_all i a b (p ∷ ps) mid ms r h c l q =
       let d : mid.count - mid.left ≡ length (p ∷ ps) = omega (arith, r.many, r.count_same, o.count, c) in
       all_read i start.bytes (faults_of g old) after e p ps (Excess (length (p ∷ ps))) (left g start.de.now) start.left ms (left g mid.de.now) mid.left h
       (run_ahead g start mid ms i a b r) (l, q ∙ ap LengthMismatch d)
@@ -178,5 +178,5 @@ module _ {R C : Type 0} (g : Ghosts R) (human : C → Bool) (lends : Bool) (old 
       → e ≡ LengthMismatch (mid.count - mid.left)
       → Opened (setting_of (human old.config) lends old) (λ b i. RefusesParts b i (faults_of g old) after ps (Excess (length ps))) (left g old) e
   parts_excess ps mid ms r h c l q =
-      behind_head (λ b i. RefusesParts b i (faults_of g old) after ps (Excess (length ps)))
-      (behind_all (inside (setting_of (human old.config) lends old) (inner_of start)) o.stays.strict refl ps mid ms r h c l q)
+      after_head (λ b i. RefusesParts b i (faults_of g old) after ps (Excess (length ps)))
+      (after_all (inside (setting_of (human old.config) lends old) (inner_of start)) o.stays.strict refl ps mid ms r h c l q)

@@ -26,11 +26,11 @@ some_pair keys values (pair k v ps) es e r = omega arith
 module _ {R C K V : Type 0} (g : Ghosts R) (human : C → Bool) (lends : Bool) (keys : Bool → Bool → Msg → K → Type 0) (values : Bool → Bool → Msg → V
     → Type 0) (key_refused value_refused : Setting → Refusals) (old : Deserializer R C) (start mid : MapAccess R C) (o : OpensMap g old start)
     (es : List (K × V)) (r : Entries g (keys (human old.config) lends) (values (human old.config) lends) start mid es) (after : ℕ) (e : Error) where
-  -- behind the pairs that were read
-  behind_pairs : PairRefused (inside (setting_of (human old.config) lends old) (map_inner start)) (Readable (keys (human old.config) lends)) key_refused
+  -- after the pairs that were read
+  after_pairs : PairRefused (inside (setting_of (human old.config) lends old) (map_inner start)) (Readable (keys (human old.config) lends)) key_refused
       value_refused (faults_of g old) after mid.left (left g mid.de.now) e
       → RefusesPairs keys values key_refused value_refused (setting_of (human old.config) lends old) (faults_of g old) after (left g old) e
-  behind_pairs w = inr (record {
+  after_pairs w = inr (record {
     inner = map_inner start;
     many = start.left;
     bytes = o.head.bytes;
@@ -64,7 +64,7 @@ module _ {R C K V : Type 0} (g : Ghosts R) (human : C → Bool) (lends : Bool) (
       let w1 = subst (λ z. key_refused z (faults_of g mid.de.now) (faults_of g now.de.now) (left g mid.de.now) e) s h.1 in
       let w2 = subst (λ z. key_refused (inside (setting_of (human old.config) lends old) (map_inner start)) z (faults_of g now.de.now) (left g mid.de.now)
       e) (r.run.faults_same ∙ o.faults_same) w1 in
-      behind_pairs (
+      after_pairs (
         h.0,
         inl (subst (λ z. key_refused (inside (setting_of (human old.config) lends old) (map_inner start)) (faults_of g old) z
             (left g mid.de.now) e) (sym q) w2),
@@ -82,7 +82,7 @@ module _ {R C K V : Type 0} (g : Ghosts R) (human : C → Bool) (lends : Bool) (
       let w1 = subst (λ z. value_refused z (faults_of g key.de.now) (faults_of g now.de.now) (left g key.de.now) e) s h in
       let w2 = subst (λ z. value_refused i z (faults_of g now.de.now) (left g key.de.now) e) (t.part.faults_same ∙ r.run.faults_same ∙ o.faults_same) w1 in
       let w3 = subst (λ z. value_refused i (faults_of g old) z (left g key.de.now) e) (sym q) w2 in
-      behind_pairs (
+      after_pairs (
         omega (arith, t.fewer),
         inr (record {
           bytes = t.part.bytes;

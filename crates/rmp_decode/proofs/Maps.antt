@@ -62,7 +62,7 @@ use Rattle.rmp_wire.specs.Msg.{
   depth_pairs,
 }
 use Rattle.rmp_wire.specs.Spelling.{PairsSpelledBy, head_of}
-use Rattle.rmp_wire.proofs.Strict.{heads_apart_as}
+use Rattle.rmp_wire.proofs.Strict.{heads_differ_as}
 use Rattle.rmp_decode.specs.Law.{Refuses, Readable, Explains, Lawful}
 use Rattle.rmp_decode.specs.Maps.{OfMap, IsMap, ReadsPairs, Collects, map_inner, owed, to_come, as_row}
 use Rattle.rmp_decode.specs.Maps.{IsMapOpen, OpensMap, FailsToOpenMap, TakesKey, TakesValue}
@@ -164,7 +164,7 @@ inside_map w Q room n (map ps) a x y o s d e f =
     }
 inside_map w Q room n (extension tag t) a x y o s d e f = absurd o
 
--- where no row is accepted behind the head, no map is before it
+-- where no row is accepted after the head, no map is before it
 map_row_refused : (w : Bool) (Q : Pairs → Type 0) (outer room n : ℕ) (known k : Option (List ℕ)) (b : List ℕ) → Consumes known k b → heads_of w (Map n) b
     → outer ≡ room + 1 → RefusesRow (SpellsAs w) (Flat Q) room (n + n) k → Refuses (SpellsAs w) (OfMap Q) outer known
 unfolding Refuses RefusesRow
@@ -175,7 +175,7 @@ map_row_refused w Q outer room n (Some xs) (Some ys) b t i l r = λ a.
     let u = same_head _ a.tree (Map n) a.bytes b a.rest ys a.spelled i split in
     let fits = rw l at a.fits in
     r (inside_map w Q room n a.tree a.bytes a.rest ys a.holds a.spelled fits u.0
-    (λ c d e j. (heads_apart_as w (head_of a.tree) (Map n) d b (c ++ a.rest) ys j i (sym (append_assoc d c a.rest) ∙ ap (λ z. z ++ a.rest) (sym e) ∙ split)).2))
+    (λ c d e j. (heads_differ_as w (head_of a.tree) (Map n) d b (c ++ a.rest) ys j i (sym (append_assoc d c a.rest) ∙ ap (λ z. z ++ a.rest) (sym e) ∙ split)).2))
 
 -- a value that reads the pairs
 readable_map : {V : Type 0} (Q : V → Pairs → Type 0) (m : Msg) → (v : V) × OfMap (Q v) m → OfMap (λ ps. (v : V) × Q v ps) m

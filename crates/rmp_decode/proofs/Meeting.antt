@@ -35,15 +35,15 @@ put_keeps zero (suc n) v m (None ∷ fs) gs e h = let q : Some v ∷ fs ≡ gs =
 put_keeps zero n v m (Some k ∷ fs) gs e h = absurd (cc)
 put_keeps (suc i) n v m (f ∷ fs) gs e h = go (λ n r p h. put_keeps i n v m fs r p h) (put i v fs) refl e
   where
-    behind : ((n : ℕ) (r : List (Option Msg)) → put i v fs ≡ Some r → at n fs ≡ Some m → at n r ≡ Some m) → (n : ℕ) (r : List (Option Msg))
+    following : ((n : ℕ) (r : List (Option Msg)) → put i v fs ≡ Some r → at n fs ≡ Some m → at n r ≡ Some m) → (n : ℕ) (r : List (Option Msg))
         → put i v fs ≡ Some r → at n (f ∷ fs) ≡ Some m → at n (f ∷ r) ≡ Some m
-    behind ih zero r p h = h
-    behind ih (suc n) r p h = ih n r p h
+    following ih zero r p h = h
+    following ih (suc n) r p h = ih n r p h
 
     go : ((n : ℕ) (r : List (Option Msg)) → put i v fs ≡ Some r → at n fs ≡ Some m → at n r ≡ Some m) → (x : Option (List (Option Msg))) → put i v fs ≡ x
         → option_and_then (λ r. Some (f ∷ r)) x ≡ Some gs → at n gs ≡ Some m
     go ih None p q = absurd (cc)
-    go ih (Some r) p q = let s : f ∷ r ≡ gs = cc in subst (λ z. at n z ≡ Some m) s (behind ih n r p h)
+    go ih (Some r) p q = let s : f ∷ r ≡ gs = cc in subst (λ z. at n z ≡ Some m) s (following ih n r p h)
 
 pub put_at : (n : ℕ) (m : Msg) (fs gs : List (Option Msg)) → put n m fs ≡ Some gs → at n gs ≡ Some m
 put_at n m [] gs e = absurd (cc)
@@ -88,7 +88,7 @@ module _ (names : List (List ℕ)) where
       go ih None q = absurd (cc)
       go ih (Some hs) q = ih hs q
 
-  -- what is met behind pairs that were met
+  -- what is met after pairs that were met
   pub rest_met : (ps qs : Pairs) (ks : Msgs) (fs gs : List (Option Msg)) → flat qs ≡ append (flat ps) ks → met names fs ps ≡ Some gs
       → (rs : Pairs) × (flat rs ≡ ks) × (met names fs qs ≡ met names gs rs)
   rest_met no_pairs qs ks fs gs e h = let s : fs ≡ gs = cc in (qs, e, ap (λ z. met names z qs) s)

@@ -1,4 +1,4 @@
--- A name that lies in memory whole is the text that stands at the front of what is left.
+-- A name that is buffered whole is the text that the remaining bytes begin with.
 use Rattle.std.proofs.Common.{◌≡◌, ◌∙◌, sym, ap, subst, refl, arith, ℕ, zero, suc, ◌+◌, ◌<◌, ◌≤◌, List, []}
 use Rattle.std.proofs.Common.{◌∷◌, get_or, ◌++◌, length, length-append, length-drop, take, drop, append_assoc, Bor, Bool, true, Option, None, Some}
 use Rattle.std.proofs.Math.Seq.{drop-append_seam}
@@ -12,10 +12,10 @@ use Rattle.rmp_wire.specs.Canonical.{heads_of}
 use Rattle.rmp_wire.specs.Msg.{Msg, text}
 use Rattle.rmp_wire.specs.Sources.{IsFront, Skips}
 use Rattle.rmp_wire.specs.Spelling.{IsBytes}
-use Rattle.rmp_decode.specs.Fronts.{StandsIn}
+use Rattle.rmp_decode.specs.BufferedHeads.{HeadIn}
 use Rattle.rmp_decode.specs.Maps.{TakesKey, map_inner}
 use Rattle.rmp_decode.specs.Names.{bytes_of, place_of, IsName}
-use Rattle.rmp_decode.specs.NamesAhead.{below, IsBelow, TextLies}
+use Rattle.rmp_decode.specs.NamesAhead.{below, IsBelow, TextIn}
 use Rattle.rmp_decode.specs.Parts.{TakesPart}
 use Rattle.rmp_decode.specs.State.{faults_of, Stays}
 use Rattle.rmp_decode.specs.VariantNames.{IsPlace}
@@ -45,45 +45,45 @@ bytes_take (suc n) (x ∷ xs) b = (b.0, bytes_take n xs b.1)
 
 -- ---- a text at the front
 
-behind_head : (w : Bool) (n : ℕ) (h : Head) (xs : List ℕ) → (s : StandsIn w n h xs) → drop n xs ≡ s.stands.rest
-behind_head w n h xs s =
-    let at = s.stands in
-    ap (drop n) at.front ∙ ap (λ k. drop k ((at.byte ∷ at.behind) ++ at.rest)) (sym s.long) ∙ drop-append_seam (at.byte ∷ at.behind) at.rest
+after_head : (w : Bool) (n : ℕ) (h : Head) (xs : List ℕ) → (s : HeadIn w n h xs) → drop n xs ≡ s.starts.rest
+after_head w n h xs s =
+    let at = s.starts in
+    ap (drop n) at.front ∙ ap (λ k. drop k ((at.byte ∷ at.following) ++ at.rest)) (sym s.long) ∙ drop-append_seam (at.byte ∷ at.following) at.rest
 
-pub text_lies : (w : Bool) (n len : ℕ) (P : List ℕ → Type 0) (xs : List ℕ) → StandsIn w n (Text len) xs → n + len ≤ length xs
-    → IsBytes (take len (drop n xs)) → P (take len (drop n xs)) → TextLies w (n + len) P xs
-text_lies w n len P xs s l b p =
-    let at = s.stands in
-    let head : List ℕ = at.byte ∷ at.behind in
+pub text_in : (w : Bool) (n len : ℕ) (P : List ℕ → Type 0) (xs : List ℕ) → HeadIn w n (Text len) xs → n + len ≤ length xs
+    → IsBytes (take len (drop n xs)) → P (take len (drop n xs)) → TextIn w (n + len) P xs
+text_in w n len P xs s l b p =
+    let at = s.starts in
+    let head : List ℕ = at.byte ∷ at.following in
     let bytes : List ℕ = take len (drop n xs) in
     let long : length bytes ≡ len = length-take-le len (drop n xs) (omega (arith, length-drop n xs)) in
     record {
       head = head;
       bytes = bytes;
-      behind = drop len (drop n xs);
+      following = drop len (drop n xs);
       is_head = subst (λ k. heads_of w (Text k) head) (sym long) at.is_head;
       are_bytes = b;
       long = length-append head bytes ∙ omega (arith, s.long, long);
-      begins = at.front ∙ ap (λ t. head ++ t) (sym (behind_head w n (Text len) xs s) ∙ sym (take-append-drop len (drop n xs)))
+      begins = at.front ∙ ap (λ t. head ++ t) (sym (after_head w n (Text len) xs s) ∙ sym (take-append-drop len (drop n xs)))
           ∙ sym (append_assoc head bytes (drop len (drop n xs)));
       holds = p;
     }
 
 -- ---- it is taken
 
-text_consumed : (w : Bool) (n : ℕ) (P : List ℕ → Type 0) (front : List ℕ) (known k : Option (List ℕ)) → (t : TextLies w n P front)
+text_consumed : (w : Bool) (n : ℕ) (P : List ℕ → Type 0) (front : List ℕ) (known k : Option (List ℕ)) → (t : TextIn w n P front)
     → IsFront front known → Skips n known k → Consumes known k (t.head ++ t.bytes)
 text_consumed w n P front None k t f s = tt
 text_consumed w n P front (Some xs) None t f s = absurd s.taken
 text_consumed w n P front (Some xs) (Some ys) t f s =
     let all : List ℕ = t.head ++ t.bytes in
-    let split : xs ≡ all ++ (t.behind ++ f.0) = f.1 ∙ ap (λ z. z ++ f.0) t.begins ∙ append_assoc all t.behind f.0 in
-    let same : s.bytes ≡ all = same_front s.bytes all ys (t.behind ++ f.0) (s.long ∙ sym t.long) (sym s.taken ∙ split) in
+    let split : xs ≡ all ++ (t.following ++ f.0) = f.1 ∙ ap (λ z. z ++ f.0) t.begins ∙ append_assoc all t.following f.0 in
+    let same : s.bytes ≡ all = same_front s.bytes all ys (t.following ++ f.0) (s.long ∙ sym t.long) (sym s.taken ∙ split) in
     subst (λ b. xs ≡ b ++ ys) same s.taken
 
 pub name_taken : {R C : Type 0} (g : Ghosts R) (names : List (Bor (List ℕ))) (old new : Deserializer R C) (n place : ℕ) (front : List ℕ) (inner : ℕ)
     → 0 < inner → old.kept ≡ Nothing → new.kept ≡ Nothing → new.failed ≡ true → Stays g old new → faults_of g new ≡ faults_of g old
-    → IsFront front (g.ahead old.reader) → TextLies old.strict n (λ s. below (length names) place ≡ place_of (bytes_of names) s) front
+    → IsFront front (g.ahead old.reader) → TextIn old.strict n (λ s. below (length names) place ≡ place_of (bytes_of names) s) front
     → Skips n (g.ahead old.reader) (g.ahead new.reader) → TakesPart g (IsBelow (bytes_of names)) inner old new place
 name_taken g names old new n place front inner l kept clean marked stays sound f t s = record {
   bytes = t.head ++ t.bytes;
@@ -99,7 +99,7 @@ name_taken g names old new n place front inner l kept clean marked stays sound f
   marked = marked;
 }
 
--- ---- what a number below the count of the names stands for
+-- ---- what a number below the count of the names selects
 
 pub below_named : (many n : ℕ) → n < many → below many n ≡ Some n
 below_named many n l = cond-true _ _ _ (lt-ltb n many l)
@@ -148,7 +148,7 @@ part_below g names inner old new n =
     ∙ below_named (length names) n (place_below_names names m n h) in
     h ∙ ap (λ (z : Option ℕ). Some z) (sym same))
 
--- no name is at the place behind them all
+-- no name is at the place after them all
 pub part_past : {R C : Type 0} (g : Ghosts R) (names : List (Bor (List ℕ))) (inner : ℕ) (old new : Deserializer R C)
     → TakesPart g (IsName (bytes_of names)) inner old new None → TakesPart g (IsBelow (bytes_of names)) inner old new (length names)
 part_past g names inner old new =

@@ -60,9 +60,9 @@ front_there [] (Some xs) f n = absurd (n refl)
 front_there (b ∷ front) (Some xs) f n = λ e. absurd (let q : ◌≡◌ {A = List ℕ} [] (b ∷ (front ++ f.0)) = sym e ∙ f.1 in cc)
 
 -- what was kept back is left
-kept_there : (b : ℕ) (behind kept : List ℕ) (known : Option (List ℕ)) → kept ≡ b ∷ behind → IsThere (prepend_known kept known)
-kept_there b behind kept None k = tt
-kept_there b behind kept (Some xs) k = λ e. absurd (let q : ◌≡◌ {A = List ℕ} [] (b ∷ (behind ++ xs)) = sym e ∙ ap (λ z. z ++ xs) k in cc)
+kept_there : (b : ℕ) (following kept : List ℕ) (known : Option (List ℕ)) → kept ≡ b ∷ following → IsThere (prepend_known kept known)
+kept_there b following kept None k = tt
+kept_there b following kept (Some xs) k = λ e. absurd (let q : ◌≡◌ {A = List ℕ} [] (b ∷ (following ++ xs)) = sym e ∙ ap (λ z. z ++ xs) k in cc)
 
 -- a byte that was taken was left
 taken_there : (b : ℕ) (known k : Option (List ℕ)) → Consumes known k (b ∷ []) → IsThere known
@@ -99,7 +99,7 @@ module _ {R C : Type 0} (g : Ghosts R) (old : Deserializer R C) (fresh : old.fai
   pub sees_number : (n : ℕ) → old.kept ≡ Number n → SeesNext g old old
   sees_number n k =
       let o = number_other old.kept n k in
-      sees_there (kept_there o.byte o.behind (kept_bytes old.kept) (g.ahead old.reader) o.is)
+      sees_there (kept_there o.byte o.following (kept_bytes old.kept) (g.ahead old.reader) o.is)
 
   -- a byte was pulled, and is kept back
   pub sees_pulled : (new : Deserializer R C) (b : ℕ) → old.kept ≡ Nothing → new.kept ≡ First b → new.failed ≡ false
@@ -166,7 +166,7 @@ spelled_some s b m i =
     let whole : b ≡ h.0 ∷ (h.1 ++ o.rest) = o.split ∙ ap (λ z. z ++ o.rest) h.2 in
     subst (λ z. 0 < length z) (sym whole) (omega arith)
 
--- fewer messages are to come behind bytes that were taken
+-- fewer messages are to come after bytes that were taken
 fewer_messages : (known k : Option (List ℕ)) (bytes : List ℕ) → Consumes known k bytes → 0 < length bytes → IsFinite (most_messages known)
     → IsFinite (most_messages k) × (size (most_messages k) < size (most_messages known))
 fewer_messages None k bytes c l f = absurd f

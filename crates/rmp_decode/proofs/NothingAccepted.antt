@@ -8,11 +8,11 @@ use Rattle.rmp_wire.specs.Heads.{IsHead}
 use Rattle.rmp_wire.specs.Msg.{Msg, nil, truth, whole, float32, float64, text, bin, list, map, extension}
 use Rattle.rmp_wire.specs.Sources.{IsShort}
 use Rattle.rmp_wire.specs.Spelling.{head_of}
-use Rattle.rmp_wire.proofs.Heads.{heads_apart}
-use Rattle.rmp_wire.proofs.Strict.{any_width, heads_apart_as, spelled_once_as}
+use Rattle.rmp_wire.proofs.Heads.{heads_differ}
+use Rattle.rmp_wire.proofs.Strict.{any_width, heads_differ_as, spelled_once_as}
 use Rattle.rmp_decode.specs.Law.{Begins, Refuses, NoMessage}
 
--- what stands behind the head of a leaf
+-- what follows the head of a leaf
 abbrev pub content_of : Msg → List ℕ
 content_of nil = []
 content_of (truth t) = []
@@ -55,13 +55,13 @@ opened (extension tag t) a s = record {
       (arith, ap length s.is_second.0);
 }
 
--- where a head stands at the front, a message that stands there begins with it
+-- where the bytes begin with a head, a message that is there begins with it
 pub same_head : (s : Bool) (m : Msg) (h : Head) (a b x y : List ℕ) → SpellsAs s a m → heads_of s h b → a ++ x ≡ b ++ y
     → (head_of m ≡ h) × (length (content_of m) ≤ length y)
 same_head s m h a b x y p i e =
     let o = opened m a p in
     let split : o.head ++ (o.rest ++ x) ≡ b ++ y = sym (append_assoc o.head o.rest x) ∙ ap (λ t. t ++ x) (sym o.split) ∙ e in
-    let u = heads_apart_as s (head_of m) h o.head b (o.rest ++ x) y o.is_head i split in
+    let u = heads_differ_as s (head_of m) h o.head b (o.rest ++ x) y o.is_head i split in
     (u.0, omega (arith, o.long, length-append o.rest x, ap length u.2))
 
 -- where no head begins, no message does
@@ -71,7 +71,7 @@ no_head s None p = tt
 no_head s (Some xs) p = λ m b r e t. let o = opened m b t
     in p (head_of m) o.head (o.rest ++ r) (e ∙ ap (λ t. t ++ r) o.split ∙ append_assoc o.head o.rest r) (any_width s (head_of m) o.head o.is_head)
 
--- where a head stands that isn't allowed, no message does
+-- where there is a head that isn't allowed, no message does
 pub no_wide : (s : Bool) (known k : Option (List ℕ)) (b : List ℕ) (h : Head) → Consumes known k b → IsHead h b → (heads_of s h b → ⊥) → NoMessage s known
 unfolding NoMessage
 no_wide s None k b h t i n = tt
@@ -79,7 +79,7 @@ no_wide s (Some xs) None b h t i n = absurd t
 no_wide s (Some xs) (Some ys) b h t i n = λ m c r e p.
     let o = opened m c p in
     let split : o.head ++ (o.rest ++ r) ≡ b ++ ys = sym (append_assoc o.head o.rest r) ∙ ap (λ z. z ++ r) (sym o.split) ∙ sym e ∙ t in
-    let u = heads_apart (head_of m) h o.head b (o.rest ++ r) ys (any_width s (head_of m) o.head o.is_head) i split in
+    let u = heads_differ (head_of m) h o.head b (o.rest ++ r) ys (any_width s (head_of m) o.head o.is_head) i split in
     n (subst (λ z. heads_of s z b) u.0 (subst (heads_of s (head_of m)) u.1 o.is_head))
 
 module _ (s : Bool) (P : Msg → Type 0) (room : ℕ) where
@@ -105,7 +105,7 @@ module _ (s : Bool) (P : Msg → Type 0) (room : ℕ) where
       → Refuses (SpellsAs s) P room known
   refuses_head known k b h p i n = refuses_by known k b p (λ ys _ a. n a.tree a.holds (same_head _ a.tree h a.bytes b a.rest ys a.spelled i (sym a.front)).0)
 
-  -- fewer bytes stand behind the head than each of those that are wanted has there
+  -- fewer bytes are after the head than each of those that are wanted has there
   pub refuses_short : (n : ℕ) (known k : Option (List ℕ)) (b : List ℕ) (h : Head) → Consumes known k b → heads_of s h b → IsShort n k
       → ((m : Msg) → P m → head_of m ≡ h → n ≤ length (content_of m)) → Refuses (SpellsAs s) P room known
   refuses_short n known k b h p i l f = refuses_by known k b p (λ ys e a.

@@ -1,4 +1,4 @@
--- An element that an access offers: of a list as it stands, and of bytes as the number that a byte is.
+-- An element that an access offers: of a list as it was encoded, and of bytes as the number that a byte is.
 use Rattle.std.proofs.Common.{◌≡◌, ◌∙◌, sym, subst, refl, ℕ, pos, ◌<◌, ◌+◌, max, arith, List, [], ◌∷◌, Bool, true, false}
 use Rattle.std.specs.Io.KnownBytes.{Consumes}
 use Rattle.rmp_wire.specs.declared.source.Source.{Ghosts}

@@ -77,7 +77,7 @@ other_byte : (s : Bool) (kept bytes more x rest : List ℕ) (tree : Msg) → Beg
     → tree ≢ nil
 other_byte s kept bytes more x rest tree b e i n =
     let is = nil_byte s bytes (subst (SpellsAs s bytes) n i) in
-    let front : 0xc0 ∷ rest ≡ b.byte ∷ ((b.behind ++ more) ++ x) = ap (λ z. z ++ rest) (sym is) ∙ e ∙ ap (λ z. (z ++ more) ++ x) b.is in
+    let front : 0xc0 ∷ rest ≡ b.byte ∷ ((b.following ++ more) ++ x) = ap (λ z. z ++ rest) (sym is) ∙ e ∙ ap (λ z. (z ++ more) ++ x) b.is in
     b.other (let first : 0xc0 ≡ b.byte = cc in sym first)
 
 -- none of the bytes that are left spells nil at the front
@@ -119,8 +119,8 @@ either_begins : (b : Bool) (x y : List ℕ) → (b ≡ true → BeginsOther x) �
 either_begins true x y f g = f refl
 either_begins false x y f g = g refl
 
-begins_with : (b : ℕ) (behind : List ℕ) → b ≢ 0xc0 → BeginsOther (b ∷ behind)
-begins_with b behind n = record { byte = b; behind = behind; is = refl; other = n }
+begins_with : (b : ℕ) (following : List ℕ) → b ≢ 0xc0 → BeginsOther (b ∷ following)
+begins_with b following n = record { byte = b; following = following; is = refl; other = n }
 
 number_begins : (n : ℕ) → BeginsOther (canon_head (Whole (pos n)))
 unfolding canon_head
@@ -177,7 +177,7 @@ kept_byte n (Some x) (Some y) c = sym c
 marker_byte : (m : Marker) (n : ℕ) (a b : Option (List ℕ)) → TakesMarker m a b → n ≡ byte_of m → Consumes a b (n ∷ [])
 marker_byte m n a b t e = subst (λ k. Consumes a b (k ∷ [])) (sym (e ∙ ap byte_of t.is_marker ∙ byte_of-marker_of t.byte t.is_byte)) t.taken
 
--- the byte that stands at the front is the one that was taken, or that is told
+-- the next byte is the one that was taken, or that is told
 front_byte : (b : ℕ) (front : List ℕ) (known k : Option (List ℕ)) → IsFront front known → 1 ≤ length front → b ≡ get_or front 0 0 → Skips 1 known k
     → Consumes known k (b ∷ [])
 front_byte b front None k f l e c = tt
@@ -191,7 +191,7 @@ front_told : (b : ℕ) (front : List ℕ) (known : Option (List ℕ)) → IsFron
     → ToldOther known
 front_told b front None f l e n t = absurd (t refl)
 front_told b [] (Some xs) f l e n t = absurd (omega arith)
-front_told b (x ∷ front) (Some xs) f l e n t = record { byte = b; behind = front ++ f.0; is = f.1 ∙ ap (λ t. t ∷ (front ++ f.0)) (sym e); other = n }
+front_told b (x ∷ front) (Some xs) f l e n t = record { byte = b; following = front ++ f.0; is = f.1 ∙ ap (λ t. t ∷ (front ++ f.0)) (sym e); other = n }
 
 module _ {R C : Type 0} (g : Ghosts R) (old new : Deserializer R C) (fresh : old.failed ≡ false) (ready : new.failed ≡ false) (stays : Stays g old new)
     (sound : faults_of g new ≡ faults_of g old) where
@@ -224,19 +224,19 @@ module _ {R C : Type 0} (g : Ghosts R) (old new : Deserializer R C) (fresh : old
   pub nil_kept : (b : ℕ) → old.kept ≡ First b → b ≡ 0xc0 → new.kept ≡ Nothing → new.reader ≡ old.reader → Lawful g IsNil old new (Ok tt)
   nil_kept b k z q r = nil_taken q (rw (bare g new q, r, k, z) (kept_first (0xc0 ∷ []) (g.ahead old.reader))) (record { more = []; whole = rw (k, z) refl })
 
-  -- another message stands there, whose first byte is kept back now, or was before
+  -- another message is there, whose first byte is kept back now, or was before
   pub sees_next : (m : Marker) (n : ℕ) → old.kept ≡ Nothing → new.kept ≡ First n → TakesMarker m (g.ahead old.reader) (g.ahead new.reader) → n ≡ byte_of m
       → n ≢ 0xc0 → SeesOther g old new
   sees_next m n k q t e z = record {
     ready = ready;
     same = rw (bare g old k, q) (kept_byte n _ _ (marker_byte m n _ _ t e));
     goes_on = record { more = kept_bytes new.kept; whole = rw k refl };
-    begins = record { byte = n; behind = []; is = rw q refl; other = z };
+    begins = record { byte = n; following = []; is = rw q refl; other = z };
     sound = sound;
     stays = stays;
   }
 
--- another message stands at the front
+-- the next message is another
 pub other_front : {R C : Type 0} (g : Ghosts R) (d : Deserializer R C) (b : ℕ) (front : List ℕ) → d.kept ≡ Nothing → IsFront front (g.ahead d.reader)
     → 1 ≤ length front → b ≡ get_or front 0 0 → b ≢ 0xc0 → g.ahead d.reader ≢ None → ToldOther (left g d)
 other_front g d b front k f l e n t = rw (bare g d k) (front_told b front _ f l e n t)

@@ -19,9 +19,9 @@ or_none : {X : Type 0} (p : Option X) → option_or p None ≡ p
 or_none None = refl
 or_none (Some x) = refl
 
-behind_first : {X : Type 0} (b : Bool) (x : X) (f p z : Option X) → f ≡ option_or p z → cond b (Some x) f ≡ option_or (cond b (Some x) p) z
-behind_first true x f p z e = refl
-behind_first false x f p z e = e
+after_first : {X : Type 0} (b : Bool) (x : X) (f p z : Option X) → f ≡ option_or p z → cond b (Some x) f ≡ option_or (cond b (Some x) p) z
+after_first true x f p z e = refl
+after_first false x f p z e = e
 
 reversed : (r : Ordering) → is_eq (ordering_reverse r) ≡ is_eq r
 reversed Less = refl
@@ -51,7 +51,7 @@ module _ {K : Type 0} {cmp : K → K → Ordering} (o : IsTotalOrder cmp) where
       let f = ap (λ r. cond (is_eq r) (Some x) (find (is_at (cmp q)) xs)) (o.congr q k x e ∙ h) in
       f ∙ sym (ap (λ z. option_or z (Some k)) f)
   place q k x xs Equal Greater h e a i = sym (or_none (find (is_at (cmp q)) (x ∷ xs)))
-  place q k x xs Greater t h e a i = behind_first (is_eq (cmp q x)) x (find (is_at (cmp q)) (insert_key cmp xs k)) (find (is_at (cmp q)) xs)
+  place q k x xs Greater t h e a i = after_first (is_eq (cmp q x)) x (find (is_at (cmp q)) (insert_key cmp xs k)) (find (is_at (cmp q)) xs)
       (cond (is_eq t) (Some k) None) i
 
   -- an equal key stays, and a new one is found

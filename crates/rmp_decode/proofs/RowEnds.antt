@@ -4,17 +4,17 @@ use Rattle.rmp_wire.specs.declared.source.Source.{Ghosts}
 use Rattle.rmp_wire.specs.Msg.{Msg, Msgs, no_items, item, count}
 use Rattle.rmp_decode.specs.Inside.{access_at, TakesValues, ReadsRow, StopsRow}
 use Rattle.rmp_decode.specs.Law.{Lawful}
-use Rattle.rmp_decode.specs.Refusing.{Setting, Refusals, setting_of, inside, RefusedIn, ElementRefused, WhereSome, IsMemory, Behind, EachRead, RefusesEach}
+use Rattle.rmp_decode.specs.Refusing.{Setting, Refusals, setting_of, inside, RefusedIn, ElementRefused, WhereSome, IsMemory, AfterItems, EachRead, RefusesEach}
 use Rattle.rmp_decode.specs.Rows.{ReadsEach}
 use Rattle.rmp_decode.specs.Seq.{OfRow, SpellsIn, SpellsRow, Opens, FailsToTake, inner_of}
 use Rattle.rmp_decode.specs.State.{left, faults_of}
 use Rattle.rmp_decode.specs.declared.deserializer.Deserializer.{Deserializer}
 use Rattle.rmp_decode.specs.declared.error.Error.{Error}
 use Rattle.rmp_decode.specs.declared.error.Error.TheVariants.{OutOfMemory}
-use Rattle.rmp_decode.proofs.ListRefusals.{behind_head}
+use Rattle.rmp_decode.proofs.ListRefusals.{after_head}
 use Rattle.rmp_decode.proofs.Rows.{append}
 use Rattle.rmp_decode.proofs.Seqs.{each_next, seq_done, seq_take, seq_unkept}
-use Rattle.rmp_decode.proofs.Settings.{element_behind, behind_opened}
+use Rattle.rmp_decode.proofs.Settings.{element_after, after_opened}
 
 -- as many values as items
 pub count_each : {V : Type 0} (reads : Msg → V → Type 0) (ms : Msgs) (vs : List V) → ReadsEach reads ms vs → count ms ≡ length vs
@@ -52,12 +52,12 @@ module _ {R C V : Type 0} (g : Ghosts R) (human : C → Bool) (lends : Bool) (re
   row_done Q holds row rest r z x q = seq_done g Q d (access_at start b all all) (access_at new b rest all) r.read.trees o r.read.run new x
       (q (subst (λ c. ReadsEach (reads (human c) lends) r.read.trees r.values) o.stays.config r.read.value)) z (ap (λ f. record new { failed = f }) r.ready)
 
-  -- behind these values it is refused so
-  pub behind_values : (mid : Deserializer R C) (still : ℕ) (vs : List V)
+  -- after these values it is refused so
+  pub after_values : (mid : Deserializer R C) (still : ℕ) (vs : List V)
       → (t : TakesValues g (reads (human start.config) lends) (access_at start b all all) (access_at mid b still all) vs) → (Q : Msgs → Type 0)
       → (ReadsEach (reads (human d.config) lends) t.trees vs → Q t.trees) → (F : ℕ → Option (List ℕ) → Error → Type 0) (e : Error) → F still (left g mid) e
-      → Behind (SpellsIn d.strict b) Q (inner_of (access_at start b all all)) all F (left g start) e
-  behind_values mid still vs t Q q F e h = record {
+      → AfterItems (SpellsIn d.strict b) Q (inner_of (access_at start b all all)) all F (left g start) e
+  after_values mid still vs t Q q F e h = record {
     bytes = t.run.bytes;
     rest = left g mid;
     trees = t.trees;
@@ -77,8 +77,8 @@ module _ {R C V : Type 0} (g : Ghosts R) (human : C → Bool) (lends : Bool) (re
       → F (ElementRefused g (human mid.config) lends P (access_at mid b still all) (access_at new b still all))
       → F (RefusedIn b (P (inside (setting_of (human d.config) lends d) (inner_of (access_at start b all all)))) (faults_of g d) (faults_of g new))
   element_of_list mid still vs P t F w =
-      let h = element_behind g human lends (access_at start b all all) (access_at mid b still all) t.trees t.run F P (access_at new b still all) w in
-      behind_opened g human lends d (access_at start b all all) (access_at new b still all) o (faults_of g new) refl (λ i a z. F (RefusedIn b (P i) a z)) h
+      let h = element_after g human lends (access_at start b all all) (access_at mid b still all) t.trees t.run F P (access_at new b still all) w in
+      after_opened g human lends d (access_at start b all all) (access_at new b still all) o (faults_of g new) refl (λ i a z. F (RefusedIn b (P i) a z)) h
 
   module _ (P : Setting → Refusals) (grows : Bool) (many : ℕ) (e : Error) (w : StopsRow g human lends reads P grows start b all many new e) where
     -- no list is there whose elements are read as some values, and so none of which Q holds
@@ -98,14 +98,14 @@ module _ {R C V : Type 0} (g : Ghosts R) (human : C → Bool) (lends : Bool) (re
 
     -- which error it is
     pub row_refuses : RefusesEach reads P (setting_of (human d.config) lends d) (faults_of g d) (faults_of g new) (left g d) e
-    row_refuses = inr (behind_head g human lends d (access_at start b all all) o (faults_of g new) e
-        (λ b i n known e. Behind (SpellsIn i.strict b) (EachRead reads i) i.room n (WhereSome (RefusedIn b (P i) (faults_of g d) (faults_of g new))) known e
-        ⊎ Behind (SpellsIn i.strict b) (λ ms. (0 < count ms) × EachRead reads i ms) i.room n IsMemory known e)
+    row_refuses = inr (after_head g human lends d (access_at start b all all) o (faults_of g new) e
+        (λ b i n known e. AfterItems (SpellsIn i.strict b) (EachRead reads i) i.room n (WhereSome (RefusedIn b (P i) (faults_of g d) (faults_of g new))) known e
+        ⊎ AfterItems (SpellsIn i.strict b) (λ ms. (0 < count ms) × EachRead reads i ms) i.room n IsMemory known e)
         (elim w.why [
-          | inl f ↦ inl (behind_values f.mid f.still f.values f.read (EachRead reads i) (λ r. (f.values, r))
+          | inl f ↦ inl (after_values f.mid f.still f.values f.read (EachRead reads i) (λ r. (f.values, r))
               (WhereSome (RefusedIn b (P i) (faults_of g d) (faults_of g new))) e
               (f.fails.some, element_of_list f.mid f.still f.values P f.read (λ K. K (left g f.mid) e) f.refused))
-          | inr p ↦ inr (behind_values new p.1.still p.1.values p.1.read (λ ms. (0 < count ms) × EachRead reads i ms)
+          | inr p ↦ inr (after_values new p.1.still p.1.values p.1.read (λ ms. (0 < count ms) × EachRead reads i ms)
               (λ r. (
                 let c = count_each (reads (human d.config) lends) p.1.read.trees p.1.values r in let some = p.1.some in omega (arith, c, some),
                 (p.1.values, r),

@@ -32,12 +32,12 @@ use Rattle.rmp_wire.specs.declared.head.Head.TheVariants.{Array, Bin}
 use Rattle.rmp_wire.specs.Canonical.{heads_of, SpellsAs}
 use Rattle.rmp_wire.specs.Msg.{Msg, nil, truth, whole, float32, float64, text, bin, list, map, extension, Msgs, no_items, item, count, depth, depth_all}
 use Rattle.rmp_wire.specs.Spelling.{AllSpelledBy, IsBytes, head_of}
-use Rattle.rmp_wire.proofs.Strict.{heads_apart_as, spelled_once_as}
+use Rattle.rmp_wire.proofs.Strict.{heads_differ_as, spelled_once_as}
 use Rattle.rmp_decode.specs.Law.{Begins, Refuses}
 use Rattle.rmp_decode.specs.Seq.{numbers, OfRow, seq_head, SpellsByte, SpellsIn, levels, SpellsRow, BeginsRow, RefusesRow}
 use Rattle.rmp_decode.proofs.NothingAccepted.{same_head}
 
--- one more item behind the others
+-- one more item after the others
 abbrev pub push : Msgs → Msg → Msgs
 push no_items k = item k no_items
 push (item m ms) k = item m (push ms k)
@@ -66,7 +66,7 @@ row-push spells (item m ms) k a b p q = record {
   is_whole = ap (λ z. z ++ b) p.is_whole ∙ append_assoc p.first p.second b;
 }
 
--- an element stands in one way at the front
+-- the bytes begin with an element in one way
 pub part_once : (w in_bytes : Bool) (m n : Msg) (a b x y : List ℕ) → SpellsIn w in_bytes a m → SpellsIn w in_bytes b n → a ++ x ≡ b ++ y → (m ≡ n) × (x ≡ y)
 part_once w false m n a b x y p q e = let u = spelled_once_as w m n a b x y p q e in (u.1, u.2)
 part_once w true m n a b x y p q e =
@@ -77,18 +77,18 @@ part_once w true m n a b x y p q e =
     let rest : x ≡ y = cc in
     (p.number ∙ ap (λ z. whole (pos z)) same ∙ sym q.number, rest)
 
--- what stands behind items that were taken, of all that stand at the front
-behind : (w in_bytes : Bool) (P : Msgs → Type 0) (room n : ℕ) (ms ts : Msgs) (a b x y : List ℕ) → SpellsRow (SpellsIn w in_bytes) a ms
+-- what follows items that were taken, of all that follow
+following : (w in_bytes : Bool) (P : Msgs → Type 0) (room n : ℕ) (ms ts : Msgs) (a b x y : List ℕ) → SpellsRow (SpellsIn w in_bytes) a ms
     → SpellsRow (SpellsIn w in_bytes) b ts → a ++ x ≡ b ++ y → count ms + n ≡ count ts → depth_all ts < room → P ts
     → BeginsRow (SpellsIn w in_bytes) (λ ks. P (append ms ks)) room n x
-behind w in_bytes P room n no_items ts a b x y p q e c d h = record
+following w in_bytes P room n no_items ts a b x y p q e c d h = record
     { bytes = b; rest = y; trees = ts; front = ap (λ z. z ++ x) (sym p) ∙ e; spelled = q; many = omega (arith, c); fits = d; holds = h }
-behind w in_bytes P room n (item m ms) no_items a b x y p q e c d h = absurd (omega arith)
-behind w in_bytes P room n (item m ms) (item t ts) a b x y p q e c d h =
+following w in_bytes P room n (item m ms) no_items a b x y p q e c d h = absurd (omega arith)
+following w in_bytes P room n (item m ms) (item t ts) a b x y p q e c d h =
     let split : p.first ++ (p.second ++ x) ≡ q.first ++ (q.second ++ y) = sym (append_assoc p.first p.second x) ∙ ap (λ z. z ++ x) (sym p.is_whole) ∙ e
     ∙ ap (λ z. z ++ y) q.is_whole ∙ append_assoc q.first q.second y in
     let u = part_once w in_bytes m t p.first q.first (p.second ++ x) (q.second ++ y) p.is_first q.is_first split in
-    behind w in_bytes (λ ks. P (item m ks)) room n ms ts p.second q.second x y p.is_second q.is_second u.1 (omega (arith, c)) (omega (arith, d))
+    following w in_bytes (λ ks. P (item m ks)) room n ms ts p.second q.second x y p.is_second q.is_second u.1 (omega (arith, c)) (omega (arith, d))
     (subst (λ z. P (item z ts)) (sym u.0) h)
 
 -- where none of the rest is accepted, none of the whole is
@@ -99,7 +99,7 @@ unfolding RefusesRow
 rest_refused w in_bytes P room n all None k ms bytes t s c r = tt
 rest_refused w in_bytes P room n all (Some xs) None ms bytes t s c r = absurd t
 rest_refused w in_bytes P room n all (Some xs) (Some ys) ms bytes t s c r = λ a. r
-    (behind w in_bytes P room n ms a.trees bytes a.bytes ys a.rest s a.spelled (sym t ∙ a.front) (c ∙ sym a.many) a.fits a.holds)
+    (following w in_bytes P room n ms a.trees bytes a.bytes ys a.rest s a.spelled (sym t ∙ a.front) (c ∙ sym a.many) a.fits a.holds)
 
 -- the next element is refused
 first_of : (spells : List ℕ → Msg → Type 0) (P : Msgs → Type 0) (F : Msg → Type 0) (room n : ℕ) (xs : List ℕ) (ts : Msgs) (b y : List ℕ)
@@ -131,7 +131,7 @@ unfolding RefusesRow
 count_refused spells P room n None f = tt
 count_refused spells P room n (Some xs) f = λ a. f a.trees a.holds a.many
 
--- ---- a row behind its head
+-- ---- a row after its head
 
 pub listed : (w : Bool) (ms : Msgs) (b : List ℕ) → AllSpelledBy (heads_of w) b ms → SpellsRow (SpellsAs w) b ms
 listed w no_items b s = s
@@ -221,7 +221,7 @@ inside w false P room n (list ms) a x y o s d l e f =
 inside w in_bytes P room n (map ps) a x y o s d l e f = absurd o
 inside w in_bytes P room n (extension tag t) a x y o s d l e f = absurd o
 
--- where no row is accepted behind the head, no list or bytes is before it
+-- where no row is accepted after the head, no list or bytes is before it
 pub row_whole : (w in_bytes : Bool) (P : Msgs → Type 0) (outer room n : ℕ) (known k : Option (List ℕ)) (b : List ℕ) → Consumes known k b
     → heads_of w (seq_head in_bytes n) b → outer ≡ room + levels in_bytes → 0 < room → RefusesRow (SpellsIn w in_bytes) P room n k
     → Refuses (SpellsAs w) (OfRow P) outer known
@@ -233,7 +233,7 @@ row_whole w in_bytes P outer room n (Some xs) (Some ys) b t i l some r = λ a.
     let u = same_head _ a.tree (seq_head in_bytes n) a.bytes b a.rest ys a.spelled i split in
     let fits = rw l at a.fits in
     r (inside w in_bytes P room n a.tree a.bytes a.rest ys a.holds a.spelled fits some u.0
-    (λ c d e j. (heads_apart_as w (head_of a.tree) (seq_head in_bytes n) d b (c ++ a.rest) ys j i
+    (λ c d e j. (heads_differ_as w (head_of a.tree) (seq_head in_bytes n) d b (c ++ a.rest) ys j i
     (sym (append_assoc d c a.rest) ∙ ap (λ z. z ++ a.rest) (sym e) ∙ split)).2))
 
 -- a whole list or bytes, from its head and its elements

@@ -31,7 +31,7 @@ use Rattle.rmp_wire.specs.declared.marker.Marker.{Marker}
 use Rattle.rmp_wire.specs.declared.source.Source.{Ghosts}
 use Rattle.rmp_wire.specs.Canonical.{heads_of}
 use Rattle.rmp_wire.specs.Sources.{IsShort}
-use Rattle.rmp_decode.specs.Exact.{Stands, IsDataEnd}
+use Rattle.rmp_decode.specs.Exact.{BeginsWith, IsDataEnd}
 use Rattle.rmp_decode.specs.Kinds.{content_len}
 use Rattle.rmp_decode.specs.Law.{Explains, ReadsHead}
 use Rattle.rmp_decode.specs.Refuse.{IsWrong, OpensSome, UnpassedFor, RefusedFor, RowRefusedFor, RefusesFirst, RefusesRowFirst}
@@ -81,7 +81,7 @@ module _ {R C : Type 0} (g : Ghosts R) (lends : Bool) (old mid new : Deserialize
   leaf_wrong e w n s d = λ _ k. elim (is_memory e) [
     | inl m ↦ subst (λ z. RefusedFor old.strict (UnpassedFor lends old.strict) any_row (room_of old) z (left g old)) (sym m)
         (wrong_memory old.strict (UnpassedFor lends old.strict) any_row (room_of old) (left g old) (left g mid) h.ok.bytes p.1 h.ok.takes h.ok.is_head
-        (λ xs k t. inl (unlent lends (λ q. w q m), record { head = p.1; marker = k; stands = t; no_parts = n })))
+        (λ xs k t. inl (unlent lends (λ q. w q m), record { head = p.1; marker = k; starts = t; no_parts = n })))
     | inr o ↦
         let same = k ∙ sym h.sound in
         let short : IsShort (content_len p.1) (left g mid) = rw (bare g mid h.clean) (s o same) in
@@ -113,16 +113,16 @@ module _ {R C : Type 0} (g : Ghosts R) (lends : Bool) (old mid new : Deserialize
   nest_wrong is_map n (Ok u) i deep row = tt
   nest_wrong is_map n (Err e) i deep row = refused_nest is_map n e i deep row
 
-  some_open : (is_map : Bool) (n : ℕ) (known : Option (List ℕ)) → IfSome known (Stands old.strict p.0 p.1) → p.1 ≡ parts_head is_map n → 0 < n
+  some_open : (is_map : Bool) (n : ℕ) (known : Option (List ℕ)) → IfSome known (BeginsWith old.strict p.0 p.1) → p.1 ≡ parts_head is_map n → 0 < n
       → IfSome known (OpensSome old.strict)
   some_open is_map n None s i l = tt
   some_open is_map n (Some xs) s i l = record {
     parts = record
-        { is_map = is_map; len = n; marker = p.0; stands = subst (λ z. Stands old.strict p.0 z xs) i s };
+        { is_map = is_map; len = n; marker = p.0; starts = subst (λ z. BeginsWith old.strict p.0 z xs) i s };
     some = l;
   }
 
-  -- memory was short behind the head of a list or a map
+  -- memory was short after the head of a list or a map
   pub nest_memory : (is_map : Bool) (n : ℕ) (r : Result (Unit {0}) Error) → p.1 ≡ parts_head is_map n
       → IfErr r (λ e. e ≡ errors.OutOfMemory → 0 < parts_count is_map n)
       → IfErr r (λ e. e ≡ errors.OutOfMemory → IfSome (left g old) (OpensSome old.strict))

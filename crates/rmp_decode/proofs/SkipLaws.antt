@@ -65,7 +65,7 @@ use Rattle.rmp_wire.specs.Msg.{
 }
 use Rattle.rmp_wire.specs.Sources.{IsShort}
 use Rattle.rmp_wire.specs.Spelling.{PairsSpelledBy, IsBytes, head_of}
-use Rattle.rmp_wire.proofs.Strict.{heads_apart_as}
+use Rattle.rmp_wire.proofs.Strict.{heads_differ_as}
 use Rattle.rmp_decode.specs.Kinds.{content_len}
 use Rattle.rmp_decode.specs.Law.{Refuses, Readable, Explains, Lawful, ReadsHead}
 use Rattle.rmp_decode.specs.Seq.{SpellsRow, BeginsRow, RefusesRow}
@@ -293,7 +293,7 @@ parts_of w false (list ms) n room a x y s e d f =
 parts_of w false (map ps) n room a x y s e d f = absurd (cc)
 parts_of w false (extension tag t) n room a x y s e d f = absurd (cc)
 
--- where no row stands behind the head, no message stands before it
+-- where no row is after the head, no message is before it
 pub parts_refused : (w is_map : Bool) (P : Msg → Type 0) (n room : ℕ) (known k : Option (List ℕ)) (b : List ℕ) → Consumes known k b
     → heads_of w (parts_head is_map n) b → RefusesRow (SpellsAs w) any_row (room - 1) (parts_count is_map n) k → Refuses (SpellsAs w) P room known
 unfolding RefusesRow
@@ -302,7 +302,7 @@ parts_refused w is_map P n room known k b t i r = refuses_by w P room known k b 
     let u = same_head _ a.tree (parts_head is_map n) a.bytes b a.rest ys a.spelled i split in
     let none : BeginsRow (SpellsAs w) any_row (room - 1) (parts_count is_map n) ys → ⊥ = rw e at r in
     none (parts_of w is_map a.tree n room a.bytes a.rest ys a.spelled u.0 a.fits
-    (λ d c q j. (heads_apart_as w (head_of a.tree) (parts_head is_map n) d b (c ++ a.rest) ys j i
+    (λ d c q j. (heads_differ_as w (head_of a.tree) (parts_head is_map n) d b (c ++ a.rest) ys j i
     (sym (append_assoc d c a.rest) ∙ ap (λ z. z ++ a.rest) (sym q) ∙ split)).2)))
 
 -- ---- the answers

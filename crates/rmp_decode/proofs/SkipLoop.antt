@@ -47,7 +47,7 @@ use Rattle.rmp_wire.specs.Sources.{IsShort}
 use Rattle.rmp_decode.specs.Exact.{IsDataEnd, EndsExactly}
 use Rattle.rmp_decode.specs.Kinds.{content_len}
 use Rattle.rmp_decode.specs.Law.{Begins, Refuses, Readable, NoMessage, Explains, ReadsHead}
-use Rattle.rmp_decode.specs.Open.{SpellsOpen, Behind, Leads, place, digits}
+use Rattle.rmp_decode.specs.Open.{SpellsOpen, SpellsThen, Leads, place, digits}
 use Rattle.rmp_decode.specs.Refuse.{UnpassedFor, RowRefusal, RefusedFor, RowRefusedFor, RefusesRowFirst}
 use Rattle.rmp_decode.specs.Seq.{SpellsRow, RefusesRow}
 use Rattle.rmp_decode.specs.Skip.{any_tree, any_row, parts_head, parts_count, Passes, SkipsRow}
@@ -141,7 +141,7 @@ none_of (x ∷ xs) e = absurd (omega arith)
 abbrev LeadsBy : Bool → Bool → ℕ → List ℕ → ℕ → List ℕ → List ℕ → Type 0
 LeadsBy lends strict = Leads strict (UnpassedFor lends strict)
 
--- what was taken leads from so many messages to what is wanted now: by the innermost, and by those that stand open around it, the outermost first
+-- what was taken leads from so many messages to what is wanted now: by the innermost, and by those that are open around it, the outermost first
 pub record Wants {R C : Type 0} (g : Ghosts R) (lends : Bool) (all : ℕ) (start now : Deserializer R C) (room wanted : ℕ) (outer : List ℕ) : Type 0 where
   pub taken : List ℕ
   pub takes : Consumes (left g start) (left g now) taken
@@ -267,7 +267,7 @@ module _ {R C : Type 0} (g : Ghosts R) (lends : Bool) (all : ℕ) (start now : D
         is_second = refl;
         is_whole = sym (append-nil a.bytes);
       } in
-      let b : Behind start.strict room (suc (wanted - 1) ∷ reverse outer) a.rest ys = l.opens a.bytes a.rest ys whole (sym a.front ∙ t) in
+      let b : SpellsThen start.strict room (suc (wanted - 1) ∷ reverse outer) a.rest ys = l.opens a.bytes a.rest ys whole (sym a.front ∙ t) in
       let h = b.spelled in
       r (front_of_row (wanted - 1) h.is_first.trees h.first h.second a.rest ys h.is_first.spelled h.is_first.many h.is_first.fits
       (b.front ∙ ap (λ z. z ++ a.rest) h.is_whole))
@@ -401,7 +401,7 @@ module _ {R C : Type 0} (g : Ghosts R) (lends : Bool) (all : ℕ) (start now : D
     memory_wrong is_map len i s = wants_wrong mid errors.OutOfMemory some
         (λ _. wrong_memory start.strict (UnpassedFor lends start.strict) any_row room (left g now) (left g mid) h.ok.bytes (parts_head is_map len) heads
         (head_is is_map len i)
-        (λ xs m t. inr (record { parts = record { is_map = is_map; len = len; marker = m; stands = t }; some = some_parts is_map len s })))
+        (λ xs m t. inr (record { parts = record { is_map = is_map; len = len; marker = m; starts = t }; some = some_parts is_map len s })))
 
     -- the content of a leaf couldn't be passed over
     pub leaf_refused : (new : Deserializer R C) (e : Error)
@@ -419,7 +419,7 @@ module _ {R C : Type 0} (g : Ghosts R) (lends : Bool) (all : ℕ) (start now : D
     leaf_wrong new e u n s d = wants_wrong new e some (λ k. elim (is_memory e) [
       | inl m ↦ subst (λ z. RefusedFor start.strict (UnpassedFor lends start.strict) any_row room z (left g now)) (sym m)
           (wrong_memory start.strict (UnpassedFor lends start.strict) any_row room (left g now) (left g mid) h.ok.bytes p.1 heads is_head
-          (λ xs k t. inl (unlent lends (λ q. u q m), record { head = p.1; marker = k; stands = t; no_parts = n })))
+          (λ xs k t. inl (unlent lends (λ q. u q m), record { head = p.1; marker = k; starts = t; no_parts = n })))
       | inr o ↦
           let same = k ∙ sym sound_mid in
           let short : IsShort (content_len p.1) (left g mid) = rw (bare g mid h.clean) (s o same) in

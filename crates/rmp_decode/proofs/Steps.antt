@@ -3,7 +3,7 @@ use Rattle.std.proofs.Common.{◌≡◌, ◌∙◌, ap, ℕ, ◌-◌, arith, Lis
 use Rattle.std.proofs.Math.Seq.{drop-append_seam, take-append_seam, take-length}
 use Rattle.std.proofs.lemmas.List.{length-append}
 
--- what stands behind the bytes that were there
+-- what follows the bytes that were there
 pub appended_is : (at : ℕ) (before s after : List ℕ) → after ≡ before ++ s → at ≡ length before → take (length after - at) (drop at after) ≡ s
 appended_is at before s after e l =
     let rest : drop at after ≡ s = ap (λ n. drop n after) l ∙ ap (drop (length before)) e ∙ drop-append_seam before s in

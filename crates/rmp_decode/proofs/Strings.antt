@@ -1,4 +1,4 @@
--- A text behind a head that was taken: lent, or read into memory of its own at once.
+-- A text after a head that was taken: lent, or read into memory of its own at once.
 use Rattle.std.proofs.Common.{◌≡◌, ap, refl, ℕ, List, length, Option, Bool, true, false, Ok, Err, String, Global}
 use Rattle.std.specs.Prelude.{IsUtf8}
 use Rattle.std.specs.String.{string_bytes}
@@ -37,7 +37,7 @@ string_under : {V : Type 0} (reads : Msg → V → Type 0) → ((m : Msg) → Re
     → Readable reads m → Readable (λ k t. (k ≡ text t) × IsUtf8 t) m
 string_under reads is n m h r = let a = is m r in (a.0, (as_text a.1.1.0 n m a.0 h a.1.1.1, a.1.0))
 
--- the bytes behind the head of a text are none of those that are UTF-8
+-- the bytes after the head of a text are none of those that are UTF-8
 pub utf8_refused : {R C V : Type 0} (g : Ghosts R) (reads : Msg → V → Type 0) → ((m : Msg) → Readable reads m → Readable IsString m)
     → (old mid new : Deserializer R C) (m : Marker) (n : ℕ) (e : Error)
     → ReadsHead g old mid (Ok (m, head.Text n)) → Explains e (g.faults mid.reader) (g.faults new.reader) (StartsWithNoText n (g.ahead mid.reader))
@@ -47,7 +47,7 @@ utf8_refused g reads is old mid new m n e h x d st =
     (content_refused text_content g (λ k t. (k ≡ text t) × IsUtf8 t) old mid new (m, head.Text n) h n e refl (λ k r. (r.0, r.1.0))
     (λ o q. text_under n (g.ahead mid.reader) (x o q)) d st)
 
--- the bytes behind the head of a text are none
+-- the bytes after the head of a text are none
 pub string_refused : {R C : Type 0} (g : Ghosts R) (old mid new : Deserializer R C) (m : Marker) (n : ℕ) (e : Error)
     → ReadsHead g old mid (Ok (m, head.Text n)) → Explains e (g.faults mid.reader) (g.faults new.reader) (StartsWithNoText n (g.ahead mid.reader))
     → new.failed ≡ true → Stays g mid new

@@ -55,12 +55,12 @@ use Rattle.rmp_decode.proofs.Structs.{
   fields_missing,
   fields_value,
   fields_passed,
-  lawful_headed,
+  lawful_slow,
 }
 
 -- ---- the fields of a list so far
 
--- these items stand in the places of the first names
+-- these items are in the places of the first names
 abbrev pub so_far : List (List ℕ) → Msgs → List (Option Msg)
 so_far names no_items = blank names
 so_far [] (item m ms) = []
@@ -99,15 +99,15 @@ put_elsewhere zero (suc n) m (None ∷ fs) gs d e = let q : Some m ∷ fs ≡ gs
 put_elsewhere zero (suc n) m (Some k ∷ fs) gs d e = absurd (cc)
 put_elsewhere (suc i) n m (f ∷ fs) gs d e = go (λ k r c p. put_elsewhere i k m fs r c p) (put i m fs) refl e
   where
-    behind : ((k : ℕ) (r : List (Option Msg)) → k ≢ i → put i m fs ≡ Some r → at k r ≡ at k fs) → (n : ℕ) → n ≢ suc i → (r : List (Option Msg))
+    following : ((k : ℕ) (r : List (Option Msg)) → k ≢ i → put i m fs ≡ Some r → at k r ≡ at k fs) → (n : ℕ) → n ≢ suc i → (r : List (Option Msg))
         → put i m fs ≡ Some r → at n (f ∷ r) ≡ at n (f ∷ fs)
-    behind ih zero c r p = refl
-    behind ih (suc k) c r p = ih k r (λ z. c (ap suc z)) p
+    following ih zero c r p = refl
+    following ih (suc k) c r p = ih k r (λ z. c (ap suc z)) p
 
     go : ((k : ℕ) (r : List (Option Msg)) → k ≢ i → put i m fs ≡ Some r → at k r ≡ at k fs) → (x : Option (List (Option Msg))) → put i m fs ≡ x
         → option_and_then (λ r. Some (f ∷ r)) x ≡ Some gs → at n gs ≡ at n (f ∷ fs)
     go ih None p q = absurd (cc)
-    go ih (Some r) p q = let s : f ∷ r ≡ gs = cc in ap (at n) (sym s) ∙ behind ih n d r p
+    go ih (Some r) p q = let s : f ∷ r ≡ gs = cc in ap (at n) (sym s) ∙ following ih n d r p
 
 put_taken : (n : ℕ) (k m : Msg) (fs : List (Option Msg)) → at n fs ≡ Some k → put n m fs ≡ None
 put_taken n k m [] e = refl
@@ -117,7 +117,7 @@ put_taken (suc n) k m (f ∷ fs) e = ap (option_and_then (λ gs. Some (f ∷ gs)
 
 -- ---- fields that were met so far
 
--- a tree stands in each place whose bit is set, and in no other
+-- a tree is in each place whose bit is set, and in no other
 pub record Marks (bits : ℕ) (fs : List (Option Msg)) : Type 0 where
   pub free : (n : ℕ) → bit_at bits n ≡ 0 → at n fs ≡ None
   pub taken : (n : ℕ) → bit_at bits n ≡ 1 → (m : Msg) × (at n fs ≡ Some m)
@@ -402,11 +402,11 @@ module _ {R C V S : Type 0} (g : Ghosts R) (names : List (List ℕ)) (holds : Li
   Law e = Lawful {V = V} g (λ m v. OfFields names (λ fs. Q fs v) m) old last (Err e)
 
   widen : (p : Opens g old (as_seq start)) (e : Error) → Lawful {V = V} g (λ m v. OfRow (Given names Q v) m) old last (Err e) → Law e
-  widen p e l = lawful_headed g (λ m v. OfRow (Given names Q v) m) (λ m v. OfFields names (λ fs. Q fs v) m) old start.de.now last e
+  widen p e l = lawful_slow g (λ m v. OfRow (Given names Q v) m) (λ m v. OfFields names (λ fs. Q fs v) m) old start.de.now last e
       (seq_head start.bytes (as_seq start).left) p.head (is_given names Q start.bytes (as_seq start).left) l
 
   module _ (now : FieldAccess R C) (d : StructMet g names holds start now s) where
-    -- all are there, or something stands for them
+    -- all are there, or they have defaults
     pub struct_done : (v : V) → ((fs : List (Option Msg)) → holds fs s → Q fs v) → now.left ≡ 0 → last ≡ record now.de.now { failed = false }
         → Lawful g (λ m v. OfFields names (λ fs. Q fs v) m) old last (Ok v)
     struct_done v q z e = go start.is_map o.opens d.run.so d.all
@@ -529,7 +529,7 @@ module _ {V W : Type 0} (reads : Msg → V → Type 0) (rest : List (Option Msg)
   slot_later n o w x (Some k ∷ fs) m h e f =
       let y = f fs h.1 e in (Some k ∷ y.0, ap (option_and_then (λ gs. Some (Some k ∷ gs))) y.1, (h.0, y.2))
 
-  -- a field that was read, or for which something stands
+  -- a field that was read, or that has a default
   pub slot_field : (absent : Option V) (Q : List (Option Msg) → Type 0) (o : Option V) (w : W) (v : V) (fs : List (Option Msg)) → Slot reads rest fs o w
       → (o ≡ Some v) ⊎ ((o ≡ None) × (absent ≡ Some v)) → ((gs : List (Option Msg)) → rest gs w → Q gs)
       → Field (λ m. reads m v) (Absent absent v) Q fs
@@ -548,7 +548,7 @@ module _ {V W : Type 0} (reads : Msg → V → Type 0) (rest : List (Option Msg)
   slot_gap_later o w f no_items h = h
   slot_gap_later o w f (item m ms) h = f ms h.1
 
-  -- and nothing stands for it
+  -- and it has no default
   pub slot_lacks : (absent : Option V) (Q : List (Option Msg) → Type 0) (w : W) (v : V) (fs : List (Option Msg)) → absent ≡ None → Slot reads rest fs None w
       → Field (λ m. reads m v) (Absent absent v) Q fs → ⊥
   slot_lacks absent Q w v [] e h f = h

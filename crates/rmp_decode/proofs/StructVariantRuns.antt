@@ -3,7 +3,7 @@ use Rattle.std.proofs.Common.{◌≡◌, ◌∙◌, refl, ap, inl, inr, ℕ, zer
 use Rattle.rmp_wire.specs.declared.source.Source.{Ghosts}
 use Rattle.rmp_wire.specs.Msg.{Msg, Msgs}
 use Rattle.rmp_decode.specs.FieldAccess.{IsStructOpen, SameStruct, OpensStructIn, struct_within, PassesPair, Passes, TakesName, TakesPlaceAs, TakesPlace}
-use Rattle.rmp_decode.specs.FieldAccess.{FailsKey, FailsBehind, FailsPlaceAs, FailsPlace, FailsFieldAs, FailsField, as_map}
+use Rattle.rmp_decode.specs.FieldAccess.{FailsKey, FailsAfter, FailsPlaceAs, FailsPlace, FailsFieldAs, FailsField, as_map}
 use Rattle.rmp_decode.specs.Fields.{OfFields, HasFields, at, blank, given_all}
 use Rattle.rmp_decode.specs.Law.{Readable, Lawful}
 use Rattle.rmp_decode.specs.Maps.{TakesKey, TakesValue}
@@ -160,9 +160,9 @@ module _ {R C : Type 0} (i : ℕ) where
         → FailsKey g human lends names (map_as old) (map_as new) e
     fails_key_as f = record { some = f.some; part = fails_as f.part; refused = f.refused }
 
-    fails_behind_as : {human lends : Bool} {names : List (List ℕ)} {old new : MapAccess R C} {e : Error} → FailsBehind g human lends names old new e
-        → FailsBehind g human lends names (map_as old) (map_as new) e
-    fails_behind_as f = record {
+    fails_after_as : {human lends : Bool} {names : List (List ℕ)} {old new : MapAccess R C} {e : Error} → FailsAfter g human lends names old new e
+        → FailsAfter g human lends names (map_as old) (map_as new) e
+    fails_after_as f = record {
       key = map_as f.key;
       named = key_as f.named;
       same_reference = f.same_reference;
@@ -175,7 +175,7 @@ module _ {R C : Type 0} (i : ℕ) where
       many = f.many;
       mid = map_as f.mid;
       passed = passes_as _ f.many (as_map old) f.mid f.passed;
-      pair = elim f.pair [ inl k ↦ inl (fails_key_as k) | inr k ↦ inr (fails_behind_as k) ];
+      pair = elim f.pair [ inl k ↦ inl (fails_key_as k) | inr k ↦ inr (fails_after_as k) ];
     })
     fails_place_by true human lends old new e (inr f) = inr (record {
       place = f.place;
@@ -254,7 +254,7 @@ module _ {R C S : Type 0} (g : Ghosts R) (fields : List (List ℕ)) (holds : Lis
       at_end : now.de.now.room ≡ start.de.now.room
       at_end = run_room g fields holds start now s d.run
 
-      -- all are there, or something stands for them
+      -- all are there, or they have defaults
       pub variant_done : (x : V) → ((fs : List (Option Msg)) → holds fs s → Q fs x) → now.left ≡ 0 → last ≡ record now.de.now { failed = false }
           → Lawful g (λ m y. OfVariant names (IsAt n (Content (λ k. OfFields fields (λ fs. Q fs y) k))) m) old last (Ok x)
       variant_done x f z q =

@@ -37,7 +37,7 @@ mapped_room outer inner o n e d =
     let l = d (λ q. absurd (cc)) in
     omega (arith, e, l)
 
--- the access is open that is made behind the head of a list or of bytes, and of a map
+-- the access is open that is made after the head of a list or of bytes, and of a map
 pub made_listed : {R C : Type 0} (a : FieldAccess R C) → a.is_map ≡ false → a.sound ≡ true → a.de.now.failed ≡ true → a.de.now.kept ≡ Nothing
     → length a.names.now ≤ 128 → IsStructOpen a
 made_listed a m s f k l = record { sound = s; marked = f; clean = k; few = rw (length_bytes a.names.now) l; pairs = λ e. absurd (cc) }
@@ -113,7 +113,7 @@ module _ {R C : Type 0} (g : Ghosts R) (inner : ℕ) (old : Deserializer R C) (a
 
 -- ---- where they are the content of a variant
 
--- the name stands alone
+-- the name is alone
 pub no_struct_alone : {R C : Type 0} (g : Ghosts R) (v : Variant R C) → v.bare ≡ true → FailsToOpenStructOf g v v.de.now (Syntax InvalidType)
 no_struct_alone g v b = record {
   err = λ names n old o. bare_refused g names n old v o v.de.now (Readable (λ m (u : Unit {0}). HasFields m)) (Syntax InvalidType) b refl;

@@ -54,13 +54,13 @@ use Rattle.rmp_decode.proofs.Meeting.{met_push, none_met, key_named, value_put}
 use Rattle.rmp_decode.proofs.NothingAccepted.{refuses_narrower, same_head}
 use Rattle.rmp_decode.proofs.Rows.{push, append, count_refused}
 
--- what is refused behind a head, of trees that begin with it
-refuses_headed : (w : Bool) (P Q : Msg → Type 0) (room : ℕ) (known k : Option (List ℕ)) (b : List ℕ) (h : Head) → Consumes known k b → heads_of w h b
+-- what is refused after a head, of trees that begin with it
+refuses_slow : (w : Bool) (P Q : Msg → Type 0) (room : ℕ) (known k : Option (List ℕ)) (b : List ℕ) (h : Head) → Consumes known k b → heads_of w h b
     → ((m : Msg) → head_of m ≡ h → Q m → P m) → Refuses (SpellsAs w) P room known → Refuses (SpellsAs w) Q room known
 unfolding Refuses
-refuses_headed w P Q room None k b h t i f r = tt
-refuses_headed w P Q room (Some xs) None b h t i f r = absurd t
-refuses_headed w P Q room (Some xs) (Some ys) b h t i f r = λ a. r
+refuses_slow w P Q room None k b h t i f r = tt
+refuses_slow w P Q room (Some xs) None b h t i f r = absurd t
+refuses_slow w P Q room (Some xs) (Some ys) b h t i f r = λ a. r
     (record {
       bytes = a.bytes;
       rest = a.rest;
@@ -73,16 +73,16 @@ refuses_headed w P Q room (Some xs) (Some ys) b h t i f r = λ a. r
     })
 
 -- a refusal of a message whose head was taken
-pub lawful_headed : {R C V W : Type 0} (g : Ghosts R) (reads : Msg → V → Type 0) (reads' : Msg → W
+pub lawful_slow : {R C V W : Type 0} (g : Ghosts R) (reads : Msg → V → Type 0) (reads' : Msg → W
     → Type 0) (old mid new : Deserializer R C) (e : Error) (h : Head) → TakesHead g h old mid
     → ((m : Msg) → head_of m ≡ h → Readable reads' m → Readable reads m)
     → Lawful g reads old new (Err e) → Lawful g reads' old new (Err e)
-lawful_headed g reads reads' old mid new e h t f l = record {
+lawful_slow g reads reads' old mid new e h t f l = record {
   ok = tt;
   ready = tt;
   clean = tt;
   sound = tt;
-  err = λ o n k. refuses_headed old.strict (Readable reads) (Readable reads') _ _ (left g mid) t.bytes h t.takes t.is_head f (l.err o n k);
+  err = λ o n k. refuses_slow old.strict (Readable reads) (Readable reads') _ _ (left g mid) t.bytes h t.takes t.is_head f (l.err o n k);
   failed = l.failed;
   before = l.before;
   stays = l.stays;
@@ -199,7 +199,7 @@ module _ {R C V S : Type 0} (g : Ghosts R) (names : List (List ℕ)) (holds : Li
     → Type 0) (old : Deserializer R C) (start mid : MapAccess R C) (o : OpensMap g old start) (s : S) (r : FieldsRun g names holds start mid s)
     (last : Deserializer R C) where
   widen : (e : Error) → Lawful g (λ m v. OfMap (Meets names Q v) m) old last (Err e) → Lawful g (λ m v. OfFields names (λ fs. Q fs v) m) old last (Err e)
-  widen e l = lawful_headed g (λ m v. OfMap (Meets names Q v) m) (λ m v. OfFields names (λ fs. Q fs v) m) old start.de.now last e (Map start.left) o.head
+  widen e l = lawful_slow g (λ m v. OfMap (Meets names Q v) m) (λ m v. OfFields names (λ fs. Q fs v) m) old start.de.now last e (Map start.left) o.head
       (is_of_map names Q start.left) l
 
   -- all are there
@@ -320,7 +320,7 @@ module _ {V : Type 0} (names : List (List ℕ)) (Q : List (Option Msg) → V →
 
       module _ {R C : Type 0} (g : Ghosts R) (old : Deserializer R C) (start mid : SeqAccess R C) (o : Opens g old start) (last : Deserializer R C) where
         listed_widen : (e : Error) → Lawful g (λ m v. OfRow (Gives Q v) m) old last (Err e) → Lawful g (λ m v. OfFields names (λ fs. Q fs v) m) old last (Err e)
-        listed_widen e l = lawful_headed g (λ m v. OfRow (Gives Q v) m) (λ m v. OfFields names (λ fs. Q fs v) m) old start.de.now last e
+        listed_widen e l = lawful_slow g (λ m v. OfRow (Gives Q v) m) (λ m v. OfFields names (λ fs. Q fs v) m) old start.de.now last e
             (seq_head start.bytes start.left) o.head (is_of_row start.bytes start.left) l
 
         pub listed_refused : (e : Error) → FailsParts g (Gives Q) start mid e → last ≡ mid.de.now

@@ -69,7 +69,7 @@ row_narrower spells P Q room n (Some xs) f r = λ a. r
       holds = f a.trees a.holds;
     })
 
--- behind the parts that were read there was no element more, or it was refused
+-- after the parts that were read there was no element more, or it was refused
 module _ {R C V W : Type 0} (g : Ghosts R) (reads : C → Msg → V → Type 0) (Q : W → Msgs
     → Type 0) (start mid now : SeqAccess R C) (ms : Msgs) (r : Run g start mid ms) where
   pub part_refused : (e : Error) → (IsOpen mid → FailsElement g (reads mid.de.now.config) mid now e) → (mid.de.now.failed ≡ true → now.de.now.failed ≡ true)

@@ -95,7 +95,7 @@ module _ {R C : Type 0} (g : Ghosts R) (old mid : Deserializer R C) (p : Marker 
 -- ---- newtype structs
 
 module _ {R C V : Type 0} (g : Ghosts R) (reads : Msg → V → Type 0) (name : List ℕ) (old new : Deserializer R C) where
-  -- the name stands for an extension
+  -- the name means an extension
   pub newtype_named : (e : Error) → IsExtName name → old.failed ≡ false → new.failed ≡ true → Stays g old new → Lawful g (IsNewtype name reads) old new (Err e)
   newtype_named e is o f s = refused g (IsNewtype name reads) old new e o f s (λ _ _. refuses_all _ (Readable (IsNewtype name reads)) _ _ (λ m r. r.1.0 is))
 

@@ -53,7 +53,7 @@ use Rattle.rmp_wire.specs.Slices.{Blames}
 use Rattle.rmp_wire.specs.Sources.{IsShort}
 use Rattle.rmp_wire.specs.Spelling.{head_of}
 use Rattle.rmp_decode.specs.Content.{RefusesContent, IsRawHead}
-use Rattle.rmp_decode.specs.Exact.{Stands}
+use Rattle.rmp_decode.specs.Exact.{BeginsWith}
 use Rattle.rmp_decode.specs.Kinds.{raw_msg, raw_head}
 use Rattle.rmp_decode.specs.Law.{Refuses, Readable, Explains, Lawful, ReadsHead, TakesHead}
 use Rattle.rmp_decode.specs.Names.{bytes_of, place_below, place_of, name_of}
@@ -64,9 +64,9 @@ use Rattle.rmp_decode.specs.Variants.{OfVariant, IsVariant, placed, FailsToOpenV
 use Rattle.rmp_decode.specs.declared.deserializer.Deserializer.{Deserializer}
 use Rattle.rmp_decode.specs.declared.error.Error.{Error}
 use Rattle.rmp_decode.specs.declared.error.Error.TheVariants.{LengthMismatch, DepthLimitExceeded}
-use Rattle.rmp_decode.proofs.ContentErrors.{content_none, content_other, content_apart, same_front}
+use Rattle.rmp_decode.proofs.ContentErrors.{content_none, content_other, content_differ, same_front}
 use Rattle.rmp_decode.proofs.Contents.{raw_content, content_refused}
-use Rattle.rmp_decode.proofs.Exactness.{stand_once}
+use Rattle.rmp_decode.proofs.Exactness.{start_once}
 use Rattle.rmp_decode.proofs.Opening.{map_nests}
 use Rattle.rmp_decode.proofs.Names.{name_of_raw, length_bytes}
 use Rattle.rmp_decode.proofs.NothingAccepted.{refuses_none, refuses_head, refuses_by, same_head}
@@ -74,12 +74,12 @@ use Rattle.rmp_decode.proofs.NothingAccepted.{refuses_none, refuses_head, refuse
 -- ---- a head that was taken
 
 -- what is refused of trees that begin with it
-pub refuses_headed : (s : Bool) (P Q : Msg → Type 0) (room : ℕ) (known k : Option (List ℕ)) (b : List ℕ) (h : Head) → Consumes known k b → heads_of s h b
+pub refuses_slow : (s : Bool) (P Q : Msg → Type 0) (room : ℕ) (known k : Option (List ℕ)) (b : List ℕ) (h : Head) → Consumes known k b → heads_of s h b
     → ((m : Msg) → head_of m ≡ h → Q m → P m) → Refuses (SpellsAs s) P room known → Refuses (SpellsAs s) Q room known
 unfolding Refuses
-refuses_headed s P Q room None k b h t i f r = tt
-refuses_headed s P Q room (Some xs) None b h t i f r = absurd t
-refuses_headed s P Q room (Some xs) (Some ys) b h t i f r = λ a.
+refuses_slow s P Q room None k b h t i f r = tt
+refuses_slow s P Q room (Some xs) None b h t i f r = absurd t
+refuses_slow s P Q room (Some xs) (Some ys) b h t i f r = λ a.
     r (record {
       bytes = a.bytes;
       rest = a.rest;
@@ -92,16 +92,16 @@ refuses_headed s P Q room (Some xs) (Some ys) b h t i f r = λ a.
     })
 
 -- a refusal of a message that begins with it
-pub lawful_behind : {R C V W : Type 0} (g : Ghosts R) (reads : Msg → V → Type 0) (reads' : Msg → W
+pub lawful_after : {R C V W : Type 0} (g : Ghosts R) (reads : Msg → V → Type 0) (reads' : Msg → W
     → Type 0) (old mid new : Deserializer R C) (e : Error) (h : Head) → TakesHead g h old mid
     → ((m : Msg) → head_of m ≡ h → Readable reads' m → Readable reads m)
     → Lawful g reads old new (Err e) → Lawful g reads' old new (Err e)
-lawful_behind g reads reads' old mid new e h t f l = record {
+lawful_after g reads reads' old mid new e h t f l = record {
   ok = tt;
   ready = tt;
   clean = tt;
   sound = tt;
-  err = λ o n k. refuses_headed old.strict (Readable reads) (Readable reads') _ _ (left g mid) t.bytes h t.takes t.is_head f (l.err o n k);
+  err = λ o n k. refuses_slow old.strict (Readable reads) (Readable reads') _ _ (left g mid) t.bytes h t.takes t.is_head f (l.err o n k);
   failed = l.failed;
   before = l.before;
   stays = l.stays;
@@ -188,7 +188,7 @@ module _ {R C : Type 0} (g : Ghosts R) (names : List (List ℕ)) (old mid : Dese
   pub name_refused : (t : Bool) (n : ℕ) (new : Deserializer R C) (e : Error) → p.1 ≡ raw_head t n
       → Explains e (g.faults mid.reader) (g.faults new.reader) (StartsWithNoName names n (g.ahead mid.reader)) → new.failed ≡ true → Stays g mid new
       → Lawful g (IsPlace names) old new (Err e)
-  name_refused t n new e i x d st = lawful_behind g (Named t names) (IsPlace names) old mid new e p.1 h.ok (λ m j r. (r.0, (r.1, raw_of_head t n m (j ∙ i))))
+  name_refused t n new e i x d st = lawful_after g (Named t names) (IsPlace names) old mid new e p.1 h.ok (λ m j r. (r.0, (r.1, raw_of_head t n m (j ∙ i))))
       (content_refused (raw_content t) g (Named t names) old mid new p h n e i (λ m r. r.1.1) (λ o k. not_named t names n (g.ahead mid.reader) (x o k)) d st)
 
 pub number_named : (names : List (Bor (List ℕ))) (m : Msg) (n : ℕ) (z : ℤ) → name_of (bytes_of names) m ≡ Some (Some n) → head_of m ≡ Whole z
@@ -326,19 +326,19 @@ as_name room (head.Array n) f = record { raw = λ w. w; wanted = λ w. w; other 
 as_name room (head.Map n) f = absurd (f n refl)
 as_name room (head.Ext n tag) f = record { raw = λ w. w; wanted = λ w. w; other = λ m. refl; whole = λ s e h. h }
 
-alone_refused : (strict : Bool) (room before after : ℕ) (known : Option (List ℕ)) (m : Marker) (h : Head) (e : Error) → IfSome known (Stands strict m h)
+alone_refused : (strict : Bool) (room before after : ℕ) (known : Option (List ℕ)) (m : Marker) (h : Head) (e : Error) → IfSome known (BeginsWith strict m h)
     → ((n : ℕ) → h ≡ Map n → ⊥) → RefusesName strict before after known e
     → RefusesContent strict IsVariantHead other_variant (not_variant room) before after known e
 unfolding RefusesContent
 alone_refused strict room before after None m h e s f r = λ _. tt
 alone_refused strict room before after (Some xs) m h e s f r = λ q.
     let x = r q in
-    let at : (k : Head) (j : Marker) → Stands strict j k xs
-    → AsName room k = λ k j t. as_name room k (λ n i. f n (sym (stand_once strict j m k h xs t s).1 ∙ i)) in
+    let at : (k : Head) (j : Marker) → BeginsWith strict j k xs
+    → AsName room k = λ k j t. as_name room k (λ n i. f n (sym (start_once strict j m k h xs t s).1 ∙ i)) in
     record {
       others = λ j k t w. x.others j k t (λ i. w ((at k j t).wanted i)) ∙ (at k j t).other j;
-      cut = λ k w t n. x.cut k ((at k t.marker t.stands).raw w) t n;
-      whole = λ k c w t n. (at k t.marker t.stands).whole c e (x.whole k c ((at k t.marker t.stands).raw w) t n);
+      cut = λ k w t n. x.cut k ((at k t.marker t.starts).raw w) t n;
+      whole = λ k c w t n. (at k t.marker t.starts).whole c e (x.whole k c ((at k t.marker t.starts).raw w) t n);
       ends = x.ends;
     }
 
@@ -393,16 +393,16 @@ module _ {R C : Type 0} (g : Ghosts R) (names : List (List ℕ)) (old new : Dese
           let below = map_nests a.tree 1 (u.0 ∙ i) in
           let f = a.fits in
           omega (arith, l, below, f));
-      exact = λ _ human lends. inl (content_apart old.strict IsVariantHead other_variant (not_variant (room_of old)) _ _ _ p.0 p.1 (Map 1) e h.marked i refl
+      exact = λ _ human lends. inl (content_differ old.strict IsVariantHead other_variant (not_variant (room_of old)) _ _ _ p.0 p.1 (Map 1) e h.marked i refl
           refl (λ s. (omega (arith, l), q)));
       named = λ _ human lends. inl (
-        content_apart old.strict IsVariantHead other_variant (not_variant (room_of old)) _ _ _ p.0 p.1 (Map 1) e h.marked i refl
+        content_differ old.strict IsVariantHead other_variant (not_variant (room_of old)) _ _ _ p.0 p.1 (Map 1) e h.marked i refl
             refl (λ s. (omega (arith, l), q)),
         no_name 1 i,
       );
     }
 
--- what stands there alone is no name
+-- what is there alone is no name
 pub no_name_alone : {R C : Type 0} (g : Ghosts R) (names : List (List ℕ)) (old mid new : Deserializer R C) (p : Marker × Head) (e : Error)
     → ReadsHead g old mid (Ok p) → ((n : ℕ) → p.1 ≡ Map n → ⊥) → Lawful g (IsPlace names) old new (Err e)
     → RefusesName old.strict (faults_of g old) (faults_of g new) (left g old) e → FailsToOpenVariant g names old new e
@@ -410,7 +410,7 @@ no_name_alone g names old mid new p e h f l x = record {
   failed = l.failed;
   stays = l.stays;
   before = λ b. absurd (let o = h.fresh in cc);
-  err = λ o n k. refuses_headed old.strict (Readable (IsPlace names)) (IsVariant names) _ _ (left g mid) h.ok.bytes p.1 h.ok.takes h.ok.is_head
+  err = λ o n k. refuses_slow old.strict (Readable (IsPlace names)) (IsVariant names) _ _ (left g mid) h.ok.bytes p.1 h.ok.takes h.ok.is_head
       (λ m i v. name_alone names m (λ k j. f k (sym i ∙ j)) v) (l.err o n k);
   exact = λ _ human lends. inl (alone_refused old.strict (room_of old) (faults_of g old) (faults_of g new) (left g old) p.0 p.1 e h.marked f x);
   named = λ o human lends. inl (

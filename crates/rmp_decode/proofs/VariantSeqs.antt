@@ -80,7 +80,7 @@ module _ {R C : Type 0} (g : Ghosts R) (inner : ℕ) (mid : Deserializer R C) (s
 
 -- ---- no list is there
 
--- the name stands alone
+-- the name is alone
 pub no_seq_alone : {R C : Type 0} (g : Ghosts R) (v : Variant R C) → v.bare ≡ true → FailsToOpenSeqOf g v v.de.now (Syntax InvalidType)
 no_seq_alone g v b = record {
   err = λ names n old o. bare_refused g names n old v o v.de.now (Readable (λ m (u : Unit {0}). IsSeq m)) (Syntax InvalidType) b refl;

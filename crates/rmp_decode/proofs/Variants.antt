@@ -67,7 +67,7 @@ use Rattle.rmp_decode.proofs.MapWiths.{part_taken, part_fails}
 use Rattle.rmp_decode.proofs.Maps.{flat, map_start, map_key, map_value, map_done, map_take}
 use Rattle.rmp_decode.proofs.NothingAccepted.{refuses_narrower, refuses_other}
 use Rattle.rmp_decode.proofs.Rows.{push, append}
-use Rattle.rmp_decode.proofs.VariantNames.{lawful_behind, refuses_leaves}
+use Rattle.rmp_decode.proofs.VariantNames.{lawful_after, refuses_leaves}
 
 -- ---- the law of a type, from that of a variant
 
@@ -188,7 +188,7 @@ no_name_of_pair g names b old mid new p inner e h i r f x =
     let Q : Unit {0} → ℕ × Option Msg → Type 0 = λ u p. Unit {0} in
     let l = map_take g (Alone names Q) old start start o new no_items (map_start g start o.opened) (IsPlace names) (pair_at b new 1 false inner) e
     (omega arith) f refl (key_is_name names) in
-    let w = lawful_behind g (λ m u. OfMap (Alone names Q u) m) (λ m u. OfVariant names (Q u) m) old mid new e (Map 1) t (is_alone names Q 1) l in
+    let w = lawful_after g (λ m u. OfMap (Alone names Q u) m) (λ m u. OfVariant names (Q u) m) old mid new e (Map 1) t (is_alone names Q 1) l in
     record {
       failed = f.failed;
       stays = w.stays;
@@ -291,7 +291,7 @@ module _ {R C V : Type 0} (g : Ghosts R) (names : List (List ℕ)) (n : ℕ) (ol
       } in
       let half = map_key g (IsPlace names) start start key no_items n (map_start g start opened.opened) refl taken refl in
       let Q : Unit {0} → ℕ × Option Msg → Type 0 = λ u. IfAt n (Content (Readable reads)) in
-      lawful_behind g (λ m u. OfMap (Alone names Q u) m) (λ m u. OfVariant names (Q u) m) old t.between last e (Map 1) t.head (is_alone names Q 1)
+      lawful_after g (λ m u. OfMap (Alone names Q u) m) (λ m u. OfVariant names (Q u) m) old t.between last e (Map 1) t.head (is_alone names Q 1)
       (map_take g (Alone names Q) old start key opened last (push no_items t.key.tree) half reads after e (omega arith) f q (next t.key.tree t.key.value))
     where
       next : (k : Msg) → name_of names k ≡ Some (Some n) → (m : Msg) (ks : Msgs) (u : Unit {0}) (ps : Pairs)
@@ -332,7 +332,7 @@ module _ {R C V : Type 0} (g : Ghosts R) (names : List (List ℕ)) (n : ℕ) (ol
     err = λ x k. l.err refl x k;
   }) q
 
--- ---- a name that stands alone
+-- ---- a name that is alone
 
 -- it is the variant at its place, without content
 alone_is : (names : List (List ℕ)) (m : Msg) (n : ℕ) → name_of names m ≡ Some (Some n) → variant_of names m ≡ Some (n, None)
@@ -424,7 +424,7 @@ module _ {R C : Type 0} (g : Ghosts R) (names : List (List ℕ)) (n : ℕ) (old 
     unfolding OfVariant IfAt
     nil_refused e b l q =
         let t = pair_of g names n old v o new last (λ k (u : Unit {0}). k ≡ nil) b in
-        lawful_behind g (λ m (u : Unit {0}). OfVariant names (IfAt n (Content (Readable (λ k (u : Unit {0}). k ≡ nil)))) m)
+        lawful_after g (λ m (u : Unit {0}). OfVariant names (IfAt n (Content (Readable (λ k (u : Unit {0}). k ≡ nil)))) m)
         (λ m (u : Unit {0}). OfVariant names (IfAt n Bare) m) old t.between last e (Map 1) t.head (λ m i h. (tt, pairs m 1 i h.1))
         (content_refused g names n old v o new last (λ k (u : Unit {0}). k ≡ nil) e b (record {
           stays = record { config = l.stays.config; room = l.stays.room; limit = l.stays.limit; strict = l.stays.strict; place = l.stays.place };

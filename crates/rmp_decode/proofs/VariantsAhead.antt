@@ -1,9 +1,9 @@
--- The name of a variant as the key of a map of one pair, whose head lay in memory.
+-- The name of a variant as the key of a map of one pair, whose head was buffered.
 use Rattle.std.proofs.Common.{◌≡◌, sym, subst, refl, arith, ℕ, ◌-◌, ◌<◌, max, List, Bool, false, Result, Ok, Err, MutBor}
 use Rattle.std.specs.Prelude.{IfOk, IfErr}
 use Rattle.rmp_wire.specs.declared.head.Head.TheVariants.{Map}
 use Rattle.rmp_wire.specs.declared.source.Source.{Ghosts}
-use Rattle.rmp_decode.specs.Fronts.{TakesFront}
+use Rattle.rmp_decode.specs.BufferedHeads.{ConsumesHead}
 use Rattle.rmp_decode.specs.Parts.{TakesPart, FailsPart}
 use Rattle.rmp_decode.specs.State.{left, faults_of}
 use Rattle.rmp_decode.specs.VariantNames.{IsPlace, RefusesName}
@@ -13,7 +13,7 @@ use Rattle.rmp_decode.specs.declared.error.Error.{Error}
 use Rattle.rmp_decode.proofs.Variants.{no_name_of_pair}
 
 module _ {R C : Type 0} (g : Ghosts R) (names : List (List ℕ)) (old : Deserializer R C) where
-  module _ (between new : Deserializer R C) (f : TakesFront g (Map 1) old between) (d : 1 < old.room) where
+  module _ (between new : Deserializer R C) (f : ConsumesHead g (Map 1) old between) (d : 1 < old.room) where
     pub pair_named : (n : ℕ) → TakesPart g (IsPlace names) (max 1 (between.room - 1)) between new n → TakesKeyOf g names n old new (old.room - 1)
     pair_named n t =
         let h = f.begun in

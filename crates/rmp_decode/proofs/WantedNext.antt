@@ -23,8 +23,8 @@ use Rattle.rmp_wire.specs.Msg.{
 }
 use Rattle.rmp_wire.specs.Spelling.{head_of}
 use Rattle.rmp_wire.specs.Taking.{marker_of}
-use Rattle.rmp_wire.proofs.Strict.{heads_apart_as, spelled_once_as}
-use Rattle.rmp_decode.specs.Open.{SpellsMany, SpellsOpen, Behind, OpenRefusal, Leads}
+use Rattle.rmp_wire.proofs.Strict.{heads_differ_as, spelled_once_as}
+use Rattle.rmp_decode.specs.Open.{SpellsMany, SpellsOpen, SpellsThen, OpenRefusal, Leads}
 use Rattle.rmp_decode.specs.Refuse.{inside}
 use Rattle.rmp_decode.specs.Seq.{SpellsRow, BeginsRow}
 use Rattle.rmp_decode.specs.Skip.{any_row, parts_head, parts_count}
@@ -32,7 +32,7 @@ use Rattle.rmp_decode.specs.declared.error.Error.{Error}
 use Rattle.rmp_decode.proofs.NothingAccepted.{same_head}
 use Rattle.rmp_decode.proofs.Rows.{listed}
 use Rattle.rmp_decode.proofs.SkipLaws.{in_turn, count-in_turn, depth-in_turn, turned, nest_of}
-use Rattle.rmp_decode.proofs.FirstFault.{Front, front_of, stands}
+use Rattle.rmp_decode.proofs.FirstFault.{Front, front_of, starts}
 
 module _ (w : Bool) where
   -- ---- one message in front
@@ -61,15 +61,15 @@ module _ (w : Bool) where
   abbrev pub no_row : (room : ℕ) (xs : List ℕ) → 0 < room → BeginsRow (SpellsAs w) any_row room 0 xs
   no_row room xs l = record { bytes = []; rest = xs; trees = no_items; front = refl; spelled = refl; many = refl; fits = omega (arith, l); holds = tt }
 
-  -- ---- what stood there stands behind
+  -- ---- what was there comes after
 
-  -- the rest of a row and what is behind it, when a part of it is split off
+  -- the rest of a row and what follows it, when a part of it is split off
   pub split_off : (c first second more x : List ℕ) → c ≡ first ++ second → first ++ ((second ++ more) ++ x) ≡ (c ++ more) ++ x
   split_off c first second more x e = sym (append_assoc first (second ++ more) x) ∙ ap (λ z. z ++ x) (sym (append_assoc first second more))
       ∙ ap (λ z. (z ++ more) ++ x) (sym e)
 
   message_opens : (room n : ℕ) (counts : List ℕ) (m : Msg) (a c more x ys : List ℕ) (ts : Msgs) → SpellsAs w a m → SpellsRow (SpellsAs w) c ts
-      → count ts ≡ suc n → depth_all ts < room → SpellsOpen w (suc room) counts more → (c ++ more) ++ x ≡ a ++ ys → Behind w room (n ∷ counts) x ys
+      → count ts ≡ suc n → depth_all ts < room → SpellsOpen w (suc room) counts more → (c ++ more) ++ x ≡ a ++ ys → SpellsThen w room (n ∷ counts) x ys
   message_opens room n counts m a c more x ys no_items s t l d o e = absurd (omega (arith, l))
   message_opens room n counts m a c more x ys (item k ks) s t l d o e =
       let u = spelled_once_as w k m t.first a ((t.second ++ more) ++ x) ys t.is_first s (split_off c t.first t.second more x t.is_whole ∙ e) in
@@ -86,23 +86,23 @@ module _ (w : Bool) where
         };
       }
 
-  -- what stands behind the head of a list or a map
-  record PartsBehind (room n : ℕ) (x y : List ℕ) : Type 0 where
+  -- what follows the head of a list or a map
+  record PartsAfter (room n : ℕ) (x y : List ℕ) : Type 0 where
     pub bytes : List ℕ
     pub front : y ≡ bytes ++ x
     pub spelled : SpellsMany w room n bytes
 
-  parts_behind : (is_map : Bool) (m : Msg) (n room : ℕ) (a x y : List ℕ) → SpellsAs w a m → head_of m ≡ parts_head is_map n → depth m < suc room
-      → ((d c : List ℕ) → a ≡ d ++ c → heads_of w (head_of m) d → c ++ x ≡ y) → PartsBehind room (parts_count is_map n) x y
-  parts_behind true nil n room a x y s e d f = absurd (cc)
-  parts_behind true (truth t) n room a x y s e d f = absurd (cc)
-  parts_behind true (whole z) n room a x y s e d f = absurd (cc)
-  parts_behind true (float32 k) n room a x y s e d f = absurd (cc)
-  parts_behind true (float64 k) n room a x y s e d f = absurd (cc)
-  parts_behind true (text t) n room a x y s e d f = absurd (cc)
-  parts_behind true (bin t) n room a x y s e d f = absurd (cc)
-  parts_behind true (list ms) n room a x y s e d f = absurd (cc)
-  parts_behind true (map ps) n room a x y s e d f =
+  parts_after : (is_map : Bool) (m : Msg) (n room : ℕ) (a x y : List ℕ) → SpellsAs w a m → head_of m ≡ parts_head is_map n → depth m < suc room
+      → ((d c : List ℕ) → a ≡ d ++ c → heads_of w (head_of m) d → c ++ x ≡ y) → PartsAfter room (parts_count is_map n) x y
+  parts_after true nil n room a x y s e d f = absurd (cc)
+  parts_after true (truth t) n room a x y s e d f = absurd (cc)
+  parts_after true (whole z) n room a x y s e d f = absurd (cc)
+  parts_after true (float32 k) n room a x y s e d f = absurd (cc)
+  parts_after true (float64 k) n room a x y s e d f = absurd (cc)
+  parts_after true (text t) n room a x y s e d f = absurd (cc)
+  parts_after true (bin t) n room a x y s e d f = absurd (cc)
+  parts_after true (list ms) n room a x y s e d f = absurd (cc)
+  parts_after true (map ps) n room a x y s e d f =
       let same : count_pairs ps ≡ n = cc in
       record {
         bytes = s.second;
@@ -115,15 +115,15 @@ module _ (w : Bool) where
           fits = omega (arith, depth-in_turn ps, d);
         };
       }
-  parts_behind true (extension tag t) n room a x y s e d f = absurd (cc)
-  parts_behind false nil n room a x y s e d f = absurd (cc)
-  parts_behind false (truth t) n room a x y s e d f = absurd (cc)
-  parts_behind false (whole z) n room a x y s e d f = absurd (cc)
-  parts_behind false (float32 k) n room a x y s e d f = absurd (cc)
-  parts_behind false (float64 k) n room a x y s e d f = absurd (cc)
-  parts_behind false (text t) n room a x y s e d f = absurd (cc)
-  parts_behind false (bin t) n room a x y s e d f = absurd (cc)
-  parts_behind false (list ms) n room a x y s e d f =
+  parts_after true (extension tag t) n room a x y s e d f = absurd (cc)
+  parts_after false nil n room a x y s e d f = absurd (cc)
+  parts_after false (truth t) n room a x y s e d f = absurd (cc)
+  parts_after false (whole z) n room a x y s e d f = absurd (cc)
+  parts_after false (float32 k) n room a x y s e d f = absurd (cc)
+  parts_after false (float64 k) n room a x y s e d f = absurd (cc)
+  parts_after false (text t) n room a x y s e d f = absurd (cc)
+  parts_after false (bin t) n room a x y s e d f = absurd (cc)
+  parts_after false (list ms) n room a x y s e d f =
       let same : count ms ≡ n = cc in
       record {
         bytes = s.second;
@@ -131,19 +131,19 @@ module _ (w : Bool) where
         spelled = record
             { trees = ms; spelled = listed w ms s.second s.is_second; many = same; fits = omega (arith, d) };
       }
-  parts_behind false (map ps) n room a x y s e d f = absurd (cc)
-  parts_behind false (extension tag t) n room a x y s e d f = absurd (cc)
+  parts_after false (map ps) n room a x y s e d f = absurd (cc)
+  parts_after false (extension tag t) n room a x y s e d f = absurd (cc)
 
   enter_opens : (is_map : Bool) (len room n : ℕ) (counts a c more x ys : List ℕ) (ts : Msgs) → heads_of w (parts_head is_map len) a
       → SpellsRow (SpellsAs w) c ts → count ts ≡ suc n → depth_all ts < suc room → SpellsOpen w (suc (suc room)) counts more → (c ++ more) ++ x ≡ a ++ ys
-      → Behind w room (parts_count is_map len ∷ n ∷ counts) x ys
+      → SpellsThen w room (parts_count is_map len ∷ n ∷ counts) x ys
   enter_opens is_map len room n counts a c more x ys no_items i t l d o e = absurd (omega (arith, l))
   enter_opens is_map len room n counts a c more x ys (item k ks) i t l d o e =
       let split : t.first ++ ((t.second ++ more) ++ x) ≡ a ++ ys = split_off c t.first t.second more x t.is_whole ∙ e in
       let u = same_head w k (parts_head is_map len) t.first a ((t.second ++ more) ++ x) ys t.is_first i split in
-      let p : PartsBehind room (parts_count is_map len) ((t.second ++ more) ++ x) ys = parts_behind is_map k len room t.first ((t.second ++ more) ++ x) ys
+      let p : PartsAfter room (parts_count is_map len) ((t.second ++ more) ++ x) ys = parts_after is_map k len room t.first ((t.second ++ more) ++ x) ys
       t.is_first u.0 (omega (arith, d))
-      (λ d c q j. (heads_apart_as w (head_of k) (parts_head is_map len) d a (c ++ ((t.second ++ more) ++ x)) ys j i
+      (λ d c q j. (heads_differ_as w (head_of k) (parts_head is_map len) d a (c ++ ((t.second ++ more) ++ x)) ys j i
       (sym (append_assoc d c ((t.second ++ more) ++ x)) ∙ ap (λ z. z ++ ((t.second ++ more) ++ x)) (sym q) ∙ split)).2) in
       record {
         bytes = p.bytes ++ (t.second ++ more);
@@ -165,14 +165,14 @@ module _ (w : Bool) where
       }
 
   leave_opens : (room : ℕ) (counts c more x ys : List ℕ) (ts : Msgs) → SpellsRow (SpellsAs w) c ts → count ts ≡ 0 → SpellsOpen w (suc room) counts more
-      → (c ++ more) ++ x ≡ ys → Behind w (suc room) counts x ys
+      → (c ++ more) ++ x ≡ ys → SpellsThen w (suc room) counts x ys
   leave_opens room counts c more x ys no_items t l o e = record { bytes = more; front = sym e ∙ ap (λ z. (z ++ more) ++ x) t; spelled = o }
   leave_opens room counts c more x ys (item k ks) t l o e = absurd (omega (arith, l))
 
   -- ---- steps
 
   module _ (wrong : ℕ → Error → List ℕ → Type 0) where
-    -- what is wrong behind a message is so with it
+    -- what is wrong after a message is so with it
     message_refuses : (room n : ℕ) (counts : List ℕ) (m : Msg) (a xs ys : List ℕ) (e : Error) → xs ≡ a ++ ys → SpellsAs w a m → depth m < room
         → OpenRefusal w wrong room (n ∷ counts) e ys → OpenRefusal w wrong room (suc n ∷ counts) e xs
     message_refuses room n counts m a xs ys e q s d o = elim o [
@@ -196,7 +196,7 @@ module _ (w : Bool) where
             fewer = omega arith;
             next = inside
                 (record {
-                  parts = record { is_map = is_map; len = len; marker = marker_of f.byte; stands = stands f };
+                  parts = record { is_map = is_map; len = len; marker = marker_of f.byte; starts = starts f };
                   many = r.many;
                   before = r.before;
                   fewer = r.fewer;

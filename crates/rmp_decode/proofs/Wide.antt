@@ -72,7 +72,7 @@ not_negative_head h (negsuc n) i f w = subst IsUnsigned128Head i w
 pub taken_sixteen : {old new : Option (List ℕ)} {n : ℕ} (t : TakesSixteen old new n) → IsSixteen (bin t.bytes) n
 taken_sixteen t = record { bytes = t.bytes; is = refl; long = t.long; number = t.number }
 
--- the first 16 bytes of some stand in front of the others
+-- the first 16 bytes of some come before the others
 pub sixteen_first : (xs : List ℕ) → 16 ≤ length xs
     → (rest : List ℕ) × (xs ≡ slice_index_or xs 0 0 ∷ slice_index_or xs 1 0 ∷ slice_index_or xs 2 0 ∷ slice_index_or xs 3 0 ∷ slice_index_or xs 4 0
     ∷ slice_index_or xs 5 0 ∷ slice_index_or xs 6 0 ∷ slice_index_or xs 7 0 ∷ slice_index_or xs 8 0 ∷ slice_index_or xs 9 0 ∷ slice_index_or xs 10 0

@@ -45,7 +45,7 @@ no_longer t k m u lt v =
     let yes : is_utf8 (take (suc i) r) ≡ true = is_utf8-from_IsUtf8 (take (suc i) r) rest in
     absurd (cc)
 
--- how much of a text is UTF-8 that has such bytes behind it
+-- how much of a text is UTF-8 that has such bytes after it
 stops : (t : List ℕ) (k : ℕ) → IsUtf8 t → utf8_valid_len (t ++ replicate k 255) ≡ length t
 stops t zero u =
     let none : List ℕ = [] in
@@ -56,7 +56,7 @@ stops t (suc k) u = utf8_valid_len-IsValidUpTo (t ++ replicate (suc k) 255) (len
   longest = λ m. no_longer t k m u;
 })
 
--- the words of a text that stands in front of such bytes
+-- the words of a text that comes before such bytes
 pub front_words : (t s : List ℕ) → s ≡ t → IsUtf8 t
     → take (utf8_valid_len (s ++ drop (length t) (replicate 30 255))) (s ++ drop (length t) (replicate 30 255)) ≡ t
 front_words t s e u =

@@ -1,10 +1,10 @@
--- What lies ahead in memory whole: the UTF-8 of a character, and the head of a leaf.
+-- What is buffered whole: the UTF-8 of a character, and the head of a leaf.
 use Rattle.std.specs.Prelude.{◌≡◌, ℕ, Bool, List, ◌++◌, length, encode_utf8}
 use Rattle.std.specs.Char.{IsScalar}
 use Rattle.rmp_wire.specs.declared.head.Head.{Head}
 use Rattle.rmp_wire.specs.declared.source.Source.{Ghosts}
 use Rattle.rmp_wire.specs.Spelling.{IsBytes}
-use Rattle.rmp_decode.specs.Fronts.{StandsIn, TakesFront}
+use Rattle.rmp_decode.specs.BufferedHeads.{HeadIn, ConsumesHead}
 use Rattle.rmp_decode.specs.Kinds.{content_len}
 use Rattle.rmp_decode.specs.Skip.{parts_head}
 use Rattle.rmp_decode.specs.declared.deserializer.Deserializer.{Deserializer}
@@ -15,27 +15,27 @@ pub record SpellsChar (c : ℕ) (bytes : List ℕ) : Type 0 where
   pub are_bytes : IsBytes bytes
   pub spelled : encode_utf8 c ≡ bytes
 
--- the UTF-8 of the character, of so many bytes, stands at the front
-pub record CharLies (c len : ℕ) (front : List ℕ) : Type 0 where
+-- the bytes begin with the UTF-8 of the character, of so many bytes
+pub record CharIn (c len : ℕ) (front : List ℕ) : Type 0 where
   pub bytes : List ℕ
   pub spells : SpellsChar c bytes
   pub long : length bytes ≡ len
-  pub behind : List ℕ
-  pub begins : front ≡ bytes ++ behind
+  pub following : List ℕ
+  pub begins : front ≡ bytes ++ following
 
--- the head of a leaf, with so many bytes of content behind it
+-- the head of a leaf whose payload has so many bytes
 pub record IsLeafHead (h : Head) (len : ℕ) : Type 0 where
   pub leaf : (p : Bool × ℕ) → h ≡ parts_head p.0 p.1 → ⊥
   pub long : content_len h ≡ len
 
--- such a head, of n bytes, stands at the front
-pub record LeafStandsIn (strict : Bool) (n len : ℕ) (xs : List ℕ) : Type 0 where
+-- the bytes begin with such a head, of n bytes
+pub record LeafHeadIn (strict : Bool) (n len : ℕ) (xs : List ℕ) : Type 0 where
   pub head : Head
-  pub stands : StandsIn strict n head xs
+  pub starts : HeadIn strict n head xs
   pub is_leaf : IsLeafHead head len
 
 -- such a head was taken
 pub record TakesLeaf {R C : Type 0} (g : Ghosts R) (len : ℕ) (old new : Deserializer R C) : Type 0 where
   pub head : Head
-  pub taken : TakesFront g head old new
+  pub taken : ConsumesHead g head old new
   pub is_leaf : IsLeafHead head len

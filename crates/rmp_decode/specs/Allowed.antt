@@ -19,17 +19,17 @@ abbrev pub NoneAllowed : Bool → Marker → Head → Type 0
 NoneAllowed strict m h = (rest : List ℕ) → heads_of strict h (byte_of m ∷ rest) → ⊥
 
 module _ {S : Type 0} (g : Ghosts S) (strict : Bool) where
-  -- what stands behind the marker's byte in a head that may be read was taken
-  pub record BehindAllowed (m : Marker) (old new : S) (h : Head) : Type 0 where
+  -- what follows the marker's byte in a head that may be read was consumed
+  pub record AfterAllowed (m : Marker) (old new : S) (h : Head) : Type 0 where
     pub read : ReadsHead g m old new (Ok h)
     pub allowed : AllAllowed strict m h
 
-  -- no head stands behind the marker's byte, or one that may not be read
-  abbrev pub FailsBehind : Marker → S → S → HeadError → Type 0
-  FailsBehind m old new (InvalidMarkerRead fault) = ReadsHead g m old new (Err (wire.InvalidMarkerRead fault))
-  FailsBehind m old new (InvalidDataRead fault) = ReadsHead g m old new (Err (wire.InvalidDataRead fault))
-  FailsBehind m old new (TypeMismatch marker) = ReadsHead g m old new (Err (wire.TypeMismatch marker))
-  FailsBehind m old new NotCanonical = (h : Head) × ReadsHead g m old new (Ok h) × NoneAllowed strict m h
+  -- the marker's byte begins no head, or one that may not be read
+  abbrev pub FailsAfter : Marker → S → S → HeadError → Type 0
+  FailsAfter m old new (InvalidMarkerRead fault) = ReadsHead g m old new (Err (wire.InvalidMarkerRead fault))
+  FailsAfter m old new (InvalidDataRead fault) = ReadsHead g m old new (Err (wire.InvalidDataRead fault))
+  FailsAfter m old new (TypeMismatch marker) = ReadsHead g m old new (Err (wire.TypeMismatch marker))
+  FailsAfter m old new NotCanonical = (h : Head) × ReadsHead g m old new (Ok h) × NoneAllowed strict m h
 
   -- a head that may be read was taken, and this is its marker
   pub record NextAllowed (old new : S) (p : Marker × Head) : Type 0 where

@@ -11,7 +11,7 @@ use Rattle.rmp_wire.specs.Sources.{IsShort}
 use Rattle.rmp_wire.specs.Canonical.{SpellsAs}
 use Rattle.rmp_wire.specs.Spelling.{IsBytes}
 use Rattle.rmp_decode.specs.Content.{not_string}
-use Rattle.rmp_decode.specs.Exact.{Stands, NoneStands, Ends, IsDataEnd}
+use Rattle.rmp_decode.specs.Exact.{BeginsWith, BeginsWithNone, Ends, IsDataEnd}
 use Rattle.rmp_decode.specs.Law.{Lawful, ReadsHead, Refuses, Explains, IsFailedBefore}
 use Rattle.rmp_decode.specs.Maps.{OpensMap}
 use Rattle.rmp_decode.specs.Pieces.{RefusesPiece}
@@ -60,7 +60,7 @@ any_name (any.Seq a) = a.de.ghost_name
 any_name (any.Map a) = a.de.ghost_name
 any_name (any.Ext a) = a.de.ghost_name
 
--- this head was taken, and the content behind it wasn't
+-- this head was consumed, and its payload wasn't
 pub record OpensRaw {R C : Type 0} (g : Ghosts R) (h : Head) (old : Deserializer R C) (a : RawAccess R C) : Type 0 where
   pub marker : Marker
   pub begun : ReadsHead g old a.de.now (Ok (marker, h))
@@ -78,16 +78,16 @@ OpensAny g old (any.Seq a) = Opens g old a × (a.bytes ≡ false)
 OpensAny g old (any.Map a) = OpensMap g old a
 OpensAny g old (any.Ext a) = OpensRaw g (head.Ext a.len a.tag) old a
 
--- a list or a map opens at the front
+-- the bytes begin with the head of a list or a map
 pub record OpensParts (strict : Bool) (xs : List ℕ) : Type 0 where
   pub is_map : Bool
   pub len : ℕ
   pub marker : Marker
-  pub stands : Stands strict marker (parts_head is_map len) xs
+  pub starts : BeginsWith strict marker (parts_head is_map len) xs
 
--- why no message can be opened: no head stands whole at the front, or a list or a map opens there and there is no room for one
+-- why no message can be opened: the bytes begin with no whole head, or with that of a list or a map that would nest too deep
 abbrev pub UnopenedFor : Bool → ℕ → List ℕ → Error → Type 0
-UnopenedFor strict room xs e = (NoneStands strict xs × Ends xs e) ⊎ (OpensParts strict xs × (room ≡ 1) × (e ≡ DepthLimitExceeded))
+UnopenedFor strict room xs e = (BeginsWithNone strict xs × Ends xs e) ⊎ (OpensParts strict xs × (room ≡ 1) × (e ≡ DepthLimitExceeded))
 
 -- Exactly which error it is, where the bytes are told and the source had no fault (it counts them: before, after).
 unfoldable pub RefusesAny : Bool → ℕ → ℕ → ℕ → Option (List ℕ) → Error → Type 0

@@ -6,7 +6,7 @@ use Rattle.rmp_wire.specs.declared.source.Source.{Ghosts}
 use Rattle.rmp_wire.specs.declared.head.Head.TheVariants.{Array}
 use Rattle.rmp_wire.specs.Msg.{Msg, Msgs, nil, truth, whole, float32, float64, text, bin, list, map, extension}
 use Rattle.rmp_wire.specs.Canonical.{SpellsAs}
-use Rattle.rmp_decode.specs.Exact.{Stands, Exact}
+use Rattle.rmp_decode.specs.Exact.{BeginsWith, Exact}
 use Rattle.rmp_decode.specs.Kinds.{other_number}
 use Rattle.rmp_decode.specs.Law.{Begins, Readable, Lawful, ReadsHead}
 use Rattle.rmp_decode.specs.Read.{IsUnsigned}
@@ -36,7 +36,7 @@ abbrev pub AfterHead : {R C V : Type 0} → Ghosts R → (Msg → V → Type 0) 
 AfterHead {R} {C} g reads h mid new result = (old : Deserializer R C) (m : Marker) → ReadsHead g old mid (Ok (m, h)) → Lawful g reads old new result
 
 -- the access to a list of as many elements, whose head was taken
-pub record IsBehind {R C : Type 0} (len : ℕ) (mid : Deserializer R C) (s : SeqAccess R C) : Type 0 where
+pub record ListAfterHead {R C : Type 0} (len : ℕ) (mid : Deserializer R C) (s : SeqAccess R C) : Type 0 where
   pub lender : s.de.now ≡ mid
   pub left : s.left ≡ len
   pub count : s.count ≡ len
@@ -51,11 +51,11 @@ pub record IsBehind {R C : Type 0} (len : ℕ) (mid : Deserializer R C) (s : Seq
 abbrev pub AreBytes : Msgs → Type 0
 AreBytes ms = (b : List ℕ) × ReadsEach (IsUnsigned 255) ms b
 
--- no number up to 255 stands whole at the front
+-- the bytes begin with no whole number up to 255
 abbrev pub NoByte : Bool → List ℕ → Type 0
 NoByte strict xs = Begins (SpellsAs strict) (Readable (IsUnsigned 255)) 1 xs → ⊥
 
--- Of n items that are wanted some stand whole at the front and are numbers up to 255. The next one isn't, and is refused as
+-- Of n items that are wanted, the bytes begin with some that are whole and numbers up to 255. The next one isn't, and is refused as
 -- `deserialize_u8` refuses it; or memory was short for the last of these.
 pub record RefusesItem (strict : Bool) (n : ℕ) (e : Error) (xs : List ℕ) : Type 0 where
   pub many : ℕ
@@ -66,15 +66,15 @@ pub record RefusesItem (strict : Bool) (n : ℕ) (e : Error) (xs : List ℕ) : T
 unfoldable pub RefusesItems : {R C : Type 0} → Ghosts R → ℕ → Deserializer R C → Deserializer R C → Error → Type 0
 RefusesItems g n old new e = faults_of g new ≡ faults_of g old → IfSome (left g old) (RefusesItem old.strict n e)
 
--- A list at the front is refused as a whole where no level is left, by the room, and else at one of its items.
-pub record RefusesListOf (strict : Bool) (room n : ℕ) (e : Error) (behind : List ℕ) : Type 0 where
+-- A list is refused as a whole where it would nest too deep, and otherwise at one of its items.
+pub record RefusesListOf (strict : Bool) (room n : ℕ) (e : Error) (following : List ℕ) : Type 0 where
   pub deep : room ≡ 1 → e ≡ DepthLimitExceeded
-  pub item : 1 < room → RefusesItem strict n e behind
+  pub item : 1 < room → RefusesItem strict n e following
 
 -- the same of what was left, where the bytes are told and the source had no fault
 unfoldable pub RefusesListIn : Bool → ℕ → ℕ → ℕ → Option (List ℕ) → Error → Type 0
 RefusesListIn strict room before after known e = after ≡ before
-    → IfSome known (λ xs. (m : Marker) (n : ℕ) → (s : Stands strict m (Array n) xs) → RefusesListOf strict room n e s.rest)
+    → IfSome known (λ xs. (m : Marker) (n : ℕ) → (s : BeginsWith strict m (Array n) xs) → RefusesListOf strict room n e s.rest)
 
 -- the same of a reader that was in one state and is in another then
 abbrev pub RefusesList : {R C : Type 0} → Ghosts R → Deserializer R C → Deserializer R C → Error → Type 0

@@ -1,10 +1,10 @@
--- Which error a read answers that wants a head and the content behind it, by what stands at the front of the bytes.
+-- Which error a read returns that wants a head and its payload, by how the bytes begin.
 use Rattle.std.specs.Prelude.{◌≡◌, ◌≢◌, ◌<◌, ℕ, Bool, true, false, List, ◌++◌, length, Option, IfSome, Result, Ok, IfErr, IsUtf8}
 use Rattle.rmp_wire.specs.declared.head.Head.{Head}
 use Rattle.rmp_wire.specs.declared.head.Head.TheVariants.{Text, Bin, Array, Ext}
 use Rattle.rmp_wire.specs.declared.marker.Marker.{Marker}
 use Rattle.rmp_wire.specs.declared.source.Source.{Ghosts}
-use Rattle.rmp_decode.specs.Exact.{Stands, NoneStands, Ends, IsDataEnd, IsUtf8Error}
+use Rattle.rmp_decode.specs.Exact.{BeginsWith, BeginsWithNone, Ends, IsDataEnd, IsUtf8Error}
 use Rattle.rmp_decode.specs.Kinds.{content_len}
 use Rattle.rmp_decode.specs.Law.{ReadsHead}
 use Rattle.rmp_decode.specs.State.{left, faults_of}
@@ -13,28 +13,28 @@ use Rattle.rmp_decode.specs.declared.error.Error.{Error}
 use Rattle.rmp_decode.specs.declared.error.Error.TheVariants.{OutOfMemory, Syntax, TypeMismatch}
 use Rattle.rmp_decode.specs.declared.text.Text.TheVariants.{InvalidType, InvalidValue}
 
--- the head stands at the front, and behind it fewer bytes than it says
-pub record StandsCut (strict : Bool) (h : Head) (xs : List ℕ) : Type 0 where
+-- the bytes begin with the head, and fewer bytes follow than its payload has
+pub record CutPayload (strict : Bool) (h : Head) (xs : List ℕ) : Type 0 where
   pub marker : Marker
-  pub stands : Stands strict marker h xs
-  pub short : length stands.rest < content_len h
+  pub starts : BeginsWith strict marker h xs
+  pub short : length starts.rest < content_len h
 
--- the head stands at the front, and behind it the whole content s
-pub record StandsWhole (strict : Bool) (h : Head) (s xs : List ℕ) : Type 0 where
+-- the bytes begin with the head, and its whole payload s follows
+pub record WholePayload (strict : Bool) (h : Head) (s xs : List ℕ) : Type 0 where
   pub marker : Marker
-  pub stands : Stands strict marker h xs
-  pub behind : List ℕ
-  pub content : stands.rest ≡ s ++ behind
+  pub starts : BeginsWith strict marker h xs
+  pub following : List ℕ
+  pub content : starts.rest ≡ s ++ following
   pub long : length s ≡ content_len h
 
 -- The error is the one for a head that isn't wanted, says that the input ended within the content of one that is, is the one for that content where
--- it is whole, or says why no head stands at the front. Where content is wanted memory may be short instead, and nowhere else.
+-- it is whole, or says why the bytes begin with no head. Where a payload is wanted memory may run out instead, and nowhere else.
 pub record ExactOfContent (strict : Bool) (wanted : Head → Type 0) (other : Marker → Head → Error) (refused : Head → List ℕ → Error
     → Type 0) (xs : List ℕ) (e : Error) : Type 0 where
-  pub others : (m : Marker) (h : Head) → Stands strict m h xs → (wanted h → ⊥) → e ≡ other m h
-  pub cut : (h : Head) → wanted h → StandsCut strict h xs → e ≢ OutOfMemory → IsDataEnd e
-  pub whole : (h : Head) (s : List ℕ) → wanted h → StandsWhole strict h s xs → e ≢ OutOfMemory → refused h s e
-  pub ends : NoneStands strict xs → Ends xs e
+  pub others : (m : Marker) (h : Head) → BeginsWith strict m h xs → (wanted h → ⊥) → e ≡ other m h
+  pub cut : (h : Head) → wanted h → CutPayload strict h xs → e ≢ OutOfMemory → IsDataEnd e
+  pub whole : (h : Head) (s : List ℕ) → wanted h → WholePayload strict h s xs → e ≢ OutOfMemory → refused h s e
+  pub ends : BeginsWithNone strict xs → Ends xs e
 
 -- Exactly which error it is, where the bytes are told and the source had no fault (it counts them: before, after).
 unfoldable pub RefusesContent : Bool → (Head → Type 0) → (Marker → Head → Error) → (Head → List ℕ → Error → Type 0) → ℕ → ℕ → Option (List ℕ) → Error → Type 0
@@ -47,9 +47,9 @@ RefusesLeaf g wanted other refused old new result = old.failed ≡ false
     → IfErr result (RefusesContent old.strict wanted other refused (faults_of g old) (faults_of g new) (left g old))
 
 -- the same of the rest of a read, whose beginning took this head
-abbrev pub RefusesBehind : {R C : Type 0} → Ghosts R → (Head → Type 0) → (Marker → Head → Error) → (Head → List ℕ → Error → Type 0) → Head
+abbrev pub RefusesAfterHead : {R C : Type 0} → Ghosts R → (Head → Type 0) → (Marker → Head → Error) → (Head → List ℕ → Error → Type 0) → Head
     → Deserializer R C → Deserializer R C → Error → Type 0
-RefusesBehind {R} {C} g wanted other refused h mid new e =
+RefusesAfterHead {R} {C} g wanted other refused h mid new e =
     (old : Deserializer R C) (m : Marker) → ReadsHead g old mid (Ok (m, h))
     → RefusesContent old.strict wanted other refused (faults_of g old) (faults_of g new) (left g old) e
 

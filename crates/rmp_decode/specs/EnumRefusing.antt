@@ -2,14 +2,14 @@
 use Rattle.std.specs.Prelude.{◌≡◌, ◌⊎◌, ℕ, zero, suc, List, [], ◌∷◌, Option}
 use Rattle.rmp_decode.specs.Exact.{RefusesExactly}
 use Rattle.rmp_decode.specs.MapRefusing.{OpenedMap}
-use Rattle.rmp_decode.specs.Refusing.{Setting, Refusals, BehindMessage}
+use Rattle.rmp_decode.specs.Refusing.{Setting, Refusals, AfterMessage}
 use Rattle.rmp_decode.specs.VariantNames.{IsPlace}
 use Rattle.rmp_decode.specs.Variants.{RefusesVariantOf, not_unit}
 use Rattle.rmp_decode.specs.declared.error.Error.{Error}
 use Rattle.rmp_decode.specs.declared.error.Error.TheVariants.{Syntax}
 use Rattle.rmp_decode.specs.declared.text.Text.TheVariants.{InvalidType}
 
--- How a variant is refused whose name was read: where its name stands alone, and where it has content.
+-- How a variant is refused whose name was read: where its name is alone, and where it has content.
 pub record Choice : Type 1 where
   pub alone : Error → Type 0
   pub content : Setting → Refusals
@@ -28,18 +28,18 @@ choice_at [] n = record { alone = λ e. ⊥; content = λ s before after known e
 choice_at (c ∷ cs) zero = c
 choice_at (c ∷ cs) (suc n) = choice_at cs n
 
--- the name of a variant stands there alone, and content was wanted
+-- the name of a variant is alone, and content was wanted
 abbrev pub RefusesAlone : List (List ℕ) → List Choice → Setting → Option (List ℕ) → Error → Type 0
-RefusesAlone names cs s known e = (n : ℕ) × BehindMessage s (λ k. IsPlace names k n) (λ rest e. (choice_at cs n).alone e) known e
+RefusesAlone names cs s known e = (n : ℕ) × AfterMessage s (λ k. IsPlace names k n) (λ rest e. (choice_at cs n).alone e) known e
 
--- the name of a variant stands there as the key of a pair, and its content is refused
-abbrev pub RefusesBehindName : List (List ℕ) → List Choice → Setting → Refusals
-RefusesBehindName names cs s before after known e =
-    (n : ℕ) × BehindMessage s (λ k. IsPlace names k n) ((choice_at cs n).content s before after) known e
+-- the name of a variant is the key of a pair, and its content is refused
+abbrev pub RefusesAfterName : List (List ℕ) → List Choice → Setting → Refusals
+RefusesAfterName names cs s before after known e =
+    (n : ℕ) × AfterMessage s (λ k. IsPlace names k n) ((choice_at cs n).content s before after) known e
 
--- How an enum is refused: no name of a variant stands there, or one stands alone that wants content, or the content behind one is refused.
+-- How an enum is refused: the message selects no variant, or its name alone one that wants content, or the content is refused.
 unfoldable pub RefusesEnum : List (List ℕ) → List Choice → Setting → Refusals
 RefusesEnum names cs s before after known e =
     RefusesVariantOf names s before after known e
     ⊎ RefusesAlone names cs s known e
-    ⊎ OpenedMap s (λ i many rest e. (many ≡ 1) × RefusesBehindName names cs i before after rest e) known e
+    ⊎ OpenedMap s (λ i many rest e. (many ≡ 1) × RefusesAfterName names cs i before after rest e) known e

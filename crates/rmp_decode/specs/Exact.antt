@@ -1,4 +1,4 @@
--- Which error a read answers that wants one head, by what stands at the front of the bytes.
+-- Which error a read returns that wants one head, by how the bytes begin.
 use Rattle.std.specs.Prelude.{◌≡◌, ◌≢◌, ◌⊎◌, ℕ, Bool, false, List, [], ◌∷◌, ◌++◌, Option, IfSome, Result, IfErr}
 use Rattle.std.specs.declared.io.ErrorKind.TheVariants.{UnexpectedEof}
 use Rattle.rmp_wire.specs.Faults.{fault_kind}
@@ -13,30 +13,30 @@ use Rattle.rmp_decode.specs.declared.deserializer.Deserializer.{Deserializer}
 use Rattle.rmp_decode.specs.declared.error.Error.{Error}
 use Rattle.rmp_decode.specs.declared.error.Error.TheVariants.{InvalidMarkerRead, InvalidDataRead, TypeMismatch, Utf8Error, NotCanonical}
 
--- a head stands whole at the front, under this marker: one of any width, or where reading is strict a canonical one
-pub record Stands (strict : Bool) (m : Marker) (h : Head) (xs : List ℕ) : Type 0 where
+-- the bytes begin with this head, whole, under this marker: one of any width, or where reading is strict a canonical one
+pub record BeginsWith (strict : Bool) (m : Marker) (h : Head) (xs : List ℕ) : Type 0 where
   pub byte : ℕ
-  pub behind : List ℕ
+  pub following : List ℕ
   pub rest : List ℕ
-  pub front : xs ≡ (byte ∷ behind) ++ rest
+  pub front : xs ≡ (byte ∷ following) ++ rest
   pub is_marker : m ≡ marker_of byte
-  pub is_head : heads_of strict h (byte ∷ behind)
+  pub is_head : heads_of strict h (byte ∷ following)
 
--- no such head stands whole at the front
-abbrev pub NoneStands : Bool → List ℕ → Type 0
-NoneStands strict xs = (m : Marker) (h : Head) → Stands strict m h xs → ⊥
+-- the bytes begin with no such head
+abbrev pub BeginsWithNone : Bool → List ℕ → Type 0
+BeginsWithNone strict xs = (m : Marker) (h : Head) → BeginsWith strict m h xs → ⊥
 
 -- the input ended before a message's first byte
 abbrev pub IsMarkerEnd : Error → Type 0
 IsMarkerEnd (InvalidMarkerRead fault) = fault_kind fault ≡ UnexpectedEof
 IsMarkerEnd _ = ⊥
 
--- the input ended behind it
+-- the input ended after it
 abbrev pub IsDataEnd : Error → Type 0
 IsDataEnd (InvalidDataRead fault) = fault_kind fault ≡ UnexpectedEof
 IsDataEnd _ = ⊥
 
--- the input ended before or behind it
+-- the input ended before or after it
 abbrev pub IsEnd : Error → Type 0
 IsEnd e = IsMarkerEnd e ⊎ IsDataEnd e
 
@@ -45,22 +45,22 @@ abbrev pub IsUtf8Error : Error → Type 0
 IsUtf8Error (Utf8Error why) = Unit {0}
 IsUtf8Error _ = ⊥
 
--- a head of some width stands whole at the front
+-- the bytes begin with a whole head of some width
 pub record OtherWidth (xs : List ℕ) : Type 0 where
   pub marker : Marker
   pub head : Head
-  pub stands : Stands false marker head xs
+  pub starts : BeginsWith false marker head xs
 
--- The error where no such head stands whole at the front: the bytes end before it, the byte c1 is there, they end inside of it, or a
--- head of another width stands there.
+-- The error where the bytes begin with no such head: they end before it, the byte c1 is there, they end inside of it, or it is a
+-- head of another width.
 abbrev pub Ends : List ℕ → Error → Type 0
 Ends [] e = IsMarkerEnd e
-Ends (b ∷ xs) e = (b ≡ 0xc1 → e ≡ TypeMismatch Reserved) × (b ≢ 0xc1 → (NoneStands false (b ∷ xs) × IsDataEnd e) ⊎ (OtherWidth (b ∷ xs) × (e ≡ NotCanonical)))
+Ends (b ∷ xs) e = (b ≡ 0xc1 → e ≡ TypeMismatch Reserved) × (b ≢ 0xc1 → (BeginsWithNone false (b ∷ xs) × IsDataEnd e) ⊎ (OtherWidth (b ∷ xs) × (e ≡ NotCanonical)))
 
--- the error is one that the table allows for the head that stands at the front, or says why none does
+-- the error is one that the table allows for the head that the bytes begin with, or says why there is none
 pub record ExactBy (strict : Bool) (table : Marker → Head → Error → Type 0) (xs : List ℕ) (e : Error) : Type 0 where
-  pub stands : (m : Marker) (h : Head) → Stands strict m h xs → table m h e
-  pub ends : NoneStands strict xs → Ends xs e
+  pub starts : (m : Marker) (h : Head) → BeginsWith strict m h xs → table m h e
+  pub ends : BeginsWithNone strict xs → Ends xs e
 
 -- the same of a table that has one error for each head
 abbrev pub Exact : Bool → (Marker → Head → Error) → List ℕ → Error → Type 0
@@ -80,4 +80,4 @@ RefusesBy strict table before after known e = after ≡ before → IfSome known 
 
 -- the same where no head could be taken
 unfoldable pub EndsExactly : Bool → ℕ → ℕ → Option (List ℕ) → Error → Type 0
-EndsExactly strict before after known e = after ≡ before → IfSome known (λ xs. NoneStands strict xs × Ends xs e)
+EndsExactly strict before after known e = after ≡ before → IfSome known (λ xs. BeginsWithNone strict xs × Ends xs e)

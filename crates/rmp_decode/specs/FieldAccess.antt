@@ -28,7 +28,7 @@ use Rattle.rmp_decode.specs.declared.text.Text.TheVariants.{DuplicateField, Inva
 
 -- ---- what is seen of it
 
--- the fields stand in a map
+-- the fields are in a map
 abbrev pub is_of_map : {R C : Type 0} → FieldAccess R C → Bool
 is_of_map a = a.is_map
 
@@ -139,7 +139,7 @@ abbrev pub Passes : {R C : Type 0} → Ghosts R → List (List ℕ) → ℕ → 
 Passes g names zero old new = new ≡ old
 Passes {R} {C} g names (suc n) old new = (mid : MapAccess R C) × Passes g names n old mid × PassesPair g names mid new
 
--- behind pairs of no name a key was read, of the name at that place
+-- after pairs of no name a key was read, of the name at that place
 pub record TakesName {R C : Type 0} (g : Ghosts R) (names : List (List ℕ)) (place : ℕ) (old new : MapAccess R C) : Type 0 where
   pub many : ℕ
   pub mid : MapAccess R C
@@ -193,19 +193,19 @@ pub record FailsToPass {R C : Type 0} (g : Ghosts R) (human lends : Bool) (old n
   pub part : FailsPart g any_tree (map_inner old) old.de.now new.de.now e
   pub refused : EntryRefused g human lends pass_refusal old new e
 
--- the same behind a key of no name
-pub record FailsBehind {R C : Type 0} (g : Ghosts R) (human lends : Bool) (names : List (List ℕ)) (old new : MapAccess R C) (e : Error) : Type 0 where
+-- the same after a key of no name
+pub record FailsAfter {R C : Type 0} (g : Ghosts R) (human lends : Bool) (names : List (List ℕ)) (old new : MapAccess R C) (e : Error) : Type 0 where
   pub key : MapAccess R C
   pub named : TakesKey g (IsName names) old key None
   pub same_reference : key.de.ghost_name ≡ old.de.ghost_name
   pub value : FailsToPass g human lends key new e
 
--- behind pairs of no name a key was refused, or the value of one of no name couldn't be passed over
+-- after pairs of no name a key was refused, or the value of one of no name couldn't be skipped
 pub record FailsName {R C : Type 0} (g : Ghosts R) (human lends : Bool) (names : List (List ℕ)) (old new : MapAccess R C) (e : Error) : Type 0 where
   pub many : ℕ
   pub mid : MapAccess R C
   pub passed : Passes g names many old mid
-  pub pair : FailsKey g human lends names mid new e ⊎ FailsBehind g human lends names mid new e
+  pub pair : FailsKey g human lends names mid new e ⊎ FailsAfter g human lends names mid new e
 
 -- a key was read of a field that was met before
 pub record MeetsAgain {R C : Type 0} (g : Ghosts R) (old new : FieldAccess R C) (e : Error) : Type 0 where

@@ -4,9 +4,9 @@ use Rattle.rmp_wire.specs.Msg.{Msg, Pairs}
 use Rattle.rmp_decode.specs.Exact.{RefusesBy}
 use Rattle.rmp_wire.specs.declared.source.Source.{Ghosts}
 use Rattle.rmp_decode.specs.Fields.{blank, put, met, not_fields, name_refusal, pass_refusal, Field, Absent, NoField, Slot, IsFull}
-use Rattle.rmp_decode.specs.MapRefusing.{OpenedMap, BehindPairs, EntryRefused}
+use Rattle.rmp_decode.specs.MapRefusing.{OpenedMap, AfterPairs, EntryRefused}
 use Rattle.rmp_decode.specs.Names.{IsName}
-use Rattle.rmp_decode.specs.Refusing.{Setting, Refusals, Part, part_of, BehindMessage, Opened, RefusesParts, Excess}
+use Rattle.rmp_decode.specs.Refusing.{Setting, Refusals, Part, part_of, AfterMessage, Opened, RefusesParts, Excess}
 use Rattle.rmp_decode.specs.declared.access.map.MapAccess.{MapAccess}
 use Rattle.rmp_decode.specs.declared.error.Error.{Error}
 use Rattle.rmp_decode.specs.declared.error.Error.TheVariants.{Syntax}
@@ -38,10 +38,10 @@ NamedRefused ps fs n s before after known e = ((e ≡ Syntax DuplicateField) × 
 abbrev pub PairFails : List (List ℕ) → List Part → List (Option Msg) → Setting → ℕ → ℕ → ℕ → Option (List ℕ) → Error → Type 0
 PairFails names ps fs s before after left known e =
     (0 < left) × (name_refusal s before after known e
-    ⊎ BehindMessage s (λ k. IsName names k None) (pass_refusal s before after) known e
-    ⊎ ((n : ℕ) × BehindMessage s (λ k. IsName names k (Some n)) (NamedRefused ps fs n s before after) known e))
+    ⊎ AfterMessage s (λ k. IsName names k None) (pass_refusal s before after) known e
+    ⊎ ((n : ℕ) × AfterMessage s (λ k. IsName names k (Some n)) (NamedRefused ps fs n s before after) known e))
 
--- No pair is to come, and a field is missing for which nothing stands.
+-- No pair is to come, and a field is missing that has no default.
 abbrev pub Lacks : {V : Type 0} → (Bool → Bool → List (Option Msg) → V → Type 0) → List (Option Msg) → Setting → ℕ → Error → Type 0
 Lacks {V} reads fs s left e = (left ≡ 0) × (e ≡ Syntax MissingField) × ((v : V) → reads s.human s.lends fs v → ⊥)
 
@@ -49,14 +49,14 @@ Lacks {V} reads fs s left e = (left ≡ 0) × (e ≡ Syntax MissingField) × ((v
 abbrev pub AreMet : List (List ℕ) → List Part → List (Option Msg) → Setting → Pairs → Type 0
 AreMet names ps fs s pairs = (met names (blank names) pairs ≡ Some fs) × PartsHold s ps fs
 
--- How fields are refused: they can't be opened, an element of a list is refused or there are more or fewer, or behind some pairs of a
+-- How fields are refused: they can't be opened, an element of a list is refused or there are more or fewer, or after some pairs of a
 -- map the next one is refused, or a field is missing.
 unfoldable pub RefusesFields : {V : Type 0} → List (List ℕ) → (Bool → Bool → List (Option Msg) → V → Type 0) → List Part → Setting → Refusals
 RefusesFields names reads ps s before after known e =
     RefusesBy s.strict (not_fields s.room) before after known e
     ⊎ Opened s (λ b i. RefusesParts b i before after ps (Excess (length ps))) known e
     ⊎ OpenedMap s (λ i n known e. (fs : List (Option Msg))
-    × BehindPairs i (AreMet names ps fs i) n (λ left known e. PairFails names ps fs i before after left known e ⊎ Lacks reads fs i left e) known e)
+    × AfterPairs i (AreMet names ps fs i) n (λ left known e. PairFails names ps fs i before after left known e ⊎ Lacks reads fs i left e) known e)
     known e
 
 -- a value of a map's next pair was wanted for the field at a place: it was read before, or the value is refused

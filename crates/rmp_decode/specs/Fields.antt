@@ -1,4 +1,4 @@
--- What a struct's fields are read from, whatever stands for its names.
+-- What a struct's fields are read from, a list or a map of its names.
 use Rattle.std.specs.Prelude.{◌≡◌, ◌≢◌, ℕ, zero, suc, Bool, true, List, [], ◌∷◌, map, length, Option, Some, None, MatchOption, cond, nat_eq, Result}
 use Rattle.std.proofs.Common.{refl, ap, subst}
 use Rattle.std.specs.Borrow.{GName}
@@ -36,7 +36,7 @@ abbrev pub blank : List (List ℕ) → List (Option Msg)
 blank [] = []
 blank (s ∷ names) = None ∷ blank names
 
--- that tree in an empty place: `None` where a tree stands there, or where there is no such place
+-- that tree in an empty place: `None` where the place has a tree, or where there is no such place
 abbrev pub put : ℕ → Msg → List (Option Msg) → Option (List (Option Msg))
 put n m [] = None
 put zero m (None ∷ fs) = Some (Some m ∷ fs)
@@ -85,7 +85,7 @@ Field P A Q [] = ⊥
 Field P A Q (None ∷ fs) = A × Q fs
 Field P A Q (Some m ∷ fs) = P m × Q fs
 
--- what stands for it is the value
+-- its default is the value
 abbrev pub Absent : {V : Type 0} → Option V → V → Type 0
 Absent o v = o ≡ Some v
 

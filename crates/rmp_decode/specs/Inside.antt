@@ -1,4 +1,4 @@
--- A reader behind the head of a list, or of bytes, as it is seen where their elements are counted.
+-- A reader after the head of a list, or of bytes, where their elements are counted.
 use Rattle.std.specs.Prelude.{◌≡◌, ◌⊎◌, ◌-◌, ◌<◌, ℕ, Bool, true, false, List, length}
 use Rattle.rmp_wire.specs.declared.source.Source.{Ghosts}
 use Rattle.rmp_wire.specs.Msg.{Msg}
@@ -22,7 +22,7 @@ access_at d bytes left count = record {
   sound = true;
 }
 
--- these values were read so far, and the reader stands behind them
+-- these values were read so far, and nothing else was consumed
 abbrev pub TakesValues : {R C V : Type 0} → Ghosts R → (Msg → V → Type 0) → SeqAccess R C → SeqAccess R C → List V → Type 0
 TakesValues g reads = TakesParts g (λ vs ms. ReadsEach reads ms vs)
 
@@ -34,7 +34,7 @@ pub record ReadsRow {R C V W : Type 0} (g : Ghosts R) (reads : Msg → V → Typ
   pub read : TakesValues g reads (access_at start b all all) (access_at new b left all) values
   pub ready : new.failed ≡ false
 
--- behind those that were read, fewer than so many, the next element was refused
+-- after those that were read, fewer than so many, the next element was refused
 pub record StopsAtElement {R C V : Type 0} (g : Ghosts R) (human : C → Bool) (lends : Bool) (reads : Bool → Bool → Msg → V → Type 0) (P : Setting
     → Refusals) (start : Deserializer R C) (b : Bool) (all many : ℕ) (new : Deserializer R C) (e : Error) : Type 0 where
   pub values : List V

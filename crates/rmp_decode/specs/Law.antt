@@ -6,7 +6,7 @@ use Rattle.rmp_wire.specs.declared.marker.Marker.{Marker}
 use Rattle.rmp_wire.specs.declared.source.Source.{Ghosts}
 use Rattle.rmp_wire.specs.Canonical.{heads_of, SpellsAs}
 use Rattle.rmp_wire.specs.Msg.{Msg, depth}
-use Rattle.rmp_decode.specs.Exact.{Stands, EndsExactly}
+use Rattle.rmp_decode.specs.Exact.{BeginsWith, EndsExactly}
 use Rattle.rmp_decode.specs.State.{left, faults_of, room_of, kept_bytes, Stays}
 use Rattle.rmp_decode.specs.declared.deserializer.Deserializer.{Deserializer}
 use Rattle.rmp_decode.specs.declared.deserializer.Kept.TheVariants.{Nothing}
@@ -85,7 +85,7 @@ pub record TakesHead {R C : Type 0} (g : Ghosts R) (h : Head) (old new : Deseria
 pub record ReadsHead {R C : Type 0} (g : Ghosts R) (old new : Deserializer R C) (result : Result (Marker × Head) Error) : Type 0 where
   pub ok : IfOk result (λ p. TakesHead g p.1 old new)
   -- the marker is that of the first byte that was left, where it is told
-  pub marked : IfOk result (λ p. IfSome (left g old) (Stands old.strict p.0 p.1))
+  pub marked : IfOk result (λ p. IfSome (left g old) (BeginsWith old.strict p.0 p.1))
   pub clean : OnOk result (new.kept ≡ Nothing)
   pub fresh : OnOk result (old.failed ≡ false)
   pub sound : OnOk result (faults_of g new ≡ faults_of g old)

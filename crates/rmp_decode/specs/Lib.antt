@@ -11,7 +11,7 @@ pub mod FieldAccess
 pub mod FieldRefusing
 pub mod FieldRows
 pub mod Fields
-pub mod Fronts
+pub mod BufferedHeads
 pub mod Inside
 pub mod Kinds
 pub mod Law

@@ -9,7 +9,7 @@ use Rattle.rmp_wire.specs.Spelling.{PairsSpelledBy}
 use Rattle.rmp_decode.specs.Exact.{RefusesBy}
 use Rattle.rmp_decode.specs.Law.{Readable}
 use Rattle.rmp_decode.specs.Maps.{map_inner, not_map, ReadsPairs}
-use Rattle.rmp_decode.specs.Refusing.{Setting, Refusals, setting_of, inside, IsMemory, BehindMessage}
+use Rattle.rmp_decode.specs.Refusing.{Setting, Refusals, setting_of, inside, IsMemory, AfterMessage}
 use Rattle.rmp_decode.specs.State.{left, faults_of}
 use Rattle.rmp_decode.specs.declared.deserializer.Deserializer.{Deserializer}
 use Rattle.rmp_decode.specs.declared.access.map.MapAccess.{MapAccess}
@@ -27,7 +27,7 @@ EntryRefused g human lends P old new e = PartRefused g human lends P (map_inner 
 abbrev pub KeyRefused : {R C : Type 0} → Ghosts R → Bool → Bool → (Setting → Refusals) → MapAccess R C → MapAccess R C → Error → Type 0
 KeyRefused g human lends P old new e = (0 < old.left) × EntryRefused g human lends P old new e
 
--- behind the head of a map it is refused as P says, by the setting of its keys and values, and how many pairs there are
+-- after the head of a map it is refused as P says, by the setting of its keys and values, and how many pairs there are
 pub record OpenedMap (s : Setting) (P : Setting → ℕ → Option (List ℕ) → Error → Type 0) (known : Option (List ℕ)) (e : Error) : Type 0 where
   pub inner : ℕ
   pub many : ℕ
@@ -38,8 +38,8 @@ pub record OpenedMap (s : Setting) (P : Setting → ℕ → Option (List ℕ) �
   pub room_of : s.room ≡ inner + 1
   pub refused : P (inside s inner) many rest e
 
--- behind pairs of which Q holds, of n in all, it is refused as P says, by how many are still to come
-pub record BehindPairs (s : Setting) (Q : Pairs → Type 0) (n : ℕ) (P : ℕ → Option (List ℕ) → Error
+-- after pairs of which Q holds, of n in all, it is refused as P says, by how many are still to come
+pub record AfterPairs (s : Setting) (Q : Pairs → Type 0) (n : ℕ) (P : ℕ → Option (List ℕ) → Error
     → Type 0) (known : Option (List ℕ)) (e : Error) : Type 0 where
   pub bytes : List ℕ
   pub rest : Option (List ℕ)
@@ -52,9 +52,9 @@ pub record BehindPairs (s : Setting) (Q : Pairs → Type 0) (n : ℕ) (P : ℕ �
   pub holds : Q trees
   pub refused : P still rest e
 
--- where there is a pair to come, its key is refused, or its value behind the key
+-- where there is a pair to come, its key is refused, or its value after the key
 abbrev pub PairRefused : Setting → (Msg → Type 0) → (Setting → Refusals) → (Setting → Refusals) → ℕ → ℕ → ℕ → Option (List ℕ) → Error → Type 0
-PairRefused s keys K V before after left known e = (0 < left) × (K s before after known e ⊎ BehindMessage s keys (V s before after) known e)
+PairRefused s keys K V before after left known e = (0 < left) × (K s before after known e ⊎ AfterMessage s keys (V s before after) known e)
 
 -- these are read as some entries
 abbrev pub PairsRead : {K V : Type 0} → (Bool → Bool → Msg → K → Type 0) → (Bool → Bool → Msg → V → Type 0) → Setting → Pairs → Type 0
@@ -65,5 +65,5 @@ abbrev pub RefusesPairs : {K V : Type 0} → (Bool → Bool → Msg → K → Ty
     → Setting → Refusals
 RefusesPairs keys values key value s before after known e =
     RefusesBy s.strict (not_map s.room) before after known e
-    ⊎ OpenedMap s (λ i n known e. BehindPairs i (PairsRead keys values i) n (PairRefused i (Readable (keys i.human i.lends)) key value before after) known e
-    ⊎ BehindPairs i (λ ps. (0 < count_pairs ps) × PairsRead keys values i ps) n IsMemory known e) known e
+    ⊎ OpenedMap s (λ i n known e. AfterPairs i (PairsRead keys values i) n (PairRefused i (Readable (keys i.human i.lends)) key value before after) known e
+    ⊎ AfterPairs i (λ ps. (0 < count_pairs ps) × PairsRead keys values i ps) n IsMemory known e) known e

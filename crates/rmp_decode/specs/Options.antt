@@ -25,8 +25,8 @@ IsNil m u = m ≡ nil
 -- these bytes begin with one that isn't nil
 pub record BeginsOther (bytes : List ℕ) : Type 0 where
   pub byte : ℕ
-  pub behind : List ℕ
-  pub is : bytes ≡ byte ∷ behind
+  pub following : List ℕ
+  pub is : bytes ≡ byte ∷ following
   pub other : byte ≢ 0xc0
 
 -- the bytes are told, and begin with one that isn't nil
@@ -49,7 +49,7 @@ abbrev pub RefusesOption : (Setting → Refusals) → Setting → Refusals
 RefusesOption P s before after known e = EndsBefore before after known e ⊎ RefusesThere (P s) before after known e
 
 module _ {R C : Type 0} (g : Ghosts R) where
-  -- another message than nil stands there: its first byte is kept back, and what is left stays
+  -- the next message is another than nil: its first byte is kept back, and what remains is the same
   pub record SeesOther (old new : Deserializer R C) : Type 0 where
     pub ready : new.failed ≡ false
     pub same : Keeps (left g old) (left g new)
@@ -67,19 +67,19 @@ module _ {R C : Type 0} (g : Ghosts R) where
     pub memory : e ≢ OutOfMemory
     pub stays : Stays g old new
 
-  -- What looking for nil does: it is taken, or another message stands there, or none.
+  -- What looking for nil does: it is consumed, or the next message is another, or there is none.
   abbrev pub Looks : Deserializer R C → Deserializer R C → Result Bool Error → Type 0
   Looks old new (Ok true) = Lawful g IsNil old new (Ok tt)
   Looks old new (Ok false) = (old.failed ≡ false) × SeesOther old new
   Looks old new (Err e) = FailsToSee old new e
 
-  -- What looking for nil where it lies does: it is taken, or another message stands there, or it can't be said; then nothing changes.
+  -- What looking for a buffered nil does: it is consumed, or the next message is another, or nothing is buffered. In the last two nothing changes.
   abbrev pub LooksAhead : Deserializer R C → Deserializer R C → Option Bool → Type 0
   LooksAhead old new (Some true) = Lawful g IsNil old new (Ok tt)
   LooksAhead old new (Some false) = (old.failed ≡ false) × (ToldOther (left g old) × (new ≡ old))
   LooksAhead old new None = new ≡ old
 
-  -- Another message than nil stands there, and was offered to f, once. An answer of f that leaves the reader failed counts as a failure.
+  -- The next message is another than nil, and was offered to f, once. An answer of f that leaves the reader failed counts as a failure.
   pub record ValueGiven {F X : Type 0} (once : Reading F R C X) (f : F) (old new : Deserializer R C) (result : Result (Option X) Error) : Type 0 where
     pub lent : Deserializer R C
     pub gave : Result X Error

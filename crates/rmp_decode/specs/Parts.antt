@@ -1,4 +1,4 @@
--- What the read of one part of a list or map does to the `Deserializer` behind an access.
+-- What the read of one part of a list or map does to the `Deserializer` of an access.
 use Rattle.std.specs.Prelude.{◌≡◌, ℕ, ◌<◌, true, List}
 use Rattle.std.specs.Io.KnownBytes.{Consumes}
 use Rattle.rmp_wire.specs.declared.source.Source.{Ghosts}

@@ -15,7 +15,7 @@ use Rattle.rmp_decode.specs.Law.{Explains}
 use Rattle.rmp_decode.specs.declared.error.Error.{Error}
 use Rattle.rmp_decode.specs.declared.error.Error.TheVariants.{OutOfMemory}
 
--- only want of memory becomes want of memory, and an end of the input an end behind the first byte
+-- only want of memory becomes want of memory, and an end of the input one after the first byte
 abbrev pub Blamed : SourceFault → Error → Type 0
 Blamed Memory e = e ≡ OutOfMemory
 Blamed (Io fault) e = (e ≢ OutOfMemory) × (error_kind fault ≡ UnexpectedEof → IsDataEnd e)
@@ -27,7 +27,7 @@ StartsWithNoChar len known = IfSome known (λ xs. (c : ℕ) (r : List ℕ) → I
 -- The error where a piece of that length is wanted and isn't had: the input ended within it, or it is whole and refused so.
 pub record ExactOfPiece (len : ℕ) (refused : List ℕ → Error → Type 0) (e : Error) (xs : List ℕ) : Type 0 where
   pub cut : length xs < len → IsDataEnd e
-  pub whole : (s behind : List ℕ) → xs ≡ s ++ behind → length s ≡ len → refused s e
+  pub whole : (s following : List ℕ) → xs ≡ s ++ following → length s ≡ len → refused s e
 
 -- the same, where the bytes are told
 unfoldable pub RefusesPiece : ℕ → (List ℕ → Error → Type 0) → Option (List ℕ) → Error → Type 0

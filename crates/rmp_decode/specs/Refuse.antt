@@ -7,8 +7,8 @@ use Rattle.rmp_wire.specs.declared.source.Source.{Ghosts}
 use Rattle.rmp_wire.specs.Msg.{Msgs}
 use Rattle.rmp_wire.specs.Canonical.{SpellsAs}
 use Rattle.rmp_decode.specs.Anys.{OpensParts}
-use Rattle.rmp_decode.specs.Content.{StandsCut}
-use Rattle.rmp_decode.specs.Exact.{Stands, NoneStands, OtherWidth, IsMarkerEnd, IsDataEnd}
+use Rattle.rmp_decode.specs.Content.{CutPayload}
+use Rattle.rmp_decode.specs.Exact.{BeginsWith, BeginsWithNone, OtherWidth, IsMarkerEnd, IsDataEnd}
 use Rattle.rmp_decode.specs.Seq.{BeginsRow}
 use Rattle.rmp_decode.specs.Skip.{parts_head, parts_count}
 use Rattle.rmp_decode.specs.State.{left, faults_of, room_of}
@@ -16,29 +16,29 @@ use Rattle.rmp_decode.specs.declared.deserializer.Deserializer.{Deserializer}
 use Rattle.rmp_decode.specs.declared.error.Error.{Error}
 use Rattle.rmp_decode.specs.declared.error.Error.TheVariants.{InvalidMarkerRead, InvalidDataRead, TypeMismatch, DepthLimitExceeded, OutOfMemory, NotCanonical}
 
--- the bytes end inside of a head: the first of them isn't c1, which opens no message, and no head stands whole
+-- the bytes end inside of a head: the first of them isn't c1, which opens no message, and no head is whole
 pub record HeadIsCut (xs : List ℕ) : Type 0 where
   pub byte : ℕ
-  pub behind : List ℕ
-  pub front : xs ≡ byte ∷ behind
+  pub following : List ℕ
+  pub front : xs ≡ byte ∷ following
   pub opens : byte ≢ 0xc1
-  pub none : NoneStands false xs
+  pub none : BeginsWithNone false xs
 
 -- the bytes end inside of the content of a text, of bytes or of an extension
 abbrev pub ContentIsCut : Bool → List ℕ → Type 0
-ContentIsCut strict xs = (h : Head) × StandsCut strict h xs
+ContentIsCut strict xs = (h : Head) × CutPayload strict h xs
 
 -- the byte c1, which opens no message
 pub record IsReserved (xs : List ℕ) : Type 0 where
-  pub behind : List ℕ
-  pub front : xs ≡ 0xc1 ∷ behind
+  pub following : List ℕ
+  pub front : xs ≡ 0xc1 ∷ following
 
--- a head stands whole at the front, and none that may be read
+-- the bytes begin with a whole head, and with none that may be read
 pub record WidthIsWrong (strict : Bool) (xs : List ℕ) : Type 0 where
   pub other : OtherWidth xs
-  pub none : NoneStands strict xs
+  pub none : BeginsWithNone strict xs
 
--- what is wrong with the message that is wanted at the front, and has to nest below the room, by the error that says so
+-- what is wrong with the message that the bytes begin with, and that has to nest below the room, by the error that says so
 abbrev pub IsWrong : Bool → ℕ → Error → List ℕ → Type 0
 IsWrong strict room (InvalidMarkerRead fault) xs = IsMarkerEnd (InvalidMarkerRead fault) × (xs ≡ [])
 IsWrong strict room (InvalidDataRead fault) xs = IsDataEnd (InvalidDataRead fault) × (HeadIsCut xs ⊎ ContentIsCut strict xs)
@@ -47,33 +47,33 @@ IsWrong strict room DepthLimitExceeded xs = (room ≡ 1) × OpensParts strict xs
 IsWrong strict room NotCanonical xs = WidthIsWrong strict xs
 IsWrong strict room _ xs = ⊥
 
--- a leaf opens at the front
+-- the bytes begin with the head of a leaf
 pub record OpensLeaf (strict : Bool) (xs : List ℕ) : Type 0 where
   pub head : Head
   pub marker : Marker
-  pub stands : Stands strict marker head xs
+  pub starts : BeginsWith strict marker head xs
   pub no_parts : (q : Bool × ℕ) → head ≡ parts_head q.0 q.1 → ⊥
 
--- a list or a map that isn't empty opens at the front
+-- the bytes begin with the head of a list or a map that isn't empty
 pub record OpensSome (strict : Bool) (xs : List ℕ) : Type 0 where
   pub parts : OpensParts strict xs
   pub some : 0 < parts.len
 
--- why the message at the front can't be passed over: what is wrong with it, or memory was short: for the content of a leaf, unless the source lends,
+-- why the message can't be skipped: what is wrong with it, or memory ran out: for the payload of a leaf, unless the source lends,
 -- or for how many messages are still wanted outside of a list or a map that isn't empty
 abbrev pub UnpassedFor : Bool → Bool → ℕ → Error → List ℕ → Type 0
 UnpassedFor lends strict room OutOfMemory xs = ((lends ≡ false) × OpensLeaf strict xs) ⊎ OpensSome strict xs
 UnpassedFor lends strict room e xs = IsWrong strict room e xs
 
--- A list or a map opens at the front, and some of its messages stand whole behind it, but not all: they nest below the room, and are readable.
+-- The bytes begin with a list or a map, of which some messages are whole, but not all: they nest below the room, and are readable.
 pub record Enters (strict : Bool) (readable : Msgs → Type 0) (room : ℕ) (xs : List ℕ) : Type 0 where
   pub parts : OpensParts strict xs
   pub many : ℕ
-  pub before : BeginsRow (SpellsAs strict) readable room many parts.stands.rest
+  pub before : BeginsRow (SpellsAs strict) readable room many parts.starts.rest
   pub fewer : many < parts_count parts.is_map parts.len
 
--- The error names the first thing that is wrong, where a message is wanted that nests below the room: it is wrong at the front, or inside of a list or
--- a map that opens there, behind messages of it that are readable.
+-- The error names the first thing that is wrong, where a message is wanted that nests below the room: its head or payload, or, where it is a list or
+-- a map, what comes after some of its messages that are readable.
 pub data Refusal (strict : Bool) (wrong : ℕ → Error → List ℕ → Type 0) (readable : Msgs → Type 0) : ℕ → Error → List ℕ → Type 0 where
   here : {room : ℕ} {e : Error} {xs : List ℕ} → wrong room e xs → Refusal strict wrong readable room e xs
   inside : {room : ℕ} {e : Error} {xs : List ℕ} → (enters : Enters strict readable room xs) → Refusal strict wrong readable room e enters.before.rest

@@ -53,8 +53,8 @@ any_refusal before after known e = Unit {0}
 abbrev pub RefusesAs : {R C V : Type 0} → Ghosts R → Bool → Bool → (Setting → Refusals) → Deserializer R C → Deserializer R C → Result V Error → Type 0
 RefusesAs g human lends P old new result = old.failed ≡ false → IfErr result (P (setting_of human lends old) (faults_of g old) (faults_of g new) (left g old))
 
--- behind a message of which Q holds it is refused as P says
-pub record BehindMessage (s : Setting) (Q : Msg → Type 0) (P : Option (List ℕ) → Error → Type 0) (known : Option (List ℕ)) (e : Error) : Type 0 where
+-- after a message of which Q holds it is refused as P says
+pub record AfterMessage (s : Setting) (Q : Msg → Type 0) (P : Option (List ℕ) → Error → Type 0) (known : Option (List ℕ)) (e : Error) : Type 0 where
   pub bytes : List ℕ
   pub rest : Option (List ℕ)
   pub tree : Msg
@@ -64,9 +64,9 @@ pub record BehindMessage (s : Setting) (Q : Msg → Type 0) (P : Option (List �
   pub holds : Q tree
   pub refused : P rest e
 
--- how a value in memory of its own is: the type refuses it, or memory was short behind it
+-- how a value in memory of its own is: the type refuses it, or memory ran out after it
 abbrev pub RefusesBoxed : {V : Type 0} → (Bool → Bool → Msg → V → Type 0) → (Setting → Refusals) → Setting → Refusals
-RefusesBoxed reads P s before after known e = P s before after known e ⊎ BehindMessage s (Readable (reads s.human s.lends)) (λ rest e. e ≡ OutOfMemory) known e
+RefusesBoxed reads P s before after known e = P s before after known e ⊎ AfterMessage s (Readable (reads s.human s.lends)) (λ rest e. e ≡ OutOfMemory) known e
 
 -- how an element of a list is refused, or a byte that is read as a number: so as the type refuses its canonical head, or none was left
 abbrev pub RefusedIn : Bool → Refusals → Refusals
@@ -95,8 +95,8 @@ Excess many left known e = (0 < left) × (e ≡ LengthMismatch many)
 abbrev pub IsMemory : ℕ → Option (List ℕ) → Error → Type 0
 IsMemory left known e = e ≡ OutOfMemory
 
--- behind items of which Q holds, of n in all, it is refused as P says, by how many are still to come
-pub record Behind (spells : List ℕ → Msg → Type 0) (Q : Msgs → Type 0) (room n : ℕ) (P : ℕ → Option (List ℕ) → Error
+-- after items of which Q holds, of n in all, it is refused as P says, by how many are still to come
+pub record AfterItems (spells : List ℕ → Msg → Type 0) (Q : Msgs → Type 0) (room n : ℕ) (P : ℕ → Option (List ℕ) → Error
     → Type 0) (known : Option (List ℕ)) (e : Error) : Type 0 where
   pub bytes : List ℕ
   pub rest : Option (List ℕ)
@@ -109,7 +109,7 @@ pub record Behind (spells : List ℕ → Msg → Type 0) (Q : Msgs → Type 0) (
   pub holds : Q trees
   pub refused : P still rest e
 
--- behind the head of a list, or of bytes, it is refused as P says, by whether they are bytes, the setting of an element, and how many there are
+-- after the head of a list, or of bytes, it is refused as P says, by whether they are bytes, the setting of an element, and how many there are
 pub record Opened (s : Setting) (P : Bool → Setting → ℕ → Option (List ℕ) → Error → Type 0) (known : Option (List ℕ)) (e : Error) : Type 0 where
   pub is_bytes : Bool
   pub inner : ℕ
@@ -121,7 +121,7 @@ pub record Opened (s : Setting) (P : Bool → Setting → ℕ → Option (List �
   pub room_of : s.room ≡ inner + levels is_bytes
   pub refused : P is_bytes (inside s inner) many rest e
 
--- how a list is refused: it can't be opened, or the refusal is behind its head
+-- how a list is refused: it can't be opened, or the refusal comes after its head
 abbrev pub RefusesSeq : Setting → (ℕ → ℕ → Bool → Setting → ℕ → Option (List ℕ) → Error → Type 0) → Refusals
 RefusesSeq s P before after known e = RefusesBy s.strict (not_seq s.room) before after known e ⊎ Opened s (P before after) known e
 
@@ -132,20 +132,20 @@ EachRead {V} reads s ms = (vs : List V) × ReadsEach (reads s.human s.lends) ms 
 -- how a list of elements of one type is refused: one of them is, or memory was short for those that were read, of which there is one
 abbrev pub RefusesEach : {V : Type 0} → (Bool → Bool → Msg → V → Type 0) → (Setting → Refusals) → Setting → Refusals
 RefusesEach reads P s =
-    RefusesSeq s (λ a z b i n known e. Behind (SpellsIn i.strict b) (EachRead reads i) i.room n (WhereSome (RefusedIn b (P i) a z)) known e
-    ⊎ Behind (SpellsIn i.strict b) (λ ms. (0 < count ms) × EachRead reads i ms) i.room n IsMemory known e)
+    RefusesSeq s (λ a z b i n known e. AfterItems (SpellsIn i.strict b) (EachRead reads i) i.room n (WhereSome (RefusedIn b (P i) a z)) known e
+    ⊎ AfterItems (SpellsIn i.strict b) (λ ms. (0 < count ms) × EachRead reads i ms) i.room n IsMemory known e)
 
--- So many elements of one type are wanted: behind fewer of them the next one isn't there or is refused.
+-- So many elements of one type are wanted: after fewer of them the next one isn't there or is refused.
 abbrev pub OneWanted : {V : Type 0} → ℕ → (Bool → Bool → Msg → V → Type 0) → (Setting → Refusals) → Bool → Setting → ℕ → ℕ → ℕ → Option (List ℕ) → Error
     → Type 0
-OneWanted n reads P b s before after many = Behind (SpellsIn s.strict b) (λ ms. (count ms < n) × EachRead reads s ms) s.room many
+OneWanted n reads P b s before after many = AfterItems (SpellsIn s.strict b) (λ ms. (count ms < n) × EachRead reads s ms) s.room many
     (Wanted (RefusedIn b (P s) before after))
 
--- how a list is refused that has other elements than so many of one type: one is wanted, or behind so many there are more
+-- how a list is refused that has other elements than so many of one type: one is wanted, or after so many there are more
 abbrev pub RefusesTimes : {V : Type 0} → ℕ → (Bool → Bool → Msg → V → Type 0) → (Setting → Refusals) → Setting → Refusals
 RefusesTimes n reads P s =
     RefusesSeq s (λ a z b i many known e. OneWanted n reads P b i a z many known e
-    ⊎ Behind (SpellsIn i.strict b) (λ ms. (count ms ≡ n) × EachRead reads i ms) i.room many (Excess n) known e)
+    ⊎ AfterItems (SpellsIn i.strict b) (λ ms. (count ms ≡ n) × EachRead reads i ms) i.room many (Excess n) known e)
 
 -- ---- elements of several types, one after another
 
@@ -158,8 +158,8 @@ pub record Part : Type 1 where
 abbrev pub part_of : {V : Type 0} → (Bool → Bool → Msg → V → Type 0) → (Setting → Refusals) → Part
 part_of reads refuses = record { holds = λ s. Readable (reads s.human s.lends); refuses = refuses }
 
--- an element was read of which P holds, and behind it the refusal is as `next` says, by how many are still to come
-pub record BehindElement (b : Bool) (s : Setting) (P : Msg → Type 0) (next : ℕ → Option (List ℕ) → Error
+-- an element was read of which P holds, and after it the refusal is as `next` says, by how many are still to come
+pub record AfterElement (b : Bool) (s : Setting) (P : Msg → Type 0) (next : ℕ → Option (List ℕ) → Error
     → Type 0) (n : ℕ) (known : Option (List ℕ)) (e : Error) : Type 0 where
   pub bytes : List ℕ
   pub rest : Option (List ℕ)
@@ -172,11 +172,11 @@ pub record BehindElement (b : Bool) (s : Setting) (P : Msg → Type 0) (next : �
   pub holds : P tree
   pub refused : next still rest e
 
--- The first of these that isn't there or is refused is so, or they are all read and the refusal behind them is as `last` says.
+-- The first of these that isn't there or is refused is so, or they are all read and the refusal after them is as `last` says.
 abbrev pub RefusesParts : Bool → Setting → ℕ → ℕ → List Part → (ℕ → Option (List ℕ) → Error → Type 0) → ℕ → Option (List ℕ) → Error → Type 0
 RefusesParts b s before after [] last n known e = last n known e
 RefusesParts b s before after (p ∷ ps) last n known e = Wanted (RefusedIn b (p.refuses s) before after) n known e
-    ⊎ BehindElement b s (p.holds s) (RefusesParts b s before after ps last) n known e
+    ⊎ AfterElement b s (p.holds s) (RefusesParts b s before after ps last) n known e
 
 -- how a list is refused that has other elements than these
 abbrev pub RefusesTuple : List Part → Setting → Refusals

@@ -47,7 +47,7 @@ pub record SpellsByte (bytes : List ℕ) (m : Msg) : Type 0 where
   pub alone : bytes ≡ byte ∷ []
   pub number : m ≡ whole (pos byte)
 
--- how an element stands in bytes, or in a list, by whether reading is strict
+-- how an element is encoded in bytes, or in a list, by whether reading is strict
 abbrev pub SpellsIn : Bool → Bool → List ℕ → Msg → Type 0
 SpellsIn strict true = SpellsByte
 SpellsIn strict false = SpellsAs strict
@@ -149,7 +149,7 @@ pub record KeepsByte {R C : Type 0} (g : Ghosts R) (old new : Deserializer R C) 
 
 -- ---- rows of elements
 
--- the items stand one after the other
+-- the items follow one another
 abbrev pub SpellsRow : (List ℕ → Msg → Type 0) → List ℕ → Msgs → Type 0
 SpellsRow spells b no_items = b ≡ []
 SpellsRow spells b (item m ms) = Joined (λ first. spells first m) (λ rest. SpellsRow spells rest ms) b

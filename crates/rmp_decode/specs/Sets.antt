@@ -18,11 +18,11 @@ pub record CollectsKeys {K : Type 0} (cmp : K → K → Ordering) (elements keys
 abbrev pub ReadsKeys : {K : Type 0} → (K → K → Ordering) → (Msg → K → Type 0) → List K → Msg → Type 0
 ReadsKeys {K} cmp reads ks m = OfRow (λ ms. (ns : List K) × ReadsEach reads ms ns × CollectsKeys cmp ns ks) m
 
--- the keys of a large set that were read so far: those that stand in the row, and those in the set
+-- the keys of a large set that were read so far: those in the row, and those in the set
 abbrev pub keys_so_far : {K : Type 0} → Keys K → List K
 keys_so_far s = s.row.items ++ s.keys.keys
 
--- they stand in the row alone, or in the set alone
+-- they are in the row alone, or in the set alone
 pub record IsEitherPlace {K : Type 0} (s : Keys K) : Type 0 where
   pub in_row : s.in_row ≡ true → s.keys.keys ≡ []
   pub in_set : s.in_row ≡ false → s.row.items ≡ []

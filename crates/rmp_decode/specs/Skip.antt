@@ -20,7 +20,7 @@ any_tree m u = Unit {0}
 abbrev pub any_row : Msgs → Type 0
 any_row ms = Unit {0}
 
--- how many messages stand behind it
+-- how many messages follow it
 abbrev pub parts_count : Bool → ℕ → ℕ
 parts_count true n = 2 * n
 parts_count false n = n

@@ -9,7 +9,7 @@ use Rattle.rmp_decode.specs.declared.deserializer.Deserializer.{Deserializer}
 use Rattle.rmp_decode.specs.declared.deserializer.Kept.{Kept}
 use Rattle.rmp_decode.specs.declared.deserializer.Kept.TheVariants.{Nothing, First, Number}
 
--- the bytes that stand for what was kept back
+-- the bytes of what was kept back
 abbrev pub kept_bytes : Kept → List ℕ
 kept_bytes Nothing = []
 kept_bytes (First b) = b ∷ []
@@ -69,15 +69,15 @@ pub record Stays {R C : Type 0} (g : Ghosts R) (old new : Deserializer R C) : Ty
 abbrev pub strict_of : {R C : Type 0} → Deserializer R C → Bool → Deserializer R C
 strict_of d s = record d { strict = s }
 
--- how many lists and maps stand open around what is read next
+-- how many lists and maps are open around what is read next
 abbrev pub levels_open : {R C : Type 0} → Deserializer R C → ℕ
 levels_open d = d.limit - d.room
 
--- the limit that a depth stands for: from 1 to 65535
+-- the limit that a depth means: from 1 to 65535
 abbrev pub limit_at : ℕ → ℕ
 limit_at depth = max 1 (min depth 65535)
 
--- The same with that limit, of which what stands open is taken. Where more levels stand open than that, they are the limit.
+-- The same with that limit, less the levels that are open. Where more levels are open than that, they are the limit.
 abbrev pub limited : {R C : Type 0} → Deserializer R C → ℕ → Deserializer R C
 limited d depth = record d { limit = max (limit_at depth) (levels_open d); room = limit_at depth - levels_open d }
 

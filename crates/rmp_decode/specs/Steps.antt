@@ -5,12 +5,12 @@ use Rattle.rmp_decode.specs.Anys.{TakesContent}
 use Rattle.rmp_decode.specs.Skip.{Passes}
 use Rattle.rmp_decode.specs.declared.deserializer.Deserializer.{Deserializer}
 
--- so many bytes were taken, and stand behind those that were there
+-- so many bytes were consumed, and appended to those that were there
 pub record Appends (len : ℕ) (old new : Option (List ℕ)) (before after : List ℕ) : Type 0 where
   pub passes : Passes len old new
   pub whole : after ≡ before ++ passes.bytes
 
--- the content was taken, the reader is ready, and the content stands behind the bytes that were there
+-- the payload was consumed and appended to the bytes that were there, and the reader is ready
 pub record AppendsContent {R C : Type 0} (g : Ghosts R) (len : ℕ) (old new : Deserializer R C) (before after : List ℕ) : Type 0 where
   pub content : List ℕ
   pub taken : TakesContent g len old new content

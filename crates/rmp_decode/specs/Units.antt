@@ -17,10 +17,10 @@ abbrev pub not_nothing : ℕ → Marker → Head → Error
 not_nothing room m (Array n) = cond (nat_le room 1) DepthLimitExceeded (Syntax InvalidType)
 not_nothing room m h = Syntax InvalidType
 
--- the name that stands for an extension
+-- the name that means an extension
 abbrev pub IsExtName : List ℕ → Type 0
 IsExtName name = name ≡ codes "_ExtStruct"
 
--- what is read as a newtype struct of this name: what is read as its content, unless the name stands for an extension
+-- what is read as a newtype struct of this name: what is read as its content, unless the name means an extension
 abbrev pub IsNewtype : {V : Type 0} → List ℕ → (Msg → V → Type 0) → Msg → V → Type 0
 IsNewtype name reads m v = (IsExtName name → ⊥) × reads m v

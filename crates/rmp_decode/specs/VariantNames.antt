@@ -1,4 +1,4 @@
--- What stands for the name of a variant, and which error says that nothing does.
+-- Which messages select a variant, and the error where none is selected.
 use Rattle.std.specs.Prelude.{◌≡◌, ℕ, pos, Bool, List, ◌++◌, length, Option, Some, IfSome}
 use Rattle.std.specs.Io.KnownBytes.{Consumes}
 use Rattle.rmp_wire.specs.declared.head.Head.{Head}

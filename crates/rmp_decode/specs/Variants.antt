@@ -114,7 +114,7 @@ pub record TakesKeyOf {R C : Type 0} (g : Ghosts R) (names : List (List ℕ)) (n
   pub clean : between.kept ≡ Nothing
   pub key : TakesPart g (IsPlace names) (max 1 inner) between new n
 
--- what was taken of a variant: its name, which stands alone or before its content
+-- what was consumed of a variant: its name, which is alone or comes before its content
 abbrev pub TakesNameOf : {R C : Type 0} → Ghosts R → List (List ℕ) → ℕ → Bool → Deserializer R C → Deserializer R C → ℕ → Type 0
 TakesNameOf g names n true old new inner = Reads g (IsPlace names) old new n
 TakesNameOf g names n false old new inner = TakesKeyOf g names n old new inner
@@ -145,17 +145,17 @@ abbrev pub not_variant : ℕ → Head → List ℕ → Error → Type 0
 not_variant room (Map n) s e = (room ≡ 1) × (e ≡ DepthLimitExceeded)
 not_variant room h s e = unknown_name h s e
 
--- how a variant is refused whose content wasn't looked at: at the front, or at the key of a map of one pair
+-- how a variant is refused whose content wasn't looked at: at its first head, or at the key of a map of one pair
 abbrev pub RefusesVariant : Setting → Refusals
 RefusesVariant s before after known e =
     RefusesContent s.strict IsVariantHead other_variant (not_variant s.room) before after known e
     ⊎ OpenedMap s (λ i n rest e. (n ≡ 1) × RefusesName i.strict before after rest e) known e
 
--- none of these names stands there
+-- the message selects none of these names
 abbrev pub NoNameThere : List (List ℕ) → Setting → Refusals
 NoNameThere names s before after known e = Explains e before after (Refuses (SpellsAs s.strict) (Readable (IsPlace names)) s.room known)
 
--- the same where a variant of these names is wanted: none of them stands there, at the front or as the key
+-- the same where a variant of these names is wanted: neither the message nor its key selects one
 abbrev pub RefusesVariantOf : List (List ℕ) → Setting → Refusals
 RefusesVariantOf names s before after known e =
     (RefusesContent s.strict IsVariantHead other_variant (not_variant s.room) before after known e × NoNameThere names s before after known e)
@@ -207,7 +207,7 @@ module _ {R C : Type 0} (g : Ghosts R) where
 
 -- ---- content that is a list
 
--- the head of a list or of bytes was taken behind the name
+-- the head of a list or of bytes was consumed after the name
 pub record OpensSeqIn {R C : Type 0} (g : Ghosts R) (inner : ℕ) (old : Deserializer R C) (s : SeqAccess R C) : Type 0 where
   pub head : TakesHead g (seq_head s.bytes s.left) old s.de.now
   pub count : s.count ≡ s.left

@@ -31,7 +31,7 @@ pub trait ReadContent<R: Source> {
     // Whether content is passed over without memory.
     ghost lends: { Bool };
 
-    /// Passes over the next bytes, where they lie.
+    /// Passes over the next bytes, in the buffer.
     ///
     /// # Errors
     /// `InvalidDataRead` where they end too soon or the source failed, and `OutOfMemory`, unless it lends.

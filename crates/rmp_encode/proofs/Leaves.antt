@@ -23,7 +23,7 @@ use Rattle.rmp_encode.specs.declared.error.Error.{Error}
 use Rattle.rmp_encode.specs.declared.error.Error.TheVariants as errors
 use Rattle.rmp_encode.specs.Errors.{IsTooLong, error_of, answer_of}
 use Rattle.rmp_encode.specs.Trees.{HasTree, spell, ext_head}
-use Rattle.rmp_encode.specs.Writes.{FailsBy, HasBegun, NeverMarker, NoneAtMarker, WritesBehind, WritesPart, WritesTree}
+use Rattle.rmp_encode.specs.Writes.{FailsBy, HasBegun, NeverMarker, NoneAtMarker, WritesAfter, WritesPart, WritesTree}
 use Rattle.rmp_encode.proofs.Parts.{part_as, part_done, part_failed, part_refused}
 
 -- why a write stopped, as an error of this crate
@@ -83,12 +83,12 @@ module _ {W : Type 0} (g : Ghosts W) where
       (fails_by g.takes_memory P _ _ w.stops.part e w.stops.cause)
 
   -- a piece after a head
-  pub piece_ok : (piece : List ℕ) {mid new : W} (u : Unit {0}) → Writes {A = Unit {0}} g piece mid new (Ok u) → WritesBehind g piece mid new (Ok tt)
+  pub piece_ok : (piece : List ℕ) {mid new : W} (u : Unit {0}) → Writes {A = Unit {0}} g piece mid new (Ok u) → WritesAfter g piece mid new (Ok tt)
   piece_ok piece {mid} {new} u w = λ front old some p. wire_part (Unit {0}) (front ++ piece) (Ok tt) tt
       (puts_both {B = Unit {0}} {u = tt} (record { whole = p.whole; sound = p.no_fault; stops = tt }) w)
 
   pub piece_err : (piece : List ℕ) {mid new : W} (e : ValueWriteError) → Writes {A = Unit {0}} g piece mid new (Err e)
-      → WritesBehind g piece mid new (Err (error_of (past_first e)))
+      → WritesAfter g piece mid new (Err (error_of (past_first e)))
   piece_err piece {mid} {new} e w = λ front old some p. wire_part (Unit {0}) (front ++ piece) (Err (past_first e)) tt
       (puts_then_stop {B = Unit {0}} {u = tt} some (record { whole = p.whole; sound = p.no_fault; stops = tt }) w)
 
@@ -138,10 +138,10 @@ module _ {W : Type 0} (g : Ghosts W) where
   signed_tree z z' {old} {new} r e f is w = wire_tree g (whole z') r is (signed_fits z' f) (subst (λ n. Writes g (canon_head (Whole n)) old new r) e w)
 
   -- a text, from its head and its bytes
-  pub text_behind : {m : Bool} {P : Type 0} {old new : W} {r : Result (Unit {0}) Error} → P → (s : List ℕ) → length s < 2 ^ 32 → IsBytes s
+  pub text_after : {m : Bool} {P : Type 0} {old new : W} {r : Result (Unit {0}) Error} → P → (s : List ℕ) → length s < 2 ^ 32 → IsBytes s
       → WritesPart g m P (canon_head (Text (length s)) ++ s) old new r → WritesTree g m (Some (text s)) old new r
   unfolding HasTree spell fits_head
-  text_behind p s lt b w = part_as g (λ t. t) (λ _. (lt, b)) (λ _. p) (λ _. refl) w
+  text_after p s lt b w = part_as g (λ t. t) (λ _. (lt, b)) (λ _. p) (λ _. refl) w
 
   -- an extension, from its head and its bytes
   pub ext_as : {m : Bool} {P : Type 0} {old new : W} {r : Result (Unit {0}) Error} (n : ℕ) (z z' : ℤ) → z ≡ z' → WritesPart g m P (ext_head n z) old new r

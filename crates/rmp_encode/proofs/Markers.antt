@@ -12,7 +12,7 @@ use Rattle.rmp_encode.specs.Markers.{BeforeValue}
 use Rattle.rmp_encode.specs.Writes.{AppendsSome, FirstAtMarker, WritesPart}
 
 module _ {W : Type 0} (g : Ghosts W) where
-  -- an item in front of the value failed
+  -- an item before the value failed
   pub before_first : (items : List (List ℕ)) (old new : W) (e : Error) → FirstAtMarker g {A = Unit {0}} items old new (Err e)
       → BeforeValue g {A = Unit {0}} items old new (Err e)
   before_first items old new (errors.InvalidValueWrite (wire.InvalidMarkerWrite fault)) h = inl h

@@ -41,10 +41,10 @@ first_numbers f bs i d old mid new lt all none = record {
       (Appends-trans old mid new (flat_map f (take i bs)) [] all none);
 }
 
--- an item in front of the others
-first_behind : (item : List ℕ) (items : List (List ℕ)) (old mid new : Option (List ℕ)) → Appends old mid item → AppendsFirst items mid new
+-- an item before the others
+first_after : (item : List ℕ) (items : List (List ℕ)) (old mid new : Option (List ℕ)) → Appends old mid item → AppendsFirst items mid new
     → AppendsFirst (item ∷ items) old new
-first_behind item items old mid new one h = record {
+first_after item items old mid new one h = record {
   front = item ∷ h.front;
   next = h.next;
   rest = h.rest;
@@ -82,18 +82,18 @@ module _ {W : Type 0} (g : Ghosts W) where
   marker_first item items old new (Err errors.OutOfMemory) none = tt
 
   -- the first item is whole
-  pub marker_behind : {m : Bool} (item : List ℕ) (items : List (List ℕ)) {old mid : W} (new : W) {u : Unit {0}} (r : Result (Unit {0}) Error)
+  pub marker_after : {m : Bool} (item : List ℕ) (items : List (List ℕ)) {old mid : W} (new : W) {u : Unit {0}} (r : Result (Unit {0}) Error)
       → WritesPart g m (Unit {0}) item old mid (Ok u) → FirstAtMarker g items mid new r → FirstAtMarker g (item ∷ items) old new r
-  marker_behind item items new (Ok u) w h = tt
-  marker_behind item items {old} {mid} new (Err (errors.InvalidValueWrite (wire.InvalidMarkerWrite fault))) w h =
-      first_behind item items (g.told old) (g.told mid) (g.told new) w.whole h
-  marker_behind item items new (Err (errors.InvalidValueWrite (wire.InvalidDataWrite fault))) w h = tt
-  marker_behind item items new (Err (errors.InvalidValueWrite wire.OutOfMemory)) w h = tt
-  marker_behind item items new (Err errors.UnknownLength) w h = tt
-  marker_behind item items new (Err (errors.InvalidDataModel t)) w h = tt
-  marker_behind item items new (Err errors.DepthLimitExceeded) w h = tt
-  marker_behind item items new (Err (errors.Syntax t)) w h = tt
-  marker_behind item items new (Err errors.OutOfMemory) w h = tt
+  marker_after item items new (Ok u) w h = tt
+  marker_after item items {old} {mid} new (Err (errors.InvalidValueWrite (wire.InvalidMarkerWrite fault))) w h =
+      first_after item items (g.told old) (g.told mid) (g.told new) w.whole h
+  marker_after item items new (Err (errors.InvalidValueWrite (wire.InvalidDataWrite fault))) w h = tt
+  marker_after item items new (Err (errors.InvalidValueWrite wire.OutOfMemory)) w h = tt
+  marker_after item items new (Err errors.UnknownLength) w h = tt
+  marker_after item items new (Err (errors.InvalidDataModel t)) w h = tt
+  marker_after item items new (Err errors.DepthLimitExceeded) w h = tt
+  marker_after item items new (Err (errors.Syntax t)) w h = tt
+  marker_after item items new (Err errors.OutOfMemory) w h = tt
 
   -- one more was written
   pub number_more : (f : ℕ → List ℕ) {m : Bool} (bs : List ℕ) (i d : ℕ) {old mid new : W} {u v : Unit {0}} → i < length bs

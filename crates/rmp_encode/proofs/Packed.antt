@@ -16,7 +16,7 @@ use Rattle.rmp_encode.specs.Data.{Data}
 use Rattle.rmp_encode.specs.Going.{done}
 use Rattle.rmp_encode.specs.Slices.{number_of}
 use Rattle.rmp_encode.specs.Trees.{HasTree, spell}
-use Rattle.rmp_encode.specs.Writes.{WritesBehind, WritesPart, WritesTree}
+use Rattle.rmp_encode.specs.Writes.{WritesAfter, WritesPart, WritesTree}
 use Rattle.rmp_encode.proofs.Parts.{part_any, part_as, part_stops}
 
 -- each value has a number
@@ -53,7 +53,7 @@ more_some : (a b : List ℕ) → 0 < length a → 0 < length (a ++ b)
 more_some a b lt = let n = length-append a b in omega (arith, n, lt)
 
 module _ {W : Type 0} (g : Ghosts W) where
-  -- of the spelling of all of these values, the bytes in front of the numbers of those that are left were written
+  -- of the spelling of all of these values, the bytes before the numbers of those that are left were written
   pub record Written {X : Type 0} (f : X → Option Data) (all left : List X) (old now : W) : Type 0 where
     pub front : List ℕ
     pub some : 0 < length front
@@ -72,7 +72,7 @@ module _ {W : Type 0} (g : Ghosts W) where
 
   -- and a piece more
   pub written_more : {X : Type 0} {f : X → Option Data} {all left after : List X} {old mid new : W} {u : Unit {0}} {piece : List ℕ} (now : List X)
-      → left ≡ now ++ after → piece ≡ map number_of (map f now) → WritesBehind g piece mid new (Ok u) → Written f all left old mid
+      → left ≡ now ++ after → piece ≡ map number_of (map f now) → WritesAfter g piece mid new (Ok u) → Written f all left old mid
       → Written f all after old new
   written_more {f} {left} {after} {old} {piece} now split is w h = record {
     front = h.front ++ piece;
@@ -112,7 +112,7 @@ module _ {W : Type 0} (g : Ghosts W) where
   -- a piece failed
   pub piece_fails : {X : Type 0} {f : X → Option Data} {all left : List X} {old mid new : W} {e : Error} {piece : List ℕ} (now after : List X)
       → left ≡ now ++ after → piece ≡ map number_of (map f now) → length all < 2 ^ 32 → IsBytes (map number_of (map f all))
-      → WritesBehind g piece mid new (Err e) → Written f all left old mid
+      → WritesAfter g piece mid new (Err e) → Written f all left old mid
       → WritesTree g {A = Unit {0}} g.takes_memory (Some (bin (map number_of (map f all)))) old new (Err e)
   piece_fails {f} {all} {left} {old} {piece} now after split is lt small w h =
       let k = as_many f all in

@@ -51,7 +51,7 @@ use Rattle.rmp_encode.specs.Tuples.{items_kept, OpenTuple, IsProbing, IsTupling,
 use Rattle.rmp_encode.proofs.Parts.{or_second, part_any, part_as, part_nothing, part_refused, part_takes}
 use Rattle.rmp_encode.proofs.Lists.{made_list}
 use Rattle.rmp_encode.proofs.Going.{all_append, made_as, made_of, made_sure, made_ended, made_stopped, goes}
-use Rattle.rmp_encode.proofs.Numbers.{marker_behind, marker_first}
+use Rattle.rmp_encode.proofs.Numbers.{marker_after, marker_first}
 use Rattle.rmp_encode.proofs.Packing.{byte_from, tuple_can, plain_by, plain_mode, is_force_all, bytes_tree, list_tree}
 
 has_byte : (s : Settings) (b : ℕ) → b < 256 → Has s (a_byte b)
@@ -268,4 +268,4 @@ module _ {W : Type 0} (g : Ghosts W) where
       → FirstAtMarker g (map number_head v.items) mid new r → FirstAtMarker g (items_kept k len) old new r
   marker_numbers v len {k} listed is {old} new r w h = subst (λ l. FirstAtMarker g l old new r)
       (sym (ap (λ x. items_kept x len) is ∙ items_listed v len listed))
-      (marker_behind g (head_at false len) (map number_head v.items) new r w h)
+      (marker_after g (head_at false len) (map number_head v.items) new r w h)

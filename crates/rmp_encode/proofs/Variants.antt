@@ -67,49 +67,49 @@ use Rattle.rmp_encode.proofs.Going.{made_as, goes, closes}
 use Rattle.rmp_encode.proofs.Lists.{made_list}
 
 -- its content's tree, after a name
-abbrev behind : List ℕ → Option Msg → Option Msg
-behind name t = option_map (variant name) t
+abbrev following : List ℕ → Option Msg → Option Msg
+following name t = option_map (variant name) t
 
-behind_may : (name : List ℕ) (t : Option Msg) → length name < 2 ^ 32 → IsBytes name → HasTree t → HasTree (behind name t)
+after_may : (name : List ℕ) (t : Option Msg) → length name < 2 ^ 32 → IsBytes name → HasTree t → HasTree (following name t)
 unfolding HasTree fits_head
-behind_may name None lt b h = h
-behind_may name (Some m) lt b h = (omega arith, ((lt, b), h, tt))
+after_may name None lt b h = h
+after_may name (Some m) lt b h = (omega arith, ((lt, b), h, tt))
 
-behind_can : (name : List ℕ) (t : Option Msg) → HasTree (behind name t) → (length name < 2 ^ 32) × HasTree t
+after_can : (name : List ℕ) (t : Option Msg) → HasTree (following name t) → (length name < 2 ^ 32) × HasTree t
 unfolding HasTree fits_head
-behind_can name None h = absurd h
-behind_can name (Some m) h = (h.1.0.0, h.1.1)
+after_can name None h = absurd h
+after_can name (Some m) h = (h.1.0.0, h.1.1)
 
-behind_text : (name : List ℕ) (t : Option Msg) → HasTree (behind name t) → variant_head name ++ spell t ≡ spell (behind name t)
+after_text : (name : List ℕ) (t : Option Msg) → HasTree (following name t) → variant_head name ++ spell t ≡ spell (following name t)
 unfolding HasTree spell
-behind_text name None h = absurd h
-behind_text name (Some m) h = append_assoc (map_head 1) (canon (msg.text name)) (canon m)
+after_text name None h = absurd h
+after_text name (Some m) h = append_assoc (map_head 1) (canon (msg.text name)) (canon m)
     ∙ ap (λ l. map_head 1 ++ (canon (msg.text name) ++ l)) (sym (append-nil (canon m)))
 
 -- what the content is made of, after the name
-pub made_behind : {s : Settings} {t : Option Msg} {P : Type 0} {head : List ℕ} {parts : List (Option Data)} (name : List ℕ) → IsBytes name
+pub made_after : {s : Settings} {t : Option Msg} {P : Type 0} {head : List ℕ} {parts : List (Option Data)} (name : List ℕ) → IsBytes name
     → IsMadeOf s t P head parts
-    → IsMadeOf s (behind name t) ((length name < 2 ^ 32) × P) (variant_head name ++ head) parts
-made_behind {s} {t} {P} {head} {parts} name b h = record {
-  may = λ p a. behind_may name t p.0 b (h.may p.1 a);
-  can = λ k. let n = behind_can name t k in let a = h.can n.1 in ((n.0, a.0), a.1);
-  text = λ k. append_assoc (variant_head name) head (flat_map (spelling s) parts) ∙ ap (λ l. variant_head name ++ l) (h.text (behind_can name t k).1)
-      ∙ behind_text name t k;
+    → IsMadeOf s (following name t) ((length name < 2 ^ 32) × P) (variant_head name ++ head) parts
+made_after {s} {t} {P} {head} {parts} name b h = record {
+  may = λ p a. after_may name t p.0 b (h.may p.1 a);
+  can = λ k. let n = after_can name t k in let a = h.can n.1 in ((n.0, a.0), a.1);
+  text = λ k. append_assoc (variant_head name) head (flat_map (spelling s) parts) ∙ ap (λ l. variant_head name ++ l) (h.text (after_can name t k).1)
+      ∙ after_text name t k;
 }
 
-newtype_tree : (s : Settings) (name : List ℕ) (d : Option Data) → tree_of s (newtype_variant_of name d) ≡ behind name (tree_of s d)
+newtype_tree : (s : Settings) (name : List ℕ) (d : Option Data) → tree_of s (newtype_variant_of name d) ≡ following name (tree_of s d)
 unfolding newtype_variant_of lower
 newtype_tree s name None = refl
 newtype_tree s name (Some d) = refl
 
 tuple_tree_at : (s : Settings) (name : List ℕ) (o : Option Parts)
-    → tree_of s (option_map (tuple_variant name) o) ≡ behind name (tree_of s (option_map sequence o))
+    → tree_of s (option_map (tuple_variant name) o) ≡ following name (tree_of s (option_map sequence o))
 unfolding lower
 tuple_tree_at s name None = refl
 tuple_tree_at s name (Some ds) = refl
 
 struct_tree_at : (s : Settings) (name : List ℕ) (o : Option Fields)
-    → tree_of s (option_map (struct_variant name) o) ≡ behind name (tree_of s (option_map structure o))
+    → tree_of s (option_map (struct_variant name) o) ≡ following name (tree_of s (option_map structure o))
 unfolding lower
 struct_tree_at s name None = refl
 struct_tree_at s name (Some fs) = refl
@@ -121,7 +121,7 @@ pub made_newtype : (s : Settings) (name : List ℕ) (d : Option Data) → IsByte
     → IsMadeOf s (tree_of s (newtype_variant_of name d)) ((length name < 2 ^ 32) × Unit {0}) (variant_head name) (d ∷ [])
 made_newtype s name d b =
     subst (λ l. IsMadeOf s (tree_of s (newtype_variant_of name d)) ((length name < 2 ^ 32) × Unit {0}) l (d ∷ [])) (append-nil (variant_head name))
-    (made_as (newtype_tree s name d) (made_behind name b (made_one s d)))
+    (made_as (newtype_tree s name d) (made_after name b (made_one s d)))
 
 -- the last part was written, or failed
 pub last_written : {W C : Type 0} (g : Ghosts W) (m : Settings → Bool) (d : Settings
@@ -134,13 +134,13 @@ last_written g m d old now now' (Err e) k w {t} h = goes g m d now now' (Err e) 
 pub made_tuple_variant : (s : Settings) (name : List ℕ) (n : ℕ) (ds : List (Option Data)) → IsBytes name → length ds ≡ n
     → IsMadeOf s (tree_of s (tuple_variant_of name ds)) ((length name < 2 ^ 32) × (n < 2 ^ 32)) (variant_head name ++ head_at false n) ds
 unfolding tuple_variant_of sequence_of
-made_tuple_variant s name n ds b e = made_as (tuple_tree_at s name (parts_of ds)) (made_behind name b (made_list s n ds e))
+made_tuple_variant s name n ds b e = made_as (tuple_tree_at s name (parts_of ds)) (made_after name b (made_list s n ds e))
 
 pub made_struct_variant : (s : Settings) (name : List ℕ) (n : ℕ) (fs : List (List ℕ × Option Data)) → IsBytes name → length fs ≡ n
     → IsMadeOf s (tree_of s (struct_variant_of name fs)) ((length name < 2 ^ 32) × (n < 2 ^ 32)) (variant_head name ++ head_at s.named n)
     (flat_map (field_parts s.named) fs)
 unfolding struct_variant_of structure_of
-made_struct_variant s name n fs b e = made_as (struct_tree_at s name (fields_of fs)) (made_behind name b (made_struct s n fs e))
+made_struct_variant s name n fs b e = made_as (struct_tree_at s name (fields_of fs)) (made_after name b (made_struct s n fs e))
 
 -- no variant is a byte
 pub newtype_no_byte : (name : List ℕ) (d : Option Data) → byte_of (newtype_variant_of name d) ≡ None

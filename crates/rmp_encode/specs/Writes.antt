@@ -73,8 +73,8 @@ module _ {W : Type 0} (g : Ghosts W) where
 
   -- a later piece of an item: together with the bytes written before it, whichever they are, it is a write of
   -- both
-  abbrev pub WritesBehind : List ℕ → W → W → Result (Unit {0}) Error → Type 0
-  WritesBehind bs mid new r =
+  abbrev pub WritesAfter : List ℕ → W → W → Result (Unit {0}) Error → Type 0
+  WritesAfter bs mid new r =
       (front : List ℕ) (old : W) → 0 < length front → WritesPart {A = Unit {0}} g.takes_memory (Unit {0}) front old mid (Ok tt)
       → WritesPart g.takes_memory (Unit {0}) (front ++ bs) old new r
 

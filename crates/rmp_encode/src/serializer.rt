@@ -10,7 +10,7 @@ ghost use Rattle.rmp_encode.specs.Going.{head_at, Begins, Goes, IsWriting};
 ghost use Rattle.rmp_encode.specs.Refusals.{OfLength, OfParts, OfSink, RefusesLength};
 ghost use Rattle.rmp_encode.specs.Ser.{sink_of, settings_of, LendsSink};
 ghost use Rattle.rmp_encode.specs.Trees.{ext_head, field_parts, name_parts, number_head};
-ghost use Rattle.rmp_encode.specs.Writes.{Keeps, NoneAtMarker, NeverMarker, WritesBehind, WritesPart, WritesTree, StaysAtRefusal};
+ghost use Rattle.rmp_encode.specs.Writes.{Keeps, NoneAtMarker, NeverMarker, WritesAfter, WritesPart, WritesTree, StaysAtRefusal};
 
 mod leaves;
 
@@ -263,7 +263,7 @@ impl<W: Sink, C: SerializerConfig> Serializer<W, C> {
     // Writes bytes that follow a head. A fault is `InvalidDataWrite`.
     #[inline(always)]
     pub(crate) fn put(&mut self, piece: &[u8]) -> Result<(), Error>
-        ensures writes { WritesBehind W.Sink piece.now (sink_of self.old) (sink_of self.new) result }
+        ensures writes { WritesAfter W.Sink piece.now (sink_of self.old) (sink_of self.new) result }
         ensures marker { NeverMarker result }
         ensures error { IfErr result OfSink }
         ensures keeps { Keeps W.Sink self.old self.new }

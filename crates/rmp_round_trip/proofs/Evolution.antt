@@ -176,7 +176,7 @@ record_found s fs names b h r =
     let x = all.0 in
     let are = fields_are s fs x all.1 in
     subst (λ l. LowersTo s (structure_of fs) (λ m. fields names m ≡ Some l)) (map_same names (tree_named s x) (tree_in s fs) are.1)
-    (struct_found s names fs x all.1 r.named h (subst (λ l. distinct l ≡ true) (sym are.0) r.apart))
+    (struct_found s names fs x all.1 r.named h (subst (λ l. distinct l ≡ true) (sym are.0) r.differ))
 
 tree_there : (o : Option Msg) (m : Msg) (P : Msg → Type 0) → o ≡ Some m → IsSomeAnd o P → P m
 tree_there o m P e h = subst (λ p. IsSomeAnd p P) e h

@@ -25,5 +25,5 @@ found s fs names = map (tree_in s fs) names
 -- a struct of these fields, with distinct names, was written with names as these bytes
 pub record IsRecord (s : Settings) (fs : List (List ℕ × Option Data)) (bytes : List ℕ) : Type 0 where
   pub named : s.named ≡ true
-  pub apart : distinct (map (λ f. f.0) fs) ≡ true
+  pub differ : distinct (map (λ f. f.0) fs) ≡ true
   pub spelled : IsSpelled (tree_of s (structure_of fs)) bytes

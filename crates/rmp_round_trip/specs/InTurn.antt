@@ -16,7 +16,7 @@ WrittenInTurn tree (v ∷ vs) (b ∷ bs) = IsSpelled (tree v) b × WrittenInTurn
 WrittenInTurn tree [] (b ∷ bs) = ⊥
 WrittenInTurn tree (v ∷ vs) [] = ⊥
 
--- from the front of `bytes` each value was read, each from the piece at its place, and `rest` is left
+-- from `bytes` each value was read, each from the piece at its place, and `rest` remains
 abbrev pub ReadInTurn : {V : Type 0} → (Msg → V → Type 0) → List ℕ → List V → List (List ℕ) → List ℕ → Type 0
 ReadInTurn reads bytes [] [] rest = rest ≡ bytes
 ReadInTurn reads bytes (w ∷ ws) (c ∷ cs) rest =

@@ -51,9 +51,9 @@ module _ {K V : Type 0} {cmp : K → K → Ordering} (o : IsTotalOrder cmp) wher
   none_above q k e [] a = refl
   none_above q k e (f ∷ es) a = ap (λ r. cond (is_eq r) (Some f.1) (lookup (is_at (cmp q)) es)) (o.congr q k f.0 e ∙ a.0) ∙ none_above q k e es a.1
 
-  lookup_behind : (p : K → Bool) (es : List (K × V)) (k : K) (v : V) → lookup p (es ++ (k, v) ∷ []) ≡ option_or (lookup p es) (cond (p k) (Some v) None)
-  lookup_behind p [] k v = refl
-  lookup_behind p (e ∷ es) k v = found (p e.0) e.1 (lookup p (es ++ (k, v) ∷ [])) (lookup p es) (cond (p k) (Some v) None) (lookup_behind p es k v)
+  lookup_after : (p : K → Bool) (es : List (K × V)) (k : K) (v : V) → lookup p (es ++ (k, v) ∷ []) ≡ option_or (lookup p es) (cond (p k) (Some v) None)
+  lookup_after p [] k v = refl
+  lookup_after p (e ∷ es) k v = found (p e.0) e.1 (lookup p (es ++ (k, v) ∷ [])) (lookup p es) (cond (p k) (Some v) None) (lookup_after p es k v)
     where
       found : (b : Bool) (x : V) (f g z : Option V) → f ≡ option_or g z → cond b (Some x) f ≡ option_or (cond b (Some x) g) z
       found true x f g z e = refl
@@ -69,17 +69,17 @@ module _ {K V : Type 0} {cmp : K → K → Ordering} (o : IsTotalOrder cmp) wher
   first_or_last q k v es Equal e a = sym (ap (λ f. option_or f (Some v)) (none_above q k e es a))
   first_or_last q k v es Greater e a = or_none _
 
-  -- of keys in order each is found from behind too
-  from_behind : (q : K) (es : List (K × V)) → IsStrictlySortedBy cmp (keys_of es) → lookup (is_at (cmp q)) es ≡ lookup (is_at (cmp q)) (reverse es)
+  -- of keys in order each is found from the end too
+  from_after : (q : K) (es : List (K × V)) → IsStrictlySortedBy cmp (keys_of es) → lookup (is_at (cmp q)) es ≡ lookup (is_at (cmp q)) (reverse es)
   unfolding IsStrictlySortedBy
-  from_behind q [] h = refl
-  from_behind q (e ∷ es) h =
+  from_after q [] h = refl
+  from_after q (e ∷ es) h =
       first_or_last q e.0 e.1 es (cmp q e.0) refl h.0
-      ∙ ap (λ f. option_or f (cond (is_eq (cmp q e.0)) (Some e.1) None)) (from_behind q es h.1)
-      ∙ sym (ap (lookup (is_at (cmp q))) (reverse-append (e ∷ []) es) ∙ lookup_behind (is_at (cmp q)) (reverse es) e.0 e.1)
+      ∙ ap (λ f. option_or f (cond (is_eq (cmp q e.0)) (Some e.1) None)) (from_after q es h.1)
+      ∙ sym (ap (lookup (is_at (cmp q))) (reverse-append (e ∷ []) es) ∙ lookup_after (is_at (cmp q)) (reverse es) e.0 e.1)
 
   pub same_entries : (es : List (K × V)) → IsStrictlySortedBy cmp (keys_of es) → Collects cmp es es
-  same_entries es h = record { ordered = h; first = λ q. refl; last = λ q. from_behind q es h }
+  same_entries es h = record { ordered = h; first = λ q. refl; last = λ q. from_after q es h }
 
 module _ (s : Settings) where
   pub set_row : {K : Type 0} (k : K → Option Data) (is_key : K → Type 0) (keys : Msg → K → Type 0)

@@ -76,9 +76,9 @@ is_false true h = absurd (h refl)
 is_false false h = refl
 
 -- a name that is new among others is none of them
-new_apart : (front : List (List ℕ)) (n p : List ℕ) (names : List (List ℕ)) → is_new (front ++ n ∷ names) p ≡ true → p ≡ n → ⊥
-new_apart [] n p names h e = absent_is (subst (λ b. cond b false (is_new names p) ≡ true) ((bytes_eq-Decides n p).1 (sym e)) h)
-new_apart (q ∷ front) n p names h e = new_apart front n p names (new_by (bytes_eq q p) (is_new (front ++ n ∷ names) p) h) e
+new_differs : (front : List (List ℕ)) (n p : List ℕ) (names : List (List ℕ)) → is_new (front ++ n ∷ names) p ≡ true → p ≡ n → ⊥
+new_differs [] n p names h e = absent_is (subst (λ b. cond b false (is_new names p) ≡ true) ((bytes_eq-Decides n p).1 (sym e)) h)
+new_differs (q ∷ front) n p names h e = new_differs front n p names (new_by (bytes_eq q p) (is_new (front ++ n ∷ names) p) h) e
 
 pub place_among : (front : List (List ℕ)) (n : List ℕ) (names : List (List ℕ)) → distinct (front ++ n ∷ names) ≡ true
     → place_of (front ++ n ∷ names) n ≡ Some (length front)
@@ -87,7 +87,7 @@ place_among (p ∷ front) n names h =
     let all = front ++ n ∷ names in
     let parts = both_by (is_new all p) (distinct all) h in
     ap (λ b. cond b (Some 0) (option_map suc (place_of all n)))
-    (is_false (bytes_eq p n) (λ t. new_apart front n p names parts.0 ((bytes_eq-Decides p n).0 t)))
+    (is_false (bytes_eq p n) (λ t. new_differs front n p names parts.0 ((bytes_eq-Decides p n).0 t)))
     ∙ ap (option_map suc) (place_among front n names parts.1)
 
 -- ---- the fields of a struct
@@ -112,7 +112,7 @@ module _ (s : Settings) where
   count_values no_fields = refl
   count_values (field n d x) = ap suc (count_values x)
 
-  -- the pairs of a struct's map fill the places of its names, behind those that are filled
+  -- the pairs of a struct's map fill the places of its names, after those that are filled
   met_all : (front : List (List ℕ)) (gs : List (Option Msg)) (x : Fields) → length gs ≡ length front → distinct (front ++ names_in x) ≡ true
       → met (front ++ names_in x) (gs ++ blank (names_in x)) (lower_named s x) ≡ Some (gs ++ given_all (lower_values s x))
   unfolding lower_named lower_values

@@ -7,13 +7,13 @@ use Rattle.rmp_wire.specs.Spelling.{IsBytes}
 use Rattle.rmp_wire.specs.Taking.{marker_of}
 use Rattle.rmp_wire.proofs.Taken.{bytes_parts}
 use Rattle.rmp_wire.specs.Heads.{IsHead}
-use Rattle.rmp_decode.specs.Exact.{NoneStands}
+use Rattle.rmp_decode.specs.Exact.{BeginsWithNone}
 use Rattle.rmp_decode.specs.Kinds.{content_len}
 use Rattle.rmp_decode.specs.Refuse.{HeadIsCut, ContentIsCut}
 use Rattle.rmp_scan.specs.declared.opening.Opening.{Opening}
 use Rattle.rmp_scan.specs.declared.opening.Opening.TheVariants.{Fixed, Counted, Reserved}
 use Rattle.rmp_scan.specs.Openings.{SpellsSome, opening_of, payload_of, parts_of}
-use Rattle.rmp_scan.specs.Parts.{parts_behind}
+use Rattle.rmp_scan.specs.Parts.{parts_after}
 use Rattle.rmp_scan.specs.Scans.{IsMessage, IsBeginning}
 use Rattle.rmp_scan.proofs.Completing.{nils, nils_some, nothing}
 use Rattle.rmp_scan.proofs.FirstByte.{Nodes, byte_nodes, bytes_append, length-zeros, number, zeros, zeros_bytes}
@@ -67,9 +67,9 @@ record Grown (xs : List ℕ) : Type 0 where
   pub is_node : Node node parts
   pub either : (more ≡ []) ⊎ (left ≡ [])
 
-grown_by : (b : ℕ) (behind : List ℕ) (o : Opening) → Nodes b o → IsBytes behind → b ≢ 0xc1 → Grown (b ∷ behind)
-grown_by b behind (Fixed payload parts) f own other =
-    let i = filled payload behind own in
+grown_by : (b : ℕ) (following : List ℕ) (o : Opening) → Nodes b o → IsBytes following → b ≢ 0xc1 → Grown (b ∷ following)
+grown_by b following (Fixed payload parts) f own other =
+    let i = filled payload following own in
     record {
       node = b ∷ i.front;
       more = i.more;
@@ -79,11 +79,11 @@ grown_by b behind (Fixed payload parts) f own other =
       is_node = f i.front i.long i.are_bytes;
       either = i.either;
     }
-grown_by b behind (Counted counts width) f own other =
-    let i = filled width behind own in
+grown_by b following (Counted counts width) f own other =
+    let i = filled width following own in
     let k : ℕ = payload_of counts (number 0 i.front) in
     let j = filled k i.left i.left_bytes in
-    let is : behind ++ (i.more ++ j.more) ≡ (i.front ++ j.front) ++ j.left = sym (append_assoc behind i.more j.more) ∙ ap (λ z. z ++ j.more) i.is
+    let is : following ++ (i.more ++ j.more) ≡ (i.front ++ j.front) ++ j.left = sym (append_assoc following i.more j.more) ∙ ap (λ z. z ++ j.more) i.is
     ∙ append_assoc i.front i.left j.more ∙ ap (λ z. i.front ++ z) j.is ∙ sym (append_assoc i.front j.front j.left) in
     record {
       node = b ∷ (i.front ++ j.front);
@@ -100,7 +100,7 @@ grown_by b behind (Counted counts width) f own other =
         ]
       ];
     }
-grown_by b behind Reserved f own other = absurd (other f)
+grown_by b following Reserved f own other = absurd (other f)
 
 -- ---- and so they are the beginning of a message
 
@@ -121,38 +121,38 @@ nothing_begins =
     let one = nils_some 1 in
     record { rest = nils 1; some = λ e. absurd (cc); spelled = first_message one.trees (nils 1) one.many one.spelled }
 
-node_stands : (xs node left : List ℕ) (parts : ℕ) → xs ≡ node ++ left → Node node parts → NoneStands false xs → ⊥
-node_stands xs node left parts is n none =
+node_starts : (xs node left : List ℕ) (parts : ℕ) → xs ≡ node ++ left → Node node parts → BeginsWithNone false xs → ⊥
+node_starts xs node left parts is n none =
     let b = head_byte n.head n.bytes n.is_head in
     let front : xs ≡ (b.0 ∷ b.1) ++ (n.payload ++ left) = is ∙ ap (λ z. z ++ left) n.front ∙ append_assoc n.bytes n.payload left
     ∙ ap (λ z. z ++ (n.payload ++ left)) b.2 in
     none (marker_of b.0) n.head
-    (record { byte = b.0; behind = b.1; rest = n.payload ++ left; front = front; is_marker = refl; is_head = subst (IsHead n.head) b.2 n.is_head })
+    (record { byte = b.0; following = b.1; rest = n.payload ++ left; front = front; is_marker = refl; is_head = subst (IsHead n.head) b.2 n.is_head })
 
 pub head_cut : (xs : List ℕ) → IsBytes xs → HeadIsCut xs → IsBeginning xs
 head_cut xs own c =
     let bytes = subst IsBytes c.front own in
-    let g = grown_by c.byte c.behind (opening_of (marker_of c.byte)) (byte_nodes c.byte bytes.0) bytes.1 c.opens in
+    let g = grown_by c.byte c.following (opening_of (marker_of c.byte)) (byte_nodes c.byte bytes.0) bytes.1 c.opens in
     let is : xs ++ g.more ≡ g.node ++ g.left = ap (λ z. z ++ g.more) c.front ∙ g.is in
-    let stands : g.more ≡ [] → ⊥ = λ e.
-    node_stands xs g.node g.left g.parts (sym (append-nil xs) ∙ ap (λ z. xs ++ z) (sym e) ∙ is) g.is_node c.none in
+    let starts : g.more ≡ [] → ⊥ = λ e.
+    node_starts xs g.node g.left g.parts (sym (append-nil xs) ∙ ap (λ z. xs ++ z) (sym e) ∙ is) g.is_node c.none in
     elim g.either [
-      | inl e ↦ absurd (stands e)
+      | inl e ↦ absurd (starts e)
       | inr e ↦
           node_begins xs g.more g.node g.parts (nils g.parts) (is ∙ ap (λ z. g.node ++ z) e ∙ append-nil g.node) g.is_node (nils_some g.parts)
-          (λ q. stands (nothing g.more (nils g.parts) q).0)
+          (λ q. starts (nothing g.more (nils g.parts) q).0)
     ]
 
 pub content_cut : (xs : List ℕ) → IsBytes xs → ContentIsCut false xs → IsBeginning xs
 content_cut xs own (h, c) =
-    let s = c.stands in
+    let s = c.starts in
     let short = c.short in
     let miss : ℕ = content_len h - length s.rest in
     let z : List ℕ = zeros miss in
-    let rest_bytes : IsBytes s.rest = (bytes_parts (s.byte ∷ s.behind) s.rest (subst IsBytes s.front own)).1 in
-    let node : Node ((s.byte ∷ s.behind) ++ (s.rest ++ z)) (parts_behind h) = record {
+    let rest_bytes : IsBytes s.rest = (bytes_parts (s.byte ∷ s.following) s.rest (subst IsBytes s.front own)).1 in
+    let node : Node ((s.byte ∷ s.following) ++ (s.rest ++ z)) (parts_after h) = record {
       head = h;
-      bytes = s.byte ∷ s.behind;
+      bytes = s.byte ∷ s.following;
       payload = s.rest ++ z;
       front = refl;
       is_head = s.is_head;
@@ -160,6 +160,6 @@ content_cut xs own (h, c) =
       are_bytes = bytes_append s.rest z rest_bytes (zeros_bytes miss);
       many = refl;
     } in
-    node_begins xs z ((s.byte ∷ s.behind) ++ (s.rest ++ z)) (parts_behind h) (nils (parts_behind h))
-    (ap (λ u. u ++ z) s.front ∙ append_assoc (s.byte ∷ s.behind) s.rest z) node (nils_some (parts_behind h))
-    (λ q. absurd (omega (arith, ap length (nothing z (nils (parts_behind h)) q).0, length-zeros miss, short)))
+    node_begins xs z ((s.byte ∷ s.following) ++ (s.rest ++ z)) (parts_after h) (nils (parts_after h))
+    (ap (λ u. u ++ z) s.front ∙ append_assoc (s.byte ∷ s.following) s.rest z) node (nils_some (parts_after h))
+    (λ q. absurd (omega (arith, ap length (nothing z (nils (parts_after h)) q).0, length-zeros miss, short)))

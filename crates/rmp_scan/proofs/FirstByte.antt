@@ -17,7 +17,7 @@ use Rattle.rmp_wire.proofs.Reading.{reserved_opens_none}
 use Rattle.rmp_wire.proofs.Spellings.{spells_all_bytes}
 use Rattle.rmp_wire.proofs.Taken.{bytes_parts, head_after_took}
 use Rattle.rmp_decode.specs.Kinds.{content_len}
-use Rattle.rmp_scan.specs.Parts.{parts_behind}
+use Rattle.rmp_scan.specs.Parts.{parts_after}
 use Rattle.rmp_scan.specs.declared.opening.Counts.{Counts}
 use Rattle.rmp_scan.specs.declared.opening.Counts.TheVariants.{Payload, Extension, Items, Pairs}
 use Rattle.rmp_scan.specs.declared.opening.Opening.{Opening}
@@ -25,7 +25,7 @@ use Rattle.rmp_scan.specs.declared.opening.Opening.TheVariants.{Fixed, Counted, 
 use Rattle.rmp_scan.specs.Openings.{SpellsSome, IsPayload, WantsPayload, WantsLength, payload_of, parts_of, opening_of, Opens}
 use Rattle.rmp_scan.proofs.Rows.{Node, node_some, node_first, some_head}
 
--- ---- zeros, which stand for bytes that are to come
+-- ---- zeros, in place of bytes that are to come
 
 abbrev pub zeros : ℕ → List ℕ
 zeros zero = []
@@ -45,7 +45,7 @@ bytes_append (x ∷ a) b p q = (p.0, bytes_append a b p.1 q)
 
 -- ---- nodes by the first byte
 
-took_node : (m : Marker) (t x : List ℕ) (h : Head) → IsBytes t → head_after m t ≡ Some (h, x) → length x ≡ content_len h → Node (byte_of m ∷ t) (parts_behind h)
+took_node : (m : Marker) (t x : List ℕ) (h : Head) → IsBytes t → head_after m t ≡ Some (h, x) → length x ≡ content_len h → Node (byte_of m ∷ t) (parts_after h)
 took_node m t x h b e l =
     let k = head_after_took m t h x b e in
     record {
@@ -71,12 +71,12 @@ number_whole w q l = ap (take_number w) (sym (append-nil q)) ∙ number_gives w 
 abbrev Fixes : Marker → ℕ → ℕ → Type 0
 Fixes m payload parts = (t : List ℕ) → length t ≡ payload → IsBytes t → Node (byte_of m ∷ t) parts
 
-alone : (m : Marker) (h : Head) (payload parts : ℕ) → ((s : List ℕ) → head_after m s ≡ Some (h, s)) → payload ≡ content_len h → parts_behind h ≡ parts
+alone : (m : Marker) (h : Head) (payload parts : ℕ) → ((s : List ℕ) → head_after m s ≡ Some (h, s)) → payload ≡ content_len h → parts_after h ≡ parts
     → Fixes m payload parts
 alone m h payload parts e c p = λ t l b. subst (Node (byte_of m ∷ t)) p (took_node m t t h b (e t) (l ∙ c))
 
 wide : (m : Marker) (w : Width) (f : ℕ → Head) → ((s : List ℕ) → head_after m s ≡ take_map f (take_number w s)) → ((n : ℕ) → content_len (f n) ≡ 0)
-    → ((n : ℕ) → parts_behind (f n) ≡ 0) → Fixes m (byte_len w) 0
+    → ((n : ℕ) → parts_after (f n) ≡ 0) → Fixes m (byte_len w) 0
 wide m w f e c p = λ t l b.
     let n : ℕ = from_be_bytes w t in
     subst (Node (byte_of m ∷ t)) (p n) (took_node m t [] (f n) b (e t ∙ ap (take_map f) (number_whole w t l)) (sym (c n)))
@@ -119,7 +119,7 @@ number_32 (a ∷ b ∷ c ∷ d ∷ []) l = omega arith
 number_32 (a ∷ b ∷ c ∷ d ∷ e ∷ q) l = absurd (omega arith)
 
 counted : (m : Marker) (counts : Counts) (w : Width) (f : ℕ → Head) → IsNumber w → ((s : List ℕ) → head_after m s ≡ take_map f (take_number w s))
-    → ((n : ℕ) → content_len (f n) ≡ payload_of counts n) → ((n : ℕ) → parts_behind (f n) ≡ parts_of counts n) → Lengthens m counts (byte_len w)
+    → ((n : ℕ) → content_len (f n) ≡ payload_of counts n) → ((n : ℕ) → parts_after (f n) ≡ parts_of counts n) → Lengthens m counts (byte_len w)
 counted m counts w f is e c p = λ q s l k b d.
     let n : ℕ = from_be_bytes w q in
     let same : n ≡ number 0 q = is q l in
@@ -218,20 +218,20 @@ opens_counted m counts width f n r = (
   λ s.
       let z : List ℕ = zeros width in
       let q : List ℕ = take width (r ++ z) in
-      let behind : List ℕ = drop width (r ++ z) in
-      let split : q ++ behind ≡ r ++ z = take-append-drop width (r ++ z) in
+      let following : List ℕ = drop width (r ++ z) in
+      let split : q ++ following ≡ r ++ z = take-append-drop width (r ++ z) in
       let long : length q ≡ width = length-take-le width (r ++ z) (omega (arith, length-append r z, length-zeros width)) in
       let k : ℕ = payload_of counts (number 0 q) in
       let x : List ℕ = zeros k in
-      let t : List ℕ = take k (behind ++ x) in
-      let y : List ℕ = drop k (behind ++ x) in
-      let split_2 : t ++ y ≡ behind ++ x = take-append-drop k (behind ++ x) in
-      let long_2 : length t ≡ k = length-take-le k (behind ++ x) (omega (arith, length-append behind x, length-zeros k)) in
+      let t : List ℕ = take k (following ++ x) in
+      let y : List ℕ = drop k (following ++ x) in
+      let split_2 : t ++ y ≡ following ++ x = take-append-drop k (following ++ x) in
+      let long_2 : length t ≡ k = length-take-le k (following ++ x) (omega (arith, length-append following x, length-zeros k)) in
       let all : IsBytes (r ++ z) = bytes_append r z (bytes_of (suc n) (byte_of m ∷ r) s).1 (zeros_bytes width) in
-      let parted = bytes_parts q behind (subst IsBytes (sym split) all) in
-      let own : IsBytes t = (bytes_parts t y (subst IsBytes (sym split_2) (bytes_append behind x parted.1 (zeros_bytes k)))).0 in
+      let parted = bytes_parts q following (subst IsBytes (sym split) all) in
+      let own : IsBytes t = (bytes_parts t y (subst IsBytes (sym split_2) (bytes_append following x parted.1 (zeros_bytes k)))).0 in
       let node = f q t long long_2 parted.0 own in
-      let same : r ++ (z ++ x) ≡ (q ++ t) ++ y = sym (append_assoc r z x) ∙ ap (λ u. u ++ x) (sym split) ∙ append_assoc q behind x
+      let same : r ++ (z ++ x) ≡ (q ++ t) ++ y = sym (append_assoc r z x) ∙ ap (λ u. u ++ x) (sym split) ∙ append_assoc q following x
       ∙ ap (λ u. q ++ u) (sym split_2) ∙ sym (append_assoc q t y) in
       let a = node_first (byte_of m ∷ (q ++ t)) (byte_of m ∷ r) y (z ++ x) (parts_of counts (number 0 q)) n node s (ap (λ u. byte_of m ∷ u) same) in
       let is : r ≡ q ++ (t ++ a.rest) = tail_is (byte_of m) r ((q ++ t) ++ a.rest) a.front ∙ append_assoc q t a.rest in
@@ -247,7 +247,7 @@ opens_counted m counts width f n r = (
 pub reserved : (n : ℕ) (r : List ℕ) → SpellsSome (suc n) (byte_of marker.Reserved ∷ r) → ⊥
 reserved n r s =
     let h = some_head n (byte_of marker.Reserved ∷ r) s in
-    reserved_opens_none h.head h.behind (subst (λ z. IsHead h.head (z ∷ h.behind)) (first_is h.byte (byte_of marker.Reserved) _ r (sym h.front)) h.is_head)
+    reserved_opens_none h.head h.following (subst (λ z. IsHead h.head (z ∷ h.following)) (first_is h.byte (byte_of marker.Reserved) _ r (sym h.front)) h.is_head)
 
 -- a first byte that tells its length, with so many bytes more, is a head with its payload, and one whose length follows with that and its payload
 abbrev pub Nodes : ℕ → Opening → Type 0

@@ -27,10 +27,10 @@ use Rattle.rmp_wire.specs.Msg.{
 }
 use Rattle.rmp_wire.specs.Spelling.{IsBytes, Spells, SpellsAll, SpellsPairs, head_of}
 use Rattle.rmp_wire.proofs.Canon.{canon_head_least}
-use Rattle.rmp_wire.proofs.Heads.{heads_apart}
+use Rattle.rmp_wire.proofs.Heads.{heads_differ}
 use Rattle.rmp_wire.proofs.Writing.{head_some}
 use Rattle.rmp_decode.specs.Kinds.{content_len}
-use Rattle.rmp_scan.specs.Parts.{parts_behind}
+use Rattle.rmp_scan.specs.Parts.{parts_after}
 use Rattle.rmp_scan.specs.Openings.{SpellsSome}
 
 -- ---- rows
@@ -153,7 +153,7 @@ pub record Node (xs : List ℕ) (parts : ℕ) : Type 0 where
   pub is_head : IsHead head bytes
   pub long : length payload ≡ content_len head
   pub are_bytes : IsBytes payload
-  pub many : parts ≡ parts_behind head
+  pub many : parts ≡ parts_after head
 
 pub none_of : (s : List ℕ) → length s ≡ 0 → s ≡ []
 none_of [] l = refl
@@ -172,7 +172,7 @@ one_more m b r n k s q e = record {
 none_more : (n : ℕ) → 0 + n ≡ n
 none_more n = omega arith
 
-built : (h : Head) (a s r : List ℕ) (n : ℕ) → IsHead h a → length s ≡ content_len h → IsBytes s → SpellsSome (parts_behind h + n) r
+built : (h : Head) (a s r : List ℕ) (n : ℕ) → IsHead h a → length s ≡ content_len h → IsBytes s → SpellsSome (parts_after h + n) r
     → SpellsSome (suc n) ((a ++ s) ++ r)
 built Nil a s r n i l b q = one_more nil (a ++ s) r n _ (bare Nil a s i l) q (none_more n)
 built (Truth t) a s r n i l b q = one_more (truth t) (a ++ s) r n _ (bare (Truth t) a s i l) q (none_more n)
@@ -211,7 +211,7 @@ built (Map k) a s r n i l b q =
     (record { trees = p.others; many = p.left; spelled = p.others_spelled }) refl in
     subst (SpellsSome (suc n)) (append_assoc (a ++ s) p.first p.second ∙ ap (λ z. (a ++ s) ++ z) (sym p.split)) m
 
--- the parts and the others behind a node make one message more
+-- the parts and the others after a node make one message more
 pub node_some : (xs r : List ℕ) (parts n : ℕ) → Node xs parts → SpellsSome (parts + n) r → SpellsSome (suc n) (xs ++ r)
 node_some xs r parts n d q =
     subst (λ z. SpellsSome (suc n) (z ++ r)) (sym d.front)
@@ -233,12 +233,12 @@ record Own (m : Msg) (b : List ℕ) : Type 0 where
   pub front : b ≡ (bytes ++ payload) ++ rest
   pub is_head : IsHead (head_of m) bytes
   pub long : length payload ≡ content_len (head_of m)
-  pub parts : SpellsSome (parts_behind (head_of m)) rest
+  pub parts : SpellsSome (parts_after (head_of m)) rest
 
 no_parts : SpellsSome 0 []
 no_parts = record { trees = no_items; many = refl; spelled = refl }
 
-own_leaf : (m : Msg) (b : List ℕ) → IsHead (head_of m) b → content_len (head_of m) ≡ 0 → parts_behind (head_of m) ≡ 0 → Own m b
+own_leaf : (m : Msg) (b : List ℕ) → IsHead (head_of m) b → content_len (head_of m) ≡ 0 → parts_after (head_of m) ≡ 0 → Own m b
 own_leaf m b i l p = record {
   bytes = b;
   payload = [];
@@ -249,7 +249,7 @@ own_leaf m b i l p = record {
   parts = subst (λ z. SpellsSome z []) (sym p) no_parts;
 }
 
-own_text : (m : Msg) (b a s t : List ℕ) → IsHead (head_of m) a → s ≡ t → b ≡ a ++ s → content_len (head_of m) ≡ length t → parts_behind (head_of m) ≡ 0 → Own m b
+own_text : (m : Msg) (b a s t : List ℕ) → IsHead (head_of m) a → s ≡ t → b ≡ a ++ s → content_len (head_of m) ≡ length t → parts_after (head_of m) ≡ 0 → Own m b
 own_text m b a s t i c e l p = record {
   bytes = a;
   payload = s;
@@ -260,7 +260,7 @@ own_text m b a s t i c e l p = record {
   parts = subst (λ z. SpellsSome z []) (sym p) no_parts;
 }
 
-own_parts : (m : Msg) (b a s : List ℕ) → IsHead (head_of m) a → b ≡ a ++ s → content_len (head_of m) ≡ 0 → SpellsSome (parts_behind (head_of m)) s → Own m b
+own_parts : (m : Msg) (b a s : List ℕ) → IsHead (head_of m) a → b ≡ a ++ s → content_len (head_of m) ≡ 0 → SpellsSome (parts_after (head_of m)) s → Own m b
 own_parts m b a s i e l q = record {
   bytes = a;
   payload = [];
@@ -329,24 +329,24 @@ node_first xs ys y z parts n d q e =
     let l1 : ys ++ z ≡ o.bytes ++ (o.payload ++ tail) = ap (λ t. t ++ z) left ∙ append_assoc (o.bytes ++ o.payload) (o.rest ++ s.second) z
     ∙ append_assoc o.bytes o.payload tail in
     let l2 : xs ++ y ≡ d.bytes ++ (d.payload ++ y) = ap (λ t. t ++ y) d.front ∙ append_assoc d.bytes d.payload y in
-    let u = heads_apart (head_of s.tree) d.head o.bytes d.bytes (o.payload ++ tail) (d.payload ++ y) o.is_head d.is_head (sym l1 ∙ e ∙ l2) in
+    let u = heads_differ (head_of s.tree) d.head o.bytes d.bytes (o.payload ++ tail) (d.payload ++ y) o.is_head d.is_head (sym l1 ∙ e ∙ l2) in
     let v = same_front o.payload d.payload tail y (o.long ∙ ap content_len u.0 ∙ sym d.long) u.2 in
     let same : o.bytes ++ o.payload ≡ xs = ap (λ t. t ++ o.payload) u.1 ∙ ap (λ t. d.bytes ++ t) v.0 ∙ sym d.front in
-    let many : parts_behind (head_of s.tree) ≡ parts = ap parts_behind u.0 ∙ sym d.many in
+    let many : parts_after (head_of s.tree) ≡ parts = ap parts_after u.0 ∙ sym d.many in
     record {
       rest = o.rest ++ s.second;
       front = left ∙ ap (λ t. t ++ (o.rest ++ s.second)) same;
-      some = subst (λ t. SpellsSome (t + n) (o.rest ++ s.second)) many (some-append (parts_behind (head_of s.tree)) n o.rest s.second o.parts s.others);
+      some = subst (λ t. SpellsSome (t + n) (o.rest ++ s.second)) many (some-append (parts_after (head_of s.tree)) n o.rest s.second o.parts s.others);
     }
 
 -- the first byte of messages is a head's
 pub record FirstHead (ys : List ℕ) : Type 0 where
   pub head : Head
   pub byte : ℕ
-  pub behind : List ℕ
+  pub following : List ℕ
   pub rest : List ℕ
-  pub front : ys ≡ byte ∷ (behind ++ rest)
-  pub is_head : IsHead head (byte ∷ behind)
+  pub front : ys ≡ byte ∷ (following ++ rest)
+  pub is_head : IsHead head (byte ∷ following)
 
 pub some_head : (n : ℕ) (ys : List ℕ) → SpellsSome (suc n) ys → FirstHead ys
 some_head n ys q =
@@ -357,7 +357,7 @@ some_head n ys q =
     record {
       head = head_of s.tree;
       byte = b.0;
-      behind = b.1;
+      following = b.1;
       rest = tail;
       front = s.front ∙ ap (λ t. t ++ s.second) (o.front ∙ append_assoc o.bytes o.payload o.rest) ∙ append_assoc o.bytes (o.payload ++ o.rest) s.second
           ∙ ap (λ t. t ++ tail) b.2;

@@ -129,7 +129,7 @@ module _ (before piece : List ℕ) (old : Scanner) (a : IsAfter before old) wher
         omega (arith, c, d, ap least_of w, length-append before piece));
   }
 
-  -- the bytes before an offset of the piece, and those behind it
+  -- the bytes before an offset of the piece, and those after it
   abbrev front_of : ℕ → List ℕ
   front_of at = before ++ take at piece
 
@@ -156,7 +156,7 @@ module _ (before piece : List ℕ) (old : Scanner) (a : IsAfter before old) wher
   stuck_front : (want : Want) (xs q rest : List ℕ) → Sticks want xs → xs ≡ q ++ rest → Completes want q → ⊥
   stuck_front want xs [] rest s e c = absurd (omega (arith, at_least want [] c, least_some want xs s))
   stuck_front want xs (b ∷ q) rest s e c =
-      let first : 0xc1 ∷ s.behind ≡ b ∷ (q ++ rest) = sym s.there ∙ e in
+      let first : 0xc1 ∷ s.following ≡ b ∷ (q ++ rest) = sym s.there ∙ e in
       let is : b ≡ 0xc1 = cc in
       stuck want xs q s (subst (λ z. Completes want (z ∷ q)) is c)
 
@@ -171,13 +171,13 @@ module _ (before piece : List ℕ) (old : Scanner) (a : IsAfter before old) wher
             let whole : (before ++ piece) ++ b.rest ≡ front_of at ++ (drop at piece ++ b.rest) = ap (λ z. z ++ b.rest) (split_at at)
             ∙ append_assoc (front_of at) (drop at piece) b.rest in
             let c = (f (drop at piece ++ b.rest)).0 (subst IsMessage whole b.spelled) in
-            stuck s.want' (drop at piece) (s.sticks.behind ++ b.rest) s.sticks (subst (λ z. Completes s.want' (z ++ b.rest)) s.sticks.there c);
+            stuck s.want' (drop at piece) (s.sticks.following ++ b.rest) s.sticks (subst (λ z. Completes s.want' (z ++ b.rest)) s.sticks.there c);
       }
 
   pub reserved_at : (room at : ℕ) → Stops old.want piece room at → ReservedAt (before ++ piece) (length before + at)
   reserved_at room at s = record {
     before = front_of at;
-    behind = s.sticks.behind;
+    following = s.sticks.following;
     front = split_at at ∙ ap (λ z. front_of at ++ z) s.sticks.there;
     place = sym (front_long at s.reaches.within);
     begins = begins_by (front_of at) s.want' (law_at at s.want' s.reaches) (least_some s.want' (drop at piece) s.sticks);

@@ -108,7 +108,7 @@ pub reserved_sticks : (want : Want) (bytes : List ℕ) → want.next ≡ next.Pa
 reserved_sticks want bytes e some l small o = record {
   ready = e;
   wanted = some;
-  behind = drop 1 bytes;
+  following = drop 1 bytes;
   there = drop-cons bytes 0 0 l ∙ ap (λ z. z ∷ drop 1 bytes) (reserved_is (get_or bytes 0 0) small o);
 }
 

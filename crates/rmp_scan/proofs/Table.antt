@@ -29,8 +29,8 @@ says (suc n) k _ = false
 abbrev Row : List ℕ → ℕ → ℕ → Type 0
 Row table j m = Tells (opening_of (marker_of j)) (get_or table (2 * m) 0) (get_or table (2 * m + 1) 0)
 
-row_behind : (a b : ℕ) (table : List ℕ) (j m : ℕ) → Row table j m → Row (a ∷ b ∷ table) j (suc m)
-row_behind a b table j m r =
+row_after : (a b : ℕ) (table : List ℕ) (j m : ℕ) → Row table j m → Row (a ∷ b ∷ table) j (suc m)
+row_after a b table j m r =
     let at : (x y : ℕ) → suc (suc x) ≡ y → get_or table x 0 ≡ get_or (a ∷ b ∷ table) y 0 = λ x y e.
     ap (λ z. get_or (a ∷ b ∷ table) z 0) e in
     subst (λ z. Tells (opening_of (marker_of j)) (get_or (a ∷ b ∷ table) (2 * suc m) 0) z) (at (2 * m + 1) (2 * suc m + 1) (omega arith))
@@ -46,7 +46,7 @@ row_says (suc n) zero k j (a ∷ b ∷ table) i l e =
     subst (λ z. Tells (opening_of (marker_of z)) a b) (sym here) (tells_is (opening_of (marker_of k)) a b u.0)
 row_says (suc n) (suc m) k j (a ∷ b ∷ table) i l e =
     let u = and_parts (tells (opening_of (marker_of k)) a b) (says n (suc k) table) e in
-    row_behind a b table j m (row_says n m (suc k) j table (omega arith) (omega arith) u.1)
+    row_after a b table j m (row_says n m (suc k) j table (omega arith) (omega arith) u.1)
 
 pub table_tells : (table : List ℕ) → says 256 0 table ≡ true → (b : ℕ) → b < 256 → Row table b b
 table_tells table e b l = row_says 256 b 0 b table (omega arith) l e

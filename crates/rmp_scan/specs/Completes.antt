@@ -35,7 +35,7 @@ is_whole_at (next.Length length) messages = false
 abbrev pub is_whole : Want → Bool
 is_whole want = is_whole_at want.next want.messages
 
--- some bytes at the front were taken, and for each of them less than 2^33 bytes more are wanted
+-- some first bytes were consumed, and for each of them less than 2^33 bytes more are wanted
 pub record Steps (want : Want) (bytes : List ℕ) (want' : Want) (taken : ℕ) : Type 0 where
   pub some : 0 < taken
   pub within : taken ≤ length bytes
@@ -46,8 +46,8 @@ pub record Steps (want : Want) (bytes : List ℕ) (want' : Want) (taken : ℕ) :
 pub record Sticks (want : Want) (bytes : List ℕ) : Type 0 where
   pub ready : want.next ≡ next.Payload 0
   pub wanted : 0 < want.messages
-  pub behind : List ℕ
-  pub there : bytes ≡ 0xc1 ∷ behind
+  pub following : List ℕ
+  pub there : bytes ≡ 0xc1 ∷ following
 
 -- so many bytes of the piece were taken, and this is wanted then
 pub record Reaches (want : Want) (piece : List ℕ) (taken : ℕ) (want' : Want) : Type 0 where

@@ -34,11 +34,11 @@ pub record NoMessage (input : List ℕ) : Type 0 where
   pub ends : (n : ℕ) → MessageEnds input n → ⊥
   pub begins : IsBeginning input → ⊥
 
--- a message is wanted behind so many bytes, and the byte c1 is there
+-- a message is wanted after so many bytes, and the byte c1 is there
 pub record ReservedAt (input : List ℕ) (at : ℕ) : Type 0 where
   pub before : List ℕ
-  pub behind : List ℕ
-  pub front : input ≡ before ++ (0xc1 ∷ behind)
+  pub following : List ℕ
+  pub front : input ≡ before ++ (0xc1 ∷ following)
   pub place : at ≡ length before
   pub begins : IsBeginning before
 
@@ -72,7 +72,7 @@ pub record EndsIn (before piece : List ℕ) (limit used : ℕ) (new : Scanner) :
   pub short : length before + used ≤ limit
   pub new_again : IsAfter [] new
 
--- the message goes on behind the piece
+-- the message goes on after the piece
 pub record GoesOn (before piece : List ℕ) (limit : ℕ) (new : Scanner) : Type 0 where
   pub begins : IsBeginning (before ++ piece)
   pub after : IsAfter (before ++ piece) new

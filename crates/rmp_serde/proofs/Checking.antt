@@ -53,18 +53,18 @@ use Rattle.rmp_wire.specs.Spelling.{IsBytes, Fits, head_of}
 use Rattle.rmp_wire.specs.Taking.{marker_of, byte_of}
 use Rattle.rmp_wire.proofs.Canon.{canon_is_head, head_fits}
 use Rattle.rmp_wire.proofs.Canonical.{canonical_head_is}
-use Rattle.rmp_wire.proofs.Heads.{heads_apart}
+use Rattle.rmp_wire.proofs.Heads.{heads_differ}
 use Rattle.rmp_wire.proofs.Reading.{reserved_opens_none}
 use Rattle.rmp_wire.proofs.Strict.{test_passed, test_failed}
 use Rattle.rmp_wire.proofs.Taken.{bytes_from, bytes_parts}
-use Rattle.rmp_decode.specs.Exact.{Stands}
+use Rattle.rmp_decode.specs.Exact.{BeginsWith}
 use Rattle.rmp_decode.specs.Kinds.{content_len}
 use Rattle.rmp_decode.specs.ReadErrors.{error_of}
 use Rattle.rmp_decode.specs.Refuse.{ContentIsCut}
 use Rattle.rmp_decode.specs.declared.error.Error.{Error}
 use Rattle.rmp_decode.specs.declared.error.Error.TheVariants as errors
 use Rattle.rmp_decode.proofs.ContentErrors.{head_byte}
-use Rattle.rmp_serde.specs.Places.{IsWhole, IsFault, OpensOther, StopsFor, Stops, TakesNode, TakesNodes, parts_behind}
+use Rattle.rmp_serde.specs.Places.{IsWhole, IsFault, OpensOther, StopsFor, Stops, TakesNode, TakesNodes, parts_after}
 use Rattle.rmp_serde.specs.declared.check.Canon.{Canon}
 use Rattle.rmp_serde.specs.declared.check.Canon.TheVariants.{Whole, Fault}
 use Rattle.rmp_serde.proofs.Nodes.{content, own, fits_own, content_long}
@@ -101,13 +101,13 @@ next_stops xs ys (wire.InvalidDataRead fault) f =
       f.leaves.1 refl,
       inl (record {
         byte = byte_of t.marker;
-        behind = t.part ++ ys;
+        following = t.part ++ ys;
         front = t.taken;
         opens = opens_other t.marker t.opens;
-        none = λ m h s. f.none refl h (s.byte ∷ s.behind) s.rest s.front s.is_head;
+        none = λ m h s. f.none refl h (s.byte ∷ s.following) s.rest s.front s.is_head;
       }),
     )
-next_stops xs ys (wire.TypeMismatch k) f = (f.leaves.0, record { behind = ys; front = reserved_first xs ys f.leaves.1 })
+next_stops xs ys (wire.TypeMismatch k) f = (f.leaves.0, record { following = ys; front = reserved_first xs ys f.leaves.1 })
 
 module _ (xs ys rest : List ℕ) (m : Marker) (h : Head) (i : IsHead h (byte_of m ∷ rest)) (t : xs ≡ (byte_of m ∷ rest) ++ ys) (test : Bool)
     (says : fits_head h → (test ≡ true) ↔ Opens (byte_of m) (canon_head h)) where
@@ -134,13 +134,13 @@ module _ (xs ys rest : List ℕ) (m : Marker) (h : Head) (i : IsHead h (byte_of 
     h,
     record {
       marker = m;
-      stands = record { byte = byte_of m; behind = rest; rest = ys; front = t; is_marker = sym r; is_head = test_passed h (byte_of m) rest i (is_test.0 e) };
+      starts = record { byte = byte_of m; following = rest; rest = ys; front = t; is_marker = sym r; is_head = test_passed h (byte_of m) rest i (is_test.0 e) };
       short = l;
     },
   )
 
   -- it was taken with its content
-  pub next_taken : test ≡ true → (zs : List ℕ) (k n : ℕ) → k ≡ content_len h → Skips k (Some ys) (Some zs) → n ≡ parts_behind h → TakesNode xs zs n
+  pub next_taken : test ≡ true → (zs : List ℕ) (k n : ℕ) → k ≡ content_len h → Skips k (Some ys) (Some zs) → n ≡ parts_after h → TakesNode xs zs n
   next_taken e zs k n l s many =
       let c = is_canon e in
       record {
@@ -164,15 +164,15 @@ own_first m z f e =
 own_front : (m : Msg) (z xs : List ℕ) → xs ≡ own m ++ z → xs ≡ canon_head (head_of m) ++ (content m ++ z)
 own_front m z xs e = e ∙ append_assoc (canon_head (head_of m)) (content m) z
 
-own_stands : (m : Msg) (z xs : List ℕ) → Fits m → xs ≡ own m ++ z → (k : Marker) × Stands false k (head_of m) xs
-own_stands m z xs f e =
+own_starts : (m : Msg) (z xs : List ℕ) → Fits m → xs ≡ own m ++ z → (k : Marker) × BeginsWith false k (head_of m) xs
+own_starts m z xs f e =
     let c = canon_head (head_of m) in
     let i = canon_is_head (head_of m) (fits_own m f) in
     let b = head_byte false (head_of m) c i in (
       marker_of b.0,
       record {
         byte = b.0;
-        behind = b.1;
+        following = b.1;
         rest = content m ++ z;
         front = own_front m z xs e
             ∙ ap (λ t. t ++ (content m ++ z)) b.2;
@@ -196,12 +196,12 @@ stops_none (errors.InvalidMarkerRead x) xs s = (
 )
 stops_none (errors.InvalidDataRead x) xs s = elim s.1 [
   | inl c ↦ (
-    λ m z f e. let k = own_stands m z xs f e in c.none k.0 (head_of m) k.1,
+    λ m z f e. let k = own_starts m z xs f e in c.none k.0 (head_of m) k.1,
     λ o.
         let b = head_byte false o.head o.bytes o.is_head in
         c.none (marker_of b.0) o.head (record {
           byte = b.0;
-          behind = b.1;
+          following = b.1;
           rest = o.rest;
           front = o.front
               ∙ ap (λ t. t ++ o.rest) b.2;
@@ -210,26 +210,26 @@ stops_none (errors.InvalidDataRead x) xs s = elim s.1 [
         }),
   )
   | inr c ↦
-      let w = c.1.stands in (
+      let w = c.1.starts in (
         λ m z f e.
-            let u = heads_apart (head_of m) c.0 (canon_head (head_of m)) (w.byte ∷ w.behind) (content m ++ z) w.rest
+            let u = heads_differ (head_of m) c.0 (canon_head (head_of m)) (w.byte ∷ w.following) (content m ++ z) w.rest
             (canon_is_head (head_of m) (fits_own m f)) w.is_head.is_head (sym (own_front m z xs e) ∙ w.front) in
             let short = c.1.short in
             absurd (omega (arith, short, ap length u.2, length-append (content m) z, content_long m ∙ ap content_len u.0)),
         λ o.
-            let u = heads_apart o.head c.0 o.bytes (w.byte ∷ w.behind) o.rest w.rest o.is_head w.is_head.is_head (sym o.front ∙ w.front) in
+            let u = heads_differ o.head c.0 o.bytes (w.byte ∷ w.following) o.rest w.rest o.is_head w.is_head.is_head (sym o.front ∙ w.front) in
             o.other (subst (λ t. IsCanonicalHead t o.bytes) (sym u.0) (subst (IsCanonicalHead c.0) (sym u.1) w.is_head)),
       )
 ]
 stops_none (errors.TypeMismatch k) xs s = (
   λ m z f e.
-      let w = own_stands m z xs f e in
+      let w = own_starts m z xs f e in
       let t = w.1 in
-      let first : t.byte ≡ 0xc1 = (let j : t.byte ∷ (t.behind ++ t.rest) ≡ 0xc1 ∷ s.1.behind = sym t.front ∙ s.1.front in cc) in
-      reserved_none (head_of m) t.behind (subst (λ b. IsHead (head_of m) (b ∷ t.behind)) first t.is_head),
+      let first : t.byte ≡ 0xc1 = (let j : t.byte ∷ (t.following ++ t.rest) ≡ 0xc1 ∷ s.1.following = sym t.front ∙ s.1.front in cc) in
+      reserved_none (head_of m) t.following (subst (λ b. IsHead (head_of m) (b ∷ t.following)) first t.is_head),
   λ o.
       let b = head_byte false o.head o.bytes o.is_head in
-      let j : b.0 ∷ (b.1 ++ o.rest) ≡ 0xc1 ∷ s.1.behind = sym (ap (λ t. t ++ o.rest) b.2) ∙ sym o.front ∙ s.1.front in
+      let j : b.0 ∷ (b.1 ++ o.rest) ≡ 0xc1 ∷ s.1.following = sym (ap (λ t. t ++ o.rest) b.2) ∙ sym o.front ∙ s.1.front in
       let first : b.0 ≡ 0xc1 = cc in
       reserved_none o.head b.1 (subst (λ t. IsHead o.head (t ∷ b.1)) first (subst (IsHead o.head) b.2 o.is_head)),
 )
@@ -442,7 +442,7 @@ module _ (input left : List ℕ) (wanted : ℕ) (w : Wants input wanted left) wh
         let many = t.many in
         let place = w.follows.place in
         record {
-          all = parts_behind t.head + (w.all - 1);
+          all = parts_after t.head + (w.all - 1);
           at = w.at + length (canon_head t.head ++ t.content);
           follows = next;
           are_bytes = parted.1;

@@ -18,7 +18,7 @@ use Rattle.rmp_decode.specs.Skip.{parts_head, parts_count}
 use Rattle.rmp_decode.specs.declared.error.Error.{Error}
 use Rattle.rmp_decode.specs.declared.error.Error.TheVariants as errors
 use Rattle.rmp_scan.specs.Openings.{SpellsSome}
-use Rattle.rmp_scan.specs.Parts.{parts_behind}
+use Rattle.rmp_scan.specs.Parts.{parts_after}
 use Rattle.rmp_scan.specs.Scans.{IsMessage, IsBeginning, MessageEnds}
 use Rattle.rmp_scan.proofs.Completing.{nils, nils_some, nothing}
 use Rattle.rmp_scan.proofs.Cutting.{head_cut, content_cut, nothing_begins}
@@ -54,9 +54,9 @@ row_all (item m ms) b s = record {
   is_whole = s.is_whole;
 }
 
-count_behind : (is_map : Bool) (n : ℕ) → parts_count is_map n ≡ parts_behind (parts_head is_map n)
-count_behind true n = refl
-count_behind false n = refl
+count_after : (is_map : Bool) (n : ℕ) → parts_count is_map n ≡ parts_after (parts_head is_map n)
+count_after true n = refl
+count_after false n = refl
 
 no_content : (is_map : Bool) (n : ℕ) → content_len (parts_head is_map n) ≡ 0
 no_content true n = refl
@@ -65,7 +65,7 @@ no_content false n = refl
 -- ... and inside of a list or a map
 inside_begins : (room : ℕ) (xs : List ℕ) (e : Enters false ItemsUtf8 room xs) → IsBeginning e.before.rest → IsBeginning xs
 inside_begins room xs e i =
-    let s = e.parts.stands in
+    let s = e.parts.starts in
     let b = e.before in
     let h : Head = parts_head e.parts.is_map e.parts.len in
     let all : ℕ = parts_count e.parts.is_map e.parts.len in
@@ -75,9 +75,9 @@ inside_begins room xs e i =
     let others : SpellsSome (1 + (all - e.many - 1)) ((b.rest ++ i.rest) ++ tail) = some-append 1 (all - e.many - 1) (b.rest ++ i.rest) tail
     (one_message (b.rest ++ i.rest) i.spelled) (nils_some (all - e.many - 1)) in
     let parts = some-append e.many (1 + (all - e.many - 1)) b.bytes ((b.rest ++ i.rest) ++ tail) begun others in
-    let many : e.many + (1 + (all - e.many - 1)) ≡ parts_behind h + 0 = omega (arith, few, count_behind e.parts.is_map e.parts.len) in
-    let head : List ℕ = s.byte ∷ s.behind in
-    let one = node_some head (b.bytes ++ ((b.rest ++ i.rest) ++ tail)) (parts_behind h) 0
+    let many : e.many + (1 + (all - e.many - 1)) ≡ parts_after h + 0 = omega (arith, few, count_after e.parts.is_map e.parts.len) in
+    let head : List ℕ = s.byte ∷ s.following in
+    let one = node_some head (b.bytes ++ ((b.rest ++ i.rest) ++ tail)) (parts_after h) 0
     (record {
       head = h;
       bytes = head;
@@ -101,8 +101,8 @@ inside_begins room xs e i =
 
 inside_bytes : (room : ℕ) (xs : List ℕ) (e : Enters false ItemsUtf8 room xs) → IsBytes xs → IsBytes e.before.rest
 inside_bytes room xs e b =
-    let s = e.parts.stands in
-    (bytes_parts e.before.bytes e.before.rest (subst IsBytes e.before.front (bytes_parts (s.byte ∷ s.behind) s.rest (subst IsBytes s.front b)).1)).1
+    let s = e.parts.starts in
+    (bytes_parts e.before.bytes e.before.rest (subst IsBytes e.before.front (bytes_parts (s.byte ∷ s.following) s.rest (subst IsBytes s.front b)).1)).1
 
 pub end_begins : (room : ℕ) (e : Error) (xs : List ℕ) → Refusal false (UnreadFor false) ItemsUtf8 room e xs → IsEnd e → IsBytes xs → IsBeginning xs
 end_begins room e xs (here w) end b = here_begins room e xs b end w

@@ -83,12 +83,12 @@ first_of_row no_items = refl
 first_of_row (item m ms) = first_is m (tokens_all ms)
 
 -- the node at a place has the head and the content of the message that begins there
-pub stands_at : (b : List ℕ) (row : List Node) (at : ℕ) → IsRow (heads_in b row)
+pub starts_at : (b : List ℕ) (row : List Node) (at : ℕ) → IsRow (heads_in b row)
     → token_in b (get_or row at nodes.Nil) ≡ (head_of (told_tree (drop at (heads_in b row))), content_of (told_tree (drop at (heads_in b row))))
-stands_at b [] zero r = refl
-stands_at b [] (suc at) r = refl
-stands_at b (node ∷ row) zero r = ap first_token r ∙ first_of_row (built (heads_in b (node ∷ row)))
-stands_at b (node ∷ row) (suc at) r = stands_at b row at (row_tail (head_in node) (token_in b node).1 (heads_in b row) r)
+starts_at b [] zero r = refl
+starts_at b [] (suc at) r = refl
+starts_at b (node ∷ row) zero r = ap first_token r ∙ first_of_row (built (heads_in b (node ∷ row)))
+starts_at b (node ∷ row) (suc at) r = starts_at b row at (row_tail (head_in node) (token_in b node).1 (heads_in b row) r)
 
 pub ends_at : (end : ℕ) (row : List Node) (at : ℕ) → AllByRecursion (EndsBy end) row → EndsBy end (get_or row at nodes.Nil)
 ends_at end [] zero a = tt
@@ -114,7 +114,7 @@ pub node_is : (root : Node) (parts : Nodes) (m : Msg) (at : ℕ) → IsFlat root
     → token_in parts.bytes.items (get_or (root ∷ parts.nodes.items) at nodes.Nil) ≡
     (head_of (told_tree (drop at (tokens m))), content_of (told_tree (drop at (tokens m))))
 node_is root parts m at f e =
-    stands_at parts.bytes.items (root ∷ parts.nodes.items) at (row_told root parts f)
+    starts_at parts.bytes.items (root ∷ parts.nodes.items) at (row_told root parts f)
     ∙ ap (λ z. (head_of (told_tree (drop at z)), content_of (told_tree (drop at z)))) (heads_told root parts m f e)
 
 -- ---- messages from a place on
@@ -378,20 +378,20 @@ module _ (root : Node) (parts : Nodes) (m : Msg) (f : IsFlat root parts) (e : to
   all_utf8 =
       subst ItemsUtf8 (sym (ap built (sym (append-nil (tokens m))) ∙ built_tree m [])) ((value_told root parts m f e).1, tt)
 
-  pub behind_row : (p : ℕ) → IsRow (drop p (heads_of parts))
-  behind_row p = row_drop (suc p) (heads_all root parts) (row_told root parts f)
+  pub after_row : (p : ℕ) → IsRow (drop p (heads_of parts))
+  after_row p = row_drop (suc p) (heads_all root parts) (row_told root parts f)
 
-  pub behind_many : (p n : ℕ) → n < count (built (drop (suc p) (tokens m))) → n < count (built (drop p (heads_of parts)))
-  behind_many p n l = omega (arith, l, ap (λ z. count (built (drop (suc p) z))) (heads_told root parts m f e))
+  pub after_many : (p n : ℕ) → n < count (built (drop (suc p) (tokens m))) → n < count (built (drop p (heads_of parts)))
+  after_many p n l = omega (arith, l, ap (λ z. count (built (drop (suc p) z))) (heads_told root parts m f e))
 
-  pub behind_there : (p q n : ℕ) → n < count (built (drop (suc p) (tokens m))) → q ≡ p + span n (drop p (heads_of parts)) → q < length parts.nodes.items
-  behind_there p q n l s = walk_place parts.bytes.items parts.nodes.items p (behind_row p) (takes_drop parts.bytes.items parts.nodes.items p f.takes) n q
-      (behind_many p n l) s
+  pub after_there : (p q n : ℕ) → n < count (built (drop (suc p) (tokens m))) → q ≡ p + span n (drop p (heads_of parts)) → q < length parts.nodes.items
+  after_there p q n l s = walk_place parts.bytes.items parts.nodes.items p (after_row p) (takes_drop parts.bytes.items parts.nodes.items p f.takes) n q
+      (after_many p n l) s
 
-  pub behind_later : (p q n : ℕ) → q ≡ p + span n (drop p (heads_of parts)) → built (drop (q + 1) (tokens m)) ≡ past_items n (built (drop (suc p) (tokens m)))
-  behind_later p q n s =
+  pub after_later : (p q n : ℕ) → q ≡ p + span n (drop p (heads_of parts)) → built (drop (q + 1) (tokens m)) ≡ past_items n (built (drop (suc p) (tokens m)))
+  after_later p q n s =
       let told = heads_told root parts m f e in
-      ap (λ z. built (drop (q + 1) z)) (sym told) ∙ later_is (token_in parts.bytes.items root) (heads_of parts) p q n (behind_row p) s
+      ap (λ z. built (drop (q + 1) z)) (sym told) ∙ later_is (token_in parts.bytes.items root) (heads_of parts) p q n (after_row p) s
       ∙ ap (λ z. past_items n (built (drop (suc p) z))) told
 
 past_count : (i : ℕ) (ms : Msgs) → count (past_items i ms) + i ≡ count ms ⊎ (count ms ≤ i)

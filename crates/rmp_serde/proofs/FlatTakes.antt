@@ -61,18 +61,18 @@ within_set end (first ∷ row) zero node node' g w a = (w (subst (EndsBy end) (s
 within_set end (first ∷ row) (suc at) node node' g w a = (a.0, within_set end row at node node' g w a.1)
 
 -- after a head come its parts
-pub parts_behind : (b : List ℕ) (node : Node) (row : List Node) → IsRow (heads_in b (node ∷ row)) → parts_in node ≤ count (built (heads_in b row))
-parts_behind b nodes.Nil row r = omega arith
-parts_behind b (nodes.Truth t) row r = omega arith
-parts_behind b (nodes.Unsigned n) row r = omega arith
-parts_behind b (nodes.Signed z) row r = omega arith
-parts_behind b (nodes.F32 n) row r = omega arith
-parts_behind b (nodes.F64 n) row r = omega arith
-parts_behind b (nodes.Text len at) row r = omega arith
-parts_behind b (nodes.Bytes len at) row r = omega arith
-parts_behind b (nodes.Ext tag len at) row r = omega arith
-parts_behind b (nodes.List n takes) row r = list_parts n [] (heads_in b row) r
-parts_behind b (nodes.Map n takes) row r = map_parts n [] (heads_in b row) r
+pub parts_after : (b : List ℕ) (node : Node) (row : List Node) → IsRow (heads_in b (node ∷ row)) → parts_in node ≤ count (built (heads_in b row))
+parts_after b nodes.Nil row r = omega arith
+parts_after b (nodes.Truth t) row r = omega arith
+parts_after b (nodes.Unsigned n) row r = omega arith
+parts_after b (nodes.Signed z) row r = omega arith
+parts_after b (nodes.F32 n) row r = omega arith
+parts_after b (nodes.F64 n) row r = omega arith
+parts_after b (nodes.Text len at) row r = omega arith
+parts_after b (nodes.Bytes len at) row r = omega arith
+parts_after b (nodes.Ext tag len at) row r = omega arith
+parts_after b (nodes.List n takes) row r = list_parts n [] (heads_in b row) r
+parts_after b (nodes.Map n takes) row r = map_parts n [] (heads_in b row) r
 
 -- how many nodes it takes, by where its parts end
 pub size_is : (b : List ℕ) (node : Node) (row : List Node) → IsRow (heads_in b (node ∷ row))

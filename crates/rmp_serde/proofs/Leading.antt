@@ -27,7 +27,7 @@ use Rattle.rmp_wire.specs.Msg.{
 use Rattle.rmp_wire.specs.Spelling.{head_of}
 use Rattle.rmp_wire.specs.Taking.{marker_of}
 use Rattle.rmp_wire.specs.declared.head.Head.TheVariants.{Array, Map}
-use Rattle.rmp_wire.proofs.Strict.{heads_apart_as, spelled_once_as}
+use Rattle.rmp_wire.proofs.Strict.{heads_differ_as, spelled_once_as}
 use Rattle.rmp_decode.specs.Refuse.{inside}
 use Rattle.rmp_decode.specs.Seq.{SpellsRow, BeginsRow}
 use Rattle.rmp_decode.specs.Skip.{parts_head, parts_count}
@@ -36,10 +36,10 @@ use Rattle.rmp_decode.proofs.WantedNext.{split_off}
 use Rattle.rmp_decode.proofs.NothingAccepted.{same_head}
 use Rattle.rmp_decode.proofs.Rows.{in_list, listed}
 use Rattle.rmp_decode.proofs.SkipLaws.{in_turn, count-in_turn, depth-in_turn, turned, paired}
-use Rattle.rmp_decode.proofs.FirstFault.{Front, front_of, stands}
+use Rattle.rmp_decode.proofs.FirstFault.{Front, front_of, starts}
 use Rattle.rmp_serde.specs.Read.{AllTextsUtf8, ItemsUtf8, PairsUtf8}
 use Rattle.rmp_serde.specs.Tokens.{Token, tokens, tokens_all, tokens_pairs}
-use Rattle.rmp_serde.proofs.OpenTrees.{SpellsTrees, SpellsOpenTrees, BehindTrees, OpenTreesRefusal, LeadsTrees}
+use Rattle.rmp_serde.proofs.OpenTrees.{SpellsTrees, SpellsOpenTrees, AfterTrees, OpenTreesRefusal, LeadsTrees}
 
 tokens_turned : (ps : Pairs) → tokens_all (in_turn ps) ≡ tokens_pairs ps
 tokens_turned no_pairs = refl
@@ -129,7 +129,7 @@ module _ (w : Bool) where
   message_opens : (room n : ℕ) (counts : List ℕ) (m : Msg) (a c more : List ℕ) (mt : List Token) (x ys : List ℕ) (ts : Msgs) → SpellsAs w a m
       → SpellsRow (SpellsAs w) c ts → count ts ≡ suc n → depth_all ts < room → ItemsUtf8 ts → SpellsOpenTrees w (suc room) counts more mt
       → (c ++ more) ++ x ≡ a ++ ys
-      → BehindTrees w room (n ∷ counts) x ys
+      → AfterTrees w room (n ∷ counts) x ys
   message_opens room n counts m a c more mt x ys no_items s t l d h o e = absurd (omega (arith, l))
   message_opens room n counts m a c more mt x ys (item k ks) s t l d h o e =
       let u = spelled_once_as w k m t.first a ((t.second ++ more) ++ x) ys t.is_first s (split_off w c t.first t.second more x t.is_whole ∙ e) in
@@ -205,14 +205,14 @@ module _ (w : Bool) where
   enter_opens : (is_map : Bool) (len room n : ℕ) (counts a c more : List ℕ) (mt : List Token) (x ys : List ℕ) (ts : Msgs)
       → heads_of w (parts_head is_map len) a → SpellsRow (SpellsAs w) c ts → count ts ≡ suc n → depth_all ts < suc room → ItemsUtf8 ts
       → SpellsOpenTrees w (suc (suc room)) counts more mt
-      → (c ++ more) ++ x ≡ a ++ ys → BehindTrees w room (parts_count is_map len ∷ n ∷ counts) x ys
+      → (c ++ more) ++ x ≡ a ++ ys → AfterTrees w room (parts_count is_map len ∷ n ∷ counts) x ys
   enter_opens is_map len room n counts a c more mt x ys no_items i t l d h o e = absurd (omega (arith, l))
   enter_opens is_map len room n counts a c more mt x ys (item k ks) i t l d h o e =
       let split : t.first ++ ((t.second ++ more) ++ x) ≡ a ++ ys = split_off w c t.first t.second more x t.is_whole ∙ e in
       let u = same_head w k (parts_head is_map len) t.first a ((t.second ++ more) ++ x) ys t.is_first i split in
       let q : PartsTrees room (parts_count is_map len) ((t.second ++ more) ++ x) ys = parts_trees is_map k len room t.first ((t.second ++ more) ++ x) ys
       t.is_first u.0 (omega (arith, d)) (h.0)
-      (λ d c q j. (heads_apart_as w (head_of k) (parts_head is_map len) d a (c ++ ((t.second ++ more) ++ x)) ys j i
+      (λ d c q j. (heads_differ_as w (head_of k) (parts_head is_map len) d a (c ++ ((t.second ++ more) ++ x)) ys j i
       (sym (append_assoc d c ((t.second ++ more) ++ x)) ∙ ap (λ z. z ++ ((t.second ++ more) ++ x)) (sym q) ∙ split)).2) in
       record {
         bytes = q.bytes ++ (t.second ++ more);
@@ -241,7 +241,7 @@ module _ (w : Bool) where
       }
 
   leave_opens : (room : ℕ) (counts c more : List ℕ) (mt : List Token) (x ys : List ℕ) (ts : Msgs) → SpellsRow (SpellsAs w) c ts → count ts ≡ 0
-      → SpellsOpenTrees w (suc room) counts more mt → (c ++ more) ++ x ≡ ys → BehindTrees w (suc room) counts x ys
+      → SpellsOpenTrees w (suc room) counts more mt → (c ++ more) ++ x ≡ ys → AfterTrees w (suc room) counts x ys
   leave_opens room counts c more mt x ys no_items t l o e = record { bytes = more; heads = mt; front = sym e ∙ ap (λ z. (z ++ more) ++ x) t; spelled = o }
   leave_opens room counts c more mt x ys (item k ks) t l o e = absurd (omega (arith, l))
 
@@ -271,7 +271,7 @@ module _ (w : Bool) where
             fewer = omega arith;
             next =
                 inside (record {
-                  parts = record { is_map = is_map; len = len; marker = marker_of f.byte; stands = stands f };
+                  parts = record { is_map = is_map; len = len; marker = marker_of f.byte; starts = starts f };
                   many = r.many;
                   before = r.before;
                   fewer = r.fewer;

@@ -27,10 +27,10 @@ use Rattle.rmp_wire.specs.Msg.{
 }
 use Rattle.rmp_wire.specs.Spelling.{IsBytes, canon, canon_all, canon_pairs, Fits, FitsAll, FitsPairs, head_of}
 use Rattle.rmp_wire.proofs.Canon.{canon_is_head}
-use Rattle.rmp_wire.proofs.Heads.{heads_apart}
+use Rattle.rmp_wire.proofs.Heads.{heads_differ}
 use Rattle.rmp_decode.specs.Kinds.{content_len}
 use Rattle.rmp_decode.proofs.Rows.{append}
-use Rattle.rmp_serde.specs.Places.{After, BeginsAt, BeginsAmong, BeginsAmongPairs, parts_behind}
+use Rattle.rmp_serde.specs.Places.{After, BeginsAt, BeginsAmong, BeginsAmongPairs, parts_after}
 
 -- ---- heads, contents and parts
 
@@ -77,8 +77,8 @@ no_parts h s = sym (append-nil (h ++ s))
 no_content : (h : List ℕ) → h ≡ (h ++ []) ++ []
 no_content h = sym (append-nil h) ∙ no_parts h []
 
-behind : (h s : List ℕ) → h ++ s ≡ (h ++ []) ++ s
-behind h s = ap (λ z. z ++ s) (sym (append-nil h))
+following : (h s : List ℕ) → h ++ s ≡ (h ++ []) ++ s
+following h s = ap (λ z. z ++ s) (sym (append-nil h))
 
 pub canon_node : (m : Msg) → canon m ≡ own m ++ canon_all (parts m)
 canon_node nil = no_content (canon_head Nil)
@@ -88,8 +88,8 @@ canon_node (float32 n) = no_content (canon_head (F32Bits n))
 canon_node (float64 n) = no_content (canon_head (F64Bits n))
 canon_node (text s) = no_parts (canon_head (Text (length s))) s
 canon_node (bin s) = no_parts (canon_head (Bin (length s))) s
-canon_node (list ms) = behind (canon_head (Array (count ms))) (canon_all ms)
-canon_node (map ps) = behind (canon_head (Map (count_pairs ps))) (canon_pairs ps) ∙ ap (λ z. (canon_head (Map (count_pairs ps)) ++ []) ++ z) (canon_turned ps)
+canon_node (list ms) = following (canon_head (Array (count ms))) (canon_all ms)
+canon_node (map ps) = following (canon_head (Map (count_pairs ps))) (canon_pairs ps) ∙ ap (λ z. (canon_head (Map (count_pairs ps)) ++ []) ++ z) (canon_turned ps)
 canon_node (extension tag s) = no_parts (canon_head (Ext (length s) tag)) s
 
 pub fits_own : (m : Msg) → Fits m → fits_head (head_of m)
@@ -128,7 +128,7 @@ content_long (list ms) = refl
 content_long (map ps) = refl
 content_long (extension tag s) = refl
 
-count_parts : (m : Msg) → count (parts m) ≡ parts_behind (head_of m)
+count_parts : (m : Msg) → count (parts m) ≡ parts_after (head_of m)
 count_parts nil = refl
 count_parts (truth t) = refl
 count_parts (whole z) = refl
@@ -159,13 +159,13 @@ pub record SameNode (m : Msg) (a x y : List ℕ) (n : ℕ) : Type 0 where
   pub many : count (parts m) ≡ n
 
 pub same_node : (m : Msg) (h : Head) (s x y : List ℕ) → Fits m → fits_head h → length s ≡ content_len h → own m ++ x ≡ (canon_head h ++ s) ++ y
-    → SameNode m (canon_head h ++ s) x y (parts_behind h)
+    → SameNode m (canon_head h ++ s) x y (parts_after h)
 same_node m h s x y f g l e =
-    let u = heads_apart (head_of m) h (canon_head (head_of m)) (canon_head h) (content m ++ x) (s ++ y) (canon_is_head (head_of m) (fits_own m f))
+    let u = heads_differ (head_of m) h (canon_head (head_of m)) (canon_head h) (content m ++ x) (s ++ y) (canon_is_head (head_of m) (fits_own m f))
     (canon_is_head h g)
     (sym (append_assoc (canon_head (head_of m)) (content m) x) ∙ e ∙ append_assoc (canon_head h) s y) in
     let v = same_front (content m) s x y (content_long m ∙ ap content_len u.0 ∙ sym l) u.2 in
-    record { own_same = ap (λ z. z ++ content m) u.1 ∙ ap (λ z. canon_head h ++ z) v.0; rest_same = v.1; many = count_parts m ∙ ap parts_behind u.0 }
+    record { own_same = ap (λ z. z ++ content m) u.1 ∙ ap (λ z. canon_head h ++ z) v.0; rest_same = v.1; many = count_parts m ∙ ap parts_after u.0 }
 
 -- ---- a message of a head, a content and parts that were taken from the front of some
 
@@ -239,7 +239,7 @@ leaf m h s n ms o p f c g = record { tree = m; others = ms; own_is = o; split = 
 bare : (h : Head) (s : List ℕ) → length s ≡ 0 → canon_head h ++ [] ≡ canon_head h ++ s
 bare h s l = ap (λ z. canon_head h ++ z) (sym (none_of s l))
 
-pub built : (h : Head) (s : List ℕ) (n : ℕ) (ms : Msgs) → fits_head h → length s ≡ content_len h → IsBytes s → count ms ≡ parts_behind h + n → FitsAll ms
+pub built : (h : Head) (s : List ℕ) (n : ℕ) (ms : Msgs) → fits_head h → length s ≡ content_len h → IsBytes s → count ms ≡ parts_after h + n → FitsAll ms
     → Built h s n ms
 built Nil s n ms f l b c g = leaf nil Nil s n ms (bare Nil s l) refl f c g
 built (Truth t) s n ms f l b c g = leaf (truth t) (Truth t) s n ms (bare (Truth t) s l) refl f c g

@@ -196,8 +196,8 @@ pub turn_smaller : (os : List Open) (o o' : Open) (m : Msg) {held pushed : List 
     → parts_left o.parts ≡ m ∷ parts_left o'.parts → pushed ≡ os ++ (o' ∷ []) → n < turns_left pushed + 2 * length (tokens m) → n < turns_left held
 turn_smaller os o o' m {held} {pushed} {n} last parts again less =
     let before : turns_left held ≡ suc (2 * heads_among (parts_left o.parts)) + turns_left os = ap turns_left last ∙ turns_push os o in
-    let behind : turns_left pushed ≡ suc (2 * heads_among (parts_left o'.parts)) + turns_left os = ap turns_left again ∙ turns_push os o' in
-    omega (arith, before, behind, ap heads_among parts, less)
+    let following : turns_left pushed ≡ suc (2 * heads_among (parts_left o'.parts)) + turns_left os = ap turns_left again ∙ turns_push os o' in
+    omega (arith, before, following, ap heads_among parts, less)
 
 -- a part was written that isn't open
 pub leaf_turn : {W : Type 0} (took : W → List ℕ → W → Type 0) (old mid signed new : Formatter W) (all : List ℕ) (os : List Open) (o o' : Open) (m : Msg)

@@ -34,7 +34,7 @@ SpellsOpenTrees strict room [] bytes heads = (bytes ≡ []) × (heads ≡ [])
 SpellsOpenTrees strict room (n ∷ counts) bytes heads = JoinedTrees (SpellsTrees strict room n) (SpellsOpenTrees strict (suc room) counts) bytes heads
 
 -- ys begins with bytes that spell what remains, and then comes the rest
-pub record BehindTrees (strict : Bool) (room : ℕ) (counts rest ys : List ℕ) : Type 0 where
+pub record AfterTrees (strict : Bool) (room : ℕ) (counts rest ys : List ℕ) : Type 0 where
   pub bytes : List ℕ
   pub heads : List Token
   pub front : ys ≡ bytes ++ rest
@@ -53,5 +53,5 @@ pub record LeadsTrees (strict : Bool) (wrong : ℕ → Error → List ℕ → Ty
     (heads : List Token) : Type 0 where
   pub closes : (b : List ℕ) (t : List Token) → SpellsOpenTrees strict room' counts' b t → SpellsOpenTrees strict room counts (taken ++ b) (heads ++ t)
   pub opens : (b : List ℕ) (t : List Token) (rest ys : List ℕ) → SpellsOpenTrees strict room counts b t → b ++ rest ≡ taken ++ ys
-      → BehindTrees strict room' counts' rest ys
+      → AfterTrees strict room' counts' rest ys
   pub refuses : (e : Error) (ys : List ℕ) → OpenTreesRefusal strict wrong room' counts' e ys → OpenTreesRefusal strict wrong room counts e (taken ++ ys)

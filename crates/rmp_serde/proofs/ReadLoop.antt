@@ -51,7 +51,7 @@ use Rattle.rmp_wire.specs.Msg.{Msg, nil, truth, whole, float32, float64, text, b
 use Rattle.rmp_wire.specs.Spelling.{head_of}
 use Rattle.rmp_wire.specs.Sources.{IsShort}
 use Rattle.rmp_wire.proofs.Canon.{head_fits}
-use Rattle.rmp_wire.proofs.Strict.{heads_apart_as}
+use Rattle.rmp_wire.proofs.Strict.{heads_differ_as}
 use Rattle.rmp_decode.specs.Exact.{EndsExactly}
 use Rattle.rmp_decode.specs.Anys.{StartsWithNoText, FailsContent, FailsText}
 use Rattle.rmp_decode.specs.Kinds.{content_len}
@@ -78,7 +78,7 @@ use Rattle.rmp_serde.specs.Tokens.{Token, tokens, tokens_all}
 use Rattle.rmp_serde.specs.declared.value.flat.Node.{Node}
 use Rattle.rmp_serde.proofs.FlatMade.{heads_stay}
 use Rattle.rmp_serde.proofs.Leading.{trees_none, trees_then, trees_message, trees_in, trees_out, no_row_tree}
-use Rattle.rmp_serde.proofs.OpenTrees.{SpellsOpenTrees, BehindTrees, LeadsTrees}
+use Rattle.rmp_serde.proofs.OpenTrees.{SpellsOpenTrees, AfterTrees, LeadsTrees}
 use Rattle.rmp_serde.proofs.Refusing.{wider, wrong_piece}
 
 -- ---- leaves
@@ -166,7 +166,7 @@ text_refused w room n known k b c i x = refuses_by w (Readable reads_value) room
     let j = text_content.opens w s a.bytes (subst (SpellsAs w a.bytes) t.1.0 a.spelled) in
     let split : j.first ++ (j.second ++ a.rest) ≡ b ++ ys = sym (append_assoc j.first j.second a.rest) ∙ ap (λ z. z ++ a.rest) (sym j.is_whole)
     ∙ sym a.front in
-    let v = heads_apart_as w (head.Text (length s)) (head.Text n) j.first b (j.second ++ a.rest) ys j.is_first i split in
+    let v = heads_differ_as w (head.Text (length s)) (head.Text n) j.first b (j.second ++ a.rest) ys j.is_first i split in
     let at : (s r : List ℕ) → ys ≡ s ++ r → length s ≡ n → IsUtf8 s → ⊥ = rw q at x in
     at s a.rest (sym v.2 ∙ ap (λ z. z ++ a.rest) j.is_second.0) (text_content.same _ _ v.0) t.1.1)
 
@@ -229,11 +229,11 @@ none_of [] e = refl
 none_of (x ∷ xs) e = absurd (omega arith)
 
 -- less is to do once a list or a map was entered
-pub falls_entered : (room wanted n inner : ℕ) (outer : List ℕ) (then : ℕ × ℕ) (behind : List ℕ) → 0 < wanted → n ≡ wanted - 1 → 1 < room
-    → Enters inner (room, n) outer then behind → to_do then.0 then.1 behind < to_do room wanted outer
-falls_entered room wanted n inner outer then behind s q r o = elim o [
+pub falls_entered : (room wanted n inner : ℕ) (outer : List ℕ) (then : ℕ × ℕ) (following : List ℕ) → 0 < wanted → n ≡ wanted - 1 → 1 < room
+    → Enters inner (room, n) outer then following → to_do then.0 then.1 following < to_do room wanted outer
+falls_entered room wanted n inner outer then following s q r o = elim o [
   | inl x ↦ rw (x.room, x.kept) (falls_leaf room wanted then.1 outer s (x.wanted ∙ q))
-  | inr x ↦ falls_in room wanted n then.0 then.1 outer behind s q x.room (rw x.wanted x.few) x.kept r
+  | inr x ↦ falls_in room wanted n then.0 then.1 outer following s q x.room (rw x.wanted x.few) x.kept r
 ]
 
 -- what taking bytes with these heads leads to
@@ -376,7 +376,7 @@ module _ {R C : Type 0} (g : Ghosts R) (all : ℕ) (start now : Deserializer R C
         is_whole = sym (append-nil a.bytes);
         all_heads = sym (append-nil (tokens_all a.trees));
       } in
-      let b : BehindTrees start.strict room (suc (wanted - 1) ∷ reverse outer) a.rest ys = l.opens a.bytes (tokens_all a.trees) a.rest ys whole
+      let b : AfterTrees start.strict room (suc (wanted - 1) ∷ reverse outer) a.rest ys = l.opens a.bytes (tokens_all a.trees) a.rest ys whole
       (sym a.front ∙ t) in
       let h = b.spelled in
       r (front_of_row (wanted - 1) h.is_first.trees h.first h.second a.rest ys h.is_first.spelled h.is_first.many h.is_first.fits h.is_first.utf8
@@ -485,12 +485,12 @@ module _ {R C : Type 0} (g : Ghosts R) (all : ℕ) (start now : Deserializer R C
         h.clean h.sound stays_mid
 
     -- a list or a map was entered
-    pub wants_entered : (is_map : Bool) (len n : ℕ) (then : ℕ × ℕ) (behind : List ℕ) (heads' : List Token) → n ≡ wanted - 1 → p.1 ≡ parts_head is_map len
-        → Enters (parts_count is_map len) (room, n) outer then behind → 1 < room → heads' ≡ heads ++ (p.1, []) ∷ []
-        → Wants g all start mid then.0 then.1 behind before heads'
-    wants_entered is_map len n then behind heads' q i o r t = elim o [
+    pub wants_entered : (is_map : Bool) (len n : ℕ) (then : ℕ × ℕ) (following : List ℕ) (heads' : List Token) → n ≡ wanted - 1 → p.1 ≡ parts_head is_map len
+        → Enters (parts_count is_map len) (room, n) outer then following → 1 < room → heads' ≡ heads ++ (p.1, []) ∷ []
+        → Wants g all start mid then.0 then.1 following before heads'
+    wants_entered is_map len n then following heads' q i o r t = elim o [
       | inl x ↦ rw (x.room, x.kept) (wants_empty is_map len then.1 heads' (x.wanted ∙ q) i x.none r t)
-      | inr x ↦ wants_in is_map len n then.0 then.1 behind heads' q x.room i x.wanted x.kept r t
+      | inr x ↦ wants_in is_map len n then.0 then.1 following heads' q x.room i x.wanted x.kept r t
     ]
 
     -- ---- what it opens is refused

@@ -40,7 +40,7 @@ use Rattle.rmp_wire.specs.Canonical.{heads_of, SpellsAs}
 use Rattle.rmp_wire.specs.Msg.{Msg, depth}
 use Rattle.rmp_wire.specs.Spelling.{head_of}
 use Rattle.rmp_wire.proofs.Spellings.{spells_fits}
-use Rattle.rmp_wire.proofs.Strict.{heads_apart_as, spells_any}
+use Rattle.rmp_wire.proofs.Strict.{heads_differ_as, spells_any}
 use Rattle.rmp_decode.specs.Content.{IsRawHead, IsExtHead}
 use Rattle.rmp_decode.specs.Kinds.{content_len}
 use Rattle.rmp_decode.specs.Law.{Refuses, Readable, GoesOn, Lawful, ReadsHead}
@@ -59,7 +59,7 @@ use Rattle.rmp_decode.proofs.SkipLaws.{leaf_of, leaf_flat, leaf_spelled, parts_r
 use Rattle.rmp_decode.proofs.FirstFault.{is_memory, wrong_none, wrong_deep, wrong_nest}
 use Rattle.rmp_serde.specs.Flat.{IsTree, token_in, told_tree}
 use Rattle.rmp_serde.specs.Read.{AllTextsUtf8, ItemsUtf8, reads_value}
-use Rattle.rmp_serde.specs.ReadParts.{IsLeafHead, TakesBehind, FailsLeaf, ReadsTrees}
+use Rattle.rmp_serde.specs.ReadParts.{IsLeafHead, TakesAfter, FailsLeaf, ReadsTrees}
 use Rattle.rmp_serde.specs.Refuse.{UnreadFor, RefusesValue}
 use Rattle.rmp_serde.specs.Tokens.{Token, tokens, tokens_all}
 use Rattle.rmp_serde.specs.declared.value.flat.Node.{Node}
@@ -77,7 +77,7 @@ nest_refused w is_map n room known k b t i l r = refuses_by w (Readable reads_va
     let u = same_head w a.tree (parts_head is_map n) a.bytes b a.rest ys a.spelled i split in
     let none : BeginsRow (SpellsAs w) ItemsUtf8 (room - 1) (parts_count is_map n) ys → ⊥ = rw e at r in
     let q = parts_trees w is_map a.tree n (room - 1) a.bytes a.rest ys a.spelled u.0 (omega (arith, a.fits, l)) a.holds.1.1
-    (λ d c q j. (heads_apart_as w (head_of a.tree) (parts_head is_map n) d b (c ++ a.rest) ys j i
+    (λ d c q j. (heads_differ_as w (head_of a.tree) (parts_head is_map n) d b (c ++ a.rest) ys j i
     (sym (append_assoc d c a.rest) ∙ ap (λ z. z ++ a.rest) (sym q) ∙ split)).2) in
     none (record {
       bytes = q.bytes;
@@ -153,7 +153,7 @@ module _ {R C : Type 0} (g : Ghosts R) (old mid : Deserializer R C) (p : Marker 
   -- ---- a leaf
 
   -- its content was taken to the end of an empty buffer
-  pub leaf_read : (last : Deserializer R C) (before after : List ℕ) (row : List Node) → IsLeafHead p.1 → TakesBehind g p.1 mid last before after → before ≡ []
+  pub leaf_read : (last : Deserializer R C) (before after : List ℕ) (row : List Node) → IsLeafHead p.1 → TakesAfter g p.1 mid last before after → before ≡ []
       → map (token_in before) row ≡ [] → ReadTree g old last ((p.1, take (content_len p.1) (drop 0 after)) ∷ map (token_in after) row)
   leaf_read last before after row n o e m =
       let c = o.taken in

@@ -15,7 +15,7 @@ use Rattle.rmp_decode.specs.Skip.{parts_head}
 use Rattle.rmp_decode.specs.Pieces.{RefusesPiece}
 use Rattle.rmp_decode.specs.declared.error.Error.{Error}
 use Rattle.rmp_decode.specs.declared.error.Error.TheVariants as errors
-use Rattle.rmp_decode.proofs.FirstFault.{wrong_memory, wrong_data, Front, front_of, stands}
+use Rattle.rmp_decode.proofs.FirstFault.{wrong_memory, wrong_data, Front, front_of, starts}
 use Rattle.rmp_serde.specs.Read.{ItemsUtf8}
 use Rattle.rmp_serde.specs.Refuse.{TextIsInvalid, UnreadFor}
 
@@ -54,8 +54,8 @@ wrong_utf8 w room s rest xs ys bytes e t i q u d =
     let f : Front w (head.Text (length s)) xs ys = front_of w (head.Text (length s)) bytes xs ys t i in
     here (wrong_text w room e xs (record {
       text = s;
-      stands = record
-          { marker = marker_of f.byte; stands = stands f; behind = rest; content = q; long = refl };
+      starts = record
+          { marker = marker_of f.byte; starts = starts f; following = rest; content = q; long = refl };
       invalid = u;
     }) d)
 
@@ -68,7 +68,7 @@ wrong_piece w room len (Some xs) None bytes e t i p = absurd t
 wrong_piece w room len (Some xs) (Some ys) bytes e t i p = elim (cases_lt (length ys) len) [
   | inl short ↦
       let f : Front w (head.Text len) xs ys = front_of w (head.Text len) bytes xs ys t i in
-      here (wider w room e xs (wrong_data w room e xs (inr (head.Text len, record { marker = marker_of f.byte; stands = stands f; short = short }))
+      here (wider w room e xs (wrong_data w room e xs (inr (head.Text len, record { marker = marker_of f.byte; starts = starts f; short = short }))
       (p.cut short)))
   | inr enough ↦
       let s : List ℕ = take len ys in
@@ -82,12 +82,12 @@ wrong_piece w room len (Some xs) (Some ys) bytes e t i p = elim (cases_lt (lengt
 pub short_content : (w : Bool) (h : Head) → IsRawHead h ⊎ IsExtHead h → (room : ℕ) (known k : Option (List ℕ)) (bytes : List ℕ) → Consumes known k bytes
     → heads_of w h bytes → RefusedFor w (UnreadFor w) ItemsUtf8 room errors.OutOfMemory known
 short_content w h c room known k bytes t i = wrong_memory w (UnreadFor w) ItemsUtf8 room known k bytes h t i
-    (λ xs m s. inl (record { head = h; marker = m; stands = s; has_content = c }))
+    (λ xs m s. inl (record { head = h; marker = m; starts = s; has_content = c }))
 
 pub short_parts : (w : Bool) (is_map : Bool) (len room : ℕ) → 1 < room → (known k : Option (List ℕ)) (bytes : List ℕ) → Consumes known k bytes
     → heads_of w (parts_head is_map len) bytes → RefusedFor w (UnreadFor w) ItemsUtf8 room errors.OutOfMemory known
 short_parts w is_map len room more known k bytes t i = wrong_memory w (UnreadFor w) ItemsUtf8 room known k bytes (parts_head is_map len) t i
-    (λ xs m s. inr (more, record { is_map = is_map; len = len; marker = m; stands = s }))
+    (λ xs m s. inr (more, record { is_map = is_map; len = len; marker = m; starts = s }))
 
 -- ---- known bytes
 

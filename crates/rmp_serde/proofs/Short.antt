@@ -49,7 +49,7 @@ use Rattle.rmp_wire.specs.Heads.{canon_head, fits_head}
 use Rattle.rmp_wire.specs.Spelling.{IsBytes}
 use Rattle.rmp_wire.proofs.Taken.{bytes_from, spelled_16, spelled_32, spelled_64}
 use Rattle.rmp_decode.specs.Kinds.{content_len}
-use Rattle.rmp_serde.specs.Places.{TakesNode, TakesNodes, parts_behind}
+use Rattle.rmp_serde.specs.Places.{TakesNode, TakesNodes, parts_after}
 use Rattle.rmp_serde.specs.Short.{entry}
 
 -- ---- what a first byte says
@@ -135,8 +135,8 @@ says zero k table = true
 says (suc n) k (a ∷ b ∷ c ∷ d ∷ table) = same (entry k) (a ∷ b ∷ c ∷ d ∷ []) && says n (suc k) table
 says (suc n) k _ = false
 
-row_behind : (a b c d : ℕ) (table : List ℕ) (m : ℕ) → row table m ≡ row (a ∷ b ∷ c ∷ d ∷ table) (suc m)
-row_behind a b c d table m =
+row_after : (a b c d : ℕ) (table : List ℕ) (m : ℕ) → row table m ≡ row (a ∷ b ∷ c ∷ d ∷ table) (suc m)
+row_after a b c d table m =
     let at : (x y : ℕ) → suc (suc (suc (suc x))) ≡ y → get_or table x 0 ≡ get_or (a ∷ b ∷ c ∷ d ∷ table) y 0 = λ x y e.
     ap (λ z. get_or (a ∷ b ∷ c ∷ d ∷ table) z 0) e in
     rw (
@@ -157,17 +157,17 @@ row_says (suc n) zero k j (a ∷ b ∷ c ∷ d ∷ table) i l e =
     ap entry here ∙ same_is (entry k) (a ∷ b ∷ c ∷ d ∷ []) (both (same (entry k) (a ∷ b ∷ c ∷ d ∷ [])) (says n (suc k) table) e).0
 row_says (suc n) (suc m) k j (a ∷ b ∷ c ∷ d ∷ table) i l e =
     let rest = both (same (entry k) (a ∷ b ∷ c ∷ d ∷ [])) (says n (suc k) table) e in
-    row_says n m (suc k) j table (omega arith) (omega arith) rest.1 ∙ row_behind a b c d table m
+    row_says n m (suc k) j table (omega arith) (omega arith) rest.1 ∙ row_after a b c d table m
 
 pub table_says : (table : List ℕ) → says 256 0 table ≡ true → (m : ℕ) → m < 256 → entry m ≡ row table m
 table_says table e m l = row_says 256 m 0 m table (omega arith) l e
 
 -- ---- nodes
 
-wide : (h : Head) (x : ℕ) (bs r : List ℕ) → fits_head h → content_len h ≡ 0 → parts_behind h ≡ 0 → canon_head h ≡ x ∷ bs → TakesNode (x ∷ (bs ++ r)) r 0
+wide : (h : Head) (x : ℕ) (bs r : List ℕ) → fits_head h → content_len h ≡ 0 → parts_after h ≡ 0 → canon_head h ≡ x ∷ bs → TakesNode (x ∷ (bs ++ r)) r 0
 wide h x bs r f l k e = record { head = h; content = []; fits = f; long = sym l; front = ap (λ z. z ++ r) (sym (append-nil (canon_head h) ∙ e)); many = sym k }
 
-one : (h : Head) (x n : ℕ) (r : List ℕ) → fits_head h → content_len h ≡ 0 → n ≡ parts_behind h → canon_head h ≡ x ∷ [] → TakesNode (x ∷ r) r n
+one : (h : Head) (x n : ℕ) (r : List ℕ) → fits_head h → content_len h ≡ 0 → n ≡ parts_after h → canon_head h ≡ x ∷ [] → TakesNode (x ∷ r) r n
 one h x n r f l k e = record { head = h; content = []; fits = f; long = sym l; front = ap (λ z. z ++ r) (sym (append-nil (canon_head h) ∙ e)); many = k }
 
 small_is : (m : ℕ) → m < 0x80 → canon_head (Whole (pos m)) ≡ m ∷ []

@@ -110,10 +110,10 @@ pub takes_until : {X : Type 0} {A B : Type 0} {m : Bool} {a b c : Option (List �
 takes_until f xs i x within is p q = takes_as (flat_map_split f xs i x within is) (takes_stop (flat_map f (drop (suc i) xs)) (takes_then p q))
 
 -- an item within a row is there whatever comes after it
-pub stands_in : {X : Type 0} (xs : List X) (i : ℕ) (d x : X) → i < length xs → x ≡ get_or xs i d → x ≡ get_or xs i x
-stands_in [] i d x h e = absurd (omega arith)
-stands_in (y ∷ ys) zero d x h e = e
-stands_in (y ∷ ys) (suc i) d x h e = stands_in ys i d x (omega arith) e
+pub starts_in : {X : Type 0} (xs : List X) (i : ℕ) (d x : X) → i < length xs → x ≡ get_or xs i d → x ≡ get_or xs i x
+starts_in [] i d x h e = absurd (omega arith)
+starts_in (y ∷ ys) zero d x h e = e
+starts_in (y ∷ ys) (suc i) d x h e = starts_in ys i d x (omega arith) e
 
 flat_map_next : {X : Type 0} (f : X → List ℕ) (xs : List X) (i : ℕ) (d x : X) → i < length xs → x ≡ get_or xs i d
     → flat_map f (take i xs) ++ f x ≡ flat_map f (take (suc i) xs)

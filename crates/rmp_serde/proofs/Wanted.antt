@@ -8,14 +8,14 @@ use Rattle.rmp_wire.specs.Msg.{Msg, nil, Msgs, no_items, item, count}
 use Rattle.rmp_wire.specs.Spelling.{IsBytes, canon, canon_all, Fits, FitsAll, head_of}
 use Rattle.rmp_wire.proofs.Canon.{canon_is_head, head_fits}
 use Rattle.rmp_wire.proofs.Canonical.{canonical_head_made}
-use Rattle.rmp_wire.proofs.Heads.{heads_apart}
+use Rattle.rmp_wire.proofs.Heads.{heads_differ}
 use Rattle.rmp_wire.proofs.Spellings.{canon_spells}
 use Rattle.rmp_wire.proofs.Unique.{spelled_once}
 use Rattle.rmp_decode.specs.Kinds.{content_len}
 use Rattle.rmp_decode.specs.declared.error.Error.{Error}
 use Rattle.rmp_decode.proofs.ContentErrors.{head_byte}
 use Rattle.rmp_decode.proofs.Rows.{append}
-use Rattle.rmp_serde.specs.Places.{BeginsAmong, IsWhole, Reaches, OpensOther, IsFault, StopsFor, parts_behind}
+use Rattle.rmp_serde.specs.Places.{BeginsAmong, IsWhole, Reaches, OpensOther, IsFault, StopsFor, parts_after}
 use Rattle.rmp_serde.proofs.Nodes.{
   content,
   parts,
@@ -48,13 +48,13 @@ pub record Row (n : ℕ) (ys : List ℕ) (k : ℕ) : Type 0 where
 pub record Among (P : List ℕ → Type 0) (n : ℕ) (ys : List ℕ) (p : ℕ) : Type 0 where
   pub trees : Msgs
   pub before : List ℕ
-  pub behind : List ℕ
+  pub following : List ℕ
   pub there : List ℕ
   pub many : count trees ≡ n
   pub fits : FitsAll trees
   pub begins : BeginsAmong trees p
   pub place : p ≡ length before
-  pub spelled : canon_all trees ≡ before ++ behind
+  pub spelled : canon_all trees ≡ before ++ following
   pub front : ys ≡ before ++ there
   pub holds : P there
 
@@ -101,33 +101,33 @@ row_opens n ys k (item m ms) rest c f e l = record {
 }
 
 -- the bytes after a beginning of both
-record Past (o c before behind : List ℕ) (q : ℕ) : Type 0 where
+record Past (o c before following : List ℕ) (q : ℕ) : Type 0 where
   pub more : List ℕ
   pub is : before ≡ o ++ more
-  pub split : c ≡ more ++ behind
+  pub split : c ≡ more ++ following
   pub long : q ≡ length more
 
-past : (o c before behind : List ℕ) (q : ℕ) → o ++ c ≡ before ++ behind → length before ≡ length o + q → Past o c before behind q
-past [] c before behind q e l = record { more = before; is = refl; split = e; long = omega arith }
-past (x ∷ o) c [] behind q e l = absurd (omega arith)
-past (x ∷ o) c (y ∷ before) behind q e l =
+past : (o c before following : List ℕ) (q : ℕ) → o ++ c ≡ before ++ following → length before ≡ length o + q → Past o c before following q
+past [] c before following q e l = record { more = before; is = refl; split = e; long = omega arith }
+past (x ∷ o) c [] following q e l = absurd (omega arith)
+past (x ∷ o) c (y ∷ before) following q e l =
     let head : x ≡ y = cc in
-    let tail : o ++ c ≡ before ++ behind = cc in
-    let i = past o c before behind q tail (omega arith) in
+    let tail : o ++ c ≡ before ++ following = cc in
+    let i = past o c before following q tail (omega arith) in
     record { more = i.more; is = ap (λ z. z ∷ before) (sym head) ∙ ap (λ z. x ∷ z) i.is; split = i.split; long = i.long }
 
 none_of : (s : List ℕ) → length s ≡ 0 → s ≡ []
 none_of [] l = refl
 none_of (b ∷ s) l = absurd (omega arith)
 
-among_opens : (P : List ℕ → Type 0) (n : ℕ) (ys : List ℕ) (p : ℕ) (trees : Msgs) (before behind there : List ℕ) → count trees ≡ suc n → FitsAll trees
-    → BeginsAmong trees p → p ≡ length before → canon_all trees ≡ before ++ behind → ys ≡ before ++ there → P there
+among_opens : (P : List ℕ → Type 0) (n : ℕ) (ys : List ℕ) (p : ℕ) (trees : Msgs) (before following there : List ℕ) → count trees ≡ suc n → FitsAll trees
+    → BeginsAmong trees p → p ≡ length before → canon_all trees ≡ before ++ following → ys ≡ before ++ there → P there
     → ((p ≡ 0) × P ys) ⊎ OpensAmong P n ys p
-among_opens P n ys p no_items before behind there c f b l s e h = absurd b
-among_opens P n ys p (item m ms) before behind there c f b l s e h = elim (begins_later m ms p b) [
+among_opens P n ys p no_items before following there c f b l s e h = absurd b
+among_opens P n ys p (item m ms) before following there c f b l s e h = elim (begins_later m ms p b) [
   | inl z ↦ inl (z, subst P (sym (e ∙ ap (λ t. t ++ there) (none_of before (sym l ∙ z)))) h)
   | inr a ↦
-      let u = past (own m) (canon_all (append (parts m) ms)) before behind a.0 (sym (canon_row m ms) ∙ s) (sym l ∙ a.1) in
+      let u = past (own m) (canon_all (append (parts m) ms)) before following a.0 (sym (canon_row m ms) ∙ s) (sym l ∙ a.1) in
       inr (record {
         tree = m;
         left = u.more ++ there;
@@ -138,7 +138,7 @@ among_opens P n ys p (item m ms) before behind there c f b l s e h = elim (begin
         among = record {
           trees = append (parts m) ms;
           before = u.more;
-          behind = behind;
+          following = following;
           there = there;
           many = omega (arith, count-append (parts m) ms, c);
           fits = fits-append (parts m) ms (fits_parts m f.0) f.1;
@@ -155,7 +155,7 @@ opens_row : {n : ℕ} {ys : List ℕ} {k : ℕ} → Row (suc n) ys k → OpensRo
 opens_row {n} {ys} {k} r = row_opens n ys k r.trees r.rest r.many r.fits r.front r.long
 
 opens_among : {P : List ℕ → Type 0} {n : ℕ} {ys : List ℕ} {p : ℕ} → Among P (suc n) ys p → ((p ≡ 0) × P ys) ⊎ OpensAmong P n ys p
-opens_among {P} {n} {ys} {p} r = among_opens P n ys p r.trees r.before r.behind r.there r.many r.fits r.begins r.place r.spelled r.front r.holds
+opens_among {P} {n} {ys} {p} r = among_opens P n ys p r.trees r.before r.following r.there r.many r.fits r.begins r.place r.spelled r.front r.holds
 
 -- ---- the bytes begin with no canonical head and content
 
@@ -185,7 +185,7 @@ among_here : (P : List ℕ → Type 0) (n : ℕ) (ys : List ℕ) → P ys → Am
 among_here P n ys h = record {
   trees = item nil (nils n);
   before = [];
-  behind = canon_all (item nil (nils n));
+  following = canon_all (item nil (nils n));
   there = ys;
   many = ap suc (nils_many n);
   fits = nils_fit (suc n);
@@ -200,7 +200,7 @@ among_here P n ys h = record {
 pub other_none : (ys : List ℕ) → OpensOther ys → NoNode ys
 other_none ys o m z f e =
     let c = canon_head (head_of m) in
-    let u = heads_apart (head_of m) o.head c o.bytes (content m ++ z) o.rest (canon_is_head (head_of m) (fits_own m f)) o.is_head
+    let u = heads_differ (head_of m) o.head c o.bytes (content m ++ z) o.rest (canon_is_head (head_of m) (fits_own m f)) o.is_head
     (sym (append_assoc c (content m) z) ∙ sym e ∙ o.front) in
     o.other (subst (IsCanonicalHead o.head) (ap canon_head (sym u.0) ∙ u.1) (canonical_head_made o.head (head_fits o.head o.bytes o.is_head)))
 
@@ -211,7 +211,7 @@ module _ (h : Head) (s : List ℕ) (f : fits_head h) (l : length s ≡ content_l
       → canon_all (item m others) ≡ (canon_head h ++ s) ++ canon_all ms
   whole m others ms e p = canon_row m others ∙ ap (λ z. z ++ canon_all (append (parts m) others)) e ∙ ap (λ z. (canon_head h ++ s) ++ canon_all z) p
 
-  row_to : (k : ℕ) → Row (parts_behind h + n) zs k → Row (suc n) ((canon_head h ++ s) ++ zs) (length (canon_head h ++ s) + k)
+  row_to : (k : ℕ) → Row (parts_after h + n) zs k → Row (suc n) ((canon_head h ++ s) ++ zs) (length (canon_head h ++ s) + k)
   row_to k r =
       let w = built h s n r.trees f l b r.many r.fits in
       let t = whole w.tree w.others r.trees w.own_is w.split in
@@ -224,7 +224,7 @@ module _ (h : Head) (s : List ℕ) (f : fits_head h) (l : length s ≡ content_l
         long = ap (λ z. length (canon_head h ++ s) + z) r.long ∙ sym (length-append (canon_head h ++ s) (canon_all r.trees)) ∙ ap length (sym t);
       }
 
-  among_to : (P : List ℕ → Type 0) (q : ℕ) → Among P (parts_behind h + n) zs q → Among P (suc n) ((canon_head h ++ s) ++ zs) (length (canon_head h ++ s) + q)
+  among_to : (P : List ℕ → Type 0) (q : ℕ) → Among P (parts_after h + n) zs q → Among P (suc n) ((canon_head h ++ s) ++ zs) (length (canon_head h ++ s) + q)
   among_to P q r =
       let w = built h s n r.trees f l b r.many r.fits in
       let t = whole w.tree w.others r.trees w.own_is w.split in
@@ -232,18 +232,18 @@ module _ (h : Head) (s : List ℕ) (f : fits_head h) (l : length s ≡ content_l
       record {
         trees = item w.tree w.others;
         before = (canon_head h ++ s) ++ r.before;
-        behind = r.behind;
+        following = r.following;
         there = r.there;
         many = ap suc w.left;
         fits = (w.fits, w.others_fit);
         begins = subst (λ z. BeginsAmong (item w.tree w.others) (length z + q)) w.own_is begins;
         place = ap (λ z. length (canon_head h ++ s) + z) r.place ∙ sym (length-append (canon_head h ++ s) r.before);
-        spelled = t ∙ ap (λ z. (canon_head h ++ s) ++ z) r.spelled ∙ sym (append_assoc (canon_head h ++ s) r.before r.behind);
+        spelled = t ∙ ap (λ z. (canon_head h ++ s) ++ z) r.spelled ∙ sym (append_assoc (canon_head h ++ s) r.before r.following);
         front = ap (λ z. (canon_head h ++ s) ++ z) r.front ∙ sym (append_assoc (canon_head h ++ s) r.before r.there);
         holds = r.holds;
       }
 
-  row_from : (k : ℕ) → Row (suc n) ((canon_head h ++ s) ++ zs) k → (j : ℕ) × (k ≡ length (canon_head h ++ s) + j) × Row (parts_behind h + n) zs j
+  row_from : (k : ℕ) → Row (suc n) ((canon_head h ++ s) ++ zs) k → (j : ℕ) × (k ≡ length (canon_head h ++ s) + j) × Row (parts_after h + n) zs j
   row_from k r =
       let o = opens_row r in
       let u = same_node o.tree h s o.left zs o.fits f l (sym o.front) in
@@ -251,7 +251,7 @@ module _ (h : Head) (s : List ℕ) (f : fits_head h) (l : length s ≡ content_l
       (o.later, o.place ∙ ap (λ z. length z + o.later) u.own_same, subst (λ z. Row (z + n) zs o.later) u.many row)
 
   among_from : (P : List ℕ → Type 0) → (P ((canon_head h ++ s) ++ zs) → ⊥) → (p : ℕ) → Among P (suc n) ((canon_head h ++ s) ++ zs) p
-      → (q : ℕ) × (p ≡ length (canon_head h ++ s) + q) × Among P (parts_behind h + n) zs q
+      → (q : ℕ) × (p ≡ length (canon_head h ++ s) + q) × Among P (parts_after h + n) zs q
   among_from P bad p r = elim (opens_among r) [
     | inl z ↦ absurd (bad z.1)
     | inr o ↦
@@ -262,7 +262,7 @@ module _ (h : Head) (s : List ℕ) (f : fits_head h) (l : length s ≡ content_l
 
   no_other : OpensOther ((canon_head h ++ s) ++ zs) → ⊥
   no_other o =
-      let u = heads_apart h o.head (canon_head h) o.bytes (s ++ zs) o.rest (canon_is_head h f) o.is_head (sym (append_assoc (canon_head h) s zs) ∙ o.front) in
+      let u = heads_differ h o.head (canon_head h) o.bytes (s ++ zs) o.rest (canon_is_head h f) o.is_head (sym (append_assoc (canon_head h) s zs) ∙ o.front) in
       o.other (subst (IsCanonicalHead o.head) (ap canon_head (sym u.0) ∙ u.1) (canonical_head_made o.head (head_fits o.head o.bytes o.is_head)))
 
 -- ---- one message
@@ -293,7 +293,7 @@ reached : (P : List ℕ → Type 0) (input : List ℕ) (p : ℕ) → Reaches P i
 reached P input p r = record {
   trees = item r.tree no_items;
   before = r.before;
-  behind = r.behind;
+  following = r.following;
   there = r.there;
   many = refl;
   fits = (r.fits, tt);
@@ -304,13 +304,13 @@ reached P input p r = record {
   holds = r.holds;
 }
 
-reaches : (P : List ℕ → Type 0) (input : List ℕ) (p : ℕ) (trees : Msgs) (before behind there : List ℕ) → count trees ≡ 1 → FitsAll trees
-    → BeginsAmong trees p → p ≡ length before → canon_all trees ≡ before ++ behind → input ≡ before ++ there → P there → Reaches P input p
-reaches P input p no_items before behind there c f b l s e h = absurd b
-reaches P input p (item m no_items) before behind there c f (inl b) l s e h = record {
+reaches : (P : List ℕ → Type 0) (input : List ℕ) (p : ℕ) (trees : Msgs) (before following there : List ℕ) → count trees ≡ 1 → FitsAll trees
+    → BeginsAmong trees p → p ≡ length before → canon_all trees ≡ before ++ following → input ≡ before ++ there → P there → Reaches P input p
+reaches P input p no_items before following there c f b l s e h = absurd b
+reaches P input p (item m no_items) before following there c f (inl b) l s e h = record {
   tree = m;
   before = before;
-  behind = behind;
+  following = following;
   there = there;
   fits = f.0;
   begins = b;
@@ -319,8 +319,8 @@ reaches P input p (item m no_items) before behind there c f (inl b) l s e h = re
   front = e;
   holds = h;
 }
-reaches P input p (item m no_items) before behind there c f (inr a) l s e h = absurd a.2
-reaches P input p (item m (item x ms)) before behind there c f b l s e h = absurd (omega arith)
+reaches P input p (item m no_items) before following there c f (inr a) l s e h = absurd a.2
+reaches P input p (item m (item x ms)) before following there c f b l s e h = absurd (omega arith)
 
 -- ---- all that was consumed, and what remains then
 
@@ -342,10 +342,10 @@ follows_all input = record {
   whole_to = λ k r. subst (IsWhole input) (zero_more k) (row_whole input k r.trees r.rest r.many r.fits r.front r.long);
   whole_from = λ n w. (n, zero_more n, one_row input n w);
   fault_to = λ q a. subst (IsFault input) (zero_more q)
-      (reaches OpensOther input q a.trees a.before a.behind a.there a.many a.fits a.begins a.place a.spelled a.front a.holds);
+      (reaches OpensOther input q a.trees a.before a.following a.there a.many a.fits a.begins a.place a.spelled a.front a.holds);
   fault_from = λ p f. (p, zero_more p, reached OpensOther input p f);
   stops_to = λ e q a. subst (Reaches (StopsFor e) input) (zero_more q)
-      (reaches (StopsFor e) input q a.trees a.before a.behind a.there a.many a.fits a.begins a.place a.spelled a.front a.holds);
+      (reaches (StopsFor e) input q a.trees a.before a.following a.there a.many a.fits a.begins a.place a.spelled a.front a.holds);
   place = zero_more (length input);
 }
 
@@ -354,7 +354,7 @@ more at n k = omega arith
 
 -- a canonical head and its content were taken
 pub follows_head : (input : List ℕ) (n at : ℕ) (h : Head) (s zs : List ℕ) → fits_head h → length s ≡ content_len h → IsBytes s
-    → Follows input (suc n) ((canon_head h ++ s) ++ zs) at → Follows input (parts_behind h + n) zs (at + length (canon_head h ++ s))
+    → Follows input (suc n) ((canon_head h ++ s) ++ zs) at → Follows input (parts_after h + n) zs (at + length (canon_head h ++ s))
 follows_head input n at h s zs f l b w =
     let a = length (canon_head h ++ s) in
     record {
@@ -430,7 +430,7 @@ own_some m f =
     let b = head_byte false (head_of m) (canon_head (head_of m)) (canon_is_head (head_of m) (fits_own m f)) in
     omega (arith, ap length b.2, length-append (canon_head (head_of m)) (content m))
 
-node_once : (m k : Msg) (x y : List ℕ) → Fits m → Fits k → own m ++ x ≡ own k ++ y → SameNode m (own k) x y (parts_behind (head_of k))
+node_once : (m k : Msg) (x y : List ℕ) → Fits m → Fits k → own m ++ x ≡ own k ++ y → SameNode m (own k) x y (parts_after (head_of k))
 node_once m k x y f g e = same_node m (head_of k) (content k) x y f (fits_own k g) (content_long k) e
 
 -- where no message can be taken the checker stops, so what holds there holds at one place

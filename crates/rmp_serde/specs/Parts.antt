@@ -11,8 +11,8 @@ abbrev pub row_at : ValueRef → Msgs
 row_at v = built (drop v.at (tokens v.value.now))
 
 -- the messages after the head at that index
-abbrev pub row_behind : ValueRef → Msgs
-row_behind v = built (drop (suc v.at) (tokens v.value.now))
+abbrev pub row_after : ValueRef → Msgs
+row_after v = built (drop (suc v.at) (tokens v.value.now))
 
 -- the tree of a reference: the one whose heads begin at the reference's index among those of the whole
 abbrev pub tree : ValueRef → Msg

@@ -28,7 +28,7 @@ use Rattle.rmp_wire.specs.Msg.{
 }
 use Rattle.rmp_wire.specs.Spelling.{canon, Fits}
 use Rattle.rmp_decode.specs.Exact.{IsMarkerEnd, IsDataEnd}
-pub use Rattle.rmp_scan.specs.Parts.{parts_behind}
+pub use Rattle.rmp_scan.specs.Parts.{parts_after}
 use Rattle.rmp_decode.specs.Kinds.{content_len}
 use Rattle.rmp_decode.specs.Refuse.{HeadIsCut, ContentIsCut, IsReserved}
 use Rattle.rmp_decode.specs.declared.error.Error.{Error}
@@ -74,12 +74,12 @@ pub record IsWhole (input : List ℕ) (n : ℕ) : Type 0 where
 pub record Reaches (P : List ℕ → Type 0) (input : List ℕ) (p : ℕ) : Type 0 where
   pub tree : Msg
   pub before : List ℕ
-  pub behind : List ℕ
+  pub following : List ℕ
   pub there : List ℕ
   pub fits : Fits tree
   pub begins : BeginsAt tree p
   pub place : p ≡ length before
-  pub spelled : canon tree ≡ before ++ behind
+  pub spelled : canon tree ≡ before ++ following
   pub front : input ≡ before ++ there
   pub holds : P there
 
@@ -116,7 +116,7 @@ pub record TakesNode (xs rest : List ℕ) (n : ℕ) : Type 0 where
   pub fits : fits_head head
   pub long : length content ≡ content_len head
   pub front : xs ≡ (canon_head head ++ content) ++ rest
-  pub many : n ≡ parts_behind head
+  pub many : n ≡ parts_after head
 
 -- What reading a head and its content does: they are canonical and were consumed, the head isn't canonical, or
 -- the error says why neither is so.

@@ -28,7 +28,7 @@ ContentUtf8 (Text n) s = IsUtf8 s
 ContentUtf8 h s = Unit {0}
 
 -- the content after this head was consumed, and appended to the bytes in the buffer
-pub record TakesBehind {R C : Type 0} (g : Ghosts R) (h : Head) (old new : Deserializer R C) (before after : List ℕ) : Type 0 where
+pub record TakesAfter {R C : Type 0} (g : Ghosts R) (h : Head) (old new : Deserializer R C) (before after : List ℕ) : Type 0 where
   pub content : List ℕ
   pub taken : TakesContent g (content_len h) old new content
   pub utf8 : ContentUtf8 h content
@@ -47,21 +47,21 @@ FailsLeaf g (Text n) old new e = FailsText g n old new e
 FailsLeaf g h old new e = FailsContent g (content_len h) old new e
 
 -- a list or a map is empty, so that as many messages remain after its head, at the same depth
-pub record PassesEmpty (inner : ℕ) (around : ℕ × ℕ) (outer : List ℕ) (now : ℕ × ℕ) (behind : List ℕ) : Type 0 where
+pub record PassesEmpty (inner : ℕ) (around : ℕ × ℕ) (outer : List ℕ) (now : ℕ × ℕ) (following : List ℕ) : Type 0 where
   pub none : inner ≡ 0
   pub room : now.0 ≡ around.0
   pub wanted : now.1 ≡ around.1
-  pub kept : behind ≡ outer
+  pub kept : following ≡ outer
 
 -- it contains this many messages, which come next, one level deeper; what remained is kept
-pub record GoesIn (inner : ℕ) (around : ℕ × ℕ) (outer : List ℕ) (now : ℕ × ℕ) (behind : List ℕ) : Type 0 where
+pub record GoesIn (inner : ℕ) (around : ℕ × ℕ) (outer : List ℕ) (now : ℕ × ℕ) (following : List ℕ) : Type 0 where
   pub room : now.0 ≡ around.0 - 1
   pub wanted : now.1 ≡ inner
   pub few : inner < 8589934592
-  pub kept : behind ≡ outer ++ around.1 ∷ []
+  pub kept : following ≡ outer ++ around.1 ∷ []
 
 abbrev pub Enters : ℕ → ℕ × ℕ → List ℕ → ℕ × ℕ → List ℕ → Type 0
-Enters inner around outer now behind = PassesEmpty inner around outer now behind ⊎ GoesIn inner around outer now behind
+Enters inner around outer now following = PassesEmpty inner around outer now following ⊎ GoesIn inner around outer now following
 
 -- n messages were consumed, in order, whose texts are UTF-8, and their heads were appended to those recorded
 -- before

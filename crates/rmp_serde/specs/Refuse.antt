@@ -5,8 +5,8 @@ use Rattle.rmp_wire.specs.declared.head.Head.TheVariants.{Text}
 use Rattle.rmp_wire.specs.declared.marker.Marker.{Marker}
 use Rattle.rmp_wire.specs.declared.source.Source.{Ghosts}
 use Rattle.rmp_decode.specs.Anys.{OpensParts}
-use Rattle.rmp_decode.specs.Content.{StandsWhole, IsRawHead, IsExtHead}
-use Rattle.rmp_decode.specs.Exact.{Stands}
+use Rattle.rmp_decode.specs.Content.{WholePayload, IsRawHead, IsExtHead}
+use Rattle.rmp_decode.specs.Exact.{BeginsWith}
 use Rattle.rmp_decode.specs.Refuse.{IsWrong, RefusesFirst}
 use Rattle.rmp_decode.specs.declared.deserializer.Deserializer.{Deserializer}
 use Rattle.rmp_decode.specs.declared.error.Error.{Error}
@@ -16,14 +16,14 @@ use Rattle.rmp_serde.specs.Read.{ItemsUtf8}
 -- the bytes begin with a whole text that isn't UTF-8
 pub record TextIsInvalid (strict : Bool) (xs : List ℕ) : Type 0 where
   pub text : List ℕ
-  pub stands : StandsWhole strict (Text (length text)) text xs
+  pub starts : WholePayload strict (Text (length text)) text xs
   pub invalid : IsUtf8 text → ⊥
 
 -- the bytes begin with the head of a text, of bytes or of an extension
 pub record OpensContent (strict : Bool) (xs : List ℕ) : Type 0 where
   pub head : Head
   pub marker : Marker
-  pub stands : Stands strict marker head xs
+  pub starts : BeginsWith strict marker head xs
   pub has_content : IsRawHead head ⊎ IsExtHead head
 
 -- Why no value can be read from the bytes: a text isn't UTF-8, memory ran out for content or for the messages

@@ -1,7 +1,7 @@
 //! Whether an input is spelled canonically, and where it isn't.
 ghost use Rattle.std.specs.Prelude.{◌≡◌, ◌≢◌, ◌↔◌, ◌<◌, ℕ, Ok, IfErr};
 ghost use Rattle.rmp_decode.specs.Kinds.{content_len};
-ghost use Rattle.rmp_serde.specs.Places.{IsWhole, IsFault, Stops, NextNode, parts_behind};
+ghost use Rattle.rmp_serde.specs.Places.{IsWhole, IsFault, Stops, NextNode, parts_after};
 
 mod short;
 
@@ -22,7 +22,7 @@ pub enum Canon {
 
 // How many messages follow a head as its parts.
 fn parts_in(head: &Head) -> u64
-    ensures { result ≡ parts_behind head.now }
+    ensures { result ≡ parts_after head.now }
 {
     match head {
         Head::Array(len) => u64::from(*len),

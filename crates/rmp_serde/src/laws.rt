@@ -34,7 +34,7 @@ pub use rmp_round_trip::laws::{
 };
 use rmp_wire::{ByteBuf, Bytes, Ext, Reference};
 
-/// No head begins a different head: where two stand at the beginning of one input, they are the same.
+/// No head begins a different head: where two are at the beginning of one input, they are the same.
 pub fn no_head_begins_another()
     ensures { (h k : Head) (a b x y : List ℕ) → IsHead h a → IsHead k b → a ++ x ≡ b ++ y → (h ≡ k) × (a ≡ b) × (x ≡ y) }
 {}

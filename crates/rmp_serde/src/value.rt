@@ -54,7 +54,7 @@ impl Value {
     // The message of these heads: that of the root, and those of its parts.
     pub(crate) fn from_parts(head: Head, at: usize, parts: Nodes) -> Value
         requires fits { fits_head head }
-        requires stands { at + content_len head ≤ length parts.bytes.items }
+        requires starts { at + content_len head ≤ length parts.bytes.items }
         requires within { IsWithin parts }
         requires told { IsTree (content_at parts head at ∷ heads_of parts) }
         ensures told { result ≡ told_tree (content_at parts head at ∷ heads_of parts) }

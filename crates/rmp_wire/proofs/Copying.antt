@@ -28,7 +28,7 @@ gained old new front held held' n most f s l some within e =
       some = omega (arith, c, some);
       within = omega (arith, c, within);
       taken = skips_front old new front n f s l;
-      behind = e;
+      following = e;
     }
 
 -- a buffered reader lost the first n of the remaining bytes, which were buffered
@@ -51,7 +51,7 @@ pulled old new buf rest held held' n most bound some within taken e =
       some = omega (arith, c, some);
       within = omega (arith, c, within);
       taken = taken;
-      behind = e ∙ ap (λ t. held ++ t) (take-append-le n buf rest bound);
+      following = e ∙ ap (λ t. held ++ t) (take-append-le n buf rest bound);
     }
 
 -- ---- a piece is filled in several steps: held so far are the bytes from old to mid, and the next step goes from mid to new
@@ -63,12 +63,12 @@ room_left held len n e within = omega (arith, e, within)
 pub held_more : (old mid new : Option (List ℕ)) (held held' : List ℕ) (most len : ℕ) → Consumes old mid held → length held + most ≤ len
     → Gains mid new most held held' → (length held' ≤ len) × Consumes old new held'
 held_more old mid new held held' most len taken room more = (
-  omega (arith, more.within, ap length more.behind, length-append held more.bytes),
-  subst (Consumes old new) (sym more.behind) (Consumes-trans old mid new held more.bytes taken more.taken),
+  omega (arith, more.within, ap length more.following, length-append held more.bytes),
+  subst (Consumes old new) (sym more.following) (Consumes-trans old mid new held more.bytes taken more.taken),
 )
 
 pub grown : (mid new : Option (List ℕ)) (held held' : List ℕ) (most : ℕ) → Gains mid new most held held' → length held < length held'
-grown mid new held held' most more = omega (arith, more.some, ap length more.behind, length-append held more.bytes)
+grown mid new held held' most more = omega (arith, more.some, ap length more.following, length-append held more.bytes)
 
 -- a step that took bytes and failed
 pub begun_lost : (old mid new : Option (List ℕ)) (held lost : List ℕ) (most len : ℕ) → Consumes old mid held → length held + most ≤ len

@@ -16,7 +16,7 @@ moved p n xs = sym (take-append-drop n (drop p xs)) ∙ ap (λ t. take n (drop p
 next_count : (p n : ℕ) (xs : List ℕ) → n ≤ length xs - p → length (take n (drop p xs)) ≡ n
 next_count p n xs l = length-take-le n (drop p xs) (rw (length-drop p xs) l)
 
--- the same where a copy of the next n is in front of others
+-- the same where a copy of the next n is before others
 pub copied : (p n : ℕ) (s r xs : List ℕ) → s ≡ take n (drop p xs) → n ≤ length xs - p → drop p xs ≡ take n (s ++ r) ++ drop (p + n) xs
 copied p n s r xs e l =
     let c : length s ≡ n = ap length e ∙ next_count p n xs l in

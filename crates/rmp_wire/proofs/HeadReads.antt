@@ -46,7 +46,7 @@ use Rattle.rmp_wire.specs.Reading.{ReadsHead, ReadsNumber, ReadsTag, FailsHead, 
 use Rattle.rmp_wire.specs.Sources.{Takes}
 use Rattle.rmp_wire.specs.Taking.{byte_of}
 use Rattle.std.proofs.lemmas.Nat.{be_bytes_8}
-use Rattle.rmp_wire.proofs.Reading.{tail_len, reserved_opens_none, short_of_more, cuts_short, cuts_short_behind}
+use Rattle.rmp_wire.proofs.Reading.{tail_len, reserved_opens_none, short_of_more, cuts_short, cuts_short_after}
 
 not_reserved : (k : Marker) (h : Head) (x : List ℕ) → IsHead h (byte_of k ∷ x) → k ≡ Reserved → ⊥
 not_reserved k h x p e = reserved_opens_none h x (subst (λ m. IsHead h (byte_of m ∷ x)) e p)
@@ -188,12 +188,12 @@ module _ {S : Type 0} (g : Ghosts S) where
   fails_early m n more (InvalidDataRead f) old new l t = cuts_short m (n + more) _ _ _ _ f l (short_of_more n more _ _ _ _ f t)
   fails_early m n more (TypeMismatch k) old new l t = absurd t
 
-  fails_behind : (m : Marker) (k n : ℕ) (bytes : List ℕ) (e : ValueReadError) (old mid new : S) → tail_len m ≡ k + n → length bytes ≡ k
+  fails_after : (m : Marker) (k n : ℕ) (bytes : List ℕ) (e : ValueReadError) (old mid new : S) → tail_len m ≡ k + n → length bytes ≡ k
       → Consumes (g.ahead old) (g.ahead mid) bytes → g.faults mid ≡ g.faults old
       → FailsData n (g.ahead mid) (g.ahead new) (g.faults mid) (g.faults new) e → FailsHead m (g.ahead old) (g.ahead new) (g.faults old) (g.faults new) e
-  fails_behind m k n bytes (InvalidMarkerRead f) old mid new l b c s t = t
-  fails_behind m k n bytes (InvalidDataRead f) old mid new l b c s t = cuts_short_behind m k n _ (g.ahead mid) _ bytes _ (g.faults mid) _ f l b c s t
-  fails_behind m k n bytes (TypeMismatch q) old mid new l b c s t = absurd t
+  fails_after m k n bytes (InvalidMarkerRead f) old mid new l b c s t = t
+  fails_after m k n bytes (InvalidDataRead f) old mid new l b c s t = cuts_short_after m k n _ (g.ahead mid) _ bytes _ (g.faults mid) _ f l b c s t
+  fails_after m k n bytes (TypeMismatch q) old mid new l b c s t = absurd t
 
   failed : (m k : Marker) (e : ValueReadError) (r : Result Head ValueReadError) (old new : S) → m ≡ k → 0 < tail_len k → r ≡ Err e → g.place new ≡ g.place old
       → FailsHead k (g.ahead old) (g.ahead new) (g.faults old) (g.faults new) e → ReadsHead g m old new r
@@ -219,7 +219,7 @@ module _ {S : Type 0} (g : Ghosts S) where
       → ReadsHead g m old new r
   fails_ext w m k n e r old mid new is l was first t =
       failed m k e r old new is (omega arith) was (t.place ∙ first.place)
-      (fails_behind k (byte_len w) 1 (to_be_bytes w n) e old mid new l (length-to_be_bytes w n) first.ok first.sound t.err)
+      (fails_after k (byte_len w) 1 (to_be_bytes w n) e old mid new l (length-to_be_bytes w n) first.ok first.sound t.err)
 
   pub fails_reserved : (m : Marker) (s : S) → m ≡ Reserved → ReadsHead g m s s (Err (TypeMismatch Reserved))
   fails_reserved m s is = record { ok = tt; sound = tt; err = (is, refl, Keeps-refl (g.ahead s), refl); reserved = λ e. refl; place = refl }

@@ -155,8 +155,8 @@ take_head_takes (Ext n tag) a x (inr (inr (inr (inr (inr (inr (inr f))))))) = rw
     (ap (λ t. take_then t take_tag) (take_number_32 n (tag_byte tag ∷ x) f.0) ∙ tag_gives n tag x f.1)
 
 -- No head begins a different head.
-pub heads_apart : (h k : Head) (a b x y : List ℕ) → IsHead h a → IsHead k b → a ++ x ≡ b ++ y → (h ≡ k) × (a ≡ b) × (x ≡ y)
-heads_apart h k a b x y p q e =
+pub heads_differ : (h k : Head) (a b x y : List ℕ) → IsHead h a → IsHead k b → a ++ x ≡ b ++ y → (h ≡ k) × (a ≡ b) × (x ≡ y)
+heads_differ h k a b x y p q e =
     let same : Some (h, x) ≡ Some (k, y) = sym (take_head_takes h a x p) ∙ ap take_head e ∙ take_head_takes k b y q in
     let parts : (h ≡ k) × (x ≡ y) = some_pair_parts h k x y same in
     (parts.0, append_cancel_right a b y (ap (λ t. a ++ t) (sym parts.1) ∙ e), parts.1)

@@ -32,19 +32,19 @@ pub no_head_at_end : (ahead : Option (List ℕ)) → IsAtEnd ahead → NoHead ah
 no_head_at_end None e = tt
 no_head_at_end (Some xs) e = none_at_end xs e
 
-none_behind : (m : Marker) (xs ys : List ℕ) → xs ≡ byte_of m ∷ ys → IsCut m (Some ys) → (h : Head) (x rest : List ℕ) → xs ≡ x ++ rest → IsHead h x → ⊥
-none_behind m xs ys c q h [] rest s p = head_not_empty h p
-none_behind m xs ys c q h (b ∷ x) rest s p =
+none_after : (m : Marker) (xs ys : List ℕ) → xs ≡ byte_of m ∷ ys → IsCut m (Some ys) → (h : Head) (x rest : List ℕ) → xs ≡ x ++ rest → IsHead h x → ⊥
+none_after m xs ys c q h [] rest s p = head_not_empty h p
+none_after m xs ys c q h (b ∷ x) rest s p =
     let u : byte_of m ∷ ys ≡ b ∷ (x ++ rest) = sym c ∙ s in
     let first : b ≡ byte_of m = cc in
-    let behind : ys ≡ x ++ rest = cc in
-    q h x rest behind (subst (λ t. IsHead h (t ∷ x)) first p)
+    let following : ys ≡ x ++ rest = cc in
+    q h x rest following (subst (λ t. IsHead h (t ∷ x)) first p)
 
 -- the marker's byte remained, and then bytes that complete no head of it
 no_head_cut : (m : Marker) (old mid : Option (List ℕ)) → Consumes old mid (byte_of m ∷ []) → IsCut m mid → NoHead old
 no_head_cut m None mid c q = tt
 no_head_cut m (Some xs) None c q = absurd c
-no_head_cut m (Some xs) (Some ys) c q = none_behind m xs ys c q
+no_head_cut m (Some xs) (Some ys) c q = none_after m xs ys c q
 
 reserved_cut : (ahead : Option (List ℕ)) → IsCut Reserved ahead
 reserved_cut None = tt

@@ -1,4 +1,4 @@
--- Bytes that were read ahead, in front of those that a reader tells.
+-- Bytes that were read ahead, before those that a reader tells.
 use Rattle.std.proofs.Common.{◌∙◌, sym, ap, ℕ, ◌≤◌, List, ◌++◌, take, drop, length, Option, None, Some, append_assoc}
 use Rattle.std.proofs.lemmas.List.{length-take-le, take-append-drop}
 use Rattle.std.specs.Io.KnownBytes.{prepend_known}

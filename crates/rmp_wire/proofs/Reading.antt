@@ -164,21 +164,21 @@ short_of_more n more old new before after fault t = record {
   end = t.end;
 }
 
-short_behind : (k n : ℕ) (old mid : Option (List ℕ)) (bytes : List ℕ) → length bytes ≡ k → Consumes old mid bytes → IsShort n mid → IsShort (k + n) old
-short_behind k n None mid bytes l c s = tt
-short_behind k n (Some xs) None bytes l c s = absurd c
-short_behind k n (Some xs) (Some ys) bytes l c s = omega (arith, ap length c, length-append bytes ys)
+short_after : (k n : ℕ) (old mid : Option (List ℕ)) (bytes : List ℕ) → length bytes ≡ k → Consumes old mid bytes → IsShort n mid → IsShort (k + n) old
+short_after k n None mid bytes l c s = tt
+short_after k n (Some xs) None bytes l c s = absurd c
+short_after k n (Some xs) (Some ys) bytes l c s = omega (arith, ap length c, length-append bytes ys)
 
 -- the same where k bytes of the head were taken before the call
-pub cuts_short_behind : (m : Marker) (k n : ℕ) (old mid new : Option (List ℕ)) (bytes : List ℕ) (before between after : ℕ) (fault : IoFault)
+pub cuts_short_after : (m : Marker) (k n : ℕ) (old mid new : Option (List ℕ)) (bytes : List ℕ) (before between after : ℕ) (fault : IoFault)
     → tail_len m ≡ k + n → length bytes ≡ k → Consumes old mid bytes
     → between ≡ before → TakesShort n mid new between after fault → CutsHead m old new before after fault
-cuts_short_behind m k n old mid new bytes before between after fault l b c same t = record {
+cuts_short_after m k n old mid new bytes before between after fault l b c same t = record {
   part = record {
     part = bytes ++ t.part.part;
     short = λ h x p. omega (arith, t.part.short, tail_length m h x p, length-append bytes t.part.part);
     taken = Consumes-trans old mid new _ _ c t.part.taken;
   };
-  cut = λ e. cut_by_length m (k + n) old l (short_behind k n old mid bytes b c (t.short (e ∙ sym same)));
+  cut = λ e. cut_by_length m (k + n) old l (short_after k n old mid bytes b c (t.short (e ∙ sym same)));
   end = λ e. t.end (e ∙ sym same);
 }

@@ -9,7 +9,7 @@ use Rattle.rmp_wire.specs.declared.head.Head.{Head}
 use Rattle.rmp_wire.specs.declared.head.Head.TheVariants.{Nil, Truth, Whole, F32Bits, F64Bits, Text, Bin, Array, Map, Ext}
 use Rattle.rmp_wire.proofs.Canon.{canon_is_head, head_fits}
 use Rattle.rmp_wire.proofs.Canonical.{canonical_head_made, canonical_head_is}
-use Rattle.rmp_wire.proofs.Heads.{heads_apart}
+use Rattle.rmp_wire.proofs.Heads.{heads_differ}
 use Rattle.rmp_wire.proofs.Unique.{spelled_once}
 
 -- ---- where more heads are allowed, more is spelled
@@ -106,20 +106,20 @@ spells_any strict = spelled_wider (heads_of strict) IsHead (any_width strict)
 -- ---- what the test of a head says
 
 -- after its first byte a head is determined
-same_behind : (h : Head) (b : ℕ) (x y : List ℕ) → IsHead h (b ∷ x) → canon_head h ≡ b ∷ y → b ∷ x ≡ canon_head h
+same_after : (h : Head) (b : ℕ) (x y : List ℕ) → IsHead h (b ∷ x) → canon_head h ≡ b ∷ y → b ∷ x ≡ canon_head h
 unfolding IsHead canon_head
-same_behind Nil b x y i e = i
-same_behind (Truth false) b x y i e = i
-same_behind (Truth true) b x y i e = i
-same_behind (Whole (pos n)) b x y i e = grind (arith, nat_tests)
-same_behind (Whole (negsuc n)) b x y i e = grind (arith, nat_tests)
-same_behind (F32Bits n) b x y i e = i.1
-same_behind (F64Bits n) b x y i e = i.1
-same_behind (Text n) b x y i e = grind (arith, nat_tests)
-same_behind (Bin n) b x y i e = grind (arith, nat_tests)
-same_behind (Array n) b x y i e = grind (arith, nat_tests)
-same_behind (Map n) b x y i e = grind (arith, nat_tests)
-same_behind (Ext n tag) b x y i e = grind (arith, nat_tests)
+same_after Nil b x y i e = i
+same_after (Truth false) b x y i e = i
+same_after (Truth true) b x y i e = i
+same_after (Whole (pos n)) b x y i e = grind (arith, nat_tests)
+same_after (Whole (negsuc n)) b x y i e = grind (arith, nat_tests)
+same_after (F32Bits n) b x y i e = i.1
+same_after (F64Bits n) b x y i e = i.1
+same_after (Text n) b x y i e = grind (arith, nat_tests)
+same_after (Bin n) b x y i e = grind (arith, nat_tests)
+same_after (Array n) b x y i e = grind (arith, nat_tests)
+same_after (Map n) b x y i e = grind (arith, nat_tests)
+same_after (Ext n tag) b x y i e = grind (arith, nat_tests)
 
 opened_by : (b : ℕ) (xs : List ℕ) → Opens b xs → (y : List ℕ) × (xs ≡ b ∷ y)
 opened_by b [] o = absurd o
@@ -129,7 +129,7 @@ opened_by b (c ∷ y) o = (y, ap (λ z. z ∷ y) (sym o))
 pub test_passed : (h : Head) (b : ℕ) (x : List ℕ) → IsHead h (b ∷ x) → Opens b (canon_head h) → IsCanonicalHead h (b ∷ x)
 test_passed h b x i o =
     let y = opened_by b (canon_head h) o in
-    subst (IsCanonicalHead h) (sym (same_behind h b x y.0 i y.1)) (canonical_head_made h (head_fits h (b ∷ x) i))
+    subst (IsCanonicalHead h) (sym (same_after h b x y.0 i y.1)) (canonical_head_made h (head_fits h (b ∷ x) i))
 
 -- and any other is not
 pub test_failed : (h : Head) (b : ℕ) (x : List ℕ) → IsCanonicalHead h (b ∷ x) → Opens b (canon_head h)
@@ -140,5 +140,5 @@ pub spelled_once_as : (strict : Bool) (m n : Msg) (a b x y : List ℕ) → Spell
 spelled_once_as strict m n a b x y p q e = spelled_once m n a b x y (spells_any strict m a p) (spells_any strict n b q) e
 
 -- No head begins a different head.
-pub heads_apart_as : (strict : Bool) (h k : Head) (a b x y : List ℕ) → heads_of strict h a → heads_of strict k b → a ++ x ≡ b ++ y → (h ≡ k) × (a ≡ b) × (x ≡ y)
-heads_apart_as strict h k a b x y p q e = heads_apart h k a b x y (any_width strict h a p) (any_width strict k b q) e
+pub heads_differ_as : (strict : Bool) (h k : Head) (a b x y : List ℕ) → heads_of strict h a → heads_of strict k b → a ++ x ≡ b ++ y → (h ≡ k) × (a ≡ b) × (x ≡ y)
+heads_differ_as strict h k a b x y p q e = heads_differ h k a b x y (any_width strict h a p) (any_width strict k b q) e

@@ -27,4 +27,4 @@ pub record Gains (old new : Option (List ℕ)) (n : ℕ) (held held' : List ℕ)
   pub some : 0 < length bytes
   pub within : length bytes ≤ n
   pub taken : Consumes old new bytes
-  pub behind : held' ≡ held ++ bytes
+  pub following : held' ≡ held ++ bytes

@@ -27,7 +27,7 @@ abbrev pub fields_head : Option Bool → ℕ → Head
 fields_head None n = Map n
 fields_head (Some b) n = seq_head b n
 
--- how many bytes of content stand behind the head of a leaf
+-- how many bytes the payload of a leaf has, by its head
 abbrev pub content_len : Head → ℕ
 content_len Nil = 0
 content_len (Truth t) = 0

@@ -3,7 +3,7 @@ use Rattle.std.specs.Prelude.{ℕ, List, take, drop}
 use Rattle.std.specs.Borrow.{GName}
 use Rattle.rmp_wire.specs.declared.sink.SliceSink.{SliceSink}
 
--- the bytes written so far, at the front of the slice
+-- the bytes written so far, from the slice's beginning
 abbrev pub written_bytes : SliceSink → List ℕ
 written_bytes s = take s.at s.buf.now
 

@@ -28,7 +28,7 @@ pub record Skips (n : ℕ) (old new : Option (List ℕ)) : Type 0 where
   pub long : length bytes ≡ n
   pub taken : Consumes old new bytes
 
--- fewer than n bytes were consumed, from the front
+-- fewer than n of the next bytes were consumed
 pub record TakesPart (n : ℕ) (old new : Option (List ℕ)) : Type 0 where
   pub part : List ℕ
   pub short : length part < n

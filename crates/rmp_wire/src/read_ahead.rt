@@ -1,7 +1,7 @@
 //! A source that reads ahead, into a buffer of its own.
 ghost use Rattle.std.specs.Prelude.{◌≡◌, ◌<◌, ◌≤◌, [], IfOk, OnOk, OnErr, IsTrue, false, take, length, min};
 ghost use Rattle.std.specs.Io.KnownBytes.{Consumes, IsAtEnd, Keeps};
-ghost use Rattle.rmp_wire.specs.ReadAhead.{faults_behind, held_of, reader_behind, told_ahead};
+ghost use Rattle.rmp_wire.specs.ReadAhead.{faults_after, held_of, reader_after, told_ahead};
 ghost use Rattle.rmp_wire.specs.Sources.{IsFront, Skips};
 ghost use Rattle.rmp_wire.specs.Sinks.{next_fault};
 
@@ -31,9 +31,9 @@ pub struct AheadSource<R> {
 impl<R> AheadSource<R> {
     /// Reads from `reader`. Memory for the buffer comes from `alloc`, from the first read on.
     pub fn new(alloc: Global, reader: R) -> AheadSource<R>
-        ensures reader { reader_behind result ≡ reader }
+        ensures reader { reader_after result ≡ reader }
         ensures held { held_of result ≡ [] }
-        ensures faults { faults_behind result ≡ 0 }
+        ensures faults { faults_after result ≡ 0 }
     {
         AheadSource {
             source: IoSource::new(reader),
@@ -43,7 +43,7 @@ impl<R> AheadSource<R> {
 
     /// Returns the reader, from which the buffered bytes were already read.
     pub fn get_ref(&self) -> &R
-        ensures { result.now ≡ reader_behind self.now }
+        ensures { result.now ≡ reader_after self.now }
     {
         self.source.get_ref()
     }
@@ -57,7 +57,7 @@ impl<R> AheadSource<R> {
 
     /// Returns the reader. Buffered bytes are lost.
     pub fn into_inner(self) -> R
-        ensures { result ≡ reader_behind self }
+        ensures { result ≡ reader_after self }
     {
         self.source.into_inner()
     }
@@ -70,7 +70,7 @@ impl<R: Read> AheadSource<R> {
         ensures size { length buf.new ≡ length buf.old }
         ensures count { result ≡ min (length (held_of self.old)) (length buf.new) }
         ensures bytes { Consumes (told_ahead R.remaining self.old) (told_ahead R.remaining self.new) (take result buf.new) }
-        ensures faults { faults_behind self.new ≡ faults_behind self.old }
+        ensures faults { faults_after self.new ≡ faults_after self.old }
     {
         self.held.take_into(buf)
     }
@@ -82,9 +82,9 @@ impl<R: Read> AheadSource<R> {
         ensures bound { IfOk result (λ n. n ≤ length buf.new) }
         ensures bytes { IfOk result (λ n. Consumes (told_ahead R.remaining self.old) (told_ahead R.remaining self.new) (take n buf.new)) }
         ensures end { IfOk result (λ n. n ≡ 0 → 0 < length buf.new → IsAtEnd (told_ahead R.remaining self.old)) }
-        ensures sound { OnOk result (faults_behind self.new ≡ faults_behind self.old) }
+        ensures sound { OnOk result (faults_after self.new ≡ faults_after self.old) }
         ensures kept { OnErr result (Keeps (told_ahead R.remaining self.old) (told_ahead R.remaining self.new)) }
-        ensures fault { OnErr result (faults_behind self.new ≡ next_fault (faults_behind self.old)) }
+        ensures fault { OnErr result (faults_after self.new ≡ next_fault (faults_after self.old)) }
     {
         if buf.len() >= self.held.make_room() {
             return self.source.pull(buf);
@@ -97,11 +97,11 @@ impl<R: Read> AheadSource<R> {
 }
 
 impl<R: Read> Source for AheadSource<R> {
-    ghost use Rattle.rmp_wire.specs.ReadAhead.{faults_behind, told_ahead};
+    ghost use Rattle.rmp_wire.specs.ReadAhead.{faults_after, told_ahead};
 
     ghost ahead = { told_ahead R.remaining };
 
-    ghost faults = { faults_behind };
+    ghost faults = { faults_after };
 
     fn pull(&mut self, buf: &mut [u8]) -> Result<usize, io::Error> {
         if self.held.len() == 0 {
@@ -121,7 +121,7 @@ impl<R: Read> Source for AheadSource<R> {
     #[inline(always)]
     fn skip(&mut self, len: usize) -> bool
         ensures bytes { IsTrue result → Skips len (told_ahead R.remaining self.old) (told_ahead R.remaining self.new) }
-        ensures sound { IsTrue result → faults_behind self.new ≡ faults_behind self.old }
+        ensures sound { IsTrue result → faults_after self.new ≡ faults_after self.old }
         ensures enough { IsTrue result → len ≤ length (held_of self.old) }
         ensures short { result ≡ false → length (held_of self.old) < len }
         ensures kept { result ≡ false → self.new ≡ self.old }

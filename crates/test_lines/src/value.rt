@@ -2,7 +2,7 @@
 use rmp_serde::{Value, from_slice, to_vec};
 use std::alloc::Global;
 
-/// The one canonical spelling of a message that may stand in any widths.
+/// The one canonical spelling of a message that may be in any widths.
 pub fn canonical(alloc: Global, message: &[u8]) -> Option<Vec<u8>> {
     let value: Value = from_slice(alloc, message).ok()?;
     to_vec(alloc, &value).ok()

@@ -7,7 +7,7 @@ use Rattle.rmp_wire.specs.Msg.{Msg, Msgs}
 use Rattle.rmp_wire.specs.declared.head.Head.TheVariants.{Whole, Array, Bin}
 use Rattle.rmp_wire.specs.Canonical.{heads_of}
 use Rattle.rmp_wire.specs.Heads.{canon_head}
-use Rattle.rmp_wire.proofs.Strict.{canon_in, heads_apart_as}
+use Rattle.rmp_wire.proofs.Strict.{canon_in, heads_differ_as}
 use Rattle.rmp_decode.specs.Law.{Lawful, Readable, GoesOn}
 use Rattle.rmp_decode.specs.State.{kept_bytes, room_of}
 use Rattle.rmp_decode.specs.Rows.{ReadsEach}
@@ -145,10 +145,10 @@ is_below n m h = grind (arith)
 
 no_number : (strict b : Bool) (n k : ℕ) (bytes more : List ℕ) → k < 256 → bytes ≡ canon_head (Whole (pos k)) ++ more → heads_of strict (seq_head b n) bytes → ⊥
 no_number strict true n k bytes more l e h =
-    let u = (heads_apart_as strict (Bin n) (Whole (pos k)) bytes (canon_head (Whole (pos k))) [] more h (canon_in strict (Whole (pos k)) (fits_byte k l))
+    let u = (heads_differ_as strict (Bin n) (Whole (pos k)) bytes (canon_head (Whole (pos k))) [] more h (canon_in strict (Whole (pos k)) (fits_byte k l))
     (append-nil bytes ∙ e)).0 in cc
 no_number strict false n k bytes more l e h =
-    let u = (heads_apart_as strict (Array n) (Whole (pos k)) bytes (canon_head (Whole (pos k))) [] more h (canon_in strict (Whole (pos k)) (fits_byte k l))
+    let u = (heads_differ_as strict (Array n) (Whole (pos k)) bytes (canon_head (Whole (pos k))) [] more h (canon_in strict (Whole (pos k)) (fits_byte k l))
     (append-nil bytes ∙ e)).0 in cc
 
 opens_fresh : (strict b : Bool) (n : ℕ) (kept : Kept) (bytes : List ℕ) → GoesOn (kept_bytes kept) bytes → heads_of strict (seq_head b n) bytes → fresh kept ≡ 1

@@ -253,7 +253,7 @@ fn variants_in_a_row(rt: HostRuntime) -> Result<(), Fail> {
     Ok(())
 }
 
-// Two variants, one after another, and where the cursor stands behind each.
+// Two variants, one after another, and the cursor's position after each.
 #[test]
 fn variants_over_a_cursor(rt: HostRuntime) {
     let bytes = b"\xa2V1\x81\xa2V2\x92\x2a\xce\x00\x01\x88\x94".as_slice();

@@ -63,7 +63,7 @@ pub enum Kind {
     LargeSet,
     /// Two texts.
     Array,
-    /// Numbers behind pointers, behind a pointer.
+    /// Numbers under pointers, under a pointer.
     Boxes,
     /// Bytes, an extension, and a text that may be no UTF-8.
     Buffers,
@@ -189,7 +189,7 @@ pub enum Job {
 }
 
 impl Job {
-    /// The job that a line names, and the number behind it.
+    /// The job that a line names, and the number after it.
     pub fn from_line(line: &[u8]) -> Result<(Job, u32), Fault> {
         let Ok(line) = str::from_utf8(line) else {
             return Err(Fault::NoJob);

@@ -165,7 +165,7 @@ fn print_bytes(rt: &impl Print, bytes: &[u8]) -> Result<(), Fault> {
     Ok(())
 }
 
-// Prints what stands in a sink after a write, or the error: what stands then is a beginning.
+// Prints what is in a sink after a write, or the error: what is there then is a beginning.
 fn print_put(
     rt: &impl Print,
     written: Result<(), Error>,
@@ -237,7 +237,7 @@ fn number(rt: &(impl Print + AllocGlobal)) -> Result<(), Fault> {
     }
 }
 
-/// Writes, and prints what stands in the sink or the error.
+/// Writes, and prints what is in the sink or the error.
 pub fn put(
     rt: &(impl Print + AllocGlobal),
     writing: Writing,
@@ -252,7 +252,7 @@ pub fn put(
     }
 }
 
-// Prints what a run printed, one line after another, or that memory was short: what stands then is a beginning.
+// Prints what a run printed, one line after another, or that memory was short: what is there then is a beginning.
 fn print_lines(
     rt: &impl Print,
     ran: Result<bool, RunFault>,

@@ -1,7 +1,7 @@
-//! Tells where messages end: `pieces` reads lines of bytes in hex, behind which lists of sizes may stand.
+//! Tells where messages end: `pieces` reads lines of bytes in hex, after which lists of sizes may be.
 //!
 //! Of a line it prints what `message_len` answers for each beginning of the bytes, a word each: the length, `-` where the message is cut, and
-//! `!` where there is none. Behind each list of sizes, from whose front it begins again at its end, it prints the offset behind each message that
+//! `!` where there is none. After each list of sizes, from whose front it begins again at its end, it prints the offset after each message that
 //! a scanner ends, where the bytes come in pieces of these sizes, and then `-` or `!`, with the offset of the byte c1. The exit status is 0,
 //! or 1 where the input says nothing that can be done, or input or output failed.
 #![tactic(auto)]

@@ -1,8 +1,8 @@
 //! `samples` writes the values of the stored samples, each in its setting, and reads bytes as values of the types there.
 //!
 //! Standard input says what is done. Of `write` it prints a line for each value that it writes: its type, the value and the
-//! setting as the sample names them, and the bytes in hex. Behind `read N` each line has a type, behind which `@` and a number
-//! may stand, how deep values nest at most, and bytes in hex; it prints what they are read as, from a slice and from a reader,
+//! setting as the sample names them, and the bytes in hex. After `read N` each line has a type, after which `@` and a number
+//! may be, how deep values nest at most, and bytes in hex; it prints what they are read as, from a slice and from a reader,
 //! which took so many bytes. Each of the first N pulls is failed in turn. Where one way to write or to read has another answer,
 //! the line says so in place of the answer. The exit status is 0, or 1 where the input says nothing that can be done, or input
 //! or output failed.

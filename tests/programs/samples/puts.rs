@@ -22,7 +22,7 @@ pub fn put<F: Form, T: Serialize>(
     (answer, se.into_inner())
 }
 
-// Whether an answer tells of a sink's fault behind these bytes: before a head or inside of an item, where one that is written in one
+// Whether an answer tells of a sink's fault after these bytes: before a head or inside of an item, where one that is written in one
 // piece may begin before them.
 fn is_told(alloc: Global, answer: Result<(), Error>, written: &[u8]) -> bool {
     match answer {
@@ -36,7 +36,7 @@ fn is_told(alloc: Global, answer: Result<(), Error>, written: &[u8]) -> bool {
 }
 
 /// Puts a value into sinks that take a byte a put, each of which fails a put later, up to the last of what is written: what was taken
-/// stands there, and the fault is the only one.
+/// is there, and the fault is the only one.
 pub fn each_put_failed(
     alloc: Global,
     mode: BytesMode,

@@ -13,7 +13,7 @@ pub struct TwoU8 {
     pub b: u8,
 }
 
-/// A number behind a name, which isn't packed as a byte.
+/// A number after a name, which isn't packed as a byte.
 #[derive(Drop)]
 pub struct NewU8(pub u8);
 
@@ -23,23 +23,23 @@ pub struct OptBox {
     pub v: Box<Option<u8>>,
 }
 
-/// A number that may be missing, behind a name.
+/// A number that may be missing, after a name.
 #[derive(Drop)]
 pub struct NewOpt(pub Option<u8>);
 
-/// Nothing, behind a name.
+/// Nothing, after a name.
 #[derive(Drop)]
 pub struct NewUnit(pub ());
 
-/// Numbers, behind a name.
+/// Numbers, after a name.
 #[derive(Drop)]
 pub struct NewVec(pub Vec<u8>);
 
-/// An extension, behind a name.
+/// An extension, after a name.
 #[derive(Drop)]
 pub struct NewExt(pub Ext);
 
-/// A name behind a name.
+/// A name after a name.
 #[derive(Drop)]
 pub struct NewNew(pub NewOpt);
 

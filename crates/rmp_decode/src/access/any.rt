@@ -8,7 +8,7 @@ ghost use Rattle.rmp_decode.specs.Anys.{FailsToLend, FailsText};
 ghost use Rattle.rmp_decode.specs.Law.{ReadsHead};
 ghost use Rattle.rmp_decode.specs.Skip.{parts_head};
 ghost use Rattle.rmp_decode.specs.State.{failed_of, room_of, is_failed, kept_of};
-ghost use Rattle.rmp_decode.specs.Fronts.{TakesFront};
+ghost use Rattle.rmp_decode.specs.BufferedHeads.{ConsumesHead};
 ghost use Rattle.rmp_decode.specs.Steps.{AppendsContent, AppendsText};
 ghost use Rattle.rmp_decode.specs.declared.deserializer.Kept.TheVariants.{Nothing};
 
@@ -274,7 +274,7 @@ impl<R: Source, C: SerializerConfig> Deserializer<R, C> {
     /// byte c1, and `NotCanonical` at a head of another width while reading is strict.
     #[inline(always)]
     pub fn deserialize_head(&mut self) -> Result<Head, Error>
-        ensures ok { IfOk result (λ h. TakesFront R.Source h self.old (failed_of self.new)) }
+        ensures ok { IfOk result (λ h. ConsumesHead R.Source h self.old (failed_of self.new)) }
         ensures ready { OnOk result (is_failed self.new ≡ false) }
         ensures err { IfErr result (λ e. ReadsHead R.Source self.old self.new (Err e)) }
     {

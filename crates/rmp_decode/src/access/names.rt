@@ -4,11 +4,11 @@ ghost use Rattle.std.specs.Io.KnownBytes.{Consumes};
 ghost use Rattle.rmp_wire.specs.Sources.{IsShort};
 ghost use Rattle.rmp_wire.specs.Spelling.{IsBytes};
 ghost use Rattle.rmp_decode.specs.Buffers.{AfterHead};
-ghost use Rattle.rmp_decode.specs.Content.{RefusesLeaf, RefusesBehind, not_raw, never_refused};
+ghost use Rattle.rmp_decode.specs.Content.{RefusesLeaf, RefusesAfterHead, not_raw, never_refused};
 ghost use Rattle.rmp_decode.specs.Exact.{IsDataEnd};
 ghost use Rattle.rmp_decode.specs.Law.{Lawful, Explains};
 ghost use Rattle.rmp_decode.specs.Names.{bytes_of, place_of, place_below, IsName, IsNameHead};
-ghost use Rattle.rmp_decode.specs.NamesAhead.{below, IsBelow, TextLies};
+ghost use Rattle.rmp_decode.specs.NamesAhead.{below, IsBelow, TextIn};
 ghost use Rattle.rmp_decode.specs.Parts.{TakesPart};
 ghost use Rattle.rmp_decode.specs.State.{is_failed, kept_of};
 ghost use Rattle.rmp_decode.specs.declared.deserializer.Kept.TheVariants.{Nothing};
@@ -50,7 +50,7 @@ fn place_or_count(names: &[&str], key: &[u8]) -> usize
 // bytes, with its head.
 #[inline(always)]
 fn name_at(front: &[u8], strict: bool, names: &[&str]) -> Option<(usize, usize)>
-    ensures lies { IfSome result (λ p. TextLies strict p.1 (λ s. below (length names.now) p.0 ≡ place_of (bytes_of names.now) s) front.now) }
+    ensures inside { IfSome result (λ p. TextIn strict p.1 (λ s. below (length names.now) p.0 ≡ place_of (bytes_of names.now) s) front.now) }
     ensures within { IfSome result (λ p. p.0 ≤ length names.now) }
 {
     match TextHead.at(front, strict) {
@@ -127,7 +127,7 @@ impl<R: Source, C: SerializerConfig> Deserializer<R, C> {
     where
         R: ReadSlice<'de>,
         ensures law { AfterHead R.Source (IsName (bytes_of names.now)) (Head.Text len) self.old self.new result }
-        ensures exact { IfErr result (RefusesBehind R.Source IsNameHead not_raw never_refused (Head.Text len) self.old self.new) }
+        ensures exact { IfErr result (RefusesAfterHead R.Source IsNameHead not_raw never_refused (Head.Text len) self.old self.new) }
         ensures memory { R.lends ≡ true → IfErr result (λ e. e ≢ Error.OutOfMemory) }
     {
         match next_place(&mut self.reader, names, len as usize) {

@@ -6,7 +6,7 @@ ghost use Rattle.rmp_wire.specs.Msg.{Msg};
 ghost use Rattle.rmp_decode.specs.contracts.deserializer.Deserializer.{the_row};
 ghost use Rattle.rmp_decode.specs.declared.deserializer.Kept.TheVariants.{Nothing};
 ghost use Rattle.rmp_decode.specs.Buffers.{AfterHead};
-ghost use Rattle.rmp_decode.specs.Content.{IsRawHead, RefusesLeaf, RefusesBehind};
+ghost use Rattle.rmp_decode.specs.Content.{IsRawHead, RefusesLeaf, RefusesAfterHead};
 ghost use Rattle.rmp_decode.specs.Exact.{RefusesExactly, RefusesHead, RefusesBy};
 ghost use Rattle.rmp_decode.specs.FieldRefusing.{RefusesFields};
 ghost use Rattle.rmp_decode.specs.Fields.{OfFields};
@@ -140,7 +140,7 @@ impl<R: Source, C: SerializerConfig> Deserializer<R, C> {
         names: &[&str],
     ) -> Result<usize, Error>
         ensures law { AfterHead R.Source (IsPlace (bytes_of names.now)) head self.old self.new result }
-        ensures exact { IfErr result (RefusesBehind R.Source IsRawHead other_name unknown_name head self.old self.new) }
+        ensures exact { IfErr result (RefusesAfterHead R.Source IsRawHead other_name unknown_name head self.old self.new) }
         ensures memory { P.lends ≡ true → IfErr result (λ e. e ≢ Error.OutOfMemory) }
     {
         match head.as_raw() {

@@ -1,9 +1,9 @@
 //! Bytes of its own, from a text, from bytes or from a list of numbers, and extensions.
 ghost use Rattle.std.specs.Prelude.{◌≡◌, ◌≤◌, ◌<◌, true, false, IfOk, IfErr, IfSome, IfNone};
 ghost use Rattle.std.specs.Borrow.{sem, RestsIfErr};
-ghost use Rattle.rmp_decode.specs.Buffers.{IsBuffer, AfterHead, IsBehind, RefusesItems, RefusesList};
+ghost use Rattle.rmp_decode.specs.Buffers.{IsBuffer, AfterHead, ListAfterHead, RefusesItems, RefusesList};
 ghost use Rattle.rmp_decode.specs.contracts.deserializer.Deserializer.{the_row};
-ghost use Rattle.rmp_decode.specs.Content.{IsBufferHead, RefusesBehind, RefusesLeaf, not_raw, not_buffer, IsExtHead, never_refused, not_ext};
+ghost use Rattle.rmp_decode.specs.Content.{IsBufferHead, RefusesAfterHead, RefusesLeaf, not_raw, not_buffer, IsExtHead, never_refused, not_ext};
 ghost use Rattle.rmp_decode.specs.Exact.{RefusesExactly};
 ghost use Rattle.rmp_decode.specs.Kinds.{other_number};
 ghost use Rattle.rmp_decode.specs.Law.{Lawful};
@@ -48,7 +48,7 @@ impl<R: Source, C: SerializerConfig> Deserializer<R, C> {
     where
         R: ReadSlice<'de>,
         ensures law { AfterHead R.Source (λ m v. IsBuffer m v.items) (Head.Bin len) self.old self.new result }
-        ensures exact { IfErr result (RefusesBehind R.Source IsBufferHead not_raw not_buffer (Head.Bin len) self.old self.new) }
+        ensures exact { IfErr result (RefusesAfterHead R.Source IsBufferHead not_raw not_buffer (Head.Bin len) self.old self.new) }
     {
         let piece = match self.reader.read_slice(len as usize) {
             Ok(piece) => piece,
@@ -95,7 +95,7 @@ impl<R: Source, C: SerializerConfig> Deserializer<R, C> {
         ensures* refused { sem 𝓛 (RestsIfErr (the_row R.row C.row) self.entry (λ s. s.de.ghost_name) result
             (λ last. IfErr result (λ e. (self.old.room ≤ 1) × (last ≡ self.old) × (e ≡ Error.DepthLimitExceeded)))) }
         ensures same_reference { IfOk result (λ s. s.de.ghost_name ≡ self.entry.ghost_name) }
-        ensures opened { IfOk result (IsBehind len self.old) }
+        ensures opened { IfOk result (ListAfterHead len self.old) }
     {
         if self.room <= 1 {
             return Err(Error::DepthLimitExceeded);
@@ -151,7 +151,7 @@ impl<R: Source, C: SerializerConfig> Deserializer<R, C> {
     where
         R: ReadSlice<'de>,
         ensures law { AfterHead R.Source IsExt (Head.Ext len tag) self.old self.new result }
-        ensures exact { IfErr result (RefusesBehind R.Source IsExtHead not_ext never_refused (Head.Ext len tag) self.old self.new) }
+        ensures exact { IfErr result (RefusesAfterHead R.Source IsExtHead not_ext never_refused (Head.Ext len tag) self.old self.new) }
     {
         let piece = match self.reader.read_slice(len as usize) {
             Ok(piece) => piece,

@@ -1,9 +1,9 @@
-//! Characters, decoded where they lie.
+//! Characters, decoded in the buffer.
 ghost use Rattle.std.specs.Prelude.{◌≡◌, ◌∷◌, [], Bool, IfSome, IfNone, length, encode_utf8};
 ghost use Rattle.std.specs.Char.{IsScalar};
 ghost use Rattle.std.specs.Io.KnownBytes.{Consumes};
 ghost use Rattle.rmp_wire.specs.Spelling.{IsBytes};
-ghost use Rattle.rmp_decode.specs.Ahead.{CharLies, SpellsChar};
+ghost use Rattle.rmp_decode.specs.Ahead.{CharIn, SpellsChar};
 ghost use Rattle.rmp_decode.specs.Pieces.{ReadsChar};
 
 use crate::content::Slices;
@@ -90,7 +90,7 @@ fn char_of_4(a: u8, b: u8, d: u8, e: u8) -> Option<char>
 // The character that the first `len` bytes are, if they are one's.
 #[inline(always)]
 fn char_at(front: &[u8], len: u32) -> Option<char>
-    ensures { IfSome result (λ c. CharLies c len front.now) }
+    ensures { IfSome result (λ c. CharIn c len front.now) }
 {
     match len {
         1 => match front {

@@ -2,7 +2,7 @@
 ghost use Rattle.std.specs.Prelude.{◌≡◌, ◌≢◌, true, false, IfErr};
 ghost use Rattle.std.specs.String.{string_bytes};
 ghost use Rattle.rmp_decode.specs.Buffers.{AfterHead};
-ghost use Rattle.rmp_decode.specs.Content.{IsTextHead, IsRawHead, RefusesLeaf, RefusesBehind, not_raw, never_refused, not_char, not_string, not_str};
+ghost use Rattle.rmp_decode.specs.Content.{IsTextHead, IsRawHead, RefusesLeaf, RefusesAfterHead, not_raw, never_refused, not_char, not_string, not_str};
 ghost use Rattle.rmp_decode.specs.Content.{not_bytes};
 ghost use Rattle.rmp_decode.specs.Exact.{IsUtf8Error};
 ghost use Rattle.rmp_decode.specs.Law.{Lawful};
@@ -82,7 +82,7 @@ impl<R: Source, C: SerializerConfig> Deserializer<R, C> {
     where
         R: ReadSlice<'de>,
         ensures law { AfterHead R.Source (λ m p. m ≡ raw_msg p.0 p.1.items) (raw_head is_text len) self.old self.new result }
-        ensures exact { IfErr result (RefusesBehind R.Source IsRawHead not_raw never_refused (raw_head is_text len) self.old self.new) }
+        ensures exact { IfErr result (RefusesAfterHead R.Source IsRawHead not_raw never_refused (raw_head is_text len) self.old self.new) }
     {
         match owned(self.alloc, &mut self.reader, len as usize) {
             Ok(bytes) => {
@@ -133,7 +133,7 @@ impl<R: Source, C: SerializerConfig> Deserializer<R, C> {
     where
         R: ReadSlice<'de>,
         ensures law { AfterHead R.Source IsChar (Head.Text len) self.old self.new result }
-        ensures exact { IfErr result (RefusesBehind R.Source IsTextHead not_raw not_char (Head.Text len) self.old self.new) }
+        ensures exact { IfErr result (RefusesAfterHead R.Source IsTextHead not_raw not_char (Head.Text len) self.old self.new) }
         ensures memory { R.lends ≡ true → IfErr result (λ e. e ≢ Error.OutOfMemory) }
     {
         match char_taken::<R, Slices<'de>>(&mut self.reader, len) {
@@ -193,7 +193,7 @@ impl<R: Source, C: SerializerConfig> Deserializer<R, C> {
     where
         R: ReadSlice<'de>,
         ensures law { AfterHead R.Source (λ m s. (R.lends ≡ true) × IsRaw m s.now) (raw_head is_text len) self.old self.new result }
-        ensures exact { IfErr result (RefusesBehind R.Source IsRawHead not_raw (not_bytes R.lends) (raw_head is_text len) self.old self.new) }
+        ensures exact { IfErr result (RefusesAfterHead R.Source IsRawHead not_raw (not_bytes R.lends) (raw_head is_text len) self.old self.new) }
         ensures memory { R.lends ≡ true → IfErr result (λ e. e ≢ Error.OutOfMemory) }
     {
         match lent_content(&mut self.reader, is_text, len as usize) {
@@ -245,7 +245,7 @@ impl<R: Source, C: SerializerConfig> Deserializer<R, C> {
     where
         R: ReadSlice<'de>,
         ensures law { AfterHead R.Source (λ m s. (R.lends ≡ true) × IsString m s.now) (Head.Text len) self.old self.new result }
-        ensures exact { IfErr result (RefusesBehind R.Source IsRawHead not_raw (not_str R.lends) (Head.Text len) self.old self.new) }
+        ensures exact { IfErr result (RefusesAfterHead R.Source IsRawHead not_raw (not_str R.lends) (Head.Text len) self.old self.new) }
         ensures memory { R.lends ≡ true → IfErr result (λ e. e ≢ Error.OutOfMemory) }
     {
         let bytes = match lent_content(&mut self.reader, true, len as usize) {
@@ -302,7 +302,7 @@ impl<R: Source, C: SerializerConfig> Deserializer<R, C> {
     where
         R: ReadSlice<'de>,
         ensures law { AfterHead R.Source (λ m s. IsRaw m (string_bytes s)) (Head.Text len) self.old self.new result }
-        ensures exact { IfErr result (RefusesBehind R.Source IsRawHead not_raw not_string (Head.Text len) self.old self.new) }
+        ensures exact { IfErr result (RefusesAfterHead R.Source IsRawHead not_raw not_string (Head.Text len) self.old self.new) }
     {
         if len == 0 {
             self.failed = false;

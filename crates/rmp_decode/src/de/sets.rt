@@ -56,7 +56,7 @@ struct Keys<T: Ord> {
 }
 
 // Whether the key is above those of the row, which ascend.
-fn is_behind<T: Ord + Drop>(row: &[T], key: &T) -> bool
+fn comes_after<T: Ord + Drop>(row: &[T], key: &T) -> bool
     ensures { result ≡ true → IsStrictlySortedBy T.cmp row.now → IsStrictlySortedBy T.cmp (row.now ++ key.now ∷ []) }
 {
     match row.last() {
@@ -69,12 +69,12 @@ impl<T: Ord + Drop> Keys<T> {
     // Appends a key to the others.
     fn push(&mut self, key: T) -> Result<(), AllocError>
         requires ordered { IsStrictlySortedBy T.cmp (keys_so_far self.old) }
-        requires apart { IsEitherPlace self.old }
+        requires differ { IsEitherPlace self.old }
         ensures keys { OnOk result (keys_so_far self.new ≡ insert_key T.cmp (keys_so_far self.old) key) }
         ensures ordered { OnOk result (IsStrictlySortedBy T.cmp (keys_so_far self.new)) }
-        ensures apart { OnOk result (IsEitherPlace self.new) }
+        ensures differ { OnOk result (IsEitherPlace self.new) }
     {
-        if self.in_row && is_behind(self.row.as_slice(), &key) {
+        if self.in_row && comes_after(self.row.as_slice(), &key) {
             self.row.push(key)?;
             return Ok(());
         }

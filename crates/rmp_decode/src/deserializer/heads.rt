@@ -3,7 +3,7 @@ ghost use Rattle.std.specs.Prelude.{◌≡◌, ◌∷◌, ℕ, List, true, false
 ghost use Rattle.rmp_wire.specs.Canonical.{heads_of};
 ghost use Rattle.rmp_wire.specs.Heads.{IsHead};
 ghost use Rattle.rmp_wire.specs.Taking.{byte_of};
-ghost use Rattle.rmp_decode.specs.Allowed.{BehindAllowed, FailsBehind, NextAllowed, FailsNextAllowed};
+ghost use Rattle.rmp_decode.specs.Allowed.{AfterAllowed, FailsAfter, NextAllowed, FailsNextAllowed};
 
 use crate::error::Error;
 use rmp_wire::read::{number_8, number_16, number_32, read_head, read_marker};
@@ -77,8 +77,8 @@ pub(crate) fn rest_of_head<S: Source>(
     marker: Marker,
     source: &mut S,
 ) -> Result<Head, HeadError>
-    ensures taken { IfOk result (BehindAllowed S.Source strict marker source.old source.new) }
-    ensures refused { IfErr result (FailsBehind S.Source strict marker source.old source.new) }
+    ensures taken { IfOk result (AfterAllowed S.Source strict marker source.old source.new) }
+    ensures refused { IfErr result (FailsAfter S.Source strict marker source.old source.new) }
 {
     match read_head(marker, source) {
         Ok(head) => {
@@ -95,8 +95,8 @@ pub(crate) fn rest_of_head<S: Source>(
 // Reads the rest of a head after its marker's byte. A head of one byte is canonical.
 #[inline(always)]
 fn head_of<S: Source>(strict: bool, marker: Marker, source: &mut S) -> Result<Head, HeadError>
-    ensures taken { IfOk result (BehindAllowed S.Source strict marker source.old source.new) }
-    ensures refused { IfErr result (FailsBehind S.Source strict marker source.old source.new) }
+    ensures taken { IfOk result (AfterAllowed S.Source strict marker source.old source.new) }
+    ensures refused { IfErr result (FailsAfter S.Source strict marker source.old source.new) }
 {
     match marker {
         Marker::FixPos(n) => Ok(Head::Whole(i128::from(n % 0x80))),

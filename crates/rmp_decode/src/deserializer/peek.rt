@@ -2,7 +2,7 @@
 ghost use Rattle.std.specs.Prelude.{◌≡◌, ◌<◌, ◌≤◌, ◌≤ℤ◌, Bool, pos, true, false, IfSome, IfNone, IfOk, IfErr};
 ghost use Rattle.rmp_wire.specs.declared.head.Head.TheVariants as heads;
 ghost use Rattle.rmp_decode.specs.Ahead.{TakesLeaf};
-ghost use Rattle.rmp_decode.specs.Fronts.{StandsIn, TakesFront};
+ghost use Rattle.rmp_decode.specs.BufferedHeads.{HeadIn, ConsumesHead};
 ghost use Rattle.rmp_decode.specs.Kinds.{raw_head};
 ghost use Rattle.rmp_decode.specs.Law.{ReadsHead};
 ghost use Rattle.rmp_decode.specs.State.{is_failed, is_strict, kept_of};
@@ -16,7 +16,7 @@ use crate::deserializer::peek::exts::ext_at;
 use crate::deserializer::peek::table::{
     any_at, any_bin_at, canonical_at, canonical_bin_at, leaf_at, signed_at,
 };
-use crate::deserializer::peek::widths::{may_stand, needs_bytes, needs_signed_bytes, unsigned_at};
+use crate::deserializer::peek::widths::{may_begin, needs_bytes, needs_signed_bytes, unsigned_at};
 use crate::deserializer::{Deserializer, Kept};
 use crate::error::Error;
 use rmp_wire::config::SerializerConfig;
@@ -26,7 +26,7 @@ use rmp_wire::{Head, Source};
 pub(crate) trait Peek: Copy {
     ghost use Rattle.std.specs.Prelude.{◌≡◌, Bool, IfSome};
     ghost use Rattle.rmp_wire.specs.declared.head.Head.{Head};
-    ghost use Rattle.rmp_decode.specs.Fronts.{StandsIn};
+    ghost use Rattle.rmp_decode.specs.BufferedHeads.{HeadIn};
 
     type Value: Copy;
 
@@ -38,7 +38,7 @@ pub(crate) trait Peek: Copy {
 
     // The value whose head is at the front, and the count of the head's bytes.
     fn at(self, front: &[u8], strict: bool) -> Option<(Self::Value, usize)>
-        ensures stands { IfSome result (λ p. StandsIn strict p.1 (head self p.0) front.now) }
+        ensures starts { IfSome result (λ p. HeadIn strict p.1 (head self p.0) front.now) }
         ensures wanted { IfSome result (λ p. wants self p.0) };
 }
 
@@ -46,7 +46,7 @@ impl<R: Source, C: SerializerConfig> Deserializer<R, C> {
     // Consumes a buffered head, and leaves this failed until the message is read. Returns `None` and consumes nothing otherwise.
     #[inline(always)]
     pub(crate) fn take<K: Peek>(&mut self, kind: K) -> Option<K::Value>
-        ensures taken { IfSome result (λ v. TakesFront R.Source (K.head kind v) self.old self.new) }
+        ensures taken { IfSome result (λ v. ConsumesHead R.Source (K.head kind v) self.old self.new) }
         ensures wanted { IfSome result (λ v. K.wants kind v) }
         ensures kept { IfNone result (self.new ≡ self.old) }
     {
@@ -70,7 +70,7 @@ impl<R: Source, C: SerializerConfig> Deserializer<R, C> {
     #[inline(always)]
     pub(crate) fn take_nested<K: Peek>(&mut self, kind: K) -> Option<K::Value>
         ensures deep { IfSome result (λ _. 1 < self.old.room) }
-        ensures taken { IfSome result (λ v. TakesFront R.Source (K.head kind v) self.old self.new) }
+        ensures taken { IfSome result (λ v. ConsumesHead R.Source (K.head kind v) self.old self.new) }
         ensures wanted { IfSome result (λ v. K.wants kind v) }
         ensures kept { IfNone result (self.new ≡ self.old) }
     {
@@ -119,7 +119,7 @@ impl<R: Source, C: SerializerConfig> Deserializer<R, C> {
     // what opens one is known without a head.
     #[inline(always)]
     pub(crate) fn any_head(&mut self) -> Result<Head, Error>
-        ensures ok { IfOk result (λ h. TakesFront R.Source h self.old self.new) }
+        ensures ok { IfOk result (λ h. ConsumesHead R.Source h self.old self.new) }
         ensures err { IfErr result (λ e. ReadsHead R.Source self.old self.new (Err e)) }
     {
         match self.take(ListHead) {
@@ -134,7 +134,7 @@ impl<R: Source, C: SerializerConfig> Deserializer<R, C> {
     // The slow path of `any_head`.
     #[inline(never)]
     fn slow_head(&mut self) -> Result<Head, Error>
-        ensures ok { IfOk result (λ h. TakesFront R.Source h self.old self.new) }
+        ensures ok { IfOk result (λ h. ConsumesHead R.Source h self.old self.new) }
         ensures err { IfErr result (λ e. ReadsHead R.Source self.old self.new (Err e)) }
     {
         match self.head() {
@@ -199,8 +199,8 @@ impl Peek for F32Head {
     #[inline(always)]
     fn at(self, front: &[u8], _strict: bool) -> Option<(u32, usize)> {
         match front {
-            [first, behind @ ..] => match first {
-                0xca => match behind {
+            [first, following @ ..] => match first {
+                0xca => match following {
                     [a, b, c, d, ..] => Some((u32::from_be_bytes([*a, *b, *c, *d]), 5)),
                     _ => None,
                 },
@@ -223,8 +223,8 @@ impl Peek for F64Head {
     #[inline(always)]
     fn at(self, front: &[u8], _strict: bool) -> Option<(u64, usize)> {
         match front {
-            [first, behind @ ..] => match first {
-                0xcb => match behind {
+            [first, following @ ..] => match first {
+                0xcb => match following {
                     [a, b, c, d, e, f, g, h, ..] => {
                         Some((u64::from_be_bytes([*a, *b, *c, *d, *e, *f, *g, *h]), 9))
                     }
@@ -306,10 +306,10 @@ impl Peek for TextHead {
     #[inline(always)]
     fn at(self, front: &[u8], strict: bool) -> Option<(u32, usize)> {
         match front {
-            [first, behind @ ..] => match first {
+            [first, following @ ..] => match first {
                 0xa0..=0xbf => Some((u32::from(*first - 0xa0), 1)),
-                0xd9 => match behind {
-                    [a, ..] if may_stand(u64::from(*a), 32, strict) => Some((u32::from(*a), 2)),
+                0xd9 => match following {
+                    [a, ..] if may_begin(u64::from(*a), 32, strict) => Some((u32::from(*a), 2)),
                     _ => None,
                 },
                 _ => None,
@@ -371,8 +371,8 @@ impl Peek for SixteenHead {
     #[inline(always)]
     fn at(self, front: &[u8], _strict: bool) -> Option<((), usize)> {
         match front {
-            [first, behind @ ..] => match first {
-                0xc4 => match behind {
+            [first, following @ ..] => match first {
+                0xc4 => match following {
                     [a, ..] if *a == 16 => Some(((), 2)),
                     _ => None,
                 },
@@ -513,7 +513,7 @@ impl Peek for OneByteHead {
     ghost head = { λ _ h. h };
 
     #[inline(always)]
-    #[tactic(auto, using(crate::proofs::Fronts::small_stands))]
+    #[tactic(auto, using(crate::proofs::BufferedHeads::small_starts))]
     fn at(self, front: &[u8], _strict: bool) -> Option<(Head, usize)> {
         match front {
             [first, ..] => match first {

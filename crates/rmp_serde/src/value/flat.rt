@@ -196,7 +196,7 @@ impl Nodes {
     #[tactic(auto, using(crate::proofs::FlatMade::made_of))]
     pub(crate) fn push(&mut self, head: Head, at: usize) -> Result<(), AllocError>
         requires fits { fits_head head }
-        requires stands { at + content_len head ≤ length self.old.bytes.items }
+        requires starts { at + content_len head ≤ length self.old.bytes.items }
         requires within { IsWithin self.old }
         ensures ok { OnOk result (heads_of self.new ≡ heads_of self.old ++ content_at self.old head at ∷ []) }
         ensures bytes { self.new.bytes ≡ self.old.bytes }

@@ -9,7 +9,7 @@ ghost use Rattle.rmp_decode.specs.State.{failed_of, is_failed, kept_of, room_of,
 ghost use Rattle.rmp_decode.specs.declared.deserializer.Kept.TheVariants.{Nothing};
 ghost use Rattle.rmp_serde.specs.Flat.{heads_of, IsWithin};
 ghost use Rattle.rmp_serde.specs.Read.{reads_value, ItemsUtf8};
-ghost use Rattle.rmp_serde.specs.ReadParts.{IsLeafHead, TakesBehind, TakesLeaf, FailsLeaf, Enters, ReadsTrees};
+ghost use Rattle.rmp_serde.specs.ReadParts.{IsLeafHead, TakesAfter, TakesLeaf, FailsLeaf, Enters, ReadsTrees};
 ghost use Rattle.rmp_serde.specs.Refuse.{UnreadFor, RefusesValue};
 
 use crate::value::Value;
@@ -42,7 +42,7 @@ fn read_content<R: Source, C: SerializerConfig, P: ReadContent<R>>(
     requires ready { is_failed de.old ≡ false }
     requires clean { kept_of de.old ≡ Nothing }
     requires leaf { IsLeafHead head }
-    ensures ok { OnOk result (TakesBehind R.Source head de.old de.new bytes.old.items bytes.new.items) }
+    ensures ok { OnOk result (TakesAfter R.Source head de.old de.new bytes.old.items bytes.new.items) }
     ensures err { IfErr result (FailsLeaf R.Source head (failed_of de.old) de.new) }
     ensures content { OnErr result (IsRawHead head ⊎ IsExtHead head) }
 {

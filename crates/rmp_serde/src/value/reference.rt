@@ -5,7 +5,7 @@ ghost use Rattle.rmp_wire.specs.Msg.{depth, count};
 ghost use Rattle.rmp_wire.specs.Spelling.{head_of};
 ghost use Rattle.rmp_serde.specs.Flat.{head_in};
 ghost use Rattle.rmp_serde.specs.Tokens.{past_items};
-ghost use Rattle.rmp_serde.specs.Parts.{row_at, row_behind, content_of, parts_of, tree, kind_of, parts_count, item_of, pair_of};
+ghost use Rattle.rmp_serde.specs.Parts.{row_at, row_after, content_of, parts_of, tree, kind_of, parts_count, item_of, pair_of};
 ghost use Rattle.rmp_serde.specs.Parts.{truth_of, whole_of, float32_of, float64_of, text_of, bytes_of, extension_of};
 
 mod pairs;
@@ -65,7 +65,7 @@ impl<'a> ValueRef<'a> {
     // The part of a list or a map at an index, which starts at 0.
     fn part(self, i: usize) -> ValueRef<'a>
         requires there { i < parts_of (tree self) }
-        ensures part { row_at result ≡ past_items i (row_behind self.entry) }
+        ensures part { row_at result ≡ past_items i (row_after self.entry) }
         ensures later { 0 < result.at }
     {
         let value = self.value;

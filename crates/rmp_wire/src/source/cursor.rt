@@ -11,7 +11,7 @@ use std::io::{Cursor, ErrorKind};
 
 // The bytes from an offset on; none where the offset is past the end.
 #[inline(always)]
-fn behind(all: &[u8], place: u64) -> &[u8]
+fn following(all: &[u8], place: u64) -> &[u8]
     ensures bytes { result.now ≡ drop place all.now }
     ensures count { length result.now ≡ length all.now - place }
 {
@@ -27,7 +27,7 @@ fn copy_from(all: &[u8], place: u64, buf: &mut [u8]) -> usize
     ensures bytes { drop place all.now ≡ take result buf.new ++ drop (place + result) all.now }
     ensures past { cursor_place all.now (place + result) ≡ cursor_place all.now place }
 {
-    let ahead = behind(all, place);
+    let ahead = following(all, place);
     let n = buf.len().min(ahead.len());
     buf[..n].copy_from_slice(&ahead[..n]);
     n
@@ -41,7 +41,7 @@ fn holds(all: &[u8], place: u64, len: usize) -> bool
     ensures skips { result ≡ true → Skips len (Some (drop place all.now)) (Some (drop (place + len) all.now)) }
     ensures past { result ≡ true → cursor_place all.now (place + len) ≡ cursor_place all.now place }
 {
-    len <= behind(all, place).len()
+    len <= following(all, place).len()
 }
 
 /// Reads the bytes from the cursor's position on, in order. A call that fails leaves the cursor unchanged.
@@ -64,7 +64,7 @@ impl Source for Cursor<&[u8]> {
         ensures bytes { IsFront result.now (Some (slice_ahead self.now)) }
         ensures all { result.now ≡ slice_ahead self.now }
     {
-        behind(self.get_ref(), self.position())
+        following(self.get_ref(), self.position())
     }
 
     #[inline(always)]
@@ -118,7 +118,7 @@ impl Source for Cursor<Vec<u8>> {
         ensures bytes { IsFront result.now (Some (vec_ahead self.now)) }
         ensures all { result.now ≡ vec_ahead self.now }
     {
-        behind(self.get_ref().as_slice(), self.position())
+        following(self.get_ref().as_slice(), self.position())
     }
 
     #[inline(always)]

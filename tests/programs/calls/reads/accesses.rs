@@ -12,7 +12,7 @@ fn small<R: Source, C: SerializerConfig>(de: &mut Deserializer<R, C>) -> Result<
     de.deserialize_u8()
 }
 
-// Answers whatever stands there, and leaves its reader failed where that is no truth.
+// Answers whatever is there, and leaves its reader failed where that is no truth.
 fn swallowed<R: Source, C: SerializerConfig>(de: &mut Deserializer<R, C>) -> Result<u8, Error> {
     match de.deserialize_bool() {
         Ok(_) => Ok(1),
@@ -126,7 +126,7 @@ fn what_cannot_be_passed_over(rt: HostRuntime) {
     }
 }
 
-// So many lists of one in one another, the innermost of which is empty, behind what stands first.
+// So many lists of one in one another, the innermost of which is empty, after what comes first.
 fn nested(rt: &(impl Abort + AllocGlobal), first: &[u8], times: usize) -> Vec<u8> {
     let mut input = Vec::new(rt.alloc());
     assert!(rt; input.extend_from_slice(first).is_ok());

@@ -1,4 +1,4 @@
-//! Lengths that are claimed with little behind them, and no input at all.
+//! Lengths that are claimed with little after them, and no input at all.
 use super::rows::{NO_DATA, NO_MARKER, refused, refuses, refuses_strictly};
 use faulty_io::Drip;
 use rmp_decode::{Deserialize, from_read};
@@ -19,7 +19,7 @@ where
 }
 
 #[test]
-fn claims_with_little_behind_them(rt: HostRuntime) {
+fn claims_with_little_after_them(rt: HostRuntime) {
     refuse::<ByteBuf>(&rt, b"\xc6\xff\xff\xff\xff\x61", NO_DATA);
     refuse::<ByteBuf>(&rt, b"\xc6\xff\xff\xff\xff", NO_DATA);
     refuse::<String>(&rt, b"\xdb\xff\xff\xff\xff\x61\x62", NO_DATA);

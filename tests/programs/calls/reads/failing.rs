@@ -1,4 +1,4 @@
-//! Each pull of each read failed in turn, each input cut behind each of its bytes, and the byte c1 where each head begins.
+//! Each pull of each read failed in turn, each input cut after each of its bytes, and the byte c1 where each head begins.
 use super::rows::{FAILED_BEFORE, NO_DATA, NO_MARKER, RESERVED, refused};
 use faulty_io::Drip;
 use rmp_decode::{Any, Deserialize, Deserializer, Error};

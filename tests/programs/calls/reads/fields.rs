@@ -35,7 +35,7 @@ fn fields_by_names(rt: HostRuntime) {
     );
     // places and bytes for names
     reads(&rt, b"\x83\x01\x08\xc4\x06weight\x09\x00\xa1A", "A", 8, 9);
-    // one that isn't there, for which something stands
+    // one that isn't there, that has a default
     reads(&rt, b"\x82\x01\x08\x00\xa1A", "A", 8, 7);
     refuses::<Dog>(&rt, b"\x81\xa4name\xa1A", "missing field");
     refuses::<Dog>(&rt, b"\x82\xa3age\x08\xa3age\x08", "duplicate field");

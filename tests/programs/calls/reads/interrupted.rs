@@ -72,7 +72,7 @@ fn patient<'a, T: Deserialize<'a, ReadReader<IoSource<Interrupting<'a>>>>>(
     )
 }
 
-fn text_behind(number: u16, pair: Result<(u16, String), Error>) -> Result<String, Error> {
+fn text_after(number: u16, pair: Result<(u16, String), Error>) -> Result<String, Error> {
     match pair {
         Ok((n, text)) if n == number => Ok(text),
         Ok(_) => Err(Error::OutOfRange),
@@ -99,7 +99,7 @@ fn interruptions_lose_nothing(rt: HostRuntime) {
     gives(&rt, patient(&rt, b"\xc0"), ());
     gives_text(
         &rt,
-        text_behind(258, patient(&rt, b"\x92\xcd\x01\x02\xa2hi")),
+        text_after(258, patient(&rt, b"\x92\xcd\x01\x02\xa2hi")),
         "hi",
     );
     gives_items(
@@ -148,7 +148,7 @@ fn calls(de: &Interrupted) -> u64 {
 }
 
 // The next byte of the reader's source.
-fn byte_behind(de: Interrupted) -> Option<u8> {
+fn byte_after(de: Interrupted) -> Option<u8> {
     let mut byte = [0];
     let mut source = de.into_inner();
     match source.pull(&mut byte) {
@@ -175,7 +175,7 @@ fn the_seventeenth_is_told_once(rt: HostRuntime) {
             refused(&rt, small(&mut de), FAILED_BEFORE);
         }
         assert_eq!(rt; calls(&de), (n as u64 + 1) * 17);
-        assert!(rt; byte_behind(de) == whole.get(n).copied(), "at {n}");
+        assert!(rt; byte_after(de) == whole.get(n).copied(), "at {n}");
     }
 }
 

@@ -13,7 +13,7 @@ const ALL: [u8; 18] = [
     0xc4, 16, 255, 255, 255, 255, 255, 255, 255, 255, 255, 255, 255, 255, 255, 255, 255, 255,
 ];
 
-// Seven behind a head that is wider than it has to be.
+// Seven after a head that is wider than it has to be.
 const WIDE: [u8; 19] = [0xc5, 0, 16, 0, 0, 0, 0, 0, 0, 0, 0, 0, 0, 0, 0, 0, 0, 0, 7];
 
 #[test]

@@ -13,7 +13,7 @@ fn small<R: Source, C: SerializerConfig>(de: &mut Deserializer<R, C>) -> Result<
     de.deserialize_u8()
 }
 
-// Answers whatever stands there, and leaves its reader failed where that is no truth.
+// Answers whatever is there, and leaves its reader failed where that is no truth.
 fn swallowed<R: Source, C: SerializerConfig>(de: &mut Deserializer<R, C>) -> Result<u8, Error> {
     match de.deserialize_bool() {
         Ok(_) => Ok(1),
@@ -44,7 +44,7 @@ fn from_a_map(rt: HostRuntime) {
     reads(&rt, input, "Bobby", 1);
     // places and bytes for names
     reads(&rt, b"\x82\x01\x08\xc4\x04name\xa1A", "A", 8);
-    // one that isn't there, for which something stands, and one for which nothing does
+    // one that isn't there, that has a default, and one that has none
     reads(&rt, b"\x81\x00\xa1A", "A", 7);
     refuses::<Pup>(&rt, b"\x81\x01\x08", "missing field");
     refuses::<Pup>(&rt, b"\x82\x01\x08\x01\xc0", "duplicate field");

@@ -38,7 +38,7 @@ fn unit(de: &mut OverCursor) -> Result<(), Error> {
 }
 
 // So many bytes were read.
-fn stands_at(rt: &impl Abort, de: &OverCursor, position: u64) {
+fn starts_at(rt: &impl Abort, de: &OverCursor, position: u64) {
     assert_eq!(rt; de.position(), position);
 }
 
@@ -52,16 +52,16 @@ fn are(read: &Result<(ByteBuf, ByteBuf), Error>, first: &[u8], second: &[u8]) ->
 #[test]
 fn byte_buffers_over_a_cursor(rt: HostRuntime) {
     let mut de = over_cursor(&rt, b"\x92\xc4\x04quux\xc4\x03bar\x2a");
-    stands_at(&rt, &de, 0);
+    starts_at(&rt, &de, 0);
     assert!(rt; are(&buffers(&mut de), b"quux", b"bar"));
-    stands_at(&rt, &de, 12);
+    starts_at(&rt, &de, 12);
     gives(&rt, small(&mut de), 42);
     assert_eq!(rt; de.into_inner().position(), 13);
 }
 
 type Options = (Option<Option<u32>>, Option<Option<u32>>);
 
-// The pair of options that a cursor over owned bytes gives, and where it then stands.
+// The pair of options that a cursor over owned bytes gives, and its position then.
 fn options(alloc: Global, input: &[u8]) -> Result<(Options, u64), Error> {
     let mut bytes = Vec::new(alloc);
     bytes.extend_from_slice(input)?;
@@ -88,10 +88,10 @@ fn a_kept_byte_counts_as_read(rt: HostRuntime) {
     });
     gives(&rt, read, Some(13));
     assert_eq!(rt; inside, 1);
-    stands_at(&rt, &de, 1);
+    starts_at(&rt, &de, 1);
 }
 
-// Sets where the source stands.
+// Sets the source's position.
 fn set_position(de: &mut OverCursor, position: u64) {
     de.get_mut().set_position(position);
 }
@@ -103,12 +103,12 @@ fn the_source_is_shown_and_changed(rt: HostRuntime) {
     assert_eq!(rt; de.get_ref().position(), 1);
     set_position(&mut de, 0);
     gives(&rt, unit(&mut de), ());
-    stands_at(&rt, &de, 1);
+    starts_at(&rt, &de, 1);
     refused(&rt, unit(&mut de), NO_MARKER);
     // what has failed stays so, whatever the source has ahead then
     set_position(&mut de, 0);
     refused(&rt, unit(&mut de), FAILED_BEFORE);
-    stands_at(&rt, &de, 0);
+    starts_at(&rt, &de, 0);
 }
 
 fn text_from(rt: &impl AllocGlobal, source: &mut Drip) -> Result<String, Error> {
@@ -183,7 +183,7 @@ fn lists_and_maps_by_the_byte(rt: HostRuntime) {
     gives(&rt, number_of_lists(&rt, b"\x92\x91\x07\x90"), 2);
 }
 
-// The text behind the number 42.
+// The text after the number 42.
 fn text_of(rt: &impl AllocGlobal, bytes: &[u8]) -> Result<String, Error> {
     match dripped::<(u32, String)>(rt, bytes) {
         Ok((42, text)) => Ok(text),
@@ -254,7 +254,7 @@ fn pair_from(rt: &impl AllocGlobal, source: &mut Drip) -> Result<(u16, String), 
 }
 
 #[test]
-fn ends_and_faults_are_told_apart(rt: HostRuntime) {
+fn ends_and_faults_are_told_differ(rt: HostRuntime) {
     let whole = b"\x92\xcd\x01\x02\xa2hi".as_slice();
     for n in 0..whole.len() {
         let (ended, late) = if n < 2 || n == 4 {

@@ -113,7 +113,7 @@ fn what_is_no_variant(rt: HostRuntime) {
     }
 }
 
-// Opens the variant that is ahead, which is the first of these and stands alone, and drops it.
+// Opens the variant that is ahead, which is the first of these and is alone, and drops it.
 fn drops_variant(rt: &impl Abort, de: &mut SliceReader) {
     match de.deserialize_enum(&["Point"]) {
         Ok((place, variant)) => assert!(rt; place == 0 && variant.is_bare()),

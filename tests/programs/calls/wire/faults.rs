@@ -58,12 +58,12 @@ fn put_head(sink: &mut Trickle, at: usize) -> Result<(), ValueWriteError> {
     }
 }
 
-// Whether the write fails as it has to behind these bytes, which stand in the sink, and counts as one fault.
-fn fails_behind(alloc: Global, at: usize, written: &[u8]) -> bool {
+// Whether the write fails as it has to after these bytes, which are in the sink, and counts as one fault.
+fn fails_after(alloc: Global, at: usize, written: &[u8]) -> bool {
     let mut sink = Trickle::new(alloc, written.len());
     let is_told = match put_leaf(&mut sink, at) {
         Err(ValueWriteError::InvalidMarkerWrite(_)) => written.is_empty(),
-        // (content stands behind a head)
+        // (content comes after a head)
         Err(ValueWriteError::InvalidDataWrite(_)) => at == 8 || !written.is_empty(),
         _ => false,
     };
@@ -75,7 +75,7 @@ fn each_put_of_each_write_fails(rt: HostRuntime) {
     for (at, whole) in WHOLE.iter().enumerate() {
         for room in 0..whole.len() {
             assert!(rt;
-                fails_behind(rt.alloc(), at, &whole[..room]),
+                fails_after(rt.alloc(), at, &whole[..room]),
                 "write {at} at {room}"
             );
         }

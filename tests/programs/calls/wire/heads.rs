@@ -156,7 +156,7 @@ fn cut_heads(rt: HostRuntime) {
     same(&rt, head(&[]), Err(ValueReadError::InvalidMarkerRead(none)));
 }
 
-// The head behind a marker, and how many bytes are then left.
+// The head after a marker, and how many bytes are then left.
 fn head_of(marker: Marker, bytes: &[u8]) -> (Result<Head, ValueReadError>, usize) {
     let mut rest = bytes;
     let read = read_head(marker, &mut rest);

@@ -257,7 +257,7 @@ fn forced<W: Sink>(alloc: Global, sink: W, at: usize) -> (Result<(), Error>, W) 
     (answer, se.into_inner())
 }
 
-// Whether an answer tells of a sink's fault behind these bytes: before a head, or inside of an item, where one that is written in
+// Whether an answer tells of a sink's fault after these bytes: before a head, or inside of an item, where one that is written in
 // one piece may begin before them.
 fn is_told(alloc: Global, answer: &Result<(), Error>, written: &[u8]) -> bool {
     match answer {
@@ -269,7 +269,7 @@ fn is_told(alloc: Global, answer: &Result<(), Error>, written: &[u8]) -> bool {
     }
 }
 
-// Whether a head is what is wanted next behind these bytes.
+// Whether a head is what is wanted next after these bytes.
 fn is_between(alloc: Global, written: &[u8]) -> bool {
     let mut rest = written;
     loop {
@@ -280,8 +280,8 @@ fn is_between(alloc: Global, written: &[u8]) -> bool {
     }
 }
 
-// Whether a sink that fails behind these bytes has them, and one fault, and the write tells of it.
-fn fails_behind(alloc: Global, is_forced: bool, at: usize, written: &[u8]) -> bool {
+// Whether a sink that fails after these bytes has them, and one fault, and the write tells of it.
+fn fails_after(alloc: Global, is_forced: bool, at: usize, written: &[u8]) -> bool {
     let sink = Trickle::new(alloc, written.len());
     let (answer, sink) = if is_forced {
         forced(alloc, sink, at)
@@ -325,7 +325,7 @@ fn each_put_of_each_call_fails(rt: HostRuntime) {
         for room in 0..whole.len() {
             let written = &whole[..room];
             assert!(rt;
-                fails_behind(rt.alloc(), false, at, written),
+                fails_after(rt.alloc(), false, at, written),
                 "call {at} at {room}"
             );
             assert!(rt;
@@ -343,7 +343,7 @@ fn each_put_in_a_setting_fails(rt: HostRuntime) {
         for room in 0..whole.len() {
             let written = &whole[..room];
             assert!(rt;
-                fails_behind(rt.alloc(), true, at, written),
+                fails_after(rt.alloc(), true, at, written),
                 "value {at} at {room}"
             );
             assert!(rt;

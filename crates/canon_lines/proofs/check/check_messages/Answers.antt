@@ -9,7 +9,7 @@ use Rattle.canon_lines.specs.Prints.{line, IsStart, Puts}
 use Rattle.canon_lines.proofs.Checked.{
   whole_some,
   fault_within,
-  left_behind,
+  left_after,
   all_checked,
   checked_more,
   fault_ends,
@@ -41,7 +41,7 @@ loop-left-smaller g c =
     let whole : IsWhole c.loop-left.left.now c.in-Ok-Whole.len = (c.check_canonical.ensures.whole c.in-Ok-Whole.len).0
     (c.in-Ok-Whole.is ∙ ap Ok c.in-Ok-Whole.field-0-is) in
     let b = whole_some c.loop-left.left.now c.in-Ok-Whole.len whole in
-    omega (arith, b.some, b.within, ap length (left_behind c.in-Ok-Whole.len c.loop-left.left.now), length-drop c.in-Ok-Whole.len c.loop-left.left.now)
+    omega (arith, b.some, b.within, ap length (left_after c.in-Ok-Whole.len c.loop-left.left.now), length-drop c.in-Ok-Whole.len c.loop-left.left.now)
 
 pub loop-left-preserved : goal.loop-left-preserved
 loop-left-preserved g c =
@@ -53,7 +53,7 @@ loop-left-preserved g c =
     c.in_ok-print_line-in-Ok-Whole.ensures.line in
     record {
       read = checked_more g.W.Sink c.args.bytes.now c.loop-left.left.now _ c.in-Ok-Whole.len inv.read whole
-          (left_behind c.in-Ok-Whole.len c.loop-left.left.now) printed;
+          (left_after c.in-Ok-Whole.len c.loop-left.left.now) printed;
       lines = puts_both g.W.Sink inv.lines c.in_ok-print_line-in-Ok-Whole.ensures.prints.whole;
       place = c.print_line.ensures.prints.place ∙ inv.place;
     }

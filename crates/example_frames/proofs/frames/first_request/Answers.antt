@@ -3,7 +3,7 @@ use Rattle.std.proofs.Common.{◌∙◌, ap, refl}
 use Rattle.rmp_decode.specs.declared.deserializer.Deserializer.{Deserializer}
 use Rattle.rmp_wire.specs.RefReader.{rest_of}
 use Rattle.rmp_decode.proofs.Whole.{known_left, none_begins}
-use Rattle.example_frames.proofs.Apart.{deep_enough}
+use Rattle.example_frames.proofs.Differing.{deep_enough}
 use Rattle.example_frames.proofs.frames.first_request.Goals as goal
 
 pub returns-in-Err-clause-err : goal.returns-in-Err-clause-err

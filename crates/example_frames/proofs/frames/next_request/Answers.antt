@@ -1,4 +1,4 @@
-use Rattle.example_frames.proofs.Apart.{same_frame, asks_that, never_wrong}
+use Rattle.example_frames.proofs.Differing.{same_frame, asks_that, never_wrong}
 use Rattle.example_frames.proofs.frames.next_request.Goals as goal
 
 pub returns-in-Ok-request_in-clause-back : goal.returns-in-Ok-request_in-clause-back

@@ -1,6 +1,6 @@
 use Rattle.std.proofs.Common.{rules, ◌≡◌, ◌++◌, length, ◌<◌, ◌^◌}
 use Rattle.std.specs.Int.{w32, to_be_bytes}
-use Rattle.example_frames.proofs.Apart.{is_written}
+use Rattle.example_frames.proofs.Differing.{is_written}
 use Rattle.example_frames.proofs.frames.write_request.Goals as goal
 
 pub returns : goal.returns

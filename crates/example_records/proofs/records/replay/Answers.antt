@@ -4,7 +4,7 @@ use Rattle.example_records.proofs.records.replay.Goals as goal
 
 pub loop-record-preserved : goal.loop-record-preserved
 loop-record-preserved c = λ ms cut whole is_cut e.
-    subst (λ z. Replayed ms cut z c.in-Ok.behind.now) (sym c.in_ok-push-in-Ok.ensures.items)
+    subst (λ z. Replayed ms cut z c.in-Ok.following.now) (sym c.in_ok-push-in-Ok.ensures.items)
     (one_more ms cut c.loop-record.records.items c.loop-record.rest.now _ _ (c.loop-record.invariant ms cut whole is_cut e) is_cut
     c.in-Ok.ensures.cut c.in-Ok.ensures.back)
 

@@ -1,7 +1,7 @@
 //! Heads of any kind that are buffered whole, except those of extensions of more than 255 bytes.
 ghost use Rattle.std.specs.Prelude.{◌≡◌, ◌<ℤ◌, true, false, IfSome};
-ghost use Rattle.rmp_decode.specs.Ahead.{LeafStandsIn};
-ghost use Rattle.rmp_decode.specs.Fronts.{StandsIn, bound_of};
+ghost use Rattle.rmp_decode.specs.Ahead.{LeafHeadIn};
+ghost use Rattle.rmp_decode.specs.BufferedHeads.{HeadIn, bound_of};
 
 use crate::deserializer::peek::exts::ext_at;
 use crate::deserializer::peek::widths::unsigned_at;
@@ -12,7 +12,7 @@ use rmp_wire::{Head, Marker, is_canonical};
 // A head of one byte that isn't a number's.
 #[inline(always)]
 fn short_at(front: &[u8]) -> Option<(Head, usize)>
-    ensures { IfSome result (λ p. StandsIn false p.1 p.0 front.now) }
+    ensures { IfSome result (λ p. HeadIn false p.1 p.0 front.now) }
 {
     match front {
         [first, ..] => match first {
@@ -31,19 +31,19 @@ fn short_at(front: &[u8]) -> Option<(Head, usize)>
 // A head of bytes.
 #[inline(always)]
 fn bytes_at(front: &[u8]) -> Option<(Head, usize)>
-    ensures { IfSome result (λ p. StandsIn false p.1 p.0 front.now) }
+    ensures { IfSome result (λ p. HeadIn false p.1 p.0 front.now) }
 {
     match front {
-        [first, behind @ ..] => match first {
-            0xc4 => match behind {
+        [first, following @ ..] => match first {
+            0xc4 => match following {
                 [a, ..] => Some((Head::Bin(u32::from(*a)), 2)),
                 _ => None,
             },
-            0xc5 => match behind {
+            0xc5 => match following {
                 [a, b, ..] => Some((Head::Bin(u32::from(u16::from_be_bytes([*a, *b]))), 3)),
                 _ => None,
             },
-            0xc6 => match behind {
+            0xc6 => match following {
                 [a, b, c, d, ..] => Some((Head::Bin(u32::from_be_bytes([*a, *b, *c, *d])), 5)),
                 _ => None,
             },
@@ -56,19 +56,19 @@ fn bytes_at(front: &[u8]) -> Option<(Head, usize)>
 // A head of a text of any length.
 #[inline(always)]
 fn long_text_at(front: &[u8]) -> Option<(Head, usize)>
-    ensures { IfSome result (λ p. StandsIn false p.1 p.0 front.now) }
+    ensures { IfSome result (λ p. HeadIn false p.1 p.0 front.now) }
 {
     match front {
-        [first, behind @ ..] => match first {
-            0xd9 => match behind {
+        [first, following @ ..] => match first {
+            0xd9 => match following {
                 [a, ..] => Some((Head::Text(u32::from(*a)), 2)),
                 _ => None,
             },
-            0xda => match behind {
+            0xda => match following {
                 [a, b, ..] => Some((Head::Text(u32::from(u16::from_be_bytes([*a, *b]))), 3)),
                 _ => None,
             },
-            0xdb => match behind {
+            0xdb => match following {
                 [a, b, c, d, ..] => Some((Head::Text(u32::from_be_bytes([*a, *b, *c, *d])), 5)),
                 _ => None,
             },
@@ -81,23 +81,23 @@ fn long_text_at(front: &[u8]) -> Option<(Head, usize)>
 // A head of a list or of a map of any length.
 #[inline(always)]
 fn long_parts_at(front: &[u8]) -> Option<(Head, usize)>
-    ensures { IfSome result (λ p. StandsIn false p.1 p.0 front.now) }
+    ensures { IfSome result (λ p. HeadIn false p.1 p.0 front.now) }
 {
     match front {
-        [first, behind @ ..] => match first {
-            0xdc => match behind {
+        [first, following @ ..] => match first {
+            0xdc => match following {
                 [a, b, ..] => Some((Head::Array(u32::from(u16::from_be_bytes([*a, *b]))), 3)),
                 _ => None,
             },
-            0xdd => match behind {
+            0xdd => match following {
                 [a, b, c, d, ..] => Some((Head::Array(u32::from_be_bytes([*a, *b, *c, *d])), 5)),
                 _ => None,
             },
-            0xde => match behind {
+            0xde => match following {
                 [a, b, ..] => Some((Head::Map(u32::from(u16::from_be_bytes([*a, *b]))), 3)),
                 _ => None,
             },
-            0xdf => match behind {
+            0xdf => match following {
                 [a, b, c, d, ..] => Some((Head::Map(u32::from_be_bytes([*a, *b, *c, *d])), 5)),
                 _ => None,
             },
@@ -110,31 +110,31 @@ fn long_parts_at(front: &[u8]) -> Option<(Head, usize)>
 // A number at the front in a format with a sign, and the length of its head.
 #[inline(always)]
 pub(crate) fn signed_at(front: &[u8]) -> Option<(i64, usize)>
-    ensures any { IfSome result (λ p. StandsIn false p.1 (Head.Whole p.0) front.now) }
-    ensures canonical { IfSome result (λ p. p.0 <ℤ bound_of p.1 → StandsIn true p.1 (Head.Whole p.0) front.now) }
+    ensures any { IfSome result (λ p. HeadIn false p.1 (Head.Whole p.0) front.now) }
+    ensures canonical { IfSome result (λ p. p.0 <ℤ bound_of p.1 → HeadIn true p.1 (Head.Whole p.0) front.now) }
 {
     match front {
-        [first, behind @ ..] => match first {
+        [first, following @ ..] => match first {
             0xe0..=0xff => Some((i64::from(first.cast_signed()), 1)),
-            0xd0 => match behind {
+            0xd0 => match following {
                 [a, ..] => Some((i64::from(a.cast_signed()), 2)),
                 _ => None,
             },
-            0xd1 => match behind {
+            0xd1 => match following {
                 [a, b, ..] => {
                     let n = u16::from_be_bytes([*a, *b]);
                     Some((i64::from(n.cast_signed()), 3))
                 }
                 _ => None,
             },
-            0xd2 => match behind {
+            0xd2 => match following {
                 [a, b, c, d, ..] => {
                     let n = u32::from_be_bytes([*a, *b, *c, *d]);
                     Some((i64::from(n.cast_signed()), 5))
                 }
                 _ => None,
             },
-            0xd3 => match behind {
+            0xd3 => match following {
                 [a, b, c, d, e, f, g, h, ..] => {
                     let n = u64::from_be_bytes([*a, *b, *c, *d, *e, *f, *g, *h]);
                     Some((n.cast_signed(), 9))
@@ -150,7 +150,7 @@ pub(crate) fn signed_at(front: &[u8]) -> Option<(i64, usize)>
 // A head of any width and any kind, but of an extension of more than 255 bytes, and the count of its bytes.
 #[inline(always)]
 pub(crate) fn any_at(front: &[u8]) -> Option<(Head, usize)>
-    ensures { IfSome result (λ p. StandsIn false p.1 p.0 front.now) }
+    ensures { IfSome result (λ p. HeadIn false p.1 p.0 front.now) }
 {
     match front {
         [first, ..] => match first {
@@ -186,7 +186,7 @@ pub(crate) fn any_at(front: &[u8]) -> Option<(Head, usize)>
 // A canonical head, and the count of its bytes. Out of line: so the reads of any width keep nothing of a head for the test.
 #[inline(never)]
 pub(crate) fn canonical_at(front: &[u8]) -> Option<(Head, usize)>
-    ensures { IfSome result (λ p. StandsIn true p.1 p.0 front.now) }
+    ensures { IfSome result (λ p. HeadIn true p.1 p.0 front.now) }
 {
     match any_at(front) {
         Some((head, len)) => {
@@ -203,7 +203,7 @@ pub(crate) fn canonical_at(front: &[u8]) -> Option<(Head, usize)>
 // A head of bytes, of any width: the count of the bytes, and of the head's.
 #[inline(always)]
 pub(crate) fn any_bin_at(front: &[u8]) -> Option<(u32, usize)>
-    ensures { IfSome result (λ p. StandsIn false p.1 (Head.Bin p.0) front.now) }
+    ensures { IfSome result (λ p. HeadIn false p.1 (Head.Bin p.0) front.now) }
 {
     match bytes_at(front) {
         Some((head, len)) => match head.as_bin() {
@@ -217,7 +217,7 @@ pub(crate) fn any_bin_at(front: &[u8]) -> Option<(u32, usize)>
 // A canonical head of bytes: the count of the bytes, and of the head's.
 #[inline(always)]
 pub(crate) fn canonical_bin_at(front: &[u8]) -> Option<(u32, usize)>
-    ensures { IfSome result (λ p. StandsIn true p.1 (Head.Bin p.0) front.now) }
+    ensures { IfSome result (λ p. HeadIn true p.1 (Head.Bin p.0) front.now) }
 {
     match canonical_at(front) {
         Some((head, len)) => match head.as_bin() {
@@ -231,7 +231,7 @@ pub(crate) fn canonical_bin_at(front: &[u8]) -> Option<(u32, usize)>
 // A head of a leaf, of any width, but of an extension of more than 255 bytes: how many bytes of content follow, and the count of its own.
 #[inline(always)]
 fn any_leaf_at(front: &[u8]) -> Option<(u32, usize)>
-    ensures { IfSome result (λ p. LeafStandsIn false p.1 p.0 front.now) }
+    ensures { IfSome result (λ p. LeafHeadIn false p.1 p.0 front.now) }
 {
     match any_at(front) {
         Some((head, len)) => match leaf_in(head) {
@@ -245,7 +245,7 @@ fn any_leaf_at(front: &[u8]) -> Option<(u32, usize)>
 // A canonical head of a leaf. Out of line: so the other path keeps nothing of a head.
 #[inline(never)]
 fn canonical_leaf_at(front: &[u8]) -> Option<(u32, usize)>
-    ensures { IfSome result (λ p. LeafStandsIn true p.1 p.0 front.now) }
+    ensures { IfSome result (λ p. LeafHeadIn true p.1 p.0 front.now) }
 {
     match canonical_at(front) {
         Some((head, len)) => match leaf_in(head) {
@@ -259,7 +259,7 @@ fn canonical_leaf_at(front: &[u8]) -> Option<(u32, usize)>
 // The head of a leaf that may be read: any, or where reading is strict a canonical one.
 #[inline(always)]
 pub(super) fn leaf_at(front: &[u8], strict: bool) -> Option<(u32, usize)>
-    ensures { IfSome result (λ p. LeafStandsIn strict p.1 p.0 front.now) }
+    ensures { IfSome result (λ p. LeafHeadIn strict p.1 p.0 front.now) }
 {
     if strict {
         canonical_leaf_at(front)

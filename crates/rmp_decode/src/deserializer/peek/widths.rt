@@ -1,12 +1,12 @@
 //! Numbers without a sign, of any width, at the front of buffered bytes.
 ghost use Rattle.std.specs.Prelude.{◌≡◌, ◌<◌, ◌≤◌, ◌<ℤ◌, ◌+◌, ◌*◌, pos, true, false, length, get_or, IfSome};
-ghost use Rattle.rmp_decode.specs.Fronts.{StandsIn, bound_of, least_of};
+ghost use Rattle.rmp_decode.specs.BufferedHeads.{HeadIn, bound_of, least_of};
 
 use rmp_wire::Head;
 
 // Whether a number or a length may be read in a format that is meant for those from `least` on: any where reading isn't strict.
 #[inline(always)]
-pub(super) fn may_stand(n: u64, least: u64, strict: bool) -> bool
+pub(super) fn may_begin(n: u64, least: u64, strict: bool) -> bool
     ensures { result ≡ true → strict ≡ true → least ≤ n }
 {
     !strict || n >= least
@@ -85,25 +85,25 @@ fn number_64_at(bytes: &[u8]) -> Option<u64>
 // A number without a sign whose head, of any width, is at the front, and the length of that head.
 #[inline(always)]
 pub(super) fn unsigned_at(front: &[u8]) -> Option<(u64, usize)>
-    ensures any { IfSome result (λ p. StandsIn false p.1 (Head.Whole (pos p.0)) front.now) }
-    ensures canonical { IfSome result (λ p. least_of p.1 ≤ p.0 → StandsIn true p.1 (Head.Whole (pos p.0)) front.now) }
+    ensures any { IfSome result (λ p. HeadIn false p.1 (Head.Whole (pos p.0)) front.now) }
+    ensures canonical { IfSome result (λ p. least_of p.1 ≤ p.0 → HeadIn true p.1 (Head.Whole (pos p.0)) front.now) }
 {
     match front {
-        [first, behind @ ..] => match first {
+        [first, following @ ..] => match first {
             0x00..=0x7f => Some((u64::from(*first), 1)),
-            0xcc => match behind {
+            0xcc => match following {
                 [a, ..] => Some((u64::from(*a), 2)),
                 _ => None,
             },
-            0xcd => match number_16_at(behind) {
+            0xcd => match number_16_at(following) {
                 Some(n) => Some((u64::from(n), 3)),
                 None => None,
             },
-            0xce => match number_32_at(behind) {
+            0xce => match number_32_at(following) {
                 Some(n) => Some((u64::from(n), 5)),
                 None => None,
             },
-            0xcf => match number_64_at(behind) {
+            0xcf => match number_64_at(following) {
                 Some(n) => Some((n, 9)),
                 None => None,
             },

@@ -1,5 +1,5 @@
-use Rattle.rmp_wire.proofs.Heads.{heads_apart}
+use Rattle.rmp_wire.proofs.Heads.{heads_differ}
 use Rattle.rmp_serde.proofs.laws.no_head_begins_another.Goals as goal
 
 pub returns : goal.returns
-returns c = heads_apart
+returns c = heads_differ

@@ -1,4 +1,4 @@
-use Rattle.rmp_decode.proofs.Fronts.{first_byte}
+use Rattle.rmp_decode.proofs.BufferedHeads.{first_byte}
 use Rattle.rmp_decode.proofs.access.seq.first_of.Goals as goal
 
 pub returns-in-len1-up : goal.returns-in-len1-up

@@ -6,7 +6,7 @@ use Rattle.rmp_decode.specs.Read.{IsUnsigned}
 use Rattle.rmp_decode.specs.Rows.{ReadsEach}
 use Rattle.rmp_decode.specs.Seq.{OfRow, IsOpen}
 use Rattle.rmp_decode.proofs.BufferErrors.{number_refused, number_unkept}
-use Rattle.rmp_decode.proofs.Buffers.{lawful_err_at, buffer_done, row_of_buffer, opened_behind, list_too_deep}
+use Rattle.rmp_decode.proofs.Buffers.{lawful_err_at, buffer_done, row_of_buffer, opened_after, list_too_deep}
 use Rattle.rmp_decode.proofs.Seqs.{values_start, values_step, each_next, seq_take, seq_unkept}
 use Rattle.rmp_decode.proofs.deserializer.Deserializer.byte_list.Goals as goal
 
@@ -35,7 +35,7 @@ pub returns-in_err-item-clause-law : goal.returns-in_err-item-clause-law
 returns-in_err-item-clause-law g c = λ old m h.
     let r = c.loop-items.invariant in
     let same = sym c.in_ok-seq.ensures.same_reference ∙ sym r.run.same_reference ∙ sym c.next_number.ensures.same_reference in
-    let o = opened_behind g.R.Source old c.args.self.now m c.args.len c.in_ok-seq.seq h c.in_ok-seq.ensures.opened in
+    let o = opened_after g.R.Source old c.args.self.now m c.args.len c.in_ok-seq.seq h c.in_ok-seq.ensures.opened in
     let p = err_from_is_err_and c.from_residual-in_err-item.result c.from_residual-in_err-item.ensures.1 in
     let f = c.in_err-item.ensures.err r.run.still in
     rw (p.1, p.2) (lawful_err_at g.R.Source (λ t (v : Vec ℕ Global). OfRow (λ ms. ReadsEach (IsUnsigned 255) ms v.items) t) (λ t v. IsBuffer t v.items) old
@@ -47,7 +47,7 @@ pub returns-in_err-push-clause-law : goal.returns-in_err-push-clause-law
 returns-in_err-push-clause-law g c = λ old m h.
     let r = c.loop-items.invariant in
     let same = sym c.in_ok-seq.ensures.same_reference ∙ sym r.run.same_reference ∙ sym c.next_number.ensures.same_reference in
-    let o = opened_behind g.R.Source old c.args.self.now m c.args.len c.in_ok-seq.seq h c.in_ok-seq.ensures.opened in
+    let o = opened_after g.R.Source old c.args.self.now m c.args.len c.in_ok-seq.seq h c.in_ok-seq.ensures.opened in
     let p = err_from_is_err_and c.from_residual-in_err-push.result c.from_residual-in_err-push.ensures.1 in
     let t = rw c.in-Some.is at (c.in_ok-item.ensures.some r.run.still) in
     let s = values_step _ _ _ c.loop-items.seq c.next_number.new.self c.loop-items.items.items c.in-Some.item r t c.next_number.ensures.same_reference in
@@ -72,7 +72,7 @@ pub returns-clause-law : goal.returns-clause-law
 returns-clause-law g c = λ old m h.
     let r = c.loop-items.invariant in
     let same = sym c.in_ok-seq.ensures.same_reference ∙ sym r.run.same_reference ∙ sym c.next_number.ensures.same_reference in
-    let o = opened_behind g.R.Source old c.args.self.now m c.args.len c.in_ok-seq.seq h c.in_ok-seq.ensures.opened in
+    let o = opened_after g.R.Source old c.args.self.now m c.args.len c.in_ok-seq.seq h c.in_ok-seq.ensures.opened in
     let n = at_none c.in_ok-item.field-0 c.in_default.not-Some (c.in_ok-item.ensures.none r.run.still) in
     let e = (c.in_ok-end.ensures.ok (subst IsOpen (sym n.1) r.run.still)).1 in
     buffer_done g.R.Source old c.in_ok-seq.seq c.loop-items.seq r.trees o r.run _ _ r.values n.0

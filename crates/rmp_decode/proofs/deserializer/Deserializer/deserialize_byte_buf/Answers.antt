@@ -8,10 +8,10 @@ each_error : {A : Type 0} (r : Result A Error) {P : Error → Type 0} → ((e : 
 each_error (Ok a) f = tt
 each_error (Err e) f = f e
 
-bytes_apart : (len n : ℕ) → Bin len ≡ Array n → ⊥
-bytes_apart len n e = absurd (cc)
+bytes_differ : (len n : ℕ) → Bin len ≡ Array n → ⊥
+bytes_differ len n e = absurd (cc)
 
 pub returns-in-Some-clause-list : goal.returns-in-Some-clause-list
 returns-in-Some-clause-list g c = λ _. each_error c.byte_buf_payload.result
     (λ e. list_other g.R.Source c.args.self.now e _ c.in-Some.ensures.taken.marker (Bin c.in-Some.len) c.in-Some.ensures.taken.begun.marked
-    (bytes_apart c.in-Some.len))
+    (bytes_differ c.in-Some.len))

@@ -1,7 +1,7 @@
 use Rattle.std.proofs.Common.{◌∙◌, subst}
 use Rattle.std.specs.Prelude.{Ok, Err}
 use Rattle.rmp_wire.specs.declared.head.Head.TheVariants.{Array}
-use Rattle.rmp_decode.specs.Fronts.{TakesFront}
+use Rattle.rmp_decode.specs.BufferedHeads.{ConsumesHead}
 use Rattle.rmp_decode.specs.Fields.{OfFields}
 use Rattle.rmp_decode.specs.Law.{Lawful}
 use Rattle.rmp_decode.specs.Names.{bytes_of}
@@ -12,7 +12,7 @@ use Rattle.rmp_decode.proofs.deserializer.Deserializer.deserialize_fields.Goals 
 
 pub returns-in-Some-clause-law : goal.returns-in-Some-clause-law
 returns-in-Some-clause-law g c =
-    let front = subst (λ z. TakesFront g.R.Source (Array z) c.args.self.now c.take_nested.new.self) c.requires.count
+    let front = subst (λ z. ConsumesHead g.R.Source (Array z) c.args.self.now c.take_nested.new.self) c.requires.count
     c.in-Some.ensures.taken in
     row_law g.R.Source g.C.SerializerConfig.human g.R.ReadSlice.lends g.F.Fields.reads g.F.Fields.parts c.args.self.now c.take_nested.new.self
     c.row_ahead.new.self g.F.Fields.count c.in-Some.ensures.deep front c.row_ahead.result (bytes_of c.args.names.now)
@@ -21,7 +21,7 @@ returns-in-Some-clause-law g c =
 
 pub returns-in-Some-clause-refused : goal.returns-in-Some-clause-refused
 returns-in-Some-clause-refused g c = λ _.
-    let front = subst (λ z. TakesFront g.R.Source (Array z) c.args.self.now c.take_nested.new.self) c.requires.count
+    let front = subst (λ z. ConsumesHead g.R.Source (Array z) c.args.self.now c.take_nested.new.self) c.requires.count
     c.in-Some.ensures.taken in
     if_err c.row_ahead.result (λ e w. row_refused g.R.Source g.C.SerializerConfig.human g.R.ReadSlice.lends g.F.Fields.reads g.F.Fields.parts
     c.args.self.now c.take_nested.new.self

@@ -1,4 +1,4 @@
--- The access that is made behind the head opens the fields.
+-- The access that is made after the head opens the fields.
 use Rattle.std.proofs.Common.{refl, rules}
 use Rattle.rmp_decode.proofs.StructVariants.{made_listed, made_mapped, listed_room, mapped_room, opens_listed, opens_mapped}
 use Rattle.rmp_decode.proofs.deserializer.Deserializer.deserialize_struct.Goals as goal

@@ -2,7 +2,7 @@ use Rattle.std.proofs.Common.{◌≡◌, refl, rules, pos}
 use Rattle.std.specs.Int.{w128}
 use Rattle.std.proofs.lemmas.Int.{to_z-of_z}
 use Rattle.rmp_wire.proofs.HeadReads.{fits_unsigned}
-use Rattle.rmp_decode.proofs.HeadTaken.{head_next, next_refused, head_behind, rest_refused, head_number}
+use Rattle.rmp_decode.proofs.HeadTaken.{head_next, next_refused, head_after, rest_refused, head_number}
 use Rattle.rmp_decode.proofs.deserializer.Deserializer.head.Goals as goal
 
 pub returns-in-Ok : goal.returns-in-Ok
@@ -14,7 +14,7 @@ returns-in-Err g c = next_refused g.R.Source _ _ c.if-self.false refl c.in-Nothi
     c.in-Err.ensures.refused
 
 pub returns-in-Ok-rest_of_head : goal.returns-in-Ok-rest_of_head
-returns-in-Ok-rest_of_head g c = head_behind g.R.Source _ _ c.if-self.false refl refl refl refl refl refl c.in-First.byte _ _ c.from_u8-marker.ensures.marker
+returns-in-Ok-rest_of_head g c = head_after g.R.Source _ _ c.if-self.false refl refl refl refl refl refl c.in-First.byte _ _ c.from_u8-marker.ensures.marker
     c.from_u8-marker.ensures.round c.in-First.is c.in-Ok-rest_of_head.ensures.taken.read
     (c.in-Ok-rest_of_head.ensures.taken.allowed _ c.in-Ok-rest_of_head.ensures.taken.read.ok.is_head)
 

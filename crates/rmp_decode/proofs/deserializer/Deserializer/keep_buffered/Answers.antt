@@ -1,5 +1,5 @@
 use Rattle.std.proofs.Common.{refl, rules, [], ◌∷◌}
-use Rattle.rmp_decode.proofs.Fronts.{bytes_consumed}
+use Rattle.rmp_decode.proofs.BufferedHeads.{bytes_consumed}
 use Rattle.rmp_decode.proofs.deserializer.Deserializer.keep_buffered.Goals as goal
 
 pub returns-then-skip-clause-ok : goal.returns-then-skip-clause-ok

@@ -1,7 +1,7 @@
 use Rattle.std.proofs.Common.{◌∙◌, ap, subst, sym, refl, arith, max, ◌-◌}
 use Rattle.std.specs.Prelude.{IfOk, IfErr}
 use Rattle.rmp_wire.specs.declared.head.Head.TheVariants.{Map}
-use Rattle.rmp_decode.specs.Fronts.{TakesFront}
+use Rattle.rmp_decode.specs.BufferedHeads.{ConsumesHead}
 use Rattle.rmp_decode.specs.Names.{bytes_of}
 use Rattle.rmp_decode.specs.State.{faults_of, Stays}
 use Rattle.rmp_decode.specs.Variants.{TakesKeyOf, TakesNameOf, FailsToOpenVariant}
@@ -27,7 +27,7 @@ pub returns-in-None-take_name-clause-ok : goal.returns-in-None-take_name-clause-
 returns-in-None-take_name-clause-ok g c =
     let kept = c.in-None.ensures.kept in
     let kn = c.in-None-take_name.ensures.kept in
-    let f2 = subst (λ (z : Deserializer g.row.R.Denot g.row.C.Denot). TakesFront g.R.Source (Map 1) c.take_bare_name.new.self z) (sym kn)
+    let f2 = subst (λ (z : Deserializer g.row.R.Denot g.row.C.Denot). ConsumesHead g.R.Source (Map 1) c.take_bare_name.new.self z) (sym kn)
     (c.in-Some-take_nested.ensures.taken) in
     let d = c.in-Some-take_nested.ensures.deep in
     subst (λ (z : Deserializer g.row.R.Denot g.row.C.Denot). IfOk c.slow_pair.result
@@ -39,7 +39,7 @@ pub returns-in-None-take_name-clause-err : goal.returns-in-None-take_name-clause
 returns-in-None-take_name-clause-err g c =
     let kept = c.in-None.ensures.kept in
     let kn = c.in-None-take_name.ensures.kept in
-    let f2 = subst (λ (z : Deserializer g.row.R.Denot g.row.C.Denot). TakesFront g.R.Source (Map 1) c.take_bare_name.new.self z) (sym kn)
+    let f2 = subst (λ (z : Deserializer g.row.R.Denot g.row.C.Denot). ConsumesHead g.R.Source (Map 1) c.take_bare_name.new.self z) (sym kn)
     (c.in-Some-take_nested.ensures.taken) in
     let d = c.in-Some-take_nested.ensures.deep in
     subst (λ (z : Deserializer g.row.R.Denot g.row.C.Denot). IfErr c.slow_pair.result

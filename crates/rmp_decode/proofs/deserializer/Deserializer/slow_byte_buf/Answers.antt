@@ -4,9 +4,9 @@ use Rattle.rmp_decode.specs.Content.{IsBufferHead, not_raw, not_buffer}
 use Rattle.rmp_decode.specs.Kinds.{raw_head}
 use Rattle.rmp_decode.specs.Law.{ReadsHead}
 use Rattle.rmp_decode.specs.declared.error.Error.{Error}
-use Rattle.rmp_decode.proofs.BufferErrors.{list_none, list_other, list_behind, raw_no_list}
+use Rattle.rmp_decode.proofs.BufferErrors.{list_none, list_other, list_after, raw_no_list}
 use Rattle.rmp_decode.proofs.Buffers.{raw_buffer, no_buffer}
-use Rattle.rmp_decode.proofs.ContentErrors.{content_error, content_other, content_none, content_apart, piece_ended, raw_len, buffer_wanted, no_buffer_head}
+use Rattle.rmp_decode.proofs.ContentErrors.{content_error, content_other, content_none, content_differ, piece_ended, raw_len, buffer_wanted, no_buffer_head}
 use Rattle.rmp_decode.proofs.Contents.{raw_content, content_read, content_short}
 use Rattle.rmp_decode.proofs.Laws.{refused_none, refused_head}
 use Rattle.rmp_decode.proofs.deserializer.Deserializer.slow_byte_buf.Goals as goal
@@ -52,7 +52,7 @@ under_list (Err e) f = f e
 
 pub returns-in-Some-as_array-clause-exact : goal.returns-in-Some-as_array-clause-exact
 returns-in-Some-as_array-clause-exact g c = λ _. under_list c.byte_list.result
-    (λ e. content_apart _ IsBufferHead not_raw not_buffer _ _ _ c.in-Ok.field-0-0 c.in-Ok.head (Array c.in-Some-as_array.len) e c.in-Ok.ensures.marked
+    (λ e. content_differ _ IsBufferHead not_raw not_buffer _ _ _ c.in-Ok.field-0-0 c.in-Ok.head (Array c.in-Some-as_array.len) e c.in-Ok.ensures.marked
     c.in-Some-as_array.ensures refl tt (λ s. tt))
 
 pub returns-in-Err-clause-exact : goal.returns-in-Err-clause-exact
@@ -65,7 +65,7 @@ returns-in-Err-owned-clause-list g c = λ _. list_other g.R.Source c.args.self.n
     (λ n e. raw_no_list c.in-Some.field-0-0 c.in-Some.len n (sym c.in-Some.ensures ∙ e))
 
 pub returns-in-Some-as_array-clause-list : goal.returns-in-Some-as_array-clause-list
-returns-in-Some-as_array-clause-list g c = λ _. list_behind g.R.Source c.args.self.now c.head.new.self _ c.in-Ok.field-0-0 c.in-Ok.head c.in-Some-as_array.len
+returns-in-Some-as_array-clause-list g c = λ _. list_after g.R.Source c.args.self.now c.head.new.self _ c.in-Ok.field-0-0 c.in-Ok.head c.in-Some-as_array.len
     c.byte_list.result c.in-Ok.ensures c.in-Some-as_array.ensures c.byte_list.ensures.deep c.byte_list.ensures.items
 
 pub returns-in-None-as_array-clause-list : goal.returns-in-None-as_array-clause-list

@@ -1,8 +1,8 @@
 use Rattle.std.proofs.Common.{refl, rules}
-use Rattle.rmp_decode.proofs.Fronts.{front_taken}
+use Rattle.rmp_decode.proofs.BufferedHeads.{front_taken}
 use Rattle.rmp_decode.proofs.deserializer.Deserializer.take.Goals as goal
 
 pub returns-then-skip-clause-taken : goal.returns-then-skip-clause-taken
 returns-then-skip-clause-taken g c =
     front_taken g.R.Source _ _ _ _ _ (search rules) (search rules) refl (search rules) refl refl refl refl c.front.ensures.bytes
-    c.in-Some.ensures.stands (c.skip.ensures.bytes c.if-skip.true) (c.skip.ensures.sound c.if-skip.true) (c.skip.ensures.place c.if-skip.true)
+    c.in-Some.ensures.starts (c.skip.ensures.bytes c.if-skip.true) (c.skip.ensures.sound c.if-skip.true) (c.skip.ensures.place c.if-skip.true)

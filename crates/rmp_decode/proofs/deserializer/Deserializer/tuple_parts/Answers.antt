@@ -1,7 +1,7 @@
 use Rattle.std.proofs.Common.{subst}
 use Rattle.std.specs.Prelude.{Ok, Err}
 use Rattle.rmp_wire.specs.declared.head.Head.TheVariants.{Array}
-use Rattle.rmp_decode.specs.Fronts.{TakesFront}
+use Rattle.rmp_decode.specs.BufferedHeads.{ConsumesHead}
 use Rattle.rmp_decode.specs.Fields.{given_all}
 use Rattle.rmp_decode.specs.Law.{Lawful}
 use Rattle.rmp_decode.specs.Seq.{OfRow}
@@ -11,14 +11,14 @@ use Rattle.rmp_decode.proofs.deserializer.Deserializer.tuple_parts.Goals as goal
 
 pub returns-in-Some-clause-law : goal.returns-in-Some-clause-law
 returns-in-Some-clause-law g c =
-    let front = subst (λ z. TakesFront g.R.Source (Array z) c.args.self.now c.take_nested.new.self) c.requires.count
+    let front = subst (λ z. ConsumesHead g.R.Source (Array z) c.args.self.now c.take_nested.new.self) c.requires.count
     c.in-Some.ensures.taken in
     tuple_law g.R.Source g.C.SerializerConfig.human g.R.ReadSlice.lends g.F.Fields.reads g.F.Fields.parts c.args.self.now c.take_nested.new.self
     c.row_ahead.new.self g.F.Fields.count c.in-Some.ensures.deep front c.row_ahead.result c.row_ahead.ensures.ok c.row_ahead.ensures.err
 
 pub returns-in-Some-clause-refused : goal.returns-in-Some-clause-refused
 returns-in-Some-clause-refused g c = λ _.
-    let front = subst (λ z. TakesFront g.R.Source (Array z) c.args.self.now c.take_nested.new.self) c.requires.count
+    let front = subst (λ z. ConsumesHead g.R.Source (Array z) c.args.self.now c.take_nested.new.self) c.requires.count
     c.in-Some.ensures.taken in
     if_err c.row_ahead.result (λ e w. tuple_refused g.R.Source g.C.SerializerConfig.human g.R.ReadSlice.lends g.F.Fields.reads g.F.Fields.parts
     c.args.self.now c.take_nested.new.self

@@ -1,5 +1,5 @@
 use Rattle.std.proofs.Common.{refl}
-use Rattle.rmp_decode.proofs.Fronts.{bytes_consumed}
+use Rattle.rmp_decode.proofs.BufferedHeads.{bytes_consumed}
 use Rattle.rmp_decode.proofs.deserializer.numbers.buffered_16.Goals as goal
 use Rattle.rmp_decode.proofs.deserializer.numbers.buffered_16.Goals.{in-Some+then-skip, in-Some+else-skip, in-None}
 

@@ -113,7 +113,7 @@ returns-in-Err-any_head-clause-exact g c = λ _. none_wrong g.R.Source g.P.ReadC
     c.parts.outer.items c.parts.invariant _ c.any_head.new.self _ c.in-None-take_leaf_head.ensures.kept (omega (arith, c.if-wanted-eq0.false))
     c.in-Err-any_head.ensures.err
 
--- ---- a leaf whose head lies ahead
+-- ---- a leaf whose head is buffered
 
 pub parts-smaller-in-Ok : goal.parts-smaller-in-Ok
 parts-smaller-in-Ok g c = falls_leaf c.parts.room c.parts.wanted _ c.parts.outer.items (omega (arith, c.if-wanted-eq0.false)) refl

@@ -6,7 +6,7 @@ use Rattle.rmp_encode.specs.Trees.{HasTree, spell}
 use Rattle.rmp_encode.proofs.Going.{keeps_then}
 use Rattle.rmp_encode.proofs.Leaves.{bytes_from}
 use Rattle.rmp_encode.proofs.Parts.{part_as, part_stops, part_then}
-use Rattle.rmp_encode.proofs.Numbers.{marker_first, marker_behind}
+use Rattle.rmp_encode.proofs.Numbers.{marker_first, marker_after}
 use Rattle.rmp_encode.specs.Ser.{sink_of}
 use Rattle.std.specs.Prelude.{Err}
 use Rattle.rmp_encode.proofs.serializer.Serializer.put_variant.Goals as goal
@@ -33,5 +33,5 @@ returns-in_err-put_head-clause-marker g c =
 
 pub returns-clause-marker : goal.returns-clause-marker
 unfolding head_at
-returns-clause-marker g c = marker_behind g.W.Sink _ _ _ c.put_word.result c.in_ok-put_head.ensures.writes
+returns-clause-marker g c = marker_after g.W.Sink _ _ _ c.put_word.result c.in_ok-put_head.ensures.writes
     (marker_first g.W.Sink _ [] _ _ c.put_word.result c.put_word.ensures.marker)

@@ -35,8 +35,8 @@ read_content-requires-clause-leaf g c = c.requires.leaf
 pub push-requires-clause-fits : goal.push-requires-clause-fits
 push-requires-clause-fits g c = c.requires.fits
 
-pub push-requires-clause-stands : goal.push-requires-clause-stands
-push-requires-clause-stands g c =
+pub push-requires-clause-starts : goal.push-requires-clause-starts
+push-requires-clause-starts g c =
     let o = c.in-Ok.ensures.ok in
     let room = c.make_room_for_content.new.self in
     omega (arith, c.len-at.ensures, room.bytes.ok.0, ap length o.whole, length-append room.bytes.items o.content, o.taken.long)

@@ -95,13 +95,13 @@ read_content-requires-clause-leaf g c = c.in-None.ensures
 pub read_parts-requires-clause-deep : goal.read_parts-requires-clause-deep
 read_parts-requires-clause-deep g c = omega (arith, c.room.ensures, c.if-room-le1.false)
 
-pub from_parts-requires-clause-stands : goal.from_parts-requires-clause-stands
-from_parts-requires-clause-stands g c = omega (arith, bare_len c.in-Some.is_map c.in-Some.n c.in-Ok.head c.in-Some.ensures)
+pub from_parts-requires-clause-starts : goal.from_parts-requires-clause-starts
+from_parts-requires-clause-starts g c = omega (arith, bare_len c.in-Some.is_map c.in-Some.n c.in-Ok.head c.in-Some.ensures)
 
 pub from_parts-requires-clause-within : goal.from_parts-requires-clause-within
 from_parts-requires-clause-within g c = c.in-Ok-read_parts.ensures.within
 
-pub from_parts-requires-in-Ok-read_content-clause-stands : goal.from_parts-requires-in-Ok-read_content-clause-stands
-from_parts-requires-in-Ok-read_content-clause-stands g c =
+pub from_parts-requires-in-Ok-read_content-clause-starts : goal.from_parts-requires-in-Ok-read_content-clause-starts
+from_parts-requires-in-Ok-read_content-clause-starts g c =
     let o = c.in-Ok-read_content.ensures.ok in
     omega (arith, ap length o.whole, length-append c.new-made.result.bytes.items o.content, o.taken.long)

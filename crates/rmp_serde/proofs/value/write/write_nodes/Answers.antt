@@ -1,7 +1,7 @@
 use Rattle.std.proofs.Common.{rules, arith, ◌∷◌}
 use Rattle.std.proofs.lemmas.Result.{err_from_is_err_and}
 use Rattle.rmp_serde.proofs.FlatParts.{ends_at}
-use Rattle.rmp_serde.proofs.TreeWriting.{tree_of_puts, takes_until, takes_next, stands_in}
+use Rattle.rmp_serde.proofs.TreeWriting.{tree_of_puts, takes_until, takes_next, starts_in}
 use Rattle.rmp_serde.proofs.value.write.write_nodes.Goals as goal
 
 pub returns-in_err-write_node-clause-writes : goal.returns-in_err-write_node-clause-writes
@@ -9,7 +9,7 @@ returns-in_err-write_node-clause-writes g c =
     let p = err_from_is_err_and c.from_residual.result c.from_residual.ensures.1 in
     let row = c.args.root ∷ c.args.parts.now.nodes.items in
     rw (p.1, p.2) (takes_until _ row c.loop-at.at _ (omega (arith, c.loop-at-test.true, c.len-at-end.ensures))
-    (stands_in row c.loop-at.at _ c.node.result (omega (arith, c.loop-at-test.true, c.len-at-end.ensures)) c.node.ensures.node) c.loop-at.invariant.1
+    (starts_in row c.loop-at.at _ c.node.result (omega (arith, c.loop-at-test.true, c.len-at-end.ensures)) c.node.ensures.node) c.loop-at.invariant.1
     (tree_of_puts c.in_err-write_node.ensures.writes))
 
 pub loop-at-preserved : goal.loop-at-preserved

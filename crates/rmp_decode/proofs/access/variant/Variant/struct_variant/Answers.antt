@@ -5,14 +5,14 @@ use Rattle.rmp_decode.proofs.StructVariants.{made_listed, made_mapped, listed_ro
 use Rattle.rmp_decode.proofs.StructVariants.{listed_within, mapped_within, no_struct_alone, no_struct_content}
 use Rattle.rmp_decode.proofs.access.variant.Variant.struct_variant.Goals as goal
 
-syntax_apart : Syntax InvalidType ≡ OutOfMemory → ⊥
-syntax_apart e = absurd (cc)
+syntax_differ : Syntax InvalidType ≡ OutOfMemory → ⊥
+syntax_differ e = absurd (cc)
 
 pub returns-then-bare : goal.returns-then-bare
 returns-then-bare g c = (
   (refl, λ _. tt, no_struct_alone g.R.Source c.args.self c.if-bare.true),
   record
-      { refused = tt; same_reference = tt; paired = tt; opened = tt; memory = syntax_apart },
+      { refused = tt; same_reference = tt; paired = tt; opened = tt; memory = syntax_differ },
 )
 
 pub returns-in-Err : goal.returns-in-Err

@@ -4,14 +4,14 @@ use Rattle.rmp_decode.specs.declared.text.Text.TheVariants.{InvalidType}
 use Rattle.rmp_decode.proofs.VariantSeqs.{no_seq_alone, no_seq_content}
 use Rattle.rmp_decode.proofs.access.variant.Variant.tuple_variant.Goals as goal
 
-syntax_apart : Syntax InvalidType ≡ OutOfMemory → ⊥
-syntax_apart e = absurd (cc)
+syntax_differ : Syntax InvalidType ≡ OutOfMemory → ⊥
+syntax_differ e = absurd (cc)
 
 pub returns-then-bare : goal.returns-then-bare
 returns-then-bare g c = (
   (refl, λ _. tt, no_seq_alone g.R.Source c.args.self c.if-bare.true),
   record
-      { refused = tt; same_reference = tt; paired = tt; opened = tt; memory = syntax_apart },
+      { refused = tt; same_reference = tt; paired = tt; opened = tt; memory = syntax_differ },
 )
 
 pub returns-in-Err : goal.returns-in-Err

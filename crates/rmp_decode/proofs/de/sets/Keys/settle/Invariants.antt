@@ -1,4 +1,4 @@
--- The keys stay, in the row and behind it in the set.
+-- The keys stay, in the row and after it in the set.
 use Rattle.std.proofs.Common.{◌≡◌, false, length}
 use Rattle.rmp_decode.specs.Sets.{keys_so_far}
 use Rattle.rmp_decode.proofs.de.sets.Keys.settle.Given as goal

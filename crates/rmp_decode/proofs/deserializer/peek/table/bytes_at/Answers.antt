@@ -1,10 +1,10 @@
 use Rattle.std.proofs.Common.{rules, refl}
 use Rattle.rmp_wire.specs.declared.head.Head.TheVariants.{Bin}
-use Rattle.rmp_decode.proofs.KindFronts.{of_8, of_16, kind_32, bin_w8, bin_w16, bin_w32}
+use Rattle.rmp_decode.proofs.HeadKinds.{of_8, of_16, kind_32, bin_w8, bin_w16, bin_w32}
 use Rattle.rmp_decode.proofs.deserializer.peek.table.bytes_at.Goals as goal
 
-pub returns-in-len1-up-behind : goal.returns-in-len1-up-behind
-returns-in-len1-up-behind c = of_8 Bin 196 bin_w8 c.args.front.now _ _ c.from.ensures c.in-len1-up.len_at_least c.in-196.is c.in-len1-up-behind.len_at_least
+pub returns-in-len1-up-following : goal.returns-in-len1-up-following
+returns-in-len1-up-following c = of_8 Bin 196 bin_w8 c.args.front.now _ _ c.from.ensures c.in-len1-up.len_at_least c.in-196.is c.in-len1-up-following.len_at_least
     refl (λ i. search rules)
 
 pub returns-in-len2-up : goal.returns-in-len2-up

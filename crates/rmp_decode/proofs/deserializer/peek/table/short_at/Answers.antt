@@ -1,15 +1,15 @@
 use Rattle.std.proofs.Common.{rules, refl}
-use Rattle.rmp_decode.proofs.KindFronts.{nil_stands, false_stands, true_stands, map_at_first, list_at_first, text_at_first}
+use Rattle.rmp_decode.proofs.HeadKinds.{nil_starts, false_starts, true_starts, map_at_first, list_at_first, text_at_first}
 use Rattle.rmp_decode.proofs.deserializer.peek.table.short_at.Goals as goal
 
 pub returns-in-192 : goal.returns-in-192
-returns-in-192 c = nil_stands c.args.front.now c.in-len1-up.len_at_least c.in-192.is
+returns-in-192 c = nil_starts c.args.front.now c.in-len1-up.len_at_least c.in-192.is
 
 pub returns-in-194 : goal.returns-in-194
-returns-in-194 c = false_stands c.args.front.now c.in-len1-up.len_at_least c.in-194.is
+returns-in-194 c = false_starts c.args.front.now c.in-len1-up.len_at_least c.in-194.is
 
 pub returns-in-195 : goal.returns-in-195
-returns-in-195 c = true_stands c.args.front.now c.in-len1-up.len_at_least c.in-195.is
+returns-in-195 c = true_starts c.args.front.now c.in-len1-up.len_at_least c.in-195.is
 
 pub returns-in-128-to-143 : goal.returns-in-128-to-143
 returns-in-128-to-143 c = map_at_first c.args.front.now _ _ c.from.ensures c.in-len1-up.len_at_least (search rules) (search rules) refl

@@ -3,11 +3,11 @@ use Rattle.rmp_wire.specs.Msg.{count}
 use Rattle.rmp_serde.specs.Tokens.{tokens, built}
 use Rattle.rmp_serde.proofs.FlatRows.{tree_row}
 use Rattle.rmp_serde.proofs.FlatTakes.{takes_drop}
-use Rattle.rmp_serde.proofs.FlatParts.{parts_at, behind_row, behind_many, behind_there, behind_later}
+use Rattle.rmp_serde.proofs.FlatParts.{parts_at, after_row, after_many, after_there, after_later}
 use Rattle.rmp_serde.proofs.value.reference.ValueRef.part.Goals as goal
 
 pub past-requires-clause-row : goal.past-requires-clause-row
-past-requires-clause-row c = behind_row _ _ c.args.self.value.now c.value.invariant c.value.view_is c.args.self.at
+past-requires-clause-row c = after_row _ _ c.args.self.value.now c.value.invariant c.value.view_is c.args.self.at
 
 pub past-requires-clause-takes : goal.past-requires-clause-takes
 past-requires-clause-takes c = takes_drop _ _ c.args.self.at c.value.invariant.takes
@@ -17,7 +17,7 @@ past-requires-clause-parts c =
     let m = c.args.self.value.now in
     let l : c.args.i < count (built (drop (suc c.args.self.at) (tokens m))) = omega
     (arith, c.requires.there, parts_at (tokens m) c.args.self.at (tree_row m)) in
-    omega (arith, behind_many _ _ m c.value.invariant c.value.view_is c.args.self.at c.args.i l)
+    omega (arith, after_many _ _ m c.value.invariant c.value.view_is c.args.self.at c.args.i l)
 
 pub overflow_add-result : goal.overflow_add-result
 overflow_add-result c =
@@ -26,9 +26,9 @@ overflow_add-result c =
     (arith, c.requires.there, parts_at (tokens m) c.args.self.at (tree_row m)) in
     omega (
       arith,
-      behind_there _ _ m c.value.invariant c.value.view_is c.args.self.at c.past.result c.args.i l c.past.ensures.place,
+      after_there _ _ m c.value.invariant c.value.view_is c.args.self.at c.past.result c.args.i l c.past.ensures.place,
       c.value.inside.parts.nodes.ok.0,
     )
 
 pub returns-clause-part : goal.returns-clause-part
-returns-clause-part c = behind_later _ _ c.args.self.value.now c.value.invariant c.value.view_is c.args.self.at c.past.result c.args.i c.past.ensures.place
+returns-clause-part c = after_later _ _ c.args.self.value.now c.value.invariant c.value.view_is c.args.self.at c.past.result c.args.i c.past.ensures.place

@@ -1,6 +1,6 @@
 use Rattle.std.proofs.Common.{arith, ◌≡◌, ◌∙◌, ap, sym}
 use Rattle.rmp_wire.specs.Msg.{count, items_of}
-use Rattle.rmp_serde.specs.Parts.{tree, parts_of, row_at, row_behind}
+use Rattle.rmp_serde.specs.Parts.{tree, parts_of, row_at, row_after}
 use Rattle.rmp_serde.specs.Tokens.{tokens, first_items}
 use Rattle.rmp_serde.proofs.FlatRows.{tree_row}
 use Rattle.rmp_serde.proofs.FlatParts.{parts_same, parts_at, turn_at}
@@ -13,7 +13,7 @@ returns-then-left-eq0 c =
     let many : c.parts-left.result ≡ parts_of (tree v) = c.parts-left.ensures.parts ∙ parts_same c.node.result (tree v) c.node.ensures.head in
     record {
       parts = ap (λ z. items_of (first_items z (row_at v))) c.if-left-eq0.true
-          ∙ sym (turn_at (tokens m) v.at (tree_row m) ∙ ap (λ z. items_of (first_items z (row_behind v))) (sym many ∙ c.if-left-eq0.true));
+          ∙ sym (turn_at (tokens m) v.at (tree_row m) ∙ ap (λ z. items_of (first_items z (row_after v))) (sym many ∙ c.if-left-eq0.true));
     }
 
 pub invariant_of-result-2 : goal.invariant_of-result-2
@@ -32,6 +32,6 @@ returns c =
     let m = v.value.now in
     let many : c.parts-left.result ≡ parts_of (tree v) = c.parts-left.ensures.parts ∙ parts_same c.node.result (tree v) c.node.ensures.head in
     record {
-      parts = ap (λ z. items_of (first_items c.parts-left.result z)) c.part.ensures.part ∙ ap (λ z. items_of (first_items z (row_behind v))) many
+      parts = ap (λ z. items_of (first_items c.parts-left.result z)) c.part.ensures.part ∙ ap (λ z. items_of (first_items z (row_after v))) many
           ∙ sym (turn_at (tokens m) v.at (tree_row m));
     }

@@ -1,20 +1,20 @@
--- Heads that lie in memory whole.
+-- Heads that are buffered whole.
 use Rattle.std.specs.Prelude.{◌≡◌, ℕ, ℤ, pos, negsuc, Bool, List, ◌∷◌, length, Ok, if◌then◌else◌, ◌==◌}
 use Rattle.rmp_wire.specs.declared.head.Head.{Head}
 use Rattle.rmp_wire.specs.declared.marker.Marker.{Marker}
 use Rattle.rmp_wire.specs.declared.source.Source.{Ghosts}
-use Rattle.rmp_decode.specs.Exact.{Stands}
+use Rattle.rmp_decode.specs.Exact.{BeginsWith}
 use Rattle.rmp_decode.specs.Law.{ReadsHead}
 use Rattle.rmp_decode.specs.declared.deserializer.Deserializer.{Deserializer}
 
--- this head of n bytes stands at the front
-pub record StandsIn (strict : Bool) (n : ℕ) (h : Head) (xs : List ℕ) : Type 0 where
+-- the bytes begin with this head of n bytes
+pub record HeadIn (strict : Bool) (n : ℕ) (h : Head) (xs : List ℕ) : Type 0 where
   pub marker : Marker
-  pub stands : Stands strict marker h xs
-  pub long : length (stands.byte ∷ stands.behind) ≡ n
+  pub starts : BeginsWith strict marker h xs
+  pub long : length (starts.byte ∷ starts.following) ≡ n
 
 -- this head was taken, under some marker
-pub record TakesFront {R C : Type 0} (g : Ghosts R) (h : Head) (old new : Deserializer R C) : Type 0 where
+pub record ConsumesHead {R C : Type 0} (g : Ghosts R) (h : Head) (old new : Deserializer R C) : Type 0 where
   pub marker : Marker
   pub begun : ReadsHead g old new (Ok (marker, h))
 
