@@ -184,7 +184,7 @@ impl<R: Source, C: SerializerConfig> Deserializer<R, C> {
         match self.head() {
             Ok((marker, head)) => match head.as_parts() {
                 Some((_, _)) => {
-                    if self.room <= 1 {
+                    if self.is_deepest() {
                         return Err(Error::DepthLimitExceeded);
                     }
                     Ok((marker, head))

@@ -31,7 +31,7 @@ impl<R: Source, C: SerializerConfig> Deserializer<R, C> {
         match self.head() {
             Ok((_, head)) => match head.as_seq() {
                 Some((bytes, len)) => {
-                    if !bytes && self.room <= 1 {
+                    if !bytes && self.is_deepest() {
                         return Err(Error::DepthLimitExceeded);
                     }
                     Ok((bytes, len))
@@ -178,7 +178,7 @@ impl<R: Source, C: SerializerConfig> Deserializer<R, C> {
         match self.head() {
             Ok((_, head)) => match head.as_map() {
                 Some(len) => {
-                    if self.room <= 1 {
+                    if self.is_deepest() {
                         return Err(Error::DepthLimitExceeded);
                     }
                     Ok(len)
@@ -237,7 +237,7 @@ impl<R: Source, C: SerializerConfig> Deserializer<R, C> {
             Ok((_, head)) => match head.as_fields() {
                 Some((Some(true), len)) => Ok((Some(true), len)),
                 Some((kind, len)) => {
-                    if self.room <= 1 {
+                    if self.is_deepest() {
                         return Err(Error::DepthLimitExceeded);
                     }
                     Ok((kind, len))

@@ -290,7 +290,7 @@ impl<R: Source, C: SerializerConfig> Deserializer<R, C> {
         match self.head() {
             Ok((_, head)) => match head.as_map() {
                 Some(1) => {
-                    if self.room <= 1 {
+                    if self.is_deepest() {
                         return Err(Error::DepthLimitExceeded);
                     }
                     match self.name_of_pair::<P>(names) {

@@ -97,7 +97,7 @@ impl<R: Source, C: SerializerConfig> Deserializer<R, C> {
         ensures same_reference { IfOk result (λ s. s.de.ghost_name ≡ self.entry.ghost_name) }
         ensures opened { IfOk result (ListAfterHead len self.old) }
     {
-        if self.room <= 1 {
+        if self.is_deepest() {
             return Err(Error::DepthLimitExceeded);
         }
         let inner = self.room - 1;

@@ -215,7 +215,7 @@ impl<R: Source, C: SerializerConfig> Deserializer<R, C> {
         }
         match head.as_array() {
             Some(len) => {
-                if self.room <= 1 {
+                if self.is_deepest() {
                     return Err(Error::DepthLimitExceeded);
                 }
                 if len > 0 {

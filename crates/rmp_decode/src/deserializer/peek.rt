@@ -74,10 +74,19 @@ impl<R: Source, C: SerializerConfig> Deserializer<R, C> {
         ensures wanted { IfSome result (λ v. K.wants kind v) }
         ensures kept { IfNone result (self.new ≡ self.old) }
     {
-        if self.room <= 1 {
+        if self.is_deepest() {
             return None;
         }
         self.take(kind)
+    }
+
+    // Whether a list or a map that opens here would nest too deep.
+    #[inline(always)]
+    pub(crate) fn is_deepest(&self) -> bool
+        ensures deep { result ≡ true → self.now.room ≤ 1 }
+        ensures fits { result ≡ false → 1 < self.now.room }
+    {
+        self.room <= 1
     }
 
     // Whether the next message begins with the bytes ahead of the source: nothing was kept back, and no read failed.

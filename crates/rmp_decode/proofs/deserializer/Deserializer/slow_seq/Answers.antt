@@ -4,12 +4,12 @@ use Rattle.rmp_decode.proofs.Opening.{no_seq, too_deep}
 use Rattle.rmp_decode.proofs.Opening.{opening_ends}
 use Rattle.rmp_decode.proofs.deserializer.Deserializer.slow_seq.Goals as goal
 
-pub returns-then-self-le1 : goal.returns-then-self-le1
-returns-then-self-le1 g c =
+pub returns-then-is_deepest : goal.returns-then-is_deepest
+returns-then-is_deepest g c =
     let k = c.in-Some-as_seq in
     let list : k.bytes ≡ false = search rules in
     rw c.in_default.ensures.kept at (too_deep g.R.Source _ _ _ (c.in-Ok.field-0-0, c.in-Ok.head) c.in-Ok.ensures k.len
-    (k.ensures ∙ ap (λ (t : Bool). seq_head t k.len) list) (let h = c.in-Ok.ensures.stays.room in omega arith) refl)
+    (k.ensures ∙ ap (λ (t : Bool). seq_head t k.len) list) (let h = c.in-Ok.ensures.stays.room in omega (arith, c.is_deepest.ensures.deep c.if-is_deepest.true)) refl)
 
 pub returns-in-None : goal.returns-in-None
 returns-in-None g c = rw c.in_default.ensures.kept at (no_seq g.R.Source _ _ _ (c.in-Ok.field-0-0, c.in-Ok.head) c.in-Ok.ensures c.in-None.ensures refl)

@@ -9,8 +9,8 @@ returns-in-None g c = no_fields g.R.Source _ _ _ (c.in-Ok.field-0-0, c.in-Ok.hea
 pub returns-in-Err : goal.returns-in-Err
 returns-in-Err g c = opening_ends g.R.Source _ _ _ _ _ _ _ c.in-Err.ensures
 
-pub returns-then-self-le1 : goal.returns-then-self-le1
-returns-then-self-le1 g c =
+pub returns-then-is_deepest : goal.returns-then-is_deepest
+returns-then-is_deepest g c =
     let k = c.in-Some in
     fields_too_deep g.R.Source _ _ _ (c.in-Ok.field-0-0, c.in-Ok.head) c.in-Ok.ensures k.kind k.len (search rules) k.ensures
-    (let h = c.in-Ok.ensures.stays.room in omega arith) refl
+    (let h = c.in-Ok.ensures.stays.room in omega (arith, c.is_deepest.ensures.deep c.if-is_deepest.true)) refl

@@ -11,13 +11,13 @@ pub returns-in-Some-clause-law : goal.returns-in-Some-clause-law
 returns-in-Some-clause-law g c = leaf_read nil_leaf g.R.Source NothingIs c.args.self.now c.head.new.self c.in-Ok.next c.in-Ok.ensures _ tt tt
     c.in-Some.ensures refl (inl refl)
 
-pub returns-then-self-le1-clause-law : goal.returns-then-self-le1-clause-law
-returns-then-self-le1-clause-law g c = list_too_deep g.R.Source c.args.self.now c.head.new.self c.in-Ok.next c.in-Ok.ensures NothingIs c.in-Some-as_array.len
-    _ c.in-Some-as_array.ensures (let h = c.in-Ok.ensures.stays.room in omega arith)
+pub returns-then-is_deepest-clause-law : goal.returns-then-is_deepest-clause-law
+returns-then-is_deepest-clause-law g c = list_too_deep g.R.Source c.args.self.now c.head.new.self c.in-Ok.next c.in-Ok.ensures NothingIs c.in-Some-as_array.len
+    _ c.in-Some-as_array.ensures (let h = c.in-Ok.ensures.stays.room in omega (arith, c.is_deepest.ensures.deep c.if-is_deepest.true))
 
-pub returns-then-self-le1-clause-exact : goal.returns-then-self-le1-clause-exact
-returns-then-self-le1-clause-exact g c = λ _. exact_head _ (not_nothing (room_of c.args.self.now)) _ _ _ c.in-Ok.next.0 c.in-Ok.next.1 _
-    c.in-Ok.ensures.marked (deep_is _ c.in-Ok.next.0 _ c.in-Some-as_array.len c.in-Some-as_array.ensures (let h = c.in-Ok.ensures.stays.room in omega arith))
+pub returns-then-is_deepest-clause-exact : goal.returns-then-is_deepest-clause-exact
+returns-then-is_deepest-clause-exact g c = λ _. exact_head _ (not_nothing (room_of c.args.self.now)) _ _ _ c.in-Ok.next.0 c.in-Ok.next.1 _
+    c.in-Ok.ensures.marked (deep_is _ c.in-Ok.next.0 _ c.in-Some-as_array.len c.in-Some-as_array.ensures (let h = c.in-Ok.ensures.stays.room in omega (arith, c.is_deepest.ensures.deep c.if-is_deepest.true)))
 
 pub returns-then-len-gt0-clause-law : goal.returns-then-len-gt0-clause-law
 returns-then-len-gt0-clause-law g c = refused_head g.R.Source NothingIs c.args.self.now _ c.in-Ok.next _ c.in-Ok.ensures

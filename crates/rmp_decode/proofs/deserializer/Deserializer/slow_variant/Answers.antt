@@ -10,9 +10,9 @@ use Rattle.rmp_decode.proofs.deserializer.Deserializer.slow_variant.Goals as goa
 pub returns-in-Err-clause-err : goal.returns-in-Err-clause-err
 returns-in-Err-clause-err g c = no_variant_begins g.R.Source (bytes_of c.args.names.now) _ _ _ c.in-Err.ensures
 
-pub returns-then-self-le1-clause-err : goal.returns-then-self-le1-clause-err
-returns-then-self-le1-clause-err g c = variant_too_deep g.R.Source (bytes_of c.args.names.now) _ _ _ (c.in-Ok.field-0-0, c.in-Ok.head) c.in-Ok.ensures
-    (search rules) (let h = c.in-Ok.ensures.stays.room in omega arith) refl
+pub returns-then-is_deepest-clause-err : goal.returns-then-is_deepest-clause-err
+returns-then-is_deepest-clause-err g c = variant_too_deep g.R.Source (bytes_of c.args.names.now) _ _ _ (c.in-Ok.field-0-0, c.in-Ok.head) c.in-Ok.ensures
+    (search rules) (let h = c.in-Ok.ensures.stays.room in omega (arith, c.is_deepest.ensures.deep c.if-is_deepest.true)) refl
 
 pub returns-in-Ok-name_of_pair-clause-ok : goal.returns-in-Ok-name_of_pair-clause-ok
 returns-in-Ok-name_of_pair-clause-ok g c =
@@ -20,7 +20,7 @@ returns-in-Ok-name_of_pair-clause-ok g c =
     record {
       between = c.head.new.self;
       head = subst (λ z. TakesHead g.R.Source z c.args.self.now c.head.new.self) (search rules) h.ok;
-      room = let r = h.stays.room in omega (arith, c.if-self-le1.false);
+      room = let r = h.stays.room in omega (arith, c.is_deepest.ensures.fits c.if-is_deepest.false);
       stays = h.stays;
       faults_same = h.sound;
       marked = h.failed;
@@ -36,7 +36,7 @@ pub returns-in-Err-name_of_pair-clause-err : goal.returns-in-Err-name_of_pair-cl
 returns-in-Err-name_of_pair-clause-err g c =
     let h = c.in-Ok.ensures in
     no_name_of_pair g.R.Source (bytes_of c.args.names.now) c.args.self c.args.self.now c.head.new.self _ (c.in-Ok.field-0-0, c.in-Ok.head)
-    (c.args.self.now.room - 1) _ h (search rules) (let r = h.stays.room in omega (arith, c.if-self-le1.false))
+    (c.args.self.now.room - 1) _ h (search rules) (let r = h.stays.room in omega (arith, c.is_deepest.ensures.fits c.if-is_deepest.false))
     (subst (λ z. FailsPart g.R.Source (IsPlace (bytes_of c.args.names.now)) (max 1 (z - 1)) c.head.new.self c.name_of_pair.new.self c.in-Err-name_of_pair.e)
     h.stays.room c.in-Err-name_of_pair.ensures.err) c.in-Err-name_of_pair.ensures.exact
 
