@@ -1,8 +1,12 @@
 -- Frames are distinct: two that begin the same bytes have the same content.
-use Rattle.std.specs.Prelude.{[], ◌++◌, ◌<◌, ◌^◌, length, take, drop}
+use Rattle.std.specs.Prelude.{[], ◌++◌, ◌<◌, ◌^◌, length, take, drop, IsSomeAnd}
 use Rattle.rmp_decode.specs.State.{limit_at}
 use Rattle.std.proofs.Common.{◌≡◌, ◌≢◌, ◌∙◌, ◌-◌, max, ℕ, List, Option, Some, refl, sym, ap, subst, arith, append_assoc}
-use Rattle.rmp_encode.specs.Calls.{IsSpelled}
+use Rattle.rmp_encode.specs.Calls.{IsSpelled, ToVecFails}
+use Rattle.rmp_encode.specs.Trees.{HasTree}
+use Rattle.rmp_encode.specs.declared.error.Error as encode
+use Rattle.rmp_encode.specs.declared.error.Error.TheVariants as encode_errors
+use Rattle.rmp_serde.proofs.CanonicalReads.{fails_without}
 use Rattle.rmp_serde.specs.Read.{AllTextsUtf8}
 use Rattle.std.proofs.lemmas.List.{append-nil, take_at, drop_at}
 use Rattle.std.proofs.lemmas.Nat.{from_be_bytes-to_be_bytes_4}
@@ -76,6 +80,12 @@ deep_enough room limit r l = omega (arith, r, l)
 
 some_same : (m n : Msg) → Some m ≡ Some n → m ≡ n
 some_same m n e = cc
+
+-- a request whose lengths fit is refused only where memory runs out
+pub only_memory : (r : Request) (t : Option Msg) (e : encode.Error) → t ≡ Some (message_of r) → ToVecFails t e → e ≢ encode_errors.OutOfMemory
+    → Fits (message_of r) → ⊥
+unfolding HasTree
+only_memory r t e is f n fits = fails_without t e f n (subst (λ u. IsSomeAnd u Fits) (sym is) fits)
 
 -- the frame that was written
 pub is_written : (r : Request) (t : Option Msg) (body frame : List ℕ) → t ≡ Some (message_of r) → IsSpelled t body → AllTextsUtf8 (message_of r)

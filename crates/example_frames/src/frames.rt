@@ -5,6 +5,7 @@ ghost use Rattle.example_frames.specs.declared.frames.Refusal.TheVariants as ref
 ghost use Rattle.rmp_decode.specs.declared.error.Error.TheVariants.{OutOfMemory};
 ghost use Rattle.rmp_encode.specs.Calls.{default_settings};
 ghost use Rattle.rmp_encode.specs.Trees.{tree_of};
+ghost use Rattle.rmp_encode.specs.declared.error.Error.TheVariants as encode_error;
 ghost use Rattle.rmp_serde.specs.Read.{AllTextsUtf8};
 ghost use Rattle.rmp_wire.specs.Msg.{depth};
 ghost use Rattle.rmp_wire.specs.Spelling.{Fits};
@@ -42,10 +43,15 @@ pub enum Refusal {
 /// # Errors
 /// Those of `to_vec`, and `InvalidDataModel` for a request of 2 ^ 32 bytes or more.
 pub fn write_request(alloc: Global, request: &Request) -> Result<Vec<u8>, encode::Error>
-    ensures { IfOk result (λ frame. IsFrame request.now frame.items) }
+    ensures written { IfOk result (λ frame. IsFrame request.now frame.items) }
+    // A request that has a frame is refused only out of memory.
+    ensures refused { IfErr result (λ e. e ≢ encode_error.OutOfMemory → (frame : List ℕ) → IsFrame request.now frame → ⊥) }
 {
     written_as();
-    let body = to_vec(alloc, request)?;
+    let body = match to_vec(alloc, request) {
+        Ok(body) => body,
+        Err(e) => return Err(e),
+    };
     let Ok(len) = u32::try_from(body.len()) else {
         return Err(encode::Error::InvalidDataModel("request too long"));
     };

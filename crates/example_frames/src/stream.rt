@@ -1,6 +1,7 @@
 //! Requests one after another on a stream, with no lengths between them.
 ghost use Rattle.std.specs.Prelude.{◌≡◌, ◌≢◌, ◌≤◌, ◌<◌, ◌+◌, ◌++◌, List, ℕ, true, false, length, Ok, Err, None, IfOk, IfErr, IfSome, OnErr, [], ◌↔◌};
 ghost use Rattle.rmp_decode.specs.declared.error.Error.TheVariants.{OutOfMemory};
+ghost use Rattle.rmp_encode.specs.declared.error.Error.TheVariants as encode_error;
 ghost use Rattle.rmp_scan.specs.Scans.{IsBeginning};
 ghost use Rattle.rmp_wire.specs.Msg.{depth};
 ghost use Rattle.example_frames.specs.Frames.{message_of};
@@ -36,7 +37,9 @@ pub enum StreamRefusal {
 /// # Errors
 /// Those of `to_vec`.
 pub fn write_bare(alloc: Global, request: &Request) -> Result<Vec<u8>, encode::Error>
-    ensures { IfOk result (λ bytes. IsSent request.now bytes.items) }
+    ensures written { IfOk result (λ bytes. IsSent request.now bytes.items) }
+    // A request that can be sent is refused only out of memory.
+    ensures refused { IfErr result (λ e. e ≢ encode_error.OutOfMemory → (bytes : List ℕ) → IsSent request.now bytes → ⊥) }
 {
     written_as();
     to_vec(alloc, request)

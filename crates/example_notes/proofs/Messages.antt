@@ -15,6 +15,7 @@ use Rattle.rmp_encode.specs.Data.{Data, Parts, no_parts, part, no_fields, field,
 use Rattle.rmp_encode.specs.Trees.{HasTree, tree_of, parts_of, slice_of, structure_of}
 use Rattle.rmp_encode.specs.declared.error.Error.{Error}
 use Rattle.rmp_encode.specs.declared.error.Error.TheVariants as errors
+use Rattle.rmp_serde.proofs.CanonicalReads.{fails_without}
 use Rattle.rmp_decode.specs.Fields.{OfFields, Field, Absent, NoField}
 use Rattle.rmp_decode.specs.Law.{Begins, Readable}
 use Rattle.rmp_decode.specs.Read.{IsRaw}
@@ -70,12 +71,7 @@ has_tree notes fits = subst (λ t. IsSomeAnd t Fits) (sym (written_as notes.item
 -- notes whose lengths fit are refused only where memory is
 pub only_memory : (notes : Vec Note) (e : Error) → ToVecFails (tree_of default_settings (slice_of (map note_data notes.items))) e → e ≢ errors.OutOfMemory
     → Fits (list (messages notes.items)) → ⊥
-only_memory notes (errors.InvalidValueWrite fault) f n fits = f
-only_memory notes errors.UnknownLength f n fits = f
-only_memory notes (errors.InvalidDataModel why) f n fits = f.1 (has_tree notes fits)
-only_memory notes errors.DepthLimitExceeded f n fits = f
-only_memory notes (errors.Syntax why) f n fits = f (has_tree notes fits)
-only_memory notes errors.OutOfMemory f n fits = n refl
+only_memory notes e f n fits = fails_without _ e f n (has_tree notes fits)
 
 -- ---- what is read
 

@@ -19,7 +19,8 @@ use Rattle.rmp_round_trip.specs.RoundTrip.{LowersTo, Only}
 spelled_alike : (t : Option Msg) (a b : List ℕ) → IsSpelled t a → IsSpelled t b → a ≡ b
 spelled_alike t a b i j = i.canonical ∙ ap canon (some_is (sym i.is ∙ j.is)) ∙ sym j.canonical
 
-fails_without : (t : Option Msg) (e : Error) → ToVecFails t e → e ≢ errors.OutOfMemory → HasTree t → ⊥
+-- `to_vec` refuses what has a tree only where memory runs out
+pub fails_without : (t : Option Msg) (e : Error) → ToVecFails t e → e ≢ errors.OutOfMemory → HasTree t → ⊥
 fails_without t (errors.InvalidValueWrite w) f n h = f
 fails_without t errors.UnknownLength f n h = f
 fails_without t (errors.InvalidDataModel d) f n h = f.1 h
