@@ -28,6 +28,7 @@ def implementation(n):
     data = " ∷ ".join(f"{k}.data_of v.{i} human" for i, k in enumerate(kinds))
     value = " × ".join(f"{k}.is_value v.{i}" for i, k in enumerate(kinds))
     memory = bracketed([f"{k}.takes_memory s" for k in kinds])
+    refusals = bracketed([f"{k}.refuses v.{i}" for i, k in enumerate(kinds)])
     written = lambda i, j: ", ".join(f"&self.{k}" for k in range(i, j))
     elements = "\n".join(f"        tup.{WORDS[j - i]}({written(i, j)})?;" for i, j in groups(n))
     return f"""
@@ -37,6 +38,8 @@ impl<{bounds}> Serialize for {of} {{
     ghost is_value = {{ λ v. {value} }};
 
     ghost takes_memory = {{ λ s. forces_all s.bytes || one_of {memory} }};
+
+    ghost refuses = {{ λ v. OfParts ⊥ {refusals} }};
 
     fn serialize<W: Sink, C: SerializerConfig>(
         &self,
@@ -81,6 +84,17 @@ def memory(i, j, n):
     return f"(λ k. or_back {start} {each(0, i)} {each(i, n)} (or_front {start} {each(i, j)} {each(j, n)} k))"
 
 
+# The refusals of some elements.
+def refusals(i, j):
+    return bracketed([f"g.E{k + 1}.Serialize.refuses c.args.self.now.{k}" for k in range(i, j)]) if i < j else "[]"
+
+
+# That an error of these elements is one of all n.
+def refusal(i, j, n, error):
+    term = f"(of_front ⊥ {refusals(i, j)} {refusals(j, n)} _ {error})" if j < n else error
+    return f"(of_back ⊥ {refusals(0, i)} {refusals(i, n)} _ {term})" if i else term
+
+
 def answers(n):
     path = f"Rattle.rmp_encode.proofs.ser.tuples.Tuple{n}Serialize.serialize"
     all = groups(n)
@@ -91,26 +105,43 @@ returns-in_err-{call(all, at)}-clause-writes g c =
     let p = err_from_is_err_and c.from_residual-in_err-{call(all, at)}.result c.from_residual-in_err-{call(all, at)}.ensures.1 in
     rw (p.1, p.2) (part_takes g.W.Sink _ {memory(i, j, n)}
     (rests_at g.W.Sink (search rules) (c.in_err-{call(all, at)}.ensures.writes c.args.se.now _ _ {state(all, at)})))
+
+pub returns-in_err-{call(all, at)}-clause-error : goal.returns-in_err-{call(all, at)}-clause-error
+returns-in_err-{call(all, at)}-clause-error g c =
+    let p = err_from_is_err_and c.from_residual-in_err-{call(all, at)}.result c.from_residual-in_err-{call(all, at)}.ensures.1 in
+    rw (p.1, p.2) {refusal(i, j, n, f"c.in_err-{call(all, at)}.ensures.error")}
 """
         for at, (i, j) in enumerate(all)
     )
     words = [it for it in ("or_front", "or_back", "or_one_of") if f"({it} " in steps or f" {it} " in steps]
-    return f"""use Rattle.std.proofs.Common.{{rules, refl, ◌∷◌, []}}
+    proved = [it for it in ("of_back", "of_front") if f"({it} " in steps]
+    return f"""use Rattle.std.proofs.Common.{{arith, rules, refl, ◌∷◌, []}}
 use Rattle.std.proofs.lemmas.Result.{{err_from_is_err_and}}
 use Rattle.rmp_encode.specs.Ser.{{settings_of}}
 use Rattle.rmp_encode.specs.Trees.{{forces_all}}
 use Rattle.rmp_encode.proofs.Going.{{unopened}}
 use Rattle.rmp_encode.proofs.Parts.{{rests_at, part_or, part_takes, {', '.join(words)}}}
+use Rattle.rmp_encode.proofs.Refusals.{{{', '.join([*proved, 'of_no_part', 'on_no_part', 'unopened_by_sink'])}}}
 use {path}.Goals as goal
 
 pub returns-in_err-tup-clause-writes : goal.returns-in_err-tup-clause-writes
 returns-in_err-tup-clause-writes g c =
     let p = err_from_is_err_and c.from_residual.result c.from_residual.ensures.1 in
     rw (p.1, p.2) (part_or g.W.Sink _ (unopened g.W.Sink _ _ _ _ c.args.se.now _ _ _ _ c.in_err-tup.was c.serialize_tuple.follows.holds-at-none refl))
+
+pub returns-in_err-tup-clause-error : goal.returns-in_err-tup-clause-error
+returns-in_err-tup-clause-error g c =
+    let p = err_from_is_err_and c.from_residual.result c.from_residual.ensures.1 in
+    rw (p.1, p.2) (of_no_part ⊥ {refusals(0, n)} _
+    (unopened_by_sink g.W.Sink _ _ _ _ c.args.se.now _ _ _ c.in_err-tup.was c.serialize_tuple.follows.holds-at-none (omega arith)))
 {steps}
 pub returns-clause-writes : goal.returns-clause-writes
 returns-clause-writes g c =
     part_or g.W.Sink _ (rests_at g.W.Sink (search rules) (c.end.ensures.writes c.args.se.now _ {state(all, len(all))}))
+
+pub returns-clause-error : goal.returns-clause-error
+returns-clause-error g c = on_no_part ⊥ {refusals(0, n)} c.end.result
+    (c.end.ensures.error c.args.se.now _ {state(all, len(all))})
 """
 
 
@@ -119,6 +150,7 @@ def main():
 //!
 //! In the modes `Normal` and `ForceIterables` writing them takes no memory but by their elements and the sink.
 ghost use Rattle.std.specs.Prelude.{◌∷◌, ◌||◌, []};
+ghost use Rattle.rmp_encode.specs.Refusals.{OfParts};
 ghost use Rattle.rmp_encode.specs.Sizes.{one_of};
 ghost use Rattle.rmp_encode.specs.Trees.{forces_all, tuple_of};
 

@@ -1,6 +1,6 @@
 -- Whose error a write answers.
-use Rattle.std.proofs.Common.{◌≡◌, ℕ, suc, ◌<◌, ◌≤◌, ◌^◌, List, [], ◌∷◌, length, get_or, Bool, inl, inr, refl, sym, arith}
-use Rattle.std.specs.Prelude.{Result, Ok, Err, IfErr}
+use Rattle.std.proofs.Common.{◌≡◌, ℕ, suc, ◌<◌, ◌≤◌, ◌^◌, List, [], ◌∷◌, ◌++◌, length, get_or, Bool, inl, inr, refl, sym, subst, arith}
+use Rattle.std.specs.Prelude.{Result, Ok, Err, IfErr, OnErr, Option}
 use Rattle.std.specs.List.{Any}
 use Rattle.std.proofs.lemmas.Result.{IfErr-weaker}
 use Rattle.rmp_wire.specs.declared.error.ValueWriteError.{ValueWriteError}
@@ -9,7 +9,10 @@ use Rattle.rmp_wire.specs.declared.sink.Sink.{Ghosts}
 use Rattle.rmp_wire.specs.Faults.{past_first}
 use Rattle.rmp_encode.specs.declared.error.Error.{Error}
 use Rattle.rmp_encode.specs.declared.error.Error.TheVariants.{InvalidValueWrite, UnknownLength, InvalidDataModel, DepthLimitExceeded, Syntax, OutOfMemory}
+use Rattle.rmp_encode.specs.declared.serializer.Serializer.{Serializer}
+use Rattle.rmp_encode.specs.Data.{Data}
 use Rattle.rmp_encode.specs.Errors.{IsTooLong, error_of}
+use Rattle.rmp_encode.specs.Going.{FailsToOpen}
 use Rattle.rmp_encode.specs.Refusals.{Errors, OfItems, OfLength, OfParts, OfSink, RefusesLength}
 use Rattle.rmp_encode.specs.Writes.{FailsBy, NoneAtMarker}
 
@@ -49,6 +52,13 @@ of_sink P e h = of_weaker {Q = P} absurd e h
 pub on_sink : (P : Type 0) (r : Result (Unit {0}) Error) → IfErr r OfSink → IfErr r (OfLength P)
 on_sink P r h = on_weaker {Q = P} r absurd h
 
+-- a number that has no head
+pub of_past : (n : ℕ) (e : Error) → OfLength (2 ^ 32 ≤ n) e → OfLength (¬ (n < 2 ^ 32)) e
+of_past n e h = of_weaker {Q = ¬ (n < 2 ^ 32)} (λ le lt. omega (arith, le, lt)) e h
+
+pub on_fits : (n : ℕ) (r : Result (Unit {0}) Error) → n < 2 ^ 32 → IfErr r (OfLength (2 ^ 32 ≤ n)) → IfErr r OfSink
+on_fits n r lt h = on_weaker {Q = ⊥} r (λ le. omega (arith, le, lt)) h
+
 -- the refusal of a length
 pub of_long : {P : Type 0} (e : Error) → IsTooLong e → P → OfLength P e
 of_long (InvalidDataModel t) is p = (p, is)
@@ -79,6 +89,26 @@ module _ {W : Type 0} (g : Ghosts W) where
 pub on_part : (P : Type 0) (part : Errors) (r : Result (Unit {0}) Error) → IfErr r part → IfErr r (OfParts P (part ∷ []))
 on_part P part r h = IfErr-weaker r part (OfParts P (part ∷ [])) (λ e p. inl p) h
 
+-- of some of the parts
+pub of_no_part : (P : Type 0) (parts : List Errors) (e : Error) → OfLength P e → OfParts P parts e
+of_no_part P [] e h = h
+of_no_part P (part ∷ parts) e h = inr (of_no_part P parts e h)
+
+pub of_front : (P : Type 0) (front back : List Errors) (e : Error) → OfParts P front e → OfParts P (front ++ back) e
+of_front P [] back e h = of_no_part P back e h
+of_front P (part ∷ front) back e (inl h) = inl h
+of_front P (part ∷ front) back e (inr h) = inr (of_front P front back e h)
+
+pub of_back : (P : Type 0) (front back : List Errors) (e : Error) → OfParts P back e → OfParts P (front ++ back) e
+of_back P [] back e h = h
+of_back P (part ∷ front) back e h = inr (of_back P front back e h)
+
+pub on_no_part : (P : Type 0) (parts : List Errors) (r : Result (Unit {0}) Error) → IfErr r (OfLength P) → IfErr r (OfParts P parts)
+on_no_part P parts r h = IfErr-weaker r (OfLength P) (OfParts P parts) (of_no_part P parts) h
+
+pub on_back : (P : Type 0) (front back : List Errors) (r : Result (Unit {0}) Error) → IfErr r (OfParts P back) → IfErr r (OfParts P (front ++ back))
+on_back P front back r h = IfErr-weaker r (OfParts P back) (OfParts P (front ++ back)) (of_back P front back) h
+
 -- of one element
 module _ {X : Type 0} (P : X → Type 0) where
   pub any_at : (xs : List X) (i : ℕ) (x : X) → i < length xs → x ≡ get_or xs i x → P x → Any P xs
@@ -93,3 +123,12 @@ module _ {X : Type 0} (P : X → Type 0) where
 module _ {X : Type 0} (refuses : X → Errors) where
   pub on_number : (xs : List X) (r : Result (Unit {0}) Error) → IfErr r (OfLength (2 ^ 32 ≤ length xs)) → IfErr r (OfItems refuses xs)
   on_number xs r h = IfErr-weaker r (OfLength (2 ^ 32 ≤ length xs)) (OfItems refuses xs) (λ e p. inl p) h
+
+-- Nothing was opened, though the numbers at the opening fit.
+module _ {W C : Type 0} (g : Ghosts W) where
+  pub unopened_by_sink : {A X : Type 0} (items : List (List ℕ)) (P : Type 0) (may : X → Type 0) (value : X
+      → Option Data) (old last : Serializer W C) (r : Result A Error) (e : Error) → r ≡ Err e → OnErr r (FailsToOpen g items P may value old r last)
+      → P → OfSink e
+  unopened_by_sink {A} {X} items P may value old last r e is h p =
+      let f : FailsToOpen g {A = A} items P may value old (Err e) last = subst (λ k. OnErr k (FailsToOpen g items P may value old k last)) is h in
+      of_weaker {Q = ⊥} (λ not. not p) e f.error

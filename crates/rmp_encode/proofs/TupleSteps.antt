@@ -26,12 +26,13 @@ use Rattle.std.proofs.Common.{
   arith,
   append_assoc,
   append-nil,
+  length-append,
 }
 use Rattle.std.specs.Prelude.{if◌then◌else◌, Result, Ok, Err, MatchResult, ◌||◌}
 use Rattle.std.specs.List.{flat_map, AllByRecursion}
 use Rattle.std.specs.declared.vec.Vec.{Vec}
 use Rattle.std.specs.declared.alloc.Global.{Global}
-use Rattle.std.proofs.lemmas.List.{map-append}
+use Rattle.std.proofs.lemmas.List.{length-map, map-append}
 use Rattle.rmp_encode.specs.declared.settings.Settings.{Settings}
 use Rattle.rmp_wire.specs.declared.config.BytesMode.TheVariants.{ForceAll}
 use Rattle.rmp_wire.specs.declared.sink.Sink.{Ghosts}
@@ -135,6 +136,11 @@ module _ {W C : Type 0} (g : Ghosts W) where
   probe_full m {now = now} old t rest is h =
       subst (λ l. WritesTree g {A = Unit {0}} m t (sink_of old) (sink_of l) (Err OutOfMemory)) (sym h.same)
       (part_nothing g m _ _ (sink_of old) OutOfMemory (is, refl))
+
+  -- no more is kept than a head can count
+  pub probing_fits : {old : Serializer W C} {t : Option Msg} {rest : List (Option Data)} {kept : List ℕ} {len : ℕ} {now : Serializer W C}
+      → IsProbing g old t rest kept len now → length kept < 2 ^ 32
+  probing_fits {rest = rest} {kept = kept} h = omega (arith, h.fits, h.len_is, length-append (map a_byte kept) rest, length-map kept a_byte)
 
   -- what is kept is the beginning of a list
   made_kept : {old : Serializer W C} {t : Option Msg} {rest : List (Option Data)} {kept : List ℕ} {len : ℕ} {now : Serializer W C}

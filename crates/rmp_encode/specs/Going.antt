@@ -13,7 +13,7 @@ use Rattle.rmp_encode.specs.contracts.serializer.Serializer.{the_row}
 use Rattle.rmp_encode.specs.declared.settings.Settings.{Settings}
 use Rattle.rmp_encode.specs.declared.error.Error.{Error}
 use Rattle.rmp_encode.specs.Data.{Data}
-use Rattle.rmp_encode.specs.Refusals.{RefusesLength}
+use Rattle.rmp_encode.specs.Refusals.{OfLength, OfSink, RefusesLength}
 use Rattle.rmp_encode.specs.Sizes.{most}
 use Rattle.rmp_encode.specs.Ser.{sink_of, settings_of}
 use Rattle.rmp_encode.specs.Trees.{Has, HasTree, spell, spelling, array_head, map_head, sequence_of, mapping_of, tree_of}
@@ -91,12 +91,17 @@ module _ {W C : Type 0} (g : Ghosts W) where
   abbrev pub Ends : {Q : Type 0} → States W C Q → Q → W → Result (Unit {0}) Error → Type 0
   Ends state q last r = (old : Serializer W C) (t : Option Msg) → state old t [] q → WritesTree g g.takes_memory t (sink_of old) last r
 
+  -- nothing remains, and an error of the end is the sink's or memory's
+  abbrev pub EndsBySink : {Q : Type 0} → States W C Q → Q → Result (Unit {0}) Error → Type 0
+  EndsBySink state q r = (old : Serializer W C) (t : Option Msg) → state old t [] q → IfErr r OfSink
+
   -- What the serializer is left as where nothing is opened. The opening writes these items. P says that the numbers at the opening fit, and
   -- `may` of which parts they may be the numbers.
   pub record FailsToOpen {A X : Type 0} (items : List (List ℕ)) (P : Type 0) (may : X → Type 0) (value : X
       → Option Data) (old : Serializer W C) (r : Result A Error) (last : Serializer W C) : Type 0 where
     pub keeps : Keeps g old last
     pub refused : StaysAtRefusal old last r
+    pub error : IfErr r (OfLength (¬ P))
     pub long : ¬ P → RefusesLength old last r
     pub marker : FirstAtMarker g items (sink_of old) (sink_of last) r
     pub writes : (all : X) → may all → IfErr r (λ e. WritesTree g {A = Unit {0}} g.takes_memory (tree_of (settings_of old) (value all)) (sink_of old)

@@ -1,7 +1,7 @@
 //! Lists and maps, of a known length, or of an unknown one, whose elements are buffered until the end.
 ghost use Rattle.std.specs.Prelude.{◌≡◌, ◌+◌, ◌≤◌, ◌<◌, ◌^◌, ◌||◌, ◌∷◌, [], true, false, OnOk, OnErr, IfOk, IfErr, Some, None};
 ghost use Rattle.std.specs.Borrow.{sem};
-ghost use Rattle.rmp_encode.specs.Going.{Ends, Goes, Rests};
+ghost use Rattle.rmp_encode.specs.Going.{Ends, EndsBySink, Goes, Rests};
 ghost use Rattle.rmp_encode.specs.Refusals.{OfParts};
 ghost use Rattle.rmp_encode.specs.Ser.{sink_of, settings_of};
 ghost use Rattle.rmp_encode.specs.Sizes.{most, size_at};
@@ -347,6 +347,7 @@ impl<'a, W: Sink, C: SerializerConfig> MaybeUnknownLengthCompound<'a, W, C> {
         requires turn { owed self ≡ 0 }
         requires whole { MayEnd (left_of self) }
         ensures writes { Ends W.Sink (IsOpen W.Sink) self.entry (sink_of self.exit.0.now) result }
+        ensures error { EndsBySink W.Sink (IsOpen W.Sink) self.entry result }
         ensures marker { NoneAtMarker W.Sink (sink_of (inside self.entry)) (sink_of self.exit.0.now) result }
         ensures keeps { Keeps W.Sink (inside self.entry) self.exit.0.now }
     {

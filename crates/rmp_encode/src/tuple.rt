@@ -5,7 +5,7 @@ ghost use Rattle.std.specs.List.{list_any, flat_map};
 ghost use Rattle.rmp_wire.specs.Msg.{bin};
 ghost use Rattle.rmp_wire.specs.declared.config.BytesMode.TheVariants.{ForceAll};
 ghost use Rattle.rmp_encode.specs.Data.{packs_tuple};
-ghost use Rattle.rmp_encode.specs.Going.{head_at, Ends, Goes, Rests};
+ghost use Rattle.rmp_encode.specs.Going.{head_at, Ends, EndsBySink, Goes, Rests};
 ghost use Rattle.rmp_encode.specs.Refusals.{OfItems, OfParts, RefusesLength};
 ghost use Rattle.rmp_encode.specs.Ser.{sink_of, settings_of};
 ghost use Rattle.rmp_encode.specs.Sizes.{one_of};
@@ -224,6 +224,7 @@ impl<'a, W: Sink, C: SerializerConfig> Tuple<'a, W, C> {
         ensures same_reference { reference self.new ≡ reference self.old }
         ensures left { OnOk result (left_of self.new + 2 ≡ left_of self.old) }
         ensures sound { OnOk result (is_sound self.new ≡ true) }
+        ensures error { IfErr result (OfParts ⊥ (A.refuses a.now ∷ (B.refuses b.now ∷ []))) }
         ensures writes { Goes W.Sink (IsTupling W.Sink) inside
             (λ s. (forces_all s.bytes || one_of (A.takes_memory s ∷ (B.takes_memory s ∷ []))) || W.takes_memory)
             (λ s. A.data_of a.now s.human ∷ B.data_of b.now s.human ∷ []) self.old self.new result }
@@ -247,6 +248,7 @@ impl<'a, W: Sink, C: SerializerConfig> Tuple<'a, W, C> {
         ensures same_reference { reference self.new ≡ reference self.old }
         ensures left { OnOk result (left_of self.new + 3 ≡ left_of self.old) }
         ensures sound { OnOk result (is_sound self.new ≡ true) }
+        ensures error { IfErr result (OfParts ⊥ (A.refuses a.now ∷ (B.refuses b.now ∷ (D.refuses d.now ∷ [])))) }
         ensures writes { Goes W.Sink (IsTupling W.Sink) inside
             (λ s. (forces_all s.bytes || one_of (A.takes_memory s ∷ (B.takes_memory s ∷ (D.takes_memory s ∷ [])))) || W.takes_memory)
             (λ s. A.data_of a.now s.human ∷ B.data_of b.now s.human ∷ D.data_of d.now s.human ∷ []) self.old self.new result }
@@ -271,6 +273,7 @@ impl<'a, W: Sink, C: SerializerConfig> Tuple<'a, W, C> {
         ensures same_reference { reference self.new ≡ reference self.old }
         ensures left { OnOk result (left_of self.new + 4 ≡ left_of self.old) }
         ensures sound { OnOk result (is_sound self.new ≡ true) }
+        ensures error { IfErr result (OfParts ⊥ (A.refuses a.now ∷ (B.refuses b.now ∷ (D.refuses d.now ∷ (E.refuses e.now ∷ []))))) }
         ensures writes { Goes W.Sink (IsTupling W.Sink) inside
             (λ s. (forces_all s.bytes || one_of (A.takes_memory s ∷ (B.takes_memory s ∷ (D.takes_memory s ∷ (E.takes_memory s ∷ []))))) || W.takes_memory)
             (λ s. A.data_of a.now s.human ∷ B.data_of b.now s.human ∷ D.data_of d.now s.human ∷ E.data_of e.now s.human ∷ []) self.old self.new result }
@@ -346,6 +349,7 @@ impl<'a, W: Sink, C: SerializerConfig> Tuple<'a, W, C> {
         requires sound { is_sound self ≡ true }
         requires whole { left_of self ≡ 0 }
         ensures writes { Ends W.Sink (IsTupling W.Sink) self.entry (sink_of self.exit.0.now) result }
+        ensures error { EndsBySink W.Sink (IsTupling W.Sink) self.entry result }
         ensures marker { FirstAtMarker W.Sink (items_left self.entry) (sink_of (inside self.entry)) (sink_of self.exit.0.now) result }
         ensures keeps { Keeps W.Sink (inside self.entry) self.exit.0.now }
     {

@@ -49,6 +49,7 @@ impl<W: Sink, C: SerializerConfig> Serializer<W, C> {
         ensures stays { StaysAtRefusal self.old self.new result }
         ensures long { ¬ ((length variant.now < 2 ^ 32) × (len < 2 ^ 32)) → RefusesLength self.old self.new result }
         ensures marker { FirstAtMarker W.Sink (variant_items variant.now (head_at pairs len)) (sink_of self.old) (sink_of self.new) result }
+        ensures error { IfErr result (OfLength (¬ ((length variant.now < 2 ^ 32) × (len < 2 ^ 32)))) }
         ensures fits { OnOk result ((length variant.now < 2 ^ 32) × (len < 2 ^ 32)) }
     {
         let n = fits_u32(len)?;

@@ -2,6 +2,7 @@
 //!
 //! In the modes `Normal` and `ForceIterables` writing them takes no memory but by their elements and the sink.
 ghost use Rattle.std.specs.Prelude.{◌∷◌, ◌||◌, []};
+ghost use Rattle.rmp_encode.specs.Refusals.{OfParts};
 ghost use Rattle.rmp_encode.specs.Sizes.{one_of};
 ghost use Rattle.rmp_encode.specs.Trees.{forces_all, tuple_of};
 
@@ -17,6 +18,8 @@ impl<E1: Serialize> Serialize for (E1,) {
     ghost is_value = { λ v. E1.is_value v.0 };
 
     ghost takes_memory = { λ s. forces_all s.bytes || one_of (E1.takes_memory s ∷ []) };
+
+    ghost refuses = { λ v. OfParts ⊥ (E1.refuses v.0 ∷ []) };
 
     fn serialize<W: Sink, C: SerializerConfig>(
         &self,
@@ -41,6 +44,8 @@ impl<E1: Serialize, E2: Serialize> Serialize for (E1, E2) {
 
     ghost takes_memory = { λ s. forces_all s.bytes || one_of (E1.takes_memory s ∷ (E2.takes_memory s ∷ [])) };
 
+    ghost refuses = { λ v. OfParts ⊥ (E1.refuses v.0 ∷ (E2.refuses v.1 ∷ [])) };
+
     fn serialize<W: Sink, C: SerializerConfig>(
         &self,
         se: &mut Serializer<W, C>,
@@ -64,6 +69,8 @@ impl<E1: Serialize, E2: Serialize, E3: Serialize> Serialize for (E1, E2, E3) {
 
     ghost takes_memory = { λ s. forces_all s.bytes || one_of (E1.takes_memory s ∷ (E2.takes_memory s ∷ (E3.takes_memory s ∷ []))) };
 
+    ghost refuses = { λ v. OfParts ⊥ (E1.refuses v.0 ∷ (E2.refuses v.1 ∷ (E3.refuses v.2 ∷ []))) };
+
     fn serialize<W: Sink, C: SerializerConfig>(
         &self,
         se: &mut Serializer<W, C>,
@@ -86,6 +93,8 @@ impl<E1: Serialize, E2: Serialize, E3: Serialize, E4: Serialize> Serialize for (
     ghost is_value = { λ v. E1.is_value v.0 × E2.is_value v.1 × E3.is_value v.2 × E4.is_value v.3 };
 
     ghost takes_memory = { λ s. forces_all s.bytes || one_of (E1.takes_memory s ∷ (E2.takes_memory s ∷ (E3.takes_memory s ∷ (E4.takes_memory s ∷ [])))) };
+
+    ghost refuses = { λ v. OfParts ⊥ (E1.refuses v.0 ∷ (E2.refuses v.1 ∷ (E3.refuses v.2 ∷ (E4.refuses v.3 ∷ [])))) };
 
     fn serialize<W: Sink, C: SerializerConfig>(
         &self,
@@ -112,6 +121,8 @@ impl<E1: Serialize, E2: Serialize, E3: Serialize, E4: Serialize, E5: Serialize> 
 
     ghost takes_memory = { λ s. forces_all s.bytes || one_of
         (E1.takes_memory s ∷ (E2.takes_memory s ∷ (E3.takes_memory s ∷ (E4.takes_memory s ∷ (E5.takes_memory s ∷ []))))) };
+
+    ghost refuses = { λ v. OfParts ⊥ (E1.refuses v.0 ∷ (E2.refuses v.1 ∷ (E3.refuses v.2 ∷ (E4.refuses v.3 ∷ (E5.refuses v.4 ∷ []))))) };
 
     fn serialize<W: Sink, C: SerializerConfig>(
         &self,
@@ -145,6 +156,8 @@ impl<
 
     ghost takes_memory = { λ s. forces_all s.bytes || one_of
         (E1.takes_memory s ∷ (E2.takes_memory s ∷ (E3.takes_memory s ∷ (E4.takes_memory s ∷ (E5.takes_memory s ∷ (E6.takes_memory s ∷ [])))))) };
+
+    ghost refuses = { λ v. OfParts ⊥ (E1.refuses v.0 ∷ (E2.refuses v.1 ∷ (E3.refuses v.2 ∷ (E4.refuses v.3 ∷ (E5.refuses v.4 ∷ (E6.refuses v.5 ∷ [])))))) };
 
     fn serialize<W: Sink, C: SerializerConfig>(
         &self,
@@ -181,6 +194,9 @@ impl<
     ghost takes_memory = { λ s. forces_all s.bytes || one_of
         (E1.takes_memory s ∷ (E2.takes_memory s ∷ (E3.takes_memory s
         ∷ (E4.takes_memory s ∷ (E5.takes_memory s ∷ (E6.takes_memory s ∷ (E7.takes_memory s ∷ []))))))) };
+
+    ghost refuses = { λ v. OfParts ⊥ (E1.refuses v.0 ∷
+        (E2.refuses v.1 ∷ (E3.refuses v.2 ∷ (E4.refuses v.3 ∷ (E5.refuses v.4 ∷ (E6.refuses v.5 ∷ (E7.refuses v.6 ∷ []))))))) };
 
     fn serialize<W: Sink, C: SerializerConfig>(
         &self,
@@ -220,6 +236,9 @@ impl<
     ghost takes_memory = { λ s. forces_all s.bytes || one_of
         (E1.takes_memory s ∷ (E2.takes_memory s ∷ (E3.takes_memory s
         ∷ (E4.takes_memory s ∷ (E5.takes_memory s ∷ (E6.takes_memory s ∷ (E7.takes_memory s ∷ (E8.takes_memory s ∷ [])))))))) };
+
+    ghost refuses = { λ v. OfParts ⊥ (E1.refuses v.0 ∷
+        (E2.refuses v.1 ∷ (E3.refuses v.2 ∷ (E4.refuses v.3 ∷ (E5.refuses v.4 ∷ (E6.refuses v.5 ∷ (E7.refuses v.6 ∷ (E8.refuses v.7 ∷ [])))))))) };
 
     fn serialize<W: Sink, C: SerializerConfig>(
         &self,

@@ -97,6 +97,8 @@ fn tuples(rt: HostRuntime) -> Result<(), Fail> {
     assert!(rt; refuses(&rt, &(1u8, Floor(13))));
     assert!(rt; refuses(&rt, &(1u8, 2u8, Floor(13))));
     assert!(rt; refuses(&rt, &(1u8, Floor(13), 3u8, 4u8, 5u8, 6u8, 7u8, 8u8)));
+    assert!(rt; refuses(&rt, &((1u8, Floor(13)), [Floor(1)])));
+    assert!(rt; refuses(&rt, &[(1u8, Floor(1)), (2u8, Floor(13))]));
     Ok(())
 }
 

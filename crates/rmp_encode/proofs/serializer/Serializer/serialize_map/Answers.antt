@@ -5,9 +5,11 @@ use Rattle.rmp_encode.specs.Opens.{IsMapLong, IsPaired, twice, MayOpen, head_ite
 use Rattle.rmp_encode.proofs.Keeping.{keeping_opened}
 use Rattle.rmp_encode.proofs.Numbers.{marker_first}
 use Rattle.rmp_encode.proofs.Lists.{made_map, not_less}
+use Rattle.rmp_encode.specs.Refusals.{OfLength}
 use Rattle.rmp_encode.specs.Ser.{sink_of}
 use Rattle.std.specs.Prelude.{Err}
 use Rattle.rmp_encode.specs.Writes.{FirstAtMarker}
+use Rattle.rmp_encode.proofs.Refusals.{of_past}
 use Rattle.rmp_encode.proofs.serializer.Serializer.serialize_map.Goals as goal
 
 pub returns-in_default : goal.returns-in_default
@@ -43,6 +45,7 @@ returns-in_err-put_len g c =
         record {
           keeps = c.put_len.ensures.keeps;
           refused = c.in_err-put_len.ensures.stays;
+          error = subst (λ l. OfLength (¬ MayOpen l) c.in_err-put_len.field-0.0) (sym c.in-Some.is) (of_past _ _ c.in_err-put_len.ensures.error);
           long = λ h. c.in_err-put_len.ensures.long (not_less (subst (λ l. ¬ MayOpen l) c.in-Some.is h));
           marker = subst (λ l. FirstAtMarker g.W.Sink {A = Unit {0}} (head_items true l) (sink_of c.args.self.now) (sink_of c.put_len.new.self) (Err c.in_err-put_len.field-0.0)) (sym c.in-Some.is)
               (marker_first g.W.Sink _ [] (sink_of c.args.self.now) (sink_of c.put_len.new.self) (Err c.in_err-put_len.field-0.0) c.in_err-put_len.ensures.marker);

@@ -5,6 +5,7 @@ use Rattle.rmp_encode.proofs.Numbers.{marker_first}
 use Rattle.rmp_encode.proofs.Lists.{not_less}
 use Rattle.rmp_encode.specs.Ser.{sink_of}
 use Rattle.std.specs.Prelude.{Err}
+use Rattle.rmp_encode.proofs.Refusals.{of_past}
 use Rattle.rmp_encode.proofs.serializer.Serializer.serialize_struct.Goals as goal
 
 pub returns-in_err-put_len : goal.returns-in_err-put_len
@@ -17,6 +18,7 @@ returns-in_err-put_len g c =
         record {
           keeps = c.put_len.ensures.keeps;
           refused = c.in_err-put_len.ensures.stays;
+          error = of_past c.args.len _ c.in_err-put_len.ensures.error;
           long = λ h. c.in_err-put_len.ensures.long (not_less h);
           marker = marker_first g.W.Sink _ [] (sink_of c.args.self.now) (sink_of c.put_len.new.self) (Err c.in_err-put_len.field-0.0) c.in_err-put_len.ensures.marker;
           writes = λ all e. (rw c.is_named.ensures at c.in_err-put_len.ensures.begins) _ _ (made_struct _ c.args.len all e);

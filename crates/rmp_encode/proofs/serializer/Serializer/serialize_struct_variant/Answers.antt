@@ -22,6 +22,7 @@ returns-in_err-open_variant g c =
         record {
           keeps = c.open_variant.ensures.keeps;
           refused = c.in_err-open_variant.ensures.stays;
+          error = c.in_err-open_variant.ensures.error;
           long = c.in_err-open_variant.ensures.long;
           marker = subst (λ named. FirstAtMarker g.W.Sink {A = Unit {0}} (variant_items c.args.variant.now (head_at named c.args.len)) (sink_of c.args.self.now)
               (sink_of c.open_variant.new.self) (Err c.in_err-open_variant.field-0.0)) c.is_named.ensures c.in_err-open_variant.ensures.marker;

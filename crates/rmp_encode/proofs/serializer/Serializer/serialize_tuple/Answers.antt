@@ -1,9 +1,9 @@
-use Rattle.std.proofs.Common.{rules, refl, sym, ◌∙◌, false, []}
+use Rattle.std.proofs.Common.{arith, rules, refl, sym, ◌∙◌, false, []}
 use Rattle.std.proofs.lemmas.Result.{err_from_is_err_and}
 use Rattle.rmp_encode.specs.Going.{head_at}
 use Rattle.rmp_encode.proofs.Going.{begins, never_refused, stays_refused}
 use Rattle.rmp_encode.proofs.Numbers.{marker_first}
-use Rattle.rmp_encode.proofs.Refusals.{none_too_long, refuses_length}
+use Rattle.rmp_encode.proofs.Refusals.{none_too_long, of_long, of_sink, refuses_length}
 use Rattle.rmp_encode.proofs.TupleSteps.{made_tuple, tuple_too_long, probing_opened}
 use Rattle.rmp_encode.specs.Ser.{sink_of}
 use Rattle.std.specs.Prelude.{Err}
@@ -19,6 +19,7 @@ returns-in_err-n g c =
         record {
           keeps = record { settings = refl; place = refl };
           refused = stays_refused c.args.self.now _ c.in_err-n.ensures.refused;
+          error = of_long _ c.in_err-n.ensures.refused (λ lt. omega (arith, lt, c.in_err-n.ensures.long));
           long = λ _. refuses_length c.args.self.now _ c.in_err-n.ensures.refused;
           marker = marker_first g.W.Sink _ [] (sink_of c.args.self.now) (sink_of c.args.self.now) (Err c.in_err-n.field-0.0)
               (none_too_long g.W.Sink _ _ c.in_err-n.field-0.0 c.in_err-n.ensures.refused);
@@ -58,6 +59,7 @@ returns-in_err-put_head g c =
         record {
           keeps = c.put_head.ensures.keeps;
           refused = never_refused g.W.Sink.takes_memory _ _ _ _ _ c.in_err-put_head.ensures.writes.cause;
+          error = of_sink _ _ c.in_err-put_head.ensures.error;
           long = λ h. absurd (h c.in_ok-n.ensures.fits);
           marker = marker_first g.W.Sink _ [] (sink_of c.args.self.now) (sink_of c.put_head.new.self) (Err c.in_err-put_head.field-0.0) c.in_err-put_head.ensures.marker;
           writes = λ all e. begins g.W.Sink (head_at false c.args.len) c.args.self.now c.put_head.new.self _ c.in_ok-n.ensures.fits c.put_head.ensures.keeps

@@ -16,6 +16,7 @@ returns-in_err-open_variant g c =
         record {
           keeps = c.open_variant.ensures.keeps;
           refused = c.in_err-open_variant.ensures.stays;
+          error = c.in_err-open_variant.ensures.error;
           long = c.in_err-open_variant.ensures.long;
           marker = c.in_err-open_variant.ensures.marker;
           writes = λ all e. c.in_err-open_variant.ensures.begins _ _ (made_tuple_variant _ c.args.variant.now c.args.len all is_bytes e);

@@ -36,3 +36,13 @@ returns-in_err-put_head-clause-marker g c =
 
 pub returns-clause-marker : goal.returns-clause-marker
 returns-clause-marker g c = none_by_never g.W.Sink _ _ c.put.result c.put.ensures.marker
+
+pub returns-then-past-clause-error : goal.returns-then-past-clause-error
+returns-then-past-clause-error g c = λ old t h.
+    let past : most c.args.self.pairs < c.args.self.count = search rules in
+    absurd (never_past g.W.Sink past (some_state g.W.Sink c.in-Some.buffer c.in-Some.is h))
+
+pub returns-in_err-put_head-clause-error : goal.returns-in_err-put_head-clause-error
+returns-in_err-put_head-clause-error g c =
+    let p = err_from_is_err_and c.from_residual.result c.from_residual.ensures.1 in
+    rw (p.1, p.2) (λ old t h. c.in_err-put_head.ensures.error)

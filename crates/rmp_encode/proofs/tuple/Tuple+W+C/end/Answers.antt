@@ -1,11 +1,12 @@
-use Rattle.std.proofs.Common.{sym, ◌∙◌, ap}
+use Rattle.std.proofs.Common.{arith, sym, ◌∙◌, ap}
 use Rattle.std.proofs.lemmas.Result.{err_from_is_err_and}
 use Rattle.rmp_encode.specs.Data.{packs_tuple}
 use Rattle.rmp_wire.specs.declared.config.BytesMode.TheVariants.{ForceAll}
 use Rattle.rmp_encode.proofs.Going.{closes}
 use Rattle.rmp_encode.proofs.Parts.{part_then, part_stops}
 use Rattle.rmp_encode.proofs.TupleSteps.{kept_none, kept_no_more, kept_some, marker_no_head, marker_numbers}
-use Rattle.rmp_encode.proofs.TupleSteps.{marker_packed, probing_packs, probing_lists, list_state, probe_state}
+use Rattle.rmp_encode.proofs.TupleSteps.{marker_packed, probing_fits, probing_packs, probing_lists, list_state, probe_state}
+use Rattle.rmp_encode.proofs.Refusals.{of_cause, on_cause, on_fits}
 use Rattle.rmp_encode.proofs.tuple.Tuple+W+C.end.Goals as goal
 
 pub returns-in_default-clause-writes : goal.returns-in_default-clause-writes
@@ -55,3 +56,16 @@ returns-clause-marker g c =
     let no_packs = sym (c.packs.ensures ∙ ap (packs_tuple ForceAll) c.as_slice.ensures.value) ∙ c.if-packs.false in
     marker_numbers g.W.Sink c.in-Some.bytes _ no_packs (kept_some c.in-Some.bytes c.in-Some.is c.if-not-probing.false) _ c.put_numbers.result
     c.in_ok-put_head.ensures.writes (rw c.as_slice-2.ensures.value at c.put_numbers.ensures.marker)
+
+pub returns-then-packs-clause-error : goal.returns-then-packs-clause-error
+returns-then-packs-clause-error g c = λ old t h. on_fits _ c.serialize_bytes.result
+    (probing_fits g.W.Sink (probe_state g.W.Sink c.in-Some.bytes (kept_some c.in-Some.bytes c.in-Some.is c.if-not-probing.false) h))
+    (rw c.as_slice-then-packs.ensures.value at c.serialize_bytes.ensures.error)
+
+pub returns-in_err-put_head-clause-error : goal.returns-in_err-put_head-clause-error
+returns-in_err-put_head-clause-error g c =
+    let p = err_from_is_err_and c.from_residual.result c.from_residual.ensures.1 in
+    rw (p.1, p.2) (λ old t h. c.in_err-put_head.ensures.error)
+
+pub returns-clause-error : goal.returns-clause-error
+returns-clause-error g c = λ old t h. on_cause _ _ _ c.put_numbers.result c.put_numbers.ensures.writes.cause

@@ -5,6 +5,7 @@ use Rattle.rmp_encode.specs.Trees.{forces_all}
 use Rattle.rmp_encode.specs.Tuples.{inside, IsTupling}
 use Rattle.rmp_encode.proofs.Going.{going_more, keeps_then}
 use Rattle.rmp_encode.proofs.Parts.{part_takes, or_front, or_one_of}
+use Rattle.rmp_encode.proofs.Refusals.{of_front, on_back}
 use Rattle.rmp_encode.proofs.tuple.Tuple+W+C.three.Goals as goal
 
 pub returns-in_err-two-clause-writes : goal.returns-in_err-two-clause-writes
@@ -24,3 +25,11 @@ returns-clause-writes g c = λ old t rest h. going_more g.W.Sink (IsTupling g.W.
 
 pub returns-clause-keeps : goal.returns-clause-keeps
 returns-clause-keeps g c = keeps_then g.W.Sink c.two.ensures.keeps c.serialize_element.ensures.keeps
+
+pub returns-in_err-two-clause-error : goal.returns-in_err-two-clause-error
+returns-in_err-two-clause-error g c =
+    let p = err_from_is_err_and c.from_residual.result c.from_residual.ensures.1 in
+    rw (p.1, p.2) (of_front ⊥ (g.A.Serialize.refuses c.args.a.now ∷ (g.B.Serialize.refuses c.args.b.now ∷ [])) (g.D.Serialize.refuses c.args.d.now ∷ []) _ c.in_err-two.ensures.error)
+
+pub returns-clause-error : goal.returns-clause-error
+returns-clause-error g c = on_back ⊥ (g.A.Serialize.refuses c.args.a.now ∷ (g.B.Serialize.refuses c.args.b.now ∷ [])) (g.D.Serialize.refuses c.args.d.now ∷ []) c.serialize_element.result c.serialize_element.ensures.error
