@@ -42,7 +42,7 @@ from declarations import MOST, PLAIN, PRELUDE, Declared, Refused, identifiers, i
 from derived_proofs import answers, has_content
 from derived_rounds import LEMMAS, Own, Unknown
 from derived_rounds import implementations as rounds
-from derived_terms import EIGHT, GHOST, GROUP, MOST_IN_TUPLES, Words, alias, bound_name, data_of, eight_bound, member_of_reading, member_of_refusing, members_of_writing, memory_of, nested, place_of, underscored
+from derived_terms import EIGHT, GHOST, GROUP, MOST_IN_TUPLES, Words, alias, bound_name, data_of, eight_bound, member_of_reading, member_of_refusing, members_of_writing, memory_of, nested, place_of, refused_of, underscored
 from imports import imports
 from modules import Files, Module, stale, sums_lines
 from shared import texts
@@ -206,6 +206,7 @@ def writing_differ(of, at, shape):
         f"    ensures writes {{ WritesTree W.Sink ({memory_of(words, general, '(settings_of se.old)')} || W.takes_memory)"
         f" (tree_of (settings_of se.old) ({tree})) (sink_of se.old) (sink_of se.new) result }}",
         "    ensures keeps { Keeps W.Sink se.old se.new }",
+        f"    ensures error {{ IfErr result ({refused_of(words, general, values=[f'{place}.now' for place in places])}) }}",
         f"    ensures value {{ OnOk result ({known}) }}",
         "{",
         *several(of, at, shape, places),
@@ -295,7 +296,7 @@ def any_value_of(of, shape):
 
 def writing(of):
     """The implementation of `Serialize`."""
-    data, known, memory = members_of_writing(of, Words(of))
+    data, known, memory, refused = members_of_writing(of, Words(of))
     lower = any(shape.kind == "unit" for shape in of.shapes())
     several_of = [(at, shape) for at, shape in enumerate(of.shapes()) if shape.kind in ("tuple", "named")]
     return [
@@ -304,6 +305,7 @@ def writing(of):
         f"    ghost data_of = {{ λ v human. {data} }};\n",
         f"    ghost is_value = {{ λ v. {known} }};\n",
         f"    ghost takes_memory = {{ λ s. {memory} }};\n",
+        f"    ghost refuses = {{ λ v. {refused} }};\n",
         *(["#[tactic(auto, unfolding(rmp_encode::specs::Data::lower))]"] if lower else []),
         "fn serialize<W: Sink, C: SerializerConfig>(&self, se: &mut Serializer<W, C>) -> Result<(), rmp_encode::Error> {",
         *body_of_writing(of),

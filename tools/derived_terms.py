@@ -11,8 +11,9 @@ from shared import list_of
 # Where the words of the ghost members come from.
 GHOST = {
     "rmp_wire.specs.Msg": "nil",
-    "std.specs.Prelude": "◌≡◌ ◌≢◌ ◌∷◌ [] None Some codes false ⊤ IsSome OnOk",
+    "std.specs.Prelude": "◌≡◌ ◌≢◌ ◌∷◌ [] None Some codes false ⊤ IsSome OnOk IfErr",
     "rmp_encode.specs.Data": "unit_struct unit_variant",
+    "rmp_encode.specs.Refusals": "OfParts OfSink",
     "rmp_encode.specs.Ser": "sink_of settings_of",
     "rmp_encode.specs.Sizes": "one_of",
     "rmp_encode.specs.Trees": "wrapped_of sequence_of structure_of newtype_variant_of tuple_variant_of struct_variant_of tree_of",
@@ -145,6 +146,15 @@ def memory_of(words: Words, shape: Shape, settings: str = "s") -> str:
     return f"one_of ({list_of(flags)})" if flags else "false"
 
 
+def refused_of(words: Words, shape: Shape, value: Optional[str] = None, values: Optional[list[str]] = None) -> str:
+    """What is known of the error that writing the value answers."""
+    values = values or values_of(shape, value)
+    parts = [f"{words.writes(field.kind, 'refuses')} {of}" for field, of in zip(shape.fields, values)]
+    if shape.kind == "unit":
+        return "OfSink"
+    return parts[0] if value and shape.kind == "newtype" else f"OfParts ⊥ ({list_of(parts)})"
+
+
 def reading_of(words: Words, shape: Shape, tree: str, value: Optional[str] = None) -> str:
     """What holds of a tree that is read as the value."""
     values = values_of(shape, value)
@@ -236,14 +246,16 @@ def member_of_refusing(of: Declared, words: Words) -> str:
     return f"RefusesEnum ({codes(shape.key for shape in of.variants)}) ({list_of(choices)})"
 
 
-def members_of_writing(of: Declared, words: Words) -> tuple[str, str, str]:
-    """What stands for data_of, is_value and takes_memory."""
+def members_of_writing(of: Declared, words: Words) -> tuple[str, str, str, str]:
+    """What stands for data_of, is_value, takes_memory and refuses."""
     if of.shape:
-        return data_of(words, of.shape, "v"), known_of(words, of.shape, "v"), memory_of(words, of.shape)
+        return data_of(words, of.shape, "v"), known_of(words, of.shape, "v"), memory_of(words, of.shape), refused_of(words, of.shape, "v")
     data = by_cases(of, [data_of(words, shape) for shape in of.variants])
     known = by_cases(of, [known_of(words, shape) for shape in of.variants])
     flags = [memory_of(words, shape) for shape in of.variants]
-    return data, known, "false" if set(flags) == {"false"} else f"one_of ({list_of(flags)})"
+    errors = [refused_of(words, shape) for shape in of.variants]
+    refused = "OfSink" if set(errors) == {"OfSink"} else by_cases(of, errors)
+    return data, known, "false" if set(flags) == {"false"} else f"one_of ({list_of(flags)})", refused
 
 
 def member_of_reading(of: Declared, words: Words) -> str:

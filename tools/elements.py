@@ -74,10 +74,23 @@ def residual(word, i):
     return f"c.from_residual-in_err-{numbered(word, i)}" if i else "c.from_residual"
 
 
+# That this error of one element is an error of all n.
+def refusal(i, n, word, error):
+    each = [f"g.E{k + 1}.Serialize.refuses c.args.self.now.{FIELDS[k]}.now" for k in range(n)]
+    if word == "serialize":
+        return "(inr " * i + f"(inl {error})" + ")" * i
+    names = "c.args.names.now"
+    part = bracketed(each[i : i + 1])
+    term = f"(parts_weaker (long_name {names} {i} _ (omega (arith, c.requires))) {part} _ {error})"
+    if i + 1 < n:
+        return f"(of_front (AnyLong (lengths {names})) {part} {bracketed(each[i + 1 :])} _ {term})"
+    return f"(of_back (AnyLong (lengths {names})) {bracketed(each[:i])} {part} _ {term})" if i else term
+
+
 def answers(n, word, goals):
     each = bracketed([f"g.E{k + 1}.Serialize.takes_memory (settings_of old)" for k in range(n)])
     steps = (["goes"] if word == "serialize" else []) + (["keeps_then"] if n > 1 else [])
-    uses = [f"Rattle.std.proofs.Common.{{{'' if word == 'serialize' else 'arith, '}◌∷◌, []}}"]
+    uses = [f"Rattle.std.proofs.Common.{{{'inl, ' + 'inr, ' * (n > 1) if word == 'serialize' else 'arith, '}◌∷◌, []}}"]
     if word == "serialize":
         uses.append("Rattle.std.specs.Prelude.{◌||◌, Ok, Err}")
     uses.append("Rattle.std.proofs.lemmas.Result.{err_from_is_err_and}")
@@ -87,6 +100,11 @@ def answers(n, word, goals):
     if steps:
         uses.append(f"Rattle.rmp_encode.proofs.Going.{{{', '.join(steps)}}}")
     uses.append("Rattle.rmp_encode.proofs.Parts.{one_of_or, part_takes}")
+    if word == "put_field":
+        proved = ["long_name", *(["of_back", "of_front"] if n > 1 else []), "parts_weaker"]
+        uses.append(f"Rattle.rmp_encode.proofs.Refusals.{{{', '.join(proved)}}}")
+        if n > 1:
+            uses.append("Rattle.rmp_encode.specs.Refusals.{lengths, AnyLong}")
     text = "".join(f"use {name}\n" for name in uses) + f"use {goals}.Goals as goal\n"
     for i in range(n):
         this = numbered(word, i)
@@ -101,6 +119,13 @@ pub {goal} : goal.{goal}
     let p = err_from_is_err_and {residual(word, i)}.result {residual(word, i)}.ensures.1 in
     rw (p.1, p.2) (λ old t rest h. part_takes g.W.Sink _ (one_of_or g.W.Sink.takes_memory {each} {i})
     {failed})
+"""
+        goal = f"returns-in_err-{this}-clause-error"
+        text += f"""
+pub {goal} : goal.{goal}
+{goal} g c =
+    let p = err_from_is_err_and {residual(word, i)}.result {residual(word, i)}.ensures.1 in
+    rw (p.1, p.2) {refusal(i, n, word, f"c.in_err-{this}.ensures.error")}
 """
         if i:
             goal = f"returns-in_err-{this}-clause-keeps"

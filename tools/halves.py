@@ -48,6 +48,7 @@ def implementation(name, n, elements, named, path=""):
     data = " ∷ ".join(f"{kind}.data_of v.{FIELDS[i]}.now human" for i, kind in enumerate(names))
     value = " × ".join(f"{kind}.is_value v.{FIELDS[i]}.now" for i, kind in enumerate(names))
     memory = bracketed([f"{kind}.takes_memory s" for kind in names])
+    refusals = " ∷ ".join(f"{kind}.refuses v.{FIELDS[i]}.now" for i, kind in enumerate(names))
     return f"""
 impl<'r, {bounds}> Elements for {name}<'r, {", ".join(names)}> {{
     ghost count = {{ {n} }};
@@ -55,6 +56,8 @@ impl<'r, {bounds}> Elements for {name}<'r, {", ".join(names)}> {{
     ghost parts_of = {{ λ v human. {data} ∷ [] }};
 
     ghost are_values = {{ λ v. {value} }};
+
+    ghost refusals = {{ λ v. {refusals} ∷ [] }};
 
     ghost takes_memory = {{ λ s. one_of {memory} }};
 
@@ -91,9 +94,18 @@ def answers(n, k, word, goals):
     def data(start, end):
         return bracketed([f"g.E{i + 1}.Serialize.data_of c.args.self.now.{FIELDS[i]}.now (settings_of old).human" for i in range(start, end)])
 
+    def refusals(start, end):
+        return bracketed([f"g.E{i + 1}.Serialize.refuses c.args.self.now.{FIELDS[i]}.now" for i in range(start, end)])
+
     def less(side):
         return f"({side}_or g.W.Sink.takes_memory {memory(0, k)} {memory(k, n)})"
 
+    long, front_error, back_error = "⊥", f"c.in_err-{word}.ensures.error", f"c.{word}-2.ensures.error"
+    if word == "write_fields":
+        names = "c.args.names.now"
+        long = f"(AnyLong (lengths {names}))"
+        front_error = f"(parts_weaker (long_take {k} {names}) {refusals(0, k)} _ {front_error})"
+        back_error = f"(on_parts_weaker (long_rest {k} _ {names}) {refusals(k, n)} c.{word}-2.result {back_error})"
     named = f"(named_halves g.W.Sink c.args.names.now {k} {data(0, k)} {data(k, n)} rest refl (omega (arith, c.requires)) h)"
     first = "h" if word == "write" else named
     back = f"c.{word}-2.ensures.writes old t rest (c.in_ok-{word}.ensures.writes old t _ {first})"
@@ -107,6 +119,9 @@ def answers(n, k, word, goals):
         uses.append("Rattle.rmp_encode.proofs.Fields.{named_halves}")
     uses.append("Rattle.rmp_encode.proofs.Going.{going_more, keeps_then}")
     uses.append("Rattle.rmp_encode.proofs.Parts.{front_or, back_or, part_takes}")
+    uses.append(f"Rattle.rmp_encode.proofs.Refusals.{{{'' if word == 'write' else 'long_rest, long_take, '}of_front, on_back{'' if word == 'write' else ', on_parts_weaker, parts_weaker'}}}")
+    if word == "write_fields":
+        uses.append("Rattle.rmp_encode.specs.Refusals.{lengths, AnyLong}")
     return "".join(f"use {name}\n" for name in uses) + f"""use {goals}.Goals as goal
 
 pub returns-in_err-{word}-clause-writes : goal.returns-in_err-{word}-clause-writes
@@ -122,4 +137,12 @@ returns-clause-writes g c = λ old t rest h. going_more g.W.Sink (IsWriting g.W.
 
 pub returns-clause-keeps : goal.returns-clause-keeps
 returns-clause-keeps g c = keeps_then g.W.Sink c.{word}.ensures.keeps c.{word}-2.ensures.keeps
+
+pub returns-in_err-{word}-clause-error : goal.returns-in_err-{word}-clause-error
+returns-in_err-{word}-clause-error g c =
+    let p = err_from_is_err_and c.from_residual.result c.from_residual.ensures.1 in
+    rw (p.1, p.2) (of_front {long} {refusals(0, k)} {refusals(k, n)} _ {front_error})
+
+pub returns-clause-error : goal.returns-clause-error
+returns-clause-error g c = on_back {long} {refusals(0, k)} {refusals(k, n)} c.{word}-2.result {back_error}
 """

@@ -1,7 +1,8 @@
 -- Whose error a write answers.
-use Rattle.std.proofs.Common.{◌≡◌, ℕ, suc, ◌<◌, ◌≤◌, ◌^◌, List, [], ◌∷◌, ◌++◌, length, get_or, Bool, inl, inr, refl, sym, subst, arith}
-use Rattle.std.specs.Prelude.{Result, Ok, Err, IfErr, OnErr, Option}
-use Rattle.std.specs.List.{Any}
+use Rattle.std.proofs.Common.{◌≡◌, ℕ, zero, suc, ◌<◌, ◌≤◌, ◌^◌, List, [], ◌∷◌, ◌++◌, length, take, drop, get_or, nat_le, Bool, true, false, inl, inr, refl, sym, subst, arith}
+use Rattle.std.specs.Prelude.{◌||◌, T, Result, Ok, Err, IfErr, OnErr, Option}
+use Rattle.std.specs.Borrow.{Bor}
+use Rattle.std.specs.List.{Any, list_any}
 use Rattle.std.proofs.lemmas.Result.{IfErr-weaker}
 use Rattle.rmp_wire.specs.declared.error.ValueWriteError.{ValueWriteError}
 use Rattle.rmp_wire.specs.declared.error.ValueWriteError.TheVariants as wire
@@ -13,7 +14,7 @@ use Rattle.rmp_encode.specs.declared.serializer.Serializer.{Serializer}
 use Rattle.rmp_encode.specs.Data.{Data}
 use Rattle.rmp_encode.specs.Errors.{IsTooLong, error_of}
 use Rattle.rmp_encode.specs.Going.{FailsToOpen}
-use Rattle.rmp_encode.specs.Refusals.{Errors, OfItems, OfLength, OfParts, OfSink, RefusesLength}
+use Rattle.rmp_encode.specs.Refusals.{lengths, AnyLong, Errors, OfItems, OfLength, OfParts, OfSink, RefusesLength}
 use Rattle.rmp_encode.specs.Writes.{FailsBy, NoneAtMarker}
 
 -- an error of the wire is the sink's or memory's
@@ -85,6 +86,58 @@ module _ {W : Type 0} (g : Ghosts W) where
   none_too_long old new (Syntax t) is = tt
   none_too_long old new OutOfMemory is = tt
 
+-- one of some lengths is past 32 bits
+is_long : (n : ℕ) → 2 ^ 32 ≤ n → nat_le (2 ^ 32) n ≡ true
+is_long n le = grind (arith, le)
+
+not_long : (n : ℕ) → n < 2 ^ 32 → nat_le (2 ^ 32) n ≡ false
+not_long n lt = grind (arith, lt)
+
+pub long_first : (n : ℕ) (rest : List ℕ) → 2 ^ 32 ≤ n → AnyLong (n ∷ rest)
+long_first n rest le = subst (λ b. T (b || list_any (nat_le (2 ^ 32)) rest)) (sym (is_long n le)) tt
+
+or_after : (b c : Bool) → T c → T (b || c)
+or_after true c h = tt
+or_after false c h = h
+
+or_more : (b c d : Bool) → (T c → T d) → T (b || c) → T (b || d)
+or_more true c d f h = tt
+or_more false c d f h = f h
+
+pub long_after : (n : ℕ) (rest : List ℕ) → AnyLong rest → AnyLong (n ∷ rest)
+long_after n rest h = or_after (nat_le (2 ^ 32) n) (list_any (nat_le (2 ^ 32)) rest) h
+
+pub long_not : (a b : ℕ) → AnyLong (a ∷ b ∷ []) → ¬ ((a < 2 ^ 32) × (b < 2 ^ 32))
+long_not a b h k =
+    let h' : T (false || (nat_le (2 ^ 32) b || false)) = subst (λ x. T (x || (nat_le (2 ^ 32) b || false))) (not_long a k.0) h in
+    subst (λ x. T (x || false)) (not_long b k.1) h'
+
+pub long_more : (rest : List ℕ) (n : ℕ) (more : List ℕ) → (AnyLong rest → AnyLong more) → AnyLong (n ∷ rest) → AnyLong (n ∷ more)
+long_more rest n more f h = or_more (nat_le (2 ^ 32) n) (list_any (nat_le (2 ^ 32)) rest) (list_any (nat_le (2 ^ 32)) more) f h
+
+pub long_both : (a b : ℕ) (rest : List ℕ) → AnyLong (a ∷ b ∷ []) → AnyLong (a ∷ b ∷ rest)
+long_both a b rest h = long_more (b ∷ []) a (b ∷ rest) (long_more [] b rest absurd) h
+
+-- one of some names
+pub long_name : (names : List (Bor (List ℕ))) (i : ℕ) (z : Bor (List ℕ)) → i < length names → 2 ^ 32 ≤ length (get_or names i z).now
+    → AnyLong (lengths names)
+long_name [] i z lt le = absurd (omega (arith, lt))
+long_name (name ∷ names) zero z lt le = long_first (length name.now) (lengths names) le
+long_name (name ∷ names) (suc i) z lt le = long_after (length name.now) (lengths names) (long_name names i z (omega (arith, lt)) le)
+
+pub long_take : (k : ℕ) (names : List (Bor (List ℕ))) → AnyLong (lengths (take k names)) → AnyLong (lengths names)
+long_take zero names h = absurd h
+long_take (suc k) [] h = absurd h
+long_take (suc k) (name ∷ names) h = long_more (lengths (take k names)) (length name.now) (lengths names) (long_take k names) h
+
+long_drop : (k : ℕ) (names : List (Bor (List ℕ))) → AnyLong (lengths (drop k names)) → AnyLong (lengths names)
+long_drop zero names h = h
+long_drop (suc k) [] h = h
+long_drop (suc k) (name ∷ names) h = long_after (length name.now) (lengths names) (long_drop k names h)
+
+pub long_rest : (k n : ℕ) (names : List (Bor (List ℕ))) → AnyLong (lengths (take n (drop k names))) → AnyLong (lengths names)
+long_rest k n names h = long_drop k names (long_take n (drop k names) h)
+
 -- of one part
 pub on_part : (P : Type 0) (part : Errors) (r : Result (Unit {0}) Error) → IfErr r part → IfErr r (OfParts P (part ∷ []))
 on_part P part r h = IfErr-weaker r part (OfParts P (part ∷ [])) (λ e p. inl p) h
@@ -93,6 +146,14 @@ on_part P part r h = IfErr-weaker r part (OfParts P (part ∷ [])) (λ e p. inl 
 pub of_no_part : (P : Type 0) (parts : List Errors) (e : Error) → OfLength P e → OfParts P parts e
 of_no_part P [] e h = h
 of_no_part P (part ∷ parts) e h = inr (of_no_part P parts e h)
+
+pub parts_weaker : {P Q : Type 0} → (P → Q) → (parts : List Errors) (e : Error) → OfParts P parts e → OfParts Q parts e
+parts_weaker f [] e h = of_weaker f e h
+parts_weaker f (part ∷ parts) e (inl h) = inl h
+parts_weaker f (part ∷ parts) e (inr h) = inr (parts_weaker f parts e h)
+
+pub on_parts_weaker : {P Q : Type 0} → (P → Q) → (parts : List Errors) (r : Result (Unit {0}) Error) → IfErr r (OfParts P parts) → IfErr r (OfParts Q parts)
+on_parts_weaker {P} {Q} f parts r h = IfErr-weaker r (OfParts P parts) (OfParts Q parts) (parts_weaker f parts) h
 
 pub of_front : (P : Type 0) (front back : List Errors) (e : Error) → OfParts P front e → OfParts P (front ++ back) e
 of_front P [] back e h = of_no_part P back e h

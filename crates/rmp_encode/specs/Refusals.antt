@@ -1,6 +1,7 @@
 -- Whose error a write answers: the sink's or memory's, that of a length, or a part's.
-use Rattle.std.specs.Prelude.{◌≡◌, ◌≤◌, ◌^◌, ◌⊎◌, List, [], ◌∷◌, length, Result, Ok, Err}
-use Rattle.std.specs.List.{Any}
+use Rattle.std.specs.Prelude.{◌≡◌, ℕ, ◌≤◌, ◌^◌, ◌⊎◌, List, [], ◌∷◌, length, map, nat_le, T, Result, Ok, Err}
+use Rattle.std.specs.Borrow.{Bor}
+use Rattle.std.specs.List.{Any, list_any}
 use Rattle.rmp_encode.specs.declared.error.Error.{Error}
 use Rattle.rmp_encode.specs.declared.error.Error.TheVariants.{InvalidValueWrite, UnknownLength, InvalidDataModel, DepthLimitExceeded, Syntax, OutOfMemory}
 use Rattle.rmp_encode.specs.Errors.{IsLength}
@@ -31,6 +32,14 @@ abbrev pub RefusesLength : {A S : Type 0} → S → S → Result A Error → Typ
 RefusesLength old new (Ok u) = ⊥
 RefusesLength old new (Err (InvalidDataModel t)) = IsLength t.now × (new ≡ old)
 RefusesLength old new (Err e) = ⊥
+
+-- one of these lengths is past 32 bits: of lengths that are known, this computes
+abbrev pub AnyLong : List ℕ → Type 0
+AnyLong lens = T (list_any (nat_le (2 ^ 32)) lens)
+
+-- the lengths of names
+abbrev pub lengths : List (Bor (List ℕ)) → List ℕ
+lengths names = map (λ name. length name.now) names
 
 -- of some parts: the error of one of them, or of the sink, or of memory; under P of a length too
 abbrev pub OfParts : Type 0 → List Errors → Errors

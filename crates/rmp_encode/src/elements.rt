@@ -3,12 +3,12 @@
 //! The type's own `serialize` is then one call, whose contract is the type's law. An element of a type that
 //! borrows, such as `&str`, goes through a function with a type parameter for each element: the checker doesn't
 //! cover a call with several lifetimes in a type argument.
-ghost use Rattle.std.specs.Prelude.{◌≡◌, ◌^◌, ◌≤◌, ◌||◌, ℕ, Bool, List, Option, OnOk, length};
+ghost use Rattle.std.specs.Prelude.{◌≡◌, ◌^◌, ◌≤◌, ◌||◌, ℕ, Bool, List, Option, OnOk, IfErr, length, ◌∷◌, []};
 ghost use Rattle.std.specs.List.{flat_map};
 ghost use Rattle.rmp_encode.specs.declared.settings.Settings.{Settings};
 ghost use Rattle.rmp_encode.specs.Data.{Data};
 ghost use Rattle.rmp_encode.specs.Going.{Goes, IsWriting};
-ghost use Rattle.rmp_encode.specs.Refusals.{RefusesLength};
+ghost use Rattle.rmp_encode.specs.Refusals.{lengths, AnyLong, Errors, OfParts, RefusesLength};
 ghost use Rattle.rmp_encode.specs.Ser.{sink_of, settings_of};
 ghost use Rattle.rmp_encode.specs.Trees.{tree_of, field_parts, fields_by, sequence_of, structure_of, tuple_variant_of, struct_variant_of};
 ghost use Rattle.rmp_encode.specs.Writes.{Keeps, WritesTree};
@@ -33,6 +33,9 @@ pub trait Elements {
     // What is known of them.
     ghost are_values: { Self → Type 0 };
 
+    // What is known of the error that writing each of them answers.
+    ghost refusals: { Self → List Errors };
+
     // Whether writing them may allocate under these settings, apart from what the sink allocates.
     ghost takes_memory: { Settings → Bool };
 
@@ -49,6 +52,7 @@ pub trait Elements {
     fn write<W: Sink, C: SerializerConfig>(&self, se: &mut Serializer<W, C>) -> Result<(), Error>
         ensures writes { Goes W.Sink (IsWriting W.Sink) (λ n. n) (λ s. takes_memory s || W.takes_memory) (λ s. parts_of self.now s.human) se.old se.new result }
         ensures keeps { Keeps W.Sink se.old se.new }
+        ensures error { IfErr result (OfParts ⊥ (refusals self.now)) }
         ensures value { OnOk result (are_values self.now) };
 
     /// Writes them in order, each after its name where structs are written with names. The caller's condition:
@@ -65,6 +69,7 @@ pub trait Elements {
         ensures writes { Goes W.Sink (IsWriting W.Sink) (λ n. n) (λ s. takes_memory s || W.takes_memory)
             (λ s. flat_map (field_parts s.named) (fields_by names.now (parts_of self.now s.human))) se.old se.new result }
         ensures keeps { Keeps W.Sink se.old se.new }
+        ensures error { IfErr result (OfParts (AnyLong (lengths names.now)) (refusals self.now)) }
         ensures value { OnOk result (are_values self.now) };
 }
 
@@ -84,6 +89,7 @@ impl<W: Sink, C: SerializerConfig> Serializer<W, C> {
             (tree_of (settings_of self.old) (sequence_of (E.parts_of elements.now (settings_of self.old).human))) (sink_of self.old) (sink_of self.new)
             result }
         ensures keeps { Keeps W.Sink self.old self.new }
+        ensures error { IfErr result (OfParts (AnyLong (E.count ∷ [])) (E.refusals elements.now)) }
         ensures value { OnOk result (E.are_values elements.now) }
     {
         self.put_len(false, elements.len())?;
@@ -109,6 +115,7 @@ impl<W: Sink, C: SerializerConfig> Serializer<W, C> {
             (tree_of (settings_of self.old) (structure_of (fields_by names.now (E.parts_of elements.now (settings_of self.old).human)))) (sink_of self.old)
             (sink_of self.new) result }
         ensures keeps { Keeps W.Sink self.old self.new }
+        ensures error { IfErr result (OfParts (AnyLong (E.count ∷ lengths names.now)) (E.refusals elements.now)) }
         ensures value { OnOk result (E.are_values elements.now) }
     {
         self.put_len(self.is_named(), elements.len())?;
@@ -134,6 +141,7 @@ impl<W: Sink, C: SerializerConfig> Serializer<W, C> {
             (sink_of self.new) result }
         ensures keeps { Keeps W.Sink self.old self.new }
         ensures long { 2 ^ 32 ≤ length variant.now → RefusesLength self.old self.new result }
+        ensures error { IfErr result (OfParts (AnyLong (length variant.now ∷ E.count ∷ [])) (E.refusals elements.now)) }
         ensures value { OnOk result (E.are_values elements.now) }
     {
         self.open_variant(variant, false, elements.len())?;
@@ -162,6 +170,7 @@ impl<W: Sink, C: SerializerConfig> Serializer<W, C> {
             (sink_of self.old) (sink_of self.new) result }
         ensures keeps { Keeps W.Sink self.old self.new }
         ensures long { 2 ^ 32 ≤ length variant.now → RefusesLength self.old self.new result }
+        ensures error { IfErr result (OfParts (AnyLong (length variant.now ∷ E.count ∷ lengths names.now)) (E.refusals elements.now)) }
         ensures value { OnOk result (E.are_values elements.now) }
     {
         self.open_variant(variant, self.is_named(), elements.len())?;

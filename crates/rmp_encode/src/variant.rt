@@ -7,7 +7,7 @@ ghost use Rattle.rmp_wire.specs.Spelling.{canon};
 ghost use Rattle.rmp_encode.specs.Compounds.{inside, reference, left_of, has_fields, is_sound, IsFilling};
 ghost use Rattle.rmp_encode.specs.Going.{head_at, Begins, Rests};
 ghost use Rattle.rmp_encode.specs.Markers.{BeforeValue};
-ghost use Rattle.rmp_encode.specs.Refusals.{OfLength, OfParts, RefusesLength};
+ghost use Rattle.rmp_encode.specs.Refusals.{AnyLong, OfLength, OfParts, RefusesLength};
 ghost use Rattle.rmp_encode.specs.Ser.{sink_of, settings_of};
 ghost use Rattle.rmp_encode.specs.Trees.{tree_of, field_parts, newtype_variant_of, tuple_variant_of, map_head, struct_variant_of, variant_head, variant_items};
 ghost use Rattle.rmp_encode.specs.Writes.{FirstAtMarker, Keeps, NoneAtMarker, StaysAtRefusal, WritesPart, WritesTree};
@@ -49,7 +49,7 @@ impl<W: Sink, C: SerializerConfig> Serializer<W, C> {
         ensures stays { StaysAtRefusal self.old self.new result }
         ensures long { ¬ ((length variant.now < 2 ^ 32) × (len < 2 ^ 32)) → RefusesLength self.old self.new result }
         ensures marker { FirstAtMarker W.Sink (variant_items variant.now (head_at pairs len)) (sink_of self.old) (sink_of self.new) result }
-        ensures error { IfErr result (OfLength (¬ ((length variant.now < 2 ^ 32) × (len < 2 ^ 32)))) }
+        ensures error { IfErr result (OfLength (AnyLong (length variant.now ∷ len ∷ []))) }
         ensures fits { OnOk result ((length variant.now < 2 ^ 32) × (len < 2 ^ 32)) }
     {
         let n = fits_u32(len)?;
@@ -73,7 +73,7 @@ impl<W: Sink, C: SerializerConfig> Serializer<W, C> {
     ) -> Result<(), Error>
         ensures writes { WritesTree W.Sink W.takes_memory (Some (text variant.now)) (sink_of self.old) (sink_of self.new) result }
         ensures marker { NoneAtMarker W.Sink (sink_of self.old) (sink_of self.new) result }
-        ensures error { IfErr result (OfLength (2 ^ 32 ≤ length variant.now)) }
+        ensures error { IfErr result (OfLength (AnyLong (length variant.now ∷ []))) }
         ensures keeps { Keeps W.Sink self.old self.new }
         ensures refused { StaysAtRefusal self.old self.new result }
         ensures long { 2 ^ 32 ≤ length variant.now → RefusesLength self.old self.new result }
@@ -101,7 +101,7 @@ impl<W: Sink, C: SerializerConfig> Serializer<W, C> {
         ensures keeps { Keeps W.Sink self.old self.new }
         ensures long { 2 ^ 32 ≤ length variant.now → RefusesLength self.old self.new result }
         ensures marker { BeforeValue W.Sink (map_head 1 ∷ canon (text variant.now) ∷ []) (sink_of self.old) (sink_of self.new) result }
-        ensures error { IfErr result (OfParts (2 ^ 32 ≤ length variant.now) (T.refuses value.now ∷ [])) }
+        ensures error { IfErr result (OfParts (AnyLong (length variant.now ∷ [])) (T.refuses value.now ∷ [])) }
         ensures value { OnOk result (T.is_value value.now) }
     {
         fits_u32(variant.len())?;

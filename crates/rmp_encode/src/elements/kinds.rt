@@ -22,6 +22,8 @@ impl<'r, E1: Serialize> Elements for One<'r, E1> {
 
     ghost are_values = { λ v. E1.is_value v.first.now };
 
+    ghost refusals = { λ v. E1.refuses v.first.now ∷ [] };
+
     ghost takes_memory = { λ s. one_of (E1.takes_memory s ∷ []) };
 
     ghost counted = { λ v human. refl };
@@ -61,6 +63,8 @@ impl<'r, E1: Serialize, E2: Serialize> Elements for Both<'r, E1, E2> {
     ghost parts_of = { λ v human. E1.data_of v.first.now human ∷ E2.data_of v.second.now human ∷ [] };
 
     ghost are_values = { λ v. E1.is_value v.first.now × E2.is_value v.second.now };
+
+    ghost refusals = { λ v. E1.refuses v.first.now ∷ E2.refuses v.second.now ∷ [] };
 
     ghost takes_memory = { λ s. one_of (E1.takes_memory s ∷ (E2.takes_memory s ∷ [])) };
 
@@ -104,6 +108,8 @@ impl<'r, E1: Serialize, E2: Serialize, E3: Serialize> Elements for Three<'r, E1,
     ghost parts_of = { λ v human. E1.data_of v.first.now human ∷ E2.data_of v.second.now human ∷ E3.data_of v.third.now human ∷ [] };
 
     ghost are_values = { λ v. E1.is_value v.first.now × E2.is_value v.second.now × E3.is_value v.third.now };
+
+    ghost refusals = { λ v. E1.refuses v.first.now ∷ E2.refuses v.second.now ∷ E3.refuses v.third.now ∷ [] };
 
     ghost takes_memory = { λ s. one_of (E1.takes_memory s ∷ (E2.takes_memory s ∷ (E3.takes_memory s ∷ []))) };
 
@@ -158,6 +164,8 @@ impl<'r, E1: Serialize, E2: Serialize, E3: Serialize, E4: Serialize> Elements
         ∷ E4.data_of v.fourth.now human ∷ [] };
 
     ghost are_values = { λ v. E1.is_value v.first.now × E2.is_value v.second.now × E3.is_value v.third.now × E4.is_value v.fourth.now };
+
+    ghost refusals = { λ v. E1.refuses v.first.now ∷ E2.refuses v.second.now ∷ E3.refuses v.third.now ∷ E4.refuses v.fourth.now ∷ [] };
 
     ghost takes_memory = { λ s. one_of (E1.takes_memory s ∷ (E2.takes_memory s ∷ (E3.takes_memory s ∷ (E4.takes_memory s ∷ [])))) };
 
@@ -220,6 +228,8 @@ impl<'r, E1: Serialize, E2: Serialize, E3: Serialize, E4: Serialize, E5: Seriali
 
     ghost are_values = { λ v. E1.is_value v.first.now × E2.is_value v.second.now × E3.is_value v.third.now × E4.is_value v.fourth.now
         × E5.is_value v.fifth.now };
+
+    ghost refusals = { λ v. E1.refuses v.first.now ∷ E2.refuses v.second.now ∷ E3.refuses v.third.now ∷ E4.refuses v.fourth.now ∷ E5.refuses v.fifth.now ∷ [] };
 
     ghost takes_memory = { λ s. one_of (E1.takes_memory s ∷ (E2.takes_memory s ∷ (E3.takes_memory s ∷ (E4.takes_memory s ∷ (E5.takes_memory s ∷ []))))) };
 
@@ -288,6 +298,9 @@ impl<
 
     ghost are_values = { λ v. E1.is_value v.first.now × E2.is_value v.second.now × E3.is_value v.third.now × E4.is_value v.fourth.now
         × E5.is_value v.fifth.now × E6.is_value v.sixth.now };
+
+    ghost refusals = { λ v. E1.refuses v.first.now ∷ E2.refuses v.second.now ∷ E3.refuses v.third.now ∷ E4.refuses v.fourth.now ∷ E5.refuses v.fifth.now
+        ∷ E6.refuses v.sixth.now ∷ [] };
 
     ghost takes_memory = { λ s. one_of (E1.takes_memory s
         ∷ (E2.takes_memory s ∷ (E3.takes_memory s ∷ (E4.takes_memory s ∷ (E5.takes_memory s ∷ (E6.takes_memory s ∷ [])))))) };
@@ -365,6 +378,9 @@ impl<
 
     ghost are_values = { λ v. E1.is_value v.first.now × E2.is_value v.second.now × E3.is_value v.third.now × E4.is_value v.fourth.now
         × E5.is_value v.fifth.now × E6.is_value v.sixth.now × E7.is_value v.seventh.now };
+
+    ghost refusals = { λ v. E1.refuses v.first.now ∷ E2.refuses v.second.now ∷ E3.refuses v.third.now ∷ E4.refuses v.fourth.now ∷ E5.refuses v.fifth.now
+        ∷ E6.refuses v.sixth.now ∷ E7.refuses v.seventh.now ∷ [] };
 
     ghost takes_memory = { λ s. one_of (E1.takes_memory s
         ∷ (E2.takes_memory s ∷ (E3.takes_memory s ∷ (E4.takes_memory s ∷ (E5.takes_memory s ∷ (E6.takes_memory s ∷ (E7.takes_memory s ∷ []))))))) };
@@ -447,6 +463,9 @@ impl<
 
     ghost are_values = { λ v. E1.is_value v.first.now × E2.is_value v.second.now × E3.is_value v.third.now × E4.is_value v.fourth.now
         × E5.is_value v.fifth.now × E6.is_value v.sixth.now × E7.is_value v.seventh.now × E8.is_value v.eighth.now };
+
+    ghost refusals = { λ v. E1.refuses v.first.now ∷ E2.refuses v.second.now ∷ E3.refuses v.third.now ∷ E4.refuses v.fourth.now ∷ E5.refuses v.fifth.now
+        ∷ E6.refuses v.sixth.now ∷ E7.refuses v.seventh.now ∷ E8.refuses v.eighth.now ∷ [] };
 
     ghost takes_memory = { λ s. one_of (E1.takes_memory s
         ∷ (E2.takes_memory s ∷ (E3.takes_memory s ∷ (E4.takes_memory s

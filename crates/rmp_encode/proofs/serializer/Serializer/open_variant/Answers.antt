@@ -1,11 +1,11 @@
-use Rattle.std.proofs.Common.{arith, refl, ◌++◌, ◌∷◌, []}
+use Rattle.std.proofs.Common.{arith, refl, ◌++◌, ◌∷◌, [], length}
 use Rattle.std.proofs.lemmas.Result.{err_from_is_err_and}
 use Rattle.rmp_encode.specs.Going.{head_at}
 use Rattle.rmp_encode.specs.Trees.{variant_head}
 use Rattle.rmp_encode.proofs.Going.{begins, begins_not, keeps_then, never_refused, never_refused_by, stays_refused}
 use Rattle.rmp_encode.proofs.Parts.{part_as, part_stops, part_then}
 use Rattle.rmp_encode.proofs.Numbers.{marker_last, marker_first, marker_more}
-use Rattle.rmp_encode.proofs.Refusals.{none_too_long, of_cause, of_long, of_sink, on_sink, refuses_length}
+use Rattle.rmp_encode.proofs.Refusals.{long_after, long_first, none_too_long, of_cause, of_long, of_sink, on_sink, refuses_length}
 use Rattle.rmp_encode.specs.Ser.{sink_of}
 use Rattle.std.specs.Prelude.{Err}
 use Rattle.rmp_encode.proofs.serializer.Serializer.open_variant.Goals as goal
@@ -92,12 +92,12 @@ returns-clause-marker g c = marker_last g.W.Sink _ _ _ _ c.put_head.result c.in_
 pub returns-in_err-n-clause-error : goal.returns-in_err-n-clause-error
 returns-in_err-n-clause-error g c =
     let p = err_from_is_err_and c.from_residual.result c.from_residual.ensures.1 in
-    rw (p.1, p.2) (of_long _ c.in_err-n.ensures.refused (λ k. let lt = k.1 in omega (arith, lt, c.in_err-n.ensures.long)))
+    rw (p.1, p.2) (of_long _ c.in_err-n.ensures.refused (long_after (length c.args.variant.now) (c.args.len ∷ []) (long_first c.args.len [] c.in_err-n.ensures.long)))
 
 pub returns-in_err-fits_u32-clause-error : goal.returns-in_err-fits_u32-clause-error
 returns-in_err-fits_u32-clause-error g c =
     let p = err_from_is_err_and c.from_residual-in_err-fits_u32.result c.from_residual-in_err-fits_u32.ensures.1 in
-    rw (p.1, p.2) (of_long _ c.in_err-fits_u32.ensures.refused (λ k. let lt = k.0 in omega (arith, lt, c.in_err-fits_u32.ensures.long)))
+    rw (p.1, p.2) (of_long _ c.in_err-fits_u32.ensures.refused (long_first (length c.args.variant.now) (c.args.len ∷ []) c.in_err-fits_u32.ensures.long))
 
 pub returns-in_err-put_variant-clause-error : goal.returns-in_err-put_variant-clause-error
 returns-in_err-put_variant-clause-error g c =

@@ -3,6 +3,8 @@ use Rattle.std.proofs.lemmas.Result.{err_from_is_err_and}
 use Rattle.rmp_encode.proofs.Going.{all_written, keeps_then}
 use Rattle.rmp_encode.proofs.Lists.{made_list}
 use Rattle.rmp_encode.proofs.Parts.{part_or}
+use Rattle.rmp_encode.proofs.Refusals.{long_first, of_no_part, of_weaker, on_parts_weaker}
+use Rattle.std.proofs.Common.{[]}
 use Rattle.rmp_encode.proofs.serializer.Serializer.serialize_elements.Goals as goal
 
 pub returns-in_err-put_len-clause-writes : goal.returns-in_err-put_len-clause-writes
@@ -19,3 +21,11 @@ returns-clause-writes g c =
 
 pub returns-clause-keeps : goal.returns-clause-keeps
 returns-clause-keeps g c = keeps_then g.W.Sink c.put_len.ensures.keeps c.write.ensures.keeps
+
+pub returns-in_err-put_len-clause-error : goal.returns-in_err-put_len-clause-error
+returns-in_err-put_len-clause-error g c =
+    let p = err_from_is_err_and c.from_residual.result c.from_residual.ensures.1 in
+    rw (p.1, p.2) (of_no_part _ (g.E.Elements.refusals c.args.elements.now) _ (of_weaker (long_first g.E.Elements.count []) _ (rw c.len.ensures at c.in_err-put_len.ensures.error)))
+
+pub returns-clause-error : goal.returns-clause-error
+returns-clause-error g c = on_parts_weaker absurd (g.E.Elements.refusals c.args.elements.now) c.write.result c.write.ensures.error

@@ -1,4 +1,4 @@
-use Rattle.std.proofs.Common.{arith, inr}
+use Rattle.std.proofs.Common.{arith, inr, length, []}
 use Rattle.std.specs.Prelude.{◌||◌}
 use Rattle.std.proofs.lemmas.Result.{err_from_is_err_and}
 use Rattle.rmp_encode.specs.Trees.{variant_head}
@@ -6,7 +6,7 @@ use Rattle.rmp_encode.proofs.Going.{begins, begins_not, keeps_then}
 use Rattle.rmp_encode.proofs.Leaves.{bytes_from}
 use Rattle.rmp_encode.proofs.Parts.{part_or}
 use Rattle.rmp_encode.proofs.Variants.{made_newtype, last_written}
-use Rattle.rmp_encode.proofs.Refusals.{of_cause, of_long, of_sink, on_part, refuses_length}
+use Rattle.rmp_encode.proofs.Refusals.{long_first, of_cause, of_long, of_sink, on_part, refuses_length}
 use Rattle.rmp_encode.proofs.Markers.{after_both, before_first, before_long}
 use Rattle.rmp_encode.specs.Ser.{sink_of}
 use Rattle.rmp_encode.proofs.serializer.Serializer.serialize_newtype_variant.Goals as goal
@@ -39,7 +39,7 @@ returns-clause-keeps g c = keeps_then g.W.Sink c.put_variant.ensures.keeps c.ser
 pub returns-in_err-fits_u32-clause-error : goal.returns-in_err-fits_u32-clause-error
 returns-in_err-fits_u32-clause-error g c =
     let p = err_from_is_err_and c.from_residual.result c.from_residual.ensures.1 in
-    rw (p.1, p.2) (inr (of_long _ c.in_err-fits_u32.ensures.refused c.in_err-fits_u32.ensures.long))
+    rw (p.1, p.2) (inr (of_long _ c.in_err-fits_u32.ensures.refused (long_first (length c.args.variant.now) [] c.in_err-fits_u32.ensures.long)))
 
 pub returns-in_err-fits_u32-clause-long : goal.returns-in_err-fits_u32-clause-long
 returns-in_err-fits_u32-clause-long g c = λ le.

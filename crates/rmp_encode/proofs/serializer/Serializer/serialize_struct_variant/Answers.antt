@@ -1,4 +1,4 @@
-use Rattle.std.proofs.Common.{arith, rules, refl, subst}
+use Rattle.std.proofs.Common.{length, arith, rules, refl, subst}
 use Rattle.std.proofs.lemmas.Result.{err_from_is_err_and}
 use Rattle.rmp_wire.specs.Spelling.{IsBytes}
 use Rattle.rmp_encode.proofs.Fields.{many_fields}
@@ -9,6 +9,7 @@ use Rattle.rmp_encode.specs.Going.{head_at}
 use Rattle.rmp_encode.specs.Ser.{sink_of}
 use Rattle.rmp_encode.specs.Trees.{variant_items}
 use Rattle.rmp_encode.specs.Writes.{FirstAtMarker}
+use Rattle.rmp_encode.proofs.Refusals.{long_not, of_weaker}
 use Rattle.rmp_encode.proofs.serializer.Serializer.serialize_struct_variant.Goals as goal
 
 pub returns-in_err-open_variant : goal.returns-in_err-open_variant
@@ -22,7 +23,7 @@ returns-in_err-open_variant g c =
         record {
           keeps = c.open_variant.ensures.keeps;
           refused = c.in_err-open_variant.ensures.stays;
-          error = c.in_err-open_variant.ensures.error;
+          error = of_weaker (long_not (length c.args.variant.now) c.args.len) _ c.in_err-open_variant.ensures.error;
           long = c.in_err-open_variant.ensures.long;
           marker = subst (λ named. FirstAtMarker g.W.Sink {A = Unit {0}} (variant_items c.args.variant.now (head_at named c.args.len)) (sink_of c.args.self.now)
               (sink_of c.open_variant.new.self) (Err c.in_err-open_variant.field-0.0)) c.is_named.ensures c.in_err-open_variant.ensures.marker;

@@ -1,4 +1,4 @@
-use Rattle.std.proofs.Common.{arith}
+use Rattle.std.proofs.Common.{arith, length, ◌∷◌}
 use Rattle.std.specs.Prelude.{◌||◌}
 use Rattle.std.proofs.lemmas.Result.{err_from_is_err_and}
 use Rattle.std.specs.List.{flat_map}
@@ -8,6 +8,8 @@ use Rattle.rmp_encode.proofs.Going.{all_written, keeps_then}
 use Rattle.rmp_encode.proofs.Leaves.{bytes_from}
 use Rattle.rmp_encode.proofs.Variants.{made_struct_variant}
 use Rattle.rmp_encode.proofs.Parts.{part_or}
+use Rattle.rmp_encode.proofs.Refusals.{long_both, long_after, of_no_part, of_weaker, on_parts_weaker}
+use Rattle.rmp_encode.specs.Refusals.{lengths}
 use Rattle.rmp_encode.proofs.serializer.Serializer.serialize_struct_variant_of.Goals as goal
 
 pub returns-in_err-open_variant-clause-writes : goal.returns-in_err-open_variant-clause-writes
@@ -27,3 +29,12 @@ returns-clause-writes g c =
 
 pub returns-clause-keeps : goal.returns-clause-keeps
 returns-clause-keeps g c = keeps_then g.W.Sink c.open_variant.ensures.keeps c.write_fields.ensures.keeps
+
+pub returns-in_err-open_variant-clause-error : goal.returns-in_err-open_variant-clause-error
+returns-in_err-open_variant-clause-error g c =
+    let p = err_from_is_err_and c.from_residual.result c.from_residual.ensures.1 in
+    rw (p.1, p.2) (of_no_part _ (g.E.Elements.refusals c.args.elements.now) _ (of_weaker (long_both (length c.args.variant.now) g.E.Elements.count (lengths c.args.names.now)) _ (rw c.len.ensures at c.in_err-open_variant.ensures.error)))
+
+pub returns-clause-error : goal.returns-clause-error
+returns-clause-error g c = on_parts_weaker (λ h. long_after (length c.args.variant.now) (g.E.Elements.count ∷ lengths c.args.names.now)
+    (long_after g.E.Elements.count (lengths c.args.names.now) h)) (g.E.Elements.refusals c.args.elements.now) c.write_fields.result c.write_fields.ensures.error

@@ -1,8 +1,9 @@
-use Rattle.std.proofs.Common.{arith, rules, refl}
+use Rattle.std.proofs.Common.{length, arith, rules, refl}
 use Rattle.std.proofs.lemmas.Result.{err_from_is_err_and}
 use Rattle.rmp_wire.specs.Spelling.{IsBytes}
 use Rattle.rmp_encode.proofs.Leaves.{bytes_from}
 use Rattle.rmp_encode.proofs.Variants.{made_tuple_variant}
+use Rattle.rmp_encode.proofs.Refusals.{long_not, of_weaker}
 use Rattle.rmp_encode.proofs.serializer.Serializer.serialize_tuple_variant.Goals as goal
 
 pub returns-in_err-open_variant : goal.returns-in_err-open_variant
@@ -16,7 +17,7 @@ returns-in_err-open_variant g c =
         record {
           keeps = c.open_variant.ensures.keeps;
           refused = c.in_err-open_variant.ensures.stays;
-          error = c.in_err-open_variant.ensures.error;
+          error = of_weaker (long_not (length c.args.variant.now) c.args.len) _ c.in_err-open_variant.ensures.error;
           long = c.in_err-open_variant.ensures.long;
           marker = c.in_err-open_variant.ensures.marker;
           writes = λ all e. c.in_err-open_variant.ensures.begins _ _ (made_tuple_variant _ c.args.variant.now c.args.len all is_bytes e);

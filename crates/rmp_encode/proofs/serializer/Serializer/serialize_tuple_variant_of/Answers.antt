@@ -5,6 +5,7 @@ use Rattle.rmp_encode.proofs.Going.{all_written, keeps_then}
 use Rattle.rmp_encode.proofs.Leaves.{bytes_from}
 use Rattle.rmp_encode.proofs.Variants.{made_tuple_variant}
 use Rattle.rmp_encode.proofs.Parts.{part_or}
+use Rattle.rmp_encode.proofs.Refusals.{of_no_part, on_parts_weaker}
 use Rattle.rmp_encode.proofs.serializer.Serializer.serialize_tuple_variant_of.Goals as goal
 
 pub returns-in_err-open_variant-clause-writes : goal.returns-in_err-open_variant-clause-writes
@@ -24,3 +25,11 @@ returns-clause-writes g c =
 
 pub returns-clause-keeps : goal.returns-clause-keeps
 returns-clause-keeps g c = keeps_then g.W.Sink c.open_variant.ensures.keeps c.write.ensures.keeps
+
+pub returns-in_err-open_variant-clause-error : goal.returns-in_err-open_variant-clause-error
+returns-in_err-open_variant-clause-error g c =
+    let p = err_from_is_err_and c.from_residual.result c.from_residual.ensures.1 in
+    rw (p.1, p.2) (of_no_part _ (g.E.Elements.refusals c.args.elements.now) _ (rw c.len.ensures at c.in_err-open_variant.ensures.error))
+
+pub returns-clause-error : goal.returns-clause-error
+returns-clause-error g c = on_parts_weaker absurd (g.E.Elements.refusals c.args.elements.now) c.write.result c.write.ensures.error

@@ -1,4 +1,4 @@
-use Rattle.std.proofs.Common.{◌∷◌, []}
+use Rattle.std.proofs.Common.{inl, inr, ◌∷◌, []}
 use Rattle.std.specs.Prelude.{◌||◌, Ok, Err}
 use Rattle.std.proofs.lemmas.Result.{err_from_is_err_and}
 use Rattle.rmp_encode.specs.Ser.{settings_of}
@@ -14,6 +14,11 @@ returns-in_err-serialize-clause-writes g c =
     (goes g.W.Sink (λ s. g.E1.Serialize.takes_memory s || g.W.Sink.takes_memory) (λ s. g.E1.Serialize.data_of c.args.self.now.first.now s.human) _ _ (Err _)
     c.serialize.ensures.keeps c.in_err-serialize.ensures.writes old t _ h))
 
+pub returns-in_err-serialize-clause-error : goal.returns-in_err-serialize-clause-error
+returns-in_err-serialize-clause-error g c =
+    let p = err_from_is_err_and c.from_residual.result c.from_residual.ensures.1 in
+    rw (p.1, p.2) (inl c.in_err-serialize.ensures.error)
+
 pub returns-in_err-serialize-2-clause-writes : goal.returns-in_err-serialize-2-clause-writes
 returns-in_err-serialize-2-clause-writes g c =
     let p = err_from_is_err_and c.from_residual-in_err-serialize-2.result c.from_residual-in_err-serialize-2.ensures.1 in
@@ -23,6 +28,11 @@ returns-in_err-serialize-2-clause-writes g c =
     (Err _) c.serialize-2.ensures.keeps c.in_err-serialize-2.ensures.writes old t _
     (goes g.W.Sink (λ s. g.E1.Serialize.takes_memory s || g.W.Sink.takes_memory) (λ s. g.E1.Serialize.data_of c.args.self.now.first.now s.human) _ _
     (Ok _) c.serialize.ensures.keeps c.in_ok-serialize.ensures.writes old t _ h)))
+
+pub returns-in_err-serialize-2-clause-error : goal.returns-in_err-serialize-2-clause-error
+returns-in_err-serialize-2-clause-error g c =
+    let p = err_from_is_err_and c.from_residual-in_err-serialize-2.result c.from_residual-in_err-serialize-2.ensures.1 in
+    rw (p.1, p.2) (inr (inl c.in_err-serialize-2.ensures.error))
 
 pub returns-in_err-serialize-2-clause-keeps : goal.returns-in_err-serialize-2-clause-keeps
 returns-in_err-serialize-2-clause-keeps g c = (keeps_then g.W.Sink c.serialize.ensures.keeps c.serialize-2.ensures.keeps)

@@ -4,6 +4,8 @@ use Rattle.rmp_encode.specs.Ser.{settings_of}
 use Rattle.rmp_encode.proofs.Fields.{next_named}
 use Rattle.rmp_encode.proofs.Going.{keeps_then}
 use Rattle.rmp_encode.proofs.Parts.{one_of_or, part_takes}
+use Rattle.rmp_encode.proofs.Refusals.{long_name, of_back, of_front, parts_weaker}
+use Rattle.rmp_encode.specs.Refusals.{lengths, AnyLong}
 use Rattle.rmp_encode.proofs.elements.kinds.BothElements.write_fields.Goals as goal
 
 pub returns-in_err-put_field-clause-writes : goal.returns-in_err-put_field-clause-writes
@@ -15,6 +17,14 @@ returns-in_err-put_field-clause-writes g c =
     (g.E1.Serialize.data_of c.args.self.now.first.now (settings_of old).human)
     (g.E2.Serialize.data_of c.args.self.now.second.now (settings_of old).human ∷ []) rest (omega (arith, c.requires)) h)))
 
+pub returns-in_err-put_field-clause-error : goal.returns-in_err-put_field-clause-error
+returns-in_err-put_field-clause-error g c =
+    let p = err_from_is_err_and c.from_residual.result c.from_residual.ensures.1 in
+    rw (p.1, p.2) (of_front (AnyLong (lengths c.args.names.now)) (g.E1.Serialize.refuses c.args.self.now.first.now ∷ [])
+    (g.E2.Serialize.refuses c.args.self.now.second.now ∷ []) _
+    (parts_weaker (long_name c.args.names.now 0 _ (omega (arith, c.requires))) (g.E1.Serialize.refuses c.args.self.now.first.now ∷ []) _
+    c.in_err-put_field.ensures.error))
+
 pub returns-in_err-put_field-2-clause-writes : goal.returns-in_err-put_field-2-clause-writes
 returns-in_err-put_field-2-clause-writes g c =
     let p = err_from_is_err_and c.from_residual-in_err-put_field-2.result c.from_residual-in_err-put_field-2.ensures.1 in
@@ -25,6 +35,14 @@ returns-in_err-put_field-2-clause-writes g c =
     (c.in_ok-put_field.ensures.writes old t _ (next_named g.W.Sink c.args.names.now 0 _
     (g.E1.Serialize.data_of c.args.self.now.first.now (settings_of old).human)
     (g.E2.Serialize.data_of c.args.self.now.second.now (settings_of old).human ∷ []) rest (omega (arith, c.requires)) h)))))
+
+pub returns-in_err-put_field-2-clause-error : goal.returns-in_err-put_field-2-clause-error
+returns-in_err-put_field-2-clause-error g c =
+    let p = err_from_is_err_and c.from_residual-in_err-put_field-2.result c.from_residual-in_err-put_field-2.ensures.1 in
+    rw (p.1, p.2) (of_back (AnyLong (lengths c.args.names.now)) (g.E1.Serialize.refuses c.args.self.now.first.now ∷ [])
+    (g.E2.Serialize.refuses c.args.self.now.second.now ∷ []) _
+    (parts_weaker (long_name c.args.names.now 1 _ (omega (arith, c.requires))) (g.E2.Serialize.refuses c.args.self.now.second.now ∷ []) _
+    c.in_err-put_field-2.ensures.error))
 
 pub returns-in_err-put_field-2-clause-keeps : goal.returns-in_err-put_field-2-clause-keeps
 returns-in_err-put_field-2-clause-keeps g c = (keeps_then g.W.Sink c.put_field.ensures.keeps c.put_field-2.ensures.keeps)

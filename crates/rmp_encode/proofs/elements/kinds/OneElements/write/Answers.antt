@@ -1,4 +1,4 @@
-use Rattle.std.proofs.Common.{◌∷◌, []}
+use Rattle.std.proofs.Common.{inl, ◌∷◌, []}
 use Rattle.std.specs.Prelude.{◌||◌, Ok, Err}
 use Rattle.std.proofs.lemmas.Result.{err_from_is_err_and}
 use Rattle.rmp_encode.specs.Ser.{settings_of}
@@ -12,6 +12,11 @@ returns-in_err-serialize-clause-writes g c =
     rw (p.1, p.2) (λ old t rest h. part_takes g.W.Sink _ (one_of_or g.W.Sink.takes_memory (g.E1.Serialize.takes_memory (settings_of old) ∷ []) 0)
     (goes g.W.Sink (λ s. g.E1.Serialize.takes_memory s || g.W.Sink.takes_memory) (λ s. g.E1.Serialize.data_of c.args.self.now.first.now s.human) _ _ (Err _)
     c.serialize.ensures.keeps c.in_err-serialize.ensures.writes old t _ h))
+
+pub returns-in_err-serialize-clause-error : goal.returns-in_err-serialize-clause-error
+returns-in_err-serialize-clause-error g c =
+    let p = err_from_is_err_and c.from_residual.result c.from_residual.ensures.1 in
+    rw (p.1, p.2) (inl c.in_err-serialize.ensures.error)
 
 pub returns-clause-writes : goal.returns-clause-writes
 returns-clause-writes g c = λ old t rest h. (goes g.W.Sink (λ s. g.E1.Serialize.takes_memory s || g.W.Sink.takes_memory)

@@ -3,6 +3,7 @@ use Rattle.std.proofs.lemmas.Result.{err_from_is_err_and}
 use Rattle.rmp_encode.specs.Ser.{settings_of}
 use Rattle.rmp_encode.proofs.Fields.{next_named}
 use Rattle.rmp_encode.proofs.Parts.{one_of_or, part_takes}
+use Rattle.rmp_encode.proofs.Refusals.{long_name, parts_weaker}
 use Rattle.rmp_encode.proofs.elements.kinds.OneElements.write_fields.Goals as goal
 
 pub returns-in_err-put_field-clause-writes : goal.returns-in_err-put_field-clause-writes
@@ -11,6 +12,12 @@ returns-in_err-put_field-clause-writes g c =
     rw (p.1, p.2) (λ old t rest h. part_takes g.W.Sink _ (one_of_or g.W.Sink.takes_memory (g.E1.Serialize.takes_memory (settings_of old) ∷ []) 0)
     (c.in_err-put_field.ensures.writes old t _ (next_named g.W.Sink c.args.names.now 0 _
     (g.E1.Serialize.data_of c.args.self.now.first.now (settings_of old).human) [] rest (omega (arith, c.requires)) h)))
+
+pub returns-in_err-put_field-clause-error : goal.returns-in_err-put_field-clause-error
+returns-in_err-put_field-clause-error g c =
+    let p = err_from_is_err_and c.from_residual.result c.from_residual.ensures.1 in
+    rw (p.1, p.2) (parts_weaker (long_name c.args.names.now 0 _ (omega (arith, c.requires))) (g.E1.Serialize.refuses c.args.self.now.first.now ∷ []) _
+    c.in_err-put_field.ensures.error)
 
 pub returns-clause-writes : goal.returns-clause-writes
 returns-clause-writes g c = λ old t rest h. (c.in_ok-put_field.ensures.writes old t _
