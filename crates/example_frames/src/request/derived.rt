@@ -8,6 +8,7 @@ ghost use Rattle.rmp_decode.specs.Rows.{AndThen, NoMore};
 ghost use Rattle.rmp_decode.specs.Seq.{OfRow};
 ghost use Rattle.rmp_decode.specs.Variants.{OfVariant, Case, NoCase, Bare, Content};
 ghost use Rattle.rmp_encode.specs.Data.{unit_variant};
+ghost use Rattle.rmp_encode.specs.Refusals.{OfParts, OfSink};
 ghost use Rattle.rmp_encode.specs.Sizes.{one_of};
 ghost use Rattle.rmp_encode.specs.Trees.{newtype_variant_of, tuple_variant_of};
 ghost use Rattle.rmp_serde.specs.LeafRounds.{unsigned_row_64};
@@ -48,6 +49,13 @@ impl Serialize for Request {
 
     ghost takes_memory = { λ s. one_of (false ∷ (⟦<u64 as Serialize>⟧.takes_memory s
         ∷ (one_of (⟦<u64 as Serialize>⟧.takes_memory s ∷ (⟦<Value as Serialize>⟧.takes_memory s ∷ [])) ∷ []))) };
+
+    ghost refuses = { λ v. elim v [
+      | the_request.Ping ↦ OfSink
+      | the_request.Get a1 ↦ OfParts ⊥ (⟦<u64 as Serialize>⟧.refuses a1 ∷ [])
+      | the_request.Put a1
+          a2 ↦ OfParts ⊥ (⟦<u64 as Serialize>⟧.refuses a1 ∷ (⟦<Value as Serialize>⟧.refuses a2 ∷ []))
+    ] };
 
     #[tactic(auto, unfolding(rmp_encode::specs::Data::lower))]
     fn serialize<W: Sink, C: SerializerConfig>(

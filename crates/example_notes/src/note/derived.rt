@@ -5,6 +5,7 @@ ghost use Rattle.rmp_decode.specs.FieldRefusing.{RefusesFields};
 ghost use Rattle.rmp_decode.specs.Fields.{OfFields, Field, Absent, NoField};
 ghost use Rattle.rmp_decode.specs.ReadFields.{reads_2};
 ghost use Rattle.rmp_decode.specs.Refusing.{part_of};
+ghost use Rattle.rmp_encode.specs.Refusals.{OfParts};
 ghost use Rattle.rmp_encode.specs.Sizes.{one_of};
 ghost use Rattle.rmp_encode.specs.Trees.{structure_of};
 ghost use Rattle.rmp_serde.specs.LeafRounds.{string_row};
@@ -30,6 +31,8 @@ impl Serialize for Note {
     ghost is_value = { λ v. ⟦<String as Serialize>⟧.is_value v.title × ⟦<String as Serialize>⟧.is_value v.text };
 
     ghost takes_memory = { λ s. one_of (⟦<String as Serialize>⟧.takes_memory s ∷ (⟦<String as Serialize>⟧.takes_memory s ∷ [])) };
+
+    ghost refuses = { λ v. OfParts ⊥ (⟦<String as Serialize>⟧.refuses v.title ∷ (⟦<String as Serialize>⟧.refuses v.text ∷ [])) };
 
     fn serialize<W: Sink, C: SerializerConfig>(
         &self,

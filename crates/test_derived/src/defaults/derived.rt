@@ -12,6 +12,7 @@ ghost use Rattle.rmp_decode.specs.Refusing.{part_of};
 ghost use Rattle.rmp_decode.specs.Rows.{ReadsEach};
 ghost use Rattle.rmp_decode.specs.Variants.{OfVariant, Case, NoCase, Bare};
 ghost use Rattle.rmp_encode.specs.Data.{unit_variant};
+ghost use Rattle.rmp_encode.specs.Refusals.{OfParts, OfSink};
 ghost use Rattle.rmp_encode.specs.Sizes.{one_of};
 ghost use Rattle.rmp_encode.specs.Trees.{structure_of};
 ghost use Rattle.rmp_round_trip.specs.LeafRounds.{byte_row, unsigned_row_16, unsigned_row_32, unsigned_row_64, signed_row_8, signed_row_32};
@@ -46,6 +47,8 @@ impl Serialize for Level {
     ghost is_value = { λ v. elim v [ the_level.Quiet ↦ ⊤ | the_level.Loud ↦ ⊤ ] };
 
     ghost takes_memory = { λ s. false };
+
+    ghost refuses = { λ v. OfSink };
 
     #[tactic(auto, unfolding(rmp_encode::specs::Data::lower))]
     fn serialize<W: Sink, C: SerializerConfig>(
@@ -140,6 +143,12 @@ impl Serialize for Server {
         ∷ (⟦<i8 as Serialize>⟧.takes_memory s ∷ (⟦<Option<String> as Serialize>⟧.takes_memory s
         ∷ (⟦<bool as Serialize>⟧.takes_memory s ∷ (⟦<char as Serialize>⟧.takes_memory s
         ∷ (⟦<(u16, u16) as Serialize>⟧.takes_memory s ∷ (⟦<Level as Serialize>⟧.takes_memory s ∷ []))))))))) };
+
+    ghost refuses = { λ v. OfParts ⊥ (⟦<String as Serialize>⟧.refuses v.host
+        ∷ (⟦<u16 as Serialize>⟧.refuses v.port ∷ (⟦<i32 as Serialize>⟧.refuses v.tries
+        ∷ (⟦<i8 as Serialize>⟧.refuses v.shift ∷ (⟦<Option<String> as Serialize>⟧.refuses v.note
+        ∷ (⟦<bool as Serialize>⟧.refuses v.open ∷ (⟦<char as Serialize>⟧.refuses v.sign
+        ∷ (⟦<(u16, u16) as Serialize>⟧.refuses v.corner ∷ (⟦<Level as Serialize>⟧.refuses v.level ∷ []))))))))) };
 
     fn serialize<W: Sink, C: SerializerConfig>(
         &self,
@@ -393,6 +402,10 @@ impl Serialize for Lists {
         ∷ (⟦<Vec<u16> as Serialize>⟧.takes_memory s ∷ (⟦<BTreeMap<String, u64> as Serialize>⟧.takes_memory s
         ∷ (⟦<BTreeSet<u32> as Serialize>⟧.takes_memory s ∷ (⟦<ByteBuf as Serialize>⟧.takes_memory s ∷ []))))) };
 
+    ghost refuses = { λ v. OfParts ⊥ (⟦<String as Serialize>⟧.refuses v.name
+        ∷ (⟦<Vec<u16> as Serialize>⟧.refuses v.list ∷ (⟦<BTreeMap<String, u64> as Serialize>⟧.refuses v.counts
+        ∷ (⟦<BTreeSet<u32> as Serialize>⟧.refuses v.seen ∷ (⟦<ByteBuf as Serialize>⟧.refuses v.raw ∷ []))))) };
+
     fn serialize<W: Sink, C: SerializerConfig>(
         &self,
         se: &mut Serializer<W, C>,
@@ -559,6 +572,8 @@ impl Serialize for Once {
 
     ghost takes_memory = { λ s. one_of (⟦<u8 as Serialize>⟧.takes_memory s ∷ []) };
 
+    ghost refuses = { λ v. OfParts ⊥ (⟦<u8 as Serialize>⟧.refuses v.times ∷ []) };
+
     fn serialize<W: Sink, C: SerializerConfig>(
         &self,
         se: &mut Serializer<W, C>,
@@ -659,6 +674,9 @@ impl<
 
     ghost are_values = { λ v. E1.is_value v.first.now × E2.is_value v.second.now × E3.is_value v.third.now × E4.is_value v.fourth.now
         × E5.is_value v.fifth.now × E6.is_value v.sixth.now × E7.is_value v.seventh.now × E8.is_value v.eighth.now × E9.is_value v.ninth.now };
+
+    ghost refusals = { λ v. E1.refuses v.first.now ∷ E2.refuses v.second.now ∷ E3.refuses v.third.now ∷ E4.refuses v.fourth.now ∷ E5.refuses v.fifth.now
+        ∷ E6.refuses v.sixth.now ∷ E7.refuses v.seventh.now ∷ E8.refuses v.eighth.now ∷ E9.refuses v.ninth.now ∷ [] };
 
     ghost takes_memory = { λ s. one_of (E1.takes_memory s
         ∷ (E2.takes_memory s ∷ (E3.takes_memory s ∷ (E4.takes_memory s

@@ -12,6 +12,7 @@ ghost use Rattle.rmp_decode.specs.Rows.{AndThen, NoMore};
 ghost use Rattle.rmp_decode.specs.Seq.{OfRow};
 ghost use Rattle.rmp_decode.specs.Variants.{OfVariant, Case, NoCase, Bare, Content};
 ghost use Rattle.rmp_encode.specs.Data.{unit_variant};
+ghost use Rattle.rmp_encode.specs.Refusals.{OfParts, OfSink};
 ghost use Rattle.rmp_encode.specs.Sizes.{one_of};
 ghost use Rattle.rmp_encode.specs.Trees.{newtype_variant_of, tuple_variant_of, struct_variant_of};
 ghost use Rattle.rmp_round_trip.specs.LeafRounds.{byte_row, unsigned_row_16, unsigned_row_32, string_row};
@@ -47,6 +48,12 @@ impl Serialize for V12 {
     ghost is_value = { λ v. elim v [ the_v12.V1 ↦ ⊤ | the_v12.V2 a1 a2 ↦ ⟦<u32 as Serialize>⟧.is_value a1 × ⟦<u32 as Serialize>⟧.is_value a2 ] };
 
     ghost takes_memory = { λ s. one_of (false ∷ (one_of (⟦<u32 as Serialize>⟧.takes_memory s ∷ (⟦<u32 as Serialize>⟧.takes_memory s ∷ [])) ∷ [])) };
+
+    ghost refuses = { λ v. elim v [
+      | the_v12.V1 ↦ OfSink
+      | the_v12.V2 a1 a2 ↦ OfParts ⊥
+          (⟦<u32 as Serialize>⟧.refuses a1 ∷ (⟦<u32 as Serialize>⟧.refuses a2 ∷ []))
+    ] };
 
     #[tactic(auto, unfolding(rmp_encode::specs::Data::lower))]
     fn serialize<W: Sink, C: SerializerConfig>(
@@ -159,6 +166,8 @@ impl Serialize for Two {
 
     ghost takes_memory = { λ s. false };
 
+    ghost refuses = { λ v. OfSink };
+
     #[tactic(auto, unfolding(rmp_encode::specs::Data::lower))]
     fn serialize<W: Sink, C: SerializerConfig>(
         &self,
@@ -255,6 +264,15 @@ impl Serialize for Four {
     ghost takes_memory = { λ s. one_of (false ∷ (⟦<u8 as Serialize>⟧.takes_memory s
         ∷ (one_of (⟦<u8 as Serialize>⟧.takes_memory s ∷ (⟦<u16 as Serialize>⟧.takes_memory s ∷ []))
         ∷ (one_of (⟦<u8 as Serialize>⟧.takes_memory s ∷ (⟦<String as Serialize>⟧.takes_memory s ∷ [])) ∷ [])))) };
+
+    ghost refuses = { λ v. elim v [
+      | the_four.Unit ↦ OfSink
+      | the_four.New a1 ↦ OfParts ⊥ (⟦<u8 as Serialize>⟧.refuses a1 ∷ [])
+      | the_four.Tup a1 a2 ↦
+          OfParts ⊥ (⟦<u8 as Serialize>⟧.refuses a1 ∷ (⟦<u16 as Serialize>⟧.refuses a2 ∷ []))
+      | the_four.Str a1 a2 ↦ OfParts ⊥
+          (⟦<u8 as Serialize>⟧.refuses a1 ∷ (⟦<String as Serialize>⟧.refuses a2 ∷ []))
+    ] };
 
     #[tactic(auto, unfolding(rmp_encode::specs::Data::lower))]
     fn serialize<W: Sink, C: SerializerConfig>(
@@ -452,6 +470,12 @@ impl<T: Serialize> Serialize for Mixed<T> {
 
     ghost takes_memory = { λ s. one_of (T.takes_memory s
         ∷ (one_of (⟦<Option<Four> as Serialize>⟧.takes_memory s ∷ (⟦<Dog as Serialize>⟧.takes_memory s ∷ [])) ∷ [])) };
+
+    ghost refuses = { λ v. elim v [
+      | the_mixed.Other a1 ↦ OfParts ⊥ (T.refuses a1 ∷ [])
+      | the_mixed.Kept a1 a2 ↦ OfParts ⊥
+          (⟦<Option<Four> as Serialize>⟧.refuses a1 ∷ (⟦<Dog as Serialize>⟧.refuses a2 ∷ []))
+    ] };
 
     fn serialize<W: Sink, C: SerializerConfig>(
         &self,

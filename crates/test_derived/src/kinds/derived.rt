@@ -16,6 +16,7 @@ ghost use Rattle.rmp_decode.specs.Refusing.{RefusesTuple, part_of};
 ghost use Rattle.rmp_decode.specs.Rows.{AndThen, NoMore, ReadsEach};
 ghost use Rattle.rmp_decode.specs.Seq.{OfRow};
 ghost use Rattle.rmp_decode.specs.Variants.{OfVariant, Case, NoCase, Content};
+ghost use Rattle.rmp_encode.specs.Refusals.{OfParts};
 ghost use Rattle.rmp_encode.specs.Sizes.{one_of};
 ghost use Rattle.rmp_encode.specs.Trees.{wrapped_of, sequence_of, structure_of, newtype_variant_of, struct_variant_of, tree_of};
 ghost use Rattle.rmp_round_trip.specs.LeafRounds.{byte_row, unsigned_row_16, unsigned_row_64, signed_row_8, signed_row_16};
@@ -55,6 +56,8 @@ impl<T: Serialize> Serialize for Pair<T> {
     ghost is_value = { λ v. T.is_value v.0 × T.is_value v.1 };
 
     ghost takes_memory = { λ s. one_of (T.takes_memory s ∷ (T.takes_memory s ∷ [])) };
+
+    ghost refuses = { λ v. OfParts ⊥ (T.refuses v.0 ∷ (T.refuses v.1 ∷ [])) };
 
     fn serialize<W: Sink, C: SerializerConfig>(
         &self,
@@ -137,6 +140,12 @@ impl<T: Serialize> Serialize for Either<T> {
 
     ghost takes_memory = { λ s. one_of (T.takes_memory s
         ∷ (one_of (⟦<i32 as Serialize>⟧.takes_memory s ∷ (⟦<Option<Pair<T>> as Serialize>⟧.takes_memory s ∷ [])) ∷ [])) };
+
+    ghost refuses = { λ v. elim v [
+      | the_either.Left a1 ↦ OfParts ⊥ (T.refuses a1 ∷ [])
+      | the_either.Right a1 a2 ↦ OfParts ⊥
+          (⟦<i32 as Serialize>⟧.refuses a1 ∷ (⟦<Option<Pair<T>> as Serialize>⟧.refuses a2 ∷ []))
+    ] };
 
     fn serialize<W: Sink, C: SerializerConfig>(
         &self,
@@ -295,6 +304,9 @@ impl<K: Serialize + Ord> Serialize for Sorted<K> {
     ghost takes_memory = { λ s. one_of (⟦<BTreeMap<String, Dog> as Serialize>⟧.takes_memory s
         ∷ (⟦<BTreeMap<K, u64> as Serialize>⟧.takes_memory s ∷ (⟦<BTreeSet<i16> as Serialize>⟧.takes_memory s ∷ []))) };
 
+    ghost refuses = { λ v. OfParts ⊥ (⟦<BTreeMap<String, Dog> as Serialize>⟧.refuses v.dogs
+        ∷ (⟦<BTreeMap<K, u64> as Serialize>⟧.refuses v.counts ∷ (⟦<BTreeSet<i16> as Serialize>⟧.refuses v.numbers ∷ []))) };
+
     fn serialize<W: Sink, C: SerializerConfig>(
         &self,
         se: &mut Serializer<W, C>,
@@ -449,6 +461,10 @@ impl Serialize for Kennel {
     ghost takes_memory = { λ s. one_of (⟦<Vec<Dog> as Serialize>⟧.takes_memory s
         ∷ (⟦<Box<Four> as Serialize>⟧.takes_memory s ∷ (⟦<Pair<Opt> as Serialize>⟧.takes_memory s
         ∷ (⟦<Option<Either<bool>> as Serialize>⟧.takes_memory s ∷ [])))) };
+
+    ghost refuses = { λ v. OfParts ⊥ (⟦<Vec<Dog> as Serialize>⟧.refuses v.dogs
+        ∷ (⟦<Box<Four> as Serialize>⟧.refuses v.four ∷ (⟦<Pair<Opt> as Serialize>⟧.refuses v.pair
+        ∷ (⟦<Option<Either<bool>> as Serialize>⟧.refuses v.either ∷ [])))) };
 
     fn serialize<W: Sink, C: SerializerConfig>(
         &self,
@@ -688,6 +704,9 @@ impl Serialize for Row {
     ghost takes_memory = { λ s. one_of (⟦<VecDeque<(char, i8)> as Serialize>⟧.takes_memory s
         ∷ (⟦<[u16; 3] as Serialize>⟧.takes_memory s ∷ (⟦<Kennel as Serialize>⟧.takes_memory s ∷ []))) };
 
+    ghost refuses = { λ v. OfParts ⊥ (⟦<VecDeque<(char, i8)> as Serialize>⟧.refuses v.left
+        ∷ (⟦<[u16; 3] as Serialize>⟧.refuses v.far ∷ (⟦<Kennel as Serialize>⟧.refuses v.kennel ∷ []))) };
+
     fn serialize<W: Sink, C: SerializerConfig>(
         &self,
         se: &mut Serializer<W, C>,
@@ -819,6 +838,8 @@ impl Serialize for Chosen {
 
     ghost takes_memory = { λ s. ⟦<Either<u8> as Serialize>⟧.takes_memory s };
 
+    ghost refuses = { λ v. ⟦<Either<u8> as Serialize>⟧.refuses v.0 };
+
     fn serialize<W: Sink, C: SerializerConfig>(
         &self,
         se: &mut Serializer<W, C>,
@@ -948,6 +969,8 @@ impl Serialize for Guests {
     ghost is_value = { λ v. ⟦<Counted<Opt> as Serialize>⟧.is_value v.counted × ⟦<Mixed<bool> as Serialize>⟧.is_value v.mixed };
 
     ghost takes_memory = { λ s. one_of (⟦<Counted<Opt> as Serialize>⟧.takes_memory s ∷ (⟦<Mixed<bool> as Serialize>⟧.takes_memory s ∷ [])) };
+
+    ghost refuses = { λ v. OfParts ⊥ (⟦<Counted<Opt> as Serialize>⟧.refuses v.counted ∷ (⟦<Mixed<bool> as Serialize>⟧.refuses v.mixed ∷ [])) };
 
     fn serialize<W: Sink, C: SerializerConfig>(
         &self,

@@ -9,6 +9,7 @@ ghost use Rattle.rmp_decode.specs.ReadFields.{reads_3};
 ghost use Rattle.rmp_decode.specs.Refusing.{part_of};
 ghost use Rattle.rmp_decode.specs.Variants.{OfVariant, Case, NoCase, Bare, Content};
 ghost use Rattle.rmp_encode.specs.Data.{unit_variant};
+ghost use Rattle.rmp_encode.specs.Refusals.{OfParts, OfSink};
 ghost use Rattle.rmp_encode.specs.Sizes.{one_of};
 ghost use Rattle.rmp_encode.specs.Trees.{structure_of, newtype_variant_of, struct_variant_of};
 ghost use Rattle.rmp_round_trip.specs.LeafRounds.{byte_row, unsigned_row_16, unsigned_row_64, string_row, pos_other};
@@ -40,6 +41,9 @@ impl Serialize for Parcel {
 
     ghost takes_memory = { λ s. one_of (⟦<String as Serialize>⟧.takes_memory s
         ∷ (⟦<u8 as Serialize>⟧.takes_memory s ∷ (⟦<Option<u64> as Serialize>⟧.takes_memory s ∷ []))) };
+
+    ghost refuses = { λ v. OfParts ⊥ (⟦<String as Serialize>⟧.refuses v.sent_by
+        ∷ (⟦<u8 as Serialize>⟧.refuses v.kind ∷ (⟦<Option<u64> as Serialize>⟧.refuses v.paid_at ∷ []))) };
 
     fn serialize<W: Sink, C: SerializerConfig>(
         &self,
@@ -158,6 +162,14 @@ impl Serialize for Way {
 
     ghost takes_memory = { λ s. one_of (false ∷ (one_of (⟦<u8 as Serialize>⟧.takes_memory s ∷ (⟦<String as Serialize>⟧.takes_memory s ∷ []))
         ∷ (⟦<u16 as Serialize>⟧.takes_memory s ∷ []))) };
+
+    ghost refuses = { λ v. elim v [
+      | the_way.ByAir ↦ OfSink
+      | the_way.OverLand a1 a2 ↦ OfParts ⊥
+          (⟦<u8 as Serialize>⟧.refuses a1 ∷ (⟦<String as Serialize>⟧.refuses a2 ∷ []))
+      | the_way.AcrossTheSea a1 ↦ OfParts ⊥
+          (⟦<u16 as Serialize>⟧.refuses a1 ∷ [])
+    ] };
 
     #[tactic(auto, unfolding(rmp_encode::specs::Data::lower))]
     fn serialize<W: Sink, C: SerializerConfig>(

@@ -15,6 +15,7 @@ ghost use Rattle.rmp_decode.specs.Rows.{AndThen, NoMore};
 ghost use Rattle.rmp_decode.specs.Seq.{OfRow};
 ghost use Rattle.rmp_decode.specs.Units.{IsNothing, not_nothing};
 ghost use Rattle.rmp_encode.specs.Data.{unit_struct};
+ghost use Rattle.rmp_encode.specs.Refusals.{OfParts, OfSink};
 ghost use Rattle.rmp_encode.specs.Sizes.{one_of};
 ghost use Rattle.rmp_encode.specs.Trees.{wrapped_of, sequence_of, structure_of};
 ghost use Rattle.rmp_round_trip.specs.LeafRounds.{byte_row, unsigned_row_16, unsigned_row_32, unsigned_row_64, string_row, byte_other, pos_other};
@@ -42,6 +43,8 @@ impl Serialize for Dog {
     ghost is_value = { λ v. ⟦<String as Serialize>⟧.is_value v.name × ⟦<u16 as Serialize>⟧.is_value v.age };
 
     ghost takes_memory = { λ s. one_of (⟦<String as Serialize>⟧.takes_memory s ∷ (⟦<u16 as Serialize>⟧.takes_memory s ∷ [])) };
+
+    ghost refuses = { λ v. OfParts ⊥ (⟦<String as Serialize>⟧.refuses v.name ∷ (⟦<u16 as Serialize>⟧.refuses v.age ∷ [])) };
 
     fn serialize<W: Sink, C: SerializerConfig>(
         &self,
@@ -128,6 +131,8 @@ impl Serialize for Opt {
 
     ghost takes_memory = { λ s. one_of (⟦<Option<u8> as Serialize>⟧.takes_memory s ∷ []) };
 
+    ghost refuses = { λ v. OfParts ⊥ (⟦<Option<u8> as Serialize>⟧.refuses v.v ∷ []) };
+
     fn serialize<W: Sink, C: SerializerConfig>(
         &self,
         se: &mut Serializer<W, C>,
@@ -204,6 +209,8 @@ impl Serialize for Point {
 
     ghost takes_memory = { λ s. one_of (⟦<u32 as Serialize>⟧.takes_memory s ∷ (⟦<String as Serialize>⟧.takes_memory s ∷ [])) };
 
+    ghost refuses = { λ v. OfParts ⊥ (⟦<u32 as Serialize>⟧.refuses v.0 ∷ (⟦<String as Serialize>⟧.refuses v.1 ∷ [])) };
+
     fn serialize<W: Sink, C: SerializerConfig>(
         &self,
         se: &mut Serializer<W, C>,
@@ -278,6 +285,8 @@ impl Serialize for Newtype {
 
     ghost takes_memory = { λ s. ⟦<u64 as Serialize>⟧.takes_memory s };
 
+    ghost refuses = { λ v. ⟦<u64 as Serialize>⟧.refuses v.0 };
+
     fn serialize<W: Sink, C: SerializerConfig>(
         &self,
         se: &mut Serializer<W, C>,
@@ -340,6 +349,8 @@ impl Serialize for Unit {
 
     ghost takes_memory = { λ s. false };
 
+    ghost refuses = { λ v. OfSink };
+
     #[tactic(auto, unfolding(rmp_encode::specs::Data::lower))]
     fn serialize<W: Sink, C: SerializerConfig>(
         &self,
@@ -396,6 +407,8 @@ impl<T: Serialize> Serialize for Counted<T> {
     ghost is_value = { λ v. T.is_value v.value × ⟦<u64 as Serialize>⟧.is_value v.count };
 
     ghost takes_memory = { λ s. one_of (T.takes_memory s ∷ (⟦<u64 as Serialize>⟧.takes_memory s ∷ [])) };
+
+    ghost refuses = { λ v. OfParts ⊥ (T.refuses v.value ∷ (⟦<u64 as Serialize>⟧.refuses v.count ∷ [])) };
 
     fn serialize<W: Sink, C: SerializerConfig>(
         &self,

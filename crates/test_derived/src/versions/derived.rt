@@ -6,6 +6,7 @@ ghost use Rattle.rmp_decode.specs.FieldRefusing.{RefusesFields};
 ghost use Rattle.rmp_decode.specs.Fields.{OfFields, Field, Absent, NoField};
 ghost use Rattle.rmp_decode.specs.ReadFields.{reads_2, reads_3};
 ghost use Rattle.rmp_decode.specs.Refusing.{part_of};
+ghost use Rattle.rmp_encode.specs.Refusals.{OfParts};
 ghost use Rattle.rmp_encode.specs.Sizes.{one_of};
 ghost use Rattle.rmp_encode.specs.Trees.{structure_of};
 ghost use Rattle.rmp_round_trip.specs.LeafRounds.{unsigned_row_16, string_row, text_other};
@@ -32,6 +33,8 @@ impl Serialize for First {
     ghost is_value = { λ v. ⟦<String as Serialize>⟧.is_value v.place × ⟦<u16 as Serialize>⟧.is_value v.level };
 
     ghost takes_memory = { λ s. one_of (⟦<String as Serialize>⟧.takes_memory s ∷ (⟦<u16 as Serialize>⟧.takes_memory s ∷ [])) };
+
+    ghost refuses = { λ v. OfParts ⊥ (⟦<String as Serialize>⟧.refuses v.place ∷ (⟦<u16 as Serialize>⟧.refuses v.level ∷ [])) };
 
     fn serialize<W: Sink, C: SerializerConfig>(
         &self,
@@ -121,6 +124,9 @@ impl Serialize for Second {
 
     ghost takes_memory = { λ s. one_of (⟦<u16 as Serialize>⟧.takes_memory s
         ∷ (⟦<Option<String> as Serialize>⟧.takes_memory s ∷ (⟦<String as Serialize>⟧.takes_memory s ∷ []))) };
+
+    ghost refuses = { λ v. OfParts ⊥ (⟦<u16 as Serialize>⟧.refuses v.level
+        ∷ (⟦<Option<String> as Serialize>⟧.refuses v.note ∷ (⟦<String as Serialize>⟧.refuses v.place ∷ []))) };
 
     fn serialize<W: Sink, C: SerializerConfig>(
         &self,

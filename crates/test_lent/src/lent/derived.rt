@@ -13,6 +13,7 @@ ghost use Rattle.rmp_decode.specs.Rows.{AndThen, NoMore, ReadsEach};
 ghost use Rattle.rmp_decode.specs.Seq.{OfRow};
 ghost use Rattle.rmp_decode.specs.Variants.{OfVariant, Case, NoCase, Bare, Content};
 ghost use Rattle.rmp_encode.specs.Data.{unit_variant};
+ghost use Rattle.rmp_encode.specs.Refusals.{OfParts, OfSink};
 ghost use Rattle.rmp_encode.specs.Ser.{sink_of, settings_of};
 ghost use Rattle.rmp_encode.specs.Sizes.{one_of};
 ghost use Rattle.rmp_encode.specs.Trees.{wrapped_of, sequence_of, structure_of, newtype_variant_of, tuple_variant_of, struct_variant_of, tree_of};
@@ -32,7 +33,7 @@ ghost use Rattle.rmp_round_trip.specs.VariantRounds.{newtype_some, newtype_varia
 ghost use Rattle.rmp_round_trip.specs.VariantRounds.{newtype_variant_row, tuple_variant_row, struct_variant_row, newtype_other};
 ghost use Rattle.rmp_wire.specs.Types.{bytes_of};
 ghost use Rattle.std.proofs.Common.{refl};
-ghost use Rattle.std.specs.Prelude.{◌≡◌, ◌∷◌, [], None, Some, codes, false, ⊤, OnOk, ◌||◌, true, pos, negsuc};
+ghost use Rattle.std.specs.Prelude.{◌≡◌, ◌∷◌, [], None, Some, codes, false, ⊤, OnOk, IfErr, ◌||◌, true, pos, negsuc};
 ghost use Rattle.test_lent.specs.declared.lent.Event.TheVariants as the_event;
 
 use super::{Bytes, Event, Label, Line, Piece};
@@ -65,6 +66,7 @@ fn put_line<
         ∷ ((codes "tags", E3.data_of third.now (settings_of se.old).human) ∷ ((codes "source", E4.data_of fourth.now (settings_of se.old).human) ∷ []))))))
         (sink_of se.old) (sink_of se.new) result }
     ensures keeps { Keeps W.Sink se.old se.new }
+    ensures error { IfErr result (OfParts ⊥ (E1.refuses first.now ∷ (E2.refuses second.now ∷ (E3.refuses third.now ∷ (E4.refuses fourth.now ∷ []))))) }
     ensures value { OnOk result (E1.is_value first.now × E2.is_value second.now × E3.is_value third.now × E4.is_value fourth.now) }
 {
     let parts = rmp_encode::Four {
@@ -88,6 +90,10 @@ impl<'a> Serialize for Line<'a> {
     ghost takes_memory = { λ s. one_of (⟦<u8 as Serialize>⟧.takes_memory s
         ∷ (⟦<&'a str as Serialize>⟧.takes_memory s ∷ (⟦<Vec<&'a str> as Serialize>⟧.takes_memory s
         ∷ (⟦<Option<&'a str> as Serialize>⟧.takes_memory s ∷ [])))) };
+
+    ghost refuses = { λ v. OfParts ⊥ (⟦<u8 as Serialize>⟧.refuses v.level
+        ∷ (⟦<&'a str as Serialize>⟧.refuses v.text ∷ (⟦<Vec<&'a str> as Serialize>⟧.refuses v.tags
+        ∷ (⟦<Option<&'a str> as Serialize>⟧.refuses v.source ∷ [])))) };
 
     fn serialize<W: Sink, C: SerializerConfig>(
         &self,
@@ -221,6 +227,8 @@ impl<'a> Serialize for Label<'a> {
 
     ghost takes_memory = { λ s. ⟦<&'a str as Serialize>⟧.takes_memory s };
 
+    ghost refuses = { λ v. ⟦<&'a str as Serialize>⟧.refuses v.0 };
+
     fn serialize<W: Sink, C: SerializerConfig>(
         &self,
         se: &mut Serializer<W, C>,
@@ -289,6 +297,7 @@ fn put_piece<W: Sink, C: SerializerConfig, E1: Serialize, E2: Serialize>(
         (tree_of (settings_of se.old) (sequence_of (E1.data_of first.now (settings_of se.old).human
         ∷ (E2.data_of second.now (settings_of se.old).human ∷ [])))) (sink_of se.old) (sink_of se.new) result }
     ensures keeps { Keeps W.Sink se.old se.new }
+    ensures error { IfErr result (OfParts ⊥ (E1.refuses first.now ∷ (E2.refuses second.now ∷ []))) }
     ensures value { OnOk result (E1.is_value first.now × E2.is_value second.now) }
 {
     let parts = rmp_encode::Both { first, second };
@@ -301,6 +310,8 @@ impl<'a> Serialize for Piece<'a> {
     ghost is_value = { λ v. ⟦<Bytes<'a> as Serialize>⟧.is_value v.0 × ⟦<u32 as Serialize>⟧.is_value v.1 };
 
     ghost takes_memory = { λ s. one_of (⟦<Bytes<'a> as Serialize>⟧.takes_memory s ∷ (⟦<u32 as Serialize>⟧.takes_memory s ∷ [])) };
+
+    ghost refuses = { λ v. OfParts ⊥ (⟦<Bytes<'a> as Serialize>⟧.refuses v.0 ∷ (⟦<u32 as Serialize>⟧.refuses v.1 ∷ [])) };
 
     fn serialize<W: Sink, C: SerializerConfig>(
         &self,
@@ -381,6 +392,7 @@ fn put_event_moved<W: Sink, C: SerializerConfig, E1: Serialize, E2: Serialize>(
         (E1.data_of first.now (settings_of se.old).human ∷ (E2.data_of second.now (settings_of se.old).human ∷ [])))) (sink_of se.old) (sink_of se.new)
         result }
     ensures keeps { Keeps W.Sink se.old se.new }
+    ensures error { IfErr result (OfParts ⊥ (E1.refuses first.now ∷ (E2.refuses second.now ∷ []))) }
     ensures value { OnOk result (E1.is_value first.now × E2.is_value second.now) }
 {
     let parts = rmp_encode::Both { first, second };
@@ -399,6 +411,7 @@ fn put_event_put<W: Sink, C: SerializerConfig, E1: Serialize, E2: Serialize>(
         ((codes "key", E1.data_of first.now (settings_of se.old).human) ∷ ((codes "size", E2.data_of second.now (settings_of se.old).human) ∷ []))))
         (sink_of se.old) (sink_of se.new) result }
     ensures keeps { Keeps W.Sink se.old se.new }
+    ensures error { IfErr result (OfParts ⊥ (E1.refuses first.now ∷ (E2.refuses second.now ∷ []))) }
     ensures value { OnOk result (E1.is_value first.now × E2.is_value second.now) }
 {
     let parts = rmp_encode::Both { first, second };
@@ -431,6 +444,16 @@ impl<'a, T: Serialize> Serialize for Event<'a, T> {
     ghost takes_memory = { λ s. one_of (false ∷ (⟦<&'a str as Serialize>⟧.takes_memory s
         ∷ (one_of (⟦<i16 as Serialize>⟧.takes_memory s ∷ (⟦<Label<'a> as Serialize>⟧.takes_memory s ∷ []))
         ∷ (one_of (⟦<&'a str as Serialize>⟧.takes_memory s ∷ (⟦<u32 as Serialize>⟧.takes_memory s ∷ [])) ∷ (T.takes_memory s ∷ []))))) };
+
+    ghost refuses = { λ v. elim v [
+      | the_event.Started ↦ OfSink
+      | the_event.Said a1 ↦ OfParts ⊥ (⟦<&'a str as Serialize>⟧.refuses a1 ∷ [])
+      | the_event.Moved
+          a1 a2 ↦ OfParts ⊥ (⟦<i16 as Serialize>⟧.refuses a1 ∷ (⟦<Label<'a> as Serialize>⟧.refuses a2 ∷ []))
+      | the_event.Put a1 a2 ↦ OfParts ⊥
+          (⟦<&'a str as Serialize>⟧.refuses a1 ∷ (⟦<u32 as Serialize>⟧.refuses a2 ∷ []))
+      | the_event.Held a1 ↦ OfParts ⊥ (T.refuses a1 ∷ [])
+    ] };
 
     #[tactic(auto, unfolding(rmp_encode::specs::Data::lower))]
     fn serialize<W: Sink, C: SerializerConfig>(

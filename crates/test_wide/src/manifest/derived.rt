@@ -7,6 +7,7 @@ ghost use Rattle.rmp_decode.specs.Fields.{OfFields, Field, Absent, NoField};
 ghost use Rattle.rmp_decode.specs.Refusing.{part_of};
 ghost use Rattle.rmp_decode.specs.Rows.{ReadsEach};
 ghost use Rattle.rmp_decode.specs.declared.access.fields.eight.EightThen.{EightThen};
+ghost use Rattle.rmp_encode.specs.Refusals.{OfParts};
 ghost use Rattle.rmp_encode.specs.Sizes.{one_of};
 ghost use Rattle.rmp_encode.specs.Trees.{structure_of};
 ghost use Rattle.rmp_round_trip.specs.LeafRounds.{byte_row, unsigned_row_16, unsigned_row_32, unsigned_row_64, signed_row_16, signed_row_64, truth_row};
@@ -76,6 +77,19 @@ impl Serialize for Manifest {
         ∷ (⟦<Vec<String> as Serialize>⟧.takes_memory s ∷ (⟦<i16 as Serialize>⟧.takes_memory s
         ∷ (⟦<i128 as Serialize>⟧.takes_memory s ∷ (⟦<BTreeSet<u16> as Serialize>⟧.takes_memory s
         ∷ (⟦<bool as Serialize>⟧.takes_memory s ∷ [])))))))))))))))))))) };
+
+    ghost refuses = { λ v. OfParts ⊥ (⟦<String as Serialize>⟧.refuses v.ship
+        ∷ (⟦<Course as Serialize>⟧.refuses v.course ∷ (⟦<Vec<(u8, String)> as Serialize>⟧.refuses v.crew
+        ∷ (⟦<u128 as Serialize>⟧.refuses v.seal ∷ (⟦<() as Serialize>⟧.refuses v.nothing
+        ∷ (⟦<char as Serialize>⟧.refuses v.flag ∷ (⟦<Spot as Serialize>⟧.refuses v.spot
+        ∷ (⟦<BTreeMap<String, u64> as Serialize>⟧.refuses v.cargo
+        ∷ (⟦<[u16; 3] as Serialize>⟧.refuses v.depths ∷ (⟦<Option<Spot> as Serialize>⟧.refuses v.last
+        ∷ (⟦<ByteBuf as Serialize>⟧.refuses v.chart ∷ (⟦<(i64, Option<bool>) as Serialize>⟧.refuses v.pair
+        ∷ (⟦<Option<String> as Serialize>⟧.refuses v.owner
+        ∷ (⟦<u32 as Serialize>⟧.refuses v.tonnage ∷ (⟦<F64Bits as Serialize>⟧.refuses v.draught
+        ∷ (⟦<Vec<String> as Serialize>⟧.refuses v.ports ∷ (⟦<i16 as Serialize>⟧.refuses v.heading
+        ∷ (⟦<i128 as Serialize>⟧.refuses v.debt ∷ (⟦<BTreeSet<u16> as Serialize>⟧.refuses v.berths
+        ∷ (⟦<bool as Serialize>⟧.refuses v.done ∷ [])))))))))))))))))))) };
 
     fn serialize<W: Sink, C: SerializerConfig>(
         &self,
@@ -656,6 +670,10 @@ impl<
         × E5.is_value v.fifth.now × E6.is_value v.sixth.now × E7.is_value v.seventh.now × E8.is_value v.eighth.now × E9.is_value v.ninth.now
         × E10.is_value v.tenth.now × E11.is_value v.eleventh.now × E12.is_value v.twelfth.now };
 
+    ghost refusals = { λ v. E1.refuses v.first.now ∷ E2.refuses v.second.now ∷ E3.refuses v.third.now ∷ E4.refuses v.fourth.now ∷ E5.refuses v.fifth.now
+        ∷ E6.refuses v.sixth.now ∷ E7.refuses v.seventh.now ∷ E8.refuses v.eighth.now ∷ E9.refuses v.ninth.now ∷ E10.refuses v.tenth.now
+        ∷ E11.refuses v.eleventh.now ∷ E12.refuses v.twelfth.now ∷ [] };
+
     ghost takes_memory = { λ s. one_of (E1.takes_memory s
         ∷ (E2.takes_memory s ∷ (E3.takes_memory s ∷ (E4.takes_memory s
         ∷ (E5.takes_memory s ∷ (E6.takes_memory s ∷ (E7.takes_memory s
@@ -827,6 +845,12 @@ impl<
         × E10.is_value v.tenth.now × E11.is_value v.eleventh.now × E12.is_value v.twelfth.now × E13.is_value v.thirteenth.now
         × E14.is_value v.fourteenth.now × E15.is_value v.fifteenth.now × E16.is_value v.sixteenth.now × E17.is_value v.seventeenth.now
         × E18.is_value v.eighteenth.now × E19.is_value v.nineteenth.now × E20.is_value v.twentieth.now };
+
+    ghost refusals = { λ v. E1.refuses v.first.now ∷ E2.refuses v.second.now ∷ E3.refuses v.third.now ∷ E4.refuses v.fourth.now ∷ E5.refuses v.fifth.now
+        ∷ E6.refuses v.sixth.now ∷ E7.refuses v.seventh.now ∷ E8.refuses v.eighth.now ∷ E9.refuses v.ninth.now ∷ E10.refuses v.tenth.now
+        ∷ E11.refuses v.eleventh.now ∷ E12.refuses v.twelfth.now ∷ E13.refuses v.thirteenth.now ∷ E14.refuses v.fourteenth.now ∷ E15.refuses v.fifteenth.now
+        ∷ E16.refuses v.sixteenth.now ∷ E17.refuses v.seventeenth.now ∷ E18.refuses v.eighteenth.now ∷ E19.refuses v.nineteenth.now
+        ∷ E20.refuses v.twentieth.now ∷ [] };
 
     ghost takes_memory = { λ s. one_of (E1.takes_memory s
         ∷ (E2.takes_memory s ∷ (E3.takes_memory s ∷ (E4.takes_memory s

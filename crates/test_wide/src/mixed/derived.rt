@@ -13,6 +13,7 @@ ghost use Rattle.rmp_decode.specs.Rows.{AndThen, NoMore, ReadsEach};
 ghost use Rattle.rmp_decode.specs.Seq.{OfRow};
 ghost use Rattle.rmp_decode.specs.Variants.{OfVariant, Case, NoCase, Bare, Content};
 ghost use Rattle.rmp_encode.specs.Data.{unit_variant};
+ghost use Rattle.rmp_encode.specs.Refusals.{OfParts, OfSink};
 ghost use Rattle.rmp_encode.specs.Sizes.{one_of};
 ghost use Rattle.rmp_encode.specs.Trees.{structure_of, newtype_variant_of, tuple_variant_of, struct_variant_of};
 ghost use Rattle.rmp_round_trip.specs.LeafRounds.{byte_row, unsigned_row_16, unsigned_row_64, signed_row_32, signed_row_64, truth_row, unit_row};
@@ -68,6 +69,14 @@ impl Serialize for Course {
     ghost takes_memory = { λ s. one_of (false ∷ (⟦<String as Serialize>⟧.takes_memory s
         ∷ (one_of (⟦<u16 as Serialize>⟧.takes_memory s ∷ (⟦<i32 as Serialize>⟧.takes_memory s ∷ []))
         ∷ (one_of (⟦<F64Bits as Serialize>⟧.takes_memory s ∷ (⟦<[u8; 2] as Serialize>⟧.takes_memory s ∷ [])) ∷ [])))) };
+
+    ghost refuses = { λ v. elim v [
+      | the_course.Moored ↦ OfSink
+      | the_course.Toward a1 ↦ OfParts ⊥ (⟦<String as Serialize>⟧.refuses a1 ∷ [])
+      | the_course.Between a1 a2 ↦ OfParts ⊥ (⟦<u16 as Serialize>⟧.refuses a1 ∷ (⟦<i32 as Serialize>⟧.refuses a2 ∷ []))
+      | the_course.By a1 a2 ↦ OfParts ⊥
+          (⟦<F64Bits as Serialize>⟧.refuses a1 ∷ (⟦<[u8; 2] as Serialize>⟧.refuses a2 ∷ []))
+    ] };
 
     #[tactic(auto, unfolding(rmp_encode::specs::Data::lower))]
     fn serialize<W: Sink, C: SerializerConfig>(
@@ -270,6 +279,8 @@ impl Serialize for Spot {
 
     ghost takes_memory = { λ s. one_of (⟦<i32 as Serialize>⟧.takes_memory s ∷ (⟦<Option<char> as Serialize>⟧.takes_memory s ∷ [])) };
 
+    ghost refuses = { λ v. OfParts ⊥ (⟦<i32 as Serialize>⟧.refuses v.north ∷ (⟦<Option<char> as Serialize>⟧.refuses v.name ∷ [])) };
+
     fn serialize<W: Sink, C: SerializerConfig>(
         &self,
         se: &mut Serializer<W, C>,
@@ -384,6 +395,14 @@ impl Serialize for Voyage {
         ∷ (⟦<BTreeMap<String, u64> as Serialize>⟧.takes_memory s
         ∷ (⟦<[u16; 3] as Serialize>⟧.takes_memory s ∷ (⟦<Option<Spot> as Serialize>⟧.takes_memory s
         ∷ (⟦<ByteBuf as Serialize>⟧.takes_memory s ∷ (⟦<(i64, Option<bool>) as Serialize>⟧.takes_memory s ∷ [])))))))))))) };
+
+    ghost refuses = { λ v. OfParts ⊥ (⟦<String as Serialize>⟧.refuses v.ship
+        ∷ (⟦<Course as Serialize>⟧.refuses v.course ∷ (⟦<Vec<(u8, String)> as Serialize>⟧.refuses v.crew
+        ∷ (⟦<u128 as Serialize>⟧.refuses v.seal ∷ (⟦<() as Serialize>⟧.refuses v.nothing
+        ∷ (⟦<char as Serialize>⟧.refuses v.flag ∷ (⟦<Spot as Serialize>⟧.refuses v.spot
+        ∷ (⟦<BTreeMap<String, u64> as Serialize>⟧.refuses v.cargo
+        ∷ (⟦<[u16; 3] as Serialize>⟧.refuses v.depths ∷ (⟦<Option<Spot> as Serialize>⟧.refuses v.last
+        ∷ (⟦<ByteBuf as Serialize>⟧.refuses v.chart ∷ (⟦<(i64, Option<bool>) as Serialize>⟧.refuses v.pair ∷ [])))))))))))) };
 
     fn serialize<W: Sink, C: SerializerConfig>(
         &self,
@@ -781,6 +800,10 @@ impl<
     ghost are_values = { λ v. E1.is_value v.first.now × E2.is_value v.second.now × E3.is_value v.third.now × E4.is_value v.fourth.now
         × E5.is_value v.fifth.now × E6.is_value v.sixth.now × E7.is_value v.seventh.now × E8.is_value v.eighth.now × E9.is_value v.ninth.now
         × E10.is_value v.tenth.now × E11.is_value v.eleventh.now × E12.is_value v.twelfth.now };
+
+    ghost refusals = { λ v. E1.refuses v.first.now ∷ E2.refuses v.second.now ∷ E3.refuses v.third.now ∷ E4.refuses v.fourth.now ∷ E5.refuses v.fifth.now
+        ∷ E6.refuses v.sixth.now ∷ E7.refuses v.seventh.now ∷ E8.refuses v.eighth.now ∷ E9.refuses v.ninth.now ∷ E10.refuses v.tenth.now
+        ∷ E11.refuses v.eleventh.now ∷ E12.refuses v.twelfth.now ∷ [] };
 
     ghost takes_memory = { λ s. one_of (E1.takes_memory s
         ∷ (E2.takes_memory s ∷ (E3.takes_memory s ∷ (E4.takes_memory s

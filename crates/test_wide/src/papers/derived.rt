@@ -7,6 +7,7 @@ ghost use Rattle.rmp_decode.specs.Fields.{OfFields, Field, Absent, NoField};
 ghost use Rattle.rmp_decode.specs.ReadFields.{reads_9};
 ghost use Rattle.rmp_decode.specs.Refusing.{part_of};
 ghost use Rattle.rmp_decode.specs.Rows.{ReadsEach};
+ghost use Rattle.rmp_encode.specs.Refusals.{OfParts};
 ghost use Rattle.rmp_encode.specs.Sizes.{one_of};
 ghost use Rattle.rmp_encode.specs.Trees.{structure_of};
 ghost use Rattle.rmp_round_trip.specs.LeafRounds.{byte_row, unsigned_row_16, unsigned_row_32, unsigned_row_64, signed_row_8, signed_row_16};
@@ -47,6 +48,12 @@ impl Serialize for Papers {
         ∷ (⟦<Option<u64> as Serialize>⟧.takes_memory s ∷ (⟦<Option<u64> as Serialize>⟧.takes_memory s
         ∷ (⟦<Option<u64> as Serialize>⟧.takes_memory s ∷ (⟦<u8 as Serialize>⟧.takes_memory s
         ∷ (⟦<i8 as Serialize>⟧.takes_memory s ∷ (⟦<bool as Serialize>⟧.takes_memory s ∷ []))))))))) };
+
+    ghost refuses = { λ v. OfParts ⊥ (⟦<u64 as Serialize>⟧.refuses v.number
+        ∷ (⟦<String as Serialize>⟧.refuses v.name ∷ (⟦<u16 as Serialize>⟧.refuses v.born
+        ∷ (⟦<Option<u64> as Serialize>⟧.refuses v.chip ∷ (⟦<Option<u64> as Serialize>⟧.refuses v.mother
+        ∷ (⟦<Option<u64> as Serialize>⟧.refuses v.father ∷
+        (⟦<u8 as Serialize>⟧.refuses v.weight ∷ (⟦<i8 as Serialize>⟧.refuses v.height ∷ (⟦<bool as Serialize>⟧.refuses v.vaccinated ∷ []))))))))) };
 
     fn serialize<W: Sink, C: SerializerConfig>(
         &self,
@@ -319,6 +326,15 @@ impl Serialize for Chart {
         ∷ (⟦<Option<u64> as Serialize>⟧.takes_memory s ∷ (⟦<Option<String> as Serialize>⟧.takes_memory s
         ∷ (⟦<Vec<u16> as Serialize>⟧.takes_memory s ∷ (⟦<Vec<String> as Serialize>⟧.takes_memory s
         ∷ (⟦<u32 as Serialize>⟧.takes_memory s ∷ (⟦<u32 as Serialize>⟧.takes_memory s ∷ (⟦<String as Serialize>⟧.takes_memory s ∷ [])))))))))))))))) };
+
+    ghost refuses = { λ v. OfParts ⊥ (⟦<u64 as Serialize>⟧.refuses v.number
+        ∷ (⟦<String as Serialize>⟧.refuses v.name ∷ (⟦<u16 as Serialize>⟧.refuses v.born
+        ∷ (⟦<u8 as Serialize>⟧.refuses v.weight ∷ (⟦<i8 as Serialize>⟧.refuses v.height
+        ∷ (⟦<i16 as Serialize>⟧.refuses v.fever ∷ (⟦<i32 as Serialize>⟧.refuses v.offset
+        ∷ (⟦<i64 as Serialize>⟧.refuses v.balance ∷ (⟦<bool as Serialize>⟧.refuses v.neutered
+        ∷ (⟦<Option<u64> as Serialize>⟧.refuses v.chip ∷ (⟦<Option<String> as Serialize>⟧.refuses v.owner
+        ∷ (⟦<Vec<u16> as Serialize>⟧.refuses v.shots ∷ (⟦<Vec<String> as Serialize>⟧.refuses v.notes
+        ∷ (⟦<u32 as Serialize>⟧.refuses v.heart ∷ (⟦<u32 as Serialize>⟧.refuses v.lungs ∷ (⟦<String as Serialize>⟧.refuses v.last ∷ [])))))))))))))))) };
 
     fn serialize<W: Sink, C: SerializerConfig>(
         &self,
@@ -714,6 +730,9 @@ impl<
     ghost are_values = { λ v. E1.is_value v.first.now × E2.is_value v.second.now × E3.is_value v.third.now × E4.is_value v.fourth.now
         × E5.is_value v.fifth.now × E6.is_value v.sixth.now × E7.is_value v.seventh.now × E8.is_value v.eighth.now × E9.is_value v.ninth.now };
 
+    ghost refusals = { λ v. E1.refuses v.first.now ∷ E2.refuses v.second.now ∷ E3.refuses v.third.now ∷ E4.refuses v.fourth.now ∷ E5.refuses v.fifth.now
+        ∷ E6.refuses v.sixth.now ∷ E7.refuses v.seventh.now ∷ E8.refuses v.eighth.now ∷ E9.refuses v.ninth.now ∷ [] };
+
     ghost takes_memory = { λ s. one_of (E1.takes_memory s
         ∷ (E2.takes_memory s ∷ (E3.takes_memory s ∷ (E4.takes_memory s
         ∷ (E5.takes_memory s ∷ (E6.takes_memory s ∷ (E7.takes_memory s ∷ (E8.takes_memory s ∷ (E9.takes_memory s ∷ []))))))))) };
@@ -820,6 +839,11 @@ impl<
         × E5.is_value v.fifth.now × E6.is_value v.sixth.now × E7.is_value v.seventh.now × E8.is_value v.eighth.now × E9.is_value v.ninth.now
         × E10.is_value v.tenth.now × E11.is_value v.eleventh.now × E12.is_value v.twelfth.now × E13.is_value v.thirteenth.now
         × E14.is_value v.fourteenth.now × E15.is_value v.fifteenth.now × E16.is_value v.sixteenth.now };
+
+    ghost refusals = { λ v. E1.refuses v.first.now ∷ E2.refuses v.second.now ∷ E3.refuses v.third.now ∷ E4.refuses v.fourth.now ∷ E5.refuses v.fifth.now
+        ∷ E6.refuses v.sixth.now ∷ E7.refuses v.seventh.now ∷ E8.refuses v.eighth.now ∷ E9.refuses v.ninth.now ∷ E10.refuses v.tenth.now
+        ∷ E11.refuses v.eleventh.now ∷ E12.refuses v.twelfth.now ∷ E13.refuses v.thirteenth.now ∷ E14.refuses v.fourteenth.now ∷ E15.refuses v.fifteenth.now
+        ∷ E16.refuses v.sixteenth.now ∷ [] };
 
     ghost takes_memory = { λ s. one_of (E1.takes_memory s
         ∷ (E2.takes_memory s ∷ (E3.takes_memory s ∷ (E4.takes_memory s

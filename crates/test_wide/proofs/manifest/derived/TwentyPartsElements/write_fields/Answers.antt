@@ -5,6 +5,8 @@ use Rattle.rmp_encode.specs.Ser.{sink_of, settings_of}
 use Rattle.rmp_encode.proofs.Fields.{named_halves}
 use Rattle.rmp_encode.proofs.Going.{going_more, keeps_then}
 use Rattle.rmp_encode.proofs.Parts.{front_or, back_or, part_takes}
+use Rattle.rmp_encode.proofs.Refusals.{long_rest, long_take, of_front, on_back, on_parts_weaker, parts_weaker}
+use Rattle.rmp_encode.specs.Refusals.{lengths, AnyLong}
 use Rattle.test_wide.proofs.manifest.derived.TwentyPartsElements.write_fields.Goals as goal
 
 pub returns-in_err-write_fields-clause-writes : goal.returns-in_err-write_fields-clause-writes
@@ -88,3 +90,68 @@ returns-clause-writes g c = λ old t rest h. going_more g.W.Sink (IsWriting g.W.
 
 pub returns-clause-keeps : goal.returns-clause-keeps
 returns-clause-keeps g c = keeps_then g.W.Sink c.write_fields.ensures.keeps c.write_fields-2.ensures.keeps
+
+pub returns-in_err-write_fields-clause-error : goal.returns-in_err-write_fields-clause-error
+returns-in_err-write_fields-clause-error g c =
+    let p = err_from_is_err_and c.from_residual.result c.from_residual.ensures.1 in
+    rw (p.1, p.2) (of_front (AnyLong (lengths c.args.names.now))
+    (g.E1.Serialize.refuses c.args.self.now.first.now ∷
+    (g.E2.Serialize.refuses c.args.self.now.second.now
+    ∷ (g.E3.Serialize.refuses c.args.self.now.third.now
+    ∷ (g.E4.Serialize.refuses c.args.self.now.fourth.now
+    ∷ (g.E5.Serialize.refuses c.args.self.now.fifth.now
+    ∷ (g.E6.Serialize.refuses c.args.self.now.sixth.now
+    ∷ (g.E7.Serialize.refuses c.args.self.now.seventh.now ∷ (g.E8.Serialize.refuses c.args.self.now.eighth.now ∷ []))))))))
+    (g.E9.Serialize.refuses c.args.self.now.ninth.now ∷
+    (g.E10.Serialize.refuses c.args.self.now.tenth.now
+    ∷ (g.E11.Serialize.refuses c.args.self.now.eleventh.now
+    ∷ (g.E12.Serialize.refuses c.args.self.now.twelfth.now
+    ∷ (g.E13.Serialize.refuses c.args.self.now.thirteenth.now
+    ∷ (g.E14.Serialize.refuses c.args.self.now.fourteenth.now
+    ∷ (g.E15.Serialize.refuses c.args.self.now.fifteenth.now
+    ∷ (g.E16.Serialize.refuses c.args.self.now.sixteenth.now
+    ∷ (g.E17.Serialize.refuses c.args.self.now.seventeenth.now
+    ∷ (g.E18.Serialize.refuses c.args.self.now.eighteenth.now
+    ∷ (g.E19.Serialize.refuses c.args.self.now.nineteenth.now ∷ (g.E20.Serialize.refuses c.args.self.now.twentieth.now ∷ [])))))))))))) _
+    (parts_weaker (long_take 8 c.args.names.now) (g.E1.Serialize.refuses c.args.self.now.first.now
+    ∷ (g.E2.Serialize.refuses c.args.self.now.second.now
+    ∷ (g.E3.Serialize.refuses c.args.self.now.third.now
+    ∷ (g.E4.Serialize.refuses c.args.self.now.fourth.now
+    ∷ (g.E5.Serialize.refuses c.args.self.now.fifth.now
+    ∷ (g.E6.Serialize.refuses c.args.self.now.sixth.now
+    ∷ (g.E7.Serialize.refuses c.args.self.now.seventh.now ∷ (g.E8.Serialize.refuses c.args.self.now.eighth.now ∷ [])))))))) _
+    c.in_err-write_fields.ensures.error))
+
+pub returns-clause-error : goal.returns-clause-error
+returns-clause-error g c = on_back (AnyLong (lengths c.args.names.now))
+    (g.E1.Serialize.refuses c.args.self.now.first.now ∷
+    (g.E2.Serialize.refuses c.args.self.now.second.now
+    ∷ (g.E3.Serialize.refuses c.args.self.now.third.now
+    ∷ (g.E4.Serialize.refuses c.args.self.now.fourth.now
+    ∷ (g.E5.Serialize.refuses c.args.self.now.fifth.now
+    ∷ (g.E6.Serialize.refuses c.args.self.now.sixth.now
+    ∷ (g.E7.Serialize.refuses c.args.self.now.seventh.now ∷ (g.E8.Serialize.refuses c.args.self.now.eighth.now ∷ []))))))))
+    (g.E9.Serialize.refuses c.args.self.now.ninth.now ∷
+    (g.E10.Serialize.refuses c.args.self.now.tenth.now
+    ∷ (g.E11.Serialize.refuses c.args.self.now.eleventh.now
+    ∷ (g.E12.Serialize.refuses c.args.self.now.twelfth.now
+    ∷ (g.E13.Serialize.refuses c.args.self.now.thirteenth.now
+    ∷ (g.E14.Serialize.refuses c.args.self.now.fourteenth.now
+    ∷ (g.E15.Serialize.refuses c.args.self.now.fifteenth.now
+    ∷ (g.E16.Serialize.refuses c.args.self.now.sixteenth.now
+    ∷ (g.E17.Serialize.refuses c.args.self.now.seventeenth.now
+    ∷ (g.E18.Serialize.refuses c.args.self.now.eighteenth.now
+    ∷ (g.E19.Serialize.refuses c.args.self.now.nineteenth.now ∷ (g.E20.Serialize.refuses c.args.self.now.twentieth.now ∷ []))))))))))))
+    c.write_fields-2.result (on_parts_weaker (long_rest 8 _ c.args.names.now)
+    (g.E9.Serialize.refuses c.args.self.now.ninth.now ∷
+    (g.E10.Serialize.refuses c.args.self.now.tenth.now
+    ∷ (g.E11.Serialize.refuses c.args.self.now.eleventh.now
+    ∷ (g.E12.Serialize.refuses c.args.self.now.twelfth.now
+    ∷ (g.E13.Serialize.refuses c.args.self.now.thirteenth.now
+    ∷ (g.E14.Serialize.refuses c.args.self.now.fourteenth.now
+    ∷ (g.E15.Serialize.refuses c.args.self.now.fifteenth.now
+    ∷ (g.E16.Serialize.refuses c.args.self.now.sixteenth.now
+    ∷ (g.E17.Serialize.refuses c.args.self.now.seventeenth.now
+    ∷ (g.E18.Serialize.refuses c.args.self.now.eighteenth.now
+    ∷ (g.E19.Serialize.refuses c.args.self.now.nineteenth.now ∷ (g.E20.Serialize.refuses c.args.self.now.twentieth.now ∷ []))))))))))))
+    c.write_fields-2.result c.write_fields-2.ensures.error)

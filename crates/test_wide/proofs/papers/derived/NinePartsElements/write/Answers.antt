@@ -4,6 +4,7 @@ use Rattle.rmp_encode.specs.Going.{IsWriting}
 use Rattle.rmp_encode.specs.Ser.{sink_of, settings_of}
 use Rattle.rmp_encode.proofs.Going.{going_more, keeps_then}
 use Rattle.rmp_encode.proofs.Parts.{front_or, back_or, part_takes}
+use Rattle.rmp_encode.proofs.Refusals.{of_front, on_back}
 use Rattle.test_wide.proofs.papers.derived.NinePartsElements.write.Goals as goal
 
 pub returns-in_err-write-clause-writes : goal.returns-in_err-write-clause-writes
@@ -31,3 +32,25 @@ returns-clause-writes g c = λ old t rest h. going_more g.W.Sink (IsWriting g.W.
 
 pub returns-clause-keeps : goal.returns-clause-keeps
 returns-clause-keeps g c = keeps_then g.W.Sink c.write.ensures.keeps c.write-2.ensures.keeps
+
+pub returns-in_err-write-clause-error : goal.returns-in_err-write-clause-error
+returns-in_err-write-clause-error g c =
+    let p = err_from_is_err_and c.from_residual.result c.from_residual.ensures.1 in
+    rw (p.1, p.2) (of_front ⊥ (g.E1.Serialize.refuses c.args.self.now.first.now
+    ∷ (g.E2.Serialize.refuses c.args.self.now.second.now
+    ∷ (g.E3.Serialize.refuses c.args.self.now.third.now
+    ∷ (g.E4.Serialize.refuses c.args.self.now.fourth.now
+    ∷ (g.E5.Serialize.refuses c.args.self.now.fifth.now
+    ∷ (g.E6.Serialize.refuses c.args.self.now.sixth.now
+    ∷ (g.E7.Serialize.refuses c.args.self.now.seventh.now ∷ (g.E8.Serialize.refuses c.args.self.now.eighth.now ∷ []))))))))
+    (g.E9.Serialize.refuses c.args.self.now.ninth.now ∷ []) _ c.in_err-write.ensures.error)
+
+pub returns-clause-error : goal.returns-clause-error
+returns-clause-error g c = on_back ⊥ (g.E1.Serialize.refuses c.args.self.now.first.now
+    ∷ (g.E2.Serialize.refuses c.args.self.now.second.now
+    ∷ (g.E3.Serialize.refuses c.args.self.now.third.now
+    ∷ (g.E4.Serialize.refuses c.args.self.now.fourth.now
+    ∷ (g.E5.Serialize.refuses c.args.self.now.fifth.now
+    ∷ (g.E6.Serialize.refuses c.args.self.now.sixth.now
+    ∷ (g.E7.Serialize.refuses c.args.self.now.seventh.now ∷ (g.E8.Serialize.refuses c.args.self.now.eighth.now ∷ []))))))))
+    (g.E9.Serialize.refuses c.args.self.now.ninth.now ∷ []) c.write-2.result c.write-2.ensures.error
