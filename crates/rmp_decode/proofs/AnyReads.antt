@@ -1,50 +1,27 @@
 -- A type that reads messages of several kinds, from what an opening of any kind says.
-use Rattle.std.proofs.Common.{
-  ◌≡◌,
-  ◌∙◌,
-  sym,
-  ap,
-  subst,
-  refl,
-  ℕ,
-  arith,
-  List,
-  ◌++◌,
-  length,
-  Option,
-  None,
-  Some,
-  IfSome,
-  Bool,
-  true,
-  false,
-  Ok,
-  Err,
-  append_assoc,
-}
+use Rattle.std.proofs.Common.{◌≡◌, ◌∙◌, sym, ap, subst, refl, ℕ, arith, List, ◌++◌, length, Option, None, Some, IfSome, Bool, true, false, Ok, Err}
 use Rattle.std.proofs.lemmas.List.{length-append}
 use Rattle.std.specs.Io.KnownBytes.{Consumes}
 use Rattle.std.specs.Prelude.{IsUtf8}
-use Rattle.std.proofs.KnownBytes.{Consumes-trans}
 use Rattle.rmp_wire.specs.declared.head.Head.{Head}
 use Rattle.rmp_wire.specs.declared.head.Head.TheVariants as head
 use Rattle.rmp_wire.specs.declared.source.Source.{Ghosts}
 use Rattle.rmp_wire.specs.Canonical.{heads_of, SpellsAs}
-use Rattle.rmp_wire.specs.Msg.{Msg, text, list, Msgs, count}
+use Rattle.rmp_wire.specs.Msg.{Msg, text}
 use Rattle.rmp_wire.specs.Sources.{IsShort}
 use Rattle.rmp_wire.specs.Spelling.{head_of}
-use Rattle.rmp_decode.specs.Anys.{FailsToOpenAny, OpensRaw, TakesContent, FailsContent, FailsText, StartsWithNoText}
+use Rattle.rmp_decode.specs.Anys.{OpensRaw, TakesContent, FailsContent, StartsWithNoText}
+use Rattle.rmp_decode.specs.Exact.{IsDataEnd, IsUtf8Error}
 use Rattle.rmp_decode.specs.Law.{Refuses, Readable, Lawful, TakesHead}
-use Rattle.rmp_decode.specs.Seq.{SpellsRow, SpellsIn, Opens, Run, seq_head, levels}
-use Rattle.rmp_decode.specs.State.{left, kept_bytes}
+use Rattle.rmp_decode.specs.Seq.{seq_head}
+use Rattle.rmp_decode.specs.State.{left}
 use Rattle.rmp_decode.specs.declared.deserializer.Deserializer.{Deserializer}
 use Rattle.rmp_decode.specs.declared.access.any.RawAccess.{RawAccess}
-use Rattle.rmp_decode.specs.declared.access.seq.SeqAccess.{SeqAccess}
 use Rattle.rmp_decode.specs.declared.error.Error.{Error}
+use Rattle.rmp_decode.specs.declared.error.Error.TheVariants as errors
 use Rattle.rmp_decode.proofs.ContentErrors.{same_front}
-use Rattle.rmp_decode.proofs.Contents.{Content, text_content, content_read, content_short, content_refused}
-use Rattle.rmp_decode.proofs.NothingAccepted.{refuses_narrower, same_head}
-use Rattle.rmp_decode.proofs.Rows.{in_list}
+use Rattle.rmp_decode.proofs.Contents.{Content, content_read, content_short}
+use Rattle.rmp_decode.proofs.NothingAccepted.{same_head}
 
 -- what is refused of the messages under a head that is there
 refuses_under : (w : Bool) (Q P : Msg → Type 0) (room : ℕ) (known k : Option (List ℕ)) (b : List ℕ) (h : Head) → Consumes known k b → heads_of w h b
@@ -103,6 +80,20 @@ pub no_text : (n : ℕ) (known k : Option (List ℕ)) (bytes : List ℕ) → Con
 no_text n None k bytes c l f = tt
 no_text n (Some xs) None bytes c l f = absurd c
 no_text n (Some xs) (Some ys) bytes c l f = λ s r e m u. f (subst IsUtf8 (same_front s bytes r ys (m ∙ sym l) (sym e ∙ c)) u)
+
+-- an end of the input says nothing of UTF-8
+pub end_no_text : (e : Error) → IsDataEnd e → IsUtf8Error e → ⊥
+end_no_text (errors.InvalidMarkerRead fault) d u = u
+end_no_text (errors.InvalidDataRead fault) d u = u
+end_no_text (errors.TypeMismatch marker) d u = u
+end_no_text errors.OutOfRange d u = u
+end_no_text (errors.LengthMismatch len) d u = u
+end_no_text (errors.Uncategorized words) d u = u
+end_no_text (errors.Syntax words) d u = u
+end_no_text (errors.Utf8Error why) d u = d
+end_no_text errors.DepthLimitExceeded d u = u
+end_no_text errors.OutOfMemory d u = u
+end_no_text errors.NotCanonical d u = u
 
 -- too few bytes are there
 pub short_text : (n : ℕ) (known : Option (List ℕ)) → IsShort n known → StartsWithNoText n known

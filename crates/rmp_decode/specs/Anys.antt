@@ -7,11 +7,11 @@ use Rattle.rmp_wire.specs.declared.head.Head.TheVariants as head
 use Rattle.rmp_wire.specs.declared.marker.Marker.{Marker}
 use Rattle.rmp_wire.specs.declared.source.Source.{Ghosts}
 use Rattle.rmp_wire.specs.Msg.{nil, truth, whole, float32, float64}
-use Rattle.rmp_wire.specs.Sources.{IsShort}
+use Rattle.rmp_wire.specs.Sources.{IsShort, Skips}
 use Rattle.rmp_wire.specs.Canonical.{SpellsAs}
 use Rattle.rmp_wire.specs.Spelling.{IsBytes}
 use Rattle.rmp_decode.specs.Content.{not_string}
-use Rattle.rmp_decode.specs.Exact.{BeginsWith, BeginsWithNone, Ends, IsDataEnd}
+use Rattle.rmp_decode.specs.Exact.{BeginsWith, BeginsWithNone, Ends, IsDataEnd, IsUtf8Error}
 use Rattle.rmp_decode.specs.Law.{Lawful, ReadsHead, Refuses, Explains, IsFailedBefore}
 use Rattle.rmp_decode.specs.Maps.{OpensMap}
 use Rattle.rmp_decode.specs.Pieces.{RefusesPiece}
@@ -134,3 +134,5 @@ pub record FailsText {R C : Type 0} (g : Ghosts R) (len : ℕ) (old new : Deseri
   pub stays : Stays g old new
   pub err : Explains e (faults_of g old) (faults_of g new) (StartsWithNoText len (g.ahead old.reader))
   pub exact : Explains e (faults_of g old) (faults_of g new) (RefusesPiece len (not_string (head.Text len)) (g.ahead old.reader) e)
+  -- where it isn't UTF-8 it was consumed, and nothing that follows it
+  pub taken : Explains e (faults_of g old) (faults_of g new) (IsUtf8Error e → Skips len (g.ahead old.reader) (g.ahead new.reader))

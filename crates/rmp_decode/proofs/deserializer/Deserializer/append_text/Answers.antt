@@ -1,7 +1,7 @@
 use Rattle.std.proofs.Common.{◌∙◌, sym, subst, refl, arith, IsUtf8}
 use Rattle.rmp_wire.specs.declared.head.Head.TheVariants.{Text}
 use Rattle.rmp_decode.specs.Content.{not_string}
-use Rattle.rmp_decode.proofs.AnyReads.{no_text, short_text}
+use Rattle.rmp_decode.proofs.AnyReads.{no_text, short_text, end_no_text}
 use Rattle.rmp_decode.proofs.ContentErrors.{piece_cut, piece_whole}
 use Rattle.rmp_decode.proofs.Steps.{appended_is, kept_is}
 use Rattle.rmp_decode.proofs.deserializer.Deserializer.append_text.Goals as goal
@@ -40,6 +40,7 @@ returns-in-Err-from_utf8-clause-err g c =
       stays = record { config = refl; room = refl; limit = refl; strict = refl; place = c.append.ensures.place };
       err = λ n k. no_text c.args.len _ _ o.passes.bytes o.passes.taken o.passes.long no;
       exact = λ n k. piece_whole c.args.len (not_string (Text c.args.len)) _ _ o.passes.bytes _ o.passes.taken o.passes.long (no, tt);
+      taken = λ n k u. record { bytes = o.passes.bytes; long = o.passes.long; taken = o.passes.taken };
     }
 
 pub returns-in-Err-clause-err : goal.returns-in-Err-clause-err
@@ -48,6 +49,7 @@ returns-in-Err-clause-err g c = record {
   stays = record { config = refl; room = refl; limit = refl; strict = refl; place = c.append.ensures.place };
   err = λ n k. short_text c.args.len _ (c.in-Err.ensures.err n k);
   exact = λ n k. piece_cut c.args.len (not_string (Text c.args.len)) _ _ (c.in-Err.ensures.err n k) (c.in-Err.ensures.end n k);
+  taken = λ n k u. absurd (end_no_text _ (c.in-Err.ensures.end n k) u);
 }
 
 pub returns-in-Err-from_utf8-clause-kept : goal.returns-in-Err-from_utf8-clause-kept
