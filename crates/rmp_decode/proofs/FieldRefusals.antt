@@ -1,21 +1,22 @@
 -- Where fields are refused, by where their opening, their keys and their values are.
-use Rattle.std.proofs.Common.{◌≡◌, ◌∙◌, sym, ap, subst, inl, inr, ◌⊎◌, ℕ, suc, ◌-◌, ◌<◌, max, arith, length, Bool, List, [], ◌∷◌, Option, None, Some}
+use Rattle.std.proofs.Common.{◌≡◌, ◌∙◌, sym, ap, subst, inl, inr, ◌⊎◌, ℕ, suc, ◌-◌, ◌<◌, max, arith, length, Bool, true, List, [], ◌∷◌, Option, None, Some}
 use Rattle.rmp_wire.specs.declared.source.Source.{Ghosts}
 use Rattle.rmp_wire.specs.Canonical.{SpellsAs}
-use Rattle.rmp_wire.specs.Msg.{Msg, Msgs, no_items, item, count}
-use Rattle.rmp_decode.specs.FieldRefusing.{PartsHold, FieldRefused, FillRefused, PairFails, Lacks, RefusesFields}
+use Rattle.rmp_wire.specs.Msg.{Msg, Msgs, no_items, item, count, Pairs}
+use Rattle.rmp_decode.specs.FieldRefusing.{PartsHold, FieldRefused, FillRefused, PairFails, Lacks, RefusesFields, PassesSome}
 use Rattle.rmp_decode.specs.Fields.{Slot, given_all, name_refusal, pass_refusal}
-use Rattle.rmp_decode.specs.MapRefusing.{EntryRefused, KeyRefused}
+use Rattle.rmp_decode.specs.MapRefusing.{OpenedMap, AfterPairs, EntryRefused, KeyRefused}
 use Rattle.rmp_decode.specs.Maps.{map_inner, OpensMap, TakesKey}
 use Rattle.rmp_decode.specs.Names.{IsName}
-use Rattle.rmp_decode.specs.Refusing.{Setting, Refusals, Part, setting_of, element_setting, inside, RefusesParts, RefusesTuple, PartsRefused, no_refusal}
+use Rattle.rmp_decode.specs.Refusing.{Setting, Refusals, Part, setting_of, element_setting, inside, AfterMessage, RefusesParts, RefusesTuple, PartsRefused}
+use Rattle.rmp_decode.specs.Refusing.{no_refusal}
 use Rattle.rmp_decode.specs.Seq.{SpellsRow, inner_of, Opens, TakesElement, Run}
 use Rattle.rmp_decode.specs.State.{left, faults_of}
 use Rattle.rmp_decode.specs.declared.deserializer.Deserializer.{Deserializer}
 use Rattle.rmp_decode.specs.declared.access.map.MapAccess.{MapAccess}
 use Rattle.rmp_decode.specs.declared.access.seq.SeqAccess.{SeqAccess}
 use Rattle.rmp_decode.specs.declared.error.Error.{Error}
-use Rattle.rmp_decode.specs.declared.error.Error.TheVariants.{LengthMismatch, Syntax}
+use Rattle.rmp_decode.specs.declared.error.Error.TheVariants.{LengthMismatch, OutOfMemory, Syntax}
 use Rattle.rmp_decode.specs.declared.text.Text.TheVariants.{MissingField}
 use Rattle.rmp_decode.proofs.Fields.{later_full}
 use Rattle.rmp_decode.proofs.Maps.{flat, in_pairs, count-flat, depth-flat, settled}
@@ -116,10 +117,10 @@ module _ {R C V : Type 0} (g : Ghosts R) (human : C → Bool) (lends : Bool) (na
     abbrev Inner : Setting
     Inner = inside (setting_of (human old.config) lends old) (map_inner start)
 
-    after_met : PairFails names ps r.met_trees Inner (faults_of g old) after mid.left (left g mid.de.now) e ⊎ Lacks reads r.met_trees Inner mid.left e
-        → RefusesFields names reads ps (setting_of (human old.config) lends old) (faults_of g old) after (left g old) e
-    unfolding RefusesFields
-    after_met w = inr (inr (record {
+    -- after the head of the map
+    map_after : (P : Setting → ℕ → Option (List ℕ) → Error → Type 0) → P Inner start.left (left g start.de.now) e
+        → OpenedMap (setting_of (human old.config) lends old) P (left g old) e
+    map_after P w = record {
       inner = map_inner start;
       many = start.left;
       bytes = o.head.bytes;
@@ -127,22 +128,29 @@ module _ {R C V : Type 0} (g : Ghosts R) (human : C → Bool) (lends : Bool) (na
       takes = o.head.takes;
       is_head = o.head.is_head;
       room_of = o.room;
-      refused = (
-        r.met_trees,
-        record {
-          bytes = r.run.bytes;
-          rest = left g mid.de.now;
-          trees = r.trees;
-          still = mid.left;
-          takes = r.run.takes;
-          spelled = in_pairs old.strict r.trees r.run.bytes (subst (λ z. SpellsRow (SpellsAs z) r.run.bytes (flat r.trees)) o.stays.strict r.run.spelled);
-          many = omega (arith, r.run.many, count-flat r.trees, settled mid r.at_key, settled start o.at_key);
-          fits = omega (arith, r.run.fits, depth-flat r.trees);
-          holds = (r.is_met, held r.met_trees slots r.held);
-          refused = w;
-        },
-      );
-    }))
+      refused = w;
+    }
+
+    -- after the pairs so far
+    pairs_after : (Q : Pairs → Type 0) (P : ℕ → Option (List ℕ) → Error → Type 0) → Q r.trees → P mid.left (left g mid.de.now) e
+        → AfterPairs Inner Q start.left P (left g start.de.now) e
+    pairs_after Q P h w = record {
+      bytes = r.run.bytes;
+      rest = left g mid.de.now;
+      trees = r.trees;
+      still = mid.left;
+      takes = r.run.takes;
+      spelled = in_pairs old.strict r.trees r.run.bytes (subst (λ z. SpellsRow (SpellsAs z) r.run.bytes (flat r.trees)) o.stays.strict r.run.spelled);
+      many = omega (arith, r.run.many, count-flat r.trees, settled mid r.at_key, settled start o.at_key);
+      fits = omega (arith, r.run.fits, depth-flat r.trees);
+      holds = h;
+      refused = w;
+    }
+
+    after_met : PairFails names ps r.met_trees Inner (faults_of g old) after mid.left (left g mid.de.now) e ⊎ Lacks reads r.met_trees Inner mid.left e
+        → RefusesFields names reads ps (setting_of (human old.config) lends old) (faults_of g old) after (left g old) e
+    unfolding RefusesFields
+    after_met w = inr (inr (map_after _ (r.met_trees, pairs_after _ _ (r.is_met, held r.met_trees slots r.held) w)))
 
     mid_room : map_inner mid ≡ map_inner start
     mid_room = let q = r.run.inner in omega arith
@@ -178,23 +186,34 @@ module _ {R C V : Type 0} (g : Ghosts R) (human : C → Bool) (lends : Bool) (na
       some_left : 0 < mid.left
       some_left = omega (arith, t.fewer)
 
+      -- after the key
+      key_after : (Q : Msg → Type 0) (P : Option (List ℕ) → Error → Type 0) → Q t.part.tree → P (left g key.de.now) e
+          → AfterMessage Inner Q P (left g mid.de.now) e
+      key_after Q P h w = record {
+        bytes = t.part.bytes;
+        rest = left g key.de.now;
+        tree = t.part.tree;
+        takes = t.part.takes;
+        spelled = subst (λ z. SpellsAs z t.part.bytes t.part.tree) (r.run.stays.strict ∙ o.stays.strict) t.part.spelled;
+        fits = omega (arith, t.part.fits, mid_room);
+        holds = h;
+        refused = w;
+      }
+
       -- it couldn't be passed over
       pub pass_wrong : k ≡ None → EntryRefused g (human key.de.now.config) lends pass_refusal key now e
           → RefusesFields names reads ps (setting_of (human old.config) lends old) (faults_of g old) after (left g old) e
       unfolding RefusesFields
       pass_wrong n h = after_met (inl (
         some_left,
-        inr (inl (record {
-          bytes = t.part.bytes;
-          rest = left g key.de.now;
-          tree = t.part.tree;
-          takes = t.part.takes;
-          spelled = subst (λ z. SpellsAs z t.part.bytes t.part.tree) (r.run.stays.strict ∙ o.stays.strict) t.part.spelled;
-          fits = omega (arith, t.part.fits, mid_room);
-          holds = subst (IsName names t.part.tree) n t.part.value;
-          refused = at_value pass_refusal h;
-        })),
+        inr (inl (key_after _ _ (subst (IsName names t.part.tree) n t.part.value) (at_value pass_refusal h))),
       ))
+
+      -- memory was short for it, and the source lends
+      pub pass_memory : k ≡ None → EntryRefused g (human key.de.now.config) lends pass_refusal key now e → lends ≡ true → e ≡ OutOfMemory
+          → PassesSome names (setting_of (human old.config) lends old) (left g old) e
+      pass_memory n h y m = map_after _ (pairs_after _ _ tt
+          (key_after _ _ (subst (IsName names t.part.tree) n t.part.value) ((at_value pass_refusal h).1 y m)))
 
       -- it is of a field that was met before, or was refused
       pub field_wrong : (n : ℕ) → k ≡ Some n → FillRefused g (human key.de.now.config) lends holds ps n key now slots e
@@ -204,15 +223,7 @@ module _ {R C V : Type 0} (g : Ghosts R) (human : C → Bool) (lends : Bool) (na
         some_left,
         inr (inr (
           n,
-          record {
-            bytes = t.part.bytes;
-            rest = left g key.de.now;
-            tree = t.part.tree;
-            takes = t.part.takes;
-            spelled = subst (λ z. SpellsAs z t.part.bytes t.part.tree) (r.run.stays.strict ∙ o.stays.strict) t.part.spelled;
-            fits = omega (arith, t.part.fits, mid_room);
-            holds = subst (IsName names t.part.tree) i t.part.value;
-            refused = elim h [ inl f ↦ inl (f.0, f.1.full r.met_trees r.held) | inr f ↦ inr (at_value (FieldRefused ps n) f) ];
-          },
+          key_after _ _ (subst (IsName names t.part.tree) i t.part.value)
+              (elim h [ inl f ↦ inl (f.0, f.1.full r.met_trees r.held) | inr f ↦ inr (at_value (FieldRefused ps n) f) ]),
         )),
       ))

@@ -3,7 +3,7 @@ use Rattle.std.specs.Prelude.{◌≡◌, ◌⊎◌, ℕ, zero, suc, ◌<◌, Boo
 use Rattle.rmp_wire.specs.Msg.{Msg, Pairs}
 use Rattle.rmp_decode.specs.Exact.{RefusesBy}
 use Rattle.rmp_wire.specs.declared.source.Source.{Ghosts}
-use Rattle.rmp_decode.specs.Fields.{blank, put, met, not_fields, name_refusal, pass_refusal, Field, Absent, NoField, Slot, IsFull}
+use Rattle.rmp_decode.specs.Fields.{blank, put, met, not_fields, name_refusal, BeginsSome, pass_refusal, Field, Absent, NoField, Slot, IsFull}
 use Rattle.rmp_decode.specs.MapRefusing.{OpenedMap, AfterPairs, EntryRefused}
 use Rattle.rmp_decode.specs.Names.{IsName}
 use Rattle.rmp_decode.specs.Refusing.{Setting, Refusals, Part, part_of, AfterMessage, Opened, RefusesParts, Excess}
@@ -58,6 +58,11 @@ RefusesFields names reads ps s before after known e =
     ⊎ OpenedMap s (λ i n known e. (fs : List (Option Msg))
     × AfterPairs i (AreMet names ps fs i) n (λ left known e. PairFails names ps fs i before after left known e ⊎ Lacks reads fs i left e) known e)
     known e
+
+-- after pairs of a map, and a key of no name, a list or a map begins that isn't empty
+abbrev pub PassesSome : List (List ℕ) → Setting → Option (List ℕ) → Error → Type 0
+PassesSome names s = OpenedMap s (λ i n. AfterPairs i (λ pairs. Unit {0}) n
+    (λ left. AfterMessage i (λ k. IsName names k None) (λ rest e. BeginsSome i.strict rest)))
 
 -- a value of a map's next pair was wanted for the field at a place: it was read before, or the value is refused
 abbrev pub FillRefused : {R C S : Type 0} → Ghosts R → Bool → Bool → (List (Option Msg) → S → Type 0) → List Part → ℕ → MapAccess R C → MapAccess R C → S

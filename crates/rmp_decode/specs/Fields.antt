@@ -1,5 +1,5 @@
 -- What a struct's fields are read from, a list or a map of its names.
-use Rattle.std.specs.Prelude.{◌≡◌, ◌≢◌, ℕ, zero, suc, Bool, true, List, [], ◌∷◌, map, length, Option, Some, None, MatchOption, cond, nat_eq, Result}
+use Rattle.std.specs.Prelude.{◌≡◌, ◌≢◌, ℕ, zero, suc, Bool, true, List, [], ◌∷◌, map, length, Option, Some, None, IfSome, MatchOption, cond, nat_eq, Result}
 use Rattle.std.proofs.Common.{refl, ap, subst}
 use Rattle.std.specs.Borrow.{GName}
 use Rattle.std.specs.Option.{option_and_then}
@@ -16,7 +16,7 @@ use Rattle.rmp_decode.specs.Opening.{FailsToOpenAs, TakesOpening}
 use Rattle.rmp_decode.specs.Law.{Readable}
 use Rattle.rmp_decode.specs.Maps.{TakesValue, OpensMap}
 use Rattle.rmp_decode.specs.Names.{name_of, IsNameHead}
-use Rattle.rmp_decode.specs.Refuse.{UnpassedFor, RefusedFor}
+use Rattle.rmp_decode.specs.Refuse.{UnpassedFor, OpensSome, RefusedFor}
 use Rattle.rmp_decode.specs.Refusing.{Setting, Refusals}
 use Rattle.rmp_decode.specs.Seq.{numbers, Opens}
 use Rattle.rmp_decode.specs.declared.access.fields.FieldParts.{FieldParts}
@@ -26,7 +26,7 @@ use Rattle.rmp_decode.specs.Skip.{any_tree, any_row}
 use Rattle.rmp_decode.specs.declared.deserializer.Deserializer.{Deserializer}
 use Rattle.rmp_decode.specs.declared.access.map.MapAccess.{MapAccess}
 use Rattle.rmp_decode.specs.declared.error.Error.{Error}
-use Rattle.rmp_decode.specs.declared.error.Error.TheVariants.{DepthLimitExceeded, Syntax}
+use Rattle.rmp_decode.specs.declared.error.Error.TheVariants.{DepthLimitExceeded, OutOfMemory, Syntax}
 use Rattle.rmp_decode.specs.declared.text.Text.TheVariants.{InvalidType}
 
 -- ---- the trees of fields, each in the place of its name, or none where it isn't there
@@ -196,13 +196,19 @@ FailsToOpenFields g = FailsToOpenAs g HasFields not_fields
 abbrev pub TakesFieldsHead : {R C : Type 0} → Ghosts R → Deserializer R C → Deserializer R C → Result (Option Bool × ℕ) Error → Type 0
 TakesFieldsHead g = TakesOpening g (λ p. fields_head p.0 p.1) (λ p. p.0 ≢ Some true) HasFields not_fields
 
--- how a key is refused that says nothing
+-- How a key is refused that says nothing. Where the source lends, a name takes no memory.
 abbrev pub name_refusal : Setting → Refusals
-name_refusal s = RefusesContent s.strict IsNameHead not_raw never_refused
+name_refusal s before after known e = RefusesContent s.strict IsNameHead not_raw never_refused before after known e
+    × (s.lends ≡ true → e ≢ OutOfMemory)
 
--- how a message is refused that is passed over
+-- a list or a map that isn't empty begins the bytes, where they are told
+abbrev pub BeginsSome : Bool → Option (List ℕ) → Type 0
+BeginsSome strict known = IfSome known (OpensSome strict)
+
+-- How a message is refused that is passed over. Where the source lends, only a list or a map that isn't empty takes memory.
 abbrev pub pass_refusal : Setting → Refusals
-pass_refusal s before after known e = after ≡ before → RefusedFor s.strict (UnpassedFor s.lends s.strict) any_row s.room e known
+pass_refusal s before after known e = (after ≡ before → RefusedFor s.strict (UnpassedFor s.lends s.strict) any_row s.room e known)
+    × (s.lends ≡ true → e ≡ OutOfMemory → BeginsSome s.strict known)
 
 -- the reference to the reader
 abbrev pub parts_name : {R C : Type 0} → FieldParts R C → GName

@@ -9,7 +9,7 @@ ghost use Rattle.rmp_wire.specs.Msg.{Msg, Msgs};
 ghost use Rattle.rmp_decode.specs.contracts.deserializer.Deserializer.{the_row};
 ghost use Rattle.rmp_decode.specs.Fields.{OfFields, Field, Absent, NoField, Slot, AreBlank, parts_name};
 ghost use Rattle.rmp_decode.specs.Fields.{OpensFields, FailsToOpenFields, at, given_all, Fills, IsFull, name_refusal, pass_refusal};
-ghost use Rattle.rmp_decode.specs.FieldRefusing.{PartsHold, FillRefused, RefusesFields};
+ghost use Rattle.rmp_decode.specs.FieldRefusing.{PartsHold, FillRefused, RefusesFields, PassesSome};
 ghost use Rattle.rmp_decode.specs.FieldRows.{TakesRow, FailsRow, ReadsRow, MissesRow, in_row};
 ghost use Rattle.rmp_decode.specs.Law.{Lawful};
 ghost use Rattle.rmp_decode.specs.MapRefusing.{PartRefused, KeyRefused};
@@ -97,7 +97,8 @@ pub trait Fields<'de, R: ReadSlice<'de>>: Sized + Drop {
             (map_lender map.new) e
             ⊎ IsFull (holds (C.human (config_of (map_lender map.old))) R.lends) place map.old map.new slots.old) }
         ensures refused { result ≡ false → IfSome refusal.new (FillRefused R.Source (C.human (config_of (map_lender map.old))) R.lends
-            (holds (C.human (config_of (map_lender map.old))) R.lends) parts place map.old map.new slots.old) };
+            (holds (C.human (config_of (map_lender map.old))) R.lends) parts place map.old map.new slots.old) }
+        ensures memory { takes_memory R.lends ≡ false → result ≡ false → IfSome refusal.new (λ e. e ≢ Error.OutOfMemory) };
 
     /// The values, or `None` where one is missing.
     fn finish(slots: Self::Slots) -> Option<Self>
@@ -405,6 +406,7 @@ impl<R: Source, C: SerializerConfig> Deserializer<R, C> {
         ensures err { IfNone result (IfSome refusal.new (FailsPart R.Source (IsName (bytes_of names.now)) (max 1 inner) self.old self.new)) }
         ensures refused { IfNone result (IfSome refusal.new
             (PartRefused R.Source (C.human (config_of self.old)) R.lends name_refusal (max 1 inner) self.old self.new)) }
+        ensures memory { R.lends ≡ true → IfNone result (IfSome refusal.new (λ e. e ≢ Error.OutOfMemory)) }
     {
         match self.name_part(inner, names) {
             Ok(Some(place)) => Some(place),
@@ -538,6 +540,9 @@ impl<R: Source, C: SerializerConfig> Deserializer<R, C> {
             result }
         ensures refused { RefusesAs R.Source (C.human (config_of self.old)) R.lends (RefusesFields (bytes_of names.now) F.reads F.parts) self.old self.new
             result }
+        // Where the source lends, and no field's own read takes memory, only a list or a map of no name does that isn't empty.
+        ensures memory { R.lends ≡ true → F.takes_memory R.lends ≡ false → IfErr result (λ e. e ≡ Error.OutOfMemory
+            → PassesSome (bytes_of names.now) (setting_of (C.human (config_of self.old)) R.lends self.old) (left R.Source self.old) e) }
     {
         match self.take_nested(ListOf { count: names.len() }) {
             Some(()) => self.row_ahead(),
@@ -558,6 +563,8 @@ impl<R: Source, C: SerializerConfig> Deserializer<R, C> {
             result }
         ensures refused { RefusesAs R.Source (C.human (config_of self.old)) R.lends (RefusesFields (bytes_of names.now) F.reads F.parts) self.old self.new
             result }
+        ensures memory { R.lends ≡ true → F.takes_memory R.lends ≡ false → IfErr result (λ e. e ≡ Error.OutOfMemory
+            → PassesSome (bytes_of names.now) (setting_of (C.human (config_of self.old)) R.lends self.old) (left R.Source self.old) e) }
     {
         match self.open_fields() {
             Ok(FieldParts::Seq(mut seq)) => {
@@ -618,6 +625,7 @@ impl<'x, R: Source, C: SerializerConfig> MapAccess<'x, R, C> {
             (map_lender self.new))) }
         ensures refused { IfNone result (IfSome refusal.new
             (KeyRefused R.Source (C.human (config_of (map_lender self.old))) R.lends name_refusal self.old self.new)) }
+        ensures memory { R.lends ≡ true → IfNone result (IfSome refusal.new (λ e. e ≢ Error.OutOfMemory)) }
     {
         match self.de.take_name(names, false) {
             Some(place) => {

@@ -8,7 +8,8 @@ ghost use Rattle.rmp_decode.specs.declared.deserializer.Kept.TheVariants.{Nothin
 ghost use Rattle.rmp_decode.specs.Buffers.{AfterHead};
 ghost use Rattle.rmp_decode.specs.Content.{IsRawHead, RefusesLeaf, RefusesAfterHead};
 ghost use Rattle.rmp_decode.specs.Exact.{RefusesExactly, RefusesHead, RefusesBy};
-ghost use Rattle.rmp_decode.specs.FieldRefusing.{RefusesFields};
+ghost use Rattle.rmp_decode.specs.FieldRefusing.{RefusesFields, PassesSome};
+ghost use Rattle.rmp_decode.specs.Refusing.{setting_of};
 ghost use Rattle.rmp_decode.specs.Fields.{OfFields};
 ghost use Rattle.rmp_decode.specs.Kinds.{raw_head};
 ghost use Rattle.rmp_decode.specs.Law.{Lawful, Explains, Readable, TakesHead};
@@ -550,6 +551,10 @@ impl<'x, R: Source, C: SerializerConfig> Variant<'x, R, C> {
         ensures bare { is_bare self.entry ≡ true → (result ≡ Err (Error.Syntax Text.InvalidType)) × (self.exit.0.now ≡ variant_lender self.entry) }
         ensures refused { is_bare self.entry ≡ false → IfErr result (PartRefused R.Source (C.human (config_of (variant_lender self.entry)))
             R.lends (RefusesFields (bytes_of names.now) F.reads F.parts) (max 1 (content_room self.entry)) (variant_lender self.entry) self.exit.0.now) }
+        // As of `deserialize_fields`.
+        ensures memory { R.lends ≡ true → F.takes_memory R.lends ≡ false → IfErr result (λ e. e ≡ Error.OutOfMemory
+            → PassesSome (bytes_of names.now) (setting_of (C.human (config_of (variant_lender self.entry))) R.lends
+            (part_reader (variant_lender self.entry) (content_room self.entry))) (left R.Source (variant_lender self.entry)) e) }
     {
         let Variant { de, bare, inner } = self;
         if bare {

@@ -38,3 +38,6 @@ returns-in-Err-clause-law g c =
     subst (λ (z : Deserializer g.row.R.Denot g.row.C.Denot). Lawful g.R.Source (λ m v. OfFields (bytes_of c.args.names.now)
     (λ fs. g.F.Fields.reads (g.C.SerializerConfig.human z.config) g.R.ReadSlice.lends fs v) m) z c.opened_fields.new.self
     (Err c.in-Err.e)) c.in-None.ensures.kept c.in-Err.ensures.law
+
+pub returns-in-Some-clause-memory : goal.returns-in-Some-clause-memory
+returns-in-Some-clause-memory g c = λ y t. if_err c.row_ahead.result (λ e w m. absurd (w m)) (c.row_ahead.ensures.memory t)

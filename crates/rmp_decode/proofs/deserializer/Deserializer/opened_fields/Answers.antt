@@ -4,10 +4,11 @@ use Rattle.rmp_decode.specs.Maps.{map_inner}
 use Rattle.rmp_decode.specs.Names.{bytes_of}
 use Rattle.rmp_decode.specs.Parts.{FailsPart}
 use Rattle.rmp_decode.specs.Seq.{TakesParts, FailsParts, inner_of}
+use Rattle.rmp_decode.specs.State.{faults_of}
 use Rattle.rmp_decode.specs.FieldRefusing.{FillRefused, RefusesFields}
 use Rattle.rmp_decode.specs.Refusing.{setting_of, inside}
 use Rattle.rmp_decode.specs.declared.access.fields.Passed.{Passed}
-use Rattle.rmp_decode.proofs.FieldRefusals.{listed_wrong, listed_excess, name_wrong, pass_wrong, field_wrong, field_lacks}
+use Rattle.rmp_decode.proofs.FieldRefusals.{listed_wrong, listed_excess, name_wrong, pass_wrong, pass_memory, field_wrong, field_lacks}
 use Rattle.rmp_decode.proofs.Meeting.{blank_blank}
 use Rattle.rmp_decode.proofs.Names.{length_bytes}
 use Rattle.rmp_decode.proofs.NamesAhead.{below_named, below_unnamed, key_named_by}
@@ -250,3 +251,34 @@ returns-in_default-clause-refused g c = λ u.
     c.in-Ok-Map.map c.loop-map.map o (g.F.Fields.holds (g.C.SerializerConfig.human c.args.self.now.config) g.R.ReadSlice.lends)
     (λ fs t. g.F.Fields.held (inside (setting_of (g.C.SerializerConfig.human c.args.self.now.config) g.R.ReadSlice.lends c.args.self.now)
     (map_inner c.in-Ok-Map.map)) fs t) c.loop-map.slots r z refl f
+
+-- ---- want of memory
+
+pub returns-in-Err-clause-memory : goal.returns-in-Err-clause-memory
+returns-in-Err-clause-memory g c = λ y t m. absurd ((rw c.in-Err.is at c.open_fields.follows.holds-at-none).memory m)
+
+pub returns-in-Err-end-clause-memory : goal.returns-in-Err-end-clause-memory
+returns-in-Err-end-clause-memory g c = λ y t m.
+    let k = (c.in-Err-end.ensures.err c.in-Ok.ensures.ok.run.still).2 in
+    absurd (let e = k in cc)
+
+pub returns-in-None-clause-memory : goal.returns-in-None-clause-memory
+returns-in-None-clause-memory g c = λ y t m. absurd ((rw c.refusal_in.ensures at c.in-None.ensures.memory y) m)
+
+pub returns-then-not-fill-clause-memory : goal.returns-then-not-fill-clause-memory
+returns-then-not-fill-clause-memory g c = λ y t m.
+    let no : c.fill.result ≡ false = search rules in
+    absurd ((rw c.refusal_in-then-not-fill.ensures at c.fill.ensures.memory t no) m)
+
+pub returns-in-Err-next_value-clause-memory : goal.returns-in-Err-next_value-clause-memory
+returns-in-Err-next_value-clause-memory g c = λ y t m.
+    let r = c.loop-map.invariant in
+    let o = rw c.in-Ok-Map.field-0-is at c.in-Ok-Map.ensures.opened in
+    let key = key_named_by g.R.Source c.args.names.now c.loop-map.map c.next_place.new.self c.in-Some.place None
+    (below_unnamed _ _ c.if-place-names.true) c.in-Some.ensures.ok in
+    pass_memory g.R.Source g.C.SerializerConfig.human g.R.ReadSlice.lends (bytes_of c.args.names.now) g.F.Fields.reads g.F.Fields.parts c.args.self.now
+    (faults_of g.R.Source c.next_value.new.self.de.now) c.in-Err-next_value.e c.in-Ok-Map.map c.loop-map.map o
+    (g.F.Fields.holds (g.C.SerializerConfig.human c.args.self.now.config) g.R.ReadSlice.lends)
+    (λ fs t. g.F.Fields.held (inside (setting_of (g.C.SerializerConfig.human c.args.self.now.config) g.R.ReadSlice.lends c.args.self.now)
+    (map_inner c.in-Ok-Map.map)) fs t) c.loop-map.slots r c.next_place.new.self c.next_value.new.self _ key refl refl
+    (c.in-Err-next_value.ensures.refused key.still.sound) y m

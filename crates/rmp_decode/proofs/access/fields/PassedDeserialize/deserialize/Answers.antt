@@ -3,3 +3,6 @@ use Rattle.rmp_decode.proofs.access.fields.PassedDeserialize.deserialize.Goals a
 
 pub returns-in-Err-clause-law : goal.returns-in-Err-clause-law
 returns-in-Err-clause-law g c = lawful_err _ _ _ _ _ _ (λ m r. (tt, tt)) c.in-Err.ensures.law
+
+pub returns-in-Err-clause-refused : goal.returns-in-Err-clause-refused
+returns-in-Err-clause-refused g c = λ o. (c.in-Err.ensures.exact o, c.in-Err.ensures.memory)

@@ -10,6 +10,7 @@ returns-in-Some g c = record {
   some = tt;
   err = tt;
   refused = tt;
+  memory = λ _. tt;
 }
 
 pub returns-in-Some-place_part : goal.returns-in-Some-place_part
@@ -20,6 +21,7 @@ returns-in-Some-place_part g c = record {
   some = tt;
   err = tt;
   refused = tt;
+  memory = λ _. tt;
 }
 
 pub returns-in-None-place_part-clause-err : goal.returns-in-None-place_part-clause-err
