@@ -25,6 +25,7 @@ pub mod BufferedHeads
 pub mod HeadTaken
 pub mod HeadKinds
 pub mod Laws
+pub mod LeafTable
 pub mod Leaves
 pub mod ListRefusals
 pub mod MapRefusals

@@ -47,6 +47,7 @@ use Rattle.rmp_wire.specs.Sources.{IsShort}
 use Rattle.rmp_decode.specs.Exact.{IsDataEnd, EndsExactly}
 use Rattle.rmp_decode.specs.Kinds.{content_len}
 use Rattle.rmp_decode.specs.Law.{Begins, Refuses, Readable, NoMessage, Explains, ReadsHead}
+use Rattle.rmp_decode.specs.LeafTable.{PassesLeaves, SkipsLeaves}
 use Rattle.rmp_decode.specs.Open.{SpellsOpen, SpellsThen, Leads, place, digits}
 use Rattle.rmp_decode.specs.Refuse.{UnpassedFor, RowRefusal, RefusedFor, RowRefusedFor, RefusesRowFirst}
 use Rattle.rmp_decode.specs.Seq.{SpellsRow, RefusesRow}
@@ -110,6 +111,10 @@ falls_leaf room wanted wanted' outer s q =
     let l = digits_less room wanted' (reverse outer) in
     let same : digits room (wanted ∷ reverse outer) ≡ digits room (suc wanted' ∷ reverse outer) = ap (λ t. digits room (t ∷ reverse outer)) one in
     omega (arith, l, same)
+
+-- where no more were wanted before
+pub falls_then : (less room j wanted : ℕ) (outer : List ℕ) → j ≤ wanted → less < to_do room j outer → less < to_do room wanted outer
+falls_then less room j wanted outer l f = let m : j * place room ≤ wanted * place room = mul-le-mul_right (place room) l in omega (arith, m, f)
 
 pub falls_in : (room wanted n room' wanted' : ℕ) (outer outer' : List ℕ) → 0 < wanted → n ≡ wanted - 1 → room' ≡ room - 1 → wanted' < 8589934592
     → outer' ≡ outer ++ (n ∷ []) → 1 < room → to_do room' wanted' outer' < to_do room wanted outer
@@ -191,6 +196,14 @@ module _ {R C : Type 0} (g : Ghosts R) (lends : Bool) (all : ℕ) (start now : D
     sound = q ∙ w.sound;
     stays = stays_then g start now new w.stays st;
   }
+
+  -- leaves were skipped
+  pub wants_leaves : (new : Deserializer R C) (j : ℕ) → SkipsLeaves g wanted j now new → Wants g lends all start new room j outer
+  wants_leaves new j k =
+      let passes : PassesLeaves start.strict wanted j k.bytes = subst (λ z. PassesLeaves z wanted j k.bytes) w.stays.strict k.passes in
+      let few = k.fewer in
+      step new k.bytes room j outer k.takes (passes lends room (reverse outer) w.some) w.some refl (λ z. omega (arith, z, few)) (k.failed ∙ w.marked)
+      (k.kept ∙ w.clean) k.sound k.stays
 
   -- a list or a map ended
   pub wants_out : (n room' : ℕ) (outer' : List ℕ) → wanted ≡ 0 → outer ≡ outer' ++ (n ∷ []) → room' ≡ room + 1 → Wants g lends all start now room' n outer'

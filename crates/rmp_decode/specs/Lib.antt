@@ -15,6 +15,7 @@ pub mod BufferedHeads
 pub mod Inside
 pub mod Kinds
 pub mod Law
+pub mod LeafTable
 pub mod Leaves
 pub mod MapRefusing
 pub mod Maps

@@ -1,17 +1,21 @@
 //! Skipping messages.
-ghost use Rattle.std.specs.Prelude.{◌≡◌, ◌≢◌, ◌-◌, ◌<◌, true, OnOk, IfErr, IfSome};
+ghost use Rattle.std.specs.Prelude.{◌≡◌, ◌≢◌, ◌-◌, ◌<◌, true, false, Ok, OnOk, IfErr, IfSome};
 ghost use Rattle.rmp_wire.specs.Sources.{IsShort};
 ghost use Rattle.rmp_decode.specs.Ahead.{IsLeafHead};
 ghost use Rattle.rmp_decode.specs.Exact.{IsDataEnd};
 ghost use Rattle.rmp_decode.specs.Kinds.{content_len};
-ghost use Rattle.rmp_decode.specs.Law.{Explains, Lawful};
+ghost use Rattle.rmp_decode.specs.Law.{Explains, Lawful, ReadsHead};
+ghost use Rattle.rmp_decode.specs.LeafTable.{SkipsLeaves};
 ghost use Rattle.rmp_decode.specs.Refuse.{UnpassedFor, OpensSome, RefusesFirst, RefusesRowFirst};
 ghost use Rattle.rmp_decode.specs.Skip.{Passes, SkipsRow, any_tree, any_row, parts_count};
 ghost use Rattle.rmp_decode.specs.State.{is_failed, is_strict, kept_of, left, room_of};
 ghost use Rattle.rmp_decode.specs.declared.deserializer.Kept.TheVariants.{Nothing};
 
+mod leaves;
+
 use crate::content::{ReadContent, Slices};
 use crate::deserializer::Deserializer;
+use crate::deserializer::skip::leaves::pass_leaves;
 use crate::error::Error;
 use rmp_wire::config::SerializerConfig;
 use rmp_wire::{Head, ReadSlice, Source};
@@ -54,6 +58,32 @@ fn pass_payload<R: Source, P: ReadContent<R>>(reader: &mut R, len: u32) -> Resul
         return Ok(());
     }
     P::pass(reader, len as usize)
+}
+
+// Skips buffered leaves whose first byte tells their length, at most `most`. Returns how many of the `most` messages are still wanted.
+#[inline(always)]
+fn skip_leaves<R: Source, C: SerializerConfig>(de: &mut Deserializer<R, C>, most: u64) -> u64
+    requires clean { kept_of de.old ≡ Nothing }
+    ensures skipped { SkipsLeaves R.Source most result de.old de.new }
+    ensures kept { result ≡ most → de.new ≡ de.old }
+{
+    let (len, wanted) = pass_leaves(de.reader.front(), de.strict, most);
+    if wanted == most {
+        return most;
+    }
+    if de.reader.skip(len) { wanted } else { most }
+}
+
+// Skips one such leaf. Returns `false` and consumes nothing where the next message is none.
+#[inline(always)]
+fn skip_leaf<R: Source, C: SerializerConfig>(de: &mut Deserializer<R, C>) -> bool
+    ensures skipped { result ≡ true → Lawful R.Source any_tree de.old de.new (Ok tt) }
+    ensures kept { result ≡ false → de.new ≡ de.old }
+{
+    if !de.begins_ahead() {
+        return false;
+    }
+    skip_leaves(de, 1) == 0
 }
 
 // Passes over one message.
@@ -100,6 +130,7 @@ fn skip_parts<R: Source, C: SerializerConfig, P: ReadContent<R>>(
     // What those that stand open around it still want, the outermost first.
     let mut outer: Vec<u64> = Vec::new(de.alloc);
     'parts: loop {
+        wanted = skip_leaves(de, wanted);
         if wanted == 0 {
             match outer.pop() {
                 Some(n) => {
@@ -164,6 +195,9 @@ impl<R: Source, C: SerializerConfig> Deserializer<R, C> {
         // Where the source lends, only a list or a map that isn't empty takes memory.
         ensures memory { R.lends ≡ true → IfErr result (λ e. e ≡ Error.OutOfMemory → IfSome (left R.Source self.old) (OpensSome (is_strict self.old))) }
     {
+        if skip_leaf(self) {
+            return Ok(());
+        }
         skip::<R, C, Slices<'de>>(self)
     }
 }

@@ -1,0 +1,64 @@
+//! Leaves that are skipped by a table of first bytes.
+ghost use Rattle.std.specs.Prelude.{◌≤◌, length, take};
+ghost use Rattle.rmp_decode.specs.LeafTable.{Tells, PassesLeaves};
+
+// No block has so many bytes after a first byte.
+const NEVER: u32 = u32::MAX;
+
+// How many bytes of a leaf follow each first byte: first in a read of any width, then in a strict one. It is `NEVER` for a list or a map,
+// where the first byte doesn't tell, and where reading is strict and only some of such heads are canonical.
+const BEHIND: [u32; 512] = [
+    0, 0, 0, 0, 0, 0, 0, 0, 0, 0, 0, 0, 0, 0, 0, 0, 0, 0, 0, 0, 0, 0, 0, 0, 0, 0, 0, 0, 0, 0, 0, 0,
+    0, 0, 0, 0, 0, 0, 0, 0, 0, 0, 0, 0, 0, 0, 0, 0, 0, 0, 0, 0, 0, 0, 0, 0, 0, 0, 0, 0, 0, 0, 0, 0,
+    0, 0, 0, 0, 0, 0, 0, 0, 0, 0, 0, 0, 0, 0, 0, 0, 0, 0, 0, 0, 0, 0, 0, 0, 0, 0, 0, 0, 0, 0, 0, 0,
+    0, 0, 0, 0, 0, 0, 0, 0, 0, 0, 0, 0, 0, 0, 0, 0, 0, 0, 0, 0, 0, 0, 0, 0, 0, 0, 0, 0, 0, 0, 0, 0,
+    0, 0, 0, 0, 0, 0, 0, 0, 0, 0, 0, 0, 0, 0, 0, 0, 0, 0, 0, 0, 0, 0, 0, 0, 0, 0, 0, 0, 0, 0, 0, 0,
+    0, 0, 0, 0, 0, 0, 0, 0, 0, 0, 0, 0, 0, 0, 0, 0, 0, 0, 0, 0, 0, 0, 0, 0, 0, 0, 0, 0, 0, 0, 0, 0,
+    0, 0, 0, 0, 0, 0, 0, 0, 0, 0, 0, 0, 0, 0, 0, 0, 0, 0, 0, 0, 0, 0, 0, 0, 0, 0, 0, 0, 0, 0, 0, 0,
+    0, 0, 0, 0, 0, 0, 0, 0, 0, 0, 0, 0, 0, 0, 0, 0, 0, 0, 0, 0, 0, 0, 0, 0, 0, 0, 0, 0, 0, 0, 0, 0,
+    NEVER, NEVER, NEVER, NEVER, NEVER, NEVER, NEVER, NEVER, NEVER, NEVER, NEVER, NEVER, NEVER,
+    NEVER, NEVER, NEVER, NEVER, NEVER, NEVER, NEVER, NEVER, NEVER, NEVER, NEVER, NEVER, NEVER,
+    NEVER, NEVER, NEVER, NEVER, NEVER, NEVER, NEVER, NEVER, NEVER, NEVER, NEVER, NEVER, NEVER,
+    NEVER, NEVER, NEVER, NEVER, NEVER, NEVER, NEVER, NEVER, NEVER, NEVER, NEVER, NEVER, NEVER,
+    NEVER, NEVER, NEVER, NEVER, NEVER, NEVER, NEVER, NEVER, NEVER, NEVER, NEVER, NEVER, 0, 0, 1, 1,
+    2, 2, 3, 3, 4, 4, 5, 5, 6, 6, 7, 7, 8, 8, 9, 9, 10, 10, 11, 11, 12, 12, 13, 13, 14, 14, 15, 15,
+    16, 16, 17, 17, 18, 18, 19, 19, 20, 20, 21, 21, 22, 22, 23, 23, 24, 24, 25, 25, 26, 26, 27, 27,
+    28, 28, 29, 29, 30, 30, 31, 31, 0, 0, NEVER, NEVER, 0, 0, 0, 0, NEVER, NEVER, NEVER, NEVER,
+    NEVER, NEVER, NEVER, NEVER, NEVER, NEVER, NEVER, NEVER, 4, 4, 8, 8, 1, NEVER, 2, NEVER, 4,
+    NEVER, 8, NEVER, 1, NEVER, 2, NEVER, 4, NEVER, 8, NEVER, 2, 2, 3, 3, 5, 5, 9, 9, 17, 17, NEVER,
+    NEVER, NEVER, NEVER, NEVER, NEVER, NEVER, NEVER, NEVER, NEVER, NEVER, NEVER, NEVER, NEVER, 0,
+    0, 0, 0, 0, 0, 0, 0, 0, 0, 0, 0, 0, 0, 0, 0, 0, 0, 0, 0, 0, 0, 0, 0, 0, 0, 0, 0, 0, 0, 0, 0, 0,
+    0, 0, 0, 0, 0, 0, 0, 0, 0, 0, 0, 0, 0, 0, 0, 0, 0, 0, 0, 0, 0, 0, 0, 0, 0, 0, 0, 0, 0, 0, 0,
+];
+
+#[inline(always)]
+fn following(first: u8, strict: bool) -> u32
+    ensures { Tells strict first result }
+{
+    let at = 2 * first as usize;
+    if strict { BEHIND[at + 1] } else { BEHIND[at] }
+}
+
+const BLOCK: usize = NEVER as usize;
+
+// Passes over leaves, at most `most`, that are whole among these bytes and whose first byte tells their length. Returns how many bytes they
+// have, and how many of the `most` messages are still wanted.
+#[inline(always)]
+pub(super) fn pass_leaves(bytes: &[u8], strict: bool, most: u64) -> (usize, u64)
+    ensures within { result.0 ≤ length bytes.now }
+    ensures fewer { result.1 ≤ most }
+    ensures passes { PassesLeaves strict most result.1 (take result.0 bytes.now) }
+{
+    let len = bytes.len().min(BLOCK);
+    let mut at: usize = 0;
+    let mut wanted = most;
+    'leaves: while wanted > 0 && at < len {
+        let payload = following(bytes[at], strict) as usize;
+        if payload >= len - at {
+            break;
+        }
+        at += 1 + payload;
+        wanted -= 1;
+    }
+    (at, wanted)
+}
