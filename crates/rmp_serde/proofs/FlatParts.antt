@@ -10,6 +10,7 @@ use Rattle.std.proofs.Common.{
   zero,
   suc,
   ◌+◌,
+  ◌-◌,
   ◌*◌,
   ◌<◌,
   ◌≤◌,
@@ -30,22 +31,22 @@ use Rattle.std.proofs.Common.{
 use Rattle.std.specs.Prelude.{slice_get, IfSome}
 use Rattle.std.specs.List.{AllByRecursion}
 use Rattle.std.specs.Str.{IsUtf8}
-use Rattle.std.proofs.lemmas.List.{append-nil, drop-drop}
+use Rattle.std.proofs.lemmas.List.{append-nil, drop-drop, get_or_default}
 use Rattle.rmp_wire.specs.declared.head.Head.{Head}
 use Rattle.rmp_wire.specs.declared.head.Head.TheVariants.{Nil, Truth, Whole, F32Bits, F64Bits, Text, Bin, Array, Map, Ext}
 use Rattle.rmp_wire.specs.Msg.{Msg, nil, truth, whole, float32, float64, text, bin, list, map, extension, Msgs}
 use Rattle.rmp_wire.specs.Msg.{no_items, item, Pairs, no_pairs, pair, count, count_pairs, items_of, pairs_of, depth, depth_all, depth_pairs}
 use Rattle.rmp_wire.specs.Spelling.{head_of, Fits}
 use Rattle.rmp_decode.proofs.Rows.{append}
-use Rattle.rmp_serde.specs.Flat.{head_in, parts_in, token_in, heads_in, heads_of, heads_all, EndsBy, IsFlat, IsRow, told_tree, span}
+use Rattle.rmp_serde.specs.Flat.{head_in, parts_in, takes_in, token_in, heads_in, heads_of, heads_all, EndsBy, IsFlat, IsRow, told_tree, span}
 use Rattle.rmp_serde.specs.Parts.{text_of, item_of, pair_of, content_of, parts_of, parts_in_turn}
 use Rattle.rmp_serde.specs.Read.{AllTextsUtf8, ItemsUtf8, PairsUtf8}
-use Rattle.rmp_serde.specs.Tokens.{Token, tokens, tokens_all, flat_pairs, first_items, past_items, first_pairs, past_pairs, put_head, built, first_tree}
+use Rattle.rmp_serde.specs.Tokens.{Token, tokens, tokens_all, flat_pairs, first_items, past_items, first_pairs, past_pairs, put_head, built, first_tree, row_from}
 use Rattle.rmp_serde.specs.declared.value.flat.Node.{Node}
 use Rattle.rmp_serde.specs.declared.value.flat.Nodes.{Nodes}
 use Rattle.rmp_serde.specs.declared.value.flat.Node.TheVariants as nodes
 use Rattle.rmp_serde.proofs.Tokens.{built_tree}
-use Rattle.rmp_serde.proofs.FlatTakes.{takes_drop, walk_place}
+use Rattle.rmp_serde.proofs.FlatTakes.{takes_drop, walk_place, walk_step, walk_within}
 use Rattle.rmp_serde.proofs.FlatRows.{
   row_tail,
   row_drop,
@@ -393,6 +394,47 @@ module _ (root : Node) (parts : Nodes) (m : Msg) (f : IsFlat root parts) (e : to
       let told = heads_told root parts m f e in
       ap (λ z. built (drop (q + 1) z)) (sym told) ∙ later_is (token_in parts.bytes.items root) (heads_of parts) p q n (after_row p) s
       ∙ ap (λ z. past_items n (built (drop (suc p) z))) told
+
+  -- the part whose first node is the one at an index
+  module _ (p : ℕ) (l : 0 < count (row_from m (suc p))) where
+    pub part_there : p < length parts.nodes.items
+    part_there = let none : span 0 (drop p (heads_of parts)) ≡ 0 = refl in after_there p p 0 l (omega (arith, none))
+
+    module _ (node : Node) (g : node ≡ get_or parts.nodes.items p node) where
+      pub part_head : head_in node ≡ head_of (first_tree (row_from m (suc p)))
+      part_head = ap head_in (g ∙ get_or_default parts.nodes.items p node nodes.Nil part_there) ∙ ap (λ z. z.0) (node_is root parts m (suc p) f e)
+
+      part_takes : p + takes_in node ≡ p + span 1 (drop p (heads_of parts))
+      part_takes =
+          let none : span 0 (drop p (heads_of parts)) ≡ 0 = refl in
+          walk_step parts.bytes.items parts.nodes.items p (after_row p) (takes_drop parts.bytes.items parts.nodes.items p f.takes) 0 p node
+          (after_many p 0 l) (omega (arith, none)) g
+
+      pub part_within : p + takes_in node ≤ length parts.nodes.items
+      part_within = walk_within parts.bytes.items parts.nodes.items p (after_row p) (takes_drop parts.bytes.items parts.nodes.items p f.takes) 1
+          (p + takes_in node) (omega (arith, part_there)) part_takes
+
+      pub part_past : row_from m (suc (p + takes_in node)) ≡ past_items 1 (row_from m (suc p))
+      part_past =
+          let next : suc (p + takes_in node) ≡ p + takes_in node + 1 = omega arith in
+          ap (row_from m) next ∙ after_later p (p + takes_in node) 1 part_takes
+
+-- where more messages are than are passed over, there is one
+pub one_there : (i : ℕ) (ms : Msgs) → i < count ms → 0 < count (past_items i ms)
+one_there i no_items l = absurd (omega (arith, l))
+one_there zero (item m ms) l = omega arith
+one_there (suc i) (item m ms) l = one_there i ms (omega (arith, l))
+
+-- of some messages the first is returned, and the others remain
+pub first_yielded : (n : ℕ) (ms : Msgs) → 0 < n → n ≤ count ms
+    → items_of (first_items n ms) ≡ first_tree ms ∷ items_of (first_items (n - 1) (past_items 1 ms))
+first_yielded zero ms l h = absurd (omega (arith, l))
+first_yielded (suc n) no_items l h = absurd (omega (arith, h))
+first_yielded (suc n) (item m ms) l h = let less : n ≡ suc n - 1 = omega arith in ap (λ z. m ∷ items_of (first_items z ms)) less
+
+pub fewer_there : (n : ℕ) (ms : Msgs) → 0 < n → n ≤ count ms → n - 1 ≤ count (past_items 1 ms)
+fewer_there n no_items l h = absurd (omega (arith, l, h))
+fewer_there n (item m ms) l h = omega (arith, l, h)
 
 past_count : (i : ℕ) (ms : Msgs) → count (past_items i ms) + i ≡ count ms ⊎ (count ms ≤ i)
 past_count zero ms = inl (omega arith)

@@ -1,18 +1,18 @@
 -- The parts of a tree.
-use Rattle.std.specs.Prelude.{ℕ, suc, ◌*◌, ℤ, Bool, List, [], Option, Some, None, drop, slice_get}
+use Rattle.std.specs.Prelude.{ℕ, suc, ◌*◌, ℤ, Bool, List, [], Option, Some, None, slice_get}
 use Rattle.rmp_wire.specs.Msg.{Msg, nil, truth, whole, float32, float64, text, bin, list, map, extension, Msgs, count, count_pairs, items_of, pairs_of}
-use Rattle.rmp_serde.specs.Tokens.{tokens, built, flat_pairs, first_tree}
+use Rattle.rmp_serde.specs.Tokens.{flat_pairs, first_tree, row_from}
 use Rattle.rmp_serde.specs.declared.value.kind.Kind.{Kind}
 use Rattle.rmp_serde.specs.declared.value.kind.Kind.TheVariants as kinds
 use Rattle.rmp_serde.specs.declared.value.reference.ValueRef.{ValueRef}
 
 -- the messages of the value from the reference's index on, in order
 abbrev pub row_at : ValueRef → Msgs
-row_at v = built (drop v.at (tokens v.value.now))
+row_at v = row_from v.value.now v.at
 
 -- the messages after the head at that index
 abbrev pub row_after : ValueRef → Msgs
-row_after v = built (drop (suc v.at) (tokens v.value.now))
+row_after v = row_from v.value.now (suc v.at)
 
 -- the tree of a reference: the one whose heads begin at the reference's index among those of the whole
 abbrev pub tree : ValueRef → Msg

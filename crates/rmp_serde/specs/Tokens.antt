@@ -1,6 +1,6 @@
 -- The heads of a message in the order of its spelling, and the message that is built from them. (MessagePack
 -- specification, "Formats".)
-use Rattle.std.specs.Prelude.{ℕ, zero, suc, List, [], ◌∷◌, ◌++◌, length}
+use Rattle.std.specs.Prelude.{ℕ, zero, suc, List, [], ◌∷◌, ◌++◌, length, drop}
 use Rattle.rmp_wire.specs.declared.head.Head.{Head}
 use Rattle.rmp_wire.specs.declared.head.Head.TheVariants.{Nil, Truth, Whole, F32Bits, F64Bits, Text, Bin, Array, Map, Ext}
 use Rattle.rmp_wire.specs.Heads.{canon_head}
@@ -113,3 +113,7 @@ built (t ∷ ts) = put_head t.0 t.1 (built ts)
 abbrev pub first_tree : Msgs → Msg
 first_tree no_items = nil
 first_tree (item m ms) = m
+
+-- the messages from a head of a message on, in order
+abbrev pub row_from : Msg → ℕ → Msgs
+row_from m at = built (drop at (tokens m))

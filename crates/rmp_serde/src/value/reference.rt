@@ -1,12 +1,8 @@
 //! A reference to a part of a tree.
-ghost use Rattle.std.specs.Prelude.{◌≡◌, ◌<◌, option_map, IfSome};
-ghost use Rattle.std.specs.Str.{IsUtf8};
-ghost use Rattle.rmp_wire.specs.Msg.{depth, count};
+ghost use Rattle.std.specs.Prelude.{◌≡◌};
 ghost use Rattle.rmp_wire.specs.Spelling.{head_of};
 ghost use Rattle.rmp_serde.specs.Flat.{head_in};
-ghost use Rattle.rmp_serde.specs.Tokens.{past_items};
-ghost use Rattle.rmp_serde.specs.Parts.{row_at, row_after, content_of, parts_of, tree, kind_of, parts_count, item_of, pair_of};
-ghost use Rattle.rmp_serde.specs.Parts.{truth_of, whole_of, float32_of, float64_of, text_of, bytes_of, extension_of};
+ghost use Rattle.rmp_serde.specs.Tokens.{first_tree, row_from};
 
 mod pairs;
 mod parts;
@@ -24,27 +20,62 @@ use std::str;
 #[derive(Clone, Copy)]
 pub struct ValueRef<'a> {
     value: &'a Value,
-    // The index of its first node: 0 is the root's, and each part's is one more than its index among the parts.
+    // Its first node, which is the node of its head.
+    node: &'a Node,
+    // The index of that node: 0 is the root's, and each part's is one more than its index among the parts.
     at: usize,
+    ghost head: { head_in node.now ≡ head_of (first_tree (row_from value.now at)) },
 }
 
 impl Value {
+    ghost use Rattle.std.specs.Prelude.{◌<◌, suc};
+    ghost use Rattle.rmp_wire.specs.Msg.{count};
+    ghost use Rattle.rmp_serde.specs.Parts.{row_at, tree};
+    ghost use Rattle.rmp_serde.specs.Tokens.{past_items};
+
     /// Returns a reference to the whole tree.
     pub fn root(&self) -> ValueRef<'_>
         ensures whole { tree result ≡ self.now }
     {
-        ValueRef { value: self, at: 0 }
+        ValueRef {
+            value: self,
+            node: &self.root,
+            at: 0,
+        }
+    }
+
+    // The part whose first node has an index among those of the parts, and the index after its last node.
+    #[inline(always)]
+    fn part_at(&self, i: usize) -> (ValueRef<'_>, usize)
+        requires there { 0 < count (row_from self.now (suc i)) }
+        ensures part { row_at result.0 ≡ row_from self.now (suc i) }
+        ensures later { 0 < result.0.at }
+        ensures past { row_from self.now (suc result.1) ≡ past_items 1 (row_from self.now (suc i)) }
+    {
+        let node = &self.parts.nodes[i];
+        let part = ValueRef {
+            value: self,
+            node,
+            at: i + 1,
+        };
+        (part, i + node.takes())
     }
 }
 
 impl<'a> ValueRef<'a> {
+    ghost use Rattle.std.specs.Prelude.{◌<◌, option_map, IfSome};
+    ghost use Rattle.std.specs.Str.{IsUtf8};
+    ghost use Rattle.rmp_wire.specs.Msg.{depth, count};
+    ghost use Rattle.rmp_serde.specs.Tokens.{past_items};
+    ghost use Rattle.rmp_serde.specs.Parts.{row_at, row_after, content_of, parts_of, tree, kind_of, parts_count, item_of, pair_of};
+    ghost use Rattle.rmp_serde.specs.Parts.{truth_of, whole_of, float32_of, float64_of, text_of, bytes_of, extension_of};
+
     // Its first node, which is the node of its head.
     #[inline(always)]
     pub(super) fn node(self) -> Node
         ensures head { head_in result ≡ head_of (tree self.entry) }
     {
-        let value = self.value;
-        value.parts.node(value.root, self.at)
+        *self.node
     }
 
     // The content of a text, of bytes or of an extension.
@@ -69,10 +100,7 @@ impl<'a> ValueRef<'a> {
         ensures later { 0 < result.at }
     {
         let value = self.value;
-        ValueRef {
-            value,
-            at: value.parts.past(self.at, i) + 1,
-        }
+        value.part_at(value.parts.past(self.at, i)).0
     }
 
     // The message after this one, which must be a part.
@@ -83,10 +111,7 @@ impl<'a> ValueRef<'a> {
         ensures later { 0 < result.at }
     {
         let value = self.value;
-        ValueRef {
-            value,
-            at: value.parts.past(self.at - 1, 1) + 1,
-        }
+        value.part_at(value.part_at(self.at - 1).1).0
     }
 
     /// Returns the kind of message.

@@ -27,7 +27,7 @@ impl<'a> ValueRef<'a> {
                 parts: self.parts(),
             },
             _ => Pairs {
-                parts: Parts::none(self),
+                parts: self.no_parts(),
             },
         }
     }

@@ -1,36 +1,37 @@
 //! The parts of a list or a map, in order.
-ghost use Rattle.std.specs.Prelude.{◌≡◌, ◌≤◌, ◌*◌, min};
+ghost use Rattle.std.specs.Prelude.{◌≡◌, ◌≤◌, suc};
 ghost use Rattle.rmp_wire.specs.Msg.{count};
-ghost use Rattle.rmp_serde.specs.Parts.{row_at};
+ghost use Rattle.rmp_serde.specs.Tokens.{row_from};
 
-use crate::value::ValueRef;
+use crate::value::{Value, ValueRef};
 
 /// An iterator over the items of a list, or over the keys and values of a map in turn.
 ///
 /// Each step takes constant time, and allocates nothing.
 #[derive(Drop)]
 pub struct Parts<'a> {
-    front: ValueRef<'a>,
+    value: &'a Value,
+    // The index of the next part's first node among those of all parts.
+    at: usize,
     left: usize,
-    ghost there: { left ≤ count (row_at front) },
-    ghost part: { min left 1 ≤ front.at },
-}
-
-impl<'a> Parts<'a> {
-    ghost use Rattle.std.specs.Prelude.{[]};
-    ghost use Rattle.rmp_serde.specs.PartsLeft.{parts_left};
-
-    // No parts at all.
-    pub(super) fn none(front: ValueRef<'a>) -> Parts<'a>
-        ensures none { parts_left result ≡ [] }
-    {
-        Parts { front, left: 0 }
-    }
+    ghost there: { left ≤ count (row_from value.now (suc at)) },
 }
 
 impl<'a> ValueRef<'a> {
+    ghost use Rattle.std.specs.Prelude.{[]};
     ghost use Rattle.rmp_serde.specs.Parts.{tree, parts_in_turn};
     ghost use Rattle.rmp_serde.specs.PartsLeft.{parts_left};
+
+    // No parts at all.
+    pub(super) fn no_parts(self) -> Parts<'a>
+        ensures none { parts_left result ≡ [] }
+    {
+        Parts {
+            value: self.value,
+            at: self.at,
+            left: 0,
+        }
+    }
 
     /// Returns the items of a list, or the keys and values of a map in turn: each key, and then its value. Any
     /// other kind has none.
@@ -38,11 +39,9 @@ impl<'a> ValueRef<'a> {
         ensures parts { parts_left result ≡ parts_in_turn (tree self.entry) }
     {
         let left = self.node().parts();
-        if left == 0 {
-            return Parts { front: self, left };
-        }
         Parts {
-            front: self.part(0),
+            value: self.value,
+            at: self.at,
             left,
         }
     }
@@ -62,11 +61,9 @@ impl<'a> Iterator for Parts<'a> {
         if self.left == 0 {
             return None;
         }
-        let part = self.front;
+        let (part, past) = self.value.part_at(self.at);
+        self.at = past;
         self.left -= 1;
-        if self.left > 0 {
-            self.front = part.next();
-        }
         Some(part)
     }
 }
