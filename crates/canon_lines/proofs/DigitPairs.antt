@@ -39,7 +39,7 @@ use Rattle.std.proofs.lemmas.Bool.{and_parts, eqb-true}
 use Rattle.std.proofs.lemmas.List.{drop_all}
 use Rattle.hex.specs.Hex.{decode_of, decode_pairs, hex_digit_value, pair_value, value_at, ◌>>=◌}
 use Rattle.hex.specs.declared.error.FromHexError.{FromHexError}
-use Rattle.hex.proofs.Pairs.{prepend, cons_byte, decode_pairs-ok_pair, drop-pair, prepend-cons_byte, decode_start}
+use Rattle.hex.proofs.Pairs.{prepend, cons_byte, decode_pairs-ok_pair, drop-pair, prepend-cons_byte}
 use Rattle.canon_lines.specs.Lines.{is_blank}
 
 -- ---- the table

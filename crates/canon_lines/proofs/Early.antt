@@ -120,7 +120,7 @@ module _ {W : Type 0} (g : Ghosts W) where
   -- the refusal was put in part, or not at all
   pub refused_early : (bytes rest : List ℕ) (place : ℕ) (e : Error) (r : Result Bool Stop) {old mid : W} (new : W) → SoFar g bytes rest old mid
       → place ≡ length bytes - length rest → 0 < length rest → (e ≢ errors.OutOfMemory → NoneBegins rest)
-      → Refusal false (UnreadFor false) ItemsUtf8 1024 e rest
+      → (e ≢ errors.OutOfMemory → Refusal false (UnreadFor false) ItemsUtf8 1024 e rest)
       → IfErr r (λ x. Puts g (λ out. (out ≡ []) ⊎ ((e ≢ errors.OutOfMemory) × IsStart (line (refused_text place e)) out)) mid new)
       → IfErr r (λ x. Puts g (StartsMessages bytes) old new)
   refused_early bytes rest place e (Ok a) new p at more none wrong q = tt
@@ -130,7 +130,7 @@ module _ {W : Type 0} (g : Ghosts W) where
         let whole = ap length p.holds.split ∙ length-append p.front rest in
         let here : place ≡ length p.front = omega (arith, at, whole) in
         starts bytes rest (line (refused_text place e)) p (inr
-        (record { error = e; some = more; no_memory = s.0; none = none s.0; wrong = wrong; shown = ap (λ n. line (refused_text n e)) here }))
+        (record { error = e; some = more; no_memory = s.0; none = none s.0; wrong = wrong s.0; shown = ap (λ n. line (refused_text n e)) here }))
         (record { out = q.out; appended = q.appended; shown = s.1 })
   ]
 

@@ -2,6 +2,8 @@ pub mod Arguments
 pub mod Checked
 pub mod DigitPairs
 pub mod Early
+pub mod Firsts
+pub mod Leaves
 pub mod MessageReads
 pub mod OneCheck
 pub mod OneOutput

@@ -1,9 +1,7 @@
 -- Lines and their digits.
-use Rattle.std.proofs.Common.{◌≡◌, ℕ, ◌+◌, ◌<◌, List, [], ◌∷◌, ◌++◌, All, map, take, get_or, suc, length, sym, subst, arith}
+use Rattle.std.proofs.Common.{ℕ, ◌+◌, ◌<◌, List, [], ◌∷◌, ◌++◌, All, map, take, get_or, suc, length, sym, subst, arith}
 use Rattle.std.proofs.lemmas.List.{map_more}
 use Rattle.std.proofs.lemmas.List.Elements.{All-push, All-cons}
-use Rattle.hex.specs.Hex.{decode_pairs}
-use Rattle.canon_lines.specs.Lines.{digits_in, IsHex}
 
 abbrev pub Split : {B : Type 0} → (B → Type 0) → List B → B → Type 0
 Split P ys y = All P ys × P y

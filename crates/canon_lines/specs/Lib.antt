@@ -1,4 +1,6 @@
+pub mod Buffers
 pub mod Checks
+pub mod Firsts
 pub mod Input
 pub mod Lines
 pub mod Messages

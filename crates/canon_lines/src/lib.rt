@@ -2,12 +2,15 @@
 //! whether they are spelled canonically.
 #![tactic(auto)]
 
+mod buffer;
 pub mod check;
 mod digits;
 pub mod laws;
+mod leaf;
 mod lines;
 pub mod run;
 pub mod task;
 mod text;
 
+pub use buffer::BufSink;
 pub use lines::RunFault;

@@ -1,15 +1,20 @@
 //! The engine: lines of hex in, lines of text out.
-ghost use Rattle.std.specs.Prelude.{◌≡◌, IfOk, IfErr, IfSome, OnOk};
+ghost use Rattle.std.specs.Prelude.{◌≡◌, ◌≢◌, false, IfOk, IfErr, IfSome, OnOk};
+ghost use Rattle.rmp_decode.specs.Refuse.{Refusal};
+ghost use Rattle.rmp_serde.specs.Read.{ItemsUtf8};
+ghost use Rattle.rmp_serde.specs.Refuse.{UnreadFor};
+ghost use Rattle.canon_lines.specs.Firsts.{TellsFirst};
 ghost use Rattle.canon_lines.specs.Input.{ReadsInput};
 ghost use Rattle.canon_lines.specs.Lines.{lines_in};
 ghost use Rattle.canon_lines.specs.Messages.{message_text};
 ghost use Rattle.canon_lines.specs.Output.{PrintsLines, PrintsRun};
-ghost use Rattle.canon_lines.specs.Prints.{PrintsMessages, StartsMessages, PrintsAll, StartsAll, Puts};
+ghost use Rattle.canon_lines.specs.Prints.{NoneBegins, PrintsMessages, StartsMessages, PrintsAll, StartsAll, Puts};
 ghost use Rattle.canon_lines.specs.Texts.{text_bytes};
 
+use crate::leaf::tell_leaf;
 use crate::lines::{self, RunFault, Shows, Stop, print_line, refuse_message};
 use crate::text::Text;
-use rmp_decode::Deserializer;
+use rmp_decode::{Deserializer, Error};
 use rmp_serde::Value;
 use rmp_serde::encode::write;
 use rmp_serde::wire::{Sink, Source};
@@ -38,6 +43,57 @@ impl Messages {
         self.text.push_hex(self.canonical.as_slice())?;
         Ok(())
     }
+
+    // Holds the text of the first message, where it is canonical, and returns how many bytes it has. It is printed as it was read.
+    fn tell_canonical(&mut self, alloc: Global, bytes: &[u8]) -> Result<usize, AllocError>
+        ensures told { IfOk result (λ n. n ≢ 0 → TellsFirst n bytes.now (text_bytes self.new.text)) }
+    {
+        let mut de = Deserializer::from_read_ref(alloc, bytes);
+        de.set_strict(true);
+        match Value::read(&mut de) {
+            Ok(value) => {
+                let len = bytes.len() - de.remaining_slice().len();
+                self.text.print(format_args!("{value:?}"))?;
+                self.text.push_hex(&bytes[..len])?;
+                Ok(len)
+            }
+            Err(_) => Ok(0),
+        }
+    }
+
+    // Holds the text of the first message, and returns how many bytes it has.
+    fn tell_value(&mut self, alloc: Global, bytes: &[u8]) -> Result<usize, Error>
+        ensures told { IfOk result (λ n. TellsFirst n bytes.now (text_bytes self.new.text)) }
+        ensures none { IfErr result (λ e. e ≢ Error.OutOfMemory → NoneBegins bytes.now) }
+        ensures wrong { IfErr result (λ e. e ≢ Error.OutOfMemory → Refusal false (UnreadFor false) ItemsUtf8 1024 e bytes.now) }
+    {
+        let mut de = Deserializer::from_read_ref(alloc, bytes);
+        match Value::read(&mut de) {
+            Ok(value) => match self.tell(alloc, &value) {
+                Ok(()) => Ok(bytes.len() - de.remaining_slice().len()),
+                Err(_) => Err(Error::OutOfMemory),
+            },
+            Err(error) => Err(error),
+        }
+    }
+
+    // The same, without a tree where there needn't be one.
+    fn tell_first(&mut self, alloc: Global, bytes: &[u8]) -> Result<usize, Error>
+        ensures told { IfOk result (λ n. TellsFirst n bytes.now (text_bytes self.new.text)) }
+        ensures none { IfErr result (λ e. e ≢ Error.OutOfMemory → NoneBegins bytes.now) }
+        ensures wrong { IfErr result (λ e. e ≢ Error.OutOfMemory → Refusal false (UnreadFor false) ItemsUtf8 1024 e bytes.now) }
+    {
+        match tell_leaf(bytes, &mut self.text) {
+            Ok(0) => {}
+            Ok(len) => return Ok(len),
+            Err(_) => return Err(Error::OutOfMemory),
+        }
+        match self.tell_canonical(alloc, bytes) {
+            Ok(0) => self.tell_value(alloc, bytes),
+            Ok(len) => Ok(len),
+            Err(_) => Err(Error::OutOfMemory),
+        }
+    }
 }
 
 // Prints the messages of a line's bytes, up to the first refusal, and says whether there was none.
@@ -52,13 +108,13 @@ fn run_messages<W: Sink>(
     ensures prints { PrintsLines W.Sink sink.old sink.new result }
     ensures early { IfErr result (λ e. Puts W.Sink (StartsMessages bytes.now) sink.old sink.new) }
 {
-    let mut de = Deserializer::from_read_ref(alloc, bytes);
-    while !de.remaining_slice().is_empty() {
-        let place = bytes.len() - de.remaining_slice().len();
-        match Value::read(&mut de) {
-            Ok(value) => {
-                kept.tell(alloc, &value)?;
+    let mut left = bytes;
+    while !left.is_empty() {
+        let place = bytes.len() - left.len();
+        match kept.tell_first(alloc, left) {
+            Ok(len) => {
                 print_line(sink, &mut kept.text, fault)?;
+                left = &left[len..];
             }
             Err(error) => return refuse_message(alloc, sink, place, error, fault),
         }

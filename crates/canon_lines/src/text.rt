@@ -67,13 +67,29 @@ impl Text {
         Ok(())
     }
 
+    /// Holds bytes, in place of what was held.
+    pub fn set(&mut self, bytes: &[u8]) -> Result<(), AllocError>
+        ensures text { OnOk result (text_bytes self.new ≡ bytes.now) }
+    {
+        self.bytes.clear();
+        self.bytes.extend_from_slice(bytes)
+    }
+
+    /// Appends bytes in hex, in lower case.
+    pub fn push_digits(&mut self, bytes: &[u8]) -> Result<(), AllocError>
+        ensures hex { OnOk result (text_bytes self.new ≡ text_bytes self.old ++ encode_lower bytes.now) }
+    {
+        self.bytes.reserve(2 * bytes.len())?;
+        self.bytes = with_digits(self.take(), bytes);
+        Ok(())
+    }
+
     /// Appends a space, and bytes in hex, in lower case.
     pub fn push_hex(&mut self, bytes: &[u8]) -> Result<(), AllocError>
         ensures hex { OnOk result (text_bytes self.new ≡ text_bytes self.old ++ 32 ∷ encode_lower bytes.now) }
     {
         self.bytes.push(b' ')?;
-        self.bytes.reserve(2 * bytes.len())?;
-        self.bytes = with_digits(self.take(), bytes);
+        self.push_digits(bytes)?;
         Ok(())
     }
 

@@ -5,12 +5,12 @@
 //! the output couldn't be written, or memory was wanting. Any other argument is refused with status 2 and the usage.
 #![tactic(auto)]
 
-use canon_lines::RunFault;
 use canon_lines::check::check;
 use canon_lines::run::run;
 use canon_lines::task::{FAULT, Task, status_of, task_of};
-use rmp_wire::{IoSink, IoSource};
-use std::io::{BufWriter, ErrorKind, Write};
+use canon_lines::{BufSink, RunFault};
+use rmp_wire::{IoSink, IoSource, SinkFault};
+use std::io::ErrorKind;
 use std::process::ExitCode;
 use std::rt::Env;
 use std::{env, io};
@@ -30,20 +30,21 @@ fn task_asked(rt: &(impl Env + AllocGlobal)) -> io::Result<Task> {
 // Runs over the whole standard input, and says whether no line was refused. What is printed goes through a buffer, which is
 // flushed however the run ends.
 fn serve(rt: &(impl Input + Print + AllocGlobal), checks: bool) -> Result<bool, RunFault> {
-    let Ok(writer) = BufWriter::new(rt.alloc(), io::writer(rt)) else {
-        return Err(RunFault::Memory);
-    };
     let mut source = IoSource::new(rt.reader());
-    let mut sink = IoSink::new(writer);
+    let mut sink = BufSink::new(rt.alloc(), IoSink::new(io::writer(rt)))?;
     let answer = if checks {
         check(rt.alloc(), &mut source, &mut sink)
     } else {
         run(rt.alloc(), &mut source, &mut sink)
     };
-    let flushed = sink.get_mut().flush();
+    let flushed = sink.flush();
     let accepted = answer?;
-    flushed.map_err(RunFault::Output)?;
-    Ok(accepted)
+    match flushed {
+        Ok(true) => Ok(accepted),
+        Ok(false) => Err(RunFault::Output(io::Error::from(ErrorKind::WriteZero))),
+        Err(SinkFault::Io(e)) => Err(RunFault::Output(e)),
+        Err(SinkFault::Memory) => Err(RunFault::Memory),
+    }
 }
 
 fn main(rt: HostRuntime) -> ExitCode {

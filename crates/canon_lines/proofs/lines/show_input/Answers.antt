@@ -1,4 +1,4 @@
-use Rattle.std.proofs.Common.{Bool, List, ℕ, subst, sym}
+use Rattle.std.proofs.Common.{Bool, List, ℕ}
 use Rattle.std.proofs.lemmas.Result.{err_from_is_err_and, IfOk-weaker}
 use Rattle.canon_lines.specs.Lines.{lines_in}
 use Rattle.canon_lines.specs.Prints.{PrintsAll, StartsAll, Puts}
