@@ -126,6 +126,10 @@ class Declared:
     def kinds(self) -> list[str]:
         return [field.kind for shape in self.shapes() for field in shape.fields]
 
+    def leads_back(self) -> bool:
+        """Whether a value of the type may contain another."""
+        return any(self.name in identifiers(kind) for kind in self.kinds())
+
     def constants(self) -> set[str]:
         """The constants of the file that are defaults."""
         return {field.default.constant for shape in self.shapes() for field in shape.fields if field.default and field.default.constant}
@@ -523,14 +527,14 @@ def declared(source: Source, word: str, name: str, at: int, notes: renaming.Note
 
 
 def check_recursion(types: dict[str, Declared], text: str) -> None:
-    """Refuses a type that leads back to itself."""
+    """Refuses a type that leads back to itself through another type."""
     inner = {name: {word for kind in of.kinds() for word in identifiers(kind)} & set(types) for name, of in types.items()}
     for name in types:
-        seen, todo = set(), list(inner[name])
+        seen, todo = set(), list(inner[name] - {name})
         while todo:
             word = todo.pop()
             if word == name:
-                raise Refused(f"{name}: it leads back to itself, and such a type is written by hand", declared_at(text, name))
+                raise Refused(f"{name}: it leads back to itself through another type, and such types are written by hand", declared_at(text, name))
             if word not in seen:
                 seen.add(word)
                 todo += inner[word]

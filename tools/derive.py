@@ -37,6 +37,7 @@ import sys
 from typing import Iterator
 
 sys.dont_write_bytecode = True
+import derived_recursive as recursive
 import halves
 from declarations import MOST, PLAIN, PRELUDE, Declared, Refused, identifiers, is_flat
 from derived_proofs import answers, has_content
@@ -366,7 +367,10 @@ def through(library, table):
 def implementations(module: Module, wanted: list[Own]) -> str:
     """The text of src/../derived.rt."""
     items = []
+    items += recursive.items(module, wanted)
     for own in wanted:
+        if own.of.leads_back():
+            continue
         items += writing(own.of) if "Serialize" in own.derived else []
         items += reading(own.of) if "Deserialize" in own.derived else []
         try:
@@ -377,6 +381,7 @@ def implementations(module: Module, wanted: list[Own]) -> str:
         items += handing_over(count)
     text = "\n".join(items)
     table = {name: f"{GHOST.get(name, '')} {LEMMAS.get(name, '')}" for name in {**GHOST, **LEMMAS}}
+    table = recursive.with_words(table, module, wanted)
     ghosts = imports(text, through(module.rounds(), table), ghost_line)
     others = {other.declared: other for own in wanted for other in own.others.values()}
     for own in [*wanted, *others.values()]:
@@ -386,7 +391,7 @@ def implementations(module: Module, wanted: list[Own]) -> str:
     if named:
         ghosts.append(ghost_line(f"{module.name}.specs.declared.{module.below('TheConstants')}", named))
     brought = set().union(*(own.brought for own in wanted))
-    uses = [code_line("super", sorted(brought.union(named_types([own.of for own in wanted])))), *imports(text, through(module.rounds(), CODE), code_line)]
+    uses = [code_line("super", sorted(brought.union(named_types([own.of for own in wanted])))), *imports(text, through(module.rounds(), recursive.with_code(CODE, wanted)), code_line)]
     about = f"//! How the types of {module.path} are written and read. Written by tools/derive.py.\n//!\n{sums_lines(wanted)}"
     return about + "".join(sorted(ghosts)) + "\n" + "".join(uses) + "\n" + text
 
@@ -394,6 +399,8 @@ def implementations(module: Module, wanted: list[Own]) -> str:
 def proofs(module: Module, wanted: list[Own]) -> Iterator[tuple[str, ...]]:
     """Each proof's text, and then its path below the module's."""
     for own in wanted:
+        if own.of.leads_back():
+            continue
         for trait, method, text in answers(own.of, own.derived, module):
             yield text, f"{own.of.name}{trait}", method
     for count in more_parts(wanted):
@@ -411,7 +418,10 @@ def derive(crate: str, path: str) -> None:
     files.add(implementations(module, wanted), "src", f"{module.at}derived.rt")
     for text, *words in proofs(module, wanted):
         files.add(text, "proofs", f"{module.at}derived", *words, "Answers.antt")
+    for text, *words in recursive.files(module, wanted):
+        files.add(text, *words)
     files.write(crate, os.path.join("proofs", f"{module.at}derived"))
+    recursive.name_files(module, wanted)
 
 
 def check(crate: str, path: str) -> None:

@@ -636,7 +636,7 @@ class Own:
         """Whether it has `RoundTrip` or `NeverNil`."""
         if trait not in self.known:
             self.known[trait] = False
-            self.known[trait] = trait in self.by_hand or trait in self.derived and self.has_own(trait)
+            self.known[trait] = trait in self.by_hand or trait in self.derived and (self.of.leads_back() or self.has_own(trait))
         return self.known[trait]
 
     def has_own(self, trait: str) -> bool:

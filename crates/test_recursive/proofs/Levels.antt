@@ -4,13 +4,9 @@ use Rattle.rmp_encode.specs.Data.{Data}
 use Rattle.rmp_encode.specs.Trees.{byte_of}
 use Rattle.rmp_encode.proofs.Packing.{slice_no_byte}
 use Rattle.rmp_encode.proofs.Fields.{structure_no_byte}
-use Rattle.rmp_encode.proofs.Variants.{newtype_no_byte}
 use Rattle.test_recursive.specs.declared.recursive.Nested.{Nested}
 use Rattle.test_recursive.specs.declared.recursive.Rose.{Rose}
-use Rattle.test_recursive.specs.declared.recursive.Tree.{Tree}
-use Rattle.test_recursive.specs.declared.recursive.Tree.TheFolds.{fold_out-Tree}
-use Rattle.test_recursive.specs.declared.recursive.Tree.TheOpen.{Tree-F}
-use Rattle.test_recursive.specs.Recursive.{nested_data, tree_level, tree_data, rose_data}
+use Rattle.test_recursive.specs.Recursive.{nested_data, rose_data}
 use Rattle.test_recursive.specs.Induction.{nested_is, rose_is}
 
 pub nested_no_byte : (v : Nested) → byte_of (nested_data v) ≡ None
@@ -18,10 +14,3 @@ nested_no_byte v = ap byte_of (nested_is v) ∙ slice_no_byte _
 
 pub rose_no_byte : (v : Rose) → byte_of (rose_data v) ≡ None
 rose_no_byte v = ap byte_of (rose_is v) ∙ structure_no_byte _
-
-level_no_byte : (t : Tree-F (Option Data)) → byte_of (tree_level t) ≡ None
-level_no_byte (Tree-F.Leaf a) = newtype_no_byte _ _
-level_no_byte (Tree-F.Node ts) = newtype_no_byte _ _
-
-pub tree_no_byte : (v : Tree) → byte_of (tree_data v) ≡ None
-tree_no_byte v = ap byte_of (fold_out-Tree (Option Data) tree_level v) ∙ level_no_byte _

@@ -1,3 +1,6 @@
 pub mod Steps
 pub mod Levels
 pub mod Roses
+pub mod Recursion
+pub mod TreeLevels
+pub mod ExprLevels

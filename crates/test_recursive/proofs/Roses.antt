@@ -14,8 +14,9 @@ use Rattle.rmp_decode.specs.declared.deserializer.Deserializer.{Deserializer}
 use Rattle.rmp_decode.proofs.Laws.{lawful_ok}
 use Rattle.rmp_decode.proofs.Seqs.{Values}
 use Rattle.test_recursive.specs.declared.recursive.Rose.{Rose, out-Rose}
-use Rattle.test_recursive.specs.Recursive.{Row, IsRose, RoseFields}
-use Rattle.test_recursive.proofs.Steps.{row_done, steps_at, at_most, lent_steps}
+use Rattle.test_recursive.specs.Recursion.{Row}
+use Rattle.test_recursive.specs.Recursive.{IsRose, RoseFields}
+use Rattle.test_recursive.proofs.Recursion.{steps_at, at_most, lent_steps}
 
 -- what was read of the children
 abbrev pub KidsRead : List (Option Msg) → Option (Vec Rose Global) → Type 0
@@ -26,18 +27,6 @@ pub kids_named : (fs : List (Option Msg)) (v : Rose) (m : Msg) → RoseFields Is
 kids_named [] v m h e = absurd h
 kids_named (None ∷ fs) v m h e = absurd (cc)
 kids_named (Some k ∷ fs) v m h e = let same : k ≡ m = cc in subst (λ z. Row IsRose z (out-Rose v).kids.items) same h.0
-
--- ---- the nodes of a list, as a vector
-
-pub roses_row : (m : Msg) → Readable (λ k (v : Vec Rose Global). Row IsRose k v.items) m → Readable (Row IsRose) m
-roses_row m (v, h) = (v.items, h)
-
-pub roses_done : {R C : Type 0} (g : Ghosts R) (old : Deserializer R C) (start mid : SeqAccess R C) (v : Vec Rose Global) → Opens g old start
-    → Values g IsRose start mid v.items → (last : Deserializer R C) → mid.left ≡ 0
-    → last ≡ record mid.de.now { failed = false } → Lawful g (λ k (w : Vec Rose Global). Row IsRose k w.items) old last (Ok v)
-roses_done g old start mid v o r last z q =
-    lawful_ok g (Row IsRose) (λ k (w : Vec Rose Global). Row IsRose k w.items) old last v.items v (λ m h. h)
-    (row_done g IsRose old start mid v.items o r last z q)
 
 -- ---- the room falls
 

@@ -3,3 +3,9 @@ pub mod Layers
 pub mod Induction
 pub mod ReadBack
 pub mod ReadOnly
+pub mod Recursion
+pub mod RecursionRounds
+pub mod TreeLevels
+pub mod TreeRounds
+pub mod ExprLevels
+pub mod ExprRounds

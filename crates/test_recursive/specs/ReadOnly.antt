@@ -20,46 +20,19 @@ use Rattle.rmp_round_trip.specs.StructRounds.{structure_row, fields_cons, fields
 use Rattle.rmp_round_trip.specs.VariantRounds.{newtype_variant_row}
 use Rattle.test_recursive.specs.declared.recursive.Nested.{Nested, out-Nested}
 use Rattle.test_recursive.specs.declared.recursive.Rose.{Rose, out-Rose}
-use Rattle.test_recursive.specs.declared.recursive.Tree.{Tree, out-Tree}
-use Rattle.test_recursive.specs.declared.recursive.Tree.TheFolds.{map-Tree, fold_out-Tree}
-use Rattle.test_recursive.specs.declared.recursive.Tree.TheOpen.{Tree-F}
-use Rattle.test_recursive.specs.Induction.{nested_induction, rose_induction, tree_induction, OfKids, nested_is, rose_is}
-use Rattle.test_recursive.specs.Layers.{nested_out, tree_out, rose_out}
-use Rattle.test_recursive.specs.Recursive.{
-  Row,
-  IsNested,
-  IsTree,
-  IsRose,
-  TreeCase,
-  RoseFields,
-  tree_names,
-  rose_names,
-  nested_data,
-  tree_level,
-  tree_data,
-  rose_data,
-}
+use Rattle.test_recursive.specs.Induction.{nested_induction, rose_induction, nested_is, rose_is}
+use Rattle.test_recursive.specs.Layers.{nested_out, rose_out}
+use Rattle.test_recursive.specs.Recursion.{Row}
+use Rattle.test_recursive.specs.RecursionRounds.{map_alike}
+use Rattle.test_recursive.specs.Recursive.{IsNested, IsRose, RoseFields, rose_names, nested_data, rose_data}
 
 -- ---- values of the same content: they are written alike
 
 abbrev pub SameNested : Nested → Nested → Type 0
 SameNested v w = nested_data v ≡ nested_data w
 
-abbrev pub SameTree : Tree → Tree → Type 0
-SameTree v w = tree_data v ≡ tree_data w
-
 abbrev pub SameRose : Rose → Rose → Type 0
 SameRose v w = rose_data v ≡ rose_data w
-
-map_alike : {X : Type 0} (d : X → Option Data) (xs ys : List X) → Alike (λ x y. d x ≡ d y) xs ys → map d xs ≡ map d ys
-map_alike d [] [] h = refl
-map_alike d [] (y ∷ ys) h = absurd h
-map_alike d (x ∷ xs) [] h = absurd h
-map_alike d (x ∷ xs) (y ∷ ys) h = λ i. (h.0 i) ∷ (map_alike d xs ys h.1 i)
-
-tree_by : (w : Tree) (y : Tree-F Tree) → out-Tree w ≡ y → tree_level (map-Tree Tree (Option Data) tree_data y) ≡ tree_data w
-tree_by w y e =
-    sym (fold_out-Tree (Option Data) tree_level w ∙ ap (λ z. tree_level (map-Tree Tree (Option Data) tree_data z)) e)
 
 module _ (s : Settings) where
   abbrev NestedOnly : Nested → Type 0
@@ -97,38 +70,3 @@ module _ (s : Settings) where
       (λ m q w r. rose_is v ∙ ap rose_of (map_alike rose_data vs (out-Rose w).kids.items
       (fields_both rose_names _ (λ fs. RoseFields IsRose fs w) _ m q (rose_out m w r)
       (last_field (Row IsRose) (Alike SameRose) vs (out-Rose w).kids.items _))) ∙ sym (rose_is w))))
-
-  abbrev TreeOnly : Tree → Type 0
-  TreeOnly v = LowersTo s (tree_data v) (λ m. Only IsTree SameTree m v)
-
-  -- one level of a tree
-  abbrev LevelOnly : Tree-F Tree → Msg → Type 0
-  LevelOnly x m = (w : Tree) → OfVariant tree_names (TreeCase IsTree w) m → tree_level (map-Tree Tree (Option Data) tree_data x) ≡ tree_data w
-
-  level_only : (x : Tree-F Tree) → OfKids TreeOnly x → LowersTo s (tree_level (map-Tree Tree (Option Data) tree_data x)) (LevelOnly x)
-  level_only (Tree-F.Leaf a) h =
-      lowers_then s (newtype_variant_of (codes "Leaf") (Some (byte a))) _ (LevelOnly (Tree-F.Leaf a))
-      (newtype_variant_row s tree_names (codes "Leaf") 0 refl (AtPlace 0 (Content (λ k. Only (IsUnsigned 255) (λ x y. x ≡ y) k a))) (Some (byte a))
-      (λ k. Only (IsUnsigned 255) (λ x y. x ≡ y) k a) (λ m p. (refl, p)) (byte_only s a))
-      (λ m q w r. variant_both tree_names 0 _ (TreeCase IsTree w) _ m q r
-      (λ c i j. ap (λ n. newtype_variant_of (codes "Leaf") (Some (byte n))) (content_only (IsUnsigned 255) (λ x y. x ≡ y) a j.0 c i j.2)
-      ∙ tree_by w (Tree-F.Leaf j.0) j.1))
-  level_only (Tree-F.Node ts) h =
-      let kids = slice_of (map tree_data ts.items) in
-      let reads : Msg → Vec Tree Global → Type 0 = λ k us. Row IsTree k us.items in
-      let same : Vec Tree Global → Vec Tree Global → Type 0 = λ x y. Alike SameTree x.items y.items in
-      lowers_then s (newtype_variant_of (codes "Node") kids) _ (LevelOnly (Tree-F.Node ts))
-      (newtype_variant_row s tree_names (codes "Node") 1 refl (AtPlace 1 (Content (λ k. Only reads same k ts))) kids
-      (λ k. Only reads same k ts) (λ m p. (refl, p))
-      (list_only s kids (λ us. us.items) IsTree SameTree ts.items
-      (slice_row s (map tree_data ts.items) (λ ms. ReadsEach (Only IsTree SameTree) ms ts.items)
-      (each_row s tree_data TreeOnly (Only IsTree SameTree) (λ w p. p) ts.items h))))
-      (λ m q w r. variant_both tree_names 1 _ (TreeCase IsTree w) _ m q r
-      (λ c i j. ap (λ ds. newtype_variant_of (codes "Node") (slice_of ds))
-      (map_alike tree_data ts.items j.0.items (content_only reads same ts j.0 c i j.2)) ∙ tree_by w (Tree-F.Node j.0) j.1))
-
-  pub tree_only : (v : Tree) → TreeOnly v
-  tree_only = tree_induction TreeOnly
-      (λ v h. subst (λ d. LowersTo s d (λ m. Only IsTree SameTree m v)) (sym (fold_out-Tree (Option Data) tree_level v))
-      (lowers_then s (tree_level (map-Tree Tree (Option Data) tree_data (out-Tree v))) (LevelOnly (out-Tree v)) (λ m. Only IsTree SameTree m v)
-      (level_only (out-Tree v) h) (λ m q w r. fold_out-Tree (Option Data) tree_level v ∙ q w (tree_out m w r))))

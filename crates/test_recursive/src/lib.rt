@@ -3,5 +3,7 @@
 
 mod recursive;
 mod rounds;
+mod trees;
 
-pub use recursive::{Nested, Rose, Tree};
+pub use recursive::{Nested, Rose};
+pub use trees::{Expr, Tree};

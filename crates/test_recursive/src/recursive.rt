@@ -1,12 +1,11 @@
 //! Types that lead back to themselves.
 ghost use Rattle.rmp_decode.specs.Law.{Lawful};
-ghost use Rattle.rmp_decode.specs.Read.{IsUnsigned};
 ghost use Rattle.rmp_decode.specs.Rows.{ReadsEach};
 ghost use Rattle.rmp_decode.specs.Seq.{OfRow};
 ghost use Rattle.std.specs.Prelude.{None, ⊤};
-ghost use Rattle.test_recursive.specs.Recursive.{IsNested, IsTree, IsRose, nested_data, tree_data, tree_fits, rose_data};
+ghost use Rattle.test_recursive.specs.Recursive.{IsNested, IsRose, nested_data, rose_data};
 
-use rmp_decode::{Deserialize, Deserializer, ReadContent, ReadPlaces, Slices};
+use rmp_decode::{Deserialize, Deserializer, ReadPlaces, Slices};
 use rmp_encode::{Serialize, Serializer};
 use rmp_wire::config::SerializerConfig;
 use rmp_wire::{ReadSlice, Sink, Source};
@@ -15,13 +14,6 @@ use rmp_wire::{ReadSlice, Sink, Source};
 #[derive(Drop)]
 pub struct Nested {
     pub sub: Vec<Nested>,
-}
-
-/// A number, or a list of trees.
-#[derive(Drop)]
-pub enum Tree {
-    Leaf(u8),
-    Node(Vec<Tree>),
 }
 
 /// More of them.
@@ -46,31 +38,6 @@ impl Serialize for Nested {
     #[tactic(auto, using(crate::proofs::Levels::nested_no_byte))]
     fn as_u8(&self, _human: bool) -> Option<u8> {
         None
-    }
-}
-
-impl Serialize for Tree {
-    ghost data_of = { λ v human. tree_data v };
-
-    ghost is_value = { λ v. tree_fits v };
-
-    #[cycle(tree_writing)]
-    fn serialize<W: Sink, C: SerializerConfig>(
-        &self,
-        se: &mut Serializer<W, C>,
-    ) -> Result<(), rmp_encode::Error> {
-        match self {
-            Tree::Leaf(number) => se.serialize_newtype_variant("Tree", 0, "Leaf", number),
-            Tree::Node(trees) => se.serialize_newtype_variant("Tree", 1, "Node", trees),
-        }
-    }
-
-    #[tactic(auto, using(crate::proofs::Levels::tree_no_byte))]
-    fn as_u8(&self, _human: bool) -> Option<u8> {
-        match self {
-            Tree::Leaf(_) => None,
-            Tree::Node(_) => None,
-        }
     }
 }
 
@@ -122,74 +89,6 @@ impl<'de, R: ReadSlice<'de>> Deserialize<'de, R> for Nested {
     }
 
     fn missing() -> Option<Nested> {
-        None
-    }
-}
-
-fn read_byte<R: Source, C: SerializerConfig>(
-    de: &mut Deserializer<R, C>,
-) -> Result<u8, rmp_decode::Error>
-    ensures law { Lawful R.Source (IsUnsigned 255) de.old de.new result }
-{
-    de.deserialize_u8()
-}
-
-// Reads a number, or a list of trees.
-#[cycle(reading)]
-fn read_tree<R: Source, C: SerializerConfig, P: ReadContent<R>>(
-    de: &mut Deserializer<R, C>,
-) -> Result<Tree, rmp_decode::Error>
-    ensures law { Lawful R.Source IsTree de.old de.new result }
-{
-    match de.deserialize_enum_by::<P>(&["Leaf", "Node"]) {
-        Ok((0, leaf)) => match leaf.newtype_variant_with(read_byte::<R, C>) {
-            Ok(number) => Ok(Tree::Leaf(number)),
-            Err(e) => Err(e),
-        },
-        Ok((_, node)) => match node.newtype_variant_with(
-            |de: &mut Deserializer<R, C>| -> Result<Vec<Tree>, rmp_decode::Error>
-                ensures law { Lawful R.Source (λ m v. OfRow (λ ms. ReadsEach IsTree ms v.items) m) de.old de.new result }
-            { read_trees::<R, C, P>(de) },
-        ) {
-            Ok(trees) => Ok(Tree::Node(trees)),
-            Err(e) => Err(e),
-        },
-        Err(e) => Err(e),
-    }
-}
-
-// The trees of a list.
-#[cycle(reading)]
-fn read_trees<R: Source, C: SerializerConfig, P: ReadContent<R>>(
-    de: &mut Deserializer<R, C>,
-) -> Result<Vec<Tree>, rmp_decode::Error>
-    ensures law { Lawful R.Source (λ m v. OfRow (λ ms. ReadsEach IsTree ms v.items) m) de.old de.new result }
-{
-    let mut trees = Vec::new(de.alloc());
-    let mut seq = de.deserialize_seq()?;
-    while let Some(tree) = seq.next_element_with(
-        |de: &mut Deserializer<R, C>| -> Result<Tree, rmp_decode::Error>
-            ensures law { Lawful R.Source IsTree de.old de.new result }
-        { read_tree::<R, C, P>(de) },
-    )? {
-        trees.push(tree)?;
-    }
-    seq.end()?;
-    Ok(trees)
-}
-
-impl<'de, R: ReadSlice<'de>> Deserialize<'de, R> for Tree {
-    ghost reads = { λ human lends. IsTree };
-
-    ghost absent = { None };
-
-    fn deserialize<C: SerializerConfig>(
-        de: &mut Deserializer<R, C>,
-    ) -> Result<Tree, rmp_decode::Error> {
-        read_tree::<R, C, Slices<'de>>(de)
-    }
-
-    fn missing() -> Option<Tree> {
         None
     }
 }

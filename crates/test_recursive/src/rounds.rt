@@ -1,9 +1,9 @@
 //! The types that lead back to themselves are read as they were written.
-ghost use Rattle.test_recursive.specs.ReadBack.{nested_some, nested_round, nested_other, tree_some, tree_round, tree_other};
+ghost use Rattle.test_recursive.specs.ReadBack.{nested_some, nested_round, nested_other};
 ghost use Rattle.test_recursive.specs.ReadBack.{rose_some, rose_round, rose_other};
-ghost use Rattle.test_recursive.specs.ReadOnly.{SameNested, SameRose, SameTree, nested_only, rose_only, tree_only};
+ghost use Rattle.test_recursive.specs.ReadOnly.{SameNested, SameRose, nested_only, rose_only};
 
-use crate::recursive::{Nested, Rose, Tree};
+use crate::recursive::{Nested, Rose};
 use rmp_round_trip::{NeverNil, RoundTrip};
 use rmp_wire::ReadSlice;
 
@@ -19,20 +19,6 @@ impl<'de, R: ReadSlice<'de>> RoundTrip<'de, R> for Nested {
 
 impl NeverNil for Nested {
     ghost never_nil = { λ s v. nested_other s v };
-}
-
-impl<'de, R: ReadSlice<'de>> RoundTrip<'de, R> for Tree {
-    ghost has_data = { λ human v. tree_some v };
-
-    ghost round = { λ lent s v fits. tree_round s v fits };
-
-    ghost same = { SameTree };
-
-    ghost only = { λ s v fits. tree_only s v };
-}
-
-impl NeverNil for Tree {
-    ghost never_nil = { λ s v. tree_other s v };
 }
 
 impl<'de, R: ReadSlice<'de>> RoundTrip<'de, R> for Rose {

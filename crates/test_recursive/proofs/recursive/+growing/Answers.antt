@@ -12,11 +12,12 @@ use Rattle.rmp_decode.proofs.StructRuns.{struct_start, struct_step, struct_place
 use Rattle.rmp_decode.proofs.StructRuns.{slot_first, slot_field, slot_gap, slot_lacks}
 use Rattle.rmp_decode.proofs.Structs.{fields_unopened}
 use Rattle.test_recursive.specs.declared.recursive.Rose.{Rose, out-Rose, out-roll-Rose}
-use Rattle.test_recursive.specs.Recursive.{Row, IsRose, RoseFields, rose_names}
+use Rattle.test_recursive.specs.Recursion.{Row}
+use Rattle.test_recursive.specs.Recursive.{IsRose, RoseFields, rose_names}
 use Rattle.test_recursive.specs.Layers.{IsNode, rose_made, rose_node}
-use Rattle.test_recursive.proofs.Roses.{KidsRead, kids_named, roses_row, roses_done, field_steps, same_then}
-use Rattle.test_recursive.proofs.Steps.{row_unopened, row_refused, row_unkept, part_steps, steps_at, lent_law}
-use Rattle.test_recursive.proofs.Steps.{item_taken, item_refused, some_if, some_if_err, none_left, never_none}
+use Rattle.test_recursive.proofs.Roses.{KidsRead, kids_named, field_steps, same_then}
+use Rattle.test_recursive.proofs.Recursion.{vec_row, vec_done, row_unopened, row_refused, row_unkept, part_steps, steps_at, lent_law}
+use Rattle.test_recursive.proofs.Recursion.{item_taken, item_refused, some_if, some_if_err, none_left, never_none}
 use Rattle.test_recursive.proofs.recursive.+growing.Goals as goal
 use Rattle.test_recursive.proofs.recursive.+growing.Goals.{read_rose-in-Some, read_rose-in-None+in-Ok-missing_field_or}
 
@@ -147,7 +148,7 @@ pub read_roses-returns-in_err-seq : goal.read_roses-returns-in_err-seq
 read_roses-returns-in_err-seq g t c =
     let p = err_from_is_err_and c.from_residual.result c.from_residual.ensures.1 in
     rw (p.1, p.2) (record {
-      law = lawful_err _ (Row IsRose) _ _ _ _ roses_row
+      law = lawful_err _ (Row IsRose) _ _ _ _ (vec_row IsRose)
           (row_unopened g.R.Source IsRose _ _ _ (rw c.in_err-seq.was at c.deserialize_seq.follows.holds-at-none));
     })
 
@@ -169,7 +170,7 @@ read_roses-returns-in_err-rose g t c =
     let f = item_refused g.R.Source IsRose c.loop-roses.seq c.next_element_with.new.self r.run.still e.list (λ p q r h. h) _ some
     (e.part r.run.still.sound some) in
     rw (p.1, p.2) (record {
-      law = lawful_err _ (Row IsRose) _ _ _ _ roses_row
+      law = lawful_err _ (Row IsRose) _ _ _ _ (vec_row IsRose)
           (row_refused g.R.Source IsRose _ c.in_ok-seq.seq c.loop-roses.seq c.loop-roses.roses.items c.in_ok-seq.ensures.opened r _
           c.next_element_with.new.self _ f
           (e.marked r.run.still.marked) (search rules));
@@ -195,7 +196,7 @@ read_roses-returns g t c =
     let n = (e.none r.run.still.sound z).1 in
     let d = (c.in_ok-end.ensures.ok (subst IsOpen (sym n) r.run.still)).1 in
     record {
-      law = roses_done g.R.Source _ c.in_ok-seq.seq c.loop-roses.seq c.loop-roses.roses c.in_ok-seq.ensures.opened r _ z
+      law = vec_done g.R.Source IsRose _ c.in_ok-seq.seq c.loop-roses.seq c.loop-roses.roses c.in_ok-seq.ensures.opened r _ z
           (via c.end.new.self.0 (search rules) (d ∙ ap (λ s. record s.de.now { failed = false }) n));
     }
 
@@ -211,7 +212,7 @@ read_roses-returns-in_err-push g t c =
     let v = values_step g.R.Source IsRose c.in_ok-seq.seq c.loop-roses.seq c.next_element_with.new.self c.loop-roses.roses.items c.in-Some.rose r k
     e.same_reference in
     rw (p.1, p.2) (record {
-      law = lawful_err _ (Row IsRose) _ _ _ _ roses_row
+      law = lawful_err _ (Row IsRose) _ _ _ _ (vec_row IsRose)
           (row_unkept g.R.Source IsRose _ c.in_ok-seq.seq c.next_element_with.new.self _ c.in_ok-seq.ensures.opened v _ (search rules));
     })
 

@@ -3,7 +3,7 @@ use Rattle.rmp_decode.proofs.Seqs.{Values}
 use Rattle.rmp_decode.proofs.StructRuns.{StructRun}
 use Rattle.test_recursive.specs.Recursive.{IsRose, rose_names}
 use Rattle.test_recursive.proofs.Roses.{KidsRead}
-use Rattle.test_recursive.proofs.Steps.{steps_at}
+use Rattle.test_recursive.proofs.Recursion.{steps_at}
 use Rattle.test_recursive.proofs.recursive.+growing.Given as goal
 
 -- The fields of a node nest below it, and so does an element of a list, unless it is a number out of bytes.

@@ -1,0 +1,102 @@
+-- What recursive types share: their readings by steps, their parts, and what holds of each part.
+use Rattle.std.proofs.Common.{◌≡◌, refl, subst, arith, ℕ, zero, suc, ◌+◌, List, [], ◌∷◌, All, Option, None, Some, MatchOption}
+use Rattle.std.proofs.Common as common
+use Rattle.std.specs.List.{AllByRecursion}
+use Rattle.std.proofs.lemmas.List.Elements.{All-nil, All-cons, All-head, All-tail}
+use Rattle.rmp_wire.specs.Msg.{Msg, nil, truth, whole, float32, float64, text, bin, list, map, extension, Msgs, no_items, item}
+use Rattle.rmp_decode.specs.Rows.{ReadsEach}
+use Rattle.rmp_decode.specs.Seq.{OfRow, numbers}
+use Rattle.rmp_decode.specs.Variants.{OfVariant, variant_of}
+
+-- a list, or bytes as the list of their numbers, of which each item is read so
+abbrev pub Row : {V : Type 0} → (Msg → V → Type 0) → Msg → List V → Type 0
+Row reads m vs = OfRow (λ ms. ReadsEach reads ms vs) m
+
+-- in some number of steps the message is read as the value
+abbrev pub InSteps : {V : Type 0} → (ℕ → Msg → V → Type 0) → Msg → V → Type 0
+InSteps reads m v = (n : ℕ) × reads n m v
+
+each_as : {V : Type 0} (P Q : Msg → V → Type 0) → ((m : Msg) (v : V) → P m v → Q m v) → (ms : Msgs) (vs : List V) → ReadsEach P ms vs → ReadsEach Q ms vs
+each_as P Q f no_items [] h = tt
+each_as P Q f no_items (v ∷ vs) h = absurd h
+each_as P Q f (item m ms) [] h = absurd h
+each_as P Q f (item m ms) (v ∷ vs) h = (f m v h.0, each_as P Q f ms vs h.1)
+
+pub row_as : {V : Type 0} (P Q : Msg → V → Type 0) → ((m : Msg) (v : V) → P m v → Q m v) → (m : Msg) (vs : List V) → Row P m vs → Row Q m vs
+row_as P Q f nil vs h = h
+row_as P Q f (truth t) vs h = h
+row_as P Q f (whole z) vs h = h
+row_as P Q f (float32 n) vs h = h
+row_as P Q f (float64 n) vs h = h
+row_as P Q f (text s) vs h = h
+row_as P Q f (bin s) vs h = each_as P Q f (numbers s) vs h
+row_as P Q f (list ms) vs h = each_as P Q f ms vs h
+row_as P Q f (map ps) vs h = h
+row_as P Q f (extension tag s) vs h = h
+
+-- each in its number of steps, so all in one
+module _ {V : Type 0} (P : ℕ → Msg → V → Type 0) (up : (n : ℕ) (m : Msg) (v : V) → P n m v → P (suc n) m v) where
+  more : (k n j : ℕ) → k + n ≡ j → (m : Msg) (v : V) → P n m v → P j m v
+  more zero n j e m v h = let same : n ≡ j = omega (arith, e) in subst (λ i. P i m v) same h
+  more (suc k) n j e m v h = more k (suc n) j (omega (arith, e)) m v (up n m v h)
+
+  each_in : (ms : Msgs) (vs : List V) → ReadsEach (InSteps P) ms vs → (n : ℕ) × ReadsEach (P n) ms vs
+  each_in no_items [] h = (zero, tt)
+  each_in no_items (v ∷ vs) h = absurd h
+  each_in (item m ms) [] h = absurd h
+  each_in (item m ms) (v ∷ vs) ((n, p), q) =
+      let i = each_in ms vs q in
+      let j = n + i.0 in
+      (j, (more i.0 n j (omega arith) m v p, each_as (P i.0) (P j) (more n i.0 j refl) ms vs i.1))
+
+  pub row_in : (m : Msg) (vs : List V) → Row (InSteps P) m vs → (n : ℕ) × Row (P n) m vs
+  row_in nil vs h = absurd h
+  row_in (truth t) vs h = absurd h
+  row_in (whole z) vs h = absurd h
+  row_in (float32 n) vs h = absurd h
+  row_in (float64 n) vs h = absurd h
+  row_in (text s) vs h = absurd h
+  row_in (bin s) vs h = each_in (numbers s) vs h
+  row_in (list ms) vs h = each_in ms vs h
+  row_in (map ps) vs h = absurd h
+  row_in (extension tag s) vs h = absurd h
+
+-- ---- enums
+
+pub variant_as : (names : List (List ℕ)) (P Q : ℕ × Option Msg → Type 0) → ((k : ℕ) (c : Option Msg) → P (k, c) → Q (k, c)) → (m : Msg)
+    → OfVariant names P m → OfVariant names Q m
+unfolding OfVariant
+variant_as names P Q f m h = go (variant_of names m) h
+  where
+    go : (x : Option (ℕ × Option Msg)) → MatchOption x ⊥ P → MatchOption x ⊥ Q
+    go None h = h
+    go (Some p) h = f p.0 p.1 h
+
+-- the content is read in some number of steps, so the variant is
+pub variant_in : (names : List (List ℕ)) (P : ℕ × Option Msg → Type 0) (Q : ℕ → ℕ × Option Msg → Type 0)
+    → ((k : ℕ) (c : Option Msg) → P (k, c) → (n : ℕ) × Q n (k, c)) → (m : Msg) → OfVariant names P m → (n : ℕ) × OfVariant names (Q n) m
+unfolding OfVariant
+variant_in names P Q f m h = go (variant_of names m) h
+  where
+    go : (x : Option (ℕ × Option Msg)) → MatchOption x ⊥ P → (n : ℕ) × MatchOption x ⊥ (Q n)
+    go None h = absurd h
+    go (Some p) h = f p.0 p.1 h
+
+-- ---- lists of parts
+
+pub each_holds : {A B : Type 0} (P : A → Type 0) (first : B → A) → ((b : B) → P (first b)) → (bs : List B) → All P (common.map first bs)
+each_holds P first h [] = All-nil P
+each_holds P first h (b ∷ bs) = All-cons P (first b) (common.map first bs) (h b) (each_holds P first h bs)
+
+pub through : {X T : Type 0} (at : X → T) (k : T → Type 0) (xs : List X) → AllByRecursion (λ p. k (at p)) xs ≡ AllByRecursion k (common.map at xs)
+through at k [] = refl
+through at k (x ∷ xs) = common.ap (λ t. k (at x) × t) (through at k xs)
+
+pub all_by : {X : Type 0} (P : X → Type 0) (xs : List X) → All P xs → AllByRecursion P xs
+all_by P [] h = tt
+all_by P (x ∷ xs) h = (All-head P x xs h, all_by P xs (All-tail P x xs h))
+
+-- what follows for each part from what is known of it
+pub each_from : {X : Type 0} (P Q : X → Type 0) (xs : List X) → All (λ x. P x → Q x) xs → AllByRecursion P xs → All Q xs
+each_from P Q [] h fit = All-nil Q
+each_from P Q (x ∷ xs) h fit = All-cons Q x xs (All-head (λ x. P x → Q x) x xs h fit.0) (each_from P Q xs (All-tail (λ x. P x → Q x) x xs h) fit.1)
