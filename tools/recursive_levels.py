@@ -1,0 +1,317 @@
+"""The definitions that derive.py writes for a recursive enum: what its values are read from and written as, level by level."""
+from __future__ import annotations
+
+import dataclasses
+import re
+from typing import Optional
+
+from declarations import Declared, Shape
+from derived_terms import codes, underscored
+
+
+@dataclasses.dataclass(frozen=True)
+class Part:
+    """What a variant holds: how its values are called in terms, which are templates over the value {a}."""
+
+    # the type, in the language and in terms
+    kind: str
+    term: str
+    # what it is read from, {k}, by what the type is read from, {reads}
+    reads: str
+    # what it is written as, over the data {data} of the type's own values
+    data: str
+    # what is known of it, by what is known of the type's own values, {fits}
+    fits: str
+    # that it is read as it was written, by {fit}, and that nothing else is
+    row: str = ""
+    only: str = ""
+    # by what two values have the same content, and what a value of that content is written as
+    key: str = "{a}"
+    of_key: str = ""
+    is_leaf: bool = True
+
+    def call(self) -> str:
+        """The function that reads a leaf."""
+        return f"read_{self.kind.lower()}"
+
+
+def unsigned(bits: int) -> Part:
+    most = 2**bits - 1
+    data = "Some (byte {a})" if bits == 8 else "Some (whole (pos {a}))"
+    row = "byte_row s {a} {fit}" if bits == 8 else f"unsigned_row_{bits} s {{a}} {{fit}}"
+    only = "byte_only s {a}" if bits == 8 else f"unsigned_only s {most} {{a}}"
+    return Part(f"u{bits}", "ℕ", f"IsUnsigned {most} {{k}} {{a}}", data, f"{{a}} < 2 ^ {bits}", row, only, of_key=data)
+
+
+def signed(bits: int) -> Part:
+    ends = f"(negsuc {2 ** (bits - 1) - 1}) (pos {2 ** (bits - 1) - 1})"
+    return Part(
+        f"i{bits}", "ℤ", f"IsSigned {ends} {{k}} {{a}}", "Some (whole {a})", f"FitsSigned w{bits} {{a}}",
+        f"signed_row_{bits} s {{a}} {{fit}}", f"signed_only s {ends} {{a}}", of_key="Some (whole {a})",
+    )
+
+
+TEXT = "string_bytes {a}"
+LEAVES = {part.kind: part for part in [
+    *(unsigned(bits) for bits in (8, 16, 32, 64)), *(signed(bits) for bits in (8, 16, 32, 64)),
+    Part("bool", "Bool", "{k} ≡ msg.truth {a}", "Some (truth {a})", "⊤", "truth_row s {a}", "truth_only s {a}", of_key="Some (truth {a})"),
+    Part("String", "String Global", f"IsRaw {{k}} ({TEXT})", f"Some (text ({TEXT}))", f"IsUtf8 ({TEXT})", f"string_row s ({TEXT})",
+         f"string_only s (λ w. string_bytes w) ({TEXT})", TEXT, "Some (text {a})"),
+]}
+
+
+class Level:
+    """A type that leads back to itself: its variants with what they hold, and the names of what is written for it."""
+
+    def __init__(self, of: Declared, crate: str, declared: str) -> None:
+        self.of, self.crate, self.declared = of, crate, declared
+        self.name, self.low = of.name, underscored(of.name)
+        self.variants = [(shape, self.part(shape)) for shape in of.variants or []]
+
+    def part(self, shape: Shape) -> Optional[Part]:
+        """What a variant holds, if anything."""
+        kind = shape.fields[0].kind if shape.fields else None
+        if kind is None or kind in LEAVES:
+            return LEAVES.get(kind)
+        if kind == f"Vec<{self.name}>":
+            return Part(kind, f"Vec {self.name} Global", "Row {reads} {k} {a}.items", "slice_of {a}.items", "AllByRecursion {fits} {a}.items", is_leaf=False)
+        return Part(kind, f"Box {self.name} Global", "{reads} {k} {a}.value", "{a}.value", "{fits} {a}.value", is_leaf=False)
+
+    def is_list(self, part: Part) -> bool:
+        return part.kind.startswith("Vec<")
+
+    def made(self, shape: Shape, part: Optional[Part], value: str = "a") -> str:
+        """A level that is this variant."""
+        return f"({self.name}-F.{shape.name} {value})" if part else f"{self.name}-F.{shape.name}"
+
+    def names(self) -> str:
+        return codes(shape.key for shape, _ in self.variants)
+
+    def leaves(self) -> list[Part]:
+        """What its leaves are, each once."""
+        return list(dict.fromkeys(part for _, part in self.variants if part and part.is_leaf))
+
+    def holders(self) -> list[Part]:
+        """What it is again in, each once."""
+        return list(dict.fromkeys(part for _, part in self.variants if part and not part.is_leaf))
+
+
+def peano(at: int) -> str:
+    """A number as a pattern."""
+    return "zero" if at == 0 else f"(suc {peano(at - 1)})"
+
+
+def brought_in(text: str, table: dict[str, str]) -> str:
+    """The lines that bring in the names of the table that a text has."""
+    lines = []
+    for module, names in table.items():
+        here = [name for name in names.split() if named(text, name)]
+        if here:
+            lines.append(f"use Rattle.{module}.{{{', '.join(here)}}}\n")
+    lines += ["use Rattle.rmp_wire.specs.Msg as msg\n"] * ("msg." in text)
+    return "".join(lines)
+
+
+def named(text: str, name: str) -> bool:
+    sign = name.replace("◌", "")
+    return sign in text if sign != name else re.search(rf"(?<![\w.-]){re.escape(name)}(?![\w-])", text) is not None
+
+
+# ---- definitions
+
+
+def shape_of(level: Level) -> str:
+    """What it is read from, by steps."""
+    name, low = level.name, level.low
+    cases = "NoCase"
+    for shape, part in reversed(level.variants):
+        if part is None:
+            head = f"λ c. (out-{name} v ≡ {level.made(shape, part)}) × Bare c"
+        else:
+            reads = part.reads.format(reads="reads", k="k", a="a")
+            head = f"λ c. (a : {part.term}) × (out-{name} v ≡ {level.made(shape, part)[1:-1]}) × Content (λ k. {reads}) c"
+        cases = f"Case ({head})\n    {cases}" if cases == "NoCase" else f"Case ({head})\n    ({cases})"
+    return f"""
+abbrev pub {low}_names : List (List ℕ)
+{low}_names = {level.names()}
+
+-- ---- what it is read from
+
+abbrev pub {name}Case : (Msg → {name} → Type 0) → {name} → ℕ × Option Msg → Type 0
+{name}Case reads v = {cases}
+
+abbrev pub {name}In : ℕ → Msg → {name} → Type 0
+{name}In zero m v = ⊥
+{name}In (suc n) m v = OfVariant {low}_names ({name}Case ({name}In n) v) m
+
+-- in some number of steps the message is read as the value
+abbrev pub Is{name} : Msg → {name} → Type 0
+Is{name} m v = InSteps {name}In m v
+"""
+
+
+def written_of(level: Level) -> str:
+    """What it is written as, level by level, and what is known of it."""
+    name, low = level.name, level.low
+    datas, fits = "", ""
+    for shape, part in level.variants:
+        of = f"(codes \"{shape.key}\")"
+        datas += f"{low}_level {level.made(shape, part)} = " + (f"newtype_variant_of {of} ({part.data.format(a='a')})" if part else f"Some (unit_variant {of})") + "\n"
+        fits += f"{low}_layer_fits X at fits {level.made(shape, part)} = " + (part.fits.format(a="a", fits="fits") if part else "⊤") + "\n"
+    return f"""
+-- ---- what it is written as: one level, of what its parts are written as
+
+abbrev pub {low}_level : {name}-F (Option Data) → Option Data
+{datas}
+abbrev pub {low}_data : {name} → Option Data
+{low}_data = fold-{name} (Option Data) {low}_level
+
+-- ---- what is known of a value
+
+abbrev pub {low}_layer_fits : (X : Type 0) → (X → {name}) → (X → Type 0) → {name}-F X → Type 0
+{fits}
+abbrev pub {low}_fits : {name} → Type 0
+{low}_fits = rec-{name} (Type 0) {low}_layer_fits
+"""
+
+
+def steps_of(level: Level) -> str:
+    """One step of its reading by what its parts are read from."""
+    name, low = level.name, level.low
+    wider, counted = "", ""
+    for at, (shape, part) in enumerate(level.variants):
+        place = peano(at)
+        if part is None or part.is_leaf:
+            wider += f"{low}_as P Q f v {place} c h = h\n"
+            counted += f"{low}_in v {place} c h = (zero, h)\n"
+            continue
+        as_, in_ = (f"row_as P Q f m a.items h", f"let i = row_in {name}In {low}_up m a.items h in (i.0, (a, e, i.1))")
+        if not level.is_list(part):
+            as_, in_ = "f m a.value h", "(h.0, (a, e, h.1))"
+        wider += f"{low}_as P Q f v {place} None (a, e, h) = absurd h\n{low}_as P Q f v {place} (Some m) (a, e, h) = (a, e, {as_})\n"
+        counted += f"{low}_in v {place} None (a, e, h) = absurd h\n{low}_in v {place} (Some m) (a, e, h) = {in_}\n"
+    end = last_place(len(level.variants))
+    wider += f"{low}_as P Q f v {end} c h = absurd h\n"
+    counted += f"{low}_in v {end} c h = absurd h\n"
+    case = f"{name}Case"
+    return f"""
+-- ---- one step more
+
+{low}_as : (P Q : Msg → {name} → Type 0) → ((m : Msg) (v : {name}) → P m v → Q m v) → (v : {name}) (k : ℕ) (c : Option Msg) → {case} P v (k, c) → {case} Q v (k, c)
+{wider}
+{low}_up : (n : ℕ) (m : Msg) (v : {name}) → {name}In n m v → {name}In (suc n) m v
+{low}_up zero m v h = absurd h
+{low}_up (suc n) m v h =
+    variant_as {low}_names ({case} ({name}In n) v) ({case} ({name}In (suc n)) v) ({low}_as ({name}In n) ({name}In (suc n)) ({low}_up n) v) m h
+
+{low}_in : (v : {name}) (k : ℕ) (c : Option Msg) → {case} Is{name} v (k, c) → (n : ℕ) × {case} ({name}In n) v (k, c)
+{counted}
+pub {low}_made : (v : {name}) (m : Msg) → OfVariant {low}_names ({case} Is{name} v) m → Is{name} m v
+{low}_made v m h = let i = variant_in {low}_names ({case} Is{name} v) (λ n. {case} ({name}In n) v) ({low}_in v) m h in (suc i.0, i.1)
+
+pub {low}_out : (m : Msg) (v : {name}) → Is{name} m v → OfVariant {low}_names ({case} Is{name} v) m
+{low}_out m v (zero, h) = absurd h
+{low}_out m v (suc n, h) = variant_as {low}_names ({case} ({name}In n) v) ({case} Is{name} v) ({low}_as ({name}In n) Is{name} (λ k w p. (n, p)) v) m h
+
+pub {low}_variant : (m : Msg) → Readable Is{name} m → Readable (λ k v. OfVariant {low}_names ({case} Is{name} v) k) m
+{low}_variant m (v, h) = (v, {low}_out m v h)
+"""
+
+
+def last_place(count: int) -> str:
+    """A pattern of each place after so many."""
+    return "k" if count == 0 else f"(suc {last_place(count - 1)})"
+
+
+def induction_of(level: Level) -> str:
+    """What holds of a value where it holds of its parts holds of each value, and what is known of a value is known of its parts."""
+    name, low = level.name, level.low
+    kids, hold, through = "", "", ""
+    for shape, part in level.variants:
+        made = level.made(shape, part)
+        terms = ("⊤", "tt", "refl")
+        if part and not part.is_leaf:
+            terms = ("P a.value", "h a.value", "refl")
+            if level.is_list(part):
+                terms = ("All P a.items", "each_holds P first h a.items", "through at k a.items")
+        kids += f"{name}Parts P {made} = {terms[0]}\n"
+        hold += f"{low}_parts_hold P first h {made} = {terms[1]}\n"
+        through += f"{low}_through X at k {made} = {terms[2]}\n"
+    return f"""
+-- ---- induction
+
+-- P holds of the parts
+abbrev pub {name}Parts : ({name} → Type 0) → {name}-F {name} → Type 0
+{kids}
+{low}_parts_hold : {{B : Type 0}} (P : {name} → Type 0) (first : B → {name}) → ((b : B) → P (first b)) → (y : {name}-F B) → {name}Parts P (map-{name} B {name} first y)
+{hold}
+-- what holds of a value where it holds of its parts holds of each value
+pub {low}_induction : (P : {name} → Type 0) → ((v : {name}) → {name}Parts P (out-{name} v) → P v) → (v : {name}) → P v
+{low}_induction P step =
+    ind-{name} P (λ x y same. step (roll-{name} x) (subst ({name}Parts P) (same ∙ sym (out-roll-{name} x)) ({low}_parts_hold P (λ e. e.0) (λ e. e.1) y)))
+
+{low}_through : (X : Type 0) (at : X → {name}) (k : {name} → Type 0) (x : {name}-F X)
+    → {low}_layer_fits X at (λ p. k (at p)) x ≡ {low}_layer_fits {name} (λ y. y) k (map-{name} X {name} at x)
+{through}
+abbrev pub {name}Fits : {name}-F {name} → Type 0
+{name}Fits x = {low}_layer_fits {name} (λ y. y) {low}_fits x
+
+{low}_fits_is : (v : {name}) → {low}_fits v ≡ {name}Fits (out-{name} v)
+{low}_fits_is v = ap {low}_fits (sym (roll-out-{name} v)) ∙ rec-roll-{name} (Type 0) {low}_layer_fits {low}_through (out-{name} v)
+
+pub {low}_fits_out : (v : {name}) → {low}_fits v → {name}Fits (out-{name} v)
+{low}_fits_out v h = subst (λ T. T) ({low}_fits_is v) h
+
+pub {low}_fits_in : (v : {name}) (x : {name}-F {name}) → out-{name} v ≡ x → {name}Fits x → {low}_fits v
+{low}_fits_in v x e h = subst (λ T. T) (sym ({low}_fits_is v)) (subst {name}Fits (sym e) h)
+
+pub {low}_is : (v : {name}) → {low}_data v ≡ {low}_level (map-{name} {name} (Option Data) {low}_data (out-{name} v))
+{low}_is v = fold_out-{name} (Option Data) {low}_level v
+"""
+
+
+def tables(level: Level) -> dict[str, str]:
+    """Where the words of its files come from."""
+    name, low, crate, declared = level.name, level.low, level.crate, level.declared
+    levels = "names level data layer_fits fits made out variant induction fits_out fits_in is".split()
+    return {
+        "std.proofs.Common": "◌≡◌ ◌∙◌ refl sym ap subst ℕ zero suc List [] ◌∷◌ map All Option None Some String Box",
+        "std.specs.Char": "IsScalar",
+        "std.specs.Int": "w8 w16 w32 w64",
+        "std.specs.List": "AllByRecursion",
+        "std.specs.Prelude": "◌≢◌ ◌<◌ ◌^◌ ⊤ codes Vec Bool ℤ pos negsuc FitsSigned IsUtf8 IsSome string_bytes",
+        "std.specs.declared.alloc.Global": "Global",
+        "rmp_wire.specs.Msg": "Msg nil",
+        "rmp_decode.specs.Law": "Readable",
+        "rmp_decode.specs.Read": "IsUnsigned IsSigned IsRaw IsChar",
+        "rmp_decode.specs.Rows": "ReadsEach",
+        "rmp_decode.specs.Variants": "OfVariant Case NoCase Bare Content",
+        "rmp_encode.specs.Data": "Data byte whole truth text unit_variant",
+        "rmp_encode.specs.Trees": "tree_of slice_of newtype_variant_of",
+        "rmp_encode.specs.declared.settings.Settings": "Settings",
+        "rmp_round_trip.specs.LeafRounds": " ".join(["byte_row truth_row string_row", *(f"{sign}_row_{bits}" for sign in ("signed", "unsigned") for bits in (8, 16, 32, 64))]),
+        "rmp_round_trip.specs.OnlyFields": "AtPlace AnyContent content_only variant_both",
+        "rmp_round_trip.specs.OnlyLeaves": "truth_only byte_only unsigned_only signed_only string_only",
+        "rmp_round_trip.specs.OnlyRows": "inside_only list_only lowers_then",
+        "rmp_round_trip.specs.RoundTrip": "Alike LowersTo Only",
+        "rmp_round_trip.specs.Rounds": "slice_some each_row slice_row",
+        "rmp_round_trip.specs.VariantRounds": "newtype_variant_some bare_row newtype_variant_row bare_other newtype_variant_other",
+        declared: f"{name} out-{name}",
+        f"{declared}.TheFolds": f"ind-{name} fold-{name} rec-{name} map-{name} rec-roll-{name} fold_out-{name}",
+        f"{declared}.TheOpen": f"{name}-F",
+        f"{declared}.TheViews": f"roll-{name} out-roll-{name} roll-out-{name}",
+        f"{crate}.specs.Recursion": "Row InSteps row_as row_in variant_as variant_in each_holds through all_by each_from",
+        f"{crate}.specs.RecursionRounds": "each_data lowers_as map_alike",
+        f"{crate}.specs.{name}Levels": " ".join([f"{name}Case", f"{name}In", f"Is{name}", f"{name}Parts", f"{name}Fits", *(f"{low}_{word}" for word in levels)]),
+    }
+
+
+def file_of(level: Level, own: str, about: str, text: str) -> str:
+    """A file's text: what it is about, what it brings in, and its items."""
+    table = {module: names for module, names in tables(level).items() if module != f"{level.crate}.specs.{own}"}
+    return f"-- {about}\n{brought_in(text, table)}{text}"
+
+
+def levels_file(level: Level) -> str:
+    about = f"What the recursive type {level.name} is read from and written as, level by level. Written by tools/derive.py."
+    return file_of(level, f"{level.name}Levels", about, shape_of(level) + written_of(level) + steps_of(level) + induction_of(level))
