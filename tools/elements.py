@@ -167,4 +167,5 @@ use rmp_wire::config::SerializerConfig;
             write(text, "rmp_encode", "proofs", "elements", "kinds", f"{NAMES[n - 1]}Elements", method, "Answers.antt")
 
 
-main()
+if __name__ == "__main__":
+    main()

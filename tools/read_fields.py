@@ -87,4 +87,5 @@ def main() -> None:
     write(SPECS + "".join(map(reads, counts)), "rmp_decode", "specs", "ReadFields.antt")
 
 
-main()
+if __name__ == "__main__":
+    main()

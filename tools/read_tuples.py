@@ -6,9 +6,8 @@
 A tuple is read as the fields of a struct that is a list. Run `rt fmt` in the crate afterwards.
 """
 from lines import write
-from shared import tuple_of
+from shared import KINDS, tuple_of
 
-KINDS = "ABDEFGHI"
 MOST = len(KINDS)
 
 
@@ -132,4 +131,5 @@ use rmp_wire::config::SerializerConfig;
         write(answers(n), "rmp_decode", "proofs", "de", "tuples", f"Tuple{n}Deserialize", "deserialize", "Answers.antt")
 
 
-main()
+if __name__ == "__main__":
+    main()

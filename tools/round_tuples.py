@@ -7,9 +7,8 @@ Run `rt fmt` in the crate afterwards.
 """
 from derived_rounds import any_of, both_of, lent
 from lines import write
-from shared import tuple_of
+from shared import KINDS, tuple_of
 
-KINDS = "ABDEFGHI"
 MOST = len(KINDS)
 HEAD = """//! Tuples. Written by tools/round_tuples.py.
 ghost use Rattle.std.specs.Prelude.{◌∷◌, ◌||◌, [], true};
@@ -102,4 +101,5 @@ def main():
     write(HEAD + "".join(implementations(KINDS[:n]) for n in range(1, MOST + 1)), "rmp_round_trip", "src", "round_trip", "tuples.rt")
 
 
-main()
+if __name__ == "__main__":
+    main()

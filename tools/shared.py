@@ -3,6 +3,9 @@ from __future__ import annotations
 
 from collections.abc import Iterable
 
+# The type parameters of the elements of tuples that are read: `C` is that of the settings.
+KINDS = "ABDEFGHI"
+
 
 def list_of(terms: list[str]) -> str:
     """The list of these terms."""
