@@ -19,7 +19,7 @@ use Rattle.rmp_wire.proofs.Spellings.{canon_spells}
 use Rattle.rmp_wire.proofs.Strict.{test_passed}
 use Rattle.rmp_wire.proofs.Taken.{bytes_parts}
 use Rattle.rmp_serde.specs.TreeText.{tree_text}
-use Rattle.canon_lines.specs.Firsts.{TellsLeaf, TellsFirst}
+use Rattle.canon_lines.specs.Firsts.{BeginsHead, TellsLeaf, TellsFirst}
 
 no_payload : (h s : List ℕ) → length s ≡ 0 → h ≡ h ++ s
 no_payload h [] e = sym (append-nil h)
@@ -64,17 +64,22 @@ leaf_bytes n s t l e = record {
   told = e;
 }
 
--- its head and its payload were taken, and its text is that of the first message
-pub leaf_first : (xs ys r payload after : List ℕ) (m : Marker) (h : Head) (n : ℕ) (t whole : List ℕ) → IsHead h (byte_of m ∷ r)
-    → xs ≡ (byte_of m ∷ r) ++ ys → (fits_head h → Opens (byte_of m) (canon_head h)) → ys ≡ payload ++ after → IsBytes xs → TellsLeaf h payload t
-    → n ≡ length xs - length after → whole ≡ t ++ 32 ∷ encode_lower (take n xs) → TellsFirst n xs whole
-leaf_first xs ys r payload after m h n t all is split says more bytes leaf long told =
+-- a head that was read, and whose test was passed
+pub head_read : (xs ys r : List ℕ) (m : Marker) (h : Head) → IsHead h (byte_of m ∷ r) → xs ≡ (byte_of m ∷ r) ++ ys
+    → (fits_head h → Opens (byte_of m) (canon_head h)) → BeginsHead h ys xs
+head_read xs ys r m h is split says =
     let fits : fits_head h = head_fits h (byte_of m ∷ r) is in
     let head : (byte_of m ∷ r) ≡ canon_head h = (canonical_head_is h (byte_of m ∷ r) (test_passed h (byte_of m) r is (says fits))).1 in
-    let following : IsBytes ys = (bytes_parts (byte_of m ∷ r) ys (subst IsBytes split bytes)).1 in
+    record { fits = fits; split = split ∙ ap (λ z. z ++ ys) head }
+
+-- its head and its payload were taken, and its text is that of the first message
+pub leaf_first : (xs ys payload after : List ℕ) (h : Head) (n : ℕ) (t whole : List ℕ) → BeginsHead h ys xs → ys ≡ payload ++ after → IsBytes xs
+    → TellsLeaf h payload t → n ≡ length xs - length after → whole ≡ t ++ 32 ∷ encode_lower (take n xs) → TellsFirst n xs whole
+leaf_first xs ys payload after h n t all begins more bytes leaf long told =
+    let following : IsBytes ys = (bytes_parts (canon_head h) ys (subst IsBytes begins.split bytes)).1 in
     let own : IsBytes payload = (bytes_parts payload after (subst IsBytes more following)).0 in
     let front : List ℕ = canon leaf.message in
-    let whole : xs ≡ front ++ after = split ∙ ap (λ z. z ++ ys) head ∙ ap (λ z. canon_head h ++ z) more ∙ sym (append_assoc (canon_head h) payload after)
+    let whole : xs ≡ front ++ after = begins.split ∙ ap (λ z. canon_head h ++ z) more ∙ sym (append_assoc (canon_head h) payload after)
     ∙ ap (λ z. z ++ after) (sym leaf.spelled) in
     let count : n ≡ length front = omega (arith, long, ap length whole, length-append front after) in
     let same : take n xs ≡ front = ap (take n) whole ∙ ap (λ k. take k (front ++ after)) count ∙ take_at front after (length front) refl in
@@ -84,7 +89,7 @@ leaf_first xs ys r payload after m h n t all is split says more bytes leaf long 
       rest = after;
       split = whole;
       long = count;
-      spelled = canon_spells leaf.message (leaf.fits fits own);
+      spelled = canon_spells leaf.message (leaf.fits begins.fits own);
       accepted = record { nested = omega (arith, leaf.leaf); utf8 = leaf.utf8 };
       told = told ∙ ap (λ s. s ++ 32 ∷ encode_lower (take n xs)) leaf.told ∙ ap (λ s. tree_text leaf.message ++ 32 ∷ encode_lower s) same
           ∙ sym (append_assoc (tree_text leaf.message) (32 ∷ []) (encode_lower front));

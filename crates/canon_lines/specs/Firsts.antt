@@ -20,6 +20,11 @@ pub record TellsFirst (n : ℕ) (bytes text : List ℕ) : Type 0 where
   pub accepted : IsAccepted message
   pub told : text ≡ message_text message
 
+-- the bytes begin with the canonical head of this kind and number, and this is what follows it
+pub record BeginsHead (h : Head) (rest bytes : List ℕ) : Type 0 where
+  pub fits : fits_head h
+  pub split : bytes ≡ canon_head h ++ rest
+
 -- a message without parts has this head and this payload, and this is its tree as text
 pub record TellsLeaf (h : Head) (payload text : List ℕ) : Type 0 where
   pub message : Msg

@@ -1,11 +1,12 @@
 //! A buffer before a sink.
 ghost use Rattle.std.specs.Prelude.{◌≡◌, ◌≤◌, ◌<◌, ◌+◌, ◌-◌, ◌++◌, [], true, drop, length, take, vec_len, vec_capacity, IfOk, OnOk};
 ghost use Rattle.std.specs.Io.KnownBytes.{Appends, Keeps, WriteAppends};
-ghost use Rattle.rmp_wire.specs.Sinks.{PutCounts};
+ghost use Rattle.rmp_wire.specs.Sinks.{PutCounts, Puts};
 ghost use Rattle.canon_lines.specs.Buffers.{held_in, sink_of, told_with, SendCounts};
 
-use rmp_serde::wire::{Sink, SinkFault};
+use rmp_serde::wire::{IoFault, Sink, SinkFault, ValueWriteError};
 use std::alloc::{AllocError, Global};
+use std::io::ErrorKind;
 
 // How many bytes are held at most.
 const CAPACITY: usize = 8192;
@@ -108,6 +109,33 @@ impl<W: Sink> BufSink<W> {
     }
 }
 
+impl<W: Sink> BufSink<W> {
+    // The same, for the whole piece.
+    #[inline(never)]
+    fn put_all_more(&mut self, piece: &[u8]) -> Result<(), ValueWriteError>
+        ensures writes { Puts W.takes_memory piece.now (told_with W.Sink self.old) (told_with W.Sink self.new)
+            (W.faults (sink_of self.old)) (W.faults (sink_of self.new)) result }
+        ensures place { W.place (sink_of self.new) ≡ W.place (sink_of self.old) }
+    {
+        match self.flush() {
+            Ok(true) => {}
+            Ok(false) => {
+                let full = IoFault::from(ErrorKind::WriteZero);
+                return Err(ValueWriteError::InvalidMarkerWrite(full));
+            }
+            Err(SinkFault::Io(e)) => {
+                return Err(ValueWriteError::InvalidMarkerWrite(IoFault::from(e)));
+            }
+            Err(SinkFault::Memory) => return Err(ValueWriteError::OutOfMemory),
+        }
+        if piece.len() > self.held.capacity() - self.held.len() {
+            return self.sink.put_all(piece);
+        }
+        append(&mut self.held, piece);
+        Ok(())
+    }
+}
+
 /// Each piece that fits is held whole.
 impl<W: Sink> Sink for BufSink<W> {
     const TAKES_MEMORY: bool = W::TAKES_MEMORY;
@@ -127,5 +155,14 @@ impl<W: Sink> Sink for BufSink<W> {
         }
         append(&mut self.held, piece);
         Ok(piece.len())
+    }
+
+    #[inline(always)]
+    fn put_all(&mut self, piece: &[u8]) -> Result<(), ValueWriteError> {
+        if piece.len() > self.held.capacity() - self.held.len() {
+            return self.put_all_more(piece);
+        }
+        append(&mut self.held, piece);
+        Ok(())
     }
 }

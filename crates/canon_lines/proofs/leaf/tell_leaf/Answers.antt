@@ -5,11 +5,8 @@ use Rattle.canon_lines.proofs.Leaves.{leaf_first}
 use Rattle.canon_lines.proofs.leaf.tell_leaf.Goals as goal
 
 pub returns : goal.returns
-returns c =
-    let t = c.in-Ok.ensures.reads.ok in
-    record {
-      told = λ _. leaf_first c.args.bytes.now c.next_head.new.source.now t.rest c.split_at.result.0.now c.split_at.result.1.now c.in-Ok.marker c.in-Ok.head _
-          _ _ t.is_head t.taken (λ f. (c.is_canonical.ensures.canonical f).0 c.if-not-is_canonical.false)
-          (rw (c.split_at.ensures.front, c.split_at.ensures.back) (sym (take-append-drop _ _))) (bytes_from c.args.bytes.now (λ k. (c.type_inv.bytes k).fits))
-          (c.in_ok-print_leaf.ensures.told c.if-not-branch.false) refl c.in_ok-push_hex.ensures.hex;
-    }
+returns c = record {
+  told = λ _. leaf_first c.args.bytes.now c.in-Some.rest.now c.split_at.result.0.now c.split_at.result.1.now c.in-Some.head _ _ _ c.in-Some.ensures.head
+      (rw (c.split_at.ensures.front, c.split_at.ensures.back) (sym (take-append-drop _ _))) (bytes_from c.args.bytes.now (λ k. (c.type_inv.bytes k).fits))
+      (c.in_ok-print_leaf.ensures.told c.if-not-branch.false) refl c.in_ok-push_hex.ensures.hex;
+}
