@@ -66,6 +66,8 @@ use Rattle.rmp_wire.specs.Msg.{
 use Rattle.rmp_wire.specs.Sources.{IsShort}
 use Rattle.rmp_wire.specs.Spelling.{PairsSpelledBy, IsBytes, head_of}
 use Rattle.rmp_wire.proofs.Strict.{heads_differ_as}
+use Rattle.rmp_decode.specs.Ahead.{TakesLeaf, TakesPart}
+use Rattle.rmp_decode.specs.BufferedHeads.{ConsumesHead}
 use Rattle.rmp_decode.specs.Kinds.{content_len}
 use Rattle.rmp_decode.specs.Law.{Refuses, Readable, Explains, Lawful, ReadsHead}
 use Rattle.rmp_decode.specs.Seq.{SpellsRow, BeginsRow, RefusesRow}
@@ -73,6 +75,8 @@ use Rattle.rmp_decode.specs.Skip.{any_tree, any_row, parts_head, parts_count, Pa
 use Rattle.rmp_decode.specs.State.{left, faults_of, room_of, kept_bytes, Stays}
 use Rattle.rmp_decode.specs.declared.deserializer.Deserializer.{Deserializer}
 use Rattle.rmp_decode.specs.declared.deserializer.Kept.TheVariants.{Nothing}
+use Rattle.rmp_decode.specs.declared.deserializer.skip.Part.{Part}
+use Rattle.rmp_decode.specs.declared.deserializer.skip.Part.TheVariants.{Parts, Leaf}
 use Rattle.rmp_decode.specs.declared.error.Error.{Error}
 use Rattle.rmp_decode.proofs.Contents.{bare}
 use Rattle.rmp_decode.proofs.Laws.{refused, stays_then, stays_refl}
@@ -401,3 +405,12 @@ no_room g n d e f l = record { ok = tt; ready = tt; clean = tt; sound = tt; err 
     none_fit : (known : Option (List ℕ)) → RefusesRow (SpellsAs d.strict) any_row (room_of d - 1) n known
     none_fit None = tt
     none_fit (Some xs) = λ a. let b = a.fits in omega arith
+
+-- ---- the head that was taken
+
+module _ {R C : Type 0} (g : Ghosts R) (p : Part) (old new : Deserializer R C) (t : TakesPart g p old new) where
+  pub parts_taken : (is_map : Bool) (n : ℕ) → p ≡ Parts is_map n → ConsumesHead g (parts_head is_map n) old new
+  parts_taken is_map n e = subst (λ z. TakesPart g z old new) e t
+
+  pub leaf_taken : (len : ℕ) → p ≡ Leaf len → TakesLeaf g len old new
+  leaf_taken len e = subst (λ z. TakesPart g z old new) e t

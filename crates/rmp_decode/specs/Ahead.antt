@@ -8,6 +8,8 @@ use Rattle.rmp_decode.specs.BufferedHeads.{HeadIn, ConsumesHead}
 use Rattle.rmp_decode.specs.Kinds.{content_len}
 use Rattle.rmp_decode.specs.Skip.{parts_head}
 use Rattle.rmp_decode.specs.declared.deserializer.Deserializer.{Deserializer}
+use Rattle.rmp_decode.specs.declared.deserializer.skip.Part.{Part}
+use Rattle.rmp_decode.specs.declared.deserializer.skip.Part.TheVariants.{Parts, Leaf}
 
 -- these bytes are the UTF-8 of the character
 pub record SpellsChar (c : ℕ) (bytes : List ℕ) : Type 0 where
@@ -39,3 +41,8 @@ pub record TakesLeaf {R C : Type 0} (g : Ghosts R) (len : ℕ) (old new : Deseri
   pub head : Head
   pub taken : ConsumesHead g head old new
   pub is_leaf : IsLeafHead head len
+
+-- the head of a list or a map was taken, or that of a leaf
+abbrev pub TakesPart : {R C : Type 0} → Ghosts R → Part → Deserializer R C → Deserializer R C → Type 0
+TakesPart g (Parts is_map n) old new = ConsumesHead g (parts_head is_map n) old new
+TakesPart g (Leaf len) old new = TakesLeaf g len old new

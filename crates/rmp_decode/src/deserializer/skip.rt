@@ -1,13 +1,13 @@
 //! Skipping messages.
-ghost use Rattle.std.specs.Prelude.{◌≡◌, ◌≢◌, ◌-◌, ◌<◌, true, false, Ok, OnOk, IfErr, IfSome};
+ghost use Rattle.std.specs.Prelude.{◌≡◌, ◌≢◌, ◌-◌, ◌<◌, true, false, Ok, Err, OnOk, IfOk, IfErr, IfSome};
 ghost use Rattle.rmp_wire.specs.Sources.{IsShort};
-ghost use Rattle.rmp_decode.specs.Ahead.{IsLeafHead};
+ghost use Rattle.rmp_decode.specs.Ahead.{IsLeafHead, TakesPart};
 ghost use Rattle.rmp_decode.specs.Exact.{IsDataEnd};
 ghost use Rattle.rmp_decode.specs.Kinds.{content_len};
 ghost use Rattle.rmp_decode.specs.Law.{Explains, Lawful, ReadsHead};
 ghost use Rattle.rmp_decode.specs.LeafTable.{SkipsLeaves};
 ghost use Rattle.rmp_decode.specs.Refuse.{UnpassedFor, OpensSome, RefusesFirst, RefusesRowFirst};
-ghost use Rattle.rmp_decode.specs.Skip.{Passes, SkipsRow, any_tree, any_row, parts_count};
+ghost use Rattle.rmp_decode.specs.Skip.{Passes, SkipsRow, any_tree, any_row, parts_count, parts_head};
 ghost use Rattle.rmp_decode.specs.State.{is_failed, is_strict, kept_of, left, room_of};
 ghost use Rattle.rmp_decode.specs.declared.deserializer.Kept.TheVariants.{Nothing};
 
@@ -15,6 +15,7 @@ mod leaves;
 
 use crate::content::{ReadContent, Slices};
 use crate::deserializer::Deserializer;
+use crate::deserializer::peek::Peek;
 use crate::deserializer::skip::leaves::pass_leaves;
 use crate::error::Error;
 use rmp_wire::config::SerializerConfig;
@@ -86,6 +87,61 @@ fn skip_leaf<R: Source, C: SerializerConfig>(de: &mut Deserializer<R, C>) -> boo
     skip_leaves(de, 1) == 0
 }
 
+// A list (`false`) or a map of up to 15 elements or pairs.
+#[derive(Clone, Copy)]
+struct ShortParts;
+
+impl Peek for ShortParts {
+    type Value = (bool, u32);
+
+    ghost head = { λ _ p. parts_head p.0 p.1 };
+
+    #[inline(always)]
+    fn at(self, front: &[u8], _strict: bool) -> Option<((bool, u32), usize)> {
+        match front {
+            [first, ..] => match first {
+                0x80..=0x8f => Some(((true, u32::from(*first - 0x80)), 1)),
+                0x90..=0x9f => Some(((false, u32::from(*first - 0x90)), 1)),
+                _ => None,
+            },
+            _ => None,
+        }
+    }
+}
+
+// What a head says that was consumed.
+#[derive(Clone, Copy)]
+enum Part {
+    // A list (`false`) or a map of so many elements or pairs.
+    Parts(bool, u32),
+    // A leaf with so many bytes of payload.
+    Leaf(u32),
+}
+
+// Consumes the next head, and leaves this failed until the message is read. That of a short list or map is looked for first, since the
+// table has most leaves.
+#[inline(always)]
+fn next_part<R: Source, C: SerializerConfig>(de: &mut Deserializer<R, C>) -> Result<Part, Error>
+    ensures ok { IfOk result (λ p. TakesPart R.Source p de.old de.new) }
+    ensures err { IfErr result (λ e. ReadsHead R.Source de.old de.new (Err e)) }
+{
+    match de.take(ShortParts) {
+        Some(p) => return Ok(Part::Parts(p.0, p.1)),
+        None => {}
+    }
+    match de.take_leaf_head() {
+        Some(len) => return Ok(Part::Leaf(len)),
+        None => {}
+    }
+    match de.any_head() {
+        Ok(head) => match head.as_parts() {
+            Some((is_map, n)) => Ok(Part::Parts(is_map, n)),
+            None => Ok(Part::Leaf(head.content_len())),
+        },
+        Err(e) => Err(e),
+    }
+}
+
 // Passes over one message.
 fn skip<R: Source, C: SerializerConfig, P: ReadContent<R>>(
     de: &mut Deserializer<R, C>,
@@ -94,18 +150,19 @@ fn skip<R: Source, C: SerializerConfig, P: ReadContent<R>>(
     ensures exact { IfErr result (RefusesFirst R.Source (UnpassedFor P.lends) any_row de.old de.new) }
     ensures memory { P.lends ≡ true → IfErr result (λ e. e ≡ Error.OutOfMemory → IfSome (left R.Source de.old) (OpensSome (is_strict de.old))) }
 {
-    match de.any_head() {
-        Ok(head) => match head.as_parts() {
-            Some((is_map, n)) => skip_parts::<R, C, P>(de, messages(is_map, n)),
-            None => match P::pass(&mut de.reader, head.content_len() as usize) {
-                Ok(()) => {
-                    de.failed = false;
-                    Ok(())
-                }
-                Err(e) => Err(e),
-            },
+    let part = match next_part(de) {
+        Ok(part) => part,
+        Err(e) => return Err(e),
+    };
+    match part {
+        Part::Parts(is_map, n) => skip_parts::<R, C, P>(de, messages(is_map, n)),
+        Part::Leaf(len) => match pass_payload::<R, P>(&mut de.reader, len) {
+            Ok(()) => {
+                de.failed = false;
+                Ok(())
+            }
+            Err(e) => Err(e),
         },
-        Err(e) => Err(e),
     }
 }
 
@@ -145,35 +202,29 @@ fn skip_parts<R: Source, C: SerializerConfig, P: ReadContent<R>>(
         } else {
             wanted -= 1;
             de.failed = false;
-            match de.take_leaf_head() {
-                Some(len) => match pass_payload::<R, P>(&mut de.reader, len) {
-                    Ok(()) => continue,
+            let part = match next_part(de) {
+                Ok(part) => part,
+                Err(e) => return Err(e),
+            };
+            match part {
+                Part::Parts(is_map, n) => {
+                    if room <= 1 {
+                        return Err(Error::DepthLimitExceeded);
+                    }
+                    let inner = messages(is_map, n);
+                    if inner > 0 {
+                        match outer.push(wanted) {
+                            Ok(()) => {}
+                            Err(_) => return Err(Error::OutOfMemory),
+                        }
+                        room -= 1;
+                        wanted = inner;
+                    }
+                }
+                Part::Leaf(len) => match pass_payload::<R, P>(&mut de.reader, len) {
+                    Ok(()) => {}
                     Err(e) => return Err(e),
                 },
-                None => {}
-            }
-            match de.any_head() {
-                Ok(head) => match head.as_parts() {
-                    Some((is_map, n)) => {
-                        if room <= 1 {
-                            return Err(Error::DepthLimitExceeded);
-                        }
-                        let inner = messages(is_map, n);
-                        if inner > 0 {
-                            match outer.push(wanted) {
-                                Ok(()) => {}
-                                Err(_) => return Err(Error::OutOfMemory),
-                            }
-                            room -= 1;
-                            wanted = inner;
-                        }
-                    }
-                    None => match P::pass(&mut de.reader, head.content_len() as usize) {
-                        Ok(()) => {}
-                        Err(e) => return Err(e),
-                    },
-                },
-                Err(e) => return Err(e),
             }
         }
     }
