@@ -13,6 +13,7 @@ use Rattle.rmp_decode.specs.State.{left, room_of}
 use Rattle.rmp_decode.specs.declared.deserializer.Deserializer.{Deserializer}
 use Rattle.rmp_decode.specs.declared.error.Error.{Error}
 use Rattle.rmp_decode.specs.declared.error.Error.TheVariants.{DepthLimitExceeded}
+use Rattle.rmp_decode.proofs.Exactness.{no_fault}
 use Rattle.rmp_decode.proofs.Opening.{nests, map_nests}
 use Rattle.rmp_decode.proofs.NothingAccepted.{refuses_none, refuses_by, same_head}
 
@@ -24,14 +25,15 @@ parts_nest false = nests
 any_none : (w : Bool) (room before after : ℕ) (known : Option (List ℕ)) (e : Error) → EndsExactly w before after known e
     → RefusesAny w room before after known e
 unfolding RefusesAny EndsExactly
-any_none w room before after None e s = λ _. tt
-any_none w room before after (Some xs) e s = λ same. inl (s same)
+any_none w room before after None e s = (λ _. tt, s.1)
+any_none w room before after (Some xs) e s = (λ same. inl (s.0 same), s.1)
 
 any_deep : (w : Bool) (room before after : ℕ) (known : Option (List ℕ)) (m : Marker) (is_map : Bool) (n : ℕ) (e : Error)
-    → IfSome known (BeginsWith w m (parts_head is_map n)) → room ≡ 1 → e ≡ DepthLimitExceeded → RefusesAny w room before after known e
+    → after ≡ before → IfSome known (BeginsWith w m (parts_head is_map n)) → room ≡ 1 → e ≡ DepthLimitExceeded → RefusesAny w room before after known e
 unfolding RefusesAny
-any_deep w room before after None m is_map n e s l is = λ _. tt
-any_deep w room before after (Some xs) m is_map n e s l is = λ _. inr (record { is_map = is_map; len = n; marker = m; starts = s }, l, is)
+any_deep w room before after None m is_map n e f s l is = no_fault before after e f tt
+any_deep w room before after (Some xs) m is_map n e f s l is =
+    no_fault before after e f (inr (record { is_map = is_map; len = n; marker = m; starts = s }, l, is))
 
 module _ {R C : Type 0} (g : Ghosts R) (old new : Deserializer R C) (e : Error) where
   pub any_missing : ReadsHead g old new (Err e) → FailsToOpenAny g old new e
@@ -56,6 +58,6 @@ module _ {R C : Type 0} (g : Ghosts R) (old new : Deserializer R C) (e : Error) 
         let d = parts_nest q.0 a.tree q.1 (u.0 ∙ i) in
         let f = a.fits in
         omega arith);
-    exact = λ _. any_deep _ (room_of old) _ _ (left g old) p.0 q.0 q.1 e (subst (λ t. IfSome (left g old) (BeginsWith old.strict p.0 t)) i h.marked)
+    exact = λ _. any_deep _ (room_of old) _ _ (left g old) p.0 q.0 q.1 e h.sound (subst (λ t. IfSome (left g old) (BeginsWith old.strict p.0 t)) i h.marked)
         (omega arith) is;
   }

@@ -40,7 +40,7 @@ use Rattle.rmp_wire.specs.Msg.{Msgs, no_items, item, count, depth, depth_all}
 use Rattle.rmp_wire.specs.Taking.{marker_of}
 use Rattle.rmp_wire.proofs.Strict.{heads_differ_as}
 use Rattle.rmp_decode.specs.Buffers.{ListAfterHead, NoByte, RefusesItem, RefusesItems, RefusesListOf, RefusesListIn, RefusesList}
-use Rattle.rmp_decode.specs.Exact.{BeginsWith, Exact, RefusesExactly, EndsExactly}
+use Rattle.rmp_decode.specs.Exact.{BeginsWith, Exact, RefusesExactly, EndsExactly, TellsFault}
 use Rattle.rmp_decode.specs.Kinds.{raw_head, other_number}
 use Rattle.rmp_decode.specs.Law.{Begins, Refuses, Readable, ReadsHead}
 use Rattle.rmp_decode.specs.Read.{IsUnsigned}
@@ -52,7 +52,7 @@ use Rattle.rmp_decode.specs.declared.access.seq.SeqAccess.{SeqAccess}
 use Rattle.rmp_decode.specs.declared.error.Error.{Error}
 use Rattle.rmp_decode.specs.declared.error.Error.TheVariants.{DepthLimitExceeded, OutOfMemory, Syntax}
 use Rattle.rmp_decode.specs.declared.text.Text.TheVariants.{InvalidValue}
-use Rattle.rmp_decode.proofs.Exactness.{start_once}
+use Rattle.rmp_decode.proofs.Exactness.{start_once, exact_tells}
 use Rattle.rmp_decode.proofs.Rows.{push, count-push}
 use Rattle.rmp_decode.proofs.Seqs.{run_step, each-push}
 use Rattle.rmp_decode.proofs.FirstFault.{is_memory, front_of, starts}
@@ -95,7 +95,7 @@ item_refused w n before after (Some xs) None bytes ms b e t s r l x q room some 
 item_refused w n before after (Some xs) (Some ys) bytes ms b e t s r l x q room some none = record {
   many = count ms;
   before = record { bytes = bytes; rest = ys; trees = ms; front = t; spelled = s; many = refl; fits = omega (arith, flat ms b r); holds = (b, r) };
-  refused = inl (l, no_byte w room ys e some none (x q), x q);
+  refused = inl (l, no_byte w room ys e some none (x.0 q), x.0 q);
 }
 
 -- memory was short for the last of them
@@ -108,6 +108,14 @@ item_unkept w n (Some xs) (Some ys) bytes ms b t s r some l = record {
   before = record { bytes = bytes; rest = ys; trees = ms; front = t; spelled = s; many = refl; fits = omega (arith, flat ms b r); holds = (b, r) };
   refused = inr (some, l, refl);
 }
+
+-- a fault is told
+pub number_told : {R C : Type 0} (g : Ghosts R) (d : Deserializer R C) (start : SeqAccess R C) (len : ℕ) (o : ListAfterHead len d start)
+    (mid now : SeqAccess R C) (ms : Msgs) (e : Error) (after : ℕ) → Run g start mid ms → after ≡ faults_of g now.de.now
+    → RefusesExactly mid.de.now.strict other_number (faults_of g mid.de.now) (faults_of g now.de.now) (left g mid.de.now) e
+    → TellsFault (faults_of g d) after e
+number_told g d start len o mid now ms e after r q x = λ n. exact_tells _ other_number _ _ _ e x
+    (λ k. n (q ∙ k ∙ r.faults_same ∙ ap (faults_of g) o.lender))
 
 -- by the access that reads them
 module _ {R C : Type 0} (g : Ghosts R) (d last : Deserializer R C) (start : SeqAccess R C) (len : ℕ) (o : ListAfterHead len d start) where
@@ -148,7 +156,7 @@ module _ {R C : Type 0} (g : Ghosts R) (old : Deserializer R C) (e : Error) wher
       → IfSome known (λ xs. (m : Marker) (n : ℕ) → (s : BeginsWith old.strict m (Array n) xs) → RefusesListOf old.strict (room_of old) n e s.rest)
   unfolding EndsExactly
   none_listed before after None x q = tt
-  none_listed before after (Some xs) x q = λ m n s. absurd ((x q).0 m (Array n) s)
+  none_listed before after (Some xs) x q = λ m n s. absurd ((x.0 q).0 m (Array n) s)
 
   -- the bytes begin with no head
   pub list_none : (after : ℕ) → EndsExactly old.strict (faults_of g old) after (left g old) e

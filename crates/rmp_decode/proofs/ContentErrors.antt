@@ -43,7 +43,7 @@ use Rattle.rmp_wire.proofs.Canon.{canon_head_least}
 use Rattle.rmp_wire.proofs.Strict.{any_width, heads_differ_as}
 use Rattle.rmp_wire.proofs.Writing.{head_some}
 use Rattle.rmp_decode.specs.Content.{RefusesContent, IsTextHead, IsRawHead, IsBufferHead, IsExtHead, not_lent, not_bytes, not_string, not_str}
-use Rattle.rmp_decode.specs.Exact.{BeginsWith, EndsExactly, IsDataEnd, IsUtf8Error}
+use Rattle.rmp_decode.specs.Exact.{BeginsWith, EndsExactly, IsDataEnd, IsReadFault, TellsFault, IsUtf8Error}
 use Rattle.rmp_decode.specs.Kinds.{raw_head, raw_msg, content_len}
 use Rattle.rmp_decode.specs.Law.{Explains, ReadsHead, Reads}
 use Rattle.rmp_decode.specs.Pieces.{Blamed, StartsWithNoChar, RefusesPiece}
@@ -53,7 +53,7 @@ use Rattle.rmp_decode.specs.declared.error.Error.{Error}
 use Rattle.rmp_decode.specs.declared.error.Error.TheVariants.{Syntax}
 use Rattle.rmp_decode.specs.declared.text.Text.TheVariants.{InvalidValue}
 use Rattle.rmp_decode.proofs.Contents.{bare, raw_content}
-use Rattle.rmp_decode.proofs.Exactness.{start_once, starts_known}
+use Rattle.rmp_decode.proofs.Exactness.{start_once, starts_known, no_fault}
 
 -- ---- pieces
 
@@ -107,6 +107,11 @@ pub blamed_end : (n : ℕ) (fault : SourceFault) (before after : ℕ) (known : O
 blamed_end n Memory before after known e s b = λ m _. absurd (m b)
 blamed_end n (Io cause) before after known e s b = λ _ k. b.1 (s k).1
 
+-- a fault is told by what comes of it
+pub blamed_tells : (fault : SourceFault) (before after : ℕ) (e : Error) → Blamed fault e → TellsFault before after e
+blamed_tells Memory before after e b = λ _. subst IsReadFault (sym b) tt
+blamed_tells (Io cause) before after e b = λ _. b.2
+
 short_char : (n : ℕ) (known : Option (List ℕ)) → IsShort n known → StartsWithNoChar n known
 short_char n None h = tt
 short_char n (Some xs) h = λ c r _ m q. absurd (let long = ap length q ∙ length-append (encode_utf8 c) r in omega (arith, long, m, h))
@@ -129,70 +134,80 @@ module _ (strict : Bool) (wanted : Head → Type 0) (other : Marker → Head →
   pub content_none : (known : Option (List ℕ)) (e : Error) → EndsExactly strict before after known e
       → RefusesContent strict wanted other refused before after known e
   unfolding RefusesContent EndsExactly
-  content_none None e s = λ _. tt
-  content_none (Some xs) e s = λ k. record {
-    others = λ m h t _. absurd ((s k).0 m h t);
-    cut = λ h _ t. absurd ((s k).0 t.marker h t.starts);
-    whole = λ h c _ t. absurd ((s k).0 t.marker h t.starts);
-    ends = λ _. (s k).1;
-  }
+  content_none None e s = (λ _. tt, s.1)
+  content_none (Some xs) e s = (
+    λ k. record {
+      others = λ m h t _. absurd ((s.0 k).0 m h t);
+      cut = λ h _ t. absurd ((s.0 k).0 t.marker h t.starts);
+      whole = λ h c _ t. absurd ((s.0 k).0 t.marker h t.starts);
+      ends = λ _. (s.0 k).1;
+    },
+    s.1,
+  )
 
   -- another one does
-  pub content_other : (known : Option (List ℕ)) (m : Marker) (h : Head) (e : Error) → IfSome known (BeginsWith strict m h) → (wanted h → ⊥) → e ≡ other m h
-      → RefusesContent strict wanted other refused before after known e
+  pub content_other : (known : Option (List ℕ)) (m : Marker) (h : Head) (e : Error) → after ≡ before → IfSome known (BeginsWith strict m h) → (wanted h → ⊥)
+      → e ≡ other m h → RefusesContent strict wanted other refused before after known e
   unfolding RefusesContent
-  content_other None m h e s f q = λ _. tt
-  content_other (Some xs) m h e s f q = λ _. record {
+  content_other None m h e same s f q = no_fault before after e same tt
+  content_other (Some xs) m h e same s f q = no_fault before after e same (record {
     others = λ n k t _. let u = start_once _ n m k h xs t s in q ∙ ap (λ z. other z h) (sym u.0) ∙ ap (other n) (sym u.1);
     cut = λ k w t. absurd (f (subst wanted (start_once _ t.marker m k h xs t.starts s).1 w));
     whole = λ k c w t. absurd (f (subst wanted (start_once _ t.marker m k h xs t.starts s).1 w));
     ends = λ none. absurd (none m h s);
-  }
+  })
 
   -- a wanted one does, and what follows it is refused
   pub content_after : (known k : Option (List ℕ)) (b : List ℕ) (m : Marker) (h : Head) (e : Error) → Consumes known k b → heads_of strict h b
       → IfSome known (BeginsWith strict m h) → wanted h → Explains e before after (RefusesPiece (content_len h) (refused h) k e)
-      → RefusesContent strict wanted other refused before after known e
+      → TellsFault before after e → RefusesContent strict wanted other refused before after known e
   unfolding RefusesContent RefusesPiece
-  content_after None k b m h e c i s w r = λ _. tt
-  content_after (Some xs) None b m h e c i s w r = absurd c
-  content_after (Some xs) (Some ys) b m h e c i s w r = λ q.
-      record {
-        others = λ m' h' t f. absurd (f (subst wanted (start_once _ m m' h h' xs s t).1 w));
-        cut = λ h' _ t n.
-            let p = r n q in
-            let t0 = t.starts in
-            let short = t.short in
-            let u = heads_differ_as strict h' h (t0.byte ∷ t0.following) b t0.rest ys t0.is_head i (sym t0.front ∙ c) in
-            p.cut (omega (arith, short, ap content_len u.0, ap length u.2));
-        whole = λ h' s' _ t n.
-            let p = r n q in
-            let t0 = t.starts in
-            let u = heads_differ_as strict h' h (t0.byte ∷ t0.following) b t0.rest ys t0.is_head i (sym t0.front ∙ c) in
-            subst (λ z. refused z s' e) (sym u.0) (p.whole s' t.following (sym u.2 ∙ t.content) (t.long ∙ ap content_len u.0));
-        ends = λ none. absurd (none m h s);
-      }
+  content_after None k b m h e c i s w r f = (λ _. tt, f)
+  content_after (Some xs) None b m h e c i s w r f = absurd c
+  content_after (Some xs) (Some ys) b m h e c i s w r tells = (
+    λ q. record {
+      others = λ m' h' t f. absurd (f (subst wanted (start_once _ m m' h h' xs s t).1 w));
+      cut = λ h' _ t n.
+          let p = r n q in
+          let t0 = t.starts in
+          let short = t.short in
+          let u = heads_differ_as strict h' h (t0.byte ∷ t0.following) b t0.rest ys t0.is_head i (sym t0.front ∙ c) in
+          p.cut (omega (arith, short, ap content_len u.0, ap length u.2));
+      whole = λ h' s' _ t n.
+          let p = r n q in
+          let t0 = t.starts in
+          let u = heads_differ_as strict h' h (t0.byte ∷ t0.following) b t0.rest ys t0.is_head i (sym t0.front ∙ c) in
+          subst (λ z. refused z s' e) (sym u.0) (p.whole s' t.following (sym u.2 ∙ t.content) (t.long ∙ ap content_len u.0));
+      ends = λ none. absurd (none m h s);
+    },
+    tells,
+  )
 
   -- a wanted one does that has no content of its own
   pub content_differ : (known : Option (List ℕ)) (m : Marker) (h k : Head) (e : Error) → IfSome known (BeginsWith strict m h) → h ≡ k → content_len k ≡ 0
-      → wanted k → ((s : List ℕ) → refused k s e) → RefusesContent strict wanted other refused before after known e
+      → wanted k → ((s : List ℕ) → refused k s e) → TellsFault before after e → RefusesContent strict wanted other refused before after known e
   unfolding RefusesContent
-  content_differ None m h k e s i z w f = λ _. tt
-  content_differ (Some xs) m h k e s i z w f = λ _. record {
-    others = λ n j t n0. absurd (n0 (subst wanted (sym i ∙ sym (start_once _ n m j h xs t s).1) w));
-    cut = λ j _ t. absurd (let short = t.short in let u = (start_once _ t.marker m j h xs t.starts s).1 ∙ i in omega (arith, short, z, ap content_len u));
-    whole = λ j c _ t _. subst (λ y. refused y c e) (sym ((start_once _ t.marker m j h xs t.starts s).1 ∙ i)) (f c);
-    ends = λ none. absurd (none m h s);
-  }
+  content_differ None m h k e s i z w f tells = (λ _. tt, tells)
+  content_differ (Some xs) m h k e s i z w f tells = (
+    λ _. record {
+      others = λ n j t n0. absurd (n0 (subst wanted (sym i ∙ sym (start_once _ n m j h xs t s).1) w));
+      cut = λ j _ t. absurd (let short = t.short in let u = (start_once _ t.marker m j h xs t.starts s).1 ∙ i in omega (arith, short, z, ap content_len u));
+      whole = λ j c _ t _. subst (λ y. refused y c e) (sym ((start_once _ t.marker m j h xs t.starts s).1 ∙ i)) (f c);
+      ends = λ none. absurd (none m h s);
+    },
+    tells,
+  )
 
 -- a wider way to refuse whole content
 pub content_wider : (strict : Bool) (wanted : Head → Type 0) (other : Marker → Head → Error) (refused wider : Head → List ℕ → Error
     → Type 0) (before after : ℕ) (known : Option (List ℕ)) (e : Error) → ((h : Head) (s : List ℕ) → wanted h → refused h s e → wider h s e)
     → RefusesContent strict wanted other refused before after known e → RefusesContent strict wanted other wider before after known e
 unfolding RefusesContent
-content_wider strict wanted other refused wider before after None e f r = λ _. tt
-content_wider strict wanted other refused wider before after (Some xs) e f r = λ k. let x = r k
-    in record { others = x.others; cut = x.cut; whole = λ h s w t n. f h s w (x.whole h s w t n); ends = x.ends }
+content_wider strict wanted other refused wider before after None e f r = (λ _. tt, r.1)
+content_wider strict wanted other refused wider before after (Some xs) e f r = (
+  λ k. let x = r.0 k in record { others = x.others; cut = x.cut; whole = λ h s w t n. f h s w (x.whole h s w t n); ends = x.ends },
+  r.1,
+)
 
 -- a head's first byte
 some_byte : (b : List ℕ) → 0 < length b → (x : ℕ) × (y : List ℕ) × (b ≡ x ∷ y)
@@ -286,18 +301,18 @@ module _ {R C : Type 0} (g : Ghosts R) (wanted : Head → Type 0) (other : Marke
     → Type 0) (old mid : Deserializer R C) (after : ℕ) where
   -- a wanted head was taken, and its content refused
   pub content_error : (p : Marker × Head) (h : Head) (n : ℕ) (e : Error) → ReadsHead g old mid (Ok p) → p.1 ≡ h → content_len h ≡ n → wanted h
-      → Explains e (g.faults mid.reader) after (RefusesPiece n (refused h) (g.ahead mid.reader) e)
+      → Explains e (g.faults mid.reader) after (RefusesPiece n (refused h) (g.ahead mid.reader) e) → TellsFault (g.faults mid.reader) after e
       → RefusesContent old.strict wanted other refused (faults_of g old) after (left g old) e
-  content_error p h n e r i l w x =
+  content_error p h n e r i l w x f =
       content_after old.strict wanted other refused (faults_of g old) after (left g old) (left g mid) r.ok.bytes p.0 p.1 e r.ok.takes r.ok.is_head r.marked
       (subst wanted (sym i) w) (λ o k.
-      rw (bare g mid r.clean, i, l) (x o (k ∙ sym r.sound)))
+      rw (bare g mid r.clean, i, l) (x o (k ∙ sym r.sound))) (λ n. f (λ k. n (k ∙ r.sound)))
 
   -- a text or bytes were taken whole, and then refused
   pub content_refused_after : {V : Type 0} (reads : Msg → V → Type 0) (v : V) (t : Bool) (s : List ℕ) (e : Error) (r : Reads g reads old mid v)
-      → r.tree ≡ raw_msg t s → wanted (raw_head t (length s)) → refused (raw_head t (length s)) s e
+      → r.tree ≡ raw_msg t s → wanted (raw_head t (length s)) → refused (raw_head t (length s)) s e → after ≡ faults_of g old
       → RefusesContent old.strict wanted other refused (faults_of g old) after (left g old) e
-  content_refused_after reads v t s e r q w f =
+  content_refused_after reads v t s e r q w f sound =
       let j = (raw_content t).opens old.strict s r.bytes (subst (SpellsAs old.strict r.bytes) q r.spelled) in
       let h = raw_head t (length s) in
       let same : r.bytes ≡ j.first ++ s = j.is_whole ∙ ap (λ z. j.first ++ z) j.is_second.0 in
@@ -306,6 +321,7 @@ module _ {R C : Type 0} (g : Ghosts R) (wanted : Head → Type 0) (other : Marke
       content_after old.strict wanted other refused (faults_of g old) after (left g old) (prepend_known s (left g mid)) j.first m.0 h e taken j.is_first
       m.1 w (λ _ _.
       piece_whole (content_len h) (refused h) (prepend_known s (left g mid)) (left g mid) s e (front_known (left g mid) s) (sym (raw_len t (length s))) f)
+      (λ n. absurd (n sound))
 
 -- ---- whole content that isn't UTF-8
 

@@ -41,7 +41,7 @@ use Rattle.rmp_wire.specs.Reading.{NoHead, FailsNext}
 use Rattle.rmp_wire.specs.Taking.{byte_of, marker_of}
 use Rattle.rmp_wire.proofs.Heads.{heads_differ, marker_pos}
 use Rattle.rmp_wire.proofs.Strict.{any_width, canon_in, heads_differ_as}
-use Rattle.rmp_decode.specs.Exact.{BeginsWith, BeginsWithNone, Ends, RefusesExactly, RefusesBy, EndsExactly}
+use Rattle.rmp_decode.specs.Exact.{BeginsWith, BeginsWithNone, Ends, TellsFault, UnlessFault, RefusesExactly, RefusesBy, EndsExactly}
 use Rattle.rmp_decode.specs.ReadErrors.{error_of}
 use Rattle.rmp_decode.specs.declared.error.Error.{Error}
 use Rattle.rmp_decode.specs.declared.error.Error.TheVariants.{TypeMismatch, NotCanonical}
@@ -96,35 +96,39 @@ number_starts s n l f m small wide (Some ys) =
 
 -- ---- the error
 
+-- the source had no fault
+pub no_fault : {P : Type 0} (before after : ℕ) (e : Error) → after ≡ before → P → UnlessFault before after e P
+no_fault before after e same p = (λ _. p, λ n. absurd (n same))
+
 pub exact_head : (s : Bool) (table : Marker → Head → Error) (before after : ℕ) (known : Option (List ℕ)) (m : Marker) (h : Head) (e : Error)
-    → IfSome known (BeginsWith s m h) → e ≡ table m h → RefusesExactly s table before after known e
+    → after ≡ before → IfSome known (BeginsWith s m h) → e ≡ table m h → RefusesExactly s table before after known e
 unfolding RefusesExactly
-exact_head w table before after None m h e s q = λ _. tt
-exact_head w table before after (Some xs) m h e s q = λ _. record {
+exact_head w table before after None m h e f s q = no_fault before after e f tt
+exact_head w table before after (Some xs) m h e f s q = no_fault before after e f (record {
   starts = λ n k t. let u = start_once _ n m k h xs t s in q ∙ ap (λ z. table z h) (sym u.0) ∙ ap (table n) (sym u.1);
   ends = λ none. absurd (none m h s);
-}
+})
 
 pub exact_none : (s : Bool) (table : Marker → Head → Error) (before after : ℕ) (known : Option (List ℕ)) (e : Error) → EndsExactly s before after known e
     → RefusesExactly s table before after known e
 unfolding RefusesExactly EndsExactly
-exact_none w table before after None e s = λ _. tt
-exact_none w table before after (Some xs) e s = λ same. record { starts = λ m h t. absurd ((s same).0 m h t); ends = λ _. (s same).1 }
+exact_none w table before after None e s = (λ _. tt, s.1)
+exact_none w table before after (Some xs) e s = (λ same. record { starts = λ m h t. absurd ((s.0 same).0 m h t); ends = λ _. (s.0 same).1 }, s.1)
 
 pub by_head : (s : Bool) (table : Marker → Head → Error → Type 0) (before after : ℕ) (known : Option (List ℕ)) (m : Marker) (h : Head) (e : Error)
-    → IfSome known (BeginsWith s m h) → table m h e → RefusesBy s table before after known e
+    → after ≡ before → IfSome known (BeginsWith s m h) → table m h e → RefusesBy s table before after known e
 unfolding RefusesBy
-by_head w table before after None m h e s q = λ _. tt
-by_head w table before after (Some xs) m h e s q = λ _. record {
+by_head w table before after None m h e f s q = no_fault before after e f tt
+by_head w table before after (Some xs) m h e f s q = no_fault before after e f (record {
   starts = λ n k t. let u = start_once _ n m k h xs t s in subst (λ z. table n z e) (sym u.1) (subst (λ z. table z h e) (sym u.0) q);
   ends = λ none. absurd (none m h s);
-}
+})
 
 pub by_none : (s : Bool) (table : Marker → Head → Error → Type 0) (before after : ℕ) (known : Option (List ℕ)) (e : Error)
     → EndsExactly s before after known e → RefusesBy s table before after known e
 unfolding RefusesBy EndsExactly
-by_none w table before after None e s = λ _. tt
-by_none w table before after (Some xs) e s = λ same. record { starts = λ m h t. absurd ((s same).0 m h t); ends = λ _. (s same).1 }
+by_none w table before after None e s = (λ _. tt, s.1)
+by_none w table before after (Some xs) e s = (λ same. record { starts = λ m h t. absurd ((s.0 same).0 m h t); ends = λ _. (s.0 same).1 }, s.1)
 
 -- ---- no head
 
@@ -194,11 +198,21 @@ ends_known (b ∷ xs) new before after (wire.TypeMismatch k) q r none =
     let same : b ≡ 0xc1 = same_first b 0xc1 xs [] new r.leaves.1 in
     (λ _. ap TypeMismatch r.leaves.0, λ n. absurd (n same))
 
+-- the byte c1 is no fault of the source
+fault_told : (known new : Option (List ℕ)) (before after : ℕ) (e : ValueReadError) → FailsNext known new before after e
+    → TellsFault before after (error_of e)
+fault_told known new before after (wire.InvalidMarkerRead f) r = λ _. tt
+fault_told known new before after (wire.InvalidDataRead f) r = λ _. tt
+fault_told known new before after (wire.TypeMismatch k) r = λ n. absurd (n r.leaves.2)
+
 pub ends_none : (s : Bool) (known new : Option (List ℕ)) (before after : ℕ) (e : ValueReadError) → FailsNext known new before after e
     → EndsExactly s before after known (error_of e)
 unfolding EndsExactly
-ends_none s None new before after e r = λ _. tt
-ends_none s (Some xs) new before after e r = λ q. (none_starts s xs (r.none q), ends_known xs new before after e q r (none_starts false xs (r.none q)))
+ends_none s None new before after e r = (λ _. tt, fault_told None new before after e r)
+ends_none s (Some xs) new before after e r = (
+  λ q. (none_starts s xs (r.none q), ends_known xs new before after e q r (none_starts false xs (r.none q))),
+  fault_told (Some xs) new before after e r,
+)
 
 -- ---- a head that isn't canonical
 
@@ -226,11 +240,11 @@ wide_starts_none strict h b following xs ys c i n = λ m k s.
     n (subst (λ z. heads_of strict z (b ∷ following)) u.0 (subst (heads_of strict k) u.1 s.is_head))
 
 pub ends_wide : (s : Bool) (before after : ℕ) (known k : Option (List ℕ)) (h : Head) (b : ℕ) (following : List ℕ) → Consumes known k (b ∷ following)
-    → IsHead h (b ∷ following) → (heads_of s h (b ∷ following) → ⊥) → EndsExactly s before after known NotCanonical
+    → IsHead h (b ∷ following) → (heads_of s h (b ∷ following) → ⊥) → after ≡ before → EndsExactly s before after known NotCanonical
 unfolding EndsExactly
-ends_wide s before after None k h b following c i n = λ _. tt
-ends_wide s before after (Some xs) None h b following c i n = absurd c
-ends_wide s before after (Some xs) (Some ys) h b following c i n = λ _. (
+ends_wide s before after None k h b following c i n f = no_fault before after NotCanonical f tt
+ends_wide s before after (Some xs) None h b following c i n f = absurd c
+ends_wide s before after (Some xs) (Some ys) h b following c i n f = no_fault before after NotCanonical f (
   wide_starts_none s h b following xs ys c i n,
   subst (λ z. Ends z NotCanonical) (sym c) (
     λ e. absurd (not_reserved h b following i e),
@@ -240,3 +254,10 @@ ends_wide s before after (Some xs) (Some ys) h b following c i n = λ _. (
     ),
   ),
 )
+
+-- ---- a fault is told
+
+pub exact_tells : (s : Bool) (table : Marker → Head → Error) (before after : ℕ) (known : Option (List ℕ)) (e : Error)
+    → RefusesExactly s table before after known e → TellsFault before after e
+unfolding RefusesExactly
+exact_tells s table before after known e r = r.1

@@ -93,7 +93,7 @@ module _ (w : Bool) (wrong : ℕ → Error → List ℕ → Type 0) (readable : 
       → RefusedFor w wrong readable room e known
   unfolding EndsExactly RefusedFor
   wrong_none room before after None e q r = tt
-  wrong_none room before after (Some xs) e q r = here (wider room e xs (wrong_end w room e xs (r q).0 (r q).1))
+  wrong_none room before after (Some xs) e q r = here (wider room e xs (wrong_end w room e xs (r.0 q).0 (r.0 q).1))
 
   -- a leaf's content is cut
   pub wrong_content : (room : ℕ) (known k : Option (List ℕ)) (bytes : List ℕ) (h : Head) (e : Error) → Consumes known k bytes → heads_of w h bytes

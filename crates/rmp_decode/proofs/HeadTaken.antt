@@ -134,15 +134,16 @@ module _ {R C : Type 0} (g : Ghosts R) (old new : Deserializer R C) (fresh : old
 
   -- a head was taken that isn't allowed
   wide : (b : ℕ) (following : List ℕ) (h : Head) → Consumes (left g old) (g.ahead new.reader) (b ∷ following) → IsHead h (b ∷ following)
-      → (heads_of old.strict h (b ∷ following) → ⊥) → g.place new.reader ≡ g.place old.reader → ReadsHead g old new (Err NotCanonical)
-  wide b following h t i n place = record {
+      → (heads_of old.strict h (b ∷ following) → ⊥) → g.faults new.reader ≡ g.faults old.reader → g.place new.reader ≡ g.place old.reader
+      → ReadsHead g old new (Err NotCanonical)
+  wide b following h t i n same place = record {
     ok = tt;
     marked = tt;
     clean = tt;
     fresh = tt;
     sound = tt;
     err = λ _ _ _. no_wide _ (left g old) (g.ahead new.reader) (b ∷ following) h t i n;
-    ends = λ _. ends_wide _ _ _ (left g old) (g.ahead new.reader) h b following t i n;
+    ends = λ _. ends_wide _ _ _ (left g old) (g.ahead new.reader) h b following t i n same;
     memory = λ m. absurd cc;
     failed = failed;
     before = λ f. absurd cc;
@@ -151,13 +152,13 @@ module _ {R C : Type 0} (g : Ghosts R) (old new : Deserializer R C) (fresh : old
 
   head_wide : (p : Marker × Head) → old.kept ≡ Nothing → ReadsNext g old.reader new.reader (Ok p)
       → ((rest : List ℕ) → heads_of old.strict p.1 (byte_of p.0 ∷ rest) → ⊥) → ReadsHead g old new (Err NotCanonical)
-  head_wide p k r n = wide (byte_of p.0) r.ok.rest p.1 (rw (bare g old k) r.ok.taken) r.ok.is_head (n r.ok.rest) r.place
+  head_wide p k r n = wide (byte_of p.0) r.ok.rest p.1 (rw (bare g old k) r.ok.taken) r.ok.is_head (n r.ok.rest) r.sound r.place
 
   wide_after : (b : ℕ) (m : Marker) (h : Head) → byte_of m ≡ b → old.kept ≡ First b → WireHead g m old.reader new.reader (Ok h)
       → ((rest : List ℕ) → heads_of old.strict h (byte_of m ∷ rest) → ⊥) → ReadsHead g old new (Err NotCanonical)
   wide_after b m h w k r n =
       wide (byte_of m) r.ok.rest h (rw (k, w) (Consumes-trans _ (g.ahead old.reader) _ (b ∷ []) r.ok.rest (kept_first (b ∷ []) (g.ahead old.reader))
-      r.ok.taken)) r.ok.is_head (n r.ok.rest) r.place
+      r.ok.taken)) r.ok.is_head (n r.ok.rest) r.sound r.place
 
   -- nothing was kept back, and no head was taken that may be read
   pub next_refused : (e : HeadError) (f : Error) → f ≡ head_error_of e → old.kept ≡ Nothing → FailsNextAllowed g old.strict old.reader new.reader e

@@ -44,7 +44,7 @@ module _ {R C A : Type 0} (g : Ghosts R) (head : A → Head) (Nests : A → Type
       before = λ f. absurd (let o = h.fresh in cc);
       err = λ _ _ _. refuses_head _ Wants (room_of old) (left g old) (left g new) h.ok.bytes p.1 h.ok.takes h.ok.is_head n;
       memory = m;
-      exact = λ _. by_head _ (table (room_of old)) _ _ _ p.0 p.1 e h.marked t;
+      exact = λ _. by_head _ (table (room_of old)) _ _ _ p.0 p.1 e h.sound h.marked t;
     })
 
     -- it would nest too deep
@@ -59,7 +59,7 @@ module _ {R C A : Type 0} (g : Ghosts R) (head : A → Head) (Nests : A → Type
           let f = a.fits in
           omega arith);
       memory = m;
-      exact = λ _. by_head _ (table (room_of old)) _ _ _ p.0 p.1 e h.marked t;
+      exact = λ _. by_head _ (table (room_of old)) _ _ _ p.0 p.1 e h.sound h.marked t;
     })
 
 -- ---- a list, or bytes

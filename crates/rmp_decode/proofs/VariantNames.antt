@@ -330,17 +330,18 @@ alone_refused : (strict : Bool) (room before after : ℕ) (known : Option (List 
     → ((n : ℕ) → h ≡ Map n → ⊥) → RefusesName strict before after known e
     → RefusesContent strict IsVariantHead other_variant (not_variant room) before after known e
 unfolding RefusesContent
-alone_refused strict room before after None m h e s f r = λ _. tt
-alone_refused strict room before after (Some xs) m h e s f r = λ q.
-    let x = r q in
+alone_refused strict room before after None m h e s f r = (λ _. tt, r.1)
+alone_refused strict room before after (Some xs) m h e s f r =
     let at : (k : Head) (j : Marker) → BeginsWith strict j k xs
-    → AsName room k = λ k j t. as_name room k (λ n i. f n (sym (start_once strict j m k h xs t s).1 ∙ i)) in
-    record {
-      others = λ j k t w. x.others j k t (λ i. w ((at k j t).wanted i)) ∙ (at k j t).other j;
-      cut = λ k w t n. x.cut k ((at k t.marker t.starts).raw w) t n;
-      whole = λ k c w t n. (at k t.marker t.starts).whole c e (x.whole k c ((at k t.marker t.starts).raw w) t n);
-      ends = x.ends;
-    }
+    → AsName room k = λ k j t. as_name room k (λ n i. f n (sym (start_once strict j m k h xs t s).1 ∙ i)) in (
+      λ q. let x = r.0 q in record {
+        others = λ j k t w. x.others j k t (λ i. w ((at k j t).wanted i)) ∙ (at k j t).other j;
+        cut = λ k w t n. x.cut k ((at k t.marker t.starts).raw w) t n;
+        whole = λ k c w t n. (at k t.marker t.starts).whole c e (x.whole k c ((at k t.marker t.starts).raw w) t n);
+        ends = x.ends;
+      },
+      r.1,
+    )
 
 -- ---- no variant can be opened
 
@@ -373,10 +374,10 @@ module _ {R C : Type 0} (g : Ghosts R) (names : List (List ℕ)) (old new : Dese
       before = λ b. absurd (let o = h.fresh in cc);
       err = λ _ _ _. refuses_head _ (IsVariant names) (room_of old) (left g old) (left g new) h.ok.bytes p.1 h.ok.takes h.ok.is_head
           (λ m v j. f (one_pair names m n v (j ∙ i)));
-      exact = λ _ human lends. inl (content_other old.strict IsVariantHead other_variant (not_variant (room_of old)) _ _ _ p.0 p.1 e h.marked
+      exact = λ _ human lends. inl (content_other old.strict IsVariantHead other_variant (not_variant (room_of old)) _ _ _ p.0 p.1 e h.sound h.marked
           (λ w. f (subst IsVariantHead i w)) (q ∙ ap (other_variant p.0) (sym i)));
       named = λ _ human lends. inl (
-        content_other old.strict IsVariantHead other_variant (not_variant (room_of old)) _ _ _ p.0 p.1 e h.marked
+        content_other old.strict IsVariantHead other_variant (not_variant (room_of old)) _ _ _ p.0 p.1 e h.sound h.marked
             (λ w. f (subst IsVariantHead i w)) (q ∙ ap (other_variant p.0) (sym i)),
         no_name n i,
       );
@@ -394,10 +395,10 @@ module _ {R C : Type 0} (g : Ghosts R) (names : List (List ℕ)) (old new : Dese
           let f = a.fits in
           omega (arith, l, below, f));
       exact = λ _ human lends. inl (content_differ old.strict IsVariantHead other_variant (not_variant (room_of old)) _ _ _ p.0 p.1 (Map 1) e h.marked i refl
-          refl (λ s. (omega (arith, l), q)));
+          refl (λ s. (omega (arith, l), q)) (λ n. absurd (n h.sound)));
       named = λ _ human lends. inl (
         content_differ old.strict IsVariantHead other_variant (not_variant (room_of old)) _ _ _ p.0 p.1 (Map 1) e h.marked i refl
-            refl (λ s. (omega (arith, l), q)),
+            refl (λ s. (omega (arith, l), q)) (λ n. absurd (n h.sound)),
         no_name 1 i,
       );
     }

@@ -11,7 +11,7 @@ use Rattle.rmp_wire.specs.Sources.{IsShort, Skips}
 use Rattle.rmp_wire.specs.Canonical.{SpellsAs}
 use Rattle.rmp_wire.specs.Spelling.{IsBytes}
 use Rattle.rmp_decode.specs.Content.{not_string}
-use Rattle.rmp_decode.specs.Exact.{BeginsWith, BeginsWithNone, Ends, IsDataEnd, IsUtf8Error}
+use Rattle.rmp_decode.specs.Exact.{BeginsWith, BeginsWithNone, Ends, TellsFault, UnlessFault, IsDataEnd, IsUtf8Error}
 use Rattle.rmp_decode.specs.Law.{Lawful, ReadsHead, Refuses, Explains, IsFailedBefore}
 use Rattle.rmp_decode.specs.Maps.{OpensMap}
 use Rattle.rmp_decode.specs.Pieces.{RefusesPiece}
@@ -89,9 +89,9 @@ pub record OpensParts (strict : Bool) (xs : List ℕ) : Type 0 where
 abbrev pub UnopenedFor : Bool → ℕ → List ℕ → Error → Type 0
 UnopenedFor strict room xs e = (BeginsWithNone strict xs × Ends xs e) ⊎ (OpensParts strict xs × (room ≡ 1) × (e ≡ DepthLimitExceeded))
 
--- Exactly which error it is, where the bytes are told and the source had no fault (it counts them: before, after).
+-- Exactly which error it is, where the bytes are told and the source had no fault (it counts them: before, after). A fault is told by the error.
 unfoldable pub RefusesAny : Bool → ℕ → ℕ → ℕ → Option (List ℕ) → Error → Type 0
-RefusesAny strict room before after known e = after ≡ before → IfSome known (λ xs. UnopenedFor strict room xs e)
+RefusesAny strict room before after known e = UnlessFault before after e (IfSome known (λ xs. UnopenedFor strict room xs e))
 
 -- no message that nests below the room begins there
 pub record FailsToOpenAny {R C : Type 0} (g : Ghosts R) (old new : Deserializer R C) (e : Error) : Type 0 where

@@ -4,7 +4,7 @@ use Rattle.rmp_wire.specs.declared.head.Head.{Head}
 use Rattle.rmp_wire.specs.declared.head.Head.TheVariants.{Text, Bin, Array, Ext}
 use Rattle.rmp_wire.specs.declared.marker.Marker.{Marker}
 use Rattle.rmp_wire.specs.declared.source.Source.{Ghosts}
-use Rattle.rmp_decode.specs.Exact.{BeginsWith, BeginsWithNone, Ends, IsDataEnd, IsUtf8Error}
+use Rattle.rmp_decode.specs.Exact.{BeginsWith, BeginsWithNone, Ends, UnlessFault, IsDataEnd, IsUtf8Error}
 use Rattle.rmp_decode.specs.Kinds.{content_len}
 use Rattle.rmp_decode.specs.Law.{ReadsHead}
 use Rattle.rmp_decode.specs.State.{left, faults_of}
@@ -36,9 +36,10 @@ pub record ExactOfContent (strict : Bool) (wanted : Head → Type 0) (other : Ma
   pub whole : (h : Head) (s : List ℕ) → wanted h → WholePayload strict h s xs → e ≢ OutOfMemory → refused h s e
   pub ends : BeginsWithNone strict xs → Ends xs e
 
--- Exactly which error it is, where the bytes are told and the source had no fault (it counts them: before, after).
+-- Exactly which error it is, where the bytes are told and the source had no fault (it counts them: before, after). A fault is told by the error.
 unfoldable pub RefusesContent : Bool → (Head → Type 0) → (Marker → Head → Error) → (Head → List ℕ → Error → Type 0) → ℕ → ℕ → Option (List ℕ) → Error → Type 0
-RefusesContent strict wanted other refused before after known e = after ≡ before → IfSome known (λ xs. ExactOfContent strict wanted other refused xs e)
+RefusesContent strict wanted other refused before after known e =
+    UnlessFault before after e (IfSome known (λ xs. ExactOfContent strict wanted other refused xs e))
 
 -- the same of what a ready reader answers that was in one state and is in another then
 abbrev pub RefusesLeaf : {R C V : Type 0} → Ghosts R → (Head → Type 0) → (Marker → Head → Error) → (Head → List ℕ → Error → Type 0) → Deserializer R C

@@ -11,7 +11,7 @@ use Rattle.rmp_wire.specs.declared.source.Source.{Ghosts}
 use Rattle.rmp_decode.specs.State.{left, faults_of}
 use Rattle.rmp_decode.specs.declared.deserializer.Deserializer.{Deserializer}
 use Rattle.rmp_decode.specs.declared.error.Error.{Error}
-use Rattle.rmp_decode.specs.declared.error.Error.TheVariants.{InvalidMarkerRead, InvalidDataRead, TypeMismatch, Utf8Error, NotCanonical}
+use Rattle.rmp_decode.specs.declared.error.Error.TheVariants.{InvalidMarkerRead, InvalidDataRead, TypeMismatch, Utf8Error, OutOfMemory, NotCanonical}
 
 -- the bytes begin with this head, whole, under this marker: one of any width, or where reading is strict a canonical one
 pub record BeginsWith (strict : Bool) (m : Marker) (h : Head) (xs : List ℕ) : Type 0 where
@@ -40,6 +40,21 @@ IsDataEnd _ = ⊥
 abbrev pub IsEnd : Error → Type 0
 IsEnd e = IsMarkerEnd e ⊎ IsDataEnd e
 
+-- a read of the source failed, or memory was short
+abbrev pub IsReadFault : Error → Type 0
+IsReadFault (InvalidMarkerRead fault) = Unit {0}
+IsReadFault (InvalidDataRead fault) = Unit {0}
+IsReadFault OutOfMemory = Unit {0}
+IsReadFault _ = ⊥
+
+-- Where the source had a fault (it counts them: before, after), the error says that a read of it failed, or memory was short.
+abbrev pub TellsFault : ℕ → ℕ → Error → Type 0
+TellsFault before after e = after ≢ before → IsReadFault e
+
+-- Where the source had no fault P holds, and otherwise the error tells it.
+abbrev pub UnlessFault : ℕ → ℕ → Error → Type 0 → Type 0
+UnlessFault before after e P = (after ≡ before → P) × TellsFault before after e
+
 -- a text isn't UTF-8
 abbrev pub IsUtf8Error : Error → Type 0
 IsUtf8Error (Utf8Error why) = Unit {0}
@@ -66,9 +81,9 @@ pub record ExactBy (strict : Bool) (table : Marker → Head → Error → Type 0
 abbrev pub Exact : Bool → (Marker → Head → Error) → List ℕ → Error → Type 0
 Exact strict table xs e = ExactBy strict (λ m h e. e ≡ table m h) xs e
 
--- Exactly which error it is, where the bytes are told and the source had no fault (it counts them: before, after).
+-- Exactly which error it is, where the bytes are told and the source had no fault (it counts them: before, after). A fault is told by the error.
 unfoldable pub RefusesExactly : Bool → (Marker → Head → Error) → ℕ → ℕ → Option (List ℕ) → Error → Type 0
-RefusesExactly strict table before after known e = after ≡ before → IfSome known (λ xs. Exact strict table xs e)
+RefusesExactly strict table before after known e = UnlessFault before after e (IfSome known (λ xs. Exact strict table xs e))
 
 -- the same of what a ready reader answers that was in one state and is in another then
 abbrev pub RefusesHead : {R C V : Type 0} → Ghosts R → (Marker → Head → Error) → Deserializer R C → Deserializer R C → Result V Error → Type 0
@@ -76,8 +91,8 @@ RefusesHead g table old new result = old.failed ≡ false → IfErr result (Refu
 
 -- the same of a table that allows errors
 unfoldable pub RefusesBy : Bool → (Marker → Head → Error → Type 0) → ℕ → ℕ → Option (List ℕ) → Error → Type 0
-RefusesBy strict table before after known e = after ≡ before → IfSome known (λ xs. ExactBy strict table xs e)
+RefusesBy strict table before after known e = UnlessFault before after e (IfSome known (λ xs. ExactBy strict table xs e))
 
 -- the same where no head could be taken
 unfoldable pub EndsExactly : Bool → ℕ → ℕ → Option (List ℕ) → Error → Type 0
-EndsExactly strict before after known e = after ≡ before → IfSome known (λ xs. BeginsWithNone strict xs × Ends xs e)
+EndsExactly strict before after known e = UnlessFault before after e (IfSome known (λ xs. BeginsWithNone strict xs × Ends xs e))

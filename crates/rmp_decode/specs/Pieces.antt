@@ -10,15 +10,15 @@ use Rattle.rmp_wire.specs.declared.source.Source.{Ghosts}
 use Rattle.rmp_wire.specs.declared.slice.SourceFault.{SourceFault}
 use Rattle.rmp_wire.specs.declared.slice.SourceFault.TheVariants.{Io, Memory}
 use Rattle.rmp_decode.specs.Content.{not_char}
-use Rattle.rmp_decode.specs.Exact.{IsDataEnd}
+use Rattle.rmp_decode.specs.Exact.{IsDataEnd, IsReadFault, TellsFault}
 use Rattle.rmp_decode.specs.Law.{Explains}
 use Rattle.rmp_decode.specs.declared.error.Error.{Error}
 use Rattle.rmp_decode.specs.declared.error.Error.TheVariants.{OutOfMemory}
 
--- only want of memory becomes want of memory, and an end of the input one after the first byte
+-- only want of memory becomes want of memory, a fault is told, and an end of the input is one after the first byte
 abbrev pub Blamed : SourceFault → Error → Type 0
 Blamed Memory e = e ≡ OutOfMemory
-Blamed (Io fault) e = (e ≢ OutOfMemory) × (error_kind fault ≡ UnexpectedEof → IsDataEnd e)
+Blamed (Io fault) e = (e ≢ OutOfMemory) × (error_kind fault ≡ UnexpectedEof → IsDataEnd e) × IsReadFault e
 
 -- where the bytes are told, they don't begin with the UTF-8 of a character of that length
 abbrev pub StartsWithNoChar : ℕ → Option (List ℕ) → Type 0
@@ -39,5 +39,6 @@ pub record ReadsChar {R : Type 0} (g : Ghosts R) (lends : Bool) (len : ℕ) (old
   pub sound : OnOk result (g.faults new ≡ g.faults old)
   pub err : IfErr result (λ e. Explains e (g.faults old) (g.faults new) (StartsWithNoChar len (g.ahead old)))
   pub exact : IfErr result (λ e. Explains e (g.faults old) (g.faults new) (RefusesPiece len (not_char (Text len)) (g.ahead old) e))
+  pub fault : IfErr result (TellsFault (g.faults old) (g.faults new))
   pub memory : lends ≡ true → IfErr result (λ e. e ≢ OutOfMemory)
   pub place : g.place new ≡ g.place old

@@ -10,7 +10,7 @@ use Rattle.rmp_wire.specs.declared.head.Head.TheVariants.{Whole, Bin, Array}
 use Rattle.rmp_wire.specs.declared.marker.Marker.{Marker}
 use Rattle.rmp_wire.specs.declared.marker.Marker.TheVariants.{FixArray}
 use Rattle.rmp_wire.specs.declared.source.Source.{Ghosts}
-use Rattle.rmp_decode.specs.Exact.{IsDataEnd}
+use Rattle.rmp_decode.specs.Exact.{IsDataEnd, TellsFault}
 use Rattle.rmp_decode.specs.Law.{Explains}
 use Rattle.rmp_decode.specs.declared.error.Error.{Error}
 use Rattle.rmp_decode.specs.declared.error.Error.TheVariants.{LengthMismatch, OutOfMemory, OutOfRange, TypeMismatch}
@@ -68,5 +68,6 @@ pub record ReadsSixteen {S : Type 0} (g : Ghosts S) (old new : S) (result : Resu
   pub sound : OnOk result (g.faults new ≡ g.faults old)
   pub err : IfErr result (λ e. Explains e (g.faults old) (g.faults new) (IsShort 16 (g.ahead old)))
   pub end : IfErr result (λ e. Explains e (g.faults old) (g.faults new) (IsDataEnd e))
+  pub fault : IfErr result (TellsFault (g.faults old) (g.faults new))
   pub memory : IfErr result (λ e. e ≢ OutOfMemory)
   pub place : g.place new ≡ g.place old

@@ -3,7 +3,7 @@ ghost use Rattle.std.specs.Prelude.{◌≡◌, ◌≢◌, Bool, true, OnOk, OnEr
 ghost use Rattle.std.specs.Io.KnownBytes.{Consumes};
 ghost use Rattle.rmp_wire.specs.Sources.{IsShort};
 ghost use Rattle.rmp_wire.specs.Spelling.{IsBytes};
-ghost use Rattle.rmp_decode.specs.Exact.{IsDataEnd};
+ghost use Rattle.rmp_decode.specs.Exact.{IsDataEnd, TellsFault};
 ghost use Rattle.rmp_decode.specs.Law.{Explains};
 ghost use Rattle.rmp_decode.specs.Kinds.{raw_head};
 ghost use Rattle.rmp_decode.specs.Names.{bytes_of};
@@ -40,6 +40,7 @@ pub trait ReadContent<R: Source> {
         ensures sound { OnOk result (R.faults reader.new ≡ R.faults reader.old) }
         ensures err { IfErr result (λ e. Explains e (R.faults reader.old) (R.faults reader.new) (IsShort len (R.ahead reader.old))) }
         ensures end { IfErr result (λ e. Explains e (R.faults reader.old) (R.faults reader.new) (IsDataEnd e)) }
+        ensures fault { IfErr result (TellsFault (R.faults reader.old) (R.faults reader.new)) }
         ensures memory { lends ≡ true → IfErr result (λ e. e ≢ Error.OutOfMemory) }
         ensures place { R.place reader.new ≡ R.place reader.old };
 
@@ -52,6 +53,7 @@ pub trait ReadContent<R: Source> {
         ensures sound { OnOk result (R.faults reader.new ≡ R.faults reader.old) }
         ensures err { IfErr result (λ e. Explains e (R.faults reader.old) (R.faults reader.new) (IsShort len (R.ahead reader.old))) }
         ensures end { IfErr result (λ e. Explains e (R.faults reader.old) (R.faults reader.new) (IsDataEnd e)) }
+        ensures fault { IfErr result (TellsFault (R.faults reader.old) (R.faults reader.new)) }
         ensures place { R.place reader.new ≡ R.place reader.old };
 
     /// Appends the next bytes to a vector, which stays as it was where they can't be read.
@@ -64,6 +66,7 @@ pub trait ReadContent<R: Source> {
         ensures sound { OnOk result (R.faults reader.new ≡ R.faults reader.old) }
         ensures err { IfErr result (λ e. Explains e (R.faults reader.old) (R.faults reader.new) (IsShort len (R.ahead reader.old))) }
         ensures end { IfErr result (λ e. Explains e (R.faults reader.old) (R.faults reader.new) (IsDataEnd e)) }
+        ensures fault { IfErr result (TellsFault (R.faults reader.old) (R.faults reader.new)) }
         ensures place { R.place reader.new ≡ R.place reader.old };
 
     /// Takes the next bytes as the name of a variant, and answers its place among the names.
@@ -78,6 +81,7 @@ pub trait ReadContent<R: Source> {
             (StartsWithNoName (bytes_of names.now) len (R.ahead reader.old))) }
         ensures exact { IfErr result (λ e. Explains e (R.faults reader.old) (R.faults reader.new)
             (RefusesPiece len (unknown_name (raw_head is_text len)) (R.ahead reader.old) e)) }
+        ensures fault { IfErr result (TellsFault (R.faults reader.old) (R.faults reader.new)) }
         ensures memory { lends ≡ true → IfErr result (λ e. e ≢ Error.OutOfMemory) }
         ensures place { R.place reader.new ≡ R.place reader.old };
 }

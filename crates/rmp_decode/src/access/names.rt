@@ -5,7 +5,7 @@ ghost use Rattle.rmp_wire.specs.Sources.{IsShort};
 ghost use Rattle.rmp_wire.specs.Spelling.{IsBytes};
 ghost use Rattle.rmp_decode.specs.Buffers.{AfterHead};
 ghost use Rattle.rmp_decode.specs.Content.{RefusesLeaf, RefusesAfterHead, not_raw, never_refused};
-ghost use Rattle.rmp_decode.specs.Exact.{IsDataEnd};
+ghost use Rattle.rmp_decode.specs.Exact.{IsDataEnd, TellsFault};
 ghost use Rattle.rmp_decode.specs.Law.{Lawful, Explains};
 ghost use Rattle.rmp_decode.specs.Names.{bytes_of, place_of, place_below, IsName, IsNameHead};
 ghost use Rattle.rmp_decode.specs.NamesAhead.{below, IsBelow, TextIn};
@@ -92,6 +92,7 @@ pub(crate) fn next_place<'de, R: ReadSlice<'de>>(
     ensures sound { OnOk result (R.faults reader.new ≡ R.faults reader.old) }
     ensures err { IfErr result (λ e. Explains e (R.faults reader.old) (R.faults reader.new) (IsShort len (R.ahead reader.old))) }
     ensures end { IfErr result (λ e. Explains e (R.faults reader.old) (R.faults reader.new) (IsDataEnd e)) }
+    ensures fault { IfErr result (TellsFault (R.faults reader.old) (R.faults reader.new)) }
     ensures memory { R.lends ≡ true → IfErr result (λ e. e ≢ Error.OutOfMemory) }
     ensures place { R.place reader.new ≡ R.place reader.old }
 {

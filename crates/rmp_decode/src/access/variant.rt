@@ -7,7 +7,7 @@ ghost use Rattle.rmp_decode.specs.contracts.deserializer.Deserializer.{the_row};
 ghost use Rattle.rmp_decode.specs.declared.deserializer.Kept.TheVariants.{Nothing};
 ghost use Rattle.rmp_decode.specs.Buffers.{AfterHead};
 ghost use Rattle.rmp_decode.specs.Content.{IsRawHead, RefusesLeaf, RefusesAfterHead};
-ghost use Rattle.rmp_decode.specs.Exact.{RefusesExactly, RefusesHead, RefusesBy};
+ghost use Rattle.rmp_decode.specs.Exact.{RefusesExactly, RefusesHead, RefusesBy, TellsFault};
 ghost use Rattle.rmp_decode.specs.FieldRefusing.{RefusesFields, PassesSome};
 ghost use Rattle.rmp_decode.specs.Refusing.{setting_of};
 ghost use Rattle.rmp_decode.specs.Fields.{OfFields};
@@ -91,6 +91,7 @@ pub(crate) fn next_variant<'de, R: ReadSlice<'de>>(
         (StartsWithNoName (bytes_of names.now) len (R.ahead reader.old))) }
     ensures exact { IfErr result (λ e. Explains e (R.faults reader.old) (R.faults reader.new)
         (RefusesPiece len (unknown_name (raw_head is_text len)) (R.ahead reader.old) e)) }
+    ensures fault { IfErr result (TellsFault (R.faults reader.old) (R.faults reader.new)) }
     ensures memory { R.lends ≡ true → IfErr result (λ e. e ≢ Error.OutOfMemory) }
     ensures place { R.place reader.new ≡ R.place reader.old }
 {

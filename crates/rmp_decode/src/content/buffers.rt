@@ -4,7 +4,7 @@ ghost use Rattle.std.specs.Borrow.{sem, RestsIfErr};
 ghost use Rattle.rmp_decode.specs.Buffers.{IsBuffer, AfterHead, ListAfterHead, RefusesItems, RefusesList};
 ghost use Rattle.rmp_decode.specs.contracts.deserializer.Deserializer.{the_row};
 ghost use Rattle.rmp_decode.specs.Content.{IsBufferHead, RefusesAfterHead, RefusesLeaf, not_raw, not_buffer, IsExtHead, never_refused, not_ext};
-ghost use Rattle.rmp_decode.specs.Exact.{RefusesExactly};
+ghost use Rattle.rmp_decode.specs.Exact.{RefusesExactly, TellsFault};
 ghost use Rattle.rmp_decode.specs.Kinds.{other_number};
 ghost use Rattle.rmp_decode.specs.Law.{Lawful};
 ghost use Rattle.rmp_decode.specs.Read.{IsUnsigned, IsExt};
@@ -118,6 +118,7 @@ impl<R: Source, C: SerializerConfig> Deserializer<R, C> {
         ensures law { AfterHead R.Source (λ m v. IsBuffer m v.items) (Head.Array len) self.old self.new result }
         ensures deep { IfErr result (λ e. self.old.room ≤ 1 → e ≡ Error.DepthLimitExceeded) }
         ensures items { IfErr result (λ e. 1 < self.old.room → RefusesItems R.Source len self.old self.new e) }
+        ensures fault { IfErr result (TellsFault (faults_of R.Source self.old) (faults_of R.Source self.new)) }
     {
         let mut items = Vec::new(self.alloc);
         let mut seq = self.open_list(len)?;

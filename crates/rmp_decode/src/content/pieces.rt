@@ -5,7 +5,7 @@ ghost use Rattle.std.specs.Io.KnownBytes.{Consumes};
 ghost use Rattle.rmp_wire.specs.Sources.{IsShort};
 ghost use Rattle.rmp_wire.specs.Spelling.{IsBytes};
 ghost use Rattle.rmp_decode.specs.Content.{not_bytes, not_char, not_lent};
-ghost use Rattle.rmp_decode.specs.Exact.{IsDataEnd};
+ghost use Rattle.rmp_decode.specs.Exact.{IsDataEnd, TellsFault};
 ghost use Rattle.rmp_decode.specs.Kinds.{raw_head};
 ghost use Rattle.rmp_decode.specs.Law.{Explains};
 ghost use Rattle.rmp_decode.specs.Pieces.{StartsWithNoChar, RefusesPiece};
@@ -38,6 +38,7 @@ pub(crate) fn lent<'de, R: ReadSlice<'de>>(
     ensures sound { OnOk result (R.faults reader.new ≡ R.faults reader.old) }
     ensures err { IfErr result (λ e. Explains e (R.faults reader.old) (R.faults reader.new) (IsShort len (R.ahead reader.old))) }
     ensures end { IfErr result (λ e. Explains e (R.faults reader.old) (R.faults reader.new) (IsDataEnd e)) }
+    ensures fault { IfErr result (TellsFault (R.faults reader.old) (R.faults reader.new)) }
     ensures memory { R.lends ≡ true → IfErr result (λ e. e ≢ Error.OutOfMemory) }
     ensures place { R.place reader.new ≡ R.place reader.old }
 {
@@ -76,6 +77,7 @@ pub(crate) fn lent_content<'de, R: ReadSlice<'de>>(
     ensures err { R.lends ≡ true → IfErr result (λ e. Explains e (R.faults reader.old) (R.faults reader.new) (IsShort len (R.ahead reader.old))) }
     ensures exact { IfErr result (λ e. Explains e (R.faults reader.old) (R.faults reader.new)
         (RefusesPiece len (not_bytes R.lends (raw_head is_text len)) (R.ahead reader.old) e)) }
+    ensures fault { IfErr result (TellsFault (R.faults reader.old) (R.faults reader.new)) }
     ensures memory { R.lends ≡ true → IfErr result (λ e. e ≢ Error.OutOfMemory) }
     ensures place { R.place reader.new ≡ R.place reader.old }
 {
@@ -97,6 +99,7 @@ pub(crate) fn owned<'de, R: ReadSlice<'de>>(
     ensures sound { OnOk result (R.faults reader.new ≡ R.faults reader.old) }
     ensures err { IfErr result (λ e. Explains e (R.faults reader.old) (R.faults reader.new) (IsShort len (R.ahead reader.old))) }
     ensures end { IfErr result (λ e. Explains e (R.faults reader.old) (R.faults reader.new) (IsDataEnd e)) }
+    ensures fault { IfErr result (TellsFault (R.faults reader.old) (R.faults reader.new)) }
     ensures place { R.place reader.new ≡ R.place reader.old }
 {
     match reader.read_slice(len) {
@@ -132,6 +135,7 @@ pub(crate) fn next_char<'de, R: ReadSlice<'de>>(reader: &mut R, len: usize) -> R
     ensures err { IfErr result (λ e. Explains e (R.faults reader.old) (R.faults reader.new) (StartsWithNoChar len (R.ahead reader.old))) }
     ensures exact { IfErr result (λ e. Explains e (R.faults reader.old) (R.faults reader.new)
         (RefusesPiece len (not_char (Head.Text len)) (R.ahead reader.old) e)) }
+    ensures fault { IfErr result (TellsFault (R.faults reader.old) (R.faults reader.new)) }
     ensures memory { R.lends ≡ true → IfErr result (λ e. e ≢ Error.OutOfMemory) }
     ensures place { R.place reader.new ≡ R.place reader.old }
 {

@@ -1,7 +1,7 @@
 //! Truths, numbers, the bits of floats, and nil.
 ghost use Rattle.std.specs.Prelude.{◌≡◌, ◌≢◌, ◌≤ℤ◌, pos, negsuc, IfErr, ◌++◌, ℕ, List, None, true, false, length, IfSome, IfNone, IfOk, OnOk};
 ghost use Rattle.rmp_wire.specs.Msg.{Msg};
-ghost use Rattle.rmp_decode.specs.Exact.{RefusesHead, IsDataEnd};
+ghost use Rattle.rmp_decode.specs.Exact.{RefusesHead, IsDataEnd, TellsFault};
 ghost use Rattle.rmp_decode.specs.Kinds.{other_kind, other_number, not_nil};
 ghost use Rattle.rmp_decode.specs.Law.{Lawful, Explains};
 ghost use Rattle.rmp_decode.specs.Read.{IsUnsigned, IsSigned};
@@ -133,6 +133,7 @@ fn pulled_sixteen<S: Source>(source: &mut S) -> Result<u128, Error>
     ensures sound { OnOk result (S.faults source.new ≡ S.faults source.old) }
     ensures err { IfErr result (λ e. Explains e (S.faults source.old) (S.faults source.new) (IsShort 16 (S.ahead source.old))) }
     ensures end { IfErr result (λ e. Explains e (S.faults source.old) (S.faults source.new) (IsDataEnd e)) }
+    ensures fault { IfErr result (TellsFault (S.faults source.old) (S.faults source.new)) }
     ensures memory { IfErr result (λ e. e ≢ Error.OutOfMemory) }
     ensures place { S.place source.new ≡ S.place source.old }
 {

@@ -2,7 +2,7 @@ use Rattle.std.proofs.Common.{rules}
 use Rattle.rmp_decode.specs.Kinds.{raw_head}
 use Rattle.rmp_decode.specs.Names.{bytes_of}
 use Rattle.rmp_decode.specs.VariantNames.{unknown_name}
-use Rattle.rmp_decode.proofs.ContentErrors.{piece_whole, piece_blamed}
+use Rattle.rmp_decode.proofs.ContentErrors.{piece_whole, piece_blamed, blamed_tells}
 use Rattle.rmp_decode.proofs.VariantNames.{name_blamed, no_name_taken, unknown_piece}
 use Rattle.rmp_decode.proofs.access.variant.next_variant.Goals as goal
 
@@ -24,3 +24,9 @@ returns-in-Err-clause-err g c = name_blamed (bytes_of c.args.names.now) c.args.l
 pub returns-in-Err-clause-exact : goal.returns-in-Err-clause-exact
 returns-in-Err-clause-exact g c = piece_blamed c.args.len (unknown_name (raw_head c.args.is_text c.args.len)) c.in-Err.e _ _
     (g.R.Source.ahead c.args.reader.now) _ (rw c.in-Err.is at c.read_slice.follows.holds-at-none).0 c.error_of.ensures
+
+pub returns-in-Err-place_named-clause-fault : goal.returns-in-Err-place_named-clause-fault
+returns-in-Err-place_named-clause-fault g c = λ n. absurd (n (search rules))
+
+pub returns-in-Err-clause-fault : goal.returns-in-Err-clause-fault
+returns-in-Err-clause-fault g c = blamed_tells c.in-Err.e _ _ _ c.error_of.ensures

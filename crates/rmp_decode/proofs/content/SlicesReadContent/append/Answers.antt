@@ -1,6 +1,6 @@
 use Rattle.std.proofs.Common.{◌∙◌, ap, ◌++◌}
 use Rattle.rmp_wire.specs.Slices.{reference_bytes}
-use Rattle.rmp_decode.proofs.ContentErrors.{blamed_short, blamed_end}
+use Rattle.rmp_decode.proofs.ContentErrors.{blamed_short, blamed_end, blamed_tells}
 use Rattle.rmp_decode.proofs.content.SlicesReadContent.append.Goals as goal
 
 pub returns-in-Ok-extend_from_slice-clause-ok : goal.returns-in-Ok-extend_from_slice-clause-ok
@@ -21,3 +21,6 @@ returns-in-Err-clause-err g c = blamed_short c.args.len c.in-Err.e _ _ (g.R.Sour
 pub returns-in-Err-clause-end : goal.returns-in-Err-clause-end
 returns-in-Err-clause-end g c = blamed_end c.args.len c.in-Err.e _ _ (g.R.Source.ahead c.args.reader.now) _
     (rw c.in-Err.is at c.read_slice.follows.holds-at-none).0 c.error_of.ensures
+
+pub returns-in-Err-clause-fault : goal.returns-in-Err-clause-fault
+returns-in-Err-clause-fault g c = blamed_tells c.in-Err.e _ _ _ c.error_of.ensures

@@ -1,7 +1,7 @@
 use Rattle.std.proofs.Common.{rules, length}
 use Rattle.rmp_decode.specs.Content.{not_bytes}
 use Rattle.rmp_decode.specs.Kinds.{raw_head}
-use Rattle.rmp_decode.proofs.ContentErrors.{piece_whole, piece_blamed, unlent}
+use Rattle.rmp_decode.proofs.ContentErrors.{piece_whole, piece_blamed, blamed_tells, unlent}
 use Rattle.rmp_decode.proofs.content.pieces.lent_content.Goals as goal
 
 pub returns-in-Ok-Copied-clause-exact : goal.returns-in-Ok-Copied-clause-exact
@@ -13,3 +13,9 @@ returns-in-Ok-Copied-clause-exact g c = λ n k.
 pub returns-in-Err-clause-exact : goal.returns-in-Err-clause-exact
 returns-in-Err-clause-exact g c = piece_blamed c.args.len (not_bytes g.R.ReadSlice.lends (raw_head c.args.is_text c.args.len)) c.in-Err.e _ _
     (g.R.Source.ahead c.args.reader.now) _ (rw c.in-Err.is at c.read_slice.follows.holds-at-none).0 c.error_of.ensures
+
+pub returns-in-Ok-Copied-clause-fault : goal.returns-in-Ok-Copied-clause-fault
+returns-in-Ok-Copied-clause-fault g c = λ n. absurd (n (search rules))
+
+pub returns-in-Err-clause-fault : goal.returns-in-Err-clause-fault
+returns-in-Err-clause-fault g c = blamed_tells c.in-Err.e _ _ _ c.error_of.ensures

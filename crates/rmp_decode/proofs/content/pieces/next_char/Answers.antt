@@ -1,7 +1,7 @@
 use Rattle.std.proofs.Common.{sym, rules}
 use Rattle.rmp_wire.specs.declared.head.Head.TheVariants.{Text}
 use Rattle.rmp_decode.specs.Content.{not_char}
-use Rattle.rmp_decode.proofs.ContentErrors.{piece_whole, piece_blamed, char_blamed}
+use Rattle.rmp_decode.proofs.ContentErrors.{piece_whole, piece_blamed, blamed_tells, char_blamed}
 use Rattle.rmp_decode.proofs.Texts.{no_such_char}
 use Rattle.rmp_decode.proofs.content.pieces.next_char.Goals as goal
 
@@ -24,3 +24,9 @@ returns-in-Err-clause-err g c = char_blamed c.args.len c.in-Err.e _ _ (g.R.Sourc
 pub returns-in-Err-clause-exact : goal.returns-in-Err-clause-exact
 returns-in-Err-clause-exact g c = piece_blamed c.args.len (not_char (Text c.args.len)) c.in-Err.e _ _ (g.R.Source.ahead c.args.reader.now) _
     (rw c.in-Err.is at c.read_slice.follows.holds-at-none).0 c.error_of.ensures
+
+pub returns-in-Err-char_of-clause-fault : goal.returns-in-Err-char_of-clause-fault
+returns-in-Err-char_of-clause-fault g c = λ n. absurd (n (search rules))
+
+pub returns-in-Err-clause-fault : goal.returns-in-Err-clause-fault
+returns-in-Err-clause-fault g c = blamed_tells c.in-Err.e _ _ _ c.error_of.ensures

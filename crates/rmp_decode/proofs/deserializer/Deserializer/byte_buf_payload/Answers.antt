@@ -8,7 +8,7 @@ use Rattle.rmp_decode.specs.Content.{IsBufferHead, not_raw, not_buffer}
 use Rattle.rmp_decode.specs.Law.{Explains}
 use Rattle.rmp_decode.specs.Pieces.{Blamed}
 use Rattle.rmp_decode.specs.declared.error.Error.{Error}
-use Rattle.rmp_decode.proofs.ContentErrors.{content_error, piece_blamed}
+use Rattle.rmp_decode.proofs.ContentErrors.{content_error, piece_blamed, blamed_tells}
 use Rattle.rmp_decode.proofs.Contents.{bin_content, content_read, content_short}
 use Rattle.rmp_decode.proofs.deserializer.Deserializer.byte_buf_payload.Goals as goal
 
@@ -27,7 +27,7 @@ returns-clause-law g c = λ old m h.
 pub returns-in-Err-from_slice-clause-exact : goal.returns-in-Err-from_slice-clause-exact
 returns-in-Err-from_slice-clause-exact g c = λ old m h.
     content_error g.R.Source IsBufferHead not_raw not_buffer old c.args.self.now _ (m, Bin c.args.len) (Bin c.args.len) c.args.len _ h refl refl tt
-    (λ n k. absurd (n refl))
+    (λ n k. absurd (n refl)) (λ n. tt)
 
 pub returns-in-Err-clause-law : goal.returns-in-Err-clause-law
 returns-in-Err-clause-law g c = λ old m h.
@@ -40,4 +40,4 @@ pub returns-in-Err-clause-exact : goal.returns-in-Err-clause-exact
 returns-in-Err-clause-exact g c = λ old m h.
     content_error g.R.Source IsBufferHead not_raw not_buffer old c.args.self.now _ (m, Bin c.args.len) (Bin c.args.len) c.args.len _ h refl refl tt
     (piece_blamed c.args.len (not_buffer (Bin c.args.len)) c.in-Err.e _ _ (g.R.Source.ahead c.args.self.now.reader) _
-    (rw c.in-Err.is at c.read_slice.follows.holds-at-none).0 c.error_of.ensures)
+    (rw c.in-Err.is at c.read_slice.follows.holds-at-none).0 c.error_of.ensures) (blamed_tells c.in-Err.e _ _ _ c.error_of.ensures)

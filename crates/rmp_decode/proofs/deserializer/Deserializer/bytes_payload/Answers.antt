@@ -20,4 +20,4 @@ returns-in-Err-clause-law g c = λ old m h.
 pub returns-in-Err-clause-exact : goal.returns-in-Err-clause-exact
 returns-in-Err-clause-exact g c = λ old m h.
     content_error g.R.Source IsRawHead not_raw (not_bytes g.R.ReadSlice.lends) old c.args.self.now _ (m, raw_head c.args.is_text c.args.len) (raw_head c.args.is_text c.args.len) c.args.len _ h
-    refl (raw_len c.args.is_text c.args.len) (raw_wanted c.args.is_text c.args.len) c.in-Err.ensures.exact
+    refl (raw_len c.args.is_text c.args.len) (raw_wanted c.args.is_text c.args.len) c.in-Err.ensures.exact c.in-Err.ensures.fault

@@ -22,4 +22,4 @@ returns-in-Err-clause-law g c = λ old m h.
 pub returns-in-Err-clause-exact : goal.returns-in-Err-clause-exact
 returns-in-Err-clause-exact g c = λ old m h.
     content_error g.R.Source IsTextHead not_raw not_char old c.args.self.now _ (m, Text c.args.len) (Text c.args.len) c.args.len _ h refl refl tt
-    c.in-Err.ensures.exact
+    c.in-Err.ensures.exact c.in-Err.ensures.fault

@@ -29,4 +29,4 @@ pub returns-in-Err-clause-exact : goal.returns-in-Err-clause-exact
 returns-in-Err-clause-exact g c = λ _.
     let t = c.in-Some.ensures.taken in
     content_error g.R.Source IsSigned128Head not_wide never_refused c.args.self.now c.take.new.self _ (t.marker, Bin 16) (Bin 16) 16 _ t.begun refl
-    refl refl (piece_ended _ _ _ _ _ _ c.in-Err.ensures.err c.in-Err.ensures.end)
+    refl refl (piece_ended _ _ _ _ _ _ c.in-Err.ensures.err c.in-Err.ensures.end) c.in-Err.ensures.fault

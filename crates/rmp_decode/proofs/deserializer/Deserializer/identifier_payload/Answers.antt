@@ -22,4 +22,4 @@ returns-in-Err-clause-law g c = λ old m h.
 pub returns-in-Err-clause-exact : goal.returns-in-Err-clause-exact
 returns-in-Err-clause-exact g c = λ old m h.
     content_error g.R.Source IsNameHead not_raw never_refused old c.args.self.now _ (m, Text c.args.len) (Text c.args.len) c.args.len _ h refl refl tt
-    (piece_ended _ _ _ _ _ _ c.in-Err.ensures.err c.in-Err.ensures.end)
+    (piece_ended _ _ _ _ _ _ c.in-Err.ensures.err c.in-Err.ensures.end) c.in-Err.ensures.fault

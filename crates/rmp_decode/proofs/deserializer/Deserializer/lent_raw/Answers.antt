@@ -32,11 +32,11 @@ pub returns-in-Err-lent_content-clause-exact : goal.returns-in-Err-lent_content-
 returns-in-Err-lent_content-clause-exact g c = λ _.
     content_error g.R.Source IsRawHead not_raw (not_bytes g.R.ReadSlice.lends) c.args.self.now c.head.new.self _ (c.in-Ok.field-0-0, c.in-Ok.head)
     (raw_head c.in-Some.is_text c.in-Some.len) c.in-Some.len _ c.in-Ok.ensures c.in-Some.ensures (raw_len c.in-Some.is_text c.in-Some.len)
-    (raw_wanted c.in-Some.is_text c.in-Some.len) c.in-Err-lent_content.ensures.exact
+    (raw_wanted c.in-Some.is_text c.in-Some.len) c.in-Err-lent_content.ensures.exact c.in-Err-lent_content.ensures.fault
 
 pub returns-in-None-clause-exact : goal.returns-in-None-clause-exact
 returns-in-None-clause-exact g c = λ _. content_other _ IsRawHead not_raw (not_bytes g.R.ReadSlice.lends) _ _ _ c.in-Ok.field-0-0 c.in-Ok.head _
-    c.in-Ok.ensures.marked (no_raw_head c.in-Ok.head c.in-None.ensures) refl
+    c.in-Ok.ensures.sound c.in-Ok.ensures.marked (no_raw_head c.in-Ok.head c.in-None.ensures) refl
 
 pub returns-in-Err-clause-exact : goal.returns-in-Err-clause-exact
 returns-in-Err-clause-exact g c = λ o. content_none _ IsRawHead not_raw (not_bytes g.R.ReadSlice.lends) _ _ _ _ (c.in-Err.ensures.ends o)

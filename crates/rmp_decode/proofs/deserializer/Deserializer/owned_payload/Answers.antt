@@ -20,4 +20,4 @@ pub returns-in-Err-clause-exact : goal.returns-in-Err-clause-exact
 returns-in-Err-clause-exact g c = λ old m h.
     content_error g.R.Source IsRawHead not_raw never_refused old c.args.self.now _ (m, raw_head c.args.is_text c.args.len)
     (raw_head c.args.is_text c.args.len) c.args.len _ h refl (raw_len c.args.is_text c.args.len) (raw_wanted c.args.is_text c.args.len)
-    (piece_ended _ _ _ _ _ _ c.in-Err.ensures.err c.in-Err.ensures.end)
+    (piece_ended _ _ _ _ _ _ c.in-Err.ensures.err c.in-Err.ensures.end) c.in-Err.ensures.fault

@@ -15,7 +15,7 @@ pub returns-in-Err-clause-law : goal.returns-in-Err-clause-law
 returns-in-Err-clause-law g c = refused_none _ _ _ _ _ c.in-Err.ensures
 
 pub returns-in-None-clause-exact : goal.returns-in-None-clause-exact
-returns-in-None-clause-exact g c = λ _. content_other _ IsRawHead not_raw never_refused _ _ _ c.in-Ok.field-0-0 c.in-Ok.head _ c.in-Ok.ensures.marked
+returns-in-None-clause-exact g c = λ _. content_other _ IsRawHead not_raw never_refused _ _ _ c.in-Ok.field-0-0 c.in-Ok.head _ c.in-Ok.ensures.sound c.in-Ok.ensures.marked
     (no_raw_head c.in-Ok.head c.in-None.ensures) refl
 
 pub returns-in-Err-clause-exact : goal.returns-in-Err-clause-exact

@@ -28,7 +28,7 @@ returns-in-Err-clause-law g c = λ old m h. name_refused g.R.Source (bytes_of c.
 pub returns-in-Err-clause-exact : goal.returns-in-Err-clause-exact
 returns-in-Err-clause-exact g c = λ old m h.
     content_error g.R.Source IsRawHead other_name unknown_name old c.args.self.now _ (m, c.args.head) (raw_head c.in-Some.is_text c.in-Some.len)
-    c.in-Some.len _ h c.in-Some.ensures (raw_len c.in-Some.is_text c.in-Some.len) (raw_wanted c.in-Some.is_text c.in-Some.len) c.in-Err.ensures.exact
+    c.in-Some.len _ h c.in-Some.ensures (raw_len c.in-Some.is_text c.in-Some.len) (raw_wanted c.in-Some.is_text c.in-Some.len) c.in-Err.ensures.exact c.in-Err.ensures.fault
 
 pub returns-in-Ok-place_in-clause-law : goal.returns-in-Ok-place_in-clause-law
 returns-in-Ok-place_in-clause-law g c = λ old m h.
@@ -46,4 +46,4 @@ returns-in-Err-place_in-clause-law g c = λ old m h.
 
 pub returns-in-Err-place_in-clause-exact : goal.returns-in-Err-place_in-clause-exact
 returns-in-Err-place_in-clause-exact g c = λ old m h. let no = no_raw_head c.args.head c.in-None.ensures
-    in content_other _ IsRawHead other_name unknown_name _ _ _ m c.args.head _ h.marked no (c.in-Err-place_in.ensures.exact no m)
+    in content_other _ IsRawHead other_name unknown_name _ _ _ m c.args.head _ h.sound h.marked no (c.in-Err-place_in.ensures.exact no m)

@@ -7,6 +7,7 @@ use Rattle.rmp_decode.specs.declared.error.Error.{Error}
 use Rattle.rmp_decode.proofs.BufferErrors.{list_none, list_other, list_after, raw_no_list}
 use Rattle.rmp_decode.proofs.Buffers.{raw_buffer, no_buffer}
 use Rattle.rmp_decode.proofs.ContentErrors.{content_error, content_other, content_none, content_differ, piece_ended, raw_len, buffer_wanted, no_buffer_head}
+use Rattle.rmp_decode.proofs.FieldRows.{if_err}
 use Rattle.rmp_decode.proofs.Contents.{raw_content, content_read, content_short}
 use Rattle.rmp_decode.proofs.Laws.{refused_none, refused_head}
 use Rattle.rmp_decode.proofs.deserializer.Deserializer.slow_byte_buf.Goals as goal
@@ -40,20 +41,16 @@ pub returns-in-Err-owned-clause-exact : goal.returns-in-Err-owned-clause-exact
 returns-in-Err-owned-clause-exact g c = λ _.
     content_error g.R.Source IsBufferHead not_raw not_buffer c.args.self.now c.head.new.self _ (c.in-Ok.field-0-0, c.in-Ok.head)
     (raw_head c.in-Some.field-0-0 c.in-Some.len) c.in-Some.len _ c.in-Ok.ensures c.in-Some.ensures (raw_len c.in-Some.field-0-0 c.in-Some.len)
-    (buffer_wanted c.in-Some.field-0-0 c.in-Some.len) (piece_ended _ _ _ _ _ _ c.in-Err-owned.ensures.err c.in-Err-owned.ensures.end)
+    (buffer_wanted c.in-Some.field-0-0 c.in-Some.len) (piece_ended _ _ _ _ _ _ c.in-Err-owned.ensures.err c.in-Err-owned.ensures.end) c.in-Err-owned.ensures.fault
 
 pub returns-in-None-as_array-clause-exact : goal.returns-in-None-as_array-clause-exact
 returns-in-None-as_array-clause-exact g c = λ _. content_other _ IsBufferHead not_raw not_buffer _ _ _ c.in-Ok.field-0-0 c.in-Ok.head _
-    c.in-Ok.ensures.marked (no_buffer_head c.in-Ok.head c.in-None.ensures c.in-None-as_array.ensures) refl
-
-under_list : {A : Type 0} (r : Result A Error) {P : Error → Type 0} → ((e : Error) → P e) → IfErr r P
-under_list (Ok a) f = tt
-under_list (Err e) f = f e
+    c.in-Ok.ensures.sound c.in-Ok.ensures.marked (no_buffer_head c.in-Ok.head c.in-None.ensures c.in-None-as_array.ensures) refl
 
 pub returns-in-Some-as_array-clause-exact : goal.returns-in-Some-as_array-clause-exact
-returns-in-Some-as_array-clause-exact g c = λ _. under_list c.byte_list.result
-    (λ e. content_differ _ IsBufferHead not_raw not_buffer _ _ _ c.in-Ok.field-0-0 c.in-Ok.head (Array c.in-Some-as_array.len) e c.in-Ok.ensures.marked
-    c.in-Some-as_array.ensures refl tt (λ s. tt))
+returns-in-Some-as_array-clause-exact g c = λ _. if_err c.byte_list.result
+    (λ e f. content_differ _ IsBufferHead not_raw not_buffer _ _ _ c.in-Ok.field-0-0 c.in-Ok.head (Array c.in-Some-as_array.len) e c.in-Ok.ensures.marked
+    c.in-Some-as_array.ensures refl tt (λ s. tt) (λ n. f (λ k. n (k ∙ c.in-Ok.ensures.sound)))) c.byte_list.ensures.fault
 
 pub returns-in-Err-clause-exact : goal.returns-in-Err-clause-exact
 returns-in-Err-clause-exact g c = λ o. content_none _ IsBufferHead not_raw not_buffer _ _ _ _ (c.in-Err.ensures.ends o)

@@ -32,10 +32,10 @@ returns-in-Err-clause-law g c = refused_none _ _ _ _ _ c.in-Err.ensures
 pub returns-in-Err-next_char-clause-exact : goal.returns-in-Err-next_char-clause-exact
 returns-in-Err-next_char-clause-exact g c = λ _.
     content_error g.R.Source IsTextHead not_raw not_char c.args.self.now c.head.new.self _ (c.in-Ok.field-0-0, c.in-Ok.head) (Text c.in-Some.len)
-    c.in-Some.len _ c.in-Ok.ensures c.in-Some.ensures refl tt c.in-Err-next_char.ensures.exact
+    c.in-Some.len _ c.in-Ok.ensures c.in-Some.ensures refl tt c.in-Err-next_char.ensures.exact c.in-Err-next_char.ensures.fault
 
 pub returns-in-None-clause-exact : goal.returns-in-None-clause-exact
-returns-in-None-clause-exact g c = λ _. content_other _ IsTextHead not_raw not_char _ _ _ c.in-Ok.field-0-0 c.in-Ok.head _ c.in-Ok.ensures.marked
+returns-in-None-clause-exact g c = λ _. content_other _ IsTextHead not_raw not_char _ _ _ c.in-Ok.field-0-0 c.in-Ok.head _ c.in-Ok.ensures.sound c.in-Ok.ensures.marked
     (no_text_head c.in-Ok.head c.in-None.ensures) refl
 
 pub returns-in-Err-clause-exact : goal.returns-in-Err-clause-exact

@@ -33,10 +33,10 @@ pub returns-in-Err-owned-clause-exact : goal.returns-in-Err-owned-clause-exact
 returns-in-Err-owned-clause-exact g c = λ _.
     content_error g.R.Source IsExtHead not_ext never_refused c.args.self.now c.head.new.self _ (c.in-Ok.marker, c.in-Ok.head)
     (Ext c.in-Some.len c.in-Some.tag) c.in-Some.len _ c.in-Ok.ensures c.in-Some.ensures refl tt
-    (piece_ended _ _ _ _ _ _ c.in-Err-owned.ensures.err c.in-Err-owned.ensures.end)
+    (piece_ended _ _ _ _ _ _ c.in-Err-owned.ensures.err c.in-Err-owned.ensures.end) c.in-Err-owned.ensures.fault
 
 pub returns-in-None-clause-exact : goal.returns-in-None-clause-exact
-returns-in-None-clause-exact g c = λ _. content_other _ IsExtHead not_ext never_refused _ _ _ c.in-Ok.marker c.in-Ok.head _ c.in-Ok.ensures.marked
+returns-in-None-clause-exact g c = λ _. content_other _ IsExtHead not_ext never_refused _ _ _ c.in-Ok.marker c.in-Ok.head _ c.in-Ok.ensures.sound c.in-Ok.ensures.marked
     (no_ext_head c.in-Ok.head c.in-None.ensures) refl
 
 pub returns-in-Err-clause-exact : goal.returns-in-Err-clause-exact

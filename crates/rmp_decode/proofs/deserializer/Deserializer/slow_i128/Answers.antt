@@ -32,7 +32,7 @@ returns-in-Err-next_sixteen-clause-law g c = content_short bin_content g.R.Sourc
 pub returns-in-Err-next_sixteen-clause-exact : goal.returns-in-Err-next_sixteen-clause-exact
 returns-in-Err-next_sixteen-clause-exact g c = λ _.
     content_error g.R.Source IsSigned128Head not_wide never_refused c.args.self.now c.head.new.self _ c.in-Ok.next (Bin 16) 16 _ c.in-Ok.ensures
-    (c.is_sixteen.ensures.yes (search rules)) refl refl (piece_ended _ _ _ _ _ _ c.in-Err-next_sixteen.ensures.err c.in-Err-next_sixteen.ensures.end)
+    (c.is_sixteen.ensures.yes (search rules)) refl refl (piece_ended _ _ _ _ _ _ c.in-Err-next_sixteen.ensures.err c.in-Err-next_sixteen.ensures.end) c.in-Err-next_sixteen.ensures.fault
 
 pub returns-then-not-is_sixteen-clause-law : goal.returns-then-not-is_sixteen-clause-law
 returns-then-not-is_sixteen-clause-law g c = refused_head g.R.Source _ c.args.self.now _ c.in-Ok.next _ c.in-Ok.ensures
@@ -40,7 +40,7 @@ returns-then-not-is_sixteen-clause-law g c = refused_head g.R.Source _ c.args.se
 
 pub returns-then-not-is_sixteen-clause-exact : goal.returns-then-not-is_sixteen-clause-exact
 returns-then-not-is_sixteen-clause-exact g c = λ _. content_other _ IsSigned128Head not_wide never_refused _ _ _ c.in-Ok.next.0 c.in-Ok.next.1 _
-    c.in-Ok.ensures.marked (not_signed_head c.in-Ok.next.1 (c.in_default.ensures, c.is_sixteen.ensures.no (search rules))) c.not_wide.ensures.same
+    c.in-Ok.ensures.sound c.in-Ok.ensures.marked (not_signed_head c.in-Ok.next.1 (c.in_default.ensures, c.is_sixteen.ensures.no (search rules))) c.not_wide.ensures.same
 
 pub returns-in-Err-clause-law : goal.returns-in-Err-clause-law
 returns-in-Err-clause-law g c = refused_none _ _ _ _ _ c.in-Err.ensures

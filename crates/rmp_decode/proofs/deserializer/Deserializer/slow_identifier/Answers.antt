@@ -57,16 +57,16 @@ returns-in-Err-next_place-clause-exact g c = λ _.
     let k = c.in-Some in
     content_error g.R.Source IsNameHead not_raw never_refused c.args.self.now c.head.new.self _ (c.in-Ok.field-0-0, c.in-Ok.head)
     (raw_head k.field-0-0 k.len) k.len _ c.in-Ok.ensures k.ensures (raw_len k.field-0-0 k.len) (name_wanted k.field-0-0 k.len)
-    (piece_ended _ _ _ _ _ _ c.in-Err-next_place.ensures.err c.in-Err-next_place.ensures.end)
+    (piece_ended _ _ _ _ _ _ c.in-Err-next_place.ensures.err c.in-Err-next_place.ensures.end) c.in-Err-next_place.ensures.fault
 
 pub returns-in-None-as_whole-clause-exact : goal.returns-in-None-as_whole-clause-exact
 returns-in-None-as_whole-clause-exact g c = λ _. content_other _ IsNameHead not_raw never_refused _ _ _ c.in-Ok.field-0-0 c.in-Ok.head _
-    c.in-Ok.ensures.marked (no_name_head c.in-Ok.head c.in-None.ensures c.in-None-as_whole.ensures) refl
+    c.in-Ok.ensures.sound c.in-Ok.ensures.marked (no_name_head c.in-Ok.head c.in-None.ensures c.in-None-as_whole.ensures) refl
 
 pub returns-in-None-place_below-clause-exact : goal.returns-in-None-place_below-clause-exact
 returns-in-None-place_below-clause-exact g c = λ _.
     let k = c.in-Some-as_whole in
-    content_other _ IsNameHead not_raw never_refused _ _ _ c.in-Ok.field-0-0 c.in-Ok.head _ c.in-Ok.ensures.marked
+    content_other _ IsNameHead not_raw never_refused _ _ _ c.in-Ok.field-0-0 c.in-Ok.head _ c.in-Ok.ensures.sound c.in-Ok.ensures.marked
     (λ w. no_negative_head (length c.args.names.now) k.z
     (c.in-None-place_below.ensures ∙ ap (place_below (length c.args.names.now)) (to_z-of_z w128 k.z (search rules))) (subst IsNameHead k.ensures w))
     refl

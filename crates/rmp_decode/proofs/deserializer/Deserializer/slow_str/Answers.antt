@@ -1,4 +1,4 @@
-use Rattle.std.proofs.Common.{◌∙◌, sym, subst, length}
+use Rattle.std.proofs.Common.{◌∙◌, sym, subst, length, rules}
 use Rattle.std.specs.Prelude.{IsUtf8}
 use Rattle.rmp_decode.specs.Content.{IsRawHead, not_raw, not_bytes, not_str}
 use Rattle.rmp_decode.proofs.ContentErrors.{content_refused_after, content_wider, raw_wanted, not_utf8_str, str_wider}
@@ -21,7 +21,7 @@ returns-in-Err-from_utf8-clause-exact g c = λ _.
     content_refused_after g.R.Source IsRawHead not_raw (not_str g.R.ReadSlice.lends) c.args.self.now c.lent_raw.new.self _ _
     (c.in-Ok.is_text, c.in-Ok.bytes) c.in-Ok.is_text c.in-Ok.bytes.now _ r r.value.1 (raw_wanted c.in-Ok.is_text (length c.in-Ok.bytes.now))
     (rw c.refuse.ensures.same (not_utf8_str g.R.ReadSlice.lends c.in-Ok.is_text (length c.in-Ok.bytes.now) c.in-Ok.bytes.now _ r.value.0
-    c.in-Err-from_utf8.ensures.cases.0 c.not_utf8.ensures.text c.not_utf8.ensures.bytes))
+    c.in-Err-from_utf8.ensures.cases.0 c.not_utf8.ensures.text c.not_utf8.ensures.bytes)) (search rules)
 
 pub returns-in-Err-clause-exact : goal.returns-in-Err-clause-exact
 returns-in-Err-clause-exact g c = λ o. content_wider _ IsRawHead not_raw (not_bytes g.R.ReadSlice.lends) (not_str g.R.ReadSlice.lends) _ _ _ _

@@ -1,4 +1,4 @@
-use Rattle.std.proofs.Common.{◌∙◌, sym, subst, length}
+use Rattle.std.proofs.Common.{◌∙◌, sym, subst, length, rules}
 use Rattle.std.specs.Prelude.{IsUtf8}
 use Rattle.std.specs.String.{string_bytes, string_vec}
 use Rattle.std.proofs.lemmas.Bool.{false≢true}
@@ -25,7 +25,7 @@ returns-in-Err-from_utf8-clause-exact g c = λ _.
     content_refused_after g.R.Source IsRawHead not_raw not_string c.args.self.now c.owned_raw.new.self _ _ (c.in-Ok.is_text, c.in-Ok.bytes) c.in-Ok.is_text
     c.in-Ok.bytes.items _ r r.value (raw_wanted c.in-Ok.is_text (length c.in-Ok.bytes.items))
     (rw c.refuse.ensures.same (not_utf8_string c.in-Ok.is_text (length c.in-Ok.bytes.items) c.in-Ok.bytes.items _
-    (λ u. let no = c.in-Err-from_utf8.ensures.succeeds u in absurd (false≢true no)) c.not_utf8.ensures.text c.not_utf8.ensures.bytes))
+    (λ u. let no = c.in-Err-from_utf8.ensures.succeeds u in absurd (false≢true no)) c.not_utf8.ensures.text c.not_utf8.ensures.bytes)) (search rules)
 
 pub returns-in-Err-clause-exact : goal.returns-in-Err-clause-exact
 returns-in-Err-clause-exact g c = λ o. content_wider _ IsRawHead not_raw never_refused not_string _ _ _ _ (λ h s _ q. absurd q) (c.in-Err.ensures.exact o)

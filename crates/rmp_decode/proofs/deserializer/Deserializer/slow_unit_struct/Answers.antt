@@ -17,7 +17,8 @@ returns-then-is_deepest-clause-law g c = list_too_deep g.R.Source c.args.self.no
 
 pub returns-then-is_deepest-clause-exact : goal.returns-then-is_deepest-clause-exact
 returns-then-is_deepest-clause-exact g c = λ _. exact_head _ (not_nothing (room_of c.args.self.now)) _ _ _ c.in-Ok.next.0 c.in-Ok.next.1 _
-    c.in-Ok.ensures.marked (deep_is _ c.in-Ok.next.0 _ c.in-Some-as_array.len c.in-Some-as_array.ensures (let h = c.in-Ok.ensures.stays.room in omega (arith, c.is_deepest.ensures.deep c.if-is_deepest.true)))
+    c.in-Ok.ensures.sound c.in-Ok.ensures.marked (deep_is _ c.in-Ok.next.0 _ c.in-Some-as_array.len c.in-Some-as_array.ensures
+    (let h = c.in-Ok.ensures.stays.room in omega (arith, c.is_deepest.ensures.deep c.if-is_deepest.true)))
 
 pub returns-then-len-gt0-clause-law : goal.returns-then-len-gt0-clause-law
 returns-then-len-gt0-clause-law g c = refused_head g.R.Source NothingIs c.args.self.now _ c.in-Ok.next _ c.in-Ok.ensures
@@ -25,7 +26,7 @@ returns-then-len-gt0-clause-law g c = refused_head g.R.Source NothingIs c.args.s
 
 pub returns-then-len-gt0-clause-exact : goal.returns-then-len-gt0-clause-exact
 returns-then-len-gt0-clause-exact g c = λ _. exact_head _ (not_nothing (room_of c.args.self.now)) _ _ _ c.in-Ok.next.0 c.in-Ok.next.1 _
-    c.in-Ok.ensures.marked (some_is _ c.in-Ok.next.0 _ c.in-Some-as_array.len c.in-Some-as_array.ensures (let h = c.in-Ok.ensures.stays.room in omega arith))
+    c.in-Ok.ensures.sound c.in-Ok.ensures.marked (some_is _ c.in-Ok.next.0 _ c.in-Some-as_array.len c.in-Some-as_array.ensures (let h = c.in-Ok.ensures.stays.room in omega arith))
 
 pub returns-else-len-gt0-clause-law : goal.returns-else-len-gt0-clause-law
 returns-else-len-gt0-clause-law g c = empty_read g.R.Source c.args.self.now c.head.new.self c.in-Ok.next c.in-Ok.ensures NothingIs _ c.in-Some-as_array.len
@@ -36,7 +37,7 @@ returns-in-None-clause-law g c = refused_head g.R.Source NothingIs c.args.self.n
     (not_nil_or_list c.in-Ok.next.1 c.in_default.ensures c.in-None.ensures)
 
 pub returns-in-None-clause-exact : goal.returns-in-None-clause-exact
-returns-in-None-clause-exact g c = λ _. exact_head _ (not_nothing (room_of c.args.self.now)) _ _ _ c.in-Ok.next.0 c.in-Ok.next.1 _ c.in-Ok.ensures.marked
+returns-in-None-clause-exact g c = λ _. exact_head _ (not_nothing (room_of c.args.self.now)) _ _ _ c.in-Ok.next.0 c.in-Ok.next.1 _ c.in-Ok.ensures.sound c.in-Ok.ensures.marked
     (other_is _ c.in-Ok.next.0 c.in-Ok.next.1 c.in-None.ensures)
 
 pub returns-in-Err-clause-law : goal.returns-in-Err-clause-law

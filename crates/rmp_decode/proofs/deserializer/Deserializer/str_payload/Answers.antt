@@ -29,7 +29,7 @@ returns-in-Err-from_utf8-clause-exact g c = λ old m h.
     content_error g.R.Source IsRawHead not_raw (not_str g.R.ReadSlice.lends) old c.args.self.now _ (m, Text c.args.len) (Text c.args.len) c.args.len _ h
     refl refl tt (λ n k. piece_whole c.args.len (not_str g.R.ReadSlice.lends (Text c.args.len)) _ _ c.in-Ok.bytes.now _ o.2 o.0
     (not_utf8_str g.R.ReadSlice.lends true c.args.len c.in-Ok.bytes.now _ c.in-Ok.ensures.lends c.in-Err-from_utf8.ensures.cases.0 (λ _. tt)
-    (λ n. absurd (true≢false n))))
+    (λ n. absurd (true≢false n)))) (λ n. absurd (n c.in-Ok.ensures.sound))
 
 pub returns-in-Err-clause-law : goal.returns-in-Err-clause-law
 returns-in-Err-clause-law g c = λ old m h.
@@ -41,4 +41,4 @@ returns-in-Err-clause-exact g c = λ old m h.
     content_wider _ IsRawHead not_raw (not_bytes g.R.ReadSlice.lends) (not_str g.R.ReadSlice.lends) _ _ _ _
     (λ k s _ q. str_wider g.R.ReadSlice.lends k s _ q)
     (content_error g.R.Source IsRawHead not_raw (not_bytes g.R.ReadSlice.lends) old c.args.self.now _ (m, Text c.args.len) (Text c.args.len) c.args.len _
-    h refl refl tt c.in-Err.ensures.exact)
+    h refl refl tt c.in-Err.ensures.exact c.in-Err.ensures.fault)

@@ -5,7 +5,7 @@ use Rattle.std.specs.String.{string_bytes}
 use Rattle.rmp_wire.specs.declared.head.Head.TheVariants.{Text}
 use Rattle.rmp_decode.specs.Content.{IsRawHead, not_raw, not_string}
 use Rattle.rmp_decode.proofs.AnyReads.{no_text}
-use Rattle.rmp_decode.proofs.ContentErrors.{content_error, piece_whole, piece_blamed}
+use Rattle.rmp_decode.proofs.ContentErrors.{content_error, piece_whole, piece_blamed, blamed_tells}
 use Rattle.rmp_decode.proofs.Contents.{text_content, content_read}
 use Rattle.rmp_decode.proofs.Strings.{string_refused, text_blamed}
 use Rattle.rmp_decode.proofs.deserializer.Deserializer.string_payload.Goals as goal
@@ -32,7 +32,7 @@ returns-clause-law g c = λ old m h.
 pub returns-in-Err-from_str-clause-exact : goal.returns-in-Err-from_str-clause-exact
 returns-in-Err-from_str-clause-exact g c = λ old m h.
     content_error g.R.Source IsRawHead not_raw not_string old c.args.self.now _ (m, Text c.args.len) (Text c.args.len) c.args.len _ h refl refl tt
-    (λ n k. absurd (n refl))
+    (λ n k. absurd (n refl)) (λ n. tt)
 
 pub returns-in-Err-from_utf8-clause-law : goal.returns-in-Err-from_utf8-clause-law
 returns-in-Err-from_utf8-clause-law g c = λ old m h.
@@ -46,7 +46,7 @@ returns-in-Err-from_utf8-clause-exact g c = λ old m h.
     content_error g.R.Source IsRawHead not_raw not_string old c.args.self.now _ (m, Text c.args.len) (Text c.args.len) c.args.len _ h refl refl tt
     (λ n k. piece_whole c.args.len (not_string (Text c.args.len)) (g.R.Source.ahead c.args.self.now.reader)
     (g.R.Source.ahead c.read_slice.follows.lender-at-none) c.as_bytes.result.now _ (search rules) (search rules)
-    (c.in-Err-from_utf8.ensures.cases.0, tt))
+    (c.in-Err-from_utf8.ensures.cases.0, tt)) (λ n. absurd (n (search rules)))
 
 pub returns-in-Err-clause-law : goal.returns-in-Err-clause-law
 returns-in-Err-clause-law g c = λ old m h.
@@ -59,4 +59,4 @@ pub returns-in-Err-clause-exact : goal.returns-in-Err-clause-exact
 returns-in-Err-clause-exact g c = λ old m h.
     content_error g.R.Source IsRawHead not_raw not_string old c.args.self.now _ (m, Text c.args.len) (Text c.args.len) c.args.len _ h refl refl tt
     (piece_blamed c.args.len (not_string (Text c.args.len)) c.in-Err.e _ _ (g.R.Source.ahead c.args.self.now.reader) _
-    (rw c.in-Err.is at c.read_slice.follows.holds-at-none).0 c.error_of.ensures)
+    (rw c.in-Err.is at c.read_slice.follows.holds-at-none).0 c.error_of.ensures) (blamed_tells c.in-Err.e _ _ _ c.error_of.ensures)

@@ -11,7 +11,7 @@ pub returns-in-Err-clause-law : goal.returns-in-Err-clause-law
 returns-in-Err-clause-law g c = refused_none _ _ _ _ _ c.in-Err.ensures
 
 pub returns-in-None-clause-exact : goal.returns-in-None-clause-exact
-returns-in-None-clause-exact g c = λ _. exact_head _ _ _ _ _ c.in-Ok.marker c.in-Ok.head _ c.in-Ok.ensures.marked refl
+returns-in-None-clause-exact g c = λ _. exact_head _ _ _ _ _ c.in-Ok.marker c.in-Ok.head _ c.in-Ok.ensures.sound c.in-Ok.ensures.marked refl
 
 pub returns-in-Err-clause-exact : goal.returns-in-Err-clause-exact
 returns-in-Err-clause-exact g c = λ o. exact_none _ _ _ _ _ _ (c.in-Err.ensures.ends o)
