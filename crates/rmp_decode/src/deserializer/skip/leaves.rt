@@ -7,7 +7,7 @@ const NEVER: u32 = u32::MAX;
 
 // How many bytes of a leaf follow each first byte: first in a read of any width, then in a strict one. It is `NEVER` for a list or a map,
 // where the first byte doesn't tell, and where reading is strict and only some of such heads are canonical.
-const BEHIND: [u32; 512] = [
+const PAYLOADS: [u32; 512] = [
     0, 0, 0, 0, 0, 0, 0, 0, 0, 0, 0, 0, 0, 0, 0, 0, 0, 0, 0, 0, 0, 0, 0, 0, 0, 0, 0, 0, 0, 0, 0, 0,
     0, 0, 0, 0, 0, 0, 0, 0, 0, 0, 0, 0, 0, 0, 0, 0, 0, 0, 0, 0, 0, 0, 0, 0, 0, 0, 0, 0, 0, 0, 0, 0,
     0, 0, 0, 0, 0, 0, 0, 0, 0, 0, 0, 0, 0, 0, 0, 0, 0, 0, 0, 0, 0, 0, 0, 0, 0, 0, 0, 0, 0, 0, 0, 0,
@@ -36,7 +36,7 @@ fn following(first: u8, strict: bool) -> u32
     ensures { Tells strict first result }
 {
     let at = 2 * first as usize;
-    if strict { BEHIND[at + 1] } else { BEHIND[at] }
+    if strict { PAYLOADS[at + 1] } else { PAYLOADS[at] }
 }
 
 const BLOCK: usize = NEVER as usize;
