@@ -1,9 +1,10 @@
 -- From one message of a row to the next, by what each node takes.
 use Rattle.std.proofs.Common.{◌≡◌, ◌∙◌, sym, ap, subst, refl, ℕ, zero, suc, ◌+◌, ◌-◌, ◌<◌, ◌≤◌, arith, List, [], ◌∷◌, length, drop, get_or, set}
+use Rattle.std.specs.Prelude.{true}
 use Rattle.std.specs.List.{AllByRecursion}
 use Rattle.std.proofs.lemmas.List.{drop-map, drop-set, drop_more, get_or-drop, length-drop, length-map}
 use Rattle.rmp_wire.specs.Msg.{count}
-use Rattle.rmp_serde.specs.Flat.{head_in, content_in, token_in, heads_in, takes_in, takes_then, parts_in, EndsBy, IsRow, AllTake, size_of, span}
+use Rattle.rmp_serde.specs.Flat.{head_in, content_in, token_in, heads_in, takes_in, takes_then, is_leaf, parts_in, EndsBy, IsRow, AllTake, size_of, span}
 use Rattle.rmp_serde.specs.Tokens.{built}
 use Rattle.rmp_serde.specs.declared.value.flat.Node.{Node}
 use Rattle.rmp_serde.specs.declared.value.flat.Node.TheVariants as nodes
@@ -106,3 +107,27 @@ settled b row at end node node' l g r t e h c k =
     let long : end - at ≡ suc (span (parts_in node) (heads_in b more)) = omega (arith, e, ap (span (parts_in node)) (heads_drop b row (at + 1))) in
     let heads : heads_in b (node' ∷ more) ≡ heads_in b (node ∷ more) = λ i. (h i, c i) ∷ heads_in b more in
     subst (AllTake b) (sym (drop-set row at node' l)) (k ∙ ap (λ z. takes_then z node) long ∙ size_is b node more here ∙ ap size_of (sym heads), t)
+
+leaf_takes : (node : Node) (n : ℕ) → is_leaf node ≡ true → takes_then n node ≡ takes_in node
+leaf_takes nodes.Nil n e = refl
+leaf_takes (nodes.Truth t) n e = refl
+leaf_takes (nodes.Unsigned z) n e = refl
+leaf_takes (nodes.Signed z) n e = refl
+leaf_takes (nodes.F32 z) n e = refl
+leaf_takes (nodes.F64 z) n e = refl
+leaf_takes (nodes.Text len at) n e = refl
+leaf_takes (nodes.Bytes len at) n e = refl
+leaf_takes (nodes.Ext tag len at) n e = refl
+leaf_takes (nodes.List z takes) n e = absurd cc
+leaf_takes (nodes.Map z takes) n e = absurd cc
+
+-- of a leaf it needn't be set
+pub settled_leaf : (b : List ℕ) (row : List Node) (at : ℕ) (node : Node) → at < length row → node ≡ get_or row at node → IsRow (heads_in b row)
+    → AllTake b (drop (at + 1) row) → is_leaf node ≡ true → AllTake b (drop at row)
+settled_leaf b row at node l g r t e =
+    let more = drop (at + 1) row in
+    let here : IsRow (heads_in b (node ∷ more)) = subst IsRow (from_place b row at node l g) (row_drop at (heads_in b row) r) in
+    let is : drop at row ≡ node ∷ more = drop_more row at node l ∙ ap (λ z. z ∷ more) (sym g) in
+    let takes : takes_in node ≡ size_of (heads_in b (node ∷ more)) = sym (leaf_takes node (suc (span (parts_in node) (heads_in b more))) e)
+    ∙ size_is b node more here in
+    subst (AllTake b) (sym is) (takes, t)

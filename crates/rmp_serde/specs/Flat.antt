@@ -1,5 +1,5 @@
 -- What nodes and the buffer of their content say.
-use Rattle.std.specs.Prelude.{◌≡◌, ◌≤◌, ◌+◌, ◌*◌, ℕ, List, [], ◌∷◌, ◌++◌, ⊤, length, take, drop, map, pos}
+use Rattle.std.specs.Prelude.{◌≡◌, ◌≤◌, ◌+◌, ◌*◌, ℕ, Bool, true, false, List, [], ◌∷◌, ◌++◌, ⊤, length, take, drop, map, pos}
 use Rattle.std.specs.List.{AllByRecursion}
 use Rattle.rmp_wire.specs.declared.head.Head.{Head}
 use Rattle.rmp_wire.specs.declared.head.Head.TheVariants.{Nil, Truth, Whole, F32Bits, F64Bits, Text, Bin, Array, Map, Ext}
@@ -71,6 +71,12 @@ abbrev pub takes_in : Node → ℕ
 takes_in (nodes.List n takes) = takes
 takes_in (nodes.Map n takes) = takes
 takes_in node = 1
+
+-- it is no list and no map
+abbrev pub is_leaf : Node → Bool
+is_leaf (nodes.List n takes) = false
+is_leaf (nodes.Map n takes) = false
+is_leaf node = true
 
 -- how many it takes once that is set, for a list or a map
 abbrev pub takes_then : ℕ → Node → ℕ

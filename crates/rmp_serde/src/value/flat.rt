@@ -3,7 +3,7 @@ ghost use Rattle.std.specs.Prelude.{◌≡◌, ◌≤◌, ◌+◌, ◌++◌, ◌
 ghost use Rattle.rmp_wire.specs.Heads.{fits_head};
 ghost use Rattle.rmp_decode.specs.Kinds.{content_len};
 ghost use Rattle.rmp_wire.specs.Msg.{count as many};
-ghost use Rattle.rmp_serde.specs.Flat.{content_at, head_in, heads_of, takes_in, takes_then, parts_in, content_in, IsWithin, EndsBy, IsRow, AllTake, span};
+ghost use Rattle.rmp_serde.specs.Flat.{content_at, head_in, heads_of, takes_in, takes_then, is_leaf, parts_in, content_in, IsWithin, EndsBy, IsRow, AllTake, span};
 ghost use Rattle.rmp_serde.specs.Tokens.{built};
 ghost use Rattle.rmp_serde.specs.declared.value.flat.Node.TheVariants as nodes;
 
@@ -104,6 +104,17 @@ impl Node {
             Node::List(len, _) => len as usize,
             Node::Map(len, _) => 2 * len as usize,
             _ => 0,
+        }
+    }
+
+    // Whether nothing can be nested in it: it is no list and no map.
+    #[inline(always)]
+    fn is_leaf(self) -> bool
+        ensures leaf { result ≡ is_leaf self }
+    {
+        match self {
+            Node::List(_, _) | Node::Map(_, _) => false,
+            _ => true,
         }
     }
 
@@ -234,6 +245,9 @@ impl Nodes {
         while at > 0 {
             at -= 1;
             let node = self.nodes[at];
+            if node.is_leaf() {
+                continue;
+            }
             let end = self.past(at + 1, node.parts());
             self.nodes[at] = node.taking(end - at);
         }
