@@ -14,12 +14,20 @@ from recursive_answers import proofs_file, reading_answers, reading_measures, wr
 from recursive_code import leaf_readers, readers, reading, rounds, writing
 from recursive_levels import LEAVES, Level, levels_file
 from recursive_rounds import rounds_file
+from recursive_shared import PROOFS, ROUNDS, SPECS
 
 if TYPE_CHECKING:
     from derived_rounds import Own
     from modules import Module
 
-SHARED = os.path.join(os.path.dirname(os.path.abspath(__file__)), "..", "crates", "test_recursive")
+# The words of the contracts of what is read.
+WORDS = {
+    "rmp_decode.specs.Buffers": "IsBuffer",
+    "rmp_decode.specs.Law": "Lawful",
+    "rmp_decode.specs.Read": "IsUnsigned IsSigned IsRaw IsChar",
+    "rmp_decode.specs.Wide": "IsUnsigned128 IsSigned128",
+    "rmp_wire.specs.Msg": "truth float32 float64",
+}
 
 
 def levels_of(module: Module, wanted: list[Own]) -> list[Level]:
@@ -43,7 +51,7 @@ def refusal(own: Own) -> Optional[str]:
     if of.parameters or of.lifetime:
         return "such a type is derived without parameters"
     if of.shape:
-        return "of such types enums are derived: make it an enum of one variant, or write it by hand"
+        return "of such types only enums are derived: write it by hand, as Rose in crates/test_recursive"
     known = {*LEAVES, f"Vec<{of.name}>", f"Box<{of.name}>"}
     for shape in of.variants:
         if shape.kind not in ("unit", "newtype"):
@@ -67,9 +75,7 @@ def items(module: Module, wanted: list[Own]) -> list[str]:
 def with_words(table: dict[str, str], module: Module, wanted: list[Own]) -> dict[str, str]:
     """The table of where ghost words come from, with those of these types."""
     found, levels = dict(table), levels_of(module, wanted)
-    more = {"rmp_decode.specs.Law": "Lawful", "rmp_decode.specs.Read": "IsUnsigned IsSigned IsRaw", "rmp_wire.specs.Msg": "truth"} if levels else {}
-    if levels:
-        more[f"{module.name}.specs.Recursion"] = "Row"
+    more = WORDS | {f"{module.name}.specs.Recursion": "Row"} if levels else {}
     for level in levels:
         name, low = level.name, level.low
         more[f"{module.name}.specs.{name}Levels"] = f"Is{name} {low}_data {low}_fits"
@@ -87,12 +93,16 @@ def with_code(table: dict[str, str], wanted: list[Own]) -> dict[str, str]:
 
 
 def shared_files(module: Module) -> Iterator[tuple[str, str, str]]:
-    """What such types share, for a crate that isn't the one that has it."""
-    names = [("specs", "Recursion.antt"), ("proofs", "Recursion.antt"), *[("specs", "RecursionRounds.antt")] * bool(module.rounds())]
-    for folder, name in names:
-        with open(os.path.join(SHARED, folder, name), encoding="utf-8") as file:
-            text = file.read().replace("Rattle.test_recursive.", f"Rattle.{module.name}.")
-        yield text.replace("Rattle.rmp_round_trip.", f"Rattle.{module.rounds()}."), folder, name
+    """What the recursive types of a crate share."""
+    for text, folder, name in [(SPECS, "specs", "Recursion"), (PROOFS, "proofs", "Recursion"), *[(ROUNDS, "specs", "RecursionRounds")] * bool(module.rounds())]:
+        about, rest = text.split("\n", 1)
+        text = f"{about} Written by tools/derive.py.\n{rest}".replace("Rattle.CRATE.", f"Rattle.{module.name}.")
+        yield through(module, text), folder, f"{name}.antt"
+
+
+def through(module: Module, text: str) -> str:
+    """The text, where it names rmp_round_trip by way of the library through which the crate does."""
+    return text.replace("Rattle.rmp_round_trip.", f"Rattle.{module.rounds()}.") if module.rounds() else text
 
 
 def files(module: Module, wanted: list[Own]) -> Iterator[tuple[str, ...]]:
@@ -105,7 +115,7 @@ def files(module: Module, wanted: list[Own]) -> Iterator[tuple[str, ...]]:
         yield levels_file(level), "specs", f"{level.name}Levels.antt"
         yield proofs_file(level), "proofs", f"{level.name}Levels.antt"
         if module.rounds():
-            yield rounds_file(level).replace("Rattle.rmp_round_trip.", f"Rattle.{module.rounds()}."), "specs", f"{level.name}Rounds.antt"
+            yield through(module, rounds_file(level)), "specs", f"{level.name}Rounds.antt"
         cycle = (f"{level.name}Serialize", f"+{level.low}_writing")
         yield writing_answers(level, module.below("derived", *cycle)), *below, *cycle, "Answers.antt"
         cycle = (f"+{level.low}_reading",)

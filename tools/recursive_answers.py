@@ -233,7 +233,7 @@ def reading_measures(level: Level, place: str) -> str:
     text = ""
     calls = 0
     for shape, part in level.variants:
-        if part and (not part.is_leaf or part.kind == "String"):
+        if part and (part.is_lent or not part.is_leaf):
             calls += 1
             if not part.is_leaf:
                 measures[f"{fn}-newtype_variant_with" + f"+{calls}" * (calls > 1)] = " + 3"

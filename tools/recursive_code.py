@@ -15,8 +15,7 @@ TAKES = "(de: &mut Deserializer<R, C>) -> Result<{kind}, rmp_decode::Error>"
 
 def read_as(level: Level, part: Part) -> str:
     """What a part is read from, as a function of a message and a value."""
-    reads = part.reads.format(reads=f"Is{level.name}", k="m", a="v")
-    return f"(λ m v. {reads})"
+    return f"(λ m v. {in_code(part, level.name)})"
 
 
 def function(name: str, kind: str, reads: str, body: list[str], more: str = "", cycle: str = "") -> list[str]:
@@ -48,10 +47,10 @@ def arm(level: Level, at: int, shape: Shape, part: Optional[Part]) -> list[str]:
     made = f"{level.name}::{shape.name}"
     if part is None:
         return [f"Ok(({place}, variant)) => match variant.unit_variant() {{", f"Ok(()) => Ok({made}),", "Err(e) => Err(e),", "},"]
-    if part.is_leaf and part.kind != "String":
+    if part.is_leaf and not part.is_lent:
         read = [f"{part.call()}::<R, C>"]
     else:
-        read = closure(level, part, "P::read_string::<C>(de)" if part.is_leaf else f"{holder(level, part)}::<R, C, P>(de)")
+        read = closure(level, part, f"P::{part.call()}::<C>(de)" if part.is_leaf else f"{holder(level, part)}::<R, C, P>(de)")
     first, *others = read
     return [f"Ok(({place}, variant)) => match variant.newtype_variant_with({first}", *others, ") {", f"Ok(value) => Ok({made}(value)),", "Err(e) => Err(e),", "},"]
 
@@ -82,38 +81,35 @@ def readers(level: Level) -> list[str]:
 
 
 def bounds(level: Level) -> str:
-    return " + ReadText<R>" if has_text([level]) else ""
+    return " + ReadLeaves<R>" if lent([level]) else ""
 
 
-def has_text(levels: list[Level]) -> bool:
-    return any(part.kind == "String" for level in levels for part in level.leaves())
+def lent(levels: list[Level]) -> list[Part]:
+    """The leaves that only a source that lends reads, each once."""
+    return list(dict.fromkeys(part for level in levels for part in level.leaves() if part.is_lent))
 
 
-TEXTS = """
-// How texts are read. A function that calls itself may have no bound that names a lifetime, so it has this one, and is called with `Slices`.
-trait ReadText<R: Source> {
-    fn read_string<C: SerializerConfig>(de: &mut Deserializer<R, C>) -> Result<String, rmp_decode::Error>
-        ensures law { Lawful R.Source (λ m v. IsRaw m (string_bytes v)) de.old de.new result };
-}
-
-impl<'de, R: ReadSlice<'de>> ReadText<R> for Slices<'de> {
-    fn read_string<C: SerializerConfig>(de: &mut Deserializer<R, C>) -> Result<String, rmp_decode::Error> {
-        de.deserialize_string()
-    }
-}
-"""
+def leaves_trait(parts: list[Part]) -> list[str]:
+    """How such leaves are read, for the functions that call themselves."""
+    lines = ["// How leaves are read. A function that calls itself may have no bound that names a lifetime, so it has this one, and is called with `Slices`."]
+    heads = [f"fn {part.call()}<C: SerializerConfig>(de: &mut Deserializer<R, C>) -> Result<{part.kind}, rmp_decode::Error>" for part in parts]
+    lines.append("trait ReadLeaves<R: Source> {")
+    for part, head in zip(parts, heads):
+        lines += [head, f"    {LAW.format(reads=f'(λ m v. {in_code(part)})')};\n"]
+    lines += ["}\n", "impl<'de, R: ReadSlice<'de>> ReadLeaves<R> for Slices<'de> {"]
+    return lines + [f"{head} {{ Deserialize::deserialize(de) }}\n" for head in heads] + ["}\n"]
 
 
-def in_code(part: Part) -> str:
-    """What a leaf is read from, in the code's words."""
-    return part.reads.format(k="m", a="v", reads="").replace("msg.", "")
+def in_code(part: Part, name: str = "") -> str:
+    """What a part is read from, in the code's words."""
+    return part.reads.format(k="m", a="v", reads=f"Is{name}").replace("msg.", "")
 
 
 def leaf_readers(levels: list[Level]) -> list[str]:
     """The functions that read leaves, each once."""
-    leaves = dict.fromkeys(part for level in levels for part in level.leaves() if part.kind != "String")
+    leaves = dict.fromkeys(part for level in levels for part in level.leaves() if not part.is_lent)
     lines = [line for part in leaves for line in function(part.call(), part.kind, f"(λ m v. {in_code(part)})", [f"de.deserialize_{part.kind}()"])]
-    return lines + [TEXTS] * has_text(levels)
+    return lines + (leaves_trait(lent(levels)) if lent(levels) else [])
 
 
 def writing(level: Level) -> list[str]:
@@ -158,7 +154,7 @@ def rounds(level: Level) -> list[str]:
         f"    ghost has_data = {{ λ human v. {low}_some v }};\n",
         f"    ghost round = {{ λ lent s v fits. {low}_round s v fits }};\n",
         f"    ghost same = {{ Same{name} }};\n",
-        f"    ghost only = {{ λ s v fits. {low}_only s v }};", "}\n",
+        f"    ghost only = {{ λ s v fits. {low}_only s v fits }};", "}\n",
         f"impl NeverNil for {name} {{",
         f"    ghost never_nil = {{ λ s v. {low}_other s v }};", "}\n",
     ]

@@ -29,6 +29,8 @@ class Part:
     key: str = "{a}"
     of_key: str = ""
     is_leaf: bool = True
+    # whether only a source that lends reads it
+    is_lent: bool = False
 
     def call(self) -> str:
         """The function that reads a leaf."""
@@ -51,12 +53,37 @@ def signed(bits: int) -> Part:
     )
 
 
-TEXT = "string_bytes {a}"
+def wide(kind: str, term: str, reads: str, word: str, fits: str) -> Part:
+    """A number of 128 bits."""
+    return Part(kind, term, f"{reads} {{k}} {{a}}", f"Some ({word} {{a}})", fits, f"{word}_row s {{a}} {{fit}}", f"{word}_only s {{a}} {{fit}}", of_key=f"Some ({word} {{a}})")
+
+
+def bits(size: int) -> Part:
+    """The bits of a float."""
+    word, kind = f"float{size}", f"F{size}Bits"
+    data = f"Some ({word} {{a}}.0)"
+    return Part(
+        kind, kind, f"{{k}} ≡ msg.{word} {{a}}.0", data, f"{{a}}.0 < 2 ^ {size}", f"{word}_row s {{a}}.0", f"{word}_only s (λ (w : {kind}). w.0) {{a}}.0", "{a}.0",
+        data.replace(".0", ""), is_lent=True,
+    )
+
+
+def content(kind: str, term: str, of: str, reads: str, data: str, fits: str, row: str) -> Part:
+    """A text, or bytes."""
+    value = f"({of} {{a}})"
+    only = f"{row}_only s (λ (w : {term}). {of} w) {value}"
+    return Part(kind, term, f"{reads} {{k}} {value}", f"Some ({data} {value})", fits, f"{row}_row s {value}", only, f"{of} {{a}}", f"Some ({data} {{a}})", is_lent=True)
+
+
 LEAVES = {part.kind: part for part in [
-    *(unsigned(bits) for bits in (8, 16, 32, 64)), *(signed(bits) for bits in (8, 16, 32, 64)),
+    *(unsigned(size) for size in (8, 16, 32, 64)), *(signed(size) for size in (8, 16, 32, 64)),
+    dataclasses.replace(unsigned(64), kind="usize", is_lent=True), dataclasses.replace(signed(64), kind="isize", is_lent=True),
+    wide("u128", "ℕ", "IsUnsigned128", "unsigned128", "{a} < 2 ^ 128"), wide("i128", "ℤ", "IsSigned128", "signed128", "FitsSigned w128 {a}"),
     Part("bool", "Bool", "{k} ≡ msg.truth {a}", "Some (truth {a})", "⊤", "truth_row s {a}", "truth_only s {a}", of_key="Some (truth {a})"),
-    Part("String", "String Global", f"IsRaw {{k}} ({TEXT})", f"Some (text ({TEXT}))", f"IsUtf8 ({TEXT})", f"string_row s ({TEXT})",
-         f"string_only s (λ w. string_bytes w) ({TEXT})", TEXT, "Some (text {a})"),
+    Part("char", "ℕ", "IsChar {k} {a}", "Some (char {a})", "IsScalar {a}", "char_row s {a} {fit}", "char_only s {a} {fit}", of_key="Some (char {a})", is_lent=True),
+    bits(32), bits(64),
+    content("String", "String Global", "string_bytes", "IsRaw", "text", "IsUtf8 (string_bytes {a})", "string"),
+    content("ByteBuf", "ByteBuf", "buffer_bytes", "IsBuffer", "bytes", "⊤", "buffer"),
 ]}
 
 
@@ -277,25 +304,31 @@ def tables(level: Level) -> dict[str, str]:
     return {
         "std.proofs.Common": "◌≡◌ ◌∙◌ refl sym ap subst ℕ zero suc List [] ◌∷◌ map All Option None Some String Box",
         "std.specs.Char": "IsScalar",
-        "std.specs.Int": "w8 w16 w32 w64",
+        "std.specs.Int": "w8 w16 w32 w64 w128",
         "std.specs.List": "AllByRecursion",
         "std.specs.Prelude": "◌≢◌ ◌<◌ ◌^◌ ⊤ codes Vec Bool ℤ pos negsuc FitsSigned IsUtf8 IsSome string_bytes",
         "std.specs.declared.alloc.Global": "Global",
         "rmp_wire.specs.Msg": "Msg nil",
+        "rmp_wire.specs.Types": "buffer_bytes",
+        **{f"rmp_wire.specs.declared.types.{kind}": kind for kind in ("ByteBuf", "F32Bits", "F64Bits")},
+        "rmp_decode.specs.Buffers": "IsBuffer",
+        "rmp_decode.specs.Wide": "IsUnsigned128 IsSigned128",
         "rmp_decode.specs.Law": "Readable",
         "rmp_decode.specs.Read": "IsUnsigned IsSigned IsRaw IsChar",
         "rmp_decode.specs.Rows": "ReadsEach",
         "rmp_decode.specs.Variants": "OfVariant Case NoCase Bare Content",
-        "rmp_encode.specs.Data": "Data byte whole truth text unit_variant",
+        "rmp_encode.specs.Data": "Data byte whole unsigned128 signed128 truth float32 float64 char text bytes unit_variant",
         "rmp_encode.specs.Trees": "tree_of slice_of newtype_variant_of",
         "rmp_encode.specs.declared.settings.Settings": "Settings",
-        "rmp_round_trip.specs.LeafRounds": " ".join(["byte_row truth_row string_row", *(f"{sign}_row_{bits}" for sign in ("signed", "unsigned") for bits in (8, 16, 32, 64))]),
+        "rmp_round_trip.specs.LeafRounds": " ".join(["byte_row truth_row float32_row float64_row char_row string_row buffer_row", *(f"{sign}_row_{bits}" for sign in ("signed", "unsigned") for bits in (8, 16, 32, 64))]),
         "rmp_round_trip.specs.OnlyFields": "AtPlace AnyContent content_only variant_both",
-        "rmp_round_trip.specs.OnlyLeaves": "truth_only byte_only unsigned_only signed_only string_only",
+        "rmp_round_trip.specs.OnlyLeaves": "truth_only byte_only unsigned_only signed_only unsigned128_only signed128_only float32_only float64_only"
+        " char_only string_only buffer_only",
         "rmp_round_trip.specs.OnlyRows": "inside_only list_only lowers_then",
         "rmp_round_trip.specs.RoundTrip": "Alike LowersTo Only",
         "rmp_round_trip.specs.Rounds": "slice_some each_row slice_row",
         "rmp_round_trip.specs.VariantRounds": "newtype_variant_some bare_row newtype_variant_row bare_other newtype_variant_other",
+        "rmp_round_trip.specs.WideRounds": "unsigned128_row signed128_row",
         declared: f"{name} out-{name}",
         f"{declared}.TheFolds": f"ind-{name} fold-{name} rec-{name} map-{name} rec-roll-{name} fold_out-{name}",
         f"{declared}.TheOpen": f"{name}-F",

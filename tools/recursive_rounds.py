@@ -102,13 +102,13 @@ module _ (s : Settings) where
   abbrev {name}LevelOnly : {name}-F {name} → Msg → Type 0
   {name}LevelOnly x m = (w : {name}) → OfVariant {low}_names ({name}Case Is{name} w) m → {low}_level ({mapped} x) ≡ {low}_data w
 
-  {low}_level_only : (x : {name}-F {name}) → {name}Parts {name}Only x → LowersTo s ({low}_level ({mapped} x)) ({name}LevelOnly x)
+  {low}_level_only : (x : {name}-F {name}) → {name}Parts (λ v. {low}_fits v → {name}Only v) x → {name}Fits x → LowersTo s ({low}_level ({mapped} x)) ({name}LevelOnly x)
 {lines}
-  pub {low}_only : (v : {name}) → {name}Only v
-  {low}_only = {low}_induction {name}Only
-      (λ v h. subst (λ d. LowersTo s d (λ m. Only Is{name} Same{name} m v)) (sym ({low}_is v))
+  pub {low}_only : (v : {name}) → {low}_fits v → {name}Only v
+  {low}_only = {low}_induction (λ v. {low}_fits v → {name}Only v)
+      (λ v h fits. subst (λ d. LowersTo s d (λ m. Only Is{name} Same{name} m v)) (sym ({low}_is v))
       (lowers_then s ({low}_level ({mapped} (out-{name} v))) ({name}LevelOnly (out-{name} v)) (λ m. Only Is{name} Same{name} m v)
-      ({low}_level_only (out-{name} v) h) (λ m q w r. {low}_is v ∙ q w ({low}_out m w r))))
+      ({low}_level_only (out-{name} v) h ({low}_fits_out v fits)) (λ m q w r. {low}_is v ∙ q w ({low}_out m w r))))
 """
 
 
@@ -119,7 +119,7 @@ def only_variant(level: Level, at: int, shape: Shape, part: Optional[Part]) -> s
     start = f"s {low}_names {of} {at} refl"
     if part is None:
         holds = f"(AtPlace {at} AnyContent)"
-        return f"""  {low}_level_only {made} h =
+        return f"""  {low}_level_only {made} h fit =
       lowers_then s (Some (unit_variant {of})) (OfVariant {low}_names {holds}) ({name}LevelOnly {made})
       (bare_row {start} {holds} (refl, tt))
       (λ m q w r. variant_both {low}_names {at} AnyContent ({name}Case Is{name} w) _ m q r (λ c i j. {low}_by w {made} j.0))
@@ -128,20 +128,20 @@ def only_variant(level: Level, at: int, shape: Shape, part: Optional[Part]) -> s
     reads = f"(λ (k : Msg) (x : {part.term}). {part.reads.format(reads=f'Is{name}', k='k', a='x')})"
     if part.is_leaf:
         same = f"(λ (x y : {part.term}). {part.key.format(a='x')} ≡ {part.key.format(a='y')})"
-        proof = part.only.format(a="a")
+        proof = part.only.format(a="a", fit="fit")
         alike = f"ap (λ n. newtype_variant_of {of} ({part.of_key.format(a='n')})) (content_only {reads} {same} a j.0 c i j.2)"
     elif level.is_list(part):
         same = f"(λ (x y : {part.term}). Alike Same{name} x.items y.items)"
         proof = f"""list_only s ({data}) (λ us. us.items) Is{name} Same{name} a.items
       (slice_row s (map {low}_data a.items) (λ ms. ReadsEach (Only Is{name} Same{name}) ms a.items)
-      (each_row s {low}_data {name}Only (Only Is{name} Same{name}) (λ w p. p) a.items h))"""
+      (each_row s {low}_data {name}Only (Only Is{name} Same{name}) (λ w p. p) a.items (each_from {low}_fits {name}Only a.items h fit)))"""
         alike = f"""ap (λ ds. newtype_variant_of {of} (slice_of ds))
       (map_alike {low}_data a.items j.0.items (content_only {reads} {same} a j.0 c i j.2))"""
     else:
         same = f"(λ (x y : {part.term}). Same{name} x.value y.value)"
-        proof = f"inside_only s ({data}) (λ b. b.value) Is{name} Same{name} a.value h"
+        proof = f"inside_only s ({data}) (λ b. b.value) Is{name} Same{name} a.value (h fit)"
         alike = f"ap (λ d. newtype_variant_of {of} d) (content_only {reads} {same} a j.0 c i j.2)"
-    return f"""  {low}_level_only {made} h =
+    return f"""  {low}_level_only {made} h fit =
       lowers_then s (newtype_variant_of {of} ({data})) _ ({name}LevelOnly {made})
       (newtype_variant_row {start} (AtPlace {at} (Content (λ k. Only {reads} {same} k a))) ({data})
       (λ k. Only {reads} {same} k a) (λ m p. (refl, p)) ({proof}))

@@ -1,6 +1,5 @@
 -- What types that lead back to themselves are written as, by what their parts are.
-use Rattle.std.proofs.Common.{◌≡◌, ◌∙◌, ap, Option, None}
-use Rattle.rmp_encode.specs.Data.{Data}
+use Rattle.std.proofs.Common.{◌≡◌, ◌∙◌, ap, None}
 use Rattle.rmp_encode.specs.Trees.{byte_of}
 use Rattle.rmp_encode.proofs.Packing.{slice_no_byte}
 use Rattle.rmp_encode.proofs.Fields.{structure_no_byte}

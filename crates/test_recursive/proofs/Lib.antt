@@ -4,3 +4,4 @@ pub mod Roses
 pub mod Recursion
 pub mod TreeLevels
 pub mod ExprLevels
+pub mod TermLevels

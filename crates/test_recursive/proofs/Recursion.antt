@@ -1,4 +1,4 @@
--- What the readings of recursive types share: the next part, by a function; lists of parts; and that the room falls.
+-- What the readings of recursive types share: the next part, by a function; lists of parts; and that the room falls. Written by tools/derive.py.
 use Rattle.std.proofs.Common.{◌≡◌, ◌∙◌, refl, ap, subst, arith, ℕ, zero, suc, ◌+◌, ◌<◌, ◌≤◌, ◌⊎◌, inl, inr, true, false, Bool, nat_lt}
 use Rattle.std.proofs.Common.{max, pos, ◌*◌, ◌++◌, append-nil, List, [], Option, None, Some, Result, Ok, Err, MatchResult, MutBor, Vec, Global}
 use Rattle.std.specs.Fn.{FnOnceReturnsAtMut}

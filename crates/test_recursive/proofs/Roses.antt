@@ -1,18 +1,13 @@
 -- Nodes of a tree: what they are read from, in how many steps, and that their fields nest below them.
 use Rattle.std.proofs.Common.{◌≡◌, ◌∙◌, ap, subst, arith, ℕ, ◌<◌, max, true, false, Bool, List, [], ◌∷◌, Option, None, Some}
-use Rattle.std.proofs.Common.{Vec, Global, Ok}
+use Rattle.std.proofs.Common.{Vec, Global}
 use Rattle.rmp_wire.specs.declared.source.Source.{Ghosts}
 use Rattle.rmp_wire.specs.Msg.{Msg}
 use Rattle.rmp_decode.specs.FieldAccess.{OpensStruct, OpensAs, SameStruct, as_seq}
 use Rattle.rmp_decode.specs.Fields.{Slot, NoField, at}
-use Rattle.rmp_decode.specs.Law.{Lawful, Readable}
-use Rattle.rmp_decode.specs.Seq.{Opens}
 use Rattle.rmp_decode.specs.With.{Lends}
 use Rattle.rmp_decode.specs.declared.access.field_access.FieldAccess.{FieldAccess}
-use Rattle.rmp_decode.specs.declared.access.seq.SeqAccess.{SeqAccess}
 use Rattle.rmp_decode.specs.declared.deserializer.Deserializer.{Deserializer}
-use Rattle.rmp_decode.proofs.Laws.{lawful_ok}
-use Rattle.rmp_decode.proofs.Seqs.{Values}
 use Rattle.test_recursive.specs.declared.recursive.Rose.{Rose, out-Rose}
 use Rattle.test_recursive.specs.Recursion.{Row}
 use Rattle.test_recursive.specs.Recursive.{IsRose, RoseFields}

@@ -116,12 +116,13 @@ module _ (s : Settings) where
   abbrev ExprLevelOnly : Expr-F Expr → Msg → Type 0
   ExprLevelOnly x m = (w : Expr) → OfVariant expr_names (ExprCase IsExpr w) m → expr_level (map-Expr Expr (Option Data) expr_data x) ≡ expr_data w
 
-  expr_level_only : (x : Expr-F Expr) → ExprParts ExprOnly x → LowersTo s (expr_level (map-Expr Expr (Option Data) expr_data x)) (ExprLevelOnly x)
-  expr_level_only Expr-F.Nothing h =
+  expr_level_only : (x : Expr-F Expr) → ExprParts (λ v. expr_fits v → ExprOnly v) x → ExprFits x
+      → LowersTo s (expr_level (map-Expr Expr (Option Data) expr_data x)) (ExprLevelOnly x)
+  expr_level_only Expr-F.Nothing h fit =
       lowers_then s (Some (unit_variant (codes "Nothing"))) (OfVariant expr_names (AtPlace 0 AnyContent)) (ExprLevelOnly Expr-F.Nothing)
       (bare_row s expr_names (codes "Nothing") 0 refl (AtPlace 0 AnyContent) (refl, tt))
       (λ m q w r. variant_both expr_names 0 AnyContent (ExprCase IsExpr w) _ m q r (λ c i j. expr_by w Expr-F.Nothing j.0))
-  expr_level_only (Expr-F.Number a) h =
+  expr_level_only (Expr-F.Number a) h fit =
       lowers_then s (newtype_variant_of (codes "Number") (Some (whole a))) _ (ExprLevelOnly (Expr-F.Number a))
       (newtype_variant_row s expr_names (codes "Number") 1 refl
       (AtPlace 1 (Content (λ k. Only (λ (k : Msg) (x : ℤ). IsSigned (negsuc 9223372036854775807) (pos 9223372036854775807) k x) (λ (x y : ℤ). x ≡ y) k
@@ -132,18 +133,18 @@ module _ (s : Settings) where
       (λ c i j. ap (λ n. newtype_variant_of (codes "Number") (Some (whole n)))
       (content_only (λ (k : Msg) (x : ℤ). IsSigned (negsuc 9223372036854775807) (pos 9223372036854775807) k x) (λ (x y : ℤ). x ≡ y) a j.0 c i j.2)
       ∙ expr_by w (Expr-F.Number j.0) j.1))
-  expr_level_only (Expr-F.Name a) h =
+  expr_level_only (Expr-F.Name a) h fit =
       lowers_then s (newtype_variant_of (codes "Name") (Some (text (string_bytes a)))) _ (ExprLevelOnly (Expr-F.Name a))
       (newtype_variant_row s expr_names (codes "Name") 2 refl
       (AtPlace 2 (Content (λ k. Only (λ (k : Msg) (x : String Global). IsRaw k (string_bytes x))
       (λ (x y : String Global). string_bytes x ≡ string_bytes y) k a))) (Some (text (string_bytes a)))
       (λ k. Only (λ (k : Msg) (x : String Global). IsRaw k (string_bytes x)) (λ (x y : String Global). string_bytes x ≡ string_bytes y) k a)
-      (λ m p. (refl, p)) (string_only s (λ w. string_bytes w) (string_bytes a)))
+      (λ m p. (refl, p)) (string_only s (λ (w : String Global). string_bytes w) (string_bytes a)))
       (λ m q w r. variant_both expr_names 2 _ (ExprCase IsExpr w) _ m q r
       (λ c i j. ap (λ n. newtype_variant_of (codes "Name") (Some (text n)))
       (content_only (λ (k : Msg) (x : String Global). IsRaw k (string_bytes x)) (λ (x y : String Global). string_bytes x ≡ string_bytes y) a j.0 c i
       j.2) ∙ expr_by w (Expr-F.Name j.0) j.1))
-  expr_level_only (Expr-F.Truth a) h =
+  expr_level_only (Expr-F.Truth a) h fit =
       lowers_then s (newtype_variant_of (codes "Truth") (Some (truth a))) _ (ExprLevelOnly (Expr-F.Truth a))
       (newtype_variant_row s expr_names (codes "Truth") 3 refl
       (AtPlace 3 (Content (λ k. Only (λ (k : Msg) (x : Bool). k ≡ msg.truth x) (λ (x y : Bool). x ≡ y) k a))) (Some (truth a))
@@ -151,18 +152,18 @@ module _ (s : Settings) where
       (λ m q w r. variant_both expr_names 3 _ (ExprCase IsExpr w) _ m q r
       (λ c i j. ap (λ n. newtype_variant_of (codes "Truth") (Some (truth n)))
       (content_only (λ (k : Msg) (x : Bool). k ≡ msg.truth x) (λ (x y : Bool). x ≡ y) a j.0 c i j.2) ∙ expr_by w (Expr-F.Truth j.0) j.1))
-  expr_level_only (Expr-F.Not a) h =
+  expr_level_only (Expr-F.Not a) h fit =
       lowers_then s (newtype_variant_of (codes "Not") (expr_data a.value)) _ (ExprLevelOnly (Expr-F.Not a))
       (newtype_variant_row s expr_names (codes "Not") 4 refl
       (AtPlace 4 (Content (λ k. Only (λ (k : Msg) (x : Box Expr Global). IsExpr k x.value) (λ (x y : Box Expr Global). SameExpr x.value y.value) k a)))
       (expr_data a.value)
       (λ k. Only (λ (k : Msg) (x : Box Expr Global). IsExpr k x.value) (λ (x y : Box Expr Global). SameExpr x.value y.value) k a) (λ m p. (refl, p))
-      (inside_only s (expr_data a.value) (λ b. b.value) IsExpr SameExpr a.value h))
+      (inside_only s (expr_data a.value) (λ b. b.value) IsExpr SameExpr a.value (h fit)))
       (λ m q w r. variant_both expr_names 4 _ (ExprCase IsExpr w) _ m q r
       (λ c i j. ap (λ d. newtype_variant_of (codes "Not") d)
       (content_only (λ (k : Msg) (x : Box Expr Global). IsExpr k x.value) (λ (x y : Box Expr Global). SameExpr x.value y.value) a j.0 c i j.2)
       ∙ expr_by w (Expr-F.Not j.0) j.1))
-  expr_level_only (Expr-F.Sum a) h =
+  expr_level_only (Expr-F.Sum a) h fit =
       lowers_then s (newtype_variant_of (codes "Sum") (slice_of (map expr_data a.items))) _ (ExprLevelOnly (Expr-F.Sum a))
       (newtype_variant_row s expr_names (codes "Sum") 5 refl
       (AtPlace 5 (Content (λ k. Only (λ (k : Msg) (x : Vec Expr Global). Row IsExpr k x.items)
@@ -170,12 +171,12 @@ module _ (s : Settings) where
       (λ k. Only (λ (k : Msg) (x : Vec Expr Global). Row IsExpr k x.items) (λ (x y : Vec Expr Global). Alike SameExpr x.items y.items) k a)
       (λ m p. (refl, p)) (list_only s (slice_of (map expr_data a.items)) (λ us. us.items) IsExpr SameExpr a.items
       (slice_row s (map expr_data a.items) (λ ms. ReadsEach (Only IsExpr SameExpr) ms a.items)
-      (each_row s expr_data ExprOnly (Only IsExpr SameExpr) (λ w p. p) a.items h))))
+      (each_row s expr_data ExprOnly (Only IsExpr SameExpr) (λ w p. p) a.items (each_from expr_fits ExprOnly a.items h fit)))))
       (λ m q w r. variant_both expr_names 5 _ (ExprCase IsExpr w) _ m q r
       (λ c i j. ap (λ ds. newtype_variant_of (codes "Sum") (slice_of ds))
       (map_alike expr_data a.items j.0.items (content_only (λ (k : Msg) (x : Vec Expr Global). Row IsExpr k x.items)
       (λ (x y : Vec Expr Global). Alike SameExpr x.items y.items) a j.0 c i j.2)) ∙ expr_by w (Expr-F.Sum j.0) j.1))
-  expr_level_only (Expr-F.Product a) h =
+  expr_level_only (Expr-F.Product a) h fit =
       lowers_then s (newtype_variant_of (codes "Product") (slice_of (map expr_data a.items))) _ (ExprLevelOnly (Expr-F.Product a))
       (newtype_variant_row s expr_names (codes "Product") 6 refl
       (AtPlace 6 (Content (λ k. Only (λ (k : Msg) (x : Vec Expr Global). Row IsExpr k x.items)
@@ -183,14 +184,14 @@ module _ (s : Settings) where
       (λ k. Only (λ (k : Msg) (x : Vec Expr Global). Row IsExpr k x.items) (λ (x y : Vec Expr Global). Alike SameExpr x.items y.items) k a)
       (λ m p. (refl, p)) (list_only s (slice_of (map expr_data a.items)) (λ us. us.items) IsExpr SameExpr a.items
       (slice_row s (map expr_data a.items) (λ ms. ReadsEach (Only IsExpr SameExpr) ms a.items)
-      (each_row s expr_data ExprOnly (Only IsExpr SameExpr) (λ w p. p) a.items h))))
+      (each_row s expr_data ExprOnly (Only IsExpr SameExpr) (λ w p. p) a.items (each_from expr_fits ExprOnly a.items h fit)))))
       (λ m q w r. variant_both expr_names 6 _ (ExprCase IsExpr w) _ m q r
       (λ c i j. ap (λ ds. newtype_variant_of (codes "Product") (slice_of ds))
       (map_alike expr_data a.items j.0.items (content_only (λ (k : Msg) (x : Vec Expr Global). Row IsExpr k x.items)
       (λ (x y : Vec Expr Global). Alike SameExpr x.items y.items) a j.0 c i j.2)) ∙ expr_by w (Expr-F.Product j.0) j.1))
 
-  pub expr_only : (v : Expr) → ExprOnly v
-  expr_only = expr_induction ExprOnly
-      (λ v h. subst (λ d. LowersTo s d (λ m. Only IsExpr SameExpr m v)) (sym (expr_is v))
+  pub expr_only : (v : Expr) → expr_fits v → ExprOnly v
+  expr_only = expr_induction (λ v. expr_fits v → ExprOnly v)
+      (λ v h fits. subst (λ d. LowersTo s d (λ m. Only IsExpr SameExpr m v)) (sym (expr_is v))
       (lowers_then s (expr_level (map-Expr Expr (Option Data) expr_data (out-Expr v))) (ExprLevelOnly (out-Expr v)) (λ m. Only IsExpr SameExpr m v)
-      (expr_level_only (out-Expr v) h) (λ m q w r. expr_is v ∙ q w (expr_out m w r))))
+      (expr_level_only (out-Expr v) h (expr_fits_out v fits)) (λ m q w r. expr_is v ∙ q w (expr_out m w r))))

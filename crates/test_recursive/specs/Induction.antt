@@ -1,10 +1,8 @@
 -- Induction over values that lead back to themselves: what holds of a value where it holds of its parts holds of each value.
-use Rattle.std.proofs.Common.{◌≡◌, ◌∙◌, refl, sym, ap, subst, List, [], ◌∷◌, map, All, Option}
-use Rattle.std.specs.List.{AllByRecursion}
-use Rattle.std.specs.Prelude.{⊤, codes}
+use Rattle.std.proofs.Common.{◌≡◌, ◌∙◌, sym, subst, [], ◌∷◌, map, All, Option}
+use Rattle.std.specs.Prelude.{codes}
 use Rattle.rmp_encode.specs.Data.{Data}
 use Rattle.rmp_encode.specs.Trees.{slice_of, structure_of}
-use Rattle.std.proofs.lemmas.List.Elements.{All-nil, All-cons, All-head, All-tail}
 use Rattle.test_recursive.specs.declared.recursive.Nested.{Nested, out-Nested}
 use Rattle.test_recursive.specs.declared.recursive.Nested.TheFolds.{ind-Nested, fold_out-Nested}
 use Rattle.test_recursive.specs.declared.recursive.Nested.TheViews.{roll-Nested, out-roll-Nested}

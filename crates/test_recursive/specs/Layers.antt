@@ -1,11 +1,8 @@
 -- Types that lead back to themselves: in how many steps their values are read, and one step by what their parts are read from.
-use Rattle.std.proofs.Common.{◌≡◌, refl, subst, arith, ℕ, zero, suc, ◌+◌, List, [], ◌∷◌, Option, None, Some, MatchOption}
-use Rattle.rmp_wire.specs.Msg.{Msg, nil, truth, whole, float32, float64, text, bin, list, map, extension, Msgs, no_items, item}
+use Rattle.std.proofs.Common.{◌≡◌, subst, ℕ, zero, suc, List, [], ◌∷◌, Option, None, Some, MatchOption}
+use Rattle.rmp_wire.specs.Msg.{Msg}
 use Rattle.rmp_decode.specs.Fields.{OfFields, fields}
 use Rattle.rmp_decode.specs.Law.{Readable}
-use Rattle.rmp_decode.specs.Rows.{ReadsEach}
-use Rattle.rmp_decode.specs.Seq.{numbers}
-use Rattle.rmp_decode.specs.Variants.{OfVariant, variant_of}
 use Rattle.test_recursive.specs.declared.recursive.Nested.{Nested, out-Nested}
 use Rattle.test_recursive.specs.declared.recursive.Rose.{Rose, out-Rose}
 use Rattle.test_recursive.specs.Recursion.{Row, row_as, row_in}

@@ -9,3 +9,5 @@ pub mod TreeLevels
 pub mod TreeRounds
 pub mod ExprLevels
 pub mod ExprRounds
+pub mod TermLevels
+pub mod TermRounds

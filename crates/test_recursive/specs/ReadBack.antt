@@ -1,21 +1,14 @@
 -- Types that lead back to themselves are read as they were written, and none of their values is nil.
-use Rattle.std.proofs.Common.{◌≡◌, ◌∙◌, refl, sym, ap, subst, List, [], ◌∷◌, map, All, Option, None, Some}
-use Rattle.std.specs.List.{AllByRecursion}
-use Rattle.std.specs.Prelude.{◌≢◌, codes, IsSome, IsSomeAnd}
-use Rattle.std.proofs.lemmas.List.Elements.{All-nil, All-cons, All-head, All-tail}
-use Rattle.rmp_wire.specs.Msg.{Msg, nil}
+use Rattle.std.proofs.Common.{◌∙◌, refl, sym, ap, subst, [], ◌∷◌, map, None, Some}
+use Rattle.std.specs.Prelude.{◌≢◌, codes, IsSome}
+use Rattle.rmp_wire.specs.Msg.{nil}
 use Rattle.rmp_decode.specs.Fields.{Absent, NoField}
-use Rattle.rmp_decode.specs.Read.{IsUnsigned}
 use Rattle.rmp_decode.specs.Rows.{ReadsEach}
-use Rattle.rmp_decode.specs.Variants.{OfVariant}
-use Rattle.rmp_encode.specs.Data.{Data, byte}
-use Rattle.rmp_encode.specs.Trees.{tree_of, parts_of, slice_of, structure_of}
+use Rattle.rmp_encode.specs.Trees.{tree_of, slice_of, structure_of}
 use Rattle.rmp_encode.specs.declared.settings.Settings.{Settings}
-use Rattle.rmp_round_trip.specs.LeafRounds.{byte_row}
 use Rattle.rmp_round_trip.specs.RoundTrip.{LowersTo}
-use Rattle.rmp_round_trip.specs.Rounds.{parts_cons, slice_some, each_row, slice_row, slice_other}
+use Rattle.rmp_round_trip.specs.Rounds.{slice_some, each_row, slice_row, slice_other}
 use Rattle.rmp_round_trip.specs.StructRounds.{structure_all, structure_row, structure_other, fields_cons, fields_none}
-use Rattle.rmp_round_trip.specs.VariantRounds.{newtype_variant_some, newtype_variant_row, newtype_variant_other}
 use Rattle.test_recursive.specs.declared.recursive.Nested.{Nested, out-Nested}
 use Rattle.test_recursive.specs.declared.recursive.Rose.{Rose, out-Rose}
 use Rattle.test_recursive.specs.Recursion.{Row}

@@ -1,23 +1,16 @@
 -- What values of types that lead back to themselves lower to is read as nothing else.
-use Rattle.std.proofs.Common.{◌≡◌, ◌∙◌, refl, sym, ap, subst, ℕ, List, [], ◌∷◌, map, All, Option, None, Some}
-use Rattle.std.specs.Prelude.{codes, Vec}
-use Rattle.std.specs.declared.alloc.Global.{Global}
-use Rattle.rmp_wire.specs.Msg.{Msg}
-use Rattle.rmp_decode.specs.Fields.{Field, NoField, OfFields}
-use Rattle.rmp_decode.specs.Read.{IsUnsigned}
+use Rattle.std.proofs.Common.{◌≡◌, ◌∙◌, refl, sym, ap, subst, List, [], ◌∷◌, map, Option}
+use Rattle.std.specs.Prelude.{codes}
+use Rattle.rmp_decode.specs.Fields.{Field, NoField}
 use Rattle.rmp_decode.specs.Rows.{ReadsEach}
-use Rattle.rmp_decode.specs.Seq.{OfRow}
-use Rattle.rmp_decode.specs.Variants.{OfVariant, Content}
-use Rattle.rmp_encode.specs.Data.{Data, byte}
-use Rattle.rmp_encode.specs.Trees.{slice_of, structure_of, newtype_variant_of}
+use Rattle.rmp_encode.specs.Data.{Data}
+use Rattle.rmp_encode.specs.Trees.{slice_of, structure_of}
 use Rattle.rmp_encode.specs.declared.settings.Settings.{Settings}
-use Rattle.rmp_round_trip.specs.OnlyFields.{AtPlace, content_only, fields_both, last_field, variant_both}
-use Rattle.rmp_round_trip.specs.OnlyLeaves.{byte_only}
+use Rattle.rmp_round_trip.specs.OnlyFields.{fields_both, last_field}
 use Rattle.rmp_round_trip.specs.OnlyRows.{list_only, lowers_then}
 use Rattle.rmp_round_trip.specs.RoundTrip.{Alike, LowersTo, Only}
 use Rattle.rmp_round_trip.specs.Rounds.{each_row, slice_row}
 use Rattle.rmp_round_trip.specs.StructRounds.{structure_row, fields_cons, fields_none}
-use Rattle.rmp_round_trip.specs.VariantRounds.{newtype_variant_row}
 use Rattle.test_recursive.specs.declared.recursive.Nested.{Nested, out-Nested}
 use Rattle.test_recursive.specs.declared.recursive.Rose.{Rose, out-Rose}
 use Rattle.test_recursive.specs.Induction.{nested_induction, rose_induction, nested_is, rose_is}

@@ -1,4 +1,4 @@
--- What recursive types share: their readings by steps, their parts, and what holds of each part.
+-- What recursive types share: their readings by steps, their parts, and what holds of each part. Written by tools/derive.py.
 use Rattle.std.proofs.Common.{◌≡◌, refl, subst, arith, ℕ, zero, suc, ◌+◌, List, [], ◌∷◌, All, Option, None, Some, MatchOption}
 use Rattle.std.proofs.Common as common
 use Rattle.std.specs.List.{AllByRecursion}

@@ -1,4 +1,4 @@
--- What recursive types share that are read as they were written.
+-- What recursive types share that are read as they were written. Written by tools/derive.py.
 use Rattle.std.proofs.Common.{◌≡◌, refl, List, [], ◌∷◌, map, All, Option, None, Some}
 use Rattle.std.specs.Prelude.{IsSome, IsSomeAnd}
 use Rattle.std.proofs.lemmas.List.Elements.{All-head, All-tail}

@@ -1,15 +1,9 @@
 -- What types that lead back to themselves are read from and written as.
-use Rattle.std.specs.Prelude.{◌≡◌, ◌<◌, ◌^◌, ◌∷◌, [], ℕ, zero, suc, List, Option, None, Some, codes, Vec}
-use Rattle.std.specs.List.{AllByRecursion}
-use Rattle.std.specs.declared.alloc.Global.{Global}
+use Rattle.std.specs.Prelude.{◌∷◌, [], ℕ, zero, suc, List, Option, None, codes}
 use Rattle.rmp_wire.specs.Msg.{Msg}
 use Rattle.rmp_decode.specs.Fields.{OfFields, Field, Absent, NoField}
-use Rattle.rmp_decode.specs.Read.{IsUnsigned}
-use Rattle.rmp_decode.specs.Rows.{ReadsEach}
-use Rattle.rmp_decode.specs.Seq.{OfRow}
-use Rattle.rmp_decode.specs.Variants.{OfVariant, Case, NoCase, Content}
-use Rattle.rmp_encode.specs.Data.{Data, byte}
-use Rattle.rmp_encode.specs.Trees.{slice_of, structure_of, newtype_variant_of}
+use Rattle.rmp_encode.specs.Data.{Data}
+use Rattle.rmp_encode.specs.Trees.{slice_of, structure_of}
 use Rattle.test_recursive.specs.Recursion.{Row, InSteps}
 use Rattle.test_recursive.specs.declared.recursive.Nested.{Nested, out-Nested}
 use Rattle.test_recursive.specs.declared.recursive.Nested.TheFolds.{fold-Nested}

@@ -94,8 +94,9 @@ module _ (s : Settings) where
   abbrev TreeLevelOnly : Tree-F Tree → Msg → Type 0
   TreeLevelOnly x m = (w : Tree) → OfVariant tree_names (TreeCase IsTree w) m → tree_level (map-Tree Tree (Option Data) tree_data x) ≡ tree_data w
 
-  tree_level_only : (x : Tree-F Tree) → TreeParts TreeOnly x → LowersTo s (tree_level (map-Tree Tree (Option Data) tree_data x)) (TreeLevelOnly x)
-  tree_level_only (Tree-F.Leaf a) h =
+  tree_level_only : (x : Tree-F Tree) → TreeParts (λ v. tree_fits v → TreeOnly v) x → TreeFits x
+      → LowersTo s (tree_level (map-Tree Tree (Option Data) tree_data x)) (TreeLevelOnly x)
+  tree_level_only (Tree-F.Leaf a) h fit =
       lowers_then s (newtype_variant_of (codes "Leaf") (Some (byte a))) _ (TreeLevelOnly (Tree-F.Leaf a))
       (newtype_variant_row s tree_names (codes "Leaf") 0 refl
       (AtPlace 0 (Content (λ k. Only (λ (k : Msg) (x : ℕ). IsUnsigned 255 k x) (λ (x y : ℕ). x ≡ y) k a))) (Some (byte a))
@@ -103,7 +104,7 @@ module _ (s : Settings) where
       (λ m q w r. variant_both tree_names 0 _ (TreeCase IsTree w) _ m q r
       (λ c i j. ap (λ n. newtype_variant_of (codes "Leaf") (Some (byte n)))
       (content_only (λ (k : Msg) (x : ℕ). IsUnsigned 255 k x) (λ (x y : ℕ). x ≡ y) a j.0 c i j.2) ∙ tree_by w (Tree-F.Leaf j.0) j.1))
-  tree_level_only (Tree-F.Node a) h =
+  tree_level_only (Tree-F.Node a) h fit =
       lowers_then s (newtype_variant_of (codes "Node") (slice_of (map tree_data a.items))) _ (TreeLevelOnly (Tree-F.Node a))
       (newtype_variant_row s tree_names (codes "Node") 1 refl
       (AtPlace 1 (Content (λ k. Only (λ (k : Msg) (x : Vec Tree Global). Row IsTree k x.items)
@@ -111,14 +112,14 @@ module _ (s : Settings) where
       (λ k. Only (λ (k : Msg) (x : Vec Tree Global). Row IsTree k x.items) (λ (x y : Vec Tree Global). Alike SameTree x.items y.items) k a)
       (λ m p. (refl, p)) (list_only s (slice_of (map tree_data a.items)) (λ us. us.items) IsTree SameTree a.items
       (slice_row s (map tree_data a.items) (λ ms. ReadsEach (Only IsTree SameTree) ms a.items)
-      (each_row s tree_data TreeOnly (Only IsTree SameTree) (λ w p. p) a.items h))))
+      (each_row s tree_data TreeOnly (Only IsTree SameTree) (λ w p. p) a.items (each_from tree_fits TreeOnly a.items h fit)))))
       (λ m q w r. variant_both tree_names 1 _ (TreeCase IsTree w) _ m q r
       (λ c i j. ap (λ ds. newtype_variant_of (codes "Node") (slice_of ds))
       (map_alike tree_data a.items j.0.items (content_only (λ (k : Msg) (x : Vec Tree Global). Row IsTree k x.items)
       (λ (x y : Vec Tree Global). Alike SameTree x.items y.items) a j.0 c i j.2)) ∙ tree_by w (Tree-F.Node j.0) j.1))
 
-  pub tree_only : (v : Tree) → TreeOnly v
-  tree_only = tree_induction TreeOnly
-      (λ v h. subst (λ d. LowersTo s d (λ m. Only IsTree SameTree m v)) (sym (tree_is v))
+  pub tree_only : (v : Tree) → tree_fits v → TreeOnly v
+  tree_only = tree_induction (λ v. tree_fits v → TreeOnly v)
+      (λ v h fits. subst (λ d. LowersTo s d (λ m. Only IsTree SameTree m v)) (sym (tree_is v))
       (lowers_then s (tree_level (map-Tree Tree (Option Data) tree_data (out-Tree v))) (TreeLevelOnly (out-Tree v)) (λ m. Only IsTree SameTree m v)
-      (tree_level_only (out-Tree v) h) (λ m q w r. tree_is v ∙ q w (tree_out m w r))))
+      (tree_level_only (out-Tree v) h (tree_fits_out v fits)) (λ m q w r. tree_is v ∙ q w (tree_out m w r))))

@@ -1,6 +1,8 @@
 //! Types that lead back to themselves, whose implementations tools/derive.py writes.
 mod derived;
 
+use rmp_wire::{ByteBuf, F32Bits, F64Bits};
+
 /// A number, or a list of trees.
 #[derive(Drop)]
 pub enum Tree {
@@ -18,4 +20,19 @@ pub enum Expr {
     Not(Box<Expr>),
     Sum(Vec<Expr>),
     Product(Vec<Expr>),
+}
+
+/// A term, of leaves of each other kind.
+#[derive(Drop)]
+pub enum Term {
+    Letter(char),
+    Half(F32Bits),
+    Whole(F64Bits),
+    Bytes(ByteBuf),
+    Size(usize),
+    Offset(isize),
+    Big(u128),
+    Wide(i128),
+    Short(u16),
+    Quoted(Box<Term>),
 }

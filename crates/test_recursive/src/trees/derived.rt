@@ -2,17 +2,23 @@
 //!
 //! Sum of Tree: 502ba3af.
 //! Sum of Expr: f55250eb.
+//! Sum of Term: 6b5d4a71.
+ghost use Rattle.rmp_decode.specs.Buffers.{IsBuffer};
 ghost use Rattle.rmp_decode.specs.Law.{Lawful};
-ghost use Rattle.rmp_decode.specs.Read.{IsUnsigned, IsSigned, IsRaw};
-ghost use Rattle.rmp_wire.specs.Msg.{truth};
+ghost use Rattle.rmp_decode.specs.Read.{IsUnsigned, IsSigned, IsRaw, IsChar};
+ghost use Rattle.rmp_decode.specs.Wide.{IsUnsigned128, IsSigned128};
+ghost use Rattle.rmp_wire.specs.Msg.{truth, float32, float64};
+ghost use Rattle.rmp_wire.specs.Types.{buffer_bytes};
 ghost use Rattle.std.specs.Prelude.{◌≡◌, None, Some, string_bytes, pos, negsuc};
 ghost use Rattle.test_recursive.specs.ExprLevels.{IsExpr, expr_data, expr_fits};
 ghost use Rattle.test_recursive.specs.ExprRounds.{SameExpr, expr_some, expr_round, expr_only, expr_other};
 ghost use Rattle.test_recursive.specs.Recursion.{Row};
+ghost use Rattle.test_recursive.specs.TermLevels.{IsTerm, term_data, term_fits};
+ghost use Rattle.test_recursive.specs.TermRounds.{SameTerm, term_some, term_round, term_only, term_other};
 ghost use Rattle.test_recursive.specs.TreeLevels.{IsTree, tree_data, tree_fits};
 ghost use Rattle.test_recursive.specs.TreeRounds.{SameTree, tree_some, tree_round, tree_only, tree_other};
 
-use super::{Expr, Tree};
+use super::{ByteBuf, Expr, F32Bits, F64Bits, Term, Tree};
 use rmp_decode::{Deserialize, Deserializer, ReadContent, Slices};
 use rmp_encode::{Serialize, Serializer};
 use rmp_round_trip::{NeverNil, RoundTrip};
@@ -43,19 +49,109 @@ fn read_bool<R: Source, C: SerializerConfig>(
     de.deserialize_bool()
 }
 
-// How texts are read. A function that calls itself may have no bound that names a lifetime, so it has this one, and is called with `Slices`.
-trait ReadText<R: Source> {
+fn read_u128<R: Source, C: SerializerConfig>(
+    de: &mut Deserializer<R, C>,
+) -> Result<u128, rmp_decode::Error>
+    ensures law { Lawful R.Source (λ m v. IsUnsigned128 m v) de.old de.new result }
+{
+    de.deserialize_u128()
+}
+
+fn read_i128<R: Source, C: SerializerConfig>(
+    de: &mut Deserializer<R, C>,
+) -> Result<i128, rmp_decode::Error>
+    ensures law { Lawful R.Source (λ m v. IsSigned128 m v) de.old de.new result }
+{
+    de.deserialize_i128()
+}
+
+fn read_u16<R: Source, C: SerializerConfig>(
+    de: &mut Deserializer<R, C>,
+) -> Result<u16, rmp_decode::Error>
+    ensures law { Lawful R.Source (λ m v. IsUnsigned 65535 m v) de.old de.new result }
+{
+    de.deserialize_u16()
+}
+
+// How leaves are read. A function that calls itself may have no bound that names a lifetime, so it has this one, and is called with `Slices`.
+trait ReadLeaves<R: Source> {
     fn read_string<C: SerializerConfig>(
         de: &mut Deserializer<R, C>,
     ) -> Result<String, rmp_decode::Error>
         ensures law { Lawful R.Source (λ m v. IsRaw m (string_bytes v)) de.old de.new result };
+
+    fn read_char<C: SerializerConfig>(
+        de: &mut Deserializer<R, C>,
+    ) -> Result<char, rmp_decode::Error>
+        ensures law { Lawful R.Source (λ m v. IsChar m v) de.old de.new result };
+
+    fn read_f32bits<C: SerializerConfig>(
+        de: &mut Deserializer<R, C>,
+    ) -> Result<F32Bits, rmp_decode::Error>
+        ensures law { Lawful R.Source (λ m v. m ≡ float32 v.0) de.old de.new result };
+
+    fn read_f64bits<C: SerializerConfig>(
+        de: &mut Deserializer<R, C>,
+    ) -> Result<F64Bits, rmp_decode::Error>
+        ensures law { Lawful R.Source (λ m v. m ≡ float64 v.0) de.old de.new result };
+
+    fn read_bytebuf<C: SerializerConfig>(
+        de: &mut Deserializer<R, C>,
+    ) -> Result<ByteBuf, rmp_decode::Error>
+        ensures law { Lawful R.Source (λ m v. IsBuffer m (buffer_bytes v)) de.old de.new result };
+
+    fn read_usize<C: SerializerConfig>(
+        de: &mut Deserializer<R, C>,
+    ) -> Result<usize, rmp_decode::Error>
+        ensures law { Lawful R.Source (λ m v. IsUnsigned 18446744073709551615 m v) de.old de.new result };
+
+    fn read_isize<C: SerializerConfig>(
+        de: &mut Deserializer<R, C>,
+    ) -> Result<isize, rmp_decode::Error>
+        ensures law { Lawful R.Source (λ m v. IsSigned (negsuc 9223372036854775807) (pos 9223372036854775807) m v) de.old de.new result };
 }
 
-impl<'de, R: ReadSlice<'de>> ReadText<R> for Slices<'de> {
+impl<'de, R: ReadSlice<'de>> ReadLeaves<R> for Slices<'de> {
     fn read_string<C: SerializerConfig>(
         de: &mut Deserializer<R, C>,
     ) -> Result<String, rmp_decode::Error> {
-        de.deserialize_string()
+        Deserialize::deserialize(de)
+    }
+
+    fn read_char<C: SerializerConfig>(
+        de: &mut Deserializer<R, C>,
+    ) -> Result<char, rmp_decode::Error> {
+        Deserialize::deserialize(de)
+    }
+
+    fn read_f32bits<C: SerializerConfig>(
+        de: &mut Deserializer<R, C>,
+    ) -> Result<F32Bits, rmp_decode::Error> {
+        Deserialize::deserialize(de)
+    }
+
+    fn read_f64bits<C: SerializerConfig>(
+        de: &mut Deserializer<R, C>,
+    ) -> Result<F64Bits, rmp_decode::Error> {
+        Deserialize::deserialize(de)
+    }
+
+    fn read_bytebuf<C: SerializerConfig>(
+        de: &mut Deserializer<R, C>,
+    ) -> Result<ByteBuf, rmp_decode::Error> {
+        Deserialize::deserialize(de)
+    }
+
+    fn read_usize<C: SerializerConfig>(
+        de: &mut Deserializer<R, C>,
+    ) -> Result<usize, rmp_decode::Error> {
+        Deserialize::deserialize(de)
+    }
+
+    fn read_isize<C: SerializerConfig>(
+        de: &mut Deserializer<R, C>,
+    ) -> Result<isize, rmp_decode::Error> {
+        Deserialize::deserialize(de)
     }
 }
 
@@ -151,7 +247,7 @@ impl<'de, R: ReadSlice<'de>> RoundTrip<'de, R> for Tree {
 
     ghost same = { SameTree };
 
-    ghost only = { λ s v fits. tree_only s v };
+    ghost only = { λ s v fits. tree_only s v fits };
 }
 
 impl NeverNil for Tree {
@@ -196,7 +292,7 @@ impl Serialize for Expr {
 
 // Reads a `Expr`.
 #[cycle(expr_reading)]
-fn read_expr<R: Source, C: SerializerConfig, P: ReadContent<R> + ReadText<R>>(
+fn read_expr<R: Source, C: SerializerConfig, P: ReadContent<R> + ReadLeaves<R>>(
     de: &mut Deserializer<R, C>,
 ) -> Result<Expr, rmp_decode::Error>
     ensures law { Lawful R.Source IsExpr de.old de.new result }
@@ -254,7 +350,7 @@ fn read_expr<R: Source, C: SerializerConfig, P: ReadContent<R> + ReadText<R>>(
 
 // Reads a boxed one.
 #[cycle(expr_reading)]
-fn read_expr_box<R: Source, C: SerializerConfig, P: ReadContent<R> + ReadText<R>>(
+fn read_expr_box<R: Source, C: SerializerConfig, P: ReadContent<R> + ReadLeaves<R>>(
     de: &mut Deserializer<R, C>,
 ) -> Result<Box<Expr>, rmp_decode::Error>
     ensures law { Lawful R.Source (λ m v. IsExpr m v.value) de.old de.new result }
@@ -271,7 +367,7 @@ fn read_expr_box<R: Source, C: SerializerConfig, P: ReadContent<R> + ReadText<R>
 
 // Reads a list of them.
 #[cycle(expr_reading)]
-fn read_expr_list<R: Source, C: SerializerConfig, P: ReadContent<R> + ReadText<R>>(
+fn read_expr_list<R: Source, C: SerializerConfig, P: ReadContent<R> + ReadLeaves<R>>(
     de: &mut Deserializer<R, C>,
 ) -> Result<Vec<Expr>, rmp_decode::Error>
     ensures law { Lawful R.Source (λ m v. Row IsExpr m v.items) de.old de.new result }
@@ -312,9 +408,179 @@ impl<'de, R: ReadSlice<'de>> RoundTrip<'de, R> for Expr {
 
     ghost same = { SameExpr };
 
-    ghost only = { λ s v fits. expr_only s v };
+    ghost only = { λ s v fits. expr_only s v fits };
 }
 
 impl NeverNil for Expr {
     ghost never_nil = { λ s v. expr_other s v };
+}
+
+impl Serialize for Term {
+    ghost data_of = { λ v human. term_data v };
+
+    ghost is_value = { λ v. term_fits v };
+
+    #[cycle(term_writing)]
+    fn serialize<W: Sink, C: SerializerConfig>(
+        &self,
+        se: &mut Serializer<W, C>,
+    ) -> Result<(), rmp_encode::Error> {
+        match self {
+            Term::Letter(value) => se.serialize_newtype_variant("Term", 0, "Letter", value),
+            Term::Half(value) => se.serialize_newtype_variant("Term", 1, "Half", value),
+            Term::Whole(value) => se.serialize_newtype_variant("Term", 2, "Whole", value),
+            Term::Bytes(value) => se.serialize_newtype_variant("Term", 3, "Bytes", value),
+            Term::Size(value) => se.serialize_newtype_variant("Term", 4, "Size", value),
+            Term::Offset(value) => se.serialize_newtype_variant("Term", 5, "Offset", value),
+            Term::Big(value) => se.serialize_newtype_variant("Term", 6, "Big", value),
+            Term::Wide(value) => se.serialize_newtype_variant("Term", 7, "Wide", value),
+            Term::Short(value) => se.serialize_newtype_variant("Term", 8, "Short", value),
+            Term::Quoted(value) => se.serialize_newtype_variant("Term", 9, "Quoted", value),
+        }
+    }
+
+    #[tactic(auto, using(crate::proofs::TermLevels::term_no_byte))]
+    fn as_u8(&self, _human: bool) -> Option<u8> {
+        match self {
+            Term::Letter(_) => None,
+            Term::Half(_) => None,
+            Term::Whole(_) => None,
+            Term::Bytes(_) => None,
+            Term::Size(_) => None,
+            Term::Offset(_) => None,
+            Term::Big(_) => None,
+            Term::Wide(_) => None,
+            Term::Short(_) => None,
+            Term::Quoted(_) => None,
+        }
+    }
+}
+
+// Reads a `Term`.
+#[cycle(term_reading)]
+fn read_term<R: Source, C: SerializerConfig, P: ReadContent<R> + ReadLeaves<R>>(
+    de: &mut Deserializer<R, C>,
+) -> Result<Term, rmp_decode::Error>
+    ensures law { Lawful R.Source IsTerm de.old de.new result }
+{
+    match de.deserialize_enum_by::<P>(&[
+        "Letter", "Half", "Whole", "Bytes", "Size", "Offset", "Big", "Wide", "Short", "Quoted",
+    ]) {
+        Ok((0, variant)) => match variant.newtype_variant_with(
+            |de: &mut Deserializer<R, C>| -> Result<char, rmp_decode::Error>
+                ensures law { Lawful R.Source (λ m v. IsChar m v) de.old de.new result }
+            { P::read_char::<C>(de) },
+        ) {
+            Ok(value) => Ok(Term::Letter(value)),
+            Err(e) => Err(e),
+        },
+        Ok((1, variant)) => match variant.newtype_variant_with(
+            |de: &mut Deserializer<R, C>| -> Result<F32Bits, rmp_decode::Error>
+                ensures law { Lawful R.Source (λ m v. m ≡ float32 v.0) de.old de.new result }
+            { P::read_f32bits::<C>(de) },
+        ) {
+            Ok(value) => Ok(Term::Half(value)),
+            Err(e) => Err(e),
+        },
+        Ok((2, variant)) => match variant.newtype_variant_with(
+            |de: &mut Deserializer<R, C>| -> Result<F64Bits, rmp_decode::Error>
+                ensures law { Lawful R.Source (λ m v. m ≡ float64 v.0) de.old de.new result }
+            { P::read_f64bits::<C>(de) },
+        ) {
+            Ok(value) => Ok(Term::Whole(value)),
+            Err(e) => Err(e),
+        },
+        Ok((3, variant)) => match variant.newtype_variant_with(
+            |de: &mut Deserializer<R, C>| -> Result<ByteBuf, rmp_decode::Error>
+                ensures law { Lawful R.Source (λ m v. IsBuffer m (buffer_bytes v)) de.old de.new result }
+            { P::read_bytebuf::<C>(de) },
+        ) {
+            Ok(value) => Ok(Term::Bytes(value)),
+            Err(e) => Err(e),
+        },
+        Ok((4, variant)) => match variant.newtype_variant_with(
+            |de: &mut Deserializer<R, C>| -> Result<usize, rmp_decode::Error>
+                ensures law { Lawful R.Source (λ m v. IsUnsigned 18446744073709551615 m v) de.old de.new result }
+            { P::read_usize::<C>(de) },
+        ) {
+            Ok(value) => Ok(Term::Size(value)),
+            Err(e) => Err(e),
+        },
+        Ok((5, variant)) => match variant.newtype_variant_with(
+            |de: &mut Deserializer<R, C>| -> Result<isize, rmp_decode::Error>
+                ensures law { Lawful R.Source (λ m v. IsSigned (negsuc 9223372036854775807) (pos 9223372036854775807) m v) de.old de.new result }
+            { P::read_isize::<C>(de) },
+        ) {
+            Ok(value) => Ok(Term::Offset(value)),
+            Err(e) => Err(e),
+        },
+        Ok((6, variant)) => match variant.newtype_variant_with(read_u128::<R, C>) {
+            Ok(value) => Ok(Term::Big(value)),
+            Err(e) => Err(e),
+        },
+        Ok((7, variant)) => match variant.newtype_variant_with(read_i128::<R, C>) {
+            Ok(value) => Ok(Term::Wide(value)),
+            Err(e) => Err(e),
+        },
+        Ok((8, variant)) => match variant.newtype_variant_with(read_u16::<R, C>) {
+            Ok(value) => Ok(Term::Short(value)),
+            Err(e) => Err(e),
+        },
+        Ok((_, variant)) => match variant.newtype_variant_with(
+            |de: &mut Deserializer<R, C>| -> Result<Box<Term>, rmp_decode::Error>
+                ensures law { Lawful R.Source (λ m v. IsTerm m v.value) de.old de.new result }
+            { read_term_box::<R, C, P>(de) },
+        ) {
+            Ok(value) => Ok(Term::Quoted(value)),
+            Err(e) => Err(e),
+        },
+        Err(e) => Err(e),
+    }
+}
+
+// Reads a boxed one.
+#[cycle(term_reading)]
+fn read_term_box<R: Source, C: SerializerConfig, P: ReadContent<R> + ReadLeaves<R>>(
+    de: &mut Deserializer<R, C>,
+) -> Result<Box<Term>, rmp_decode::Error>
+    ensures law { Lawful R.Source (λ m v. IsTerm m v.value) de.old de.new result }
+{
+    let value = match read_term::<R, C, P>(de) {
+        Ok(value) => value,
+        Err(e) => return Err(e),
+    };
+    match Box::new(de.alloc(), value) {
+        Ok(boxed) => Ok(boxed),
+        Err(_) => Err(de.refuse(rmp_decode::Error::OutOfMemory)),
+    }
+}
+
+impl<'de, R: ReadSlice<'de>> Deserialize<'de, R> for Term {
+    ghost reads = { λ human lends. IsTerm };
+
+    ghost absent = { None };
+
+    fn deserialize<C: SerializerConfig>(
+        de: &mut Deserializer<R, C>,
+    ) -> Result<Term, rmp_decode::Error> {
+        read_term::<R, C, Slices<'de>>(de)
+    }
+
+    fn missing() -> Option<Term> {
+        None
+    }
+}
+
+impl<'de, R: ReadSlice<'de>> RoundTrip<'de, R> for Term {
+    ghost has_data = { λ human v. term_some v };
+
+    ghost round = { λ lent s v fits. term_round s v fits };
+
+    ghost same = { SameTerm };
+
+    ghost only = { λ s v fits. term_only s v fits };
+}
+
+impl NeverNil for Term {
+    ghost never_nil = { λ s v. term_other s v };
 }

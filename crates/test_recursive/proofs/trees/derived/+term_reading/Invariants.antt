@@ -1,0 +1,12 @@
+use Rattle.std.proofs.Common.{◌+◌, ◌*◌, max}
+use Rattle.test_recursive.proofs.trees.derived.+term_reading.Given as goal
+
+-- The content of a variant nests below it, and an element no deeper than its list.
+abbrev pub decreases-read_term : goal.decreases-read_term
+decreases-read_term g l = 4 * max 1 l.de.now.room
+
+abbrev pub decreases-read_term-newtype_variant_with+7 : goal.decreases-read_term-newtype_variant_with+7
+decreases-read_term-newtype_variant_with+7 g l = 4 * max 1 l.de.now.room + 3
+
+abbrev pub decreases-read_term_box : goal.decreases-read_term_box
+decreases-read_term_box g l = 4 * max 1 l.de.now.room + 2

@@ -1,0 +1,356 @@
+"""What the recursive types of a crate share: definitions and lemmas, which derive.py writes beside those of each type.
+
+CRATE stands for the crate's name, and a text's first line gets `Written by tools/derive.py`.
+"""
+
+# Those of the definitions, and what follows of the parts.
+SPECS = """-- What recursive types share: their readings by steps, their parts, and what holds of each part.
+use Rattle.std.proofs.Common.{◌≡◌, refl, subst, arith, ℕ, zero, suc, ◌+◌, List, [], ◌∷◌, All, Option, None, Some, MatchOption}
+use Rattle.std.proofs.Common as common
+use Rattle.std.specs.List.{AllByRecursion}
+use Rattle.std.proofs.lemmas.List.Elements.{All-nil, All-cons, All-head, All-tail}
+use Rattle.rmp_wire.specs.Msg.{Msg, nil, truth, whole, float32, float64, text, bin, list, map, extension, Msgs, no_items, item}
+use Rattle.rmp_decode.specs.Rows.{ReadsEach}
+use Rattle.rmp_decode.specs.Seq.{OfRow, numbers}
+use Rattle.rmp_decode.specs.Variants.{OfVariant, variant_of}
+
+-- a list, or bytes as the list of their numbers, of which each item is read so
+abbrev pub Row : {V : Type 0} → (Msg → V → Type 0) → Msg → List V → Type 0
+Row reads m vs = OfRow (λ ms. ReadsEach reads ms vs) m
+
+-- in some number of steps the message is read as the value
+abbrev pub InSteps : {V : Type 0} → (ℕ → Msg → V → Type 0) → Msg → V → Type 0
+InSteps reads m v = (n : ℕ) × reads n m v
+
+each_as : {V : Type 0} (P Q : Msg → V → Type 0) → ((m : Msg) (v : V) → P m v → Q m v) → (ms : Msgs) (vs : List V) → ReadsEach P ms vs → ReadsEach Q ms vs
+each_as P Q f no_items [] h = tt
+each_as P Q f no_items (v ∷ vs) h = absurd h
+each_as P Q f (item m ms) [] h = absurd h
+each_as P Q f (item m ms) (v ∷ vs) h = (f m v h.0, each_as P Q f ms vs h.1)
+
+pub row_as : {V : Type 0} (P Q : Msg → V → Type 0) → ((m : Msg) (v : V) → P m v → Q m v) → (m : Msg) (vs : List V) → Row P m vs → Row Q m vs
+row_as P Q f nil vs h = h
+row_as P Q f (truth t) vs h = h
+row_as P Q f (whole z) vs h = h
+row_as P Q f (float32 n) vs h = h
+row_as P Q f (float64 n) vs h = h
+row_as P Q f (text s) vs h = h
+row_as P Q f (bin s) vs h = each_as P Q f (numbers s) vs h
+row_as P Q f (list ms) vs h = each_as P Q f ms vs h
+row_as P Q f (map ps) vs h = h
+row_as P Q f (extension tag s) vs h = h
+
+-- each in its number of steps, so all in one
+module _ {V : Type 0} (P : ℕ → Msg → V → Type 0) (up : (n : ℕ) (m : Msg) (v : V) → P n m v → P (suc n) m v) where
+  more : (k n j : ℕ) → k + n ≡ j → (m : Msg) (v : V) → P n m v → P j m v
+  more zero n j e m v h = let same : n ≡ j = omega (arith, e) in subst (λ i. P i m v) same h
+  more (suc k) n j e m v h = more k (suc n) j (omega (arith, e)) m v (up n m v h)
+
+  each_in : (ms : Msgs) (vs : List V) → ReadsEach (InSteps P) ms vs → (n : ℕ) × ReadsEach (P n) ms vs
+  each_in no_items [] h = (zero, tt)
+  each_in no_items (v ∷ vs) h = absurd h
+  each_in (item m ms) [] h = absurd h
+  each_in (item m ms) (v ∷ vs) ((n, p), q) =
+      let i = each_in ms vs q in
+      let j = n + i.0 in
+      (j, (more i.0 n j (omega arith) m v p, each_as (P i.0) (P j) (more n i.0 j refl) ms vs i.1))
+
+  pub row_in : (m : Msg) (vs : List V) → Row (InSteps P) m vs → (n : ℕ) × Row (P n) m vs
+  row_in nil vs h = absurd h
+  row_in (truth t) vs h = absurd h
+  row_in (whole z) vs h = absurd h
+  row_in (float32 n) vs h = absurd h
+  row_in (float64 n) vs h = absurd h
+  row_in (text s) vs h = absurd h
+  row_in (bin s) vs h = each_in (numbers s) vs h
+  row_in (list ms) vs h = each_in ms vs h
+  row_in (map ps) vs h = absurd h
+  row_in (extension tag s) vs h = absurd h
+
+-- ---- enums
+
+pub variant_as : (names : List (List ℕ)) (P Q : ℕ × Option Msg → Type 0) → ((k : ℕ) (c : Option Msg) → P (k, c) → Q (k, c)) → (m : Msg)
+    → OfVariant names P m → OfVariant names Q m
+unfolding OfVariant
+variant_as names P Q f m h = go (variant_of names m) h
+  where
+    go : (x : Option (ℕ × Option Msg)) → MatchOption x ⊥ P → MatchOption x ⊥ Q
+    go None h = h
+    go (Some p) h = f p.0 p.1 h
+
+-- the content is read in some number of steps, so the variant is
+pub variant_in : (names : List (List ℕ)) (P : ℕ × Option Msg → Type 0) (Q : ℕ → ℕ × Option Msg → Type 0)
+    → ((k : ℕ) (c : Option Msg) → P (k, c) → (n : ℕ) × Q n (k, c)) → (m : Msg) → OfVariant names P m → (n : ℕ) × OfVariant names (Q n) m
+unfolding OfVariant
+variant_in names P Q f m h = go (variant_of names m) h
+  where
+    go : (x : Option (ℕ × Option Msg)) → MatchOption x ⊥ P → (n : ℕ) × MatchOption x ⊥ (Q n)
+    go None h = absurd h
+    go (Some p) h = f p.0 p.1 h
+
+-- ---- lists of parts
+
+pub each_holds : {A B : Type 0} (P : A → Type 0) (first : B → A) → ((b : B) → P (first b)) → (bs : List B) → All P (common.map first bs)
+each_holds P first h [] = All-nil P
+each_holds P first h (b ∷ bs) = All-cons P (first b) (common.map first bs) (h b) (each_holds P first h bs)
+
+pub through : {X T : Type 0} (at : X → T) (k : T → Type 0) (xs : List X) → AllByRecursion (λ p. k (at p)) xs ≡ AllByRecursion k (common.map at xs)
+through at k [] = refl
+through at k (x ∷ xs) = common.ap (λ t. k (at x) × t) (through at k xs)
+
+pub all_by : {X : Type 0} (P : X → Type 0) (xs : List X) → All P xs → AllByRecursion P xs
+all_by P [] h = tt
+all_by P (x ∷ xs) h = (All-head P x xs h, all_by P xs (All-tail P x xs h))
+
+-- what follows for each part from what is known of it
+pub each_from : {X : Type 0} (P Q : X → Type 0) (xs : List X) → All (λ x. P x → Q x) xs → AllByRecursion P xs → All Q xs
+each_from P Q [] h fit = All-nil Q
+each_from P Q (x ∷ xs) h fit = All-cons Q x xs (All-head (λ x. P x → Q x) x xs h fit.0) (each_from P Q xs (All-tail (λ x. P x → Q x) x xs h) fit.1)
+"""
+
+# Those of the round trip.
+ROUNDS = """-- What recursive types share that are read as they were written.
+use Rattle.std.proofs.Common.{◌≡◌, refl, List, [], ◌∷◌, map, All, Option, None, Some}
+use Rattle.std.specs.Prelude.{IsSome, IsSomeAnd}
+use Rattle.std.proofs.lemmas.List.Elements.{All-head, All-tail}
+use Rattle.rmp_wire.specs.Msg.{Msg}
+use Rattle.rmp_encode.specs.Data.{Data}
+use Rattle.rmp_encode.specs.Trees.{tree_of, parts_of}
+use Rattle.rmp_encode.specs.declared.settings.Settings.{Settings}
+use Rattle.rmp_round_trip.specs.RoundTrip.{Alike, LowersTo}
+use Rattle.rmp_round_trip.specs.Rounds.{parts_cons}
+
+pub each_data : {X : Type 0} (d : X → Option Data) (xs : List X) → All (λ x. IsSome (d x)) xs → IsSome (parts_of (map d xs))
+each_data d [] h = refl
+each_data d (x ∷ xs) h =
+    parts_cons (d x) (map d xs) (All-head (λ y. IsSome (d y)) x xs h) (each_data d xs (All-tail (λ y. IsSome (d y)) x xs h))
+
+pub lowers_as : (s : Settings) (d : Option Data) (P Q : Msg → Type 0) → ((m : Msg) → P m → Q m) → LowersTo s d P → LowersTo s d Q
+lowers_as s d P Q f h = go (tree_of s d) h
+  where
+    go : (o : Option Msg) → IsSomeAnd o P → IsSomeAnd o Q
+    go None h = absurd h
+    go (Some m) h = f m h
+
+-- values of the same content are written alike
+pub map_alike : {X : Type 0} (d : X → Option Data) (xs ys : List X) → Alike (λ x y. d x ≡ d y) xs ys → map d xs ≡ map d ys
+map_alike d [] [] h = refl
+map_alike d [] (y ∷ ys) h = absurd h
+map_alike d (x ∷ xs) [] h = absurd h
+map_alike d (x ∷ xs) (y ∷ ys) h = λ i. (h.0 i) ∷ (map_alike d xs ys h.1 i)
+"""
+
+# Those of the readings.
+PROOFS = """-- What the readings of recursive types share: the next part, by a function; lists of parts; and that the room falls.
+use Rattle.std.proofs.Common.{◌≡◌, ◌∙◌, refl, ap, subst, arith, ℕ, zero, suc, ◌+◌, ◌<◌, ◌≤◌, ◌⊎◌, inl, inr, true, false, Bool, nat_lt}
+use Rattle.std.proofs.Common.{max, pos, ◌*◌, ◌++◌, append-nil, List, [], Option, None, Some, Result, Ok, Err, MatchResult, MutBor, Vec, Global}
+use Rattle.std.specs.Fn.{FnOnceReturnsAtMut}
+use Rattle.std.specs.Result.{OnOk}
+use Rattle.rmp_wire.specs.declared.source.Source.{Ghosts}
+use Rattle.rmp_wire.specs.Msg.{Msg, Msgs}
+use Rattle.rmp_wire.specs.declared.head.Head.TheVariants.{Whole, Array, Bin}
+use Rattle.rmp_wire.specs.Canonical.{heads_of}
+use Rattle.rmp_wire.specs.Heads.{canon_head}
+use Rattle.rmp_wire.proofs.Strict.{canon_in, heads_differ_as}
+use Rattle.rmp_decode.specs.Law.{Lawful, Readable, GoesOn}
+use Rattle.rmp_decode.specs.State.{kept_bytes, room_of}
+use Rattle.rmp_decode.specs.Rows.{ReadsEach}
+use Rattle.rmp_decode.specs.Seq.{levels, IsOpen, Opens, FailsToOpen, TakesElement, FailsToTake, Run, seq_head}
+use Rattle.rmp_decode.specs.Variants.{OfVariant, IsAt, OpensVariant, TakesNameOf}
+use Rattle.rmp_decode.specs.With.{Reading, Lends, OffersPart, PartRead, PartMissing, SameList}
+use Rattle.rmp_decode.specs.declared.access.variant.Variant.{Variant}
+use Rattle.rmp_decode.specs.declared.deserializer.Deserializer.{Deserializer}
+use Rattle.rmp_decode.specs.declared.access.seq.SeqAccess.{SeqAccess}
+use Rattle.rmp_decode.specs.declared.deserializer.Kept.{Kept}
+use Rattle.rmp_decode.specs.declared.deserializer.Kept.TheVariants.{Nothing, First, Number}
+use Rattle.rmp_decode.specs.declared.error.Error.{Error}
+use Rattle.rmp_decode.specs.declared.error.Error.TheVariants.{OutOfMemory}
+use Rattle.rmp_decode.proofs.Laws.{lawful_ok}
+use Rattle.rmp_decode.proofs.HeadTaken.{fits_byte}
+use Rattle.rmp_decode.proofs.Seqs.{Values, each_next, seq_unopened, seq_take, seq_done, seq_unkept}
+use Rattle.rmp_decode.proofs.Variants.{variant_ok}
+use Rattle.rmp_decode.proofs.ElementWiths.{with_taken, with_refused}
+use Rattle.CRATE.specs.Recursion.{Row}
+
+-- the content of a variant was read, and so the type
+pub variant_done : {R C V W : Type 0} (g : Ghosts R) (names : List (List ℕ)) (cases : W → ℕ × Option Msg → Type 0) (reads : Msg → W
+    → Type 0) (old new last : Deserializer R C) (P : V → Option Msg → Type 0) (n : ℕ) (v : V) (w : W)
+    → ((m : Msg) → OfVariant names (cases w) m → reads m w) → ((c : Option Msg) → P v c → cases w (n, c))
+    → Lawful g (λ m y. OfVariant names (IsAt n (P y)) m) old new (Ok v) → last ≡ new → Lawful g reads old last (Ok w)
+variant_done g names cases reads old new last P n v w made f l same =
+    lawful_ok g (λ m y. OfVariant names (cases y) m) reads old last w w made (variant_ok g names cases old new last same P n v w f l)
+
+-- ---- the next element, by a function
+
+pub lent_law : {F R C V : Type 0} (g : Ghosts R) (once : Reading F R C V) (f : F) (reads : Msg → V → Type 0)
+    → ((p q : MutBor (Deserializer R C)) (r : Result V Error) → once.post f (p, tt) (r, (q, tt)) → Lawful g reads p.now q.now r)
+    → (d rest : Deserializer R C) (gave : Result V Error) → FnOnceReturnsAtMut once f d gave rest → Lawful g reads d rest gave
+lent_law g once f reads law d rest gave c =
+    let l = law c.shown c.left gave c.met in
+    let from = subst (λ (z : Deserializer _ _). Lawful g reads z c.left.now gave) c.shows l in
+    subst (λ (z : Deserializer _ _). Lawful g reads d z gave) c.leaves from
+
+some_left : (n : ℕ) → (n ≡ 0 → ⊥) → 0 < n
+some_left zero f = absurd (f refl)
+some_left (suc n) f = omega arith
+
+pub none_left : (n : ℕ) → (0 < n → ⊥) → n ≡ 0
+none_left zero f = refl
+none_left (suc n) f = absurd (f (omega arith))
+
+not_none : {X : Type 0} (x : X) → ◌≡◌ {A = Result (Option X) Error} (Ok (Some x)) (Ok None) → ⊥
+not_none x e = cc
+
+err_not_none : {X : Type 0} (e : Error) → ◌≡◌ {A = Result (Option X) Error} (Err e) (Ok None) → ⊥
+err_not_none e q = cc
+
+pub some_if : {X P : Type 0} (n : ℕ) (x : X) (o : Option X) → o ≡ Some x → (n ≡ 0 → (◌≡◌ {A = Result (Option X) Error} (Ok o) (Ok None)) × P) → 0 < n
+some_if n x o e f = some_left n (λ z. not_none x (subst (λ t. ◌≡◌ {A = Result (Option _) Error} (Ok t) (Ok None)) e (f z).0))
+
+pub some_if_err : {X P : Type 0} (n : ℕ) (e : Error) → (n ≡ 0 → (◌≡◌ {A = Result (Option X) Error} (Err e) (Ok None)) × P) → 0 < n
+some_if_err n e f = some_left n (λ z. err_not_none e (f z).0)
+
+no_part : {X : Type 0} (given : Result X Error) → MatchResult given (λ x. ◌≡◌ {A = Result (Option X) Error} (Ok None) (Ok (Some x)))
+    (λ e. ◌≡◌ {A = Result (Option X) Error} (Ok None) (Err e)) → ⊥
+no_part (Ok x) m = cc
+no_part (Err e) m = cc
+
+pub never_none : {F R C X : Type 0} (g : Ghosts R) {once : Reading F R C X} {f : F} (old new : SeqAccess R C)
+    → PartRead g once f old new (Ok None) ⊎ PartMissing {X = X} g old new (Ok None) → ⊥
+never_none g old new (inl p) = no_part p.given p.answers
+never_none g old new (inr m) = let w = m.answers in cc
+
+module _ {F R C V : Type 0} (g : Ghosts R) (reads : Msg → V
+    → Type 0) {once : Reading F R C V} {f : F} (old new : SeqAccess R C) (o : IsOpen old) (same : SameList old new)
+    (law : (p q : MutBor (Deserializer R C)) (r : Result V Error) → once.post f (p, tt) (r, (q, tt)) → Lawful g reads p.now q.now r) where
+  pub item_taken : (v : V) → PartRead g once f old new (Ok (Some v)) ⊎ PartMissing {X = V} g old new (Ok (Some v)) → new.sound ≡ true
+      → TakesElement g reads old new v
+  item_taken v p s = with_taken g once f reads old new o same (λ d rest gave l c. lent_law g once f reads law d rest gave c) v p s
+
+  pub item_refused : (e : Error) → 0 < old.left → PartRead g once f old new (Err e) ⊎ PartMissing {X = V} g old new (Err e) → FailsToTake g reads old new e
+  item_refused e some p = with_refused g once f reads old new o same (λ d rest gave l c. lent_law g once f reads law d rest gave c) e some p
+
+-- ---- a list of such elements
+
+module _ {R C V : Type 0} (g : Ghosts R) (reads : Msg → V → Type 0) (old : Deserializer R C) where
+  pub row_unopened : (last : Deserializer R C) (e : Error) → FailsToOpen g old last e → Lawful g (Row reads) old last (Err e)
+  row_unopened last e f = seq_unopened g (λ vs ms. ReadsEach reads ms vs) old last e f
+
+  module _ (start mid : SeqAccess R C) (vs : List V) (o : Opens g old start) (r : Values g reads start mid vs) (last : Deserializer R C) where
+    pub row_refused : (now : SeqAccess R C) (e : Error) → FailsToTake g reads mid now e → now.de.now.failed ≡ true → last ≡ now.de.now
+        → Lawful g (Row reads) old last (Err e)
+    row_refused now e f d q = seq_take g (λ us ms. ReadsEach reads ms us) old start mid r.trees o r.run last reads now e f d q
+        (λ m ks us h. each_next reads r.trees m ks us h)
+
+    pub row_unkept : last ≡ mid.de.now → Lawful g (Row reads) old last (Err OutOfMemory)
+    row_unkept q = seq_unkept g (λ us ms. ReadsEach reads ms us) old start mid r.trees o r.run last q
+
+    pub row_done : mid.left ≡ 0 → last ≡ record mid.de.now { failed = false } → Lawful g (Row reads) old last (Ok vs)
+    row_done z q = seq_done g (λ us ms. ReadsEach reads ms us) old start mid r.trees o r.run last vs r.values z q
+
+-- a list, as a vector
+pub vec_row : {V : Type 0} (reads : Msg → V → Type 0) (m : Msg) → Readable (λ k (v : Vec V Global). Row reads k v.items) m → Readable (Row reads) m
+vec_row reads m (v, h) = (v.items, h)
+
+pub vec_done : {R C V : Type 0} (g : Ghosts R) (reads : Msg → V → Type 0) (old : Deserializer R C) (start mid : SeqAccess R C) (v : Vec V Global)
+    → Opens g old start → Values g reads start mid v.items → (last : Deserializer R C) → mid.left ≡ 0 → last ≡ record mid.de.now { failed = false }
+    → Lawful g (λ k (w : Vec V Global). Row reads k w.items) old last (Ok v)
+vec_done {R} {C} {V} g reads old start mid v o r last z q =
+    lawful_ok g (Row reads) (λ k (w : Vec V Global). Row reads k w.items) old last v.items v (λ m h. h)
+    (row_done g reads old start mid v.items o r last z q)
+
+-- ---- the room falls
+
+-- A number that was kept back opens no list.
+abbrev fresh_if : Bool → ℕ
+fresh_if true = 0
+fresh_if false = 1
+
+abbrev pub fresh : Kept → ℕ
+fresh Nothing = 1
+fresh (First b) = 1
+fresh (Number n) = fresh_if (nat_lt n 256)
+
+below : (n m : ℕ) → n < m → nat_lt n m ≡ true
+below n m h = grind (arith)
+
+is_below : (n m : ℕ) → nat_lt n m ≡ true → n < m
+is_below n m h = grind (arith)
+
+no_number : (strict b : Bool) (n k : ℕ) (bytes more : List ℕ) → k < 256 → bytes ≡ canon_head (Whole (pos k)) ++ more → heads_of strict (seq_head b n) bytes → ⊥
+no_number strict true n k bytes more l e h =
+    let u = (heads_differ_as strict (Bin n) (Whole (pos k)) bytes (canon_head (Whole (pos k))) [] more h (canon_in strict (Whole (pos k)) (fits_byte k l))
+    (append-nil bytes ∙ e)).0 in cc
+no_number strict false n k bytes more l e h =
+    let u = (heads_differ_as strict (Array n) (Whole (pos k)) bytes (canon_head (Whole (pos k))) [] more h (canon_in strict (Whole (pos k)) (fits_byte k l))
+    (append-nil bytes ∙ e)).0 in cc
+
+opens_fresh : (strict b : Bool) (n : ℕ) (kept : Kept) (bytes : List ℕ) → GoesOn (kept_bytes kept) bytes → heads_of strict (seq_head b n) bytes → fresh kept ≡ 1
+opens_fresh strict b n Nothing bytes o h = refl
+opens_fresh strict b n (First k) bytes o h = refl
+opens_fresh strict b n (Number k) bytes o h = go (nat_lt k 256) refl
+  where
+    go : (t : Bool) → nat_lt k 256 ≡ t → fresh (Number k) ≡ 1
+    go true e = absurd (no_number strict b n k bytes o.more (is_below k 256 e) o.whole h)
+    go false e = ap fresh_if e
+
+-- twice the room, and one where a list may be opened
+abbrev pub steps_at : {R C : Type 0} → Deserializer R C → ℕ
+steps_at d = 2 * max 1 d.room + fresh d.kept
+
+if_at_most : (t : Bool) → fresh_if t ≤ 1
+if_at_most true = omega arith
+if_at_most false = omega arith
+
+pub at_most : (k : Kept) → fresh k ≤ 1
+at_most Nothing = omega arith
+at_most (First b) = omega arith
+at_most (Number n) = if_at_most (nat_lt n 256)
+
+module _ {R C : Type 0} (g : Ghosts R) (old : Deserializer R C) (start mid : SeqAccess R C) (o : Opens g old start) (same : SameList start mid)
+    (d : Deserializer R C) (l : Lends g mid d) where
+  room_falls : max 1 old.room ≡ max 1 d.room + levels mid.bytes
+  room_falls = rw l.lent (rw (same.inner, same.bytes) o.room)
+
+  lent_room : max 1 d.room ≤ max 1 old.room
+  lent_room = omega (arith, room_falls)
+
+  pub lent_steps : steps_at d < steps_at old
+  lent_steps = go mid.bytes refl l.offers
+    where
+      was : fresh old.kept ≡ 1
+      was = opens_fresh old.strict start.bytes start.left old.kept o.head.bytes o.head.goes_on o.head.is_head
+
+      now_number : (b : ℕ) → b < 256 → l.from.kept ≡ Number b → fresh d.kept ≡ 0
+      now_number b h e = ap (λ (z : Deserializer R C). fresh z.kept) l.lent ∙ ap fresh e ∙ ap fresh_if (below b 256 h)
+
+      go : (b : Bool) → mid.bytes ≡ b → OffersPart g b mid.de.now l.from → steps_at d < steps_at old
+      go true e f = omega (arith, room_falls, ap levels e, was, now_number f.keeps.byte f.keeps.small f.keeps.kept)
+      go false e f = omega (arith, room_falls, ap levels e, was, at_most d.kept)
+
+module _ {R C : Type 0} (g : Ghosts R) (old : Deserializer R C) (start mid : SeqAccess R C) (ms : Msgs) (o : Opens g old start) (r : Run g start mid ms)
+    (d : Deserializer R C) (l : Lends g mid d) where
+  same_list : SameList start mid
+  same_list = record { count = r.count_same; inner = r.inner; bytes = r.bytes_same }
+
+  pub part_room : max 1 d.room ≤ max 1 old.room
+  part_room = lent_room g old start mid o same_list d l
+
+  pub part_steps : steps_at d < steps_at old
+  part_steps = lent_steps g old start mid o same_list d l
+
+-- the content of a variant nests below it
+pub content_room_falls : {R C : Type 0} (g : Ghosts R) (names : List (List ℕ)) (n : ℕ) (old : Deserializer R C) (v : Variant R C)
+    → OpensVariant g names n old v → v.bare ≡ false → room_of old ≡ max 1 v.inner + 1
+content_room_falls g names n old v o b = (subst (λ z. TakesNameOf g names n z old v.de.now v.inner) b o.name).room
+
+-- ---- what is known of a value that was written
+
+pub on_ok : {A E : Type 0} (r : Result A E) (P Q : Type 0) → (P → Q) → OnOk r P → OnOk r Q
+on_ok (Ok x) P Q f h = f h
+on_ok (Err e) P Q f h = tt
+
+pub ok_holds : {A E : Type 0} (r : Result A E) (Q : Type 0) → Q → OnOk r Q
+ok_holds (Ok x) Q q = q
+ok_holds (Err e) Q q = tt
+"""
