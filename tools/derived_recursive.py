@@ -9,10 +9,10 @@ from __future__ import annotations
 import os
 from typing import TYPE_CHECKING, Iterator, Optional
 
-from declarations import Refused, declared_at
+from declarations import Declared, Refused, declared_at
 from recursive_answers import proofs_file, reading_answers, reading_measures, writing_answers
 from recursive_code import leaf_readers, readers, reading, rounds, writing
-from recursive_levels import LEAVES, Level, levels_file
+from recursive_levels import LEAVES, Level, levels_file, tables
 from recursive_rounds import rounds_file
 from recursive_shared import PROOFS, ROUNDS, SPECS
 
@@ -50,6 +50,8 @@ def refusal(own: Own) -> Optional[str]:
         return "both halves of such a type are derived, or neither"
     if of.parameters or of.lifetime:
         return "such a type is derived without parameters"
+    if is_taken(of):
+        return "its name is a word of the definitions that are written for it: give it another"
     if of.shape:
         return "of such types only enums are derived: write it by hand, as Rose in crates/test_recursive"
     known = {*LEAVES, f"Vec<{of.name}>", f"Box<{of.name}>"}
@@ -60,6 +62,11 @@ def refusal(own: Own) -> Optional[str]:
             if field.kind not in known:
                 return f"{shape.name} holds a {field.kind}: a variant of such a type holds {', '.join(LEAVES)}, Vec<{of.name}> or Box<{of.name}>"
     return None
+
+
+def is_taken(of: Declared) -> bool:
+    """Whether the type's name is one that its files bring in."""
+    return any(of.name in names.split() for home, names in tables(Level(of, "own", "own")).items() if not home.startswith("own"))
 
 
 def items(module: Module, wanted: list[Own]) -> list[str]:
