@@ -336,11 +336,13 @@ class Rounds:
         return codes(field.key for field in shape.fields)
 
     def enum_round(self, of: Declared) -> str:
-        return by_cases(of, [f"λ fits. {self.case(of, at, shape)}" for at, shape in enumerate(of.variants)], "")
+        """That of each variant. What the names are is said once, so that the text grows as the variants do."""
+        names = codes(variant.key for variant in of.variants)
+        return f"let names = {names} in {by_cases(of, [f'λ fits. {self.case(of, at, shape)}' for at, shape in enumerate(of.variants)], '')}"
 
     def case(self, of: Declared, at: int, shape: Shape) -> str:
         """A variant at its place."""
-        start = f'({codes(variant.key for variant in of.variants)}) (codes "{shape.key}") {at} refl _'
+        start = f'names (codes "{shape.key}") {at} refl _'
         if shape.kind == "unit":
             return f"bare_row s {start} (refl, tt)"
         values = values_of(shape, None)
@@ -553,16 +555,15 @@ class Onlys(Rounds):
         return f"lowers_then s _ _ {self.nothing_else(self.same_parts(shape, v, 'w'))} ({super().struct_round(shape, v, fits)}) (λ m q w r. {both})"
 
     def case(self, of, at, shape):
-        names = codes(variant.key for variant in of.variants)
         values, count = values_of(shape, None), len(shape.fields)
         others = [f"b.{place}" for place in range(count)]
         facts, content = self.facts(shape, values, others), f"b.{count + 1}"
-        start = f'({names}) (codes "{shape.key}") {at} refl (AtPlace {at} {self.holds(shape, values)})'
+        start = f'names (codes "{shape.key}") {at} refl (AtPlace {at} {self.holds(shape, values)})'
         back, known_values = "(λ m h. (refl, h))", [f"b.{place}" for place in range(count + 1)]
         what = "_ _"
         if shape.kind == "unit":
             row, both = f"bare_row s {start} (refl, tt)", "b.0"
-            what = f'(Some (unit_variant (codes "{shape.key}"))) (OfVariant ({names}) (AtPlace {at} AnyContent))'
+            what = f'(Some (unit_variant (codes "{shape.key}"))) (OfVariant names (AtPlace {at} AnyContent))'
         elif shape.kind == "newtype":
             row = f"newtype_variant_row s {start} _ {self.reads(shape.fields[0].kind, values[0])} {back} {self.content(shape, values, 'fits')}"
             both = listed_in([*known_values, f"content_only {' '.join(facts[0])} c a {content}"])
@@ -573,7 +574,7 @@ class Onlys(Rounds):
             row = f"struct_variant_row s {start} ({self.names(shape)}) _ _ refl {back} {self.content(shape, values, 'fits')}"
             both = both_of(facts, f"content_fields ({self.names(shape)}) _ _ _ c a {content}", "field_only", "last_field", " _", known_values)
         holds = "AnyContent" if shape.kind == "unit" else "_"
-        both = f"variant_both ({names}) {at} {holds} _ _ m q r (λ c a b. {both})"
+        both = f"variant_both names {at} {holds} _ _ m q r (λ c a b. {both})"
         return f"lowers_then s {what} {self.nothing_else(self.same_case(of, shape))} ({row}) (λ m q w r. {both})"
 
     def holds(self, shape, values):

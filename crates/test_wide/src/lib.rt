@@ -1,10 +1,12 @@
-//! Structs of many fields that are declared alone, whose implementations and proofs tools/derive.py wrote.
+//! Structs of many fields and enums of many variants that are declared alone, whose implementations and proofs tools/derive.py wrote.
 #![tactic(auto)]
 
 mod manifest;
 mod mixed;
 mod papers;
+mod signals;
 
 pub use manifest::Manifest;
 pub use mixed::{Course, Spot, Voyage};
 pub use papers::{Chart, Papers};
+pub use signals::Signal;

@@ -22,6 +22,8 @@ mod streams;
 #[cfg(test)]
 mod values;
 #[cfg(test)]
+mod wide;
+#[cfg(test)]
 mod wire;
 #[cfg(test)]
 mod writes;

@@ -133,16 +133,15 @@ impl<'de, R: ReadSlice<'de>> RoundTrip<'de, R> for Request {
           (⟦<u64 as Serialize>⟧.data_of a1 human ∷ (⟦<Value as Serialize>⟧.data_of a2 human ∷ [])) (refl, (refl, tt))
     ] };
 
-    ghost round = { λ lent s. elim [
-      | the_request.Ping ↦ λ fits. bare_row s (codes "Ping" ∷ (codes "Get" ∷ (codes "Put" ∷ []))) (codes "Ping") 0 refl _
-          (refl, tt)
-      | the_request.Get a1 ↦ λ fits. newtype_variant_row s (codes "Ping" ∷ (codes "Get" ∷ (codes "Put" ∷ []))) (codes "Get") 1 refl _ _
-          (λ j. ⟦<u64 as Deserialize<'de, R>>⟧.reads s.human R.lends j a1) (λ m h. (a1, refl, h)) (unsigned_row_64 s a1 fits)
-      | the_request.Put a1 a2 ↦
-          λ fits. tuple_variant_row s (codes "Ping" ∷ (codes "Get" ∷ (codes "Put" ∷ []))) (codes "Put") 2 refl _ _ _ (λ m h. (a1, a2, refl, h))
-          (rows_cons s _ _ (λ j. ⟦<u64 as Deserialize<'de, R>>⟧.reads s.human R.lends j a1) _ (unsigned_row_64 s a1 fits.0)
-          (rows_cons s _ _ (λ j. ⟦<Value as Deserialize<'de, R>>⟧.reads s.human R.lends j a2) _ (value_row s a2 fits.1.1) (rows_none s)))
-    ] };
+    ghost round = { λ lent s. let names = codes "Ping" ∷ (codes "Get" ∷ (codes "Put" ∷ []))
+        in elim [
+          | the_request.Ping ↦ λ fits. bare_row s names (codes "Ping") 0 refl _ (refl, tt)
+          | the_request.Get a1 ↦ λ fits. newtype_variant_row s names
+              (codes "Get") 1 refl _ _ (λ j. ⟦<u64 as Deserialize<'de, R>>⟧.reads s.human R.lends j a1) (λ m h. (a1, refl, h)) (unsigned_row_64 s a1 fits)
+          | the_request.Put a1 a2 ↦ λ fits. tuple_variant_row s names (codes "Put") 2 refl _ _ _ (λ m h. (a1, a2, refl, h))
+              (rows_cons s _ _ (λ j. ⟦<u64 as Deserialize<'de, R>>⟧.reads s.human R.lends j a1) _ (unsigned_row_64 s a1 fits.0)
+              (rows_cons s _ _ (λ j. ⟦<Value as Deserialize<'de, R>>⟧.reads s.human R.lends j a2) _ (value_row s a2 fits.1.1) (rows_none s)))
+        ] };
 
     ghost same = { λ v w. elim v [
       | the_request.Ping ↦ (w ≡ the_request.Ping)
@@ -152,33 +151,33 @@ impl<'de, R: ReadSlice<'de>> RoundTrip<'de, R> for Request {
           × ⟦<u64 as RoundTrip<'de, R>>⟧.same a1 b1 × ⟦<Value as RoundTrip<'de, R>>⟧.same a2 b2
     ] };
 
-    ghost only = { λ s. elim [
-      | the_request.Ping ↦ λ fits. lowers_then s (Some (unit_variant (codes "Ping")))
-          (OfVariant (codes "Ping" ∷ (codes "Get" ∷ (codes "Put" ∷ []))) (AtPlace 0 AnyContent)) (λ m. (w : _)
-          → (⟦<Request as Deserialize<'de, R>>⟧.reads s.human R.lends) m w
-          → (w ≡ the_request.Ping)) (bare_row s (codes "Ping" ∷ (codes "Get" ∷ (codes "Put" ∷ []))) (codes "Ping") 0 refl (AtPlace 0 AnyContent) (refl, tt))
-          (λ m q w r. variant_both (codes "Ping" ∷ (codes "Get" ∷ (codes "Put" ∷ []))) 0 AnyContent _ _ m q r (λ c a b. b.0))
-      | the_request.Get a1 ↦ λ fits.
-          lowers_then s _ _ (λ m. (w : _) → (⟦<Request as Deserialize<'de, R>>⟧.reads s.human R.lends) m w
-          → (b1 : _) × (w ≡ the_request.Get b1) × ⟦<u64 as RoundTrip<'de, R>>⟧.same a1 b1)
-          (newtype_variant_row s (codes "Ping" ∷ (codes "Get" ∷ (codes "Put" ∷ []))) (codes "Get") 1 refl
-          (AtPlace 1 (Content (λ j. Only (⟦<u64 as Deserialize<'de, R>>⟧.reads s.human R.lends) ⟦<u64 as RoundTrip<'de, R>>⟧.same j a1))) _
-          (λ j. Only (⟦<u64 as Deserialize<'de, R>>⟧.reads s.human R.lends) ⟦<u64 as RoundTrip<'de, R>>⟧.same j a1) (λ m h. (refl, h))
-          (unsigned_only s 18446744073709551615 a1)) (λ m q w r. variant_both (codes "Ping" ∷ (codes "Get" ∷ (codes "Put" ∷ []))) 1 _ _ _ m q r
-          (λ c a b. (b.0, b.1, content_only (⟦<u64 as Deserialize<'de, R>>⟧.reads s.human R.lends) ⟦<u64 as RoundTrip<'de, R>>⟧.same a1 b.0 c a b.2)))
-      | the_request.Put a1 a2 ↦ λ fits. lowers_then s _ _ (λ m. (w : _) → (⟦<Request as Deserialize<'de, R>>⟧.reads s.human R.lends) m w
-          → (b1 : _) × (b2 : _) × (w ≡ the_request.Put b1 b2) × ⟦<u64 as RoundTrip<'de, R>>⟧.same a1 b1 × ⟦<Value as RoundTrip<'de, R>>⟧.same a2 b2)
-          (tuple_variant_row s (codes "Ping" ∷ (codes "Get" ∷ (codes "Put" ∷ []))) (codes "Put") 2 refl
-          (AtPlace 2 (Content (OfRow (AndThen (λ j. Only (⟦<u64 as Deserialize<'de, R>>⟧.reads s.human R.lends) ⟦<u64 as RoundTrip<'de, R>>⟧.same j a1)
-          (AndThen (λ j. Only (⟦<Value as Deserialize<'de, R>>⟧.reads s.human R.lends) ⟦<Value as RoundTrip<'de, R>>⟧.same j a2) NoMore))))) _ _
-          (λ m h. (refl, h)) (rows_cons s _ _ (λ j. Only (⟦<u64 as Deserialize<'de, R>>⟧.reads s.human R.lends) ⟦<u64 as RoundTrip<'de, R>>⟧.same j a1) _
-          (unsigned_only s 18446744073709551615 a1) (rows_cons s _ _
-          (λ j. Only (⟦<Value as Deserialize<'de, R>>⟧.reads s.human R.lends) ⟦<Value as RoundTrip<'de, R>>⟧.same j a2) _ (value_only s a2) (rows_none s))))
-          (λ m q w r. variant_both (codes "Ping" ∷ (codes "Get" ∷ (codes "Put" ∷ []))) 2 _ _ _ m q r
-          (λ c a b. content_row _ _ _ c a b.3 (λ ks i j. let x = item_only (⟦<u64 as Deserialize<'de, R>>⟧.reads s.human R.lends)
-          ⟦<u64 as RoundTrip<'de, R>>⟧.same a1 b.0 _ _ _ (last_only (⟦<Value as Deserialize<'de, R>>⟧.reads s.human R.lends)
-          ⟦<Value as RoundTrip<'de, R>>⟧.same a2 b.1) ks i j in (b.0, b.1, b.2, x.0, x.1))))
-    ] };
+    ghost only = { λ s. let names = codes "Ping" ∷ (codes "Get" ∷ (codes "Put" ∷ []))
+        in elim [
+          | the_request.Ping ↦ λ fits. lowers_then s (Some (unit_variant (codes "Ping"))) (OfVariant names (AtPlace 0 AnyContent)) (λ m. (w : _)
+              → (⟦<Request as Deserialize<'de, R>>⟧.reads s.human R.lends) m w
+              → (w ≡ the_request.Ping)) (bare_row s names (codes "Ping") 0 refl (AtPlace 0 AnyContent) (refl, tt))
+              (λ m q w r. variant_both names 0 AnyContent _ _ m q r (λ c a b. b.0))
+          | the_request.Get a1 ↦ λ fits. lowers_then s _ _ (λ m. (w : _)
+              → (⟦<Request as Deserialize<'de, R>>⟧.reads s.human R.lends) m w
+              → (b1 : _) × (w ≡ the_request.Get b1) × ⟦<u64 as RoundTrip<'de, R>>⟧.same a1 b1)
+              (newtype_variant_row s names (codes "Get") 1 refl (AtPlace 1
+              (Content (λ j. Only (⟦<u64 as Deserialize<'de, R>>⟧.reads s.human R.lends) ⟦<u64 as RoundTrip<'de, R>>⟧.same j a1))) _
+              (λ j. Only (⟦<u64 as Deserialize<'de, R>>⟧.reads s.human R.lends) ⟦<u64 as RoundTrip<'de, R>>⟧.same j a1) (λ m h. (refl, h))
+              (unsigned_only s 18446744073709551615 a1)) (λ m q w r. variant_both names 1 _ _ _ m q r
+              (λ c a b. (b.0, b.1, content_only (⟦<u64 as Deserialize<'de, R>>⟧.reads s.human R.lends) ⟦<u64 as RoundTrip<'de, R>>⟧.same a1 b.0 c a b.2)))
+          | the_request.Put a1 a2 ↦ λ fits. lowers_then s _ _ (λ m. (w : _) → (⟦<Request as Deserialize<'de, R>>⟧.reads s.human R.lends) m w
+              → (b1 : _) × (b2 : _) × (w ≡ the_request.Put b1 b2) × ⟦<u64 as RoundTrip<'de, R>>⟧.same a1 b1 × ⟦<Value as RoundTrip<'de, R>>⟧.same a2 b2)
+              (tuple_variant_row s names (codes "Put") 2 refl (AtPlace 2
+              (Content (OfRow (AndThen (λ j. Only (⟦<u64 as Deserialize<'de, R>>⟧.reads s.human R.lends) ⟦<u64 as RoundTrip<'de, R>>⟧.same j a1)
+              (AndThen (λ j. Only (⟦<Value as Deserialize<'de, R>>⟧.reads s.human R.lends) ⟦<Value as RoundTrip<'de, R>>⟧.same j a2) NoMore))))) _ _
+              (λ m h. (refl, h)) (rows_cons s _ _ (λ j. Only (⟦<u64 as Deserialize<'de, R>>⟧.reads s.human R.lends) ⟦<u64 as RoundTrip<'de, R>>⟧.same j a1) _
+              (unsigned_only s 18446744073709551615 a1) (rows_cons s _ _
+              (λ j. Only (⟦<Value as Deserialize<'de, R>>⟧.reads s.human R.lends) ⟦<Value as RoundTrip<'de, R>>⟧.same j a2) _ (value_only s a2) (rows_none s))))
+              (λ m q w r. variant_both names 2 _ _ _ m q r (λ c a b. content_row _ _ _ c a b.3
+              (λ ks i j. let x = item_only (⟦<u64 as Deserialize<'de, R>>⟧.reads s.human R.lends) ⟦<u64 as RoundTrip<'de, R>>⟧.same a1 b.0 _ _ _
+              (last_only (⟦<Value as Deserialize<'de, R>>⟧.reads s.human R.lends) ⟦<Value as RoundTrip<'de, R>>⟧.same a2 b.1) ks i j
+              in (b.0, b.1, b.2, x.0, x.1))))
+        ] };
 }
 
 impl NeverNil for Request {

@@ -98,25 +98,26 @@ impl<'de, R: ReadSlice<'de>> Deserialize<'de, R> for Level {
 impl<'de, R: ReadSlice<'de>> RoundTrip<'de, R> for Level {
     ghost has_data = { λ human. elim [ the_level.Quiet ↦ refl | the_level.Loud ↦ refl ] };
 
-    ghost round = { λ lent s. elim [
-      | the_level.Quiet ↦ λ fits. bare_row s (codes "Quiet" ∷ (codes "Loud" ∷ [])) (codes "Quiet") 0 refl _ (refl, tt)
-      | the_level.Loud ↦ λ fits. bare_row s (codes "Quiet" ∷ (codes "Loud" ∷ [])) (codes "Loud") 1 refl _ (refl, tt)
-    ] };
+    ghost round = { λ lent s. let names = codes "Quiet" ∷ (codes "Loud" ∷ [])
+        in elim [
+          | the_level.Quiet ↦ λ fits. bare_row s names (codes "Quiet") 0 refl _ (refl, tt)
+          | the_level.Loud ↦ λ fits. bare_row s names (codes "Loud")
+              1 refl _ (refl, tt)
+        ] };
 
     ghost same = { λ v w. elim v [ the_level.Quiet ↦ (w ≡ the_level.Quiet) | the_level.Loud ↦ (w ≡ the_level.Loud) ] };
 
-    ghost only = { λ s. elim [
-      | the_level.Quiet ↦ λ fits. lowers_then s (Some (unit_variant (codes "Quiet")))
-          (OfVariant (codes "Quiet" ∷ (codes "Loud" ∷ [])) (AtPlace 0 AnyContent)) (λ m. (w : _)
-          → (⟦<Level as Deserialize<'de, R>>⟧.reads s.human R.lends) m w
-          → (w ≡ the_level.Quiet)) (bare_row s (codes "Quiet" ∷ (codes "Loud" ∷ [])) (codes "Quiet") 0 refl (AtPlace 0 AnyContent) (refl, tt))
-          (λ m q w r. variant_both (codes "Quiet" ∷ (codes "Loud" ∷ [])) 0 AnyContent _ _ m q r (λ c a b. b.0))
-      | the_level.Loud ↦ λ fits. lowers_then s
-          (Some (unit_variant (codes "Loud"))) (OfVariant (codes "Quiet" ∷ (codes "Loud" ∷ [])) (AtPlace 1 AnyContent)) (λ m. (w : _)
-          → (⟦<Level as Deserialize<'de, R>>⟧.reads s.human R.lends) m w
-          → (w ≡ the_level.Loud)) (bare_row s (codes "Quiet" ∷ (codes "Loud" ∷ [])) (codes "Loud") 1 refl (AtPlace 1 AnyContent) (refl, tt))
-          (λ m q w r. variant_both (codes "Quiet" ∷ (codes "Loud" ∷ [])) 1 AnyContent _ _ m q r (λ c a b. b.0))
-    ] };
+    ghost only = { λ s. let names = codes "Quiet" ∷ (codes "Loud" ∷ [])
+        in elim [
+          | the_level.Quiet ↦ λ fits. lowers_then s (Some (unit_variant (codes "Quiet"))) (OfVariant names (AtPlace 0 AnyContent)) (λ m. (w : _)
+              → (⟦<Level as Deserialize<'de, R>>⟧.reads s.human R.lends) m w
+              → (w ≡ the_level.Quiet)) (bare_row s names (codes "Quiet") 0 refl (AtPlace 0 AnyContent) (refl, tt))
+              (λ m q w r. variant_both names 0 AnyContent _ _ m q r (λ c a b. b.0))
+          | the_level.Loud ↦ λ fits. lowers_then s (Some (unit_variant (codes "Loud")))
+              (OfVariant names (AtPlace 1 AnyContent)) (λ m. (w : _) → (⟦<Level as Deserialize<'de, R>>⟧.reads s.human R.lends) m w
+              → (w ≡ the_level.Loud)) (bare_row s names (codes "Loud") 1 refl (AtPlace 1 AnyContent) (refl, tt))
+              (λ m q w r. variant_both names 1 AnyContent _ _ m q r (λ c a b. b.0))
+        ] };
 }
 
 impl NeverNil for Level {

@@ -120,13 +120,14 @@ impl<'de, R: ReadSlice<'de>> RoundTrip<'de, R> for V12 {
           (⟦<u32 as Serialize>⟧.data_of a1 human ∷ (⟦<u32 as Serialize>⟧.data_of a2 human ∷ [])) (refl, (refl, tt))
     ] };
 
-    ghost round = { λ lent s. elim [
-      | the_v12.V1 ↦ λ fits. bare_row s (codes "V1" ∷ (codes "V2" ∷ [])) (codes "V1") 0 refl _ (refl, tt)
-      | the_v12.V2 a1 a2 ↦
-          λ fits. tuple_variant_row s (codes "V1" ∷ (codes "V2" ∷ [])) (codes "V2") 1 refl _ _ _ (λ m h. (a1, a2, refl, h))
-          (rows_cons s _ _ (λ j. ⟦<u32 as Deserialize<'de, R>>⟧.reads s.human R.lends j a1) _ (unsigned_row_32 s a1 fits.0)
-          (rows_cons s _ _ (λ j. ⟦<u32 as Deserialize<'de, R>>⟧.reads s.human R.lends j a2) _ (unsigned_row_32 s a2 fits.1) (rows_none s)))
-    ] };
+    ghost round = { λ lent s. let names = codes "V1" ∷ (codes "V2" ∷ [])
+        in elim [
+          | the_v12.V1 ↦ λ fits. bare_row s names (codes "V1") 0 refl _ (refl, tt)
+          | the_v12.V2 a1 a2 ↦ λ fits. tuple_variant_row s names (codes "V2")
+              1 refl _ _ _ (λ m h. (a1, a2, refl, h)) (rows_cons s _ _ (λ j. ⟦<u32 as Deserialize<'de, R>>⟧.reads s.human R.lends j a1) _
+              (unsigned_row_32 s a1 fits.0) (rows_cons s _ _ (λ j. ⟦<u32 as Deserialize<'de, R>>⟧.reads s.human R.lends j a2) _ (unsigned_row_32 s a2 fits.1)
+              (rows_none s)))
+        ] };
 
     ghost same = { λ v w. elim v [
       | the_v12.V1 ↦ (w ≡ the_v12.V1)
@@ -134,25 +135,25 @@ impl<'de, R: ReadSlice<'de>> RoundTrip<'de, R> for V12 {
           × ⟦<u32 as RoundTrip<'de, R>>⟧.same a1 b1 × ⟦<u32 as RoundTrip<'de, R>>⟧.same a2 b2
     ] };
 
-    ghost only = { λ s. elim [
-      | the_v12.V1 ↦ λ fits. lowers_then s (Some (unit_variant (codes "V1")))
-          (OfVariant (codes "V1" ∷ (codes "V2" ∷ [])) (AtPlace 0 AnyContent)) (λ m. (w : _) → (⟦<V12 as Deserialize<'de, R>>⟧.reads s.human R.lends) m w
-          → (w ≡ the_v12.V1)) (bare_row s (codes "V1" ∷ (codes "V2" ∷ [])) (codes "V1") 0 refl (AtPlace 0 AnyContent) (refl, tt))
-          (λ m q w r. variant_both (codes "V1" ∷ (codes "V2" ∷ [])) 0 AnyContent _ _ m q r (λ c a b. b.0))
-      | the_v12.V2 a1 a2 ↦ λ fits. lowers_then s _ _
-          (λ m. (w : _) → (⟦<V12 as Deserialize<'de, R>>⟧.reads s.human R.lends) m w
-          → (b1 : _) × (b2 : _) × (w ≡ the_v12.V2 b1 b2) × ⟦<u32 as RoundTrip<'de, R>>⟧.same a1 b1 × ⟦<u32 as RoundTrip<'de, R>>⟧.same a2 b2)
-          (tuple_variant_row s (codes "V1" ∷ (codes "V2" ∷ [])) (codes "V2") 1 refl
-          (AtPlace 1 (Content (OfRow (AndThen (λ j. Only (⟦<u32 as Deserialize<'de, R>>⟧.reads s.human R.lends) ⟦<u32 as RoundTrip<'de, R>>⟧.same j a1)
-          (AndThen (λ j. Only (⟦<u32 as Deserialize<'de, R>>⟧.reads s.human R.lends) ⟦<u32 as RoundTrip<'de, R>>⟧.same j a2) NoMore))))) _ _
-          (λ m h. (refl, h)) (rows_cons s _ _ (λ j. Only (⟦<u32 as Deserialize<'de, R>>⟧.reads s.human R.lends) ⟦<u32 as RoundTrip<'de, R>>⟧.same j a1) _
-          (unsigned_only s 4294967295 a1) (rows_cons s _ _ (λ j. Only (⟦<u32 as Deserialize<'de, R>>⟧.reads s.human R.lends) ⟦<u32 as RoundTrip<'de, R>>⟧.same
-          j a2) _ (unsigned_only s 4294967295 a2) (rows_none s))))
-          (λ m q w r. variant_both (codes "V1" ∷ (codes "V2" ∷ [])) 1 _ _ _ m q r
-          (λ c a b. content_row _ _ _ c a b.3 (λ ks i j. let x = item_only (⟦<u32 as Deserialize<'de, R>>⟧.reads s.human R.lends)
-          ⟦<u32 as RoundTrip<'de, R>>⟧.same a1 b.0 _ _ _ (last_only (⟦<u32 as Deserialize<'de, R>>⟧.reads s.human R.lends) ⟦<u32 as RoundTrip<'de, R>>⟧.same
-          a2 b.1) ks i j in (b.0, b.1, b.2, x.0, x.1))))
-    ] };
+    ghost only = { λ s. let names = codes "V1" ∷ (codes "V2" ∷ [])
+        in elim [
+          | the_v12.V1 ↦ λ fits. lowers_then s (Some (unit_variant (codes "V1"))) (OfVariant names (AtPlace 0 AnyContent)) (λ m. (w : _)
+              → (⟦<V12 as Deserialize<'de, R>>⟧.reads s.human R.lends) m w
+              → (w ≡ the_v12.V1)) (bare_row s names (codes "V1") 0 refl (AtPlace 0 AnyContent) (refl, tt))
+              (λ m q w r. variant_both names 0 AnyContent _ _ m q r (λ c a b. b.0))
+          | the_v12.V2 a1 a2 ↦ λ fits. lowers_then s _ _ (λ m. (w : _)
+              → (⟦<V12 as Deserialize<'de, R>>⟧.reads s.human R.lends) m w
+              → (b1 : _) × (b2 : _) × (w ≡ the_v12.V2 b1 b2) × ⟦<u32 as RoundTrip<'de, R>>⟧.same a1 b1 × ⟦<u32 as RoundTrip<'de, R>>⟧.same a2 b2)
+              (tuple_variant_row s names (codes "V2") 1 refl (AtPlace 1
+              (Content (OfRow (AndThen (λ j. Only (⟦<u32 as Deserialize<'de, R>>⟧.reads s.human R.lends) ⟦<u32 as RoundTrip<'de, R>>⟧.same j a1)
+              (AndThen (λ j. Only (⟦<u32 as Deserialize<'de, R>>⟧.reads s.human R.lends) ⟦<u32 as RoundTrip<'de, R>>⟧.same j a2) NoMore))))) _ _
+              (λ m h. (refl, h)) (rows_cons s _ _ (λ j. Only (⟦<u32 as Deserialize<'de, R>>⟧.reads s.human R.lends) ⟦<u32 as RoundTrip<'de, R>>⟧.same j a1) _
+              (unsigned_only s 4294967295 a1) (rows_cons s _ _ (λ j. Only (⟦<u32 as Deserialize<'de, R>>⟧.reads s.human R.lends) ⟦<u32 as RoundTrip<'de, R>>⟧.same
+              j a2) _ (unsigned_only s 4294967295 a2) (rows_none s))))
+              (λ m q w r. variant_both names 1 _ _ _ m q r (λ c a b. content_row _ _ _ c a b.3
+              (λ ks i j. let x = item_only (⟦<u32 as Deserialize<'de, R>>⟧.reads s.human R.lends) ⟦<u32 as RoundTrip<'de, R>>⟧.same a1 b.0 _ _ _
+              (last_only (⟦<u32 as Deserialize<'de, R>>⟧.reads s.human R.lends) ⟦<u32 as RoundTrip<'de, R>>⟧.same a2 b.1) ks i j in (b.0, b.1, b.2, x.0, x.1))))
+        ] };
 }
 
 impl NeverNil for V12 {
@@ -216,25 +217,27 @@ impl<'de, R: ReadSlice<'de>> Deserialize<'de, R> for Two {
 impl<'de, R: ReadSlice<'de>> RoundTrip<'de, R> for Two {
     ghost has_data = { λ human. elim [ the_two.First ↦ refl | the_two.Second ↦ refl ] };
 
-    ghost round = { λ lent s. elim [
-      | the_two.First ↦ λ fits. bare_row s (codes "First" ∷ (codes "Second" ∷ [])) (codes "First") 0 refl _ (refl, tt)
-      | the_two.Second ↦ λ fits. bare_row s (codes "First" ∷ (codes "Second" ∷ [])) (codes "Second") 1 refl _ (refl, tt)
-    ] };
+    ghost round = { λ lent s. let names = codes "First" ∷ (codes "Second" ∷ [])
+        in elim [
+          | the_two.First ↦ λ fits. bare_row s names (codes "First") 0 refl _ (refl, tt)
+          | the_two.Second ↦ λ fits. bare_row s names (codes "Second")
+              1 refl _ (refl, tt)
+        ] };
 
     ghost same = { λ v w. elim v [ the_two.First ↦ (w ≡ the_two.First) | the_two.Second ↦ (w ≡ the_two.Second) ] };
 
-    ghost only = { λ s. elim [
-      | the_two.First ↦ λ fits. lowers_then s (Some (unit_variant (codes "First")))
-          (OfVariant (codes "First" ∷ (codes "Second" ∷ [])) (AtPlace 0 AnyContent)) (λ m. (w : _)
-          → (⟦<Two as Deserialize<'de, R>>⟧.reads s.human R.lends) m w
-          → (w ≡ the_two.First)) (bare_row s (codes "First" ∷ (codes "Second" ∷ [])) (codes "First") 0 refl (AtPlace 0 AnyContent) (refl, tt))
-          (λ m q w r. variant_both (codes "First" ∷ (codes "Second" ∷ [])) 0 AnyContent _ _ m q r (λ c a b. b.0))
-      | the_two.Second ↦ λ fits. lowers_then s
-          (Some (unit_variant (codes "Second"))) (OfVariant (codes "First" ∷ (codes "Second" ∷ [])) (AtPlace 1 AnyContent)) (λ m. (w : _)
-          → (⟦<Two as Deserialize<'de, R>>⟧.reads s.human R.lends) m w
-          → (w ≡ the_two.Second)) (bare_row s (codes "First" ∷ (codes "Second" ∷ [])) (codes "Second") 1 refl (AtPlace 1 AnyContent) (refl, tt))
-          (λ m q w r. variant_both (codes "First" ∷ (codes "Second" ∷ [])) 1 AnyContent _ _ m q r (λ c a b. b.0))
-    ] };
+    ghost only = { λ s. let names = codes "First" ∷ (codes "Second" ∷ [])
+        in elim [
+          | the_two.First ↦ λ fits. lowers_then s (Some (unit_variant (codes "First"))) (OfVariant names (AtPlace 0 AnyContent)) (λ m. (w : _)
+              → (⟦<Two as Deserialize<'de, R>>⟧.reads s.human R.lends) m w
+              → (w ≡ the_two.First)) (bare_row s names (codes "First") 0 refl (AtPlace 0 AnyContent) (refl, tt))
+              (λ m q w r. variant_both names 0 AnyContent _ _ m q r (λ c a b. b.0))
+          | the_two.Second ↦ λ fits. lowers_then s
+              (Some (unit_variant (codes "Second"))) (OfVariant names (AtPlace 1 AnyContent)) (λ m. (w : _)
+              → (⟦<Two as Deserialize<'de, R>>⟧.reads s.human R.lends) m w
+              → (w ≡ the_two.Second)) (bare_row s names (codes "Second") 1 refl (AtPlace 1 AnyContent) (refl, tt))
+              (λ m q w r. variant_both names 1 AnyContent _ _ m q r (λ c a b. b.0))
+        ] };
 }
 
 impl NeverNil for Two {
@@ -374,22 +377,21 @@ impl<'de, R: ReadSlice<'de>> RoundTrip<'de, R> for Four {
           ((codes "a", ⟦<u8 as Serialize>⟧.data_of a1 human) ∷ ((codes "b", ⟦<String as Serialize>⟧.data_of a2 human) ∷ [])) (refl, (refl, tt))
     ] };
 
-    ghost round = { λ lent s. elim [
-      | the_four.Unit ↦ λ fits. bare_row s (codes "Unit" ∷ (codes "New" ∷ (codes "Tup" ∷ (codes "Str" ∷ [])))) (codes "Unit") 0
-          refl _ (refl, tt)
-      | the_four.New a1 ↦ λ fits. newtype_variant_row s (codes "Unit" ∷ (codes "New" ∷ (codes "Tup" ∷ (codes "Str" ∷ []))))
-          (codes "New") 1 refl _ _ (λ j. ⟦<u8 as Deserialize<'de, R>>⟧.reads s.human R.lends j a1) (λ m h. (a1, refl, h)) (byte_row s a1 fits)
-      | the_four.Tup
-          a1 a2 ↦ λ fits. tuple_variant_row s (codes "Unit" ∷ (codes "New" ∷ (codes "Tup" ∷ (codes "Str" ∷ [])))) (codes "Tup") 2 refl _ _ _
-          (λ m h. (a1, a2, refl, h)) (rows_cons s _ _ (λ j. ⟦<u8 as Deserialize<'de, R>>⟧.reads s.human R.lends j a1) _ (byte_row s a1 fits.0)
-          (rows_cons s _ _ (λ j. ⟦<u16 as Deserialize<'de, R>>⟧.reads s.human R.lends j a2) _ (unsigned_row_16 s a2 fits.1) (rows_none s)))
-      | the_four.Str a1
-          a2 ↦ λ fits. struct_variant_row s (codes "Unit" ∷ (codes "New" ∷ (codes "Tup" ∷ (codes "Str" ∷ [])))) (codes "Str") 3 refl _
-          (codes "a" ∷ (codes "b" ∷ [])) _ _ refl (λ m h. (a1, a2, refl, h))
-          (fields_cons s (codes "a") _ _ _ (λ j. ⟦<u8 as Deserialize<'de, R>>⟧.reads s.human R.lends j a1) (Absent ⟦<u8 as Deserialize<'de, R>>⟧.absent a1) _
-          (byte_row s a1 fits.0) (fields_cons s (codes "b") _ _ _ (λ j. ⟦<String as Deserialize<'de, R>>⟧.reads s.human R.lends j a2)
-          (Absent ⟦<String as Deserialize<'de, R>>⟧.absent a2) _ (string_row s (string_bytes a2)) (fields_none s)))
-    ] };
+    ghost round = { λ lent s. let names = codes "Unit" ∷ (codes "New" ∷ (codes "Tup" ∷ (codes "Str" ∷ [])))
+        in elim [
+          | the_four.Unit ↦ λ fits. bare_row s names (codes "Unit") 0 refl _ (refl, tt)
+          | the_four.New a1 ↦ λ fits. newtype_variant_row s names
+              (codes "New") 1 refl _ _ (λ j. ⟦<u8 as Deserialize<'de, R>>⟧.reads s.human R.lends j a1) (λ m h. (a1, refl, h)) (byte_row s a1 fits)
+          | the_four.Tup
+              a1 a2 ↦ λ fits. tuple_variant_row s names (codes "Tup") 2 refl _ _ _ (λ m h. (a1, a2, refl, h))
+              (rows_cons s _ _ (λ j. ⟦<u8 as Deserialize<'de, R>>⟧.reads s.human R.lends j a1) _ (byte_row s a1 fits.0)
+              (rows_cons s _ _ (λ j. ⟦<u16 as Deserialize<'de, R>>⟧.reads s.human R.lends j a2) _ (unsigned_row_16 s a2 fits.1) (rows_none s)))
+          | the_four.Str a1
+              a2 ↦ λ fits. struct_variant_row s names (codes "Str") 3 refl _ (codes "a" ∷ (codes "b" ∷ [])) _ _ refl (λ m h. (a1, a2, refl, h))
+              (fields_cons s (codes "a") _ _ _ (λ j. ⟦<u8 as Deserialize<'de, R>>⟧.reads s.human R.lends j a1) (Absent ⟦<u8 as Deserialize<'de, R>>⟧.absent a1) _
+              (byte_row s a1 fits.0) (fields_cons s (codes "b") _ _ _ (λ j. ⟦<String as Deserialize<'de, R>>⟧.reads s.human R.lends j a2)
+              (Absent ⟦<String as Deserialize<'de, R>>⟧.absent a2) _ (string_row s (string_bytes a2)) (fields_none s)))
+        ] };
 
     ghost same = { λ v w. elim v [
       | the_four.Unit ↦ (w ≡ the_four.Unit)
@@ -401,47 +403,48 @@ impl<'de, R: ReadSlice<'de>> RoundTrip<'de, R> for Four {
           × (w ≡ the_four.Str b1 b2) × ⟦<u8 as RoundTrip<'de, R>>⟧.same a1 b1 × ⟦<String as RoundTrip<'de, R>>⟧.same a2 b2
     ] };
 
-    ghost only = { λ s. elim [
-      | the_four.Unit ↦ λ fits. lowers_then s (Some (unit_variant (codes "Unit")))
-          (OfVariant (codes "Unit" ∷ (codes "New" ∷ (codes "Tup" ∷ (codes "Str" ∷ [])))) (AtPlace 0 AnyContent)) (λ m. (w : _)
-          → (⟦<Four as Deserialize<'de, R>>⟧.reads s.human R.lends) m w
-          → (w ≡ the_four.Unit)) (bare_row s (codes "Unit" ∷ (codes "New" ∷ (codes "Tup" ∷ (codes "Str" ∷ [])))) (codes "Unit") 0 refl (AtPlace 0 AnyContent)
-          (refl, tt)) (λ m q w r. variant_both (codes "Unit" ∷ (codes "New" ∷ (codes "Tup" ∷ (codes "Str" ∷ [])))) 0 AnyContent _ _ m q r (λ c a b. b.0))
-      | the_four.New a1 ↦ λ fits. lowers_then s _ _ (λ m. (w : _) → (⟦<Four as Deserialize<'de, R>>⟧.reads s.human R.lends) m w
-          → (b1 : _) × (w ≡ the_four.New b1) × ⟦<u8 as RoundTrip<'de, R>>⟧.same a1 b1)
-          (newtype_variant_row s (codes "Unit" ∷ (codes "New" ∷ (codes "Tup" ∷ (codes "Str" ∷ [])))) (codes "New") 1 refl
-          (AtPlace 1 (Content (λ j. Only (⟦<u8 as Deserialize<'de, R>>⟧.reads s.human R.lends) ⟦<u8 as RoundTrip<'de, R>>⟧.same j a1))) _
-          (λ j. Only (⟦<u8 as Deserialize<'de, R>>⟧.reads s.human R.lends) ⟦<u8 as RoundTrip<'de, R>>⟧.same j a1) (λ m h. (refl, h)) (byte_only s a1))
-          (λ m q w r. variant_both (codes "Unit" ∷ (codes "New" ∷ (codes "Tup" ∷ (codes "Str" ∷ [])))) 1 _ _ _ m q r
-          (λ c a b. (b.0, b.1, content_only (⟦<u8 as Deserialize<'de, R>>⟧.reads s.human R.lends) ⟦<u8 as RoundTrip<'de, R>>⟧.same a1 b.0 c a b.2)))
-      | the_four.Tup a1 a2 ↦ λ fits. lowers_then s _ _ (λ m. (w : _) → (⟦<Four as Deserialize<'de, R>>⟧.reads s.human R.lends) m w
-          → (b1 : _) × (b2 : _) × (w ≡ the_four.Tup b1 b2) × ⟦<u8 as RoundTrip<'de, R>>⟧.same a1 b1 × ⟦<u16 as RoundTrip<'de, R>>⟧.same a2 b2)
-          (tuple_variant_row s (codes "Unit" ∷ (codes "New" ∷ (codes "Tup" ∷ (codes "Str" ∷ [])))) (codes "Tup") 2 refl
-          (AtPlace 2 (Content (OfRow (AndThen (λ j. Only (⟦<u8 as Deserialize<'de, R>>⟧.reads s.human R.lends) ⟦<u8 as RoundTrip<'de, R>>⟧.same j a1)
-          (AndThen (λ j. Only (⟦<u16 as Deserialize<'de, R>>⟧.reads s.human R.lends) ⟦<u16 as RoundTrip<'de, R>>⟧.same j a2) NoMore))))) _ _
-          (λ m h. (refl, h)) (rows_cons s _ _ (λ j. Only (⟦<u8 as Deserialize<'de, R>>⟧.reads s.human R.lends) ⟦<u8 as RoundTrip<'de, R>>⟧.same j a1) _
-          (byte_only s a1) (rows_cons s _ _ (λ j. Only (⟦<u16 as Deserialize<'de, R>>⟧.reads s.human R.lends) ⟦<u16 as RoundTrip<'de, R>>⟧.same j a2) _
-          (unsigned_only s 65535 a2) (rows_none s)))) (λ m q w r. variant_both (codes "Unit" ∷ (codes "New" ∷ (codes "Tup" ∷ (codes "Str" ∷ [])))) 2 _ _ _ m q
-          r (λ c a b. content_row _ _ _ c a b.3 (λ ks i j. let x = item_only (⟦<u8 as Deserialize<'de, R>>⟧.reads s.human R.lends)
-          ⟦<u8 as RoundTrip<'de, R>>⟧.same a1 b.0 _ _ _ (last_only (⟦<u16 as Deserialize<'de, R>>⟧.reads s.human R.lends) ⟦<u16 as RoundTrip<'de, R>>⟧.same a2
-          b.1) ks i j in (b.0, b.1, b.2, x.0, x.1))))
-      | the_four.Str a1 a2 ↦ λ fits. lowers_then s _ _ (λ m. (w : _)
-          → (⟦<Four as Deserialize<'de, R>>⟧.reads s.human R.lends) m w
-          → (b1 : _) × (b2 : _) × (w ≡ the_four.Str b1 b2) × ⟦<u8 as RoundTrip<'de, R>>⟧.same a1 b1 × ⟦<String as RoundTrip<'de, R>>⟧.same a2 b2)
-          (struct_variant_row s (codes "Unit" ∷ (codes "New" ∷ (codes "Tup" ∷ (codes "Str" ∷ [])))) (codes "Str") 3 refl
-          (AtPlace 3 (Content (OfFields (codes "a" ∷ (codes "b" ∷ []))
-          (Field (λ j. Only (⟦<u8 as Deserialize<'de, R>>⟧.reads s.human R.lends) ⟦<u8 as RoundTrip<'de, R>>⟧.same j a1) ⊥
-          (Field (λ j. Only (⟦<String as Deserialize<'de, R>>⟧.reads s.human R.lends) ⟦<String as RoundTrip<'de, R>>⟧.same j a2) ⊥ NoField)))))
-          (codes "a" ∷ (codes "b" ∷ [])) _ _ refl (λ m h. (refl, h))
-          (fields_cons s (codes "a") _ _ _ (λ j. Only (⟦<u8 as Deserialize<'de, R>>⟧.reads s.human R.lends) ⟦<u8 as RoundTrip<'de, R>>⟧.same j a1) ⊥ _
-          (byte_only s a1) (fields_cons s (codes "b") _ _ _ (λ j. Only (⟦<String as Deserialize<'de, R>>⟧.reads s.human R.lends)
-          ⟦<String as RoundTrip<'de, R>>⟧.same j a2) ⊥ _ (string_only s (λ w. string_bytes w) (string_bytes a2)) (fields_none s))))
-          (λ m q w r. variant_both (codes "Unit" ∷ (codes "New" ∷ (codes "Tup" ∷ (codes "Str" ∷ [])))) 3 _ _ _ m q r
-          (λ c a b. content_fields (codes "a" ∷ (codes "b" ∷ [])) _ _ _ c a b.3
-          (λ ks i j. let x = field_only (⟦<u8 as Deserialize<'de, R>>⟧.reads s.human R.lends) ⟦<u8 as RoundTrip<'de, R>>⟧.same a1 b.0 _ _ _ _
-          (last_field (⟦<String as Deserialize<'de, R>>⟧.reads s.human R.lends) ⟦<String as RoundTrip<'de, R>>⟧.same a2 b.1 _) ks i j
-          in (b.0, b.1, b.2, x.0, x.1))))
-    ] };
+    ghost only = { λ s. let names = codes "Unit" ∷ (codes "New" ∷ (codes "Tup" ∷ (codes "Str" ∷ [])))
+        in elim [
+          | the_four.Unit ↦ λ fits. lowers_then s (Some (unit_variant (codes "Unit"))) (OfVariant names (AtPlace 0 AnyContent)) (λ m. (w : _)
+              → (⟦<Four as Deserialize<'de, R>>⟧.reads s.human R.lends) m w
+              → (w ≡ the_four.Unit)) (bare_row s names (codes "Unit") 0 refl (AtPlace 0 AnyContent) (refl, tt))
+              (λ m q w r. variant_both names 0 AnyContent _ _ m q r (λ c a b. b.0))
+          | the_four.New a1 ↦ λ fits. lowers_then s _ _ (λ m. (w : _)
+              → (⟦<Four as Deserialize<'de, R>>⟧.reads s.human R.lends) m w
+              → (b1 : _) × (w ≡ the_four.New b1) × ⟦<u8 as RoundTrip<'de, R>>⟧.same a1 b1)
+              (newtype_variant_row s names (codes "New") 1 refl (AtPlace 1
+              (Content (λ j. Only (⟦<u8 as Deserialize<'de, R>>⟧.reads s.human R.lends) ⟦<u8 as RoundTrip<'de, R>>⟧.same j a1))) _
+              (λ j. Only (⟦<u8 as Deserialize<'de, R>>⟧.reads s.human R.lends) ⟦<u8 as RoundTrip<'de, R>>⟧.same j a1) (λ m h. (refl, h)) (byte_only s a1))
+              (λ m q w r. variant_both names 1 _ _ _ m q r (λ c a b.
+              (b.0, b.1, content_only (⟦<u8 as Deserialize<'de, R>>⟧.reads s.human R.lends) ⟦<u8 as RoundTrip<'de, R>>⟧.same a1 b.0 c a b.2)))
+          | the_four.Tup a1
+              a2 ↦ λ fits. lowers_then s _ _ (λ m. (w : _) → (⟦<Four as Deserialize<'de, R>>⟧.reads s.human R.lends) m w
+              → (b1 : _) × (b2 : _) × (w ≡ the_four.Tup b1 b2) × ⟦<u8 as RoundTrip<'de, R>>⟧.same a1 b1 × ⟦<u16 as RoundTrip<'de, R>>⟧.same a2 b2)
+              (tuple_variant_row s names (codes "Tup") 2 refl (AtPlace 2
+              (Content (OfRow (AndThen (λ j. Only (⟦<u8 as Deserialize<'de, R>>⟧.reads s.human R.lends) ⟦<u8 as RoundTrip<'de, R>>⟧.same j a1)
+              (AndThen (λ j. Only (⟦<u16 as Deserialize<'de, R>>⟧.reads s.human R.lends) ⟦<u16 as RoundTrip<'de, R>>⟧.same j a2) NoMore))))) _ _
+              (λ m h. (refl, h)) (rows_cons s _ _ (λ j. Only (⟦<u8 as Deserialize<'de, R>>⟧.reads s.human R.lends) ⟦<u8 as RoundTrip<'de, R>>⟧.same j a1) _
+              (byte_only s a1) (rows_cons s _ _ (λ j. Only (⟦<u16 as Deserialize<'de, R>>⟧.reads s.human R.lends) ⟦<u16 as RoundTrip<'de, R>>⟧.same j a2) _
+              (unsigned_only s 65535 a2) (rows_none s)))) (λ m q w r. variant_both names 2 _ _ _ m q r
+              (λ c a b. content_row _ _ _ c a b.3 (λ ks i j. let x = item_only (⟦<u8 as Deserialize<'de, R>>⟧.reads s.human R.lends)
+              ⟦<u8 as RoundTrip<'de, R>>⟧.same a1 b.0 _ _ _ (last_only (⟦<u16 as Deserialize<'de, R>>⟧.reads s.human R.lends) ⟦<u16 as RoundTrip<'de, R>>⟧.same a2
+              b.1) ks i j in (b.0, b.1, b.2, x.0, x.1))))
+          | the_four.Str a1 a2 ↦ λ fits. lowers_then s _ _ (λ m. (w : _)
+              → (⟦<Four as Deserialize<'de, R>>⟧.reads s.human R.lends) m w
+              → (b1 : _) × (b2 : _) × (w ≡ the_four.Str b1 b2) × ⟦<u8 as RoundTrip<'de, R>>⟧.same a1 b1 × ⟦<String as RoundTrip<'de, R>>⟧.same a2 b2)
+              (struct_variant_row s names (codes "Str") 3 refl (AtPlace 3
+              (Content (OfFields (codes "a" ∷ (codes "b" ∷ [])) (Field
+              (λ j. Only (⟦<u8 as Deserialize<'de, R>>⟧.reads s.human R.lends) ⟦<u8 as RoundTrip<'de, R>>⟧.same j a1) ⊥
+              (Field (λ j. Only (⟦<String as Deserialize<'de, R>>⟧.reads s.human R.lends) ⟦<String as RoundTrip<'de, R>>⟧.same j a2) ⊥ NoField)))))
+              (codes "a" ∷ (codes "b" ∷ [])) _ _ refl (λ m h. (refl, h))
+              (fields_cons s (codes "a") _ _ _ (λ j. Only (⟦<u8 as Deserialize<'de, R>>⟧.reads s.human R.lends) ⟦<u8 as RoundTrip<'de, R>>⟧.same j a1) ⊥ _
+              (byte_only s a1) (fields_cons s (codes "b") _ _ _ (λ j. Only (⟦<String as Deserialize<'de, R>>⟧.reads s.human R.lends)
+              ⟦<String as RoundTrip<'de, R>>⟧.same j a2) ⊥ _ (string_only s (λ w. string_bytes w) (string_bytes a2)) (fields_none s))))
+              (λ m q w r. variant_both names 3 _ _ _ m q r (λ c a b. content_fields (codes "a" ∷ (codes "b" ∷ [])) _ _ _ c a b.3
+              (λ ks i j. let x = field_only (⟦<u8 as Deserialize<'de, R>>⟧.reads s.human R.lends) ⟦<u8 as RoundTrip<'de, R>>⟧.same a1 b.0 _ _ _ _
+              (last_field (⟦<String as Deserialize<'de, R>>⟧.reads s.human R.lends) ⟦<String as RoundTrip<'de, R>>⟧.same a2 b.1 _) ks i j
+              in (b.0, b.1, b.2, x.0, x.1))))
+        ] };
 }
 
 impl NeverNil for Four {
@@ -558,19 +561,20 @@ impl<'de, R: ReadSlice<'de>, T: RoundTrip<'de, R>> RoundTrip<'de, R> for Mixed<T
           )
     ] };
 
-    ghost round = { λ lent s. elim [
-      | the_mixed.Other a1 ↦ λ fits. newtype_variant_row s (codes "Other" ∷ (codes "Kept" ∷ [])) (codes "Other") 0 refl _ _
-          (λ j. T.reads s.human R.lends j a1) (λ m h. (a1, refl, h)) (T.round lent s a1 fits)
-      | the_mixed.Kept a1 a2 ↦ λ fits. struct_variant_row s
-          (codes "Other" ∷ (codes "Kept" ∷ [])) (codes "Kept") 1 refl _ (codes "four" ∷ (codes "dog" ∷ [])) _ _ refl (λ m h. (a1, a2, refl, h))
-          (fields_cons s (codes "four") _ _ _ (λ j. ⟦<Option<Four> as Deserialize<'de, R>>⟧.reads s.human R.lends j a1)
-          (Absent ⟦<Option<Four> as Deserialize<'de, R>>⟧.absent a1) _
-          (option_row s (λ x. ⟦<Four as Serialize>⟧.data_of x s.human) ⟦<Four as Serialize>⟧.is_value (⟦<Four as Deserialize<'de, R>>⟧.reads s.human R.lends)
-          (λ x5. four_other.never_nil-law s x5) (λ x4 h4. (four_rounds.round-law R.row R.ReadSlice.own (given 0) R.Source (given 0) (λ e. cc) s x4 h4)) a1
-          fits.0) (fields_cons s (codes "dog") _ _ _ (λ j. ⟦<Dog as Deserialize<'de, R>>⟧.reads s.human R.lends j a2)
-          (Absent ⟦<Dog as Deserialize<'de, R>>⟧.absent a2) _ (dog_rounds.round-law R.row R.ReadSlice.own (given 0) R.Source (given 0) (λ e. cc) s a2 fits.1)
-          (fields_none s)))
-    ] };
+    ghost round = { λ lent s. let names = codes "Other" ∷ (codes "Kept" ∷ [])
+        in elim [
+          | the_mixed.Other a1 ↦ λ fits. newtype_variant_row s names (codes "Other") 0 refl _ _ (λ j. T.reads s.human R.lends j a1)
+              (λ m h. (a1, refl, h)) (T.round lent s a1 fits)
+          | the_mixed.Kept a1 a2 ↦ λ fits. struct_variant_row s names (codes "Kept") 1 refl _
+              (codes "four" ∷ (codes "dog" ∷ [])) _ _ refl (λ m h. (a1, a2, refl, h))
+              (fields_cons s (codes "four") _ _ _ (λ j. ⟦<Option<Four> as Deserialize<'de, R>>⟧.reads s.human R.lends j a1)
+              (Absent ⟦<Option<Four> as Deserialize<'de, R>>⟧.absent a1) _
+              (option_row s (λ x. ⟦<Four as Serialize>⟧.data_of x s.human) ⟦<Four as Serialize>⟧.is_value (⟦<Four as Deserialize<'de, R>>⟧.reads s.human R.lends)
+              (λ x5. four_other.never_nil-law s x5) (λ x4 h4. (four_rounds.round-law R.row R.ReadSlice.own (given 0) R.Source (given 0) (λ e. cc) s x4 h4)) a1
+              fits.0) (fields_cons s (codes "dog") _ _ _ (λ j. ⟦<Dog as Deserialize<'de, R>>⟧.reads s.human R.lends j a2)
+              (Absent ⟦<Dog as Deserialize<'de, R>>⟧.absent a2) _ (dog_rounds.round-law R.row R.ReadSlice.own (given 0) R.Source (given 0) (λ e. cc) s a2 fits.1)
+              (fields_none s)))
+        ] };
 
     ghost same = { λ v w. elim v [
       | the_mixed.Other a1 ↦ (b1 : _) × (w ≡ the_mixed.Other b1) × T.same a1 b1
@@ -578,36 +582,34 @@ impl<'de, R: ReadSlice<'de>, T: RoundTrip<'de, R>> RoundTrip<'de, R> for Mixed<T
           × (w ≡ the_mixed.Kept b1 b2) × ⟦<Option<Four> as RoundTrip<'de, R>>⟧.same a1 b1 × ⟦<Dog as RoundTrip<'de, R>>⟧.same a2 b2
     ] };
 
-    ghost only = { λ s. elim [
-      | the_mixed.Other a1 ↦ λ fits. lowers_then s _ _ (λ m. (w : _)
-          → (⟦<Mixed<T> as Deserialize<'de, R>>⟧.reads s.human R.lends) m w
-          → (b1 : _) × (w ≡ the_mixed.Other b1) × T.same a1 b1)
-          (newtype_variant_row s (codes "Other" ∷ (codes "Kept" ∷ [])) (codes "Other") 0 refl
-          (AtPlace 0 (Content (λ j. Only (T.reads s.human R.lends) T.same j a1))) _ (λ j. Only (T.reads s.human R.lends) T.same j a1) (λ m h. (refl, h))
-          (T.only s a1 fits)) (λ m q w r. variant_both (codes "Other" ∷ (codes "Kept" ∷ [])) 0 _ _ _ m q r
-          (λ c a b. (b.0, b.1, content_only (T.reads s.human R.lends) T.same a1 b.0 c a b.2)))
-      | the_mixed.Kept a1 a2 ↦ λ fits. lowers_then s _ _
-          (λ m. (w : _) → (⟦<Mixed<T> as Deserialize<'de, R>>⟧.reads s.human R.lends) m w
-          → (b1 : _) × (b2 : _) × (w ≡ the_mixed.Kept b1 b2) × ⟦<Option<Four> as RoundTrip<'de, R>>⟧.same a1 b1 × ⟦<Dog as RoundTrip<'de, R>>⟧.same a2 b2)
-          (struct_variant_row s (codes "Other" ∷ (codes "Kept" ∷ [])) (codes "Kept") 1 refl
-          (AtPlace 1 (Content (OfFields (codes "four" ∷ (codes "dog" ∷ []))
-          (Field (λ j. Only (⟦<Option<Four> as Deserialize<'de, R>>⟧.reads s.human R.lends) ⟦<Option<Four> as RoundTrip<'de, R>>⟧.same j a1) ⊥
-          (Field (λ j. Only (⟦<Dog as Deserialize<'de, R>>⟧.reads s.human R.lends) ⟦<Dog as RoundTrip<'de, R>>⟧.same j a2) ⊥ NoField)))))
-          (codes "four" ∷ (codes "dog" ∷ [])) _ _ refl (λ m h. (refl, h))
-          (fields_cons s (codes "four") _ _ _ (λ j. Only (⟦<Option<Four> as Deserialize<'de, R>>⟧.reads s.human R.lends)
-          ⟦<Option<Four> as RoundTrip<'de, R>>⟧.same j a1) ⊥ _
-          (option_only s _ (⟦<Four as Deserialize<'de, R>>⟧.reads s.human R.lends) ⟦<Four as RoundTrip<'de, R>>⟧.same a1
-          (option_row s (λ x. ⟦<Four as Serialize>⟧.data_of x s.human) ⟦<Four as Serialize>⟧.is_value
-          (Only (⟦<Four as Deserialize<'de, R>>⟧.reads s.human R.lends) ⟦<Four as RoundTrip<'de, R>>⟧.same) (λ x2. four_other.never_nil-law s x2)
-          (λ x1 h1. (four_rounds.only-law R.row R.ReadSlice.own (given 0) R.Source (given 0) s x1 h1)) a1 fits.0))
-          (fields_cons s (codes "dog") _ _ _ (λ j. Only (⟦<Dog as Deserialize<'de, R>>⟧.reads s.human R.lends) ⟦<Dog as RoundTrip<'de, R>>⟧.same j a2) ⊥ _
-          (dog_rounds.only-law R.row R.ReadSlice.own (given 0) R.Source (given 0) s a2 fits.1) (fields_none s))))
-          (λ m q w r. variant_both (codes "Other" ∷ (codes "Kept" ∷ [])) 1 _ _ _ m q r
-          (λ c a b. content_fields (codes "four" ∷ (codes "dog" ∷ [])) _ _ _ c a b.3
-          (λ ks i j. let x = field_only (⟦<Option<Four> as Deserialize<'de, R>>⟧.reads s.human R.lends) ⟦<Option<Four> as RoundTrip<'de, R>>⟧.same a1 b.0 _ _
-          _ _ (last_field (⟦<Dog as Deserialize<'de, R>>⟧.reads s.human R.lends) ⟦<Dog as RoundTrip<'de, R>>⟧.same a2 b.1 _) ks i j
-          in (b.0, b.1, b.2, x.0, x.1))))
-    ] };
+    ghost only = { λ s. let names = codes "Other" ∷ (codes "Kept" ∷ [])
+        in elim [
+          | the_mixed.Other a1 ↦ λ fits. lowers_then s _ _ (λ m. (w : _) → (⟦<Mixed<T> as Deserialize<'de, R>>⟧.reads s.human R.lends) m w
+              → (b1 : _) × (w ≡ the_mixed.Other b1) × T.same a1 b1)
+              (newtype_variant_row s names (codes "Other") 0 refl (AtPlace 0 (Content (λ j. Only (T.reads s.human R.lends) T.same j a1))) _
+              (λ j. Only (T.reads s.human R.lends) T.same j a1) (λ m h. (refl, h)) (T.only s a1 fits))
+              (λ m q w r. variant_both names 0 _ _ _ m q r (λ c a b. (b.0, b.1, content_only (T.reads s.human R.lends) T.same a1 b.0 c a b.2)))
+          | the_mixed.Kept
+              a1 a2 ↦ λ fits. lowers_then s _ _ (λ m. (w : _) → (⟦<Mixed<T> as Deserialize<'de, R>>⟧.reads s.human R.lends) m w
+              → (b1 : _) × (b2 : _) × (w ≡ the_mixed.Kept b1 b2) × ⟦<Option<Four> as RoundTrip<'de, R>>⟧.same a1 b1 × ⟦<Dog as RoundTrip<'de, R>>⟧.same a2 b2)
+              (struct_variant_row s names (codes "Kept") 1 refl (AtPlace 1
+              (Content (OfFields (codes "four" ∷ (codes "dog" ∷ []))
+              (Field (λ j. Only (⟦<Option<Four> as Deserialize<'de, R>>⟧.reads s.human R.lends) ⟦<Option<Four> as RoundTrip<'de, R>>⟧.same j a1) ⊥
+              (Field (λ j. Only (⟦<Dog as Deserialize<'de, R>>⟧.reads s.human R.lends) ⟦<Dog as RoundTrip<'de, R>>⟧.same j a2) ⊥ NoField)))))
+              (codes "four" ∷ (codes "dog" ∷ [])) _ _ refl (λ m h. (refl, h))
+              (fields_cons s (codes "four") _ _ _ (λ j. Only (⟦<Option<Four> as Deserialize<'de, R>>⟧.reads s.human R.lends)
+              ⟦<Option<Four> as RoundTrip<'de, R>>⟧.same j a1) ⊥ _
+              (option_only s _ (⟦<Four as Deserialize<'de, R>>⟧.reads s.human R.lends) ⟦<Four as RoundTrip<'de, R>>⟧.same a1
+              (option_row s (λ x. ⟦<Four as Serialize>⟧.data_of x s.human) ⟦<Four as Serialize>⟧.is_value
+              (Only (⟦<Four as Deserialize<'de, R>>⟧.reads s.human R.lends) ⟦<Four as RoundTrip<'de, R>>⟧.same) (λ x2. four_other.never_nil-law s x2)
+              (λ x1 h1. (four_rounds.only-law R.row R.ReadSlice.own (given 0) R.Source (given 0) s x1 h1)) a1 fits.0))
+              (fields_cons s (codes "dog") _ _ _ (λ j. Only (⟦<Dog as Deserialize<'de, R>>⟧.reads s.human R.lends) ⟦<Dog as RoundTrip<'de, R>>⟧.same j a2) ⊥ _
+              (dog_rounds.only-law R.row R.ReadSlice.own (given 0) R.Source (given 0) s a2 fits.1) (fields_none s))))
+              (λ m q w r. variant_both names 1 _ _ _ m q r (λ c a b. content_fields (codes "four" ∷ (codes "dog" ∷ [])) _ _ _ c a b.3
+              (λ ks i j. let x = field_only (⟦<Option<Four> as Deserialize<'de, R>>⟧.reads s.human R.lends) ⟦<Option<Four> as RoundTrip<'de, R>>⟧.same a1 b.0 _ _
+              _ _ (last_field (⟦<Dog as Deserialize<'de, R>>⟧.reads s.human R.lends) ⟦<Dog as RoundTrip<'de, R>>⟧.same a2 b.1 _) ks i j
+              in (b.0, b.1, b.2, x.0, x.1))))
+        ] };
 }
 
 impl<T: Serialize> NeverNil for Mixed<T> {

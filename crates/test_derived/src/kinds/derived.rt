@@ -227,19 +227,20 @@ impl<'de, R: ReadSlice<'de>, T: RoundTrip<'de, R>> RoundTrip<'de, R> for Either<
           )
     ] };
 
-    ghost round = { λ lent s. elim [
-      | the_either.Left a1 ↦ λ fits. newtype_variant_row s (codes "Left" ∷ (codes "Right" ∷ [])) (codes "Left") 0 refl _ _
-          (λ j. T.reads s.human R.lends j a1) (λ m h. (a1, refl, h)) (T.round lent s a1 fits)
-      | the_either.Right a1 a2 ↦ λ fits. struct_variant_row s
-          (codes "Left" ∷ (codes "Right" ∷ [])) (codes "Right") 1 refl _ (codes "by" ∷ (codes "pair" ∷ [])) _ _ refl (λ m h. (a1, a2, refl, h))
-          (fields_cons s (codes "by") _ _ _ (λ j. ⟦<i32 as Deserialize<'de, R>>⟧.reads s.human R.lends j a1) (Absent ⟦<i32 as Deserialize<'de, R>>⟧.absent a1)
-          _ (signed_row_32 s a1 fits.0) (fields_cons s (codes "pair") _ _ _ (λ j. ⟦<Option<Pair<T>> as Deserialize<'de, R>>⟧.reads s.human R.lends j a2)
-          (Absent ⟦<Option<Pair<T>> as Deserialize<'de, R>>⟧.absent a2) _
-          (option_row s (λ x. ⟦<Pair<T> as Serialize>⟧.data_of x s.human) ⟦<Pair<T> as Serialize>⟧.is_value
-          (⟦<Pair<T> as Deserialize<'de, R>>⟧.reads s.human R.lends) (λ x4. sequence_other s _)
-          (λ x3 h3. (sequence_row s _ _ (rows_cons s _ _ (λ j. T.reads s.human R.lends j x3.0) _ (T.round lent s x3.0 h3.0)
-          (rows_cons s _ _ (λ j. T.reads s.human R.lends j x3.1) _ (T.round lent s x3.1 h3.1) (rows_none s))))) a2 fits.1) (fields_none s)))
-    ] };
+    ghost round = { λ lent s. let names = codes "Left" ∷ (codes "Right" ∷ [])
+        in elim [
+          | the_either.Left a1 ↦ λ fits. newtype_variant_row s names (codes "Left") 0 refl _ _ (λ j. T.reads s.human R.lends j a1)
+              (λ m h. (a1, refl, h)) (T.round lent s a1 fits)
+          | the_either.Right a1 a2 ↦ λ fits. struct_variant_row s names (codes "Right") 1 refl _
+              (codes "by" ∷ (codes "pair" ∷ [])) _ _ refl (λ m h. (a1, a2, refl, h))
+              (fields_cons s (codes "by") _ _ _ (λ j. ⟦<i32 as Deserialize<'de, R>>⟧.reads s.human R.lends j a1) (Absent ⟦<i32 as Deserialize<'de, R>>⟧.absent a1)
+              _ (signed_row_32 s a1 fits.0) (fields_cons s (codes "pair") _ _ _ (λ j. ⟦<Option<Pair<T>> as Deserialize<'de, R>>⟧.reads s.human R.lends j a2)
+              (Absent ⟦<Option<Pair<T>> as Deserialize<'de, R>>⟧.absent a2) _
+              (option_row s (λ x. ⟦<Pair<T> as Serialize>⟧.data_of x s.human) ⟦<Pair<T> as Serialize>⟧.is_value
+              (⟦<Pair<T> as Deserialize<'de, R>>⟧.reads s.human R.lends) (λ x4. sequence_other s _)
+              (λ x3 h3. (sequence_row s _ _ (rows_cons s _ _ (λ j. T.reads s.human R.lends j x3.0) _ (T.round lent s x3.0 h3.0)
+              (rows_cons s _ _ (λ j. T.reads s.human R.lends j x3.1) _ (T.round lent s x3.1 h3.1) (rows_none s))))) a2 fits.1) (fields_none s)))
+        ] };
 
     ghost same = { λ v w. elim v [
       | the_either.Left a1 ↦ (b1 : _) × (w ≡ the_either.Left b1) × T.same a1 b1
@@ -247,42 +248,40 @@ impl<'de, R: ReadSlice<'de>, T: RoundTrip<'de, R>> RoundTrip<'de, R> for Either<
           × (w ≡ the_either.Right b1 b2) × ⟦<i32 as RoundTrip<'de, R>>⟧.same a1 b1 × ⟦<Option<Pair<T>> as RoundTrip<'de, R>>⟧.same a2 b2
     ] };
 
-    ghost only = { λ s. elim [
-      | the_either.Left a1 ↦ λ fits. lowers_then s _ _ (λ m. (w : _)
-          → (⟦<Either<T> as Deserialize<'de, R>>⟧.reads s.human R.lends) m w
-          → (b1 : _) × (w ≡ the_either.Left b1) × T.same a1 b1)
-          (newtype_variant_row s (codes "Left" ∷ (codes "Right" ∷ [])) (codes "Left") 0 refl
-          (AtPlace 0 (Content (λ j. Only (T.reads s.human R.lends) T.same j a1))) _ (λ j. Only (T.reads s.human R.lends) T.same j a1) (λ m h. (refl, h))
-          (T.only s a1 fits)) (λ m q w r. variant_both (codes "Left" ∷ (codes "Right" ∷ [])) 0 _ _ _ m q r
-          (λ c a b. (b.0, b.1, content_only (T.reads s.human R.lends) T.same a1 b.0 c a b.2)))
-      | the_either.Right a1 a2 ↦ λ fits. lowers_then s _ _
-          (λ m. (w : _) → (⟦<Either<T> as Deserialize<'de, R>>⟧.reads s.human R.lends) m w
-          → (b1 : _) × (b2 : _) × (w ≡ the_either.Right b1 b2) × ⟦<i32 as RoundTrip<'de, R>>⟧.same a1 b1
-          × ⟦<Option<Pair<T>> as RoundTrip<'de, R>>⟧.same a2 b2)
-          (struct_variant_row s (codes "Left" ∷ (codes "Right" ∷ [])) (codes "Right") 1 refl
-          (AtPlace 1 (Content (OfFields (codes "by" ∷ (codes "pair" ∷ []))
-          (Field (λ j. Only (⟦<i32 as Deserialize<'de, R>>⟧.reads s.human R.lends) ⟦<i32 as RoundTrip<'de, R>>⟧.same j a1) ⊥
-          (Field (λ j. Only (⟦<Option<Pair<T>> as Deserialize<'de, R>>⟧.reads s.human R.lends) ⟦<Option<Pair<T>> as RoundTrip<'de, R>>⟧.same j a2) ⊥
-          NoField))))) (codes "by" ∷ (codes "pair" ∷ [])) _ _ refl (λ m h. (refl, h))
-          (fields_cons s (codes "by") _ _ _ (λ j. Only (⟦<i32 as Deserialize<'de, R>>⟧.reads s.human R.lends) ⟦<i32 as RoundTrip<'de, R>>⟧.same j a1) ⊥ _
-          (signed_only s (negsuc 2147483647) (pos 2147483647) a1)
-          (fields_cons s (codes "pair") _ _ _ (λ j. Only (⟦<Option<Pair<T>> as Deserialize<'de, R>>⟧.reads s.human R.lends)
-          ⟦<Option<Pair<T>> as RoundTrip<'de, R>>⟧.same j a2) ⊥ _
-          (option_only s _ (⟦<Pair<T> as Deserialize<'de, R>>⟧.reads s.human R.lends) ⟦<Pair<T> as RoundTrip<'de, R>>⟧.same a2
-          (option_row s (λ x. ⟦<Pair<T> as Serialize>⟧.data_of x s.human) ⟦<Pair<T> as Serialize>⟧.is_value
-          (Only (⟦<Pair<T> as Deserialize<'de, R>>⟧.reads s.human R.lends) ⟦<Pair<T> as RoundTrip<'de, R>>⟧.same) (λ x2. sequence_other s _)
-          (λ x1 h1. (lowers_then s _ _ (λ m. (w : _) → (⟦<Pair<T> as Deserialize<'de, R>>⟧.reads s.human R.lends) m w
-          → T.same x1.0 w.0 × T.same x1.1 w.1) (sequence_row s _ _
-          (rows_cons s _ _ (λ j. Only (T.reads s.human R.lends) T.same j x1.0) _ (T.only s x1.0 h1.0)
-          (rows_cons s _ _ (λ j. Only (T.reads s.human R.lends) T.same j x1.1) _ (T.only s x1.1 h1.1) (rows_none s))))
-          (λ m q w r. row_both _ _ _ m q r (item_only (T.reads s.human R.lends) T.same x1.0 w.0 _ _ _
-          (last_only (T.reads s.human R.lends) T.same x1.1 w.1))))) a2 fits.1)) (fields_none s))))
-          (λ m q w r. variant_both (codes "Left" ∷ (codes "Right" ∷ [])) 1 _ _ _ m q r
-          (λ c a b. content_fields (codes "by" ∷ (codes "pair" ∷ [])) _ _ _ c a b.3
-          (λ ks i j. let x = field_only (⟦<i32 as Deserialize<'de, R>>⟧.reads s.human R.lends) ⟦<i32 as RoundTrip<'de, R>>⟧.same a1 b.0 _ _ _ _
-          (last_field (⟦<Option<Pair<T>> as Deserialize<'de, R>>⟧.reads s.human R.lends) ⟦<Option<Pair<T>> as RoundTrip<'de, R>>⟧.same a2 b.1 _) ks i j
-          in (b.0, b.1, b.2, x.0, x.1))))
-    ] };
+    ghost only = { λ s. let names = codes "Left" ∷ (codes "Right" ∷ [])
+        in elim [
+          | the_either.Left a1 ↦ λ fits. lowers_then s _ _ (λ m. (w : _) → (⟦<Either<T> as Deserialize<'de, R>>⟧.reads s.human R.lends) m w
+              → (b1 : _) × (w ≡ the_either.Left b1) × T.same a1 b1)
+              (newtype_variant_row s names (codes "Left") 0 refl (AtPlace 0 (Content (λ j. Only (T.reads s.human R.lends) T.same j a1))) _
+              (λ j. Only (T.reads s.human R.lends) T.same j a1) (λ m h. (refl, h)) (T.only s a1 fits))
+              (λ m q w r. variant_both names 0 _ _ _ m q r (λ c a b. (b.0, b.1, content_only (T.reads s.human R.lends) T.same a1 b.0 c a b.2)))
+          | the_either.Right
+              a1 a2 ↦ λ fits. lowers_then s _ _ (λ m. (w : _) → (⟦<Either<T> as Deserialize<'de, R>>⟧.reads s.human R.lends) m w
+              → (b1 : _) × (b2 : _) × (w ≡ the_either.Right b1 b2) × ⟦<i32 as RoundTrip<'de, R>>⟧.same a1 b1
+              × ⟦<Option<Pair<T>> as RoundTrip<'de, R>>⟧.same a2 b2)
+              (struct_variant_row s names (codes "Right") 1 refl
+              (AtPlace 1 (Content (OfFields (codes "by" ∷ (codes "pair" ∷ []))
+              (Field (λ j. Only (⟦<i32 as Deserialize<'de, R>>⟧.reads s.human R.lends) ⟦<i32 as RoundTrip<'de, R>>⟧.same j a1) ⊥
+              (Field (λ j. Only (⟦<Option<Pair<T>> as Deserialize<'de, R>>⟧.reads s.human R.lends) ⟦<Option<Pair<T>> as RoundTrip<'de, R>>⟧.same j a2) ⊥
+              NoField))))) (codes "by" ∷ (codes "pair" ∷ [])) _ _ refl (λ m h. (refl, h))
+              (fields_cons s (codes "by") _ _ _ (λ j. Only (⟦<i32 as Deserialize<'de, R>>⟧.reads s.human R.lends) ⟦<i32 as RoundTrip<'de, R>>⟧.same j a1) ⊥ _
+              (signed_only s (negsuc 2147483647) (pos 2147483647) a1)
+              (fields_cons s (codes "pair") _ _ _ (λ j. Only (⟦<Option<Pair<T>> as Deserialize<'de, R>>⟧.reads s.human R.lends)
+              ⟦<Option<Pair<T>> as RoundTrip<'de, R>>⟧.same j a2) ⊥ _
+              (option_only s _ (⟦<Pair<T> as Deserialize<'de, R>>⟧.reads s.human R.lends) ⟦<Pair<T> as RoundTrip<'de, R>>⟧.same a2
+              (option_row s (λ x. ⟦<Pair<T> as Serialize>⟧.data_of x s.human) ⟦<Pair<T> as Serialize>⟧.is_value
+              (Only (⟦<Pair<T> as Deserialize<'de, R>>⟧.reads s.human R.lends) ⟦<Pair<T> as RoundTrip<'de, R>>⟧.same) (λ x2. sequence_other s _)
+              (λ x1 h1. (lowers_then s _ _ (λ m. (w : _) → (⟦<Pair<T> as Deserialize<'de, R>>⟧.reads s.human R.lends) m w
+              → T.same x1.0 w.0 × T.same x1.1 w.1) (sequence_row s _ _
+              (rows_cons s _ _ (λ j. Only (T.reads s.human R.lends) T.same j x1.0) _ (T.only s x1.0 h1.0)
+              (rows_cons s _ _ (λ j. Only (T.reads s.human R.lends) T.same j x1.1) _ (T.only s x1.1 h1.1) (rows_none s))))
+              (λ m q w r. row_both _ _ _ m q r (item_only (T.reads s.human R.lends) T.same x1.0 w.0 _ _ _
+              (last_only (T.reads s.human R.lends) T.same x1.1 w.1))))) a2 fits.1)) (fields_none s))))
+              (λ m q w r. variant_both names 1 _ _ _ m q r (λ c a b. content_fields (codes "by" ∷ (codes "pair" ∷ [])) _ _ _ c a b.3
+              (λ ks i j. let x = field_only (⟦<i32 as Deserialize<'de, R>>⟧.reads s.human R.lends) ⟦<i32 as RoundTrip<'de, R>>⟧.same a1 b.0 _ _ _ _
+              (last_field (⟦<Option<Pair<T>> as Deserialize<'de, R>>⟧.reads s.human R.lends) ⟦<Option<Pair<T>> as RoundTrip<'de, R>>⟧.same a2 b.1 _) ks i j
+              in (b.0, b.1, b.2, x.0, x.1))))
+        ] };
 }
 
 impl<T: Serialize> NeverNil for Either<T> {
@@ -594,14 +593,15 @@ impl<'de, R: ReadSlice<'de>> RoundTrip<'de, R> for Kennel {
         (λ x15. (let law : (x : _) → tree_of s (⟦<Either<bool> as Serialize>⟧.data_of x s.human) ≢ Some nil = elim
         [ the_either.Left a1 ↦ newtype_variant_other s (codes "Left") _ | the_either.Right a1 a2 ↦ struct_variant_other s (codes "Right") _ ] in law x15))
         (λ x12 h12. (let law : (x : _) → ⟦<Either<bool> as Serialize>⟧.is_value x
-        → LowersTo s (⟦<Either<bool> as Serialize>⟧.data_of x s.human) (λ m. ⟦<Either<bool> as Deserialize<'de, R>>⟧.reads s.human R.lends m x) = elim [
-          | the_either.Left a1 ↦ λ fits. newtype_variant_row s (codes "Left" ∷ (codes "Right" ∷ [])) (codes "Left") 0 refl _ _
+        → LowersTo s (⟦<Either<bool> as Serialize>⟧.data_of x s.human)
+        (λ m. ⟦<Either<bool> as Deserialize<'de, R>>⟧.reads s.human R.lends m x) = let names = codes "Left" ∷ (codes "Right" ∷ [])
+        in elim [
+          | the_either.Left a1 ↦ λ fits. newtype_variant_row s names (codes "Left") 0 refl _ _
               (λ j. ⟦<bool as Deserialize<'de, R>>⟧.reads s.human R.lends j a1) (λ m h. (a1, refl, h)) (truth_row s a1)
           | the_either.Right a1 a2 ↦ λ fits.
-              struct_variant_row s (codes "Left" ∷ (codes "Right" ∷ [])) (codes "Right") 1 refl _ (codes "by" ∷ (codes "pair" ∷ [])) _ _ refl
-              (λ m h. (a1, a2, refl, h)) (fields_cons s (codes "by") _ _ _ (λ j. ⟦<i32 as Deserialize<'de, R>>⟧.reads s.human R.lends j a1)
-              (Absent ⟦<i32 as Deserialize<'de, R>>⟧.absent a1) _ (signed_row_32 s a1 fits.0)
-              (fields_cons s (codes "pair") _ _ _ (λ j. ⟦<Option<Pair<bool>> as Deserialize<'de, R>>⟧.reads s.human R.lends j a2)
+              struct_variant_row s names (codes "Right") 1 refl _ (codes "by" ∷ (codes "pair" ∷ [])) _ _ refl (λ m h. (a1, a2, refl, h))
+              (fields_cons s (codes "by") _ _ _ (λ j. ⟦<i32 as Deserialize<'de, R>>⟧.reads s.human R.lends j a1) (Absent ⟦<i32 as Deserialize<'de, R>>⟧.absent a1)
+              _ (signed_row_32 s a1 fits.0) (fields_cons s (codes "pair") _ _ _ (λ j. ⟦<Option<Pair<bool>> as Deserialize<'de, R>>⟧.reads s.human R.lends j a2)
               (Absent ⟦<Option<Pair<bool>> as Deserialize<'de, R>>⟧.absent a2) _
               (option_row s (λ x. ⟦<Pair<bool> as Serialize>⟧.data_of x s.human) ⟦<Pair<bool> as Serialize>⟧.is_value
               (⟦<Pair<bool> as Deserialize<'de, R>>⟧.reads s.human R.lends) (λ x14. sequence_other s _)
@@ -646,18 +646,20 @@ impl<'de, R: ReadSlice<'de>> RoundTrip<'de, R> for Kennel {
         [ the_either.Left a1 ↦ newtype_variant_other s (codes "Left") _ | the_either.Right a1 a2 ↦ struct_variant_other s (codes "Right") _ ] in law x5))
         (λ x2 h2. (let law : (x : _) → ⟦<Either<bool> as Serialize>⟧.is_value x
         → LowersTo s (⟦<Either<bool> as Serialize>⟧.data_of x s.human)
-        (λ m. (Only (⟦<Either<bool> as Deserialize<'de, R>>⟧.reads s.human R.lends) ⟦<Either<bool> as RoundTrip<'de, R>>⟧.same) m x) = elim [
-          | the_either.Left a1 ↦ λ fits. lowers_then s _ _ (λ m. (w : _) → (⟦<Either<bool> as Deserialize<'de, R>>⟧.reads s.human R.lends) m w
+        (λ m. (Only (⟦<Either<bool> as Deserialize<'de, R>>⟧.reads s.human R.lends) ⟦<Either<bool> as RoundTrip<'de, R>>⟧.same) m x) = let names = codes
+        "Left" ∷ (codes "Right" ∷ []) in elim [
+          | the_either.Left a1 ↦ λ fits. lowers_then s _ _ (λ m. (w : _)
+              → (⟦<Either<bool> as Deserialize<'de, R>>⟧.reads s.human R.lends) m w
               → (b1 : _) × (w ≡ the_either.Left b1) × ⟦<bool as RoundTrip<'de, R>>⟧.same a1 b1)
-              (newtype_variant_row s (codes "Left" ∷ (codes "Right" ∷ [])) (codes "Left") 0 refl
+              (newtype_variant_row s names (codes "Left") 0 refl
               (AtPlace 0 (Content (λ j. Only (⟦<bool as Deserialize<'de, R>>⟧.reads s.human R.lends) ⟦<bool as RoundTrip<'de, R>>⟧.same j a1))) _
               (λ j. Only (⟦<bool as Deserialize<'de, R>>⟧.reads s.human R.lends) ⟦<bool as RoundTrip<'de, R>>⟧.same j a1) (λ m h. (refl, h)) (truth_only s a1))
-              (λ m q w r. variant_both (codes "Left" ∷ (codes "Right" ∷ [])) 0 _ _ _ m q r
-              (λ c a b. (b.0, b.1, content_only (⟦<bool as Deserialize<'de, R>>⟧.reads s.human R.lends) ⟦<bool as RoundTrip<'de, R>>⟧.same a1 b.0 c a b.2)))
+              (λ m q w r. variant_both names 0 _ _ _ m q r (λ c a b.
+              (b.0, b.1, content_only (⟦<bool as Deserialize<'de, R>>⟧.reads s.human R.lends) ⟦<bool as RoundTrip<'de, R>>⟧.same a1 b.0 c a b.2)))
           | the_either.Right a1 a2 ↦ λ fits. lowers_then s _ _ (λ m. (w : _) → (⟦<Either<bool> as Deserialize<'de, R>>⟧.reads s.human R.lends) m w
               → (b1 : _) × (b2 : _) × (w ≡ the_either.Right b1 b2) × ⟦<i32 as RoundTrip<'de, R>>⟧.same a1 b1
               × ⟦<Option<Pair<bool>> as RoundTrip<'de, R>>⟧.same a2 b2)
-              (struct_variant_row s (codes "Left" ∷ (codes "Right" ∷ [])) (codes "Right") 1 refl
+              (struct_variant_row s names (codes "Right") 1 refl
               (AtPlace 1 (Content (OfFields (codes "by" ∷ (codes "pair" ∷ []))
               (Field (λ j. Only (⟦<i32 as Deserialize<'de, R>>⟧.reads s.human R.lends) ⟦<i32 as RoundTrip<'de, R>>⟧.same j a1) ⊥
               (Field (λ j. Only (⟦<Option<Pair<bool>> as Deserialize<'de, R>>⟧.reads s.human R.lends) ⟦<Option<Pair<bool>> as RoundTrip<'de, R>>⟧.same j a2) ⊥
@@ -676,8 +678,7 @@ impl<'de, R: ReadSlice<'de>> RoundTrip<'de, R> for Kennel {
               (truth_only s x3.1) (rows_none s)))) (λ m q w r. row_both _ _ _ m q r
               (item_only (⟦<bool as Deserialize<'de, R>>⟧.reads s.human R.lends) ⟦<bool as RoundTrip<'de, R>>⟧.same x3.0 w.0 _ _ _
               (last_only (⟦<bool as Deserialize<'de, R>>⟧.reads s.human R.lends) ⟦<bool as RoundTrip<'de, R>>⟧.same x3.1 w.1))))) a2 fits.1)) (fields_none s))))
-              (λ m q w r. variant_both (codes "Left" ∷ (codes "Right" ∷ [])) 1 _ _ _ m q r
-              (λ c a b. content_fields (codes "by" ∷ (codes "pair" ∷ [])) _ _ _ c a b.3
+              (λ m q w r. variant_both names 1 _ _ _ m q r (λ c a b. content_fields (codes "by" ∷ (codes "pair" ∷ [])) _ _ _ c a b.3
               (λ ks i j. let x = field_only (⟦<i32 as Deserialize<'de, R>>⟧.reads s.human R.lends) ⟦<i32 as RoundTrip<'de, R>>⟧.same a1 b.0 _ _ _ _
               (last_field (⟦<Option<Pair<bool>> as Deserialize<'de, R>>⟧.reads s.human R.lends) ⟦<Option<Pair<bool>> as RoundTrip<'de, R>>⟧.same a2 b.1 _) ks i j
               in (b.0, b.1, b.2, x.0, x.1))))
@@ -893,14 +894,15 @@ impl<'de, R: ReadSlice<'de>> RoundTrip<'de, R> for Chosen {
 
     ghost round = { λ lent s v fits. newtype_row s (⟦<Either<u8> as Serialize>⟧.data_of v.0 s.human)
         (λ j. ⟦<Either<u8> as Deserialize<'de, R>>⟧.reads s.human R.lends j v.0) (let law : (x : _) → ⟦<Either<u8> as Serialize>⟧.is_value x
-        → LowersTo s (⟦<Either<u8> as Serialize>⟧.data_of x s.human) (λ m. ⟦<Either<u8> as Deserialize<'de, R>>⟧.reads s.human R.lends m x) = elim [
-          | the_either.Left a1 ↦ λ fits. newtype_variant_row s (codes "Left" ∷ (codes "Right" ∷ [])) (codes "Left") 0 refl _ _
+        → LowersTo s (⟦<Either<u8> as Serialize>⟧.data_of x s.human)
+        (λ m. ⟦<Either<u8> as Deserialize<'de, R>>⟧.reads s.human R.lends m x) = let names = codes "Left" ∷ (codes "Right" ∷ [])
+        in elim [
+          | the_either.Left a1 ↦ λ fits. newtype_variant_row s names (codes "Left") 0 refl _ _
               (λ j. ⟦<u8 as Deserialize<'de, R>>⟧.reads s.human R.lends j a1) (λ m h. (a1, refl, h)) (byte_row s a1 fits)
           | the_either.Right a1 a2 ↦ λ fits.
-              struct_variant_row s (codes "Left" ∷ (codes "Right" ∷ [])) (codes "Right") 1 refl _ (codes "by" ∷ (codes "pair" ∷ [])) _ _ refl
-              (λ m h. (a1, a2, refl, h)) (fields_cons s (codes "by") _ _ _ (λ j. ⟦<i32 as Deserialize<'de, R>>⟧.reads s.human R.lends j a1)
-              (Absent ⟦<i32 as Deserialize<'de, R>>⟧.absent a1) _ (signed_row_32 s a1 fits.0)
-              (fields_cons s (codes "pair") _ _ _ (λ j. ⟦<Option<Pair<u8>> as Deserialize<'de, R>>⟧.reads s.human R.lends j a2)
+              struct_variant_row s names (codes "Right") 1 refl _ (codes "by" ∷ (codes "pair" ∷ [])) _ _ refl (λ m h. (a1, a2, refl, h))
+              (fields_cons s (codes "by") _ _ _ (λ j. ⟦<i32 as Deserialize<'de, R>>⟧.reads s.human R.lends j a1) (Absent ⟦<i32 as Deserialize<'de, R>>⟧.absent a1)
+              _ (signed_row_32 s a1 fits.0) (fields_cons s (codes "pair") _ _ _ (λ j. ⟦<Option<Pair<u8>> as Deserialize<'de, R>>⟧.reads s.human R.lends j a2)
               (Absent ⟦<Option<Pair<u8>> as Deserialize<'de, R>>⟧.absent a2) _
               (option_row s (λ x. ⟦<Pair<u8> as Serialize>⟧.data_of x s.human) ⟦<Pair<u8> as Serialize>⟧.is_value
               (⟦<Pair<u8> as Deserialize<'de, R>>⟧.reads s.human R.lends) (λ x5. sequence_other s _)
@@ -918,18 +920,21 @@ impl<'de, R: ReadSlice<'de>> RoundTrip<'de, R> for Chosen {
         (newtype_row s (⟦<Either<u8> as Serialize>⟧.data_of v.0 s.human)
         (λ j. Only (⟦<Either<u8> as Deserialize<'de, R>>⟧.reads s.human R.lends) ⟦<Either<u8> as RoundTrip<'de, R>>⟧.same j v.0) (let law : (x : _)
         → ⟦<Either<u8> as Serialize>⟧.is_value x → LowersTo s (⟦<Either<u8> as Serialize>⟧.data_of x s.human)
-        (λ m. (Only (⟦<Either<u8> as Deserialize<'de, R>>⟧.reads s.human R.lends) ⟦<Either<u8> as RoundTrip<'de, R>>⟧.same) m x) = elim [
-          | the_either.Left a1 ↦ λ fits. lowers_then s _ _ (λ m. (w : _) → (⟦<Either<u8> as Deserialize<'de, R>>⟧.reads s.human R.lends) m w
+        (λ m. (Only (⟦<Either<u8> as Deserialize<'de, R>>⟧.reads s.human R.lends) ⟦<Either<u8> as RoundTrip<'de, R>>⟧.same) m x) = let names = codes "Left"
+        ∷ (codes "Right" ∷ []) in elim [
+          | the_either.Left a1 ↦ λ fits. lowers_then s _ _ (λ m. (w : _)
+              → (⟦<Either<u8> as Deserialize<'de, R>>⟧.reads s.human R.lends) m w
               → (b1 : _) × (w ≡ the_either.Left b1) × ⟦<u8 as RoundTrip<'de, R>>⟧.same a1 b1)
-              (newtype_variant_row s (codes "Left" ∷ (codes "Right" ∷ [])) (codes "Left") 0 refl
+              (newtype_variant_row s names (codes "Left") 0 refl
               (AtPlace 0 (Content (λ j. Only (⟦<u8 as Deserialize<'de, R>>⟧.reads s.human R.lends) ⟦<u8 as RoundTrip<'de, R>>⟧.same j a1))) _
               (λ j. Only (⟦<u8 as Deserialize<'de, R>>⟧.reads s.human R.lends) ⟦<u8 as RoundTrip<'de, R>>⟧.same j a1) (λ m h. (refl, h)) (byte_only s a1))
-              (λ m q w r. variant_both (codes "Left" ∷ (codes "Right" ∷ [])) 0 _ _ _ m q r
-              (λ c a b. (b.0, b.1, content_only (⟦<u8 as Deserialize<'de, R>>⟧.reads s.human R.lends) ⟦<u8 as RoundTrip<'de, R>>⟧.same a1 b.0 c a b.2)))
-          | the_either.Right a1 a2 ↦ λ fits. lowers_then s _ _ (λ m. (w : _) → (⟦<Either<u8> as Deserialize<'de, R>>⟧.reads s.human R.lends) m w
+              (λ m q w r. variant_both names 0 _ _ _ m q r (λ c a b.
+              (b.0, b.1, content_only (⟦<u8 as Deserialize<'de, R>>⟧.reads s.human R.lends) ⟦<u8 as RoundTrip<'de, R>>⟧.same a1 b.0 c a b.2)))
+          | the_either.Right
+              a1 a2 ↦ λ fits. lowers_then s _ _ (λ m. (w : _) → (⟦<Either<u8> as Deserialize<'de, R>>⟧.reads s.human R.lends) m w
               → (b1 : _) × (b2 : _) × (w ≡ the_either.Right b1 b2) × ⟦<i32 as RoundTrip<'de, R>>⟧.same a1 b1
               × ⟦<Option<Pair<u8>> as RoundTrip<'de, R>>⟧.same a2 b2)
-              (struct_variant_row s (codes "Left" ∷ (codes "Right" ∷ [])) (codes "Right") 1 refl
+              (struct_variant_row s names (codes "Right") 1 refl
               (AtPlace 1 (Content (OfFields (codes "by" ∷ (codes "pair" ∷ []))
               (Field (λ j. Only (⟦<i32 as Deserialize<'de, R>>⟧.reads s.human R.lends) ⟦<i32 as RoundTrip<'de, R>>⟧.same j a1) ⊥
               (Field (λ j. Only (⟦<Option<Pair<u8>> as Deserialize<'de, R>>⟧.reads s.human R.lends) ⟦<Option<Pair<u8>> as RoundTrip<'de, R>>⟧.same j a2) ⊥
@@ -948,8 +953,7 @@ impl<'de, R: ReadSlice<'de>> RoundTrip<'de, R> for Chosen {
               (byte_only s x1.1) (rows_none s)))) (λ m q w r. row_both _ _ _ m q r
               (item_only (⟦<u8 as Deserialize<'de, R>>⟧.reads s.human R.lends) ⟦<u8 as RoundTrip<'de, R>>⟧.same x1.0 w.0 _ _ _
               (last_only (⟦<u8 as Deserialize<'de, R>>⟧.reads s.human R.lends) ⟦<u8 as RoundTrip<'de, R>>⟧.same x1.1 w.1))))) a2 fits.1)) (fields_none s))))
-              (λ m q w r. variant_both (codes "Left" ∷ (codes "Right" ∷ [])) 1 _ _ _ m q r
-              (λ c a b. content_fields (codes "by" ∷ (codes "pair" ∷ [])) _ _ _ c a b.3
+              (λ m q w r. variant_both names 1 _ _ _ m q r (λ c a b. content_fields (codes "by" ∷ (codes "pair" ∷ [])) _ _ _ c a b.3
               (λ ks i j. let x = field_only (⟦<i32 as Deserialize<'de, R>>⟧.reads s.human R.lends) ⟦<i32 as RoundTrip<'de, R>>⟧.same a1 b.0 _ _ _ _
               (last_field (⟦<Option<Pair<u8>> as Deserialize<'de, R>>⟧.reads s.human R.lends) ⟦<Option<Pair<u8>> as RoundTrip<'de, R>>⟧.same a2 b.1 _) ks i j
               in (b.0, b.1, b.2, x.0, x.1))))
@@ -1062,12 +1066,14 @@ impl<'de, R: ReadSlice<'de>> RoundTrip<'de, R> for Guests {
         (Absent ⟦<u64 as Deserialize<'de, R>>⟧.absent v.counted.count) _ (unsigned_row_64 s v.counted.count fits.0.1) (fields_none s))))
         (fields_cons s (codes "mixed") _ _ _ (λ j. ⟦<Mixed<bool> as Deserialize<'de, R>>⟧.reads s.human R.lends j v.mixed)
         (Absent ⟦<Mixed<bool> as Deserialize<'de, R>>⟧.absent v.mixed) _ (let law : (x : _) → ⟦<Mixed<bool> as Serialize>⟧.is_value x
-        → LowersTo s (⟦<Mixed<bool> as Serialize>⟧.data_of x s.human) (λ m. ⟦<Mixed<bool> as Deserialize<'de, R>>⟧.reads s.human R.lends m x) = elim [
-          | the_mixed.Other a1 ↦ λ fits. newtype_variant_row s (codes "Other" ∷ (codes "Kept" ∷ [])) (codes "Other") 0 refl _ _
+        → LowersTo s (⟦<Mixed<bool> as Serialize>⟧.data_of x s.human)
+        (λ m. ⟦<Mixed<bool> as Deserialize<'de, R>>⟧.reads s.human R.lends m x) = let names = codes "Other" ∷ (codes "Kept" ∷ [])
+        in elim [
+          | the_mixed.Other a1 ↦ λ fits. newtype_variant_row s names (codes "Other") 0 refl _ _
               (λ j. ⟦<bool as Deserialize<'de, R>>⟧.reads s.human R.lends j a1) (λ m h. (a1, refl, h)) (truth_row s a1)
           | the_mixed.Kept a1 a2 ↦ λ fits.
-              struct_variant_row s (codes "Other" ∷ (codes "Kept" ∷ [])) (codes "Kept") 1 refl _ (codes "four" ∷ (codes "dog" ∷ [])) _ _ refl
-              (λ m h. (a1, a2, refl, h)) (fields_cons s (codes "four") _ _ _ (λ j. ⟦<Option<Four> as Deserialize<'de, R>>⟧.reads s.human R.lends j a1)
+              struct_variant_row s names (codes "Kept") 1 refl _ (codes "four" ∷ (codes "dog" ∷ [])) _ _ refl (λ m h. (a1, a2, refl, h))
+              (fields_cons s (codes "four") _ _ _ (λ j. ⟦<Option<Four> as Deserialize<'de, R>>⟧.reads s.human R.lends j a1)
               (Absent ⟦<Option<Four> as Deserialize<'de, R>>⟧.absent a1) _
               (option_row s (λ x. ⟦<Four as Serialize>⟧.data_of x s.human) ⟦<Four as Serialize>⟧.is_value (⟦<Four as Deserialize<'de, R>>⟧.reads s.human R.lends)
               (λ x8. four_other.never_nil-law s x8) (λ x7 h7. (four_rounds.round-law R.row R.ReadSlice.own (given 0) R.Source (given 0) (λ e. cc) s x7 h7)) a1
@@ -1096,18 +1102,20 @@ impl<'de, R: ReadSlice<'de>> RoundTrip<'de, R> for Guests {
         (fields_cons s (codes "mixed") _ _ _ (λ j. Only (⟦<Mixed<bool> as Deserialize<'de, R>>⟧.reads s.human R.lends)
         ⟦<Mixed<bool> as RoundTrip<'de, R>>⟧.same j v.mixed) ⊥ _ (let law : (x : _) → ⟦<Mixed<bool> as Serialize>⟧.is_value x
         → LowersTo s (⟦<Mixed<bool> as Serialize>⟧.data_of x s.human)
-        (λ m. (Only (⟦<Mixed<bool> as Deserialize<'de, R>>⟧.reads s.human R.lends) ⟦<Mixed<bool> as RoundTrip<'de, R>>⟧.same) m x) = elim [
-          | the_mixed.Other a1 ↦ λ fits. lowers_then s _ _ (λ m. (w : _) → (⟦<Mixed<bool> as Deserialize<'de, R>>⟧.reads s.human R.lends) m w
+        (λ m. (Only (⟦<Mixed<bool> as Deserialize<'de, R>>⟧.reads s.human R.lends) ⟦<Mixed<bool> as RoundTrip<'de, R>>⟧.same) m x) = let names = codes
+        "Other" ∷ (codes "Kept" ∷ []) in elim [
+          | the_mixed.Other a1 ↦ λ fits. lowers_then s _ _ (λ m. (w : _)
+              → (⟦<Mixed<bool> as Deserialize<'de, R>>⟧.reads s.human R.lends) m w
               → (b1 : _) × (w ≡ the_mixed.Other b1) × ⟦<bool as RoundTrip<'de, R>>⟧.same a1 b1)
-              (newtype_variant_row s (codes "Other" ∷ (codes "Kept" ∷ [])) (codes "Other") 0 refl
+              (newtype_variant_row s names (codes "Other") 0 refl
               (AtPlace 0 (Content (λ j. Only (⟦<bool as Deserialize<'de, R>>⟧.reads s.human R.lends) ⟦<bool as RoundTrip<'de, R>>⟧.same j a1))) _
               (λ j. Only (⟦<bool as Deserialize<'de, R>>⟧.reads s.human R.lends) ⟦<bool as RoundTrip<'de, R>>⟧.same j a1) (λ m h. (refl, h)) (truth_only s a1))
-              (λ m q w r. variant_both (codes "Other" ∷ (codes "Kept" ∷ [])) 0 _ _ _ m q r
-              (λ c a b. (b.0, b.1, content_only (⟦<bool as Deserialize<'de, R>>⟧.reads s.human R.lends) ⟦<bool as RoundTrip<'de, R>>⟧.same a1 b.0 c a b.2)))
+              (λ m q w r. variant_both names 0 _ _ _ m q r (λ c a b.
+              (b.0, b.1, content_only (⟦<bool as Deserialize<'de, R>>⟧.reads s.human R.lends) ⟦<bool as RoundTrip<'de, R>>⟧.same a1 b.0 c a b.2)))
           | the_mixed.Kept a1 a2 ↦ λ fits. lowers_then s _ _ (λ m. (w : _) → (⟦<Mixed<bool> as Deserialize<'de, R>>⟧.reads s.human R.lends) m w
               → (b1 : _) × (b2 : _) × (w ≡ the_mixed.Kept b1 b2) × ⟦<Option<Four> as RoundTrip<'de, R>>⟧.same a1 b1 × ⟦<Dog as RoundTrip<'de, R>>⟧.same a2 b2)
-              (struct_variant_row s (codes "Other" ∷ (codes "Kept" ∷ [])) (codes "Kept") 1 refl
-              (AtPlace 1 (Content (OfFields (codes "four" ∷ (codes "dog" ∷ []))
+              (struct_variant_row s names (codes "Kept") 1 refl (AtPlace 1
+              (Content (OfFields (codes "four" ∷ (codes "dog" ∷ []))
               (Field (λ j. Only (⟦<Option<Four> as Deserialize<'de, R>>⟧.reads s.human R.lends) ⟦<Option<Four> as RoundTrip<'de, R>>⟧.same j a1) ⊥
               (Field (λ j. Only (⟦<Dog as Deserialize<'de, R>>⟧.reads s.human R.lends) ⟦<Dog as RoundTrip<'de, R>>⟧.same j a2) ⊥ NoField)))))
               (codes "four" ∷ (codes "dog" ∷ [])) _ _ refl (λ m h. (refl, h))
@@ -1119,8 +1127,7 @@ impl<'de, R: ReadSlice<'de>> RoundTrip<'de, R> for Guests {
               (λ x1 h1. (four_rounds.only-law R.row R.ReadSlice.own (given 0) R.Source (given 0) s x1 h1)) a1 fits.0))
               (fields_cons s (codes "dog") _ _ _ (λ j. Only (⟦<Dog as Deserialize<'de, R>>⟧.reads s.human R.lends) ⟦<Dog as RoundTrip<'de, R>>⟧.same j a2) ⊥ _
               (dog_rounds.only-law R.row R.ReadSlice.own (given 0) R.Source (given 0) s a2 fits.1) (fields_none s))))
-              (λ m q w r. variant_both (codes "Other" ∷ (codes "Kept" ∷ [])) 1 _ _ _ m q r
-              (λ c a b. content_fields (codes "four" ∷ (codes "dog" ∷ [])) _ _ _ c a b.3
+              (λ m q w r. variant_both names 1 _ _ _ m q r (λ c a b. content_fields (codes "four" ∷ (codes "dog" ∷ [])) _ _ _ c a b.3
               (λ ks i j. let x = field_only (⟦<Option<Four> as Deserialize<'de, R>>⟧.reads s.human R.lends) ⟦<Option<Four> as RoundTrip<'de, R>>⟧.same a1 b.0 _ _
               _ _ (last_field (⟦<Dog as Deserialize<'de, R>>⟧.reads s.human R.lends) ⟦<Dog as RoundTrip<'de, R>>⟧.same a2 b.1 _) ks i j
               in (b.0, b.1, b.2, x.0, x.1))))

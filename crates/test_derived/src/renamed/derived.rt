@@ -248,19 +248,19 @@ impl<'de, R: ReadSlice<'de>> RoundTrip<'de, R> for Way {
       | the_way.AcrossTheSea a1 ↦ newtype_variant_some (codes "sea") (⟦<u16 as Serialize>⟧.data_of a1 human) refl
     ] };
 
-    ghost round = { λ lent s. elim [
-      | the_way.ByAir ↦ λ fits. bare_row s (codes "by-air" ∷ (codes "over-land" ∷ (codes "sea" ∷ []))) (codes "by-air") 0 refl
-          _ (refl, tt)
-      | the_way.OverLand a1 a2 ↦ λ fits. struct_variant_row s (codes "by-air" ∷ (codes "over-land" ∷ (codes "sea" ∷ []))) (codes "over-land")
-          1 refl _ (codes "daysLeft" ∷ (codes "by" ∷ [])) _ _ refl (λ m h. (a1, a2, refl, h))
-          (fields_cons s (codes "daysLeft") _ _ _ (λ j. ⟦<u8 as Deserialize<'de, R>>⟧.reads s.human R.lends j a1)
-          (Absent ⟦<u8 as Deserialize<'de, R>>⟧.absent a1) _ (byte_row s a1 fits.0)
-          (fields_cons s (codes "by") _ _ _ (λ j. ⟦<String as Deserialize<'de, R>>⟧.reads s.human R.lends j a2)
-          (Absent ⟦<String as Deserialize<'de, R>>⟧.absent a2) _ (string_row s (string_bytes a2)) (fields_none s)))
-      | the_way.AcrossTheSea a1 ↦ λ fits.
-          newtype_variant_row s (codes "by-air" ∷ (codes "over-land" ∷ (codes "sea" ∷ []))) (codes "sea") 2 refl _ _
-          (λ j. ⟦<u16 as Deserialize<'de, R>>⟧.reads s.human R.lends j a1) (λ m h. (a1, refl, h)) (unsigned_row_16 s a1 fits)
-    ] };
+    ghost round = { λ lent s. let names = codes "by-air" ∷ (codes "over-land" ∷ (codes "sea" ∷ []))
+        in elim [
+          | the_way.ByAir ↦ λ fits. bare_row s names (codes "by-air") 0 refl _ (refl, tt)
+          | the_way.OverLand a1 a2 ↦ λ fits. struct_variant_row s
+              names (codes "over-land") 1 refl _ (codes "daysLeft" ∷ (codes "by" ∷ [])) _ _ refl (λ m h. (a1, a2, refl, h))
+              (fields_cons s (codes "daysLeft") _ _ _ (λ j. ⟦<u8 as Deserialize<'de, R>>⟧.reads s.human R.lends j a1)
+              (Absent ⟦<u8 as Deserialize<'de, R>>⟧.absent a1) _ (byte_row s a1 fits.0)
+              (fields_cons s (codes "by") _ _ _ (λ j. ⟦<String as Deserialize<'de, R>>⟧.reads s.human R.lends j a2)
+              (Absent ⟦<String as Deserialize<'de, R>>⟧.absent a2) _ (string_row s (string_bytes a2)) (fields_none s)))
+          | the_way.AcrossTheSea a1 ↦ λ fits.
+              newtype_variant_row s names (codes "sea") 2 refl _ _ (λ j. ⟦<u16 as Deserialize<'de, R>>⟧.reads s.human R.lends j a1) (λ m h. (a1, refl, h))
+              (unsigned_row_16 s a1 fits)
+        ] };
 
     ghost same = { λ v w. elim v [
       | the_way.ByAir ↦ (w ≡ the_way.ByAir)
@@ -270,37 +270,37 @@ impl<'de, R: ReadSlice<'de>> RoundTrip<'de, R> for Way {
           × (w ≡ the_way.AcrossTheSea b1) × ⟦<u16 as RoundTrip<'de, R>>⟧.same a1 b1
     ] };
 
-    ghost only = { λ s. elim [
-      | the_way.ByAir ↦ λ fits. lowers_then s (Some (unit_variant (codes "by-air")))
-          (OfVariant (codes "by-air" ∷ (codes "over-land" ∷ (codes "sea" ∷ []))) (AtPlace 0 AnyContent)) (λ m. (w : _)
-          → (⟦<Way as Deserialize<'de, R>>⟧.reads s.human R.lends) m w
-          → (w ≡ the_way.ByAir)) (bare_row s (codes "by-air" ∷ (codes "over-land" ∷ (codes "sea" ∷ []))) (codes "by-air") 0 refl (AtPlace 0 AnyContent)
-          (refl, tt)) (λ m q w r. variant_both (codes "by-air" ∷ (codes "over-land" ∷ (codes "sea" ∷ []))) 0 AnyContent _ _ m q r (λ c a b. b.0))
-      | the_way.OverLand a1 a2 ↦ λ fits. lowers_then s _ _ (λ m. (w : _) → (⟦<Way as Deserialize<'de, R>>⟧.reads s.human R.lends) m w
-          → (b1 : _) × (b2 : _) × (w ≡ the_way.OverLand b1 b2) × ⟦<u8 as RoundTrip<'de, R>>⟧.same a1 b1 × ⟦<String as RoundTrip<'de, R>>⟧.same a2 b2)
-          (struct_variant_row s (codes "by-air" ∷ (codes "over-land" ∷ (codes "sea" ∷ []))) (codes "over-land") 1 refl
-          (AtPlace 1 (Content (OfFields (codes "daysLeft" ∷ (codes "by" ∷ []))
-          (Field (λ j. Only (⟦<u8 as Deserialize<'de, R>>⟧.reads s.human R.lends) ⟦<u8 as RoundTrip<'de, R>>⟧.same j a1) ⊥
-          (Field (λ j. Only (⟦<String as Deserialize<'de, R>>⟧.reads s.human R.lends) ⟦<String as RoundTrip<'de, R>>⟧.same j a2) ⊥ NoField)))))
-          (codes "daysLeft" ∷ (codes "by" ∷ [])) _ _ refl (λ m h. (refl, h))
-          (fields_cons s (codes "daysLeft") _ _ _ (λ j. Only (⟦<u8 as Deserialize<'de, R>>⟧.reads s.human R.lends) ⟦<u8 as RoundTrip<'de, R>>⟧.same j a1) ⊥ _
-          (byte_only s a1) (fields_cons s (codes "by") _ _ _
-          (λ j. Only (⟦<String as Deserialize<'de, R>>⟧.reads s.human R.lends) ⟦<String as RoundTrip<'de, R>>⟧.same j a2) ⊥ _
-          (string_only s (λ w. string_bytes w) (string_bytes a2)) (fields_none s))))
-          (λ m q w r. variant_both (codes "by-air" ∷ (codes "over-land" ∷ (codes "sea" ∷ []))) 1 _ _ _ m q r
-          (λ c a b. content_fields (codes "daysLeft" ∷ (codes "by" ∷ [])) _ _ _ c a b.3
-          (λ ks i j. let x = field_only (⟦<u8 as Deserialize<'de, R>>⟧.reads s.human R.lends) ⟦<u8 as RoundTrip<'de, R>>⟧.same a1 b.0 _ _ _ _
-          (last_field (⟦<String as Deserialize<'de, R>>⟧.reads s.human R.lends) ⟦<String as RoundTrip<'de, R>>⟧.same a2 b.1 _) ks i j
-          in (b.0, b.1, b.2, x.0, x.1))))
-      | the_way.AcrossTheSea a1 ↦ λ fits. lowers_then s _ _ (λ m. (w : _)
-          → (⟦<Way as Deserialize<'de, R>>⟧.reads s.human R.lends) m w
-          → (b1 : _) × (w ≡ the_way.AcrossTheSea b1) × ⟦<u16 as RoundTrip<'de, R>>⟧.same a1 b1)
-          (newtype_variant_row s (codes "by-air" ∷ (codes "over-land" ∷ (codes "sea" ∷ []))) (codes "sea") 2 refl
-          (AtPlace 2 (Content (λ j. Only (⟦<u16 as Deserialize<'de, R>>⟧.reads s.human R.lends) ⟦<u16 as RoundTrip<'de, R>>⟧.same j a1))) _
-          (λ j. Only (⟦<u16 as Deserialize<'de, R>>⟧.reads s.human R.lends) ⟦<u16 as RoundTrip<'de, R>>⟧.same j a1) (λ m h. (refl, h))
-          (unsigned_only s 65535 a1)) (λ m q w r. variant_both (codes "by-air" ∷ (codes "over-land" ∷ (codes "sea" ∷ []))) 2 _ _ _ m q r
-          (λ c a b. (b.0, b.1, content_only (⟦<u16 as Deserialize<'de, R>>⟧.reads s.human R.lends) ⟦<u16 as RoundTrip<'de, R>>⟧.same a1 b.0 c a b.2)))
-    ] };
+    ghost only = { λ s. let names = codes "by-air" ∷ (codes "over-land" ∷ (codes "sea" ∷ []))
+        in elim [
+          | the_way.ByAir ↦ λ fits. lowers_then s (Some (unit_variant (codes "by-air"))) (OfVariant names (AtPlace 0 AnyContent)) (λ m. (w : _)
+              → (⟦<Way as Deserialize<'de, R>>⟧.reads s.human R.lends) m w
+              → (w ≡ the_way.ByAir)) (bare_row s names (codes "by-air") 0 refl (AtPlace 0 AnyContent) (refl, tt))
+              (λ m q w r. variant_both names 0 AnyContent _ _ m q r (λ c a b. b.0))
+          | the_way.OverLand a1 a2 ↦ λ fits. lowers_then s _ _ (λ m. (w : _)
+              → (⟦<Way as Deserialize<'de, R>>⟧.reads s.human R.lends) m w
+              → (b1 : _) × (b2 : _) × (w ≡ the_way.OverLand b1 b2) × ⟦<u8 as RoundTrip<'de, R>>⟧.same a1 b1 × ⟦<String as RoundTrip<'de, R>>⟧.same a2 b2)
+              (struct_variant_row s names (codes "over-land") 1 refl
+              (AtPlace 1 (Content (OfFields (codes "daysLeft" ∷ (codes "by" ∷ []))
+              (Field (λ j. Only (⟦<u8 as Deserialize<'de, R>>⟧.reads s.human R.lends) ⟦<u8 as RoundTrip<'de, R>>⟧.same j a1) ⊥
+              (Field (λ j. Only (⟦<String as Deserialize<'de, R>>⟧.reads s.human R.lends) ⟦<String as RoundTrip<'de, R>>⟧.same j a2) ⊥ NoField)))))
+              (codes "daysLeft" ∷ (codes "by" ∷ [])) _ _ refl (λ m h. (refl, h))
+              (fields_cons s (codes "daysLeft") _ _ _ (λ j. Only (⟦<u8 as Deserialize<'de, R>>⟧.reads s.human R.lends) ⟦<u8 as RoundTrip<'de, R>>⟧.same j a1) ⊥ _
+              (byte_only s a1) (fields_cons s (codes "by") _ _ _
+              (λ j. Only (⟦<String as Deserialize<'de, R>>⟧.reads s.human R.lends) ⟦<String as RoundTrip<'de, R>>⟧.same j a2) ⊥ _
+              (string_only s (λ w. string_bytes w) (string_bytes a2)) (fields_none s))))
+              (λ m q w r. variant_both names 1 _ _ _ m q r (λ c a b. content_fields (codes "daysLeft" ∷ (codes "by" ∷ [])) _ _ _ c a b.3
+              (λ ks i j. let x = field_only (⟦<u8 as Deserialize<'de, R>>⟧.reads s.human R.lends) ⟦<u8 as RoundTrip<'de, R>>⟧.same a1 b.0 _ _ _ _
+              (last_field (⟦<String as Deserialize<'de, R>>⟧.reads s.human R.lends) ⟦<String as RoundTrip<'de, R>>⟧.same a2 b.1 _) ks i j
+              in (b.0, b.1, b.2, x.0, x.1))))
+          | the_way.AcrossTheSea a1 ↦ λ fits. lowers_then s _ _ (λ m. (w : _)
+              → (⟦<Way as Deserialize<'de, R>>⟧.reads s.human R.lends) m w
+              → (b1 : _) × (w ≡ the_way.AcrossTheSea b1) × ⟦<u16 as RoundTrip<'de, R>>⟧.same a1 b1)
+              (newtype_variant_row s names (codes "sea") 2 refl (AtPlace 2
+              (Content (λ j. Only (⟦<u16 as Deserialize<'de, R>>⟧.reads s.human R.lends) ⟦<u16 as RoundTrip<'de, R>>⟧.same j a1))) _
+              (λ j. Only (⟦<u16 as Deserialize<'de, R>>⟧.reads s.human R.lends) ⟦<u16 as RoundTrip<'de, R>>⟧.same j a1) (λ m h. (refl, h))
+              (unsigned_only s 65535 a1)) (λ m q w r. variant_both names 2 _ _ _ m q r
+              (λ c a b. (b.0, b.1, content_only (⟦<u16 as Deserialize<'de, R>>⟧.reads s.human R.lends) ⟦<u16 as RoundTrip<'de, R>>⟧.same a1 b.0 c a b.2)))
+        ] };
 }
 
 impl NeverNil for Way {

@@ -556,29 +556,27 @@ impl<'de, R: ReadSlice<'de>, T: RoundTrip<'de, R>> RoundTrip<'de, R> for Event<'
       | the_event.Held a1 ↦ newtype_variant_some (codes "Held") (T.data_of a1 human) (T.has_data human a1)
     ] };
 
-    ghost round = { λ lent s. elim [
-      | the_event.Started ↦ λ fits. bare_row s
-          (codes "Started" ∷ (codes "Said" ∷ (codes "Moved" ∷ (codes "Put" ∷ (codes "Held" ∷ []))))) (codes "Started") 0 refl _ (refl, tt)
-      | the_event.Said a1
-          ↦ λ fits. newtype_variant_row s (codes "Started" ∷ (codes "Said" ∷ (codes "Moved" ∷ (codes "Put" ∷ (codes "Held" ∷ []))))) (codes "Said") 1 refl _ _
-          (λ j. ⟦<&'de str as Deserialize<'de, R>>⟧.reads s.human R.lends j a1) (λ m h. (a1, refl, h)) (str_row s a1.now _ (lent refl) fits)
-      | the_event.Moved
-          a1 a2 ↦ λ fits. tuple_variant_row s (codes "Started" ∷ (codes "Said" ∷ (codes "Moved" ∷ (codes "Put" ∷ (codes "Held" ∷ []))))) (codes "Moved") 2
-          refl _ _ _ (λ m h. (a1, a2, refl, h)) (rows_cons s _ _ (λ j. ⟦<i16 as Deserialize<'de, R>>⟧.reads s.human R.lends j a1) _
-          (signed_row_16 s a1 fits.0) (rows_cons s _ _ (λ j. ⟦<Label<'de> as Deserialize<'de, R>>⟧.reads s.human R.lends j a2) _
-          (newtype_row s (⟦<&'de str as Serialize>⟧.data_of a2.0 s.human) (λ j. ⟦<&'de str as Deserialize<'de, R>>⟧.reads s.human R.lends j a2.0)
-          (str_row s a2.0.now _ (lent refl) fits.1)) (rows_none s)))
-      | the_event.Put a1 a2 ↦ λ fits. struct_variant_row s
-          (codes "Started" ∷ (codes "Said" ∷ (codes "Moved" ∷ (codes "Put" ∷ (codes "Held" ∷ []))))) (codes "Put") 3 refl _
-          (codes "key" ∷ (codes "size" ∷ [])) _ _ refl (λ m h. (a1, a2, refl, h))
-          (fields_cons s (codes "key") _ _ _ (λ j. ⟦<&'de str as Deserialize<'de, R>>⟧.reads s.human R.lends j a1)
-          (Absent ⟦<&'de str as Deserialize<'de, R>>⟧.absent a1) _ (str_row s a1.now _ (lent refl) fits.0)
-          (fields_cons s (codes "size") _ _ _ (λ j. ⟦<u32 as Deserialize<'de, R>>⟧.reads s.human R.lends j a2)
-          (Absent ⟦<u32 as Deserialize<'de, R>>⟧.absent a2) _ (unsigned_row_32 s a2 fits.1) (fields_none s)))
-      | the_event.Held a1 ↦ λ fits.
-          newtype_variant_row s (codes "Started" ∷ (codes "Said" ∷ (codes "Moved" ∷ (codes "Put" ∷ (codes "Held" ∷ []))))) (codes "Held") 4 refl _ _
-          (λ j. T.reads s.human R.lends j a1) (λ m h. (a1, refl, h)) (T.round (λ _. lent refl) s a1 fits)
-    ] };
+    ghost round = { λ lent s. let names = codes "Started" ∷ (codes "Said" ∷ (codes "Moved" ∷ (codes "Put" ∷ (codes "Held" ∷ []))))
+        in elim [
+          | the_event.Started ↦ λ fits. bare_row s names (codes "Started") 0 refl _ (refl, tt)
+          | the_event.Said a1 ↦ λ fits. newtype_variant_row s
+              names (codes "Said") 1 refl _ _ (λ j. ⟦<&'de str as Deserialize<'de, R>>⟧.reads s.human R.lends j a1) (λ m h. (a1, refl, h))
+              (str_row s a1.now _ (lent refl) fits)
+          | the_event.Moved a1 a2 ↦ λ fits. tuple_variant_row s names (codes "Moved") 2 refl _ _ _
+              (λ m h. (a1, a2, refl, h)) (rows_cons s _ _ (λ j. ⟦<i16 as Deserialize<'de, R>>⟧.reads s.human R.lends j a1) _ (signed_row_16 s a1 fits.0)
+              (rows_cons s _ _ (λ j. ⟦<Label<'de> as Deserialize<'de, R>>⟧.reads s.human R.lends j a2) _
+              (newtype_row s (⟦<&'de str as Serialize>⟧.data_of a2.0 s.human) (λ j. ⟦<&'de str as Deserialize<'de, R>>⟧.reads s.human R.lends j a2.0)
+              (str_row s a2.0.now _ (lent refl) fits.1)) (rows_none s)))
+          | the_event.Put a1 a2 ↦ λ fits. struct_variant_row s names (codes "Put") 3 refl _
+              (codes "key" ∷ (codes "size" ∷ [])) _ _ refl (λ m h. (a1, a2, refl, h))
+              (fields_cons s (codes "key") _ _ _ (λ j. ⟦<&'de str as Deserialize<'de, R>>⟧.reads s.human R.lends j a1)
+              (Absent ⟦<&'de str as Deserialize<'de, R>>⟧.absent a1) _ (str_row s a1.now _ (lent refl) fits.0)
+              (fields_cons s (codes "size") _ _ _ (λ j. ⟦<u32 as Deserialize<'de, R>>⟧.reads s.human R.lends j a2)
+              (Absent ⟦<u32 as Deserialize<'de, R>>⟧.absent a2) _ (unsigned_row_32 s a2 fits.1) (fields_none s)))
+          | the_event.Held a1 ↦ λ fits.
+              newtype_variant_row s names (codes "Held") 4 refl _ _ (λ j. T.reads s.human R.lends j a1) (λ m h. (a1, refl, h))
+              (T.round (λ _. lent refl) s a1 fits)
+        ] };
 
     ghost same = { λ v w. elim v [
       | the_event.Started ↦ (w ≡ the_event.Started)
@@ -592,70 +590,67 @@ impl<'de, R: ReadSlice<'de>, T: RoundTrip<'de, R>> RoundTrip<'de, R> for Event<'
           × (w ≡ the_event.Held b1) × T.same a1 b1
     ] };
 
-    ghost only = { λ s. elim [
-      | the_event.Started ↦ λ fits. lowers_then s (Some (unit_variant (codes "Started")))
-          (OfVariant (codes "Started" ∷ (codes "Said" ∷ (codes "Moved" ∷ (codes "Put" ∷ (codes "Held" ∷ []))))) (AtPlace 0 AnyContent)) (λ m. (w : _)
-          → (⟦<Event<'de, T> as Deserialize<'de, R>>⟧.reads s.human R.lends) m w
-          → (w ≡ the_event.Started)) (bare_row s (codes "Started" ∷ (codes "Said" ∷ (codes "Moved" ∷ (codes "Put" ∷ (codes "Held" ∷ []))))) (codes "Started")
-          0 refl (AtPlace 0 AnyContent) (refl, tt)) (λ m q w r. variant_both
-          (codes "Started" ∷ (codes "Said" ∷ (codes "Moved" ∷ (codes "Put" ∷ (codes "Held" ∷ []))))) 0 AnyContent _ _ m q r (λ c a b. b.0))
-      | the_event.Said
-          a1 ↦ λ fits. lowers_then s _ _ (λ m. (w : _) → (⟦<Event<'de, T> as Deserialize<'de, R>>⟧.reads s.human R.lends) m w
-          → (b1 : _) × (w ≡ the_event.Said b1) × ⟦<&'de str as RoundTrip<'de, R>>⟧.same a1 b1)
-          (newtype_variant_row s (codes "Started" ∷ (codes "Said" ∷ (codes "Moved" ∷ (codes "Put" ∷ (codes "Held" ∷ []))))) (codes "Said") 1 refl
-          (AtPlace 1 (Content (λ j. Only (⟦<&'de str as Deserialize<'de, R>>⟧.reads s.human R.lends) ⟦<&'de str as RoundTrip<'de, R>>⟧.same j a1))) _
-          (λ j. Only (⟦<&'de str as Deserialize<'de, R>>⟧.reads s.human R.lends) ⟦<&'de str as RoundTrip<'de, R>>⟧.same j a1) (λ m h. (refl, h))
-          (str_only s (λ w. w.now) a1.now R.lends)) (λ m q w r. variant_both
-          (codes "Started" ∷ (codes "Said" ∷ (codes "Moved" ∷ (codes "Put" ∷ (codes "Held" ∷ []))))) 1 _ _ _ m q r
-          (λ c a b. (
-            b.0,
-            b.1,
-            content_only (⟦<&'de str as Deserialize<'de, R>>⟧.reads s.human R.lends) ⟦<&'de str as RoundTrip<'de, R>>⟧.same a1 b.0 c a
-                b.2,
-          )))
-      | the_event.Moved a1 a2 ↦ λ fits. lowers_then s _ _ (λ m. (w : _) → (⟦<Event<'de, T> as Deserialize<'de, R>>⟧.reads s.human R.lends) m w
-          → (b1 : _) × (b2 : _) × (w ≡ the_event.Moved b1 b2) × ⟦<i16 as RoundTrip<'de, R>>⟧.same a1 b1 × ⟦<Label<'de> as RoundTrip<'de, R>>⟧.same a2 b2)
-          (tuple_variant_row s (codes "Started" ∷ (codes "Said" ∷ (codes "Moved" ∷ (codes "Put" ∷ (codes "Held" ∷ []))))) (codes "Moved") 2 refl
-          (AtPlace 2 (Content (OfRow (AndThen (λ j. Only (⟦<i16 as Deserialize<'de, R>>⟧.reads s.human R.lends) ⟦<i16 as RoundTrip<'de, R>>⟧.same j a1)
-          (AndThen (λ j. Only (⟦<Label<'de> as Deserialize<'de, R>>⟧.reads s.human R.lends) ⟦<Label<'de> as RoundTrip<'de, R>>⟧.same j a2) NoMore))))) _ _
-          (λ m h. (refl, h)) (rows_cons s _ _ (λ j. Only (⟦<i16 as Deserialize<'de, R>>⟧.reads s.human R.lends) ⟦<i16 as RoundTrip<'de, R>>⟧.same j a1) _
-          (signed_only s (negsuc 32767) (pos 32767) a1) (rows_cons s _ _
-          (λ j. Only (⟦<Label<'de> as Deserialize<'de, R>>⟧.reads s.human R.lends) ⟦<Label<'de> as RoundTrip<'de, R>>⟧.same j a2) _
-          (lowers_then s (wrapped_of (⟦<&'de str as Serialize>⟧.data_of a2.0 s.human))
-          (λ j. Only (⟦<&'de str as Deserialize<'de, R>>⟧.reads s.human R.lends) ⟦<&'de str as RoundTrip<'de, R>>⟧.same j a2.0) (λ m. (w : _)
-          → (⟦<Label<'de> as Deserialize<'de, R>>⟧.reads s.human R.lends) m w
-          → ⟦<&'de str as RoundTrip<'de, R>>⟧.same a2.0 w.0)
-          (newtype_row s (⟦<&'de str as Serialize>⟧.data_of a2.0 s.human)
-          (λ j. Only (⟦<&'de str as Deserialize<'de, R>>⟧.reads s.human R.lends) ⟦<&'de str as RoundTrip<'de, R>>⟧.same j a2.0)
-          (str_only s (λ w. w.now) a2.0.now R.lends)) (λ m q w r. q w.0 r)) (rows_none s))))
-          (λ m q w r. variant_both (codes "Started" ∷ (codes "Said" ∷ (codes "Moved" ∷ (codes "Put" ∷ (codes "Held" ∷ []))))) 2 _ _ _ m q r
-          (λ c a b. content_row _ _ _ c a b.3 (λ ks i j. let x = item_only (⟦<i16 as Deserialize<'de, R>>⟧.reads s.human R.lends)
-          ⟦<i16 as RoundTrip<'de, R>>⟧.same a1 b.0 _ _ _ (last_only (⟦<Label<'de> as Deserialize<'de, R>>⟧.reads s.human R.lends)
-          ⟦<Label<'de> as RoundTrip<'de, R>>⟧.same a2 b.1) ks i j in (b.0, b.1, b.2, x.0, x.1))))
-      | the_event.Put a1 a2 ↦ λ fits. lowers_then s _ _
-          (λ m. (w : _) → (⟦<Event<'de, T> as Deserialize<'de, R>>⟧.reads s.human R.lends) m w
-          → (b1 : _) × (b2 : _) × (w ≡ the_event.Put b1 b2) × ⟦<&'de str as RoundTrip<'de, R>>⟧.same a1 b1 × ⟦<u32 as RoundTrip<'de, R>>⟧.same a2 b2)
-          (struct_variant_row s (codes "Started" ∷ (codes "Said" ∷ (codes "Moved" ∷ (codes "Put" ∷ (codes "Held" ∷ []))))) (codes "Put") 3 refl
-          (AtPlace 3 (Content (OfFields (codes "key" ∷ (codes "size" ∷ []))
-          (Field (λ j. Only (⟦<&'de str as Deserialize<'de, R>>⟧.reads s.human R.lends) ⟦<&'de str as RoundTrip<'de, R>>⟧.same j a1) ⊥
-          (Field (λ j. Only (⟦<u32 as Deserialize<'de, R>>⟧.reads s.human R.lends) ⟦<u32 as RoundTrip<'de, R>>⟧.same j a2) ⊥ NoField)))))
-          (codes "key" ∷ (codes "size" ∷ [])) _ _ refl (λ m h. (refl, h))
-          (fields_cons s (codes "key") _ _ _ (λ j. Only (⟦<&'de str as Deserialize<'de, R>>⟧.reads s.human R.lends) ⟦<&'de str as RoundTrip<'de, R>>⟧.same j
-          a1) ⊥ _ (str_only s (λ w. w.now) a1.now R.lends) (fields_cons s (codes "size") _ _ _
-          (λ j. Only (⟦<u32 as Deserialize<'de, R>>⟧.reads s.human R.lends) ⟦<u32 as RoundTrip<'de, R>>⟧.same j a2) ⊥ _ (unsigned_only s 4294967295 a2)
-          (fields_none s)))) (λ m q w r. variant_both (codes "Started" ∷ (codes "Said" ∷ (codes "Moved" ∷ (codes "Put" ∷ (codes "Held" ∷ []))))) 3 _ _ _ m q r
-          (λ c a b. content_fields (codes "key" ∷ (codes "size" ∷ [])) _ _ _ c a b.3
-          (λ ks i j. let x = field_only (⟦<&'de str as Deserialize<'de, R>>⟧.reads s.human R.lends) ⟦<&'de str as RoundTrip<'de, R>>⟧.same a1 b.0 _ _ _ _
-          (last_field (⟦<u32 as Deserialize<'de, R>>⟧.reads s.human R.lends) ⟦<u32 as RoundTrip<'de, R>>⟧.same a2 b.1 _) ks i j
-          in (b.0, b.1, b.2, x.0, x.1))))
-      | the_event.Held a1 ↦ λ fits. lowers_then s _ _ (λ m. (w : _)
-          → (⟦<Event<'de, T> as Deserialize<'de, R>>⟧.reads s.human R.lends) m w
-          → (b1 : _) × (w ≡ the_event.Held b1) × T.same a1 b1)
-          (newtype_variant_row s (codes "Started" ∷ (codes "Said" ∷ (codes "Moved" ∷ (codes "Put" ∷ (codes "Held" ∷ []))))) (codes "Held") 4 refl
-          (AtPlace 4 (Content (λ j. Only (T.reads s.human R.lends) T.same j a1))) _ (λ j. Only (T.reads s.human R.lends) T.same j a1) (λ m h. (refl, h))
-          (T.only s a1 fits)) (λ m q w r. variant_both (codes "Started" ∷ (codes "Said" ∷ (codes "Moved" ∷ (codes "Put" ∷ (codes "Held" ∷ []))))) 4 _ _ _ m q
-          r (λ c a b. (b.0, b.1, content_only (T.reads s.human R.lends) T.same a1 b.0 c a b.2)))
-    ] };
+    ghost only = { λ s. let names = codes "Started" ∷ (codes "Said" ∷ (codes "Moved" ∷ (codes "Put" ∷ (codes "Held" ∷ []))))
+        in elim [
+          | the_event.Started ↦ λ fits. lowers_then s (Some (unit_variant (codes "Started"))) (OfVariant names (AtPlace 0 AnyContent)) (λ m. (w : _)
+              → (⟦<Event<'de, T> as Deserialize<'de, R>>⟧.reads s.human R.lends) m w
+              → (w ≡ the_event.Started)) (bare_row s names (codes "Started") 0 refl (AtPlace 0 AnyContent) (refl, tt))
+              (λ m q w r. variant_both names 0 AnyContent _ _ m q r (λ c a b. b.0))
+          | the_event.Said a1 ↦ λ fits. lowers_then s _ _ (λ m. (w : _)
+              → (⟦<Event<'de, T> as Deserialize<'de, R>>⟧.reads s.human R.lends) m w
+              → (b1 : _) × (w ≡ the_event.Said b1) × ⟦<&'de str as RoundTrip<'de, R>>⟧.same a1 b1)
+              (newtype_variant_row s names (codes "Said") 1 refl
+              (AtPlace 1 (Content (λ j. Only (⟦<&'de str as Deserialize<'de, R>>⟧.reads s.human R.lends) ⟦<&'de str as RoundTrip<'de, R>>⟧.same j a1))) _
+              (λ j. Only (⟦<&'de str as Deserialize<'de, R>>⟧.reads s.human R.lends) ⟦<&'de str as RoundTrip<'de, R>>⟧.same j a1) (λ m h. (refl, h))
+              (str_only s (λ w. w.now) a1.now R.lends)) (λ m q w r. variant_both names 1 _ _ _ m q r
+              (λ c a b. (
+                b.0,
+                b.1,
+                content_only (⟦<&'de str as Deserialize<'de, R>>⟧.reads s.human R.lends) ⟦<&'de str as RoundTrip<'de, R>>⟧.same a1 b.0 c a
+                    b.2,
+              )))
+          | the_event.Moved a1 a2 ↦ λ fits. lowers_then s _ _ (λ m. (w : _) → (⟦<Event<'de, T> as Deserialize<'de, R>>⟧.reads s.human R.lends) m w
+              → (b1 : _) × (b2 : _) × (w ≡ the_event.Moved b1 b2) × ⟦<i16 as RoundTrip<'de, R>>⟧.same a1 b1 × ⟦<Label<'de> as RoundTrip<'de, R>>⟧.same a2 b2)
+              (tuple_variant_row s names (codes "Moved") 2 refl (AtPlace 2
+              (Content (OfRow (AndThen (λ j. Only (⟦<i16 as Deserialize<'de, R>>⟧.reads s.human R.lends) ⟦<i16 as RoundTrip<'de, R>>⟧.same j a1)
+              (AndThen (λ j. Only (⟦<Label<'de> as Deserialize<'de, R>>⟧.reads s.human R.lends) ⟦<Label<'de> as RoundTrip<'de, R>>⟧.same j a2) NoMore))))) _ _
+              (λ m h. (refl, h)) (rows_cons s _ _ (λ j. Only (⟦<i16 as Deserialize<'de, R>>⟧.reads s.human R.lends) ⟦<i16 as RoundTrip<'de, R>>⟧.same j a1) _
+              (signed_only s (negsuc 32767) (pos 32767) a1) (rows_cons s _ _
+              (λ j. Only (⟦<Label<'de> as Deserialize<'de, R>>⟧.reads s.human R.lends) ⟦<Label<'de> as RoundTrip<'de, R>>⟧.same j a2) _
+              (lowers_then s (wrapped_of (⟦<&'de str as Serialize>⟧.data_of a2.0 s.human))
+              (λ j. Only (⟦<&'de str as Deserialize<'de, R>>⟧.reads s.human R.lends) ⟦<&'de str as RoundTrip<'de, R>>⟧.same j a2.0) (λ m. (w : _)
+              → (⟦<Label<'de> as Deserialize<'de, R>>⟧.reads s.human R.lends) m w
+              → ⟦<&'de str as RoundTrip<'de, R>>⟧.same a2.0 w.0)
+              (newtype_row s (⟦<&'de str as Serialize>⟧.data_of a2.0 s.human)
+              (λ j. Only (⟦<&'de str as Deserialize<'de, R>>⟧.reads s.human R.lends) ⟦<&'de str as RoundTrip<'de, R>>⟧.same j a2.0)
+              (str_only s (λ w. w.now) a2.0.now R.lends)) (λ m q w r. q w.0 r)) (rows_none s))))
+              (λ m q w r. variant_both names 2 _ _ _ m q r (λ c a b. content_row _ _ _ c a b.3
+              (λ ks i j. let x = item_only (⟦<i16 as Deserialize<'de, R>>⟧.reads s.human R.lends) ⟦<i16 as RoundTrip<'de, R>>⟧.same a1 b.0 _ _ _
+              (last_only (⟦<Label<'de> as Deserialize<'de, R>>⟧.reads s.human R.lends) ⟦<Label<'de> as RoundTrip<'de, R>>⟧.same a2 b.1) ks i j
+              in (b.0, b.1, b.2, x.0, x.1))))
+          | the_event.Put a1 a2 ↦ λ fits. lowers_then s _ _ (λ m. (w : _)
+              → (⟦<Event<'de, T> as Deserialize<'de, R>>⟧.reads s.human R.lends) m w
+              → (b1 : _) × (b2 : _) × (w ≡ the_event.Put b1 b2) × ⟦<&'de str as RoundTrip<'de, R>>⟧.same a1 b1 × ⟦<u32 as RoundTrip<'de, R>>⟧.same a2 b2)
+              (struct_variant_row s names (codes "Put") 3 refl (AtPlace 3
+              (Content (OfFields (codes "key" ∷ (codes "size" ∷ []))
+              (Field (λ j. Only (⟦<&'de str as Deserialize<'de, R>>⟧.reads s.human R.lends) ⟦<&'de str as RoundTrip<'de, R>>⟧.same j a1) ⊥
+              (Field (λ j. Only (⟦<u32 as Deserialize<'de, R>>⟧.reads s.human R.lends) ⟦<u32 as RoundTrip<'de, R>>⟧.same j a2) ⊥ NoField)))))
+              (codes "key" ∷ (codes "size" ∷ [])) _ _ refl (λ m h. (refl, h))
+              (fields_cons s (codes "key") _ _ _ (λ j. Only (⟦<&'de str as Deserialize<'de, R>>⟧.reads s.human R.lends) ⟦<&'de str as RoundTrip<'de, R>>⟧.same j
+              a1) ⊥ _ (str_only s (λ w. w.now) a1.now R.lends) (fields_cons s (codes "size") _ _ _
+              (λ j. Only (⟦<u32 as Deserialize<'de, R>>⟧.reads s.human R.lends) ⟦<u32 as RoundTrip<'de, R>>⟧.same j a2) ⊥ _ (unsigned_only s 4294967295 a2)
+              (fields_none s)))) (λ m q w r. variant_both names 3 _ _ _ m q r
+              (λ c a b. content_fields (codes "key" ∷ (codes "size" ∷ [])) _ _ _ c a b.3
+              (λ ks i j. let x = field_only (⟦<&'de str as Deserialize<'de, R>>⟧.reads s.human R.lends) ⟦<&'de str as RoundTrip<'de, R>>⟧.same a1 b.0 _ _ _ _
+              (last_field (⟦<u32 as Deserialize<'de, R>>⟧.reads s.human R.lends) ⟦<u32 as RoundTrip<'de, R>>⟧.same a2 b.1 _) ks i j
+              in (b.0, b.1, b.2, x.0, x.1))))
+          | the_event.Held a1 ↦ λ fits. lowers_then s _ _ (λ m. (w : _)
+              → (⟦<Event<'de, T> as Deserialize<'de, R>>⟧.reads s.human R.lends) m w
+              → (b1 : _) × (w ≡ the_event.Held b1) × T.same a1 b1)
+              (newtype_variant_row s names (codes "Held") 4 refl (AtPlace 4 (Content (λ j. Only (T.reads s.human R.lends) T.same j a1))) _
+              (λ j. Only (T.reads s.human R.lends) T.same j a1) (λ m h. (refl, h)) (T.only s a1 fits))
+              (λ m q w r. variant_both names 4 _ _ _ m q r (λ c a b. (b.0, b.1, content_only (T.reads s.human R.lends) T.same a1 b.0 c a b.2)))
+        ] };
 }
 
 impl<'de, T: Serialize> NeverNil for Event<'de, T> {

@@ -179,27 +179,25 @@ impl<'de, R: ReadSlice<'de>> RoundTrip<'de, R> for Course {
           (refl, ((tuple_some _ (each_some (λ x. ⟦<u8 as Serialize>⟧.data_of x human) (λ x1. refl) a2)), tt))
     ] };
 
-    ghost round = { λ lent s. elim [
-      | the_course.Moored ↦ λ fits. bare_row s (codes "Moored" ∷ (codes "Toward" ∷ (codes "Between" ∷ (codes "By" ∷ []))))
-          (codes "Moored") 0 refl _ (refl, tt)
-      | the_course.Toward a1 ↦ λ fits. newtype_variant_row s
-          (codes "Moored" ∷ (codes "Toward" ∷ (codes "Between" ∷ (codes "By" ∷ [])))) (codes "Toward") 1 refl _ _
-          (λ j. ⟦<String as Deserialize<'de, R>>⟧.reads s.human R.lends j a1) (λ m h. (a1, refl, h)) (string_row s (string_bytes a1))
-      | the_course.Between a1
-          a2 ↦ λ fits. tuple_variant_row s (codes "Moored" ∷ (codes "Toward" ∷ (codes "Between" ∷ (codes "By" ∷ [])))) (codes "Between") 2 refl _ _ _
-          (λ m h. (a1, a2, refl, h)) (rows_cons s _ _ (λ j. ⟦<u16 as Deserialize<'de, R>>⟧.reads s.human R.lends j a1) _ (unsigned_row_16 s a1 fits.0)
-          (rows_cons s _ _ (λ j. ⟦<i32 as Deserialize<'de, R>>⟧.reads s.human R.lends j a2) _ (signed_row_32 s a2 fits.1) (rows_none s)))
-      | the_course.By a1
-          a2 ↦ λ fits. struct_variant_row s (codes "Moored" ∷ (codes "Toward" ∷ (codes "Between" ∷ (codes "By" ∷ [])))) (codes "By") 3 refl _
-          (codes "wind" ∷ (codes "sails" ∷ [])) _ _ refl (λ m h. (a1, a2, refl, h))
-          (fields_cons s (codes "wind") _ _ _ (λ j. ⟦<F64Bits as Deserialize<'de, R>>⟧.reads s.human R.lends j a1)
-          (Absent ⟦<F64Bits as Deserialize<'de, R>>⟧.absent a1) _ (float64_row s a1.0)
-          (fields_cons s (codes "sails") _ _ _ (λ j. ⟦<[u8; 2] as Deserialize<'de, R>>⟧.reads s.human R.lends j a2)
-          (Absent ⟦<[u8; 2] as Deserialize<'de, R>>⟧.absent a2) _
-          (tuple_row s _ (Exactly 2 (⟦<u8 as Deserialize<'de, R>>⟧.reads s.human R.lends) a2)
-          (rows_map s _ _ _ (λ ms each. (fits.1.0, each)) (each_row s (λ x. ⟦<u8 as Serialize>⟧.data_of x s.human) ⟦<u8 as Serialize>⟧.is_value
-          (⟦<u8 as Deserialize<'de, R>>⟧.reads s.human R.lends) (λ x2 h2. (byte_row s x2 h2)) a2 fits.1.1))) (fields_none s)))
-    ] };
+    ghost round = { λ lent s. let names = codes "Moored" ∷ (codes "Toward" ∷ (codes "Between" ∷ (codes "By" ∷ [])))
+        in elim [
+          | the_course.Moored ↦ λ fits. bare_row s names (codes "Moored") 0 refl _ (refl, tt)
+          | the_course.Toward a1 ↦ λ fits. newtype_variant_row s
+              names (codes "Toward") 1 refl _ _ (λ j. ⟦<String as Deserialize<'de, R>>⟧.reads s.human R.lends j a1) (λ m h. (a1, refl, h))
+              (string_row s (string_bytes a1))
+          | the_course.Between a1 a2 ↦ λ fits. tuple_variant_row s names (codes "Between") 2 refl _ _ _
+              (λ m h. (a1, a2, refl, h)) (rows_cons s _ _ (λ j. ⟦<u16 as Deserialize<'de, R>>⟧.reads s.human R.lends j a1) _ (unsigned_row_16 s a1 fits.0)
+              (rows_cons s _ _ (λ j. ⟦<i32 as Deserialize<'de, R>>⟧.reads s.human R.lends j a2) _ (signed_row_32 s a2 fits.1) (rows_none s)))
+          | the_course.By a1
+              a2 ↦ λ fits. struct_variant_row s names (codes "By") 3 refl _ (codes "wind" ∷ (codes "sails" ∷ [])) _ _ refl (λ m h. (a1, a2, refl, h))
+              (fields_cons s (codes "wind") _ _ _ (λ j. ⟦<F64Bits as Deserialize<'de, R>>⟧.reads s.human R.lends j a1)
+              (Absent ⟦<F64Bits as Deserialize<'de, R>>⟧.absent a1) _ (float64_row s a1.0)
+              (fields_cons s (codes "sails") _ _ _ (λ j. ⟦<[u8; 2] as Deserialize<'de, R>>⟧.reads s.human R.lends j a2)
+              (Absent ⟦<[u8; 2] as Deserialize<'de, R>>⟧.absent a2) _
+              (tuple_row s _ (Exactly 2 (⟦<u8 as Deserialize<'de, R>>⟧.reads s.human R.lends) a2)
+              (rows_map s _ _ _ (λ ms each. (fits.1.0, each)) (each_row s (λ x. ⟦<u8 as Serialize>⟧.data_of x s.human) ⟦<u8 as Serialize>⟧.is_value
+              (⟦<u8 as Deserialize<'de, R>>⟧.reads s.human R.lends) (λ x2 h2. (byte_row s x2 h2)) a2 fits.1.1))) (fields_none s)))
+        ] };
 
     ghost same = { λ v w. elim v [
       | the_course.Moored ↦ (w ≡ the_course.Moored)
@@ -211,55 +209,52 @@ impl<'de, R: ReadSlice<'de>> RoundTrip<'de, R> for Course {
           × (w ≡ the_course.By b1 b2) × ⟦<F64Bits as RoundTrip<'de, R>>⟧.same a1 b1 × ⟦<[u8; 2] as RoundTrip<'de, R>>⟧.same a2 b2
     ] };
 
-    ghost only = { λ s. elim [
-      | the_course.Moored ↦ λ fits. lowers_then s (Some (unit_variant (codes "Moored")))
-          (OfVariant (codes "Moored" ∷ (codes "Toward" ∷ (codes "Between" ∷ (codes "By" ∷ [])))) (AtPlace 0 AnyContent)) (λ m. (w : _)
-          → (⟦<Course as Deserialize<'de, R>>⟧.reads s.human R.lends) m w
-          → (w ≡ the_course.Moored)) (bare_row s (codes "Moored" ∷ (codes "Toward" ∷ (codes "Between" ∷ (codes "By" ∷ [])))) (codes "Moored") 0 refl
-          (AtPlace 0 AnyContent) (refl, tt)) (λ m q w r. variant_both (codes "Moored" ∷ (codes "Toward" ∷ (codes "Between" ∷ (codes "By" ∷ [])))) 0 AnyContent
-          _ _ m q r (λ c a b. b.0))
-      | the_course.Toward a1 ↦ λ fits. lowers_then s _ _ (λ m. (w : _)
-          → (⟦<Course as Deserialize<'de, R>>⟧.reads s.human R.lends) m w
-          → (b1 : _) × (w ≡ the_course.Toward b1) × ⟦<String as RoundTrip<'de, R>>⟧.same a1 b1)
-          (newtype_variant_row s (codes "Moored" ∷ (codes "Toward" ∷ (codes "Between" ∷ (codes "By" ∷ [])))) (codes "Toward") 1 refl
-          (AtPlace 1 (Content (λ j. Only (⟦<String as Deserialize<'de, R>>⟧.reads s.human R.lends) ⟦<String as RoundTrip<'de, R>>⟧.same j a1))) _
-          (λ j. Only (⟦<String as Deserialize<'de, R>>⟧.reads s.human R.lends) ⟦<String as RoundTrip<'de, R>>⟧.same j a1) (λ m h. (refl, h))
-          (string_only s (λ w. string_bytes w) (string_bytes a1)))
-          (λ m q w r. variant_both (codes "Moored" ∷ (codes "Toward" ∷ (codes "Between" ∷ (codes "By" ∷ [])))) 1 _ _ _ m q r
-          (λ c a b. (b.0, b.1, content_only (⟦<String as Deserialize<'de, R>>⟧.reads s.human R.lends) ⟦<String as RoundTrip<'de, R>>⟧.same a1 b.0 c a b.2)))
-      | the_course.Between a1 a2 ↦ λ fits. lowers_then s _ _ (λ m. (w : _) → (⟦<Course as Deserialize<'de, R>>⟧.reads s.human R.lends) m w
-          → (b1 : _) × (b2 : _) × (w ≡ the_course.Between b1 b2) × ⟦<u16 as RoundTrip<'de, R>>⟧.same a1 b1 × ⟦<i32 as RoundTrip<'de, R>>⟧.same a2 b2)
-          (tuple_variant_row s (codes "Moored" ∷ (codes "Toward" ∷ (codes "Between" ∷ (codes "By" ∷ [])))) (codes "Between") 2 refl
-          (AtPlace 2 (Content (OfRow (AndThen (λ j. Only (⟦<u16 as Deserialize<'de, R>>⟧.reads s.human R.lends) ⟦<u16 as RoundTrip<'de, R>>⟧.same j a1)
-          (AndThen (λ j. Only (⟦<i32 as Deserialize<'de, R>>⟧.reads s.human R.lends) ⟦<i32 as RoundTrip<'de, R>>⟧.same j a2) NoMore))))) _ _
-          (λ m h. (refl, h)) (rows_cons s _ _ (λ j. Only (⟦<u16 as Deserialize<'de, R>>⟧.reads s.human R.lends) ⟦<u16 as RoundTrip<'de, R>>⟧.same j a1) _
-          (unsigned_only s 65535 a1) (rows_cons s _ _ (λ j. Only (⟦<i32 as Deserialize<'de, R>>⟧.reads s.human R.lends) ⟦<i32 as RoundTrip<'de, R>>⟧.same j
-          a2) _ (signed_only s (negsuc 2147483647) (pos 2147483647) a2) (rows_none s))))
-          (λ m q w r. variant_both (codes "Moored" ∷ (codes "Toward" ∷ (codes "Between" ∷ (codes "By" ∷ [])))) 2 _ _ _ m q r
-          (λ c a b. content_row _ _ _ c a b.3 (λ ks i j. let x = item_only (⟦<u16 as Deserialize<'de, R>>⟧.reads s.human R.lends)
-          ⟦<u16 as RoundTrip<'de, R>>⟧.same a1 b.0 _ _ _ (last_only (⟦<i32 as Deserialize<'de, R>>⟧.reads s.human R.lends) ⟦<i32 as RoundTrip<'de, R>>⟧.same
-          a2 b.1) ks i j in (b.0, b.1, b.2, x.0, x.1))))
-      | the_course.By a1 a2 ↦ λ fits. lowers_then s _ _ (λ m. (w : _)
-          → (⟦<Course as Deserialize<'de, R>>⟧.reads s.human R.lends) m w
-          → (b1 : _) × (b2 : _) × (w ≡ the_course.By b1 b2) × ⟦<F64Bits as RoundTrip<'de, R>>⟧.same a1 b1 × ⟦<[u8; 2] as RoundTrip<'de, R>>⟧.same a2 b2)
-          (struct_variant_row s (codes "Moored" ∷ (codes "Toward" ∷ (codes "Between" ∷ (codes "By" ∷ [])))) (codes "By") 3 refl
-          (AtPlace 3 (Content (OfFields (codes "wind" ∷ (codes "sails" ∷ []))
-          (Field (λ j. Only (⟦<F64Bits as Deserialize<'de, R>>⟧.reads s.human R.lends) ⟦<F64Bits as RoundTrip<'de, R>>⟧.same j a1) ⊥
-          (Field (λ j. Only (⟦<[u8; 2] as Deserialize<'de, R>>⟧.reads s.human R.lends) ⟦<[u8; 2] as RoundTrip<'de, R>>⟧.same j a2) ⊥ NoField)))))
-          (codes "wind" ∷ (codes "sails" ∷ [])) _ _ refl (λ m h. (refl, h))
-          (fields_cons s (codes "wind") _ _ _ (λ j. Only (⟦<F64Bits as Deserialize<'de, R>>⟧.reads s.human R.lends) ⟦<F64Bits as RoundTrip<'de, R>>⟧.same j
-          a1) ⊥ _ (float64_only s (λ w. w.0) a1.0) (fields_cons s (codes "sails") _ _ _
-          (λ j. Only (⟦<[u8; 2] as Deserialize<'de, R>>⟧.reads s.human R.lends) ⟦<[u8; 2] as RoundTrip<'de, R>>⟧.same j a2) ⊥ _
-          (array_only s _ 2 (⟦<u8 as Deserialize<'de, R>>⟧.reads s.human R.lends) ⟦<u8 as RoundTrip<'de, R>>⟧.same a2
-          (tuple_row s _ (λ ms. ReadsEach (Only (⟦<u8 as Deserialize<'de, R>>⟧.reads s.human R.lends) ⟦<u8 as RoundTrip<'de, R>>⟧.same) ms a2)
-          (each_row s (λ x. ⟦<u8 as Serialize>⟧.data_of x s.human) ⟦<u8 as Serialize>⟧.is_value
-          (Only (⟦<u8 as Deserialize<'de, R>>⟧.reads s.human R.lends) ⟦<u8 as RoundTrip<'de, R>>⟧.same) (λ x1 h1. (byte_only s x1)) a2 fits.1.1)))
-          (fields_none s)))) (λ m q w r. variant_both (codes "Moored" ∷ (codes "Toward" ∷ (codes "Between" ∷ (codes "By" ∷ [])))) 3 _ _ _ m q r
-          (λ c a b. content_fields (codes "wind" ∷ (codes "sails" ∷ [])) _ _ _ c a b.3
-          (λ ks i j. let x = field_only (⟦<F64Bits as Deserialize<'de, R>>⟧.reads s.human R.lends) ⟦<F64Bits as RoundTrip<'de, R>>⟧.same a1 b.0 _ _ _ _
-          (last_field (⟦<[u8; 2] as Deserialize<'de, R>>⟧.reads s.human R.lends) ⟦<[u8; 2] as RoundTrip<'de, R>>⟧.same a2 b.1 _) ks i j
-          in (b.0, b.1, b.2, x.0, x.1))))
-    ] };
+    ghost only = { λ s. let names = codes "Moored" ∷ (codes "Toward" ∷ (codes "Between" ∷ (codes "By" ∷ [])))
+        in elim [
+          | the_course.Moored ↦ λ fits. lowers_then s (Some (unit_variant (codes "Moored"))) (OfVariant names (AtPlace 0 AnyContent)) (λ m. (w : _)
+              → (⟦<Course as Deserialize<'de, R>>⟧.reads s.human R.lends) m w
+              → (w ≡ the_course.Moored)) (bare_row s names (codes "Moored") 0 refl (AtPlace 0 AnyContent) (refl, tt))
+              (λ m q w r. variant_both names 0 AnyContent _ _ m q r (λ c a b. b.0))
+          | the_course.Toward a1 ↦ λ fits. lowers_then s _ _ (λ m. (w : _)
+              → (⟦<Course as Deserialize<'de, R>>⟧.reads s.human R.lends) m w
+              → (b1 : _) × (w ≡ the_course.Toward b1) × ⟦<String as RoundTrip<'de, R>>⟧.same a1 b1)
+              (newtype_variant_row s names (codes "Toward") 1 refl
+              (AtPlace 1 (Content (λ j. Only (⟦<String as Deserialize<'de, R>>⟧.reads s.human R.lends) ⟦<String as RoundTrip<'de, R>>⟧.same j a1))) _
+              (λ j. Only (⟦<String as Deserialize<'de, R>>⟧.reads s.human R.lends) ⟦<String as RoundTrip<'de, R>>⟧.same j a1) (λ m h. (refl, h))
+              (string_only s (λ w. string_bytes w) (string_bytes a1)))
+              (λ m q w r. variant_both names 1 _ _ _ m q r (λ c a b.
+              (b.0, b.1, content_only (⟦<String as Deserialize<'de, R>>⟧.reads s.human R.lends) ⟦<String as RoundTrip<'de, R>>⟧.same a1 b.0 c a b.2)))
+          | the_course.Between a1 a2 ↦ λ fits. lowers_then s _ _ (λ m. (w : _) → (⟦<Course as Deserialize<'de, R>>⟧.reads s.human R.lends) m w
+              → (b1 : _) × (b2 : _) × (w ≡ the_course.Between b1 b2) × ⟦<u16 as RoundTrip<'de, R>>⟧.same a1 b1 × ⟦<i32 as RoundTrip<'de, R>>⟧.same a2 b2)
+              (tuple_variant_row s names (codes "Between") 2 refl
+              (AtPlace 2 (Content (OfRow (AndThen (λ j. Only (⟦<u16 as Deserialize<'de, R>>⟧.reads s.human R.lends) ⟦<u16 as RoundTrip<'de, R>>⟧.same j a1)
+              (AndThen (λ j. Only (⟦<i32 as Deserialize<'de, R>>⟧.reads s.human R.lends) ⟦<i32 as RoundTrip<'de, R>>⟧.same j a2) NoMore))))) _ _
+              (λ m h. (refl, h)) (rows_cons s _ _ (λ j. Only (⟦<u16 as Deserialize<'de, R>>⟧.reads s.human R.lends) ⟦<u16 as RoundTrip<'de, R>>⟧.same j a1) _
+              (unsigned_only s 65535 a1) (rows_cons s _ _ (λ j. Only (⟦<i32 as Deserialize<'de, R>>⟧.reads s.human R.lends) ⟦<i32 as RoundTrip<'de, R>>⟧.same j
+              a2) _ (signed_only s (negsuc 2147483647) (pos 2147483647) a2) (rows_none s))))
+              (λ m q w r. variant_both names 2 _ _ _ m q r (λ c a b. content_row _ _ _ c a b.3
+              (λ ks i j. let x = item_only (⟦<u16 as Deserialize<'de, R>>⟧.reads s.human R.lends) ⟦<u16 as RoundTrip<'de, R>>⟧.same a1 b.0 _ _ _
+              (last_only (⟦<i32 as Deserialize<'de, R>>⟧.reads s.human R.lends) ⟦<i32 as RoundTrip<'de, R>>⟧.same a2 b.1) ks i j in (b.0, b.1, b.2, x.0, x.1))))
+          | the_course.By a1 a2 ↦ λ fits. lowers_then s _ _ (λ m. (w : _) → (⟦<Course as Deserialize<'de, R>>⟧.reads s.human R.lends) m w
+              → (b1 : _) × (b2 : _) × (w ≡ the_course.By b1 b2) × ⟦<F64Bits as RoundTrip<'de, R>>⟧.same a1 b1 × ⟦<[u8; 2] as RoundTrip<'de, R>>⟧.same a2 b2)
+              (struct_variant_row s names (codes "By") 3 refl (AtPlace 3
+              (Content (OfFields (codes "wind" ∷ (codes "sails" ∷ []))
+              (Field (λ j. Only (⟦<F64Bits as Deserialize<'de, R>>⟧.reads s.human R.lends) ⟦<F64Bits as RoundTrip<'de, R>>⟧.same j a1) ⊥
+              (Field (λ j. Only (⟦<[u8; 2] as Deserialize<'de, R>>⟧.reads s.human R.lends) ⟦<[u8; 2] as RoundTrip<'de, R>>⟧.same j a2) ⊥ NoField)))))
+              (codes "wind" ∷ (codes "sails" ∷ [])) _ _ refl (λ m h. (refl, h))
+              (fields_cons s (codes "wind") _ _ _ (λ j. Only (⟦<F64Bits as Deserialize<'de, R>>⟧.reads s.human R.lends) ⟦<F64Bits as RoundTrip<'de, R>>⟧.same j
+              a1) ⊥ _ (float64_only s (λ w. w.0) a1.0) (fields_cons s (codes "sails") _ _ _
+              (λ j. Only (⟦<[u8; 2] as Deserialize<'de, R>>⟧.reads s.human R.lends) ⟦<[u8; 2] as RoundTrip<'de, R>>⟧.same j a2) ⊥ _
+              (array_only s _ 2 (⟦<u8 as Deserialize<'de, R>>⟧.reads s.human R.lends) ⟦<u8 as RoundTrip<'de, R>>⟧.same a2
+              (tuple_row s _ (λ ms. ReadsEach (Only (⟦<u8 as Deserialize<'de, R>>⟧.reads s.human R.lends) ⟦<u8 as RoundTrip<'de, R>>⟧.same) ms a2)
+              (each_row s (λ x. ⟦<u8 as Serialize>⟧.data_of x s.human) ⟦<u8 as Serialize>⟧.is_value
+              (Only (⟦<u8 as Deserialize<'de, R>>⟧.reads s.human R.lends) ⟦<u8 as RoundTrip<'de, R>>⟧.same) (λ x1 h1. (byte_only s x1)) a2 fits.1.1)))
+              (fields_none s)))) (λ m q w r. variant_both names 3 _ _ _ m q r
+              (λ c a b. content_fields (codes "wind" ∷ (codes "sails" ∷ [])) _ _ _ c a b.3
+              (λ ks i j. let x = field_only (⟦<F64Bits as Deserialize<'de, R>>⟧.reads s.human R.lends) ⟦<F64Bits as RoundTrip<'de, R>>⟧.same a1 b.0 _ _ _ _
+              (last_field (⟦<[u8; 2] as Deserialize<'de, R>>⟧.reads s.human R.lends) ⟦<[u8; 2] as RoundTrip<'de, R>>⟧.same a2 b.1 _) ks i j
+              in (b.0, b.1, b.2, x.0, x.1))))
+        ] };
 }
 
 impl NeverNil for Course {
