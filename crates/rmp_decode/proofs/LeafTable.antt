@@ -21,6 +21,7 @@ use Rattle.rmp_wire.proofs.Markers.{byte_of-marker_of}
 use Rattle.rmp_wire.proofs.Strict.{test_passed}
 use Rattle.rmp_wire.proofs.Taken.{bytes_from, bytes_parts, head_after_took}
 use Rattle.rmp_decode.specs.Kinds.{content_len}
+use Rattle.rmp_decode.specs.Ahead.{LeafHeadIn}
 use Rattle.rmp_decode.specs.Law.{Lawful}
 use Rattle.rmp_decode.specs.LeafTable.{SpellsLeaf, Tells, PassesLeaves, SkipsLeaves}
 use Rattle.rmp_decode.specs.Open.{Leads, SpellsOpen}
@@ -285,6 +286,51 @@ pub passes_none : (strict : Bool) (n : ℕ) → PassesLeaves strict n n []
 passes_none strict n = λ lends room counts s. leads_none strict (UnpassedFor lends strict) room (n ∷ counts)
 
 -- one more
+passes_by : (strict : Bool) (passed x : List ℕ) (n w : ℕ) → PassesLeaves strict n w passed → 0 < w → SpellsLeaf strict x
+    → PassesLeaves strict n (w - 1) (passed ++ x)
+passes_by strict passed x n w p some leaf =
+    let one : suc (w - 1) ≡ w = omega (arith, some) in
+    λ lends room counts s.
+    let wrong : ℕ → Error → List ℕ → Type 0 = UnpassedFor lends strict in
+    let l = leads_message strict wrong room (w - 1) counts leaf.tree x leaf.spelled (omega (arith, leaf.flat, s)) in
+    leads_then strict wrong room (n ∷ counts) room (w ∷ counts) room ((w - 1) ∷ counts) passed x (p lends room counts s)
+    (subst (λ z. Leads strict wrong room (z ∷ counts) room ((w - 1) ∷ counts) x) one l)
+
+taken_more : (bytes : List ℕ) (at size : ℕ) → at ≤ length bytes → size ≤ length (drop at bytes)
+    → take (at + size) bytes ≡ take at bytes ++ take size (drop at bytes)
+taken_more bytes at size a l =
+    let x : List ℕ = take size (drop at bytes) in
+    let more : List ℕ = drop size (drop at bytes) in
+    let whole : bytes ≡ (take at bytes ++ x) ++ more = sym (take-append-drop at bytes)
+    ∙ ap (λ z. take at bytes ++ z) (sym (take-append-drop size (drop at bytes))) ∙ sym (append_assoc (take at bytes) x more) in
+    let long : length (take at bytes ++ x) ≡ at + size = omega (
+      arith,
+      length-append (take at bytes) x,
+      length-take-le at bytes a,
+      length-take-le size (drop at bytes) l,
+    ) in
+    ap (take (at + size)) whole ∙ take_at (take at bytes ++ x) more (at + size) long
+
+-- the bytes from a place on
+abbrev pub from_place : List ℕ → ℕ → List ℕ
+from_place bytes at = take (length bytes - at) (drop at bytes)
+
+pub from_place_is : (bytes : List ℕ) (at : ℕ) → from_place bytes at ≡ drop at bytes
+from_place_is bytes at =
+    let rest : List ℕ = drop at bytes in
+    let n : ℕ = length bytes - at in
+    ap (take n) (sym (append-nil rest)) ∙ take_at rest [] n (length-drop at bytes)
+
+-- one that begins them
+pub passes_leaf : (strict : Bool) (bytes : List ℕ) (at n w size : ℕ) → PassesLeaves strict n w (take at bytes) → 0 < w → at ≤ length bytes
+    → size ≤ length (from_place bytes at) → SpellsLeaf strict (take size (from_place bytes at)) → PassesLeaves strict n (w - 1) (take (at + size) bytes)
+passes_leaf strict bytes at n w size p some a l leaf =
+    let same : from_place bytes at ≡ drop at bytes = from_place_is bytes at in
+    let x : SpellsLeaf strict (take size (drop at bytes)) = subst (λ z. SpellsLeaf strict (take size z)) same leaf in
+    let fits : size ≤ length (drop at bytes) = subst (λ z. size ≤ length z) same l in
+    subst (PassesLeaves strict n (w - 1)) (sym (taken_more bytes at size a fits)) (passes_by strict (take at bytes) (take size (drop at bytes)) n w p some x)
+
+-- one that the table tells the length of
 pub passes_more : (strict : Bool) (bytes : List ℕ) (at n w b payload : ℕ) → PassesLeaves strict n w (take at bytes) → 0 < w → b ≡ get_or bytes at 0
     → Tells strict b payload → payload < 0xffffffff → at + (1 + payload) ≤ length bytes → ((i : ℕ) → get_or bytes i 0 < 256)
     → PassesLeaves strict n (w - 1) (take (at + (1 + payload)) bytes)
@@ -307,15 +353,34 @@ passes_more strict bytes at n w b payload p some is tells few long small =
     let own : IsBytes t = (bytes_parts t more (subst IsBytes (sym (take-append-drop payload rest))
     (bytes_parts (take (suc at) bytes) rest (subst IsBytes (sym (take-append-drop (suc at) bytes)) (bytes_from bytes small))).1)).0 in
     let leaf : SpellsLeaf strict (b ∷ t) = tells few t t_long own in
-    let one : suc (w - 1) ≡ w = omega (arith, some) in
-    λ lends room counts s.
-    let wrong : ℕ → Error → List ℕ → Type 0 = UnpassedFor lends strict in
-    let l = leads_message strict wrong room (w - 1) counts leaf.tree (b ∷ t) leaf.spelled (omega (arith, leaf.flat, s)) in
-    subst (λ z. Leads strict wrong room (n ∷ counts) room ((w - 1) ∷ counts) z) (sym taken)
-    (leads_then strict wrong room (n ∷ counts) room (w ∷ counts) room ((w - 1) ∷ counts) (take at bytes) (b ∷ t) (p lends room counts s)
-    (subst (λ z. Leads strict wrong room (z ∷ counts) room ((w - 1) ∷ counts) (b ∷ t)) one l))
+    subst (PassesLeaves strict n (w - 1)) (sym taken) (passes_by strict (take at bytes) (b ∷ t) n w p some leaf)
 
--- a row of one message
+-- ---- a leaf by its head
+
+pub leaf_fits : (strict : Bool) (len payload : ℕ) (xs : List ℕ) → LeafHeadIn strict len payload xs → len ≤ length xs
+leaf_fits strict len payload xs l =
+    let s = l.starts.starts in
+    omega (arith, l.starts.long, ap length s.front, length-append (s.byte ∷ s.following) s.rest)
+
+pub leaf_whole : (strict : Bool) (len payload : ℕ) (xs : List ℕ) → LeafHeadIn strict len payload xs → ((i : ℕ) → get_or xs i 0 < 256)
+    → len + payload ≤ length xs → SpellsLeaf strict (take (len + payload) xs)
+leaf_whole strict len payload xs l small fits =
+    let s = l.starts.starts in
+    let a : List ℕ = s.byte ∷ s.following in
+    let t : List ℕ = take payload s.rest in
+    let more : List ℕ = drop payload s.rest in
+    let long = l.starts.long in
+    let t_long : length t ≡ payload = length-take-le payload s.rest (omega (arith, long, ap length s.front, length-append a s.rest, fits)) in
+    let whole : xs ≡ (a ++ t) ++ more = s.front ∙ ap (λ z. a ++ z) (sym (take-append-drop payload s.rest)) ∙ sym (append_assoc a t more) in
+    let taken : take (len + payload) xs ≡ a ++ t = ap (take (len + payload)) whole
+    ∙ take_at (a ++ t) more (len + payload) (omega (arith, length-append a t, long, t_long)) in
+    let own : IsBytes t = (bytes_parts a t (bytes_parts (a ++ t) more (subst IsBytes whole (bytes_from xs small))).0).1 in
+    record {
+      tree = leaf_of l.head t;
+      spelled = subst (λ z. SpellsAs strict z (leaf_of l.head t)) (sym taken) (leaf_spelled strict l.head a t l.is_leaf.leaf s.is_head (t_long ∙ sym l.is_leaf.long) own);
+      flat = leaf_flat l.head t;
+    }
+
 record Only (strict : Bool) (room : ℕ) (bytes : List ℕ) : Type 0 where
   pub tree : Msg
   pub spelled : SpellsAs strict bytes tree

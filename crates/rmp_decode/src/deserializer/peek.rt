@@ -1,7 +1,6 @@
 //! The fast path: a buffered head of one kind is recognized by its bytes, and consumed.
 ghost use Rattle.std.specs.Prelude.{◌≡◌, ◌<◌, ◌≤◌, ◌≤ℤ◌, Bool, pos, true, false, IfSome, IfNone, IfOk, IfErr};
 ghost use Rattle.rmp_wire.specs.declared.head.Head.TheVariants as heads;
-ghost use Rattle.rmp_decode.specs.Ahead.{TakesLeaf};
 ghost use Rattle.rmp_decode.specs.BufferedHeads.{HeadIn, ConsumesHead};
 ghost use Rattle.rmp_decode.specs.Kinds.{raw_head};
 ghost use Rattle.rmp_decode.specs.Law.{ReadsHead};
@@ -9,12 +8,12 @@ ghost use Rattle.rmp_decode.specs.State.{is_failed, is_strict, kept_of};
 ghost use Rattle.rmp_decode.specs.declared.deserializer.Kept.TheVariants.{Nothing};
 
 pub(super) mod exts;
-pub(super) mod table;
+pub(crate) mod table;
 pub(super) mod widths;
 
 use crate::deserializer::peek::exts::ext_at;
 use crate::deserializer::peek::table::{
-    any_at, any_bin_at, canonical_at, canonical_bin_at, leaf_at, signed_at,
+    any_at, any_bin_at, canonical_at, canonical_bin_at, signed_at,
 };
 use crate::deserializer::peek::widths::{may_begin, needs_bytes, needs_signed_bytes, unsigned_at};
 use crate::deserializer::{Deserializer, Kept};
@@ -98,29 +97,6 @@ impl<R: Source, C: SerializerConfig> Deserializer<R, C> {
         match self.kept {
             Kept::Nothing => !self.failed,
             _ => false,
-        }
-    }
-
-    // Consumes the buffered head of a leaf, but of an extension of more than 255 bytes, and answers how many bytes its payload has. It
-    // leaves this failed until the payload is read. Returns `None` and consumes nothing otherwise.
-    #[inline(always)]
-    pub(crate) fn take_leaf_head(&mut self) -> Option<u32>
-        ensures taken { IfSome result (λ n. TakesLeaf R.Source n self.old self.new) }
-        ensures kept { IfNone result (self.new ≡ self.old) }
-    {
-        if !self.begins_ahead() {
-            return None;
-        }
-        match leaf_at(self.reader.front(), self.strict) {
-            Some((n, len)) => {
-                if self.reader.skip(len) {
-                    self.failed = true;
-                    Some(n)
-                } else {
-                    None
-                }
-            }
-            None => None,
         }
     }
 

@@ -61,7 +61,7 @@ fn pass_payload<R: Source, P: ReadContent<R>>(reader: &mut R, len: u32) -> Resul
     P::pass(reader, len as usize)
 }
 
-// Skips buffered leaves whose first byte tells their length, at most `most`. Returns how many of the `most` messages are still wanted.
+// Skips leaves that are buffered whole, at most `most`. Returns how many of the `most` messages are still wanted.
 #[inline(always)]
 fn skip_leaves<R: Source, C: SerializerConfig>(de: &mut Deserializer<R, C>, most: u64) -> u64
     requires clean { kept_of de.old ≡ Nothing }
@@ -118,8 +118,8 @@ enum Part {
     Leaf(u32),
 }
 
-// Consumes the next head, and leaves this failed until the message is read. That of a short list or map is looked for first, since the
-// table has most leaves.
+// Consumes the next head, and leaves this failed until the message is read. That of a short list or map is looked for first, since
+// buffered leaves were skipped before.
 #[inline(always)]
 fn next_part<R: Source, C: SerializerConfig>(de: &mut Deserializer<R, C>) -> Result<Part, Error>
     ensures ok { IfOk result (λ p. TakesPart R.Source p de.old de.new) }
@@ -127,10 +127,6 @@ fn next_part<R: Source, C: SerializerConfig>(de: &mut Deserializer<R, C>) -> Res
 {
     match de.take(ShortParts) {
         Some(p) => return Ok(Part::Parts(p.0, p.1)),
-        None => {}
-    }
-    match de.take_leaf_head() {
-        Some(len) => return Ok(Part::Leaf(len)),
         None => {}
     }
     match de.any_head() {

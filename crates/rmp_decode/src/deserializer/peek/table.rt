@@ -258,7 +258,7 @@ fn canonical_leaf_at(front: &[u8]) -> Option<(u32, usize)>
 
 // The head of a leaf that may be read: any, or where reading is strict a canonical one.
 #[inline(always)]
-pub(super) fn leaf_at(front: &[u8], strict: bool) -> Option<(u32, usize)>
+pub(crate) fn leaf_at(front: &[u8], strict: bool) -> Option<(u32, usize)>
     ensures { IfSome result (λ p. LeafHeadIn strict p.1 p.0 front.now) }
 {
     if strict {

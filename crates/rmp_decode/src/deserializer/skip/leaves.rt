@@ -1,6 +1,8 @@
 //! Leaves that are skipped by a table of first bytes.
-ghost use Rattle.std.specs.Prelude.{◌≤◌, length, take};
-ghost use Rattle.rmp_decode.specs.LeafTable.{Tells, PassesLeaves};
+ghost use Rattle.std.specs.Prelude.{◌<◌, ◌≤◌, length, take};
+ghost use Rattle.rmp_decode.specs.LeafTable.{SpellsLeaf, Tells, PassesLeaves};
+
+use crate::deserializer::peek::table::leaf_at;
 
 // No block has so many bytes after a first byte.
 const NEVER: u32 = u32::MAX;
@@ -41,8 +43,42 @@ fn following(first: u8, strict: bool) -> u32
 
 const BLOCK: usize = NEVER as usize;
 
-// Passes over leaves, at most `most`, that are whole among these bytes and whose first byte tells their length. Returns how many bytes they
-// have, and how many of the `most` messages are still wanted.
+// How many bytes the leaf has that these bytes begin with, by its head, or 0 where there is none, or it isn't whole. Out of line: so the
+// loop over the table keeps nothing of a head.
+#[inline(never)]
+fn whole_leaf(bytes: &[u8], strict: bool) -> usize
+    ensures within { result ≤ length bytes.now }
+    ensures leaf { 0 < result → SpellsLeaf strict (take result bytes.now) }
+{
+    match leaf_at(bytes, strict) {
+        Some((payload, len)) => {
+            if payload as usize <= bytes.len() - len {
+                len + payload as usize
+            } else {
+                0
+            }
+        }
+        None => 0,
+    }
+}
+
+// The same, but that a short list or map is seen by its first byte.
+#[inline(always)]
+fn other_leaf(bytes: &[u8], strict: bool) -> usize
+    ensures within { result ≤ length bytes.now }
+    ensures leaf { 0 < result → SpellsLeaf strict (take result bytes.now) }
+{
+    match bytes {
+        [first, ..] => match first {
+            0x80..=0x9f => 0,
+            _ => whole_leaf(bytes, strict),
+        },
+        _ => 0,
+    }
+}
+
+// Passes over leaves, at most `most`, that are whole among these bytes, and looks at the table first. Returns how many bytes they have, and
+// how many of the `most` messages are still wanted.
 #[inline(always)]
 pub(super) fn pass_leaves(bytes: &[u8], strict: bool, most: u64) -> (usize, u64)
     ensures within { result.0 ≤ length bytes.now }
@@ -54,10 +90,16 @@ pub(super) fn pass_leaves(bytes: &[u8], strict: bool, most: u64) -> (usize, u64)
     let mut wanted = most;
     'leaves: while wanted > 0 && at < len {
         let payload = following(bytes[at], strict) as usize;
-        if payload >= len - at {
+        if payload < len - at {
+            at += 1 + payload;
+            wanted -= 1;
+            continue;
+        }
+        let size = other_leaf(&bytes[at..], strict);
+        if size == 0 {
             break;
         }
-        at += 1 + payload;
+        at += size;
         wanted -= 1;
     }
     (at, wanted)
