@@ -126,9 +126,17 @@ fn next_part<R: Source, C: SerializerConfig>(de: &mut Deserializer<R, C>) -> Res
     ensures err { IfErr result (λ e. ReadsHead R.Source de.old de.new (Err e)) }
 {
     match de.take(ShortParts) {
-        Some(p) => return Ok(Part::Parts(p.0, p.1)),
-        None => {}
+        Some(p) => Ok(Part::Parts(p.0, p.1)),
+        None => any_part(de),
     }
+}
+
+// The same for any head. Out of line: so a loop over short lists keeps nothing of a head.
+#[inline(never)]
+fn any_part<R: Source, C: SerializerConfig>(de: &mut Deserializer<R, C>) -> Result<Part, Error>
+    ensures ok { IfOk result (λ p. TakesPart R.Source p de.old de.new) }
+    ensures err { IfErr result (λ e. ReadsHead R.Source de.old de.new (Err e)) }
+{
     match de.any_head() {
         Ok(head) => match head.as_parts() {
             Some((is_map, n)) => Ok(Part::Parts(is_map, n)),
