@@ -11,7 +11,7 @@ ghost use Rattle.canon_lines.specs.Output.{PrintsLines, PrintsRun};
 ghost use Rattle.canon_lines.specs.Prints.{NoneBegins, PrintsMessages, StartsMessages, PrintsAll, StartsAll, Puts};
 ghost use Rattle.canon_lines.specs.Texts.{text_bytes};
 
-use crate::leaf::tell_leaf;
+use crate::leaf::tell_flat;
 use crate::lines::{self, RunFault, Shows, Stop, print_line, refuse_message};
 use crate::text::Text;
 use rmp_decode::{Deserializer, Error};
@@ -83,7 +83,7 @@ impl Messages {
         ensures none { IfErr result (λ e. e ≢ Error.OutOfMemory → NoneBegins bytes.now) }
         ensures wrong { IfErr result (λ e. e ≢ Error.OutOfMemory → Refusal false (UnreadFor false) ItemsUtf8 1024 e bytes.now) }
     {
-        match tell_leaf(bytes, &mut self.text) {
+        match tell_flat(bytes, &mut self.text) {
             Ok(0) => {}
             Ok(len) => return Ok(len),
             Err(_) => return Err(Error::OutOfMemory),

@@ -1,5 +1,6 @@
 //! The text of a line that is printed.
 ghost use Rattle.std.specs.Prelude.{◌≡◌, ◌≤◌, ◌+◌, ◌*◌, ◌++◌, ◌∷◌, [], length, vec_capacity, OnOk, IfSome};
+ghost use Rattle.std.specs.Fmt.{decimal};
 ghost use Rattle.hex.specs.Hex.{encode_lower};
 ghost use Rattle.canon_lines.specs.Texts.{text_bytes};
 
@@ -28,6 +29,8 @@ fn with_digits(before: Vec<u8>, bytes: &[u8]) -> Vec<u8>
 #[derive(Drop)]
 pub struct Text {
     bytes: Vec<u8>,
+    // the number that was appended last
+    digits: Vec<u8>,
 }
 
 impl Text {
@@ -37,6 +40,7 @@ impl Text {
     {
         Text {
             bytes: Vec::new(alloc),
+            digits: Vec::new(alloc),
         }
     }
 
@@ -67,12 +71,31 @@ impl Text {
         Ok(())
     }
 
-    /// Holds bytes, in place of what was held.
-    pub fn set(&mut self, bytes: &[u8]) -> Result<(), AllocError>
-        ensures text { OnOk result (text_bytes self.new ≡ bytes.now) }
+    /// Holds no text.
+    pub fn clear(&mut self)
+        ensures none { text_bytes self.new ≡ [] }
     {
         self.bytes.clear();
+    }
+
+    /// Appends bytes.
+    pub fn push(&mut self, bytes: &[u8]) -> Result<(), AllocError>
+        ensures text { OnOk result (text_bytes self.new ≡ text_bytes self.old ++ bytes.now) }
+    {
         self.bytes.extend_from_slice(bytes)
+    }
+
+    /// Appends a number in decimal.
+    pub fn push_number(&mut self, number: u64) -> Result<(), AllocError>
+        ensures text { OnOk result (text_bytes self.new ≡ text_bytes self.old ++ decimal number) }
+    {
+        let none = Vec::new(*self.digits.allocator());
+        let mut digits = mem::replace(&mut self.digits, none);
+        digits.clear();
+        let mut text = unsafe { String::from_utf8_unchecked(digits) };
+        text.write(number)?;
+        self.digits = text.into_bytes();
+        self.bytes.extend_from_slice(self.digits.as_slice())
     }
 
     /// Appends bytes in hex, in lower case.
