@@ -62,11 +62,15 @@ def parts(line):
 
 
 def broken(text, is_proof):
-    """The text with its long lines in parts; of code, only those of contracts."""
-    done = []
+    """The text with its long lines in parts; of code, only those of contracts, which go on until their bracket is closed."""
+    done, depth = [], 0
     for line in text.split("\n"):
         bare = line.strip()
-        apt = not bare.startswith(("--", "//")) and (is_proof or CONTRACT.match(bare))
+        is_comment = bare.startswith(("--", "//"))
+        in_contract = not is_proof and not is_comment and (depth > 0 or CONTRACT.match(bare))
+        if in_contract:
+            depth += line.count("{") - line.count("}")
+        apt = not is_comment and (is_proof or in_contract)
         done.extend(parts(line) if len(line) > WIDE and apt else [line])
     return "\n".join(done)
 

@@ -179,24 +179,33 @@ impl<'de, R: ReadSlice<'de>> Deserialize<'de, R> for Manifest {
         (λ human lends fs v. (
         Field (λ j. ⟦<String as Deserialize<'de, R>>⟧.reads human lends j v.first) (Absent ⟦<String as Deserialize<'de, R>>⟧.absent v.first) (
         Field (λ j. ⟦<Course as Deserialize<'de, R>>⟧.reads human lends j v.second) (Absent ⟦<Course as Deserialize<'de, R>>⟧.absent v.second) (
-        Field (λ j. ⟦<Vec<(u8, String)> as Deserialize<'de, R>>⟧.reads human lends j v.third) (Absent ⟦<Vec<(u8, String)> as Deserialize<'de, R>>⟧.absent v.third) (
+        Field (λ j. ⟦<Vec<(u8, String)> as Deserialize<'de, R>>⟧.reads human lends j v.third)
+        (Absent ⟦<Vec<(u8, String)> as Deserialize<'de, R>>⟧.absent v.third) (
         Field (λ j. ⟦<u128 as Deserialize<'de, R>>⟧.reads human lends j v.fourth) (Absent ⟦<u128 as Deserialize<'de, R>>⟧.absent v.fourth) (
         Field (λ j. ⟦<() as Deserialize<'de, R>>⟧.reads human lends j v.fifth) (Absent ⟦<() as Deserialize<'de, R>>⟧.absent v.fifth) (
         Field (λ j. ⟦<char as Deserialize<'de, R>>⟧.reads human lends j v.sixth) (Absent ⟦<char as Deserialize<'de, R>>⟧.absent v.sixth) (
         Field (λ j. ⟦<Spot as Deserialize<'de, R>>⟧.reads human lends j v.seventh) (Absent ⟦<Spot as Deserialize<'de, R>>⟧.absent v.seventh) (
-        Field (λ j. ⟦<BTreeMap<String, u64> as Deserialize<'de, R>>⟧.reads human lends j v.eighth) (Absent ⟦<BTreeMap<String, u64> as Deserialize<'de, R>>⟧.absent v.eighth) (
+        Field (λ j. ⟦<BTreeMap<String, u64> as Deserialize<'de, R>>⟧.reads human lends j v.eighth)
+        (Absent ⟦<BTreeMap<String, u64> as Deserialize<'de, R>>⟧.absent v.eighth) (
         Field (λ j. ⟦<[u16; 3] as Deserialize<'de, R>>⟧.reads human lends j v.rest.first) (Absent ⟦<[u16; 3] as Deserialize<'de, R>>⟧.absent v.rest.first) (
-        Field (λ j. ⟦<Option<Spot> as Deserialize<'de, R>>⟧.reads human lends j v.rest.second) (Absent ⟦<Option<Spot> as Deserialize<'de, R>>⟧.absent v.rest.second) (
+        Field (λ j. ⟦<Option<Spot> as Deserialize<'de, R>>⟧.reads human lends j v.rest.second)
+        (Absent ⟦<Option<Spot> as Deserialize<'de, R>>⟧.absent v.rest.second) (
         Field (λ j. ⟦<ByteBuf as Deserialize<'de, R>>⟧.reads human lends j v.rest.third) (Absent ⟦<ByteBuf as Deserialize<'de, R>>⟧.absent v.rest.third) (
-        Field (λ j. ⟦<(i64, Option<bool>) as Deserialize<'de, R>>⟧.reads human lends j v.rest.fourth) (Absent ⟦<(i64, Option<bool>) as Deserialize<'de, R>>⟧.absent v.rest.fourth) (
-        Field (λ j. ⟦<Option<String> as Deserialize<'de, R>>⟧.reads human lends j v.rest.fifth) (Absent ⟦<Option<String> as Deserialize<'de, R>>⟧.absent v.rest.fifth) (
+        Field (λ j. ⟦<(i64, Option<bool>) as Deserialize<'de, R>>⟧.reads human lends j v.rest.fourth)
+        (Absent ⟦<(i64, Option<bool>) as Deserialize<'de, R>>⟧.absent v.rest.fourth) (
+        Field (λ j. ⟦<Option<String> as Deserialize<'de, R>>⟧.reads human lends j v.rest.fifth)
+        (Absent ⟦<Option<String> as Deserialize<'de, R>>⟧.absent v.rest.fifth) (
         Field (λ j. ⟦<u32 as Deserialize<'de, R>>⟧.reads human lends j v.rest.sixth) (Absent ⟦<u32 as Deserialize<'de, R>>⟧.absent v.rest.sixth) (
-        Field (λ j. ⟦<F64Bits as Deserialize<'de, R>>⟧.reads human lends j v.rest.seventh) (Absent ⟦<F64Bits as Deserialize<'de, R>>⟧.absent v.rest.seventh) (
-        Field (λ j. ⟦<Vec<String> as Deserialize<'de, R>>⟧.reads human lends j v.rest.eighth) (Absent ⟦<Vec<String> as Deserialize<'de, R>>⟧.absent v.rest.eighth) (
+        Field (λ j. ⟦<F64Bits as Deserialize<'de, R>>⟧.reads human lends j v.rest.seventh)
+        (Absent ⟦<F64Bits as Deserialize<'de, R>>⟧.absent v.rest.seventh) (
+        Field (λ j. ⟦<Vec<String> as Deserialize<'de, R>>⟧.reads human lends j v.rest.eighth)
+        (Absent ⟦<Vec<String> as Deserialize<'de, R>>⟧.absent v.rest.eighth) (
         Field (λ j. ⟦<i16 as Deserialize<'de, R>>⟧.reads human lends j v.rest.rest.0) (Absent ⟦<i16 as Deserialize<'de, R>>⟧.absent v.rest.rest.0) (
         Field (λ j. ⟦<i128 as Deserialize<'de, R>>⟧.reads human lends j v.rest.rest.1) (Absent ⟦<i128 as Deserialize<'de, R>>⟧.absent v.rest.rest.1) (
-        Field (λ j. ⟦<BTreeSet<u16> as Deserialize<'de, R>>⟧.reads human lends j v.rest.rest.2) (Absent ⟦<BTreeSet<u16> as Deserialize<'de, R>>⟧.absent v.rest.rest.2) (
-        Field (λ j. ⟦<bool as Deserialize<'de, R>>⟧.reads human lends j v.rest.rest.3) (Absent ⟦<bool as Deserialize<'de, R>>⟧.absent v.rest.rest.3) NoField)))))))))))))))))))) fs)
+        Field (λ j. ⟦<BTreeSet<u16> as Deserialize<'de, R>>⟧.reads human lends j v.rest.rest.2)
+        (Absent ⟦<BTreeSet<u16> as Deserialize<'de, R>>⟧.absent v.rest.rest.2) (
+        Field (λ j. ⟦<bool as Deserialize<'de, R>>⟧.reads human lends j v.rest.rest.3) (Absent ⟦<bool as Deserialize<'de, R>>⟧.absent v.rest.rest.3)
+        NoField)))))))))))))))))))) fs)
         (
         part_of ⟦<String as Deserialize<'de, R>>⟧.reads ⟦<String as Deserialize<'de, R>>⟧.refuses ∷ (
         part_of ⟦<Course as Deserialize<'de, R>>⟧.reads ⟦<Course as Deserialize<'de, R>>⟧.refuses ∷ (

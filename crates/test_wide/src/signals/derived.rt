@@ -10,6 +10,7 @@ ghost use Rattle.rmp_decode.specs.Rows.{AndThen, NoMore, ReadsEach};
 ghost use Rattle.rmp_decode.specs.Seq.{OfRow};
 ghost use Rattle.rmp_decode.specs.Variants.{OfVariant, Case, NoCase, Bare, Content};
 ghost use Rattle.rmp_encode.specs.Data.{unit_variant};
+ghost use Rattle.rmp_encode.specs.Refusals.{OfParts, OfSink};
 ghost use Rattle.rmp_encode.specs.Sizes.{one_of};
 ghost use Rattle.rmp_encode.specs.Trees.{newtype_variant_of, tuple_variant_of, struct_variant_of};
 ghost use Rattle.rmp_round_trip.specs.LeafRounds.{byte_row, unsigned_row_16, unsigned_row_32, unsigned_row_64, signed_row_16};
@@ -173,6 +174,54 @@ impl Serialize for Signal {
         ∷ (one_of (⟦<Box<Spot> as Serialize>⟧.takes_memory s ∷ (⟦<i64 as Serialize>⟧.takes_memory s ∷ []))
         ∷ (one_of (⟦<Option<(u16, u16)> as Serialize>⟧.takes_memory s ∷ (⟦<bool as Serialize>⟧.takes_memory s ∷ []))
         ∷ (false ∷ [])))))))))))))))))))))))))))))) };
+
+    ghost refuses = { λ v. elim v [
+      | the_signal.Silent ↦ OfSink
+      | the_signal.Call a1 ↦ OfParts ⊥ (⟦<String as Serialize>⟧.refuses a1 ∷ [])
+      | the_signal.At a1
+          a2 ↦ OfParts ⊥ (⟦<i32 as Serialize>⟧.refuses a1 ∷ (⟦<i32 as Serialize>⟧.refuses a2 ∷ []))
+      | the_signal.Sail a1 a2 ↦ OfParts ⊥
+          (⟦<Course as Serialize>⟧.refuses a1 ∷ (⟦<u8 as Serialize>⟧.refuses a2 ∷ []))
+      | the_signal.Anchor ↦ OfSink
+      | the_signal.Depth a1 ↦ OfParts ⊥
+          (⟦<u16 as Serialize>⟧.refuses a1 ∷ [])
+      | the_signal.Depths a1 ↦ OfParts ⊥ (⟦<[u16; 4] as Serialize>⟧.refuses a1 ∷ [])
+      | the_signal.Spotted a1 ↦
+          OfParts ⊥ (⟦<Spot as Serialize>⟧.refuses a1 ∷ [])
+      | the_signal.Crew a1 ↦ OfParts ⊥ (⟦<Vec<String> as Serialize>⟧.refuses a1 ∷ [])
+      | the_signal.Meet
+          a1 a2 a3 ↦ OfParts ⊥ (⟦<Spot as Serialize>⟧.refuses a1 ∷ (⟦<u8 as Serialize>⟧.refuses a2 ∷ (⟦<Option<String> as Serialize>⟧.refuses a3 ∷ [])))
+      | the_signal.Distress ↦ OfSink
+      | the_signal.Heading a1 ↦ OfParts ⊥ (⟦<i16 as Serialize>⟧.refuses a1 ∷ [])
+      | the_signal.Weather a1 a2 ↦ OfParts ⊥
+          (⟦<F64Bits as Serialize>⟧.refuses a1 ∷ (⟦<char as Serialize>⟧.refuses a2 ∷ []))
+      | the_signal.Cargo a1 ↦ OfParts ⊥
+          (⟦<BTreeMap<String, u64> as Serialize>⟧.refuses a1 ∷ [])
+      | the_signal.Ports a1 ↦ OfParts ⊥ (⟦<BTreeSet<u16> as Serialize>⟧.refuses a1 ∷ [])
+      | the_signal.Chart a1 a2 a3 ↦ OfParts ⊥ (⟦<String as Serialize>⟧.refuses a1
+          ∷ (⟦<u128 as Serialize>⟧.refuses a2 ∷ (⟦<ByteBuf as Serialize>⟧.refuses a3 ∷ [])))
+      | the_signal.Answer a1 ↦ OfParts ⊥
+          (⟦<bool as Serialize>⟧.refuses a1 ∷ [])
+      | the_signal.Course a1 ↦ OfParts ⊥ (⟦<Course as Serialize>⟧.refuses a1 ∷ [])
+      | the_signal.Pair a1 ↦ OfParts
+          ⊥ (⟦<(u8, String) as Serialize>⟧.refuses a1 ∷ [])
+      | the_signal.Maybe a1 ↦ OfParts ⊥ (⟦<Option<u32> as Serialize>⟧.refuses a1 ∷ [])
+      | the_signal.Pilot a1 ↦ OfParts ⊥ (⟦<String as Serialize>⟧.refuses a1 ∷ [])
+      | the_signal.Quarantine ↦ OfSink
+      | the_signal.Tug a1 a2 a3 a4 ↦ OfParts ⊥
+          (⟦<u8 as Serialize>⟧.refuses a1 ∷ (⟦<u16 as Serialize>⟧.refuses a2 ∷ (⟦<u32 as Serialize>⟧.refuses a3 ∷ (⟦<u64 as Serialize>⟧.refuses a4 ∷ []))))
+      | the_signal.Debt a1 ↦ OfParts ⊥ (⟦<i128 as Serialize>⟧.refuses a1 ∷ [])
+      | the_signal.Nothing a1 ↦ OfParts ⊥ (⟦<() as Serialize>⟧.refuses a1 ∷ [])
+      | the_signal.Lights a1 a2 a3 a4 ↦ OfParts ⊥ (⟦<u8 as Serialize>⟧.refuses a1
+          ∷ (⟦<u8 as Serialize>⟧.refuses a2 ∷ (⟦<[u8; 2] as Serialize>⟧.refuses a3 ∷ (⟦<bool as Serialize>⟧.refuses a4 ∷ []))))
+      | the_signal.Flags a1 ↦
+          OfParts ⊥ (⟦<Vec<(u8, char)> as Serialize>⟧.refuses a1 ∷ [])
+      | the_signal.Towed a1 a2 ↦ OfParts ⊥
+          (⟦<Box<Spot> as Serialize>⟧.refuses a1 ∷ (⟦<i64 as Serialize>⟧.refuses a2 ∷ []))
+      | the_signal.Fog a1 a2 ↦ OfParts ⊥
+          (⟦<Option<(u16, u16)> as Serialize>⟧.refuses a1 ∷ (⟦<bool as Serialize>⟧.refuses a2 ∷ []))
+      | the_signal.Farewell ↦ OfSink
+    ] };
 
     #[tactic(auto, unfolding(rmp_encode::specs::Data::lower))]
     fn serialize<W: Sink, C: SerializerConfig>(
@@ -414,12 +463,43 @@ impl<'de, R: ReadSlice<'de>> Deserialize<'de, R> for Signal {
         ∷ (with_content (RefusesTuple (part_of ⟦<i32 as Deserialize<'de, R>>⟧.reads ⟦<i32 as Deserialize<'de, R>>⟧.refuses
         ∷ (part_of ⟦<i32 as Deserialize<'de, R>>⟧.reads ⟦<i32 as Deserialize<'de, R>>⟧.refuses ∷ [])))
         ∷ (with_content (RefusesFields (codes "course" ∷ (codes "reef" ∷ [])) ⟦<(Course, (u8, ())) as ReadFields<'de, R>>⟧.reads
-        ⟦<(Course, (u8, ())) as ReadFields<'de, R>>⟧.parts) ∷ (no_content ∷ (with_content (⟦<u16 as Deserialize<'de, R>>⟧.refuses) ∷ (with_content (⟦<[u16; 4] as Deserialize<'de, R>>⟧.refuses) ∷ (with_content (⟦<Spot as Deserialize<'de, R>>⟧.refuses) ∷ (with_content (⟦<Vec<String> as Deserialize<'de, R>>⟧.refuses) ∷ (with_content (RefusesFields (codes "spot" ∷ (codes "hour" ∷ (codes "name" ∷ []))) ⟦<(Spot, (u8, (Option<String>, ()))) as ReadFields<'de, R>>⟧.reads
-        ⟦<(Spot, (u8, (Option<String>, ()))) as ReadFields<'de, R>>⟧.parts) ∷ (no_content ∷ (with_content (⟦<i16 as Deserialize<'de, R>>⟧.refuses) ∷ (with_content (RefusesTuple (part_of ⟦<F64Bits as Deserialize<'de, R>>⟧.reads ⟦<F64Bits as Deserialize<'de, R>>⟧.refuses ∷ (part_of ⟦<char as Deserialize<'de, R>>⟧.reads ⟦<char as Deserialize<'de, R>>⟧.refuses ∷ []))) ∷ (with_content (⟦<BTreeMap<String, u64> as Deserialize<'de, R>>⟧.refuses) ∷ (with_content (⟦<BTreeSet<u16> as Deserialize<'de, R>>⟧.refuses) ∷ (with_content (RefusesFields (codes "name" ∷ (codes "seal" ∷ (codes "chart" ∷ []))) ⟦<(String, (u128, (ByteBuf, ()))) as ReadFields<'de, R>>⟧.reads
-        ⟦<(String, (u128, (ByteBuf, ()))) as ReadFields<'de, R>>⟧.parts) ∷ (with_content (⟦<bool as Deserialize<'de, R>>⟧.refuses) ∷ (with_content (⟦<Course as Deserialize<'de, R>>⟧.refuses) ∷ (with_content (⟦<(u8, String) as Deserialize<'de, R>>⟧.refuses) ∷ (with_content (⟦<Option<u32> as Deserialize<'de, R>>⟧.refuses) ∷ (with_content (RefusesFields (codes "name" ∷ []) ⟦<(String, ()) as ReadFields<'de, R>>⟧.reads
-        ⟦<(String, ()) as ReadFields<'de, R>>⟧.parts) ∷ (no_content ∷ (with_content (RefusesTuple (part_of ⟦<u8 as Deserialize<'de, R>>⟧.reads ⟦<u8 as Deserialize<'de, R>>⟧.refuses ∷ (part_of ⟦<u16 as Deserialize<'de, R>>⟧.reads ⟦<u16 as Deserialize<'de, R>>⟧.refuses ∷ (part_of ⟦<u32 as Deserialize<'de, R>>⟧.reads ⟦<u32 as Deserialize<'de, R>>⟧.refuses ∷ (part_of ⟦<u64 as Deserialize<'de, R>>⟧.reads ⟦<u64 as Deserialize<'de, R>>⟧.refuses ∷ []))))) ∷ (with_content (⟦<i128 as Deserialize<'de, R>>⟧.refuses) ∷ (with_content (⟦<() as Deserialize<'de, R>>⟧.refuses) ∷ (with_content (RefusesFields (codes "left" ∷ (codes "right" ∷ (codes "top" ∷ (codes "lit" ∷ [])))) ⟦<(u8, u8, [u8; 2], bool, ()) as ReadFields<'de, R>>⟧.reads
-        ⟦<(u8, u8, [u8; 2], bool, ()) as ReadFields<'de, R>>⟧.parts) ∷ (with_content (⟦<Vec<(u8, char)> as Deserialize<'de, R>>⟧.refuses) ∷ (with_content (RefusesFields (codes "by" ∷ (codes "since" ∷ [])) ⟦<(Box<Spot>, (i64, ())) as ReadFields<'de, R>>⟧.reads
-        ⟦<(Box<Spot>, (i64, ())) as ReadFields<'de, R>>⟧.parts) ∷ (with_content (RefusesTuple (part_of ⟦<Option<(u16, u16)> as Deserialize<'de, R>>⟧.reads ⟦<Option<(u16, u16)> as Deserialize<'de, R>>⟧.refuses ∷ (part_of ⟦<bool as Deserialize<'de, R>>⟧.reads ⟦<bool as Deserialize<'de, R>>⟧.refuses ∷ []))) ∷ (no_content ∷ [])))))))))))))))))))))))))))))) };
+        ⟦<(Course, (u8, ())) as ReadFields<'de, R>>⟧.parts)
+        ∷ (no_content ∷ (with_content (⟦<u16 as Deserialize<'de, R>>⟧.refuses)
+        ∷ (with_content (⟦<[u16; 4] as Deserialize<'de, R>>⟧.refuses)
+        ∷ (with_content (⟦<Spot as Deserialize<'de, R>>⟧.refuses)
+        ∷ (with_content (⟦<Vec<String> as Deserialize<'de, R>>⟧.refuses)
+        ∷ (with_content (RefusesFields (codes "spot" ∷ (codes "hour" ∷ (codes "name" ∷ [])))
+        ⟦<(Spot, (u8, (Option<String>, ()))) as ReadFields<'de, R>>⟧.reads
+        ⟦<(Spot, (u8, (Option<String>, ()))) as ReadFields<'de, R>>⟧.parts)
+        ∷ (no_content ∷ (with_content (⟦<i16 as Deserialize<'de, R>>⟧.refuses)
+        ∷ (with_content (RefusesTuple (part_of ⟦<F64Bits as Deserialize<'de, R>>⟧.reads ⟦<F64Bits as Deserialize<'de, R>>⟧.refuses
+        ∷ (part_of ⟦<char as Deserialize<'de, R>>⟧.reads ⟦<char as Deserialize<'de, R>>⟧.refuses ∷ [])))
+        ∷ (with_content (⟦<BTreeMap<String, u64> as Deserialize<'de, R>>⟧.refuses)
+        ∷ (with_content (⟦<BTreeSet<u16> as Deserialize<'de, R>>⟧.refuses)
+        ∷ (with_content (RefusesFields (codes "name" ∷ (codes "seal" ∷ (codes "chart" ∷ [])))
+        ⟦<(String, (u128, (ByteBuf, ()))) as ReadFields<'de, R>>⟧.reads
+        ⟦<(String, (u128, (ByteBuf, ()))) as ReadFields<'de, R>>⟧.parts)
+        ∷ (with_content (⟦<bool as Deserialize<'de, R>>⟧.refuses)
+        ∷ (with_content (⟦<Course as Deserialize<'de, R>>⟧.refuses)
+        ∷ (with_content (⟦<(u8, String) as Deserialize<'de, R>>⟧.refuses)
+        ∷ (with_content (⟦<Option<u32> as Deserialize<'de, R>>⟧.refuses)
+        ∷ (with_content (RefusesFields (codes "name" ∷ []) ⟦<(String, ()) as ReadFields<'de, R>>⟧.reads
+        ⟦<(String, ()) as ReadFields<'de, R>>⟧.parts) ∷ (no_content
+        ∷ (with_content (RefusesTuple (part_of ⟦<u8 as Deserialize<'de, R>>⟧.reads ⟦<u8 as Deserialize<'de, R>>⟧.refuses
+        ∷ (part_of ⟦<u16 as Deserialize<'de, R>>⟧.reads ⟦<u16 as Deserialize<'de, R>>⟧.refuses
+        ∷ (part_of ⟦<u32 as Deserialize<'de, R>>⟧.reads ⟦<u32 as Deserialize<'de, R>>⟧.refuses
+        ∷ (part_of ⟦<u64 as Deserialize<'de, R>>⟧.reads ⟦<u64 as Deserialize<'de, R>>⟧.refuses ∷ [])))))
+        ∷ (with_content (⟦<i128 as Deserialize<'de, R>>⟧.refuses)
+        ∷ (with_content (⟦<() as Deserialize<'de, R>>⟧.refuses)
+        ∷ (with_content (RefusesFields (codes "left" ∷ (codes "right" ∷ (codes "top" ∷ (codes "lit" ∷ []))))
+        ⟦<(u8, u8, [u8; 2], bool, ()) as ReadFields<'de, R>>⟧.reads
+        ⟦<(u8, u8, [u8; 2], bool, ()) as ReadFields<'de, R>>⟧.parts)
+        ∷ (with_content (⟦<Vec<(u8, char)> as Deserialize<'de, R>>⟧.refuses)
+        ∷ (with_content (RefusesFields (codes "by" ∷ (codes "since" ∷ [])) ⟦<(Box<Spot>, (i64, ())) as ReadFields<'de, R>>⟧.reads
+        ⟦<(Box<Spot>, (i64, ())) as ReadFields<'de, R>>⟧.parts)
+        ∷ (with_content (RefusesTuple (part_of ⟦<Option<(u16, u16)> as Deserialize<'de, R>>⟧.reads ⟦<Option<(u16, u16)> as Deserialize<'de, R>>⟧.refuses
+        ∷ (part_of ⟦<bool as Deserialize<'de, R>>⟧.reads ⟦<bool as Deserialize<'de, R>>⟧.refuses ∷ [])))
+        ∷ (no_content ∷ [])))))))))))))))))))))))))))))) };
 
     fn deserialize<C: SerializerConfig>(
         de: &mut Deserializer<R, C>,
