@@ -108,7 +108,7 @@ def shared_files(module: Module) -> Iterator[tuple[str, str, str]]:
 
 
 def through(module: Module, text: str) -> str:
-    """The text, where it names rmp_round_trip by way of the library through which the crate does."""
+    """The text, where it names rmp_round_trip through the library that the crate names."""
     return text.replace("Rattle.rmp_round_trip.", f"Rattle.{module.rounds()}.") if module.rounds() else text
 
 

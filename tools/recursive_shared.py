@@ -1,6 +1,6 @@
 """What the recursive types of a crate share: definitions and lemmas, which derive.py writes beside those of each type.
 
-CRATE stands for the crate's name, and a text's first line gets `Written by tools/derive.py`.
+CRATE is replaced by the crate's name, and a text's first line gets `Written by tools/derive.py`.
 """
 
 # Those of the definitions, and what follows of the parts.
