@@ -5,7 +5,7 @@ use rmp_wire::ReadRefReader;
 use std::alloc::Global;
 use std::process::Abort;
 use std::test::Fail;
-use test_recursive::{Nested, Rose, Tree};
+use test_recursive::{Expr, Nested, Rose, Tree};
 
 const TREE: &[u8] = b"\x81\xa4Node\x92\x81\xa4Leaf\x01\x81\xa4Node\x90";
 
@@ -94,6 +94,24 @@ fn trees(rt: HostRuntime) {
         read(rt.alloc(), 1024, other),
         "unknown variant",
     );
+}
+
+#[test]
+fn expressions(rt: HostRuntime) {
+    let sum = b"\x81\xa3Sum\x93\xa7Nothing\x81\xa3Not\x81\xa5Truth\xc3\x81\xa4Name\xa1x".as_slice();
+    let product = b"\x81\xa7Product\x92\x81\xa6Number\xd1\xff\x00\x81\xa3Sum\x90".as_slice();
+    for written in [sum, product] {
+        reads::<Expr>(&rt, rt.alloc(), 1024, written, false, written);
+        refused::<Expr>(&rt, rt.alloc(), read(rt.alloc(), 2, written), TOO_DEEP);
+        assert!(rt; strictly::<Expr>(rt.alloc(), written).is_ok());
+    }
+    for (input, why) in [
+        (b"\x81\xa3Not\xa3All".as_slice(), "unknown variant"),
+        (b"\x81\xa3Not\xa3Not", "invalid type"),
+        (b"\xa3Sum", "invalid type"),
+    ] {
+        refused::<Expr>(&rt, rt.alloc(), read(rt.alloc(), 1024, input), why);
+    }
 }
 
 #[test]
