@@ -44,7 +44,8 @@ from declarations import MOST, PLAIN, PRELUDE, Declared, Refused, identifiers, i
 from derived_proofs import answers, has_content
 from derived_rounds import LEMMAS, Own, Unknown
 from derived_rounds import implementations as rounds
-from derived_terms import EIGHT, GHOST, GROUP, MOST_IN_TUPLES, Words, alias, bound_name, data_of, eight_bound, member_of_reading, member_of_refusing, members_of_writing, memory_of, nested, place_of, refused_of, underscored
+from derived_terms import EIGHT, GHOST, GROUP, MOST_IN_TUPLES, Words, alias, bound_name, data_of, eight_bound, memory_of, nested, place_of
+from derived_terms import member_of_reading, member_of_refusing, members_of_writing, refused_of, underscored
 from imports import imports
 from modules import Files, Module, stale, sums_lines
 from shared import texts

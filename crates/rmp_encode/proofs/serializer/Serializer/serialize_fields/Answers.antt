@@ -29,7 +29,7 @@ pub returns-in_err-put_len-clause-error : goal.returns-in_err-put_len-clause-err
 returns-in_err-put_len-clause-error g c =
     let p = err_from_is_err_and c.from_residual.result c.from_residual.ensures.1 in
     rw (p.1, p.2) (of_no_part _ (g.E.Elements.refusals c.args.elements.now) _
-        (of_weaker (long_first g.E.Elements.count (lengths c.args.names.now)) _ (rw c.len.ensures at c.in_err-put_len.ensures.error)))
+    (of_weaker (long_first g.E.Elements.count (lengths c.args.names.now)) _ (rw c.len.ensures at c.in_err-put_len.ensures.error)))
 
 pub returns-clause-error : goal.returns-clause-error
 returns-clause-error g c = on_parts_weaker (long_after g.E.Elements.count (lengths c.args.names.now)) (g.E.Elements.refusals c.args.elements.now)

@@ -34,9 +34,10 @@ pub returns-in_err-open_variant-clause-error : goal.returns-in_err-open_variant-
 returns-in_err-open_variant-clause-error g c =
     let p = err_from_is_err_and c.from_residual.result c.from_residual.ensures.1 in
     rw (p.1, p.2) (of_no_part _ (g.E.Elements.refusals c.args.elements.now) _
-        (of_weaker (long_both (length c.args.variant.now) g.E.Elements.count (lengths c.args.names.now)) _
-        (rw c.len.ensures at c.in_err-open_variant.ensures.error)))
+    (of_weaker (long_both (length c.args.variant.now) g.E.Elements.count (lengths c.args.names.now)) _
+    (rw c.len.ensures at c.in_err-open_variant.ensures.error)))
 
 pub returns-clause-error : goal.returns-clause-error
 returns-clause-error g c = on_parts_weaker (λ h. long_after (length c.args.variant.now) (g.E.Elements.count ∷ lengths c.args.names.now)
-    (long_after g.E.Elements.count (lengths c.args.names.now) h)) (g.E.Elements.refusals c.args.elements.now) c.write_fields.result c.write_fields.ensures.error
+    (long_after g.E.Elements.count (lengths c.args.names.now) h)) (g.E.Elements.refusals c.args.elements.now) c.write_fields.result
+    c.write_fields.ensures.error

@@ -31,7 +31,7 @@ pub returns-in_err-three-clause-error : goal.returns-in_err-three-clause-error
 returns-in_err-three-clause-error g c =
     let p = err_from_is_err_and c.from_residual.result c.from_residual.ensures.1 in
     rw (p.1, p.2) (of_front ⊥ (g.A.Serialize.refuses c.args.a.now ∷ (g.B.Serialize.refuses c.args.b.now ∷ (g.D.Serialize.refuses c.args.d.now ∷ [])))
-        (g.E.Serialize.refuses c.args.e.now ∷ []) _ c.in_err-three.ensures.error)
+    (g.E.Serialize.refuses c.args.e.now ∷ []) _ c.in_err-three.ensures.error)
 
 pub returns-clause-error : goal.returns-clause-error
 returns-clause-error g c = on_back ⊥ (g.A.Serialize.refuses c.args.a.now ∷ (g.B.Serialize.refuses c.args.b.now ∷ (g.D.Serialize.refuses c.args.d.now ∷ [])))
