@@ -1,5 +1,32 @@
 -- A canonical message without parts, or a list or a map of such, and its text.
-use Rattle.std.proofs.Common.{arith, ◌≡◌, ◌∙◌, ℕ, zero, suc, ◌+◌, ◌-◌, ◌*◌, max, List, [], ◌∷◌, ◌++◌, length, take, refl, sym, ap, subst, Bool, true, false, pos, append_assoc, append-nil}
+use Rattle.std.proofs.Common.{
+  arith,
+  ◌≡◌,
+  ◌∙◌,
+  ℕ,
+  zero,
+  suc,
+  ◌+◌,
+  ◌-◌,
+  ◌*◌,
+  max,
+  List,
+  [],
+  ◌∷◌,
+  ◌++◌,
+  length,
+  take,
+  refl,
+  sym,
+  ap,
+  subst,
+  Bool,
+  true,
+  false,
+  pos,
+  append_assoc,
+  append-nil,
+}
 use Rattle.std.specs.Prelude.{codes, flat_map, Option, None, Some, Result, Ok, Err, IfOk, IfSome}
 use Rattle.std.specs.Fmt.{decimal}
 use Rattle.std.specs.Int.{to_be_bytes, w32, w64}
