@@ -1,11 +1,13 @@
 //! Structs of many fields and enums of many variants that are declared alone, whose implementations and proofs tools/derive.py wrote.
 #![tactic(auto)]
 
+mod flags;
 mod manifest;
 mod mixed;
 mod papers;
 mod signals;
 
+pub use flags::Flag;
 pub use manifest::Manifest;
 pub use mixed::{Course, Spot, Voyage};
 pub use papers::{Chart, Papers};

@@ -2,8 +2,9 @@
 use rmp_decode::{Error, Text, from_slice};
 use rmp_encode::{to_vec, to_vec_named};
 use rmp_wire::{F64Bits, Marker};
+use std::alloc::Global;
 use std::test::Fail;
-use test_wide::{Course, Signal, Spot};
+use test_wide::{Course, Flag, Signal, Spot};
 
 // Each variant of `Signal` with a value, in the order of the declaration.
 const SIGNALS: [&[u8]; 30] = [
@@ -137,4 +138,67 @@ fn no_signals(rt: HostRuntime) {
         b"\x81\xa5Towed\x81\xa2by\x92\x05\xc0",
     );
     assert!(rt; matches!(&read, Err(Error::Syntax(Text::MissingField))));
+}
+
+// The names of the variants of `Flag`, in the order of the declaration: each fourth has content.
+const FLAGS: [&str; 64] = [
+    "Alfa", "Bravo", "Charlie", "Delta", "Echo", "Foxtrot", "Golf", "Hotel", "India", "Juliett",
+    "Kilo", "Lima", "Mike", "November", "Oscar", "Papa", "Quebec", "Romeo", "Sierra", "Tango",
+    "Uniform", "Victor", "Whiskey", "Xray", "Yankee", "Zulu", "Zero", "One", "Two", "Three",
+    "Four", "Five", "Six", "Seven", "Eight", "Nine", "North", "East", "South", "West", "Red",
+    "Green", "Blue", "White", "Black", "Yellow", "Dawn", "Noon", "Dusk", "Night", "Spring",
+    "Summer", "Autumn", "Winter", "Rain", "Snow", "Hail", "Storm", "Calm", "Breeze", "Gale",
+    "Tide", "Reef", "Shoal",
+];
+
+// What is written of their contents, in turn.
+const CONTENTS: [&[u8]; 8] = [
+    b"\x07",
+    b"\xa1A",
+    b"\xd2\xff\xfe\xee\x90",
+    b"\xcf\x00\x00\x00\x01\x00\x00\x00\x00",
+    b"\xc3",
+    b"\xa1c",
+    b"\xd1\xff8",
+    b"\xcd\x01,",
+];
+
+fn flag_bytes(alloc: Global, place: usize, name: &str) -> Result<Vec<u8>, Fail> {
+    let mut bytes = Vec::new(alloc);
+    if place % 4 == 3 {
+        bytes.push(0x81)?;
+    }
+    bytes.push(0xa0 + name.len() as u8)?;
+    bytes.extend_from_slice(name.as_bytes())?;
+    if place % 4 == 3 {
+        bytes.extend_from_slice(CONTENTS[place / 4 % 8])?;
+    }
+    Ok(bytes)
+}
+
+#[test]
+fn sixty_four_variants(rt: HostRuntime) -> Result<(), Fail> {
+    for (place, name) in FLAGS.iter().enumerate() {
+        let bytes = flag_bytes(rt.alloc(), place, name)?;
+        let read: Result<Flag, Error> = from_slice(rt.alloc(), bytes.as_slice());
+        let Ok(flag) = read else {
+            return Err(Fail::from("a flag is refused"));
+        };
+        assert_eq!(rt; to_vec(rt.alloc(), &flag)?.as_slice(), bytes.as_slice());
+        let read: Result<Flag, Error> = from_slice(rt.alloc(), &[place as u8]);
+        assert_eq!(rt; read.is_ok(), place % 4 != 3);
+    }
+    Ok(())
+}
+
+#[test]
+fn some_of_sixty_four_variants(rt: HostRuntime) {
+    let read: Result<Flag, Error> = from_slice(rt.alloc(), b"\xa4Alfa");
+    assert!(rt; matches!(&read, Ok(Flag::Alfa)));
+    let read: Result<Flag, Error> = from_slice(rt.alloc(), b"\x3e");
+    assert!(rt; matches!(&read, Ok(Flag::Reef)));
+    let read: Result<Flag, Error> = from_slice(rt.alloc(), b"\x81\xa5Shoal\xcd\x01\x2c");
+    assert!(rt; matches!(&read, Ok(Flag::Shoal(300))));
+    let read: Result<Flag, Error> = from_slice(rt.alloc(), b"\x40");
+    assert!(rt; matches!(&read, Err(Error::Syntax(Text::UnknownVariant))));
 }
