@@ -102,6 +102,8 @@ class Declared:
     shape: Optional[Shape] = None
     variants: Optional[list[Shape]] = None
     lifetime: Optional[str] = None
+    # whether a note asks for `RoundTrip` though a half is written by hand
+    asked: bool = dataclasses.field(default=False, repr=False)
 
     def lent_for(self, lifetime: str) -> Declared:
         """The type, where what it borrows is lent for this lifetime."""
@@ -458,8 +460,6 @@ def variants_of(body: Span, lifetime: Optional[str], notes: renaming.Notes) -> l
             own.only("rename", "rename_all")
             key = own.rename or renaming.variant(notes.rename_all, found[0])
             variants.append(shape_of(found[0], bare.after(found.end()), lifetime, own.rename_all or notes.rename_all_fields, key))
-            if any(field.default for field in variants[-1].fields):
-                raise Refused("a variant's field has no default: put the fields in a struct")
             if own.rename_all and variants[-1].kind != "named":
                 raise Refused(f"{found[0]} has no fields with names to rename")
     if not variants:
@@ -511,15 +511,16 @@ def declared(source: Source, word: str, name: str, at: int, notes: renaming.Note
         raise Refused("a `where` isn't read: write the bounds at the parameters")
     end = at if text[at] == ";" else closing(text, at)
     if word == "enum":
-        notes.only("rename_all", "rename_all_fields")
+        notes.only("rename_all", "rename_all_fields", "round_trip")
         found = Declared(name, parameters, variants=variants_of(Span(source, at + 1, end - 1), lifetime, notes), lifetime=lifetime)
     else:
-        notes.only("rename_all")
+        notes.only("rename_all", "round_trip")
         found = Declared(name, parameters, shape=shape_of(name, Span(source, at, end), lifetime, notes.rename_all), lifetime=lifetime)
         if notes.rename_all and found.shape.kind != "named":
             raise Refused("it has no fields with names to rename")
     if lifetime and not any(re.search(rf"{lifetime}\b", kind) for kind in found.kinds()):
         raise Refused(f"no field borrows for {lifetime}")
+    found.asked = bool(notes.round_trip)
     check_mixed(found)
     for shape in found.shapes():
         check_shape(shape, MOST_NAMED if found.shape else MOST_NAMED_IN_VARIANT)

@@ -18,8 +18,9 @@ A comment line above a field, a variant or a type says what an attribute of serd
     // derive: rename = "id"                  above a field or a variant: the name that is written
     // derive: rename_all = "camelCase"       above a struct, an enum, or a variant with fields: the rule for the names in it
     // derive: rename_all_fields = "camelCase"    above an enum: the rule for the fields of its variants
-    // derive: default                        above a struct's field: a map may be without it, and it is empty, nought or false then
+    // derive: default                        above a field with a name: a map may be without it, and it is empty, nought or false then
     // derive: default = LIMIT                the same: it is this constant of the file, number, character or truth then
+    // derive: round_trip                     above a type, of which a trait is written by hand: `RoundTrip` is derived all the same
 
 The rules are those of serde. What can't be derived is refused, and the message says why, with the line. A trait that the file itself
 implements for a type isn't derived for it.
@@ -41,7 +42,7 @@ sys.dont_write_bytecode = True
 import derived_recursive as recursive
 import halves
 from declarations import MOST, PLAIN, PRELUDE, Declared, Refused, identifiers, is_flat
-from derived_proofs import answers, has_content
+from derived_proofs import answers, has_content, has_defaults
 from derived_rounds import LEMMAS, Own, Unknown
 from derived_rounds import implementations as rounds
 from derived_terms import EIGHT, GHOST, GROUP, MOST_IN_TUPLES, Words, alias, bound_name, data_of, eight_bound, memory_of, nested, place_of
@@ -257,7 +258,9 @@ def arm_of_reading(of, at, shape):
     if len(shape.fields) < 2 and shape.kind != "named":
         lines.append(f"Ok({names[0] if names else '()'}) => return {made},")
     else:
-        lines += ["Ok(parts) => {", *taken_differ(shape), f"return {made};", "}"]
+        # a default is put in the place of a part's value, so the type of the parts is named
+        typed = [f"let parts: {nested([field.read_as() for field in shape.fields])} = parts;"] * has_defaults(shape)
+        lines += ["Ok(parts) => {", *typed, *taken_differ(shape), f"return {made};", "}"]
     return [*lines, "Err(e) => return Err(e),", "},"]
 
 
@@ -375,9 +378,12 @@ def implementations(module: Module, wanted: list[Own]) -> str:
             continue
         items += writing(own.of) if "Serialize" in own.derived else []
         items += reading(own.of) if "Deserialize" in own.derived else []
+        why = module.unasked(own)
         try:
             items += rounds(own)
-        except Unknown as why:
+        except Unknown as unknown:
+            why = str(unknown)
+        if why:
             print(f"derive: {module.path}: {own.of.name} has no RoundTrip: {why}", file=sys.stderr)
     for count in more_parts(wanted):
         items += handing_over(count)

@@ -1,6 +1,7 @@
 """The proofs of what derive.py writes."""
 from __future__ import annotations
 
+import re
 from collections.abc import Iterable, Iterator
 from typing import TYPE_CHECKING
 
@@ -14,7 +15,7 @@ if TYPE_CHECKING:
 
 # Where the lemmas and signs of the answers come from.
 WORDS = {
-    "std.proofs.Common": "◌≡◌ refl arith rules Result List ℕ",
+    "std.proofs.Common": "◌≡◌ refl arith rules Result List ℕ Option None Some",
     "std.proofs.lemmas.Int": "to_z-of_z",
     "std.specs.Int": "w8 w16 w32 w64 w128",
     "std.specs.Prelude": "◌∷◌ [] codes true false pos negsuc string_bytes",
@@ -22,7 +23,7 @@ WORDS = {
     "rmp_wire.specs.Types": "buffer_bytes",
     "rmp_wire.specs.declared.source.Source": "Ghosts",
     "rmp_decode.specs.Law": "Lawful",
-    "rmp_decode.specs.Variants": "FailsToOpenVariant",
+    "rmp_decode.specs.Variants": "FailsToOpenVariant Content",
     "rmp_decode.specs.declared.deserializer.Deserializer": "Deserializer",
     "rmp_decode.specs.declared.error.Error": "Error",
     "rmp_decode.proofs.Defaults": "fields_given plain_field given_field fields_needed plain_needed given_needed none_needed given",
@@ -51,37 +52,44 @@ def part_of(shape: Shape, at: int) -> str:
     return "first" if shape.kind == "newtype" else "parts" + (place_of(at, len(shape.fields)) if shape.kind == "named" else f".{at}")
 
 
-def held(shape: Shape, arm: str, term: str) -> str:
+def held(shape: Shape, arm: str, term: str, others: frozenset[str] = frozenset()) -> str:
     """The term, where each number with a sign that was read in this arm is the same after a field held it."""
     for at, field in enumerate(shape.fields):
         if field.kind in SIGNED:
-            read = f"{filled(field)}.result" if field.default else f"{arm}.{part_of(shape, at)}"
+            read = f"{filled(field, arm, others)}.result" if field.default else f"{arm}.{part_of(shape, at)}"
             term = f"rw (to_z-of_z {SIGNED[field.kind]} {read} (search rules)) ({term})"
     return term
 
 
-def filled(field: Field) -> str:
-    """The call that puts a default in the place of a missing field's value."""
-    return f"c.unwrap_or-{bound_name(field)}"
+def filled(field: Field, arm: str, others: frozenset[str]) -> str:
+    """The call that puts a default in the place of a missing field's value. Its arm is in its name where a variant before has a default for
+    a field of the same name, which is one of these others."""
+    name = bound_name(field)
+    return f"c.unwrap_or-{name}" + (f"-{arm.partition('.')[2]}" if name in others else "")
 
 
-def defaulted_read(shape: Shape) -> tuple[str, str]:
-    """What the law of a struct is made of where a field has a default: from what was read to the value, and from a value to what is read."""
+def has_defaults(shape: Shape) -> bool:
+    return any(field.default for field in shape.fields)
+
+
+def defaulted_read(shape: Shape, fields: list[str], reading: str, arm: str = "c.in-Ok", others: frozenset[str] = frozenset()) -> tuple[str, str]:
+    """What a law is made of where a field has a default: from what was read to the value, and from the value, which has these fields and this
+    reading, to what is read."""
     back, needed, values, place = "(λ fs h. h)", "none_needed", [], "x.0"
-    for field in shape.fields:
-        values.append(f"given {place}.0" if field.default else f"r.0.{field.name}")
+    for field, value in zip(shape.fields, fields):
+        values.append(f"given {place}.0" if field.default else value)
         place += ".1" * bool(field.default)
-    for field in reversed(shape.fields):
+    for field, value in reversed(list(zip(shape.fields, fields))):
         if field.default:
             fact = f"(λ v. {field.default.holds('v')})"
-            back = f"(given_field _ _ {back} _ {fact} _ _ _ {field.default.proof} {filled(field)}.ensures)"
-            needed = f"(given_needed _ _ {needed} _ _ r.0.{field.name})"
+            back = f"(given_field _ _ {back} _ {fact} _ _ _ {field.default.proof} {filled(field, arm, others)}.ensures)"
+            needed = f"(given_needed _ _ {needed} _ _ {value})"
         else:
             back = f"(plain_field _ _ {back} _ _)"
             needed = f"(plain_needed _ _ {needed} _ _)"
     names = f"({codes(field.key for field in shape.fields)})"
-    forth = f"let x = fields_needed {names} _ _ {needed} m r.1 in ({nested(values, 'tt', eight_values)}, x.1)"
-    return f"λ m r. fields_given {names} _ _ {back} m r", f"λ m r. {forth}"
+    forth = f"let x = fields_needed {names} _ _ {needed} m {reading} in ({nested(values, 'tt', eight_values)}, x.1)"
+    return f"fields_given {names} _ _ {back} m r", forth
 
 
 def struct_read(shape: Shape) -> str:
@@ -93,8 +101,8 @@ def struct_read(shape: Shape) -> str:
         back, forth, refused = "λ m r. r.1", "λ m r. (r.0.0, ((λ e. cc), r.1))", "refused (λ e. cc)"
     elif shape.kind == "tuple":
         forth = f"λ m r. ({values_of([f'r.0.{field.name}' for field in shape.fields])}, r.1)"
-    elif any(field.default for field in shape.fields):
-        back, forth = defaulted_read(shape)
+    elif has_defaults(shape):
+        back, forth = (f"λ m r. {term}" for term in defaulted_read(shape, [f"r.0.{field.name}" for field in shape.fields], "r.1"))
     else:
         forth = f"λ m r. ({nested([f'r.0.{field.name}' for field in shape.fields], 'tt', eight_values)}, r.1)"
     text = answer("returns-in-Ok-clause-law", held(shape, "c.in-Ok", f"lawful_ok _ _ _ _ _ _ _ ({back}) c.in-Ok.ensures.law"))
@@ -121,10 +129,22 @@ unopened_by {R} {C} {g} {names} {old} {new} {e} f = new
 """
 
 
-def variant_read(call: str, at: int, shape: Shape, count: int) -> str:
-    """The three answers of a variant."""
+def variant_content(shape: Shape, arm: str, others: frozenset[str]) -> tuple[str, str]:
+    """From what was read of a variant's content to the value, and from the value to what is read."""
     n = len(shape.fields)
+    values = [f"h.{i}" for i in range(n)]
+    if has_defaults(shape):
+        given, needed = (f"(λ m r. {term})" for term in defaulted_read(shape, values, "r", arm, others))
+        return f"λ k h. ({'_, ' * n}refl, content_as _ _ {given} k h)", f"λ v k h. content_as _ _ {needed} k h.{n + 1}"
+    value = nested(values, "tt", eight_values) if shape.kind == "named" else values_of(values) if n else ""
+    return f"λ k h. ({'_, ' * n}refl, h)", f"λ v k h. readable _ k {value} h.{n + 1}" if n else "λ v k h. h.1"
+
+
+def variant_read(call: str, at: int, shape: Shape, of: Declared) -> str:
+    """The three answers of a variant."""
+    n, count = len(shape.fields), len(of.variants)
     last = at == count - 1
+    others = frozenset(bound_name(field) for variant in of.variants[:at] for field in variant.fields if field.default)
     if last:
         test = "k.field-0-0-test, " if count > 1 else ""
         start = f"\n    let k = c.in-Ok in\n    let at : k.field-0-0 ≡ {at} = omega (arith, {test}k.ensures.below) in\n    "
@@ -132,12 +152,9 @@ def variant_read(call: str, at: int, shape: Shape, count: int) -> str:
     else:
         start = "\n    "
         opened = f"(rw c.in-Ok-eq{at}-default.field-0-0-test at c.in-Ok-eq{at}-default.ensures.opened)"
-    done = f"λ k h. ({'_, ' * n}refl, h)"
-    values = [f"h.{i}" for i in range(n)]
-    value = nested(values, 'tt', eight_values) if shape.kind == "named" else values_of(values) if n else ""
-    back = f"λ v k h. readable _ k {value} h.{n + 1}" if n else "λ v k h. h.1"
+    done, back = variant_content(shape, f"c.in-Ok-{call}", others)
     ok = f"variant_ok _ _ _ _ _ _ (search rules) _ {at} _ _ ({done})\n    (c.in-Ok-{call}.ensures.ok _ {at} _ {opened})"
-    ok = start + held(shape, f"c.in-Ok-{call}", ok)
+    ok = start + held(shape, f"c.in-Ok-{call}", ok, others)
     err = f"{start}variant_err _ _ _ _ _ _ (search rules) _ {at} _ ({back})\n    (c.in-Err-{call}.ensures.err _ {at} _ {opened})"
     clauses, lemma = f"c.in-Err-{call}.ensures", "content_wrong" if n else "unit_wrong"
     given = f"(λ q. q) {clauses}.bare {clauses}.refused" if n else f"{clauses}.bare {clauses}.exact"
@@ -156,12 +173,22 @@ def calls_of(of: Declared) -> Iterator[str]:
         seen[call] = seen.get(call, 0) + 1
 
 
+# Of an enum of which a variant's field has a default.
+CONTENT_AS = """
+-- content that is read in one way, in another
+content_as : (P Q : Msg → Type 0) → ((m : Msg) → P m → Q m) → (c : Option Msg) → Content P c → Content Q c
+content_as P Q f None h = h
+content_as P Q f (Some m) h = f m h
+"""
+
+
 def enum_read(of: Declared) -> str:
-    text = "".join(variant_read(call, at, shape, len(of.variants)) for at, (call, shape) in enumerate(zip(calls_of(of), of.variants)))
+    text = "".join(variant_read(call, at, shape, of) for at, (call, shape) in enumerate(zip(calls_of(of), of.variants)))
     unopened = "(rw c.in-Err.is at c.deserialize_enum.follows.holds-at-none)"
     text += answer("returns-in-Err-clause-law", f"\n    variant_unopened _ _ _ _ _ _ (search rules) _ {unopened}")
     refused = REFUSED.format(call="f", law="returns-in-Err-clause-law g c").replace("left_by (f)", "unopened_by f")
-    return LEFT_BY + text + answer("returns-in-Err-clause-refused", f"\n    let f = {unopened[1:-1]} in\n    enum_unopened {refused} f")
+    start = LEFT_BY + CONTENT_AS * any(has_defaults(shape) for shape in of.variants)
+    return start + text + answer("returns-in-Err-clause-refused", f"\n    let f = {unopened[1:-1]} in\n    enum_unopened {refused} f")
 
 
 NO_BYTE = {"newtype": "newtype_no_byte", "tuple": "tuple_variant_no_byte", "named": "struct_variant_no_byte"}
@@ -180,10 +207,34 @@ def enum_no_byte(of: Declared) -> str:
     return "".join(answer(f"returns{arm}-clause-byte", f"search (rules, {NO_BYTE[shape.kind]})", given) for arm, shape in arms)
 
 
+# The calls by which variants with several fields are written.
+WRITTEN_BY = {"tuple": "serialize_tuple_variant_of", "named": "serialize_struct_variant_of"}
+# Types of fields of which no search finds, beside other fields, what is known of them.
+LISTED = re.compile(r"\b(Vec|VecDeque)<")
+
+
+def enum_values(of: Declared) -> str:
+    """An answer for each variant with a list beside other fields: what is known of its fields is known of the value."""
+    if of.lifetime or len(of.variants) < 2:
+        return ""
+    text, seen = "", set()
+    for shape in of.variants:
+        call = WRITTEN_BY.get(shape.kind)
+        if call and any(LISTED.match(field.kind) for field in shape.fields):
+            # the arm is in the call's name where a variant before is written by the same call
+            known = f"c.{call}{f'-in-{shape.name}' * (call in seen)}.ensures.value"
+            text += answer(f"returns-in-{shape.name}-clause-value", f"rw c.in-{shape.name}.is {known}")
+        seen.add(call)
+    return text
+
+
 def answers(of: Declared, traits: set[str], module: Module) -> Iterator[tuple[str, str, str]]:
     """The trait, the method, and the text of each proof."""
     if "Serialize" in traits and has_content(of):
         yield "Serialize", "as_u8", with_imports(enum_no_byte(of), module, f"{of.name}Serialize.as_u8")
+        values = enum_values(of)
+        if values:
+            yield "Serialize", "serialize", with_imports(values, module, f"{of.name}Serialize.serialize")
     if "Deserialize" in traits:
         text = struct_read(of.shape) if of.shape else enum_read(of)
         yield "Deserialize", "deserialize", with_imports(text, module, f"{of.name}Deserialize.deserialize", of.constants())

@@ -83,10 +83,23 @@ class Module:
             raise Refused("it declares no type that has an implementation to derive")
         return wanted
 
-    def traits(self, by_hand: set[str]) -> set[str]:
-        """The traits to derive, where these are implemented by hand: the last two go by the forms of the others."""
+    def traits(self, by_hand: set[str], asked: bool) -> set[str]:
+        """The traits to derive, where these are implemented by hand: `NeverNil` goes by the form of `Serialize`, and `RoundTrip` by those of
+        both, unless it is asked for."""
         traits = {"Serialize", "Deserialize"} - by_hand
-        return traits | {"RoundTrip", "NeverNil"} - by_hand if len(traits) == 2 and self.rounds() else traits
+        if not self.rounds():
+            if asked:
+                raise Refused(f"`round_trip` wants rmp_serde or rmp_round_trip, which crates.txt doesn't name for {self.name}")
+            return traits
+        more = {"NeverNil"} if asked or "Serialize" in traits else set()
+        return traits | (more | {"RoundTrip"} if asked or len(traits) == 2 else more) - by_hand
+
+    def unasked(self, own: Own) -> str:
+        """Why a type isn't asked for `RoundTrip`, if it isn't."""
+        by_hand = sorted({"Serialize", "Deserialize"} & own.by_hand)
+        if not by_hand or not self.rounds() or "RoundTrip" in own.derived | own.by_hand:
+            return ""
+        return f"its {by_hand[0]} is written by hand, and no line `// derive: round_trip` above it says that the law holds"
 
     def other(self, path: list[str]) -> Optional[Module]:
         """The file of a module that a `use` names, where it is one of the crate."""
@@ -107,7 +120,7 @@ class Module:
         has_derived = DERIVED.search(source)
         for name, of in read(source).items():
             by_hand = implemented(source, name)
-            derived = self.traits(by_hand) if has_derived else set()
+            derived = self.traits(by_hand, of.asked) if has_derived else set()
             modules = {trait: f"{self.name}.specs.contracts.{self.below(*['derived'] * (trait in derived))}" for trait in TRAITS}
             declared = f"{self.name}.specs.declared.{self.below(name)}"
             names[name] = Own(of, derived, by_hand, modules, names, declared, dict(brought_in(source)))

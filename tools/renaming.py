@@ -10,7 +10,7 @@ from typing import Optional
 
 RULES = "lowercase UPPERCASE PascalCase camelCase snake_case SCREAMING_SNAKE_CASE kebab-case SCREAMING-KEBAB-CASE".split()
 ITEM = re.compile(r'\s*(\w+)\s*(?:=\s*("(?:[^"\\]|\\.)*"|\'[^\']+\'|-?[0-9_]+|[A-Za-z_][\w:]*))?\s*(,|$)')
-WORDS = ("rename", "rename_all", "rename_all_fields", "default")
+WORDS = ("rename", "rename_all", "rename_all_fields", "default", "round_trip")
 # What serde has for names, for fields that are missing, and for other formats, and is written by hand here.
 BY_HAND = "docs/OWN_TYPES.md has the way to write such a type by hand"
 
@@ -28,6 +28,8 @@ class Notes:
         self.rename_all_fields: Optional[str] = None
         # What is after the word, or nothing.
         self.default: Optional[str] = None
+        # Whether the law is derived though a half is written by hand.
+        self.round_trip: Optional[bool] = None
 
     def read(self, text: str) -> None:
         """Takes what one note says."""
@@ -38,6 +40,11 @@ class Notes:
                 raise BadNote(f"`{word}` is there twice")
             if word == "default":
                 self.default = value or ""
+                continue
+            if word == "round_trip":
+                if value:
+                    raise BadNote("`round_trip` has no value")
+                self.round_trip = True
                 continue
             if not value or not value.startswith('"'):
                 raise BadNote(f'`{word}` wants a text, as `{word} = "{RULES[3] if word != "rename" else "id"}"`')

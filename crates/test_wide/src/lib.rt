@@ -2,13 +2,17 @@
 #![tactic(auto)]
 
 mod flags;
+mod halves;
 mod manifest;
 mod mixed;
 mod papers;
+mod ports;
 mod signals;
 
 pub use flags::Flag;
+pub use halves::{Buoy, Coast, Light};
 pub use manifest::Manifest;
 pub use mixed::{Course, Spot, Voyage};
 pub use papers::{Chart, Papers};
+pub use ports::Entry;
 pub use signals::Signal;

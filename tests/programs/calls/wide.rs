@@ -4,7 +4,7 @@ use rmp_encode::{to_vec, to_vec_named};
 use rmp_wire::{F64Bits, Marker};
 use std::alloc::Global;
 use std::test::Fail;
-use test_wide::{Course, Flag, Signal, Spot};
+use test_wide::{Buoy, Coast, Course, Entry, Flag, Light, Signal, Spot};
 
 // Each variant of `Signal` with a value, in the order of the declaration.
 const SIGNALS: [&[u8]; 30] = [
@@ -201,4 +201,71 @@ fn some_of_sixty_four_variants(rt: HostRuntime) {
     assert!(rt; matches!(&read, Ok(Flag::Shoal(300))));
     let read: Result<Flag, Error> = from_slice(rt.alloc(), b"\x40");
     assert!(rt; matches!(&read, Err(Error::Syntax(Text::UnknownVariant))));
+}
+
+#[test]
+fn defaults_in_variants(rt: HostRuntime) -> Result<(), Fail> {
+    let read: Result<Entry, Error> = from_slice(rt.alloc(), b"\x81\xa7Harbour\x81\xa4name\xa1A");
+    let Ok(
+        Entry::Harbour {
+            name,
+            berths: 4,
+            depth: -1,
+            notes,
+        },
+    ) = &read
+    else {
+        return Err(Fail::from("a harbour is refused"));
+    };
+    assert!(rt; name.as_str() == "A" && notes.as_slice().is_empty());
+    let read: Result<Entry, Error> = from_slice(rt.alloc(), b"\x81\xa5Canal\x80");
+    assert!(rt;
+        matches!(
+            &read,
+            Ok(Entry::Canal {
+                locked: true,
+                width: None,
+                berths: 0
+            })
+        )
+    );
+    let bytes = b"\x81\xa5Canal\x83\xa6berths\x07\xa6locked\xc2\xa5width\x05".as_slice();
+    let read: Result<Entry, Error> = from_slice(rt.alloc(), bytes);
+    assert!(rt;
+        matches!(
+            &read,
+            Ok(Entry::Canal {
+                locked: false,
+                width: Some(5),
+                berths: 7
+            })
+        )
+    );
+    let Ok(canal) = &read else {
+        return Err(Fail::from("a canal is refused"));
+    };
+    assert_eq!(rt;
+        to_vec(rt.alloc(), canal)?.as_slice(),
+        b"\x81\xa5Canal\x93\xc2\x05\x07".as_slice()
+    );
+    let read: Result<Entry, Error> = from_slice(rt.alloc(), b"\x81\xa7Harbour\x80");
+    assert!(rt; matches!(&read, Err(Error::Syntax(Text::MissingField))));
+    let read: Result<Entry, Error> = from_slice(rt.alloc(), b"\x81\xa5Canal\x92\xc2\x05");
+    assert!(rt; matches!(&read, Err(Error::Syntax(Text::InvalidLength))));
+    Ok(())
+}
+
+#[test]
+fn halves_by_hand(rt: HostRuntime) -> Result<(), Fail> {
+    let bytes = b"\x92\x91\x92\xa1A\xcd\x01\x2c\x92\xa1B\x09".as_slice();
+    let read: Result<Coast, Error> = from_slice(rt.alloc(), bytes);
+    let Ok(coast) = &read else {
+        return Err(Fail::from("a coast is refused"));
+    };
+    assert!(rt;
+        matches!(coast.buoys.as_slice(), [Buoy { name, depth: 300 }] if name.as_str() == "A")
+    );
+    assert!(rt; matches!(&coast.light, Some(Light { name, height: 9 }) if name.as_str() == "B"));
+    assert_eq!(rt; to_vec(rt.alloc(), coast)?.as_slice(), bytes);
+    Ok(())
 }
