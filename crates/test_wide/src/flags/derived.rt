@@ -4,6 +4,7 @@
 ghost use Rattle.rmp_decode.specs.EnumRefusing.{RefusesEnum, no_content, with_content};
 ghost use Rattle.rmp_decode.specs.Variants.{OfVariant, Case, NoCase, Bare, Content};
 ghost use Rattle.rmp_encode.specs.Data.{unit_variant};
+ghost use Rattle.rmp_encode.specs.Refusals.{OfParts, OfSink};
 ghost use Rattle.rmp_encode.specs.Sizes.{one_of};
 ghost use Rattle.rmp_encode.specs.Trees.{newtype_variant_of};
 ghost use Rattle.rmp_round_trip.specs.LeafRounds.{byte_row, unsigned_row_16, unsigned_row_64, signed_row_16, signed_row_32, truth_row, char_row, string_row};
@@ -202,6 +203,81 @@ impl Serialize for Flag {
         ∷ (false ∷ (false ∷ (false ∷ (⟦<char as Serialize>⟧.takes_memory s
         ∷ (false ∷ (false ∷ (false ∷ (⟦<i16 as Serialize>⟧.takes_memory s
         ∷ (false ∷ (false ∷ (false ∷ (⟦<u16 as Serialize>⟧.takes_memory s ∷ [])))))))))))))))))))))))))))))))))))))))))))))))))))))))))))))))) };
+
+    ghost refuses = { λ v. elim v [
+      | the_flag.Alfa ↦ OfSink
+      | the_flag.Bravo ↦ OfSink
+      | the_flag.Charlie ↦ OfSink
+      | the_flag.Delta a1 ↦ OfParts ⊥
+          (⟦<u8 as Serialize>⟧.refuses a1 ∷ [])
+      | the_flag.Echo ↦ OfSink
+      | the_flag.Foxtrot ↦ OfSink
+      | the_flag.Golf ↦ OfSink
+      | the_flag.Hotel a1 ↦ OfParts ⊥
+          (⟦<String as Serialize>⟧.refuses a1 ∷ [])
+      | the_flag.India ↦ OfSink
+      | the_flag.Juliett ↦ OfSink
+      | the_flag.Kilo ↦ OfSink
+      | the_flag.Lima a1 ↦
+          OfParts ⊥ (⟦<i32 as Serialize>⟧.refuses a1 ∷ [])
+      | the_flag.Mike ↦ OfSink
+      | the_flag.November ↦ OfSink
+      | the_flag.Oscar ↦ OfSink
+      | the_flag.Papa a1
+          ↦ OfParts ⊥ (⟦<u64 as Serialize>⟧.refuses a1 ∷ [])
+      | the_flag.Quebec ↦ OfSink
+      | the_flag.Romeo ↦ OfSink
+      | the_flag.Sierra ↦ OfSink
+      | the_flag.Tango
+          a1 ↦ OfParts ⊥ (⟦<bool as Serialize>⟧.refuses a1 ∷ [])
+      | the_flag.Uniform ↦ OfSink
+      | the_flag.Victor ↦ OfSink
+      | the_flag.Whiskey ↦ OfSink
+      | the_flag.Xray a1 ↦ OfParts ⊥ (⟦<char as Serialize>⟧.refuses a1 ∷ [])
+      | the_flag.Yankee ↦ OfSink
+      | the_flag.Zulu ↦ OfSink
+      | the_flag.Zero ↦ OfSink
+      | the_flag.One a1 ↦ OfParts ⊥ (⟦<i16 as Serialize>⟧.refuses a1 ∷ [])
+      | the_flag.Two ↦ OfSink
+      | the_flag.Three ↦ OfSink
+      | the_flag.Four ↦ OfSink
+      | the_flag.Five a1 ↦ OfParts ⊥ (⟦<u16 as Serialize>⟧.refuses a1 ∷ [])
+      | the_flag.Six ↦ OfSink
+      | the_flag.Seven ↦ OfSink
+      | the_flag.Eight ↦ OfSink
+      | the_flag.Nine a1 ↦ OfParts ⊥ (⟦<u8 as Serialize>⟧.refuses a1 ∷ [])
+      | the_flag.North ↦ OfSink
+      | the_flag.East ↦ OfSink
+      | the_flag.South ↦ OfSink
+      | the_flag.West a1 ↦ OfParts ⊥ (⟦<String as Serialize>⟧.refuses a1 ∷ [])
+      | the_flag.Red ↦ OfSink
+      | the_flag.Green ↦ OfSink
+      | the_flag.Blue ↦ OfSink
+      | the_flag.White a1 ↦ OfParts ⊥ (⟦<i32 as Serialize>⟧.refuses a1 ∷ [])
+      | the_flag.Black ↦ OfSink
+      | the_flag.Yellow ↦ OfSink
+      | the_flag.Dawn ↦ OfSink
+      | the_flag.Noon a1 ↦ OfParts ⊥ (⟦<u64 as Serialize>⟧.refuses a1 ∷ [])
+      | the_flag.Dusk ↦ OfSink
+      | the_flag.Night ↦ OfSink
+      | the_flag.Spring ↦ OfSink
+      | the_flag.Summer a1 ↦ OfParts ⊥ (⟦<bool as Serialize>⟧.refuses a1 ∷ [])
+      | the_flag.Autumn ↦ OfSink
+      | the_flag.Winter ↦ OfSink
+      | the_flag.Rain ↦
+          OfSink
+      | the_flag.Snow a1 ↦ OfParts ⊥ (⟦<char as Serialize>⟧.refuses a1 ∷ [])
+      | the_flag.Hail ↦ OfSink
+      | the_flag.Storm ↦ OfSink
+      | the_flag.Calm ↦
+          OfSink
+      | the_flag.Breeze a1 ↦ OfParts ⊥ (⟦<i16 as Serialize>⟧.refuses a1 ∷ [])
+      | the_flag.Gale ↦ OfSink
+      | the_flag.Tide ↦ OfSink
+      | the_flag.Reef ↦
+          OfSink
+      | the_flag.Shoal a1 ↦ OfParts ⊥ (⟦<u16 as Serialize>⟧.refuses a1 ∷ [])
+    ] };
 
     #[tactic(auto, unfolding(rmp_encode::specs::Data::lower))]
     fn serialize<W: Sink, C: SerializerConfig>(

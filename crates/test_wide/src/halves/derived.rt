@@ -8,6 +8,7 @@ ghost use Rattle.rmp_decode.specs.Fields.{OfFields, Field, Absent, NoField};
 ghost use Rattle.rmp_decode.specs.ReadFields.{reads_2};
 ghost use Rattle.rmp_decode.specs.Refusing.{part_of};
 ghost use Rattle.rmp_decode.specs.Rows.{ReadsEach};
+ghost use Rattle.rmp_encode.specs.Refusals.{OfParts};
 ghost use Rattle.rmp_encode.specs.Sizes.{one_of};
 ghost use Rattle.rmp_encode.specs.Trees.{structure_of};
 ghost use Rattle.rmp_round_trip.specs.LeafRounds.{unsigned_row_16, string_row};
@@ -97,6 +98,8 @@ impl Serialize for Light {
 
     ghost takes_memory = { λ s. one_of (⟦<String as Serialize>⟧.takes_memory s ∷ (⟦<u16 as Serialize>⟧.takes_memory s ∷ [])) };
 
+    ghost refuses = { λ v. OfParts ⊥ (⟦<String as Serialize>⟧.refuses v.name ∷ (⟦<u16 as Serialize>⟧.refuses v.height ∷ [])) };
+
     fn serialize<W: Sink, C: SerializerConfig>(
         &self,
         se: &mut Serializer<W, C>,
@@ -149,6 +152,8 @@ impl Serialize for Coast {
     ghost is_value = { λ v. ⟦<Vec<Buoy> as Serialize>⟧.is_value v.buoys × ⟦<Option<Light> as Serialize>⟧.is_value v.light };
 
     ghost takes_memory = { λ s. one_of (⟦<Vec<Buoy> as Serialize>⟧.takes_memory s ∷ (⟦<Option<Light> as Serialize>⟧.takes_memory s ∷ [])) };
+
+    ghost refuses = { λ v. OfParts ⊥ (⟦<Vec<Buoy> as Serialize>⟧.refuses v.buoys ∷ (⟦<Option<Light> as Serialize>⟧.refuses v.light ∷ [])) };
 
     fn serialize<W: Sink, C: SerializerConfig>(
         &self,

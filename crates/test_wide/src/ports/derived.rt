@@ -9,6 +9,7 @@ ghost use Rattle.rmp_decode.specs.Rows.{AndThen, NoMore, ReadsEach};
 ghost use Rattle.rmp_decode.specs.Seq.{OfRow};
 ghost use Rattle.rmp_decode.specs.Variants.{OfVariant, Case, NoCase, Bare, Content};
 ghost use Rattle.rmp_encode.specs.Data.{unit_variant};
+ghost use Rattle.rmp_encode.specs.Refusals.{OfParts, OfSink};
 ghost use Rattle.rmp_encode.specs.Sizes.{one_of};
 ghost use Rattle.rmp_encode.specs.Trees.{tuple_variant_of, struct_variant_of};
 ghost use Rattle.rmp_round_trip.specs.LeafRounds.{byte_row, unsigned_row_16, unsigned_row_64, signed_row_16, signed_row_32};
@@ -80,6 +81,23 @@ impl Serialize for Entry {
         ∷ (one_of (⟦<Vec<u8> as Serialize>⟧.takes_memory s ∷ (⟦<Vec<(u8, char)> as Serialize>⟧.takes_memory s ∷ []))
         ∷ (one_of (⟦<bool as Serialize>⟧.takes_memory s ∷ (⟦<Option<u16> as Serialize>⟧.takes_memory s ∷ (⟦<u16 as Serialize>⟧.takes_memory s ∷ [])))
         ∷ []))))))) };
+
+    ghost refuses = { λ v. elim v [
+      | the_entry.Closed ↦ OfSink
+      | the_entry.Harbour a1 a2 a3 a4 ↦ OfParts ⊥
+          (⟦<String as Serialize>⟧.refuses a1 ∷ (⟦<u16 as Serialize>⟧.refuses a2
+          ∷ (⟦<i32 as Serialize>⟧.refuses a3 ∷ (⟦<Vec<String> as Serialize>⟧.refuses a4 ∷ []))))
+      | the_entry.Queue a1 a2 ↦ OfParts ⊥
+          (⟦<Vec<u16> as Serialize>⟧.refuses a1 ∷ (⟦<u8 as Serialize>⟧.refuses a2 ∷ []))
+      | the_entry.Convoy a1 a2 ↦ OfParts ⊥
+          (⟦<Vec<String> as Serialize>⟧.refuses a1 ∷ (⟦<bool as Serialize>⟧.refuses a2 ∷ []))
+      | the_entry.Tally a1 a2 ↦ OfParts ⊥
+          (⟦<BTreeMap<String, u64> as Serialize>⟧.refuses a1 ∷ (⟦<i16 as Serialize>⟧.refuses a2 ∷ []))
+      | the_entry.Shift a1 a2 ↦ OfParts ⊥
+          (⟦<Vec<u8> as Serialize>⟧.refuses a1 ∷ (⟦<Vec<(u8, char)> as Serialize>⟧.refuses a2 ∷ []))
+      | the_entry.Canal a1 a2 a3 ↦ OfParts ⊥
+          (⟦<bool as Serialize>⟧.refuses a1 ∷ (⟦<Option<u16> as Serialize>⟧.refuses a2 ∷ (⟦<u16 as Serialize>⟧.refuses a3 ∷ [])))
+    ] };
 
     #[tactic(auto, unfolding(rmp_encode::specs::Data::lower))]
     fn serialize<W: Sink, C: SerializerConfig>(
@@ -196,8 +214,18 @@ impl<'de, R: ReadSlice<'de>> Deserialize<'de, R> for Entry {
         ∷ (codes "Queue" ∷ (codes "Convoy" ∷ (codes "Tally" ∷ (codes "Shift" ∷ (codes "Canal" ∷ [])))))))
         (no_content ∷ (with_content (RefusesFields (codes "name" ∷ (codes "berths" ∷ (codes "depth" ∷ (codes "notes" ∷ []))))
         ⟦<(String, Defaulted<u16>, Defaulted<i32>, Defaulted<Vec<String>>, ()) as ReadFields<'de, R>>⟧.reads
-        ⟦<(String, Defaulted<u16>, Defaulted<i32>, Defaulted<Vec<String>>, ()) as ReadFields<'de, R>>⟧.parts) ∷ (with_content (RefusesTuple (part_of ⟦<Vec<u16> as Deserialize<'de, R>>⟧.reads ⟦<Vec<u16> as Deserialize<'de, R>>⟧.refuses ∷ (part_of ⟦<u8 as Deserialize<'de, R>>⟧.reads ⟦<u8 as Deserialize<'de, R>>⟧.refuses ∷ []))) ∷ (with_content (RefusesFields (codes "ships" ∷ (codes "led" ∷ [])) ⟦<(Vec<String>, (bool, ())) as ReadFields<'de, R>>⟧.reads
-        ⟦<(Vec<String>, (bool, ())) as ReadFields<'de, R>>⟧.parts) ∷ (with_content (RefusesTuple (part_of ⟦<BTreeMap<String, u64> as Deserialize<'de, R>>⟧.reads ⟦<BTreeMap<String, u64> as Deserialize<'de, R>>⟧.refuses ∷ (part_of ⟦<i16 as Deserialize<'de, R>>⟧.reads ⟦<i16 as Deserialize<'de, R>>⟧.refuses ∷ []))) ∷ (with_content (RefusesTuple (part_of ⟦<Vec<u8> as Deserialize<'de, R>>⟧.reads ⟦<Vec<u8> as Deserialize<'de, R>>⟧.refuses ∷ (part_of ⟦<Vec<(u8, char)> as Deserialize<'de, R>>⟧.reads ⟦<Vec<(u8, char)> as Deserialize<'de, R>>⟧.refuses ∷ []))) ∷ (with_content (RefusesFields (codes "locked" ∷ (codes "width" ∷ (codes "berths" ∷ []))) ⟦<(Defaulted<bool>, (Option<u16>, (Defaulted<u16>, ()))) as ReadFields<'de, R>>⟧.reads
+        ⟦<(String, Defaulted<u16>, Defaulted<i32>, Defaulted<Vec<String>>, ()) as ReadFields<'de, R>>⟧.parts)
+        ∷ (with_content (RefusesTuple (part_of ⟦<Vec<u16> as Deserialize<'de, R>>⟧.reads ⟦<Vec<u16> as Deserialize<'de, R>>⟧.refuses
+        ∷ (part_of ⟦<u8 as Deserialize<'de, R>>⟧.reads ⟦<u8 as Deserialize<'de, R>>⟧.refuses ∷ [])))
+        ∷ (with_content (RefusesFields (codes "ships" ∷ (codes "led" ∷ [])) ⟦<(Vec<String>, (bool, ())) as ReadFields<'de, R>>⟧.reads
+        ⟦<(Vec<String>, (bool, ())) as ReadFields<'de, R>>⟧.parts)
+        ∷ (with_content (RefusesTuple (part_of ⟦<BTreeMap<String, u64> as Deserialize<'de, R>>⟧.reads
+        ⟦<BTreeMap<String, u64> as Deserialize<'de, R>>⟧.refuses
+        ∷ (part_of ⟦<i16 as Deserialize<'de, R>>⟧.reads ⟦<i16 as Deserialize<'de, R>>⟧.refuses ∷ [])))
+        ∷ (with_content (RefusesTuple (part_of ⟦<Vec<u8> as Deserialize<'de, R>>⟧.reads ⟦<Vec<u8> as Deserialize<'de, R>>⟧.refuses
+        ∷ (part_of ⟦<Vec<(u8, char)> as Deserialize<'de, R>>⟧.reads ⟦<Vec<(u8, char)> as Deserialize<'de, R>>⟧.refuses ∷ [])))
+        ∷ (with_content (RefusesFields (codes "locked" ∷ (codes "width" ∷ (codes "berths" ∷ [])))
+        ⟦<(Defaulted<bool>, (Option<u16>, (Defaulted<u16>, ()))) as ReadFields<'de, R>>⟧.reads
         ⟦<(Defaulted<bool>, (Option<u16>, (Defaulted<u16>, ()))) as ReadFields<'de, R>>⟧.parts) ∷ []))))))) };
 
     fn deserialize<C: SerializerConfig>(
