@@ -26,9 +26,10 @@ use Rattle.std.proofs.Common.{
   pos,
   append_assoc,
   append-nil,
+  ℤ,
 }
 use Rattle.std.specs.Prelude.{codes, flat_map, Option, None, Some, Result, Ok, Err, IfOk, IfSome}
-use Rattle.std.specs.Fmt.{decimal}
+use Rattle.std.specs.Fmt.{signed_decimal}
 use Rattle.std.specs.Int.{to_be_bytes, w32, w64}
 use Rattle.std.specs.Str.{IsUtf8}
 use Rattle.std.proofs.lemmas.List.{length-append, take_at}
@@ -91,13 +92,13 @@ leaf_false s o t l e = record {
   told = e;
 }
 
-pub leaf_number : (n : ℕ) (s o t : List ℕ) → length s ≡ 0 → t ≡ o ++ decimal n → TellsLeaf (Whole (pos n)) s o t
+pub leaf_number : (z : ℤ) (s o t : List ℕ) → length s ≡ 0 → t ≡ o ++ signed_decimal z → TellsLeaf (Whole z) s o t
 unfolding tree_text
-leaf_number n s o t l e = record {
-  message = whole (pos n);
+leaf_number z s o t l e = record {
+  message = whole z;
   leaf = refl;
   utf8 = tt;
-  spelled = no_payload (canon_head (Whole (pos n))) s l;
+  spelled = no_payload (canon_head (Whole z)) s l;
   fits = λ f b. f;
   told = e;
 }

@@ -25,8 +25,20 @@ fn unsigned(number: i128) -> Option<u64>
     }
 }
 
+// The number, where it is one below zero that has 64 bits.
+#[inline(always)]
+fn signed(number: i128) -> Option<i64>
+    ensures { IfSome result (λ n. number ≡ n) }
+{
+    if number < 0 && number >= i128::from(i64::MIN) {
+        Some(number as i64)
+    } else {
+        None
+    }
+}
+
 // Appends the tree of a message of this head and this payload, and says whether there is one: not for a list or a map, nor for a text
-// that isn't UTF-8. A number below zero and an extension are rare, and left to the trees.
+// that isn't UTF-8. An extension is rare, and left to the trees.
 #[inline(always)]
 fn push_payload(text: &mut Text, head: Head, payload: &[u8]) -> Result<bool, AllocError>
     requires long { length payload.now ≡ content_len head }
@@ -37,8 +49,11 @@ fn push_payload(text: &mut Text, head: Head, payload: &[u8]) -> Result<bool, All
         Head::Truth(true) => text.push(b"true")?,
         Head::Truth(false) => text.push(b"false")?,
         Head::Whole(number) => match unsigned(number) {
-            Some(number) => text.push_number(number)?,
-            None => return Ok(false),
+            Some(number) => text.push_printed(number)?,
+            None => match signed(number) {
+                Some(number) => text.push_printed(number)?,
+                None => return Ok(false),
+            },
         },
         Head::F32Bits(bits) => {
             text.push(b"f32:")?;

@@ -1,6 +1,5 @@
 //! The text of a line that is printed.
 ghost use Rattle.std.specs.Prelude.{◌≡◌, ◌≤◌, ◌+◌, ◌*◌, ◌++◌, ◌∷◌, [], length, vec_capacity, OnOk, IfSome};
-ghost use Rattle.std.specs.Fmt.{decimal};
 ghost use Rattle.hex.specs.Hex.{encode_lower};
 ghost use Rattle.canon_lines.specs.Texts.{text_bytes};
 
@@ -85,15 +84,15 @@ impl Text {
         self.bytes.extend_from_slice(bytes)
     }
 
-    /// Appends a number in decimal.
-    pub fn push_number(&mut self, number: u64) -> Result<(), AllocError>
-        ensures text { OnOk result (text_bytes self.new ≡ text_bytes self.old ++ decimal number) }
+    /// Appends what a value prints.
+    pub fn push_printed<D: fmt::Display + Drop>(&mut self, value: D) -> Result<(), AllocError>
+        ensures text { OnOk result (IfSome (D.output value) (λ text. text_bytes self.new ≡ text_bytes self.old ++ text)) }
     {
         let none = Vec::new(*self.digits.allocator());
         let mut digits = mem::replace(&mut self.digits, none);
         digits.clear();
         let mut text = unsafe { String::from_utf8_unchecked(digits) };
-        text.write(number)?;
+        text.write(value)?;
         self.digits = text.into_bytes();
         self.bytes.extend_from_slice(self.digits.as_slice())
     }

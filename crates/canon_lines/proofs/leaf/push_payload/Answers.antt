@@ -1,4 +1,4 @@
-use Rattle.std.proofs.Common.{rules, ◌≡◌, ◌∙◌, ◌++◌, List, ℕ, ap, sym, append_assoc}
+use Rattle.std.proofs.Common.{rules, pos, ◌≡◌, ◌∙◌, ◌++◌, List, ℕ, ap, sym, append_assoc}
 use Rattle.std.specs.Int.{w128}
 use Rattle.std.proofs.lemmas.Int.{to_z-of_z}
 use Rattle.hex.specs.Hex.{encode_lower}
@@ -28,10 +28,10 @@ returns-in_ok-push-in-Truth-false c = record {
       (leaf_false c.args.payload.now _ _ (c.requires.long ∙ ap content_len c.in-Truth-false.is) c.in_ok-push-in-Truth-false.ensures.text);
 }
 
-pub returns-in_ok-push_number-in-Some : goal.returns-in_ok-push_number-in-Some
-returns-in_ok-push_number-in-Some c = record {
+pub returns-in_ok-push_printed-in-Some : goal.returns-in_ok-push_printed-in-Some
+returns-in_ok-push_printed-in-Some c = record {
   told = λ _. rw (c.in-Whole.is, sym (to_z-of_z w128 c.in-Whole.number (search rules)) ∙ c.in-Some.ensures)
-      (leaf_number c.in-Some.number c.args.payload.now _ _ (c.requires.long ∙ ap content_len c.in-Whole.is) c.in_ok-push_number-in-Some.ensures.text);
+      (leaf_number (pos c.in-Some.number) c.args.payload.now _ _ (c.requires.long ∙ ap content_len c.in-Whole.is) c.in_ok-push_printed-in-Some.ensures.text);
 }
 
 pub returns-in_ok-push_digits-in-F32Bits : goal.returns-in_ok-push_digits-in-F32Bits
@@ -62,4 +62,11 @@ returns-in_ok-push_digits-in-Bin c = record {
   told = λ _. rw c.in-Bin.is
       (leaf_bytes c.in-Bin.field-0 c.args.payload.now _ _ (c.requires.long ∙ ap content_len c.in-Bin.is)
       (two _ _ _ _ _ c.in_ok-push-in-Bin.ensures.text c.in_ok-push_digits-in-Bin.ensures.hex));
+}
+
+pub returns-in_ok-push_printed-in-Some-signed : goal.returns-in_ok-push_printed-in-Some-signed
+returns-in_ok-push_printed-in-Some-signed c = record {
+  told = λ _. rw (c.in-Whole.is, sym (to_z-of_z w128 c.in-Whole.number (search rules)) ∙ c.in-Some-signed.ensures)
+      (leaf_number c.in-Some-signed.number c.args.payload.now (text_bytes c.args.text.now) (text_bytes c.push_printed-in-Some-signed.new.self)
+      (c.requires.long ∙ ap content_len c.in-Whole.is) (search rules));
 }
