@@ -38,7 +38,7 @@ fn unit(de: &mut OverCursor) -> Result<(), Error> {
 }
 
 // So many bytes were read.
-fn starts_at(rt: &impl Abort, de: &OverCursor, position: u64) {
+fn is_at(rt: &impl Abort, de: &OverCursor, position: u64) {
     assert_eq!(rt; de.position(), position);
 }
 
@@ -52,9 +52,9 @@ fn are(read: &Result<(ByteBuf, ByteBuf), Error>, first: &[u8], second: &[u8]) ->
 #[test]
 fn byte_buffers_over_a_cursor(rt: HostRuntime) {
     let mut de = over_cursor(&rt, b"\x92\xc4\x04quux\xc4\x03bar\x2a");
-    starts_at(&rt, &de, 0);
+    is_at(&rt, &de, 0);
     assert!(rt; are(&buffers(&mut de), b"quux", b"bar"));
-    starts_at(&rt, &de, 12);
+    is_at(&rt, &de, 12);
     gives(&rt, small(&mut de), 42);
     assert_eq!(rt; de.into_inner().position(), 13);
 }
@@ -88,7 +88,7 @@ fn a_kept_byte_counts_as_read(rt: HostRuntime) {
     });
     gives(&rt, read, Some(13));
     assert_eq!(rt; inside, 1);
-    starts_at(&rt, &de, 1);
+    is_at(&rt, &de, 1);
 }
 
 // Sets the source's position.
@@ -103,12 +103,12 @@ fn the_source_is_shown_and_changed(rt: HostRuntime) {
     assert_eq!(rt; de.get_ref().position(), 1);
     set_position(&mut de, 0);
     gives(&rt, unit(&mut de), ());
-    starts_at(&rt, &de, 1);
+    is_at(&rt, &de, 1);
     refused(&rt, unit(&mut de), NO_MARKER);
     // what has failed stays so, whatever the source has ahead then
     set_position(&mut de, 0);
     refused(&rt, unit(&mut de), FAILED_BEFORE);
-    starts_at(&rt, &de, 0);
+    is_at(&rt, &de, 0);
 }
 
 fn text_from(rt: &impl AllocGlobal, source: &mut Drip) -> Result<String, Error> {
@@ -254,7 +254,7 @@ fn pair_from(rt: &impl AllocGlobal, source: &mut Drip) -> Result<(u16, String), 
 }
 
 #[test]
-fn ends_and_faults_are_told_differ(rt: HostRuntime) {
+fn ends_and_faults_are_distinct(rt: HostRuntime) {
     let whole = b"\x92\xcd\x01\x02\xa2hi".as_slice();
     for n in 0..whole.len() {
         let (ended, late) = if n < 2 || n == 4 {

@@ -152,7 +152,7 @@ fn position(cursor: &Cursor<&[u8]>) -> u64 {
 }
 
 #[test]
-fn cursors_begin_where_they_start(rt: HostRuntime) {
+fn cursors_read_from_their_position(rt: HostRuntime) {
     let mut cursor = Cursor::new([1u8, 2, 3, 4, 5].as_slice());
     cursor.set_position(1);
     assert!(rt; is_front(&cursor, &[2, 3, 4, 5]));
@@ -166,7 +166,7 @@ fn cursors_begin_where_they_start(rt: HostRuntime) {
 }
 
 #[test]
-fn cursors_may_start_after_the_end(rt: HostRuntime) {
+fn cursors_may_be_after_the_end(rt: HostRuntime) {
     let mut cursor = Cursor::new([1u8, 2, 3, 4, 5].as_slice());
     cursor.set_position(77);
     assert!(rt; pulls(&mut cursor) == Some(0));
