@@ -209,12 +209,12 @@ def enum_no_byte(of: Declared) -> str:
 
 # The calls by which variants with several fields are written.
 WRITTEN_BY = {"tuple": "serialize_tuple_variant_of", "named": "serialize_struct_variant_of"}
-# Types of fields of which no search finds, beside other fields, what is known of them.
+# Types of fields of which no search finds, beside other fields, what is known of them and of their refusals.
 LISTED = re.compile(r"\b(Vec|VecDeque)<")
 
 
 def enum_values(of: Declared) -> str:
-    """An answer for each variant with a list beside other fields: what is known of its fields is known of the value."""
+    """Answers for each variant with a list beside other fields: what is known of its fields, and of their refusals, is so of the value."""
     if of.lifetime or len(of.variants) < 2:
         return ""
     text, seen = "", set()
@@ -222,8 +222,9 @@ def enum_values(of: Declared) -> str:
         call = WRITTEN_BY.get(shape.kind)
         if call and any(LISTED.match(field.kind) for field in shape.fields):
             # the arm is in the call's name where a variant before is written by the same call
-            known = f"c.{call}{f'-in-{shape.name}' * (call in seen)}.ensures.value"
-            text += answer(f"returns-in-{shape.name}-clause-value", f"rw c.in-{shape.name}.is {known}")
+            known = f"c.{call}{f'-in-{shape.name}' * (call in seen)}.ensures"
+            for clause in ("value", "error"):
+                text += answer(f"returns-in-{shape.name}-clause-{clause}", f"rw c.in-{shape.name}.is {known}.{clause}")
         seen.add(call)
     return text
 
