@@ -1,7 +1,7 @@
 """What derive.py writes for a recursive type.
 
-Such a type is an enum without parameters whose variants hold nothing or one value: a leaf, or the type again, in a `Vec` or a `Box`. What is
-known of it is said level by level, so it gets a file of definitions and laws, specs/TLevels.antt, and one of its round trip, specs/TRounds.antt.
+Such a type is an enum without parameters whose variants hold nothing or one value: a leaf, or the type again, in a `Vec`, a `Box`
+or an `Option<Box<_>>`. What is known of it is said level by level, so it gets a file of definitions and laws, specs/TLevels.antt, and one of its round trip, specs/TRounds.antt.
 What such types share are specs/Recursion.antt and specs/RecursionRounds.antt, and proofs/Recursion.antt.
 """
 from __future__ import annotations
@@ -12,7 +12,7 @@ from typing import TYPE_CHECKING, Iterator, Optional
 from declarations import Declared, Refused, declared_at
 from recursive_answers import proofs_file, reading_answers, reading_measures, writing_answers
 from recursive_code import leaf_readers, readers, reading, rounds, writing
-from recursive_levels import LEAVES, Level, levels_file, tables
+from recursive_levels import AGAIN, LEAVES, Level, levels_file, tables
 from recursive_rounds import rounds_file
 from recursive_shared import PROOFS, ROUNDS, SPECS
 
@@ -24,6 +24,7 @@ if TYPE_CHECKING:
 WORDS = {
     "rmp_decode.specs.Buffers": "IsBuffer",
     "rmp_decode.specs.Law": "Lawful",
+    "rmp_decode.specs.Options": "IsOption",
     "rmp_decode.specs.Read": "IsUnsigned IsSigned IsRaw IsChar",
     "rmp_decode.specs.Wide": "IsUnsigned128 IsSigned128",
     "rmp_wire.specs.Msg": "truth float32 float64",
@@ -54,13 +55,13 @@ def refusal(own: Own) -> Optional[str]:
         return "its name is a word of the definitions that are written for it: give it another"
     if of.shape:
         return "of such types only enums are derived: write it by hand, as Rose in crates/test_recursive"
-    known = {*LEAVES, f"Vec<{of.name}>", f"Box<{of.name}>"}
+    again = [it.kind.replace("{name}", of.name) for it in AGAIN]
     for shape in of.variants:
         if shape.kind not in ("unit", "newtype"):
             return f"{shape.name} has fields: a variant of such a type holds one value, or none"
         for field in shape.fields:
-            if field.kind not in known:
-                return f"{shape.name} holds a {field.kind}: a variant of such a type holds {', '.join(LEAVES)}, Vec<{of.name}> or Box<{of.name}>"
+            if field.kind not in [*LEAVES, *again]:
+                return f"{shape.name} holds a {field.kind}: a variant of such a type holds {', '.join([*LEAVES, *again[:-1]])} or {again[-1]}"
     return None
 
 
@@ -82,7 +83,7 @@ def items(module: Module, wanted: list[Own]) -> list[str]:
 def with_words(table: dict[str, str], module: Module, wanted: list[Own]) -> dict[str, str]:
     """The table of where ghost words come from, with those of these types."""
     found, levels = dict(table), levels_of(module, wanted)
-    more = WORDS | {f"{module.name}.specs.Recursion": "Row"} if levels else {}
+    more = WORDS | {f"{module.name}.specs.Recursion": "Row Boxed"} if levels else {}
     for level in levels:
         name, low = level.name, level.low
         more[f"{module.name}.specs.{name}Levels"] = f"Is{name} {low}_data {low}_fits"

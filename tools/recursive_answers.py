@@ -7,7 +7,7 @@ from typing import Optional
 from declarations import Shape
 from derived_proofs import SIGNED
 from recursive_code import holder
-from recursive_levels import Level, Part, brought_in, tables
+from recursive_levels import Again, Level, Part, brought_in, tables
 from shared import numbered
 
 
@@ -44,7 +44,7 @@ def writing_answers(level: Level, place: str) -> str:
             is_ = f"ap out-{name} (c.in-{shape.name}.is ∙ sym rolls-{shape.name}) ∙ out-roll-{name} {made}"
             term = f"let is = {is_} in\n    ok_holds {call}.result _ ({low}_fits_in c.args.self.now {made} is tt)"
         else:
-            fits = "all_by _ a.items h" if level.is_list(part) else "h"
+            fits = part.known if isinstance(part, Again) else "h"
             term = (f"let a = c.in-{shape.name}.value in\n    let is = ap out-{name} (c.in-{shape.name}.is ∙ sym (rolls-{shape.name} a)) ∙ out-roll-{name} ({made}) in\n"
                     f"    on_ok {call}.result _ _ (λ h. {low}_fits_in c.args.self.now ({made}) is ({fits})) {call}.ensures.value")
         text += f"\npub {goal} : goal.{goal}\n{goal} g t c =\n    {term}\n"
@@ -64,12 +64,12 @@ def answers_file(level: Level, place: str, text: str) -> str:
         "rmp_decode.proofs.Variants": "variant_ok variant_err variant_unopened readable given_read given_refused",
         f"{declared}.TheVariants": " ".join(f"rolls-{shape.name}" for shape, _ in level.variants),
         f"{level.crate}.proofs.Recursion": "on_ok ok_holds variant_done vec_row vec_done row_unopened row_refused row_unkept part_room"
-        " content_room_falls lent_law item_taken item_refused some_if some_if_err none_left never_none",
+        " content_room_falls lent_law item_taken item_refused option_law some_if some_if_err none_left never_none",
     }
     return brought_in(text, table) + goals_of(level, place) + text
 
 
-def list_answers(level: Level, part: Part) -> str:
+def list_answers(level: Level, part: Again) -> str:
     """How a list of the type is read."""
     fn, name = holder(level, part), f"Is{level.name}"
     start = f"let p = err_from_is_err_and c.from_residual{{at}}.result c.from_residual{{at}}.ensures.1 in\n"
@@ -114,7 +114,7 @@ def list_answers(level: Level, part: Part) -> str:
     return "".join(f"\npub {fn}-{goal} : goal.{fn}-{goal}\n{fn}-{goal} g t c =\n    {term}\n" for goal, term in terms.items())
 
 
-def box_answers(level: Level, part: Part) -> str:
+def box_answers(level: Level, part: Again) -> str:
     fn = holder(level, part)
     goal = f"{fn}-returns-in-Err"
     return f"\npub {goal} : goal.{goal}\n{goal} g t c = record {{\n  law = lawful_err _ _ _ _ _ _ (λ m r. (r.0.value, r.1)) c.in-Err.ensures.law;\n}}\n"
@@ -219,10 +219,23 @@ def enum_answers(level: Level) -> str:
 }}""")
 
 
+def option_answers(level: Level, part: Again) -> str:
+    """How an option is read, whose value isn't nil."""
+    fn = holder(level, part)
+    reads = f"(Boxed Is{level.name})"
+    return answer(f"{fn}-returns", f""" record {{
+  law = option_law g.R.Source {reads} _ _ _ _ (λ p q r h. h) _ c.deserialize_option_with.ensures;
+}}""") + answer(f"{fn}-deserialize_option_with-requires", f""" λ f d s p q.
+    let h = s.stays.room in
+    let e = ap (λ (z : _). max 1 z.room) q in
+    (omega (arith, h, e, c.decreases), ((λ a m. m), ((λ a m. m), (λ a m. m))))""")
+
+
 def reading_answers(level: Level, place: str) -> str:
     text = enum_answers(level)
+    holders = {"list": list_answers, "box": box_answers, "option": option_answers}
     for part in level.holders():
-        text += list_answers(level, part) if level.is_list(part) else box_answers(level, part)
+        text += holders[part.word](level, part)
     return answers_file(level, place, text)
 
 
@@ -236,15 +249,17 @@ def reading_measures(level: Level, place: str) -> str:
         if part and (part.is_lent or not part.is_leaf):
             calls += 1
             if not part.is_leaf:
-                measures[f"{fn}-newtype_variant_with" + f"+{calls}" * (calls > 1)] = " + 3"
+                measures[f"{fn}-newtype_variant_with" + f"+{calls}" * (calls > 1)] = " + 5"
     for part in level.holders():
-        measures[holder(level, part)] = " + 2"
-        if level.is_list(part):
-            read = holder(level, part)
+        read = holder(level, part)
+        measures[read] = " + 4" if part.word == "option" else " + 2"
+        if part.word == "option":
+            measures[f"{read}-deserialize_option_with"] = " + 3"
+        if part.word == "list":
             measures[f"{read}-next_element_with"] = " + 1"
             text += f"\nabbrev pub invariant-{read}-loop-items : goal.invariant-{read}-loop-items\ninvariant-{read}-loop-items g l = Values g.R.Source Is{level.name} l.initial.seq l.seq l.items.items\n"
             text += f"\nabbrev pub decreases-{read}-loop-items : goal.decreases-{read}-loop-items\ndecreases-{read}-loop-items g l = l.seq.left\n"
-    lines = "".join(f"\nabbrev pub decreases-{of} : goal.decreases-{of}\ndecreases-{of} g l = 4 * max 1 l.de.now.room{more}\n" for of, more in measures.items())
+    lines = "".join(f"\nabbrev pub decreases-{of} : goal.decreases-{of}\ndecreases-{of} g l = 6 * max 1 l.de.now.room{more}\n" for of, more in measures.items())
     text = "\n-- The content of a variant nests below it, and an element no deeper than its list." + lines + text
     table = {"std.proofs.Common": "◌+◌ ◌*◌ max", "rmp_decode.proofs.Seqs": "Values", f"{level.crate}.specs.{level.name}Levels": f"Is{level.name}"}
     return brought_in(text, table) + f"use Rattle.{level.crate}.proofs.{place}.Given as goal\n" + text

@@ -4,7 +4,7 @@ from __future__ import annotations
 from typing import Optional
 
 from declarations import Shape
-from recursive_levels import Level, Part
+from recursive_levels import BOX, Again, Level, Part
 from shared import texts
 
 
@@ -32,13 +32,12 @@ def function(name: str, kind: str, reads: str, body: list[str], more: str = "", 
 
 def closure(level: Level, part: Part, call: str) -> list[str]:
     """A call as a closure that states its promise."""
-    kind = part.kind if part.is_leaf or level.is_list(part) else f"Box<{level.name}>"
-    return [f"|de: &mut Deserializer<R, C>| -> Result<{kind}, rmp_decode::Error>", f"    {LAW.format(reads=read_as(level, part))}", f"{{ {call} }}"]
+    return [f"|de: &mut Deserializer<R, C>| -> Result<{part.kind}, rmp_decode::Error>", f"    {LAW.format(reads=read_as(level, part))}", f"{{ {call} }}"]
 
 
-def holder(level: Level, part: Part) -> str:
-    """The function that reads the type again, in a list or in a box."""
-    return f"read_{level.low}_{'list' if level.is_list(part) else 'box'}"
+def holder(level: Level, part: Again) -> str:
+    """The function that reads the type again, in a list, a box or an option."""
+    return f"read_{level.low}_{part.word}"
 
 
 def arm(level: Level, at: int, shape: Shape, part: Optional[Part]) -> list[str]:
@@ -64,20 +63,29 @@ def readers(level: Level) -> list[str]:
     body = [f"match de.deserialize_enum_by::<P>({texts(shape.key for shape, _ in level.variants)}) {{", *arms, "Err(e) => Err(e),", "}"]
     lines += function(f"read_{low}", name, f"Is{name}", body, more, cycle)
     for part in level.holders():
-        kind = part.kind
-        again = f"read_{low}::<R, C, P>(de)"
-        if level.is_list(part):
-            item = closure(level, Part(name, name, "{reads} {k} {a}", "", ""), again)
-            body = [
-                "let mut items = Vec::new(de.alloc());", "let mut seq = de.deserialize_seq()?;", f"while let Some(item) = seq.next_element_with({item[0]}", *item[1:],
-                ")? {", "items.push(item)?;", "}", "seq.end()?;", "Ok(items)",
-            ]
-        else:
-            body = [f"let value = match {again} {{", "Ok(value) => value,", "Err(e) => return Err(e),", "};", "match Box::new(de.alloc(), value) {",
-                    "Ok(boxed) => Ok(boxed),", "Err(_) => Err(de.refuse(rmp_decode::Error::OutOfMemory)),", "}"]
-        lines.append(f"// Reads a {'list of them' if level.is_list(part) else 'boxed one'}.")
-        lines += function(holder(level, part), kind, read_as(level, part), body, more, cycle)
+        lines.append(f"// Reads {READ[part.word]}.")
+        lines += function(holder(level, part), part.kind, read_as(level, part), held(level, part), more, cycle)
     return lines
+
+
+READ = {"list": "a list of them", "box": "a boxed one", "option": "nil as none, or else a boxed one"}
+
+
+def held(level: Level, part: Again) -> list[str]:
+    """How the type again is read."""
+    again = f"read_{level.low}::<R, C, P>(de)"
+    if part.word == "list":
+        item = closure(level, Part(level.name, level.name, "{reads} {k} {a}", "", ""), again)
+        return [
+            "let mut items = Vec::new(de.alloc());", "let mut seq = de.deserialize_seq()?;", f"while let Some(item) = seq.next_element_with({item[0]}", *item[1:],
+            ")? {", "items.push(item)?;", "}", "seq.end()?;", "Ok(items)",
+        ]
+    if part.word == "option":
+        box = BOX.of(level)
+        value = closure(level, box, f"{holder(level, box)}::<R, C, P>(de)")
+        return [f"de.deserialize_option_with({value[0]}", *value[1:], ")"]
+    return [f"let value = match {again} {{", "Ok(value) => value,", "Err(e) => return Err(e),", "};", "match Box::new(de.alloc(), value) {",
+            "Ok(boxed) => Ok(boxed),", "Err(_) => Err(de.refuse(rmp_decode::Error::OutOfMemory)),", "}"]
 
 
 def bounds(level: Level) -> str:

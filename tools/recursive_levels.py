@@ -28,13 +28,52 @@ class Part:
     # by what two values have the same content, and what a value of that content is written as
     key: str = "{a}"
     of_key: str = ""
-    is_leaf: bool = True
     # whether only a source that lends reads it
     is_lent: bool = False
+
+    @property
+    def is_leaf(self) -> bool:
+        return True
 
     def call(self) -> str:
         """The function that reads a leaf."""
         return f"read_{self.kind.lower()}"
+
+
+@dataclasses.dataclass(frozen=True)
+class Again(Part):
+    """The type {name} again, in a list, a box or an option, whose functions begin with {low}."""
+
+    # the word for what it is in
+    word: str = ""
+    # how its values are told apart where a level is mapped, and for each that P holds of its parts, and that what is known goes through
+    patterns: tuple[tuple[str, str, str], ...] = ()
+    # one step of its reading by another, and the number of its steps
+    wider: str = ""
+    counted: str = ""
+    # that P holds of its parts
+    parts: str = ""
+    # what is known of it from that it was written
+    known: str = "h"
+    # what it is written as, over the type's data, and that this isn't refused
+    own: str = ""
+    is_some: str = "h"
+    # by what the values x and y have the same content, and that then they are written alike, by {content}
+    same: str = ""
+    alike: str = ""
+
+    @property
+    def is_leaf(self) -> bool:
+        return False
+
+    def of(self, level: Level) -> Again:
+        """The same of a type."""
+        def told(it: object) -> object:
+            if isinstance(it, tuple):
+                return tuple(told(one) for one in it)
+            return it.replace("{name}", level.name).replace("{low}", level.low) if isinstance(it, str) else it
+
+        return Again(**{field.name: told(getattr(self, field.name)) for field in dataclasses.fields(self)})
 
 
 def unsigned(bits: int) -> Part:
@@ -86,6 +125,64 @@ LEAVES = {part.kind: part for part in [
     content("ByteBuf", "ByteBuf", "buffer_bytes", "IsBuffer", "bytes", "⊤", "buffer"),
 ]}
 
+LIST = Again(
+    "Vec<{name}>", "Vec {name} Global", "Row {reads} {k} {a}.items", "slice_of {a}.items", "AllByRecursion {fits} {a}.items",
+    row="""slice_row s (map {low}_data {a}.items) (λ ms. ReadsEach Is{name} ms {a}.items)
+      (each_row s {low}_data {name}Back Is{name} (λ w p. p) {a}.items (each_from {low}_fits {name}Back {a}.items h {fit}))""",
+    only="""list_only s (slice_of (map {low}_data {a}.items)) (λ us. us.items) Is{name} Same{name} {a}.items
+      (slice_row s (map {low}_data {a}.items) (λ ms. ReadsEach (Only Is{name} Same{name}) ms {a}.items)
+      (each_row s {low}_data {name}Only (Only Is{name} Same{name}) (λ w p. p) {a}.items (each_from {low}_fits {name}Only {a}.items h {fit})))""",
+    word="list",
+    patterns=(("a", "each_holds P first h a.items", "through at k a.items"),),
+    wider="row_as P Q f m a.items h",
+    counted="let i = row_in {name}In {low}_up m a.items h in (i.0, (a, e, i.1))",
+    parts="All P {a}.items",
+    known="all_by _ a.items h",
+    own="slice_of (map {low}_data {a}.items)",
+    is_some="(slice_some (map {low}_data {a}.items) (each_data {low}_data {a}.items h))",
+    same="Alike Same{name} x.items y.items",
+    alike="""ap (λ ds. newtype_variant_of {of} (slice_of ds))
+      (map_alike {low}_data {a}.items j.0.items {content})""",
+)
+
+BOX = Again(
+    "Box<{name}>", "Box {name} Global", "{reads} {k} {a}.value", "{a}.value", "{fits} {a}.value",
+    row="h {fit}",
+    only="inside_only s ({low}_data {a}.value) (λ b. b.value) Is{name} Same{name} {a}.value (h {fit})",
+    word="box",
+    patterns=(("a", "h a.value", "refl"),),
+    wider="f m a.value h",
+    counted="(h.0, (a, e, h.1))",
+    parts="P {a}.value",
+    own="{low}_data {a}.value",
+    same="Same{name} x.value y.value",
+    alike="ap (λ d. newtype_variant_of {of} d) {content}",
+)
+
+BOXED = "(b : Box {name} Global)"
+OPTION = Again(
+    "Option<Box<{name}>>", "Option (Box {name} Global)", "IsOption (Boxed {reads}) {k} {a}", "option_of (λ b. b.value) {a}",
+    "IfSome {a} (λ b. {fits} b.value)",
+    row=f"""option_row s (λ {BOXED}. {{low}}_data b.value) (λ b. {{name}}Back b.value) (Boxed Is{{name}})
+      (λ b. {{low}}_other b.value) (λ b p. p) {{a}} (option_from (λ {BOXED}. {{low}}_fits b.value) (λ b. {{name}}Back b.value) {{a}} h {{fit}})""",
+    only=f"""option_only s (option_of (λ {BOXED}. {{low}}_data b.value) {{a}}) (Boxed Is{{name}}) (λ b c. Same{{name}} b.value c.value) {{a}}
+      (option_row s (λ {BOXED}. {{low}}_data b.value) (λ b. {{name}}Only b.value) (Only (Boxed Is{{name}}) (λ b c. Same{{name}} b.value c.value))
+      (λ b. {{low}}_other s b.value) (λ b p. inside_only s ({{low}}_data b.value) (λ {BOXED}. b.value) Is{{name}} Same{{name}} b.value p) {{a}}
+      (option_from (λ {BOXED}. {{low}}_fits b.value) (λ b. {{name}}Only b.value) {{a}} h {{fit}}))""",
+    word="option",
+    patterns=(("None", "tt", "refl"), ("(Some a)", "h a.value", "refl")),
+    wider="option_as (Boxed P) (Boxed Q) (λ n b. f n b.value) m a h",
+    counted="let i = option_in (λ n. Boxed ({name}In n)) m a h in (i.0, (a, e, i.1))",
+    parts="IfSome {a} (λ b. P b.value)",
+    own=f"option_of (λ {BOXED}. {{low}}_data b.value) {{a}}",
+    is_some=f"(option_data (λ {BOXED}. {{low}}_data b.value) {{a}} h)",
+    same=f"AlikeOption (λ {BOXED} c. Same{{name}} b.value c.value) x y",
+    alike=f"""ap (λ d. newtype_variant_of {{of}} d)
+      (option_alike (λ {BOXED}. {{low}}_data b.value) {{a}} j.0 {{content}}) ∙ sym ({{low}}_at_{{shape}} j.0)""",
+)
+
+AGAIN = (LIST, BOX, OPTION)
+
 
 class Level:
     """A type that leads back to itself: its variants with what they hold, and the names of what is written for it."""
@@ -100,12 +197,7 @@ class Level:
         kind = shape.fields[0].kind if shape.fields else None
         if kind is None or kind in LEAVES:
             return LEAVES.get(kind)
-        if kind == f"Vec<{self.name}>":
-            return Part(kind, f"Vec {self.name} Global", "Row {reads} {k} {a}.items", "slice_of {a}.items", "AllByRecursion {fits} {a}.items", is_leaf=False)
-        return Part(kind, f"Box {self.name} Global", "{reads} {k} {a}.value", "{a}.value", "{fits} {a}.value", is_leaf=False)
-
-    def is_list(self, part: Part) -> bool:
-        return part.kind.startswith("Vec<")
+        return next((again for again in (it.of(self) for it in AGAIN) if again.kind == kind), None)
 
     def made(self, shape: Shape, part: Optional[Part], value: str = "a") -> str:
         """A level that is this variant."""
@@ -118,9 +210,12 @@ class Level:
         """What its leaves are, each once."""
         return list(dict.fromkeys(part for _, part in self.variants if part and part.is_leaf))
 
-    def holders(self) -> list[Part]:
-        """What it is again in, each once."""
-        return list(dict.fromkeys(part for _, part in self.variants if part and not part.is_leaf))
+    def holders(self) -> list[Again]:
+        """What it is again in, each once. An option's value is in a box."""
+        found = dict.fromkeys(part for _, part in self.variants if isinstance(part, Again))
+        if OPTION.of(self) in found:
+            found[BOX.of(self)] = None
+        return list(found)
 
 
 def peano(at: int) -> str:
@@ -208,15 +303,12 @@ def steps_of(level: Level) -> str:
     wider, counted = "", ""
     for at, (shape, part) in enumerate(level.variants):
         place = peano(at)
-        if part is None or part.is_leaf:
+        if not isinstance(part, Again):
             wider += f"{low}_as P Q f v {place} c h = h\n"
             counted += f"{low}_in v {place} c h = (zero, h)\n"
             continue
-        as_, in_ = (f"row_as P Q f m a.items h", f"let i = row_in {name}In {low}_up m a.items h in (i.0, (a, e, i.1))")
-        if not level.is_list(part):
-            as_, in_ = "f m a.value h", "(h.0, (a, e, h.1))"
-        wider += f"{low}_as P Q f v {place} None (a, e, h) = absurd h\n{low}_as P Q f v {place} (Some m) (a, e, h) = (a, e, {as_})\n"
-        counted += f"{low}_in v {place} None (a, e, h) = absurd h\n{low}_in v {place} (Some m) (a, e, h) = {in_}\n"
+        wider += f"{low}_as P Q f v {place} None (a, e, h) = absurd h\n{low}_as P Q f v {place} (Some m) (a, e, h) = (a, e, {part.wider})\n"
+        counted += f"{low}_in v {place} None (a, e, h) = absurd h\n{low}_in v {place} (Some m) (a, e, h) = {part.counted}\n"
     end = last_place(len(level.variants))
     wider += f"{low}_as P Q f v {end} c h = absurd h\n"
     counted += f"{low}_in v {end} c h = absurd h\n"
@@ -255,15 +347,12 @@ def induction_of(level: Level) -> str:
     name, low = level.name, level.low
     kids, hold, through = "", "", ""
     for shape, part in level.variants:
-        made = level.made(shape, part)
-        terms = ("⊤", "tt", "refl")
-        if part and not part.is_leaf:
-            terms = ("P a.value", "h a.value", "refl")
-            if level.is_list(part):
-                terms = ("All P a.items", "each_holds P first h a.items", "through at k a.items")
-        kids += f"{name}Parts P {made} = {terms[0]}\n"
-        hold += f"{low}_parts_hold P first h {made} = {terms[1]}\n"
-        through += f"{low}_through X at k {made} = {terms[2]}\n"
+        again = isinstance(part, Again)
+        kids += f"{name}Parts P {level.made(shape, part)} = {part.parts.format(a='a') if again else '⊤'}\n"
+        for value, holds, goes in part.patterns if again else (("a", "tt", "refl"),):
+            made = level.made(shape, part, value)
+            hold += f"{low}_parts_hold P first h {made} = {holds}\n"
+            through += f"{low}_through X at k {made} = {goes}\n"
     return f"""
 -- ---- induction
 
@@ -306,7 +395,7 @@ def tables(level: Level) -> dict[str, str]:
         "std.specs.Char": "IsScalar",
         "std.specs.Int": "w8 w16 w32 w64 w128",
         "std.specs.List": "AllByRecursion",
-        "std.specs.Prelude": "◌≢◌ ◌<◌ ◌^◌ ⊤ codes Vec Bool ℤ pos negsuc FitsSigned IsUtf8 IsSome string_bytes",
+        "std.specs.Prelude": "◌≢◌ ◌<◌ ◌^◌ ⊤ codes Vec Bool ℤ pos negsuc FitsSigned IsUtf8 IsSome IfSome string_bytes",
         "std.specs.declared.alloc.Global": "Global",
         "rmp_wire.specs.Msg": "Msg nil",
         "rmp_wire.specs.Types": "buffer_bytes",
@@ -314,27 +403,28 @@ def tables(level: Level) -> dict[str, str]:
         "rmp_decode.specs.Buffers": "IsBuffer",
         "rmp_decode.specs.Wide": "IsUnsigned128 IsSigned128",
         "rmp_decode.specs.Law": "Readable",
+        "rmp_decode.specs.Options": "IsOption",
         "rmp_decode.specs.Read": "IsUnsigned IsSigned IsRaw IsChar",
         "rmp_decode.specs.Rows": "ReadsEach",
         "rmp_decode.specs.Variants": "OfVariant Case NoCase Bare Content",
         "rmp_encode.specs.Data": "Data byte whole unsigned128 signed128 truth float32 float64 char text bytes unit_variant",
-        "rmp_encode.specs.Trees": "tree_of slice_of newtype_variant_of",
+        "rmp_encode.specs.Trees": "tree_of slice_of option_of newtype_variant_of",
         "rmp_encode.specs.declared.settings.Settings": "Settings",
         "rmp_round_trip.specs.LeafRounds": " ".join(["byte_row truth_row float32_row float64_row char_row string_row buffer_row", *(f"{sign}_row_{bits}" for sign in ("signed", "unsigned") for bits in (8, 16, 32, 64))]),
         "rmp_round_trip.specs.OnlyFields": "AtPlace AnyContent content_only variant_both",
         "rmp_round_trip.specs.OnlyLeaves": "truth_only byte_only unsigned_only signed_only unsigned128_only signed128_only float32_only float64_only"
         " char_only string_only buffer_only",
-        "rmp_round_trip.specs.OnlyRows": "inside_only list_only lowers_then",
-        "rmp_round_trip.specs.RoundTrip": "Alike LowersTo Only",
-        "rmp_round_trip.specs.Rounds": "slice_some each_row slice_row",
+        "rmp_round_trip.specs.OnlyRows": "inside_only list_only option_only lowers_then",
+        "rmp_round_trip.specs.RoundTrip": "Alike AlikeOption LowersTo Only",
+        "rmp_round_trip.specs.Rounds": "slice_some each_row slice_row option_row",
         "rmp_round_trip.specs.VariantRounds": "newtype_variant_some bare_row newtype_variant_row bare_other newtype_variant_other",
         "rmp_round_trip.specs.WideRounds": "unsigned128_row signed128_row",
         declared: f"{name} out-{name}",
         f"{declared}.TheFolds": f"ind-{name} fold-{name} rec-{name} map-{name} rec-roll-{name} fold_out-{name}",
         f"{declared}.TheOpen": f"{name}-F",
         f"{declared}.TheViews": f"roll-{name} out-roll-{name} roll-out-{name}",
-        f"{crate}.specs.Recursion": "Row InSteps row_as row_in variant_as variant_in each_holds through all_by each_from",
-        f"{crate}.specs.RecursionRounds": "each_data lowers_as map_alike",
+        f"{crate}.specs.Recursion": "Row Boxed InSteps row_as row_in option_as option_in variant_as variant_in each_holds through all_by each_from option_from",
+        f"{crate}.specs.RecursionRounds": "each_data option_data lowers_as map_alike option_alike",
         f"{crate}.specs.{name}Levels": " ".join([f"{name}Case", f"{name}In", f"Is{name}", f"{name}Parts", f"{name}Fits", *(f"{low}_{word}" for word in levels)]),
     }
 

@@ -4,7 +4,7 @@ from __future__ import annotations
 from typing import Optional
 
 from declarations import Shape
-from recursive_levels import Level, Part, file_of
+from recursive_levels import Again, Level, Part, file_of
 
 
 def rounds_file(level: Level) -> str:
@@ -12,32 +12,33 @@ def rounds_file(level: Level) -> str:
     return file_of(level, f"{level.name}Rounds", about, back_of(level) + only_of(level))
 
 
-def data_from(level: Level, part: Part) -> str:
+def data_from(part: Part, value: str) -> str:
     """What a part is written as, over the type's own data."""
-    if part.is_leaf:
-        return part.data.format(a="a")
-    return f"slice_of (map {level.low}_data a.items)" if level.is_list(part) else f"{level.low}_data a.value"
+    return (part.own if isinstance(part, Again) else part.data).format(a=value)
+
+
+def values_of(part: Optional[Part]) -> list[str]:
+    """How a part's values are told apart where a level is mapped."""
+    return [value for value, *_ in part.patterns] if isinstance(part, Again) else ["a"]
 
 
 def back_variant(level: Level, at: int, shape: Shape, part: Optional[Part]) -> tuple[str, str, str]:
-    """The same of one variant: an equation of each law."""
+    """The same of one variant: the equations of each law."""
     name, low = level.name, level.low
-    made, of = level.made(shape, part), f"(codes \"{shape.key}\")"
+    of = f"(codes \"{shape.key}\")"
     place = f"s {low}_names {of} {at} refl ({name}Case Is{name} v)"
-    some, rounds, other = f"{low}_level_some {made} h = ", f"  {low}_level_round v {made} e h fit = ", f"  {low}_level_other {made} e = "
-    if part is None:
-        return f"{some}refl\n", f"{rounds}bare_row {place} (e, tt)\n", f"{other}bare_other s {of} e\n"
-    data, reads = data_from(level, part), part.reads.format(reads=f"Is{name}", k="m", a="a")
-    is_some, row = ("refl", part.row.format(a="a", fit="fit")) if part.is_leaf else ("h", "h fit")
-    if level.is_list(part):
-        is_some = f"(slice_some (map {low}_data a.items) (each_data {low}_data a.items h))"
-        each = f"each_row s {low}_data {name}Back Is{name} (λ w p. p) a.items (each_from {low}_fits {name}Back a.items h fit)"
-        row = f"slice_row s (map {low}_data a.items) (λ ms. ReadsEach Is{name} ms a.items)\n      ({each})"
-    return (
-        f"{some}newtype_variant_some {of} ({data}) {is_some}\n",
-        f"{rounds}newtype_variant_row {place}\n      ({data}) (λ m. {reads}) (λ m p. (a, e, p)) ({row})\n",
-        f"{other}newtype_variant_other s {of} ({part.data.format(a='a')}) e\n",
-    )
+    other = f"  {low}_level_other {level.made(shape, part)} e = "
+    some = rounds = ""
+    for value in values_of(part):
+        made = level.made(shape, part, value)
+        some += f"{low}_level_some {made} h = "
+        rounds += f"  {low}_level_round v {made} e h fit = "
+        if part is None:
+            return f"{some}refl\n", f"{rounds}bare_row {place} (e, tt)\n", f"{other}bare_other s {of} e\n"
+        data, reads = data_from(part, value), part.reads.format(reads=f"Is{name}", k="m", a=value)
+        some += f"newtype_variant_some {of} ({data}) {part.is_some.format(a=value) if isinstance(part, Again) else 'refl'}\n"
+        rounds += f"newtype_variant_row {place}\n      ({data}) (λ m. {reads}) (λ m p. ({value}, e, p)) ({part.row.format(a=value, fit='fit')})\n"
+    return some, rounds, f"{other}newtype_variant_other s {of} ({part.data.format(a='a')}) e\n"
 
 
 def back_of(level: Level) -> str:
@@ -55,6 +56,13 @@ pub {low}_some : (v : {name}) → IsSome ({low}_data v)
 {low}_some = {low}_induction (λ v. IsSome ({low}_data v)) (λ v h. subst IsSome (sym ({low}_is v)) ({low}_level_some (out-{name} v) h))
 
 module _ (s : Settings) where
+  -- ---- it is never nil
+
+  {low}_level_other : (x : {name}-F (Option Data)) → tree_of s ({low}_level x) ≢ Some nil
+{other}
+  pub {low}_other : (v : {name}) → tree_of s ({low}_data v) ≢ Some nil
+  {low}_other v e = {low}_level_other ({mapped} (out-{name} v)) (ap (tree_of s) (sym ({low}_is v)) ∙ e)
+
   -- ---- what a value lowers to is read as that value
 
   abbrev {name}Back : {name} → Type 0
@@ -71,13 +79,6 @@ module _ (s : Settings) where
       (λ v h fits. subst (λ d. LowersTo s d (λ m. Is{name} m v)) (sym ({low}_is v))
       (lowers_as s ({low}_level ({mapped} (out-{name} v))) (λ m. OfVariant {low}_names ({name}Case Is{name} v) m) (λ m. Is{name} m v)
       ({low}_made v) ({low}_level_round v (out-{name} v) refl h ({low}_fits_out v fits))))
-
-  -- ---- it is never nil
-
-  {low}_level_other : (x : {name}-F (Option Data)) → tree_of s ({low}_level x) ≢ Some nil
-{other}
-  pub {low}_other : (v : {name}) → tree_of s ({low}_data v) ≢ Some nil
-  {low}_other v e = {low}_level_other ({mapped} (out-{name} v)) (ap (tree_of s) (sym ({low}_is v)) ∙ e)
 """
 
 
@@ -85,7 +86,8 @@ def only_of(level: Level) -> str:
     """Nothing else is read of what a value lowers to."""
     name, low = level.name, level.low
     mapped = f"map-{name} {name} (Option Data) {low}_data"
-    lines = "".join(only_variant(level, at, shape, part) for at, (shape, part) in enumerate(level.variants))
+    lines = "".join(only_variant(level, at, shape, part, value) for at, (shape, part) in enumerate(level.variants) for value in values_of(part))
+    options = "".join(mapped_option(level, shape, part) for shape, part in level.variants if isinstance(part, Again) and part.word == "option")
     return f"""
 -- ---- values of the same content are written alike
 
@@ -94,7 +96,7 @@ Same{name} v w = {low}_data v ≡ {low}_data w
 
 {low}_by : (w : {name}) (y : {name}-F {name}) → out-{name} w ≡ y → {low}_level ({mapped} y) ≡ {low}_data w
 {low}_by w y e = sym ({low}_is w ∙ ap (λ z. {low}_level ({mapped} z)) e)
-
+{options}
 module _ (s : Settings) where
   abbrev {name}Only : {name} → Type 0
   {name}Only v = LowersTo s ({low}_data v) (λ m. Only Is{name} Same{name} m v)
@@ -112,10 +114,19 @@ module _ (s : Settings) where
 """
 
 
-def only_variant(level: Level, at: int, shape: Shape, part: Optional[Part]) -> str:
+def mapped_option(level: Level, shape: Shape, part: Again) -> str:
+    """What a variant is written as that holds an option."""
+    name, low = level.name, level.low
+    mapped = f"map-{name} {name} (Option Data) {low}_data"
+    lines = "".join(f"{low}_at_{shape.name} {value} = refl\n" for value in values_of(part))
+    is_ = f"{low}_level ({mapped} {level.made(shape, part)}) ≡ newtype_variant_of (codes \"{shape.key}\") ({data_from(part, 'a')})"
+    return f"\n{low}_at_{shape.name} : (a : {part.term}) → {is_}\n{lines}"
+
+
+def only_variant(level: Level, at: int, shape: Shape, part: Optional[Part], value: str) -> str:
     """The same of one variant."""
     name, low = level.name, level.low
-    made, of = level.made(shape, part), f"(codes \"{shape.key}\")"
+    made, of = level.made(shape, part, value), f"(codes \"{shape.key}\")"
     start = f"s {low}_names {of} {at} refl"
     if part is None:
         holds = f"(AtPlace {at} AnyContent)"
@@ -124,27 +135,18 @@ def only_variant(level: Level, at: int, shape: Shape, part: Optional[Part]) -> s
       (bare_row {start} {holds} (refl, tt))
       (λ m q w r. variant_both {low}_names {at} AnyContent ({name}Case Is{name} w) _ m q r (λ c i j. {low}_by w {made} j.0))
 """
-    data = data_from(level, part)
+    data = data_from(part, value)
     reads = f"(λ (k : Msg) (x : {part.term}). {part.reads.format(reads=f'Is{name}', k='k', a='x')})"
-    if part.is_leaf:
-        same = f"(λ (x y : {part.term}). {part.key.format(a='x')} ≡ {part.key.format(a='y')})"
-        proof = part.only.format(a="a", fit="fit")
-        alike = f"ap (λ n. newtype_variant_of {of} ({part.of_key.format(a='n')})) (content_only {reads} {same} a j.0 c i j.2)"
-    elif level.is_list(part):
-        same = f"(λ (x y : {part.term}). Alike Same{name} x.items y.items)"
-        proof = f"""list_only s ({data}) (λ us. us.items) Is{name} Same{name} a.items
-      (slice_row s (map {low}_data a.items) (λ ms. ReadsEach (Only Is{name} Same{name}) ms a.items)
-      (each_row s {low}_data {name}Only (Only Is{name} Same{name}) (λ w p. p) a.items (each_from {low}_fits {name}Only a.items h fit)))"""
-        alike = f"""ap (λ ds. newtype_variant_of {of} (slice_of ds))
-      (map_alike {low}_data a.items j.0.items (content_only {reads} {same} a j.0 c i j.2))"""
-    else:
-        same = f"(λ (x y : {part.term}). Same{name} x.value y.value)"
-        proof = f"inside_only s ({data}) (λ b. b.value) Is{name} Same{name} a.value (h fit)"
-        alike = f"ap (λ d. newtype_variant_of {of} d) (content_only {reads} {same} a j.0 c i j.2)"
+    words = part.same if isinstance(part, Again) else f"{part.key.format(a='x')} ≡ {part.key.format(a='y')}"
+    same = f"(λ (x y : {part.term}). {words})"
+    content = f"(content_only {reads} {same} {value} j.0 c i j.2)"
+    by = part.alike if isinstance(part, Again) else f"ap (λ n. newtype_variant_of {of} ({part.of_key.format(a='n')})) {{content}}"
+    alike = by.format(a=value, of=of, shape=shape.name, content=content)
+    proof = part.only.format(a=value, fit="fit")
     return f"""  {low}_level_only {made} h fit =
       lowers_then s (newtype_variant_of {of} ({data})) _ ({name}LevelOnly {made})
-      (newtype_variant_row {start} (AtPlace {at} (Content (λ k. Only {reads} {same} k a))) ({data})
-      (λ k. Only {reads} {same} k a) (λ m p. (refl, p)) ({proof}))
+      (newtype_variant_row {start} (AtPlace {at} (Content (λ k. Only {reads} {same} k {value}))) ({data})
+      (λ k. Only {reads} {same} k {value}) (λ m p. (refl, p)) ({proof}))
       (λ m q w r. variant_both {low}_names {at} _ ({name}Case Is{name} w) _ m q r
       (λ c i j. {alike} ∙ {low}_by w {level.made(shape, part, 'j.0')} j.1))
 """

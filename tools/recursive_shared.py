@@ -9,7 +9,10 @@ use Rattle.std.proofs.Common.{◌≡◌, refl, subst, arith, ℕ, zero, suc, ◌
 use Rattle.std.proofs.Common as common
 use Rattle.std.specs.List.{AllByRecursion}
 use Rattle.std.proofs.lemmas.List.Elements.{All-nil, All-cons, All-head, All-tail}
+use Rattle.std.specs.Prelude.{Box, IfSome}
+use Rattle.std.specs.declared.alloc.Global.{Global}
 use Rattle.rmp_wire.specs.Msg.{Msg, nil, truth, whole, float32, float64, text, bin, list, map, extension, Msgs, no_items, item}
+use Rattle.rmp_decode.specs.Options.{IsOption}
 use Rattle.rmp_decode.specs.Rows.{ReadsEach}
 use Rattle.rmp_decode.specs.Seq.{OfRow, numbers}
 use Rattle.rmp_decode.specs.Variants.{OfVariant, variant_of}
@@ -17,6 +20,10 @@ use Rattle.rmp_decode.specs.Variants.{OfVariant, variant_of}
 -- a list, or bytes as the list of their numbers, of which each item is read so
 abbrev pub Row : {V : Type 0} → (Msg → V → Type 0) → Msg → List V → Type 0
 Row reads m vs = OfRow (λ ms. ReadsEach reads ms vs) m
+
+-- a value in a box
+abbrev pub Boxed : {V : Type 0} → (Msg → V → Type 0) → Msg → Box V Global → Type 0
+Boxed reads m b = reads m b.value
 
 -- in some number of steps the message is read as the value
 abbrev pub InSteps : {V : Type 0} → (ℕ → Msg → V → Type 0) → Msg → V → Type 0
@@ -67,6 +74,20 @@ module _ {V : Type 0} (P : ℕ → Msg → V → Type 0) (up : (n : ℕ) (m : Ms
   row_in (map ps) vs h = absurd h
   row_in (extension tag s) vs h = absurd h
 
+-- ---- options
+
+pub option_as : {V : Type 0} (P Q : Msg → V → Type 0) → ((m : Msg) (v : V) → P m v → Q m v) → (m : Msg) (o : Option V) → IsOption P m o → IsOption Q m o
+option_as P Q f m None h = h
+option_as P Q f m (Some v) h = (h.0, f m v h.1)
+
+pub option_in : {V : Type 0} (P : ℕ → Msg → V → Type 0) (m : Msg) (o : Option V) → IsOption (InSteps P) m o → (n : ℕ) × IsOption (P n) m o
+option_in P m None h = (zero, h)
+option_in P m (Some v) h = (h.1.0, (h.0, h.1.1))
+
+pub option_from : {X : Type 0} (P Q : X → Type 0) (o : Option X) → IfSome o (λ x. P x → Q x) → IfSome o P → IfSome o Q
+option_from P Q None h fit = tt
+option_from P Q (Some x) h fit = h fit
+
 -- ---- enums
 
 pub variant_as : (names : List (List ℕ)) (P Q : ℕ × Option Msg → Type 0) → ((k : ℕ) (c : Option Msg) → P (k, c) → Q (k, c)) → (m : Msg)
@@ -110,20 +131,28 @@ each_from P Q (x ∷ xs) h fit = All-cons Q x xs (All-head (λ x. P x → Q x) x
 
 # Those of the round trip.
 ROUNDS = """-- What recursive types share that are read as they were written.
-use Rattle.std.proofs.Common.{◌≡◌, refl, List, [], ◌∷◌, map, All, Option, None, Some}
-use Rattle.std.specs.Prelude.{IsSome, IsSomeAnd}
+use Rattle.std.proofs.Common.{◌≡◌, refl, ap, List, [], ◌∷◌, map, All, Option, None, Some}
+use Rattle.std.specs.Prelude.{IfSome, IsSome, IsSomeAnd}
 use Rattle.std.proofs.lemmas.List.Elements.{All-head, All-tail}
 use Rattle.rmp_wire.specs.Msg.{Msg}
 use Rattle.rmp_encode.specs.Data.{Data}
-use Rattle.rmp_encode.specs.Trees.{tree_of, parts_of}
+use Rattle.rmp_encode.specs.Trees.{tree_of, parts_of, option_of, wrapped_of}
 use Rattle.rmp_encode.specs.declared.settings.Settings.{Settings}
-use Rattle.rmp_round_trip.specs.RoundTrip.{Alike, LowersTo}
+use Rattle.rmp_round_trip.specs.RoundTrip.{Alike, AlikeOption, LowersTo}
 use Rattle.rmp_round_trip.specs.Rounds.{parts_cons}
 
 pub each_data : {X : Type 0} (d : X → Option Data) (xs : List X) → All (λ x. IsSome (d x)) xs → IsSome (parts_of (map d xs))
 each_data d [] h = refl
 each_data d (x ∷ xs) h =
     parts_cons (d x) (map d xs) (All-head (λ y. IsSome (d y)) x xs h) (each_data d xs (All-tail (λ y. IsSome (d y)) x xs h))
+
+pub option_data : {X : Type 0} (d : X → Option Data) (o : Option X) → IfSome o (λ x. IsSome (d x)) → IsSome (option_of d o)
+option_data d None h = refl
+option_data d (Some x) h = go (d x) h
+  where
+    go : (t : Option Data) → IsSome t → IsSome (wrapped_of t)
+    go None h = cc
+    go (Some t) h = refl
 
 pub lowers_as : (s : Settings) (d : Option Data) (P Q : Msg → Type 0) → ((m : Msg) → P m → Q m) → LowersTo s d P → LowersTo s d Q
 lowers_as s d P Q f h = go (tree_of s d) h
@@ -138,13 +167,20 @@ map_alike d [] [] h = refl
 map_alike d [] (y ∷ ys) h = absurd h
 map_alike d (x ∷ xs) [] h = absurd h
 map_alike d (x ∷ xs) (y ∷ ys) h = λ i. (h.0 i) ∷ (map_alike d xs ys h.1 i)
+
+pub option_alike : {X : Type 0} (d : X → Option Data) (o p : Option X) → AlikeOption (λ x y. d x ≡ d y) o p → option_of d o ≡ option_of d p
+option_alike d None None h = refl
+option_alike d None (Some y) h = absurd h
+option_alike d (Some x) None h = absurd h
+option_alike d (Some x) (Some y) h = ap wrapped_of h
 """
 
 # Those of the readings.
 PROOFS = """-- What the readings of recursive types share: the next part, by a function; lists of parts; and that the room falls.
-use Rattle.std.proofs.Common.{◌≡◌, ◌∙◌, refl, ap, subst, arith, ℕ, zero, suc, ◌+◌, ◌<◌, ◌≤◌, ◌⊎◌, inl, inr, true, false, Bool, nat_lt}
+use Rattle.std.proofs.Common.{◌≡◌, ◌∙◌, refl, sym, ap, subst, arith, ℕ, zero, suc, ◌+◌, ◌<◌, ◌≤◌, ◌⊎◌, inl, inr, true, false, Bool, nat_lt}
 use Rattle.std.proofs.Common.{max, pos, ◌*◌, ◌++◌, append-nil, List, [], Option, None, Some, Result, Ok, Err, MatchResult, MutBor, Vec, Global}
 use Rattle.std.specs.Fn.{FnOnceReturnsAtMut}
+use Rattle.std.specs.Prelude.{if◌then◌else◌}
 use Rattle.std.specs.Result.{OnOk}
 use Rattle.rmp_wire.specs.declared.source.Source.{Ghosts}
 use Rattle.rmp_wire.specs.Msg.{Msg, Msgs}
@@ -154,6 +190,7 @@ use Rattle.rmp_wire.specs.Heads.{canon_head}
 use Rattle.rmp_wire.proofs.Strict.{canon_in, heads_differ_as}
 use Rattle.rmp_decode.specs.Law.{Lawful, Readable, GoesOn}
 use Rattle.rmp_decode.specs.State.{kept_bytes, room_of}
+use Rattle.rmp_decode.specs.Options.{IsNil, IsOption, OptionRead, ReadsNone, ValueGiven}
 use Rattle.rmp_decode.specs.Rows.{ReadsEach}
 use Rattle.rmp_decode.specs.Seq.{levels, IsOpen, Opens, FailsToOpen, TakesElement, FailsToTake, Run, seq_head}
 use Rattle.rmp_decode.specs.Variants.{OfVariant, IsAt, OpensVariant, TakesNameOf}
@@ -164,8 +201,10 @@ use Rattle.rmp_decode.specs.declared.access.seq.SeqAccess.{SeqAccess}
 use Rattle.rmp_decode.specs.declared.deserializer.Kept.{Kept}
 use Rattle.rmp_decode.specs.declared.deserializer.Kept.TheVariants.{Nothing, First, Number}
 use Rattle.rmp_decode.specs.declared.error.Error.{Error}
-use Rattle.rmp_decode.specs.declared.error.Error.TheVariants.{OutOfMemory}
+use Rattle.rmp_decode.specs.declared.error.Error.TheVariants.{OutOfMemory, Uncategorized}
+use Rattle.rmp_decode.specs.declared.text.Text.TheVariants.{FailedBefore}
 use Rattle.rmp_decode.proofs.Laws.{lawful_ok}
+use Rattle.rmp_decode.proofs.Options.{option_missing, option_some, option_refused}
 use Rattle.rmp_decode.proofs.HeadTaken.{fits_byte}
 use Rattle.rmp_decode.proofs.Seqs.{Values, each_next, seq_unopened, seq_take, seq_done, seq_unkept}
 use Rattle.rmp_decode.proofs.Variants.{variant_ok}
@@ -229,6 +268,31 @@ module _ {F R C V : Type 0} (g : Ghosts R) (reads : Msg → V
 
   pub item_refused : (e : Error) → 0 < old.left → PartRead g once f old new (Err e) ⊎ PartMissing {X = V} g old new (Err e) → FailsToTake g reads old new e
   item_refused e some p = with_refused g once f reads old new o same (λ d rest gave l c. lent_law g once f reads law d rest gave c) e some p
+
+-- ---- an option, whose value is read by a function
+
+module _ {F R C V : Type 0} (g : Ghosts R) (reads : Msg → V → Type 0) (old new : Deserializer R C) (once : Reading F R C V) (f : F)
+    (law : (p q : MutBor (Deserializer R C)) (r : Result V Error) → once.post f (p, tt) (r, (q, tt)) → Lawful g reads p.now q.now r) where
+  none_law : (r : Result (Option V) Error) → ReadsNone g old new r → Lawful g (IsOption reads) old new r
+  none_law (Ok None) h = lawful_ok g IsNil (IsOption reads) old new tt None (λ m e. e) h
+  none_law (Ok (Some x)) h = absurd h
+  none_law (Err e) h = option_missing g reads old new e h
+
+  given_law : (r : Result (Option V) Error) → ValueGiven g once f old new r → Lawful g (IsOption reads) old new r
+  given_law r v = go v.gave v.answers v.keeps (lent_law g once f reads law v.lent v.rest v.gave v.called)
+    where
+      go : (gave : Result V Error) → MatchResult gave (λ x. r ≡ (if v.rest.failed then Err (Uncategorized FailedBefore) else Ok (Some x))) (λ e. r ≡ Err e)
+          → MatchResult gave (λ _. new ≡ v.rest) (λ _. new ≡ record v.rest { failed = true }) → Lawful g reads v.lent v.rest gave → Lawful g (IsOption reads) old new r
+      go (Ok x) is same l =
+          let made : r ≡ Ok (Some x) = is ∙ ap (λ t. if t then Err (Uncategorized FailedBefore) else Ok (Some x)) l.ready in
+          rw (made, same) (option_some g reads old v.lent v.rest v.fresh v.sees x l)
+      go (Err e) is same l =
+          let failed : new ≡ v.rest = same ∙ ap (λ t. record v.rest { failed = t }) (sym l.failed) in
+          rw (is, failed) (option_refused g reads old v.lent v.rest v.fresh v.sees e l)
+
+  pub option_law : (r : Result (Option V) Error) → OptionRead g once f old new r → Lawful g (IsOption reads) old new r
+  option_law r (inl h) = none_law r h
+  option_law r (inr v) = given_law r v
 
 -- ---- a list of such elements
 

@@ -5,3 +5,4 @@ pub mod Recursion
 pub mod TreeLevels
 pub mod ExprLevels
 pub mod TermLevels
+pub mod LinkLevels

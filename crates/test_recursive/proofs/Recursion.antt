@@ -1,7 +1,8 @@
 -- What the readings of recursive types share: the next part, by a function; lists of parts; and that the room falls. Written by tools/derive.py.
-use Rattle.std.proofs.Common.{◌≡◌, ◌∙◌, refl, ap, subst, arith, ℕ, zero, suc, ◌+◌, ◌<◌, ◌≤◌, ◌⊎◌, inl, inr, true, false, Bool, nat_lt}
+use Rattle.std.proofs.Common.{◌≡◌, ◌∙◌, refl, sym, ap, subst, arith, ℕ, zero, suc, ◌+◌, ◌<◌, ◌≤◌, ◌⊎◌, inl, inr, true, false, Bool, nat_lt}
 use Rattle.std.proofs.Common.{max, pos, ◌*◌, ◌++◌, append-nil, List, [], Option, None, Some, Result, Ok, Err, MatchResult, MutBor, Vec, Global}
 use Rattle.std.specs.Fn.{FnOnceReturnsAtMut}
+use Rattle.std.specs.Prelude.{if◌then◌else◌}
 use Rattle.std.specs.Result.{OnOk}
 use Rattle.rmp_wire.specs.declared.source.Source.{Ghosts}
 use Rattle.rmp_wire.specs.Msg.{Msg, Msgs}
@@ -11,6 +12,7 @@ use Rattle.rmp_wire.specs.Heads.{canon_head}
 use Rattle.rmp_wire.proofs.Strict.{canon_in, heads_differ_as}
 use Rattle.rmp_decode.specs.Law.{Lawful, Readable, GoesOn}
 use Rattle.rmp_decode.specs.State.{kept_bytes, room_of}
+use Rattle.rmp_decode.specs.Options.{IsNil, IsOption, OptionRead, ReadsNone, ValueGiven}
 use Rattle.rmp_decode.specs.Rows.{ReadsEach}
 use Rattle.rmp_decode.specs.Seq.{levels, IsOpen, Opens, FailsToOpen, TakesElement, FailsToTake, Run, seq_head}
 use Rattle.rmp_decode.specs.Variants.{OfVariant, IsAt, OpensVariant, TakesNameOf}
@@ -21,8 +23,10 @@ use Rattle.rmp_decode.specs.declared.access.seq.SeqAccess.{SeqAccess}
 use Rattle.rmp_decode.specs.declared.deserializer.Kept.{Kept}
 use Rattle.rmp_decode.specs.declared.deserializer.Kept.TheVariants.{Nothing, First, Number}
 use Rattle.rmp_decode.specs.declared.error.Error.{Error}
-use Rattle.rmp_decode.specs.declared.error.Error.TheVariants.{OutOfMemory}
+use Rattle.rmp_decode.specs.declared.error.Error.TheVariants.{OutOfMemory, Uncategorized}
+use Rattle.rmp_decode.specs.declared.text.Text.TheVariants.{FailedBefore}
 use Rattle.rmp_decode.proofs.Laws.{lawful_ok}
+use Rattle.rmp_decode.proofs.Options.{option_missing, option_some, option_refused}
 use Rattle.rmp_decode.proofs.HeadTaken.{fits_byte}
 use Rattle.rmp_decode.proofs.Seqs.{Values, each_next, seq_unopened, seq_take, seq_done, seq_unkept}
 use Rattle.rmp_decode.proofs.Variants.{variant_ok}
@@ -86,6 +90,32 @@ module _ {F R C V : Type 0} (g : Ghosts R) (reads : Msg → V
 
   pub item_refused : (e : Error) → 0 < old.left → PartRead g once f old new (Err e) ⊎ PartMissing {X = V} g old new (Err e) → FailsToTake g reads old new e
   item_refused e some p = with_refused g once f reads old new o same (λ d rest gave l c. lent_law g once f reads law d rest gave c) e some p
+
+-- ---- an option, whose value is read by a function
+
+module _ {F R C V : Type 0} (g : Ghosts R) (reads : Msg → V → Type 0) (old new : Deserializer R C) (once : Reading F R C V) (f : F)
+    (law : (p q : MutBor (Deserializer R C)) (r : Result V Error) → once.post f (p, tt) (r, (q, tt)) → Lawful g reads p.now q.now r) where
+  none_law : (r : Result (Option V) Error) → ReadsNone g old new r → Lawful g (IsOption reads) old new r
+  none_law (Ok None) h = lawful_ok g IsNil (IsOption reads) old new tt None (λ m e. e) h
+  none_law (Ok (Some x)) h = absurd h
+  none_law (Err e) h = option_missing g reads old new e h
+
+  given_law : (r : Result (Option V) Error) → ValueGiven g once f old new r → Lawful g (IsOption reads) old new r
+  given_law r v = go v.gave v.answers v.keeps (lent_law g once f reads law v.lent v.rest v.gave v.called)
+    where
+      go : (gave : Result V Error) → MatchResult gave (λ x. r ≡ (if v.rest.failed then Err (Uncategorized FailedBefore) else Ok (Some x))) (λ e. r ≡ Err e)
+          → MatchResult gave (λ _. new ≡ v.rest) (λ _. new ≡ record v.rest { failed = true }) → Lawful g reads v.lent v.rest gave
+          → Lawful g (IsOption reads) old new r
+      go (Ok x) is same l =
+          let made : r ≡ Ok (Some x) = is ∙ ap (λ t. if t then Err (Uncategorized FailedBefore) else Ok (Some x)) l.ready in
+          rw (made, same) (option_some g reads old v.lent v.rest v.fresh v.sees x l)
+      go (Err e) is same l =
+          let failed : new ≡ v.rest = same ∙ ap (λ t. record v.rest { failed = t }) (sym l.failed) in
+          rw (is, failed) (option_refused g reads old v.lent v.rest v.fresh v.sees e l)
+
+  pub option_law : (r : Result (Option V) Error) → OptionRead g once f old new r → Lawful g (IsOption reads) old new r
+  option_law r (inl h) = none_law r h
+  option_law r (inr v) = given_law r v
 
 -- ---- a list of such elements
 

@@ -55,6 +55,20 @@ pub expr_some : (v : Expr) → IsSome (expr_data v)
 expr_some = expr_induction (λ v. IsSome (expr_data v)) (λ v h. subst IsSome (sym (expr_is v)) (expr_level_some (out-Expr v) h))
 
 module _ (s : Settings) where
+  -- ---- it is never nil
+
+  expr_level_other : (x : Expr-F (Option Data)) → tree_of s (expr_level x) ≢ Some nil
+  expr_level_other Expr-F.Nothing e = bare_other s (codes "Nothing") e
+  expr_level_other (Expr-F.Number a) e = newtype_variant_other s (codes "Number") (Some (whole a)) e
+  expr_level_other (Expr-F.Name a) e = newtype_variant_other s (codes "Name") (Some (text (string_bytes a))) e
+  expr_level_other (Expr-F.Truth a) e = newtype_variant_other s (codes "Truth") (Some (truth a)) e
+  expr_level_other (Expr-F.Not a) e = newtype_variant_other s (codes "Not") (a.value) e
+  expr_level_other (Expr-F.Sum a) e = newtype_variant_other s (codes "Sum") (slice_of a.items) e
+  expr_level_other (Expr-F.Product a) e = newtype_variant_other s (codes "Product") (slice_of a.items) e
+
+  pub expr_other : (v : Expr) → tree_of s (expr_data v) ≢ Some nil
+  expr_other v e = expr_level_other (map-Expr Expr (Option Data) expr_data (out-Expr v)) (ap (tree_of s) (sym (expr_is v)) ∙ e)
+
   -- ---- what a value lowers to is read as that value
 
   abbrev ExprBack : Expr → Type 0
@@ -86,20 +100,6 @@ module _ (s : Settings) where
       (λ v h fits. subst (λ d. LowersTo s d (λ m. IsExpr m v)) (sym (expr_is v))
       (lowers_as s (expr_level (map-Expr Expr (Option Data) expr_data (out-Expr v))) (λ m. OfVariant expr_names (ExprCase IsExpr v) m) (λ m. IsExpr m v)
       (expr_made v) (expr_level_round v (out-Expr v) refl h (expr_fits_out v fits))))
-
-  -- ---- it is never nil
-
-  expr_level_other : (x : Expr-F (Option Data)) → tree_of s (expr_level x) ≢ Some nil
-  expr_level_other Expr-F.Nothing e = bare_other s (codes "Nothing") e
-  expr_level_other (Expr-F.Number a) e = newtype_variant_other s (codes "Number") (Some (whole a)) e
-  expr_level_other (Expr-F.Name a) e = newtype_variant_other s (codes "Name") (Some (text (string_bytes a))) e
-  expr_level_other (Expr-F.Truth a) e = newtype_variant_other s (codes "Truth") (Some (truth a)) e
-  expr_level_other (Expr-F.Not a) e = newtype_variant_other s (codes "Not") (a.value) e
-  expr_level_other (Expr-F.Sum a) e = newtype_variant_other s (codes "Sum") (slice_of a.items) e
-  expr_level_other (Expr-F.Product a) e = newtype_variant_other s (codes "Product") (slice_of a.items) e
-
-  pub expr_other : (v : Expr) → tree_of s (expr_data v) ≢ Some nil
-  expr_other v e = expr_level_other (map-Expr Expr (Option Data) expr_data (out-Expr v)) (ap (tree_of s) (sym (expr_is v)) ∙ e)
 
 -- ---- values of the same content are written alike
 

@@ -11,3 +11,5 @@ pub mod ExprLevels
 pub mod ExprRounds
 pub mod TermLevels
 pub mod TermRounds
+pub mod LinkLevels
+pub mod LinkRounds

@@ -3,7 +3,10 @@ use Rattle.std.proofs.Common.{◌≡◌, refl, subst, arith, ℕ, zero, suc, ◌
 use Rattle.std.proofs.Common as common
 use Rattle.std.specs.List.{AllByRecursion}
 use Rattle.std.proofs.lemmas.List.Elements.{All-nil, All-cons, All-head, All-tail}
+use Rattle.std.specs.Prelude.{Box, IfSome}
+use Rattle.std.specs.declared.alloc.Global.{Global}
 use Rattle.rmp_wire.specs.Msg.{Msg, nil, truth, whole, float32, float64, text, bin, list, map, extension, Msgs, no_items, item}
+use Rattle.rmp_decode.specs.Options.{IsOption}
 use Rattle.rmp_decode.specs.Rows.{ReadsEach}
 use Rattle.rmp_decode.specs.Seq.{OfRow, numbers}
 use Rattle.rmp_decode.specs.Variants.{OfVariant, variant_of}
@@ -11,6 +14,10 @@ use Rattle.rmp_decode.specs.Variants.{OfVariant, variant_of}
 -- a list, or bytes as the list of their numbers, of which each item is read so
 abbrev pub Row : {V : Type 0} → (Msg → V → Type 0) → Msg → List V → Type 0
 Row reads m vs = OfRow (λ ms. ReadsEach reads ms vs) m
+
+-- a value in a box
+abbrev pub Boxed : {V : Type 0} → (Msg → V → Type 0) → Msg → Box V Global → Type 0
+Boxed reads m b = reads m b.value
 
 -- in some number of steps the message is read as the value
 abbrev pub InSteps : {V : Type 0} → (ℕ → Msg → V → Type 0) → Msg → V → Type 0
@@ -60,6 +67,20 @@ module _ {V : Type 0} (P : ℕ → Msg → V → Type 0) (up : (n : ℕ) (m : Ms
   row_in (list ms) vs h = each_in ms vs h
   row_in (map ps) vs h = absurd h
   row_in (extension tag s) vs h = absurd h
+
+-- ---- options
+
+pub option_as : {V : Type 0} (P Q : Msg → V → Type 0) → ((m : Msg) (v : V) → P m v → Q m v) → (m : Msg) (o : Option V) → IsOption P m o → IsOption Q m o
+option_as P Q f m None h = h
+option_as P Q f m (Some v) h = (h.0, f m v h.1)
+
+pub option_in : {V : Type 0} (P : ℕ → Msg → V → Type 0) (m : Msg) (o : Option V) → IsOption (InSteps P) m o → (n : ℕ) × IsOption (P n) m o
+option_in P m None h = (zero, h)
+option_in P m (Some v) h = (h.1.0, (h.0, h.1.1))
+
+pub option_from : {X : Type 0} (P Q : X → Type 0) (o : Option X) → IfSome o (λ x. P x → Q x) → IfSome o P → IfSome o Q
+option_from P Q None h fit = tt
+option_from P Q (Some x) h fit = h fit
 
 -- ---- enums
 

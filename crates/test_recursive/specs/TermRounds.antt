@@ -60,6 +60,23 @@ pub term_some : (v : Term) → IsSome (term_data v)
 term_some = term_induction (λ v. IsSome (term_data v)) (λ v h. subst IsSome (sym (term_is v)) (term_level_some (out-Term v) h))
 
 module _ (s : Settings) where
+  -- ---- it is never nil
+
+  term_level_other : (x : Term-F (Option Data)) → tree_of s (term_level x) ≢ Some nil
+  term_level_other (Term-F.Letter a) e = newtype_variant_other s (codes "Letter") (Some (char a)) e
+  term_level_other (Term-F.Half a) e = newtype_variant_other s (codes "Half") (Some (float32 a.0)) e
+  term_level_other (Term-F.Whole a) e = newtype_variant_other s (codes "Whole") (Some (float64 a.0)) e
+  term_level_other (Term-F.Bytes a) e = newtype_variant_other s (codes "Bytes") (Some (bytes (buffer_bytes a))) e
+  term_level_other (Term-F.Size a) e = newtype_variant_other s (codes "Size") (Some (whole (pos a))) e
+  term_level_other (Term-F.Offset a) e = newtype_variant_other s (codes "Offset") (Some (whole a)) e
+  term_level_other (Term-F.Big a) e = newtype_variant_other s (codes "Big") (Some (unsigned128 a)) e
+  term_level_other (Term-F.Wide a) e = newtype_variant_other s (codes "Wide") (Some (signed128 a)) e
+  term_level_other (Term-F.Short a) e = newtype_variant_other s (codes "Short") (Some (whole (pos a))) e
+  term_level_other (Term-F.Quoted a) e = newtype_variant_other s (codes "Quoted") (a.value) e
+
+  pub term_other : (v : Term) → tree_of s (term_data v) ≢ Some nil
+  term_other v e = term_level_other (map-Term Term (Option Data) term_data (out-Term v)) (ap (tree_of s) (sym (term_is v)) ∙ e)
+
   -- ---- what a value lowers to is read as that value
 
   abbrev TermBack : Term → Type 0
@@ -96,23 +113,6 @@ module _ (s : Settings) where
       (λ v h fits. subst (λ d. LowersTo s d (λ m. IsTerm m v)) (sym (term_is v))
       (lowers_as s (term_level (map-Term Term (Option Data) term_data (out-Term v))) (λ m. OfVariant term_names (TermCase IsTerm v) m) (λ m. IsTerm m v)
       (term_made v) (term_level_round v (out-Term v) refl h (term_fits_out v fits))))
-
-  -- ---- it is never nil
-
-  term_level_other : (x : Term-F (Option Data)) → tree_of s (term_level x) ≢ Some nil
-  term_level_other (Term-F.Letter a) e = newtype_variant_other s (codes "Letter") (Some (char a)) e
-  term_level_other (Term-F.Half a) e = newtype_variant_other s (codes "Half") (Some (float32 a.0)) e
-  term_level_other (Term-F.Whole a) e = newtype_variant_other s (codes "Whole") (Some (float64 a.0)) e
-  term_level_other (Term-F.Bytes a) e = newtype_variant_other s (codes "Bytes") (Some (bytes (buffer_bytes a))) e
-  term_level_other (Term-F.Size a) e = newtype_variant_other s (codes "Size") (Some (whole (pos a))) e
-  term_level_other (Term-F.Offset a) e = newtype_variant_other s (codes "Offset") (Some (whole a)) e
-  term_level_other (Term-F.Big a) e = newtype_variant_other s (codes "Big") (Some (unsigned128 a)) e
-  term_level_other (Term-F.Wide a) e = newtype_variant_other s (codes "Wide") (Some (signed128 a)) e
-  term_level_other (Term-F.Short a) e = newtype_variant_other s (codes "Short") (Some (whole (pos a))) e
-  term_level_other (Term-F.Quoted a) e = newtype_variant_other s (codes "Quoted") (a.value) e
-
-  pub term_other : (v : Term) → tree_of s (term_data v) ≢ Some nil
-  term_other v e = term_level_other (map-Term Term (Option Data) term_data (out-Term v)) (ap (tree_of s) (sym (term_is v)) ∙ e)
 
 -- ---- values of the same content are written alike
 

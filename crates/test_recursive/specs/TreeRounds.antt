@@ -48,6 +48,15 @@ pub tree_some : (v : Tree) → IsSome (tree_data v)
 tree_some = tree_induction (λ v. IsSome (tree_data v)) (λ v h. subst IsSome (sym (tree_is v)) (tree_level_some (out-Tree v) h))
 
 module _ (s : Settings) where
+  -- ---- it is never nil
+
+  tree_level_other : (x : Tree-F (Option Data)) → tree_of s (tree_level x) ≢ Some nil
+  tree_level_other (Tree-F.Leaf a) e = newtype_variant_other s (codes "Leaf") (Some (byte a)) e
+  tree_level_other (Tree-F.Node a) e = newtype_variant_other s (codes "Node") (slice_of a.items) e
+
+  pub tree_other : (v : Tree) → tree_of s (tree_data v) ≢ Some nil
+  tree_other v e = tree_level_other (map-Tree Tree (Option Data) tree_data (out-Tree v)) (ap (tree_of s) (sym (tree_is v)) ∙ e)
+
   -- ---- what a value lowers to is read as that value
 
   abbrev TreeBack : Tree → Type 0
@@ -69,15 +78,6 @@ module _ (s : Settings) where
       (λ v h fits. subst (λ d. LowersTo s d (λ m. IsTree m v)) (sym (tree_is v))
       (lowers_as s (tree_level (map-Tree Tree (Option Data) tree_data (out-Tree v))) (λ m. OfVariant tree_names (TreeCase IsTree v) m) (λ m. IsTree m v)
       (tree_made v) (tree_level_round v (out-Tree v) refl h (tree_fits_out v fits))))
-
-  -- ---- it is never nil
-
-  tree_level_other : (x : Tree-F (Option Data)) → tree_of s (tree_level x) ≢ Some nil
-  tree_level_other (Tree-F.Leaf a) e = newtype_variant_other s (codes "Leaf") (Some (byte a)) e
-  tree_level_other (Tree-F.Node a) e = newtype_variant_other s (codes "Node") (slice_of a.items) e
-
-  pub tree_other : (v : Tree) → tree_of s (tree_data v) ≢ Some nil
-  tree_other v e = tree_level_other (map-Tree Tree (Option Data) tree_data (out-Tree v)) (ap (tree_of s) (sym (tree_is v)) ∙ e)
 
 -- ---- values of the same content are written alike
 

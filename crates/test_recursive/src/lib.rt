@@ -6,4 +6,4 @@ mod rounds;
 mod trees;
 
 pub use recursive::{Nested, Rose};
-pub use trees::{Expr, Term, Tree};
+pub use trees::{Expr, Link, Term, Tree};

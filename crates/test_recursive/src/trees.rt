@@ -36,3 +36,13 @@ pub enum Term {
     Short(u16),
     Quoted(Box<Term>),
 }
+
+/// A chain of links, each with a number or a name, or a fork.
+#[derive(Drop)]
+pub enum Link {
+    Last(u16),
+    Next(Option<Box<Link>>),
+    Named(String),
+    Fork(Vec<Link>),
+    Other(Option<Box<Link>>),
+}

@@ -5,9 +5,11 @@ use rmp_wire::ReadRefReader;
 use std::alloc::Global;
 use std::process::Abort;
 use std::test::Fail;
-use test_recursive::{Expr, Nested, Rose, Tree};
+use test_recursive::{Expr, Link, Nested, Rose, Tree};
 
 const TREE: &[u8] = b"\x81\xa4Node\x92\x81\xa4Leaf\x01\x81\xa4Node\x90";
+
+const CHAIN: &[u8] = b"\x81\xa4Next\x81\xa4Next\xc0";
 
 const LISTED: &[u8] = b"\x91\x91\x91\x90";
 
@@ -115,6 +117,41 @@ fn expressions(rt: HostRuntime) {
 }
 
 #[test]
+fn chains_written(rt: HostRuntime) -> Result<(), Fail> {
+    let next = Box::new(rt.alloc(), Link::Next(None))?;
+    writes(&rt, rt.alloc(), &Link::Next(Some(next)), false, CHAIN);
+    Ok(())
+}
+
+#[test]
+fn chains(rt: HostRuntime) {
+    let wide = b"\xde\x00\x01\xc4\x04Next\x81\x01\xc0";
+    for (limit, input) in [(3, CHAIN), (3, wide.as_slice()), (1024, CHAIN)] {
+        reads::<Link>(&rt, rt.alloc(), limit, input, false, CHAIN);
+    }
+    refused::<Link>(&rt, rt.alloc(), read(rt.alloc(), 2, CHAIN), TOO_DEEP);
+    refused::<Link>(&rt, rt.alloc(), strictly(rt.alloc(), wide), "not canonical");
+    assert!(rt; strictly::<Link>(rt.alloc(), CHAIN).is_ok());
+    let number = b"\x81\xa4Last\xc0";
+    refused::<Link>(
+        &rt,
+        rt.alloc(),
+        read(rt.alloc(), 1024, number),
+        "invalid type",
+    );
+}
+
+#[test]
+fn a_hundred_links(rt: HostRuntime) -> Result<(), Error> {
+    let first = b"\x81\xa4Next";
+    let deepest = nested(rt.alloc(), first, 99, b"\xc0")?;
+    reads::<Link>(&rt, rt.alloc(), 100, &deepest, false, &deepest);
+    let deeper = nested(rt.alloc(), first, 100, b"\xc0")?;
+    refused::<Link>(&rt, rt.alloc(), read(rt.alloc(), 100, &deeper), TOO_DEEP);
+    Ok(())
+}
+
+#[test]
 fn lists(rt: HostRuntime) {
     let nested = b"\x92\x91\x90\x90".as_slice();
     for input in [nested, b"\xdc\x00\x02\x91\xc4\x00\xdd\x00\x00\x00\x00"] {
@@ -135,11 +172,11 @@ fn lists(rt: HostRuntime) {
     );
 }
 
-// So many lists of one, and then these bytes.
-fn nested(alloc: Global, times: usize, last: &[u8]) -> Result<Vec<u8>, Error> {
+// So many times the first bytes, and then the last.
+fn nested(alloc: Global, each: &[u8], times: usize, last: &[u8]) -> Result<Vec<u8>, Error> {
     let mut input = Vec::new(alloc);
     for _ in 0..times {
-        input.push(0x91)?;
+        input.extend_from_slice(each)?;
     }
     input.extend_from_slice(last)?;
     Ok(input)
@@ -147,10 +184,10 @@ fn nested(alloc: Global, times: usize, last: &[u8]) -> Result<Vec<u8>, Error> {
 
 #[test]
 fn a_hundred_lists(rt: HostRuntime) -> Result<(), Error> {
-    let deepest = nested(rt.alloc(), 98, b"\x90")?;
+    let deepest = nested(rt.alloc(), b"\x91", 98, b"\x90")?;
     reads::<Nested>(&rt, rt.alloc(), 100, &deepest, false, &deepest);
     for (times, last) in [(99, b"\x90".as_slice()), (100, b"")] {
-        let deeper = nested(rt.alloc(), times, last)?;
+        let deeper = nested(rt.alloc(), b"\x91", times, last)?;
         refused::<Nested>(&rt, rt.alloc(), read(rt.alloc(), 100, &deeper), TOO_DEEP);
     }
     Ok(())

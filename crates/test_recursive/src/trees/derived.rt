@@ -3,22 +3,26 @@
 //! Sum of Tree: 502ba3af.
 //! Sum of Expr: f55250eb.
 //! Sum of Term: 6b5d4a71.
+//! Sum of Link: 2aca41f4.
 ghost use Rattle.rmp_decode.specs.Buffers.{IsBuffer};
 ghost use Rattle.rmp_decode.specs.Law.{Lawful};
+ghost use Rattle.rmp_decode.specs.Options.{IsOption};
 ghost use Rattle.rmp_decode.specs.Read.{IsUnsigned, IsSigned, IsRaw, IsChar};
 ghost use Rattle.rmp_decode.specs.Wide.{IsUnsigned128, IsSigned128};
-ghost use Rattle.rmp_wire.specs.Msg.{truth, float32, float64};
+ghost use Rattle.rmp_wire.specs.Msg.{nil, truth, float32, float64};
 ghost use Rattle.rmp_wire.specs.Types.{buffer_bytes};
 ghost use Rattle.std.specs.Prelude.{◌≡◌, None, Some, string_bytes, pos, negsuc};
 ghost use Rattle.test_recursive.specs.ExprLevels.{IsExpr, expr_data, expr_fits};
 ghost use Rattle.test_recursive.specs.ExprRounds.{SameExpr, expr_some, expr_round, expr_only, expr_other};
-ghost use Rattle.test_recursive.specs.Recursion.{Row};
+ghost use Rattle.test_recursive.specs.LinkLevels.{IsLink, link_data, link_fits};
+ghost use Rattle.test_recursive.specs.LinkRounds.{SameLink, link_some, link_round, link_only, link_other};
+ghost use Rattle.test_recursive.specs.Recursion.{Row, Boxed};
 ghost use Rattle.test_recursive.specs.TermLevels.{IsTerm, term_data, term_fits};
 ghost use Rattle.test_recursive.specs.TermRounds.{SameTerm, term_some, term_round, term_only, term_other};
 ghost use Rattle.test_recursive.specs.TreeLevels.{IsTree, tree_data, tree_fits};
 ghost use Rattle.test_recursive.specs.TreeRounds.{SameTree, tree_some, tree_round, tree_only, tree_other};
 
-use super::{ByteBuf, Expr, F32Bits, F64Bits, Term, Tree};
+use super::{ByteBuf, Expr, F32Bits, F64Bits, Link, Term, Tree};
 use rmp_decode::{Deserialize, Deserializer, ReadContent, Slices};
 use rmp_encode::{Serialize, Serializer};
 use rmp_round_trip::{NeverNil, RoundTrip};
@@ -583,4 +587,164 @@ impl<'de, R: ReadSlice<'de>> RoundTrip<'de, R> for Term {
 
 impl NeverNil for Term {
     ghost never_nil = { λ s v. term_other s v };
+}
+
+impl Serialize for Link {
+    ghost data_of = { λ v human. link_data v };
+
+    ghost is_value = { λ v. link_fits v };
+
+    #[cycle(link_writing)]
+    fn serialize<W: Sink, C: SerializerConfig>(
+        &self,
+        se: &mut Serializer<W, C>,
+    ) -> Result<(), rmp_encode::Error> {
+        match self {
+            Link::Last(value) => se.serialize_newtype_variant("Link", 0, "Last", value),
+            Link::Next(value) => se.serialize_newtype_variant("Link", 1, "Next", value),
+            Link::Named(value) => se.serialize_newtype_variant("Link", 2, "Named", value),
+            Link::Fork(value) => se.serialize_newtype_variant("Link", 3, "Fork", value),
+            Link::Other(value) => se.serialize_newtype_variant("Link", 4, "Other", value),
+        }
+    }
+
+    #[tactic(auto, using(crate::proofs::LinkLevels::link_no_byte))]
+    fn as_u8(&self, _human: bool) -> Option<u8> {
+        match self {
+            Link::Last(_) => None,
+            Link::Next(_) => None,
+            Link::Named(_) => None,
+            Link::Fork(_) => None,
+            Link::Other(_) => None,
+        }
+    }
+}
+
+// Reads a `Link`.
+#[cycle(link_reading)]
+fn read_link<R: Source, C: SerializerConfig, P: ReadContent<R> + ReadLeaves<R>>(
+    de: &mut Deserializer<R, C>,
+) -> Result<Link, rmp_decode::Error>
+    ensures law { Lawful R.Source IsLink de.old de.new result }
+{
+    match de.deserialize_enum_by::<P>(&["Last", "Next", "Named", "Fork", "Other"]) {
+        Ok((0, variant)) => match variant.newtype_variant_with(read_u16::<R, C>) {
+            Ok(value) => Ok(Link::Last(value)),
+            Err(e) => Err(e),
+        },
+        Ok((1, variant)) => match variant.newtype_variant_with(
+            |de: &mut Deserializer<R, C>| -> Result<Option<Box<Link>>, rmp_decode::Error>
+                ensures law { Lawful R.Source (λ m v. IsOption (Boxed IsLink) m v) de.old de.new result }
+            { read_link_option::<R, C, P>(de) },
+        ) {
+            Ok(value) => Ok(Link::Next(value)),
+            Err(e) => Err(e),
+        },
+        Ok((2, variant)) => match variant.newtype_variant_with(
+            |de: &mut Deserializer<R, C>| -> Result<String, rmp_decode::Error>
+                ensures law { Lawful R.Source (λ m v. IsRaw m (string_bytes v)) de.old de.new result }
+            { P::read_string::<C>(de) },
+        ) {
+            Ok(value) => Ok(Link::Named(value)),
+            Err(e) => Err(e),
+        },
+        Ok((3, variant)) => match variant.newtype_variant_with(
+            |de: &mut Deserializer<R, C>| -> Result<Vec<Link>, rmp_decode::Error>
+                ensures law { Lawful R.Source (λ m v. Row IsLink m v.items) de.old de.new result }
+            { read_link_list::<R, C, P>(de) },
+        ) {
+            Ok(value) => Ok(Link::Fork(value)),
+            Err(e) => Err(e),
+        },
+        Ok((_, variant)) => match variant.newtype_variant_with(
+            |de: &mut Deserializer<R, C>| -> Result<Option<Box<Link>>, rmp_decode::Error>
+                ensures law { Lawful R.Source (λ m v. IsOption (Boxed IsLink) m v) de.old de.new result }
+            { read_link_option::<R, C, P>(de) },
+        ) {
+            Ok(value) => Ok(Link::Other(value)),
+            Err(e) => Err(e),
+        },
+        Err(e) => Err(e),
+    }
+}
+
+// Reads nil as none, or else a boxed one.
+#[cycle(link_reading)]
+fn read_link_option<R: Source, C: SerializerConfig, P: ReadContent<R> + ReadLeaves<R>>(
+    de: &mut Deserializer<R, C>,
+) -> Result<Option<Box<Link>>, rmp_decode::Error>
+    ensures law { Lawful R.Source (λ m v. IsOption (Boxed IsLink) m v) de.old de.new result }
+{
+    de.deserialize_option_with(
+        |de: &mut Deserializer<R, C>| -> Result<Box<Link>, rmp_decode::Error>
+            ensures law { Lawful R.Source (λ m v. IsLink m v.value) de.old de.new result }
+        { read_link_box::<R, C, P>(de) },
+    )
+}
+
+// Reads a list of them.
+#[cycle(link_reading)]
+fn read_link_list<R: Source, C: SerializerConfig, P: ReadContent<R> + ReadLeaves<R>>(
+    de: &mut Deserializer<R, C>,
+) -> Result<Vec<Link>, rmp_decode::Error>
+    ensures law { Lawful R.Source (λ m v. Row IsLink m v.items) de.old de.new result }
+{
+    let mut items = Vec::new(de.alloc());
+    let mut seq = de.deserialize_seq()?;
+    while let Some(item) = seq.next_element_with(
+        |de: &mut Deserializer<R, C>| -> Result<Link, rmp_decode::Error>
+            ensures law { Lawful R.Source (λ m v. IsLink m v) de.old de.new result }
+        { read_link::<R, C, P>(de) },
+    )? {
+        items.push(item)?;
+    }
+    seq.end()?;
+    Ok(items)
+}
+
+// Reads a boxed one.
+#[cycle(link_reading)]
+fn read_link_box<R: Source, C: SerializerConfig, P: ReadContent<R> + ReadLeaves<R>>(
+    de: &mut Deserializer<R, C>,
+) -> Result<Box<Link>, rmp_decode::Error>
+    ensures law { Lawful R.Source (λ m v. IsLink m v.value) de.old de.new result }
+{
+    let value = match read_link::<R, C, P>(de) {
+        Ok(value) => value,
+        Err(e) => return Err(e),
+    };
+    match Box::new(de.alloc(), value) {
+        Ok(boxed) => Ok(boxed),
+        Err(_) => Err(de.refuse(rmp_decode::Error::OutOfMemory)),
+    }
+}
+
+impl<'de, R: ReadSlice<'de>> Deserialize<'de, R> for Link {
+    ghost reads = { λ human lends. IsLink };
+
+    ghost absent = { None };
+
+    fn deserialize<C: SerializerConfig>(
+        de: &mut Deserializer<R, C>,
+    ) -> Result<Link, rmp_decode::Error> {
+        read_link::<R, C, Slices<'de>>(de)
+    }
+
+    fn missing() -> Option<Link> {
+        None
+    }
+}
+
+impl<'de, R: ReadSlice<'de>> RoundTrip<'de, R> for Link {
+    ghost has_data = { λ human v. link_some v };
+
+    ghost round = { λ lent s v fits. link_round s v fits };
+
+    ghost same = { SameLink };
+
+    ghost only = { λ s v fits. link_only s v fits };
+}
+
+impl NeverNil for Link {
+    ghost never_nil = { λ s v. link_other s v };
 }
