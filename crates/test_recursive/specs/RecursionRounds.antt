@@ -3,11 +3,11 @@ use Rattle.std.proofs.Common.{◌≡◌, refl, ap, List, [], ◌∷◌, map, All
 use Rattle.std.specs.Prelude.{IfSome, IsSome, IsSomeAnd}
 use Rattle.std.proofs.lemmas.List.Elements.{All-head, All-tail}
 use Rattle.rmp_wire.specs.Msg.{Msg}
-use Rattle.rmp_encode.specs.Data.{Data}
+use Rattle.rmp_encode.specs.Data.{Data, wrapped}
 use Rattle.rmp_encode.specs.Trees.{tree_of, parts_of, option_of, wrapped_of}
 use Rattle.rmp_encode.specs.declared.settings.Settings.{Settings}
 use Rattle.rmp_round_trip.specs.RoundTrip.{Alike, AlikeOption, LowersTo}
-use Rattle.rmp_round_trip.specs.Rounds.{parts_cons}
+use Rattle.rmp_round_trip.specs.Rounds.{mapped_some, parts_cons}
 
 pub each_data : {X : Type 0} (d : X → Option Data) (xs : List X) → All (λ x. IsSome (d x)) xs → IsSome (parts_of (map d xs))
 each_data d [] h = refl
@@ -16,11 +16,7 @@ each_data d (x ∷ xs) h =
 
 pub option_data : {X : Type 0} (d : X → Option Data) (o : Option X) → IfSome o (λ x. IsSome (d x)) → IsSome (option_of d o)
 option_data d None h = refl
-option_data d (Some x) h = go (d x) h
-  where
-    go : (t : Option Data) → IsSome t → IsSome (wrapped_of t)
-    go None h = cc
-    go (Some t) h = refl
+option_data d (Some x) h = mapped_some wrapped (d x) h
 
 pub lowers_as : (s : Settings) (d : Option Data) (P Q : Msg → Type 0) → ((m : Msg) → P m → Q m) → LowersTo s d P → LowersTo s d Q
 lowers_as s d P Q f h = go (tree_of s d) h
