@@ -1,5 +1,5 @@
 #!/usr/bin/env python3
-"""Writes the implementations of `Deserialize` for tuples of one to eight elements, and their answers.
+"""Writes the implementations of `Deserialize` for tuples of one to twelve elements, and their answers.
 
     tools/read_tuples.py [FOLDER]     writes below this folder in place of the repository's top
 

@@ -7,9 +7,8 @@ Run `rt fmt` in the crate afterwards.
 """
 from derived_rounds import any_of, both_of, lent
 from lines import write
-from shared import KINDS, tuple_of
+from shared import KINDS, MOST, tuple_of
 
-MOST = len(KINDS)
 HEAD = """//! Tuples. Written by tools/round_tuples.py.
 ghost use Rattle.std.specs.Prelude.{◌∷◌, ◌||◌, [], true};
 ghost use Rattle.rmp_round_trip.specs.OnlyRows.{item_only, last_only, lowers_then, row_both};

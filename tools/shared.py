@@ -3,8 +3,11 @@ from __future__ import annotations
 
 from collections.abc import Iterable
 
-# The type parameters of the elements of tuples that are read: `C` is that of the settings.
-KINDS = "ABDEFGHI"
+# The type parameters of the elements of tuples that are read: `C` is that of the settings, and `R` that of the source. They are twelve, as the
+# prover says of longer tuples that they are nested pairs.
+KINDS = "ABDEFGHIJKLM"
+# How many elements a tuple has at most that is written, and how many values one call writes.
+MOST = 8
 
 
 def list_of(terms: list[str]) -> str:

@@ -6,9 +6,7 @@
 Run `rt fmt` in the crate afterwards.
 """
 from lines import write
-from shared import bracketed, numbered, tuple_of
-
-MOST = 8
+from shared import MOST, bracketed, numbered, tuple_of
 
 
 # The elements that each call writes, by where they begin and end: up to four, and then each alone. Two calls for several elements would
