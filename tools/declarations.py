@@ -11,6 +11,7 @@ from typing import Iterator, Optional
 
 import renaming
 from defaults import Default, NoDefault, default_of
+from shared import KINDS, MOST
 
 # Types that are named without a `use`, and the words of types that have a meaning of their own.
 PRELUDE = set("String Vec Option Box".split())
@@ -43,8 +44,9 @@ ALIAS = re.compile(r"^(?:pub(?:\([^)]*\))? )?type (\w+)\s*=\s*([^;]*);", re.M)
 # What the text of a file is made of where a comment may begin: texts, characters, and comments.
 TOKEN = re.compile(r'"(?:\\.|[^"\\])*"|\'(?:\\[^\']*|[^\\\'])\'|//[^\n]*|/\*', re.S)
 NOTE = re.compile(r"//\s*derive:\s*(.*)")
-# How many elements a tuple has at most, and how many fields with names a struct and a variant.
-MOST = 8
+# How many fields a struct has at most, without names and with them, and how many a variant.
+MOST_UNNAMED = len(KINDS)
+MOST_UNNAMED_IN_VARIANT = MOST
 MOST_NAMED = 32
 MOST_NAMED_IN_VARIANT = 16
 # For how many fields with names rmp_decode has a call of its own.
@@ -468,10 +470,10 @@ def variants_of(body: Span, lifetime: Optional[str], notes: renaming.Notes) -> l
     return variants
 
 
-def check_shape(shape: Shape, most_named: int) -> None:
+def check_shape(shape: Shape, most_named: int, most_unnamed: int) -> None:
     """Refuses a shape that no call writes or reads at once."""
     count = len(shape.fields)
-    most = most_named if shape.kind == "named" else MOST
+    most = most_named if shape.kind == "named" else most_unnamed
     if count > most:
         raise Refused(f"{shape.name} has {count} fields, and up to {most} can be derived: group some of them in a type of their own")
     if shape.kind == "named" and not count:
@@ -523,7 +525,10 @@ def declared(source: Source, word: str, name: str, at: int, notes: renaming.Note
     found.asked = bool(notes.round_trip)
     check_mixed(found)
     for shape in found.shapes():
-        check_shape(shape, MOST_NAMED if found.shape else MOST_NAMED_IN_VARIANT)
+        if found.shape:
+            check_shape(shape, MOST_NAMED, MOST_UNNAMED)
+        else:
+            check_shape(shape, MOST_NAMED_IN_VARIANT, MOST_UNNAMED_IN_VARIANT)
     return found
 
 

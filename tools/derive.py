@@ -41,7 +41,7 @@ from typing import Iterator
 sys.dont_write_bytecode = True
 import derived_recursive as recursive
 import halves
-from declarations import MOST, PLAIN, PRELUDE, Declared, Refused, identifiers, is_flat
+from declarations import PLAIN, PRELUDE, Declared, Refused, identifiers, is_flat
 from derived_proofs import answers, has_content, has_defaults
 from derived_rounds import LEMMAS, Own, Unknown
 from derived_rounds import implementations as rounds
@@ -49,7 +49,7 @@ from derived_terms import EIGHT, GHOST, GROUP, MOST_IN_TUPLES, Words, alias, bou
 from derived_terms import member_of_reading, member_of_refusing, members_of_writing, refused_of, underscored
 from imports import imports
 from modules import Files, Module, stale, sums_lines
-from shared import texts
+from shared import MOST, texts
 
 PLACES = halves.FIELDS
 # The lemmas that a struct is no byte.

@@ -1,6 +1,7 @@
 //! Structs of many fields and enums of many variants that are declared alone, whose implementations and proofs tools/derive.py wrote.
 #![tactic(auto)]
 
+mod buoys;
 mod flags;
 mod halves;
 mod manifest;
@@ -9,6 +10,7 @@ mod papers;
 mod ports;
 mod signals;
 
+pub use buoys::Measured;
 pub use flags::Flag;
 pub use halves::{Buoy, Coast, Light};
 pub use manifest::Manifest;

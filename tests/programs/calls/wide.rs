@@ -4,7 +4,7 @@ use rmp_encode::{to_vec, to_vec_named};
 use rmp_wire::{F64Bits, Marker};
 use std::alloc::Global;
 use std::test::Fail;
-use test_wide::{Buoy, Coast, Course, Entry, Flag, Light, Signal, Spot};
+use test_wide::{Buoy, Coast, Course, Entry, Flag, Light, Measured, Signal, Spot};
 
 // Each variant of `Signal` with a value, in the order of the declaration.
 const SIGNALS: [&[u8]; 30] = [
@@ -267,5 +267,48 @@ fn halves_by_hand(rt: HostRuntime) -> Result<(), Fail> {
     );
     assert!(rt; matches!(&coast.light, Some(Light { name, height: 9 }) if name.as_str() == "B"));
     assert_eq!(rt; to_vec(rt.alloc(), coast)?.as_slice(), bytes);
+    Ok(())
+}
+
+// What a buoy measured, after the list's head.
+const MEASURED: &[u8] =
+    b"\xcd\x01,\xa1A\xd2\xff\xfe\xee\x90\xc0\xc3\xa1c\xcb?\xf0\x00\x00\x00\x00\x00\x00\x92\x01\x02\x93\x01\x02\xcd\x01,\x92\x05\xc0\x92\x03\xa1H\xc4\x02\x01\x02";
+
+// The same in a list that says that it has so many elements, and how it is read.
+fn measured(rt: HostRuntime, count: u8) -> Result<Result<Measured, Error>, Fail> {
+    let mut bytes = Vec::new(rt.alloc());
+    bytes.push(0x90 | count)?;
+    bytes.extend_from_slice(MEASURED)?;
+    bytes.push(0xc0)?;
+    Ok(from_slice(rt.alloc(), bytes.as_slice()))
+}
+
+#[test]
+fn a_tuple_struct_of_twelve(rt: HostRuntime) -> Result<(), Fail> {
+    let Ok(read) = measured(rt, 12)? else {
+        return Err(Fail::from("twelve elements are refused"));
+    };
+    let Measured(a, b, c, d, e, f, g, h, i, spot, pair, chart) = &read;
+    assert!(rt;
+        matches!(
+            (a, c, d, e, f, g),
+            (300, -70000, None, true, 'c', F64Bits(4607182418800017408))
+        )
+    );
+    assert_eq!(rt; b.as_str(), "A");
+    assert_eq!(rt; h.as_slice(), [1, 2].as_slice());
+    assert_eq!(rt; i.as_slice(), [1, 2, 300].as_slice());
+    assert!(rt; spot.north == 5 && spot.name.is_none());
+    assert!(rt; pair.0 == 3 && pair.1.as_str() == "H");
+    assert_eq!(rt; chart.as_bytes(), b"\x01\x02".as_slice());
+    let written = to_vec(rt.alloc(), &read)?;
+    assert_eq!(rt; written.as_slice().split_first(), Some((&0x9c, MEASURED)));
+    Ok(())
+}
+
+#[test]
+fn no_tuple_struct_of_twelve(rt: HostRuntime) -> Result<(), Fail> {
+    assert!(rt; matches!(measured(rt, 11)?, Err(Error::Syntax(Text::InvalidLength))));
+    assert!(rt; matches!(measured(rt, 13)?, Err(Error::LengthMismatch(12))));
     Ok(())
 }
