@@ -38,7 +38,11 @@ fn following(first: u8, strict: bool) -> u32
     ensures { Tells strict first result }
 {
     let at = 2 * first as usize;
-    if strict { PAYLOADS[at + 1] } else { PAYLOADS[at] }
+    if strict {
+        PAYLOADS[at + 1]
+    } else {
+        PAYLOADS[at]
+    }
 }
 
 const BLOCK: usize = NEVER as usize;
