@@ -210,7 +210,7 @@ def enum_no_byte(of: Declared) -> str:
 # The calls by which variants with several fields are written.
 WRITTEN_BY = {"tuple": "serialize_tuple_variant_of", "named": "serialize_struct_variant_of"}
 # Types of fields of which no search finds, beside other fields, what is known of them and of their refusals.
-LISTED = re.compile(r"\b(Vec|VecDeque)<")
+LISTED = re.compile(r"\b(Vec|VecDeque|BTreeMap|BTreeSet)<")
 
 
 def enum_values(of: Declared) -> str:

@@ -407,6 +407,11 @@ opens_text_8 b n e l k =
     let yes : nat_lt n 256 ≡ true = lt-ltb n 256 k in
     rw (no, yes) e
 
+-- and of bytes
+pub opens_bin_8 : (b n : ℕ) → b ≡ 0xc4 → n < 2 ^ 8 → Opens b (canon_head (Bin n))
+unfolding canon_head
+opens_bin_8 b n e k = let yes : nat_lt n 256 ≡ true = lt-ltb n 256 k in rw yes e
+
 -- and of 16 bytes
 pub opens_sixteen : (b : ℕ) → b ≡ 0xc4 → Opens b (canon_head (Bin 16))
 unfolding canon_head

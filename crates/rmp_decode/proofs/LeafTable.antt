@@ -22,6 +22,7 @@ use Rattle.rmp_wire.proofs.Strict.{test_passed}
 use Rattle.rmp_wire.proofs.Taken.{bytes_from, bytes_parts, head_after_took}
 use Rattle.rmp_decode.specs.Kinds.{content_len}
 use Rattle.rmp_decode.specs.Ahead.{LeafHeadIn}
+use Rattle.rmp_decode.specs.BufferedHeads.{HeadIn}
 use Rattle.rmp_decode.specs.Law.{Lawful}
 use Rattle.rmp_decode.specs.LeafTable.{SpellsLeaf, Tells, PassesLeaves, SkipsLeaves}
 use Rattle.rmp_decode.specs.Open.{Leads, SpellsOpen}
@@ -357,10 +358,8 @@ passes_more strict bytes at n w b payload p some is tells few long small =
 
 -- ---- a leaf by its head
 
-pub leaf_fits : (strict : Bool) (len payload : ℕ) (xs : List ℕ) → LeafHeadIn strict len payload xs → len ≤ length xs
-leaf_fits strict len payload xs l =
-    let s = l.starts.starts in
-    omega (arith, l.starts.long, ap length s.front, length-append (s.byte ∷ s.following) s.rest)
+pub leaf_held : (strict : Bool) (len : ℕ) (h : Head) (xs : List ℕ) → is_leaf h ≡ true → HeadIn strict len h xs → LeafHeadIn strict len (content_len h) xs
+leaf_held strict len h xs l s = record { head = h; starts = s; is_leaf = record { leaf = no_parts h l; long = refl } }
 
 pub leaf_whole : (strict : Bool) (len payload : ℕ) (xs : List ℕ) → LeafHeadIn strict len payload xs → ((i : ℕ) → get_or xs i 0 < 256)
     → len + payload ≤ length xs → SpellsLeaf strict (take (len + payload) xs)

@@ -1,4 +1,4 @@
-//! Types that lead back to themselves, as users write them by hand, and that they are read as they were written.
+//! Types that lead back to themselves: enums that the tool derives, and structs by hand. They are read as they were written.
 #![tactic(auto)]
 
 mod recursive;

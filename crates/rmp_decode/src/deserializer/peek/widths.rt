@@ -6,7 +6,7 @@ use rmp_wire::Head;
 
 // Whether a number or a length may be read in a format that is meant for those from `least` on: any where reading isn't strict.
 #[inline(always)]
-pub(super) fn may_begin(n: u64, least: u64, strict: bool) -> bool
+pub(crate) fn may_begin(n: u64, least: u64, strict: bool) -> bool
     ensures { result ≡ true → strict ≡ true → least ≤ n }
 {
     !strict || n >= least

@@ -1,8 +1,10 @@
 //! Leaves that are skipped by a table of first bytes.
-ghost use Rattle.std.specs.Prelude.{◌<◌, ◌≤◌, length, take};
+ghost use Rattle.std.specs.Prelude.{◌<◌, ◌≤◌, Bool, IfSome, length, take};
+ghost use Rattle.rmp_decode.specs.Ahead.{LeafHeadIn};
 ghost use Rattle.rmp_decode.specs.LeafTable.{SpellsLeaf, Tells, PassesLeaves};
 
 use crate::deserializer::peek::table::leaf_at;
+use crate::deserializer::peek::widths::may_begin;
 
 // No block has so many bytes after a first byte.
 const NEVER: u32 = u32::MAX;
@@ -47,16 +49,36 @@ fn following(first: u8, strict: bool) -> u32
 
 const BLOCK: usize = NEVER as usize;
 
-// How many bytes the leaf has that these bytes begin with, by its head, or 0 where there is none, or it isn't whole. Out of line: so the
-// loop over the table keeps nothing of a head.
-#[inline(never)]
-fn whole_leaf(bytes: &[u8], strict: bool) -> usize
-    ensures within { result ≤ length bytes.now }
-    ensures leaf { 0 < result → SpellsLeaf strict (take result bytes.now) }
+// The head of bytes or of a text whose length is in the second byte: how many bytes of content follow, and the count of its own.
+#[inline(always)]
+fn sized_at(front: &[u8], strict: bool) -> Option<(u32, usize)>
+    ensures { IfSome result (λ p. LeafHeadIn strict p.1 p.0 front.now) }
 {
-    match leaf_at(bytes, strict) {
+    match front {
+        [first, following @ ..] => match first {
+            0xc4 => match following {
+                [len, ..] => Some((u32::from(*len), 2)),
+                _ => None,
+            },
+            0xd9 => match following {
+                [len, ..] if may_begin(u64::from(*len), 32, strict) => Some((u32::from(*len), 2)),
+                _ => None,
+            },
+            _ => None,
+        },
+        _ => None,
+    }
+}
+
+// How many bytes the leaf has that these bytes begin with, by its head, or 0 where there is none, or it isn't whole.
+#[inline(always)]
+fn whole(bytes: &[u8], head: Option<(u32, usize)>) -> usize
+    ensures within { result ≤ length bytes.now }
+    ensures leaf { (strict : Bool) → IfSome head (λ p. LeafHeadIn strict p.1 p.0 bytes.now) → 0 < result → SpellsLeaf strict (take result bytes.now) }
+{
+    match head {
         Some((payload, len)) => {
-            if payload as usize <= bytes.len() - len {
+            if len <= bytes.len() && payload as usize <= bytes.len() - len {
                 len + payload as usize
             } else {
                 0
@@ -66,7 +88,30 @@ fn whole_leaf(bytes: &[u8], strict: bool) -> usize
     }
 }
 
-// The same, but that a short list or map is seen by its first byte.
+// How many bytes the leaf has that these bytes begin with, by a head of any width, or 0. Out of line, so that the loop over the table keeps nothing of a head.
+#[inline(never)]
+fn whole_leaf(bytes: &[u8], strict: bool) -> usize
+    ensures within { result ≤ length bytes.now }
+    ensures leaf { 0 < result → SpellsLeaf strict (take result bytes.now) }
+{
+    whole(bytes, leaf_at(bytes, strict))
+}
+
+// As `whole_leaf`, with a fast path for a length in the second byte.
+#[inline(always)]
+fn long_leaf(bytes: &[u8], strict: bool) -> usize
+    ensures within { result ≤ length bytes.now }
+    ensures leaf { 0 < result → SpellsLeaf strict (take result bytes.now) }
+{
+    let head = sized_at(bytes, strict);
+    if head.is_some() {
+        whole(bytes, head)
+    } else {
+        whole_leaf(bytes, strict)
+    }
+}
+
+// As `long_leaf`, and 0 for a short list or map, by its first byte.
 #[inline(always)]
 fn other_leaf(bytes: &[u8], strict: bool) -> usize
     ensures within { result ≤ length bytes.now }
@@ -75,7 +120,7 @@ fn other_leaf(bytes: &[u8], strict: bool) -> usize
     match bytes {
         [first, ..] => match first {
             0x80..=0x9f => 0,
-            _ => whole_leaf(bytes, strict),
+            _ => long_leaf(bytes, strict),
         },
         _ => 0,
     }

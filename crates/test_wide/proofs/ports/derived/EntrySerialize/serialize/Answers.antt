@@ -18,6 +18,12 @@ returns-in-Convoy-clause-value g c = rw c.in-Convoy.is c.serialize_struct_varian
 pub returns-in-Convoy-clause-error : goal.returns-in-Convoy-clause-error
 returns-in-Convoy-clause-error g c = rw c.in-Convoy.is c.serialize_struct_variant_of-in-Convoy.ensures.error
 
+pub returns-in-Tally-clause-value : goal.returns-in-Tally-clause-value
+returns-in-Tally-clause-value g c = rw c.in-Tally.is c.serialize_tuple_variant_of-in-Tally.ensures.value
+
+pub returns-in-Tally-clause-error : goal.returns-in-Tally-clause-error
+returns-in-Tally-clause-error g c = rw c.in-Tally.is c.serialize_tuple_variant_of-in-Tally.ensures.error
+
 pub returns-in-Shift-clause-value : goal.returns-in-Shift-clause-value
 returns-in-Shift-clause-value g c = rw c.in-Shift.is c.serialize_tuple_variant_of-in-Shift.ensures.value
 
