@@ -247,7 +247,7 @@ def member_of_refusing(of: Declared, words: Words) -> str:
 
 
 def members_of_writing(of: Declared, words: Words) -> tuple[str, str, str, str]:
-    """What stands for data_of, is_value, takes_memory and refuses."""
+    """The terms of data_of, is_value, takes_memory and refuses."""
     if of.shape:
         return data_of(words, of.shape, "v"), known_of(words, of.shape, "v"), memory_of(words, of.shape), refused_of(words, of.shape, "v")
     data = by_cases(of, [data_of(words, shape) for shape in of.variants])

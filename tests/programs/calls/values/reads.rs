@@ -137,7 +137,7 @@ fn reads_in_any_widths(rt: HostRuntime) {
     for (input, want) in rows {
         gives(&rt, input, want);
     }
-    // The keys stand in their order, and one may be twice.
+    // The keys keep the order that they have in the message, and one may come twice.
     gives(&rt, &[0x83, 2, 0, 1, 0, 2, 1], "{2:0;1:0;2:1;}");
 }
 
