@@ -137,7 +137,7 @@ pub fn spelled(items: &[Part]) -> Vec<u8> {
     out
 }
 
-/// How the fields of a struct stand in a message.
+/// How the fields of a struct are encoded.
 #[derive(Clone, Copy)]
 pub enum Form {
     List,

@@ -63,7 +63,7 @@ class Refused(Exception):
 
 @dataclasses.dataclass(repr=False)
 class Field:
-    """A field: its name, or its place in a tuple, its type, the name that is written, and what stands for it where it is missing."""
+    """A field: its name, or its place in a tuple, its type, the name that is written, and its default where it is missing."""
 
     name: str
     kind: str
@@ -219,7 +219,7 @@ class Span:
         return found + [last] * bool(str(last).strip())
 
     def notes(self, until: int) -> renaming.Notes:
-        """What the notes say that stand from its beginning to a place."""
+        """What the notes from its beginning to a place say."""
         found = renaming.Notes()
         for place, text in self.source.notes.items():
             if self.start <= place < until:
@@ -479,7 +479,7 @@ def check_shape(shape: Shape, most_named: int, most_unnamed: int) -> None:
     if shape.kind == "named" and not count:
         raise Refused(f"{shape.name} has no fields: write it without braces")
     if shape.kind == "newtype" and shape.name == "_ExtStruct":
-        raise Refused("this name stands for an extension: give it another")
+        raise Refused("this is the name of extensions: give it another")
 
 
 def is_flat(shape: Shape) -> bool:

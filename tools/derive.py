@@ -6,7 +6,7 @@
 
 The file declares its types as in Rust, each with `#[derive(Drop)]`, and has a line `mod derived;`. For src/pets.rt the
 implementations go to src/pets/derived.rt, and the proofs below proofs/pets/derived/, laid out; `rt check` in the crate is all that
-follows. The crate stands on rmp_encode, rmp_decode and rmp_wire, in crates.txt.
+follows. The crate depends on rmp_encode, rmp_decode and rmp_wire, in crates.txt.
 
 Structs with names, tuple structs, newtypes, structs without fields, and enums with variants of each kind are derived, with type
 parameters or without, and with a lifetime where they borrow texts or bytes of what they are read from. The type of a field is any
@@ -25,7 +25,7 @@ A comment line above a field, a variant or a type says what an attribute of serd
 The rules are those of serde. What can't be derived is refused, and the message says why, with the line. A trait that the file itself
 implements for a type isn't derived for it.
 
-Where crates.txt names rmp_serde for the crate too, or rmp_round_trip, on which that stands, each type gets `RoundTrip`, and
+Where crates.txt names rmp_serde for the crate too, or rmp_round_trip, which that re-exports, each type gets `RoundTrip`, and
 `NeverNil` where no value is nil, if the laws of its fields are known: they are of parameters, of types of std or of the wire, or of
 types of the crate that have `RoundTrip`, in this file or in one that a `use` names; where such a type has parameters, the types of
 its fields have to be in scope, too. Of a type that doesn't get it the tool says why.
@@ -54,7 +54,7 @@ from shared import MOST, texts
 PLACES = halves.FIELDS
 # The lemmas that a struct is no byte.
 NO_BYTE = {"newtype": "Wrapped::wrapped_no_byte", "tuple": "Lists::sequence_no_byte", "named": "Fields::structure_no_byte"}
-# Of how many fields a struct has at most whose reading is small enough to stand in its callers.
+# How many fields a struct has at most whose read is small enough to be inlined into its callers.
 FEW = 4
 # Where the words of the code come from.
 CODE = {
@@ -365,7 +365,7 @@ def named_types(types):
 
 
 def through(library, table):
-    """The same names, those of rmp_round_trip by way of this library, if there is one."""
+    """The same names, those of rmp_round_trip through this library, if there is one."""
     return {re.sub(r"^rmp_round_trip\b", library or "rmp_round_trip", path): names for path, names in table.items()}
 
 

@@ -69,7 +69,7 @@ ORDERS |= {kind: "(Prim.search (comparing, rules))" for kind in "u8 u16 u32 u64 
 # What a law of another type takes before its own arguments: the reader's type with what its traits say, and where their methods
 # are, which no law depends on.
 READER = "R.row R.ReadSlice.own (given 0) R.Source (given 0)"
-# Where the lemmas stand. Those of rmp_round_trip can be named through rmp_serde too.
+# Where the lemmas are. Those of rmp_round_trip can be named through rmp_serde too.
 LEMMAS = {
     "std.proofs.Common": "refl rules",
     "std.proofs.lemmas.Cmp": "on_total nat_list_cmp_total",
@@ -125,7 +125,7 @@ def lent(flags: list[str], proof: str) -> list[str]:
 
 
 def nested(head: str, end: str, terms: list[str]) -> str:
-    """Each term behind the head, with the next as its last argument."""
+    """Each term after the head, with the next as its last argument."""
     return f"({head} {terms[0]} {nested(head, end, terms[1:])})" if terms else end
 
 
@@ -146,7 +146,7 @@ def parted(kind: str) -> tuple[str, list[str]]:
 
 
 def both_of(parts, over, step, last, some="", values=()):
-    """What two facts of the same parts say of each: over the parts, by a lemma for one with others behind it, and one for the last.
+    """What two facts of the same parts say of each: over the parts, by a lemma for one with others after it, and one for the last.
 
     Each part is its reading, its sameness, its value and the other. `some` is what the lemmas take between, and `values` come first.
     """
@@ -627,7 +627,7 @@ class Own:
         self.others, self.brought = {}, set()
 
     def sees(self, other: Own, word: str) -> bool:
-        """Whether a name stands for the same in this type's file as in that of another type."""
+        """Whether a name means the same in this type's file as in that of another type."""
         here, there = self.names.get(word), other.names.get(word)
         if here or there:
             return bool(here and there) and here.declared == there.declared

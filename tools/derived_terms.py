@@ -34,7 +34,7 @@ GHOST = {
 
 # Names of the functions' own values.
 TAKEN = "se de e parts others variant".split()
-# How many fields stand beside one another where there are as many left.
+# How many fields are in one tuple where there are as many left.
 GROUP = 4
 # How many are read as nested tuples at most, and what EightThen calls its first eight.
 MOST_IN_TUPLES = 16
@@ -239,7 +239,7 @@ def eights_of(count: int) -> str:
 
 
 def member_of_refusing(of: Declared, words: Words) -> str:
-    """What stands for refuses."""
+    """The term of `refuses`."""
     if of.shape:
         return refusal_of(words, of.shape, is_flat(of.shape))
     choices = [f"with_content ({refusal_of(words, shape)})" if shape.fields else "no_content" for shape in of.variants]
@@ -259,7 +259,7 @@ def members_of_writing(of: Declared, words: Words) -> tuple[str, str, str, str]:
 
 
 def member_of_reading(of: Declared, words: Words) -> str:
-    """What stands for reads."""
+    """The term of `reads`."""
     if of.shape:
         return reading_of(words, of.shape, "m", "v")
     cases = []

@@ -2,10 +2,10 @@
 """Looks at the edits that the prover must refuse: tests/edits/CRATE/FUNCTION__WHAT.edit, which tools/refused.py tries, and
 crates/CRATE/must-fail/FUNCTION__WHAT.edit, which the gate tries.
 
-Says which edit can't be applied, since a text that it replaces doesn't stand exactly once in its file, which has no such name, which of
+Says which edit can't be applied, since a text that it replaces isn't exactly once in its file, which has no such name, which of
 tests/edits doesn't say where it is refused, and which public function of the libraries has none. The status is 0 where nothing is said.
 
-An edit stands for the functions of its name, or, with the name of a type in front, as Type_function__what, for that type's.
+An edit counts for the functions of its name, or, with the name of a type in front, as Type_function__what, for that type's.
 A function needs none that has no body, as a law, that answers a field or makes a struct of one, or whose body is that of
 another by ALIKE.
 """
@@ -103,7 +103,7 @@ def edits_of(crate):
 
 
 def misapplied(crate, edit):
-    """Which texts of an edit don't stand exactly once, each in what the earlier pairs made."""
+    """Which texts of an edit aren't there exactly once, each in what the earlier pairs made."""
     texts = {}
     for path, old, new in pairs(edit):
         whole = os.path.join(CRATES, crate, path)

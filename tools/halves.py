@@ -1,4 +1,4 @@
-"""Elements that are written by two calls, the front ones and those behind: their type and its proofs, for elements.py and derive.py."""
+"""Elements that are written by two calls, the first ones and the others: their type and its proofs, for elements.py and derive.py."""
 
 from shared import bracketed
 
@@ -86,7 +86,7 @@ impl<'r, {bounds}> Elements for {name}<'r, {", ".join(names)}> {{
 
 
 def answers(n, k, word, goals):
-    """The answers of one of these bodies, `write` or `write_fields`, whose goals stand in this module."""
+    """The answers of one of these bodies, `write` or `write_fields`, whose goals are in this module."""
 
     def memory(start, end):
         return bracketed([f"g.E{i + 1}.Serialize.takes_memory (settings_of old)" for i in range(start, end)])

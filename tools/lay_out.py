@@ -1,7 +1,7 @@
 #!/usr/bin/env python3
 """Makes FOLDER a repository of its own with a crate that the gate passes over: `tools/lay_out.py FOLDER CRATE`.
 
-CRATE is a folder of tests/programs or of bench/libraries. There stand the libraries that libraries.txt beside it names for it, with those
+CRATE is a folder of tests/programs or of bench/libraries. It gets the libraries that libraries.txt beside it names for it, with those
 below them, without proofs and what was built, and crates/NAME, whose sources are the crate's *.rs, as *.rt, and whose proofs are its *.proof,
 as *.antt. So `rt try` runs a program, and tools/archive.py builds a library.
 """

@@ -1,9 +1,9 @@
 #!/usr/bin/env python3
 """Compares the public names of the Rust crate rmp-serde 1.3.1, tools/names.txt, with those of the crate rmp_serde here.
 
-A line of the list is a path, or a path and a trait that the type there implements. Each is found under its path, or stands in
+A line of the list is a path, or a path and a trait that the type there implements. Each is found under its path, or is in
 docs/DIFFERENCES.md: in a row of its table of names, in backquotes, where `X::{a, b}` is X::a and X::b, and `X: A + B` two traits.
-What is found and stands there all the same is said too. The status is 0 where nothing is said.
+What is found and is there all the same is said too. The status is 0 where nothing is said.
 """
 import re
 import sys
@@ -49,7 +49,7 @@ def names_here():
 
 
 def spread(text):
-    """The names that one piece in backquotes stands for."""
+    """The names that one piece in backquotes means."""
     group = re.fullmatch(r"([\w:]+)::\{(.*)\}", text)
     if group:
         return [f"{group[1]}::{it.strip()}" for it in group[2].split(",")]

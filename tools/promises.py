@@ -37,7 +37,7 @@ def main():
     rows = ROW.findall(page)
     faults = [] if len(rows) == len(re.findall(r"^\|", page, re.M)) - 2 else ["a row of the table has another form"]
     for promise, function, clause, test, edit in rows:
-        # What stands from the function's name up to the next function holds its contract, and no other.
+        # The text from the function's name up to the next function has its contract, and no other.
         contracts = [it for text in sources for it in re.findall(rf"fn {function}\b.*?(?=\bfn \w|\Z)", text, re.S)]
         wanted = rf"ensures\*? {clause} \{{" if clause else r"ensures \{"
         if not any(re.search(wanted, it) for it in contracts):

@@ -1,7 +1,7 @@
 """The values and the bytes of tests/samples, and the types there, for typed_samples.py and tests/run/hostile.
 
 A line of typed_write.txt has a type, a value, a setting, the bytes that the Rust crate writes, and '=' or the bytes that the rules
-give, all as they stand in Rust. A line of typed_read.txt has a type, behind which '@' and how deep values nest at most may stand,
+give, all as Rust prints them. A line of typed_read.txt has a type, which '@' and how deep values nest at most may follow,
 bytes in hex, what the Rust crate answers from a slice and from a reader, what the rules give for the port from a slice and from a
 reader, and how the two compare.
 """
@@ -45,7 +45,7 @@ def plain(kind):
 
 
 def reading(kind):
-    """The type as which a written value is read, or None where it is behind a reference, or of a type that is only written."""
+    """The type as which a written value is read, or None where it is a reference's, or of a type that is only written."""
     kind = plain(kind).replace("BTreeMap<Two,", "BTreeMap<TwoKey,")
     kind = {"f32": "F32Bits", "f64": "F64Bits", "&Bytes": "Bytes"}.get(kind, kind)
     return None if re.search(r"&(?!str\b)|UnkSeq|UnkMap|KnownSeq", kind) else kind

@@ -42,7 +42,7 @@ def memory(kinds):
 
 
 # The elements as the fields of a struct: a pair of the first one and the others, and of more than four a tuple of the first four and the others.
-# The last four stand in pairs, unlike those of a derived struct: so reads of small tuples take fewer instructions.
+# The last four are nested pairs, unlike those of a derived struct: so reads of small tuples take fewer instructions.
 def fields_of(parts):
     if len(parts) > 4:
         return f"({', '.join(parts[:4])}, {fields_of(parts[4:])})"

@@ -50,7 +50,7 @@ class Edit:
         return os.path.basename(self.path)[: -len(".edit")]
 
     def made_in(self, texts, folder):
-        """The files that it changes, as they stand then, or None where a text that it replaces doesn't stand there once."""
+        """The files that it changes, as they are then, or None where a text that it replaces isn't there once."""
         made = {}
         for path, old, new in self.pairs:
             if path not in texts and path not in made:
@@ -161,7 +161,7 @@ def wait_for(libraries, log):
 
 
 def tried(crate, log, is_written):
-    """Tries a crate's edits behind the proofs of its libraries, says what came of each, and answers how many passed and failed."""
+    """Tries a crate's edits after the proofs of its libraries, says what came of each, and answers how many passed and failed."""
     began, crates = time.monotonic(), every_crate()
     if log and not wait_for(below(crates[crate][1], crates), log):
         print(f"{crate}: its libraries aren't proved", flush=True)

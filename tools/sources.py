@@ -159,7 +159,7 @@ def step_at(text: str, at: int) -> int:
 
 
 def close_of(text: str, at: int = 0) -> int:
-    """The place behind the bracket that closes the one at this place."""
+    """The place after the bracket that closes the one at this place."""
     depth = 0
     for place in range(at, len(text)):
         depth += step_at(text, place)

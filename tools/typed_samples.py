@@ -66,7 +66,7 @@ pub enum VOpt { N(Option<u8>), B(ByteBuf), T0() }
 
 
 def shapes_of(text):
-    """What stands behind the name of each struct and each variant that is declared: None, or a dict of the fields' types, by names or places."""
+    """What follows the name of each struct and each variant that is declared: None, or a dict of the fields' types, by names or places."""
     found = {}
     bare = re.sub(r"//[^\n]*|#\[[^\]]*\]", "", text)
     for word, name, at in [(it[1], it[2], it.end()) for it in re.finditer(r"(struct|enum) (\w+)", bare)]:
@@ -340,7 +340,7 @@ def renamed(lines, names):
 
 
 def module(about, uses, lines, own):
-    """The text of a module, which brings in those names of types that stand in its lines."""
+    """The text of a module, which brings in those names of types that are in its lines."""
     words = set(re.findall(r"\w+", "\n".join(re.sub(r'"(?:[^"\\\\]|\\\\.)*"', "", line) for line in lines)))
     homes = {**HOME, **{name: "crate::types" for name in own}}
     uses = uses + [f"{homes[word]}::{word}" for word in words & set(homes)]

@@ -189,7 +189,7 @@ fn content<'a>(bytes: &'a [u8], met: &Met, len: usize) -> Result<&'a [u8], Refus
     bytes[met.len..].get(..len).ok_or(Refusal::Cut)
 }
 
-/// Where a head stands.
+/// Where a head is.
 #[cfg(feature = "original")]
 pub struct Place {
     /// Its first byte.

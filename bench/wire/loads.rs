@@ -16,7 +16,7 @@ const RUNS: Runs = Runs {
 pub struct Calls {
     /// Writes the numbers, and answers how many bytes they came to in one round.
     pub write_uints: fn(&[u64], u32) -> usize,
-    /// Writes the texts of ten bytes each that stand one after the other, and answers the bytes of one round.
+    /// Writes the texts of ten bytes each that are one after the other, and answers the bytes of one round.
     pub write_texts: fn(&[u8], u32) -> usize,
     /// Reads the heads, and answers the sum of what they say over all rounds, modulo 2 ^ 64.
     pub read_heads: fn(&[u8], u32) -> u64,

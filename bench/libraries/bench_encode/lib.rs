@@ -115,7 +115,7 @@ fn rows_of(alloc: Global, numbers: &[u32]) -> Result<Vec<Vec<u32>>, AllocError> 
     Ok(rows)
 }
 
-/// Writes a list of texts of ten bytes, which stand one after the other in `data`.
+/// Writes a list of texts of ten bytes, which are one after the other in `data`.
 #[unsafe(no_mangle)]
 pub extern "C" fn bench_encode_texts(alloc: Global, data: &[u8], reps: u32) -> usize {
     let Ok(texts) = texts_of(alloc, data) else {
@@ -137,7 +137,7 @@ fn texts_of(alloc: Global, data: &[u8]) -> Result<Vec<String>, AllocError> {
     Ok(texts)
 }
 
-/// Writes a list of tuple structs, each of a text of ten bytes and a number of 16 bits, which stand one after the other in
+/// Writes a list of tuple structs, each of a text of ten bytes and a number of 16 bits, which are one after the other in
 /// `data`.
 #[unsafe(no_mangle)]
 pub extern "C" fn bench_encode_entries(alloc: Global, data: &[u8], reps: u32) -> usize {

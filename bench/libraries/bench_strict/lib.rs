@@ -1,7 +1,7 @@
 //! Strict reads of values of many types, for a program that compares them with other reads (`bench/fuzz`).
 //!
 //! Each export reads a list `reps` times, drops what it has read, and answers how many elements all the rounds came to: a list counts where
-//! its spelling is canonical. They stand apart from `bench_shapes`, since a second read of a type there would change what is measured.
+//! its spelling is canonical. They are apart from `bench_shapes`, since a second read of a type there would change what is measured.
 #![tactic(auto)]
 
 use rmp_decode::{Deserialize, Deserializer, Error, from_slice_strict};

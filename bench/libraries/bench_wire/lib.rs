@@ -49,7 +49,7 @@ fn write_uints(out: &mut Vec<u8>, numbers: &[u64]) -> Result<(), ValueWriteError
     Ok(())
 }
 
-/// Writes texts of ten bytes, which stand one after the other in `data`, as `bench_write_uints` writes numbers. 0 also
+/// Writes texts of ten bytes, which are one after the other in `data`, as `bench_write_uints` writes numbers. 0 also
 /// where ten of the bytes are no text.
 #[unsafe(no_mangle)]
 pub extern "C" fn bench_write_texts(alloc: Global, data: &[u8], reps: u32) -> usize {

@@ -30,7 +30,7 @@ FieldRefused (p ∷ ps) (suc n) s before after known e = FieldRefused ps n s bef
 abbrev pub IsMet : ℕ → List (Option Msg) → Type 0
 IsMet n fs = (m : Msg) → put n m fs ≡ None
 
--- Behind a key that names a field: it was met before, or its value is refused.
+-- After a key that names a field: the field was read before, or its value is refused.
 abbrev pub NamedRefused : List Part → List (Option Msg) → ℕ → Setting → Refusals
 NamedRefused ps fs n s before after known e = ((e ≡ Syntax DuplicateField) × IsMet n fs) ⊎ FieldRefused ps n s before after known e
 

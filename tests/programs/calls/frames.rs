@@ -120,7 +120,7 @@ fn a_request_and_a_byte_more(rt: HostRuntime) {
 #[test]
 fn nested_lists(rt: HostRuntime) -> Result<(), Fail> {
     let alloc = rt.alloc();
-    // a map and a list stand around the value
+    // a map and a list are around the value
     for (deep, fits) in [(13, true), (14, false), (100_000, false)] {
         let len: u32 = 7 + deep;
         let mut bytes = Vec::new(alloc);

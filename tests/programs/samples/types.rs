@@ -1,4 +1,4 @@
-//! The structs and enums of the samples that `tools/derive.py` derives, and which stand in no other crate.
+//! The structs and enums of the samples that `tools/derive.py` derives, and which no other crate has.
 mod derived;
 
 use rmp_serde::wire::{ByteBuf, Ext};
