@@ -1,5 +1,5 @@
 -- What contracts see of a `Deserializer`.
-use Rattle.std.specs.Prelude.{◌≡◌, ◌-◌, ℕ, max, min, Bool, true, List, [], ◌∷◌, Option, pos}
+use Rattle.std.specs.Prelude.{◌≡◌, ◌-◌, ℕ, max, min, Bool, true, false, List, [], ◌∷◌, Option, pos}
 use Rattle.std.specs.declared.alloc.Global.{Global}
 use Rattle.std.specs.Io.KnownBytes.{prepend_known}
 use Rattle.rmp_wire.specs.declared.head.Head.TheVariants.{Whole}
@@ -64,6 +64,25 @@ pub record Stays {R C : Type 0} (g : Ghosts R) (old new : Deserializer R C) : Ty
   pub limit : new.limit ≡ old.limit
   pub strict : new.strict ≡ old.strict
   pub place : g.place new.reader ≡ g.place old.reader
+
+-- nothing was read yet, and any width is read of messages whose depth is below 1024
+pub record IsNew {R C : Type 0} (alloc : Global) (d : Deserializer R C) : Type 0 where
+  pub alloc : d.alloc ≡ alloc
+  pub kept : d.kept ≡ Nothing
+  pub room : room_of d ≡ 1024
+  pub limit : d.limit ≡ 1024
+  pub ready : d.failed ≡ false
+  pub lenient : d.strict ≡ false
+
+-- all but the config is that of another reader
+pub record IsSameBut {R C D : Type 0} (old : Deserializer R C) (new : Deserializer R D) : Type 0 where
+  pub reader : new.reader ≡ old.reader
+  pub alloc : new.alloc ≡ old.alloc
+  pub kept : new.kept ≡ old.kept
+  pub failed : new.failed ≡ old.failed
+  pub room : new.room ≡ old.room
+  pub limit : new.limit ≡ old.limit
+  pub strict : new.strict ≡ old.strict
 
 -- the same, strict or not
 abbrev pub strict_of : {R C : Type 0} → Deserializer R C → Bool → Deserializer R C

@@ -12,7 +12,6 @@ ghost use Rattle.rmp_decode.specs.Skip.{Passes};
 ghost use Rattle.rmp_decode.specs.Steps.{Appends};
 ghost use Rattle.rmp_decode.specs.VariantNames.{TakesName, StartsWithNoName, unknown_name};
 
-mod buffers;
 mod chars;
 pub(crate) mod cold;
 pub(crate) mod pieces;

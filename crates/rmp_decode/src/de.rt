@@ -1,10 +1,11 @@
 //! The types that are read.
-ghost use Rattle.std.specs.Prelude.{◌≡◌, ◌≢◌, Some, true, false, Bool, Option, IfOk, IfErr};
+ghost use Rattle.std.specs.Prelude.{◌≡◌, ◌≢◌, Some, true, false, Bool, Option, IfOk, IfErr, IfSome};
 ghost use Rattle.rmp_wire.specs.Canonical.{IsCanonical};
 ghost use Rattle.rmp_wire.specs.Spelling.{Spells};
 ghost use Rattle.rmp_decode.specs.State.{config_of};
 ghost use Rattle.rmp_decode.specs.Law.{Begins, Readable, Lawful};
 ghost use Rattle.rmp_decode.specs.Refusing.{slice_setting};
+ghost use Rattle.rmp_decode.specs.Readers.{source_setting, ReadFrom, RefusedBy, TakenFrom, RefusedFrom};
 
 mod arrays;
 pub(crate) mod defaults;
@@ -20,9 +21,11 @@ mod tuples;
 
 use crate::deserializer::Deserializer;
 use crate::error::Error;
+use core::mem::replace_with;
 use rmp_wire::config::SerializerConfig;
-use rmp_wire::{ReadRefReader, ReadSlice, Source};
+use rmp_wire::{ReadReader, ReadRefReader, ReadSlice, Source};
 use std::alloc::Global;
+use std::marker::PhantomData;
 
 /// A type that can be read.
 pub trait Deserialize<'de, R: ReadSlice<'de>>: Sized + Drop {
@@ -133,4 +136,129 @@ pub fn from_read_ref<'de, T: Deserialize<'de, ReadRefReader<'de>>>(
     ensures memory { T.takes_memory true ≡ false → IfErr result (λ e. e ≢ Error.OutOfMemory) }
 {
     from_slice(alloc, input)
+}
+
+// A read from a source that is moved and given back, in a bound that names no lifetime: a function that passes on a closure has none that does.
+trait ReadMoved<R: Source + Drop, V: Drop> {
+    ghost use Rattle.std.specs.Prelude.{Bool};
+    ghost use Rattle.rmp_wire.specs.Msg.{Msg};
+    ghost use Rattle.rmp_decode.specs.Refusing.{Refusals};
+
+    ghost reads: { Msg → V → Type 0 };
+
+    ghost refuses: { Refusals };
+
+    ghost takes_memory: { Bool };
+
+    fn read(alloc: Global, source: R) -> (R, Result<V, Error>)
+        ensures ok { IfOk result.1 (ReadFrom R.Source reads source result.0) }
+        ensures err { IfErr result.1 (RefusedBy R.Source reads refuses source result.0) }
+        ensures place { R.place result.0 ≡ R.place source }
+        ensures memory { takes_memory ≡ false → IfErr result.1 (λ e. e ≢ Error.OutOfMemory) };
+}
+
+// A value that is read by its type.
+struct ByType<'de> {
+    of: PhantomData<&'de [u8]>,
+}
+
+impl<'de, R: Source + Drop, T: Deserialize<'de, ReadReader<R>>> ReadMoved<R, T> for ByType<'de> {
+    ghost reads = { T.reads false false };
+
+    ghost refuses = { T.refuses source_setting };
+
+    ghost takes_memory = { T.takes_memory false };
+
+    #[inline(always)]
+    fn read(alloc: Global, source: R) -> (R, Result<T, Error>) {
+        let mut de = Deserializer::new(alloc, source);
+        let value = T::deserialize(&mut de);
+        let source = de.into_inner();
+        (source, value)
+    }
+}
+
+#[inline(always)]
+fn read_moved<R: Source + Drop, V: Drop, P: ReadMoved<R, V>>(
+    alloc: Global,
+    rd: &mut R,
+) -> Result<V, Error>
+    ensures ok { IfOk result (ReadFrom R.Source P.reads rd.old rd.new) }
+    ensures err { IfErr result (RefusedBy R.Source P.reads P.refuses rd.old rd.new) }
+    ensures place { R.place rd.new ≡ R.place rd.old }
+    ensures memory { P.takes_memory ≡ false → IfErr result (λ e. e ≢ Error.OutOfMemory) }
+{
+    replace_with(
+        rd,
+        alloc,
+        |source: R, alloc: Global|
+            ensures ok { IfOk result.1 (ReadFrom R.Source P.reads source result.0) }
+            ensures err { IfErr result.1 (RefusedBy R.Source P.reads P.refuses source result.0) }
+            ensures place { R.place result.0 ≡ R.place source }
+            ensures memory { P.takes_memory ≡ false → IfErr result.1 (λ e. e ≢ Error.OutOfMemory) }
+        { P::read(alloc, source) },
+    )
+}
+
+/// Reads a value from a source, which is left at the byte after its message: the twin of `encode::write`.
+///
+/// # Errors
+/// Any error but `OutOfMemory` says that no prefix of the remaining bytes encodes a message that the type reads, unless the source had a fault.
+/// The source is left where the read stopped.
+///
+/// # Examples
+/// ```
+/// use rmp_serde::decode::read;
+///
+/// let mut messages = [0x2a, 0xa2, 0x69, 0x74, 0xc0].as_slice();
+/// let number: u8 = read(alloc, &mut messages)?;
+/// let text: String = read(alloc, &mut messages)?;
+/// assert_eq!(rt; number, 42);
+/// assert_eq!(rt; text.as_str(), "it");
+/// assert_eq!(rt; messages, [0xc0].as_slice());
+/// ```
+#[inline(always)]
+pub fn read<'de, R: Source + Drop, T: Deserialize<'de, ReadReader<R>>>(
+    alloc: Global,
+    rd: &mut R,
+) -> Result<T, Error>
+    // The source's first bytes spell a tree that is read as the value, and the rest of them is left.
+    ensures ok { IfOk result (ReadFrom R.Source (T.reads false false) rd.old rd.new) }
+    // A refusal that is neither for memory nor for a fault means that no beginning spells a tree that the type reads.
+    ensures err { IfErr result (RefusedBy R.Source (T.reads false false) (T.refuses source_setting) rd.old rd.new) }
+    ensures place { R.place rd.new ≡ R.place rd.old }
+    ensures memory { T.takes_memory false ≡ false → IfErr result (λ e. e ≢ Error.OutOfMemory) }
+{
+    read_moved::<R, T, ByType<'de>>(alloc, rd)
+}
+
+/// Reads the value that a beginning of what the source gives spells. What follows stays in the source.
+///
+/// # Errors
+/// Any error but `OutOfMemory` says that no beginning spells a message that the type reads, where the source had no fault.
+///
+/// # Examples
+/// ```
+/// use rmp_serde::from_read;
+/// use std::io::Cursor;
+///
+/// let mut messages = Cursor::new([0x2a, 0xa2, 0x69, 0x74].as_slice());
+/// let number: u8 = from_read(alloc, &mut messages)?;
+/// let text: String = from_read(alloc, &mut messages)?;
+/// assert_eq!(rt; number, 42);
+/// assert_eq!(rt; text.as_str(), "it");
+/// ```
+pub fn from_read<'de, R: Source + Drop, T: Deserialize<'de, ReadReader<R>>>(
+    alloc: Global,
+    mut rd: R,
+) -> Result<T, Error>
+    // The value is the reading of a tree that a beginning of the source's bytes spells.
+    ensures ok { IfOk result (λ v. IfSome (R.ahead rd) (Begins Spells (λ m. T.reads false false m v) 1024)) }
+    // It is the reading of a tree where the source doesn't tell its bytes, too, and just the encoding was consumed.
+    ensures taken { IfOk result (TakenFrom R.Source (T.reads false false) rd) }
+    // A refusal that is neither for memory nor for a fault means that no beginning spells a tree that the type reads.
+    ensures err { IfErr result (RefusedFrom R.Source (T.reads false false) (T.refuses source_setting) rd) }
+    ensures memory { T.takes_memory false ≡ false → IfErr result (λ e. e ≢ Error.OutOfMemory) }
+{
+    read(alloc, &mut rd)
 }

@@ -1,27 +1,34 @@
-//! The reader of messages: its settings, its state, and the heads that it takes.
-ghost use Rattle.std.specs.Prelude.{◌≡◌, ◌<◌, ◌≤◌, false};
-ghost use Rattle.rmp_decode.specs.State.{room_of, reader_of, alloc_of, config_of, is_failed, kept_of, levels_left};
-ghost use Rattle.rmp_decode.specs.State.{limit_at, limit_of, limited, failed_of, is_strict, strict_of};
-ghost use Rattle.rmp_decode.specs.Law.{ReadsHead};
+//! The reader of messages: its source, its settings, its state, and the next message.
+ghost use Rattle.std.specs.Prelude.{◌≡◌, false, ◌≢◌, IfErr};
+ghost use Rattle.rmp_decode.specs.State.{reader_of, alloc_of, config_of, is_failed, kept_of, limit_at, limited, failed_of, strict_of, faults_of};
+ghost use Rattle.rmp_decode.specs.State.{left, IsNew, IsSameBut};
 ghost use Rattle.rmp_decode.specs.declared.deserializer.Kept.TheVariants.{Nothing};
+ghost use Rattle.rmp_decode.specs.Next.{FindsNext, IsThere, NextRead, RefusesNext};
+ghost use Rattle.rmp_decode.specs.Refusing.{RefusesAs};
+ghost use Rattle.std.specs.Borrow.{sem, follows};
+ghost use Rattle.std.specs.Io.Cursor.{cursor_position};
+ghost use Rattle.rmp_wire.specs.contracts.slice.copying.ReadReader.{the_row as reader_row};
+ghost use Rattle.rmp_decode.specs.contracts.deserializer.Deserializer.{the_row};
+ghost use Rattle.rmp_decode.specs.Readers.{source_of, reading_with};
 
 mod heads;
 mod leaf;
 pub(crate) mod messages;
-mod next;
 mod numbers;
 mod options;
 pub(crate) mod peek;
-pub(crate) mod reader;
 pub(crate) mod refusal;
 pub(crate) mod skip;
 
-use crate::deserializer::heads::{next_head, rest_of_head};
+use crate::de::Deserialize;
+use crate::deserializer::messages::Messages;
 use crate::error::Error;
 use crate::text::Text;
 use rmp_wire::config::{BinaryConfig, DefaultConfig, HumanReadableConfig, SerializerConfig};
-use rmp_wire::{Head, Marker, ReadRefReader, Source};
+use rmp_wire::{IoFault, ReadReader, ReadRefReader, ReadSlice, Source};
 use std::alloc::Global;
+use std::io::Cursor;
+use std::marker::PhantomData;
 
 /// How deep lists and maps may nest by default: a message is read whose depth is below it.
 const DEFAULT_DEPTH: u32 = 1024;
@@ -55,6 +62,25 @@ pub struct Deserializer<R, C = DefaultConfig> {
     pub(crate) strict: bool,
 }
 
+impl<R> Deserializer<R, DefaultConfig> {
+    #[inline(always)]
+    fn over(alloc: Global, reader: R) -> Self
+        ensures reader { reader_of result ≡ reader }
+        ensures new { IsNew alloc result }
+    {
+        Deserializer {
+            reader,
+            config: DefaultConfig,
+            alloc,
+            kept: Kept::Nothing,
+            room: DEFAULT_DEPTH,
+            limit: DEFAULT_DEPTH,
+            failed: false,
+            strict: false,
+        }
+    }
+}
+
 impl<'de> Deserializer<ReadRefReader<'de>, DefaultConfig> {
     ghost use Rattle.rmp_wire.specs.RefReader.{rest_of, whole_of};
 
@@ -73,23 +99,9 @@ impl<'de> Deserializer<ReadRefReader<'de>, DefaultConfig> {
     pub fn from_read_ref(alloc: Global, input: &'de [u8]) -> Self
         ensures rest { rest_of (reader_of result) ≡ input.now }
         ensures whole { whole_of (reader_of result) ≡ input.now }
-        ensures alloc { alloc_of result ≡ alloc }
-        ensures kept { kept_of result ≡ Nothing }
-        ensures room { room_of result ≡ 1024 }
-        ensures limit { limit_of result ≡ 1024 }
-        ensures ready { is_failed result ≡ false }
-        ensures lenient { is_strict result ≡ false }
+        ensures new { IsNew alloc result }
     {
-        Deserializer {
-            reader: ReadRefReader::new(input),
-            config: DefaultConfig,
-            alloc,
-            kept: Kept::Nothing,
-            room: DEFAULT_DEPTH,
-            limit: DEFAULT_DEPTH,
-            failed: false,
-            strict: false,
-        }
+        Deserializer::over(alloc, ReadRefReader::new(input))
     }
 }
 
@@ -108,6 +120,50 @@ impl<'de, C> Deserializer<ReadRefReader<'de>, C> {
         ensures { result.now ≡ rest_of (reader_of self.now) }
     {
         self.reader.remaining_slice()
+    }
+}
+
+impl<R> Deserializer<ReadReader<R>, DefaultConfig> {
+    /// Reads from a source. Memory for copies, and for all else, comes from `alloc`.
+    pub fn new(alloc: Global, rd: R) -> Self
+        ensures source { source_of result ≡ rd }
+        ensures new { IsNew alloc result }
+    {
+        Deserializer::over(alloc, ReadReader::new(alloc, rd))
+    }
+}
+
+impl<R, C: SerializerConfig> Deserializer<ReadReader<R>, C> {
+    /// The source.
+    pub fn get_ref(&self) -> &R
+        ensures { result.now ≡ source_of self.now }
+    {
+        self.reader.get_ref()
+    }
+
+    /// A mutable reference to the source. The next read begins with the byte that was kept back, if there is one, and goes on with what
+    /// the source has then.
+    pub fn get_mut(&mut self) -> &mut R
+        ensures* writes_back { sem 𝓛 (follows (the_row (reader_row R.row) C.row) R.row self.entry.ghost_name result.ghost_name (reading_with self.old)) }
+        ensures value { result.now ≡ source_of self.old }
+    {
+        self.reader.get_mut()
+    }
+
+    /// The source, given back. A byte that was kept back is dropped: it counts as read.
+    pub fn into_inner(self) -> R
+        ensures { result ≡ source_of self }
+    {
+        self.reader.into_inner()
+    }
+}
+
+impl<T, C> Deserializer<ReadReader<Cursor<T>>, C> {
+    /// How far the cursor was read. A byte that was kept back counts as read.
+    pub fn position(&self) -> u64
+        ensures { result ≡ cursor_position (source_of self.now) }
+    {
+        self.reader.get_ref().position()
     }
 }
 
@@ -155,6 +211,31 @@ impl<R, C> Deserializer<R, C> {
         self.failed = true;
         error
     }
+
+    /// Returns an iterator over the messages up to the end of the source, or up to the first error.
+    ///
+    /// # Examples
+    /// ```
+    /// use rmp_serde::Deserializer;
+    ///
+    /// let mut de = Deserializer::from_read_ref(alloc, &[0x2a, 0xcd, 0x01, 0x00]);
+    /// let mut sum = 0;
+    /// for number in de.messages::<u64>() {
+    ///     sum += number?;
+    /// }
+    /// assert_eq!(rt; sum, 298);
+    /// ```
+    pub fn messages<'de, T>(&mut self) -> Messages<'_, 'de, T, R, C>
+        ensures same_reference { result.de.ghost_name ≡ self.entry.ghost_name }
+        ensures same { result.de.now ≡ self.old }
+        ensures ready { result.done ≡ false }
+    {
+        Messages {
+            de: self,
+            done: false,
+            of: PhantomData,
+        }
+    }
 }
 
 impl<R, C: SerializerConfig> Deserializer<R, C> {
@@ -163,40 +244,29 @@ impl<R, C: SerializerConfig> Deserializer<R, C> {
     /// The same reader, for which types that have a form for people are read from it.
     pub fn with_human_readable(self) -> Deserializer<R, HumanReadableConfig<C>>
         ensures config { readable_inner (config_of result) ≡ config_of self }
-        ensures reader { reader_of result ≡ reader_of self }
-        ensures alloc { alloc_of result ≡ alloc_of self }
-        ensures kept { kept_of result ≡ kept_of self }
-        ensures failed { is_failed result ≡ is_failed self }
-        ensures room { levels_left result ≡ levels_left self }
-        ensures limit { limit_of result ≡ limit_of self }
-        ensures strict { is_strict result ≡ is_strict self }
+        ensures same { IsSameBut self result }
     {
-        Deserializer {
-            reader: self.reader,
-            config: HumanReadableConfig::new(self.config),
-            alloc: self.alloc,
-            kept: self.kept,
-            room: self.room,
-            limit: self.limit,
-            failed: self.failed,
-            strict: self.strict,
-        }
+        let config = HumanReadableConfig::new(self.config);
+        self.with_config(config)
     }
 
     /// The same reader, for which types that have a compact form are read from it.
     pub fn with_binary(self) -> Deserializer<R, BinaryConfig<C>>
         ensures config { binary_inner (config_of result) ≡ config_of self }
-        ensures reader { reader_of result ≡ reader_of self }
-        ensures alloc { alloc_of result ≡ alloc_of self }
-        ensures kept { kept_of result ≡ kept_of self }
-        ensures failed { is_failed result ≡ is_failed self }
-        ensures room { levels_left result ≡ levels_left self }
-        ensures limit { limit_of result ≡ limit_of self }
-        ensures strict { is_strict result ≡ is_strict self }
+        ensures same { IsSameBut self result }
+    {
+        let config = BinaryConfig::new(self.config);
+        self.with_config(config)
+    }
+
+    #[inline(always)]
+    fn with_config<D>(self, config: D) -> Deserializer<R, D>
+        ensures config { config_of result ≡ config }
+        ensures same { IsSameBut self result }
     {
         Deserializer {
             reader: self.reader,
-            config: BinaryConfig::new(self.config),
+            config,
             alloc: self.alloc,
             kept: self.kept,
             room: self.room,
@@ -215,46 +285,87 @@ impl<R: Source, C: SerializerConfig> Deserializer<R, C> {
         self.config.is_human_readable()
     }
 
-    // Takes one head, and leaves this failed until the message that it opens is read.
+    // Whether a message's first byte is there. It is left where it is buffered, or else kept back.
     #[inline(always)]
-    pub(crate) fn head(&mut self) -> Result<(Marker, Head), Error>
-        ensures { ReadsHead R.Source self.old self.new result }
+    fn finds_next(&mut self) -> Result<bool, Error>
+        ensures { FindsNext R.Source self.old self.new result }
     {
         if self.failed {
             return Err(Error::Uncategorized(Text::FailedBefore));
         }
-        self.failed = true;
         match self.kept {
-            Kept::Nothing => match next_head(self.strict, &mut self.reader) {
-                Ok(next) => Ok(next),
-                Err(e) => Err(Error::from(e)),
-            },
-            Kept::First(byte) => {
-                self.kept = Kept::Nothing;
-                let marker = Marker::from_u8(byte);
-                match rest_of_head(self.strict, marker, &mut self.reader) {
-                    Ok(head) => Ok((marker, head)),
-                    Err(e) => Err(Error::from(e)),
+            Kept::Nothing => {
+                if !self.reader.front().is_empty() {
+                    return Ok(true);
                 }
+                self.pull_first()
             }
-            Kept::Number(n) => {
-                self.kept = Kept::Nothing;
-                Ok((number_marker(n), Head::Whole(i128::from(n))))
+            Kept::First(_) => Ok(true),
+            Kept::Number(_) => Ok(true),
+        }
+    }
+
+    // Pulls a message's first byte, which is kept back. Answers `false` at the end. Out of line.
+    #[inline(never)]
+    fn pull_first(&mut self) -> Result<bool, Error>
+        requires ready { is_failed self.old ≡ false }
+        requires clean { kept_of self.old ≡ Nothing }
+        ensures { FindsNext R.Source self.old self.new result }
+    {
+        let mut first = [0];
+        match self.reader.pull(&mut first) {
+            Ok(0) => Ok(false),
+            Ok(_) => {
+                self.kept = Kept::First(first[0]);
+                Ok(true)
+            }
+            Err(e) => {
+                self.failed = true;
+                Err(Error::InvalidMarkerRead(IoFault::from(e)))
             }
         }
     }
-}
 
-// The marker of the canonical head of a byte that is read as a number.
-#[inline(always)]
-fn number_marker(n: u8) -> Marker
-    ensures small { n < 128 → result ≡ Marker.FixPos n }
-    ensures wide { 128 ≤ n → result ≡ Marker.U8 }
-{
-    if n < 0x80 {
-        Marker::FixPos(n)
-    } else {
-        Marker::U8
+    /// Reads the next message, or returns `None` where the source ends before its first byte.
+    ///
+    /// So one loop reads a source to its end, and an end inside of a message is an error. `None` consumes nothing, and the reader stays
+    /// ready: where more bytes come, a later call reads on.
+    ///
+    /// # Errors
+    /// Those of the type, as of its `deserialize`, where a message begins. `InvalidMarkerRead` with the source's fault where it fails
+    /// before the first byte.
+    ///
+    /// # Examples
+    /// ```
+    /// use rmp_serde::Deserializer;
+    ///
+    /// let mut de = Deserializer::from_read_ref(alloc, &[0x2a, 0xcd, 0x01, 0x00]);
+    /// let mut sum = 0;
+    /// while let Some(number) = de.next::<u64>()? {
+    ///     sum += number;
+    /// }
+    /// assert_eq!(rt; sum, 298);
+    /// ```
+    #[inline(always)]
+    pub fn next<'de, T: Deserialize<'de, R>>(&mut self) -> Result<Option<T>, Error>
+    where
+        R: ReadSlice<'de>,
+        // `None` is the end, and consumes nothing. A value is the reading of the next message, and an error its refusal.
+        ensures law { NextRead R.Source (T.reads (C.human (config_of self.old)) R.lends) self.old self.new result }
+        // An error isn't the end: the message's first byte is there, unless the source had a fault.
+        ensures there { is_failed self.old ≡ false → IfErr result (λ e. faults_of R.Source self.new ≡ faults_of R.Source self.old → IsThere (left R.Source self.old)) }
+        // Where the type says which error names what is wrong, it is that one.
+        ensures refused { RefusesAs R.Source (C.human (config_of self.old)) R.lends (RefusesNext T.refuses) self.old self.new result }
+        ensures memory { T.takes_memory R.lends ≡ false → IfErr result (λ e. e ≢ Error.OutOfMemory) }
+    {
+        match self.finds_next() {
+            Ok(true) => match T::deserialize(self) {
+                Ok(value) => Ok(Some(value)),
+                Err(e) => Err(e),
+            },
+            Ok(false) => Ok(None),
+            Err(e) => Err(e),
+        }
     }
 }
 

@@ -6,7 +6,7 @@
 //!
 //! - **Fast path** (`deserializer/peek`): `take` looks for a head of one kind in the buffered bytes, and consumes it. A kind is a
 //!   `Peek`: a pattern of bytes and the head that it says. On `None` nothing was consumed.
-//! - **Slow path**: `head` (`deserializer`) consumes any head, from the source or from what was kept back. These functions are called
+//! - **Slow path**: `head` (`deserializer/heads`) consumes any head, from the source or from what was kept back. These functions are called
 //!   `slow_`. They are out of line, and `cold_` calls one on a moved reader, so that the caller's reader stays in registers.
 //!
 //! A message that is its head, as a number, is a `Leaf`, and `read_leaf` has both paths. A text, bytes and an extension have a payload
@@ -38,9 +38,8 @@ pub use access::seq::SeqAccess;
 pub use access::variant::Variant;
 pub use content::{ReadContent, Slices};
 pub use de::defaults::Defaulted;
-pub use de::{Deserialize, from_read_ref, from_slice, from_slice_strict};
+pub use de::{Deserialize, from_read, from_read_ref, from_slice, from_slice_strict, read};
 pub use deserializer::Deserializer;
 pub use deserializer::messages::Messages;
-pub use deserializer::reader::{from_read, read};
 pub use error::Error;
 pub use text::{OwnText, Text};

@@ -3,11 +3,9 @@ ghost use Rattle.std.specs.Prelude.{◌≡◌, ◌≢◌, ◌<◌, ◌≤◌, �
 ghost use Rattle.std.specs.Io.KnownBytes.{Consumes};
 ghost use Rattle.rmp_wire.specs.Sources.{IsShort};
 ghost use Rattle.rmp_wire.specs.Spelling.{IsBytes};
-ghost use Rattle.rmp_decode.specs.Buffers.{AfterHead};
-ghost use Rattle.rmp_decode.specs.Content.{RefusesLeaf, RefusesAfterHead, not_raw, never_refused};
 ghost use Rattle.rmp_decode.specs.Exact.{IsDataEnd, TellsFault};
-ghost use Rattle.rmp_decode.specs.Law.{Lawful, Explains};
-ghost use Rattle.rmp_decode.specs.Names.{bytes_of, place_of, place_below, IsName, IsNameHead};
+ghost use Rattle.rmp_decode.specs.Law.{Explains};
+ghost use Rattle.rmp_decode.specs.Names.{bytes_of, place_of, place_below};
 ghost use Rattle.rmp_decode.specs.NamesAhead.{below, IsBelow, TextIn};
 ghost use Rattle.rmp_decode.specs.Parts.{TakesPart};
 ghost use Rattle.rmp_decode.specs.State.{is_failed, kept_of};
@@ -17,9 +15,8 @@ use crate::content::pieces::error_of;
 use crate::deserializer::Deserializer;
 use crate::deserializer::peek::{Peek, TextHead};
 use crate::error::Error;
-use crate::text::Text;
 use rmp_wire::config::SerializerConfig;
-use rmp_wire::{Head, ReadSlice, Source};
+use rmp_wire::{ReadSlice, Source};
 
 // The place of the first name that a text is.
 #[inline(always)]
@@ -103,78 +100,6 @@ pub(crate) fn next_place<'de, R: ReadSlice<'de>>(
 }
 
 impl<R: Source, C: SerializerConfig> Deserializer<R, C> {
-    /// Reads which of the names a message is: a text or bytes that are that name, or a number as its place. Another text, other
-    /// bytes, and a number from the count of the names on are `None`. Of equal names it is the first.
-    ///
-    /// # Errors
-    /// `Syntax("invalid type")` for another kind, and for a negative number.
-    #[inline(always)]
-    pub fn deserialize_identifier<'de>(&mut self, names: &[&str]) -> Result<Option<usize>, Error>
-    where
-        R: ReadSlice<'de>,
-        ensures law { Lawful R.Source (IsName (bytes_of names.now)) self.old self.new result }
-        ensures exact { RefusesLeaf R.Source IsNameHead not_raw never_refused self.old self.new result }
-        ensures memory { R.lends ≡ true → IfErr result (λ e. e ≢ Error.OutOfMemory) }
-    {
-        match self.take(TextHead) {
-            Some(len) => self.identifier_payload(len, names),
-            None => self.slow_identifier(names),
-        }
-    }
-
-    // Reads the payload of a text, `len` bytes, as the name that it is. The bytes are compared where they are buffered.
-    #[inline(always)]
-    fn identifier_payload<'de>(&mut self, len: u32, names: &[&str]) -> Result<Option<usize>, Error>
-    where
-        R: ReadSlice<'de>,
-        ensures law { AfterHead R.Source (IsName (bytes_of names.now)) (Head.Text len) self.old self.new result }
-        ensures exact { IfErr result (RefusesAfterHead R.Source IsNameHead not_raw never_refused (Head.Text len) self.old self.new) }
-        ensures memory { R.lends ≡ true → IfErr result (λ e. e ≢ Error.OutOfMemory) }
-    {
-        match next_place(&mut self.reader, names, len as usize) {
-            Ok(place) => {
-                self.failed = false;
-                Ok(place)
-            }
-            Err(e) => Err(e),
-        }
-    }
-
-    // The slow path of `deserialize_identifier`.
-    #[inline(never)]
-    fn slow_identifier<'de>(&mut self, names: &[&str]) -> Result<Option<usize>, Error>
-    where
-        R: ReadSlice<'de>,
-        ensures law { Lawful R.Source (IsName (bytes_of names.now)) self.old self.new result }
-        ensures exact { RefusesLeaf R.Source IsNameHead not_raw never_refused self.old self.new result }
-        ensures memory { R.lends ≡ true → IfErr result (λ e. e ≢ Error.OutOfMemory) }
-    {
-        let head = match self.head() {
-            Ok((_, head)) => head,
-            Err(e) => return Err(e),
-        };
-        match head.as_raw() {
-            Some((_, len)) => match next_place(&mut self.reader, names, len as usize) {
-                Ok(place) => {
-                    self.failed = false;
-                    return Ok(place);
-                }
-                Err(e) => return Err(e),
-            },
-            None => {}
-        }
-        match head.as_whole() {
-            Some(z) => match place_below(names.len(), z) {
-                Some(place) => {
-                    self.failed = false;
-                    Ok(place)
-                }
-                None => Err(Error::Syntax(Text::InvalidType)),
-            },
-            None => Err(Error::Syntax(Text::InvalidType)),
-        }
-    }
-
     // Consumes a buffered text, and answers the place of the name that it is, or the count of the names where it is none of them. With
     // `only_names` another text isn't consumed. Returns `None` and consumes nothing otherwise.
     #[inline(always)]

@@ -1,5 +1,5 @@
-//! Opening lists, bytes, maps and structs: the head is consumed, and an access reads the parts.
-ghost use Rattle.std.specs.Prelude.{◌≡◌, ◌≤◌, length, IfOk, IfErr};
+//! Opening lists, bytes, maps, structs and enums: the head is consumed, and an access reads the parts.
+ghost use Rattle.std.specs.Prelude.{◌≡◌, ◌≤◌, length, IfOk, IfErr, ◌≢◌, ◌<◌, true};
 ghost use Rattle.std.specs.Borrow.{sem, RestsIfErr};
 ghost use Rattle.rmp_decode.specs.contracts.deserializer.Deserializer.{the_row};
 ghost use Rattle.rmp_decode.specs.FieldAccess.{OpensStruct};
@@ -7,17 +7,20 @@ ghost use Rattle.rmp_decode.specs.Fields.{TakesFieldsHead, FailsToOpenFields};
 ghost use Rattle.rmp_decode.specs.Maps.{OpensMap, TakesMapHead, FailsToOpenMap};
 ghost use Rattle.rmp_decode.specs.Names.{bytes_of};
 ghost use Rattle.rmp_decode.specs.Seq.{TakesSeqHead, Opens, FailsToOpen};
+ghost use Rattle.rmp_decode.specs.Variants.{OpensVariant, FailsToOpenVariant};
 
 use crate::access::field_access::FieldAccess;
 use crate::access::map::MapAccess;
 use crate::access::seq::{SeqAccess, inner_room};
+use crate::access::variant::Variant;
+use crate::content::{ReadContent, Slices};
 use crate::deserializer::Deserializer;
 use crate::deserializer::peek::{BinHead, ListHead, MapHead};
 use crate::error::Error;
 use crate::text::Text;
 use core::mem::replace_with;
-use rmp_wire::Source;
 use rmp_wire::config::SerializerConfig;
+use rmp_wire::{ReadSlice, Source};
 
 impl<R: Source, C: SerializerConfig> Deserializer<R, C> {
     // Consumes the head of a list or of bytes, out of line.
@@ -291,6 +294,63 @@ impl<R: Source, C: SerializerConfig> Deserializer<R, C> {
                 sound: true,
                 met: 0,
             }),
+            Err(e) => Err(e),
+        }
+    }
+
+    /// Reads which variant of an enum is there: its place among the names, and the access to its content. A variant is its name
+    /// alone, or a map of one pair, from its name to its content; a name is a text or bytes, or a number as a place.
+    ///
+    /// The result is destructured by the caller: `match de.deserialize_enum(&names) { Ok((0, variant)) => .. }`.
+    ///
+    /// # Errors
+    /// `LengthMismatch` with the count of pairs of a map of another count, `DepthLimitExceeded` for a map of one pair that would
+    /// nest too deep, `Utf8Error` for a text that isn't UTF-8, `Syntax("unknown variant")` for another text, bytes or number
+    /// that is none of the names, and `Syntax("invalid type")` for a negative number and for another kind.
+    #[inline(always)]
+    pub fn deserialize_enum<'de>(
+        &mut self,
+        names: &[&str],
+    ) -> Result<(usize, Variant<'_, R, C>), Error>
+    where
+        R: ReadSlice<'de>,
+        ensures* refused { sem 𝓛 (RestsIfErr (the_row R.row C.row) self.entry (λ p. p.1.de.ghost_name) result
+            (λ last. IfErr result (FailsToOpenVariant R.Source (bytes_of names.now) self.old last))) }
+        ensures same_reference { IfOk result (λ p. p.1.de.ghost_name ≡ self.entry.ghost_name) }
+        ensures opened { IfOk result (λ p. OpensVariant R.Source (bytes_of names.now) p.0 self.old p.1) }
+        ensures below { IfOk result (λ p. p.0 < length names.now) }
+        ensures memory { R.lends ≡ true → IfErr result (λ e. e ≢ Error.OutOfMemory) }
+    {
+        self.deserialize_enum_by::<Slices<'de>>(names)
+    }
+
+    /// Reads which variant of an enum is there, as `deserialize_enum` does. `P` says how payloads are read: a function that calls itself
+    /// may have no bound that names a lifetime, and is called with `Slices`.
+    ///
+    /// # Errors
+    /// As `deserialize_enum`.
+    #[inline(always)]
+    pub fn deserialize_enum_by<P: ReadContent<R>>(
+        &mut self,
+        names: &[&str],
+    ) -> Result<(usize, Variant<'_, R, C>), Error>
+        ensures* refused { sem 𝓛 (RestsIfErr (the_row R.row C.row) self.entry (λ p. p.1.de.ghost_name) result
+            (λ last. IfErr result (FailsToOpenVariant R.Source (bytes_of names.now) self.old last))) }
+        ensures same_reference { IfOk result (λ p. p.1.de.ghost_name ≡ self.entry.ghost_name) }
+        ensures opened { IfOk result (λ p. OpensVariant R.Source (bytes_of names.now) p.0 self.old p.1) }
+        ensures below { IfOk result (λ p. p.0 < length names.now) }
+        ensures memory { P.lends ≡ true → IfErr result (λ e. e ≢ Error.OutOfMemory) }
+    {
+        let inner = self.room.saturating_sub(1);
+        match self.open_variant::<P>(names) {
+            Ok((place, bare)) => Ok((
+                place,
+                Variant {
+                    de: self,
+                    bare,
+                    inner,
+                },
+            )),
             Err(e) => Err(e),
         }
     }

@@ -1,5 +1,5 @@
 //! Enums: a variant is its name alone, or a map of one pair, from the name to the variant's content.
-ghost use Rattle.std.specs.Prelude.{◌≡◌, ◌≢◌, ◌<◌, ◌-◌, ℕ, ℤ, Ok, Err, Some, None, true, false, IfOk, IfErr, IfSome, IfNone, OnOk, OnErr, length, max};
+ghost use Rattle.std.specs.Prelude.{◌≡◌, ◌≢◌, ◌<◌, ◌-◌, ℕ, ℤ, Err, Some, None, true, false, IfOk, IfErr, IfSome, IfNone, OnOk, OnErr, length, max};
 ghost use Rattle.std.specs.Borrow.{sem, RestsIfErr};
 ghost use Rattle.std.specs.Fn.{FnOnceTakesAtMut};
 ghost use Rattle.rmp_wire.specs.Msg.{Msg};
@@ -20,15 +20,15 @@ ghost use Rattle.rmp_decode.specs.Pieces.{RefusesPiece};
 ghost use Rattle.rmp_decode.specs.Seq.{seq_head, not_seq, IsSeq};
 ghost use Rattle.rmp_decode.specs.State.{left, faults_of, config_of, failed_of, is_failed, is_strict, kept_of, Stays};
 ghost use Rattle.rmp_decode.specs.VariantNames.{IsPlace, StartsWithNoName, TakesName, other_name, unknown_name, RefusesName};
-ghost use Rattle.rmp_decode.specs.Variants.{TakesNameOf, OpensVariant, FailsToOpenVariant, not_unit, is_bare, variant_lender, content_room, ReadsBare};
-ghost use Rattle.rmp_decode.specs.Variants.{RefusesBare, ReadsContent, RefusesContentOf, ContentRefusedBy, ContentGiven, OpensSeqIn, FailsToOpenSeqOf};
+ghost use Rattle.rmp_decode.specs.Variants.{TakesNameOf, FailsToOpenVariant, not_unit, is_bare, variant_lender, content_room, ReadsBare, RefusesBare};
+ghost use Rattle.rmp_decode.specs.Variants.{ReadsContent, RefusesContentOf, ContentRefusedBy, ContentGiven, OpensSeqIn, FailsToOpenSeqOf};
 ghost use Rattle.rmp_decode.specs.With.{part_reader};
 
 use crate::access::fields::Fields;
 use crate::access::names::{place_below, place_of};
 use crate::access::seq::{SeqAccess, inner_room};
+use crate::content::ReadContent;
 use crate::content::pieces::error_of;
-use crate::content::{ReadContent, Slices};
 use crate::de::Deserialize;
 use crate::deserializer::Deserializer;
 use crate::deserializer::peek::{PairHead, TextHead};
@@ -253,7 +253,10 @@ impl<R: Source, C: SerializerConfig> Deserializer<R, C> {
     // Consumes what precedes the content of a variant. Returns its place, and whether it is a name alone. What is buffered is read by
     // the fast path.
     #[inline(always)]
-    fn open_variant<P: ReadContent<R>>(&mut self, names: &[&str]) -> Result<(usize, bool), Error>
+    pub(crate) fn open_variant<P: ReadContent<R>>(
+        &mut self,
+        names: &[&str],
+    ) -> Result<(usize, bool), Error>
         ensures ok { IfOk result (λ p. TakesNameOf R.Source (bytes_of names.now) p.0 p.1 self.old self.new (self.old.room - 1)) }
         ensures below { IfOk result (λ p. p.0 < length names.now) }
         ensures stays { Stays R.Source self.old self.new }
@@ -309,63 +312,6 @@ impl<R: Source, C: SerializerConfig> Deserializer<R, C> {
                     Err(e) => Err(e),
                 },
             },
-            Err(e) => Err(e),
-        }
-    }
-
-    /// Reads which variant of an enum is there: its place among the names, and the access to its content. A variant is its name
-    /// alone, or a map of one pair, from its name to its content; a name is a text or bytes, or a number as a place.
-    ///
-    /// The result is destructured by the caller: `match de.deserialize_enum(&names) { Ok((0, variant)) => .. }`.
-    ///
-    /// # Errors
-    /// `LengthMismatch` with the count of pairs of a map of another count, `DepthLimitExceeded` for a map of one pair that would
-    /// nest too deep, `Utf8Error` for a text that isn't UTF-8, `Syntax("unknown variant")` for another text, bytes or number
-    /// that is none of the names, and `Syntax("invalid type")` for a negative number and for another kind.
-    #[inline(always)]
-    pub fn deserialize_enum<'de>(
-        &mut self,
-        names: &[&str],
-    ) -> Result<(usize, Variant<'_, R, C>), Error>
-    where
-        R: ReadSlice<'de>,
-        ensures* refused { sem 𝓛 (RestsIfErr (the_row R.row C.row) self.entry (λ p. p.1.de.ghost_name) result
-            (λ last. IfErr result (FailsToOpenVariant R.Source (bytes_of names.now) self.old last))) }
-        ensures same_reference { IfOk result (λ p. p.1.de.ghost_name ≡ self.entry.ghost_name) }
-        ensures opened { IfOk result (λ p. OpensVariant R.Source (bytes_of names.now) p.0 self.old p.1) }
-        ensures below { IfOk result (λ p. p.0 < length names.now) }
-        ensures memory { R.lends ≡ true → IfErr result (λ e. e ≢ Error.OutOfMemory) }
-    {
-        self.deserialize_enum_by::<Slices<'de>>(names)
-    }
-
-    /// Reads which variant of an enum is there, as `deserialize_enum` does. `P` says how payloads are read: a function that calls itself
-    /// may have no bound that names a lifetime, and is called with `Slices`.
-    ///
-    /// # Errors
-    /// As `deserialize_enum`.
-    #[inline(always)]
-    pub fn deserialize_enum_by<P: ReadContent<R>>(
-        &mut self,
-        names: &[&str],
-    ) -> Result<(usize, Variant<'_, R, C>), Error>
-        ensures* refused { sem 𝓛 (RestsIfErr (the_row R.row C.row) self.entry (λ p. p.1.de.ghost_name) result
-            (λ last. IfErr result (FailsToOpenVariant R.Source (bytes_of names.now) self.old last))) }
-        ensures same_reference { IfOk result (λ p. p.1.de.ghost_name ≡ self.entry.ghost_name) }
-        ensures opened { IfOk result (λ p. OpensVariant R.Source (bytes_of names.now) p.0 self.old p.1) }
-        ensures below { IfOk result (λ p. p.0 < length names.now) }
-        ensures memory { P.lends ≡ true → IfErr result (λ e. e ≢ Error.OutOfMemory) }
-    {
-        let inner = self.room.saturating_sub(1);
-        match self.open_variant::<P>(names) {
-            Ok((place, bare)) => Ok((
-                place,
-                Variant {
-                    de: self,
-                    bare,
-                    inner,
-                },
-            )),
             Err(e) => Err(e),
         }
     }

@@ -1,11 +1,16 @@
-//! Heads: those of small numbers, texts and lists and of numbers without a sign are read in place, all others by a call.
-ghost use Rattle.std.specs.Prelude.{◌≡◌, ◌∷◌, ℕ, List, true, false, IfOk, IfErr};
+//! Heads of any kind, from the source or from what was kept back: the slow path. Those of small numbers, texts and lists and of numbers
+//! without a sign are read in place, all others by a call.
+ghost use Rattle.std.specs.Prelude.{◌≡◌, ◌∷◌, ℕ, List, true, false, IfOk, IfErr, ◌<◌, ◌≤◌};
 ghost use Rattle.rmp_wire.specs.Canonical.{heads_of};
 ghost use Rattle.rmp_wire.specs.Heads.{IsHead};
 ghost use Rattle.rmp_wire.specs.Taking.{byte_of};
 ghost use Rattle.rmp_decode.specs.Allowed.{AfterAllowed, FailsAfter, NextAllowed, FailsNextAllowed};
+ghost use Rattle.rmp_decode.specs.Law.{ReadsHead};
 
+use crate::deserializer::{Deserializer, Kept};
 use crate::error::Error;
+use crate::text::Text;
+use rmp_wire::config::SerializerConfig;
 use rmp_wire::read::{number_8, number_16, number_32, read_head, read_marker};
 use rmp_wire::{Head, IoFault, Marker, MarkerReadError, Source, ValueReadError, is_canonical};
 
@@ -122,4 +127,48 @@ pub(crate) fn next_head<S: Source>(
     let marker = read_marker(source)?;
     let head = head_of(strict, marker, source)?;
     Ok((marker, head))
+}
+
+impl<R: Source, C: SerializerConfig> Deserializer<R, C> {
+    // Takes one head, and leaves this failed until the message that it opens is read.
+    #[inline(always)]
+    pub(crate) fn head(&mut self) -> Result<(Marker, Head), Error>
+        ensures { ReadsHead R.Source self.old self.new result }
+    {
+        if self.failed {
+            return Err(Error::Uncategorized(Text::FailedBefore));
+        }
+        self.failed = true;
+        match self.kept {
+            Kept::Nothing => match next_head(self.strict, &mut self.reader) {
+                Ok(next) => Ok(next),
+                Err(e) => Err(Error::from(e)),
+            },
+            Kept::First(byte) => {
+                self.kept = Kept::Nothing;
+                let marker = Marker::from_u8(byte);
+                match rest_of_head(self.strict, marker, &mut self.reader) {
+                    Ok(head) => Ok((marker, head)),
+                    Err(e) => Err(Error::from(e)),
+                }
+            }
+            Kept::Number(n) => {
+                self.kept = Kept::Nothing;
+                Ok((number_marker(n), Head::Whole(i128::from(n))))
+            }
+        }
+    }
+}
+
+// The marker of the canonical head of a byte that is read as a number.
+#[inline(always)]
+fn number_marker(n: u8) -> Marker
+    ensures small { n < 128 → result ≡ Marker.FixPos n }
+    ensures wide { 128 ≤ n → result ≡ Marker.U8 }
+{
+    if n < 0x80 {
+        Marker::FixPos(n)
+    } else {
+        Marker::U8
+    }
 }

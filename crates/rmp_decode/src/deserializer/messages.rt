@@ -1,5 +1,4 @@
 //! The messages of a source, one after another.
-ghost use Rattle.std.specs.Prelude.{◌≡◌, false};
 ghost use Rattle.rmp_decode.specs.Messages.{messages_left, YieldsMessage};
 ghost use Rattle.rmp_decode.specs.State.{config_of};
 
@@ -15,34 +14,7 @@ use std::marker::PhantomData;
 pub struct Messages<'x, 'de, T, R, C = DefaultConfig> {
     pub(crate) de: &'x mut Deserializer<R, C>,
     pub(crate) done: bool,
-    of: PhantomData<(&'de [u8], T)>,
-}
-
-impl<R, C> Deserializer<R, C> {
-    /// Returns an iterator over the messages up to the end of the source, or up to the first error.
-    ///
-    /// # Examples
-    /// ```
-    /// use rmp_serde::Deserializer;
-    ///
-    /// let mut de = Deserializer::from_read_ref(alloc, &[0x2a, 0xcd, 0x01, 0x00]);
-    /// let mut sum = 0;
-    /// for number in de.messages::<u64>() {
-    ///     sum += number?;
-    /// }
-    /// assert_eq!(rt; sum, 298);
-    /// ```
-    pub fn messages<'de, T>(&mut self) -> Messages<'_, 'de, T, R, C>
-        ensures same_reference { result.de.ghost_name ≡ self.entry.ghost_name }
-        ensures same { result.de.now ≡ self.old }
-        ensures ready { result.done ≡ false }
-    {
-        Messages {
-            de: self,
-            done: false,
-            of: PhantomData,
-        }
-    }
+    pub(crate) of: PhantomData<(&'de [u8], T)>,
 }
 
 impl<'x, 'de, T: Deserialize<'de, R>, R: ReadSlice<'de>, C: SerializerConfig> Iterator

@@ -10,7 +10,7 @@ pub returns-in-Err-clause-err : goal.returns-in-Err-clause-err
 returns-in-Err-clause-err c = λ n.
     let d = c.from_read_ref-de.ensures in
     let q = c.set_max_depth.ensures in
-    none_begins _ false _ _ _ _ _ (ap (λ (z : Deserializer _ _). z.strict) q ∙ d.lenient)
-    (ap (λ (z : Deserializer _ _). max 1 z.room) q ∙ deep_enough _ _ d.room d.limit)
-    (known_left _ _ _ (ap (λ (z : Deserializer _ _). z.kept) q ∙ d.kept) (ap (λ (z : Deserializer _ _). rest_of z.reader) q ∙ d.rest))
-    (c.in-Err.ensures.law.err (ap (λ (z : Deserializer _ _). z.failed) q ∙ d.ready) n refl)
+    none_begins _ false _ _ _ _ _ (ap (λ (z : Deserializer _ _). z.strict) q ∙ d.new.lenient)
+    (ap (λ (z : Deserializer _ _). max 1 z.room) q ∙ deep_enough _ _ d.new.room d.new.limit)
+    (known_left _ _ _ (ap (λ (z : Deserializer _ _). z.kept) q ∙ d.new.kept) (ap (λ (z : Deserializer _ _). rest_of z.reader) q ∙ d.rest))
+    (c.in-Err.ensures.law.err (ap (λ (z : Deserializer _ _). z.failed) q ∙ d.new.ready) n refl)

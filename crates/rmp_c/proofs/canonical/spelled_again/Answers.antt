@@ -6,5 +6,5 @@ use Rattle.rmp_c.proofs.canonical.spelled_again.Goals as goal
 pub returns-in-Err-clause-refused : goal.returns-in-Err-clause-refused
 returns-in-Err-clause-refused c = λ other ne.
     let d = c.from_read_ref-de.ensures in
-    none_begins _ false _ _ _ _ _ d.lenient d.room (known_left _ _ _ d.kept d.rest)
-    (c.in-Err.ensures.law.err d.ready (λ is. ne (c.status_of.ensures.status ∙ ap status_of is)) refl)
+    none_begins _ false _ _ _ _ _ d.new.lenient d.new.room (known_left _ _ _ d.new.kept d.rest)
+    (c.in-Err.ensures.law.err d.new.ready (λ is. ne (c.status_of.ensures.status ∙ ap status_of is)) refl)

@@ -17,8 +17,8 @@ returns-in_ok-push_hex-in-Ok c =
     let n : ℕ = length bytes - length c.remaining_slice.result.now in
     record {
       told = λ _. subst (λ xs. TellsFirst n xs (text_bytes c.push_hex.new.self)) rest
-          (first_canonical slice_source (record { ahead = λ r. refl; sound = λ r s. refl }) c.set_strict.new.self c.read.new.de (ap (λ d. d.kept) is ∙ from.kept)
-          (ap room_of is ∙ from.room) c.in-Ok.value n _ (ap (λ d. d.strict) is) c.in-Ok.ensures.law.clean c.in-Ok.ensures.law.ok
+          (first_canonical slice_source (record { ahead = λ r. refl; sound = λ r s. refl }) c.set_strict.new.self c.read.new.de (ap (λ d. d.kept) is ∙ from.new.kept)
+          (ap room_of is ∙ from.new.room) c.in-Ok.value n _ (ap (λ d. d.strict) is) c.in-Ok.ensures.law.clean c.in-Ok.ensures.law.ok
           (c.in_ok-push_hex-in-Ok.ensures.hex ∙ ap (λ s. s ++ 32 ∷ encode_lower (take n bytes)) c.in_ok-print-in-Ok.ensures.text
           ∙ ap (λ xs. tree_text c.in-Ok.value ++ 32 ∷ encode_lower (take n xs)) (sym rest))
           (omega (arith, ap length rest, ap length c.remaining_slice.ensures)));

@@ -10,12 +10,12 @@ pub returns-clause-none : goal.returns-clause-none
 returns-clause-none c =
     let from = c.from_read_ref-de.ensures in
     λ n. subst NoneBegins from.rest
-    (none_begins slice_source (record { ahead = λ r. refl; sound = λ r s. refl }) c.from_read_ref-de.result c.read.new.de from.kept from.room from.lenient
-    c.in-Err.error n (c.in-Err.ensures.law.err from.ready))
+    (none_begins slice_source (record { ahead = λ r. refl; sound = λ r s. refl }) c.from_read_ref-de.result c.read.new.de from.new.kept from.new.room from.new.lenient
+    c.in-Err.error n (c.in-Err.ensures.law.err from.new.ready))
 
 pub returns-clause-wrong : goal.returns-clause-wrong
 returns-clause-wrong c =
     let from = c.from_read_ref-de.ensures in
     λ _. subst (Refusal false (UnreadFor false) ItemsUtf8 1024 c.in-Err.error) from.rest
-    (names_wrong slice_source (record { ahead = λ r. refl; sound = λ r s. refl }) c.from_read_ref-de.result c.read.new.de from.kept from.room from.lenient
-    c.in-Err.error c.in-Err.ensures.refusal from.ready)
+    (names_wrong slice_source (record { ahead = λ r. refl; sound = λ r s. refl }) c.from_read_ref-de.result c.read.new.de from.new.kept from.new.room from.new.lenient
+    c.in-Err.error c.in-Err.ensures.refusal from.new.ready)

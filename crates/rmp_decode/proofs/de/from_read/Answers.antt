@@ -1,6 +1,6 @@
 use Rattle.std.proofs.lemmas.Result.{IfOk-weaker, IfErr-weaker}
 use Rattle.rmp_decode.proofs.SourceReads.{told_begins}
-use Rattle.rmp_decode.proofs.deserializer.reader.from_read.Goals as goal
+use Rattle.rmp_decode.proofs.de.from_read.Goals as goal
 
 pub returns-clause-taken : goal.returns-clause-taken
 returns-clause-taken g c = IfOk-weaker c.read.result _ _ (λ v t. record { last = c.read.new.rd; read = t }) c.read.ensures.ok
