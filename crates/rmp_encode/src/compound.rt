@@ -1,13 +1,11 @@
 //! Tuple structs and structs, and the content of variants that are like them: their elements or fields are
 //! written in order.
-ghost use Rattle.std.specs.Prelude.{◌≡◌, ◌^◌, ◌+◌, ◌≤◌, ◌<◌, ◌||◌, ◌∷◌, [], true, false, IfOk, IfErr, OnOk, OnErr, IsOk, length};
-ghost use Rattle.std.specs.Borrow.{sem};
-ghost use Rattle.std.specs.List.{flat_map};
+ghost use Rattle.std.specs.Prelude.{◌≡◌, ◌^◌, ◌+◌, ◌≤◌, ◌<◌, ◌||◌, ◌∷◌, [], true, false, IfErr, OnOk, OnErr, IsOk, length};
 ghost use Rattle.rmp_encode.specs.Compounds.{inside, reference, left_of, has_fields, is_sound, IsFilling};
-ghost use Rattle.rmp_encode.specs.Going.{head_at, Ends, Goes, Rests};
+ghost use Rattle.rmp_encode.specs.Going.{Ends, Goes};
 ghost use Rattle.rmp_encode.specs.Refusals.{OfParts};
-ghost use Rattle.rmp_encode.specs.Ser.{sink_of, settings_of};
-ghost use Rattle.rmp_encode.specs.Trees.{tree_of, field_parts, sequence_of, structure_of};
+ghost use Rattle.rmp_encode.specs.Ser.{sink_of};
+ghost use Rattle.rmp_encode.specs.Trees.{field_parts};
 ghost use Rattle.rmp_encode.specs.Writes.{Keeps};
 
 use crate::error::Error;
@@ -29,67 +27,6 @@ pub struct Compound<'a, W, C> {
     pub(crate) fields: bool,
     // no call has returned an error
     pub(crate) sound: bool,
-}
-
-impl<W: Sink, C: SerializerConfig> Serializer<W, C> {
-    /// Opens a tuple struct of `len` elements, which is written as a list.
-    ///
-    /// # Errors
-    ///
-    /// `InvalidDataModel` for 2 ^ 32 elements or more, and nothing is written; otherwise those of the sink.
-    pub fn serialize_tuple_struct(
-        &mut self,
-        _name: &'static str,
-        len: usize,
-    ) -> Result<Compound<'_, W, C>, Error>
-        ensures* refused { sem 𝓛 (Rests W.row C.row W.Sink reference (head_at false len ∷ []) (len < 2 ^ 32)
-            (λ all. length all ≡ len) sequence_of self.entry result) }
-        ensures same_reference { IfOk result (λ q. reference q ≡ self.entry.ghost_name) }
-        ensures fits { OnOk result (len < 2 ^ 32) }
-        ensures left { IfOk result (λ q. left_of q ≡ len) }
-        ensures kind { IfOk result (λ q. has_fields q ≡ false) }
-        ensures sound { IfOk result (λ q. is_sound q ≡ true) }
-        ensures opened { IfOk result (λ q. (all : _) → length all ≡ len → IsFilling W.Sink self.old (tree_of (settings_of self.old) (sequence_of all)) all q) }
-        ensures keeps { IfOk result (λ q. Keeps W.Sink self.old (inside q)) }
-    {
-        self.put_len(false, len)?;
-        Ok(Compound {
-            se: self,
-            left: len,
-            fields: false,
-            sound: true,
-        })
-    }
-
-    /// Opens a struct of `len` fields, which is written as the list of their values, or with names as a map.
-    ///
-    /// # Errors
-    ///
-    /// `InvalidDataModel` for 2 ^ 32 fields or more, and nothing is written; otherwise those of the sink.
-    pub fn serialize_struct(
-        &mut self,
-        _name: &'static str,
-        len: usize,
-    ) -> Result<Compound<'_, W, C>, Error>
-        ensures* refused { sem 𝓛 (Rests W.row C.row W.Sink reference (head_at (settings_of self.old).named len ∷ []) (len < 2 ^ 32)
-            (λ fs. length fs ≡ len) structure_of self.entry result) }
-        ensures same_reference { IfOk result (λ q. reference q ≡ self.entry.ghost_name) }
-        ensures fits { OnOk result (len < 2 ^ 32) }
-        ensures left { IfOk result (λ q. left_of q ≡ len) }
-        ensures kind { IfOk result (λ q. has_fields q ≡ true) }
-        ensures sound { IfOk result (λ q. is_sound q ≡ true) }
-        ensures opened { IfOk result (λ q. (fs : _) → length fs ≡ len
-            → IsFilling W.Sink self.old (tree_of (settings_of self.old) (structure_of fs)) (flat_map (field_parts (settings_of self.old).named) fs) q) }
-        ensures keeps { IfOk result (λ q. Keeps W.Sink self.old (inside q)) }
-    {
-        self.put_len(self.is_named(), len)?;
-        Ok(Compound {
-            se: self,
-            left: len,
-            fields: true,
-            sound: true,
-        })
-    }
 }
 
 impl<'a, W: Sink, C: SerializerConfig> Compound<'a, W, C> {

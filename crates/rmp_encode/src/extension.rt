@@ -14,24 +14,14 @@ use rmp_wire::config::SerializerConfig;
 /// An extension that is being written, whose type comes next.
 #[derive(Drop)]
 pub struct ExtSerializer<'a, W, C> {
-    se: &'a mut Serializer<W, C>,
+    pub(crate) se: &'a mut Serializer<W, C>,
 }
 
 /// An extension that is being written, whose bytes come next.
 #[derive(Drop)]
 pub struct ExtFieldSerializer<'a, W, C> {
-    se: &'a mut Serializer<W, C>,
-    tag: i8,
-}
-
-impl<W: Sink, C: SerializerConfig> Serializer<W, C> {
-    /// Opens an extension. Nothing is written.
-    pub fn extension(&mut self) -> ExtSerializer<'_, W, C>
-        ensures same_reference { reference result ≡ self.entry.ghost_name }
-        ensures stays { inside result ≡ self.old }
-    {
-        ExtSerializer { se: self }
-    }
+    pub(crate) se: &'a mut Serializer<W, C>,
+    pub(crate) tag: i8,
 }
 
 impl<'a, W: Sink, C: SerializerConfig> ExtSerializer<'a, W, C> {

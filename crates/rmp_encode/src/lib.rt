@@ -14,7 +14,6 @@ mod settings;
 mod slice;
 mod tuple;
 mod underlying;
-mod variant;
 mod whole;
 
 pub use compound::Compound;

@@ -13,6 +13,7 @@ ghost use Rattle.rmp_encode.specs.Trees.{ext_head, field_parts, name_parts, numb
 ghost use Rattle.rmp_encode.specs.Writes.{Keeps, NoneAtMarker, NeverMarker, WritesAfter, WritesPart, WritesTree, StaysAtRefusal};
 
 mod leaves;
+mod open;
 
 use crate::error::Error;
 use crate::length::fits_u32;

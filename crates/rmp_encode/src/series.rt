@@ -1,11 +1,9 @@
 //! Lists and maps, of a known length, or of an unknown one, whose elements are buffered until the end.
-ghost use Rattle.std.specs.Prelude.{◌≡◌, ◌+◌, ◌≤◌, ◌<◌, ◌^◌, ◌||◌, ◌∷◌, [], true, false, OnOk, OnErr, IfOk, IfErr, Some, None};
-ghost use Rattle.std.specs.Borrow.{sem};
-ghost use Rattle.rmp_encode.specs.Going.{Ends, EndsBySink, Goes, Rests};
+ghost use Rattle.std.specs.Prelude.{◌≡◌, ◌+◌, ◌≤◌, ◌<◌, ◌^◌, ◌||◌, ◌∷◌, [], true, false, OnOk, OnErr, IfErr};
+ghost use Rattle.rmp_encode.specs.Going.{Ends, EndsBySink, Goes};
 ghost use Rattle.rmp_encode.specs.Refusals.{OfParts};
-ghost use Rattle.rmp_encode.specs.Ser.{sink_of, settings_of};
+ghost use Rattle.rmp_encode.specs.Ser.{sink_of};
 ghost use Rattle.rmp_encode.specs.Sizes.{most, size_at};
-ghost use Rattle.rmp_encode.specs.Trees.{tree_of, sequence_of, mapping_of};
 ghost use Rattle.rmp_encode.specs.Writes.{Keeps, NoneAtMarker};
 
 use crate::error::Error;
@@ -24,14 +22,14 @@ use std::mem;
 /// Once a call has returned an error, the list or map is no longer sound: no call may follow, and it can only
 /// be dropped.
 pub struct MaybeUnknownLengthCompound<'a, W, C, P = Option<Serializer<Vec<u8>, C>>> {
-    se: &'a mut Serializer<W, C>,
-    buffer: P,
+    pub(crate) se: &'a mut Serializer<W, C>,
+    pub(crate) buffer: P,
     // without a buffer: the elements, or keys and values, that remain; with one: those in the buffer
-    count: u64,
+    pub(crate) count: u64,
     // a map is open, whose keys and values take turns
-    pairs: bool,
+    pub(crate) pairs: bool,
     // no call has returned an error
-    sound: bool,
+    pub(crate) sound: bool,
 }
 
 impl<W, C, P: Drop> Drop for MaybeUnknownLengthCompound<'_, W, C, P> {
@@ -49,9 +47,6 @@ impl<W, C, P: Drop> Drop for MaybeUnknownLengthCompound<'_, W, C, P> {
         } = self;
     }
 }
-
-// The bytes that a buffer has room for at first.
-const ROOM: usize = 128;
 
 // The most elements, or keys and values, that a head can count.
 fn most(pairs: bool) -> u64
@@ -77,104 +72,6 @@ fn size(pairs: bool, count: u64) -> u32
         return (count / 2) as u32;
     }
     count as u32
-}
-
-impl<W: Sink, C: SerializerConfig> Serializer<W, C> {
-    ghost use Rattle.rmp_encode.specs.Opens.{head_items, inside, reference, left_of, is_map, is_sound, owed, twice, IsLong, IsMapLong, IsOpen, MayOpen, Stays};
-
-    // A serializer with the same settings and an empty buffer, which has room unless out of memory.
-    fn buffer(&self) -> Serializer<Vec<u8>, C>
-        ensures settings { settings_of result ≡ settings_of self.now }
-        ensures empty { (sink_of result).items ≡ [] }
-    {
-        let mut bytes = self.empty();
-        let _reserved = bytes.reserve(ROOM);
-        self.over(bytes)
-    }
-
-    /// Opens a list of `len` elements, or of an unknown number (`None`). `serialize_element` writes each, and
-    /// then `end` closes the list.
-    ///
-    /// # Errors
-    /// `InvalidDataModel` for 2 ^ 32 elements or more, and nothing is written; otherwise those of the sink.
-    #[inline(always)]
-    pub fn serialize_seq(
-        &mut self,
-        len: Option<usize>,
-    ) -> Result<MaybeUnknownLengthCompound<'_, W, C>, Error>
-        ensures* refused { sem 𝓛 (Rests W.row C.row W.Sink reference (head_items false len)
-            (MayOpen len) (IsLong len) sequence_of self.entry result) }
-        ensures same_reference { IfOk result (λ q. reference q ≡ self.entry.ghost_name) }
-        ensures kind { IfOk result (λ q. is_map q ≡ false) }
-        ensures owed { IfOk result (λ q. owed q ≡ 0) }
-        ensures sound { IfOk result (λ q. is_sound q ≡ true) }
-        ensures fits { OnOk result (MayOpen len) }
-        ensures left { IfOk result (λ q. left_of q ≡ len) }
-        ensures opened { IfOk result (λ q. (all : _) → IsLong len all → IsOpen W.Sink self.old (tree_of (settings_of self.old) (sequence_of all)) all q) }
-        ensures stays { IfOk result (λ q. Stays len self.old (inside q)) }
-        ensures keeps { IfOk result (λ q. Keeps W.Sink self.old (inside q)) }
-    {
-        let Some(n) = len else {
-            let buffer = self.buffer();
-            return Ok(MaybeUnknownLengthCompound {
-                se: self,
-                buffer: Some(buffer),
-                count: 0,
-                pairs: false,
-                sound: true,
-            });
-        };
-        self.put_len(false, n)?;
-        Ok(MaybeUnknownLengthCompound {
-            se: self,
-            buffer: None,
-            count: n as u64,
-            pairs: false,
-            sound: true,
-        })
-    }
-
-    /// Opens a map of `len` pairs, or of an unknown number (`None`). `serialize_key` and `serialize_value`
-    /// write each pair, and then `end` closes the map.
-    ///
-    /// # Errors
-    /// `InvalidDataModel` for 2 ^ 32 pairs or more, and nothing is written; otherwise those of the sink.
-    #[inline(always)]
-    pub fn serialize_map(
-        &mut self,
-        len: Option<usize>,
-    ) -> Result<MaybeUnknownLengthCompound<'_, W, C>, Error>
-        ensures* refused { sem 𝓛 (Rests W.row C.row W.Sink reference (head_items true len)
-            (MayOpen len) (IsMapLong len) mapping_of self.entry result) }
-        ensures same_reference { IfOk result (λ q. reference q ≡ self.entry.ghost_name) }
-        ensures kind { IfOk result (λ q. is_map q ≡ true) }
-        ensures owed { IfOk result (λ q. owed q ≡ 0) }
-        ensures sound { IfOk result (λ q. is_sound q ≡ true) }
-        ensures fits { OnOk result (MayOpen len) }
-        ensures left { IfOk result (λ q. left_of q ≡ twice len) }
-        ensures opened { IfOk result (λ q. (all : _) → IsMapLong len all → IsOpen W.Sink self.old (tree_of (settings_of self.old) (mapping_of all)) all q) }
-        ensures stays { IfOk result (λ q. Stays len self.old (inside q)) }
-        ensures keeps { IfOk result (λ q. Keeps W.Sink self.old (inside q)) }
-    {
-        let Some(n) = len else {
-            let buffer = self.buffer();
-            return Ok(MaybeUnknownLengthCompound {
-                se: self,
-                buffer: Some(buffer),
-                count: 0,
-                pairs: true,
-                sound: true,
-            });
-        };
-        self.put_len(true, n)?;
-        Ok(MaybeUnknownLengthCompound {
-            se: self,
-            buffer: None,
-            count: n as u64 + n as u64,
-            pairs: true,
-            sound: true,
-        })
-    }
 }
 
 impl<'a, W: Sink, C: SerializerConfig> MaybeUnknownLengthCompound<'a, W, C> {

@@ -1,5 +1,5 @@
 //! The items of a slice or a `Vec`, which may be written as bytes, depending on the mode.
-ghost use Rattle.std.specs.Prelude.{◌≡◌, ◌^◌, ◌≤◌, ◌<◌, ◌||◌, map, take, All, Some, true, false, OnOk, IfErr, length};
+ghost use Rattle.std.specs.Prelude.{◌≡◌, ◌^◌, ◌≤◌, ◌||◌, map, take, All, Some, true, false, OnOk, IfErr, length};
 ghost use Rattle.rmp_wire.specs.Msg.{bin};
 ghost use Rattle.rmp_encode.specs.Refusals.{OfItems, OfLength, RefusesLength};
 ghost use Rattle.rmp_encode.specs.Ser.{sink_of, settings_of};
@@ -58,7 +58,7 @@ impl<W: Sink, C: SerializerConfig> Serializer<W, C> {
 
     // Whether the mode turns these values into bytes.
     #[inline(always)]
-    fn packs_slice<T: Serialize>(&self, values: &[T]) -> bool
+    pub(crate) fn packs_slice<T: Serialize>(&self, values: &[T]) -> bool
         ensures bytes { result ≡ true → AllBytes (map (λ x. T.data_of x (settings_of self.now).human) values.now) }
         ensures packed { result ≡ true → tree_of (settings_of self.now) (slice_of (map (λ x. T.data_of x (settings_of self.now).human) values.now))
             ≡ Some (bin (map number_of (map (λ x. T.data_of x (settings_of self.now).human) values.now))) }
@@ -144,28 +144,5 @@ impl<W: Sink, C: SerializerConfig> Serializer<W, C> {
             value.serialize(self)?;
         }
         Ok(())
-    }
-
-    /// Writes the items of a slice.
-    ///
-    /// In the modes `ForceIterables` and `ForceAll`, items that are all `u8` are written as bytes, unless the
-    /// slice is empty. In the mode `Normal` only the items and the sink may allocate.
-    ///
-    /// # Errors
-    /// `InvalidDataModel` for 2 ^ 32 items or more, and nothing is written; otherwise those of an item's type
-    /// and of the sink, or `OutOfMemory`.
-    pub fn collect_seq<T: Serialize>(&mut self, values: &[T]) -> Result<(), Error>
-        ensures writes { WritesTree W.Sink ((forces_slices (settings_of self.old).bytes || T.takes_memory (settings_of self.old)) || W.takes_memory)
-            (tree_of (settings_of self.old) (slice_of (map (λ x. T.data_of x (settings_of self.old).human) values.now))) (sink_of self.old)
-            (sink_of self.new) result }
-        ensures keeps { Keeps W.Sink self.old self.new }
-        ensures long { 2 ^ 32 ≤ length values.now → RefusesLength self.old self.new result }
-        ensures error { IfErr result (OfItems T.refuses values.now) }
-        ensures value { OnOk result (All T.is_value values.now) }
-    {
-        if self.packs_slice(values) {
-            return self.put_packed(values);
-        }
-        self.put_list(values)
     }
 }

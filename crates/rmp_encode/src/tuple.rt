@@ -1,11 +1,10 @@
 //! Tuples, whose elements may be written as bytes, depending on the mode.
-ghost use Rattle.std.specs.Prelude.{◌≡◌, ◌^◌, ◌≤◌, ◌+◌, ◌<◌, ◌||◌, ◌∷◌, [], nat_le, map, All, Some, true, false, OnOk, OnErr, IfOk, IfErr, length};
-ghost use Rattle.std.specs.Borrow.{sem};
+ghost use Rattle.std.specs.Prelude.{◌≡◌, ◌^◌, ◌≤◌, ◌+◌, ◌<◌, ◌||◌, ◌∷◌, [], nat_le, map, All, Some, true, false, OnOk, OnErr, IfErr, length};
 ghost use Rattle.std.specs.List.{list_any, flat_map};
 ghost use Rattle.rmp_wire.specs.Msg.{bin};
 ghost use Rattle.rmp_wire.specs.declared.config.BytesMode.TheVariants.{ForceAll};
 ghost use Rattle.rmp_encode.specs.Data.{packs_tuple};
-ghost use Rattle.rmp_encode.specs.Going.{head_at, Ends, EndsBySink, Goes, Rests};
+ghost use Rattle.rmp_encode.specs.Going.{Ends, EndsBySink, Goes};
 ghost use Rattle.rmp_encode.specs.Refusals.{OfItems, OfParts, RefusesLength};
 ghost use Rattle.rmp_encode.specs.Ser.{sink_of, settings_of};
 ghost use Rattle.rmp_encode.specs.Sizes.{one_of};
@@ -15,7 +14,6 @@ ghost use Rattle.rmp_encode.specs.Tuples.{inside, reference, items_left, left_of
 ghost use Rattle.rmp_encode.specs.Writes.{FirstAtMarker, Keeps, WritesPart, WritesTree};
 
 use crate::error::Error;
-use crate::length::fits_u32;
 use crate::ser::Serialize;
 use crate::serializer::Serializer;
 use crate::slice::are_bytes;
@@ -30,15 +28,15 @@ use std::mem;
 /// Once a call has returned an error, the tuple is no longer sound: no call may follow, and it can only be
 /// dropped.
 pub struct Tuple<'a, W, C, P = Option<Vec<u8>>> {
-    se: &'a mut Serializer<W, C>,
+    pub(crate) se: &'a mut Serializer<W, C>,
     // `Some` in the mode `ForceAll`, and `None` otherwise, until `end`: the compiler can test for it once
-    kept: P,
+    pub(crate) kept: P,
     // the elements so far were all `u8`, and are kept
-    probing: bool,
-    len: u32,
-    left: usize,
+    pub(crate) probing: bool,
+    pub(crate) len: u32,
+    pub(crate) left: usize,
     // no call has returned an error
-    sound: bool,
+    pub(crate) sound: bool,
 }
 
 impl<W, C, P: Drop> Drop for Tuple<'_, W, C, P> {
@@ -120,7 +118,7 @@ impl<W: Sink, C: SerializerConfig> Serializer<W, C> {
         Ok(())
     }
 
-    fn forces_all(&self) -> bool
+    pub(crate) fn forces_all(&self) -> bool
         ensures { result ≡ forces_all (settings_of self.now).bytes }
     {
         match self.bytes() {
@@ -147,44 +145,6 @@ impl<W: Sink, C: SerializerConfig> Serializer<W, C> {
             return false;
         }
         packs_values(values, human)
-    }
-
-    /// Opens a tuple of `len` elements. `serialize_element` writes each, and then `end` closes the tuple.
-    ///
-    /// # Errors
-    /// `InvalidDataModel` for 2 ^ 32 elements or more, and nothing is written; otherwise those of the sink.
-    #[inline(always)]
-    pub fn serialize_tuple(&mut self, len: usize) -> Result<Tuple<'_, W, C>, Error>
-        ensures* refused { sem 𝓛 (Rests W.row C.row W.Sink reference (head_at false len ∷ []) (len < 2 ^ 32)
-            (λ all. length all ≡ len) tuple_of self.entry result) }
-        ensures same_reference { IfOk result (λ q. reference q ≡ self.entry.ghost_name) }
-        ensures fits { OnOk result (len < 2 ^ 32) }
-        ensures left { IfOk result (λ q. left_of q ≡ len) }
-        ensures sound { IfOk result (λ q. is_sound q ≡ true) }
-        ensures opened { IfOk result (λ q. (all : _) → length all ≡ len → IsTupling W.Sink self.old (tree_of (settings_of self.old) (tuple_of all)) all q) }
-        ensures keeps { IfOk result (λ q. Keeps W.Sink self.old (inside q)) }
-    {
-        let n = fits_u32(len)?;
-        if self.forces_all() {
-            let kept = self.empty();
-            return Ok(Tuple {
-                se: self,
-                kept: Some(kept),
-                probing: true,
-                len: n,
-                left: len,
-                sound: true,
-            });
-        }
-        self.put_head(false, n)?;
-        Ok(Tuple {
-            se: self,
-            kept: None,
-            probing: false,
-            len: n,
-            left: len,
-            sound: true,
-        })
     }
 }
 

@@ -1,14 +1,16 @@
-//! Options, unit structs, newtype structs, and 128-bit numbers.
-ghost use Rattle.std.specs.Prelude.{◌≡◌, ◌≢◌, ◌/◌, ◌^◌, ◌||◌, Some, OnOk, IfErr, codes};
+//! Options, unit structs, newtype structs, 128-bit numbers, extensions, and slices.
+ghost use Rattle.std.specs.Prelude.{◌≡◌, ◌≢◌, ◌/◌, ◌^◌, ◌||◌, Some, OnOk, IfErr, codes, ◌≤◌, length, map, All};
 ghost use Rattle.std.specs.Int.{w128, to_be_bytes, cast_unsigned};
 ghost use Rattle.rmp_wire.specs.Msg.{nil, bin, list, no_items};
 ghost use Rattle.rmp_encode.specs.Errors.{RefusesName};
-ghost use Rattle.rmp_encode.specs.Refusals.{OfSink};
+ghost use Rattle.rmp_encode.specs.Refusals.{OfSink, RefusesLength, OfItems};
 ghost use Rattle.rmp_encode.specs.Ser.{sink_of, settings_of};
-ghost use Rattle.rmp_encode.specs.Trees.{tree_of, wrapped_of, newtype_of};
+ghost use Rattle.rmp_encode.specs.Trees.{tree_of, wrapped_of, newtype_of, slice_of, forces_slices};
 ghost use Rattle.rmp_encode.specs.Writes.{Keeps, NoneAtMarker, WritesTree};
+ghost use Rattle.rmp_encode.specs.Extensions.{inside, reference};
 
 use crate::error::Error;
+use crate::extension::ExtSerializer;
 use crate::ser::Serialize;
 use crate::serializer::{Serializer, answer};
 use rmp_wire::config::SerializerConfig;
@@ -130,5 +132,36 @@ impl<W: Sink, C: SerializerConfig> Serializer<W, C> {
         ensures keeps { Keeps W.Sink self.old self.new }
     {
         self.serialize_u128(n.cast_unsigned())
+    }
+
+    /// Opens an extension. Nothing is written.
+    pub fn extension(&mut self) -> ExtSerializer<'_, W, C>
+        ensures same_reference { reference result ≡ self.entry.ghost_name }
+        ensures stays { inside result ≡ self.old }
+    {
+        ExtSerializer { se: self }
+    }
+
+    /// Writes the items of a slice.
+    ///
+    /// In the modes `ForceIterables` and `ForceAll`, items that are all `u8` are written as bytes, unless the
+    /// slice is empty. In the mode `Normal` only the items and the sink may allocate.
+    ///
+    /// # Errors
+    /// `InvalidDataModel` for 2 ^ 32 items or more, and nothing is written; otherwise those of an item's type
+    /// and of the sink, or `OutOfMemory`.
+    pub fn collect_seq<T: Serialize>(&mut self, values: &[T]) -> Result<(), Error>
+        ensures writes { WritesTree W.Sink ((forces_slices (settings_of self.old).bytes || T.takes_memory (settings_of self.old)) || W.takes_memory)
+            (tree_of (settings_of self.old) (slice_of (map (λ x. T.data_of x (settings_of self.old).human) values.now))) (sink_of self.old)
+            (sink_of self.new) result }
+        ensures keeps { Keeps W.Sink self.old self.new }
+        ensures long { 2 ^ 32 ≤ length values.now → RefusesLength self.old self.new result }
+        ensures error { IfErr result (OfItems T.refuses values.now) }
+        ensures value { OnOk result (All T.is_value values.now) }
+    {
+        if self.packs_slice(values) {
+            return self.put_packed(values);
+        }
+        self.put_list(values)
     }
 }

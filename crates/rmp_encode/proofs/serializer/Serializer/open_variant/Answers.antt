@@ -35,7 +35,7 @@ pub returns-in_err-put_variant-clause-begins : goal.returns-in_err-put_variant-c
 returns-in_err-put_variant-clause-begins g c =
     let p = err_from_is_err_and c.from_residual-in_err-put_variant.result c.from_residual-in_err-put_variant.ensures.1 in
     rw (p.1, p.2) (begins g.W.Sink (variant_head c.args.variant.now ++ head_at c.args.pairs c.args.len) c.args.self.now _ _
-    (c.in_ok-fits_u32.ensures.fits, c.in_ok-n.ensures.fits) c.put_variant.ensures.keeps
+    (c.in_ok-fits_u32.ensures.fits, c.in_ok-count.ensures.fits) c.put_variant.ensures.keeps
     (part_as g.W.Sink (λ x. x) (λ _. tt) (λ _. (tt, tt)) (λ _. refl)
     (part_stops g.W.Sink {Q = Unit {0}} (head_at c.args.pairs c.args.len) c.in_err-put_variant.ensures.writes)))
 
@@ -47,9 +47,9 @@ returns-in_err-put_variant-clause-stays g c =
 pub returns-clause-begins : goal.returns-clause-begins
 returns-clause-begins g c =
     begins g.W.Sink (variant_head c.args.variant.now ++ head_at c.args.pairs c.args.len) c.args.self.now _ c.put_head.result
-    (c.in_ok-fits_u32.ensures.fits, c.in_ok-n.ensures.fits) (keeps_then g.W.Sink c.put_variant.ensures.keeps c.put_head.ensures.keeps)
+    (c.in_ok-fits_u32.ensures.fits, c.in_ok-count.ensures.fits) (keeps_then g.W.Sink c.put_variant.ensures.keeps c.put_head.ensures.keeps)
     (part_as g.W.Sink (λ x. x) (λ _. tt) (λ _. (tt, tt)) (λ _. refl)
-    (part_then g.W.Sink c.in_ok-put_variant.ensures.writes (rw c.in_ok-n.ensures.same at c.put_head.ensures.writes)))
+    (part_then g.W.Sink c.in_ok-put_variant.ensures.writes (rw c.in_ok-count.ensures.same at c.put_head.ensures.writes)))
 
 pub returns-clause-keeps : goal.returns-clause-keeps
 returns-clause-keeps g c = keeps_then g.W.Sink c.put_variant.ensures.keeps c.put_head.ensures.keeps
