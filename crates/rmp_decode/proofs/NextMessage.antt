@@ -93,9 +93,6 @@ module _ {R C : Type 0} (g : Ghosts R) (old : Deserializer R C) (fresh : old.fai
   pub sees_front : (front : List ℕ) → old.kept ≡ Nothing → IsFront front (g.ahead old.reader) → front ≢ [] → SeesNext g old old
   sees_front front k f n = sees_there (rw (bare g old k) (front_there front _ f n))
 
-  pub sees_first : (b : ℕ) → old.kept ≡ First b → SeesNext g old old
-  sees_first b k = sees_there (kept_there b [] (kept_bytes old.kept) (g.ahead old.reader) (ap kept_bytes k))
-
   pub sees_number : (n : ℕ) → old.kept ≡ Number n → SeesNext g old old
   sees_number n k =
       let o = number_other old.kept n k in
@@ -116,32 +113,6 @@ module _ {R C : Type 0} (g : Ghosts R) (old : Deserializer R C) (fresh : old.fai
 
 -- where a message's first byte is there, the read of the message is that of the reader which found it
 module _ {R C V : Type 0} (g : Ghosts R) (reads : Msg → V → Type 0) (old mid new : Deserializer R C) (s : SeesNext g old mid) where
-  pub next_read : (v : V) → Lawful g reads mid new (Ok v) → Lawful g reads old new (Ok v)
-  next_read v l =
-      let r = l.ok in
-      record {
-        ok = record {
-          bytes = r.bytes;
-          tree = r.tree;
-          takes = kept_consumes _ _ _ r.bytes s.same r.takes;
-          goes_on = record {
-            more = s.goes_on.more ++ r.goes_on.more;
-            whole = r.goes_on.whole ∙ ap (λ z. z ++ r.goes_on.more) s.goes_on.whole
-                ∙ append_assoc (kept_bytes old.kept) s.goes_on.more r.goes_on.more;
-          };
-          spelled = subst (λ t. SpellsAs t r.bytes r.tree) s.stays.strict r.spelled;
-          fits = subst (λ t. depth r.tree < max 1 t) s.stays.room r.fits;
-          value = r.value;
-        };
-        ready = l.ready;
-        clean = l.clean;
-        sound = l.sound ∙ s.sound;
-        err = λ _. tt;
-        failed = tt;
-        before = λ f. absurd (let o = s.fresh in cc);
-        stays = stays_then g old mid new s.stays l.stays;
-      }
-
   pub next_refused : (e : Error) → Lawful g reads mid new (Err e) → Lawful g reads old new (Err e)
   next_refused e l = record {
     ok = tt;

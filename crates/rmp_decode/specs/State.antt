@@ -34,10 +34,6 @@ is_failed d = d.failed
 abbrev pub limit_of : {R C : Type 0} → Deserializer R C → ℕ
 limit_of d = d.limit
 
--- how many levels are left of it
-abbrev pub levels_left : {R C : Type 0} → Deserializer R C → ℕ
-levels_left d = d.room
-
 -- only canonical heads are taken
 abbrev pub is_strict : {R C : Type 0} → Deserializer R C → Bool
 is_strict d = d.strict
@@ -66,8 +62,8 @@ pub record Stays {R C : Type 0} (g : Ghosts R) (old new : Deserializer R C) : Ty
   pub place : g.place new.reader ≡ g.place old.reader
 
 -- nothing was read yet, and any width is read of messages whose depth is below 1024
-pub record IsNew {R C : Type 0} (alloc : Global) (d : Deserializer R C) : Type 0 where
-  pub alloc : d.alloc ≡ alloc
+pub record IsNew {R C : Type 0} (memory : Global) (d : Deserializer R C) : Type 0 where
+  pub alloc : d.alloc ≡ memory
   pub kept : d.kept ≡ Nothing
   pub room : room_of d ≡ 1024
   pub limit : d.limit ≡ 1024

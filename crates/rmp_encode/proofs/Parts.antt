@@ -231,8 +231,3 @@ module _ {W : Type 0} (g : Ghosts W) where
   pub part_or : {A : Type 0} {m : Bool} (b : Bool) {P : Type 0} {a : List ℕ} {old new : W} {r : Result A Error} → WritesPart g m P a old new r
       → WritesPart g (b || m) P a old new r
   part_or {A} {m} b w = part_takes (b || m) (or_right b m) w
-
-  -- a part allocates under the settings from before
-  pub part_settings : {A : Type 0} (f : Settings → Bool) (m : Bool) {P : Type 0} {a : List ℕ} {old new : W} {r : Result A Error} {s t : Settings} → t ≡ s
-      → WritesPart g (f t || m) P a old new r → WritesPart g (f s || m) P a old new r
-  part_settings f m {P} {a} {old} {new} {r} e w = subst (λ s. WritesPart g (f s || m) P a old new r) e w

@@ -129,14 +129,6 @@ module _ {W C : Type 0} (g : Ghosts W) where
       → IsProbing g old t rest kept len now → (forces_all (settings_of old).bytes || m) || n ≡ true
   probe_takes m n h = ap (λ b. (forces_all b || m) || n) h.mode
 
-  -- no memory to keep one more
-  pub probe_full : (m : Bool) {kept : List ℕ} {len : ℕ} {now : Serializer W C} (old : Serializer W C) (t : Option Msg) (rest : List (Option Data))
-      → m ≡ true → IsProbing g old t rest kept len now
-      → WritesTree g {A = Unit {0}} m t (sink_of old) (sink_of now) (Err OutOfMemory)
-  probe_full m {now = now} old t rest is h =
-      subst (λ l. WritesTree g {A = Unit {0}} m t (sink_of old) (sink_of l) (Err OutOfMemory)) (sym h.same)
-      (part_nothing g m _ _ (sink_of old) OutOfMemory (is, refl))
-
   -- no more is kept than a head can count
   pub probing_fits : {old : Serializer W C} {t : Option Msg} {rest : List (Option Data)} {kept : List ℕ} {len : ℕ} {now : Serializer W C}
       → IsProbing g old t rest kept len now → length kept < 2 ^ 32
@@ -241,10 +233,6 @@ module _ {W C : Type 0} (g : Ghosts W) where
   tuple_goes m d left now q' (Err x) s e l k w old t rest n h =
       part_takes g _ (or_second (forces_all (settings_of old).bytes) (m (settings_of old)) g.takes_memory)
       (goes g (λ z. m z || g.takes_memory) d now q'.se.now (Err x) k w old t rest h)
-
-  pub still_tuple : {old : Serializer W C} {t : Option Msg} {rest rest' : List (Option Data)} {q : OpenTuple W C} → rest ≡ rest' → IsTupling g old t rest q
-      → IsTupling g old t rest' q
-  still_tuple {old} {t} {rest} {rest'} {q} e h = subst (λ ds. IsTupling g old t ds q) e h
 
 -- what the end writes, where bytes are kept
 items_packed : (v : Vec ℕ Global) (len : ℕ) → packs_tuple ForceAll v.items ≡ true → items_kept (Some v) len ≡ canon (bin v.items) ∷ []

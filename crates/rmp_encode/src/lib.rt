@@ -1,4 +1,16 @@
 //! Writes typed values in the canonical encoding of MessagePack.
+//!
+//! # The way of a value out
+//! `to_vec` and `write` (`whole`) make a `Serializer` over the sink and call `T::serialize` (`ser`), which calls one of the serializer's
+//! methods:
+//!
+//! - **A value** (`serializer`, `serializer/leaves`): one call writes the head, by `rmp_wire::write`, and then the payload.
+//! - **Parts** (`serializer/open`): the head is written, and a compound writes the parts, each by its own `serialize`: `Compound` for structs
+//!   and variants, `Tuple`, and `MaybeUnknownLengthCompound` (`series`) for lists and maps.
+//! - **All parts in one call** (`elements`): what derived types call. The parts are an `Elements`.
+//!
+//! Whether structs are written with names, and which lists are written as bytes, are the serializer's `Settings`. An error leaves a beginning of
+//! the encoding in the sink.
 #![tactic(auto)]
 
 mod compound;

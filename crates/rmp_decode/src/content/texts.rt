@@ -1,5 +1,5 @@
 //! Messages with a payload: texts, characters, bytes, extensions, and names.
-ghost use Rattle.std.specs.Prelude.{◌≡◌, ◌≢◌, true, false, IfErr, ◌≤◌, ◌<◌, IfOk, IfSome, IfNone};
+ghost use Rattle.std.specs.Prelude.{◌≡◌, ◌≢◌, Bool, true, false, IfErr, ◌≤◌, ◌<◌, IfOk, IfSome, IfNone};
 ghost use Rattle.std.specs.String.{string_bytes};
 ghost use Rattle.rmp_decode.specs.Buffers.{AfterHead, IsBuffer, ListAfterHead, RefusesItems, RefusesList};
 ghost use Rattle.rmp_decode.specs.Content.{IsTextHead, IsRawHead, RefusesLeaf, RefusesAfterHead, not_raw, never_refused, not_char, not_string};
@@ -369,24 +369,21 @@ impl<R: Source, C: SerializerConfig> Deserializer<R, C> {
         }
     }
 
-    // Copies the payload of bytes, `len` of them, once.
+    // Copies the payload of a text or of bytes, `len` bytes.
     #[inline(never)]
     fn byte_buf_payload<'de>(&mut self, len: u32) -> Result<Vec<u8>, Error>
     where
         R: ReadSlice<'de>,
-        ensures law { AfterHead R.Source (λ m v. IsBuffer m v.items) (Head.Bin len) self.old self.new result }
-        ensures exact { IfErr result (RefusesAfterHead R.Source IsBufferHead not_raw not_buffer (Head.Bin len) self.old self.new) }
+        ensures law { (is_text : Bool) → AfterHead R.Source (λ m v. IsBuffer m v.items) (raw_head is_text len) self.old self.new result }
+        ensures exact { (is_text : Bool) → IfErr result (RefusesAfterHead R.Source IsBufferHead not_raw not_buffer (raw_head is_text len) self.old self.new) }
     {
-        let piece = match self.reader.read_slice(len as usize) {
-            Ok(piece) => piece,
-            Err(e) => return Err(error_of(e)),
-        };
-        let bytes = match Vec::from_slice(self.alloc, piece.as_bytes()) {
-            Ok(bytes) => bytes,
-            Err(_) => return Err(Error::OutOfMemory),
-        };
-        self.failed = false;
-        Ok(bytes)
+        match owned(self.alloc, &mut self.reader, len as usize) {
+            Ok(bytes) => {
+                self.failed = false;
+                Ok(bytes)
+            }
+            Err(e) => Err(e),
+        }
     }
 
     // The slow path of `deserialize_byte_buf`.
@@ -400,13 +397,7 @@ impl<R: Source, C: SerializerConfig> Deserializer<R, C> {
     {
         match self.head() {
             Ok((_, head)) => match head.as_raw() {
-                Some((_, len)) => match owned(self.alloc, &mut self.reader, len as usize) {
-                    Ok(bytes) => {
-                        self.failed = false;
-                        Ok(bytes)
-                    }
-                    Err(e) => Err(e),
-                },
+                Some((_, len)) => self.byte_buf_payload(len),
                 None => match head.as_array() {
                     Some(len) => self.byte_list(len),
                     None => Err(Error::Syntax(Text::InvalidType)),
@@ -473,7 +464,7 @@ impl<R: Source, C: SerializerConfig> Deserializer<R, C> {
         }
     }
 
-    // Copies the payload of an extension, `len` bytes, once.
+    // Copies the payload of an extension, `len` bytes.
     #[inline(never)]
     fn ext_payload<'de>(&mut self, len: u32, tag: i8) -> Result<Ext, Error>
     where
@@ -481,16 +472,13 @@ impl<R: Source, C: SerializerConfig> Deserializer<R, C> {
         ensures law { AfterHead R.Source IsExt (Head.Ext len tag) self.old self.new result }
         ensures exact { IfErr result (RefusesAfterHead R.Source IsExtHead not_ext never_refused (Head.Ext len tag) self.old self.new) }
     {
-        let piece = match self.reader.read_slice(len as usize) {
-            Ok(piece) => piece,
-            Err(e) => return Err(error_of(e)),
-        };
-        let bytes = match Vec::from_slice(self.alloc, piece.as_bytes()) {
-            Ok(bytes) => bytes,
-            Err(_) => return Err(Error::OutOfMemory),
-        };
-        self.failed = false;
-        Ok(Ext::new(tag, bytes))
+        match owned(self.alloc, &mut self.reader, len as usize) {
+            Ok(bytes) => {
+                self.failed = false;
+                Ok(Ext::new(tag, bytes))
+            }
+            Err(e) => Err(e),
+        }
     }
 
     // The slow path of `deserialize_ext`.
@@ -503,13 +491,7 @@ impl<R: Source, C: SerializerConfig> Deserializer<R, C> {
     {
         match self.head() {
             Ok((marker, head)) => match head.as_ext() {
-                Some((len, tag)) => match owned(self.alloc, &mut self.reader, len as usize) {
-                    Ok(bytes) => {
-                        self.failed = false;
-                        Ok(Ext::new(tag, bytes))
-                    }
-                    Err(e) => Err(e),
-                },
+                Some((len, tag)) => self.ext_payload(len, tag),
                 None => Err(Error::TypeMismatch(marker)),
             },
             Err(e) => Err(e),
@@ -535,13 +517,13 @@ impl<R: Source, C: SerializerConfig> Deserializer<R, C> {
         }
     }
 
-    // Reads the payload of a text, `len` bytes, as the name that it is. The bytes are compared where they are buffered.
+    // Reads the payload of a text or of bytes, `len` bytes, as the name that it is. The bytes are compared where they are buffered.
     #[inline(always)]
     fn identifier_payload<'de>(&mut self, len: u32, names: &[&str]) -> Result<Option<usize>, Error>
     where
         R: ReadSlice<'de>,
-        ensures law { AfterHead R.Source (IsName (bytes_of names.now)) (Head.Text len) self.old self.new result }
-        ensures exact { IfErr result (RefusesAfterHead R.Source IsNameHead not_raw never_refused (Head.Text len) self.old self.new) }
+        ensures law { (is_text : Bool) → AfterHead R.Source (IsName (bytes_of names.now)) (raw_head is_text len) self.old self.new result }
+        ensures exact { (is_text : Bool) → IfErr result (RefusesAfterHead R.Source IsNameHead not_raw never_refused (raw_head is_text len) self.old self.new) }
         ensures memory { R.lends ≡ true → IfErr result (λ e. e ≢ Error.OutOfMemory) }
     {
         match next_place(&mut self.reader, names, len as usize) {
@@ -567,13 +549,7 @@ impl<R: Source, C: SerializerConfig> Deserializer<R, C> {
             Err(e) => return Err(e),
         };
         match head.as_raw() {
-            Some((_, len)) => match next_place(&mut self.reader, names, len as usize) {
-                Ok(place) => {
-                    self.failed = false;
-                    return Ok(place);
-                }
-                Err(e) => return Err(e),
-            },
+            Some((_, len)) => return self.identifier_payload(len, names),
             None => {}
         }
         match head.as_whole() {

@@ -1,11 +1,9 @@
 //! Heads of any kind that are buffered whole, except those of extensions of more than 255 bytes.
-ghost use Rattle.std.specs.Prelude.{◌≡◌, ◌<ℤ◌, true, false, IfSome};
+ghost use Rattle.std.specs.Prelude.{◌<ℤ◌, true, false, IfSome};
 ghost use Rattle.rmp_decode.specs.Ahead.{LeafHeadIn};
 ghost use Rattle.rmp_decode.specs.BufferedHeads.{HeadIn, bound_of};
 
-use crate::deserializer::peek::exts::ext_at;
-use crate::deserializer::peek::widths::unsigned_at;
-use crate::deserializer::peek::{F32Head, F64Head, Peek};
+use crate::deserializer::peek::{F32Head, F64Head, Peek, unsigned_at};
 use crate::deserializer::skip::leaf_in;
 use rmp_wire::{Head, Marker, is_canonical};
 
@@ -265,5 +263,58 @@ pub(crate) fn leaf_at(front: &[u8], strict: bool) -> Option<(u32, usize)>
         canonical_leaf_at(front)
     } else {
         any_leaf_at(front)
+    }
+}
+
+// An extension of a length that has a head of its own: how many bytes it has, and its type. Its head has two bytes.
+#[inline(always)]
+fn fixed_ext_at(front: &[u8]) -> Option<(u32, i8)>
+    ensures { IfSome result (λ p. HeadIn false 2 (Head.Ext p.0 p.1) front.now) }
+{
+    match front {
+        [first, following @ ..] => match following {
+            [tag, ..] => match first {
+                0xd4 => Some((1, tag.cast_signed())),
+                0xd5 => Some((2, tag.cast_signed())),
+                0xd6 => Some((4, tag.cast_signed())),
+                0xd7 => Some((8, tag.cast_signed())),
+                0xd8 => Some((16, tag.cast_signed())),
+                _ => None,
+            },
+            _ => None,
+        },
+        _ => None,
+    }
+}
+
+// An extension of up to 255 bytes whose head tells its length: how many bytes it has, and its type. Its head has three bytes.
+#[inline(always)]
+fn short_ext_at(front: &[u8]) -> Option<(u32, i8)>
+    ensures { IfSome result (λ p. HeadIn false 3 (Head.Ext p.0 p.1) front.now) }
+{
+    match front {
+        [first, following @ ..] => match first {
+            0xc7 => match following {
+                [len, tag, ..] => Some((u32::from(*len), tag.cast_signed())),
+                _ => None,
+            },
+            _ => None,
+        },
+        _ => None,
+    }
+}
+
+// The head of an extension of up to 255 bytes at the front: how many bytes it has, its type, and the count of the head's
+// bytes.
+#[inline(always)]
+pub(super) fn ext_at(front: &[u8]) -> Option<(u32, i8, usize)>
+    ensures { IfSome result (λ p. HeadIn false p.2 (Head.Ext p.0 p.1) front.now) }
+{
+    match fixed_ext_at(front) {
+        Some((n, tag)) => Some((n, tag, 2)),
+        None => match short_ext_at(front) {
+            Some((n, tag)) => Some((n, tag, 3)),
+            None => None,
+        },
     }
 }

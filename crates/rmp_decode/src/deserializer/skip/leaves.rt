@@ -3,8 +3,8 @@ ghost use Rattle.std.specs.Prelude.{◌<◌, ◌≤◌, Bool, IfSome, length, ta
 ghost use Rattle.rmp_decode.specs.Ahead.{LeafHeadIn};
 ghost use Rattle.rmp_decode.specs.LeafTable.{SpellsLeaf, Tells, PassesLeaves};
 
+use crate::deserializer::peek::may_begin;
 use crate::deserializer::peek::table::leaf_at;
-use crate::deserializer::peek::widths::may_begin;
 
 // No block has so many bytes after a first byte.
 const NEVER: u32 = u32::MAX;

@@ -12,20 +12,6 @@ use Rattle.rmp_decode.proofs.Contents.{raw_content, content_read, content_short}
 use Rattle.rmp_decode.proofs.Laws.{refused_none, refused_head}
 use Rattle.rmp_decode.proofs.deserializer.Deserializer.slow_byte_buf.Goals as goal
 
-pub returns-in-Ok-owned-clause-law : goal.returns-in-Ok-owned-clause-law
-returns-in-Ok-owned-clause-law g c =
-    let o = c.in-Ok-owned.ensures.ok in
-    content_read (raw_content c.in-Some.field-0-0) g.R.Source _ c.args.self.now c.head.new.self _ (c.in-Ok.field-0-0, c.in-Ok.head) c.in-Ok.ensures
-    c.in-Ok-owned.bytes.items c.in-Some.len _ c.in-Some.ensures o.0 o.1 o.2 refl refl c.in-Ok-owned.ensures.sound
-    (record { config = refl; room = refl; limit = refl; strict = refl; place = c.in-Ok-owned.ensures.place })
-    (raw_buffer c.in-Some.field-0-0 c.in-Ok-owned.bytes.items)
-
-pub returns-in-Err-owned-clause-law : goal.returns-in-Err-owned-clause-law
-returns-in-Err-owned-clause-law g c =
-    content_short (raw_content c.in-Some.field-0-0) g.R.Source _ c.args.self.now c.head.new.self _ (c.in-Ok.field-0-0, c.in-Ok.head) c.in-Ok.ensures
-    c.in-Some.len _ c.in-Some.ensures c.in-Err-owned.ensures.err c.in-Ok.ensures.failed
-    (record { config = refl; room = refl; limit = refl; strict = refl; place = c.in-Err-owned.ensures.place })
-
 pub returns-in-None-as_array-clause-law : goal.returns-in-None-as_array-clause-law
 returns-in-None-as_array-clause-law g c = refused_head g.R.Source _ c.args.self.now _ (c.in-Ok.field-0-0, c.in-Ok.head) _ c.in-Ok.ensures
     (λ m r i. no_buffer m r.0.items c.in-Ok.head r.1 i c.in-None.ensures c.in-None-as_array.ensures)
@@ -36,12 +22,6 @@ returns-in-Err-clause-law g c = refused_none _ _ _ _ _ c.in-Err.ensures
 pub returns-in-Some-as_array-clause-law : goal.returns-in-Some-as_array-clause-law
 returns-in-Some-as_array-clause-law g c = c.byte_list.ensures.law c.args.self.now c.in-Ok.field-0-0
     (subst (λ h. ReadsHead g.R.Source c.args.self.now c.head.new.self (Ok (c.in-Ok.field-0-0, h))) c.in-Some-as_array.ensures c.in-Ok.ensures)
-
-pub returns-in-Err-owned-clause-exact : goal.returns-in-Err-owned-clause-exact
-returns-in-Err-owned-clause-exact g c = λ _.
-    content_error g.R.Source IsBufferHead not_raw not_buffer c.args.self.now c.head.new.self _ (c.in-Ok.field-0-0, c.in-Ok.head)
-    (raw_head c.in-Some.field-0-0 c.in-Some.len) c.in-Some.len _ c.in-Ok.ensures c.in-Some.ensures (raw_len c.in-Some.field-0-0 c.in-Some.len)
-    (buffer_wanted c.in-Some.field-0-0 c.in-Some.len) (piece_ended _ _ _ _ _ _ c.in-Err-owned.ensures.err c.in-Err-owned.ensures.end) c.in-Err-owned.ensures.fault
 
 pub returns-in-None-as_array-clause-exact : goal.returns-in-None-as_array-clause-exact
 returns-in-None-as_array-clause-exact g c = λ _. content_other _ IsBufferHead not_raw not_buffer _ _ _ c.in-Ok.field-0-0 c.in-Ok.head _
@@ -57,10 +37,6 @@ returns-in-Err-clause-exact g c = λ o. content_none _ IsBufferHead not_raw not_
 
 -- ---- a list
 
-pub returns-in-Err-owned-clause-list : goal.returns-in-Err-owned-clause-list
-returns-in-Err-owned-clause-list g c = λ _. list_other g.R.Source c.args.self.now _ _ c.in-Ok.field-0-0 c.in-Ok.head c.in-Ok.ensures.marked
-    (λ n e. raw_no_list c.in-Some.field-0-0 c.in-Some.len n (sym c.in-Some.ensures ∙ e))
-
 pub returns-in-Some-as_array-clause-list : goal.returns-in-Some-as_array-clause-list
 returns-in-Some-as_array-clause-list g c = λ _. list_after g.R.Source c.args.self.now c.head.new.self _ c.in-Ok.field-0-0 c.in-Ok.head c.in-Some-as_array.len
     c.byte_list.result c.in-Ok.ensures c.in-Some-as_array.ensures c.byte_list.ensures.deep c.byte_list.ensures.items
@@ -71,3 +47,17 @@ returns-in-None-as_array-clause-list g c = λ _. list_other g.R.Source c.args.se
 
 pub returns-in-Err-clause-list : goal.returns-in-Err-clause-list
 returns-in-Err-clause-list g c = λ o. list_none g.R.Source c.args.self.now _ _ (c.in-Err.ensures.ends o)
+
+pub returns-in-Some-clause-law : goal.returns-in-Some-clause-law
+returns-in-Some-clause-law g c = c.byte_buf_payload.ensures.law c.in-Some.field-0-0 c.args.self.now c.in-Ok.field-0-0
+    (subst (λ h. ReadsHead g.R.Source c.args.self.now c.head.new.self (Ok (c.in-Ok.field-0-0, h))) c.in-Some.ensures c.in-Ok.ensures)
+
+pub returns-in-Some-clause-exact : goal.returns-in-Some-clause-exact
+returns-in-Some-clause-exact g c = λ _. if_err c.byte_buf_payload.result (λ e r. r c.args.self.now c.in-Ok.field-0-0
+    (subst (λ h. ReadsHead g.R.Source c.args.self.now c.head.new.self (Ok (c.in-Ok.field-0-0, h))) c.in-Some.ensures c.in-Ok.ensures))
+    (c.byte_buf_payload.ensures.exact c.in-Some.field-0-0)
+
+pub returns-in-Some-clause-list : goal.returns-in-Some-clause-list
+returns-in-Some-clause-list g c = λ _. if_err c.byte_buf_payload.result (λ e r. list_other g.R.Source c.args.self.now _ _ c.in-Ok.field-0-0 c.in-Ok.head
+    c.in-Ok.ensures.marked (λ n e. raw_no_list c.in-Some.field-0-0 c.in-Some.len n (sym c.in-Some.ensures ∙ e)))
+    (c.byte_buf_payload.ensures.exact c.in-Some.field-0-0)

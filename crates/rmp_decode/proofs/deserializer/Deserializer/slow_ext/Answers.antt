@@ -8,32 +8,12 @@ use Rattle.rmp_decode.proofs.ContentErrors.{content_error, content_other, conten
 use Rattle.rmp_decode.proofs.Laws.{refused_none, refused_head}
 use Rattle.rmp_decode.proofs.deserializer.Deserializer.slow_ext.Goals as goal
 
-pub returns-in-Ok-owned-clause-law : goal.returns-in-Ok-owned-clause-law
-returns-in-Ok-owned-clause-law g c =
-    let o = c.in-Ok-owned.ensures.ok in
-    let tag : tag_of c.new.result ≡ c.in-Some.tag = search rules in
-    content_read (ext_content c.in-Some.tag) g.R.Source _ c.args.self.now c.head.new.self _ (c.in-Ok.marker, c.in-Ok.head) c.in-Ok.ensures
-    c.in-Ok-owned.bytes.items c.in-Some.len _ c.in-Some.ensures o.0 o.1 o.2 refl refl c.in-Ok-owned.ensures.sound
-    (record { config = refl; room = refl; limit = refl; strict = refl; place = c.in-Ok-owned.ensures.place }) (rw (tag, c.new.ensures.bytes) refl)
-
-pub returns-in-Err-owned-clause-law : goal.returns-in-Err-owned-clause-law
-returns-in-Err-owned-clause-law g c =
-    content_short (ext_content c.in-Some.tag) g.R.Source _ c.args.self.now c.head.new.self _ (c.in-Ok.marker, c.in-Ok.head) c.in-Ok.ensures c.in-Some.len _
-    c.in-Some.ensures c.in-Err-owned.ensures.err c.in-Ok.ensures.failed
-    (record { config = refl; room = refl; limit = refl; strict = refl; place = c.in-Err-owned.ensures.place })
-
 pub returns-in-None-clause-law : goal.returns-in-None-clause-law
 returns-in-None-clause-law g c = refused_head g.R.Source _ c.args.self.now _ (c.in-Ok.marker, c.in-Ok.head) _ c.in-Ok.ensures
     (λ m r i. c.in-None.ensures (length (ext_bytes r.0), tag_of r.0) (sym i ∙ ap head_of r.1))
 
 pub returns-in-Err-clause-law : goal.returns-in-Err-clause-law
 returns-in-Err-clause-law g c = refused_none _ _ _ _ _ c.in-Err.ensures
-
-pub returns-in-Err-owned-clause-exact : goal.returns-in-Err-owned-clause-exact
-returns-in-Err-owned-clause-exact g c = λ _.
-    content_error g.R.Source IsExtHead not_ext never_refused c.args.self.now c.head.new.self _ (c.in-Ok.marker, c.in-Ok.head)
-    (Ext c.in-Some.len c.in-Some.tag) c.in-Some.len _ c.in-Ok.ensures c.in-Some.ensures refl tt
-    (piece_ended _ _ _ _ _ _ c.in-Err-owned.ensures.err c.in-Err-owned.ensures.end) c.in-Err-owned.ensures.fault
 
 pub returns-in-None-clause-exact : goal.returns-in-None-clause-exact
 returns-in-None-clause-exact g c = λ _. content_other _ IsExtHead not_ext never_refused _ _ _ c.in-Ok.marker c.in-Ok.head _ c.in-Ok.ensures.sound c.in-Ok.ensures.marked

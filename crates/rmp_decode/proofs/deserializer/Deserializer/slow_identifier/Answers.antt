@@ -1,32 +1,18 @@
 use Rattle.std.proofs.lemmas.Int.{to_z-of_z}
 use mir.Syntax.{w128}
-use Rattle.std.proofs.Common.{rules, ◌∙◌, ap, sym, refl, subst, length, Some, Option, ℕ, inl, inr}
+use Rattle.std.proofs.Common.{Ok, rules, ◌∙◌, ap, sym, refl, subst, length, Some, Option, ℕ, inl, inr}
 use Rattle.rmp_wire.specs.Msg.{whole}
 use Rattle.rmp_wire.specs.Canonical.{heads_of}
 use Rattle.rmp_decode.specs.Content.{not_raw, never_refused}
 use Rattle.rmp_decode.specs.Kinds.{raw_head}
+use Rattle.rmp_decode.specs.Law.{ReadsHead}
 use Rattle.rmp_decode.specs.Names.{bytes_of, place_below, IsNameHead}
 use Rattle.rmp_decode.proofs.ContentErrors.{content_error, content_other, content_none, piece_ended, raw_len}
 use Rattle.rmp_decode.proofs.Contents.{raw_content, content_read, content_short}
+use Rattle.rmp_decode.proofs.FieldRows.{if_err}
 use Rattle.rmp_decode.proofs.Laws.{refused_none, refused_head, refused_leaf, answered_leaf}
 use Rattle.rmp_decode.proofs.Names.{name_of_raw, is_key_of, below_length, not_below, name_wanted, no_name_head, no_negative_head}
 use Rattle.rmp_decode.proofs.deserializer.Deserializer.slow_identifier.Goals as goal
-
-pub returns-in-Ok-next_place-clause-law : goal.returns-in-Ok-next_place-clause-law
-returns-in-Ok-next_place-clause-law g c =
-    let k = c.in-Some in
-    let o = c.in-Ok-next_place.ensures.ok in
-    content_read (raw_content k.field-0-0) g.R.Source _ c.args.self.now c.head.new.self _ (c.in-Ok.field-0-0, c.in-Ok.head) c.in-Ok.ensures o.0 k.len _
-    k.ensures o.1 o.2 o.3 refl refl c.in-Ok-next_place.ensures.sound
-    (record { config = refl; room = refl; limit = refl; strict = refl; place = c.in-Ok-next_place.ensures.place })
-    (name_of_raw (bytes_of c.args.names.now) k.field-0-0 o.0 ∙ ap (λ (z : Option ℕ). Some z) (sym o.4))
-
-pub returns-in-Err-next_place-clause-law : goal.returns-in-Err-next_place-clause-law
-returns-in-Err-next_place-clause-law g c =
-    let k = c.in-Some in
-    content_short (raw_content k.field-0-0) g.R.Source _ c.args.self.now c.head.new.self _ (c.in-Ok.field-0-0, c.in-Ok.head) c.in-Ok.ensures k.len _
-    k.ensures c.in-Err-next_place.ensures.err c.in-Ok.ensures.failed
-    (record { config = refl; room = refl; limit = refl; strict = refl; place = c.in-Err-next_place.ensures.place })
 
 pub returns-in-None-as_whole-clause-law : goal.returns-in-None-as_whole-clause-law
 returns-in-None-as_whole-clause-law g c = refused_head g.R.Source _ c.args.self.now _ (c.in-Ok.field-0-0, c.in-Ok.head) _ c.in-Ok.ensures
@@ -52,13 +38,6 @@ returns-in-None-place_below-clause-law g c =
     (λ r. not_below (sym (below_length c.args.names.now k.z _
     (c.in-None-place_below.ensures ∙ ap (place_below (length c.args.names.now)) (to_z-of_z w128 k.z (search rules)))) ∙ r.1))
 
-pub returns-in-Err-next_place-clause-exact : goal.returns-in-Err-next_place-clause-exact
-returns-in-Err-next_place-clause-exact g c = λ _.
-    let k = c.in-Some in
-    content_error g.R.Source IsNameHead not_raw never_refused c.args.self.now c.head.new.self _ (c.in-Ok.field-0-0, c.in-Ok.head)
-    (raw_head k.field-0-0 k.len) k.len _ c.in-Ok.ensures k.ensures (raw_len k.field-0-0 k.len) (name_wanted k.field-0-0 k.len)
-    (piece_ended _ _ _ _ _ _ c.in-Err-next_place.ensures.err c.in-Err-next_place.ensures.end) c.in-Err-next_place.ensures.fault
-
 pub returns-in-None-as_whole-clause-exact : goal.returns-in-None-as_whole-clause-exact
 returns-in-None-as_whole-clause-exact g c = λ _. content_other _ IsNameHead not_raw never_refused _ _ _ c.in-Ok.field-0-0 c.in-Ok.head _
     c.in-Ok.ensures.sound c.in-Ok.ensures.marked (no_name_head c.in-Ok.head c.in-None.ensures c.in-None-as_whole.ensures) refl
@@ -73,3 +52,12 @@ returns-in-None-place_below-clause-exact g c = λ _.
 
 pub returns-in-Err-clause-exact : goal.returns-in-Err-clause-exact
 returns-in-Err-clause-exact g c = λ o. content_none _ IsNameHead not_raw never_refused _ _ _ _ (c.in-Err.ensures.ends o)
+
+pub returns-in-Some-clause-law : goal.returns-in-Some-clause-law
+returns-in-Some-clause-law g c = c.identifier_payload.ensures.law c.in-Some.field-0-0 c.args.self.now c.in-Ok.field-0-0
+    (subst (λ h. ReadsHead g.R.Source c.args.self.now c.head.new.self (Ok (c.in-Ok.field-0-0, h))) c.in-Some.ensures c.in-Ok.ensures)
+
+pub returns-in-Some-clause-exact : goal.returns-in-Some-clause-exact
+returns-in-Some-clause-exact g c = λ _. if_err c.identifier_payload.result (λ e r. r c.args.self.now c.in-Ok.field-0-0
+    (subst (λ h. ReadsHead g.R.Source c.args.self.now c.head.new.self (Ok (c.in-Ok.field-0-0, h))) c.in-Some.ensures c.in-Ok.ensures))
+    (c.identifier_payload.ensures.exact c.in-Some.field-0-0)

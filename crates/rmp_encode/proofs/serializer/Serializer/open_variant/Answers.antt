@@ -10,15 +10,15 @@ use Rattle.rmp_encode.specs.Ser.{sink_of}
 use Rattle.std.specs.Prelude.{Err}
 use Rattle.rmp_encode.proofs.serializer.Serializer.open_variant.Goals as goal
 
-pub returns-in_err-n-clause-begins : goal.returns-in_err-n-clause-begins
-returns-in_err-n-clause-begins g c =
+pub returns-in_err-count-clause-begins : goal.returns-in_err-count-clause-begins
+returns-in_err-count-clause-begins g c =
     let p = err_from_is_err_and c.from_residual.result c.from_residual.ensures.1 in
-    rw (p.1, p.2) (begins_not g.W.Sink _ c.args.self.now _ c.in_err-n.ensures.refused (λ k. let lt = k.1 in omega (arith, lt, c.in_err-n.ensures.long)))
+    rw (p.1, p.2) (begins_not g.W.Sink _ c.args.self.now _ c.in_err-count.ensures.refused (λ k. let lt = k.1 in omega (arith, lt, c.in_err-count.ensures.long)))
 
-pub returns-in_err-n-clause-stays : goal.returns-in_err-n-clause-stays
-returns-in_err-n-clause-stays g c =
+pub returns-in_err-count-clause-stays : goal.returns-in_err-count-clause-stays
+returns-in_err-count-clause-stays g c =
     let p = err_from_is_err_and c.from_residual.result c.from_residual.ensures.1 in
-    rw (p.1, p.2) (stays_refused _ _ c.in_err-n.ensures.refused)
+    rw (p.1, p.2) (stays_refused _ _ c.in_err-count.ensures.refused)
 
 pub returns-in_err-fits_u32-clause-begins : goal.returns-in_err-fits_u32-clause-begins
 returns-in_err-fits_u32-clause-begins g c =
@@ -57,11 +57,11 @@ returns-clause-keeps g c = keeps_then g.W.Sink c.put_variant.ensures.keeps c.put
 pub returns-clause-stays : goal.returns-clause-stays
 returns-clause-stays g c = never_refused_by g.W.Sink.takes_memory _ _ _ _ c.put_head.result c.put_head.ensures.writes.cause
 
-pub returns-in_err-n-clause-marker : goal.returns-in_err-n-clause-marker
-returns-in_err-n-clause-marker g c =
+pub returns-in_err-count-clause-marker : goal.returns-in_err-count-clause-marker
+returns-in_err-count-clause-marker g c =
     let p = err_from_is_err_and c.from_residual.result c.from_residual.ensures.1 in
-    rw (p.1, p.2) (marker_first g.W.Sink _ _ (sink_of c.args.self.now) (sink_of c.args.self.now) (Err c.in_err-n.field-0.0)
-    (none_too_long g.W.Sink _ _ c.in_err-n.field-0.0 c.in_err-n.ensures.refused))
+    rw (p.1, p.2) (marker_first g.W.Sink _ _ (sink_of c.args.self.now) (sink_of c.args.self.now) (Err c.in_err-count.field-0.0)
+    (none_too_long g.W.Sink _ _ c.in_err-count.field-0.0 c.in_err-count.ensures.refused))
 
 pub returns-in_err-fits_u32-clause-marker : goal.returns-in_err-fits_u32-clause-marker
 returns-in_err-fits_u32-clause-marker g c =
@@ -69,10 +69,10 @@ returns-in_err-fits_u32-clause-marker g c =
     rw (p.1, p.2) (marker_first g.W.Sink _ _ (sink_of c.args.self.now) (sink_of c.args.self.now) (Err c.in_err-fits_u32.field-0.0)
     (none_too_long g.W.Sink _ _ c.in_err-fits_u32.field-0.0 c.in_err-fits_u32.ensures.refused))
 
-pub returns-in_err-n-clause-long : goal.returns-in_err-n-clause-long
-returns-in_err-n-clause-long g c = λ none.
+pub returns-in_err-count-clause-long : goal.returns-in_err-count-clause-long
+returns-in_err-count-clause-long g c = λ none.
     let p = err_from_is_err_and c.from_residual.result c.from_residual.ensures.1 in
-    rw (p.1, p.2) (refuses_length _ _ c.in_err-n.ensures.refused)
+    rw (p.1, p.2) (refuses_length _ _ c.in_err-count.ensures.refused)
 
 pub returns-in_err-fits_u32-clause-long : goal.returns-in_err-fits_u32-clause-long
 returns-in_err-fits_u32-clause-long g c = λ none.
@@ -89,10 +89,10 @@ pub returns-clause-marker : goal.returns-clause-marker
 returns-clause-marker g c = marker_last g.W.Sink _ _ _ _ c.put_head.result c.in_ok-put_variant.ensures.writes
     c.put_head.ensures.marker
 
-pub returns-in_err-n-clause-error : goal.returns-in_err-n-clause-error
-returns-in_err-n-clause-error g c =
+pub returns-in_err-count-clause-error : goal.returns-in_err-count-clause-error
+returns-in_err-count-clause-error g c =
     let p = err_from_is_err_and c.from_residual.result c.from_residual.ensures.1 in
-    rw (p.1, p.2) (of_long _ c.in_err-n.ensures.refused (long_after (length c.args.variant.now) (c.args.len ∷ []) (long_first c.args.len [] c.in_err-n.ensures.long)))
+    rw (p.1, p.2) (of_long _ c.in_err-count.ensures.refused (long_after (length c.args.variant.now) (c.args.len ∷ []) (long_first c.args.len [] c.in_err-count.ensures.long)))
 
 pub returns-in_err-fits_u32-clause-error : goal.returns-in_err-fits_u32-clause-error
 returns-in_err-fits_u32-clause-error g c =

@@ -1,6 +1,6 @@
 use Rattle.std.proofs.Common.{rules}
 use Rattle.rmp_decode.proofs.ExtHeads.{fixed_starts, ext_1, ext_2, ext_4, ext_8, ext_16}
-use Rattle.rmp_decode.proofs.deserializer.peek.exts.fixed_ext_at.Goals as goal
+use Rattle.rmp_decode.proofs.deserializer.peek.table.fixed_ext_at.Goals as goal
 
 pub returns-in-212 : goal.returns-in-212
 returns-in-212 c = fixed_starts 212 1 ext_1 c.args.front.now _ c.in-len1-up.len_at_least c.in-212.is c.in-len1-up-following.len_at_least (λ i. search rules)

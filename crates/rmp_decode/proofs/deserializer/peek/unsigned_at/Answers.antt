@@ -1,7 +1,7 @@
 use Rattle.std.proofs.Common.{◌∙◌, rules}
 use Rattle.rmp_decode.proofs.BufferedHeads.{small_starts, starts_8, starts_16, starts_32, starts_64}
 use Rattle.rmp_decode.proofs.HeadKinds.{opened_starts, opens_8, opens_16, opens_32, opens_64}
-use Rattle.rmp_decode.proofs.deserializer.peek.widths.unsigned_at.Goals as goal
+use Rattle.rmp_decode.proofs.deserializer.peek.unsigned_at.Goals as goal
 
 pub returns-in-0-to-127-clause-any : goal.returns-in-0-to-127-clause-any
 returns-in-0-to-127-clause-any c = small_starts _ c.args.front.now _ c.in-len1-up.len_at_least (search rules) c.from-in-0-to-127.ensures
