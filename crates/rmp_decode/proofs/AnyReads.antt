@@ -62,6 +62,17 @@ list_head : (w b : Bool) (n : ℕ) (x : List ℕ) → b ≡ false → heads_of w
 list_head w true n x e i = absurd (cc)
 list_head w false n x e i = i
 
+-- ---- content
+
+module _ {R C V : Type 0} {make : List ℕ → Msg} {heads : ℕ → Head} (content : Content make heads) (g : Ghosts R) (reads : Msg → V
+    → Type 0) (old last : Deserializer R C) (a : RawAccess R C) (o : OpensRaw g (heads a.len) old a) where
+  pub raw_read : (s : List ℕ) (v : V) → TakesContent g a.len a.de.now last s → reads (make s) v → Lawful g reads old last (Ok v)
+  raw_read s v t r = content_read content g reads old a.de.now last (o.marker, heads a.len) o.begun s a.len v refl t.long t.are_bytes t.taken t.kept t.ready
+      t.sound t.stays r
+
+  pub raw_short : (e : Error) → FailsContent g a.len a.de.now last e → Lawful g reads old last (Err e)
+  raw_short e t = content_short content g reads old a.de.now last (o.marker, heads a.len) o.begun a.len e refl t.err (t.failed ∙ o.begun.failed) t.stays
+
 -- ---- texts
 
 -- the bytes that are there aren't UTF-8

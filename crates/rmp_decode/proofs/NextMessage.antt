@@ -1,47 +1,17 @@
 -- The next message of a source, or its end.
-use Rattle.std.proofs.Common.{
-  ◌≡◌,
-  ◌≢◌,
-  ◌∙◌,
-  ◌<◌,
-  ◌≤◌,
-  max,
-  sym,
-  ap,
-  subst,
-  refl,
-  ℕ,
-  arith,
-  List,
-  [],
-  ◌∷◌,
-  ◌++◌,
-  length,
-  take,
-  slice_index_or,
-  append_assoc,
-  append-nil,
-  Option,
-  None,
-  Some,
-  Bool,
-  false,
-  Result,
-  Ok,
-  Err,
-}
+use Rattle.std.proofs.Common.{◌≡◌, ◌≢◌, ◌∙◌, ◌<◌, ◌≤◌, max, sym, ap, subst, refl, ℕ, arith, List, [], ◌∷◌, ◌++◌, length, take, slice_index_or, append_assoc, append-nil, Option, None, Some, Bool, false, Result, Ok, Err, }
 use Rattle.std.specs.Iterator.{IsFinite, MakesProgress, count_unless, size}
 use Rattle.std.specs.Io.KnownBytes.{Consumes, prepend_known}
 use Rattle.std.proofs.KnownBytes.{Keeps-refl}
 use Rattle.std.proofs.lemmas.List.{length-append}
 use Rattle.rmp_wire.specs.declared.source.Source.{Ghosts}
 use Rattle.rmp_wire.specs.Canonical.{SpellsAs}
-use Rattle.rmp_wire.specs.Msg.{Msg, depth}
+use Rattle.rmp_wire.specs.Msg.{Msg}
 use Rattle.rmp_wire.specs.Sources.{IsFront}
 use Rattle.rmp_wire.specs.Spelling.{head_of}
 use Rattle.rmp_decode.specs.Law.{Lawful, Readable, Refuses}
 use Rattle.rmp_decode.specs.Messages.{messages_left, most_messages}
-use Rattle.rmp_decode.specs.Next.{FailsToFind, IsThere, SeesNext}
+use Rattle.rmp_decode.specs.Next.{IsThere, SeesNext}
 use Rattle.rmp_decode.specs.State.{faults_of, kept_bytes, left, room_of, Stays}
 use Rattle.rmp_decode.specs.declared.deserializer.Deserializer.{Deserializer}
 use Rattle.rmp_decode.specs.declared.deserializer.Kept.TheVariants.{Nothing, First, Number}
@@ -51,7 +21,7 @@ use Rattle.rmp_decode.proofs.ContentErrors.{head_byte}
 use Rattle.rmp_decode.proofs.Contents.{bare}
 use Rattle.rmp_decode.proofs.Laws.{stays_refl, stays_then}
 use Rattle.rmp_decode.proofs.NothingAccepted.{opened}
-use Rattle.rmp_decode.proofs.Options.{kept_byte, kept_consumes, kept_refuses, number_other}
+use Rattle.rmp_decode.proofs.Options.{kept_byte, kept_refuses, number_other}
 
 -- buffered bytes are left
 front_there : (front : List ℕ) (known : Option (List ℕ)) → IsFront front known → front ≢ [] → IsThere known

@@ -52,6 +52,32 @@ module _ {R C : Type 0} (g : Ghosts R) (inner : ℕ) (mid : Deserializer R C) (s
     still = record { sound = r.still.sound; marked = r.still.marked; clean = r.still.clean };
   }
 
+  -- the list is whole
+  pub seq_content : {V : Type 0} (Q : V → Msgs → Type 0) (now : SeqAccess R C) (ms : Msgs) → Run g start now ms → (v : V) → Q v ms → now.left ≡ 0
+      → TakesPart g (λ m v. OfRow (Q v) m) (max 1 inner) mid now.de.now v
+  seq_content Q now ms r v q z =
+      let l = seq_done g Q (part_reader mid inner) (within inner start) (within inner now) ms opens_within (run_within now ms r)
+      (record now.de.now { room = inner; failed = false }) v q z refl in
+      let t = l.ok in
+      record {
+        bytes = t.bytes;
+        tree = t.tree;
+        takes = t.takes;
+        goes_on = t.goes_on;
+        spelled = t.spelled;
+        fits = t.fits;
+        value = t.value;
+        stays = stays_then g mid start.de.now now.de.now o.stays r.stays;
+        faults_same = r.faults_same ∙ o.faults_same;
+        clean = r.still.clean;
+        marked = r.still.marked;
+      }
+
+  -- what refuses such a list, refuses the content
+  pub seq_content_failed : {V : Type 0} (reads : Msg → V → Type 0) (last : Deserializer R C) (e : Error) → Stays g mid last → last.failed ≡ true
+      → Lawful g reads (part_reader mid inner) (record last { room = inner }) (Err e) → FailsPart g reads (max 1 inner) mid last e
+  seq_content_failed reads last e s f l = record { stays = s; failed = f; err = λ n k. l.err refl n k }
+
 -- ---- no list is there
 
 -- the name is alone

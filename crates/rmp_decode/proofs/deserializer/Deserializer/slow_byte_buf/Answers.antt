@@ -1,14 +1,11 @@
-use Rattle.std.proofs.Common.{◌∙◌, sym, subst, refl, Result, Ok, Err, IfErr}
+use Rattle.std.proofs.Common.{◌∙◌, sym, subst, refl, Ok}
 use Rattle.rmp_wire.specs.declared.head.Head.TheVariants.{Array}
 use Rattle.rmp_decode.specs.Content.{IsBufferHead, not_raw, not_buffer}
-use Rattle.rmp_decode.specs.Kinds.{raw_head}
 use Rattle.rmp_decode.specs.Law.{ReadsHead}
-use Rattle.rmp_decode.specs.declared.error.Error.{Error}
 use Rattle.rmp_decode.proofs.BufferErrors.{list_none, list_other, list_after, raw_no_list}
-use Rattle.rmp_decode.proofs.Buffers.{raw_buffer, no_buffer}
-use Rattle.rmp_decode.proofs.ContentErrors.{content_error, content_other, content_none, content_differ, piece_ended, raw_len, buffer_wanted, no_buffer_head}
+use Rattle.rmp_decode.proofs.Buffers.{no_buffer}
+use Rattle.rmp_decode.proofs.ContentErrors.{content_other, content_none, content_differ, no_buffer_head}
 use Rattle.rmp_decode.proofs.FieldRows.{if_err}
-use Rattle.rmp_decode.proofs.Contents.{raw_content, content_read, content_short}
 use Rattle.rmp_decode.proofs.Laws.{refused_none, refused_head}
 use Rattle.rmp_decode.proofs.deserializer.Deserializer.slow_byte_buf.Goals as goal
 

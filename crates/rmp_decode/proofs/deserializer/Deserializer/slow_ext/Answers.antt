@@ -1,10 +1,8 @@
-use Rattle.std.proofs.Common.{◌≡◌, ◌∙◌, sym, ap, refl, rules, length}
-use Rattle.rmp_wire.specs.declared.head.Head.TheVariants.{Ext}
+use Rattle.std.proofs.Common.{◌∙◌, sym, ap, refl, length}
 use Rattle.rmp_wire.specs.Spelling.{head_of}
 use Rattle.rmp_wire.specs.Types.{tag_of, ext_bytes}
 use Rattle.rmp_decode.specs.Content.{IsExtHead, not_ext, never_refused}
-use Rattle.rmp_decode.proofs.Contents.{ext_content, content_read, content_short}
-use Rattle.rmp_decode.proofs.ContentErrors.{content_error, content_other, content_none, piece_ended, no_ext_head}
+use Rattle.rmp_decode.proofs.ContentErrors.{content_other, content_none, no_ext_head}
 use Rattle.rmp_decode.proofs.Laws.{refused_none, refused_head}
 use Rattle.rmp_decode.proofs.deserializer.Deserializer.slow_ext.Goals as goal
 

@@ -1,17 +1,15 @@
 use Rattle.std.proofs.lemmas.Int.{to_z-of_z}
 use mir.Syntax.{w128}
-use Rattle.std.proofs.Common.{Ok, rules, ◌∙◌, ap, sym, refl, subst, length, Some, Option, ℕ, inl, inr}
+use Rattle.std.proofs.Common.{Ok, rules, ◌∙◌, ap, sym, refl, subst, length, inl, inr}
 use Rattle.rmp_wire.specs.Msg.{whole}
 use Rattle.rmp_wire.specs.Canonical.{heads_of}
 use Rattle.rmp_decode.specs.Content.{not_raw, never_refused}
-use Rattle.rmp_decode.specs.Kinds.{raw_head}
 use Rattle.rmp_decode.specs.Law.{ReadsHead}
 use Rattle.rmp_decode.specs.Names.{bytes_of, place_below, IsNameHead}
-use Rattle.rmp_decode.proofs.ContentErrors.{content_error, content_other, content_none, piece_ended, raw_len}
-use Rattle.rmp_decode.proofs.Contents.{raw_content, content_read, content_short}
+use Rattle.rmp_decode.proofs.ContentErrors.{content_other, content_none}
 use Rattle.rmp_decode.proofs.FieldRows.{if_err}
 use Rattle.rmp_decode.proofs.Laws.{refused_none, refused_head, refused_leaf, answered_leaf}
-use Rattle.rmp_decode.proofs.Names.{name_of_raw, is_key_of, below_length, not_below, name_wanted, no_name_head, no_negative_head}
+use Rattle.rmp_decode.proofs.Names.{is_key_of, below_length, not_below, no_name_head, no_negative_head}
 use Rattle.rmp_decode.proofs.deserializer.Deserializer.slow_identifier.Goals as goal
 
 pub returns-in-None-as_whole-clause-law : goal.returns-in-None-as_whole-clause-law
