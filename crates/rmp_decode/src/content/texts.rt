@@ -93,9 +93,9 @@ impl<R: Source, C: SerializerConfig> Deserializer<R, C> {
         ensures exact { IfErr result (RefusesAfterHead R.Source IsRawHead not_raw never_refused (raw_head is_text len) self.old self.new) }
     {
         match owned(self.alloc, &mut self.reader, len as usize) {
-            Ok(bytes) => {
+            Ok(payload) => {
                 self.failed = false;
-                Ok((is_text, bytes))
+                Ok((is_text, payload))
             }
             Err(e) => Err(e),
         }

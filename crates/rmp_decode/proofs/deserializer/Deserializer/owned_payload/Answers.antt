@@ -8,7 +8,7 @@ use Rattle.rmp_decode.proofs.deserializer.Deserializer.owned_payload.Goals as go
 pub returns-in-Ok-clause-law : goal.returns-in-Ok-clause-law
 returns-in-Ok-clause-law g c = λ old m h.
     let o = c.in-Ok.ensures.ok in
-    content_read (raw_content c.args.is_text) g.R.Source _ old c.args.self.now _ (m, _) h c.in-Ok.bytes.items c.args.len _ refl o.0 o.1 o.2 refl refl
+    content_read (raw_content c.args.is_text) g.R.Source _ old c.args.self.now _ (m, _) h c.in-Ok.payload.items c.args.len _ refl o.0 o.1 o.2 refl refl
     c.in-Ok.ensures.sound (record { config = refl; room = refl; limit = refl; strict = refl; place = c.in-Ok.ensures.place }) refl
 
 pub returns-in-Err-clause-law : goal.returns-in-Err-clause-law
