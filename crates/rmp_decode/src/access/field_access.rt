@@ -1,6 +1,6 @@
 //! The fields of structs, one after another.
-ghost use Rattle.std.specs.Prelude.{◌≡◌, ◌≢◌, ◌-◌, ◌<◌, ◌≤◌, ◌^◌, Some, None, true};
-ghost use Rattle.std.specs.Prelude.{false, length, IfSome, IfNone, IfOk, IfErr, OnOk, OnErr, MatchResult, max};
+ghost use Rattle.std.specs.Prelude.{◌≡◌, ◌≢◌, ◌-◌, ◌<◌, ◌≤◌, ◌^◌, Some, None, true, false, length, IfSome, IfNone, IfOk, IfErr, OnOk, OnErr};
+ghost use Rattle.std.specs.Prelude.{MatchResult, max};
 ghost use Rattle.std.specs.Int.{bit_at};
 ghost use Rattle.std.specs.Io.KnownBytes.{IsAtEnd};
 ghost use Rattle.rmp_decode.specs.Exact.{IsDataEnd, RefusesBy};
@@ -8,11 +8,10 @@ ghost use Rattle.rmp_decode.specs.Variants.{is_bare, variant_lender, content_roo
 ghost use Rattle.rmp_decode.specs.With.{OffersPart};
 ghost use Rattle.std.specs.Borrow.{sem, RestsIfErr};
 ghost use Rattle.rmp_decode.specs.contracts.deserializer.Deserializer.{the_row};
-ghost use Rattle.rmp_decode.specs.FieldAccess.{IsStructOpen, SameStruct, AtField, AtFieldValue};
-ghost use Rattle.rmp_decode.specs.FieldAccess.{TakesPlace, TakesPlaceAs, NoPlace, FailsPlace, NoName};
-ghost use Rattle.rmp_decode.specs.FieldAccess.{TakesName, FailsName, EndsEarly, Meets, TakesField, FailsField, ValueRefused, FailsKey, FailsToPass, is_of_map};
-ghost use Rattle.rmp_decode.specs.FieldAccess.{fields_left, fields_in, owes_field, is_struct_sound, struct_lender};
-ghost use Rattle.rmp_decode.specs.FieldAccess.{names_in, as_map, unsound, OpensStructIn, FailsToOpenStructOf};
+ghost use Rattle.rmp_decode.specs.FieldAccess.{IsStructOpen, SameStruct, AtField, AtFieldValue, TakesPlace, TakesPlaceAs, NoPlace, FailsPlace};
+ghost use Rattle.rmp_decode.specs.FieldAccess.{NoName, TakesName, FailsName, EndsEarly, Meets, TakesField, FailsField, ValueRefused, FailsKey};
+ghost use Rattle.rmp_decode.specs.FieldAccess.{FailsToPass, is_of_map, fields_left, fields_in, owes_field, is_struct_sound, struct_lender, names_in};
+ghost use Rattle.rmp_decode.specs.FieldAccess.{as_map, unsound, OpensStructIn, FailsToOpenStructOf, CanReadField, FieldRead};
 ghost use Rattle.rmp_decode.specs.Fields.{HasFields, not_fields, fields_head};
 ghost use Rattle.rmp_decode.specs.Law.{IsFailedBefore, Explains, TakesHead};
 ghost use Rattle.rmp_decode.specs.Maps.{IsMapOpen, AtKey, TakesKey, TakesValue};
@@ -23,7 +22,6 @@ ghost use Rattle.rmp_decode.specs.declared.deserializer.Kept.TheVariants.{Nothin
 ghost use Rattle.rmp_decode.specs.Parts.{FailsPart};
 
 pub(crate) mod recursive;
-mod with;
 
 use crate::access::fields::Passed;
 use crate::access::seq::inner_room;
@@ -334,6 +332,45 @@ impl<'x, R: Source, C: SerializerConfig> FieldAccess<'x, R, C> {
                 self.owes = false;
                 self.sound = true;
                 Ok(value)
+            }
+            Err(e) => Err(e),
+        }
+    }
+
+    /// Reads the value of the field whose place was answered last, by `f`. `f` is given a reader that is ready,
+    /// before the value. An `f` that answers `Ok` has to have read the value and nothing else.
+    ///
+    /// # Errors
+    /// Those of `f`, and `Uncategorized("failed before")` where `f` answered `Ok` and left its reader failed. Where the
+    /// bytes of a list of numbers end too soon, `InvalidDataRead`, and `f` isn't called.
+    #[inline(never)]
+    pub fn next_value_with<X: Drop, F>(&mut self, f: F) -> Result<X, Error>
+    where
+        F: FnOnce(&mut Deserializer<R, C>) -> Result<X, Error>,
+        requires at_value { AtFieldValue self.old }
+        requires part { is_struct_sound self.old ≡ true → CanReadField R.Source F.FnOnce f self.old }
+        ensures same_reference { self.new.de.ghost_name ≡ self.old.de.ghost_name }
+        ensures same { SameStruct self.old self.new }
+        ensures before { is_struct_sound self.old ≡ false → MatchResult result (λ _. ⊥) IsFailedBefore × (self.new ≡ self.old) }
+        ensures part { IsStructOpen self.old → FieldRead R.Source F.FnOnce f self.old self.new result }
+        ensures owes { OnOk result (owes_field self.new ≡ false) }
+        ensures left { fields_left self.new ≡ fields_left self.old }
+        ensures still { OnOk result (is_struct_sound self.new ≡ true) }
+        ensures failed { OnErr result (is_struct_sound self.new ≡ false) }
+        ensures marked { is_failed (struct_lender self.old) ≡ true → is_failed (struct_lender self.new) ≡ true }
+    {
+        if !self.sound {
+            return Err(Error::Uncategorized(Text::FailedBefore));
+        }
+        match self.offer() {
+            Ok(()) => {}
+            Err(e) => return Err(e),
+        }
+        match self.de.part_with(self.inner, f) {
+            Ok(part) => {
+                self.owes = false;
+                self.sound = true;
+                Ok(part)
             }
             Err(e) => Err(e),
         }
