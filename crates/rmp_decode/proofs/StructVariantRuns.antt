@@ -1,10 +1,10 @@
 -- The fields of a variant's content that are read one by one: the steps are those of a struct's, and the exits say what the variant's do.
-use Rattle.std.proofs.Common.{◌≡◌, ◌∙◌, refl, ap, inl, inr, ℕ, zero, suc, ◌<◌, Bool, true, false, List, Option, None, Some, Ok, Err}
+use Rattle.std.proofs.Common.{◌≡◌, ◌∙◌, refl, ap, inl, inr, ℕ, zero, suc, ◌<◌, Bool, true, false, List, Option, Some, Ok, Err}
 use Rattle.rmp_wire.specs.declared.source.Source.{Ghosts}
 use Rattle.rmp_wire.specs.Msg.{Msg, Msgs}
 use Rattle.rmp_decode.specs.FieldAccess.{IsStructOpen, SameStruct, OpensStructIn, struct_within, PassesPair, Passes, TakesName, TakesPlaceAs, TakesPlace}
 use Rattle.rmp_decode.specs.FieldAccess.{FailsKey, FailsAfter, FailsPlaceAs, FailsPlace, FailsFieldAs, FailsField, as_map}
-use Rattle.rmp_decode.specs.Fields.{OfFields, HasFields, at, blank, given_all}
+use Rattle.rmp_decode.specs.Fields.{OfFields, at, blank, given_all}
 use Rattle.rmp_decode.specs.Law.{Readable, Lawful}
 use Rattle.rmp_decode.specs.Maps.{TakesKey, TakesValue}
 use Rattle.rmp_decode.specs.Parts.{TakesPart, FailsPart}
@@ -20,7 +20,6 @@ use Rattle.rmp_decode.specs.declared.access.variant.Variant.{Variant}
 use Rattle.rmp_decode.specs.declared.error.Error.{Error}
 use Rattle.rmp_decode.proofs.StructRuns.{MetSo, StructRun, AllMet, StructMet, struct_start, struct_done, struct_missing, struct_over, struct_place}
 use Rattle.rmp_decode.proofs.StructRuns.{struct_value}
-use Rattle.rmp_decode.proofs.Structs.{has_fields}
 use Rattle.rmp_decode.proofs.Variants.{content_by, content_not_by}
 
 -- ---- the same steps of a reader that has another room

@@ -1,9 +1,8 @@
 use Rattle.std.proofs.Common.{◌∙◌, sym, ap, refl, length}
 use Rattle.rmp_wire.specs.Spelling.{head_of}
 use Rattle.rmp_decode.specs.Content.{IsRawHead, not_raw, never_refused}
-use Rattle.rmp_decode.specs.Kinds.{raw_head}
-use Rattle.rmp_decode.proofs.ContentErrors.{content_error, content_other, content_none, piece_ended, raw_len, raw_wanted, no_raw_head}
-use Rattle.rmp_decode.proofs.Contents.{raw_content, content_read, content_short}
+use Rattle.rmp_decode.proofs.ContentErrors.{content_other, content_none, no_raw_head}
+use Rattle.rmp_decode.proofs.Contents.{raw_content}
 use Rattle.rmp_decode.proofs.Laws.{refused_none, refused_head}
 use Rattle.rmp_decode.proofs.deserializer.Deserializer.owned_raw.Goals as goal
 
