@@ -31,7 +31,6 @@ use Rattle.rmp_encode.specs.declared.error.Error.TheVariants.{InvalidValueWrite,
 use Rattle.rmp_encode.specs.Errors.{IsTooLong}
 use Rattle.rmp_wire.specs.declared.error.ValueWriteError.TheVariants as wire
 use Rattle.rmp_wire.specs.declared.sink.Sink.{Ghosts}
-use Rattle.rmp_encode.specs.declared.settings.Settings.{Settings}
 use Rattle.rmp_encode.specs.Sizes.{one_of}
 use Rattle.rmp_encode.specs.Writes.{AppendsSome, AppendsPart, FailsBy, HasBegun, WritesPart}
 

@@ -38,7 +38,6 @@ use Rattle.rmp_wire.specs.declared.config.BytesMode.TheVariants.{ForceAll}
 use Rattle.rmp_wire.specs.declared.sink.Sink.{Ghosts}
 use Rattle.rmp_encode.specs.declared.serializer.Serializer.{Serializer}
 use Rattle.rmp_encode.specs.declared.error.Error.{Error}
-use Rattle.rmp_encode.specs.declared.error.Error.TheVariants.{OutOfMemory}
 use Rattle.rmp_encode.specs.Data.{Data, lower, packs_tuple}
 use Rattle.rmp_encode.specs.Trees.{Has, HasTree, a_byte, array_head, byte_of, forces_all, number_head, sequence_of, spell, spelling, tree_of, tuple_of}
 use Rattle.rmp_wire.specs.Msg.{Msg, bin}
@@ -49,7 +48,7 @@ use Rattle.rmp_encode.specs.Writes.{FirstAtMarker, Keeps, NoneAtMarker, WritesPa
 use Rattle.rmp_encode.specs.Going.{head_at, IsMadeOf, IsWriting}
 use Rattle.rmp_encode.specs.Errors.{IsTooLong}
 use Rattle.rmp_encode.specs.Tuples.{items_kept, OpenTuple, IsProbing, IsTupling, IsTuplingAt, kept_at, kept_of}
-use Rattle.rmp_encode.proofs.Parts.{or_second, part_any, part_as, part_nothing, part_refused, part_takes}
+use Rattle.rmp_encode.proofs.Parts.{or_second, part_any, part_as, part_refused, part_takes}
 use Rattle.rmp_encode.proofs.Lists.{made_list}
 use Rattle.rmp_encode.proofs.Going.{all_append, made_as, made_of, made_sure, made_ended, made_stopped, goes}
 use Rattle.rmp_encode.proofs.Numbers.{marker_after, marker_first}
