@@ -9,12 +9,14 @@ pub mod Buffers
 pub mod ByteParts
 pub mod Characters
 pub mod ContentErrors
+pub mod Consumed
 pub mod Contents
 pub mod Defaults
 pub mod ElementWiths
 pub mod EnumRefusals
 pub mod Exactness
 pub mod ExtHeads
+pub mod Faults
 pub mod FieldAccesses
 pub mod FieldRefusals
 pub mod FieldRows

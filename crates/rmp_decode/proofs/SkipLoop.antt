@@ -44,7 +44,7 @@ use Rattle.rmp_wire.specs.declared.source.Source.{Ghosts}
 use Rattle.rmp_wire.specs.Canonical.{heads_of, SpellsAs}
 use Rattle.rmp_wire.specs.Msg.{Msgs, no_items, item, count, depth_all}
 use Rattle.rmp_wire.specs.Sources.{IsShort}
-use Rattle.rmp_decode.specs.Exact.{IsDataEnd, EndsExactly}
+use Rattle.rmp_decode.specs.Exact.{IsDataEnd, EndsExactly, TellsFault}
 use Rattle.rmp_decode.specs.Kinds.{content_len}
 use Rattle.rmp_decode.specs.Law.{Begins, Refuses, Readable, NoMessage, Explains, ReadsHead}
 use Rattle.rmp_decode.specs.LeafTable.{PassesLeaves, SkipsLeaves}
@@ -58,6 +58,7 @@ use Rattle.rmp_decode.specs.declared.deserializer.Kept.TheVariants.{Nothing}
 use Rattle.rmp_decode.specs.declared.error.Error.{Error}
 use Rattle.rmp_decode.specs.declared.error.Error.TheVariants as errors
 use Rattle.rmp_decode.proofs.Contents.{bare}
+use Rattle.rmp_decode.proofs.Faults.{tells_after}
 use Rattle.rmp_decode.proofs.Laws.{stays_then, stays_refl}
 use Rattle.rmp_decode.proofs.WantedNext.{leads_none, leads_then, leads_message, leads_in, leads_out, no_row}
 use Rattle.rmp_decode.proofs.NothingAccepted.{content_of, refuses_short, refuses_none}
@@ -315,6 +316,11 @@ module _ {R C : Type 0} (g : Ghosts R) (lends : Bool) (all : ℕ) (start now : D
       → (faults_of g new ≡ faults_of g now → RefusedFor start.strict (UnpassedFor lends start.strict) any_row room e (left g now))
       → RefusesRowFirst g (UnpassedFor lends) any_row (room_of start - 1) all start new e
   wants_wrong new e s r = λ k. first_wrong s e (left g start) (left g now) w.takes (r (k ∙ sym w.sound))
+
+  -- a fault is told that comes after this
+  pub wants_tells : (ready new : Deserializer R C) (e : Error) → ready ≡ record now { failed = false } → TellsFault (faults_of g ready) (faults_of g new) e
+      → TellsFault (faults_of g start) (faults_of g new) e
+  wants_tells ready new e same t = tells_after _ _ _ e (ap (faults_of g) same ∙ w.sound) t
 
   -- ---- a head was taken
 

@@ -117,12 +117,16 @@ pub record FailsContent {R C : Type 0} (g : Ghosts R) (len : ℕ) (old new : Des
   pub stays : Stays g old new
   pub err : Explains e (faults_of g old) (faults_of g new) (IsShort len (g.ahead old.reader))
   pub exact : Explains e (faults_of g old) (faults_of g new) (IsDataEnd e)
+  pub fault : TellsFault (faults_of g old) (faults_of g new) e
 
 -- the source doesn't lend, or too little of it was there
 pub record FailsToLend {R C : Type 0} (g : Ghosts R) (len : ℕ) (old new : Deserializer R C) (e : Error) : Type 0 where
   pub failed : new.failed ≡ old.failed
   pub stays : Stays g old new
   pub exact : (e ≡ Syntax InvalidType) ⊎ FailsContent g len old new e
+  pub fault : TellsFault (faults_of g old) (faults_of g new) e
+  -- where the source doesn't lend it was consumed, and nothing that follows it
+  pub taken : e ≡ Syntax InvalidType → Skips len (g.ahead old.reader) (g.ahead new.reader)
 
 -- where the bytes are told, they don't begin with so many that are UTF-8
 abbrev pub StartsWithNoText : ℕ → Option (List ℕ) → Type 0
@@ -134,5 +138,6 @@ pub record FailsText {R C : Type 0} (g : Ghosts R) (len : ℕ) (old new : Deseri
   pub stays : Stays g old new
   pub err : Explains e (faults_of g old) (faults_of g new) (StartsWithNoText len (g.ahead old.reader))
   pub exact : Explains e (faults_of g old) (faults_of g new) (RefusesPiece len (not_string (head.Text len)) (g.ahead old.reader) e)
+  pub fault : TellsFault (faults_of g old) (faults_of g new) e
   -- where it isn't UTF-8 it was consumed, and nothing that follows it
   pub taken : Explains e (faults_of g old) (faults_of g new) (IsUtf8Error e → Skips len (g.ahead old.reader) (g.ahead new.reader))

@@ -12,6 +12,7 @@ use Rattle.rmp_wire.specs.Msg.{Msg, nil, truth, whole, float32, float64, text, b
 use Rattle.rmp_wire.specs.Msg.{extension, Msgs, no_items, item, count, items_of, Pairs, no_pairs, pair}
 use Rattle.rmp_wire.specs.Msg.{map as mapping}
 use Rattle.rmp_decode.specs.Content.{RefusesContent, not_raw, never_refused}
+use Rattle.rmp_decode.specs.Exact.{TellsFault}
 use Rattle.rmp_decode.specs.Opening.{FailsToOpenAs, TakesOpening}
 use Rattle.rmp_decode.specs.Law.{Readable}
 use Rattle.rmp_decode.specs.Maps.{TakesValue, OpensMap}
@@ -205,10 +206,11 @@ name_refusal s before after known e = RefusesContent s.strict IsNameHead not_raw
 abbrev pub BeginsSome : Bool → Option (List ℕ) → Type 0
 BeginsSome strict known = IfSome known (OpensSome strict)
 
--- How a message is refused that is passed over. Where the source lends, only a list or a map that isn't empty takes memory.
+-- How a message is refused that is passed over. A fault of the source is told; where it lends, only a list or a map that isn't empty takes memory.
 abbrev pub pass_refusal : Setting → Refusals
 pass_refusal s before after known e = (after ≡ before → RefusedFor s.strict (UnpassedFor s.lends s.strict) any_row s.room e known)
     × (s.lends ≡ true → e ≡ OutOfMemory → BeginsSome s.strict known)
+    × TellsFault before after e
 
 -- the reference to the reader
 abbrev pub parts_name : {R C : Type 0} → FieldParts R C → GName

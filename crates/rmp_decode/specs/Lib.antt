@@ -3,6 +3,7 @@ pub mod Allowed
 pub mod Anys
 pub mod Arrays
 pub mod Buffers
+pub mod Consumed
 pub mod Content
 pub mod Defaults
 pub mod EnumRefusing

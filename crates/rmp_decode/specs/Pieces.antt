@@ -9,6 +9,7 @@ use Rattle.rmp_wire.specs.declared.head.Head.TheVariants.{Text}
 use Rattle.rmp_wire.specs.declared.source.Source.{Ghosts}
 use Rattle.rmp_wire.specs.declared.slice.SourceFault.{SourceFault}
 use Rattle.rmp_wire.specs.declared.slice.SourceFault.TheVariants.{Io, Memory}
+use Rattle.rmp_decode.specs.Consumed.{PieceLeaves}
 use Rattle.rmp_decode.specs.Content.{not_char}
 use Rattle.rmp_decode.specs.Exact.{IsDataEnd, IsReadFault, TellsFault}
 use Rattle.rmp_decode.specs.Law.{Explains}
@@ -40,5 +41,6 @@ pub record ReadsChar {R : Type 0} (g : Ghosts R) (lends : Bool) (len : ℕ) (old
   pub err : IfErr result (λ e. Explains e (g.faults old) (g.faults new) (StartsWithNoChar len (g.ahead old)))
   pub exact : IfErr result (λ e. Explains e (g.faults old) (g.faults new) (RefusesPiece len (not_char (Text len)) (g.ahead old) e))
   pub fault : IfErr result (TellsFault (g.faults old) (g.faults new))
+  pub taken : IfErr result (PieceLeaves len (g.ahead old) (g.ahead new) (g.faults old) (g.faults new))
   pub memory : lends ≡ true → IfErr result (λ e. e ≢ OutOfMemory)
   pub place : g.place new ≡ g.place old

@@ -1,5 +1,6 @@
 //! Slow reads, out of line and on a moved reader.
 ghost use Rattle.std.specs.Prelude.{◌≡◌, ◌≢◌, Bool, true, IfErr};
+ghost use Rattle.rmp_decode.specs.Consumed.{RefusalLeaves};
 ghost use Rattle.rmp_decode.specs.Content.{RefusesLeaf};
 ghost use Rattle.rmp_decode.specs.Law.{Lawful};
 
@@ -31,6 +32,7 @@ pub(crate) trait Cold<R: Source, V: Drop> {
     fn slow<C: SerializerConfig>(de: &mut Deserializer<R, C>) -> Result<V, Error>
         ensures law { Lawful R.Source reads de.old de.new result }
         ensures exact { RefusesLeaf R.Source wanted other refused de.old de.new result }
+        ensures taken { RefusalLeaves R.Source wanted de.old de.new result }
         ensures memory { lends ≡ true → IfErr result (λ e. e ≢ Error.OutOfMemory) };
 }
 
@@ -41,6 +43,7 @@ pub(crate) fn read_cold<R: Source, C: SerializerConfig, V: Drop, P: Cold<R, V>>(
 ) -> Result<V, Error>
     ensures law { Lawful R.Source P.reads de.old de.new result }
     ensures exact { RefusesLeaf R.Source P.wanted P.other P.refused de.old de.new result }
+    ensures taken { RefusalLeaves R.Source P.wanted de.old de.new result }
     ensures memory { P.lends ≡ true → IfErr result (λ e. e ≢ Error.OutOfMemory) }
 {
     replace_with(
@@ -49,6 +52,7 @@ pub(crate) fn read_cold<R: Source, C: SerializerConfig, V: Drop, P: Cold<R, V>>(
         |mut de: Deserializer<R, C>, _none: ()|
             ensures law { Lawful R.Source P.reads de result.0 result.1 }
             ensures exact { RefusesLeaf R.Source P.wanted P.other P.refused de result.0 result.1 }
+            ensures taken { RefusalLeaves R.Source P.wanted de result.0 result.1 }
             ensures memory { P.lends ≡ true → IfErr result.1 (λ e. e ≢ Error.OutOfMemory) }
         {
             let read = P::slow(&mut de);

@@ -1,9 +1,10 @@
 //! Pieces of the input: lent, copied, or looked at in place.
-ghost use Rattle.std.specs.Prelude.{◌≡◌, ◌≢◌, ◌++◌, ℕ, List, true, false, IfSome, IfOk, IfErr, OnOk, MatchOption, length, encode_utf8};
+ghost use Rattle.std.specs.Prelude.{◌≡◌, ◌≢◌, ◌++◌, ℕ, List, true, false, IfSome, IfNone, IfOk, IfErr, OnOk, MatchOption, length, encode_utf8};
 ghost use Rattle.std.specs.Char.{IsScalar};
 ghost use Rattle.std.specs.Io.KnownBytes.{Consumes};
-ghost use Rattle.rmp_wire.specs.Sources.{IsShort};
+ghost use Rattle.rmp_wire.specs.Sources.{IsShort, Skips};
 ghost use Rattle.rmp_wire.specs.Spelling.{IsBytes};
+ghost use Rattle.rmp_decode.specs.Consumed.{PieceLeaves};
 ghost use Rattle.rmp_decode.specs.Content.{not_bytes, not_char, not_lent};
 ghost use Rattle.rmp_decode.specs.Exact.{IsDataEnd, TellsFault};
 ghost use Rattle.rmp_decode.specs.Kinds.{raw_head};
@@ -35,6 +36,7 @@ pub(crate) fn lent<'de, R: ReadSlice<'de>>(
 ) -> Result<Option<&'de [u8]>, Error>
     ensures ok { IfOk result (λ o. MatchOption o (R.lends ≡ false)
         (λ s. (R.lends ≡ true) × (length s.now ≡ len) × IsBytes s.now × Consumes (R.ahead reader.old) (R.ahead reader.new) s.now)) }
+    ensures copied { IfOk result (λ o. IfNone o (Skips len (R.ahead reader.old) (R.ahead reader.new))) }
     ensures sound { OnOk result (R.faults reader.new ≡ R.faults reader.old) }
     ensures err { IfErr result (λ e. Explains e (R.faults reader.old) (R.faults reader.new) (IsShort len (R.ahead reader.old))) }
     ensures end { IfErr result (λ e. Explains e (R.faults reader.old) (R.faults reader.new) (IsDataEnd e)) }
@@ -77,6 +79,7 @@ pub(crate) fn lent_content<'de, R: ReadSlice<'de>>(
     ensures err { R.lends ≡ true → IfErr result (λ e. Explains e (R.faults reader.old) (R.faults reader.new) (IsShort len (R.ahead reader.old))) }
     ensures exact { IfErr result (λ e. Explains e (R.faults reader.old) (R.faults reader.new)
         (RefusesPiece len (not_bytes R.lends (raw_head is_text len)) (R.ahead reader.old) e)) }
+    ensures taken { IfErr result (PieceLeaves len (R.ahead reader.old) (R.ahead reader.new) (R.faults reader.old) (R.faults reader.new)) }
     ensures fault { IfErr result (TellsFault (R.faults reader.old) (R.faults reader.new)) }
     ensures memory { R.lends ≡ true → IfErr result (λ e. e ≢ Error.OutOfMemory) }
     ensures place { R.place reader.new ≡ R.place reader.old }
@@ -135,6 +138,7 @@ pub(crate) fn next_char<'de, R: ReadSlice<'de>>(reader: &mut R, len: usize) -> R
     ensures err { IfErr result (λ e. Explains e (R.faults reader.old) (R.faults reader.new) (StartsWithNoChar len (R.ahead reader.old))) }
     ensures exact { IfErr result (λ e. Explains e (R.faults reader.old) (R.faults reader.new)
         (RefusesPiece len (not_char (Head.Text len)) (R.ahead reader.old) e)) }
+    ensures taken { IfErr result (PieceLeaves len (R.ahead reader.old) (R.ahead reader.new) (R.faults reader.old) (R.faults reader.new)) }
     ensures fault { IfErr result (TellsFault (R.faults reader.old) (R.faults reader.new)) }
     ensures memory { R.lends ≡ true → IfErr result (λ e. e ≢ Error.OutOfMemory) }
     ensures place { R.place reader.new ≡ R.place reader.old }

@@ -2,6 +2,7 @@
 ghost use Rattle.std.specs.Prelude.{◌≡◌, ◌≢◌, Bool, true, false, IfErr, ◌≤◌, ◌<◌, IfOk, IfSome, IfNone};
 ghost use Rattle.std.specs.String.{string_bytes};
 ghost use Rattle.rmp_decode.specs.Buffers.{AfterHead, IsBuffer, ListAfterHead, RefusesItems, RefusesList};
+ghost use Rattle.rmp_decode.specs.Consumed.{RefusalLeaves, RestLeaves};
 ghost use Rattle.rmp_decode.specs.Content.{IsTextHead, IsRawHead, RefusesLeaf, RefusesAfterHead, not_raw, never_refused, not_char, not_string};
 ghost use Rattle.rmp_decode.specs.Content.{not_str, not_bytes, IsBufferHead, not_buffer, IsExtHead, not_ext};
 ghost use Rattle.rmp_decode.specs.Exact.{IsUtf8Error, RefusesExactly, TellsFault};
@@ -50,6 +51,7 @@ impl<R: Source, C: SerializerConfig> Deserializer<R, C> {
         R: ReadSlice<'de>,
         ensures law { Lawful R.Source (λ m p. (R.lends ≡ true) × (m ≡ raw_msg p.0 p.1.now)) self.old self.new result }
         ensures exact { RefusesLeaf R.Source IsRawHead not_raw (not_bytes R.lends) self.old self.new result }
+        ensures taken { RefusalLeaves R.Source IsRawHead self.old self.new result }
         ensures memory { R.lends ≡ true → IfErr result (λ e. e ≢ Error.OutOfMemory) }
     {
         match self.head() {
@@ -75,6 +77,7 @@ impl<R: Source, C: SerializerConfig> Deserializer<R, C> {
         R: ReadSlice<'de>,
         ensures law { Lawful R.Source (λ m p. m ≡ raw_msg p.0 p.1.items) self.old self.new result }
         ensures exact { RefusesLeaf R.Source IsRawHead not_raw never_refused self.old self.new result }
+        ensures taken { RefusalLeaves R.Source IsRawHead self.old self.new result }
     {
         match self.head() {
             Ok((_, head)) => match head.as_raw() {
@@ -91,6 +94,7 @@ impl<R: Source, C: SerializerConfig> Deserializer<R, C> {
         R: ReadSlice<'de>,
         ensures law { AfterHead R.Source (λ m p. m ≡ raw_msg p.0 p.1.items) (raw_head is_text len) self.old self.new result }
         ensures exact { IfErr result (RefusesAfterHead R.Source IsRawHead not_raw never_refused (raw_head is_text len) self.old self.new) }
+        ensures taken { IfErr result (RestLeaves R.Source IsRawHead (raw_head is_text len) self.old self.new) }
     {
         match owned(self.alloc, &mut self.reader, len as usize) {
             Ok(payload) => {
@@ -110,6 +114,7 @@ impl<R: Source, C: SerializerConfig> Deserializer<R, C> {
         R: ReadSlice<'de>,
         ensures law { Lawful R.Source (λ m p. m ≡ raw_msg p.0 p.1.items) self.old self.new result }
         ensures exact { RefusesLeaf R.Source IsRawHead not_raw never_refused self.old self.new result }
+        ensures taken { RefusalLeaves R.Source IsRawHead self.old self.new result }
     {
         match self.take(RawHead) {
             Some((is_text, len)) => self.owned_payload(is_text, len),
@@ -127,6 +132,7 @@ impl<R: Source, C: SerializerConfig> Deserializer<R, C> {
         R: ReadSlice<'de>,
         ensures law { Lawful R.Source IsChar self.old self.new result }
         ensures exact { RefusesLeaf R.Source IsTextHead not_raw not_char self.old self.new result }
+        ensures taken { RefusalLeaves R.Source IsTextHead self.old self.new result }
         ensures memory { R.lends ≡ true → IfErr result (λ e. e ≢ Error.OutOfMemory) }
     {
         match self.take(TextHead) {
@@ -142,6 +148,7 @@ impl<R: Source, C: SerializerConfig> Deserializer<R, C> {
         R: ReadSlice<'de>,
         ensures law { AfterHead R.Source IsChar (Head.Text len) self.old self.new result }
         ensures exact { IfErr result (RefusesAfterHead R.Source IsTextHead not_raw not_char (Head.Text len) self.old self.new) }
+        ensures taken { IfErr result (RestLeaves R.Source IsTextHead (Head.Text len) self.old self.new) }
         ensures memory { R.lends ≡ true → IfErr result (λ e. e ≢ Error.OutOfMemory) }
     {
         match char_taken::<R, Slices<'de>>(&mut self.reader, len) {
@@ -160,6 +167,7 @@ impl<R: Source, C: SerializerConfig> Deserializer<R, C> {
         R: ReadSlice<'de>,
         ensures law { Lawful R.Source IsChar self.old self.new result }
         ensures exact { RefusesLeaf R.Source IsTextHead not_raw not_char self.old self.new result }
+        ensures taken { RefusalLeaves R.Source IsTextHead self.old self.new result }
         ensures memory { R.lends ≡ true → IfErr result (λ e. e ≢ Error.OutOfMemory) }
     {
         match self.head() {
@@ -187,6 +195,7 @@ impl<R: Source, C: SerializerConfig> Deserializer<R, C> {
         R: ReadSlice<'de>,
         ensures law { Lawful R.Source (λ m s. (R.lends ≡ true) × IsRaw m s.now) self.old self.new result }
         ensures exact { RefusesLeaf R.Source IsRawHead not_raw (not_bytes R.lends) self.old self.new result }
+        ensures taken { RefusalLeaves R.Source IsRawHead self.old self.new result }
         ensures memory { R.lends ≡ true → IfErr result (λ e. e ≢ Error.OutOfMemory) }
     {
         match self.take(RawHead) {
@@ -202,6 +211,7 @@ impl<R: Source, C: SerializerConfig> Deserializer<R, C> {
         R: ReadSlice<'de>,
         ensures law { AfterHead R.Source (λ m s. (R.lends ≡ true) × IsRaw m s.now) (raw_head is_text len) self.old self.new result }
         ensures exact { IfErr result (RefusesAfterHead R.Source IsRawHead not_raw (not_bytes R.lends) (raw_head is_text len) self.old self.new) }
+        ensures taken { IfErr result (RestLeaves R.Source IsRawHead (raw_head is_text len) self.old self.new) }
         ensures memory { R.lends ≡ true → IfErr result (λ e. e ≢ Error.OutOfMemory) }
     {
         match lent_content(&mut self.reader, is_text, len as usize) {
@@ -220,6 +230,7 @@ impl<R: Source, C: SerializerConfig> Deserializer<R, C> {
         R: ReadSlice<'de>,
         ensures law { Lawful R.Source (λ m s. (R.lends ≡ true) × IsRaw m s.now) self.old self.new result }
         ensures exact { RefusesLeaf R.Source IsRawHead not_raw (not_bytes R.lends) self.old self.new result }
+        ensures taken { RefusalLeaves R.Source IsRawHead self.old self.new result }
         ensures memory { R.lends ≡ true → IfErr result (λ e. e ≢ Error.OutOfMemory) }
     {
         match self.lent_raw() {
@@ -239,6 +250,7 @@ impl<R: Source, C: SerializerConfig> Deserializer<R, C> {
         R: ReadSlice<'de>,
         ensures law { Lawful R.Source (λ m s. (R.lends ≡ true) × IsString m s.now) self.old self.new result }
         ensures exact { RefusesLeaf R.Source IsRawHead not_raw (not_str R.lends) self.old self.new result }
+        ensures taken { RefusalLeaves R.Source IsRawHead self.old self.new result }
         ensures memory { R.lends ≡ true → IfErr result (λ e. e ≢ Error.OutOfMemory) }
     {
         match self.take(TextHead) {
@@ -254,6 +266,7 @@ impl<R: Source, C: SerializerConfig> Deserializer<R, C> {
         R: ReadSlice<'de>,
         ensures law { AfterHead R.Source (λ m s. (R.lends ≡ true) × IsString m s.now) (Head.Text len) self.old self.new result }
         ensures exact { IfErr result (RefusesAfterHead R.Source IsRawHead not_raw (not_str R.lends) (Head.Text len) self.old self.new) }
+        ensures taken { IfErr result (RestLeaves R.Source IsRawHead (Head.Text len) self.old self.new) }
         ensures memory { R.lends ≡ true → IfErr result (λ e. e ≢ Error.OutOfMemory) }
     {
         let bytes = match lent_content(&mut self.reader, true, len as usize) {
@@ -276,6 +289,7 @@ impl<R: Source, C: SerializerConfig> Deserializer<R, C> {
         R: ReadSlice<'de>,
         ensures law { Lawful R.Source (λ m s. (R.lends ≡ true) × IsString m s.now) self.old self.new result }
         ensures exact { RefusesLeaf R.Source IsRawHead not_raw (not_str R.lends) self.old self.new result }
+        ensures taken { RefusalLeaves R.Source IsRawHead self.old self.new result }
         ensures memory { R.lends ≡ true → IfErr result (λ e. e ≢ Error.OutOfMemory) }
     {
         match self.lent_raw() {
@@ -297,6 +311,7 @@ impl<R: Source, C: SerializerConfig> Deserializer<R, C> {
         R: ReadSlice<'de>,
         ensures law { Lawful R.Source (λ m s. IsRaw m (string_bytes s)) self.old self.new result }
         ensures exact { RefusesLeaf R.Source IsRawHead not_raw not_string self.old self.new result }
+        ensures taken { RefusalLeaves R.Source IsRawHead self.old self.new result }
     {
         match self.take(TextHead) {
             Some(len) => self.string_payload(len),
@@ -311,6 +326,7 @@ impl<R: Source, C: SerializerConfig> Deserializer<R, C> {
         R: ReadSlice<'de>,
         ensures law { AfterHead R.Source (λ m s. IsRaw m (string_bytes s)) (Head.Text len) self.old self.new result }
         ensures exact { IfErr result (RefusesAfterHead R.Source IsRawHead not_raw not_string (Head.Text len) self.old self.new) }
+        ensures taken { IfErr result (RestLeaves R.Source IsRawHead (Head.Text len) self.old self.new) }
     {
         if len == 0 {
             self.failed = false;
@@ -339,6 +355,7 @@ impl<R: Source, C: SerializerConfig> Deserializer<R, C> {
         R: ReadSlice<'de>,
         ensures law { Lawful R.Source (λ m s. IsRaw m (string_bytes s)) self.old self.new result }
         ensures exact { RefusesLeaf R.Source IsRawHead not_raw not_string self.old self.new result }
+        ensures taken { RefusalLeaves R.Source IsRawHead self.old self.new result }
     {
         match self.owned_raw() {
             Ok((is_text, bytes)) => match String::from_utf8(bytes) {

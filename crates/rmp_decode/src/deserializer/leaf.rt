@@ -1,6 +1,7 @@
 //! Messages that are their head: how each is read.
 ghost use Rattle.std.specs.Prelude.{◌≡◌, ◌≢◌, pos, refl, Ok, IfErr, IfSome, IfNone};
 ghost use Rattle.rmp_wire.specs.Msg.{Msg};
+ghost use Rattle.rmp_decode.specs.Consumed.{RefusalLeaves, no_payload};
 ghost use Rattle.rmp_decode.specs.Exact.{RefusesHead};
 ghost use Rattle.rmp_decode.specs.Kinds.{not_nil, other_kind, other_number};
 ghost use Rattle.rmp_decode.specs.Law.{Lawful};
@@ -55,6 +56,7 @@ impl<R: Source, C: SerializerConfig> Deserializer<R, C> {
     pub(crate) fn read_leaf<K: Leaf>(&mut self, kind: K) -> Result<K::Value, Error>
         ensures law { Lawful R.Source (K.reads kind) self.old self.new result }
         ensures exact { RefusesHead R.Source K.refused self.old self.new result }
+        ensures taken { RefusalLeaves R.Source no_payload self.old self.new result }
         ensures memory { IfErr result (λ e. e ≢ Error.OutOfMemory) }
     {
         match self.take(kind) {
@@ -95,6 +97,7 @@ impl<R: Source, C: SerializerConfig> Deserializer<R, C> {
     fn cold_leaf<K: Leaf>(&mut self, kind: K) -> Result<K::Value, Error>
         ensures law { Lawful R.Source (K.reads kind) self.old self.new result }
         ensures exact { RefusesHead R.Source K.refused self.old self.new result }
+        ensures taken { RefusalLeaves R.Source no_payload self.old self.new result }
         ensures memory { IfErr result (λ e. e ≢ Error.OutOfMemory) }
     {
         replace_with(
@@ -103,6 +106,7 @@ impl<R: Source, C: SerializerConfig> Deserializer<R, C> {
             |mut de: Deserializer<R, C>, kind: K|
                 ensures law { Lawful R.Source (K.reads kind) de result.0 result.1 }
                 ensures exact { RefusesHead R.Source K.refused de result.0 result.1 }
+                ensures taken { RefusalLeaves R.Source no_payload de result.0 result.1 }
                 ensures memory { IfErr result.1 (λ e. e ≢ Error.OutOfMemory) }
             {
                 let read = de.slow_leaf(kind);
@@ -116,6 +120,7 @@ impl<R: Source, C: SerializerConfig> Deserializer<R, C> {
     fn slow_leaf<K: Leaf>(&mut self, kind: K) -> Result<K::Value, Error>
         ensures law { Lawful R.Source (K.reads kind) self.old self.new result }
         ensures exact { RefusesHead R.Source K.refused self.old self.new result }
+        ensures taken { RefusalLeaves R.Source no_payload self.old self.new result }
         ensures memory { IfErr result (λ e. e ≢ Error.OutOfMemory) }
     {
         match self.head() {

@@ -7,6 +7,7 @@ ghost use Rattle.rmp_decode.specs.Law.{Lawful, Explains};
 ghost use Rattle.rmp_decode.specs.Read.{IsUnsigned, IsSigned};
 ghost use Rattle.std.specs.Io.KnownBytes.{Consumes};
 ghost use Rattle.rmp_wire.specs.Sources.{IsShort, Takes};
+ghost use Rattle.rmp_decode.specs.Consumed.{RefusalLeaves, no_payload};
 ghost use Rattle.rmp_decode.specs.Content.{RefusesLeaf, never_refused};
 ghost use Rattle.rmp_decode.specs.Wide.{IsSigned128, IsUnsigned128, IsSigned128Head, IsUnsigned128Head, TakesSixteen, ReadsSixteen, not_wide};
 
@@ -160,6 +161,7 @@ impl<R: Source, C: SerializerConfig> Deserializer<R, C> {
     pub fn deserialize_bool(&mut self) -> Result<bool, Error>
         ensures law { Lawful R.Source (λ m t. m ≡ Msg.truth t) self.old self.new result }
         ensures exact { RefusesHead R.Source other_kind self.old self.new result }
+        ensures taken { RefusalLeaves R.Source no_payload self.old self.new result }
         ensures memory { IfErr result (λ e. e ≢ Error.OutOfMemory) }
     {
         self.read_leaf(TruthHead)
@@ -170,6 +172,7 @@ impl<R: Source, C: SerializerConfig> Deserializer<R, C> {
     pub fn deserialize_f32_bits(&mut self) -> Result<u32, Error>
         ensures law { Lawful R.Source (λ m n. m ≡ Msg.float32 n) self.old self.new result }
         ensures exact { RefusesHead R.Source other_kind self.old self.new result }
+        ensures taken { RefusalLeaves R.Source no_payload self.old self.new result }
         ensures memory { IfErr result (λ e. e ≢ Error.OutOfMemory) }
     {
         self.read_leaf(F32Head)
@@ -180,6 +183,7 @@ impl<R: Source, C: SerializerConfig> Deserializer<R, C> {
     pub fn deserialize_f64_bits(&mut self) -> Result<u64, Error>
         ensures law { Lawful R.Source (λ m n. m ≡ Msg.float64 n) self.old self.new result }
         ensures exact { RefusesHead R.Source other_kind self.old self.new result }
+        ensures taken { RefusalLeaves R.Source no_payload self.old self.new result }
         ensures memory { IfErr result (λ e. e ≢ Error.OutOfMemory) }
     {
         self.read_leaf(F64Head)
@@ -190,6 +194,7 @@ impl<R: Source, C: SerializerConfig> Deserializer<R, C> {
     pub fn deserialize_unit(&mut self) -> Result<(), Error>
         ensures law { Lawful R.Source (λ m _. m ≡ Msg.nil) self.old self.new result }
         ensures exact { RefusesHead R.Source not_nil self.old self.new result }
+        ensures taken { RefusalLeaves R.Source no_payload self.old self.new result }
         ensures memory { IfErr result (λ e. e ≢ Error.OutOfMemory) }
     {
         self.read_leaf(NilHead)
@@ -202,6 +207,7 @@ impl<R: Source, C: SerializerConfig> Deserializer<R, C> {
         requires most { pos 0 ≤ℤ most }
         ensures law { Lawful R.Source (IsSigned least most) self.old self.new result }
         ensures exact { RefusesHead R.Source other_number self.old self.new result }
+        ensures taken { RefusalLeaves R.Source no_payload self.old self.new result }
         ensures memory { IfErr result (λ e. e ≢ Error.OutOfMemory) }
     {
         let small = Unsigned { most: most as u64 };
@@ -219,6 +225,7 @@ impl<R: Source, C: SerializerConfig> Deserializer<R, C> {
     pub fn deserialize_u8(&mut self) -> Result<u8, Error>
         ensures law { Lawful R.Source (IsUnsigned 255) self.old self.new result }
         ensures exact { RefusesHead R.Source other_number self.old self.new result }
+        ensures taken { RefusalLeaves R.Source no_payload self.old self.new result }
         ensures memory { IfErr result (λ e. e ≢ Error.OutOfMemory) }
     {
         match self.read_leaf(Unsigned {
@@ -234,6 +241,7 @@ impl<R: Source, C: SerializerConfig> Deserializer<R, C> {
     pub fn deserialize_u16(&mut self) -> Result<u16, Error>
         ensures law { Lawful R.Source (IsUnsigned 65535) self.old self.new result }
         ensures exact { RefusesHead R.Source other_number self.old self.new result }
+        ensures taken { RefusalLeaves R.Source no_payload self.old self.new result }
         ensures memory { IfErr result (λ e. e ≢ Error.OutOfMemory) }
     {
         match self.read_leaf(Unsigned {
@@ -249,6 +257,7 @@ impl<R: Source, C: SerializerConfig> Deserializer<R, C> {
     pub fn deserialize_u32(&mut self) -> Result<u32, Error>
         ensures law { Lawful R.Source (IsUnsigned 4294967295) self.old self.new result }
         ensures exact { RefusesHead R.Source other_number self.old self.new result }
+        ensures taken { RefusalLeaves R.Source no_payload self.old self.new result }
         ensures memory { IfErr result (λ e. e ≢ Error.OutOfMemory) }
     {
         match self.read_leaf(Unsigned {
@@ -264,6 +273,7 @@ impl<R: Source, C: SerializerConfig> Deserializer<R, C> {
     pub fn deserialize_u64(&mut self) -> Result<u64, Error>
         ensures law { Lawful R.Source (IsUnsigned 18446744073709551615) self.old self.new result }
         ensures exact { RefusesHead R.Source other_number self.old self.new result }
+        ensures taken { RefusalLeaves R.Source no_payload self.old self.new result }
         ensures memory { IfErr result (λ e. e ≢ Error.OutOfMemory) }
     {
         self.read_leaf(Unsigned { most: u64::MAX })
@@ -274,6 +284,7 @@ impl<R: Source, C: SerializerConfig> Deserializer<R, C> {
     pub fn deserialize_i8(&mut self) -> Result<i8, Error>
         ensures law { Lawful R.Source (IsSigned (negsuc 127) (pos 127)) self.old self.new result }
         ensures exact { RefusesHead R.Source other_number self.old self.new result }
+        ensures taken { RefusalLeaves R.Source no_payload self.old self.new result }
         ensures memory { IfErr result (λ e. e ≢ Error.OutOfMemory) }
     {
         match self.signed(i8::MIN as i64, i8::MAX as i64) {
@@ -287,6 +298,7 @@ impl<R: Source, C: SerializerConfig> Deserializer<R, C> {
     pub fn deserialize_i16(&mut self) -> Result<i16, Error>
         ensures law { Lawful R.Source (IsSigned (negsuc 32767) (pos 32767)) self.old self.new result }
         ensures exact { RefusesHead R.Source other_number self.old self.new result }
+        ensures taken { RefusalLeaves R.Source no_payload self.old self.new result }
         ensures memory { IfErr result (λ e. e ≢ Error.OutOfMemory) }
     {
         match self.signed(i16::MIN as i64, i16::MAX as i64) {
@@ -300,6 +312,7 @@ impl<R: Source, C: SerializerConfig> Deserializer<R, C> {
     pub fn deserialize_i32(&mut self) -> Result<i32, Error>
         ensures law { Lawful R.Source (IsSigned (negsuc 2147483647) (pos 2147483647)) self.old self.new result }
         ensures exact { RefusesHead R.Source other_number self.old self.new result }
+        ensures taken { RefusalLeaves R.Source no_payload self.old self.new result }
         ensures memory { IfErr result (λ e. e ≢ Error.OutOfMemory) }
     {
         match self.signed(i32::MIN as i64, i32::MAX as i64) {
@@ -313,6 +326,7 @@ impl<R: Source, C: SerializerConfig> Deserializer<R, C> {
     pub fn deserialize_i64(&mut self) -> Result<i64, Error>
         ensures law { Lawful R.Source (IsSigned (negsuc 9223372036854775807) (pos 9223372036854775807)) self.old self.new result }
         ensures exact { RefusesHead R.Source other_number self.old self.new result }
+        ensures taken { RefusalLeaves R.Source no_payload self.old self.new result }
         ensures memory { IfErr result (λ e. e ≢ Error.OutOfMemory) }
     {
         self.signed(i64::MIN, i64::MAX)
@@ -327,6 +341,7 @@ impl<R: Source, C: SerializerConfig> Deserializer<R, C> {
     pub fn deserialize_i128(&mut self) -> Result<i128, Error>
         ensures law { Lawful R.Source IsSigned128 self.old self.new result }
         ensures exact { RefusesLeaf R.Source IsSigned128Head not_wide never_refused self.old self.new result }
+        ensures taken { RefusalLeaves R.Source IsSigned128Head self.old self.new result }
         ensures memory { IfErr result (λ e. e ≢ Error.OutOfMemory) }
     {
         match self.take(SixteenHead) {
@@ -347,6 +362,7 @@ impl<R: Source, C: SerializerConfig> Deserializer<R, C> {
     fn peek_i128(&mut self) -> Result<i128, Error>
         ensures law { Lawful R.Source IsSigned128 self.old self.new result }
         ensures exact { RefusesLeaf R.Source IsSigned128Head not_wide never_refused self.old self.new result }
+        ensures taken { RefusalLeaves R.Source IsSigned128Head self.old self.new result }
         ensures memory { IfErr result (λ e. e ≢ Error.OutOfMemory) }
     {
         match self.take(Unsigned { most: u64::MAX }) {
@@ -363,6 +379,7 @@ impl<R: Source, C: SerializerConfig> Deserializer<R, C> {
     fn peek_negative_i128(&mut self) -> Result<i128, Error>
         ensures law { Lawful R.Source IsSigned128 self.old self.new result }
         ensures exact { RefusesLeaf R.Source IsSigned128Head not_wide never_refused self.old self.new result }
+        ensures taken { RefusalLeaves R.Source IsSigned128Head self.old self.new result }
         ensures memory { IfErr result (λ e. e ≢ Error.OutOfMemory) }
     {
         match self.take(WithSign {
@@ -382,6 +399,7 @@ impl<R: Source, C: SerializerConfig> Deserializer<R, C> {
     fn slow_i128(&mut self) -> Result<i128, Error>
         ensures law { Lawful R.Source IsSigned128 self.old self.new result }
         ensures exact { RefusesLeaf R.Source IsSigned128Head not_wide never_refused self.old self.new result }
+        ensures taken { RefusalLeaves R.Source IsSigned128Head self.old self.new result }
         ensures memory { IfErr result (λ e. e ≢ Error.OutOfMemory) }
     {
         let (marker, head) = match self.head() {
@@ -413,6 +431,7 @@ impl<R: Source, C: SerializerConfig> Deserializer<R, C> {
     pub fn deserialize_u128(&mut self) -> Result<u128, Error>
         ensures law { Lawful R.Source IsUnsigned128 self.old self.new result }
         ensures exact { RefusesLeaf R.Source IsUnsigned128Head not_wide never_refused self.old self.new result }
+        ensures taken { RefusalLeaves R.Source IsUnsigned128Head self.old self.new result }
         ensures memory { IfErr result (λ e. e ≢ Error.OutOfMemory) }
     {
         match self.take(SixteenHead) {
@@ -433,6 +452,7 @@ impl<R: Source, C: SerializerConfig> Deserializer<R, C> {
     fn peek_u128(&mut self) -> Result<u128, Error>
         ensures law { Lawful R.Source IsUnsigned128 self.old self.new result }
         ensures exact { RefusesLeaf R.Source IsUnsigned128Head not_wide never_refused self.old self.new result }
+        ensures taken { RefusalLeaves R.Source IsUnsigned128Head self.old self.new result }
         ensures memory { IfErr result (λ e. e ≢ Error.OutOfMemory) }
     {
         match self.take(Unsigned { most: u64::MAX }) {
@@ -449,6 +469,7 @@ impl<R: Source, C: SerializerConfig> Deserializer<R, C> {
     fn slow_u128(&mut self) -> Result<u128, Error>
         ensures law { Lawful R.Source IsUnsigned128 self.old self.new result }
         ensures exact { RefusesLeaf R.Source IsUnsigned128Head not_wide never_refused self.old self.new result }
+        ensures taken { RefusalLeaves R.Source IsUnsigned128Head self.old self.new result }
         ensures memory { IfErr result (λ e. e ≢ Error.OutOfMemory) }
     {
         let (marker, head) = match self.head() {

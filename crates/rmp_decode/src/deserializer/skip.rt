@@ -2,13 +2,13 @@
 ghost use Rattle.std.specs.Prelude.{◌≡◌, ◌≢◌, ◌-◌, ◌<◌, true, false, Ok, Err, OnOk, IfOk, IfErr, IfSome};
 ghost use Rattle.rmp_wire.specs.Sources.{IsShort};
 ghost use Rattle.rmp_decode.specs.Ahead.{IsLeafHead, TakesPart};
-ghost use Rattle.rmp_decode.specs.Exact.{IsDataEnd};
+ghost use Rattle.rmp_decode.specs.Exact.{IsDataEnd, TellsFault};
 ghost use Rattle.rmp_decode.specs.Kinds.{content_len};
 ghost use Rattle.rmp_decode.specs.Law.{Explains, Lawful, ReadsHead};
 ghost use Rattle.rmp_decode.specs.LeafTable.{SkipsLeaves};
 ghost use Rattle.rmp_decode.specs.Refuse.{UnpassedFor, OpensSome, RefusesFirst, RefusesRowFirst};
 ghost use Rattle.rmp_decode.specs.Skip.{Passes, SkipsRow, any_tree, any_row, parts_count, parts_head};
-ghost use Rattle.rmp_decode.specs.State.{is_failed, is_strict, kept_of, left, room_of};
+ghost use Rattle.rmp_decode.specs.State.{faults_of, is_failed, is_strict, kept_of, left, room_of};
 ghost use Rattle.rmp_decode.specs.declared.deserializer.Kept.TheVariants.{Nothing};
 
 mod leaves;
@@ -52,6 +52,7 @@ fn pass_payload<R: Source, P: ReadContent<R>>(reader: &mut R, len: u32) -> Resul
     ensures sound { OnOk result (R.faults reader.new ≡ R.faults reader.old) }
     ensures err { IfErr result (λ e. Explains e (R.faults reader.old) (R.faults reader.new) (IsShort len (R.ahead reader.old))) }
     ensures end { IfErr result (λ e. Explains e (R.faults reader.old) (R.faults reader.new) (IsDataEnd e)) }
+    ensures fault { IfErr result (TellsFault (R.faults reader.old) (R.faults reader.new)) }
     ensures memory { P.lends ≡ true → IfErr result (λ e. e ≢ Error.OutOfMemory) }
     ensures place { R.place reader.new ≡ R.place reader.old }
 {
@@ -152,6 +153,7 @@ fn skip<R: Source, C: SerializerConfig, P: ReadContent<R>>(
 ) -> Result<(), Error>
     ensures law { Lawful R.Source any_tree de.old de.new result }
     ensures exact { IfErr result (RefusesFirst R.Source (UnpassedFor P.lends) any_row de.old de.new) }
+    ensures fault { IfErr result (TellsFault (faults_of R.Source de.old) (faults_of R.Source de.new)) }
     ensures memory { P.lends ≡ true → IfErr result (λ e. e ≡ Error.OutOfMemory → IfSome (left R.Source de.old) (OpensSome (is_strict de.old))) }
 {
     let part = match next_part(de) {
@@ -180,6 +182,7 @@ fn skip_parts<R: Source, C: SerializerConfig, P: ReadContent<R>>(
     ensures law { SkipsRow R.Source (room_of de.old - 1) count de.old de.new result }
     ensures deep { IfErr result (λ e. room_of de.old ≡ 1 → e ≡ Error.DepthLimitExceeded) }
     ensures exact { IfErr result (λ e. 1 < room_of de.old → RefusesRowFirst R.Source (UnpassedFor P.lends) any_row (room_of de.old - 1) count de.old de.new e) }
+    ensures fault { IfErr result (TellsFault (faults_of R.Source de.old) (faults_of R.Source de.new)) }
     ensures memory { P.lends ≡ true → IfErr result (λ e. e ≡ Error.OutOfMemory → 0 < count) }
 {
     if de.room <= 1 {
@@ -247,6 +250,8 @@ impl<R: Source, C: SerializerConfig> Deserializer<R, C> {
         ensures law { Lawful R.Source any_tree self.old self.new result }
         // An error names the first thing that is wrong.
         ensures exact { IfErr result (RefusesFirst R.Source (UnpassedFor R.lends) any_row self.old self.new) }
+        // Where the source had a fault, it says so, or that memory ran out.
+        ensures fault { IfErr result (TellsFault (faults_of R.Source self.old) (faults_of R.Source self.new)) }
         // Where the source lends, only a list or a map that isn't empty takes memory.
         ensures memory { R.lends ≡ true → IfErr result (λ e. e ≡ Error.OutOfMemory → IfSome (left R.Source self.old) (OpensSome (is_strict self.old))) }
     {

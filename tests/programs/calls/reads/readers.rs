@@ -132,6 +132,28 @@ fn what_follows_stays_in_the_source(rt: HostRuntime) {
     assert_eq!(rt; source.rest, b"\x07".as_slice());
 }
 
+// Reads a truth, a text or a character that isn't there, and says how far the cursor was read.
+fn passed(rt: &impl AllocGlobal, input: &[u8], wanted: u8) -> u64 {
+    let mut de = over_cursor(rt, input);
+    let is_read = match wanted {
+        0 => de.deserialize_bool().is_ok(),
+        1 => de.deserialize_string().is_ok(),
+        2 => de.deserialize_str().is_ok(),
+        _ => de.deserialize_char().is_ok(),
+    };
+    if is_read { 0 } else { de.position() }
+}
+
+#[test]
+fn a_refusal_leaves_what_follows(rt: HostRuntime) {
+    assert_eq!(rt; passed(&rt, &[0xcd, 0x01, 0x00, 0xc3], 0), 3);
+    assert_eq!(rt; passed(&rt, &[0xa2, 0x61, 0xff, 0xc3], 1), 3);
+    assert_eq!(rt; passed(&rt, &[0xc4, 0x01, 0xff, 0xc3], 1), 3);
+    assert_eq!(rt; passed(&rt, &[0x92, 0xc3, 0xc3], 1), 1);
+    assert_eq!(rt; passed(&rt, b"\xa2it\xc3", 2), 3);
+    assert_eq!(rt; passed(&rt, b"\xa2it\xc3", 3), 3);
+}
+
 fn queue_of(rt: &impl AllocGlobal, bytes: &[u8]) -> Result<(usize, Option<Option<bool>>), Error> {
     match dripped::<VecDeque<Option<bool>>>(rt, bytes) {
         Ok(queue) => Ok((queue.len(), queue.get(2).copied())),

@@ -1,3 +1,4 @@
+use Rattle.std.proofs.Common.{rules}
 use Rattle.rmp_decode.proofs.ContentErrors.{blamed_short, blamed_end, blamed_tells}
 use Rattle.rmp_decode.proofs.content.pieces.lent.Goals as goal
 
@@ -11,3 +12,6 @@ returns-in-Err-clause-end g c = blamed_end c.args.len c.in-Err.e _ _ (g.R.Source
 
 pub returns-in-Err-clause-fault : goal.returns-in-Err-clause-fault
 returns-in-Err-clause-fault g c = blamed_tells c.in-Err.e _ _ _ c.error_of.ensures
+
+pub returns-in-Ok-Copied-clause-copied : goal.returns-in-Ok-Copied-clause-copied
+returns-in-Ok-Copied-clause-copied g c = record { bytes = c.in-Ok-Copied.field-0-0.now; long = search rules; taken = search rules }

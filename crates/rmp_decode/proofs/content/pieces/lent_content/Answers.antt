@@ -2,6 +2,8 @@ use Rattle.std.proofs.Common.{rules, length}
 use Rattle.rmp_decode.specs.Content.{not_bytes}
 use Rattle.rmp_decode.specs.Kinds.{raw_head}
 use Rattle.rmp_decode.proofs.ContentErrors.{piece_whole, piece_blamed, blamed_tells, unlent}
+use Rattle.rmp_decode.proofs.Consumed.{piece_taken, piece_short}
+use Rattle.rmp_decode.proofs.ContentErrors.{blamed_short}
 use Rattle.rmp_decode.proofs.content.pieces.lent_content.Goals as goal
 
 pub returns-in-Ok-Copied-clause-exact : goal.returns-in-Ok-Copied-clause-exact
@@ -19,3 +21,12 @@ returns-in-Ok-Copied-clause-fault g c = λ n. absurd (n (search rules))
 
 pub returns-in-Err-clause-fault : goal.returns-in-Err-clause-fault
 returns-in-Err-clause-fault g c = blamed_tells c.in-Err.e _ _ _ c.error_of.ensures
+
+pub returns-in-Ok-Copied-clause-taken : goal.returns-in-Ok-Copied-clause-taken
+returns-in-Ok-Copied-clause-taken g c = 
+    piece_taken c.args.len (g.R.Source.ahead c.args.reader.now) (g.R.Source.ahead c.read_slice.follows.lender-at-none) c.in-Ok-Copied.s.now _ _ _
+    (search rules) (search rules)
+
+pub returns-in-Err-clause-taken : goal.returns-in-Err-clause-taken
+returns-in-Err-clause-taken g c = piece_short c.args.len (g.R.Source.ahead c.args.reader.now) _ _ _ _
+    (blamed_short c.args.len c.in-Err.e _ _ (g.R.Source.ahead c.args.reader.now) _ (rw c.in-Err.is at c.read_slice.follows.holds-at-none).0 c.error_of.ensures)

@@ -40,6 +40,7 @@ returns-in-Err-from_utf8-clause-err g c =
       stays = record { config = refl; room = refl; limit = refl; strict = refl; place = c.append.ensures.place };
       err = λ n k. no_text c.args.len _ _ o.passes.bytes o.passes.taken o.passes.long no;
       exact = λ n k. piece_whole c.args.len (not_string (Text c.args.len)) _ _ o.passes.bytes _ o.passes.taken o.passes.long (no, tt);
+      fault = λ n. absurd (n c.in-Ok.ensures.sound);
       taken = λ n k u. record { bytes = o.passes.bytes; long = o.passes.long; taken = o.passes.taken };
     }
 
@@ -49,6 +50,7 @@ returns-in-Err-clause-err g c = record {
   stays = record { config = refl; room = refl; limit = refl; strict = refl; place = c.append.ensures.place };
   err = λ n k. short_text c.args.len _ (c.in-Err.ensures.err n k);
   exact = λ n k. piece_cut c.args.len (not_string (Text c.args.len)) _ _ (c.in-Err.ensures.err n k) (c.in-Err.ensures.end n k);
+  fault = c.in-Err.ensures.fault;
   taken = λ n k u. absurd (end_no_text _ (c.in-Err.ensures.end n k) u);
 }
 

@@ -3,6 +3,7 @@ use Rattle.rmp_decode.specs.Content.{IsRawHead, not_raw, not_bytes}
 use Rattle.rmp_decode.specs.Kinds.{raw_head}
 use Rattle.rmp_decode.proofs.ContentErrors.{content_error, raw_len, raw_wanted}
 use Rattle.rmp_decode.proofs.Contents.{raw_content, content_read, content_lent}
+use Rattle.rmp_decode.proofs.Consumed.{leaves_payload}
 use Rattle.rmp_decode.proofs.deserializer.Deserializer.bytes_payload.Goals as goal
 
 pub returns-in-Ok-clause-law : goal.returns-in-Ok-clause-law
@@ -21,3 +22,8 @@ pub returns-in-Err-clause-exact : goal.returns-in-Err-clause-exact
 returns-in-Err-clause-exact g c = λ old m h.
     content_error g.R.Source IsRawHead not_raw (not_bytes g.R.ReadSlice.lends) old c.args.self.now _ (m, raw_head c.args.is_text c.args.len) (raw_head c.args.is_text c.args.len) c.args.len _ h
     refl (raw_len c.args.is_text c.args.len) (raw_wanted c.args.is_text c.args.len) c.in-Err.ensures.exact c.in-Err.ensures.fault
+
+pub returns-in-Err-clause-taken : goal.returns-in-Err-clause-taken
+returns-in-Err-clause-taken g c = λ old m h.
+    leaves_payload g.R.Source IsRawHead old c.args.self.now _ (m, raw_head c.args.is_text c.args.len) (raw_head c.args.is_text c.args.len) c.args.len _ h refl
+    (raw_len c.args.is_text c.args.len) (raw_wanted c.args.is_text c.args.len) c.in-Err.ensures.taken

@@ -5,6 +5,7 @@ use Rattle.rmp_decode.specs.Content.{IsTextHead, not_raw, not_char}
 use Rattle.rmp_decode.proofs.ContentErrors.{content_error}
 use Rattle.rmp_decode.proofs.Contents.{text_content, content_read, content_refused}
 use Rattle.rmp_decode.proofs.Texts.{no_char}
+use Rattle.rmp_decode.proofs.Consumed.{leaves_payload}
 use Rattle.rmp_decode.proofs.deserializer.Deserializer.char_payload.Goals as goal
 
 pub returns-in-Ok-clause-law : goal.returns-in-Ok-clause-law
@@ -23,3 +24,7 @@ pub returns-in-Err-clause-exact : goal.returns-in-Err-clause-exact
 returns-in-Err-clause-exact g c = λ old m h.
     content_error g.R.Source IsTextHead not_raw not_char old c.args.self.now _ (m, Text c.args.len) (Text c.args.len) c.args.len _ h refl refl tt
     c.in-Err.ensures.exact c.in-Err.ensures.fault
+
+pub returns-in-Err-clause-taken : goal.returns-in-Err-clause-taken
+returns-in-Err-clause-taken g c = λ old m h.
+    leaves_payload g.R.Source IsTextHead old c.args.self.now _ (m, Text c.args.len) (Text c.args.len) c.args.len _ h refl refl tt c.in-Err.ensures.taken

@@ -5,6 +5,7 @@ use Rattle.rmp_decode.specs.Kinds.{raw_head}
 use Rattle.rmp_decode.proofs.ContentErrors.{content_error, content_other, content_none, raw_len, raw_wanted, no_raw_head}
 use Rattle.rmp_decode.proofs.Contents.{raw_content, content_read, content_lent}
 use Rattle.rmp_decode.proofs.Laws.{refused_none, refused_head}
+use Rattle.rmp_decode.proofs.Consumed.{leaves_head, leaves_none, leaves_payload}
 use Rattle.rmp_decode.proofs.deserializer.Deserializer.lent_raw.Goals as goal
 
 pub returns-in-Ok-lent_content-clause-law : goal.returns-in-Ok-lent_content-clause-law
@@ -40,3 +41,16 @@ returns-in-None-clause-exact g c = λ _. content_other _ IsRawHead not_raw (not_
 
 pub returns-in-Err-clause-exact : goal.returns-in-Err-clause-exact
 returns-in-Err-clause-exact g c = λ o. content_none _ IsRawHead not_raw (not_bytes g.R.ReadSlice.lends) _ _ _ _ (c.in-Err.ensures.ends o)
+
+pub returns-in-Err-lent_content-clause-taken : goal.returns-in-Err-lent_content-clause-taken
+returns-in-Err-lent_content-clause-taken g c = λ _.
+    leaves_payload g.R.Source IsRawHead c.args.self.now c.head.new.self _ (c.in-Ok.field-0-0, c.in-Ok.head) (raw_head c.in-Some.is_text c.in-Some.len)
+    c.in-Some.len _ c.in-Ok.ensures c.in-Some.ensures (raw_len c.in-Some.is_text c.in-Some.len) (raw_wanted c.in-Some.is_text c.in-Some.len)
+    c.in-Err-lent_content.ensures.taken
+
+pub returns-in-None-clause-taken : goal.returns-in-None-clause-taken
+returns-in-None-clause-taken g c = λ _. leaves_head g.R.Source IsRawHead c.args.self.now _ (c.in-Ok.field-0-0, c.in-Ok.head) _ c.in-Ok.ensures
+    (no_raw_head c.in-Ok.head c.in-None.ensures)
+
+pub returns-in-Err-clause-taken : goal.returns-in-Err-clause-taken
+returns-in-Err-clause-taken g c = λ o. leaves_none _ IsRawHead _ _ _ _ _ (c.in-Err.ensures.ends o)

@@ -3,6 +3,7 @@ use Rattle.rmp_decode.specs.Content.{IsRawHead, not_raw, never_refused}
 use Rattle.rmp_decode.specs.Kinds.{raw_head}
 use Rattle.rmp_decode.proofs.ContentErrors.{content_error, piece_ended, raw_len, raw_wanted}
 use Rattle.rmp_decode.proofs.Contents.{raw_content, content_read, content_short}
+use Rattle.rmp_decode.proofs.Consumed.{leaves_payload, piece_short}
 use Rattle.rmp_decode.proofs.deserializer.Deserializer.owned_payload.Goals as goal
 
 pub returns-in-Ok-clause-law : goal.returns-in-Ok-clause-law
@@ -21,3 +22,8 @@ returns-in-Err-clause-exact g c = λ old m h.
     content_error g.R.Source IsRawHead not_raw never_refused old c.args.self.now _ (m, raw_head c.args.is_text c.args.len)
     (raw_head c.args.is_text c.args.len) c.args.len _ h refl (raw_len c.args.is_text c.args.len) (raw_wanted c.args.is_text c.args.len)
     (piece_ended _ _ _ _ _ _ c.in-Err.ensures.err c.in-Err.ensures.end) c.in-Err.ensures.fault
+
+pub returns-in-Err-clause-taken : goal.returns-in-Err-clause-taken
+returns-in-Err-clause-taken g c = λ old m h.
+    leaves_payload g.R.Source IsRawHead old c.args.self.now _ (m, raw_head c.args.is_text c.args.len) (raw_head c.args.is_text c.args.len) c.args.len _ h refl
+    (raw_len c.args.is_text c.args.len) (raw_wanted c.args.is_text c.args.len) (piece_short c.args.len _ _ _ _ _ c.in-Err.ensures.err)

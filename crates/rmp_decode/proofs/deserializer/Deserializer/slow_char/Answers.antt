@@ -6,6 +6,7 @@ use Rattle.rmp_decode.proofs.ContentErrors.{content_error, content_other, conten
 use Rattle.rmp_decode.proofs.Contents.{text_content, content_read, content_refused, content_missed}
 use Rattle.rmp_decode.proofs.Laws.{refused_none}
 use Rattle.rmp_decode.proofs.Texts.{no_char}
+use Rattle.rmp_decode.proofs.Consumed.{leaves_head, leaves_none, leaves_payload}
 use Rattle.rmp_decode.proofs.deserializer.Deserializer.slow_char.Goals as goal
 
 pub returns-in-Ok-next_char-clause-law : goal.returns-in-Ok-next_char-clause-law
@@ -40,3 +41,15 @@ returns-in-None-clause-exact g c = λ _. content_other _ IsTextHead not_raw not_
 
 pub returns-in-Err-clause-exact : goal.returns-in-Err-clause-exact
 returns-in-Err-clause-exact g c = λ o. content_none _ IsTextHead not_raw not_char _ _ _ _ (c.in-Err.ensures.ends o)
+
+pub returns-in-Err-next_char-clause-taken : goal.returns-in-Err-next_char-clause-taken
+returns-in-Err-next_char-clause-taken g c = λ _.
+    leaves_payload g.R.Source IsTextHead c.args.self.now c.head.new.self _ (c.in-Ok.field-0-0, c.in-Ok.head) (Text c.in-Some.len) c.in-Some.len _
+    c.in-Ok.ensures c.in-Some.ensures refl tt c.in-Err-next_char.ensures.taken
+
+pub returns-in-None-clause-taken : goal.returns-in-None-clause-taken
+returns-in-None-clause-taken g c = λ _. leaves_head g.R.Source IsTextHead c.args.self.now _ (c.in-Ok.field-0-0, c.in-Ok.head) _ c.in-Ok.ensures
+    (no_text_head c.in-Ok.head c.in-None.ensures)
+
+pub returns-in-Err-clause-taken : goal.returns-in-Err-clause-taken
+returns-in-Err-clause-taken g c = λ o. leaves_none _ IsTextHead _ _ _ _ _ (c.in-Err.ensures.ends o)

@@ -4,6 +4,7 @@ use Rattle.rmp_decode.specs.Content.{IsRawHead, not_raw, not_bytes, not_str}
 use Rattle.rmp_decode.proofs.ContentErrors.{content_refused_after, content_wider, raw_wanted, not_utf8_str, str_wider}
 use Rattle.rmp_decode.proofs.Laws.{lawful_err, lawful_refuse}
 use Rattle.rmp_decode.proofs.Numbers.{raw_same}
+use Rattle.rmp_decode.proofs.Consumed.{leaves_refused}
 use Rattle.rmp_decode.proofs.deserializer.Deserializer.slow_str.Goals as goal
 
 pub returns-in-Err-from_utf8-clause-law : goal.returns-in-Err-from_utf8-clause-law
@@ -26,3 +27,10 @@ returns-in-Err-from_utf8-clause-exact g c = λ _.
 pub returns-in-Err-clause-exact : goal.returns-in-Err-clause-exact
 returns-in-Err-clause-exact g c = λ o. content_wider _ IsRawHead not_raw (not_bytes g.R.ReadSlice.lends) (not_str g.R.ReadSlice.lends) _ _ _ _
     (λ h s _ q. str_wider g.R.ReadSlice.lends h s _ q) (c.in-Err.ensures.exact o)
+
+pub returns-in-Err-from_utf8-clause-taken : goal.returns-in-Err-from_utf8-clause-taken
+returns-in-Err-from_utf8-clause-taken g c = λ _.
+    let r = c.in-Ok.ensures.law.ok in
+    rw c.refuse.ensures.failed
+    (leaves_refused g.R.Source IsRawHead c.args.self.now c.lent_raw.new.self _ (c.in-Ok.is_text, c.in-Ok.bytes) c.in-Ok.is_text c.in-Ok.bytes.now _ _ _ r
+    r.value.1 (raw_wanted c.in-Ok.is_text (length c.in-Ok.bytes.now)))

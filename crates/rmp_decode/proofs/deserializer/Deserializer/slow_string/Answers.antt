@@ -7,6 +7,7 @@ use Rattle.rmp_decode.specs.Content.{IsRawHead, not_raw, never_refused, not_stri
 use Rattle.rmp_decode.proofs.ContentErrors.{content_refused_after, content_wider, raw_wanted, not_utf8_string}
 use Rattle.rmp_decode.proofs.Laws.{lawful_err, lawful_refuse}
 use Rattle.rmp_decode.proofs.Numbers.{raw_same}
+use Rattle.rmp_decode.proofs.Consumed.{leaves_refused}
 use Rattle.rmp_decode.proofs.deserializer.Deserializer.slow_string.Goals as goal
 
 pub returns-in-Err-from_utf8-clause-law : goal.returns-in-Err-from_utf8-clause-law
@@ -29,3 +30,10 @@ returns-in-Err-from_utf8-clause-exact g c = λ _.
 
 pub returns-in-Err-clause-exact : goal.returns-in-Err-clause-exact
 returns-in-Err-clause-exact g c = λ o. content_wider _ IsRawHead not_raw never_refused not_string _ _ _ _ (λ h s _ q. absurd q) (c.in-Err.ensures.exact o)
+
+pub returns-in-Err-from_utf8-clause-taken : goal.returns-in-Err-from_utf8-clause-taken
+returns-in-Err-from_utf8-clause-taken g c = λ _.
+    let r = c.in-Ok.ensures.law.ok in
+    rw c.refuse.ensures.failed
+    (leaves_refused g.R.Source IsRawHead c.args.self.now c.owned_raw.new.self _ (c.in-Ok.is_text, c.in-Ok.bytes) c.in-Ok.is_text c.in-Ok.bytes.items _ _ _ r
+    r.value (raw_wanted c.in-Ok.is_text (length c.in-Ok.bytes.items)))

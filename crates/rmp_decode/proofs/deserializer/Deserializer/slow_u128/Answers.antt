@@ -9,6 +9,7 @@ use Rattle.rmp_decode.proofs.ContentErrors.{content_error, content_none, content
 use Rattle.rmp_decode.proofs.Laws.{refused_head, refused_none}
 use Rattle.rmp_decode.proofs.Leaves.{whole_leaf, leaf_read, leaf_refused}
 use Rattle.rmp_decode.proofs.Wide.{no_unsigned, not_negative, not_negative_head, not_unsigned_head, taken_sixteen, unsigned_as}
+use Rattle.rmp_decode.proofs.Consumed.{leaves_head, leaves_none, leaves_payload, piece_short}
 use Rattle.rmp_decode.proofs.deserializer.Deserializer.slow_u128.Goals as goal
 
 pub returns-in-Some-clause-law : goal.returns-in-Some-clause-law
@@ -56,3 +57,19 @@ returns-in-Err-clause-law g c = refused_none _ _ _ _ _ c.in-Err.ensures
 
 pub returns-in-Err-clause-exact : goal.returns-in-Err-clause-exact
 returns-in-Err-clause-exact g c = λ o. content_none _ IsUnsigned128Head not_wide never_refused _ _ _ _ (c.in-Err.ensures.ends o)
+
+pub returns-in-Err-next_sixteen-clause-taken : goal.returns-in-Err-next_sixteen-clause-taken
+returns-in-Err-next_sixteen-clause-taken g c = λ _.
+    leaves_payload g.R.Source IsUnsigned128Head c.args.self.now c.head.new.self _ c.in-Ok.next (Bin 16) 16 _ c.in-Ok.ensures
+    (c.is_sixteen.ensures.yes (search rules)) refl refl (piece_short 16 _ _ _ _ _ c.in-Err-next_sixteen.ensures.err)
+
+pub returns-then-not-is_sixteen-clause-taken : goal.returns-then-not-is_sixteen-clause-taken
+returns-then-not-is_sixteen-clause-taken g c = λ _. leaves_head g.R.Source IsUnsigned128Head c.args.self.now _ c.in-Ok.next _ c.in-Ok.ensures
+    (not_unsigned_head c.in-Ok.next.1 (c.in_default.ensures, c.is_sixteen.ensures.no (search rules)))
+
+pub returns-then-z-lt0-clause-taken : goal.returns-then-z-lt0-clause-taken
+returns-then-z-lt0-clause-taken g c = λ _. leaves_head g.R.Source IsUnsigned128Head c.args.self.now _ c.in-Ok.next _ c.in-Ok.ensures
+    (not_negative_head _ c.in-Some.z c.in-Some.ensures (λ p. omega (arith, ints)))
+
+pub returns-in-Err-clause-taken : goal.returns-in-Err-clause-taken
+returns-in-Err-clause-taken g c = λ o. leaves_none _ IsUnsigned128Head _ _ _ _ _ (c.in-Err.ensures.ends o)

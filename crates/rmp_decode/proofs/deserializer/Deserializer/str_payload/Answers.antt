@@ -6,6 +6,7 @@ use Rattle.rmp_decode.proofs.AnyReads.{no_text}
 use Rattle.rmp_decode.proofs.ContentErrors.{content_error, content_wider, piece_whole, str_wider, not_utf8_str}
 use Rattle.rmp_decode.proofs.Contents.{text_content, content_read, content_lent}
 use Rattle.rmp_decode.proofs.Strings.{utf8_refused}
+use Rattle.rmp_decode.proofs.Consumed.{leaves_payload, piece_taken}
 use Rattle.rmp_decode.proofs.deserializer.Deserializer.str_payload.Goals as goal
 
 pub returns-in-Ok-from_utf8-clause-law : goal.returns-in-Ok-from_utf8-clause-law
@@ -42,3 +43,13 @@ returns-in-Err-clause-exact g c = λ old m h.
     (λ k s _ q. str_wider g.R.ReadSlice.lends k s _ q)
     (content_error g.R.Source IsRawHead not_raw (not_bytes g.R.ReadSlice.lends) old c.args.self.now _ (m, Text c.args.len) (Text c.args.len) c.args.len _
     h refl refl tt c.in-Err.ensures.exact c.in-Err.ensures.fault)
+
+pub returns-in-Err-from_utf8-clause-taken : goal.returns-in-Err-from_utf8-clause-taken
+returns-in-Err-from_utf8-clause-taken g c = λ old m h.
+    let o = c.in-Ok.ensures.ok in
+    leaves_payload g.R.Source IsRawHead old c.args.self.now _ (m, Text c.args.len) (Text c.args.len) c.args.len _ h refl refl tt
+    (piece_taken c.args.len _ _ c.in-Ok.bytes.now _ _ _ o.2 o.0)
+
+pub returns-in-Err-clause-taken : goal.returns-in-Err-clause-taken
+returns-in-Err-clause-taken g c = λ old m h.
+    leaves_payload g.R.Source IsRawHead old c.args.self.now _ (m, Text c.args.len) (Text c.args.len) c.args.len _ h refl refl tt c.in-Err.ensures.taken

@@ -8,6 +8,8 @@ use Rattle.rmp_decode.proofs.AnyReads.{no_text}
 use Rattle.rmp_decode.proofs.ContentErrors.{content_error, piece_whole, piece_blamed, blamed_tells}
 use Rattle.rmp_decode.proofs.Contents.{text_content, content_read}
 use Rattle.rmp_decode.proofs.Strings.{string_refused, text_blamed}
+use Rattle.rmp_decode.proofs.Consumed.{leaves_payload, leaves_unsaid, piece_short, piece_taken}
+use Rattle.rmp_decode.proofs.ContentErrors.{blamed_short}
 use Rattle.rmp_decode.proofs.deserializer.Deserializer.string_payload.Goals as goal
 
 -- no byte is taken where none is
@@ -60,3 +62,19 @@ returns-in-Err-clause-exact g c = λ old m h.
     content_error g.R.Source IsRawHead not_raw not_string old c.args.self.now _ (m, Text c.args.len) (Text c.args.len) c.args.len _ h refl refl tt
     (piece_blamed c.args.len (not_string (Text c.args.len)) c.in-Err.e _ _ (g.R.Source.ahead c.args.self.now.reader) _
     (rw c.in-Err.is at c.read_slice.follows.holds-at-none).0 c.error_of.ensures) (blamed_tells c.in-Err.e _ _ _ c.error_of.ensures)
+
+pub returns-in-Err-from_str-clause-taken : goal.returns-in-Err-from_str-clause-taken
+returns-in-Err-from_str-clause-taken g c = λ old m h. leaves_unsaid _ IsRawHead _ _ _ _
+
+pub returns-in-Err-from_utf8-clause-taken : goal.returns-in-Err-from_utf8-clause-taken
+returns-in-Err-from_utf8-clause-taken g c = λ old m h.
+    leaves_payload g.R.Source IsRawHead old c.args.self.now _ (m, Text c.args.len) (Text c.args.len) c.args.len _ h refl refl tt
+    (piece_taken c.args.len (g.R.Source.ahead c.args.self.now.reader) (g.R.Source.ahead c.read_slice.follows.lender-at-none) c.as_bytes.result.now _ _ _
+    (search rules) (search rules))
+
+pub returns-in-Err-clause-taken : goal.returns-in-Err-clause-taken
+returns-in-Err-clause-taken g c = λ old m h.
+    leaves_payload g.R.Source IsRawHead old c.args.self.now _ (m, Text c.args.len) (Text c.args.len) c.args.len _ h refl refl tt
+    (piece_short c.args.len (g.R.Source.ahead c.args.self.now.reader) _ _ _ _
+    (blamed_short c.args.len c.in-Err.e _ _ (g.R.Source.ahead c.args.self.now.reader) _ (rw c.in-Err.is at c.read_slice.follows.holds-at-none).0
+    c.error_of.ensures))

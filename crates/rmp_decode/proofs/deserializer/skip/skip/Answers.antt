@@ -2,8 +2,10 @@ use Rattle.std.proofs.Common.{◌≡◌, ◌-◌, ◌<◌, subst, sym, refl, IfE
 use Rattle.rmp_wire.specs.Sources.{IsShort}
 use Rattle.rmp_decode.specs.Refuse.{UnpassedFor, RefusesRowFirst}
 use Rattle.rmp_decode.specs.Skip.{SkipsRow, Passes, any_row, parts_head}
-use Rattle.rmp_decode.specs.State.{room_of}
+use Rattle.rmp_decode.specs.Exact.{TellsFault}
+use Rattle.rmp_decode.specs.State.{faults_of, room_of}
 use Rattle.rmp_decode.specs.declared.error.Error.TheVariants as errors
+use Rattle.rmp_decode.proofs.Faults.{head_tells, tells_after}
 use Rattle.rmp_decode.proofs.Laws.{refused_none}
 use Rattle.rmp_decode.proofs.SkipErrors.{none_wrong, leaf_wrong, nest_wrong, nest_memory}
 use Rattle.rmp_decode.proofs.SkipLaws.{nest, skipped_leaf, skipped_short, parts_taken, leaf_taken}
@@ -62,3 +64,16 @@ returns-in-Err-clause-law g c = refused_none _ _ _ _ _ c.in-Err.ensures.err
 
 pub returns-in-Err-clause-exact : goal.returns-in-Err-clause-exact
 returns-in-Err-clause-exact g c = none_wrong _ _ _ _ _ c.in-Err.ensures.err
+
+pub returns-in-Parts-clause-fault : goal.returns-in-Parts-clause-fault
+returns-in-Parts-clause-fault g c =
+    let p = parts_taken g.R.Source _ _ _ c.in-Ok.ensures.ok c.in-Parts.is_map c.in-Parts.n c.in-Parts.is in
+    subst (λ z. IfErr c.skip_parts.result (TellsFault z (faults_of g.R.Source c.skip_parts.new.de))) p.begun.sound c.skip_parts.ensures.fault
+
+pub returns-in-Err-pass_payload-clause-fault : goal.returns-in-Err-pass_payload-clause-fault
+returns-in-Err-pass_payload-clause-fault g c =
+    let t = leaf_taken g.R.Source _ _ _ c.in-Ok.ensures.ok c.in-Leaf.len c.in-Leaf.is in
+    tells_after _ _ _ _ t.taken.begun.sound c.in-Err-pass_payload.ensures.fault
+
+pub returns-in-Err-clause-fault : goal.returns-in-Err-clause-fault
+returns-in-Err-clause-fault g c = head_tells g.R.Source _ _ _ c.in-Err.ensures.err

@@ -1,6 +1,7 @@
 use Rattle.std.proofs.Common.{sym, subst, refl, arith}
 use Rattle.rmp_wire.specs.Sources.{IsShort}
 use Rattle.rmp_decode.specs.Skip.{Passes}
+use Rattle.rmp_decode.specs.declared.error.Error.TheVariants.{DepthLimitExceeded}
 use Rattle.rmp_decode.proofs.SkipLoop.{
   wants_out,
   wants_none,
@@ -9,6 +10,7 @@ use Rattle.rmp_decode.proofs.SkipLoop.{
   wants_empty,
   wants_in,
   wants_leaves,
+  wants_tells,
   falls_then,
   falls_out,
   falls_leaf,
@@ -21,6 +23,7 @@ use Rattle.rmp_decode.proofs.SkipLoop.{
   none_refused,
   none_wrong,
 }
+use Rattle.rmp_decode.proofs.Faults.{head_tells, tells_after}
 use Rattle.rmp_decode.proofs.SkipLaws.{no_room, parts_taken, leaf_taken}
 use Rattle.rmp_decode.proofs.deserializer.skip.skip_parts.Goals as goal
 
@@ -139,3 +142,28 @@ returns-in-Err-clause-exact g c = λ _. none_wrong g.R.Source g.P.ReadContent.le
     c.parts.outer.items (wants_leaves g.R.Source g.P.ReadContent.lends c.args.count c.args.de.now c.parts.de c.parts.room c.parts.wanted c.parts.outer.items
     c.parts.invariant _ _ c.skip_leaves-wanted.ensures.skipped) _ c.next_part.new.de _ refl (omega (arith, c.if-wanted-eq0.false))
     c.in-Err.ensures.err
+
+-- ---- faults
+
+pub returns-then-de-le1-clause-fault : goal.returns-then-de-le1-clause-fault
+returns-then-de-le1-clause-fault g c = λ n. absurd (n refl)
+
+pub returns-then-room-le1-clause-fault : goal.returns-then-room-le1-clause-fault
+returns-then-room-le1-clause-fault g c = wants_tells g.R.Source g.P.ReadContent.lends c.args.count c.args.de.now c.skip_leaves-wanted.new.de c.parts.room c.skip_leaves-wanted.result
+    c.parts.outer.items (wants_leaves g.R.Source g.P.ReadContent.lends c.args.count c.args.de.now c.parts.de c.parts.room c.parts.wanted c.parts.outer.items
+    c.parts.invariant _ _ c.skip_leaves-wanted.ensures.skipped) _ c.next_part.new.de DepthLimitExceeded refl
+    (λ n. absurd (n (parts_taken g.R.Source _ _ _ c.in-Ok.ensures.ok c.in-Parts.is_map c.in-Parts.n c.in-Parts.is).begun.sound))
+
+pub returns-in-Err-pass_payload-clause-fault : goal.returns-in-Err-pass_payload-clause-fault
+returns-in-Err-pass_payload-clause-fault g c =
+    let t = leaf_taken g.R.Source _ _ _ c.in-Ok.ensures.ok c.in-Leaf.len c.in-Leaf.is in
+    wants_tells g.R.Source g.P.ReadContent.lends c.args.count c.args.de.now c.skip_leaves-wanted.new.de c.parts.room c.skip_leaves-wanted.result
+    c.parts.outer.items (wants_leaves g.R.Source g.P.ReadContent.lends c.args.count c.args.de.now c.parts.de c.parts.room c.parts.wanted c.parts.outer.items
+    c.parts.invariant _ _ c.skip_leaves-wanted.ensures.skipped) _ (record c.next_part.new.de { reader = c.pass_payload.new.reader }) _ refl
+    (tells_after _ _ _ _ t.taken.begun.sound c.in-Err-pass_payload.ensures.fault)
+
+pub returns-in-Err-clause-fault : goal.returns-in-Err-clause-fault
+returns-in-Err-clause-fault g c = wants_tells g.R.Source g.P.ReadContent.lends c.args.count c.args.de.now c.skip_leaves-wanted.new.de c.parts.room c.skip_leaves-wanted.result
+    c.parts.outer.items (wants_leaves g.R.Source g.P.ReadContent.lends c.args.count c.args.de.now c.parts.de c.parts.room c.parts.wanted c.parts.outer.items
+    c.parts.invariant _ _ c.skip_leaves-wanted.ensures.skipped) _ c.next_part.new.de _ refl
+    (head_tells g.R.Source _ _ _ c.in-Err.ensures.err)

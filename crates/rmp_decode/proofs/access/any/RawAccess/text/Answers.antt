@@ -17,6 +17,7 @@ returns-clause-err g c = elim c.match-take.branch [
         in absurd (false≢true no));
     exact = λ n k. let o = w.in-Ok.ensures.ok in piece_whole c.args.self.len (not_string (Text c.args.self.len)) _ _ w.in-Ok.bytes.items _ o.2 o.0
         (λ u. let no = w.in-Err-from_utf8.ensures.succeeds u in absurd (false≢true no), tt);
+    fault = λ n. absurd (n w.in-Ok.ensures.sound);
     taken = λ n k u. let o = w.in-Ok.ensures.ok in record { bytes = w.in-Ok.bytes.items; long = o.0; taken = o.2 };
   })
   | in-Err w ↦ rw (w.result-is, w.de-is) (record {
@@ -24,6 +25,7 @@ returns-clause-err g c = elim c.match-take.branch [
     stays = record { config = refl; room = refl; limit = refl; strict = refl; place = w.in-Err.ensures.place };
     err = λ n k. short_text c.args.self.len _ (w.in-Err.ensures.err n k);
     exact = λ n k. piece_cut c.args.self.len (not_string (Text c.args.self.len)) _ _ (w.in-Err.ensures.err n k) (w.in-Err.ensures.end n k);
+    fault = w.in-Err.ensures.fault;
     taken = λ n k u. absurd (end_no_text _ (w.in-Err.ensures.end n k) u);
   })
 ]

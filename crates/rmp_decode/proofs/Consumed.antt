@@ -1,0 +1,140 @@
+-- What a refused read of a leaf leaves.
+use Rattle.std.proofs.Common.{◌≡◌, ◌∙◌, sym, ap, subst, refl, ℕ, ◌<◌, arith, Bool, List, [], ◌∷◌, ◌++◌, length, Option, None, Some, Ok, append_assoc}
+use Rattle.std.proofs.lemmas.List.{length-append}
+use Rattle.std.specs.Io.KnownBytes.{Consumes, prepend_known}
+use Rattle.std.specs.Prelude.{IfSome}
+use Rattle.rmp_wire.specs.declared.head.Head.{Head}
+use Rattle.rmp_wire.specs.declared.marker.Marker.{Marker}
+use Rattle.rmp_wire.specs.declared.source.Source.{Ghosts}
+use Rattle.rmp_wire.specs.Canonical.{heads_of, SpellsAs}
+use Rattle.rmp_wire.specs.Msg.{Msg}
+use Rattle.rmp_wire.specs.Sources.{IsShort}
+use Rattle.rmp_wire.proofs.Strict.{heads_differ_as}
+use Rattle.rmp_decode.specs.Consumed.{LeavesRest, LeavesAfter, LeavesPiece, PieceLeaves}
+use Rattle.rmp_decode.specs.Exact.{EndsExactly}
+use Rattle.rmp_decode.specs.Kinds.{content_len, raw_head, raw_msg}
+use Rattle.rmp_decode.specs.Law.{Explains, Reads, ReadsHead}
+use Rattle.rmp_decode.specs.State.{left, faults_of}
+use Rattle.rmp_decode.specs.declared.deserializer.Deserializer.{Deserializer}
+use Rattle.rmp_decode.specs.declared.error.Error.{Error}
+use Rattle.rmp_decode.specs.declared.error.Error.TheVariants.{OutOfMemory}
+use Rattle.rmp_decode.proofs.ContentErrors.{raw_len}
+use Rattle.rmp_decode.proofs.Contents.{bare, raw_content}
+
+-- ---- a piece
+
+same_rest : (s t x y : List ℕ) → length s ≡ length t → s ++ x ≡ t ++ y → x ≡ y
+same_rest [] [] x y l e = e
+same_rest [] (b ∷ t) x y l e = absurd (omega arith)
+same_rest (a ∷ s) [] x y l e = absurd (omega arith)
+same_rest (a ∷ s) (b ∷ t) x y l e =
+    let i : length s ≡ length t = omega arith in
+    let rest : s ++ x ≡ t ++ y = cc in
+    same_rest s t x y i rest
+
+piece_of : (n : ℕ) (known new : Option (List ℕ)) (bytes : List ℕ) → Consumes known new bytes → length bytes ≡ n → IfSome known (LeavesPiece n new)
+piece_of n None new bytes c l = tt
+piece_of n (Some xs) None bytes c l = absurd c
+piece_of n (Some xs) (Some ys) bytes c l = λ s r q m. ap (λ z. Some z) (same_rest bytes s ys r (l ∙ sym m) (sym c ∙ q))
+
+-- it was consumed whole
+pub piece_taken : (n : ℕ) (known new : Option (List ℕ)) (bytes : List ℕ) (before after : ℕ) (e : Error) → Consumes known new bytes → length bytes ≡ n
+    → PieceLeaves n known new before after e
+unfolding PieceLeaves
+piece_taken n known new bytes before after e c l = λ _ _. piece_of n known new bytes c l
+
+never_whole : (n : ℕ) (known new : Option (List ℕ)) → IsShort n known → IfSome known (LeavesPiece n new)
+never_whole n None new h = tt
+never_whole n (Some xs) new h = λ s r q m. absurd (let long = ap length q ∙ length-append s r in omega (arith, long, m, h))
+
+-- it was never there whole
+pub piece_short : (n : ℕ) (known new : Option (List ℕ)) (before after : ℕ) (e : Error) → Explains e before after (IsShort n known)
+    → PieceLeaves n known new before after e
+unfolding PieceLeaves
+piece_short n known new before after e h = λ o k. never_whole n known new (h o k)
+
+-- ---- heads
+
+module _ (strict : Bool) (wanted : Head → Type 0) where
+  -- memory was short
+  pub leaves_unsaid : (known new : Option (List ℕ)) (before after : ℕ) → LeavesAfter strict wanted known new before after OutOfMemory
+  unfolding LeavesAfter
+  leaves_unsaid known new before after = λ o _. absurd (o refl)
+
+  -- the bytes begin with no head
+  pub leaves_none : (known new : Option (List ℕ)) (before after : ℕ) (e : Error) → EndsExactly strict before after known e
+      → LeavesAfter strict wanted known new before after e
+  unfolding LeavesAfter EndsExactly
+  leaves_none None new before after e x = λ _ _. tt
+  leaves_none (Some xs) new before after e x = λ _ k. record {
+    unwanted = λ m h s _. absurd ((x.0 k).0 m h s);
+    whole = λ h s _ w. absurd ((x.0 k).0 w.marker h w.starts);
+  }
+
+  head_rest : (known new : Option (List ℕ)) (b : List ℕ) (h : Head) → Consumes known new b → heads_of strict h b → (wanted h → ⊥)
+      → IfSome known (LeavesRest strict wanted new)
+  head_rest None new b h c i f = tt
+  head_rest (Some xs) None b h c i f = absurd c
+  head_rest (Some xs) (Some ys) b h c i f = record {
+    unwanted = λ m k s _.
+        let u = heads_differ_as strict k h (s.byte ∷ s.following) b s.rest ys s.is_head i (sym s.front ∙ c) in
+        ap (λ z. Some z) (sym u.2);
+    whole = λ k s w t.
+        let t0 = t.starts in
+        let u = heads_differ_as strict k h (t0.byte ∷ t0.following) b t0.rest ys t0.is_head i (sym t0.front ∙ c) in
+        absurd (f (subst wanted u.0 w));
+  }
+
+  piece_rest : (known k new : Option (List ℕ)) (b : List ℕ) (h : Head) → Consumes known k b → heads_of strict h b → wanted h
+      → IfSome k (LeavesPiece (content_len h) new) → IfSome known (LeavesRest strict wanted new)
+  piece_rest None k new b h c i w r = tt
+  piece_rest (Some xs) None new b h c i w r = absurd c
+  piece_rest (Some xs) (Some ys) new b h c i w r = record {
+    unwanted = λ m j s f.
+        let u = heads_differ_as strict j h (s.byte ∷ s.following) b s.rest ys s.is_head i (sym s.front ∙ c) in
+        absurd (f (subst wanted (sym u.0) w));
+    whole = λ j s _ t.
+        let t0 = t.starts in
+        let u = heads_differ_as strict j h (t0.byte ∷ t0.following) b t0.rest ys t0.is_head i (sym t0.front ∙ c) in
+        r s t.following (sym u.2 ∙ t.content) (t.long ∙ ap content_len u.0);
+  }
+
+split_known : (known k : Option (List ℕ)) (a s : List ℕ) → Consumes known k (a ++ s) → Consumes known (prepend_known s k) a
+split_known None k a s c = tt
+split_known (Some xs) None a s c = absurd c
+split_known (Some xs) (Some ys) a s c = c ∙ append_assoc a s ys
+
+front_known : (k : Option (List ℕ)) (s : List ℕ) → Consumes (prepend_known s k) k s
+front_known None s = tt
+front_known (Some xs) s = refl
+
+module _ {R C : Type 0} (g : Ghosts R) (wanted : Head → Type 0) (old mid : Deserializer R C) where
+  -- a head was consumed that isn't wanted
+  pub leaves_head : (p : Marker × Head) (e : Error) → ReadsHead g old mid (Ok p) → (wanted p.1 → ⊥)
+      → LeavesAfter old.strict wanted (left g old) (left g mid) (faults_of g old) (faults_of g mid) e
+  unfolding LeavesAfter
+  leaves_head p e r f = λ _ _. head_rest old.strict wanted (left g old) (left g mid) r.ok.bytes p.1 r.ok.takes r.ok.is_head f
+
+  -- a wanted head was consumed, and then its payload, or it is cut
+  pub leaves_payload : (last : R) (p : Marker × Head) (h : Head) (n : ℕ) (e : Error) → ReadsHead g old mid (Ok p) → p.1 ≡ h → content_len h ≡ n → wanted h
+      → PieceLeaves n (g.ahead mid.reader) (g.ahead last) (g.faults mid.reader) (g.faults last) e
+      → LeavesAfter old.strict wanted (left g old) (left g (record mid { reader = last })) (faults_of g old) (g.faults last) e
+  unfolding LeavesAfter PieceLeaves
+  leaves_payload last p h n e r i l w x = λ o k.
+      let first : Consumes (left g old) (g.ahead mid.reader) r.ok.bytes = rw (← (bare g mid r.clean)) r.ok.takes in
+      let rest : IfSome (g.ahead mid.reader) (LeavesPiece (content_len h) (g.ahead last)) =
+      subst (λ z. IfSome (g.ahead mid.reader) (LeavesPiece z (g.ahead last))) (sym l) (x o (k ∙ sym r.sound)) in
+      subst (λ z. IfSome (left g old) (LeavesRest old.strict wanted z)) (sym (bare g (record mid { reader = last }) r.clean))
+      (piece_rest old.strict wanted (left g old) (g.ahead mid.reader) (g.ahead last) r.ok.bytes h first
+      (subst (λ z. heads_of old.strict z r.ok.bytes) i r.ok.is_head) w rest)
+
+  -- a text or bytes were consumed whole, and then refused
+  pub leaves_refused : {V : Type 0} (reads : Msg → V → Type 0) (v : V) (t : Bool) (s : List ℕ) (e : Error) (before after : ℕ) (r : Reads g reads old mid v)
+      → r.tree ≡ raw_msg t s → wanted (raw_head t (length s)) → LeavesAfter old.strict wanted (left g old) (left g mid) before after e
+  unfolding LeavesAfter
+  leaves_refused reads v t s e before after r q w = λ _ _.
+      let j = (raw_content t).opens old.strict s r.bytes (subst (SpellsAs old.strict r.bytes) q r.spelled) in
+      let same : r.bytes ≡ j.first ++ s = j.is_whole ∙ ap (λ z. j.first ++ z) j.is_second.0 in
+      let taken = split_known (left g old) (left g mid) j.first s (subst (Consumes (left g old) (left g mid)) same r.takes) in
+      piece_rest old.strict wanted (left g old) (prepend_known s (left g mid)) (left g mid) j.first (raw_head t (length s)) taken j.is_first w
+      (piece_of (content_len (raw_head t (length s))) (prepend_known s (left g mid)) (left g mid) s (front_known (left g mid) s) (sym (raw_len t (length s))))
