@@ -1,13 +1,17 @@
 //! Owned bytes.
 #![tactic(auto, unfolding(rmp_encode::specs::Data::lower), using(rmp_encode::proofs::Parts::part_memory))]
 
-ghost use Rattle.std.specs.Prelude.{◌≡◌, ◌↔◌, None, Some, IsTrue, IsUtf8, MatchOption, false, string_bytes};
+ghost use Rattle.std.specs.Prelude.{◌≡◌, ◌≤◌, ◌^◌, ◌||◌, ◌↔◌, None, Some, OnOk, IfErr, IsTrue, IsUtf8, MatchOption, false, length, string_bytes};
 ghost use Rattle.std.specs.Str.{bytes_eq, valid_up_to};
 ghost use Rattle.std.specs.Str.Lossy.{utf8_valid_len};
 ghost use Rattle.std.specs.Cmp.{on_per, partial_equiv_from_equiv};
 ghost use Rattle.std.proofs.lemmas.Cmp.{nat_list_eq_equiv};
 ghost use Rattle.rmp_decode.specs.Content.{IsRawHead, RefusesContent, not_raw, never_refused};
 ghost use Rattle.rmp_decode.specs.Read.{IsRaw};
+ghost use Rattle.rmp_encode.specs.Refusals.{OfLength, RefusesLength};
+ghost use Rattle.rmp_encode.specs.Ser.{sink_of, settings_of};
+ghost use Rattle.rmp_encode.specs.Trees.{tree_of};
+ghost use Rattle.rmp_encode.specs.Writes.{Keeps, NoneAtMarker, WritesTree};
 ghost use Rattle.rmp_serde.specs.RawRounds.{raw_only, raw_row, raw_other};
 ghost use Rattle.rmp_serde.specs.Raws.{raw_bytes, raw_data};
 
@@ -134,10 +138,20 @@ impl Serialize for Raw {
 
     ghost takes_memory = { λ _. false };
 
+    ghost refuses = { λ v. OfLength (2 ^ 32 ≤ length (raw_bytes v)) };
+
     fn serialize<W: Sink, C: SerializerConfig>(
         &self,
         se: &mut Serializer<W, C>,
-    ) -> Result<(), rmp_encode::Error> {
+    ) -> Result<(), rmp_encode::Error>
+        ensures writes { WritesTree W.Sink (false || W.takes_memory) (tree_of (settings_of se.old) (Some (raw_data (raw_bytes self.now))))
+            (sink_of se.old) (sink_of se.new) result }
+        ensures marker { NoneAtMarker W.Sink (sink_of se.old) (sink_of se.new) result }
+        ensures keeps { Keeps W.Sink se.old se.new }
+        ensures error { IfErr result (OfLength (2 ^ 32 ≤ length (raw_bytes self.now))) }
+        ensures long { 2 ^ 32 ≤ length (raw_bytes self.now) → RefusesLength se.old se.new result }
+        ensures value { OnOk result (Unit {0}) }
+    {
         match self.as_str() {
             Some(text) => se.serialize_str(text),
             None => se.serialize_bytes(self.as_bytes()),

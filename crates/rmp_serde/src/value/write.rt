@@ -3,6 +3,7 @@ ghost use Rattle.std.specs.Prelude.{◌≡◌, ◌∷◌, length, false, Some};
 ghost use Rattle.std.specs.List.{flat_map};
 ghost use Rattle.rmp_wire.specs.Spelling.{canon, Fits};
 ghost use Rattle.rmp_wire.specs.Writing.{Writes};
+ghost use Rattle.rmp_encode.specs.Refusals.{OfSink};
 ghost use Rattle.rmp_serde.specs.Flat.{spelled_in, EndsBy, IsWithin};
 ghost use Rattle.rmp_serde.specs.Read.{AllTextsUtf8};
 ghost use Rattle.rmp_serde.specs.TreeWrites.{WritesTree};
@@ -77,6 +78,8 @@ impl Serialize for Value {
     ghost is_value = { λ v. Fits v × AllTextsUtf8 v };
 
     ghost takes_memory = { λ _. false };
+
+    ghost refuses = { λ _. OfSink };
 
     fn serialize<W: Sink, C: SerializerConfig>(
         &self,

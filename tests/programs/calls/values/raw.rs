@@ -1,7 +1,9 @@
 //! Texts that aren't UTF-8.
 use faulty_io::Drip;
+use rmp_encode::{Error as Unwritten, write};
 use rmp_serde::decode::{Error, Text};
-use rmp_serde::{Raw, RawRef, from_read, from_slice, to_vec};
+use rmp_serde::{Raw, RawRef, Value, from_read, from_slice, to_vec};
+use rmp_wire::{SliceSink, ValueWriteError};
 
 // A text of four bytes that aren't UTF-8, from the first on.
 const INVALID: [u8; 5] = [0xa4, 0x92, 0xcc, 0xc8, 0x90];
@@ -45,4 +47,19 @@ fn a_reader_lends_no_bytes(rt: HostRuntime) {
     assert!(rt; matches!(&raw, Err(Error::Utf8Error(e)) if e.valid_up_to() == 0));
     let key: Result<RawRef, Error> = from_read(rt.alloc(), Drip::new(b"\xa3key", 100));
     assert!(rt; matches!(&key, Err(Error::Syntax(Text::InvalidType))));
+}
+
+#[test]
+fn a_full_slice_is_told(rt: HostRuntime) -> Result<(), Error> {
+    let mut room = [0u8; 2];
+    let mut sink = SliceSink::new(&mut room);
+    let cut = write(rt.alloc(), &mut sink, &RawRef::new("key"));
+    assert!(rt; matches!(&cut, Err(Unwritten::InvalidValueWrite(ValueWriteError::InvalidDataWrite(_)))));
+    assert_eq!(rt; room.as_slice(), b"\xa3k".as_slice());
+    let list = Value::from_slice(rt.alloc(), &[0x92, 0x01, 0x02])?;
+    let mut sink = SliceSink::new(&mut room);
+    let cut = write(rt.alloc(), &mut sink, &list);
+    assert!(rt; matches!(&cut, Err(Unwritten::InvalidValueWrite(ValueWriteError::InvalidMarkerWrite(_)))));
+    assert_eq!(rt; room.as_slice(), b"\x92\x01".as_slice());
+    Ok(())
 }
