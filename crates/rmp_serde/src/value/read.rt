@@ -2,10 +2,11 @@
 ghost use Rattle.std.specs.Prelude.{◌≡◌, ◌≢◌, ◌⊎◌, ◌-◌, ◌<◌, ◌≤◌, ◌++◌, ◌∷◌, [], false, true, None, OnOk, OnErr, IfOk, IfErr};
 ghost use Rattle.rmp_wire.specs.Heads.{fits_head};
 ghost use Rattle.rmp_decode.specs.Content.{IsRawHead, IsExtHead};
+ghost use Rattle.rmp_decode.specs.Exact.{TellsFault};
 ghost use Rattle.rmp_decode.specs.Law.{Lawful};
 ghost use Rattle.rmp_decode.specs.Refuse.{Refusal, RefusesRowFirst};
 ghost use Rattle.rmp_decode.specs.Skip.{parts_head, parts_count};
-ghost use Rattle.rmp_decode.specs.State.{failed_of, is_failed, kept_of, room_of, Stays};
+ghost use Rattle.rmp_decode.specs.State.{failed_of, faults_of, is_failed, kept_of, room_of, Stays};
 ghost use Rattle.rmp_decode.specs.declared.deserializer.Kept.TheVariants.{Nothing};
 ghost use Rattle.rmp_serde.specs.Flat.{heads_of, IsWithin};
 ghost use Rattle.rmp_serde.specs.Read.{reads_value, ItemsUtf8};
@@ -138,6 +139,7 @@ fn read_parts<R: Source, C: SerializerConfig, P: ReadContent<R>>(
     ensures within { OnOk result (IsWithin made.new) }
     ensures refusal { IfErr result (λ e. e ≢ Error.OutOfMemory
         → RefusesRowFirst R.Source UnreadFor ItemsUtf8 (room_of de.old - 1) count de.old de.new e) }
+    ensures fault { IfErr result (TellsFault (faults_of R.Source de.old) (faults_of R.Source de.new)) }
 {
     // The depth that is left for the messages of the innermost list or map.
     let mut room = de.room() - 1;
@@ -182,6 +184,7 @@ pub fn read_value<R: Source, C: SerializerConfig, P: ReadContent<R>>(
 ) -> Result<Value, Error>
     ensures law { Lawful R.Source reads_value de.old de.new result }
     ensures refusal { IfErr result (RefusesValue R.Source de.old de.new) }
+    ensures fault { IfErr result (TellsFault (faults_of R.Source de.old) (faults_of R.Source de.new)) }
 {
     match de.deserialize_head() {
         Ok(head) => {
@@ -250,19 +253,22 @@ impl Value {
     ) -> Result<Value, Error>
         ensures law { Lawful R.Source reads_value de.old de.new result }
         ensures refusal { IfErr result (RefusesValue R.Source de.old de.new) }
+        // Where the source had a fault, the error says so, or that memory ran out.
+        ensures fault { IfErr result (TellsFault (faults_of R.Source de.old) (faults_of R.Source de.new)) }
     {
         read_value::<R, C, Slices<'de>>(de)
     }
 }
 
 impl<'de, R: ReadSlice<'de>> Deserialize<'de, R> for Value {
+    ghost use Rattle.rmp_decode.specs.Exact.{UnlessFault};
     ghost use Rattle.rmp_decode.specs.Refuse.{RefusedFor};
 
     ghost reads = { λ human lends. reads_value };
 
     ghost absent = { None };
 
-    ghost refuses = { λ s before after known e. after ≡ before → RefusedFor s.strict (UnreadFor s.strict) ItemsUtf8 s.room e known };
+    ghost refuses = { λ s before after known e. UnlessFault before after e (RefusedFor s.strict (UnreadFor s.strict) ItemsUtf8 s.room e known) };
 
     fn deserialize<C: SerializerConfig>(de: &mut Deserializer<R, C>) -> Result<Value, Error> {
         Value::read(de)

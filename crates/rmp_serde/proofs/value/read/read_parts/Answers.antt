@@ -1,4 +1,4 @@
-use Rattle.std.proofs.Common.{refl, arith}
+use Rattle.std.proofs.Common.{◌∙◌, refl, arith}
 use Rattle.rmp_decode.proofs.SkipLoop.{falls_leaf}
 use Rattle.rmp_serde.specs.Flat.{heads_of}
 use Rattle.rmp_serde.proofs.ReadLoop.{
@@ -17,6 +17,9 @@ use Rattle.rmp_serde.proofs.ReadLoop.{
   none_refused,
   none_wrong,
 }
+use Rattle.rmp_decode.specs.State.{failed_of}
+use Rattle.rmp_decode.proofs.Faults.{head_tells, tells_after}
+use Rattle.rmp_serde.proofs.ValueFaults.{unread_tells}
 use Rattle.rmp_serde.proofs.value.read.read_parts.Goals as goal
 
 pub parts-init : goal.parts-init
@@ -117,3 +120,16 @@ enter-requires-clause-within g c = c.parts.invariant.1
 
 pub read_leaf-requires-clause-leaf : goal.read_leaf-requires-clause-leaf
 read_leaf-requires-clause-leaf g c = c.in-None-as_parts.ensures
+
+-- ---- faults
+
+pub returns-in-Err-enter-clause-fault : goal.returns-in-Err-enter-clause-fault
+returns-in-Err-enter-clause-fault g c = rw c.in-Err-enter.ensures.failed
+    (λ n. absurd (n (c.in-Ok.ensures.ok.begun.sound ∙ c.parts.invariant.0.sound)))
+
+pub returns-in-Err-read_leaf-clause-fault : goal.returns-in-Err-read_leaf-clause-fault
+returns-in-Err-read_leaf-clause-fault g c = tells_after _ _ _ _ (c.in-Ok.ensures.ok.begun.sound ∙ c.parts.invariant.0.sound)
+    (unread_tells g.R.Source (failed_of c.deserialize_head.new.self) c.read_leaf.new.de c.in-Err-read_leaf.e c.in-Ok.head c.in-Err-read_leaf.ensures.err)
+
+pub returns-in-Err-clause-fault : goal.returns-in-Err-clause-fault
+returns-in-Err-clause-fault g c = tells_after _ _ _ _ c.parts.invariant.0.sound (head_tells g.R.Source _ _ _ c.in-Err.ensures.err)

@@ -17,6 +17,9 @@ use Rattle.rmp_serde.proofs.ReadTop.{
   none_wrong,
 }
 use Rattle.rmp_decode.proofs.Laws.{refused_none}
+use Rattle.rmp_decode.specs.State.{failed_of}
+use Rattle.rmp_decode.proofs.Faults.{head_tells, tells_after}
+use Rattle.rmp_serde.proofs.ValueFaults.{leaf_tells}
 use Rattle.rmp_serde.proofs.value.read.read_value.Goals as goal
 
 pub returns-then-room-le1-clause-law : goal.returns-then-room-le1-clause-law
@@ -105,3 +108,19 @@ pub from_parts-requires-in-Ok-read_content-clause-starts : goal.from_parts-requi
 from_parts-requires-in-Ok-read_content-clause-starts g c =
     let o = c.in-Ok-read_content.ensures.ok in
     omega (arith, ap length o.whole, length-append c.new-made.result.bytes.items o.content, o.taken.long)
+
+-- ---- faults
+
+pub returns-then-room-le1-clause-fault : goal.returns-then-room-le1-clause-fault
+returns-then-room-le1-clause-fault g c = rw c.refuse.ensures.failed (λ n. absurd (n c.in-Ok.ensures.ok.begun.sound))
+
+pub returns-in-Err-read_parts-clause-fault : goal.returns-in-Err-read_parts-clause-fault
+returns-in-Err-read_parts-clause-fault g c = tells_after _ _ _ _ c.in-Ok.ensures.ok.begun.sound c.in-Err-read_parts.ensures.fault
+
+pub returns-in-Err-read_content-clause-fault : goal.returns-in-Err-read_content-clause-fault
+returns-in-Err-read_content-clause-fault g c = tells_after _ _ _ _ c.in-Ok.ensures.ok.begun.sound
+    (leaf_tells g.R.Source (failed_of c.deserialize_head.new.self) c.read_content.new.de c.in-Err-read_content.e c.in-Ok.head
+    c.in-Err-read_content.ensures.err)
+
+pub returns-in-Err-clause-fault : goal.returns-in-Err-clause-fault
+returns-in-Err-clause-fault g c = head_tells g.R.Source _ _ _ c.in-Err.ensures.err
