@@ -23,7 +23,7 @@ pub returns-in-Err-clause-fault : goal.returns-in-Err-clause-fault
 returns-in-Err-clause-fault g c = blamed_tells c.in-Err.e _ _ _ c.error_of.ensures
 
 pub returns-in-Ok-Copied-clause-taken : goal.returns-in-Ok-Copied-clause-taken
-returns-in-Ok-Copied-clause-taken g c = 
+returns-in-Ok-Copied-clause-taken g c =
     piece_taken c.args.len (g.R.Source.ahead c.args.reader.now) (g.R.Source.ahead c.read_slice.follows.lender-at-none) c.in-Ok-Copied.s.now _ _ _
     (search rules) (search rules)
 

@@ -34,7 +34,7 @@ pub returns-in-Err-clause-fault : goal.returns-in-Err-clause-fault
 returns-in-Err-clause-fault g c = blamed_tells c.in-Err.e _ _ _ c.error_of.ensures
 
 pub returns-in-Err-char_of-clause-taken : goal.returns-in-Err-char_of-clause-taken
-returns-in-Err-char_of-clause-taken g c = 
+returns-in-Err-char_of-clause-taken g c =
     piece_taken c.args.len (g.R.Source.ahead c.args.reader.now) (g.R.Source.ahead c.read_slice.follows.lender-at-none) c.as_bytes.result.now _ _ _
     (search rules) (search rules)
 
