@@ -54,12 +54,22 @@ fn a_full_slice_is_told(rt: HostRuntime) -> Result<(), Error> {
     let mut room = [0u8; 2];
     let mut sink = SliceSink::new(&mut room);
     let cut = write(rt.alloc(), &mut sink, &RawRef::new("key"));
-    assert!(rt; matches!(&cut, Err(Unwritten::InvalidValueWrite(ValueWriteError::InvalidDataWrite(_)))));
+    assert!(rt;
+        matches!(
+            &cut,
+            Err(Unwritten::InvalidValueWrite(ValueWriteError::InvalidDataWrite(_)))
+        )
+    );
     assert_eq!(rt; room.as_slice(), b"\xa3k".as_slice());
     let list = Value::from_slice(rt.alloc(), &[0x92, 0x01, 0x02])?;
     let mut sink = SliceSink::new(&mut room);
     let cut = write(rt.alloc(), &mut sink, &list);
-    assert!(rt; matches!(&cut, Err(Unwritten::InvalidValueWrite(ValueWriteError::InvalidMarkerWrite(_)))));
+    assert!(rt;
+        matches!(
+            &cut,
+            Err(Unwritten::InvalidValueWrite(ValueWriteError::InvalidMarkerWrite(_)))
+        )
+    );
     assert_eq!(rt; room.as_slice(), b"\x92\x01".as_slice());
     Ok(())
 }
