@@ -56,6 +56,19 @@ pub(crate) fn answer(r: Result<(), ValueWriteError>) -> Result<(), Error>
     }
 }
 
+// The head of a list of fewer than sixteen elements, or of a map of as few pairs: one byte.
+#[inline(always)]
+#[tactic(auto, unfolding(crate::specs::Going::head_at, rmp_wire::specs::Heads::canon_head))]
+fn short_head(pairs: bool, n: u32) -> u8
+    requires { n < 16 }
+    ensures { result ∷ [] ≡ head_at pairs n }
+{
+    if pairs {
+        return 0x80 + n as u8;
+    }
+    0x90 + n as u8
+}
+
 impl<W: Sink> Serializer<W> {
     /// Makes a serializer with the default settings: structs are lists, values are written compactly, and no
     /// list is written as bytes.
@@ -277,6 +290,20 @@ impl<W: Sink, C: SerializerConfig> Serializer<W, C> {
 
     #[inline(always)]
     pub(crate) fn put_head(&mut self, pairs: bool, n: u32) -> Result<(), Error>
+        ensures writes { WritesPart W.Sink W.takes_memory (Unit {0}) (head_at pairs n) (sink_of self.old) (sink_of self.new) result }
+        ensures marker { NoneAtMarker W.Sink (sink_of self.old) (sink_of self.new) result }
+        ensures error { IfErr result OfSink }
+        ensures keeps { Keeps W.Sink self.old self.new }
+    {
+        if n < 16 {
+            return answer(self.wr.put_all(&[short_head(pairs, n)]));
+        }
+        self.put_long_head(pairs, n)
+    }
+
+    // The same for sixteen elements or pairs and more, out of line.
+    #[inline(never)]
+    fn put_long_head(&mut self, pairs: bool, n: u32) -> Result<(), Error>
         ensures writes { WritesPart W.Sink W.takes_memory (Unit {0}) (head_at pairs n) (sink_of self.old) (sink_of self.new) result }
         ensures marker { NoneAtMarker W.Sink (sink_of self.old) (sink_of self.new) result }
         ensures error { IfErr result OfSink }

@@ -1,6 +1,6 @@
 use Rattle.rmp_encode.specs.Going.{head_at}
 use Rattle.rmp_encode.proofs.Leaves.{wire_head, wire_marker}
-use Rattle.rmp_encode.proofs.serializer.Serializer.put_head.Goals as goal
+use Rattle.rmp_encode.proofs.serializer.Serializer.put_long_head.Goals as goal
 
 pub returns-then-pairs-clause-writes : goal.returns-then-pairs-clause-writes
 unfolding head_at
