@@ -176,7 +176,7 @@ module _ {R C : Type 0} (g : Ghosts R) (old : Deserializer R C) (e : Error) wher
   list_other after m h s f = λ _. other_listed m h (left g old) s f
 
   after_listed : (n : ℕ) (known k : Option (List ℕ)) (bytes : List ℕ) → Consumes known k bytes → heads_of old.strict (Array n) bytes
-      → (room_of old ≡ 1 → e ≡ DepthLimitExceeded) → (1 < room_of old → IfSome k (RefusesItem old.strict n e))
+      → (room_of old ≤ 1 → e ≡ DepthLimitExceeded) → (1 < room_of old → IfSome k (RefusesItem old.strict n e))
       → IfSome known (λ xs. (m : Marker) (n : ℕ) → (s : BeginsWith old.strict m (Array n) xs) → RefusesListOf old.strict (room_of old) n e s.rest)
   after_listed n None k bytes t i d r = tt
   after_listed n (Some xs) None bytes t i d r = absurd t

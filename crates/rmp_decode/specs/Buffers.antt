@@ -68,7 +68,7 @@ RefusesItems g n old new e = faults_of g new ≡ faults_of g old → IfSome (lef
 
 -- A list is refused as a whole where it would nest too deep, and otherwise at one of its items.
 pub record RefusesListOf (strict : Bool) (room n : ℕ) (e : Error) (following : List ℕ) : Type 0 where
-  pub deep : room ≡ 1 → e ≡ DepthLimitExceeded
+  pub deep : room ≤ 1 → e ≡ DepthLimitExceeded
   pub item : 1 < room → RefusesItem strict n e following
 
 -- the same of what was left, where the bytes are told and the source had no fault

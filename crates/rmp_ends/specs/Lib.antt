@@ -1,3 +1,4 @@
+pub mod BufferEnds
 pub mod EndsInside
 pub mod EnumEnds
 pub mod FieldEnds

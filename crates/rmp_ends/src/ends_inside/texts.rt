@@ -1,8 +1,9 @@
 //! Characters, texts, bytes and extensions.
+ghost use Rattle.rmp_ends.specs.BufferEnds.{buffer_inside};
 ghost use Rattle.rmp_ends.specs.LeafEnds.{char_inside, string_inside, str_inside, bytes_inside, ext_inside};
 
 use crate::ends_inside::EndsInside;
-use rmp_wire::{Bytes, Ext, ReadSlice};
+use rmp_wire::{ByteBuf, Bytes, Ext, ReadSlice};
 
 impl<'de, R: ReadSlice<'de>> EndsInside<'de, R> for char {
     ghost ends_inside = { char_inside };
@@ -26,4 +27,8 @@ impl<'de, R: ReadSlice<'de>> EndsInside<'de, R> for Bytes<'de> {
 
 impl<'de, R: ReadSlice<'de>> EndsInside<'de, R> for Ext {
     ghost ends_inside = { ext_inside };
+}
+
+impl<'de, R: ReadSlice<'de>> EndsInside<'de, R> for ByteBuf {
+    ghost ends_inside = { buffer_inside };
 }
