@@ -1,6 +1,6 @@
 -- A read of bytes, also from a list of numbers, meets an end only inside of a message.
-use Rattle.std.proofs.Common.{◌≡◌, ◌∙◌, sym, ap, subst, refl, ℕ, ◌+◌, ◌-◌, ◌<◌, ◌≤◌, ◌⊎◌, inl, inr, arith, List, [], ◌∷◌, ◌++◌, length}
-use Rattle.std.specs.Prelude.{◌≢◌, Bool, true, false, Option, Some}
+use Rattle.std.proofs.Common.{◌≡◌, ◌∙◌, sym, ap, subst, refl, ℕ, ◌+◌, ◌-◌, ◌⊎◌, inl, inr, arith, List, [], ◌∷◌}
+use Rattle.std.specs.Prelude.{◌≢◌, Bool, true, false}
 use Rattle.std.proofs.lemmas.Bool.{cases_eq, cases_lt}
 use Rattle.rmp_wire.specs.Canonical.{heads_of}
 use Rattle.rmp_wire.specs.Heads.{IsHead, canon_head}
@@ -16,7 +16,6 @@ use Rattle.rmp_decode.specs.Buffers.{RefusesItem, RefusesListOf, RefusesListIn}
 use Rattle.rmp_decode.specs.Content.{ExactOfContent, RefusesContent, IsBufferHead, not_raw, not_buffer}
 use Rattle.rmp_decode.specs.Exact.{BeginsWith, IsEnd}
 use Rattle.rmp_decode.specs.Kinds.{other_number}
-use Rattle.rmp_decode.specs.Refusing.{Setting}
 use Rattle.rmp_decode.proofs.Exactness.{wide_starts_none}
 use Rattle.rmp_decode.specs.declared.error.Error.{Error}
 use Rattle.rmp_scan.specs.Scans.{IsBeginning}

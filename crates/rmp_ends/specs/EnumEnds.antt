@@ -1,6 +1,6 @@
 -- A read of an enum meets an end only inside of a message, where those of its variants' contents do.
-use Rattle.std.proofs.Common.{◌≡◌, subst, refl, ℕ, zero, suc, ◌*◌, ◌<◌, ◌⊎◌, inl, inr, arith, List, [], ◌∷◌}
-use Rattle.std.specs.Prelude.{Bool, true, false, Option, Some, pos, negsuc, cond, nat_le}
+use Rattle.std.proofs.Common.{◌≡◌, ℕ, zero, suc, ◌*◌, inl, inr, arith, List, [], ◌∷◌}
+use Rattle.std.specs.Prelude.{Bool, true, false, Some, pos, negsuc, cond, nat_le}
 use Rattle.rmp_wire.specs.Spelling.{IsBytes}
 use Rattle.rmp_wire.specs.declared.head.Head.{Head}
 use Rattle.rmp_wire.specs.declared.head.Head.TheVariants.{Nil, Truth, Whole, F32Bits, F64Bits, Text, Bin, Array, Map, Ext}
@@ -15,11 +15,9 @@ use Rattle.rmp_decode.specs.Variants.{IsVariantHead, other_variant, not_variant,
 use Rattle.rmp_decode.specs.declared.error.Error.{Error}
 use Rattle.rmp_decode.specs.declared.error.Error.TheVariants.{DepthLimitExceeded, Syntax}
 use Rattle.rmp_decode.specs.declared.text.Text.TheVariants.{InvalidType}
-use Rattle.rmp_scan.specs.Scans.{IsBeginning}
 use Rattle.rmp_ends.specs.EndsInside.{EndsInside, AlwaysInside, IsNoEnd}
 use Rattle.rmp_ends.specs.LeafEnds.{contents_inside, exact_inside, by_utf8_none, neither, syntax_no_end, depth_no_end}
-use Rattle.rmp_ends.specs.MapEnds.{PairsInside, message_inside, opened_map_inside}
-use Rattle.rmp_ends.specs.RowEnds.{left_after}
+use Rattle.rmp_ends.specs.MapEnds.{message_inside, opened_map_inside}
 use Rattle.rmp_ends.specs.Unfinished.{Unfinished, unfinished_first}
 
 -- ---- names

@@ -1,22 +1,19 @@
 -- A read of a struct meets an end only inside of a message, where those of its fields do.
-use Rattle.std.proofs.Common.{◌≡◌, ◌∙◌, sym, ap, subst, refl, ℕ, zero, suc, ◌+◌, ◌*◌, ◌-◌, ◌<◌, ◌⊎◌, inl, inr, arith, List, [], ◌∷◌, ◌++◌, length}
-use Rattle.std.specs.Prelude.{Bool, true, false, Option, Some, None, pos, negsuc}
+use Rattle.std.proofs.Common.{ℕ, zero, suc, ◌*◌, inl, inr, arith, List, [], ◌∷◌, length}
+use Rattle.std.specs.Prelude.{Bool, Option}
 use Rattle.rmp_wire.specs.Msg.{Msg}
-use Rattle.rmp_wire.specs.Spelling.{IsBytes}
 use Rattle.rmp_wire.specs.declared.head.Head.TheVariants.{Nil, Truth, Whole, F32Bits, F64Bits, Text, Bin, Array, Map, Ext}
 use Rattle.rmp_decode.specs.Content.{not_raw, never_refused}
-use Rattle.rmp_decode.specs.Exact.{IsEnd}
-use Rattle.rmp_decode.specs.FieldRefusing.{FieldRefused, NamedRefused, PairFails, Lacks, RefusesFields}
+use Rattle.rmp_decode.specs.FieldRefusing.{FieldRefused, NamedRefused, PairFails, RefusesFields}
 use Rattle.rmp_decode.specs.Fields.{not_fields, name_refusal, pass_refusal}
-use Rattle.rmp_decode.specs.Names.{IsName, IsNameHead}
-use Rattle.rmp_decode.specs.Refusing.{Setting, Refusals, Part, Excess, RefusesParts}
-use Rattle.rmp_decode.specs.declared.error.Error.{Error}
-use Rattle.rmp_ends.specs.EndsInside.{EndsInside, AlwaysInside}
+use Rattle.rmp_decode.specs.Names.{IsNameHead}
+use Rattle.rmp_decode.specs.Refusing.{Setting, Part, Excess}
+use Rattle.rmp_ends.specs.EndsInside.{AlwaysInside}
 use Rattle.rmp_ends.specs.LeafEnds.{NoEnds, heads_inside, contents_inside, neither, syntax_no_end, depth_no_end}
 use Rattle.rmp_ends.specs.MapEnds.{PairsInside, message_inside, entries_inside, opened_map_inside}
 use Rattle.rmp_ends.specs.RefusalEnds.{passed_inside}
 use Rattle.rmp_ends.specs.RowEnds.{PartsInside, parts_inside, excess_inside, opened_inside}
-use Rattle.rmp_ends.specs.Unfinished.{Unfinished, unfinished_first}
+use Rattle.rmp_ends.specs.Unfinished.{unfinished_first}
 
 -- what is no list, bytes or map
 not_fields_none : (room : ℕ) → NoEnds (not_fields room)

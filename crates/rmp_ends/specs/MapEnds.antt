@@ -1,5 +1,5 @@
 -- A read of a map meets an end only inside of a message, where those of its keys and values do.
-use Rattle.std.proofs.Common.{◌≡◌, ◌∙◌, sym, ap, subst, refl, ℕ, suc, ◌+◌, ◌*◌, ◌-◌, ◌<◌, ◌⊎◌, inl, inr, arith, List, ◌++◌}
+use Rattle.std.proofs.Common.{◌≡◌, sym, subst, ℕ, suc, ◌+◌, ◌*◌, ◌-◌, ◌<◌, inl, inr, arith, List}
 use Rattle.std.specs.Prelude.{Bool, Option, Some}
 use Rattle.rmp_wire.specs.Msg.{Msg, Pairs, count_pairs}
 use Rattle.rmp_wire.specs.Spelling.{IsBytes}
@@ -11,7 +11,7 @@ use Rattle.rmp_decode.specs.Maps.{not_map}
 use Rattle.rmp_decode.specs.Refusing.{Setting, Refusals, inside, AfterMessage, IsMemory}
 use Rattle.rmp_decode.specs.declared.error.Error.{Error}
 use Rattle.rmp_scan.specs.Scans.{IsBeginning}
-use Rattle.rmp_ends.specs.EndsInside.{EndsInside, AlwaysInside}
+use Rattle.rmp_ends.specs.EndsInside.{AlwaysInside}
 use Rattle.rmp_ends.specs.LeafEnds.{NoEnds, heads_inside, syntax_no_end, depth_no_end, memory_no_end}
 use Rattle.rmp_ends.specs.RowEnds.{left_after}
 use Rattle.rmp_ends.specs.Unfinished.{Unfinished, unfinished_first, unfinished_after, unfinished_map, pairs_after}

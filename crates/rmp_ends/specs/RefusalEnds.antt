@@ -1,5 +1,5 @@
 -- A read of any message meets an end only inside of a message.
-use Rattle.std.proofs.Common.{◌≡◌, ◌∙◌, sym, ap, subst, refl, ℕ, suc, ◌+◌, ◌-◌, ◌<◌, ◌⊎◌, inl, inr, arith, List, ◌∷◌, ◌++◌}
+use Rattle.std.proofs.Common.{◌≡◌, ◌∙◌, sym, ap, subst, refl, ℕ, suc, ◌+◌, ◌-◌, inl, inr, arith, List, ◌∷◌, ◌++◌}
 use Rattle.std.specs.Prelude.{Bool, true, false}
 use Rattle.rmp_wire.specs.Msg.{Msgs, count}
 use Rattle.rmp_wire.specs.Spelling.{IsBytes}
@@ -10,14 +10,13 @@ use Rattle.rmp_decode.specs.Exact.{IsEnd}
 use Rattle.rmp_decode.specs.Fields.{pass_refusal}
 use Rattle.rmp_decode.specs.Kinds.{content_len}
 use Rattle.rmp_decode.specs.Refuse.{ContentIsCut, IsWrong, UnpassedFor, Enters, Refusal, here, inside, RefusedFor}
-use Rattle.rmp_decode.specs.Refusing.{Setting}
 use Rattle.rmp_decode.specs.Skip.{parts_head, parts_count, any_row}
 use Rattle.rmp_decode.specs.declared.error.Error.{Error}
 use Rattle.rmp_decode.specs.declared.error.Error.TheVariants as errors
 use Rattle.rmp_scan.specs.Parts.{parts_after}
 use Rattle.rmp_scan.specs.Scans.{IsBeginning}
 use Rattle.rmp_scan.proofs.Cutting.{head_cut, content_cut, nothing_begins}
-use Rattle.rmp_ends.specs.EndsInside.{EndsInside, AlwaysInside}
+use Rattle.rmp_ends.specs.EndsInside.{AlwaysInside}
 use Rattle.rmp_ends.specs.LeafEnds.{neither}
 use Rattle.rmp_ends.specs.Unfinished.{Unfinished, unfinished_first, unfinished_parts, row_after}
 

@@ -1,30 +1,27 @@
 -- A read of a list meets an end only inside of a message, where those of its elements do.
-use Rattle.std.proofs.Common.{◌≡◌, ◌∙◌, sym, ap, subst, refl, ℕ, zero, suc, ◌+◌, ◌<◌, ◌⊎◌, inl, inr, arith, List, [], ◌∷◌, ◌++◌, length}
+use Rattle.std.proofs.Common.{◌≡◌, sym, subst, refl, ℕ, suc, ◌+◌, ◌<◌, ◌⊎◌, inl, inr, arith, List, [], ◌∷◌, ◌++◌, length}
 use Rattle.std.specs.Prelude.{Bool, true, false, Option, None, Some, pos}
 use Rattle.std.specs.Io.KnownBytes.{Consumes, Keeps}
-use Rattle.rmp_wire.specs.Canonical.{SpellsAs}
 use Rattle.rmp_wire.specs.Heads.{canon_head}
 use Rattle.rmp_wire.specs.Msg.{Msg, Msgs, whole, count}
 use Rattle.rmp_wire.specs.Spelling.{IsBytes}
-use Rattle.rmp_wire.specs.declared.head.Head.{Head}
 use Rattle.rmp_wire.specs.declared.head.Head.TheVariants.{Nil, Truth, Whole, F32Bits, F64Bits, Text, Bin, Array, Map, Ext}
-use Rattle.rmp_wire.specs.declared.marker.Marker.{Marker}
 use Rattle.rmp_wire.proofs.Canon.{canon_is_head, head_bytes}
 use Rattle.rmp_wire.proofs.Taken.{bytes_parts}
 use Rattle.rmp_decode.specs.Exact.{IsEnd, RefusesBy}
 use Rattle.rmp_decode.specs.Options.{RefusesOption}
-use Rattle.rmp_decode.specs.Refusing.{Setting, Refusals, inside, AfterMessage, RefusesBoxed, RefusedIn, WhereSome, Wanted, Excess, IsMemory}
-use Rattle.rmp_decode.specs.Refusing.{AfterItems, Opened, RefusesSeq, RefusesEach, RefusesTimes, OneWanted, Part, AfterElement, RefusesParts, RefusesTuple}
+use Rattle.rmp_decode.specs.Refusing.{Setting, Refusals, inside, RefusesBoxed, RefusedIn, WhereSome, Wanted, Excess, IsMemory}
+use Rattle.rmp_decode.specs.Refusing.{AfterItems, Opened, RefusesEach, RefusesTimes, Part, RefusesParts, RefusesTuple}
 use Rattle.rmp_decode.specs.Seq.{SpellsIn, not_seq}
 use Rattle.rmp_decode.specs.declared.error.Error.{Error}
 use Rattle.rmp_decode.specs.declared.error.Error.TheVariants as errors
-use Rattle.rmp_scan.specs.Scans.{IsMessage, IsBeginning}
+use Rattle.rmp_scan.specs.Scans.{IsBeginning}
 use Rattle.rmp_scan.proofs.Cutting.{nothing_begins}
 use Rattle.rmp_scan.proofs.FirstByte.{bytes_append}
 use Rattle.rmp_scan.proofs.Scanning.{begins_or_ends}
-use Rattle.rmp_ends.specs.EndsInside.{EndsInside, AlwaysInside, IsNoEnd}
+use Rattle.rmp_ends.specs.EndsInside.{EndsInside, AlwaysInside}
 use Rattle.rmp_ends.specs.LeafEnds.{NoEnds, heads_inside, syntax_no_end, length_no_end, depth_no_end, memory_no_end}
-use Rattle.rmp_ends.specs.Unfinished.{Unfinished, UnfinishedIn, unfinished_first, unfinished_list, element_after, row_after}
+use Rattle.rmp_ends.specs.Unfinished.{UnfinishedIn, unfinished_first, unfinished_list, element_after, row_after}
 
 -- ---- what is left after some bytes
 

@@ -1,5 +1,5 @@
 -- Beginnings of several messages, one after another.
-use Rattle.std.proofs.Common.{◌≡◌, ◌∙◌, sym, ap, subst, refl, ℕ, suc, ◌+◌, ◌-◌, ◌*◌, ◌<◌, arith, List, [], ◌∷◌, ◌++◌, length, append_assoc}
+use Rattle.std.proofs.Common.{◌≡◌, ◌∙◌, sym, ap, subst, refl, ℕ, suc, ◌+◌, ◌-◌, ◌*◌, ◌<◌, arith, List, [], ◌++◌, length, append_assoc}
 use Rattle.std.specs.Prelude.{◌≢◌, Bool, true, false}
 use Rattle.std.proofs.lemmas.List.{append-nil, length-append}
 use Rattle.rmp_wire.specs.Canonical.{heads_of}
@@ -9,7 +9,6 @@ use Rattle.rmp_wire.specs.Spelling.{IsBytes, PairsSpelledBy}
 use Rattle.rmp_wire.specs.Taking.{marker_of}
 use Rattle.rmp_wire.specs.declared.head.Head.{Head}
 use Rattle.rmp_wire.specs.declared.head.Head.TheVariants.{Array, Bin, Map}
-use Rattle.rmp_wire.proofs.Heads.{heads_differ}
 use Rattle.rmp_wire.proofs.Canon.{head_bytes}
 use Rattle.rmp_wire.proofs.Strict.{any_width, spells_any}
 use Rattle.rmp_decode.specs.Kinds.{content_len}

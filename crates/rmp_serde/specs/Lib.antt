@@ -11,6 +11,13 @@ pub use Rattle.rmp_encode.specs.Slices
 pub use Rattle.rmp_encode.specs.Trees
 pub use Rattle.rmp_encode.specs.Tuples
 pub use Rattle.rmp_encode.specs.Writes
+pub use Rattle.rmp_ends.specs.BufferEnds
+pub use Rattle.rmp_ends.specs.EndsInside
+pub use Rattle.rmp_ends.specs.EnumEnds
+pub use Rattle.rmp_ends.specs.FieldEnds
+pub use Rattle.rmp_ends.specs.LeafEnds
+pub use Rattle.rmp_ends.specs.MapEnds
+pub use Rattle.rmp_ends.specs.RowEnds
 pub use Rattle.rmp_round_trip.specs.InTurn
 pub use Rattle.rmp_round_trip.specs.LeafRounds
 pub use Rattle.rmp_round_trip.specs.MapRounds
@@ -41,4 +48,5 @@ pub mod Tokens
 pub mod TreeText
 pub mod TreeWrites
 pub mod ValueData
+pub mod ValueEnds
 pub mod ValueLowers

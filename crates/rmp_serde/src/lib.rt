@@ -14,6 +14,7 @@ pub use check::{Canon, check_canonical};
 pub use decode::{Deserializer, from_read, from_read_ref, from_slice, from_slice_strict};
 pub use encode::{Serializer, to_vec, to_vec_named};
 pub use raw::{Raw, RawRef};
+pub use rmp_ends::EndsInside;
 pub use rmp_round_trip::{NeverNil, RoundTrip};
 pub use rmp_scan::{Scan, Scanner, message_len};
 pub use rmp_wire as wire;

@@ -2,6 +2,7 @@
 #![tactic(auto, unfolding(rmp_encode::specs::Data::lower), using(rmp_encode::proofs::Parts::part_memory))]
 
 ghost use Rattle.std.specs.Prelude.{◌≡◌, ◌≤◌, ◌^◌, ◌||◌, ◌↔◌, None, Some, OnOk, IfErr, IsTrue, IsUtf8, MatchOption, false, if◌then◌else◌, length, true};
+ghost use Rattle.rmp_ends.specs.LeafEnds.{bytes_inside};
 ghost use Rattle.std.specs.Str.{bytes_eq, valid_up_to};
 ghost use Rattle.std.specs.Str.Lossy.{utf8_valid_len};
 ghost use Rattle.std.specs.Cmp.{on_per, partial_equiv_from_equiv};
@@ -18,6 +19,7 @@ ghost use Rattle.rmp_serde.specs.Raws.{raw_ref_bytes, raw_data};
 use crate::raw::{ContentRef, OtherRef, RawRef};
 use rmp_decode::{Deserialize, Deserializer, Error};
 use rmp_encode::{Serialize, Serializer};
+use rmp_ends::EndsInside;
 use rmp_round_trip::{NeverNil, RoundTrip};
 use rmp_wire::config::SerializerConfig;
 use rmp_wire::{ReadSlice, Sink};
@@ -171,6 +173,10 @@ impl<'de, R: ReadSlice<'de>> Deserialize<'de, R> for RawRef<'de> {
     fn missing() -> Option<RawRef<'de>> {
         None
     }
+}
+
+impl<'de, R: ReadSlice<'de>> EndsInside<'de, R> for RawRef<'de> {
+    ghost ends_inside = { bytes_inside };
 }
 
 impl<'de, R: ReadSlice<'de>> RoundTrip<'de, R> for RawRef<'de> {
