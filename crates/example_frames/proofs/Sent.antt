@@ -11,10 +11,11 @@ use Rattle.rmp_decode.specs.Law.{Begins, Readable}
 use Rattle.rmp_decode.specs.declared.error.Error.{Error}
 use Rattle.rmp_decode.specs.declared.error.Error.TheVariants as errors
 use Rattle.rmp_decode.specs.declared.error.Error.TheVariants.{OutOfMemory}
-use Rattle.rmp_scan.specs.Scans.{IsMessage, MessageEnds, NoMessage, Scans}
+use Rattle.rmp_scan.specs.Scans.{IsBeginning, IsMessage, MessageEnds, NoMessage, Scans}
 use Rattle.rmp_scan.specs.declared.scanner.Scanner.{Scanner}
 use Rattle.rmp_scan.proofs.Completing.{beginnings}
 use Rattle.rmp_scan.proofs.Rows.{same_front}
+use Rattle.rmp_scan.proofs.Scanning.{begins_or_ends}
 use Rattle.rmp_serde.specs.Read.{AllTextsUtf8}
 use Rattle.example_frames.specs.declared.request.Request.{Request}
 use Rattle.example_frames.specs.declared.stream.StreamRefusal.{StreamRefusal}
@@ -79,6 +80,9 @@ module _ (before piece body : List ℕ) (used : ℕ) (l : used ≤ length piece)
           holds = b.holds;
         });
   }
+
+  pub is_uncut : IsBeginning body → ⊥
+  is_uncut = begins_or_ends body (length body) (record { bytes = body; rest = []; front = sym (append-nil body); spelled = is_message; long = refl })
 
 -- ---- what a peer sent
 

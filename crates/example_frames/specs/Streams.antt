@@ -2,6 +2,7 @@
 use Rattle.std.specs.Prelude.{◌≡◌, ◌≢◌, ℕ, ◌+◌, ◌≤◌, List, length, true, false}
 use Rattle.rmp_wire.specs.Msg.{Msg}
 use Rattle.rmp_wire.specs.Spelling.{canon, Fits, Spells}
+use Rattle.rmp_decode.specs.Exact.{IsEnd}
 use Rattle.rmp_decode.specs.Law.{Begins, Readable}
 use Rattle.rmp_decode.specs.declared.error.Error.{Error}
 use Rattle.rmp_decode.specs.declared.error.Error.TheVariants as errors
@@ -53,6 +54,11 @@ StopsStream reads limit bytes Reserved = NoMessage bytes
 StopsStream reads limit bytes TooLong = IsLonger limit bytes
 StopsStream reads limit bytes (NotRequest e) = e ≢ OutOfMemory → IsOther reads bytes
 StopsStream reads limit bytes Closed = ⊥
+
+-- the reason isn't that the bytes ended inside of a message
+abbrev pub IsUncut : StreamRefusal → Type 0
+IsUncut (NotRequest e) = IsEnd e → ⊥
+IsUncut reason = Unit {0}
 
 -- what a scanner's error is told as: no other error comes from a scanner that wasn't refused
 abbrev pub refusal_for : Error → StreamRefusal

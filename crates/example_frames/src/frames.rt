@@ -3,9 +3,11 @@ ghost use Rattle.std.specs.Prelude.{◌≡◌, Some, ◌≢◌, ◌≤◌, ◌<�
 ghost use Rattle.example_frames.specs.Frames.{SaysLength, message_of, IsFrame, Asks, Taken, NoneFor, RefusedFor, StopsFor, WrongFor};
 ghost use Rattle.example_frames.specs.declared.frames.Refusal.TheVariants as refusal;
 ghost use Rattle.rmp_decode.specs.declared.error.Error.TheVariants.{OutOfMemory};
+ghost use Rattle.rmp_decode.specs.Exact.{IsEnd};
 ghost use Rattle.rmp_encode.specs.Calls.{default_settings};
 ghost use Rattle.rmp_encode.specs.Trees.{tree_of};
 ghost use Rattle.rmp_encode.specs.declared.error.Error.TheVariants as encode_error;
+ghost use Rattle.rmp_scan.specs.Scans.{IsBeginning};
 ghost use Rattle.rmp_serde.specs.Read.{AllTextsUtf8};
 ghost use Rattle.rmp_wire.specs.Msg.{depth};
 ghost use Rattle.rmp_wire.specs.Spelling.{Fits};
@@ -13,7 +15,7 @@ ghost use Rattle.rmp_wire.specs.Spelling.{Fits};
 use crate::request::Request;
 use rmp_serde::decode::{Deserialize, Error};
 use rmp_serde::encode::Serialize;
-use rmp_serde::{Deserializer, encode, to_vec};
+use rmp_serde::{Deserializer, encode, laws, to_vec};
 use rmp_wire::ReadRefReader;
 use rmp_wire::read::number_32;
 use std::alloc::Global;
@@ -147,7 +149,10 @@ pub(crate) fn first_request<'de>(
 ) -> Result<(Request, &'de [u8]), Error>
     ensures ok { IfOk result (λ r. Asks (λ m. ⟦<Request as Deserialize<'de, ReadRefReader<'de>>>⟧.reads false true m r.0) r.1.now bytes.now) }
     ensures err { IfErr result (NoneFor (⟦<Request as Deserialize<'de, ReadRefReader<'de>>>⟧.reads false true) bytes.now) }
+    // An error whose `is_incomplete` is true says that more bytes may complete a message.
+    ensures incomplete { IfErr result (λ e. IsEnd e → IsBeginning bytes.now) }
 {
+    laws::ends_are_inside::<ReadRefReader<'de>, Request>(bytes);
     let mut de = Deserializer::from_read_ref(alloc, bytes);
     de.set_max_depth(MAX_DEPTH);
     match Request::deserialize(&mut de) {

@@ -5,7 +5,7 @@ ghost use Rattle.rmp_encode.specs.declared.error.Error.TheVariants as encode_err
 ghost use Rattle.rmp_scan.specs.Scans.{IsBeginning};
 ghost use Rattle.rmp_wire.specs.Msg.{depth};
 ghost use Rattle.example_frames.specs.Frames.{message_of};
-ghost use Rattle.example_frames.specs.Streams.{IsSent, TakenFrom, StopsStream, refusal_for};
+ghost use Rattle.example_frames.specs.Streams.{IsSent, IsUncut, TakenFrom, StopsStream, refusal_for};
 ghost use Rattle.example_frames.specs.declared.stream.StreamRefusal.TheVariants as refusal;
 
 use crate::frames::{first_request, read_as, written_as};
@@ -101,6 +101,8 @@ impl Incoming {
         ensures whole { IsOpen self.old → IfErr result (λ e. e ≢ refusal.NotRequest OutOfMemory → (asked : Request) (bytes rest later : List ℕ)
             → IsSent asked bytes → (held self.old ++ piece.now) ++ later ≡ bytes ++ rest → length bytes ≤ limit_in self.old
             → depth (message_of asked) < 16 → ⊥) }
+        // A request that came whole is never refused as one that was cut.
+        ensures uncut { IsOpen self.old → IfErr result IsUncut }
         ensures closed { OnErr result (is_closed self.new) }
         ensures stays { is_closed self.old → result ≡ Err refusal.Closed }
         ensures limit { limit_in self.new ≡ limit_in self.old }

@@ -1,6 +1,6 @@
 //! How the types of request.rt are written and read. Written by tools/derive.py.
 //!
-//! Sum of Request: d0294561.
+//! Sum of Request: 4997ff20.
 ghost use Rattle.example_frames.specs.declared.request.Request.TheVariants as the_request;
 ghost use Rattle.rmp_decode.specs.EnumRefusing.{RefusesEnum, no_content, with_content};
 ghost use Rattle.rmp_decode.specs.Refusing.{RefusesTuple, part_of};
@@ -11,13 +11,17 @@ ghost use Rattle.rmp_encode.specs.Data.{unit_variant};
 ghost use Rattle.rmp_encode.specs.Refusals.{OfParts, OfSink};
 ghost use Rattle.rmp_encode.specs.Sizes.{one_of};
 ghost use Rattle.rmp_encode.specs.Trees.{newtype_variant_of, tuple_variant_of};
+ghost use Rattle.rmp_serde.specs.EnumEnds.{enum_inside, no_content_inside, with_content_inside};
+ghost use Rattle.rmp_serde.specs.LeafEnds.{number_inside};
 ghost use Rattle.rmp_serde.specs.LeafRounds.{unsigned_row_64};
 ghost use Rattle.rmp_serde.specs.OnlyFields.{AtPlace, AnyContent, content_only, content_row, variant_both};
 ghost use Rattle.rmp_serde.specs.OnlyLeaves.{unsigned_only};
 ghost use Rattle.rmp_serde.specs.OnlyRows.{item_only, last_only, lowers_then};
 ghost use Rattle.rmp_serde.specs.RoundTrip.{Only};
 ghost use Rattle.rmp_serde.specs.Rounds.{rows_none, rows_cons};
+ghost use Rattle.rmp_serde.specs.RowEnds.{tuple_inside};
 ghost use Rattle.rmp_serde.specs.StructRounds.{tuple_variant_all};
+ghost use Rattle.rmp_serde.specs.ValueEnds.{value_inside};
 ghost use Rattle.rmp_serde.specs.ValueLowers.{value_only, value_row};
 ghost use Rattle.rmp_serde.specs.VariantRounds.{bare_other, newtype_variant_other, tuple_variant_other};
 ghost use Rattle.rmp_serde.specs.VariantRounds.{newtype_variant_some, bare_row, newtype_variant_row, tuple_variant_row};
@@ -27,7 +31,7 @@ ghost use Rattle.std.specs.Prelude.{◌≡◌, ◌∷◌, [], None, Some, codes,
 use super::{Request, Value};
 use rmp_decode::{Deserialize, Deserializer};
 use rmp_encode::{Serialize, Serializer};
-use rmp_serde::{NeverNil, RoundTrip};
+use rmp_serde::{EndsInside, NeverNil, RoundTrip};
 use rmp_wire::config::SerializerConfig;
 use rmp_wire::{ReadSlice, Sink};
 
@@ -186,4 +190,19 @@ impl NeverNil for Request {
       | the_request.Get a1 ↦ newtype_variant_other s (codes "Get") _
       | the_request.Put a1 a2 ↦ tuple_variant_other s (codes "Put") _
     ] };
+}
+
+impl<'de, R: ReadSlice<'de>> EndsInside<'de, R> for Request {
+    ghost ends_inside = { enum_inside _ _ (
+      no_content_inside,
+      (
+        with_content_inside _ (number_inside),
+        (
+          with_content_inside _
+              (tuple_inside (part_of ⟦<u64 as Deserialize<'de, R>>⟧.reads ⟦<u64 as Deserialize<'de, R>>⟧.refuses
+              ∷ (part_of ⟦<Value as Deserialize<'de, R>>⟧.reads ⟦<Value as Deserialize<'de, R>>⟧.refuses ∷ [])) (number_inside, (value_inside, tt))),
+          tt,
+        ),
+      ),
+    ) };
 }

@@ -1,8 +1,9 @@
 //! The messages of a source up to its end, and what is said of an end inside of one.
 use faulty_io::Drip;
 use rmp_serde::decode::{Deserialize, Error, Text};
-use rmp_serde::wire::{IoFault, ReadReader, ReadSlice};
-use rmp_serde::{Deserializer, Marker, Value};
+use rmp_serde::wire::{ByteBuf, IoFault, ReadReader, ReadRefReader, ReadSlice};
+use rmp_serde::{Deserializer, Marker, Value, from_slice, message_len};
+use std::collections::BTreeMap;
 use std::io::{Cursor, ErrorKind};
 use std::process::Abort;
 
@@ -112,6 +113,33 @@ fn only_an_end_is_incomplete(rt: HostRuntime) {
     assert!(rt; !Error::InvalidDataRead(fault).is_incomplete());
     assert!(rt; !Error::TypeMismatch(Marker::Reserved).is_incomplete());
     assert!(rt; !Error::OutOfMemory.is_incomplete());
+}
+
+// Whether a read of the type says of no beginning of these bytes that it is incomplete, but where more bytes may complete a message.
+fn ends_inside<'de, T: Deserialize<'de, ReadRefReader<'de>>>(rt: &impl AllocGlobal, whole: &'de [u8]) -> bool {
+    for len in 0..=whole.len() {
+        let cut = &whole[..len];
+        let read: Result<T, Error> = from_slice(rt.alloc(), cut);
+        let incomplete = matches!(read, Err(e) if e.is_incomplete());
+        if incomplete && !matches!(message_len(cut), Ok(None)) {
+            return false;
+        }
+    }
+    true
+}
+
+#[test]
+fn a_typed_read_ends_inside_of_a_message(rt: HostRuntime) {
+    let messages: [&[u8]; 5] = [RECORD, b"\x93\x01\xa2it\x92\xcd\x01\x00\xc0", b"\xc4\x03\x01\x02\x03", b"\x92\xc1\x01", b"\x81\xa1k\x90"];
+    for message in messages {
+        assert!(rt; ends_inside::<u8>(&rt, message));
+        assert!(rt; ends_inside::<Vec<u16>>(&rt, message));
+        assert!(rt; ends_inside::<(u8, String, Vec<Option<u16>>)>(&rt, message));
+        assert!(rt; ends_inside::<ByteBuf>(&rt, message));
+        assert!(rt; ends_inside::<[u8; 3]>(&rt, message));
+        assert!(rt; ends_inside::<BTreeMap<String, Vec<u8>>>(&rt, message));
+        assert!(rt; ends_inside::<Value>(&rt, message));
+    }
 }
 
 #[test]

@@ -14,3 +14,11 @@ returns-in-Err-clause-err c = λ n.
     (ap (λ (z : Deserializer _ _). max 1 z.room) q ∙ deep_enough _ _ d.new.room d.new.limit)
     (known_left _ _ _ (ap (λ (z : Deserializer _ _). z.kept) q ∙ d.new.kept) (ap (λ (z : Deserializer _ _). rest_of z.reader) q ∙ d.rest))
     (c.in-Err.ensures.law.err (ap (λ (z : Deserializer _ _). z.failed) q ∙ d.new.ready) n refl)
+
+pub returns-in-Err-clause-incomplete : goal.returns-in-Err-clause-incomplete
+returns-in-Err-clause-incomplete c =
+    let d = c.from_read_ref-de.ensures in
+    let q = c.set_max_depth.ensures in
+    let told = known_left _ _ _ (ap (λ (z : Deserializer _ _). z.kept) q ∙ d.new.kept) (ap (λ (z : Deserializer _ _). rest_of z.reader) q ∙ d.rest) in
+    let refused = c.in-Err.ensures.refused (ap (λ (z : Deserializer _ _). z.failed) q ∙ d.new.ready) in
+    c.ends_are_inside.ensures.begins _ c.in-Err.e (rw told at refused)

@@ -1,7 +1,7 @@
 -- By what the scanner ends, and what is read of it.
 use Rattle.std.proofs.Common.{arith, rules, ap, ◌≡◌, ◌∙◌, ◌++◌, take, drop, List, ℕ}
 use Rattle.example_frames.specs.declared.stream.StreamRefusal.TheVariants as refusal
-use Rattle.example_frames.proofs.Sent.{taken_from, is_other, sent_back, never_stops, stops_as}
+use Rattle.example_frames.proofs.Sent.{taken_from, is_other, is_uncut, sent_back, never_stops, stops_as}
 use Rattle.example_frames.proofs.stream.Incoming.next.Goals as goal
 
 pub returns-in-Ok-clause-taken : goal.returns-in-Ok-clause-taken
@@ -35,6 +35,18 @@ returns-in-Err-first_request-clause-refused c = λ o ne.
     let front : c.split_at.result.0.now ≡ take used piece = c.split_at.ensures.front ∙ ap (λ z. take z piece) same in
     is_other old.bytes.items piece c.as_slice.result.now used s.within s.ends
     (c.as_slice.ensures.value ∙ items ∙ ap (λ z. old.bytes.items ++ z) front) _ (c.in-Err-first_request.ensures.err ne)
+
+pub returns-in-Err-first_request-clause-uncut : goal.returns-in-Err-first_request-clause-uncut
+returns-in-Err-first_request-clause-uncut c = λ o end.
+    let old = c.args.self.now in
+    let piece : List ℕ = c.args.piece.now in
+    let used : ℕ = c.in-Ok-Whole.used in
+    let s = rw c.in-Ok-Whole.field-0-is at (c.in-Ok-Whole.ensures.law old.bytes.items o.after) in
+    let same : c.min.result ≡ used = omega (arith, s.within) in
+    let items : c.extend_from_slice.new.self.items ≡ old.bytes.items ++ c.split_at.result.0.now = search rules in
+    let front : c.split_at.result.0.now ≡ take used piece = c.split_at.ensures.front ∙ ap (λ z. take z piece) same in
+    is_uncut old.bytes.items piece c.as_slice.result.now used s.within s.ends
+    (c.as_slice.ensures.value ∙ items ∙ ap (λ z. old.bytes.items ++ z) front) (c.in-Err-first_request.ensures.incomplete end)
 
 pub returns-in-Err-first_request-clause-whole : goal.returns-in-Err-first_request-clause-whole
 returns-in-Err-first_request-clause-whole c = λ o ne asked bytes rest later s e short deep.
