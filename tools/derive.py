@@ -1,5 +1,5 @@
 #!/usr/bin/env python3
-"""Writes `Serialize`, `Deserialize` and `RoundTrip` for the structs and enums of a file, and the proofs.
+"""Writes `Serialize`, `Deserialize`, `RoundTrip` and `EndsInside` for the structs and enums of a file, and the proofs.
 
     tools/derive.py CRATE FILE..            writes them; CRATE is the crate's folder, and FILE a path below its src/
     tools/derive.py --check CRATE FILE..    ends with 1, and names the types that changed since they were derived
@@ -28,7 +28,8 @@ implements for a type isn't derived for it.
 Where crates.txt names rmp_serde for the crate too, or rmp_round_trip, which that re-exports, each type gets `RoundTrip`, and
 `NeverNil` where no value is nil, if the laws of its fields are known: they are of parameters, of types of std or of the wire, or of
 types of the crate that have `RoundTrip`, in this file or in one that a `use` names; where such a type has parameters, the types of
-its fields have to be in scope, too. Of a type that doesn't get it the tool says why.
+its fields have to be in scope, too. Where crates.txt names rmp_serde or rmp_ends, each type gets `EndsInside`, if the types of its
+fields have it, and it doesn't contain itself. Of a type that doesn't get one of these the tool says why.
 """
 from __future__ import annotations
 
@@ -42,6 +43,8 @@ sys.dont_write_bytecode = True
 import derived_recursive as recursive
 import halves
 from declarations import PLAIN, PRELUDE, Declared, Refused, identifiers, is_flat
+from derived_ends import LEMMAS as ENDS
+from derived_ends import implementation as ends
 from derived_proofs import answers, has_content, has_defaults
 from derived_rounds import LEMMAS, Own, Unknown
 from derived_rounds import implementations as rounds
@@ -60,6 +63,7 @@ FEW = 4
 CODE = {
     "rmp_decode": "Defaulted Deserialize Deserializer EightThen ReadFields",
     "rmp_encode": "Elements Serialize Serializer",
+    "rmp_ends": "EndsInside",
     "rmp_round_trip": "NeverNil RoundTrip",
     "rmp_wire": "ReadSlice Sink",
     "rmp_wire::config": "SerializerConfig",
@@ -364,9 +368,13 @@ def named_types(types):
     return sorted(capital.union({of.name for of in types}, *(of.constants() for of in types)) - PRELUDE - PLAIN - own)
 
 
-def through(library, table):
-    """The same names, those of rmp_round_trip through this library, if there is one."""
-    return {re.sub(r"^rmp_round_trip\b", library or "rmp_round_trip", path): names for path, names in table.items()}
+def through(module, table):
+    """The same names, those of rmp_round_trip and rmp_ends through the library that re-exports them, if there is one."""
+    libraries, found = {"rmp_round_trip": module.rounds(), "rmp_ends": module.ends()}, {}
+    for path, names in table.items():
+        path = re.sub(r"^\w+", lambda name: libraries.get(name[0]) or name[0], path)
+        found[path] = f"{found.get(path, '')} {names}"
+    return found
 
 
 def implementations(module: Module, wanted: list[Own]) -> str:
@@ -385,12 +393,17 @@ def implementations(module: Module, wanted: list[Own]) -> str:
             why = str(unknown)
         if why:
             print(f"derive: {module.path}: {own.of.name} has no RoundTrip: {why}", file=sys.stderr)
+        try:
+            items += ends(own) if "EndsInside" in own.derived else []
+        except Unknown as unknown:
+            print(f"derive: {module.path}: {own.of.name} has no EndsInside: {unknown}", file=sys.stderr)
     for count in more_parts(wanted):
         items += handing_over(count)
     text = "\n".join(items)
-    table = {name: f"{GHOST.get(name, '')} {LEMMAS.get(name, '')}" for name in {**GHOST, **LEMMAS}}
+    tables = (GHOST, LEMMAS, ENDS)
+    table = {name: " ".join(dict.fromkeys(word for each in tables for word in each.get(name, "").split())) for each in tables for name in each}
     table = recursive.with_words(table, module, wanted)
-    ghosts = imports(text, through(module.rounds(), table), ghost_line)
+    ghosts = imports(text, through(module, table), ghost_line)
     others = {other.declared: other for own in wanted for other in own.others.values()}
     for own in [*wanted, *others.values()]:
         if own.of.variants and f"{alias(own.of)}." in text:
@@ -399,7 +412,7 @@ def implementations(module: Module, wanted: list[Own]) -> str:
     if named:
         ghosts.append(ghost_line(f"{module.name}.specs.declared.{module.below('TheConstants')}", named))
     brought = set().union(*(own.brought for own in wanted))
-    uses = [code_line("super", sorted(brought.union(named_types([own.of for own in wanted])))), *imports(text, through(module.rounds(), recursive.with_code(CODE, wanted)), code_line)]
+    uses = [code_line("super", sorted(brought.union(named_types([own.of for own in wanted])))), *imports(text, through(module, recursive.with_code(CODE, wanted)), code_line)]
     about = f"//! How the types of {module.path} are written and read. Written by tools/derive.py.\n//!\n{sums_lines(wanted)}"
     return about + "".join(sorted(ghosts)) + "\n" + "".join(uses) + "\n" + text
 

@@ -170,6 +170,9 @@ def listed_in(terms):
 class Rounds:
     """The laws of types in terms, for the implementation of this type, where these types of the crate have laws."""
 
+    # What a type has whose law is spelled out.
+    trait = "RoundTrip"
+
     def __init__(self, own: Own) -> None:
         self.home, self.own, self.words, self.count = own, own.names, Words(own.of), 0
         of = own.of
@@ -217,8 +220,8 @@ class Rounds:
 
     def instance(self, name: str, parts: list[str]) -> Declared:
         """A type of the crate at these parameters."""
-        if name not in self.own or "RoundTrip" not in self.own[name].derived or not self.own[name].has("RoundTrip"):
-            raise Unknown(f"no RoundTrip of {name} is known")
+        if name not in self.own or self.trait not in self.own[name].derived or self.trait == "RoundTrip" and not self.own[name].has("RoundTrip"):
+            raise Unknown(f"no {self.trait} of {name} is known")
         self.bring(self.own[name])
         of = self.own[name].of.lent_for("'de")
         parts = dict(zip((name for name, _ in of.parameters), (part for part in parts if part != "'de")))

@@ -14,7 +14,7 @@ from declarations import Refused, identifiers, read
 from derived_rounds import Own
 from lines import broken
 
-TRAITS = {"Serialize", "Deserialize", "RoundTrip", "NeverNil"}
+TRAITS = {"Serialize", "Deserialize", "RoundTrip", "NeverNil", "EndsInside"}
 LIBRARIES = "rmp_encode rmp_decode rmp_wire".split()
 DERIVED = re.compile(r"^mod derived;", re.M)
 # The sums of the declarations in a derived file's head, and how many of them a line has.
@@ -59,6 +59,10 @@ class Module:
     def rounds(self) -> Optional[str]:
         """The library through which the crate names `RoundTrip`, if it has any."""
         return next((name for name in ("rmp_serde", "rmp_round_trip") if name in self.libraries()), None)
+
+    def ends(self) -> Optional[str]:
+        """The library through which the crate names `EndsInside`, if it has any."""
+        return next((name for name in ("rmp_serde", "rmp_ends") if name in self.libraries()), None)
 
     def source(self) -> str:
         if self.path.startswith("src/"):
@@ -121,6 +125,7 @@ class Module:
         for name, of in read(source).items():
             by_hand = implemented(source, name)
             derived = self.traits(by_hand, of.asked) if has_derived else set()
+            derived |= {"EndsInside"} - by_hand if self.ends() and "Deserialize" in derived else set()
             modules = {trait: f"{self.name}.specs.contracts.{self.below(*['derived'] * (trait in derived))}" for trait in TRAITS}
             declared = f"{self.name}.specs.declared.{self.below(name)}"
             names[name] = Own(of, derived, by_hand, modules, names, declared, dict(brought_in(source)))

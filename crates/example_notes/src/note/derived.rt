@@ -1,6 +1,6 @@
 //! How the types of note.rt are written and read. Written by tools/derive.py.
 //!
-//! Sum of Note: 50cf9449.
+//! Sum of Note: 1395c1ba.
 ghost use Rattle.rmp_decode.specs.FieldRefusing.{RefusesFields};
 ghost use Rattle.rmp_decode.specs.Fields.{OfFields, Field, Absent, NoField};
 ghost use Rattle.rmp_decode.specs.ReadFields.{reads_2};
@@ -8,6 +8,8 @@ ghost use Rattle.rmp_decode.specs.Refusing.{part_of};
 ghost use Rattle.rmp_encode.specs.Refusals.{OfParts};
 ghost use Rattle.rmp_encode.specs.Sizes.{one_of};
 ghost use Rattle.rmp_encode.specs.Trees.{structure_of};
+ghost use Rattle.rmp_serde.specs.FieldEnds.{fields_inside};
+ghost use Rattle.rmp_serde.specs.LeafEnds.{string_inside};
 ghost use Rattle.rmp_serde.specs.LeafRounds.{string_row};
 ghost use Rattle.rmp_serde.specs.OnlyFields.{field_only, fields_both, last_field};
 ghost use Rattle.rmp_serde.specs.OnlyLeaves.{string_only};
@@ -20,7 +22,7 @@ ghost use Rattle.std.specs.Prelude.{◌∷◌, [], None, codes, string_bytes};
 use super::Note;
 use rmp_decode::{Deserialize, Deserializer};
 use rmp_encode::{Serialize, Serializer};
-use rmp_serde::{NeverNil, RoundTrip};
+use rmp_serde::{EndsInside, NeverNil, RoundTrip};
 use rmp_wire::config::SerializerConfig;
 use rmp_wire::{ReadSlice, Sink};
 
@@ -111,4 +113,8 @@ impl<'de, R: ReadSlice<'de>> RoundTrip<'de, R> for Note {
 
 impl NeverNil for Note {
     ghost never_nil = { λ s v. structure_other s _ };
+}
+
+impl<'de, R: ReadSlice<'de>> EndsInside<'de, R> for Note {
+    ghost ends_inside = { fields_inside _ _ _ (string_inside, (string_inside, tt)) };
 }
