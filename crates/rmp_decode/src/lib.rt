@@ -29,6 +29,7 @@ pub use access::field_access::FieldAccess;
 pub use access::field_access::recursive::ReadPlaces;
 pub use access::fields::Fields as ReadFields;
 pub use access::fields::eight::{EightSlots, EightThen};
+pub use access::fields::sixteen::{SixteenSlots, SixteenThen};
 pub use access::map::MapAccess;
 pub use access::read_fields::{
     read_fields_2, read_fields_3, read_fields_4, read_fields_5, read_fields_6, read_fields_7,

@@ -7,8 +7,8 @@ pub use rmp_decode::{
 };
 /// What derived types are read by.
 pub use rmp_decode::{
-    Defaulted, EightThen, ReadContent, ReadFields, ReadPlaces, read_fields_2, read_fields_3,
-    read_fields_4, read_fields_5, read_fields_6, read_fields_7, read_fields_8, read_fields_9,
-    read_fields_10, read_fields_11, read_fields_12,
+    Defaulted, EightThen, ReadContent, ReadFields, ReadPlaces, SixteenThen, read_fields_2,
+    read_fields_3, read_fields_4, read_fields_5, read_fields_6, read_fields_7, read_fields_8,
+    read_fields_9, read_fields_10, read_fields_11, read_fields_12,
 };
 pub use rmp_wire::{ReadReader, ReadRefReader, ReadSlice, Reference, SourceFault};

@@ -1,5 +1,6 @@
 //! The fields of structs, by name or in order.
 pub(crate) mod eight;
+pub(crate) mod sixteen;
 mod wide;
 
 ghost use Rattle.std.specs.Prelude.{◌≡◌, ◌≢◌, ◌⊎◌, ◌<◌, ◌≤◌, ◌||◌, ℕ, Bool, List, Option, None, Some, true};

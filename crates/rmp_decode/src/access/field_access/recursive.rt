@@ -1,5 +1,5 @@
 //! The fields of a recursive struct.
-ghost use Rattle.std.specs.Prelude.{◌≡◌, ◌<◌, Bool, true, false, Some, None, IfSome, IfNone, IfOk, IfErr, OnErr, MatchResult};
+ghost use Rattle.std.specs.Prelude.{◌≡◌, ◌<◌, ◌⊎◌, Bool, true, false, Some, None, IfSome, IfNone, IfOk, IfErr, OnErr, MatchResult};
 ghost use Rattle.rmp_decode.specs.FieldAccess.{IsStructOpen, SameStruct, AtField, TakesPlace, NoPlace, FailsPlace};
 ghost use Rattle.rmp_decode.specs.FieldAccess.{fields_left, is_of_map, is_struct_sound, struct_lender, unsound};
 ghost use Rattle.rmp_decode.specs.Law.{IsFailedBefore};
@@ -94,5 +94,23 @@ impl<'x, R: Source, C: SerializerConfig> FieldAccess<'x, R, C> {
         }
         self.sound = false;
         Err(Error::Syntax(Text::MissingField))
+    }
+
+    /// The value of a field: what was read of it, or, where nothing was, that of `missing_field_or`.
+    ///
+    /// # Errors
+    /// Those of `missing_field_or`, where nothing was read.
+    #[inline(always)]
+    pub fn given_or<T: Drop>(&mut self, given: Option<T>, absent: Option<T>) -> Result<T, Error>
+        ensures same_reference { self.new.de.ghost_name ≡ self.old.de.ghost_name }
+        ensures ok { IfOk result (λ v. ((given ≡ Some v) ⊎ ((given ≡ None) × (absent ≡ Some v))) × (self.new ≡ self.old)) }
+        ensures err { is_struct_sound self.old ≡ true → IfErr result (λ e. (given ≡ None) × (e ≡ Error.Syntax Text.MissingField)
+            × (is_of_map self.old ≡ true → absent ≡ None) × (self.new ≡ unsound self.old)) }
+        ensures failed { OnErr result (is_struct_sound self.new ≡ false) }
+    {
+        match given {
+            Some(value) => Ok(value),
+            None => self.missing_field_or(absent),
+        }
     }
 }

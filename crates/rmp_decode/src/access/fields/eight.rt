@@ -1,5 +1,5 @@
 //! Eight fields and the others, as a struct. What is known of a struct is said by its name, while of a tuple it is written out. So a struct
-//! of more than sixteen fields is read as these.
+//! of more than sixteen fields is read as these. Written by tools/fields_then.py.
 
 use super::Fields;
 use crate::access::map::MapAccess;
@@ -84,20 +84,21 @@ impl<
     ghost counted = { λ human lends fs v. ⟦<(A, B, D, E, (G, H, I, J, F)) as Fields<'de, R>>⟧.counted human lends fs
         (v.first, v.second, v.third, v.fourth, (v.fifth, v.sixth, v.seventh, v.eighth, v.rest)) };
 
-    ghost full = { λ human lends ms t h. let w = ⟦<(A, B, D, E, (G, H, I, J, F)) as Fields<'de, R>>⟧.full human lends ms t.read h in (
-      record {
-        first = w.0.0;
-        second = w.0.1;
-        third = w.0.2;
-        fourth = w.0.3;
-        fifth = w.0.4.0;
-        sixth = w.0.4.1;
-        seventh = w.0.4.2;
-        eighth = w.0.4.3;
-        rest = w.0.4.4;
-      },
-      w.1,
-    ) };
+    ghost full = { λ human lends ms t h. let w = ⟦<(A, B, D, E, (G, H, I, J, F)) as Fields<'de, R>>⟧.full human lends ms t.read h
+        in (
+          record {
+            first = w.0.0;
+            second = w.0.1;
+            third = w.0.2;
+            fourth = w.0.3;
+            fifth = w.0.4.0;
+            sixth = w.0.4.1;
+            seventh = w.0.4.2;
+            eighth = w.0.4.3;
+            rest = w.0.4.4;
+          },
+          w.1,
+        ) };
 
     fn empty() -> EightSlots<A, B, D, E, G, H, I, J, F::Slots> {
         EightSlots {

@@ -1,0 +1,245 @@
+#!/usr/bin/env python3
+"""Writes `EightThen` and `SixteenThen`, the structs that so many fields and the others are read as, and their proofs.
+
+    tools/fields_then.py [FOLDER]      writes below this folder in place of the repository's top
+
+Each hands on to what it groups: eight fields to two tuples of four, sixteen to two `EightThen`. Run `rt fmt` in the crate afterwards.
+"""
+from __future__ import annotations
+
+import dataclasses
+
+from halves import FIELDS
+from lines import write
+
+# The types of the fields: `C` is that of the settings, `R` that of the source, `F` that of the other fields and `S` that of their slots.
+KINDS = "A B D E G H I J K L M N O P Q T".split()
+# Where its proofs begin.
+PLACE = ("proofs", "access", "fields")
+
+
+@dataclasses.dataclass(frozen=True)
+class Group:
+    """A struct of so many fields and the others, what it hands on to, and how that is made of such fields."""
+
+    count: int
+    word: str
+    about: str
+
+    @property
+    def name(self) -> str:
+        return f"{self.word}Then"
+
+    @property
+    def module(self) -> str:
+        return self.word.lower()
+
+    def kinds(self) -> list[str]:
+        return KINDS[: self.count]
+
+    def of(self, rest: str = "F") -> str:
+        """Its type."""
+        return f"{self.name}<{', '.join([*self.kinds(), rest])}>"
+
+    def slots(self, rest: str = "F::Slots") -> str:
+        return f"{self.word}Slots<{', '.join([*self.kinds(), rest])}>"
+
+    def is_eight(self) -> bool:
+        return self.count == 8
+
+    def inner(self) -> str:
+        """The type that it hands on to."""
+        if self.is_eight():
+            return "(A, B, D, E, (G, H, I, J, F))"
+        return f"EightThen<{', '.join(KINDS[:8])}, EightThen<{', '.join(KINDS[8:16])}, F>>"
+
+    def inner_slots(self) -> str:
+        if self.is_eight():
+            return "".join(f"(Option<{kind}>, " for kind in KINDS[:8]) + "S" + ")" * 8
+        return f"EightSlots<{', '.join(KINDS[:8])}, EightSlots<{', '.join(KINDS[8:16])}, S>>"
+
+    def fields(self) -> list[str]:
+        return FIELDS[: self.count]
+
+    def value(self, of: str) -> str:
+        """The value of the inner type, by the fields of this one."""
+        fields = [f"{of}.{field}" for field in self.fields()]
+        if self.is_eight():
+            return f"({', '.join(fields[:4])}, ({', '.join(fields[4:])}, {of}.rest))"
+        first, second = eight_record(fields[:8]), eight_record(fields[8:])
+        return f"({first.replace('REST', second.replace('REST', f'{of}.rest'))})"
+
+    def back(self, of: str) -> str:
+        """The value of this type, by the fields of the inner one."""
+        if self.is_eight():
+            places = [f"{of}.{at}" for at in range(4)] + [f"{of}.4.{at}" for at in range(5)]
+        else:
+            places = [f"{of}.{field}" for field in FIELDS[:8]] + [f"{of}.rest.{field}" for field in [*FIELDS[:8], "rest"]]
+        return f"record {{ {' '.join(f'{field} = {place};' for field, place in zip([*self.fields(), 'rest'], places))} }}"
+
+
+def eight_record(values: list[str]) -> str:
+    return f"record {{ {' '.join(f'{field} = {value};' for field, value in zip(FIELDS, values))} rest = REST; }}"
+
+
+GROUPS = [
+    Group(8, "Eight", "What is said of the eight, and done with them, is that of two tuples of four."),
+    Group(16, "Sixteen", "What is said of the sixteen, and done with them, is that of two structs of eight."),
+]
+
+
+def types(group: Group) -> str:
+    """The struct and its slots."""
+    fields = "\n".join(f"    pub {field}: {kind}," for field, kind in zip([*group.fields(), "rest"], [*group.kinds(), "F"]))
+    return f"""
+/// The values of {group.module} fields, and those of the fields after them.
+#[derive(Drop)]
+pub struct {group.of()} {{
+{fields}
+}}
+
+/// What was read so far of {group.module} fields, and of those after them.
+#[derive(Drop)]
+pub struct {group.slots('S')} {{
+    read: {group.inner_slots()},
+}}
+"""
+
+
+def ghosts(group: Group) -> str:
+    """What is said of them."""
+    on = f"⟦<{group.inner()} as Fields<'de, R>>⟧"
+    value = group.value("v")
+    by_value = {"reads": "human lends fs", "taken": "human lends fs", "given": "s fs", "counted": "human lends fs"}
+    terms = {word: f"λ {words} v. {on}.{word} {words} {value}" for word, words in by_value.items()}
+    terms |= {word: f"{on}.{word}" for word in ("count", "takes", "parts", "takes_memory", "many")}
+    terms |= {"holds": f"λ human lends fs s. {on}.holds human lends fs s.read", "held": f"λ s fs t. {on}.held s fs t.read"}
+    terms["full"] = f"λ human lends ms t h. let w = {on}.full human lends ms t.read h in ({group.back('w.0')}, w.1)"
+    words = "count reads holds takes taken parts takes_memory many held given counted full".split()
+    lines = [f"type Slots = {group.slots()};\n", *(f"ghost {word} = {{ {terms[word]} }};\n" for word in words)]
+    return "\n".join(f"    {line}" for line in lines)
+
+
+def made(group: Group, ok: str, err: str) -> str:
+    """The arms that make the value of what the inner type's call answered."""
+    names = group.fields()
+    whole = f"{ok}({group.name} {{ {', '.join([*names, 'rest'])} }})"
+    if group.is_eight():
+        return f"{ok}(({', '.join(names[:4])}, ({', '.join(names[4:])}, rest))) => {whole},\n{err},"
+    first = ", ".join([*names[:8], "rest: others"])
+    second = ", ".join([*(f"{field}: {name}" for field, name in zip(FIELDS, names[8:])), "rest"])
+    return f"{ok}(parts) => {{\nlet EightThen {{ {first} }} = parts;\nlet EightThen {{ {second} }} = others;\n{whole}\n}}\n{err},"
+
+
+def code(group: Group) -> str:
+    """What is done with them."""
+    on = f"<{group.inner()} as Fields<'de, R>>"
+    slots = f"slots: &mut {group.slots()}, refusal: &mut Option<Error>"
+    settings = "C: SerializerConfig"
+    return f"""
+    fn empty() -> {group.slots()} {{
+        {group.word}Slots {{ read: {on}::empty() }}
+    }}
+
+    #[inline(always)]
+    fn fill<'x, {settings}>({slots}, place: usize, map: &mut MapAccess<'x, R, C>) -> bool {{
+        {on}::fill(&mut slots.read, refusal, place, map)
+    }}
+
+    #[inline(always)]
+    fn finish(slots: {group.slots()}) -> Option<{group.of()}> {{
+        let {group.word}Slots {{ read }} = slots;
+        match {on}::finish(read) {{
+            {made(group, "Some", "None => None")}
+        }}
+    }}
+
+    #[inline(always)]
+    fn row<{settings}>({slots}, de: &mut Deserializer<R, C>) -> bool {{
+        {on}::row(&mut slots.read, refusal, de)
+    }}
+
+    #[inline(always)]
+    fn listed<'x, {settings}>(seq: &mut SeqAccess<'x, R, C>) -> Result<{group.of()}, Error> {{
+        match {on}::listed(seq) {{
+            {made(group, "Ok", "Err(why) => Err(why)")}
+        }}
+    }}
+"""
+
+
+def source(group: Group) -> str:
+    """The text of its module."""
+    bounds = "".join(f"    {kind}: Deserialize<'de, R>,\n" for kind in group.kinds())
+    eight = "" if group.is_eight() else "use super::eight::{EightSlots, EightThen};\n"
+    return f"""//! {group.word} fields and the others, as a struct. What is known of a struct is said by its name, while of a tuple it is written out. So a struct
+//! of more than sixteen fields is read as these. Written by tools/fields_then.py.
+
+use super::Fields;
+{eight}use crate::access::map::MapAccess;
+use crate::access::seq::SeqAccess;
+use crate::de::Deserialize;
+use crate::deserializer::Deserializer;
+use crate::error::Error;
+use rmp_wire::ReadSlice;
+use rmp_wire::config::SerializerConfig;
+{types(group)}
+// {group.about}
+impl<
+    'de,
+    R: ReadSlice<'de>,
+{bounds}    F: Fields<'de, R>,
+> Fields<'de, R> for {group.of()} {{
+{ghosts(group)}{code(group)}}}
+"""
+
+
+def proofs(group: Group) -> dict[str, str]:
+    """What the answers of each function say."""
+    narrower = f"""record {{
+  stays = f.stays;
+  failed = f.failed;
+  err = λ m k. row_narrower _ _ _ _ _ _ (λ ms r. ({group.value('r.0')}, r.1)) (f.err m k);
+}}"""
+    return {
+        "fill": """use Rattle.rmp_decode.proofs.Fields.{if_some, or_left, or_right}
+GOALS
+pub returns-clause-ok : goal.returns-clause-ok
+returns-clause-ok g c = λ t. let f = c.fill.ensures.ok t in record { took = f.took; filled = f.filled }
+
+pub returns-clause-err : goal.returns-clause-err
+returns-clause-err g c = λ n. if_some c.fill.new.refusal (λ e. or_right (λ f. record { full = f.full; same = f.same })) (c.fill.ensures.err n)
+
+pub returns-clause-refused : goal.returns-clause-refused
+returns-clause-refused g c = λ n. if_some c.fill.new.refusal (λ e. or_left (λ p. (p.0, record { full = p.1.full; same = p.1.same })))
+    (c.fill.ensures.refused n)
+""",
+        "row": f"""use Rattle.rmp_decode.proofs.FieldRows.{{if_some}}
+use Rattle.rmp_decode.proofs.Tuples.{{row_narrower}}
+GOALS
+pub returns-clause-err : goal.returns-clause-err
+returns-clause-err g c = λ n. if_some c.row.new.refusal (λ e f. {narrower}) (c.row.ensures.err n)
+""",
+        "finish": f"""GOALS
+pub returns-in-None : goal.returns-in-None
+returns-in-None g c = λ human lends fs h v. c.in-None.ensures human lends fs h {group.value('v')}
+""",
+        "listed": f"""use Rattle.rmp_decode.proofs.Tuples.{{row_narrower}}
+GOALS
+pub returns-in-Err-clause-err : goal.returns-in-Err-clause-err
+returns-in-Err-clause-err g c = let f = c.in-Err.ensures.err in {narrower}
+""",
+    }
+
+
+def main() -> None:
+    for group in GROUPS:
+        write(source(group), "rmp_decode", "src", "access", "fields", f"{group.module}.rt")
+        for method, text in proofs(group).items():
+            place = (*PLACE, group.module, f"{group.name}Fields", method)
+            goals = f"use Rattle.rmp_decode.{'.'.join(place)}.Goals as goal\n"
+            write(text.replace("GOALS\n", goals), "rmp_decode", *place, "Answers.antt")
+
+
+if __name__ == "__main__":
+    main()
