@@ -48,7 +48,7 @@ from derived_ends import implementation as ends
 from derived_proofs import answers, has_content, has_defaults
 from derived_rounds import LEMMAS, Own, Unknown
 from derived_rounds import implementations as rounds
-from derived_terms import EIGHT, GHOST, GROUP, MOST_IN_TUPLES, Words, alias, bound_name, data_of, eight_bound, memory_of, nested, place_of
+from derived_terms import GHOST, GROUP, MOST_IN_TUPLES, Words, alias, bound_name, data_of, memory_of, nested, place_of, then_bound, then_of
 from derived_terms import member_of_reading, member_of_refusing, members_of_writing, refused_of, underscored
 from imports import imports
 from modules import Files, Module, stale, sums_lines
@@ -61,7 +61,7 @@ NO_BYTE = {"newtype": "Wrapped::wrapped_no_byte", "tuple": "Lists::sequence_no_b
 FEW = 4
 # Where the words of the code come from.
 CODE = {
-    "rmp_decode": "Defaulted Deserialize Deserializer EightThen ReadFields",
+    "rmp_decode": "Defaulted Deserialize Deserializer EightThen ReadFields SixteenThen",
     "rmp_encode": "Elements Serialize Serializer",
     "rmp_ends": "EndsInside",
     "rmp_round_trip": "NeverNil RoundTrip",
@@ -233,9 +233,10 @@ def taken_differ(shape):
         return [f"let ({', '.join(names)}) = parts;"]
     made = [f"let {name} = {name}.value.unwrap_or({field.default.made});" for name, field in zip(names, shape.fields) if field.default]
     lines, whole = [], "parts"
-    while len(names) >= len(EIGHT) and len(shape.fields) > MOST_IN_TUPLES:
-        names, first = names[len(EIGHT) :], names[: len(EIGHT)]
-        lines.append(f"let {eight_bound(first, 'others' if names else '()')} = {whole};")
+    while len(shape.fields) > MOST_IN_TUPLES and then_of(len(names)):
+        size = then_of(len(names))
+        names, first = names[size:], names[:size]
+        lines.append(f"let {then_bound(first, 'others' if names else '()')} = {whole};")
         whole = "others"
     fields = shape.fields[len(shape.fields) - len(names) :]
     depths = [place_of(at, len(names)).count(".") for at, field in enumerate(fields) if field.kind.startswith("[")]

@@ -6,7 +6,7 @@ from collections.abc import Iterable, Iterator
 from typing import TYPE_CHECKING
 
 from declarations import Declared, Field, Shape
-from derived_terms import bound_name, codes, eight_values, nested, place_of
+from derived_terms import bound_name, codes, nested, place_of, then_values
 from imports import imports
 from shared import numbered, tuple_of
 
@@ -88,7 +88,7 @@ def defaulted_read(shape: Shape, fields: list[str], reading: str, arm: str = "c.
             back = f"(plain_field _ _ {back} _ _)"
             needed = f"(plain_needed _ _ {needed} _ _)"
     names = f"({codes(field.key for field in shape.fields)})"
-    forth = f"let x = fields_needed {names} _ _ {needed} m {reading} in ({nested(values, 'tt', eight_values)}, x.1)"
+    forth = f"let x = fields_needed {names} _ _ {needed} m {reading} in ({nested(values, 'tt', then_values)}, x.1)"
     return f"fields_given {names} _ _ {back} m r", forth
 
 
@@ -104,7 +104,7 @@ def struct_read(shape: Shape) -> str:
     elif has_defaults(shape):
         back, forth = (f"λ m r. {term}" for term in defaulted_read(shape, [f"r.0.{field.name}" for field in shape.fields], "r.1"))
     else:
-        forth = f"λ m r. ({nested([f'r.0.{field.name}' for field in shape.fields], 'tt', eight_values)}, r.1)"
+        forth = f"λ m r. ({nested([f'r.0.{field.name}' for field in shape.fields], 'tt', then_values)}, r.1)"
     text = answer("returns-in-Ok-clause-law", held(shape, "c.in-Ok", f"lawful_ok _ _ _ _ _ _ _ ({back}) c.in-Ok.ensures.law"))
     text += answer("returns-in-Err-clause-law", f"lawful_err _ _ _ _ _ _ ({forth}) c.in-Err.ensures.law")
     return text + answer("returns-in-Err-clause-refused", f"c.in-Err.ensures.{refused}")
@@ -136,7 +136,7 @@ def variant_content(shape: Shape, arm: str, others: frozenset[str]) -> tuple[str
     if has_defaults(shape):
         given, needed = (f"(λ m r. {term})" for term in defaulted_read(shape, values, "r", arm, others))
         return f"λ k h. ({'_, ' * n}refl, content_as _ _ {given} k h)", f"λ v k h. content_as _ _ {needed} k h.{n + 1}"
-    value = nested(values, "tt", eight_values) if shape.kind == "named" else values_of(values) if n else ""
+    value = nested(values, "tt", then_values) if shape.kind == "named" else values_of(values) if n else ""
     return f"λ k h. ({'_, ' * n}refl, h)", f"λ v k h. readable _ k {value} h.{n + 1}" if n else "λ v k h. h.1"
 
 

@@ -6,6 +6,7 @@ from collections.abc import Iterable
 from typing import Optional
 
 from declarations import LEAST_FLAT, MOST_FLAT, Declared, Field, Shape, is_flat
+from halves import FIELDS
 from shared import list_of
 
 # Where the words of the ghost members come from.
@@ -29,6 +30,7 @@ GHOST = {
     "rmp_decode.specs.Units": "IsNothing not_nothing",
     "rmp_decode.specs.Variants": "OfVariant Case NoCase Bare Content",
     "rmp_decode.specs.declared.access.fields.eight.EightThen": "EightThen",
+    "rmp_decode.specs.declared.access.fields.sixteen.SixteenThen": "SixteenThen",
 }
 
 
@@ -36,53 +38,62 @@ GHOST = {
 TAKEN = "se de e parts others variant".split()
 # How many fields are in one tuple where there are as many left.
 GROUP = 4
-# How many are read as nested tuples at most, and what EightThen calls its first eight.
+# How many are read as nested tuples at most, and what the first ones of more are read as, by how many they are.
 MOST_IN_TUPLES = 16
-EIGHT = "first second third fourth fifth sixth seventh eighth".split()
+THEN = {16: "SixteenThen", 8: "EightThen"}
 
 
-def eight_kinds(words: list[str], rest: str) -> str:
-    """The type of eight fields and the others."""
-    return f"EightThen<{', '.join([*words, rest])}>"
+def then_of(count: int) -> int:
+    """How many of so many values one struct holds beside the others, if one does."""
+    return next((size for size in THEN if size <= count), 0)
 
 
-def eight_bound(words: list[str], rest: str) -> str:
+def then_kinds(words: list[str], rest: str) -> str:
+    """The type of so many fields and the others."""
+    return f"{THEN[len(words)]}<{', '.join([*words, rest])}>"
+
+
+def then_bound(words: list[str], rest: str) -> str:
     """A pattern of them."""
-    return f"EightThen {{ {', '.join(f'{place}: {word}' for place, word in zip(EIGHT, words))}, rest: {rest} }}"
+    return f"{THEN[len(words)]} {{ {', '.join(f'{place}: {word}' for place, word in zip(FIELDS, words))}, rest: {rest} }}"
 
 
-def eight_values(words: list[str], rest: str) -> str:
+def then_values(words: list[str], rest: str) -> str:
     """Their values, in a term."""
-    return f"record {{ {''.join(f'{place} = {word}; ' for place, word in zip(EIGHT, words))}rest = {rest} }}"
+    return f"record {{ {''.join(f'{place} = {word}; ' for place, word in zip(FIELDS, words))}rest = {rest} }}"
 
 
-def nested(words, end="()", eight=eight_kinds):
+def nested(words, end="()", then=then_kinds):
     """Tuples of the first four and the others, and then pairs of the first and the others, which end in (). Of more than are read as
-    tuples, first structs of eight and the others."""
+    tuples, first structs of sixteen or eight and the others."""
     if len(words) > MOST_IN_TUPLES:
-        return in_eights(words, end, eight)
+        return in_structs(words, end, then)
     if not words:
         return end
     n = GROUP if len(words) >= GROUP else 1
     return f"({', '.join(words[:n])}, {nested(words[n:], end)})"
 
 
-def in_eights(words, end, eight):
-    n = len(EIGHT)
-    return nested(words, end) if len(words) < n else eight(words[:n], in_eights(words[n:], end, eight))
+def in_structs(words, end, then):
+    size = then_of(len(words))
+    return then(words[:size], in_structs(words[size:], end, then)) if size else nested(words, end)
 
 
 def place_of(at: int, count: int) -> str:
     """Where the value at a place is in what so many values are nested as."""
     if count > MOST_IN_TUPLES:
-        whole = count // len(EIGHT)
-        before = min(at // len(EIGHT), whole)
-        at, count = at - before * len(EIGHT), count - whole * len(EIGHT)
-        return ".rest" * before + (f".{EIGHT[at]}" if before < whole else place_of(at, count))
+        return place_in_structs(at, count)
     whole = count // GROUP
     if at < whole * GROUP:
         return ".4" * (at // GROUP) + f".{at % GROUP}"
     return ".4" * whole + ".1" * (at - whole * GROUP) + ".0"
+
+
+def place_in_structs(at: int, count: int) -> str:
+    size = then_of(count)
+    if at < size:
+        return f".{FIELDS[at]}"
+    return ".rest" + place_in_structs(at - size, count - size) if size else place_of(at, count)
 
 
 def codes(names: Iterable[str]) -> str:
@@ -213,29 +224,30 @@ def refusal_of(words: Words, shape: Shape, flat: bool = False) -> str:
         parts = [f"part_of {words.reads(kind, 'reads')} {words.reads(kind, 'refuses')}" for kind in kinds]
         return f"RefusesFields ({codes(field.key for field in shape.fields)}) (reads_{len(kinds)} {given}) ({list_of(parts)})"
     if len(kinds) > MOST_IN_TUPLES:
-        return refusal_of_eights(words, shape, kinds)
+        return refusal_in_structs(words, shape, kinds)
     fields = f"⟦<{nested(kinds)} as ReadFields<'de, R>>⟧"
     return f"RefusesFields ({codes(field.key for field in shape.fields)}) {fields}.reads\n        {fields}.parts"
 
 
-def refusal_of_eights(words: Words, shape: Shape, kinds: list[str]) -> str:
+def refusal_in_structs(words: Words, shape: Shape, kinds: list[str]) -> str:
     """The same of more fields than are read as tuples: each field's part in one list, as what is known of all of them costs more to compare."""
     values = [f"v{place_of(at, len(kinds))}" for at in range(len(kinds))]
     line = "\n            "
     heads = [f"{line}Field (λ j. {words.reads(kind, 'reads')} human lends j {of}) (Absent {words.reads(kind, 'absent')} {of})" for kind, of in zip(kinds, values)]
     parts = [f"{line}part_of {words.reads(kind, 'reads')} {words.reads(kind, 'refuses')}" for kind in kinds]
     reads = f"λ human lends fs v. ({chained(heads, 'NoField')}) fs"
-    return f"RefusesFields {{V = {eights_of(len(kinds))}}} ({codes(field.key for field in shape.fields)})\n        ({reads})\n        ({list_of(parts)})"
+    return f"RefusesFields {{V = {structs_of(len(kinds))}}} ({codes(field.key for field in shape.fields)})\n        ({reads})\n        ({list_of(parts)})"
 
 
-def eights_of(count: int) -> str:
+def structs_of(count: int) -> str:
     """The type that so many values are read as, in a term."""
-    if count >= len(EIGHT):
-        return f"EightThen {'_ ' * len(EIGHT)}({eights_of(count - len(EIGHT))})"
+    size = then_of(count)
+    if size:
+        return f"{THEN[size]} {'_ ' * size}({structs_of(count - size)})"
     if not count:
         return "Unit {0}"
     size = GROUP if count >= GROUP else 1
-    return f"{'_ × ' * size}({eights_of(count - size)})"
+    return f"{'_ × ' * size}({structs_of(count - size)})"
 
 
 def member_of_refusing(of: Declared, words: Words) -> str:

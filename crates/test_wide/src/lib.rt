@@ -9,6 +9,7 @@ mod mixed;
 mod papers;
 mod ports;
 mod signals;
+mod surveys;
 
 pub use buoys::Measured;
 pub use flags::Flag;
@@ -18,3 +19,4 @@ pub use mixed::{Course, Spot, Voyage};
 pub use papers::{Chart, Papers};
 pub use ports::Entry;
 pub use signals::Signal;
+pub use surveys::Survey;

@@ -9,7 +9,7 @@ use std::io::Cursor;
 use std::test::Fail;
 use test_derived::{Counted, Dog, Four, Mixed, Newtype, Opt, Point, Two, Unit, V12};
 use test_lent::{Event, Label, Line, Piece};
-use test_wide::{Chart, Manifest, Papers};
+use test_wide::{Chart, Manifest, Papers, Survey};
 
 fn dog(alloc: Global, name: &str, age: u16) -> Result<Dog, Fail> {
     Ok(Dog {
@@ -413,6 +413,50 @@ fn twenty_fields_of_many_kinds(rt: HostRuntime) -> Result<(), Fail> {
     let read: Result<Manifest, Error> = from_slice(rt.alloc(), b"\x82\xa4done\xc3\xa4done\xc3");
     assert!(rt; matches!(&read, Err(Error::Syntax(Text::DuplicateField))));
     let read: Result<Manifest, Error> = from_slice(rt.alloc(), b"\x81\xa4done\xc3");
+    assert!(rt; matches!(&read, Err(Error::Syntax(Text::MissingField))));
+    Ok(())
+}
+
+const SURVEY: &[u8] = b"\xdc\x00\x20\xa1A\x81\xa6Toward\xa1B\x91\x92\x01\xa1C\
+    \xc4\x10\0\0\0\0\0\0\0\0\0\0\0\0\0\0\0\x07\xc0\xa1D\x92\xff\xc0\x81\xa1E\x05\x93\x01\xcd\x01\x00\x03\xc0\
+    \xc4\x02\x08\x09\x92\xd0\xdf\xc3\xa1F\x09\xcb\x3f\xf0\0\0\0\0\0\0\x91\xa1G\xff\
+    \xc4\x10\xff\xff\xff\xff\xff\xff\xff\xff\xff\xff\xff\xff\xff\xff\xff\xff\x92\x01\x02\xc3\
+    \x81\xa6Toward\xa1H\x91\x92\xff\xc0\xcd\x01\x2c\x0c\x81\x01\xa1I\xc0\x92\xc3\xc2\x91\x81\xa6Toward\xa1J\
+    \x92\x02\xa1K\x91\xc4\x01\x07\xa1L\xa1M";
+
+#[test]
+fn thirty_two_fields_of_many_kinds(rt: HostRuntime) -> Result<(), Fail> {
+    let read: Result<Survey, Error> = from_slice(rt.alloc(), SURVEY);
+    let Ok(survey) = read else {
+        return Err(Fail::from("a survey is refused"));
+    };
+    assert_eq!(rt; to_vec(rt.alloc(), &survey)?.as_slice(), SURVEY);
+    assert!(rt;
+        matches!(
+            &survey,
+            Survey {
+                seal: 7,
+                debt: -1,
+                done: true,
+                length: 300,
+                beam: 12,
+                sounding: None,
+                crane: Some('L'),
+                ..
+            }
+        )
+    );
+    let named = to_vec_named(rt.alloc(), &survey)?;
+    assert!(rt; named.as_slice().starts_with(b"\xde\x00\x20\xa4ship\xa1A\xa6course\x81\xa6Toward\xa1B\xa4crew"));
+    assert!(rt; named.as_slice().ends_with(b"\xa5crane\xa1L\xa8surveyor\xa1M"));
+    let again: Result<Survey, Error> = from_slice(rt.alloc(), named.as_slice());
+    let Ok(again) = again else {
+        return Err(Fail::from("a named survey is refused"));
+    };
+    assert_eq!(rt; to_vec(rt.alloc(), &again)?.as_slice(), SURVEY);
+    let read: Result<Survey, Error> = from_slice(rt.alloc(), b"\x82\xa8surveyor\xa1M\xa8surveyor\xa1M");
+    assert!(rt; matches!(&read, Err(Error::Syntax(Text::DuplicateField))));
+    let read: Result<Survey, Error> = from_slice(rt.alloc(), b"\x81\xa8surveyor\xa1M");
     assert!(rt; matches!(&read, Err(Error::Syntax(Text::MissingField))));
     Ok(())
 }

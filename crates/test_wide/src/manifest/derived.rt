@@ -6,7 +6,7 @@ ghost use Rattle.rmp_decode.specs.FieldRefusing.{RefusesFields};
 ghost use Rattle.rmp_decode.specs.Fields.{OfFields, Field, Absent, NoField};
 ghost use Rattle.rmp_decode.specs.Refusing.{part_of};
 ghost use Rattle.rmp_decode.specs.Rows.{ReadsEach};
-ghost use Rattle.rmp_decode.specs.declared.access.fields.eight.EightThen.{EightThen};
+ghost use Rattle.rmp_decode.specs.declared.access.fields.sixteen.SixteenThen.{SixteenThen};
 ghost use Rattle.rmp_encode.specs.Refusals.{OfParts};
 ghost use Rattle.rmp_encode.specs.Sizes.{one_of};
 ghost use Rattle.rmp_encode.specs.Trees.{structure_of};
@@ -29,7 +29,7 @@ ghost use Rattle.std.proofs.lemmas.Cmp.{on_total, nat_list_cmp_total};
 ghost use Rattle.std.specs.Prelude.{◌∷◌, [], None, codes, string_bytes, pos, negsuc};
 
 use super::{BTreeMap, BTreeSet, ByteBuf, Course, F64Bits, Manifest, Spot};
-use rmp_decode::{Deserialize, Deserializer, EightThen};
+use rmp_decode::{Deserialize, Deserializer, SixteenThen};
 use rmp_encode::{Elements, Serialize, Serializer};
 use rmp_round_trip::{NeverNil, RoundTrip};
 use rmp_wire::config::SerializerConfig;
@@ -170,7 +170,7 @@ impl<'de, R: ReadSlice<'de>> Deserialize<'de, R> for Manifest {
 
     ghost absent = { None };
 
-    ghost refuses = { RefusesFields {V = EightThen _ _ _ _ _ _ _ _ (EightThen _ _ _ _ _ _ _ _ (_ × _ × _ × _ × (Unit {0})))}
+    ghost refuses = { RefusesFields {V = SixteenThen _ _ _ _ _ _ _ _ _ _ _ _ _ _ _ _ (_ × _ × _ × _ × (Unit {0}))}
         (codes "ship" ∷ (codes "course" ∷ (codes "crew" ∷ (codes "seal"
         ∷ (codes "nothing" ∷ (codes "flag" ∷ (codes "spot"
         ∷ (codes "cargo" ∷ (codes "depths" ∷ (codes "last"
@@ -187,24 +187,22 @@ impl<'de, R: ReadSlice<'de>> Deserialize<'de, R> for Manifest {
         Field (λ j. ⟦<Spot as Deserialize<'de, R>>⟧.reads human lends j v.seventh) (Absent ⟦<Spot as Deserialize<'de, R>>⟧.absent v.seventh) (
         Field (λ j. ⟦<BTreeMap<String, u64> as Deserialize<'de, R>>⟧.reads human lends j v.eighth)
         (Absent ⟦<BTreeMap<String, u64> as Deserialize<'de, R>>⟧.absent v.eighth) (
-        Field (λ j. ⟦<[u16; 3] as Deserialize<'de, R>>⟧.reads human lends j v.rest.first) (Absent ⟦<[u16; 3] as Deserialize<'de, R>>⟧.absent v.rest.first) (
-        Field (λ j. ⟦<Option<Spot> as Deserialize<'de, R>>⟧.reads human lends j v.rest.second)
-        (Absent ⟦<Option<Spot> as Deserialize<'de, R>>⟧.absent v.rest.second) (
-        Field (λ j. ⟦<ByteBuf as Deserialize<'de, R>>⟧.reads human lends j v.rest.third) (Absent ⟦<ByteBuf as Deserialize<'de, R>>⟧.absent v.rest.third) (
-        Field (λ j. ⟦<(i64, Option<bool>) as Deserialize<'de, R>>⟧.reads human lends j v.rest.fourth)
-        (Absent ⟦<(i64, Option<bool>) as Deserialize<'de, R>>⟧.absent v.rest.fourth) (
-        Field (λ j. ⟦<Option<String> as Deserialize<'de, R>>⟧.reads human lends j v.rest.fifth)
-        (Absent ⟦<Option<String> as Deserialize<'de, R>>⟧.absent v.rest.fifth) (
-        Field (λ j. ⟦<u32 as Deserialize<'de, R>>⟧.reads human lends j v.rest.sixth) (Absent ⟦<u32 as Deserialize<'de, R>>⟧.absent v.rest.sixth) (
-        Field (λ j. ⟦<F64Bits as Deserialize<'de, R>>⟧.reads human lends j v.rest.seventh)
-        (Absent ⟦<F64Bits as Deserialize<'de, R>>⟧.absent v.rest.seventh) (
-        Field (λ j. ⟦<Vec<String> as Deserialize<'de, R>>⟧.reads human lends j v.rest.eighth)
-        (Absent ⟦<Vec<String> as Deserialize<'de, R>>⟧.absent v.rest.eighth) (
-        Field (λ j. ⟦<i16 as Deserialize<'de, R>>⟧.reads human lends j v.rest.rest.0) (Absent ⟦<i16 as Deserialize<'de, R>>⟧.absent v.rest.rest.0) (
-        Field (λ j. ⟦<i128 as Deserialize<'de, R>>⟧.reads human lends j v.rest.rest.1) (Absent ⟦<i128 as Deserialize<'de, R>>⟧.absent v.rest.rest.1) (
-        Field (λ j. ⟦<BTreeSet<u16> as Deserialize<'de, R>>⟧.reads human lends j v.rest.rest.2)
-        (Absent ⟦<BTreeSet<u16> as Deserialize<'de, R>>⟧.absent v.rest.rest.2) (
-        Field (λ j. ⟦<bool as Deserialize<'de, R>>⟧.reads human lends j v.rest.rest.3) (Absent ⟦<bool as Deserialize<'de, R>>⟧.absent v.rest.rest.3)
+        Field (λ j. ⟦<[u16; 3] as Deserialize<'de, R>>⟧.reads human lends j v.ninth) (Absent ⟦<[u16; 3] as Deserialize<'de, R>>⟧.absent v.ninth) (
+        Field (λ j. ⟦<Option<Spot> as Deserialize<'de, R>>⟧.reads human lends j v.tenth) (Absent ⟦<Option<Spot> as Deserialize<'de, R>>⟧.absent v.tenth) (
+        Field (λ j. ⟦<ByteBuf as Deserialize<'de, R>>⟧.reads human lends j v.eleventh) (Absent ⟦<ByteBuf as Deserialize<'de, R>>⟧.absent v.eleventh) (
+        Field (λ j. ⟦<(i64, Option<bool>) as Deserialize<'de, R>>⟧.reads human lends j v.twelfth)
+        (Absent ⟦<(i64, Option<bool>) as Deserialize<'de, R>>⟧.absent v.twelfth) (
+        Field (λ j. ⟦<Option<String> as Deserialize<'de, R>>⟧.reads human lends j v.thirteenth)
+        (Absent ⟦<Option<String> as Deserialize<'de, R>>⟧.absent v.thirteenth) (
+        Field (λ j. ⟦<u32 as Deserialize<'de, R>>⟧.reads human lends j v.fourteenth) (Absent ⟦<u32 as Deserialize<'de, R>>⟧.absent v.fourteenth) (
+        Field (λ j. ⟦<F64Bits as Deserialize<'de, R>>⟧.reads human lends j v.fifteenth) (Absent ⟦<F64Bits as Deserialize<'de, R>>⟧.absent v.fifteenth) (
+        Field (λ j. ⟦<Vec<String> as Deserialize<'de, R>>⟧.reads human lends j v.sixteenth)
+        (Absent ⟦<Vec<String> as Deserialize<'de, R>>⟧.absent v.sixteenth) (
+        Field (λ j. ⟦<i16 as Deserialize<'de, R>>⟧.reads human lends j v.rest.0) (Absent ⟦<i16 as Deserialize<'de, R>>⟧.absent v.rest.0) (
+        Field (λ j. ⟦<i128 as Deserialize<'de, R>>⟧.reads human lends j v.rest.1) (Absent ⟦<i128 as Deserialize<'de, R>>⟧.absent v.rest.1) (
+        Field (λ j. ⟦<BTreeSet<u16> as Deserialize<'de, R>>⟧.reads human lends j v.rest.2)
+        (Absent ⟦<BTreeSet<u16> as Deserialize<'de, R>>⟧.absent v.rest.2) (
+        Field (λ j. ⟦<bool as Deserialize<'de, R>>⟧.reads human lends j v.rest.3) (Absent ⟦<bool as Deserialize<'de, R>>⟧.absent v.rest.3)
         NoField)))))))))))))))))))) fs)
         (
         part_of ⟦<String as Deserialize<'de, R>>⟧.reads ⟦<String as Deserialize<'de, R>>⟧.refuses ∷ (
@@ -232,7 +230,7 @@ impl<'de, R: ReadSlice<'de>> Deserialize<'de, R> for Manifest {
         de: &mut Deserializer<R, C>,
     ) -> Result<Manifest, rmp_decode::Error> {
         let read: Result<
-            EightThen<
+            SixteenThen<
                 String,
                 Course,
                 Vec<(u8, String)>,
@@ -241,17 +239,15 @@ impl<'de, R: ReadSlice<'de>> Deserialize<'de, R> for Manifest {
                 char,
                 Spot,
                 BTreeMap<String, u64>,
-                EightThen<
-                    [u16; 3],
-                    Option<Spot>,
-                    ByteBuf,
-                    (i64, Option<bool>),
-                    Option<String>,
-                    u32,
-                    F64Bits,
-                    Vec<String>,
-                    (i16, i128, BTreeSet<u16>, bool, ()),
-                >,
+                [u16; 3],
+                Option<Spot>,
+                ByteBuf,
+                (i64, Option<bool>),
+                Option<String>,
+                u32,
+                F64Bits,
+                Vec<String>,
+                (i16, i128, BTreeSet<u16>, bool, ()),
             >,
             rmp_decode::Error,
         > = de.deserialize_fields(&[
@@ -261,7 +257,7 @@ impl<'de, R: ReadSlice<'de>> Deserialize<'de, R> for Manifest {
         ]);
         match read {
             Ok(parts) => {
-                let EightThen {
+                let SixteenThen {
                     first: ship,
                     second: course,
                     third: crew,
@@ -270,19 +266,16 @@ impl<'de, R: ReadSlice<'de>> Deserialize<'de, R> for Manifest {
                     sixth: flag,
                     seventh: spot,
                     eighth: cargo,
+                    ninth: depths,
+                    tenth: last,
+                    eleventh: chart,
+                    twelfth: pair,
+                    thirteenth: owner,
+                    fourteenth: tonnage,
+                    fifteenth: draught,
+                    sixteenth: ports,
                     rest: others,
                 } = parts;
-                let EightThen {
-                    first: depths,
-                    second: last,
-                    third: chart,
-                    fourth: pair,
-                    fifth: owner,
-                    sixth: tonnage,
-                    seventh: draught,
-                    eighth: ports,
-                    rest: others,
-                } = others;
                 let (heading, debt, berths, done, ()) = others;
                 return Ok(Manifest {
                     ship,

@@ -1,0 +1,43 @@
+//! A struct of thirty-two fields, which are read as two structs of sixteen.
+mod derived;
+
+use crate::mixed::{Course, Spot};
+use rmp_wire::{ByteBuf, F64Bits};
+use std::collections::{BTreeMap, BTreeSet};
+
+/// What a surveyor says of a ship.
+#[derive(Drop)]
+pub struct Survey {
+    pub ship: String,
+    pub course: Course,
+    pub crew: Vec<(u8, String)>,
+    pub seal: u128,
+    pub nothing: (),
+    pub flag: char,
+    pub spot: Spot,
+    pub cargo: BTreeMap<String, u64>,
+    pub depths: [u16; 3],
+    pub last: Option<Spot>,
+    pub chart: ByteBuf,
+    pub pair: (i64, Option<bool>),
+    pub owner: Option<String>,
+    pub tonnage: u32,
+    pub draught: F64Bits,
+    pub ports: Vec<String>,
+    pub heading: i16,
+    pub debt: i128,
+    pub berths: BTreeSet<u16>,
+    pub done: bool,
+    pub next: Option<Course>,
+    pub marks: Vec<Spot>,
+    pub length: u64,
+    pub beam: u8,
+    pub stores: BTreeMap<u16, String>,
+    pub sounding: Option<i64>,
+    pub hatches: [bool; 2],
+    pub legs: Vec<Course>,
+    pub port: (u8, String),
+    pub log: Vec<ByteBuf>,
+    pub crane: Option<char>,
+    pub surveyor: String,
+}
