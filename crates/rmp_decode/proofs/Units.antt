@@ -5,8 +5,8 @@ use Rattle.rmp_wire.specs.declared.head.Head.{Head}
 use Rattle.rmp_wire.specs.declared.head.Head.TheVariants as head
 use Rattle.rmp_wire.specs.declared.marker.Marker.{Marker}
 use Rattle.rmp_wire.specs.declared.source.Source.{Ghosts}
-use Rattle.rmp_wire.specs.Canonical.{heads_of}
-use Rattle.rmp_wire.specs.Msg.{Msg, list, no_items}
+use Rattle.rmp_wire.specs.Canonical.{heads_of, SpellsAs}
+use Rattle.rmp_wire.specs.Msg.{Msg, list, map, no_items, no_pairs, depth}
 use Rattle.rmp_wire.specs.Spelling.{head_of}
 use Rattle.rmp_decode.specs.Law.{Lawful, Readable, ReadsHead}
 use Rattle.rmp_decode.specs.State.{left, room_of, Stays}
@@ -64,25 +64,11 @@ module _ {R C : Type 0} (g : Ghosts R) (old mid : Deserializer R C) (p : Marker 
       let f = a.fits in
       omega arith))
 
-  -- the empty list
-  pub empty_read : {V : Type 0} (reads : Msg → V → Type 0) (new : Deserializer R C) (n : ℕ) (v : V) → p.1 ≡ head.Array n → n ≡ 0 → 1 < room_of old
-      → new ≡ record mid { failed = false } → reads (list no_items) v → Lawful g reads old new (Ok v)
-  empty_read reads new n v i z l q r = rw q (record {
-    ok = record {
-      bytes = h.ok.bytes;
-      tree = list no_items;
-      takes = h.ok.takes;
-      goes_on = h.ok.goes_on;
-      spelled = record {
-        first = h.ok.bytes;
-        second = [];
-        is_first = subst (λ k. heads_of old.strict k h.ok.bytes) (i ∙ ap head.Array z) h.ok.is_head;
-        is_second = refl;
-        is_whole = sym (append-nil h.ok.bytes);
-      };
-      fits = l;
-      value = r;
-    };
+  -- a message that is its head
+  pub alone_read : {V : Type 0} (reads : Msg → V → Type 0) (new : Deserializer R C) (v : V) (tree : Msg) → SpellsAs old.strict h.ok.bytes tree
+      → depth tree < room_of old → new ≡ record mid { failed = false } → reads tree v → Lawful g reads old new (Ok v)
+  alone_read reads new v tree s l q r = rw q (record {
+    ok = record { bytes = h.ok.bytes; tree = tree; takes = h.ok.takes; goes_on = h.ok.goes_on; spelled = s; fits = l; value = r };
     ready = refl;
     clean = h.clean;
     sound = h.sound;
@@ -91,6 +77,28 @@ module _ {R C : Type 0} (g : Ghosts R) (old mid : Deserializer R C) (p : Marker 
     before = λ f. absurd (let o = h.fresh in cc);
     stays = record { config = h.stays.config; room = h.stays.room; limit = h.stays.limit; strict = h.stays.strict; place = h.stays.place };
   })
+
+  -- the empty list
+  pub empty_read : {V : Type 0} (reads : Msg → V → Type 0) (new : Deserializer R C) (n : ℕ) (v : V) → p.1 ≡ head.Array n → n ≡ 0 → 1 < room_of old
+      → new ≡ record mid { failed = false } → reads (list no_items) v → Lawful g reads old new (Ok v)
+  empty_read reads new n v i z l q r = alone_read reads new v (list no_items) (record {
+    first = h.ok.bytes;
+    second = [];
+    is_first = subst (λ k. heads_of old.strict k h.ok.bytes) (i ∙ ap head.Array z) h.ok.is_head;
+    is_second = refl;
+    is_whole = sym (append-nil h.ok.bytes);
+  }) l q r
+
+  -- the empty map
+  pub empty_map_read : {V : Type 0} (reads : Msg → V → Type 0) (new : Deserializer R C) (v : V) → p.1 ≡ head.Map 0 → 1 < room_of old
+      → new ≡ record mid { failed = false } → reads (map no_pairs) v → Lawful g reads old new (Ok v)
+  empty_map_read reads new v i l q r = alone_read reads new v (map no_pairs) (record {
+    first = h.ok.bytes;
+    second = [];
+    is_first = subst (λ k. heads_of old.strict k h.ok.bytes) i h.ok.is_head;
+    is_second = refl;
+    is_whole = sym (append-nil h.ok.bytes);
+  }) l q r
 
 -- ---- newtype structs
 

@@ -31,7 +31,7 @@ use crate::content::ReadContent;
 use crate::content::pieces::error_of;
 use crate::de::Deserialize;
 use crate::deserializer::Deserializer;
-use crate::deserializer::peek::{PairHead, TextHead};
+use crate::deserializer::peek::{MapOf, TextHead};
 use crate::error::Error;
 use crate::text::Text;
 use rmp_wire::config::SerializerConfig;
@@ -269,7 +269,7 @@ impl<R: Source, C: SerializerConfig> Deserializer<R, C> {
     {
         match self.take_bare_name(names) {
             Some(place) => Ok((place, true)),
-            None => match self.take_nested(PairHead) {
+            None => match self.take_nested(MapOf { count: 1 }) {
                 Some(()) => match self.take_name(names, true) {
                     Some(place) => Ok((place, false)),
                     None => self.slow_pair::<P>(names),

@@ -426,19 +426,21 @@ impl Peek for ListOf {
     }
 }
 
-// A map of one pair.
+// A map of `count` pairs, whose head has one byte.
 #[derive(Clone, Copy)]
-pub(crate) struct PairHead;
+pub(crate) struct MapOf {
+    pub(crate) count: usize,
+}
 
-impl Peek for PairHead {
+impl Peek for MapOf {
     type Value = ();
 
-    ghost head = { λ _ _. heads.Map 1 };
+    ghost head = { λ k _. heads.Map k.count };
 
     #[inline(always)]
     fn at(self, front: &[u8], strict: bool) -> Option<((), usize)> {
         match MapHead.at(front, strict) {
-            Some((1, len)) => Some(((), len)),
+            Some((n, len)) if n as usize == self.count => Some(((), len)),
             _ => None,
         }
     }

@@ -1,6 +1,6 @@
 -- The entries so far are the readings of the pairs so far.
 use Rattle.rmp_decode.proofs.Maps.{Gathers}
-use Rattle.rmp_decode.proofs.de.maps.BTreeMapDeserialize.deserialize.Given as goal
+use Rattle.rmp_decode.proofs.de.maps.read_map.Given as goal
 
 abbrev pub invariant-loop-entries : goal.invariant-loop-entries
 invariant-loop-entries g l = Gathers g.R.Source g.K.Ord.cmp (g.K.Deserialize.reads (g.C.SerializerConfig.human l.fn.de.config) g.R.ReadSlice.lends)
