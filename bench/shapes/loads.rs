@@ -302,6 +302,11 @@ fn numbers_and_truths(made: &mut Made, random: &mut Random) {
         _ => Part::Negative(!(number_of_width(r.below(4), r.next()) as i64)),
     });
     made.reads("numbers with a sign", "i64", &signed);
+    let small = many(COUNT, &mut Random::new(), |r| match r.below(2) {
+        0 => Part::Number(r.below(128)),
+        _ => Part::Negative(!(r.below(32) as i64)),
+    });
+    made.reads("small numbers of 16 bits with a sign", "i16", &small);
     made.reads(
         "floats",
         "f64",
@@ -411,6 +416,12 @@ fn sources(made: &mut Made, random: &mut Random) {
         &numbers(random, COUNT),
     );
     made.called("texts from a cursor", "bench_cursor_texts", &texts);
+    let large = vec![Part::Bytes(vec![7; 65_536]); 4];
+    made.called(
+        "bytes of 65536 from a cursor",
+        "bench_cursor_buffers",
+        &large,
+    );
     let some = numbers(random, COUNT);
     let more = numbers(&mut Random::new(), MORE);
     let more_texts = vec![text("some words"); MORE];

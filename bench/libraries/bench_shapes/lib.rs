@@ -110,6 +110,12 @@ pub extern "C" fn bench_read_i64(alloc: Global, data: &[u8], reps: u32) -> usize
     reads::<i64>(alloc, data, reps)
 }
 
+/// Reads a list of numbers of 16 bits with a sign.
+#[unsafe(no_mangle)]
+pub extern "C" fn bench_read_i16(alloc: Global, data: &[u8], reps: u32) -> usize {
+    reads::<i16>(alloc, data, reps)
+}
+
 /// Reads a list of floats.
 #[unsafe(no_mangle)]
 pub extern "C" fn bench_read_f64(alloc: Global, data: &[u8], reps: u32) -> usize {
@@ -331,6 +337,12 @@ pub extern "C" fn bench_cursor_numbers(alloc: Global, data: &[u8], reps: u32) ->
 #[unsafe(no_mangle)]
 pub extern "C" fn bench_cursor_texts(alloc: Global, data: &[u8], reps: u32) -> usize {
     cursor_reads::<String>(alloc, data, reps)
+}
+
+/// Reads a list of bytes from a cursor.
+#[unsafe(no_mangle)]
+pub extern "C" fn bench_cursor_buffers(alloc: Global, data: &[u8], reps: u32) -> usize {
+    cursor_reads::<ByteBuf>(alloc, data, reps)
 }
 
 // Reads a list from a reader with a buffer so many times.

@@ -21,6 +21,7 @@ exports! {
     bench_ahead_texts
     bench_buffered_numbers
     bench_buffered_texts
+    bench_cursor_buffers
     bench_cursor_numbers
     bench_cursor_texts
     bench_cursor_two
@@ -35,6 +36,7 @@ exports! {
     bench_read_f64
     bench_read_five
     bench_read_four
+    bench_read_i16
     bench_read_i64
     bench_read_lent_bytes
     bench_read_map

@@ -70,6 +70,7 @@ fn reading() -> Vec<Named> {
         "buffer" ByteBuf,
         "text" String,
         "char" char,
+        "i16" i16,
         "i64" i64,
         "f64" f64,
         "bool" bool,
@@ -121,7 +122,7 @@ fn writing() -> Vec<Named> {
 }
 
 /// What isn't a list that is read as a vector, or written as it was read.
-const OTHERS: [Named; 18] = [
+const OTHERS: [Named; 19] = [
     ("bench_write_dog_named", writes_named::<Dog>),
     ("bench_write_papers_named", writes_named::<Papers>),
     ("bench_write_four_named", writes_named::<Four>),
@@ -138,6 +139,7 @@ const OTHERS: [Named; 18] = [
     ("bench_read_lent_bytes", read_lent_bytes),
     ("bench_read_str", read_str),
     ("bench_skip", skip),
+    ("bench_cursor_buffers", cursor_reads::<ByteBuf>),
     ("bench_cursor_numbers", cursor_reads::<u32>),
     ("bench_cursor_texts", cursor_reads::<String>),
     ("bench_ahead_numbers", buffered_reads::<u32>),
