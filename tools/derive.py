@@ -10,8 +10,8 @@ follows. The crate depends on rmp_encode, rmp_decode and rmp_wire, in crates.txt
 
 Structs with names, tuple structs, newtypes, structs without fields, and enums with variants of each kind are derived, with type
 parameters or without, and with a lifetime where they borrow texts or bytes of what they are read from. The type of a field is any
-that has both traits, also one of the file's own; an `Option` may be missing from a map. An enum may contain itself, where each of
-its variants holds one value or none: see derived_recursive.py.
+that has both traits, also one of the file's own; an `Option` may be missing from a map. A type may contain itself: an enum each
+of whose variants holds one value or none, and a struct with names: see derived_recursive.py.
 
 A comment line above a field, a variant or a type says what an attribute of serde would say:
 

@@ -1,20 +1,28 @@
 """What derive.py writes for a recursive type.
 
-Such a type is an enum without parameters whose variants hold nothing or one value: a leaf, or the type again, in a `Vec`, a `Box`
-or an `Option<Box<_>>`. What is known of it is said level by level, so it gets a file of definitions and laws, specs/TLevels.antt, and one of its round trip, specs/TRounds.antt.
-What such types share are specs/Recursion.antt and specs/RecursionRounds.antt, and proofs/Recursion.antt.
+Such a type has no parameters. An enum's variants hold nothing or one value: a leaf, or the type again, in a `Vec`, a `Box` or an
+`Option<Box<_>>`. A struct's fields have names, and each is a leaf, or the type again, in a `Vec` or an `Option<Box<_>>`. What is known of the
+type is said level by level, so it gets a file of definitions and laws, specs/TLevels.antt, and one of its round trip, specs/TRounds.antt. What
+such types share are Recursion.antt and RecursionRounds.antt, and, of structs, RecursionFields.antt.
 """
 from __future__ import annotations
 
 import os
 from typing import TYPE_CHECKING, Iterator, Optional
 
+import recursive_code
 from declarations import Declared, Refused, declared_at
-from recursive_answers import proofs_file, reading_answers, reading_measures, writing_answers
-from recursive_code import leaf_readers, readers, reading, rounds, writing
-from recursive_levels import AGAIN, LEAVES, Level, levels_file, tables
+import recursive_answers
+from recursive_code import leaf_readers, reading, rounds
+import recursive_struct_answers as struct_answers
+import recursive_struct_code as struct_code
+import recursive_struct_shared as struct_shared
+from recursive_levels import AGAIN, BOX, LEAVES, Level, levels_file, tables
 from recursive_rounds import rounds_file
 from recursive_shared import PROOFS, ROUNDS, SPECS
+from recursive_struct_proofs import proofs_file as struct_proofs_file
+from recursive_struct_rounds import rounds_file as struct_rounds_file
+from recursive_structs import levels_file as struct_levels_file
 
 if TYPE_CHECKING:
     from derived_rounds import Own
@@ -29,6 +37,10 @@ WORDS = {
     "rmp_decode.specs.Wide": "IsUnsigned128 IsSigned128",
     "rmp_wire.specs.Msg": "truth float32 float64",
 }
+
+
+# How many fields such a struct has at most.
+MOST_FIELDS = 8
 
 
 def levels_of(module: Module, wanted: list[Own]) -> list[Level]:
@@ -53,15 +65,30 @@ def refusal(own: Own) -> Optional[str]:
         return "such a type is derived without parameters"
     if is_taken(of):
         return "its name is a word of the definitions that are written for it: give it another"
+    again = [it.kind.replace("{name}", of.name) for it in AGAIN if it is not BOX or of.variants]
     if of.shape:
-        return "of such types only enums are derived: write it by hand, as Rose in crates/test_recursive"
-    again = [it.kind.replace("{name}", of.name) for it in AGAIN]
+        return refusal_of_fields(of, again)
     for shape in of.variants:
         if shape.kind not in ("unit", "newtype"):
             return f"{shape.name} has fields: a variant of such a type holds one value, or none"
         for field in shape.fields:
             if field.kind not in [*LEAVES, *again]:
                 return f"{shape.name} holds a {field.kind}: a variant of such a type holds {', '.join([*LEAVES, *again[:-1]])} or {again[-1]}"
+    return None
+
+
+def refusal_of_fields(of: Declared, again: list[str]) -> Optional[str]:
+    """Why a struct isn't derived."""
+    leaves = [kind for kind, part in LEAVES.items() if not part.is_lent and part.term != "ℤ"]
+    if of.shape.kind != "named":
+        return "of such structs only those whose fields have names are derived"
+    for field in of.shape.fields:
+        if field.default:
+            return f"{field.name} has a default: a field of such a struct has none"
+        if field.kind not in [*leaves, *again]:
+            return f"{field.name} is a {field.kind}: a field of such a struct is {', '.join([*leaves, *again[:-1]])} or {again[-1]}"
+    if len(of.shape.fields) > MOST_FIELDS:
+        return f"it has more than {MOST_FIELDS} fields: group some in a type of their own"
     return None
 
 
@@ -76,7 +103,8 @@ def items(module: Module, wanted: list[Own]) -> list[str]:
     levels = levels_of(module, wanted)
     lines = leaf_readers(levels)
     for level in levels:
-        lines += [*writing(level), *readers(level), *reading(level), *(rounds(level) if module.rounds() else [])]
+        code = struct_code if level.fields else recursive_code
+        lines += [*code.writing(level), *code.readers(level), *reading(level), *(rounds(level) if module.rounds() else [])]
     return lines
 
 
@@ -97,12 +125,15 @@ def with_code(table: dict[str, str], wanted: list[Own]) -> dict[str, str]:
     """The table of where words of the code come from, with those of these types."""
     if not any(own.of.leads_back() for own in wanted):
         return table
-    return table | {"rmp_decode": f"{table['rmp_decode']} ReadContent Slices", "rmp_wire": f"{table['rmp_wire']} Source"}
+    return table | {"rmp_decode": f"{table['rmp_decode']} ReadContent ReadPlaces Slices", "rmp_wire": f"{table['rmp_wire']} Source"}
 
 
-def shared_files(module: Module) -> Iterator[tuple[str, str, str]]:
-    """What the recursive types of a crate share."""
-    for text, folder, name in [(SPECS, "specs", "Recursion"), (PROOFS, "proofs", "Recursion"), *[(ROUNDS, "specs", "RecursionRounds")] * bool(module.rounds())]:
+def shared_files(module: Module, levels: list[Level]) -> Iterator[tuple[str, str, str]]:
+    """What the recursive types of a crate share, and the structs among them."""
+    texts = [(SPECS, "specs", "Recursion"), (PROOFS, "proofs", "Recursion"), *[(ROUNDS, "specs", "RecursionRounds")] * bool(module.rounds())]
+    if any(level.fields for level in levels):
+        texts += [(struct_shared.SPECS, "specs", "RecursionFields"), (struct_shared.PROOFS, "proofs", "RecursionFields")]
+    for text, folder, name in texts:
         about, rest = text.split("\n", 1)
         text = f"{about} Written by tools/derive.py.\n{rest}".replace("Rattle.CRATE.", f"Rattle.{module.name}.")
         yield through(module, text), folder, f"{name}.antt"
@@ -117,18 +148,19 @@ def files(module: Module, wanted: list[Own]) -> Iterator[tuple[str, ...]]:
     """Each text that such types have beside their code, and then its path."""
     levels = levels_of(module, wanted)
     if levels:
-        yield from shared_files(module)
+        yield from shared_files(module, levels)
     for level in levels:
         below = ("proofs", f"{module.at}derived")
-        yield levels_file(level), "specs", f"{level.name}Levels.antt"
-        yield proofs_file(level), "proofs", f"{level.name}Levels.antt"
+        of = struct_answers if level.fields else recursive_answers
+        yield (struct_levels_file if level.fields else levels_file)(level), "specs", f"{level.name}Levels.antt"
+        yield (struct_proofs_file if level.fields else recursive_answers.proofs_file)(level), "proofs", f"{level.name}Levels.antt"
         if module.rounds():
-            yield through(module, rounds_file(level)), "specs", f"{level.name}Rounds.antt"
+            yield through(module, (struct_rounds_file if level.fields else rounds_file)(level)), "specs", f"{level.name}Rounds.antt"
         cycle = (f"{level.name}Serialize", f"+{level.low}_writing")
-        yield writing_answers(level, module.below("derived", *cycle)), *below, *cycle, "Answers.antt"
+        yield of.writing_answers(level, module.below("derived", *cycle)), *below, *cycle, "Answers.antt"
         cycle = (f"+{level.low}_reading",)
-        yield reading_answers(level, module.below("derived", *cycle)), *below, *cycle, "Answers.antt"
-        yield reading_measures(level, module.below("derived", *cycle)), *below, *cycle, "Invariants.antt"
+        yield of.reading_answers(level, module.below("derived", *cycle)), *below, *cycle, "Answers.antt"
+        yield of.reading_measures(level, module.below("derived", *cycle)), *below, *cycle, "Invariants.antt"
 
 
 def name_files(module: Module, wanted: list[Own]) -> None:

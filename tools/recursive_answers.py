@@ -52,9 +52,9 @@ def writing_answers(level: Level, place: str) -> str:
 
 
 def answers_file(level: Level, place: str, text: str) -> str:
-    name, declared = level.name, level.declared
+    name, low, declared = level.name, level.low, level.declared
     table = tables(level)
-    table["std.proofs.Common"] += " max rules arith false Result Ok Err"
+    table["std.proofs.Common"] += " max rules arith false length Result Ok Err"
     table |= {
         "std.proofs.lemmas.Result": "err_from_is_err_and",
         "std.proofs.lemmas.Int": "to_z-of_z",
@@ -63,10 +63,28 @@ def answers_file(level: Level, place: str, text: str) -> str:
         "rmp_decode.proofs.Seqs": "values_start values_step via Values",
         "rmp_decode.proofs.Variants": "variant_ok variant_err variant_unopened readable given_read given_refused",
         f"{declared}.TheVariants": " ".join(f"rolls-{shape.name}" for shape, _ in level.variants),
-        f"{level.crate}.proofs.Recursion": "on_ok ok_holds variant_done vec_row vec_done row_unopened row_refused row_unkept part_room"
+        f"{declared}.TheViews": f"out-roll-{name}" if level.fields else table[f"{declared}.TheViews"],
+        "rmp_decode.specs.FieldAccess": "IsStructOpen TakesPlace",
+        "rmp_decode.specs.Names": "bytes_of",
+        "rmp_decode.proofs.FieldWiths": "field_taken field_refused",
+        "rmp_decode.proofs.StructRuns": "struct_start struct_step struct_place struct_value struct_met struct_missing struct_over struct_done",
+        "rmp_decode.proofs.Structs": "fields_unopened",
+        f"{level.crate}.proofs.RecursionFields": "same_then field_steps",
+        f"{level.crate}.proofs.{name}Levels": " ".join([f"{name}Held0", f"{low}_whole", *(
+            word for at in range(len(level.fields)) for word in (f"{name}Slot{at}", f"{low}_tree{at}", f"{low}_step{at}", f"{low}_gap{at}", f"{low}_lacks{at}"))]),
+        f"{level.crate}.proofs.Recursion": "on_ok ok_holds variant_done vec_row vec_done row_unopened row_refused row_unkept part_room part_steps steps_at other_steps"
         " content_room_falls lent_law item_taken item_refused option_law some_if some_if_err none_left never_none",
     }
     return brought_in(text, table) + goals_of(level, place) + text
+
+
+def room_of(level: Level, run: str) -> str:
+    """That an element has no more room than its list, and, of a struct, fewer steps."""
+    if level.fields:
+        rest = f"part_steps {run} in\n    let e : steps_at p.now ≡ steps_at d = ap steps_at q in\n"
+    else:
+        rest = f"part_room {run} in\n    let e = ap (λ (z : _). max 1 z.room) q in\n"
+    return f"    let h = {rest}    (omega (arith, h, e, c.decreases), ((λ a m. m), ((λ a m. m), (λ a m. m))))"
 
 
 def list_answers(level: Level, part: Again) -> str:
@@ -93,8 +111,7 @@ def list_answers(level: Level, part: Again) -> str:
         "returns-in_err-seq": start.format(at="") + "    rw (p.1, p.2) ("
         + refused(f"row_unopened g.R.Source {name} _ _ _ (rw c.in_err-seq.was at c.deserialize_seq.follows.holds-at-none)") + ")",
         "loop-items-init": f"rw c.new-items.ensures.items (values_start g.R.Source {name} c.in_ok-seq.seq {opened}.opened)",
-        "next_element_with-requires": f"λ s some d l p q.\n    let h = part_room g.R.Source c.args.de.now c.in_ok-seq.seq c.loop-items.seq _ {opened} c.loop-items.invariant.run d l in\n"
-        "    let e = ap (λ (z : _). max 1 z.room) q in\n    (omega (arith, h, e, c.decreases), ((λ a m. m), ((λ a m. m), (λ a m. m))))",
+        "next_element_with-requires": "λ s some d l p q.\n" + room_of(level, f"g.R.Source c.args.de.now c.in_ok-seq.seq c.loop-items.seq _ {opened} c.loop-items.invariant.run d l"),
         "returns-in_err-item": start.format(at="-in_err-item") + "    " + run.format("err") + f"""    let some = some_if_err c.loop-items.seq.left _ (e.none r.run.still.sound) in
     let f = item_refused g.R.Source {name} c.loop-items.seq c.next_element_with.new.self r.run.still e.list (λ p q r h. h) _ some
     (e.part r.run.still.sound some) in
@@ -223,11 +240,13 @@ def option_answers(level: Level, part: Again) -> str:
     """How an option is read, whose value isn't nil."""
     fn = holder(level, part)
     reads = f"(Boxed Is{level.name})"
+    room = "let h = s.stays.room in\n    let e = ap (λ (z : _). max 1 z.room) q in"
+    if level.fields:
+        room = "let h = other_steps g.R.Source c.args.de.now d s in\n    let e : steps_at p.now ≡ steps_at d = ap steps_at q in"
     return answer(f"{fn}-returns", f""" record {{
   law = option_law g.R.Source {reads} _ _ _ _ (λ p q r h. h) _ c.deserialize_option_with.ensures;
 }}""") + answer(f"{fn}-deserialize_option_with-requires", f""" λ f d s p q.
-    let h = s.stays.room in
-    let e = ap (λ (z : _). max 1 z.room) q in
+    {room}
     (omega (arith, h, e, c.decreases), ((λ a m. m), ((λ a m. m), (λ a m. m))))""")
 
 

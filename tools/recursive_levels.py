@@ -48,7 +48,7 @@ class Again(Part):
     word: str = ""
     # how its values are told apart where a level is mapped, and for each that P holds of its parts, and that what is known goes through
     patterns: tuple[tuple[str, str, str], ...] = ()
-    # one step of its reading by another, and the number of its steps
+    # one step of its reading by another, and the number of its steps with what is read in them
     wider: str = ""
     counted: str = ""
     # that P holds of its parts
@@ -135,7 +135,7 @@ LIST = Again(
     word="list",
     patterns=(("a", "each_holds P first h a.items", "through at k a.items"),),
     wider="row_as P Q f m a.items h",
-    counted="let i = row_in {name}In {low}_up m a.items h in (i.0, (a, e, i.1))",
+    counted="row_in {name}In {low}_up m a.items h",
     parts="All P {a}.items",
     known="all_by _ a.items h",
     own="slice_of (map {low}_data {a}.items)",
@@ -152,7 +152,7 @@ BOX = Again(
     word="box",
     patterns=(("a", "h a.value", "refl"),),
     wider="f m a.value h",
-    counted="(h.0, (a, e, h.1))",
+    counted="h",
     parts="P {a}.value",
     own="{low}_data {a}.value",
     same="Same{name} x.value y.value",
@@ -172,7 +172,7 @@ OPTION = Again(
     word="option",
     patterns=(("None", "tt", "refl"), ("(Some a)", "h a.value", "refl")),
     wider="option_as (Boxed P) (Boxed Q) (λ n b. f n b.value) m a h",
-    counted="let i = option_in (λ n. Boxed ({name}In n)) m a h in (i.0, (a, e, i.1))",
+    counted="option_in (λ n. Boxed ({name}In n)) m a h",
     parts="IfSome {a} (λ b. P b.value)",
     own=f"option_of (λ {BOXED}. {{low}}_data b.value) {{a}}",
     is_some=f"(option_data (λ {BOXED}. {{low}}_data b.value) {{a}} h)",
@@ -190,14 +190,16 @@ class Level:
     def __init__(self, of: Declared, crate: str, declared: str) -> None:
         self.of, self.crate, self.declared = of, crate, declared
         self.name, self.low = of.name, underscored(of.name)
-        self.variants = [(shape, self.part(shape)) for shape in of.variants or []]
+        self.variants = [(shape, self.part_of(shape.fields[0].kind) if shape.fields else None) for shape in of.variants or []]
+        self.fields = [(field, self.part_of(field.kind)) for field in of.shape.fields] if of.shape else []
 
-    def part(self, shape: Shape) -> Optional[Part]:
-        """What a variant holds, if anything."""
-        kind = shape.fields[0].kind if shape.fields else None
-        if kind is None or kind in LEAVES:
-            return LEAVES.get(kind)
-        return next((again for again in (it.of(self) for it in AGAIN) if again.kind == kind), None)
+    def part_of(self, kind: str) -> Optional[Part]:
+        """What is known of a value of this type, if it is one that such a type may hold."""
+        return LEAVES.get(kind) or next((again for again in (it.of(self) for it in AGAIN) if again.kind == kind), None)
+
+    def parts(self) -> list[Part]:
+        """What it holds."""
+        return [part for _, part in [*self.variants, *self.fields] if part]
 
     def made(self, shape: Shape, part: Optional[Part], value: str = "a") -> str:
         """A level that is this variant."""
@@ -208,11 +210,11 @@ class Level:
 
     def leaves(self) -> list[Part]:
         """What its leaves are, each once."""
-        return list(dict.fromkeys(part for _, part in self.variants if part and part.is_leaf))
+        return list(dict.fromkeys(part for part in self.parts() if part.is_leaf))
 
     def holders(self) -> list[Again]:
         """What it is again in, each once. An option's value is in a box."""
-        found = dict.fromkeys(part for _, part in self.variants if isinstance(part, Again))
+        found = dict.fromkeys(part for part in self.parts() if isinstance(part, Again))
         if OPTION.of(self) in found:
             found[BOX.of(self)] = None
         return list(found)
@@ -308,7 +310,7 @@ def steps_of(level: Level) -> str:
             counted += f"{low}_in v {place} c h = (zero, h)\n"
             continue
         wider += f"{low}_as P Q f v {place} None (a, e, h) = absurd h\n{low}_as P Q f v {place} (Some m) (a, e, h) = (a, e, {part.wider})\n"
-        counted += f"{low}_in v {place} None (a, e, h) = absurd h\n{low}_in v {place} (Some m) (a, e, h) = {part.counted}\n"
+        counted += f"{low}_in v {place} None (a, e, h) = absurd h\n{low}_in v {place} (Some m) (a, e, h) = let i = {part.counted} in (i.0, (a, e, i.1))\n"
     end = last_place(len(level.variants))
     wider += f"{low}_as P Q f v {end} c h = absurd h\n"
     counted += f"{low}_in v {end} c h = absurd h\n"
@@ -353,6 +355,12 @@ def induction_of(level: Level) -> str:
             made = level.made(shape, part, value)
             hold += f"{low}_parts_hold P first h {made} = {holds}\n"
             through += f"{low}_through X at k {made} = {goes}\n"
+    return inductive(level, kids, hold, through)
+
+
+def inductive(level: Level, kids: str, hold: str, through: str) -> str:
+    """The same, by what its parts are and the lines of two lemmas on them."""
+    name, low = level.name, level.low
     return f"""
 -- ---- induction
 
@@ -369,6 +377,13 @@ pub {low}_induction : (P : {name} → Type 0) → ((v : {name}) → {name}Parts 
 {low}_through : (X : Type 0) (at : X → {name}) (k : {name} → Type 0) (x : {name}-F X)
     → {low}_layer_fits X at (λ p. k (at p)) x ≡ {low}_layer_fits {name} (λ y. y) k (map-{name} X {name} at x)
 {through}
+""" + known_of(level)
+
+
+def known_of(level: Level) -> str:
+    """What is known of a value is known of its parts, and what it is written as is one level of it."""
+    name, low = level.name, level.low
+    return f"""
 abbrev pub {name}Fits : {name}-F {name} → Type 0
 {name}Fits x = {low}_layer_fits {name} (λ y. y) {low}_fits x
 
@@ -389,7 +404,9 @@ pub {low}_is : (v : {name}) → {low}_data v ≡ {low}_level (map-{name} {name} 
 def tables(level: Level) -> dict[str, str]:
     """Where the words of its files come from."""
     name, low, crate, declared = level.name, level.low, level.crate, level.declared
-    levels = "names level data layer_fits fits made out variant induction fits_out fits_in is".split()
+    levels = "names level data layer_fits fits made out variant read induction fits_out fits_in is own is_own".split()
+    words = [f"{name}Case", f"{name}In", f"Is{name}", f"{name}Parts", f"{name}Fits", f"{name}Fields", f"{name}Read"]
+    words += [f"{name}From{at}" for at in range(len(level.fields) + 1)]
     return {
         "std.proofs.Common": "◌≡◌ ◌∙◌ refl sym ap subst ℕ zero suc List [] ◌∷◌ map All Option None Some String Box",
         "std.specs.Char": "IsScalar",
@@ -402,21 +419,23 @@ def tables(level: Level) -> dict[str, str]:
         **{f"rmp_wire.specs.declared.types.{kind}": kind for kind in ("ByteBuf", "F32Bits", "F64Bits")},
         "rmp_decode.specs.Buffers": "IsBuffer",
         "rmp_decode.specs.Wide": "IsUnsigned128 IsSigned128",
+        "rmp_decode.specs.Fields": "OfFields Field Absent NoField",
         "rmp_decode.specs.Law": "Readable",
         "rmp_decode.specs.Options": "IsOption",
         "rmp_decode.specs.Read": "IsUnsigned IsSigned IsRaw IsChar",
         "rmp_decode.specs.Rows": "ReadsEach",
         "rmp_decode.specs.Variants": "OfVariant Case NoCase Bare Content",
         "rmp_encode.specs.Data": "Data byte whole unsigned128 signed128 truth float32 float64 char text bytes unit_variant",
-        "rmp_encode.specs.Trees": "tree_of slice_of option_of newtype_variant_of",
+        "rmp_encode.specs.Trees": "tree_of slice_of option_of newtype_variant_of structure_of",
         "rmp_encode.specs.declared.settings.Settings": "Settings",
         "rmp_round_trip.specs.LeafRounds": " ".join(["byte_row truth_row float32_row float64_row char_row string_row buffer_row", *(f"{sign}_row_{bits}" for sign in ("signed", "unsigned") for bits in (8, 16, 32, 64))]),
-        "rmp_round_trip.specs.OnlyFields": "AtPlace AnyContent content_only variant_both",
+        "rmp_round_trip.specs.OnlyFields": "AtPlace AnyContent content_only variant_both fields_both field_only last_field",
         "rmp_round_trip.specs.OnlyLeaves": "truth_only byte_only unsigned_only signed_only unsigned128_only signed128_only float32_only float64_only"
         " char_only string_only buffer_only",
         "rmp_round_trip.specs.OnlyRows": "inside_only list_only option_only lowers_then",
         "rmp_round_trip.specs.RoundTrip": "Alike AlikeOption LowersTo Only",
         "rmp_round_trip.specs.Rounds": "slice_some each_row slice_row option_row",
+        "rmp_round_trip.specs.StructRounds": "structure_all structure_row structure_other fields_none fields_cons",
         "rmp_round_trip.specs.VariantRounds": "newtype_variant_some bare_row newtype_variant_row bare_other newtype_variant_other",
         "rmp_round_trip.specs.WideRounds": "unsigned128_row signed128_row",
         declared: f"{name} out-{name}",
@@ -424,8 +443,9 @@ def tables(level: Level) -> dict[str, str]:
         f"{declared}.TheOpen": f"{name}-F",
         f"{declared}.TheViews": f"roll-{name} out-roll-{name} roll-out-{name}",
         f"{crate}.specs.Recursion": "Row Boxed InSteps row_as row_in option_as option_in variant_as variant_in each_holds through all_by each_from option_from",
+        f"{crate}.specs.RecursionFields": "fields_as fields_in field_as field_in",
         f"{crate}.specs.RecursionRounds": "each_data option_data lowers_as map_alike option_alike",
-        f"{crate}.specs.{name}Levels": " ".join([f"{name}Case", f"{name}In", f"Is{name}", f"{name}Parts", f"{name}Fits", *(f"{low}_{word}" for word in levels)]),
+        f"{crate}.specs.{name}Levels": " ".join([*words, *(f"{low}_{word}" for word in levels)]),
     }
 
 

@@ -6,3 +6,6 @@ pub mod TreeLevels
 pub mod ExprLevels
 pub mod TermLevels
 pub mod LinkLevels
+pub mod RecursionFields
+pub mod NodeLevels
+pub mod CellLevels

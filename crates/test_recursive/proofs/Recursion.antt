@@ -1,18 +1,18 @@
 -- What the readings of recursive types share: the next part, by a function; lists of parts; and that the room falls. Written by tools/derive.py.
 use Rattle.std.proofs.Common.{◌≡◌, ◌∙◌, refl, sym, ap, subst, arith, ℕ, zero, suc, ◌+◌, ◌<◌, ◌≤◌, ◌⊎◌, inl, inr, true, false, Bool, nat_lt}
-use Rattle.std.proofs.Common.{max, pos, ◌*◌, ◌++◌, append-nil, List, [], Option, None, Some, Result, Ok, Err, MatchResult, MutBor, Vec, Global}
+use Rattle.std.proofs.Common.{max, pos, ◌*◌, cond, nat_eq, List, [], ◌∷◌, Option, None, Some, Result, Ok, Err, MatchResult, MutBor, Vec, Global}
 use Rattle.std.specs.Fn.{FnOnceReturnsAtMut}
-use Rattle.std.specs.Prelude.{if◌then◌else◌}
+use Rattle.std.specs.Prelude.{if◌then◌else◌, ◌≢◌}
 use Rattle.std.specs.Result.{OnOk}
 use Rattle.rmp_wire.specs.declared.source.Source.{Ghosts}
 use Rattle.rmp_wire.specs.Msg.{Msg, Msgs}
-use Rattle.rmp_wire.specs.declared.head.Head.TheVariants.{Whole, Array, Bin}
+use Rattle.rmp_wire.specs.declared.head.Head.TheVariants.{Whole}
 use Rattle.rmp_wire.specs.Canonical.{heads_of}
-use Rattle.rmp_wire.specs.Heads.{canon_head}
-use Rattle.rmp_wire.proofs.Strict.{canon_in, heads_differ_as}
+use Rattle.rmp_wire.specs.Heads.{canon_head, IsHead}
+use Rattle.rmp_wire.proofs.Strict.{any_width}
 use Rattle.rmp_decode.specs.Law.{Lawful, Readable, GoesOn}
 use Rattle.rmp_decode.specs.State.{kept_bytes, room_of}
-use Rattle.rmp_decode.specs.Options.{IsNil, IsOption, OptionRead, ReadsNone, ValueGiven}
+use Rattle.rmp_decode.specs.Options.{IsNil, IsOption, OptionRead, ReadsNone, SeesOther, ValueGiven}
 use Rattle.rmp_decode.specs.Rows.{ReadsEach}
 use Rattle.rmp_decode.specs.Seq.{levels, IsOpen, Opens, FailsToOpen, TakesElement, FailsToTake, Run, seq_head}
 use Rattle.rmp_decode.specs.Variants.{OfVariant, IsAt, OpensVariant, TakesNameOf}
@@ -27,7 +27,6 @@ use Rattle.rmp_decode.specs.declared.error.Error.TheVariants.{OutOfMemory, Uncat
 use Rattle.rmp_decode.specs.declared.text.Text.TheVariants.{FailedBefore}
 use Rattle.rmp_decode.proofs.Laws.{lawful_ok}
 use Rattle.rmp_decode.proofs.Options.{option_missing, option_some, option_refused}
-use Rattle.rmp_decode.proofs.HeadTaken.{fits_byte}
 use Rattle.rmp_decode.proofs.Seqs.{Values, each_next, seq_unopened, seq_take, seq_done, seq_unkept}
 use Rattle.rmp_decode.proofs.Variants.{variant_ok}
 use Rattle.rmp_decode.proofs.ElementWiths.{with_taken, with_refused}
@@ -148,51 +147,60 @@ vec_done {R} {C} {V} g reads old start mid v o r last z q =
 
 -- ---- the room falls
 
--- A number that was kept back opens no list.
-abbrev fresh_if : Bool → ℕ
-fresh_if true = 0
-fresh_if false = 1
+-- whether a list may begin with these bytes: not with a number below 256
+abbrev pub opens : List ℕ → ℕ
+opens [] = 1
+opens (b ∷ bs) = cond (nat_lt b 128) 0 (cond (nat_eq b 0xcc) 0 1)
+
+one_at_most : (p q : Bool) → cond p 0 (cond q 0 1) ≤ 1
+one_at_most true q = omega arith
+one_at_most false true = omega arith
+one_at_most false false = omega arith
+
+opens_at_most : (bs : List ℕ) → opens bs ≤ 1
+opens_at_most [] = omega arith
+opens_at_most (b ∷ bs) = one_at_most (nat_lt b 128) (nat_eq b 0xcc)
+
+-- bytes that go on begin as they did
+opens_less : (kept bytes : List ℕ) → GoesOn kept bytes → opens bytes ≤ opens kept
+opens_less [] bytes o = opens_at_most bytes
+opens_less (b ∷ bs) bytes o = rw o.whole (omega arith)
+
+number_opens : (n : ℕ) → n < 256 → opens (canon_head (Whole (pos n))) ≡ 0
+unfolding canon_head
+number_opens n l = grind (arith, l)
+
+list_byte : (b : ℕ) (bs : List ℕ) → 128 ≤ b → b ≢ 0xcc → opens (b ∷ bs) ≡ 1
+list_byte b bs l d = grind (arith, l, d)
+
+list_head : (b : Bool) (n : ℕ) (bytes : List ℕ) → IsHead (seq_head b n) bytes → opens bytes ≡ 1
+unfolding IsHead
+list_head true n bytes (inl h) = rw h.1 (list_byte 0xc4 [] (omega arith) (λ e. omega (arith, e)))
+list_head true n bytes (inr (inl h)) = rw h.1 (list_byte 0xc5 [] (omega arith) (λ e. omega (arith, e)))
+list_head true n bytes (inr (inr h)) = rw h.1 (list_byte 0xc6 [] (omega arith) (λ e. omega (arith, e)))
+list_head false n bytes (inl h) = rw h.1 (list_byte (0x90 + n) [] (omega arith) (λ e. omega (arith, h.0, e)))
+list_head false n bytes (inr (inl h)) = rw h.1 (list_byte 0xdc [] (omega arith) (λ e. omega (arith, e)))
+list_head false n bytes (inr (inr h)) = rw h.1 (list_byte 0xdd [] (omega arith) (λ e. omega (arith, e)))
 
 abbrev pub fresh : Kept → ℕ
-fresh Nothing = 1
-fresh (First b) = 1
-fresh (Number n) = fresh_if (nat_lt n 256)
-
-below : (n m : ℕ) → n < m → nat_lt n m ≡ true
-below n m h = grind (arith)
-
-is_below : (n m : ℕ) → nat_lt n m ≡ true → n < m
-is_below n m h = grind (arith)
-
-no_number : (strict b : Bool) (n k : ℕ) (bytes more : List ℕ) → k < 256 → bytes ≡ canon_head (Whole (pos k)) ++ more → heads_of strict (seq_head b n) bytes → ⊥
-no_number strict true n k bytes more l e h =
-    let u = (heads_differ_as strict (Bin n) (Whole (pos k)) bytes (canon_head (Whole (pos k))) [] more h (canon_in strict (Whole (pos k)) (fits_byte k l))
-    (append-nil bytes ∙ e)).0 in cc
-no_number strict false n k bytes more l e h =
-    let u = (heads_differ_as strict (Array n) (Whole (pos k)) bytes (canon_head (Whole (pos k))) [] more h (canon_in strict (Whole (pos k)) (fits_byte k l))
-    (append-nil bytes ∙ e)).0 in cc
+fresh k = opens (kept_bytes k)
 
 opens_fresh : (strict b : Bool) (n : ℕ) (kept : Kept) (bytes : List ℕ) → GoesOn (kept_bytes kept) bytes → heads_of strict (seq_head b n) bytes → fresh kept ≡ 1
-opens_fresh strict b n Nothing bytes o h = refl
-opens_fresh strict b n (First k) bytes o h = refl
-opens_fresh strict b n (Number k) bytes o h = go (nat_lt k 256) refl
-  where
-    go : (t : Bool) → nat_lt k 256 ≡ t → fresh (Number k) ≡ 1
-    go true e = absurd (no_number strict b n k bytes o.more (is_below k 256 e) o.whole h)
-    go false e = ap fresh_if e
+opens_fresh strict b n kept bytes o h =
+    let e = list_head b n bytes (any_width strict (seq_head b n) bytes h) in
+    let l = opens_less (kept_bytes kept) bytes o in
+    omega (arith, e, l, opens_at_most (kept_bytes kept))
 
 -- twice the room, and one where a list may be opened
 abbrev pub steps_at : {R C : Type 0} → Deserializer R C → ℕ
 steps_at d = 2 * max 1 d.room + fresh d.kept
 
-if_at_most : (t : Bool) → fresh_if t ≤ 1
-if_at_most true = omega arith
-if_at_most false = omega arith
-
 pub at_most : (k : Kept) → fresh k ≤ 1
-at_most Nothing = omega arith
-at_most (First b) = omega arith
-at_most (Number n) = if_at_most (nat_lt n 256)
+at_most k = opens_at_most (kept_bytes k)
+
+-- a look at the first byte leaves the steps
+pub other_steps : {R C : Type 0} (g : Ghosts R) (old new : Deserializer R C) → SeesOther g old new → steps_at new ≤ steps_at old
+other_steps g old new s = omega (arith, s.stays.room, ap (max 1) s.stays.room, opens_less (kept_bytes old.kept) (kept_bytes new.kept) s.goes_on)
 
 module _ {R C : Type 0} (g : Ghosts R) (old : Deserializer R C) (start mid : SeqAccess R C) (o : Opens g old start) (same : SameList start mid)
     (d : Deserializer R C) (l : Lends g mid d) where
@@ -209,7 +217,7 @@ module _ {R C : Type 0} (g : Ghosts R) (old : Deserializer R C) (start mid : Seq
       was = opens_fresh old.strict start.bytes start.left old.kept o.head.bytes o.head.goes_on o.head.is_head
 
       now_number : (b : ℕ) → b < 256 → l.from.kept ≡ Number b → fresh d.kept ≡ 0
-      now_number b h e = ap (λ (z : Deserializer R C). fresh z.kept) l.lent ∙ ap fresh e ∙ ap fresh_if (below b 256 h)
+      now_number b h e = ap (λ (z : Deserializer R C). fresh z.kept) l.lent ∙ ap fresh e ∙ number_opens b h
 
       go : (b : Bool) → mid.bytes ≡ b → OffersPart g b mid.de.now l.from → steps_at d < steps_at old
       go true e f = omega (arith, room_falls, ap levels e, was, now_number f.keeps.byte f.keeps.small f.keeps.kept)

@@ -94,7 +94,7 @@ expr_in v (suc zero) c h = (zero, h)
 expr_in v (suc (suc zero)) c h = (zero, h)
 expr_in v (suc (suc (suc zero))) c h = (zero, h)
 expr_in v (suc (suc (suc (suc zero)))) None (a, e, h) = absurd h
-expr_in v (suc (suc (suc (suc zero)))) (Some m) (a, e, h) = (h.0, (a, e, h.1))
+expr_in v (suc (suc (suc (suc zero)))) (Some m) (a, e, h) = let i = h in (i.0, (a, e, i.1))
 expr_in v (suc (suc (suc (suc (suc zero))))) None (a, e, h) = absurd h
 expr_in v (suc (suc (suc (suc (suc zero))))) (Some m) (a, e, h) = let i = row_in ExprIn expr_up m a.items h in (i.0, (a, e, i.1))
 expr_in v (suc (suc (suc (suc (suc (suc zero)))))) None (a, e, h) = absurd h

@@ -13,3 +13,8 @@ pub mod TermLevels
 pub mod TermRounds
 pub mod LinkLevels
 pub mod LinkRounds
+pub mod RecursionFields
+pub mod NodeLevels
+pub mod CellLevels
+pub mod NodeRounds
+pub mod CellRounds

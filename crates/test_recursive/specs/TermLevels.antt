@@ -116,7 +116,7 @@ term_in v (suc (suc (suc (suc (suc (suc zero)))))) c h = (zero, h)
 term_in v (suc (suc (suc (suc (suc (suc (suc zero))))))) c h = (zero, h)
 term_in v (suc (suc (suc (suc (suc (suc (suc (suc zero)))))))) c h = (zero, h)
 term_in v (suc (suc (suc (suc (suc (suc (suc (suc (suc zero))))))))) None (a, e, h) = absurd h
-term_in v (suc (suc (suc (suc (suc (suc (suc (suc (suc zero))))))))) (Some m) (a, e, h) = (h.0, (a, e, h.1))
+term_in v (suc (suc (suc (suc (suc (suc (suc (suc (suc zero))))))))) (Some m) (a, e, h) = let i = h in (i.0, (a, e, i.1))
 term_in v (suc (suc (suc (suc (suc (suc (suc (suc (suc (suc k)))))))))) c h = absurd h
 
 pub term_made : (v : Term) (m : Msg) → OfVariant term_names (TermCase IsTerm v) m → IsTerm m v

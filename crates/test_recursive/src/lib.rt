@@ -1,9 +1,11 @@
-//! Types that lead back to themselves: enums that the tool derives, and structs by hand. They are read as they were written.
+//! Types that lead back to themselves: types that the tool derives, and structs by hand. They are read as they were written.
 #![tactic(auto)]
 
+mod nodes;
 mod recursive;
 mod rounds;
 mod trees;
 
+pub use nodes::{Cell, Node};
 pub use recursive::{Nested, Rose};
 pub use trees::{Expr, Link, Term, Tree};

@@ -5,7 +5,7 @@ use rmp_wire::ReadRefReader;
 use std::alloc::Global;
 use std::process::Abort;
 use std::test::Fail;
-use test_recursive::{Expr, Link, Nested, Rose, Tree};
+use test_recursive::{Cell, Expr, Link, Nested, Node, Rose, Tree};
 
 const TREE: &[u8] = b"\x81\xa4Node\x92\x81\xa4Leaf\x01\x81\xa4Node\x90";
 
@@ -240,4 +240,70 @@ fn roses_refused(rt: HostRuntime) {
     ] {
         refused::<Rose>(&rt, rt.alloc(), read(rt.alloc(), 1024, input), why);
     }
+}
+
+const NODES: &[u8] = b"\x92\x01\x92\x92\x02\x90\x92\xcd\x01\x2c\x90";
+
+const NODES_NAMED: &[u8] = b"\x82\xa5value\x01\xa8children\x92\x82\xa5value\x02\xa8children\x90\
+    \x82\xa5value\xcd\x01\x2c\xa8children\x90";
+
+const CELLS: &[u8] = b"\x92\x01\x92\x02\xc0";
+
+const CELLS_NAMED: &[u8] = b"\x82\xa4head\x01\xa4tail\x82\xa4head\x02\xa4tail\xc0";
+
+#[test]
+fn nodes_written(rt: HostRuntime) -> Result<(), Fail> {
+    let children = vec![in rt.alloc();
+        Node {
+            value: 2,
+            children: Vec::new(rt.alloc())
+        },
+        Node {
+            value: 300,
+            children: Vec::new(rt.alloc())
+        },
+    ]?;
+    let node = Node { value: 1, children };
+    writes(&rt, rt.alloc(), &node, false, NODES);
+    writes(&rt, rt.alloc(), &node, true, NODES_NAMED);
+    Ok(())
+}
+
+#[test]
+fn nodes_read(rt: HostRuntime) {
+    let turned = b"\x83\xa8children\x92\x92\x02\x90\x92\xcd\x01\x2c\xc4\x00\xa4more\x91\xc0\xa5value\x01";
+    for (limit, input) in [(5, NODES), (5, NODES_NAMED), (5, turned.as_slice())] {
+        reads::<Node>(&rt, rt.alloc(), limit, input, true, NODES_NAMED);
+    }
+    refused::<Node>(&rt, rt.alloc(), read(rt.alloc(), 4, NODES), TOO_DEEP);
+    for (input, why) in [
+        (b"\x80".as_slice(), "missing field"),
+        (b"\x81\xa5value\x01", "missing field"),
+        (b"\x91\x01", "invalid length"),
+        (b"\x82\xa5value\x01\xa5value\x01", "duplicate field"),
+        (b"\xc4\x02\x01\x01", "invalid type"),
+    ] {
+        refused::<Node>(&rt, rt.alloc(), read(rt.alloc(), 1024, input), why);
+    }
+}
+
+#[test]
+fn cells(rt: HostRuntime) -> Result<(), Fail> {
+    let last = Box::new(rt.alloc(), Cell { head: 2, tail: None });
+    let Ok(last) = last else {
+        return Err(Fail::from("no memory"));
+    };
+    let cell = Cell {
+        head: 1,
+        tail: Some(last),
+    };
+    writes(&rt, rt.alloc(), &cell, false, CELLS);
+    writes(&rt, rt.alloc(), &cell, true, CELLS_NAMED);
+    let short = b"\x82\xa4head\x01\xa4tail\x81\xa4head\x02";
+    for input in [CELLS, CELLS_NAMED, short.as_slice()] {
+        reads::<Cell>(&rt, rt.alloc(), 4, input, true, CELLS_NAMED);
+    }
+    refused::<Cell>(&rt, rt.alloc(), read(rt.alloc(), 1, CELLS), TOO_DEEP);
+    refused::<Cell>(&rt, rt.alloc(), read(rt.alloc(), 9, b"\xc4\x02\x01\x02"), "invalid type");
+    Ok(())
 }

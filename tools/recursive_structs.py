@@ -1,0 +1,275 @@
+"""The definitions that derive.py writes for a recursive struct: what its values are read from and written as, level by level."""
+from __future__ import annotations
+
+import re
+
+from declarations import Field
+from derived_terms import codes
+from recursive_levels import Again, Level, Part, file_of, inductive
+from shared import list_of
+
+# The data of an option and of a list, from those of another of the same content.
+ALIKE = {
+    "list": "ap slice_of (map_alike {low}_data {v}.items {w}.items {e})",
+    "option": "option_alike (λ (b : Box {name} Global). {low}_data b.value) {v} {w} {e}",
+}
+
+
+def absent_of(part: Part) -> str:
+    """The value of a field that isn't there."""
+    return "(Some None)" if is_option(part) else "None"
+
+
+def is_option(part: Part) -> bool:
+    return isinstance(part, Again) and part.word == "option"
+
+
+def is_signed(part: Part) -> bool:
+    return part.term == "ℤ"
+
+
+def names_of(level: Level) -> str:
+    return codes(field.key for field, _ in level.fields)
+
+
+def own_values(level: Level) -> str:
+    """The struct's fields, in terms."""
+    return f"(out-{level.name} v)"
+
+
+def there(level: Level, at: int, reads: str, value: str) -> str:
+    """What the field at a place is read from where it is there."""
+    field, part = level.fields[at]
+    return f"(λ k. {part.reads.format(reads=reads, k='k', a=f'{value}.{field.name}')})"
+
+
+def missing(level: Level, at: int, value: str) -> str:
+    """What holds where it isn't."""
+    field, part = level.fields[at]
+    return f"(Absent {absent_of(part)} {value}.{field.name})"
+
+
+def shape_of(level: Level) -> str:
+    """What it is read from, by steps."""
+    name, low = level.name, level.low
+    count = len(level.fields)
+    tails = [f"{name}From{at} reads x fs = Field {there(level, at, 'reads', 'x')} {missing(level, at, 'x')} ({name}From{at + 1} reads x) fs" for at in range(count)]
+    tails.append(f"{name}From{count} reads x fs = NoField fs")
+    kind = f"(Msg → {name} → Type 0) → {name}-F {name} → List (Option Msg) → Type 0"
+    fields = "\n\n".join(f"abbrev pub {name}From{at} : {kind}\n{line}" for at, line in reversed(list(enumerate(tails))))
+    return f"""
+abbrev pub {low}_names : List (List ℕ)
+{low}_names = {names_of(level)}
+
+-- ---- what it is read from: the fields from each place on
+
+{fields}
+
+abbrev pub {name}Fields : (Msg → {name} → Type 0) → List (Option Msg) → {name} → Type 0
+{name}Fields reads fs v = {name}From0 reads (out-{name} v) fs
+
+abbrev pub {name}In : ℕ → Msg → {name} → Type 0
+{name}In zero m v = ⊥
+{name}In (suc n) m v = OfFields {low}_names (λ fs. {name}Fields ({name}In n) fs v) m
+
+-- in some number of steps the message is read as the value
+abbrev pub Is{name} : Msg → {name} → Type 0
+Is{name} m v = InSteps {name}In m v
+
+-- its fields are, each in its own number of steps
+abbrev pub {name}Read : Msg → {name} → Type 0
+{name}Read m v = OfFields {low}_names (λ fs. {name}Fields Is{name} fs v) m
+"""
+
+
+def pairs_of(level: Level, data: list[str]) -> str:
+    """The fields with what they are written as."""
+    return list_of([f'(codes "{field.key}", {term})' for (field, _), term in zip(level.fields, data)])
+
+
+def written_of(level: Level) -> str:
+    """What it is written as, level by level, and what is known of it."""
+    name, low = level.name, level.low
+    data = [part.data.format(a=f"v.{field.name}") for field, part in level.fields]
+    fits = [f"({part.fits.format(a=f'v.{field.name}', fits='fits')})" for field, part in level.fields]
+    return f"""
+-- ---- what it is written as: one level, of what its parts are written as
+
+abbrev pub {low}_level : {name}-F (Option Data) → Option Data
+{low}_level v = structure_of ({pairs_of(level, data)})
+
+abbrev pub {low}_data : {name} → Option Data
+{low}_data = fold-{name} (Option Data) {low}_level
+
+-- ---- what is known of a value
+
+abbrev pub {low}_layer_fits : (X : Type 0) → (X → {name}) → (X → Type 0) → {name}-F X → Type 0
+{low}_layer_fits X at fits v = {' × '.join(fits)}
+
+abbrev pub {low}_fits : {name} → Type 0
+{low}_fits = rec-{name} (Type 0) {low}_layer_fits
+"""
+
+
+def put_in(term: str, words: dict[str, str]) -> str:
+    """The term with these in place of names."""
+    return re.sub(r"(?<![\w.-])(\w+)(?![\w-])", lambda word: words.get(word[0], word[0]), term)
+
+
+def wider(part: Part, value: str, by: tuple[str, str, str]) -> str:
+    """What one reading of a part says by another: each message that the type is read from in one way is one in the other."""
+    if not isinstance(part, Again):
+        return "(λ m h. h)"
+    return f"(λ m h. {put_in(part.wider, dict(zip('PQf', by), a=value))})"
+
+
+def wider_lines(level: Level) -> str:
+    name, low, own = level.name, level.low, own_values(level)
+    count, lines = len(level.fields), ""
+    for at in range(count, -1, -1):
+        head = f"{low}_as{at}"
+        lines += f"""{head} : (P Q : Msg → {name} → Type 0) → ((m : Msg) (v : {name}) → P m v → Q m v) → (v : {name}) (fs : List (Option Msg)) → {name}From{at} P {own} fs → {name}From{at} Q {own} fs
+"""
+        if at == count:
+            lines += f"{head} P Q f v fs h = h\n\n"
+            continue
+        field, part = level.fields[at]
+        step = wider(part, f"{own}.{field.name}", ("P", "Q", "f"))
+        lines += f"{head} P Q f v = field_as {there(level, at, 'P', own)} {there(level, at, 'Q', own)} {missing(level, at, own)} ({name}From{at + 1} P {own}) ({name}From{at + 1} Q {own}) {step} ({low}_as{at + 1} P Q f v)\n\n"
+    return lines
+
+
+def counted_lines(level: Level) -> str:
+    name, low, own = level.name, level.low, own_values(level)
+    count, lines = len(level.fields), ""
+    for at in range(count, -1, -1):
+        head = f"{low}_in{at}"
+        lines += f"{head} : (v : {name}) (fs : List (Option Msg)) → {name}From{at} Is{name} {own} fs → (n : ℕ) × {name}From{at} ({name}In n) {own} fs\n"
+        if at == count:
+            lines += f"{head} v fs h = (zero, h)\n\n"
+            continue
+        field, part = level.fields[at]
+        value, by = f"{own}.{field.name}", (f"({name}In i)", f"({name}In (suc i))", f"({low}_up i)")
+        up = f"(λ i. {wider(part, value, by)})"
+        into = f"(λ m h. {put_in(part.counted, dict(a=value))})" if isinstance(part, Again) else "(λ m h. (zero, h))"
+        rest = f"({name}From{at + 1} Is{name} {own}) (λ i. {name}From{at + 1} ({name}In i) {own})"
+        ups = f"(λ i. {low}_as{at + 1} ({name}In i) ({name}In (suc i)) ({low}_up i) v)"
+        here = f"{there(level, at, f'Is{name}', own)} (λ i. {there(level, at, f'({name}In i)', own)})"
+        lines += f"{head} v = field_in {missing(level, at, own)} {here} {rest} {up} {ups} {into} ({low}_in{at + 1} v)\n\n"
+    return lines
+
+
+def steps_of(level: Level) -> str:
+    """One step of its reading by what its parts are read from."""
+    name, low = level.name, level.low
+    fields = f"{name}Fields"
+    return f"""
+-- ---- one step more
+
+{wider_lines(level)}
+{low}_up : (n : ℕ) (m : Msg) (v : {name}) → {name}In n m v → {name}In (suc n) m v
+{low}_up zero m v h = absurd h
+{low}_up (suc n) m v h = fields_as {low}_names (λ fs. {fields} ({name}In n) fs v) (λ fs. {fields} ({name}In (suc n)) fs v)
+    ({low}_as0 ({name}In n) ({name}In (suc n)) ({low}_up n) v) m h
+
+{counted_lines(level)}
+pub {low}_made : (v : {name}) (m : Msg) → {name}Read m v → Is{name} m v
+{low}_made v m h =
+    let i = fields_in {low}_names (λ fs. {fields} Is{name} fs v) (λ n fs. {fields} ({name}In n) fs v) ({low}_in0 v) m h in (suc i.0, i.1)
+
+pub {low}_out : (m : Msg) (v : {name}) → Is{name} m v → {name}Read m v
+{low}_out m v (zero, h) = absurd h
+{low}_out m v (suc n, h) = fields_as {low}_names (λ fs. {fields} ({name}In n) fs v) (λ fs. {fields} Is{name} fs v)
+    ({low}_as0 ({name}In n) Is{name} (λ k w p. (n, p)) v) m h
+
+pub {low}_read : (m : Msg) → Readable Is{name} m → Readable {name}Read m
+{low}_read m (v, h) = (v, {low}_out m v h)
+"""
+
+
+def again_of(level: Level) -> list[tuple[Field, Again]]:
+    """The fields that hold the type again."""
+    return [(field, part) for field, part in level.fields if isinstance(part, Again)]
+
+
+def option_lines(level: Level) -> str:
+    """That P holds of what an option has, and what is known of it, by its cases."""
+    name, low, lines = level.name, level.low, ""
+    for field, part in again_of(level):
+        if not is_option(part):
+            continue
+        of = field.name
+        made = f"(record y {{ {of} = o; }})"
+        lines += f"""
+{low}_hold_{of} : {{B : Type 0}} (P : {name} → Type 0) (first : B → {name}) → ((b : B) → P (first b)) → (y : {name}-F B) (o : Option (Box B Global))
+    → IfSome (map-{name} B {name} first {made}).{of} (λ b. P b.value)
+{low}_hold_{of} P first h y None = tt
+{low}_hold_{of} P first h y (Some a) = h a.value
+
+{low}_through_{of} : (X : Type 0) (at : X → {name}) (k : {name} → Type 0) (y : {name}-F X) (o : Option (Box X Global))
+    → IfSome o (λ b. k (at b.value)) ≡ IfSome (map-{name} X {name} at {made}).{of} (λ b. k b.value)
+{low}_through_{of} X at k y None = refl
+{low}_through_{of} X at k y (Some a) = refl
+"""
+    return lines
+
+
+def induction_of(level: Level) -> str:
+    """What holds of a value where it holds of its parts holds of each value."""
+    name, low = level.name, level.low
+    again = again_of(level)
+    kids = " × ".join(f"({part.parts.format(a=f'x.{field.name}')})" for field, part in again)
+    holds = [f"{low}_hold_{field.name} P first h y y.{field.name}" if is_option(part) else f"each_holds P first h y.{field.name}.items" for field, part in again]
+    through = []
+    for field, part in level.fields:
+        if not isinstance(part, Again):
+            through.append(f"({part.fits.format(a=f'x.{field.name}')})")
+        elif is_option(part):
+            through.append(f"({low}_through_{field.name} X at k x x.{field.name} i)")
+        else:
+            through.append(f"(through at k x.{field.name}.items i)")
+    hold = holds[0] if len(holds) == 1 else f"({', '.join(holds)})"
+    return option_lines(level) + inductive(
+        level, f"{name}Parts P x = {kids}\n", f"{low}_parts_hold P first h y = {hold}\n", f"{low}_through X at k x = λ i. {' × '.join(through)}\n"
+    )
+
+
+def data_from(part: Part, value: str) -> str:
+    """What a part is written as, over the type's own data."""
+    return (part.own if isinstance(part, Again) else part.data).format(a=value)
+
+
+def own_pairs(level: Level, of: str) -> str:
+    return f"({pairs_of(level, [data_from(part, f'{of}.{field.name}') for field, part in level.fields])})"
+
+
+def own_of(level: Level) -> str:
+    """What it is written as, by what its parts are."""
+    name, low, own = level.name, level.low, own_values(level)
+    mapped = f"map-{name} {name} (Option Data) {low}_data"
+    lines, data = "", []
+    for field, part in level.fields:
+        data.append(data_from(part, f"{own}.{field.name}"))
+        if is_option(part):
+            at = f"{low}_at_{field.name}"
+            lines += f"""
+{at} : (y : {name}-F {name}) (o : {part.term}) → option_of (λ b. b.value) ({mapped} (record y {{ {field.name} = o; }})).{field.name} ≡ {data_from(part, 'o')}
+{at} y None = refl
+{at} y (Some a) = refl
+"""
+            data[-1] = f"{at} {own} {own}.{field.name} i"
+    is_ = f"{low}_is v ∙ (λ i. structure_of ({pairs_of(level, data)}))" if lines else f"{low}_is v"
+    return f"""{lines}
+-- ---- what it is written as, by what its parts are
+
+abbrev pub {low}_own : {name}-F {name} → Option Data
+{low}_own x = structure_of {own_pairs(level, 'x')}
+
+pub {low}_is_own : (v : {name}) → {low}_data v ≡ {low}_own {own}
+{low}_is_own v = {is_}
+"""
+
+
+def levels_file(level: Level) -> str:
+    about = f"What the recursive type {level.name} is read from and written as, level by level. Written by tools/derive.py."
+    return file_of(level, f"{level.name}Levels", about, shape_of(level) + written_of(level) + steps_of(level) + induction_of(level) + own_of(level))
