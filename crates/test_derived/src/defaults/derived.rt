@@ -1,9 +1,9 @@
 //! How the types of defaults.rt are written and read. Written by tools/derive.py.
 //!
-//! Sum of Level: b3b4bf0f.
-//! Sum of Server: 1829f2cb.
-//! Sum of Lists: 2f4b45a7.
-//! Sum of Once: 1a11c33a.
+//! Sum of Level: 155669f7.
+//! Sum of Server: aeefca37.
+//! Sum of Lists: adcdcdb8.
+//! Sum of Once: 7008c194.
 ghost use Rattle.rmp_decode.specs.EnumRefusing.{RefusesEnum, no_content};
 ghost use Rattle.rmp_decode.specs.FieldRefusing.{RefusesFields};
 ghost use Rattle.rmp_decode.specs.Fields.{OfFields, Field, Absent, NoField};
@@ -15,6 +15,12 @@ ghost use Rattle.rmp_encode.specs.Data.{unit_variant};
 ghost use Rattle.rmp_encode.specs.Refusals.{OfParts, OfSink};
 ghost use Rattle.rmp_encode.specs.Sizes.{one_of};
 ghost use Rattle.rmp_encode.specs.Trees.{structure_of};
+ghost use Rattle.rmp_ends.specs.BufferEnds.{buffer_inside};
+ghost use Rattle.rmp_ends.specs.EnumEnds.{enum_inside, no_content_inside};
+ghost use Rattle.rmp_ends.specs.FieldEnds.{fields_inside};
+ghost use Rattle.rmp_ends.specs.LeafEnds.{kind_inside, number_inside, char_inside, string_inside};
+ghost use Rattle.rmp_ends.specs.MapEnds.{map_inside};
+ghost use Rattle.rmp_ends.specs.RowEnds.{each_inside, option_inside, tuple_inside};
 ghost use Rattle.rmp_round_trip.specs.LeafRounds.{byte_row, unsigned_row_16, unsigned_row_32, unsigned_row_64, signed_row_8, signed_row_32};
 ghost use Rattle.rmp_round_trip.specs.LeafRounds.{truth_row, char_row, string_row, buffer_row, text_other};
 ghost use Rattle.rmp_round_trip.specs.MapRounds.{mapping_some, map_row, pairs_row, set_row};
@@ -37,6 +43,7 @@ ghost use Rattle.test_derived.specs.declared.defaults.TheConstants.{CORNER, PLAI
 use super::{BTreeMap, BTreeSet, ByteBuf, CORNER, Level, Lists, Once, PLAIN, Server, TRIES};
 use rmp_decode::{Defaulted, Deserialize, Deserializer, ReadFields};
 use rmp_encode::{Elements, Serialize, Serializer};
+use rmp_ends::EndsInside;
 use rmp_round_trip::{NeverNil, RoundTrip};
 use rmp_wire::config::SerializerConfig;
 use rmp_wire::{ReadSlice, Sink};
@@ -122,6 +129,10 @@ impl<'de, R: ReadSlice<'de>> RoundTrip<'de, R> for Level {
 
 impl NeverNil for Level {
     ghost never_nil = { λ s. elim [ the_level.Quiet ↦ bare_other s (codes "Quiet") | the_level.Loud ↦ bare_other s (codes "Loud") ] };
+}
+
+impl<'de, R: ReadSlice<'de>> EndsInside<'de, R> for Level {
+    ghost ends_inside = { enum_inside _ _ (no_content_inside, (no_content_inside, tt)) };
 }
 
 impl Serialize for Server {
@@ -389,6 +400,38 @@ impl NeverNil for Server {
     ghost never_nil = { λ s v. structure_other s _ };
 }
 
+impl<'de, R: ReadSlice<'de>> EndsInside<'de, R> for Server {
+    ghost use Rattle.test_derived.specs.contracts.defaults.derived.LevelEndsInside.TheImpl.Laws as level_ends;
+    ghost use mir.Syntax.{given};
+
+    ghost ends_inside = { fields_inside _ _ _ (
+      string_inside,
+      (
+        number_inside,
+        (
+          number_inside,
+          (
+            number_inside,
+            (
+              (option_inside ⟦<String as Deserialize<'de, R>>⟧.refuses string_inside),
+              (
+                kind_inside,
+                (
+                  char_inside,
+                  (
+                    (tuple_inside (part_of ⟦<u16 as Deserialize<'de, R>>⟧.reads ⟦<u16 as Deserialize<'de, R>>⟧.refuses
+                        ∷ (part_of ⟦<u16 as Deserialize<'de, R>>⟧.reads ⟦<u16 as Deserialize<'de, R>>⟧.refuses ∷ [])) (number_inside, (number_inside, tt))),
+                    ((level_ends.ends_inside-law R.row R.ReadSlice.own (given 0) R.Source (given 0)), tt),
+                  ),
+                ),
+              ),
+            ),
+          ),
+        ),
+      ),
+    ) };
+}
+
 impl Serialize for Lists {
     ghost data_of = { λ v human. structure_of ((codes "name", ⟦<String as Serialize>⟧.data_of v.name human)
         ∷ ((codes "all", ⟦<Vec<u16> as Serialize>⟧.data_of v.list human)
@@ -566,6 +609,20 @@ impl NeverNil for Lists {
     ghost never_nil = { λ s v. structure_other s _ };
 }
 
+impl<'de, R: ReadSlice<'de>> EndsInside<'de, R> for Lists {
+    ghost ends_inside = { fields_inside _ _ _ (
+      string_inside,
+      (
+        (each_inside ⟦<u16 as Deserialize<'de, R>>⟧.reads ⟦<u16 as Deserialize<'de, R>>⟧.refuses number_inside),
+        (
+          (map_inside ⟦<String as Deserialize<'de, R>>⟧.reads ⟦<u64 as Deserialize<'de, R>>⟧.reads ⟦<String as Deserialize<'de, R>>⟧.refuses
+              ⟦<u64 as Deserialize<'de, R>>⟧.refuses string_inside number_inside),
+          ((each_inside ⟦<u32 as Deserialize<'de, R>>⟧.reads ⟦<u32 as Deserialize<'de, R>>⟧.refuses number_inside), (buffer_inside, tt)),
+        ),
+      ),
+    ) };
+}
+
 impl Serialize for Once {
     ghost data_of = { λ v human. structure_of ((codes "times", ⟦<u8 as Serialize>⟧.data_of v.times human) ∷ []) };
 
@@ -639,6 +696,10 @@ impl<'de, R: ReadSlice<'de>> RoundTrip<'de, R> for Once {
 
 impl NeverNil for Once {
     ghost never_nil = { λ s v. structure_other s _ };
+}
+
+impl<'de, R: ReadSlice<'de>> EndsInside<'de, R> for Once {
+    ghost ends_inside = { fields_inside _ _ _ (number_inside, tt) };
 }
 
 // 9 values, the first 8 of which are written before the others.

@@ -1,9 +1,9 @@
 //! How the types of enums.rt are written and read. Written by tools/derive.py.
 //!
-//! Sum of V12: 1cd5c6dd.
-//! Sum of Two: ae9e844b.
-//! Sum of Four: 64b31658.
-//! Sum of Mixed: 02fff7bb.
+//! Sum of V12: bc5391a0.
+//! Sum of Two: 3a97f9c4.
+//! Sum of Four: 91ed7817.
+//! Sum of Mixed: 1c25bdc1.
 ghost use Rattle.rmp_decode.specs.EnumRefusing.{RefusesEnum, no_content, with_content};
 ghost use Rattle.rmp_decode.specs.FieldRefusing.{RefusesFields};
 ghost use Rattle.rmp_decode.specs.Fields.{OfFields, Field, Absent, NoField};
@@ -15,6 +15,10 @@ ghost use Rattle.rmp_encode.specs.Data.{unit_variant};
 ghost use Rattle.rmp_encode.specs.Refusals.{OfParts, OfSink};
 ghost use Rattle.rmp_encode.specs.Sizes.{one_of};
 ghost use Rattle.rmp_encode.specs.Trees.{newtype_variant_of, tuple_variant_of, struct_variant_of};
+ghost use Rattle.rmp_ends.specs.EnumEnds.{enum_inside, no_content_inside, with_content_inside};
+ghost use Rattle.rmp_ends.specs.FieldEnds.{fields_inside};
+ghost use Rattle.rmp_ends.specs.LeafEnds.{number_inside, string_inside};
+ghost use Rattle.rmp_ends.specs.RowEnds.{option_inside, tuple_inside};
 ghost use Rattle.rmp_round_trip.specs.LeafRounds.{byte_row, unsigned_row_16, unsigned_row_32, string_row};
 ghost use Rattle.rmp_round_trip.specs.OnlyFields.{AtPlace, AnyContent, content_fields, content_only, content_row, field_only, last_field, variant_both};
 ghost use Rattle.rmp_round_trip.specs.OnlyLeaves.{byte_only, unsigned_only, string_only};
@@ -34,6 +38,7 @@ ghost use Rattle.test_derived.specs.declared.enums.V12.TheVariants as the_v12;
 use super::{Dog, Four, Mixed, Two, V12};
 use rmp_decode::{Deserialize, Deserializer, ReadFields};
 use rmp_encode::{Serialize, Serializer};
+use rmp_ends::EndsInside;
 use rmp_round_trip::{NeverNil, RoundTrip};
 use rmp_wire::config::SerializerConfig;
 use rmp_wire::{ReadSlice, Sink};
@@ -160,6 +165,17 @@ impl NeverNil for V12 {
     ghost never_nil = { λ s. elim [ the_v12.V1 ↦ bare_other s (codes "V1") | the_v12.V2 a1 a2 ↦ tuple_variant_other s (codes "V2") _ ] };
 }
 
+impl<'de, R: ReadSlice<'de>> EndsInside<'de, R> for V12 {
+    ghost ends_inside = { enum_inside _ _ (
+      no_content_inside,
+      (
+        with_content_inside _ (tuple_inside (part_of ⟦<u32 as Deserialize<'de, R>>⟧.reads ⟦<u32 as Deserialize<'de, R>>⟧.refuses
+            ∷ (part_of ⟦<u32 as Deserialize<'de, R>>⟧.reads ⟦<u32 as Deserialize<'de, R>>⟧.refuses ∷ [])) (number_inside, (number_inside, tt))),
+        tt,
+      ),
+    ) };
+}
+
 impl Serialize for Two {
     ghost data_of = { λ v human. elim v [ the_two.First ↦ Some (unit_variant (codes "First")) | the_two.Second ↦ Some (unit_variant (codes "Second")) ] };
 
@@ -242,6 +258,10 @@ impl<'de, R: ReadSlice<'de>> RoundTrip<'de, R> for Two {
 
 impl NeverNil for Two {
     ghost never_nil = { λ s. elim [ the_two.First ↦ bare_other s (codes "First") | the_two.Second ↦ bare_other s (codes "Second") ] };
+}
+
+impl<'de, R: ReadSlice<'de>> EndsInside<'de, R> for Two {
+    ghost ends_inside = { enum_inside _ _ (no_content_inside, (no_content_inside, tt)) };
 }
 
 impl Serialize for Four {
@@ -457,6 +477,21 @@ impl NeverNil for Four {
     ] };
 }
 
+impl<'de, R: ReadSlice<'de>> EndsInside<'de, R> for Four {
+    ghost ends_inside = { enum_inside _ _ (
+      no_content_inside,
+      (
+        with_content_inside _ (number_inside),
+        (
+          with_content_inside _
+              (tuple_inside (part_of ⟦<u8 as Deserialize<'de, R>>⟧.reads ⟦<u8 as Deserialize<'de, R>>⟧.refuses
+              ∷ (part_of ⟦<u16 as Deserialize<'de, R>>⟧.reads ⟦<u16 as Deserialize<'de, R>>⟧.refuses ∷ [])) (number_inside, (number_inside, tt))),
+          (with_content_inside _ (fields_inside _ _ _ (number_inside, (string_inside, tt))), tt),
+        ),
+      ),
+    ) };
+}
+
 impl<T: Serialize> Serialize for Mixed<T> {
     ghost data_of = { λ v human. elim v [
       | the_mixed.Other a1 ↦ newtype_variant_of (codes "Other") (T.data_of a1 human)
@@ -618,4 +653,22 @@ impl<T: Serialize> NeverNil for Mixed<T> {
       | the_mixed.Kept a1 a2 ↦ struct_variant_other s
           (codes "Kept") _
     ] };
+}
+
+impl<'de, R: ReadSlice<'de>, T: EndsInside<'de, R>> EndsInside<'de, R> for Mixed<T> {
+    ghost use Rattle.test_derived.specs.contracts.structs.derived.DogEndsInside.TheImpl.Laws as dog_ends;
+    ghost use Rattle.test_derived.specs.contracts.enums.derived.FourEndsInside.TheImpl.Laws as four_ends;
+    ghost use mir.Syntax.{given};
+
+    ghost ends_inside = { enum_inside _ _ (
+      with_content_inside _ (T.ends_inside),
+      (
+        with_content_inside _ (fields_inside _ _ _ (
+          (option_inside ⟦<Four as Deserialize<'de, R>>⟧.refuses
+              (four_ends.ends_inside-law R.row R.ReadSlice.own (given 0) R.Source (given 0))),
+          ((dog_ends.ends_inside-law R.row R.ReadSlice.own (given 0) R.Source (given 0)), tt),
+        )),
+        tt,
+      ),
+    ) };
 }

@@ -1,12 +1,12 @@
 //! How the types of kinds.rt are written and read. Written by tools/derive.py.
 //!
-//! Sum of Pair: 8cf411dd.
-//! Sum of Either: 5f629e26.
-//! Sum of Sorted: 28cfe3ed.
-//! Sum of Kennel: e1456d7d.
-//! Sum of Row: 82bebcad.
-//! Sum of Chosen: 1856182c.
-//! Sum of Guests: 2f171fe5.
+//! Sum of Pair: 3243e35d.
+//! Sum of Either: aaf78749.
+//! Sum of Sorted: c74810f1.
+//! Sum of Kennel: 04c42596.
+//! Sum of Row: 04362a13.
+//! Sum of Chosen: 43088daf.
+//! Sum of Guests: ef313941.
 ghost use Rattle.rmp_decode.specs.Arrays.{Exactly};
 ghost use Rattle.rmp_decode.specs.EnumRefusing.{RefusesEnum, with_content};
 ghost use Rattle.rmp_decode.specs.FieldRefusing.{RefusesFields};
@@ -19,6 +19,11 @@ ghost use Rattle.rmp_decode.specs.Variants.{OfVariant, Case, NoCase, Content};
 ghost use Rattle.rmp_encode.specs.Refusals.{OfParts};
 ghost use Rattle.rmp_encode.specs.Sizes.{one_of};
 ghost use Rattle.rmp_encode.specs.Trees.{wrapped_of, sequence_of, structure_of, newtype_variant_of, struct_variant_of, tree_of};
+ghost use Rattle.rmp_ends.specs.EnumEnds.{enum_inside, with_content_inside};
+ghost use Rattle.rmp_ends.specs.FieldEnds.{fields_inside};
+ghost use Rattle.rmp_ends.specs.LeafEnds.{kind_inside, number_inside, char_inside, string_inside};
+ghost use Rattle.rmp_ends.specs.MapEnds.{map_inside};
+ghost use Rattle.rmp_ends.specs.RowEnds.{array_inside, box_inside, each_inside, option_inside, tuple_inside};
 ghost use Rattle.rmp_round_trip.specs.LeafRounds.{byte_row, unsigned_row_16, unsigned_row_64, signed_row_8, signed_row_16};
 ghost use Rattle.rmp_round_trip.specs.LeafRounds.{signed_row_32, truth_row, char_row, string_row};
 ghost use Rattle.rmp_round_trip.specs.MapRounds.{mapping_some, map_row, pairs_row, set_row};
@@ -46,6 +51,7 @@ use super::{
 };
 use rmp_decode::{Deserialize, Deserializer, ReadFields};
 use rmp_encode::{Serialize, Serializer};
+use rmp_ends::EndsInside;
 use rmp_round_trip::{NeverNil, RoundTrip};
 use rmp_wire::config::SerializerConfig;
 use rmp_wire::{ReadSlice, Sink};
@@ -122,6 +128,10 @@ impl<'de, R: ReadSlice<'de>, T: RoundTrip<'de, R>> RoundTrip<'de, R> for Pair<T>
 
 impl<T: Serialize> NeverNil for Pair<T> {
     ghost never_nil = { λ s v. sequence_other s _ };
+}
+
+impl<'de, R: ReadSlice<'de>, T: EndsInside<'de, R>> EndsInside<'de, R> for Pair<T> {
+    ghost ends_inside = { tuple_inside (part_of T.reads T.refuses ∷ (part_of T.reads T.refuses ∷ [])) (T.ends_inside, (T.ends_inside, tt)) };
 }
 
 impl<T: Serialize> Serialize for Either<T> {
@@ -292,6 +302,23 @@ impl<T: Serialize> NeverNil for Either<T> {
     ] };
 }
 
+impl<'de, R: ReadSlice<'de>, T: EndsInside<'de, R>> EndsInside<'de, R> for Either<T> {
+    ghost ends_inside = { enum_inside _ _ (
+      with_content_inside _ (T.ends_inside),
+      (
+        with_content_inside _ (fields_inside _ _ _ (
+          number_inside,
+          (
+            (option_inside ⟦<Pair<T> as Deserialize<'de, R>>⟧.refuses
+                (tuple_inside (part_of T.reads T.refuses ∷ (part_of T.reads T.refuses ∷ [])) (T.ends_inside, (T.ends_inside, tt)))),
+            tt,
+          ),
+        )),
+        tt,
+      ),
+    ) };
+}
+
 impl<K: Serialize + Ord> Serialize for Sorted<K> {
     ghost data_of = { λ v human. structure_of ((codes "dogs", ⟦<BTreeMap<String, Dog> as Serialize>⟧.data_of v.dogs human)
         ∷ ((codes "counts", ⟦<BTreeMap<K, u64> as Serialize>⟧.data_of v.counts human)
@@ -446,6 +473,21 @@ impl<'de, R: ReadSlice<'de>, K: RoundTrip<'de, R> + Ord> RoundTrip<'de, R> for S
 
 impl<K: Serialize + Ord> NeverNil for Sorted<K> {
     ghost never_nil = { λ s v. structure_other s _ };
+}
+
+impl<'de, R: ReadSlice<'de>, K: EndsInside<'de, R> + Ord> EndsInside<'de, R> for Sorted<K> {
+    ghost use Rattle.test_derived.specs.contracts.structs.derived.DogEndsInside.TheImpl.Laws as dog_ends;
+    ghost use mir.Syntax.{given};
+
+    ghost ends_inside = { fields_inside _ _ _ (
+      (map_inside ⟦<String as Deserialize<'de, R>>⟧.reads ⟦<Dog as Deserialize<'de, R>>⟧.reads
+          ⟦<String as Deserialize<'de, R>>⟧.refuses ⟦<Dog as Deserialize<'de, R>>⟧.refuses string_inside
+          (dog_ends.ends_inside-law R.row R.ReadSlice.own (given 0) R.Source (given 0))),
+      (
+        (map_inside K.reads ⟦<u64 as Deserialize<'de, R>>⟧.reads K.refuses ⟦<u64 as Deserialize<'de, R>>⟧.refuses K.ends_inside number_inside),
+        ((each_inside ⟦<i16 as Deserialize<'de, R>>⟧.reads ⟦<i16 as Deserialize<'de, R>>⟧.refuses number_inside), tt),
+      ),
+    ) };
 }
 
 impl Serialize for Kennel {
@@ -695,6 +737,48 @@ impl NeverNil for Kennel {
     ghost never_nil = { λ s v. structure_other s _ };
 }
 
+impl<'de, R: ReadSlice<'de>> EndsInside<'de, R> for Kennel {
+    ghost use Rattle.test_derived.specs.contracts.structs.derived.DogEndsInside.TheImpl.Laws as dog_ends;
+    ghost use Rattle.test_derived.specs.contracts.enums.derived.FourEndsInside.TheImpl.Laws as four_ends;
+    ghost use Rattle.test_derived.specs.contracts.structs.derived.OptEndsInside.TheImpl.Laws as opt_ends;
+    ghost use mir.Syntax.{given};
+
+    ghost ends_inside = { fields_inside _ _ _ (
+      (each_inside ⟦<Dog as Deserialize<'de, R>>⟧.reads ⟦<Dog as Deserialize<'de, R>>⟧.refuses
+          (dog_ends.ends_inside-law R.row R.ReadSlice.own (given 0) R.Source (given 0))),
+      (
+        (box_inside ⟦<Four as Deserialize<'de, R>>⟧.reads ⟦<Four as Deserialize<'de, R>>⟧.refuses
+            (four_ends.ends_inside-law R.row R.ReadSlice.own (given 0) R.Source (given 0))),
+        (
+          (tuple_inside (part_of ⟦<Opt as Deserialize<'de, R>>⟧.reads ⟦<Opt as Deserialize<'de, R>>⟧.refuses
+              ∷ (part_of ⟦<Opt as Deserialize<'de, R>>⟧.reads ⟦<Opt as Deserialize<'de, R>>⟧.refuses ∷ [])) (
+                (opt_ends.ends_inside-law R.row R.ReadSlice.own (given 0) R.Source (given 0)),
+                ((opt_ends.ends_inside-law R.row R.ReadSlice.own (given 0) R.Source (given 0)), tt),
+              )),
+          (
+            (option_inside ⟦<Either<bool> as Deserialize<'de, R>>⟧.refuses
+                (enum_inside _ _ (
+                  with_content_inside _ (kind_inside),
+                  (
+                    with_content_inside _ (fields_inside _ _ _ (
+                      number_inside,
+                      (
+                        (option_inside ⟦<Pair<bool> as Deserialize<'de, R>>⟧.refuses
+                            (tuple_inside (part_of ⟦<bool as Deserialize<'de, R>>⟧.reads ⟦<bool as Deserialize<'de, R>>⟧.refuses
+                            ∷ (part_of ⟦<bool as Deserialize<'de, R>>⟧.reads ⟦<bool as Deserialize<'de, R>>⟧.refuses ∷ [])) (kind_inside, (kind_inside, tt)))),
+                        tt,
+                      ),
+                    )),
+                    tt,
+                  ),
+                ))),
+            tt,
+          ),
+        ),
+      ),
+    ) };
+}
+
 impl Serialize for Row {
     ghost data_of = { λ v human. structure_of ((codes "left", ⟦<VecDeque<(char, i8)> as Serialize>⟧.data_of v.left human)
         ∷ ((codes "far", ⟦<[u16; 3] as Serialize>⟧.data_of v.far human) ∷ ((codes "kennel", ⟦<Kennel as Serialize>⟧.data_of v.kennel human) ∷ []))) };
@@ -832,6 +916,21 @@ impl NeverNil for Row {
     ghost never_nil = { λ s v. structure_other s _ };
 }
 
+impl<'de, R: ReadSlice<'de>> EndsInside<'de, R> for Row {
+    ghost use Rattle.test_derived.specs.contracts.kinds.derived.KennelEndsInside.TheImpl.Laws as kennel_ends;
+    ghost use mir.Syntax.{given};
+
+    ghost ends_inside = { fields_inside _ _ _ (
+      (each_inside ⟦<(char, i8) as Deserialize<'de, R>>⟧.reads ⟦<(char, i8) as Deserialize<'de, R>>⟧.refuses
+          (tuple_inside (part_of ⟦<char as Deserialize<'de, R>>⟧.reads ⟦<char as Deserialize<'de, R>>⟧.refuses
+          ∷ (part_of ⟦<i8 as Deserialize<'de, R>>⟧.reads ⟦<i8 as Deserialize<'de, R>>⟧.refuses ∷ [])) (char_inside, (number_inside, tt)))),
+      (
+        (array_inside _ 3 ⟦<u16 as Deserialize<'de, R>>⟧.reads ⟦<u16 as Deserialize<'de, R>>⟧.refuses number_inside),
+        ((kennel_ends.ends_inside-law R.row R.ReadSlice.own (given 0) R.Source (given 0)), tt),
+      ),
+    ) };
+}
+
 impl Serialize for Chosen {
     ghost data_of = { λ v human. wrapped_of (⟦<Either<u8> as Serialize>⟧.data_of v.0 human) };
 
@@ -964,6 +1063,24 @@ impl NeverNil for Chosen {
     ghost never_nil = { λ s v. newtype_other s (⟦<Either<u8> as Serialize>⟧.data_of v.0 s.human)
         ((let law : (x : _) → tree_of s (⟦<Either<u8> as Serialize>⟧.data_of x s.human) ≢ Some nil = elim
         [ the_either.Left a1 ↦ newtype_variant_other s (codes "Left") _ | the_either.Right a1 a2 ↦ struct_variant_other s (codes "Right") _ ] in law v.0)) };
+}
+
+impl<'de, R: ReadSlice<'de>> EndsInside<'de, R> for Chosen {
+    ghost ends_inside = { (enum_inside _ _ (
+      with_content_inside _ (number_inside),
+      (
+        with_content_inside _ (fields_inside _ _ _ (
+          number_inside,
+          (
+            (option_inside ⟦<Pair<u8> as Deserialize<'de, R>>⟧.refuses
+                (tuple_inside (part_of ⟦<u8 as Deserialize<'de, R>>⟧.reads ⟦<u8 as Deserialize<'de, R>>⟧.refuses
+                ∷ (part_of ⟦<u8 as Deserialize<'de, R>>⟧.reads ⟦<u8 as Deserialize<'de, R>>⟧.refuses ∷ [])) (number_inside, (number_inside, tt)))),
+            tt,
+          ),
+        )),
+        tt,
+      ),
+    )) };
 }
 
 impl Serialize for Guests {
@@ -1139,4 +1256,30 @@ impl<'de, R: ReadSlice<'de>> RoundTrip<'de, R> for Guests {
 
 impl NeverNil for Guests {
     ghost never_nil = { λ s v. structure_other s _ };
+}
+
+impl<'de, R: ReadSlice<'de>> EndsInside<'de, R> for Guests {
+    ghost use Rattle.test_derived.specs.contracts.structs.derived.DogEndsInside.TheImpl.Laws as dog_ends;
+    ghost use Rattle.test_derived.specs.contracts.enums.derived.FourEndsInside.TheImpl.Laws as four_ends;
+    ghost use Rattle.test_derived.specs.contracts.structs.derived.OptEndsInside.TheImpl.Laws as opt_ends;
+    ghost use mir.Syntax.{given};
+
+    ghost ends_inside = { fields_inside _ _ _ (
+      (fields_inside _ _ _
+          ((opt_ends.ends_inside-law R.row R.ReadSlice.own (given 0) R.Source (given 0)), (number_inside, tt))),
+      (
+        (enum_inside _ _ (
+          with_content_inside _ (kind_inside),
+          (
+            with_content_inside _ (fields_inside _ _ _ (
+              (option_inside ⟦<Four as Deserialize<'de, R>>⟧.refuses
+                  (four_ends.ends_inside-law R.row R.ReadSlice.own (given 0) R.Source (given 0))),
+              ((dog_ends.ends_inside-law R.row R.ReadSlice.own (given 0) R.Source (given 0)), tt),
+            )),
+            tt,
+          ),
+        )),
+        tt,
+      ),
+    ) };
 }

@@ -1,7 +1,7 @@
 //! How the types of renamed.rt are written and read. Written by tools/derive.py.
 //!
-//! Sum of Parcel: 3a880f1f.
-//! Sum of Way: 0f9edd6f.
+//! Sum of Parcel: c978ed3c.
+//! Sum of Way: 50b35616.
 ghost use Rattle.rmp_decode.specs.EnumRefusing.{RefusesEnum, no_content, with_content};
 ghost use Rattle.rmp_decode.specs.FieldRefusing.{RefusesFields};
 ghost use Rattle.rmp_decode.specs.Fields.{OfFields, Field, Absent, NoField};
@@ -12,6 +12,10 @@ ghost use Rattle.rmp_encode.specs.Data.{unit_variant};
 ghost use Rattle.rmp_encode.specs.Refusals.{OfParts, OfSink};
 ghost use Rattle.rmp_encode.specs.Sizes.{one_of};
 ghost use Rattle.rmp_encode.specs.Trees.{structure_of, newtype_variant_of, struct_variant_of};
+ghost use Rattle.rmp_ends.specs.EnumEnds.{enum_inside, no_content_inside, with_content_inside};
+ghost use Rattle.rmp_ends.specs.FieldEnds.{fields_inside};
+ghost use Rattle.rmp_ends.specs.LeafEnds.{number_inside, string_inside};
+ghost use Rattle.rmp_ends.specs.RowEnds.{option_inside};
 ghost use Rattle.rmp_round_trip.specs.LeafRounds.{byte_row, unsigned_row_16, unsigned_row_64, string_row, pos_other};
 ghost use Rattle.rmp_round_trip.specs.OnlyFields.{AtPlace, AnyContent, content_fields, content_only, field_only, fields_both, last_field, variant_both};
 ghost use Rattle.rmp_round_trip.specs.OnlyLeaves.{byte_only, unsigned_only, string_only};
@@ -28,6 +32,7 @@ ghost use Rattle.test_derived.specs.declared.renamed.Way.TheVariants as the_way;
 use super::{Parcel, Way};
 use rmp_decode::{Deserialize, Deserializer, ReadFields};
 use rmp_encode::{Serialize, Serializer};
+use rmp_ends::EndsInside;
 use rmp_round_trip::{NeverNil, RoundTrip};
 use rmp_wire::config::SerializerConfig;
 use rmp_wire::{ReadSlice, Sink};
@@ -143,6 +148,10 @@ impl<'de, R: ReadSlice<'de>> RoundTrip<'de, R> for Parcel {
 
 impl NeverNil for Parcel {
     ghost never_nil = { λ s v. structure_other s _ };
+}
+
+impl<'de, R: ReadSlice<'de>> EndsInside<'de, R> for Parcel {
+    ghost ends_inside = { fields_inside _ _ _ (string_inside, (number_inside, ((option_inside ⟦<u64 as Deserialize<'de, R>>⟧.refuses number_inside), tt))) };
 }
 
 impl Serialize for Way {
@@ -309,4 +318,11 @@ impl NeverNil for Way {
       | the_way.OverLand a1 a2 ↦ struct_variant_other s (codes "over-land") _
       | the_way.AcrossTheSea a1 ↦ newtype_variant_other s (codes "sea") _
     ] };
+}
+
+impl<'de, R: ReadSlice<'de>> EndsInside<'de, R> for Way {
+    ghost ends_inside = { enum_inside _ _ (
+      no_content_inside,
+      (with_content_inside _ (fields_inside _ _ _ (number_inside, (string_inside, tt))), (with_content_inside _ (number_inside), tt)),
+    ) };
 }

@@ -1,11 +1,11 @@
 //! How the types of structs.rt are written and read. Written by tools/derive.py.
 //!
-//! Sum of Dog: 8a3ed735.
-//! Sum of Opt: d6c3fdaa.
-//! Sum of Point: df6ecd07.
-//! Sum of Newtype: 40674827.
-//! Sum of Unit: b6d64e11.
-//! Sum of Counted: cf4b956d.
+//! Sum of Dog: e1900cf3.
+//! Sum of Opt: 7362e641.
+//! Sum of Point: 10e2677c.
+//! Sum of Newtype: b785b6a3.
+//! Sum of Unit: ca49ded8.
+//! Sum of Counted: 33e5bef1.
 ghost use Rattle.rmp_decode.specs.Exact.{RefusesExactly};
 ghost use Rattle.rmp_decode.specs.FieldRefusing.{RefusesFields};
 ghost use Rattle.rmp_decode.specs.Fields.{OfFields, Field, Absent, NoField};
@@ -18,6 +18,10 @@ ghost use Rattle.rmp_encode.specs.Data.{unit_struct};
 ghost use Rattle.rmp_encode.specs.Refusals.{OfParts, OfSink};
 ghost use Rattle.rmp_encode.specs.Sizes.{one_of};
 ghost use Rattle.rmp_encode.specs.Trees.{wrapped_of, sequence_of, structure_of};
+ghost use Rattle.rmp_ends.specs.EnumEnds.{nothing_inside};
+ghost use Rattle.rmp_ends.specs.FieldEnds.{fields_inside};
+ghost use Rattle.rmp_ends.specs.LeafEnds.{number_inside, string_inside};
+ghost use Rattle.rmp_ends.specs.RowEnds.{option_inside, tuple_inside};
 ghost use Rattle.rmp_round_trip.specs.LeafRounds.{byte_row, unsigned_row_16, unsigned_row_32, unsigned_row_64, string_row, byte_other, pos_other};
 ghost use Rattle.rmp_round_trip.specs.OnlyFields.{field_only, fields_both, last_field};
 ghost use Rattle.rmp_round_trip.specs.OnlyLeaves.{byte_only, unsigned_only, string_only};
@@ -32,6 +36,7 @@ ghost use Rattle.std.specs.Prelude.{◌∷◌, [], None, Some, codes, false, ⊤
 use super::{Counted, Dog, Newtype, Opt, Point, Unit};
 use rmp_decode::{Deserialize, Deserializer, ReadFields};
 use rmp_encode::{Serialize, Serializer};
+use rmp_ends::EndsInside;
 use rmp_round_trip::{NeverNil, RoundTrip};
 use rmp_wire::config::SerializerConfig;
 use rmp_wire::{ReadSlice, Sink};
@@ -124,6 +129,10 @@ impl NeverNil for Dog {
     ghost never_nil = { λ s v. structure_other s _ };
 }
 
+impl<'de, R: ReadSlice<'de>> EndsInside<'de, R> for Dog {
+    ghost ends_inside = { fields_inside _ _ _ (string_inside, (number_inside, tt)) };
+}
+
 impl Serialize for Opt {
     ghost data_of = { λ v human. structure_of ((codes "v", ⟦<Option<u8> as Serialize>⟧.data_of v.v human) ∷ []) };
 
@@ -202,6 +211,10 @@ impl NeverNil for Opt {
     ghost never_nil = { λ s v. structure_other s _ };
 }
 
+impl<'de, R: ReadSlice<'de>> EndsInside<'de, R> for Opt {
+    ghost ends_inside = { fields_inside _ _ _ ((option_inside ⟦<u8 as Deserialize<'de, R>>⟧.refuses number_inside), tt) };
+}
+
 impl Serialize for Point {
     ghost data_of = { λ v human. sequence_of (⟦<u32 as Serialize>⟧.data_of v.0 human ∷ (⟦<String as Serialize>⟧.data_of v.1 human ∷ [])) };
 
@@ -278,6 +291,11 @@ impl NeverNil for Point {
     ghost never_nil = { λ s v. sequence_other s _ };
 }
 
+impl<'de, R: ReadSlice<'de>> EndsInside<'de, R> for Point {
+    ghost ends_inside = { tuple_inside (part_of ⟦<u32 as Deserialize<'de, R>>⟧.reads ⟦<u32 as Deserialize<'de, R>>⟧.refuses
+        ∷ (part_of ⟦<String as Deserialize<'de, R>>⟧.reads ⟦<String as Deserialize<'de, R>>⟧.refuses ∷ [])) (number_inside, (string_inside, tt)) };
+}
+
 impl Serialize for Newtype {
     ghost data_of = { λ v human. wrapped_of (⟦<u64 as Serialize>⟧.data_of v.0 human) };
 
@@ -342,6 +360,10 @@ impl NeverNil for Newtype {
     ghost never_nil = { λ s v. newtype_other s (⟦<u64 as Serialize>⟧.data_of v.0 s.human) (pos_other s v.0) };
 }
 
+impl<'de, R: ReadSlice<'de>> EndsInside<'de, R> for Newtype {
+    ghost ends_inside = { number_inside };
+}
+
 impl Serialize for Unit {
     ghost data_of = { λ v human. Some unit_struct };
 
@@ -399,6 +421,10 @@ impl<'de, R: ReadSlice<'de>> RoundTrip<'de, R> for Unit {
 
 impl NeverNil for Unit {
     ghost never_nil = { λ s v. nothing_other s };
+}
+
+impl<'de, R: ReadSlice<'de>> EndsInside<'de, R> for Unit {
+    ghost ends_inside = { nothing_inside };
 }
 
 impl<T: Serialize> Serialize for Counted<T> {
@@ -486,4 +512,8 @@ impl<'de, R: ReadSlice<'de>, T: RoundTrip<'de, R>> RoundTrip<'de, R> for Counted
 
 impl<T: Serialize> NeverNil for Counted<T> {
     ghost never_nil = { λ s v. structure_other s _ };
+}
+
+impl<'de, R: ReadSlice<'de>, T: EndsInside<'de, R>> EndsInside<'de, R> for Counted<T> {
+    ghost ends_inside = { fields_inside _ _ _ (T.ends_inside, (number_inside, tt)) };
 }

@@ -1,7 +1,7 @@
 //! How the types of versions.rt are written and read. Written by tools/derive.py.
 //!
-//! Sum of First: 99e19f35.
-//! Sum of Second: 6d42f807.
+//! Sum of First: 1f224662.
+//! Sum of Second: 1068687b.
 ghost use Rattle.rmp_decode.specs.FieldRefusing.{RefusesFields};
 ghost use Rattle.rmp_decode.specs.Fields.{OfFields, Field, Absent, NoField};
 ghost use Rattle.rmp_decode.specs.ReadFields.{reads_2, reads_3};
@@ -9,6 +9,9 @@ ghost use Rattle.rmp_decode.specs.Refusing.{part_of};
 ghost use Rattle.rmp_encode.specs.Refusals.{OfParts};
 ghost use Rattle.rmp_encode.specs.Sizes.{one_of};
 ghost use Rattle.rmp_encode.specs.Trees.{structure_of};
+ghost use Rattle.rmp_ends.specs.FieldEnds.{fields_inside};
+ghost use Rattle.rmp_ends.specs.LeafEnds.{number_inside, string_inside};
+ghost use Rattle.rmp_ends.specs.RowEnds.{option_inside};
 ghost use Rattle.rmp_round_trip.specs.LeafRounds.{unsigned_row_16, string_row, text_other};
 ghost use Rattle.rmp_round_trip.specs.OnlyFields.{field_only, fields_both, last_field};
 ghost use Rattle.rmp_round_trip.specs.OnlyLeaves.{unsigned_only, string_only};
@@ -22,6 +25,7 @@ ghost use Rattle.std.specs.Prelude.{◌∷◌, [], None, codes, string_bytes};
 use super::{First, Second};
 use rmp_decode::{Deserialize, Deserializer};
 use rmp_encode::{Serialize, Serializer};
+use rmp_ends::EndsInside;
 use rmp_round_trip::{NeverNil, RoundTrip};
 use rmp_wire::config::SerializerConfig;
 use rmp_wire::{ReadSlice, Sink};
@@ -113,6 +117,10 @@ impl<'de, R: ReadSlice<'de>> RoundTrip<'de, R> for First {
 
 impl NeverNil for First {
     ghost never_nil = { λ s v. structure_other s _ };
+}
+
+impl<'de, R: ReadSlice<'de>> EndsInside<'de, R> for First {
+    ghost ends_inside = { fields_inside _ _ _ (string_inside, (number_inside, tt)) };
 }
 
 impl Serialize for Second {
@@ -221,4 +229,8 @@ impl<'de, R: ReadSlice<'de>> RoundTrip<'de, R> for Second {
 
 impl NeverNil for Second {
     ghost never_nil = { λ s v. structure_other s _ };
+}
+
+impl<'de, R: ReadSlice<'de>> EndsInside<'de, R> for Second {
+    ghost ends_inside = { fields_inside _ _ _ (number_inside, ((option_inside ⟦<String as Deserialize<'de, R>>⟧.refuses string_inside), (string_inside, tt))) };
 }

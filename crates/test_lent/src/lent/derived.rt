@@ -1,9 +1,9 @@
 //! How the types of lent.rt are written and read. Written by tools/derive.py.
 //!
-//! Sum of Line: 7f6e0419.
-//! Sum of Label: 5857933c.
-//! Sum of Piece: 58c280b5.
-//! Sum of Event: 9495e6ae.
+//! Sum of Line: 803eb516.
+//! Sum of Label: b73185ca.
+//! Sum of Piece: 02ca2e35.
+//! Sum of Event: 1b69c61d.
 ghost use Rattle.rmp_decode.specs.EnumRefusing.{RefusesEnum, no_content, with_content};
 ghost use Rattle.rmp_decode.specs.FieldRefusing.{RefusesFields};
 ghost use Rattle.rmp_decode.specs.Fields.{OfFields, Field, Absent, NoField};
@@ -18,6 +18,10 @@ ghost use Rattle.rmp_encode.specs.Ser.{sink_of, settings_of};
 ghost use Rattle.rmp_encode.specs.Sizes.{one_of};
 ghost use Rattle.rmp_encode.specs.Trees.{wrapped_of, sequence_of, structure_of, newtype_variant_of, tuple_variant_of, struct_variant_of, tree_of};
 ghost use Rattle.rmp_encode.specs.Writes.{Keeps, WritesTree};
+ghost use Rattle.rmp_ends.specs.EnumEnds.{enum_inside, no_content_inside, with_content_inside};
+ghost use Rattle.rmp_ends.specs.FieldEnds.{fields_inside};
+ghost use Rattle.rmp_ends.specs.LeafEnds.{number_inside, str_inside, bytes_inside};
+ghost use Rattle.rmp_ends.specs.RowEnds.{each_inside, option_inside, tuple_inside};
 ghost use Rattle.rmp_round_trip.specs.LeafRounds.{byte_row, unsigned_row_32, signed_row_16, str_row, bytes_row, text_other};
 ghost use Rattle.rmp_round_trip.specs.OnlyFields.{AtPlace, AnyContent, content_fields, content_only, content_row};
 ghost use Rattle.rmp_round_trip.specs.OnlyFields.{field_only, fields_both, last_field, variant_both};
@@ -39,6 +43,7 @@ ghost use Rattle.test_lent.specs.declared.lent.Event.TheVariants as the_event;
 use super::{Bytes, Event, Label, Line, Piece};
 use rmp_decode::{Deserialize, Deserializer, ReadFields};
 use rmp_encode::{Serialize, Serializer};
+use rmp_ends::EndsInside;
 use rmp_round_trip::{NeverNil, RoundTrip};
 use rmp_wire::config::SerializerConfig;
 use rmp_wire::{ReadSlice, Sink};
@@ -220,6 +225,19 @@ impl<'de> NeverNil for Line<'de> {
     ghost never_nil = { λ s v. structure_other s _ };
 }
 
+impl<'de, R: ReadSlice<'de>> EndsInside<'de, R> for Line<'de> {
+    ghost ends_inside = { fields_inside _ _ _ (
+      number_inside,
+      (
+        str_inside,
+        (
+          (each_inside ⟦<&'de str as Deserialize<'de, R>>⟧.reads ⟦<&'de str as Deserialize<'de, R>>⟧.refuses str_inside),
+          ((option_inside ⟦<&'de str as Deserialize<'de, R>>⟧.refuses str_inside), tt),
+        ),
+      ),
+    ) };
+}
+
 impl<'a> Serialize for Label<'a> {
     ghost data_of = { λ v human. wrapped_of (⟦<&'a str as Serialize>⟧.data_of v.0 human) };
 
@@ -284,6 +302,10 @@ impl<'de, R: ReadSlice<'de>> RoundTrip<'de, R> for Label<'de> {
 
 impl<'de> NeverNil for Label<'de> {
     ghost never_nil = { λ s v. newtype_other s (⟦<&'de str as Serialize>⟧.data_of v.0 s.human) (text_other s v.0.now) };
+}
+
+impl<'de, R: ReadSlice<'de>> EndsInside<'de, R> for Label<'de> {
+    ghost ends_inside = { str_inside };
 }
 
 // Writes the fields of a struct, each of which may borrow.
@@ -378,6 +400,11 @@ impl<'de, R: ReadSlice<'de>> RoundTrip<'de, R> for Piece<'de> {
 
 impl<'de> NeverNil for Piece<'de> {
     ghost never_nil = { λ s v. sequence_other s _ };
+}
+
+impl<'de, R: ReadSlice<'de>> EndsInside<'de, R> for Piece<'de> {
+    ghost ends_inside = { tuple_inside (part_of ⟦<Bytes<'de> as Deserialize<'de, R>>⟧.reads ⟦<Bytes<'de> as Deserialize<'de, R>>⟧.refuses
+        ∷ (part_of ⟦<u32 as Deserialize<'de, R>>⟧.reads ⟦<u32 as Deserialize<'de, R>>⟧.refuses ∷ [])) (bytes_inside, (number_inside, tt)) };
 }
 
 // Writes the fields of a variant, each of which may borrow.
@@ -662,4 +689,19 @@ impl<'de, T: Serialize> NeverNil for Event<'de, T> {
       | the_event.Held a1 ↦
           newtype_variant_other s (codes "Held") _
     ] };
+}
+
+impl<'de, R: ReadSlice<'de>, T: EndsInside<'de, R>> EndsInside<'de, R> for Event<'de, T> {
+    ghost ends_inside = { enum_inside _ _ (
+      no_content_inside,
+      (
+        with_content_inside _ (str_inside),
+        (
+          with_content_inside _
+              (tuple_inside (part_of ⟦<i16 as Deserialize<'de, R>>⟧.reads ⟦<i16 as Deserialize<'de, R>>⟧.refuses
+              ∷ (part_of ⟦<Label<'de> as Deserialize<'de, R>>⟧.reads ⟦<Label<'de> as Deserialize<'de, R>>⟧.refuses ∷ [])) (number_inside, ((str_inside), tt))),
+          (with_content_inside _ (fields_inside _ _ _ (str_inside, (number_inside, tt))), (with_content_inside _ (T.ends_inside), tt)),
+        ),
+      ),
+    ) };
 }

@@ -1,6 +1,6 @@
 //! How the types of buoys.rt are written and read. Written by tools/derive.py.
 //!
-//! Sum of Measured: 5b34a548.
+//! Sum of Measured: 424bd938.
 ghost use Rattle.rmp_decode.specs.Arrays.{Exactly};
 ghost use Rattle.rmp_decode.specs.Refusing.{RefusesTuple, part_of};
 ghost use Rattle.rmp_decode.specs.Rows.{AndThen, NoMore, ReadsEach};
@@ -8,6 +8,9 @@ ghost use Rattle.rmp_decode.specs.Seq.{OfRow};
 ghost use Rattle.rmp_encode.specs.Refusals.{OfParts};
 ghost use Rattle.rmp_encode.specs.Sizes.{one_of};
 ghost use Rattle.rmp_encode.specs.Trees.{sequence_of};
+ghost use Rattle.rmp_ends.specs.BufferEnds.{buffer_inside};
+ghost use Rattle.rmp_ends.specs.LeafEnds.{kind_inside, number_inside, char_inside, string_inside};
+ghost use Rattle.rmp_ends.specs.RowEnds.{array_inside, each_inside, option_inside, tuple_inside};
 ghost use Rattle.rmp_round_trip.specs.LeafRounds.{byte_row, unsigned_row_16, unsigned_row_64, signed_row_32, truth_row};
 ghost use Rattle.rmp_round_trip.specs.LeafRounds.{float64_row, char_row, string_row, buffer_row, pos_other};
 ghost use Rattle.rmp_round_trip.specs.OnlyLeaves.{truth_only, byte_only, unsigned_only, signed_only, float64_only, char_only, string_only, buffer_only};
@@ -23,6 +26,7 @@ ghost use Rattle.std.specs.Prelude.{◌∷◌, [], None, string_bytes, pos, negs
 use super::{ByteBuf, F64Bits, Measured, Spot};
 use rmp_decode::{Deserialize, Deserializer};
 use rmp_encode::{Elements, Serialize, Serializer};
+use rmp_ends::EndsInside;
 use rmp_round_trip::{NeverNil, RoundTrip};
 use rmp_wire::config::SerializerConfig;
 use rmp_wire::{ReadSlice, Sink};
@@ -311,6 +315,58 @@ impl<'de, R: ReadSlice<'de>> RoundTrip<'de, R> for Measured {
 
 impl NeverNil for Measured {
     ghost never_nil = { λ s v. sequence_other s _ };
+}
+
+impl<'de, R: ReadSlice<'de>> EndsInside<'de, R> for Measured {
+    ghost use Rattle.test_wide.specs.contracts.mixed.derived.SpotEndsInside.TheImpl.Laws as spot_ends;
+    ghost use mir.Syntax.{given};
+
+    ghost ends_inside = { tuple_inside (part_of ⟦<u64 as Deserialize<'de, R>>⟧.reads ⟦<u64 as Deserialize<'de, R>>⟧.refuses
+        ∷ (part_of ⟦<String as Deserialize<'de, R>>⟧.reads ⟦<String as Deserialize<'de, R>>⟧.refuses
+        ∷ (part_of ⟦<i32 as Deserialize<'de, R>>⟧.reads ⟦<i32 as Deserialize<'de, R>>⟧.refuses
+        ∷ (part_of ⟦<Option<u16> as Deserialize<'de, R>>⟧.reads ⟦<Option<u16> as Deserialize<'de, R>>⟧.refuses
+        ∷ (part_of ⟦<bool as Deserialize<'de, R>>⟧.reads ⟦<bool as Deserialize<'de, R>>⟧.refuses
+        ∷ (part_of ⟦<char as Deserialize<'de, R>>⟧.reads ⟦<char as Deserialize<'de, R>>⟧.refuses
+        ∷ (part_of ⟦<F64Bits as Deserialize<'de, R>>⟧.reads ⟦<F64Bits as Deserialize<'de, R>>⟧.refuses
+        ∷ (part_of ⟦<Vec<u16> as Deserialize<'de, R>>⟧.reads ⟦<Vec<u16> as Deserialize<'de, R>>⟧.refuses
+        ∷ (part_of ⟦<[u16; 3] as Deserialize<'de, R>>⟧.reads ⟦<[u16; 3] as Deserialize<'de, R>>⟧.refuses
+        ∷ (part_of ⟦<Spot as Deserialize<'de, R>>⟧.reads ⟦<Spot as Deserialize<'de, R>>⟧.refuses
+        ∷ (part_of ⟦<(u8, String) as Deserialize<'de, R>>⟧.reads ⟦<(u8, String) as Deserialize<'de, R>>⟧.refuses
+        ∷ (part_of ⟦<ByteBuf as Deserialize<'de, R>>⟧.reads ⟦<ByteBuf as Deserialize<'de, R>>⟧.refuses ∷ [])))))))))))) (
+          number_inside,
+          (
+            string_inside,
+            (
+              number_inside,
+              (
+                (option_inside ⟦<u16 as Deserialize<'de, R>>⟧.refuses number_inside),
+                (
+                  kind_inside,
+                  (
+                    char_inside,
+                    (
+                      kind_inside,
+                      (
+                        (each_inside ⟦<u16 as Deserialize<'de, R>>⟧.reads ⟦<u16 as Deserialize<'de, R>>⟧.refuses number_inside),
+                        (
+                          (array_inside _ 3 ⟦<u16 as Deserialize<'de, R>>⟧.reads ⟦<u16 as Deserialize<'de, R>>⟧.refuses number_inside),
+                          (
+                            (spot_ends.ends_inside-law R.row R.ReadSlice.own (given 0) R.Source (given 0)),
+                            (
+                              (tuple_inside (part_of ⟦<u8 as Deserialize<'de, R>>⟧.reads ⟦<u8 as Deserialize<'de, R>>⟧.refuses
+                                  ∷ (part_of ⟦<String as Deserialize<'de, R>>⟧.reads ⟦<String as Deserialize<'de, R>>⟧.refuses ∷ [])) (number_inside, (string_inside, tt))),
+                              (buffer_inside, tt),
+                            ),
+                          ),
+                        ),
+                      ),
+                    ),
+                  ),
+                ),
+              ),
+            ),
+          ),
+        ) };
 }
 
 // 12 values, the first 8 of which are written before the others.

@@ -1,12 +1,14 @@
 //! How the types of flags.rt are written and read. Written by tools/derive.py.
 //!
-//! Sum of Flag: 8e543d0d.
+//! Sum of Flag: 9f6538f5.
 ghost use Rattle.rmp_decode.specs.EnumRefusing.{RefusesEnum, no_content, with_content};
 ghost use Rattle.rmp_decode.specs.Variants.{OfVariant, Case, NoCase, Bare, Content};
 ghost use Rattle.rmp_encode.specs.Data.{unit_variant};
 ghost use Rattle.rmp_encode.specs.Refusals.{OfParts, OfSink};
 ghost use Rattle.rmp_encode.specs.Sizes.{one_of};
 ghost use Rattle.rmp_encode.specs.Trees.{newtype_variant_of};
+ghost use Rattle.rmp_ends.specs.EnumEnds.{enum_inside, no_content_inside, with_content_inside};
+ghost use Rattle.rmp_ends.specs.LeafEnds.{kind_inside, number_inside, char_inside, string_inside};
 ghost use Rattle.rmp_round_trip.specs.LeafRounds.{byte_row, unsigned_row_16, unsigned_row_64, signed_row_16, signed_row_32, truth_row, char_row, string_row};
 ghost use Rattle.rmp_round_trip.specs.OnlyFields.{AtPlace, AnyContent, content_only, variant_both};
 ghost use Rattle.rmp_round_trip.specs.OnlyLeaves.{truth_only, byte_only, unsigned_only, signed_only, char_only, string_only};
@@ -20,6 +22,7 @@ ghost use Rattle.test_wide.specs.declared.flags.Flag.TheVariants as the_flag;
 use super::Flag;
 use rmp_decode::{Deserialize, Deserializer};
 use rmp_encode::{Serialize, Serializer};
+use rmp_ends::EndsInside;
 use rmp_round_trip::{NeverNil, RoundTrip};
 use rmp_wire::config::SerializerConfig;
 use rmp_wire::{ReadSlice, Sink};
@@ -1572,4 +1575,197 @@ impl NeverNil for Flag {
       | the_flag.Shoal a1 ↦
           newtype_variant_other s (codes "Shoal") _
     ] };
+}
+
+impl<'de, R: ReadSlice<'de>> EndsInside<'de, R> for Flag {
+    ghost ends_inside = { enum_inside _ _ (
+      no_content_inside,
+      (
+        no_content_inside,
+        (
+          no_content_inside,
+          (
+            with_content_inside _ (number_inside),
+            (
+              no_content_inside,
+              (
+                no_content_inside,
+                (
+                  no_content_inside,
+                  (
+                    with_content_inside _ (string_inside),
+                    (
+                      no_content_inside,
+                      (
+                        no_content_inside,
+                        (
+                          no_content_inside,
+                          (
+                            with_content_inside _ (number_inside),
+                            (
+                              no_content_inside,
+                              (
+                                no_content_inside,
+                                (
+                                  no_content_inside,
+                                  (
+                                    with_content_inside _ (number_inside),
+                                    (
+                                      no_content_inside,
+                                      (
+                                        no_content_inside,
+                                        (
+                                          no_content_inside,
+                                          (
+                                            with_content_inside _ (kind_inside),
+                                            (
+                                              no_content_inside,
+                                              (
+                                                no_content_inside,
+                                                (
+                                                  no_content_inside,
+                                                  (
+                                                    with_content_inside _ (char_inside),
+                                                    (
+                                                      no_content_inside,
+                                                      (
+                                                        no_content_inside,
+                                                        (
+                                                          no_content_inside,
+                                                          (
+                                                            with_content_inside _ (number_inside),
+                                                            (
+                                                              no_content_inside,
+                                                              (
+                                                                no_content_inside,
+                                                                (
+                                                                  no_content_inside,
+                                                                  (
+                                                                    with_content_inside _ (number_inside),
+                                                                    (
+                                                                      no_content_inside,
+                                                                      (
+                                                                        no_content_inside,
+                                                                        (
+                                                                          no_content_inside,
+                                                                          (
+                                                                            with_content_inside _ (number_inside),
+                                                                            (
+                                                                              no_content_inside,
+                                                                              (
+                                                                                no_content_inside,
+                                                                                (
+                                                                                  no_content_inside,
+                                                                                  (
+                                                                                    with_content_inside _ (string_inside),
+                                                                                    (
+                                                                                      no_content_inside,
+                                                                                      (
+                                                                                        no_content_inside,
+                                                                                        (
+                                                                                          no_content_inside,
+                                                                                          (
+                                                                                            with_content_inside _ (number_inside),
+                                                                                            (
+                                                                                              no_content_inside,
+                                                                                              (
+                                                                                                no_content_inside,
+                                                                                                (
+                                                                                                  no_content_inside,
+                                                                                                  (
+                                                                                                    with_content_inside _ (number_inside),
+                                                                                                    (
+                                                                                                      no_content_inside,
+                                                                                                      (
+                                                                                                        no_content_inside,
+                                                                                                        (
+                                                                                                          no_content_inside,
+                                                                                                          (
+                                                                                                            with_content_inside _ (kind_inside),
+                                                                                                            (
+                                                                                                              no_content_inside,
+                                                                                                              (
+                                                                                                                no_content_inside,
+                                                                                                                (
+                                                                                                                  no_content_inside,
+                                                                                                                  (
+                                                                                                                    with_content_inside _ (char_inside),
+                                                                                                                    (
+                                                                                                                      no_content_inside,
+                                                                                                                      (
+                                                                                                                        no_content_inside,
+                                                                                                                        (
+                                                                                                                          no_content_inside,
+                                                                                                                          (
+                                                                                                                            with_content_inside _ (number_inside),
+                                                                                                                            (
+                                                                                                                              no_content_inside,
+                                                                                                                              (
+                                                                                                                                no_content_inside,
+                                                                                                                                (
+                                                                                                                                  no_content_inside,
+                                                                                                                                  (with_content_inside _ (number_inside), tt),
+                                                                                                                                ),
+                                                                                                                              ),
+                                                                                                                            ),
+                                                                                                                          ),
+                                                                                                                        ),
+                                                                                                                      ),
+                                                                                                                    ),
+                                                                                                                  ),
+                                                                                                                ),
+                                                                                                              ),
+                                                                                                            ),
+                                                                                                          ),
+                                                                                                        ),
+                                                                                                      ),
+                                                                                                    ),
+                                                                                                  ),
+                                                                                                ),
+                                                                                              ),
+                                                                                            ),
+                                                                                          ),
+                                                                                        ),
+                                                                                      ),
+                                                                                    ),
+                                                                                  ),
+                                                                                ),
+                                                                              ),
+                                                                            ),
+                                                                          ),
+                                                                        ),
+                                                                      ),
+                                                                    ),
+                                                                  ),
+                                                                ),
+                                                              ),
+                                                            ),
+                                                          ),
+                                                        ),
+                                                      ),
+                                                    ),
+                                                  ),
+                                                ),
+                                              ),
+                                            ),
+                                          ),
+                                        ),
+                                      ),
+                                    ),
+                                  ),
+                                ),
+                              ),
+                            ),
+                          ),
+                        ),
+                      ),
+                    ),
+                  ),
+                ),
+              ),
+            ),
+          ),
+        ),
+      ),
+    ) };
 }

@@ -1,8 +1,8 @@
 //! How the types of halves.rt are written and read. Written by tools/derive.py.
 //!
-//! Sum of Buoy: dab76ce7.
+//! Sum of Buoy: 5e973539.
 //! Sum of Light: 0250bf54.
-//! Sum of Coast: 281e36c7.
+//! Sum of Coast: abcd6a44.
 ghost use Rattle.rmp_decode.specs.FieldRefusing.{RefusesFields};
 ghost use Rattle.rmp_decode.specs.Fields.{OfFields, Field, Absent, NoField};
 ghost use Rattle.rmp_decode.specs.ReadFields.{reads_2};
@@ -11,6 +11,8 @@ ghost use Rattle.rmp_decode.specs.Rows.{ReadsEach};
 ghost use Rattle.rmp_encode.specs.Refusals.{OfParts};
 ghost use Rattle.rmp_encode.specs.Sizes.{one_of};
 ghost use Rattle.rmp_encode.specs.Trees.{structure_of};
+ghost use Rattle.rmp_ends.specs.FieldEnds.{fields_inside};
+ghost use Rattle.rmp_ends.specs.LeafEnds.{number_inside, string_inside};
 ghost use Rattle.rmp_round_trip.specs.LeafRounds.{unsigned_row_16, string_row};
 ghost use Rattle.rmp_round_trip.specs.OnlyFields.{field_only, fields_both, last_field};
 ghost use Rattle.rmp_round_trip.specs.OnlyLeaves.{unsigned_only, string_only};
@@ -24,6 +26,7 @@ ghost use Rattle.std.specs.Prelude.{◌∷◌, [], None, codes, string_bytes};
 use super::{Buoy, Coast, Light};
 use rmp_decode::{Deserialize, Deserializer};
 use rmp_encode::{Serialize, Serializer};
+use rmp_ends::EndsInside;
 use rmp_round_trip::{NeverNil, RoundTrip};
 use rmp_wire::config::SerializerConfig;
 use rmp_wire::{ReadSlice, Sink};
@@ -88,6 +91,10 @@ impl<'de, R: ReadSlice<'de>> RoundTrip<'de, R> for Buoy {
 
 impl NeverNil for Buoy {
     ghost never_nil = { λ s v. structure_other s _ };
+}
+
+impl<'de, R: ReadSlice<'de>> EndsInside<'de, R> for Buoy {
+    ghost ends_inside = { fields_inside _ _ _ (string_inside, (number_inside, tt)) };
 }
 
 impl Serialize for Light {

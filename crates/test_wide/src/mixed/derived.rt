@@ -1,8 +1,8 @@
 //! How the types of mixed.rt are written and read. Written by tools/derive.py.
 //!
-//! Sum of Course: ffabda6f.
-//! Sum of Spot: 8c7c6792.
-//! Sum of Voyage: 713e6a3a.
+//! Sum of Course: 28897636.
+//! Sum of Spot: 59b41a1d.
+//! Sum of Voyage: fdd9f06b.
 ghost use Rattle.rmp_decode.specs.Arrays.{Exactly};
 ghost use Rattle.rmp_decode.specs.EnumRefusing.{RefusesEnum, no_content, with_content};
 ghost use Rattle.rmp_decode.specs.FieldRefusing.{RefusesFields};
@@ -16,6 +16,12 @@ ghost use Rattle.rmp_encode.specs.Data.{unit_variant};
 ghost use Rattle.rmp_encode.specs.Refusals.{OfParts, OfSink};
 ghost use Rattle.rmp_encode.specs.Sizes.{one_of};
 ghost use Rattle.rmp_encode.specs.Trees.{structure_of, newtype_variant_of, tuple_variant_of, struct_variant_of};
+ghost use Rattle.rmp_ends.specs.BufferEnds.{buffer_inside};
+ghost use Rattle.rmp_ends.specs.EnumEnds.{enum_inside, no_content_inside, with_content_inside};
+ghost use Rattle.rmp_ends.specs.FieldEnds.{fields_inside};
+ghost use Rattle.rmp_ends.specs.LeafEnds.{kind_inside, number_inside, nil_inside, unsigned128_inside, char_inside, string_inside};
+ghost use Rattle.rmp_ends.specs.MapEnds.{map_inside};
+ghost use Rattle.rmp_ends.specs.RowEnds.{array_inside, each_inside, option_inside, tuple_inside};
 ghost use Rattle.rmp_round_trip.specs.LeafRounds.{byte_row, unsigned_row_16, unsigned_row_64, signed_row_32, signed_row_64, truth_row, unit_row};
 ghost use Rattle.rmp_round_trip.specs.LeafRounds.{float64_row, char_row, string_row, buffer_row, truth_other, char_other};
 ghost use Rattle.rmp_round_trip.specs.MapRounds.{mapping_some, map_row, pairs_row};
@@ -42,6 +48,7 @@ ghost use Rattle.test_wide.specs.declared.mixed.Course.TheVariants as the_course
 use super::{BTreeMap, ByteBuf, Course, F64Bits, Spot, Voyage};
 use rmp_decode::{Deserialize, Deserializer, ReadFields};
 use rmp_encode::{Elements, Serialize, Serializer};
+use rmp_ends::EndsInside;
 use rmp_round_trip::{NeverNil, RoundTrip};
 use rmp_wire::config::SerializerConfig;
 use rmp_wire::{ReadSlice, Sink};
@@ -266,6 +273,27 @@ impl NeverNil for Course {
     ] };
 }
 
+impl<'de, R: ReadSlice<'de>> EndsInside<'de, R> for Course {
+    ghost ends_inside = { enum_inside _ _ (
+      no_content_inside,
+      (
+        with_content_inside _ (string_inside),
+        (
+          with_content_inside _
+              (tuple_inside (part_of ⟦<u16 as Deserialize<'de, R>>⟧.reads ⟦<u16 as Deserialize<'de, R>>⟧.refuses
+              ∷ (part_of ⟦<i32 as Deserialize<'de, R>>⟧.reads ⟦<i32 as Deserialize<'de, R>>⟧.refuses ∷ [])) (number_inside, (number_inside, tt))),
+          (
+            with_content_inside _ (fields_inside _ _ _ (
+              kind_inside,
+              ((array_inside _ 2 ⟦<u8 as Deserialize<'de, R>>⟧.reads ⟦<u8 as Deserialize<'de, R>>⟧.refuses number_inside), tt),
+            )),
+            tt,
+          ),
+        ),
+      ),
+    ) };
+}
+
 impl Serialize for Spot {
     ghost data_of = { λ v human. structure_of ((codes "north", ⟦<i32 as Serialize>⟧.data_of v.north human)
         ∷ ((codes "name", ⟦<Option<char> as Serialize>⟧.data_of v.name human) ∷ [])) };
@@ -361,6 +389,10 @@ impl<'de, R: ReadSlice<'de>> RoundTrip<'de, R> for Spot {
 
 impl NeverNil for Spot {
     ghost never_nil = { λ s v. structure_other s _ };
+}
+
+impl<'de, R: ReadSlice<'de>> EndsInside<'de, R> for Spot {
+    ghost ends_inside = { fields_inside _ _ _ (number_inside, ((option_inside ⟦<char as Deserialize<'de, R>>⟧.refuses char_inside), tt)) };
 }
 
 impl Serialize for Voyage {
@@ -751,6 +783,55 @@ impl<'de, R: ReadSlice<'de>> RoundTrip<'de, R> for Voyage {
 
 impl NeverNil for Voyage {
     ghost never_nil = { λ s v. structure_other s _ };
+}
+
+impl<'de, R: ReadSlice<'de>> EndsInside<'de, R> for Voyage {
+    ghost use Rattle.test_wide.specs.contracts.mixed.derived.CourseEndsInside.TheImpl.Laws as course_ends;
+    ghost use Rattle.test_wide.specs.contracts.mixed.derived.SpotEndsInside.TheImpl.Laws as spot_ends;
+    ghost use mir.Syntax.{given};
+
+    ghost ends_inside = { fields_inside _ _ _ (
+      string_inside,
+      (
+        (course_ends.ends_inside-law R.row R.ReadSlice.own (given 0) R.Source (given 0)),
+        (
+          (each_inside ⟦<(u8, String) as Deserialize<'de, R>>⟧.reads ⟦<(u8, String) as Deserialize<'de, R>>⟧.refuses
+              (tuple_inside (part_of ⟦<u8 as Deserialize<'de, R>>⟧.reads ⟦<u8 as Deserialize<'de, R>>⟧.refuses
+              ∷ (part_of ⟦<String as Deserialize<'de, R>>⟧.reads ⟦<String as Deserialize<'de, R>>⟧.refuses ∷ [])) (number_inside, (string_inside, tt)))),
+          (
+            unsigned128_inside,
+            (
+              nil_inside,
+              (
+                char_inside,
+                (
+                  (spot_ends.ends_inside-law R.row R.ReadSlice.own (given 0) R.Source (given 0)),
+                  (
+                    (map_inside ⟦<String as Deserialize<'de, R>>⟧.reads ⟦<u64 as Deserialize<'de, R>>⟧.reads ⟦<String as Deserialize<'de, R>>⟧.refuses
+                        ⟦<u64 as Deserialize<'de, R>>⟧.refuses string_inside number_inside),
+                    (
+                      (array_inside _ 3 ⟦<u16 as Deserialize<'de, R>>⟧.reads ⟦<u16 as Deserialize<'de, R>>⟧.refuses number_inside),
+                      (
+                        (option_inside ⟦<Spot as Deserialize<'de, R>>⟧.refuses (spot_ends.ends_inside-law R.row R.ReadSlice.own (given 0) R.Source (given 0))),
+                        (
+                          buffer_inside,
+                          (
+                            (tuple_inside (part_of ⟦<i64 as Deserialize<'de, R>>⟧.reads ⟦<i64 as Deserialize<'de, R>>⟧.refuses
+                                ∷ (part_of ⟦<Option<bool> as Deserialize<'de, R>>⟧.reads ⟦<Option<bool> as Deserialize<'de, R>>⟧.refuses ∷ []))
+                                (number_inside, ((option_inside ⟦<bool as Deserialize<'de, R>>⟧.refuses kind_inside), tt))),
+                            tt,
+                          ),
+                        ),
+                      ),
+                    ),
+                  ),
+                ),
+              ),
+            ),
+          ),
+        ),
+      ),
+    ) };
 }
 
 // 12 values, the first 8 of which are written before the others.

@@ -1,7 +1,7 @@
 //! How the types of papers.rt are written and read. Written by tools/derive.py.
 //!
-//! Sum of Papers: 72d1b4b2.
-//! Sum of Chart: fdf2c1d4.
+//! Sum of Papers: bd16e5f1.
+//! Sum of Chart: e56426a8.
 ghost use Rattle.rmp_decode.specs.FieldRefusing.{RefusesFields};
 ghost use Rattle.rmp_decode.specs.Fields.{OfFields, Field, Absent, NoField};
 ghost use Rattle.rmp_decode.specs.ReadFields.{reads_9};
@@ -10,6 +10,9 @@ ghost use Rattle.rmp_decode.specs.Rows.{ReadsEach};
 ghost use Rattle.rmp_encode.specs.Refusals.{OfParts};
 ghost use Rattle.rmp_encode.specs.Sizes.{one_of};
 ghost use Rattle.rmp_encode.specs.Trees.{structure_of};
+ghost use Rattle.rmp_ends.specs.FieldEnds.{fields_inside};
+ghost use Rattle.rmp_ends.specs.LeafEnds.{kind_inside, number_inside, string_inside};
+ghost use Rattle.rmp_ends.specs.RowEnds.{each_inside, option_inside};
 ghost use Rattle.rmp_round_trip.specs.LeafRounds.{byte_row, unsigned_row_16, unsigned_row_32, unsigned_row_64, signed_row_8, signed_row_16};
 ghost use Rattle.rmp_round_trip.specs.LeafRounds.{signed_row_32, signed_row_64, truth_row, string_row, pos_other, text_other};
 ghost use Rattle.rmp_round_trip.specs.OnlyFields.{field_only, fields_both, last_field};
@@ -24,6 +27,7 @@ ghost use Rattle.std.specs.Prelude.{◌∷◌, [], None, codes, string_bytes, po
 use super::{Chart, Papers};
 use rmp_decode::{Deserialize, Deserializer, ReadFields};
 use rmp_encode::{Elements, Serialize, Serializer};
+use rmp_ends::EndsInside;
 use rmp_round_trip::{NeverNil, RoundTrip};
 use rmp_wire::config::SerializerConfig;
 use rmp_wire::{ReadSlice, Sink};
@@ -292,6 +296,25 @@ impl<'de, R: ReadSlice<'de>> RoundTrip<'de, R> for Papers {
 
 impl NeverNil for Papers {
     ghost never_nil = { λ s v. structure_other s _ };
+}
+
+impl<'de, R: ReadSlice<'de>> EndsInside<'de, R> for Papers {
+    ghost ends_inside = { fields_inside _ _ _ (
+      number_inside,
+      (
+        string_inside,
+        (
+          number_inside,
+          (
+            (option_inside ⟦<u64 as Deserialize<'de, R>>⟧.refuses number_inside),
+            (
+              (option_inside ⟦<u64 as Deserialize<'de, R>>⟧.refuses number_inside),
+              ((option_inside ⟦<u64 as Deserialize<'de, R>>⟧.refuses number_inside), (number_inside, (number_inside, (kind_inside, tt)))),
+            ),
+          ),
+        ),
+      ),
+    ) };
 }
 
 impl Serialize for Chart {
@@ -693,6 +716,49 @@ impl<'de, R: ReadSlice<'de>> RoundTrip<'de, R> for Chart {
 
 impl NeverNil for Chart {
     ghost never_nil = { λ s v. structure_other s _ };
+}
+
+impl<'de, R: ReadSlice<'de>> EndsInside<'de, R> for Chart {
+    ghost ends_inside = { fields_inside _ _ _ (
+      number_inside,
+      (
+        string_inside,
+        (
+          number_inside,
+          (
+            number_inside,
+            (
+              number_inside,
+              (
+                number_inside,
+                (
+                  number_inside,
+                  (
+                    number_inside,
+                    (
+                      kind_inside,
+                      (
+                        (option_inside ⟦<u64 as Deserialize<'de, R>>⟧.refuses number_inside),
+                        (
+                          (option_inside ⟦<String as Deserialize<'de, R>>⟧.refuses string_inside),
+                          (
+                            (each_inside ⟦<u16 as Deserialize<'de, R>>⟧.reads ⟦<u16 as Deserialize<'de, R>>⟧.refuses number_inside),
+                            (
+                              (each_inside ⟦<String as Deserialize<'de, R>>⟧.reads ⟦<String as Deserialize<'de, R>>⟧.refuses string_inside),
+                              (number_inside, (number_inside, (string_inside, tt))),
+                            ),
+                          ),
+                        ),
+                      ),
+                    ),
+                  ),
+                ),
+              ),
+            ),
+          ),
+        ),
+      ),
+    ) };
 }
 
 // 9 values, the first 8 of which are written before the others.

@@ -1,6 +1,6 @@
 //! How the types of ports.rt are written and read. Written by tools/derive.py.
 //!
-//! Sum of Entry: 88ae203b.
+//! Sum of Entry: 79553d65.
 ghost use Rattle.rmp_decode.specs.EnumRefusing.{RefusesEnum, no_content, with_content};
 ghost use Rattle.rmp_decode.specs.FieldRefusing.{RefusesFields};
 ghost use Rattle.rmp_decode.specs.Fields.{OfFields, Field, Absent, NoField};
@@ -12,6 +12,11 @@ ghost use Rattle.rmp_encode.specs.Data.{unit_variant};
 ghost use Rattle.rmp_encode.specs.Refusals.{OfParts, OfSink};
 ghost use Rattle.rmp_encode.specs.Sizes.{one_of};
 ghost use Rattle.rmp_encode.specs.Trees.{tuple_variant_of, struct_variant_of};
+ghost use Rattle.rmp_ends.specs.EnumEnds.{enum_inside, no_content_inside, with_content_inside};
+ghost use Rattle.rmp_ends.specs.FieldEnds.{fields_inside};
+ghost use Rattle.rmp_ends.specs.LeafEnds.{kind_inside, number_inside, char_inside, string_inside};
+ghost use Rattle.rmp_ends.specs.MapEnds.{map_inside};
+ghost use Rattle.rmp_ends.specs.RowEnds.{each_inside, option_inside, tuple_inside};
 ghost use Rattle.rmp_round_trip.specs.LeafRounds.{byte_row, unsigned_row_16, unsigned_row_64, signed_row_16, signed_row_32};
 ghost use Rattle.rmp_round_trip.specs.LeafRounds.{truth_row, char_row, string_row, pos_other};
 ghost use Rattle.rmp_round_trip.specs.MapRounds.{mapping_some, map_row, pairs_row};
@@ -32,6 +37,7 @@ ghost use Rattle.test_wide.specs.declared.ports.TheConstants.{BERTHS};
 use super::{BERTHS, BTreeMap, Entry};
 use rmp_decode::{Defaulted, Deserialize, Deserializer, ReadFields};
 use rmp_encode::{Serialize, Serializer};
+use rmp_ends::EndsInside;
 use rmp_round_trip::{NeverNil, RoundTrip};
 use rmp_wire::config::SerializerConfig;
 use rmp_wire::{ReadSlice, Sink};
@@ -590,4 +596,65 @@ impl NeverNil for Entry {
           _
       | the_entry.Canal a1 a2 a3 ↦ struct_variant_other s (codes "Canal") _
     ] };
+}
+
+impl<'de, R: ReadSlice<'de>> EndsInside<'de, R> for Entry {
+    ghost ends_inside = { enum_inside _ _ (
+      no_content_inside,
+      (
+        with_content_inside _ (fields_inside _ _ _ (
+          string_inside,
+          (
+            number_inside,
+            (
+              number_inside,
+              (
+                (each_inside ⟦<String as Deserialize<'de, R>>⟧.reads ⟦<String as Deserialize<'de, R>>⟧.refuses string_inside),
+                tt,
+              ),
+            ),
+          ),
+        )),
+        (
+          with_content_inside _ (tuple_inside (part_of ⟦<Vec<u16> as Deserialize<'de, R>>⟧.reads ⟦<Vec<u16> as Deserialize<'de, R>>⟧.refuses
+              ∷ (part_of ⟦<u8 as Deserialize<'de, R>>⟧.reads ⟦<u8 as Deserialize<'de, R>>⟧.refuses ∷ []))
+              ((each_inside ⟦<u16 as Deserialize<'de, R>>⟧.reads ⟦<u16 as Deserialize<'de, R>>⟧.refuses number_inside), (number_inside, tt))),
+          (
+            with_content_inside _ (fields_inside _ _ _ (
+              (each_inside ⟦<String as Deserialize<'de, R>>⟧.reads ⟦<String as Deserialize<'de, R>>⟧.refuses
+                  string_inside),
+              (kind_inside, tt),
+            )),
+            (
+              with_content_inside _
+                  (tuple_inside (part_of ⟦<BTreeMap<String, u64> as Deserialize<'de, R>>⟧.reads ⟦<BTreeMap<String, u64> as Deserialize<'de, R>>⟧.refuses
+                  ∷ (part_of ⟦<i16 as Deserialize<'de, R>>⟧.reads ⟦<i16 as Deserialize<'de, R>>⟧.refuses ∷ [])) (
+                    (map_inside ⟦<String as Deserialize<'de, R>>⟧.reads ⟦<u64 as Deserialize<'de, R>>⟧.reads ⟦<String as Deserialize<'de, R>>⟧.refuses
+                        ⟦<u64 as Deserialize<'de, R>>⟧.refuses string_inside number_inside),
+                    (number_inside, tt),
+                  )),
+              (
+                with_content_inside _ (tuple_inside (part_of ⟦<Vec<u8> as Deserialize<'de, R>>⟧.reads ⟦<Vec<u8> as Deserialize<'de, R>>⟧.refuses
+                    ∷ (part_of ⟦<Vec<(u8, char)> as Deserialize<'de, R>>⟧.reads ⟦<Vec<(u8, char)> as Deserialize<'de, R>>⟧.refuses ∷ [])) (
+                      (each_inside ⟦<u8 as Deserialize<'de, R>>⟧.reads ⟦<u8 as Deserialize<'de, R>>⟧.refuses number_inside),
+                      (
+                        (each_inside ⟦<(u8, char) as Deserialize<'de, R>>⟧.reads ⟦<(u8, char) as Deserialize<'de, R>>⟧.refuses
+                            (tuple_inside (part_of ⟦<u8 as Deserialize<'de, R>>⟧.reads ⟦<u8 as Deserialize<'de, R>>⟧.refuses
+                            ∷ (part_of ⟦<char as Deserialize<'de, R>>⟧.reads ⟦<char as Deserialize<'de, R>>⟧.refuses ∷ [])) (number_inside, (char_inside, tt)))),
+                        tt,
+                      ),
+                    )),
+                (
+                  with_content_inside _ (fields_inside _ _ _ (
+                    kind_inside,
+                    ((option_inside ⟦<u16 as Deserialize<'de, R>>⟧.refuses number_inside), (number_inside, tt)),
+                  )),
+                  tt,
+                ),
+              ),
+            ),
+          ),
+        ),
+      ),
+    ) };
 }

@@ -1,6 +1,6 @@
 //! How the types of signals.rt are written and read. Written by tools/derive.py.
 //!
-//! Sum of Signal: c2c38978.
+//! Sum of Signal: 5216a7c8.
 ghost use Rattle.rmp_decode.specs.Arrays.{Exactly};
 ghost use Rattle.rmp_decode.specs.EnumRefusing.{RefusesEnum, no_content, with_content};
 ghost use Rattle.rmp_decode.specs.FieldRefusing.{RefusesFields};
@@ -13,6 +13,12 @@ ghost use Rattle.rmp_encode.specs.Data.{unit_variant};
 ghost use Rattle.rmp_encode.specs.Refusals.{OfParts, OfSink};
 ghost use Rattle.rmp_encode.specs.Sizes.{one_of};
 ghost use Rattle.rmp_encode.specs.Trees.{newtype_variant_of, tuple_variant_of, struct_variant_of};
+ghost use Rattle.rmp_ends.specs.BufferEnds.{buffer_inside};
+ghost use Rattle.rmp_ends.specs.EnumEnds.{enum_inside, no_content_inside, with_content_inside};
+ghost use Rattle.rmp_ends.specs.FieldEnds.{fields_inside};
+ghost use Rattle.rmp_ends.specs.LeafEnds.{kind_inside, number_inside, nil_inside, signed128_inside, unsigned128_inside, char_inside, string_inside};
+ghost use Rattle.rmp_ends.specs.MapEnds.{map_inside};
+ghost use Rattle.rmp_ends.specs.RowEnds.{array_inside, box_inside, each_inside, option_inside, tuple_inside};
 ghost use Rattle.rmp_round_trip.specs.LeafRounds.{byte_row, unsigned_row_16, unsigned_row_32, unsigned_row_64, signed_row_16};
 ghost use Rattle.rmp_round_trip.specs.LeafRounds.{char_row, string_row, buffer_row, pos_other, text_other};
 ghost use Rattle.rmp_round_trip.specs.LeafRounds.{signed_row_32, signed_row_64, truth_row, unit_row, float64_row};
@@ -38,6 +44,7 @@ ghost use Rattle.test_wide.specs.declared.signals.Signal.TheVariants as the_sign
 use super::{BTreeMap, BTreeSet, ByteBuf, Course, F64Bits, Signal, Spot};
 use rmp_decode::{Deserialize, Deserializer, ReadFields};
 use rmp_encode::{Serialize, Serializer};
+use rmp_ends::EndsInside;
 use rmp_round_trip::{NeverNil, RoundTrip};
 use rmp_wire::config::SerializerConfig;
 use rmp_wire::{ReadSlice, Sink};
@@ -1420,4 +1427,131 @@ impl NeverNil for Signal {
       | the_signal.Fog a1 a2 ↦ tuple_variant_other s (codes "Fog") _
       | the_signal.Farewell ↦ bare_other s (codes "Farewell")
     ] };
+}
+
+impl<'de, R: ReadSlice<'de>> EndsInside<'de, R> for Signal {
+    ghost use Rattle.test_wide.specs.contracts.mixed.derived.CourseEndsInside.TheImpl.Laws as course_ends;
+    ghost use Rattle.test_wide.specs.contracts.mixed.derived.SpotEndsInside.TheImpl.Laws as spot_ends;
+    ghost use mir.Syntax.{given};
+
+    ghost ends_inside = { enum_inside _ _ (
+      no_content_inside,
+      (
+        with_content_inside _ (string_inside),
+        (
+          with_content_inside _
+              (tuple_inside (part_of ⟦<i32 as Deserialize<'de, R>>⟧.reads ⟦<i32 as Deserialize<'de, R>>⟧.refuses
+              ∷ (part_of ⟦<i32 as Deserialize<'de, R>>⟧.reads ⟦<i32 as Deserialize<'de, R>>⟧.refuses ∷ [])) (number_inside, (number_inside, tt))),
+          (
+            with_content_inside _ (fields_inside _ _ _ (
+              (course_ends.ends_inside-law R.row R.ReadSlice.own (given 0) R.Source (given 0)),
+              (number_inside, tt),
+            )),
+            (
+              no_content_inside,
+              (
+                with_content_inside _ (number_inside),
+                (
+                  with_content_inside _ ((array_inside _ 4 ⟦<u16 as Deserialize<'de, R>>⟧.reads ⟦<u16 as Deserialize<'de, R>>⟧.refuses number_inside)),
+                  (
+                    with_content_inside _ ((spot_ends.ends_inside-law R.row R.ReadSlice.own (given 0) R.Source (given 0))),
+                    (
+                      with_content_inside _ ((each_inside ⟦<String as Deserialize<'de, R>>⟧.reads ⟦<String as Deserialize<'de, R>>⟧.refuses string_inside)),
+                      (
+                        with_content_inside _ (fields_inside _ _ _ (
+                          (spot_ends.ends_inside-law R.row R.ReadSlice.own (given 0) R.Source (given 0)),
+                          (number_inside, ((option_inside ⟦<String as Deserialize<'de, R>>⟧.refuses string_inside), tt)),
+                        )),
+                        (
+                          no_content_inside,
+                          (
+                            with_content_inside _ (number_inside),
+                            (
+                              with_content_inside _ (tuple_inside (part_of ⟦<F64Bits as Deserialize<'de, R>>⟧.reads ⟦<F64Bits as Deserialize<'de, R>>⟧.refuses
+                                  ∷ (part_of ⟦<char as Deserialize<'de, R>>⟧.reads ⟦<char as Deserialize<'de, R>>⟧.refuses ∷ [])) (kind_inside, (char_inside, tt))),
+                              (
+                                with_content_inside _ ((map_inside ⟦<String as Deserialize<'de, R>>⟧.reads ⟦<u64 as Deserialize<'de, R>>⟧.reads
+                                    ⟦<String as Deserialize<'de, R>>⟧.refuses ⟦<u64 as Deserialize<'de, R>>⟧.refuses string_inside number_inside)),
+                                (
+                                  with_content_inside _ ((each_inside ⟦<u16 as Deserialize<'de, R>>⟧.reads ⟦<u16 as Deserialize<'de, R>>⟧.refuses number_inside)),
+                                  (
+                                    with_content_inside _ (fields_inside _ _ _ (string_inside, (unsigned128_inside, (buffer_inside, tt)))),
+                                    (
+                                      with_content_inside _ (kind_inside),
+                                      (
+                                        with_content_inside _ ((course_ends.ends_inside-law R.row R.ReadSlice.own (given 0) R.Source (given 0))),
+                                        (
+                                          with_content_inside _ ((tuple_inside (part_of ⟦<u8 as Deserialize<'de, R>>⟧.reads ⟦<u8 as Deserialize<'de, R>>⟧.refuses
+                                              ∷ (part_of ⟦<String as Deserialize<'de, R>>⟧.reads ⟦<String as Deserialize<'de, R>>⟧.refuses ∷ [])) (number_inside, (string_inside, tt)))),
+                                          (
+                                            with_content_inside _ ((option_inside ⟦<u32 as Deserialize<'de, R>>⟧.refuses number_inside)),
+                                            (
+                                              with_content_inside _ (fields_inside _ _ _ (string_inside, tt)),
+                                              (
+                                                no_content_inside,
+                                                (
+                                                  with_content_inside _ (tuple_inside
+                                                      (part_of ⟦<u8 as Deserialize<'de, R>>⟧.reads ⟦<u8 as Deserialize<'de, R>>⟧.refuses
+                                                      ∷ (part_of ⟦<u16 as Deserialize<'de, R>>⟧.reads ⟦<u16 as Deserialize<'de, R>>⟧.refuses
+                                                      ∷ (part_of ⟦<u32 as Deserialize<'de, R>>⟧.reads ⟦<u32 as Deserialize<'de, R>>⟧.refuses
+                                                      ∷ (part_of ⟦<u64 as Deserialize<'de, R>>⟧.reads ⟦<u64 as Deserialize<'de, R>>⟧.refuses ∷ []))))
+                                                      (number_inside, (number_inside, (number_inside, (number_inside, tt))))),
+                                                  (
+                                                    with_content_inside _ (signed128_inside),
+                                                    (
+                                                      with_content_inside _ (nil_inside),
+                                                      (
+                                                        with_content_inside _ (fields_inside _ _ _ (
+                                                          number_inside,
+                                                          (number_inside, ((array_inside _ 2 ⟦<u8 as Deserialize<'de, R>>⟧.reads ⟦<u8 as Deserialize<'de, R>>⟧.refuses number_inside), (kind_inside, tt))),
+                                                        )),
+                                                        (
+                                                          with_content_inside _ ((each_inside ⟦<(u8, char) as Deserialize<'de, R>>⟧.reads ⟦<(u8, char) as Deserialize<'de, R>>⟧.refuses
+                                                              (tuple_inside (part_of ⟦<u8 as Deserialize<'de, R>>⟧.reads ⟦<u8 as Deserialize<'de, R>>⟧.refuses
+                                                              ∷ (part_of ⟦<char as Deserialize<'de, R>>⟧.reads ⟦<char as Deserialize<'de, R>>⟧.refuses ∷ [])) (number_inside, (char_inside, tt))))),
+                                                          (
+                                                            with_content_inside _ (fields_inside _ _ _ (
+                                                              (box_inside ⟦<Spot as Deserialize<'de, R>>⟧.reads ⟦<Spot as Deserialize<'de, R>>⟧.refuses
+                                                                  (spot_ends.ends_inside-law R.row R.ReadSlice.own (given 0) R.Source (given 0))),
+                                                              (number_inside, tt),
+                                                            )),
+                                                            (
+                                                              with_content_inside _ (tuple_inside (part_of ⟦<Option<(u16, u16)> as Deserialize<'de, R>>⟧.reads
+                                                                  ⟦<Option<(u16, u16)> as Deserialize<'de, R>>⟧.refuses
+                                                                  ∷ (part_of ⟦<bool as Deserialize<'de, R>>⟧.reads ⟦<bool as Deserialize<'de, R>>⟧.refuses ∷ [])) (
+                                                                    (option_inside ⟦<(u16, u16) as Deserialize<'de, R>>⟧.refuses
+                                                                        (tuple_inside (part_of ⟦<u16 as Deserialize<'de, R>>⟧.reads ⟦<u16 as Deserialize<'de, R>>⟧.refuses
+                                                                        ∷ (part_of ⟦<u16 as Deserialize<'de, R>>⟧.reads ⟦<u16 as Deserialize<'de, R>>⟧.refuses ∷ [])) (number_inside, (number_inside, tt)))),
+                                                                    (kind_inside, tt),
+                                                                  )),
+                                                              (no_content_inside, tt),
+                                                            ),
+                                                          ),
+                                                        ),
+                                                      ),
+                                                    ),
+                                                  ),
+                                                ),
+                                              ),
+                                            ),
+                                          ),
+                                        ),
+                                      ),
+                                    ),
+                                  ),
+                                ),
+                              ),
+                            ),
+                          ),
+                        ),
+                      ),
+                    ),
+                  ),
+                ),
+              ),
+            ),
+          ),
+        ),
+      ),
+    ) };
 }

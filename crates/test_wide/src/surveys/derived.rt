@@ -1,6 +1,6 @@
 //! How the types of surveys.rt are written and read. Written by tools/derive.py.
 //!
-//! Sum of Survey: 8bd7f29c.
+//! Sum of Survey: bb327ad6.
 ghost use Rattle.rmp_decode.specs.Arrays.{Exactly};
 ghost use Rattle.rmp_decode.specs.FieldRefusing.{RefusesFields};
 ghost use Rattle.rmp_decode.specs.Fields.{OfFields, Field, Absent, NoField};
@@ -10,6 +10,11 @@ ghost use Rattle.rmp_decode.specs.declared.access.fields.sixteen.SixteenThen.{Si
 ghost use Rattle.rmp_encode.specs.Refusals.{OfParts};
 ghost use Rattle.rmp_encode.specs.Sizes.{one_of};
 ghost use Rattle.rmp_encode.specs.Trees.{structure_of};
+ghost use Rattle.rmp_ends.specs.BufferEnds.{buffer_inside};
+ghost use Rattle.rmp_ends.specs.FieldEnds.{fields_inside};
+ghost use Rattle.rmp_ends.specs.LeafEnds.{kind_inside, number_inside, nil_inside, signed128_inside, unsigned128_inside, char_inside, string_inside};
+ghost use Rattle.rmp_ends.specs.MapEnds.{map_inside};
+ghost use Rattle.rmp_ends.specs.RowEnds.{array_inside, each_inside, option_inside, tuple_inside};
 ghost use Rattle.rmp_round_trip.specs.LeafRounds.{byte_row, unsigned_row_16, unsigned_row_32, unsigned_row_64, signed_row_16, signed_row_64};
 ghost use Rattle.rmp_round_trip.specs.LeafRounds.{truth_row, unit_row, float64_row, char_row, string_row, buffer_row};
 ghost use Rattle.rmp_round_trip.specs.LeafRounds.{whole_other, truth_other, char_other, text_other};
@@ -33,6 +38,7 @@ ghost use Rattle.std.specs.Prelude.{◌∷◌, [], None, codes, string_bytes, po
 use super::{BTreeMap, BTreeSet, ByteBuf, Course, F64Bits, Spot, Survey};
 use rmp_decode::{Deserialize, Deserializer, SixteenThen};
 use rmp_encode::{Elements, Serialize, Serializer};
+use rmp_ends::EndsInside;
 use rmp_round_trip::{NeverNil, RoundTrip};
 use rmp_wire::config::SerializerConfig;
 use rmp_wire::{ReadSlice, Sink};
@@ -997,6 +1003,114 @@ impl<'de, R: ReadSlice<'de>> RoundTrip<'de, R> for Survey {
 
 impl NeverNil for Survey {
     ghost never_nil = { λ s v. structure_other s _ };
+}
+
+impl<'de, R: ReadSlice<'de>> EndsInside<'de, R> for Survey {
+    ghost use Rattle.test_wide.specs.contracts.mixed.derived.CourseEndsInside.TheImpl.Laws as course_ends;
+    ghost use Rattle.test_wide.specs.contracts.mixed.derived.SpotEndsInside.TheImpl.Laws as spot_ends;
+    ghost use mir.Syntax.{given};
+
+    ghost ends_inside = { fields_inside _ _ _ (
+      string_inside,
+      (
+        (course_ends.ends_inside-law R.row R.ReadSlice.own (given 0) R.Source (given 0)),
+        (
+          (each_inside ⟦<(u8, String) as Deserialize<'de, R>>⟧.reads ⟦<(u8, String) as Deserialize<'de, R>>⟧.refuses
+              (tuple_inside (part_of ⟦<u8 as Deserialize<'de, R>>⟧.reads ⟦<u8 as Deserialize<'de, R>>⟧.refuses
+              ∷ (part_of ⟦<String as Deserialize<'de, R>>⟧.reads ⟦<String as Deserialize<'de, R>>⟧.refuses ∷ [])) (number_inside, (string_inside, tt)))),
+          (
+            unsigned128_inside,
+            (
+              nil_inside,
+              (
+                char_inside,
+                (
+                  (spot_ends.ends_inside-law R.row R.ReadSlice.own (given 0) R.Source (given 0)),
+                  (
+                    (map_inside ⟦<String as Deserialize<'de, R>>⟧.reads ⟦<u64 as Deserialize<'de, R>>⟧.reads ⟦<String as Deserialize<'de, R>>⟧.refuses
+                        ⟦<u64 as Deserialize<'de, R>>⟧.refuses string_inside number_inside),
+                    (
+                      (array_inside _ 3 ⟦<u16 as Deserialize<'de, R>>⟧.reads ⟦<u16 as Deserialize<'de, R>>⟧.refuses number_inside),
+                      (
+                        (option_inside ⟦<Spot as Deserialize<'de, R>>⟧.refuses (spot_ends.ends_inside-law R.row R.ReadSlice.own (given 0) R.Source (given 0))),
+                        (
+                          buffer_inside,
+                          (
+                            (tuple_inside (part_of ⟦<i64 as Deserialize<'de, R>>⟧.reads ⟦<i64 as Deserialize<'de, R>>⟧.refuses
+                                ∷ (part_of ⟦<Option<bool> as Deserialize<'de, R>>⟧.reads ⟦<Option<bool> as Deserialize<'de, R>>⟧.refuses ∷ []))
+                                (number_inside, ((option_inside ⟦<bool as Deserialize<'de, R>>⟧.refuses kind_inside), tt))),
+                            (
+                              (option_inside ⟦<String as Deserialize<'de, R>>⟧.refuses string_inside),
+                              (
+                                number_inside,
+                                (
+                                  kind_inside,
+                                  (
+                                    (each_inside ⟦<String as Deserialize<'de, R>>⟧.reads ⟦<String as Deserialize<'de, R>>⟧.refuses string_inside),
+                                    (
+                                      number_inside,
+                                      (
+                                        signed128_inside,
+                                        (
+                                          (each_inside ⟦<u16 as Deserialize<'de, R>>⟧.reads ⟦<u16 as Deserialize<'de, R>>⟧.refuses number_inside),
+                                          (
+                                            kind_inside,
+                                            (
+                                              (option_inside ⟦<Course as Deserialize<'de, R>>⟧.refuses
+                                                  (course_ends.ends_inside-law R.row R.ReadSlice.own (given 0) R.Source (given 0))),
+                                              (
+                                                (each_inside ⟦<Spot as Deserialize<'de, R>>⟧.reads ⟦<Spot as Deserialize<'de, R>>⟧.refuses
+                                                    (spot_ends.ends_inside-law R.row R.ReadSlice.own (given 0) R.Source (given 0))),
+                                                (
+                                                  number_inside,
+                                                  (
+                                                    number_inside,
+                                                    (
+                                                      (map_inside ⟦<u16 as Deserialize<'de, R>>⟧.reads ⟦<String as Deserialize<'de, R>>⟧.reads
+                                                          ⟦<u16 as Deserialize<'de, R>>⟧.refuses ⟦<String as Deserialize<'de, R>>⟧.refuses number_inside string_inside),
+                                                      (
+                                                        (option_inside ⟦<i64 as Deserialize<'de, R>>⟧.refuses number_inside),
+                                                        (
+                                                          (array_inside _ 2 ⟦<bool as Deserialize<'de, R>>⟧.reads ⟦<bool as Deserialize<'de, R>>⟧.refuses kind_inside),
+                                                          (
+                                                            (each_inside ⟦<Course as Deserialize<'de, R>>⟧.reads ⟦<Course as Deserialize<'de, R>>⟧.refuses
+                                                                (course_ends.ends_inside-law R.row R.ReadSlice.own (given 0) R.Source (given 0))),
+                                                            (
+                                                              (tuple_inside (part_of ⟦<u8 as Deserialize<'de, R>>⟧.reads ⟦<u8 as Deserialize<'de, R>>⟧.refuses
+                                                                  ∷ (part_of ⟦<String as Deserialize<'de, R>>⟧.reads ⟦<String as Deserialize<'de, R>>⟧.refuses ∷ [])) (number_inside, (string_inside, tt))),
+                                                              (
+                                                                (each_inside ⟦<ByteBuf as Deserialize<'de, R>>⟧.reads ⟦<ByteBuf as Deserialize<'de, R>>⟧.refuses buffer_inside),
+                                                                ((option_inside ⟦<char as Deserialize<'de, R>>⟧.refuses char_inside), (string_inside, tt)),
+                                                              ),
+                                                            ),
+                                                          ),
+                                                        ),
+                                                      ),
+                                                    ),
+                                                  ),
+                                                ),
+                                              ),
+                                            ),
+                                          ),
+                                        ),
+                                      ),
+                                    ),
+                                  ),
+                                ),
+                              ),
+                            ),
+                          ),
+                        ),
+                      ),
+                    ),
+                  ),
+                ),
+              ),
+            ),
+          ),
+        ),
+      ),
+    ) };
 }
 
 // 16 values, the first 8 of which are written before the others.
