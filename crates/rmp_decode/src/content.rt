@@ -1,4 +1,4 @@
-//! Content of texts, bytes and extensions.
+//! The payload of texts, bytes and extensions.
 ghost use Rattle.std.specs.Prelude.{◌≡◌, ◌≢◌, Bool, true, OnOk, OnErr, IfOk, IfErr, length};
 ghost use Rattle.std.specs.Io.KnownBytes.{Consumes};
 ghost use Rattle.rmp_wire.specs.Sources.{IsShort};
@@ -24,16 +24,17 @@ use rmp_wire::{ReadSlice, Source};
 use std::alloc::Global;
 use std::marker::PhantomData;
 
-/// How content is read from a reader. A function that calls itself may have no bound that names a lifetime, so it has this
-/// one in place of `ReadSlice`, and is called with `Slices`.
+/// Reads payloads. A recursive function can't have a bound that names a lifetime, so it has this one in place of
+/// `ReadSlice`, and its first caller passes `Slices`.
 pub trait ReadContent<R: Source> {
-    // Whether content is passed over without memory.
+    // Whether payloads are skipped without memory.
     ghost lends: { Bool };
 
-    /// Passes over the next bytes, in the buffer.
+    /// Skips the next bytes.
     ///
     /// # Errors
-    /// `InvalidDataRead` where they end too soon or the source failed, and `OutOfMemory`, unless it lends.
+    /// `InvalidDataRead` if the input ends too soon or the source fails, and `OutOfMemory`, unless the source lends its
+    /// bytes.
     fn pass(reader: &mut R, len: usize) -> Result<(), Error>
         ensures ok { OnOk result (Passes len (R.ahead reader.old) (R.ahead reader.new)) }
         ensures sound { OnOk result (R.faults reader.new ≡ R.faults reader.old) }
@@ -43,10 +44,10 @@ pub trait ReadContent<R: Source> {
         ensures memory { lends ≡ true → IfErr result (λ e. e ≢ Error.OutOfMemory) }
         ensures place { R.place reader.new ≡ R.place reader.old };
 
-    /// Takes the next bytes into a vector.
+    /// Reads the next bytes into a vector.
     ///
     /// # Errors
-    /// As `pass`.
+    /// Those of `pass`.
     fn take(alloc: Global, reader: &mut R, len: usize) -> Result<Vec<u8>, Error>
         ensures ok { IfOk result (λ v. (length v.items ≡ len) × IsBytes v.items × Consumes (R.ahead reader.old) (R.ahead reader.new) v.items) }
         ensures sound { OnOk result (R.faults reader.new ≡ R.faults reader.old) }
@@ -55,10 +56,10 @@ pub trait ReadContent<R: Source> {
         ensures fault { IfErr result (TellsFault (R.faults reader.old) (R.faults reader.new)) }
         ensures place { R.place reader.new ≡ R.place reader.old };
 
-    /// Appends the next bytes to a vector, which stays as it was where they can't be read.
+    /// Reads the next bytes, and appends them to a vector, which is unchanged on an error.
     ///
     /// # Errors
-    /// As `take`.
+    /// Those of `take`.
     fn append(reader: &mut R, len: usize, bytes: &mut Vec<u8>) -> Result<(), Error>
         ensures ok { OnOk result (Appends len (R.ahead reader.old) (R.ahead reader.new) bytes.old.items bytes.new.items) }
         ensures kept { OnErr result (bytes.new.items ≡ bytes.old.items) }
@@ -68,11 +69,11 @@ pub trait ReadContent<R: Source> {
         ensures fault { IfErr result (TellsFault (R.faults reader.old) (R.faults reader.new)) }
         ensures place { R.place reader.new ≡ R.place reader.old };
 
-    /// Takes the next bytes as the name of a variant, and answers its place among the names.
+    /// Reads the next bytes as the name of a variant, and returns its place among the names.
     ///
     /// # Errors
-    /// As `pass`; `Utf8Error` for a text that isn't UTF-8; and `Syntax("unknown variant")` for another text, and for bytes, that
-    /// are none of the names.
+    /// Those of `pass`; `Utf8Error` for a text that isn't UTF-8; and `Syntax("unknown variant")` for any other text, or
+    /// bytes, that are none of the names.
     fn variant(reader: &mut R, names: &[&str], is_text: bool, len: usize) -> Result<usize, Error>
         ensures ok { IfOk result (TakesName (bytes_of names.now) len (R.ahead reader.old) (R.ahead reader.new)) }
         ensures sound { OnOk result (R.faults reader.new ≡ R.faults reader.old) }
@@ -85,7 +86,7 @@ pub trait ReadContent<R: Source> {
         ensures place { R.place reader.new ≡ R.place reader.old };
 }
 
-/// The content of readers that answer slices.
+/// The payloads of sources that return slices.
 #[derive(Clone, Copy, Debug)]
 pub struct Slices<'de> {
     of: PhantomData<&'de [u8]>,

@@ -1,4 +1,4 @@
-//! The types that are read.
+//! Types that can be read, and reads of whole values.
 ghost use Rattle.std.specs.Prelude.{◌≡◌, ◌≢◌, Some, true, false, Bool, Option, IfOk, IfErr, IfSome};
 ghost use Rattle.rmp_wire.specs.Canonical.{IsCanonical};
 ghost use Rattle.rmp_wire.specs.Spelling.{Spells};
@@ -27,7 +27,7 @@ use rmp_wire::{ReadReader, ReadRefReader, ReadSlice, Source};
 use std::alloc::Global;
 use std::marker::PhantomData;
 
-/// A type that can be read.
+/// A type that can be read from MessagePack.
 pub trait Deserialize<'de, R: ReadSlice<'de>>: Sized + Drop {
     ghost use Rattle.rmp_wire.specs.Msg.{Msg};
     ghost use Rattle.rmp_decode.specs.Refusing.{Setting, Refusals, RefusesAs, any_refusal};
@@ -36,7 +36,7 @@ pub trait Deserialize<'de, R: ReadSlice<'de>>: Sized + Drop {
     // bytes.
     ghost reads: { Bool → Bool → Msg → Self → Type 0 };
 
-    // The value of a field that is missing, if there is one.
+    // Returns the value of a field that is missing, if there is one.
     ghost absent: { Option Self };
 
     // What is known of the error of a read of a ready reader, by what the read depends on, how many faults the source had before
@@ -52,15 +52,15 @@ pub trait Deserialize<'de, R: ReadSlice<'de>>: Sized + Drop {
         ensures refused { RefusesAs R.Source (C.human (config_of de.old)) R.lends refuses de.old de.new result }
         ensures memory { takes_memory R.lends ≡ false → IfErr result (λ e. e ≢ Error.OutOfMemory) };
 
-    /// The value of a field that is missing, if there is one.
+    /// Returns the value of a field that is missing, if there is one.
     fn missing() -> Option<Self>
         ensures { result ≡ absent };
 }
 
-/// Reads the value that a beginning of the input spells. What follows isn't looked at.
+/// Reads a value from the beginning of the input. What follows the value isn't looked at.
 ///
 /// # Errors
-/// Any error but `OutOfMemory` says that no beginning of the input spells a message that the type reads.
+/// Any error but `OutOfMemory` means that the input doesn't begin with the encoding of a message that the type reads.
 ///
 /// # Examples
 /// ```
@@ -76,9 +76,9 @@ pub fn from_slice<'de, T: Deserialize<'de, ReadRefReader<'de>>>(
     alloc: Global,
     input: &'de [u8],
 ) -> Result<T, Error>
-    // The value is the reading of a tree that a beginning of the input spells.
+    // The value is the reading of a tree that a prefix of the input encodes.
     ensures ok { IfOk result (λ v. Begins Spells (λ m. T.reads false true m v) 1024 input.now) }
-    // A refusal that isn't for memory means that no beginning spells a tree that the type reads.
+    // An error other than `OutOfMemory` means that no prefix encodes a tree that the type reads.
     ensures err { IfErr result (λ e. e ≢ Error.OutOfMemory → Begins Spells (Readable (T.reads false true)) 1024 input.now → ⊥) }
     // Where the type says which error names what is wrong, it is that one.
     ensures refused { IfErr result (T.refuses (slice_setting false) 0 0 (Some input.now)) }
@@ -88,11 +88,12 @@ pub fn from_slice<'de, T: Deserialize<'de, ReadRefReader<'de>>>(
     T::deserialize(&mut de)
 }
 
-/// Reads the value that a beginning of the input spells canonically: each of its heads has to be the one that is written. What
-/// follows isn't looked at.
+/// Reads a value from the beginning of the input, and accepts canonical heads only: those that are written. What
+/// follows the value isn't looked at.
 ///
 /// # Errors
-/// Any error but `OutOfMemory` says that no beginning of the input is the canonical spelling of a message that the type reads.
+/// Any error but `OutOfMemory` means that the input doesn't begin with the canonical encoding of a message that the
+/// type reads.
 ///
 /// # Examples
 /// ```
@@ -121,7 +122,7 @@ pub fn from_slice_strict<'de, T: Deserialize<'de, ReadRefReader<'de>>>(
     T::deserialize(&mut de)
 }
 
-/// Reads the value that a beginning of the input spells, as `from_slice` does.
+/// Reads a value from the beginning of the input, as `from_slice` does.
 ///
 /// # Errors
 /// As `from_slice`.
@@ -138,7 +139,8 @@ pub fn from_read_ref<'de, T: Deserialize<'de, ReadRefReader<'de>>>(
     from_slice(alloc, input)
 }
 
-// A read from a source that is moved and given back, in a bound that names no lifetime: a function that passes on a closure has none that does.
+// A read from a source that is moved in and given back. The bound names no lifetime, since a function that passes a
+// closure can have none that does.
 trait ReadMoved<R: Source + Drop, V: Drop> {
     ghost use Rattle.std.specs.Prelude.{Bool};
     ghost use Rattle.rmp_wire.specs.Msg.{Msg};
@@ -200,11 +202,11 @@ fn read_moved<R: Source + Drop, V: Drop, P: ReadMoved<R, V>>(
     )
 }
 
-/// Reads a value from a source, which is left at the byte after its message: the twin of `encode::write`.
+/// Reads a value from a source, and leaves it at the byte after the value's message, as `encode::write` writes one.
 ///
 /// # Errors
-/// Any error but `OutOfMemory` says that no prefix of the remaining bytes encodes a message that the type reads, unless the source had a fault.
-/// The source is left where the read stopped.
+/// Unless the source failed, any error but `OutOfMemory` means that no prefix of the remaining bytes encodes a message
+/// that the type reads. The source is left where the read stopped.
 ///
 /// # Examples
 /// ```
@@ -222,9 +224,9 @@ pub fn read<'de, R: Source + Drop, T: Deserialize<'de, ReadReader<R>>>(
     alloc: Global,
     rd: &mut R,
 ) -> Result<T, Error>
-    // The source's first bytes spell a tree that is read as the value, and the rest of them is left.
+    // The source's first bytes encode a tree that is read as the value, and the rest remains.
     ensures ok { IfOk result (ReadFrom R.Source (T.reads false false) rd.old rd.new) }
-    // A refusal that is neither for memory nor for a fault means that no beginning spells a tree that the type reads.
+    // An error that is neither for memory nor for a fault means that no prefix encodes a tree that the type reads.
     ensures err { IfErr result (RefusedBy R.Source (T.reads false false) (T.refuses source_setting) rd.old rd.new) }
     ensures place { R.place rd.new ≡ R.place rd.old }
     ensures memory { T.takes_memory false ≡ false → IfErr result (λ e. e ≢ Error.OutOfMemory) }
@@ -232,10 +234,11 @@ pub fn read<'de, R: Source + Drop, T: Deserialize<'de, ReadReader<R>>>(
     read_moved::<R, T, ByType<'de>>(alloc, rd)
 }
 
-/// Reads the value that a beginning of what the source gives spells. What follows stays in the source.
+/// Reads a value from the beginning of what a source gives. What follows the value stays in the source.
 ///
 /// # Errors
-/// Any error but `OutOfMemory` says that no beginning spells a message that the type reads, where the source had no fault.
+/// Unless the source failed, any error but `OutOfMemory` means that what it gives doesn't begin with the encoding of a
+/// message that the type reads.
 ///
 /// # Examples
 /// ```
@@ -252,11 +255,12 @@ pub fn from_read<'de, R: Source + Drop, T: Deserialize<'de, ReadReader<R>>>(
     alloc: Global,
     mut rd: R,
 ) -> Result<T, Error>
-    // The value is the reading of a tree that a beginning of the source's bytes spells.
+    // The value is the reading of a tree that a prefix of the source's bytes encodes.
     ensures ok { IfOk result (λ v. IfSome (R.ahead rd) (Begins Spells (λ m. T.reads false false m v) 1024)) }
-    // It is the reading of a tree where the source doesn't tell its bytes, too, and just the encoding was consumed.
+    // Also if the source doesn't tell its bytes, it is the reading of a tree, whose encoding was consumed and nothing
+    // else.
     ensures taken { IfOk result (TakenFrom R.Source (T.reads false false) rd) }
-    // A refusal that is neither for memory nor for a fault means that no beginning spells a tree that the type reads.
+    // An error that is neither for memory nor for a fault means that no prefix encodes a tree that the type reads.
     ensures err { IfErr result (RefusedFrom R.Source (T.reads false false) (T.refuses source_setting) rd) }
     ensures memory { T.takes_memory false ≡ false → IfErr result (λ e. e ≢ Error.OutOfMemory) }
 {

@@ -30,20 +30,20 @@ use std::alloc::Global;
 use std::io::Cursor;
 use std::marker::PhantomData;
 
-/// How deep lists and maps may nest by default: a message is read whose depth is below it.
+/// The default limit on nesting: a message is read if its depth is below it.
 const DEFAULT_DEPTH: u32 = 1024;
 
 /// The greatest limit that may be set.
 const MAX_DEPTH: usize = 65535;
 
-/// What a reader keeps back.
+/// What was consumed from the source but belongs to the next message.
 #[derive(Clone, Copy, Debug)]
 pub enum Kept {
     /// Nothing.
     Nothing,
-    /// The first byte of the next message, which was looked at.
+    /// The first byte of the next message.
     First(u8),
-    /// A number that is read as the next message: a byte of bytes that are read as a list.
+    /// A number that is the next message: an item of bytes that are read as a list.
     Number(u8),
 }
 
@@ -84,7 +84,7 @@ impl<R> Deserializer<R, DefaultConfig> {
 impl<'de> Deserializer<ReadRefReader<'de>, DefaultConfig> {
     ghost use Rattle.rmp_wire.specs.RefReader.{rest_of, whole_of};
 
-    /// Reads from a slice, from which texts and bytes are borrowed. Memory comes from `alloc`.
+    /// Makes a reader of a slice, from which texts and bytes are borrowed. Memory comes from `alloc`.
     ///
     /// # Examples
     /// ```
@@ -108,14 +108,14 @@ impl<'de> Deserializer<ReadRefReader<'de>, DefaultConfig> {
 impl<'de, C> Deserializer<ReadRefReader<'de>, C> {
     ghost use Rattle.rmp_wire.specs.RefReader.{rest_of, whole_of};
 
-    /// The whole slice that it reads from, what was read included.
+    /// Returns the whole slice, with what was already read.
     pub fn get_ref(&self) -> &'de [u8]
         ensures { result.now ≡ whole_of (reader_of self.now) }
     {
         self.reader.whole()
     }
 
-    /// The remaining bytes of its source.
+    /// Returns the remaining bytes of the slice.
     pub fn remaining_slice(&self) -> &'de [u8]
         ensures { result.now ≡ rest_of (reader_of self.now) }
     {
@@ -124,7 +124,7 @@ impl<'de, C> Deserializer<ReadRefReader<'de>, C> {
 }
 
 impl<R> Deserializer<ReadReader<R>, DefaultConfig> {
-    /// Reads from a source. Memory for copies, and for all else, comes from `alloc`.
+    /// Makes a reader of a source. Memory, also for copies, comes from `alloc`.
     pub fn new(alloc: Global, rd: R) -> Self
         ensures source { source_of result ≡ rd }
         ensures new { IsNew alloc result }
@@ -134,15 +134,15 @@ impl<R> Deserializer<ReadReader<R>, DefaultConfig> {
 }
 
 impl<R, C: SerializerConfig> Deserializer<ReadReader<R>, C> {
-    /// The source.
+    /// Returns a reference to the source.
     pub fn get_ref(&self) -> &R
         ensures { result.now ≡ source_of self.now }
     {
         self.reader.get_ref()
     }
 
-    /// A mutable reference to the source. The next read begins with the byte that was kept back, if there is one, and goes on with what
-    /// the source has then.
+    /// Returns a mutable reference to the source. A byte that was kept back is still read first, and then what the
+    /// source has.
     pub fn get_mut(&mut self) -> &mut R
         ensures* writes_back { sem 𝓛 (follows (the_row (reader_row R.row) C.row) R.row self.entry.ghost_name result.ghost_name (reading_with self.old)) }
         ensures value { result.now ≡ source_of self.old }
@@ -150,7 +150,7 @@ impl<R, C: SerializerConfig> Deserializer<ReadReader<R>, C> {
         self.reader.get_mut()
     }
 
-    /// The source, given back. A byte that was kept back is dropped: it counts as read.
+    /// Returns the source. A byte that was kept back is lost: it counts as read.
     pub fn into_inner(self) -> R
         ensures { result ≡ source_of self }
     {
@@ -159,7 +159,7 @@ impl<R, C: SerializerConfig> Deserializer<ReadReader<R>, C> {
 }
 
 impl<T, C> Deserializer<ReadReader<Cursor<T>>, C> {
-    /// How far the cursor was read. A byte that was kept back counts as read.
+    /// Returns the position of the cursor. A byte that was kept back counts as read.
     pub fn position(&self) -> u64
         ensures { result ≡ cursor_position (source_of self.now) }
     {
@@ -168,32 +168,33 @@ impl<T, C> Deserializer<ReadReader<Cursor<T>>, C> {
 }
 
 impl<R, C> Deserializer<R, C> {
-    /// What it reads from.
+    /// Returns a reference to what it reads from.
     pub fn reader(&self) -> &R
         ensures { result.now ≡ reader_of self.now }
     {
         &self.reader
     }
 
-    /// Where its memory comes from.
+    /// Returns the allocator that its memory comes from.
     pub fn alloc(&self) -> Global
         ensures { result ≡ alloc_of self.now }
     {
         self.alloc
     }
 
-    /// Sets whether only canonical heads are read: those that `Serializer` writes. At first heads of any width are.
+    /// Sets whether only canonical heads are accepted: those that `Serializer` writes. By default, heads of any width
+    /// are.
     pub fn set_strict(&mut self, strict: bool)
         ensures { self.new ≡ strict_of self.old strict }
     {
         self.strict = strict;
     }
 
-    /// Sets how deep lists and maps may nest: a message is read whose depth is below the limit. At first it is 1024; it is at most
-    /// 65535, and 0 acts as 1.
+    /// Sets the limit on nesting: a message is read if its depth is below the limit. The default is 1024, the maximum
+    /// is 65535, and 0 acts as 1.
     ///
-    /// Inside of a list or a map it is the limit of the whole message, from which the open levels are subtracted. It holds until the
-    /// end of the part that is being read; the parts after it have the limit from before.
+    /// Inside a list or a map this is the limit of the whole message, from which the open levels are subtracted. It
+    /// applies until the end of the part that is being read; later parts have the earlier limit.
     pub fn set_max_depth(&mut self, depth: usize)
         ensures { self.new ≡ limited self.old depth }
     {
@@ -203,7 +204,7 @@ impl<R, C> Deserializer<R, C> {
         self.room = limit.saturating_sub(open);
     }
 
-    /// Leaves the reader failed, and returns the error: what a type does that refuses what it has read.
+    /// Marks the reader as failed, and returns the error. A type calls this to refuse what it has read.
     pub fn refuse(&mut self, error: Error) -> Error
         ensures same { result ≡ error }
         ensures failed { self.new ≡ failed_of self.old }
@@ -212,7 +213,7 @@ impl<R, C> Deserializer<R, C> {
         error
     }
 
-    /// Returns an iterator over the messages up to the end of the source, or up to the first error.
+    /// Returns an iterator over the messages up to the end of the source, or up to and with the first error.
     ///
     /// # Examples
     /// ```
@@ -241,7 +242,7 @@ impl<R, C> Deserializer<R, C> {
 impl<R, C: SerializerConfig> Deserializer<R, C> {
     ghost use Rattle.rmp_wire.specs.Settings.{readable_inner, binary_inner};
 
-    /// The same reader, for which types that have a form for people are read from it.
+    /// Returns the same reader, set to read human-readable forms of types that have one.
     pub fn with_human_readable(self) -> Deserializer<R, HumanReadableConfig<C>>
         ensures config { readable_inner (config_of result) ≡ config_of self }
         ensures same { IsSameBut self result }
@@ -250,7 +251,7 @@ impl<R, C: SerializerConfig> Deserializer<R, C> {
         self.with_config(config)
     }
 
-    /// The same reader, for which types that have a compact form are read from it.
+    /// Returns the same reader, set to read compact forms of types that have one.
     pub fn with_binary(self) -> Deserializer<R, BinaryConfig<C>>
         ensures config { binary_inner (config_of result) ≡ config_of self }
         ensures same { IsSameBut self result }
@@ -278,14 +279,14 @@ impl<R, C: SerializerConfig> Deserializer<R, C> {
 }
 
 impl<R: Source, C: SerializerConfig> Deserializer<R, C> {
-    /// Whether types that have a form for people and a compact one are read from the first.
+    /// Returns whether types with a human-readable and a compact form are read from the human-readable one.
     pub fn is_human_readable(&self) -> bool
         ensures { result ≡ C.human (config_of self.now) }
     {
         self.config.is_human_readable()
     }
 
-    // Whether a message's first byte is there. It is left where it is buffered, or else kept back.
+    // Whether a message's first byte is there. If it isn't buffered, it is kept back.
     #[inline(always)]
     fn finds_next(&mut self) -> Result<bool, Error>
         ensures { FindsNext R.Source self.old self.new result }
@@ -305,7 +306,7 @@ impl<R: Source, C: SerializerConfig> Deserializer<R, C> {
         }
     }
 
-    // Pulls a message's first byte, which is kept back. Answers `false` at the end. Out of line.
+    // Pulls a message's first byte, and keeps it back. Returns `false` at the end. Out of line.
     #[inline(never)]
     fn pull_first(&mut self) -> Result<bool, Error>
         requires ready { is_failed self.old ≡ false }
@@ -326,14 +327,13 @@ impl<R: Source, C: SerializerConfig> Deserializer<R, C> {
         }
     }
 
-    /// Reads the next message, or returns `None` where the source ends before its first byte.
+    /// Reads the next message, or returns `None` if the source ends before its first byte.
     ///
-    /// So one loop reads a source to its end, and an end inside of a message is an error. `None` consumes nothing, and the reader stays
-    /// ready: where more bytes come, a later call reads on.
+    /// So one loop reads a source to its end, and an end inside a message is an error. `None` consumes nothing and
+    /// leaves the reader ready: if more bytes arrive, a later call reads them.
     ///
     /// # Errors
-    /// Those of the type, as of its `deserialize`, where a message begins. `InvalidMarkerRead` with the source's fault where it fails
-    /// before the first byte.
+    /// Those of the type, and `InvalidMarkerRead` with the source's fault if it fails before the first byte.
     ///
     /// # Examples
     /// ```
@@ -350,7 +350,8 @@ impl<R: Source, C: SerializerConfig> Deserializer<R, C> {
     pub fn next<'de, T: Deserialize<'de, R>>(&mut self) -> Result<Option<T>, Error>
     where
         R: ReadSlice<'de>,
-        // `None` is the end, and consumes nothing. A value is the reading of the next message, and an error its refusal.
+        // `None` is the end, and nothing was consumed. A value is the reading of the next message, and an error its
+        // refusal.
         ensures law { NextRead R.Source (T.reads (C.human (config_of self.old)) R.lends) self.old self.new result }
         // An error isn't the end: the message's first byte is there, unless the source had a fault.
         ensures there { is_failed self.old ≡ false → IfErr result (λ e. faults_of R.Source self.new ≡ faults_of R.Source self.old → IsThere (left R.Source self.old)) }

@@ -12,37 +12,37 @@ use thiserror::Error;
 /// Why a read failed.
 #[derive(Debug, Drop, Error)]
 pub enum Error {
-    /// The input ended, or the source failed, where a message's first byte is wanted.
+    /// The input ended, or the source failed, before a message's first byte.
     #[error("IO error while reading marker: {0}")]
     InvalidMarkerRead(IoFault),
     /// The input ended, or the source failed, after a message's first byte.
     #[error("IO error while reading data: {0}")]
     InvalidDataRead(IoFault),
-    /// The marker opens no message that is wanted; the byte c1 opens none at all.
+    /// The marker begins no message of the wanted kind; the byte c1 begins none at all.
     #[error("wrong msgpack marker {0:?}")]
     TypeMismatch(Marker),
-    /// A negative number where a number of 128 bits without a sign is wanted.
+    /// A negative number, for a `u128`.
     #[error("numeric cast found out of range")]
     OutOfRange,
-    /// A list, map or bytes of another length than is wanted.
+    /// A list, a map or bytes of another length than the type has.
     #[error("array had incorrect length, expected {0}")]
     LengthMismatch(u32),
-    /// A read after one that failed.
+    /// An earlier read of this reader failed.
     #[error("uncategorized error: {0}")]
     Uncategorized(Text),
-    /// The message isn't what the wanted type is written as.
+    /// The message is none that the type reads.
     #[error("{0}")]
     Syntax(Text),
     /// A text that isn't UTF-8.
     #[error("string found to be invalid utf8: {0}")]
     Utf8Error(Utf8Error),
-    /// A list or map that reaches the limit on nesting.
+    /// A list or a map that nests too deep.
     #[error("depth limit exceeded")]
     DepthLimitExceeded,
-    /// Memory was refused.
+    /// Out of memory.
     #[error("out of memory")]
     OutOfMemory,
-    /// A head that isn't the canonical one, while only those are read.
+    /// A head that isn't canonical, in a strict read.
     #[error("not canonical")]
     NotCanonical,
 }
@@ -50,8 +50,9 @@ pub enum Error {
 impl Error {
     ghost use Rattle.rmp_decode.specs.Exact.{IsEnd};
 
-    /// Whether the input ended before the message did: `InvalidMarkerRead` or `InvalidDataRead` with the kind `UnexpectedEof`. Then
-    /// more bytes may complete the message. Any other error says that something else is wrong.
+    /// Returns whether the input ended before the message did: the error is `InvalidMarkerRead` or `InvalidDataRead`
+    /// with the kind `UnexpectedEof`. More bytes may then complete the message. Any other error means that something
+    /// else is wrong.
     ///
     /// # Examples
     /// ```

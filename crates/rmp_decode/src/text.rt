@@ -4,26 +4,26 @@ ghost use Rattle.std.specs.Prelude.{◌≡◌, ◌≤◌, length, take, IsUtf8};
 use std::fmt::{Debug, Display};
 use std::{fmt, str};
 
-/// Why something was refused, in words: one of the reader's own texts, or a type's.
+/// Why something was refused, in words: one of the reader's texts, or a type's own.
 ///
-/// A type's own text has at most 30 bytes, which are part of the value, so that no refusal allocates memory.
+/// A type's own text has at most 30 bytes, which are part of the value, so that no error allocates memory.
 #[derive(Clone, Copy)]
 pub enum Text {
     /// An earlier read from this reader failed.
     FailedBefore,
-    /// The message is of a kind that the type doesn't take.
+    /// The message is of a kind that the type doesn't read.
     InvalidType,
-    /// The message is of the right kind, but has no value of the type.
+    /// The message is of the right kind, but is no value of the type.
     InvalidValue,
-    /// The number of elements isn't the one that is needed.
+    /// The number of elements isn't that of the type.
     InvalidLength,
-    /// No variant has this name or number.
+    /// No variant has this name or place.
     UnknownVariant,
-    /// A field comes twice.
+    /// A field is there twice.
     DuplicateField,
-    /// A field is missing that is needed.
+    /// A field is missing that has no value for that.
     MissingField,
-    /// `deserialize_any` met an extension, which only `deserialize_ext` reads.
+    /// The name is that of extensions, which `deserialize_ext` reads.
     ReadByExt,
     /// A type's own text.
     Own(OwnText),
@@ -32,7 +32,7 @@ pub enum Text {
 // A byte that no UTF-8 text has. It follows a text of fewer than 30 bytes.
 const NO_TEXT: u8 = 0xff;
 
-/// A type's own text: the longest beginning of its bytes that is UTF-8.
+/// A type's own text: the longest prefix of its bytes that is UTF-8.
 ///
 /// The length isn't stored: each result of a read has room for an error, and one of 32 bytes is copied in fewer
 /// instructions than one of 33.
@@ -66,7 +66,7 @@ impl OwnText {
 impl Text {
     ghost use Rattle.rmp_decode.specs.Words.{words};
 
-    /// A type's own words, of at most 30 bytes.
+    /// Makes a type's own text, of at most 30 bytes.
     pub fn new(text: &str) -> Text
         requires { length text.now ≤ 30 }
         ensures { words result ≡ text.now }
@@ -74,7 +74,7 @@ impl Text {
         Text::Own(OwnText::new(text))
     }
 
-    /// The words.
+    /// Returns the words.
     pub fn as_str(&self) -> &str
         ensures { result.now ≡ words self.now }
     {

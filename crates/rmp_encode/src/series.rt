@@ -80,9 +80,8 @@ impl<'a, W: Sink, C: SerializerConfig> MaybeUnknownLengthCompound<'a, W, C> {
 
     // Writes an element, or a key or a value, to the sink or to the buffer.
     //
-    // The buffer is moved out of the compound while it is written to. So no reference into the compound is
-    // passed on, and a compound without a buffer can stay in registers.
-    // that has no buffer can stay in registers.
+    // The buffer is moved out of the compound while it is written to. So no reference into the compound is passed on,
+    // and a compound without a buffer can stay in registers.
     #[inline(always)]
     fn put_part<T: Serialize>(&mut self, value: &T) -> Result<(), Error>
         requires sound { is_sound self.old ≡ true }

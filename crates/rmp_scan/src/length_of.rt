@@ -1,4 +1,4 @@
-//! How long the message at the front of an input is.
+//! Finds how long the message at the front of an input is.
 ghost use Rattle.std.specs.Prelude.{◌≡◌, ◌↔◌, ℕ, Ok, Some, None, IfErr};
 ghost use Rattle.rmp_wire.specs.declared.marker.Marker.TheVariants as marker;
 ghost use Rattle.rmp_scan.specs.Scans.{IsBeginning, MessageEnds};
@@ -6,13 +6,14 @@ ghost use Rattle.rmp_scan.specs.Scans.{IsBeginning, MessageEnds};
 use crate::scanner::{Scan, Scanner};
 use rmp_decode::Error;
 
-/// How many bytes the message at the front of the input has: `None` where the input ends before the message does.
+/// Returns the length of the message at the front of the input, in bytes, or `None` if the input ends before the
+/// message does.
 ///
-/// It takes no memory, and skips payload. Lists and maps may nest as deep as they like, and texts may be no UTF-8.
+/// It allocates nothing, and skips payload. Lists and maps may nest to any depth, and texts needn't be UTF-8.
 ///
 /// # Errors
-/// `TypeMismatch(Reserved)` where no message begins with the input, and none ends in it: the byte c1 is there where a message is wanted.
-/// `Scanner::reserved_at` tells where.
+/// `TypeMismatch(Reserved)` if neither a message nor the beginning of one is at the front: the byte c1 is in the place
+/// of a message. `Scanner::reserved_at` returns where.
 ///
 /// # Examples
 /// ```

@@ -1,4 +1,4 @@
-//! Messages that arrive in pieces: where each ends, and whether it can end at all.
+//! Messages that arrive in pieces: where each ends, and whether the bytes begin a message at all.
 #![tactic(auto)]
 
 mod length;

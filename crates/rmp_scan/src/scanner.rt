@@ -1,4 +1,4 @@
-//! Where a message ends that arrives in pieces.
+//! Finds where a message ends that arrives in pieces.
 ghost use Rattle.std.specs.Prelude.{◌≡◌, ◌↔◌, ◌⊎◌, ℕ, List, ◌+◌, ◌^◌, ◌≤◌, ◌++◌, [], false, true, length, Ok, Err, Some, None, IfErr, IfSome};
 ghost use Rattle.rmp_decode.specs.declared.text.Text.TheVariants.{InvalidLength, FailedBefore};
 ghost use Rattle.rmp_wire.specs.declared.marker.Marker.TheVariants as marker;
@@ -9,12 +9,12 @@ use crate::want::{Step, Want};
 use rmp_decode::{Error, Text};
 use rmp_wire::Marker;
 
-/// What a piece comes to.
+/// What `scan` found in a piece.
 #[derive(Clone, Copy, Debug, PartialEq)]
 pub enum Scan {
     /// The first `used` bytes of the piece end the message.
     Whole { used: usize },
-    /// The message goes on after the piece.
+    /// The message doesn't end in the piece.
     More,
 }
 
@@ -23,9 +23,9 @@ const NO_LIMIT: u128 = 0x10_0000_0000_0000_0000_0000_0000;
 
 /// Finds where messages end that arrive in pieces, as from a socket or the tail of a file.
 ///
-/// It keeps what the message still wants, as a few numbers: how many messages, how many bytes of payload, and a length that was cut. It
-/// takes no memory, and looks at no piece again when the next one comes. Payload is skipped. Lists and maps may nest as deep as they like,
-/// and texts may be no UTF-8: the reader of the message looks at both.
+/// It keeps what the message still needs, as a few numbers: how many messages, how many bytes of payload, and the rest
+/// of a length that was cut. It allocates nothing, and looks at each byte once. Payload is skipped. Lists and maps may
+/// nest to any depth, and texts needn't be UTF-8: whoever reads the message checks both.
 #[derive(Clone, Copy, Debug)]
 pub struct Scanner {
     limit: u128,
@@ -42,7 +42,7 @@ impl Scanner {
     ghost use Rattle.rmp_scan.specs.Scans.{IsAfter, IsBeginning, MessageEnds, Scans, is_refused, limit_of, reserved_of};
     ghost use Rattle.rmp_scan.specs.States.{IsStateOf, IsBroken, IsOutOfRange};
 
-    /// A scanner that waits for the first byte of a message.
+    /// Makes a scanner that waits for the first byte of a message.
     ///
     /// # Examples
     /// ```
@@ -67,8 +67,8 @@ impl Scanner {
         }
     }
 
-    /// Sets how many bytes a message may have. A longer one is refused as soon as its heads ask for more, before its payload arrives.
-    /// At first there is no limit below 2^100 bytes.
+    /// Sets the maximum length of a message, in bytes. A longer one is refused as soon as its heads ask for more,
+    /// before its payload arrives. The default is 2^100 bytes.
     pub fn limit_bytes(&mut self, limit: usize)
         ensures limit { limit_of self.new ≡ limit }
         ensures after { (bytes : List ℕ) → IsAfter bytes self.old → IsAfter bytes self.new }
@@ -78,11 +78,12 @@ impl Scanner {
         self.limit = limit as u128;
     }
 
-    /// Goes through the next piece. After `Whole` the scanner is new again: what follows in the piece belongs to the next message.
+    /// Scans the next piece. After `Whole` the scanner is as new: the rest of the piece belongs to the next message.
     ///
     /// # Errors
-    /// `TypeMismatch(Reserved)` at the byte c1 where a message is wanted: no message begins with these bytes. `Syntax("invalid length")`
-    /// where the heads ask for more bytes than the limit. After an error each further call answers `Uncategorized("failed before")`.
+    /// `TypeMismatch(Reserved)` at the byte c1 in the place of a message: no message begins with these bytes.
+    /// `Syntax("invalid length")` if the heads ask for more bytes than the limit. After an error each further call
+    /// returns `Uncategorized("failed before")`.
     pub fn scan(&mut self, piece: &[u8]) -> Result<Scan, Error>
         // By the bytes that it has already and the piece, together.
         ensures law { (before : List ℕ) → IsAfter before self.old → Scans before piece.now (limit_of self.old) self.new result }
@@ -123,14 +124,16 @@ impl Scanner {
         }
     }
 
-    /// The offset of the byte c1 in the piece for which `scan` answered `TypeMismatch(Reserved)`. `None` before that.
+    /// Returns the offset of the byte c1 in the piece for which `scan` returned `TypeMismatch(Reserved)`, and `None`
+    /// before that.
     pub fn reserved_at(&self) -> Option<usize>
         ensures { result ≡ reserved_of self.now }
     {
         self.reserved
     }
 
-    /// The state of the scanner as plain numbers. `None` after an error, and where one of them has more than 64 bits.
+    /// Returns the state of the scanner as plain numbers, and `None` after an error or if one of them has more than 64
+    /// bits.
     pub fn state(&self) -> Option<State>
         ensures some { IfSome result (IsStateOf self.now) }
         ensures none { result ≡ None → is_refused self.now ⊎ IsOutOfRange self.now }
@@ -144,7 +147,7 @@ impl Scanner {
         Some(state_with(limit, taken, messages, self.want.next))
     }
 
-    /// The scanner of this state. `None` where the numbers are those of no scanner.
+    /// Makes a scanner with this state. Returns `None` if no scanner has these numbers.
     pub fn from_state(state: &State) -> Option<Self>
         ensures some { IfSome result (λ s. IsStateOf s state.now) }
         ensures none { (result ≡ None) ↔ IsBroken state.now }

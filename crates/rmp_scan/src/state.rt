@@ -10,9 +10,9 @@ use crate::want::Next;
 #[repr(C)]
 #[derive(Clone, Copy, Debug, PartialEq)]
 pub struct State {
-    /// How many bytes a message may have.
+    /// The maximum length of a message, in bytes.
     pub limit: u64,
-    /// How many bytes of the message have come.
+    /// How many bytes of the message were scanned.
     pub taken: u64,
     /// How many messages follow what comes next.
     pub messages: u64,

@@ -1,4 +1,4 @@
-//! Values from the very bytes that are written of them.
+//! Reads values only from the bytes that are written of them.
 ghost use Rattle.std.specs.Prelude.{◌≡◌, ◌≢◌, ◌<◌, true, false, IfOk, IfErr, MatchResult};
 ghost use Rattle.rmp_encode.specs.Calls.{default_settings, named_settings, IsSpelled};
 ghost use Rattle.rmp_encode.specs.Trees.{tree_of};
@@ -16,12 +16,13 @@ use rmp_round_trip::RoundTrip;
 use rmp_wire::ReadRefReader;
 use std::alloc::Global;
 
-/// Reads the value of which `to_vec` writes the input, whole. A strict read alone takes a map's keys in another order or twice,
-/// unknown names, a variant by its number, and what follows; this call refuses them. It is for cache keys and signatures.
+/// Reads the value for which `to_vec` writes exactly the input. A strict read also accepts a map's keys in another
+/// order or twice, unknown names, a variant by its number, and bytes after the message; this call refuses them. It is
+/// for cache keys and signatures.
 ///
 /// # Errors
-/// `NotCanonical` where the input is read, but not written so. Any error but `OutOfMemory` says that the input isn't what is written
-/// of a value that nests below the limit.
+/// `NotCanonical` if a value is read, but written otherwise. Any error but `OutOfMemory` means that the input isn't
+/// what is written of a value that nests below the limit.
 ///
 /// # Examples
 /// ```
@@ -55,8 +56,8 @@ pub fn from_slice_canonical<'de, T: RoundTrip<'de, ReadRefReader<'de>>>(
     if_written(value, written, input)
 }
 
-/// Reads the value of which `to_vec_named` writes the input, whole: structs are maps from the names of their fields, in order. It fails
-/// as `from_slice_canonical` does.
+/// Reads the value for which `to_vec_named` writes exactly the input: structs are maps from the names of their fields,
+/// in order.
 pub fn from_slice_canonical_named<'de, T: RoundTrip<'de, ReadRefReader<'de>>>(
     alloc: Global,
     input: &'de [u8],

@@ -1,4 +1,4 @@
-//! Whether an input is spelled canonically, and where it isn't.
+//! Checks whether an input is canonical, and finds where it isn't.
 ghost use Rattle.std.specs.Prelude.{◌≡◌, ◌≢◌, ◌↔◌, ◌<◌, ℕ, Ok, IfErr};
 ghost use Rattle.rmp_decode.specs.Kinds.{content_len};
 ghost use Rattle.rmp_serde.specs.Places.{IsWhole, IsFault, Stops, NextNode, parts_after};

@@ -1,4 +1,4 @@
-//! The laws of the grammar, over the definitions alone. Each is the contract of a function that does nothing.
+//! The laws of the format, over the definitions alone. Each is the contract of a function that does nothing.
 //!
 //! A caller uses a law by calling its function: what the call ensures is the law, for every argument.
 
@@ -40,7 +40,7 @@ pub fn no_head_begins_another()
     ensures { (h k : Head) (a b x y : List ℕ) → IsHead h a → IsHead k b → a ++ x ≡ b ++ y → (h ≡ k) × (a ≡ b) × (x ≡ y) }
 {}
 
-/// At most one beginning of an input spells a message, whatever follows it, and it spells one tree.
+/// At most one prefix of an input encodes a message, whatever follows it, and it encodes one tree.
 pub fn at_most_one_message()
     ensures { (a b x y : List ℕ) (m n : Msg) → Spells a m → Spells b n → a ++ x ≡ b ++ y → (a ≡ b) × (m ≡ n) × (x ≡ y) }
 {}
@@ -51,29 +51,29 @@ pub fn canonical_head()
     ensures { (h : Head) (a : List ℕ) → IsCanonicalHead h a ↔ (fits_head h × (a ≡ canon_head h)) }
 {}
 
-/// Each tree that fits has exactly one canonical spelling. It is a spelling of the tree, and no spelling is shorter.
+/// Each tree that fits has exactly one canonical encoding. It is an encoding of the tree, and no encoding is shorter.
 pub fn canonical_spelling()
     ensures one { (b : List ℕ) (m : Msg) → IsCanonical b m ↔ (Fits m × (b ≡ canon m)) }
     ensures spells { (m : Msg) → Fits m → Spells (canon m) m }
     ensures least { (b : List ℕ) (m : Msg) → Spells b m → length (canon m) ≤ length b }
 {}
 
-/// A lenient read accepts whatever a strict read accepts, the canonical spelling of a tree, and as the same
-/// tree. A strict read accepts whatever was written, which is that spelling.
+/// A lenient read accepts whatever a strict read accepts, the canonical encoding of a tree, and as the same tree. A
+/// strict read accepts whatever was written, which is that encoding.
 pub fn strict_reading()
     ensures lenient { (b : List ℕ) (m : Msg) → IsCanonical b m → Spells b m }
     ensures one { (a b x y : List ℕ) (m n : Msg) → IsCanonical a m → Spells b n → a ++ x ≡ b ++ y → (a ≡ b) × (m ≡ n) × (x ≡ y) }
     ensures written { (m : Msg) → Fits m → IsCanonical (canon m) m }
 {}
 
-/// What is spelled fits, and is spelled by bytes.
+/// A tree that some bytes encode fits, and these are bytes.
 pub fn spelled_fits()
     ensures fits { (b : List ℕ) (m : Msg) → Spells b m → Fits m }
     ensures bytes { (b : List ℕ) (m : Msg) → Spells b m → IsBytes b }
 {}
 
-/// A `Value` is written as its own tree, whatever the settings. So where `to_vec` returns `Ok` for a `Value`,
-/// the bytes are the canonical spelling of its tree, and spell no other. `to_vec` fails only out of memory.
+/// A `Value` is written as its own tree, whatever the settings. So where `to_vec` returns `Ok` for a `Value`, the bytes
+/// are the canonical encoding of its tree, and encode no other. `to_vec` fails only out of memory.
 pub fn value_is_its_tree()
     ensures tree { (s : Settings) (m : Msg) → tree_of s (Some (value_data m)) ≡ Some m }
     ensures bytes { (s : Settings) (m : Msg) (b : List ℕ) → IsSpelled (tree_of s (Some (value_data m))) b → b ≡ canon m }
@@ -81,8 +81,8 @@ pub fn value_is_its_tree()
     ensures memory { (s : Settings) (m : Msg) (e : Error) → Fits m → ToVecFails (tree_of s (Some (value_data m))) e → e ≡ errors.OutOfMemory }
 {}
 
-/// A check of canonical spelling has one answer for an input: at most one length is that of a whole message, at
-/// most one offset is at fault, and never are there both.
+/// The checker has one answer for an input: at most one length is that of a whole message, at most one offset is at
+/// fault, and there are never both.
 pub fn one_canonical_answer()
     ensures whole { (input : List ℕ) (m n : ℕ) → IsWhole input m → IsWhole input n → m ≡ n }
     ensures fault { (input : List ℕ) (p q : ℕ) → IsFault input p → IsFault input q → p ≡ q }
@@ -96,7 +96,8 @@ pub fn positions_add_up()
         → Consumes (Some (drop p bytes)) (Some (drop q more)) taken → q ≡ p + length taken }
 {}
 
-/// Two messages that are read as `Value` and written are equal exactly if they spell the same tree, and a second round changes nothing.
+/// Two messages that are read as `Value` and written again are equal exactly if they encode the same tree, and a second
+/// round changes nothing.
 pub fn values_are_their_trees()
     ensures equal { (s t : Settings) (m n v w : Msg) (c d : List ℕ) → reads_value m v → reads_value n w
         → IsSpelled (tree_of s (Some (value_data v))) c → IsSpelled (tree_of t (Some (value_data w))) d → (c ≡ d) ↔ (m ≡ n) }

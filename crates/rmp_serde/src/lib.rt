@@ -1,4 +1,4 @@
-//! MessagePack for typed values, with the one canonical spelling.
+//! MessagePack for typed values, each with one canonical encoding.
 #![tactic(auto)]
 
 mod canonical;

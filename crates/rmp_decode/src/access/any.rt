@@ -1,4 +1,4 @@
-//! A message of any kind, by its parts or by its head alone.
+//! Reads messages of any kind, by their parts or by their heads.
 ghost use Rattle.std.specs.Prelude.{◌≡◌, ◌≢◌, ◌<◌, false, true, ℕ, Bool, Ok, IfOk, IfErr, OnOk, OnErr};
 ghost use Rattle.std.specs.Borrow.{sem, RestsIfErr};
 ghost use Rattle.std.specs.String.{string_bytes};
@@ -24,7 +24,7 @@ use rmp_wire::config::SerializerConfig;
 use rmp_wire::{Head, Marker, ReadSlice, Source};
 use std::str;
 
-/// A leaf that was read whole. The reader is ready again.
+/// A message without parts, which was read whole. The reader is ready again.
 #[derive(Drop)]
 pub struct Leaf<'x, R, C, T> {
     de: &'x mut Deserializer<R, C>,
@@ -32,7 +32,7 @@ pub struct Leaf<'x, R, C, T> {
 }
 
 impl<'x, R, C, T: Copy> Leaf<'x, R, C, T> {
-    /// What it holds.
+    /// Returns what it holds.
     pub fn value(self) -> T
         ensures value { result ≡ leaf_value self.entry }
         ensures reader { self.exit.0.now ≡ leaf_lender self.entry }
@@ -40,7 +40,7 @@ impl<'x, R, C, T: Copy> Leaf<'x, R, C, T> {
         self.value
     }
 
-    /// Leaves the reader failed, and returns the error: what a type does that doesn't take such a leaf.
+    /// Marks the reader as failed, and returns the error. A type calls this to refuse such a message.
     pub fn refuse(self, error: Error) -> Error
         ensures same { result ≡ error }
         ensures reader { self.exit.0.now ≡ failed_of (leaf_lender self.entry) }
@@ -50,9 +50,9 @@ impl<'x, R, C, T: Copy> Leaf<'x, R, C, T> {
     }
 }
 
-/// The content of a text, of bytes or of an extension, which is still to be read.
+/// The payload of a text, of bytes or of an extension, which hasn't been read.
 ///
-/// While it exists the reader counts as failed. Reading the content makes it ready again.
+/// The reader counts as failed until the payload is read.
 #[derive(Drop)]
 pub struct RawAccess<'x, R, C> {
     de: &'x mut Deserializer<R, C>,
@@ -61,24 +61,24 @@ pub struct RawAccess<'x, R, C> {
 }
 
 impl<'x, R: Source, C: SerializerConfig> RawAccess<'x, R, C> {
-    /// How many bytes there are.
+    /// Returns the number of bytes.
     pub fn size(&self) -> u32
         ensures { result ≡ raw_len self.now }
     {
         self.len
     }
 
-    /// The type of an extension.
+    /// Returns the type of an extension.
     pub fn tag(&self) -> i8
         ensures { result ≡ raw_tag self.now }
     {
         self.tag
     }
 
-    /// Takes the bytes into a vector.
+    /// Reads the bytes into a vector.
     ///
     /// # Errors
-    /// `InvalidDataRead` where they end too soon or the source failed, and `OutOfMemory`.
+    /// `InvalidDataRead` if the input ends too soon or the source fails, and `OutOfMemory`.
     #[inline(never)]
     pub fn take<P: ReadContent<R>>(self) -> Result<Vec<u8>, Error>
         ensures ok { IfOk result (λ v. TakesContent R.Source (raw_len self.entry) (raw_lender self.entry) self.exit.0.now v.items) }
@@ -96,10 +96,10 @@ impl<'x, R: Source, C: SerializerConfig> RawAccess<'x, R, C> {
 }
 
 impl<'x, R: Source, C: SerializerConfig> RawAccess<'x, R, C> {
-    /// Takes the bytes as a text.
+    /// Reads the bytes as a text.
     ///
     /// # Errors
-    /// `Utf8Error` where they aren't UTF-8, and otherwise as `take`.
+    /// `Utf8Error` if they aren't UTF-8, and otherwise those of `take`.
     #[inline(never)]
     pub fn text<P: ReadContent<R>>(self) -> Result<String, Error>
         ensures ok { IfOk result (λ t. TakesContent R.Source (raw_len self.entry) (raw_lender self.entry) self.exit.0.now (string_bytes t)) }
@@ -122,10 +122,11 @@ impl<'x, R: Source, C: SerializerConfig> RawAccess<'x, R, C> {
         }
     }
 
-    /// Borrows the bytes from the input, for as long as it lives, and allocates nothing.
+    /// Borrows the bytes for the lifetime of the input. Allocates nothing.
     ///
     /// # Errors
-    /// `InvalidDataRead` where they end too soon or the source failed, and `Syntax("invalid type")` where it doesn't lend.
+    /// `InvalidDataRead` if the input ends too soon or the source fails, and `Syntax("invalid type")` if the source
+    /// doesn't lend its bytes.
     #[inline(never)]
     pub fn lend<'de>(self) -> Result<&'de [u8], Error>
     where
@@ -148,7 +149,7 @@ impl<'x, R: Source, C: SerializerConfig> RawAccess<'x, R, C> {
     }
 }
 
-/// A message of any kind: a leaf that was read, or the access to what the message holds.
+/// A message of any kind: what was read of one without parts, or the access to what it contains.
 #[derive(Drop)]
 pub enum Any<'x, R, C> {
     /// Nil.
@@ -161,20 +162,20 @@ pub enum Any<'x, R, C> {
     F32Bits(Leaf<'x, R, C, u32>),
     /// The bits of a 64-bit float.
     F64Bits(Leaf<'x, R, C, u64>),
-    /// The bytes of a text, which may be no UTF-8.
+    /// The bytes of a text, which needn't be UTF-8.
     Text(RawAccess<'x, R, C>),
     /// Bytes.
     Bytes(RawAccess<'x, R, C>),
-    /// A list: its elements are still to be read.
+    /// A list, whose elements haven't been read.
     Seq(SeqAccess<'x, R, C>),
-    /// A map: its pairs are still to be read.
+    /// A map, whose pairs haven't been read.
     Map(MapAccess<'x, R, C>),
-    /// An extension: its bytes are still to be read.
+    /// An extension, whose bytes haven't been read.
     Ext(RawAccess<'x, R, C>),
 }
 
 impl<R: Source, C: SerializerConfig> Deserializer<R, C> {
-    // Takes the head of a message of any kind.
+    // Consumes the head of a message of any kind.
     #[inline(always)]
     fn open_any(&mut self) -> Result<(Marker, Head), Error>
         ensures begun { IfOk result (λ p. ReadsHead R.Source self.old self.new (Ok p)) }
@@ -195,7 +196,7 @@ impl<R: Source, C: SerializerConfig> Deserializer<R, C> {
         }
     }
 
-    // A leaf that was read whole.
+    // A message without parts, which was read whole.
     #[inline(always)]
     fn leaf<T: Copy>(&mut self, value: T) -> Leaf<'_, R, C, T>
         ensures same_reference { result.de.ghost_name ≡ self.entry.ghost_name }
@@ -206,10 +207,10 @@ impl<R: Source, C: SerializerConfig> Deserializer<R, C> {
         Leaf { de: self, value }
     }
 
-    /// Reads a message of any kind: a leaf whole, and of the others what opens them.
+    /// Reads a message of any kind: a number, a truth, nil or the bits of a float whole, and the head of any other.
     ///
     /// # Errors
-    /// `DepthLimitExceeded` for a list or map that would nest too deep.
+    /// `DepthLimitExceeded` for a list or map that nests too deep.
     #[inline(never)]
     pub fn deserialize_any(&mut self) -> Result<Any<'_, R, C>, Error>
         ensures* refused { sem 𝓛 (RestsIfErr (the_row R.row C.row) self.entry any_name result (λ last. IfErr result (FailsToOpenAny R.Source self.old last))) }
@@ -256,7 +257,7 @@ impl<R: Source, C: SerializerConfig> Deserializer<R, C> {
         }
     }
 
-    /// How deep the next message may nest: below this.
+    /// Returns the limit on the depth of the next message, which has to be below it.
     #[inline(always)]
     pub fn room(&self) -> u32
         ensures { result ≡ room_of self.now }
@@ -264,14 +265,14 @@ impl<R: Source, C: SerializerConfig> Deserializer<R, C> {
         self.room.max(1)
     }
 
-    /// Reads the head of a message alone, and leaves what follows it: the payload of a text, of bytes or of an extension, which
-    /// `append_content` takes, or the messages of a list or a map, one after another.
+    /// Reads only the head of a message. What follows remains: the payload of a text, of bytes or of an extension,
+    /// which `append_content` reads, or the messages of a list or a map, one after another.
     ///
-    /// No level of nesting is counted: a caller that reads by heads compares the levels with `room` itself.
+    /// It counts no level of nesting: a caller that reads by heads has to compare the levels with `room`.
     ///
     /// # Errors
-    /// `InvalidMarkerRead` where the input ends before the head, `InvalidDataRead` where it ends inside of it, `TypeMismatch` at the
-    /// byte c1, and `NotCanonical` at a head of another width while reading is strict.
+    /// `InvalidMarkerRead` if the input ends before the head, `InvalidDataRead` if it ends inside the head,
+    /// `TypeMismatch` at the byte c1, and in a strict read `NotCanonical` at a head that isn't canonical.
     #[inline(always)]
     pub fn deserialize_head(&mut self) -> Result<Head, Error>
         ensures ok { IfOk result (λ h. ConsumesHead R.Source h self.old (failed_of self.new)) }
@@ -293,10 +294,11 @@ impl<R: Source, C: SerializerConfig> Deserializer<R, C> {
         }
     }
 
-    /// Appends the payload of a head that was read, `len` bytes, to a vector.
+    /// Reads the payload of a head, `len` bytes, and appends it to a vector.
     ///
     /// # Errors
-    /// `InvalidDataRead` where it ends too soon or the source failed, and `OutOfMemory`. The vector stays then.
+    /// `InvalidDataRead` if the input ends too soon or the source fails, and `OutOfMemory`. Then the vector is
+    /// unchanged.
     #[inline(always)]
     pub fn append_content<P: ReadContent<R>>(
         &mut self,
@@ -318,10 +320,10 @@ impl<R: Source, C: SerializerConfig> Deserializer<R, C> {
         }
     }
 
-    /// Appends the payload of a text, which has to be UTF-8, to a vector.
+    /// Reads the payload of a text, which has to be UTF-8, and appends it to a vector.
     ///
     /// # Errors
-    /// `Utf8Error` where it isn't UTF-8, and otherwise as `append_content`. The vector stays then.
+    /// `Utf8Error` if it isn't UTF-8, and otherwise those of `append_content`. Then the vector is unchanged.
     #[inline(always)]
     pub fn append_text<P: ReadContent<R>>(
         &mut self,

@@ -33,9 +33,9 @@ use crate::text::Text;
 use rmp_wire::config::SerializerConfig;
 use rmp_wire::{ReadSlice, Source};
 
-/// The fields of a struct that is being read, each its place among the names and then its value.
+/// The fields of a struct that is being read: of each, its place among the names, and then its value.
 ///
-/// While it exists the reader counts as failed. `end` makes it ready again; an access that is dropped before leaves it failed.
+/// The reader counts as failed until `end` returns `Ok`; an access that is dropped earlier leaves it failed.
 #[derive(Drop)]
 pub struct FieldAccess<'x, R, C> {
     pub(crate) de: &'x mut Deserializer<R, C>,
@@ -47,7 +47,7 @@ pub struct FieldAccess<'x, R, C> {
     pub(crate) bytes: bool,
     pub(crate) owes: bool,
     pub(crate) sound: bool,
-    // the fields of a map that were met, a bit for each place
+    // the fields of a map that were read so far, a bit for each place
     pub(crate) met: u128,
 }
 
@@ -60,7 +60,7 @@ fn bit_of(place: usize) -> u128
 }
 
 impl<R: Source, C: SerializerConfig> Deserializer<R, C> {
-    // Takes the head of fields that are the content of a variant.
+    // Consumes the head of the fields that are a variant's content.
     #[inline(always)]
     pub(crate) fn open_struct_content(&mut self, inner: u32) -> Result<(Option<bool>, u32), Error>
         ensures ok { IfOk result (λ p. TakesHead R.Source (fields_head p.0 p.1) self.old self.new) }
@@ -91,21 +91,21 @@ impl<R: Source, C: SerializerConfig> Deserializer<R, C> {
 }
 
 impl<'x, R: Source, C: SerializerConfig> FieldAccess<'x, R, C> {
-    /// How many elements or pairs haven't begun.
+    /// Returns how many elements or pairs haven't begun.
     pub fn left(&self) -> u32
         ensures { result ≡ fields_left self.now }
     {
         self.left
     }
 
-    /// Whether a place was answered, and its value isn't read yet.
+    /// Returns whether a place was returned whose value hasn't been read.
     pub fn owes_value(&self) -> bool
         ensures { result ≡ owes_field self.now }
     {
         self.owes
     }
 
-    // Reads which of the names the next key is.
+    // Reads the next key, and returns which of the names it is.
     #[inline(always)]
     fn next_name<'de>(&mut self) -> Result<Option<usize>, Error>
     where
@@ -132,7 +132,7 @@ impl<'x, R: Source, C: SerializerConfig> FieldAccess<'x, R, C> {
         }
     }
 
-    // Passes over the value of the key that was read last.
+    // Skips the value of the last key.
     #[inline(always)]
     fn pass<'de>(&mut self) -> Result<(), Error>
     where
@@ -155,7 +155,7 @@ impl<'x, R: Source, C: SerializerConfig> FieldAccess<'x, R, C> {
         }
     }
 
-    // Reads the keys up to the first that is a name, and passes over the values of the others.
+    // Reads keys up to the next one that is a name, and skips the pairs of the others.
     #[inline(always)]
     fn next_named<'de>(&mut self) -> Result<Option<usize>, Error>
     where
@@ -232,13 +232,14 @@ impl<'x, R: Source, C: SerializerConfig> FieldAccess<'x, R, C> {
         Ok(())
     }
 
-    /// The place of the next field among the names, if there is one. From a list that is how many elements have begun; from a map
-    /// it is the first key that is a name, and pairs of no name are passed over. Its value has to be read next.
+    /// Returns the place of the next field among the names, if there is one. In a list it is the number of elements
+    /// before it. In a map it is that of the next key that is one of the names; other pairs are skipped. The field's
+    /// value has to be read next.
     ///
     /// # Errors
-    /// `Syntax("invalid length")` for a list of fewer elements than names; of a map those of a pair that is passed over,
-    /// `Syntax("invalid type")` for a key that is no text, bytes or number from 0 on, and `Syntax("duplicate field")` for a
-    /// name that was there before, whose value isn't looked at.
+    /// `Syntax("invalid length")` for a list of fewer elements than names. For a map: `Syntax("invalid type")` for a
+    /// key that is no text, bytes or number from 0 on, `Syntax("duplicate field")` for a second field of one name,
+    /// whose value isn't looked at, and the errors of a pair that is skipped.
     #[inline(always)]
     pub fn next_field<'de>(&mut self) -> Result<Option<usize>, Error>
     where
@@ -271,7 +272,7 @@ impl<'x, R: Source, C: SerializerConfig> FieldAccess<'x, R, C> {
         }
     }
 
-    // Takes the next byte of bytes and keeps it back. Before another value it does nothing.
+    // Where bytes are read as a list, consumes the next byte and keeps it back as a number. Otherwise it does nothing.
     #[inline(always)]
     fn offer(&mut self) -> Result<(), Error>
         ensures same_reference { self.new.de.ghost_name ≡ self.old.de.ghost_name }
@@ -298,10 +299,10 @@ impl<'x, R: Source, C: SerializerConfig> FieldAccess<'x, R, C> {
         }
     }
 
-    /// Reads the value of the field whose place was answered last.
+    /// Reads the value of the field whose place was returned last.
     ///
     /// # Errors
-    /// Those of the value's type, and `InvalidDataRead` where the bytes of a list of numbers end too soon.
+    /// Those of the value's type, and `InvalidDataRead` if bytes that are read as a list end too soon.
     #[inline(always)]
     pub fn next_value<'de, T: Deserialize<'de, R>>(&mut self) -> Result<T, Error>
     where
@@ -337,12 +338,12 @@ impl<'x, R: Source, C: SerializerConfig> FieldAccess<'x, R, C> {
         }
     }
 
-    /// Reads the value of the field whose place was answered last, by `f`. `f` is given a reader that is ready,
-    /// before the value. An `f` that answers `Ok` has to have read the value and nothing else.
+    /// Reads the value of the field whose place was returned last by `f`, which gets the reader before the value. An
+    /// `f` that returns `Ok` must have read the value and nothing else.
     ///
     /// # Errors
-    /// Those of `f`, and `Uncategorized("failed before")` where `f` answered `Ok` and left its reader failed. Where the
-    /// bytes of a list of numbers end too soon, `InvalidDataRead`, and `f` isn't called.
+    /// Those of `f`, and `Uncategorized("failed before")` if `f` returned `Ok` but left the reader failed.
+    /// `InvalidDataRead` if bytes that are read as a list end too soon, without calling `f`.
     #[inline(never)]
     pub fn next_value_with<X: Drop, F>(&mut self, f: F) -> Result<X, Error>
     where
@@ -376,10 +377,10 @@ impl<'x, R: Source, C: SerializerConfig> FieldAccess<'x, R, C> {
         }
     }
 
-    /// The value of a field that is missing: in a map what its type says, and in a list none.
+    /// Returns the value of a field that is missing: in a map the one that its type has for it, and in a list none.
     ///
     /// # Errors
-    /// `Syntax("missing field")` where there is none.
+    /// `Syntax("missing field")` if there is none.
     #[inline(always)]
     pub fn missing_field<'de, T: Deserialize<'de, R>>(&mut self) -> Result<T, Error>
     where
@@ -404,12 +405,12 @@ impl<'x, R: Source, C: SerializerConfig> FieldAccess<'x, R, C> {
         Err(Error::Syntax(Text::MissingField))
     }
 
-    /// Ends the struct, and makes the reader ready again.
+    /// Ends the struct. The reader is ready again.
     ///
-    /// The value of each field whose place was answered has to be read first.
+    /// The value of each field whose place was returned has to be read first.
     ///
     /// # Errors
-    /// `LengthMismatch` with the count of the elements or pairs that were read, where some are left. They aren't looked at.
+    /// `LengthMismatch` with the number of elements or pairs that were read, if any remain. They aren't looked at.
     #[inline(always)]
     pub fn end(self) -> Result<(), Error>
         requires { AtField self }
@@ -443,11 +444,11 @@ impl<'x, R: Source, C: SerializerConfig> FieldAccess<'x, R, C> {
 }
 
 impl<'x, R: Source, C: SerializerConfig> Variant<'x, R, C> {
-    /// Opens the content of a variant as the fields of a struct: a list, bytes as the list of their numbers, or a map from the
-    /// names, of which there may be 128. The fields' end is that of the variant.
+    /// Opens the content of a variant as the fields of a struct: a list, bytes as the list of their numbers, or a map
+    /// from the names, of which there may be 128. Ending the fields ends the variant.
     ///
     /// # Errors
-    /// `Syntax("invalid type")` where the variant is its name alone, and otherwise as `deserialize_struct`.
+    /// `Syntax("invalid type")` if the variant is only a name, and otherwise those of `deserialize_struct`.
     #[inline(always)]
     pub fn struct_variant(self, names: &'x [&'x str]) -> Result<FieldAccess<'x, R, C>, Error>
         requires few { length names.now ≤ 128 }

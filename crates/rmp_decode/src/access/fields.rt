@@ -36,13 +36,13 @@ use rmp_wire::{ReadSlice, Source};
 /// The fields of a struct in the order of their names: a pair of the first one's value and the others, a tuple of the first four and the others,
 /// or `()` for none.
 pub trait Fields<'de, R: ReadSlice<'de>>: Sized + Drop {
-    /// What was read of them so far.
+    /// What was read so far.
     type Slots: Drop;
 
     // How many there are.
     ghost count: { ℕ };
 
-    // Which trees, each in the place of its name or missing, are read as which values.
+    // Which trees, each at the place of its name or missing, are read as which values.
     ghost reads: { Bool → Bool → List (Option Msg) → Self → Type 0 };
 
     // What was read so far, of these trees.
@@ -58,7 +58,7 @@ pub trait Fields<'de, R: ReadSlice<'de>>: Sized + Drop {
     // What each field wants, in order.
     ghost parts: { List Part };
 
-    // Whether reading them may answer `OutOfMemory`, by whether the source lends what it has.
+    // Whether reading them may return `OutOfMemory`, by whether the source lends its bytes.
     ghost takes_memory: { Bool → Bool };
 
     ghost many: { length parts ≡ count };
@@ -71,16 +71,17 @@ pub trait Fields<'de, R: ReadSlice<'de>>: Sized + Drop {
     // Fields that are read are as many.
     ghost counted: { (human lends : Bool) (fs : List (Option Msg)) (v : Self) → reads human lends fs v → length fs ≡ count };
 
-    // What was read is all, where each of them is there.
+    // If each field was read, they are the value.
     ghost full: { (human lends : Bool) (ms : Msgs) (t : Self.Slots) → holds human lends (given_all ms) t
         → (v : Self) × reads human lends (given_all ms) v };
 
-    /// Nothing was read yet.
+    /// Returns the state in which nothing was read.
     fn empty() -> Self::Slots
         ensures { (human lends : Bool) (fs : List (Option Msg)) → AreBlank count fs → holds human lends fs result };
 
-    /// Reads the value of the key that was read last, as the field at the place, and says whether it wasn't refused. Why it was is put
-    /// into `refusal`, beside the answer: `Syntax("duplicate field")` where the field was read before, and then nothing is consumed.
+    /// Reads the value of the last key as the field at the place, and returns whether it succeeded. Otherwise the error
+    /// is put into `refusal`. If the field was already read, that is `Syntax("duplicate field")`, and nothing is
+    /// consumed.
     fn fill<'x, C: SerializerConfig>(
         slots: &mut Self::Slots,
         refusal: &mut Option<Error>,
@@ -101,13 +102,13 @@ pub trait Fields<'de, R: ReadSlice<'de>>: Sized + Drop {
             (holds (C.human (config_of (map_lender map.old))) R.lends) parts place map.old map.new slots.old) }
         ensures memory { takes_memory R.lends ≡ false → result ≡ false → IfSome refusal.new (λ e. e ≢ Error.OutOfMemory) };
 
-    /// The values, or `None` where one is missing.
+    /// Returns the values, or `None` if one is missing.
     fn finish(slots: Self::Slots) -> Option<Self>
         ensures { (human lends : Bool) (fs : List (Option Msg)) → holds human lends fs slots
             → MatchOption result ((v : Self) → reads human lends fs v → ⊥) (reads human lends fs) };
 
-    /// Reads as many messages as there are fields, one after another, each into the place of its field, and says whether none was
-    /// refused. Why one was is put into `refusal`, beside the answer, so that no read carries room for an error along.
+    /// Reads as many messages as there are fields, in order, each into the place of its field, and returns whether it
+    /// succeeded. Otherwise the error is put into `refusal`, so that no read has room for an error in its result.
     fn row<C: SerializerConfig>(
         slots: &mut Self::Slots,
         refusal: &mut Option<Error>,
@@ -127,7 +128,7 @@ pub trait Fields<'de, R: ReadSlice<'de>>: Sized + Drop {
     /// Reads the elements of a list as the fields.
     ///
     /// # Errors
-    /// `Syntax("invalid length")` where there are fewer elements.
+    /// `Syntax("invalid length")` if there are fewer elements.
     fn listed<'x, C: SerializerConfig>(seq: &mut SeqAccess<'x, R, C>) -> Result<Self, Error>
         requires { IsOpen seq.old }
         ensures same_reference { seq.new.de.ghost_name ≡ seq.old.de.ghost_name }
@@ -316,7 +317,7 @@ impl<'de, R: ReadSlice<'de>, A: Deserialize<'de, R>, B: Fields<'de, R>> Fields<'
     }
 }
 
-// A message that is passed over.
+// A message that is skipped.
 #[derive(Clone, Copy)]
 pub(crate) struct Passed;
 
@@ -360,7 +361,7 @@ fn refusal_in(refusal: Option<Error>) -> Error
 }
 
 impl<R: Source, C: SerializerConfig> Deserializer<R, C> {
-    // Reads which of the names a key is. The reader stays failed until the access ends.
+    // Reads a key, and returns which of the names it is. The reader counts as failed until the access ends.
     #[inline(always)]
     pub(crate) fn name_part<'de>(
         &mut self,
@@ -390,8 +391,8 @@ impl<R: Source, C: SerializerConfig> Deserializer<R, C> {
         }
     }
 
-    // Reads the place of the name that a key is, or the count of the names where it is none of them. A refusal is put into `refusal`. Out
-    // of line.
+    // Reads a key, and returns the place of its name, or the number of names if it is none of them. An error is put
+    // into `refusal`. Out of line.
     #[inline(never)]
     fn place_part<'de>(
         &mut self,
@@ -482,7 +483,7 @@ impl<R: Source, C: SerializerConfig> Deserializer<R, C> {
         }
     }
 
-    // Reads a tuple: a list of as many elements, or bytes of as many.
+    // Reads a tuple from a list of as many elements, or from as many bytes.
     #[inline(always)]
     pub(crate) fn tuple_parts<'de, F: Fields<'de, R>>(&mut self, count: usize) -> Result<F, Error>
     where
@@ -501,8 +502,8 @@ impl<R: Source, C: SerializerConfig> Deserializer<R, C> {
         }
     }
 
-    // Reads a tuple whose elements are counted as they are read. It is seldom called, and too large to be inlined beside the fast path. The
-    // caller destructures its result, so that the caller's own result stays in registers.
+    // Reads a tuple, and counts its elements as they are read. It is seldom called, and too large to be inlined beside
+    // the fast path. The caller takes the result apart, so that its own result stays in registers.
     fn opened_tuple<'de, F: Fields<'de, R>>(&mut self, count: usize) -> Result<F, Error>
     where
         R: ReadSlice<'de>,
@@ -524,14 +525,15 @@ impl<R: Source, C: SerializerConfig> Deserializer<R, C> {
         }
     }
 
-    /// Reads the fields of a struct, from a list, from bytes as the list of their numbers, or from a map by the names. In a map
-    /// they come in any order, and unknown names are skipped. A missing field has the value that its type says.
+    /// Reads the fields of a struct from a list, from bytes as the list of their numbers, or from a map by the names.
+    /// In a map they may have any order, and unknown names are skipped. A field that is missing has the value that its
+    /// type has for it.
     ///
     /// # Errors
-    /// Those of the fields' types; `Syntax("invalid type")` for another kind, and for a key that is no text, bytes or number
-    /// from 0 on, `DepthLimitExceeded` for a list or a map that would nest too deep, `Syntax("invalid length")` and
-    /// `LengthMismatch` for a list of fewer or more elements, `Syntax("duplicate field")` for a name that is there twice, and
-    /// `Syntax("missing field")` for one that has to be there and isn't.
+    /// Those of the fields' types; `Syntax("invalid type")` for another kind, and for a key that is no text, bytes or
+    /// number from 0 on; `DepthLimitExceeded` for a list or a map that nests too deep; `Syntax("invalid length")` and
+    /// `LengthMismatch` for a list of fewer or more elements; `Syntax("duplicate field")` for a second field of one
+    /// name; and `Syntax("missing field")` for a field that is missing and has no value for that.
     #[inline(always)]
     pub fn deserialize_fields<'de, F: Fields<'de, R>>(&mut self, names: &[&str]) -> Result<F, Error>
     where
@@ -541,7 +543,8 @@ impl<R: Source, C: SerializerConfig> Deserializer<R, C> {
             result }
         ensures refused { RefusesAs R.Source (C.human (config_of self.old)) R.lends (RefusesFields (bytes_of names.now) F.reads F.parts) self.old self.new
             result }
-        // Where the source lends, and no field's own read takes memory, only a list or a map of no name does that isn't empty.
+        // If the source lends its bytes, and no field's read allocates, memory can run out only at a skipped list or
+        // map that isn't empty.
         ensures memory { R.lends ≡ true → F.takes_memory R.lends ≡ false → IfErr result (λ e. e ≡ Error.OutOfMemory
             → PassesSome (bytes_of names.now) (setting_of (C.human (config_of self.old)) R.lends self.old) (left R.Source self.old) e) }
     {
@@ -610,8 +613,8 @@ impl<R: Source, C: SerializerConfig> Deserializer<R, C> {
 }
 
 impl<'x, R: Source, C: SerializerConfig> MapAccess<'x, R, C> {
-    // Reads which of the names the next key is: its place, or where it is none of them the count of the names. Why it is refused is put
-    // into `refusal`, so that no read carries room for an error along.
+    // Reads the next key, and returns the place of its name, or the number of names if it is none of them. An error is
+    // put into `refusal`, so that no read has room for an error in its result.
     #[inline(always)]
     fn next_place<'de>(&mut self, names: &[&str], refusal: &mut Option<Error>) -> Option<usize>
     where

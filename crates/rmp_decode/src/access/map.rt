@@ -16,9 +16,9 @@ use crate::text::Text;
 use rmp_wire::config::SerializerConfig;
 use rmp_wire::{ReadSlice, Source};
 
-/// The pairs of a map that is being read, each a key and then its value.
+/// The pairs of a map that is being read: of each, its key, and then its value.
 ///
-/// While it exists the reader counts as failed. `end` makes it ready again; an access that is dropped before leaves it failed.
+/// The reader counts as failed until `end` returns `Ok`; an access that is dropped earlier leaves it failed.
 #[derive(Drop)]
 pub struct MapAccess<'x, R, C> {
     pub(crate) de: &'x mut Deserializer<R, C>,
@@ -30,14 +30,14 @@ pub struct MapAccess<'x, R, C> {
 }
 
 impl<'x, R: Source, C: SerializerConfig> MapAccess<'x, R, C> {
-    /// How many pairs haven't begun.
+    /// Returns how many pairs haven't begun.
     pub fn left(&self) -> u32
         ensures { result ≡ pairs_left self.now }
     {
         self.left
     }
 
-    /// Whether a key was read, and its value not yet.
+    /// Returns whether a key was read whose value hasn't been read.
     pub fn owes_value(&self) -> bool
         ensures { result ≡ owes_value self.now }
     {
@@ -46,7 +46,7 @@ impl<'x, R: Source, C: SerializerConfig> MapAccess<'x, R, C> {
 
     /// Reads the next key, if there is one.
     ///
-    /// The value of the key before it has to be read first.
+    /// The value of the previous key has to be read first.
     #[inline(always)]
     pub fn next_key<'de, K: Deserialize<'de, R>>(&mut self) -> Result<Option<K>, Error>
     where
@@ -82,7 +82,7 @@ impl<'x, R: Source, C: SerializerConfig> MapAccess<'x, R, C> {
         }
     }
 
-    /// Reads the value of the key that was read last.
+    /// Reads the value of the last key.
     #[inline(always)]
     pub fn next_value<'de, V: Deserialize<'de, R>>(&mut self) -> Result<V, Error>
     where
@@ -113,13 +113,13 @@ impl<'x, R: Source, C: SerializerConfig> MapAccess<'x, R, C> {
         }
     }
 
-    /// Reads the next key by `f`, if there is one. `f` is given a reader that is ready, before the key. An `f`
-    /// that answers `Ok` has to have read the key and nothing else.
+    /// Reads the next key by `f`, if there is one. `f` gets the reader before the key. An `f` that returns `Ok` must
+    /// have read the key and nothing else.
     ///
-    /// The value of the key before it has to be read first.
+    /// The value of the previous key has to be read first.
     ///
     /// # Errors
-    /// Those of `f`, and `Uncategorized("failed before")` where `f` answered `Ok` and left its reader failed.
+    /// Those of `f`, and `Uncategorized("failed before")` if `f` returned `Ok` but left the reader failed.
     #[inline(never)]
     pub fn next_key_with<X: Drop, F>(&mut self, f: F) -> Result<Option<X>, Error>
     where
@@ -152,11 +152,11 @@ impl<'x, R: Source, C: SerializerConfig> MapAccess<'x, R, C> {
         }
     }
 
-    /// Reads the value of the key that was read last, by `f`. `f` is given a reader that is ready, before the
-    /// value. An `f` that answers `Ok` has to have read the value and nothing else.
+    /// Reads the value of the last key by `f`, which gets the reader before the value. An `f` that returns `Ok` must
+    /// have read the value and nothing else.
     ///
     /// # Errors
-    /// As `next_key_with`.
+    /// Those of `next_key_with`.
     #[inline(never)]
     pub fn next_value_with<X: Drop, F>(&mut self, f: F) -> Result<X, Error>
     where
@@ -183,12 +183,12 @@ impl<'x, R: Source, C: SerializerConfig> MapAccess<'x, R, C> {
         }
     }
 
-    /// Ends the map, and makes the reader ready again.
+    /// Ends the map. The reader is ready again.
     ///
-    /// The value of each key that was read has to be read first.
+    /// The value of the last key has to be read first.
     ///
     /// # Errors
-    /// `LengthMismatch` with the count of the pairs that were read, where some are left. They aren't looked at.
+    /// `LengthMismatch` with the number of pairs that were read, if any remain. They aren't looked at.
     #[inline(always)]
     pub fn end(self) -> Result<(), Error>
         requires { AtKey self }

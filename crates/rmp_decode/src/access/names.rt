@@ -1,4 +1,4 @@
-//! Names of fields, of which a message is one.
+//! Reads the names of fields.
 ghost use Rattle.std.specs.Prelude.{◌≡◌, ◌≢◌, ◌<◌, ◌≤◌, ℕ, List, true, length, IfErr, IfOk, IfSome, IfNone, OnOk};
 ghost use Rattle.std.specs.Io.KnownBytes.{Consumes};
 ghost use Rattle.rmp_wire.specs.Sources.{IsShort};
@@ -18,7 +18,7 @@ use crate::error::Error;
 use rmp_wire::config::SerializerConfig;
 use rmp_wire::{ReadSlice, Source};
 
-// The place of the first name that a text is.
+// The place of the first name that equals a text.
 #[inline(always)]
 pub(crate) fn place_of(names: &[&str], key: &[u8]) -> Option<usize>
     ensures { result ≡ place_of (bytes_of names.now) key.now }
@@ -31,7 +31,7 @@ pub(crate) fn place_of(names: &[&str], key: &[u8]) -> Option<usize>
     None
 }
 
-// The place of the first name that a text is, or where it is none the count of the names.
+// The place of the first name that equals a text, or the number of names if none does.
 #[inline(always)]
 fn place_or_count(names: &[&str], key: &[u8]) -> usize
     ensures place { below (length names.now) result ≡ place_of (bytes_of names.now) key.now }
@@ -43,8 +43,8 @@ fn place_or_count(names: &[&str], key: &[u8]) -> usize
     }
 }
 
-// A whole text at the front: the place of the name that it is, or the count of the names where it is none; and the count of its
-// bytes, with its head.
+// Of a text that is buffered whole: the place of its name, or the number of names if it is none of them, and the number
+// of its bytes with its head.
 #[inline(always)]
 fn name_at(front: &[u8], strict: bool, names: &[&str]) -> Option<(usize, usize)>
     ensures inside { IfSome result (λ p. TextIn strict p.1 (λ s. below (length names.now) p.0 ≡ place_of (bytes_of names.now) s) front.now) }
@@ -62,7 +62,7 @@ fn name_at(front: &[u8], strict: bool, names: &[&str]) -> Option<(usize, usize)>
     }
 }
 
-// A number as a place, where it is below how many there are.
+// A number as a place, if it is below the number of names.
 #[inline(always)]
 pub(crate) fn place_below(count: usize, z: i128) -> Option<Option<usize>>
     ensures { result ≡ place_below count z }
@@ -77,7 +77,7 @@ pub(crate) fn place_below(count: usize, z: i128) -> Option<Option<usize>>
     }
 }
 
-// The place of the first name that the next bytes are.
+// The place of the first name that equals the next bytes.
 #[inline(always)]
 pub(crate) fn next_place<'de, R: ReadSlice<'de>>(
     reader: &mut R,
@@ -100,8 +100,8 @@ pub(crate) fn next_place<'de, R: ReadSlice<'de>>(
 }
 
 impl<R: Source, C: SerializerConfig> Deserializer<R, C> {
-    // Consumes a buffered text, and answers the place of the name that it is, or the count of the names where it is none of them. With
-    // `only_names` another text isn't consumed. Returns `None` and consumes nothing otherwise.
+    // Consumes a buffered text, and returns the place of its name, or the number of names if it is none of them. With
+    // `only_names`, a text that is no name isn't consumed. Returns `None` and consumes nothing otherwise.
     #[inline(always)]
     pub(crate) fn take_name(&mut self, names: &[&str], only_names: bool) -> Option<usize>
         requires marked { is_failed self.old ≡ true }

@@ -56,7 +56,8 @@ impl<R: Source, C: SerializerConfig> Deserializer<R, C> {
         }
     }
 
-    // Consumes the head of a list or of bytes: that of a short list by the fast path, and where bytes are as likely that of bytes too.
+    // Consumes the head of a list or of bytes: that of a short list by the fast path, and with `bytes` that of bytes
+    // too.
     #[inline(always)]
     pub(crate) fn open_row(&mut self, bytes: bool) -> Result<(bool, u32), Error>
         ensures { TakesSeqHead R.Source self.old self.new result }
@@ -73,7 +74,7 @@ impl<R: Source, C: SerializerConfig> Deserializer<R, C> {
         }
     }
 
-    // Consumes the head of bytes by the fast path, if it may have any width, and any other out of line.
+    // Consumes the head of bytes by the fast path, unless reading is strict, and any other head out of line.
     #[inline(always)]
     fn open_bytes(&mut self) -> Result<(bool, u32), Error>
         ensures { TakesSeqHead R.Source self.old self.new result }
@@ -107,7 +108,7 @@ impl<R: Source, C: SerializerConfig> Deserializer<R, C> {
     /// Opens a list, or bytes as the list of their numbers.
     ///
     /// # Errors
-    /// `Syntax("invalid type")` for another kind, and `DepthLimitExceeded` for a list that would nest too deep.
+    /// `Syntax("invalid type")` for another kind, and `DepthLimitExceeded` for a list that nests too deep.
     #[inline(always)]
     pub fn deserialize_seq(&mut self) -> Result<SeqAccess<'_, R, C>, Error>
         ensures* refused { sem 𝓛 (RestsIfErr (the_row R.row C.row) self.entry (λ s. s.de.ghost_name) result
@@ -129,11 +130,11 @@ impl<R: Source, C: SerializerConfig> Deserializer<R, C> {
         }
     }
 
-    /// Opens a list, or bytes as the list of their numbers, for a tuple. The tuple's own reading says how many elements it
-    /// wants, so `len` isn't looked at.
+    /// Opens a list, or bytes as the list of their numbers, for a tuple. How many elements it has is up to the calls
+    /// that read them, so `len` isn't used.
     ///
     /// # Errors
-    /// As `deserialize_seq`.
+    /// Those of `deserialize_seq`.
     #[inline(always)]
     pub fn deserialize_tuple(&mut self, _len: usize) -> Result<SeqAccess<'_, R, C>, Error>
         ensures* refused { sem 𝓛 (RestsIfErr (the_row R.row C.row) self.entry (λ s. s.de.ghost_name) result
@@ -144,10 +145,10 @@ impl<R: Source, C: SerializerConfig> Deserializer<R, C> {
         self.deserialize_seq()
     }
 
-    /// Opens a list, or bytes as the list of their numbers, for a struct without names of fields. Its name isn't looked at.
+    /// Opens a list, or bytes as the list of their numbers, for a tuple struct. Its name isn't used.
     ///
     /// # Errors
-    /// As `deserialize_seq`.
+    /// Those of `deserialize_seq`.
     #[inline(always)]
     pub fn deserialize_tuple_struct(
         &mut self,
@@ -195,7 +196,7 @@ impl<R: Source, C: SerializerConfig> Deserializer<R, C> {
     /// Opens a map.
     ///
     /// # Errors
-    /// `Syntax("invalid type")` for another kind, and `DepthLimitExceeded` for a map that would nest too deep.
+    /// `Syntax("invalid type")` for another kind, and `DepthLimitExceeded` for a map that nests too deep.
     #[inline(always)]
     pub fn deserialize_map(&mut self) -> Result<MapAccess<'_, R, C>, Error>
         ensures* refused { sem 𝓛 (RestsIfErr (the_row R.row C.row) self.entry (λ a. a.de.ghost_name) result
@@ -251,11 +252,11 @@ impl<R: Source, C: SerializerConfig> Deserializer<R, C> {
         }
     }
 
-    /// Opens the fields of a struct: a list, bytes as the list of their numbers, or a map from the names. The struct's name
-    /// isn't looked at. There may be 128 names.
+    /// Opens the fields of a struct: a list, bytes as the list of their numbers, or a map from the names, of which
+    /// there may be 128. The struct's name isn't used.
     ///
     /// # Errors
-    /// `Syntax("invalid type")` for another kind, and `DepthLimitExceeded` for a list or a map that would nest too deep.
+    /// `Syntax("invalid type")` for another kind, and `DepthLimitExceeded` for a list or a map that nests too deep.
     #[inline(always)]
     pub fn deserialize_struct<'x>(
         &'x mut self,
@@ -298,15 +299,16 @@ impl<R: Source, C: SerializerConfig> Deserializer<R, C> {
         }
     }
 
-    /// Reads which variant of an enum is there: its place among the names, and the access to its content. A variant is its name
-    /// alone, or a map of one pair, from its name to its content; a name is a text or bytes, or a number as a place.
+    /// Reads a variant's name, and returns its place among the names with the access to the content. A variant is its
+    /// name, or a map of one pair from the name to the content. A name is a text, bytes, or a number that is its place.
     ///
-    /// The result is destructured by the caller: `match de.deserialize_enum(&names) { Ok((0, variant)) => .. }`.
+    /// Take the result apart where the call is: `match de.deserialize_enum(&names) { Ok((0, variant)) => .. }`.
     ///
     /// # Errors
-    /// `LengthMismatch` with the count of pairs of a map of another count, `DepthLimitExceeded` for a map of one pair that would
-    /// nest too deep, `Utf8Error` for a text that isn't UTF-8, `Syntax("unknown variant")` for another text, bytes or number
-    /// that is none of the names, and `Syntax("invalid type")` for a negative number and for another kind.
+    /// `LengthMismatch` with the number of pairs if a map hasn't one; `DepthLimitExceeded` for a map that nests too
+    /// deep; `Utf8Error` for a name that is a text but not UTF-8; `Syntax("unknown variant")` for any other text, bytes
+    /// or number from 0 on that is none of the names; and `Syntax("invalid type")` for a negative number and for
+    /// another kind.
     #[inline(always)]
     pub fn deserialize_enum<'de>(
         &mut self,
@@ -324,11 +326,11 @@ impl<R: Source, C: SerializerConfig> Deserializer<R, C> {
         self.deserialize_enum_by::<Slices<'de>>(names)
     }
 
-    /// Reads which variant of an enum is there, as `deserialize_enum` does. `P` says how payloads are read: a function that calls itself
-    /// may have no bound that names a lifetime, and is called with `Slices`.
+    /// Reads a variant's name, as `deserialize_enum` does, for recursive enums. `P` reads payloads: a recursive
+    /// function can't have a bound that names a lifetime, so its first caller passes `Slices`.
     ///
     /// # Errors
-    /// As `deserialize_enum`.
+    /// Those of `deserialize_enum`.
     #[inline(always)]
     pub fn deserialize_enum_by<P: ReadContent<R>>(
         &mut self,

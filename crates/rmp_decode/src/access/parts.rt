@@ -1,4 +1,4 @@
-//! One part of a list or a map, read with the room that the parts have.
+//! One part of a list or a map, read with the depth that is left for parts.
 ghost use Rattle.std.specs.Prelude.{◌≡◌, ◌≢◌, IfOk, IfErr, false, max};
 ghost use Rattle.std.specs.Fn.{FnOnceTakesAtMut};
 ghost use Rattle.rmp_decode.specs.MapRefusing.{PartRefused};
@@ -14,7 +14,7 @@ use rmp_wire::config::SerializerConfig;
 use rmp_wire::{ReadSlice, Source};
 
 impl<R: Source, C: SerializerConfig> Deserializer<R, C> {
-    // Reads a part that may nest as deep as `inner` says, and stays failed until the access to the parts ends.
+    // Reads a part that may nest as deep as `inner`. The reader counts as failed until the access to the parts ends.
     #[inline(always)]
     pub(crate) fn part<'de, T: Deserialize<'de, R>>(&mut self, inner: u32) -> Result<T, Error>
     where
@@ -27,7 +27,7 @@ impl<R: Source, C: SerializerConfig> Deserializer<R, C> {
         let outer = self.room;
         self.room = inner;
         self.failed = false;
-        // (each answer goes its own way, so that no error is carried along with a value)
+        // (each result is returned from its own arm, so that a value has no room for an error beside it)
         match T::deserialize(self) {
             Ok(v) => {
                 self.room = outer;
@@ -41,7 +41,7 @@ impl<R: Source, C: SerializerConfig> Deserializer<R, C> {
         }
     }
 
-    // Reads a part by `f`, which may nest as deep as `inner` says.
+    // Reads a part by `f`, which may nest as deep as `inner`.
     #[inline(always)]
     pub(crate) fn part_with<X: Drop, F>(&mut self, inner: u32, f: F) -> Result<X, Error>
     where

@@ -18,7 +18,7 @@ use rmp_wire::{IoFault, ReadSlice, Source};
 
 /// The elements of a list that is being read, or the numbers of bytes.
 ///
-/// While it exists the reader counts as failed. `end` makes it ready again; an access that is dropped before leaves it failed.
+/// The reader counts as failed until `end` returns `Ok`; an access that is dropped earlier leaves it failed.
 #[derive(Drop)]
 pub struct SeqAccess<'x, R, C> {
     pub(crate) de: &'x mut Deserializer<R, C>,
@@ -52,7 +52,7 @@ impl<R: Source, C: SerializerConfig> Deserializer<R, C> {
         }
     }
 
-    // Takes a byte, and keeps it back as a number. A buffered one is consumed by the fast path, which makes no error.
+    // Consumes a byte, and keeps it back as a number. The fast path is for a buffered byte, and makes no error.
     #[inline(always)]
     pub(crate) fn keep_byte(&mut self) -> Result<(), Error>
         ensures ok { OnOk result (KeepsByte R.Source self.old self.new) }
@@ -72,7 +72,7 @@ impl<R: Source, C: SerializerConfig> Deserializer<R, C> {
         }
     }
 
-    // Pulls a byte out of the source, and keeps it back as a number. The error is the source's fault alone.
+    // Pulls a byte from the source, and keeps it back as a number. The error is only the source's fault.
     #[inline(always)]
     fn pull_byte(&mut self) -> Result<(), IoFault>
         ensures ok { OnOk result (KeepsByte R.Source self.old self.new) }
@@ -92,8 +92,8 @@ impl<R: Source, C: SerializerConfig> Deserializer<R, C> {
         }
     }
 
-    // Prepares the next element: of bytes a byte is kept back as a number, and of a list nothing is done. It returns the fault where
-    // there is one, since a larger error would be prepared for each element.
+    // Prepares the next element: where bytes are read as a list, a byte is kept back as a number. It returns only the
+    // source's fault, since a larger error would be copied for each element.
     #[inline(always)]
     pub(crate) fn offer_part(&mut self, bytes: bool) -> Result<(), IoFault>
         ensures ok { OnOk result (OffersPart R.Source bytes self.old self.new) }
@@ -135,7 +135,7 @@ pub(crate) fn data_fault(fault: IoFault) -> Error
     Error::InvalidDataRead(fault)
 }
 
-// How deep an element may nest: bytes open no level.
+// How deep an element may nest. Bytes are no level of nesting.
 pub(crate) fn inner_room(room: u32, bytes: bool) -> u32
     ensures bytes { bytes ≡ true → result ≡ room }
     ensures list { bytes ≡ false → result ≡ room - 1 }
@@ -144,7 +144,7 @@ pub(crate) fn inner_room(room: u32, bytes: bool) -> u32
 }
 
 impl<'x, R: Source, C: SerializerConfig> SeqAccess<'x, R, C> {
-    /// How many elements remain.
+    /// Returns how many elements remain.
     pub fn left(&self) -> u32
         ensures { result ≡ left_in self.now }
     {
@@ -179,7 +179,7 @@ impl<'x, R: Source, C: SerializerConfig> SeqAccess<'x, R, C> {
         }
     }
 
-    // Reads a byte of bytes as a number. It has no hint, so that what a list's element inlines stays small.
+    // Reads a byte as a number. It has no hint to inline, so that the read of a list's element stays small.
     fn numbered<'de, T: Deserialize<'de, R>>(&mut self) -> Result<T, Error>
     where
         R: ReadSlice<'de>,
@@ -249,7 +249,7 @@ impl<'x, R: Source, C: SerializerConfig> SeqAccess<'x, R, C> {
     /// Reads the next element, which has to be there.
     ///
     /// # Errors
-    /// `Syntax("invalid length")` where there is none.
+    /// `Syntax("invalid length")` if there is none.
     #[inline(always)]
     pub fn element<'de, T: Deserialize<'de, R>>(&mut self) -> Result<T, Error>
     where
@@ -275,7 +275,7 @@ impl<'x, R: Source, C: SerializerConfig> SeqAccess<'x, R, C> {
         }
     }
 
-    // Takes the next byte of bytes and keeps it back. Before an element of a list it does nothing.
+    // Where bytes are read as a list, consumes the next byte and keeps it back as a number. Otherwise it does nothing.
     #[inline(never)]
     fn offer(&mut self) -> Result<(), Error>
         ensures same_reference { self.new.de.ghost_name ≡ self.old.de.ghost_name }
@@ -301,12 +301,12 @@ impl<'x, R: Source, C: SerializerConfig> SeqAccess<'x, R, C> {
         }
     }
 
-    /// Reads the next element by `f`, if there is one. `f` is given a reader that is ready, before the element.
-    /// An `f` that answers `Ok` has to have read the element and nothing else.
+    /// Reads the next element by `f`, if there is one. `f` gets the reader before the element. An `f` that returns `Ok`
+    /// must have read the element and nothing else.
     ///
     /// # Errors
-    /// Those of `f`, and `Uncategorized("failed before")` where `f` answered `Ok` and left its reader failed. Where the
-    /// bytes of a list of numbers end too soon, `InvalidDataRead`, and `f` isn't called.
+    /// Those of `f`, and `Uncategorized("failed before")` if `f` returned `Ok` but left the reader failed.
+    /// `InvalidDataRead` if bytes that are read as a list end too soon, without calling `f`.
     #[inline(never)]
     pub fn next_element_with<X: Drop, F>(&mut self, f: F) -> Result<Option<X>, Error>
     where
@@ -342,10 +342,10 @@ impl<'x, R: Source, C: SerializerConfig> SeqAccess<'x, R, C> {
         }
     }
 
-    /// Ends the list, and makes the reader ready again.
+    /// Ends the list. The reader is ready again.
     ///
     /// # Errors
-    /// `LengthMismatch` with the count of the elements that were read, where some are left. They aren't looked at.
+    /// `LengthMismatch` with the number of elements that were read, if any remain. They aren't looked at.
     #[inline(always)]
     pub fn end(self) -> Result<(), Error>
         ensures ok { IsOpen self.entry → OnOk result ((left_in self.entry ≡ 0) × (self.exit.0.now ≡ record (lender_of self.entry) { failed = false })) }

@@ -1,4 +1,4 @@
-//! Enums: a variant is its name alone, or a map of one pair, from the name to the variant's content.
+//! Reads enums. A variant is its name, or a map of one pair from the name to the content.
 ghost use Rattle.std.specs.Prelude.{◌≡◌, ◌≢◌, ◌<◌, ◌-◌, ℕ, ℤ, Err, Some, None, true, false, IfOk, IfErr, IfSome, IfNone, OnOk, OnErr, length, max};
 ghost use Rattle.std.specs.Borrow.{sem, RestsIfErr};
 ghost use Rattle.std.specs.Fn.{FnOnceTakesAtMut};
@@ -38,10 +38,10 @@ use rmp_wire::config::SerializerConfig;
 use rmp_wire::{Head, Marker, ReadSlice, Source};
 use std::str;
 
-/// A variant of an enum whose name was read, and whose content, if there is any, is still to be read.
+/// A variant of an enum whose name was read, but not its content.
 ///
-/// While it exists the reader counts as failed. Reading the content, or that there is none, makes it ready again; a variant that
-/// is dropped before leaves it failed.
+/// The reader counts as failed until the content is read, or it is read that there is none; a variant that is dropped
+/// earlier leaves it failed.
 #[derive(Drop)]
 pub struct Variant<'x, R, C> {
     pub(crate) de: &'x mut Deserializer<R, C>,
@@ -49,7 +49,7 @@ pub struct Variant<'x, R, C> {
     pub(crate) inner: u32,
 }
 
-// The refusal of a text or of bytes that are the name of no variant.
+// The error of a text or of bytes that are no variant's name.
 #[inline(never)]
 fn unknown_name(is_text: bool, bytes: &[u8]) -> Error
     ensures { unknown_name (raw_head is_text (length bytes.now)) bytes.now result }
@@ -64,7 +64,7 @@ fn unknown_name(is_text: bool, bytes: &[u8]) -> Error
     }
 }
 
-// The place of the variant whose name a text or bytes are.
+// The place of the variant with this name, a text or bytes.
 #[inline(always)]
 fn place_named(names: &[&str], is_text: bool, bytes: &[u8]) -> Result<usize, Error>
     ensures ok { IfOk result (λ n. place_of (bytes_of names.now) bytes.now ≡ Some n) }
@@ -77,7 +77,7 @@ fn place_named(names: &[&str], is_text: bool, bytes: &[u8]) -> Result<usize, Err
     }
 }
 
-// The place of the variant whose name the next bytes are.
+// The place of the variant whose name is the next bytes.
 #[inline(always)]
 pub(crate) fn next_variant<'de, R: ReadSlice<'de>>(
     reader: &mut R,
@@ -104,7 +104,7 @@ pub(crate) fn next_variant<'de, R: ReadSlice<'de>>(
     }
 }
 
-// The place that a number names, of `count` places.
+// A number as a place, if it is below `count`.
 #[inline(always)]
 fn numbered_place(count: usize, z: i128) -> Result<usize, Error>
     ensures ok { IfOk result (λ n. place_below count z ≡ Some (Some n)) }
@@ -119,7 +119,7 @@ fn numbered_place(count: usize, z: i128) -> Result<usize, Error>
     }
 }
 
-// The place that a head is which opens no text and no bytes.
+// The place that a head is, which isn't that of a text or of bytes.
 #[inline(always)]
 fn place_in(count: usize, head: Head) -> Result<usize, Error>
     ensures ok { IfOk result (λ n. (z : ℤ) × (head ≡ Head.Whole z) × (place_below count z ≡ Some (Some n))) }
@@ -191,7 +191,7 @@ impl<R: Source, C: SerializerConfig> Deserializer<R, C> {
         }
     }
 
-    // Reads the name of a variant as the key of a map, and stays failed until the content is read.
+    // Reads a variant's name as the key of a map. The reader counts as failed until the content is read.
     #[inline(always)]
     fn name_of_pair<P: ReadContent<R>>(&mut self, names: &[&str]) -> Result<usize, Error>
         ensures ok { IfOk result (TakesPart R.Source (IsPlace (bytes_of names.now)) (max 1 (self.old.room - 1)) self.old self.new) }
@@ -209,7 +209,7 @@ impl<R: Source, C: SerializerConfig> Deserializer<R, C> {
         }
     }
 
-    // Reads a name as the key of a map, out of line, and says that it has content.
+    // Reads a variant's name as the key of a map, out of line.
     #[inline(never)]
     fn slow_pair<P: ReadContent<R>>(&mut self, names: &[&str]) -> Result<(usize, bool), Error>
         ensures ok { IfOk result (λ p. TakesPart R.Source (IsPlace (bytes_of names.now)) (max 1 (self.old.room - 1)) self.old self.new p.0) }
@@ -250,8 +250,8 @@ impl<R: Source, C: SerializerConfig> Deserializer<R, C> {
         }
     }
 
-    // Consumes what precedes the content of a variant. Returns its place, and whether it is a name alone. What is buffered is read by
-    // the fast path.
+    // Consumes what precedes a variant's content. Returns the variant's place, and whether it is only a name. The fast
+    // path is for buffered bytes.
     #[inline(always)]
     pub(crate) fn open_variant<P: ReadContent<R>>(
         &mut self,
@@ -316,7 +316,7 @@ impl<R: Source, C: SerializerConfig> Deserializer<R, C> {
         }
     }
 
-    // Takes the head of a list or of bytes as the content of a variant.
+    // Consumes the head of a list or of bytes that are a variant's content.
     #[inline(always)]
     fn open_content(&mut self, inner: u32) -> Result<(bool, u32), Error>
         ensures ok { IfOk result (λ p. TakesHead R.Source (seq_head p.0 p.1) self.old self.new) }
@@ -366,17 +366,17 @@ impl<R: Source, C: SerializerConfig> Deserializer<R, C> {
 }
 
 impl<'x, R: Source, C: SerializerConfig> Variant<'x, R, C> {
-    /// Whether the variant is its name alone, without content.
+    /// Returns whether the variant is only a name, without content.
     pub fn is_bare(&self) -> bool
         ensures { result ≡ is_bare self.now }
     {
         self.bare
     }
 
-    /// Reads a variant without content: its name alone, or nil as its content.
+    /// Reads a variant without content: only a name, or nil as the content.
     ///
     /// # Errors
-    /// `TypeMismatch` with the marker of other content.
+    /// `TypeMismatch` with the marker of the content, if it isn't nil.
     #[inline(always)]
     pub fn unit_variant(self) -> Result<(), Error>
         ensures ok { OnOk result (ReadsBare R.Source self.entry self.exit.0.now) }
@@ -401,7 +401,7 @@ impl<'x, R: Source, C: SerializerConfig> Variant<'x, R, C> {
     /// Reads the content of a variant.
     ///
     /// # Errors
-    /// `Syntax("invalid type")` where the name has no content, and otherwise those of the content's type.
+    /// `Syntax("invalid type")` if the variant is only a name, and otherwise those of the content's type.
     #[inline(always)]
     pub fn newtype_variant<'de, T: Deserialize<'de, R>>(self) -> Result<T, Error>
     where
@@ -425,12 +425,12 @@ impl<'x, R: Source, C: SerializerConfig> Variant<'x, R, C> {
         Ok(content)
     }
 
-    /// Reads the content of a variant by `f`. `f` is given a reader that is ready, before the content. An `f` that
-    /// answers `Ok` has to have read the content and nothing else.
+    /// Reads the content of a variant by `f`, which gets the reader before the content. An `f` that returns `Ok` must
+    /// have read the content and nothing else.
     ///
     /// # Errors
-    /// `Syntax("invalid type")` where the name has no content, and `f` isn't called; those of `f`; and
-    /// `Uncategorized("failed before")` where `f` answered `Ok` and left its reader failed.
+    /// `Syntax("invalid type")` if the variant is only a name, without calling `f`; those of `f`; and
+    /// `Uncategorized("failed before")` if `f` returned `Ok` but left the reader failed.
     #[inline(never)]
     pub fn newtype_variant_with<X: Drop, F>(self, f: F) -> Result<X, Error>
     where
@@ -451,11 +451,11 @@ impl<'x, R: Source, C: SerializerConfig> Variant<'x, R, C> {
         Ok(content)
     }
 
-    /// Opens the content of a variant as a list, or bytes as the list of their numbers. Its end is that of the variant. How many
-    /// elements are wanted is said by who reads them, so `len` isn't looked at.
+    /// Opens the content of a variant as a list, or bytes as the list of their numbers. Ending the list ends the
+    /// variant. How many elements it has is up to the calls that read them, so `len` isn't used.
     ///
     /// # Errors
-    /// `Syntax("invalid type")` where the name has no content, and otherwise as `deserialize_seq`.
+    /// `Syntax("invalid type")` if the variant is only a name, and otherwise those of `deserialize_seq`.
     #[inline(always)]
     pub fn tuple_variant(self, _len: usize) -> Result<SeqAccess<'x, R, C>, Error>
         ensures* refused { sem 𝓛 (RestsIfErr (the_row R.row C.row) self.entry.de (λ s. s.de.ghost_name) result
@@ -485,7 +485,7 @@ impl<'x, R: Source, C: SerializerConfig> Variant<'x, R, C> {
     /// Reads the content of a variant as the fields of a struct, by their names.
     ///
     /// # Errors
-    /// `Syntax("invalid type")` where the name has no content, and otherwise as `deserialize_fields`.
+    /// `Syntax("invalid type")` if the variant is only a name, and otherwise those of `deserialize_fields`.
     #[inline(always)]
     pub fn fields_variant<'de, F: Fields<'de, R>>(self, names: &[&str]) -> Result<F, Error>
     where
@@ -498,7 +498,7 @@ impl<'x, R: Source, C: SerializerConfig> Variant<'x, R, C> {
         ensures bare { is_bare self.entry ≡ true → (result ≡ Err (Error.Syntax Text.InvalidType)) × (self.exit.0.now ≡ variant_lender self.entry) }
         ensures refused { is_bare self.entry ≡ false → IfErr result (PartRefused R.Source (C.human (config_of (variant_lender self.entry)))
             R.lends (RefusesFields (bytes_of names.now) F.reads F.parts) (max 1 (content_room self.entry)) (variant_lender self.entry) self.exit.0.now) }
-        // As of `deserialize_fields`.
+        // As the clause of `deserialize_fields`.
         ensures memory { R.lends ≡ true → F.takes_memory R.lends ≡ false → IfErr result (λ e. e ≡ Error.OutOfMemory
             → PassesSome (bytes_of names.now) (setting_of (C.human (config_of (variant_lender self.entry))) R.lends
             (part_reader (variant_lender self.entry) (content_room self.entry))) (left R.Source (variant_lender self.entry)) e) }

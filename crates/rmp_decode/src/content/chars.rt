@@ -138,8 +138,8 @@ fn char_ahead<S: Source>(source: &mut S, len: u32) -> Option<char>
     Some(c)
 }
 
-// How a character is read that doesn't lie ahead whole, in a bound that names no lifetime: a function that hands on a closure has
-// none that does.
+// Reads a character that isn't buffered whole. The bound names no lifetime, since a function that passes a closure can
+// have none that does.
 pub(crate) trait ReadChar<R: Source> {
     ghost lends: { Bool };
 

@@ -11,7 +11,7 @@ use core::mem::replace_with;
 use rmp_wire::config::SerializerConfig;
 use rmp_wire::{ReadSlice, Source};
 
-// A read that goes by `head`. Its bound names no lifetime, since a function that hands on a closure may have none that does.
+// A read on the slow path. The bound names no lifetime, since a function that passes a closure can have none that does.
 pub(crate) trait Cold<R: Source, V: Drop> {
     ghost use Rattle.std.specs.Prelude.{ℕ, List};
     ghost use Rattle.rmp_wire.specs.Msg.{Msg};
@@ -36,7 +36,7 @@ pub(crate) trait Cold<R: Source, V: Drop> {
         ensures memory { lends ≡ true → IfErr result (λ e. e ≢ Error.OutOfMemory) };
 }
 
-// A slow read on a moved reader: so the parts of the caller's reader stay in registers.
+// A slow read on a moved reader, so that the fields of the caller's reader stay in registers.
 #[inline(always)]
 pub(crate) fn read_cold<R: Source, C: SerializerConfig, V: Drop, P: Cold<R, V>>(
     de: &mut Deserializer<R, C>,

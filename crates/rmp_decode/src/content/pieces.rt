@@ -28,7 +28,7 @@ pub(crate) fn error_of(fault: SourceFault) -> Error
     }
 }
 
-// The next bytes, lent for the input's whole life where the source lends.
+// The next bytes, borrowed for the lifetime of the input if the source lends them.
 #[inline(always)]
 pub(crate) fn lent<'de, R: ReadSlice<'de>>(
     reader: &mut R,
@@ -51,7 +51,7 @@ pub(crate) fn lent<'de, R: ReadSlice<'de>>(
     }
 }
 
-// The refusal of a text or of bytes that can't be lent.
+// The error of a text or of bytes that can't be borrowed.
 #[inline(never)]
 fn not_lent(is_text: bool, bytes: &[u8]) -> Error
     ensures { not_lent (raw_head is_text (length bytes.now)) bytes.now result }
@@ -66,7 +66,8 @@ fn not_lent(is_text: bool, bytes: &[u8]) -> Error
     }
 }
 
-// The content of a text or of bytes, lent for the input's whole life; where the source doesn't lend, it is refused.
+// The payload of a text or of bytes, borrowed for the lifetime of the input, or an error if the source doesn't lend its
+// bytes.
 #[inline(always)]
 pub(crate) fn lent_content<'de, R: ReadSlice<'de>>(
     reader: &mut R,

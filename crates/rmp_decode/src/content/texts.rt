@@ -31,7 +31,7 @@ use rmp_wire::{Ext, Head, ReadSlice, Source};
 use std::str;
 use std::str::Utf8Error;
 
-// The refusal of bytes that aren't UTF-8.
+// The error of bytes that aren't UTF-8.
 fn not_utf8(is_text: bool, e: Utf8Error) -> Error
     ensures text { is_text ≡ true → IsUtf8Error result }
     ensures bytes { is_text ≡ false → result ≡ Error.Syntax Text.InvalidValue }
@@ -44,7 +44,7 @@ fn not_utf8(is_text: bool, e: Utf8Error) -> Error
 }
 
 impl<R: Source, C: SerializerConfig> Deserializer<R, C> {
-    // Borrows the bytes of a text or of bytes, and tells whether they are a text's.
+    // Borrows a text or bytes, and returns whether it was a text.
     #[inline(always)]
     fn lent_raw<'de>(&mut self) -> Result<(bool, &'de [u8]), Error>
     where
@@ -71,7 +71,7 @@ impl<R: Source, C: SerializerConfig> Deserializer<R, C> {
         }
     }
 
-    // Copies the bytes of a text or of bytes into a vector, and tells whether they are a text's.
+    // Copies a text or bytes into a vector, and returns whether it was a text.
     fn owned_raw<'de>(&mut self) -> Result<(bool, Vec<u8>), Error>
     where
         R: ReadSlice<'de>,
@@ -105,10 +105,10 @@ impl<R: Source, C: SerializerConfig> Deserializer<R, C> {
         }
     }
 
-    /// Reads the bytes of a text, which may be no UTF-8, or of bytes, into a vector, and says whether they are a text's.
+    /// Reads a text, which needn't be UTF-8, or bytes, into a vector, and returns whether it was a text.
     ///
     /// # Errors
-    /// `Syntax("invalid type")` for a message of another kind.
+    /// `Syntax("invalid type")` for another kind.
     pub fn deserialize_raw<'de>(&mut self) -> Result<(bool, Vec<u8>), Error>
     where
         R: ReadSlice<'de>,
@@ -125,7 +125,8 @@ impl<R: Source, C: SerializerConfig> Deserializer<R, C> {
     /// Reads a text of one character.
     ///
     /// # Errors
-    /// `Utf8Error` for a text that isn't UTF-8, and `Syntax("invalid value")` for one of another count of characters.
+    /// `Utf8Error` for a text that isn't UTF-8, and `Syntax("invalid value")` for a text of another number of
+    /// characters.
     #[inline(always)]
     pub fn deserialize_char<'de>(&mut self) -> Result<char, Error>
     where
@@ -185,10 +186,11 @@ impl<R: Source, C: SerializerConfig> Deserializer<R, C> {
         }
     }
 
-    /// Reads the bytes of a text, which may be no UTF-8, or of bytes, and lends them for the input's whole life, without memory.
+    /// Reads a text or bytes, borrowed for the lifetime of the input. Allocates nothing.
     ///
     /// # Errors
-    /// Where the source doesn't lend, `Utf8Error` for a text that isn't UTF-8, and else `Syntax("invalid type")`.
+    /// If the source doesn't lend its bytes, `Utf8Error` for a text that isn't UTF-8, and `Syntax("invalid type")` for
+    /// any other.
     #[inline(always)]
     pub fn deserialize_bytes<'de>(&mut self) -> Result<&'de [u8], Error>
     where
@@ -239,11 +241,11 @@ impl<R: Source, C: SerializerConfig> Deserializer<R, C> {
         }
     }
 
-    /// Reads a text, or bytes that are UTF-8, and lends it for the input's whole life, without memory.
+    /// Reads a text, or bytes that are UTF-8, borrowed for the lifetime of the input. Allocates nothing.
     ///
     /// # Errors
-    /// `Utf8Error` for a text that isn't UTF-8, and `Syntax("invalid value")` for bytes that aren't. Where the source doesn't
-    /// lend, bytes and a text that is UTF-8 are `Syntax("invalid type")`.
+    /// `Utf8Error` for a text that isn't UTF-8, and `Syntax("invalid value")` for bytes that aren't. If the source
+    /// doesn't lend its bytes, `Syntax("invalid type")` for bytes, and for a text that is UTF-8.
     #[inline(always)]
     pub fn deserialize_str<'de>(&mut self) -> Result<&'de str, Error>
     where
@@ -319,7 +321,7 @@ impl<R: Source, C: SerializerConfig> Deserializer<R, C> {
         }
     }
 
-    // Reads the payload of a text, `len` bytes. They are checked where they are buffered, and copied once.
+    // Reads the payload of a text, `len` bytes. Buffered bytes are checked in place, and copied once.
     #[inline(never)]
     pub(crate) fn string_payload<'de>(&mut self, len: u32) -> Result<String, Error>
     where
@@ -366,18 +368,18 @@ impl<R: Source, C: SerializerConfig> Deserializer<R, C> {
         }
     }
 
-    /// Reads the bytes of a text, which may be no UTF-8, or of bytes, or a list of numbers up to 255.
+    /// Reads a text, which needn't be UTF-8, bytes, or a list of numbers up to 255, as bytes.
     ///
     /// # Errors
-    /// `Syntax("invalid type")` for another kind, and `DepthLimitExceeded` for a list that would nest too deep. An element is
-    /// refused as `deserialize_u8` refuses it.
+    /// `Syntax("invalid type")` for another kind, `DepthLimitExceeded` for a list that nests too deep, and for an
+    /// element those of `deserialize_u8`.
     #[inline(always)]
     pub fn deserialize_byte_buf<'de>(&mut self) -> Result<Vec<u8>, Error>
     where
         R: ReadSlice<'de>,
         ensures law { Lawful R.Source (λ m v. IsBuffer m v.items) self.old self.new result }
         ensures exact { RefusesLeaf R.Source IsBufferHead not_raw not_buffer self.old self.new result }
-        // A list is refused as a whole where it would nest too deep, and else at an item.
+        // A list is refused at its head if it nests too deep, and otherwise at an item.
         ensures list { is_failed self.old ≡ false → IfErr result (RefusesList R.Source self.old self.new) }
     {
         match self.take(BinHead) {
@@ -464,10 +466,10 @@ impl<R: Source, C: SerializerConfig> Deserializer<R, C> {
         Ok(items)
     }
 
-    /// Reads an extension. It opens no level of nesting.
+    /// Reads an extension. It is no level of nesting.
     ///
     /// # Errors
-    /// `TypeMismatch` with the marker that was there, for another kind.
+    /// `TypeMismatch` with the marker of a message of another kind.
     #[inline(always)]
     pub fn deserialize_ext<'de>(&mut self) -> Result<Ext, Error>
     where
@@ -515,8 +517,8 @@ impl<R: Source, C: SerializerConfig> Deserializer<R, C> {
         }
     }
 
-    /// Reads which of the names a message is: a text or bytes that are that name, or a number as its place. Another text, other
-    /// bytes, and a number from the count of the names on are `None`. Of equal names it is the first.
+    /// Reads a name, and returns its place among the names: a text or bytes equal to one of them, or a number that is
+    /// the place. `None` is any other text, bytes, or number from 0 on. Of equal names it is the first.
     ///
     /// # Errors
     /// `Syntax("invalid type")` for another kind, and for a negative number.

@@ -107,7 +107,7 @@ fn array_row<'de, R: ReadSlice<'de>, C: SerializerConfig, T: Deserialize<'de, R>
     }
 }
 
-// Reads `count` numbers of bytes. The reader is moved into a local variable and back.
+// Reads `count` bytes as numbers. The reader is moved into a local variable and back.
 #[inline(always)]
 fn number_row<'de, R: ReadSlice<'de>, C: SerializerConfig, T: Deserialize<'de, R>, const N: usize>(
     de: &mut Deserializer<R, C>,

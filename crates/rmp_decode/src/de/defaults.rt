@@ -8,10 +8,10 @@ use crate::error::Error;
 use rmp_wire::ReadSlice;
 use rmp_wire::config::SerializerConfig;
 
-/// The value of a field that has a default, or `None` where the field isn't in a map.
+/// The value of a field that has a default, or `None` if a map doesn't have the field.
 ///
-/// Any message that is there is read as a `T`, so nil isn't `None`, unlike an `Option`. tools/derive.py reads the fields that a
-/// `// derive: default` is above as this, and puts the default in the place of `None`.
+/// Any message that is there is read as a `T`, so unlike for an `Option`, nil isn't `None`. tools/derive.py reads
+/// fields with a `// derive: default` as this type, and replaces `None` by the default.
 #[derive(Drop)]
 pub struct Defaulted<T> {
     pub value: Option<T>,

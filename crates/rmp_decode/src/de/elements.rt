@@ -14,9 +14,9 @@ use rmp_wire::{ReadSlice, Source};
 use std::marker::PhantomData;
 use std::mem::size_of_val;
 
-// What elements are put into.
+// A collection that elements are read into.
 pub(crate) trait Row<T: Drop>: Drop {
-    // whether these are the values that were put into it
+    // whether it has these values
     ghost holds: { Self → List T → Type 0 };
 
     // how many it takes of a count
@@ -25,27 +25,28 @@ pub(crate) trait Row<T: Drop>: Drop {
     // whether memory may be short for an element
     ghost grows: { Bool };
 
-    // How many it takes of a count.
+    // Returns how many elements it takes of a count.
     fn wanted(count: u32) -> u32
         ensures most { result ≡ most count }
         ensures within { result ≤ count };
 
-    // Appends an element to the `at` others, and says whether it could. `left` more follow.
+    // Appends an element to the `at` others, of which `left` more follow. Returns whether it could.
     fn put(&mut self, item: T, at: u32, left: u32) -> bool
         requires { (vs : List T) × (all : ℕ) × holds self.old vs × (length vs ≡ at) × (at < most all) }
         ensures held { result ≡ true → (vs : List T) → holds self.old vs → length vs ≡ at → holds self.new (vs ++ item ∷ []) }
         ensures full { result ≡ false → grows ≡ true };
 }
 
-// Whether an element is as small as a byte, so that bytes are a likely form of many.
+// Whether an element is as small as a byte, so that many of them are likely to come as bytes.
 #[inline(always)]
 pub(crate) fn is_small<T: Drop>() -> bool {
     let none: Option<T> = None;
     size_of_val(&none) <= 2
 }
 
-// Reads `count` elements of a list, or numbers of bytes, from a reader that has read the head, and returns how many are left. The depth is
-// set once for all of them. What each read says of the reader is set again, so that the next one needn't look.
+// Reads `count` elements of a list, or bytes as numbers, after the head was consumed, and returns how many remain. The
+// depth is set once for all of them. What each read leaves of the reader is set again, so that the compiler knows it
+// for the next one.
 #[inline(always)]
 pub(crate) fn read_row<
     'de,
@@ -97,8 +98,8 @@ pub(crate) fn read_row<
     Ok(left)
 }
 
-// How numbers of bytes are read into what holds them, in a bound that names no lifetime: a function that hands on a closure has none that
-// does.
+// Reads bytes as numbers into a collection. The bound names no lifetime, since a function that passes a closure can
+// have none that does.
 pub(crate) trait ReadNumbers<R: Source, T: Drop, W: Row<T>> {
     ghost use Rattle.std.specs.Prelude.{Bool};
     ghost use Rattle.rmp_wire.specs.Msg.{Msg};
@@ -145,7 +146,7 @@ impl<'de, R: ReadSlice<'de>, T: Deserialize<'de, R>, W: Row<T>> ReadNumbers<R, T
     }
 }
 
-// Reads numbers of bytes. The reader is moved into a local variable and back, so that its fields stay in registers.
+// Reads bytes as numbers. The reader is moved into a local variable and back, so that its fields stay in registers.
 #[inline(always)]
 pub(crate) fn numbers_taken_out<
     R: Source,

@@ -32,7 +32,7 @@ impl<T: Drop> Row<T> for Vec<T> {
         count
     }
 
-    // Only once there is a first element it makes room for those to come.
+    // It makes room for further elements only after the first one was read.
     #[inline(always)]
     fn put(&mut self, item: T, _at: u32, left: u32) -> bool {
         if self.len() >= self.capacity() && !made_room(self, left) {
@@ -80,7 +80,7 @@ fn make_room<T: Drop>(items: &mut Vec<T>, left: u32) -> bool
     items.reserve(1).is_ok()
 }
 
-// Reads `count` elements of a list, or numbers of bytes, from a reader that has read the head.
+// Reads `count` elements of a list, or bytes as numbers, after the head was consumed.
 #[inline(always)]
 fn vec_row<'de, R: ReadSlice<'de>, C: SerializerConfig, T: Deserialize<'de, R>>(
     de: &mut Deserializer<R, C>,
@@ -102,7 +102,7 @@ fn vec_row<'de, R: ReadSlice<'de>, C: SerializerConfig, T: Deserialize<'de, R>>(
     }
 }
 
-// Reads the elements of a list, or the numbers of bytes: by a loop for each, so that neither asks which it is.
+// Reads the elements of a list, or bytes as numbers: by a loop for each, so that neither has to test which it is.
 #[inline(always)]
 fn read_vec<'de, R: ReadSlice<'de>, C: SerializerConfig, T: Deserialize<'de, R>>(
     de: &mut Deserializer<R, C>,
@@ -134,7 +134,7 @@ fn read_queue<'de, R: ReadSlice<'de>, C: SerializerConfig, T: Deserialize<'de, R
     }
 }
 
-// How a value is read, in a bound that names no lifetime: a function that hands on a closure has none that does.
+// Reads a value. The bound names no lifetime, since a function that passes a closure can have none that does.
 trait ReadHere<R: Source, V: Drop> {
     ghost use Rattle.std.specs.Prelude.{Bool};
     ghost use Rattle.rmp_wire.specs.Msg.{Msg};

@@ -8,7 +8,7 @@ use crate::error::Error;
 use rmp_wire::ReadSlice;
 use rmp_wire::config::SerializerConfig;
 
-/// Nil is `None`, and any other message what its value is read from. A field that isn't there is `None`.
+/// Nil is `None`, and any other message is read as the value. A field that is missing is `None`.
 impl<'de, R: ReadSlice<'de>, T: Deserialize<'de, R>> Deserialize<'de, R> for Option<T> {
     ghost reads = { λ human lends. IsOption (T.reads human lends) };
 

@@ -46,8 +46,8 @@ impl<T: Ord + Drop> Row<T> for BTreeSet<T> {
     }
 }
 
-// The keys of a large set that were read so far. `insert` looks for a key's place from the front: so those that ascend are kept in a row,
-// and put into the set from the last to the first.
+// The keys of a large set that were read so far. `insert` searches from the front, so ascending keys are kept in a row,
+// and inserted from the last to the first.
 #[derive(Drop)]
 struct Keys<T: Ord> {
     keys: BTreeSet<T>,
@@ -55,7 +55,7 @@ struct Keys<T: Ord> {
     in_row: bool,
 }
 
-// Whether the key is above those of the row, which ascend.
+// Whether the key is above the keys of the row, which ascend.
 fn comes_after<T: Ord + Drop>(row: &[T], key: &T) -> bool
     ensures { result ≡ true → IsStrictlySortedBy T.cmp row.now → IsStrictlySortedBy T.cmp (row.now ++ key.now ∷ []) }
 {
@@ -83,7 +83,7 @@ impl<T: Ord + Drop> Keys<T> {
         Ok(())
     }
 
-    // Puts the keys of the row into the set, from the last to the first.
+    // Inserts the keys of the row into the set, from the last to the first.
     fn settle(&mut self) -> Result<(), AllocError>
         requires { IsStrictlySortedBy T.cmp (keys_so_far self.old) }
         ensures keys { OnOk result (self.new.keys.keys ≡ keys_so_far self.old) }
@@ -119,7 +119,7 @@ impl<T: Ord + Drop> Row<T> for Keys<T> {
     }
 }
 
-// Reads `count` elements of a list, or numbers of bytes, of which there are many, from a reader that has read the head.
+// Reads `count` elements of a list, or bytes as numbers, where there are many, after the head was consumed.
 #[inline(never)]
 fn many_row<'de, R: ReadSlice<'de>, C: SerializerConfig, T: Deserialize<'de, R> + Ord>(
     de: &mut Deserializer<R, C>,
@@ -147,7 +147,7 @@ fn many_row<'de, R: ReadSlice<'de>, C: SerializerConfig, T: Deserialize<'de, R> 
     }
 }
 
-// Reads `count` elements of a list, or numbers of bytes, from a reader that has read the head.
+// Reads `count` elements of a list, or bytes as numbers, after the head was consumed.
 #[inline(always)]
 fn set_row<'de, R: ReadSlice<'de>, C: SerializerConfig, T: Deserialize<'de, R> + Ord>(
     de: &mut Deserializer<R, C>,

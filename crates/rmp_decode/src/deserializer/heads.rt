@@ -14,7 +14,7 @@ use rmp_wire::config::SerializerConfig;
 use rmp_wire::read::{number_8, number_16, number_32, read_head, read_marker};
 use rmp_wire::{Head, IoFault, Marker, MarkerReadError, Source, ValueReadError, is_canonical};
 
-// Why no head could be read: as the wire says, or because it isn't canonical, while only those are read.
+// Why no head could be read: the error of the wire, or in a strict read that it isn't canonical.
 #[derive(Clone, Copy)]
 pub(crate) enum HeadError {
     InvalidMarkerRead(IoFault),
@@ -65,7 +65,7 @@ impl From<HeadError> for Error {
     }
 }
 
-// Whether a head that was read is accepted: any, or where reading is strict the canonical one.
+// Whether a head is accepted: any, or in a strict read the canonical one.
 #[inline(always)]
 fn allows(strict: bool, marker: Marker, head: &Head) -> bool
     ensures allowed { result ≡ true → (rest : List ℕ) → IsHead head.now (byte_of marker ∷ rest) → heads_of strict head.now (byte_of marker ∷ rest) }
@@ -74,8 +74,8 @@ fn allows(strict: bool, marker: Marker, head: &Head) -> bool
     !strict || is_canonical(marker, head)
 }
 
-// Reads the rest of a head after its marker's byte, by a call: so the reads into which the common heads go stay small. Where reading is
-// strict, this is where a head is tested.
+// Reads the rest of a head after its marker's byte, out of line, so that the reads of the common heads stay small. In a
+// strict read, heads are tested here.
 #[inline(never)]
 pub(crate) fn rest_of_head<S: Source>(
     strict: bool,
@@ -115,7 +115,7 @@ fn head_of<S: Source>(strict: bool, marker: Marker, source: &mut S) -> Result<He
     }
 }
 
-// Takes one head, and answers its marker too.
+// Consumes one head, and returns its marker too.
 #[inline(always)]
 pub(crate) fn next_head<S: Source>(
     strict: bool,
@@ -130,7 +130,7 @@ pub(crate) fn next_head<S: Source>(
 }
 
 impl<R: Source, C: SerializerConfig> Deserializer<R, C> {
-    // Takes one head, and leaves this failed until the message that it opens is read.
+    // Consumes one head. The reader counts as failed until the message that the head begins is read.
     #[inline(always)]
     pub(crate) fn head(&mut self) -> Result<(Marker, Head), Error>
         ensures { ReadsHead R.Source self.old self.new result }

@@ -1,4 +1,4 @@
-//! Messages that are their head: how each is read.
+//! Reads messages that are only a head.
 ghost use Rattle.std.specs.Prelude.{◌≡◌, ◌≢◌, pos, refl, Ok, IfErr, IfSome, IfNone};
 ghost use Rattle.rmp_wire.specs.Msg.{Msg};
 ghost use Rattle.rmp_decode.specs.Consumed.{RefusalLeaves, no_payload};
@@ -16,7 +16,7 @@ use core::mem::replace_with;
 use rmp_wire::config::SerializerConfig;
 use rmp_wire::{Head, Marker, Source};
 
-// A kind of message that is its head.
+// A kind of message that is only a head.
 pub(crate) trait Leaf: Peek {
     ghost use Rattle.std.specs.Prelude.{◌≡◌, ◌≢◌, pos};
     ghost use Rattle.rmp_wire.specs.Msg.{Msg};
@@ -30,28 +30,30 @@ pub(crate) trait Leaf: Peek {
     // what is read of a tree
     ghost reads: { Self → Msg → Self.Value → Type 0 };
 
-    // how another message is refused
+    // the error of a message of another kind
     ghost refused: { Marker → Head → Error };
 
-    // What a head holds.
+    // The value of a head, if it has one of this kind.
     fn held(self, head: Head) -> Option<Self::Value>
         ensures { Holds (reads self) head result };
 
-    // What a number holds that was kept back as a byte. A kind of numbers compares it as it is: by `held`, an element of bytes costs more.
+    // The value of a number that was kept back as a byte. Kinds of numbers compare the byte: by `held`, reading bytes
+    // as numbers costs more.
     fn held_byte(self, byte: u8) -> Option<Self::Value>
         ensures { Holds (reads self) (Whole (pos byte)) result };
 
-    // How a head is refused that holds nothing that is read.
+    // The error of a head that has no value of this kind.
     fn refusal(marker: Marker, head: Head) -> Error
         ensures same { result ≡ refused marker head }
         ensures memory { result ≢ OutOfMemory };
 
-    // what was found where its head lay is read of it
+    // what `at` finds is what the head holds
     ghost found: { (k : Self) (v : Self.Value) → Self.wants k v → HoldsAs (reads k) (Self.head k v) v };
 }
 
 impl<R: Source, C: SerializerConfig> Deserializer<R, C> {
-    // Reads a message that is its head: by the fast path where it is buffered, as a number that was kept back, or out of line.
+    // Reads a message that is only a head: by the fast path if it is buffered, as a number that was kept back, or out
+    // of line.
     #[inline(always)]
     pub(crate) fn read_leaf<K: Leaf>(&mut self, kind: K) -> Result<K::Value, Error>
         ensures law { Lawful R.Source (K.reads kind) self.old self.new result }
@@ -71,7 +73,7 @@ impl<R: Source, C: SerializerConfig> Deserializer<R, C> {
         }
     }
 
-    // Takes a number that was kept back, where it is read as this kind. Returns `None` and consumes nothing otherwise.
+    // Consumes a number that was kept back, if it is read as this kind. Returns `None` and consumes nothing otherwise.
     #[inline(always)]
     fn offered<K: Leaf>(&mut self, kind: K) -> Option<K::Value>
         ensures law { IfSome result (λ v. Lawful R.Source (K.reads kind) self.old self.new (Ok v)) }

@@ -9,7 +9,7 @@ use rmp_wire::ReadSlice;
 use rmp_wire::config::{DefaultConfig, SerializerConfig};
 use std::marker::PhantomData;
 
-/// An iterator over the messages of a source, each read as a `T`. After an error it returns `None`.
+/// An iterator over the messages of a source, each read as a `T`. It ends after the first error.
 #[derive(Drop)]
 pub struct Messages<'x, 'de, T, R, C = DefaultConfig> {
     pub(crate) de: &'x mut Deserializer<R, C>,
@@ -42,7 +42,7 @@ impl<'x, 'de, T: Deserialize<'de, R>, R: ReadSlice<'de>, C: SerializerConfig> It
         }
     }
 
-    // (the trait's own body says the same, and is not covered by the borrow checker where `self` holds a `&mut`)
+    // (written out, since the borrow checker doesn't cover the trait's own body for a type that holds a `&mut`)
     fn size_hint(&self) -> (usize, Option<usize>) {
         (0, None)
     }

@@ -33,7 +33,7 @@ fn is_sixteen(head: Head) -> bool
     }
 }
 
-// The refusal of a list where a number of 128 bits is wanted.
+// The error of a list in the place of a number of 128 bits.
 fn not_wide_list(marker: Marker) -> Error
     ensures same { result ≡ Rattle.rmp_decode.specs.Wide.not_wide_list marker }
     ensures memory { result ≢ Error.OutOfMemory }
@@ -44,7 +44,7 @@ fn not_wide_list(marker: Marker) -> Error
     }
 }
 
-// The refusal of a message of another kind where a number of 128 bits is wanted.
+// The error of a message of another kind in the place of a number of 128 bits.
 fn not_wide(marker: Marker, head: Head) -> Error
     ensures same { result ≡ not_wide marker head }
     ensures memory { result ≢ Error.OutOfMemory }
@@ -85,7 +85,7 @@ fn buffered_16<S: Source>(source: &mut S) -> Option<[u8; 16]>
     }
 }
 
-// Consumes 16 buffered bytes as a number without a sign: so the bytes go into it before the paths join.
+// Consumes 16 buffered bytes as an unsigned number, which is made from the bytes before the paths join.
 #[inline(always)]
 fn buffered_u128<S: Source>(source: &mut S) -> Option<u128>
     ensures ok { IfSome result (TakesSixteen (S.ahead source.old) (S.ahead source.new)) }
@@ -156,7 +156,7 @@ fn take_16<S: Source>(source: &mut S) -> Result<[u8; 16], IoFault>
 }
 
 impl<R: Source, C: SerializerConfig> Deserializer<R, C> {
-    /// Reads a truth.
+    /// Reads a truth value.
     #[inline(always)]
     pub fn deserialize_bool(&mut self) -> Result<bool, Error>
         ensures law { Lawful R.Source (λ m t. m ≡ Msg.truth t) self.old self.new result }
@@ -167,7 +167,7 @@ impl<R: Source, C: SerializerConfig> Deserializer<R, C> {
         self.read_leaf(TruthHead)
     }
 
-    /// Reads the bits of a float of 32 bits.
+    /// Reads the bits of a 32-bit float.
     #[inline(always)]
     pub fn deserialize_f32_bits(&mut self) -> Result<u32, Error>
         ensures law { Lawful R.Source (λ m n. m ≡ Msg.float32 n) self.old self.new result }
@@ -178,7 +178,7 @@ impl<R: Source, C: SerializerConfig> Deserializer<R, C> {
         self.read_leaf(F32Head)
     }
 
-    /// Reads the bits of a float of 64 bits.
+    /// Reads the bits of a 64-bit float.
     #[inline(always)]
     pub fn deserialize_f64_bits(&mut self) -> Result<u64, Error>
         ensures law { Lawful R.Source (λ m n. m ≡ Msg.float64 n) self.old self.new result }
@@ -200,7 +200,7 @@ impl<R: Source, C: SerializerConfig> Deserializer<R, C> {
         self.read_leaf(NilHead)
     }
 
-    // A number of any width between two others: one without a sign is looked for first.
+    // A number between two others, in a format of any width: an unsigned one is looked for first.
     #[inline(always)]
     fn signed(&mut self, least: i64, most: i64) -> Result<i64, Error>
         requires least { least ≤ℤ pos 0 }
@@ -220,7 +220,7 @@ impl<R: Source, C: SerializerConfig> Deserializer<R, C> {
         }
     }
 
-    /// Reads a number from 0 to 255, of any width and with or without a sign.
+    /// Reads a number from 0 to 255, in a format of any width, signed or unsigned.
     #[inline(always)]
     pub fn deserialize_u8(&mut self) -> Result<u8, Error>
         ensures law { Lawful R.Source (IsUnsigned 255) self.old self.new result }
@@ -236,7 +236,7 @@ impl<R: Source, C: SerializerConfig> Deserializer<R, C> {
         }
     }
 
-    /// Reads a number from 0 to 65535, of any width and with or without a sign.
+    /// Reads a number from 0 to 65535, in a format of any width, signed or unsigned.
     #[inline(always)]
     pub fn deserialize_u16(&mut self) -> Result<u16, Error>
         ensures law { Lawful R.Source (IsUnsigned 65535) self.old self.new result }
@@ -252,7 +252,7 @@ impl<R: Source, C: SerializerConfig> Deserializer<R, C> {
         }
     }
 
-    /// Reads a number from 0 to 4294967295, of any width and with or without a sign.
+    /// Reads a number from 0 to 4294967295, in a format of any width, signed or unsigned.
     #[inline(always)]
     pub fn deserialize_u32(&mut self) -> Result<u32, Error>
         ensures law { Lawful R.Source (IsUnsigned 4294967295) self.old self.new result }
@@ -268,7 +268,7 @@ impl<R: Source, C: SerializerConfig> Deserializer<R, C> {
         }
     }
 
-    /// Reads a number from 0 to 18446744073709551615, of any width and with or without a sign.
+    /// Reads a number from 0 to 18446744073709551615, in a format of any width, signed or unsigned.
     #[inline(always)]
     pub fn deserialize_u64(&mut self) -> Result<u64, Error>
         ensures law { Lawful R.Source (IsUnsigned 18446744073709551615) self.old self.new result }
@@ -279,7 +279,7 @@ impl<R: Source, C: SerializerConfig> Deserializer<R, C> {
         self.read_leaf(Unsigned { most: u64::MAX })
     }
 
-    /// Reads a number from -128 to 127, of any width and with or without a sign.
+    /// Reads a number from -128 to 127, in a format of any width, signed or unsigned.
     #[inline(always)]
     pub fn deserialize_i8(&mut self) -> Result<i8, Error>
         ensures law { Lawful R.Source (IsSigned (negsuc 127) (pos 127)) self.old self.new result }
@@ -293,7 +293,7 @@ impl<R: Source, C: SerializerConfig> Deserializer<R, C> {
         }
     }
 
-    /// Reads a number from -32768 to 32767, of any width and with or without a sign.
+    /// Reads a number from -32768 to 32767, in a format of any width, signed or unsigned.
     #[inline(always)]
     pub fn deserialize_i16(&mut self) -> Result<i16, Error>
         ensures law { Lawful R.Source (IsSigned (negsuc 32767) (pos 32767)) self.old self.new result }
@@ -307,7 +307,7 @@ impl<R: Source, C: SerializerConfig> Deserializer<R, C> {
         }
     }
 
-    /// Reads a number from -2147483648 to 2147483647, of any width and with or without a sign.
+    /// Reads a number from -2147483648 to 2147483647, in a format of any width, signed or unsigned.
     #[inline(always)]
     pub fn deserialize_i32(&mut self) -> Result<i32, Error>
         ensures law { Lawful R.Source (IsSigned (negsuc 2147483647) (pos 2147483647)) self.old self.new result }
@@ -321,7 +321,7 @@ impl<R: Source, C: SerializerConfig> Deserializer<R, C> {
         }
     }
 
-    /// Reads a number from -9223372036854775808 to 9223372036854775807, of any width and with or without a sign.
+    /// Reads a number from -9223372036854775808 to 9223372036854775807, in a format of any width, signed or unsigned.
     #[inline(always)]
     pub fn deserialize_i64(&mut self) -> Result<i64, Error>
         ensures law { Lawful R.Source (IsSigned (negsuc 9223372036854775807) (pos 9223372036854775807)) self.old self.new result }
@@ -332,11 +332,11 @@ impl<R: Source, C: SerializerConfig> Deserializer<R, C> {
         self.signed(i64::MIN, i64::MAX)
     }
 
-    /// Reads a number of any width, or 16 bytes as one in two's complement, the highest byte first.
+    /// Reads a number in a format of any width, or 16 bytes as a big-endian number in two's complement.
     ///
     /// # Errors
-    /// `LengthMismatch(16)` for other bytes and for a list whose head is one byte, and `TypeMismatch` with the marker that was
-    /// there, for another kind.
+    /// `LengthMismatch(16)` for bytes of another length and for a list whose head is one byte, and `TypeMismatch` with
+    /// the marker of a message of another kind.
     #[inline(always)]
     pub fn deserialize_i128(&mut self) -> Result<i128, Error>
         ensures law { Lawful R.Source IsSigned128 self.old self.new result }
@@ -357,7 +357,7 @@ impl<R: Source, C: SerializerConfig> Deserializer<R, C> {
         }
     }
 
-    // Reads a number whose head isn't that of 16 bytes: one without a sign by the fast path.
+    // Reads a number that isn't in 16 bytes: an unsigned one by the fast path.
     #[inline(always)]
     fn peek_i128(&mut self) -> Result<i128, Error>
         ensures law { Lawful R.Source IsSigned128 self.old self.new result }
@@ -374,7 +374,7 @@ impl<R: Source, C: SerializerConfig> Deserializer<R, C> {
         }
     }
 
-    // Reads a number in a format with a sign by the fast path, and any other out of line.
+    // Reads a signed number by the fast path, and any other out of line.
     #[inline(always)]
     fn peek_negative_i128(&mut self) -> Result<i128, Error>
         ensures law { Lawful R.Source IsSigned128 self.old self.new result }
@@ -422,11 +422,11 @@ impl<R: Source, C: SerializerConfig> Deserializer<R, C> {
         }
     }
 
-    /// Reads a number from 0 on, of any width and with or without a sign, or 16 bytes as one, the highest byte first.
+    /// Reads a number from 0 on, in a format of any width, or 16 bytes as a big-endian number.
     ///
     /// # Errors
-    /// `OutOfRange` for a negative number, `LengthMismatch(16)` for other bytes and for a list whose head is one byte, and
-    /// `TypeMismatch` with the marker that was there, for another kind.
+    /// `OutOfRange` for a negative number, `LengthMismatch(16)` for bytes of another length and for a list whose head
+    /// is one byte, and `TypeMismatch` with the marker of a message of another kind.
     #[inline(always)]
     pub fn deserialize_u128(&mut self) -> Result<u128, Error>
         ensures law { Lawful R.Source IsUnsigned128 self.old self.new result }
@@ -447,7 +447,7 @@ impl<R: Source, C: SerializerConfig> Deserializer<R, C> {
         }
     }
 
-    // Reads a number whose head isn't that of 16 bytes: one without a sign by the fast path, and any other out of line.
+    // Reads a number that isn't in 16 bytes: an unsigned one by the fast path, and any other out of line.
     #[inline(always)]
     fn peek_u128(&mut self) -> Result<u128, Error>
         ensures law { Lawful R.Source IsUnsigned128 self.old self.new result }
@@ -496,7 +496,7 @@ impl<R: Source, C: SerializerConfig> Deserializer<R, C> {
     }
 }
 
-// How a number of 128 bits is read out of line.
+// Reads a number of 128 bits out of line.
 pub(crate) struct WideNumber;
 
 impl<R: Source> Cold<R, i128> for WideNumber {

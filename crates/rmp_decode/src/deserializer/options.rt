@@ -63,7 +63,7 @@ impl<R: Source, C: SerializerConfig> Deserializer<R, C> {
         }
     }
 
-    // Takes nil, or keeps back the first byte of another message; says which.
+    // Consumes nil, or keeps back the first byte of another message, and returns which.
     #[inline(always)]
     fn take_nil(&mut self) -> Result<bool, Error>
         ensures { Looks R.Source self.old self.new result }
@@ -97,13 +97,13 @@ impl<R: Source, C: SerializerConfig> Deserializer<R, C> {
         }
     }
 
-    /// Reads an option: nil as `None`, and any other message as its value. So `Some` of what is written as nil isn't read
-    /// back.
+    /// Reads an option: nil as `None`, and any other message as the value. So `Some` of a value that is written as nil
+    /// is read back as `None`.
     ///
-    /// The first byte of the message is looked at. Where it isn't nil it is left for the value's read: in the buffer, or else kept back.
+    /// It looks at the first byte of the message. If that isn't nil, it is left to be read with the value.
     ///
     /// # Errors
-    /// `InvalidMarkerRead` where the input ends before the message, and else those of the value.
+    /// `InvalidMarkerRead` if the input ends before the message, and otherwise those of the value.
     #[inline(always)]
     pub fn deserialize_option<'de, T: Deserialize<'de, R>>(&mut self) -> Result<Option<T>, Error>
     where
@@ -144,12 +144,12 @@ impl<R: Source, C: SerializerConfig> Deserializer<R, C> {
         }
     }
 
-    /// Reads an option whose value `f` reads, as `deserialize_option` does by the value's type. `f` is given a reader that is
-    /// ready, before the value. An `f` that answers `Ok` has to have read the value and nothing else.
+    /// Reads an option, as `deserialize_option` does, with the value read by `f`, which gets the reader before the
+    /// value. An `f` that returns `Ok` must have read the value and nothing else.
     ///
     /// # Errors
-    /// `InvalidMarkerRead` where the input ends before the message; else those of `f`, and `Uncategorized("failed before")`
-    /// where `f` answered `Ok` and left its reader failed.
+    /// `InvalidMarkerRead` if the input ends before the message; those of `f`; and `Uncategorized("failed before")` if
+    /// `f` returned `Ok` but left the reader failed.
     #[inline(never)]
     pub fn deserialize_option_with<X: Drop, F>(&mut self, f: F) -> Result<Option<X>, Error>
     where
@@ -176,11 +176,11 @@ impl<R: Source, C: SerializerConfig> Deserializer<R, C> {
         }
     }
 
-    /// Reads a struct without fields: nil, or the list without elements in any width. Its name isn't looked at.
+    /// Reads a struct without fields, from nil or an empty list. Its name isn't used.
     ///
     /// # Errors
-    /// `DepthLimitExceeded` for a list that would nest too deep, and `Syntax("invalid type")` for another list and another
-    /// kind.
+    /// `DepthLimitExceeded` for an empty list that nests too deep, and `Syntax("invalid type")` for any other list and
+    /// for another kind.
     #[inline(always)]
     pub fn deserialize_unit_struct(&mut self, _name: &str) -> Result<(), Error>
         ensures law { Lawful R.Source (λ m _. IsNothing m) self.old self.new result }
@@ -228,12 +228,12 @@ impl<R: Source, C: SerializerConfig> Deserializer<R, C> {
         }
     }
 
-    /// Reads a newtype struct: what it holds, as it is without the struct. The name is ignored, except for the one that names
-    /// an extension in the Rust crate.
+    /// Reads a newtype struct: its content, which is encoded as without the struct. The name isn't used, except that
+    /// the name of extensions in the Rust crate is refused.
     ///
     /// # Errors
-    /// `Syntax("extensions are read by deserialize_ext")` where the name is `MSGPACK_EXT_STRUCT_NAME`: then nothing is consumed.
-    /// Otherwise those of the content.
+    /// `Syntax("extensions are read by deserialize_ext")` if the name is `MSGPACK_EXT_STRUCT_NAME`, and nothing is
+    /// consumed. Otherwise those of the content.
     #[inline(always)]
     pub fn deserialize_newtype_struct<'de, T: Deserialize<'de, R>>(
         &mut self,

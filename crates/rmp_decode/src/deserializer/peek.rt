@@ -38,7 +38,8 @@ pub(crate) trait Peek: Copy {
 }
 
 impl<R: Source, C: SerializerConfig> Deserializer<R, C> {
-    // Consumes a buffered head, and leaves this failed until the message is read. Returns `None` and consumes nothing otherwise.
+    // Consumes a buffered head. The reader counts as failed until the message is read. Returns `None` and consumes
+    // nothing otherwise.
     #[inline(always)]
     pub(crate) fn take<K: Peek>(&mut self, kind: K) -> Option<K::Value>
         ensures taken { IfSome result (λ v. ConsumesHead R.Source (K.head kind v) self.old self.new) }
@@ -61,7 +62,7 @@ impl<R: Source, C: SerializerConfig> Deserializer<R, C> {
         }
     }
 
-    // Consumes the buffered head of a list or a map, where a level of nesting is left for it.
+    // Consumes the buffered head of a list or a map, if a level of nesting is left for it.
     #[inline(always)]
     pub(crate) fn take_nested<K: Peek>(&mut self, kind: K) -> Option<K::Value>
         ensures deep { IfSome result (λ _. 1 < self.old.room) }
@@ -75,7 +76,7 @@ impl<R: Source, C: SerializerConfig> Deserializer<R, C> {
         self.take(kind)
     }
 
-    // Whether a list or a map that opens here would nest too deep.
+    // Whether a list or a map would nest too deep here.
     #[inline(always)]
     pub(crate) fn is_deepest(&self) -> bool
         ensures deep { result ≡ true → self.now.room ≤ 1 }
@@ -84,7 +85,7 @@ impl<R: Source, C: SerializerConfig> Deserializer<R, C> {
         self.room <= 1
     }
 
-    // Whether the next message begins with the bytes ahead of the source: nothing was kept back, and no read failed.
+    // Whether the next message begins with the source's next bytes: nothing was kept back, and no read failed.
     #[inline(always)]
     pub(crate) fn begins_ahead(&self) -> bool
         ensures fresh { result ≡ true → is_failed self.now ≡ false }
@@ -96,8 +97,8 @@ impl<R: Source, C: SerializerConfig> Deserializer<R, C> {
         }
     }
 
-    // Consumes a head of any kind, and leaves this failed until the message is read. That of a short list is looked for first, so that
-    // what opens one is known without a head.
+    // Consumes a head of any kind. The reader counts as failed until the message is read. A short list is looked for
+    // first, so that it is opened without a head.
     #[inline(always)]
     pub(crate) fn any_head(&mut self) -> Result<Head, Error>
         ensures ok { IfOk result (λ h. ConsumesHead R.Source h self.old self.new) }
@@ -218,7 +219,7 @@ impl Peek for F64Head {
     }
 }
 
-// A number without a sign, up to `most`.
+// An unsigned number, up to `most`.
 #[derive(Clone, Copy)]
 pub(crate) struct Unsigned {
     pub(crate) most: u64,
@@ -246,7 +247,7 @@ impl Peek for Unsigned {
     }
 }
 
-// A number between two others, in a format with a sign.
+// A signed number between two others.
 #[derive(Clone, Copy)]
 pub(crate) struct WithSign {
     pub(crate) least: i64,
@@ -486,7 +487,7 @@ impl Peek for AnyHead {
     }
 }
 
-// A head of one byte, of a number from 0 on, a text, a list or a map: what most messages begin with, and canonical.
+// A head of one byte, of a number from 0 on, a text, a list or a map: the most common heads, which are canonical.
 #[derive(Clone, Copy)]
 pub(crate) struct OneByteHead;
 

@@ -1,4 +1,4 @@
-//! What a head holds, where it is of one kind.
+//! The errors of messages that aren't of the wanted kind.
 ghost use Rattle.std.specs.Prelude.{◌≡◌, ◌≢◌};
 ghost use Rattle.rmp_decode.specs.Kinds.{other_kind, other_number};
 
@@ -6,7 +6,7 @@ use crate::error::Error;
 use crate::text::Text;
 use rmp_wire::{Head, Marker};
 
-// The refusal of a message of another kind where a truth, a number or the bits of a float is wanted.
+// The error of a message of another kind in the place of a truth, a number or the bits of a float.
 pub(crate) fn other_kind(marker: Marker, head: Head) -> Error
     ensures same { result ≡ other_kind marker head }
     ensures memory { result ≢ Error.OutOfMemory }
@@ -19,7 +19,7 @@ pub(crate) fn other_kind(marker: Marker, head: Head) -> Error
     }
 }
 
-// The refusal of a message where a number in a range is wanted.
+// The error of a message in the place of a number in a range.
 pub(crate) fn other_number(marker: Marker, head: Head) -> Error
     ensures same { result ≡ other_number marker head }
     ensures memory { result ≢ Error.OutOfMemory }

@@ -1,4 +1,4 @@
-//! Skipping messages.
+//! Skips messages.
 ghost use Rattle.std.specs.Prelude.{◌≡◌, ◌≢◌, ◌-◌, ◌<◌, true, false, Ok, Err, OnOk, IfOk, IfErr, IfSome};
 ghost use Rattle.rmp_wire.specs.Sources.{IsShort};
 ghost use Rattle.rmp_decode.specs.Ahead.{IsLeafHead, TakesPart};
@@ -45,7 +45,7 @@ fn messages(is_map: bool, n: u32) -> u64
     }
 }
 
-// Passes over the payload of a leaf, `len` bytes.
+// Skips the payload of a leaf, `len` bytes.
 #[inline(always)]
 fn pass_payload<R: Source, P: ReadContent<R>>(reader: &mut R, len: u32) -> Result<(), Error>
     ensures ok { OnOk result (Passes len (R.ahead reader.old) (R.ahead reader.new)) }
@@ -62,7 +62,7 @@ fn pass_payload<R: Source, P: ReadContent<R>>(reader: &mut R, len: u32) -> Resul
     P::pass(reader, len as usize)
 }
 
-// Skips leaves that are buffered whole, at most `most`. Returns how many of the `most` messages are still wanted.
+// Skips leaves that are buffered whole, at most `most`. Returns how many of the `most` messages remain.
 #[inline(always)]
 fn skip_leaves<R: Source, C: SerializerConfig>(de: &mut Deserializer<R, C>, most: u64) -> u64
     requires clean { kept_of de.old ≡ Nothing }
@@ -119,8 +119,8 @@ enum Part {
     Leaf(u32),
 }
 
-// Consumes the next head, and leaves this failed until the message is read. That of a short list or map is looked for first, since
-// buffered leaves were skipped before.
+// Consumes the next head. The reader counts as failed until the message is read. A short list or map is looked for
+// first, since buffered leaves were already skipped.
 #[inline(always)]
 fn next_part<R: Source, C: SerializerConfig>(de: &mut Deserializer<R, C>) -> Result<Part, Error>
     ensures ok { IfOk result (λ p. TakesPart R.Source p de.old de.new) }
@@ -132,7 +132,7 @@ fn next_part<R: Source, C: SerializerConfig>(de: &mut Deserializer<R, C>) -> Res
     }
 }
 
-// The same for any head. Out of line: so a loop over short lists keeps nothing of a head.
+// The slow path, for any head. Out of line, so that a loop over short lists keeps nothing of a head.
 #[inline(never)]
 fn any_part<R: Source, C: SerializerConfig>(de: &mut Deserializer<R, C>) -> Result<Part, Error>
     ensures ok { IfOk result (λ p. TakesPart R.Source p de.old de.new) }
@@ -147,7 +147,7 @@ fn any_part<R: Source, C: SerializerConfig>(de: &mut Deserializer<R, C>) -> Resu
     }
 }
 
-// Passes over one message.
+// Skips one message.
 fn skip<R: Source, C: SerializerConfig, P: ReadContent<R>>(
     de: &mut Deserializer<R, C>,
 ) -> Result<(), Error>
@@ -188,10 +188,10 @@ fn skip_parts<R: Source, C: SerializerConfig, P: ReadContent<R>>(
     if de.room <= 1 {
         return Err(Error::DepthLimitExceeded);
     }
-    // What the innermost list or map still wants nests below this.
+    // The depth that is left for the messages of the innermost list or map.
     let mut room = de.room - 1;
     let mut wanted = count;
-    // What those that stand open around it still want, the outermost first.
+    // How many messages remain in each list or map around it, the outermost first.
     let mut outer: Vec<u64> = Vec::new(de.alloc);
     'parts: loop {
         wanted = skip_leaves(de, wanted);
@@ -238,12 +238,14 @@ fn skip_parts<R: Source, C: SerializerConfig, P: ReadContent<R>>(
 }
 
 impl<R: Source, C: SerializerConfig> Deserializer<R, C> {
-    /// Passes over one message of any kind. Its texts may be no UTF-8, and its content isn't copied where the source lends.
+    /// Skips one message of any kind. Its texts needn't be UTF-8, and its payloads aren't copied if the source lends
+    /// its bytes.
     ///
     /// # Errors
-    /// That of the first thing that is wrong: `InvalidMarkerRead` where the input ends before a message that is wanted,
-    /// `InvalidDataRead` where it ends inside of a head or of content, `TypeMismatch` at the byte c1, and `DepthLimitExceeded`
-    /// at a list or map that would nest too deep. `OutOfMemory` where a source is refused memory for content.
+    /// That of the first thing that is wrong: `InvalidMarkerRead` if the input ends before a message, `InvalidDataRead`
+    /// if it ends inside a head or a payload, `TypeMismatch` at the byte c1, and `DepthLimitExceeded` at a list or a
+    /// map that nests too deep. `OutOfMemory` if a copy of a payload, or a count for a list or a map that is open,
+    /// couldn't be allocated.
     pub fn deserialize_ignored_any<'de>(&mut self) -> Result<(), Error>
     where
         R: ReadSlice<'de>,
@@ -252,7 +254,7 @@ impl<R: Source, C: SerializerConfig> Deserializer<R, C> {
         ensures exact { IfErr result (RefusesFirst R.Source (UnpassedFor R.lends) any_row self.old self.new) }
         // Where the source had a fault, it says so, or that memory ran out.
         ensures fault { IfErr result (TellsFault (faults_of R.Source self.old) (faults_of R.Source self.new)) }
-        // Where the source lends, only a list or a map that isn't empty takes memory.
+        // If the source lends its bytes, only a list or a map that isn't empty allocates.
         ensures memory { R.lends ≡ true → IfErr result (λ e. e ≡ Error.OutOfMemory → IfSome (left R.Source self.old) (OpensSome (is_strict self.old))) }
     {
         if skip_leaf(self) {

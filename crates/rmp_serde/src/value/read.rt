@@ -1,4 +1,4 @@
-//! Reads a value, in whatever widths it is spelled.
+//! Reads a value from heads of any width.
 ghost use Rattle.std.specs.Prelude.{◌≡◌, ◌≢◌, ◌⊎◌, ◌-◌, ◌<◌, ◌≤◌, ◌++◌, ◌∷◌, [], false, true, None, OnOk, OnErr, IfOk, IfErr};
 ghost use Rattle.rmp_wire.specs.Heads.{fits_head};
 ghost use Rattle.rmp_decode.specs.Content.{IsRawHead, IsExtHead};

@@ -12,16 +12,16 @@ use crate::text::Text;
 use rmp_wire::config::SerializerConfig;
 use rmp_wire::{ReadSlice, Source};
 
-/// How the places of fields are read. A function that calls itself may have no bound that names a lifetime, so it has this one in
-/// place of `ReadSlice`, and is called with `Slices`.
+/// Reads the places of fields. A recursive function can't have a bound that names a lifetime, so it has this one in
+/// place of `ReadSlice`, and its first caller passes `Slices`.
 pub trait ReadPlaces<R: Source> {
-    // Whether text is lent.
+    // Whether texts are borrowed.
     ghost lends: { Bool };
 
-    /// The place of the next field among the names, if there is one.
+    /// Returns the place of the next field among the names, if there is one.
     ///
     /// # Errors
-    /// As `FieldAccess::next_field`.
+    /// Those of `FieldAccess::next_field`.
     fn next_field<'x, C: SerializerConfig>(
         fields: &mut FieldAccess<'x, R, C>,
     ) -> Result<Option<usize>, Error>
@@ -49,11 +49,11 @@ impl<'de, R: ReadSlice<'de>> ReadPlaces<R> for Slices<'de> {
 }
 
 impl<'x, R: Source, C: SerializerConfig> FieldAccess<'x, R, C> {
-    /// Reads which field comes next, as `next_field` does. `P` says how it is read: a function that calls itself may have no bound that names a
-    /// lifetime, and is called with `Slices`.
+    /// Returns the place of the next field, as `next_field` does, for recursive structs. `P` reads it: a recursive
+    /// function can't have a bound that names a lifetime, so its first caller passes `Slices`.
     ///
     /// # Errors
-    /// As `next_field`.
+    /// Those of `next_field`.
     #[inline(always)]
     pub fn next_field_by<P: ReadPlaces<R>>(&mut self) -> Result<Option<usize>, Error>
         requires { AtField self.old }
@@ -70,10 +70,10 @@ impl<'x, R: Source, C: SerializerConfig> FieldAccess<'x, R, C> {
         P::next_field(self)
     }
 
-    /// The value of a field that is missing, as `missing_field` says it. `absent` is that value in a map.
+    /// Returns the value of a field that is missing, as `missing_field` does. In a map it is `absent`.
     ///
     /// # Errors
-    /// `Syntax("missing field")` where there is none.
+    /// `Syntax("missing field")` if there is none.
     #[inline(always)]
     pub fn missing_field_or<T: Drop>(&mut self, absent: Option<T>) -> Result<T, Error>
         ensures same_reference { self.new.de.ghost_name ≡ self.old.de.ghost_name }

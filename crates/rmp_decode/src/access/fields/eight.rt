@@ -42,7 +42,7 @@ pub struct EightSlots<A, B, D, E, G, H, I, J, S> {
     ),
 }
 
-// What is said of the eight, and done with them, is that of two tuples of four.
+// The eight are read and proved as two tuples of four.
 impl<
     'de,
     R: ReadSlice<'de>,

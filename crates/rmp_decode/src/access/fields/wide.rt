@@ -10,7 +10,7 @@ use crate::error::Error;
 use rmp_wire::ReadSlice;
 use rmp_wire::config::SerializerConfig;
 
-// What is said of the four, and done with them, is that of the pairs.
+// The four are read and proved as nested pairs.
 impl<
     'de,
     R: ReadSlice<'de>,

@@ -126,8 +126,8 @@ fn other_leaf(bytes: &[u8], strict: bool) -> usize
     }
 }
 
-// Passes over leaves, at most `most`, that are whole among these bytes, and looks at the table first. Returns how many bytes they have, and
-// how many of the `most` messages are still wanted.
+// Skips leaves that are whole in these bytes, at most `most`, by the table first. Returns how many bytes they have, and
+// how many of the `most` messages remain.
 #[inline(always)]
 pub(super) fn pass_leaves(bytes: &[u8], strict: bool, most: u64) -> (usize, u64)
     ensures within { result.0 ≤ length bytes.now }
