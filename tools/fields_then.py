@@ -83,8 +83,8 @@ def eight_record(values: list[str]) -> str:
 
 
 GROUPS = [
-    Group(8, "Eight", "What is said of the eight, and done with them, is that of two tuples of four."),
-    Group(16, "Sixteen", "What is said of the sixteen, and done with them, is that of two structs of eight."),
+    Group(8, "Eight", "The eight are read and proved as two tuples of four."),
+    Group(16, "Sixteen", "The sixteen are read and proved as two structs of eight."),
 ]
 
 

@@ -39,7 +39,7 @@ pub struct SixteenSlots<A, B, D, E, G, H, I, J, K, L, M, N, O, P, Q, T, S> {
     read: EightSlots<A, B, D, E, G, H, I, J, EightSlots<K, L, M, N, O, P, Q, T, S>>,
 }
 
-// What is said of the sixteen, and done with them, is that of two structs of eight.
+// The sixteen are read and proved as two structs of eight.
 impl<
     'de,
     R: ReadSlice<'de>,
