@@ -1,6 +1,7 @@
 -- A read of a value meets an end only inside of a message.
-use Rattle.std.specs.Prelude.{◌≡◌, Bool}
+use Rattle.std.specs.Prelude.{Bool}
 use Rattle.std.proofs.Common.{refl}
+use Rattle.rmp_decode.specs.Exact.{UnlessFault}
 use Rattle.rmp_decode.specs.Refuse.{RefusedFor}
 use Rattle.rmp_decode.specs.declared.error.Error.TheVariants as errors
 use Rattle.rmp_ends.specs.EndsInside.{AlwaysInside}
@@ -23,6 +24,6 @@ unread_inside strict room errors.DepthLimitExceeded xs own end w = absurd (neith
 unread_inside strict room errors.OutOfMemory xs own end w = absurd (neither end)
 unread_inside strict room errors.NotCanonical xs own end w = absurd (neither end)
 
-pub value_inside : AlwaysInside (λ s before after known e. after ≡ before → RefusedFor s.strict (UnreadFor s.strict) ItemsUtf8 s.room e known)
+pub value_inside : AlwaysInside (λ s before after known e. UnlessFault before after e (RefusedFor s.strict (UnreadFor s.strict) ItemsUtf8 s.room e known))
 unfolding RefusedFor
-value_inside s n xs e own r end = refusal_inside s.strict (UnreadFor s.strict) ItemsUtf8 (unread_inside s.strict) s.room e xs own end (r refl)
+value_inside s n xs e own r end = refusal_inside s.strict (UnreadFor s.strict) ItemsUtf8 (unread_inside s.strict) s.room e xs own end (r.0 refl)
