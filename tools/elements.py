@@ -1,153 +1,11 @@
-#!/usr/bin/env python3
-"""Writes the elements that one call takes, `One` to `Eight`, and their answers.
+"""The elements that one call writes, `One` to `Eight`, and their answers, for tuples.py."""
+from __future__ import annotations
 
-    tools/elements.py [FOLDER]      writes below this folder in place of the repository's top
-"""
 import halves
-from halves import FIELDS, NAMES, bodies, kinds
-from lines import write
-from shared import bracketed, numbered
+from halves import FIELDS, NAMES, USES, data, kinds, memory, refusals, returned
+from shared import Answers, bracketed, numbered
 
-WORDS = ["One element", "Two elements", "Three elements", "Four elements", "Five elements", "Six elements", "Seven elements", "Eight elements"]
-
-
-# How many of so many elements are written first; the others come after them. Of eight of one type it is no half: both halves would be
-# one function, and the compiler inlines what is called once.
-def half(n):
-    return 2 if n < 5 else 4 if n < 8 else 5
-
-
-def implementation(n):
-    name = NAMES[n - 1]
-    fields = "\n".join(f"    pub {FIELDS[i]}: &'r {kind}," for i, kind in enumerate(kinds(n)))
-    elements = "\n".join(f"        Serialize::serialize(self.{FIELDS[i]}, se)?;" for i in range(n)) + "\n        Ok(())"
-    named = "\n".join(f"        se.put_field(names[{i}], self.{FIELDS[i]})?;" for i in range(n)) + "\n        Ok(())"
-    if n > 2:
-        elements, named = bodies(n, half(n))
-    return f"""
-/// {WORDS[n - 1]}.
-#[derive(Drop)]
-pub struct {name}<'r, {", ".join(kinds(n))}> {{
-{fields}
-}}
-{halves.implementation(name, n, elements, named)}"""
-
-
-def takes(i):
-    return f"(λ s. g.E{i + 1}.Serialize.takes_memory s || g.W.Sink.takes_memory)"
-
-
-def data(i):
-    return f"(λ s. g.E{i + 1}.Serialize.data_of c.args.self.now.{FIELDS[i]}.now s.human)"
-
-
-# The serializer's settings and its place, after the first i elements.
-def keeps(word, i):
-    if i == 1:
-        return f"c.{word}.ensures.keeps"
-    return f"(keeps_then g.W.Sink {keeps(word, i - 1)} c.{numbered(word, i - 1)}.ensures.keeps)"
-
-
-# What is still to come after the first i elements were written.
-def state(i):
-    if i == 0:
-        return "h"
-    word = numbered("serialize", i - 1)
-    return f"(goes g.W.Sink {takes(i - 1)} {data(i - 1)} _ _ (Ok _) c.{word}.ensures.keeps c.in_ok-{word}.ensures.writes old t _ {state(i - 1)})"
-
-
-# The same, where each has its name before it.
-def named(i, n):
-    if i == 0:
-        return "h"
-    word = numbered("put_field", i - 1)
-    return f"(c.in_ok-{word}.ensures.writes old t _ {named_step(i - 1, n)})"
-
-
-def named_step(i, n):
-    each = [f"g.E{k + 1}.Serialize.data_of c.args.self.now.{FIELDS[k]}.now (settings_of old).human" for k in range(n)]
-    rest = bracketed(each[i + 1 :]) if i + 1 < n else "[]"
-    return f"(next_named g.W.Sink c.args.names.now {i} _ ({each[i]}) {rest} rest (omega (arith, c.requires)) {named(i, n)})"
-
-
-def residual(word, i):
-    return f"c.from_residual-in_err-{numbered(word, i)}" if i else "c.from_residual"
-
-
-# That this error of one element is an error of all n.
-def refusal(i, n, word, error):
-    each = [f"g.E{k + 1}.Serialize.refuses c.args.self.now.{FIELDS[k]}.now" for k in range(n)]
-    if word == "serialize":
-        return "(inr " * i + f"(inl {error})" + ")" * i
-    names = "c.args.names.now"
-    part = bracketed(each[i : i + 1])
-    term = f"(parts_weaker (long_name {names} {i} _ (omega (arith, c.requires))) {part} _ {error})"
-    if i + 1 < n:
-        return f"(of_front (AnyLong (lengths {names})) {part} {bracketed(each[i + 1 :])} _ {term})"
-    return f"(of_back (AnyLong (lengths {names})) {bracketed(each[:i])} {part} _ {term})" if i else term
-
-
-def answers(n, word, goals):
-    each = bracketed([f"g.E{k + 1}.Serialize.takes_memory (settings_of old)" for k in range(n)])
-    steps = (["goes"] if word == "serialize" else []) + (["keeps_then"] if n > 1 else [])
-    uses = [f"Rattle.std.proofs.Common.{{{'inl, ' + 'inr, ' * (n > 1) if word == 'serialize' else 'arith, '}◌∷◌, []}}"]
-    if word == "serialize":
-        uses.append("Rattle.std.specs.Prelude.{◌||◌, Ok, Err}")
-    uses.append("Rattle.std.proofs.lemmas.Result.{err_from_is_err_and}")
-    uses.append("Rattle.rmp_encode.specs.Ser.{settings_of}")
-    if word == "put_field":
-        uses.append("Rattle.rmp_encode.proofs.Fields.{next_named}")
-    if steps:
-        uses.append(f"Rattle.rmp_encode.proofs.Going.{{{', '.join(steps)}}}")
-    uses.append("Rattle.rmp_encode.proofs.Parts.{one_of_or, part_takes}")
-    if word == "put_field":
-        proved = ["long_name", *(["of_back", "of_front"] if n > 1 else []), "parts_weaker"]
-        uses.append(f"Rattle.rmp_encode.proofs.Refusals.{{{', '.join(proved)}}}")
-        if n > 1:
-            uses.append("Rattle.rmp_encode.specs.Refusals.{lengths, AnyLong}")
-    text = "".join(f"use {name}\n" for name in uses) + f"use {goals}.Goals as goal\n"
-    for i in range(n):
-        this = numbered(word, i)
-        goal = f"returns-in_err-{this}-clause-writes"
-        if word == "serialize":
-            failed = f"(goes g.W.Sink {takes(i)} {data(i)} _ _ (Err _) c.{this}.ensures.keeps c.in_err-{this}.ensures.writes old t _ {state(i)})"
-        else:
-            failed = f"(c.in_err-{this}.ensures.writes old t _ {named_step(i, n)})"
-        text += f"""
-pub {goal} : goal.{goal}
-{goal} g c =
-    let p = err_from_is_err_and {residual(word, i)}.result {residual(word, i)}.ensures.1 in
-    rw (p.1, p.2) (λ old t rest h. part_takes g.W.Sink _ (one_of_or g.W.Sink.takes_memory {each} {i})
-    {failed})
-"""
-        goal = f"returns-in_err-{this}-clause-error"
-        text += f"""
-pub {goal} : goal.{goal}
-{goal} g c =
-    let p = err_from_is_err_and {residual(word, i)}.result {residual(word, i)}.ensures.1 in
-    rw (p.1, p.2) {refusal(i, n, word, f"c.in_err-{this}.ensures.error")}
-"""
-        if i:
-            goal = f"returns-in_err-{this}-clause-keeps"
-            text += f"""
-pub {goal} : goal.{goal}
-{goal} g c = {keeps(word, i + 1)}
-"""
-    final = state(n) if word == "serialize" else named(n, n)
-    text += f"""
-pub returns-clause-writes : goal.returns-clause-writes
-returns-clause-writes g c = λ old t rest h. {final}
-"""
-    if n > 1:
-        text += f"""
-pub returns-clause-keeps : goal.returns-clause-keeps
-returns-clause-keeps g c = {keeps(word, n)}
-"""
-    return text
-
-
-def main():
-    source = """//! One to eight elements of several types. Written by tools/elements.py.
+HEAD = """//! One to eight elements of several types. Written by tools/tuples.py.
 ghost use Rattle.std.specs.Prelude.{◌∷◌, [], refl};
 ghost use Rattle.rmp_encode.specs.Sizes.{one_of};
 
@@ -158,14 +16,98 @@ use crate::serializer::Serializer;
 use rmp_wire::Sink;
 use rmp_wire::config::SerializerConfig;
 """
-    source += "".join(implementation(n) for n in range(1, len(NAMES) + 1))
-    write(source, "rmp_encode", "src", "elements", "kinds.rt")
-    for n in range(1, len(NAMES) + 1):
-        for word, method in (("serialize", "write"), ("put_field", "write_fields")):
-            goals = f"Rattle.rmp_encode.proofs.elements.kinds.{NAMES[n - 1]}Elements.{method}"
-            text = halves.answers(n, half(n), method, goals) if n > 2 else answers(n, word, goals)
-            write(text, "rmp_encode", "proofs", "elements", "kinds", f"{NAMES[n - 1]}Elements", method, "Answers.antt")
+WORDS = ["One element", "Two elements", "Three elements", "Four elements", "Five elements", "Six elements", "Seven elements", "Eight elements"]
 
 
-if __name__ == "__main__":
-    main()
+def half(count: int) -> int:
+    """How many of so many elements are written first; the others come after them.
+
+    Of eight of one type it is no half: both halves would be one function, and the compiler inlines what is called once.
+    """
+    return 2 if count < 5 else 4 if count < 8 else 5
+
+
+def implementation(count: int) -> str:
+    name, names = NAMES[count - 1], kinds(count)
+    fields = "\n".join(f"    pub {field}: &'r {kind}," for field, kind in zip(FIELDS, names))
+    if count > 2:
+        elements, named = halves.bodies(count, half(count))
+    else:
+        calls = [f"        Serialize::serialize(self.{field}, se)?;\n" for field in FIELDS[:count]]
+        named_calls = [f"        se.put_field(names[{i}], self.{field})?;\n" for i, field in enumerate(FIELDS[:count])]
+        elements, named = ("".join(each) + "        Ok(())" for each in (calls, named_calls))
+    return f"""
+/// {WORDS[count - 1]}.
+#[derive(Drop)]
+pub struct {name}<'r, {", ".join(names)}> {{
+{fields}
+}}
+{halves.implementation(name, count, elements, named)}"""
+
+
+def keeps(word: str, i: int) -> str:
+    """The serializer's settings and its place, after the first i elements."""
+    if i == 1:
+        return f"c.{word}.ensures.keeps"
+    return f"(keeps_then g.W.Sink {keeps(word, i - 1)} c.{numbered(word, i - 1)}.ensures.keeps)"
+
+
+def gone(i: int, result: str, call: str) -> str:
+    """What is still to come after the element at a place, by the call's result."""
+    takes = f"(λ s. g.E{i + 1}.Serialize.takes_memory s || g.W.Sink.takes_memory)"
+    lowered = f"(λ s. g.E{i + 1}.Serialize.data_of c.args.self.now.{FIELDS[i]}.now s.human)"
+    kept = f"c.{numbered('serialize', i)}.ensures.keeps"
+    return f"(goes g.W.Sink {takes} {lowered} _ _ ({result} _) {kept} {call}.ensures.writes old t _ {state('serialize', i, 0)})"
+
+
+def next_named(i: int, count: int) -> str:
+    """What is still to come before the element at a place, whose name is next."""
+    rest = f"{bracketed(data(i + 1, count))} rest (omega (arith, c.requires)) {state('put_field', i, count)}"
+    return f"(next_named g.W.Sink c.args.names.now {i} _ ({data(i, i + 1)[0]}) {rest})"
+
+
+def state(word: str, i: int, count: int) -> str:
+    """What is still to come after the first i elements were written."""
+    if i == 0:
+        return "h"
+    call = f"c.in_ok-{numbered(word, i - 1)}"
+    return gone(i - 1, "Ok", call) if word == "serialize" else f"({call}.ensures.writes old t _ {next_named(i - 1, count)})"
+
+
+def refusal(i: int, count: int, word: str, error: str) -> str:
+    """That this error of one element is an error of all."""
+    if word == "serialize":
+        return "(inr " * i + f"(inl {error})" + ")" * i
+    names = "c.args.names.now"
+    long = f"(AnyLong (lengths {names}))"
+    term = f"(parts_weaker (long_name {names} {i} _ (omega (arith, c.requires))) {refusals(i, i + 1)} _ {error})"
+    if i + 1 < count:
+        return f"(of_front {long} {refusals(i, i + 1)} {refusals(i + 1, count)} _ {term})"
+    return f"(of_back {long} {refusals(0, i)} {refusals(i, i + 1)} _ {term})" if i else term
+
+
+def one_by_one(count: int, word: str) -> Answers:
+    """The answers of a body that writes each element by this call."""
+    terms = {}
+    for i in range(count):
+        call = f"in_err-{numbered(word, i)}"
+        residual = f"c.from_residual-{call}" if i else "c.from_residual"
+        failed = gone(i, "Err", f"c.{call}") if word == "serialize" else f"(c.{call}.ensures.writes old t _ {next_named(i, count)})"
+        terms[f"returns-{call}-clause-writes"] = returned(residual, "(λ old t rest h. part_takes g.W.Sink _"
+            f" (one_of_or g.W.Sink.takes_memory {memory(0, count)} {i})\n    {failed})")
+        terms[f"returns-{call}-clause-error"] = returned(residual, refusal(i, count, word, f"c.{call}.ensures.error"))
+        if i:
+            terms[f"returns-{call}-clause-keeps"] = keeps(word, i + 1)
+    terms["returns-clause-writes"] = f"λ old t rest h. {state(word, count, count)}"
+    if count > 1:
+        terms["returns-clause-keeps"] = keeps(word, count)
+    return Answers(USES, terms)
+
+
+def answers(count: int) -> dict[str, Answers]:
+    """Those of `write` and `write_fields`."""
+    methods = {"write": "serialize", "write_fields": "put_field"}
+    return {
+        f"{NAMES[count - 1]}Elements/{method}": halves.by_halves(count, half(count), method) if count > 2 else one_by_one(count, call)
+        for method, call in methods.items()
+    }

@@ -1,14 +1,10 @@
-#!/usr/bin/env python3
-"""Writes the implementations of `EndsInside` for tuples of one to twelve elements.
+"""`EndsInside` for tuples, for tuples.py."""
+from __future__ import annotations
 
-    tools/ends_tuples.py [FOLDER]     writes below this folder in place of the repository's top
+from derived_rounds import all_of
+from shared import KINDS, bounded, list_of, tuple_of
 
-Run `rt fmt` in the crate afterwards.
-"""
-from lines import write
-from shared import KINDS, list_of, tuple_of
-
-HEAD = """//! Tuples. Written by tools/ends_tuples.py.
+HEAD = """//! Tuples. Written by tools/tuples.py.
 ghost use Rattle.std.specs.Prelude.{◌∷◌, []};
 ghost use Rattle.rmp_decode.specs.Refusing.{part_of};
 ghost use Rattle.rmp_ends.specs.RowEnds.{tuple_inside};
@@ -18,20 +14,11 @@ use rmp_wire::ReadSlice;
 """
 
 
-def implementation(kinds):
-    bounds = ", ".join(f"{k}: EndsInside<'de, R>" for k in kinds)
-    laws = "".join(f"({k}.ends_inside, " for k in kinds) + "tt" + ")" * len(kinds)
-    parts = list_of([f"part_of {k}.reads {k}.refuses" for k in kinds])
+def implementation(count: int) -> str:
+    kinds = KINDS[:count]
+    parts = list_of([f"part_of {kind}.reads {kind}.refuses" for kind in kinds])
     return f"""
-impl<'de, R: ReadSlice<'de>, {bounds}> EndsInside<'de, R> for {tuple_of(kinds)} {{
-    ghost ends_inside = {{ tuple_inside ({parts}) {laws} }};
+impl<'de, R: ReadSlice<'de>, {bounded(kinds, "EndsInside<'de, R>")}> EndsInside<'de, R> for {tuple_of(kinds)} {{
+    ghost ends_inside = {{ tuple_inside ({parts}) {all_of([f"{kind}.ends_inside" for kind in kinds])} }};
 }}
 """
-
-
-def main():
-    write(HEAD + "".join(implementation(KINDS[:n]) for n in range(1, len(KINDS) + 1)), "rmp_ends", "src", "ends_inside", "tuples.rt")
-
-
-if __name__ == "__main__":
-    main()

@@ -1,21 +1,16 @@
-#!/usr/bin/env python3
-"""Writes `EightThen` and `SixteenThen`, the structs that so many fields and the others are read as, and their proofs.
+"""`EightThen` and `SixteenThen`, the structs that so many fields and the others are read as, and their proofs, for tuples.py.
 
-    tools/fields_then.py [FOLDER]      writes below this folder in place of the repository's top
-
-Each hands on to what it groups: eight fields to two tuples of four, sixteen to two `EightThen`. Run `rt fmt` in the crate afterwards.
+Each hands on to what it groups: eight fields to two tuples of four, sixteen to two `EightThen`.
 """
 from __future__ import annotations
 
 import dataclasses
 
 from halves import FIELDS
-from lines import write
+from shared import Answers, bounded
 
 # The types of the fields: `C` is that of the settings, `R` that of the source, `F` that of the other fields and `S` that of their slots.
 KINDS = "A B D E G H I J K L M N O P Q T".split()
-# Where its proofs begin.
-PLACE = ("proofs", "access", "fields")
 
 
 @dataclasses.dataclass(frozen=True)
@@ -82,10 +77,8 @@ def eight_record(values: list[str]) -> str:
     return f"record {{ {' '.join(f'{field} = {value};' for field, value in zip(FIELDS, values))} rest = REST; }}"
 
 
-GROUPS = [
-    Group(8, "Eight", "The eight are read and proved as two tuples of four."),
-    Group(16, "Sixteen", "The sixteen are read and proved as two structs of eight."),
-]
+EIGHT = Group(8, "Eight", "The eight are read and proved as two tuples of four.")
+SIXTEEN = Group(16, "Sixteen", "The sixteen are read and proved as two structs of eight.")
 
 
 def types(group: Group) -> str:
@@ -168,12 +161,11 @@ def code(group: Group) -> str:
 """
 
 
-def source(group: Group) -> str:
-    """The text of its module."""
-    bounds = "".join(f"    {kind}: Deserialize<'de, R>,\n" for kind in group.kinds())
+def head(group: Group) -> str:
+    """What its module begins with."""
     eight = "" if group.is_eight() else "use super::eight::{EightSlots, EightThen};\n"
     return f"""//! {group.word} fields and the others, as a struct. What is known of a struct is said by its name, while of a tuple it is written out. So a struct
-//! of more than sixteen fields is read as these. Written by tools/fields_then.py.
+//! of more than sixteen fields is read as these. Written by tools/tuples.py.
 
 use super::Fields;
 {eight}use crate::access::map::MapAccess;
@@ -183,63 +175,36 @@ use crate::deserializer::Deserializer;
 use crate::error::Error;
 use rmp_wire::ReadSlice;
 use rmp_wire::config::SerializerConfig;
-{types(group)}
+"""
+
+
+def implementation(group: Group) -> str:
+    return f"""{types(group)}
 // {group.about}
-impl<
-    'de,
-    R: ReadSlice<'de>,
-{bounds}    F: Fields<'de, R>,
-> Fields<'de, R> for {group.of()} {{
+impl<'de, R: ReadSlice<'de>, {bounded(group.kinds(), "Deserialize<'de, R>")}, F: Fields<'de, R>> Fields<'de, R> for {group.of()} {{
 {ghosts(group)}{code(group)}}}
 """
 
 
-def proofs(group: Group) -> dict[str, str]:
-    """What the answers of each function say."""
+def answers(group: Group) -> dict[str, Answers]:
+    """Those of each function."""
     narrower = f"""record {{
   stays = f.stays;
   failed = f.failed;
   err = λ m k. row_narrower _ _ _ _ _ _ (λ ms r. ({group.value('r.0')}, r.1)) (f.err m k);
 }}"""
-    return {
-        "fill": """use Rattle.rmp_decode.proofs.Fields.{if_some, or_left, or_right}
-GOALS
-pub returns-clause-ok : goal.returns-clause-ok
-returns-clause-ok g c = λ t. let f = c.fill.ensures.ok t in record { took = f.took; filled = f.filled }
-
-pub returns-clause-err : goal.returns-clause-err
-returns-clause-err g c = λ n. if_some c.fill.new.refusal (λ e. or_right (λ f. record { full = f.full; same = f.same })) (c.fill.ensures.err n)
-
-pub returns-clause-refused : goal.returns-clause-refused
-returns-clause-refused g c = λ n. if_some c.fill.new.refusal (λ e. or_left (λ p. (p.0, record { full = p.1.full; same = p.1.same })))
-    (c.fill.ensures.refused n)
-""",
-        "row": f"""use Rattle.rmp_decode.proofs.FieldRows.{{if_some}}
-use Rattle.rmp_decode.proofs.Tuples.{{row_narrower}}
-GOALS
-pub returns-clause-err : goal.returns-clause-err
-returns-clause-err g c = λ n. if_some c.row.new.refusal (λ e f. {narrower}) (c.row.ensures.err n)
-""",
-        "finish": f"""GOALS
-pub returns-in-None : goal.returns-in-None
-returns-in-None g c = λ human lends fs h v. c.in-None.ensures human lends fs h {group.value('v')}
-""",
-        "listed": f"""use Rattle.rmp_decode.proofs.Tuples.{{row_narrower}}
-GOALS
-pub returns-in-Err-clause-err : goal.returns-in-Err-clause-err
-returns-in-Err-clause-err g c = let f = c.in-Err.ensures.err in {narrower}
-""",
+    tuples = {"rmp_decode.proofs.Tuples": "row_narrower"}
+    methods = {
+        "fill": Answers({"rmp_decode.proofs.Fields": "if_some or_left or_right"}, {
+            "returns-clause-ok": "λ t. let f = c.fill.ensures.ok t in record { took = f.took; filled = f.filled }",
+            "returns-clause-err": "λ n. if_some c.fill.new.refusal (λ e. or_right (λ f. record { full = f.full; same = f.same })) (c.fill.ensures.err n)",
+            "returns-clause-refused": "λ n. if_some c.fill.new.refusal (λ e. or_left (λ p. (p.0, record { full = p.1.full; same = p.1.same })))\n"
+                "    (c.fill.ensures.refused n)",
+        }),
+        "row": Answers({"rmp_decode.proofs.FieldRows": "if_some"} | tuples, {
+            "returns-clause-err": f"λ n. if_some c.row.new.refusal (λ e f. {narrower}) (c.row.ensures.err n)",
+        }),
+        "finish": Answers({}, {"returns-in-None": f"λ human lends fs h v. c.in-None.ensures human lends fs h {group.value('v')}"}),
+        "listed": Answers(tuples, {"returns-in-Err-clause-err": f"let f = c.in-Err.ensures.err in {narrower}"}),
     }
-
-
-def main() -> None:
-    for group in GROUPS:
-        write(source(group), "rmp_decode", "src", "access", "fields", f"{group.module}.rt")
-        for method, text in proofs(group).items():
-            place = (*PLACE, group.module, f"{group.name}Fields", method)
-            goals = f"use Rattle.rmp_decode.{'.'.join(place)}.Goals as goal\n"
-            write(text.replace("GOALS\n", goals), "rmp_decode", *place, "Answers.antt")
-
-
-if __name__ == "__main__":
-    main()
+    return {f"{group.name}Fields/{method}": of for method, of in methods.items()}

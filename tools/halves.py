@@ -1,6 +1,7 @@
-"""Elements that are written by two calls, the first ones and the others: their type and its proofs, for elements.py and derive.py."""
+"""Elements that are written by two calls, the first ones and the others: their type and its proofs, for tuples.py and derive.py."""
+from __future__ import annotations
 
-from shared import bracketed
+from shared import Answers, bounded, bracketed, in_a_row
 
 FIELDS = ("first second third fourth fifth sixth seventh eighth"
           " ninth tenth eleventh twelfth thirteenth fourteenth fifteenth sixteenth"
@@ -14,23 +15,39 @@ MORE = ("NineParts TenParts ElevenParts TwelveParts ThirteenParts FourteenParts 
         " TwentyFiveParts TwentySixParts TwentySevenParts TwentyEightParts TwentyNineParts ThirtyParts ThirtyOneParts ThirtyTwoParts").split()
 
 
-def kinds(n):
+# What proofs of writes may name.
+USES = {
+    "std.proofs.Common": "inl inr arith rules refl ◌∷◌ []",
+    "std.specs.Prelude": "◌||◌ Ok Err",
+    "std.proofs.lemmas.Result": "err_from_is_err_and",
+    "rmp_encode.specs.Going": "IsWriting",
+    "rmp_encode.specs.Ser": "sink_of settings_of",
+    "rmp_encode.specs.Trees": "forces_all",
+    "rmp_encode.proofs.Fields": "named_halves next_named",
+    "rmp_encode.proofs.Going": "goes going_more keeps_then unopened",
+    "rmp_encode.proofs.Parts": "rests_at part_or front_or back_or one_of_or part_takes or_front or_one_of",
+    "rmp_encode.proofs.Refusals": "long_name long_rest long_take of_back of_front of_no_part on_back on_no_part on_parts_weaker parts_weaker unopened_by_sink",
+    "rmp_encode.specs.Refusals": "lengths AnyLong",
+}
+
+
+def kinds(n: int) -> list[str]:
     return [f"E{i + 1}" for i in range(n)]
 
 
-def holder(n, path=""):
+def holder(n: int, path: str = "") -> str:
     """The struct that holds so many."""
     return f"{path}{NAMES[n - 1]}" if n <= len(NAMES) else MORE[n - len(NAMES) - 1]
 
 
-def some(start, end, path=""):
+def some(start: int, end: int, path: str = "") -> str:
     """The elements from one place to another, as a value."""
     fields = " ".join(f"{FIELDS[i - start]}: self.{FIELDS[i]}," for i in range(start, end))
     return f"{holder(end - start, path)} {{ {fields} }}"
 
 
-def bodies(n, k, path=""):
-    """How so many elements are written, the first k before the others: with names and without."""
+def bodies(n: int, k: int, path: str = "") -> tuple[str, str]:
+    """How so many elements are written, the first k before the others: without names and with them."""
     parts = f"""        let front = {some(0, k, path)};
         let back = {some(k, n, path)};
 """
@@ -41,25 +58,21 @@ def bodies(n, k, path=""):
     return elements, named
 
 
-def implementation(name, n, elements, named, path=""):
+def implementation(name: str, n: int, elements: str, named: str, path: str = "") -> str:
     """`Elements` of the struct with this name, by these bodies."""
     names = kinds(n)
-    bounds = ", ".join(f"{kind}: Serialize" for kind in names)
-    data = " ∷ ".join(f"{kind}.data_of v.{FIELDS[i]}.now human" for i, kind in enumerate(names))
-    value = " × ".join(f"{kind}.is_value v.{FIELDS[i]}.now" for i, kind in enumerate(names))
-    memory = bracketed([f"{kind}.takes_memory s" for kind in names])
-    refusals = " ∷ ".join(f"{kind}.refuses v.{FIELDS[i]}.now" for i, kind in enumerate(names))
+    fields = list(zip(names, FIELDS))
     return f"""
-impl<'r, {bounds}> Elements for {name}<'r, {", ".join(names)}> {{
+impl<'r, {bounded(names, "Serialize")}> Elements for {name}<'r, {", ".join(names)}> {{
     ghost count = {{ {n} }};
 
-    ghost parts_of = {{ λ v human. {data} ∷ [] }};
+    ghost parts_of = {{ λ v human. {in_a_row(f"{kind}.data_of v.{field}.now human" for kind, field in fields)} }};
 
-    ghost are_values = {{ λ v. {value} }};
+    ghost are_values = {{ λ v. {" × ".join(f"{kind}.is_value v.{field}.now" for kind, field in fields)} }};
 
-    ghost refusals = {{ λ v. {refusals} ∷ [] }};
+    ghost refusals = {{ λ v. {in_a_row(f"{kind}.refuses v.{field}.now" for kind, field in fields)} }};
 
-    ghost takes_memory = {{ λ s. one_of {memory} }};
+    ghost takes_memory = {{ λ s. one_of {bracketed([f"{kind}.takes_memory s" for kind in names])} }};
 
     ghost counted = {{ λ v human. refl }};
 
@@ -85,64 +98,49 @@ impl<'r, {bounds}> Elements for {name}<'r, {", ".join(names)}> {{
 """
 
 
-def answers(n, k, word, goals):
-    """The answers of one of these bodies, `write` or `write_fields`, whose goals are in this module."""
+def returned(residual: str, term: str) -> str:
+    """The answer where a `?` returns: its error is that of the call."""
+    return f"\n    let p = err_from_is_err_and {residual}.result {residual}.ensures.1 in\n    rw (p.1, p.2) {term}"
 
-    def memory(start, end):
-        return bracketed([f"g.E{i + 1}.Serialize.takes_memory (settings_of old)" for i in range(start, end)])
 
-    def data(start, end):
-        return bracketed([f"g.E{i + 1}.Serialize.data_of c.args.self.now.{FIELDS[i]}.now (settings_of old).human" for i in range(start, end)])
+def memory(start: int, end: int) -> str:
+    """Whether each of these elements may take memory."""
+    return bracketed([f"g.E{i + 1}.Serialize.takes_memory (settings_of old)" for i in range(start, end)])
 
-    def refusals(start, end):
-        return bracketed([f"g.E{i + 1}.Serialize.refuses c.args.self.now.{FIELDS[i]}.now" for i in range(start, end)])
 
-    def less(side):
-        return f"({side}_or g.W.Sink.takes_memory {memory(0, k)} {memory(k, n)})"
+def data(start: int, end: int) -> list[str]:
+    """What each of them is written as."""
+    return [f"g.E{i + 1}.Serialize.data_of c.args.self.now.{FIELDS[i]}.now (settings_of old).human" for i in range(start, end)]
 
-    long, front_error, back_error = "⊥", f"c.in_err-{word}.ensures.error", f"c.{word}-2.ensures.error"
+
+def refusals(start: int, end: int) -> str:
+    """How each of them is refused."""
+    return bracketed([f"g.E{i + 1}.Serialize.refuses c.args.self.now.{FIELDS[i]}.now" for i in range(start, end)])
+
+
+def by_halves(n: int, k: int, word: str) -> Answers:
+    """The answers of one of these bodies, `write` or `write_fields`."""
+    long, first = "⊥", "h"
+    front_error, back_error = f"c.in_err-{word}.ensures.error", f"c.{word}-2.ensures.error"
     if word == "write_fields":
         names = "c.args.names.now"
         long = f"(AnyLong (lengths {names}))"
+        first = f"(named_halves g.W.Sink {names} {k} {bracketed(data(0, k))} {bracketed(data(k, n))} rest refl (omega (arith, c.requires)) h)"
         front_error = f"(parts_weaker (long_take {k} {names}) {refusals(0, k)} _ {front_error})"
         back_error = f"(on_parts_weaker (long_rest {k} _ {names}) {refusals(k, n)} c.{word}-2.result {back_error})"
-    named = f"(named_halves g.W.Sink c.args.names.now {k} {data(0, k)} {data(k, n)} rest refl (omega (arith, c.requires)) h)"
-    first = "h" if word == "write" else named
-    back = f"c.{word}-2.ensures.writes old t rest (c.in_ok-{word}.ensures.writes old t _ {first})"
-    uses = [
-        f"Rattle.std.proofs.Common.{{{'' if word == 'write' else 'arith, refl, '}◌∷◌, []}}",
-        "Rattle.std.proofs.lemmas.Result.{err_from_is_err_and}",
-        "Rattle.rmp_encode.specs.Going.{IsWriting}",
-        "Rattle.rmp_encode.specs.Ser.{sink_of, settings_of}",
-    ]
-    if word == "write_fields":
-        uses.append("Rattle.rmp_encode.proofs.Fields.{named_halves}")
-    uses.append("Rattle.rmp_encode.proofs.Going.{going_more, keeps_then}")
-    uses.append("Rattle.rmp_encode.proofs.Parts.{front_or, back_or, part_takes}")
-    uses.append(f"Rattle.rmp_encode.proofs.Refusals.{{{'' if word == 'write' else 'long_rest, long_take, '}of_front, on_back{'' if word == 'write' else ', on_parts_weaker, parts_weaker'}}}")
-    if word == "write_fields":
-        uses.append("Rattle.rmp_encode.specs.Refusals.{lengths, AnyLong}")
-    return "".join(f"use {name}\n" for name in uses) + f"""use {goals}.Goals as goal
+    halves = f"_or g.W.Sink.takes_memory {memory(0, k)} {memory(k, n)}"
+    return Answers(USES, {
+        f"returns-in_err-{word}-clause-writes": returned("c.from_residual", f"(λ old t rest h. part_takes g.W.Sink _ (front{halves})\n"
+            f"    (c.in_err-{word}.ensures.writes old t _ {first}))"),
+        "returns-clause-writes": f"λ old t rest h. going_more g.W.Sink (IsWriting g.W.Sink old t rest c.{word}-2.new.se) t (sink_of old)\n"
+            f"    (sink_of c.{word}-2.new.se) c.{word}-2.result (back{halves})\n"
+            f"    (c.{word}-2.ensures.writes old t rest (c.in_ok-{word}.ensures.writes old t _ {first}))",
+        "returns-clause-keeps": f"keeps_then g.W.Sink c.{word}.ensures.keeps c.{word}-2.ensures.keeps",
+        f"returns-in_err-{word}-clause-error": returned("c.from_residual", f"(of_front {long} {refusals(0, k)} {refusals(k, n)} _ {front_error})"),
+        "returns-clause-error": f"on_back {long} {refusals(0, k)} {refusals(k, n)} c.{word}-2.result {back_error}",
+    })
 
-pub returns-in_err-{word}-clause-writes : goal.returns-in_err-{word}-clause-writes
-returns-in_err-{word}-clause-writes g c =
-    let p = err_from_is_err_and c.from_residual.result c.from_residual.ensures.1 in
-    rw (p.1, p.2) (λ old t rest h. part_takes g.W.Sink _ {less("front")}
-    (c.in_err-{word}.ensures.writes old t _ {first}))
 
-pub returns-clause-writes : goal.returns-clause-writes
-returns-clause-writes g c = λ old t rest h. going_more g.W.Sink (IsWriting g.W.Sink old t rest c.{word}-2.new.se) t (sink_of old)
-    (sink_of c.{word}-2.new.se) c.{word}-2.result {less("back")}
-    ({back})
-
-pub returns-clause-keeps : goal.returns-clause-keeps
-returns-clause-keeps g c = keeps_then g.W.Sink c.{word}.ensures.keeps c.{word}-2.ensures.keeps
-
-pub returns-in_err-{word}-clause-error : goal.returns-in_err-{word}-clause-error
-returns-in_err-{word}-clause-error g c =
-    let p = err_from_is_err_and c.from_residual.result c.from_residual.ensures.1 in
-    rw (p.1, p.2) (of_front {long} {refusals(0, k)} {refusals(k, n)} _ {front_error})
-
-pub returns-clause-error : goal.returns-clause-error
-returns-clause-error g c = on_back {long} {refusals(0, k)} {refusals(k, n)} c.{word}-2.result {back_error}
-"""
+def answers(n: int, k: int, word: str, goals: str) -> str:
+    """The text of these answers, whose goals are in this module."""
+    return by_halves(n, k, word).text(goals)

@@ -1,33 +1,38 @@
-#!/usr/bin/env python3
-"""Writes `read_fields_2` to `read_fields_12`, which read so many fields, and what their contracts name.
-
-    tools/read_fields.py [FOLDER]      writes below this folder in place of the repository's top
+"""`read_fields_2` to `read_fields_12`, which read so many fields, and what their contracts name, for tuples.py.
 
 The contract of each says what each field is read from, in one list, and names no type of more fields: so a struct that calls it is proved
-without what is said of nested tuples. Run `rt fmt` in the crate afterwards.
+without what is said of nested tuples.
 """
 from __future__ import annotations
 
 from declarations import LEAST_FLAT, MOST_FLAT
 from derived_terms import chained, nested, place_of
-from lines import write
+from shared import bounded, list_of
 
-HEAD = """//! Reads of 2 to 12 fields, whose contracts name each field's part in one list. Written by tools/read_fields.py.
-ghost use Rattle.std.specs.Prelude.{◌≡◌, ◌∷◌, [], length, IfErr};
-ghost use Rattle.rmp_decode.specs.FieldRefusing.{RefusesFields};
-ghost use Rattle.rmp_decode.specs.Fields.{OfFields};
-ghost use Rattle.rmp_decode.specs.Law.{Lawful};
-ghost use Rattle.rmp_decode.specs.Names.{bytes_of};
-ghost use Rattle.rmp_decode.specs.Refusing.{RefusesAs, part_of};
-ghost use Rattle.rmp_decode.specs.State.{config_of};
-%s
+COUNTS = range(LEAST_FLAT, MOST_FLAT + 1)
+
+
+def uses() -> str:
+    names = [f"reads_{count}" for count in COUNTS]
+    return "".join(f"ghost use Rattle.rmp_decode.specs.ReadFields.{{{', '.join(names[at : at + 8])}}};\n" for at in range(0, len(names), 8))
+
+
+HEAD = f"""//! Reads of 2 to 12 fields, whose contracts name each field's part in one list. Written by tools/tuples.py.
+ghost use Rattle.std.specs.Prelude.{{◌≡◌, ◌∷◌, [], length, IfErr}};
+ghost use Rattle.rmp_decode.specs.FieldRefusing.{{RefusesFields}};
+ghost use Rattle.rmp_decode.specs.Fields.{{OfFields}};
+ghost use Rattle.rmp_decode.specs.Law.{{Lawful}};
+ghost use Rattle.rmp_decode.specs.Names.{{bytes_of}};
+ghost use Rattle.rmp_decode.specs.Refusing.{{RefusesAs, part_of}};
+ghost use Rattle.rmp_decode.specs.State.{{config_of}};
+{uses()}
 use crate::de::Deserialize;
 use crate::deserializer::Deserializer;
 use crate::error::Error;
 use rmp_wire::ReadSlice;
 use rmp_wire::config::SerializerConfig;
 """
-SPECS = """-- Which trees of so many fields, each there or missing, are read as which values, by those of the fields' types. Written by tools/read_fields.py.
+SPECS = """-- Which trees of so many fields, each there or missing, are read as which values, by those of the fields' types. Written by tools/tuples.py.
 use Rattle.std.specs.Prelude.{Bool, List, Option}
 use Rattle.rmp_wire.specs.Msg.{Msg}
 use Rattle.rmp_decode.specs.Fields.{Field, Absent, NoField}
@@ -58,7 +63,7 @@ reads_{count} {words} human lends fs v = {fields} fs
 def function(count: int) -> str:
     kinds = [f"P{at}" for at in range(count)]
     given = " ".join(f"{kind}.reads {kind}.absent" for kind in kinds)
-    parts = " ∷ (".join(f"part_of {kind}.reads {kind}.refuses" for kind in kinds) + " ∷ []" + ")" * (count - 1)
+    parts = list_of([f"part_of {kind}.reads {kind}.refuses" for kind in kinds])
     human = "(C.human (config_of de.old))"
     return f"""
 /// Reads {count} fields by their names, as `Deserializer::deserialize_fields` does.
@@ -66,7 +71,7 @@ def function(count: int) -> str:
 /// # Errors
 /// Those of `Deserializer::deserialize_fields`.
 #[inline(always)]
-pub fn read_fields_{count}<'de, R: ReadSlice<'de>, C: SerializerConfig, {', '.join(f"{kind}: Deserialize<'de, R>" for kind in kinds)}>(
+pub fn read_fields_{count}<'de, R: ReadSlice<'de>, C: SerializerConfig, {bounded(kinds, "Deserialize<'de, R>")}>(
     de: &mut Deserializer<R, C>,
     names: &[&str],
 ) -> Result<{nested(kinds)}, Error>
@@ -77,15 +82,3 @@ pub fn read_fields_{count}<'de, R: ReadSlice<'de>, C: SerializerConfig, {', '.jo
     de.deserialize_fields::<{nested(kinds)}>(names)
 }}
 """
-
-
-def main() -> None:
-    counts = range(LEAST_FLAT, MOST_FLAT + 1)
-    names = [f"reads_{count}" for count in counts]
-    uses = "".join(f"ghost use Rattle.rmp_decode.specs.ReadFields.{{{', '.join(names[at : at + 8])}}};\n" for at in range(0, len(names), 8))
-    write(HEAD % uses + "".join(map(function, counts)), "rmp_decode", "src", "access", "read_fields.rt")
-    write(SPECS + "".join(map(reads, counts)), "rmp_decode", "specs", "ReadFields.antt")
-
-
-if __name__ == "__main__":
-    main()

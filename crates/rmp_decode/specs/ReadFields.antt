@@ -1,4 +1,4 @@
--- Which trees of so many fields, each there or missing, are read as which values, by those of the fields' types. Written by tools/read_fields.py.
+-- Which trees of so many fields, each there or missing, are read as which values, by those of the fields' types. Written by tools/tuples.py.
 use Rattle.std.specs.Prelude.{Bool, List, Option}
 use Rattle.rmp_wire.specs.Msg.{Msg}
 use Rattle.rmp_decode.specs.Fields.{Field, Absent, NoField}

@@ -1,4 +1,4 @@
-//! Reads of 2 to 12 fields, whose contracts name each field's part in one list. Written by tools/read_fields.py.
+//! Reads of 2 to 12 fields, whose contracts name each field's part in one list. Written by tools/tuples.py.
 ghost use Rattle.std.specs.Prelude.{◌≡◌, ◌∷◌, [], length, IfErr};
 ghost use Rattle.rmp_decode.specs.FieldRefusing.{RefusesFields};
 ghost use Rattle.rmp_decode.specs.Fields.{OfFields};

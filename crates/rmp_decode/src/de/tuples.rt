@@ -1,4 +1,4 @@
-//! Tuples, from lists of as many elements, or bytes of as many. Written by tools/read_tuples.py.
+//! Tuples, from lists of as many elements, or bytes of as many. Written by tools/tuples.py.
 ghost use Rattle.std.specs.Prelude.{◌||◌, None, [], ◌∷◌};
 ghost use Rattle.rmp_decode.specs.Refusing.{part_of, RefusesTuple};
 ghost use Rattle.rmp_decode.specs.Rows.{AndThen, NoMore};

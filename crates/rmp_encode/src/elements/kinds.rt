@@ -1,4 +1,4 @@
-//! One to eight elements of several types. Written by tools/elements.py.
+//! One to eight elements of several types. Written by tools/tuples.py.
 ghost use Rattle.std.specs.Prelude.{◌∷◌, [], refl};
 ghost use Rattle.rmp_encode.specs.Sizes.{one_of};
 

@@ -1,4 +1,4 @@
-//! Tuples. Written by tools/ends_tuples.py.
+//! Tuples. Written by tools/tuples.py.
 ghost use Rattle.std.specs.Prelude.{◌∷◌, []};
 ghost use Rattle.rmp_decode.specs.Refusing.{part_of};
 ghost use Rattle.rmp_ends.specs.RowEnds.{tuple_inside};

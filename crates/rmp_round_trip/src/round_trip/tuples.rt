@@ -1,4 +1,4 @@
-//! Tuples. Written by tools/round_tuples.py.
+//! Tuples. Written by tools/tuples.py.
 ghost use Rattle.std.specs.Prelude.{◌∷◌, ◌||◌, [], true};
 ghost use Rattle.rmp_round_trip.specs.OnlyRows.{item_only, last_only, lowers_then, row_both};
 ghost use Rattle.rmp_round_trip.specs.RoundTrip.{Only};

@@ -1,5 +1,5 @@
 //! Sixteen fields and the others, as a struct. What is known of a struct is said by its name, while of a tuple it is written out. So a struct
-//! of more than sixteen fields is read as these. Written by tools/fields_then.py.
+//! of more than sixteen fields is read as these. Written by tools/tuples.py.
 
 use super::Fields;
 use super::eight::{EightSlots, EightThen};
