@@ -15,11 +15,11 @@ use std::fmt::Write;
 use std::io::Read;
 
 // How many bytes of a line each beginning of is asked for.
-const MOST: usize = 100;
+const MOST: usize = 300;
 
 // What `message_len` answers for each beginning.
 fn lengths(bytes: &[u8], said: &mut String) -> Result<(), Fault> {
-    for n in 0..bytes.len().min(MOST) + 1 {
+    for n in 0..=bytes.len().min(MOST) {
         match message_len(&bytes[..n]) {
             Ok(Some(len)) => write!(said, " {len}")?,
             Ok(None) => write!(said, " -")?,
