@@ -77,7 +77,7 @@ impl Incoming {
     /// request goes on after the piece.
     ///
     /// # Errors
-    /// Each `StreamRefusal`, for the reason that it names. After an error each further call answers `Closed`.
+    /// Each `StreamRefusal`, for the reason that it names. After an error each further call returns `Closed`.
     pub fn next<'a>(
         &mut self,
         alloc: Global,

@@ -21,11 +21,11 @@ pub enum Scan {
 // The limit at first: no message comes near it.
 const NO_LIMIT: u128 = 0x10_0000_0000_0000_0000_0000_0000;
 
-/// Finds where messages end that arrive in pieces, as from a socket or the tail of a file.
+/// Finds the ends of messages that arrive in pieces, as from a socket or the tail of a file.
 ///
 /// It keeps what the message still needs, as a few numbers: how many messages, how many bytes of payload, and the rest
 /// of a length that was cut. It allocates nothing, and looks at each byte once. Payload is skipped. Lists and maps may
-/// nest to any depth, and texts needn't be UTF-8: whoever reads the message checks both.
+/// nest to any depth, and texts needn't be UTF-8: a read of the message checks both.
 #[derive(Clone, Copy, Debug)]
 pub struct Scanner {
     limit: u128,

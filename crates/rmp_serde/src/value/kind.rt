@@ -1,6 +1,6 @@
 //! The kinds of message trees.
 
-/// What kind of message a tree is.
+/// The kind of a message.
 #[derive(Clone, Copy, Debug, PartialEq, Eq)]
 pub enum Kind {
     /// Nil.
@@ -13,7 +13,7 @@ pub enum Kind {
     F32,
     /// A 64-bit float.
     F64,
-    /// A text, which may be no UTF-8.
+    /// A text, which needn't be UTF-8.
     Text,
     /// Bytes.
     Bytes,

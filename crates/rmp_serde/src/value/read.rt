@@ -213,8 +213,8 @@ impl Value {
     ghost use Rattle.rmp_wire.specs.Spelling.{Spells};
     ghost use Rattle.rmp_decode.specs.Law.{Begins, Readable};
 
-    /// Reads the value that the beginning of the input encodes. What follows it isn't looked at. It does the
-    /// same as `from_slice`, and its contract says of each error what is wrong, and where.
+    /// Reads the value at the front of the input, as `from_slice` does. What follows it isn't looked at. The
+    /// contract says of each error what is wrong, and where.
     ///
     /// # Errors
     /// Those of `Value::read`.
@@ -240,8 +240,7 @@ impl Value {
         read_value::<ReadRefReader<'de>, DefaultConfig, Slices<'de>>(&mut de)
     }
 
-    /// Reads the next value. It does the same as `deserialize`, and its contract says of each error what is
-    /// wrong, and where.
+    /// Reads the next value, as `deserialize` does. The contract says of each error what is wrong, and where.
     ///
     /// # Errors
     /// The first thing that is wrong. Where the input ends: `InvalidMarkerRead` before a message, `InvalidDataRead`

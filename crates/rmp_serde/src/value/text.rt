@@ -22,7 +22,7 @@ const BLOCK: usize = 64;
 /// in hex, `[a,b]`, `{k=v,k=v}`, or `x(TAG):` and bytes in hex.
 ///
 /// It isn't recursive, however deep the message nests: a vector holds the lists and maps that aren't closed
-/// yet. Out of memory for the vector, it returns an error.
+/// yet. If memory for it runs out, that is an error.
 impl fmt::Debug for Value {
     ghost use Rattle.std.specs.Prelude.{Some};
     ghost use Rattle.rmp_serde.specs.TreeText.{tree_text};
