@@ -1,22 +1,26 @@
 -- When a list, bytes or a map can't be opened.
-use Rattle.std.proofs.Common.{◌≡◌, ◌≢◌, ◌∙◌, sym, subst, refl, ℕ, ◌<◌, ◌≤◌, arith, length, Bool, true, false, Ok, Err}
+use Rattle.std.proofs.Common.{◌≡◌, ◌≢◌, ◌∙◌, sym, refl, ℕ, ◌<◌, ◌≤◌, arith, inl, inr, length, Bool, true, false, Ok, Err}
 use Rattle.rmp_wire.specs.declared.head.Head.{Head}
 use Rattle.rmp_wire.specs.declared.head.Head.TheVariants as head
 use Rattle.rmp_wire.specs.declared.head.Head.TheVariants.{Array, Map}
 use Rattle.rmp_wire.specs.declared.marker.Marker.{Marker}
 use Rattle.rmp_wire.specs.declared.source.Source.{Ghosts}
+use Rattle.rmp_wire.specs.Kinds.{parts_head}
 use Rattle.rmp_wire.specs.Msg.{Msg, nil, truth, whole, float32, float64, text, bin, list, map, extension, count, count_pairs, depth}
 use Rattle.rmp_wire.specs.Spelling.{head_of}
-use Rattle.rmp_decode.specs.Law.{ReadsHead}
+use Rattle.rmp_decode.specs.Law.{Lawful, Readable, ReadsHead}
 use Rattle.rmp_decode.specs.Maps.{IsMap, not_map, TakesMapHead}
-use Rattle.rmp_decode.specs.Opening.{FailsToOpenAs, TakesOpening}
+use Rattle.rmp_decode.specs.Opening.{FailsAtHead, FailsToOpenAs, IsLevel, TakesOpening}
 use Rattle.rmp_decode.specs.Seq.{IsSeq, seq_head, not_seq, TakesSeqHead}
 use Rattle.rmp_decode.specs.State.{left, room_of}
 use Rattle.rmp_decode.specs.declared.deserializer.Deserializer.{Deserializer}
+use Rattle.rmp_decode.specs.declared.deserializer.heads.Levels.{Levels}
+use Rattle.rmp_decode.specs.declared.deserializer.heads.Levels.TheVariants.{Lists, Maps, Pairs, Parts}
 use Rattle.rmp_decode.specs.declared.error.Error.{Error}
 use Rattle.rmp_decode.specs.declared.error.Error.TheVariants.{OutOfMemory, DepthLimitExceeded, Syntax}
 use Rattle.rmp_decode.specs.declared.text.Text.TheVariants.{InvalidType}
 use Rattle.rmp_decode.proofs.Exactness.{by_head, by_none}
+use Rattle.rmp_decode.proofs.Laws.{refused}
 use Rattle.rmp_decode.proofs.NothingAccepted.{refuses_none, refuses_head, refuses_by, same_head}
 
 module _ {R C A : Type 0} (g : Ghosts R) (head : A → Head) (Nests : A → Type 0) (Wants : Msg → Type 0) (table : ℕ → Marker → Head → Error → Type 0)
@@ -25,7 +29,7 @@ module _ {R C A : Type 0} (g : Ghosts R) (head : A → Head) (Nests : A → Type
   fails f = record { ok = tt; deep = tt; stays = f.stays; sound = tt; fresh = tt; clean = tt; failed = f.failed; err = f }
 
   -- no head was there
-  pub opening_ends : ReadsHead g old new (Err e) → TakesOpening g head Nests Wants table old new (Err e)
+  opening_ends : ReadsHead g old new (Err e) → TakesOpening g head Nests Wants table old new (Err e)
   opening_ends h = fails (record {
     failed = h.failed;
     stays = h.stays;
@@ -48,7 +52,7 @@ module _ {R C A : Type 0} (g : Ghosts R) (head : A → Head) (Nests : A → Type
     })
 
     -- it would nest too deep
-    pub opening_deep : ((m : Msg) → head_of m ≡ p.1 → 0 < depth m) → room_of old ≤ 1 → TakesOpening g head Nests Wants table old new (Err e)
+    opening_deep : ((m : Msg) → head_of m ≡ p.1 → 0 < depth m) → room_of old ≤ 1 → TakesOpening g head Nests Wants table old new (Err e)
     opening_deep n l = fails (record {
       failed = h.failed;
       stays = h.stays;
@@ -77,7 +81,7 @@ seq_head_of (map ps) i = absurd i
 seq_head_of (extension tag s) i = absurd i
 
 -- a list nests
-pub nests : (m : Msg) (n : ℕ) → head_of m ≡ Array n → 0 < depth m
+nests : (m : Msg) (n : ℕ) → head_of m ≡ Array n → 0 < depth m
 nests nil n e = absurd (cc)
 nests (truth t) n e = absurd (cc)
 nests (whole z) n e = absurd (cc)
@@ -107,10 +111,6 @@ module _ {R C : Type 0} (g : Ghosts R) (old new : Deserializer R C) (e : Error) 
   no_seq n is = opening_other g _ _ IsSeq not_seq old new e p h (λ q. absurd (let q' = is in cc)) (other_than_seq (room_of old) p.0 p.1 e n is)
       (λ m i q. let a = seq_head_of m i in n a.0 (sym q ∙ a.1))
 
-  -- a list would nest too deep
-  pub too_deep : (n : ℕ) → p.1 ≡ Array n → room_of old ≤ 1 → e ≡ DepthLimitExceeded → TakesSeqHead g old new (Err e)
-  too_deep n i l d = opening_deep g _ _ IsSeq not_seq old new e p h (λ q. absurd (let q' = d in cc))
-      (subst (λ z. not_seq (room_of old) p.0 z e) (sym i) (omega (arith, l), d)) (λ m q. nests m n (q ∙ i)) l
 
 -- ---- a map
 
@@ -157,7 +157,35 @@ module _ {R C : Type 0} (g : Ghosts R) (old new : Deserializer R C) (e : Error) 
   no_map f i = opening_other g _ _ IsMap not_map old new e p h (λ q. absurd (let q' = i in cc)) (other_than_map (room_of old) p.0 p.1 e f i)
       (λ m j q. let a = map_head_of m j in f a.0 (sym q ∙ a.1))
 
-  -- a map would nest too deep
-  pub map_too_deep : (n : ℕ) → p.1 ≡ Map n → room_of old ≤ 1 → e ≡ DepthLimitExceeded → TakesMapHead g old new (Err e)
-  map_too_deep n i l d = opening_deep g _ _ IsMap not_map old new e p h (λ q. absurd (let q' = d in cc))
-      (subst (λ z. not_map (room_of old) p.0 z e) (sym i) (omega (arith, l), d)) (λ m q. map_nests m n (q ∙ i)) l
+-- ---- what nests
+
+-- a list or a map nests
+parts_nest : (is_map : Bool) (m : Msg) (n : ℕ) → head_of m ≡ parts_head is_map n → 0 < depth m
+parts_nest true = map_nests
+parts_nest false = nests
+
+pub level_nests : (levels : Levels) (h : Head) → IsLevel levels h → (m : Msg) → head_of m ≡ h → 0 < depth m
+level_nests Lists h l m q = nests m l.0 (q ∙ l.1)
+level_nests Maps h l m q = map_nests m l.0 (q ∙ l.1)
+level_nests Pairs h l m q = map_nests m 1 (q ∙ l)
+level_nests Parts h l m q = parts_nest l.0.0 m l.0.1 (q ∙ l.1)
+
+pub deep_refused : {R C V : Type 0} (g : Ghosts R) (reads : Msg → V → Type 0) (levels : Levels) (old mid : Deserializer R C) (next : Marker × Head)
+    (e : Error) → ReadsHead g old mid (Ok next) → IsLevel levels next.1 → room_of old ≤ 1 → Lawful g reads old mid (Err e)
+deep_refused g reads levels old mid next e h v l = refused g reads old mid e h.fresh h.failed h.stays
+    (λ _ _. refuses_by _ (Readable reads) (room_of old) (left g old) (left g mid) h.ok.bytes h.ok.takes (λ ys q a.
+    let u = same_head _ a.tree next.1 a.bytes h.ok.bytes a.rest ys a.spelled h.ok.is_head (sym a.front) in
+    let d = level_nests levels next.1 v a.tree u.0 in
+    let f = a.fits in
+    omega (arith, l)))
+
+module _ {R C A : Type 0} (g : Ghosts R) (head : A → Head) (Nests : A → Type 0) (Wants : Msg → Type 0) (table : ℕ → Marker → Head → Error → Type 0)
+    (levels : Levels) (old new : Deserializer R C) (e : Error) where
+  -- no head was there, or it would nest too deep
+  pub opening_fails : FailsAtHead g levels old new e → ((m : Marker) (h : Head) → IsLevel levels h → table 1 m h DepthLimitExceeded)
+      → TakesOpening g head Nests Wants table old new (Err e)
+  opening_fails f t = elim f [
+    | inl h ↦ opening_ends g head Nests Wants table old new e h
+    | inr d ↦ opening_deep g head Nests Wants table old new e d.next d.begun (λ q. absurd (let l = d.limit in cc))
+        (rw (d.deep, d.limit) (t d.next.0 d.next.1 d.level)) (level_nests levels d.next.1 d.level) (omega (arith, d.deep))
+  ]

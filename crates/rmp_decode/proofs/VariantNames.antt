@@ -57,11 +57,13 @@ use Rattle.rmp_decode.specs.Exact.{BeginsWith}
 use Rattle.rmp_decode.specs.Kinds.{raw_msg, raw_head}
 use Rattle.rmp_decode.specs.Law.{Refuses, Readable, Explains, Lawful, ReadsHead, TakesHead}
 use Rattle.rmp_decode.specs.Names.{bytes_of, place_below, place_of, name_of}
+use Rattle.rmp_decode.specs.Opening.{FailsAtHead}
 use Rattle.rmp_decode.specs.Pieces.{Blamed}
 use Rattle.rmp_decode.specs.State.{left, faults_of, room_of, Stays}
 use Rattle.rmp_decode.specs.VariantNames.{IsPlace, StartsWithNoName, other_name, unknown_name, RefusesName}
 use Rattle.rmp_decode.specs.Variants.{OfVariant, IsVariant, placed, FailsToOpenVariant, IsVariantHead, other_variant, not_variant}
 use Rattle.rmp_decode.specs.declared.deserializer.Deserializer.{Deserializer}
+use Rattle.rmp_decode.specs.declared.deserializer.heads.Levels.TheVariants.{Pairs}
 use Rattle.rmp_decode.specs.declared.error.Error.{Error}
 use Rattle.rmp_decode.specs.declared.error.Error.TheVariants.{LengthMismatch, DepthLimitExceeded}
 use Rattle.rmp_decode.proofs.ContentErrors.{content_none, content_other, content_differ, same_front}
@@ -347,7 +349,7 @@ alone_refused strict room before after (Some xs) m h e s f r =
 
 module _ {R C : Type 0} (g : Ghosts R) (names : List (List ℕ)) (old new : Deserializer R C) (e : Error) where
   -- no message is there
-  pub no_variant_begins : ReadsHead g old new (Err e) → FailsToOpenVariant g names old new e
+  no_variant_begins : ReadsHead g old new (Err e) → FailsToOpenVariant g names old new e
   no_variant_begins h = record {
     failed = h.failed;
     stays = h.stays;
@@ -384,7 +386,7 @@ module _ {R C : Type 0} (g : Ghosts R) (names : List (List ℕ)) (old new : Dese
     }
 
     -- a map of one pair would nest too deep
-    pub variant_too_deep : p.1 ≡ Map 1 → room_of old ≤ 1 → e ≡ DepthLimitExceeded → FailsToOpenVariant g names old new e
+    variant_too_deep : p.1 ≡ Map 1 → room_of old ≤ 1 → e ≡ DepthLimitExceeded → FailsToOpenVariant g names old new e
     variant_too_deep i l q = record {
       failed = h.failed;
       stays = h.stays;
@@ -402,6 +404,9 @@ module _ {R C : Type 0} (g : Ghosts R) (names : List (List ℕ)) (old new : Dese
         no_name 1 i,
       );
     }
+
+  pub variant_fails : FailsAtHead g Pairs old new e → FailsToOpenVariant g names old new e
+  variant_fails f = elim f [ | inl h ↦ no_variant_begins h | inr d ↦ variant_too_deep d.next d.begun d.level (omega (arith, d.deep)) d.limit ]
 
 -- what is there alone is no name
 pub no_name_alone : {R C : Type 0} (g : Ghosts R) (names : List (List ℕ)) (old mid new : Deserializer R C) (p : Marker × Head) (e : Error)
