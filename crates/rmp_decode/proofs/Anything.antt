@@ -1,10 +1,7 @@
 -- When no message of any kind can be opened, and what its content makes of it.
-use Rattle.std.proofs.Common.{◌≡◌, ◌∙◌, sym, subst, ℕ, ◌<◌, ◌≤◌, inl, inr, arith, List, Bool, true, false, Option, Some, None, IfSome, Ok, Err}
-use Rattle.rmp_wire.specs.declared.head.Head.{Head}
+use Rattle.std.proofs.Common.{◌≡◌, subst, ℕ, inl, inr, arith, List, Bool, Option, Some, None, IfSome, Err}
 use Rattle.rmp_wire.specs.declared.marker.Marker.{Marker}
 use Rattle.rmp_wire.specs.declared.source.Source.{Ghosts}
-use Rattle.rmp_wire.specs.Msg.{Msg, depth}
-use Rattle.rmp_wire.specs.Spelling.{head_of}
 use Rattle.rmp_decode.specs.Anys.{RefusesAny, FailsToOpenAny}
 use Rattle.rmp_decode.specs.Exact.{BeginsWith, EndsExactly}
 use Rattle.rmp_decode.specs.Law.{ReadsHead}
@@ -16,8 +13,8 @@ use Rattle.rmp_decode.specs.declared.deserializer.heads.Levels.TheVariants.{Part
 use Rattle.rmp_decode.specs.declared.error.Error.{Error}
 use Rattle.rmp_decode.specs.declared.error.Error.TheVariants.{DepthLimitExceeded}
 use Rattle.rmp_decode.proofs.Exactness.{no_fault}
-use Rattle.rmp_decode.proofs.Opening.{level_nests}
-use Rattle.rmp_decode.proofs.NothingAccepted.{refuses_none, refuses_by, same_head}
+use Rattle.rmp_decode.proofs.Opening.{deep_refuses}
+use Rattle.rmp_decode.proofs.NothingAccepted.{refuses_none}
 
 any_none : (w : Bool) (room before after : ℕ) (known : Option (List ℕ)) (e : Error) → EndsExactly w before after known e
     → RefusesAny w room before after known e
@@ -52,15 +49,10 @@ module _ {R C : Type 0} (g : Ghosts R) (old new : Deserializer R C) (e : Error) 
         failed = h.failed;
         stays = h.stays;
         before = λ f. absurd (let o = h.fresh in cc);
-        err = λ _ _ _. refuses_by _ (λ m. Unit {0}) (room_of old) (left g old) (left g new) h.ok.bytes h.ok.takes (λ ys w a.
-            let u = same_head _ a.tree d.next.1 a.bytes h.ok.bytes a.rest ys a.spelled h.ok.is_head (sym a.front) in
-            let n = level_nests Parts d.next.1 d.level a.tree u.0 in
-            let f = a.fits in
-            let r = d.deep in
-            omega arith);
+        err = λ _ _ _. deep_refuses g Parts old new d.next h d.level (omega (arith, d.deep)) (λ m. Unit {0});
         exact = λ _. any_deep _ (room_of old) _ _ (left g old) d.next.0 q.0 q.1 e h.sound
             (subst (λ t. IfSome (left g old) (BeginsWith old.strict d.next.0 t)) d.level.1 h.marked) d.deep d.limit;
       }
 
   pub any_fails : FailsAtHead g Parts old new e → FailsToOpenAny g old new e
-  any_fails f = elim f [ | inl h ↦ any_missing h | inr d ↦ any_too_deep d ]
+  any_fails f = elim f [ inl h ↦ any_missing h | inr d ↦ any_too_deep d ]

@@ -1,5 +1,5 @@
 -- Bytes from a text, from bytes, or from a list of numbers.
-use Rattle.std.proofs.Common.{◌≡◌, ◌∙◌, sym, ap, refl, ℕ, pos, ◌≤◌, arith, List, [], ◌∷◌, Option, None, Some, Bool, true, false, Ok, Err, Vec, Global}
+use Rattle.std.proofs.Common.{◌≡◌, ◌∙◌, sym, ap, refl, ℕ, pos, arith, List, [], ◌∷◌, Option, None, Some, Bool, true, false, Ok, Err, Vec, Global}
 use Rattle.std.specs.Io.KnownBytes.{Consumes}
 use Rattle.rmp_wire.specs.declared.head.Head.{Head}
 use Rattle.rmp_wire.specs.declared.head.Head.TheVariants.{Array}
@@ -14,13 +14,13 @@ use Rattle.rmp_decode.specs.Law.{Refuses, Readable, Lawful, ReadsHead}
 use Rattle.rmp_decode.specs.Read.{IsUnsigned}
 use Rattle.rmp_decode.specs.Rows.{ReadsEach}
 use Rattle.rmp_decode.specs.Seq.{numbers, OfRow, Opens, Run}
-use Rattle.rmp_decode.specs.State.{left, room_of}
+use Rattle.rmp_decode.specs.State.{left}
 use Rattle.rmp_decode.specs.declared.deserializer.Deserializer.{Deserializer}
 use Rattle.rmp_decode.specs.declared.access.seq.SeqAccess.{SeqAccess}
 use Rattle.rmp_decode.specs.declared.error.Error.{Error}
-use Rattle.rmp_decode.proofs.Laws.{refused, lawful_ok}
+use Rattle.rmp_decode.proofs.Laws.{lawful_ok}
 use Rattle.rmp_decode.proofs.Seqs.{seq_done}
-use Rattle.rmp_decode.proofs.NothingAccepted.{refuses_by, same_head}
+use Rattle.rmp_decode.proofs.NothingAccepted.{same_head}
 
 -- a type that reads no more under this head than another refuses what that one does
 refuses_at : (w : Bool) (P Q : Msg → Type 0) (room : ℕ) (known k : Option (List ℕ)) (b : List ℕ) (h : Head) → Consumes known k b → heads_of w h b

@@ -1,12 +1,12 @@
 -- What the read of fields says, from what the reads of its parts say.
-use Rattle.std.proofs.Common.{◌≡◌, ◌≢◌, ◌∙◌, sym, ap, subst, refl, inl, inr, ◌⊎◌, ℕ, suc, ◌<◌, ◌≤◌, length}
+use Rattle.std.proofs.Common.{◌≡◌, ◌≢◌, ◌∙◌, sym, ap, subst, refl, inl, inr, ◌⊎◌, ℕ, suc, length}
 use Rattle.std.proofs.Common.{Bool, arith, List, [], ◌∷◌, ◌++◌, true, false, Option, None, Some, is_some, max, Ok, Err}
 use Rattle.std.proofs.KnownBytes.{Consumes-trans}
 use Rattle.std.specs.Option.{option_and_then}
 use Rattle.std.specs.Prelude.{IfSome}
 use Rattle.rmp_wire.specs.declared.source.Source.{Ghosts}
 use Rattle.rmp_wire.specs.Kinds.{parts_head}
-use Rattle.rmp_wire.specs.Msg.{Msg, nil, truth, whole, float32, float64, text, bin, list, map, extension, Msgs, no_items, item, count, count_pairs, depth}
+use Rattle.rmp_wire.specs.Msg.{Msg, nil, truth, whole, float32, float64, text, bin, list, map, extension, Msgs, no_items, item, count, count_pairs}
 use Rattle.rmp_wire.specs.Canonical.{SpellsAs}
 use Rattle.rmp_wire.specs.Spelling.{head_of}
 use Rattle.rmp_wire.specs.declared.head.Head.{Head}

@@ -9,14 +9,14 @@ use Rattle.rmp_wire.specs.Canonical.{heads_of, SpellsAs}
 use Rattle.rmp_wire.specs.Msg.{Msg, list, map, no_items, no_pairs, depth}
 use Rattle.rmp_wire.specs.Spelling.{head_of}
 use Rattle.rmp_decode.specs.Law.{Lawful, Readable, ReadsHead}
-use Rattle.rmp_decode.specs.State.{left, room_of, Stays}
+use Rattle.rmp_decode.specs.State.{room_of, Stays}
 use Rattle.rmp_decode.specs.Units.{IsExtName, IsNewtype, IsNothing, not_nothing}
 use Rattle.rmp_decode.specs.declared.deserializer.Deserializer.{Deserializer}
 use Rattle.rmp_decode.specs.declared.error.Error.{Error}
 use Rattle.rmp_decode.specs.declared.error.Error.TheVariants.{DepthLimitExceeded, Syntax}
 use Rattle.rmp_decode.specs.declared.text.Text.TheVariants.{InvalidType}
 use Rattle.rmp_decode.proofs.Laws.{lawful_err, lawful_ok, refused}
-use Rattle.rmp_decode.proofs.NothingAccepted.{refuses_all, refuses_by, same_head}
+use Rattle.rmp_decode.proofs.NothingAccepted.{refuses_all}
 
 abbrev pub NothingIs : Msg → Unit {0} → Type 0
 NothingIs m u = IsNothing m

@@ -69,9 +69,9 @@ use Rattle.rmp_decode.specs.declared.error.Error.TheVariants.{LengthMismatch, De
 use Rattle.rmp_decode.proofs.ContentErrors.{content_none, content_other, content_differ, same_front}
 use Rattle.rmp_decode.proofs.Contents.{raw_content, content_refused}
 use Rattle.rmp_decode.proofs.Exactness.{start_once}
-use Rattle.rmp_decode.proofs.Opening.{map_nests}
+use Rattle.rmp_decode.proofs.Opening.{deep_refuses}
 use Rattle.rmp_decode.proofs.Names.{name_of_raw, length_bytes}
-use Rattle.rmp_decode.proofs.NothingAccepted.{refuses_none, refuses_head, refuses_by, same_head}
+use Rattle.rmp_decode.proofs.NothingAccepted.{refuses_none, refuses_head, same_head}
 
 -- ---- a head that was taken
 
@@ -391,11 +391,7 @@ module _ {R C : Type 0} (g : Ghosts R) (names : List (List ℕ)) (old new : Dese
       failed = h.failed;
       stays = h.stays;
       before = λ b. absurd (let o = h.fresh in cc);
-      err = λ _ _ _. refuses_by _ (IsVariant names) (room_of old) (left g old) (left g new) h.ok.bytes h.ok.takes (λ ys y a.
-          let u = same_head _ a.tree p.1 a.bytes h.ok.bytes a.rest ys a.spelled h.ok.is_head (sym a.front) in
-          let below = map_nests a.tree 1 (u.0 ∙ i) in
-          let f = a.fits in
-          omega (arith, l, below, f));
+      err = λ _ _ _. deep_refuses g Pairs old new p h i l (IsVariant names);
       exact = λ _ human lends. inl (content_differ old.strict IsVariantHead other_variant (not_variant (room_of old)) _ _ _ p.0 p.1 (Map 1) e h.marked i refl
           refl (λ s. (omega (arith, l), q)) (λ n. absurd (n h.sound)));
       named = λ _ human lends. inl (
@@ -406,7 +402,7 @@ module _ {R C : Type 0} (g : Ghosts R) (names : List (List ℕ)) (old new : Dese
     }
 
   pub variant_fails : FailsAtHead g Pairs old new e → FailsToOpenVariant g names old new e
-  variant_fails f = elim f [ | inl h ↦ no_variant_begins h | inr d ↦ variant_too_deep d.next d.begun d.level (omega (arith, d.deep)) d.limit ]
+  variant_fails f = elim f [ inl h ↦ no_variant_begins h | inr d ↦ variant_too_deep d.next d.begun d.level (omega (arith, d.deep)) d.limit ]
 
 -- what is there alone is no name
 pub no_name_alone : {R C : Type 0} (g : Ghosts R) (names : List (List ℕ)) (old mid new : Deserializer R C) (p : Marker × Head) (e : Error)

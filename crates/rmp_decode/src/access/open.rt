@@ -41,17 +41,6 @@ impl<R: Source, C: SerializerConfig> Deserializer<R, C> {
         }
     }
 
-    // Consumes the head of a list or of bytes: that of a short list by the fast path.
-    #[inline(always)]
-    pub(crate) fn open_tuple(&mut self) -> Result<(bool, u32), Error>
-        ensures { TakesSeqHead R.Source self.old self.new result }
-    {
-        match self.take_nested(ListHead) {
-            Some(len) => Ok((false, len)),
-            None => self.cold_seq(),
-        }
-    }
-
     // Consumes the head of a list or of bytes: that of a short list by the fast path, and with `bytes` that of bytes
     // too, unless reading is strict.
     #[inline(always)]
@@ -99,7 +88,7 @@ impl<R: Source, C: SerializerConfig> Deserializer<R, C> {
         ensures opened { IfOk result (Opens R.Source self.old) }
     {
         let room = self.room;
-        match self.open_tuple() {
+        match self.open_row(false) {
             Ok((bytes, left)) => Ok(SeqAccess {
                 de: self,
                 left,
@@ -163,7 +152,7 @@ impl<R: Source, C: SerializerConfig> Deserializer<R, C> {
     {
         match self.opening(Levels::Maps) {
             Ok((_, head)) => match head.as_map() {
-                Some(len) => Ok(len),
+                Some(opened) => Ok(opened),
                 None => Err(Error::Syntax(Text::InvalidType)),
             },
             Err(e) => Err(e),

@@ -329,7 +329,7 @@ impl<R: Source, C: SerializerConfig> Deserializer<R, C> {
         let outer = self.room;
         self.room = inner;
         self.failed = false;
-        match self.open_tuple() {
+        match self.open_row(false) {
             Ok((bytes, len)) => {
                 self.room = outer;
                 Ok((bytes, len))

@@ -19,8 +19,8 @@ pub returns-in_err-seq-clause-law : goal.returns-in_err-seq-clause-law
 returns-in_err-seq-clause-law g c = λ old m h.
     let p = err_from_is_err_and c.from_residual.result c.from_residual.ensures.1 in
     let f = rw c.in_err-seq.was at c.open_list.follows.holds-at-none in
-    rw (p.1, f.1) (deep_refused g.R.Source (λ t v. IsBuffer t v.items) Lists old c.args.self.now (m, Array c.args.len) _ h (c.args.len, refl)
-    (let r = h.stays.room in omega (arith, f.0, r)))
+    rw (p.1, f.1) (deep_refused g.R.Source Lists old c.args.self.now (m, Array c.args.len) h (c.args.len, refl)
+    (let r = h.stays.room in omega (arith, f.0, r)) (λ t v. IsBuffer t v.items) _)
 
 pub loop-items-init : goal.loop-items-init
 loop-items-init g c =

@@ -7,4 +7,4 @@ pub returns-in-None : goal.returns-in-None
 returns-in-None g c = no_map g.R.Source _ _ _ (c.in-Ok.field-0-0, c.in-Ok.head) c.in-Ok.ensures.begun c.in-None.ensures refl
 
 pub returns-in-Err : goal.returns-in-Err
-returns-in-Err g c = opening_fails g.R.Source _ _ _ _ Maps _ _ _ c.in-Err.ensures.err (λ m h l. rw l.1 (refl, refl))
+returns-in-Err g c = opening_fails g.R.Source _ _ _ _ _ _ _ Maps c.in-Err.ensures.err (λ m h l. rw l.1 (refl, refl))

@@ -9,4 +9,4 @@ returns-in-None g c = rw c.in_default.ensures.kept at (no_seq g.R.Source _ _ _ (
 
 pub returns-in-Err : goal.returns-in-Err
 returns-in-Err g c = rw c.in_default.ensures.kept at (opening_fails g.R.Source (λ (p : Bool × ℕ). seq_head p.0 p.1) (λ p. p.0 ≡ false) IsSeq not_seq
-    Lists c.take.new.self c.opening.new.self c.in-Err.e c.in-Err.ensures.err (λ m h l. rw l.1 (refl, refl)))
+    c.take.new.self c.opening.new.self c.in-Err.e Lists c.in-Err.ensures.err (λ m h l. rw l.1 (refl, refl)))

@@ -24,4 +24,4 @@ returns-in-Some g c =
     }
 
 pub returns-in-Err : goal.returns-in-Err
-returns-in-Err g c = opening_fails g.R.Source _ _ _ _ Parts _ _ _ c.in-Err.ensures.err (λ m h l. rw l.1 (deep_fields m l.0.0 l.0.1))
+returns-in-Err g c = opening_fails g.R.Source _ _ _ _ _ _ _ Parts c.in-Err.ensures.err (λ m h l. rw l.1 (deep_fields m l.0.0 l.0.1))

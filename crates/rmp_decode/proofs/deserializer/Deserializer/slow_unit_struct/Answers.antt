@@ -36,12 +36,12 @@ returns-in-None-clause-exact g c = λ _. exact_head _ (not_nothing (room_of c.ar
 pub returns-in-Err-clause-law : goal.returns-in-Err-clause-law
 returns-in-Err-clause-law g c = elim c.in-Err.ensures.err [
   | inl h ↦ refused_none _ _ _ _ _ h
-  | inr d ↦ deep_refused g.R.Source NothingIs Lists c.args.self.now c.opening.new.self d.next _ d.begun d.level (omega (arith, d.deep))
+  | inr d ↦ deep_refused g.R.Source Lists c.args.self.now c.opening.new.self d.next d.begun d.level (omega (arith, d.deep)) NothingIs _
 ]
 
 pub returns-in-Err-clause-exact : goal.returns-in-Err-clause-exact
 returns-in-Err-clause-exact g c = elim c.in-Err.ensures.err [
   | inl h ↦ (λ o. exact_none _ _ _ _ _ _ (h.ends o))
   | inr d ↦ (λ _. exact_head _ (not_nothing (room_of c.args.self.now)) _ _ _ d.next.0 d.next.1 _ d.begun.sound d.begun.marked
-        (d.limit ∙ deep_is _ d.next.0 _ d.level.0 d.level.1 (omega (arith, d.deep))))
+      (d.limit ∙ deep_is _ d.next.0 _ d.level.0 d.level.1 (omega (arith, d.deep))))
 ]
