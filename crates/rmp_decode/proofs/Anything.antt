@@ -1,26 +1,20 @@
 -- When no message of any kind can be opened, and what its content makes of it.
-use Rattle.std.proofs.Common.{◌≡◌, ◌∙◌, sym, subst, ℕ, ◌<◌, ◌≤◌, inl, inr, arith, List, Bool, true, false, Option, Some, None, IfSome, Ok, Err}
-use Rattle.rmp_wire.specs.declared.head.Head.{Head}
+use Rattle.std.proofs.Common.{◌≡◌, subst, ℕ, inl, inr, arith, List, Bool, Option, Some, None, IfSome, Err}
 use Rattle.rmp_wire.specs.declared.marker.Marker.{Marker}
 use Rattle.rmp_wire.specs.declared.source.Source.{Ghosts}
-use Rattle.rmp_wire.specs.Msg.{Msg, depth}
-use Rattle.rmp_wire.specs.Spelling.{head_of}
 use Rattle.rmp_decode.specs.Anys.{RefusesAny, FailsToOpenAny}
 use Rattle.rmp_decode.specs.Exact.{BeginsWith, EndsExactly}
 use Rattle.rmp_decode.specs.Law.{ReadsHead}
+use Rattle.rmp_decode.specs.Opening.{FailsAtHead, NestsTooDeep}
 use Rattle.rmp_decode.specs.Skip.{parts_head}
 use Rattle.rmp_decode.specs.State.{left, room_of}
 use Rattle.rmp_decode.specs.declared.deserializer.Deserializer.{Deserializer}
+use Rattle.rmp_decode.specs.declared.deserializer.heads.Levels.TheVariants.{Parts}
 use Rattle.rmp_decode.specs.declared.error.Error.{Error}
 use Rattle.rmp_decode.specs.declared.error.Error.TheVariants.{DepthLimitExceeded}
 use Rattle.rmp_decode.proofs.Exactness.{no_fault}
-use Rattle.rmp_decode.proofs.Opening.{nests, map_nests}
-use Rattle.rmp_decode.proofs.NothingAccepted.{refuses_none, refuses_by, same_head}
-
--- a list or a map nests
-parts_nest : (is_map : Bool) (m : Msg) (n : ℕ) → head_of m ≡ parts_head is_map n → 0 < depth m
-parts_nest true = map_nests
-parts_nest false = nests
+use Rattle.rmp_decode.proofs.Opening.{deep_refuses}
+use Rattle.rmp_decode.proofs.NothingAccepted.{refuses_none}
 
 any_none : (w : Bool) (room before after : ℕ) (known : Option (List ℕ)) (e : Error) → EndsExactly w before after known e
     → RefusesAny w room before after known e
@@ -36,7 +30,7 @@ any_deep w room before after (Some xs) m is_map n e f s l is =
     no_fault before after e f (inr (record { is_map = is_map; len = n; marker = m; starts = s }, l, is))
 
 module _ {R C : Type 0} (g : Ghosts R) (old new : Deserializer R C) (e : Error) where
-  pub any_missing : ReadsHead g old new (Err e) → FailsToOpenAny g old new e
+  any_missing : ReadsHead g old new (Err e) → FailsToOpenAny g old new e
   any_missing h = record {
     failed = h.failed;
     stays = h.stays;
@@ -47,17 +41,18 @@ module _ {R C : Type 0} (g : Ghosts R) (old new : Deserializer R C) (e : Error) 
   }
 
   -- a list or a map would nest too deep
-  pub any_too_deep : (p : Marker × Head) (q : Bool × ℕ) → ReadsHead g old new (Ok p) → p.1 ≡ parts_head q.0 q.1 → room_of old ≤ 1 → e ≡ DepthLimitExceeded
-      → FailsToOpenAny g old new e
-  any_too_deep p q h i l is = record {
-    failed = h.failed;
-    stays = h.stays;
-    before = λ f. absurd (let o = h.fresh in cc);
-    err = λ _ _ _. refuses_by _ (λ m. Unit {0}) (room_of old) (left g old) (left g new) h.ok.bytes h.ok.takes (λ ys w a.
-        let u = same_head _ a.tree p.1 a.bytes h.ok.bytes a.rest ys a.spelled h.ok.is_head (sym a.front) in
-        let d = parts_nest q.0 a.tree q.1 (u.0 ∙ i) in
-        let f = a.fits in
-        omega arith);
-    exact = λ _. any_deep _ (room_of old) _ _ (left g old) p.0 q.0 q.1 e h.sound (subst (λ t. IfSome (left g old) (BeginsWith old.strict p.0 t)) i h.marked)
-        (omega arith) is;
-  }
+  any_too_deep : NestsTooDeep g Parts old new e → FailsToOpenAny g old new e
+  any_too_deep d =
+      let h = d.begun in
+      let q = d.level.0 in
+      record {
+        failed = h.failed;
+        stays = h.stays;
+        before = λ f. absurd (let o = h.fresh in cc);
+        err = λ _ _ _. deep_refuses g Parts old new d.next h d.level (omega (arith, d.deep)) (λ m. Unit {0});
+        exact = λ _. any_deep _ (room_of old) _ _ (left g old) d.next.0 q.0 q.1 e h.sound
+            (subst (λ t. IfSome (left g old) (BeginsWith old.strict d.next.0 t)) d.level.1 h.marked) d.deep d.limit;
+      }
+
+  pub any_fails : FailsAtHead g Parts old new e → FailsToOpenAny g old new e
+  any_fails f = elim f [ inl h ↦ any_missing h | inr d ↦ any_too_deep d ]

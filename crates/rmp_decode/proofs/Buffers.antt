@@ -1,5 +1,5 @@
 -- Bytes from a text, from bytes, or from a list of numbers.
-use Rattle.std.proofs.Common.{◌≡◌, ◌∙◌, sym, ap, refl, ℕ, pos, ◌≤◌, arith, List, [], ◌∷◌, Option, None, Some, Bool, true, false, Ok, Err, Vec, Global}
+use Rattle.std.proofs.Common.{◌≡◌, ◌∙◌, sym, ap, refl, ℕ, pos, arith, List, [], ◌∷◌, Option, None, Some, Bool, true, false, Ok, Err, Vec, Global}
 use Rattle.std.specs.Io.KnownBytes.{Consumes}
 use Rattle.rmp_wire.specs.declared.head.Head.{Head}
 use Rattle.rmp_wire.specs.declared.head.Head.TheVariants.{Array}
@@ -14,14 +14,13 @@ use Rattle.rmp_decode.specs.Law.{Refuses, Readable, Lawful, ReadsHead}
 use Rattle.rmp_decode.specs.Read.{IsUnsigned}
 use Rattle.rmp_decode.specs.Rows.{ReadsEach}
 use Rattle.rmp_decode.specs.Seq.{numbers, OfRow, Opens, Run}
-use Rattle.rmp_decode.specs.State.{left, room_of}
+use Rattle.rmp_decode.specs.State.{left}
 use Rattle.rmp_decode.specs.declared.deserializer.Deserializer.{Deserializer}
 use Rattle.rmp_decode.specs.declared.access.seq.SeqAccess.{SeqAccess}
 use Rattle.rmp_decode.specs.declared.error.Error.{Error}
-use Rattle.rmp_decode.proofs.Laws.{refused, lawful_ok}
-use Rattle.rmp_decode.proofs.Opening.{nests}
+use Rattle.rmp_decode.proofs.Laws.{lawful_ok}
 use Rattle.rmp_decode.proofs.Seqs.{seq_done}
-use Rattle.rmp_decode.proofs.NothingAccepted.{refuses_by, same_head}
+use Rattle.rmp_decode.proofs.NothingAccepted.{same_head}
 
 -- a type that reads no more under this head than another refuses what that one does
 refuses_at : (w : Bool) (P Q : Msg → Type 0) (room : ℕ) (known k : Option (List ℕ)) (b : List ℕ) (h : Head) → Consumes known k b → heads_of w h b
@@ -115,18 +114,6 @@ opened_after g old mid m len s h b =
         clean = ap (λ (d : Deserializer _ _). d.kept) b.lender ∙ h.clean;
       };
     }
-
--- a list would nest too deep
-pub list_too_deep : {R C V : Type 0} (g : Ghosts R) (reads : Msg → V → Type 0) (old mid : Deserializer R C) (m : Marker) (len : ℕ) (e : Error)
-    → ReadsHead g old mid (Ok (m, Array len)) → mid.room ≤ 1 → Lawful g reads old mid (Err e)
-list_too_deep g reads old mid m len e h l =
-    let room : mid.room ≡ old.room = h.stays.room in
-    refused g reads old mid e h.fresh h.failed h.stays
-    (λ _ _. refuses_by _ (Readable reads) (room_of old) (left g old) (left g mid) h.ok.bytes h.ok.takes (λ ys q a.
-    let u = same_head _ a.tree (Array len) a.bytes h.ok.bytes a.rest ys a.spelled h.ok.is_head (sym a.front) in
-    let d = nests a.tree len u.0 in
-    let f = a.fits in
-    omega (arith, room)))
 
 -- a list of numbers that was read
 pub buffer_done : {R C : Type 0} (g : Ghosts R) (old : Deserializer R C) (start mid : SeqAccess R C) (ms : Msgs) (o : Opens g old start)

@@ -1,11 +1,12 @@
 -- What the read of fields says, from what the reads of its parts say.
-use Rattle.std.proofs.Common.{◌≡◌, ◌∙◌, sym, ap, subst, refl, inl, inr, ◌⊎◌, ℕ, suc, ◌<◌, ◌≤◌, length}
+use Rattle.std.proofs.Common.{◌≡◌, ◌≢◌, ◌∙◌, sym, ap, subst, refl, inl, inr, ◌⊎◌, ℕ, suc, length}
 use Rattle.std.proofs.Common.{Bool, arith, List, [], ◌∷◌, ◌++◌, true, false, Option, None, Some, is_some, max, Ok, Err}
 use Rattle.std.proofs.KnownBytes.{Consumes-trans}
 use Rattle.std.specs.Option.{option_and_then}
 use Rattle.std.specs.Prelude.{IfSome}
 use Rattle.rmp_wire.specs.declared.source.Source.{Ghosts}
-use Rattle.rmp_wire.specs.Msg.{Msg, nil, truth, whole, float32, float64, text, bin, list, map, extension, Msgs, no_items, item, count, count_pairs, depth}
+use Rattle.rmp_wire.specs.Kinds.{parts_head}
+use Rattle.rmp_wire.specs.Msg.{Msg, nil, truth, whole, float32, float64, text, bin, list, map, extension, Msgs, no_items, item, count, count_pairs}
 use Rattle.rmp_wire.specs.Canonical.{SpellsAs}
 use Rattle.rmp_wire.specs.Spelling.{head_of}
 use Rattle.rmp_wire.specs.declared.head.Head.{Head}
@@ -30,15 +31,17 @@ use Rattle.rmp_decode.specs.Fields.{
 }
 use Rattle.rmp_decode.specs.Law.{Readable, ReadsHead}
 use Rattle.rmp_decode.specs.Maps.{TakesValue, map_inner}
+use Rattle.rmp_decode.specs.Opening.{IsLevel}
 use Rattle.rmp_decode.specs.Parts.{FailsPart}
 use Rattle.rmp_decode.specs.Seq.{SpellsIn, RefusesRow, inner_of, IsOpen, TakesElement, TakesParts, FailsParts}
 use Rattle.rmp_decode.specs.State.{left, room_of}
 use Rattle.rmp_decode.specs.declared.access.map.MapAccess.{MapAccess}
 use Rattle.rmp_decode.specs.declared.access.seq.SeqAccess.{SeqAccess}
+use Rattle.rmp_decode.specs.declared.deserializer.heads.Levels.TheVariants.{Parts}
 use Rattle.rmp_decode.specs.declared.error.Error.{Error}
 use Rattle.rmp_decode.specs.declared.error.Error.TheVariants.{DepthLimitExceeded, Syntax}
 use Rattle.rmp_decode.specs.declared.text.Text.TheVariants.{InvalidType}
-use Rattle.rmp_decode.proofs.Opening.{nests, map_nests, opening_other, opening_deep}
+use Rattle.rmp_decode.proofs.Opening.{opening_other}
 use Rattle.rmp_decode.proofs.Laws.{stays_then}
 use Rattle.rmp_decode.proofs.Seqs.{run_start, run_step, parts_refused}
 use Rattle.rmp_decode.proofs.Tuples.{row_narrower}
@@ -206,12 +209,6 @@ fields_head_of (list ms) i = ((Some false, count ms), refl)
 fields_head_of (map ps) i = ((None, count_pairs ps), refl)
 fields_head_of (extension tag s) i = absurd i
 
--- a list or a map nests
-fields_nest : (m : Msg) (k : Option Bool) (n : ℕ) → (k ≡ Some true → ⊥) → head_of m ≡ fields_head k n → 0 < depth m
-fields_nest m None n f e = map_nests m n e
-fields_nest m (Some true) n f e = absurd (f refl)
-fields_nest m (Some false) n f e = nests m n e
-
 other_than_fields : (room : ℕ) (m : Marker) (h : Head) (e : Error) → ((a : Option Bool × ℕ) → h ≡ fields_head a.0 a.1 → ⊥) → e ≡ Syntax InvalidType
     → not_fields room m h e
 other_than_fields room m head.Nil e f i = i
@@ -225,21 +222,18 @@ other_than_fields room m (head.Array n) e f i = absurd (f (Some false, n) refl)
 other_than_fields room m (head.Map n) e f i = absurd (f (None, n) refl)
 other_than_fields room m (head.Ext n tag) e f i = i
 
-deep_fields : (room : ℕ) (m : Marker) (k : Option Bool) (n : ℕ) (e : Error) → (k ≡ Some true → ⊥) → room ≡ 1 → e ≡ DepthLimitExceeded
-    → not_fields room m (fields_head k n) e
-deep_fields room m None n e f r i = (r, i)
-deep_fields room m (Some true) n e f r i = absurd (f refl)
-deep_fields room m (Some false) n e f r i = (r, i)
+pub deep_fields : (m : Marker) (is_map : Bool) (n : ℕ) → not_fields 1 m (parts_head is_map n) DepthLimitExceeded
+deep_fields m true n = (refl, refl)
+deep_fields m false n = (refl, refl)
+
+-- what nests is a list or a map
+pub fields_level : (k : Option Bool) (n : ℕ) → k ≢ Some true → IsLevel Parts (fields_head k n)
+fields_level None n f = ((true, n), refl)
+fields_level (Some true) n f = absurd (f refl)
+fields_level (Some false) n f = ((false, n), refl)
 
 module _ {R C : Type 0} (g : Ghosts R) (old new : Deserializer R C) (e : Error) (p : Marker × Head) (h : ReadsHead g old new (Ok p)) where
   -- another kind was there
   pub no_fields : ((a : Option Bool × ℕ) → p.1 ≡ fields_head a.0 a.1 → ⊥) → e ≡ Syntax InvalidType → TakesFieldsHead g old new (Err e)
   no_fields f t = opening_other g _ _ HasFields not_fields old new e p h (λ z. absurd (let u = sym t ∙ z in cc))
       (other_than_fields (room_of old) p.0 p.1 e f t) (λ m j q. let a = fields_head_of m j in f a.0 (sym q ∙ a.1))
-
-  -- it would nest too deep
-  pub fields_too_deep : (k : Option Bool) (n : ℕ) → (k ≡ Some true → ⊥) → p.1 ≡ fields_head k n → room_of old ≤ 1 → e ≡ DepthLimitExceeded
-      → TakesFieldsHead g old new (Err e)
-  fields_too_deep k n f i l t = opening_deep g _ _ HasFields not_fields old new e p h (λ z. absurd (let u = sym t ∙ z in cc))
-      (subst (λ z. not_fields (room_of old) p.0 z e) (sym i) (deep_fields (room_of old) p.0 k n e f (omega (arith, l)) t))
-      (λ m q. fields_nest m k n f (q ∙ i)) l

@@ -9,15 +9,14 @@ use Rattle.rmp_wire.specs.Canonical.{heads_of, SpellsAs}
 use Rattle.rmp_wire.specs.Msg.{Msg, list, map, no_items, no_pairs, depth}
 use Rattle.rmp_wire.specs.Spelling.{head_of}
 use Rattle.rmp_decode.specs.Law.{Lawful, Readable, ReadsHead}
-use Rattle.rmp_decode.specs.State.{left, room_of, Stays}
+use Rattle.rmp_decode.specs.State.{room_of, Stays}
 use Rattle.rmp_decode.specs.Units.{IsExtName, IsNewtype, IsNothing, not_nothing}
 use Rattle.rmp_decode.specs.declared.deserializer.Deserializer.{Deserializer}
 use Rattle.rmp_decode.specs.declared.error.Error.{Error}
 use Rattle.rmp_decode.specs.declared.error.Error.TheVariants.{DepthLimitExceeded, Syntax}
 use Rattle.rmp_decode.specs.declared.text.Text.TheVariants.{InvalidType}
 use Rattle.rmp_decode.proofs.Laws.{lawful_err, lawful_ok, refused}
-use Rattle.rmp_decode.proofs.Opening.{nests}
-use Rattle.rmp_decode.proofs.NothingAccepted.{refuses_all, refuses_by, same_head}
+use Rattle.rmp_decode.proofs.NothingAccepted.{refuses_all}
 
 abbrev pub NothingIs : Msg → Unit {0} → Type 0
 NothingIs m u = IsNothing m
@@ -55,15 +54,6 @@ pub some_is : (room : ℕ) (m : Marker) (h : Head) (n : ℕ) → h ≡ head.Arra
 some_is room m h n i l = let t : nat_le room 1 ≡ false = grind (arith, nat_tests) in rw (i, t) refl
 
 module _ {R C : Type 0} (g : Ghosts R) (old mid : Deserializer R C) (p : Marker × Head) (h : ReadsHead g old mid (Ok p)) where
-  -- a list would nest too deep
-  pub list_too_deep : {V : Type 0} (reads : Msg → V → Type 0) (n : ℕ) (e : Error) → p.1 ≡ head.Array n → room_of old ≤ 1 → Lawful g reads old mid (Err e)
-  list_too_deep reads n e i l = refused g reads old mid e h.fresh h.failed h.stays
-      (λ _ _. refuses_by _ (Readable reads) (room_of old) (left g old) (left g mid) h.ok.bytes h.ok.takes (λ ys q a.
-      let u = same_head _ a.tree p.1 a.bytes h.ok.bytes a.rest ys a.spelled h.ok.is_head (sym a.front) in
-      let below = nests a.tree n (u.0 ∙ i) in
-      let f = a.fits in
-      omega arith))
-
   -- a message that is its head
   pub alone_read : {V : Type 0} (reads : Msg → V → Type 0) (new : Deserializer R C) (v : V) (tree : Msg) → SpellsAs old.strict h.ok.bytes tree
       → depth tree < room_of old → new ≡ record mid { failed = false } → reads tree v → Lawful g reads old new (Ok v)

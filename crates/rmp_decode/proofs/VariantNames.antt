@@ -57,19 +57,21 @@ use Rattle.rmp_decode.specs.Exact.{BeginsWith}
 use Rattle.rmp_decode.specs.Kinds.{raw_msg, raw_head}
 use Rattle.rmp_decode.specs.Law.{Refuses, Readable, Explains, Lawful, ReadsHead, TakesHead}
 use Rattle.rmp_decode.specs.Names.{bytes_of, place_below, place_of, name_of}
+use Rattle.rmp_decode.specs.Opening.{FailsAtHead}
 use Rattle.rmp_decode.specs.Pieces.{Blamed}
 use Rattle.rmp_decode.specs.State.{left, faults_of, room_of, Stays}
 use Rattle.rmp_decode.specs.VariantNames.{IsPlace, StartsWithNoName, other_name, unknown_name, RefusesName}
 use Rattle.rmp_decode.specs.Variants.{OfVariant, IsVariant, placed, FailsToOpenVariant, IsVariantHead, other_variant, not_variant}
 use Rattle.rmp_decode.specs.declared.deserializer.Deserializer.{Deserializer}
+use Rattle.rmp_decode.specs.declared.deserializer.heads.Levels.TheVariants.{Pairs}
 use Rattle.rmp_decode.specs.declared.error.Error.{Error}
 use Rattle.rmp_decode.specs.declared.error.Error.TheVariants.{LengthMismatch, DepthLimitExceeded}
 use Rattle.rmp_decode.proofs.ContentErrors.{content_none, content_other, content_differ, same_front}
 use Rattle.rmp_decode.proofs.Contents.{raw_content, content_refused}
 use Rattle.rmp_decode.proofs.Exactness.{start_once}
-use Rattle.rmp_decode.proofs.Opening.{map_nests}
+use Rattle.rmp_decode.proofs.Opening.{deep_refuses}
 use Rattle.rmp_decode.proofs.Names.{name_of_raw, length_bytes}
-use Rattle.rmp_decode.proofs.NothingAccepted.{refuses_none, refuses_head, refuses_by, same_head}
+use Rattle.rmp_decode.proofs.NothingAccepted.{refuses_none, refuses_head, same_head}
 
 -- ---- a head that was taken
 
@@ -347,7 +349,7 @@ alone_refused strict room before after (Some xs) m h e s f r =
 
 module _ {R C : Type 0} (g : Ghosts R) (names : List (List ℕ)) (old new : Deserializer R C) (e : Error) where
   -- no message is there
-  pub no_variant_begins : ReadsHead g old new (Err e) → FailsToOpenVariant g names old new e
+  no_variant_begins : ReadsHead g old new (Err e) → FailsToOpenVariant g names old new e
   no_variant_begins h = record {
     failed = h.failed;
     stays = h.stays;
@@ -384,16 +386,12 @@ module _ {R C : Type 0} (g : Ghosts R) (names : List (List ℕ)) (old new : Dese
     }
 
     -- a map of one pair would nest too deep
-    pub variant_too_deep : p.1 ≡ Map 1 → room_of old ≤ 1 → e ≡ DepthLimitExceeded → FailsToOpenVariant g names old new e
+    variant_too_deep : p.1 ≡ Map 1 → room_of old ≤ 1 → e ≡ DepthLimitExceeded → FailsToOpenVariant g names old new e
     variant_too_deep i l q = record {
       failed = h.failed;
       stays = h.stays;
       before = λ b. absurd (let o = h.fresh in cc);
-      err = λ _ _ _. refuses_by _ (IsVariant names) (room_of old) (left g old) (left g new) h.ok.bytes h.ok.takes (λ ys y a.
-          let u = same_head _ a.tree p.1 a.bytes h.ok.bytes a.rest ys a.spelled h.ok.is_head (sym a.front) in
-          let below = map_nests a.tree 1 (u.0 ∙ i) in
-          let f = a.fits in
-          omega (arith, l, below, f));
+      err = λ _ _ _. deep_refuses g Pairs old new p h i l (IsVariant names);
       exact = λ _ human lends. inl (content_differ old.strict IsVariantHead other_variant (not_variant (room_of old)) _ _ _ p.0 p.1 (Map 1) e h.marked i refl
           refl (λ s. (omega (arith, l), q)) (λ n. absurd (n h.sound)));
       named = λ _ human lends. inl (
@@ -402,6 +400,9 @@ module _ {R C : Type 0} (g : Ghosts R) (names : List (List ℕ)) (old new : Dese
         no_name 1 i,
       );
     }
+
+  pub variant_fails : FailsAtHead g Pairs old new e → FailsToOpenVariant g names old new e
+  variant_fails f = elim f [ inl h ↦ no_variant_begins h | inr d ↦ variant_too_deep d.next d.begun d.level (omega (arith, d.deep)) d.limit ]
 
 -- what is there alone is no name
 pub no_name_alone : {R C : Type 0} (g : Ghosts R) (names : List (List ℕ)) (old mid new : Deserializer R C) (p : Marker × Head) (e : Error)

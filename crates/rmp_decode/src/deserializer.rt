@@ -11,7 +11,7 @@ ghost use Rattle.rmp_wire.specs.contracts.slice.copying.ReadReader.{the_row as r
 ghost use Rattle.rmp_decode.specs.contracts.deserializer.Deserializer.{the_row};
 ghost use Rattle.rmp_decode.specs.Readers.{source_of, reading_with};
 
-mod heads;
+pub(crate) mod heads;
 mod leaf;
 pub(crate) mod messages;
 mod numbers;

@@ -1,12 +1,11 @@
 //! Reads messages of any kind, by their parts or by their heads.
-ghost use Rattle.std.specs.Prelude.{◌≡◌, ◌≢◌, ◌<◌, false, true, ℕ, Bool, Ok, IfOk, IfErr, OnOk, OnErr};
+ghost use Rattle.std.specs.Prelude.{◌≡◌, ◌≢◌, false, true, IfOk, IfErr, OnOk, OnErr};
 ghost use Rattle.std.specs.Borrow.{sem, RestsIfErr};
 ghost use Rattle.std.specs.String.{string_bytes};
 ghost use Rattle.rmp_decode.specs.contracts.deserializer.Deserializer.{the_row};
 ghost use Rattle.rmp_decode.specs.Anys.{any_name, OpensAny, FailsToOpenAny, leaf_value, leaf_lender, raw_len, raw_tag, raw_lender, TakesContent, FailsContent};
 ghost use Rattle.rmp_decode.specs.Anys.{FailsToLend, FailsText};
 ghost use Rattle.rmp_decode.specs.Law.{ReadsHead};
-ghost use Rattle.rmp_decode.specs.Skip.{parts_head};
 ghost use Rattle.rmp_decode.specs.State.{failed_of, room_of, is_failed, kept_of};
 ghost use Rattle.rmp_decode.specs.BufferedHeads.{ConsumesHead};
 ghost use Rattle.rmp_decode.specs.Steps.{AppendsContent, AppendsText};
@@ -17,11 +16,12 @@ use crate::access::seq::SeqAccess;
 use crate::content::ReadContent;
 use crate::content::pieces::lent;
 use crate::deserializer::Deserializer;
+use crate::deserializer::heads::Levels;
 use crate::deserializer::peek::OneByteHead;
 use crate::error::Error;
 use crate::text::Text;
 use rmp_wire::config::SerializerConfig;
-use rmp_wire::{Head, Marker, ReadSlice, Source};
+use rmp_wire::{Head, ReadSlice, Source};
 use std::str;
 
 /// A message without parts, which was read whole. The reader is ready again.
@@ -175,27 +175,6 @@ pub enum Any<'x, R, C> {
 }
 
 impl<R: Source, C: SerializerConfig> Deserializer<R, C> {
-    // Consumes the head of a message of any kind.
-    #[inline(always)]
-    fn open_any(&mut self) -> Result<(Marker, Head), Error>
-        ensures begun { IfOk result (λ p. ReadsHead R.Source self.old self.new (Ok p)) }
-        ensures deep { IfOk result (λ p. (q : Bool × ℕ) → p.1 ≡ parts_head q.0 q.1 → 1 < self.old.room) }
-        ensures err { IfErr result (FailsToOpenAny R.Source self.old self.new) }
-    {
-        match self.head() {
-            Ok((marker, head)) => match head.as_parts() {
-                Some((_, _)) => {
-                    if self.is_deepest() {
-                        return Err(Error::DepthLimitExceeded);
-                    }
-                    Ok((marker, head))
-                }
-                None => Ok((marker, head)),
-            },
-            Err(e) => Err(e),
-        }
-    }
-
     // A message without parts, which was read whole.
     #[inline(always)]
     fn leaf<T: Copy>(&mut self, value: T) -> Leaf<'_, R, C, T>
@@ -218,7 +197,7 @@ impl<R: Source, C: SerializerConfig> Deserializer<R, C> {
         ensures opened { IfOk result (OpensAny R.Source self.old) }
     {
         let inner = self.room.saturating_sub(1);
-        match self.open_any() {
+        match self.opening(Levels::Parts) {
             Ok((_, head)) => match head {
                 Head::Nil => Ok(Any::Nil(self.leaf(()))),
                 Head::Truth(value) => Ok(Any::Truth(self.leaf(value))),

@@ -15,6 +15,7 @@ use crate::access::seq::{SeqAccess, inner_room};
 use crate::access::variant::Variant;
 use crate::content::{ReadContent, Slices};
 use crate::deserializer::Deserializer;
+use crate::deserializer::heads::Levels;
 use crate::deserializer::peek::{BinHead, ListHead, MapHead};
 use crate::error::Error;
 use crate::text::Text;
@@ -31,55 +32,25 @@ impl<R: Source, C: SerializerConfig> Deserializer<R, C> {
         if let Some(len) = self.take(BinHead) {
             return Ok((true, len));
         }
-        match self.head() {
+        match self.opening(Levels::Lists) {
             Ok((_, head)) => match head.as_seq() {
-                Some((bytes, len)) => {
-                    if !bytes && self.is_deepest() {
-                        return Err(Error::DepthLimitExceeded);
-                    }
-                    Ok((bytes, len))
-                }
+                Some(opened) => Ok(opened),
                 None => Err(Error::Syntax(Text::InvalidType)),
             },
             Err(e) => Err(e),
         }
     }
 
-    // Consumes the head of a list or of bytes: that of a short list by the fast path.
-    #[inline(always)]
-    pub(crate) fn open_tuple(&mut self) -> Result<(bool, u32), Error>
-        ensures { TakesSeqHead R.Source self.old self.new result }
-    {
-        match self.take_nested(ListHead) {
-            Some(len) => Ok((false, len)),
-            None => self.cold_seq(),
-        }
-    }
-
     // Consumes the head of a list or of bytes: that of a short list by the fast path, and with `bytes` that of bytes
-    // too.
+    // too, unless reading is strict.
     #[inline(always)]
     pub(crate) fn open_row(&mut self, bytes: bool) -> Result<(bool, u32), Error>
         ensures { TakesSeqHead R.Source self.old self.new result }
     {
-        match self.take_nested(ListHead) {
-            Some(len) => Ok((false, len)),
-            None => {
-                if bytes {
-                    self.open_bytes()
-                } else {
-                    self.cold_seq()
-                }
-            }
+        if let Some(len) = self.take_nested(ListHead) {
+            return Ok((false, len));
         }
-    }
-
-    // Consumes the head of bytes by the fast path, unless reading is strict, and any other head out of line.
-    #[inline(always)]
-    fn open_bytes(&mut self) -> Result<(bool, u32), Error>
-        ensures { TakesSeqHead R.Source self.old self.new result }
-    {
-        if self.strict {
+        if !bytes || self.strict {
             return self.cold_seq();
         }
         match self.take(BinHead) {
@@ -117,7 +88,7 @@ impl<R: Source, C: SerializerConfig> Deserializer<R, C> {
         ensures opened { IfOk result (Opens R.Source self.old) }
     {
         let room = self.room;
-        match self.open_tuple() {
+        match self.open_row(false) {
             Ok((bytes, left)) => Ok(SeqAccess {
                 de: self,
                 left,
@@ -179,14 +150,9 @@ impl<R: Source, C: SerializerConfig> Deserializer<R, C> {
     fn slow_map(&mut self) -> Result<u32, Error>
         ensures { TakesMapHead R.Source self.old self.new result }
     {
-        match self.head() {
+        match self.opening(Levels::Maps) {
             Ok((_, head)) => match head.as_map() {
-                Some(len) => {
-                    if self.is_deepest() {
-                        return Err(Error::DepthLimitExceeded);
-                    }
-                    Ok(len)
-                }
+                Some(opened) => Ok(opened),
                 None => Err(Error::Syntax(Text::InvalidType)),
             },
             Err(e) => Err(e),
@@ -237,15 +203,9 @@ impl<R: Source, C: SerializerConfig> Deserializer<R, C> {
     fn slow_struct(&mut self) -> Result<(Option<bool>, u32), Error>
         ensures { TakesFieldsHead R.Source self.old self.new result }
     {
-        match self.head() {
+        match self.opening(Levels::Parts) {
             Ok((_, head)) => match head.as_fields() {
-                Some((Some(true), len)) => Ok((Some(true), len)),
-                Some((kind, len)) => {
-                    if self.is_deepest() {
-                        return Err(Error::DepthLimitExceeded);
-                    }
-                    Ok((kind, len))
-                }
+                Some(opened) => Ok(opened),
                 None => Err(Error::Syntax(Text::InvalidType)),
             },
             Err(e) => Err(e),

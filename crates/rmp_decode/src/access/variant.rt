@@ -31,6 +31,7 @@ use crate::content::ReadContent;
 use crate::content::pieces::error_of;
 use crate::de::Deserialize;
 use crate::deserializer::Deserializer;
+use crate::deserializer::heads::Levels;
 use crate::deserializer::peek::{MapOf, TextHead};
 use crate::error::Error;
 use crate::text::Text;
@@ -292,17 +293,12 @@ impl<R: Source, C: SerializerConfig> Deserializer<R, C> {
         ensures err { IfErr result (FailsToOpenVariant R.Source (bytes_of names.now) self.old self.new) }
         ensures memory { P.lends ≡ true → IfErr result (λ e. e ≢ Error.OutOfMemory) }
     {
-        match self.head() {
+        match self.opening(Levels::Pairs) {
             Ok((_, head)) => match head.as_map() {
-                Some(1) => {
-                    if self.is_deepest() {
-                        return Err(Error::DepthLimitExceeded);
-                    }
-                    match self.name_of_pair::<P>(names) {
-                        Ok(place) => Ok((place, false)),
-                        Err(e) => Err(e),
-                    }
-                }
+                Some(1) => match self.name_of_pair::<P>(names) {
+                    Ok(place) => Ok((place, false)),
+                    Err(e) => Err(e),
+                },
                 Some(len) => Err(Error::LengthMismatch(len)),
                 None => match self.rest_of_name::<P>(head, names) {
                     Ok(place) => {
@@ -333,7 +329,7 @@ impl<R: Source, C: SerializerConfig> Deserializer<R, C> {
         let outer = self.room;
         self.room = inner;
         self.failed = false;
-        match self.open_tuple() {
+        match self.open_row(false) {
             Ok((bytes, len)) => {
                 self.room = outer;
                 Ok((bytes, len))

@@ -1,11 +1,12 @@
 //! Heads of any kind, from the source or from what was kept back: the slow path. Those of small numbers, texts and lists and of numbers
 //! without a sign are read in place, all others by a call.
-ghost use Rattle.std.specs.Prelude.{◌≡◌, ◌∷◌, ℕ, List, true, false, IfOk, IfErr, ◌<◌, ◌≤◌};
+ghost use Rattle.std.specs.Prelude.{◌≡◌, ◌∷◌, ℕ, List, true, false, Ok, IfOk, IfErr, ◌<◌, ◌≤◌};
 ghost use Rattle.rmp_wire.specs.Canonical.{heads_of};
 ghost use Rattle.rmp_wire.specs.Heads.{IsHead};
 ghost use Rattle.rmp_wire.specs.Taking.{byte_of};
 ghost use Rattle.rmp_decode.specs.Allowed.{AfterAllowed, FailsAfter, NextAllowed, FailsNextAllowed};
 ghost use Rattle.rmp_decode.specs.Law.{ReadsHead};
+ghost use Rattle.rmp_decode.specs.Opening.{IsLevel, FailsAtHead};
 
 use crate::deserializer::{Deserializer, Kept};
 use crate::error::Error;
@@ -61,6 +62,32 @@ impl From<HeadError> for Error {
             HeadError::InvalidDataRead(fault) => Error::InvalidDataRead(fault),
             HeadError::TypeMismatch(marker) => Error::TypeMismatch(marker),
             HeadError::NotCanonical => Error::NotCanonical,
+        }
+    }
+}
+
+// Which heads count as a level of nesting, where they are wanted.
+#[derive(Clone, Copy)]
+pub(crate) enum Levels {
+    Lists,
+    Maps,
+    // Maps of one pair.
+    Pairs,
+    // Lists and maps.
+    Parts,
+}
+
+impl Levels {
+    #[inline(always)]
+    fn has(self, head: Head) -> bool
+        ensures yes { result ≡ true → IsLevel self head }
+        ensures no { result ≡ false → IsLevel self head → ⊥ }
+    {
+        match self {
+            Levels::Lists => head.as_array().is_some(),
+            Levels::Maps => head.as_map().is_some(),
+            Levels::Pairs => head.as_map() == Some(1),
+            Levels::Parts => head.as_parts().is_some(),
         }
     }
 }
@@ -156,6 +183,26 @@ impl<R: Source, C: SerializerConfig> Deserializer<R, C> {
                 self.kept = Kept::Nothing;
                 Ok((number_marker(n), Head::Whole(i128::from(n))))
             }
+        }
+    }
+}
+
+impl<R: Source, C: SerializerConfig> Deserializer<R, C> {
+    // Consumes the head of any message, unless it is a level that nests too deep.
+    #[inline(always)]
+    pub(crate) fn opening(&mut self, levels: Levels) -> Result<(Marker, Head), Error>
+        ensures begun { IfOk result (λ p. ReadsHead R.Source self.old self.new (Ok p)) }
+        ensures deep { IfOk result (λ p. IsLevel levels p.1 → 1 < self.old.room) }
+        ensures err { IfErr result (FailsAtHead R.Source levels self.old self.new) }
+    {
+        match self.head() {
+            Ok((marker, head)) => {
+                if levels.has(head) && self.is_deepest() {
+                    return Err(Error::DepthLimitExceeded);
+                }
+                Ok((marker, head))
+            }
+            Err(e) => Err(e),
         }
     }
 }

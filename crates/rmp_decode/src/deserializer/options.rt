@@ -10,6 +10,7 @@ ghost use Rattle.rmp_decode.specs.Units.{IsExtName, IsNewtype, IsNothing, not_no
 ghost use Rattle.rmp_decode.specs.declared.text.Text.TheVariants as words;
 
 use crate::de::Deserialize;
+use crate::deserializer::heads::Levels;
 use crate::deserializer::peek::{ListOf, NilHead};
 use crate::deserializer::{Deserializer, Kept};
 use crate::error::Error;
@@ -205,7 +206,7 @@ impl<R: Source, C: SerializerConfig> Deserializer<R, C> {
         ensures exact { RefusesHead R.Source (not_nothing (room_of self.old)) self.old self.new result }
         ensures memory { IfErr result (λ e. e ≢ Error.OutOfMemory) }
     {
-        let (_, head) = match self.head() {
+        let (_, head) = match self.opening(Levels::Lists) {
             Ok(next) => next,
             Err(e) => return Err(e),
         };
@@ -215,9 +216,6 @@ impl<R: Source, C: SerializerConfig> Deserializer<R, C> {
         }
         match head.as_array() {
             Some(len) => {
-                if self.is_deepest() {
-                    return Err(Error::DepthLimitExceeded);
-                }
                 if len > 0 {
                     return Err(Error::Syntax(Text::InvalidType));
                 }

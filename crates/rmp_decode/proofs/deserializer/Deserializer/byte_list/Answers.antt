@@ -5,8 +5,10 @@ use Rattle.rmp_decode.specs.Buffers.{IsBuffer}
 use Rattle.rmp_decode.specs.Read.{IsUnsigned}
 use Rattle.rmp_decode.specs.Rows.{ReadsEach}
 use Rattle.rmp_decode.specs.Seq.{OfRow, IsOpen}
+use Rattle.rmp_decode.specs.declared.deserializer.heads.Levels.TheVariants.{Lists}
 use Rattle.rmp_decode.proofs.BufferErrors.{number_refused, number_told, number_unkept}
-use Rattle.rmp_decode.proofs.Buffers.{lawful_err_at, buffer_done, row_of_buffer, opened_after, list_too_deep}
+use Rattle.rmp_decode.proofs.Buffers.{lawful_err_at, buffer_done, row_of_buffer, opened_after}
+use Rattle.rmp_decode.proofs.Opening.{deep_refused}
 use Rattle.rmp_decode.proofs.Seqs.{values_start, values_step, each_next, seq_take, seq_unkept}
 use Rattle.rmp_decode.proofs.deserializer.Deserializer.byte_list.Goals as goal
 
@@ -17,7 +19,8 @@ pub returns-in_err-seq-clause-law : goal.returns-in_err-seq-clause-law
 returns-in_err-seq-clause-law g c = λ old m h.
     let p = err_from_is_err_and c.from_residual.result c.from_residual.ensures.1 in
     let f = rw c.in_err-seq.was at c.open_list.follows.holds-at-none in
-    rw (p.1, f.1) (list_too_deep g.R.Source (λ t v. IsBuffer t v.items) old c.args.self.now m c.args.len _ h f.0)
+    rw (p.1, f.1) (deep_refused g.R.Source Lists old c.args.self.now (m, Array c.args.len) h (c.args.len, refl)
+    (let r = h.stays.room in omega (arith, f.0, r)) (λ t v. IsBuffer t v.items) _)
 
 pub loop-items-init : goal.loop-items-init
 loop-items-init g c =

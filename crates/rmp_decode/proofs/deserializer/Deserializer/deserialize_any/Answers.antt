@@ -4,13 +4,14 @@ use Rattle.std.proofs.lemmas.Int.{to_z-of_z}
 use Rattle.std.specs.Int.{w8, w128}
 use Rattle.rmp_wire.specs.Msg.{truth, whole, float32, float64}
 use Rattle.rmp_decode.specs.Law.{TakesHead}
+use Rattle.rmp_decode.proofs.Anything.{any_fails}
 use Rattle.rmp_decode.proofs.Leaves.{nil_leaf, truth_leaf, whole_leaf, float32_leaf, float64_leaf, leaf_read}
 use Rattle.rmp_decode.proofs.deserializer.Deserializer.deserialize_any.Goals as goal
 
 pub returns-in-Array : goal.returns-in-Array
 returns-in-Array g c =
     let h = c.in-Ok.ensures.begun in
-    let deep : 1 < c.args.self.now.room = c.in-Ok.ensures.deep (false, c.in-Array.left) c.in-Array.is in
+    let deep : 1 < c.args.self.now.room = c.in-Ok.ensures.deep ((false, c.in-Array.left), c.in-Array.is) in
     let r = c.saturating_sub-inner.ensures in (
       (refl, λ w. refl, tt),
       record {
@@ -19,7 +20,7 @@ returns-in-Array g c =
         opened = (
           record {
             fresh = h.fresh;
-            head = subst (λ z. TakesHead g.R.Source z c.args.self.now c.open_any.new.self) c.in-Array.is h.ok;
+            head = subst (λ z. TakesHead g.R.Source z c.args.self.now c.opening.new.self) c.in-Array.is h.ok;
             count = refl;
             room = omega (arith, deep, r);
             stays = h.stays;
@@ -34,7 +35,7 @@ returns-in-Array g c =
 pub returns-in-Map : goal.returns-in-Map
 returns-in-Map g c =
     let h = c.in-Ok.ensures.begun in
-    let deep : 1 < c.args.self.now.room = c.in-Ok.ensures.deep (true, c.in-Map.left) c.in-Map.is in
+    let deep : 1 < c.args.self.now.room = c.in-Ok.ensures.deep ((true, c.in-Map.left), c.in-Map.is) in
     let r = c.saturating_sub-inner.ensures in (
       (refl, λ w. refl, tt),
       record {
@@ -42,7 +43,7 @@ returns-in-Map g c =
         same_reference = refl;
         opened = record {
           fresh = h.fresh;
-          head = subst (λ z. TakesHead g.R.Source z c.args.self.now c.open_any.new.self) c.in-Map.is h.ok;
+          head = subst (λ z. TakesHead g.R.Source z c.args.self.now c.opening.new.self) c.in-Map.is h.ok;
           count = refl;
           at_key = refl;
           room = omega (arith, deep, r);
@@ -139,4 +140,4 @@ returns-in-Ext g c = (
 
 pub returns-in-Err : goal.returns-in-Err
 returns-in-Err g c =
-    ((refl, λ _. tt, c.in-Err.ensures.err), record { refused = tt; same_reference = tt; opened = tt })
+    ((refl, λ _. tt, any_fails g.R.Source _ _ _ c.in-Err.ensures.err), record { refused = tt; same_reference = tt; opened = tt })
