@@ -70,6 +70,7 @@ use Rattle.rmp_decode.specs.Ahead.{TakesLeaf, TakesPart}
 use Rattle.rmp_decode.specs.BufferedHeads.{ConsumesHead}
 use Rattle.rmp_decode.specs.Kinds.{content_len}
 use Rattle.rmp_decode.specs.Law.{Refuses, Readable, Explains, Lawful, ReadsHead}
+use Rattle.rmp_decode.specs.Open.{SpellsMany}
 use Rattle.rmp_decode.specs.Seq.{SpellsRow, BeginsRow, RefusesRow}
 use Rattle.rmp_decode.specs.Skip.{any_tree, any_row, parts_head, parts_count, Passes, SkipsRow}
 use Rattle.rmp_decode.specs.State.{left, faults_of, room_of, kept_bytes, Stays}
@@ -252,50 +253,60 @@ nest_of w false n ms head bytes i s c =
       deep = refl;
     }
 
-parts_of : (w is_map : Bool) (m : Msg) (n room : ℕ) (a x y : List ℕ) → SpellsAs w a m → head_of m ≡ parts_head is_map n → depth m < room
-    → ((d c : List ℕ) → a ≡ d ++ c → heads_of w (head_of m) d → c ++ x ≡ y) → BeginsRow (SpellsAs w) any_row (room - 1) (parts_count is_map n) y
-parts_of w true nil n room a x y s e d f = absurd (cc)
-parts_of w true (truth t) n room a x y s e d f = absurd (cc)
-parts_of w true (whole z) n room a x y s e d f = absurd (cc)
-parts_of w true (float32 k) n room a x y s e d f = absurd (cc)
-parts_of w true (float64 k) n room a x y s e d f = absurd (cc)
-parts_of w true (text t) n room a x y s e d f = absurd (cc)
-parts_of w true (bin t) n room a x y s e d f = absurd (cc)
-parts_of w true (list ms) n room a x y s e d f = absurd (cc)
-parts_of w true (map ps) n room a x y s e d f =
+-- what follows the head of a list or a map
+pub record PartsAfter (w : Bool) (room n : ℕ) (x y : List ℕ) : Type 0 where
+  pub bytes : List ℕ
+  pub front : y ≡ bytes ++ x
+  pub spelled : SpellsMany w room n bytes
+
+pub parts_after : (w is_map : Bool) (m : Msg) (n room : ℕ) (a x y : List ℕ) → SpellsAs w a m → head_of m ≡ parts_head is_map n → depth m < suc room
+    → ((d c : List ℕ) → a ≡ d ++ c → heads_of w (head_of m) d → c ++ x ≡ y) → PartsAfter w room (parts_count is_map n) x y
+parts_after w true nil n room a x y s e d f = absurd (cc)
+parts_after w true (truth t) n room a x y s e d f = absurd (cc)
+parts_after w true (whole z) n room a x y s e d f = absurd (cc)
+parts_after w true (float32 k) n room a x y s e d f = absurd (cc)
+parts_after w true (float64 k) n room a x y s e d f = absurd (cc)
+parts_after w true (text t) n room a x y s e d f = absurd (cc)
+parts_after w true (bin t) n room a x y s e d f = absurd (cc)
+parts_after w true (list ms) n room a x y s e d f = absurd (cc)
+parts_after w true (map ps) n room a x y s e d f =
     let same : count_pairs ps ≡ n = cc in
     record {
       bytes = s.second;
-      rest = x;
-      trees = in_turn ps;
       front = sym (f s.first s.second s.is_whole s.is_first);
-      spelled = turned w ps s.second s.is_second;
-      many = count-in_turn ps ∙ ap (λ z. 2 * z) same;
-      fits = omega (arith, depth-in_turn ps, d);
-      holds = tt;
+      spelled = record {
+        trees = in_turn ps;
+        spelled = turned w ps s.second s.is_second;
+        many = count-in_turn ps
+            ∙ ap (λ z. 2 * z) same;
+        fits = omega (arith, depth-in_turn ps, d);
+      };
     }
-parts_of w true (extension tag t) n room a x y s e d f = absurd (cc)
-parts_of w false nil n room a x y s e d f = absurd (cc)
-parts_of w false (truth t) n room a x y s e d f = absurd (cc)
-parts_of w false (whole z) n room a x y s e d f = absurd (cc)
-parts_of w false (float32 k) n room a x y s e d f = absurd (cc)
-parts_of w false (float64 k) n room a x y s e d f = absurd (cc)
-parts_of w false (text t) n room a x y s e d f = absurd (cc)
-parts_of w false (bin t) n room a x y s e d f = absurd (cc)
-parts_of w false (list ms) n room a x y s e d f =
+parts_after w true (extension tag t) n room a x y s e d f = absurd (cc)
+parts_after w false nil n room a x y s e d f = absurd (cc)
+parts_after w false (truth t) n room a x y s e d f = absurd (cc)
+parts_after w false (whole z) n room a x y s e d f = absurd (cc)
+parts_after w false (float32 k) n room a x y s e d f = absurd (cc)
+parts_after w false (float64 k) n room a x y s e d f = absurd (cc)
+parts_after w false (text t) n room a x y s e d f = absurd (cc)
+parts_after w false (bin t) n room a x y s e d f = absurd (cc)
+parts_after w false (list ms) n room a x y s e d f =
     let same : count ms ≡ n = cc in
     record {
       bytes = s.second;
-      rest = x;
-      trees = ms;
       front = sym (f s.first s.second s.is_whole s.is_first);
-      spelled = listed w ms s.second s.is_second;
-      many = same;
-      fits = omega (arith, d);
-      holds = tt;
+      spelled = record
+          { trees = ms; spelled = listed w ms s.second s.is_second; many = same; fits = omega (arith, d) };
     }
-parts_of w false (map ps) n room a x y s e d f = absurd (cc)
-parts_of w false (extension tag t) n room a x y s e d f = absurd (cc)
+parts_after w false (map ps) n room a x y s e d f = absurd (cc)
+parts_after w false (extension tag t) n room a x y s e d f = absurd (cc)
+
+parts_of : (w is_map : Bool) (m : Msg) (n room : ℕ) (a x y : List ℕ) → SpellsAs w a m → head_of m ≡ parts_head is_map n → depth m < room
+    → ((d c : List ℕ) → a ≡ d ++ c → heads_of w (head_of m) d → c ++ x ≡ y) → BeginsRow (SpellsAs w) any_row (room - 1) (parts_count is_map n) y
+parts_of w is_map m n room a x y s e d f =
+    let p = parts_after w is_map m n (room - 1) a x y s e (omega (arith, d)) f in
+    let q = p.spelled in
+    record { bytes = p.bytes; rest = x; trees = q.trees; front = p.front; spelled = q.spelled; many = q.many; fits = q.fits; holds = tt }
 
 -- where no row is after the head, no message is before it
 pub parts_refused : (w is_map : Bool) (P : Msg → Type 0) (n room : ℕ) (known k : Option (List ℕ)) (b : List ℕ) → Consumes known k b

@@ -1,13 +1,12 @@
 -- The name of a variant as the key of a map of one pair, whose head was buffered.
-use Rattle.std.proofs.Common.{◌≡◌, sym, subst, refl, arith, ℕ, ◌-◌, ◌<◌, max, List, Bool, false, Result, Ok, Err, MutBor}
-use Rattle.std.specs.Prelude.{IfOk, IfErr}
+use Rattle.std.proofs.Common.{subst, refl, arith, ℕ, ◌-◌, ◌<◌, max, List, MutBor}
 use Rattle.rmp_wire.specs.declared.head.Head.TheVariants.{Map}
 use Rattle.rmp_wire.specs.declared.source.Source.{Ghosts}
 use Rattle.rmp_decode.specs.BufferedHeads.{ConsumesHead}
 use Rattle.rmp_decode.specs.Parts.{TakesPart, FailsPart}
 use Rattle.rmp_decode.specs.State.{left, faults_of}
 use Rattle.rmp_decode.specs.VariantNames.{IsPlace, RefusesName}
-use Rattle.rmp_decode.specs.Variants.{TakesKeyOf, TakesNameOf, FailsToOpenVariant}
+use Rattle.rmp_decode.specs.Variants.{TakesKeyOf, FailsToOpenVariant}
 use Rattle.rmp_decode.specs.declared.deserializer.Deserializer.{Deserializer}
 use Rattle.rmp_decode.specs.declared.error.Error.{Error}
 use Rattle.rmp_decode.proofs.Variants.{no_name_of_pair}
@@ -28,16 +27,9 @@ module _ {R C : Type 0} (g : Ghosts R) (names : List (List ℕ)) (old : Deserial
           key = subst (λ z. TakesPart g (IsPlace names) (max 1 (z - 1)) between new n) h.stays.room t;
         }
 
-    pub pair_named_in : (r : Result (ℕ × Bool) Error) → IfOk r (λ p. TakesPart g (IsPlace names) (max 1 (between.room - 1)) between new p.0)
-        → IfOk r (λ p. p.1 ≡ false) → IfOk r (λ p. TakesNameOf g names p.0 p.1 old new (old.room - 1))
-    pair_named_in (Ok p) t q = subst (λ b. TakesNameOf g names p.0 b old new (old.room - 1)) (sym q) (pair_named p.0 t)
-    pair_named_in (Err e) t q = tt
-
-    pub pair_refused_in : (b : MutBor (Deserializer R C)) (r : Result (ℕ × Bool) Error)
-        → IfErr r (FailsPart g (IsPlace names) (max 1 (between.room - 1)) between new)
-        → IfErr r (RefusesName between.strict (faults_of g between) (faults_of g new) (left g between)) → IfErr r (FailsToOpenVariant g names old new)
-    pair_refused_in b (Ok p) t x = tt
-    pair_refused_in b (Err e) t x =
+    pub pair_refused : (b : MutBor (Deserializer R C)) (e : Error) → FailsPart g (IsPlace names) (max 1 (between.room - 1)) between new e
+        → RefusesName between.strict (faults_of g between) (faults_of g new) (left g between) e → FailsToOpenVariant g names old new e
+    pair_refused b e t x =
         let h = f.begun in
         no_name_of_pair g names b old between new (f.marker, Map 1) (old.room - 1) e h refl (omega (arith, d))
         (subst (λ z. FailsPart g (IsPlace names) (max 1 (z - 1)) between new e) h.stays.room t) x

@@ -1,26 +1,7 @@
 -- From what open lists and maps want to what they want then.
-use Rattle.std.proofs.Common.{◌≡◌, ◌∙◌, sym, ap, subst, refl, ℕ, suc, ◌*◌, ◌<◌, inl, inr, arith, List, [], ◌∷◌, ◌++◌, Bool, true, false, append_assoc}
+use Rattle.std.proofs.Common.{◌≡◌, ◌∙◌, sym, ap, subst, refl, ℕ, suc, ◌<◌, inl, inr, arith, List, [], ◌∷◌, ◌++◌, Bool, append_assoc}
 use Rattle.rmp_wire.specs.Canonical.{heads_of, SpellsAs}
-use Rattle.rmp_wire.specs.Msg.{
-  Msg,
-  nil,
-  truth,
-  whole,
-  float32,
-  float64,
-  text,
-  bin,
-  list,
-  map,
-  extension,
-  Msgs,
-  no_items,
-  item,
-  count,
-  count_pairs,
-  depth,
-  depth_all,
-}
+use Rattle.rmp_wire.specs.Msg.{Msg, whole, list, map, Msgs, no_items, item, count, depth, depth_all}
 use Rattle.rmp_wire.specs.Spelling.{head_of}
 use Rattle.rmp_wire.specs.Taking.{marker_of}
 use Rattle.rmp_wire.proofs.Strict.{heads_differ_as, spelled_once_as}
@@ -30,8 +11,7 @@ use Rattle.rmp_decode.specs.Seq.{SpellsRow, BeginsRow}
 use Rattle.rmp_decode.specs.Skip.{any_row, parts_head, parts_count}
 use Rattle.rmp_decode.specs.declared.error.Error.{Error}
 use Rattle.rmp_decode.proofs.NothingAccepted.{same_head}
-use Rattle.rmp_decode.proofs.Rows.{listed}
-use Rattle.rmp_decode.proofs.SkipLaws.{in_turn, count-in_turn, depth-in_turn, turned, nest_of}
+use Rattle.rmp_decode.proofs.SkipLaws.{PartsAfter, parts_after, nest_of}
 use Rattle.rmp_decode.proofs.FirstFault.{Front, front_of, starts}
 
 module _ (w : Bool) where
@@ -86,54 +66,6 @@ module _ (w : Bool) where
         };
       }
 
-  -- what follows the head of a list or a map
-  record PartsAfter (room n : ℕ) (x y : List ℕ) : Type 0 where
-    pub bytes : List ℕ
-    pub front : y ≡ bytes ++ x
-    pub spelled : SpellsMany w room n bytes
-
-  parts_after : (is_map : Bool) (m : Msg) (n room : ℕ) (a x y : List ℕ) → SpellsAs w a m → head_of m ≡ parts_head is_map n → depth m < suc room
-      → ((d c : List ℕ) → a ≡ d ++ c → heads_of w (head_of m) d → c ++ x ≡ y) → PartsAfter room (parts_count is_map n) x y
-  parts_after true nil n room a x y s e d f = absurd (cc)
-  parts_after true (truth t) n room a x y s e d f = absurd (cc)
-  parts_after true (whole z) n room a x y s e d f = absurd (cc)
-  parts_after true (float32 k) n room a x y s e d f = absurd (cc)
-  parts_after true (float64 k) n room a x y s e d f = absurd (cc)
-  parts_after true (text t) n room a x y s e d f = absurd (cc)
-  parts_after true (bin t) n room a x y s e d f = absurd (cc)
-  parts_after true (list ms) n room a x y s e d f = absurd (cc)
-  parts_after true (map ps) n room a x y s e d f =
-      let same : count_pairs ps ≡ n = cc in
-      record {
-        bytes = s.second;
-        front = sym (f s.first s.second s.is_whole s.is_first);
-        spelled = record {
-          trees = in_turn ps;
-          spelled = turned w ps s.second s.is_second;
-          many = count-in_turn ps
-              ∙ ap (λ z. 2 * z) same;
-          fits = omega (arith, depth-in_turn ps, d);
-        };
-      }
-  parts_after true (extension tag t) n room a x y s e d f = absurd (cc)
-  parts_after false nil n room a x y s e d f = absurd (cc)
-  parts_after false (truth t) n room a x y s e d f = absurd (cc)
-  parts_after false (whole z) n room a x y s e d f = absurd (cc)
-  parts_after false (float32 k) n room a x y s e d f = absurd (cc)
-  parts_after false (float64 k) n room a x y s e d f = absurd (cc)
-  parts_after false (text t) n room a x y s e d f = absurd (cc)
-  parts_after false (bin t) n room a x y s e d f = absurd (cc)
-  parts_after false (list ms) n room a x y s e d f =
-      let same : count ms ≡ n = cc in
-      record {
-        bytes = s.second;
-        front = sym (f s.first s.second s.is_whole s.is_first);
-        spelled = record
-            { trees = ms; spelled = listed w ms s.second s.is_second; many = same; fits = omega (arith, d) };
-      }
-  parts_after false (map ps) n room a x y s e d f = absurd (cc)
-  parts_after false (extension tag t) n room a x y s e d f = absurd (cc)
-
   enter_opens : (is_map : Bool) (len room n : ℕ) (counts a c more x ys : List ℕ) (ts : Msgs) → heads_of w (parts_head is_map len) a
       → SpellsRow (SpellsAs w) c ts → count ts ≡ suc n → depth_all ts < suc room → SpellsOpen w (suc (suc room)) counts more → (c ++ more) ++ x ≡ a ++ ys
       → SpellsThen w room (parts_count is_map len ∷ n ∷ counts) x ys
@@ -141,7 +73,7 @@ module _ (w : Bool) where
   enter_opens is_map len room n counts a c more x ys (item k ks) i t l d o e =
       let split : t.first ++ ((t.second ++ more) ++ x) ≡ a ++ ys = split_off c t.first t.second more x t.is_whole ∙ e in
       let u = same_head w k (parts_head is_map len) t.first a ((t.second ++ more) ++ x) ys t.is_first i split in
-      let p : PartsAfter room (parts_count is_map len) ((t.second ++ more) ++ x) ys = parts_after is_map k len room t.first ((t.second ++ more) ++ x) ys
+      let p : PartsAfter w room (parts_count is_map len) ((t.second ++ more) ++ x) ys = parts_after w is_map k len room t.first ((t.second ++ more) ++ x) ys
       t.is_first u.0 (omega (arith, d))
       (λ d c q j. (heads_differ_as w (head_of k) (parts_head is_map len) d a (c ++ ((t.second ++ more) ++ x)) ys j i
       (sym (append_assoc d c ((t.second ++ more) ++ x)) ∙ ap (λ z. z ++ ((t.second ++ more) ++ x)) (sym q) ∙ split)).2) in

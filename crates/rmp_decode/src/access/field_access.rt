@@ -420,26 +420,8 @@ impl<'x, R: Source, C: SerializerConfig> FieldAccess<'x, R, C> {
             × (e ≡ Error.LengthMismatch (fields_in self.entry - fields_left self.entry))) }
         ensures before { is_struct_sound self.entry ≡ false → MatchResult result (λ _. ⊥) IsFailedBefore × (self.exit.0.now ≡ struct_lender self.entry) }
     {
-        let FieldAccess {
-            de,
-            names: _,
-            left,
-            count,
-            inner: _,
-            is_map: _,
-            bytes: _,
-            owes: _,
-            sound,
-            met: _,
-        } = self;
-        if !sound {
-            return Err(Error::Uncategorized(Text::FailedBefore));
-        }
-        if left > 0 {
-            return Err(Error::LengthMismatch(count.saturating_sub(left)));
-        }
-        de.failed = false;
-        Ok(())
+        let (left, count, sound) = (self.left, self.count, self.sound);
+        self.de.end_parts(left, count, sound)
     }
 }
 

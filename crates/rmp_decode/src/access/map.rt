@@ -197,21 +197,7 @@ impl<'x, R: Source, C: SerializerConfig> MapAccess<'x, R, C> {
             × (e ≡ Error.LengthMismatch (pairs_in self.entry - pairs_left self.entry))) }
         ensures before { is_map_sound self.entry ≡ false → MatchResult result (λ _. ⊥) IsFailedBefore × (self.exit.0.now ≡ map_lender self.entry) }
     {
-        let MapAccess {
-            de,
-            left,
-            count,
-            inner: _,
-            owes: _,
-            sound,
-        } = self;
-        if !sound {
-            return Err(Error::Uncategorized(Text::FailedBefore));
-        }
-        if left > 0 {
-            return Err(Error::LengthMismatch(count.saturating_sub(left)));
-        }
-        de.failed = false;
-        Ok(())
+        let (left, count, sound) = (self.left, self.count, self.sound);
+        self.de.end_parts(left, count, sound)
     }
 }

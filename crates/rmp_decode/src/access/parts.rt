@@ -1,6 +1,7 @@
-//! One part of a list or a map, read with the depth that is left for parts.
-ghost use Rattle.std.specs.Prelude.{◌≡◌, ◌≢◌, IfOk, IfErr, false, max};
+//! What accesses share: one part of a list or a map, read with the depth that is left for parts, and the end.
+ghost use Rattle.std.specs.Prelude.{◌≡◌, ◌≢◌, ◌<◌, ◌-◌, IfOk, IfErr, MatchResult, OnOk, false, true, max};
 ghost use Rattle.std.specs.Fn.{FnOnceTakesAtMut};
+ghost use Rattle.rmp_decode.specs.Law.{IsFailedBefore};
 ghost use Rattle.rmp_decode.specs.MapRefusing.{PartRefused};
 ghost use Rattle.rmp_decode.specs.Parts.{TakesPart, FailsPart};
 ghost use Rattle.rmp_decode.specs.State.{config_of};
@@ -66,5 +67,22 @@ impl<R: Source, C: SerializerConfig> Deserializer<R, C> {
             return Err(Error::Uncategorized(Text::FailedBefore));
         }
         Ok(part)
+    }
+
+    // Ends a list or a map of `count` parts of which `left` remain. The reader is ready again if that is none.
+    #[inline(always)]
+    pub(crate) fn end_parts(&mut self, left: u32, count: u32, sound: bool) -> Result<(), Error>
+        ensures ok { sound ≡ true → OnOk result ((left ≡ 0) × (self.new ≡ record self.old { failed = false })) }
+        ensures err { sound ≡ true → IfErr result (λ e. (0 < left) × (self.new ≡ self.old) × (e ≡ Error.LengthMismatch (count - left))) }
+        ensures before { sound ≡ false → MatchResult result (λ _. ⊥) IsFailedBefore × (self.new ≡ self.old) }
+    {
+        if !sound {
+            return Err(Error::Uncategorized(Text::FailedBefore));
+        }
+        if left > 0 {
+            return Err(Error::LengthMismatch(count.saturating_sub(left)));
+        }
+        self.failed = false;
+        Ok(())
     }
 }

@@ -353,21 +353,7 @@ impl<'x, R: Source, C: SerializerConfig> SeqAccess<'x, R, C> {
             × (e ≡ Error.LengthMismatch (count_in self.entry - left_in self.entry))) }
         ensures before { is_sound self.entry ≡ false → MatchResult result (λ _. ⊥) IsFailedBefore × (self.exit.0.now ≡ lender_of self.entry) }
     {
-        let SeqAccess {
-            de,
-            left,
-            count,
-            inner: _,
-            bytes: _,
-            sound,
-        } = self;
-        if !sound {
-            return Err(Error::Uncategorized(Text::FailedBefore));
-        }
-        if left > 0 {
-            return Err(Error::LengthMismatch(count.saturating_sub(left)));
-        }
-        de.failed = false;
-        Ok(())
+        let (left, count, sound) = (self.left, self.count, self.sound);
+        self.de.end_parts(left, count, sound)
     }
 }

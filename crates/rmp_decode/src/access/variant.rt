@@ -192,8 +192,8 @@ impl<R: Source, C: SerializerConfig> Deserializer<R, C> {
         }
     }
 
-    // Reads a variant's name as the key of a map. The reader counts as failed until the content is read.
-    #[inline(always)]
+    // Reads a variant's name as the key of a map, out of line. The reader counts as failed until the content is read.
+    #[inline(never)]
     fn name_of_pair<P: ReadContent<R>>(&mut self, names: &[&str]) -> Result<usize, Error>
         ensures ok { IfOk result (TakesPart R.Source (IsPlace (bytes_of names.now)) (max 1 (self.old.room - 1)) self.old self.new) }
         ensures err { IfErr result (FailsPart R.Source (IsPlace (bytes_of names.now)) (max 1 (self.old.room - 1)) self.old self.new) }
@@ -206,26 +206,6 @@ impl<R: Source, C: SerializerConfig> Deserializer<R, C> {
                 self.failed = true;
                 Ok(place)
             }
-            Err(e) => Err(e),
-        }
-    }
-
-    // Reads a variant's name as the key of a map, out of line.
-    #[inline(never)]
-    fn slow_pair<P: ReadContent<R>>(&mut self, names: &[&str]) -> Result<(usize, bool), Error>
-        ensures ok { IfOk result (λ p. TakesPart R.Source (IsPlace (bytes_of names.now)) (max 1 (self.old.room - 1)) self.old self.new p.0) }
-        ensures paired { IfOk result (λ p. p.1 ≡ false) }
-        ensures below { IfOk result (λ p. p.0 < length names.now) }
-        ensures stays { Stays R.Source self.old self.new }
-        ensures sound { OnOk result (faults_of R.Source self.new ≡ faults_of R.Source self.old) }
-        ensures clean { OnOk result (kept_of self.new ≡ Nothing) }
-        ensures failed { is_failed self.new ≡ true }
-        ensures err { IfErr result (FailsPart R.Source (IsPlace (bytes_of names.now)) (max 1 (self.old.room - 1)) self.old self.new) }
-        ensures exact { IfErr result (RefusesName (is_strict self.old) (faults_of R.Source self.old) (faults_of R.Source self.new) (left R.Source self.old)) }
-        ensures memory { P.lends ≡ true → IfErr result (λ e. e ≢ Error.OutOfMemory) }
-    {
-        match self.name_of_pair::<P>(names) {
-            Ok(place) => Ok((place, false)),
             Err(e) => Err(e),
         }
     }
@@ -268,15 +248,18 @@ impl<R: Source, C: SerializerConfig> Deserializer<R, C> {
         ensures err { IfErr result (FailsToOpenVariant R.Source (bytes_of names.now) self.old self.new) }
         ensures memory { P.lends ≡ true → IfErr result (λ e. e ≢ Error.OutOfMemory) }
     {
-        match self.take_bare_name(names) {
-            Some(place) => Ok((place, true)),
-            None => match self.take_nested(MapOf { count: 1 }) {
-                Some(()) => match self.take_name(names, true) {
-                    Some(place) => Ok((place, false)),
-                    None => self.slow_pair::<P>(names),
+        if let Some(place) = self.take_bare_name(names) {
+            return Ok((place, true));
+        }
+        match self.take_nested(MapOf { count: 1 }) {
+            Some(()) => match self.take_name(names, true) {
+                Some(place) => Ok((place, false)),
+                None => match self.name_of_pair::<P>(names) {
+                    Ok(place) => Ok((place, false)),
+                    Err(e) => Err(e),
                 },
-                None => self.slow_variant::<P>(names),
             },
+            None => self.slow_variant::<P>(names),
         }
     }
 
