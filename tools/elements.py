@@ -87,10 +87,54 @@ def refusal(i, n, word, error):
     return f"(of_back (AnyLong (lengths {names})) {bracketed(each[:i])} {part} _ {term})" if i else term
 
 
+# One element, as it is written under these settings.
+def piece(i, settings):
+    value = f"c.args.self.now.{FIELDS[i]}.now"
+    return f"(value_of {settings} (g.E{i + 1}.Serialize.data_of {value} ({settings}).human) (g.E{i + 1}.Serialize.marks {value} {settings}))"
+
+
+# What one call wrote of this element, under the settings at the beginning.
+def ordered(i, word, result):
+    this = numbered(word, i)
+    before = numbered(word, i - 1)
+    now = f"c.{before}.new.se" if i else "c.args.se.now"
+    settings = f"{keeps(word, i)}.settings" if i else "refl"
+    failed = result.startswith("(Err")
+    got = f"c.in_{'err' if failed else 'ok'}-{this}.ensures"
+    marks = f"(g.E{i + 1}.Serialize.marks c.args.self.now.{FIELDS[i]}.now)"
+    if word == "serialize":
+        marker = f"{got}.marker" if failed else "tt"
+        return f"(value_piece g.W.Sink {data(i)} {marks} {now} {result} {settings} {got}.writes {marker})"
+    return f"(field_piece g.W.Sink {data(i)} {marks} _ {settings} {got}.order)"
+
+
+# What was written of the elements from this one on, up to the one that failed or the last.
+def order(i, n, word, failed):
+    last = i == failed if failed is not None else i == n - 1
+    this = ordered(i, word, "(Err _)" if i == failed else "(Ok _)")
+    settings = "(settings_of c.args.se.now)"
+    result = "(Err _)" if failed is not None else "(Ok _)"
+    rest = [piece(k, settings) for k in range(i + 1, n)]
+    if word == "put_field":
+        names = f"(drop ({i} + 1) c.args.names.now)"
+        more = f"(pieces_by {settings}.named {names} {bracketed(rest) if rest else '[]'})"
+    else:
+        more = bracketed(rest) if rest else "[]"
+    if last and i == failed:
+        step = f"(pieces_stop g.W.Sink {more} {this})" if rest or word == "put_field" else this
+    elif last:
+        step = f"(no_more g.W.Sink {result} {this})" if word == "put_field" else this
+    else:
+        step = f"(pieces_then g.W.Sink {result} {this} {order(i + 1, n, word, failed)})"
+    if word == "serialize":
+        return step
+    return f"(next_pieces g.W.Sink {settings}.named c.args.names.now {i} _ {piece(i, settings)} {bracketed(rest) if rest else '[]'} (omega (arith, c.requires)) {step})"
+
+
 def answers(n, word, goals):
     each = bracketed([f"g.E{k + 1}.Serialize.takes_memory (settings_of old)" for k in range(n)])
     steps = (["goes"] if word == "serialize" else []) + (["keeps_then"] if n > 1 else [])
-    uses = [f"Rattle.std.proofs.Common.{{{'inl, ' + 'inr, ' * (n > 1) if word == 'serialize' else 'arith, '}◌∷◌, []}}"]
+    uses = [f"Rattle.std.proofs.Common.{{{'inl, ' + 'inr, ' * (n > 1) + 'refl, ' if word == 'serialize' else 'arith, refl, drop, ◌+◌, '}◌∷◌, []}}"]
     if word == "serialize":
         uses.append("Rattle.std.specs.Prelude.{◌||◌, Ok, Err}")
     uses.append("Rattle.std.proofs.lemmas.Result.{err_from_is_err_and}")
@@ -105,6 +149,16 @@ def answers(n, word, goals):
         uses.append(f"Rattle.rmp_encode.proofs.Refusals.{{{', '.join(proved)}}}")
         if n > 1:
             uses.append("Rattle.rmp_encode.specs.Refusals.{lengths, AnyLong}")
+    if word == "serialize":
+        proved = ["pieces_stop", "pieces_then"] if n > 1 else []
+        uses.append(f"Rattle.rmp_encode.proofs.Markers.{{{', '.join([*proved, 'value_piece'])}}}")
+        if n > 1:
+            uses.append("Rattle.rmp_encode.specs.Markers.{value_of}")
+    else:
+        proved = ["field_piece", "next_pieces", "no_more", "pieces_stop", *(["pieces_then"] if n > 1 else [])]
+        uses.append(f"Rattle.rmp_encode.proofs.Markers.{{{', '.join(proved)}}}")
+        uses.append("Rattle.rmp_encode.specs.Markers.{pieces_by, value_of}")
+        uses.append("Rattle.std.specs.Prelude.{Ok, Err}")
     text = "".join(f"use {name}\n" for name in uses) + f"use {goals}.Goals as goal\n"
     for i in range(n):
         this = numbered(word, i)
@@ -127,6 +181,13 @@ pub {goal} : goal.{goal}
     let p = err_from_is_err_and {residual(word, i)}.result {residual(word, i)}.ensures.1 in
     rw (p.1, p.2) {refusal(i, n, word, f"c.in_err-{this}.ensures.error")}
 """
+        goal = f"returns-in_err-{this}-clause-marker"
+        text += f"""
+pub {goal} : goal.{goal}
+{goal} g c =
+    let p = err_from_is_err_and {residual(word, i)}.result {residual(word, i)}.ensures.1 in
+    rw (p.1, p.2) {order(0, n, word, i)}
+"""
         if i:
             goal = f"returns-in_err-{this}-clause-keeps"
             text += f"""
@@ -137,6 +198,10 @@ pub {goal} : goal.{goal}
     text += f"""
 pub returns-clause-writes : goal.returns-clause-writes
 returns-clause-writes g c = λ old t rest h. {final}
+"""
+    text += f"""
+pub returns-clause-marker : goal.returns-clause-marker
+returns-clause-marker g c = {order(0, n, word, None)}
 """
     if n > 1:
         text += f"""
@@ -149,6 +214,7 @@ returns-clause-keeps g c = {keeps(word, n)}
 def main():
     source = """//! One to eight elements of several types. Written by tools/elements.py.
 ghost use Rattle.std.specs.Prelude.{◌∷◌, [], refl};
+ghost use Rattle.rmp_encode.specs.Markers.{value_of};
 ghost use Rattle.rmp_encode.specs.Sizes.{one_of};
 
 use crate::elements::Elements;

@@ -49,6 +49,8 @@ def implementation(name, n, elements, named, path=""):
     value = " × ".join(f"{kind}.is_value v.{FIELDS[i]}.now" for i, kind in enumerate(names))
     memory = bracketed([f"{kind}.takes_memory s" for kind in names])
     refusals = " ∷ ".join(f"{kind}.refuses v.{FIELDS[i]}.now" for i, kind in enumerate(names))
+    pieces = "".join(f"""
+        value_of s ({kind}.data_of v.{FIELDS[i]}.now s.human) ({kind}.marks v.{FIELDS[i]}.now s) ∷""" for i, kind in enumerate(names))
     return f"""
 impl<'r, {bounds}> Elements for {name}<'r, {", ".join(names)}> {{
     ghost count = {{ {n} }};
@@ -60,6 +62,8 @@ impl<'r, {bounds}> Elements for {name}<'r, {", ".join(names)}> {{
     ghost refusals = {{ λ v. {refusals} ∷ [] }};
 
     ghost takes_memory = {{ λ s. one_of {memory} }};
+
+    ghost pieces = {{ λ v s.{pieces} [] }};
 
     ghost counted = {{ λ v human. refl }};
 
@@ -97,6 +101,11 @@ def answers(n, k, word, goals):
     def refusals(start, end):
         return bracketed([f"g.E{i + 1}.Serialize.refuses c.args.self.now.{FIELDS[i]}.now" for i in range(start, end)])
 
+    def pieces(start, end, settings):
+        return bracketed([
+            f"value_of {settings} (g.E{i + 1}.Serialize.data_of c.args.self.now.{FIELDS[i]}.now ({settings}).human)"
+            f" (g.E{i + 1}.Serialize.marks c.args.self.now.{FIELDS[i]}.now {settings})" for i in range(start, end)])
+
     def less(side):
         return f"({side}_or g.W.Sink.takes_memory {memory(0, k)} {memory(k, n)})"
 
@@ -109,8 +118,26 @@ def answers(n, k, word, goals):
     named = f"(named_halves g.W.Sink c.args.names.now {k} {data(0, k)} {data(k, n)} rest refl (omega (arith, c.requires)) h)"
     first = "h" if word == "write" else named
     back = f"c.{word}-2.ensures.writes old t rest (c.in_ok-{word}.ensures.writes old t _ {first})"
+    first_settings = "(settings_of c.args.se.now)"
+    if word == "write":
+        stopped = f"pieces_stop g.W.Sink {pieces(k, n, first_settings)} c.in_err-write.ensures.marker"
+        ordered = f"""pieces_then g.W.Sink c.write-2.result c.in_ok-write.ensures.marker
+    (pieces_as g.W.Sink (λ s. {pieces(k, n, 's')}) c.write.ensures.keeps.settings c.write-2.ensures.marker)"""
+    else:
+        names = "c.args.names.now"
+        later = f"(take (length {names} - {k}) (drop {k} {names}))"
+        halves = f"""pieces_halves g.W.Sink (settings_of c.args.se.now).named {names} {k}
+    {pieces(0, k, first_settings)}
+    {pieces(k, n, first_settings)} refl (omega (arith, c.requires))"""
+        stopped = f"""{halves}
+    (pieces_stop g.W.Sink (pieces_by (settings_of c.args.se.now).named {later}
+    {pieces(k, n, first_settings)}) c.in_err-write_fields.ensures.marker)"""
+        ordered = f"""{halves}
+    (pieces_then g.W.Sink c.write_fields-2.result c.in_ok-write_fields.ensures.marker
+    (pieces_as g.W.Sink (λ s. pieces_by s.named {later}
+    {pieces(k, n, 's')}) c.write_fields.ensures.keeps.settings c.write_fields-2.ensures.marker))"""
     uses = [
-        f"Rattle.std.proofs.Common.{{{'' if word == 'write' else 'arith, refl, '}◌∷◌, []}}",
+        f"Rattle.std.proofs.Common.{{{'' if word == 'write' else 'arith, refl, length, take, drop, ◌-◌, '}◌∷◌, []}}",
         "Rattle.std.proofs.lemmas.Result.{err_from_is_err_and}",
         "Rattle.rmp_encode.specs.Going.{IsWriting}",
         "Rattle.rmp_encode.specs.Ser.{sink_of, settings_of}",
@@ -120,6 +147,8 @@ def answers(n, k, word, goals):
     uses.append("Rattle.rmp_encode.proofs.Going.{going_more, keeps_then}")
     uses.append("Rattle.rmp_encode.proofs.Parts.{front_or, back_or, part_takes}")
     uses.append(f"Rattle.rmp_encode.proofs.Refusals.{{{'' if word == 'write' else 'long_rest, long_take, '}of_front, on_back{'' if word == 'write' else ', on_parts_weaker, parts_weaker'}}}")
+    uses.append(f"Rattle.rmp_encode.proofs.Markers.{{pieces_as, {'' if word == 'write' else 'pieces_halves, '}pieces_stop, pieces_then}}")
+    uses.append(f"Rattle.rmp_encode.specs.Markers.{{{'' if word == 'write' else 'pieces_by, '}value_of}}")
     if word == "write_fields":
         uses.append("Rattle.rmp_encode.specs.Refusals.{lengths, AnyLong}")
     return "".join(f"use {name}\n" for name in uses) + f"""use {goals}.Goals as goal
@@ -145,4 +174,12 @@ returns-in_err-{word}-clause-error g c =
 
 pub returns-clause-error : goal.returns-clause-error
 returns-clause-error g c = on_back {long} {refusals(0, k)} {refusals(k, n)} c.{word}-2.result {back_error}
+
+pub returns-in_err-{word}-clause-marker : goal.returns-in_err-{word}-clause-marker
+returns-in_err-{word}-clause-marker g c =
+    let p = err_from_is_err_and c.from_residual.result c.from_residual.ensures.1 in
+    rw (p.1, p.2) ({stopped})
+
+pub returns-clause-marker : goal.returns-clause-marker
+returns-clause-marker g c = {ordered}
 """
