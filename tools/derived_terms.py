@@ -16,6 +16,7 @@ GHOST = {
     "rmp_encode.specs.Data": "unit_struct unit_variant",
     "rmp_encode.specs.Refusals": "OfParts OfSink",
     "rmp_encode.specs.Ser": "sink_of settings_of",
+    "rmp_encode.specs.Markers": "value_of",
     "rmp_encode.specs.Sizes": "one_of",
     "rmp_encode.specs.Trees": "wrapped_of sequence_of structure_of newtype_variant_of tuple_variant_of struct_variant_of tree_of",
     "rmp_encode.specs.Writes": "Keeps WritesTree",

@@ -8,7 +8,10 @@ use Rattle.rmp_wire.specs.declared.sink.Sink.{Ghosts}
 use Rattle.rmp_encode.specs.declared.serializer.Serializer.{Serializer}
 use Rattle.rmp_encode.specs.Data.{Data}
 use Rattle.rmp_encode.specs.Going.{IsWriting, IsKeepingAt}
-use Rattle.rmp_encode.specs.Opens.{Open, IsOpen, IsOpenAt, is_kept, left_of, left_at, owed_at, MayTake, MayEnd}
+use Rattle.rmp_encode.specs.Opens.{Open, IsOpen, IsOpenAt, is_kept, left_of, left_at, owed_at, part_marks, MayTake, MayEnd}
+use Rattle.rmp_encode.specs.declared.error.Error.{Error}
+use Rattle.rmp_encode.specs.Markers.{no_fault}
+use Rattle.rmp_encode.specs.Writes.{MarkedBy, Marks}
 use Rattle.rmp_encode.specs.Sizes.{most}
 
 module _ {W C : Type 0} (g : Ghosts W) where
@@ -83,3 +86,13 @@ on_ok_as (Err e) f h = tt
 pub never_past : {W C : Type 0} (g : Ghosts W) {pairs : Bool} {old : Serializer W C} {t : Option Msg} {rest : List (Option Data)} {count : ℕ}
     {b : Serializer (Vec ℕ Global) C} {now : Serializer W C} → most pairs < count → IsKeepingAt g pairs old t rest count b now → ⊥
 never_past g past h = let k = h.fits in omega (arith, past, k)
+
+module _ {W : Type 0} (g : Ghosts W) where
+  -- what is known of the error of a part that is written at once, and of one that is buffered
+  pub marked_here : {B : Type 0} (b : Option B) (n : ℕ) (marks : Marks) → b ≡ None → (old new : W) (r : Result (Unit {0}) Error) → MarkedBy g marks old new r
+      → MarkedBy g (part_marks (left_at b n) marks) old new r
+  marked_here b n marks is old new r h = subst (λ x. MarkedBy g (part_marks (left_at x n) marks) old new r) (sym is) h
+
+  pub marked_kept : {B : Type 0} (b : Option B) (v : B) (n : ℕ) (marks : Marks) → b ≡ Some v → (old new : W) (e : Error)
+      → ((a c : Option (List ℕ)) → no_fault a c e) → part_marks (left_at b n) marks (g.told old) (g.told new) e
+  marked_kept b v n marks is old new e h = subst (λ x. part_marks (left_at x n) marks (g.told old) (g.told new) e) (sym is) (h (g.told old) (g.told new))

@@ -28,8 +28,10 @@ use Rattle.std.proofs.Common.{
   append-nil,
   length-append,
 }
-use Rattle.std.specs.Prelude.{if◌then◌else◌, Result, Ok, Err, MatchResult, ◌||◌}
-use Rattle.std.specs.List.{flat_map, AllByRecursion}
+use Rattle.std.specs.Prelude.{if◌then◌else◌, Result, Ok, Err, MatchResult, nat_le, ◌&&◌, ◌||◌}
+use Rattle.std.specs.List.{flat_map, list_any, AllByRecursion}
+use Rattle.std.proofs.lemmas.Bool.{true≢false}
+use Rattle.std.proofs.lemmas.Bool.Decides.{nat_tests}
 use Rattle.std.specs.declared.vec.Vec.{Vec}
 use Rattle.std.specs.declared.alloc.Global.{Global}
 use Rattle.std.proofs.lemmas.List.{length-map, map-append}
@@ -41,17 +43,18 @@ use Rattle.rmp_encode.specs.declared.error.Error.{Error}
 use Rattle.rmp_encode.specs.Data.{Data, lower, packs_tuple}
 use Rattle.rmp_encode.specs.Trees.{Has, HasTree, a_byte, array_head, byte_of, forces_all, number_head, sequence_of, spell, spelling, tree_of, tuple_of}
 use Rattle.rmp_wire.specs.Msg.{Msg, bin}
-use Rattle.rmp_wire.specs.Heads.{fits_head}
+use Rattle.rmp_wire.specs.Heads.{canon_head, fits_head}
 use Rattle.rmp_wire.specs.Spelling.{canon}
 use Rattle.rmp_encode.specs.Ser.{sink_of, settings_of}
-use Rattle.rmp_encode.specs.Writes.{FirstAtMarker, Keeps, NoneAtMarker, WritesPart, WritesTree}
+use Rattle.rmp_encode.specs.Markers.{FaultAt, InOrder, item, items_of, Piece}
+use Rattle.rmp_encode.specs.Writes.{Keeps, MarkedBy, NoneAtMarker, WritesPart, WritesTree}
 use Rattle.rmp_encode.specs.Going.{head_at, IsMadeOf, IsWriting}
 use Rattle.rmp_encode.specs.Errors.{IsTooLong}
-use Rattle.rmp_encode.specs.Tuples.{items_kept, OpenTuple, IsProbing, IsTupling, IsTuplingAt, kept_at, kept_of}
+use Rattle.rmp_encode.specs.Tuples.{items_kept, kept_item, spilled_items, OpenTuple, IsProbing, IsTupling, IsTuplingAt, kept_at, kept_of}
 use Rattle.rmp_encode.proofs.Parts.{or_second, part_any, part_as, part_refused, part_takes}
 use Rattle.rmp_encode.proofs.Lists.{made_list}
 use Rattle.rmp_encode.proofs.Going.{all_append, made_as, made_of, made_sure, made_ended, made_stopped, goes}
-use Rattle.rmp_encode.proofs.Numbers.{marker_after, marker_first}
+use Rattle.rmp_encode.proofs.Markers.{fault_at, nothing_written, one_piece}
 use Rattle.rmp_encode.proofs.Packing.{byte_from, tuple_can, plain_by, plain_mode, is_force_all, bytes_tree, list_tree}
 
 has_byte : (s : Settings) (b : ℕ) → b < 256 → Has s (a_byte b)
@@ -63,6 +66,31 @@ numbers_text : (s : Settings) (bs : List ℕ) → flat_map (spelling s) (map a_b
 unfolding spell lower
 numbers_text s [] = refl
 numbers_text s (b ∷ bs) = ap (λ l. number_head b ++ l) (numbers_text s bs)
+
+none_of : (a b : Bool) → a || b ≡ false → (a ≡ false) × (b ≡ false)
+none_of true b e = absurd (true≢false e)
+none_of false b e = (refl, e)
+
+not_last : (a b c : Bool) → a ≡ true → a && (b || c) ≡ false → c ≡ false
+not_last true b c is e = (none_of b c e).1
+not_last false b c is e = absurd (true≢false (sym is))
+
+-- numbers below 128 are a byte each
+small_number : (b : ℕ) → nat_le 128 b ≡ false → number_head b ≡ b ∷ []
+unfolding canon_head
+small_number b low = grind (arith, nat_tests)
+
+small_numbers : (bs : List ℕ) → list_any (nat_le 128) bs ≡ false → flat_map number_head bs ≡ bs
+small_numbers [] low = refl
+small_numbers (b ∷ bs) low =
+    let each = none_of (nat_le 128 b) (list_any (nat_le 128) bs) low in
+    rw (small_number b each.0) (ap (λ l. b ∷ l) (small_numbers bs each.1))
+
+-- and so are those of a list in place of which bytes aren't written
+pub listed_numbers : (bs : List ℕ) → packs_tuple ForceAll bs ≡ false → flat_map number_head bs ≡ bs
+unfolding packs_tuple
+listed_numbers [] listed = refl
+listed_numbers (b ∷ bs) listed = small_numbers (b ∷ bs) (not_last (nat_le 1 (length (b ∷ bs))) (nat_le 16 (length (b ∷ bs))) _ (grind arith) listed)
 
 module _ {W : Type 0} (g : Ghosts W) where
   -- from the tree of the list to that of the tuple
@@ -192,15 +220,16 @@ module _ {W C : Type 0} (g : Ghosts W) where
       as_tree g tree (subst (λ x. WritesTree g g.takes_memory (Some (bin kept)) (sink_of x) last r) h.same w)
 
   -- what was kept is written as a list
-  pub probing_lists : (kept : List ℕ) (len : ℕ) (now : Serializer W C) {last : W} {r : Result (Unit {0}) Error} → packs_tuple ForceAll kept ≡ false
-      → WritesPart g g.takes_memory (Unit {0} × Unit {0}) (head_at false len ++ flat_map number_head kept) (sink_of now) last r
+  pub probing_lists : {P : Type 0} → P → (kept : List ℕ) (len : ℕ) (now : Serializer W C) {last : W} {r : Result (Unit {0}) Error}
+      → packs_tuple ForceAll kept ≡ false → WritesPart g g.takes_memory P (head_at false len ++ kept) (sink_of now) last r
       → (old : Serializer W C) (t : Option Msg) → IsProbing g old t [] kept len now → WritesTree g g.takes_memory t (sink_of old) last r
-  probing_lists kept len now p w old t h =
+  probing_lists sure kept len now p w old t h =
       let s = settings_of old in
       let all = append-nil (map a_byte kept) in
       let plain : tree_of s (tuple_of (map a_byte kept ++ [])) ≡ tree_of s (sequence_of (map a_byte kept ++ [])) =
       ap (λ l. tree_of s (tuple_of l)) all ∙ list_tree s kept (ap (λ m. packs_tuple m kept) h.mode ∙ p) ∙ ap (λ l. tree_of s (sequence_of l)) (sym all) in
-      made_ended g s t (made_of all (made_kept h plain)) (kept_writes h w)
+      made_ended g s t (made_of all (made_kept h plain)) (kept_writes h (part_as g (λ x. x) (λ _. (tt, tt)) (λ _. sure)
+      (λ _. ap (λ l. head_at false len ++ l) (sym (listed_numbers kept p))) w))
 
   -- the state, where nothing is kept, and where something may be
   pub list_state : {old : Serializer W C} {t : Option Msg} {rest : List (Option Data)} {q : OpenTuple W C} → kept_of q ≡ None → IsTupling g old t rest q
@@ -233,32 +262,43 @@ module _ {W C : Type 0} (g : Ghosts W) where
       part_takes g _ (or_second (forces_all (settings_of old).bytes) (m (settings_of old)) g.takes_memory)
       (goes g (λ z. m z || g.takes_memory) d now q'.se.now (Err x) k w old t rest h)
 
--- what the end writes, where bytes are kept
-items_packed : (v : Vec ℕ Global) (len : ℕ) → packs_tuple ForceAll v.items ≡ true → items_kept (Some v) len ≡ canon (bin v.items) ∷ []
-unfolding items_kept
-items_packed v len e = ap (λ b. if b then canon (bin v.items) ∷ [] else array_head len ∷ map number_head v.items) e
+-- what the end writes of what is kept
+item_packed : (v : Vec ℕ Global) (len : ℕ) → packs_tuple ForceAll v.items ≡ true → kept_item v len ≡ canon (bin v.items)
+unfolding kept_item
+item_packed v len e = ap (λ b. if b then canon (bin v.items) else array_head len ++ v.items) e
 
-items_listed : (v : Vec ℕ Global) (len : ℕ) → packs_tuple ForceAll v.items ≡ false → items_kept (Some v) len ≡ head_at false len ∷ map number_head v.items
-unfolding items_kept head_at
-items_listed v len e = ap (λ b. if b then canon (bin v.items) ∷ [] else array_head len ∷ map number_head v.items) e
+item_listed : (v : Vec ℕ Global) (len : ℕ) → packs_tuple ForceAll v.items ≡ false → kept_item v len ≡ head_at false len ++ v.items
+unfolding kept_item head_at
+item_listed v len e = ap (λ b. if b then canon (bin v.items) else array_head len ++ v.items) e
 
 module _ {W : Type 0} (g : Ghosts W) where
-  -- what an error at the end says of first bytes: of bytes, of the head of a list, and of its numbers
-  pub marker_packed : (v : Vec ℕ Global) (len : ℕ) {k : Option (Vec ℕ Global)} → packs_tuple ForceAll v.items ≡ true → k ≡ Some v → (old new : W)
-      (r : Result (Unit {0}) Error) → NoneAtMarker g old new r → FirstAtMarker g (items_kept k len) old new r
-  marker_packed v len {k} packed is old new r none = subst (λ l. FirstAtMarker g l old new r) (sym (ap (λ x. items_kept x len) is ∙ items_packed v len packed))
-      (marker_first g (canon (bin v.items)) [] old new r none)
+  -- nothing
+  pub none_ended : (len : ℕ) {k : Option (Vec ℕ Global)} → k ≡ None → (w : W) → InOrder g {A = Unit {0}} (items_kept k len) w w (Ok tt)
+  none_ended len is w = subst (λ x. InOrder g {A = Unit {0}} (items_kept x len) w w (Ok tt)) (sym is) (nothing_written g w tt)
 
-  pub marker_no_head : {m : Bool} (v : Vec ℕ Global) (len : ℕ) {k : Option (Vec ℕ Global)} → packs_tuple ForceAll v.items ≡ false → k ≡ Some v
-      → {old new : W} {e : Error} → WritesPart g {A = Unit {0}} m (Unit {0}) (head_at false len) old new (Err e)
-      → NoneAtMarker g {A = Unit {0}} old new (Err e) → FirstAtMarker g {A = Unit {0}} (items_kept k len) old new (Err e)
-  marker_no_head v len {k} listed is {old} {new} {e} w none = subst (λ l. FirstAtMarker g {A = Unit {0}} l old new (Err e))
-      (sym (ap (λ x. items_kept x len) is ∙ items_listed v len listed))
-      (marker_first g (head_at false len) (map number_head v.items) old new (Err e) none)
+  -- as one item
+  item_ended : {m : Bool} {P : Type 0} (v : Vec ℕ Global) (len : ℕ) {k : Option (Vec ℕ Global)} (bytes : List ℕ) → kept_item v len ≡ bytes → k ≡ Some v
+      → {old new : W} (r : Result (Unit {0}) Error) → WritesPart g m P bytes old new r → NoneAtMarker g old new r → InOrder g (items_kept k len) old new r
+  item_ended v len bytes e is {old} {new} r w none = subst (λ x. InOrder g (items_kept x len) old new r) (sym is)
+      (subst (λ l. InOrder g (item l ∷ []) old new r) (sym e) (one_piece g (item bytes) r w none))
 
-  pub marker_numbers : {m : Bool} (v : Vec ℕ Global) (len : ℕ) {k : Option (Vec ℕ Global)} → packs_tuple ForceAll v.items ≡ false → k ≡ Some v
-      → {old mid : W} {u : Unit {0}} (new : W) (r : Result (Unit {0}) Error) → WritesPart g m (Unit {0}) (head_at false len) old mid (Ok u)
-      → FirstAtMarker g (map number_head v.items) mid new r → FirstAtMarker g (items_kept k len) old new r
-  marker_numbers v len {k} listed is {old} new r w h = subst (λ l. FirstAtMarker g l old new r)
-      (sym (ap (λ x. items_kept x len) is ∙ items_listed v len listed))
-      (marker_after g (head_at false len) (map number_head v.items) new r w h)
+  pub ended_packed : {m : Bool} (v : Vec ℕ Global) (len : ℕ) {k : Option (Vec ℕ Global)} → packs_tuple ForceAll v.items ≡ true → k ≡ Some v → {old new : W}
+      (r : Result (Unit {0}) Error) → WritesTree g m (Some (bin v.items)) old new r → NoneAtMarker g old new r → InOrder g (items_kept k len) old new r
+  unfolding spell
+  ended_packed v len packed is r w none = item_ended v len (canon (bin v.items)) (item_packed v len packed) is r w none
+
+  pub ended_listed : {m : Bool} {P : Type 0} (v : Vec ℕ Global) (len : ℕ) {k : Option (Vec ℕ Global)} → packs_tuple ForceAll v.items ≡ false → k ≡ Some v
+      → {old new : W} (r : Result (Unit {0}) Error) → WritesPart g m P (head_at false len ++ v.items) old new r → NoneAtMarker g old new r
+      → InOrder g (items_kept k len) old new r
+  ended_listed v len listed is r w none = item_ended v len (head_at false len ++ v.items) (item_listed v len listed) is r w none
+
+  -- an element that is written, alone or after what is kept
+  pub element_alone : {m : Bool} {P : Type 0} (p : Piece) (len : ℕ) {k : Option (Vec ℕ Global)} → k ≡ None → {old new : W} (r : Result (Unit {0}) Error)
+      → WritesPart g m P p.0 old new r → MarkedBy g p.1 old new r → MarkedBy g (FaultAt (spilled_items k len ++ p ∷ [])) old new r
+  element_alone p len is {old} {new} r w h = subst (λ x. MarkedBy g (FaultAt (spilled_items x len ++ p ∷ [])) old new r) (sym is)
+      (fault_at g r (one_piece g p r w h))
+
+  pub element_spilled : (p : Piece) (v : Vec ℕ Global) (len : ℕ) {k : Option (Vec ℕ Global)} → k ≡ Some v → {old new : W} (r : Result (Unit {0}) Error)
+      → InOrder g (items_of (array_head len ∷ map number_head v.items) ++ p ∷ []) old new r
+      → MarkedBy g (FaultAt (spilled_items k len ++ p ∷ [])) old new r
+  element_spilled p v len is {old} {new} r h = subst (λ x. MarkedBy g (FaultAt (spilled_items x len ++ p ∷ [])) old new r) (sym is) (fault_at g r h)

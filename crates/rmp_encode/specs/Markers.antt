@@ -1,21 +1,71 @@
--- Where the error of a sink may say that the first byte of an item wasn't taken.
-use Rattle.std.specs.Prelude.{◌⊎◌, ℕ, ◌++◌, List, Option, Result, Ok, Err}
+-- Of several items and values that are written in order: at which of them a write failed, and whether its first byte was taken.
+use Rattle.std.specs.Prelude.{◌≡◌, ◌⊎◌, ℕ, ◌++◌, Bool, true, false, List, [], ◌∷◌, Option, Result, OnOk, IfErr}
+use Rattle.std.specs.Borrow.{Bor}
 use Rattle.std.specs.Io.KnownBytes.{Appends}
-use Rattle.std.specs.List.{flat_map}
-use Rattle.rmp_wire.specs.declared.error.ValueWriteError.TheVariants as wire
+use Rattle.rmp_wire.specs.Msg.{text}
+use Rattle.rmp_wire.specs.Spelling.{canon}
 use Rattle.rmp_wire.specs.declared.sink.Sink.{Ghosts}
 use Rattle.rmp_encode.specs.declared.error.Error.{Error}
 use Rattle.rmp_encode.specs.declared.error.Error.TheVariants.{InvalidValueWrite}
-use Rattle.rmp_encode.specs.Writes.{AppendsFirst}
+use Rattle.rmp_encode.specs.declared.settings.Settings.{Settings}
+use Rattle.rmp_encode.specs.Data.{Data}
+use Rattle.rmp_encode.specs.Trees.{spelling}
+use Rattle.rmp_encode.specs.Writes.{AppendsSome, AtItem, Marks}
 
--- all of these items were appended to the told bytes, and whatever came after them
-pub record AppendsAll (items : List (List ℕ)) (old new : Option (List ℕ)) : Type 0 where
-  pub part : List ℕ
-  pub appended : Appends old new (flat_map (λ item. item) items ++ part)
+-- nothing is known
+abbrev pub any_mark : Marks
+any_mark old new e = Unit {0}
+
+-- what is written, whole: its bytes, and what is known of an error at it
+abbrev pub Piece : Type 1
+Piece = List ℕ × Marks
+
+-- an item, as a head, a name or a number
+abbrev pub item : List ℕ → Piece
+item bytes = (bytes, AtItem)
+
+abbrev pub items_of : List (List ℕ) → List Piece
+items_of [] = []
+items_of (bytes ∷ rest) = item bytes ∷ items_of rest
+
+-- a value of a type, of which this is known
+abbrev pub value_of : Settings → Option Data → Marks → Piece
+value_of s d marks = (spelling s d, marks)
+
+-- the bytes of each piece were appended, in order
+abbrev pub AllPieces : List Piece → Option (List ℕ) → Option (List ℕ) → Type 0
+AllPieces [] old new = old ≡ new
+AllPieces (p ∷ ps) old new = (mid : Option (List ℕ)) × Appends old mid p.0 × AllPieces ps mid new
+
+-- one of the pieces failed, and those before it were written whole
+abbrev pub AtPieces : List Piece → Marks
+AtPieces [] old new e = ⊥
+AtPieces (p ∷ ps) old new e = (AppendsSome e old new × p.1 old new e) ⊎ ((mid : Option (List ℕ)) × Appends old mid p.0 × AtPieces ps mid new e)
+
+-- the sink didn't fail
+abbrev pub no_fault : Marks
+no_fault old new (InvalidValueWrite fault) = ⊥
+no_fault old new e = Unit {0}
+
+-- if the sink failed, it was at one of these pieces
+abbrev pub FaultAt : List Piece → Marks
+FaultAt ps old new e = no_fault old new e ⊎ AtPieces ps old new e
+
+-- what is written of fields with these names: each value, and with names its name before it
+abbrev pub name_pieces : Bool → List ℕ → List Piece
+name_pieces true name = item (canon (text name)) ∷ []
+name_pieces false name = []
+
+abbrev pub field_pieces : Bool → List ℕ → Piece → List Piece
+field_pieces named name p = name_pieces named name ++ p ∷ []
+
+abbrev pub pieces_by : Bool → List (Bor (List ℕ)) → List Piece → List Piece
+pieces_by named names [] = []
+pieces_by named [] (p ∷ ps) = []
+pieces_by named (name ∷ names) (p ∷ ps) = field_pieces named name.now p ++ pieces_by named names ps
 
 module _ {W : Type 0} (g : Ghosts W) where
-  -- of items and a value after them: those before the one that wasn't begun are whole, or all of them are
-  abbrev pub BeforeValue : {A : Type 0} → List (List ℕ) → W → W → Result A Error → Type 0
-  BeforeValue items old new (Err (InvalidValueWrite (wire.InvalidMarkerWrite fault))) = AppendsFirst items (g.told old) (g.told new)
-      ⊎ AppendsAll items (g.told old) (g.told new)
-  BeforeValue items old new r = Unit {0}
+  -- these pieces were written to a sink, or one of them failed
+  pub record InOrder {A : Type 0} (ps : List Piece) (old new : W) (r : Result A Error) : Type 0 where
+    pub whole : OnOk r (AllPieces ps (g.told old) (g.told new))
+    pub stops : IfErr r (AtPieces ps (g.told old) (g.told new))

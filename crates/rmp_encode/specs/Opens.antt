@@ -9,7 +9,9 @@ use Rattle.rmp_encode.specs.declared.serializer.Serializer.{Serializer}
 use Rattle.rmp_encode.specs.declared.series.MaybeUnknownLengthCompound.{MaybeUnknownLengthCompound}
 use Rattle.rmp_encode.specs.Data.{Data}
 use Rattle.rmp_encode.specs.Going.{AreMany, head_at, IsWriting, IsKeepingAt}
+use Rattle.rmp_encode.specs.Markers.{no_fault}
 use Rattle.rmp_encode.specs.Sizes.{most, size_at}
+use Rattle.rmp_encode.specs.Writes.{Marks}
 
 -- the compound's own type, with its buffer
 abbrev pub Open : Type 0 → Type 0 → Type 0
@@ -111,6 +113,11 @@ MayOpen (Some n) = n < 2 ^ 32
 abbrev pub is_kept : Option ℕ → Bool
 is_kept None = true
 is_kept (Some n) = false
+
+-- what is known of the error of a part: a buffer never faults
+abbrev pub part_marks : Option ℕ → Marks → Marks
+part_marks None marks = no_fault
+part_marks (Some n) marks = marks
 
 -- if the length is unknown, the serializer doesn't change
 abbrev pub Stays : {S : Type 0} → Option ℕ → S → S → Type 0

@@ -11,6 +11,7 @@ use Rattle.rmp_encode.specs.declared.serializer.Serializer.{Serializer}
 use Rattle.rmp_encode.specs.declared.tuple.Tuple.{Tuple}
 use Rattle.rmp_wire.specs.declared.config.BytesMode.TheVariants.{ForceAll}
 use Rattle.rmp_encode.specs.Data.{Data, packs_tuple}
+use Rattle.rmp_encode.specs.Markers.{item, items_of, Piece}
 use Rattle.rmp_encode.specs.Trees.{Has, a_byte, array_head, number_head, tree_of, tuple_of}
 use Rattle.rmp_encode.specs.Ser.{settings_of}
 use Rattle.rmp_encode.specs.Going.{IsWriting}
@@ -25,10 +26,18 @@ kept_at None probing = None
 kept_at (Some b) true = Some b
 kept_at (Some b) false = None
 
--- the items that `end` writes of what is kept: the bytes as one, or the head of a list and the numbers
-unfoldable pub items_kept : Option (Vec ℕ Global) → ℕ → List (List ℕ)
+-- what `end` writes of what is kept, as one item: bytes, or a list whose numbers are a byte each
+unfoldable pub kept_item : Vec ℕ Global → ℕ → List ℕ
+kept_item v len = if packs_tuple ForceAll v.items then canon (bin v.items) else array_head len ++ v.items
+
+abbrev pub items_kept : Option (Vec ℕ Global) → ℕ → List Piece
 items_kept None len = []
-items_kept (Some v) len = if packs_tuple ForceAll v.items then canon (bin v.items) ∷ [] else array_head len ∷ map number_head v.items
+items_kept (Some v) len = item (kept_item v len) ∷ []
+
+-- what is written of it before an element that is no byte: the head of a list, and the numbers
+abbrev pub spilled_items : Option (Vec ℕ Global) → ℕ → List Piece
+spilled_items None len = []
+spilled_items (Some v) len = items_of (array_head len ∷ map number_head v.items)
 
 module _ {W C : Type 0} where
   -- the serializer that it writes to, and the reference to it
@@ -49,9 +58,13 @@ module _ {W C : Type 0} where
   abbrev pub kept_of : OpenTuple W C → Option (Vec ℕ Global)
   kept_of q = kept_at q.kept q.probing
 
-  -- the items that its end writes
-  abbrev pub items_left : OpenTuple W C → List (List ℕ)
+  -- what its end writes: nothing, or one item
+  abbrev pub items_left : OpenTuple W C → List Piece
   items_left q = items_kept (kept_of q) q.len
+
+  -- what is written before the next element, if that is no byte
+  abbrev pub items_before : OpenTuple W C → List Piece
+  items_before q = spilled_items (kept_of q) q.len
 
 module _ {W C : Type 0} (g : Ghosts W) where
   -- the elements so far were bytes, which are kept, and nothing has reached the sink

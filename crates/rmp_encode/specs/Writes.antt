@@ -23,6 +23,15 @@ pub record AppendsSome (e : Error) (old new : Option (List ℕ)) : Type 0 where
   pub appended : Appends old new part
   pub begun : HasBegun e part
 
+-- what is known of an error, from the bytes told before the write and after it
+abbrev pub Marks : Type 1
+Marks = Option (List ℕ) → Option (List ℕ) → Error → Type 0
+
+-- of one item: if an error says that its first byte wasn't taken, nothing was
+abbrev pub AtItem : Marks
+AtItem old new (InvalidValueWrite (wire.InvalidMarkerWrite fault)) = Appends old new []
+AtItem old new e = Unit {0}
+
 -- a beginning of these was appended to the told bytes
 pub record AppendsPart (old new : Option (List ℕ)) (bs : List ℕ) : Type 0 where
   pub part : List ℕ
@@ -78,10 +87,13 @@ module _ {W : Type 0} (g : Ghosts W) where
       (front : List ℕ) (old : W) → 0 < length front → WritesPart {A = Unit {0}} g.takes_memory (Unit {0}) front old mid (Ok tt)
       → WritesPart g.takes_memory (Unit {0}) (front ++ bs) old new r
 
-  -- of one item: if an error says that its first byte wasn't taken, nothing was
+  -- this is known of the error of a write to a sink
+  abbrev pub MarkedBy : {A : Type 0} → Marks → W → W → Result A Error → Type 0
+  MarkedBy marks old new r = IfErr r (marks (g.told old) (g.told new))
+
+  -- of one item
   abbrev pub NoneAtMarker : {A : Type 0} → W → W → Result A Error → Type 0
-  NoneAtMarker old new (Err (InvalidValueWrite (wire.InvalidMarkerWrite fault))) = Appends (g.told old) (g.told new) []
-  NoneAtMarker old new r = Unit {0}
+  NoneAtMarker = MarkedBy AtItem
 
   -- of several items: if an error says that the first byte of one wasn't taken, those before it are whole
   abbrev pub FirstAtMarker : {A : Type 0} → List (List ℕ) → W → W → Result A Error → Type 0

@@ -3,10 +3,11 @@
 ghost use Rattle.std.specs.Prelude.{◌≡◌, ◌^◌, ◌+◌, ◌≤◌, ◌<◌, ◌||◌, ◌∷◌, [], true, false, IfErr, OnOk, OnErr, IsOk, length};
 ghost use Rattle.rmp_encode.specs.Compounds.{inside, reference, left_of, has_fields, is_sound, IsFilling};
 ghost use Rattle.rmp_encode.specs.Going.{Ends, Goes};
+ghost use Rattle.rmp_encode.specs.Markers.{InOrder, field_pieces, value_of};
 ghost use Rattle.rmp_encode.specs.Refusals.{OfParts};
-ghost use Rattle.rmp_encode.specs.Ser.{sink_of};
+ghost use Rattle.rmp_encode.specs.Ser.{sink_of, settings_of};
 ghost use Rattle.rmp_encode.specs.Trees.{field_parts};
-ghost use Rattle.rmp_encode.specs.Writes.{Keeps};
+ghost use Rattle.rmp_encode.specs.Writes.{Keeps, MarkedBy};
 
 use crate::error::Error;
 use crate::ser::Serialize;
@@ -46,6 +47,7 @@ impl<'a, W: Sink, C: SerializerConfig> Compound<'a, W, C> {
         ensures kind { has_fields self.new ≡ has_fields self.old }
         ensures sound { OnOk result (is_sound self.new ≡ true) }
         ensures broken { OnErr result (is_sound self.new ≡ false) }
+        ensures marker { MarkedBy W.Sink (T.marks value.now (settings_of (inside self.old))) (sink_of (inside self.old)) (sink_of (inside self.new)) result }
         ensures error { IfErr result (T.refuses value.now) }
         ensures writes { Goes W.Sink (IsFilling W.Sink) inside (λ s. T.takes_memory s || W.takes_memory) (λ s. T.data_of value.now s.human ∷ []) self.old
             self.new result }
@@ -83,6 +85,9 @@ impl<'a, W: Sink, C: SerializerConfig> Compound<'a, W, C> {
         ensures kind { has_fields self.new ≡ has_fields self.old }
         ensures sound { OnOk result (is_sound self.new ≡ true) }
         ensures broken { OnErr result (is_sound self.new ≡ false) }
+        ensures marker { InOrder W.Sink (field_pieces (settings_of (inside self.old)).named key.now
+            (value_of (settings_of (inside self.old)) (T.data_of value.now (settings_of (inside self.old)).human)
+            (T.marks value.now (settings_of (inside self.old))))) (sink_of (inside self.old)) (sink_of (inside self.new)) result }
         ensures error { IfErr result (OfParts (2 ^ 32 ≤ length key.now) (T.refuses value.now ∷ [])) }
         ensures writes { Goes W.Sink (IsFilling W.Sink) inside (λ s. T.takes_memory s || W.takes_memory)
             (λ s. field_parts s.named (key.now, T.data_of value.now s.human)) self.old self.new result }

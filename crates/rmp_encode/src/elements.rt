@@ -3,14 +3,15 @@
 //! The type's own `serialize` is then one call, whose contract is the type's law. An element of a type that
 //! borrows, such as `&str`, goes through a function with a type parameter for each element: the checker doesn't
 //! cover a call with several lifetimes in a type argument.
-ghost use Rattle.std.specs.Prelude.{◌≡◌, ◌^◌, ◌≤◌, ◌||◌, ℕ, Bool, List, Option, OnOk, IfErr, length, ◌∷◌, []};
+ghost use Rattle.std.specs.Prelude.{◌≡◌, ◌^◌, ◌≤◌, ◌||◌, ℕ, Bool, List, Option, OnOk, IfErr, length, ◌∷◌, ◌++◌, false, []};
 ghost use Rattle.std.specs.List.{flat_map};
 ghost use Rattle.rmp_encode.specs.declared.settings.Settings.{Settings};
 ghost use Rattle.rmp_encode.specs.Data.{Data};
-ghost use Rattle.rmp_encode.specs.Going.{Goes, IsWriting};
+ghost use Rattle.rmp_encode.specs.Going.{head_at, Goes, IsWriting};
+ghost use Rattle.rmp_encode.specs.Markers.{items_of, pieces_by, InOrder, Piece};
 ghost use Rattle.rmp_encode.specs.Refusals.{lengths, AnyLong, Errors, OfParts, RefusesLength};
 ghost use Rattle.rmp_encode.specs.Ser.{sink_of, settings_of};
-ghost use Rattle.rmp_encode.specs.Trees.{tree_of, field_parts, fields_by, sequence_of, structure_of, tuple_variant_of, struct_variant_of};
+ghost use Rattle.rmp_encode.specs.Trees.{tree_of, field_parts, fields_by, sequence_of, structure_of, tuple_variant_of, struct_variant_of, variant_items};
 ghost use Rattle.rmp_encode.specs.Writes.{Keeps, WritesTree};
 
 use crate::error::Error;
@@ -39,6 +40,9 @@ pub trait Elements {
     // Whether writing them may allocate under these settings, apart from what the sink allocates.
     ghost takes_memory: { Settings → Bool };
 
+    // What is written of each of them, under these settings.
+    ghost pieces: { Self → Settings → List Piece };
+
     ghost counted: { (v : Self) (human : Bool) → length (parts_of v human) ≡ count };
 
     /// Returns how many there are.
@@ -52,6 +56,7 @@ pub trait Elements {
     fn write<W: Sink, C: SerializerConfig>(&self, se: &mut Serializer<W, C>) -> Result<(), Error>
         ensures writes { Goes W.Sink (IsWriting W.Sink) (λ n. n) (λ s. takes_memory s || W.takes_memory) (λ s. parts_of self.now s.human) se.old se.new result }
         ensures keeps { Keeps W.Sink se.old se.new }
+        ensures marker { InOrder W.Sink (pieces self.now (settings_of se.old)) (sink_of se.old) (sink_of se.new) result }
         ensures error { IfErr result (OfParts ⊥ (refusals self.now)) }
         ensures value { OnOk result (are_values self.now) };
 
@@ -69,6 +74,8 @@ pub trait Elements {
         ensures writes { Goes W.Sink (IsWriting W.Sink) (λ n. n) (λ s. takes_memory s || W.takes_memory)
             (λ s. flat_map (field_parts s.named) (fields_by names.now (parts_of self.now s.human))) se.old se.new result }
         ensures keeps { Keeps W.Sink se.old se.new }
+        ensures marker { InOrder W.Sink (pieces_by (settings_of se.old).named names.now (pieces self.now (settings_of se.old)))
+            (sink_of se.old) (sink_of se.new) result }
         ensures error { IfErr result (OfParts (AnyLong (lengths names.now)) (refusals self.now)) }
         ensures value { OnOk result (are_values self.now) };
 }
@@ -89,6 +96,8 @@ impl<W: Sink, C: SerializerConfig> Serializer<W, C> {
             (tree_of (settings_of self.old) (sequence_of (E.parts_of elements.now (settings_of self.old).human))) (sink_of self.old) (sink_of self.new)
             result }
         ensures keeps { Keeps W.Sink self.old self.new }
+        ensures marker { InOrder W.Sink (items_of (head_at false E.count ∷ []) ++ E.pieces elements.now (settings_of self.old))
+            (sink_of self.old) (sink_of self.new) result }
         ensures error { IfErr result (OfParts (AnyLong (E.count ∷ [])) (E.refusals elements.now)) }
         ensures value { OnOk result (E.are_values elements.now) }
     {
@@ -115,6 +124,9 @@ impl<W: Sink, C: SerializerConfig> Serializer<W, C> {
             (tree_of (settings_of self.old) (structure_of (fields_by names.now (E.parts_of elements.now (settings_of self.old).human)))) (sink_of self.old)
             (sink_of self.new) result }
         ensures keeps { Keeps W.Sink self.old self.new }
+        ensures marker { InOrder W.Sink (items_of (head_at (settings_of self.old).named E.count ∷ [])
+            ++ pieces_by (settings_of self.old).named names.now (E.pieces elements.now (settings_of self.old)))
+            (sink_of self.old) (sink_of self.new) result }
         ensures error { IfErr result (OfParts (AnyLong (E.count ∷ lengths names.now)) (E.refusals elements.now)) }
         ensures value { OnOk result (E.are_values elements.now) }
     {
@@ -141,6 +153,8 @@ impl<W: Sink, C: SerializerConfig> Serializer<W, C> {
             (sink_of self.new) result }
         ensures keeps { Keeps W.Sink self.old self.new }
         ensures long { 2 ^ 32 ≤ length variant.now → RefusesLength self.old self.new result }
+        ensures marker { InOrder W.Sink (items_of (variant_items variant.now (head_at false E.count)) ++ E.pieces elements.now (settings_of self.old))
+            (sink_of self.old) (sink_of self.new) result }
         ensures error { IfErr result (OfParts (AnyLong (length variant.now ∷ E.count ∷ [])) (E.refusals elements.now)) }
         ensures value { OnOk result (E.are_values elements.now) }
     {
@@ -170,6 +184,9 @@ impl<W: Sink, C: SerializerConfig> Serializer<W, C> {
             (sink_of self.old) (sink_of self.new) result }
         ensures keeps { Keeps W.Sink self.old self.new }
         ensures long { 2 ^ 32 ≤ length variant.now → RefusesLength self.old self.new result }
+        ensures marker { InOrder W.Sink (items_of (variant_items variant.now (head_at (settings_of self.old).named E.count))
+            ++ pieces_by (settings_of self.old).named names.now (E.pieces elements.now (settings_of self.old)))
+            (sink_of self.old) (sink_of self.new) result }
         ensures error { IfErr result (OfParts (AnyLong (length variant.now ∷ E.count ∷ lengths names.now)) (E.refusals elements.now)) }
         ensures value { OnOk result (E.are_values elements.now) }
     {

@@ -2,10 +2,11 @@
 ghost use Rattle.std.specs.Prelude.{◌≡◌, ◌||◌, Bool, true, Option, OnOk, OnSome, IfErr};
 ghost use Rattle.rmp_encode.specs.declared.settings.Settings.{Settings};
 ghost use Rattle.rmp_encode.specs.Data.{Data};
+ghost use Rattle.rmp_encode.specs.Markers.{any_mark};
 ghost use Rattle.rmp_encode.specs.Refusals.{Errors, any_error};
 ghost use Rattle.rmp_encode.specs.Trees.{tree_of, byte_of};
 ghost use Rattle.rmp_encode.specs.Ser.{sink_of, settings_of};
-ghost use Rattle.rmp_encode.specs.Writes.{Keeps, WritesTree};
+ghost use Rattle.rmp_encode.specs.Writes.{Keeps, MarkedBy, Marks, WritesTree};
 
 use crate::error::Error;
 use crate::serializer::Serializer;
@@ -37,6 +38,9 @@ pub trait Serialize {
     // What is known of the error that writing the value answers.
     ghost refuses: { Self → Errors } = { λ _. any_error };
 
+    // What is known of it from the bytes that the sink tells before the write and after it: whether the first byte of an item was taken.
+    ghost marks: { Self → Settings → Marks } = { λ _ _. any_mark };
+
     /// Writes the value.
     ///
     /// # Errors
@@ -50,6 +54,7 @@ pub trait Serialize {
         ensures writes { WritesTree W.Sink (takes_memory (settings_of se.old) || W.takes_memory)
             (tree_of (settings_of se.old) (data_of self.now (settings_of se.old).human)) (sink_of se.old) (sink_of se.new) result }
         ensures keeps { Keeps W.Sink se.old se.new }
+        ensures marker { MarkedBy W.Sink (marks self.now (settings_of se.old)) (sink_of se.old) (sink_of se.new) result }
         ensures error { IfErr result (refuses self.now) }
         ensures value { OnOk result (is_value self.now) };
 

@@ -7,6 +7,7 @@ ghost use Rattle.rmp_wire.specs.Spelling.{canon};
 ghost use Rattle.rmp_wire.specs.Msg.{nil, truth, whole, float32, float64, text, bin, extension};
 ghost use Rattle.rmp_encode.specs.Errors.{answer_of};
 ghost use Rattle.rmp_encode.specs.Going.{head_at, Begins, Goes, IsWriting};
+ghost use Rattle.rmp_encode.specs.Markers.{field_pieces, items_of, name_pieces, value_of, InOrder};
 ghost use Rattle.rmp_encode.specs.Refusals.{OfLength, OfParts, OfSink, RefusesLength};
 ghost use Rattle.rmp_encode.specs.Ser.{sink_of, settings_of, LendsSink};
 ghost use Rattle.rmp_encode.specs.Trees.{ext_head, field_parts, name_parts, number_head};
@@ -341,7 +342,7 @@ impl<W: Sink, C: SerializerConfig> Serializer<W, C> {
     pub(crate) fn put_len(&mut self, pairs: bool, len: usize) -> Result<(), Error>
         ensures begins { Begins W.Sink (len < 2 ^ 32) (head_at pairs len) self.old self.new result }
         ensures keeps { Keeps W.Sink self.old self.new }
-        ensures marker { NoneAtMarker W.Sink (sink_of self.old) (sink_of self.new) result }
+        ensures order { InOrder W.Sink (items_of (head_at pairs len ∷ [])) (sink_of self.old) (sink_of self.new) result }
         ensures error { IfErr result (OfLength (2 ^ 32 ≤ len)) }
         ensures stays { StaysAtRefusal self.old self.new result }
         ensures long { 2 ^ 32 ≤ len → RefusesLength self.old self.new result }
@@ -429,6 +430,7 @@ impl<W: Sink, C: SerializerConfig> Serializer<W, C> {
     #[inline(always)]
     fn put_name(&mut self, key: &str) -> Result<(), Error>
         ensures writes { Goes W.Sink (IsWriting W.Sink) (λ se. se) (λ _. W.takes_memory) (λ s. name_parts s.named key.now) self.old self.new result }
+        ensures order { InOrder W.Sink (name_pieces (settings_of self.old).named key.now) (sink_of self.old) (sink_of self.new) result }
         ensures keeps { Keeps W.Sink self.old self.new }
         ensures error { IfErr result (OfLength (2 ^ 32 ≤ length key.now)) }
     {
@@ -443,6 +445,8 @@ impl<W: Sink, C: SerializerConfig> Serializer<W, C> {
     pub(crate) fn put_field<T: Serialize>(&mut self, key: &str, value: &T) -> Result<(), Error>
         ensures writes { Goes W.Sink (IsWriting W.Sink) (λ se. se) (λ s. T.takes_memory s || W.takes_memory)
             (λ s. field_parts s.named (key.now, T.data_of value.now s.human)) self.old self.new result }
+        ensures order { InOrder W.Sink (field_pieces (settings_of self.old).named key.now (value_of (settings_of self.old)
+            (T.data_of value.now (settings_of self.old).human) (T.marks value.now (settings_of self.old)))) (sink_of self.old) (sink_of self.new) result }
         ensures keeps { Keeps W.Sink self.old self.new }
         ensures error { IfErr result (OfParts (2 ^ 32 ≤ length key.now) (T.refuses value.now ∷ [])) }
         ensures value { OnOk result (T.is_value value.now) }

@@ -2,9 +2,9 @@
 ghost use Rattle.std.specs.Prelude.{◌≡◌, ◌+◌, ◌≤◌, ◌<◌, ◌^◌, ◌||◌, ◌∷◌, [], true, false, OnOk, OnErr, IfErr};
 ghost use Rattle.rmp_encode.specs.Going.{Ends, EndsBySink, Goes};
 ghost use Rattle.rmp_encode.specs.Refusals.{OfParts};
-ghost use Rattle.rmp_encode.specs.Ser.{sink_of};
+ghost use Rattle.rmp_encode.specs.Ser.{sink_of, settings_of};
 ghost use Rattle.rmp_encode.specs.Sizes.{most, size_at};
-ghost use Rattle.rmp_encode.specs.Writes.{Keeps, NoneAtMarker};
+ghost use Rattle.rmp_encode.specs.Writes.{Keeps, MarkedBy, NoneAtMarker};
 
 use crate::error::Error;
 use crate::length::too_long;
@@ -76,7 +76,7 @@ fn size(pairs: bool, count: u64) -> u32
 
 impl<'a, W: Sink, C: SerializerConfig> MaybeUnknownLengthCompound<'a, W, C> {
     ghost use Rattle.rmp_encode.specs.Opens.{inside, reference, counted, left_of, not_begun, is_kept, is_map, is_sound};
-    ghost use Rattle.rmp_encode.specs.Opens.{owed, owed_at, one_less, IsFull, IsOpen, MayTake, MayEnd, Stays};
+    ghost use Rattle.rmp_encode.specs.Opens.{owed, owed_at, one_less, part_marks, IsFull, IsOpen, MayTake, MayEnd, Stays};
 
     // Writes an element, or a key or a value, to the sink or to the buffer.
     //
@@ -92,6 +92,8 @@ impl<'a, W: Sink, C: SerializerConfig> MaybeUnknownLengthCompound<'a, W, C> {
         ensures left { left_of self.new ≡ one_less (left_of self.old) }
         ensures kind { is_map self.new ≡ is_map self.old }
         ensures turn { OnOk result (owed_at true (counted self.old) + owed_at true (counted self.new) ≡ 1) }
+        ensures marker { MarkedBy W.Sink (part_marks (left_of self.old) (T.marks value.now (settings_of (inside self.old))))
+            (sink_of (inside self.old)) (sink_of (inside self.new)) result }
         ensures error { IfErr result (OfParts (IsFull self.old) (T.refuses value.now ∷ [])) }
         ensures writes { Goes W.Sink (IsOpen W.Sink) inside (λ s. is_kept (left_of self.old) || (T.takes_memory s || W.takes_memory))
             (λ s. T.data_of value.now s.human ∷ []) self.old self.new result }
@@ -151,6 +153,8 @@ impl<'a, W: Sink, C: SerializerConfig> MaybeUnknownLengthCompound<'a, W, C> {
         ensures kind { is_map self.new ≡ false }
         ensures owed { owed self.new ≡ 0 }
         ensures left { left_of self.new ≡ one_less (left_of self.old) }
+        ensures marker { MarkedBy W.Sink (part_marks (left_of self.old) (T.marks value.now (settings_of (inside self.old))))
+            (sink_of (inside self.old)) (sink_of (inside self.new)) result }
         ensures error { IfErr result (OfParts (IsFull self.old) (T.refuses value.now ∷ [])) }
         ensures writes { Goes W.Sink (IsOpen W.Sink) inside (λ s. is_kept (left_of self.old) || (T.takes_memory s || W.takes_memory))
             (λ s. T.data_of value.now s.human ∷ []) self.old self.new result }
@@ -178,6 +182,8 @@ impl<'a, W: Sink, C: SerializerConfig> MaybeUnknownLengthCompound<'a, W, C> {
         ensures kind { is_map self.new ≡ true }
         ensures owed { OnOk result (owed self.new ≡ 1) }
         ensures left { left_of self.new ≡ one_less (left_of self.old) }
+        ensures marker { MarkedBy W.Sink (part_marks (left_of self.old) (T.marks key.now (settings_of (inside self.old))))
+            (sink_of (inside self.old)) (sink_of (inside self.new)) result }
         ensures error { IfErr result (OfParts (IsFull self.old) (T.refuses key.now ∷ [])) }
         ensures writes { Goes W.Sink (IsOpen W.Sink) inside (λ s. is_kept (left_of self.old) || (T.takes_memory s || W.takes_memory))
             (λ s. T.data_of key.now s.human ∷ []) self.old self.new result }
@@ -204,6 +210,8 @@ impl<'a, W: Sink, C: SerializerConfig> MaybeUnknownLengthCompound<'a, W, C> {
         ensures kind { is_map self.new ≡ true }
         ensures owed { OnOk result (owed self.new ≡ 0) }
         ensures left { left_of self.new ≡ one_less (left_of self.old) }
+        ensures marker { MarkedBy W.Sink (part_marks (left_of self.old) (T.marks value.now (settings_of (inside self.old))))
+            (sink_of (inside self.old)) (sink_of (inside self.new)) result }
         ensures error { IfErr result (OfParts (IsFull self.old) (T.refuses value.now ∷ [])) }
         ensures writes { Goes W.Sink (IsOpen W.Sink) inside (λ s. is_kept (left_of self.old) || (T.takes_memory s || W.takes_memory))
             (λ s. T.data_of value.now s.human ∷ []) self.old self.new result }

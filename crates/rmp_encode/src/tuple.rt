@@ -1,17 +1,18 @@
 //! Tuples, whose elements may be written as bytes, depending on the mode.
-ghost use Rattle.std.specs.Prelude.{◌≡◌, ◌^◌, ◌≤◌, ◌+◌, ◌<◌, ◌||◌, ◌∷◌, [], nat_le, map, All, Some, true, false, OnOk, OnErr, IfErr, length};
+ghost use Rattle.std.specs.Prelude.{◌≡◌, ◌^◌, ◌≤◌, ◌+◌, ◌<◌, ◌||◌, ◌∷◌, ◌++◌, [], nat_le, map, All, Some, true, false, OnOk, OnErr, IfErr, length};
 ghost use Rattle.std.specs.List.{list_any, flat_map};
 ghost use Rattle.rmp_wire.specs.Msg.{bin};
 ghost use Rattle.rmp_wire.specs.declared.config.BytesMode.TheVariants.{ForceAll};
 ghost use Rattle.rmp_encode.specs.Data.{packs_tuple};
+ghost use Rattle.rmp_encode.specs.Markers.{items_of, value_of, FaultAt, InOrder};
 ghost use Rattle.rmp_encode.specs.Going.{Ends, EndsBySink, Goes};
 ghost use Rattle.rmp_encode.specs.Refusals.{OfItems, OfParts, RefusesLength};
 ghost use Rattle.rmp_encode.specs.Ser.{sink_of, settings_of};
 ghost use Rattle.rmp_encode.specs.Sizes.{one_of};
 ghost use Rattle.rmp_encode.specs.Slices.{number_of, AllBytes};
 ghost use Rattle.rmp_encode.specs.Trees.{tree_of, sequence_of, tuple_of, forces_all, number_head};
-ghost use Rattle.rmp_encode.specs.Tuples.{inside, reference, items_left, left_of, is_sound, IsTupling};
-ghost use Rattle.rmp_encode.specs.Writes.{FirstAtMarker, Keeps, WritesPart, WritesTree};
+ghost use Rattle.rmp_encode.specs.Tuples.{inside, reference, items_before, items_left, left_of, is_sound, IsTupling};
+ghost use Rattle.rmp_encode.specs.Writes.{Keeps, MarkedBy, WritesPart, WritesTree};
 
 use crate::error::Error;
 use crate::ser::Serialize;
@@ -109,7 +110,7 @@ impl<W: Sink, C: SerializerConfig> Serializer<W, C> {
     // Writes each byte as a number.
     pub(crate) fn put_numbers(&mut self, bytes: &[u8]) -> Result<(), Error>
         ensures writes { WritesPart W.Sink W.takes_memory (Unit {0}) (flat_map number_head bytes.now) (sink_of self.old) (sink_of self.new) result }
-        ensures marker { FirstAtMarker W.Sink (map number_head bytes.now) (sink_of self.old) (sink_of self.new) result }
+        ensures order { InOrder W.Sink (items_of (map number_head bytes.now)) (sink_of self.old) (sink_of self.new) result }
         ensures keeps { Keeps W.Sink self.old self.new }
     {
         for b in bytes {
@@ -161,6 +162,9 @@ impl<'a, W: Sink, C: SerializerConfig> Tuple<'a, W, C> {
         ensures left { left_of self.new + 1 ≡ left_of self.old }
         ensures sound { OnOk result (is_sound self.new ≡ true) }
         ensures broken { OnErr result (is_sound self.new ≡ false) }
+        ensures marker { MarkedBy W.Sink (FaultAt (items_before self.old ++ value_of (settings_of (inside self.old))
+            (T.data_of value.now (settings_of (inside self.old)).human) (T.marks value.now (settings_of (inside self.old))) ∷ []))
+            (sink_of (inside self.old)) (sink_of (inside self.new)) result }
         ensures error { IfErr result (OfParts ⊥ (T.refuses value.now ∷ [])) }
         ensures writes { Goes W.Sink (IsTupling W.Sink) inside (λ s. (forces_all s.bytes || T.takes_memory s) || W.takes_memory)
             (λ s. T.data_of value.now s.human ∷ []) self.old self.new result }
@@ -254,6 +258,9 @@ impl<'a, W: Sink, C: SerializerConfig> Tuple<'a, W, C> {
         ensures same_reference { reference self.new ≡ reference self.old }
         ensures left { left_of self.new + 1 ≡ left_of self.old }
         ensures sound { is_sound self.new ≡ is_sound self.old }
+        ensures marker { MarkedBy W.Sink (FaultAt (items_before self.old ++ value_of (settings_of (inside self.old))
+            (T.data_of value.now (settings_of (inside self.old)).human) (T.marks value.now (settings_of (inside self.old))) ∷ []))
+            (sink_of (inside self.old)) (sink_of (inside self.new)) result }
         ensures error { IfErr result (OfParts ⊥ (T.refuses value.now ∷ [])) }
         ensures writes { Goes W.Sink (IsTupling W.Sink) inside (λ s. (forces_all s.bytes || T.takes_memory s) || W.takes_memory)
             (λ s. T.data_of value.now s.human ∷ []) self.old self.new result }
@@ -301,16 +308,15 @@ impl<'a, W: Sink, C: SerializerConfig> Tuple<'a, W, C> {
     /// Ends the tuple, and writes the kept elements. The caller's conditions: `is_sound`, and `left` is 0.
     ///
     /// # Errors
-    /// Those of the sink: `InvalidMarkerWrite` where no byte of an item was written, and all items before it
-    /// whole; `InvalidDataWrite` where some bytes of an item were. Bytes are one item. In a list, the head is
-    /// one, and each number.
+    /// Those of the sink. What is written is one item: `InvalidMarkerWrite` where no byte of it was written,
+    /// `InvalidDataWrite` where some were. Nothing can fail where no elements are kept.
     #[inline(always)]
     pub fn end(self) -> Result<(), Error>
         requires sound { is_sound self ≡ true }
         requires whole { left_of self ≡ 0 }
         ensures writes { Ends W.Sink (IsTupling W.Sink) self.entry (sink_of self.exit.0.now) result }
         ensures error { EndsBySink W.Sink (IsTupling W.Sink) self.entry result }
-        ensures marker { FirstAtMarker W.Sink (items_left self.entry) (sink_of (inside self.entry)) (sink_of self.exit.0.now) result }
+        ensures marker { InOrder W.Sink (items_left self.entry) (sink_of (inside self.entry)) (sink_of self.exit.0.now) result }
         ensures keeps { Keeps W.Sink (inside self.entry) self.exit.0.now }
     {
         let Tuple {
@@ -330,8 +336,9 @@ impl<'a, W: Sink, C: SerializerConfig> Tuple<'a, W, C> {
         if packs(bytes.as_slice()) {
             return se.serialize_bytes(bytes.as_slice());
         }
+        // each number is below 128, so it is its own encoding
         se.put_head(false, len)?;
-        se.put_numbers(bytes.as_slice())
+        se.put(bytes.as_slice())
     }
 }
 

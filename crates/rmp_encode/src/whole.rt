@@ -2,7 +2,7 @@
 ghost use Rattle.std.specs.Prelude.{◌≡◌, ◌≢◌, ◌||◌, true, false, OnOk, IfOk, IfErr};
 ghost use Rattle.rmp_encode.specs.Calls.{default_settings, named_settings, IsSpelled, ToVecFails};
 ghost use Rattle.rmp_encode.specs.Trees.{tree_of, spell};
-ghost use Rattle.rmp_encode.specs.Writes.{WritesTree};
+ghost use Rattle.rmp_encode.specs.Writes.{MarkedBy, WritesTree};
 
 use crate::error::Error;
 use crate::ser::Serialize;
@@ -38,6 +38,7 @@ pub fn write<W: Sink, T: Serialize>(alloc: Global, wr: &mut W, value: &T) -> Res
     ensures spelled { OnOk result (IsSpelled (tree_of default_settings (T.data_of value.now false))
         (spell (tree_of default_settings (T.data_of value.now false)))) }
     ensures place { W.place wr.new ≡ W.place wr.old }
+    ensures marker { MarkedBy W.Sink (T.marks value.now default_settings) wr.old wr.new result }
     ensures error { IfErr result (T.refuses value.now) }
     ensures value { OnOk result (T.is_value value.now) }
 {
@@ -55,6 +56,7 @@ pub fn write_named<W: Sink, T: Serialize>(alloc: Global, wr: &mut W, value: &T) 
     ensures spelled { OnOk result (IsSpelled (tree_of named_settings (T.data_of value.now false))
         (spell (tree_of named_settings (T.data_of value.now false)))) }
     ensures place { W.place wr.new ≡ W.place wr.old }
+    ensures marker { MarkedBy W.Sink (T.marks value.now named_settings) wr.old wr.new result }
     ensures error { IfErr result (T.refuses value.now) }
     ensures value { OnOk result (T.is_value value.now) }
 {

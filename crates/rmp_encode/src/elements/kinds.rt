@@ -1,5 +1,6 @@
 //! One to eight elements of several types. Written by tools/tuples.py.
 ghost use Rattle.std.specs.Prelude.{◌∷◌, [], refl};
+ghost use Rattle.rmp_encode.specs.Markers.{value_of};
 ghost use Rattle.rmp_encode.specs.Sizes.{one_of};
 
 use crate::elements::Elements;
@@ -25,6 +26,9 @@ impl<'r, E1: Serialize> Elements for One<'r, E1> {
     ghost refusals = { λ v. E1.refuses v.first.now ∷ [] };
 
     ghost takes_memory = { λ s. one_of (E1.takes_memory s ∷ []) };
+
+    ghost pieces = { λ v s.
+        value_of s (E1.data_of v.first.now s.human) (E1.marks v.first.now s) ∷ [] };
 
     ghost counted = { λ v human. refl };
 
@@ -67,6 +71,10 @@ impl<'r, E1: Serialize, E2: Serialize> Elements for Both<'r, E1, E2> {
     ghost refusals = { λ v. E1.refuses v.first.now ∷ E2.refuses v.second.now ∷ [] };
 
     ghost takes_memory = { λ s. one_of (E1.takes_memory s ∷ (E2.takes_memory s ∷ [])) };
+
+    ghost pieces = { λ v s.
+        value_of s (E1.data_of v.first.now s.human) (E1.marks v.first.now s) ∷
+        value_of s (E2.data_of v.second.now s.human) (E2.marks v.second.now s) ∷ [] };
 
     ghost counted = { λ v human. refl };
 
@@ -112,6 +120,11 @@ impl<'r, E1: Serialize, E2: Serialize, E3: Serialize> Elements for Three<'r, E1,
     ghost refusals = { λ v. E1.refuses v.first.now ∷ E2.refuses v.second.now ∷ E3.refuses v.third.now ∷ [] };
 
     ghost takes_memory = { λ s. one_of (E1.takes_memory s ∷ (E2.takes_memory s ∷ (E3.takes_memory s ∷ []))) };
+
+    ghost pieces = { λ v s.
+        value_of s (E1.data_of v.first.now s.human) (E1.marks v.first.now s) ∷
+        value_of s (E2.data_of v.second.now s.human) (E2.marks v.second.now s) ∷
+        value_of s (E3.data_of v.third.now s.human) (E3.marks v.third.now s) ∷ [] };
 
     ghost counted = { λ v human. refl };
 
@@ -168,6 +181,12 @@ impl<'r, E1: Serialize, E2: Serialize, E3: Serialize, E4: Serialize> Elements
     ghost refusals = { λ v. E1.refuses v.first.now ∷ E2.refuses v.second.now ∷ E3.refuses v.third.now ∷ E4.refuses v.fourth.now ∷ [] };
 
     ghost takes_memory = { λ s. one_of (E1.takes_memory s ∷ (E2.takes_memory s ∷ (E3.takes_memory s ∷ (E4.takes_memory s ∷ [])))) };
+
+    ghost pieces = { λ v s.
+        value_of s (E1.data_of v.first.now s.human) (E1.marks v.first.now s) ∷
+        value_of s (E2.data_of v.second.now s.human) (E2.marks v.second.now s) ∷
+        value_of s (E3.data_of v.third.now s.human) (E3.marks v.third.now s) ∷
+        value_of s (E4.data_of v.fourth.now s.human) (E4.marks v.fourth.now s) ∷ [] };
 
     ghost counted = { λ v human. refl };
 
@@ -232,6 +251,13 @@ impl<'r, E1: Serialize, E2: Serialize, E3: Serialize, E4: Serialize, E5: Seriali
     ghost refusals = { λ v. E1.refuses v.first.now ∷ E2.refuses v.second.now ∷ E3.refuses v.third.now ∷ E4.refuses v.fourth.now ∷ E5.refuses v.fifth.now ∷ [] };
 
     ghost takes_memory = { λ s. one_of (E1.takes_memory s ∷ (E2.takes_memory s ∷ (E3.takes_memory s ∷ (E4.takes_memory s ∷ (E5.takes_memory s ∷ []))))) };
+
+    ghost pieces = { λ v s.
+        value_of s (E1.data_of v.first.now s.human) (E1.marks v.first.now s) ∷
+        value_of s (E2.data_of v.second.now s.human) (E2.marks v.second.now s) ∷
+        value_of s (E3.data_of v.third.now s.human) (E3.marks v.third.now s) ∷
+        value_of s (E4.data_of v.fourth.now s.human) (E4.marks v.fourth.now s) ∷
+        value_of s (E5.data_of v.fifth.now s.human) (E5.marks v.fifth.now s) ∷ [] };
 
     ghost counted = { λ v human. refl };
 
@@ -304,6 +330,14 @@ impl<
 
     ghost takes_memory = { λ s. one_of (E1.takes_memory s
         ∷ (E2.takes_memory s ∷ (E3.takes_memory s ∷ (E4.takes_memory s ∷ (E5.takes_memory s ∷ (E6.takes_memory s ∷ [])))))) };
+
+    ghost pieces = { λ v s.
+        value_of s (E1.data_of v.first.now s.human) (E1.marks v.first.now s) ∷
+        value_of s (E2.data_of v.second.now s.human) (E2.marks v.second.now s) ∷
+        value_of s (E3.data_of v.third.now s.human) (E3.marks v.third.now s) ∷
+        value_of s (E4.data_of v.fourth.now s.human) (E4.marks v.fourth.now s) ∷
+        value_of s (E5.data_of v.fifth.now s.human) (E5.marks v.fifth.now s) ∷
+        value_of s (E6.data_of v.sixth.now s.human) (E6.marks v.sixth.now s) ∷ [] };
 
     ghost counted = { λ v human. refl };
 
@@ -384,6 +418,15 @@ impl<
 
     ghost takes_memory = { λ s. one_of (E1.takes_memory s
         ∷ (E2.takes_memory s ∷ (E3.takes_memory s ∷ (E4.takes_memory s ∷ (E5.takes_memory s ∷ (E6.takes_memory s ∷ (E7.takes_memory s ∷ []))))))) };
+
+    ghost pieces = { λ v s.
+        value_of s (E1.data_of v.first.now s.human) (E1.marks v.first.now s) ∷
+        value_of s (E2.data_of v.second.now s.human) (E2.marks v.second.now s) ∷
+        value_of s (E3.data_of v.third.now s.human) (E3.marks v.third.now s) ∷
+        value_of s (E4.data_of v.fourth.now s.human) (E4.marks v.fourth.now s) ∷
+        value_of s (E5.data_of v.fifth.now s.human) (E5.marks v.fifth.now s) ∷
+        value_of s (E6.data_of v.sixth.now s.human) (E6.marks v.sixth.now s) ∷
+        value_of s (E7.data_of v.seventh.now s.human) (E7.marks v.seventh.now s) ∷ [] };
 
     ghost counted = { λ v human. refl };
 
@@ -470,6 +513,16 @@ impl<
     ghost takes_memory = { λ s. one_of (E1.takes_memory s
         ∷ (E2.takes_memory s ∷ (E3.takes_memory s ∷ (E4.takes_memory s
         ∷ (E5.takes_memory s ∷ (E6.takes_memory s ∷ (E7.takes_memory s ∷ (E8.takes_memory s ∷ [])))))))) };
+
+    ghost pieces = { λ v s.
+        value_of s (E1.data_of v.first.now s.human) (E1.marks v.first.now s) ∷
+        value_of s (E2.data_of v.second.now s.human) (E2.marks v.second.now s) ∷
+        value_of s (E3.data_of v.third.now s.human) (E3.marks v.third.now s) ∷
+        value_of s (E4.data_of v.fourth.now s.human) (E4.marks v.fourth.now s) ∷
+        value_of s (E5.data_of v.fifth.now s.human) (E5.marks v.fifth.now s) ∷
+        value_of s (E6.data_of v.sixth.now s.human) (E6.marks v.sixth.now s) ∷
+        value_of s (E7.data_of v.seventh.now s.human) (E7.marks v.seventh.now s) ∷
+        value_of s (E8.data_of v.eighth.now s.human) (E8.marks v.eighth.now s) ∷ [] };
 
     ghost counted = { λ v human. refl };
 

@@ -7,7 +7,7 @@ ghost use Rattle.rmp_encode.specs.Data.{bytes, extension, float32, float64};
 ghost use Rattle.rmp_encode.specs.Refusals.{OfLength, OfSink, RefusesLength};
 ghost use Rattle.rmp_encode.specs.Ser.{sink_of, settings_of};
 ghost use Rattle.rmp_encode.specs.Trees.{tree_of};
-ghost use Rattle.rmp_encode.specs.Writes.{Keeps, NoneAtMarker, WritesTree};
+ghost use Rattle.rmp_encode.specs.Writes.{AtItem, Keeps, NoneAtMarker, WritesTree};
 
 use crate::error::Error;
 use crate::ser::Serialize;
@@ -23,6 +23,8 @@ impl Serialize for F32Bits {
     ghost takes_memory = { λ _. false };
 
     ghost refuses = { λ _. OfSink };
+
+    ghost marks = { λ _ _. AtItem };
 
     #[inline(always)]
     fn serialize<W: Sink, C: SerializerConfig>(
@@ -54,6 +56,8 @@ impl Serialize for F64Bits {
 
     ghost refuses = { λ _. OfSink };
 
+    ghost marks = { λ _ _. AtItem };
+
     #[inline(always)]
     fn serialize<W: Sink, C: SerializerConfig>(
         &self,
@@ -83,6 +87,8 @@ impl Serialize for Bytes<'_> {
     ghost takes_memory = { λ _. false };
 
     ghost refuses = { λ v. OfLength (2 ^ 32 ≤ length (bytes_of v)) };
+
+    ghost marks = { λ _ _. AtItem };
 
     #[inline(always)]
     fn serialize<W: Sink, C: SerializerConfig>(
@@ -115,6 +121,8 @@ impl Serialize for ByteBuf {
 
     ghost refuses = { λ v. OfLength (2 ^ 32 ≤ length (buffer_bytes v)) };
 
+    ghost marks = { λ _ _. AtItem };
+
     #[inline(always)]
     fn serialize<W: Sink, C: SerializerConfig>(
         &self,
@@ -145,6 +153,8 @@ impl Serialize for Ext {
     ghost takes_memory = { λ _. false };
 
     ghost refuses = { λ v. OfLength (2 ^ 32 ≤ length (ext_bytes v)) };
+
+    ghost marks = { λ _ _. AtItem };
 
     #[inline(always)]
     fn serialize<W: Sink, C: SerializerConfig>(

@@ -3,10 +3,11 @@
 //! In the mode `Normal` only their elements and the sink may allocate. A vector or a slice of 2 ^ 32 elements
 //! or more is refused, and nothing is written.
 ghost use Rattle.std.specs.Prelude.{◌≡◌, ◌^◌, ◌≤◌, ◌||◌, map, length, All, IfErr, OnOk};
+ghost use Rattle.rmp_encode.specs.Markers.{any_mark};
 ghost use Rattle.rmp_encode.specs.Refusals.{OfItems, RefusesLength};
 ghost use Rattle.rmp_encode.specs.Ser.{sink_of, settings_of};
 ghost use Rattle.rmp_encode.specs.Trees.{tree_of, slice_of, tuple_of, forces_all, forces_slices};
-ghost use Rattle.rmp_encode.specs.Writes.{Keeps, WritesTree};
+ghost use Rattle.rmp_encode.specs.Writes.{Keeps, MarkedBy, WritesTree};
 
 use crate::error::Error;
 use crate::ser::Serialize;
@@ -62,6 +63,7 @@ impl<T: Serialize> Serialize for &[T] {
         ensures writes { WritesTree W.Sink ((forces_slices (settings_of se.old).bytes || T.takes_memory (settings_of se.old)) || W.takes_memory)
             (tree_of (settings_of se.old) (slice_of (map (λ x. T.data_of x (settings_of se.old).human) self.now.now))) (sink_of se.old) (sink_of se.new)
             result }
+        ensures marker { MarkedBy W.Sink any_mark (sink_of se.old) (sink_of se.new) result }
         ensures keeps { Keeps W.Sink se.old se.new }
         ensures long { 2 ^ 32 ≤ length self.now.now → RefusesLength se.old se.new result }
         ensures error { IfErr result (OfItems T.refuses self.now.now) }

@@ -7,7 +7,7 @@ ghost use Rattle.rmp_encode.specs.Data.{byte, truth, whole, unit};
 ghost use Rattle.rmp_encode.specs.Refusals.{OfSink};
 ghost use Rattle.rmp_encode.specs.Ser.{sink_of, settings_of};
 ghost use Rattle.rmp_encode.specs.Trees.{tree_of};
-ghost use Rattle.rmp_encode.specs.Writes.{Keeps, NoneAtMarker, WritesTree};
+ghost use Rattle.rmp_encode.specs.Writes.{AtItem, Keeps, NoneAtMarker, WritesTree};
 
 use crate::error::Error;
 use crate::ser::Serialize;
@@ -23,6 +23,8 @@ impl Serialize for () {
     ghost takes_memory = { λ _. false };
 
     ghost refuses = { λ _. OfSink };
+
+    ghost marks = { λ _ _. AtItem };
 
     #[inline(always)]
     fn serialize<W: Sink, C: SerializerConfig>(
@@ -54,6 +56,8 @@ impl Serialize for bool {
 
     ghost refuses = { λ _. OfSink };
 
+    ghost marks = { λ _ _. AtItem };
+
     #[inline(always)]
     fn serialize<W: Sink, C: SerializerConfig>(
         &self,
@@ -83,6 +87,8 @@ impl Serialize for u8 {
     ghost takes_memory = { λ _. false };
 
     ghost refuses = { λ _. OfSink };
+
+    ghost marks = { λ _ _. AtItem };
 
     #[inline(always)]
     fn serialize<W: Sink, C: SerializerConfig>(
@@ -114,6 +120,8 @@ impl Serialize for u16 {
 
     ghost refuses = { λ _. OfSink };
 
+    ghost marks = { λ _ _. AtItem };
+
     #[inline(always)]
     fn serialize<W: Sink, C: SerializerConfig>(
         &self,
@@ -143,6 +151,8 @@ impl Serialize for u32 {
     ghost takes_memory = { λ _. false };
 
     ghost refuses = { λ _. OfSink };
+
+    ghost marks = { λ _ _. AtItem };
 
     #[inline(always)]
     fn serialize<W: Sink, C: SerializerConfig>(
@@ -174,6 +184,8 @@ impl Serialize for u64 {
 
     ghost refuses = { λ _. OfSink };
 
+    ghost marks = { λ _ _. AtItem };
+
     #[inline(always)]
     fn serialize<W: Sink, C: SerializerConfig>(
         &self,
@@ -203,6 +215,8 @@ impl Serialize for usize {
     ghost takes_memory = { λ _. false };
 
     ghost refuses = { λ _. OfSink };
+
+    ghost marks = { λ _ _. AtItem };
 
     #[inline(always)]
     fn serialize<W: Sink, C: SerializerConfig>(
@@ -234,6 +248,8 @@ impl Serialize for i8 {
 
     ghost refuses = { λ _. OfSink };
 
+    ghost marks = { λ _ _. AtItem };
+
     #[inline(always)]
     fn serialize<W: Sink, C: SerializerConfig>(
         &self,
@@ -263,6 +279,8 @@ impl Serialize for i16 {
     ghost takes_memory = { λ _. false };
 
     ghost refuses = { λ _. OfSink };
+
+    ghost marks = { λ _ _. AtItem };
 
     #[inline(always)]
     fn serialize<W: Sink, C: SerializerConfig>(
@@ -294,6 +312,8 @@ impl Serialize for i32 {
 
     ghost refuses = { λ _. OfSink };
 
+    ghost marks = { λ _ _. AtItem };
+
     #[inline(always)]
     fn serialize<W: Sink, C: SerializerConfig>(
         &self,
@@ -324,6 +344,8 @@ impl Serialize for i64 {
 
     ghost refuses = { λ _. OfSink };
 
+    ghost marks = { λ _ _. AtItem };
+
     #[inline(always)]
     fn serialize<W: Sink, C: SerializerConfig>(
         &self,
@@ -353,6 +375,8 @@ impl Serialize for isize {
     ghost takes_memory = { λ _. false };
 
     ghost refuses = { λ _. OfSink };
+
+    ghost marks = { λ _ _. AtItem };
 
     #[inline(always)]
     fn serialize<W: Sink, C: SerializerConfig>(

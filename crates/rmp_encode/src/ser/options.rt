@@ -2,6 +2,7 @@
 ghost use Rattle.std.specs.Prelude.{IfSome, MatchOption};
 ghost use Rattle.rmp_encode.specs.Refusals.{OfSink};
 ghost use Rattle.rmp_encode.specs.Trees.{option_of};
+ghost use Rattle.rmp_encode.specs.Writes.{AtItem};
 
 use crate::error::Error;
 use crate::ser::Serialize;
@@ -17,6 +18,8 @@ impl<T: Serialize> Serialize for Option<T> {
     ghost takes_memory = { T.takes_memory };
 
     ghost refuses = { λ v e. MatchOption v (OfSink e) (λ x. T.refuses x e) };
+
+    ghost marks = { λ v s old new e. MatchOption v (AtItem old new e) (λ x. T.marks x s old new e) };
 
     #[inline(always)]
     fn serialize<W: Sink, C: SerializerConfig>(

@@ -14,6 +14,8 @@ impl<T: Serialize> Serialize for &T {
 
     ghost refuses = { λ v. T.refuses v.now };
 
+    ghost marks = { λ v. T.marks v.now };
+
     #[inline(always)]
     fn serialize<W: Sink, C: SerializerConfig>(
         &self,
@@ -36,6 +38,8 @@ impl<T: Serialize> Serialize for Box<T> {
     ghost takes_memory = { T.takes_memory };
 
     ghost refuses = { λ v. T.refuses v.value };
+
+    ghost marks = { λ v. T.marks v.value };
 
     #[inline(always)]
     fn serialize<W: Sink, C: SerializerConfig>(

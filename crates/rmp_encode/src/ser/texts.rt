@@ -7,7 +7,7 @@ ghost use Rattle.rmp_encode.specs.Data.{char, text};
 ghost use Rattle.rmp_encode.specs.Refusals.{OfLength, OfSink, RefusesLength};
 ghost use Rattle.rmp_encode.specs.Ser.{sink_of, settings_of};
 ghost use Rattle.rmp_encode.specs.Trees.{tree_of};
-ghost use Rattle.rmp_encode.specs.Writes.{Keeps, NoneAtMarker, WritesTree};
+ghost use Rattle.rmp_encode.specs.Writes.{AtItem, Keeps, NoneAtMarker, WritesTree};
 
 use crate::error::Error;
 use crate::ser::Serialize;
@@ -23,6 +23,8 @@ impl Serialize for char {
     ghost takes_memory = { λ _. false };
 
     ghost refuses = { λ _. OfSink };
+
+    ghost marks = { λ _ _. AtItem };
 
     #[inline(always)]
     fn serialize<W: Sink, C: SerializerConfig>(
@@ -54,6 +56,8 @@ impl Serialize for String {
 
     ghost refuses = { λ v. OfLength (2 ^ 32 ≤ length (string_bytes v)) };
 
+    ghost marks = { λ _ _. AtItem };
+
     #[inline(always)]
     fn serialize<W: Sink, C: SerializerConfig>(
         &self,
@@ -84,6 +88,8 @@ impl Serialize for &str {
     ghost takes_memory = { λ _. false };
 
     ghost refuses = { λ v. OfLength (2 ^ 32 ≤ length v.now) };
+
+    ghost marks = { λ _ _. AtItem };
 
     #[inline(always)]
     fn serialize<W: Sink, C: SerializerConfig>(

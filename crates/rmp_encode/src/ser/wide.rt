@@ -7,7 +7,7 @@ ghost use Rattle.rmp_encode.specs.Data.{signed128, unsigned128};
 ghost use Rattle.rmp_encode.specs.Refusals.{OfSink};
 ghost use Rattle.rmp_encode.specs.Ser.{sink_of, settings_of};
 ghost use Rattle.rmp_encode.specs.Trees.{tree_of};
-ghost use Rattle.rmp_encode.specs.Writes.{Keeps, NoneAtMarker, WritesTree};
+ghost use Rattle.rmp_encode.specs.Writes.{AtItem, Keeps, NoneAtMarker, WritesTree};
 
 use crate::error::Error;
 use crate::ser::Serialize;
@@ -23,6 +23,8 @@ impl Serialize for u128 {
     ghost takes_memory = { λ _. false };
 
     ghost refuses = { λ _. OfSink };
+
+    ghost marks = { λ _ _. AtItem };
 
     #[inline(always)]
     fn serialize<W: Sink, C: SerializerConfig>(
@@ -53,6 +55,8 @@ impl Serialize for i128 {
     ghost takes_memory = { λ _. false };
 
     ghost refuses = { λ _. OfSink };
+
+    ghost marks = { λ _ _. AtItem };
 
     #[inline(always)]
     fn serialize<W: Sink, C: SerializerConfig>(

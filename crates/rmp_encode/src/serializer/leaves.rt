@@ -6,7 +6,7 @@ ghost use Rattle.rmp_encode.specs.Errors.{RefusesName};
 ghost use Rattle.rmp_encode.specs.Refusals.{OfSink, RefusesLength, OfItems};
 ghost use Rattle.rmp_encode.specs.Ser.{sink_of, settings_of};
 ghost use Rattle.rmp_encode.specs.Trees.{tree_of, wrapped_of, newtype_of, slice_of, forces_slices};
-ghost use Rattle.rmp_encode.specs.Writes.{Keeps, NoneAtMarker, WritesTree};
+ghost use Rattle.rmp_encode.specs.Writes.{Keeps, MarkedBy, NoneAtMarker, WritesTree};
 ghost use Rattle.rmp_encode.specs.Extensions.{inside, reference};
 
 use crate::error::Error;
@@ -54,6 +54,7 @@ impl<W: Sink, C: SerializerConfig> Serializer<W, C> {
     pub fn serialize_some<T: Serialize>(&mut self, value: &T) -> Result<(), Error>
         ensures writes { WritesTree W.Sink (T.takes_memory (settings_of self.old) || W.takes_memory)
             (tree_of (settings_of self.old) (wrapped_of (T.data_of value.now (settings_of self.old).human))) (sink_of self.old) (sink_of self.new) result }
+        ensures marker { MarkedBy W.Sink (T.marks value.now (settings_of self.old)) (sink_of self.old) (sink_of self.new) result }
         ensures keeps { Keeps W.Sink self.old self.new }
         ensures error { IfErr result (T.refuses value.now) }
         ensures value { OnOk result (T.is_value value.now) }
@@ -91,6 +92,8 @@ impl<W: Sink, C: SerializerConfig> Serializer<W, C> {
             result }
         ensures keeps { Keeps W.Sink self.old self.new }
         ensures refused { name.now ≡ codes "_ExtStruct" → RefusesName self.old self.new result }
+        ensures marker { name.now ≢ codes "_ExtStruct" → MarkedBy W.Sink (T.marks value.now (settings_of self.old)) (sink_of self.old) (sink_of self.new)
+            result }
         ensures error { name.now ≢ codes "_ExtStruct" → IfErr result (T.refuses value.now) }
         ensures value { OnOk result (T.is_value value.now) }
     {

@@ -6,11 +6,11 @@ ghost use Rattle.rmp_encode.specs.Refusals.{OfParts, RefusesLength, AnyLong, OfL
 ghost use Rattle.rmp_encode.specs.Ser.{sink_of, settings_of};
 ghost use Rattle.rmp_encode.specs.Trees.{tree_of, sequence_of, mapping_of, tuple_of, field_parts, structure_of, newtype_variant_of, tuple_variant_of};
 ghost use Rattle.rmp_encode.specs.Trees.{map_head, struct_variant_of, variant_head, variant_items};
-ghost use Rattle.rmp_encode.specs.Writes.{Keeps, NoneAtMarker, FirstAtMarker, WritesPart, WritesTree, StaysAtRefusal};
+ghost use Rattle.rmp_encode.specs.Writes.{Keeps, NoneAtMarker, WritesPart, WritesTree, StaysAtRefusal};
 ghost use Rattle.std.specs.List.{flat_map};
 ghost use Rattle.rmp_wire.specs.Msg.{text};
 ghost use Rattle.rmp_wire.specs.Spelling.{canon};
-ghost use Rattle.rmp_encode.specs.Markers.{BeforeValue};
+ghost use Rattle.rmp_encode.specs.Markers.{items_of, value_of, InOrder};
 
 use crate::compound::Compound;
 use crate::error::Error;
@@ -232,7 +232,7 @@ impl<W: Sink, C: SerializerConfig> Serializer<W, C> {
     fn put_variant(&mut self, name: &str) -> Result<(), Error>
         requires { length name.now < 2 ^ 32 }
         ensures writes { WritesPart W.Sink W.takes_memory (Unit {0}) (variant_head name.now) (sink_of self.old) (sink_of self.new) result }
-        ensures marker { FirstAtMarker W.Sink (map_head 1 ∷ canon (text name.now) ∷ []) (sink_of self.old) (sink_of self.new) result }
+        ensures order { InOrder W.Sink (items_of (map_head 1 ∷ canon (text name.now) ∷ [])) (sink_of self.old) (sink_of self.new) result }
         ensures keeps { Keeps W.Sink self.old self.new }
     {
         self.put_head(true, 1)?;
@@ -254,7 +254,7 @@ impl<W: Sink, C: SerializerConfig> Serializer<W, C> {
         ensures keeps { Keeps W.Sink self.old self.new }
         ensures stays { StaysAtRefusal self.old self.new result }
         ensures long { ¬ ((length variant.now < 2 ^ 32) × (len < 2 ^ 32)) → RefusesLength self.old self.new result }
-        ensures marker { FirstAtMarker W.Sink (variant_items variant.now (head_at pairs len)) (sink_of self.old) (sink_of self.new) result }
+        ensures order { InOrder W.Sink (items_of (variant_items variant.now (head_at pairs len))) (sink_of self.old) (sink_of self.new) result }
         ensures error { IfErr result (OfLength (AnyLong (length variant.now ∷ len ∷ []))) }
         ensures fits { OnOk result ((length variant.now < 2 ^ 32) × (len < 2 ^ 32)) }
     {
@@ -306,7 +306,8 @@ impl<W: Sink, C: SerializerConfig> Serializer<W, C> {
             (sink_of self.new) result }
         ensures keeps { Keeps W.Sink self.old self.new }
         ensures long { 2 ^ 32 ≤ length variant.now → RefusesLength self.old self.new result }
-        ensures marker { BeforeValue W.Sink (map_head 1 ∷ canon (text variant.now) ∷ []) (sink_of self.old) (sink_of self.new) result }
+        ensures marker { InOrder W.Sink (items_of (map_head 1 ∷ canon (text variant.now) ∷ []) ++ value_of (settings_of self.old)
+            (T.data_of value.now (settings_of self.old).human) (T.marks value.now (settings_of self.old)) ∷ []) (sink_of self.old) (sink_of self.new) result }
         ensures error { IfErr result (OfParts (AnyLong (length variant.now ∷ [])) (T.refuses value.now ∷ [])) }
         ensures value { OnOk result (T.is_value value.now) }
     {

@@ -12,6 +12,7 @@ ghost use Rattle.rmp_decode.specs.Refusing.{part_of};
 ghost use Rattle.rmp_decode.specs.Rows.{ReadsEach};
 ghost use Rattle.rmp_decode.specs.Variants.{OfVariant, Case, NoCase, Bare};
 ghost use Rattle.rmp_encode.specs.Data.{unit_variant};
+ghost use Rattle.rmp_encode.specs.Markers.{value_of};
 ghost use Rattle.rmp_encode.specs.Refusals.{OfParts, OfSink};
 ghost use Rattle.rmp_encode.specs.Sizes.{one_of};
 ghost use Rattle.rmp_encode.specs.Trees.{structure_of};
@@ -743,6 +744,17 @@ impl<
     ghost takes_memory = { λ s. one_of (E1.takes_memory s
         ∷ (E2.takes_memory s ∷ (E3.takes_memory s ∷ (E4.takes_memory s
         ∷ (E5.takes_memory s ∷ (E6.takes_memory s ∷ (E7.takes_memory s ∷ (E8.takes_memory s ∷ (E9.takes_memory s ∷ []))))))))) };
+
+    ghost pieces = { λ v s.
+        value_of s (E1.data_of v.first.now s.human) (E1.marks v.first.now s) ∷
+        value_of s (E2.data_of v.second.now s.human) (E2.marks v.second.now s) ∷
+        value_of s (E3.data_of v.third.now s.human) (E3.marks v.third.now s) ∷
+        value_of s (E4.data_of v.fourth.now s.human) (E4.marks v.fourth.now s) ∷
+        value_of s (E5.data_of v.fifth.now s.human) (E5.marks v.fifth.now s) ∷
+        value_of s (E6.data_of v.sixth.now s.human) (E6.marks v.sixth.now s) ∷
+        value_of s (E7.data_of v.seventh.now s.human) (E7.marks v.seventh.now s) ∷
+        value_of s (E8.data_of v.eighth.now s.human) (E8.marks v.eighth.now s) ∷
+        value_of s (E9.data_of v.ninth.now s.human) (E9.marks v.ninth.now s) ∷ [] };
 
     ghost counted = { λ v human. refl };
 

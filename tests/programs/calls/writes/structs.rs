@@ -206,20 +206,90 @@ fn broken_struct(rt: HostRuntime) -> Result<(), Fail> {
     Ok(())
 }
 
+// Whether a write failed before an item's first byte (`Some(false)`) or after it.
+fn has_begun(answer: Result<(), Error>) -> Option<bool> {
+    match answer {
+        Err(Error::InvalidValueWrite(ValueWriteError::InvalidMarkerWrite(_))) => Some(false),
+        Err(Error::InvalidValueWrite(ValueWriteError::InvalidDataWrite(_))) => Some(true),
+        _ => None,
+    }
+}
+
+// What the end of a tuple writes is one item, a list as well as bytes. Elements that are written at once are items of their own.
+#[test]
+fn broken_tuple(rt: HostRuntime) -> Result<(), Fail> {
+    for size in 0..4 {
+        let mut room = [0u8; 4];
+        let sink = SliceSink::new(&mut room[..size]);
+        let mut se = Serializer::new(rt.alloc(), sink).with_bytes(BytesMode::ForceAll);
+        assert!(rt; has_begun((1u8, 2u8, 3u8).serialize(&mut se)) == Some(size > 0));
+        drop(se);
+        assert_eq!(rt; room[..size], b"\x93\x01\x02\x03"[..size]);
+        let sink = SliceSink::new(&mut room[..size]);
+        let mut se = Serializer::new(rt.alloc(), sink).with_bytes(BytesMode::ForceAll);
+        assert!(rt; has_begun((1u8, 200u8).serialize(&mut se)) == Some(size > 0));
+        drop(se);
+        assert_eq!(rt; room[..size], b"\xc4\x02\x01\xc8"[..size]);
+        let sink = SliceSink::new(&mut room[..size]);
+        let mut se = Serializer::new(rt.alloc(), sink).with_bytes(BytesMode::ForceAll);
+        assert!(rt; has_begun((1u8, 2u8, 300u16).serialize(&mut se)) == Some(false));
+        drop(se);
+        assert_eq!(rt; room[..size], b"\x93\x01\x02\xcd"[..size]);
+    }
+    Ok(())
+}
+
+// A field's name is an item, and so is its value.
+#[test]
+fn broken_field(rt: HostRuntime) -> Result<(), Fail> {
+    let begun = [false, true, false, true, true];
+    for (size, has) in begun.iter().enumerate() {
+        let mut room = [0u8; 6];
+        let sink = SliceSink::new(&mut room[..size + 1]);
+        let mut se = Serializer::new(rt.alloc(), sink).with_struct_map();
+        let mut fields = se.serialize_struct("S", 1)?;
+        assert!(rt; has_begun(fields.serialize_field("x", &300u16)) == Some(*has));
+        drop(fields);
+        drop(se);
+        assert_eq!(rt; room[..size + 1], b"\x81\xa1x\xcd\x01\x2c"[..size + 1]);
+    }
+    Ok(())
+}
+
+// Also where one call writes all fields, or the elements of a variant.
+#[test]
+fn broken_fields(rt: HostRuntime) -> Result<(), Fail> {
+    let begun = [false, false, true, false, true, true];
+    for (size, has) in begun.iter().enumerate() {
+        let mut room = [0u8; 6];
+        let sink = SliceSink::new(&mut room[..size]);
+        let mut se = Serializer::new(rt.alloc(), sink).with_struct_map();
+        let elements = One { first: &300u16 };
+        assert!(rt; has_begun(se.serialize_fields("S", &["x"], &elements)) == Some(*has));
+        drop(se);
+        assert_eq!(rt; room[..size], b"\x81\xa1x\xcd\x01\x2c"[..size]);
+    }
+    let begun = [false, false, true, false, false, true];
+    for (size, has) in begun.iter().enumerate() {
+        let mut room = [0u8; 6];
+        let mut se = Serializer::new(rt.alloc(), SliceSink::new(&mut room[..size]));
+        let elements = One { first: &200u8 };
+        assert!(rt; has_begun(se.serialize_tuple_variant_of("E", 0, "V", &elements)) == Some(*has));
+        drop(se);
+        assert_eq!(rt; room[..size], b"\x81\xa1V\x91\xcc\xc8"[..size]);
+    }
+    Ok(())
+}
+
 // The heads of a variant's map and of its name go out as one piece, and a fault between them is one before the name.
 #[test]
 fn broken_variant(rt: HostRuntime) -> Result<(), Fail> {
     let begun = [false, false, true, true, false, true];
-    for (size, has_begun) in begun.iter().enumerate() {
+    for (size, has) in begun.iter().enumerate() {
         let mut room = [0u8; 6];
         let mut se = Serializer::new(rt.alloc(), SliceSink::new(&mut room[..size]));
         let answer = se.serialize_newtype_variant("E", 2, "V3", &200u8);
-        let told = match answer {
-            Err(Error::InvalidValueWrite(ValueWriteError::InvalidMarkerWrite(_))) => Some(false),
-            Err(Error::InvalidValueWrite(ValueWriteError::InvalidDataWrite(_))) => Some(true),
-            _ => None,
-        };
-        assert!(rt; told == Some(*has_begun));
+        assert!(rt; has_begun(answer) == Some(*has));
         drop(se);
         assert_eq!(rt; room[..size], b"\x81\xa2V3\xcc\xc8"[..size]);
     }

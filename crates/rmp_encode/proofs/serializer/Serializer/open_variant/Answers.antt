@@ -4,10 +4,9 @@ use Rattle.rmp_encode.specs.Going.{head_at}
 use Rattle.rmp_encode.specs.Trees.{variant_head}
 use Rattle.rmp_encode.proofs.Going.{begins, begins_not, keeps_then, never_refused, never_refused_by, stays_refused}
 use Rattle.rmp_encode.proofs.Parts.{part_as, part_stops, part_then}
-use Rattle.rmp_encode.proofs.Numbers.{marker_last, marker_first, marker_more}
-use Rattle.rmp_encode.proofs.Refusals.{long_after, long_first, none_too_long, of_cause, of_long, of_sink, on_sink, refuses_length}
-use Rattle.rmp_encode.specs.Ser.{sink_of}
-use Rattle.std.specs.Prelude.{Err}
+use Rattle.rmp_encode.proofs.Markers.{one_piece, pieces_long, pieces_stop, pieces_then}
+use Rattle.rmp_encode.specs.Markers.{item}
+use Rattle.rmp_encode.proofs.Refusals.{long_after, long_first, of_cause, of_long, of_sink, on_sink, refuses_length}
 use Rattle.rmp_encode.proofs.serializer.Serializer.open_variant.Goals as goal
 
 pub returns-in_err-count-clause-begins : goal.returns-in_err-count-clause-begins
@@ -57,18 +56,6 @@ returns-clause-keeps g c = keeps_then g.W.Sink c.put_variant.ensures.keeps c.put
 pub returns-clause-stays : goal.returns-clause-stays
 returns-clause-stays g c = never_refused_by g.W.Sink.takes_memory _ _ _ _ c.put_head.result c.put_head.ensures.writes.cause
 
-pub returns-in_err-count-clause-marker : goal.returns-in_err-count-clause-marker
-returns-in_err-count-clause-marker g c =
-    let p = err_from_is_err_and c.from_residual.result c.from_residual.ensures.1 in
-    rw (p.1, p.2) (marker_first g.W.Sink _ _ (sink_of c.args.self.now) (sink_of c.args.self.now) (Err c.in_err-count.field-0.0)
-    (none_too_long g.W.Sink _ _ c.in_err-count.field-0.0 c.in_err-count.ensures.refused))
-
-pub returns-in_err-fits_u32-clause-marker : goal.returns-in_err-fits_u32-clause-marker
-returns-in_err-fits_u32-clause-marker g c =
-    let p = err_from_is_err_and c.from_residual-in_err-fits_u32.result c.from_residual-in_err-fits_u32.ensures.1 in
-    rw (p.1, p.2) (marker_first g.W.Sink _ _ (sink_of c.args.self.now) (sink_of c.args.self.now) (Err c.in_err-fits_u32.field-0.0)
-    (none_too_long g.W.Sink _ _ c.in_err-fits_u32.field-0.0 c.in_err-fits_u32.ensures.refused))
-
 pub returns-in_err-count-clause-long : goal.returns-in_err-count-clause-long
 returns-in_err-count-clause-long g c = λ none.
     let p = err_from_is_err_and c.from_residual.result c.from_residual.ensures.1 in
@@ -78,16 +65,6 @@ pub returns-in_err-fits_u32-clause-long : goal.returns-in_err-fits_u32-clause-lo
 returns-in_err-fits_u32-clause-long g c = λ none.
     let p = err_from_is_err_and c.from_residual-in_err-fits_u32.result c.from_residual-in_err-fits_u32.ensures.1 in
     rw (p.1, p.2) (refuses_length _ _ c.in_err-fits_u32.ensures.refused)
-
-pub returns-in_err-put_variant-clause-marker : goal.returns-in_err-put_variant-clause-marker
-returns-in_err-put_variant-clause-marker g c =
-    let p = err_from_is_err_and c.from_residual-in_err-put_variant.result c.from_residual-in_err-put_variant.ensures.1 in
-    rw (p.1, p.2) (marker_more g.W.Sink _ (head_at c.args.pairs c.args.len ∷ []) (sink_of c.args.self.now) (sink_of c.put_variant.new.self)
-    c.in_err-put_variant.field-0.0 c.in_err-put_variant.ensures.marker)
-
-pub returns-clause-marker : goal.returns-clause-marker
-returns-clause-marker g c = marker_last g.W.Sink _ _ _ _ c.put_head.result c.in_ok-put_variant.ensures.writes
-    c.put_head.ensures.marker
 
 pub returns-in_err-count-clause-error : goal.returns-in_err-count-clause-error
 returns-in_err-count-clause-error g c =
@@ -106,3 +83,24 @@ returns-in_err-put_variant-clause-error g c =
 
 pub returns-clause-error : goal.returns-clause-error
 returns-clause-error g c = on_sink _ c.put_head.result c.put_head.ensures.error
+
+pub returns-in_err-count-clause-order : goal.returns-in_err-count-clause-order
+returns-in_err-count-clause-order g c =
+    let p = err_from_is_err_and c.from_residual.result c.from_residual.ensures.1 in
+    rw (p.1, p.2) (pieces_long g.W.Sink _ _ _ _ c.in_err-count.ensures.refused)
+
+pub returns-in_err-fits_u32-clause-order : goal.returns-in_err-fits_u32-clause-order
+returns-in_err-fits_u32-clause-order g c =
+    let p = err_from_is_err_and c.from_residual-in_err-fits_u32.result c.from_residual-in_err-fits_u32.ensures.1 in
+    rw (p.1, p.2) (pieces_long g.W.Sink _ _ _ _ c.in_err-fits_u32.ensures.refused)
+
+pub returns-in_err-put_variant-clause-order : goal.returns-in_err-put_variant-clause-order
+returns-in_err-put_variant-clause-order g c =
+    let p = err_from_is_err_and c.from_residual-in_err-put_variant.result c.from_residual-in_err-put_variant.ensures.1 in
+    rw (p.1, p.2) (pieces_stop g.W.Sink (item (head_at c.args.pairs c.args.len) ∷ []) c.in_err-put_variant.ensures.order)
+
+pub returns-clause-order : goal.returns-clause-order
+returns-clause-order g c =
+    pieces_then g.W.Sink c.put_head.result c.in_ok-put_variant.ensures.order
+    (one_piece g.W.Sink (item (head_at c.args.pairs c.args.len)) c.put_head.result (rw c.in_ok-count.ensures.same at c.put_head.ensures.writes)
+    c.put_head.ensures.marker)

@@ -2,7 +2,9 @@ use Rattle.std.proofs.Common.{arith, rules}
 use Rattle.std.proofs.lemmas.Result.{err_from_is_err_and}
 use Rattle.rmp_encode.specs.Going.{head_at}
 use Rattle.rmp_encode.proofs.Going.{begins, begins_not, never_refused_by, stays_refused}
-use Rattle.rmp_encode.proofs.Refusals.{none_too_long, of_long, on_sink, refuses_length}
+use Rattle.rmp_encode.proofs.Refusals.{of_long, on_sink, refuses_length}
+use Rattle.rmp_encode.proofs.Markers.{one_piece, pieces_long}
+use Rattle.rmp_encode.specs.Markers.{item}
 use Rattle.rmp_encode.proofs.serializer.Serializer.put_len.Goals as goal
 
 pub returns-in_err-n-clause-begins : goal.returns-in_err-n-clause-begins
@@ -27,11 +29,6 @@ returns-in_err-n-clause-error g c =
     let p = err_from_is_err_and c.from_residual.result c.from_residual.ensures.1 in
     rw (p.1, p.2) (of_long _ c.in_err-n.ensures.refused c.in_err-n.ensures.long)
 
-pub returns-in_err-n-clause-marker : goal.returns-in_err-n-clause-marker
-returns-in_err-n-clause-marker g c =
-    let p = err_from_is_err_and c.from_residual.result c.from_residual.ensures.1 in
-    rw (p.1, p.2) (none_too_long g.W.Sink _ _ _ c.in_err-n.ensures.refused)
-
 pub returns-in_err-n-clause-long : goal.returns-in_err-n-clause-long
 returns-in_err-n-clause-long g c = λ le.
     let p = err_from_is_err_and c.from_residual.result c.from_residual.ensures.1 in
@@ -39,3 +36,13 @@ returns-in_err-n-clause-long g c = λ le.
 
 pub returns-clause-error : goal.returns-clause-error
 returns-clause-error g c = on_sink _ c.put_head.result c.put_head.ensures.error
+
+pub returns-in_err-n-clause-order : goal.returns-in_err-n-clause-order
+returns-in_err-n-clause-order g c =
+    let p = err_from_is_err_and c.from_residual.result c.from_residual.ensures.1 in
+    rw (p.1, p.2) (pieces_long g.W.Sink _ _ _ _ c.in_err-n.ensures.refused)
+
+pub returns-clause-order : goal.returns-clause-order
+returns-clause-order g c =
+    one_piece g.W.Sink (item (head_at c.args.pairs c.args.len)) c.put_head.result (rw c.in_ok-n.ensures.same at c.put_head.ensures.writes)
+    c.put_head.ensures.marker

@@ -5,6 +5,8 @@ use Rattle.rmp_encode.proofs.Lists.{made_list}
 use Rattle.rmp_encode.proofs.Parts.{part_or}
 use Rattle.rmp_encode.proofs.Refusals.{long_first, of_no_part, of_weaker, on_parts_weaker}
 use Rattle.std.proofs.Common.{[]}
+use Rattle.rmp_encode.proofs.Markers.{pieces_as, pieces_stop, pieces_then}
+use Rattle.rmp_encode.specs.Ser.{settings_of}
 use Rattle.rmp_encode.proofs.serializer.Serializer.serialize_elements.Goals as goal
 
 pub returns-in_err-put_len-clause-writes : goal.returns-in_err-put_len-clause-writes
@@ -29,3 +31,15 @@ returns-in_err-put_len-clause-error g c =
 
 pub returns-clause-error : goal.returns-clause-error
 returns-clause-error g c = on_parts_weaker absurd (g.E.Elements.refusals c.args.elements.now) c.write.result c.write.ensures.error
+
+pub returns-in_err-put_len-clause-marker : goal.returns-in_err-put_len-clause-marker
+returns-in_err-put_len-clause-marker g c =
+    let p = err_from_is_err_and c.from_residual.result c.from_residual.ensures.1 in
+    rw (p.1, p.2) (pieces_stop g.W.Sink (g.E.Elements.pieces c.args.elements.now (settings_of c.args.self.now))
+    (rw c.len.ensures at c.in_err-put_len.ensures.order))
+
+pub returns-clause-marker : goal.returns-clause-marker
+returns-clause-marker g c =
+    pieces_then g.W.Sink c.write.result (rw c.len.ensures at c.in_ok-put_len.ensures.order)
+    (pieces_as g.W.Sink (λ s. g.E.Elements.pieces c.args.elements.now s)
+    c.put_len.ensures.keeps.settings c.write.ensures.marker)

@@ -3,7 +3,7 @@ use Rattle.std.proofs.lemmas.Result.{err_from_is_err_and}
 use Rattle.rmp_encode.specs.Going.{open_of}
 use Rattle.rmp_encode.specs.Opens.{IsMapLong, IsPaired, twice, MayOpen, head_items}
 use Rattle.rmp_encode.proofs.Keeping.{keeping_opened}
-use Rattle.rmp_encode.proofs.Numbers.{marker_first}
+use Rattle.rmp_encode.proofs.Markers.{order_first}
 use Rattle.rmp_encode.proofs.Lists.{made_map, not_less}
 use Rattle.rmp_encode.specs.Refusals.{OfLength}
 use Rattle.rmp_encode.specs.Ser.{sink_of}
@@ -48,7 +48,7 @@ returns-in_err-put_len g c =
           error = subst (λ l. OfLength (¬ MayOpen l) c.in_err-put_len.field-0.0) (sym c.in-Some.is) (of_past _ _ c.in_err-put_len.ensures.error);
           long = λ h. c.in_err-put_len.ensures.long (not_less (subst (λ l. ¬ MayOpen l) c.in-Some.is h));
           marker = subst (λ l. FirstAtMarker g.W.Sink {A = Unit {0}} (head_items true l) (sink_of c.args.self.now) (sink_of c.put_len.new.self) (Err c.in_err-put_len.field-0.0)) (sym c.in-Some.is)
-              (marker_first g.W.Sink _ [] (sink_of c.args.self.now) (sink_of c.put_len.new.self) (Err c.in_err-put_len.field-0.0) c.in_err-put_len.ensures.marker);
+              (order_first g.W.Sink _ (sink_of c.args.self.now) (sink_of c.put_len.new.self) c.in_err-put_len.field-0.0 c.in_err-put_len.ensures.order);
           writes = λ all e. c.in_err-put_len.ensures.begins _ _ (made_map _ _ all (subst (λ l. IsMapLong l all) c.in-Some.is e));
         },
       ),

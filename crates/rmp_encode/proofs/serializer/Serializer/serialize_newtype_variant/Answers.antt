@@ -1,4 +1,4 @@
-use Rattle.std.proofs.Common.{arith, inr, length, []}
+use Rattle.std.proofs.Common.{arith, inr, length, ◌∷◌, []}
 use Rattle.std.specs.Prelude.{◌||◌}
 use Rattle.std.proofs.lemmas.Result.{err_from_is_err_and}
 use Rattle.rmp_encode.specs.Trees.{variant_head}
@@ -7,8 +7,9 @@ use Rattle.rmp_encode.proofs.Leaves.{bytes_from}
 use Rattle.rmp_encode.proofs.Parts.{part_or}
 use Rattle.rmp_encode.proofs.Variants.{made_newtype, last_written}
 use Rattle.rmp_encode.proofs.Refusals.{long_first, of_cause, of_long, of_sink, on_part, refuses_length}
-use Rattle.rmp_encode.proofs.Markers.{after_both, before_first, before_long}
-use Rattle.rmp_encode.specs.Ser.{sink_of}
+use Rattle.rmp_encode.proofs.Markers.{pieces_long, pieces_stop, pieces_then, value_piece}
+use Rattle.rmp_encode.specs.Markers.{value_of}
+use Rattle.rmp_encode.specs.Ser.{settings_of}
 use Rattle.rmp_encode.proofs.serializer.Serializer.serialize_newtype_variant.Goals as goal
 
 pub returns-in_err-fits_u32-clause-writes : goal.returns-in_err-fits_u32-clause-writes
@@ -57,13 +58,16 @@ returns-clause-error g c = on_part _ (g.T.Serialize.refuses c.args.value.now) c.
 pub returns-in_err-fits_u32-clause-marker : goal.returns-in_err-fits_u32-clause-marker
 returns-in_err-fits_u32-clause-marker g c =
     let p = err_from_is_err_and c.from_residual.result c.from_residual.ensures.1 in
-    rw (p.1, p.2) (before_long g.W.Sink _ (sink_of c.args.self.now) (sink_of c.args.self.now) c.in_err-fits_u32.field-0.0 c.in_err-fits_u32.ensures.refused)
+    rw (p.1, p.2) (pieces_long g.W.Sink _ _ _ _ c.in_err-fits_u32.ensures.refused)
 
 pub returns-in_err-put_variant-clause-marker : goal.returns-in_err-put_variant-clause-marker
 returns-in_err-put_variant-clause-marker g c =
     let p = err_from_is_err_and c.from_residual-in_err-put_variant.result c.from_residual-in_err-put_variant.ensures.1 in
-    rw (p.1, p.2) (before_first g.W.Sink _ (sink_of c.args.self.now) (sink_of c.put_variant.new.self) c.in_err-put_variant.field-0.0
-    c.in_err-put_variant.ensures.marker)
+    rw (p.1, p.2) (pieces_stop g.W.Sink (value_of (settings_of c.args.self.now) (g.T.Serialize.data_of c.args.value.now (settings_of c.args.self.now).human)
+    (g.T.Serialize.marks c.args.value.now (settings_of c.args.self.now)) ∷ []) c.in_err-put_variant.ensures.order)
 
 pub returns-clause-marker : goal.returns-clause-marker
-returns-clause-marker g c = after_both g.W.Sink _ _ _ c.serialize.result c.in_ok-put_variant.ensures.writes c.serialize.ensures.writes.front
+returns-clause-marker g c =
+    pieces_then g.W.Sink c.serialize.result c.in_ok-put_variant.ensures.order
+    (value_piece g.W.Sink (λ s. g.T.Serialize.data_of c.args.value.now s.human) (g.T.Serialize.marks c.args.value.now) c.put_variant.new.self
+    c.serialize.result c.put_variant.ensures.keeps.settings c.serialize.ensures.writes c.serialize.ensures.marker)

@@ -10,6 +10,7 @@ use Rattle.rmp_encode.specs.Ser.{sink_of}
 use Rattle.rmp_encode.specs.Trees.{variant_items}
 use Rattle.rmp_encode.specs.Writes.{FirstAtMarker}
 use Rattle.rmp_encode.proofs.Refusals.{long_not, of_weaker}
+use Rattle.rmp_encode.proofs.Markers.{order_first}
 use Rattle.rmp_encode.proofs.serializer.Serializer.serialize_struct_variant.Goals as goal
 
 pub returns-in_err-open_variant : goal.returns-in_err-open_variant
@@ -25,8 +26,8 @@ returns-in_err-open_variant g c =
           refused = c.in_err-open_variant.ensures.stays;
           error = of_weaker (long_not (length c.args.variant.now) c.args.len) _ c.in_err-open_variant.ensures.error;
           long = c.in_err-open_variant.ensures.long;
-          marker = subst (λ named. FirstAtMarker g.W.Sink {A = Unit {0}} (variant_items c.args.variant.now (head_at named c.args.len)) (sink_of c.args.self.now)
-              (sink_of c.open_variant.new.self) (Err c.in_err-open_variant.field-0.0)) c.is_named.ensures c.in_err-open_variant.ensures.marker;
+          marker = order_first g.W.Sink _ (sink_of c.args.self.now) (sink_of c.open_variant.new.self) c.in_err-open_variant.field-0.0
+              (rw c.is_named.ensures at c.in_err-open_variant.ensures.order);
           writes = λ all e. (rw c.is_named.ensures at c.in_err-open_variant.ensures.begins) _ _
               (made_struct_variant _ c.args.variant.now c.args.len all is_bytes e);
         },

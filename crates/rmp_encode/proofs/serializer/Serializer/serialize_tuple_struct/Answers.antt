@@ -1,6 +1,6 @@
 use Rattle.std.proofs.Common.{rules, refl, []}
 use Rattle.std.proofs.lemmas.Result.{err_from_is_err_and}
-use Rattle.rmp_encode.proofs.Numbers.{marker_first}
+use Rattle.rmp_encode.proofs.Markers.{order_first}
 use Rattle.rmp_encode.proofs.Lists.{made_list, not_less}
 use Rattle.rmp_encode.specs.Ser.{sink_of}
 use Rattle.std.specs.Prelude.{Err}
@@ -19,7 +19,7 @@ returns-in_err-put_len g c =
           refused = c.in_err-put_len.ensures.stays;
           error = of_past c.args.len _ c.in_err-put_len.ensures.error;
           long = λ h. c.in_err-put_len.ensures.long (not_less h);
-          marker = marker_first g.W.Sink _ [] (sink_of c.args.self.now) (sink_of c.put_len.new.self) (Err c.in_err-put_len.field-0.0) c.in_err-put_len.ensures.marker;
+          marker = order_first g.W.Sink _ (sink_of c.args.self.now) (sink_of c.put_len.new.self) c.in_err-put_len.field-0.0 c.in_err-put_len.ensures.order;
           writes = λ all e. c.in_err-put_len.ensures.begins _ _ (made_list _ c.args.len all e);
         },
       ),

@@ -4,6 +4,8 @@ use Rattle.rmp_wire.specs.Spelling.{IsBytes}
 use Rattle.rmp_encode.proofs.Leaves.{bytes_from}
 use Rattle.rmp_encode.proofs.Variants.{made_tuple_variant}
 use Rattle.rmp_encode.proofs.Refusals.{long_not, of_weaker}
+use Rattle.rmp_encode.proofs.Markers.{order_first}
+use Rattle.rmp_encode.specs.Ser.{sink_of}
 use Rattle.rmp_encode.proofs.serializer.Serializer.serialize_tuple_variant.Goals as goal
 
 pub returns-in_err-open_variant : goal.returns-in_err-open_variant
@@ -19,7 +21,8 @@ returns-in_err-open_variant g c =
           refused = c.in_err-open_variant.ensures.stays;
           error = of_weaker (long_not (length c.args.variant.now) c.args.len) _ c.in_err-open_variant.ensures.error;
           long = c.in_err-open_variant.ensures.long;
-          marker = c.in_err-open_variant.ensures.marker;
+          marker = order_first g.W.Sink _ (sink_of c.args.self.now) (sink_of c.open_variant.new.self) c.in_err-open_variant.field-0.0
+              c.in_err-open_variant.ensures.order;
           writes = λ all e. c.in_err-open_variant.ensures.begins _ _ (made_tuple_variant _ c.args.variant.now c.args.len all is_bytes e);
         },
       ),

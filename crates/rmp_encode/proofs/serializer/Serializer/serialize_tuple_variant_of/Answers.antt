@@ -6,6 +6,8 @@ use Rattle.rmp_encode.proofs.Leaves.{bytes_from}
 use Rattle.rmp_encode.proofs.Variants.{made_tuple_variant}
 use Rattle.rmp_encode.proofs.Parts.{part_or}
 use Rattle.rmp_encode.proofs.Refusals.{of_no_part, on_parts_weaker}
+use Rattle.rmp_encode.proofs.Markers.{pieces_as, pieces_stop, pieces_then}
+use Rattle.rmp_encode.specs.Ser.{settings_of}
 use Rattle.rmp_encode.proofs.serializer.Serializer.serialize_tuple_variant_of.Goals as goal
 
 pub returns-in_err-open_variant-clause-writes : goal.returns-in_err-open_variant-clause-writes
@@ -33,3 +35,15 @@ returns-in_err-open_variant-clause-error g c =
 
 pub returns-clause-error : goal.returns-clause-error
 returns-clause-error g c = on_parts_weaker absurd (g.E.Elements.refusals c.args.elements.now) c.write.result c.write.ensures.error
+
+pub returns-in_err-open_variant-clause-marker : goal.returns-in_err-open_variant-clause-marker
+returns-in_err-open_variant-clause-marker g c =
+    let p = err_from_is_err_and c.from_residual.result c.from_residual.ensures.1 in
+    rw (p.1, p.2) (pieces_stop g.W.Sink (g.E.Elements.pieces c.args.elements.now (settings_of c.args.self.now))
+    (rw c.len.ensures at c.in_err-open_variant.ensures.order))
+
+pub returns-clause-marker : goal.returns-clause-marker
+returns-clause-marker g c =
+    pieces_then g.W.Sink c.write.result (rw c.len.ensures at c.in_ok-open_variant.ensures.order)
+    (pieces_as g.W.Sink (λ s. g.E.Elements.pieces c.args.elements.now s)
+    c.open_variant.ensures.keeps.settings c.write.ensures.marker)

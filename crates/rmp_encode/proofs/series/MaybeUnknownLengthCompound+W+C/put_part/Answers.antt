@@ -4,8 +4,10 @@ use Rattle.rmp_encode.specs.Opens.{is_kept, left_of}
 use Rattle.rmp_encode.specs.Sizes.{most}
 use Rattle.rmp_encode.proofs.Going.{goes}
 use Rattle.rmp_encode.proofs.Keeping.{too_many, keep_err, keep_ok}
-use Rattle.rmp_encode.proofs.OpenSteps.{before, in_none, kept_takes, none_state, some_state}
+use Rattle.rmp_encode.proofs.OpenSteps.{before, in_none, kept_takes, marked_here, marked_kept, none_state, some_state}
 use Rattle.rmp_encode.proofs.Parts.{or_right, part_memory, part_takes}
+use Rattle.rmp_encode.proofs.Markers.{long_no_fault, none_counted}
+use Rattle.rmp_encode.specs.Ser.{sink_of}
 use Rattle.rmp_encode.proofs.series.MaybeUnknownLengthCompound+W+C.put_part.Goals as goal
 
 pub returns-then-full-clause-writes : goal.returns-then-full-clause-writes
@@ -46,3 +48,18 @@ returns-in-Err-result-clause-writes g c = λ old t rest h.
     keep_err c.args.self.now.pairs g.W.Sink _ (λ s. g.T.Serialize.data_of c.args.value.now s.human) _ c.replace-kept.result c.args.self.now.se.now _
     (kept_takes _ c.in-Some.buffer c.args.self.now.count _ c.in-Some.is) (part_memory _ c.in-Err-result.ensures.writes).cause old t rest
     (some_state g.W.Sink c.replace-kept.result is h)
+
+pub returns-in-Err-clause-marker : goal.returns-in-Err-clause-marker
+returns-in-Err-clause-marker g c =
+    marked_here g.W.Sink c.args.self.now.buffer c.args.self.now.count _ c.in-None.is (sink_of c.args.self.now.se.now) (sink_of c.serialize.new.se)
+    (Err c.in-Err.e) c.in-Err.ensures.marker
+
+pub returns-then-full-clause-marker : goal.returns-then-full-clause-marker
+returns-then-full-clause-marker g c =
+    marked_kept g.W.Sink c.args.self.now.buffer c.in-Some.buffer c.args.self.now.count _ c.in-Some.is (sink_of c.args.self.now.se.now)
+    (sink_of c.args.self.now.se.now) _ (λ a b. long_no_fault a b _ c.too_long.ensures)
+
+pub returns-in-Err-result-clause-marker : goal.returns-in-Err-result-clause-marker
+returns-in-Err-result-clause-marker g c =
+    marked_kept g.W.Sink c.args.self.now.buffer c.in-Some.buffer c.args.self.now.count _ c.in-Some.is (sink_of c.args.self.now.se.now)
+    (sink_of c.args.self.now.se.now) c.in-Err-result.e (λ a b. none_counted _ _ _ a b c.in-Err-result.e c.in-Err-result.ensures.writes.cause)

@@ -3,10 +3,13 @@ use Rattle.std.proofs.lemmas.Result.{err_from_is_err_and}
 use Rattle.rmp_encode.specs.Data.{packs_tuple}
 use Rattle.rmp_wire.specs.declared.config.BytesMode.TheVariants.{ForceAll}
 use Rattle.rmp_encode.proofs.Going.{closes}
-use Rattle.rmp_encode.proofs.Parts.{part_then, part_stops}
-use Rattle.rmp_encode.proofs.TupleSteps.{kept_none, kept_no_more, kept_some, marker_no_head, marker_numbers}
-use Rattle.rmp_encode.proofs.TupleSteps.{marker_packed, probing_fits, probing_packs, probing_lists, list_state, probe_state}
-use Rattle.rmp_encode.proofs.Refusals.{of_cause, on_cause, on_fits}
+use Rattle.std.specs.Prelude.{Err}
+use Rattle.rmp_encode.proofs.Leaves.{none_by_never}
+use Rattle.rmp_encode.proofs.Lists.{head_at_some}
+use Rattle.rmp_encode.proofs.Parts.{part_stops}
+use Rattle.rmp_encode.proofs.TupleSteps.{ended_listed, ended_packed, kept_none, kept_no_more, kept_some, none_ended}
+use Rattle.rmp_encode.proofs.TupleSteps.{probing_fits, probing_packs, probing_lists, list_state, probe_state}
+use Rattle.rmp_encode.proofs.Refusals.{on_fits}
 use Rattle.rmp_encode.proofs.tuple.Tuple+W+C.end.Goals as goal
 
 pub returns-in_default-clause-writes : goal.returns-in_default-clause-writes
@@ -27,35 +30,42 @@ pub returns-in_err-put_head-clause-writes : goal.returns-in_err-put_head-clause-
 returns-in_err-put_head-clause-writes g c =
     let no_packs = sym (c.packs.ensures ∙ ap (packs_tuple ForceAll) c.as_slice.ensures.value) ∙ c.if-packs.false in
     let p = err_from_is_err_and c.from_residual.result c.from_residual.ensures.1 in
-    rw (p.1, p.2) (λ old t h. probing_lists g.W.Sink c.in-Some.bytes.items _ c.args.self.se.now no_packs
+    rw (p.1, p.2) (λ old t h. probing_lists g.W.Sink (tt, tt) c.in-Some.bytes.items _ c.args.self.se.now no_packs
     (part_stops g.W.Sink {Q = Unit {0}} _ c.in_err-put_head.ensures.writes) old t
     (probe_state g.W.Sink c.in-Some.bytes (kept_some c.in-Some.bytes c.in-Some.is c.if-not-probing.false) h))
 
 pub returns-clause-writes : goal.returns-clause-writes
 returns-clause-writes g c =
     let no_packs = sym (c.packs.ensures ∙ ap (packs_tuple ForceAll) c.as_slice.ensures.value) ∙ c.if-packs.false in
-    λ old t h. probing_lists g.W.Sink c.in-Some.bytes.items _ c.args.self.se.now no_packs
-    (part_then g.W.Sink c.in_ok-put_head.ensures.writes (rw c.as_slice-2.ensures.value at c.put_numbers.ensures.writes)) old t
+    λ old t h. probing_lists g.W.Sink tt c.in-Some.bytes.items _ c.args.self.se.now no_packs
+    ((rw c.as_slice-2.ensures.value at c.put.ensures.writes) _ _ (head_at_some _ _) c.in_ok-put_head.ensures.writes) old t
     (probe_state g.W.Sink c.in-Some.bytes (kept_some c.in-Some.bytes c.in-Some.is c.if-not-probing.false) h)
+
+pub returns-in_default-clause-marker : goal.returns-in_default-clause-marker
+returns-in_default-clause-marker g c = none_ended g.W.Sink _ (kept_none _ _ c.in_default.is) _
+
+pub returns-then-not-probing-clause-marker : goal.returns-then-not-probing-clause-marker
+returns-then-not-probing-clause-marker g c = none_ended g.W.Sink _ (kept_no_more c.in-Some.bytes c.in-Some.is c.if-not-probing.true) _
 
 pub returns-then-packs-clause-marker : goal.returns-then-packs-clause-marker
 returns-then-packs-clause-marker g c =
     let yes_packs = sym (c.packs.ensures ∙ ap (packs_tuple ForceAll) c.as_slice.ensures.value) ∙ c.if-packs.true in
-    marker_packed g.W.Sink c.in-Some.bytes _ yes_packs (kept_some c.in-Some.bytes c.in-Some.is c.if-not-probing.false) _ _ c.serialize_bytes.result
-    c.serialize_bytes.ensures.marker
+    ended_packed g.W.Sink c.in-Some.bytes _ yes_packs (kept_some c.in-Some.bytes c.in-Some.is c.if-not-probing.false) c.serialize_bytes.result
+    (rw c.as_slice-then-packs.ensures.value at c.serialize_bytes.ensures.writes) c.serialize_bytes.ensures.marker
 
 pub returns-in_err-put_head-clause-marker : goal.returns-in_err-put_head-clause-marker
 returns-in_err-put_head-clause-marker g c =
     let no_packs = sym (c.packs.ensures ∙ ap (packs_tuple ForceAll) c.as_slice.ensures.value) ∙ c.if-packs.false in
     let p = err_from_is_err_and c.from_residual.result c.from_residual.ensures.1 in
-    rw (p.1, p.2) (marker_no_head g.W.Sink c.in-Some.bytes _ no_packs (kept_some c.in-Some.bytes c.in-Some.is c.if-not-probing.false)
-    c.in_err-put_head.ensures.writes c.in_err-put_head.ensures.marker)
+    rw (p.1, p.2) (ended_listed g.W.Sink c.in-Some.bytes _ no_packs (kept_some c.in-Some.bytes c.in-Some.is c.if-not-probing.false) (Err _)
+    (part_stops g.W.Sink {B = Unit {0}} {Q = Unit {0}} _ c.in_err-put_head.ensures.writes) c.in_err-put_head.ensures.marker)
 
 pub returns-clause-marker : goal.returns-clause-marker
 returns-clause-marker g c =
     let no_packs = sym (c.packs.ensures ∙ ap (packs_tuple ForceAll) c.as_slice.ensures.value) ∙ c.if-packs.false in
-    marker_numbers g.W.Sink c.in-Some.bytes _ no_packs (kept_some c.in-Some.bytes c.in-Some.is c.if-not-probing.false) _ c.put_numbers.result
-    c.in_ok-put_head.ensures.writes (rw c.as_slice-2.ensures.value at c.put_numbers.ensures.marker)
+    ended_listed g.W.Sink c.in-Some.bytes _ no_packs (kept_some c.in-Some.bytes c.in-Some.is c.if-not-probing.false) c.put.result
+    ((rw c.as_slice-2.ensures.value at c.put.ensures.writes) _ _ (head_at_some _ _) c.in_ok-put_head.ensures.writes)
+    (none_by_never g.W.Sink _ _ c.put.result c.put.ensures.marker)
 
 pub returns-then-packs-clause-error : goal.returns-then-packs-clause-error
 returns-then-packs-clause-error g c = λ old t h. on_fits _ c.serialize_bytes.result
@@ -66,6 +76,3 @@ pub returns-in_err-put_head-clause-error : goal.returns-in_err-put_head-clause-e
 returns-in_err-put_head-clause-error g c =
     let p = err_from_is_err_and c.from_residual.result c.from_residual.ensures.1 in
     rw (p.1, p.2) (λ old t h. c.in_err-put_head.ensures.error)
-
-pub returns-clause-error : goal.returns-clause-error
-returns-clause-error g c = λ old t h. on_cause _ _ _ c.put_numbers.result c.put_numbers.ensures.writes.cause

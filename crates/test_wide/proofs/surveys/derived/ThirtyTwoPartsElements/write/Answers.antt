@@ -5,6 +5,8 @@ use Rattle.rmp_encode.specs.Ser.{sink_of, settings_of}
 use Rattle.rmp_encode.proofs.Going.{going_more, keeps_then}
 use Rattle.rmp_encode.proofs.Parts.{front_or, back_or, part_takes}
 use Rattle.rmp_encode.proofs.Refusals.{of_front, on_back}
+use Rattle.rmp_encode.proofs.Markers.{pieces_as, pieces_stop, pieces_then}
+use Rattle.rmp_encode.specs.Markers.{value_of}
 use Rattle.test_wide.proofs.surveys.derived.ThirtyTwoPartsElements.write.Goals as goal
 
 pub returns-in_err-write-clause-writes : goal.returns-in_err-write-clause-writes
@@ -129,3 +131,61 @@ returns-clause-error g c = on_back ⊥ (g.E1.Serialize.refuses c.args.self.now.f
     ∷ (g.E30.Serialize.refuses c.args.self.now.thirtieth.now
     ∷ (g.E31.Serialize.refuses c.args.self.now.thirty_first.now ∷ (g.E32.Serialize.refuses c.args.self.now.thirty_second.now ∷ []))))))))))))))))
     c.write-2.result c.write-2.ensures.error
+
+pub returns-in_err-write-clause-marker : goal.returns-in_err-write-clause-marker
+returns-in_err-write-clause-marker g c =
+    let p = err_from_is_err_and c.from_residual.result c.from_residual.ensures.1 in
+    rw (p.1, p.2) (pieces_stop g.W.Sink (value_of (settings_of c.args.se.now)
+    (g.E17.Serialize.data_of c.args.self.now.seventeenth.now ((settings_of c.args.se.now)).human)
+    (g.E17.Serialize.marks c.args.self.now.seventeenth.now (settings_of c.args.se.now))
+    ∷ (value_of (settings_of c.args.se.now) (g.E18.Serialize.data_of c.args.self.now.eighteenth.now ((settings_of c.args.se.now)).human)
+    (g.E18.Serialize.marks c.args.self.now.eighteenth.now (settings_of c.args.se.now))
+    ∷ (value_of (settings_of c.args.se.now) (g.E19.Serialize.data_of c.args.self.now.nineteenth.now ((settings_of c.args.se.now)).human)
+    (g.E19.Serialize.marks c.args.self.now.nineteenth.now (settings_of c.args.se.now))
+    ∷ (value_of (settings_of c.args.se.now) (g.E20.Serialize.data_of c.args.self.now.twentieth.now ((settings_of c.args.se.now)).human)
+    (g.E20.Serialize.marks c.args.self.now.twentieth.now (settings_of c.args.se.now))
+    ∷ (value_of (settings_of c.args.se.now) (g.E21.Serialize.data_of c.args.self.now.twenty_first.now ((settings_of c.args.se.now)).human)
+    (g.E21.Serialize.marks c.args.self.now.twenty_first.now (settings_of c.args.se.now))
+    ∷ (value_of (settings_of c.args.se.now) (g.E22.Serialize.data_of c.args.self.now.twenty_second.now ((settings_of c.args.se.now)).human)
+    (g.E22.Serialize.marks c.args.self.now.twenty_second.now (settings_of c.args.se.now))
+    ∷ (value_of (settings_of c.args.se.now) (g.E23.Serialize.data_of c.args.self.now.twenty_third.now ((settings_of c.args.se.now)).human)
+    (g.E23.Serialize.marks c.args.self.now.twenty_third.now (settings_of c.args.se.now))
+    ∷ (value_of (settings_of c.args.se.now) (g.E24.Serialize.data_of c.args.self.now.twenty_fourth.now ((settings_of c.args.se.now)).human)
+    (g.E24.Serialize.marks c.args.self.now.twenty_fourth.now (settings_of c.args.se.now))
+    ∷ (value_of (settings_of c.args.se.now) (g.E25.Serialize.data_of c.args.self.now.twenty_fifth.now ((settings_of c.args.se.now)).human)
+    (g.E25.Serialize.marks c.args.self.now.twenty_fifth.now (settings_of c.args.se.now))
+    ∷ (value_of (settings_of c.args.se.now) (g.E26.Serialize.data_of c.args.self.now.twenty_sixth.now ((settings_of c.args.se.now)).human)
+    (g.E26.Serialize.marks c.args.self.now.twenty_sixth.now (settings_of c.args.se.now))
+    ∷ (value_of (settings_of c.args.se.now) (g.E27.Serialize.data_of c.args.self.now.twenty_seventh.now ((settings_of c.args.se.now)).human)
+    (g.E27.Serialize.marks c.args.self.now.twenty_seventh.now (settings_of c.args.se.now))
+    ∷ (value_of (settings_of c.args.se.now) (g.E28.Serialize.data_of c.args.self.now.twenty_eighth.now ((settings_of c.args.se.now)).human)
+    (g.E28.Serialize.marks c.args.self.now.twenty_eighth.now (settings_of c.args.se.now))
+    ∷ (value_of (settings_of c.args.se.now) (g.E29.Serialize.data_of c.args.self.now.twenty_ninth.now ((settings_of c.args.se.now)).human)
+    (g.E29.Serialize.marks c.args.self.now.twenty_ninth.now (settings_of c.args.se.now))
+    ∷ (value_of (settings_of c.args.se.now) (g.E30.Serialize.data_of c.args.self.now.thirtieth.now ((settings_of c.args.se.now)).human)
+    (g.E30.Serialize.marks c.args.self.now.thirtieth.now (settings_of c.args.se.now))
+    ∷ (value_of (settings_of c.args.se.now) (g.E31.Serialize.data_of c.args.self.now.thirty_first.now ((settings_of c.args.se.now)).human)
+    (g.E31.Serialize.marks c.args.self.now.thirty_first.now (settings_of c.args.se.now))
+    ∷ (value_of (settings_of c.args.se.now) (g.E32.Serialize.data_of c.args.self.now.thirty_second.now ((settings_of c.args.se.now)).human)
+    (g.E32.Serialize.marks c.args.self.now.thirty_second.now (settings_of c.args.se.now)) ∷ [])))))))))))))))) c.in_err-write.ensures.marker)
+
+pub returns-clause-marker : goal.returns-clause-marker
+returns-clause-marker g c = pieces_then g.W.Sink c.write-2.result c.in_ok-write.ensures.marker
+    (pieces_as g.W.Sink (λ s. (value_of s (g.E17.Serialize.data_of c.args.self.now.seventeenth.now (s).human)
+    (g.E17.Serialize.marks c.args.self.now.seventeenth.now s)
+    ∷ (value_of s (g.E18.Serialize.data_of c.args.self.now.eighteenth.now (s).human) (g.E18.Serialize.marks c.args.self.now.eighteenth.now s)
+    ∷ (value_of s (g.E19.Serialize.data_of c.args.self.now.nineteenth.now (s).human) (g.E19.Serialize.marks c.args.self.now.nineteenth.now s)
+    ∷ (value_of s (g.E20.Serialize.data_of c.args.self.now.twentieth.now (s).human) (g.E20.Serialize.marks c.args.self.now.twentieth.now s)
+    ∷ (value_of s (g.E21.Serialize.data_of c.args.self.now.twenty_first.now (s).human) (g.E21.Serialize.marks c.args.self.now.twenty_first.now s)
+    ∷ (value_of s (g.E22.Serialize.data_of c.args.self.now.twenty_second.now (s).human) (g.E22.Serialize.marks c.args.self.now.twenty_second.now s)
+    ∷ (value_of s (g.E23.Serialize.data_of c.args.self.now.twenty_third.now (s).human) (g.E23.Serialize.marks c.args.self.now.twenty_third.now s)
+    ∷ (value_of s (g.E24.Serialize.data_of c.args.self.now.twenty_fourth.now (s).human) (g.E24.Serialize.marks c.args.self.now.twenty_fourth.now s)
+    ∷ (value_of s (g.E25.Serialize.data_of c.args.self.now.twenty_fifth.now (s).human) (g.E25.Serialize.marks c.args.self.now.twenty_fifth.now s)
+    ∷ (value_of s (g.E26.Serialize.data_of c.args.self.now.twenty_sixth.now (s).human) (g.E26.Serialize.marks c.args.self.now.twenty_sixth.now s)
+    ∷ (value_of s (g.E27.Serialize.data_of c.args.self.now.twenty_seventh.now (s).human) (g.E27.Serialize.marks c.args.self.now.twenty_seventh.now s)
+    ∷ (value_of s (g.E28.Serialize.data_of c.args.self.now.twenty_eighth.now (s).human) (g.E28.Serialize.marks c.args.self.now.twenty_eighth.now s)
+    ∷ (value_of s (g.E29.Serialize.data_of c.args.self.now.twenty_ninth.now (s).human) (g.E29.Serialize.marks c.args.self.now.twenty_ninth.now s)
+    ∷ (value_of s (g.E30.Serialize.data_of c.args.self.now.thirtieth.now (s).human) (g.E30.Serialize.marks c.args.self.now.thirtieth.now s)
+    ∷ (value_of s (g.E31.Serialize.data_of c.args.self.now.thirty_first.now (s).human) (g.E31.Serialize.marks c.args.self.now.thirty_first.now s)
+    ∷ (value_of s (g.E32.Serialize.data_of c.args.self.now.thirty_second.now (s).human) (g.E32.Serialize.marks c.args.self.now.thirty_second.now s)
+    ∷ []))))))))))))))))) c.write.ensures.keeps.settings c.write-2.ensures.marker)
