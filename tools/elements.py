@@ -2,11 +2,12 @@
 from __future__ import annotations
 
 import halves
-from halves import FIELDS, NAMES, USES, data, kinds, memory, refusals, returned
+from halves import FIELDS, NAMES, SETTINGS, USES, data, kinds, memory, piece, pieces, refusals, returned
 from shared import Answers, bracketed, numbered
 
 HEAD = """//! One to eight elements of several types. Written by tools/tuples.py.
 ghost use Rattle.std.specs.Prelude.{◌∷◌, [], refl};
+ghost use Rattle.rmp_encode.specs.Markers.{value_of};
 ghost use Rattle.rmp_encode.specs.Sizes.{one_of};
 
 use crate::elements::Elements;
@@ -86,6 +87,34 @@ def refusal(i: int, count: int, word: str, error: str) -> str:
     return f"(of_back {long} {refusals(0, i)} {refusals(i, i + 1)} _ {term})" if i else term
 
 
+def written(i: int, word: str, result: str) -> str:
+    """What one call wrote of the element at a place, under the settings at the beginning."""
+    got = f"c.in_{result.lower()}-{numbered(word, i)}.ensures"
+    settings = f"{keeps(word, i)}.settings" if i else "refl"
+    lowered = f"(λ s. g.E{i + 1}.Serialize.data_of c.args.self.now.{FIELDS[i]}.now s.human)"
+    marks = f"(g.E{i + 1}.Serialize.marks c.args.self.now.{FIELDS[i]}.now)"
+    if word == "put_field":
+        return f"(field_piece g.W.Sink {lowered} {marks} _ {settings} {got}.order)"
+    now = f"c.{numbered(word, i - 1)}.new.se" if i else "c.args.se.now"
+    marker = f"{got}.marker" if result == "Err" else "tt"
+    return f"(value_piece g.W.Sink {lowered} {marks} {now} ({result} _) {settings} {got}.writes {marker})"
+
+
+def order(i: int, count: int, word: str, last: int, result: str) -> str:
+    """What was written of the elements from this one on, up to the last, whose call had this result."""
+    rest = pieces(i + 1, count)
+    more = f"(pieces_by {SETTINGS}.named (drop ({i} + 1) c.args.names.now) {rest})" if word == "put_field" else rest
+    if i < last:
+        step = f"(pieces_then g.W.Sink ({result} _) {written(i, word, 'Ok')} {order(i + 1, count, word, last, result)})"
+    elif result == "Err":
+        step = f"(pieces_stop g.W.Sink {more} {written(i, word, result)})" if word == "put_field" or i + 1 < count else written(i, word, result)
+    else:
+        step = f"(no_more g.W.Sink (Ok _) {written(i, word, result)})" if word == "put_field" else written(i, word, result)
+    if word == "serialize":
+        return step
+    return f"(next_pieces g.W.Sink {SETTINGS}.named c.args.names.now {i} _ ({piece(i, SETTINGS)}) {rest} (omega (arith, c.requires)) {step})"
+
+
 def one_by_one(count: int, word: str) -> Answers:
     """The answers of a body that writes each element by this call."""
     terms = {}
@@ -96,9 +125,11 @@ def one_by_one(count: int, word: str) -> Answers:
         terms[f"returns-{call}-clause-writes"] = returned(residual, "(λ old t rest h. part_takes g.W.Sink _"
             f" (one_of_or g.W.Sink.takes_memory {memory(0, count)} {i})\n    {failed})")
         terms[f"returns-{call}-clause-error"] = returned(residual, refusal(i, count, word, f"c.{call}.ensures.error"))
+        terms[f"returns-{call}-clause-marker"] = returned(residual, order(0, count, word, i, "Err"))
         if i:
             terms[f"returns-{call}-clause-keeps"] = keeps(word, i + 1)
     terms["returns-clause-writes"] = f"λ old t rest h. {state(word, count, count)}"
+    terms["returns-clause-marker"] = order(0, count, word, count - 1, "Ok")
     if count > 1:
         terms["returns-clause-keeps"] = keeps(word, count)
     return Answers(USES, terms)

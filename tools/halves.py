@@ -17,7 +17,7 @@ MORE = ("NineParts TenParts ElevenParts TwelveParts ThirteenParts FourteenParts 
 
 # What proofs of writes may name.
 USES = {
-    "std.proofs.Common": "inl inr arith rules refl ◌∷◌ []",
+    "std.proofs.Common": "inl inr arith rules refl length take drop ◌+◌ ◌-◌ ◌∷◌ []",
     "std.specs.Prelude": "◌||◌ Ok Err",
     "std.proofs.lemmas.Result": "err_from_is_err_and",
     "rmp_encode.specs.Going": "IsWriting",
@@ -28,7 +28,11 @@ USES = {
     "rmp_encode.proofs.Parts": "rests_at part_or front_or back_or one_of_or part_takes or_front or_one_of",
     "rmp_encode.proofs.Refusals": "long_name long_rest long_take of_back of_front of_no_part on_back on_no_part on_parts_weaker parts_weaker unopened_by_sink",
     "rmp_encode.specs.Refusals": "lengths AnyLong",
+    "rmp_encode.proofs.Markers": "field_piece next_pieces no_more pieces_as pieces_halves pieces_stop pieces_then value_piece",
+    "rmp_encode.specs.Markers": "pieces_by value_of",
 }
+# The settings that a call begins with.
+SETTINGS = "(settings_of c.args.se.now)"
 
 
 def kinds(n: int) -> list[str]:
@@ -62,6 +66,7 @@ def implementation(name: str, n: int, elements: str, named: str, path: str = "")
     """`Elements` of the struct with this name, by these bodies."""
     names = kinds(n)
     fields = list(zip(names, FIELDS))
+    pieces = in_a_row(f"\n        value_of s ({kind}.data_of v.{field}.now s.human) ({kind}.marks v.{field}.now s)" for kind, field in fields)
     return f"""
 impl<'r, {bounded(names, "Serialize")}> Elements for {name}<'r, {", ".join(names)}> {{
     ghost count = {{ {n} }};
@@ -73,6 +78,8 @@ impl<'r, {bounded(names, "Serialize")}> Elements for {name}<'r, {", ".join(names
     ghost refusals = {{ λ v. {in_a_row(f"{kind}.refuses v.{field}.now" for kind, field in fields)} }};
 
     ghost takes_memory = {{ λ s. one_of {bracketed([f"{kind}.takes_memory s" for kind in names])} }};
+
+    ghost pieces = {{ λ v s.{pieces} }};
 
     ghost counted = {{ λ v human. refl }};
 
@@ -118,9 +125,22 @@ def refusals(start: int, end: int) -> str:
     return bracketed([f"g.E{i + 1}.Serialize.refuses c.args.self.now.{FIELDS[i]}.now" for i in range(start, end)])
 
 
+def piece(i: int, settings: str) -> str:
+    """One of them, as it is written under these settings."""
+    of = f"g.E{i + 1}.Serialize"
+    value = f"c.args.self.now.{FIELDS[i]}.now"
+    return f"value_of {settings} ({of}.data_of {value} {settings}.human) ({of}.marks {value} {settings})"
+
+
+def pieces(start: int, end: int, settings: str = SETTINGS) -> str:
+    """Each of them."""
+    return bracketed([piece(i, settings) for i in range(start, end)])
+
+
 def by_halves(n: int, k: int, word: str) -> Answers:
     """The answers of one of these bodies, `write` or `write_fields`."""
     long, first = "⊥", "h"
+    order, rest, back = "", pieces(k, n), pieces(k, n, "s")
     front_error, back_error = f"c.in_err-{word}.ensures.error", f"c.{word}-2.ensures.error"
     if word == "write_fields":
         names = "c.args.names.now"
@@ -128,6 +148,9 @@ def by_halves(n: int, k: int, word: str) -> Answers:
         first = f"(named_halves g.W.Sink {names} {k} {bracketed(data(0, k))} {bracketed(data(k, n))} rest refl (omega (arith, c.requires)) h)"
         front_error = f"(parts_weaker (long_take {k} {names}) {refusals(0, k)} _ {front_error})"
         back_error = f"(on_parts_weaker (long_rest {k} _ {names}) {refusals(k, n)} c.{word}-2.result {back_error})"
+        later = f"(take (length {names} - {k}) (drop {k} {names}))"
+        order = f"pieces_halves g.W.Sink {SETTINGS}.named {names} {k}\n    {pieces(0, k)}\n    {rest} refl (omega (arith, c.requires))\n    "
+        rest, back = f"(pieces_by {SETTINGS}.named {later}\n    {rest})", f"pieces_by s.named {later} {back}"
     halves = f"_or g.W.Sink.takes_memory {memory(0, k)} {memory(k, n)}"
     return Answers(USES, {
         f"returns-in_err-{word}-clause-writes": returned("c.from_residual", f"(λ old t rest h. part_takes g.W.Sink _ (front{halves})\n"
@@ -136,6 +159,9 @@ def by_halves(n: int, k: int, word: str) -> Answers:
             f"    (sink_of c.{word}-2.new.se) c.{word}-2.result (back{halves})\n"
             f"    (c.{word}-2.ensures.writes old t rest (c.in_ok-{word}.ensures.writes old t _ {first}))",
         "returns-clause-keeps": f"keeps_then g.W.Sink c.{word}.ensures.keeps c.{word}-2.ensures.keeps",
+        f"returns-in_err-{word}-clause-marker": returned("c.from_residual", f"({order}(pieces_stop g.W.Sink {rest} c.in_err-{word}.ensures.marker))"),
+        "returns-clause-marker": f"{order}(pieces_then g.W.Sink c.{word}-2.result c.in_ok-{word}.ensures.marker\n"
+            f"    (pieces_as g.W.Sink (λ s. {back}) c.{word}.ensures.keeps.settings c.{word}-2.ensures.marker))",
         f"returns-in_err-{word}-clause-error": returned("c.from_residual", f"(of_front {long} {refusals(0, k)} {refusals(k, n)} _ {front_error})"),
         "returns-clause-error": f"on_back {long} {refusals(0, k)} {refusals(k, n)} c.{word}-2.result {back_error}",
     })

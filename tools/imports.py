@@ -8,7 +8,9 @@ LONGEST = 160
 def has_word(text, name):
     """Whether a text has a name, or an operator's sign."""
     sign = name.replace("◌", "")
-    return sign in text if not sign.isidentifier() else re.search(rf"(?<![\w.:]){sign}\b", text) is not None
+    if sign.isidentifier():
+        return re.search(rf"(?<![\w.:]){sign}\b", text) is not None
+    return (f" {sign} " if len(name) == len(sign) + 2 else sign) in text
 
 
 def short_lines(module, names, line):

@@ -24,9 +24,9 @@ returns-in_err-serialize-clause-error g c =
 pub returns-in_err-serialize-clause-marker : goal.returns-in_err-serialize-clause-marker
 returns-in_err-serialize-clause-marker g c =
     let p = err_from_is_err_and c.from_residual.result c.from_residual.ensures.1 in
-    rw (p.1, p.2) (pieces_stop g.W.Sink ((value_of (settings_of c.args.se.now)
-    (g.E2.Serialize.data_of c.args.self.now.second.now ((settings_of c.args.se.now)).human)
-    (g.E2.Serialize.marks c.args.self.now.second.now (settings_of c.args.se.now))) ∷ [])
+    rw (p.1, p.2) (pieces_stop g.W.Sink (value_of (settings_of c.args.se.now)
+    (g.E2.Serialize.data_of c.args.self.now.second.now (settings_of c.args.se.now).human)
+    (g.E2.Serialize.marks c.args.self.now.second.now (settings_of c.args.se.now)) ∷ [])
     (value_piece g.W.Sink (λ s. g.E1.Serialize.data_of c.args.self.now.first.now s.human) (g.E1.Serialize.marks c.args.self.now.first.now) c.args.se.now
     (Err _) refl c.in_err-serialize.ensures.writes c.in_err-serialize.ensures.marker))
 

@@ -1,4 +1,5 @@
 use Rattle.std.proofs.Common.{arith, refl, drop, ◌+◌, ◌∷◌, []}
+use Rattle.std.specs.Prelude.{Ok, Err}
 use Rattle.std.proofs.lemmas.Result.{err_from_is_err_and}
 use Rattle.rmp_encode.specs.Ser.{settings_of}
 use Rattle.rmp_encode.proofs.Fields.{next_named}
@@ -8,7 +9,6 @@ use Rattle.rmp_encode.proofs.Refusals.{long_name, of_back, of_front, parts_weake
 use Rattle.rmp_encode.specs.Refusals.{lengths, AnyLong}
 use Rattle.rmp_encode.proofs.Markers.{field_piece, next_pieces, no_more, pieces_stop, pieces_then}
 use Rattle.rmp_encode.specs.Markers.{pieces_by, value_of}
-use Rattle.std.specs.Prelude.{Ok, Err}
 use Rattle.rmp_encode.proofs.elements.kinds.BothElements.write_fields.Goals as goal
 
 pub returns-in_err-put_field-clause-writes : goal.returns-in_err-put_field-clause-writes
@@ -32,13 +32,13 @@ pub returns-in_err-put_field-clause-marker : goal.returns-in_err-put_field-claus
 returns-in_err-put_field-clause-marker g c =
     let p = err_from_is_err_and c.from_residual.result c.from_residual.ensures.1 in
     rw (p.1, p.2) (next_pieces g.W.Sink (settings_of c.args.se.now).named c.args.names.now 0 _
-    (value_of (settings_of c.args.se.now) (g.E1.Serialize.data_of c.args.self.now.first.now ((settings_of c.args.se.now)).human)
+    (value_of (settings_of c.args.se.now) (g.E1.Serialize.data_of c.args.self.now.first.now (settings_of c.args.se.now).human)
     (g.E1.Serialize.marks c.args.self.now.first.now (settings_of c.args.se.now)))
-    ((value_of (settings_of c.args.se.now) (g.E2.Serialize.data_of c.args.self.now.second.now ((settings_of c.args.se.now)).human)
-    (g.E2.Serialize.marks c.args.self.now.second.now (settings_of c.args.se.now))) ∷ []) (omega (arith, c.requires))
+    (value_of (settings_of c.args.se.now) (g.E2.Serialize.data_of c.args.self.now.second.now (settings_of c.args.se.now).human)
+    (g.E2.Serialize.marks c.args.self.now.second.now (settings_of c.args.se.now)) ∷ []) (omega (arith, c.requires))
     (pieces_stop g.W.Sink (pieces_by (settings_of c.args.se.now).named (drop (0 + 1) c.args.names.now)
-    ((value_of (settings_of c.args.se.now) (g.E2.Serialize.data_of c.args.self.now.second.now ((settings_of c.args.se.now)).human)
-    (g.E2.Serialize.marks c.args.self.now.second.now (settings_of c.args.se.now))) ∷ []))
+    (value_of (settings_of c.args.se.now) (g.E2.Serialize.data_of c.args.self.now.second.now (settings_of c.args.se.now).human)
+    (g.E2.Serialize.marks c.args.self.now.second.now (settings_of c.args.se.now)) ∷ []))
     (field_piece g.W.Sink (λ s. g.E1.Serialize.data_of c.args.self.now.first.now s.human) (g.E1.Serialize.marks c.args.self.now.first.now) _ refl
     c.in_err-put_field.ensures.order)))
 
@@ -65,14 +65,14 @@ pub returns-in_err-put_field-2-clause-marker : goal.returns-in_err-put_field-2-c
 returns-in_err-put_field-2-clause-marker g c =
     let p = err_from_is_err_and c.from_residual-in_err-put_field-2.result c.from_residual-in_err-put_field-2.ensures.1 in
     rw (p.1, p.2) (next_pieces g.W.Sink (settings_of c.args.se.now).named c.args.names.now 0 _
-    (value_of (settings_of c.args.se.now) (g.E1.Serialize.data_of c.args.self.now.first.now ((settings_of c.args.se.now)).human)
+    (value_of (settings_of c.args.se.now) (g.E1.Serialize.data_of c.args.self.now.first.now (settings_of c.args.se.now).human)
     (g.E1.Serialize.marks c.args.self.now.first.now (settings_of c.args.se.now)))
-    ((value_of (settings_of c.args.se.now) (g.E2.Serialize.data_of c.args.self.now.second.now ((settings_of c.args.se.now)).human)
-    (g.E2.Serialize.marks c.args.self.now.second.now (settings_of c.args.se.now))) ∷ []) (omega (arith, c.requires))
+    (value_of (settings_of c.args.se.now) (g.E2.Serialize.data_of c.args.self.now.second.now (settings_of c.args.se.now).human)
+    (g.E2.Serialize.marks c.args.self.now.second.now (settings_of c.args.se.now)) ∷ []) (omega (arith, c.requires))
     (pieces_then g.W.Sink (Err _) (field_piece g.W.Sink (λ s. g.E1.Serialize.data_of c.args.self.now.first.now s.human)
     (g.E1.Serialize.marks c.args.self.now.first.now) _ refl c.in_ok-put_field.ensures.order)
     (next_pieces g.W.Sink (settings_of c.args.se.now).named c.args.names.now 1 _
-    (value_of (settings_of c.args.se.now) (g.E2.Serialize.data_of c.args.self.now.second.now ((settings_of c.args.se.now)).human)
+    (value_of (settings_of c.args.se.now) (g.E2.Serialize.data_of c.args.self.now.second.now (settings_of c.args.se.now).human)
     (g.E2.Serialize.marks c.args.self.now.second.now (settings_of c.args.se.now))) [] (omega (arith, c.requires))
     (pieces_stop g.W.Sink (pieces_by (settings_of c.args.se.now).named (drop (1 + 1) c.args.names.now) [])
     (field_piece g.W.Sink (λ s. g.E2.Serialize.data_of c.args.self.now.second.now s.human) (g.E2.Serialize.marks c.args.self.now.second.now) _
@@ -90,14 +90,14 @@ returns-clause-writes g c = λ old t rest h. (c.in_ok-put_field-2.ensures.writes
 
 pub returns-clause-marker : goal.returns-clause-marker
 returns-clause-marker g c = (next_pieces g.W.Sink (settings_of c.args.se.now).named c.args.names.now 0 _
-    (value_of (settings_of c.args.se.now) (g.E1.Serialize.data_of c.args.self.now.first.now ((settings_of c.args.se.now)).human)
+    (value_of (settings_of c.args.se.now) (g.E1.Serialize.data_of c.args.self.now.first.now (settings_of c.args.se.now).human)
     (g.E1.Serialize.marks c.args.self.now.first.now (settings_of c.args.se.now)))
-    ((value_of (settings_of c.args.se.now) (g.E2.Serialize.data_of c.args.self.now.second.now ((settings_of c.args.se.now)).human)
-    (g.E2.Serialize.marks c.args.self.now.second.now (settings_of c.args.se.now))) ∷ []) (omega (arith, c.requires))
+    (value_of (settings_of c.args.se.now) (g.E2.Serialize.data_of c.args.self.now.second.now (settings_of c.args.se.now).human)
+    (g.E2.Serialize.marks c.args.self.now.second.now (settings_of c.args.se.now)) ∷ []) (omega (arith, c.requires))
     (pieces_then g.W.Sink (Ok _) (field_piece g.W.Sink (λ s. g.E1.Serialize.data_of c.args.self.now.first.now s.human)
     (g.E1.Serialize.marks c.args.self.now.first.now) _ refl c.in_ok-put_field.ensures.order)
     (next_pieces g.W.Sink (settings_of c.args.se.now).named c.args.names.now 1 _
-    (value_of (settings_of c.args.se.now) (g.E2.Serialize.data_of c.args.self.now.second.now ((settings_of c.args.se.now)).human)
+    (value_of (settings_of c.args.se.now) (g.E2.Serialize.data_of c.args.self.now.second.now (settings_of c.args.se.now).human)
     (g.E2.Serialize.marks c.args.self.now.second.now (settings_of c.args.se.now))) [] (omega (arith, c.requires))
     (no_more g.W.Sink (Ok _) (field_piece g.W.Sink (λ s. g.E2.Serialize.data_of c.args.self.now.second.now s.human)
     (g.E2.Serialize.marks c.args.self.now.second.now) _ c.put_field.ensures.keeps.settings c.in_ok-put_field-2.ensures.order)))))

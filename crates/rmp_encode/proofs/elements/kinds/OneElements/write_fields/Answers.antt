@@ -1,4 +1,5 @@
 use Rattle.std.proofs.Common.{arith, refl, drop, ◌+◌, ◌∷◌, []}
+use Rattle.std.specs.Prelude.{Ok}
 use Rattle.std.proofs.lemmas.Result.{err_from_is_err_and}
 use Rattle.rmp_encode.specs.Ser.{settings_of}
 use Rattle.rmp_encode.proofs.Fields.{next_named}
@@ -6,7 +7,6 @@ use Rattle.rmp_encode.proofs.Parts.{one_of_or, part_takes}
 use Rattle.rmp_encode.proofs.Refusals.{long_name, parts_weaker}
 use Rattle.rmp_encode.proofs.Markers.{field_piece, next_pieces, no_more, pieces_stop}
 use Rattle.rmp_encode.specs.Markers.{pieces_by, value_of}
-use Rattle.std.specs.Prelude.{Ok, Err}
 use Rattle.rmp_encode.proofs.elements.kinds.OneElements.write_fields.Goals as goal
 
 pub returns-in_err-put_field-clause-writes : goal.returns-in_err-put_field-clause-writes
@@ -26,7 +26,7 @@ pub returns-in_err-put_field-clause-marker : goal.returns-in_err-put_field-claus
 returns-in_err-put_field-clause-marker g c =
     let p = err_from_is_err_and c.from_residual.result c.from_residual.ensures.1 in
     rw (p.1, p.2) (next_pieces g.W.Sink (settings_of c.args.se.now).named c.args.names.now 0 _
-    (value_of (settings_of c.args.se.now) (g.E1.Serialize.data_of c.args.self.now.first.now ((settings_of c.args.se.now)).human)
+    (value_of (settings_of c.args.se.now) (g.E1.Serialize.data_of c.args.self.now.first.now (settings_of c.args.se.now).human)
     (g.E1.Serialize.marks c.args.self.now.first.now (settings_of c.args.se.now))) [] (omega (arith, c.requires))
     (pieces_stop g.W.Sink (pieces_by (settings_of c.args.se.now).named (drop (0 + 1) c.args.names.now) [])
     (field_piece g.W.Sink (λ s. g.E1.Serialize.data_of c.args.self.now.first.now s.human) (g.E1.Serialize.marks c.args.self.now.first.now) _ refl
@@ -39,7 +39,7 @@ returns-clause-writes g c = λ old t rest h. (c.in_ok-put_field.ensures.writes o
 
 pub returns-clause-marker : goal.returns-clause-marker
 returns-clause-marker g c = (next_pieces g.W.Sink (settings_of c.args.se.now).named c.args.names.now 0 _
-    (value_of (settings_of c.args.se.now) (g.E1.Serialize.data_of c.args.self.now.first.now ((settings_of c.args.se.now)).human)
+    (value_of (settings_of c.args.se.now) (g.E1.Serialize.data_of c.args.self.now.first.now (settings_of c.args.se.now).human)
     (g.E1.Serialize.marks c.args.self.now.first.now (settings_of c.args.se.now))) [] (omega (arith, c.requires))
     (no_more g.W.Sink (Ok _) (field_piece g.W.Sink (λ s. g.E1.Serialize.data_of c.args.self.now.first.now s.human)
     (g.E1.Serialize.marks c.args.self.now.first.now) _ refl c.in_ok-put_field.ensures.order)))

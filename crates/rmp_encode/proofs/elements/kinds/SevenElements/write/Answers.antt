@@ -32,6 +32,24 @@ returns-clause-writes g c = λ old t rest h. going_more g.W.Sink (IsWriting g.W.
 pub returns-clause-keeps : goal.returns-clause-keeps
 returns-clause-keeps g c = keeps_then g.W.Sink c.write.ensures.keeps c.write-2.ensures.keeps
 
+pub returns-in_err-write-clause-marker : goal.returns-in_err-write-clause-marker
+returns-in_err-write-clause-marker g c =
+    let p = err_from_is_err_and c.from_residual.result c.from_residual.ensures.1 in
+    rw (p.1, p.2) ((pieces_stop g.W.Sink (value_of (settings_of c.args.se.now)
+    (g.E5.Serialize.data_of c.args.self.now.fifth.now (settings_of c.args.se.now).human)
+    (g.E5.Serialize.marks c.args.self.now.fifth.now (settings_of c.args.se.now))
+    ∷ (value_of (settings_of c.args.se.now) (g.E6.Serialize.data_of c.args.self.now.sixth.now (settings_of c.args.se.now).human)
+    (g.E6.Serialize.marks c.args.self.now.sixth.now (settings_of c.args.se.now))
+    ∷ (value_of (settings_of c.args.se.now) (g.E7.Serialize.data_of c.args.self.now.seventh.now (settings_of c.args.se.now).human)
+    (g.E7.Serialize.marks c.args.self.now.seventh.now (settings_of c.args.se.now)) ∷ []))) c.in_err-write.ensures.marker))
+
+pub returns-clause-marker : goal.returns-clause-marker
+returns-clause-marker g c = (pieces_then g.W.Sink c.write-2.result c.in_ok-write.ensures.marker
+    (pieces_as g.W.Sink (λ s. (value_of s (g.E5.Serialize.data_of c.args.self.now.fifth.now s.human) (g.E5.Serialize.marks c.args.self.now.fifth.now s)
+    ∷ (value_of s (g.E6.Serialize.data_of c.args.self.now.sixth.now s.human) (g.E6.Serialize.marks c.args.self.now.sixth.now s)
+    ∷ (value_of s (g.E7.Serialize.data_of c.args.self.now.seventh.now s.human) (g.E7.Serialize.marks c.args.self.now.seventh.now s) ∷ []))))
+    c.write.ensures.keeps.settings c.write-2.ensures.marker))
+
 pub returns-in_err-write-clause-error : goal.returns-in_err-write-clause-error
 returns-in_err-write-clause-error g c =
     let p = err_from_is_err_and c.from_residual.result c.from_residual.ensures.1 in
@@ -47,21 +65,3 @@ returns-clause-error g c = on_back ⊥ (g.E1.Serialize.refuses c.args.self.now.f
     ∷ (g.E3.Serialize.refuses c.args.self.now.third.now ∷ (g.E4.Serialize.refuses c.args.self.now.fourth.now ∷ []))))
     (g.E5.Serialize.refuses c.args.self.now.fifth.now ∷
     (g.E6.Serialize.refuses c.args.self.now.sixth.now ∷ (g.E7.Serialize.refuses c.args.self.now.seventh.now ∷ []))) c.write-2.result c.write-2.ensures.error
-
-pub returns-in_err-write-clause-marker : goal.returns-in_err-write-clause-marker
-returns-in_err-write-clause-marker g c =
-    let p = err_from_is_err_and c.from_residual.result c.from_residual.ensures.1 in
-    rw (p.1, p.2) (pieces_stop g.W.Sink (value_of (settings_of c.args.se.now)
-    (g.E5.Serialize.data_of c.args.self.now.fifth.now ((settings_of c.args.se.now)).human)
-    (g.E5.Serialize.marks c.args.self.now.fifth.now (settings_of c.args.se.now))
-    ∷ (value_of (settings_of c.args.se.now) (g.E6.Serialize.data_of c.args.self.now.sixth.now ((settings_of c.args.se.now)).human)
-    (g.E6.Serialize.marks c.args.self.now.sixth.now (settings_of c.args.se.now))
-    ∷ (value_of (settings_of c.args.se.now) (g.E7.Serialize.data_of c.args.self.now.seventh.now ((settings_of c.args.se.now)).human)
-    (g.E7.Serialize.marks c.args.self.now.seventh.now (settings_of c.args.se.now)) ∷ []))) c.in_err-write.ensures.marker)
-
-pub returns-clause-marker : goal.returns-clause-marker
-returns-clause-marker g c = pieces_then g.W.Sink c.write-2.result c.in_ok-write.ensures.marker
-    (pieces_as g.W.Sink (λ s. (value_of s (g.E5.Serialize.data_of c.args.self.now.fifth.now (s).human) (g.E5.Serialize.marks c.args.self.now.fifth.now s)
-    ∷ (value_of s (g.E6.Serialize.data_of c.args.self.now.sixth.now (s).human) (g.E6.Serialize.marks c.args.self.now.sixth.now s)
-    ∷ (value_of s (g.E7.Serialize.data_of c.args.self.now.seventh.now (s).human) (g.E7.Serialize.marks c.args.self.now.seventh.now s) ∷ []))))
-    c.write.ensures.keeps.settings c.write-2.ensures.marker)
