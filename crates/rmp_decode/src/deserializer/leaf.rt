@@ -1,20 +1,14 @@
-//! Reads messages that are only a head.
-ghost use Rattle.std.specs.Prelude.{◌≡◌, ◌≢◌, pos, refl, Ok, IfErr, IfSome, IfNone};
+//! Messages that are only a head.
+ghost use Rattle.std.specs.Prelude.{◌≡◌, pos, refl};
 ghost use Rattle.rmp_wire.specs.Msg.{Msg};
-ghost use Rattle.rmp_decode.specs.Consumed.{RefusalLeaves, no_payload};
-ghost use Rattle.rmp_decode.specs.Exact.{RefusesHead};
 ghost use Rattle.rmp_decode.specs.Kinds.{not_nil, other_kind, other_number};
-ghost use Rattle.rmp_decode.specs.Law.{Lawful};
 ghost use Rattle.rmp_decode.specs.Read.{IsUnsigned, IsSigned};
 
 use crate::deserializer::peek::{F32Head, F64Head, NilHead, Peek, TruthHead, Unsigned, WithSign};
 use crate::deserializer::refusal::{other_kind, other_number};
-use crate::deserializer::{Deserializer, Kept};
 use crate::error::Error;
 use crate::text::Text;
-use core::mem::replace_with;
-use rmp_wire::config::SerializerConfig;
-use rmp_wire::{Head, Marker, Source};
+use rmp_wire::{Head, Marker};
 
 // A kind of message that is only a head.
 pub(crate) trait Leaf: Peek {
@@ -49,93 +43,6 @@ pub(crate) trait Leaf: Peek {
 
     // what `at` finds is what the head holds
     ghost found: { (k : Self) (v : Self.Value) → Self.wants k v → HoldsAs (reads k) (Self.head k v) v };
-}
-
-impl<R: Source, C: SerializerConfig> Deserializer<R, C> {
-    // Reads a message that is only a head: by the fast path if it is buffered, as a number that was kept back, or out
-    // of line.
-    #[inline(always)]
-    pub(crate) fn read_leaf<K: Leaf>(&mut self, kind: K) -> Result<K::Value, Error>
-        ensures law { Lawful R.Source (K.reads kind) self.old self.new result }
-        ensures exact { RefusesHead R.Source K.refused self.old self.new result }
-        ensures taken { RefusalLeaves R.Source no_payload self.old self.new result }
-        ensures memory { IfErr result (λ e. e ≢ Error.OutOfMemory) }
-    {
-        match self.take(kind) {
-            Some(value) => {
-                self.failed = false;
-                Ok(value)
-            }
-            None => match self.offered(kind) {
-                Some(value) => Ok(value),
-                None => self.cold_leaf(kind),
-            },
-        }
-    }
-
-    // Consumes a number that was kept back, if it is read as this kind. Returns `None` and consumes nothing otherwise.
-    #[inline(always)]
-    fn offered<K: Leaf>(&mut self, kind: K) -> Option<K::Value>
-        ensures law { IfSome result (λ v. Lawful R.Source (K.reads kind) self.old self.new (Ok v)) }
-        ensures kept { IfNone result (self.new ≡ self.old) }
-    {
-        if self.failed {
-            return None;
-        }
-        match self.kept {
-            Kept::Number(byte) => match kind.held_byte(byte) {
-                Some(value) => {
-                    self.kept = Kept::Nothing;
-                    Some(value)
-                }
-                None => None,
-            },
-            _ => None,
-        }
-    }
-
-    // The slow path of `read_leaf`, on a moved reader.
-    #[inline(always)]
-    fn cold_leaf<K: Leaf>(&mut self, kind: K) -> Result<K::Value, Error>
-        ensures law { Lawful R.Source (K.reads kind) self.old self.new result }
-        ensures exact { RefusesHead R.Source K.refused self.old self.new result }
-        ensures taken { RefusalLeaves R.Source no_payload self.old self.new result }
-        ensures memory { IfErr result (λ e. e ≢ Error.OutOfMemory) }
-    {
-        replace_with(
-            self,
-            kind,
-            |mut de: Deserializer<R, C>, kind: K|
-                ensures law { Lawful R.Source (K.reads kind) de result.0 result.1 }
-                ensures exact { RefusesHead R.Source K.refused de result.0 result.1 }
-                ensures taken { RefusalLeaves R.Source no_payload de result.0 result.1 }
-                ensures memory { IfErr result.1 (λ e. e ≢ Error.OutOfMemory) }
-            {
-                let read = de.slow_leaf(kind);
-                (de, read)
-            },
-        )
-    }
-
-    // The slow path of `read_leaf`.
-    #[inline(never)]
-    fn slow_leaf<K: Leaf>(&mut self, kind: K) -> Result<K::Value, Error>
-        ensures law { Lawful R.Source (K.reads kind) self.old self.new result }
-        ensures exact { RefusesHead R.Source K.refused self.old self.new result }
-        ensures taken { RefusalLeaves R.Source no_payload self.old self.new result }
-        ensures memory { IfErr result (λ e. e ≢ Error.OutOfMemory) }
-    {
-        match self.head() {
-            Ok((marker, head)) => match kind.held(head) {
-                Some(value) => {
-                    self.failed = false;
-                    Ok(value)
-                }
-                None => Err(K::refusal(marker, head)),
-            },
-            Err(e) => Err(e),
-        }
-    }
 }
 
 impl Leaf for NilHead {

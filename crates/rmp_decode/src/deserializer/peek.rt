@@ -1,19 +1,24 @@
-//! The fast path: a buffered head of one kind is recognized by its bytes, and consumed.
-ghost use Rattle.std.specs.Prelude.{◌≡◌, ◌<◌, ◌≤◌, ◌≤ℤ◌, Bool, pos, true, false, IfSome, IfNone, IfOk, IfErr, ◌<ℤ◌, ◌+◌, ◌*◌, length, get_or};
+//! The fast path: a buffered head of one kind is recognized by its bytes, and consumed. A message that is only a head is read by it, or by
+//! the slow path.
+ghost use Rattle.std.specs.Prelude.{◌≡◌, ◌≢◌, ◌<◌, ◌≤◌, ◌≤ℤ◌, Bool, pos, true, false, IfSome, IfNone, Ok, IfOk, IfErr, ◌<ℤ◌, ◌+◌, ◌*◌, length, get_or};
 ghost use Rattle.rmp_wire.specs.declared.head.Head.TheVariants as heads;
 ghost use Rattle.rmp_decode.specs.BufferedHeads.{HeadIn, ConsumesHead, bound_of, least_of};
+ghost use Rattle.rmp_decode.specs.Consumed.{RefusalLeaves, no_payload};
+ghost use Rattle.rmp_decode.specs.Exact.{RefusesHead};
 ghost use Rattle.rmp_decode.specs.Kinds.{raw_head};
-ghost use Rattle.rmp_decode.specs.Law.{ReadsHead};
+ghost use Rattle.rmp_decode.specs.Law.{Lawful, ReadsHead};
 ghost use Rattle.rmp_decode.specs.State.{is_failed, kept_of};
 ghost use Rattle.rmp_decode.specs.declared.deserializer.Kept.TheVariants.{Nothing};
 
 pub(crate) mod table;
 
+use crate::deserializer::leaf::Leaf;
 use crate::deserializer::peek::table::{
     any_at, any_bin_at, canonical_at, canonical_bin_at, ext_at, signed_at,
 };
 use crate::deserializer::{Deserializer, Kept};
 use crate::error::Error;
+use core::mem::replace_with;
 use rmp_wire::config::SerializerConfig;
 use rmp_wire::{Head, Source};
 
@@ -121,6 +126,93 @@ impl<R: Source, C: SerializerConfig> Deserializer<R, C> {
     {
         match self.head() {
             Ok((_, head)) => Ok(head),
+            Err(e) => Err(e),
+        }
+    }
+}
+
+impl<R: Source, C: SerializerConfig> Deserializer<R, C> {
+    // Reads a message that is only a head: by the fast path if it is buffered, as a number that was kept back, or out
+    // of line.
+    #[inline(always)]
+    pub(crate) fn read_leaf<K: Leaf>(&mut self, kind: K) -> Result<K::Value, Error>
+        ensures law { Lawful R.Source (K.reads kind) self.old self.new result }
+        ensures exact { RefusesHead R.Source K.refused self.old self.new result }
+        ensures taken { RefusalLeaves R.Source no_payload self.old self.new result }
+        ensures memory { IfErr result (λ e. e ≢ Error.OutOfMemory) }
+    {
+        match self.take(kind) {
+            Some(value) => {
+                self.failed = false;
+                Ok(value)
+            }
+            None => match self.offered(kind) {
+                Some(value) => Ok(value),
+                None => self.cold_leaf(kind),
+            },
+        }
+    }
+
+    // Consumes a number that was kept back, if it is read as this kind. Returns `None` and consumes nothing otherwise.
+    #[inline(always)]
+    fn offered<K: Leaf>(&mut self, kind: K) -> Option<K::Value>
+        ensures law { IfSome result (λ v. Lawful R.Source (K.reads kind) self.old self.new (Ok v)) }
+        ensures kept { IfNone result (self.new ≡ self.old) }
+    {
+        if self.failed {
+            return None;
+        }
+        match self.kept {
+            Kept::Number(byte) => match kind.held_byte(byte) {
+                Some(value) => {
+                    self.kept = Kept::Nothing;
+                    Some(value)
+                }
+                None => None,
+            },
+            _ => None,
+        }
+    }
+
+    // The slow path of `read_leaf`, on a moved reader.
+    #[inline(always)]
+    fn cold_leaf<K: Leaf>(&mut self, kind: K) -> Result<K::Value, Error>
+        ensures law { Lawful R.Source (K.reads kind) self.old self.new result }
+        ensures exact { RefusesHead R.Source K.refused self.old self.new result }
+        ensures taken { RefusalLeaves R.Source no_payload self.old self.new result }
+        ensures memory { IfErr result (λ e. e ≢ Error.OutOfMemory) }
+    {
+        replace_with(
+            self,
+            kind,
+            |mut de: Deserializer<R, C>, kind: K|
+                ensures law { Lawful R.Source (K.reads kind) de result.0 result.1 }
+                ensures exact { RefusesHead R.Source K.refused de result.0 result.1 }
+                ensures taken { RefusalLeaves R.Source no_payload de result.0 result.1 }
+                ensures memory { IfErr result.1 (λ e. e ≢ Error.OutOfMemory) }
+            {
+                let read = de.slow_leaf(kind);
+                (de, read)
+            },
+        )
+    }
+
+    // The slow path of `read_leaf`.
+    #[inline(never)]
+    fn slow_leaf<K: Leaf>(&mut self, kind: K) -> Result<K::Value, Error>
+        ensures law { Lawful R.Source (K.reads kind) self.old self.new result }
+        ensures exact { RefusesHead R.Source K.refused self.old self.new result }
+        ensures taken { RefusalLeaves R.Source no_payload self.old self.new result }
+        ensures memory { IfErr result (λ e. e ≢ Error.OutOfMemory) }
+    {
+        match self.head() {
+            Ok((marker, head)) => match kind.held(head) {
+                Some(value) => {
+                    self.failed = false;
+                    Ok(value)
+                }
+                None => Err(K::refusal(marker, head)),
+            },
             Err(e) => Err(e),
         }
     }
