@@ -1,5 +1,6 @@
 -- The next message of a source, or its end.
-use Rattle.std.proofs.Common.{◌≡◌, ◌≢◌, ◌∙◌, ◌<◌, ◌≤◌, max, sym, ap, subst, refl, ℕ, arith, List, [], ◌∷◌, ◌++◌, length, take, slice_index_or, append-nil, Option, None, Some, Bool, false, Result, Ok, Err}
+use Rattle.std.proofs.Common.{◌≡◌, ◌≢◌, ◌∙◌, ◌<◌, ◌≤◌, max, sym, ap, subst, refl, ℕ, arith, List, [], ◌∷◌, ◌++◌, length, take, slice_index_or, append-nil}
+use Rattle.std.proofs.Common.{Option, None, Some, Bool, false, Result, Ok, Err}
 use Rattle.std.specs.Iterator.{IsFinite, MakesProgress, count_unless, size}
 use Rattle.std.specs.Io.KnownBytes.{Consumes, prepend_known}
 use Rattle.std.proofs.KnownBytes.{Keeps-refl}

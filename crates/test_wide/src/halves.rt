@@ -2,13 +2,17 @@
 mod derived;
 
 ghost use Rattle.std.specs.Prelude.{◌∷◌, ◌<◌, ◌^◌, [], None, Some, codes, false, pos, IsUtf8, string_bytes};
+ghost use Rattle.rmp_decode.specs.FieldRefusing.{RefusesFields};
 ghost use Rattle.rmp_decode.specs.Fields.{Absent, Field, NoField, OfFields};
 ghost use Rattle.rmp_decode.specs.Read.{IsRaw, IsUnsigned};
 ghost use Rattle.rmp_encode.specs.Data.{text, whole};
 ghost use Rattle.rmp_encode.specs.Trees.{structure_of};
+ghost use Rattle.rmp_ends.specs.FieldEnds.{fields_inside};
+ghost use Rattle.rmp_ends.specs.LeafEnds.{number_inside, string_inside};
 
-use rmp_decode::{Deserialize, Deserializer};
+use rmp_decode::{Deserialize, Deserializer, ReadFields};
 use rmp_encode::{Both, Serialize, Serializer};
+use rmp_ends::EndsInside;
 use rmp_wire::config::SerializerConfig;
 use rmp_wire::{ReadSlice, Sink};
 
@@ -59,6 +63,9 @@ impl<'de, R: ReadSlice<'de>> Deserialize<'de, R> for Light {
 
     ghost absent = { None };
 
+    ghost refuses = { RefusesFields (codes "name" ∷ (codes "height" ∷ [])) ⟦<(String, (u16, ())) as ReadFields<'de, R>>⟧.reads
+        ⟦<(String, (u16, ())) as ReadFields<'de, R>>⟧.parts };
+
     fn deserialize<C: SerializerConfig>(
         de: &mut Deserializer<R, C>,
     ) -> Result<Light, rmp_decode::Error> {
@@ -77,6 +84,10 @@ impl<'de, R: ReadSlice<'de>> Deserialize<'de, R> for Light {
     fn missing() -> Option<Light> {
         None
     }
+}
+
+impl<'de, R: ReadSlice<'de>> EndsInside<'de, R> for Light {
+    ghost ends_inside = { fields_inside _ _ _ (string_inside, (number_inside, tt)) };
 }
 
 /// A coast, which holds both.

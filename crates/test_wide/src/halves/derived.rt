@@ -13,6 +13,7 @@ ghost use Rattle.rmp_encode.specs.Sizes.{one_of};
 ghost use Rattle.rmp_encode.specs.Trees.{structure_of};
 ghost use Rattle.rmp_ends.specs.FieldEnds.{fields_inside};
 ghost use Rattle.rmp_ends.specs.LeafEnds.{number_inside, string_inside};
+ghost use Rattle.rmp_ends.specs.RowEnds.{each_inside, option_inside};
 ghost use Rattle.rmp_round_trip.specs.LeafRounds.{unsigned_row_16, string_row};
 ghost use Rattle.rmp_round_trip.specs.OnlyFields.{field_only, fields_both, last_field};
 ghost use Rattle.rmp_round_trip.specs.OnlyLeaves.{unsigned_only, string_only};
@@ -265,4 +266,16 @@ impl<'de, R: ReadSlice<'de>> RoundTrip<'de, R> for Coast {
 
 impl NeverNil for Coast {
     ghost never_nil = { λ s v. structure_other s _ };
+}
+
+impl<'de, R: ReadSlice<'de>> EndsInside<'de, R> for Coast {
+    ghost use Rattle.test_wide.specs.contracts.halves.derived.BuoyEndsInside.TheImpl.Laws as buoy_ends;
+    ghost use Rattle.test_wide.specs.contracts.halves.LightEndsInside.TheImpl.Laws as light_ends;
+    ghost use mir.Syntax.{given};
+
+    ghost ends_inside = { fields_inside _ _ _ (
+      (each_inside ⟦<Buoy as Deserialize<'de, R>>⟧.reads ⟦<Buoy as Deserialize<'de, R>>⟧.refuses
+          (buoy_ends.ends_inside-law R.row R.ReadSlice.own (given 0) R.Source (given 0))),
+      ((option_inside ⟦<Light as Deserialize<'de, R>>⟧.refuses (light_ends.ends_inside-law R.row R.ReadSlice.own (given 0) R.Source (given 0))), tt),
+    ) };
 }

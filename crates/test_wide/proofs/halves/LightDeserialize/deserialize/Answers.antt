@@ -6,3 +6,6 @@ returns-in-Ok-clause-law g c = lawful_ok _ _ _ _ _ _ _ (λ m r. r) c.in-Ok.ensur
 
 pub returns-in-Err-clause-law : goal.returns-in-Err-clause-law
 returns-in-Err-clause-law g c = lawful_err _ _ _ _ _ _ (λ m r. ((r.0.name, (r.0.height, tt)), r.1)) c.in-Err.ensures.law
+
+pub returns-in-Err-clause-refused : goal.returns-in-Err-clause-refused
+returns-in-Err-clause-refused g c = c.in-Err.ensures.refused
