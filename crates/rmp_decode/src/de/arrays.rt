@@ -141,6 +141,23 @@ fn number_row<'de, R: ReadSlice<'de>, C: SerializerConfig, T: Deserialize<'de, R
     }
 }
 
+// The slow path of an array's read: its head isn't buffered, or is of another kind. It is a call that reads the elements too, so that the fast
+// path doesn't merge its head with a refusal.
+#[inline(never)]
+fn slow_array<'de, R: ReadSlice<'de>, C: SerializerConfig, T: Deserialize<'de, R>, const N: usize>(
+    de: &mut Deserializer<R, C>,
+) -> Result<[T; N], Error>
+    ensures law { Lawful R.Source (λ m v. OfRow (Exactly N (T.reads (C.human (config_of de.old)) R.lends) v) m) de.old de.new result }
+    ensures refused { RefusesAs R.Source (C.human (config_of de.old)) R.lends
+        (λ s before after known e. ((PlacesFit T.row N → ⊥) × (e ≡ OutOfMemory)) ⊎ RefusesTimes N T.reads T.refuses s before after known e) de.old de.new result }
+{
+    match de.open_tuple() {
+        Ok((true, count)) => number_row(de, count),
+        Ok((false, count)) => array_row(de, count),
+        Err(e) => Err(e),
+    }
+}
+
 impl<'de, R: ReadSlice<'de>, T: Deserialize<'de, R>, const N: usize> Deserialize<'de, R>
     for [T; N] {
     ghost reads = { λ human lends m v. OfRow (Exactly N (T.reads human lends) v) m };
@@ -151,10 +168,12 @@ impl<'de, R: ReadSlice<'de>, T: Deserialize<'de, R>, const N: usize> Deserialize
     ghost refuses = { λ s before after known e. ((PlacesFit T.row N → ⊥) × (e ≡ OutOfMemory)) ⊎ RefusesTimes N T.reads T.refuses s before after known e };
 
     fn deserialize<C: SerializerConfig>(de: &mut Deserializer<R, C>) -> Result<[T; N], Error> {
-        match de.open_row(is_small::<T>()) {
-            Ok((true, count)) => number_row(de, count),
-            Ok((false, count)) => array_row(de, count),
-            Err(e) => Err(e),
+        match de.short_list() {
+            Some(count) => array_row(de, count),
+            None => match de.buffered_bytes(is_small::<T>()) {
+                Some(count) => number_row(de, count),
+                None => slow_array(de),
+            },
         }
     }
 

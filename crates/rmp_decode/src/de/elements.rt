@@ -1,11 +1,13 @@
 //! The elements of a list, or the numbers of bytes, read one after another into what holds them.
-ghost use Rattle.std.specs.Prelude.{◌≡◌, ◌+◌, ◌<◌, ◌≤◌, ◌++◌, ◌∷◌, [], ℕ, Bool, List, IfOk, IfErr, true, false, length};
+ghost use Rattle.std.specs.Prelude.{◌≡◌, ◌+◌, ◌<◌, ◌≤◌, ◌++◌, ◌∷◌, [], ℕ, Bool, List, Ok, IfOk, IfErr, IfSome, IfNone, true, false, length};
 ghost use Rattle.rmp_decode.specs.Inside.{ReadsRow, StopsRow};
+ghost use Rattle.rmp_decode.specs.Seq.{TakesSeqHead};
 ghost use Rattle.rmp_decode.specs.State.{config_of, kept_of};
 ghost use Rattle.rmp_decode.specs.declared.deserializer.Kept.TheVariants.{Nothing};
 
 use crate::access::seq::{data_fault, inner_room};
 use crate::de::Deserialize;
+use crate::deserializer::peek::{BinHead, ListHead};
 use crate::deserializer::{Deserializer, Kept};
 use crate::error::Error;
 use core::mem::replace_with;
@@ -42,6 +44,30 @@ pub(crate) trait Row<T: Drop>: Drop {
 pub(crate) fn is_small<T: Drop>() -> bool {
     let none: Option<T> = None;
     size_of_val(&none) <= 2
+}
+
+impl<R: Source, C: SerializerConfig> Deserializer<R, C> {
+    // Consumes the head of a short list, if it is buffered. Returns `None` and consumes nothing otherwise.
+    #[inline(always)]
+    pub(crate) fn short_list(&mut self) -> Option<u32>
+        ensures opened { IfSome result (λ n. TakesSeqHead R.Source self.old self.new (Ok (false, n))) }
+        ensures kept { IfNone result (self.new ≡ self.old) }
+    {
+        self.take_nested(ListHead)
+    }
+
+    // Consumes the head of bytes, if they are `wanted`, it is buffered whole, and reading isn't strict. Returns `None` and consumes
+    // nothing otherwise.
+    #[inline(always)]
+    pub(crate) fn buffered_bytes(&mut self, wanted: bool) -> Option<u32>
+        ensures opened { IfSome result (λ n. TakesSeqHead R.Source self.old self.new (Ok (true, n))) }
+        ensures kept { IfNone result (self.new ≡ self.old) }
+    {
+        if !wanted || self.strict {
+            return None;
+        }
+        self.take(BinHead)
+    }
 }
 
 // Reads `count` elements of a list, or bytes as numbers, after the head was consumed, and returns how many remain. The
