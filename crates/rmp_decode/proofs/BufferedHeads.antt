@@ -104,6 +104,7 @@ module _ {R C : Type 0} (g : Ghosts R) (old new : Deserializer R C) where
           sound = sound;
           err = λ _. tt;
           ends = λ _. tt;
+          leaves = λ _. tt;
           memory = tt;
           failed = failed;
           before = λ f. absurd cc;

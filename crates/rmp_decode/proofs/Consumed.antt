@@ -9,17 +9,19 @@ use Rattle.rmp_wire.specs.declared.source.Source.{Ghosts}
 use Rattle.rmp_wire.specs.Canonical.{heads_of, SpellsAs}
 use Rattle.rmp_wire.specs.Msg.{Msg}
 use Rattle.rmp_wire.specs.Sources.{IsShort}
+use Rattle.rmp_wire.specs.Taking.{marker_of}
 use Rattle.rmp_wire.proofs.Strict.{heads_differ_as}
 use Rattle.rmp_decode.specs.Consumed.{LeavesRest, LeavesAfter, LeavesPiece, PieceLeaves}
-use Rattle.rmp_decode.specs.Exact.{EndsExactly}
+use Rattle.rmp_decode.specs.Exact.{BeginsWithNone, EndsExactly}
 use Rattle.rmp_decode.specs.Kinds.{content_len, raw_head, raw_msg}
-use Rattle.rmp_decode.specs.Law.{Explains, Reads, ReadsHead}
+use Rattle.rmp_decode.specs.Law.{Explains, LeavesNone, Reads, ReadsHead}
 use Rattle.rmp_decode.specs.State.{left, faults_of}
 use Rattle.rmp_decode.specs.declared.deserializer.Deserializer.{Deserializer}
 use Rattle.rmp_decode.specs.declared.error.Error.{Error}
 use Rattle.rmp_decode.specs.declared.error.Error.TheVariants.{OutOfMemory}
 use Rattle.rmp_decode.proofs.ContentErrors.{raw_len}
 use Rattle.rmp_decode.proofs.Contents.{bare, raw_content}
+use Rattle.rmp_decode.proofs.FirstFault.{Front, front_of, starts}
 
 -- ---- a piece
 
@@ -63,13 +65,18 @@ module _ (strict : Bool) (wanted : Head → Type 0) where
 
   -- the bytes begin with no head
   pub leaves_none : (known new : Option (List ℕ)) (before after : ℕ) (e : Error) → EndsExactly strict before after known e
-      → LeavesAfter strict wanted known new before after e
+      → (after ≡ before → IfSome known (LeavesNone new)) → LeavesAfter strict wanted known new before after e
   unfolding LeavesAfter EndsExactly
-  leaves_none None new before after e x = λ _ _. tt
-  leaves_none (Some xs) new before after e x = λ _ k. record {
+  leaves_none None new before after e x r = λ _ _. tt
+  leaves_none (Some xs) new before after e x r = λ _ k. record {
     unwanted = λ m h s _. absurd ((x.0 k).0 m h s);
     whole = λ h s _ w. absurd ((x.0 k).0 w.marker h w.starts);
+    none = λ _. r k;
   }
+
+  -- they do
+  head_there : (xs ys b : List ℕ) (h : Head) → xs ≡ b ++ ys → heads_of strict h b → BeginsWithNone strict xs → ⊥
+  head_there xs ys b h c i none = let f : Front strict h xs ys = front_of strict h b xs ys c i in none (marker_of f.byte) h (starts f)
 
   head_rest : (known new : Option (List ℕ)) (b : List ℕ) (h : Head) → Consumes known new b → heads_of strict h b → (wanted h → ⊥)
       → IfSome known (LeavesRest strict wanted new)
@@ -83,6 +90,7 @@ module _ (strict : Bool) (wanted : Head → Type 0) where
         let t0 = t.starts in
         let u = heads_differ_as strict k h (t0.byte ∷ t0.following) b t0.rest ys t0.is_head i (sym t0.front ∙ c) in
         absurd (f (subst wanted u.0 w));
+    none = λ n. absurd (head_there xs ys b h c i n);
   }
 
   piece_rest : (known k new : Option (List ℕ)) (b : List ℕ) (h : Head) → Consumes known k b → heads_of strict h b → wanted h
@@ -97,6 +105,7 @@ module _ (strict : Bool) (wanted : Head → Type 0) where
         let t0 = t.starts in
         let u = heads_differ_as strict j h (t0.byte ∷ t0.following) b t0.rest ys t0.is_head i (sym t0.front ∙ c) in
         r s t.following (sym u.2 ∙ t.content) (t.long ∙ ap content_len u.0);
+    none = λ n. absurd (head_there xs ys b h c i n);
   }
 
 split_known : (known k : Option (List ℕ)) (a s : List ℕ) → Consumes known k (a ++ s) → Consumes known (prepend_known s k) a

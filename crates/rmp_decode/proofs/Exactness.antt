@@ -41,7 +41,8 @@ use Rattle.rmp_wire.specs.Reading.{NoHead, FailsNext}
 use Rattle.rmp_wire.specs.Taking.{byte_of, marker_of}
 use Rattle.rmp_wire.proofs.Heads.{heads_differ, marker_pos}
 use Rattle.rmp_wire.proofs.Strict.{any_width, canon_in, heads_differ_as}
-use Rattle.rmp_decode.specs.Exact.{BeginsWith, BeginsWithNone, Ends, TellsFault, UnlessFault, RefusesExactly, RefusesBy, EndsExactly}
+use Rattle.rmp_decode.specs.Exact.{BeginsWith, BeginsWithNone, OtherWidth, Ends, TellsFault, UnlessFault, RefusesExactly, RefusesBy, EndsExactly}
+use Rattle.rmp_decode.specs.Law.{LeavesNone}
 use Rattle.rmp_decode.specs.ReadErrors.{error_of}
 use Rattle.rmp_decode.specs.declared.error.Error.{Error}
 use Rattle.rmp_decode.specs.declared.error.Error.TheVariants.{TypeMismatch, NotCanonical}
@@ -214,6 +215,40 @@ ends_none s (Some xs) new before after e r = (
   fault_told (Some xs) new before after e r,
 )
 
+-- ---- what is left where no head is there
+
+no_wide_head : (xs : List ℕ) → NoHead (Some xs) → OtherWidth xs → ⊥
+no_wide_head xs n s = none_starts false xs n s.marker s.head s.starts
+
+pub leaves_where_none : (known new : Option (List ℕ)) (before after : ℕ) (e : ValueReadError) → FailsNext known new before after e → after ≡ before
+    → IfSome known (LeavesNone new)
+unfolding byte_of
+leaves_where_none None new before after e r q = tt
+leaves_where_none (Some xs) None before after (wire.InvalidMarkerRead f) r q = absurd r.leaves.kept
+leaves_where_none (Some xs) None before after (wire.InvalidDataRead f) r q = absurd r.leaves.0.taken
+leaves_where_none (Some xs) None before after (wire.TypeMismatch k) r q = absurd r.leaves.1
+leaves_where_none (Some xs) (Some ys) before after (wire.InvalidMarkerRead f) r q = record {
+  bytes = [];
+  taken = sym r.leaves.kept;
+  reserved = λ rest e. let u : ◌≡◌ {A = List ℕ} [] (0xc1 ∷ rest) = sym (r.leaves.none_ahead q) ∙ e in absurd (cc);
+  wide = λ s. absurd (no_wide_head xs (r.none q) s);
+}
+leaves_where_none (Some xs) (Some ys) before after (wire.InvalidDataRead f) r q =
+    let t = r.leaves.0 in
+    record {
+      bytes = byte_of t.marker ∷ t.part;
+      taken = t.taken;
+      reserved = λ rest e. absurd (t.opens (reserved_byte t.marker
+          (sym (same_first 0xc1 (byte_of t.marker) rest t.part (Some ys) (subst (λ z. Consumes (Some z) (Some ys) (byte_of t.marker ∷ t.part)) e t.taken)))));
+      wide = λ s. absurd (no_wide_head xs (r.none q) s);
+    }
+leaves_where_none (Some xs) (Some ys) before after (wire.TypeMismatch k) r q = record {
+  bytes = 0xc1 ∷ [];
+  taken = r.leaves.1;
+  reserved = λ rest e. let u : 0xc1 ∷ rest ≡ 0xc1 ∷ ys = sym e ∙ r.leaves.1 in cc;
+  wide = λ s. absurd (no_wide_head xs (r.none q) s);
+}
+
 -- ---- a head that isn't canonical
 
 -- no head begins with the byte c1
@@ -254,6 +289,22 @@ ends_wide s before after (Some xs) (Some ys) h b following c i n f = no_fault be
     ),
   ),
 )
+
+-- no more than it was consumed
+pub leaves_wide : (known k : Option (List ℕ)) (h : Head) (b : ℕ) (following : List ℕ) → Consumes known k (b ∷ following) → IsHead h (b ∷ following)
+    → IfSome known (LeavesNone k)
+leaves_wide None k h b following c i = tt
+leaves_wide (Some xs) None h b following c i = absurd c
+leaves_wide (Some xs) (Some ys) h b following c i = record {
+  bytes = b ∷ following;
+  taken = c;
+  reserved = λ rest e. absurd (not_reserved h b following i
+      (sym (same_first 0xc1 b rest following (Some ys) (subst (λ z. Consumes (Some z) (Some ys) (b ∷ following)) e c))));
+  wide = λ s.
+      let t = s.starts in
+      let u = heads_differ_as false s.head h (t.byte ∷ t.following) (b ∷ following) t.rest ys t.is_head i (sym t.front ∙ c) in
+      ap (λ z. Some z) (sym u.2);
+}
 
 -- ---- a fault is told
 

@@ -29,7 +29,7 @@ use Rattle.rmp_decode.specs.declared.deserializer.heads.HeadError.TheVariants as
 use Rattle.rmp_decode.specs.declared.error.Error.{Error}
 use Rattle.rmp_decode.specs.declared.error.Error.TheVariants.{OutOfMemory, NotCanonical}
 use Rattle.rmp_decode.proofs.Contents.{bare}
-use Rattle.rmp_decode.proofs.Exactness.{starts_known, number_starts, ends_none, ends_wide}
+use Rattle.rmp_decode.proofs.Exactness.{starts_known, number_starts, ends_none, ends_wide, leaves_where_none, leaves_wide}
 use Rattle.rmp_decode.proofs.NothingAccepted.{no_head, no_wide}
 
 pub kept_first : (bs : List ℕ) (known : Option (List ℕ)) → Consumes (prepend_known bs known) known bs
@@ -65,6 +65,7 @@ module _ {R C : Type 0} (g : Ghosts R) (old new : Deserializer R C) (fresh : old
     sound = r.sound;
     err = λ _. tt;
     ends = λ _. tt;
+    leaves = λ _. tt;
     memory = tt;
     failed = failed;
     before = λ f. absurd cc;
@@ -81,6 +82,7 @@ module _ {R C : Type 0} (g : Ghosts R) (old new : Deserializer R C) (fresh : old
     sound = tt;
     err = λ o n q. no_head _ (left g old) (rw (bare g old k) (r.err.none q));
     ends = λ o. rw (bare g old k, i) (ends_none _ (g.ahead old.reader) (g.ahead new.reader) _ _ e r.err);
+    leaves = λ o q. rw (bare g old k, bare g new clean) (leaves_where_none (g.ahead old.reader) (g.ahead new.reader) _ _ e r.err q);
     memory = λ m. no_memory e (sym i ∙ m);
     failed = failed;
     before = λ f. absurd cc;
@@ -105,6 +107,7 @@ module _ {R C : Type 0} (g : Ghosts R) (old new : Deserializer R C) (fresh : old
     sound = r.sound;
     err = λ _. tt;
     ends = λ _. tt;
+    leaves = λ _. tt;
     memory = tt;
     failed = failed;
     before = λ f. absurd cc;
@@ -121,6 +124,7 @@ module _ {R C : Type 0} (g : Ghosts R) (old new : Deserializer R C) (fresh : old
     sound = tt;
     err = λ o n q. no_head _ (left g old) (rw k (fails.none q));
     ends = λ o. rw (k, i) (ends_none _ (prepend_known (b ∷ []) (g.ahead old.reader)) (g.ahead new.reader) _ _ e fails);
+    leaves = λ o q. rw (k, bare g new clean) (leaves_where_none (prepend_known (b ∷ []) (g.ahead old.reader)) (g.ahead new.reader) _ _ e fails q);
     memory = λ m. no_memory e (sym i ∙ m);
     failed = failed;
     before = λ f. absurd cc;
@@ -144,6 +148,7 @@ module _ {R C : Type 0} (g : Ghosts R) (old new : Deserializer R C) (fresh : old
     sound = tt;
     err = λ _ _ _. no_wide _ (left g old) (g.ahead new.reader) (b ∷ following) h t i n;
     ends = λ _. ends_wide _ _ _ (left g old) (g.ahead new.reader) h b following t i n same;
+    leaves = λ _ _. rw (bare g new clean) (leaves_wide (left g old) (g.ahead new.reader) h b following t i);
     memory = λ m. absurd cc;
     failed = failed;
     before = λ f. absurd cc;
@@ -192,6 +197,7 @@ module _ {R C : Type 0} (g : Ghosts R) (old new : Deserializer R C) (fresh : old
     sound = ap g.faults q;
     err = λ _. tt;
     ends = λ _. tt;
+    leaves = λ _. tt;
     memory = tt;
     failed = failed;
     before = λ f. absurd cc;

@@ -1,14 +1,16 @@
 -- Bytes from a text, from bytes, or from a list of numbers.
-use Rattle.std.specs.Prelude.{◌≡◌, ◌⊎◌, ℕ, ◌+◌, ◌<◌, ◌≤◌, Bool, List, Option, IfSome, Result, Ok, true, false}
+use Rattle.std.specs.Prelude.{◌≡◌, ◌⊎◌, ℕ, ◌+◌, ◌<◌, ◌≤◌, Bool, List, Option, Some, IfSome, Result, Ok, true, false}
 use Rattle.rmp_wire.specs.declared.head.Head.{Head}
 use Rattle.rmp_wire.specs.declared.marker.Marker.{Marker}
 use Rattle.rmp_wire.specs.declared.source.Source.{Ghosts}
 use Rattle.rmp_wire.specs.declared.head.Head.TheVariants.{Array}
 use Rattle.rmp_wire.specs.Msg.{Msg, Msgs, nil, truth, whole, float32, float64, text, bin, list, map, extension}
 use Rattle.rmp_wire.specs.Canonical.{SpellsAs}
+use Rattle.rmp_decode.specs.Consumed.{LeavesRest, no_payload}
+use Rattle.rmp_decode.specs.Content.{IsRawHead}
 use Rattle.rmp_decode.specs.Exact.{BeginsWith, Exact}
 use Rattle.rmp_decode.specs.Kinds.{other_number}
-use Rattle.rmp_decode.specs.Law.{Begins, Readable, Lawful, ReadsHead}
+use Rattle.rmp_decode.specs.Law.{Begins, Explains, Readable, Lawful, ReadsHead}
 use Rattle.rmp_decode.specs.Read.{IsUnsigned}
 use Rattle.rmp_decode.specs.Rows.{ReadsEach}
 use Rattle.rmp_decode.specs.Seq.{BeginsRow}
@@ -79,3 +81,31 @@ RefusesListIn strict room before after known e = after ≡ before
 -- the same of a reader that was in one state and is in another then
 abbrev pub RefusesList : {R C : Type 0} → Ghosts R → Deserializer R C → Deserializer R C → Error → Type 0
 RefusesList g old new e = RefusesListIn old.strict (room_of old) (faults_of g old) (faults_of g new) (left g old) e
+
+-- ---- what a refused list leaves
+
+-- Of n items that are wanted, the bytes begin with some that are whole and numbers up to 255. The next one isn't, and P holds of the bytes that begin with it.
+pub record AtItem (strict : Bool) (n : ℕ) (P : List ℕ → Type 0) (xs : List ℕ) : Type 0 where
+  pub many : ℕ
+  pub few : many < n
+  pub before : BeginsRow (SpellsAs strict) AreBytes 1 many xs
+  pub none : NoByte strict before.rest
+  pub holds : P before.rest
+
+-- A list that would nest too deep leaves what follows its head, and any other what follows the head of the item that is refused.
+pub record LeavesList (strict : Bool) (room n : ℕ) (new : Option (List ℕ)) (following : List ℕ) : Type 0 where
+  pub deep : room ≤ 1 → new ≡ Some following
+  pub item : 1 < room → AtItem strict n (LeavesRest strict no_payload new) following
+
+-- the same of a list whose head was taken, where the bytes are told, unless memory was short or the source had a fault
+unfoldable pub ListLeaves : {R C : Type 0} → Ghosts R → ℕ → Deserializer R C → Deserializer R C → Error → Type 0
+ListLeaves g n mid new e = Explains e (faults_of g mid) (faults_of g new) (IfSome (left g mid) (LeavesList mid.strict (room_of mid) n (left g new)))
+
+-- where bytes of its own are wanted, a list leaves this, and any other message what a text or bytes would
+pub record LeavesBuffer (strict : Bool) (room : ℕ) (new : Option (List ℕ)) (xs : List ℕ) : Type 0 where
+  pub leaf : ((m : Marker) (n : ℕ) → BeginsWith strict m (Array n) xs → ⊥) → LeavesRest strict IsRawHead new xs
+  pub list : (m : Marker) (n : ℕ) → (s : BeginsWith strict m (Array n) xs) → LeavesList strict room n new s.rest
+
+-- the same of a ready reader that was in one state and is in another then
+unfoldable pub BufferLeaves : {R C : Type 0} → Ghosts R → Deserializer R C → Deserializer R C → Error → Type 0
+BufferLeaves g old new e = Explains e (faults_of g old) (faults_of g new) (IfSome (left g old) (LeavesBuffer old.strict (room_of old) (left g new)))

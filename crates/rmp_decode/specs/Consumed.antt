@@ -4,8 +4,8 @@ use Rattle.rmp_wire.specs.declared.head.Head.{Head}
 use Rattle.rmp_wire.specs.declared.marker.Marker.{Marker}
 use Rattle.rmp_wire.specs.declared.source.Source.{Ghosts}
 use Rattle.rmp_decode.specs.Content.{WholePayload}
-use Rattle.rmp_decode.specs.Exact.{BeginsWith}
-use Rattle.rmp_decode.specs.Law.{Explains, ReadsHead}
+use Rattle.rmp_decode.specs.Exact.{BeginsWith, BeginsWithNone}
+use Rattle.rmp_decode.specs.Law.{Explains, LeavesNone, ReadsHead}
 use Rattle.rmp_decode.specs.State.{left, faults_of}
 use Rattle.rmp_decode.specs.declared.deserializer.Deserializer.{Deserializer}
 use Rattle.rmp_decode.specs.declared.error.Error.{Error}
@@ -14,10 +14,12 @@ use Rattle.rmp_decode.specs.declared.error.Error.{Error}
 abbrev pub no_payload : Head → Type 0
 no_payload h = ⊥
 
--- Of bytes that begin with a head, what follows it is left. Where its payload is wanted and whole, what follows that is left.
+-- Of bytes that begin with a head, what follows it is left. Where its payload is wanted and whole, what follows that is left. Of others no more was
+-- consumed than the beginning of a head.
 pub record LeavesRest (strict : Bool) (wanted : Head → Type 0) (new : Option (List ℕ)) (xs : List ℕ) : Type 0 where
   pub unwanted : (m : Marker) (h : Head) (s : BeginsWith strict m h xs) → (wanted h → ⊥) → new ≡ Some s.rest
   pub whole : (h : Head) (s : List ℕ) → wanted h → (w : WholePayload strict h s xs) → new ≡ Some w.following
+  pub none : BeginsWithNone strict xs → LeavesNone new xs
 
 -- the same where the bytes are told, unless memory was short or the source had a fault (it counts them: before, after)
 unfoldable pub LeavesAfter : Bool → (Head → Type 0) → Option (List ℕ) → Option (List ℕ) → ℕ → ℕ → Error → Type 0

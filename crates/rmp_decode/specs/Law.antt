@@ -1,12 +1,12 @@
 -- What a read gives, and what it refuses.
-use Rattle.std.specs.Prelude.{◌≡◌, ◌≢◌, ℕ, ◌<◌, Bool, true, false, List, ◌++◌, Option, IfSome, Result, IfErr, IfOk, OnOk, OnErr, MatchResult}
+use Rattle.std.specs.Prelude.{◌≡◌, ◌≢◌, ℕ, ◌<◌, Bool, true, false, List, ◌∷◌, ◌++◌, Option, Some, IfSome, Result, IfErr, IfOk, OnOk, OnErr, MatchResult}
 use Rattle.std.specs.Io.KnownBytes.{Consumes}
 use Rattle.rmp_wire.specs.declared.head.Head.{Head}
 use Rattle.rmp_wire.specs.declared.marker.Marker.{Marker}
 use Rattle.rmp_wire.specs.declared.source.Source.{Ghosts}
 use Rattle.rmp_wire.specs.Canonical.{heads_of, SpellsAs}
 use Rattle.rmp_wire.specs.Msg.{Msg, depth}
-use Rattle.rmp_decode.specs.Exact.{BeginsWith, EndsExactly}
+use Rattle.rmp_decode.specs.Exact.{BeginsWith, EndsExactly, OtherWidth}
 use Rattle.rmp_decode.specs.State.{left, faults_of, room_of, kept_bytes, Stays}
 use Rattle.rmp_decode.specs.declared.deserializer.Deserializer.{Deserializer}
 use Rattle.rmp_decode.specs.declared.deserializer.Kept.TheVariants.{Nothing}
@@ -81,6 +81,13 @@ pub record TakesHead {R C : Type 0} (g : Ghosts R) (h : Head) (old new : Deseria
   pub goes_on : GoesOn (kept_bytes old.kept) bytes
   pub is_head : heads_of old.strict h bytes
 
+-- Of bytes that begin with no head that may be read, a beginning was consumed: no more than the byte c1, or than the whole head of another width.
+pub record LeavesNone (new : Option (List ℕ)) (xs : List ℕ) : Type 0 where
+  pub bytes : List ℕ
+  pub taken : Consumes (Some xs) new bytes
+  pub reserved : (rest : List ℕ) → xs ≡ 0xc1 ∷ rest → new ≡ Some rest
+  pub wide : (s : OtherWidth xs) → new ≡ Some s.starts.rest
+
 -- What the beginning of each read does: a head is taken, or no message begins there.
 pub record ReadsHead {R C : Type 0} (g : Ghosts R) (old new : Deserializer R C) (result : Result (Marker × Head) Error) : Type 0 where
   pub ok : IfOk result (λ p. TakesHead g p.1 old new)
@@ -91,6 +98,7 @@ pub record ReadsHead {R C : Type 0} (g : Ghosts R) (old new : Deserializer R C) 
   pub sound : OnOk result (faults_of g new ≡ faults_of g old)
   pub err : old.failed ≡ false → IfErr result (λ e. Explains e (faults_of g old) (faults_of g new) (NoMessage old.strict (left g old)))
   pub ends : old.failed ≡ false → IfErr result (EndsExactly old.strict (faults_of g old) (faults_of g new) (left g old))
+  pub leaves : old.failed ≡ false → IfErr result (λ e. faults_of g new ≡ faults_of g old → IfSome (left g old) (LeavesNone (left g new)))
   -- a head takes no memory
   pub memory : IfErr result (λ e. e ≢ OutOfMemory)
   pub failed : new.failed ≡ true

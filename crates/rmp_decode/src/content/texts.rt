@@ -1,8 +1,8 @@
 //! Messages with a payload: texts, characters, bytes, extensions, and names.
 ghost use Rattle.std.specs.Prelude.{◌≡◌, ◌≢◌, Bool, true, false, IfErr, ◌≤◌, ◌<◌, IfOk, IfSome, IfNone};
 ghost use Rattle.std.specs.String.{string_bytes};
-ghost use Rattle.rmp_decode.specs.Buffers.{AfterHead, IsBuffer, ListAfterHead, RefusesItems, RefusesList};
-ghost use Rattle.rmp_decode.specs.Consumed.{RefusalLeaves, RestLeaves};
+ghost use Rattle.rmp_decode.specs.Buffers.{AfterHead, BufferLeaves, IsBuffer, ListAfterHead, ListLeaves, RefusesItems, RefusesList};
+ghost use Rattle.rmp_decode.specs.Consumed.{LeavesAfter, RefusalLeaves, RestLeaves, no_payload};
 ghost use Rattle.rmp_decode.specs.Content.{IsTextHead, IsRawHead, RefusesLeaf, RefusesAfterHead, not_raw, never_refused, not_char, not_string};
 ghost use Rattle.rmp_decode.specs.Content.{not_str, not_bytes, IsBufferHead, not_buffer, IsExtHead, not_ext};
 ghost use Rattle.rmp_decode.specs.Exact.{IsUtf8Error, RefusesExactly, TellsFault};
@@ -381,6 +381,7 @@ impl<R: Source, C: SerializerConfig> Deserializer<R, C> {
         ensures exact { RefusesLeaf R.Source IsBufferHead not_raw not_buffer self.old self.new result }
         // A list is refused at its head if it nests too deep, and otherwise at an item.
         ensures list { is_failed self.old ≡ false → IfErr result (RefusesList R.Source self.old self.new) }
+        ensures taken { is_failed self.old ≡ false → IfErr result (BufferLeaves R.Source self.old self.new) }
     {
         match self.take(BinHead) {
             Some(len) => self.byte_buf_payload(len),
@@ -395,6 +396,7 @@ impl<R: Source, C: SerializerConfig> Deserializer<R, C> {
         R: ReadSlice<'de>,
         ensures law { (is_text : Bool) → AfterHead R.Source (λ m v. IsBuffer m v.items) (raw_head is_text len) self.old self.new result }
         ensures exact { (is_text : Bool) → IfErr result (RefusesAfterHead R.Source IsBufferHead not_raw not_buffer (raw_head is_text len) self.old self.new) }
+        ensures taken { (is_text : Bool) → IfErr result (RestLeaves R.Source IsRawHead (raw_head is_text len) self.old self.new) }
     {
         match owned(self.alloc, &mut self.reader, len as usize) {
             Ok(bytes) => {
@@ -413,6 +415,7 @@ impl<R: Source, C: SerializerConfig> Deserializer<R, C> {
         ensures law { Lawful R.Source (λ m v. IsBuffer m v.items) self.old self.new result }
         ensures exact { RefusesLeaf R.Source IsBufferHead not_raw not_buffer self.old self.new result }
         ensures list { is_failed self.old ≡ false → IfErr result (RefusesList R.Source self.old self.new) }
+        ensures taken { is_failed self.old ≡ false → IfErr result (BufferLeaves R.Source self.old self.new) }
     {
         match self.head() {
             Ok((_, head)) => match head.as_raw() {
@@ -455,6 +458,7 @@ impl<R: Source, C: SerializerConfig> Deserializer<R, C> {
         ensures law { AfterHead R.Source (λ m v. IsBuffer m v.items) (Head.Array len) self.old self.new result }
         ensures deep { IfErr result (λ e. self.old.room ≤ 1 → e ≡ Error.DepthLimitExceeded) }
         ensures items { IfErr result (λ e. 1 < self.old.room → RefusesItems R.Source len self.old self.new e) }
+        ensures taken { IfErr result (ListLeaves R.Source len self.old self.new) }
         ensures fault { IfErr result (TellsFault (faults_of R.Source self.old) (faults_of R.Source self.new)) }
     {
         let mut items = Vec::new(self.alloc);
@@ -476,6 +480,7 @@ impl<R: Source, C: SerializerConfig> Deserializer<R, C> {
         R: ReadSlice<'de>,
         ensures law { Lawful R.Source IsExt self.old self.new result }
         ensures exact { RefusesLeaf R.Source IsExtHead not_ext never_refused self.old self.new result }
+        ensures taken { RefusalLeaves R.Source IsExtHead self.old self.new result }
     {
         match self.take(ExtHead) {
             Some((len, tag)) => self.ext_payload(len, tag),
@@ -490,6 +495,7 @@ impl<R: Source, C: SerializerConfig> Deserializer<R, C> {
         R: ReadSlice<'de>,
         ensures law { AfterHead R.Source IsExt (Head.Ext len tag) self.old self.new result }
         ensures exact { IfErr result (RefusesAfterHead R.Source IsExtHead not_ext never_refused (Head.Ext len tag) self.old self.new) }
+        ensures taken { IfErr result (RestLeaves R.Source IsExtHead (Head.Ext len tag) self.old self.new) }
     {
         match owned(self.alloc, &mut self.reader, len as usize) {
             Ok(bytes) => {
@@ -507,6 +513,7 @@ impl<R: Source, C: SerializerConfig> Deserializer<R, C> {
         R: ReadSlice<'de>,
         ensures law { Lawful R.Source IsExt self.old self.new result }
         ensures exact { RefusesLeaf R.Source IsExtHead not_ext never_refused self.old self.new result }
+        ensures taken { RefusalLeaves R.Source IsExtHead self.old self.new result }
     {
         match self.head() {
             Ok((marker, head)) => match head.as_ext() {
@@ -528,6 +535,7 @@ impl<R: Source, C: SerializerConfig> Deserializer<R, C> {
         R: ReadSlice<'de>,
         ensures law { Lawful R.Source (IsName (bytes_of names.now)) self.old self.new result }
         ensures exact { RefusesLeaf R.Source IsNameHead not_raw never_refused self.old self.new result }
+        ensures taken { RefusalLeaves R.Source IsRawHead self.old self.new result }
         ensures memory { R.lends ≡ true → IfErr result (λ e. e ≢ Error.OutOfMemory) }
     {
         match self.take(TextHead) {
@@ -543,6 +551,7 @@ impl<R: Source, C: SerializerConfig> Deserializer<R, C> {
         R: ReadSlice<'de>,
         ensures law { (is_text : Bool) → AfterHead R.Source (IsName (bytes_of names.now)) (raw_head is_text len) self.old self.new result }
         ensures exact { (is_text : Bool) → IfErr result (RefusesAfterHead R.Source IsNameHead not_raw never_refused (raw_head is_text len) self.old self.new) }
+        ensures taken { (is_text : Bool) → IfErr result (RestLeaves R.Source IsRawHead (raw_head is_text len) self.old self.new) }
         ensures memory { R.lends ≡ true → IfErr result (λ e. e ≢ Error.OutOfMemory) }
     {
         match next_place(&mut self.reader, names, len as usize) {
@@ -561,6 +570,7 @@ impl<R: Source, C: SerializerConfig> Deserializer<R, C> {
         R: ReadSlice<'de>,
         ensures law { Lawful R.Source (IsName (bytes_of names.now)) self.old self.new result }
         ensures exact { RefusesLeaf R.Source IsNameHead not_raw never_refused self.old self.new result }
+        ensures taken { RefusalLeaves R.Source IsRawHead self.old self.new result }
         ensures memory { R.lends ≡ true → IfErr result (λ e. e ≢ Error.OutOfMemory) }
     {
         let head = match self.head() {
@@ -595,6 +605,8 @@ impl<'x, R: Source, C: SerializerConfig> SeqAccess<'x, R, C> {
         ensures err { IsOpen self.old → IfErr result (FailsToTake R.Source (IsUnsigned 255) self.old self.new) }
         ensures exact { IfErr result (RefusesExactly (is_strict (lender_of self.old)) other_number (faults_of R.Source (lender_of self.old))
             (faults_of R.Source (lender_of self.new)) (left R.Source (lender_of self.old))) }
+        ensures taken { IfErr result (LeavesAfter (is_strict (lender_of self.old)) no_payload (left R.Source (lender_of self.old))
+            (left R.Source (lender_of self.new)) (faults_of R.Source (lender_of self.old)) (faults_of R.Source (lender_of self.new))) }
         ensures marked { is_failed (lender_of self.old) ≡ true → is_failed (lender_of self.new) ≡ true }
     {
         if self.left == 0 {

@@ -132,26 +132,61 @@ fn what_follows_stays_in_the_source(rt: HostRuntime) {
     assert_eq!(rt; source.rest, b"\x07".as_slice());
 }
 
-// Reads a truth, a text or a character that isn't there, and says how far the cursor was read.
-fn passed(rt: &impl AllocGlobal, input: &[u8], wanted: u8) -> u64 {
+enum Wanted {
+    Truth,
+    Owned,
+    Lent,
+    Character,
+    Extension,
+    Buffer,
+}
+
+// Reads what isn't there, and says how far the cursor was read.
+fn passed(rt: &impl AllocGlobal, input: &[u8], wanted: Wanted) -> u64 {
     let mut de = over_cursor(rt, input);
     let is_read = match wanted {
-        0 => de.deserialize_bool().is_ok(),
-        1 => de.deserialize_string().is_ok(),
-        2 => de.deserialize_str().is_ok(),
-        _ => de.deserialize_char().is_ok(),
+        Wanted::Truth => de.deserialize_bool().is_ok(),
+        Wanted::Owned => de.deserialize_string().is_ok(),
+        Wanted::Lent => de.deserialize_str().is_ok(),
+        Wanted::Character => de.deserialize_char().is_ok(),
+        Wanted::Extension => de.deserialize_ext().is_ok(),
+        Wanted::Buffer => de.deserialize_byte_buf().is_ok(),
     };
     if is_read { 0 } else { de.position() }
 }
 
 #[test]
 fn a_refusal_leaves_what_follows(rt: HostRuntime) {
-    assert_eq!(rt; passed(&rt, &[0xcd, 0x01, 0x00, 0xc3], 0), 3);
-    assert_eq!(rt; passed(&rt, &[0xa2, 0x61, 0xff, 0xc3], 1), 3);
-    assert_eq!(rt; passed(&rt, &[0xc4, 0x01, 0xff, 0xc3], 1), 3);
-    assert_eq!(rt; passed(&rt, &[0x92, 0xc3, 0xc3], 1), 1);
-    assert_eq!(rt; passed(&rt, b"\xa2it\xc3", 2), 3);
-    assert_eq!(rt; passed(&rt, b"\xa2it\xc3", 3), 3);
+    assert_eq!(rt; passed(&rt, &[0xcd, 0x01, 0x00, 0xc3], Wanted::Truth), 3);
+    assert_eq!(rt; passed(&rt, &[0xa2, 0x61, 0xff, 0xc3], Wanted::Owned), 3);
+    assert_eq!(rt; passed(&rt, &[0xc4, 0x01, 0xff, 0xc3], Wanted::Owned), 3);
+    assert_eq!(rt; passed(&rt, &[0x92, 0xc3, 0xc3], Wanted::Owned), 1);
+    assert_eq!(rt; passed(&rt, b"\xa2it\xc3", Wanted::Lent), 3);
+    assert_eq!(rt; passed(&rt, b"\xa2it\xc3", Wanted::Character), 3);
+    assert_eq!(rt;
+        passed(&rt, &[0xc4, 0x01, 0xff, 0xc3], Wanted::Extension),
+        2
+    );
+    assert_eq!(rt; passed(&rt, &[0xc0, 0xc3], Wanted::Buffer), 1);
+}
+
+#[test]
+fn a_refused_list_leaves_what_follows_the_item(rt: HostRuntime) {
+    assert_eq!(rt;
+        passed(&rt, &[0x93, 0x01, 0xcd, 0x01, 0x00, 0x05], Wanted::Buffer),
+        5
+    );
+    assert_eq!(rt;
+        passed(&rt, &[0x92, 0xa2, 0x61, 0x62, 0x05], Wanted::Buffer),
+        2
+    );
+}
+
+#[test]
+fn no_more_than_the_byte_c1_is_consumed(rt: HostRuntime) {
+    assert_eq!(rt; passed(&rt, &[0xc1, 0xc3], Wanted::Truth), 1);
+    assert_eq!(rt; passed(&rt, &[0xc1, 0xc3], Wanted::Extension), 1);
+    assert_eq!(rt; passed(&rt, &[0x92, 0x01, 0xc1, 0xc3], Wanted::Buffer), 3);
 }
 
 fn queue_of(rt: &impl AllocGlobal, bytes: &[u8]) -> Result<(usize, Option<Option<bool>>), Error> {

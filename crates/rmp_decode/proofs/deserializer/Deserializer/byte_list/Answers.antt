@@ -6,7 +6,7 @@ use Rattle.rmp_decode.specs.Read.{IsUnsigned}
 use Rattle.rmp_decode.specs.Rows.{ReadsEach}
 use Rattle.rmp_decode.specs.Seq.{OfRow, IsOpen}
 use Rattle.rmp_decode.specs.declared.deserializer.heads.Levels.TheVariants.{Lists}
-use Rattle.rmp_decode.proofs.BufferErrors.{number_refused, number_told, number_unkept}
+use Rattle.rmp_decode.proofs.BufferErrors.{number_refused, number_told, number_unkept, number_leaves, deep_leaves, list_unsaid}
 use Rattle.rmp_decode.proofs.Buffers.{lawful_err_at, buffer_done, row_of_buffer, opened_after}
 use Rattle.rmp_decode.proofs.Opening.{deep_refused}
 use Rattle.rmp_decode.proofs.Seqs.{values_start, values_step, each_next, seq_take, seq_unkept}
@@ -123,6 +123,36 @@ returns-in_err-push-clause-fault g c =
 
 pub returns-in_err-end-clause-fault : goal.returns-in_err-end-clause-fault
 returns-in_err-end-clause-fault g c =
+    let r = c.loop-items.invariant in
+    let n = at_none c.in_ok-item.field-0 c.in_default.not-Some (c.in_ok-item.ensures.none r.run.still) in
+    let h = c.in_err-end.ensures.err (subst IsOpen (sym n.1) r.run.still) in
+    let left = ap (λ s. s.left) n.1 in
+    absurd (omega (arith, h.0, n.0, left))
+
+-- ---- what is left
+
+pub returns-in_err-seq-clause-taken : goal.returns-in_err-seq-clause-taken
+returns-in_err-seq-clause-taken g c =
+    let p = err_from_is_err_and c.from_residual.result c.from_residual.ensures.1 in
+    let f = rw c.in_err-seq.was at c.open_list.follows.holds-at-none in
+    rw (p.1, f.1) (deep_leaves g.R.Source c.args.self.now c.args.len _ f.0)
+
+pub returns-in_err-item-clause-taken : goal.returns-in_err-item-clause-taken
+returns-in_err-item-clause-taken g c =
+    let r = c.loop-items.invariant in
+    let same = sym c.in_ok-seq.ensures.same_reference ∙ sym r.run.same_reference ∙ sym c.next_number.ensures.same_reference in
+    let p = err_from_is_err_and c.from_residual-in_err-item.result c.from_residual-in_err-item.ensures.1 in
+    let f = c.in_err-item.ensures.err r.run.still in
+    rw (p.1, p.2) (number_leaves g.R.Source c.args.self.now _ c.in_ok-seq.seq c.args.len c.in_ok-seq.ensures.opened c.loop-items.seq
+    c.next_number.new.self r.trees c.loop-items.items.items _ c.in_ok-seq.ensures.opened.deep r.run r.values f (search rules) c.in_err-item.ensures.taken)
+
+pub returns-in_err-push-clause-taken : goal.returns-in_err-push-clause-taken
+returns-in_err-push-clause-taken g c =
+    let p = err_from_is_err_and c.from_residual-in_err-push.result c.from_residual-in_err-push.ensures.1 in
+    rw (p.1, p.2) (list_unsaid g.R.Source c.args.self.now _ c.args.len)
+
+pub returns-in_err-end-clause-taken : goal.returns-in_err-end-clause-taken
+returns-in_err-end-clause-taken g c =
     let r = c.loop-items.invariant in
     let n = at_none c.in_ok-item.field-0 c.in_default.not-Some (c.in_ok-item.ensures.none r.run.still) in
     let h = c.in_err-end.ensures.err (subst IsOpen (sym n.1) r.run.still) in

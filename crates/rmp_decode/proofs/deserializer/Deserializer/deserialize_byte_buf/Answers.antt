@@ -1,6 +1,6 @@
 use Rattle.std.proofs.Common.{◌≡◌, ℕ, false}
 use Rattle.rmp_wire.specs.declared.head.Head.TheVariants.{Array, Bin}
-use Rattle.rmp_decode.proofs.BufferErrors.{list_other}
+use Rattle.rmp_decode.proofs.BufferErrors.{list_other, buffer_other}
 use Rattle.rmp_decode.proofs.FieldRows.{if_err}
 use Rattle.rmp_decode.proofs.deserializer.Deserializer.deserialize_byte_buf.Goals as goal
 
@@ -20,3 +20,9 @@ returns-in-Some-clause-list g c = λ _.
     let t = c.in-Some.ensures.taken in
     if_err c.byte_buf_payload.result (λ e r. list_other g.R.Source c.args.self.now e _ t.marker (Bin c.in-Some.len) t.begun.marked
     (bytes_differ c.in-Some.len)) (c.byte_buf_payload.ensures.exact false)
+
+pub returns-in-Some-clause-taken : goal.returns-in-Some-clause-taken
+returns-in-Some-clause-taken g c = λ _.
+    let t = c.in-Some.ensures.taken in
+    if_err c.byte_buf_payload.result (λ e r. buffer_other g.R.Source c.args.self.now _ e t.marker (Bin c.in-Some.len) t.begun.marked
+    (bytes_differ c.in-Some.len) (r c.args.self.now t.marker t.begun)) (c.byte_buf_payload.ensures.taken false)

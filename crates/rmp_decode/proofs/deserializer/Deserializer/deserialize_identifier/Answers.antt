@@ -9,3 +9,8 @@ pub returns-in-Some-clause-exact : goal.returns-in-Some-clause-exact
 returns-in-Some-clause-exact g c = λ _.
     let t = c.in-Some.ensures.taken in
     if_err c.identifier_payload.result (λ e r. r c.args.self.now t.marker t.begun) (c.identifier_payload.ensures.exact true)
+
+pub returns-in-Some-clause-taken : goal.returns-in-Some-clause-taken
+returns-in-Some-clause-taken g c = λ _.
+    let t = c.in-Some.ensures.taken in
+    if_err c.identifier_payload.result (λ e r. r c.args.self.now t.marker t.begun) (c.identifier_payload.ensures.taken true)

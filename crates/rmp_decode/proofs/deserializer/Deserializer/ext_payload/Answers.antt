@@ -4,6 +4,7 @@ use Rattle.rmp_wire.specs.Types.{tag_of}
 use Rattle.rmp_decode.specs.Content.{IsExtHead, not_ext, never_refused}
 use Rattle.rmp_decode.proofs.ContentErrors.{content_error, piece_ended}
 use Rattle.rmp_decode.proofs.Contents.{ext_content, content_read, content_short}
+use Rattle.rmp_decode.proofs.Consumed.{leaves_payload, piece_short}
 use Rattle.rmp_decode.proofs.deserializer.Deserializer.ext_payload.Goals as goal
 
 pub returns-in-Ok-clause-law : goal.returns-in-Ok-clause-law
@@ -23,3 +24,8 @@ pub returns-in-Err-clause-exact : goal.returns-in-Err-clause-exact
 returns-in-Err-clause-exact g c = λ old m h.
     content_error g.R.Source IsExtHead not_ext never_refused old c.args.self.now _ (m, Ext c.args.len c.args.tag) (Ext c.args.len c.args.tag) c.args.len _ h
     refl refl tt (piece_ended _ _ _ _ _ _ c.in-Err.ensures.err c.in-Err.ensures.end) c.in-Err.ensures.fault
+
+pub returns-in-Err-clause-taken : goal.returns-in-Err-clause-taken
+returns-in-Err-clause-taken g c = λ old m h.
+    leaves_payload g.R.Source IsExtHead old c.args.self.now _ (m, Ext c.args.len c.args.tag) (Ext c.args.len c.args.tag) c.args.len _ h refl refl tt
+    (piece_short c.args.len _ _ _ _ _ c.in-Err.ensures.err)

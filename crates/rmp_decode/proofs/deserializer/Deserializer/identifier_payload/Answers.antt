@@ -1,10 +1,11 @@
 use Rattle.std.proofs.Common.{◌∙◌, ap, sym, refl, Some, Option, ℕ}
-use Rattle.rmp_decode.specs.Content.{not_raw, never_refused}
+use Rattle.rmp_decode.specs.Content.{IsRawHead, not_raw, never_refused}
 use Rattle.rmp_decode.specs.Kinds.{raw_head}
 use Rattle.rmp_decode.specs.Names.{bytes_of, IsNameHead}
-use Rattle.rmp_decode.proofs.ContentErrors.{content_error, piece_ended, raw_len}
+use Rattle.rmp_decode.proofs.ContentErrors.{content_error, piece_ended, raw_len, raw_wanted}
 use Rattle.rmp_decode.proofs.Contents.{raw_content, content_read, content_short}
 use Rattle.rmp_decode.proofs.Names.{name_of_raw, name_wanted}
+use Rattle.rmp_decode.proofs.Consumed.{leaves_payload, piece_short}
 use Rattle.rmp_decode.proofs.deserializer.Deserializer.identifier_payload.Goals as goal
 
 pub returns-in-Ok-clause-law : goal.returns-in-Ok-clause-law
@@ -23,3 +24,8 @@ pub returns-in-Err-clause-exact : goal.returns-in-Err-clause-exact
 returns-in-Err-clause-exact g c = λ t old m h.
     content_error g.R.Source IsNameHead not_raw never_refused old c.args.self.now _ (m, raw_head t c.args.len) (raw_head t c.args.len) c.args.len _ h refl
     (raw_len t c.args.len) (name_wanted t c.args.len) (piece_ended _ _ _ _ _ _ c.in-Err.ensures.err c.in-Err.ensures.end) c.in-Err.ensures.fault
+
+pub returns-in-Err-clause-taken : goal.returns-in-Err-clause-taken
+returns-in-Err-clause-taken g c = λ t old m h.
+    leaves_payload g.R.Source IsRawHead old c.args.self.now _ (m, raw_head t c.args.len) (raw_head t c.args.len) c.args.len _ h refl
+    (raw_len t c.args.len) (raw_wanted t c.args.len) (piece_short c.args.len _ _ _ _ _ c.in-Err.ensures.err)

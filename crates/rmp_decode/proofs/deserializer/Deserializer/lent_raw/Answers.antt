@@ -53,4 +53,4 @@ returns-in-None-clause-taken g c = λ _. leaves_head g.R.Source IsRawHead c.args
     (no_raw_head c.in-Ok.head c.in-None.ensures)
 
 pub returns-in-Err-clause-taken : goal.returns-in-Err-clause-taken
-returns-in-Err-clause-taken g c = λ o. leaves_none _ IsRawHead _ _ _ _ _ (c.in-Err.ensures.ends o)
+returns-in-Err-clause-taken g c = λ o. leaves_none _ IsRawHead _ _ _ _ _ (c.in-Err.ensures.ends o) (c.in-Err.ensures.leaves o)

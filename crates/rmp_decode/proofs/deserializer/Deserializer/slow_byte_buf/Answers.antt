@@ -1,10 +1,11 @@
 use Rattle.std.proofs.Common.{◌∙◌, sym, subst, refl, Ok}
 use Rattle.rmp_wire.specs.declared.head.Head.TheVariants.{Array}
-use Rattle.rmp_decode.specs.Content.{IsBufferHead, not_raw, not_buffer}
+use Rattle.rmp_decode.specs.Content.{IsBufferHead, IsRawHead, not_raw, not_buffer}
 use Rattle.rmp_decode.specs.Law.{ReadsHead}
-use Rattle.rmp_decode.proofs.BufferErrors.{list_none, list_other, list_after, raw_no_list}
+use Rattle.rmp_decode.proofs.BufferErrors.{list_none, list_other, list_after, raw_no_list, buffer_none, buffer_other, buffer_after}
 use Rattle.rmp_decode.proofs.Buffers.{no_buffer}
-use Rattle.rmp_decode.proofs.ContentErrors.{content_other, content_none, content_differ, no_buffer_head}
+use Rattle.rmp_decode.proofs.Consumed.{leaves_head, leaves_none}
+use Rattle.rmp_decode.proofs.ContentErrors.{content_other, content_none, content_differ, no_buffer_head, no_raw_head}
 use Rattle.rmp_decode.proofs.FieldRows.{if_err}
 use Rattle.rmp_decode.proofs.Laws.{refused_none, refused_head}
 use Rattle.rmp_decode.proofs.deserializer.Deserializer.slow_byte_buf.Goals as goal
@@ -58,3 +59,24 @@ pub returns-in-Some-clause-list : goal.returns-in-Some-clause-list
 returns-in-Some-clause-list g c = λ _. if_err c.byte_buf_payload.result (λ e r. list_other g.R.Source c.args.self.now _ _ c.in-Ok.field-0-0 c.in-Ok.head
     c.in-Ok.ensures.marked (λ n e. raw_no_list c.in-Some.field-0-0 c.in-Some.len n (sym c.in-Some.ensures ∙ e)))
     (c.byte_buf_payload.ensures.exact c.in-Some.field-0-0)
+
+-- ---- what is left
+
+pub returns-in-Some-as_array-clause-taken : goal.returns-in-Some-as_array-clause-taken
+returns-in-Some-as_array-clause-taken g c = λ _. buffer_after g.R.Source c.args.self.now c.head.new.self _ c.in-Ok.field-0-0 c.in-Ok.head
+    c.in-Some-as_array.len c.byte_list.result c.in-Ok.ensures c.in-Some-as_array.ensures c.byte_list.ensures.taken
+
+pub returns-in-None-as_array-clause-taken : goal.returns-in-None-as_array-clause-taken
+returns-in-None-as_array-clause-taken g c = λ _. buffer_other g.R.Source c.args.self.now _ _ c.in-Ok.field-0-0 c.in-Ok.head c.in-Ok.ensures.marked
+    c.in-None-as_array.ensures (leaves_head g.R.Source IsRawHead c.args.self.now _ (c.in-Ok.field-0-0, c.in-Ok.head) _ c.in-Ok.ensures
+    (no_raw_head c.in-Ok.head c.in-None.ensures))
+
+pub returns-in-Err-clause-taken : goal.returns-in-Err-clause-taken
+returns-in-Err-clause-taken g c = λ o. buffer_none g.R.Source c.args.self.now _ _ (c.in-Err.ensures.ends o)
+    (leaves_none _ IsRawHead _ _ _ _ _ (c.in-Err.ensures.ends o) (c.in-Err.ensures.leaves o))
+
+pub returns-in-Some-clause-taken : goal.returns-in-Some-clause-taken
+returns-in-Some-clause-taken g c = λ _. if_err c.byte_buf_payload.result (λ e r. buffer_other g.R.Source c.args.self.now _ _ c.in-Ok.field-0-0 c.in-Ok.head
+    c.in-Ok.ensures.marked (λ n e. raw_no_list c.in-Some.field-0-0 c.in-Some.len n (sym c.in-Some.ensures ∙ e)) (r c.args.self.now c.in-Ok.field-0-0
+    (subst (λ h. ReadsHead g.R.Source c.args.self.now c.head.new.self (Ok (c.in-Ok.field-0-0, h))) c.in-Some.ensures c.in-Ok.ensures)))
+    (c.byte_buf_payload.ensures.taken c.in-Some.field-0-0)

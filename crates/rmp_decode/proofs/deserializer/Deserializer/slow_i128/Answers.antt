@@ -59,4 +59,4 @@ returns-then-not-is_sixteen-clause-taken g c = λ _. leaves_head g.R.Source IsSi
     (not_signed_head c.in-Ok.next.1 (c.in_default.ensures, c.is_sixteen.ensures.no (search rules)))
 
 pub returns-in-Err-clause-taken : goal.returns-in-Err-clause-taken
-returns-in-Err-clause-taken g c = λ o. leaves_none _ IsSigned128Head _ _ _ _ _ (c.in-Err.ensures.ends o)
+returns-in-Err-clause-taken g c = λ o. leaves_none _ IsSigned128Head _ _ _ _ _ (c.in-Err.ensures.ends o) (c.in-Err.ensures.leaves o)

@@ -3,13 +3,14 @@ use mir.Syntax.{w128}
 use Rattle.std.proofs.Common.{Ok, rules, ◌∙◌, ap, sym, refl, subst, length, inl, inr}
 use Rattle.rmp_wire.specs.Msg.{whole}
 use Rattle.rmp_wire.specs.Canonical.{heads_of}
-use Rattle.rmp_decode.specs.Content.{not_raw, never_refused}
+use Rattle.rmp_decode.specs.Content.{IsRawHead, not_raw, never_refused}
 use Rattle.rmp_decode.specs.Law.{ReadsHead}
 use Rattle.rmp_decode.specs.Names.{bytes_of, place_below, IsNameHead}
-use Rattle.rmp_decode.proofs.ContentErrors.{content_other, content_none}
+use Rattle.rmp_decode.proofs.ContentErrors.{content_other, content_none, no_raw_head}
 use Rattle.rmp_decode.proofs.FieldRows.{if_err}
 use Rattle.rmp_decode.proofs.Laws.{refused_none, refused_head, refused_leaf, answered_leaf}
 use Rattle.rmp_decode.proofs.Names.{is_key_of, below_length, not_below, no_name_head, no_negative_head}
+use Rattle.rmp_decode.proofs.Consumed.{leaves_head, leaves_none}
 use Rattle.rmp_decode.proofs.deserializer.Deserializer.slow_identifier.Goals as goal
 
 pub returns-in-None-as_whole-clause-law : goal.returns-in-None-as_whole-clause-law
@@ -59,3 +60,19 @@ pub returns-in-Some-clause-exact : goal.returns-in-Some-clause-exact
 returns-in-Some-clause-exact g c = λ _. if_err c.identifier_payload.result (λ e r. r c.args.self.now c.in-Ok.field-0-0
     (subst (λ h. ReadsHead g.R.Source c.args.self.now c.head.new.self (Ok (c.in-Ok.field-0-0, h))) c.in-Some.ensures c.in-Ok.ensures))
     (c.identifier_payload.ensures.exact c.in-Some.field-0-0)
+
+pub returns-in-None-as_whole-clause-taken : goal.returns-in-None-as_whole-clause-taken
+returns-in-None-as_whole-clause-taken g c = λ _. leaves_head g.R.Source IsRawHead c.args.self.now _ (c.in-Ok.field-0-0, c.in-Ok.head) _ c.in-Ok.ensures
+    (no_raw_head c.in-Ok.head c.in-None.ensures)
+
+pub returns-in-None-place_below-clause-taken : goal.returns-in-None-place_below-clause-taken
+returns-in-None-place_below-clause-taken g c = λ _. leaves_head g.R.Source IsRawHead c.args.self.now _ (c.in-Ok.field-0-0, c.in-Ok.head) _ c.in-Ok.ensures
+    (subst (λ h. IsRawHead h → ⊥) (sym c.in-Some-as_whole.ensures) (λ w. w))
+
+pub returns-in-Err-clause-taken : goal.returns-in-Err-clause-taken
+returns-in-Err-clause-taken g c = λ o. leaves_none _ IsRawHead _ _ _ _ _ (c.in-Err.ensures.ends o) (c.in-Err.ensures.leaves o)
+
+pub returns-in-Some-clause-taken : goal.returns-in-Some-clause-taken
+returns-in-Some-clause-taken g c = λ _. if_err c.identifier_payload.result (λ e r. r c.args.self.now c.in-Ok.field-0-0
+    (subst (λ h. ReadsHead g.R.Source c.args.self.now c.head.new.self (Ok (c.in-Ok.field-0-0, h))) c.in-Some.ensures c.in-Ok.ensures))
+    (c.identifier_payload.ensures.taken c.in-Some.field-0-0)

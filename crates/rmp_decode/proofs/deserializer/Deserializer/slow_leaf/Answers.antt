@@ -25,4 +25,4 @@ pub returns-in-None-clause-taken : goal.returns-in-None-clause-taken
 returns-in-None-clause-taken g c = λ _. leaves_head g.R.Source no_payload c.args.self.now _ (c.in-Ok.marker, c.in-Ok.head) _ c.in-Ok.ensures (λ w. w)
 
 pub returns-in-Err-clause-taken : goal.returns-in-Err-clause-taken
-returns-in-Err-clause-taken g c = λ o. leaves_none _ no_payload _ _ _ _ _ (c.in-Err.ensures.ends o)
+returns-in-Err-clause-taken g c = λ o. leaves_none _ no_payload _ _ _ _ _ (c.in-Err.ensures.ends o) (c.in-Err.ensures.leaves o)

@@ -72,4 +72,4 @@ returns-then-z-lt0-clause-taken g c = λ _. leaves_head g.R.Source IsUnsigned128
     (not_negative_head _ c.in-Some.z c.in-Some.ensures (λ p. omega (arith, ints)))
 
 pub returns-in-Err-clause-taken : goal.returns-in-Err-clause-taken
-returns-in-Err-clause-taken g c = λ o. leaves_none _ IsUnsigned128Head _ _ _ _ _ (c.in-Err.ensures.ends o)
+returns-in-Err-clause-taken g c = λ o. leaves_none _ IsUnsigned128Head _ _ _ _ _ (c.in-Err.ensures.ends o) (c.in-Err.ensures.leaves o)
