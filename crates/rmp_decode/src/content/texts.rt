@@ -71,7 +71,8 @@ impl<R: Source, C: SerializerConfig> Deserializer<R, C> {
         }
     }
 
-    // Copies a text or bytes into a vector, and returns whether it was a text.
+    // Copies a text or bytes into a vector, and returns whether it was a text: the slow path, out of line.
+    #[inline(never)]
     fn owned_raw<'de>(&mut self) -> Result<(bool, Vec<u8>), Error>
     where
         R: ReadSlice<'de>,
@@ -89,6 +90,7 @@ impl<R: Source, C: SerializerConfig> Deserializer<R, C> {
     }
 
     // Copies the payload of a text or of bytes, `len` bytes, into a vector.
+    #[inline(always)]
     fn owned_payload<'de>(&mut self, is_text: bool, len: u32) -> Result<(bool, Vec<u8>), Error>
     where
         R: ReadSlice<'de>,
@@ -99,9 +101,9 @@ impl<R: Source, C: SerializerConfig> Deserializer<R, C> {
         match owned(self.alloc, &mut self.reader, len as usize) {
             Ok(payload) => {
                 self.failed = false;
-                Ok((is_text, payload))
+                return Ok((is_text, payload));
             }
-            Err(e) => Err(e),
+            Err(e) => return Err(e),
         }
     }
 
@@ -117,8 +119,8 @@ impl<R: Source, C: SerializerConfig> Deserializer<R, C> {
         ensures taken { RefusalLeaves R.Source IsRawHead self.old self.new result }
     {
         match self.take(RawHead) {
-            Some((is_text, len)) => self.owned_payload(is_text, len),
-            None => self.owned_raw(),
+            Some((is_text, len)) => return self.owned_payload(is_text, len),
+            None => return self.owned_raw(),
         }
     }
 
