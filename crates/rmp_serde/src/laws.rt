@@ -2,7 +2,7 @@
 //!
 //! A caller uses a law by calling its function: what the call ensures is the law, for every argument.
 
-ghost use Rattle.std.specs.Prelude.{◌≡◌, ◌≤◌, ◌↔◌, ◌+◌, ℕ, List, ◌++◌, length, take, drop, Some, true, false};
+ghost use Rattle.std.specs.Prelude.{◌≡◌, ◌≤◌, ◌↔◌, ◌+◌, ℕ, Bool, List, ◌++◌, length, take, drop, Some, true, false};
 ghost use Rattle.std.specs.Io.KnownBytes.{Consumes};
 ghost use Rattle.rmp_wire.specs.declared.head.Head.{Head};
 ghost use Rattle.rmp_wire.specs.Heads.{IsHead, canon_head, fits_head};
@@ -27,13 +27,14 @@ ghost use Rattle.rmp_serde.specs.Read.{reads_value, ItemsUtf8};
 ghost use Rattle.rmp_serde.specs.Refuse.{UnreadFor};
 ghost use Rattle.rmp_serde.specs.ValueData.{value_data};
 
+use crate::decode::Deserialize;
 pub use rmp_encode::laws::known_and_unknown_lengths;
 pub use rmp_ends::laws::ends_are_inside;
 pub use rmp_round_trip::laws::{
     names_are_found, values_come_back, values_in_turn, versions_are_read, widths_are_alike,
     written_is_read,
 };
-use rmp_wire::{ByteBuf, Bytes, Ext, Reference};
+use rmp_wire::{ByteBuf, Bytes, Ext, ReadSlice, Reference};
 
 /// No head begins a different head: where two are at the beginning of one input, they are the same.
 pub fn no_head_begins_another()
@@ -121,13 +122,13 @@ pub fn an_end_is_inside_a_message(input: &[u8])
     ensures whole { (room n : ℕ) (e : ReadError) → Refusal false (UnreadFor false) ItemsUtf8 room e input.now → MessageEnds input.now n → IsEnd e → ⊥ }
 {}
 
-/// Where `message_len` of an input is `Some(n)`, a read from the first n bytes gives what a read from all of them gives: each value or none,
-/// and what is read are those n bytes.
-pub fn a_message_is_read_alone()
-    ensures same { (input : List ℕ) (n room : ℕ) (v : Msg) → MessageEnds input n
-        → Begins Spells (λ m. reads_value m v) room (take n input) ↔ Begins Spells (λ m. reads_value m v) room input }
-    ensures refused { (input : List ℕ) (n room : ℕ) → MessageEnds input n
-        → Begins Spells (Readable reads_value) room (take n input) ↔ Begins Spells (Readable reads_value) room input }
+/// Where `message_len` of an input is `Some(n)`, a read of a `T` from the first n bytes gives what a read from all of them gives: each value
+/// or none, and what is read are those n bytes.
+pub fn a_message_is_read_alone<'de, R: ReadSlice<'de>, T: Deserialize<'de, R>>()
+    ensures same { (human lends : Bool) (input : List ℕ) (n room : ℕ) (v : T) → MessageEnds input n
+        → Begins Spells (λ m. T.reads human lends m v) room (take n input) ↔ Begins Spells (λ m. T.reads human lends m v) room input }
+    ensures refused { (human lends : Bool) (input : List ℕ) (n room : ℕ) → MessageEnds input n
+        → Begins Spells (Readable (T.reads human lends)) room (take n input) ↔ Begins Spells (Readable (T.reads human lends)) room input }
     ensures consumed { (input : List ℕ) (n : ℕ) (b r : List ℕ) (m : Msg) → MessageEnds input n → Spells b m → input ≡ b ++ r
         → (length b ≡ n) × (b ≡ take n input) }
 {}
