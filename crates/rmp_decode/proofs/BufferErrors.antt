@@ -68,7 +68,8 @@ use Rattle.rmp_decode.specs.declared.access.seq.SeqAccess.{SeqAccess}
 use Rattle.rmp_decode.specs.declared.error.Error.{Error}
 use Rattle.rmp_decode.specs.declared.error.Error.TheVariants.{DepthLimitExceeded, OutOfMemory, Syntax}
 use Rattle.rmp_decode.specs.declared.text.Text.TheVariants.{InvalidValue}
-use Rattle.rmp_decode.proofs.Exactness.{start_once, exact_tells}
+use Rattle.rmp_decode.proofs.Exactness.{start_once, exact_tells, none_told}
+use Rattle.rmp_decode.proofs.Faults.{tells_after}
 use Rattle.rmp_decode.proofs.Rows.{push, count-push}
 use Rattle.rmp_decode.proofs.Seqs.{run_step, each-push}
 use Rattle.rmp_decode.proofs.FirstFault.{is_memory, Front, front_of, starts}
@@ -150,8 +151,14 @@ pub number_told : {R C : Type 0} (g : Ghosts R) (d : Deserializer R C) (start : 
     (mid now : SeqAccess R C) (ms : Msgs) (e : Error) (after : ℕ) → Run g start mid ms → after ≡ faults_of g now.de.now
     → RefusesExactly mid.de.now.strict other_number (faults_of g mid.de.now) (faults_of g now.de.now) (left g mid.de.now) e
     → TellsFault (faults_of g d) after e
-number_told g d start len o mid now ms e after r q x = λ n. exact_tells _ other_number _ _ _ e x
-    (λ k. n (q ∙ k ∙ r.faults_same ∙ ap (faults_of g) o.lender))
+number_told g d start len o mid now ms e after r q x =
+    subst (λ z. TellsFault (faults_of g d) z e) (sym q) (tells_after _ _ _ e (r.faults_same ∙ ap (faults_of g) o.lender) (exact_tells _ other_number _ _ _ e x))
+
+-- there was none where memory was short
+pub unkept_told : {R C : Type 0} (g : Ghosts R) (d : Deserializer R C) (start : SeqAccess R C) (len : ℕ) (o : ListAfterHead len d start)
+    (mid now : SeqAccess R C) (ms : Msgs) (after n : ℕ) → Run g start mid ms → TakesElement g (IsUnsigned 255) mid now n → after ≡ faults_of g now.de.now
+    → TellsFault (faults_of g d) after OutOfMemory
+unkept_told g d start len o mid now ms after n r t q = none_told _ _ OutOfMemory (q ∙ t.faults_same ∙ r.faults_same ∙ ap (faults_of g) o.lender)
 
 at_item : (w : Bool) (room n : ℕ) (new known : Option (List ℕ)) → 1 < room → IfSome known (AtItem w n (LeavesRest w no_payload new))
     → IfSome known (LeavesList w room n new)

@@ -43,7 +43,7 @@ use Rattle.rmp_wire.proofs.Canon.{canon_head_least}
 use Rattle.rmp_wire.proofs.Strict.{any_width, heads_differ_as}
 use Rattle.rmp_wire.proofs.Writing.{head_some}
 use Rattle.rmp_decode.specs.Content.{RefusesContent, IsTextHead, IsRawHead, IsBufferHead, IsExtHead, not_lent, not_bytes, not_string, not_str}
-use Rattle.rmp_decode.specs.Exact.{BeginsWith, EndsExactly, IsDataEnd, IsReadFault, TellsFault, IsUtf8Error}
+use Rattle.rmp_decode.specs.Exact.{BeginsWith, EndsExactly, IsDataEnd, TellsFault, IsUtf8Error}
 use Rattle.rmp_decode.specs.Kinds.{raw_head, raw_msg, content_len}
 use Rattle.rmp_decode.specs.Law.{Explains, ReadsHead, Reads}
 use Rattle.rmp_decode.specs.Pieces.{Blamed, StartsWithNoChar, RefusesPiece}
@@ -53,7 +53,8 @@ use Rattle.rmp_decode.specs.declared.error.Error.{Error}
 use Rattle.rmp_decode.specs.declared.error.Error.TheVariants.{Syntax}
 use Rattle.rmp_decode.specs.declared.text.Text.TheVariants.{InvalidValue}
 use Rattle.rmp_decode.proofs.Contents.{bare, raw_content}
-use Rattle.rmp_decode.proofs.Exactness.{start_once, starts_known, no_fault}
+use Rattle.rmp_decode.proofs.Exactness.{start_once, starts_known, no_fault, none_told}
+use Rattle.rmp_decode.proofs.Faults.{tells_after}
 
 -- ---- pieces
 
@@ -94,23 +95,24 @@ piece_ended n refused before after known e s d = λ m k. piece_cut n refused kno
 pub piece_blamed : (n : ℕ) (refused : List ℕ → Error → Type 0) (fault : SourceFault) (before after : ℕ) (known : Option (List ℕ)) (e : Error)
     → Blames fault before after known n → Blamed fault e → Explains e before after (RefusesPiece n refused known e)
 piece_blamed n refused Memory before after known e s b = λ m _. absurd (m b)
-piece_blamed n refused (Io cause) before after known e s b = λ _ k. let x = s k in piece_cut n refused known e x.0 (b.1 x.1)
+piece_blamed n refused (Io cause) before after known e s b = λ _ k. let x = s.1 k in piece_cut n refused known e x.0 (b.1 x.1)
 
 -- a fault says that the bytes were too few, and what comes of it that the data ended
 pub blamed_short : (n : ℕ) (fault : SourceFault) (before after : ℕ) (known : Option (List ℕ)) (e : Error) → Blames fault before after known n
     → Blamed fault e → Explains e before after (IsShort n known)
 blamed_short n Memory before after known e s b = λ m _. absurd (m b)
-blamed_short n (Io cause) before after known e s b = λ _ k. (s k).0
+blamed_short n (Io cause) before after known e s b = λ _ k. (s.1 k).0
 
 pub blamed_end : (n : ℕ) (fault : SourceFault) (before after : ℕ) (known : Option (List ℕ)) (e : Error) → Blames fault before after known n
     → Blamed fault e → Explains e before after (IsDataEnd e)
 blamed_end n Memory before after known e s b = λ m _. absurd (m b)
-blamed_end n (Io cause) before after known e s b = λ _ k. b.1 (s k).1
+blamed_end n (Io cause) before after known e s b = λ _ k. b.1 (s.1 k).1
 
 -- a fault is told by what comes of it
-pub blamed_tells : (fault : SourceFault) (before after : ℕ) (e : Error) → Blamed fault e → TellsFault before after e
-blamed_tells Memory before after e b = λ _. subst IsReadFault (sym b) tt
-blamed_tells (Io cause) before after e b = λ _. b.2
+pub blamed_tells : (n : ℕ) (fault : SourceFault) (before after : ℕ) (known : Option (List ℕ)) (e : Error) → Blames fault before after known n
+    → Blamed fault e → TellsFault before after e
+blamed_tells n Memory before after known e s b = none_told before after e s
+blamed_tells n (Io cause) before after known e s b = record { counts = s.0; told = λ _. b.2 }
 
 short_char : (n : ℕ) (known : Option (List ℕ)) → IsShort n known → StartsWithNoChar n known
 short_char n None h = tt
@@ -119,7 +121,7 @@ short_char n (Some xs) h = λ c r _ m q. absurd (let long = ap length q ∙ leng
 pub char_blamed : (n : ℕ) (fault : SourceFault) (before after : ℕ) (known : Option (List ℕ)) (e : Error) → Blames fault before after known n
     → Blamed fault e → Explains e before after (StartsWithNoChar n known)
 char_blamed n Memory before after known e s b = λ m _. absurd (m b)
-char_blamed n (Io cause) before after known e s b = λ _ k. short_char n known (s k).0
+char_blamed n (Io cause) before after known e s b = λ _ k. short_char n known (s.1 k).0
 
 -- a source that doesn't lend
 pub unlent : (lends t : Bool) (n m : ℕ) (s : List ℕ) (e : Error) → lends ≡ false → not_lent (raw_head t n) s e → not_bytes lends (raw_head t m) s e
@@ -306,7 +308,7 @@ module _ {R C : Type 0} (g : Ghosts R) (wanted : Head → Type 0) (other : Marke
   content_error p h n e r i l w x f =
       content_after old.strict wanted other refused (faults_of g old) after (left g old) (left g mid) r.ok.bytes p.0 p.1 e r.ok.takes r.ok.is_head r.marked
       (subst wanted (sym i) w) (λ o k.
-      rw (bare g mid r.clean, i, l) (x o (k ∙ sym r.sound))) (λ n. f (λ k. n (k ∙ r.sound)))
+      rw (bare g mid r.clean, i, l) (x o (k ∙ sym r.sound))) (tells_after _ _ _ e r.sound f)
 
   -- a text or bytes were taken whole, and then refused
   pub content_refused_after : {V : Type 0} (reads : Msg → V → Type 0) (v : V) (t : Bool) (s : List ℕ) (e : Error) (r : Reads g reads old mid v)
@@ -321,7 +323,7 @@ module _ {R C : Type 0} (g : Ghosts R) (wanted : Head → Type 0) (other : Marke
       content_after old.strict wanted other refused (faults_of g old) after (left g old) (prepend_known s (left g mid)) j.first m.0 h e taken j.is_first
       m.1 w (λ _ _.
       piece_whole (content_len h) (refused h) (prepend_known s (left g mid)) (left g mid) s e (front_known (left g mid) s) (sym (raw_len t (length s))) f)
-      (λ n. absurd (n sound))
+      (none_told _ _ e sound)
 
 -- ---- whole content that isn't UTF-8
 

@@ -98,8 +98,12 @@ number_starts s n l f m small wide (Some ys) =
 -- ---- the error
 
 -- the source had no fault
+-- there was no fault
+pub none_told : (before after : ℕ) (e : Error) → after ≡ before → TellsFault before after e
+none_told before after e same = record { counts = inl same; told = λ n. absurd (n same) }
+
 pub no_fault : {P : Type 0} (before after : ℕ) (e : Error) → after ≡ before → P → UnlessFault before after e P
-no_fault before after e same p = (λ _. p, λ n. absurd (n same))
+no_fault before after e same p = (λ _. p, none_told before after e same)
 
 pub exact_head : (s : Bool) (table : Marker → Head → Error) (before after : ℕ) (known : Option (List ℕ)) (m : Marker) (h : Head) (e : Error)
     → after ≡ before → IfSome known (BeginsWith s m h) → e ≡ table m h → RefusesExactly s table before after known e
@@ -202,9 +206,9 @@ ends_known (b ∷ xs) new before after (wire.TypeMismatch k) q r none =
 -- the byte c1 is no fault of the source
 fault_told : (known new : Option (List ℕ)) (before after : ℕ) (e : ValueReadError) → FailsNext known new before after e
     → TellsFault before after (error_of e)
-fault_told known new before after (wire.InvalidMarkerRead f) r = λ _. tt
-fault_told known new before after (wire.InvalidDataRead f) r = λ _. tt
-fault_told known new before after (wire.TypeMismatch k) r = λ n. absurd (n r.leaves.2)
+fault_told known new before after (wire.InvalidMarkerRead f) r = record { counts = r.counts; told = λ _. tt }
+fault_told known new before after (wire.InvalidDataRead f) r = record { counts = r.counts; told = λ _. tt }
+fault_told known new before after (wire.TypeMismatch k) r = none_told before after (error_of (wire.TypeMismatch k)) r.leaves.2
 
 pub ends_none : (s : Bool) (known new : Option (List ℕ)) (before after : ℕ) (e : ValueReadError) → FailsNext known new before after e
     → EndsExactly s before after known (error_of e)

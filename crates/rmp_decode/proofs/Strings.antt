@@ -26,7 +26,7 @@ use Rattle.rmp_decode.proofs.Contents.{text_content, content_refused}
 pub text_blamed : (n : ℕ) (fault : SourceFault) (before after : ℕ) (known : Option (List ℕ)) (e : Error) → Blames fault before after known n
     → Blamed fault e → Explains e before after (StartsWithNoText n known)
 text_blamed n Memory before after known e s b = λ m _. absurd (m b)
-text_blamed n (Io cause) before after known e s b = λ _ k. short_text n known (s k).0
+text_blamed n (Io cause) before after known e s b = λ _ k. short_text n known (s.1 k).0
 
 as_text : (b : Bool) (n : ℕ) (m : Msg) (t : List ℕ) → head_of m ≡ head.Text n → m ≡ raw_msg b t → m ≡ text t
 as_text true n m t h e = e

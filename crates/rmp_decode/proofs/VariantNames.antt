@@ -68,7 +68,7 @@ use Rattle.rmp_decode.specs.declared.error.Error.{Error}
 use Rattle.rmp_decode.specs.declared.error.Error.TheVariants.{LengthMismatch, DepthLimitExceeded}
 use Rattle.rmp_decode.proofs.ContentErrors.{content_none, content_other, content_differ, same_front}
 use Rattle.rmp_decode.proofs.Contents.{raw_content, content_refused}
-use Rattle.rmp_decode.proofs.Exactness.{start_once}
+use Rattle.rmp_decode.proofs.Exactness.{start_once, none_told}
 use Rattle.rmp_decode.proofs.Opening.{deep_refuses}
 use Rattle.rmp_decode.proofs.Names.{name_of_raw, length_bytes}
 use Rattle.rmp_decode.proofs.NothingAccepted.{refuses_none, refuses_head, same_head}
@@ -142,7 +142,7 @@ short_name names n (Some xs) h = λ s r p q l m. let long = ap length q ∙ leng
 pub name_blamed : (names : List (List ℕ)) (n : ℕ) (fault : SourceFault) (before after : ℕ) (known : Option (List ℕ)) (e : Error)
     → Blames fault before after known n → Blamed fault e → Explains e before after (StartsWithNoName names n known)
 name_blamed names n Memory before after known e s b = λ m _. absurd (m b)
-name_blamed names n (Io cause) before after known e s b = λ _ k. short_name names n known (s k).0
+name_blamed names n (Io cause) before after known e s b = λ _ k. short_name names n known (s.1 k).0
 
 -- the bytes that were taken are no name
 pub no_name_taken : (names : List (List ℕ)) (n : ℕ) (bytes : List ℕ) (known k : Option (List ℕ)) → Consumes known k bytes → length bytes ≡ n
@@ -393,10 +393,10 @@ module _ {R C : Type 0} (g : Ghosts R) (names : List (List ℕ)) (old new : Dese
       before = λ b. absurd (let o = h.fresh in cc);
       err = λ _ _ _. deep_refuses g Pairs old new p h i l (IsVariant names);
       exact = λ _ human lends. inl (content_differ old.strict IsVariantHead other_variant (not_variant (room_of old)) _ _ _ p.0 p.1 (Map 1) e h.marked i refl
-          refl (λ s. (omega (arith, l), q)) (λ n. absurd (n h.sound)));
+          refl (λ s. (omega (arith, l), q)) (none_told _ _ _ h.sound));
       named = λ _ human lends. inl (
         content_differ old.strict IsVariantHead other_variant (not_variant (room_of old)) _ _ _ p.0 p.1 (Map 1) e h.marked i refl
-            refl (λ s. (omega (arith, l), q)) (λ n. absurd (n h.sound)),
+            refl (λ s. (omega (arith, l), q)) (none_told _ _ _ h.sound),
         no_name 1 i,
       );
     }

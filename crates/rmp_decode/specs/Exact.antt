@@ -2,6 +2,7 @@
 use Rattle.std.specs.Prelude.{◌≡◌, ◌≢◌, ◌⊎◌, ℕ, Bool, false, List, [], ◌∷◌, ◌++◌, Option, IfSome, Result, IfErr}
 use Rattle.std.specs.declared.io.ErrorKind.TheVariants.{UnexpectedEof}
 use Rattle.rmp_wire.specs.Faults.{fault_kind}
+use Rattle.rmp_wire.specs.Sources.{AtMostOne}
 use Rattle.rmp_wire.specs.Canonical.{heads_of}
 use Rattle.rmp_wire.specs.Taking.{marker_of}
 use Rattle.rmp_wire.specs.declared.head.Head.{Head}
@@ -47,9 +48,10 @@ IsReadFault (InvalidDataRead fault) = Unit {0}
 IsReadFault OutOfMemory = Unit {0}
 IsReadFault _ = ⊥
 
--- Where the source had a fault (it counts them: before, after), the error says that a read of it failed, or memory was short.
-abbrev pub TellsFault : ℕ → ℕ → Error → Type 0
-TellsFault before after e = after ≢ before → IsReadFault e
+-- The source had at most one fault (it counts them: before, after). Where it had one, the error says that a read of it failed, or memory was short.
+pub record TellsFault (before after : ℕ) (e : Error) : Type 0 where
+  pub counts : AtMostOne before after
+  pub told : after ≢ before → IsReadFault e
 
 -- Where the source had no fault P holds, and otherwise the error tells it.
 abbrev pub UnlessFault : ℕ → ℕ → Error → Type 0 → Type 0

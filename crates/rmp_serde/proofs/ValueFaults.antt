@@ -1,14 +1,13 @@
 -- A fault of the source is told by the error of a read of a value.
-use Rattle.std.proofs.Common.{◌≡◌, sym, subst, inl, inr, ℕ, Ok, Err}
-use Rattle.std.specs.Prelude.{◌⊎◌, Result, IfErr}
+use Rattle.std.proofs.Common.{◌≡◌, ℕ, Ok, Err}
+use Rattle.std.specs.Prelude.{Result, IfErr}
 use Rattle.rmp_wire.specs.declared.head.Head.{Head}
 use Rattle.rmp_wire.specs.declared.head.Head.TheVariants as head
 use Rattle.rmp_wire.specs.declared.source.Source.{Ghosts}
-use Rattle.rmp_decode.specs.Exact.{IsReadFault, TellsFault, UnlessFault}
+use Rattle.rmp_decode.specs.Exact.{TellsFault, UnlessFault}
 use Rattle.rmp_decode.specs.State.{faults_of}
 use Rattle.rmp_decode.specs.declared.deserializer.Deserializer.{Deserializer}
 use Rattle.rmp_decode.specs.declared.error.Error.{Error}
-use Rattle.rmp_decode.specs.declared.error.Error.TheVariants.{OutOfMemory}
 use Rattle.rmp_serde.specs.ReadParts.{FailsLeaf}
 
 module _ {R C : Type 0} (g : Ghosts R) (old new : Deserializer R C) (e : Error) where
@@ -24,11 +23,6 @@ module _ {R C : Type 0} (g : Ghosts R) (old new : Deserializer R C) (e : Error) 
   leaf_tells (head.Array n) f = f.fault
   leaf_tells (head.Map n) f = f.fault
   leaf_tells (head.Ext n tag) f = f.fault
-
-  -- or memory ran out for it
-  pub unread_tells : (h : Head) → (e ≡ OutOfMemory) ⊎ FailsLeaf g h old new e → TellsFault (faults_of g old) (faults_of g new) e
-  unread_tells h (inl m) = λ _. subst IsReadFault (sym m) tt
-  unread_tells h (inr f) = leaf_tells h f
 
 -- what a type says of its refusals
 pub value_refused : {A : Type 0} (r : Result A Error) (F : Type 0) (before after : ℕ) (P : Error → Type 0) → F → IfErr r (λ e. F → after ≡ before → P e)

@@ -8,7 +8,7 @@ use Rattle.rmp_wire.specs.Copying.{Begun, Gains}
 use Rattle.rmp_wire.specs.Slices.{Blames}
 use Rattle.rmp_wire.specs.declared.slice.SourceFault.{SourceFault}
 use Rattle.rmp_wire.specs.declared.slice.SourceFault.TheVariants.{Memory, Io}
-use Rattle.rmp_wire.specs.Sources.{IsFront, Skips}
+use Rattle.rmp_wire.specs.Sources.{AtMostOne, IsFront, Skips}
 use Rattle.rmp_wire.proofs.Sources.{short_before}
 
 -- what is skipped are the first of the buffered bytes
@@ -85,7 +85,10 @@ begun_whole old new held len taken within = begun_lost old new new held [] 0 len
 -- the fault of a step is that of the whole
 pub blames_before : (e : SourceFault) (old mid : Option (List ℕ)) (held : List ℕ) (before between after most len : ℕ) → Consumes old mid held
     → length held + most ≤ len → between ≡ before → Blames e between after mid most → Blames e before after old len
-blames_before Memory old mid held before between after most len taken room same b = tt
-blames_before (Io e) old mid held before between after most len taken room same b = λ t.
-    let cause = b (t ∙ sym same) in
-    (short_before old mid held most len taken room cause.0, cause.1)
+blames_before Memory old mid held before between after most len taken room same b = b ∙ same
+blames_before (Io e) old mid held before between after most len taken room same b = (
+  subst (λ z. AtMostOne z after) same b.0,
+  λ t.
+      let cause = b.1 (t ∙ sym same) in
+      (short_before old mid held most len taken room cause.0, cause.1),
+)

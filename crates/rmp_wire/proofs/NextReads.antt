@@ -1,5 +1,5 @@
 -- What `next_head` leaves: a marker, and then the rest of its head.
-use Rattle.std.proofs.Common.{◌≡◌, ◌∙◌, sym, ap, subst, ℕ, ◌<◌, List, [], ◌∷◌, ◌++◌, Option, None, Some, Result, Ok, Err, refl}
+use Rattle.std.proofs.Common.{◌≡◌, ◌∙◌, sym, ap, subst, ℕ, ◌<◌, List, [], ◌∷◌, ◌++◌, Option, None, Some, Result, Ok, Err, refl, inl}
 use Rattle.std.specs.Io.KnownBytes.{Consumes, IsAtEnd}
 use Rattle.std.proofs.KnownBytes.{Consumes-trans, Consumes-kept}
 use Rattle.rmp_wire.specs.declared.source.Source.{Ghosts}
@@ -11,6 +11,7 @@ use Rattle.rmp_wire.specs.declared.marker.Marker.{Marker}
 use Rattle.rmp_wire.specs.declared.marker.Marker.TheVariants.{Reserved}
 use Rattle.rmp_wire.specs.Heads.{IsHead}
 use Rattle.rmp_wire.specs.Reading.{TakesMarker, TakesHead, IsCut, FailsHead, TakesNext, NoHead, FailsNext, ReadsMarker, ReadsHead, ReadsNext}
+use Rattle.rmp_wire.specs.Sources.{AtMostOne}
 use Rattle.rmp_wire.specs.Taking.{marker_of, byte_of, take_head}
 use Rattle.rmp_wire.proofs.Heads.{take_head_takes}
 use Rattle.rmp_wire.proofs.Markers.{byte_of-marker_of}
@@ -73,6 +74,7 @@ pub fails_after : (m : Marker) (old mid new : Option (List ℕ)) (before between
     → FailsNext old new before after e
 fails_after m old mid new before between after (InvalidMarkerRead f) c same only t = absurd t
 fails_after m old mid new before between after (InvalidDataRead f) c same only t = record {
+  counts = subst (λ z. AtMostOne z after) same t.counts;
   none = λ q. no_head_cut m old mid c (t.cut (q ∙ sym same));
   leaves = (
     record {
@@ -88,6 +90,7 @@ fails_after m old mid new before between after (InvalidDataRead f) c same only t
   );
 }
 fails_after m old mid new before between after (TypeMismatch k) c same only t = record {
+  counts = inl (t.3 ∙ same);
   none = λ q. no_head_cut m old mid c (subst (λ n. IsCut n mid) (sym t.0) (reserved_cut mid));
   leaves = (t.1, subst (λ n. Consumes old new (byte_of n ∷ [])) t.0 (Consumes-kept old mid new (byte_of m ∷ []) c t.2), t.3 ∙ same);
 }
@@ -108,8 +111,7 @@ module _ {S : Type 0} (g : Ghosts S) where
       subst (ReadsNext g old new) (sym was) (record {
         ok = tt;
         sound = tt;
-        err = record
-            { none = λ q. no_head_at_end (g.ahead old) (t.err.none_ahead q); leaves = t.err };
+        err = record { counts = t.err.counts; none = λ q. no_head_at_end (g.ahead old) (t.err.none_ahead q); leaves = t.err };
         place = t.place;
       })
 

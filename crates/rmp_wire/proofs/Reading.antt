@@ -1,5 +1,5 @@
 -- How many bytes follow a marker, and what follows if fewer remain.
-use Rattle.std.proofs.Common.{◌≡◌, ◌∙◌, sym, ap, ℕ, negsuc, ◌+◌, ◌-◌, ◌%◌, List, [], ◌∷◌, ◌++◌, length, drop, Option, None, Some, refl, arith, nat_lt, false}
+use Rattle.std.proofs.Common.{◌≡◌, ◌∙◌, sym, ap, subst, ℕ, negsuc, ◌+◌, ◌-◌, ◌%◌, List, [], ◌∷◌, ◌++◌, length, drop, Option, None, Some, refl, arith, nat_lt, false}
 use Rattle.std.specs.Int.{Width, w8, w16, w32, w64, byte_len, from_be_bytes, cast_unsigned}
 use Rattle.std.specs.Prelude.{take}
 use Rattle.std.proofs.lemmas.List.{length-append, length-drop, append-nil}
@@ -13,7 +13,7 @@ use Rattle.rmp_wire.specs.declared.marker.Marker.{Marker}
 use Rattle.rmp_wire.specs.declared.marker.Marker.TheVariants as marker
 use Rattle.rmp_wire.specs.Heads.{IsHead}
 use Rattle.rmp_wire.specs.Reading.{IsCut, CutsHead}
-use Rattle.rmp_wire.specs.Sources.{IsShort, TakesShort}
+use Rattle.rmp_wire.specs.Sources.{AtMostOne, IsShort, TakesShort}
 use Rattle.rmp_wire.specs.Taking.{marker_of, byte_of, take_number, take_head, head_after, take_map, take_then, take_tag}
 use Rattle.rmp_wire.proofs.Heads.{marker_pos, marker_map, marker_array, marker_str, marker_neg, take_head_takes}
 use Rattle.rmp_wire.proofs.Taken.{taken_unless, taken_map, taken_then}
@@ -145,6 +145,7 @@ pub cuts_short : (m : Marker) (n : ℕ) (old new : Option (List ℕ)) (before af
     → TakesShort n old new before after fault → CutsHead m old new before after fault
 cuts_short m n old new before after fault l t = record {
   part = record { part = t.part.part; short = λ h x p. omega (arith, t.part.short, tail_length m h x p); taken = t.part.taken };
+  counts = t.counts;
   cut = λ e. cut_by_length m n old l (t.short e);
   end = t.end;
 }
@@ -179,6 +180,7 @@ cuts_short_after m k n old mid new bytes before between after fault l b c same t
     short = λ h x p. omega (arith, t.part.short, tail_length m h x p, length-append bytes t.part.part);
     taken = Consumes-trans old mid new _ _ c t.part.taken;
   };
+  counts = subst (λ z. AtMostOne z after) same t.counts;
   cut = λ e. cut_by_length m (k + n) old l (short_after k n old mid bytes b c (t.short (e ∙ sym same)));
   end = λ e. t.end (e ∙ sym same);
 }

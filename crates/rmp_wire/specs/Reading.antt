@@ -14,7 +14,7 @@ use Rattle.rmp_wire.specs.declared.marker.Marker.TheVariants.{Reserved}
 use Rattle.rmp_wire.specs.declared.source.Source.{Ghosts}
 use Rattle.rmp_wire.specs.Faults.{fault_kind}
 use Rattle.rmp_wire.specs.Heads.{IsHead, tag_byte}
-use Rattle.rmp_wire.specs.Sources.{TakesShort}
+use Rattle.rmp_wire.specs.Sources.{AtMostOne, TakesShort}
 use Rattle.rmp_wire.specs.Taking.{marker_of, byte_of}
 
 -- the first remaining byte was consumed, and this is its marker
@@ -24,10 +24,11 @@ pub record TakesMarker (m : Marker) (old new : Option (List ℕ)) : Type 0 where
   pub is_marker : m ≡ marker_of byte
   pub taken : Consumes old new (byte ∷ [])
 
--- No first byte could be read: nothing was consumed, and if the source had no fault (it counts them: before,
--- after), no byte remains.
+-- No first byte could be read: nothing was consumed, at most one fault was counted (before, after), and if there was
+-- none, no byte remains.
 pub record FailsMarker (old new : Option (List ℕ)) (before after : ℕ) (fault : IoFault) : Type 0 where
   pub kept : Keeps old new
+  pub counts : AtMostOne before after
   pub none_ahead : after ≡ before → IsAtEnd old
   pub end : after ≡ before → fault_kind fault ≡ UnexpectedEof
 
@@ -47,9 +48,10 @@ pub record TakesHeadPart (m : Marker) (old new : Option (List ℕ)) : Type 0 whe
   pub short : (h : Head) (x : List ℕ) → IsHead h (byte_of m ∷ x) → length part < length x
   pub taken : Consumes old new part
 
--- A head was cut: only a part of it was consumed, and if the source had no fault, no more than a part remains.
+-- A head was cut: only a part of it was consumed, at most one fault was counted, and if there was none, no more than a part remains.
 pub record CutsHead (m : Marker) (old new : Option (List ℕ)) (before after : ℕ) (fault : IoFault) : Type 0 where
   pub part : TakesHeadPart m old new
+  pub counts : AtMostOne before after
   pub cut : after ≡ before → IsCut m old
   pub end : after ≡ before → fault_kind fault ≡ UnexpectedEof
 
@@ -86,8 +88,9 @@ LeavesNext old new before after (InvalidMarkerRead fault) = FailsMarker old new 
 LeavesNext old new before after (InvalidDataRead fault) = TakesNextPart old new × (after ≡ before → fault_kind fault ≡ UnexpectedEof)
 LeavesNext old new before after (TypeMismatch k) = (k ≡ Reserved) × Consumes old new (byte_of Reserved ∷ []) × (after ≡ before)
 
--- No head could be read: if the source had no fault, the remaining bytes begin with none.
+-- No head could be read: at most one fault was counted, and if there was none, the remaining bytes begin with no head.
 pub record FailsNext (old new : Option (List ℕ)) (before after : ℕ) (e : ValueReadError) : Type 0 where
+  pub counts : AtMostOne before after
   pub none : after ≡ before → NoHead old
   pub leaves : LeavesNext old new before after e
 

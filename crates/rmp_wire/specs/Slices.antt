@@ -7,7 +7,7 @@ use Rattle.rmp_wire.specs.declared.slice.Reference.{Reference}
 use Rattle.rmp_wire.specs.declared.slice.Reference.TheVariants.{Borrowed, Copied}
 use Rattle.rmp_wire.specs.declared.slice.SourceFault.{SourceFault}
 use Rattle.rmp_wire.specs.declared.slice.SourceFault.TheVariants.{Io, Memory}
-use Rattle.rmp_wire.specs.Sources.{IsShort}
+use Rattle.rmp_wire.specs.Sources.{AtMostOne, IsShort}
 
 -- the bytes, borrowed or copied
 abbrev pub reference_bytes : Reference → List ℕ
@@ -19,11 +19,11 @@ abbrev pub is_lent : Reference → Bool
 is_lent (Borrowed s) = true
 is_lent (Copied s) = false
 
--- unless out of memory, the fault is the source's, or says that the input ended, where fewer bytes remain than
--- were asked for
+-- unless out of memory, the fault is the source's, which is counted once, or says that the input ended, where fewer
+-- bytes remain than were asked for
 abbrev pub Blames : SourceFault → ℕ → ℕ → Option (List ℕ) → ℕ → Type 0
-Blames Memory before after ahead len = Unit {0}
-Blames (Io e) before after ahead len = after ≡ before → IsShort len ahead × (error_kind e ≡ UnexpectedEof)
+Blames Memory before after ahead len = after ≡ before
+Blames (Io e) before after ahead len = AtMostOne before after × (after ≡ before → IsShort len ahead × (error_kind e ≡ UnexpectedEof))
 
 -- the bytes were consumed with no fault of the source (it counts them: before, after), or the error has its
 -- cause

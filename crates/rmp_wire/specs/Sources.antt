@@ -34,12 +34,16 @@ pub record TakesPart (n : ℕ) (old new : Option (List ℕ)) : Type 0 where
   pub short : length part < n
   pub taken : Consumes old new part
 
+-- at most one fault was counted (before, after)
+abbrev pub AtMostOne : ℕ → ℕ → Type 0
+AtMostOne before after = (after ≡ before) ⊎ (after ≡ next_fault before)
+
 -- What a failed call that needs n bytes leaves: fewer bytes were consumed, and at most one fault was counted
 -- (before, after). If there was none, fewer bytes remained, of which all or none were consumed, and the call says that the
 -- input ended.
 pub record TakesShort (n : ℕ) (old new : Option (List ℕ)) (before after : ℕ) (fault : IoFault) : Type 0 where
   pub part : TakesPart n old new
-  pub counts : (after ≡ before) ⊎ (after ≡ next_fault before)
+  pub counts : AtMostOne before after
   pub short : after ≡ before → IsShort n old
   pub rest : after ≡ before → Keeps old new ⊎ IsAtEnd new
   pub end : after ≡ before → fault_kind fault ≡ UnexpectedEof

@@ -70,6 +70,7 @@ fn read_leaf<R: Source, C: SerializerConfig, P: ReadContent<R>>(
     ensures ok { OnOk result (TakesLeaf R.Source head de.old de.new (heads_of made.old) (heads_of made.new)) }
     ensures within { OnOk result (IsWithin made.new) }
     ensures err { IfErr result (λ e. (e ≡ Error.OutOfMemory) ⊎ FailsLeaf R.Source head (failed_of de.old) de.new e) }
+    ensures fault { IfErr result (TellsFault (faults_of R.Source de.old) (faults_of R.Source de.new)) }
     ensures failed { OnErr result (is_failed de.new ≡ true) }
     ensures stays { OnErr result (Stays R.Source de.old de.new) }
 {

@@ -4,6 +4,7 @@ use Rattle.rmp_decode.specs.Names.{bytes_of}
 use Rattle.rmp_decode.specs.VariantNames.{unknown_name}
 use Rattle.rmp_decode.proofs.ContentErrors.{piece_whole, piece_blamed, blamed_tells}
 use Rattle.rmp_decode.proofs.VariantNames.{name_blamed, no_name_taken, unknown_piece}
+use Rattle.rmp_decode.proofs.Exactness.{none_told}
 use Rattle.rmp_decode.proofs.access.variant.next_variant.Goals as goal
 
 pub returns-in-Err-place_named-clause-err : goal.returns-in-Err-place_named-clause-err
@@ -26,7 +27,8 @@ returns-in-Err-clause-exact g c = piece_blamed c.args.len (unknown_name (raw_hea
     (g.R.Source.ahead c.args.reader.now) _ (rw c.in-Err.is at c.read_slice.follows.holds-at-none).0 c.error_of.ensures
 
 pub returns-in-Err-place_named-clause-fault : goal.returns-in-Err-place_named-clause-fault
-returns-in-Err-place_named-clause-fault g c = λ n. absurd (n (search rules))
+returns-in-Err-place_named-clause-fault g c = none_told _ _ _ (search rules)
 
 pub returns-in-Err-clause-fault : goal.returns-in-Err-clause-fault
-returns-in-Err-clause-fault g c = blamed_tells c.in-Err.e _ _ _ c.error_of.ensures
+returns-in-Err-clause-fault g c = blamed_tells c.args.len c.in-Err.e _ _ (g.R.Source.ahead c.args.reader.now) _
+    (rw c.in-Err.is at c.read_slice.follows.holds-at-none).0 c.error_of.ensures

@@ -11,7 +11,8 @@ returns-in-Err-clause-end g c = blamed_end c.args.len c.in-Err.e _ _ (g.R.Source
     (rw c.in-Err.is at c.read_slice.follows.holds-at-none).0 c.error_of.ensures
 
 pub returns-in-Err-clause-fault : goal.returns-in-Err-clause-fault
-returns-in-Err-clause-fault g c = blamed_tells c.in-Err.e _ _ _ c.error_of.ensures
+returns-in-Err-clause-fault g c = blamed_tells c.args.len c.in-Err.e _ _ (g.R.Source.ahead c.args.reader.now) _
+    (rw c.in-Err.is at c.read_slice.follows.holds-at-none).0 c.error_of.ensures
 
 pub returns-in-Ok-Copied-clause-copied : goal.returns-in-Ok-Copied-clause-copied
 returns-in-Ok-Copied-clause-copied g c = record { bytes = c.in-Ok-Copied.field-0-0.now; long = search rules; taken = search rules }

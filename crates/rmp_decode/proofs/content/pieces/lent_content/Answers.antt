@@ -4,6 +4,7 @@ use Rattle.rmp_decode.specs.Kinds.{raw_head}
 use Rattle.rmp_decode.proofs.ContentErrors.{piece_whole, piece_blamed, blamed_tells, unlent}
 use Rattle.rmp_decode.proofs.Consumed.{piece_taken, piece_short}
 use Rattle.rmp_decode.proofs.ContentErrors.{blamed_short}
+use Rattle.rmp_decode.proofs.Exactness.{none_told}
 use Rattle.rmp_decode.proofs.content.pieces.lent_content.Goals as goal
 
 pub returns-in-Ok-Copied-clause-exact : goal.returns-in-Ok-Copied-clause-exact
@@ -17,10 +18,11 @@ returns-in-Err-clause-exact g c = piece_blamed c.args.len (not_bytes g.R.ReadSli
     (g.R.Source.ahead c.args.reader.now) _ (rw c.in-Err.is at c.read_slice.follows.holds-at-none).0 c.error_of.ensures
 
 pub returns-in-Ok-Copied-clause-fault : goal.returns-in-Ok-Copied-clause-fault
-returns-in-Ok-Copied-clause-fault g c = λ n. absurd (n (search rules))
+returns-in-Ok-Copied-clause-fault g c = none_told _ _ _ (search rules)
 
 pub returns-in-Err-clause-fault : goal.returns-in-Err-clause-fault
-returns-in-Err-clause-fault g c = blamed_tells c.in-Err.e _ _ _ c.error_of.ensures
+returns-in-Err-clause-fault g c = blamed_tells c.args.len c.in-Err.e _ _ (g.R.Source.ahead c.args.reader.now) _
+    (rw c.in-Err.is at c.read_slice.follows.holds-at-none).0 c.error_of.ensures
 
 pub returns-in-Ok-Copied-clause-taken : goal.returns-in-Ok-Copied-clause-taken
 returns-in-Ok-Copied-clause-taken g c =

@@ -5,6 +5,7 @@ use Rattle.rmp_decode.proofs.ContentErrors.{piece_whole, piece_blamed, blamed_te
 use Rattle.rmp_decode.proofs.Texts.{no_such_char}
 use Rattle.rmp_decode.proofs.Consumed.{piece_taken, piece_short}
 use Rattle.rmp_decode.proofs.ContentErrors.{blamed_short}
+use Rattle.rmp_decode.proofs.Exactness.{none_told}
 use Rattle.rmp_decode.proofs.content.pieces.next_char.Goals as goal
 
 pub returns-in-Ok-char_of-clause-ok : goal.returns-in-Ok-char_of-clause-ok
@@ -28,10 +29,11 @@ returns-in-Err-clause-exact g c = piece_blamed c.args.len (not_char (Text c.args
     (rw c.in-Err.is at c.read_slice.follows.holds-at-none).0 c.error_of.ensures
 
 pub returns-in-Err-char_of-clause-fault : goal.returns-in-Err-char_of-clause-fault
-returns-in-Err-char_of-clause-fault g c = λ n. absurd (n (search rules))
+returns-in-Err-char_of-clause-fault g c = none_told _ _ _ (search rules)
 
 pub returns-in-Err-clause-fault : goal.returns-in-Err-clause-fault
-returns-in-Err-clause-fault g c = blamed_tells c.in-Err.e _ _ _ c.error_of.ensures
+returns-in-Err-clause-fault g c = blamed_tells c.args.len c.in-Err.e _ _ (g.R.Source.ahead c.args.reader.now) _
+    (rw c.in-Err.is at c.read_slice.follows.holds-at-none).0 c.error_of.ensures
 
 pub returns-in-Err-char_of-clause-taken : goal.returns-in-Err-char_of-clause-taken
 returns-in-Err-char_of-clause-taken g c =

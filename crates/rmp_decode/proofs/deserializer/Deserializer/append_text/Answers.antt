@@ -4,6 +4,7 @@ use Rattle.rmp_decode.specs.Content.{not_string}
 use Rattle.rmp_decode.proofs.AnyReads.{no_text, short_text, end_no_text}
 use Rattle.rmp_decode.proofs.ContentErrors.{piece_cut, piece_whole}
 use Rattle.rmp_decode.proofs.Steps.{appended_is, kept_is}
+use Rattle.rmp_decode.proofs.Exactness.{none_told}
 use Rattle.rmp_decode.proofs.deserializer.Deserializer.append_text.Goals as goal
 
 pub returns-in-Ok-from_utf8-clause-ok : goal.returns-in-Ok-from_utf8-clause-ok
@@ -40,7 +41,7 @@ returns-in-Err-from_utf8-clause-err g c =
       stays = record { config = refl; room = refl; limit = refl; strict = refl; place = c.append.ensures.place };
       err = λ n k. no_text c.args.len _ _ o.passes.bytes o.passes.taken o.passes.long no;
       exact = λ n k. piece_whole c.args.len (not_string (Text c.args.len)) _ _ o.passes.bytes _ o.passes.taken o.passes.long (no, tt);
-      fault = λ n. absurd (n c.in-Ok.ensures.sound);
+      fault = none_told _ _ _ c.in-Ok.ensures.sound;
       taken = λ n k u. record { bytes = o.passes.bytes; long = o.passes.long; taken = o.passes.taken };
     }
 

@@ -6,10 +6,11 @@ use Rattle.rmp_decode.specs.Read.{IsUnsigned}
 use Rattle.rmp_decode.specs.Rows.{ReadsEach}
 use Rattle.rmp_decode.specs.Seq.{OfRow, IsOpen}
 use Rattle.rmp_decode.specs.declared.deserializer.heads.Levels.TheVariants.{Lists}
-use Rattle.rmp_decode.proofs.BufferErrors.{number_refused, number_told, number_unkept, number_leaves, deep_leaves, list_unsaid}
+use Rattle.rmp_decode.proofs.BufferErrors.{number_refused, number_told, unkept_told, number_unkept, number_leaves, deep_leaves, list_unsaid}
 use Rattle.rmp_decode.proofs.Buffers.{lawful_err_at, buffer_done, row_of_buffer, opened_after}
 use Rattle.rmp_decode.proofs.Opening.{deep_refused}
 use Rattle.rmp_decode.proofs.Seqs.{values_start, values_step, each_next, seq_take, seq_unkept}
+use Rattle.rmp_decode.proofs.Exactness.{none_told}
 use Rattle.rmp_decode.proofs.deserializer.Deserializer.byte_list.Goals as goal
 
 via : {A : Type 0} {x z : A} (y : A) → x ≡ y → y ≡ z → x ≡ z
@@ -106,7 +107,7 @@ pub returns-in_err-seq-clause-fault : goal.returns-in_err-seq-clause-fault
 returns-in_err-seq-clause-fault g c =
     let p = err_from_is_err_and c.from_residual.result c.from_residual.ensures.1 in
     let f = rw c.in_err-seq.was at c.open_list.follows.holds-at-none in
-    rw (p.1, f.1) (λ n. absurd (n refl))
+    rw (p.1, f.1) (none_told _ _ _ refl)
 
 pub returns-in_err-item-clause-fault : goal.returns-in_err-item-clause-fault
 returns-in_err-item-clause-fault g c =
@@ -119,7 +120,11 @@ returns-in_err-item-clause-fault g c =
 pub returns-in_err-push-clause-fault : goal.returns-in_err-push-clause-fault
 returns-in_err-push-clause-fault g c =
     let p = err_from_is_err_and c.from_residual-in_err-push.result c.from_residual-in_err-push.ensures.1 in
-    rw (p.1, p.2) (λ n. tt)
+    let r = c.loop-items.invariant in
+    let t = rw c.in-Some.is at (c.in_ok-item.ensures.some r.run.still) in
+    let same = sym c.in_ok-seq.ensures.same_reference ∙ sym r.run.same_reference ∙ sym c.next_number.ensures.same_reference in
+    rw (p.1, p.2) (unkept_told g.R.Source c.args.self.now c.in_ok-seq.seq c.args.len c.in_ok-seq.ensures.opened c.loop-items.seq
+    c.next_number.new.self r.trees _ c.in-Some.item r.run t (search rules))
 
 pub returns-in_err-end-clause-fault : goal.returns-in_err-end-clause-fault
 returns-in_err-end-clause-fault g c =

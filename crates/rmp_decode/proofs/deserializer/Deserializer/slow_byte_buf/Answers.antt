@@ -6,6 +6,7 @@ use Rattle.rmp_decode.proofs.BufferErrors.{list_none, list_other, list_after, ra
 use Rattle.rmp_decode.proofs.Buffers.{no_buffer}
 use Rattle.rmp_decode.proofs.Consumed.{leaves_head, leaves_none}
 use Rattle.rmp_decode.proofs.ContentErrors.{content_other, content_none, content_differ, no_buffer_head, no_raw_head}
+use Rattle.rmp_decode.proofs.Faults.{tells_after}
 use Rattle.rmp_decode.proofs.FieldRows.{if_err}
 use Rattle.rmp_decode.proofs.Laws.{refused_none, refused_head}
 use Rattle.rmp_decode.proofs.deserializer.Deserializer.slow_byte_buf.Goals as goal
@@ -28,7 +29,7 @@ returns-in-None-as_array-clause-exact g c = λ _. content_other _ IsBufferHead n
 pub returns-in-Some-as_array-clause-exact : goal.returns-in-Some-as_array-clause-exact
 returns-in-Some-as_array-clause-exact g c = λ _. if_err c.byte_list.result
     (λ e f. content_differ _ IsBufferHead not_raw not_buffer _ _ _ c.in-Ok.field-0-0 c.in-Ok.head (Array c.in-Some-as_array.len) e c.in-Ok.ensures.marked
-    c.in-Some-as_array.ensures refl tt (λ s. tt) (λ n. f (λ k. n (k ∙ c.in-Ok.ensures.sound)))) c.byte_list.ensures.fault
+    c.in-Some-as_array.ensures refl tt (λ s. tt) (tells_after _ _ _ e c.in-Ok.ensures.sound f)) c.byte_list.ensures.fault
 
 pub returns-in-Err-clause-exact : goal.returns-in-Err-clause-exact
 returns-in-Err-clause-exact g c = λ o. content_none _ IsBufferHead not_raw not_buffer _ _ _ _ (c.in-Err.ensures.ends o)

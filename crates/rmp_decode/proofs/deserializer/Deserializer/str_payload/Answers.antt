@@ -7,6 +7,7 @@ use Rattle.rmp_decode.proofs.ContentErrors.{content_error, content_wider, piece_
 use Rattle.rmp_decode.proofs.Contents.{text_content, content_read, content_lent}
 use Rattle.rmp_decode.proofs.Strings.{utf8_refused}
 use Rattle.rmp_decode.proofs.Consumed.{leaves_payload, piece_taken}
+use Rattle.rmp_decode.proofs.Exactness.{none_told}
 use Rattle.rmp_decode.proofs.deserializer.Deserializer.str_payload.Goals as goal
 
 pub returns-in-Ok-from_utf8-clause-law : goal.returns-in-Ok-from_utf8-clause-law
@@ -30,7 +31,7 @@ returns-in-Err-from_utf8-clause-exact g c = λ old m h.
     content_error g.R.Source IsRawHead not_raw (not_str g.R.ReadSlice.lends) old c.args.self.now _ (m, Text c.args.len) (Text c.args.len) c.args.len _ h
     refl refl tt (λ n k. piece_whole c.args.len (not_str g.R.ReadSlice.lends (Text c.args.len)) _ _ c.in-Ok.bytes.now _ o.2 o.0
     (not_utf8_str g.R.ReadSlice.lends true c.args.len c.in-Ok.bytes.now _ c.in-Ok.ensures.lends c.in-Err-from_utf8.ensures.cases.0 (λ _. tt)
-    (λ n. absurd (true≢false n)))) (λ n. absurd (n c.in-Ok.ensures.sound))
+    (λ n. absurd (true≢false n)))) (none_told _ _ _ c.in-Ok.ensures.sound)
 
 pub returns-in-Err-clause-law : goal.returns-in-Err-clause-law
 returns-in-Err-clause-law g c = λ old m h.

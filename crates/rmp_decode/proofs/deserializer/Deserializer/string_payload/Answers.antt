@@ -10,6 +10,7 @@ use Rattle.rmp_decode.proofs.Contents.{text_content, content_read}
 use Rattle.rmp_decode.proofs.Strings.{string_refused, text_blamed}
 use Rattle.rmp_decode.proofs.Consumed.{leaves_payload, leaves_unsaid, piece_short, piece_taken}
 use Rattle.rmp_decode.proofs.ContentErrors.{blamed_short}
+use Rattle.rmp_decode.proofs.Exactness.{none_told}
 use Rattle.rmp_decode.proofs.deserializer.Deserializer.string_payload.Goals as goal
 
 -- no byte is taken where none is
@@ -34,7 +35,7 @@ returns-clause-law g c = λ old m h.
 pub returns-in-Err-from_str-clause-exact : goal.returns-in-Err-from_str-clause-exact
 returns-in-Err-from_str-clause-exact g c = λ old m h.
     content_error g.R.Source IsRawHead not_raw not_string old c.args.self.now _ (m, Text c.args.len) (Text c.args.len) c.args.len _ h refl refl tt
-    (λ n k. absurd (n refl)) (λ n. tt)
+    (λ n k. absurd (n refl)) (none_told _ _ _ (search rules))
 
 pub returns-in-Err-from_utf8-clause-law : goal.returns-in-Err-from_utf8-clause-law
 returns-in-Err-from_utf8-clause-law g c = λ old m h.
@@ -48,7 +49,7 @@ returns-in-Err-from_utf8-clause-exact g c = λ old m h.
     content_error g.R.Source IsRawHead not_raw not_string old c.args.self.now _ (m, Text c.args.len) (Text c.args.len) c.args.len _ h refl refl tt
     (λ n k. piece_whole c.args.len (not_string (Text c.args.len)) (g.R.Source.ahead c.args.self.now.reader)
     (g.R.Source.ahead c.read_slice.follows.lender-at-none) c.as_bytes.result.now _ (search rules) (search rules)
-    (c.in-Err-from_utf8.ensures.cases.0, tt)) (λ n. absurd (n (search rules)))
+    (c.in-Err-from_utf8.ensures.cases.0, tt)) (none_told _ _ _ (search rules))
 
 pub returns-in-Err-clause-law : goal.returns-in-Err-clause-law
 returns-in-Err-clause-law g c = λ old m h.
@@ -61,7 +62,8 @@ pub returns-in-Err-clause-exact : goal.returns-in-Err-clause-exact
 returns-in-Err-clause-exact g c = λ old m h.
     content_error g.R.Source IsRawHead not_raw not_string old c.args.self.now _ (m, Text c.args.len) (Text c.args.len) c.args.len _ h refl refl tt
     (piece_blamed c.args.len (not_string (Text c.args.len)) c.in-Err.e _ _ (g.R.Source.ahead c.args.self.now.reader) _
-    (rw c.in-Err.is at c.read_slice.follows.holds-at-none).0 c.error_of.ensures) (blamed_tells c.in-Err.e _ _ _ c.error_of.ensures)
+    (rw c.in-Err.is at c.read_slice.follows.holds-at-none).0 c.error_of.ensures) (blamed_tells c.args.len c.in-Err.e _ _
+    (g.R.Source.ahead c.args.self.now.reader) _ (rw c.in-Err.is at c.read_slice.follows.holds-at-none).0 c.error_of.ensures)
 
 pub returns-in-Err-from_str-clause-taken : goal.returns-in-Err-from_str-clause-taken
 returns-in-Err-from_str-clause-taken g c = λ old m h. leaves_unsaid _ IsRawHead _ _ _ _

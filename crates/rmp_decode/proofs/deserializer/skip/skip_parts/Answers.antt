@@ -25,6 +25,7 @@ use Rattle.rmp_decode.proofs.SkipLoop.{
 }
 use Rattle.rmp_decode.proofs.Faults.{head_tells, tells_after}
 use Rattle.rmp_decode.proofs.SkipLaws.{no_room, parts_taken, leaf_taken}
+use Rattle.rmp_decode.proofs.Exactness.{none_told}
 use Rattle.rmp_decode.proofs.deserializer.skip.skip_parts.Goals as goal
 
 pub returns-then-de-le1-clause-law : goal.returns-then-de-le1-clause-law
@@ -146,13 +147,13 @@ returns-in-Err-clause-exact g c = λ _. none_wrong g.R.Source g.P.ReadContent.le
 -- ---- faults
 
 pub returns-then-de-le1-clause-fault : goal.returns-then-de-le1-clause-fault
-returns-then-de-le1-clause-fault g c = λ n. absurd (n refl)
+returns-then-de-le1-clause-fault g c = none_told _ _ _ refl
 
 pub returns-then-room-le1-clause-fault : goal.returns-then-room-le1-clause-fault
 returns-then-room-le1-clause-fault g c = wants_tells g.R.Source g.P.ReadContent.lends c.args.count c.args.de.now c.skip_leaves-wanted.new.de c.parts.room c.skip_leaves-wanted.result
     c.parts.outer.items (wants_leaves g.R.Source g.P.ReadContent.lends c.args.count c.args.de.now c.parts.de c.parts.room c.parts.wanted c.parts.outer.items
     c.parts.invariant _ _ c.skip_leaves-wanted.ensures.skipped) _ c.next_part.new.de DepthLimitExceeded refl
-    (λ n. absurd (n (parts_taken g.R.Source _ _ _ c.in-Ok.ensures.ok c.in-Parts.is_map c.in-Parts.n c.in-Parts.is).begun.sound))
+    (none_told _ _ _ (parts_taken g.R.Source _ _ _ c.in-Ok.ensures.ok c.in-Parts.is_map c.in-Parts.n c.in-Parts.is).begun.sound)
 
 pub returns-in-Err-pass_payload-clause-fault : goal.returns-in-Err-pass_payload-clause-fault
 returns-in-Err-pass_payload-clause-fault g c =

@@ -10,6 +10,8 @@ use Rattle.rmp_decode.specs.declared.error.Error.{Error}
 use Rattle.rmp_serde.specs.ReadParts.{FailsLeaf}
 use Rattle.rmp_serde.proofs.FlatMade.{all_later}
 use Rattle.rmp_serde.proofs.ReadLoop.{leaf_told}
+use Rattle.rmp_decode.proofs.Exactness.{none_told}
+use Rattle.rmp_serde.proofs.ValueFaults.{leaf_tells}
 use Rattle.rmp_serde.proofs.value.read.read_leaf.Goals as goal
 
 -- where the content wasn't read, the reader is failed, and nothing else of it changes
@@ -77,3 +79,9 @@ returns-in-Err-clause-failed g c = (leaf_fails g.R.Source c.args.de.now c.read_c
 
 pub returns-in-Err-clause-stays : goal.returns-in-Err-clause-stays
 returns-in-Err-clause-stays g c = (leaf_fails g.R.Source c.args.de.now c.read_content.new.de c.in-Err.e c.args.head c.in-Err.ensures.err).1
+
+pub returns-in-Err-push-clause-fault : goal.returns-in-Err-push-clause-fault
+returns-in-Err-push-clause-fault g c = rw c.refuse.ensures.failed (none_told _ _ _ c.in-Ok.ensures.ok.taken.sound)
+
+pub returns-in-Err-clause-fault : goal.returns-in-Err-clause-fault
+returns-in-Err-clause-fault g c = leaf_tells g.R.Source (failed_of c.args.de.now) c.read_content.new.de c.in-Err.e c.args.head c.in-Err.ensures.err

@@ -17,9 +17,8 @@ use Rattle.rmp_serde.proofs.ReadLoop.{
   none_refused,
   none_wrong,
 }
-use Rattle.rmp_decode.specs.State.{failed_of}
 use Rattle.rmp_decode.proofs.Faults.{head_tells, tells_after}
-use Rattle.rmp_serde.proofs.ValueFaults.{unread_tells}
+use Rattle.rmp_decode.proofs.Exactness.{none_told}
 use Rattle.rmp_serde.proofs.value.read.read_parts.Goals as goal
 
 pub parts-init : goal.parts-init
@@ -125,11 +124,11 @@ read_leaf-requires-clause-leaf g c = c.in-None-as_parts.ensures
 
 pub returns-in-Err-enter-clause-fault : goal.returns-in-Err-enter-clause-fault
 returns-in-Err-enter-clause-fault g c = rw c.in-Err-enter.ensures.failed
-    (λ n. absurd (n (c.in-Ok.ensures.ok.begun.sound ∙ c.parts.invariant.0.sound)))
+    (none_told _ _ _ (c.in-Ok.ensures.ok.begun.sound ∙ c.parts.invariant.0.sound))
 
 pub returns-in-Err-read_leaf-clause-fault : goal.returns-in-Err-read_leaf-clause-fault
 returns-in-Err-read_leaf-clause-fault g c = tells_after _ _ _ _ (c.in-Ok.ensures.ok.begun.sound ∙ c.parts.invariant.0.sound)
-    (unread_tells g.R.Source (failed_of c.deserialize_head.new.self) c.read_leaf.new.de c.in-Err-read_leaf.e c.in-Ok.head c.in-Err-read_leaf.ensures.err)
+    c.in-Err-read_leaf.ensures.fault
 
 pub returns-in-Err-clause-fault : goal.returns-in-Err-clause-fault
 returns-in-Err-clause-fault g c = tells_after _ _ _ _ c.parts.invariant.0.sound (head_tells g.R.Source _ _ _ c.in-Err.ensures.err)

@@ -20,6 +20,7 @@ use Rattle.rmp_decode.proofs.Laws.{refused_none}
 use Rattle.rmp_decode.specs.State.{failed_of}
 use Rattle.rmp_decode.proofs.Faults.{head_tells, tells_after}
 use Rattle.rmp_serde.proofs.ValueFaults.{leaf_tells}
+use Rattle.rmp_decode.proofs.Exactness.{none_told}
 use Rattle.rmp_serde.proofs.value.read.read_value.Goals as goal
 
 pub returns-then-room-le1-clause-law : goal.returns-then-room-le1-clause-law
@@ -112,7 +113,7 @@ from_parts-requires-in-Ok-read_content-clause-starts g c =
 -- ---- faults
 
 pub returns-then-room-le1-clause-fault : goal.returns-then-room-le1-clause-fault
-returns-then-room-le1-clause-fault g c = rw c.refuse.ensures.failed (λ n. absurd (n c.in-Ok.ensures.ok.begun.sound))
+returns-then-room-le1-clause-fault g c = rw c.refuse.ensures.failed (none_told _ _ _ c.in-Ok.ensures.ok.begun.sound)
 
 pub returns-in-Err-read_parts-clause-fault : goal.returns-in-Err-read_parts-clause-fault
 returns-in-Err-read_parts-clause-fault g c = tells_after _ _ _ _ c.in-Ok.ensures.ok.begun.sound c.in-Err-read_parts.ensures.fault

@@ -7,7 +7,7 @@ use Rattle.rmp_wire.proofs.slice.copying.fill.Goals as goal
 pub returns-in_err-copied_front-clause-err : goal.returns-in_err-copied_front-clause-err
 returns-in_err-copied_front-clause-err g c =
     let p = err_from_is_err_and c.from_residual.result c.from_residual.ensures.1 in
-    rw (p.1, p.2, c.in_err-copied_front.ensures.memory.0) tt
+    rw (p.1, p.2, c.in_err-copied_front.ensures.memory.0) (c.copied_front.ensures.sound ∙ c.loop-scratch.invariant.faults)
 
 pub returns-in_err-copied_front-clause-begun : goal.returns-in_err-copied_front-clause-begun
 returns-in_err-copied_front-clause-begun g c =

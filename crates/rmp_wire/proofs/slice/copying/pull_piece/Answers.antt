@@ -1,5 +1,5 @@
 -- What was pulled is the front of the piece: the number of bytes that the source returned, at most the room.
-use Rattle.std.proofs.Common.{◌≡◌, ◌∙◌, sym, ℕ, ◌≤◌, List, [], ◌++◌, length, take, arith}
+use Rattle.std.proofs.Common.{◌≡◌, ◌∙◌, sym, inl, inr, ℕ, ◌≤◌, List, [], ◌++◌, length, take, arith}
 use Rattle.std.proofs.lemmas.List.{length-take-le, length-append}
 use Rattle.std.proofs.KnownBytes.{Consumes-nil, Consumes-kept}
 use Rattle.rmp_wire.proofs.Copying.{pulled}
@@ -18,8 +18,10 @@ slice_bounds-extend_from_slice-end g c = sym (length-take-le c.in-Ok.n _ (le_app
 
 pub returns-in-Ok-eq0-clause-err : goal.returns-in-Ok-eq0-clause-err
 returns-in-Ok-eq0-clause-err g c =
-    let long : length c.pull.new.buf ≡ c.min-room.result = c.pull.auto.buf ∙ length-take-le c.min-room.result _ (omega arith) in
-    λ same. (short_at_end _ c.args.most (c.in-Ok-eq0.ensures.end c.in-Ok-eq0.field-0-test (omega arith)) c.requires.wanted, c.from.ensures)
+    let long : length c.pull.new.buf ≡ c.min-room.result = c.pull.auto.buf ∙ length-take-le c.min-room.result _ (omega arith) in (
+      inl c.in-Ok-eq0.ensures.sound,
+      λ same. (short_at_end _ c.args.most (c.in-Ok-eq0.ensures.end c.in-Ok-eq0.field-0-test (omega arith)) c.requires.wanted, c.from.ensures),
+    )
 
 pub returns-in-Ok-eq0-clause-lost : goal.returns-in-Ok-eq0-clause-lost
 returns-in-Ok-eq0-clause-lost g c =
@@ -39,7 +41,7 @@ returns-in-Err-extend_from_slice-clause-lost g c =
     (take c.in-Ok.n c.pull.new.buf, omega (arith, c.in-Ok.ensures.bound), c.in-Ok.ensures.bytes)
 
 pub returns-in-Err-clause-err : goal.returns-in-Err-clause-err
-returns-in-Err-clause-err g c = λ same. absurd (next_differs _ _ c.in-Err.ensures.fault same)
+returns-in-Err-clause-err g c = (inr c.in-Err.ensures.fault, λ same. absurd (next_differs _ _ c.in-Err.ensures.fault same))
 
 pub returns-in-Err-clause-lost : goal.returns-in-Err-clause-lost
 returns-in-Err-clause-lost g c = ([], omega arith, Consumes-kept _ _ _ [] (Consumes-nil _) c.in-Err.ensures.kept)
