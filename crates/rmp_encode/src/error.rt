@@ -10,7 +10,7 @@ use thiserror::Error;
 #[derive(Debug, Drop, Error)]
 pub enum Error {
     /// The sink failed: before it took the first byte of an item (`InvalidMarkerWrite`), or after it
-    /// (`InvalidDataWrite`). A list or map of unknown length is one item with its head.
+    /// (`InvalidDataWrite`). What the `end` of a list, a map or a tuple writes is one item.
     #[error("invalid value write: {0}")]
     InvalidValueWrite(ValueWriteError),
     /// Never returned: lists and maps of unknown length are counted first.

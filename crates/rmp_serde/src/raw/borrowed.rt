@@ -12,7 +12,7 @@ ghost use Rattle.rmp_decode.specs.Read.{IsRaw};
 ghost use Rattle.rmp_encode.specs.Refusals.{OfLength, RefusesLength};
 ghost use Rattle.rmp_encode.specs.Ser.{sink_of, settings_of};
 ghost use Rattle.rmp_encode.specs.Trees.{tree_of};
-ghost use Rattle.rmp_encode.specs.Writes.{Keeps, NoneAtMarker, WritesTree};
+ghost use Rattle.rmp_encode.specs.Writes.{AtItem, Keeps, NoneAtMarker, WritesTree};
 ghost use Rattle.rmp_serde.specs.RawRounds.{raw_ref_only, raw_ref_row, raw_other};
 ghost use Rattle.rmp_serde.specs.Raws.{raw_ref_bytes, raw_data};
 
@@ -129,6 +129,8 @@ impl Serialize for RawRef<'_> {
     ghost takes_memory = { λ _. false };
 
     ghost refuses = { λ v. OfLength (2 ^ 32 ≤ length (raw_ref_bytes v)) };
+
+    ghost marks = { λ _ _. AtItem };
 
     fn serialize<W: Sink, C: SerializerConfig>(
         &self,
