@@ -41,6 +41,18 @@ impl<R: Source, C: SerializerConfig> Deserializer<R, C> {
         }
     }
 
+    // Consumes the head of a list or of bytes: that of a short list by the fast path. By `open_row(false)`, what opens a list would be larger
+    // before it is optimized.
+    #[inline(always)]
+    pub(crate) fn open_tuple(&mut self) -> Result<(bool, u32), Error>
+        ensures { TakesSeqHead R.Source self.old self.new result }
+    {
+        match self.take_nested(ListHead) {
+            Some(len) => Ok((false, len)),
+            None => self.cold_seq(),
+        }
+    }
+
     // Consumes the head of a list or of bytes: that of a short list by the fast path, and with `bytes` that of bytes
     // too, unless reading is strict.
     #[inline(always)]
@@ -88,7 +100,7 @@ impl<R: Source, C: SerializerConfig> Deserializer<R, C> {
         ensures opened { IfOk result (Opens R.Source self.old) }
     {
         let room = self.room;
-        match self.open_row(false) {
+        match self.open_tuple() {
             Ok((bytes, left)) => Ok(SeqAccess {
                 de: self,
                 left,

@@ -312,7 +312,7 @@ impl<R: Source, C: SerializerConfig> Deserializer<R, C> {
         let outer = self.room;
         self.room = inner;
         self.failed = false;
-        match self.open_row(false) {
+        match self.open_tuple() {
             Ok((bytes, len)) => {
                 self.room = outer;
                 Ok((bytes, len))
