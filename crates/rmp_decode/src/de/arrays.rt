@@ -151,7 +151,7 @@ fn slow_array<'de, R: ReadSlice<'de>, C: SerializerConfig, T: Deserialize<'de, R
     ensures refused { RefusesAs R.Source (C.human (config_of de.old)) R.lends
         (λ s before after known e. ((PlacesFit T.row N → ⊥) × (e ≡ OutOfMemory)) ⊎ RefusesTimes N T.reads T.refuses s before after known e) de.old de.new result }
 {
-    match de.open_row(false) {
+    match de.open_tuple() {
         Ok((true, count)) => number_row(de, count),
         Ok((false, count)) => array_row(de, count),
         Err(e) => Err(e),
