@@ -45,10 +45,11 @@ ALIAS = re.compile(r"^(?:pub(?:\([^)]*\))? )?type (\w+)\s*=\s*([^;]*);", re.M)
 TOKEN = re.compile(r'"(?:\\.|[^"\\])*"|\'(?:\\[^\']*|[^\\\'])\'|//[^\n]*|/\*', re.S)
 NOTE = re.compile(r"//\s*derive:\s*(.*)")
 # How many fields a struct has at most, without names and with them, and how many a variant.
-MOST_UNNAMED = len(KINDS)
-MOST_UNNAMED_IN_VARIANT = MOST
+MOST_UNNAMED = 16
 MOST_NAMED = 32
-MOST_NAMED_IN_VARIANT = 16
+MOST_IN_VARIANT = 16
+# How many are read as one tuple.
+MOST_IN_TUPLE = len(KINDS)
 # For how many fields with names rmp_decode has a call of its own.
 LEAST_FLAT, MOST_FLAT = 2, 12
 
@@ -487,6 +488,11 @@ def is_flat(shape: Shape) -> bool:
     return shape.kind == "named" and LEAST_FLAT <= len(shape.fields) <= MOST_FLAT
 
 
+def is_long(shape: Shape) -> bool:
+    """Whether its fields have no names and are more than one tuple holds: they are read as nested tuples."""
+    return shape.kind == "tuple" and len(shape.fields) > MOST_IN_TUPLE
+
+
 def check_mixed(of: Declared) -> None:
     """Refuses a shape of which one field borrows and another is of a type parameter, where one call reads both in one type: the checker
     doesn't follow it. The call for so many fields has a type parameter for each."""
@@ -528,7 +534,7 @@ def declared(source: Source, word: str, name: str, at: int, notes: renaming.Note
         if found.shape:
             check_shape(shape, MOST_NAMED, MOST_UNNAMED)
         else:
-            check_shape(shape, MOST_NAMED_IN_VARIANT, MOST_UNNAMED_IN_VARIANT)
+            check_shape(shape, MOST_IN_VARIANT, MOST_IN_VARIANT)
     return found
 
 

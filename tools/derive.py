@@ -42,13 +42,14 @@ from typing import Iterator
 sys.dont_write_bytecode = True
 import derived_recursive as recursive
 import halves
-from declarations import PLAIN, PRELUDE, Declared, Refused, identifiers, is_flat
+from declarations import PLAIN, PRELUDE, Declared, Refused, identifiers, is_flat, is_long
 from derived_ends import LEMMAS as ENDS
 from derived_ends import implementation as ends
 from derived_proofs import answers, has_content, has_defaults
 from derived_rounds import LEMMAS, Own, Unknown
 from derived_rounds import implementations as rounds
-from derived_terms import GHOST, GROUP, MOST_IN_TUPLES, Words, alias, bound_name, data_of, memory_of, nested, place_of, then_bound, then_of
+from derived_terms import GHOST, GROUP, MOST_IN_TUPLES, Words, alias, all_elements, bound_name, data_of, elements_of, memory_of, nested, place_of
+from derived_terms import then_bound, then_of
 from derived_terms import member_of_reading, member_of_refusing, members_of_writing, refused_of, underscored
 from imports import imports
 from modules import Files, Module, stale, sums_lines
@@ -98,7 +99,7 @@ def made_of(path, shape):
     names = bound_names(shape)
     if shape.kind == "unit":
         return path
-    if shape.kind != "named":
+    if shape.fields[0].name == "0":
         return f"{path}({', '.join(names)})"
     fields = [name if name == field.name else f"{field.name}: {name}" for field, name in zip(shape.fields, names)]
     return f"{path} {{ {', '.join(fields)} }}"
@@ -229,7 +230,7 @@ def taken_differ(shape):
     than tuples hold, it is one for each struct.
     """
     names = bound_names(shape)
-    if shape.kind != "named":
+    if shape.kind == "tuple" and not is_long(shape):
         return [f"let ({', '.join(names)}) = parts;"]
     made = [f"let {name} = {name}.value.unwrap_or({field.default.made});" for name, field in zip(names, shape.fields) if field.default]
     lines, whole = [], "parts"
@@ -264,8 +265,13 @@ def arm_of_reading(of, at, shape):
         lines.append(f"Ok({names[0] if names else '()'}) => return {made},")
     else:
         # a default is put in the place of a part's value, so the type of the parts is named
-        typed = [f"let parts: {nested([field.read_as() for field in shape.fields])} = parts;"] * has_defaults(shape)
-        lines += ["Ok(parts) => {", *typed, *taken_differ(shape), f"return {made};", "}"]
+        taken = taken_differ(shape)
+        if has_defaults(shape):
+            taken = [f"let parts: {nested([field.read_as() for field in shape.fields])} = parts;", *taken]
+        elif is_long(shape):
+            elements = elements_of(of, shape)
+            taken = [f"let {made_of(elements.name, elements.shape)} = parts;"]
+        lines += ["Ok(parts) => {", *taken, f"return {made};", "}"]
     return [*lines, "Err(e) => return Err(e),", "},"]
 
 
@@ -280,7 +286,9 @@ def body_of_reading(of):
         pattern = "()" if shape.kind == "unit" else PLACES[0]
         return [f'match de.deserialize_{shape.kind}_struct("{shape.name}") {{', f"Ok({pattern}) => return {made},", "Err(e) => return Err(e),", "}"]
     kinds = [field.read_as() for field in shape.fields]
-    if shape.kind == "tuple":
+    if is_long(shape):
+        call, kind = f"de.tuple_parts({len(kinds)})", nested(kinds)
+    elif shape.kind == "tuple":
         call, kind = "Deserialize::deserialize(de)", f"({', '.join(kinds)})"
     else:
         names = field_names(shape)
@@ -350,6 +358,12 @@ def reading(of):
     ]
 
 
+def elements_struct(of: Declared) -> list[str]:
+    """A struct that the elements of a variant are read as."""
+    fields = [f"{field.name}: {field.kind}," for field in of.shape.fields]
+    return ["// What the elements of a variant are read as.", "#[derive(Drop)]", f"struct {full_name(of)} {{", *fields, "}\n", *reading(of)]
+
+
 # ---- files
 
 
@@ -386,7 +400,9 @@ def implementations(module: Module, wanted: list[Own]) -> str:
         if own.of.leads_back():
             continue
         items += writing(own.of) if "Serialize" in own.derived else []
-        items += reading(own.of) if "Deserialize" in own.derived else []
+        if "Deserialize" in own.derived:
+            items += reading(own.of)
+            items += [line for elements in all_elements(own.of) for line in elements_struct(elements)]
         why = module.unasked(own)
         try:
             items += rounds(own)
@@ -423,8 +439,8 @@ def proofs(module: Module, wanted: list[Own]) -> Iterator[tuple[str, ...]]:
     for own in wanted:
         if own.of.leads_back():
             continue
-        for trait, method, text in answers(own.of, own.derived, module):
-            yield text, f"{own.of.name}{trait}", method
+        for name, trait, method, text in answers(own.of, own.derived, module):
+            yield text, f"{name}{trait}", method
     for count in more_parts(wanted):
         name = f"{halves.holder(count)}Elements"
         for method in ("write", "write_fields"):

@@ -5,10 +5,11 @@ import re
 from collections.abc import Iterable, Iterator
 from typing import TYPE_CHECKING
 
-from declarations import Declared, Field, Shape
-from derived_terms import bound_name, codes, nested, place_of, then_values
+from declarations import Declared, Field, Shape, is_long
+from derived_terms import all_elements, bound_name, codes, nested, place_of, then_values
+from halves import FIELDS
 from imports import imports
-from shared import numbered, tuple_of
+from shared import MOST, numbered, tuple_of
 
 if TYPE_CHECKING:
     from modules import Module
@@ -29,6 +30,7 @@ WORDS = {
     "rmp_decode.proofs.Defaults": "fields_given plain_field given_field fields_needed plain_needed given_needed none_needed given",
     "rmp_decode.proofs.EnumRefusals": "enum_unopened unit_wrong content_wrong",
     "rmp_decode.proofs.Laws": "lawful_ok lawful_err",
+    "rmp_decode.proofs.Tuples": "row_as each_field no_field field_each field_none",
     "rmp_decode.proofs.Variants": "variant_ok variant_err variant_unopened readable",
     "rmp_encode.proofs.Variants": "newtype_no_byte tuple_variant_no_byte struct_variant_no_byte",
 }
@@ -47,16 +49,20 @@ def values_of(words: list[str]) -> str:
 SIGNED = {"i8": "w8", "i16": "w16", "i32": "w32", "i64": "w64", "i128": "w128", "isize": "w64"}
 
 
-def part_of(shape: Shape, at: int) -> str:
-    """The name of a part that was read: of the only one, of a tuple's or of nested tuples'."""
-    return "first" if shape.kind == "newtype" else "parts" + (place_of(at, len(shape.fields)) if shape.kind == "named" else f".{at}")
+def part_of(shape: Shape, at: int, is_variant: bool) -> str:
+    """The name of a part that was read: of the only one, of a tuple's, of nested tuples' or of a struct's."""
+    if shape.kind == "newtype":
+        return "first"
+    if is_long(shape) and is_variant:
+        return f"parts.{FIELDS[at]}"
+    return "parts" + (place_of(at, len(shape.fields)) if shape.kind == "named" or is_long(shape) else f".{at}")
 
 
-def held(shape: Shape, arm: str, term: str, others: frozenset[str] = frozenset()) -> str:
+def held(shape: Shape, arm: str, term: str, others: frozenset[str] = frozenset(), is_variant: bool = False) -> str:
     """The term, where each number with a sign that was read in this arm is the same after a field held it."""
     for at, field in enumerate(shape.fields):
         if field.kind in SIGNED:
-            read = f"{filled(field, arm, others)}.result" if field.default else f"{arm}.{part_of(shape, at)}"
+            read = f"{filled(field, arm, others)}.result" if field.default else f"{arm}.{part_of(shape, at, is_variant)}"
             term = f"rw (to_z-of_z {SIGNED[field.kind]} {read} (search rules)) ({term})"
     return term
 
@@ -92,6 +98,11 @@ def defaulted_read(shape: Shape, fields: list[str], reading: str, arm: str = "c.
     return f"fields_given {names} _ _ {back} m r", forth
 
 
+def around(shape: Shape, step: str, last: str) -> str:
+    """A lemma for each field, around one for their end."""
+    return f"({step} " * len(shape.fields) + last + ")" * len(shape.fields)
+
+
 def struct_read(shape: Shape) -> str:
     """The answers of a struct that is read by one call."""
     back, forth, refused = "λ m r. r", "λ m r. r", "refused"
@@ -99,6 +110,10 @@ def struct_read(shape: Shape) -> str:
         forth, refused = "λ m r. (tt, r.1)", "exact"
     elif shape.kind == "newtype":
         back, forth, refused = "λ m r. r.1", "λ m r. (r.0.0, ((λ e. cc), r.1))", "refused (λ e. cc)"
+    elif is_long(shape):
+        values = nested([f"r.0.{field.name}" for field in shape.fields], "tt")
+        back = f"row_as _ _ {around(shape, 'each_field _ _ _ _', 'no_field')}"
+        forth = f"λ m r. ({values}, row_as _ _ {around(shape, 'field_each _ _ _ _', 'field_none')} m r.1)"
     elif shape.kind == "tuple":
         forth = f"λ m r. ({values_of([f'r.0.{field.name}' for field in shape.fields])}, r.1)"
     elif has_defaults(shape):
@@ -137,6 +152,8 @@ def variant_content(shape: Shape, arm: str, others: frozenset[str]) -> tuple[str
         given, needed = (f"(λ m r. {term})" for term in defaulted_read(shape, values, "r", arm, others))
         return f"λ k h. ({'_, ' * n}refl, content_as _ _ {given} k h)", f"λ v k h. content_as _ _ {needed} k h.{n + 1}"
     value = nested(values, "tt", then_values) if shape.kind == "named" else values_of(values) if n else ""
+    if is_long(shape):
+        value = f"(record {{ {' '.join(f'{name} = {of};' for name, of in zip(FIELDS, values))} }})"
     return f"λ k h. ({'_, ' * n}refl, h)", f"λ v k h. readable _ k {value} h.{n + 1}" if n else "λ v k h. h.1"
 
 
@@ -154,7 +171,7 @@ def variant_read(call: str, at: int, shape: Shape, of: Declared) -> str:
         opened = f"(rw c.in-Ok-eq{at}-default.field-0-0-test at c.in-Ok-eq{at}-default.ensures.opened)"
     done, back = variant_content(shape, f"c.in-Ok-{call}", others)
     ok = f"variant_ok _ _ _ _ _ _ (search rules) _ {at} _ _ ({done})\n    (c.in-Ok-{call}.ensures.ok _ {at} _ {opened})"
-    ok = start + held(shape, f"c.in-Ok-{call}", ok, others)
+    ok = start + held(shape, f"c.in-Ok-{call}", ok, others, is_variant=True)
     err = f"{start}variant_err _ _ _ _ _ _ (search rules) _ {at} _ ({back})\n    (c.in-Err-{call}.ensures.err _ {at} _ {opened})"
     clauses, lemma = f"c.in-Err-{call}.ensures", "content_wrong" if n else "unit_wrong"
     given = f"(λ q. q) {clauses}.bare {clauses}.refused" if n else f"{clauses}.bare {clauses}.exact"
@@ -214,31 +231,36 @@ LISTED = re.compile(r"\b(Vec|VecDeque|BTreeMap|BTreeSet)<")
 
 
 def enum_values(of: Declared) -> str:
-    """Answers for each variant with a list beside other fields: what is known of its fields, and of their refusals, is so of the value."""
+    """Answers for each variant with a list beside other fields: what is known of its fields, and of their refusals, is so of the value. Of more
+    elements than one struct of rmp_encode hands over, also that what is written is."""
     if of.lifetime or len(of.variants) < 2:
         return ""
     text, seen = "", set()
     for shape in of.variants:
         call = WRITTEN_BY.get(shape.kind)
-        if call and any(LISTED.match(field.kind) for field in shape.fields):
+        is_wide = shape.kind == "tuple" and len(shape.fields) > MOST
+        if call and (is_wide or any(LISTED.match(field.kind) for field in shape.fields)):
             # the arm is in the call's name where a variant before is written by the same call
             known = f"c.{call}{f'-in-{shape.name}' * (call in seen)}.ensures"
-            for clause in ("value", "error"):
+            for clause in ["writes"] * is_wide + ["value", "error"]:
                 text += answer(f"returns-in-{shape.name}-clause-{clause}", f"rw c.in-{shape.name}.is {known}.{clause}")
         seen.add(call)
     return text
 
 
-def answers(of: Declared, traits: set[str], module: Module) -> Iterator[tuple[str, str, str]]:
-    """The trait, the method, and the text of each proof."""
+def answers(of: Declared, traits: set[str], module: Module) -> Iterator[tuple[str, str, str, str]]:
+    """The type, the trait, the method, and the text of each proof."""
     if "Serialize" in traits and has_content(of):
-        yield "Serialize", "as_u8", with_imports(enum_no_byte(of), module, f"{of.name}Serialize.as_u8")
+        yield of.name, "Serialize", "as_u8", with_imports(enum_no_byte(of), module, f"{of.name}Serialize.as_u8")
         values = enum_values(of)
         if values:
-            yield "Serialize", "serialize", with_imports(values, module, f"{of.name}Serialize.serialize")
+            yield of.name, "Serialize", "serialize", with_imports(values, module, f"{of.name}Serialize.serialize")
     if "Deserialize" in traits:
         text = struct_read(of.shape) if of.shape else enum_read(of)
-        yield "Deserialize", "deserialize", with_imports(text, module, f"{of.name}Deserialize.deserialize", of.constants())
+        yield of.name, "Deserialize", "deserialize", with_imports(text, module, f"{of.name}Deserialize.deserialize", of.constants())
+        for elements in all_elements(of):
+            text = struct_read(elements.shape)
+            yield elements.name, "Deserialize", "deserialize", with_imports(text, module, f"{elements.name}Deserialize.deserialize")
 
 
 def with_imports(text: str, module: Module, goals: str, constants: Iterable[str] = ()) -> str:

@@ -13,7 +13,7 @@ from typing import TYPE_CHECKING, Iterator, Optional
 import recursive_code
 from declarations import Declared, Refused, declared_at
 import recursive_answers
-from recursive_code import leaf_readers, reading, rounds
+from recursive_holders import leaf_readers, reading, rounds
 import recursive_struct_answers as struct_answers
 import recursive_struct_code as struct_code
 import recursive_struct_shared as struct_shared

@@ -241,6 +241,41 @@ def named(text: str, name: str) -> bool:
     return sign in text if sign != name else re.search(rf"(?<![\w.-]){re.escape(name)}(?![\w-])", text) is not None
 
 
+# ---- what holds of parts
+
+
+def is_option(part: Part) -> bool:
+    return isinstance(part, Again) and part.word == "option"
+
+
+def data_from(part: Part, value: str) -> str:
+    """What a part is written as, over the type's own data."""
+    return (part.own if isinstance(part, Again) else part.data).format(a=value)
+
+
+def reading(level: Level, part: Part) -> str:
+    """What a part is read from, by its value."""
+    return f"(λ (k : Msg) (x : {part.term}). {part.reads.format(reads=f'Is{level.name}', k='k', a='x')})"
+
+
+def same_of(part: Part) -> str:
+    """That two values have the same content."""
+    words = part.same if isinstance(part, Again) else f"{part.key.format(a='x')} ≡ {part.key.format(a='y')}"
+    return f"(λ (x y : {part.term}). {words})"
+
+
+def put_in(term: str, words: dict[str, str]) -> str:
+    """The term with these in place of names."""
+    return re.sub(r"(?<![\w.-])(\w+)(?![\w-])", lambda word: words.get(word[0], word[0]), term)
+
+
+def wider(part: Part, value: str, by: tuple[str, str, str]) -> str:
+    """What one reading of a part says by another: each message that the type is read from in one way is one in the other."""
+    if not isinstance(part, Again):
+        return "(λ m h. h)"
+    return f"(λ m h. {put_in(part.wider, dict(zip('PQf', by), a=value))})"
+
+
 # ---- definitions
 
 

@@ -4,17 +4,12 @@ from __future__ import annotations
 from typing import Optional
 
 from declarations import Shape
-from recursive_levels import Again, Level, Part, file_of
+from recursive_levels import Again, Level, Part, data_from, file_of, is_option, reading, same_of
 
 
 def rounds_file(level: Level) -> str:
     about = f"Each {level.name} is read as it was written, and as nothing else. Written by tools/derive.py."
     return file_of(level, f"{level.name}Rounds", about, back_of(level) + only_of(level))
-
-
-def data_from(part: Part, value: str) -> str:
-    """What a part is written as, over the type's own data."""
-    return (part.own if isinstance(part, Again) else part.data).format(a=value)
 
 
 def values_of(part: Optional[Part]) -> list[str]:
@@ -87,7 +82,7 @@ def only_of(level: Level) -> str:
     name, low = level.name, level.low
     mapped = f"map-{name} {name} (Option Data) {low}_data"
     lines = "".join(only_variant(level, at, shape, part, value) for at, (shape, part) in enumerate(level.variants) for value in values_of(part))
-    options = "".join(mapped_option(level, shape, part) for shape, part in level.variants if isinstance(part, Again) and part.word == "option")
+    options = "".join(mapped_option(level, shape, part) for shape, part in level.variants if part and is_option(part))
     return f"""
 -- ---- values of the same content are written alike
 
@@ -136,9 +131,7 @@ def only_variant(level: Level, at: int, shape: Shape, part: Optional[Part], valu
       (λ m q w r. variant_both {low}_names {at} AnyContent ({name}Case Is{name} w) _ m q r (λ c i j. {low}_by w {made} j.0))
 """
     data = data_from(part, value)
-    reads = f"(λ (k : Msg) (x : {part.term}). {part.reads.format(reads=f'Is{name}', k='k', a='x')})"
-    words = part.same if isinstance(part, Again) else f"{part.key.format(a='x')} ≡ {part.key.format(a='y')}"
-    same = f"(λ (x y : {part.term}). {words})"
+    reads, same = reading(level, part), same_of(part)
     content = f"(content_only {reads} {same} {value} j.0 c i j.2)"
     by = part.alike if isinstance(part, Again) else f"ap (λ n. newtype_variant_of {of} ({part.of_key.format(a='n')})) {{content}}"
     alike = by.format(a=value, of=of, shape=shape.name, content=content)

@@ -2,11 +2,10 @@
 from __future__ import annotations
 
 from derived_proofs import SIGNED
-from recursive_answers import answer, answers_file, box_answers, goals_of, list_answers, option_answers
-from recursive_code import holder
-from recursive_levels import Again, Level, brought_in
+from recursive_holder_answers import answer, answers_file, goals_of, held_answers, loop_measures, measures_file
+from recursive_levels import Again, Level, brought_in, is_option
 from recursive_struct_proofs import slots_of
-from recursive_structs import is_option, is_signed
+from recursive_structs import is_signed
 from shared import numbered
 
 # What an answer begins with where the next field's place is known, or none is left.
@@ -158,48 +157,15 @@ def struct_answers(level: Level) -> str:
 
 
 def reading_answers(level: Level, place: str) -> str:
-    text = struct_answers(level)
-    holders = {"list": list_answers, "box": box_answers, "option": option_answers}
-    for part in level.holders():
-        text += holders[part.word](level, part)
-    return answers_file(level, place, text)
+    return answers_file(level, place, struct_answers(level) + held_answers(level))
 
 
 def reading_measures(level: Level, place: str) -> str:
     """Fields nest below their struct, and so does an element of a list, unless it is a number out of bytes."""
-    fn, name = f"read_{level.low}", level.name
-    text = f"""
-abbrev pub invariant-{fn}-loop-fields : goal.invariant-{fn}-loop-fields
-invariant-{fn}-loop-fields g l = StructRun g.R.Source {level.low}_names {name}Held0 l.initial.fields l.fields {slots_of([f'l.slot{at}' for at in range(len(level.fields))])}
-
-abbrev pub decreases-{fn}-loop-fields : goal.decreases-{fn}-loop-fields
-decreases-{fn}-loop-fields g l = l.fields.left
-"""
-    steps = {fn: ""}
+    run = f"StructRun g.R.Source {level.low}_names {level.name}Held0 l.initial.fields l.fields {slots_of([f'l.slot{at}' for at in range(len(level.fields))])}"
+    about = "Fields nest below their struct, and so does an element of a list, unless it is a number out of bytes."
     calls = [part for _, part in level.fields if part.is_lent or not part.is_leaf]
-    for at, part in enumerate(calls):
-        if not part.is_leaf:
-            steps[f"{fn}-next_value_with" + f"+{at + 1}" * (at > 0)] = " + 5"
-    for part in level.holders():
-        read = holder(level, part)
-        steps[read] = " + 4" if part.word == "option" else " + 2"
-        if part.word == "option":
-            steps[f"{read}-deserialize_option_with"] = " + 3"
-        if part.word == "list":
-            steps[f"{read}-next_element_with"] = " + 1"
-            text += f"\nabbrev pub invariant-{read}-loop-items : goal.invariant-{read}-loop-items\ninvariant-{read}-loop-items g l = Values g.R.Source Is{name} l.initial.seq l.seq l.items.items\n"
-            text += f"\nabbrev pub decreases-{read}-loop-items : goal.decreases-{read}-loop-items\ndecreases-{read}-loop-items g l = l.seq.left\n"
-    lines = "".join(f"\nabbrev pub decreases-{of} : goal.decreases-{of}\ndecreases-{of} g l = 6 * steps_at l.de.now{more}\n" for of, more in steps.items())
-    text = "\n-- Fields nest below their struct, and so does an element of a list, unless it is a number out of bytes." + lines + text
-    table = {
-        "std.proofs.Common": "◌+◌ ◌*◌",
-        "rmp_decode.proofs.Seqs": "Values",
-        "rmp_decode.proofs.StructRuns": "StructRun",
-        f"{level.crate}.specs.{name}Levels": f"Is{name} {level.low}_names",
-        f"{level.crate}.proofs.{name}Levels": f"{name}Held0",
-        f"{level.crate}.proofs.Recursion": "steps_at",
-    }
-    return brought_in(text, table) + f"use Rattle.{level.crate}.proofs.{place}.Given as goal\n" + text
+    return measures_file(level, place, about, "next_value_with", calls, loop_measures(f"read_{level.low}-loop-fields", run, "l.fields.left"))
 
 
 def known(level: Level, at: int) -> str:

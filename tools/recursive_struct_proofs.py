@@ -1,8 +1,8 @@
 """The lemmas that derive.py writes for the read of a recursive struct: what its slots hold, and what follows for its fields."""
 from __future__ import annotations
 
-from recursive_levels import Level, brought_in, tables
-from recursive_structs import absent_of, is_option, missing, own_values, there
+from recursive_levels import Level, brought_in, is_option, tables
+from recursive_structs import absent_of, missing, own_values, there
 
 
 def slot(at: int, of: str = "s") -> str:

@@ -2,8 +2,8 @@
 from __future__ import annotations
 
 from derived_terms import chained
-from recursive_levels import Again, Level, Part, file_of
-from recursive_structs import ALIKE, missing, own_pairs, own_values, pairs_of, put_in, there
+from recursive_levels import Again, Level, file_of, put_in, reading, same_of
+from recursive_structs import ALIKE, missing, own_pairs, own_values, pairs_of, there
 
 
 def rounds_file(level: Level) -> str:
@@ -74,17 +74,6 @@ module _ (s : Settings) where
 """
 
 
-def reads_of(level: Level, part: Part) -> str:
-    """What a part is read from, by its value."""
-    return f"(λ (k : Msg) (x : {part.term}). {part.reads.format(reads=f'Is{level.name}', k='k', a='x')})"
-
-
-def same_of(part: Part) -> str:
-    """That two values have the same content."""
-    words = part.same if isinstance(part, Again) else f"{part.key.format(a='x')} ≡ {part.key.format(a='y')}"
-    return f"(λ (x y : {part.term}). {words})"
-
-
 def alike(level: Level, at: int, fact: str) -> str:
     """That they are written alike."""
     part = level.fields[at][1]
@@ -100,7 +89,7 @@ def collected(level: Level) -> str:
     for at in range(count - 1, -1, -1):
         part = level.fields[at][1]
         value, other = (value_of(level, at, f"(out-{level.name} {of})") for of in "vw")
-        start = f"{reads_of(level, part)} {same_of(part)} {value} {other} _"
+        start = f"{reading(level, part)} {same_of(part)} {value} {other} _"
         term = f"(last_field {start})" if at == count - 1 else f"(field_only {start} _ _ _ {term})"
     places = ["x" + ".1" * at + ".0" * (at < count - 1) for at in range(count)]
     data = [alike(level, at, f"({place})") for at, place in enumerate(places)]
@@ -113,7 +102,7 @@ def only_of(level: Level) -> str:
     holds, rows = [], []
     for at, (field, part) in enumerate(level.fields):
         value = value_of(level, at, own)
-        only = f"(λ k. Only {reads_of(level, part)} {same_of(part)} k {value})"
+        only = f"(λ k. Only {reading(level, part)} {same_of(part)} k {value})"
         proof = put_in(part.only.format(a=value, fit=fit(level, at)), {"h": held(level, at)} if isinstance(part, Again) else {})
         holds.append(f"Field {only} ⊥")
         rows.append(f'fields_cons s (codes "{field.key}") _ _ _ {only} ⊥ _ ({proof})')

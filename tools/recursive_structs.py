@@ -1,11 +1,9 @@
 """The definitions that derive.py writes for a recursive struct: what its values are read from and written as, level by level."""
 from __future__ import annotations
 
-import re
-
 from declarations import Field
 from derived_terms import codes
-from recursive_levels import Again, Level, Part, file_of, inductive
+from recursive_levels import Again, Level, Part, data_from, file_of, inductive, is_option, put_in, wider
 from shared import list_of
 
 # The data of an option and of a list, from those of another of the same content.
@@ -18,10 +16,6 @@ ALIKE = {
 def absent_of(part: Part) -> str:
     """The value of a field that isn't there."""
     return "(Some None)" if is_option(part) else "None"
-
-
-def is_option(part: Part) -> bool:
-    return isinstance(part, Again) and part.word == "option"
 
 
 def is_signed(part: Part) -> bool:
@@ -109,18 +103,6 @@ abbrev pub {low}_layer_fits : (X : Type 0) → (X → {name}) → (X → Type 0)
 abbrev pub {low}_fits : {name} → Type 0
 {low}_fits = rec-{name} (Type 0) {low}_layer_fits
 """
-
-
-def put_in(term: str, words: dict[str, str]) -> str:
-    """The term with these in place of names."""
-    return re.sub(r"(?<![\w.-])(\w+)(?![\w-])", lambda word: words.get(word[0], word[0]), term)
-
-
-def wider(part: Part, value: str, by: tuple[str, str, str]) -> str:
-    """What one reading of a part says by another: each message that the type is read from in one way is one in the other."""
-    if not isinstance(part, Again):
-        return "(λ m h. h)"
-    return f"(λ m h. {put_in(part.wider, dict(zip('PQf', by), a=value))})"
 
 
 def wider_lines(level: Level) -> str:
@@ -232,11 +214,6 @@ def induction_of(level: Level) -> str:
     return option_lines(level) + inductive(
         level, f"{name}Parts P x = {kids}\n", f"{low}_parts_hold P first h y = {hold}\n", f"{low}_through X at k x = λ i. {' × '.join(through)}\n"
     )
-
-
-def data_from(part: Part, value: str) -> str:
-    """What a part is written as, over the type's own data."""
-    return (part.own if isinstance(part, Again) else part.data).format(a=value)
 
 
 def own_pairs(level: Level, of: str) -> str:

@@ -8,6 +8,7 @@ mod manifest;
 mod mixed;
 mod papers;
 mod ports;
+mod rows;
 mod signals;
 mod surveys;
 
@@ -18,5 +19,6 @@ pub use manifest::Manifest;
 pub use mixed::{Course, Spot, Voyage};
 pub use papers::{Chart, Papers};
 pub use ports::Entry;
+pub use rows::{Line, Row};
 pub use signals::Signal;
 pub use surveys::Survey;

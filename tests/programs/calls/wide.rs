@@ -4,7 +4,7 @@ use rmp_encode::{to_vec, to_vec_named};
 use rmp_wire::{F64Bits, Marker};
 use std::alloc::Global;
 use std::test::Fail;
-use test_wide::{Buoy, Coast, Course, Entry, Flag, Light, Measured, Signal, Spot};
+use test_wide::{Buoy, Coast, Course, Entry, Flag, Light, Line, Measured, Row, Signal, Spot};
 
 // Each variant of `Signal` with a value, in the order of the declaration.
 const SIGNALS: [&[u8]; 30] = [
@@ -303,6 +303,111 @@ fn a_tuple_struct_of_twelve(rt: HostRuntime) -> Result<(), Fail> {
     assert_eq!(rt; chart.as_bytes(), b"\x01\x02".as_slice());
     let written = to_vec(rt.alloc(), &read)?;
     assert_eq!(rt; written.as_slice().split_first(), Some((&0x9c, MEASURED)));
+    Ok(())
+}
+
+// Four elements more.
+const MORE: &[u8] =
+    b"\x81\xa1x\x07\xc4\x10\xff\xff\xff\xff\xff\xff\xff\xff\xff\xff\xff\xff\xff\xff\xff\xf4\xc0\x92\x05\xc0";
+
+// A list that says that it has so many elements, and has these sixteen and nil, after what is before it.
+fn sixteen(rt: HostRuntime, before: &[u8], count: u16) -> Result<Vec<u8>, Fail> {
+    let mut bytes = Vec::new(rt.alloc());
+    bytes.extend_from_slice(before)?;
+    if count < 16 {
+        bytes.push(0x90 | count as u8)?;
+    } else {
+        bytes.extend_from_slice(b"\xdc\x00")?;
+        bytes.push(count as u8)?;
+    }
+    bytes.extend_from_slice(MEASURED)?;
+    bytes.extend_from_slice(MORE)?;
+    bytes.push(0xc0)?;
+    Ok(bytes)
+}
+
+#[test]
+fn a_tuple_struct_of_sixteen(rt: HostRuntime) -> Result<(), Fail> {
+    let bytes = sixteen(rt, b"", 16)?;
+    let read: Row = from_slice(rt.alloc(), bytes.as_slice())?;
+    assert!(rt; matches!((read.0, read.2, read.5, read.13), (300, -70000, 'c', -12)));
+    assert_eq!(rt; read.11.as_bytes(), b"\x01\x02".as_slice());
+    assert!(rt; matches!(read.12.get("x"), Some(&7)));
+    assert!(rt; matches!(&read.15, Some(spot) if spot.north == 5 && spot.name.is_none()));
+    let written = to_vec(rt.alloc(), &read)?;
+    assert_eq!(rt;
+        bytes.as_slice().strip_prefix(written.as_slice()),
+        Some(b"\xc0".as_slice())
+    );
+    Ok(())
+}
+
+#[test]
+fn no_tuple_struct_of_sixteen(rt: HostRuntime) -> Result<(), Fail> {
+    let fewer = sixteen(rt, b"", 15)?;
+    let read: Result<Row, Error> = from_slice(rt.alloc(), fewer.as_slice());
+    assert!(rt; matches!(read, Err(Error::Syntax(Text::InvalidLength))));
+    let more = sixteen(rt, b"", 17)?;
+    let read: Result<Row, Error> = from_slice(rt.alloc(), more.as_slice());
+    assert!(rt; matches!(read, Err(Error::LengthMismatch(16))));
+    Ok(())
+}
+
+#[test]
+fn a_variant_of_sixteen_elements(rt: HostRuntime) -> Result<(), Fail> {
+    let bytes = sixteen(rt, b"\x81\xa4Long", 16)?;
+    let read: Line = from_slice(rt.alloc(), bytes.as_slice())?;
+    assert!(rt;
+        matches!(
+            &read,
+            Line::Long(
+                300,
+                _,
+                -70000,
+                None,
+                true,
+                'c',
+                _,
+                _,
+                _,
+                _,
+                _,
+                _,
+                _,
+                -12,
+                (),
+                Some(_)
+            )
+        )
+    );
+    let written = to_vec(rt.alloc(), &read)?;
+    assert_eq!(rt;
+        bytes.as_slice().strip_prefix(written.as_slice()),
+        Some(b"\xc0".as_slice())
+    );
+    let more = sixteen(rt, b"\x81\xa4Long", 17)?;
+    let read: Result<Line, Error> = from_slice(rt.alloc(), more.as_slice());
+    assert!(rt; matches!(read, Err(Error::LengthMismatch(16))));
+    Ok(())
+}
+
+#[test]
+fn a_variant_of_nine_elements(rt: HostRuntime) -> Result<(), Fail> {
+    let bytes =
+        b"\x81\xa5Short\x99\x07\xa1A\xd1\xff8\xcd\x01,\xc3\x92\x01\x02\xa1c\x92\x05\xc0\xce\x00\x01\x11p";
+    let read: Line = from_slice(rt.alloc(), bytes.as_slice())?;
+    assert!(rt;
+        matches!(
+            &read,
+            Line::Short(7, _, -200, Some(300), true, _, 'c', _, 70000)
+        )
+    );
+    assert_eq!(rt; to_vec(rt.alloc(), &read)?.as_slice(), bytes.as_slice());
+    let read: Result<Line, Error> = from_slice(
+        rt.alloc(),
+        b"\x81\xa5Short\x98\x07\xa1A\xd1\xff8\xcd\x01,\xc3\x92\x01\x02\xa1c\x92\x05\xc0",
+    );
+    assert!(rt; matches!(read, Err(Error::Syntax(Text::InvalidLength))));
     Ok(())
 }
 

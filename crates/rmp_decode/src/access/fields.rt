@@ -483,9 +483,13 @@ impl<R: Source, C: SerializerConfig> Deserializer<R, C> {
         }
     }
 
-    // Reads a tuple from a list of as many elements, or from as many bytes.
+    /// Reads a tuple, or the fields of a tuple struct, from a list of as many elements, or from bytes as the list of their numbers.
+    ///
+    /// # Errors
+    /// Those of the elements' types; `Syntax("invalid type")` for another kind; `DepthLimitExceeded` for a list that
+    /// nests too deep; and `Syntax("invalid length")` and `LengthMismatch` for a list of fewer or more elements.
     #[inline(always)]
-    pub(crate) fn tuple_parts<'de, F: Fields<'de, R>>(&mut self, count: usize) -> Result<F, Error>
+    pub fn tuple_parts<'de, F: Fields<'de, R>>(&mut self, count: usize) -> Result<F, Error>
     where
         R: ReadSlice<'de>,
         requires count { count ≡ F.count }

@@ -1,0 +1,159 @@
+"""The proofs of the code that derive.py writes for recursive enums and structs alike: recursive_holders.py has that code."""
+from __future__ import annotations
+
+from recursive_holders import holder
+from recursive_levels import Again, Level, Part, brought_in, tables
+
+
+def goals_of(level: Level, place: str) -> str:
+    return f"use Rattle.{level.crate}.proofs.{place}.Goals as goal\n"
+
+
+def answers_file(level: Level, place: str, text: str) -> str:
+    name, low, declared = level.name, level.low, level.declared
+    table = tables(level)
+    table["std.proofs.Common"] += " max rules arith false length Result Ok Err"
+    table |= {
+        "std.proofs.lemmas.Result": "err_from_is_err_and",
+        "std.proofs.lemmas.Int": "to_z-of_z",
+        "rmp_decode.specs.Seq": "IsOpen",
+        "rmp_decode.proofs.Laws": "lawful_ok lawful_err",
+        "rmp_decode.proofs.Seqs": "values_start values_step via Values",
+        "rmp_decode.proofs.Variants": "variant_ok variant_err variant_unopened readable given_read given_refused",
+        f"{declared}.TheVariants": " ".join(f"rolls-{shape.name}" for shape, _ in level.variants),
+        f"{declared}.TheViews": f"out-roll-{name}" if level.fields else table[f"{declared}.TheViews"],
+        "rmp_decode.specs.FieldAccess": "IsStructOpen TakesPlace",
+        "rmp_decode.specs.Names": "bytes_of",
+        "rmp_decode.proofs.FieldWiths": "field_taken field_refused",
+        "rmp_decode.proofs.StructRuns": "struct_start struct_step struct_place struct_value struct_met struct_missing struct_over struct_done",
+        "rmp_decode.proofs.Structs": "fields_unopened",
+        f"{level.crate}.proofs.RecursionFields": "same_then field_steps",
+        f"{level.crate}.proofs.{name}Levels": " ".join([f"{name}Held0", f"{low}_whole", *(
+            word for at in range(len(level.fields)) for word in (f"{name}Slot{at}", f"{low}_tree{at}", f"{low}_step{at}", f"{low}_gap{at}", f"{low}_lacks{at}"))]),
+        f"{level.crate}.proofs.Recursion": "on_ok ok_holds variant_done vec_row vec_done row_unopened row_refused row_unkept part_room part_steps steps_at other_steps"
+        " content_room_falls lent_law item_taken item_refused option_law some_if some_if_err none_left never_none",
+    }
+    return brought_in(text, table) + goals_of(level, place) + text
+
+
+def answer(goal: str, term: str) -> str:
+    return f"\npub {goal} : goal.{goal}\n{goal} g t c ={term}\n"
+
+
+def room_of(level: Level, run: str) -> str:
+    """That an element has no more room than its list, and, of a struct, fewer steps."""
+    if level.fields:
+        rest = f"part_steps {run} in\n    let e : steps_at p.now ≡ steps_at d = ap steps_at q in\n"
+    else:
+        rest = f"part_room {run} in\n    let e = ap (λ (z : _). max 1 z.room) q in\n"
+    return f"    let h = {rest}    (omega (arith, h, e, c.decreases), ((λ a m. m), ((λ a m. m), (λ a m. m))))"
+
+
+def list_answers(level: Level, part: Again) -> str:
+    """How a list of the type is read."""
+    fn, name = holder(level, part), f"Is{level.name}"
+    start = f"let p = err_from_is_err_and c.from_residual{{at}}.result c.from_residual{{at}}.ensures.1 in\n"
+    run = "let r = c.loop-items.invariant in\n    let e = c.in_{}-item.ensures in\n"
+    taken = f"""let is = c.in-Some.is in
+    let some = some_if c.loop-items.seq.left c.in-Some.item _ is (e.none r.run.still.sound) in
+    let k = item_taken g.R.Source {name} c.loop-items.seq c.next_element_with.new.self r.run.still e.list (λ p q r h. h) c.in-Some.item
+    (rw is at (e.part r.run.still.sound some)) e.still in
+"""
+    step = f"values_step g.R.Source {name} c.in_ok-seq.seq c.loop-items.seq c.next_element_with.new.self c.loop-items.items.items c.in-Some.item r k e.same_reference"
+    over = f"""let z = none_left c.loop-items.seq.left (λ l. never_none g.R.Source c.loop-items.seq c.next_element_with.new.self
+    (rw c.in_default.is at (e.part r.run.still.sound l))) in
+    let n = (e.none r.run.still.sound z).1 in
+"""
+    opened = "c.in_ok-seq.ensures.opened"
+
+    def refused(fact: str) -> str:
+        return f"record {{\n      law = lawful_err _ (Row {name}) _ _ _ _ (vec_row {name})\n          ({fact});\n    }}"
+
+    terms = {
+        "returns-in_err-seq": start.format(at="") + "    rw (p.1, p.2) ("
+        + refused(f"row_unopened g.R.Source {name} _ _ _ (rw c.in_err-seq.was at c.deserialize_seq.follows.holds-at-none)") + ")",
+        "loop-items-init": f"rw c.new-items.ensures.items (values_start g.R.Source {name} c.in_ok-seq.seq {opened}.opened)",
+        "next_element_with-requires": "λ s some d l p q.\n" + room_of(level, f"g.R.Source c.args.de.now c.in_ok-seq.seq c.loop-items.seq _ {opened} c.loop-items.invariant.run d l"),
+        "returns-in_err-item": start.format(at="-in_err-item") + "    " + run.format("err") + f"""    let some = some_if_err c.loop-items.seq.left _ (e.none r.run.still.sound) in
+    let f = item_refused g.R.Source {name} c.loop-items.seq c.next_element_with.new.self r.run.still e.list (λ p q r h. h) _ some
+    (e.part r.run.still.sound some) in
+    rw (p.1, p.2) (""" + refused(f"row_refused g.R.Source {name} _ c.in_ok-seq.seq c.loop-items.seq c.loop-items.items.items {opened} r _\n"
+                                        "          c.next_element_with.new.self _ f (e.marked r.run.still.marked) (search rules)") + ")",
+        "loop-items-preserved": run.format("ok") + "    " + taken + f"    rw c.in_ok-push.ensures.items ({step})",
+        "returns": run.format("ok") + "    " + over + f"""    let d = (c.in_ok-end.ensures.ok (subst IsOpen (sym n) r.run.still)).1 in
+    record {{
+      law = vec_done g.R.Source {name} _ c.in_ok-seq.seq c.loop-items.seq c.loop-items.items {opened} r _ z
+          (via c.end.new.self.0 (search rules) (d ∙ ap (λ s. record s.de.now {{ failed = false }}) n));
+    }}""",
+        "returns-in_err-push": start.format(at="-in_err-push") + "    " + run.format("ok") + "    " + taken + f"    let v = {step} in\n    rw (p.1, p.2) ("
+        + refused(f"row_unkept g.R.Source {name} _ c.in_ok-seq.seq c.next_element_with.new.self _ {opened} v _ (search rules)") + ")",
+        "returns-in_err-end": run.format("ok") + "    " + over + "    let d = (c.in_err-end.ensures.err (subst IsOpen (sym n) r.run.still)).0 in\n"
+        "    absurd (omega (arith, z, d, ap (λ s. s.left) n))",
+    }
+    return "".join(f"\npub {fn}-{goal} : goal.{fn}-{goal}\n{fn}-{goal} g t c =\n    {term}\n" for goal, term in terms.items())
+
+
+def box_answers(level: Level, part: Again) -> str:
+    fn = holder(level, part)
+    goal = f"{fn}-returns-in-Err"
+    return f"\npub {goal} : goal.{goal}\n{goal} g t c = record {{\n  law = lawful_err _ _ _ _ _ _ (λ m r. (r.0.value, r.1)) c.in-Err.ensures.law;\n}}\n"
+
+
+def option_answers(level: Level, part: Again) -> str:
+    """How an option is read, whose value isn't nil."""
+    fn = holder(level, part)
+    reads = f"(Boxed Is{level.name})"
+    room = "let h = s.stays.room in\n    let e = ap (λ (z : _). max 1 z.room) q in"
+    if level.fields:
+        room = "let h = other_steps g.R.Source c.args.de.now d s in\n    let e : steps_at p.now ≡ steps_at d = ap steps_at q in"
+    return answer(f"{fn}-returns", f""" record {{
+  law = option_law g.R.Source {reads} _ _ _ _ (λ p q r h. h) _ c.deserialize_option_with.ensures;
+}}""") + answer(f"{fn}-deserialize_option_with-requires", f""" λ f d s p q.
+    {room}
+    (omega (arith, h, e, c.decreases), ((λ a m. m), ((λ a m. m), (λ a m. m))))""")
+
+
+def held_answers(level: Level) -> str:
+    """How the type again is read, in all that it is in."""
+    answers = {"list": list_answers, "box": box_answers, "option": option_answers}
+    return "".join(answers[part.word](level, part) for part in level.holders())
+
+
+# ---- that the reads end
+
+
+def loop_measures(loop: str, invariant: str, left: str) -> str:
+    """What holds in a loop, and what falls."""
+    return f"""
+abbrev pub invariant-{loop} : goal.invariant-{loop}
+invariant-{loop} g l = {invariant}
+
+abbrev pub decreases-{loop} : goal.decreases-{loop}
+decreases-{loop} g l = {left}
+"""
+
+
+def measures_file(level: Level, place: str, about: str, call: str, parts: list[Part], text: str = "") -> str:
+    """What falls from each read to the next: the room, or, of a struct, the steps, and then one after another of what reads the same message.
+
+    The closures of `call` read these parts, and `text` says what holds in loops."""
+    name, fn = level.name, f"read_{level.low}"
+    more = {fn: 0} | {f"{fn}-{call}" + f"+{at + 1}" * (at > 0): 5 for at, part in enumerate(parts) if not part.is_leaf}
+    for part in level.holders():
+        read = holder(level, part)
+        more |= {read: 4, f"{read}-deserialize_option_with": 3} if part.word == "option" else {read: 2}
+        if part.word == "list":
+            more[f"{read}-next_element_with"] = 1
+            text += loop_measures(f"{read}-loop-items", f"Values g.R.Source Is{name} l.initial.seq l.seq l.items.items", "l.seq.left")
+    whole = "steps_at l.de.now" if level.fields else "max 1 l.de.now.room"
+    lines = "".join(f"\nabbrev pub decreases-{of} : goal.decreases-{of}\ndecreases-{of} g l = 6 * {whole}{f' + {n}' * (n > 0)}\n" for of, n in more.items())
+    text = f"\n-- {about}{lines}{text}"
+    table = {
+        "std.proofs.Common": "◌+◌ ◌*◌ max",
+        "rmp_decode.proofs.Seqs": "Values",
+        "rmp_decode.proofs.StructRuns": "StructRun",
+        f"{level.crate}.specs.{name}Levels": f"Is{name} {level.low}_names",
+        f"{level.crate}.proofs.{name}Levels": f"{name}Held0",
+        f"{level.crate}.proofs.Recursion": "steps_at",
+    }
+    return brought_in(text, table) + f"use Rattle.{level.crate}.proofs.{place}.Given as goal\n" + text
