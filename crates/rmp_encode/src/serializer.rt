@@ -309,6 +309,16 @@ impl<W: Sink, C: SerializerConfig> Serializer<W, C> {
         }
     }
 
+    // Writes the numbers of a tuple after their head, each in one byte, out of line.
+    pub(crate) fn put_kept(&mut self, piece: &[u8]) -> Result<(), Error>
+        ensures writes { WritesAfter W.Sink piece.now (sink_of self.old) (sink_of self.new) result }
+        ensures marker { NeverMarker result }
+        ensures error { IfErr result OfSink }
+        ensures keeps { Keeps W.Sink self.old self.new }
+    {
+        self.put(piece)
+    }
+
     #[inline(always)]
     pub(crate) fn put_head(&mut self, pairs: bool, n: u32) -> Result<(), Error>
         ensures writes { WritesPart W.Sink W.takes_memory (Unit {0}) (head_at pairs n) (sink_of self.old) (sink_of self.new) result }

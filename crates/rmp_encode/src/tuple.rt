@@ -338,7 +338,7 @@ impl<'a, W: Sink, C: SerializerConfig> Tuple<'a, W, C> {
         }
         // each number is below 128, so it is its own encoding
         se.put_head(false, len)?;
-        se.put(bytes.as_slice())
+        se.put_kept(bytes.as_slice())
     }
 }
 

@@ -38,7 +38,7 @@ pub returns-clause-writes : goal.returns-clause-writes
 returns-clause-writes g c =
     let no_packs = sym (c.packs.ensures ∙ ap (packs_tuple ForceAll) c.as_slice.ensures.value) ∙ c.if-packs.false in
     λ old t h. probing_lists g.W.Sink tt c.in-Some.bytes.items _ c.args.self.se.now no_packs
-    ((rw c.as_slice-2.ensures.value at c.put.ensures.writes) _ _ (head_at_some _ _) c.in_ok-put_head.ensures.writes) old t
+    ((rw c.as_slice-2.ensures.value at c.put_kept.ensures.writes) _ _ (head_at_some _ _) c.in_ok-put_head.ensures.writes) old t
     (probe_state g.W.Sink c.in-Some.bytes (kept_some c.in-Some.bytes c.in-Some.is c.if-not-probing.false) h)
 
 pub returns-in_default-clause-marker : goal.returns-in_default-clause-marker
@@ -63,9 +63,9 @@ returns-in_err-put_head-clause-marker g c =
 pub returns-clause-marker : goal.returns-clause-marker
 returns-clause-marker g c =
     let no_packs = sym (c.packs.ensures ∙ ap (packs_tuple ForceAll) c.as_slice.ensures.value) ∙ c.if-packs.false in
-    ended_listed g.W.Sink c.in-Some.bytes _ no_packs (kept_some c.in-Some.bytes c.in-Some.is c.if-not-probing.false) c.put.result
-    ((rw c.as_slice-2.ensures.value at c.put.ensures.writes) _ _ (head_at_some _ _) c.in_ok-put_head.ensures.writes)
-    (none_by_never g.W.Sink _ _ c.put.result c.put.ensures.marker)
+    ended_listed g.W.Sink c.in-Some.bytes _ no_packs (kept_some c.in-Some.bytes c.in-Some.is c.if-not-probing.false) c.put_kept.result
+    ((rw c.as_slice-2.ensures.value at c.put_kept.ensures.writes) _ _ (head_at_some _ _) c.in_ok-put_head.ensures.writes)
+    (none_by_never g.W.Sink _ _ c.put_kept.result c.put_kept.ensures.marker)
 
 pub returns-then-packs-clause-error : goal.returns-then-packs-clause-error
 returns-then-packs-clause-error g c = λ old t h. on_fits _ c.serialize_bytes.result
