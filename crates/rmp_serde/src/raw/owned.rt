@@ -40,13 +40,13 @@ impl Raw {
         ensures { raw_bytes result ≡ bytes.items }
     {
         match String::from_utf8(bytes) {
-            Ok(text) => Raw::new(text),
+            Ok(text) => return Raw::new(text),
             Err(e) => {
                 let error = e.utf8_error();
                 let bytes = e.into_bytes();
-                Raw {
+                return Raw {
                     content: Content::Other(Other { bytes, error }),
-                }
+                };
             }
         }
     }
@@ -177,8 +177,8 @@ impl<'de, R: ReadSlice<'de>> Deserialize<'de, R> for Raw {
 
     fn deserialize<C: SerializerConfig>(de: &mut Deserializer<R, C>) -> Result<Raw, Error> {
         match de.deserialize_raw() {
-            Ok(raw) => Ok(Raw::from_utf8(raw.1)),
-            Err(e) => Err(e),
+            Ok(raw) => return Ok(Raw::from_utf8(raw.1)),
+            Err(e) => return Err(e),
         }
     }
 
