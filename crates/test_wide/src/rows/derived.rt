@@ -9,6 +9,7 @@ ghost use Rattle.rmp_decode.specs.Rows.{AndThen, NoMore, ReadsEach};
 ghost use Rattle.rmp_decode.specs.Seq.{OfRow};
 ghost use Rattle.rmp_decode.specs.Variants.{OfVariant, Case, NoCase, Bare, Content};
 ghost use Rattle.rmp_encode.specs.Data.{unit_variant};
+ghost use Rattle.rmp_encode.specs.Markers.{value_of};
 ghost use Rattle.rmp_encode.specs.Refusals.{OfParts, OfSink};
 ghost use Rattle.rmp_encode.specs.Sizes.{one_of};
 ghost use Rattle.rmp_encode.specs.Trees.{sequence_of, tuple_variant_of};
@@ -1386,6 +1387,17 @@ impl<
         ∷ (E2.takes_memory s ∷ (E3.takes_memory s ∷ (E4.takes_memory s
         ∷ (E5.takes_memory s ∷ (E6.takes_memory s ∷ (E7.takes_memory s ∷ (E8.takes_memory s ∷ (E9.takes_memory s ∷ []))))))))) };
 
+    ghost pieces = { λ v s.
+        value_of s (E1.data_of v.first.now s.human) (E1.marks v.first.now s) ∷
+        value_of s (E2.data_of v.second.now s.human) (E2.marks v.second.now s) ∷
+        value_of s (E3.data_of v.third.now s.human) (E3.marks v.third.now s) ∷
+        value_of s (E4.data_of v.fourth.now s.human) (E4.marks v.fourth.now s) ∷
+        value_of s (E5.data_of v.fifth.now s.human) (E5.marks v.fifth.now s) ∷
+        value_of s (E6.data_of v.sixth.now s.human) (E6.marks v.sixth.now s) ∷
+        value_of s (E7.data_of v.seventh.now s.human) (E7.marks v.seventh.now s) ∷
+        value_of s (E8.data_of v.eighth.now s.human) (E8.marks v.eighth.now s) ∷
+        value_of s (E9.data_of v.ninth.now s.human) (E9.marks v.ninth.now s) ∷ [] };
+
     ghost counted = { λ v human. refl };
 
     #[inline(always)]
@@ -1500,6 +1512,24 @@ impl<
         ∷ (E8.takes_memory s ∷ (E9.takes_memory s ∷ (E10.takes_memory s
         ∷ (E11.takes_memory s ∷ (E12.takes_memory s ∷ (E13.takes_memory s
         ∷ (E14.takes_memory s ∷ (E15.takes_memory s ∷ (E16.takes_memory s ∷ [])))))))))))))))) };
+
+    ghost pieces = { λ v s.
+        value_of s (E1.data_of v.first.now s.human) (E1.marks v.first.now s) ∷
+        value_of s (E2.data_of v.second.now s.human) (E2.marks v.second.now s) ∷
+        value_of s (E3.data_of v.third.now s.human) (E3.marks v.third.now s) ∷
+        value_of s (E4.data_of v.fourth.now s.human) (E4.marks v.fourth.now s) ∷
+        value_of s (E5.data_of v.fifth.now s.human) (E5.marks v.fifth.now s) ∷
+        value_of s (E6.data_of v.sixth.now s.human) (E6.marks v.sixth.now s) ∷
+        value_of s (E7.data_of v.seventh.now s.human) (E7.marks v.seventh.now s) ∷
+        value_of s (E8.data_of v.eighth.now s.human) (E8.marks v.eighth.now s) ∷
+        value_of s (E9.data_of v.ninth.now s.human) (E9.marks v.ninth.now s) ∷
+        value_of s (E10.data_of v.tenth.now s.human) (E10.marks v.tenth.now s) ∷
+        value_of s (E11.data_of v.eleventh.now s.human) (E11.marks v.eleventh.now s) ∷
+        value_of s (E12.data_of v.twelfth.now s.human) (E12.marks v.twelfth.now s) ∷
+        value_of s (E13.data_of v.thirteenth.now s.human) (E13.marks v.thirteenth.now s) ∷
+        value_of s (E14.data_of v.fourteenth.now s.human) (E14.marks v.fourteenth.now s) ∷
+        value_of s (E15.data_of v.fifteenth.now s.human) (E15.marks v.fifteenth.now s) ∷
+        value_of s (E16.data_of v.sixteenth.now s.human) (E16.marks v.sixteenth.now s) ∷ [] };
 
     ghost counted = { λ v human. refl };
 

@@ -5,6 +5,8 @@ use Rattle.rmp_encode.specs.Ser.{sink_of, settings_of}
 use Rattle.rmp_encode.proofs.Going.{going_more, keeps_then}
 use Rattle.rmp_encode.proofs.Parts.{front_or, back_or, part_takes}
 use Rattle.rmp_encode.proofs.Refusals.{of_front, on_back}
+use Rattle.rmp_encode.proofs.Markers.{pieces_as, pieces_stop, pieces_then}
+use Rattle.rmp_encode.specs.Markers.{value_of}
 use Rattle.test_wide.proofs.rows.derived.NinePartsElements.write.Goals as goal
 
 pub returns-in_err-write-clause-writes : goal.returns-in_err-write-clause-writes
@@ -32,6 +34,18 @@ returns-clause-writes g c = λ old t rest h. going_more g.W.Sink (IsWriting g.W.
 
 pub returns-clause-keeps : goal.returns-clause-keeps
 returns-clause-keeps g c = keeps_then g.W.Sink c.write.ensures.keeps c.write-2.ensures.keeps
+
+pub returns-in_err-write-clause-marker : goal.returns-in_err-write-clause-marker
+returns-in_err-write-clause-marker g c =
+    let p = err_from_is_err_and c.from_residual.result c.from_residual.ensures.1 in
+    rw (p.1, p.2) ((pieces_stop g.W.Sink (value_of (settings_of c.args.se.now)
+    (g.E9.Serialize.data_of c.args.self.now.ninth.now (settings_of c.args.se.now).human)
+    (g.E9.Serialize.marks c.args.self.now.ninth.now (settings_of c.args.se.now)) ∷ []) c.in_err-write.ensures.marker))
+
+pub returns-clause-marker : goal.returns-clause-marker
+returns-clause-marker g c = (pieces_then g.W.Sink c.write-2.result c.in_ok-write.ensures.marker
+    (pieces_as g.W.Sink (λ s. (value_of s (g.E9.Serialize.data_of c.args.self.now.ninth.now s.human) (g.E9.Serialize.marks c.args.self.now.ninth.now s)
+    ∷ [])) c.write.ensures.keeps.settings c.write-2.ensures.marker))
 
 pub returns-in_err-write-clause-error : goal.returns-in_err-write-clause-error
 returns-in_err-write-clause-error g c =
