@@ -47,7 +47,8 @@ NOTE = re.compile(r"//\s*derive:\s*(.*)")
 # How many fields a struct has at most, without names and with them, and how many a variant.
 MOST_UNNAMED = 16
 MOST_NAMED = 32
-MOST_IN_VARIANT = 16
+MOST_NAMED_IN_VARIANT = 16
+MOST_UNNAMED_IN_VARIANT = MOST
 # How many are read as one tuple.
 MOST_IN_TUPLE = len(KINDS)
 # For how many fields with names rmp_decode has a call of its own.
@@ -534,7 +535,7 @@ def declared(source: Source, word: str, name: str, at: int, notes: renaming.Note
         if found.shape:
             check_shape(shape, MOST_NAMED, MOST_UNNAMED)
         else:
-            check_shape(shape, MOST_IN_VARIANT, MOST_IN_VARIANT)
+            check_shape(shape, MOST_NAMED_IN_VARIANT, MOST_UNNAMED_IN_VARIANT)
     return found
 
 

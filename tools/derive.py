@@ -48,8 +48,7 @@ from derived_ends import implementation as ends
 from derived_proofs import answers, has_content, has_defaults
 from derived_rounds import LEMMAS, Own, Unknown
 from derived_rounds import implementations as rounds
-from derived_terms import GHOST, GROUP, MOST_IN_TUPLES, Words, alias, all_elements, bound_name, data_of, elements_of, memory_of, nested, place_of
-from derived_terms import then_bound, then_of
+from derived_terms import GHOST, GROUP, MOST_IN_TUPLES, Words, alias, bound_name, data_of, memory_of, nested, place_of, then_bound, then_of
 from derived_terms import member_of_reading, member_of_refusing, members_of_writing, refused_of, underscored
 from imports import imports
 from modules import Files, Module, stale, sums_lines
@@ -268,9 +267,6 @@ def arm_of_reading(of, at, shape):
         taken = taken_differ(shape)
         if has_defaults(shape):
             taken = [f"let parts: {nested([field.read_as() for field in shape.fields])} = parts;", *taken]
-        elif is_long(shape):
-            elements = elements_of(of, shape)
-            taken = [f"let {made_of(elements.name, elements.shape)} = parts;"]
         lines += ["Ok(parts) => {", *taken, f"return {made};", "}"]
     return [*lines, "Err(e) => return Err(e),", "},"]
 
@@ -358,12 +354,6 @@ def reading(of):
     ]
 
 
-def elements_struct(of: Declared) -> list[str]:
-    """A struct that the elements of a variant are read as."""
-    fields = [f"{field.name}: {field.kind}," for field in of.shape.fields]
-    return ["// What the elements of a variant are read as.", "#[derive(Drop)]", f"struct {full_name(of)} {{", *fields, "}\n", *reading(of)]
-
-
 # ---- files
 
 
@@ -400,9 +390,7 @@ def implementations(module: Module, wanted: list[Own]) -> str:
         if own.of.leads_back():
             continue
         items += writing(own.of) if "Serialize" in own.derived else []
-        if "Deserialize" in own.derived:
-            items += reading(own.of)
-            items += [line for elements in all_elements(own.of) for line in elements_struct(elements)]
+        items += reading(own.of) if "Deserialize" in own.derived else []
         why = module.unasked(own)
         try:
             items += rounds(own)

@@ -6,10 +6,9 @@ from collections.abc import Iterable, Iterator
 from typing import TYPE_CHECKING
 
 from declarations import Declared, Field, Shape, is_long
-from derived_terms import all_elements, bound_name, codes, nested, place_of, then_values
-from halves import FIELDS
+from derived_terms import bound_name, codes, nested, place_of, then_values
 from imports import imports
-from shared import MOST, numbered, tuple_of
+from shared import numbered, tuple_of
 
 if TYPE_CHECKING:
     from modules import Module
@@ -49,20 +48,18 @@ def values_of(words: list[str]) -> str:
 SIGNED = {"i8": "w8", "i16": "w16", "i32": "w32", "i64": "w64", "i128": "w128", "isize": "w64"}
 
 
-def part_of(shape: Shape, at: int, is_variant: bool) -> str:
-    """The name of a part that was read: of the only one, of a tuple's, of nested tuples' or of a struct's."""
+def part_of(shape: Shape, at: int) -> str:
+    """The name of a part that was read: of the only one, of a tuple's or of nested tuples'."""
     if shape.kind == "newtype":
         return "first"
-    if is_long(shape) and is_variant:
-        return f"parts.{FIELDS[at]}"
     return "parts" + (place_of(at, len(shape.fields)) if shape.kind == "named" or is_long(shape) else f".{at}")
 
 
-def held(shape: Shape, arm: str, term: str, others: frozenset[str] = frozenset(), is_variant: bool = False) -> str:
+def held(shape: Shape, arm: str, term: str, others: frozenset[str] = frozenset()) -> str:
     """The term, where each number with a sign that was read in this arm is the same after a field held it."""
     for at, field in enumerate(shape.fields):
         if field.kind in SIGNED:
-            read = f"{filled(field, arm, others)}.result" if field.default else f"{arm}.{part_of(shape, at, is_variant)}"
+            read = f"{filled(field, arm, others)}.result" if field.default else f"{arm}.{part_of(shape, at)}"
             term = f"rw (to_z-of_z {SIGNED[field.kind]} {read} (search rules)) ({term})"
     return term
 
@@ -152,8 +149,6 @@ def variant_content(shape: Shape, arm: str, others: frozenset[str]) -> tuple[str
         given, needed = (f"(λ m r. {term})" for term in defaulted_read(shape, values, "r", arm, others))
         return f"λ k h. ({'_, ' * n}refl, content_as _ _ {given} k h)", f"λ v k h. content_as _ _ {needed} k h.{n + 1}"
     value = nested(values, "tt", then_values) if shape.kind == "named" else values_of(values) if n else ""
-    if is_long(shape):
-        value = f"(record {{ {' '.join(f'{name} = {of};' for name, of in zip(FIELDS, values))} }})"
     return f"λ k h. ({'_, ' * n}refl, h)", f"λ v k h. readable _ k {value} h.{n + 1}" if n else "λ v k h. h.1"
 
 
@@ -171,7 +166,7 @@ def variant_read(call: str, at: int, shape: Shape, of: Declared) -> str:
         opened = f"(rw c.in-Ok-eq{at}-default.field-0-0-test at c.in-Ok-eq{at}-default.ensures.opened)"
     done, back = variant_content(shape, f"c.in-Ok-{call}", others)
     ok = f"variant_ok _ _ _ _ _ _ (search rules) _ {at} _ _ ({done})\n    (c.in-Ok-{call}.ensures.ok _ {at} _ {opened})"
-    ok = start + held(shape, f"c.in-Ok-{call}", ok, others, is_variant=True)
+    ok = start + held(shape, f"c.in-Ok-{call}", ok, others)
     err = f"{start}variant_err _ _ _ _ _ _ (search rules) _ {at} _ ({back})\n    (c.in-Err-{call}.ensures.err _ {at} _ {opened})"
     clauses, lemma = f"c.in-Err-{call}.ensures", "content_wrong" if n else "unit_wrong"
     given = f"(λ q. q) {clauses}.bare {clauses}.refused" if n else f"{clauses}.bare {clauses}.exact"
@@ -231,18 +226,16 @@ LISTED = re.compile(r"\b(Vec|VecDeque|BTreeMap|BTreeSet)<")
 
 
 def enum_values(of: Declared) -> str:
-    """Answers for each variant with a list beside other fields: what is known of its fields, and of their refusals, is so of the value. Of more
-    elements than one struct of rmp_encode hands over, also that what is written is."""
+    """Answers for each variant with a list beside other fields: what is known of its fields, and of their refusals, is so of the value."""
     if of.lifetime or len(of.variants) < 2:
         return ""
     text, seen = "", set()
     for shape in of.variants:
         call = WRITTEN_BY.get(shape.kind)
-        is_wide = shape.kind == "tuple" and len(shape.fields) > MOST
-        if call and (is_wide or any(LISTED.match(field.kind) for field in shape.fields)):
+        if call and any(LISTED.match(field.kind) for field in shape.fields):
             # the arm is in the call's name where a variant before is written by the same call
             known = f"c.{call}{f'-in-{shape.name}' * (call in seen)}.ensures"
-            for clause in ["writes"] * is_wide + ["value", "error"]:
+            for clause in ("value", "error"):
                 text += answer(f"returns-in-{shape.name}-clause-{clause}", f"rw c.in-{shape.name}.is {known}.{clause}")
         seen.add(call)
     return text
@@ -258,9 +251,6 @@ def answers(of: Declared, traits: set[str], module: Module) -> Iterator[tuple[st
     if "Deserialize" in traits:
         text = struct_read(of.shape) if of.shape else enum_read(of)
         yield of.name, "Deserialize", "deserialize", with_imports(text, module, f"{of.name}Deserialize.deserialize", of.constants())
-        for elements in all_elements(of):
-            text = struct_read(elements.shape)
-            yield elements.name, "Deserialize", "deserialize", with_imports(text, module, f"{elements.name}Deserialize.deserialize")
 
 
 def with_imports(text: str, module: Module, goals: str, constants: Iterable[str] = ()) -> str:

@@ -1,12 +1,11 @@
 """The terms of what derive.py writes: what a value is, and which trees it is read from."""
 from __future__ import annotations
 
-import dataclasses
 import re
 from collections.abc import Iterable
 from typing import Optional
 
-from declarations import LEAST_FLAT, MOST_FLAT, Declared, Field, Shape, identifiers, is_flat, is_long
+from declarations import LEAST_FLAT, MOST_FLAT, Declared, Field, Shape, is_flat
 from halves import FIELDS
 from shared import list_of
 
@@ -96,18 +95,6 @@ def place_in_structs(at: int, count: int) -> str:
     if at < size:
         return f".{FIELDS[at]}"
     return ".rest" + place_in_structs(at - size, count - size) if size else place_of(at, count)
-
-
-def elements_of(of: Declared, shape: Shape) -> Declared:
-    """The struct that the elements of a variant are read as, where they are more than one tuple holds."""
-    fields = [dataclasses.replace(field, name=name) for field, name in zip(shape.fields, FIELDS)]
-    name, words = f"{of.name}{shape.name}Elements", {word for field in fields for word in identifiers(field.kind)}
-    return Declared(name, [it for it in of.parameters if it[0] in words], Shape(name, "tuple", fields), lifetime=of.lifetime)
-
-
-def all_elements(of: Declared) -> list[Declared]:
-    """That of each such variant."""
-    return [elements_of(of, shape) for shape in of.variants or [] if is_long(shape)]
 
 
 def codes(names: Iterable[str]) -> str:
