@@ -27,8 +27,8 @@ implements for a type isn't derived for it.
 
 Where crates.txt names rmp_serde for the crate too, or rmp_round_trip, which that re-exports, each type gets `RoundTrip`, and
 `NeverNil` where no value is nil, if the laws of its fields are known: they are of parameters, of types of std or of the wire, or of
-types of the crate that have `RoundTrip`, in this file or in one that a `use` names; where such a type has parameters, the types of
-its fields have to be in scope, too. Where crates.txt names rmp_serde or rmp_ends, each type gets `EndsInside`, if the types of its
+types that have `RoundTrip`, in this file or in one that a `use` names, of this crate or of a library beside it; where such a type has
+parameters, the types of its fields have to be in scope, too. Where crates.txt names rmp_serde or rmp_ends, each type gets `EndsInside`, if the types of its
 fields have it, and it doesn't contain itself. Of a type that doesn't get one of these the tool says why.
 """
 from __future__ import annotations

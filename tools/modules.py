@@ -105,20 +105,26 @@ class Module:
             return ""
         return f"its {by_hand[0]} is written by hand, and no line `// derive: round_trip` above it says that the law holds"
 
+    def key(self) -> tuple[str, str]:
+        """What tells it from other files of this crate and of others."""
+        return self.name, self.path
+
     def other(self, path: list[str]) -> Optional[Module]:
-        """The file of a module that a `use` names, where it is one of the crate."""
-        words = self.below().split(".") if self.at else []
-        if path[0] == "crate":
+        """The file of a module that a `use` names, where it is one of the crate, or of a library beside it."""
+        crate, words = self.crate, self.below().split(".") if self.at else []
+        if path[0] in self.libraries():
+            crate, words = os.path.join(os.path.dirname(os.path.abspath(crate)), path[0]), []
+        elif path[0] == "crate":
             words = []
         elif path[0] == "super":
             words = words[:-1]
         elif path[0] != "self":
             words = [*words, path[0]]
         words += path[1:]
-        found = Module(self.crate, "/".join(words) + ".rt" if words else "lib.rt")
-        return found if os.path.exists(os.path.join(self.crate, "src", found.path)) else None
+        found = Module(crate, "/".join(words) + ".rt" if words else "lib.rt")
+        return found if os.path.exists(os.path.join(crate, "src", found.path)) else None
 
-    def types(self, seen: tuple[str, ...] = ()) -> dict[str, Own]:
+    def types(self, seen: tuple[tuple[str, str], ...] = ()) -> dict[str, Own]:
         """The types of the crate that the file names, its own first, by their names."""
         source, names = self.source(), {}
         has_derived = DERIVED.search(source)
@@ -130,18 +136,27 @@ class Module:
             declared = f"{self.name}.specs.declared.{self.below(name)}"
             names[name] = Own(of, derived, by_hand, modules, names, declared, dict(brought_in(source)))
         for name, path in brought_in(source):
-            other = self.other(path)
-            if other and other.path not in (self.path, *seen):
-                names.update(other.named(name, (self.path, *seen)))
+            names.update(self.brought(name, path, seen))
         return names
 
-    def named(self, name: str, seen: tuple[str, ...]) -> dict[str, Own]:
-        """The type of this name, where it can be read."""
+    def brought(self, name: str, path: list[str], seen: tuple[tuple[str, str], ...]) -> dict[str, Own]:
+        """The type that a `use` of this file brings in by this name, where it can be read."""
+        other, seen = self.other(path), (self.key(), *seen)
+        if not other or other.key() in seen:
+            return {}
         try:
-            types = self.types(seen)
+            return other.named(name, seen)
         except Refused:
             return {}
-        return {name: types[name]} if name in types else {}
+
+    def named(self, name: str, seen: tuple[tuple[str, str], ...]) -> dict[str, Own]:
+        """The type of this name. Of another crate, it is one whose file has derived types."""
+        source = self.source()
+        if name not in read(source):
+            return next((self.brought(name, path, seen) for brought, path in brought_in(source) if brought == name), {})
+        if self.name != seen[-1][0] and not DERIVED.search(source):
+            return {}
+        return {name: self.types(seen)[name]}
 
 # ---- sums
 

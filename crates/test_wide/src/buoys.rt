@@ -1,8 +1,8 @@
 //! A tuple struct of twelve mixed elements.
 mod derived;
 
-use crate::mixed::Spot;
 use rmp_wire::{ByteBuf, F64Bits};
+use test_mixed::Spot;
 
 /// What a buoy measured.
 #[derive(Drop)]

@@ -1,9 +1,9 @@
 //! A struct of twenty fields, more than are read as nested tuples.
 mod derived;
 
-use crate::mixed::{Course, Spot};
 use rmp_wire::{ByteBuf, F64Bits};
 use std::collections::{BTreeMap, BTreeSet};
+use test_mixed::{Course, Spot};
 
 /// What a ship says of itself in a port.
 #[derive(Drop)]

@@ -1,9 +1,9 @@
 //! A tuple struct of sixteen mixed elements.
 mod derived;
 
-use crate::mixed::Spot;
 use rmp_wire::{ByteBuf, F64Bits};
 use std::collections::BTreeMap;
+use test_mixed::Spot;
 
 /// A row of a table.
 #[derive(Drop)]

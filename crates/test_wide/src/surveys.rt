@@ -1,9 +1,9 @@
 //! A struct of thirty-two fields, which are read as two structs of sixteen.
 mod derived;
 
-use crate::mixed::{Course, Spot};
 use rmp_wire::{ByteBuf, F64Bits};
 use std::collections::{BTreeMap, BTreeSet};
+use test_mixed::{Course, Spot};
 
 /// What a surveyor says of a ship.
 #[derive(Drop)]

@@ -4,7 +4,9 @@ use rmp_encode::{to_vec, to_vec_named};
 use rmp_wire::{F64Bits, Marker};
 use std::alloc::Global;
 use std::test::Fail;
-use test_wide::{Buoy, Coast, Course, Entry, Flag, Light, Measured, Row, Signal, Spot};
+use test_enums::{Entry, Flag, Signal};
+use test_mixed::{Buoy, Coast, Course, Light, Spot};
+use test_wide::{Measured, Row};
 
 // Each variant of `Signal` with a value, in the order of the declaration.
 const SIGNALS: [&[u8]; 30] = [

@@ -167,7 +167,7 @@ impl<'de, R: ReadSlice<'de>> Deserialize<'de, R> for Measured {
 }
 
 impl<'de, R: ReadSlice<'de>> RoundTrip<'de, R> for Measured {
-    ghost use Rattle.test_wide.specs.contracts.mixed.derived.SpotRoundTrip.TheImpl.Laws as spot_rounds;
+    ghost use Rattle.test_mixed.specs.contracts.mixed.derived.SpotRoundTrip.TheImpl.Laws as spot_rounds;
     ghost use mir.Syntax.{given};
 
     ghost has_data = { λ human v. sequence_all (⟦<u64 as Serialize>⟧.data_of v.0 human
@@ -319,7 +319,7 @@ impl NeverNil for Measured {
 }
 
 impl<'de, R: ReadSlice<'de>> EndsInside<'de, R> for Measured {
-    ghost use Rattle.test_wide.specs.contracts.mixed.derived.SpotEndsInside.TheImpl.Laws as spot_ends;
+    ghost use Rattle.test_mixed.specs.contracts.mixed.derived.SpotEndsInside.TheImpl.Laws as spot_ends;
     ghost use mir.Syntax.{given};
 
     ghost ends_inside = { tuple_inside (part_of ⟦<u64 as Deserialize<'de, R>>⟧.reads ⟦<u64 as Deserialize<'de, R>>⟧.refuses

@@ -317,9 +317,9 @@ impl<'de, R: ReadSlice<'de>> Deserialize<'de, R> for Manifest {
 }
 
 impl<'de, R: ReadSlice<'de>> RoundTrip<'de, R> for Manifest {
-    ghost use Rattle.test_wide.specs.contracts.mixed.derived.CourseRoundTrip.TheImpl.Laws as course_rounds;
-    ghost use Rattle.test_wide.specs.contracts.mixed.derived.SpotNeverNil.TheImpl.Laws as spot_other;
-    ghost use Rattle.test_wide.specs.contracts.mixed.derived.SpotRoundTrip.TheImpl.Laws as spot_rounds;
+    ghost use Rattle.test_mixed.specs.contracts.mixed.derived.CourseRoundTrip.TheImpl.Laws as course_rounds;
+    ghost use Rattle.test_mixed.specs.contracts.mixed.derived.SpotNeverNil.TheImpl.Laws as spot_other;
+    ghost use Rattle.test_mixed.specs.contracts.mixed.derived.SpotRoundTrip.TheImpl.Laws as spot_rounds;
     ghost use mir.Syntax.{given};
 
     ghost has_data = { λ human v. structure_all ((codes "ship", ⟦<String as Serialize>⟧.data_of v.ship human)
@@ -637,8 +637,8 @@ impl NeverNil for Manifest {
 }
 
 impl<'de, R: ReadSlice<'de>> EndsInside<'de, R> for Manifest {
-    ghost use Rattle.test_wide.specs.contracts.mixed.derived.CourseEndsInside.TheImpl.Laws as course_ends;
-    ghost use Rattle.test_wide.specs.contracts.mixed.derived.SpotEndsInside.TheImpl.Laws as spot_ends;
+    ghost use Rattle.test_mixed.specs.contracts.mixed.derived.CourseEndsInside.TheImpl.Laws as course_ends;
+    ghost use Rattle.test_mixed.specs.contracts.mixed.derived.SpotEndsInside.TheImpl.Laws as spot_ends;
     ghost use mir.Syntax.{given};
 
     ghost ends_inside = { fields_inside _ _ _ (

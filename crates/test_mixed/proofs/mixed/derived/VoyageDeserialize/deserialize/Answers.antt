@@ -1,0 +1,15 @@
+use Rattle.rmp_decode.proofs.Laws.{lawful_ok, lawful_err}
+use Rattle.test_mixed.proofs.mixed.derived.VoyageDeserialize.deserialize.Goals as goal
+
+pub returns-in-Ok-clause-law : goal.returns-in-Ok-clause-law
+returns-in-Ok-clause-law g c = lawful_ok _ _ _ _ _ _ _ (λ m r. r) c.in-Ok.ensures.law
+
+pub returns-in-Err-clause-law : goal.returns-in-Err-clause-law
+returns-in-Err-clause-law g c = lawful_err _ _ _ _ _ _
+    (λ m r. (
+      (r.0.ship, r.0.course, r.0.crew, r.0.seal, (r.0.nothing, r.0.flag, r.0.spot, r.0.cargo, (r.0.depths, r.0.last, r.0.chart, r.0.pair, tt))),
+      r.1,
+    )) c.in-Err.ensures.law
+
+pub returns-in-Err-clause-refused : goal.returns-in-Err-clause-refused
+returns-in-Err-clause-refused g c = c.in-Err.ensures.refused
