@@ -18,8 +18,8 @@ A comment line above a field, a variant or a type says what an attribute of serd
     // derive: rename = "id"                  above a field or a variant: the name that is written
     // derive: rename_all = "camelCase"       above a struct, an enum, or a variant with fields: the rule for the names in it
     // derive: rename_all_fields = "camelCase"    above an enum: the rule for the fields of its variants
-    // derive: default                        above a field with a name: a map may be without it, and it is empty, nought or false then
-    // derive: default = LIMIT                the same: it is this constant of the file, number, character or truth then
+    // derive: default                        above a field with a name: a map may be without it, and it is empty, 0 or false then
+    // derive: default = LIMIT                the same: it is this constant of the file, number, character or truth value then
     // derive: round_trip                     above a type, of which a trait is written by hand: `RoundTrip` is derived all the same
 
 The rules are those of serde. What can't be derived is refused, and the message says why, with the line. A trait that the file itself

@@ -96,12 +96,12 @@ class Walk:
                     continue
                 wanted[-1] -= 1
                 self.places.append(at)
-                kind, n, tag, behind = head(data, at)
-                if data[at:behind] != heads(kind, n, tag)[0]:
+                kind, n, tag, end = head(data, at)
+                if data[at:end] != heads(kind, n, tag)[0]:
                     self.wide.append(at)
                 content = b""
                 if kind in ("text", "bytes", "ext"):
-                    content = data[behind : behind + n]
+                    content = data[end : end + n]
                     if len(content) < n:
                         raise Refused(CUT)
                     if kind == "text" and utf8:
@@ -114,7 +114,7 @@ class Walk:
                         raise Refused(DEEP)
                     wanted.append(n * (1 + (kind == "map")))
                 self.nodes.append((kind, n, tag, content))
-                at = behind + len(content)
+                at = end + len(content)
             self.end = at
             self.answer = "Ok"
         except Refused as refused:
@@ -147,8 +147,8 @@ def claims():
     for first in (*range(0xC4, 0xCA), *range(0xD4, 0xE0), 0x8F, 0x9F, 0xBF):
         width = next((it[2][first - it[1]] for it in LONG if it[1] <= first < it[1] + len(it[2])), 0)
         claim = bytes([first]) + b"\xff" * width
-        for behind in (b"", b"\x01", b"\x01\x61\x00", b"\xff" * 20, b"\x90" * 40):
-            yield claim + behind
+        for rest in (b"", b"\x01", b"\x01\x61\x00", b"\xff" * 20, b"\x90" * 40):
+            yield claim + rest
     for first in (0xDD, 0xDF, 0xDB, 0xC6, 0xC9):
         yield b"\x92" + bytes([first]) + b"\xff\xff\xff\xff"
         yield (bytes([first]) + b"\xff\xff\xff\xff") * 60

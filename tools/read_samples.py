@@ -60,8 +60,8 @@ def kinds():
 def part_of(parts):
     """For each type, read or only written, which of so many parts it is in: types that are much alike are in one, and share what is compiled."""
     found = sorted({reading(kind) or plain(kind) for kind, *_ in written()} | set(kinds()))
-    behind = [*itertools.accumulate(OFTEN.get(kind, 1) for kind in found)]
-    return {kind: (it - 1) * parts // behind[-1] for kind, it in zip(found, behind)}
+    sums = [*itertools.accumulate(OFTEN.get(kind, 1) for kind in found)]
+    return {kind: (it - 1) * parts // sums[-1] for kind, it in zip(found, sums)}
 
 
 def written_of(part, parts):

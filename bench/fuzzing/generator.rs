@@ -131,8 +131,8 @@ impl Spelling<'_> {
         } else {
             self.length(None, EXTENSIONS, n);
         }
-        let behind = self.random.bytes(n + 1);
-        self.out.extend(behind);
+        let typed = self.random.bytes(n + 1);
+        self.out.extend(typed);
     }
 
     /// A leaf of a kind.

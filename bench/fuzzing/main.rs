@@ -251,7 +251,7 @@ fn counts(refused: &[u64; 8]) -> String {
         (Refusal::Reserved, "at the byte c1"),
         (Refusal::NotUtf8, "at a text that isn't UTF-8"),
         (Refusal::TooDeep, "for their depth"),
-        (Refusal::Longer, "with something behind"),
+        (Refusal::Longer, "with bytes after the message"),
     ];
     let said: Vec<String> = names.iter().map(|(refusal, name)| format!("{} {name}", refused[*refusal as usize])).collect();
     said.join(", ")

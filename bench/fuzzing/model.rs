@@ -115,48 +115,48 @@ fn short_head(first: u8) -> Option<Met> {
 }
 
 /// The heads that go on after their first byte.
-fn long_head(first: u8, behind: &[u8]) -> Result<Met, Refusal> {
+fn long_head(first: u8, rest: &[u8]) -> Result<Met, Refusal> {
     let wide = |base: u8| 1usize << (first - base);
     Ok(match first {
         0xc4..=0xc6 => {
             let width = wide(0xc4);
-            let n = number(behind, width)?;
+            let n = number(rest, width)?;
             let canonical = spelled_length(None, BYTES, n);
             Met { head: Head::Content { len: n as usize, is_text: false }, len: 1 + width, canonical }
         }
         0xc7..=0xc9 => {
             let width = wide(0xc7);
-            let n = number(behind, width)?;
-            extension(2 + width, n, *behind.get(width).ok_or(Refusal::Cut)?)
+            let n = number(rest, width)?;
+            extension(2 + width, n, *rest.get(width).ok_or(Refusal::Cut)?)
         }
         0xca | 0xcb => {
             let width = 4 * wide(0xca);
-            let bits = number(behind, width)?;
+            let bits = number(rest, width)?;
             leaf(1 + width, [vec![first], big_endian(bits, width)].concat())
         }
         0xcc..=0xcf => {
             let width = wide(0xcc);
-            leaf(1 + width, spelled_number(i128::from(number(behind, width)?)))
+            leaf(1 + width, spelled_number(i128::from(number(rest, width)?)))
         }
         0xd0..=0xd3 => {
             let width = wide(0xd0);
             let shift = 64 - 8 * width;
-            let z = (number(behind, width)? << shift) as i64 >> shift;
+            let z = (number(rest, width)? << shift) as i64 >> shift;
             leaf(1 + width, spelled_number(i128::from(z)))
         }
-        0xd4..=0xd8 => extension(2, 1 << (first - 0xd4), *behind.first().ok_or(Refusal::Cut)?),
-        0xd9..=0xdb => text(1 + wide(0xd9), number(behind, wide(0xd9))?),
-        0xdc | 0xdd => list(1 + 2 * wide(0xdc), number(behind, 2 * wide(0xdc))?),
-        0xde | 0xdf => map(1 + 2 * wide(0xde), number(behind, 2 * wide(0xde))?),
+        0xd4..=0xd8 => extension(2, 1 << (first - 0xd4), *rest.first().ok_or(Refusal::Cut)?),
+        0xd9..=0xdb => text(1 + wide(0xd9), number(rest, wide(0xd9))?),
+        0xdc | 0xdd => list(1 + 2 * wide(0xdc), number(rest, 2 * wide(0xdc))?),
+        0xde | 0xdf => map(1 + 2 * wide(0xde), number(rest, 2 * wide(0xde))?),
         _ => return Err(Refusal::Reserved),
     })
 }
 
 fn head(bytes: &[u8]) -> Result<Met, Refusal> {
-    let (first, behind) = bytes.split_first().ok_or(Refusal::End)?;
+    let (first, rest) = bytes.split_first().ok_or(Refusal::End)?;
     match short_head(*first) {
         Some(met) => Ok(met),
-        None => long_head(*first, behind),
+        None => long_head(*first, rest),
     }
 }
 

@@ -25,8 +25,8 @@ enum Tree {
 const LIMIT: u32 = 1023;
 
 fn taken(input: &mut &[u8], len: usize) -> Option<Vec<u8>> {
-    let (front, behind) = input.split_at_checked(len)?;
-    *input = behind;
+    let (front, rest) = input.split_at_checked(len)?;
+    *input = rest;
     Some(front.to_vec())
 }
 

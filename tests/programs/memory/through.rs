@@ -178,7 +178,7 @@ fn print_put(
             if whole.starts_with(bytes) {
                 println!(rt; "{e}")?;
             } else {
-                println!(rt; "{e}, behind no beginning")?;
+                println!(rt; "{e}, after bytes that were not to be written")?;
             }
         }
     }
