@@ -43,6 +43,7 @@ sys.dont_write_bytecode = True
 import derived_recursive as recursive
 import halves
 from declarations import PLAIN, PRELUDE, Declared, Refused, identifiers, is_flat, is_long
+from derived_ends import LEADS_BACK
 from derived_ends import LEMMAS as ENDS
 from derived_ends import implementation as ends
 from derived_proofs import answers, has_content, has_defaults
@@ -382,12 +383,19 @@ def through(module, table):
     return found
 
 
+def tell_missing(module: Module, own: Own, trait: str, why: str) -> None:
+    """Says why a type doesn't get a trait."""
+    print(f"derive: {module.path}: {own.of.name} has no {trait}: {why}", file=sys.stderr)
+
+
 def implementations(module: Module, wanted: list[Own]) -> str:
     """The text of src/../derived.rt."""
     items = []
     items += recursive.items(module, wanted)
     for own in wanted:
         if own.of.leads_back():
+            if "EndsInside" in own.derived:
+                tell_missing(module, own, "EndsInside", LEADS_BACK)
             continue
         items += writing(own.of) if "Serialize" in own.derived else []
         items += reading(own.of) if "Deserialize" in own.derived else []
@@ -397,11 +405,11 @@ def implementations(module: Module, wanted: list[Own]) -> str:
         except Unknown as unknown:
             why = str(unknown)
         if why:
-            print(f"derive: {module.path}: {own.of.name} has no RoundTrip: {why}", file=sys.stderr)
+            tell_missing(module, own, "RoundTrip", why)
         try:
             items += ends(own) if "EndsInside" in own.derived else []
         except Unknown as unknown:
-            print(f"derive: {module.path}: {own.of.name} has no EndsInside: {unknown}", file=sys.stderr)
+            tell_missing(module, own, "EndsInside", str(unknown))
     for count in more_parts(wanted):
         items += handing_over(count)
     text = "\n".join(items)

@@ -48,6 +48,10 @@ LEMMAS = {
 }
 
 
+# Why a type that contains itself has no `EndsInside`.
+LEADS_BACK = "it leads back to itself"
+
+
 class Ends(Rounds):
     """The laws in terms, for the implementation of a type, where these types of the crate have laws."""
 
@@ -128,7 +132,7 @@ def has_own(own: Own) -> bool:
 def implementation(own: Own) -> list[str]:
     """That of `EndsInside`, in lines; an `Unknown` says why it can't be had."""
     if own.of.leads_back():
-        raise Unknown("it leads back to itself")
+        raise Unknown(LEADS_BACK)
     ends, of = Ends(own), own.of.lent_for("'de")
     law = ends.whole(of)
     own.others |= ends.others
