@@ -14,3 +14,12 @@ pub struct Cell {
     pub head: u8,
     pub tail: Option<Box<Cell>>,
 }
+
+/// A folder with the folders in it.
+#[derive(Drop)]
+pub struct Folder {
+    pub name: String,
+    pub size: i64,
+    pub kind: char,
+    pub folders: Vec<Folder>,
+}
