@@ -10,3 +10,4 @@ pub mod RecursionFields
 pub mod NodeLevels
 pub mod CellLevels
 pub mod FolderLevels
+pub mod SampleLevels

@@ -20,3 +20,5 @@ pub mod NodeRounds
 pub mod CellRounds
 pub mod FolderLevels
 pub mod FolderRounds
+pub mod SampleLevels
+pub mod SampleRounds

@@ -1,6 +1,8 @@
 //! Structs that lead back to themselves, whose implementations tools/derive.py writes.
 mod derived;
 
+use rmp_wire::{ByteBuf, F32Bits};
+
 /// A number with the nodes below it.
 #[derive(Drop)]
 pub struct Node {
@@ -22,4 +24,13 @@ pub struct Folder {
     pub size: i64,
     pub kind: char,
     pub folders: Vec<Folder>,
+}
+
+/// A measurement, and the one before it.
+#[derive(Drop)]
+pub struct Sample {
+    pub bytes: ByteBuf,
+    pub half: F32Bits,
+    pub wide: i128,
+    pub before: Option<Box<Sample>>,
 }
