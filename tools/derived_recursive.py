@@ -79,14 +79,13 @@ def refusal(own: Own) -> Optional[str]:
 
 def refusal_of_fields(of: Declared, again: list[str]) -> Optional[str]:
     """Why a struct isn't derived."""
-    leaves = [kind for kind, part in LEAVES.items() if not part.is_lent and part.term != "ℤ"]
     if of.shape.kind != "named":
         return "of such structs only those whose fields have names are derived"
     for field in of.shape.fields:
         if field.default:
             return f"{field.name} has a default: a field of such a struct has none"
-        if field.kind not in [*leaves, *again]:
-            return f"{field.name} is a {field.kind}: a field of such a struct is {', '.join([*leaves, *again[:-1]])} or {again[-1]}"
+        if field.kind not in [*LEAVES, *again]:
+            return f"{field.name} is a {field.kind}: a field of such a struct is {', '.join([*LEAVES, *again[:-1]])} or {again[-1]}"
     if len(of.shape.fields) > MOST_FIELDS:
         return f"it has more than {MOST_FIELDS} fields: group some in a type of their own"
     return None

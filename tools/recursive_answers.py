@@ -5,8 +5,7 @@ import dataclasses
 from typing import Optional
 
 from declarations import Shape
-from derived_proofs import SIGNED
-from recursive_holder_answers import answer, answers_file, held_answers, measures_file
+from recursive_holder_answers import after_held, answer, answers_file, held_answers, measures_file
 from recursive_levels import Again, Level, Part, brought_in, tables
 from shared import numbered
 
@@ -113,8 +112,7 @@ def variant_answers(arm: Arm) -> str:
     level, part = arm.level, arm.part
     name, low = level.name, level.low
     content, done, back, given, refused = content_of(arm)
-    # a number with a sign is the same after the variant held it
-    held = f"rw (to_z-of_z {SIGNED[part.kind]} c.in-Ok-{arm.call}.value (search rules)) " if part and part.kind in SIGNED else ""
+    held = after_held(part, f"c.in-Ok-{arm.call}.value") if part else ""
     ok = f"""variant_done g.R.Source {low}_names ({name}Case Is{name}) Is{name} _ _ _ {content} {arm.at} _ _ ({low}_made _)
           {done}
           {given} (search rules)"""

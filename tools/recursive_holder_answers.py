@@ -1,6 +1,7 @@
 """The proofs of the code that derive.py writes for recursive enums and structs alike: recursive_holders.py has that code."""
 from __future__ import annotations
 
+from derived_proofs import SIGNED
 from recursive_holders import holder
 from recursive_levels import Again, Level, Part, brought_in, tables
 
@@ -38,6 +39,11 @@ def answers_file(level: Level, place: str, text: str) -> str:
 
 def answer(goal: str, term: str) -> str:
     return f"\npub {goal} : goal.{goal}\n{goal} g t c ={term}\n"
+
+
+def after_held(part: Part, value: str) -> str:
+    """What a term begins with where a part's value was held, by a variant or a field: a number with a sign is the same then."""
+    return f"rw (to_z-of_z {SIGNED[part.kind]} {value} (search rules)) " if part.kind in SIGNED else ""
 
 
 def room_of(level: Level, run: str) -> str:

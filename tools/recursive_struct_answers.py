@@ -1,11 +1,9 @@
 """The proofs of the code that derive.py writes for a recursive struct."""
 from __future__ import annotations
 
-from derived_proofs import SIGNED
-from recursive_holder_answers import answer, answers_file, goals_of, held_answers, loop_measures, measures_file
+from recursive_holder_answers import after_held, answer, answers_file, goals_of, held_answers, loop_measures, measures_file
 from recursive_levels import Again, Level, brought_in, is_option
 from recursive_struct_proofs import slots_of
-from recursive_structs import is_signed
 from shared import numbered
 
 # What an answer begins with where the next field's place is known, or none is left.
@@ -65,9 +63,9 @@ class Place:
         return f"""{self.found()}let q = c.in-Ok-{self.call}.ensures in
     let took = field_taken g.R.Source _ _ c.next_field_by.new.self {self.new} p.still {level.name}Slot{at} q.same
     {self.law} {value} (q.part p.still) q.owes q.still in
-    {start(level, 'struct_step')} c.in-Ok.fields c.loop-fields.fields c.next_field_by.new.self {self.new} {slots(level)}
+    {after_held(self.part, value)}({start(level, 'struct_step')} c.in-Ok.fields c.loop-fields.fields c.next_field_by.new.self {self.new} {slots(level)}
     {after} {at} {level.name}Slot{at} {value} r p k.same k.same_reference took q.same q.same_reference
-    ({level.low}_step{at} {slots(level)} {value})"""
+    ({level.low}_step{at} {slots(level)} {value}))"""
 
     def fails(self) -> str:
         level, at = self.level, self.at
@@ -129,7 +127,7 @@ def end_answers(level: Level) -> str:
     values = " ".join(f"{field.name} = c.in-Ok-{numbered('given_or', at)}.value;" for at, (field, _) in enumerate(level.fields))
     choices = " ".join(f"{given(at)}.0" for at in range(count))
     whole = f"(λ fs h. subst (λ z. {name}From0 Is{name} z fs) (sym (out-roll-{name} _)) ({low}_whole {slots(level)} (record {{ {values} }}) {choices} fs h))"
-    signs = "".join(f"rw (to_z-of_z {SIGNED[part.kind]} c.in-Ok-{numbered('given_or', at)}.value (search rules)) " for at, (_, part) in enumerate(level.fields) if is_signed(part))
+    signs = "".join(after_held(part, f"c.in-Ok-{numbered('given_or', at)}.value") for at, (_, part) in enumerate(level.fields))
     over = (f"{read_law(level, 'struct_over')} c.next_field_by.new.self d _\n          (subst (λ a. 0 < a.left) last e.0) (via c.end.new.self.0 (search rules) (e.1 ∙ ap (λ a. a.de.now) last))")
     done = f"""{signs}(record {{
       law = lawful_ok _ {name}Read Is{name} _ _ _ _ ({low}_made _)

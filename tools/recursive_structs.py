@@ -18,10 +18,6 @@ def absent_of(part: Part) -> str:
     return "(Some None)" if is_option(part) else "None"
 
 
-def is_signed(part: Part) -> bool:
-    return part.term == "ℤ"
-
-
 def names_of(level: Level) -> str:
     return codes(field.key for field, _ in level.fields)
 

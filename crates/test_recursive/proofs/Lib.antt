@@ -9,3 +9,5 @@ pub mod LinkLevels
 pub mod RecursionFields
 pub mod NodeLevels
 pub mod CellLevels
+pub mod FolderLevels
+pub mod SampleLevels

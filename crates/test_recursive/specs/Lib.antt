@@ -18,3 +18,7 @@ pub mod NodeLevels
 pub mod CellLevels
 pub mod NodeRounds
 pub mod CellRounds
+pub mod FolderLevels
+pub mod FolderRounds
+pub mod SampleLevels
+pub mod SampleRounds

@@ -6,6 +6,6 @@ mod recursive;
 mod rounds;
 mod trees;
 
-pub use nodes::{Cell, Node};
+pub use nodes::{Cell, Folder, Node, Sample};
 pub use recursive::{Nested, Rose};
 pub use trees::{Expr, Link, Term, Tree};

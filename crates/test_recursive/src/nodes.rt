@@ -1,6 +1,8 @@
 //! Structs that lead back to themselves, whose implementations tools/derive.py writes.
 mod derived;
 
+use rmp_wire::{ByteBuf, F32Bits};
+
 /// A number with the nodes below it.
 #[derive(Drop)]
 pub struct Node {
@@ -13,4 +15,22 @@ pub struct Node {
 pub struct Cell {
     pub head: u8,
     pub tail: Option<Box<Cell>>,
+}
+
+/// A folder with the folders in it.
+#[derive(Drop)]
+pub struct Folder {
+    pub name: String,
+    pub size: i64,
+    pub kind: char,
+    pub folders: Vec<Folder>,
+}
+
+/// A measurement, and the one before it.
+#[derive(Drop)]
+pub struct Sample {
+    pub bytes: ByteBuf,
+    pub half: F32Bits,
+    pub wide: i128,
+    pub before: Option<Box<Sample>>,
 }

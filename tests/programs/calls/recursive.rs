@@ -1,11 +1,11 @@
 //! What types that lead back to themselves are written as and read from.
 use rmp_decode::{Deserialize, Deserializer, Error, from_slice_strict};
 use rmp_encode::{Serialize, to_vec, to_vec_named};
-use rmp_wire::ReadRefReader;
+use rmp_wire::{ByteBuf, F32Bits, ReadRefReader};
 use std::alloc::Global;
 use std::process::Abort;
 use std::test::Fail;
-use test_recursive::{Cell, Expr, Link, Nested, Node, Rose, Tree};
+use test_recursive::{Cell, Expr, Folder, Link, Nested, Node, Rose, Sample, Tree};
 
 const TREE: &[u8] = b"\x81\xa4Node\x92\x81\xa4Leaf\x01\x81\xa4Node\x90";
 
@@ -285,6 +285,102 @@ fn nodes_read(rt: HostRuntime) {
     ] {
         refused::<Node>(&rt, rt.alloc(), read(rt.alloc(), 1024, input), why);
     }
+}
+
+const FOLDERS: &[u8] = b"\x94\xa4home\xd1\xfe\xd4\xa1d\x91\x94\xa0\xcd\x01\x2c\xa2\xc3\xa9\x90";
+
+const FOLDERS_NAMED: &[u8] = b"\x84\xa4name\xa4home\xa4size\xd1\xfe\xd4\xa4kind\xa1d\xa7folders\x91\
+    \x84\xa4name\xa0\xa4size\xcd\x01\x2c\xa4kind\xa2\xc3\xa9\xa7folders\x90";
+
+#[test]
+fn folders_written(rt: HostRuntime) -> Result<(), Fail> {
+    let folders = vec![in rt.alloc();
+        Folder {
+            name: String::new(rt.alloc()),
+            size: 300,
+            kind: 'é',
+            folders: Vec::new(rt.alloc()),
+        },
+    ]?;
+    let folder = Folder {
+        name: String::from_str(rt.alloc(), "home")?,
+        size: -300,
+        kind: 'd',
+        folders,
+    };
+    writes(&rt, rt.alloc(), &folder, false, FOLDERS);
+    writes(&rt, rt.alloc(), &folder, true, FOLDERS_NAMED);
+    Ok(())
+}
+
+#[test]
+fn folders_read(rt: HostRuntime) {
+    let turned =
+        b"\x84\xa7folders\x91\xdc\x00\x04\xd9\x00\xd3\x00\x00\x00\x00\x00\x00\x01\x2c\xa2\xc3\xa9\x90\
+        \x02\xd9\x01d\x01\xd2\xff\xff\xfe\xd4\xc4\x04name\xc4\x04home";
+    for (limit, input) in [(5, FOLDERS), (5, FOLDERS_NAMED), (5, turned.as_slice())] {
+        reads::<Folder>(&rt, rt.alloc(), limit, input, false, FOLDERS);
+    }
+    refused::<Folder>(&rt, rt.alloc(), read(rt.alloc(), 4, FOLDERS), TOO_DEEP);
+    assert!(rt; strictly::<Folder>(rt.alloc(), FOLDERS_NAMED).is_ok());
+    refused::<Folder>(
+        &rt,
+        rt.alloc(),
+        strictly(rt.alloc(), turned),
+        "not canonical",
+    );
+}
+
+#[test]
+fn folders_refused(rt: HostRuntime) {
+    for (input, why) in [
+        (b"\x94\x01\x02\xa1d\x90".as_slice(), "invalid type"),
+        (b"\x94\xa0\xc3\xa1d\x90", "invalid type"),
+        (b"\x94\xa0\x02\xa2de\x90", "invalid value"),
+        (b"\x93\xa0\x02\xa1d", "invalid length"),
+        (
+            b"\x83\xa4name\xa0\xa4size\x00\xa4kind\xa1d",
+            "missing field",
+        ),
+        (b"\x82\xa4name\xa0\xa4name\xa0", "duplicate field"),
+    ] {
+        refused::<Folder>(&rt, rt.alloc(), read(rt.alloc(), 1024, input), why);
+    }
+    for input in [FOLDERS, FOLDERS_NAMED] {
+        for len in 0..input.len() {
+            assert!(rt; read::<Folder>(rt.alloc(), 1024, &input[..len]).is_err());
+        }
+    }
+}
+
+const SAMPLE: &[u8] = b"\x94\xc4\x02\x01\xff\xca\x3f\x80\x00\x00\
+    \xc4\x10\xff\xff\xff\xff\xff\xff\xff\xff\xff\xff\xff\xff\xff\xff\xff\xfe\xc0";
+
+#[test]
+fn samples_written(rt: HostRuntime) -> Result<(), Fail> {
+    let sample = Sample {
+        bytes: ByteBuf::new(vec![in rt.alloc(); 1u8, 255]?),
+        half: F32Bits(0x3f80_0000),
+        wide: -2,
+        before: None,
+    };
+    writes(&rt, rt.alloc(), &sample, false, SAMPLE);
+    Ok(())
+}
+
+#[test]
+fn samples_read(rt: HostRuntime) -> Result<(), Error> {
+    let without_last = &SAMPLE[..SAMPLE.len() - 1];
+    let three = nested(rt.alloc(), without_last, 3, b"\xc0")?;
+    reads::<Sample>(&rt, rt.alloc(), 4, &three, false, &three);
+    refused::<Sample>(&rt, rt.alloc(), read(rt.alloc(), 2, &three), TOO_DEEP);
+    let short = b"\x83\xa4wide\xc4\x10\xff\xff\xff\xff\xff\xff\xff\xff\xff\xff\xff\xff\xff\xff\xff\xfe\
+        \x01\xca\x3f\x80\x00\x00\xa5bytes\xc4\x02\x01\xff";
+    reads::<Sample>(&rt, rt.alloc(), 2, short, false, SAMPLE);
+    for len in 0..three.len() {
+        assert!(rt; read::<Sample>(rt.alloc(), 4, &three[..len]).is_err());
+    }
+    Ok(())
 }
 
 #[test]

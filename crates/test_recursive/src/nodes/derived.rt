@@ -2,18 +2,27 @@
 //!
 //! Sum of Node: 13d5bf9b.
 //! Sum of Cell: 03716cc0.
+//! Sum of Folder: 922b0899.
+//! Sum of Sample: 6c6dbd93.
+ghost use Rattle.rmp_decode.specs.Buffers.{IsBuffer};
 ghost use Rattle.rmp_decode.specs.Law.{Lawful};
 ghost use Rattle.rmp_decode.specs.Options.{IsOption};
-ghost use Rattle.rmp_decode.specs.Read.{IsUnsigned};
-ghost use Rattle.rmp_wire.specs.Msg.{nil};
-ghost use Rattle.std.specs.Prelude.{None, Some};
+ghost use Rattle.rmp_decode.specs.Read.{IsUnsigned, IsSigned, IsRaw, IsChar};
+ghost use Rattle.rmp_decode.specs.Wide.{IsSigned128};
+ghost use Rattle.rmp_wire.specs.Msg.{nil, float32};
+ghost use Rattle.rmp_wire.specs.Types.{buffer_bytes};
+ghost use Rattle.std.specs.Prelude.{◌≡◌, None, Some, string_bytes, pos, negsuc};
 ghost use Rattle.test_recursive.specs.CellLevels.{IsCell, cell_data, cell_fits};
 ghost use Rattle.test_recursive.specs.CellRounds.{SameCell, cell_some, cell_round, cell_only, cell_other};
+ghost use Rattle.test_recursive.specs.FolderLevels.{IsFolder, folder_data, folder_fits};
+ghost use Rattle.test_recursive.specs.FolderRounds.{SameFolder, folder_some, folder_round, folder_only, folder_other};
 ghost use Rattle.test_recursive.specs.NodeLevels.{IsNode, node_data, node_fits};
 ghost use Rattle.test_recursive.specs.NodeRounds.{SameNode, node_some, node_round, node_only, node_other};
 ghost use Rattle.test_recursive.specs.Recursion.{Row, Boxed};
+ghost use Rattle.test_recursive.specs.SampleLevels.{IsSample, sample_data, sample_fits};
+ghost use Rattle.test_recursive.specs.SampleRounds.{SameSample, sample_some, sample_round, sample_only, sample_other};
 
-use super::{Cell, Node};
+use super::{ByteBuf, Cell, F32Bits, Folder, Node, Sample};
 use rmp_decode::{Deserialize, Deserializer, ReadPlaces, Slices};
 use rmp_encode::{Serialize, Serializer};
 use rmp_round_trip::{NeverNil, RoundTrip};
@@ -34,6 +43,71 @@ fn read_u8<R: Source, C: SerializerConfig>(
     ensures law { Lawful R.Source (λ m v. IsUnsigned 255 m v) de.old de.new result }
 {
     de.deserialize_u8()
+}
+
+fn read_i64<R: Source, C: SerializerConfig>(
+    de: &mut Deserializer<R, C>,
+) -> Result<i64, rmp_decode::Error>
+    ensures law { Lawful R.Source (λ m v. IsSigned (negsuc 9223372036854775807) (pos 9223372036854775807) m v) de.old de.new result }
+{
+    de.deserialize_i64()
+}
+
+fn read_i128<R: Source, C: SerializerConfig>(
+    de: &mut Deserializer<R, C>,
+) -> Result<i128, rmp_decode::Error>
+    ensures law { Lawful R.Source (λ m v. IsSigned128 m v) de.old de.new result }
+{
+    de.deserialize_i128()
+}
+
+// How leaves are read. A function that calls itself may have no bound that names a lifetime, so it has this one, and is called with `Slices`.
+trait ReadLeaves<R: Source> {
+    fn read_string<C: SerializerConfig>(
+        de: &mut Deserializer<R, C>,
+    ) -> Result<String, rmp_decode::Error>
+        ensures law { Lawful R.Source (λ m v. IsRaw m (string_bytes v)) de.old de.new result };
+
+    fn read_char<C: SerializerConfig>(
+        de: &mut Deserializer<R, C>,
+    ) -> Result<char, rmp_decode::Error>
+        ensures law { Lawful R.Source (λ m v. IsChar m v) de.old de.new result };
+
+    fn read_bytebuf<C: SerializerConfig>(
+        de: &mut Deserializer<R, C>,
+    ) -> Result<ByteBuf, rmp_decode::Error>
+        ensures law { Lawful R.Source (λ m v. IsBuffer m (buffer_bytes v)) de.old de.new result };
+
+    fn read_f32bits<C: SerializerConfig>(
+        de: &mut Deserializer<R, C>,
+    ) -> Result<F32Bits, rmp_decode::Error>
+        ensures law { Lawful R.Source (λ m v. m ≡ float32 v.0) de.old de.new result };
+}
+
+impl<'de, R: ReadSlice<'de>> ReadLeaves<R> for Slices<'de> {
+    fn read_string<C: SerializerConfig>(
+        de: &mut Deserializer<R, C>,
+    ) -> Result<String, rmp_decode::Error> {
+        Deserialize::deserialize(de)
+    }
+
+    fn read_char<C: SerializerConfig>(
+        de: &mut Deserializer<R, C>,
+    ) -> Result<char, rmp_decode::Error> {
+        Deserialize::deserialize(de)
+    }
+
+    fn read_bytebuf<C: SerializerConfig>(
+        de: &mut Deserializer<R, C>,
+    ) -> Result<ByteBuf, rmp_decode::Error> {
+        Deserialize::deserialize(de)
+    }
+
+    fn read_f32bits<C: SerializerConfig>(
+        de: &mut Deserializer<R, C>,
+    ) -> Result<F32Bits, rmp_decode::Error> {
+        Deserialize::deserialize(de)
+    }
 }
 
 impl Serialize for Node {
@@ -285,4 +359,315 @@ impl<'de, R: ReadSlice<'de>> RoundTrip<'de, R> for Cell {
 
 impl NeverNil for Cell {
     ghost never_nil = { λ s v. cell_other s v };
+}
+
+impl Serialize for Folder {
+    ghost data_of = { λ v human. folder_data v };
+
+    ghost is_value = { λ v. folder_fits v };
+
+    #[cycle(folder_writing)]
+    fn serialize<W: Sink, C: SerializerConfig>(
+        &self,
+        se: &mut Serializer<W, C>,
+    ) -> Result<(), rmp_encode::Error> {
+        let mut fields = se.serialize_struct("Folder", 4)?;
+        fields.serialize_field("name", &self.name)?;
+        fields.serialize_field("size", &self.size)?;
+        fields.serialize_field("kind", &self.kind)?;
+        fields.serialize_field("folders", &self.folders)?;
+        fields.end()
+    }
+
+    #[tactic(auto, using(crate::proofs::FolderLevels::folder_no_byte))]
+    fn as_u8(&self, _human: bool) -> Option<u8> {
+        None
+    }
+}
+
+// Reads a `Folder`.
+#[cycle(folder_reading)]
+fn read_folder<R: Source, C: SerializerConfig, P: ReadPlaces<R> + ReadLeaves<R>>(
+    de: &mut Deserializer<R, C>,
+) -> Result<Folder, rmp_decode::Error>
+    ensures law { Lawful R.Source IsFolder de.old de.new result }
+{
+    let mut fields = match de.deserialize_struct("Folder", &["name", "size", "kind", "folders"]) {
+        Ok(fields) => fields,
+        Err(e) => return Err(e),
+    };
+    let mut slot0: Option<String> = None;
+    let mut slot1: Option<i64> = None;
+    let mut slot2: Option<char> = None;
+    let mut slot3: Option<Vec<Folder>> = None;
+    loop {
+        match fields.next_field_by::<P>() {
+            Ok(Some(0)) => match fields.next_value_with(
+                |de: &mut Deserializer<R, C>| -> Result<String, rmp_decode::Error>
+                    ensures law { Lawful R.Source (λ m v. IsRaw m (string_bytes v)) de.old de.new result }
+                { P::read_string::<C>(de) },
+            ) {
+                Ok(value) => slot0 = Some(value),
+                Err(e) => return Err(e),
+            },
+            Ok(Some(1)) => match fields.next_value_with(read_i64::<R, C>) {
+                Ok(value) => slot1 = Some(value),
+                Err(e) => return Err(e),
+            },
+            Ok(Some(2)) => match fields.next_value_with(
+                |de: &mut Deserializer<R, C>| -> Result<char, rmp_decode::Error>
+                    ensures law { Lawful R.Source (λ m v. IsChar m v) de.old de.new result }
+                { P::read_char::<C>(de) },
+            ) {
+                Ok(value) => slot2 = Some(value),
+                Err(e) => return Err(e),
+            },
+            Ok(Some(_)) => match fields.next_value_with(
+                |de: &mut Deserializer<R, C>| -> Result<Vec<Folder>, rmp_decode::Error>
+                    ensures law { Lawful R.Source (λ m v. Row IsFolder m v.items) de.old de.new result }
+                { read_folder_list::<R, C, P>(de) },
+            ) {
+                Ok(value) => slot3 = Some(value),
+                Err(e) => return Err(e),
+            },
+            Ok(None) => break,
+            Err(e) => return Err(e),
+        }
+    }
+    let value0 = match fields.given_or(slot0, None) {
+        Ok(value) => value,
+        Err(e) => return Err(e),
+    };
+    let value1 = match fields.given_or(slot1, None) {
+        Ok(value) => value,
+        Err(e) => return Err(e),
+    };
+    let value2 = match fields.given_or(slot2, None) {
+        Ok(value) => value,
+        Err(e) => return Err(e),
+    };
+    let value3 = match fields.given_or(slot3, None) {
+        Ok(value) => value,
+        Err(e) => return Err(e),
+    };
+    match fields.end() {
+        Ok(()) => Ok(Folder {
+            name: value0,
+            size: value1,
+            kind: value2,
+            folders: value3,
+        }),
+        Err(e) => Err(e),
+    }
+}
+
+// Reads a list of them.
+#[cycle(folder_reading)]
+fn read_folder_list<R: Source, C: SerializerConfig, P: ReadPlaces<R> + ReadLeaves<R>>(
+    de: &mut Deserializer<R, C>,
+) -> Result<Vec<Folder>, rmp_decode::Error>
+    ensures law { Lawful R.Source (λ m v. Row IsFolder m v.items) de.old de.new result }
+{
+    let mut items = Vec::new(de.alloc());
+    let mut seq = de.deserialize_seq()?;
+    while let Some(item) = seq.next_element_with(
+        |de: &mut Deserializer<R, C>| -> Result<Folder, rmp_decode::Error>
+            ensures law { Lawful R.Source (λ m v. IsFolder m v) de.old de.new result }
+        { read_folder::<R, C, P>(de) },
+    )? {
+        items.push(item)?;
+    }
+    seq.end()?;
+    Ok(items)
+}
+
+impl<'de, R: ReadSlice<'de>> Deserialize<'de, R> for Folder {
+    ghost reads = { λ human lends. IsFolder };
+
+    ghost absent = { None };
+
+    fn deserialize<C: SerializerConfig>(
+        de: &mut Deserializer<R, C>,
+    ) -> Result<Folder, rmp_decode::Error> {
+        read_folder::<R, C, Slices<'de>>(de)
+    }
+
+    fn missing() -> Option<Folder> {
+        None
+    }
+}
+
+impl<'de, R: ReadSlice<'de>> RoundTrip<'de, R> for Folder {
+    ghost has_data = { λ human v. folder_some v };
+
+    ghost round = { λ lent s v fits. folder_round s v fits };
+
+    ghost same = { SameFolder };
+
+    ghost only = { λ s v fits. folder_only s v fits };
+}
+
+impl NeverNil for Folder {
+    ghost never_nil = { λ s v. folder_other s v };
+}
+
+impl Serialize for Sample {
+    ghost data_of = { λ v human. sample_data v };
+
+    ghost is_value = { λ v. sample_fits v };
+
+    #[cycle(sample_writing)]
+    fn serialize<W: Sink, C: SerializerConfig>(
+        &self,
+        se: &mut Serializer<W, C>,
+    ) -> Result<(), rmp_encode::Error> {
+        let mut fields = se.serialize_struct("Sample", 4)?;
+        fields.serialize_field("bytes", &self.bytes)?;
+        fields.serialize_field("half", &self.half)?;
+        fields.serialize_field("wide", &self.wide)?;
+        fields.serialize_field("before", &self.before)?;
+        fields.end()
+    }
+
+    #[tactic(auto, using(crate::proofs::SampleLevels::sample_no_byte))]
+    fn as_u8(&self, _human: bool) -> Option<u8> {
+        None
+    }
+}
+
+// Reads a `Sample`.
+#[cycle(sample_reading)]
+fn read_sample<R: Source, C: SerializerConfig, P: ReadPlaces<R> + ReadLeaves<R>>(
+    de: &mut Deserializer<R, C>,
+) -> Result<Sample, rmp_decode::Error>
+    ensures law { Lawful R.Source IsSample de.old de.new result }
+{
+    let mut fields = match de.deserialize_struct("Sample", &["bytes", "half", "wide", "before"]) {
+        Ok(fields) => fields,
+        Err(e) => return Err(e),
+    };
+    let mut slot0: Option<ByteBuf> = None;
+    let mut slot1: Option<F32Bits> = None;
+    let mut slot2: Option<i128> = None;
+    let mut slot3: Option<Option<Box<Sample>>> = None;
+    loop {
+        match fields.next_field_by::<P>() {
+            Ok(Some(0)) => match fields.next_value_with(
+                |de: &mut Deserializer<R, C>| -> Result<ByteBuf, rmp_decode::Error>
+                    ensures law { Lawful R.Source (λ m v. IsBuffer m (buffer_bytes v)) de.old de.new result }
+                { P::read_bytebuf::<C>(de) },
+            ) {
+                Ok(value) => slot0 = Some(value),
+                Err(e) => return Err(e),
+            },
+            Ok(Some(1)) => match fields.next_value_with(
+                |de: &mut Deserializer<R, C>| -> Result<F32Bits, rmp_decode::Error>
+                    ensures law { Lawful R.Source (λ m v. m ≡ float32 v.0) de.old de.new result }
+                { P::read_f32bits::<C>(de) },
+            ) {
+                Ok(value) => slot1 = Some(value),
+                Err(e) => return Err(e),
+            },
+            Ok(Some(2)) => match fields.next_value_with(read_i128::<R, C>) {
+                Ok(value) => slot2 = Some(value),
+                Err(e) => return Err(e),
+            },
+            Ok(Some(_)) => match fields.next_value_with(
+                |de: &mut Deserializer<R, C>| -> Result<Option<Box<Sample>>, rmp_decode::Error>
+                    ensures law { Lawful R.Source (λ m v. IsOption (Boxed IsSample) m v) de.old de.new result }
+                { read_sample_option::<R, C, P>(de) },
+            ) {
+                Ok(value) => slot3 = Some(value),
+                Err(e) => return Err(e),
+            },
+            Ok(None) => break,
+            Err(e) => return Err(e),
+        }
+    }
+    let value0 = match fields.given_or(slot0, None) {
+        Ok(value) => value,
+        Err(e) => return Err(e),
+    };
+    let value1 = match fields.given_or(slot1, None) {
+        Ok(value) => value,
+        Err(e) => return Err(e),
+    };
+    let value2 = match fields.given_or(slot2, None) {
+        Ok(value) => value,
+        Err(e) => return Err(e),
+    };
+    let value3 = match fields.given_or(slot3, Some(None)) {
+        Ok(value) => value,
+        Err(e) => return Err(e),
+    };
+    match fields.end() {
+        Ok(()) => Ok(Sample {
+            bytes: value0,
+            half: value1,
+            wide: value2,
+            before: value3,
+        }),
+        Err(e) => Err(e),
+    }
+}
+
+// Reads nil as none, or else a boxed one.
+#[cycle(sample_reading)]
+fn read_sample_option<R: Source, C: SerializerConfig, P: ReadPlaces<R> + ReadLeaves<R>>(
+    de: &mut Deserializer<R, C>,
+) -> Result<Option<Box<Sample>>, rmp_decode::Error>
+    ensures law { Lawful R.Source (λ m v. IsOption (Boxed IsSample) m v) de.old de.new result }
+{
+    de.deserialize_option_with(
+        |de: &mut Deserializer<R, C>| -> Result<Box<Sample>, rmp_decode::Error>
+            ensures law { Lawful R.Source (λ m v. IsSample m v.value) de.old de.new result }
+        { read_sample_box::<R, C, P>(de) },
+    )
+}
+
+// Reads a boxed one.
+#[cycle(sample_reading)]
+fn read_sample_box<R: Source, C: SerializerConfig, P: ReadPlaces<R> + ReadLeaves<R>>(
+    de: &mut Deserializer<R, C>,
+) -> Result<Box<Sample>, rmp_decode::Error>
+    ensures law { Lawful R.Source (λ m v. IsSample m v.value) de.old de.new result }
+{
+    let value = match read_sample::<R, C, P>(de) {
+        Ok(value) => value,
+        Err(e) => return Err(e),
+    };
+    match Box::new(de.alloc(), value) {
+        Ok(boxed) => Ok(boxed),
+        Err(_) => Err(de.refuse(rmp_decode::Error::OutOfMemory)),
+    }
+}
+
+impl<'de, R: ReadSlice<'de>> Deserialize<'de, R> for Sample {
+    ghost reads = { λ human lends. IsSample };
+
+    ghost absent = { None };
+
+    fn deserialize<C: SerializerConfig>(
+        de: &mut Deserializer<R, C>,
+    ) -> Result<Sample, rmp_decode::Error> {
+        read_sample::<R, C, Slices<'de>>(de)
+    }
+
+    fn missing() -> Option<Sample> {
+        None
+    }
+}
+
+impl<'de, R: ReadSlice<'de>> RoundTrip<'de, R> for Sample {
+    ghost has_data = { λ human v. sample_some v };
+
+    ghost round = { λ lent s v fits. sample_round s v fits };
+
+    ghost same = { SameSample };
+
+    ghost only = { λ s v fits. sample_only s v fits };
+}
+
+impl NeverNil for Sample {
+    ghost never_nil = { λ s v. sample_other s v };
 }

@@ -46,11 +46,11 @@ read_cell-loop-fields-preserved-in-Ok-next_value_with g t c =
     let q = c.in-Ok-next_value_with.ensures in
     let took = field_taken g.R.Source _ _ c.next_field_by.new.self c.next_value_with.new.self p.still CellSlot0 q.same
     (λ d rest gave l y. lent_law g.R.Source _ _ CellSlot0 (λ a b n h. h) d rest gave y) c.in-Ok-next_value_with.value (q.part p.still) q.owes q.still in
-    struct_step g.R.Source cell_names CellHeld0 c.in-Ok.fields c.loop-fields.fields c.next_field_by.new.self c.next_value_with.new.self
+    (struct_step g.R.Source cell_names CellHeld0 c.in-Ok.fields c.loop-fields.fields c.next_field_by.new.self c.next_value_with.new.self
     (c.loop-fields.slot0, (c.loop-fields.slot1, tt))
     ((Some c.in-Ok-next_value_with.value), (c.loop-fields.slot1, tt)) 0 CellSlot0 c.in-Ok-next_value_with.value r p k.same k.same_reference took q.same
     q.same_reference
-    (cell_step0 (c.loop-fields.slot0, (c.loop-fields.slot1, tt)) c.in-Ok-next_value_with.value)
+    (cell_step0 (c.loop-fields.slot0, (c.loop-fields.slot1, tt)) c.in-Ok-next_value_with.value))
 
 pub read_cell-returns-in-Err-next_value_with : goal.read_cell-returns-in-Err-next_value_with
 read_cell-returns-in-Err-next_value_with g t c =
@@ -79,11 +79,11 @@ read_cell-loop-fields-preserved g t c =
     let q = c.in-Ok-next_value_with-2.ensures in
     let took = field_taken g.R.Source _ _ c.next_field_by.new.self c.next_value_with-in-Ok-Some.new.self p.still CellSlot1 q.same
     (λ d rest gave l y. lent_law g.R.Source _ _ CellSlot1 (λ a b n h. h) d rest gave y) c.in-Ok-next_value_with-2.value (q.part p.still) q.owes q.still in
-    struct_step g.R.Source cell_names CellHeld0 c.in-Ok.fields c.loop-fields.fields c.next_field_by.new.self c.next_value_with-in-Ok-Some.new.self
+    (struct_step g.R.Source cell_names CellHeld0 c.in-Ok.fields c.loop-fields.fields c.next_field_by.new.self c.next_value_with-in-Ok-Some.new.self
     (c.loop-fields.slot0, (c.loop-fields.slot1, tt))
     (c.loop-fields.slot0, ((Some c.in-Ok-next_value_with-2.value), tt)) 1 CellSlot1 c.in-Ok-next_value_with-2.value r p k.same k.same_reference took q.same
     q.same_reference
-    (cell_step1 (c.loop-fields.slot0, (c.loop-fields.slot1, tt)) c.in-Ok-next_value_with-2.value)
+    (cell_step1 (c.loop-fields.slot0, (c.loop-fields.slot1, tt)) c.in-Ok-next_value_with-2.value))
 
 pub read_cell-returns-in-Err-next_value_with-2 : goal.read_cell-returns-in-Err-next_value_with-2
 read_cell-returns-in-Err-next_value_with-2 g t c =

@@ -64,11 +64,11 @@ read_node-loop-fields-preserved-in-Ok-next_value_with g t c =
     let q = c.in-Ok-next_value_with.ensures in
     let took = field_taken g.R.Source _ _ c.next_field_by.new.self c.next_value_with.new.self p.still NodeSlot0 q.same
     (λ d rest gave l y. lent_law g.R.Source _ _ NodeSlot0 (λ a b n h. h) d rest gave y) c.in-Ok-next_value_with.value (q.part p.still) q.owes q.still in
-    struct_step g.R.Source node_names NodeHeld0 c.in-Ok.fields c.loop-fields.fields c.next_field_by.new.self c.next_value_with.new.self
+    (struct_step g.R.Source node_names NodeHeld0 c.in-Ok.fields c.loop-fields.fields c.next_field_by.new.self c.next_value_with.new.self
     (c.loop-fields.slot0, (c.loop-fields.slot1, tt))
     ((Some c.in-Ok-next_value_with.value), (c.loop-fields.slot1, tt)) 0 NodeSlot0 c.in-Ok-next_value_with.value r p k.same k.same_reference took q.same
     q.same_reference
-    (node_step0 (c.loop-fields.slot0, (c.loop-fields.slot1, tt)) c.in-Ok-next_value_with.value)
+    (node_step0 (c.loop-fields.slot0, (c.loop-fields.slot1, tt)) c.in-Ok-next_value_with.value))
 
 pub read_node-returns-in-Err-next_value_with : goal.read_node-returns-in-Err-next_value_with
 read_node-returns-in-Err-next_value_with g t c =
@@ -97,11 +97,11 @@ read_node-loop-fields-preserved g t c =
     let q = c.in-Ok-next_value_with-2.ensures in
     let took = field_taken g.R.Source _ _ c.next_field_by.new.self c.next_value_with-in-Ok-Some.new.self p.still NodeSlot1 q.same
     (λ d rest gave l y. lent_law g.R.Source _ _ NodeSlot1 (λ a b n h. h) d rest gave y) c.in-Ok-next_value_with-2.value (q.part p.still) q.owes q.still in
-    struct_step g.R.Source node_names NodeHeld0 c.in-Ok.fields c.loop-fields.fields c.next_field_by.new.self c.next_value_with-in-Ok-Some.new.self
+    (struct_step g.R.Source node_names NodeHeld0 c.in-Ok.fields c.loop-fields.fields c.next_field_by.new.self c.next_value_with-in-Ok-Some.new.self
     (c.loop-fields.slot0, (c.loop-fields.slot1, tt))
     (c.loop-fields.slot0, ((Some c.in-Ok-next_value_with-2.value), tt)) 1 NodeSlot1 c.in-Ok-next_value_with-2.value r p k.same k.same_reference took q.same
     q.same_reference
-    (node_step1 (c.loop-fields.slot0, (c.loop-fields.slot1, tt)) c.in-Ok-next_value_with-2.value)
+    (node_step1 (c.loop-fields.slot0, (c.loop-fields.slot1, tt)) c.in-Ok-next_value_with-2.value))
 
 pub read_node-returns-in-Err-next_value_with-2 : goal.read_node-returns-in-Err-next_value_with-2
 read_node-returns-in-Err-next_value_with-2 g t c =
