@@ -19,6 +19,6 @@ pub use manifest::Manifest;
 pub use mixed::{Course, Spot, Voyage};
 pub use papers::{Chart, Papers};
 pub use ports::Entry;
-pub use rows::Row;
+pub use rows::{Line, Row};
 pub use signals::Signal;
 pub use surveys::Survey;
