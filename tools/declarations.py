@@ -47,8 +47,7 @@ NOTE = re.compile(r"//\s*derive:\s*(.*)")
 # How many fields a struct has at most, without names and with them, and how many a variant.
 MOST_UNNAMED = 16
 MOST_NAMED = 32
-MOST_NAMED_IN_VARIANT = 16
-MOST_UNNAMED_IN_VARIANT = MOST
+MOST_IN_VARIANT = 16
 # How many are read as one tuple.
 MOST_IN_TUPLE = len(KINDS)
 # For how many fields with names rmp_decode has a call of its own.
@@ -121,9 +120,10 @@ class Declared:
         shape, variants = self.shape and lent(self.shape), self.variants and [lent(variant) for variant in self.variants]
         return Declared(self.name, self.parameters, shape, variants, lifetime)
 
-    def arguments(self) -> str:
-        """Its lifetime and its type parameters, in brackets."""
-        names = [self.lifetime] * bool(self.lifetime) + [name for name, _ in self.parameters]
+    def arguments(self, bounded: bool = False) -> str:
+        """Its lifetime and its type parameters, in brackets, as they are named, or as they are declared, with their bounds."""
+        names = [self.lifetime] * bool(self.lifetime)
+        names += [f"{name}: {more}" if bounded and more else name for name, more in self.parameters]
         return f"<{', '.join(names)}>" if names else ""
 
     def shapes(self) -> list[Shape]:
@@ -535,7 +535,7 @@ def declared(source: Source, word: str, name: str, at: int, notes: renaming.Note
         if found.shape:
             check_shape(shape, MOST_NAMED, MOST_UNNAMED)
         else:
-            check_shape(shape, MOST_NAMED_IN_VARIANT, MOST_UNNAMED_IN_VARIANT)
+            check_shape(shape, MOST_IN_VARIANT, MOST_IN_VARIANT)
     return found
 
 

@@ -49,7 +49,8 @@ from derived_ends import implementation as ends
 from derived_proofs import answers, has_content, has_defaults
 from derived_rounds import LEMMAS, Own, Unknown
 from derived_rounds import implementations as rounds
-from derived_terms import GHOST, GROUP, MOST_IN_TUPLES, Words, alias, bound_name, data_of, memory_of, nested, place_of, then_bound, then_of
+from derived_terms import GHOST, GROUP, MOST_IN_TUPLES, Words, alias, all_elements, apart, bound_name, data_of, elements_of, memory_of, nested, place_of
+from derived_terms import then_bound, then_of
 from derived_terms import member_of_reading, member_of_refusing, members_of_writing, refused_of, underscored
 from imports import imports
 from modules import Files, Module, stale, sums_lines
@@ -191,11 +192,6 @@ def body_of_writing(of):
     return ["match self {", *(line for at, shape in enumerate(of.variants) for line in arm_of_writing(of, at, shape)), "}"]
 
 
-def apart(of, shape):
-    """The name of the function that writes the fields of a type that borrows."""
-    return f"put_{underscored(of.name)}" + ("" if of.shape else f"_{underscored(shape.name)}")
-
-
 def writing_differ(of, at, shape):
     """That function. The type arguments of a call have at most one lifetime each, as the checker asks, so it has one for each field."""
     kinds = halves.kinds(len(shape.fields))
@@ -268,6 +264,9 @@ def arm_of_reading(of, at, shape):
         taken = taken_differ(shape)
         if has_defaults(shape):
             taken = [f"let parts: {nested([field.read_as() for field in shape.fields])} = parts;", *taken]
+        elif is_long(shape):
+            elements = elements_of(of, shape)
+            taken = [f"let {made_of(elements.name, elements.shape)} = parts;"]
         lines += ["Ok(parts) => {", *taken, f"return {made};", "}"]
     return [*lines, "Err(e) => return Err(e),", "},"]
 
@@ -355,6 +354,13 @@ def reading(of):
     ]
 
 
+def elements_struct(of: Declared) -> list[str]:
+    """A struct that the elements of a variant are read as."""
+    fields = [f"{field.name}: {field.kind}," for field in of.shape.fields]
+    head = f"struct {of.name}{of.arguments(bounded=True)} {{"
+    return ["// What the elements of a variant are read as.", "#[derive(Drop)]", head, *fields, "}\n", *reading(of)]
+
+
 # ---- files
 
 
@@ -398,7 +404,9 @@ def implementations(module: Module, wanted: list[Own]) -> str:
                 tell_missing(module, own, "EndsInside", LEADS_BACK)
             continue
         items += writing(own.of) if "Serialize" in own.derived else []
-        items += reading(own.of) if "Deserialize" in own.derived else []
+        if "Deserialize" in own.derived:
+            items += reading(own.of)
+            items += [line for elements in all_elements(own.of) for line in elements_struct(elements)]
         why = module.unasked(own)
         try:
             items += rounds(own)

@@ -6,7 +6,8 @@ from collections.abc import Iterable, Iterator
 from typing import TYPE_CHECKING
 
 from declarations import Declared, Field, Shape, is_long
-from derived_terms import bound_name, codes, nested, place_of, then_values
+from derived_terms import all_elements, apart, bound_name, codes, nested, place_of, then_values
+from halves import FIELDS
 from imports import imports
 from shared import numbered, tuple_of
 
@@ -31,6 +32,7 @@ WORDS = {
     "rmp_decode.proofs.Laws": "lawful_ok lawful_err",
     "rmp_decode.proofs.Tuples": "row_as each_field no_field field_each field_none",
     "rmp_decode.proofs.Variants": "variant_ok variant_err variant_unopened readable",
+    "rmp_encode.proofs.Parts": "part_takes",
     "rmp_encode.proofs.Variants": "newtype_no_byte tuple_variant_no_byte struct_variant_no_byte",
 }
 
@@ -48,18 +50,20 @@ def values_of(words: list[str]) -> str:
 SIGNED = {"i8": "w8", "i16": "w16", "i32": "w32", "i64": "w64", "i128": "w128", "isize": "w64"}
 
 
-def part_of(shape: Shape, at: int) -> str:
-    """The name of a part that was read: of the only one, of a tuple's or of nested tuples'."""
+def part_of(shape: Shape, at: int, is_variant: bool) -> str:
+    """The name of a part that was read: of the only one, of a tuple's, of nested tuples' or of a struct's."""
     if shape.kind == "newtype":
         return "first"
+    if is_long(shape) and is_variant:
+        return f"parts.{FIELDS[at]}"
     return "parts" + (place_of(at, len(shape.fields)) if shape.kind == "named" or is_long(shape) else f".{at}")
 
 
-def held(shape: Shape, arm: str, term: str, others: frozenset[str] = frozenset()) -> str:
+def held(shape: Shape, arm: str, term: str, others: frozenset[str] = frozenset(), is_variant: bool = False) -> str:
     """The term, where each number with a sign that was read in this arm is the same after a field held it."""
     for at, field in enumerate(shape.fields):
         if field.kind in SIGNED:
-            read = f"{filled(field, arm, others)}.result" if field.default else f"{arm}.{part_of(shape, at)}"
+            read = f"{filled(field, arm, others)}.result" if field.default else f"{arm}.{part_of(shape, at, is_variant)}"
             term = f"rw (to_z-of_z {SIGNED[field.kind]} {read} (search rules)) ({term})"
     return term
 
@@ -149,6 +153,8 @@ def variant_content(shape: Shape, arm: str, others: frozenset[str]) -> tuple[str
         given, needed = (f"(λ m r. {term})" for term in defaulted_read(shape, values, "r", arm, others))
         return f"λ k h. ({'_, ' * n}refl, content_as _ _ {given} k h)", f"λ v k h. content_as _ _ {needed} k h.{n + 1}"
     value = nested(values, "tt", then_values) if shape.kind == "named" else values_of(values) if n else ""
+    if is_long(shape):
+        value = f"(record {{ {' '.join(f'{name} = {of};' for name, of in zip(FIELDS, values))} }})"
     return f"λ k h. ({'_, ' * n}refl, h)", f"λ v k h. readable _ k {value} h.{n + 1}" if n else "λ v k h. h.1"
 
 
@@ -166,7 +172,7 @@ def variant_read(call: str, at: int, shape: Shape, of: Declared) -> str:
         opened = f"(rw c.in-Ok-eq{at}-default.field-0-0-test at c.in-Ok-eq{at}-default.ensures.opened)"
     done, back = variant_content(shape, f"c.in-Ok-{call}", others)
     ok = f"variant_ok _ _ _ _ _ _ (search rules) _ {at} _ _ ({done})\n    (c.in-Ok-{call}.ensures.ok _ {at} _ {opened})"
-    ok = start + held(shape, f"c.in-Ok-{call}", ok, others)
+    ok = start + held(shape, f"c.in-Ok-{call}", ok, others, is_variant=True)
     err = f"{start}variant_err _ _ _ _ _ _ (search rules) _ {at} _ ({back})\n    (c.in-Err-{call}.ensures.err _ {at} _ {opened})"
     clauses, lemma = f"c.in-Err-{call}.ensures", "content_wrong" if n else "unit_wrong"
     given = f"(λ q. q) {clauses}.bare {clauses}.refused" if n else f"{clauses}.bare {clauses}.exact"
@@ -223,21 +229,33 @@ def enum_no_byte(of: Declared) -> str:
 WRITTEN_BY = {"tuple": "serialize_tuple_variant_of", "named": "serialize_struct_variant_of"}
 # Types of fields of which no search finds, beside other fields, what is known of them and of their refusals.
 LISTED = re.compile(r"\b(Vec|VecDeque|BTreeMap|BTreeSet)<")
+# Of how many fields at most a search finds what is written of a variant.
+MOST_FOUND = 6
+
+
+def writes_of(of: Declared) -> Iterator[tuple[Shape, str]]:
+    """The name of the call that writes each variant with several fields. The arm is in it where a variant before is written by the same call."""
+    seen = set()
+    for shape in of.variants:
+        if shape.kind in WRITTEN_BY:
+            call = apart(of, shape) if of.lifetime else WRITTEN_BY[shape.kind]
+            yield shape, call + f"-in-{shape.name}" * (call in seen)
+            seen.add(call)
 
 
 def enum_values(of: Declared) -> str:
-    """Answers for each variant with a list beside other fields: what is known of its fields, and of their refusals, is so of the value."""
-    if of.lifetime or len(of.variants) < 2:
+    """Answers for each variant with a list beside other fields: what is known of its fields, and of their refusals, is so of the value. Of many
+    fields, also that what is written is, where memory may be taken if it may be for any variant."""
+    if len(of.variants) < 2:
         return ""
-    text, seen = "", set()
-    for shape in of.variants:
-        call = WRITTEN_BY.get(shape.kind)
-        if call and any(LISTED.match(field.kind) for field in shape.fields):
-            # the arm is in the call's name where a variant before is written by the same call
-            known = f"c.{call}{f'-in-{shape.name}' * (call in seen)}.ensures"
-            for clause in ("value", "error"):
-                text += answer(f"returns-in-{shape.name}-clause-{clause}", f"rw c.in-{shape.name}.is {known}.{clause}")
-        seen.add(call)
+    text = ""
+    for shape, call in writes_of(of):
+        is_wide, known = len(shape.fields) > MOST_FOUND, f"c.{call}.ensures"
+        facts = {"value": f"{known}.value", "error": f"{known}.error"}
+        if is_wide:
+            facts["writes"] = f"(part_takes g.W.Sink _ (λ h. grind rules) {known}.writes)"
+        if is_wide or any(LISTED.match(field.kind) for field in shape.fields):
+            text += "".join(answer(f"returns-in-{shape.name}-clause-{clause}", f"rw c.in-{shape.name}.is {fact}") for clause, fact in facts.items())
     return text
 
 
@@ -251,6 +269,9 @@ def answers(of: Declared, traits: set[str], module: Module) -> Iterator[tuple[st
     if "Deserialize" in traits:
         text = struct_read(of.shape) if of.shape else enum_read(of)
         yield of.name, "Deserialize", "deserialize", with_imports(text, module, f"{of.name}Deserialize.deserialize", of.constants())
+        for elements in all_elements(of):
+            text = struct_read(elements.shape)
+            yield elements.name, "Deserialize", "deserialize", with_imports(text, module, f"{elements.name}Deserialize.deserialize")
 
 
 def with_imports(text: str, module: Module, goals: str, constants: Iterable[str] = ()) -> str:

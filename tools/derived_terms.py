@@ -1,11 +1,12 @@
 """The terms of what derive.py writes: what a value is, and which trees it is read from."""
 from __future__ import annotations
 
+import dataclasses
 import re
 from collections.abc import Iterable
 from typing import Optional
 
-from declarations import LEAST_FLAT, MOST_FLAT, Declared, Field, Shape, is_flat
+from declarations import LEAST_FLAT, MOST_FLAT, Declared, Field, Shape, identifiers, is_flat, is_long
 from halves import FIELDS
 from shared import list_of
 
@@ -95,6 +96,20 @@ def place_in_structs(at: int, count: int) -> str:
     if at < size:
         return f".{FIELDS[at]}"
     return ".rest" + place_in_structs(at - size, count - size) if size else place_of(at, count)
+
+
+def elements_of(of: Declared, shape: Shape) -> Declared:
+    """The struct that the elements of a variant are read as, where they are more than one tuple holds. Its parameters are those that they name."""
+    fields = [dataclasses.replace(field, name=name) for field, name in zip(shape.fields, FIELDS)]
+    name, words = f"{of.name}{shape.name}Elements", {word for field in fields for word in identifiers(field.kind)}
+    is_lent = of.lifetime and any(of.lifetime in field.kind for field in fields)
+    parameters = [it for it in of.parameters if it[0] in words]
+    return Declared(name, parameters, Shape(name, "tuple", fields), lifetime=of.lifetime if is_lent else None)
+
+
+def all_elements(of: Declared) -> list[Declared]:
+    """That of each such variant."""
+    return [elements_of(of, shape) for shape in of.variants or [] if is_long(shape)]
 
 
 def codes(names: Iterable[str]) -> str:
@@ -200,6 +215,11 @@ def underscored(name: str) -> str:
     return re.sub(r"(?<=[a-z0-9])(?=[A-Z])", "_", name).lower()
 
 
+def apart(of: Declared, shape: Shape) -> str:
+    """The name of the function that writes the fields of a type that borrows."""
+    return f"put_{underscored(of.name)}" + ("" if of.shape else f"_{underscored(shape.name)}")
+
+
 def alias(of: Declared) -> str:
     """What an enum's variants are called by in terms."""
     return f"the_{underscored(of.name)}"
@@ -268,7 +288,9 @@ def members_of_writing(of: Declared, words: Words) -> tuple[str, str, str, str]:
     flags = [memory_of(words, shape) for shape in of.variants]
     errors = [refused_of(words, shape) for shape in of.variants]
     refused = "OfSink" if set(errors) == {"OfSink"} else by_cases(of, errors)
-    return data, known, "false" if set(flags) == {"false"} else f"one_of ({list_of(flags)})", refused
+    # one flag says it of the only variant, and of several where none takes memory
+    takes = flags[0] if len(flags) == 1 or set(flags) == {"false"} else f"one_of ({list_of(flags)})"
+    return data, known, takes, refused
 
 
 def member_of_reading(of: Declared, words: Words) -> str:

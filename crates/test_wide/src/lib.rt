@@ -8,5 +8,5 @@ mod surveys;
 
 pub use buoys::Measured;
 pub use manifest::Manifest;
-pub use rows::Row;
+pub use rows::{Line, Row};
 pub use surveys::Survey;

@@ -1,4 +1,4 @@
-//! A tuple struct of sixteen mixed elements.
+//! Sixteen mixed elements: those of a tuple struct, and those of a variant beside one of nine.
 mod derived;
 
 use rmp_wire::{ByteBuf, F64Bits};
@@ -25,3 +25,28 @@ pub struct Row(
     pub (),
     pub Option<Spot>,
 );
+
+/// A line of a table.
+#[derive(Drop)]
+pub enum Line {
+    Empty,
+    Short(u8, String, i16, Option<u16>, bool, Vec<u16>, char, Spot, u32),
+    Long(
+        u64,
+        String,
+        i32,
+        Option<u16>,
+        bool,
+        char,
+        F64Bits,
+        Vec<u16>,
+        [u16; 3],
+        Spot,
+        (u8, String),
+        ByteBuf,
+        BTreeMap<String, u32>,
+        i128,
+        (),
+        Option<Spot>,
+    ),
+}

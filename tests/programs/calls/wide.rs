@@ -6,7 +6,7 @@ use std::alloc::Global;
 use std::test::Fail;
 use test_enums::{Entry, Flag, Signal};
 use test_mixed::{Buoy, Coast, Course, Light, Spot};
-use test_wide::{Measured, Row};
+use test_wide::{Line, Measured, Row};
 
 // Each variant of `Signal` with a value, in the order of the declaration.
 const SIGNALS: [&[u8]; 30] = [
@@ -352,6 +352,70 @@ fn no_tuple_struct_of_sixteen(rt: HostRuntime) -> Result<(), Fail> {
     let more = sixteen(rt, b"", 17)?;
     let read: Result<Row, Error> = from_slice(rt.alloc(), more.as_slice());
     assert!(rt; matches!(read, Err(Error::LengthMismatch(16))));
+    Ok(())
+}
+
+#[test]
+fn a_variant_of_sixteen_elements(rt: HostRuntime) -> Result<(), Fail> {
+    let bytes = sixteen(rt, b"\x81\xa4Long", 16)?;
+    let read: Line = from_slice(rt.alloc(), bytes.as_slice())?;
+    assert!(rt;
+        matches!(
+            &read,
+            Line::Long(
+                300,
+                _,
+                -70000,
+                None,
+                true,
+                'c',
+                _,
+                _,
+                _,
+                _,
+                _,
+                _,
+                _,
+                -12,
+                (),
+                Some(_)
+            )
+        )
+    );
+    let written = to_vec(rt.alloc(), &read)?;
+    assert_eq!(rt;
+        bytes.as_slice().strip_prefix(written.as_slice()),
+        Some(b"\xc0".as_slice())
+    );
+    let more = sixteen(rt, b"\x81\xa4Long", 17)?;
+    let read: Result<Line, Error> = from_slice(rt.alloc(), more.as_slice());
+    assert!(rt; matches!(read, Err(Error::LengthMismatch(16))));
+    Ok(())
+}
+
+#[test]
+fn a_variant_of_nine_elements(rt: HostRuntime) -> Result<(), Fail> {
+    let bytes =
+        b"\x81\xa5Short\x99\x07\xa1A\xd1\xff8\xcd\x01,\xc3\x92\x01\x02\xa1c\x92\x05\xc0\xce\x00\x01\x11p";
+    let read: Line = from_slice(rt.alloc(), bytes.as_slice())?;
+    assert!(rt;
+        matches!(
+            &read,
+            Line::Short(7, _, -200, Some(300), true, _, 'c', _, 70000)
+        )
+    );
+    assert_eq!(rt; to_vec(rt.alloc(), &read)?.as_slice(), bytes.as_slice());
+    let named =
+        b"\x81\xa5Short\x99\x07\xa1A\xd1\xff8\xcd\x01,\xc3\x92\x01\x02\xa1c\x82\xa5north\x05\xa4name\xc0\xce\x00\x01\x11p";
+    assert_eq!(rt;
+        to_vec_named(rt.alloc(), &read)?.as_slice(),
+        named.as_slice()
+    );
+    let read: Result<Line, Error> = from_slice(
+        rt.alloc(),
+        b"\x81\xa5Short\x98\x07\xa1A\xd1\xff8\xcd\x01,\xc3\x92\x01\x02\xa1c\x92\x05\xc0",
+    );
+    assert!(rt; matches!(read, Err(Error::Syntax(Text::InvalidLength))));
     Ok(())
 }
 

@@ -1,21 +1,27 @@
 //! How the types of rows.rt are written and read. Written by tools/derive.py.
 //!
 //! Sum of Row: e7e5ce27.
+//! Sum of Line: b887d294.
 ghost use Rattle.rmp_decode.specs.Arrays.{Exactly};
+ghost use Rattle.rmp_decode.specs.EnumRefusing.{RefusesEnum, no_content, with_content};
 ghost use Rattle.rmp_decode.specs.Refusing.{RefusesTuple, part_of};
 ghost use Rattle.rmp_decode.specs.Rows.{AndThen, NoMore, ReadsEach};
 ghost use Rattle.rmp_decode.specs.Seq.{OfRow};
+ghost use Rattle.rmp_decode.specs.Variants.{OfVariant, Case, NoCase, Bare, Content};
+ghost use Rattle.rmp_encode.specs.Data.{unit_variant};
 ghost use Rattle.rmp_encode.specs.Markers.{value_of};
-ghost use Rattle.rmp_encode.specs.Refusals.{OfParts};
+ghost use Rattle.rmp_encode.specs.Refusals.{OfParts, OfSink};
 ghost use Rattle.rmp_encode.specs.Sizes.{one_of};
-ghost use Rattle.rmp_encode.specs.Trees.{sequence_of};
+ghost use Rattle.rmp_encode.specs.Trees.{sequence_of, tuple_variant_of};
 ghost use Rattle.rmp_ends.specs.BufferEnds.{buffer_inside};
+ghost use Rattle.rmp_ends.specs.EnumEnds.{enum_inside, no_content_inside, with_content_inside};
 ghost use Rattle.rmp_ends.specs.LeafEnds.{kind_inside, number_inside, nil_inside, signed128_inside, char_inside, string_inside};
 ghost use Rattle.rmp_ends.specs.MapEnds.{map_inside};
 ghost use Rattle.rmp_ends.specs.RowEnds.{array_inside, each_inside, option_inside, tuple_inside};
-ghost use Rattle.rmp_round_trip.specs.LeafRounds.{byte_row, unsigned_row_16, unsigned_row_32, unsigned_row_64, signed_row_32, truth_row};
+ghost use Rattle.rmp_round_trip.specs.LeafRounds.{byte_row, unsigned_row_16, unsigned_row_32, unsigned_row_64, signed_row_16, signed_row_32, truth_row};
 ghost use Rattle.rmp_round_trip.specs.LeafRounds.{unit_row, float64_row, char_row, string_row, buffer_row, pos_other};
 ghost use Rattle.rmp_round_trip.specs.MapRounds.{mapping_some, map_row, pairs_row};
+ghost use Rattle.rmp_round_trip.specs.OnlyFields.{AtPlace, AnyContent, content_row, variant_both};
 ghost use Rattle.rmp_round_trip.specs.OnlyLeaves.{float64_only, signed128_only, char_only, string_only, buffer_only};
 ghost use Rattle.rmp_round_trip.specs.OnlyLeaves.{unit_only, truth_only, byte_only, unsigned_only, signed_only};
 ghost use Rattle.rmp_round_trip.specs.OnlyMaps.{map_only};
@@ -23,14 +29,16 @@ ghost use Rattle.rmp_round_trip.specs.OnlyRows.{array_only, item_only, last_only
 ghost use Rattle.rmp_round_trip.specs.RoundTrip.{Only};
 ghost use Rattle.rmp_round_trip.specs.Rounds.{each_some, each_row, rows_map, option_some, option_row, slice_some, slice_row};
 ghost use Rattle.rmp_round_trip.specs.Rounds.{tuple_some, tuple_row, sequence_row, sequence_other, rows_none, rows_cons};
-ghost use Rattle.rmp_round_trip.specs.StructRounds.{sequence_all, tuple_all};
+ghost use Rattle.rmp_round_trip.specs.StructRounds.{sequence_all, tuple_all, tuple_variant_all};
+ghost use Rattle.rmp_round_trip.specs.VariantRounds.{bare_row, tuple_variant_row, bare_other, tuple_variant_other};
 ghost use Rattle.rmp_round_trip.specs.WideRounds.{signed128_row};
 ghost use Rattle.rmp_wire.specs.Types.{buffer_bytes};
 ghost use Rattle.std.proofs.Common.{refl};
 ghost use Rattle.std.proofs.lemmas.Cmp.{on_total, nat_list_cmp_total};
-ghost use Rattle.std.specs.Prelude.{◌∷◌, [], None, string_bytes, pos, negsuc};
+ghost use Rattle.std.specs.Prelude.{◌≡◌, ◌∷◌, [], None, Some, codes, false, ⊤, string_bytes, pos, negsuc};
+ghost use Rattle.test_wide.specs.declared.rows.Line.TheVariants as the_line;
 
-use super::{BTreeMap, ByteBuf, F64Bits, Row, Spot};
+use super::{BTreeMap, ByteBuf, F64Bits, Line, Row, Spot};
 use rmp_decode::{Deserialize, Deserializer};
 use rmp_encode::{Elements, Serialize, Serializer};
 use rmp_ends::EndsInside;
@@ -468,6 +476,975 @@ impl<'de, R: ReadSlice<'de>> EndsInside<'de, R> for Row {
             ),
           ),
         ) };
+}
+
+impl Serialize for Line {
+    ghost data_of = { λ v human. elim v [
+      | the_line.Empty ↦ Some (unit_variant (codes "Empty"))
+      | the_line.Short a1 a2 a3 a4 a5 a6 a7 a8 a9 ↦
+          tuple_variant_of (codes "Short") (⟦<u8 as Serialize>⟧.data_of a1 human
+          ∷ (⟦<String as Serialize>⟧.data_of a2 human ∷ (⟦<i16 as Serialize>⟧.data_of a3 human
+          ∷ (⟦<Option<u16> as Serialize>⟧.data_of a4 human ∷
+          (⟦<bool as Serialize>⟧.data_of a5 human ∷ (⟦<Vec<u16> as Serialize>⟧.data_of a6 human
+          ∷ (⟦<char as Serialize>⟧.data_of a7 human ∷ (⟦<Spot as Serialize>⟧.data_of a8 human ∷ (⟦<u32 as Serialize>⟧.data_of a9 human ∷ [])))))))))
+      | the_line.Long a1 a2 a3 a4 a5 a6 a7 a8 a9 a10 a11 a12 a13 a14 a15 a16 ↦ tuple_variant_of (codes "Long")
+          (⟦<u64 as Serialize>⟧.data_of a1 human ∷ (⟦<String as Serialize>⟧.data_of a2 human
+          ∷ (⟦<i32 as Serialize>⟧.data_of a3 human ∷ (⟦<Option<u16> as Serialize>⟧.data_of a4 human
+          ∷ (⟦<bool as Serialize>⟧.data_of a5 human ∷ (⟦<char as Serialize>⟧.data_of a6 human
+          ∷ (⟦<F64Bits as Serialize>⟧.data_of a7 human ∷ (⟦<Vec<u16> as Serialize>⟧.data_of a8 human
+          ∷ (⟦<[u16; 3] as Serialize>⟧.data_of a9 human ∷ (⟦<Spot as Serialize>⟧.data_of a10 human
+          ∷ (⟦<(u8, String) as Serialize>⟧.data_of a11 human
+          ∷ (⟦<ByteBuf as Serialize>⟧.data_of a12 human ∷ (⟦<BTreeMap<String, u32> as Serialize>⟧.data_of a13 human
+          ∷ (⟦<i128 as Serialize>⟧.data_of a14 human ∷ (⟦<() as Serialize>⟧.data_of a15 human
+          ∷ (⟦<Option<Spot> as Serialize>⟧.data_of a16 human ∷ []))))))))))))))))
+    ] };
+
+    ghost is_value = { λ v. elim v [
+      | the_line.Empty ↦ ⊤
+      | the_line.Short a1 a2 a3 a4 a5 a6 a7 a8 a9 ↦ ⟦<u8 as Serialize>⟧.is_value a1
+          × ⟦<String as Serialize>⟧.is_value a2 × ⟦<i16 as Serialize>⟧.is_value a3 × ⟦<Option<u16> as Serialize>⟧.is_value a4
+          × ⟦<bool as Serialize>⟧.is_value a5 × ⟦<Vec<u16> as Serialize>⟧.is_value a6 × ⟦<char as Serialize>⟧.is_value a7 × ⟦<Spot as Serialize>⟧.is_value a8
+          × ⟦<u32 as Serialize>⟧.is_value a9
+      | the_line.Long a1 a2 a3 a4 a5 a6 a7 a8 a9 a10 a11 a12 a13 a14 a15 a16 ↦ ⟦<u64 as Serialize>⟧.is_value a1
+          × ⟦<String as Serialize>⟧.is_value a2 × ⟦<i32 as Serialize>⟧.is_value a3 × ⟦<Option<u16> as Serialize>⟧.is_value a4
+          × ⟦<bool as Serialize>⟧.is_value a5 × ⟦<char as Serialize>⟧.is_value a6 × ⟦<F64Bits as Serialize>⟧.is_value a7
+          × ⟦<Vec<u16> as Serialize>⟧.is_value a8 × ⟦<[u16; 3] as Serialize>⟧.is_value a9 × ⟦<Spot as Serialize>⟧.is_value a10
+          × ⟦<(u8, String) as Serialize>⟧.is_value a11 × ⟦<ByteBuf as Serialize>⟧.is_value a12 × ⟦<BTreeMap<String, u32> as Serialize>⟧.is_value a13
+          × ⟦<i128 as Serialize>⟧.is_value a14 × ⟦<() as Serialize>⟧.is_value a15 × ⟦<Option<Spot> as Serialize>⟧.is_value a16
+    ] };
+
+    ghost takes_memory = { λ s. one_of (false ∷ (one_of
+        (⟦<u8 as Serialize>⟧.takes_memory s ∷ (⟦<String as Serialize>⟧.takes_memory s
+        ∷ (⟦<i16 as Serialize>⟧.takes_memory s ∷ (⟦<Option<u16> as Serialize>⟧.takes_memory s
+        ∷ (⟦<bool as Serialize>⟧.takes_memory s ∷ (⟦<Vec<u16> as Serialize>⟧.takes_memory s
+        ∷ (⟦<char as Serialize>⟧.takes_memory s ∷ (⟦<Spot as Serialize>⟧.takes_memory s ∷ (⟦<u32 as Serialize>⟧.takes_memory s ∷ [])))))))))
+        ∷ (one_of (⟦<u64 as Serialize>⟧.takes_memory s ∷ (⟦<String as Serialize>⟧.takes_memory s
+        ∷ (⟦<i32 as Serialize>⟧.takes_memory s ∷ (⟦<Option<u16> as Serialize>⟧.takes_memory s
+        ∷ (⟦<bool as Serialize>⟧.takes_memory s ∷ (⟦<char as Serialize>⟧.takes_memory s
+        ∷ (⟦<F64Bits as Serialize>⟧.takes_memory s ∷ (⟦<Vec<u16> as Serialize>⟧.takes_memory s
+        ∷ (⟦<[u16; 3] as Serialize>⟧.takes_memory s ∷ (⟦<Spot as Serialize>⟧.takes_memory s
+        ∷ (⟦<(u8, String) as Serialize>⟧.takes_memory s ∷ (⟦<ByteBuf as Serialize>⟧.takes_memory s
+        ∷ (⟦<BTreeMap<String, u32> as Serialize>⟧.takes_memory s
+        ∷ (⟦<i128 as Serialize>⟧.takes_memory s ∷ (⟦<() as Serialize>⟧.takes_memory s ∷ (⟦<Option<Spot> as Serialize>⟧.takes_memory s ∷ []))))))))))))))))
+        ∷ []))) };
+
+    ghost refuses = { λ v. elim v [
+      | the_line.Empty ↦ OfSink
+      | the_line.Short a1 a2 a3 a4 a5 a6 a7 a8 a9 ↦ OfParts ⊥
+          (⟦<u8 as Serialize>⟧.refuses a1 ∷ (⟦<String as Serialize>⟧.refuses a2
+          ∷ (⟦<i16 as Serialize>⟧.refuses a3 ∷ (⟦<Option<u16> as Serialize>⟧.refuses a4
+          ∷ (⟦<bool as Serialize>⟧.refuses a5 ∷ (⟦<Vec<u16> as Serialize>⟧.refuses a6
+          ∷ (⟦<char as Serialize>⟧.refuses a7 ∷ (⟦<Spot as Serialize>⟧.refuses a8 ∷ (⟦<u32 as Serialize>⟧.refuses a9 ∷ [])))))))))
+      | the_line.Long a1 a2 a3 a4
+          a5 a6 a7 a8 a9 a10 a11 a12 a13 a14 a15 a16 ↦ OfParts ⊥
+          (⟦<u64 as Serialize>⟧.refuses a1 ∷ (⟦<String as Serialize>⟧.refuses a2
+          ∷ (⟦<i32 as Serialize>⟧.refuses a3 ∷ (⟦<Option<u16> as Serialize>⟧.refuses a4
+          ∷ (⟦<bool as Serialize>⟧.refuses a5 ∷ (⟦<char as Serialize>⟧.refuses a6
+          ∷ (⟦<F64Bits as Serialize>⟧.refuses a7 ∷ (⟦<Vec<u16> as Serialize>⟧.refuses a8
+          ∷ (⟦<[u16; 3] as Serialize>⟧.refuses a9 ∷ (⟦<Spot as Serialize>⟧.refuses a10
+          ∷ (⟦<(u8, String) as Serialize>⟧.refuses a11 ∷ (⟦<ByteBuf as Serialize>⟧.refuses a12
+          ∷ (⟦<BTreeMap<String, u32> as Serialize>⟧.refuses a13
+          ∷ (⟦<i128 as Serialize>⟧.refuses a14 ∷ (⟦<() as Serialize>⟧.refuses a15 ∷ (⟦<Option<Spot> as Serialize>⟧.refuses a16 ∷ []))))))))))))))))
+    ] };
+
+    #[tactic(auto, unfolding(rmp_encode::specs::Data::lower))]
+    fn serialize<W: Sink, C: SerializerConfig>(
+        &self,
+        se: &mut Serializer<W, C>,
+    ) -> Result<(), rmp_encode::Error> {
+        match self {
+            Line::Empty => se.serialize_unit_variant("Line", 0, "Empty"),
+            Line::Short(first, second, third, fourth, fifth, sixth, seventh, eighth, ninth) => {
+                let parts = NineParts {
+                    first,
+                    second,
+                    third,
+                    fourth,
+                    fifth,
+                    sixth,
+                    seventh,
+                    eighth,
+                    ninth,
+                };
+                se.serialize_tuple_variant_of("Line", 1, "Short", &parts)
+            }
+            Line::Long(
+                first,
+                second,
+                third,
+                fourth,
+                fifth,
+                sixth,
+                seventh,
+                eighth,
+                ninth,
+                tenth,
+                eleventh,
+                twelfth,
+                thirteenth,
+                fourteenth,
+                fifteenth,
+                sixteenth,
+            ) => {
+                let parts = SixteenParts {
+                    first,
+                    second,
+                    third,
+                    fourth,
+                    fifth,
+                    sixth,
+                    seventh,
+                    eighth,
+                    ninth,
+                    tenth,
+                    eleventh,
+                    twelfth,
+                    thirteenth,
+                    fourteenth,
+                    fifteenth,
+                    sixteenth,
+                };
+                se.serialize_tuple_variant_of("Line", 2, "Long", &parts)
+            }
+        }
+    }
+
+    fn as_u8(&self, _human: bool) -> Option<u8> {
+        match self {
+            Line::Empty => None,
+            Line::Short(_, _, _, _, _, _, _, _, _) => None,
+            Line::Long(_, _, _, _, _, _, _, _, _, _, _, _, _, _, _, _) => None,
+        }
+    }
+}
+
+impl<'de, R: ReadSlice<'de>> Deserialize<'de, R> for Line {
+    ghost reads = { λ human lends m v. OfVariant (codes "Empty" ∷ (codes "Short" ∷ (codes "Long" ∷ [])))
+        (Case (λ c. (v ≡ the_line.Empty) × Bare c) (Case (λ c. (a1 : _) × (a2 : _) × (a3 : _) × (a4 : _) × (a5 : _) × (a6 : _) × (a7 : _) × (a8 : _)
+        × (a9 : _) × (v ≡ the_line.Short a1 a2 a3 a4 a5 a6 a7 a8 a9)
+        × Content (λ k. OfRow (AndThen (λ j. ⟦<u8 as Deserialize<'de, R>>⟧.reads human lends j a1)
+        (AndThen (λ j. ⟦<String as Deserialize<'de, R>>⟧.reads human lends j a2)
+        (AndThen (λ j. ⟦<i16 as Deserialize<'de, R>>⟧.reads human lends j a3)
+        (AndThen (λ j. ⟦<Option<u16> as Deserialize<'de, R>>⟧.reads human lends j a4)
+        (AndThen (λ j. ⟦<bool as Deserialize<'de, R>>⟧.reads human lends j a5)
+        (AndThen (λ j. ⟦<Vec<u16> as Deserialize<'de, R>>⟧.reads human lends j a6)
+        (AndThen (λ j. ⟦<char as Deserialize<'de, R>>⟧.reads human lends j a7)
+        (AndThen (λ j. ⟦<Spot as Deserialize<'de, R>>⟧.reads human lends j a8)
+        (AndThen (λ j. ⟦<u32 as Deserialize<'de, R>>⟧.reads human lends j a9) NoMore))))))))) k) c)
+        (Case (λ c. (a1 : _) × (a2 : _) × (a3 : _) × (a4 : _) × (a5 : _) × (a6 : _) × (a7 : _) × (a8 : _) × (a9 : _) × (a10 : _) × (a11 : _) × (a12 : _)
+        × (a13 : _) × (a14 : _) × (a15 : _) × (a16 : _) × (v ≡ the_line.Long a1 a2 a3 a4 a5 a6 a7 a8 a9 a10 a11 a12 a13 a14 a15 a16)
+        × Content (λ k. OfRow (AndThen (λ j. ⟦<u64 as Deserialize<'de, R>>⟧.reads human lends j a1)
+        (AndThen (λ j. ⟦<String as Deserialize<'de, R>>⟧.reads human lends j a2)
+        (AndThen (λ j. ⟦<i32 as Deserialize<'de, R>>⟧.reads human lends j a3)
+        (AndThen (λ j. ⟦<Option<u16> as Deserialize<'de, R>>⟧.reads human lends j a4)
+        (AndThen (λ j. ⟦<bool as Deserialize<'de, R>>⟧.reads human lends j a5)
+        (AndThen (λ j. ⟦<char as Deserialize<'de, R>>⟧.reads human lends j a6)
+        (AndThen (λ j. ⟦<F64Bits as Deserialize<'de, R>>⟧.reads human lends j a7)
+        (AndThen (λ j. ⟦<Vec<u16> as Deserialize<'de, R>>⟧.reads human lends j a8)
+        (AndThen (λ j. ⟦<[u16; 3] as Deserialize<'de, R>>⟧.reads human lends j a9)
+        (AndThen (λ j. ⟦<Spot as Deserialize<'de, R>>⟧.reads human lends j a10)
+        (AndThen (λ j. ⟦<(u8, String) as Deserialize<'de, R>>⟧.reads human lends j a11)
+        (AndThen (λ j. ⟦<ByteBuf as Deserialize<'de, R>>⟧.reads human lends j a12)
+        (AndThen (λ j. ⟦<BTreeMap<String, u32> as Deserialize<'de, R>>⟧.reads human lends j a13)
+        (AndThen (λ j. ⟦<i128 as Deserialize<'de, R>>⟧.reads human lends j a14)
+        (AndThen (λ j. ⟦<() as Deserialize<'de, R>>⟧.reads human lends j a15)
+        (AndThen (λ j. ⟦<Option<Spot> as Deserialize<'de, R>>⟧.reads human lends j a16) NoMore)))))))))))))))) k) c) NoCase))) m };
+
+    ghost absent = { None };
+
+    ghost refuses = { RefusesEnum (codes "Empty" ∷ (codes "Short" ∷ (codes "Long" ∷ [])))
+        (no_content ∷ (with_content (RefusesTuple (part_of ⟦<u8 as Deserialize<'de, R>>⟧.reads ⟦<u8 as Deserialize<'de, R>>⟧.refuses
+        ∷ (part_of ⟦<String as Deserialize<'de, R>>⟧.reads ⟦<String as Deserialize<'de, R>>⟧.refuses
+        ∷ (part_of ⟦<i16 as Deserialize<'de, R>>⟧.reads ⟦<i16 as Deserialize<'de, R>>⟧.refuses
+        ∷ (part_of ⟦<Option<u16> as Deserialize<'de, R>>⟧.reads ⟦<Option<u16> as Deserialize<'de, R>>⟧.refuses
+        ∷ (part_of ⟦<bool as Deserialize<'de, R>>⟧.reads ⟦<bool as Deserialize<'de, R>>⟧.refuses
+        ∷ (part_of ⟦<Vec<u16> as Deserialize<'de, R>>⟧.reads ⟦<Vec<u16> as Deserialize<'de, R>>⟧.refuses
+        ∷ (part_of ⟦<char as Deserialize<'de, R>>⟧.reads ⟦<char as Deserialize<'de, R>>⟧.refuses
+        ∷ (part_of ⟦<Spot as Deserialize<'de, R>>⟧.reads ⟦<Spot as Deserialize<'de, R>>⟧.refuses
+        ∷ (part_of ⟦<u32 as Deserialize<'de, R>>⟧.reads ⟦<u32 as Deserialize<'de, R>>⟧.refuses ∷ []))))))))))
+        ∷ (with_content (RefusesTuple (part_of ⟦<u64 as Deserialize<'de, R>>⟧.reads ⟦<u64 as Deserialize<'de, R>>⟧.refuses
+        ∷ (part_of ⟦<String as Deserialize<'de, R>>⟧.reads ⟦<String as Deserialize<'de, R>>⟧.refuses
+        ∷ (part_of ⟦<i32 as Deserialize<'de, R>>⟧.reads ⟦<i32 as Deserialize<'de, R>>⟧.refuses
+        ∷ (part_of ⟦<Option<u16> as Deserialize<'de, R>>⟧.reads ⟦<Option<u16> as Deserialize<'de, R>>⟧.refuses
+        ∷ (part_of ⟦<bool as Deserialize<'de, R>>⟧.reads ⟦<bool as Deserialize<'de, R>>⟧.refuses
+        ∷ (part_of ⟦<char as Deserialize<'de, R>>⟧.reads ⟦<char as Deserialize<'de, R>>⟧.refuses
+        ∷ (part_of ⟦<F64Bits as Deserialize<'de, R>>⟧.reads ⟦<F64Bits as Deserialize<'de, R>>⟧.refuses
+        ∷ (part_of ⟦<Vec<u16> as Deserialize<'de, R>>⟧.reads ⟦<Vec<u16> as Deserialize<'de, R>>⟧.refuses
+        ∷ (part_of ⟦<[u16; 3] as Deserialize<'de, R>>⟧.reads ⟦<[u16; 3] as Deserialize<'de, R>>⟧.refuses
+        ∷ (part_of ⟦<Spot as Deserialize<'de, R>>⟧.reads ⟦<Spot as Deserialize<'de, R>>⟧.refuses
+        ∷ (part_of ⟦<(u8, String) as Deserialize<'de, R>>⟧.reads ⟦<(u8, String) as Deserialize<'de, R>>⟧.refuses
+        ∷ (part_of ⟦<ByteBuf as Deserialize<'de, R>>⟧.reads ⟦<ByteBuf as Deserialize<'de, R>>⟧.refuses
+        ∷ (part_of ⟦<BTreeMap<String, u32> as Deserialize<'de, R>>⟧.reads ⟦<BTreeMap<String, u32> as Deserialize<'de, R>>⟧.refuses
+        ∷ (part_of ⟦<i128 as Deserialize<'de, R>>⟧.reads ⟦<i128 as Deserialize<'de, R>>⟧.refuses
+        ∷ (part_of ⟦<() as Deserialize<'de, R>>⟧.reads ⟦<() as Deserialize<'de, R>>⟧.refuses
+        ∷ (part_of ⟦<Option<Spot> as Deserialize<'de, R>>⟧.reads ⟦<Option<Spot> as Deserialize<'de, R>>⟧.refuses ∷ []))))))))))))))))) ∷ []))) };
+
+    fn deserialize<C: SerializerConfig>(
+        de: &mut Deserializer<R, C>,
+    ) -> Result<Line, rmp_decode::Error> {
+        match de.deserialize_enum(&["Empty", "Short", "Long"]) {
+            Ok((0, variant)) => match variant.unit_variant() {
+                Ok(()) => return Ok(Line::Empty),
+                Err(e) => return Err(e),
+            },
+            Ok((1, variant)) => match variant.newtype_variant() {
+                Ok(parts) => {
+                    let (first, second, third, fourth, fifth, sixth, seventh, eighth, ninth) =
+                        parts;
+                    return Ok(Line::Short(
+                        first, second, third, fourth, fifth, sixth, seventh, eighth, ninth,
+                    ));
+                }
+                Err(e) => return Err(e),
+            },
+            Ok((_, variant)) => match variant.newtype_variant() {
+                Ok(parts) => {
+                    let LineLongElements {
+                        first,
+                        second,
+                        third,
+                        fourth,
+                        fifth,
+                        sixth,
+                        seventh,
+                        eighth,
+                        ninth,
+                        tenth,
+                        eleventh,
+                        twelfth,
+                        thirteenth,
+                        fourteenth,
+                        fifteenth,
+                        sixteenth,
+                    } = parts;
+                    return Ok(Line::Long(
+                        first, second, third, fourth, fifth, sixth, seventh, eighth, ninth, tenth,
+                        eleventh, twelfth, thirteenth, fourteenth, fifteenth, sixteenth,
+                    ));
+                }
+                Err(e) => return Err(e),
+            },
+            Err(e) => return Err(e),
+        }
+    }
+
+    fn missing() -> Option<Line> {
+        None
+    }
+}
+
+// What the elements of a variant are read as.
+#[derive(Drop)]
+struct LineLongElements {
+    first: u64,
+    second: String,
+    third: i32,
+    fourth: Option<u16>,
+    fifth: bool,
+    sixth: char,
+    seventh: F64Bits,
+    eighth: Vec<u16>,
+    ninth: [u16; 3],
+    tenth: Spot,
+    eleventh: (u8, String),
+    twelfth: ByteBuf,
+    thirteenth: BTreeMap<String, u32>,
+    fourteenth: i128,
+    fifteenth: (),
+    sixteenth: Option<Spot>,
+}
+
+impl<'de, R: ReadSlice<'de>> Deserialize<'de, R> for LineLongElements {
+    ghost reads = { λ human lends m v. OfRow (AndThen (λ j. ⟦<u64 as Deserialize<'de, R>>⟧.reads human lends j v.first)
+        (AndThen (λ j. ⟦<String as Deserialize<'de, R>>⟧.reads human lends j v.second)
+        (AndThen (λ j. ⟦<i32 as Deserialize<'de, R>>⟧.reads human lends j v.third)
+        (AndThen (λ j. ⟦<Option<u16> as Deserialize<'de, R>>⟧.reads human lends j v.fourth)
+        (AndThen (λ j. ⟦<bool as Deserialize<'de, R>>⟧.reads human lends j v.fifth)
+        (AndThen (λ j. ⟦<char as Deserialize<'de, R>>⟧.reads human lends j v.sixth)
+        (AndThen (λ j. ⟦<F64Bits as Deserialize<'de, R>>⟧.reads human lends j v.seventh)
+        (AndThen (λ j. ⟦<Vec<u16> as Deserialize<'de, R>>⟧.reads human lends j v.eighth)
+        (AndThen (λ j. ⟦<[u16; 3] as Deserialize<'de, R>>⟧.reads human lends j v.ninth)
+        (AndThen (λ j. ⟦<Spot as Deserialize<'de, R>>⟧.reads human lends j v.tenth)
+        (AndThen (λ j. ⟦<(u8, String) as Deserialize<'de, R>>⟧.reads human lends j v.eleventh)
+        (AndThen (λ j. ⟦<ByteBuf as Deserialize<'de, R>>⟧.reads human lends j v.twelfth)
+        (AndThen (λ j. ⟦<BTreeMap<String, u32> as Deserialize<'de, R>>⟧.reads human lends j v.thirteenth)
+        (AndThen (λ j. ⟦<i128 as Deserialize<'de, R>>⟧.reads human lends j v.fourteenth)
+        (AndThen (λ j. ⟦<() as Deserialize<'de, R>>⟧.reads human lends j v.fifteenth)
+        (AndThen (λ j. ⟦<Option<Spot> as Deserialize<'de, R>>⟧.reads human lends j v.sixteenth) NoMore)))))))))))))))) m };
+
+    ghost absent = { None };
+
+    ghost refuses = { RefusesTuple (part_of ⟦<u64 as Deserialize<'de, R>>⟧.reads ⟦<u64 as Deserialize<'de, R>>⟧.refuses
+        ∷ (part_of ⟦<String as Deserialize<'de, R>>⟧.reads ⟦<String as Deserialize<'de, R>>⟧.refuses
+        ∷ (part_of ⟦<i32 as Deserialize<'de, R>>⟧.reads ⟦<i32 as Deserialize<'de, R>>⟧.refuses
+        ∷ (part_of ⟦<Option<u16> as Deserialize<'de, R>>⟧.reads ⟦<Option<u16> as Deserialize<'de, R>>⟧.refuses
+        ∷ (part_of ⟦<bool as Deserialize<'de, R>>⟧.reads ⟦<bool as Deserialize<'de, R>>⟧.refuses
+        ∷ (part_of ⟦<char as Deserialize<'de, R>>⟧.reads ⟦<char as Deserialize<'de, R>>⟧.refuses
+        ∷ (part_of ⟦<F64Bits as Deserialize<'de, R>>⟧.reads ⟦<F64Bits as Deserialize<'de, R>>⟧.refuses
+        ∷ (part_of ⟦<Vec<u16> as Deserialize<'de, R>>⟧.reads ⟦<Vec<u16> as Deserialize<'de, R>>⟧.refuses
+        ∷ (part_of ⟦<[u16; 3] as Deserialize<'de, R>>⟧.reads ⟦<[u16; 3] as Deserialize<'de, R>>⟧.refuses
+        ∷ (part_of ⟦<Spot as Deserialize<'de, R>>⟧.reads ⟦<Spot as Deserialize<'de, R>>⟧.refuses
+        ∷ (part_of ⟦<(u8, String) as Deserialize<'de, R>>⟧.reads ⟦<(u8, String) as Deserialize<'de, R>>⟧.refuses
+        ∷ (part_of ⟦<ByteBuf as Deserialize<'de, R>>⟧.reads ⟦<ByteBuf as Deserialize<'de, R>>⟧.refuses
+        ∷ (part_of ⟦<BTreeMap<String, u32> as Deserialize<'de, R>>⟧.reads ⟦<BTreeMap<String, u32> as Deserialize<'de, R>>⟧.refuses
+        ∷ (part_of ⟦<i128 as Deserialize<'de, R>>⟧.reads ⟦<i128 as Deserialize<'de, R>>⟧.refuses
+        ∷ (part_of ⟦<() as Deserialize<'de, R>>⟧.reads ⟦<() as Deserialize<'de, R>>⟧.refuses
+        ∷ (part_of ⟦<Option<Spot> as Deserialize<'de, R>>⟧.reads ⟦<Option<Spot> as Deserialize<'de, R>>⟧.refuses ∷ [])))))))))))))))) };
+
+    fn deserialize<C: SerializerConfig>(
+        de: &mut Deserializer<R, C>,
+    ) -> Result<LineLongElements, rmp_decode::Error> {
+        let read: Result<
+            (
+                u64,
+                String,
+                i32,
+                Option<u16>,
+                (
+                    bool,
+                    char,
+                    F64Bits,
+                    Vec<u16>,
+                    (
+                        [u16; 3],
+                        Spot,
+                        (u8, String),
+                        ByteBuf,
+                        (BTreeMap<String, u32>, i128, (), Option<Spot>, ()),
+                    ),
+                ),
+            ),
+            rmp_decode::Error,
+        > = de.tuple_parts(16);
+        match read {
+            Ok(parts) => {
+                let (first, second, third, fourth, others) = parts;
+                let (fifth, sixth, seventh, eighth, others) = others;
+                let (ninth, tenth, eleventh, twelfth, others) = others;
+                let (thirteenth, fourteenth, fifteenth, sixteenth, ()) = others;
+                return Ok(LineLongElements {
+                    first,
+                    second,
+                    third,
+                    fourth,
+                    fifth,
+                    sixth,
+                    seventh,
+                    eighth,
+                    ninth,
+                    tenth,
+                    eleventh,
+                    twelfth,
+                    thirteenth,
+                    fourteenth,
+                    fifteenth,
+                    sixteenth,
+                });
+            }
+            Err(e) => return Err(e),
+        }
+    }
+
+    fn missing() -> Option<LineLongElements> {
+        None
+    }
+}
+
+impl<'de, R: ReadSlice<'de>> RoundTrip<'de, R> for Line {
+    ghost use Rattle.test_mixed.specs.contracts.mixed.derived.SpotNeverNil.TheImpl.Laws as spot_other;
+    ghost use Rattle.test_mixed.specs.contracts.mixed.derived.SpotRoundTrip.TheImpl.Laws as spot_rounds;
+    ghost use mir.Syntax.{given};
+
+    ghost has_data = { λ human. elim [
+      | the_line.Empty ↦ refl
+      | the_line.Short a1 a2 a3 a4 a5 a6 a7 a8 a9 ↦ tuple_variant_all (codes "Short")
+          (⟦<u8 as Serialize>⟧.data_of a1 human ∷ (⟦<String as Serialize>⟧.data_of a2 human
+          ∷ (⟦<i16 as Serialize>⟧.data_of a3 human ∷ (⟦<Option<u16> as Serialize>⟧.data_of a4 human
+          ∷ (⟦<bool as Serialize>⟧.data_of a5 human ∷ (⟦<Vec<u16> as Serialize>⟧.data_of a6 human
+          ∷ (⟦<char as Serialize>⟧.data_of a7 human ∷ (⟦<Spot as Serialize>⟧.data_of a8 human ∷ (⟦<u32 as Serialize>⟧.data_of a9 human ∷ []))))))))) (
+            refl,
+            (
+              refl,
+              (
+                refl,
+                (
+                  (option_some (λ x. ⟦<u16 as Serialize>⟧.data_of x human) (λ x1. refl) a4),
+                  (
+                    refl,
+                    (
+                      (slice_some _ (each_some (λ x. ⟦<u16 as Serialize>⟧.data_of x human) (λ x2. refl) a6.items)),
+                      (refl, ((spot_rounds.has_data-law R.row R.ReadSlice.own (given 0) R.Source (given 0) human a8), (refl, tt))),
+                    ),
+                  ),
+                ),
+              ),
+            ),
+          )
+      | the_line.Long a1 a2 a3 a4 a5 a6
+          a7 a8 a9 a10 a11 a12 a13 a14 a15 a16 ↦ tuple_variant_all (codes "Long")
+          (⟦<u64 as Serialize>⟧.data_of a1 human ∷ (⟦<String as Serialize>⟧.data_of a2 human
+          ∷ (⟦<i32 as Serialize>⟧.data_of a3 human ∷ (⟦<Option<u16> as Serialize>⟧.data_of a4 human
+          ∷ (⟦<bool as Serialize>⟧.data_of a5 human ∷ (⟦<char as Serialize>⟧.data_of a6 human
+          ∷ (⟦<F64Bits as Serialize>⟧.data_of a7 human ∷ (⟦<Vec<u16> as Serialize>⟧.data_of a8 human
+          ∷ (⟦<[u16; 3] as Serialize>⟧.data_of a9 human ∷ (⟦<Spot as Serialize>⟧.data_of a10 human
+          ∷ (⟦<(u8, String) as Serialize>⟧.data_of a11 human
+          ∷ (⟦<ByteBuf as Serialize>⟧.data_of a12 human ∷ (⟦<BTreeMap<String, u32> as Serialize>⟧.data_of a13 human
+          ∷ (⟦<i128 as Serialize>⟧.data_of a14 human ∷ (⟦<() as Serialize>⟧.data_of a15 human
+          ∷ (⟦<Option<Spot> as Serialize>⟧.data_of a16 human ∷ [])))))))))))))))) (
+            refl,
+            (
+              refl,
+              (
+                refl,
+                (
+                  (option_some (λ x. ⟦<u16 as Serialize>⟧.data_of x human) (λ x4. refl) a4),
+                  (
+                    refl,
+                    (
+                      refl,
+                      (
+                        refl,
+                        (
+                          (slice_some _ (each_some (λ x. ⟦<u16 as Serialize>⟧.data_of x human) (λ x5. refl) a8.items)),
+                          (
+                            (tuple_some _ (each_some (λ x. ⟦<u16 as Serialize>⟧.data_of x human) (λ x6. refl) a9)),
+                            (
+                              (spot_rounds.has_data-law R.row R.ReadSlice.own (given 0) R.Source (given 0) human a10),
+                              (
+                                (tuple_all (⟦<u8 as Serialize>⟧.data_of a11.0 human ∷ (⟦<String as Serialize>⟧.data_of a11.1 human ∷ [])) (refl, (refl, tt))),
+                                (
+                                  refl,
+                                  (
+                                    (mapping_some (λ x. ⟦<String as Serialize>⟧.data_of x human) (λ x. ⟦<u32 as Serialize>⟧.data_of x human) (λ x8. refl) (λ x8. refl)
+                                        a13.entries),
+                                    (
+                                      refl,
+                                      (
+                                        refl,
+                                        (
+                                          (option_some (λ x. ⟦<Spot as Serialize>⟧.data_of x human)
+                                              (λ x9. (spot_rounds.has_data-law R.row R.ReadSlice.own (given 0) R.Source (given 0) human x9)) a16),
+                                          tt,
+                                        ),
+                                      ),
+                                    ),
+                                  ),
+                                ),
+                              ),
+                            ),
+                          ),
+                        ),
+                      ),
+                    ),
+                  ),
+                ),
+              ),
+            ),
+          )
+    ] };
+
+    ghost round = { λ lent s. let names = codes "Empty" ∷ (codes "Short" ∷ (codes "Long" ∷ []))
+        in elim [
+          | the_line.Empty ↦ λ fits. bare_row s names (codes "Empty") 0 refl _ (refl, tt)
+          | the_line.Short a1 a2 a3 a4 a5 a6 a7 a8 a9 ↦ λ fits.
+              tuple_variant_row s names (codes "Short") 1 refl _ _ _ (λ m h. (a1, a2, a3, a4, a5, a6, a7, a8, a9, refl, h))
+              (rows_cons s _ _ (λ j. ⟦<u8 as Deserialize<'de, R>>⟧.reads s.human R.lends j a1) _ (byte_row s a1 fits.0)
+              (rows_cons s _ _ (λ j. ⟦<String as Deserialize<'de, R>>⟧.reads s.human R.lends j a2) _ (string_row s (string_bytes a2))
+              (rows_cons s _ _ (λ j. ⟦<i16 as Deserialize<'de, R>>⟧.reads s.human R.lends j a3) _ (signed_row_16 s a3 fits.2)
+              (rows_cons s _ _ (λ j. ⟦<Option<u16> as Deserialize<'de, R>>⟧.reads s.human R.lends j a4) _
+              (option_row s (λ x. ⟦<u16 as Serialize>⟧.data_of x s.human) ⟦<u16 as Serialize>⟧.is_value (⟦<u16 as Deserialize<'de, R>>⟧.reads s.human R.lends)
+              (λ x12. pos_other s x12) (λ x11 h11. (unsigned_row_16 s x11 h11)) a4 fits.3)
+              (rows_cons s _ _ (λ j. ⟦<bool as Deserialize<'de, R>>⟧.reads s.human R.lends j a5) _ (truth_row s a5)
+              (rows_cons s _ _ (λ j. ⟦<Vec<u16> as Deserialize<'de, R>>⟧.reads s.human R.lends j a6) _
+              (slice_row s _ (λ ms. ReadsEach (⟦<u16 as Deserialize<'de, R>>⟧.reads s.human R.lends) ms a6.items)
+              (each_row s (λ x. ⟦<u16 as Serialize>⟧.data_of x s.human) ⟦<u16 as Serialize>⟧.is_value (⟦<u16 as Deserialize<'de, R>>⟧.reads s.human R.lends)
+              (λ x13 h13. (unsigned_row_16 s x13 h13)) a6.items fits.5))
+              (rows_cons s _ _ (λ j. ⟦<char as Deserialize<'de, R>>⟧.reads s.human R.lends j a7) _ (char_row s a7 fits.6)
+              (rows_cons s _ _ (λ j. ⟦<Spot as Deserialize<'de, R>>⟧.reads s.human R.lends j a8) _
+              (spot_rounds.round-law R.row R.ReadSlice.own (given 0) R.Source (given 0) (λ e. cc) s a8 fits.7)
+              (rows_cons s _ _ (λ j. ⟦<u32 as Deserialize<'de, R>>⟧.reads s.human R.lends j a9) _ (unsigned_row_32 s a9 fits.8) (rows_none s))))))))))
+          | the_line.Long a1 a2 a3 a4 a5 a6 a7 a8 a9 a10 a11 a12 a13 a14 a15 a16 ↦ λ fits. tuple_variant_row s names (codes "Long") 2 refl _ _ _
+              (λ m h. (a1, a2, a3, a4, a5, a6, a7, a8, a9, a10, a11, a12, a13, a14, a15, a16, refl, h))
+              (rows_cons s _ _ (λ j. ⟦<u64 as Deserialize<'de, R>>⟧.reads s.human R.lends j a1) _ (unsigned_row_64 s a1 fits.0)
+              (rows_cons s _ _ (λ j. ⟦<String as Deserialize<'de, R>>⟧.reads s.human R.lends j a2) _ (string_row s (string_bytes a2))
+              (rows_cons s _ _ (λ j. ⟦<i32 as Deserialize<'de, R>>⟧.reads s.human R.lends j a3) _ (signed_row_32 s a3 fits.2)
+              (rows_cons s _ _ (λ j. ⟦<Option<u16> as Deserialize<'de, R>>⟧.reads s.human R.lends j a4) _
+              (option_row s (λ x. ⟦<u16 as Serialize>⟧.data_of x s.human) ⟦<u16 as Serialize>⟧.is_value (⟦<u16 as Deserialize<'de, R>>⟧.reads s.human R.lends)
+              (λ x15. pos_other s x15) (λ x14 h14. (unsigned_row_16 s x14 h14)) a4 fits.3)
+              (rows_cons s _ _ (λ j. ⟦<bool as Deserialize<'de, R>>⟧.reads s.human R.lends j a5) _ (truth_row s a5)
+              (rows_cons s _ _ (λ j. ⟦<char as Deserialize<'de, R>>⟧.reads s.human R.lends j a6) _ (char_row s a6 fits.5)
+              (rows_cons s _ _ (λ j. ⟦<F64Bits as Deserialize<'de, R>>⟧.reads s.human R.lends j a7) _ (float64_row s a7.0)
+              (rows_cons s _ _ (λ j. ⟦<Vec<u16> as Deserialize<'de, R>>⟧.reads s.human R.lends j a8) _
+              (slice_row s _ (λ ms. ReadsEach (⟦<u16 as Deserialize<'de, R>>⟧.reads s.human R.lends) ms a8.items)
+              (each_row s (λ x. ⟦<u16 as Serialize>⟧.data_of x s.human) ⟦<u16 as Serialize>⟧.is_value (⟦<u16 as Deserialize<'de, R>>⟧.reads s.human R.lends)
+              (λ x16 h16. (unsigned_row_16 s x16 h16)) a8.items fits.7))
+              (rows_cons s _ _ (λ j. ⟦<[u16; 3] as Deserialize<'de, R>>⟧.reads s.human R.lends j a9) _
+              (tuple_row s _ (Exactly 3 (⟦<u16 as Deserialize<'de, R>>⟧.reads s.human R.lends) a9)
+              (rows_map s _ _ _ (λ ms each. (fits.8.0, each)) (each_row s (λ x. ⟦<u16 as Serialize>⟧.data_of x s.human) ⟦<u16 as Serialize>⟧.is_value
+              (⟦<u16 as Deserialize<'de, R>>⟧.reads s.human R.lends) (λ x17 h17. (unsigned_row_16 s x17 h17)) a9 fits.8.1)))
+              (rows_cons s _ _ (λ j. ⟦<Spot as Deserialize<'de, R>>⟧.reads s.human R.lends j a10) _
+              (spot_rounds.round-law R.row R.ReadSlice.own (given 0) R.Source (given 0) (λ e. cc) s a10 fits.9)
+              (rows_cons s _ _ (λ j. ⟦<(u8, String) as Deserialize<'de, R>>⟧.reads s.human R.lends j a11) _
+              (tuple_row s _ _ (rows_cons s _ _ (λ j. ⟦<u8 as Deserialize<'de, R>>⟧.reads s.human R.lends j a11.0) _ (byte_row s a11.0 fits.10.0)
+              (rows_cons s _ _ (λ j. ⟦<String as Deserialize<'de, R>>⟧.reads s.human R.lends j a11.1) _ (string_row s (string_bytes a11.1)) (rows_none s))))
+              (rows_cons s _ _ (λ j. ⟦<ByteBuf as Deserialize<'de, R>>⟧.reads s.human R.lends j a12) _ (buffer_row s (buffer_bytes a12))
+              (rows_cons s _ _ (λ j. ⟦<BTreeMap<String, u32> as Deserialize<'de, R>>⟧.reads s.human R.lends j a13) _
+              (map_row s (λ x. ⟦<String as Serialize>⟧.data_of x s.human) (λ x. ⟦<u32 as Serialize>⟧.data_of x s.human) ⟦<String as Serialize>⟧.is_value
+              ⟦<u32 as Serialize>⟧.is_value (⟦<String as Deserialize<'de, R>>⟧.reads s.human R.lends) (⟦<u32 as Deserialize<'de, R>>⟧.reads s.human R.lends)
+              (λ x18 h18. (string_row s (string_bytes x18))) (λ x19 h19. (unsigned_row_32 s x19 h19)) (on_total (λ x. string_bytes x) nat_list_cmp_total)
+              a13.entries fits.12.1 fits.12.0) (rows_cons s _ _ (λ j. ⟦<i128 as Deserialize<'de, R>>⟧.reads s.human R.lends j a14) _ (signed128_row s a14 fits.13)
+              (rows_cons s _ _ (λ j. ⟦<() as Deserialize<'de, R>>⟧.reads s.human R.lends j a15) _ (unit_row s)
+              (rows_cons s _ _ (λ j. ⟦<Option<Spot> as Deserialize<'de, R>>⟧.reads s.human R.lends j a16) _
+              (option_row s (λ x. ⟦<Spot as Serialize>⟧.data_of x s.human) ⟦<Spot as Serialize>⟧.is_value (⟦<Spot as Deserialize<'de, R>>⟧.reads s.human R.lends)
+              (λ x21. spot_other.never_nil-law s x21) (λ x20 h20. (spot_rounds.round-law R.row R.ReadSlice.own (given 0) R.Source (given 0) (λ e. cc) s x20 h20))
+              a16 fits.15) (rows_none s)))))))))))))))))
+        ] };
+
+    ghost same = { λ v w. elim v [
+      | the_line.Empty ↦ (w ≡ the_line.Empty)
+      | the_line.Short a1 a2 a3 a4 a5 a6 a7 a8 a9 ↦ (b1 : _) × (b2 : _) × (b3 : _)
+          × (b4 : _) × (b5 : _) × (b6 : _) × (b7 : _) × (b8 : _) × (b9 : _) × (w ≡ the_line.Short b1 b2 b3 b4 b5 b6 b7 b8 b9)
+          × ⟦<u8 as RoundTrip<'de, R>>⟧.same a1 b1 × ⟦<String as RoundTrip<'de, R>>⟧.same a2 b2 × ⟦<i16 as RoundTrip<'de, R>>⟧.same a3 b3
+          × ⟦<Option<u16> as RoundTrip<'de, R>>⟧.same a4 b4 × ⟦<bool as RoundTrip<'de, R>>⟧.same a5 b5 × ⟦<Vec<u16> as RoundTrip<'de, R>>⟧.same a6 b6
+          × ⟦<char as RoundTrip<'de, R>>⟧.same a7 b7 × ⟦<Spot as RoundTrip<'de, R>>⟧.same a8 b8
+          × ⟦<u32 as RoundTrip<'de, R>>⟧.same a9 b9
+      | the_line.Long a1 a2 a3 a4 a5 a6 a7 a8 a9 a10 a11 a12 a13 a14 a15 a16 ↦ (b1 : _) × (b2 : _) × (b3 : _)
+          × (b4 : _) × (b5 : _) × (b6 : _) × (b7 : _) × (b8 : _) × (b9 : _) × (b10 : _) × (b11 : _) × (b12 : _) × (b13 : _) × (b14 : _) × (b15 : _)
+          × (b16 : _) × (w ≡ the_line.Long b1 b2 b3 b4 b5 b6 b7 b8 b9 b10 b11 b12 b13 b14 b15 b16) × ⟦<u64 as RoundTrip<'de, R>>⟧.same a1 b1
+          × ⟦<String as RoundTrip<'de, R>>⟧.same a2 b2 × ⟦<i32 as RoundTrip<'de, R>>⟧.same a3 b3 × ⟦<Option<u16> as RoundTrip<'de, R>>⟧.same a4 b4
+          × ⟦<bool as RoundTrip<'de, R>>⟧.same a5 b5 × ⟦<char as RoundTrip<'de, R>>⟧.same a6 b6 × ⟦<F64Bits as RoundTrip<'de, R>>⟧.same a7 b7
+          × ⟦<Vec<u16> as RoundTrip<'de, R>>⟧.same a8 b8 × ⟦<[u16; 3] as RoundTrip<'de, R>>⟧.same a9 b9 × ⟦<Spot as RoundTrip<'de, R>>⟧.same a10 b10
+          × ⟦<(u8, String) as RoundTrip<'de, R>>⟧.same a11 b11 × ⟦<ByteBuf as RoundTrip<'de, R>>⟧.same a12 b12
+          × ⟦<BTreeMap<String, u32> as RoundTrip<'de, R>>⟧.same a13 b13 × ⟦<i128 as RoundTrip<'de, R>>⟧.same a14 b14
+          × ⟦<() as RoundTrip<'de, R>>⟧.same a15 b15 × ⟦<Option<Spot> as RoundTrip<'de, R>>⟧.same a16 b16
+    ] };
+
+    ghost only = { λ s. let names = codes "Empty" ∷ (codes "Short" ∷ (codes "Long" ∷ []))
+        in elim [
+          | the_line.Empty ↦ λ fits. lowers_then s (Some (unit_variant (codes "Empty"))) (OfVariant names (AtPlace 0 AnyContent)) (λ m. (w : _)
+              → (⟦<Line as Deserialize<'de, R>>⟧.reads s.human R.lends) m w
+              → (w ≡ the_line.Empty)) (bare_row s names (codes "Empty") 0 refl (AtPlace 0 AnyContent) (refl, tt))
+              (λ m q w r. variant_both names 0 AnyContent _ _ m q r (λ c a b. b.0))
+          | the_line.Short a1 a2 a3 a4 a5 a6 a7 a8 a9 ↦ λ fits. lowers_then s _ _
+              (λ m. (w : _) → (⟦<Line as Deserialize<'de, R>>⟧.reads s.human R.lends) m w
+              → (b1 : _) × (b2 : _) × (b3 : _) × (b4 : _) × (b5 : _) × (b6 : _) × (b7 : _) × (b8 : _) × (b9 : _) × (w ≡ the_line.Short b1 b2 b3 b4 b5 b6 b7 b8 b9)
+              × ⟦<u8 as RoundTrip<'de, R>>⟧.same a1 b1 × ⟦<String as RoundTrip<'de, R>>⟧.same a2 b2 × ⟦<i16 as RoundTrip<'de, R>>⟧.same a3 b3
+              × ⟦<Option<u16> as RoundTrip<'de, R>>⟧.same a4 b4 × ⟦<bool as RoundTrip<'de, R>>⟧.same a5 b5 × ⟦<Vec<u16> as RoundTrip<'de, R>>⟧.same a6 b6
+              × ⟦<char as RoundTrip<'de, R>>⟧.same a7 b7 × ⟦<Spot as RoundTrip<'de, R>>⟧.same a8 b8 × ⟦<u32 as RoundTrip<'de, R>>⟧.same a9 b9)
+              (tuple_variant_row s names (codes "Short") 1 refl (AtPlace 1
+              (Content (OfRow (AndThen (λ j. Only (⟦<u8 as Deserialize<'de, R>>⟧.reads s.human R.lends) ⟦<u8 as RoundTrip<'de, R>>⟧.same j a1)
+              (AndThen (λ j. Only (⟦<String as Deserialize<'de, R>>⟧.reads s.human R.lends) ⟦<String as RoundTrip<'de, R>>⟧.same j a2)
+              (AndThen (λ j. Only (⟦<i16 as Deserialize<'de, R>>⟧.reads s.human R.lends) ⟦<i16 as RoundTrip<'de, R>>⟧.same j a3)
+              (AndThen (λ j. Only (⟦<Option<u16> as Deserialize<'de, R>>⟧.reads s.human R.lends) ⟦<Option<u16> as RoundTrip<'de, R>>⟧.same j a4)
+              (AndThen (λ j. Only (⟦<bool as Deserialize<'de, R>>⟧.reads s.human R.lends) ⟦<bool as RoundTrip<'de, R>>⟧.same j a5)
+              (AndThen (λ j. Only (⟦<Vec<u16> as Deserialize<'de, R>>⟧.reads s.human R.lends) ⟦<Vec<u16> as RoundTrip<'de, R>>⟧.same j a6)
+              (AndThen (λ j. Only (⟦<char as Deserialize<'de, R>>⟧.reads s.human R.lends) ⟦<char as RoundTrip<'de, R>>⟧.same j a7)
+              (AndThen (λ j. Only (⟦<Spot as Deserialize<'de, R>>⟧.reads s.human R.lends) ⟦<Spot as RoundTrip<'de, R>>⟧.same j a8)
+              (AndThen (λ j. Only (⟦<u32 as Deserialize<'de, R>>⟧.reads s.human R.lends) ⟦<u32 as RoundTrip<'de, R>>⟧.same j a9) NoMore)))))))))))) _ _
+              (λ m h. (refl, h)) (rows_cons s _ _ (λ j. Only (⟦<u8 as Deserialize<'de, R>>⟧.reads s.human R.lends) ⟦<u8 as RoundTrip<'de, R>>⟧.same j a1) _
+              (byte_only s a1) (rows_cons s _ _ (λ j. Only (⟦<String as Deserialize<'de, R>>⟧.reads s.human R.lends) ⟦<String as RoundTrip<'de, R>>⟧.same j a2) _
+              (string_only s (λ w. string_bytes w) (string_bytes a2))
+              (rows_cons s _ _ (λ j. Only (⟦<i16 as Deserialize<'de, R>>⟧.reads s.human R.lends) ⟦<i16 as RoundTrip<'de, R>>⟧.same j a3) _
+              (signed_only s (negsuc 32767) (pos 32767) a3) (rows_cons s _ _
+              (λ j. Only (⟦<Option<u16> as Deserialize<'de, R>>⟧.reads s.human R.lends) ⟦<Option<u16> as RoundTrip<'de, R>>⟧.same j a4) _
+              (option_only s _ (⟦<u16 as Deserialize<'de, R>>⟧.reads s.human R.lends) ⟦<u16 as RoundTrip<'de, R>>⟧.same a4
+              (option_row s (λ x. ⟦<u16 as Serialize>⟧.data_of x s.human) ⟦<u16 as Serialize>⟧.is_value
+              (Only (⟦<u16 as Deserialize<'de, R>>⟧.reads s.human R.lends) ⟦<u16 as RoundTrip<'de, R>>⟧.same) (λ x2. pos_other s x2)
+              (λ x1 h1. (unsigned_only s 65535 x1)) a4 fits.3)) (rows_cons s _ _
+              (λ j. Only (⟦<bool as Deserialize<'de, R>>⟧.reads s.human R.lends) ⟦<bool as RoundTrip<'de, R>>⟧.same j a5) _ (truth_only s a5)
+              (rows_cons s _ _ (λ j. Only (⟦<Vec<u16> as Deserialize<'de, R>>⟧.reads s.human R.lends) ⟦<Vec<u16> as RoundTrip<'de, R>>⟧.same j a6) _
+              (list_only s _ (λ w. w.items) (⟦<u16 as Deserialize<'de, R>>⟧.reads s.human R.lends) ⟦<u16 as RoundTrip<'de, R>>⟧.same a6.items
+              (slice_row s _ (λ ms. ReadsEach (Only (⟦<u16 as Deserialize<'de, R>>⟧.reads s.human R.lends) ⟦<u16 as RoundTrip<'de, R>>⟧.same) ms a6.items)
+              (each_row s (λ x. ⟦<u16 as Serialize>⟧.data_of x s.human) ⟦<u16 as Serialize>⟧.is_value
+              (Only (⟦<u16 as Deserialize<'de, R>>⟧.reads s.human R.lends) ⟦<u16 as RoundTrip<'de, R>>⟧.same) (λ x3 h3. (unsigned_only s 65535 x3)) a6.items
+              fits.5))) (rows_cons s _ _ (λ j. Only (⟦<char as Deserialize<'de, R>>⟧.reads s.human R.lends) ⟦<char as RoundTrip<'de, R>>⟧.same j a7) _
+              (char_only s a7 fits.6) (rows_cons s _ _ (λ j. Only (⟦<Spot as Deserialize<'de, R>>⟧.reads s.human R.lends) ⟦<Spot as RoundTrip<'de, R>>⟧.same j a8)
+              _ (spot_rounds.only-law R.row R.ReadSlice.own (given 0) R.Source (given 0) s a8 fits.7)
+              (rows_cons s _ _ (λ j. Only (⟦<u32 as Deserialize<'de, R>>⟧.reads s.human R.lends) ⟦<u32 as RoundTrip<'de, R>>⟧.same j a9) _
+              (unsigned_only s 4294967295 a9) (rows_none s)))))))))))
+              (λ m q w r. variant_both names 1 _ _ _ m q r (λ c a b. content_row _ _ _ c a b.10
+              (λ ks i j. let x = item_only (⟦<u8 as Deserialize<'de, R>>⟧.reads s.human R.lends) ⟦<u8 as RoundTrip<'de, R>>⟧.same a1 b.0 _ _ _
+              (item_only (⟦<String as Deserialize<'de, R>>⟧.reads s.human R.lends) ⟦<String as RoundTrip<'de, R>>⟧.same a2 b.1 _ _ _
+              (item_only (⟦<i16 as Deserialize<'de, R>>⟧.reads s.human R.lends) ⟦<i16 as RoundTrip<'de, R>>⟧.same a3 b.2 _ _ _
+              (item_only (⟦<Option<u16> as Deserialize<'de, R>>⟧.reads s.human R.lends) ⟦<Option<u16> as RoundTrip<'de, R>>⟧.same a4 b.3 _ _ _
+              (item_only (⟦<bool as Deserialize<'de, R>>⟧.reads s.human R.lends) ⟦<bool as RoundTrip<'de, R>>⟧.same a5 b.4 _ _ _
+              (item_only (⟦<Vec<u16> as Deserialize<'de, R>>⟧.reads s.human R.lends) ⟦<Vec<u16> as RoundTrip<'de, R>>⟧.same a6 b.5 _ _ _
+              (item_only (⟦<char as Deserialize<'de, R>>⟧.reads s.human R.lends) ⟦<char as RoundTrip<'de, R>>⟧.same a7 b.6 _ _ _
+              (item_only (⟦<Spot as Deserialize<'de, R>>⟧.reads s.human R.lends) ⟦<Spot as RoundTrip<'de, R>>⟧.same a8 b.7 _ _ _
+              (last_only (⟦<u32 as Deserialize<'de, R>>⟧.reads s.human R.lends) ⟦<u32 as RoundTrip<'de, R>>⟧.same a9 b.8)))))))) ks i j
+              in (
+                b.0,
+                b.1,
+                b.2,
+                b.3,
+                b.4,
+                b.5,
+                b.6,
+                b.7,
+                b.8,
+                b.9,
+                x.0,
+                x.1.0,
+                x.1.1.0,
+                x.1.1.1.0,
+                x.1.1.1.1.0,
+                x.1.1.1.1.1.0,
+                x.1.1.1.1.1.1.0,
+                x.1.1.1.1.1.1.1.0,
+                x.1.1.1.1.1.1.1.1,
+              ))))
+          | the_line.Long a1 a2 a3 a4 a5 a6 a7 a8 a9 a10 a11 a12 a13 a14 a15 a16 ↦ λ fits. lowers_then s _ _
+              (λ m. (w : _) → (⟦<Line as Deserialize<'de, R>>⟧.reads s.human R.lends) m w
+              → (b1 : _) × (b2 : _) × (b3 : _) × (b4 : _) × (b5 : _) × (b6 : _) × (b7 : _) × (b8 : _) × (b9 : _) × (b10 : _) × (b11 : _) × (b12 : _) × (b13 : _)
+              × (b14 : _) × (b15 : _) × (b16 : _) × (w ≡ the_line.Long b1 b2 b3 b4 b5 b6 b7 b8 b9 b10 b11 b12 b13 b14 b15 b16)
+              × ⟦<u64 as RoundTrip<'de, R>>⟧.same a1 b1 × ⟦<String as RoundTrip<'de, R>>⟧.same a2 b2 × ⟦<i32 as RoundTrip<'de, R>>⟧.same a3 b3
+              × ⟦<Option<u16> as RoundTrip<'de, R>>⟧.same a4 b4 × ⟦<bool as RoundTrip<'de, R>>⟧.same a5 b5 × ⟦<char as RoundTrip<'de, R>>⟧.same a6 b6
+              × ⟦<F64Bits as RoundTrip<'de, R>>⟧.same a7 b7 × ⟦<Vec<u16> as RoundTrip<'de, R>>⟧.same a8 b8 × ⟦<[u16; 3] as RoundTrip<'de, R>>⟧.same a9 b9
+              × ⟦<Spot as RoundTrip<'de, R>>⟧.same a10 b10 × ⟦<(u8, String) as RoundTrip<'de, R>>⟧.same a11 b11 × ⟦<ByteBuf as RoundTrip<'de, R>>⟧.same a12 b12
+              × ⟦<BTreeMap<String, u32> as RoundTrip<'de, R>>⟧.same a13 b13 × ⟦<i128 as RoundTrip<'de, R>>⟧.same a14 b14
+              × ⟦<() as RoundTrip<'de, R>>⟧.same a15 b15 × ⟦<Option<Spot> as RoundTrip<'de, R>>⟧.same a16 b16)
+              (tuple_variant_row s names (codes "Long") 2 refl (AtPlace 2
+              (Content (OfRow (AndThen (λ j. Only (⟦<u64 as Deserialize<'de, R>>⟧.reads s.human R.lends) ⟦<u64 as RoundTrip<'de, R>>⟧.same j a1)
+              (AndThen (λ j. Only (⟦<String as Deserialize<'de, R>>⟧.reads s.human R.lends) ⟦<String as RoundTrip<'de, R>>⟧.same j a2)
+              (AndThen (λ j. Only (⟦<i32 as Deserialize<'de, R>>⟧.reads s.human R.lends) ⟦<i32 as RoundTrip<'de, R>>⟧.same j a3)
+              (AndThen (λ j. Only (⟦<Option<u16> as Deserialize<'de, R>>⟧.reads s.human R.lends) ⟦<Option<u16> as RoundTrip<'de, R>>⟧.same j a4)
+              (AndThen (λ j. Only (⟦<bool as Deserialize<'de, R>>⟧.reads s.human R.lends) ⟦<bool as RoundTrip<'de, R>>⟧.same j a5)
+              (AndThen (λ j. Only (⟦<char as Deserialize<'de, R>>⟧.reads s.human R.lends) ⟦<char as RoundTrip<'de, R>>⟧.same j a6)
+              (AndThen (λ j. Only (⟦<F64Bits as Deserialize<'de, R>>⟧.reads s.human R.lends) ⟦<F64Bits as RoundTrip<'de, R>>⟧.same j a7)
+              (AndThen (λ j. Only (⟦<Vec<u16> as Deserialize<'de, R>>⟧.reads s.human R.lends) ⟦<Vec<u16> as RoundTrip<'de, R>>⟧.same j a8)
+              (AndThen (λ j. Only (⟦<[u16; 3] as Deserialize<'de, R>>⟧.reads s.human R.lends) ⟦<[u16; 3] as RoundTrip<'de, R>>⟧.same j a9)
+              (AndThen (λ j. Only (⟦<Spot as Deserialize<'de, R>>⟧.reads s.human R.lends) ⟦<Spot as RoundTrip<'de, R>>⟧.same j a10)
+              (AndThen (λ j. Only (⟦<(u8, String) as Deserialize<'de, R>>⟧.reads s.human R.lends) ⟦<(u8, String) as RoundTrip<'de, R>>⟧.same j a11)
+              (AndThen (λ j. Only (⟦<ByteBuf as Deserialize<'de, R>>⟧.reads s.human R.lends) ⟦<ByteBuf as RoundTrip<'de, R>>⟧.same j a12)
+              (AndThen (λ j. Only (⟦<BTreeMap<String, u32> as Deserialize<'de, R>>⟧.reads s.human R.lends) ⟦<BTreeMap<String, u32> as RoundTrip<'de, R>>⟧.same j
+              a13) (AndThen (λ j. Only (⟦<i128 as Deserialize<'de, R>>⟧.reads s.human R.lends) ⟦<i128 as RoundTrip<'de, R>>⟧.same j a14)
+              (AndThen (λ j. Only (⟦<() as Deserialize<'de, R>>⟧.reads s.human R.lends) ⟦<() as RoundTrip<'de, R>>⟧.same j a15)
+              (AndThen (λ j. Only (⟦<Option<Spot> as Deserialize<'de, R>>⟧.reads s.human R.lends) ⟦<Option<Spot> as RoundTrip<'de, R>>⟧.same j a16)
+              NoMore))))))))))))))))))) _ _ (λ m h. (refl, h)) (rows_cons s _ _
+              (λ j. Only (⟦<u64 as Deserialize<'de, R>>⟧.reads s.human R.lends) ⟦<u64 as RoundTrip<'de, R>>⟧.same j a1) _
+              (unsigned_only s 18446744073709551615 a1) (rows_cons s _ _
+              (λ j. Only (⟦<String as Deserialize<'de, R>>⟧.reads s.human R.lends) ⟦<String as RoundTrip<'de, R>>⟧.same j a2) _
+              (string_only s (λ w. string_bytes w) (string_bytes a2))
+              (rows_cons s _ _ (λ j. Only (⟦<i32 as Deserialize<'de, R>>⟧.reads s.human R.lends) ⟦<i32 as RoundTrip<'de, R>>⟧.same j a3) _
+              (signed_only s (negsuc 2147483647) (pos 2147483647) a3)
+              (rows_cons s _ _ (λ j. Only (⟦<Option<u16> as Deserialize<'de, R>>⟧.reads s.human R.lends) ⟦<Option<u16> as RoundTrip<'de, R>>⟧.same j a4) _
+              (option_only s _ (⟦<u16 as Deserialize<'de, R>>⟧.reads s.human R.lends) ⟦<u16 as RoundTrip<'de, R>>⟧.same a4
+              (option_row s (λ x. ⟦<u16 as Serialize>⟧.data_of x s.human) ⟦<u16 as Serialize>⟧.is_value
+              (Only (⟦<u16 as Deserialize<'de, R>>⟧.reads s.human R.lends) ⟦<u16 as RoundTrip<'de, R>>⟧.same) (λ x5. pos_other s x5)
+              (λ x4 h4. (unsigned_only s 65535 x4)) a4 fits.3)) (rows_cons s _ _
+              (λ j. Only (⟦<bool as Deserialize<'de, R>>⟧.reads s.human R.lends) ⟦<bool as RoundTrip<'de, R>>⟧.same j a5) _ (truth_only s a5)
+              (rows_cons s _ _ (λ j. Only (⟦<char as Deserialize<'de, R>>⟧.reads s.human R.lends) ⟦<char as RoundTrip<'de, R>>⟧.same j a6) _
+              (char_only s a6 fits.5) (rows_cons s _ _ (λ j. Only (⟦<F64Bits as Deserialize<'de, R>>⟧.reads s.human R.lends) ⟦<F64Bits as RoundTrip<'de, R>>⟧.same
+              j a7) _ (float64_only s (λ w. w.0) a7.0) (rows_cons s _ _
+              (λ j. Only (⟦<Vec<u16> as Deserialize<'de, R>>⟧.reads s.human R.lends) ⟦<Vec<u16> as RoundTrip<'de, R>>⟧.same j a8) _
+              (list_only s _ (λ w. w.items) (⟦<u16 as Deserialize<'de, R>>⟧.reads s.human R.lends) ⟦<u16 as RoundTrip<'de, R>>⟧.same a8.items
+              (slice_row s _ (λ ms. ReadsEach (Only (⟦<u16 as Deserialize<'de, R>>⟧.reads s.human R.lends) ⟦<u16 as RoundTrip<'de, R>>⟧.same) ms a8.items)
+              (each_row s (λ x. ⟦<u16 as Serialize>⟧.data_of x s.human) ⟦<u16 as Serialize>⟧.is_value
+              (Only (⟦<u16 as Deserialize<'de, R>>⟧.reads s.human R.lends) ⟦<u16 as RoundTrip<'de, R>>⟧.same) (λ x6 h6. (unsigned_only s 65535 x6)) a8.items
+              fits.7))) (rows_cons s _ _ (λ j. Only (⟦<[u16; 3] as Deserialize<'de, R>>⟧.reads s.human R.lends) ⟦<[u16; 3] as RoundTrip<'de, R>>⟧.same j a9) _
+              (array_only s _ 3 (⟦<u16 as Deserialize<'de, R>>⟧.reads s.human R.lends) ⟦<u16 as RoundTrip<'de, R>>⟧.same a9
+              (tuple_row s _ (λ ms. ReadsEach (Only (⟦<u16 as Deserialize<'de, R>>⟧.reads s.human R.lends) ⟦<u16 as RoundTrip<'de, R>>⟧.same) ms a9)
+              (each_row s (λ x. ⟦<u16 as Serialize>⟧.data_of x s.human) ⟦<u16 as Serialize>⟧.is_value
+              (Only (⟦<u16 as Deserialize<'de, R>>⟧.reads s.human R.lends) ⟦<u16 as RoundTrip<'de, R>>⟧.same) (λ x7 h7. (unsigned_only s 65535 x7)) a9 fits.8.1)))
+              (rows_cons s _ _ (λ j. Only (⟦<Spot as Deserialize<'de, R>>⟧.reads s.human R.lends) ⟦<Spot as RoundTrip<'de, R>>⟧.same j a10) _
+              (spot_rounds.only-law R.row R.ReadSlice.own (given 0) R.Source (given 0) s a10 fits.9)
+              (rows_cons s _ _ (λ j. Only (⟦<(u8, String) as Deserialize<'de, R>>⟧.reads s.human R.lends) ⟦<(u8, String) as RoundTrip<'de, R>>⟧.same j a11) _
+              (lowers_then s _ _ (λ j. Only (⟦<(u8, String) as Deserialize<'de, R>>⟧.reads s.human R.lends) ⟦<(u8, String) as RoundTrip<'de, R>>⟧.same j a11)
+              (tuple_row s _ _ (rows_cons s _ _ (λ j. Only (⟦<u8 as Deserialize<'de, R>>⟧.reads s.human R.lends) ⟦<u8 as RoundTrip<'de, R>>⟧.same j a11.0) _
+              (byte_only s a11.0) (rows_cons s _ _ (λ j. Only (⟦<String as Deserialize<'de, R>>⟧.reads s.human R.lends) ⟦<String as RoundTrip<'de, R>>⟧.same j
+              a11.1) _ (string_only s (λ w. string_bytes w) (string_bytes a11.1)) (rows_none s))))
+              (λ m q w r. row_both _ _ _ m q r (item_only (⟦<u8 as Deserialize<'de, R>>⟧.reads s.human R.lends) ⟦<u8 as RoundTrip<'de, R>>⟧.same a11.0 w.0 _ _ _
+              (last_only (⟦<String as Deserialize<'de, R>>⟧.reads s.human R.lends) ⟦<String as RoundTrip<'de, R>>⟧.same a11.1 w.1))))
+              (rows_cons s _ _ (λ j. Only (⟦<ByteBuf as Deserialize<'de, R>>⟧.reads s.human R.lends) ⟦<ByteBuf as RoundTrip<'de, R>>⟧.same j a12) _
+              (buffer_only s (λ w. buffer_bytes w) (buffer_bytes a12))
+              (rows_cons s _ _ (λ j. Only (⟦<BTreeMap<String, u32> as Deserialize<'de, R>>⟧.reads s.human R.lends)
+              ⟦<BTreeMap<String, u32> as RoundTrip<'de, R>>⟧.same j a13) _
+              (map_only (⟦<String as Deserialize<'de, R>>⟧.reads s.human R.lends) (⟦<u32 as Deserialize<'de, R>>⟧.reads s.human R.lends)
+              ⟦<String as RoundTrip<'de, R>>⟧.same ⟦<u32 as RoundTrip<'de, R>>⟧.same s _ (λ w. w.entries) ⟦<String as Ord>⟧.cmp a13.entries
+              (pairs_row s (λ x. ⟦<String as Serialize>⟧.data_of x s.human) (λ x. ⟦<u32 as Serialize>⟧.data_of x s.human) ⟦<String as Serialize>⟧.is_value
+              ⟦<u32 as Serialize>⟧.is_value (Only (⟦<String as Deserialize<'de, R>>⟧.reads s.human R.lends) ⟦<String as RoundTrip<'de, R>>⟧.same)
+              (Only (⟦<u32 as Deserialize<'de, R>>⟧.reads s.human R.lends) ⟦<u32 as RoundTrip<'de, R>>⟧.same)
+              (λ x8 h8. (string_only s (λ w. string_bytes w) (string_bytes x8))) (λ x9 h9. (unsigned_only s 4294967295 x9)) a13.entries fits.12.0))
+              (rows_cons s _ _ (λ j. Only (⟦<i128 as Deserialize<'de, R>>⟧.reads s.human R.lends) ⟦<i128 as RoundTrip<'de, R>>⟧.same j a14) _
+              (signed128_only s a14 fits.13) (rows_cons s _ _ (λ j. Only (⟦<() as Deserialize<'de, R>>⟧.reads s.human R.lends) ⟦<() as RoundTrip<'de, R>>⟧.same j
+              a15) _ (unit_only s) (rows_cons s _ _ (λ j. Only (⟦<Option<Spot> as Deserialize<'de, R>>⟧.reads s.human R.lends)
+              ⟦<Option<Spot> as RoundTrip<'de, R>>⟧.same j a16) _
+              (option_only s _ (⟦<Spot as Deserialize<'de, R>>⟧.reads s.human R.lends) ⟦<Spot as RoundTrip<'de, R>>⟧.same a16
+              (option_row s (λ x. ⟦<Spot as Serialize>⟧.data_of x s.human) ⟦<Spot as Serialize>⟧.is_value
+              (Only (⟦<Spot as Deserialize<'de, R>>⟧.reads s.human R.lends) ⟦<Spot as RoundTrip<'de, R>>⟧.same) (λ x11. spot_other.never_nil-law s x11)
+              (λ x10 h10. (spot_rounds.only-law R.row R.ReadSlice.own (given 0) R.Source (given 0) s x10 h10)) a16 fits.15)) (rows_none s))))))))))))))))))
+              (λ m q w r. variant_both names 2 _ _ _ m q r (λ c a b. content_row _ _ _ c a b.17
+              (λ ks i j. let x = item_only (⟦<u64 as Deserialize<'de, R>>⟧.reads s.human R.lends) ⟦<u64 as RoundTrip<'de, R>>⟧.same a1 b.0 _ _ _
+              (item_only (⟦<String as Deserialize<'de, R>>⟧.reads s.human R.lends) ⟦<String as RoundTrip<'de, R>>⟧.same a2 b.1 _ _ _
+              (item_only (⟦<i32 as Deserialize<'de, R>>⟧.reads s.human R.lends) ⟦<i32 as RoundTrip<'de, R>>⟧.same a3 b.2 _ _ _
+              (item_only (⟦<Option<u16> as Deserialize<'de, R>>⟧.reads s.human R.lends) ⟦<Option<u16> as RoundTrip<'de, R>>⟧.same a4 b.3 _ _ _
+              (item_only (⟦<bool as Deserialize<'de, R>>⟧.reads s.human R.lends) ⟦<bool as RoundTrip<'de, R>>⟧.same a5 b.4 _ _ _
+              (item_only (⟦<char as Deserialize<'de, R>>⟧.reads s.human R.lends) ⟦<char as RoundTrip<'de, R>>⟧.same a6 b.5 _ _ _
+              (item_only (⟦<F64Bits as Deserialize<'de, R>>⟧.reads s.human R.lends) ⟦<F64Bits as RoundTrip<'de, R>>⟧.same a7 b.6 _ _ _
+              (item_only (⟦<Vec<u16> as Deserialize<'de, R>>⟧.reads s.human R.lends) ⟦<Vec<u16> as RoundTrip<'de, R>>⟧.same a8 b.7 _ _ _
+              (item_only (⟦<[u16; 3] as Deserialize<'de, R>>⟧.reads s.human R.lends) ⟦<[u16; 3] as RoundTrip<'de, R>>⟧.same a9 b.8 _ _ _
+              (item_only (⟦<Spot as Deserialize<'de, R>>⟧.reads s.human R.lends) ⟦<Spot as RoundTrip<'de, R>>⟧.same a10 b.9 _ _ _
+              (item_only (⟦<(u8, String) as Deserialize<'de, R>>⟧.reads s.human R.lends) ⟦<(u8, String) as RoundTrip<'de, R>>⟧.same a11 b.10 _ _ _
+              (item_only (⟦<ByteBuf as Deserialize<'de, R>>⟧.reads s.human R.lends) ⟦<ByteBuf as RoundTrip<'de, R>>⟧.same a12 b.11 _ _ _
+              (item_only (⟦<BTreeMap<String, u32> as Deserialize<'de, R>>⟧.reads s.human R.lends) ⟦<BTreeMap<String, u32> as RoundTrip<'de, R>>⟧.same a13 b.12 _ _
+              _ (item_only (⟦<i128 as Deserialize<'de, R>>⟧.reads s.human R.lends) ⟦<i128 as RoundTrip<'de, R>>⟧.same a14 b.13 _ _ _
+              (item_only (⟦<() as Deserialize<'de, R>>⟧.reads s.human R.lends) ⟦<() as RoundTrip<'de, R>>⟧.same a15 b.14 _ _ _
+              (last_only (⟦<Option<Spot> as Deserialize<'de, R>>⟧.reads s.human R.lends) ⟦<Option<Spot> as RoundTrip<'de, R>>⟧.same a16 b.15))))))))))))))) ks i j
+              in (
+                b.0,
+                b.1,
+                b.2,
+                b.3,
+                b.4,
+                b.5,
+                b.6,
+                b.7,
+                b.8,
+                b.9,
+                b.10,
+                b.11,
+                b.12,
+                b.13,
+                b.14,
+                b.15,
+                b.16,
+                x.0,
+                x.1.0,
+                x.1.1.0,
+                x.1.1.1.0,
+                x.1.1.1.1.0,
+                x.1.1.1.1.1.0,
+                x.1.1.1.1.1.1.0,
+                x.1.1.1.1.1.1.1.0,
+                x.1.1.1.1.1.1.1.1.0,
+                x.1.1.1.1.1.1.1.1.1.0,
+                x.1.1.1.1.1.1.1.1.1.1.0,
+                x.1.1.1.1.1.1.1.1.1.1.1.0,
+                x.1.1.1.1.1.1.1.1.1.1.1.1.0,
+                x.1.1.1.1.1.1.1.1.1.1.1.1.1.0,
+                x.1.1.1.1.1.1.1.1.1.1.1.1.1.1.0,
+                x.1.1.1.1.1.1.1.1.1.1.1.1.1.1.1,
+              ))))
+        ] };
+}
+
+impl NeverNil for Line {
+    ghost never_nil = { λ s. elim [
+      | the_line.Empty ↦ bare_other s (codes "Empty")
+      | the_line.Short a1 a2 a3 a4 a5 a6 a7 a8 a9 ↦ tuple_variant_other s
+          (codes "Short") _
+      | the_line.Long a1 a2 a3 a4 a5 a6 a7 a8 a9 a10 a11 a12 a13 a14 a15 a16 ↦ tuple_variant_other s (codes "Long") _
+    ] };
+}
+
+impl<'de, R: ReadSlice<'de>> EndsInside<'de, R> for Line {
+    ghost use Rattle.test_mixed.specs.contracts.mixed.derived.SpotEndsInside.TheImpl.Laws as spot_ends;
+    ghost use mir.Syntax.{given};
+
+    ghost ends_inside = { enum_inside _ _ (
+      no_content_inside,
+      (
+        with_content_inside _ (tuple_inside (part_of ⟦<u8 as Deserialize<'de, R>>⟧.reads ⟦<u8 as Deserialize<'de, R>>⟧.refuses
+            ∷ (part_of ⟦<String as Deserialize<'de, R>>⟧.reads ⟦<String as Deserialize<'de, R>>⟧.refuses
+            ∷ (part_of ⟦<i16 as Deserialize<'de, R>>⟧.reads ⟦<i16 as Deserialize<'de, R>>⟧.refuses
+            ∷ (part_of ⟦<Option<u16> as Deserialize<'de, R>>⟧.reads ⟦<Option<u16> as Deserialize<'de, R>>⟧.refuses
+            ∷ (part_of ⟦<bool as Deserialize<'de, R>>⟧.reads ⟦<bool as Deserialize<'de, R>>⟧.refuses
+            ∷ (part_of ⟦<Vec<u16> as Deserialize<'de, R>>⟧.reads ⟦<Vec<u16> as Deserialize<'de, R>>⟧.refuses
+            ∷ (part_of ⟦<char as Deserialize<'de, R>>⟧.reads ⟦<char as Deserialize<'de, R>>⟧.refuses
+            ∷ (part_of ⟦<Spot as Deserialize<'de, R>>⟧.reads ⟦<Spot as Deserialize<'de, R>>⟧.refuses
+            ∷ (part_of ⟦<u32 as Deserialize<'de, R>>⟧.reads ⟦<u32 as Deserialize<'de, R>>⟧.refuses ∷ []))))))))) (
+              number_inside,
+              (
+                string_inside,
+                (
+                  number_inside,
+                  (
+                    (option_inside ⟦<u16 as Deserialize<'de, R>>⟧.refuses number_inside),
+                    (
+                      kind_inside,
+                      (
+                        (each_inside ⟦<u16 as Deserialize<'de, R>>⟧.reads ⟦<u16 as Deserialize<'de, R>>⟧.refuses number_inside),
+                        (char_inside, ((spot_ends.ends_inside-law R.row R.ReadSlice.own (given 0) R.Source (given 0)), (number_inside, tt))),
+                      ),
+                    ),
+                  ),
+                ),
+              ),
+            )),
+        (
+          with_content_inside _ (tuple_inside (part_of ⟦<u64 as Deserialize<'de, R>>⟧.reads ⟦<u64 as Deserialize<'de, R>>⟧.refuses
+              ∷ (part_of ⟦<String as Deserialize<'de, R>>⟧.reads ⟦<String as Deserialize<'de, R>>⟧.refuses
+              ∷ (part_of ⟦<i32 as Deserialize<'de, R>>⟧.reads ⟦<i32 as Deserialize<'de, R>>⟧.refuses
+              ∷ (part_of ⟦<Option<u16> as Deserialize<'de, R>>⟧.reads ⟦<Option<u16> as Deserialize<'de, R>>⟧.refuses
+              ∷ (part_of ⟦<bool as Deserialize<'de, R>>⟧.reads ⟦<bool as Deserialize<'de, R>>⟧.refuses
+              ∷ (part_of ⟦<char as Deserialize<'de, R>>⟧.reads ⟦<char as Deserialize<'de, R>>⟧.refuses
+              ∷ (part_of ⟦<F64Bits as Deserialize<'de, R>>⟧.reads ⟦<F64Bits as Deserialize<'de, R>>⟧.refuses
+              ∷ (part_of ⟦<Vec<u16> as Deserialize<'de, R>>⟧.reads ⟦<Vec<u16> as Deserialize<'de, R>>⟧.refuses
+              ∷ (part_of ⟦<[u16; 3] as Deserialize<'de, R>>⟧.reads ⟦<[u16; 3] as Deserialize<'de, R>>⟧.refuses
+              ∷ (part_of ⟦<Spot as Deserialize<'de, R>>⟧.reads ⟦<Spot as Deserialize<'de, R>>⟧.refuses
+              ∷ (part_of ⟦<(u8, String) as Deserialize<'de, R>>⟧.reads ⟦<(u8, String) as Deserialize<'de, R>>⟧.refuses
+              ∷ (part_of ⟦<ByteBuf as Deserialize<'de, R>>⟧.reads ⟦<ByteBuf as Deserialize<'de, R>>⟧.refuses
+              ∷ (part_of ⟦<BTreeMap<String, u32> as Deserialize<'de, R>>⟧.reads ⟦<BTreeMap<String, u32> as Deserialize<'de, R>>⟧.refuses
+              ∷ (part_of ⟦<i128 as Deserialize<'de, R>>⟧.reads ⟦<i128 as Deserialize<'de, R>>⟧.refuses
+              ∷ (part_of ⟦<() as Deserialize<'de, R>>⟧.reads ⟦<() as Deserialize<'de, R>>⟧.refuses
+              ∷ (part_of ⟦<Option<Spot> as Deserialize<'de, R>>⟧.reads ⟦<Option<Spot> as Deserialize<'de, R>>⟧.refuses ∷ [])))))))))))))))) (
+                number_inside,
+                (
+                  string_inside,
+                  (
+                    number_inside,
+                    (
+                      (option_inside ⟦<u16 as Deserialize<'de, R>>⟧.refuses number_inside),
+                      (
+                        kind_inside,
+                        (
+                          char_inside,
+                          (
+                            kind_inside,
+                            (
+                              (each_inside ⟦<u16 as Deserialize<'de, R>>⟧.reads ⟦<u16 as Deserialize<'de, R>>⟧.refuses number_inside),
+                              (
+                                (array_inside _ 3 ⟦<u16 as Deserialize<'de, R>>⟧.reads ⟦<u16 as Deserialize<'de, R>>⟧.refuses number_inside),
+                                (
+                                  (spot_ends.ends_inside-law R.row R.ReadSlice.own (given 0) R.Source (given 0)),
+                                  (
+                                    (tuple_inside (part_of ⟦<u8 as Deserialize<'de, R>>⟧.reads ⟦<u8 as Deserialize<'de, R>>⟧.refuses
+                                        ∷ (part_of ⟦<String as Deserialize<'de, R>>⟧.reads ⟦<String as Deserialize<'de, R>>⟧.refuses ∷ [])) (number_inside, (string_inside, tt))),
+                                    (
+                                      buffer_inside,
+                                      (
+                                        (map_inside ⟦<String as Deserialize<'de, R>>⟧.reads ⟦<u32 as Deserialize<'de, R>>⟧.reads ⟦<String as Deserialize<'de, R>>⟧.refuses
+                                            ⟦<u32 as Deserialize<'de, R>>⟧.refuses string_inside number_inside),
+                                        (
+                                          signed128_inside,
+                                          (
+                                            nil_inside,
+                                            (
+                                              (option_inside ⟦<Spot as Deserialize<'de, R>>⟧.refuses
+                                                  (spot_ends.ends_inside-law R.row R.ReadSlice.own (given 0) R.Source (given 0))),
+                                              tt,
+                                            ),
+                                          ),
+                                        ),
+                                      ),
+                                    ),
+                                  ),
+                                ),
+                              ),
+                            ),
+                          ),
+                        ),
+                      ),
+                    ),
+                  ),
+                ),
+              )),
+          tt,
+        ),
+      ),
+    ) };
+}
+
+// 9 values, the first 8 of which are written before the others.
+#[derive(Drop)]
+struct NineParts<'r, E1, E2, E3, E4, E5, E6, E7, E8, E9> {
+    first: &'r E1,
+    second: &'r E2,
+    third: &'r E3,
+    fourth: &'r E4,
+    fifth: &'r E5,
+    sixth: &'r E6,
+    seventh: &'r E7,
+    eighth: &'r E8,
+    ninth: &'r E9,
+}
+
+impl<
+    'r,
+    E1: Serialize,
+    E2: Serialize,
+    E3: Serialize,
+    E4: Serialize,
+    E5: Serialize,
+    E6: Serialize,
+    E7: Serialize,
+    E8: Serialize,
+    E9: Serialize,
+> Elements for NineParts<'r, E1, E2, E3, E4, E5, E6, E7, E8, E9> {
+    ghost count = { 9 };
+
+    ghost parts_of = { λ v human. E1.data_of v.first.now human ∷ E2.data_of v.second.now human ∷ E3.data_of v.third.now human
+        ∷ E4.data_of v.fourth.now human ∷ E5.data_of v.fifth.now human ∷ E6.data_of v.sixth.now human ∷ E7.data_of v.seventh.now human
+        ∷ E8.data_of v.eighth.now human ∷ E9.data_of v.ninth.now human ∷ [] };
+
+    ghost are_values = { λ v. E1.is_value v.first.now × E2.is_value v.second.now × E3.is_value v.third.now × E4.is_value v.fourth.now
+        × E5.is_value v.fifth.now × E6.is_value v.sixth.now × E7.is_value v.seventh.now × E8.is_value v.eighth.now × E9.is_value v.ninth.now };
+
+    ghost refusals = { λ v. E1.refuses v.first.now ∷ E2.refuses v.second.now ∷ E3.refuses v.third.now ∷ E4.refuses v.fourth.now ∷ E5.refuses v.fifth.now
+        ∷ E6.refuses v.sixth.now ∷ E7.refuses v.seventh.now ∷ E8.refuses v.eighth.now ∷ E9.refuses v.ninth.now ∷ [] };
+
+    ghost takes_memory = { λ s. one_of (E1.takes_memory s
+        ∷ (E2.takes_memory s ∷ (E3.takes_memory s ∷ (E4.takes_memory s
+        ∷ (E5.takes_memory s ∷ (E6.takes_memory s ∷ (E7.takes_memory s ∷ (E8.takes_memory s ∷ (E9.takes_memory s ∷ []))))))))) };
+
+    ghost pieces = { λ v s.
+        value_of s (E1.data_of v.first.now s.human) (E1.marks v.first.now s) ∷
+        value_of s (E2.data_of v.second.now s.human) (E2.marks v.second.now s) ∷
+        value_of s (E3.data_of v.third.now s.human) (E3.marks v.third.now s) ∷
+        value_of s (E4.data_of v.fourth.now s.human) (E4.marks v.fourth.now s) ∷
+        value_of s (E5.data_of v.fifth.now s.human) (E5.marks v.fifth.now s) ∷
+        value_of s (E6.data_of v.sixth.now s.human) (E6.marks v.sixth.now s) ∷
+        value_of s (E7.data_of v.seventh.now s.human) (E7.marks v.seventh.now s) ∷
+        value_of s (E8.data_of v.eighth.now s.human) (E8.marks v.eighth.now s) ∷
+        value_of s (E9.data_of v.ninth.now s.human) (E9.marks v.ninth.now s) ∷ [] };
+
+    ghost counted = { λ v human. refl };
+
+    #[inline(always)]
+    fn len(&self) -> usize {
+        9
+    }
+
+    #[inline(always)]
+    fn write<W: Sink, C: SerializerConfig>(
+        &self,
+        se: &mut Serializer<W, C>,
+    ) -> Result<(), rmp_encode::Error> {
+        let front = rmp_encode::Eight {
+            first: self.first,
+            second: self.second,
+            third: self.third,
+            fourth: self.fourth,
+            fifth: self.fifth,
+            sixth: self.sixth,
+            seventh: self.seventh,
+            eighth: self.eighth,
+        };
+        let back = rmp_encode::One { first: self.ninth };
+        front.write(se)?;
+        back.write(se)
+    }
+
+    #[inline(always)]
+    fn write_fields<W: Sink, C: SerializerConfig>(
+        &self,
+        names: &[&'static str],
+        se: &mut Serializer<W, C>,
+    ) -> Result<(), rmp_encode::Error> {
+        let front = rmp_encode::Eight {
+            first: self.first,
+            second: self.second,
+            third: self.third,
+            fourth: self.fourth,
+            fifth: self.fifth,
+            sixth: self.sixth,
+            seventh: self.seventh,
+            eighth: self.eighth,
+        };
+        let back = rmp_encode::One { first: self.ninth };
+        front.write_fields(&names[..8], se)?;
+        back.write_fields(&names[8..], se)
+    }
 }
 
 // 16 values, the first 8 of which are written before the others.
