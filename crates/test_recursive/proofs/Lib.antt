@@ -9,3 +9,4 @@ pub mod LinkLevels
 pub mod RecursionFields
 pub mod NodeLevels
 pub mod CellLevels
+pub mod FormulaLevels

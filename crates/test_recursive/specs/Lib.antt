@@ -18,3 +18,5 @@ pub mod NodeLevels
 pub mod CellLevels
 pub mod NodeRounds
 pub mod CellRounds
+pub mod FormulaLevels
+pub mod FormulaRounds
