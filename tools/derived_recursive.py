@@ -1,6 +1,6 @@
 """What derive.py writes for a recursive type.
 
-Such a type has no parameters. An enum's variants hold nothing or one value: a leaf, or the type again, in a `Vec`, a `Box` or an
+Such a type has no parameters. An enum's variants hold nothing, or values without names: each a leaf, or the type again, in a `Vec`, a `Box` or an
 `Option<Box<_>>`. A struct's fields have names, and each is a leaf, or the type again, in a `Vec` or an `Option<Box<_>>`. What is known of the
 type is said level by level, so it gets a file of definitions and laws, specs/TLevels.antt, and one of its round trip, specs/TRounds.antt. What
 such types share are Recursion.antt and RecursionRounds.antt, and, of structs, RecursionFields.antt.
@@ -69,8 +69,8 @@ def refusal(own: Own) -> Optional[str]:
     if of.shape:
         return refusal_of_fields(of, again)
     for shape in of.variants:
-        if shape.kind not in ("unit", "newtype"):
-            return f"{shape.name} has fields: a variant of such a type holds one value, or none"
+        if shape.kind == "named":
+            return f"{shape.name} has fields with names: a variant of such a type holds values without names, or nothing"
         for field in shape.fields:
             if field.kind not in [*LEAVES, *again]:
                 return f"{shape.name} holds a {field.kind}: a variant of such a type holds {', '.join([*LEAVES, *again[:-1]])} or {again[-1]}"
@@ -113,7 +113,8 @@ def with_words(table: dict[str, str], module: Module, wanted: list[Own]) -> dict
     more = WORDS | {f"{module.name}.specs.Recursion": "Row Boxed"} if levels else {}
     for level in levels:
         name, low = level.name, level.low
-        more[f"{module.name}.specs.{name}Levels"] = f"Is{name} {low}_data {low}_fits"
+        rows = " ".join(f"{name}Row{shape.name}" for shape, _ in level.rows())
+        more[f"{module.name}.specs.{name}Levels"] = f"Is{name} {low}_data {low}_fits {rows}"
         more[f"{module.name}.specs.{name}Rounds"] = f"Same{name} {low}_some {low}_round {low}_only {low}_other"
     for of, words in more.items():
         found[of] = f"{found.get(of, '')} {words}"

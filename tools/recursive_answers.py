@@ -5,45 +5,90 @@ import dataclasses
 from typing import Optional
 
 from declarations import Shape
-from recursive_holder_answers import after_held, answer, answers_file, held_answers, measures_file
-from recursive_levels import Again, Level, Part, brought_in, tables
+from recursive_holder_answers import answer, answers_file, held_answers, measures_file
+from recursive_holders import values_in
+from recursive_levels import Again, Level, Part, after_held, brought_in, called, has_option, held_in, inside, named_in, put_in, tables
 from shared import numbered
+
+
+def no_byte(part: Optional[Part]) -> str:
+    """That a variant isn't written as a byte."""
+    return "refl" if part is None else f"{'tuple_variant' if part.held else 'newtype'}_no_byte _ _"
 
 
 def proofs_file(level: Level) -> str:
     """That no value is a byte."""
     name, low = level.name, level.low
-    lines = "".join(f"level_no_byte {level.made(shape, part)} = {'newtype_no_byte _ _' if part else 'refl'}\n" for shape, part in level.variants)
+    lines = "".join(f"level_no_byte {level.made(shape, named_in(part))} = {no_byte(part)}\n" for shape, part in level.variants)
     text = f"""
 level_no_byte : (x : {name}-F (Option Data)) → byte_of ({low}_level x) ≡ None
 {lines}
 pub {low}_no_byte : (v : {name}) → byte_of ({low}_data v) ≡ None
 {low}_no_byte v = ap byte_of ({low}_is v) ∙ level_no_byte _
 """
-    table = tables(level) | {"rmp_encode.specs.Trees": "byte_of", "rmp_encode.proofs.Variants": "newtype_no_byte"}
+    table = tables(level) | {"rmp_encode.specs.Trees": "byte_of", "rmp_encode.proofs.Variants": "newtype_no_byte tuple_variant_no_byte"}
     return f"-- No {name} is written as a byte. Written by tools/derive.py.\n{brought_in(text, table)}{text}"
 
 
 def writing_answers(level: Level, place: str) -> str:
-    """That what is written is known to be a value."""
-    name, low = level.name, level.low
+    """That what is written is known to be a value, and of several values that they are written one after another."""
     text, calls = "", {}
     for shape, part in level.variants:
+        if part and part.held:
+            text += row_writing(level, shape, part, "row" in calls)
+            calls["row"] = True
+            continue
         word = "serialize_newtype_variant" if part else "serialize_unit_variant"
-        first = not calls
-        call = f"c.{word}" if word not in calls else f"c.{word}-in-{shape.name}"
+        text += value_answer(level, shape, part, f"c.{word}" if word not in calls else f"c.{word}-in-{shape.name}")
         calls[word] = True
-        goal = f"returns-in-{shape.name}-clause-value"
-        made = level.made(shape, part, "a").strip("()")
-        if part is None:
-            is_ = f"ap out-{name} (c.in-{shape.name}.is ∙ sym rolls-{shape.name}) ∙ out-roll-{name} {made}"
-            term = f"let is = {is_} in\n    ok_holds {call}.result _ ({low}_fits_in c.args.self.now {made} is tt)"
-        else:
-            fits = part.known if isinstance(part, Again) else "h"
-            term = (f"let a = c.in-{shape.name}.value in\n    let is = ap out-{name} (c.in-{shape.name}.is ∙ sym (rolls-{shape.name} a)) ∙ out-roll-{name} ({made}) in\n"
-                    f"    on_ok {call}.result _ _ (λ h. {low}_fits_in c.args.self.now ({made}) is ({fits})) {call}.ensures.value")
-        text += f"\npub {goal} : goal.{goal}\n{goal} g t c =\n    {term}\n"
     return answers_file(level, place, text)
+
+
+def value_answer(level: Level, shape: Shape, part: Optional[Part], call: str) -> str:
+    """That a variant that is written is known to be a value: one of nothing, or of one value."""
+    name, low = level.name, level.low
+    goal, made = f"returns-in-{shape.name}-clause-value", level.made(shape, inside(part)).strip("()")
+    if part is None:
+        is_ = f"ap out-{name} (c.in-{shape.name}.is ∙ sym rolls-{shape.name}) ∙ out-roll-{name} {made}"
+        term = f"let is = {is_} in\n    ok_holds {call}.result _ ({low}_fits_in c.args.self.now {made} is tt)"
+    else:
+        fits = part.known if isinstance(part, Again) else "h"
+        term = (f"let a = c.in-{shape.name}.value in\n    let is = ap out-{name} (c.in-{shape.name}.is ∙ sym (rolls-{shape.name} a)) ∙ out-roll-{name} ({made}) in\n"
+                f"    on_ok {call}.result _ _ (λ h. {low}_fits_in c.args.self.now ({made}) is ({fits})) {call}.ensures.value")
+    return f"\npub {goal} : goal.{goal}\n{goal} g t c =\n    {term}\n"
+
+
+def row_writing(level: Level, shape: Shape, part: Part, is_later: bool) -> str:
+    """That several values are written one after another, and are known to be values. The calls of a later variant have its name in goals."""
+    name, low, count = level.name, level.low, len(part.held)
+    values = [f"c.in-{shape.name}.{value}" for value in values_in(part)]
+    calls = [numbered(f"serialize_element-in-{shape.name}", at) for at in range(count)]
+    start = f"in_err-parts-in-{shape.name}"
+
+    later = f"-in-{shape.name}" * is_later
+    made = level.made(shape, values)
+    is_ = f"(ap out-{name} (c.in-{shape.name}.is ∙ sym (rolls-{shape.name} {' '.join(values)})) ∙ out-roll-{name} {made})"
+    data = f"{low}_is_at c.args.self.now {made} {is_}" + f" ∙ {low}_at_{shape.name} {' '.join(values)}" * has_option(part)
+
+    def refused(fact: str) -> str:
+        error = f"c.from_residual{fact}"
+        return f"let p = err_from_is_err_and {error}.result {error}.ensures.1 in\n    rw (p.1, p.2, {data}) "
+
+    written = f"(c.in_ok-parts-in-{shape.name}.ensures.opened _ refl)"
+    unopened = f"unopened g.W.Sink _ _ _ _ c.args.se.now _ _ _ _ c.{start}.was c.serialize_tuple_variant{later}.follows.holds-at-none refl"
+    terms = {f"returns-{start}-clause-writes": refused(f"-{start}" * is_later) + f"(part_memory g.W.Sink ({unopened}))"}
+    for call in calls:
+        rests = f"rests_at g.W.Sink (search rules)\n    (c.in_err-{call}.ensures.writes c.args.se.now _ _ {written})"
+        terms[f"returns-in_err-{call}-clause-writes"] = refused(f"-in_err-{call}") + f"(part_memory g.W.Sink ({rests}))"
+        written = f"(c.in_ok-{call}.ensures.writes c.args.se.now _ _ {written})"
+    end, last = f"c.end{later}", f"returns-in_ok-{calls[-1]}-clause"
+    terms[f"{last}-writes"] = f"rw ({data}) (part_memory g.W.Sink (rests_at g.W.Sink (search rules) ({end}.ensures.writes c.args.se.now _\n    {written})))"
+    fits = [
+        called(put_in(held.known, {"h": f"c.in_ok-{call}.ensures.value"}), value) if isinstance(held, Again) else f"c.in_ok-{call}.ensures.value"
+        for held, call, value in zip(part.held, calls, values)
+    ]
+    terms[f"{last}-value"] = f"ok_holds {end}.result _ ({low}_fits_in c.args.self.now {made} {is_}\n    ({', '.join(fits)}))"
+    return "".join(f"\npub {goal} : goal.{goal}\n{goal} g t c =\n    {term}\n" for goal, term in terms.items())
 
 
 @dataclasses.dataclass
@@ -76,7 +121,7 @@ class Arm:
 
     def rolls(self) -> str:
         """That the value made of it is that level."""
-        rolls = f"(rolls-{self.shape.name} _)" if self.part else f"rolls-{self.shape.name}"
+        rolls = f"(rolls-{self.shape.name}{' _' * len(held_in(self.part))})" if self.part else f"rolls-{self.shape.name}"
         return f"ap out-{self.level.name} (sym {rolls}) ∙ out-roll-{self.level.name} _"
 
 
@@ -112,7 +157,8 @@ def variant_answers(arm: Arm) -> str:
     level, part = arm.level, arm.part
     name, low = level.name, level.low
     content, done, back, given, refused = content_of(arm)
-    held = after_held(part, f"c.in-Ok-{arm.call}.value") if part else ""
+    parts = zip(values_in(part), held_in(part)) if part else []
+    held = "".join(after_held(of, f"c.in-Ok-{arm.call}.{value}") for value, of in parts)
     ok = f"""variant_done g.R.Source {low}_names ({name}Case Is{name}) Is{name} _ _ _ {content} {arm.at} _ _ ({low}_made _)
           {done}
           {given} (search rules)"""

@@ -5,8 +5,8 @@ from typing import Optional
 
 from declarations import Shape
 import recursive_holders
-from recursive_holders import read_by
-from recursive_levels import Level, Part
+from recursive_holders import read_by, values_in
+from recursive_levels import Level, Part, held_in
 from shared import texts
 
 
@@ -17,7 +17,12 @@ def arm(level: Level, at: int, shape: Shape, part: Optional[Part]) -> list[str]:
     if part is None:
         return [f"Ok(({place}, variant)) => match variant.unit_variant() {{", f"Ok(()) => Ok({made}),", "Err(e) => Err(e),", "},"]
     first, *others = read_by(level, part)
-    return [f"Ok(({place}, variant)) => match variant.newtype_variant_with({first}", *others, ") {", f"Ok(value) => Ok({made}(value)),", "Err(e) => Err(e),", "},"]
+    names = ", ".join(values_in(part))
+    given = f"({names})" if part.held else names
+    return [
+        f"Ok(({place}, variant)) => match variant.newtype_variant_with({first}", *others, ") {", f"Ok({given}) => Ok({made}({names})),", "Err(e) => Err(e),",
+        "},",
+    ]
 
 
 def readers(level: Level) -> list[str]:
@@ -27,15 +32,28 @@ def readers(level: Level) -> list[str]:
     return recursive_holders.readers(level, "ReadContent", body)
 
 
-def written(level: Level, at: int, shape: Shape, part: Optional[Part]) -> str:
+def written(level: Level, at: int, shape: Shape, part: Optional[Part]) -> list[str]:
     """How a variant is written."""
     start, name = f'("{level.name}", {at}, "{shape.key}"', f"{level.name}::{shape.name}"
-    return f"{name}(value) => se.serialize_newtype_variant{start}, value)," if part else f"{name} => se.serialize_unit_variant{start}),"
+    if part is None:
+        return [f"{name} => se.serialize_unit_variant{start}),"]
+    names = values_in(part)
+    if not part.held:
+        return [f"{name}({names[0]}) => se.serialize_newtype_variant{start}, {names[0]}),"]
+    return [
+        f"{name}({', '.join(names)}) => {{", f"let mut parts = se.serialize_tuple_variant{start}, {len(names)})?;",
+        *[f"parts.serialize_element({value})?;" for value in names], "parts.end()", "}",
+    ]
 
 
 def writing(level: Level) -> list[str]:
     """The implementation of `Serialize`."""
-    arms = [written(level, at, shape, part) for at, (shape, part) in enumerate(level.variants)]
-    no_byte = [f"{level.name}::{shape.name}{'(_)' if part else ''} => None," for shape, part in level.variants]
+    arms = [line for at, (shape, part) in enumerate(level.variants) for line in written(level, at, shape, part)]
+    no_byte = [f"{level.name}::{shape.name}{any_of(part)} => None," for shape, part in level.variants]
     lower = any(part is None for _, part in level.variants)
     return recursive_holders.writing(level, ["match self {", *arms, "}"], ["match self {", *no_byte, "}"], lower)
+
+
+def any_of(part: Optional[Part]) -> str:
+    """A pattern of a variant's values, whatever they are."""
+    return f"({', '.join('_' for _ in held_in(part))})" if part else ""

@@ -1,9 +1,9 @@
 """The proofs of the code that derive.py writes for recursive enums and structs alike: recursive_holders.py has that code."""
 from __future__ import annotations
 
-from derived_proofs import SIGNED
 from recursive_holders import holder
 from recursive_levels import Again, Level, Part, brought_in, tables
+from recursive_row_answers import row_answers
 
 
 def goals_of(level: Level, place: str) -> str:
@@ -14,12 +14,15 @@ def answers_file(level: Level, place: str, text: str) -> str:
     name, low, declared = level.name, level.low, level.declared
     table = tables(level)
     table["std.proofs.Common"] += " max rules arith false length Result Ok Err"
+    table["rmp_wire.specs.Msg"] += " no_items item"
     table |= {
         "std.proofs.lemmas.Result": "err_from_is_err_and",
         "std.proofs.lemmas.Int": "to_z-of_z",
+        "rmp_encode.proofs.Going": "unopened",
+        "rmp_encode.proofs.Parts": "rests_at part_memory",
         "rmp_decode.specs.Seq": "IsOpen",
         "rmp_decode.proofs.Laws": "lawful_ok lawful_err",
-        "rmp_decode.proofs.Seqs": "values_start values_step via Values",
+        "rmp_decode.proofs.Seqs": "values_start values_step via Values run_start run_step seq_unopened seq_take seq_over seq_done and_then_count no_more_count",
         "rmp_decode.proofs.Variants": "variant_ok variant_err variant_unopened readable given_read given_refused",
         f"{declared}.TheVariants": " ".join(f"rolls-{shape.name}" for shape, _ in level.variants),
         f"{declared}.TheViews": f"out-roll-{name}" if level.fields else table[f"{declared}.TheViews"],
@@ -32,18 +35,13 @@ def answers_file(level: Level, place: str, text: str) -> str:
         f"{level.crate}.proofs.{name}Levels": " ".join([f"{name}Held0", f"{low}_whole", *(
             word for at in range(len(level.fields)) for word in (f"{name}Slot{at}", f"{low}_tree{at}", f"{low}_step{at}", f"{low}_gap{at}", f"{low}_lacks{at}"))]),
         f"{level.crate}.proofs.Recursion": "on_ok ok_holds variant_done vec_row vec_done row_unopened row_refused row_unkept part_room part_steps steps_at other_steps"
-        " content_room_falls lent_law item_taken item_refused option_law some_if some_if_err none_left never_none",
+        " content_room_falls row_short lawful_at lent_law item_taken item_refused option_law some_if some_if_err none_left never_none",
     }
     return brought_in(text, table) + goals_of(level, place) + text
 
 
 def answer(goal: str, term: str) -> str:
     return f"\npub {goal} : goal.{goal}\n{goal} g t c ={term}\n"
-
-
-def after_held(part: Part, value: str) -> str:
-    """What a term begins with where a part's value was held, by a variant or a field: a number with a sign is the same then."""
-    return f"rw (to_z-of_z {SIGNED[part.kind]} {value} (search rules)) " if part.kind in SIGNED else ""
 
 
 def room_of(level: Level, run: str) -> str:
@@ -122,7 +120,7 @@ def option_answers(level: Level, part: Again) -> str:
 def held_answers(level: Level) -> str:
     """How the type again is read, in all that it is in."""
     answers = {"list": list_answers, "box": box_answers, "option": option_answers}
-    return "".join(answers[part.word](level, part) for part in level.holders())
+    return "".join(row_answers(level, part) if part.held else answers[part.word](level, part) for part in level.holders())
 
 
 # ---- that the reads end
@@ -139,20 +137,30 @@ decreases-{loop} g l = {left}
 """
 
 
+def closures(call: str, parts: list[Part], least: int) -> dict[str, int]:
+    """The closures of a call that read these parts and call the type's functions, each with what it takes beyond the room."""
+    return {call + f"+{at + 1}" * (at > 0): least for at, part in enumerate(parts) if not part.is_leaf}
+
+
 def measures_file(level: Level, place: str, about: str, call: str, parts: list[Part], text: str = "") -> str:
     """What falls from each read to the next: the room, or, of a struct, the steps, and then one after another of what reads the same message.
 
     The closures of `call` read these parts, and `text` says what holds in loops."""
     name, fn = level.name, f"read_{level.low}"
-    more = {fn: 0} | {f"{fn}-{call}" + f"+{at + 1}" * (at > 0): 5 for at, part in enumerate(parts) if not part.is_leaf}
+    # values in a row take two more, as what reads each is called from what reads the row
+    each = 8 if any(part.held for part in level.holders()) else 6
+    more = {fn: 0} | closures(f"{fn}-{call}", parts, each - 1)
     for part in level.holders():
         read = holder(level, part)
+        if part.held:
+            more |= {read: 6} | closures(f"{read}-next_element_with", [held for held in part.held if held.is_lent or not held.is_leaf], 5)
+            continue
         more |= {read: 4, f"{read}-deserialize_option_with": 3} if part.word == "option" else {read: 2}
         if part.word == "list":
             more[f"{read}-next_element_with"] = 1
             text += loop_measures(f"{read}-loop-items", f"Values g.R.Source Is{name} l.initial.seq l.seq l.items.items", "l.seq.left")
     whole = "steps_at l.de.now" if level.fields else "max 1 l.de.now.room"
-    lines = "".join(f"\nabbrev pub decreases-{of} : goal.decreases-{of}\ndecreases-{of} g l = 6 * {whole}{f' + {n}' * (n > 0)}\n" for of, n in more.items())
+    lines = "".join(f"\nabbrev pub decreases-{of} : goal.decreases-{of}\ndecreases-{of} g l = {each} * {whole}{f' + {n}' * (n > 0)}\n" for of, n in more.items())
     text = f"\n-- {about}{lines}{text}"
     table = {
         "std.proofs.Common": "◌+◌ ◌*◌ max",

@@ -3,11 +3,22 @@ leaves are read, and its implementations."""
 from __future__ import annotations
 
 from recursive_levels import BOX, Again, Level, Part
+from shared import tuple_of
 
 LAW = "ensures law {{ Lawful R.Source {reads} de.old de.new result }}"
 READER = "<R: Source, C: SerializerConfig{more}>"
 TAKES = "(de: &mut Deserializer<R, C>) -> Result<{kind}, rmp_decode::Error>"
 READ = {"list": "a list of them", "box": "a boxed one", "option": "nil as none, or else a boxed one"}
+IN_TURN = "the values of a variant, one after another"
+
+
+# What the values of a variant are called.
+VALUES = "first second third fourth fifth sixth seventh eighth".split()
+
+
+def values_in(part: Part) -> list[str]:
+    """What the values of a variant are called."""
+    return VALUES[: len(part.held)] if part.held else ["value"]
 
 
 def in_code(part: Part, name: str = "") -> str:
@@ -49,8 +60,23 @@ def read_by(level: Level, part: Part) -> list[str]:
     return closure(level, part, f"P::{part.call()}::<C>(de)" if part.is_leaf else f"{holder(level, part)}::<R, C, P>(de)")
 
 
+def in_turn(level: Level, part: Again) -> list[str]:
+    """How several values are read, one after another."""
+    lines = ["let mut seq = match de.deserialize_seq() {", "Ok(seq) => seq,", "Err(e) => return Err(e),", "};"]
+    names = values_in(part)
+    for name, value in zip(names, part.held):
+        first, *others = read_by(level, value)
+        lines += [
+            f"let {name} = match seq.next_element_with({first}", *others, ") {", "Ok(Some(value)) => value,",
+            "Ok(None) => return Err(rmp_decode::Error::Syntax(rmp_decode::Text::InvalidLength)),", "Err(e) => return Err(e),", "};",
+        ]
+    return [*lines, "match seq.end() {", f"Ok(()) => Ok({tuple_of(names)}),", "Err(e) => Err(e),", "}"]
+
+
 def held(level: Level, part: Again) -> list[str]:
     """How the type again is read."""
+    if part.held:
+        return in_turn(level, part)
     again = f"read_{level.low}::<R, C, P>(de)"
     if part.word == "list":
         item = closure(level, Part(level.name, level.name, "{reads} {k} {a}", "", ""), again)
@@ -126,7 +152,7 @@ def readers(level: Level, bound: str, body: list[str]) -> list[str]:
     cycle, more = f"{low}_reading", f", P: {bound}<R>{bounds(level)}"
     lines = [f"// Reads a `{name}`.", *function(f"read_{low}", name, f"Is{name}", body, more, cycle)]
     for part in level.holders():
-        lines += [f"// Reads {READ[part.word]}.", *function(holder(level, part), part.kind, read_as(level, part), held(level, part), more, cycle)]
+        lines += [f"// Reads {READ.get(part.word, IN_TURN)}.", *function(holder(level, part), part.kind, read_as(level, part), held(level, part), more, cycle)]
     return lines
 
 

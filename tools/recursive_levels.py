@@ -2,11 +2,15 @@
 from __future__ import annotations
 
 import dataclasses
+import itertools
 import re
+from collections.abc import Iterable, Iterator
 from typing import Optional
 
 from declarations import Declared, Shape
-from derived_terms import codes, underscored
+from derived_proofs import SIGNED
+from derived_terms import chained, codes, underscored
+from shared import bracketed, tuple_of
 
 
 @dataclasses.dataclass(frozen=True)
@@ -30,6 +34,10 @@ class Part:
     of_key: str = ""
     # whether only a source that lends reads it
     is_lent: bool = False
+    # what it is called in the name of the function that reads it
+    word: str = ""
+    # the values of a variant that holds several, of which this is the tuple
+    held: tuple[Part, ...] = ()
 
     @property
     def is_leaf(self) -> bool:
@@ -37,16 +45,15 @@ class Part:
 
     def call(self) -> str:
         """The function that reads a leaf."""
-        return f"read_{self.kind.lower()}"
+        return f"read_{self.word or self.kind.lower()}"
 
 
 @dataclasses.dataclass(frozen=True)
 class Again(Part):
     """The type {name} again, in a list, a box or an option, whose functions begin with {low}."""
 
-    # the word for what it is in
-    word: str = ""
-    # how its values are told apart where a level is mapped, and for each that P holds of its parts, and that what is known goes through
+    # how its values are told apart where a level is mapped, and for each that P holds of its parts, and what is known of it at a place i
+    # between a level's parts and theirs
     patterns: tuple[tuple[str, str, str], ...] = ()
     # one step of its reading by another, and the number of its steps with what is read in them
     wider: str = ""
@@ -58,9 +65,8 @@ class Again(Part):
     # what it is written as, over the type's data, and that this isn't refused
     own: str = ""
     is_some: str = "h"
-    # by what the values x and y have the same content, and that then they are written alike, by {content}
+    # by what the values x and y have the same content
     same: str = ""
-    alike: str = ""
 
     @property
     def is_leaf(self) -> bool:
@@ -133,7 +139,7 @@ LIST = Again(
       (slice_row s (map {low}_data {a}.items) (λ ms. ReadsEach (Only Is{name} Same{name}) ms {a}.items)
       (each_row s {low}_data {name}Only (Only Is{name} Same{name}) (λ w p. p) {a}.items (each_from {low}_fits {name}Only {a}.items h {fit})))""",
     word="list",
-    patterns=(("a", "each_holds P first h a.items", "through at k a.items"),),
+    patterns=(("a", "each_holds P first h a.items", "through at k a.items i"),),
     wider="row_as P Q f m a.items h",
     counted="row_in {name}In {low}_up m a.items h",
     parts="All P {a}.items",
@@ -141,8 +147,6 @@ LIST = Again(
     own="slice_of (map {low}_data {a}.items)",
     is_some="(slice_some (map {low}_data {a}.items) (each_data {low}_data {a}.items h))",
     same="Alike Same{name} x.items y.items",
-    alike="""ap (λ ds. newtype_variant_of {of} (slice_of ds))
-      (map_alike {low}_data {a}.items j.0.items {content})""",
 )
 
 BOX = Again(
@@ -150,13 +154,12 @@ BOX = Again(
     row="h {fit}",
     only="inside_only s ({low}_data {a}.value) (λ b. b.value) Is{name} Same{name} {a}.value (h {fit})",
     word="box",
-    patterns=(("a", "h a.value", "refl"),),
+    patterns=(("a", "h a.value", "k (at a.value)"),),
     wider="f m a.value h",
     counted="h",
     parts="P {a}.value",
     own="{low}_data {a}.value",
     same="Same{name} x.value y.value",
-    alike="ap (λ d. newtype_variant_of {of} d) {content}",
 )
 
 BOXED = "(b : Box {name} Global)"
@@ -170,18 +173,23 @@ OPTION = Again(
       (λ b. {{low}}_other s b.value) (λ b p. inside_only s ({{low}}_data b.value) (λ {BOXED}. b.value) Is{{name}} Same{{name}} b.value p) {{a}}
       (option_from (λ {BOXED}. {{low}}_fits b.value) (λ b. {{name}}Only b.value) {{a}} h {{fit}}))""",
     word="option",
-    patterns=(("None", "tt", "refl"), ("(Some a)", "h a.value", "refl")),
+    patterns=(("None", "tt", "⊤"), ("(Some a)", "h a.value", "k (at a.value)")),
     wider="option_as (Boxed P) (Boxed Q) (λ n b. f n b.value) m a h",
     counted="option_in (λ n. Boxed ({name}In n)) m a h",
     parts="IfSome {a} (λ b. P b.value)",
     own=f"option_of (λ {BOXED}. {{low}}_data b.value) {{a}}",
     is_some=f"(option_data (λ {BOXED}. {{low}}_data b.value) {{a}} h)",
     same=f"AlikeOption (λ {BOXED} c. Same{{name}} b.value c.value) x y",
-    alike=f"""ap (λ d. newtype_variant_of {{of}} d)
-      (option_alike (λ {BOXED}. {{low}}_data b.value) {{a}} j.0 {{content}}) ∙ sym ({{low}}_at_{{shape}} j.0)""",
 )
 
 AGAIN = (LIST, BOX, OPTION)
+
+# That what holds {v} and {w} is written alike, where they have the same content, by {e}.
+ALIKE = {
+    "list": "ap slice_of (map_alike {low}_data {v}.items {w}.items {e})",
+    "box": "{e}",
+    "option": "option_alike (λ (b : Box {name} Global). {low}_data b.value) {v} {w} {e}",
+}
 
 
 class Level:
@@ -190,20 +198,39 @@ class Level:
     def __init__(self, of: Declared, crate: str, declared: str) -> None:
         self.of, self.crate, self.declared = of, crate, declared
         self.name, self.low = of.name, underscored(of.name)
-        self.variants = [(shape, self.part_of(shape.fields[0].kind) if shape.fields else None) for shape in of.variants or []]
+        self.variants = [(shape, self.content_of(shape)) for shape in of.variants or []]
         self.fields = [(field, self.part_of(field.kind)) for field in of.shape.fields] if of.shape else []
 
     def part_of(self, kind: str) -> Optional[Part]:
         """What is known of a value of this type, if it is one that such a type may hold."""
         return LEAVES.get(kind) or next((again for again in (it.of(self) for it in AGAIN) if again.kind == kind), None)
 
-    def parts(self) -> list[Part]:
-        """What it holds."""
-        return [part for _, part in [*self.variants, *self.fields] if part]
+    def content_of(self, shape: Shape) -> Optional[Part]:
+        """What a variant holds: nothing, a value, or the tuple of several."""
+        held = [part for part in (self.part_of(field.kind) for field in shape.fields) if part]
+        return self.row_of(shape, held) if len(held) > 1 else (held or [None])[0]
 
-    def made(self, shape: Shape, part: Optional[Part], value: str = "a") -> str:
-        """A level that is this variant."""
-        return f"({self.name}-F.{shape.name} {value})" if part else f"{self.name}-F.{shape.name}"
+    def row_of(self, shape: Shape, held: list[Part]) -> Part:
+        """Several values, as a tuple, which are read from a list. If each is a leaf, the tuple is one, too."""
+        kind, term, word = tuple_of([part.kind for part in held]), " × ".join(part.term for part in held), f"{underscored(shape.name)}_values"
+        reads = f"{self.name}Row{shape.name} {{reads}} {{k}} {{a}}"
+        if all(part.is_leaf for part in held):
+            return Part(kind, term, reads.replace(" {reads}", ""), "", "", is_lent=True, word=f"{self.low}_{word}", held=tuple(held))
+        wider, counted = f"{self.low}_as_{shape.name} P Q f m a h", f"{self.low}_in_{shape.name} m a h"
+        return Again(kind, term, reads, "", "", word=word, held=tuple(held), wider=wider, counted=counted)
+
+    def rows(self) -> list[tuple[Shape, Part]]:
+        """The variants that hold several values, with their tuples."""
+        return [(shape, part) for shape, part in self.variants if part and part.held]
+
+    def parts(self) -> list[Part]:
+        """What it holds, with the values of a tuple that isn't a leaf."""
+        whole = [part for _, part in [*self.variants, *self.fields] if part]
+        return [part for of in whole for part in ([of] if of.is_leaf else [of, *of.held])]
+
+    def made(self, shape: Shape, values: list[str]) -> str:
+        """A level that is this variant, of these values."""
+        return f"({' '.join([f'{self.name}-F.{shape.name}', *values])})" if values else f"{self.name}-F.{shape.name}"
 
     def names(self) -> str:
         return codes(shape.key for shape, _ in self.variants)
@@ -242,6 +269,48 @@ def named(text: str, name: str) -> bool:
 
 
 # ---- what holds of parts
+
+
+def after_held(part: Part, value: str) -> str:
+    """What a term begins with where a part's value was held, by a variant or a field: a number with a sign is the same then."""
+    return f"rw (to_z-of_z {SIGNED[part.kind]} {value} (search rules)) " if part.kind in SIGNED else ""
+
+
+def held_in(part: Optional[Part]) -> list[Part]:
+    """The values of a variant."""
+    return list(part.held or [part]) if part else []
+
+
+def named_in(part: Optional[Part]) -> list[str]:
+    """What the values of a variant are called in patterns."""
+    count = len(held_in(part))
+    return ["a"] if count == 1 else [f"a{at}" for at in range(count)]
+
+
+def inside(part: Optional[Part], value: str = "a") -> list[str]:
+    """The values of a variant, of its content."""
+    count = len(held_in(part))
+    return [value] if count == 1 else [f"{value}.{at}" for at in range(count)]
+
+
+def called(of: str, name: str) -> str:
+    """A term over the value a, with another name for it."""
+    return put_in(of, {"a": name})
+
+
+def product(terms: list[str], nothing: str) -> str:
+    """What holds of each of some values."""
+    return nothing if not terms else terms[0] if len(terms) == 1 else " × ".join(f"({term})" for term in terms)
+
+
+def each(terms: list[str], nothing: str = "tt") -> str:
+    """The proof that it does."""
+    return nothing if not terms else terms[0] if len(terms) == 1 else f"({', '.join(terms)})"
+
+
+def places_of(name: str, count: int) -> list[str]:
+    """The parts of such a proof."""
+    return [name] if count == 1 else [f"{name}.{at}" for at in range(count)]
 
 
 def is_option(part: Part) -> bool:
@@ -284,18 +353,19 @@ def shape_of(level: Level) -> str:
     name, low = level.name, level.low
     cases = "NoCase"
     for shape, part in reversed(level.variants):
+        made = level.made(shape, inside(part)).strip("()")
         if part is None:
-            head = f"λ c. (out-{name} v ≡ {level.made(shape, part)}) × Bare c"
+            head = f"λ c. (out-{name} v ≡ {made}) × Bare c"
         else:
             reads = part.reads.format(reads="reads", k="k", a="a")
-            head = f"λ c. (a : {part.term}) × (out-{name} v ≡ {level.made(shape, part)[1:-1]}) × Content (λ k. {reads}) c"
+            head = f"λ c. (a : {part.term}) × (out-{name} v ≡ {made}) × Content (λ k. {reads}) c"
         cases = f"Case ({head})\n    {cases}" if cases == "NoCase" else f"Case ({head})\n    ({cases})"
     return f"""
 abbrev pub {low}_names : List (List ℕ)
 {low}_names = {level.names()}
 
 -- ---- what it is read from
-
+{"".join(row_shape(level, shape, part) for shape, part in level.rows())}
 abbrev pub {name}Case : (Msg → {name} → Type 0) → {name} → ℕ × Option Msg → Type 0
 {name}Case reads v = {cases}
 
@@ -309,14 +379,39 @@ Is{name} m v = InSteps {name}In m v
 """
 
 
+def row_reads(reads: Iterable[str]) -> str:
+    """A list of items of which these hold."""
+    return chained([f"AndThen {term}" for term in reads], "NoMore")
+
+
+def row_shape(level: Level, shape: Shape, part: Part) -> str:
+    """What several values of a variant are read from."""
+    word, again = f"{level.name}Row{shape.name}", not part.is_leaf
+    reads = [f"(λ j. {of.reads.format(reads='reads', k='j', a=value)})" for of, value in zip(part.held, inside(part))]
+    return f"""
+-- the values of {shape.name}, one after another
+abbrev pub {word} : {f'(Msg → {level.name} → Type 0) → ' * again}Msg → {part.term} → Type 0
+{word} {'reads ' * again}m a = OfRow ({row_reads(reads)}) m
+"""
+
+
+def content_data(shape: Shape, data: list[str]) -> str:
+    """What a variant is written as, of what its values are."""
+    of = f"(codes \"{shape.key}\")"
+    if len(data) > 1:
+        return f"tuple_variant_of {of} {bracketed(data)}"
+    return f"newtype_variant_of {of} ({data[0]})" if data else f"Some (unit_variant {of})"
+
+
 def written_of(level: Level) -> str:
     """What it is written as, level by level, and what is known of it."""
     name, low = level.name, level.low
     datas, fits = "", ""
     for shape, part in level.variants:
-        of = f"(codes \"{shape.key}\")"
-        datas += f"{low}_level {level.made(shape, part)} = " + (f"newtype_variant_of {of} ({part.data.format(a='a')})" if part else f"Some (unit_variant {of})") + "\n"
-        fits += f"{low}_layer_fits X at fits {level.made(shape, part)} = " + (part.fits.format(a="a", fits="fits") if part else "⊤") + "\n"
+        held, names = held_in(part), named_in(part)
+        made = level.made(shape, names)
+        datas += f"{low}_level {made} = {content_data(shape, [of.data.format(a=name) for of, name in zip(held, names)])}\n"
+        fits += f"{low}_layer_fits X at fits {made} = {product([of.fits.format(a=name, fits='fits') for of, name in zip(held, names)], '⊤')}\n"
     return f"""
 -- ---- what it is written as: one level, of what its parts are written as
 
@@ -350,16 +445,17 @@ def steps_of(level: Level) -> str:
     wider += f"{low}_as P Q f v {end} c h = absurd h\n"
     counted += f"{low}_in v {end} c h = absurd h\n"
     case = f"{name}Case"
+    rows = [(shape, part) for shape, part in level.rows() if isinstance(part, Again)]
     return f"""
 -- ---- one step more
-
+{"".join(row_wider(level, shape, part) for shape, part in rows)}
 {low}_as : (P Q : Msg → {name} → Type 0) → ((m : Msg) (v : {name}) → P m v → Q m v) → (v : {name}) (k : ℕ) (c : Option Msg) → {case} P v (k, c) → {case} Q v (k, c)
 {wider}
 {low}_up : (n : ℕ) (m : Msg) (v : {name}) → {name}In n m v → {name}In (suc n) m v
 {low}_up zero m v h = absurd h
 {low}_up (suc n) m v h =
     variant_as {low}_names ({case} ({name}In n) v) ({case} ({name}In (suc n)) v) ({low}_as ({name}In n) ({name}In (suc n)) ({low}_up n) v) m h
-
+{"".join(row_counted(level, shape, part) for shape, part in rows)}
 {low}_in : (v : {name}) (k : ℕ) (c : Option Msg) → {case} Is{name} v (k, c) → (n : ℕ) × {case} ({name}In n) v (k, c)
 {counted}
 pub {low}_made : (v : {name}) (m : Msg) → OfVariant {low}_names ({case} Is{name} v) m → Is{name} m v
@@ -374,6 +470,35 @@ pub {low}_variant : (m : Msg) → Readable Is{name} m → Readable (λ k v. OfVa
 """
 
 
+def items_wider(part: Part, by: tuple[str, str, str], start: int = 0) -> str:
+    """What one reading of the values from a place on says by another."""
+    values = list(zip(part.held, inside(part)))[start:]
+    return chained([f"then_as _ _ _ _ {wider(of, value, by)}" for of, value in values], "(λ ms h. h)")
+
+
+def row_wider(level: Level, shape: Shape, part: Again) -> str:
+    """What one reading of several values says by another."""
+    name, low, word = level.name, level.low, f"{level.name}Row{shape.name}"
+    return f"""
+{low}_as_{shape.name} : (P Q : Msg → {name} → Type 0) → ((m : Msg) (v : {name}) → P m v → Q m v) → (m : Msg) (a : {part.term}) → {word} P m a → {word} Q m a
+{low}_as_{shape.name} P Q f m a h = of_row_as _ _ ({items_wider(part, ("P", "Q", "f"))}) m h
+"""
+
+
+def row_counted(level: Level, shape: Shape, part: Again) -> str:
+    """The number of steps in which several values are read."""
+    name, low, word = level.name, level.low, f"{level.name}Row{shape.name}"
+    by = (f"({name}In i)", f"({name}In (suc i))", f"({low}_up i)")
+    steps = []
+    for at, (of, value) in enumerate(zip(part.held, inside(part))):
+        into = f"(λ m h. {called(of.counted, value)})" if isinstance(of, Again) else "(λ m h. (zero, h))"
+        steps.append(f"then_in _ _ _ _ (λ i. {wider(of, value, by)}) (λ i. {items_wider(part, by, at + 1)}) {into}")
+    return f"""
+{low}_in_{shape.name} : (m : Msg) (a : {part.term}) → {word} Is{name} m a → (n : ℕ) × {word} ({name}In n) m a
+{low}_in_{shape.name} m a h = of_row_in _ _ ({chained(steps, '(λ ms h. (zero, h))')}) m h
+"""
+
+
 def last_place(count: int) -> str:
     """A pattern of each place after so many."""
     return "k" if count == 0 else f"(suc {last_place(count - 1)})"
@@ -384,13 +509,42 @@ def induction_of(level: Level) -> str:
     name, low = level.name, level.low
     kids, hold, through = "", "", ""
     for shape, part in level.variants:
-        again = isinstance(part, Again)
-        kids += f"{name}Parts P {level.made(shape, part)} = {part.parts.format(a='a') if again else '⊤'}\n"
-        for value, holds, goes in part.patterns if again else (("a", "tt", "refl"),):
-            made = level.made(shape, part, value)
-            hold += f"{low}_parts_hold P first h {made} = {holds}\n"
-            through += f"{low}_through X at k {made} = {goes}\n"
+        held, names = held_in(part), named_in(part)
+        kids += f"{name}Parts P {level.made(shape, names)} = {product([of.parts.format(a=x) for of, x in zip(held, names) if isinstance(of, Again)], '⊤')}\n"
+        for cases in itertools.product(*(cases_of(of, x) for of, x in zip(held, names))):
+            made = level.made(shape, [value for value, *_ in cases])
+            hold += f"{low}_parts_hold P first h {made} = {each([holds for _, holds, _ in cases if holds])}\n"
+            known = product([known for *_, known in cases], "⊤")
+            through += f"{low}_through X at k {made} = {f'λ i. {known}' if isinstance(part, Again) else 'refl'}\n"
     return inductive(level, kids, hold, through)
+
+
+def cases_of(part: Part, name: str) -> list[tuple[str, str, str]]:
+    """How a value of this name is told apart where a level is mapped, with that P holds of its parts, and what is known of it on the way."""
+    if isinstance(part, Again):
+        return [tuple(called(term, name) for term in case) for case in part.patterns]
+    return [(name, "", part.fits.format(a=name))]
+
+
+def cases(part: Optional[Part]) -> Iterator[list[str]]:
+    """How a variant's values are told apart where a level is mapped."""
+    for case in itertools.product(*(cases_of(held, name) for held, name in zip(held_in(part), named_in(part)))):
+        yield [value for value, *_ in case]
+
+
+def has_option(part: Optional[Part]) -> bool:
+    return any(is_option(held) for held in held_in(part))
+
+
+def mapped_option(level: Level, shape: Shape, part: Part) -> str:
+    """What a variant is written as that holds an option."""
+    name, low = level.name, level.low
+    mapped = f"map-{name} {name} (Option Data) {low}_data"
+    lines = "".join(f"{low}_at_{shape.name} {' '.join(values)} = refl\n" for values in cases(part))
+    held, names = held_in(part), named_in(part)
+    bound = " ".join(f"({value} : {of.term})" for value, of in zip(names, held))
+    is_ = f"{low}_level ({mapped} {level.made(shape, names)}) ≡ {content_data(shape, [data_from(of, value) for of, value in zip(held, names)])}"
+    return f"\npub {low}_at_{shape.name} : {bound} → {is_}\n{lines}"
 
 
 def inductive(level: Level, kids: str, hold: str, through: str) -> str:
@@ -433,15 +587,20 @@ pub {low}_fits_in : (v : {name}) (x : {name}-F {name}) → out-{name} v ≡ x �
 
 pub {low}_is : (v : {name}) → {low}_data v ≡ {low}_level (map-{name} {name} (Option Data) {low}_data (out-{name} v))
 {low}_is v = fold_out-{name} (Option Data) {low}_level v
+
+pub {low}_is_at : (v : {name}) (x : {name}-F {name}) → out-{name} v ≡ x → {low}_data v ≡ {low}_level (map-{name} {name} (Option Data) {low}_data x)
+{low}_is_at v x e = {low}_is v ∙ ap (λ z. {low}_level (map-{name} {name} (Option Data) {low}_data z)) e
 """
 
 
 def tables(level: Level) -> dict[str, str]:
     """Where the words of its files come from."""
     name, low, crate, declared = level.name, level.low, level.crate, level.declared
-    levels = "names level data layer_fits fits made out variant read induction fits_out fits_in is own is_own".split()
+    levels = "names level data layer_fits fits made out variant read induction fits_out fits_in is is_at own is_own".split()
     words = [f"{name}Case", f"{name}In", f"Is{name}", f"{name}Parts", f"{name}Fits", f"{name}Fields", f"{name}Read"]
     words += [f"{name}From{at}" for at in range(len(level.fields) + 1)]
+    words += [f"{name}Row{shape.name}" for shape, _ in level.rows()]
+    words += [f"{low}_at_{shape.name}" for shape, part in level.variants if has_option(part)]
     return {
         "std.proofs.Common": "◌≡◌ ◌∙◌ refl sym ap subst ℕ zero suc List [] ◌∷◌ map All Option None Some String Box",
         "std.specs.Char": "IsScalar",
@@ -458,26 +617,28 @@ def tables(level: Level) -> dict[str, str]:
         "rmp_decode.specs.Law": "Readable",
         "rmp_decode.specs.Options": "IsOption",
         "rmp_decode.specs.Read": "IsUnsigned IsSigned IsRaw IsChar",
-        "rmp_decode.specs.Rows": "ReadsEach",
+        "rmp_decode.specs.Rows": "ReadsEach AndThen NoMore",
+        "rmp_decode.specs.Seq": "OfRow",
         "rmp_decode.specs.Variants": "OfVariant Case NoCase Bare Content",
         "rmp_encode.specs.Data": "Data byte whole unsigned128 signed128 truth float32 float64 char text bytes unit_variant",
-        "rmp_encode.specs.Trees": "tree_of slice_of option_of newtype_variant_of structure_of",
+        "rmp_encode.specs.Trees": "tree_of slice_of option_of newtype_variant_of tuple_variant_of structure_of",
         "rmp_encode.specs.declared.settings.Settings": "Settings",
         "rmp_round_trip.specs.LeafRounds": " ".join(["byte_row truth_row float32_row float64_row char_row string_row buffer_row", *(f"{sign}_row_{bits}" for sign in ("signed", "unsigned") for bits in (8, 16, 32, 64))]),
-        "rmp_round_trip.specs.OnlyFields": "AtPlace AnyContent content_only variant_both fields_both field_only last_field",
+        "rmp_round_trip.specs.OnlyFields": "AtPlace AnyContent content_only content_row variant_both fields_both field_only last_field",
         "rmp_round_trip.specs.OnlyLeaves": "truth_only byte_only unsigned_only signed_only unsigned128_only signed128_only float32_only float64_only"
         " char_only string_only buffer_only",
-        "rmp_round_trip.specs.OnlyRows": "inside_only list_only option_only lowers_then",
+        "rmp_round_trip.specs.OnlyRows": "inside_only item_only last_only list_only option_only lowers_then",
         "rmp_round_trip.specs.RoundTrip": "Alike AlikeOption LowersTo Only",
-        "rmp_round_trip.specs.Rounds": "slice_some each_row slice_row option_row",
-        "rmp_round_trip.specs.StructRounds": "structure_all structure_row structure_other fields_none fields_cons",
-        "rmp_round_trip.specs.VariantRounds": "newtype_variant_some bare_row newtype_variant_row bare_other newtype_variant_other",
+        "rmp_round_trip.specs.Rounds": "slice_some each_row slice_row option_row rows_none rows_cons",
+        "rmp_round_trip.specs.StructRounds": "tuple_variant_all structure_all structure_row structure_other fields_none fields_cons",
+        "rmp_round_trip.specs.VariantRounds": "newtype_variant_some bare_row newtype_variant_row tuple_variant_row bare_other newtype_variant_other"
+        " tuple_variant_other",
         "rmp_round_trip.specs.WideRounds": "unsigned128_row signed128_row",
         declared: f"{name} out-{name}",
         f"{declared}.TheFolds": f"ind-{name} fold-{name} rec-{name} map-{name} rec-roll-{name} fold_out-{name}",
         f"{declared}.TheOpen": f"{name}-F",
         f"{declared}.TheViews": f"roll-{name} out-roll-{name} roll-out-{name}",
-        f"{crate}.specs.Recursion": "Row Boxed InSteps row_as row_in option_as option_in variant_as variant_in each_holds through all_by each_from option_from",
+        f"{crate}.specs.Recursion": "Row Boxed InSteps row_as row_in option_as option_in variant_as variant_in of_row_as of_row_in then_as then_in each_holds through all_by each_from option_from",
         f"{crate}.specs.RecursionFields": "fields_as fields_in field_as field_in",
         f"{crate}.specs.RecursionRounds": "each_data option_data lowers_as map_alike option_alike",
         f"{crate}.specs.{name}Levels": " ".join([*words, *(f"{low}_{word}" for word in levels)]),
@@ -492,4 +653,5 @@ def file_of(level: Level, own: str, about: str, text: str) -> str:
 
 def levels_file(level: Level) -> str:
     about = f"What the recursive type {level.name} is read from and written as, level by level. Written by tools/derive.py."
-    return file_of(level, f"{level.name}Levels", about, shape_of(level) + written_of(level) + steps_of(level) + induction_of(level))
+    options = "".join(mapped_option(level, shape, part) for shape, part in level.variants if has_option(part))
+    return file_of(level, f"{level.name}Levels", about, shape_of(level) + written_of(level) + steps_of(level) + induction_of(level) + options)

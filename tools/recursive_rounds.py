@@ -4,7 +4,10 @@ from __future__ import annotations
 from typing import Optional
 
 from declarations import Shape
-from recursive_levels import Again, Level, Part, data_from, file_of, is_option, reading, same_of
+from derived_terms import chained
+from recursive_levels import ALIKE, Again, Level, Part, cases, content_data, data_from, file_of, has_option, held_in, inside, named_in, places_of, put_in
+from recursive_levels import reading, row_reads, same_of
+from shared import bracketed
 
 
 def rounds_file(level: Level) -> str:
@@ -12,28 +15,62 @@ def rounds_file(level: Level) -> str:
     return file_of(level, f"{level.name}Rounds", about, back_of(level) + only_of(level))
 
 
-def values_of(part: Optional[Part]) -> list[str]:
-    """How a part's values are told apart where a level is mapped."""
-    return [value for value, *_ in part.patterns] if isinstance(part, Again) else ["a"]
+def known_parts(part: Optional[Part]) -> list[dict[str, str]]:
+    """What is known of the parts of each value of a variant, in place of h."""
+    held = held_in(part)
+    places = iter(places_of("h", sum(isinstance(of, Again) for of in held)))
+    return [{"h": next(places)} if isinstance(of, Again) else {} for of in held]
+
+
+def rows(terms: list[str]) -> str:
+    """The rows of several values."""
+    return chained([f"rows_cons s _ _ {term}" for term in terms], "(rows_none s)")
 
 
 def back_variant(level: Level, at: int, shape: Shape, part: Optional[Part]) -> tuple[str, str, str]:
     """The same of one variant: the equations of each law."""
-    name, low = level.name, level.low
-    of = f"(codes \"{shape.key}\")"
-    place = f"s {low}_names {of} {at} refl ({name}Case Is{name} v)"
-    other = f"  {low}_level_other {level.made(shape, part)} e = "
+    name, low, of = level.name, level.low, f"(codes \"{shape.key}\")"
+    other = f"  {low}_level_other {level.made(shape, named_in(part))} e = {never_nil(of, part)} e\n"
     some = rounds = ""
-    for value in values_of(part):
-        made = level.made(shape, part, value)
-        some += f"{low}_level_some {made} h = "
-        rounds += f"  {low}_level_round v {made} e h fit = "
-        if part is None:
-            return f"{some}refl\n", f"{rounds}bare_row {place} (e, tt)\n", f"{other}bare_other s {of} e\n"
-        data, reads = data_from(part, value), part.reads.format(reads=f"Is{name}", k="m", a=value)
-        some += f"newtype_variant_some {of} ({data}) {part.is_some.format(a=value) if isinstance(part, Again) else 'refl'}\n"
-        rounds += f"newtype_variant_row {place}\n      ({data}) (λ m. {reads}) (λ m p. ({value}, e, p)) ({part.row.format(a=value, fit='fit')})\n"
-    return some, rounds, f"{other}newtype_variant_other s {of} ({part.data.format(a='a')}) e\n"
+    for values in cases(part):
+        made = level.made(shape, values)
+        some += f"{low}_level_some {made} h = {back_some(of, part, values)}\n"
+        rounds += f"  {low}_level_round v {made} e h fit = {back_row(level, at, of, part, values)}\n"
+    return some, rounds, other
+
+
+def never_nil(of: str, part: Optional[Part]) -> str:
+    """That a variant isn't written as nil."""
+    data = [held.data.format(a=value) for held, value in zip(held_in(part), named_in(part))]
+    if len(data) > 1:
+        return f"tuple_variant_other s {of} {bracketed(data)}"
+    return f"newtype_variant_other s {of} ({data[0]})" if data else f"bare_other s {of}"
+
+
+def back_some(of: str, part: Optional[Part], values: list[str]) -> str:
+    """That a variant of these values isn't refused."""
+    held = held_in(part)
+    data = [data_from(one, value) for one, value in zip(held, values)]
+    facts = [put_in(one.is_some.format(a=value), h) if h else "refl" for one, value, h in zip(held, values, known_parts(part))]
+    if len(held) > 1:
+        return f"tuple_variant_all {of} {bracketed(data)} {''.join(f'({fact}, ' for fact in facts)}tt{')' * len(facts)}"
+    return f"newtype_variant_some {of} ({data[0]}) {facts[0]}" if held else "refl"
+
+
+def back_row(level: Level, at: int, of: str, part: Optional[Part], values: list[str]) -> str:
+    """That a variant of these values is read as it was written."""
+    name, low, held = level.name, level.low, held_in(part)
+    place = f"s {low}_names {of} {at} refl ({name}Case Is{name} v)"
+    if not held:
+        return f"bare_row {place} (e, tt)"
+    reads = [one.reads.format(reads=f"Is{name}", k="m", a=value) for one, value in zip(held, values)]
+    proofs = [
+        put_in(one.row.format(a=value, fit=fit), h) for one, value, fit, h in zip(held, values, places_of("fit", len(held)), known_parts(part))
+    ]
+    if len(held) == 1:
+        return f"newtype_variant_row {place}\n      ({data_from(held[0], values[0])}) (λ m. {reads[0]}) (λ m p. ({values[0]}, e, p)) ({proofs[0]})"
+    terms = [f"(λ m. {term}) _ ({proof})" for term, proof in zip(reads, proofs)]
+    return f"tuple_variant_row {place} _ _ (λ m p. (({', '.join(values)}), e, p))\n      ({rows(terms)})"
 
 
 def back_of(level: Level) -> str:
@@ -81,8 +118,7 @@ def only_of(level: Level) -> str:
     """Nothing else is read of what a value lowers to."""
     name, low = level.name, level.low
     mapped = f"map-{name} {name} (Option Data) {low}_data"
-    lines = "".join(only_variant(level, at, shape, part, value) for at, (shape, part) in enumerate(level.variants) for value in values_of(part))
-    options = "".join(mapped_option(level, shape, part) for shape, part in level.variants if part and is_option(part))
+    lines = "".join(only_variant(level, at, shape, part, values) for at, (shape, part) in enumerate(level.variants) for values in cases(part))
     return f"""
 -- ---- values of the same content are written alike
 
@@ -90,8 +126,8 @@ abbrev pub Same{name} : {name} → {name} → Type 0
 Same{name} v w = {low}_data v ≡ {low}_data w
 
 {low}_by : (w : {name}) (y : {name}-F {name}) → out-{name} w ≡ y → {low}_level ({mapped} y) ≡ {low}_data w
-{low}_by w y e = sym ({low}_is w ∙ ap (λ z. {low}_level ({mapped} z)) e)
-{options}
+{low}_by w y e = sym ({low}_is_at w y e)
+
 module _ (s : Settings) where
   abbrev {name}Only : {name} → Type 0
   {name}Only v = LowersTo s ({low}_data v) (λ m. Only Is{name} Same{name} m v)
@@ -109,37 +145,68 @@ module _ (s : Settings) where
 """
 
 
-def mapped_option(level: Level, shape: Shape, part: Again) -> str:
-    """What a variant is written as that holds an option."""
-    name, low = level.name, level.low
-    mapped = f"map-{name} {name} (Option Data) {low}_data"
-    lines = "".join(f"{low}_at_{shape.name} {value} = refl\n" for value in values_of(part))
-    is_ = f"{low}_level ({mapped} {level.made(shape, part)}) ≡ newtype_variant_of (codes \"{shape.key}\") ({data_from(part, 'a')})"
-    return f"\n{low}_at_{shape.name} : (a : {part.term}) → {is_}\n{lines}"
+def alike(level: Level, part: Part, value: str, other: str, fact: str) -> str:
+    """That two values of the same content are written alike."""
+    if isinstance(part, Again):
+        return ALIKE[part.word].format(low=level.low, name=level.name, v=value, w=other, e=fact)
+    return f"ap (λ n. {part.of_key.format(a='n')}) {fact}"
 
 
-def only_variant(level: Level, at: int, shape: Shape, part: Optional[Part], value: str) -> str:
+def only_variant(level: Level, at: int, shape: Shape, part: Optional[Part], values: list[str]) -> str:
     """The same of one variant."""
     name, low = level.name, level.low
-    made, of = level.made(shape, part, value), f"(codes \"{shape.key}\")"
-    start = f"s {low}_names {of} {at} refl"
+    made, of = level.made(shape, values), f"(codes \"{shape.key}\")"
     if part is None:
         holds = f"(AtPlace {at} AnyContent)"
         return f"""  {low}_level_only {made} h fit =
       lowers_then s (Some (unit_variant {of})) (OfVariant {low}_names {holds}) ({name}LevelOnly {made})
-      (bare_row {start} {holds} (refl, tt))
+      (bare_row s {low}_names {of} {at} refl {holds} (refl, tt))
       (λ m q w r. variant_both {low}_names {at} AnyContent ({name}Case Is{name} w) _ m q r (λ c i j. {low}_by w {made} j.0))
 """
-    data = data_from(part, value)
-    reads, same = reading(level, part), same_of(part)
-    content = f"(content_only {reads} {same} {value} j.0 c i j.2)"
-    by = part.alike if isinstance(part, Again) else f"ap (λ n. newtype_variant_of {of} ({part.of_key.format(a='n')})) {{content}}"
-    alike = by.format(a=value, of=of, shape=shape.name, content=content)
-    proof = part.only.format(a=value, fit="fit")
+    others = inside(part, "j.0")
+    data = content_data(shape, [data_from(held, value) for held, value in zip(held_in(part), values)])
+    row, same = (only_row if part.held else only_value)(level, at, shape, part, values)
+    back = f" ∙ sym ({low}_at_{shape.name} {' '.join(others)})" * has_option(part)
     return f"""  {low}_level_only {made} h fit =
-      lowers_then s (newtype_variant_of {of} ({data})) _ ({name}LevelOnly {made})
-      (newtype_variant_row {start} (AtPlace {at} (Content (λ k. Only {reads} {same} k {value}))) ({data})
-      (λ k. Only {reads} {same} k {value}) (λ m p. (refl, p)) ({proof}))
+      lowers_then s ({data}) _ ({name}LevelOnly {made})
+      ({row})
       (λ m q w r. variant_both {low}_names {at} _ ({name}Case Is{name} w) _ m q r
-      (λ c i j. {alike} ∙ {low}_by w {level.made(shape, part, 'j.0')} j.1))
+      (λ c i j. {same}{back} ∙ {low}_by w {level.made(shape, others)} j.1))
 """
+
+
+def only_parts(level: Level, part: Part, values: list[str]) -> list[tuple[str, str, str]]:
+    """Of each value, what it is read from and by what two of its type are alike, what only it is read from, and that it is."""
+    parts = []
+    for held, value, fit, h in zip(held_in(part), values, places_of("fit", len(values)), known_parts(part)):
+        fact = f"{reading(level, held)} {same_of(held)}"
+        parts.append((fact, f"(λ k. Only {fact} k {value})", put_in(held.only.format(a=value, fit=fit), h)))
+    return parts
+
+
+def only_value(level: Level, at: int, shape: Shape, part: Part, values: list[str]) -> tuple[str, str]:
+    """What a variant's only value is read from, and that all that is read from it is written alike."""
+    of, data = f"(codes \"{shape.key}\")", data_from(part, values[0])
+    [(fact, reads, proof)] = only_parts(level, part, values)
+    row = f"newtype_variant_row s {level.low}_names {of} {at} refl (AtPlace {at} (Content {reads})) ({data})\n      {reads} (λ m p. (refl, p)) ({proof})"
+    same = alike(level, part, values[0], "j.0", f"(content_only {fact} {values[0]} j.0 c i j.2)")
+    return row, f"ap (λ d. newtype_variant_of {of} d) ({same})"
+
+
+def only_row(level: Level, at: int, shape: Shape, part: Part, values: list[str]) -> tuple[str, str]:
+    """The same of several values."""
+    start, others = f"s {level.low}_names (codes \"{shape.key}\") {at} refl", inside(part, "j.0")
+    facts, reads, proofs = zip(*only_parts(level, part, values))
+    row = f"tuple_variant_row {start} (AtPlace {at} (Content (OfRow ({row_reads(reads)})))) _ _ (λ m p. (refl, p))"
+    row += f"\n      ({rows([f'{read} _ ({proof})' for read, proof in zip(reads, proofs)])})"
+    items = [f"{fact} {value} {other}" for fact, value, other in zip(facts, values, others)]
+    both = chained([f"item_only {it} _ _ _" for it in items[:-1]], f"(last_only {items[-1]})")
+    terms = [f"({alike(level, held, *pair, fact)}) t" for held, *pair, fact in zip(part.held, values, others, places_in("x", len(values)))]
+    data, other = (content_data(shape, [data_from(held, value) for held, value in zip(part.held, them)]) for them in (values, others))
+    same = f"let x = content_row _ _ _ c i j.2 (λ ks q r. ({both}) ks q r) in\n      let same : {data} ≡ {other} = λ t. {content_data(shape, terms)} in same"
+    return row, same
+
+
+def places_in(name: str, count: int) -> list[str]:
+    """The parts of a fact and those after it, each a pair with the rest."""
+    return [f"{name}{'.1' * at}{'.0' * (at < count - 1)}" for at in range(count)]

@@ -13,7 +13,7 @@ use Rattle.std.specs.Prelude.{Box, IfSome}
 use Rattle.std.specs.declared.alloc.Global.{Global}
 use Rattle.rmp_wire.specs.Msg.{Msg, nil, truth, whole, float32, float64, text, bin, list, map, extension, Msgs, no_items, item}
 use Rattle.rmp_decode.specs.Options.{IsOption}
-use Rattle.rmp_decode.specs.Rows.{ReadsEach}
+use Rattle.rmp_decode.specs.Rows.{ReadsEach, AndThen}
 use Rattle.rmp_decode.specs.Seq.{OfRow, numbers}
 use Rattle.rmp_decode.specs.Variants.{OfVariant, variant_of}
 
@@ -29,6 +29,31 @@ Boxed reads m b = reads m b.value
 abbrev pub InSteps : {V : Type 0} → (ℕ → Msg → V → Type 0) → Msg → V → Type 0
 InSteps reads m v = (n : ℕ) × reads n m v
 
+-- a list, or bytes as the list of their numbers, of whose items more is said
+pub of_row_as : (P Q : Msgs → Type 0) → ((ms : Msgs) → P ms → Q ms) → (m : Msg) → OfRow P m → OfRow Q m
+of_row_as P Q f nil h = h
+of_row_as P Q f (truth t) h = h
+of_row_as P Q f (whole z) h = h
+of_row_as P Q f (float32 n) h = h
+of_row_as P Q f (float64 n) h = h
+of_row_as P Q f (text s) h = h
+of_row_as P Q f (bin s) h = f (numbers s) h
+of_row_as P Q f (list ms) h = f ms h
+of_row_as P Q f (map ps) h = h
+of_row_as P Q f (extension tag s) h = h
+
+pub of_row_in : (P : Msgs → Type 0) (Q : ℕ → Msgs → Type 0) → ((ms : Msgs) → P ms → (n : ℕ) × Q n ms) → (m : Msg) → OfRow P m → (n : ℕ) × OfRow (Q n) m
+of_row_in P Q f nil h = absurd h
+of_row_in P Q f (truth t) h = absurd h
+of_row_in P Q f (whole z) h = absurd h
+of_row_in P Q f (float32 n) h = absurd h
+of_row_in P Q f (float64 n) h = absurd h
+of_row_in P Q f (text s) h = absurd h
+of_row_in P Q f (bin s) h = f (numbers s) h
+of_row_in P Q f (list ms) h = f ms h
+of_row_in P Q f (map ps) h = absurd h
+of_row_in P Q f (extension tag s) h = absurd h
+
 each_as : {V : Type 0} (P Q : Msg → V → Type 0) → ((m : Msg) (v : V) → P m v → Q m v) → (ms : Msgs) (vs : List V) → ReadsEach P ms vs → ReadsEach Q ms vs
 each_as P Q f no_items [] h = tt
 each_as P Q f no_items (v ∷ vs) h = absurd h
@@ -36,43 +61,44 @@ each_as P Q f (item m ms) [] h = absurd h
 each_as P Q f (item m ms) (v ∷ vs) h = (f m v h.0, each_as P Q f ms vs h.1)
 
 pub row_as : {V : Type 0} (P Q : Msg → V → Type 0) → ((m : Msg) (v : V) → P m v → Q m v) → (m : Msg) (vs : List V) → Row P m vs → Row Q m vs
-row_as P Q f nil vs h = h
-row_as P Q f (truth t) vs h = h
-row_as P Q f (whole z) vs h = h
-row_as P Q f (float32 n) vs h = h
-row_as P Q f (float64 n) vs h = h
-row_as P Q f (text s) vs h = h
-row_as P Q f (bin s) vs h = each_as P Q f (numbers s) vs h
-row_as P Q f (list ms) vs h = each_as P Q f ms vs h
-row_as P Q f (map ps) vs h = h
-row_as P Q f (extension tag s) vs h = h
+row_as P Q f m vs h = of_row_as (λ ms. ReadsEach P ms vs) (λ ms. ReadsEach Q ms vs) (λ ms. each_as P Q f ms vs) m h
+
+-- two facts, each in its number of steps, so both in one
+raise : (P : ℕ → Type 0) → ((n : ℕ) → P n → P (suc n)) → (k n j : ℕ) → k + n ≡ j → P n → P j
+raise P up zero n j e h = let same : n ≡ j = omega (arith, e) in subst P same h
+raise P up (suc k) n j e h = raise P up k (suc n) j (omega (arith, e)) (up n h)
+
+pub both_in : (P Q : ℕ → Type 0) → ((n : ℕ) → P n → P (suc n)) → ((n : ℕ) → Q n → Q (suc n)) → (i : ℕ) → P i → (j : ℕ) → Q j → (n : ℕ) × (P n × Q n)
+both_in P Q up over i p j q = let n = i + j in (n, (raise P up j i n (omega arith) p, raise Q over i j n refl q))
 
 -- each in its number of steps, so all in one
 module _ {V : Type 0} (P : ℕ → Msg → V → Type 0) (up : (n : ℕ) (m : Msg) (v : V) → P n m v → P (suc n) m v) where
-  more : (k n j : ℕ) → k + n ≡ j → (m : Msg) (v : V) → P n m v → P j m v
-  more zero n j e m v h = let same : n ≡ j = omega (arith, e) in subst (λ i. P i m v) same h
-  more (suc k) n j e m v h = more k (suc n) j (omega (arith, e)) m v (up n m v h)
-
   each_in : (ms : Msgs) (vs : List V) → ReadsEach (InSteps P) ms vs → (n : ℕ) × ReadsEach (P n) ms vs
   each_in no_items [] h = (zero, tt)
   each_in no_items (v ∷ vs) h = absurd h
   each_in (item m ms) [] h = absurd h
   each_in (item m ms) (v ∷ vs) ((n, p), q) =
       let i = each_in ms vs q in
-      let j = n + i.0 in
-      (j, (more i.0 n j (omega arith) m v p, each_as (P i.0) (P j) (more n i.0 j refl) ms vs i.1))
+      both_in (λ j. P j m v) (λ j. ReadsEach (P j) ms vs) (λ j. up j m v) (λ j. each_as (P j) (P (suc j)) (up j) ms vs) n p i.0 i.1
 
   pub row_in : (m : Msg) (vs : List V) → Row (InSteps P) m vs → (n : ℕ) × Row (P n) m vs
-  row_in nil vs h = absurd h
-  row_in (truth t) vs h = absurd h
-  row_in (whole z) vs h = absurd h
-  row_in (float32 n) vs h = absurd h
-  row_in (float64 n) vs h = absurd h
-  row_in (text s) vs h = absurd h
-  row_in (bin s) vs h = each_in (numbers s) vs h
-  row_in (list ms) vs h = each_in ms vs h
-  row_in (map ps) vs h = absurd h
-  row_in (extension tag s) vs h = absurd h
+  row_in m vs h = of_row_in (λ ms. ReadsEach (InSteps P) ms vs) (λ n ms. ReadsEach (P n) ms vs) (λ ms. each_in ms vs) m h
+
+-- ---- items one after another
+
+pub then_as : (P Q : Msg → Type 0) (X Y : Msgs → Type 0) → ((m : Msg) → P m → Q m) → ((ms : Msgs) → X ms → Y ms) → (ms : Msgs) → AndThen P X ms
+    → AndThen Q Y ms
+then_as P Q X Y f rest no_items h = absurd h
+then_as P Q X Y f rest (item m ms) h = (f m h.0, rest ms h.1)
+
+pub then_in : (P : Msg → Type 0) (Q : ℕ → Msg → Type 0) (X : Msgs → Type 0) (Y : ℕ → Msgs → Type 0) → ((n : ℕ) (m : Msg) → Q n m → Q (suc n) m)
+    → ((n : ℕ) (ms : Msgs) → Y n ms → Y (suc n) ms) → ((m : Msg) → P m → (n : ℕ) × Q n m) → ((ms : Msgs) → X ms → (n : ℕ) × Y n ms) → (ms : Msgs)
+    → AndThen P X ms → (n : ℕ) × AndThen (Q n) (Y n) ms
+then_in P Q X Y up over f rest no_items h = absurd h
+then_in P Q X Y up over f rest (item m ms) h =
+    let i = f m h.0 in
+    let j = rest ms h.1 in
+    both_in (λ n. Q n m) (λ n. Y n ms) (λ n. up n m) (λ n. over n ms) i.0 i.1 j.0 j.1
 
 -- ---- options
 
@@ -179,7 +205,7 @@ use Rattle.std.specs.Fn.{FnOnceReturnsAtMut}
 use Rattle.std.specs.Prelude.{if◌then◌else◌, ◌≢◌}
 use Rattle.std.specs.Result.{OnOk}
 use Rattle.rmp_wire.specs.declared.source.Source.{Ghosts}
-use Rattle.rmp_wire.specs.Msg.{Msg, Msgs}
+use Rattle.rmp_wire.specs.Msg.{Msg, Msgs, no_items, item}
 use Rattle.rmp_wire.specs.declared.head.Head.TheVariants.{Whole}
 use Rattle.rmp_wire.specs.Canonical.{heads_of}
 use Rattle.rmp_wire.specs.Heads.{canon_head, IsHead}
@@ -188,7 +214,7 @@ use Rattle.rmp_decode.specs.Law.{Lawful, Readable, GoesOn}
 use Rattle.rmp_decode.specs.State.{kept_bytes, room_of}
 use Rattle.rmp_decode.specs.Options.{IsNil, IsOption, OptionRead, ReadsNone, SeesOther, ValueGiven}
 use Rattle.rmp_decode.specs.Rows.{ReadsEach}
-use Rattle.rmp_decode.specs.Seq.{levels, IsOpen, Opens, FailsToOpen, TakesElement, FailsToTake, Run, seq_head}
+use Rattle.rmp_decode.specs.Seq.{OfRow, levels, IsOpen, Opens, FailsToOpen, TakesElement, FailsToTake, Run, seq_head}
 use Rattle.rmp_decode.specs.Variants.{OfVariant, IsAt, OpensVariant, TakesNameOf}
 use Rattle.rmp_decode.specs.With.{Reading, Lends, OffersPart, PartRead, PartMissing, SameList}
 use Rattle.rmp_decode.specs.declared.access.variant.Variant.{Variant}
@@ -199,9 +225,10 @@ use Rattle.rmp_decode.specs.declared.deserializer.Kept.TheVariants.{Nothing, Fir
 use Rattle.rmp_decode.specs.declared.error.Error.{Error}
 use Rattle.rmp_decode.specs.declared.error.Error.TheVariants.{OutOfMemory, Uncategorized}
 use Rattle.rmp_decode.specs.declared.text.Text.TheVariants.{FailedBefore}
-use Rattle.rmp_decode.proofs.Laws.{lawful_ok}
+use Rattle.rmp_decode.proofs.Laws.{lawful_ok, stays_refl}
 use Rattle.rmp_decode.proofs.Options.{option_missing, option_some, option_refused}
-use Rattle.rmp_decode.proofs.Seqs.{Values, each_next, seq_unopened, seq_take, seq_done, seq_unkept}
+use Rattle.rmp_decode.proofs.Rows.{append}
+use Rattle.rmp_decode.proofs.Seqs.{Values, each_next, seq_unopened, seq_element, seq_take, seq_done, seq_unkept}
 use Rattle.rmp_decode.proofs.Variants.{variant_ok}
 use Rattle.rmp_decode.proofs.ElementWiths.{with_taken, with_refused}
 use Rattle.CRATE.specs.Recursion.{Row}
@@ -306,6 +333,20 @@ module _ {R C V : Type 0} (g : Ghosts R) (reads : Msg → V → Type 0) (old : D
 
     pub row_done : mid.left ≡ 0 → last ≡ record mid.de.now { failed = false } → Lawful g (Row reads) old last (Ok vs)
     row_done z q = seq_done g (λ us ms. ReadsEach reads ms us) old start mid r.trees o r.run last vs r.values z q
+
+-- ---- values of several types
+
+pub lawful_at : {R C V : Type 0} (g : Ghosts R) (reads : Msg → V → Type 0) (old last now : Deserializer R C) (r : Result V Error) → last ≡ now
+    → Lawful g reads old now r → Lawful g reads old last r
+lawful_at g reads old last now r same l = subst (λ z. Lawful g reads old z r) (sym same) l
+
+-- the list is over before a value that is wanted
+pub row_short : {R C V A : Type 0} (g : Ghosts R) (Q : V → Msgs → Type 0) (old : Deserializer R C) (start mid : SeqAccess R C) (ms : Msgs)
+    (o : Opens g old start) (r : Run g start mid ms) (last : Deserializer R C) (reads : Msg → A → Type 0) (e : Error) → mid.left ≡ 0 → last ≡ mid.de.now
+    → ((m : Msg) (ks : Msgs) (v : V) → Q v (append ms (item m ks)) → Readable reads m) → ((v : V) → Q v (append ms no_items) → ⊥)
+    → Lawful g (λ m v. OfRow (Q v) m) old last (Err e)
+row_short g Q old start mid ms o r last reads e z q proj some = seq_element g Q old start mid ms o r last reads mid e
+    (record { stays = stays_refl g mid.de.now; err = inl z }) r.still.marked q proj some
 
 -- a list, as a vector
 pub vec_row : {V : Type 0} (reads : Msg → V → Type 0) (m : Msg) → Readable (λ k (v : Vec V Global). Row reads k v.items) m → Readable (Row reads) m

@@ -1,8 +1,8 @@
 """The proofs of the code that derive.py writes for a recursive struct."""
 from __future__ import annotations
 
-from recursive_holder_answers import after_held, answer, answers_file, goals_of, held_answers, loop_measures, measures_file
-from recursive_levels import Again, Level, brought_in, is_option
+from recursive_holder_answers import answer, answers_file, goals_of, held_answers, loop_measures, measures_file
+from recursive_levels import Again, Level, after_held, brought_in, is_option
 from recursive_struct_proofs import slots_of
 from shared import numbered
 

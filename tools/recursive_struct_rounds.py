@@ -2,8 +2,8 @@
 from __future__ import annotations
 
 from derived_terms import chained
-from recursive_levels import Again, Level, file_of, put_in, reading, same_of
-from recursive_structs import ALIKE, missing, own_pairs, own_values, pairs_of, there
+from recursive_levels import ALIKE, Again, Level, file_of, put_in, reading, same_of
+from recursive_structs import missing, own_pairs, own_values, pairs_of, there
 
 
 def rounds_file(level: Level) -> str:

@@ -3,9 +3,10 @@ from __future__ import annotations
 
 # Those of the definitions.
 SPECS = """-- What recursive structs share: the readings of their fields by those of their parts, and by steps.
-use Rattle.std.proofs.Common.{◌≡◌, subst, arith, ℕ, zero, suc, ◌+◌, refl, List, [], ◌∷◌, Option, None, Some, MatchOption}
+use Rattle.std.proofs.Common.{ℕ, suc, List, [], ◌∷◌, Option, None, Some, MatchOption}
 use Rattle.rmp_wire.specs.Msg.{Msg}
 use Rattle.rmp_decode.specs.Fields.{OfFields, Field, fields}
+use Rattle.CRATE.specs.Recursion.{both_in}
 
 pub fields_as : (names : List (List ℕ)) (P Q : List (Option Msg) → Type 0) → ((fs : List (Option Msg)) → P fs → Q fs) → (m : Msg) → OfFields names P m
     → OfFields names Q m
@@ -28,14 +29,6 @@ pub field_as : (P Q : Msg → Type 0) (A : Type 0) (X Y : List (Option Msg) → 
 field_as P Q A X Y f rest [] h = absurd h
 field_as P Q A X Y f rest (None ∷ fs) h = (h.0, rest fs h.1)
 field_as P Q A X Y f rest (Some m ∷ fs) h = (f m h.0, rest fs h.1)
-
--- two facts, each in its number of steps, so both in one
-raise : (P : ℕ → Type 0) → ((n : ℕ) → P n → P (suc n)) → (k n j : ℕ) → k + n ≡ j → P n → P j
-raise P up zero n j e h = let same : n ≡ j = omega (arith, e) in subst P same h
-raise P up (suc k) n j e h = raise P up k (suc n) j (omega (arith, e)) (up n h)
-
-pub both_in : (P Q : ℕ → Type 0) → ((n : ℕ) → P n → P (suc n)) → ((n : ℕ) → Q n → Q (suc n)) → (i : ℕ) → P i → (j : ℕ) → Q j → (n : ℕ) × (P n × Q n)
-both_in P Q up over i p j q = let n = i + j in (n, (raise P up j i n (omega arith) p, raise Q over i j n refl q))
 
 pub field_in : (A : Type 0) (P : Msg → Type 0) (Q : ℕ → Msg → Type 0) (X : List (Option Msg) → Type 0) (Y : ℕ → List (Option Msg) → Type 0)
     → ((n : ℕ) (m : Msg) → Q n m → Q (suc n) m) → ((n : ℕ) (fs : List (Option Msg)) → Y n fs → Y (suc n) fs) → ((m : Msg) → P m → (n : ℕ) × Q n m)

@@ -6,12 +6,6 @@ from derived_terms import codes
 from recursive_levels import Again, Level, Part, data_from, file_of, inductive, is_option, put_in, wider
 from shared import list_of
 
-# The data of an option and of a list, from those of another of the same content.
-ALIKE = {
-    "list": "ap slice_of (map_alike {low}_data {v}.items {w}.items {e})",
-    "option": "option_alike (λ (b : Box {name} Global). {low}_data b.value) {v} {w} {e}",
-}
-
 
 def absent_of(part: Part) -> str:
     """The value of a field that isn't there."""

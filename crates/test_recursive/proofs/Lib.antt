@@ -11,3 +11,4 @@ pub mod NodeLevels
 pub mod CellLevels
 pub mod FolderLevels
 pub mod SampleLevels
+pub mod FormulaLevels

@@ -5,7 +5,7 @@ use Rattle.std.specs.Fn.{FnOnceReturnsAtMut}
 use Rattle.std.specs.Prelude.{if◌then◌else◌, ◌≢◌}
 use Rattle.std.specs.Result.{OnOk}
 use Rattle.rmp_wire.specs.declared.source.Source.{Ghosts}
-use Rattle.rmp_wire.specs.Msg.{Msg, Msgs}
+use Rattle.rmp_wire.specs.Msg.{Msg, Msgs, no_items, item}
 use Rattle.rmp_wire.specs.declared.head.Head.TheVariants.{Whole}
 use Rattle.rmp_wire.specs.Canonical.{heads_of}
 use Rattle.rmp_wire.specs.Heads.{canon_head, IsHead}
@@ -14,7 +14,7 @@ use Rattle.rmp_decode.specs.Law.{Lawful, Readable, GoesOn}
 use Rattle.rmp_decode.specs.State.{kept_bytes, room_of}
 use Rattle.rmp_decode.specs.Options.{IsNil, IsOption, OptionRead, ReadsNone, SeesOther, ValueGiven}
 use Rattle.rmp_decode.specs.Rows.{ReadsEach}
-use Rattle.rmp_decode.specs.Seq.{levels, IsOpen, Opens, FailsToOpen, TakesElement, FailsToTake, Run, seq_head}
+use Rattle.rmp_decode.specs.Seq.{OfRow, levels, IsOpen, Opens, FailsToOpen, TakesElement, FailsToTake, Run, seq_head}
 use Rattle.rmp_decode.specs.Variants.{OfVariant, IsAt, OpensVariant, TakesNameOf}
 use Rattle.rmp_decode.specs.With.{Reading, Lends, OffersPart, PartRead, PartMissing, SameList}
 use Rattle.rmp_decode.specs.declared.access.variant.Variant.{Variant}
@@ -25,9 +25,10 @@ use Rattle.rmp_decode.specs.declared.deserializer.Kept.TheVariants.{Nothing, Fir
 use Rattle.rmp_decode.specs.declared.error.Error.{Error}
 use Rattle.rmp_decode.specs.declared.error.Error.TheVariants.{OutOfMemory, Uncategorized}
 use Rattle.rmp_decode.specs.declared.text.Text.TheVariants.{FailedBefore}
-use Rattle.rmp_decode.proofs.Laws.{lawful_ok}
+use Rattle.rmp_decode.proofs.Laws.{lawful_ok, stays_refl}
 use Rattle.rmp_decode.proofs.Options.{option_missing, option_some, option_refused}
-use Rattle.rmp_decode.proofs.Seqs.{Values, each_next, seq_unopened, seq_take, seq_done, seq_unkept}
+use Rattle.rmp_decode.proofs.Rows.{append}
+use Rattle.rmp_decode.proofs.Seqs.{Values, each_next, seq_unopened, seq_element, seq_take, seq_done, seq_unkept}
 use Rattle.rmp_decode.proofs.Variants.{variant_ok}
 use Rattle.rmp_decode.proofs.ElementWiths.{with_taken, with_refused}
 use Rattle.test_recursive.specs.Recursion.{Row}
@@ -133,6 +134,20 @@ module _ {R C V : Type 0} (g : Ghosts R) (reads : Msg → V → Type 0) (old : D
 
     pub row_done : mid.left ≡ 0 → last ≡ record mid.de.now { failed = false } → Lawful g (Row reads) old last (Ok vs)
     row_done z q = seq_done g (λ us ms. ReadsEach reads ms us) old start mid r.trees o r.run last vs r.values z q
+
+-- ---- values of several types
+
+pub lawful_at : {R C V : Type 0} (g : Ghosts R) (reads : Msg → V → Type 0) (old last now : Deserializer R C) (r : Result V Error) → last ≡ now
+    → Lawful g reads old now r → Lawful g reads old last r
+lawful_at g reads old last now r same l = subst (λ z. Lawful g reads old z r) (sym same) l
+
+-- the list is over before a value that is wanted
+pub row_short : {R C V A : Type 0} (g : Ghosts R) (Q : V → Msgs → Type 0) (old : Deserializer R C) (start mid : SeqAccess R C) (ms : Msgs)
+    (o : Opens g old start) (r : Run g start mid ms) (last : Deserializer R C) (reads : Msg → A → Type 0) (e : Error) → mid.left ≡ 0 → last ≡ mid.de.now
+    → ((m : Msg) (ks : Msgs) (v : V) → Q v (append ms (item m ks)) → Readable reads m) → ((v : V) → Q v (append ms no_items) → ⊥)
+    → Lawful g (λ m v. OfRow (Q v) m) old last (Err e)
+row_short g Q old start mid ms o r last reads e z q proj some = seq_element g Q old start mid ms o r last reads mid e
+    (record { stays = stays_refl g mid.de.now; err = inl z }) r.still.marked q proj some
 
 -- a list, as a vector
 pub vec_row : {V : Type 0} (reads : Msg → V → Type 0) (m : Msg) → Readable (λ k (v : Vec V Global). Row reads k v.items) m → Readable (Row reads) m

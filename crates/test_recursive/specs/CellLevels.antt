@@ -152,6 +152,9 @@ cell_fits_in v x e h = subst (λ T. T) (sym (cell_fits_is v)) (subst CellFits (s
 pub cell_is : (v : Cell) → cell_data v ≡ cell_level (map-Cell Cell (Option Data) cell_data (out-Cell v))
 cell_is v = fold_out-Cell (Option Data) cell_level v
 
+pub cell_is_at : (v : Cell) (x : Cell-F Cell) → out-Cell v ≡ x → cell_data v ≡ cell_level (map-Cell Cell (Option Data) cell_data x)
+cell_is_at v x e = cell_is v ∙ ap (λ z. cell_level (map-Cell Cell (Option Data) cell_data z)) e
+
 cell_at_tail : (y : Cell-F Cell) (o : Option (Box Cell Global))
     → option_of (λ b. b.value) (map-Cell Cell (Option Data) cell_data (record y { tail = o })).tail ≡ option_of
     (λ (b : Box Cell Global). cell_data b.value) o

@@ -143,9 +143,9 @@ expr_through X at k Expr-F.Nothing = refl
 expr_through X at k (Expr-F.Number a) = refl
 expr_through X at k (Expr-F.Name a) = refl
 expr_through X at k (Expr-F.Truth a) = refl
-expr_through X at k (Expr-F.Not a) = refl
-expr_through X at k (Expr-F.Sum a) = through at k a.items
-expr_through X at k (Expr-F.Product a) = through at k a.items
+expr_through X at k (Expr-F.Not a) = λ i. k (at a.value)
+expr_through X at k (Expr-F.Sum a) = λ i. through at k a.items i
+expr_through X at k (Expr-F.Product a) = λ i. through at k a.items i
 
 abbrev pub ExprFits : Expr-F Expr → Type 0
 ExprFits x = expr_layer_fits Expr (λ y. y) expr_fits x
@@ -161,3 +161,6 @@ expr_fits_in v x e h = subst (λ T. T) (sym (expr_fits_is v)) (subst ExprFits (s
 
 pub expr_is : (v : Expr) → expr_data v ≡ expr_level (map-Expr Expr (Option Data) expr_data (out-Expr v))
 expr_is v = fold_out-Expr (Option Data) expr_level v
+
+pub expr_is_at : (v : Expr) (x : Expr-F Expr) → out-Expr v ≡ x → expr_data v ≡ expr_level (map-Expr Expr (Option Data) expr_data x)
+expr_is_at v x e = expr_is v ∙ ap (λ z. expr_level (map-Expr Expr (Option Data) expr_data z)) e

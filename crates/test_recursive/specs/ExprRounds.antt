@@ -35,6 +35,7 @@ use Rattle.test_recursive.specs.ExprLevels.{
   expr_induction,
   expr_fits_out,
   expr_is,
+  expr_is_at,
 }
 use Rattle.rmp_wire.specs.Msg as msg
 
@@ -107,7 +108,7 @@ abbrev pub SameExpr : Expr → Expr → Type 0
 SameExpr v w = expr_data v ≡ expr_data w
 
 expr_by : (w : Expr) (y : Expr-F Expr) → out-Expr w ≡ y → expr_level (map-Expr Expr (Option Data) expr_data y) ≡ expr_data w
-expr_by w y e = sym (expr_is w ∙ ap (λ z. expr_level (map-Expr Expr (Option Data) expr_data z)) e)
+expr_by w y e = sym (expr_is_at w y e)
 
 module _ (s : Settings) where
   abbrev ExprOnly : Expr → Type 0
@@ -130,9 +131,9 @@ module _ (s : Settings) where
       (λ k. Only (λ (k : Msg) (x : ℤ). IsSigned (negsuc 9223372036854775807) (pos 9223372036854775807) k x) (λ (x y : ℤ). x ≡ y) k a) (λ m p. (refl, p))
       (signed_only s (negsuc 9223372036854775807) (pos 9223372036854775807) a))
       (λ m q w r. variant_both expr_names 1 _ (ExprCase IsExpr w) _ m q r
-      (λ c i j. ap (λ n. newtype_variant_of (codes "Number") (Some (whole n)))
-      (content_only (λ (k : Msg) (x : ℤ). IsSigned (negsuc 9223372036854775807) (pos 9223372036854775807) k x) (λ (x y : ℤ). x ≡ y) a j.0 c i j.2)
-      ∙ expr_by w (Expr-F.Number j.0) j.1))
+      (λ c i j. ap (λ d. newtype_variant_of (codes "Number") d)
+      (ap (λ n. Some (whole n)) (content_only (λ (k : Msg) (x : ℤ). IsSigned (negsuc 9223372036854775807) (pos 9223372036854775807) k x)
+      (λ (x y : ℤ). x ≡ y) a j.0 c i j.2)) ∙ expr_by w (Expr-F.Number j.0) j.1))
   expr_level_only (Expr-F.Name a) h fit =
       lowers_then s (newtype_variant_of (codes "Name") (Some (text (string_bytes a)))) _ (ExprLevelOnly (Expr-F.Name a))
       (newtype_variant_row s expr_names (codes "Name") 2 refl
@@ -141,17 +142,18 @@ module _ (s : Settings) where
       (λ k. Only (λ (k : Msg) (x : String Global). IsRaw k (string_bytes x)) (λ (x y : String Global). string_bytes x ≡ string_bytes y) k a)
       (λ m p. (refl, p)) (string_only s (λ (w : String Global). string_bytes w) (string_bytes a)))
       (λ m q w r. variant_both expr_names 2 _ (ExprCase IsExpr w) _ m q r
-      (λ c i j. ap (λ n. newtype_variant_of (codes "Name") (Some (text n)))
-      (content_only (λ (k : Msg) (x : String Global). IsRaw k (string_bytes x)) (λ (x y : String Global). string_bytes x ≡ string_bytes y) a j.0 c i
-      j.2) ∙ expr_by w (Expr-F.Name j.0) j.1))
+      (λ c i j. ap (λ d. newtype_variant_of (codes "Name") d)
+      (ap (λ n. Some (text n)) (content_only (λ (k : Msg) (x : String Global). IsRaw k (string_bytes x))
+      (λ (x y : String Global). string_bytes x ≡ string_bytes y) a j.0 c i j.2)) ∙ expr_by w (Expr-F.Name j.0) j.1))
   expr_level_only (Expr-F.Truth a) h fit =
       lowers_then s (newtype_variant_of (codes "Truth") (Some (truth a))) _ (ExprLevelOnly (Expr-F.Truth a))
       (newtype_variant_row s expr_names (codes "Truth") 3 refl
       (AtPlace 3 (Content (λ k. Only (λ (k : Msg) (x : Bool). k ≡ msg.truth x) (λ (x y : Bool). x ≡ y) k a))) (Some (truth a))
       (λ k. Only (λ (k : Msg) (x : Bool). k ≡ msg.truth x) (λ (x y : Bool). x ≡ y) k a) (λ m p. (refl, p)) (truth_only s a))
       (λ m q w r. variant_both expr_names 3 _ (ExprCase IsExpr w) _ m q r
-      (λ c i j. ap (λ n. newtype_variant_of (codes "Truth") (Some (truth n)))
-      (content_only (λ (k : Msg) (x : Bool). k ≡ msg.truth x) (λ (x y : Bool). x ≡ y) a j.0 c i j.2) ∙ expr_by w (Expr-F.Truth j.0) j.1))
+      (λ c i j. ap (λ d. newtype_variant_of (codes "Truth") d)
+      (ap (λ n. Some (truth n)) (content_only (λ (k : Msg) (x : Bool). k ≡ msg.truth x) (λ (x y : Bool). x ≡ y) a j.0 c i j.2))
+      ∙ expr_by w (Expr-F.Truth j.0) j.1))
   expr_level_only (Expr-F.Not a) h fit =
       lowers_then s (newtype_variant_of (codes "Not") (expr_data a.value)) _ (ExprLevelOnly (Expr-F.Not a))
       (newtype_variant_row s expr_names (codes "Not") 4 refl
@@ -161,7 +163,7 @@ module _ (s : Settings) where
       (inside_only s (expr_data a.value) (λ b. b.value) IsExpr SameExpr a.value (h fit)))
       (λ m q w r. variant_both expr_names 4 _ (ExprCase IsExpr w) _ m q r
       (λ c i j. ap (λ d. newtype_variant_of (codes "Not") d)
-      (content_only (λ (k : Msg) (x : Box Expr Global). IsExpr k x.value) (λ (x y : Box Expr Global). SameExpr x.value y.value) a j.0 c i j.2)
+      ((content_only (λ (k : Msg) (x : Box Expr Global). IsExpr k x.value) (λ (x y : Box Expr Global). SameExpr x.value y.value) a j.0 c i j.2))
       ∙ expr_by w (Expr-F.Not j.0) j.1))
   expr_level_only (Expr-F.Sum a) h fit =
       lowers_then s (newtype_variant_of (codes "Sum") (slice_of (map expr_data a.items))) _ (ExprLevelOnly (Expr-F.Sum a))
@@ -173,9 +175,10 @@ module _ (s : Settings) where
       (slice_row s (map expr_data a.items) (λ ms. ReadsEach (Only IsExpr SameExpr) ms a.items)
       (each_row s expr_data ExprOnly (Only IsExpr SameExpr) (λ w p. p) a.items (each_from expr_fits ExprOnly a.items h fit)))))
       (λ m q w r. variant_both expr_names 5 _ (ExprCase IsExpr w) _ m q r
-      (λ c i j. ap (λ ds. newtype_variant_of (codes "Sum") (slice_of ds))
-      (map_alike expr_data a.items j.0.items (content_only (λ (k : Msg) (x : Vec Expr Global). Row IsExpr k x.items)
-      (λ (x y : Vec Expr Global). Alike SameExpr x.items y.items) a j.0 c i j.2)) ∙ expr_by w (Expr-F.Sum j.0) j.1))
+      (λ c i j. ap (λ d. newtype_variant_of (codes "Sum") d)
+      (ap slice_of (map_alike expr_data a.items j.0.items
+      (content_only (λ (k : Msg) (x : Vec Expr Global). Row IsExpr k x.items) (λ (x y : Vec Expr Global). Alike SameExpr x.items y.items) a j.0 c i
+      j.2))) ∙ expr_by w (Expr-F.Sum j.0) j.1))
   expr_level_only (Expr-F.Product a) h fit =
       lowers_then s (newtype_variant_of (codes "Product") (slice_of (map expr_data a.items))) _ (ExprLevelOnly (Expr-F.Product a))
       (newtype_variant_row s expr_names (codes "Product") 6 refl
@@ -186,9 +189,10 @@ module _ (s : Settings) where
       (slice_row s (map expr_data a.items) (λ ms. ReadsEach (Only IsExpr SameExpr) ms a.items)
       (each_row s expr_data ExprOnly (Only IsExpr SameExpr) (λ w p. p) a.items (each_from expr_fits ExprOnly a.items h fit)))))
       (λ m q w r. variant_both expr_names 6 _ (ExprCase IsExpr w) _ m q r
-      (λ c i j. ap (λ ds. newtype_variant_of (codes "Product") (slice_of ds))
-      (map_alike expr_data a.items j.0.items (content_only (λ (k : Msg) (x : Vec Expr Global). Row IsExpr k x.items)
-      (λ (x y : Vec Expr Global). Alike SameExpr x.items y.items) a j.0 c i j.2)) ∙ expr_by w (Expr-F.Product j.0) j.1))
+      (λ c i j. ap (λ d. newtype_variant_of (codes "Product") d)
+      (ap slice_of (map_alike expr_data a.items j.0.items
+      (content_only (λ (k : Msg) (x : Vec Expr Global). Row IsExpr k x.items) (λ (x y : Vec Expr Global). Alike SameExpr x.items y.items) a j.0 c i
+      j.2))) ∙ expr_by w (Expr-F.Product j.0) j.1))
 
   pub expr_only : (v : Expr) → expr_fits v → ExprOnly v
   expr_only = expr_induction (λ v. expr_fits v → ExprOnly v)

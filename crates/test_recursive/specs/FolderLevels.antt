@@ -172,6 +172,9 @@ folder_fits_in v x e h = subst (λ T. T) (sym (folder_fits_is v)) (subst FolderF
 pub folder_is : (v : Folder) → folder_data v ≡ folder_level (map-Folder Folder (Option Data) folder_data (out-Folder v))
 folder_is v = fold_out-Folder (Option Data) folder_level v
 
+pub folder_is_at : (v : Folder) (x : Folder-F Folder) → out-Folder v ≡ x → folder_data v ≡ folder_level (map-Folder Folder (Option Data) folder_data x)
+folder_is_at v x e = folder_is v ∙ ap (λ z. folder_level (map-Folder Folder (Option Data) folder_data z)) e
+
 -- ---- what it is written as, by what its parts are
 
 abbrev pub folder_own : Folder-F Folder → Option Data

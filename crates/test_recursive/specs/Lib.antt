@@ -22,3 +22,5 @@ pub mod FolderLevels
 pub mod FolderRounds
 pub mod SampleLevels
 pub mod SampleRounds
+pub mod FormulaLevels
+pub mod FormulaRounds

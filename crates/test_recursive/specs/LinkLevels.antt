@@ -127,12 +127,12 @@ link_induction P step =
 link_through : (X : Type 0) (at : X → Link) (k : Link → Type 0) (x : Link-F X)
     → link_layer_fits X at (λ p. k (at p)) x ≡ link_layer_fits Link (λ y. y) k (map-Link X Link at x)
 link_through X at k (Link-F.Last a) = refl
-link_through X at k (Link-F.Next None) = refl
-link_through X at k (Link-F.Next (Some a)) = refl
+link_through X at k (Link-F.Next None) = λ i. ⊤
+link_through X at k (Link-F.Next (Some a)) = λ i. k (at a.value)
 link_through X at k (Link-F.Named a) = refl
-link_through X at k (Link-F.Fork a) = through at k a.items
-link_through X at k (Link-F.Other None) = refl
-link_through X at k (Link-F.Other (Some a)) = refl
+link_through X at k (Link-F.Fork a) = λ i. through at k a.items i
+link_through X at k (Link-F.Other None) = λ i. ⊤
+link_through X at k (Link-F.Other (Some a)) = λ i. k (at a.value)
 
 abbrev pub LinkFits : Link-F Link → Type 0
 LinkFits x = link_layer_fits Link (λ y. y) link_fits x
@@ -148,3 +148,17 @@ link_fits_in v x e h = subst (λ T. T) (sym (link_fits_is v)) (subst LinkFits (s
 
 pub link_is : (v : Link) → link_data v ≡ link_level (map-Link Link (Option Data) link_data (out-Link v))
 link_is v = fold_out-Link (Option Data) link_level v
+
+pub link_is_at : (v : Link) (x : Link-F Link) → out-Link v ≡ x → link_data v ≡ link_level (map-Link Link (Option Data) link_data x)
+link_is_at v x e = link_is v ∙ ap (λ z. link_level (map-Link Link (Option Data) link_data z)) e
+
+pub link_at_Next : (a : Option (Box Link Global)) → link_level (map-Link Link (Option Data) link_data (Link-F.Next a)) ≡ newtype_variant_of (codes "Next")
+    (option_of (λ (b : Box Link Global). link_data b.value) a)
+link_at_Next None = refl
+link_at_Next (Some a) = refl
+
+pub link_at_Other : (a : Option (Box Link Global))
+    → link_level (map-Link Link (Option Data) link_data (Link-F.Other a)) ≡ newtype_variant_of (codes "Other")
+    (option_of (λ (b : Box Link Global). link_data b.value) a)
+link_at_Other None = refl
+link_at_Other (Some a) = refl

@@ -27,6 +27,8 @@ use Rattle.test_recursive.specs.LinkLevels.{
   IsLink,
   LinkParts,
   LinkFits,
+  link_at_Next,
+  link_at_Other,
   link_names,
   link_level,
   link_data,
@@ -36,6 +38,7 @@ use Rattle.test_recursive.specs.LinkLevels.{
   link_induction,
   link_fits_out,
   link_is,
+  link_is_at,
 }
 
 -- ---- no value is refused
@@ -116,17 +119,7 @@ abbrev pub SameLink : Link → Link → Type 0
 SameLink v w = link_data v ≡ link_data w
 
 link_by : (w : Link) (y : Link-F Link) → out-Link w ≡ y → link_level (map-Link Link (Option Data) link_data y) ≡ link_data w
-link_by w y e = sym (link_is w ∙ ap (λ z. link_level (map-Link Link (Option Data) link_data z)) e)
-
-link_at_Next : (a : Option (Box Link Global)) → link_level (map-Link Link (Option Data) link_data (Link-F.Next a)) ≡ newtype_variant_of (codes "Next")
-    (option_of (λ (b : Box Link Global). link_data b.value) a)
-link_at_Next None = refl
-link_at_Next (Some a) = refl
-
-link_at_Other : (a : Option (Box Link Global)) → link_level (map-Link Link (Option Data) link_data (Link-F.Other a)) ≡ newtype_variant_of (codes "Other")
-    (option_of (λ (b : Box Link Global). link_data b.value) a)
-link_at_Other None = refl
-link_at_Other (Some a) = refl
+link_by w y e = sym (link_is_at w y e)
 
 module _ (s : Settings) where
   abbrev LinkOnly : Link → Type 0
@@ -143,8 +136,9 @@ module _ (s : Settings) where
       (AtPlace 0 (Content (λ k. Only (λ (k : Msg) (x : ℕ). IsUnsigned 65535 k x) (λ (x y : ℕ). x ≡ y) k a))) (Some (whole (pos a)))
       (λ k. Only (λ (k : Msg) (x : ℕ). IsUnsigned 65535 k x) (λ (x y : ℕ). x ≡ y) k a) (λ m p. (refl, p)) (unsigned_only s 65535 a))
       (λ m q w r. variant_both link_names 0 _ (LinkCase IsLink w) _ m q r
-      (λ c i j. ap (λ n. newtype_variant_of (codes "Last") (Some (whole (pos n))))
-      (content_only (λ (k : Msg) (x : ℕ). IsUnsigned 65535 k x) (λ (x y : ℕ). x ≡ y) a j.0 c i j.2) ∙ link_by w (Link-F.Last j.0) j.1))
+      (λ c i j. ap (λ d. newtype_variant_of (codes "Last") d)
+      (ap (λ n. Some (whole (pos n))) (content_only (λ (k : Msg) (x : ℕ). IsUnsigned 65535 k x) (λ (x y : ℕ). x ≡ y) a j.0 c i j.2))
+      ∙ link_by w (Link-F.Last j.0) j.1))
   link_level_only (Link-F.Next None) h fit =
       lowers_then s (newtype_variant_of (codes "Next") (option_of (λ (b : Box Link Global). link_data b.value) None)) _ (LinkLevelOnly (Link-F.Next None))
       (newtype_variant_row s link_names (codes "Next") 1 refl
@@ -190,9 +184,9 @@ module _ (s : Settings) where
       (λ k. Only (λ (k : Msg) (x : String Global). IsRaw k (string_bytes x)) (λ (x y : String Global). string_bytes x ≡ string_bytes y) k a)
       (λ m p. (refl, p)) (string_only s (λ (w : String Global). string_bytes w) (string_bytes a)))
       (λ m q w r. variant_both link_names 2 _ (LinkCase IsLink w) _ m q r
-      (λ c i j. ap (λ n. newtype_variant_of (codes "Named") (Some (text n)))
-      (content_only (λ (k : Msg) (x : String Global). IsRaw k (string_bytes x)) (λ (x y : String Global). string_bytes x ≡ string_bytes y) a j.0 c i
-      j.2) ∙ link_by w (Link-F.Named j.0) j.1))
+      (λ c i j. ap (λ d. newtype_variant_of (codes "Named") d)
+      (ap (λ n. Some (text n)) (content_only (λ (k : Msg) (x : String Global). IsRaw k (string_bytes x))
+      (λ (x y : String Global). string_bytes x ≡ string_bytes y) a j.0 c i j.2)) ∙ link_by w (Link-F.Named j.0) j.1))
   link_level_only (Link-F.Fork a) h fit =
       lowers_then s (newtype_variant_of (codes "Fork") (slice_of (map link_data a.items))) _ (LinkLevelOnly (Link-F.Fork a))
       (newtype_variant_row s link_names (codes "Fork") 3 refl
@@ -203,9 +197,10 @@ module _ (s : Settings) where
       (slice_row s (map link_data a.items) (λ ms. ReadsEach (Only IsLink SameLink) ms a.items)
       (each_row s link_data LinkOnly (Only IsLink SameLink) (λ w p. p) a.items (each_from link_fits LinkOnly a.items h fit)))))
       (λ m q w r. variant_both link_names 3 _ (LinkCase IsLink w) _ m q r
-      (λ c i j. ap (λ ds. newtype_variant_of (codes "Fork") (slice_of ds))
-      (map_alike link_data a.items j.0.items (content_only (λ (k : Msg) (x : Vec Link Global). Row IsLink k x.items)
-      (λ (x y : Vec Link Global). Alike SameLink x.items y.items) a j.0 c i j.2)) ∙ link_by w (Link-F.Fork j.0) j.1))
+      (λ c i j. ap (λ d. newtype_variant_of (codes "Fork") d)
+      (ap slice_of (map_alike link_data a.items j.0.items
+      (content_only (λ (k : Msg) (x : Vec Link Global). Row IsLink k x.items) (λ (x y : Vec Link Global). Alike SameLink x.items y.items) a j.0 c i
+      j.2))) ∙ link_by w (Link-F.Fork j.0) j.1))
   link_level_only (Link-F.Other None) h fit =
       lowers_then s (newtype_variant_of (codes "Other") (option_of (λ (b : Box Link Global). link_data b.value) None)) _ (LinkLevelOnly (Link-F.Other None))
       (newtype_variant_row s link_names (codes "Other") 4 refl

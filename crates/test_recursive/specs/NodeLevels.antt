@@ -140,6 +140,9 @@ node_fits_in v x e h = subst (λ T. T) (sym (node_fits_is v)) (subst NodeFits (s
 pub node_is : (v : Node) → node_data v ≡ node_level (map-Node Node (Option Data) node_data (out-Node v))
 node_is v = fold_out-Node (Option Data) node_level v
 
+pub node_is_at : (v : Node) (x : Node-F Node) → out-Node v ≡ x → node_data v ≡ node_level (map-Node Node (Option Data) node_data x)
+node_is_at v x e = node_is v ∙ ap (λ z. node_level (map-Node Node (Option Data) node_data z)) e
+
 -- ---- what it is written as, by what its parts are
 
 abbrev pub node_own : Node-F Node → Option Data

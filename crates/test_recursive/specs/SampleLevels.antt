@@ -184,6 +184,9 @@ sample_fits_in v x e h = subst (λ T. T) (sym (sample_fits_is v)) (subst SampleF
 pub sample_is : (v : Sample) → sample_data v ≡ sample_level (map-Sample Sample (Option Data) sample_data (out-Sample v))
 sample_is v = fold_out-Sample (Option Data) sample_level v
 
+pub sample_is_at : (v : Sample) (x : Sample-F Sample) → out-Sample v ≡ x → sample_data v ≡ sample_level (map-Sample Sample (Option Data) sample_data x)
+sample_is_at v x e = sample_is v ∙ ap (λ z. sample_level (map-Sample Sample (Option Data) sample_data z)) e
+
 sample_at_before : (y : Sample-F Sample) (o : Option (Box Sample Global))
     → option_of (λ b. b.value) (map-Sample Sample (Option Data) sample_data (record y { before = o })).before ≡ option_of
     (λ (b : Box Sample Global). sample_data b.value) o

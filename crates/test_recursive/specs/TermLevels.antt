@@ -172,7 +172,7 @@ term_through X at k (Term-F.Offset a) = refl
 term_through X at k (Term-F.Big a) = refl
 term_through X at k (Term-F.Wide a) = refl
 term_through X at k (Term-F.Short a) = refl
-term_through X at k (Term-F.Quoted a) = refl
+term_through X at k (Term-F.Quoted a) = λ i. k (at a.value)
 
 abbrev pub TermFits : Term-F Term → Type 0
 TermFits x = term_layer_fits Term (λ y. y) term_fits x
@@ -188,3 +188,6 @@ term_fits_in v x e h = subst (λ T. T) (sym (term_fits_is v)) (subst TermFits (s
 
 pub term_is : (v : Term) → term_data v ≡ term_level (map-Term Term (Option Data) term_data (out-Term v))
 term_is v = fold_out-Term (Option Data) term_level v
+
+pub term_is_at : (v : Term) (x : Term-F Term) → out-Term v ≡ x → term_data v ≡ term_level (map-Term Term (Option Data) term_data x)
+term_is_at v x e = term_is v ∙ ap (λ z. term_level (map-Term Term (Option Data) term_data z)) e

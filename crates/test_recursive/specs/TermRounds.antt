@@ -39,6 +39,7 @@ use Rattle.test_recursive.specs.TermLevels.{
   term_induction,
   term_fits_out,
   term_is,
+  term_is_at,
 }
 use Rattle.rmp_wire.specs.Msg as msg
 
@@ -120,7 +121,7 @@ abbrev pub SameTerm : Term → Term → Type 0
 SameTerm v w = term_data v ≡ term_data w
 
 term_by : (w : Term) (y : Term-F Term) → out-Term w ≡ y → term_level (map-Term Term (Option Data) term_data y) ≡ term_data w
-term_by w y e = sym (term_is w ∙ ap (λ z. term_level (map-Term Term (Option Data) term_data z)) e)
+term_by w y e = sym (term_is_at w y e)
 
 module _ (s : Settings) where
   abbrev TermOnly : Term → Type 0
@@ -137,8 +138,9 @@ module _ (s : Settings) where
       (Some (char a))
       (λ k. Only (λ (k : Msg) (x : ℕ). IsChar k x) (λ (x y : ℕ). x ≡ y) k a) (λ m p. (refl, p)) (char_only s a fit))
       (λ m q w r. variant_both term_names 0 _ (TermCase IsTerm w) _ m q r
-      (λ c i j. ap (λ n. newtype_variant_of (codes "Letter") (Some (char n)))
-      (content_only (λ (k : Msg) (x : ℕ). IsChar k x) (λ (x y : ℕ). x ≡ y) a j.0 c i j.2) ∙ term_by w (Term-F.Letter j.0) j.1))
+      (λ c i j. ap (λ d. newtype_variant_of (codes "Letter") d)
+      (ap (λ n. Some (char n)) (content_only (λ (k : Msg) (x : ℕ). IsChar k x) (λ (x y : ℕ). x ≡ y) a j.0 c i j.2))
+      ∙ term_by w (Term-F.Letter j.0) j.1))
   term_level_only (Term-F.Half a) h fit =
       lowers_then s (newtype_variant_of (codes "Half") (Some (float32 a.0))) _ (TermLevelOnly (Term-F.Half a))
       (newtype_variant_row s term_names (codes "Half") 1 refl
@@ -146,8 +148,9 @@ module _ (s : Settings) where
       (λ k. Only (λ (k : Msg) (x : F32Bits). k ≡ msg.float32 x.0) (λ (x y : F32Bits). x.0 ≡ y.0) k a) (λ m p. (refl, p))
       (float32_only s (λ (w : F32Bits). w.0) a.0))
       (λ m q w r. variant_both term_names 1 _ (TermCase IsTerm w) _ m q r
-      (λ c i j. ap (λ n. newtype_variant_of (codes "Half") (Some (float32 n)))
-      (content_only (λ (k : Msg) (x : F32Bits). k ≡ msg.float32 x.0) (λ (x y : F32Bits). x.0 ≡ y.0) a j.0 c i j.2) ∙ term_by w (Term-F.Half j.0) j.1))
+      (λ c i j. ap (λ d. newtype_variant_of (codes "Half") d)
+      (ap (λ n. Some (float32 n)) (content_only (λ (k : Msg) (x : F32Bits). k ≡ msg.float32 x.0) (λ (x y : F32Bits). x.0 ≡ y.0) a j.0 c i j.2))
+      ∙ term_by w (Term-F.Half j.0) j.1))
   term_level_only (Term-F.Whole a) h fit =
       lowers_then s (newtype_variant_of (codes "Whole") (Some (float64 a.0))) _ (TermLevelOnly (Term-F.Whole a))
       (newtype_variant_row s term_names (codes "Whole") 2 refl
@@ -155,8 +158,9 @@ module _ (s : Settings) where
       (λ k. Only (λ (k : Msg) (x : F64Bits). k ≡ msg.float64 x.0) (λ (x y : F64Bits). x.0 ≡ y.0) k a) (λ m p. (refl, p))
       (float64_only s (λ (w : F64Bits). w.0) a.0))
       (λ m q w r. variant_both term_names 2 _ (TermCase IsTerm w) _ m q r
-      (λ c i j. ap (λ n. newtype_variant_of (codes "Whole") (Some (float64 n)))
-      (content_only (λ (k : Msg) (x : F64Bits). k ≡ msg.float64 x.0) (λ (x y : F64Bits). x.0 ≡ y.0) a j.0 c i j.2) ∙ term_by w (Term-F.Whole j.0) j.1))
+      (λ c i j. ap (λ d. newtype_variant_of (codes "Whole") d)
+      (ap (λ n. Some (float64 n)) (content_only (λ (k : Msg) (x : F64Bits). k ≡ msg.float64 x.0) (λ (x y : F64Bits). x.0 ≡ y.0) a j.0 c i j.2))
+      ∙ term_by w (Term-F.Whole j.0) j.1))
   term_level_only (Term-F.Bytes a) h fit =
       lowers_then s (newtype_variant_of (codes "Bytes") (Some (bytes (buffer_bytes a)))) _ (TermLevelOnly (Term-F.Bytes a))
       (newtype_variant_row s term_names (codes "Bytes") 3 refl
@@ -165,9 +169,9 @@ module _ (s : Settings) where
       (λ k. Only (λ (k : Msg) (x : ByteBuf). IsBuffer k (buffer_bytes x)) (λ (x y : ByteBuf). buffer_bytes x ≡ buffer_bytes y) k a) (λ m p. (refl, p))
       (buffer_only s (λ (w : ByteBuf). buffer_bytes w) (buffer_bytes a)))
       (λ m q w r. variant_both term_names 3 _ (TermCase IsTerm w) _ m q r
-      (λ c i j. ap (λ n. newtype_variant_of (codes "Bytes") (Some (bytes n)))
-      (content_only (λ (k : Msg) (x : ByteBuf). IsBuffer k (buffer_bytes x)) (λ (x y : ByteBuf). buffer_bytes x ≡ buffer_bytes y) a j.0 c i j.2)
-      ∙ term_by w (Term-F.Bytes j.0) j.1))
+      (λ c i j. ap (λ d. newtype_variant_of (codes "Bytes") d)
+      (ap (λ n. Some (bytes n)) (content_only (λ (k : Msg) (x : ByteBuf). IsBuffer k (buffer_bytes x))
+      (λ (x y : ByteBuf). buffer_bytes x ≡ buffer_bytes y) a j.0 c i j.2)) ∙ term_by w (Term-F.Bytes j.0) j.1))
   term_level_only (Term-F.Size a) h fit =
       lowers_then s (newtype_variant_of (codes "Size") (Some (whole (pos a)))) _ (TermLevelOnly (Term-F.Size a))
       (newtype_variant_row s term_names (codes "Size") 4 refl
@@ -175,8 +179,9 @@ module _ (s : Settings) where
       (λ k. Only (λ (k : Msg) (x : ℕ). IsUnsigned 18446744073709551615 k x) (λ (x y : ℕ). x ≡ y) k a) (λ m p. (refl, p))
       (unsigned_only s 18446744073709551615 a))
       (λ m q w r. variant_both term_names 4 _ (TermCase IsTerm w) _ m q r
-      (λ c i j. ap (λ n. newtype_variant_of (codes "Size") (Some (whole (pos n))))
-      (content_only (λ (k : Msg) (x : ℕ). IsUnsigned 18446744073709551615 k x) (λ (x y : ℕ). x ≡ y) a j.0 c i j.2) ∙ term_by w (Term-F.Size j.0) j.1))
+      (λ c i j. ap (λ d. newtype_variant_of (codes "Size") d)
+      (ap (λ n. Some (whole (pos n))) (content_only (λ (k : Msg) (x : ℕ). IsUnsigned 18446744073709551615 k x) (λ (x y : ℕ). x ≡ y) a j.0 c i j.2))
+      ∙ term_by w (Term-F.Size j.0) j.1))
   term_level_only (Term-F.Offset a) h fit =
       lowers_then s (newtype_variant_of (codes "Offset") (Some (whole a))) _ (TermLevelOnly (Term-F.Offset a))
       (newtype_variant_row s term_names (codes "Offset") 5 refl
@@ -185,33 +190,36 @@ module _ (s : Settings) where
       (λ k. Only (λ (k : Msg) (x : ℤ). IsSigned (negsuc 9223372036854775807) (pos 9223372036854775807) k x) (λ (x y : ℤ). x ≡ y) k a) (λ m p. (refl, p))
       (signed_only s (negsuc 9223372036854775807) (pos 9223372036854775807) a))
       (λ m q w r. variant_both term_names 5 _ (TermCase IsTerm w) _ m q r
-      (λ c i j. ap (λ n. newtype_variant_of (codes "Offset") (Some (whole n)))
-      (content_only (λ (k : Msg) (x : ℤ). IsSigned (negsuc 9223372036854775807) (pos 9223372036854775807) k x) (λ (x y : ℤ). x ≡ y) a j.0 c i j.2)
-      ∙ term_by w (Term-F.Offset j.0) j.1))
+      (λ c i j. ap (λ d. newtype_variant_of (codes "Offset") d)
+      (ap (λ n. Some (whole n)) (content_only (λ (k : Msg) (x : ℤ). IsSigned (negsuc 9223372036854775807) (pos 9223372036854775807) k x)
+      (λ (x y : ℤ). x ≡ y) a j.0 c i j.2)) ∙ term_by w (Term-F.Offset j.0) j.1))
   term_level_only (Term-F.Big a) h fit =
       lowers_then s (newtype_variant_of (codes "Big") (Some (unsigned128 a))) _ (TermLevelOnly (Term-F.Big a))
       (newtype_variant_row s term_names (codes "Big") 6 refl
       (AtPlace 6 (Content (λ k. Only (λ (k : Msg) (x : ℕ). IsUnsigned128 k x) (λ (x y : ℕ). x ≡ y) k a))) (Some (unsigned128 a))
       (λ k. Only (λ (k : Msg) (x : ℕ). IsUnsigned128 k x) (λ (x y : ℕ). x ≡ y) k a) (λ m p. (refl, p)) (unsigned128_only s a fit))
       (λ m q w r. variant_both term_names 6 _ (TermCase IsTerm w) _ m q r
-      (λ c i j. ap (λ n. newtype_variant_of (codes "Big") (Some (unsigned128 n)))
-      (content_only (λ (k : Msg) (x : ℕ). IsUnsigned128 k x) (λ (x y : ℕ). x ≡ y) a j.0 c i j.2) ∙ term_by w (Term-F.Big j.0) j.1))
+      (λ c i j. ap (λ d. newtype_variant_of (codes "Big") d)
+      (ap (λ n. Some (unsigned128 n)) (content_only (λ (k : Msg) (x : ℕ). IsUnsigned128 k x) (λ (x y : ℕ). x ≡ y) a j.0 c i j.2))
+      ∙ term_by w (Term-F.Big j.0) j.1))
   term_level_only (Term-F.Wide a) h fit =
       lowers_then s (newtype_variant_of (codes "Wide") (Some (signed128 a))) _ (TermLevelOnly (Term-F.Wide a))
       (newtype_variant_row s term_names (codes "Wide") 7 refl
       (AtPlace 7 (Content (λ k. Only (λ (k : Msg) (x : ℤ). IsSigned128 k x) (λ (x y : ℤ). x ≡ y) k a))) (Some (signed128 a))
       (λ k. Only (λ (k : Msg) (x : ℤ). IsSigned128 k x) (λ (x y : ℤ). x ≡ y) k a) (λ m p. (refl, p)) (signed128_only s a fit))
       (λ m q w r. variant_both term_names 7 _ (TermCase IsTerm w) _ m q r
-      (λ c i j. ap (λ n. newtype_variant_of (codes "Wide") (Some (signed128 n)))
-      (content_only (λ (k : Msg) (x : ℤ). IsSigned128 k x) (λ (x y : ℤ). x ≡ y) a j.0 c i j.2) ∙ term_by w (Term-F.Wide j.0) j.1))
+      (λ c i j. ap (λ d. newtype_variant_of (codes "Wide") d)
+      (ap (λ n. Some (signed128 n)) (content_only (λ (k : Msg) (x : ℤ). IsSigned128 k x) (λ (x y : ℤ). x ≡ y) a j.0 c i j.2))
+      ∙ term_by w (Term-F.Wide j.0) j.1))
   term_level_only (Term-F.Short a) h fit =
       lowers_then s (newtype_variant_of (codes "Short") (Some (whole (pos a)))) _ (TermLevelOnly (Term-F.Short a))
       (newtype_variant_row s term_names (codes "Short") 8 refl
       (AtPlace 8 (Content (λ k. Only (λ (k : Msg) (x : ℕ). IsUnsigned 65535 k x) (λ (x y : ℕ). x ≡ y) k a))) (Some (whole (pos a)))
       (λ k. Only (λ (k : Msg) (x : ℕ). IsUnsigned 65535 k x) (λ (x y : ℕ). x ≡ y) k a) (λ m p. (refl, p)) (unsigned_only s 65535 a))
       (λ m q w r. variant_both term_names 8 _ (TermCase IsTerm w) _ m q r
-      (λ c i j. ap (λ n. newtype_variant_of (codes "Short") (Some (whole (pos n))))
-      (content_only (λ (k : Msg) (x : ℕ). IsUnsigned 65535 k x) (λ (x y : ℕ). x ≡ y) a j.0 c i j.2) ∙ term_by w (Term-F.Short j.0) j.1))
+      (λ c i j. ap (λ d. newtype_variant_of (codes "Short") d)
+      (ap (λ n. Some (whole (pos n))) (content_only (λ (k : Msg) (x : ℕ). IsUnsigned 65535 k x) (λ (x y : ℕ). x ≡ y) a j.0 c i j.2))
+      ∙ term_by w (Term-F.Short j.0) j.1))
   term_level_only (Term-F.Quoted a) h fit =
       lowers_then s (newtype_variant_of (codes "Quoted") (term_data a.value)) _ (TermLevelOnly (Term-F.Quoted a))
       (newtype_variant_row s term_names (codes "Quoted") 9 refl
@@ -221,7 +229,7 @@ module _ (s : Settings) where
       (inside_only s (term_data a.value) (λ b. b.value) IsTerm SameTerm a.value (h fit)))
       (λ m q w r. variant_both term_names 9 _ (TermCase IsTerm w) _ m q r
       (λ c i j. ap (λ d. newtype_variant_of (codes "Quoted") d)
-      (content_only (λ (k : Msg) (x : Box Term Global). IsTerm k x.value) (λ (x y : Box Term Global). SameTerm x.value y.value) a j.0 c i j.2)
+      ((content_only (λ (k : Msg) (x : Box Term Global). IsTerm k x.value) (λ (x y : Box Term Global). SameTerm x.value y.value) a j.0 c i j.2))
       ∙ term_by w (Term-F.Quoted j.0) j.1))
 
   pub term_only : (v : Term) → term_fits v → TermOnly v

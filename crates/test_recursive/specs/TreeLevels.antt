@@ -99,7 +99,7 @@ tree_induction P step =
 tree_through : (X : Type 0) (at : X → Tree) (k : Tree → Type 0) (x : Tree-F X)
     → tree_layer_fits X at (λ p. k (at p)) x ≡ tree_layer_fits Tree (λ y. y) k (map-Tree X Tree at x)
 tree_through X at k (Tree-F.Leaf a) = refl
-tree_through X at k (Tree-F.Node a) = through at k a.items
+tree_through X at k (Tree-F.Node a) = λ i. through at k a.items i
 
 abbrev pub TreeFits : Tree-F Tree → Type 0
 TreeFits x = tree_layer_fits Tree (λ y. y) tree_fits x
@@ -115,3 +115,6 @@ tree_fits_in v x e h = subst (λ T. T) (sym (tree_fits_is v)) (subst TreeFits (s
 
 pub tree_is : (v : Tree) → tree_data v ≡ tree_level (map-Tree Tree (Option Data) tree_data (out-Tree v))
 tree_is v = fold_out-Tree (Option Data) tree_level v
+
+pub tree_is_at : (v : Tree) (x : Tree-F Tree) → out-Tree v ≡ x → tree_data v ≡ tree_level (map-Tree Tree (Option Data) tree_data x)
+tree_is_at v x e = tree_is v ∙ ap (λ z. tree_level (map-Tree Tree (Option Data) tree_data z)) e

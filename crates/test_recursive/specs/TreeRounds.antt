@@ -35,6 +35,7 @@ use Rattle.test_recursive.specs.TreeLevels.{
   tree_induction,
   tree_fits_out,
   tree_is,
+  tree_is_at,
 }
 
 -- ---- no value is refused
@@ -85,7 +86,7 @@ abbrev pub SameTree : Tree → Tree → Type 0
 SameTree v w = tree_data v ≡ tree_data w
 
 tree_by : (w : Tree) (y : Tree-F Tree) → out-Tree w ≡ y → tree_level (map-Tree Tree (Option Data) tree_data y) ≡ tree_data w
-tree_by w y e = sym (tree_is w ∙ ap (λ z. tree_level (map-Tree Tree (Option Data) tree_data z)) e)
+tree_by w y e = sym (tree_is_at w y e)
 
 module _ (s : Settings) where
   abbrev TreeOnly : Tree → Type 0
@@ -102,8 +103,9 @@ module _ (s : Settings) where
       (AtPlace 0 (Content (λ k. Only (λ (k : Msg) (x : ℕ). IsUnsigned 255 k x) (λ (x y : ℕ). x ≡ y) k a))) (Some (byte a))
       (λ k. Only (λ (k : Msg) (x : ℕ). IsUnsigned 255 k x) (λ (x y : ℕ). x ≡ y) k a) (λ m p. (refl, p)) (byte_only s a))
       (λ m q w r. variant_both tree_names 0 _ (TreeCase IsTree w) _ m q r
-      (λ c i j. ap (λ n. newtype_variant_of (codes "Leaf") (Some (byte n)))
-      (content_only (λ (k : Msg) (x : ℕ). IsUnsigned 255 k x) (λ (x y : ℕ). x ≡ y) a j.0 c i j.2) ∙ tree_by w (Tree-F.Leaf j.0) j.1))
+      (λ c i j. ap (λ d. newtype_variant_of (codes "Leaf") d)
+      (ap (λ n. Some (byte n)) (content_only (λ (k : Msg) (x : ℕ). IsUnsigned 255 k x) (λ (x y : ℕ). x ≡ y) a j.0 c i j.2))
+      ∙ tree_by w (Tree-F.Leaf j.0) j.1))
   tree_level_only (Tree-F.Node a) h fit =
       lowers_then s (newtype_variant_of (codes "Node") (slice_of (map tree_data a.items))) _ (TreeLevelOnly (Tree-F.Node a))
       (newtype_variant_row s tree_names (codes "Node") 1 refl
@@ -114,9 +116,10 @@ module _ (s : Settings) where
       (slice_row s (map tree_data a.items) (λ ms. ReadsEach (Only IsTree SameTree) ms a.items)
       (each_row s tree_data TreeOnly (Only IsTree SameTree) (λ w p. p) a.items (each_from tree_fits TreeOnly a.items h fit)))))
       (λ m q w r. variant_both tree_names 1 _ (TreeCase IsTree w) _ m q r
-      (λ c i j. ap (λ ds. newtype_variant_of (codes "Node") (slice_of ds))
-      (map_alike tree_data a.items j.0.items (content_only (λ (k : Msg) (x : Vec Tree Global). Row IsTree k x.items)
-      (λ (x y : Vec Tree Global). Alike SameTree x.items y.items) a j.0 c i j.2)) ∙ tree_by w (Tree-F.Node j.0) j.1))
+      (λ c i j. ap (λ d. newtype_variant_of (codes "Node") d)
+      (ap slice_of (map_alike tree_data a.items j.0.items
+      (content_only (λ (k : Msg) (x : Vec Tree Global). Row IsTree k x.items) (λ (x y : Vec Tree Global). Alike SameTree x.items y.items) a j.0 c i
+      j.2))) ∙ tree_by w (Tree-F.Node j.0) j.1))
 
   pub tree_only : (v : Tree) → tree_fits v → TreeOnly v
   tree_only = tree_induction (λ v. tree_fits v → TreeOnly v)

@@ -8,4 +8,4 @@ mod trees;
 
 pub use nodes::{Cell, Folder, Node, Sample};
 pub use recursive::{Nested, Rose};
-pub use trees::{Expr, Link, Term, Tree};
+pub use trees::{Expr, Formula, Link, Term, Tree};

@@ -46,3 +46,14 @@ pub enum Link {
     Fork(Vec<Link>),
     Other(Option<Box<Link>>),
 }
+
+/// A formula of a table: numbers, cells, and what is made of other formulas.
+#[derive(Drop)]
+pub enum Formula {
+    Number(i64),
+    Cell(u16, u16),
+    Add(Box<Formula>, Box<Formula>),
+    Shift(i32, Box<Formula>),
+    Call(String, Vec<Formula>),
+    If(Box<Formula>, Box<Formula>, Option<Box<Formula>>),
+}

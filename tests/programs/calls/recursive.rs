@@ -5,9 +5,11 @@ use rmp_wire::{ByteBuf, F32Bits, ReadRefReader};
 use std::alloc::Global;
 use std::process::Abort;
 use std::test::Fail;
-use test_recursive::{Cell, Expr, Folder, Link, Nested, Node, Rose, Sample, Tree};
+use test_recursive::{Cell, Expr, Folder, Formula, Link, Nested, Node, Rose, Sample, Tree};
 
 const TREE: &[u8] = b"\x81\xa4Node\x92\x81\xa4Leaf\x01\x81\xa4Node\x90";
+
+const SUM: &[u8] = b"\x81\xa3Add\x92\x81\xa6Number\xff\x81\xa4Cell\x92\x02\x03";
 
 const CHAIN: &[u8] = b"\x81\xa4Next\x81\xa4Next\xc0";
 
@@ -113,6 +115,44 @@ fn expressions(rt: HostRuntime) {
         (b"\xa3Sum", "invalid type"),
     ] {
         refused::<Expr>(&rt, rt.alloc(), read(rt.alloc(), 1024, input), why);
+    }
+}
+
+#[test]
+fn formulas_written(rt: HostRuntime) -> Result<(), Fail> {
+    let first = Box::new(rt.alloc(), Formula::Number(-1))?;
+    let second = Box::new(rt.alloc(), Formula::Cell(2, 3))?;
+    writes(&rt, rt.alloc(), &Formula::Add(first, second), false, SUM);
+    Ok(())
+}
+
+#[test]
+fn formulas(rt: HostRuntime) {
+    let call =
+        b"\x81\xa4Call\x92\xa3max\x92\x81\xa6Number\x01\x81\xa6Number\xd1\xff\x00".as_slice();
+    let choice = b"\x81\xa2If\x93\x81\xa4Cell\x92\x00\x01\x81\xa6Number\x02\xc0".as_slice();
+    let other =
+        b"\x81\xa2If\x93\x81\xa6Number\x01\x81\xa6Number\x02\x81\xa5Shift\x92\xe0\x81\xa6Number\x03".as_slice();
+    for written in [SUM, call, choice, other] {
+        reads::<Formula>(&rt, rt.alloc(), 6, written, false, written);
+        refused::<Formula>(&rt, rt.alloc(), read(rt.alloc(), 2, written), TOO_DEEP);
+        assert!(rt; strictly::<Formula>(rt.alloc(), written).is_ok());
+    }
+    let wide = b"\xde\x00\x01\x02\xdc\x00\x02\x81\x00\xd0\xff\x81\x01\xc4\x02\x02\x03";
+    reads::<Formula>(&rt, rt.alloc(), 1024, wide, false, SUM);
+    for (input, why) in [
+        (b"\xa3Add".as_slice(), "invalid type"),
+        (b"\x81\xa3Add\xc0", "invalid type"),
+        (b"\x81\xa3Add\x91\x81\xa6Number\x01", "invalid length"),
+        (b"\x81\xa3Add\x90", "invalid length"),
+        (
+            b"\x81\xa5Shift\x93\x01\x81\xa6Number\x01\x02",
+            "array had incorrect length, expected 2",
+        ),
+        (b"\x81\xa5Shift\x92\xc0\x81\xa6Number\x01", "invalid type"),
+        (b"\x81\xa4Call\x92\xa1f\x91\xa3Add", "invalid type"),
+    ] {
+        refused::<Formula>(&rt, rt.alloc(), read(rt.alloc(), 1024, input), why);
     }
 }
 
@@ -271,7 +311,8 @@ fn nodes_written(rt: HostRuntime) -> Result<(), Fail> {
 
 #[test]
 fn nodes_read(rt: HostRuntime) {
-    let turned = b"\x83\xa8children\x92\x92\x02\x90\x92\xcd\x01\x2c\xc4\x00\xa4more\x91\xc0\xa5value\x01";
+    let turned =
+        b"\x83\xa8children\x92\x92\x02\x90\x92\xcd\x01\x2c\xc4\x00\xa4more\x91\xc0\xa5value\x01";
     for (limit, input) in [(5, NODES), (5, NODES_NAMED), (5, turned.as_slice())] {
         reads::<Node>(&rt, rt.alloc(), limit, input, true, NODES_NAMED);
     }
@@ -385,7 +426,13 @@ fn samples_read(rt: HostRuntime) -> Result<(), Error> {
 
 #[test]
 fn cells(rt: HostRuntime) -> Result<(), Fail> {
-    let last = Box::new(rt.alloc(), Cell { head: 2, tail: None });
+    let last = Box::new(
+        rt.alloc(),
+        Cell {
+            head: 2,
+            tail: None,
+        },
+    );
     let Ok(last) = last else {
         return Err(Fail::from("no memory"));
     };
@@ -400,6 +447,11 @@ fn cells(rt: HostRuntime) -> Result<(), Fail> {
         reads::<Cell>(&rt, rt.alloc(), 4, input, true, CELLS_NAMED);
     }
     refused::<Cell>(&rt, rt.alloc(), read(rt.alloc(), 1, CELLS), TOO_DEEP);
-    refused::<Cell>(&rt, rt.alloc(), read(rt.alloc(), 9, b"\xc4\x02\x01\x02"), "invalid type");
+    refused::<Cell>(
+        &rt,
+        rt.alloc(),
+        read(rt.alloc(), 9, b"\xc4\x02\x01\x02"),
+        "invalid type",
+    );
     Ok(())
 }

@@ -4,6 +4,7 @@
 //! Sum of Expr: f55250eb.
 //! Sum of Term: 6b5d4a71.
 //! Sum of Link: 2aca41f4.
+//! Sum of Formula: a9058fa3.
 ghost use Rattle.rmp_decode.specs.Buffers.{IsBuffer};
 ghost use Rattle.rmp_decode.specs.Law.{Lawful};
 ghost use Rattle.rmp_decode.specs.Options.{IsOption};
@@ -14,6 +15,9 @@ ghost use Rattle.rmp_wire.specs.Types.{buffer_bytes};
 ghost use Rattle.std.specs.Prelude.{◌≡◌, None, Some, string_bytes, pos, negsuc};
 ghost use Rattle.test_recursive.specs.ExprLevels.{IsExpr, expr_data, expr_fits};
 ghost use Rattle.test_recursive.specs.ExprRounds.{SameExpr, expr_some, expr_round, expr_only, expr_other};
+ghost use Rattle.test_recursive.specs.FormulaLevels.{FormulaRowAdd, FormulaRowShift, FormulaRowCall, FormulaRowIf};
+ghost use Rattle.test_recursive.specs.FormulaLevels.{IsFormula, formula_data, formula_fits, FormulaRowCell};
+ghost use Rattle.test_recursive.specs.FormulaRounds.{SameFormula, formula_some, formula_round, formula_only, formula_other};
 ghost use Rattle.test_recursive.specs.LinkLevels.{IsLink, link_data, link_fits};
 ghost use Rattle.test_recursive.specs.LinkRounds.{SameLink, link_some, link_round, link_only, link_other};
 ghost use Rattle.test_recursive.specs.Recursion.{Row, Boxed};
@@ -22,7 +26,7 @@ ghost use Rattle.test_recursive.specs.TermRounds.{SameTerm, term_some, term_roun
 ghost use Rattle.test_recursive.specs.TreeLevels.{IsTree, tree_data, tree_fits};
 ghost use Rattle.test_recursive.specs.TreeRounds.{SameTree, tree_some, tree_round, tree_only, tree_other};
 
-use super::{ByteBuf, Expr, F32Bits, F64Bits, Link, Term, Tree};
+use super::{ByteBuf, Expr, F32Bits, F64Bits, Formula, Link, Term, Tree};
 use rmp_decode::{Deserialize, Deserializer, ReadContent, Slices};
 use rmp_encode::{Serialize, Serializer};
 use rmp_round_trip::{NeverNil, RoundTrip};
@@ -77,6 +81,14 @@ fn read_u16<R: Source, C: SerializerConfig>(
     de.deserialize_u16()
 }
 
+fn read_i32<R: Source, C: SerializerConfig>(
+    de: &mut Deserializer<R, C>,
+) -> Result<i32, rmp_decode::Error>
+    ensures law { Lawful R.Source (λ m v. IsSigned (negsuc 2147483647) (pos 2147483647) m v) de.old de.new result }
+{
+    de.deserialize_i32()
+}
+
 // How leaves are read. A function that calls itself may have no bound that names a lifetime, so it has this one, and is called with `Slices`.
 trait ReadLeaves<R: Source> {
     fn read_string<C: SerializerConfig>(
@@ -113,6 +125,11 @@ trait ReadLeaves<R: Source> {
         de: &mut Deserializer<R, C>,
     ) -> Result<isize, rmp_decode::Error>
         ensures law { Lawful R.Source (λ m v. IsSigned (negsuc 9223372036854775807) (pos 9223372036854775807) m v) de.old de.new result };
+
+    fn read_formula_cell_values<C: SerializerConfig>(
+        de: &mut Deserializer<R, C>,
+    ) -> Result<(u16, u16), rmp_decode::Error>
+        ensures law { Lawful R.Source (λ m v. FormulaRowCell m v) de.old de.new result };
 }
 
 impl<'de, R: ReadSlice<'de>> ReadLeaves<R> for Slices<'de> {
@@ -155,6 +172,12 @@ impl<'de, R: ReadSlice<'de>> ReadLeaves<R> for Slices<'de> {
     fn read_isize<C: SerializerConfig>(
         de: &mut Deserializer<R, C>,
     ) -> Result<isize, rmp_decode::Error> {
+        Deserialize::deserialize(de)
+    }
+
+    fn read_formula_cell_values<C: SerializerConfig>(
+        de: &mut Deserializer<R, C>,
+    ) -> Result<(u16, u16), rmp_decode::Error> {
         Deserialize::deserialize(de)
     }
 }
@@ -747,4 +770,348 @@ impl<'de, R: ReadSlice<'de>> RoundTrip<'de, R> for Link {
 
 impl NeverNil for Link {
     ghost never_nil = { λ s v. link_other s v };
+}
+
+impl Serialize for Formula {
+    ghost data_of = { λ v human. formula_data v };
+
+    ghost is_value = { λ v. formula_fits v };
+
+    #[cycle(formula_writing)]
+    fn serialize<W: Sink, C: SerializerConfig>(
+        &self,
+        se: &mut Serializer<W, C>,
+    ) -> Result<(), rmp_encode::Error> {
+        match self {
+            Formula::Number(value) => se.serialize_newtype_variant("Formula", 0, "Number", value),
+            Formula::Cell(first, second) => {
+                let mut parts = se.serialize_tuple_variant("Formula", 1, "Cell", 2)?;
+                parts.serialize_element(first)?;
+                parts.serialize_element(second)?;
+                parts.end()
+            }
+            Formula::Add(first, second) => {
+                let mut parts = se.serialize_tuple_variant("Formula", 2, "Add", 2)?;
+                parts.serialize_element(first)?;
+                parts.serialize_element(second)?;
+                parts.end()
+            }
+            Formula::Shift(first, second) => {
+                let mut parts = se.serialize_tuple_variant("Formula", 3, "Shift", 2)?;
+                parts.serialize_element(first)?;
+                parts.serialize_element(second)?;
+                parts.end()
+            }
+            Formula::Call(first, second) => {
+                let mut parts = se.serialize_tuple_variant("Formula", 4, "Call", 2)?;
+                parts.serialize_element(first)?;
+                parts.serialize_element(second)?;
+                parts.end()
+            }
+            Formula::If(first, second, third) => {
+                let mut parts = se.serialize_tuple_variant("Formula", 5, "If", 3)?;
+                parts.serialize_element(first)?;
+                parts.serialize_element(second)?;
+                parts.serialize_element(third)?;
+                parts.end()
+            }
+        }
+    }
+
+    #[tactic(auto, using(crate::proofs::FormulaLevels::formula_no_byte))]
+    fn as_u8(&self, _human: bool) -> Option<u8> {
+        match self {
+            Formula::Number(_) => None,
+            Formula::Cell(_, _) => None,
+            Formula::Add(_, _) => None,
+            Formula::Shift(_, _) => None,
+            Formula::Call(_, _) => None,
+            Formula::If(_, _, _) => None,
+        }
+    }
+}
+
+// Reads a `Formula`.
+#[cycle(formula_reading)]
+fn read_formula<R: Source, C: SerializerConfig, P: ReadContent<R> + ReadLeaves<R>>(
+    de: &mut Deserializer<R, C>,
+) -> Result<Formula, rmp_decode::Error>
+    ensures law { Lawful R.Source IsFormula de.old de.new result }
+{
+    match de.deserialize_enum_by::<P>(&["Number", "Cell", "Add", "Shift", "Call", "If"]) {
+        Ok((0, variant)) => match variant.newtype_variant_with(read_i64::<R, C>) {
+            Ok(value) => Ok(Formula::Number(value)),
+            Err(e) => Err(e),
+        },
+        Ok((1, variant)) => match variant.newtype_variant_with(
+            |de: &mut Deserializer<R, C>| -> Result<(u16, u16), rmp_decode::Error>
+                ensures law { Lawful R.Source (λ m v. FormulaRowCell m v) de.old de.new result }
+            { P::read_formula_cell_values::<C>(de) },
+        ) {
+            Ok((first, second)) => Ok(Formula::Cell(first, second)),
+            Err(e) => Err(e),
+        },
+        Ok((2, variant)) => match variant.newtype_variant_with(
+            |de: &mut Deserializer<R, C>| -> Result<(Box<Formula>, Box<Formula>), rmp_decode::Error>
+                ensures law { Lawful R.Source (λ m v. FormulaRowAdd IsFormula m v) de.old de.new result }
+            { read_formula_add_values::<R, C, P>(de) },
+        ) {
+            Ok((first, second)) => Ok(Formula::Add(first, second)),
+            Err(e) => Err(e),
+        },
+        Ok((3, variant)) => match variant.newtype_variant_with(
+            |de: &mut Deserializer<R, C>| -> Result<(i32, Box<Formula>), rmp_decode::Error>
+                ensures law { Lawful R.Source (λ m v. FormulaRowShift IsFormula m v) de.old de.new result }
+            { read_formula_shift_values::<R, C, P>(de) },
+        ) {
+            Ok((first, second)) => Ok(Formula::Shift(first, second)),
+            Err(e) => Err(e),
+        },
+        Ok((4, variant)) => match variant.newtype_variant_with(
+            |de: &mut Deserializer<R, C>| -> Result<(String, Vec<Formula>), rmp_decode::Error>
+                ensures law { Lawful R.Source (λ m v. FormulaRowCall IsFormula m v) de.old de.new result }
+            { read_formula_call_values::<R, C, P>(de) },
+        ) {
+            Ok((first, second)) => Ok(Formula::Call(first, second)),
+            Err(e) => Err(e),
+        },
+        Ok((_, variant)) => match variant.newtype_variant_with(
+            |de: &mut Deserializer<R, C>| -> Result<
+                (Box<Formula>, Box<Formula>, Option<Box<Formula>>),
+                rmp_decode::Error,
+            >
+                ensures law { Lawful R.Source (λ m v. FormulaRowIf IsFormula m v) de.old de.new result }
+            { read_formula_if_values::<R, C, P>(de) },
+        ) {
+            Ok((first, second, third)) => Ok(Formula::If(first, second, third)),
+            Err(e) => Err(e),
+        },
+        Err(e) => Err(e),
+    }
+}
+
+// Reads the values of a variant, one after another.
+#[cycle(formula_reading)]
+fn read_formula_add_values<R: Source, C: SerializerConfig, P: ReadContent<R> + ReadLeaves<R>>(
+    de: &mut Deserializer<R, C>,
+) -> Result<(Box<Formula>, Box<Formula>), rmp_decode::Error>
+    ensures law { Lawful R.Source (λ m v. FormulaRowAdd IsFormula m v) de.old de.new result }
+{
+    let mut seq = match de.deserialize_seq() {
+        Ok(seq) => seq,
+        Err(e) => return Err(e),
+    };
+    let first = match seq.next_element_with(
+        |de: &mut Deserializer<R, C>| -> Result<Box<Formula>, rmp_decode::Error>
+            ensures law { Lawful R.Source (λ m v. IsFormula m v.value) de.old de.new result }
+        { read_formula_box::<R, C, P>(de) },
+    ) {
+        Ok(Some(value)) => value,
+        Ok(None) => return Err(rmp_decode::Error::Syntax(rmp_decode::Text::InvalidLength)),
+        Err(e) => return Err(e),
+    };
+    let second = match seq.next_element_with(
+        |de: &mut Deserializer<R, C>| -> Result<Box<Formula>, rmp_decode::Error>
+            ensures law { Lawful R.Source (λ m v. IsFormula m v.value) de.old de.new result }
+        { read_formula_box::<R, C, P>(de) },
+    ) {
+        Ok(Some(value)) => value,
+        Ok(None) => return Err(rmp_decode::Error::Syntax(rmp_decode::Text::InvalidLength)),
+        Err(e) => return Err(e),
+    };
+    match seq.end() {
+        Ok(()) => Ok((first, second)),
+        Err(e) => Err(e),
+    }
+}
+
+// Reads a boxed one.
+#[cycle(formula_reading)]
+fn read_formula_box<R: Source, C: SerializerConfig, P: ReadContent<R> + ReadLeaves<R>>(
+    de: &mut Deserializer<R, C>,
+) -> Result<Box<Formula>, rmp_decode::Error>
+    ensures law { Lawful R.Source (λ m v. IsFormula m v.value) de.old de.new result }
+{
+    let value = match read_formula::<R, C, P>(de) {
+        Ok(value) => value,
+        Err(e) => return Err(e),
+    };
+    match Box::new(de.alloc(), value) {
+        Ok(boxed) => Ok(boxed),
+        Err(_) => Err(de.refuse(rmp_decode::Error::OutOfMemory)),
+    }
+}
+
+// Reads the values of a variant, one after another.
+#[cycle(formula_reading)]
+fn read_formula_shift_values<R: Source, C: SerializerConfig, P: ReadContent<R> + ReadLeaves<R>>(
+    de: &mut Deserializer<R, C>,
+) -> Result<(i32, Box<Formula>), rmp_decode::Error>
+    ensures law { Lawful R.Source (λ m v. FormulaRowShift IsFormula m v) de.old de.new result }
+{
+    let mut seq = match de.deserialize_seq() {
+        Ok(seq) => seq,
+        Err(e) => return Err(e),
+    };
+    let first = match seq.next_element_with(read_i32::<R, C>) {
+        Ok(Some(value)) => value,
+        Ok(None) => return Err(rmp_decode::Error::Syntax(rmp_decode::Text::InvalidLength)),
+        Err(e) => return Err(e),
+    };
+    let second = match seq.next_element_with(
+        |de: &mut Deserializer<R, C>| -> Result<Box<Formula>, rmp_decode::Error>
+            ensures law { Lawful R.Source (λ m v. IsFormula m v.value) de.old de.new result }
+        { read_formula_box::<R, C, P>(de) },
+    ) {
+        Ok(Some(value)) => value,
+        Ok(None) => return Err(rmp_decode::Error::Syntax(rmp_decode::Text::InvalidLength)),
+        Err(e) => return Err(e),
+    };
+    match seq.end() {
+        Ok(()) => Ok((first, second)),
+        Err(e) => Err(e),
+    }
+}
+
+// Reads the values of a variant, one after another.
+#[cycle(formula_reading)]
+fn read_formula_call_values<R: Source, C: SerializerConfig, P: ReadContent<R> + ReadLeaves<R>>(
+    de: &mut Deserializer<R, C>,
+) -> Result<(String, Vec<Formula>), rmp_decode::Error>
+    ensures law { Lawful R.Source (λ m v. FormulaRowCall IsFormula m v) de.old de.new result }
+{
+    let mut seq = match de.deserialize_seq() {
+        Ok(seq) => seq,
+        Err(e) => return Err(e),
+    };
+    let first = match seq.next_element_with(
+        |de: &mut Deserializer<R, C>| -> Result<String, rmp_decode::Error>
+            ensures law { Lawful R.Source (λ m v. IsRaw m (string_bytes v)) de.old de.new result }
+        { P::read_string::<C>(de) },
+    ) {
+        Ok(Some(value)) => value,
+        Ok(None) => return Err(rmp_decode::Error::Syntax(rmp_decode::Text::InvalidLength)),
+        Err(e) => return Err(e),
+    };
+    let second = match seq.next_element_with(
+        |de: &mut Deserializer<R, C>| -> Result<Vec<Formula>, rmp_decode::Error>
+            ensures law { Lawful R.Source (λ m v. Row IsFormula m v.items) de.old de.new result }
+        { read_formula_list::<R, C, P>(de) },
+    ) {
+        Ok(Some(value)) => value,
+        Ok(None) => return Err(rmp_decode::Error::Syntax(rmp_decode::Text::InvalidLength)),
+        Err(e) => return Err(e),
+    };
+    match seq.end() {
+        Ok(()) => Ok((first, second)),
+        Err(e) => Err(e),
+    }
+}
+
+// Reads a list of them.
+#[cycle(formula_reading)]
+fn read_formula_list<R: Source, C: SerializerConfig, P: ReadContent<R> + ReadLeaves<R>>(
+    de: &mut Deserializer<R, C>,
+) -> Result<Vec<Formula>, rmp_decode::Error>
+    ensures law { Lawful R.Source (λ m v. Row IsFormula m v.items) de.old de.new result }
+{
+    let mut items = Vec::new(de.alloc());
+    let mut seq = de.deserialize_seq()?;
+    while let Some(item) = seq.next_element_with(
+        |de: &mut Deserializer<R, C>| -> Result<Formula, rmp_decode::Error>
+            ensures law { Lawful R.Source (λ m v. IsFormula m v) de.old de.new result }
+        { read_formula::<R, C, P>(de) },
+    )? {
+        items.push(item)?;
+    }
+    seq.end()?;
+    Ok(items)
+}
+
+// Reads the values of a variant, one after another.
+#[cycle(formula_reading)]
+fn read_formula_if_values<R: Source, C: SerializerConfig, P: ReadContent<R> + ReadLeaves<R>>(
+    de: &mut Deserializer<R, C>,
+) -> Result<(Box<Formula>, Box<Formula>, Option<Box<Formula>>), rmp_decode::Error>
+    ensures law { Lawful R.Source (λ m v. FormulaRowIf IsFormula m v) de.old de.new result }
+{
+    let mut seq = match de.deserialize_seq() {
+        Ok(seq) => seq,
+        Err(e) => return Err(e),
+    };
+    let first = match seq.next_element_with(
+        |de: &mut Deserializer<R, C>| -> Result<Box<Formula>, rmp_decode::Error>
+            ensures law { Lawful R.Source (λ m v. IsFormula m v.value) de.old de.new result }
+        { read_formula_box::<R, C, P>(de) },
+    ) {
+        Ok(Some(value)) => value,
+        Ok(None) => return Err(rmp_decode::Error::Syntax(rmp_decode::Text::InvalidLength)),
+        Err(e) => return Err(e),
+    };
+    let second = match seq.next_element_with(
+        |de: &mut Deserializer<R, C>| -> Result<Box<Formula>, rmp_decode::Error>
+            ensures law { Lawful R.Source (λ m v. IsFormula m v.value) de.old de.new result }
+        { read_formula_box::<R, C, P>(de) },
+    ) {
+        Ok(Some(value)) => value,
+        Ok(None) => return Err(rmp_decode::Error::Syntax(rmp_decode::Text::InvalidLength)),
+        Err(e) => return Err(e),
+    };
+    let third = match seq.next_element_with(
+        |de: &mut Deserializer<R, C>| -> Result<Option<Box<Formula>>, rmp_decode::Error>
+            ensures law { Lawful R.Source (λ m v. IsOption (Boxed IsFormula) m v) de.old de.new result }
+        { read_formula_option::<R, C, P>(de) },
+    ) {
+        Ok(Some(value)) => value,
+        Ok(None) => return Err(rmp_decode::Error::Syntax(rmp_decode::Text::InvalidLength)),
+        Err(e) => return Err(e),
+    };
+    match seq.end() {
+        Ok(()) => Ok((first, second, third)),
+        Err(e) => Err(e),
+    }
+}
+
+// Reads nil as none, or else a boxed one.
+#[cycle(formula_reading)]
+fn read_formula_option<R: Source, C: SerializerConfig, P: ReadContent<R> + ReadLeaves<R>>(
+    de: &mut Deserializer<R, C>,
+) -> Result<Option<Box<Formula>>, rmp_decode::Error>
+    ensures law { Lawful R.Source (λ m v. IsOption (Boxed IsFormula) m v) de.old de.new result }
+{
+    de.deserialize_option_with(
+        |de: &mut Deserializer<R, C>| -> Result<Box<Formula>, rmp_decode::Error>
+            ensures law { Lawful R.Source (λ m v. IsFormula m v.value) de.old de.new result }
+        { read_formula_box::<R, C, P>(de) },
+    )
+}
+
+impl<'de, R: ReadSlice<'de>> Deserialize<'de, R> for Formula {
+    ghost reads = { λ human lends. IsFormula };
+
+    ghost absent = { None };
+
+    fn deserialize<C: SerializerConfig>(
+        de: &mut Deserializer<R, C>,
+    ) -> Result<Formula, rmp_decode::Error> {
+        read_formula::<R, C, Slices<'de>>(de)
+    }
+
+    fn missing() -> Option<Formula> {
+        None
+    }
+}
+
+impl<'de, R: ReadSlice<'de>> RoundTrip<'de, R> for Formula {
+    ghost has_data = { λ human v. formula_some v };
+
+    ghost round = { λ lent s v fits. formula_round s v fits };
+
+    ghost same = { SameFormula };
+
+    ghost only = { λ s v fits. formula_only s v fits };
+}
+
+impl NeverNil for Formula {
+    ghost never_nil = { λ s v. formula_other s v };
 }

@@ -1,13 +1,13 @@
 use Rattle.std.proofs.Common.{◌≡◌, ◌∙◌, refl, sym, ap, subst, None, Some, rules, arith, false, length}
 use Rattle.std.specs.Int.{w64}
 use Rattle.std.specs.Prelude.{◌<◌}
+use Rattle.rmp_decode.specs.Seq.{IsOpen}
 use Rattle.test_recursive.specs.declared.nodes.Folder.{out-Folder}
 use Rattle.test_recursive.specs.declared.nodes.Folder.TheViews.{out-roll-Folder}
 use Rattle.test_recursive.specs.Recursion.{Row}
 use Rattle.test_recursive.specs.FolderLevels.{IsFolder, FolderFields, FolderRead, FolderFrom0, folder_names, folder_made, folder_read}
 use Rattle.std.proofs.lemmas.Result.{err_from_is_err_and}
 use Rattle.std.proofs.lemmas.Int.{to_z-of_z}
-use Rattle.rmp_decode.specs.Seq.{IsOpen}
 use Rattle.rmp_decode.proofs.Laws.{lawful_ok, lawful_err}
 use Rattle.rmp_decode.proofs.Seqs.{values_start, values_step, via}
 use Rattle.rmp_decode.specs.FieldAccess.{IsStructOpen, TakesPlace}

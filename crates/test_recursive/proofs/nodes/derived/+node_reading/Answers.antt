@@ -1,11 +1,11 @@
 use Rattle.std.proofs.Common.{◌≡◌, ◌∙◌, refl, sym, ap, subst, None, Some, rules, arith, false, length}
 use Rattle.std.specs.Prelude.{◌<◌}
+use Rattle.rmp_decode.specs.Seq.{IsOpen}
 use Rattle.test_recursive.specs.declared.nodes.Node.{out-Node}
 use Rattle.test_recursive.specs.declared.nodes.Node.TheViews.{out-roll-Node}
 use Rattle.test_recursive.specs.Recursion.{Row}
 use Rattle.test_recursive.specs.NodeLevels.{IsNode, NodeFields, NodeRead, NodeFrom0, node_names, node_made, node_read}
 use Rattle.std.proofs.lemmas.Result.{err_from_is_err_and}
-use Rattle.rmp_decode.specs.Seq.{IsOpen}
 use Rattle.rmp_decode.proofs.Laws.{lawful_ok, lawful_err}
 use Rattle.rmp_decode.proofs.Seqs.{values_start, values_step, via}
 use Rattle.rmp_decode.specs.FieldAccess.{IsStructOpen, TakesPlace}

@@ -3,6 +3,7 @@ use Rattle.std.specs.Int.{w64}
 use Rattle.std.specs.Prelude.{Vec, Bool, ℤ, pos, negsuc, string_bytes}
 use Rattle.std.specs.declared.alloc.Global.{Global}
 use Rattle.rmp_decode.specs.Read.{IsSigned, IsRaw}
+use Rattle.rmp_decode.specs.Seq.{IsOpen}
 use Rattle.rmp_decode.specs.Variants.{OfVariant, Bare, Content}
 use Rattle.test_recursive.specs.declared.trees.Expr.{Expr, out-Expr}
 use Rattle.test_recursive.specs.declared.trees.Expr.TheViews.{out-roll-Expr}
@@ -10,7 +11,6 @@ use Rattle.test_recursive.specs.Recursion.{Row}
 use Rattle.test_recursive.specs.ExprLevels.{ExprCase, IsExpr, expr_names, expr_made, expr_variant}
 use Rattle.std.proofs.lemmas.Result.{err_from_is_err_and}
 use Rattle.std.proofs.lemmas.Int.{to_z-of_z}
-use Rattle.rmp_decode.specs.Seq.{IsOpen}
 use Rattle.rmp_decode.proofs.Laws.{lawful_err}
 use Rattle.rmp_decode.proofs.Seqs.{values_start, values_step, via}
 use Rattle.rmp_decode.proofs.Variants.{variant_err, variant_unopened, readable, given_read, given_refused}

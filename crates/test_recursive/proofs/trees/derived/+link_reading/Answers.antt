@@ -3,13 +3,13 @@ use Rattle.std.specs.Prelude.{Vec, string_bytes}
 use Rattle.std.specs.declared.alloc.Global.{Global}
 use Rattle.rmp_decode.specs.Options.{IsOption}
 use Rattle.rmp_decode.specs.Read.{IsUnsigned, IsRaw}
+use Rattle.rmp_decode.specs.Seq.{IsOpen}
 use Rattle.rmp_decode.specs.Variants.{OfVariant, Content}
 use Rattle.test_recursive.specs.declared.trees.Link.{Link, out-Link}
 use Rattle.test_recursive.specs.declared.trees.Link.TheViews.{out-roll-Link}
 use Rattle.test_recursive.specs.Recursion.{Row, Boxed}
 use Rattle.test_recursive.specs.LinkLevels.{LinkCase, IsLink, link_names, link_made, link_variant}
 use Rattle.std.proofs.lemmas.Result.{err_from_is_err_and}
-use Rattle.rmp_decode.specs.Seq.{IsOpen}
 use Rattle.rmp_decode.proofs.Laws.{lawful_err}
 use Rattle.rmp_decode.proofs.Seqs.{values_start, values_step, via}
 use Rattle.rmp_decode.proofs.Variants.{variant_err, variant_unopened, readable, given_read, given_refused}
