@@ -394,14 +394,22 @@ def tell_missing(module: Module, own: Own, trait: str, why: str) -> None:
     print(f"derive: {module.path}: {own.of.name} has no {trait}: {why}", file=sys.stderr)
 
 
+def tell_of_recursive(module: Module, own: Own) -> None:
+    """Says what a type that leads back to itself doesn't get, and what may not be proved of it."""
+    if "EndsInside" in own.derived:
+        tell_missing(module, own, "EndsInside", LEADS_BACK)
+    why = recursive.unsure(own.of)
+    if why:
+        print(f"derive: {module.path}: {own.of.name}: {why}", file=sys.stderr)
+
+
 def implementations(module: Module, wanted: list[Own]) -> str:
     """The text of src/../derived.rt."""
     items = []
     items += recursive.items(module, wanted)
     for own in wanted:
         if own.of.leads_back():
-            if "EndsInside" in own.derived:
-                tell_missing(module, own, "EndsInside", LEADS_BACK)
+            tell_of_recursive(module, own)
             continue
         items += writing(own.of) if "Serialize" in own.derived else []
         if "Deserialize" in own.derived:

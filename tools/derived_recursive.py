@@ -39,8 +39,8 @@ WORDS = {
 }
 
 
-# How many fields such a struct has at most.
-MOST_FIELDS = 8
+# How many fields such a struct has at most, and of how many its read is known to be proved.
+MOST_FIELDS, PROVED_FIELDS = 8, 4
 
 
 def levels_of(module: Module, wanted: list[Own]) -> list[Level]:
@@ -89,6 +89,12 @@ def refusal_of_fields(of: Declared, again: list[str]) -> Optional[str]:
     if len(of.shape.fields) > MOST_FIELDS:
         return f"it has more than {MOST_FIELDS} fields: group some in a type of their own"
     return None
+
+
+def unsure(of: Declared) -> str:
+    """What isn't known to be proved of such a type, if anything."""
+    is_long = of.shape and len(of.shape.fields) > PROVED_FIELDS
+    return f"it leads back to itself, and has more than {PROVED_FIELDS} fields: `rt check` may break off at its read" if is_long else ""
 
 
 def is_taken(of: Declared) -> bool:
