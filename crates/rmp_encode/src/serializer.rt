@@ -1,7 +1,7 @@
 //! A serializer over a sink.
 ghost use Rattle.std.specs.Prelude.{◌≡◌, ◌^◌, ◌<◌, ◌≤◌, ◌++◌, ◌||◌, ◌∷◌, OnOk, IfErr, true, false, [], Some, pos, length, encode_utf8};
 ghost use Rattle.std.specs.Borrow.{sem};
-ghost use Rattle.rmp_wire.specs.declared.head.Head.TheVariants.{Bin, Text};
+ghost use Rattle.rmp_wire.specs.declared.head.Head.TheVariants.{Bin};
 ghost use Rattle.rmp_wire.specs.Heads.{canon_head};
 ghost use Rattle.rmp_wire.specs.Spelling.{canon};
 ghost use Rattle.rmp_wire.specs.Msg.{nil, truth, whole, float32, float64, text, bin, extension};
@@ -26,7 +26,7 @@ use rmp_wire::config::{
 };
 use rmp_wire::write::{
     write_array_len, write_bin, write_bin_len, write_bool, write_ext_meta, write_f32_bits,
-    write_f64_bits, write_map_len, write_nil, write_sint, write_str_len, write_uint,
+    write_f64_bits, write_map_len, write_nil, write_sint, write_str, write_uint,
 };
 use rmp_wire::{Sink, ValueWriteError};
 use std::alloc::Global;
@@ -68,26 +68,6 @@ fn short_head(pairs: bool, n: u32) -> u8
         return 0x80 + n as u8;
     }
     0x90 + n as u8
-}
-
-// The head of a text of fewer than 32 bytes.
-#[inline(always)]
-#[tactic(auto, unfolding(rmp_wire::specs::Heads::canon_head))]
-fn short_text_head(len: u32) -> u8
-    requires { len < 32 }
-    ensures { result ∷ [] ≡ canon_head (Text len) }
-{
-    0xa0 + len as u8
-}
-
-// The head of a text of 32 bytes and more, but fewer than 256.
-#[inline(always)]
-#[tactic(auto, unfolding(rmp_wire::specs::Heads::canon_head))]
-fn middle_text_head(len: u32) -> [u8; 2]
-    requires { (32 ≤ len) × (len < 256) }
-    ensures { result ≡ canon_head (Text len) }
-{
-    [0xd9, len as u8]
 }
 
 impl<W: Sink> Serializer<W> {
@@ -360,34 +340,6 @@ impl<W: Sink, C: SerializerConfig> Serializer<W, C> {
     {
         let n = fits_u32(len)?;
         self.put_head(pairs, n)
-    }
-
-    // Writes the head of a text of `len` bytes.
-    #[inline(always)]
-    fn put_text_head(&mut self, len: u32) -> Result<(), Error>
-        ensures writes { WritesPart W.Sink W.takes_memory (Unit {0}) (canon_head (Text len)) (sink_of self.old) (sink_of self.new) result }
-        ensures marker { NoneAtMarker W.Sink (sink_of self.old) (sink_of self.new) result }
-        ensures error { IfErr result OfSink }
-        ensures keeps { Keeps W.Sink self.old self.new }
-    {
-        if len < 32 {
-            return answer(self.wr.put_all(&[short_text_head(len)]));
-        }
-        if len < 256 {
-            return answer(self.wr.put_all(&middle_text_head(len)));
-        }
-        self.put_long_text_head(len)
-    }
-
-    // The same for 256 bytes and more, out of line.
-    #[inline(never)]
-    fn put_long_text_head(&mut self, len: u32) -> Result<(), Error>
-        ensures writes { WritesPart W.Sink W.takes_memory (Unit {0}) (canon_head (Text len)) (sink_of self.old) (sink_of self.new) result }
-        ensures marker { NoneAtMarker W.Sink (sink_of self.old) (sink_of self.new) result }
-        ensures error { IfErr result OfSink }
-        ensures keeps { Keeps W.Sink self.old self.new }
-    {
-        answer(write_str_len(&mut self.wr, len))
     }
 
     // Writes a text that is likely to be short, such as a name of a type.
@@ -671,9 +623,8 @@ impl<W: Sink, C: SerializerConfig> Serializer<W, C> {
         ensures refused { StaysAtRefusal self.old self.new result }
         ensures long { 2 ^ 32 ≤ length s.now → RefusesLength self.old self.new result }
     {
-        let n = fits_u32(s.len())?;
-        self.put_text_head(n)?;
-        self.put(s.as_bytes())
+        fits_u32(s.len())?;
+        answer(write_str(&mut self.wr, s))
     }
 
     /// Writes bytes.
