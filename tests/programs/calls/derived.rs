@@ -405,7 +405,11 @@ fn twenty_fields_of_many_kinds(rt: HostRuntime) -> Result<(), Fail> {
         )
     );
     let named = to_vec_named(rt.alloc(), &manifest)?;
-    assert!(rt; named.as_slice().starts_with(b"\xde\x00\x14\xa4ship\xa1A\xa6course\x81\xa6Toward\xa1B\xa4crew"));
+    assert!(rt;
+        named.as_slice().starts_with(
+            b"\xde\x00\x14\xa4ship\xa1A\xa6course\x81\xa6Toward\xa1B\xa4crew"
+        )
+    );
     let again: Result<Manifest, Error> = from_slice(rt.alloc(), named.as_slice());
     let Ok(again) = again else {
         return Err(Fail::from("a named manifest is refused"));
@@ -448,14 +452,25 @@ fn thirty_two_fields_of_many_kinds(rt: HostRuntime) -> Result<(), Fail> {
         )
     );
     let named = to_vec_named(rt.alloc(), &survey)?;
-    assert!(rt; named.as_slice().starts_with(b"\xde\x00\x20\xa4ship\xa1A\xa6course\x81\xa6Toward\xa1B\xa4crew"));
-    assert!(rt; named.as_slice().ends_with(b"\xa5crane\xa1L\xa8surveyor\xa1M"));
+    assert!(rt;
+        named.as_slice().starts_with(
+            b"\xde\x00\x20\xa4ship\xa1A\xa6course\x81\xa6Toward\xa1B\xa4crew"
+        )
+    );
+    assert!(rt;
+        named
+            .as_slice()
+            .ends_with(b"\xa5crane\xa1L\xa8surveyor\xa1M")
+    );
     let again: Result<Survey, Error> = from_slice(rt.alloc(), named.as_slice());
     let Ok(again) = again else {
         return Err(Fail::from("a named survey is refused"));
     };
     assert_eq!(rt; to_vec(rt.alloc(), &again)?.as_slice(), SURVEY);
-    let read: Result<Survey, Error> = from_slice(rt.alloc(), b"\x82\xa8surveyor\xa1M\xa8surveyor\xa1M");
+    let read: Result<Survey, Error> = from_slice(
+        rt.alloc(),
+        b"\x82\xa8surveyor\xa1M\xa8surveyor\xa1M",
+    );
     assert!(rt; matches!(&read, Err(Error::Syntax(Text::DuplicateField))));
     let read: Result<Survey, Error> = from_slice(rt.alloc(), b"\x81\xa8surveyor\xa1M");
     assert!(rt; matches!(&read, Err(Error::Syntax(Text::MissingField))));

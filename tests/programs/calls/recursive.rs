@@ -415,7 +415,8 @@ fn samples_read(rt: HostRuntime) -> Result<(), Error> {
     let three = nested(rt.alloc(), without_last, 3, b"\xc0")?;
     reads::<Sample>(&rt, rt.alloc(), 4, &three, false, &three);
     refused::<Sample>(&rt, rt.alloc(), read(rt.alloc(), 2, &three), TOO_DEEP);
-    let short = b"\x83\xa4wide\xc4\x10\xff\xff\xff\xff\xff\xff\xff\xff\xff\xff\xff\xff\xff\xff\xff\xfe\
+    let short =
+        b"\x83\xa4wide\xc4\x10\xff\xff\xff\xff\xff\xff\xff\xff\xff\xff\xff\xff\xff\xff\xff\xfe\
         \x01\xca\x3f\x80\x00\x00\xa5bytes\xc4\x02\x01\xff";
     reads::<Sample>(&rt, rt.alloc(), 2, short, false, SAMPLE);
     for len in 0..three.len() {

@@ -3,8 +3,8 @@
 //! `First` is a place and a level. `Second` has them in another order, and a note that may be missing.
 #![tactic(auto)]
 
-use rmp_serde::encode::to_vec_named;
 use rmp_serde::Deserializer;
+use rmp_serde::encode::to_vec_named;
 use std::alloc::Global;
 use std::io::ErrorKind;
 use std::{fs, io};

@@ -9,8 +9,10 @@ use test_derived::Dog;
 fn what_is_written_is_read(rt: HostRuntime) -> Result<(), Fail> {
     let pair: Result<(u8, bool), Error> = from_slice_canonical(rt.alloc(), b"\x92\x2a\xc3");
     assert!(rt; matches!(pair, Ok((42, true))));
-    let map: Result<BTreeMap<u8, u8>, Error> =
-        from_slice_canonical(rt.alloc(), b"\x82\x01\x02\x03\x04");
+    let map: Result<BTreeMap<u8, u8>, Error> = from_slice_canonical(
+        rt.alloc(),
+        b"\x82\x01\x02\x03\x04",
+    );
     match map {
         Ok(map) => assert_eq!(rt; map.len(), 2),
         Err(_) => assert!(rt; false),

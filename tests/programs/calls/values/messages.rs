@@ -116,7 +116,10 @@ fn only_an_end_is_incomplete(rt: HostRuntime) {
 }
 
 // Whether a read of the type says of no beginning of these bytes that it is incomplete, but where more bytes may complete a message.
-fn ends_inside<'de, T: Deserialize<'de, ReadRefReader<'de>>>(rt: &impl AllocGlobal, whole: &'de [u8]) -> bool {
+fn ends_inside<'de, T: Deserialize<'de, ReadRefReader<'de>>>(
+    rt: &impl AllocGlobal,
+    whole: &'de [u8],
+) -> bool {
     for len in 0..=whole.len() {
         let cut = &whole[..len];
         let read: Result<T, Error> = from_slice(rt.alloc(), cut);
@@ -130,7 +133,13 @@ fn ends_inside<'de, T: Deserialize<'de, ReadRefReader<'de>>>(rt: &impl AllocGlob
 
 #[test]
 fn a_typed_read_ends_inside_of_a_message(rt: HostRuntime) {
-    let messages: [&[u8]; 5] = [RECORD, b"\x93\x01\xa2it\x92\xcd\x01\x00\xc0", b"\xc4\x03\x01\x02\x03", b"\x92\xc1\x01", b"\x81\xa1k\x90"];
+    let messages: [&[u8]; 5] = [
+        RECORD,
+        b"\x93\x01\xa2it\x92\xcd\x01\x00\xc0",
+        b"\xc4\x03\x01\x02\x03",
+        b"\x92\xc1\x01",
+        b"\x81\xa1k\x90",
+    ];
     for message in messages {
         assert!(rt; ends_inside::<u8>(&rt, message));
         assert!(rt; ends_inside::<Vec<u16>>(&rt, message));

@@ -125,7 +125,10 @@ fn the_reserved_byte_is_refused_where_a_message_is_wanted(rt: HostRuntime) {
     let mut scanner = Scanner::new();
     assert!(rt; matches!(scanner.scan(b"\x92\x05"), Ok(Scan::More)));
     match scanner.scan(b"\xc1\x00") {
-        Err(e) => assert_eq!(rt; format!(in rt.alloc(); "{e}").expect(&rt, "memory").as_str(), "wrong msgpack marker Reserved"),
+        Err(e) => assert_eq!(rt;
+            format!(in rt.alloc(); "{e}").expect(&rt, "memory").as_str(),
+            "wrong msgpack marker Reserved"
+        ),
         Ok(scan) => panic!(rt; "{scan:?}"),
     }
     assert_eq!(rt; scanner.reserved_at(), Some(0));
@@ -156,12 +159,20 @@ const HEADS: &[(&[u8], &[usize])] = &[
     (b"\x82\xa1k\x91\xc3\xa1l\x80", &[0, 1, 3, 4, 5, 7]),
     (b"\xdd\x00\x00\x00\x02\xdc\x00\x01\x05\xc2", &[0, 5, 8, 9]),
     (b"\xde\x00\x01\xcc\x01\xd9\x01x", &[0, 3, 5]),
-    (b"\xdf\x00\x00\x00\x01\x05\x92\x81\x01\x02\xd4\x01\x00", &[0, 5, 6, 7, 8, 9, 10]),
-    (b"\x92\xc9\x00\x00\x00\x03\x01abc\xcf\x00\x00\x00\x00\x00\x00\x00\x00", &[0, 1, 10]),
+    (
+        b"\xdf\x00\x00\x00\x01\x05\x92\x81\x01\x02\xd4\x01\x00",
+        &[0, 5, 6, 7, 8, 9, 10],
+    ),
+    (
+        b"\x92\xc9\x00\x00\x00\x03\x01abc\xcf\x00\x00\x00\x00\x00\x00\x00\x00",
+        &[0, 1, 10],
+    ),
 ];
 
 #[test]
-fn the_reserved_byte_is_refused_at_each_head_and_nowhere_else(rt: HostRuntime) -> Result<(), Error> {
+fn the_reserved_byte_is_refused_at_each_head_and_nowhere_else(
+    rt: HostRuntime,
+) -> Result<(), Error> {
     for (message, heads) in HEADS {
         for at in 0..message.len() {
             let mut spoiled = Vec::new(rt.alloc());
