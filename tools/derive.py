@@ -28,8 +28,8 @@ implements for a type isn't derived for it.
 Where crates.txt names rmp_serde for the crate too, or rmp_round_trip, which that re-exports, each type gets `RoundTrip`, and
 `NeverNil` where no value is nil, if the laws of its fields are known: they are of parameters, of types of std or of the wire, or of
 types that have `RoundTrip`, in this file or in one that a `use` names, of this crate or of a library beside it; where such a type has
-parameters, the types of its fields have to be in scope, too. Where crates.txt names rmp_serde or rmp_ends, each type gets `EndsInside`, if the types of its
-fields have it, and it doesn't contain itself. Of a type that doesn't get one of these the tool says why.
+parameters, the types of its fields have to be in scope, too. Where crates.txt names rmp_serde or rmp_ends, each type gets `EndsInside`,
+if the types of its fields have it, and it doesn't contain itself. Of a type that doesn't get one of these the tool says why.
 """
 from __future__ import annotations
 
@@ -49,9 +49,9 @@ from derived_ends import implementation as ends
 from derived_proofs import answers, has_content, has_defaults
 from derived_rounds import LEMMAS, Own, Unknown
 from derived_rounds import implementations as rounds
-from derived_terms import GHOST, GROUP, MOST_IN_TUPLES, Words, alias, all_elements, apart, bound_name, data_of, elements_of, memory_of, nested, place_of
+from derived_terms import GHOST, GROUP, MOST_IN_TUPLES, Words, alias, all_elements, apart, bound_name, data_of, elements_of
+from derived_terms import member_of_reading, member_of_refusing, members_of_writing, memory_of, nested, place_of, refused_of
 from derived_terms import then_bound, then_of
-from derived_terms import member_of_reading, member_of_refusing, members_of_writing, refused_of, underscored
 from imports import imports
 from modules import Files, Module, stale, sums_lines
 from shared import MOST, texts

@@ -2,6 +2,7 @@
 leaves are read, and its implementations."""
 from __future__ import annotations
 
+from halves import FIELDS
 from recursive_levels import BOX, Again, Level, Part
 from shared import tuple_of
 
@@ -12,13 +13,9 @@ READ = {"list": "a list of them", "box": "a boxed one", "option": "nil as none, 
 IN_TURN = "the values of a variant, one after another"
 
 
-# What the values of a variant are called.
-VALUES = "first second third fourth fifth sixth seventh eighth".split()
-
-
 def values_in(part: Part) -> list[str]:
     """What the values of a variant are called."""
-    return VALUES[: len(part.held)] if part.held else ["value"]
+    return FIELDS[: len(part.held)] if part.held else ["value"]
 
 
 def in_code(part: Part, name: str = "") -> str:

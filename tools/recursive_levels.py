@@ -593,6 +593,11 @@ pub {low}_is_at : (v : {name}) (x : {name}-F {name}) → out-{name} v ≡ x → 
 """
 
 
+# The lemmas that a leaf is read as it was written.
+LEAF_ROWS = "byte_row truth_row float32_row float64_row char_row string_row buffer_row".split()
+LEAF_ROWS += [f"{sign}_row_{bits}" for sign in ("signed", "unsigned") for bits in (8, 16, 32, 64)]
+
+
 def tables(level: Level) -> dict[str, str]:
     """Where the words of its files come from."""
     name, low, crate, declared = level.name, level.low, level.crate, level.declared
@@ -623,7 +628,7 @@ def tables(level: Level) -> dict[str, str]:
         "rmp_encode.specs.Data": "Data byte whole unsigned128 signed128 truth float32 float64 char text bytes unit_variant",
         "rmp_encode.specs.Trees": "tree_of slice_of option_of newtype_variant_of tuple_variant_of structure_of",
         "rmp_encode.specs.declared.settings.Settings": "Settings",
-        "rmp_round_trip.specs.LeafRounds": " ".join(["byte_row truth_row float32_row float64_row char_row string_row buffer_row", *(f"{sign}_row_{bits}" for sign in ("signed", "unsigned") for bits in (8, 16, 32, 64))]),
+        "rmp_round_trip.specs.LeafRounds": " ".join(LEAF_ROWS),
         "rmp_round_trip.specs.OnlyFields": "AtPlace AnyContent content_only content_row variant_both fields_both field_only last_field",
         "rmp_round_trip.specs.OnlyLeaves": "truth_only byte_only unsigned_only signed_only unsigned128_only signed128_only float32_only float64_only"
         " char_only string_only buffer_only",

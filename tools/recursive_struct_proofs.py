@@ -110,7 +110,8 @@ def lacks_line(level: Level, at: int) -> str:
         return f"later_lacks {start} {where} {slot(place)} {later(place)} {fs} {h} {q} (λ {new}. {term(place + 1, *new.split())})"
 
     of = f"{level.low}_lacks{at}"
-    return f"\npub {of} : (s : {slots_type(level)}) → {slot(at)} ≡ None → (fs : List (Option Msg)) (v : {name}) → {name}Held0 fs s → {name}Fields Is{name} fs v → ⊥\n{of} s e fs v h q = {term(0, 'fs', 'h', 'q')}\n"
+    facts = f"{slot(at)} ≡ None → (fs : List (Option Msg)) (v : {name}) → {name}Held0 fs s → {name}Fields Is{name} fs v"
+    return f"\npub {of} : (s : {slots_type(level)}) → {facts} → ⊥\n{of} s e fs v h q = {term(0, 'fs', 'h', 'q')}\n"
 
 
 def whole_line(level: Level) -> str:
@@ -128,7 +129,8 @@ def whole_line(level: Level) -> str:
     of = f"{level.low}_whole"
     facts = "".join(f"\n    → ({fact})" for fact in given)
     names = " ".join(f"c{at}" for at in range(count))
-    return f"\npub {of} : (s : {slots_type(level)}) (x : {name}-F {name}){facts}\n    → (fs : List (Option Msg)) → {name}Held0 fs s → {name}From0 Is{name} x fs\n{of} s x {names} fs h = {term(0, 'fs', 'h')}\n"
+    whole = f"(fs : List (Option Msg)) → {name}Held0 fs s → {name}From0 Is{name} x fs"
+    return f"\npub {of} : (s : {slots_type(level)}) (x : {name}-F {name}){facts}\n    → {whole}\n{of} s x {names} fs h = {term(0, 'fs', 'h')}\n"
 
 
 def proofs_file(level: Level) -> str:

@@ -107,7 +107,9 @@ def wider_lines(level: Level) -> str:
             continue
         field, part = level.fields[at]
         step = wider(part, f"{own}.{field.name}", ("P", "Q", "f"))
-        lines += f"{head} P Q f v = field_as {there(level, at, 'P', own)} {there(level, at, 'Q', own)} {missing(level, at, own)} ({name}From{at + 1} P {own}) ({name}From{at + 1} Q {own}) {step} ({low}_as{at + 1} P Q f v)\n\n"
+        read = f"{there(level, at, 'P', own)} {there(level, at, 'Q', own)} {missing(level, at, own)}"
+        others = f"({name}From{at + 1} P {own}) ({name}From{at + 1} Q {own})"
+        lines += f"{head} P Q f v = field_as {read} {others} {step} ({low}_as{at + 1} P Q f v)\n\n"
     return lines
 
 
