@@ -1,5 +1,5 @@
 -- Values that are all bytes, written a piece at a time.
-use Rattle.std.proofs.Common.{◌≡◌, ℕ, ◌<◌, ◌≤◌, ◌^◌, List, ◌++◌, length, map, get_or, nat_le}
+use Rattle.std.proofs.Common.{◌≡◌, refl, ℕ, ◌<◌, ◌≤◌, ◌^◌, List, [], ◌∷◌, ◌++◌, length, map, get_or, nat_le}
 use Rattle.std.proofs.Common.{true, Bool, Option, sym, ◌∙◌, ap, append_assoc, append-nil, length-append, arith}
 use Rattle.std.specs.Prelude.{Result, Ok, Err, Some}
 use Rattle.std.specs.List.{list_any}
@@ -12,7 +12,7 @@ use Rattle.rmp_wire.specs.Spelling.{canon, IsBytes}
 use Rattle.rmp_wire.specs.declared.sink.Sink.{Ghosts}
 use Rattle.rmp_wire.proofs.Writing.{head_some}
 use Rattle.rmp_encode.specs.declared.error.Error.{Error}
-use Rattle.rmp_encode.specs.Data.{Data}
+use Rattle.rmp_encode.specs.Data.{Data, byte}
 use Rattle.rmp_encode.specs.Going.{done}
 use Rattle.rmp_encode.specs.Slices.{number_of}
 use Rattle.rmp_encode.specs.Trees.{HasTree, spell}
@@ -22,6 +22,11 @@ use Rattle.rmp_encode.proofs.Parts.{part_any, part_as, part_stops}
 -- each value has a number
 pub as_many : {X : Type 0} (f : X → Option Data) (xs : List X) → length (map number_of (map f xs)) ≡ length xs
 as_many f xs = length-map (map f xs) number_of ∙ length-map xs f
+
+-- bytes are the numbers of what they are as values
+pub own_numbers : (bs : List ℕ) → map number_of (map (λ b. Some (byte b)) bs) ≡ bs
+own_numbers [] = refl
+own_numbers (b ∷ bs) = ap (λ k. b ∷ k) (own_numbers bs)
 
 -- the head is the front of the spelling
 pub head_first : (bs : List ℕ) (n : ℕ) → n ≡ length bs → canon_head (Bin n) ++ bs ≡ canon (bin bs)

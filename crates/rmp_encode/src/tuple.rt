@@ -55,33 +55,8 @@ impl<W, C, P: Drop> Drop for Tuple<'_, W, C, P> {
     }
 }
 
-fn any_high(bytes: &[u8]) -> bool
-    ensures { result ≡ list_any (nat_le 128) bytes.now }
-{
-    for b in bytes {
-        if *b >= 128 {
-            return true;
-        }
-    }
-    false
-}
-
-// Whether a tuple of these bytes is written as bytes in the mode `ForceAll`.
-#[tactic(auto, unfolding(crate::specs::Data::packs_tuple))]
-pub(crate) fn packs(bytes: &[u8]) -> bool
-    ensures { result ≡ packs_tuple ForceAll bytes.now }
-{
-    if bytes.is_empty() {
-        return false;
-    }
-    if bytes.len() >= 16 {
-        return true;
-    }
-    any_high(bytes)
-}
-
 // Whether one of these values is a `u8` of 128 or more.
-fn any_high_value<T: Serialize>(values: &[T], human: bool) -> bool
+fn any_high<T: Serialize>(values: &[T], human: bool) -> bool
     ensures { result ≡ list_any (nat_le 128) (map number_of (map (λ x. T.data_of x human) values.now)) }
 {
     for value in values {
@@ -92,9 +67,9 @@ fn any_high_value<T: Serialize>(values: &[T], human: bool) -> bool
     false
 }
 
-// As `packs`, for values that are all `u8`.
+// Whether a tuple of these values, all `u8`, is written as bytes in the mode `ForceAll`.
 #[tactic(auto, unfolding(crate::specs::Data::packs_tuple))]
-fn packs_values<T: Serialize>(values: &[T], human: bool) -> bool
+fn packs<T: Serialize>(values: &[T], human: bool) -> bool
     ensures { result ≡ packs_tuple ForceAll (map number_of (map (λ x. T.data_of x human) values.now)) }
 {
     if values.is_empty() {
@@ -103,7 +78,7 @@ fn packs_values<T: Serialize>(values: &[T], human: bool) -> bool
     if values.len() >= 16 {
         return true;
     }
-    any_high_value(values, human)
+    any_high(values, human)
 }
 
 impl<W: Sink, C: SerializerConfig> Serializer<W, C> {
@@ -145,7 +120,7 @@ impl<W: Sink, C: SerializerConfig> Serializer<W, C> {
         if !are_bytes(values, human) {
             return false;
         }
-        packs_values(values, human)
+        packs(values, human)
     }
 }
 
@@ -333,7 +308,7 @@ impl<'a, W: Sink, C: SerializerConfig> Tuple<'a, W, C> {
         if !probing {
             return Ok(());
         }
-        if packs(bytes.as_slice()) {
+        if packs(bytes.as_slice(), false) {
             return se.serialize_bytes(bytes.as_slice());
         }
         // each number is below 128, so it is its own encoding

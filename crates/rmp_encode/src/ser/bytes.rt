@@ -30,14 +30,7 @@ impl Serialize for F32Bits {
     fn serialize<W: Sink, C: SerializerConfig>(
         &self,
         se: &mut Serializer<W, C>,
-    ) -> Result<(), Error>
-        ensures writes { WritesTree W.Sink (false || W.takes_memory) (tree_of (settings_of se.old) (Some (float32 self.now.0)))
-            (sink_of se.old) (sink_of se.new) result }
-        ensures marker { NoneAtMarker W.Sink (sink_of se.old) (sink_of se.new) result }
-        ensures keeps { Keeps W.Sink se.old se.new }
-        ensures error { IfErr result OfSink }
-        ensures value { OnOk result (self.now.0 < 2 ^ 32) }
-    {
+    ) -> Result<(), Error> {
         se.serialize_f32_bits(self.0)
     }
 
@@ -62,14 +55,7 @@ impl Serialize for F64Bits {
     fn serialize<W: Sink, C: SerializerConfig>(
         &self,
         se: &mut Serializer<W, C>,
-    ) -> Result<(), Error>
-        ensures writes { WritesTree W.Sink (false || W.takes_memory) (tree_of (settings_of se.old) (Some (float64 self.now.0)))
-            (sink_of se.old) (sink_of se.new) result }
-        ensures marker { NoneAtMarker W.Sink (sink_of se.old) (sink_of se.new) result }
-        ensures keeps { Keeps W.Sink se.old se.new }
-        ensures error { IfErr result OfSink }
-        ensures value { OnOk result (self.now.0 < 2 ^ 64) }
-    {
+    ) -> Result<(), Error> {
         se.serialize_f64_bits(self.0)
     }
 

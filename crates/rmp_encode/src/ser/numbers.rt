@@ -1,13 +1,11 @@
 //! Truth values and numbers.
 #![tactic(auto, unfolding(crate::specs::Data::lower), using(crate::proofs::Parts::part_memory))]
 
-ghost use Rattle.std.specs.Prelude.{◌<◌, ◌^◌, ◌||◌, Some, pos, FitsSigned, false, IfErr, OnOk};
+ghost use Rattle.std.specs.Prelude.{◌<◌, ◌^◌, Some, pos, FitsSigned, false};
 ghost use Rattle.std.specs.Int.{w8, w16, w32, w64};
 ghost use Rattle.rmp_encode.specs.Data.{byte, truth, whole, unit};
 ghost use Rattle.rmp_encode.specs.Refusals.{OfSink};
-ghost use Rattle.rmp_encode.specs.Ser.{sink_of, settings_of};
-ghost use Rattle.rmp_encode.specs.Trees.{tree_of};
-ghost use Rattle.rmp_encode.specs.Writes.{AtItem, Keeps, NoneAtMarker, WritesTree};
+ghost use Rattle.rmp_encode.specs.Writes.{AtItem};
 
 use crate::error::Error;
 use crate::ser::Serialize;
@@ -30,14 +28,7 @@ impl Serialize for () {
     fn serialize<W: Sink, C: SerializerConfig>(
         &self,
         se: &mut Serializer<W, C>,
-    ) -> Result<(), Error>
-        ensures writes { WritesTree W.Sink (false || W.takes_memory) (tree_of (settings_of se.old) (Some (unit)))
-            (sink_of se.old) (sink_of se.new) result }
-        ensures marker { NoneAtMarker W.Sink (sink_of se.old) (sink_of se.new) result }
-        ensures keeps { Keeps W.Sink se.old se.new }
-        ensures error { IfErr result OfSink }
-        ensures value { OnOk result (Unit {0}) }
-    {
+    ) -> Result<(), Error> {
         se.serialize_unit()
     }
 
@@ -62,14 +53,7 @@ impl Serialize for bool {
     fn serialize<W: Sink, C: SerializerConfig>(
         &self,
         se: &mut Serializer<W, C>,
-    ) -> Result<(), Error>
-        ensures writes { WritesTree W.Sink (false || W.takes_memory) (tree_of (settings_of se.old) (Some (truth self.now)))
-            (sink_of se.old) (sink_of se.new) result }
-        ensures marker { NoneAtMarker W.Sink (sink_of se.old) (sink_of se.new) result }
-        ensures keeps { Keeps W.Sink se.old se.new }
-        ensures error { IfErr result OfSink }
-        ensures value { OnOk result (Unit {0}) }
-    {
+    ) -> Result<(), Error> {
         se.serialize_bool(*self)
     }
 
@@ -94,14 +78,7 @@ impl Serialize for u8 {
     fn serialize<W: Sink, C: SerializerConfig>(
         &self,
         se: &mut Serializer<W, C>,
-    ) -> Result<(), Error>
-        ensures writes { WritesTree W.Sink (false || W.takes_memory) (tree_of (settings_of se.old) (Some (byte self.now)))
-            (sink_of se.old) (sink_of se.new) result }
-        ensures marker { NoneAtMarker W.Sink (sink_of se.old) (sink_of se.new) result }
-        ensures keeps { Keeps W.Sink se.old se.new }
-        ensures error { IfErr result OfSink }
-        ensures value { OnOk result (self.now < 2 ^ 8) }
-    {
+    ) -> Result<(), Error> {
         se.serialize_u8(*self)
     }
 
@@ -126,14 +103,7 @@ impl Serialize for u16 {
     fn serialize<W: Sink, C: SerializerConfig>(
         &self,
         se: &mut Serializer<W, C>,
-    ) -> Result<(), Error>
-        ensures writes { WritesTree W.Sink (false || W.takes_memory) (tree_of (settings_of se.old) (Some (whole (pos self.now))))
-            (sink_of se.old) (sink_of se.new) result }
-        ensures marker { NoneAtMarker W.Sink (sink_of se.old) (sink_of se.new) result }
-        ensures keeps { Keeps W.Sink se.old se.new }
-        ensures error { IfErr result OfSink }
-        ensures value { OnOk result (self.now < 2 ^ 16) }
-    {
+    ) -> Result<(), Error> {
         se.serialize_u16(*self)
     }
 
@@ -158,14 +128,7 @@ impl Serialize for u32 {
     fn serialize<W: Sink, C: SerializerConfig>(
         &self,
         se: &mut Serializer<W, C>,
-    ) -> Result<(), Error>
-        ensures writes { WritesTree W.Sink (false || W.takes_memory) (tree_of (settings_of se.old) (Some (whole (pos self.now))))
-            (sink_of se.old) (sink_of se.new) result }
-        ensures marker { NoneAtMarker W.Sink (sink_of se.old) (sink_of se.new) result }
-        ensures keeps { Keeps W.Sink se.old se.new }
-        ensures error { IfErr result OfSink }
-        ensures value { OnOk result (self.now < 2 ^ 32) }
-    {
+    ) -> Result<(), Error> {
         se.serialize_u32(*self)
     }
 
@@ -190,14 +153,7 @@ impl Serialize for u64 {
     fn serialize<W: Sink, C: SerializerConfig>(
         &self,
         se: &mut Serializer<W, C>,
-    ) -> Result<(), Error>
-        ensures writes { WritesTree W.Sink (false || W.takes_memory) (tree_of (settings_of se.old) (Some (whole (pos self.now))))
-            (sink_of se.old) (sink_of se.new) result }
-        ensures marker { NoneAtMarker W.Sink (sink_of se.old) (sink_of se.new) result }
-        ensures keeps { Keeps W.Sink se.old se.new }
-        ensures error { IfErr result OfSink }
-        ensures value { OnOk result (self.now < 2 ^ 64) }
-    {
+    ) -> Result<(), Error> {
         se.serialize_u64(*self)
     }
 
@@ -222,14 +178,7 @@ impl Serialize for usize {
     fn serialize<W: Sink, C: SerializerConfig>(
         &self,
         se: &mut Serializer<W, C>,
-    ) -> Result<(), Error>
-        ensures writes { WritesTree W.Sink (false || W.takes_memory) (tree_of (settings_of se.old) (Some (whole (pos self.now))))
-            (sink_of se.old) (sink_of se.new) result }
-        ensures marker { NoneAtMarker W.Sink (sink_of se.old) (sink_of se.new) result }
-        ensures keeps { Keeps W.Sink se.old se.new }
-        ensures error { IfErr result OfSink }
-        ensures value { OnOk result (self.now < 2 ^ 64) }
-    {
+    ) -> Result<(), Error> {
         se.serialize_u64(*self as u64)
     }
 
@@ -254,14 +203,7 @@ impl Serialize for i8 {
     fn serialize<W: Sink, C: SerializerConfig>(
         &self,
         se: &mut Serializer<W, C>,
-    ) -> Result<(), Error>
-        ensures writes { WritesTree W.Sink (false || W.takes_memory) (tree_of (settings_of se.old) (Some (whole self.now)))
-            (sink_of se.old) (sink_of se.new) result }
-        ensures marker { NoneAtMarker W.Sink (sink_of se.old) (sink_of se.new) result }
-        ensures keeps { Keeps W.Sink se.old se.new }
-        ensures error { IfErr result OfSink }
-        ensures value { OnOk result (FitsSigned w8 self.now) }
-    {
+    ) -> Result<(), Error> {
         se.serialize_i8(*self)
     }
 
@@ -286,14 +228,7 @@ impl Serialize for i16 {
     fn serialize<W: Sink, C: SerializerConfig>(
         &self,
         se: &mut Serializer<W, C>,
-    ) -> Result<(), Error>
-        ensures writes { WritesTree W.Sink (false || W.takes_memory) (tree_of (settings_of se.old) (Some (whole self.now)))
-            (sink_of se.old) (sink_of se.new) result }
-        ensures marker { NoneAtMarker W.Sink (sink_of se.old) (sink_of se.new) result }
-        ensures keeps { Keeps W.Sink se.old se.new }
-        ensures error { IfErr result OfSink }
-        ensures value { OnOk result (FitsSigned w16 self.now) }
-    {
+    ) -> Result<(), Error> {
         se.serialize_i16(*self)
     }
 
@@ -318,14 +253,7 @@ impl Serialize for i32 {
     fn serialize<W: Sink, C: SerializerConfig>(
         &self,
         se: &mut Serializer<W, C>,
-    ) -> Result<(), Error>
-        ensures writes { WritesTree W.Sink (false || W.takes_memory) (tree_of (settings_of se.old) (Some (whole self.now)))
-            (sink_of se.old) (sink_of se.new) result }
-        ensures marker { NoneAtMarker W.Sink (sink_of se.old) (sink_of se.new) result }
-        ensures keeps { Keeps W.Sink se.old se.new }
-        ensures error { IfErr result OfSink }
-        ensures value { OnOk result (FitsSigned w32 self.now) }
-    {
+    ) -> Result<(), Error> {
         se.serialize_i32(*self)
     }
 
@@ -350,14 +278,7 @@ impl Serialize for i64 {
     fn serialize<W: Sink, C: SerializerConfig>(
         &self,
         se: &mut Serializer<W, C>,
-    ) -> Result<(), Error>
-        ensures writes { WritesTree W.Sink (false || W.takes_memory) (tree_of (settings_of se.old) (Some (whole self.now)))
-            (sink_of se.old) (sink_of se.new) result }
-        ensures marker { NoneAtMarker W.Sink (sink_of se.old) (sink_of se.new) result }
-        ensures keeps { Keeps W.Sink se.old se.new }
-        ensures error { IfErr result OfSink }
-        ensures value { OnOk result (FitsSigned w64 self.now) }
-    {
+    ) -> Result<(), Error> {
         se.serialize_i64(*self)
     }
 
@@ -382,14 +303,7 @@ impl Serialize for isize {
     fn serialize<W: Sink, C: SerializerConfig>(
         &self,
         se: &mut Serializer<W, C>,
-    ) -> Result<(), Error>
-        ensures writes { WritesTree W.Sink (false || W.takes_memory) (tree_of (settings_of se.old) (Some (whole self.now)))
-            (sink_of se.old) (sink_of se.new) result }
-        ensures marker { NoneAtMarker W.Sink (sink_of se.old) (sink_of se.new) result }
-        ensures keeps { Keeps W.Sink se.old se.new }
-        ensures error { IfErr result OfSink }
-        ensures value { OnOk result (FitsSigned w64 self.now) }
-    {
+    ) -> Result<(), Error> {
         se.serialize_i64(*self as i64)
     }
 

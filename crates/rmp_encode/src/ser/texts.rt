@@ -30,14 +30,7 @@ impl Serialize for char {
     fn serialize<W: Sink, C: SerializerConfig>(
         &self,
         se: &mut Serializer<W, C>,
-    ) -> Result<(), Error>
-        ensures writes { WritesTree W.Sink (false || W.takes_memory) (tree_of (settings_of se.old) (Some (char self.now)))
-            (sink_of se.old) (sink_of se.new) result }
-        ensures marker { NoneAtMarker W.Sink (sink_of se.old) (sink_of se.new) result }
-        ensures keeps { Keeps W.Sink se.old se.new }
-        ensures error { IfErr result OfSink }
-        ensures value { OnOk result (IsScalar self.now) }
-    {
+    ) -> Result<(), Error> {
         se.serialize_char(*self)
     }
 

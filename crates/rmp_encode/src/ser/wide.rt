@@ -1,13 +1,11 @@
 //! 128-bit numbers.
 #![tactic(auto, unfolding(crate::specs::Data::lower), using(crate::proofs::Parts::part_memory))]
 
-ghost use Rattle.std.specs.Prelude.{◌<◌, ◌^◌, ◌||◌, Some, FitsSigned, false, IfErr, OnOk};
+ghost use Rattle.std.specs.Prelude.{◌<◌, ◌^◌, Some, FitsSigned, false};
 ghost use Rattle.std.specs.Int.{w128};
 ghost use Rattle.rmp_encode.specs.Data.{signed128, unsigned128};
 ghost use Rattle.rmp_encode.specs.Refusals.{OfSink};
-ghost use Rattle.rmp_encode.specs.Ser.{sink_of, settings_of};
-ghost use Rattle.rmp_encode.specs.Trees.{tree_of};
-ghost use Rattle.rmp_encode.specs.Writes.{AtItem, Keeps, NoneAtMarker, WritesTree};
+ghost use Rattle.rmp_encode.specs.Writes.{AtItem};
 
 use crate::error::Error;
 use crate::ser::Serialize;
@@ -30,14 +28,7 @@ impl Serialize for u128 {
     fn serialize<W: Sink, C: SerializerConfig>(
         &self,
         se: &mut Serializer<W, C>,
-    ) -> Result<(), Error>
-        ensures writes { WritesTree W.Sink (false || W.takes_memory) (tree_of (settings_of se.old) (Some (unsigned128 self.now)))
-            (sink_of se.old) (sink_of se.new) result }
-        ensures marker { NoneAtMarker W.Sink (sink_of se.old) (sink_of se.new) result }
-        ensures keeps { Keeps W.Sink se.old se.new }
-        ensures error { IfErr result OfSink }
-        ensures value { OnOk result (self.now < 2 ^ 128) }
-    {
+    ) -> Result<(), Error> {
         se.serialize_u128(*self)
     }
 
@@ -62,14 +53,7 @@ impl Serialize for i128 {
     fn serialize<W: Sink, C: SerializerConfig>(
         &self,
         se: &mut Serializer<W, C>,
-    ) -> Result<(), Error>
-        ensures writes { WritesTree W.Sink (false || W.takes_memory) (tree_of (settings_of se.old) (Some (signed128 self.now)))
-            (sink_of se.old) (sink_of se.new) result }
-        ensures marker { NoneAtMarker W.Sink (sink_of se.old) (sink_of se.new) result }
-        ensures keeps { Keeps W.Sink se.old se.new }
-        ensures error { IfErr result OfSink }
-        ensures value { OnOk result (FitsSigned w128 self.now) }
-    {
+    ) -> Result<(), Error> {
         se.serialize_i128(*self)
     }
 

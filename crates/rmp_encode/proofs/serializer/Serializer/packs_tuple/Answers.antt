@@ -13,9 +13,9 @@ returns-then-not-are_bytes-clause-listed g c = λ _.
 pub returns-clause-packed : goal.returns-clause-packed
 returns-clause-packed g c = λ e. tuple_packed (settings_of c.args.self.now) _
     (rw c.is_human_readable-human.ensures at (c.are_bytes.ensures.bytes c.if-not-are_bytes.false)) (sym c.forces_all.ensures ∙ search rules)
-    (rw c.is_human_readable-human.ensures at (sym c.packs_values.ensures ∙ e))
+    (rw c.is_human_readable-human.ensures at (sym c.packs.ensures ∙ e))
 
 pub returns-clause-listed : goal.returns-clause-listed
 returns-clause-listed g c = λ e. tuple_listed (settings_of c.args.self.now) _
     (rw c.is_human_readable-human.ensures at (c.are_bytes.ensures.bytes c.if-not-are_bytes.false)) (sym c.forces_all.ensures ∙ search rules)
-    (rw c.is_human_readable-human.ensures at (sym c.packs_values.ensures ∙ e))
+    (rw c.is_human_readable-human.ensures at (sym c.packs.ensures ∙ e))

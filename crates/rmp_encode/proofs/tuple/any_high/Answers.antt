@@ -1,7 +1,7 @@
 use Rattle.std.proofs.Common.{◌≤◌, ◌∙◌, ap, subst}
 use Rattle.std.specs.Option.{unwrap_or}
 use Rattle.rmp_encode.proofs.Packed.{one_high}
-use Rattle.rmp_encode.proofs.tuple.any_high_value.Goals as goal
+use Rattle.rmp_encode.proofs.tuple.any_high.Goals as goal
 
 pub returns-then-unwrap_or-ge128 : goal.returns-then-unwrap_or-ge128
 returns-then-unwrap_or-ge128 g c = one_high (λ x. g.T.Serialize.data_of x c.args.human) c.args.values.now c.loop-value.value-index c.value-item.result
