@@ -1,5 +1,6 @@
 -- What an access to the fields of a struct does to the `Deserializer` that it borrows.
 use Rattle.std.specs.Prelude.{◌≡◌, ◌≢◌, ◌⊎◌, ℕ, zero, suc, ◌+◌, ◌-◌, ◌<◌, ◌≤◌, max, Bool, true, false, List, length, Result, Ok, Err, Option, Some, None}
+use Rattle.std.specs.Borrow.{GName}
 use Rattle.std.specs.Int.{bit_at}
 use Rattle.rmp_wire.specs.declared.source.Source.{Ghosts}
 use Rattle.rmp_wire.specs.Msg.{Msg}
@@ -51,6 +52,10 @@ is_struct_sound a = a.sound
 -- what it borrows
 abbrev pub struct_lender : {R C : Type 0} → FieldAccess R C → Deserializer R C
 struct_lender a = a.de.now
+
+-- the name of that reference, which every call keeps
+abbrev pub struct_reference : {R C : Type 0} → FieldAccess R C → GName
+struct_reference a = a.de.ghost_name
 
 abbrev pub names_in : {R C : Type 0} → FieldAccess R C → List (List ℕ)
 names_in a = bytes_of a.names.now

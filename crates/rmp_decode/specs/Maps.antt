@@ -1,6 +1,7 @@
 -- What an access to the pairs of a map does to the `Deserializer` that it borrows.
 use Rattle.std.specs.Prelude.{◌≡◌, ℕ, ◌+◌, max, Bool, true, false, List, [], ◌∷◌, reverse, Result}
 use Rattle.std.specs.BTreeMap.{is_at}
+use Rattle.std.specs.Borrow.{GName}
 use Rattle.std.specs.List.Sorted.{IsStrictlySortedBy}
 use Rattle.std.specs.Map.{keys_of, lookup, lookup_key}
 use Rattle.std.specs.declared.cmp.Ordering.{Ordering}
@@ -77,6 +78,10 @@ is_map_sound a = a.sound
 -- what it borrows
 abbrev pub map_lender : {R C : Type 0} → MapAccess R C → Deserializer R C
 map_lender a = a.de.now
+
+-- the name of that reference, which every call keeps
+abbrev pub map_reference : {R C : Type 0} → MapAccess R C → GName
+map_reference a = a.de.ghost_name
 
 -- a key or a value may be read that nests below this
 abbrev pub map_inner : {R C : Type 0} → MapAccess R C → ℕ

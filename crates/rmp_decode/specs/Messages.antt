@@ -1,11 +1,13 @@
 -- The messages of a source, one after another.
-use Rattle.std.specs.Prelude.{◌≡◌, ◌+◌, ℕ, true, false, List, Option, None, Some, Result, Ok, Err, length}
+use Rattle.std.specs.Prelude.{◌≡◌, ◌+◌, ℕ, Bool, true, false, List, Option, None, Some, Result, Ok, Err, length}
+use Rattle.std.specs.Borrow.{GName}
 use Rattle.std.specs.Iterator.{Count, at_most, endless, count_unless}
 use Rattle.rmp_wire.specs.Msg.{Msg}
 use Rattle.rmp_wire.specs.declared.source.Source.{Ghosts}
 use Rattle.rmp_decode.specs.Law.{Lawful}
 use Rattle.rmp_decode.specs.Next.{EndsHere}
 use Rattle.rmp_decode.specs.State.{left}
+use Rattle.rmp_decode.specs.declared.deserializer.Deserializer.{Deserializer}
 use Rattle.rmp_decode.specs.declared.deserializer.messages.Messages.{Messages}
 use Rattle.rmp_decode.specs.declared.error.Error.{Error}
 
@@ -13,6 +15,18 @@ use Rattle.rmp_decode.specs.declared.error.Error.{Error}
 abbrev pub most_messages : Option (List ℕ) → Count
 most_messages None = endless
 most_messages (Some xs) = at_most (length xs + 1)
+
+-- what the iterator borrows
+abbrev pub messages_lender : {V R C : Type 0} → Messages V R C → Deserializer R C
+messages_lender s = s.de.now
+
+-- the name of that reference, which every call keeps
+abbrev pub messages_reference : {V R C : Type 0} → Messages V R C → GName
+messages_reference s = s.de.ghost_name
+
+-- it has ended, or returned an error
+abbrev pub is_done : {V R C : Type 0} → Messages V R C → Bool
+is_done s = s.done
 
 module _ {R C V : Type 0} (g : Ghosts R) where
   -- how many items are still to come, at most: none after the end or an error

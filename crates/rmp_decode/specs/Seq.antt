@@ -1,5 +1,6 @@
 -- What an access to the elements of a list does to the `Deserializer` that it borrows.
 use Rattle.std.specs.Prelude.{◌≡◌, ◌⊎◌, ℕ, ◌+◌, ◌<◌, max, Bool, true, false, List, [], ◌∷◌, ◌++◌, Option, Result, IfSome, pos}
+use Rattle.std.specs.Borrow.{GName}
 use Rattle.std.specs.Io.KnownBytes.{Consumes}
 pub use Rattle.rmp_wire.specs.Kinds.{seq_head}
 use Rattle.rmp_wire.specs.declared.head.Head.{Head}
@@ -76,6 +77,10 @@ is_sound s = s.sound
 -- what it borrows
 abbrev pub lender_of : {R C : Type 0} → SeqAccess R C → Deserializer R C
 lender_of s = s.de.now
+
+-- the name of that reference, which every call keeps
+abbrev pub reference_of : {R C : Type 0} → SeqAccess R C → GName
+reference_of s = s.de.ghost_name
 
 -- an element may be read that nests below this
 abbrev pub inner_of : {R C : Type 0} → SeqAccess R C → ℕ

@@ -1,5 +1,6 @@
 -- What the variants of an enum are read from: a name alone, or a map of one pair, from a name to content.
 use Rattle.std.specs.Prelude.{◌≡◌, ℕ, zero, suc, ◌+◌, max, Bool, true, false, List, Option, Some, None, MatchOption, Result, Ok, Err, OnOk, OnErr, ◌⊎◌}
+use Rattle.std.specs.Borrow.{GName}
 use Rattle.std.specs.Option.{option_and_then, option_map}
 use Rattle.rmp_wire.specs.declared.head.Head.{Head}
 use Rattle.rmp_wire.specs.declared.head.Head.TheVariants.{Map}
@@ -98,6 +99,10 @@ is_bare v = v.bare
 -- what it borrows
 abbrev pub variant_lender : {R C : Type 0} → Variant R C → Deserializer R C
 variant_lender v = v.de.now
+
+-- the name of that reference, which every call keeps
+abbrev pub variant_reference : {R C : Type 0} → Variant R C → GName
+variant_reference v = v.de.ghost_name
 
 -- the room of the content
 abbrev pub content_room : {R C : Type 0} → Variant R C → ℕ

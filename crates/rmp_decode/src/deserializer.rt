@@ -3,6 +3,7 @@ ghost use Rattle.std.specs.Prelude.{◌≡◌, false, ◌≢◌, IfErr};
 ghost use Rattle.rmp_decode.specs.State.{reader_of, alloc_of, config_of, is_failed, kept_of, limit_at, limited, failed_of, strict_of, faults_of};
 ghost use Rattle.rmp_decode.specs.State.{left, IsNew, IsSameBut};
 ghost use Rattle.rmp_decode.specs.declared.deserializer.Kept.TheVariants.{Nothing};
+ghost use Rattle.rmp_decode.specs.Messages.{messages_lender, messages_reference, is_done};
 ghost use Rattle.rmp_decode.specs.Next.{FindsNext, IsThere, NextRead, RefusesNext};
 ghost use Rattle.rmp_decode.specs.Refusing.{RefusesAs};
 ghost use Rattle.std.specs.Borrow.{sem, follows};
@@ -227,9 +228,9 @@ impl<R, C> Deserializer<R, C> {
     /// assert_eq!(rt; sum, 298);
     /// ```
     pub fn messages<'de, T>(&mut self) -> Messages<'_, 'de, T, R, C>
-        ensures same_reference { result.de.ghost_name ≡ self.entry.ghost_name }
-        ensures same { result.de.now ≡ self.old }
-        ensures ready { result.done ≡ false }
+        ensures same_reference { messages_reference result ≡ self.entry.ghost_name }
+        ensures same { messages_lender result ≡ self.old }
+        ensures ready { is_done result ≡ false }
     {
         Messages {
             de: self,

@@ -4,13 +4,13 @@ ghost use Rattle.std.specs.Prelude.{MatchResult, max};
 ghost use Rattle.std.specs.Int.{bit_at};
 ghost use Rattle.std.specs.Io.KnownBytes.{IsAtEnd};
 ghost use Rattle.rmp_decode.specs.Exact.{IsDataEnd, RefusesBy};
-ghost use Rattle.rmp_decode.specs.Variants.{is_bare, variant_lender, content_room};
+ghost use Rattle.rmp_decode.specs.Variants.{is_bare, variant_lender, variant_reference, content_room};
 ghost use Rattle.rmp_decode.specs.With.{OffersPart};
 ghost use Rattle.std.specs.Borrow.{sem, RestsIfErr};
 ghost use Rattle.rmp_decode.specs.contracts.deserializer.Deserializer.{the_row};
 ghost use Rattle.rmp_decode.specs.FieldAccess.{IsStructOpen, SameStruct, AtField, AtFieldValue, TakesPlace, TakesPlaceAs, NoPlace, FailsPlace};
 ghost use Rattle.rmp_decode.specs.FieldAccess.{NoName, TakesName, FailsName, EndsEarly, Meets, TakesField, FailsField, ValueRefused, FailsKey};
-ghost use Rattle.rmp_decode.specs.FieldAccess.{FailsToPass, is_of_map, fields_left, fields_in, owes_field, is_struct_sound, struct_lender, names_in};
+ghost use Rattle.rmp_decode.specs.FieldAccess.{FailsToPass, is_of_map, fields_left, fields_in, owes_field, is_struct_sound, struct_lender, struct_reference, names_in};
 ghost use Rattle.rmp_decode.specs.FieldAccess.{as_map, unsound, OpensStructIn, FailsToOpenStructOf, CanReadField, FieldRead};
 ghost use Rattle.rmp_decode.specs.Fields.{HasFields, not_fields, fields_head};
 ghost use Rattle.rmp_decode.specs.Law.{IsFailedBefore, Explains, TakesHead};
@@ -111,7 +111,7 @@ impl<'x, R: Source, C: SerializerConfig> FieldAccess<'x, R, C> {
     where
         R: ReadSlice<'de>,
         requires some { 0 < fields_left self.old }
-        ensures same_reference { self.new.de.ghost_name ≡ self.old.de.ghost_name }
+        ensures same_reference { struct_reference self.new ≡ struct_reference self.old }
         ensures same { SameStruct self.old self.new }
         ensures met { self.new.met ≡ self.old.met }
         ensures ok { IfOk result (TakesKey R.Source (IsName (names_in self.old)) (as_map self.old) (as_map self.new)) }
@@ -137,7 +137,7 @@ impl<'x, R: Source, C: SerializerConfig> FieldAccess<'x, R, C> {
     fn pass<'de>(&mut self) -> Result<(), Error>
     where
         R: ReadSlice<'de>,
-        ensures same_reference { self.new.de.ghost_name ≡ self.old.de.ghost_name }
+        ensures same_reference { struct_reference self.new ≡ struct_reference self.old }
         ensures same { SameStruct self.old self.new }
         ensures met { self.new.met ≡ self.old.met }
         ensures ok { OnOk result (TakesValue R.Source any_tree (as_map self.old) (as_map self.new) tt) }
@@ -161,7 +161,7 @@ impl<'x, R: Source, C: SerializerConfig> FieldAccess<'x, R, C> {
     where
         R: ReadSlice<'de>,
         requires { AtKey (as_map self.old) }
-        ensures same_reference { self.new.de.ghost_name ≡ self.old.de.ghost_name }
+        ensures same_reference { struct_reference self.new ≡ struct_reference self.old }
         ensures same { SameStruct self.old self.new }
         ensures met { self.new.met ≡ self.old.met }
         ensures none { IsMapOpen (as_map self.old) → IfOk result (λ o. IfNone o (NoName R.Source (names_in self.old) (as_map self.old) (as_map self.new))) }
@@ -189,7 +189,7 @@ impl<'x, R: Source, C: SerializerConfig> FieldAccess<'x, R, C> {
     #[inline(always)]
     fn next_listed(&mut self) -> Result<Option<usize>, Error>
         requires { AtField self.old }
-        ensures same_reference { self.new.de.ghost_name ≡ self.old.de.ghost_name }
+        ensures same_reference { struct_reference self.new ≡ struct_reference self.old }
         ensures same { SameStruct self.old self.new }
         ensures lender { struct_lender self.new ≡ struct_lender self.old }
         ensures none { IfOk result (λ o. IfNone o ((length (names_in self.old) ≤ fields_in self.old - fields_left self.old) × (self.new ≡ self.old))) }
@@ -214,7 +214,7 @@ impl<'x, R: Source, C: SerializerConfig> FieldAccess<'x, R, C> {
     // Notes that a field was met, unless it was met before.
     #[inline(always)]
     fn meet(&mut self, place: usize) -> Result<(), Error>
-        ensures same_reference { self.new.de.ghost_name ≡ self.old.de.ghost_name }
+        ensures same_reference { struct_reference self.new ≡ struct_reference self.old }
         ensures same { SameStruct self.old self.new }
         ensures pairs { OnOk result (as_map self.new ≡ as_map self.old) }
         ensures ok { place < 128 → OnOk result (Meets place self.old self.new) }
@@ -245,7 +245,7 @@ impl<'x, R: Source, C: SerializerConfig> FieldAccess<'x, R, C> {
     where
         R: ReadSlice<'de>,
         requires { AtField self.old }
-        ensures same_reference { self.new.de.ghost_name ≡ self.old.de.ghost_name }
+        ensures same_reference { struct_reference self.new ≡ struct_reference self.old }
         ensures same { SameStruct self.old self.new }
         ensures none { IsStructOpen self.old → IfOk result (λ o. IfNone o (NoPlace R.Source self.old self.new)) }
         ensures some { IsStructOpen self.old → IfOk result (λ o. IfSome o (TakesPlace R.Source self.old self.new)) }
@@ -275,7 +275,7 @@ impl<'x, R: Source, C: SerializerConfig> FieldAccess<'x, R, C> {
     // Where bytes are read as a list, consumes the next byte and keeps it back as a number. Otherwise it does nothing.
     #[inline(always)]
     fn offer(&mut self) -> Result<(), Error>
-        ensures same_reference { self.new.de.ghost_name ≡ self.old.de.ghost_name }
+        ensures same_reference { struct_reference self.new ≡ struct_reference self.old }
         ensures same { SameStruct self.old self.new }
         ensures met { self.new.met ≡ self.old.met }
         ensures left { self.new.left ≡ self.old.left }
@@ -308,7 +308,7 @@ impl<'x, R: Source, C: SerializerConfig> FieldAccess<'x, R, C> {
     where
         R: ReadSlice<'de>,
         requires { AtFieldValue self.old }
-        ensures same_reference { self.new.de.ghost_name ≡ self.old.de.ghost_name }
+        ensures same_reference { struct_reference self.new ≡ struct_reference self.old }
         ensures same { SameStruct self.old self.new }
         ensures ok { IsStructOpen self.old → IfOk result
             (TakesField R.Source (T.reads (C.human (config_of (struct_lender self.old))) R.lends) self.old self.new) }
@@ -350,7 +350,7 @@ impl<'x, R: Source, C: SerializerConfig> FieldAccess<'x, R, C> {
         F: FnOnce(&mut Deserializer<R, C>) -> Result<X, Error>,
         requires at_value { AtFieldValue self.old }
         requires part { is_struct_sound self.old ≡ true → CanReadField R.Source F.FnOnce f self.old }
-        ensures same_reference { self.new.de.ghost_name ≡ self.old.de.ghost_name }
+        ensures same_reference { struct_reference self.new ≡ struct_reference self.old }
         ensures same { SameStruct self.old self.new }
         ensures before { is_struct_sound self.old ≡ false → MatchResult result (λ _. ⊥) IsFailedBefore × (self.new ≡ self.old) }
         ensures part { IsStructOpen self.old → FieldRead R.Source F.FnOnce f self.old self.new result }
@@ -385,24 +385,14 @@ impl<'x, R: Source, C: SerializerConfig> FieldAccess<'x, R, C> {
     pub fn missing_field<'de, T: Deserialize<'de, R>>(&mut self) -> Result<T, Error>
     where
         R: ReadSlice<'de>,
-        ensures same_reference { self.new.de.ghost_name ≡ self.old.de.ghost_name }
+        ensures same_reference { struct_reference self.new ≡ struct_reference self.old }
         ensures ok { IfOk result (λ v. (is_of_map self.old ≡ true) × (T.absent ≡ Some v) × (self.new ≡ self.old)) }
         ensures err { is_struct_sound self.old ≡ true → IfErr result (λ e. (e ≡ Error.Syntax Text.MissingField)
             × (is_of_map self.old ≡ true → T.absent ≡ None) × (self.new ≡ unsound self.old)) }
         ensures failed { OnErr result (is_struct_sound self.new ≡ false) }
         ensures before { is_struct_sound self.old ≡ false → MatchResult result (λ _. ⊥) IsFailedBefore × (self.new ≡ self.old) }
     {
-        if !self.sound {
-            return Err(Error::Uncategorized(Text::FailedBefore));
-        }
-        if self.is_map {
-            match T::missing() {
-                Some(value) => return Ok(value),
-                None => {}
-            }
-        }
-        self.sound = false;
-        Err(Error::Syntax(Text::MissingField))
+        self.missing_field_or(T::missing())
     }
 
     /// Ends the struct. The reader is ready again.
@@ -434,9 +424,9 @@ impl<'x, R: Source, C: SerializerConfig> Variant<'x, R, C> {
     #[inline(always)]
     pub fn struct_variant(self, names: &'x [&'x str]) -> Result<FieldAccess<'x, R, C>, Error>
         requires few { length names.now ≤ 128 }
-        ensures* refused { sem 𝓛 (RestsIfErr (the_row R.row C.row) self.entry.de (λ a. a.de.ghost_name) result
+        ensures* refused { sem 𝓛 (RestsIfErr (the_row R.row C.row) self.entry.de struct_reference result
             (λ last. IfErr result (FailsToOpenStructOf R.Source self.entry last))) }
-        ensures same_reference { IfOk result (λ a. a.de.ghost_name ≡ self.entry.de.ghost_name) }
+        ensures same_reference { IfOk result (λ a. struct_reference a ≡ variant_reference self.entry) }
         ensures paired { OnOk result (is_bare self.entry ≡ false) }
         ensures opened { IfOk result (OpensStructIn R.Source (bytes_of names.now) (content_room self.entry) (variant_lender self.entry)) }
         ensures memory { IfErr result (λ e. e ≢ Error.OutOfMemory) }

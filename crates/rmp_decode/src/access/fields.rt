@@ -14,12 +14,12 @@ ghost use Rattle.rmp_decode.specs.FieldRefusing.{PartsHold, FillRefused, Refuses
 ghost use Rattle.rmp_decode.specs.FieldRows.{TakesRow, FailsRow, ReadsRow, MissesRow, in_row};
 ghost use Rattle.rmp_decode.specs.Law.{Lawful};
 ghost use Rattle.rmp_decode.specs.MapRefusing.{PartRefused, KeyRefused};
-ghost use Rattle.rmp_decode.specs.Maps.{IsMapOpen, AtValue, TakesKey, pairs_left, map_lender, map_inner};
+ghost use Rattle.rmp_decode.specs.Maps.{IsMapOpen, AtValue, TakesKey, pairs_left, map_lender, map_reference, map_inner};
 ghost use Rattle.rmp_decode.specs.Names.{bytes_of, IsName};
 ghost use Rattle.rmp_decode.specs.NamesAhead.{IsBelow};
 ghost use Rattle.rmp_decode.specs.Parts.{TakesPart, FailsPart};
 ghost use Rattle.rmp_decode.specs.Refusing.{Setting, Part, RefusesAs, RefusesParts, RefusesTuple, PartsRefused, setting_of, no_refusal};
-ghost use Rattle.rmp_decode.specs.Seq.{IsOpen, OfRow, TakesParts, FailsParts, lender_of};
+ghost use Rattle.rmp_decode.specs.Seq.{IsOpen, OfRow, TakesParts, FailsParts, lender_of, reference_of};
 ghost use Rattle.rmp_decode.specs.State.{left, config_of, faults_of, kept_of, is_failed};
 ghost use Rattle.rmp_decode.specs.declared.deserializer.Kept.TheVariants.{Nothing};
 
@@ -90,7 +90,7 @@ pub trait Fields<'de, R: ReadSlice<'de>>: Sized + Drop {
     ) -> bool
         requires at_value { AtValue map.old }
         requires still { IsMapOpen map.old }
-        ensures same_reference { map.new.de.ghost_name ≡ map.old.de.ghost_name }
+        ensures same_reference { map_reference map.new ≡ map_reference map.old }
         ensures ok { result ≡ true
             → Fills R.Source (holds (C.human (config_of (map_lender map.old))) R.lends) place map.old map.new slots.old slots.new }
         ensures some { result ≡ false → refusal.new ≢ None }
@@ -131,7 +131,7 @@ pub trait Fields<'de, R: ReadSlice<'de>>: Sized + Drop {
     /// `Syntax("invalid length")` if there are fewer elements.
     fn listed<'x, C: SerializerConfig>(seq: &mut SeqAccess<'x, R, C>) -> Result<Self, Error>
         requires { IsOpen seq.old }
-        ensures same_reference { seq.new.de.ghost_name ≡ seq.old.de.ghost_name }
+        ensures same_reference { reference_of seq.new ≡ reference_of seq.old }
         ensures ok { IfOk result (TakesParts R.Source (λ v ms. reads (C.human (config_of (lender_of seq.old))) R.lends (given_all ms) v) seq.old seq.new) }
         ensures err { IfErr result (FailsParts {V = Self} R.Source (λ v ms. reads (C.human (config_of (lender_of seq.old))) R.lends (given_all ms) v)
             seq.old seq.new) }
@@ -625,7 +625,7 @@ impl<'x, R: Source, C: SerializerConfig> MapAccess<'x, R, C> {
         R: ReadSlice<'de>,
         requires still { IsMapOpen self.old }
         requires more { 0 < pairs_left self.old }
-        ensures same_reference { self.new.de.ghost_name ≡ self.old.de.ghost_name }
+        ensures same_reference { map_reference self.new ≡ map_reference self.old }
         ensures ok { IfSome result (TakesKey R.Source (IsBelow (bytes_of names.now)) self.old self.new) }
         ensures within { IfSome result (λ n. n ≤ length names.now) }
         ensures some { IfNone result (refusal.new ≢ None) }

@@ -2,7 +2,7 @@
 ghost use Rattle.std.specs.Prelude.{◌≡◌, ◌≢◌, ◌-◌, ◌<◌, true, false, IfSome, IfNone, IfOk, IfErr, OnOk, OnErr, MatchResult, Ok, None};
 ghost use Rattle.rmp_decode.specs.Law.{IsFailedBefore};
 ghost use Rattle.rmp_decode.specs.MapRefusing.{EntryRefused, KeyRefused};
-ghost use Rattle.rmp_decode.specs.Maps.{IsMapOpen, AtKey, AtValue, TakesKey, TakesValue, pairs_left, pairs_in, owes_value, is_map_sound, map_lender};
+ghost use Rattle.rmp_decode.specs.Maps.{IsMapOpen, AtKey, AtValue, TakesKey, TakesValue, pairs_left, pairs_in, owes_value, is_map_sound, map_lender, map_reference};
 ghost use Rattle.rmp_decode.specs.Maps.{map_inner};
 ghost use Rattle.rmp_decode.specs.Parts.{FailsPart};
 ghost use Rattle.rmp_decode.specs.State.{config_of};
@@ -52,7 +52,7 @@ impl<'x, R: Source, C: SerializerConfig> MapAccess<'x, R, C> {
     where
         R: ReadSlice<'de>,
         requires { AtKey self.old }
-        ensures same_reference { self.new.de.ghost_name ≡ self.old.de.ghost_name }
+        ensures same_reference { map_reference self.new ≡ map_reference self.old }
         ensures none { IfOk result (λ o. IfNone o ((pairs_left self.old ≡ 0) × (self.new ≡ self.old))) }
         ensures some { IfOk result (λ o. IfSome o (TakesKey R.Source (K.reads (C.human (config_of (map_lender self.old))) R.lends) self.old self.new)) }
         ensures err { is_map_sound self.old ≡ true → IfErr result
@@ -88,7 +88,7 @@ impl<'x, R: Source, C: SerializerConfig> MapAccess<'x, R, C> {
     where
         R: ReadSlice<'de>,
         requires { AtValue self.old }
-        ensures same_reference { self.new.de.ghost_name ≡ self.old.de.ghost_name }
+        ensures same_reference { map_reference self.new ≡ map_reference self.old }
         ensures ok { IfOk result (TakesValue R.Source (V.reads (C.human (config_of (map_lender self.old))) R.lends) self.old self.new) }
         ensures err { is_map_sound self.old ≡ true → IfErr result
             (FailsPart R.Source (V.reads (C.human (config_of (map_lender self.old))) R.lends) (map_inner self.old) (map_lender self.old)
@@ -127,7 +127,7 @@ impl<'x, R: Source, C: SerializerConfig> MapAccess<'x, R, C> {
         requires at_key { AtKey self.old }
         requires part { is_map_sound self.old ≡ true → 0 < pairs_left self.old
             → FnOnceTakesAtMut F.FnOnce f (part_reader (map_lender self.old) (part_room self.old)) }
-        ensures same_reference { self.new.de.ghost_name ≡ self.old.de.ghost_name }
+        ensures same_reference { map_reference self.new ≡ map_reference self.old }
         ensures before { is_map_sound self.old ≡ false → MatchResult result (λ _. ⊥) IsFailedBefore × (self.new ≡ self.old) }
         ensures none { is_map_sound self.old ≡ true → pairs_left self.old ≡ 0 → (result ≡ Ok None) × (self.new ≡ self.old) }
         ensures part { is_map_sound self.old ≡ true → 0 < pairs_left self.old → KeyRead F.FnOnce f self.old self.new result }
@@ -163,7 +163,7 @@ impl<'x, R: Source, C: SerializerConfig> MapAccess<'x, R, C> {
         F: FnOnce(&mut Deserializer<R, C>) -> Result<X, Error>,
         requires at_value { AtValue self.old }
         requires part { is_map_sound self.old ≡ true → FnOnceTakesAtMut F.FnOnce f (part_reader (map_lender self.old) (part_room self.old)) }
-        ensures same_reference { self.new.de.ghost_name ≡ self.old.de.ghost_name }
+        ensures same_reference { map_reference self.new ≡ map_reference self.old }
         ensures before { is_map_sound self.old ≡ false → MatchResult result (λ _. ⊥) IsFailedBefore × (self.new ≡ self.old) }
         ensures part { is_map_sound self.old ≡ true → ValueRead F.FnOnce f self.old self.new result }
         ensures still { OnOk result (is_map_sound self.new ≡ true) }

@@ -2,12 +2,12 @@
 ghost use Rattle.std.specs.Prelude.{◌≡◌, ◌≤◌, length, IfOk, IfErr, ◌≢◌, ◌<◌, true};
 ghost use Rattle.std.specs.Borrow.{sem, RestsIfErr};
 ghost use Rattle.rmp_decode.specs.contracts.deserializer.Deserializer.{the_row};
-ghost use Rattle.rmp_decode.specs.FieldAccess.{OpensStruct};
+ghost use Rattle.rmp_decode.specs.FieldAccess.{OpensStruct, struct_reference};
 ghost use Rattle.rmp_decode.specs.Fields.{TakesFieldsHead, FailsToOpenFields};
-ghost use Rattle.rmp_decode.specs.Maps.{OpensMap, TakesMapHead, FailsToOpenMap};
+ghost use Rattle.rmp_decode.specs.Maps.{OpensMap, TakesMapHead, FailsToOpenMap, map_reference};
 ghost use Rattle.rmp_decode.specs.Names.{bytes_of};
-ghost use Rattle.rmp_decode.specs.Seq.{TakesSeqHead, Opens, FailsToOpen};
-ghost use Rattle.rmp_decode.specs.Variants.{OpensVariant, FailsToOpenVariant};
+ghost use Rattle.rmp_decode.specs.Seq.{TakesSeqHead, Opens, FailsToOpen, reference_of};
+ghost use Rattle.rmp_decode.specs.Variants.{OpensVariant, FailsToOpenVariant, variant_reference};
 
 use crate::access::field_access::FieldAccess;
 use crate::access::map::MapAccess;
@@ -94,9 +94,9 @@ impl<R: Source, C: SerializerConfig> Deserializer<R, C> {
     /// `Syntax("invalid type")` for another kind, and `DepthLimitExceeded` for a list that nests too deep.
     #[inline(always)]
     pub fn deserialize_seq(&mut self) -> Result<SeqAccess<'_, R, C>, Error>
-        ensures* refused { sem 𝓛 (RestsIfErr (the_row R.row C.row) self.entry (λ s. s.de.ghost_name) result
+        ensures* refused { sem 𝓛 (RestsIfErr (the_row R.row C.row) self.entry reference_of result
             (λ last. IfErr result (FailsToOpen R.Source self.old last))) }
-        ensures same_reference { IfOk result (λ s. s.de.ghost_name ≡ self.entry.ghost_name) }
+        ensures same_reference { IfOk result (λ s. reference_of s ≡ self.entry.ghost_name) }
         ensures opened { IfOk result (Opens R.Source self.old) }
     {
         let room = self.room;
@@ -120,9 +120,9 @@ impl<R: Source, C: SerializerConfig> Deserializer<R, C> {
     /// Those of `deserialize_seq`.
     #[inline(always)]
     pub fn deserialize_tuple(&mut self, _len: usize) -> Result<SeqAccess<'_, R, C>, Error>
-        ensures* refused { sem 𝓛 (RestsIfErr (the_row R.row C.row) self.entry (λ s. s.de.ghost_name) result
+        ensures* refused { sem 𝓛 (RestsIfErr (the_row R.row C.row) self.entry reference_of result
             (λ last. IfErr result (FailsToOpen R.Source self.old last))) }
-        ensures same_reference { IfOk result (λ s. s.de.ghost_name ≡ self.entry.ghost_name) }
+        ensures same_reference { IfOk result (λ s. reference_of s ≡ self.entry.ghost_name) }
         ensures opened { IfOk result (Opens R.Source self.old) }
     {
         self.deserialize_seq()
@@ -138,9 +138,9 @@ impl<R: Source, C: SerializerConfig> Deserializer<R, C> {
         _name: &str,
         len: usize,
     ) -> Result<SeqAccess<'_, R, C>, Error>
-        ensures* refused { sem 𝓛 (RestsIfErr (the_row R.row C.row) self.entry (λ s. s.de.ghost_name) result
+        ensures* refused { sem 𝓛 (RestsIfErr (the_row R.row C.row) self.entry reference_of result
             (λ last. IfErr result (FailsToOpen R.Source self.old last))) }
-        ensures same_reference { IfOk result (λ s. s.de.ghost_name ≡ self.entry.ghost_name) }
+        ensures same_reference { IfOk result (λ s. reference_of s ≡ self.entry.ghost_name) }
         ensures opened { IfOk result (Opens R.Source self.old) }
     {
         self.deserialize_tuple(len)
@@ -177,9 +177,9 @@ impl<R: Source, C: SerializerConfig> Deserializer<R, C> {
     /// `Syntax("invalid type")` for another kind, and `DepthLimitExceeded` for a map that nests too deep.
     #[inline(always)]
     pub fn deserialize_map(&mut self) -> Result<MapAccess<'_, R, C>, Error>
-        ensures* refused { sem 𝓛 (RestsIfErr (the_row R.row C.row) self.entry (λ a. a.de.ghost_name) result
+        ensures* refused { sem 𝓛 (RestsIfErr (the_row R.row C.row) self.entry map_reference result
             (λ last. IfErr result (FailsToOpenMap R.Source self.old last))) }
-        ensures same_reference { IfOk result (λ a. a.de.ghost_name ≡ self.entry.ghost_name) }
+        ensures same_reference { IfOk result (λ a. map_reference a ≡ self.entry.ghost_name) }
         ensures opened { IfOk result (OpensMap R.Source self.old) }
     {
         let room = self.room;
@@ -236,9 +236,9 @@ impl<R: Source, C: SerializerConfig> Deserializer<R, C> {
         names: &'x [&'x str],
     ) -> Result<FieldAccess<'x, R, C>, Error>
         requires few { length names.now ≤ 128 }
-        ensures* refused { sem 𝓛 (RestsIfErr (the_row R.row C.row) self.entry (λ a. a.de.ghost_name) result
+        ensures* refused { sem 𝓛 (RestsIfErr (the_row R.row C.row) self.entry struct_reference result
             (λ last. IfErr result (FailsToOpenFields R.Source self.old last))) }
-        ensures same_reference { IfOk result (λ a. a.de.ghost_name ≡ self.entry.ghost_name) }
+        ensures same_reference { IfOk result (λ a. struct_reference a ≡ self.entry.ghost_name) }
         ensures opened { IfOk result (OpensStruct R.Source (bytes_of names.now) self.old) }
     {
         let room = self.room;
@@ -288,9 +288,9 @@ impl<R: Source, C: SerializerConfig> Deserializer<R, C> {
     ) -> Result<(usize, Variant<'_, R, C>), Error>
     where
         R: ReadSlice<'de>,
-        ensures* refused { sem 𝓛 (RestsIfErr (the_row R.row C.row) self.entry (λ p. p.1.de.ghost_name) result
+        ensures* refused { sem 𝓛 (RestsIfErr (the_row R.row C.row) self.entry (λ p. variant_reference p.1) result
             (λ last. IfErr result (FailsToOpenVariant R.Source (bytes_of names.now) self.old last))) }
-        ensures same_reference { IfOk result (λ p. p.1.de.ghost_name ≡ self.entry.ghost_name) }
+        ensures same_reference { IfOk result (λ p. variant_reference p.1 ≡ self.entry.ghost_name) }
         ensures opened { IfOk result (λ p. OpensVariant R.Source (bytes_of names.now) p.0 self.old p.1) }
         ensures below { IfOk result (λ p. p.0 < length names.now) }
         ensures memory { R.lends ≡ true → IfErr result (λ e. e ≢ Error.OutOfMemory) }
@@ -308,9 +308,9 @@ impl<R: Source, C: SerializerConfig> Deserializer<R, C> {
         &mut self,
         names: &[&str],
     ) -> Result<(usize, Variant<'_, R, C>), Error>
-        ensures* refused { sem 𝓛 (RestsIfErr (the_row R.row C.row) self.entry (λ p. p.1.de.ghost_name) result
+        ensures* refused { sem 𝓛 (RestsIfErr (the_row R.row C.row) self.entry (λ p. variant_reference p.1) result
             (λ last. IfErr result (FailsToOpenVariant R.Source (bytes_of names.now) self.old last))) }
-        ensures same_reference { IfOk result (λ p. p.1.de.ghost_name ≡ self.entry.ghost_name) }
+        ensures same_reference { IfOk result (λ p. variant_reference p.1 ≡ self.entry.ghost_name) }
         ensures opened { IfOk result (λ p. OpensVariant R.Source (bytes_of names.now) p.0 self.old p.1) }
         ensures below { IfOk result (λ p. p.0 < length names.now) }
         ensures memory { P.lends ≡ true → IfErr result (λ e. e ≢ Error.OutOfMemory) }

@@ -5,7 +5,7 @@ ghost use Rattle.std.specs.Io.KnownBytes.{IsAtEnd};
 ghost use Rattle.rmp_decode.specs.Law.{Explains, IsFailedBefore};
 ghost use Rattle.rmp_decode.specs.Exact.{IsDataEnd};
 ghost use Rattle.rmp_decode.specs.Refusing.{element_setting, ElementRefused, WhereSome, Wanted};
-ghost use Rattle.rmp_decode.specs.Seq.{IsOpen, TakesElement, FailsToTake, FailsElement, KeepsByte, left_in, count_in, in_bytes, is_sound, lender_of};
+ghost use Rattle.rmp_decode.specs.Seq.{IsOpen, TakesElement, FailsToTake, FailsElement, KeepsByte, left_in, count_in, in_bytes, is_sound, lender_of, reference_of};
 ghost use Rattle.rmp_decode.specs.State.{left, faults_of, config_of, is_failed, Stays};
 ghost use Rattle.rmp_decode.specs.With.{OffersPart, CanRead, PartRead, PartMissing, SameList};
 
@@ -158,7 +158,7 @@ impl<'x, R: Source, C: SerializerConfig> SeqAccess<'x, R, C> {
         R: ReadSlice<'de>,
         requires some { 0 < left_in self.old }
         requires list { in_bytes self.old ≡ false }
-        ensures same_reference { self.new.de.ghost_name ≡ self.old.de.ghost_name }
+        ensures same_reference { reference_of self.new ≡ reference_of self.old }
         ensures ok { IsOpen self.old → IfOk result (TakesElement R.Source (T.reads (C.human (config_of (lender_of self.old))) R.lends) self.old self.new) }
         ensures err { IsOpen self.old → IfErr result (FailsToTake R.Source (T.reads (C.human (config_of (lender_of self.old))) R.lends) self.old self.new) }
         ensures refused { IsOpen self.old → IfErr result (T.refuses (element_setting (C.human (config_of (lender_of self.old))) R.lends self.old)
@@ -185,7 +185,7 @@ impl<'x, R: Source, C: SerializerConfig> SeqAccess<'x, R, C> {
         R: ReadSlice<'de>,
         requires some { 0 < left_in self.old }
         requires bytes { in_bytes self.old ≡ true }
-        ensures same_reference { self.new.de.ghost_name ≡ self.old.de.ghost_name }
+        ensures same_reference { reference_of self.new ≡ reference_of self.old }
         ensures ok { IsOpen self.old → IfOk result (TakesElement R.Source (T.reads (C.human (config_of (lender_of self.old))) R.lends) self.old self.new) }
         ensures err { IsOpen self.old → IfErr result (FailsToTake R.Source (T.reads (C.human (config_of (lender_of self.old))) R.lends) self.old self.new) }
         ensures refused { IsOpen self.old → IfErr result (ElementRefused R.Source (C.human (config_of (lender_of self.old))) R.lends T.refuses self.old
@@ -215,7 +215,7 @@ impl<'x, R: Source, C: SerializerConfig> SeqAccess<'x, R, C> {
     pub fn next_element<'de, T: Deserialize<'de, R>>(&mut self) -> Result<Option<T>, Error>
     where
         R: ReadSlice<'de>,
-        ensures same_reference { self.new.de.ghost_name ≡ self.old.de.ghost_name }
+        ensures same_reference { reference_of self.new ≡ reference_of self.old }
         ensures none { IsOpen self.old → IfOk result (λ o. IfNone o ((left_in self.old ≡ 0) × (self.new ≡ self.old))) }
         ensures some { IsOpen self.old → IfOk result (λ o. IfSome o
             (TakesElement R.Source (T.reads (C.human (config_of (lender_of self.old))) R.lends) self.old self.new)) }
@@ -254,7 +254,7 @@ impl<'x, R: Source, C: SerializerConfig> SeqAccess<'x, R, C> {
     pub fn element<'de, T: Deserialize<'de, R>>(&mut self) -> Result<T, Error>
     where
         R: ReadSlice<'de>,
-        ensures same_reference { self.new.de.ghost_name ≡ self.old.de.ghost_name }
+        ensures same_reference { reference_of self.new ≡ reference_of self.old }
         ensures ok { IsOpen self.old → IfOk result (TakesElement R.Source (T.reads (C.human (config_of (lender_of self.old))) R.lends) self.old self.new) }
         ensures err { IsOpen self.old → IfErr result (FailsElement R.Source (T.reads (C.human (config_of (lender_of self.old))) R.lends) self.old self.new) }
         ensures refused { IsOpen self.old → IfErr result (Wanted
@@ -278,7 +278,7 @@ impl<'x, R: Source, C: SerializerConfig> SeqAccess<'x, R, C> {
     // Where bytes are read as a list, consumes the next byte and keeps it back as a number. Otherwise it does nothing.
     #[inline(never)]
     fn offer(&mut self) -> Result<(), Error>
-        ensures same_reference { self.new.de.ghost_name ≡ self.old.de.ghost_name }
+        ensures same_reference { reference_of self.new ≡ reference_of self.old }
         ensures ok { OnOk result (OffersPart R.Source (in_bytes self.old) (lender_of self.old) (lender_of self.new)) }
         ensures left { left_in self.new ≡ left_in self.old }
         ensures list { SameList self.old self.new }
@@ -312,7 +312,7 @@ impl<'x, R: Source, C: SerializerConfig> SeqAccess<'x, R, C> {
     where
         F: FnOnce(&mut Deserializer<R, C>) -> Result<X, Error>,
         requires { is_sound self.old ≡ true → 0 < left_in self.old → CanRead R.Source F.FnOnce f self.old }
-        ensures same_reference { self.new.de.ghost_name ≡ self.old.de.ghost_name }
+        ensures same_reference { reference_of self.new ≡ reference_of self.old }
         ensures list { SameList self.old self.new }
         ensures before { is_sound self.old ≡ false → MatchResult result (λ _. ⊥) IsFailedBefore × (self.new ≡ self.old) }
         ensures none { is_sound self.old ≡ true → left_in self.old ≡ 0 → (result ≡ Ok None) × (self.new ≡ self.old) }

@@ -17,10 +17,10 @@ ghost use Rattle.rmp_decode.specs.MapRefusing.{PartRefused};
 ghost use Rattle.rmp_decode.specs.Names.{bytes_of, place_of, place_below};
 ghost use Rattle.rmp_decode.specs.Parts.{TakesPart, FailsPart};
 ghost use Rattle.rmp_decode.specs.Pieces.{RefusesPiece};
-ghost use Rattle.rmp_decode.specs.Seq.{seq_head, not_seq, IsSeq};
+ghost use Rattle.rmp_decode.specs.Seq.{seq_head, not_seq, IsSeq, reference_of};
 ghost use Rattle.rmp_decode.specs.State.{left, faults_of, config_of, failed_of, is_failed, is_strict, kept_of, Stays};
 ghost use Rattle.rmp_decode.specs.VariantNames.{IsPlace, StartsWithNoName, TakesName, other_name, unknown_name, RefusesName};
-ghost use Rattle.rmp_decode.specs.Variants.{TakesNameOf, FailsToOpenVariant, not_unit, is_bare, variant_lender, content_room, ReadsBare, RefusesBare};
+ghost use Rattle.rmp_decode.specs.Variants.{TakesNameOf, FailsToOpenVariant, not_unit, is_bare, variant_lender, variant_reference, content_room, ReadsBare, RefusesBare};
 ghost use Rattle.rmp_decode.specs.Variants.{ReadsContent, RefusesContentOf, ContentRefusedBy, ContentGiven, OpensSeqIn, FailsToOpenSeqOf};
 ghost use Rattle.rmp_decode.specs.With.{part_reader};
 
@@ -437,9 +437,9 @@ impl<'x, R: Source, C: SerializerConfig> Variant<'x, R, C> {
     /// `Syntax("invalid type")` if the variant is only a name, and otherwise those of `deserialize_seq`.
     #[inline(always)]
     pub fn tuple_variant(self, _len: usize) -> Result<SeqAccess<'x, R, C>, Error>
-        ensures* refused { sem 𝓛 (RestsIfErr (the_row R.row C.row) self.entry.de (λ s. s.de.ghost_name) result
+        ensures* refused { sem 𝓛 (RestsIfErr (the_row R.row C.row) self.entry.de reference_of result
             (λ last. IfErr result (FailsToOpenSeqOf R.Source self.entry last))) }
-        ensures same_reference { IfOk result (λ s. s.de.ghost_name ≡ self.entry.de.ghost_name) }
+        ensures same_reference { IfOk result (λ s. reference_of s ≡ variant_reference self.entry) }
         ensures paired { OnOk result (is_bare self.entry ≡ false) }
         ensures opened { IfOk result (OpensSeqIn R.Source (content_room self.entry) (variant_lender self.entry)) }
         ensures memory { IfErr result (λ e. e ≢ Error.OutOfMemory) }

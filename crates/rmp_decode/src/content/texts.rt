@@ -11,7 +11,7 @@ ghost use Rattle.rmp_decode.specs.Kinds.{raw_head, raw_msg, other_number};
 ghost use Rattle.rmp_decode.specs.Read.{IsRaw, IsString, IsChar, IsUnsigned, IsExt};
 ghost use Rattle.std.specs.Borrow.{sem, RestsIfErr};
 ghost use Rattle.rmp_decode.specs.contracts.deserializer.Deserializer.{the_row};
-ghost use Rattle.rmp_decode.specs.Seq.{IsOpen, TakesElement, FailsToTake, left_in, in_bytes, lender_of};
+ghost use Rattle.rmp_decode.specs.Seq.{IsOpen, TakesElement, FailsToTake, left_in, in_bytes, lender_of, reference_of};
 ghost use Rattle.rmp_decode.specs.State.{left, faults_of, is_failed, kept_of, is_strict};
 ghost use Rattle.rmp_decode.specs.declared.deserializer.Kept.TheVariants.{Nothing};
 ghost use Rattle.rmp_decode.specs.Names.{bytes_of, IsName, IsNameHead};
@@ -434,9 +434,9 @@ impl<R: Source, C: SerializerConfig> Deserializer<R, C> {
     // Opens a list whose head was consumed.
     #[inline(always)]
     fn open_list(&mut self, len: u32) -> Result<SeqAccess<'_, R, C>, Error>
-        ensures* refused { sem 𝓛 (RestsIfErr (the_row R.row C.row) self.entry (λ s. s.de.ghost_name) result
+        ensures* refused { sem 𝓛 (RestsIfErr (the_row R.row C.row) self.entry reference_of result
             (λ last. IfErr result (λ e. (self.old.room ≤ 1) × (last ≡ self.old) × (e ≡ Error.DepthLimitExceeded)))) }
-        ensures same_reference { IfOk result (λ s. s.de.ghost_name ≡ self.entry.ghost_name) }
+        ensures same_reference { IfOk result (λ s. reference_of s ≡ self.entry.ghost_name) }
         ensures opened { IfOk result (ListAfterHead len self.old) }
     {
         if self.is_deepest() {
@@ -601,7 +601,7 @@ impl<'x, R: Source, C: SerializerConfig> SeqAccess<'x, R, C> {
     #[inline(always)]
     fn next_number(&mut self) -> Result<Option<u8>, Error>
         requires list { in_bytes self.old ≡ false }
-        ensures same_reference { self.new.de.ghost_name ≡ self.old.de.ghost_name }
+        ensures same_reference { reference_of self.new ≡ reference_of self.old }
         ensures none { IsOpen self.old → IfOk result (λ o. IfNone o ((left_in self.old ≡ 0) × (self.new ≡ self.old))) }
         ensures some { IsOpen self.old → IfOk result (λ o. IfSome o (TakesElement R.Source (IsUnsigned 255) self.old self.new)) }
         ensures err { IsOpen self.old → IfErr result (FailsToTake R.Source (IsUnsigned 255) self.old self.new) }

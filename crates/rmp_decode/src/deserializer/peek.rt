@@ -643,7 +643,7 @@ fn needs_signed_bytes(z: i64, len: usize) -> bool
     z < bound
 }
 
-// The number whose two bytes stand at the front. These three bear no hint to inline always: what is inlined always counts towards how large a
+// The number that the first two bytes are. These three bear no hint to inline always: what is inlined always counts towards how large a
 // caller may grow before its own hint is dropped, and they are inlined without it.
 fn number_16_at(bytes: &[u8]) -> Option<u16>
     ensures long { IfSome result (λ n. 2 ≤ length bytes.now) }
@@ -655,7 +655,7 @@ fn number_16_at(bytes: &[u8]) -> Option<u16>
     }
 }
 
-// The number whose four bytes stand at the front.
+// The number that the first four bytes are.
 fn number_32_at(bytes: &[u8]) -> Option<u32>
     ensures long { IfSome result (λ n. 4 ≤ length bytes.now) }
     ensures value { IfSome result (λ n. n ≡ get_or bytes.now 0 0 * 0x1000000 + get_or bytes.now 1 0 * 0x10000 + get_or bytes.now 2 0 * 0x100
@@ -667,7 +667,7 @@ fn number_32_at(bytes: &[u8]) -> Option<u32>
     }
 }
 
-// The number whose eight bytes stand at the front.
+// The number that the first eight bytes are.
 fn number_64_at(bytes: &[u8]) -> Option<u64>
     ensures long { IfSome result (λ n. 8 ≤ length bytes.now) }
     ensures value { IfSome result (λ n. n ≡ get_or bytes.now 0 0 * 0x100000000000000 + get_or bytes.now 1 0 * 0x1000000000000

@@ -1,7 +1,7 @@
 //! The fields of a recursive struct.
 ghost use Rattle.std.specs.Prelude.{◌≡◌, ◌<◌, ◌⊎◌, Bool, true, false, Some, None, IfSome, IfNone, IfOk, IfErr, OnErr, MatchResult};
 ghost use Rattle.rmp_decode.specs.FieldAccess.{IsStructOpen, SameStruct, AtField, TakesPlace, NoPlace, FailsPlace};
-ghost use Rattle.rmp_decode.specs.FieldAccess.{fields_left, is_of_map, is_struct_sound, struct_lender, unsound};
+ghost use Rattle.rmp_decode.specs.FieldAccess.{fields_left, is_of_map, is_struct_sound, struct_lender, struct_reference, unsound};
 ghost use Rattle.rmp_decode.specs.Law.{IsFailedBefore};
 ghost use Rattle.rmp_decode.specs.State.{config_of};
 
@@ -26,7 +26,7 @@ pub trait ReadPlaces<R: Source> {
         fields: &mut FieldAccess<'x, R, C>,
     ) -> Result<Option<usize>, Error>
         requires { AtField fields.old }
-        ensures same_reference { fields.new.de.ghost_name ≡ fields.old.de.ghost_name }
+        ensures same_reference { struct_reference fields.new ≡ struct_reference fields.old }
         ensures same { SameStruct fields.old fields.new }
         ensures none { IsStructOpen fields.old → IfOk result (λ o. IfNone o (NoPlace R.Source fields.old fields.new)) }
         ensures some { IsStructOpen fields.old → IfOk result (λ o. IfSome o (TakesPlace R.Source fields.old fields.new)) }
@@ -57,7 +57,7 @@ impl<'x, R: Source, C: SerializerConfig> FieldAccess<'x, R, C> {
     #[inline(always)]
     pub fn next_field_by<P: ReadPlaces<R>>(&mut self) -> Result<Option<usize>, Error>
         requires { AtField self.old }
-        ensures same_reference { self.new.de.ghost_name ≡ self.old.de.ghost_name }
+        ensures same_reference { struct_reference self.new ≡ struct_reference self.old }
         ensures same { SameStruct self.old self.new }
         ensures none { IsStructOpen self.old → IfOk result (λ o. IfNone o (NoPlace R.Source self.old self.new)) }
         ensures some { IsStructOpen self.old → IfOk result (λ o. IfSome o (TakesPlace R.Source self.old self.new)) }
@@ -76,7 +76,7 @@ impl<'x, R: Source, C: SerializerConfig> FieldAccess<'x, R, C> {
     /// `Syntax("missing field")` if there is none.
     #[inline(always)]
     pub fn missing_field_or<T: Drop>(&mut self, absent: Option<T>) -> Result<T, Error>
-        ensures same_reference { self.new.de.ghost_name ≡ self.old.de.ghost_name }
+        ensures same_reference { struct_reference self.new ≡ struct_reference self.old }
         ensures ok { IfOk result (λ v. (is_of_map self.old ≡ true) × (absent ≡ Some v) × (self.new ≡ self.old)) }
         ensures err { is_struct_sound self.old ≡ true → IfErr result (λ e. (e ≡ Error.Syntax Text.MissingField)
             × (is_of_map self.old ≡ true → absent ≡ None) × (self.new ≡ unsound self.old)) }
@@ -102,7 +102,7 @@ impl<'x, R: Source, C: SerializerConfig> FieldAccess<'x, R, C> {
     /// Those of `missing_field_or`, where nothing was read.
     #[inline(always)]
     pub fn given_or<T: Drop>(&mut self, given: Option<T>, absent: Option<T>) -> Result<T, Error>
-        ensures same_reference { self.new.de.ghost_name ≡ self.old.de.ghost_name }
+        ensures same_reference { struct_reference self.new ≡ struct_reference self.old }
         ensures ok { IfOk result (λ v. ((given ≡ Some v) ⊎ ((given ≡ None) × (absent ≡ Some v))) × (self.new ≡ self.old)) }
         ensures err { is_struct_sound self.old ≡ true → IfErr result (λ e. (given ≡ None) × (e ≡ Error.Syntax Text.MissingField)
             × (is_of_map self.old ≡ true → absent ≡ None) × (self.new ≡ unsound self.old)) }

@@ -19,7 +19,8 @@ returns-then-len-gt0-clause-law g c = refused_head g.R.Source NothingIs c.args.s
 
 pub returns-then-len-gt0-clause-exact : goal.returns-then-len-gt0-clause-exact
 returns-then-len-gt0-clause-exact g c = λ _. exact_head _ (not_nothing (room_of c.args.self.now)) _ _ _ c.in-Ok.next.0 c.in-Ok.next.1 _
-    c.in-Ok.ensures.begun.sound c.in-Ok.ensures.begun.marked (some_is _ c.in-Ok.next.0 _ c.in-Some-as_array.len c.in-Some-as_array.ensures (let d = c.in-Ok.ensures.deep (c.in-Some-as_array.len, c.in-Some-as_array.ensures) in omega (arith, d)))
+    c.in-Ok.ensures.begun.sound c.in-Ok.ensures.begun.marked (some_is _ c.in-Ok.next.0 _ c.in-Some-as_array.len c.in-Some-as_array.ensures
+    (let d = c.in-Ok.ensures.deep (c.in-Some-as_array.len, c.in-Some-as_array.ensures) in omega (arith, d)))
 
 pub returns-else-len-gt0-clause-law : goal.returns-else-len-gt0-clause-law
 returns-else-len-gt0-clause-law g c = empty_read g.R.Source c.args.self.now c.opening.new.self c.in-Ok.next c.in-Ok.ensures.begun NothingIs _ c.in-Some-as_array.len
