@@ -395,12 +395,9 @@ def tell_missing(module: Module, own: Own, trait: str, why: str) -> None:
 
 
 def tell_of_recursive(module: Module, own: Own) -> None:
-    """Says what a type that leads back to itself doesn't get, and what may not be proved of it."""
+    """Says what a type that leads back to itself doesn't get."""
     if "EndsInside" in own.derived:
         tell_missing(module, own, "EndsInside", LEADS_BACK)
-    why = recursive.unsure(own.of)
-    if why:
-        print(f"derive: {module.path}: {own.of.name}: {why}", file=sys.stderr)
 
 
 def implementations(module: Module, wanted: list[Own]) -> str:

@@ -1,9 +1,10 @@
 """What derive.py writes for a recursive type.
 
-Such a type has no parameters. An enum's variants hold nothing, or values without names: each a leaf, or the type again, in a `Vec`, a `Box` or an
-`Option<Box<_>>`. A struct's fields have names, and each is a leaf, or the type again, in a `Vec` or an `Option<Box<_>>`. What is known of the
-type is said level by level, so it gets a file of definitions and laws, specs/TLevels.antt, and one of its round trip, specs/TRounds.antt. What
-such types share are Recursion.antt and RecursionRounds.antt, and, of structs, RecursionFields.antt.
+Such a type has no parameters. An enum's variants hold nothing, or values with names or without: each a leaf, or the type again, in a `Vec`, a
+`Box`, an `Option<Box<_>>` or, without a name, a map. A struct's fields have names, and each is a leaf, or the type again, in a `Vec` or an
+`Option<Box<_>>`. What is known of the type is said level by level, so it gets a file of definitions and laws, specs/TLevels.antt, and one of its
+round trip, specs/TRounds.antt. What such types share are Recursion.antt and RecursionRounds.antt, of fields with names RecursionFields.antt, and
+of maps RecursionMaps.antt and RecursionMapRounds.antt.
 """
 from __future__ import annotations
 
@@ -11,13 +12,15 @@ import os
 from typing import TYPE_CHECKING, Iterator, Optional
 
 import recursive_code
-from declarations import Declared, Refused, declared_at
+from declarations import Declared, Field, Refused, Shape, declared_at
 import recursive_answers
-from recursive_holders import leaf_readers, reading, rounds
+from recursive_holders import leaf_readers, lent, reading, rounds
+import recursive_map_shared as map_shared
 import recursive_struct_answers as struct_answers
 import recursive_struct_code as struct_code
 import recursive_struct_shared as struct_shared
-from recursive_levels import AGAIN, BOX, LEAVES, Level, levels_file, tables
+from recursive_enums import levels_file
+from recursive_levels import AGAIN, BOX, LEAVES, MAPS, ORDERS, Level, is_map, tables
 from recursive_rounds import rounds_file
 from recursive_shared import PROOFS, ROUNDS, SPECS
 from recursive_struct_proofs import proofs_file as struct_proofs_file
@@ -32,15 +35,18 @@ if TYPE_CHECKING:
 WORDS = {
     "rmp_decode.specs.Buffers": "IsBuffer",
     "rmp_decode.specs.Law": "Lawful",
+    "rmp_decode.specs.Maps": "ReadsEntries",
     "rmp_decode.specs.Options": "IsOption",
     "rmp_decode.specs.Read": "IsUnsigned IsSigned IsRaw IsChar",
     "rmp_decode.specs.Wide": "IsUnsigned128 IsSigned128",
     "rmp_wire.specs.Msg": "truth float32 float64",
+    "std.specs.Ordering": "nat_cmp bool_cmp",
+    "std.specs.String": "string_cmp",
 }
 
 
-# How many fields such a struct has at most, and of how many its read is known to be proved.
-MOST_FIELDS, PROVED_FIELDS = 8, 4
+# How many fields with names a struct or a variant has at most.
+MOST_FIELDS = 8
 
 
 def levels_of(module: Module, wanted: list[Own]) -> list[Level]:
@@ -63,38 +69,34 @@ def refusal(own: Own) -> Optional[str]:
         return "both halves of such a type are derived, or neither"
     if of.parameters or of.lifetime:
         return "such a type is derived without parameters"
-    if is_taken(of):
-        return "its name is a word of the definitions that are written for it: give it another"
-    again = [it.kind.replace("{name}", of.name) for it in AGAIN if it is not BOX or of.variants]
-    if of.shape:
-        return refusal_of_fields(of, again)
-    for shape in of.variants:
-        if shape.kind == "named":
-            return f"{shape.name} has fields with names: a variant of such a type holds values without names, or nothing"
-        for field in shape.fields:
-            if field.kind not in [*LEAVES, *again]:
-                return f"{shape.name} holds a {field.kind}: a variant of such a type holds {', '.join([*LEAVES, *again[:-1]])} or {again[-1]}"
-    return None
-
-
-def refusal_of_fields(of: Declared, again: list[str]) -> Optional[str]:
-    """Why a struct isn't derived."""
-    if of.shape.kind != "named":
+    if of.shape and of.shape.kind != "named":
         return "of such structs only those whose fields have names are derived"
-    for field in of.shape.fields:
-        if field.default:
-            return f"{field.name} has a default: a field of such a struct has none"
-        if field.kind not in [*LEAVES, *again]:
-            return f"{field.name} is a {field.kind}: a field of such a struct is {', '.join([*LEAVES, *again[:-1]])} or {again[-1]}"
-    if len(of.shape.fields) > MOST_FIELDS:
-        return f"it has more than {MOST_FIELDS} fields: group some in a type of their own"
-    return None
+    for shape in of.shapes():
+        why = next(filter(None, (refusal_of_field(of, shape, field) for field in shape.fields)), None)
+        if why:
+            return why
+        if shape.kind == "named" and len(shape.fields) > MOST_FIELDS:
+            return f"{'it' if of.shape else shape.name} has more than {MOST_FIELDS} fields: group some in a type of their own"
+    maps = [kind for kind in (it.kind.replace("{name}", of.name) for it in MAPS) if any(field.kind == kind for shape in of.shapes() for field in shape.fields)]
+    if len(maps) > 1:
+        return f"{maps[0]} and {maps[1]} have keys of two kinds: the maps of such a type have keys of one kind"
+    if len(of.variants or []) == 1:
+        return "it has one variant: write a struct"
+    return "its name is a word of the definitions that are written for it: give it another" if is_taken(of) else None
 
 
-def unsure(of: Declared) -> str:
-    """What isn't known to be proved of such a type, if anything."""
-    is_long = of.shape and len(of.shape.fields) > PROVED_FIELDS
-    return f"it leads back to itself, and has more than {PROVED_FIELDS} fields: `rt check` may break off at its read" if is_long else ""
+def refusal_of_field(of: Declared, shape: Shape, field: Field) -> Optional[str]:
+    """Why a type with this field, or with this value of a variant, isn't derived."""
+    what, name = ("struct", field.name) if of.shape else ("variant", f"{field.name} of {shape.name}")
+    if field.default:
+        return f"{name} has a default: a field of such a {what} has none"
+    held = [*LEAVES, *(it.kind.replace("{name}", of.name) for it in AGAIN if it is not BOX or of.variants)]
+    if shape.kind == "named":
+        return None if field.kind in held else f"{name} is a {field.kind}: a field of such a {what} is {', '.join(held[:-1])} or {held[-1]}"
+    if field.kind in [*held, *(it.kind.replace("{name}", of.name) for it in MAPS)]:
+        return None
+    keys = f"{', '.join([*ORDERS][:-1])} or {[*ORDERS][-1]}"
+    return f"{shape.name} holds a {field.kind}: a variant of such a type holds {', '.join(held)} or BTreeMap<K, {of.name}>, where K is {keys}"
 
 
 def is_taken(of: Declared) -> bool:
@@ -119,7 +121,7 @@ def with_words(table: dict[str, str], module: Module, wanted: list[Own]) -> dict
     more = WORDS | {f"{module.name}.specs.Recursion": "Row Boxed"} if levels else {}
     for level in levels:
         name, low = level.name, level.low
-        rows = " ".join(f"{name}Row{shape.name}" for shape, _ in level.rows())
+        rows = " ".join([*(f"{name}Row{shape.name}" for shape, _ in level.rows()), *(f"{of.name}Read" for of in level.contents())])
         more[f"{module.name}.specs.{name}Levels"] = f"Is{name} {low}_data {low}_fits {rows}"
         more[f"{module.name}.specs.{name}Rounds"] = f"Same{name} {low}_some {low}_round {low}_only {low}_other"
     for of, words in more.items():
@@ -137,8 +139,11 @@ def with_code(table: dict[str, str], wanted: list[Own]) -> dict[str, str]:
 def shared_files(module: Module, levels: list[Level]) -> Iterator[tuple[str, str, str]]:
     """What the recursive types of a crate share, and the structs among them."""
     texts = [(SPECS, "specs", "Recursion"), (PROOFS, "proofs", "Recursion"), *[(ROUNDS, "specs", "RecursionRounds")] * bool(module.rounds())]
-    if any(level.fields for level in levels):
+    if any(level.fields or level.contents_again() for level in levels):
         texts += [(struct_shared.SPECS, "specs", "RecursionFields"), (struct_shared.PROOFS, "proofs", "RecursionFields")]
+    if any(is_map(part) for level in levels for part in level.holders()):
+        texts += [(map_shared.SPECS, "specs", "RecursionMaps"), (map_shared.PROOFS, "proofs", "RecursionMaps")]
+        texts += [(map_shared.ROUNDS, "specs", "RecursionMapRounds")] * bool(module.rounds())
     for text, folder, name in texts:
         about, rest = text.split("\n", 1)
         text = f"{about} Written by tools/derive.py.\n{rest}".replace("Rattle.CRATE.", f"Rattle.{module.name}.")
@@ -155,8 +160,12 @@ def files(module: Module, wanted: list[Own]) -> Iterator[tuple[str, ...]]:
     levels = levels_of(module, wanted)
     if levels:
         yield from shared_files(module, levels)
+    below = ("proofs", f"{module.at}derived")
+    for part in lent(levels):
+        if part.named:
+            path = ("SlicesReadLeaves", part.call())
+            yield struct_answers.leaf_answers(part.named, module.below("derived", *path)), *below, *path, "Answers.antt"
     for level in levels:
-        below = ("proofs", f"{module.at}derived")
         of = struct_answers if level.fields else recursive_answers
         yield (struct_levels_file if level.fields else levels_file)(level), "specs", f"{level.name}Levels.antt"
         yield (struct_proofs_file if level.fields else recursive_answers.proofs_file)(level), "proofs", f"{level.name}Levels.antt"

@@ -5,15 +5,19 @@ import dataclasses
 from typing import Optional
 
 from declarations import Shape
-from recursive_holder_answers import answer, answers_file, held_answers, measures_file
+from recursive_holder_answers import answer, answers_file, held_answers, left_under, measures_file
 from recursive_holders import values_in
-from recursive_levels import Again, Level, Part, after_held, brought_in, called, has_option, held_in, inside, named_in, put_in, tables
+from recursive_levels import Again, Level, Part, after_held, brought_in, called, has_map, held_in, inside, is_apart, named_in, put_in
+from recursive_struct_answers import fields_measures, struct_answers
+from recursive_struct_proofs import fields_proofs, proof_tables
 from shared import numbered
 
 
 def no_byte(part: Optional[Part]) -> str:
     """That a variant isn't written as a byte."""
-    return "refl" if part is None else f"{'tuple_variant' if part.held else 'newtype'}_no_byte _ _"
+    if part is None:
+        return "refl"
+    return f"{'struct_variant' if part.named else 'tuple_variant' if part.held else 'newtype'}_no_byte _ _"
 
 
 def proofs_file(level: Level) -> str:
@@ -26,8 +30,16 @@ level_no_byte : (x : {name}-F (Option Data)) → byte_of ({low}_level x) ≡ Non
 pub {low}_no_byte : (v : {name}) → byte_of ({low}_data v) ≡ None
 {low}_no_byte v = ap byte_of ({low}_is v) ∙ level_no_byte _
 """
-    table = tables(level) | {"rmp_encode.specs.Trees": "byte_of", "rmp_encode.proofs.Variants": "newtype_no_byte tuple_variant_no_byte"}
-    return f"-- No {name} is written as a byte. Written by tools/derive.py.\n{brought_in(text, table)}{text}"
+    about = f"No {name} is written as a byte"
+    for of in level.contents_again():
+        about = f"No {name} is written as a byte, and what is read of the fields of its variants"
+        text += f"\n-- ---- what was read so far of the fields of {of.shape.name}\n{fields_proofs(of)}"
+    table = proof_tables(level) | {"rmp_encode.proofs.Variants": "newtype_no_byte tuple_variant_no_byte struct_variant_no_byte"}
+    return f"-- {about}. Written by tools/derive.py.\n{brought_in(text, table)}{text}"
+
+
+# The calls that write a variant of several values, without names and with them: what opens it, what writes each, and what the open one is called.
+ROW_CALLS = [("serialize_tuple_variant", "serialize_element", "parts"), ("serialize_struct_variant", "serialize_field", "fields")]
 
 
 def writing_answers(level: Level, place: str) -> str:
@@ -35,8 +47,9 @@ def writing_answers(level: Level, place: str) -> str:
     text, calls = "", {}
     for shape, part in level.variants:
         if part and part.held:
-            text += row_writing(level, shape, part, "row" in calls)
-            calls["row"] = True
+            call = "serialize_struct_variant" if part.named else "serialize_tuple_variant"
+            text += row_writing(level, shape, part, call in calls, "end" in calls)
+            calls |= {call: True, "end": True}
             continue
         word = "serialize_newtype_variant" if part else "serialize_unit_variant"
         text += value_answer(level, shape, part, f"c.{word}" if word not in calls else f"c.{word}-in-{shape.name}")
@@ -55,28 +68,41 @@ def value_answer(level: Level, shape: Shape, part: Optional[Part], call: str) ->
         fits = part.known if isinstance(part, Again) else "h"
         term = (f"let a = c.in-{shape.name}.value in\n    let is = ap out-{name} (c.in-{shape.name}.is ∙ sym (rolls-{shape.name} a)) ∙ out-roll-{name} ({made}) in\n"
                 f"    on_ok {call}.result _ _ (λ h. {low}_fits_in c.args.self.now ({made}) is ({fits})) {call}.ensures.value")
-    return f"\npub {goal} : goal.{goal}\n{goal} g t c =\n    {term}\n"
+    return f"\npub {goal} : goal.{goal}\n{goal} g t c =\n    {term}\n" + (map_writing(level, shape, made, call) if has_map(part) else "")
 
 
-def row_writing(level: Level, shape: Shape, part: Part, is_later: bool) -> str:
+def map_writing(level: Level, shape: Shape, made: str, call: str) -> str:
+    """That a variant that holds a map is written as one level of it."""
+    name, low, goal = level.name, level.low, f"returns-in-{shape.name}-clause-writes"
+    return f"""
+pub {goal} : goal.{goal}
+{goal} g t c =
+    let a = c.in-{shape.name}.value in
+    let is = ap out-{name} (c.in-{shape.name}.is ∙ sym (rolls-{shape.name} a)) ∙ out-roll-{name} ({made}) in
+    rw ({low}_is_at c.args.self.now ({made}) is ∙ {low}_at_{shape.name} a) {call}.ensures.writes
+"""
+
+
+def row_writing(level: Level, shape: Shape, part: Part, opened_before: bool, ended_before: bool) -> str:
     """That several values are written one after another, and are known to be values. The calls of a later variant have its name in goals."""
     name, low, count = level.name, level.low, len(part.held)
     values = [f"c.in-{shape.name}.{value}" for value in values_in(part)]
-    calls = [numbered(f"serialize_element-in-{shape.name}", at) for at in range(count)]
-    start = f"in_err-parts-in-{shape.name}"
+    opening, one, parts = ROW_CALLS[bool(part.named)]
+    calls = [numbered(f"{one}-in-{shape.name}", at) for at in range(count)]
+    start = f"in_err-{parts}-in-{shape.name}"
 
-    later = f"-in-{shape.name}" * is_later
+    opening, later = opening + f"-in-{shape.name}" * opened_before, f"-in-{shape.name}" * ended_before
     made = level.made(shape, values)
     is_ = f"(ap out-{name} (c.in-{shape.name}.is ∙ sym (rolls-{shape.name} {' '.join(values)})) ∙ out-roll-{name} {made})"
-    data = f"{low}_is_at c.args.self.now {made} {is_}" + f" ∙ {low}_at_{shape.name} {' '.join(values)}" * has_option(part)
+    data = f"{low}_is_at c.args.self.now {made} {is_}" + f" ∙ {low}_at_{shape.name} {' '.join(values)}" * is_apart(part)
 
     def refused(fact: str) -> str:
         error = f"c.from_residual{fact}"
         return f"let p = err_from_is_err_and {error}.result {error}.ensures.1 in\n    rw (p.1, p.2, {data}) "
 
-    written = f"(c.in_ok-parts-in-{shape.name}.ensures.opened _ refl)"
-    unopened = f"unopened g.W.Sink _ _ _ _ c.args.se.now _ _ _ _ c.{start}.was c.serialize_tuple_variant{later}.follows.holds-at-none refl"
-    terms = {f"returns-{start}-clause-writes": refused(f"-{start}" * is_later) + f"(part_memory g.W.Sink ({unopened}))"}
+    written = f"(c.in_ok-{parts}-in-{shape.name}.ensures.opened _ refl)"
+    unopened = f"unopened g.W.Sink _ _ _ _ c.args.se.now _ _ _ _ c.{start}.was c.{opening}.follows.holds-at-none refl"
+    terms = {f"returns-{start}-clause-writes": refused(f"-{start}" * ended_before) + f"(part_memory g.W.Sink ({unopened}))"}
     for call in calls:
         rests = f"rests_at g.W.Sink (search rules)\n    (c.in_err-{call}.ensures.writes c.args.se.now _ _ {written})"
         terms[f"returns-in_err-{call}-clause-writes"] = refused(f"-in_err-{call}") + f"(part_memory g.W.Sink ({rests}))"
@@ -87,7 +113,8 @@ def row_writing(level: Level, shape: Shape, part: Part, is_later: bool) -> str:
         called(put_in(held.known, {"h": f"c.in_ok-{call}.ensures.value"}), value) if isinstance(held, Again) else f"c.in_ok-{call}.ensures.value"
         for held, call, value in zip(part.held, calls, values)
     ]
-    terms[f"{last}-value"] = f"ok_holds {end}.result _ ({low}_fits_in c.args.self.now {made} {is_}\n    ({', '.join(fits)}))"
+    fits = fits[0] if count == 1 else f"({', '.join(fits)})"
+    terms[f"{last}-value"] = f"ok_holds {end}.result _ ({low}_fits_in c.args.self.now {made} {is_}\n    {fits})"
     return "".join(f"\npub {goal} : goal.{goal}\n{goal} g t c =\n    {term}\n" for goal, term in terms.items())
 
 
@@ -119,6 +146,10 @@ class Arm:
     def opened(self) -> str:
         return "(rw at at k.ensures.opened)" if self.is_last() else "(rw k.field-0-0-test at k.ensures.opened)"
 
+    def left(self) -> str:
+        """That the deserializer is left as the content's reader has it."""
+        return left_under(["k.ensures.same_reference"]) if self.level.contents_again() else "(search rules)"
+
     def rolls(self) -> str:
         """That the value made of it is that level."""
         rolls = f"(rolls-{self.shape.name}{' _' * len(held_in(self.part))})" if self.part else f"rolls-{self.shape.name}"
@@ -127,7 +158,10 @@ class Arm:
 
 def room_answer(arm: Arm) -> str:
     """The content has less room than the whole."""
-    goal = f"read_{arm.level.low}-newtype_variant_with-requires-in-Ok" + f"-eq{arm.at}-default" * (not arm.is_last())
+    goal = f"read_{arm.level.low}-newtype_variant_with-requires"
+    # the first call's goal doesn't name its arm
+    if arm.call != "newtype_variant_with":
+        goal += "-in-Ok" + f"-eq{arm.at}-default" * (not arm.is_last())
     return answer(goal, f""" λ b p q.
     let h = content_room_falls g.R.Source _ _ c.args.de.now _ {arm.fact()}.ensures.opened b in
     let e = ap (λ (z : _). max 1 z.room) q in
@@ -161,7 +195,7 @@ def variant_answers(arm: Arm) -> str:
     held = "".join(after_held(of, f"c.in-Ok-{arm.call}.{value}") for value, of in parts)
     ok = f"""variant_done g.R.Source {low}_names ({name}Case Is{name}) Is{name} _ _ _ {content} {arm.at} _ _ ({low}_made _)
           {done}
-          {given} (search rules)"""
+          {given} {arm.left()}"""
     err = f"""lawful_err _ (λ m v. OfVariant {low}_names ({name}Case Is{name} v) m) _ _ _ _ {low}_variant
           (variant_err _ _ ({name}Case Is{name}) _ _ _ (search rules) _ {arm.at} _ {back}
           {refused})"""
@@ -187,11 +221,12 @@ def enum_answers(level: Level) -> str:
 
 
 def reading_answers(level: Level, place: str) -> str:
-    return answers_file(level, place, enum_answers(level) + held_answers(level))
+    fields = "".join(struct_answers(of) for of in level.contents_again())
+    return answers_file(level, place, enum_answers(level) + held_answers(level) + fields)
 
 
 def reading_measures(level: Level, place: str) -> str:
     """The content of a variant nests below it, and an element no deeper than its list."""
     about = "The content of a variant nests below it, and an element no deeper than its list."
     calls = [part for _, part in level.variants if part and (part.is_lent or not part.is_leaf)]
-    return measures_file(level, place, about, "newtype_variant_with", calls)
+    return measures_file(level, place, about, "newtype_variant_with", calls, "".join(fields_measures(of) for of in level.contents_again()))

@@ -1,13 +1,23 @@
 """The proofs of the code that derive.py writes for recursive enums and structs alike: recursive_holders.py has that code."""
 from __future__ import annotations
 
+from collections.abc import Callable
+
 from recursive_holders import holder
-from recursive_levels import Again, Level, Part, brought_in, tables
+from recursive_levels import Again, Level, Part, brought_in, is_map, tables
+from recursive_map_answers import map_answers, map_measures
 from recursive_row_answers import row_answers
 
 
 def goals_of(level: Level, place: str) -> str:
     return f"use Rattle.{level.crate}.proofs.{place}.Goals as goal\n"
+
+
+def fields_words(level: Level) -> list[str]:
+    """The words of what is known of fields."""
+    name, low = level.name, level.low
+    words = [word for at in range(len(level.fields)) for word in (f"{name}Slot{at}", f"{low}_tree{at}", f"{low}_step{at}", f"{low}_gap{at}", f"{low}_lacks{at}")]
+    return [f"{name}Held0", f"{low}_whole", *words]
 
 
 def answers_file(level: Level, place: str, text: str) -> str:
@@ -20,8 +30,11 @@ def answers_file(level: Level, place: str, text: str) -> str:
         "std.proofs.lemmas.Int": "to_z-of_z",
         "rmp_encode.proofs.Going": "unopened",
         "rmp_encode.proofs.Parts": "rests_at part_memory",
+        "rmp_decode.specs.Maps": f"{table['rmp_decode.specs.Maps']} ReadsPairs Collects IsMapOpen",
         "rmp_decode.specs.Seq": "IsOpen",
         "rmp_decode.proofs.Laws": "lawful_ok lawful_err",
+        "rmp_decode.proofs.Maps": "flat map_unopened map_done map_unkept map_take map_key key_next value_next entries_step gathers_start gathers_step",
+        "rmp_decode.proofs.Rows": "push",
         "rmp_decode.proofs.Seqs": "values_start values_step via Values run_start run_step seq_unopened seq_take seq_over seq_done and_then_count no_more_count",
         "rmp_decode.proofs.Variants": "variant_ok variant_err variant_unopened readable given_read given_refused",
         f"{declared}.TheVariants": " ".join(f"rolls-{shape.name}" for shape, _ in level.variants),
@@ -31,10 +44,10 @@ def answers_file(level: Level, place: str, text: str) -> str:
         "rmp_decode.proofs.FieldWiths": "field_taken field_refused",
         "rmp_decode.proofs.StructRuns": "struct_start struct_step struct_place struct_value struct_met struct_missing struct_over struct_done",
         "rmp_decode.proofs.Structs": "fields_unopened",
-        f"{level.crate}.proofs.RecursionFields": "same_then field_steps",
-        f"{level.crate}.proofs.{name}Levels": " ".join([f"{name}Held0", f"{low}_whole", *(
-            word for at in range(len(level.fields)) for word in (f"{name}Slot{at}", f"{low}_tree{at}", f"{low}_step{at}", f"{low}_gap{at}", f"{low}_lacks{at}"))]),
-        f"{level.crate}.proofs.Recursion": "on_ok ok_holds variant_done vec_row vec_done row_unopened row_refused row_unkept part_room part_steps steps_at other_steps"
+        f"{level.crate}.proofs.RecursionFields": "same_then field_steps run_reference not_missing",
+        f"{level.crate}.proofs.{name}Levels": " ".join(word for of in (level, *level.contents_again()) for word in fields_words(of)),
+        f"{level.crate}.proofs.RecursionMaps": "no_key key_got key_refused value_got value_refused owing to_come_some value_room",
+        f"{level.crate}.proofs.Recursion": "on_ok ok_holds at_most variant_done vec_row vec_done row_unopened row_refused row_unkept part_room part_steps steps_at other_steps"
         " content_room_falls row_short lawful_at lent_law item_taken item_refused option_law some_if some_if_err none_left never_none",
     }
     return brought_in(text, table) + goals_of(level, place) + text
@@ -44,6 +57,15 @@ def answer(goal: str, term: str) -> str:
     return f"\npub {goal} : goal.{goal}\n{goal} g t c ={term}\n"
 
 
+def left_under(names: list[str]) -> str:
+    """That a value is left as the last access to it has it, whose reference is by these steps the one that was borrowed.
+
+    What is left under that reference is found. Without these steps all that is known of each field and of each function of the cycle would be
+    gone through, and a search breaks off."""
+    steps = " ∙ ".join(names)
+    return f"(grind (arith, sym {steps if len(names) == 1 else f'({steps})'}))"
+
+
 def room_of(level: Level, run: str) -> str:
     """That an element has no more room than its list, and, of a struct, fewer steps."""
     if level.fields:
@@ -51,6 +73,21 @@ def room_of(level: Level, run: str) -> str:
     else:
         rest = f"part_room {run} in\n    let e = ap (λ (z : _). max 1 z.room) q in\n"
     return f"    let h = {rest}    (omega (arith, h, e, c.decreases), ((λ a m. m), ((λ a m. m), (λ a m. m))))"
+
+
+def unkept(level: Level, lets: str, refused: Callable[[str], str], opened: str) -> str:
+    """That there was no memory for an element. Beside maps much is known, so what the call left is found before anything else is."""
+    name, now, left = f"Is{level.name}", "c.next_element_with.new.self", "(search rules)"
+    kept = f"row_unkept g.R.Source {name} _ c.in_ok-seq.seq {now} _ {opened} v _"
+    if level.contents_again():
+        left = left_under(["e.same_reference", "r.run.same_reference", "c.in_ok-seq.ensures.same_reference"])
+    if not any(is_map(held) for held in level.holders()):
+        return f"    {lets}    rw (p.1, p.2) ({refused(f'{kept} {left}')})"
+    facts = " ∙ ".join(f"sym {it}.same_reference" for it in ["c.in_ok-seq.ensures", "c.loop-items.invariant.run", "c.in_ok-item.ensures"])
+    return f"""    rw (p.1, p.2) (record {{
+      law = lawful_at g.R.Source _ _ _ {now}.de.now _ (let same = {facts} in search rules) (
+    {lets}    lawful_err _ (Row {name}) _ _ _ _ (vec_row {name}) ({kept} refl));
+    }})"""
 
 
 def list_answers(level: Level, part: Again) -> str:
@@ -89,8 +126,7 @@ def list_answers(level: Level, part: Again) -> str:
       law = vec_done g.R.Source {name} _ c.in_ok-seq.seq c.loop-items.seq c.loop-items.items {opened} r _ z
           (via c.end.new.self.0 (search rules) (d ∙ ap (λ s. record s.de.now {{ failed = false }}) n));
     }}""",
-        "returns-in_err-push": start.format(at="-in_err-push") + "    " + run.format("ok") + "    " + taken + f"    let v = {step} in\n    rw (p.1, p.2) ("
-        + refused(f"row_unkept g.R.Source {name} _ c.in_ok-seq.seq c.next_element_with.new.self _ {opened} v _ (search rules)") + ")",
+        "returns-in_err-push": start.format(at="-in_err-push") + unkept(level, f"{run.format('ok')}    {taken}    let v = {step} in\n", refused, opened),
         "returns-in_err-end": run.format("ok") + "    " + over + "    let d = (c.in_err-end.ensures.err (subst IsOpen (sym n) r.run.still)).0 in\n"
         "    absurd (omega (arith, z, d, ap (λ s. s.left) n))",
     }
@@ -120,7 +156,8 @@ def option_answers(level: Level, part: Again) -> str:
 def held_answers(level: Level) -> str:
     """How the type again is read, in all that it is in."""
     answers = {"list": list_answers, "box": box_answers, "option": option_answers}
-    return "".join(row_answers(level, part) if part.held else answers[part.word](level, part) for part in level.holders())
+    how = [(part, row_answers if part.held else map_answers if is_map(part) else answers[part.word]) for part in level.holders() if not part.named]
+    return "".join(of(level, part) for part, of in how)
 
 
 # ---- that the reads end
@@ -153,9 +190,13 @@ def measures_file(level: Level, place: str, about: str, call: str, parts: list[P
     for part in level.holders():
         read = holder(level, part)
         if part.held:
-            more |= {read: 6} | closures(f"{read}-next_element_with", [held for held in part.held if held.is_lent or not held.is_leaf], 5)
+            call_in = "next_value_with" if part.named else "next_element_with"
+            more |= {read: 6} | closures(f"{read}-{call_in}", [held for held in part.held if held.is_lent or not held.is_leaf], 5)
             continue
         more |= {read: 4, f"{read}-deserialize_option_with": 3} if part.word == "option" else {read: 2}
+        if is_map(part):
+            more[f"{read}-next_value_with"] = 1
+            text += loop_measures(f"{read}-loop-entries", *map_measures(level, part))
         if part.word == "list":
             more[f"{read}-next_element_with"] = 1
             text += loop_measures(f"{read}-loop-items", f"Values g.R.Source Is{name} l.initial.seq l.seq l.items.items", "l.seq.left")
@@ -163,11 +204,13 @@ def measures_file(level: Level, place: str, about: str, call: str, parts: list[P
     lines = "".join(f"\nabbrev pub decreases-{of} : goal.decreases-{of}\ndecreases-{of} g l = {each} * {whole}{f' + {n}' * (n > 0)}\n" for of, n in more.items())
     text = f"\n-- {about}{lines}{text}"
     table = {
-        "std.proofs.Common": "◌+◌ ◌*◌ max",
+        **{home: words for home, words in tables(level).items() if home.startswith(("std", "rmp_decode", "rmp_wire"))},
+        "std.proofs.Common": "◌+◌ ◌*◌ max ◌≡◌ ℕ String",
+        "rmp_decode.proofs.Maps": "Gathers",
         "rmp_decode.proofs.Seqs": "Values",
         "rmp_decode.proofs.StructRuns": "StructRun",
-        f"{level.crate}.specs.{name}Levels": f"Is{name} {level.low}_names",
-        f"{level.crate}.proofs.{name}Levels": f"{name}Held0",
+        f"{level.crate}.specs.{name}Levels": " ".join([f"Is{name}", *(f"{of.low}_names" for of in (level, *level.contents_again()))]),
+        f"{level.crate}.proofs.{name}Levels": " ".join(f"{of.name}Held0" for of in (level, *level.contents_again())),
         f"{level.crate}.proofs.Recursion": "steps_at",
     }
     return brought_in(text, table) + f"use Rattle.{level.crate}.proofs.{place}.Given as goal\n" + text

@@ -2,20 +2,38 @@
 leaves are read, and its implementations."""
 from __future__ import annotations
 
+from collections.abc import Callable
+
+from declarations import Shape
+from derived_terms import nested
 from halves import FIELDS
-from recursive_levels import BOX, Again, Level, Part
-from shared import tuple_of
+from recursive_levels import BOX, Again, Content, Level, Part, is_map
+from shared import texts, tuple_of
 
 LAW = "ensures law {{ Lawful R.Source {reads} de.old de.new result }}"
 READER = "<R: Source, C: SerializerConfig{more}>"
 TAKES = "(de: &mut Deserializer<R, C>) -> Result<{kind}, rmp_decode::Error>"
 READ = {"list": "a list of them", "box": "a boxed one", "option": "nil as none, or else a boxed one"}
-IN_TURN = "the values of a variant, one after another"
+IN_TURN, MAPPED = "the values of a variant, one after another", "them by their keys"
+
+
+# Names of values of the code's own, and of facts beside those of a variant's values in goals.
+TAKEN = "se fields is ensures follows result lifetimes type_inv auto old new".split()
 
 
 def values_in(part: Part) -> list[str]:
     """What the values of a variant are called."""
+    if part.named:
+        return [f"{field.name}_" if field.name in TAKEN else field.name for field, _ in part.named.fields]
     return FIELDS[: len(part.held)] if part.held else ["value"]
+
+
+def made_of(level: Level, shape: Shape, values: list[str]) -> str:
+    """A variant of these values, or its pattern."""
+    if shape.kind == "named":
+        fields = [value if value == field.name else f"{field.name}: {value}" for field, value in zip(shape.fields, values)]
+        return f"{level.name}::{shape.name} {{ {', '.join(fields)} }}"
+    return f"{level.name}::{shape.name}({', '.join(values)})" if values else f"{level.name}::{shape.name}"
 
 
 def in_code(part: Part, name: str = "") -> str:
@@ -70,13 +88,24 @@ def in_turn(level: Level, part: Again) -> list[str]:
     return [*lines, "match seq.end() {", f"Ok(()) => Ok({tuple_of(names)}),", "Err(e) => Err(e),", "}"]
 
 
+def in_map(level: Level, part: Again, value: list[str]) -> list[str]:
+    """How a map is read, whose values this closure reads."""
+    key, *rest = read_by(level, part.keys)
+    return [
+        "let mut entries = BTreeMap::new(de.alloc());", "let mut pairs = de.deserialize_map()?;", f"while let Some(key) = pairs.next_key_with({key}", *rest, ")? {",
+        f"let value = pairs.next_value_with({value[0]}", *value[1:], ")?;", "drop(entries.insert(key, value)?);", "}", "pairs.end()?;", "Ok(entries)",
+    ]
+
+
 def held(level: Level, part: Again) -> list[str]:
     """How the type again is read."""
     if part.held:
         return in_turn(level, part)
     again = f"read_{level.low}::<R, C, P>(de)"
+    item = closure(level, Part(level.name, level.name, "{reads} {k} {a}", "", ""), again)
+    if is_map(part):
+        return in_map(level, part, item)
     if part.word == "list":
-        item = closure(level, Part(level.name, level.name, "{reads} {k} {a}", "", ""), again)
         return [
             "let mut items = Vec::new(de.alloc());", "let mut seq = de.deserialize_seq()?;", f"while let Some(item) = seq.next_element_with({item[0]}", *item[1:],
             ")? {", "items.push(item)?;", "}", "seq.end()?;", "Ok(items)",
@@ -106,7 +135,20 @@ def leaves_trait(parts: list[Part]) -> list[str]:
     for part, head in zip(parts, heads):
         lines += [head, f"    {LAW.format(reads=f'(λ m v. {in_code(part)})')};\n"]
     lines += ["}\n", "impl<'de, R: ReadSlice<'de>> ReadLeaves<R> for Slices<'de> {"]
-    return lines + [f"{head} {{ Deserialize::deserialize(de) }}\n" for head in heads] + ["}\n"]
+    for part, head in zip(parts, heads):
+        lines += [f"{head} {{", *(leaves_by_name(part.named) if part.named else ["Deserialize::deserialize(de)"]), "}\n"]
+    return [*lines, "}\n"]
+
+
+def leaves_by_name(of: Content) -> list[str]:
+    """How the fields of a variant are read of which each is a leaf."""
+    values = [f"value{at}" for at in range(len(of.fields))]
+    kind, pattern = nested([part.kind for _, part in of.fields]), nested(values)
+    made = tuple_of(values) if len(values) > 1 else values[0]
+    return [
+        f"let read: Result<{kind}, rmp_decode::Error> = de.deserialize_fields({texts(field.key for field, _ in of.fields)});",
+        "match read {", "Ok(parts) => {", f"let {pattern} = parts;", f"Ok({made})", "}", "Err(e) => Err(e),", "}",
+    ]
 
 
 def leaf_readers(levels: list[Level]) -> list[str]:
@@ -143,13 +185,18 @@ def rounds(level: Level) -> list[str]:
     ]
 
 
-def readers(level: Level, bound: str, body: list[str]) -> list[str]:
-    """The functions that read the type, by this body, and what it is again in. The way in which names are read has this bound."""
+def readers(level: Level, bound: str, body: list[str], fields: Callable[[Level], list[str]]) -> list[str]:
+    """The functions that read the type, by this body, and what it is again in, of which `fields` reads the named fields of a variant. The way in
+    which names are read has this bound."""
     name, low = level.name, level.low
-    cycle, more = f"{low}_reading", f", P: {bound}<R>{bounds(level)}"
-    lines = [f"// Reads a `{name}`.", *function(f"read_{low}", name, f"Is{name}", body, more, cycle)]
+    cycle, more = f"{low}_reading", f", P: {bound}{bounds(level)}"
+    lines = [f"// Reads a `{name}`.", *function(level.reader, name, level.reads, body, more, cycle)]
     for part in level.holders():
-        lines += [f"// Reads {READ.get(part.word, IN_TURN)}.", *function(holder(level, part), part.kind, read_as(level, part), held(level, part), more, cycle)]
+        what = READ.get(part.word, MAPPED if is_map(part) else IN_TURN)
+        if part.named:
+            what = f"the fields of `{part.named.shape.name}`"
+        how = fields(part.named) if part.named else held(level, part)
+        lines += [f"// Reads {what}.", *function(holder(level, part), part.kind, read_as(level, part), how, more, cycle)]
     return lines
 
 

@@ -1,16 +1,16 @@
-"""The definitions that derive.py writes for a recursive enum: what its values are read from and written as, level by level."""
+"""What derive.py knows of recursive types: what they hold, how that is called in terms, and what their definitions and laws share."""
 from __future__ import annotations
 
 import dataclasses
 import itertools
 import re
-from collections.abc import Iterable, Iterator
+from collections.abc import Iterator
 from typing import Optional
 
-from declarations import Declared, Shape
+from declarations import Declared, Field, Shape
 from derived_proofs import SIGNED
-from derived_terms import chained, codes, underscored
-from shared import bracketed, tuple_of
+from derived_terms import codes, underscored
+from shared import tuple_of
 
 
 @dataclasses.dataclass(frozen=True)
@@ -36,8 +36,9 @@ class Part:
     is_lent: bool = False
     # what it is called in the name of the function that reads it
     word: str = ""
-    # the values of a variant that holds several, of which this is the tuple
+    # the values of a variant that holds several, or fields with names, of which this is the tuple, and those fields
     held: tuple[Part, ...] = ()
+    named: Optional[Content] = dataclasses.field(default=None, compare=False)
 
     @property
     def is_leaf(self) -> bool:
@@ -67,6 +68,11 @@ class Again(Part):
     is_some: str = "h"
     # by what the values x and y have the same content
     same: str = ""
+    # that what holds {v} and {w} is written alike, where they have the same content, by {e}
+    alike: str = ""
+    # the keys of a map of it, and what it is written as, at i between what its mapped values are written as and what its values are
+    keys: Optional[Part] = None
+    mapped: str = ""
 
     @property
     def is_leaf(self) -> bool:
@@ -147,6 +153,7 @@ LIST = Again(
     own="slice_of (map {low}_data {a}.items)",
     is_some="(slice_some (map {low}_data {a}.items) (each_data {low}_data {a}.items h))",
     same="Alike Same{name} x.items y.items",
+    alike="ap slice_of (map_alike {low}_data {v}.items {w}.items {e})",
 )
 
 BOX = Again(
@@ -160,6 +167,7 @@ BOX = Again(
     parts="P {a}.value",
     own="{low}_data {a}.value",
     same="Same{name} x.value y.value",
+    alike="{e}",
 )
 
 BOXED = "(b : Box {name} Global)"
@@ -180,34 +188,104 @@ OPTION = Again(
     own=f"option_of (λ {BOXED}. {{low}}_data b.value) {{a}}",
     is_some=f"(option_data (λ {BOXED}. {{low}}_data b.value) {{a}} h)",
     same=f"AlikeOption (λ {BOXED} c. Same{{name}} b.value c.value) x y",
+    alike=f"option_alike (λ {BOXED}. {{low}}_data b.value) {{v}} {{w}} {{e}}",
 )
+
+
+@dataclasses.dataclass(frozen=True)
+class Keys:
+    """The order of a map's keys: by the content of two keys, by the keys, that it is total, and that keys are equal that it doesn't tell apart."""
+
+    contents: str
+    order: str
+    total: str
+    exact: str
+
+    def map_of(self, key: Part) -> Again:
+        """The type in a map with keys of this order."""
+        data, reads, fits = (f"(λ ({names}). {term})" for names, term in (
+            (f"q : {key.term}", key.data.format(a="q")), (f"j : Msg) (q : {key.term}", key.reads.format(k="j", a="q")), (f"q : {key.term}", key.fits.format(a="q"))))
+        same = f"(λ (q r : {key.term}). {key.key.format(a='q')} ≡ {key.key.format(a='r')})"
+        content, entry = f"(λ (q : {key.term}). {key.key.format(a='q')})", f"(e : {key.term} × {{name}})"
+        own = f"mapping_of (in_turn {data} {{low}}_data {{a}}.entries)"
+        rows = f"""pairs_row s {data} {{low}}_data {fits} {{name}}Only (Only {reads} {same}) (Only Is{{name}} Same{{name}})
+      (λ q u. {key.only.format(a='q', fit='u')}) (λ w p. p) {{a}}.entries (entries_from {fits} {{low}}_fits {{name}}Only {{a}}.entries h {{fit}}.0)"""
+        return Again(
+            f"BTreeMap<{key.kind}, {{name}}>", f"BTreeMap ({key.term}) {{name}} Global",
+            f"ReadsEntries {self.order} (λ j q. {key.reads.format(k='j', a='q')}) {{reads}} {{a}}.entries {{k}}",
+            f"mapping_of (in_turn {data} (λ x. x) {{a}}.entries)", f"EntriesFit {self.order} {fits} {{fits}} {{a}}.entries",
+            row=f"""map_row s {data} {{low}}_data {fits} {{name}}Back {reads} Is{{name}} (λ q u. {key.row.format(a='q', fit='u')}) (λ w p. p)
+      {self.total} {{a}}.entries {{fit}}.1 (entries_from {fits} {{low}}_fits {{name}}Back {{a}}.entries h {{fit}}.0)""",
+            only=f"map_only {reads} Is{{name}} {same} Same{{name}} s ({own}) (λ us. us.entries) {self.order} {{a}}.entries\n      ({rows})",
+            word=f"{key.kind.lower()}_map",
+            patterns=(("a", "entries_hold first P h a.entries", f"entries_through at {self.order} {fits} k a.entries i"),),
+            wider=f"map_as {self.order} {reads} P Q f m a.entries h",
+            counted=f"map_in {self.order} {reads} {{name}}In {{low}}_up m a.entries h",
+            parts=f"All (λ {entry}. P e.1) {{a}}.entries",
+            known="(all_by _ a.entries h.0, h.1)",
+            own=own,
+            is_some=f"(mapping_data {data} {{low}}_data (λ q. refl) {{a}}.entries h)",
+            same=f"AlikeEntries {self.order} {same} Same{{name}} x.entries y.entries",
+            alike=f"""ap mapping_of (maps_alike {content} ({self.contents}) {self.total} ({self.exact}) (λ q. {key.of_key.format(a='q')})
+      {{low}}_data {{v}}.entries {{w}}.entries {{fit}}.1 {{e}})""",
+            keys=key,
+            mapped=f"mapping_of (turns_mapped {data} {{low}}_data {{a}}.entries i)",
+        )
+
+
+UNSIGNED = Keys("nat_cmp", "nat_cmp", "nat_cmp_total", "exact_unsigned")
+ORDERS = {
+    "String": Keys("slice_cmp nat_cmp", "string_cmp", "string_cmp_total", "exact_bytes"),
+    **dict.fromkeys(("u8", "u16", "u32", "u64", "usize", "u128", "char"), UNSIGNED),
+    "bool": Keys("bool_cmp", "bool_cmp", "bool_cmp_total", "exact_truth"),
+}
+MAPS = tuple(order.map_of(LEAVES[kind]) for kind, order in ORDERS.items())
 
 AGAIN = (LIST, BOX, OPTION)
 
-# That what holds {v} and {w} is written alike, where they have the same content, by {e}.
-ALIKE = {
-    "list": "ap slice_of (map_alike {low}_data {v}.items {w}.items {e})",
-    "box": "{e}",
-    "option": "option_alike (λ (b : Box {name} Global). {low}_data b.value) {v} {w} {e}",
-}
-
 
 class Level:
-    """A type that leads back to itself: its variants with what they hold, and the names of what is written for it."""
+    """A type that leads back to itself: its variants with what they hold, or its fields, and the names of what is written for it."""
 
     def __init__(self, of: Declared, crate: str, declared: str) -> None:
         self.of, self.crate, self.declared = of, crate, declared
         self.name, self.low = of.name, underscored(of.name)
+        # the type that is read, in which function; and in terms the type of its values, and of what has their fields
+        self.whole, self.reader = self, f"read_{self.low}"
+        self.term, self.opened = self.name, f"{self.name}-F {self.name}"
         self.variants = [(shape, self.content_of(shape)) for shape in of.variants or []]
         self.fields = [(field, self.part_of(field.kind)) for field in of.shape.fields] if of.shape else []
 
+    @property
+    def reads(self) -> str:
+        """What the type is read from."""
+        return f"Is{self.whole.name}"
+
+    def own(self, value: str = "v") -> str:
+        """What has a value's fields, in terms."""
+        return f"(out-{self.name} {value})"
+
+    def place(self, at: int, value: str) -> str:
+        """The field at a place, of what has them."""
+        return f"{value}.{self.fields[at][0].name}"
+
+    def is_leaf(self) -> bool:
+        """Whether each field is a leaf."""
+        return all(part.is_leaf for _, part in self.fields)
+
+    def said(self, word: str, reads: str) -> str:
+        """A word on the fields, by what the type is read from, unless none holds it."""
+        return self.name + word + f" {reads}" * (not self.is_leaf())
+
     def part_of(self, kind: str) -> Optional[Part]:
         """What is known of a value of this type, if it is one that such a type may hold."""
-        return LEAVES.get(kind) or next((again for again in (it.of(self) for it in AGAIN) if again.kind == kind), None)
+        return LEAVES.get(kind) or next((again for again in (it.of(self) for it in [*AGAIN, *MAPS]) if again.kind == kind), None)
 
     def content_of(self, shape: Shape) -> Optional[Part]:
         """What a variant holds: nothing, a value, or the tuple of several."""
         held = [part for part in (self.part_of(field.kind) for field in shape.fields) if part]
+        if shape.kind == "named":
+            return Content(self, shape, held).part()
         return self.row_of(shape, held) if len(held) > 1 else (held or [None])[0]
 
     def row_of(self, shape: Shape, held: list[Part]) -> Part:
@@ -221,12 +299,21 @@ class Level:
 
     def rows(self) -> list[tuple[Shape, Part]]:
         """The variants that hold several values, with their tuples."""
-        return [(shape, part) for shape, part in self.variants if part and part.held]
+        return [(shape, part) for shape, part in self.variants if part and part.held and not part.named]
+
+    def contents(self) -> list[Content]:
+        """What the variants hold that have fields with names."""
+        return [part.named for _, part in self.variants if part and part.named]
+
+    def contents_again(self) -> list[Content]:
+        """Those that hold the type again."""
+        return [of for of in self.contents() if not of.is_leaf()]
 
     def parts(self) -> list[Part]:
         """What it holds, with the values of a tuple that isn't a leaf."""
         whole = [part for _, part in [*self.variants, *self.fields] if part]
-        return [part for of in whole for part in ([of] if of.is_leaf else [of, *of.held])]
+        held = [part for of in whole for part in ([of] if of.is_leaf else [of, *of.held])]
+        return [part for of in held for part in [of, *([of.keys] if is_map(of) else [])]]
 
     def made(self, shape: Shape, values: list[str]) -> str:
         """A level that is this variant, of these values."""
@@ -245,6 +332,34 @@ class Level:
         if OPTION.of(self) in found:
             found[BOX.of(self)] = None
         return list(found)
+
+
+class Content(Level):
+    """The content of a variant with named fields: a tuple of their values, which is read as the fields of a struct are."""
+
+    def __init__(self, whole: Level, shape: Shape, held: list[Part]) -> None:
+        self.whole, self.shape, self.crate, self.declared = whole, shape, whole.crate, whole.declared
+        self.name, self.low = whole.name + shape.name, f"{whole.low}_{underscored(shape.name)}"
+        self.fields: list[tuple[Field, Part]] = list(zip(shape.fields, held))
+        self.variants = []
+        self.reader, self.term = f"read_{self.low}_fields", " × ".join(part.term for part in held)
+        self.opened = self.term
+
+    def own(self, value: str = "v") -> str:
+        return value
+
+    def place(self, at: int, value: str) -> str:
+        return f"{value}.{at}" if len(self.fields) > 1 else value
+
+    def part(self) -> Part:
+        """What is known of it, as of what a variant holds. If each field is a leaf, it is one, too."""
+        held = tuple(part for _, part in self.fields)
+        kind = tuple_of([part.kind for part in held]) if len(held) > 1 else held[0].kind
+        reads, name, low = f"{self.said('Read', '{reads}')} {{k}} {{a}}", self.shape.name, self.whole.low
+        if self.is_leaf():
+            return Part(kind, self.term, reads, "", "", is_lent=True, word=f"{self.low}_fields", held=held, named=self)
+        wider, counted = f"{low}_as_{name} P Q f m a h", f"{low}_in_{name} m a h"
+        return Again(kind, self.term, reads, "", "", word=f"{underscored(name)}_fields", held=held, named=self, wider=wider, counted=counted)
 
 
 def peano(at: int) -> str:
@@ -317,6 +432,10 @@ def is_option(part: Part) -> bool:
     return isinstance(part, Again) and part.word == "option"
 
 
+def is_map(part: Part) -> bool:
+    return isinstance(part, Again) and part.keys is not None
+
+
 def data_from(part: Part, value: str) -> str:
     """What a part is written as, over the type's own data."""
     return (part.own if isinstance(part, Again) else part.data).format(a=value)
@@ -348,177 +467,6 @@ def wider(part: Part, value: str, by: tuple[str, str, str]) -> str:
 # ---- definitions
 
 
-def shape_of(level: Level) -> str:
-    """What it is read from, by steps."""
-    name, low = level.name, level.low
-    cases = "NoCase"
-    for shape, part in reversed(level.variants):
-        made = level.made(shape, inside(part)).strip("()")
-        if part is None:
-            head = f"λ c. (out-{name} v ≡ {made}) × Bare c"
-        else:
-            reads = part.reads.format(reads="reads", k="k", a="a")
-            head = f"λ c. (a : {part.term}) × (out-{name} v ≡ {made}) × Content (λ k. {reads}) c"
-        cases = f"Case ({head})\n    {cases}" if cases == "NoCase" else f"Case ({head})\n    ({cases})"
-    return f"""
-abbrev pub {low}_names : List (List ℕ)
-{low}_names = {level.names()}
-
--- ---- what it is read from
-{"".join(row_shape(level, shape, part) for shape, part in level.rows())}
-abbrev pub {name}Case : (Msg → {name} → Type 0) → {name} → ℕ × Option Msg → Type 0
-{name}Case reads v = {cases}
-
-abbrev pub {name}In : ℕ → Msg → {name} → Type 0
-{name}In zero m v = ⊥
-{name}In (suc n) m v = OfVariant {low}_names ({name}Case ({name}In n) v) m
-
--- in some number of steps the message is read as the value
-abbrev pub Is{name} : Msg → {name} → Type 0
-Is{name} m v = InSteps {name}In m v
-"""
-
-
-def row_reads(reads: Iterable[str]) -> str:
-    """A list of items of which these hold."""
-    return chained([f"AndThen {term}" for term in reads], "NoMore")
-
-
-def row_shape(level: Level, shape: Shape, part: Part) -> str:
-    """What several values of a variant are read from."""
-    word, again = f"{level.name}Row{shape.name}", not part.is_leaf
-    reads = [f"(λ j. {of.reads.format(reads='reads', k='j', a=value)})" for of, value in zip(part.held, inside(part))]
-    return f"""
--- the values of {shape.name}, one after another
-abbrev pub {word} : {f'(Msg → {level.name} → Type 0) → ' * again}Msg → {part.term} → Type 0
-{word} {'reads ' * again}m a = OfRow ({row_reads(reads)}) m
-"""
-
-
-def content_data(shape: Shape, data: list[str]) -> str:
-    """What a variant is written as, of what its values are."""
-    of = f"(codes \"{shape.key}\")"
-    if len(data) > 1:
-        return f"tuple_variant_of {of} {bracketed(data)}"
-    return f"newtype_variant_of {of} ({data[0]})" if data else f"Some (unit_variant {of})"
-
-
-def written_of(level: Level) -> str:
-    """What it is written as, level by level, and what is known of it."""
-    name, low = level.name, level.low
-    datas, fits = "", ""
-    for shape, part in level.variants:
-        held, names = held_in(part), named_in(part)
-        made = level.made(shape, names)
-        datas += f"{low}_level {made} = {content_data(shape, [of.data.format(a=name) for of, name in zip(held, names)])}\n"
-        fits += f"{low}_layer_fits X at fits {made} = {product([of.fits.format(a=name, fits='fits') for of, name in zip(held, names)], '⊤')}\n"
-    return f"""
--- ---- what it is written as: one level, of what its parts are written as
-
-abbrev pub {low}_level : {name}-F (Option Data) → Option Data
-{datas}
-abbrev pub {low}_data : {name} → Option Data
-{low}_data = fold-{name} (Option Data) {low}_level
-
--- ---- what is known of a value
-
-abbrev pub {low}_layer_fits : (X : Type 0) → (X → {name}) → (X → Type 0) → {name}-F X → Type 0
-{fits}
-abbrev pub {low}_fits : {name} → Type 0
-{low}_fits = rec-{name} (Type 0) {low}_layer_fits
-"""
-
-
-def steps_of(level: Level) -> str:
-    """One step of its reading by what its parts are read from."""
-    name, low = level.name, level.low
-    wider, counted = "", ""
-    for at, (shape, part) in enumerate(level.variants):
-        place = peano(at)
-        if not isinstance(part, Again):
-            wider += f"{low}_as P Q f v {place} c h = h\n"
-            counted += f"{low}_in v {place} c h = (zero, h)\n"
-            continue
-        wider += f"{low}_as P Q f v {place} None (a, e, h) = absurd h\n{low}_as P Q f v {place} (Some m) (a, e, h) = (a, e, {part.wider})\n"
-        counted += f"{low}_in v {place} None (a, e, h) = absurd h\n{low}_in v {place} (Some m) (a, e, h) = let i = {part.counted} in (i.0, (a, e, i.1))\n"
-    end = last_place(len(level.variants))
-    wider += f"{low}_as P Q f v {end} c h = absurd h\n"
-    counted += f"{low}_in v {end} c h = absurd h\n"
-    case = f"{name}Case"
-    rows = [(shape, part) for shape, part in level.rows() if isinstance(part, Again)]
-    return f"""
--- ---- one step more
-{"".join(row_wider(level, shape, part) for shape, part in rows)}
-{low}_as : (P Q : Msg → {name} → Type 0) → ((m : Msg) (v : {name}) → P m v → Q m v) → (v : {name}) (k : ℕ) (c : Option Msg) → {case} P v (k, c) → {case} Q v (k, c)
-{wider}
-{low}_up : (n : ℕ) (m : Msg) (v : {name}) → {name}In n m v → {name}In (suc n) m v
-{low}_up zero m v h = absurd h
-{low}_up (suc n) m v h =
-    variant_as {low}_names ({case} ({name}In n) v) ({case} ({name}In (suc n)) v) ({low}_as ({name}In n) ({name}In (suc n)) ({low}_up n) v) m h
-{"".join(row_counted(level, shape, part) for shape, part in rows)}
-{low}_in : (v : {name}) (k : ℕ) (c : Option Msg) → {case} Is{name} v (k, c) → (n : ℕ) × {case} ({name}In n) v (k, c)
-{counted}
-pub {low}_made : (v : {name}) (m : Msg) → OfVariant {low}_names ({case} Is{name} v) m → Is{name} m v
-{low}_made v m h = let i = variant_in {low}_names ({case} Is{name} v) (λ n. {case} ({name}In n) v) ({low}_in v) m h in (suc i.0, i.1)
-
-pub {low}_out : (m : Msg) (v : {name}) → Is{name} m v → OfVariant {low}_names ({case} Is{name} v) m
-{low}_out m v (zero, h) = absurd h
-{low}_out m v (suc n, h) = variant_as {low}_names ({case} ({name}In n) v) ({case} Is{name} v) ({low}_as ({name}In n) Is{name} (λ k w p. (n, p)) v) m h
-
-pub {low}_variant : (m : Msg) → Readable Is{name} m → Readable (λ k v. OfVariant {low}_names ({case} Is{name} v) k) m
-{low}_variant m (v, h) = (v, {low}_out m v h)
-"""
-
-
-def items_wider(part: Part, by: tuple[str, str, str], start: int = 0) -> str:
-    """What one reading of the values from a place on says by another."""
-    values = list(zip(part.held, inside(part)))[start:]
-    return chained([f"then_as _ _ _ _ {wider(of, value, by)}" for of, value in values], "(λ ms h. h)")
-
-
-def row_wider(level: Level, shape: Shape, part: Again) -> str:
-    """What one reading of several values says by another."""
-    name, low, word = level.name, level.low, f"{level.name}Row{shape.name}"
-    return f"""
-{low}_as_{shape.name} : (P Q : Msg → {name} → Type 0) → ((m : Msg) (v : {name}) → P m v → Q m v) → (m : Msg) (a : {part.term}) → {word} P m a → {word} Q m a
-{low}_as_{shape.name} P Q f m a h = of_row_as _ _ ({items_wider(part, ("P", "Q", "f"))}) m h
-"""
-
-
-def row_counted(level: Level, shape: Shape, part: Again) -> str:
-    """The number of steps in which several values are read."""
-    name, low, word = level.name, level.low, f"{level.name}Row{shape.name}"
-    by = (f"({name}In i)", f"({name}In (suc i))", f"({low}_up i)")
-    steps = []
-    for at, (of, value) in enumerate(zip(part.held, inside(part))):
-        into = f"(λ m h. {called(of.counted, value)})" if isinstance(of, Again) else "(λ m h. (zero, h))"
-        steps.append(f"then_in _ _ _ _ (λ i. {wider(of, value, by)}) (λ i. {items_wider(part, by, at + 1)}) {into}")
-    return f"""
-{low}_in_{shape.name} : (m : Msg) (a : {part.term}) → {word} Is{name} m a → (n : ℕ) × {word} ({name}In n) m a
-{low}_in_{shape.name} m a h = of_row_in _ _ ({chained(steps, '(λ ms h. (zero, h))')}) m h
-"""
-
-
-def last_place(count: int) -> str:
-    """A pattern of each place after so many."""
-    return "k" if count == 0 else f"(suc {last_place(count - 1)})"
-
-
-def induction_of(level: Level) -> str:
-    """What holds of a value where it holds of its parts holds of each value, and what is known of a value is known of its parts."""
-    name, low = level.name, level.low
-    kids, hold, through = "", "", ""
-    for shape, part in level.variants:
-        held, names = held_in(part), named_in(part)
-        kids += f"{name}Parts P {level.made(shape, names)} = {product([of.parts.format(a=x) for of, x in zip(held, names) if isinstance(of, Again)], '⊤')}\n"
-        for cases in itertools.product(*(cases_of(of, x) for of, x in zip(held, names))):
-            made = level.made(shape, [value for value, *_ in cases])
-            hold += f"{low}_parts_hold P first h {made} = {each([holds for _, holds, _ in cases if holds])}\n"
-            known = product([known for *_, known in cases], "⊤")
-            through += f"{low}_through X at k {made} = {f'λ i. {known}' if isinstance(part, Again) else 'refl'}\n"
-    return inductive(level, kids, hold, through)
-
-
 def cases_of(part: Part, name: str) -> list[tuple[str, str, str]]:
     """How a value of this name is told apart where a level is mapped, with that P holds of its parts, and what is known of it on the way."""
     if isinstance(part, Again):
@@ -532,19 +480,23 @@ def cases(part: Optional[Part]) -> Iterator[list[str]]:
         yield [value for value, *_ in case]
 
 
-def has_option(part: Optional[Part]) -> bool:
-    return any(is_option(held) for held in held_in(part))
+def is_apart(part: Optional[Part]) -> bool:
+    """Whether what a variant is written as, by its values, is told by a lemma: that of an option, or a map."""
+    return any(is_option(held) or is_map(held) for held in held_in(part))
 
 
-def mapped_option(level: Level, shape: Shape, part: Part) -> str:
-    """What a variant is written as that holds an option."""
-    name, low = level.name, level.low
-    mapped = f"map-{name} {name} (Option Data) {low}_data"
-    lines = "".join(f"{low}_at_{shape.name} {' '.join(values)} = refl\n" for values in cases(part))
-    held, names = held_in(part), named_in(part)
-    bound = " ".join(f"({value} : {of.term})" for value, of in zip(names, held))
-    is_ = f"{low}_level ({mapped} {level.made(shape, names)}) ≡ {content_data(shape, [data_from(of, value) for of, value in zip(held, names)])}"
-    return f"\npub {low}_at_{shape.name} : {bound} → {is_}\n{lines}"
+def map_order(part: Again) -> Keys:
+    """The order of a map's keys."""
+    return ORDERS[part.keys.kind]
+
+
+def has_map(part: Optional[Part]) -> bool:
+    return any(is_map(held) for held in held_in(part))
+
+
+def at_value(level: Level, shape: Shape, part: Optional[Part], values: list[str]) -> str:
+    """That a variant is written so, which holds a map."""
+    return f"{level.low}_at_{shape.name} {' '.join(values)}" if has_map(part) else ""
 
 
 def inductive(level: Level, kids: str, hold: str, through: str) -> str:
@@ -603,14 +555,22 @@ def tables(level: Level) -> dict[str, str]:
     name, low, crate, declared = level.name, level.low, level.crate, level.declared
     levels = "names level data layer_fits fits made out variant read induction fits_out fits_in is is_at own is_own".split()
     words = [f"{name}Case", f"{name}In", f"Is{name}", f"{name}Parts", f"{name}Fits", f"{name}Fields", f"{name}Read"]
-    words += [f"{name}From{at}" for at in range(len(level.fields) + 1)]
+    words += [f"{of.name}From{at}" for of in (level, *level.contents()) for at in range(len(of.fields) + 1)]
+    words += [word for of in level.contents() for word in (f"{of.name}Fields", f"{of.name}Read", f"{of.low}_names")]
     words += [f"{name}Row{shape.name}" for shape, _ in level.rows()]
-    words += [f"{low}_at_{shape.name}" for shape, part in level.variants if has_option(part)]
+    words += [f"{low}_at_{shape.name}" for shape, part in level.variants if is_apart(part)]
     return {
         "std.proofs.Common": "◌≡◌ ◌∙◌ refl sym ap subst ℕ zero suc List [] ◌∷◌ map All Option None Some String Box",
         "std.specs.Char": "IsScalar",
+        "std.specs.Cmp.Lexicographic": "slice_cmp",
         "std.specs.Int": "w8 w16 w32 w64 w128",
         "std.specs.List": "AllByRecursion",
+        "std.specs.Cmp": "bool_cmp_total",
+        "std.specs.Ordering": "nat_cmp bool_cmp",
+        "std.specs.String": "string_cmp string_cmp_total",
+        "std.proofs.lemmas.Cmp": "nat_cmp_total",
+        "std.proofs.lemmas.Map.Lookups": "exact_unsigned exact_bytes",
+        "std.specs.declared.collections.BTreeMap": "BTreeMap",
         "std.specs.Prelude": "◌≢◌ ◌<◌ ◌^◌ ⊤ codes Vec Bool ℤ pos negsuc FitsSigned IsUtf8 IsSome IfSome string_bytes",
         "std.specs.declared.alloc.Global": "Global",
         "rmp_wire.specs.Msg": "Msg nil",
@@ -620,24 +580,27 @@ def tables(level: Level) -> dict[str, str]:
         "rmp_decode.specs.Wide": "IsUnsigned128 IsSigned128",
         "rmp_decode.specs.Fields": "OfFields Field Absent NoField",
         "rmp_decode.specs.Law": "Readable",
+        "rmp_decode.specs.Maps": "ReadsEntries",
         "rmp_decode.specs.Options": "IsOption",
         "rmp_decode.specs.Read": "IsUnsigned IsSigned IsRaw IsChar",
         "rmp_decode.specs.Rows": "ReadsEach AndThen NoMore",
         "rmp_decode.specs.Seq": "OfRow",
         "rmp_decode.specs.Variants": "OfVariant Case NoCase Bare Content",
         "rmp_encode.specs.Data": "Data byte whole unsigned128 signed128 truth float32 float64 char text bytes unit_variant",
-        "rmp_encode.specs.Trees": "tree_of slice_of option_of newtype_variant_of tuple_variant_of structure_of",
+        "rmp_encode.specs.Trees": "tree_of slice_of option_of mapping_of in_turn newtype_variant_of tuple_variant_of struct_variant_of structure_of",
         "rmp_encode.specs.declared.settings.Settings": "Settings",
         "rmp_round_trip.specs.LeafRounds": " ".join(LEAF_ROWS),
-        "rmp_round_trip.specs.OnlyFields": "AtPlace AnyContent content_only content_row variant_both fields_both field_only last_field",
+        "rmp_round_trip.specs.MapRounds": "map_row pairs_row",
+        "rmp_round_trip.specs.OnlyFields": "AtPlace AnyContent content_only content_row content_fields variant_both fields_both field_only last_field",
         "rmp_round_trip.specs.OnlyLeaves": "truth_only byte_only unsigned_only signed_only unsigned128_only signed128_only float32_only float64_only"
         " char_only string_only buffer_only",
+        "rmp_round_trip.specs.OnlyMaps": "map_only",
         "rmp_round_trip.specs.OnlyRows": "inside_only item_only last_only list_only option_only lowers_then",
-        "rmp_round_trip.specs.RoundTrip": "Alike AlikeOption LowersTo Only",
+        "rmp_round_trip.specs.RoundTrip": "Alike AlikeEntries AlikeOption LowersTo Only",
         "rmp_round_trip.specs.Rounds": "slice_some each_row slice_row option_row rows_none rows_cons",
-        "rmp_round_trip.specs.StructRounds": "tuple_variant_all structure_all structure_row structure_other fields_none fields_cons",
-        "rmp_round_trip.specs.VariantRounds": "newtype_variant_some bare_row newtype_variant_row tuple_variant_row bare_other newtype_variant_other"
-        " tuple_variant_other",
+        "rmp_round_trip.specs.StructRounds": "tuple_variant_all struct_variant_all structure_all structure_row structure_other fields_none fields_cons",
+        "rmp_round_trip.specs.VariantRounds": "newtype_variant_some bare_row newtype_variant_row tuple_variant_row struct_variant_row bare_other"
+        " newtype_variant_other tuple_variant_other struct_variant_other",
         "rmp_round_trip.specs.WideRounds": "unsigned128_row signed128_row",
         declared: f"{name} out-{name}",
         f"{declared}.TheFolds": f"ind-{name} fold-{name} rec-{name} map-{name} rec-roll-{name} fold_out-{name}",
@@ -645,6 +608,8 @@ def tables(level: Level) -> dict[str, str]:
         f"{declared}.TheViews": f"roll-{name} out-roll-{name} roll-out-{name}",
         f"{crate}.specs.Recursion": "Row Boxed InSteps row_as row_in option_as option_in variant_as variant_in of_row_as of_row_in then_as then_in each_holds through all_by each_from option_from",
         f"{crate}.specs.RecursionFields": "fields_as fields_in field_as field_in",
+        f"{crate}.specs.RecursionMaps": "EntriesFit map_as map_in entries_hold entries_through entries_from turns_mapped",
+        f"{crate}.specs.RecursionMapRounds": "mapping_data maps_alike exact_truth",
         f"{crate}.specs.RecursionRounds": "each_data option_data lowers_as map_alike option_alike",
         f"{crate}.specs.{name}Levels": " ".join([*words, *(f"{low}_{word}" for word in levels)]),
     }
@@ -654,9 +619,3 @@ def file_of(level: Level, own: str, about: str, text: str) -> str:
     """A file's text: what it is about, what it brings in, and its items."""
     table = {module: names for module, names in tables(level).items() if module != f"{level.crate}.specs.{own}"}
     return f"-- {about}\n{brought_in(text, table)}{text}"
-
-
-def levels_file(level: Level) -> str:
-    about = f"What the recursive type {level.name} is read from and written as, level by level. Written by tools/derive.py."
-    options = "".join(mapped_option(level, shape, part) for shape, part in level.variants if has_option(part))
-    return file_of(level, f"{level.name}Levels", about, shape_of(level) + written_of(level) + steps_of(level) + induction_of(level) + options)

@@ -1,12 +1,15 @@
 """The laws that derive.py writes for a recursive enum: its values are read as they were written, and as nothing else."""
 from __future__ import annotations
 
+from collections.abc import Iterable
 from typing import Optional
 
-from declarations import Shape
+from declarations import Field, Shape
 from derived_terms import chained
-from recursive_levels import ALIKE, Again, Level, Part, cases, content_data, data_from, file_of, has_option, held_in, inside, named_in, places_of, put_in
-from recursive_levels import reading, row_reads, same_of
+from recursive_enums import content_data, row_reads
+from recursive_fields import absent_of, pairs_of
+from recursive_levels import Again, Level, Part, at_value, cases, data_from, each, file_of, held_in, inside, is_apart, named_in, places_of, put_in
+from recursive_levels import reading, same_of
 from shared import bracketed
 
 
@@ -27,50 +30,86 @@ def rows(terms: list[str]) -> str:
     return chained([f"rows_cons s _ _ {term}" for term in terms], "(rows_none s)")
 
 
+def field_rows(fields: Iterable[Field], reads: list[str], absent: list[str], proofs: list[str]) -> str:
+    """Those of fields, which are read from these messages."""
+    return chained([f'fields_cons s (codes "{field.key}") _ _ _ {read} {gone} _ ({proof})' for field, read, gone, proof in zip(fields, reads, absent, proofs)], "(fields_none s)")
+
+
 def back_variant(level: Level, at: int, shape: Shape, part: Optional[Part]) -> tuple[str, str, str]:
     """The same of one variant: the equations of each law."""
-    name, low, of = level.name, level.low, f"(codes \"{shape.key}\")"
-    other = f"  {low}_level_other {level.made(shape, named_in(part))} e = {never_nil(of, part)} e\n"
+    name, low = level.name, level.low
+    other = f"  {low}_level_other {level.made(shape, named_in(part))} e = {never_nil(shape, part)} e\n"
     some = rounds = ""
     for values in cases(part):
-        made = level.made(shape, values)
-        some += f"{low}_level_some {made} h = {back_some(of, part, values)}\n"
-        rounds += f"  {low}_level_round v {made} e h fit = {back_row(level, at, of, part, values)}\n"
+        made, is_ = level.made(shape, values), at_value(level, shape, part, values)
+        some += f"{low}_level_some {made} h = {carried('IsSome', is_, back_some(shape, part, values))}\n"
+        holds = f"(λ d. LowersTo s d (λ m. OfVariant {low}_names ({name}Case Is{name} v) m))"
+        rounds += f"  {low}_level_round v {made} e h fit = {carried(holds, is_, back_row(level, at, shape, part, values))}\n"
     return some, rounds, other
 
 
-def never_nil(of: str, part: Optional[Part]) -> str:
+def carried(holds: str, is_: str, term: str) -> str:
+    """That this holds of what a variant is written as, where that is told by a lemma."""
+    return f"subst {holds} (sym ({is_}))\n      ({term})" if is_ else term
+
+
+def word_of(shape: Shape, part: Optional[Part]) -> str:
+    """What the lemmas on a variant are called."""
+    if part is None:
+        return "bare"
+    return "struct_variant" if part.named else "tuple_variant" if part.held else "newtype_variant"
+
+
+def terms_of(shape: Shape, part: Optional[Part], data: list[str]) -> str:
+    """What a variant is written as, as the arguments of a lemma: its name, and what its values are."""
+    of = f"(codes \"{shape.key}\")"
+    if part is None:
+        return of
+    if part.named:
+        return f"{of} ({pairs_of(shape.fields, data)})"
+    return f"{of} {bracketed(data) if part.held else f'({data[0]})'}"
+
+
+def never_nil(shape: Shape, part: Optional[Part]) -> str:
     """That a variant isn't written as nil."""
     data = [held.data.format(a=value) for held, value in zip(held_in(part), named_in(part))]
-    if len(data) > 1:
-        return f"tuple_variant_other s {of} {bracketed(data)}"
-    return f"newtype_variant_other s {of} ({data[0]})" if data else f"bare_other s {of}"
+    return f"{word_of(shape, part)}_other s {terms_of(shape, part, data)}"
 
 
-def back_some(of: str, part: Optional[Part], values: list[str]) -> str:
+def back_some(shape: Shape, part: Optional[Part], values: list[str]) -> str:
     """That a variant of these values isn't refused."""
     held = held_in(part)
     data = [data_from(one, value) for one, value in zip(held, values)]
     facts = [put_in(one.is_some.format(a=value), h) if h else "refl" for one, value, h in zip(held, values, known_parts(part))]
-    if len(held) > 1:
-        return f"tuple_variant_all {of} {bracketed(data)} {''.join(f'({fact}, ' for fact in facts)}tt{')' * len(facts)}"
-    return f"newtype_variant_some {of} ({data[0]}) {facts[0]}" if held else "refl"
+    if part is None:
+        return "refl"
+    terms = terms_of(shape, part, data)
+    if part.held:
+        return f"{word_of(shape, part)}_all {terms} {''.join(f'({fact}, ' for fact in facts)}tt{')' * len(facts)}"
+    return f"newtype_variant_some {terms} {facts[0]}"
 
 
-def back_row(level: Level, at: int, of: str, part: Optional[Part], values: list[str]) -> str:
+def back_row(level: Level, at: int, shape: Shape, part: Optional[Part], values: list[str]) -> str:
     """That a variant of these values is read as it was written."""
     name, low, held = level.name, level.low, held_in(part)
-    place = f"s {low}_names {of} {at} refl ({name}Case Is{name} v)"
+    place = f"s {low}_names (codes \"{shape.key}\") {at} refl ({name}Case Is{name} v)"
     if not held:
         return f"bare_row {place} (e, tt)"
-    reads = [one.reads.format(reads=f"Is{name}", k="m", a=value) for one, value in zip(held, values)]
     proofs = [
         put_in(one.row.format(a=value, fit=fit), h) for one, value, fit, h in zip(held, values, places_of("fit", len(held)), known_parts(part))
     ]
+    whole = each(values)
+    if part.named:
+        of = part.named
+        reads = [f"(λ k. {one.reads.format(reads=level.reads, k='k', a=value)})" for one, value in zip(held, values)]
+        absent = [f"(Absent {absent_of(one)} {value})" for one, value in zip(held, values)]
+        fields = f"{of.low}_names _ (λ fs. {of.said('Fields', level.reads)} fs {whole}) refl"
+        return f"struct_variant_row {place} {fields} (λ m p. ({whole}, e, p))\n      ({field_rows(shape.fields, reads, absent, proofs)})"
+    reads = [one.reads.format(reads=f"Is{name}", k="m", a=value) for one, value in zip(held, values)]
     if len(held) == 1:
         return f"newtype_variant_row {place}\n      ({data_from(held[0], values[0])}) (λ m. {reads[0]}) (λ m p. ({values[0]}, e, p)) ({proofs[0]})"
     terms = [f"(λ m. {term}) _ ({proof})" for term, proof in zip(reads, proofs)]
-    return f"tuple_variant_row {place} _ _ (λ m p. (({', '.join(values)}), e, p))\n      ({rows(terms)})"
+    return f"tuple_variant_row {place} _ _ (λ m p. ({whole}, e, p))\n      ({rows(terms)})"
 
 
 def back_of(level: Level) -> str:
@@ -145,10 +184,10 @@ module _ (s : Settings) where
 """
 
 
-def alike(level: Level, part: Part, value: str, other: str, fact: str) -> str:
+def alike(part: Part, value: str, other: str, fact: str, fit: str) -> str:
     """That two values of the same content are written alike."""
     if isinstance(part, Again):
-        return ALIKE[part.word].format(low=level.low, name=level.name, v=value, w=other, e=fact)
+        return part.alike.format(v=value, w=other, e=fact, fit=fit)
     return f"ap (λ n. {part.of_key.format(a='n')}) {fact}"
 
 
@@ -163,16 +202,16 @@ def only_variant(level: Level, at: int, shape: Shape, part: Optional[Part], valu
       (bare_row s {low}_names {of} {at} refl {holds} (refl, tt))
       (λ m q w r. variant_both {low}_names {at} AnyContent ({name}Case Is{name} w) _ m q r (λ c i j. {low}_by w {made} j.0))
 """
-    others = inside(part, "j.0")
+    others, is_ = inside(part, "j.0"), at_value(level, shape, part, values)
     data = content_data(shape, [data_from(held, value) for held, value in zip(held_in(part), values)])
-    row, same = (only_row if part.held else only_value)(level, at, shape, part, values)
-    back = f" ∙ sym ({low}_at_{shape.name} {' '.join(others)})" * has_option(part)
-    return f"""  {low}_level_only {made} h fit =
-      lowers_then s ({data}) _ ({name}LevelOnly {made})
+    row, same = (only_fields if part.named else only_row if part.held else only_value)(level, at, shape, part, values)
+    back = f" ∙ sym ({low}_at_{shape.name} {' '.join(others)})" * is_apart(part)
+    term = f"""lowers_then s ({data}) _ ({name}LevelOnly {made})
       ({row})
       (λ m q w r. variant_both {low}_names {at} _ ({name}Case Is{name} w) _ m q r
-      (λ c i j. {same}{back} ∙ {low}_by w {level.made(shape, others)} j.1))
-"""
+      (λ c i j. {f'{is_} ∙ ' * bool(is_)}{same}{back} ∙ {low}_by w {level.made(shape, others)} j.1))"""
+    holds = f"(λ d. LowersTo s d ({name}LevelOnly {made}))"
+    return f"  {low}_level_only {made} h fit =\n      {carried(holds, is_, term)}\n"
 
 
 def only_parts(level: Level, part: Part, values: list[str]) -> list[tuple[str, str, str]]:
@@ -189,7 +228,7 @@ def only_value(level: Level, at: int, shape: Shape, part: Part, values: list[str
     of, data = f"(codes \"{shape.key}\")", data_from(part, values[0])
     [(fact, reads, proof)] = only_parts(level, part, values)
     row = f"newtype_variant_row s {level.low}_names {of} {at} refl (AtPlace {at} (Content {reads})) ({data})\n      {reads} (λ m p. (refl, p)) ({proof})"
-    same = alike(level, part, values[0], "j.0", f"(content_only {fact} {values[0]} j.0 c i j.2)")
+    same = alike(part, values[0], "j.0", f"(content_only {fact} {values[0]} j.0 c i j.2)", "fit")
     return row, f"ap (λ d. newtype_variant_of {of} d) ({same})"
 
 
@@ -201,10 +240,33 @@ def only_row(level: Level, at: int, shape: Shape, part: Part, values: list[str])
     row += f"\n      ({rows([f'{read} _ ({proof})' for read, proof in zip(reads, proofs)])})"
     items = [f"{fact} {value} {other}" for fact, value, other in zip(facts, values, others)]
     both = chained([f"item_only {it} _ _ _" for it in items[:-1]], f"(last_only {items[-1]})")
-    terms = [f"({alike(level, held, *pair, fact)}) t" for held, *pair, fact in zip(part.held, values, others, places_in("x", len(values)))]
-    data, other = (content_data(shape, [data_from(held, value) for held, value in zip(part.held, them)]) for them in (values, others))
-    same = f"let x = content_row _ _ _ c i j.2 (λ ks q r. ({both}) ks q r) in\n      let same : {data} ≡ {other} = λ t. {content_data(shape, terms)} in same"
+    same = f"let x = content_row _ _ _ c i j.2 (λ ks q r. ({both}) ks q r) in\n      {alike_data(level, shape, part, values, others)}"
     return row, same
+
+
+def only_fields(level: Level, at: int, shape: Shape, part: Part, values: list[str]) -> tuple[str, str]:
+    """The same of fields with names."""
+    names, others = f"{part.named.low}_names", inside(part, "j.0")
+    facts, reads, proofs = zip(*only_parts(level, part, values))
+    holds = chained([f"Field {read} ⊥" for read in reads], "NoField")
+    row = f"struct_variant_row s {level.low}_names (codes \"{shape.key}\") {at} refl (AtPlace {at} (Content (OfFields {names} ({holds})))) {names} _ _ refl"
+    row += f" (λ m p. (refl, p))\n      ({field_rows(shape.fields, reads, ['⊥'] * len(reads), proofs)})"
+    same = f"let x = content_fields {names} _ _ _ c i j.2 (λ fs q r. {both_fields(facts, values, others)} fs q r) in\n      {alike_data(level, shape, part, values, others)}"
+    return row, same
+
+
+def both_fields(facts: list[str], values: list[str], others: list[str]) -> str:
+    """What two readings of the same fields say of each: it has the same content."""
+    items = [f"{fact} {value} {other} _" for fact, value, other in zip(facts, values, others)]
+    return chained([f"field_only {item} _ _ _" for item in items[:-1]], f"(last_field {items[-1]})")
+
+
+def alike_data(level: Level, shape: Shape, part: Part, values: list[str], others: list[str]) -> str:
+    """That the variant of such values is written alike, by what x says of each."""
+    told = zip(part.held, values, others, places_in("x", len(values)), places_of("fit", len(values)))
+    terms = [f"({alike(*it)}) t" for it in told]
+    data, other = (content_data(shape, [data_from(held, value) for held, value in zip(part.held, them)]) for them in (values, others))
+    return f"let same : {data} ≡ {other} = λ t. {content_data(shape, terms)} in same"
 
 
 def places_in(name: str, count: int) -> list[str]:

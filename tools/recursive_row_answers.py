@@ -4,7 +4,8 @@ from __future__ import annotations
 from collections.abc import Iterable
 
 from recursive_holders import holder
-from recursive_levels import Again, Level, Part, after_held, inside, row_reads
+from recursive_enums import row_reads
+from recursive_levels import Again, Level, Part, after_held, inside
 from shared import numbered
 
 # What an element's call is named in goals.

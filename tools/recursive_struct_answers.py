@@ -1,8 +1,9 @@
 """The proofs of the code that derive.py writes for a recursive struct."""
 from __future__ import annotations
 
-from recursive_holder_answers import answer, answers_file, goals_of, held_answers, loop_measures, measures_file
-from recursive_levels import Again, Level, after_held, brought_in, is_option
+from derived_terms import nested, place_of
+from recursive_holder_answers import answer, answers_file, goals_of, held_answers, left_under, loop_measures, measures_file
+from recursive_levels import Again, Content, Level, after_held, brought_in, each, is_option
 from recursive_struct_proofs import slots_of
 from shared import numbered
 
@@ -24,13 +25,20 @@ def start(level: Level, lemma: str) -> str:
     return f"{lemma} g.R.Source {level.low}_names {level.name}Held0"
 
 
+def left_as(level: Level, steps: list[str]) -> str:
+    """That the deserializer is left as the access has it, by these steps after the loop."""
+    return left_under([*steps, f"{start(level, 'run_reference')} _ _ _ r", "c.in-Ok.ensures.same_reference"])
+
+
 def refused(level: Level, fact: str) -> str:
     """The law of a read that is refused, by that of the fields."""
-    return f"record {{\n      law = lawful_err _ {level.name}Read _ _ _ _ {level.low}_read\n          ({fact});\n    }}"
+    if not isinstance(level, Content):
+        fact = f"lawful_err _ {level.name}Read _ _ _ _ {level.low}_read\n          ({fact})"
+    return f"record {{\n      law = {fact};\n    }}"
 
 
 def read_law(level: Level, lemma: str) -> str:
-    return f"{start(level, lemma)} ({level.name}Fields Is{level.name}) _ {OPENED}"
+    return f"{start(level, lemma)} ({level.name}Fields {level.reads}) _ {OPENED}"
 
 
 class Place:
@@ -70,7 +78,7 @@ class Place:
     def fails(self) -> str:
         level, at = self.level, self.at
         fact = (f"{read_law(level, 'struct_value')} c.loop-fields.fields r c.next_field_by.new.self\n          {self.new} {at} {level.name}Slot{at} _ p k.same k.same_reference"
-                f" failed (search rules)\n          (λ fs v m h e. ((out-{level.name} v).{level.fields[at][0].name}, {level.low}_tree{at} fs v m h e))")
+                f" failed\n          {left_as(level, ['q.same_reference', 'k.same_reference'])}\n          (λ fs v m h e. ({level.place(at, level.own())}, {level.low}_tree{at} fs v m h e))")
         return f"""{self.found()}let q = c.in-Err-{self.call}.ensures in
     let failed = field_refused g.R.Source _ _ c.next_field_by.new.self {self.new} p.still {level.name}Slot{at} q.same
     {self.law} _ (q.part p.still) p.owes (q.marked p.still.marked) in
@@ -78,14 +86,17 @@ class Place:
 
     def requires(self) -> str:
         """The value nests below the struct."""
+        e, facts = "e : steps_at p.now ≡ steps_at d = ap steps_at q", "h, e, c.decreases"
+        if isinstance(self.level, Content):
+            e, facts = "e = ap (λ (z : _). max 1 z.room) q", "h, at_most c.args.de.now.kept, e, c.decreases"
         return f"""λ s d l p q.
     let same = same_then c.in-Ok.fields c.loop-fields.fields c.next_field_by.new.self c.loop-fields.invariant.same {self.arm}.ensures.same in
     let h = field_steps g.R.Source {self.level.low}_names c.args.de.now c.in-Ok.fields c.next_field_by.new.self c.in-Ok.ensures.opened same d l in
-    let e : steps_at p.now ≡ steps_at d = ap steps_at q in
-    (omega (arith, h, e, c.decreases), ((λ a m. m), ((λ a m. m), (λ a m. m))))"""
+    let {e} in
+    (omega (arith, {facts}), ((λ a m. m), ((λ a m. m), (λ a m. m))))"""
 
     def answers(self) -> str:
-        fn = f"read_{self.level.low}"
+        fn = self.level.reader
         kept = "loop-fields-preserved" + ("" if self.is_last else f"-in-Ok-{self.call}")
         text = answer(f"{fn}-{kept}", f"\n    {self.preserved()}") + answer(f"{fn}-returns-in-Err-{self.call}", f"\n    {self.fails()}")
         if isinstance(self.part, Again):
@@ -111,42 +122,54 @@ def missing_answer(level: Level, at: int) -> str:
     all_slots = slots(level)
     lacks = f"{level.low}_lacks{at} {all_slots} e.0 fs v h q"
     if is_option(level.fields[at][1]):
-        lacks = "absurd (let z = e.2 (ap (λ a. a.is_map) same ∙ d.run.same.is_map ∙ m) in cc)"
-    fact = (f"{read_law(level, 'struct_missing')} c.next_field_by.new.self d _\n          (via c.{call}.new.self.de.now (search rules) (ap (λ a. a.de.now) e.3 ∙ ap (λ a. a.de.now) same))"
+        lacks = "not_missing (e.2 (ap (λ a. a.is_map) same ∙ d.run.same.is_map ∙ m))"
+    left = left_as(level, [f"c.in-Err-{call}.ensures.same_reference", "ap (λ a. a.de.ghost_name) same", "k.same_reference"])
+    fact = (f"{read_law(level, 'struct_missing')} c.next_field_by.new.self d _\n          (via c.{call}.new.self.de.now {left}\n          (ap (λ a. a.de.now) e.3 ∙ ap (λ a. a.de.now) same))"
             f"\n          ({level.low}_gap{at} {all_slots} e.0) (λ m fs v h q. {lacks})")
-    return answer(f"read_{level.low}-returns-in-Err-{call}", f"""
+    return answer(f"{level.reader}-returns-in-Err-{call}", f"""
     {RUN}{MET.format(low=level.low, name=level.name, slots=all_slots)}let same : {before} ≡ c.next_field_by.new.self = {same_until(at)} in
     let e = c.in-Err-{call}.ensures.err (ap (λ a. a.sound) same ∙ d.run.still.sound) in
     {refused(level, fact)}""")
+
+
+def whole_of(level: Level) -> str:
+    """That each field of the value that was made was read, or has a default."""
+    values = [f"c.in-Ok-{numbered('given_or', at)}.value" for at in range(len(level.fields))]
+    choices = " ".join(f"{given(at)}.0" for at in range(len(level.fields)))
+    if isinstance(level, Content):
+        return f"({level.low}_whole {slots(level)} {each(values)} {choices})"
+    name, made = level.name, " ".join(f"{field.name} = {value};" for (field, _), value in zip(level.fields, values))
+    return f"(λ fs h. subst (λ z. {name}From0 Is{name} z fs) (sym (out-roll-{name} _)) ({level.low}_whole {slots(level)} (record {{ {made} }}) {choices} fs h))"
 
 
 def end_answers(level: Level) -> str:
     """All fields were read."""
     name, low, count = level.name, level.low, len(level.fields)
     begin = f"{RUN}{MET.format(low=low, name=name, slots=slots(level))}let last = {same_until(count)} in\n    "
-    values = " ".join(f"{field.name} = c.in-Ok-{numbered('given_or', at)}.value;" for at, (field, _) in enumerate(level.fields))
-    choices = " ".join(f"{given(at)}.0" for at in range(count))
-    whole = f"(λ fs h. subst (λ z. {name}From0 Is{name} z fs) (sym (out-roll-{name} _)) ({low}_whole {slots(level)} (record {{ {values} }}) {choices} fs h))"
     signs = "".join(after_held(part, f"c.in-Ok-{numbered('given_or', at)}.value") for at, (_, part) in enumerate(level.fields))
-    over = (f"{read_law(level, 'struct_over')} c.next_field_by.new.self d _\n          (subst (λ a. 0 < a.left) last e.0) (via c.end.new.self.0 (search rules) (e.1 ∙ ap (λ a. a.de.now) last))")
-    done = f"""{signs}(record {{
-      law = lawful_ok _ {name}Read Is{name} _ _ _ _ ({low}_made _)
-          ({read_law(level, 'struct_done')} c.next_field_by.new.self d _ {whole}
-          (ap (λ a. a.left) (sym last) ∙ e.0) (via c.end.new.self.0 (search rules) (e.1 ∙ ap (λ a. record a.de.now {{ failed = false }}) last)));
-    }})"""
+    left = left_as(level, ["ap (λ a. a.de.ghost_name) last", "k.same_reference"])
+    over = (f"{read_law(level, 'struct_over')} c.next_field_by.new.self d _\n          (subst (λ a. 0 < a.left) last e.0)"
+            f"\n          (via c.end.new.self.0 {left} (e.1 ∙ ap (λ a. a.de.now) last))")
+    law = f"""{read_law(level, 'struct_done')} c.next_field_by.new.self d _ {whole_of(level)}
+          (ap (λ a. a.left) (sym last) ∙ e.0)
+          (via c.end.new.self.0 {left} (e.1 ∙ ap (λ a. record a.de.now {{ failed = false }}) last))"""
+    if not isinstance(level, Content):
+        law = f"lawful_ok _ {name}Read {level.reads} _ _ _ _ ({low}_made _)\n          ({law})"
+    done = f"{signs}(record {{\n      law = {law};\n    }})"
     return (
-        answer(f"read_{low}-returns-in-Ok-end", f"\n    {begin}let e = c.in-Ok-end.ensures.ok (subst IsStructOpen (sym last) d.run.still) in\n    {done}")
-        + answer(f"read_{low}-returns-in-Err-end", f"\n    {begin}let e = c.in-Err-end.ensures.err (subst IsStructOpen (sym last) d.run.still) in\n    {refused(level, over)}")
+        answer(f"{level.reader}-returns-in-Ok-end", f"\n    {begin}let e = c.in-Ok-end.ensures.ok (subst IsStructOpen (sym last) d.run.still) in\n    {done}")
+        + answer(f"{level.reader}-returns-in-Err-end", f"\n    {begin}let e = c.in-Err-end.ensures.err (subst IsStructOpen (sym last) d.run.still) in\n    {refused(level, over)}")
     )
 
 
 def struct_answers(level: Level) -> str:
     """How the type is read."""
     name, low = level.name, level.low
-    fn, nothing = f"read_{low}", slots_of(["None"] * len(level.fields))
+    fn, nothing = level.reader, slots_of(["None"] * len(level.fields))
     proof = "(refl, " * len(level.fields) + "tt" + ")" * len(level.fields)
-    unopened = f"fields_unopened g.R.Source {low}_names ({name}Fields Is{name}) _ _ _ (rw c.in-Err.is at c.deserialize_struct.follows.holds-at-none)"
-    place = f"{read_law(level, 'struct_place')} c.loop-fields.fields r _ _ c.next_field_by.new.self _\n          (c.in-Err-next_field_by.ensures.err r.still) (search rules)"
+    unopened = f"fields_unopened g.R.Source {low}_names ({name}Fields {level.reads}) _ _ _ (rw c.in-Err.is at c.deserialize_struct.follows.holds-at-none)"
+    left = left_as(level, ["c.in-Err-next_field_by.ensures.same_reference"])
+    place = f"{read_law(level, 'struct_place')} c.loop-fields.fields r _ _ c.next_field_by.new.self _\n          (c.in-Err-next_field_by.ensures.err r.still) {left}"
     text = answer(f"{fn}-returns-in-Err", f" {refused(level, unopened)}")
     text += answer(f"{fn}-loop-fields-init", f" {start(level, 'struct_start')} _ c.in-Ok.fields {nothing} c.in-Ok.ensures.opened {proof}")
     text += "".join(Place(level, at).answers() for at in range(len(level.fields)))
@@ -158,12 +181,37 @@ def reading_answers(level: Level, place: str) -> str:
     return answers_file(level, place, struct_answers(level) + held_answers(level))
 
 
+def leaf_answers(of: Content, place: str) -> str:
+    """How the fields of a variant are read of which each is a leaf: as nested pairs."""
+    count = len(of.fields)
+    parts = nested([of.place(at, "r.0") for at in range(count)], "tt")
+    signs = "".join(after_held(part, f"c.in-Ok.parts{place_of(at, count)}") for at, (_, part) in enumerate(of.fields))
+    text = f"""
+pub returns-in-Ok : goal.returns-in-Ok
+returns-in-Ok g c = {signs}(record {{
+  law = lawful_ok _ _ _ _ _ _ _ (λ m r. r) c.in-Ok.ensures.law;
+}})
+
+pub returns-in-Err : goal.returns-in-Err
+returns-in-Err g c = record {{
+  law = lawful_err _ _ _ _ _ _ (λ m r. ({parts}, r.1)) c.in-Err.ensures.law;
+}}
+"""
+    table = {"std.proofs.Common": "rules", "std.proofs.lemmas.Int": "to_z-of_z", "std.specs.Int": "w8 w16 w32 w64 w128", "rmp_decode.proofs.Laws": "lawful_ok lawful_err"}
+    return brought_in(text, table) + goals_of(of, place) + text
+
+
+def fields_measures(level: Level) -> str:
+    """What holds while fields are read, and what falls."""
+    run = f"StructRun g.R.Source {level.low}_names {level.name}Held0 l.initial.fields l.fields {slots_of([f'l.slot{at}' for at in range(len(level.fields))])}"
+    return loop_measures(f"{level.reader}-loop-fields", run, "l.fields.left")
+
+
 def reading_measures(level: Level, place: str) -> str:
     """Fields nest below their struct, and so does an element of a list, unless it is a number out of bytes."""
-    run = f"StructRun g.R.Source {level.low}_names {level.name}Held0 l.initial.fields l.fields {slots_of([f'l.slot{at}' for at in range(len(level.fields))])}"
     about = "Fields nest below their struct, and so does an element of a list, unless it is a number out of bytes."
     calls = [part for _, part in level.fields if part.is_lent or not part.is_leaf]
-    return measures_file(level, place, about, "next_value_with", calls, loop_measures(f"read_{level.low}-loop-fields", run, "l.fields.left"))
+    return measures_file(level, place, about, "next_value_with", calls, fields_measures(level))
 
 
 def known(level: Level, at: int) -> str:
@@ -176,14 +224,15 @@ def known(level: Level, at: int) -> str:
 
 
 def stops(level: Level) -> tuple[str, str]:
-    """The answers for what is refused as it is written, and the run of calls that end what isn't."""
+    """The answers for what is refused as it is written, and what is known of what isn't."""
     low, text = level.low, ""
-    run = "c.in_ok-fields.ensures.opened _ refl"
+    run, names = "c.in_ok-fields.ensures.opened _ refl", ["c.in_ok-fields.ensures.same_reference"]
     fails = [("fields", "unopened g.W.Sink _ _ _ _ c.args.se.now _ _ _ _ c.in_err-fields.was c.serialize_struct.follows.holds-at-none refl", "")]
     for at in range(len(level.fields)):
         call = numbered("serialize_field", at)
-        fails.append((call, f"rests_at g.W.Sink (search rules)\n    (c.in_err-{call}.ensures.writes c.args.se.now _ _ ({run}))", f"-in_err-{call}"))
-        run = f"c.in_ok-{call}.ensures.writes c.args.se.now _ _ ({run})"
+        left = left_under([f"c.in_err-{call}.ensures.same_reference", *names])
+        fails.append((call, f"rests_at g.W.Sink {left}\n    (c.in_err-{call}.ensures.writes c.args.se.now _ _ ({run}))", f"-in_err-{call}"))
+        run, names = f"c.in_ok-{call}.ensures.writes c.args.se.now _ _ ({run})", [f"c.in_ok-{call}.ensures.same_reference", *names]
     for call, fact, at in fails:
         goal = f"returns-in_err-{call}-clause-writes"
         text += f"""
@@ -192,25 +241,25 @@ pub {goal} : goal.{goal}
     let p = err_from_is_err_and c.from_residual{at}.result c.from_residual{at}.ensures.1 in
     rw (p.1, p.2, {low}_is_own c.args.self.now) (part_memory g.W.Sink ({fact}))
 """
-    return text, run
+    return text, f"rests_at g.W.Sink {left_under(names)} (c.end.ensures.writes c.args.se.now _ ({run}))"
 
 
 def writing_answers(level: Level, place: str) -> str:
     """What is written is the value's data, and is known to be a value."""
     low = level.low
-    text, run = stops(level)
+    text, written = stops(level)
     facts = [known(level, at) for at in range(len(level.fields))]
     fits = facts[0] if len(facts) == 1 else f"({', '.join(facts)})"
     text += f"""
 pub returns-clause-writes : goal.returns-clause-writes
 returns-clause-writes g t c =
-    rw ({low}_is_own c.args.self.now) (part_memory g.W.Sink (rests_at g.W.Sink (search rules) (c.end.ensures.writes c.args.se.now _ ({run}))))
+    rw ({low}_is_own c.args.self.now) (part_memory g.W.Sink ({written}))
 
 pub returns-clause-value : goal.returns-clause-value
 returns-clause-value g t c = ok_holds c.end.result _ ({low}_fits_in c.args.self.now _ refl {fits})
 """
     table = {
-        "std.proofs.Common": "rules refl",
+        "std.proofs.Common": "◌∙◌ refl sym arith",
         "std.proofs.lemmas.Result": "err_from_is_err_and",
         f"{level.crate}.proofs.Recursion": "ok_holds",
         f"{level.crate}.specs.Recursion": "all_by",

@@ -1,8 +1,8 @@
 """The lemmas that derive.py writes for the read of a recursive struct: what its slots hold, and what follows for its fields."""
 from __future__ import annotations
 
+from recursive_fields import absent_of, missing, there
 from recursive_levels import Level, brought_in, is_option, tables
-from recursive_structs import absent_of, missing, own_values, there
 
 
 def slot(at: int, of: str = "s") -> str:
@@ -34,7 +34,7 @@ def held_lines(level: Level) -> str:
         part = level.fields[at][1]
         lines += f"""
 abbrev pub {name}Slot{at} : Msg → {part.term} → Type 0
-{name}Slot{at} m a = {part.reads.format(reads=f'Is{name}', k='m', a='a')}
+{name}Slot{at} m a = {part.reads.format(reads=level.reads, k='m', a='a')}
 
 abbrev pub {name}Held{at} : List (Option Msg) → {slots_type(level, at)} → Type 0
 {name}Held{at} fs s = Slot {name}Slot{at} {name}Held{at + 1} fs s.0 s.1
@@ -44,18 +44,18 @@ abbrev pub {name}Held{at} : List (Option Msg) → {slots_type(level, at)} → Ty
 
 def tree_line(level: Level, at: int) -> str:
     """The tree of a field is one that it is read from."""
-    name, own = level.name, own_values(level)
-    holds = f"({name}Slot{at} m {own}.{level.fields[at][0].name})"
+    name, own, reads = level.name, level.own(), level.reads
+    holds = f"({name}Slot{at} m {level.place(at, own)})"
 
     def term(level_at: int, fs: str, h: str, e: str) -> str:
-        start = f"{there(level, level_at, f'Is{name}', own)} {missing(level, level_at, own)} ({name}From{level_at + 1} Is{name} {own})"
+        start = f"{there(level, level_at, reads, own)} {missing(level, level_at, own)} ({name}From{level_at + 1} {reads} {own})"
         if level_at == at:
             return f"first_tree {start} {fs} m {h} {e}"
         new = f"g{level_at} h{level_at} e{level_at}"
         return f"later_tree {start} {holds} {at - level_at - 1} {fs} m {h} {e} (λ {new}. {term(level_at + 1, *new.split())})"
 
     of = f"{level.low}_tree{at}"
-    return f"\npub {of} : (fs : List (Option Msg)) (v : {name}) (m : Msg) → {name}Fields Is{name} fs v → at {at} fs ≡ Some m → {holds}\n{of} fs v m h e = {term(0, 'fs', 'h', 'e')}\n"
+    return f"\npub {of} : (fs : List (Option Msg)) (v : {level.term}) (m : Msg) → {name}Fields {reads} fs v → at {at} fs ≡ Some m → {holds}\n{of} fs v m h e = {term(0, 'fs', 'h', 'e')}\n"
 
 
 def step_line(level: Level, at: int) -> str:
@@ -97,40 +97,50 @@ def gap_line(level: Level, at: int) -> str:
 
 def lacks_line(level: Level, at: int) -> str:
     """And it has no default."""
-    name, own = level.name, own_values(level)
+    name, own, reads = level.name, level.own(), level.reads
 
     def term(place: int, fs: str, h: str, q: str) -> str:
         start = f"{name}Slot{place} {name}Held{place + 1}"
-        rest = f"({name}From{place + 1} Is{name} {own})"
+        rest = f"({name}From{place + 1} {reads} {own})"
         if place == at:
             held = f"(subst (λ z. {name}Held{at} {fs} (z, {later(place)})) e {h})"
-            return f"slot_lacks {start} None {rest} {later(place)} {own}.{level.fields[at][0].name} {fs} refl {held} {q}"
+            return f"slot_lacks {start} None {rest} {later(place)} {level.place(at, own)} {fs} refl {held} {q}"
         new = f"g{place} h{place} q{place}"
-        where = f"{there(level, place, f'Is{name}', own)} {missing(level, place, own)} {rest}"
+        where = f"{there(level, place, reads, own)} {missing(level, place, own)} {rest}"
         return f"later_lacks {start} {where} {slot(place)} {later(place)} {fs} {h} {q} (λ {new}. {term(place + 1, *new.split())})"
 
     of = f"{level.low}_lacks{at}"
-    facts = f"{slot(at)} ≡ None → (fs : List (Option Msg)) (v : {name}) → {name}Held0 fs s → {name}Fields Is{name} fs v"
+    facts = f"{slot(at)} ≡ None → (fs : List (Option Msg)) (v : {level.term}) → {name}Held0 fs s → {name}Fields {reads} fs v"
     return f"\npub {of} : (s : {slots_type(level)}) → {facts} → ⊥\n{of} s e fs v h q = {term(0, 'fs', 'h', 'q')}\n"
 
 
 def whole_line(level: Level) -> str:
     """Each was read, or has a default."""
-    name, count = level.name, len(level.fields)
-    given = [f"({slot(at)} ≡ Some x.{field.name}) ⊎ (({slot(at)} ≡ None) × ({absent_of(part)} ≡ Some x.{field.name}))" for at, (field, part) in enumerate(level.fields)]
+    name, count, given = level.name, len(level.fields), []
+    for at, (_, part) in enumerate(level.fields):
+        value = level.place(at, "x")
+        given.append(f"({slot(at)} ≡ Some {value}) ⊎ (({slot(at)} ≡ None) × ({absent_of(part)} ≡ Some {value}))")
 
     def term(place: int, fs: str, h: str) -> str:
         if place == count:
             return h
-        field, part = level.fields[place]
-        start = f"{name}Slot{place} {name}Held{place + 1} {absent_of(part)} ({name}From{place + 1} Is{name} x) {slot(place)} {later(place)} x.{field.name}"
+        rest = f"({name}From{place + 1} {level.reads} x)"
+        start = f"{name}Slot{place} {name}Held{place + 1} {absent_of(level.fields[place][1])} {rest} {slot(place)} {later(place)} {level.place(place, 'x')}"
         return f"slot_field {start} {fs} {h} c{place} (λ g{place} h{place}. {term(place + 1, f'g{place}', f'h{place}')})"
 
     of = f"{level.low}_whole"
     facts = "".join(f"\n    → ({fact})" for fact in given)
     names = " ".join(f"c{at}" for at in range(count))
-    whole = f"(fs : List (Option Msg)) → {name}Held0 fs s → {name}From0 Is{name} x fs"
-    return f"\npub {of} : (s : {slots_type(level)}) (x : {name}-F {name}){facts}\n    → {whole}\n{of} s x {names} fs h = {term(0, 'fs', 'h')}\n"
+    whole = f"(fs : List (Option Msg)) → {name}Held0 fs s → {name}From0 {level.reads} x fs"
+    return f"\npub {of} : (s : {slots_type(level)}) (x : {level.opened}){facts}\n    → {whole}\n{of} s x {names} fs h = {term(0, 'fs', 'h')}\n"
+
+
+def fields_proofs(level: Level) -> str:
+    """What was read so far of the fields, and what follows."""
+    text = held_lines(level)
+    for at, (_, part) in enumerate(level.fields):
+        text += tree_line(level, at) + step_line(level, at) + gap_line(level, at) + ("" if is_option(part) else lacks_line(level, at))
+    return text + whole_line(level)
 
 
 def proofs_file(level: Level) -> str:
@@ -141,10 +151,7 @@ pub {low}_no_byte : (v : {name}) → byte_of ({low}_data v) ≡ None
 {low}_no_byte v = ap byte_of ({low}_is v) ∙ structure_no_byte _
 
 -- ---- what was read so far
-{held_lines(level)}"""
-    for at, (_, part) in enumerate(level.fields):
-        text += tree_line(level, at) + step_line(level, at) + gap_line(level, at) + ("" if is_option(part) else lacks_line(level, at))
-    text += whole_line(level)
+{fields_proofs(level)}"""
     return f"-- No {name} is written as a byte, and what is read of its fields. Written by tools/derive.py.\n{brought_in(text, proof_tables(level))}{text}"
 
 

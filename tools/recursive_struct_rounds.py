@@ -2,8 +2,9 @@
 from __future__ import annotations
 
 from derived_terms import chained
-from recursive_levels import ALIKE, Again, Level, file_of, put_in, reading, same_of
-from recursive_structs import missing, own_pairs, own_values, pairs_of, there
+from recursive_levels import Again, Level, file_of, put_in, reading, same_of
+from recursive_fields import missing, there
+from recursive_structs import own_fields, own_pairs
 
 
 def rounds_file(level: Level) -> str:
@@ -35,7 +36,7 @@ def chain(terms: list[str]) -> str:
 
 def back_of(level: Level) -> str:
     """No value is refused; what it lowers to is read as it; and it is never nil."""
-    name, low, own = level.name, level.low, own_values(level)
+    name, low, own = level.name, level.low, level.own()
     some, rows = [], []
     for at, (field, part) in enumerate(level.fields):
         value = value_of(level, at, own)
@@ -79,7 +80,7 @@ def alike(level: Level, at: int, fact: str) -> str:
     part = level.fields[at][1]
     value, other = (value_of(level, at, f"(out-{level.name} {of})") for of in "vw")
     if isinstance(part, Again):
-        return f"({ALIKE[part.word].format(low=level.low, name=level.name, v=value, w=other, e=fact)}) i"
+        return f"({part.alike.format(v=value, w=other, e=fact)}) i"
     return f"(ap (λ n. {part.of_key.format(a='n')}) {fact}) i"
 
 
@@ -93,12 +94,12 @@ def collected(level: Level) -> str:
         term = f"(last_field {start})" if at == count - 1 else f"(field_only {start} _ _ _ {term})"
     places = ["x" + ".1" * at + ".0" * (at < count - 1) for at in range(count)]
     data = [alike(level, at, f"({place})") for at, place in enumerate(places)]
-    return f"(λ fs i j. let x = {term[1:-1]} fs i j in (λ i. structure_of ({pairs_of(level, data)})))"
+    return f"(λ fs i j. let x = {term[1:-1]} fs i j in (λ i. structure_of ({own_fields(level, data)})))"
 
 
 def only_of(level: Level) -> str:
     """Nothing else is read of what a value lowers to."""
-    name, low, own = level.name, level.low, own_values(level)
+    name, low, own = level.name, level.low, level.own()
     holds, rows = [], []
     for at, (field, part) in enumerate(level.fields):
         value = value_of(level, at, own)

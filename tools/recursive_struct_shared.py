@@ -51,6 +51,7 @@ use Rattle.rmp_decode.specs.Fields.{Field, Slot, at}
 use Rattle.rmp_decode.specs.With.{Lends}
 use Rattle.rmp_decode.specs.declared.access.field_access.FieldAccess.{FieldAccess}
 use Rattle.rmp_decode.specs.declared.deserializer.Deserializer.{Deserializer}
+use Rattle.rmp_decode.proofs.StructRuns.{StructRun, MetSo}
 use Rattle.CRATE.proofs.Recursion.{steps_at, at_most, lent_steps}
 
 -- the tree of a field is one that it is read from
@@ -73,6 +74,19 @@ pub later_lacks : {V W : Type 0} (reads : Msg → V → Type 0) (rest : List (Op
 later_lacks reads rest P A X o w [] h q f = h
 later_lacks reads rest P A X o w (None ∷ fs) h q f = f fs h.1 q.1
 later_lacks reads rest P A X o w (Some m ∷ fs) h q f = f fs h.1 q.1
+
+-- a field that has a default isn't missing
+pub not_missing : {V : Type 0} {v : V} → ◌≡◌ {A = Option V} (Some v) None → ⊥
+not_missing e = absurd (cc)
+
+-- ---- the fields that were read so far are over one reference
+pub run_reference : {R C S : Type 0} (g : Ghosts R) (names : List (List ℕ)) (holds : List (Option Msg) → S → Type 0) (start now : FieldAccess R C) (s : S)
+    → StructRun g names holds start now s → now.de.ghost_name ≡ start.de.ghost_name
+run_reference g names holds start now s r = go start.is_map r.so
+  where
+    go : (b : Bool) → MetSo b g names holds start now s → now.de.ghost_name ≡ start.de.ghost_name
+    go true met = met.fields.run.same_reference
+    go false met = met.run.same_reference
 
 -- ---- the room falls
 

@@ -2,56 +2,17 @@
 from __future__ import annotations
 
 from declarations import Field
-from derived_terms import codes
-from recursive_levels import Again, Level, Part, data_from, file_of, inductive, is_option, put_in, wider
-from shared import list_of
-
-
-def absent_of(part: Part) -> str:
-    """The value of a field that isn't there."""
-    return "(Some None)" if is_option(part) else "None"
-
-
-def names_of(level: Level) -> str:
-    return codes(field.key for field, _ in level.fields)
-
-
-def own_values(level: Level) -> str:
-    """The struct's fields, in terms."""
-    return f"(out-{level.name} v)"
-
-
-def there(level: Level, at: int, reads: str, value: str) -> str:
-    """What the field at a place is read from where it is there."""
-    field, part = level.fields[at]
-    return f"(λ k. {part.reads.format(reads=reads, k='k', a=f'{value}.{field.name}')})"
-
-
-def missing(level: Level, at: int, value: str) -> str:
-    """What holds where it isn't."""
-    field, part = level.fields[at]
-    return f"(Absent {absent_of(part)} {value}.{field.name})"
+from recursive_fields import counted_lines, from_lines, names_lines, pairs_of, wider_lines
+from recursive_levels import Again, Level, data_from, file_of, inductive, is_option
 
 
 def shape_of(level: Level) -> str:
     """What it is read from, by steps."""
     name, low = level.name, level.low
-    count = len(level.fields)
-    tails = [f"{name}From{at} reads x fs = Field {there(level, at, 'reads', 'x')} {missing(level, at, 'x')} ({name}From{at + 1} reads x) fs" for at in range(count)]
-    tails.append(f"{name}From{count} reads x fs = NoField fs")
-    kind = f"(Msg → {name} → Type 0) → {name}-F {name} → List (Option Msg) → Type 0"
-    fields = "\n\n".join(f"abbrev pub {name}From{at} : {kind}\n{line}" for at, line in reversed(list(enumerate(tails))))
-    return f"""
-abbrev pub {low}_names : List (List ℕ)
-{low}_names = {names_of(level)}
-
+    return f"""{names_lines(level)}
 -- ---- what it is read from: the fields from each place on
 
-{fields}
-
-abbrev pub {name}Fields : (Msg → {name} → Type 0) → List (Option Msg) → {name} → Type 0
-{name}Fields reads fs v = {name}From0 reads (out-{name} v) fs
-
+{from_lines(level)}
 abbrev pub {name}In : ℕ → Msg → {name} → Type 0
 {name}In zero m v = ⊥
 {name}In (suc n) m v = OfFields {low}_names (λ fs. {name}Fields ({name}In n) fs v) m
@@ -66,9 +27,9 @@ abbrev pub {name}Read : Msg → {name} → Type 0
 """
 
 
-def pairs_of(level: Level, data: list[str]) -> str:
+def own_fields(level: Level, data: list[str]) -> str:
     """The fields with what they are written as."""
-    return list_of([f'(codes "{field.key}", {term})' for (field, _), term in zip(level.fields, data)])
+    return pairs_of([field for field, _ in level.fields], data)
 
 
 def written_of(level: Level) -> str:
@@ -80,7 +41,7 @@ def written_of(level: Level) -> str:
 -- ---- what it is written as: one level, of what its parts are written as
 
 abbrev pub {low}_level : {name}-F (Option Data) → Option Data
-{low}_level v = structure_of ({pairs_of(level, data)})
+{low}_level v = structure_of ({own_fields(level, data)})
 
 abbrev pub {low}_data : {name} → Option Data
 {low}_data = fold-{name} (Option Data) {low}_level
@@ -93,44 +54,6 @@ abbrev pub {low}_layer_fits : (X : Type 0) → (X → {name}) → (X → Type 0)
 abbrev pub {low}_fits : {name} → Type 0
 {low}_fits = rec-{name} (Type 0) {low}_layer_fits
 """
-
-
-def wider_lines(level: Level) -> str:
-    name, low, own = level.name, level.low, own_values(level)
-    count, lines = len(level.fields), ""
-    for at in range(count, -1, -1):
-        head = f"{low}_as{at}"
-        lines += f"""{head} : (P Q : Msg → {name} → Type 0) → ((m : Msg) (v : {name}) → P m v → Q m v) → (v : {name}) (fs : List (Option Msg)) → {name}From{at} P {own} fs → {name}From{at} Q {own} fs
-"""
-        if at == count:
-            lines += f"{head} P Q f v fs h = h\n\n"
-            continue
-        field, part = level.fields[at]
-        step = wider(part, f"{own}.{field.name}", ("P", "Q", "f"))
-        read = f"{there(level, at, 'P', own)} {there(level, at, 'Q', own)} {missing(level, at, own)}"
-        others = f"({name}From{at + 1} P {own}) ({name}From{at + 1} Q {own})"
-        lines += f"{head} P Q f v = field_as {read} {others} {step} ({low}_as{at + 1} P Q f v)\n\n"
-    return lines
-
-
-def counted_lines(level: Level) -> str:
-    name, low, own = level.name, level.low, own_values(level)
-    count, lines = len(level.fields), ""
-    for at in range(count, -1, -1):
-        head = f"{low}_in{at}"
-        lines += f"{head} : (v : {name}) (fs : List (Option Msg)) → {name}From{at} Is{name} {own} fs → (n : ℕ) × {name}From{at} ({name}In n) {own} fs\n"
-        if at == count:
-            lines += f"{head} v fs h = (zero, h)\n\n"
-            continue
-        field, part = level.fields[at]
-        value, by = f"{own}.{field.name}", (f"({name}In i)", f"({name}In (suc i))", f"({low}_up i)")
-        up = f"(λ i. {wider(part, value, by)})"
-        into = f"(λ m h. {put_in(part.counted, dict(a=value))})" if isinstance(part, Again) else "(λ m h. (zero, h))"
-        rest = f"({name}From{at + 1} Is{name} {own}) (λ i. {name}From{at + 1} ({name}In i) {own})"
-        ups = f"(λ i. {low}_as{at + 1} ({name}In i) ({name}In (suc i)) ({low}_up i) v)"
-        here = f"{there(level, at, f'Is{name}', own)} (λ i. {there(level, at, f'({name}In i)', own)})"
-        lines += f"{head} v = field_in {missing(level, at, own)} {here} {rest} {up} {ups} {into} ({low}_in{at + 1} v)\n\n"
-    return lines
 
 
 def steps_of(level: Level) -> str:
@@ -209,12 +132,12 @@ def induction_of(level: Level) -> str:
 
 
 def own_pairs(level: Level, of: str) -> str:
-    return f"({pairs_of(level, [data_from(part, f'{of}.{field.name}') for field, part in level.fields])})"
+    return f"({own_fields(level, [data_from(part, f'{of}.{field.name}') for field, part in level.fields])})"
 
 
 def own_of(level: Level) -> str:
     """What it is written as, by what its parts are."""
-    name, low, own = level.name, level.low, own_values(level)
+    name, low, own = level.name, level.low, level.own()
     mapped = f"map-{name} {name} (Option Data) {low}_data"
     lines, data = "", []
     for field, part in level.fields:
@@ -227,7 +150,7 @@ def own_of(level: Level) -> str:
 {at} y (Some a) = refl
 """
             data[-1] = f"{at} {own} {own}.{field.name} i"
-    is_ = f"{low}_is v ∙ (λ i. structure_of ({pairs_of(level, data)}))" if lines else f"{low}_is v"
+    is_ = f"{low}_is v ∙ (λ i. structure_of ({own_fields(level, data)}))" if lines else f"{low}_is v"
     return f"""{lines}
 -- ---- what it is written as, by what its parts are
 

@@ -6,9 +6,4 @@ pub mod TreeLevels
 pub mod ExprLevels
 pub mod TermLevels
 pub mod LinkLevels
-pub mod RecursionFields
-pub mod NodeLevels
-pub mod CellLevels
-pub mod FolderLevels
-pub mod SampleLevels
 pub mod FormulaLevels

@@ -13,14 +13,5 @@ pub mod TermLevels
 pub mod TermRounds
 pub mod LinkLevels
 pub mod LinkRounds
-pub mod RecursionFields
-pub mod NodeLevels
-pub mod CellLevels
-pub mod NodeRounds
-pub mod CellRounds
-pub mod FolderLevels
-pub mod FolderRounds
-pub mod SampleLevels
-pub mod SampleRounds
 pub mod FormulaLevels
 pub mod FormulaRounds

@@ -1,11 +1,15 @@
 //! What types that lead back to themselves are written as and read from.
 use rmp_decode::{Deserialize, Deserializer, Error, from_slice_strict};
 use rmp_encode::{Serialize, to_vec, to_vec_named};
-use rmp_wire::{ByteBuf, F32Bits, ReadRefReader};
+use rmp_wire::{ByteBuf, F64Bits, ReadRefReader};
 use std::alloc::Global;
+use std::collections::BTreeMap;
 use std::process::Abort;
 use std::test::Fail;
-use test_recursive::{Cell, Expr, Folder, Formula, Link, Nested, Node, Rose, Sample, Tree};
+use test_json::Json;
+use test_named::{Rule, Stack, Step};
+use test_nodes::{Cell, Folder, Node, Page};
+use test_recursive::{Expr, Formula, Link, Nested, Rose, Tree};
 
 const TREE: &[u8] = b"\x81\xa4Node\x92\x81\xa4Leaf\x01\x81\xa4Node\x90";
 
@@ -73,6 +77,55 @@ fn strictly<'de, T: Deserialize<'de, ReadRefReader<'de>>>(
     input: &'de [u8],
 ) -> Result<T, Error> {
     from_slice_strict(alloc, input)
+}
+
+// An object whose keys are in order, and one with the keys in another order, one of them twice.
+const OBJECT: &[u8] =
+    b"\x81\xa6Object\x82\xa1a\x81\xa4List\x92\xa4Null\x81\xa4Bool\xc3\xa1b\x81\xa6Object\x81\xa0\x81\xa6Number\xff";
+
+const UNORDERED: &[u8] =
+    b"\x81\xa6Object\x83\xa1b\xa4Null\xa1a\x81\xa4List\x92\xa4Null\x81\xa4Bool\xc3\xc4\x01b\x81\xa6Object\x81\xa0\x81\xa6Number\xff";
+
+#[test]
+fn objects_written(rt: HostRuntime) -> Result<(), Fail> {
+    let mut inner = BTreeMap::new(rt.alloc());
+    inner.insert(String::new(rt.alloc()), Json::Number(-1))?;
+    let items = vec![in rt.alloc(); Json::Null, Json::Bool(true)]?;
+    let mut entries = BTreeMap::new(rt.alloc());
+    entries.insert(String::from_str(rt.alloc(), "b")?, Json::Object(inner))?;
+    entries.insert(String::from_str(rt.alloc(), "a")?, Json::List(items))?;
+    writes(&rt, rt.alloc(), &Json::Object(entries), false, OBJECT);
+    Ok(())
+}
+
+// The keys may come in any order, and of a key that is there twice the later value stays, as where the library itself reads a map.
+#[test]
+fn objects(rt: HostRuntime) {
+    let empty = b"\x81\xa6Object\x80".as_slice();
+    let wide = b"\xde\x00\x01\x05\xdf\x00\x00\x00\x00".as_slice();
+    for (input, want) in [
+        (OBJECT, OBJECT),
+        (UNORDERED, OBJECT),
+        (empty, empty),
+        (wide, empty),
+    ] {
+        reads::<Json>(&rt, rt.alloc(), 1024, input, false, want);
+    }
+    reads::<Json>(&rt, rt.alloc(), 6, OBJECT, false, OBJECT);
+    refused::<Json>(&rt, rt.alloc(), read(rt.alloc(), 5, OBJECT), TOO_DEEP);
+    assert!(rt; strictly::<Json>(rt.alloc(), OBJECT).is_ok());
+    refused::<Json>(&rt, rt.alloc(), strictly(rt.alloc(), wide), "not canonical");
+    for (input, why) in [
+        (b"\x81\xa6Object\x90".as_slice(), "invalid type"),
+        (b"\x81\xa6Object\x81\x01\xa4Null", "invalid type"),
+        (b"\x81\xa6Object\x81\xa1a\xa6Object", "invalid type"),
+        (b"\x81\xa6Object\x81\xa1a\xa3All", "unknown variant"),
+    ] {
+        refused::<Json>(&rt, rt.alloc(), read(rt.alloc(), 1024, input), why);
+    }
+    for length in 0..OBJECT.len() {
+        assert!(rt; read::<Json>(rt.alloc(), 1024, &OBJECT[..length]).is_err());
+    }
 }
 
 #[test]
@@ -394,35 +447,105 @@ fn folders_refused(rt: HostRuntime) {
     }
 }
 
-const SAMPLE: &[u8] = b"\x94\xc4\x02\x01\xff\xca\x3f\x80\x00\x00\
-    \xc4\x10\xff\xff\xff\xff\xff\xff\xff\xff\xff\xff\xff\xff\xff\xff\xff\xfe\xc0";
+const PAGE: &[u8] = b"\x98\xa1n\xff\xa1k\xc2\xc4\x00\xcb\x80\x00\x00\x00\x00\x00\x00\x00\xc0\x90";
+
+const PAGES: &[u8] =
+    b"\x98\xa4home\xd1\xfe\xd4\xa1d\xc3\xc4\x02\x01\xff\xcb\x3f\xf0\x00\x00\x00\x00\x00\x00\
+    \x98\xa1n\xff\xa1k\xc2\xc4\x00\xcb\x80\x00\x00\x00\x00\x00\x00\x00\xc0\x90\
+    \x91\x98\xa0\xcd\x01\x2c\xa2\xc3\xa9\xc3\xc4\x00\xcb\x00\x00\x00\x00\x00\x00\x00\x01\xc0\x90";
+
+const PAGES_NAMED: &[u8] =
+    b"\x88\xa5title\xa4home\xa6number\xd1\xfe\xd4\xa4kind\xa1d\xa6hidden\xc3\xa5cover\xc4\x02\x01\xff\
+    \xa6weight\xcb\x3f\xf0\x00\x00\x00\x00\x00\x00\xa4next\
+    \x88\xa5title\xa1n\xa6number\xff\xa4kind\xa1k\xa6hidden\xc2\xa5cover\xc4\x00\
+    \xa6weight\xcb\x80\x00\x00\x00\x00\x00\x00\x00\xa4next\xc0\xa5parts\x90\
+    \xa5parts\x91\
+    \x88\xa5title\xa0\xa6number\xcd\x01\x2c\xa4kind\xa2\xc3\xa9\xa6hidden\xc3\xa5cover\xc4\x00\
+    \xa6weight\xcb\x00\x00\x00\x00\x00\x00\x00\x01\xa4next\xc0\xa5parts\x90";
 
 #[test]
-fn samples_written(rt: HostRuntime) -> Result<(), Fail> {
-    let sample = Sample {
-        bytes: ByteBuf::new(vec![in rt.alloc(); 1u8, 255]?),
-        half: F32Bits(0x3f80_0000),
-        wide: -2,
-        before: None,
+fn pages_written(rt: HostRuntime) -> Result<(), Fail> {
+    let next = Page {
+        title: String::from_str(rt.alloc(), "n")?,
+        number: -1,
+        kind: 'k',
+        hidden: false,
+        cover: ByteBuf::new(Vec::new(rt.alloc())),
+        weight: F64Bits(0x8000_0000_0000_0000),
+        next: None,
+        parts: Vec::new(rt.alloc()),
     };
-    writes(&rt, rt.alloc(), &sample, false, SAMPLE);
+    writes(&rt, rt.alloc(), &next, false, PAGE);
+    let Ok(next) = Box::new(rt.alloc(), next) else {
+        return Err(Fail::from("no memory"));
+    };
+    let parts = vec![in rt.alloc();
+        Page {
+            title: String::new(rt.alloc()),
+            number: 300,
+            kind: 'é',
+            hidden: true,
+            cover: ByteBuf::new(Vec::new(rt.alloc())),
+            weight: F64Bits(1),
+            next: None,
+            parts: Vec::new(rt.alloc()),
+        },
+    ]?;
+    let page = Page {
+        title: String::from_str(rt.alloc(), "home")?,
+        number: -300,
+        kind: 'd',
+        hidden: true,
+        cover: ByteBuf::new(vec![in rt.alloc(); 1u8, 255]?),
+        weight: F64Bits(0x3ff0_0000_0000_0000),
+        next: Some(next),
+        parts,
+    };
+    writes(&rt, rt.alloc(), &page, false, PAGES);
+    writes(&rt, rt.alloc(), &page, true, PAGES_NAMED);
     Ok(())
 }
 
 #[test]
-fn samples_read(rt: HostRuntime) -> Result<(), Error> {
-    let without_last = &SAMPLE[..SAMPLE.len() - 1];
-    let three = nested(rt.alloc(), without_last, 3, b"\xc0")?;
-    reads::<Sample>(&rt, rt.alloc(), 4, &three, false, &three);
-    refused::<Sample>(&rt, rt.alloc(), read(rt.alloc(), 2, &three), TOO_DEEP);
-    let short =
-        b"\x83\xa4wide\xc4\x10\xff\xff\xff\xff\xff\xff\xff\xff\xff\xff\xff\xff\xff\xff\xff\xfe\
-        \x01\xca\x3f\x80\x00\x00\xa5bytes\xc4\x02\x01\xff";
-    reads::<Sample>(&rt, rt.alloc(), 2, short, false, SAMPLE);
-    for len in 0..three.len() {
-        assert!(rt; read::<Sample>(rt.alloc(), 4, &three[..len]).is_err());
+fn pages_read(rt: HostRuntime) {
+    for input in [PAGES, PAGES_NAMED] {
+        reads::<Page>(&rt, rt.alloc(), 5, input, false, PAGES);
+        reads::<Page>(&rt, rt.alloc(), 5, input, true, PAGES_NAMED);
+        refused::<Page>(&rt, rt.alloc(), read(rt.alloc(), 4, input), TOO_DEEP);
+        assert!(rt; strictly::<Page>(rt.alloc(), input).is_ok());
+        for len in 0..input.len() {
+            assert!(rt; read::<Page>(rt.alloc(), 1024, &input[..len]).is_err());
+        }
     }
-    Ok(())
+    let turned =
+        b"\x88\xa5parts\x90\x05\xcb\x80\x00\x00\x00\x00\x00\x00\x00\xc4\x05cover\xc5\x00\x00\xa4more\xc0\
+        \xa6hidden\xc2\x02\xd9\x01k\xa5title\xc4\x01n\x01\xd0\xff";
+    reads::<Page>(&rt, rt.alloc(), 3, turned, false, PAGE);
+    refused::<Page>(
+        &rt,
+        rt.alloc(),
+        strictly(rt.alloc(), turned),
+        "not canonical",
+    );
+}
+
+#[test]
+fn pages_refused(rt: HostRuntime) {
+    for (input, why) in [
+        (b"\x81\xa5title\xa1n".as_slice(), "missing field"),
+        (b"\x82\xa4next\xc0\x06\xc0", "duplicate field"),
+        (b"\x82\xa4next\xc0\xa6hidden\x00", "invalid type"),
+        (b"\x81\xa6number\xa1n", "wrong msgpack marker FixStr(1)"),
+        (b"\x81\xa4kind\xa2de", "invalid value"),
+        (b"\x81\xa6weight\xca\x00\x00\x00\x00", "invalid type"),
+        (b"\x81\xa5parts\xc0", "invalid type"),
+        (
+            &PAGE[..PAGE.len() - 1],
+            "IO error while reading marker: unexpected end of file",
+        ),
+    ] {
+        refused::<Page>(&rt, rt.alloc(), read(rt.alloc(), 1024, input), why);
+    }
 }
 
 #[test]
@@ -455,4 +578,171 @@ fn cells(rt: HostRuntime) -> Result<(), Fail> {
         "invalid type",
     );
     Ok(())
+}
+
+const STACK: &[u8] = b"\x81\xa6Pushed\x92\x01\x81\xa6Pushed\x92\xcc\xc8\xa5Empty";
+
+const STACK_NAMED: &[u8] =
+    b"\x81\xa6Pushed\x82\xa3top\x01\xa5below\x81\xa6Pushed\x82\xa3top\xcc\xc8\xa5below\xa5Empty";
+
+#[test]
+fn stacks_written(rt: HostRuntime) -> Result<(), Fail> {
+    let below = Box::new(rt.alloc(), Stack::Empty)?;
+    let below = Box::new(rt.alloc(), Stack::Pushed { top: 200, below })?;
+    let stack = Stack::Pushed { top: 1, below };
+    writes(&rt, rt.alloc(), &stack, false, STACK);
+    writes(&rt, rt.alloc(), &stack, true, STACK_NAMED);
+    Ok(())
+}
+
+#[test]
+fn stacks_read(rt: HostRuntime) {
+    let turned =
+        b"\xde\x00\x01\x01\x83\xa5below\x81\x01\xdc\x00\x02\xcc\xc8\x00\xa4more\x92\x01\x02\x00\x01";
+    for (limit, input) in [(5, STACK), (5, STACK_NAMED), (5, turned.as_slice())] {
+        reads::<Stack>(&rt, rt.alloc(), limit, input, true, STACK_NAMED);
+    }
+    refused::<Stack>(&rt, rt.alloc(), read(rt.alloc(), 3, STACK), TOO_DEEP);
+    refused::<Stack>(
+        &rt,
+        rt.alloc(),
+        strictly(rt.alloc(), turned),
+        "not canonical",
+    );
+    assert!(rt; strictly::<Stack>(rt.alloc(), STACK_NAMED).is_ok());
+    for (input, why) in [
+        (b"\xa6Pushed".as_slice(), "invalid type"),
+        (b"\x81\xa6Pushed\xc0", "invalid type"),
+        (b"\x81\xa6Pushed\x91\x01", "invalid length"),
+        (
+            b"\x81\xa6Pushed\x93\x01\xa5Empty\x02",
+            "array had incorrect length, expected 2",
+        ),
+        (b"\x81\xa6Pushed\xc4\x02\x01\x02", "unknown variant"),
+        (b"\x81\xa6Pushed\x81\xa3top\x01", "missing field"),
+        (
+            b"\x81\xa6Pushed\x82\xa3top\x01\xa3top\x01",
+            "duplicate field",
+        ),
+    ] {
+        refused::<Stack>(&rt, rt.alloc(), read(rt.alloc(), 1024, input), why);
+    }
+}
+
+#[test]
+fn fifty_bytes(rt: HostRuntime) -> Result<(), Error> {
+    let first = b"\x81\xa6Pushed\x92\x07";
+    let deepest = nested(rt.alloc(), first, 50, b"\xa5Empty")?;
+    reads::<Stack>(&rt, rt.alloc(), 101, &deepest, false, &deepest);
+    refused::<Stack>(&rt, rt.alloc(), read(rt.alloc(), 100, &deepest), TOO_DEEP);
+    Ok(())
+}
+
+const COMPARED: &[u8] = b"\x81\xa7Compare\x93\xa1<\x81\xa4Size\xcd\x01\x2c\xa6Always";
+
+const COMPARED_NAMED: &[u8] =
+    b"\x81\xa7Compare\x83\xa2op\xa1<\xa8leftSide\x81\xa4Size\xcd\x01\x2c\xa9rightSide\xa6Always";
+
+const CHOSEN: &[u8] = b"\x81\xa4Cond\x92\xa6Always\x81\xa5Range\x92\xff\xcd\x01\xf4";
+
+const CHOSEN_NAMED: &[u8] =
+    b"\x81\xa4Cond\x82\xa4test\xa6Always\xa9otherwise\x81\xa5Range\x82\xa4from\xff\xa2to\xcd\x01\xf4";
+
+#[test]
+fn rules_written(rt: HostRuntime) -> Result<(), Fail> {
+    let compared = Rule::Compare {
+        op: String::from_str(rt.alloc(), "<")?,
+        left_side: Box::new(rt.alloc(), Rule::Size(300))?,
+        right_side: Box::new(rt.alloc(), Rule::Always)?,
+    };
+    writes(&rt, rt.alloc(), &compared, false, COMPARED);
+    writes(&rt, rt.alloc(), &compared, true, COMPARED_NAMED);
+    let range = Box::new(rt.alloc(), Rule::Range { from: -1, to: 500 })?;
+    let chosen = Rule::Cond {
+        test: Box::new(rt.alloc(), Rule::Always)?,
+        otherwise: Some(range),
+    };
+    writes(&rt, rt.alloc(), &chosen, false, CHOSEN);
+    writes(&rt, rt.alloc(), &chosen, true, CHOSEN_NAMED);
+    Ok(())
+}
+
+#[test]
+fn rules_read(rt: HostRuntime) {
+    let alone = b"\x81\xa4Cond\x92\xa6Always\xc0".as_slice();
+    let alone_named = b"\x81\xa4Cond\x81\xa4test\xa6Always".as_slice();
+    let range = b"\x81\xa5Range\x92\x01\x02".as_slice();
+    for (input, written) in [
+        (COMPARED_NAMED, COMPARED),
+        (CHOSEN_NAMED, CHOSEN),
+        (alone_named, alone),
+        (b"\x81\xa5Range\x82\xa2to\x02\xa4from\x01", range),
+        (b"\x81\xa5Range\xc4\x02\x01\x02", range),
+    ] {
+        reads::<Rule>(&rt, rt.alloc(), 1024, input, false, written);
+        reads::<Rule>(&rt, rt.alloc(), 1024, written, false, written);
+        assert!(rt; strictly::<Rule>(rt.alloc(), written).is_ok());
+        for len in 0..input.len() {
+            assert!(rt; read::<Rule>(rt.alloc(), 1024, &input[..len]).is_err());
+        }
+    }
+    for (input, why) in [
+        (b"\x81\xa4Cond\x91\xa6Always".as_slice(), "invalid length"),
+        (b"\x81\xa5Range\x81\xa2to\x01", "missing field"),
+        (
+            b"\x81\xa7Compare\x83\xa2op\xa0\xa9left_side\xa6Always\xa9rightSide\xa6Always",
+            "missing field",
+        ),
+    ] {
+        refused::<Rule>(&rt, rt.alloc(), read(rt.alloc(), 1024, input), why);
+    }
+}
+
+const CALLED: &[u8] = b"\x81\xa4Call\x92\xa3max\x92\xa4Done\x81\xa3Not\x91\xa4Done";
+
+const CALLED_NAMED: &[u8] =
+    b"\x81\xa4Call\x82\xa4name\xa3max\xa4args\x92\xa4Done\x81\xa3Not\x81\xa4step\xa4Done";
+
+const SHIFTED: &[u8] = b"\x81\xa5Shift\x94\xfe\xa2\xc3\xa9\xc3\xa4Done";
+
+#[test]
+fn steps_written(rt: HostRuntime) -> Result<(), Fail> {
+    let step = Box::new(rt.alloc(), Step::Done)?;
+    let called = Step::Call {
+        name: String::from_str(rt.alloc(), "max")?,
+        args: vec![in rt.alloc(); Step::Done, Step::Not { step }]?,
+    };
+    writes(&rt, rt.alloc(), &called, false, CALLED);
+    writes(&rt, rt.alloc(), &called, true, CALLED_NAMED);
+    let shifted = Step::Shift {
+        by: -2,
+        kind: 'é',
+        flag: true,
+        step: Box::new(rt.alloc(), Step::Done)?,
+    };
+    writes(&rt, rt.alloc(), &shifted, false, SHIFTED);
+    Ok(())
+}
+
+#[test]
+fn steps_read(rt: HostRuntime) {
+    let turned =
+        b"\x81\xa5Shift\x85\xa4step\xa4Done\xa2by\xfe\xa4more\x81\xc0\xc0\xa4kind\xa2\xc3\xa9\xa4flag\xc3";
+    for (input, written) in [(CALLED_NAMED, CALLED), (turned.as_slice(), SHIFTED)] {
+        reads::<Step>(&rt, rt.alloc(), 6, input, false, written);
+        reads::<Step>(&rt, rt.alloc(), 6, written, false, written);
+        refused::<Step>(&rt, rt.alloc(), read(rt.alloc(), 2, written), TOO_DEEP);
+        assert!(rt; strictly::<Step>(rt.alloc(), written).is_ok());
+    }
+    for (input, why) in [
+        (b"\xa3Not".as_slice(), "invalid type"),
+        (b"\x81\xa3Not\xa4Done", "invalid type"),
+        (b"\x81\xa4Call\x92\x01\x90", "invalid type"),
+        (
+            b"\x81\xa5Shift\x83\xa2by\x01\xa4kind\xa1a\xa4step\xa4Done",
+            "missing field",
+        ),
+    ] {
+        refused::<Step>(&rt, rt.alloc(), read(rt.alloc(), 1024, input), why);
+    }
 }

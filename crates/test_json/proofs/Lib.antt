@@ -1,0 +1,3 @@
+pub mod Recursion
+pub mod RecursionMaps
+pub mod JsonLevels

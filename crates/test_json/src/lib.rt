@@ -1,0 +1,6 @@
+//! A type that leads back to itself through lists and maps, as JSON does. It is read as it was written.
+#![tactic(auto)]
+
+mod json;
+
+pub use json::Json;

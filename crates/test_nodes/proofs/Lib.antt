@@ -1,0 +1,6 @@
+pub mod Recursion
+pub mod RecursionFields
+pub mod NodeLevels
+pub mod CellLevels
+pub mod FolderLevels
+pub mod PageLevels

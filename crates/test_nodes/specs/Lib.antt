@@ -1,0 +1,11 @@
+pub mod Recursion
+pub mod RecursionRounds
+pub mod RecursionFields
+pub mod NodeLevels
+pub mod NodeRounds
+pub mod CellLevels
+pub mod CellRounds
+pub mod FolderLevels
+pub mod FolderRounds
+pub mod PageLevels
+pub mod PageRounds
