@@ -37,8 +37,10 @@ INSTEAD_OF_STD = {
     "OsString": "String",
     "PhantomData": "() as a field's type, or none",
 }
-# Names that a ghost item may not have, or that are words of its language.
-WORDS = set("ground assumption data record deriving module package unfoldable abbrev axiom unfold unfolding ruleset mutual infix infixl infixr elim do".split())
+# Names that no field, variant or type may have: a word of declarations, and two that a proof would take for tactics.
+WORDS = {"deriving", "ground", "assumption"}
+# Words of proofs that are names in a declaration.
+QUOTED = set("data record module package open unfoldable abbrev axiom unfold unfolding ruleset mutual infix infixl infixr elim Type coe fcoe tcoe hcom com".split())
 ITEM = re.compile(r"((?:^[ \t]*#\[[^\]]*\]\s*)*)^([ \t]*)(?:pub(?:\([^)]*\))? )?(struct|enum) (\w+)", re.M)
 ALIAS = re.compile(r"^(?:pub(?:\([^)]*\))? )?type (\w+)\s*=\s*([^;]*);", re.M)
 # What the text of a file is made of where a comment may begin: texts, characters, and comments.
@@ -359,6 +361,11 @@ def check_word(what: str, name: str) -> None:
         raise Refused(f"{what} {name} is not ASCII, and such a name is not in the language")
     if name in WORDS or name.startswith("r#"):
         raise Refused(f"{what} {name} is a word of the language: give it another name")
+
+
+def quoted(name: str) -> str:
+    """What a proof calls a field, except behind a dot."""
+    return f"«{name}»" if name in QUOTED else name
 
 
 def check_names(what: str, named: list) -> None:

@@ -12,7 +12,7 @@ import os
 from typing import TYPE_CHECKING, Iterator, Optional
 
 import recursive_code
-from declarations import Declared, Field, Refused, Shape, declared_at
+from declarations import QUOTED, Declared, Field, Refused, Shape, declared_at
 import recursive_answers
 from recursive_holders import leaf_readers, lent, reading, rounds
 import recursive_map_shared as map_shared
@@ -100,8 +100,8 @@ def refusal_of_field(of: Declared, shape: Shape, field: Field) -> Optional[str]:
 
 
 def is_taken(of: Declared) -> bool:
-    """Whether the type's name is one that its files bring in."""
-    return any(of.name in names.split() for home, names in tables(Level(of, "own", "own")).items() if not home.startswith("own"))
+    """Whether the type's name is one that its files bring in, or a word of proofs."""
+    return of.name in QUOTED or any(of.name in names.split() for home, names in tables(Level(of, "own", "own")).items() if not home.startswith("own"))
 
 
 def items(module: Module, wanted: list[Own]) -> list[str]:

@@ -1,6 +1,7 @@
 """The proofs of the code that derive.py writes for a recursive struct."""
 from __future__ import annotations
 
+from declarations import quoted
 from derived_terms import nested, place_of
 from recursive_holder_answers import answer, answers_file, goals_of, held_answers, left_under, loop_measures, measures_file
 from recursive_levels import Again, Content, Level, after_held, brought_in, each, is_option
@@ -138,7 +139,7 @@ def whole_of(level: Level) -> str:
     choices = " ".join(f"{given(at)}.0" for at in range(len(level.fields)))
     if isinstance(level, Content):
         return f"({level.low}_whole {slots(level)} {each(values)} {choices})"
-    name, made = level.name, " ".join(f"{field.name} = {value};" for (field, _), value in zip(level.fields, values))
+    name, made = level.name, " ".join(f"{quoted(field.name)} = {value};" for (field, _), value in zip(level.fields, values))
     return f"(λ fs h. subst (λ z. {name}From0 Is{name} z fs) (sym (out-roll-{name} _)) ({level.low}_whole {slots(level)} (record {{ {made} }}) {choices} fs h))"
 
 

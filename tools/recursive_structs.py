@@ -1,7 +1,7 @@
 """The definitions that derive.py writes for a recursive struct: what its values are read from and written as, level by level."""
 from __future__ import annotations
 
-from declarations import Field
+from declarations import Field, quoted
 from recursive_fields import counted_lines, from_lines, names_lines, pairs_of, wider_lines
 from recursive_levels import Again, Level, data_from, file_of, inductive, is_option
 
@@ -25,6 +25,11 @@ Is{name} m v = InSteps {name}In m v
 abbrev pub {name}Read : Msg → {name} → Type 0
 {name}Read m v = OfFields {low}_names (λ fs. {name}Fields Is{name} fs v) m
 """
+
+
+def with_option(field: Field) -> str:
+    """A level that has the option `o` in this field, and else is `y`."""
+    return f"(record y {{ {quoted(field.name)} = o; }})"
 
 
 def own_fields(level: Level, data: list[str]) -> str:
@@ -96,7 +101,7 @@ def option_lines(level: Level) -> str:
         if not is_option(part):
             continue
         of = field.name
-        made = f"(record y {{ {of} = o; }})"
+        made = with_option(field)
         lines += f"""
 {low}_hold_{of} : {{B : Type 0}} (P : {name} → Type 0) (first : B → {name}) → ((b : B) → P (first b)) → (y : {name}-F B) (o : Option (Box B Global))
     → IfSome (map-{name} B {name} first {made}).{of} (λ b. P b.value)
@@ -145,7 +150,7 @@ def own_of(level: Level) -> str:
         if is_option(part):
             at = f"{low}_at_{field.name}"
             lines += f"""
-{at} : (y : {name}-F {name}) (o : {part.term}) → option_of (λ b. b.value) ({mapped} (record y {{ {field.name} = o; }})).{field.name} ≡ {data_from(part, 'o')}
+{at} : (y : {name}-F {name}) (o : {part.term}) → option_of (λ b. b.value) ({mapped} {with_option(field)}).{field.name} ≡ {data_from(part, 'o')}
 {at} y None = refl
 {at} y (Some a) = refl
 """
