@@ -34,9 +34,16 @@ class Default:
     constant: Optional[str] = None
     # why it is so of the default itself
     proof: str = "refl"
+    # what it is in terms, where it takes no memory
+    term: Optional[str] = dataclasses.field(default=None, repr=False)
 
     def holds(self, value: str) -> str:
         return self.fact.format(v=value)
+
+
+def is_term(made: str, term: str, constant: Optional[str] = None) -> Default:
+    """A default that takes no memory."""
+    return Default(made, f"{{v}} ≡ {term}", constant, term=term)
 
 
 def default_of(kind: str, value: str) -> Default:
@@ -47,15 +54,15 @@ def default_of(kind: str, value: str) -> Default:
     if "'" in kind:
         raise NoDefault(f"{kind} borrows, and has no default")
     if CONSTANT.fullmatch(value):
-        return Default(value, f"{{v}} ≡ {value}", value)
+        return is_term(value, value, value)
     if not value and name in EMPTY:
         return Default(*EMPTY[name], proof="(search rules)")
     if kind in UNSIGNED or kind in SIGNED:
         return number(kind, value or "0")
     if kind == "bool" and value in ("", "false", "true"):
-        return Default(value or "false", f"{{v}} ≡ {value or 'false'}")
+        return is_term(value or "false", value or "false")
     if kind == "char" and re.fullmatch(r"'[ -&(-\[\]-~]'", value):
-        return Default(value, f"{{v}} ≡ {ord(value[1])}")
+        return is_term(value, f"{ord(value[1])}")
     if value:
         raise NoDefault(f"{value} is no default of {kind}: name a constant, as `default = LIMIT`")
     raise NoDefault(f"{kind} has no default of its own: name a constant, as `default = LIMIT`")
@@ -70,4 +77,4 @@ def number(kind: str, value: str) -> Default:
     if not low <= n < high:
         raise NoDefault(f"{value} is no {kind}")
     term = f"{n}" if kind in UNSIGNED else f"pos {n}" if n >= 0 else f"negsuc {-n - 1}"
-    return Default(value, f"{{v}} ≡ {term}")
+    return is_term(value, term)

@@ -1,10 +1,11 @@
 """What derive.py writes for a recursive type.
 
-Such a type has no parameters. An enum's variants hold nothing, or values with names or without: each a leaf, or the type again, in a `Vec`, a
-`Box`, an `Option<Box<_>>` or, without a name, a map. A struct's fields have names, and each is a leaf, or the type again, in a `Vec` or an
-`Option<Box<_>>`. What is known of the type is said level by level, so it gets a file of definitions and laws, specs/TLevels.antt, and one of its
-round trip, specs/TRounds.antt. What such types share are Recursion.antt and RecursionRounds.antt, of fields with names RecursionFields.antt, and
-of maps RecursionMaps.antt and RecursionMapRounds.antt.
+Such a type has no parameters. An enum's variants hold nothing, or values with names or without, and a struct's fields have names. Each value is
+a leaf (recursive_leaves.py), or the type again, in a `Vec`, a `Box`, an `Option<Box<_>>` or a map; in a struct it isn't in a `Box` alone. What is
+known of the type is said level by level, so it gets a file of definitions and laws, specs/TLevels.antt, and one of its round trip,
+specs/TRounds.antt. Each type of the crate that is a leaf has a file, specs/TLeaf.antt. What such types share are Recursion.antt and
+RecursionRounds.antt, of fields with names RecursionFields.antt, of lists and options of leaves RecursionLeaves.antt, and of maps
+RecursionMaps.antt and RecursionMapRounds.antt.
 """
 from __future__ import annotations
 
@@ -20,8 +21,11 @@ import recursive_struct_answers as struct_answers
 import recursive_struct_code as struct_code
 import recursive_struct_shared as struct_shared
 from recursive_enums import levels_file
-from recursive_levels import AGAIN, BOX, LEAVES, MAPS, ORDERS, Level, is_map, tables
+from recursive_leaves import LEAVES, leaf_of
+from recursive_levels import AGAIN, BOX, LIBRARY, MAPS, ORDERS, Level, is_map, tables
+from recursive_own_leaves import leaf_file
 from recursive_rounds import rounds_file
+from recursive_shared import LEAVES as OF_LEAVES
 from recursive_shared import PROOFS, ROUNDS, SPECS
 from recursive_struct_proofs import proofs_file as struct_proofs_file
 from recursive_struct_rounds import rounds_file as struct_rounds_file
@@ -51,7 +55,7 @@ MOST_FIELDS = 8
 
 def levels_of(module: Module, wanted: list[Own]) -> list[Level]:
     """The types that lead back to themselves."""
-    return [Level(own.of, module.name, f"{module.name}.specs.declared.{module.below(own.of.name)}") for own in wanted if own.of.leads_back()]
+    return [Level(own.of, module.name, f"{module.name}.specs.declared.{module.below(own.of.name)}", own.names) for own in wanted if own.of.leads_back()]
 
 
 def check(module: Module, wanted: list[Own]) -> None:
@@ -72,9 +76,11 @@ def refusal(own: Own) -> Optional[str]:
     if of.shape and of.shape.kind != "named":
         return "of such structs only those whose fields have names are derived"
     for shape in of.shapes():
-        why = next(filter(None, (refusal_of_field(of, shape, field) for field in shape.fields)), None)
+        why = next(filter(None, (refusal_of_field(own, shape, field) for field in shape.fields)), None)
         if why:
             return why
+        if of.variants and any(field.default for field in shape.fields) and all(leaf_of(field.kind, own.names) for field in shape.fields):
+            return f"a field of {shape.name} has a default: such a variant has one only if it holds {of.name}"
         if shape.kind == "named" and len(shape.fields) > MOST_FIELDS:
             return f"{'it' if of.shape else shape.name} has more than {MOST_FIELDS} fields: group some in a type of their own"
     maps = [kind for kind in (it.kind.replace("{name}", of.name) for it in MAPS) if any(field.kind == kind for shape in of.shapes() for field in shape.fields)]
@@ -82,21 +88,28 @@ def refusal(own: Own) -> Optional[str]:
         return f"{maps[0]} and {maps[1]} have keys of two kinds: the maps of such a type have keys of one kind"
     if len(of.variants or []) == 1:
         return "it has one variant: write a struct"
-    return "its name is a word of the definitions that are written for it: give it another" if is_taken(of) else None
+    if is_taken(of):
+        return "its name is a word of the definitions that are written for it: give it another"
+    leaves = Level(of, "own", "own", own.names).own_leaves()
+    taken = next((part.kind for part in leaves if any(part.kind in names.split() for names in LIBRARY.values())), None)
+    return taken and f"{taken} is a word of the definitions that are written for it: give that type another name"
 
 
-def refusal_of_field(of: Declared, shape: Shape, field: Field) -> Optional[str]:
+def refusal_of_field(own: Own, shape: Shape, field: Field) -> Optional[str]:
     """Why a type with this field, or with this value of a variant, isn't derived."""
+    of, leaf = own.of, leaf_of(field.kind, own.names)
     what, name = ("struct", field.name) if of.shape else ("variant", f"{field.name} of {shape.name}")
-    if field.default:
-        return f"{name} has a default: a field of such a {what} has none"
-    held = [*LEAVES, *(it.kind.replace("{name}", of.name) for it in AGAIN if it is not BOX or of.variants)]
-    if shape.kind == "named":
-        return None if field.kind in held else f"{name} is a {field.kind}: a field of such a {what} is {', '.join(held[:-1])} or {held[-1]}"
-    if field.kind in [*held, *(it.kind.replace("{name}", of.name) for it in MAPS)]:
+    again = [it.kind.replace("{name}", of.name) for it in AGAIN if it is not BOX or of.variants]
+    if field.default and not (leaf and field.default.term):
+        return f"{name} has a default that takes memory: in such a type it is a number, a character, true, false or a constant"
+    if leaf or field.kind in again or field.kind in (it.kind.replace("{name}", of.name) for it in MAPS):
         return None
+    held = ", ".join([*LEAVES, "an enum without content", "a struct of such fields", "a Vec, an Option or a tuple of these", *again])
     keys = f"{', '.join([*ORDERS][:-1])} or {[*ORDERS][-1]}"
-    return f"{shape.name} holds a {field.kind}: a variant of such a type holds {', '.join(held)} or BTreeMap<K, {of.name}>, where K is {keys}"
+    may = f"{held} or BTreeMap<K, {of.name}>, where K is {keys}"
+    if shape.kind == "named":
+        return f"{name} is a {field.kind}: a field of such a {what} is {may}"
+    return f"{shape.name} holds a {field.kind}: a variant of such a type holds {may}"
 
 
 def is_taken(of: Declared) -> bool:
@@ -123,6 +136,7 @@ def with_words(table: dict[str, str], module: Module, wanted: list[Own]) -> dict
         name, low = level.name, level.low
         rows = " ".join([*(f"{name}Row{shape.name}" for shape, _ in level.rows()), *(f"{of.name}Read" for of in level.contents())])
         more[f"{module.name}.specs.{name}Levels"] = f"Is{name} {low}_data {low}_fits {rows}"
+        more |= {f"{module.name}.specs.{part.kind}Leaf": f"Is{part.kind}" for part in level.own_leaves()}
         more[f"{module.name}.specs.{name}Rounds"] = f"Same{name} {low}_some {low}_round {low}_only {low}_other"
     for of, words in more.items():
         found[of] = f"{found.get(of, '')} {words}"
@@ -141,6 +155,8 @@ def shared_files(module: Module, levels: list[Level]) -> Iterator[tuple[str, str
     texts = [(SPECS, "specs", "Recursion"), (PROOFS, "proofs", "Recursion"), *[(ROUNDS, "specs", "RecursionRounds")] * bool(module.rounds())]
     if any(level.fields or level.contents_again() for level in levels):
         texts += [(struct_shared.SPECS, "specs", "RecursionFields"), (struct_shared.PROOFS, "proofs", "RecursionFields")]
+    if module.rounds() and any(it.same for level in levels for part in level.leaves() for it in part.within()):
+        texts.append((OF_LEAVES, "specs", "RecursionLeaves"))
     if any(is_map(part) for level in levels for part in level.holders()):
         texts += [(map_shared.SPECS, "specs", "RecursionMaps"), (map_shared.PROOFS, "proofs", "RecursionMaps")]
         texts += [(map_shared.ROUNDS, "specs", "RecursionMapRounds")] * bool(module.rounds())
@@ -160,6 +176,8 @@ def files(module: Module, wanted: list[Own]) -> Iterator[tuple[str, ...]]:
     levels = levels_of(module, wanted)
     if levels:
         yield from shared_files(module, levels)
+    for part in dict.fromkeys(it for level in levels for it in level.own_leaves()):
+        yield through(module, leaf_file(part, module.name, bool(module.rounds()))), "specs", f"{part.kind}Leaf.antt"
     below = ("proofs", f"{module.at}derived")
     for part in lent(levels):
         if part.named:

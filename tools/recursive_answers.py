@@ -7,7 +7,8 @@ from typing import Optional
 from declarations import Shape
 from recursive_holder_answers import answer, answers_file, held_answers, left_under, measures_file
 from recursive_holders import values_in
-from recursive_levels import Again, Level, Part, after_held, brought_in, called, has_map, held_in, inside, is_apart, named_in, put_in
+from recursive_leaves import Part, put_in
+from recursive_levels import Again, Level, after_held, brought_in, called, has_map, held_in, inside, is_apart, named_in
 from recursive_struct_answers import fields_measures, struct_answers
 from recursive_struct_proofs import fields_proofs, proof_tables
 from shared import numbered
@@ -148,7 +149,7 @@ class Arm:
 
     def left(self) -> str:
         """That the deserializer is left as the content's reader has it."""
-        return left_under(["k.ensures.same_reference"]) if self.level.contents_again() else "(search rules)"
+        return left_under(["k.ensures.same_reference"])
 
     def rolls(self) -> str:
         """That the value made of it is that level."""
@@ -197,7 +198,7 @@ def variant_answers(arm: Arm) -> str:
           {done}
           {given} {arm.left()}"""
     err = f"""lawful_err _ (λ m v. OfVariant {low}_names ({name}Case Is{name} v) m) _ _ _ _ {low}_variant
-          (variant_err _ _ ({name}Case Is{name}) _ _ _ (search rules) _ {arm.at} _ {back}
+          (variant_err _ _ ({name}Case Is{name}) _ _ _ {arm.left()} _ {arm.at} _ {back}
           {refused})"""
     return (
         (room_answer(arm) if part and not part.is_leaf else "")

@@ -6,7 +6,8 @@ from typing import Optional
 from declarations import Shape
 import recursive_holders
 from recursive_holders import made_of, read_by, values_in
-from recursive_levels import Level, Part, held_in
+from recursive_leaves import Part
+from recursive_levels import Level, held_in
 import recursive_struct_code as struct_code
 from shared import texts, tuple_of
 

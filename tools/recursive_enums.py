@@ -7,8 +7,9 @@ from collections.abc import Iterable
 from declarations import Shape
 from derived_terms import chained
 from recursive_fields import counted_lines, from_lines, names_lines, pairs_of, wider_lines
-from recursive_levels import Again, Content, Level, Part, called, cases, cases_of, data_from, each, file_of, has_map, held_in, inductive, inside, is_apart
-from recursive_levels import is_map, named_in, peano, product, wider
+from recursive_leaves import Part
+from recursive_levels import Again, Content, Level, called, cases, cases_of, data_from, each, file_of, has_map, held_in, inductive, inside
+from recursive_levels import is_apart, is_map, named_in, peano, product, wider
 from shared import bracketed
 
 

@@ -5,13 +5,9 @@ from collections.abc import Iterable
 
 from declarations import Field
 from derived_terms import codes
-from recursive_levels import Again, Level, Part, is_option, put_in, wider
+from recursive_leaves import put_in
+from recursive_levels import Again, Level, wider
 from shared import list_of
-
-
-def absent_of(part: Part) -> str:
-    """The value of a field that isn't there."""
-    return "(Some None)" if is_option(part) else "None"
 
 
 def there(level: Level, at: int, reads: str, value: str) -> str:
@@ -21,7 +17,7 @@ def there(level: Level, at: int, reads: str, value: str) -> str:
 
 def missing(level: Level, at: int, value: str) -> str:
     """What holds where it isn't."""
-    return f"(Absent {absent_of(level.fields[at][1])} {level.place(at, value)})"
+    return f"(Absent {level.fields[at][1].absent} {level.place(at, value)})"
 
 
 def pairs_of(fields: Iterable[Field], data: Iterable[str]) -> str:

@@ -4,7 +4,8 @@ from __future__ import annotations
 from collections.abc import Callable
 
 from recursive_holders import holder
-from recursive_levels import Again, Level, Part, brought_in, is_map, tables
+from recursive_leaves import Part
+from recursive_levels import Again, Level, brought_in, is_map, tables
 from recursive_map_answers import map_answers, map_measures
 from recursive_row_answers import row_answers
 

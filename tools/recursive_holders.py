@@ -7,7 +7,8 @@ from collections.abc import Callable
 from declarations import Shape
 from derived_terms import nested
 from halves import FIELDS
-from recursive_levels import BOX, Again, Content, Level, Part, is_map
+from recursive_leaves import Part
+from recursive_levels import BOX, Again, Content, Level, is_map
 from shared import texts, tuple_of
 
 LAW = "ensures law {{ Lawful R.Source {reads} de.old de.new result }}"

@@ -9,44 +9,10 @@ from typing import Optional
 
 from declarations import Declared, Field, Shape
 from derived_proofs import SIGNED
+from derived_rounds import Own
 from derived_terms import codes, underscored
+from recursive_leaves import LEAVES, Part, Values, leaf_of, put_in
 from shared import tuple_of
-
-
-@dataclasses.dataclass(frozen=True)
-class Part:
-    """What a variant holds: how its values are called in terms, which are templates over the value {a}."""
-
-    # the type, in the language and in terms
-    kind: str
-    term: str
-    # what it is read from, {k}, by what the type is read from, {reads}
-    reads: str
-    # what it is written as, over the data {data} of the type's own values
-    data: str
-    # what is known of it, by what is known of the type's own values, {fits}
-    fits: str
-    # that it is read as it was written, by {fit}, and that nothing else is
-    row: str = ""
-    only: str = ""
-    # by what two values have the same content, and what a value of that content is written as
-    key: str = "{a}"
-    of_key: str = ""
-    # whether only a source that lends reads it
-    is_lent: bool = False
-    # what it is called in the name of the function that reads it
-    word: str = ""
-    # the values of a variant that holds several, or fields with names, of which this is the tuple, and those fields
-    held: tuple[Part, ...] = ()
-    named: Optional[Content] = dataclasses.field(default=None, compare=False)
-
-    @property
-    def is_leaf(self) -> bool:
-        return True
-
-    def call(self) -> str:
-        """The function that reads a leaf."""
-        return f"read_{self.word or self.kind.lower()}"
 
 
 @dataclasses.dataclass(frozen=True)
@@ -66,10 +32,6 @@ class Again(Part):
     # what it is written as, over the type's data, and that this isn't refused
     own: str = ""
     is_some: str = "h"
-    # by what the values x and y have the same content
-    same: str = ""
-    # that what holds {v} and {w} is written alike, where they have the same content, by {e}
-    alike: str = ""
     # the keys of a map of it, and what it is written as, at i between what its mapped values are written as and what its values are
     keys: Optional[Part] = None
     mapped: str = ""
@@ -87,55 +49,6 @@ class Again(Part):
 
         return Again(**{field.name: told(getattr(self, field.name)) for field in dataclasses.fields(self)})
 
-
-def unsigned(bits: int) -> Part:
-    most = 2**bits - 1
-    data = "Some (byte {a})" if bits == 8 else "Some (whole (pos {a}))"
-    row = "byte_row s {a} {fit}" if bits == 8 else f"unsigned_row_{bits} s {{a}} {{fit}}"
-    only = "byte_only s {a}" if bits == 8 else f"unsigned_only s {most} {{a}}"
-    return Part(f"u{bits}", "ℕ", f"IsUnsigned {most} {{k}} {{a}}", data, f"{{a}} < 2 ^ {bits}", row, only, of_key=data)
-
-
-def signed(bits: int) -> Part:
-    ends = f"(negsuc {2 ** (bits - 1) - 1}) (pos {2 ** (bits - 1) - 1})"
-    return Part(
-        f"i{bits}", "ℤ", f"IsSigned {ends} {{k}} {{a}}", "Some (whole {a})", f"FitsSigned w{bits} {{a}}",
-        f"signed_row_{bits} s {{a}} {{fit}}", f"signed_only s {ends} {{a}}", of_key="Some (whole {a})",
-    )
-
-
-def wide(kind: str, term: str, reads: str, word: str, fits: str) -> Part:
-    """A number of 128 bits."""
-    return Part(kind, term, f"{reads} {{k}} {{a}}", f"Some ({word} {{a}})", fits, f"{word}_row s {{a}} {{fit}}", f"{word}_only s {{a}} {{fit}}", of_key=f"Some ({word} {{a}})")
-
-
-def bits(size: int) -> Part:
-    """The bits of a float."""
-    word, kind = f"float{size}", f"F{size}Bits"
-    data = f"Some ({word} {{a}}.0)"
-    return Part(
-        kind, kind, f"{{k}} ≡ msg.{word} {{a}}.0", data, f"{{a}}.0 < 2 ^ {size}", f"{word}_row s {{a}}.0", f"{word}_only s (λ (w : {kind}). w.0) {{a}}.0", "{a}.0",
-        data.replace(".0", ""), is_lent=True,
-    )
-
-
-def content(kind: str, term: str, of: str, reads: str, data: str, fits: str, row: str) -> Part:
-    """A text, or bytes."""
-    value = f"({of} {{a}})"
-    only = f"{row}_only s (λ (w : {term}). {of} w) {value}"
-    return Part(kind, term, f"{reads} {{k}} {value}", f"Some ({data} {value})", fits, f"{row}_row s {value}", only, f"{of} {{a}}", f"Some ({data} {{a}})", is_lent=True)
-
-
-LEAVES = {part.kind: part for part in [
-    *(unsigned(size) for size in (8, 16, 32, 64)), *(signed(size) for size in (8, 16, 32, 64)),
-    dataclasses.replace(unsigned(64), kind="usize", is_lent=True), dataclasses.replace(signed(64), kind="isize", is_lent=True),
-    wide("u128", "ℕ", "IsUnsigned128", "unsigned128", "{a} < 2 ^ 128"), wide("i128", "ℤ", "IsSigned128", "signed128", "FitsSigned w128 {a}"),
-    Part("bool", "Bool", "{k} ≡ msg.truth {a}", "Some (truth {a})", "⊤", "truth_row s {a}", "truth_only s {a}", of_key="Some (truth {a})"),
-    Part("char", "ℕ", "IsChar {k} {a}", "Some (char {a})", "IsScalar {a}", "char_row s {a} {fit}", "char_only s {a} {fit}", of_key="Some (char {a})", is_lent=True),
-    bits(32), bits(64),
-    content("String", "String Global", "string_bytes", "IsRaw", "text", "IsUtf8 (string_bytes {a})", "string"),
-    content("ByteBuf", "ByteBuf", "buffer_bytes", "IsBuffer", "bytes", "⊤", "buffer"),
-]}
 
 LIST = Again(
     "Vec<{name}>", "Vec {name} Global", "Row {reads} {k} {a}.items", "slice_of {a}.items", "AllByRecursion {fits} {a}.items",
@@ -187,6 +100,8 @@ OPTION = Again(
     parts="IfSome {a} (λ b. P b.value)",
     own=f"option_of (λ {BOXED}. {{low}}_data b.value) {{a}}",
     is_some=f"(option_data (λ {BOXED}. {{low}}_data b.value) {{a}} h)",
+    absent="(Some None)",
+    made_absent="Some(None)",
     same=f"AlikeOption (λ {BOXED} c. Same{{name}} b.value c.value) x y",
     alike=f"option_alike (λ {BOXED}. {{low}}_data b.value) {{v}} {{w}} {{e}}",
 )
@@ -203,18 +118,17 @@ class Keys:
 
     def map_of(self, key: Part) -> Again:
         """The type in a map with keys of this order."""
-        data, reads, fits = (f"(λ ({names}). {term})" for names, term in (
-            (f"q : {key.term}", key.data.format(a="q")), (f"j : Msg) (q : {key.term}", key.reads.format(k="j", a="q")), (f"q : {key.term}", key.fits.format(a="q"))))
-        same = f"(λ (q r : {key.term}). {key.key.format(a='q')} ≡ {key.key.format(a='r')})"
+        it = Values(key)
+        data, reads, fits, same = it.data, it.reads, it.fits, it.same
         content, entry = f"(λ (q : {key.term}). {key.key.format(a='q')})", f"(e : {key.term} × {{name}})"
         own = f"mapping_of (in_turn {data} {{low}}_data {{a}}.entries)"
         rows = f"""pairs_row s {data} {{low}}_data {fits} {{name}}Only (Only {reads} {same}) (Only Is{{name}} Same{{name}})
-      (λ q u. {key.only.format(a='q', fit='u')}) (λ w p. p) {{a}}.entries (entries_from {fits} {{low}}_fits {{name}}Only {{a}}.entries h {{fit}}.0)"""
+      {it.only} (λ w p. p) {{a}}.entries (entries_from {fits} {{low}}_fits {{name}}Only {{a}}.entries h {{fit}}.0)"""
         return Again(
             f"BTreeMap<{key.kind}, {{name}}>", f"BTreeMap ({key.term}) {{name}} Global",
-            f"ReadsEntries {self.order} (λ j q. {key.reads.format(k='j', a='q')}) {{reads}} {{a}}.entries {{k}}",
+            f"ReadsEntries {self.order} {it.plain} {{reads}} {{a}}.entries {{k}}",
             f"mapping_of (in_turn {data} (λ x. x) {{a}}.entries)", f"EntriesFit {self.order} {fits} {{fits}} {{a}}.entries",
-            row=f"""map_row s {data} {{low}}_data {fits} {{name}}Back {reads} Is{{name}} (λ q u. {key.row.format(a='q', fit='u')}) (λ w p. p)
+            row=f"""map_row s {data} {{low}}_data {fits} {{name}}Back {reads} Is{{name}} {it.row} (λ w p. p)
       {self.total} {{a}}.entries {{fit}}.1 (entries_from {fits} {{low}}_fits {{name}}Back {{a}}.entries h {{fit}}.0)""",
             only=f"map_only {reads} Is{{name}} {same} Same{{name}} s ({own}) (λ us. us.entries) {self.order} {{a}}.entries\n      ({rows})",
             word=f"{key.kind.lower()}_map",
@@ -247,14 +161,14 @@ AGAIN = (LIST, BOX, OPTION)
 class Level:
     """A type that leads back to itself: its variants with what they hold, or its fields, and the names of what is written for it."""
 
-    def __init__(self, of: Declared, crate: str, declared: str) -> None:
-        self.of, self.crate, self.declared = of, crate, declared
+    def __init__(self, of: Declared, crate: str, declared: str, types: Optional[dict[str, Own]] = None) -> None:
+        self.of, self.crate, self.declared, self.types = of, crate, declared, types or {}
         self.name, self.low = of.name, underscored(of.name)
         # the type that is read, in which function; and in terms the type of its values, and of what has their fields
         self.whole, self.reader = self, f"read_{self.low}"
         self.term, self.opened = self.name, f"{self.name}-F {self.name}"
         self.variants = [(shape, self.content_of(shape)) for shape in of.variants or []]
-        self.fields = [(field, self.part_of(field.kind)) for field in of.shape.fields] if of.shape else []
+        self.fields = [(field, self.held_by(field)) for field in of.shape.fields] if of.shape else []
 
     @property
     def reads(self) -> str:
@@ -279,11 +193,16 @@ class Level:
 
     def part_of(self, kind: str) -> Optional[Part]:
         """What is known of a value of this type, if it is one that such a type may hold."""
-        return LEAVES.get(kind) or next((again for again in (it.of(self) for it in [*AGAIN, *MAPS]) if again.kind == kind), None)
+        return leaf_of(kind, self.types) or next((again for again in (it.of(self) for it in [*AGAIN, *MAPS]) if again.kind == kind), None)
+
+    def held_by(self, field: Field) -> Optional[Part]:
+        """What is known of a field's value, and of its default."""
+        part, default = self.part_of(field.kind), field.default
+        return dataclasses.replace(part, absent=f"(Some ({default.term}))", made_absent=f"Some({default.made})") if part and default else part
 
     def content_of(self, shape: Shape) -> Optional[Part]:
         """What a variant holds: nothing, a value, or the tuple of several."""
-        held = [part for part in (self.part_of(field.kind) for field in shape.fields) if part]
+        held = [part for part in (self.held_by(field) for field in shape.fields) if part]
         if shape.kind == "named":
             return Content(self, shape, held).part()
         return self.row_of(shape, held) if len(held) > 1 else (held or [None])[0]
@@ -325,6 +244,10 @@ class Level:
     def leaves(self) -> list[Part]:
         """What its leaves are, each once."""
         return list(dict.fromkeys(part for part in self.parts() if part.is_leaf))
+
+    def own_leaves(self) -> list[Part]:
+        """The types of the crate among its leaves, each once."""
+        return list(dict.fromkeys(it for part in self.parts() for it in part.within() if it.declared))
 
     def holders(self) -> list[Again]:
         """What it is again in, each once. An option's value is in a box."""
@@ -371,7 +294,7 @@ def brought_in(text: str, table: dict[str, str]) -> str:
     """The lines that bring in the names of the table that a text has."""
     lines = []
     for module, names in table.items():
-        here = [name for name in names.split() if named(text, name)]
+        here = [name for name in dict.fromkeys(names.split()) if named(text, name)]
         if here:
             lines.append(f"use Rattle.{module}.{{{', '.join(here)}}}\n")
     lines += ["use Rattle.rmp_wire.specs.Msg as msg\n"] * ("msg." in text)
@@ -448,13 +371,7 @@ def reading(level: Level, part: Part) -> str:
 
 def same_of(part: Part) -> str:
     """That two values have the same content."""
-    words = part.same if isinstance(part, Again) else f"{part.key.format(a='x')} ≡ {part.key.format(a='y')}"
-    return f"(λ (x y : {part.term}). {words})"
-
-
-def put_in(term: str, words: dict[str, str]) -> str:
-    """The term with these in place of names."""
-    return re.sub(r"(?<![\w.-])(\w+)(?![\w-])", lambda word: words.get(word[0], word[0]), term)
+    return f"(λ (x y : {part.term}). {part.same_as('x', 'y')})"
 
 
 def wider(part: Part, value: str, by: tuple[str, str, str]) -> str:
@@ -548,6 +465,60 @@ pub {low}_is_at : (v : {name}) (x : {name}-F {name}) → out-{name} v ≡ x → 
 # The lemmas that a leaf is read as it was written.
 LEAF_ROWS = "byte_row truth_row float32_row float64_row char_row string_row buffer_row".split()
 LEAF_ROWS += [f"{sign}_row_{bits}" for sign in ("signed", "unsigned") for bits in (8, 16, 32, 64)]
+# And that none is written as nil.
+LEAF_ROWS += dict.fromkeys(part.other.split()[0] for part in LEAVES.values())
+
+
+def has_truth(of: Declared) -> bool:
+    """Whether a default of the type is true or false."""
+    return any(field.default and field.kind == "bool" for shape in of.shapes() for field in shape.fields)
+
+
+# Where the words of the libraries come from.
+LIBRARY = {
+    "std.proofs.Common": "◌≡◌ ◌∙◌ refl sym ap subst ℕ zero suc List [] ◌∷◌ map All Option None Some String Box",
+    "std.specs.Char": "IsScalar",
+    "std.specs.Cmp.Lexicographic": "slice_cmp",
+    "std.specs.Int": "w8 w16 w32 w64 w128",
+    "std.specs.List": "AllByRecursion",
+    "std.specs.Cmp": "bool_cmp_total",
+    "std.specs.Ordering": "nat_cmp bool_cmp",
+    "std.specs.String": "string_cmp string_cmp_total",
+    "std.proofs.lemmas.Cmp": "nat_cmp_total",
+    "std.proofs.lemmas.Map.Lookups": "exact_unsigned exact_bytes",
+    "std.specs.declared.collections.BTreeMap": "BTreeMap",
+    "std.specs.Prelude": "◌≢◌ ◌<◌ ◌^◌ ⊤ codes Vec Bool ℤ pos negsuc FitsSigned IsUtf8 IsSome IfSome string_bytes",
+    "std.specs.declared.alloc.Global": "Global",
+    "rmp_wire.specs.Msg": "Msg nil",
+    "rmp_wire.specs.Types": "buffer_bytes",
+    **{f"rmp_wire.specs.declared.types.{kind}": kind for kind in ("ByteBuf", "F32Bits", "F64Bits")},
+    "rmp_decode.specs.Buffers": "IsBuffer",
+    "rmp_decode.specs.Wide": "IsUnsigned128 IsSigned128",
+    "rmp_decode.specs.Fields": "OfFields Field Absent NoField",
+    "rmp_decode.specs.Law": "Readable",
+    "rmp_decode.specs.Maps": "ReadsEntries",
+    "rmp_decode.specs.Options": "IsOption",
+    "rmp_decode.specs.Read": "IsUnsigned IsSigned IsRaw IsChar",
+    "rmp_decode.specs.Rows": "ReadsEach AndThen NoMore",
+    "rmp_decode.specs.Seq": "OfRow",
+    "rmp_decode.specs.Variants": "OfVariant Case NoCase Bare Content",
+    "rmp_encode.specs.Data": "Data byte whole unsigned128 signed128 truth float32 float64 char text bytes unit_variant",
+    "rmp_encode.specs.Trees": "tree_of tuple_of slice_of option_of mapping_of in_turn newtype_variant_of tuple_variant_of struct_variant_of structure_of",
+    "rmp_encode.specs.declared.settings.Settings": "Settings",
+    "rmp_round_trip.specs.LeafRounds": " ".join(LEAF_ROWS),
+    "rmp_round_trip.specs.MapRounds": "map_row pairs_row",
+    "rmp_round_trip.specs.OnlyFields": "AtPlace AnyContent content_only content_row content_fields variant_both fields_both field_only last_field",
+    "rmp_round_trip.specs.OnlyLeaves": "truth_only byte_only unsigned_only signed_only unsigned128_only signed128_only float32_only float64_only"
+    " char_only string_only buffer_only",
+    "rmp_round_trip.specs.OnlyMaps": "map_only",
+    "rmp_round_trip.specs.OnlyRows": "row_both inside_only item_only last_only list_only option_only lowers_then",
+    "rmp_round_trip.specs.RoundTrip": "Alike AlikeEntries AlikeOption LowersTo Only",
+    "rmp_round_trip.specs.Rounds": "slice_some each_some each_row slice_row slice_other option_some option_row tuple_row tuple_other rows_none rows_cons",
+    "rmp_round_trip.specs.StructRounds": "tuple_all tuple_variant_all struct_variant_all structure_all structure_row structure_other fields_none fields_cons",
+    "rmp_round_trip.specs.VariantRounds": "newtype_variant_some bare_row newtype_variant_row tuple_variant_row struct_variant_row bare_other"
+    " newtype_variant_other tuple_variant_other struct_variant_other",
+    "rmp_round_trip.specs.WideRounds": "unsigned128_row signed128_row",
+}
 
 
 def tables(level: Level) -> dict[str, str]:
@@ -560,49 +531,10 @@ def tables(level: Level) -> dict[str, str]:
     words += [f"{name}Row{shape.name}" for shape, _ in level.rows()]
     words += [f"{low}_at_{shape.name}" for shape, part in level.variants if is_apart(part)]
     return {
-        "std.proofs.Common": "◌≡◌ ◌∙◌ refl sym ap subst ℕ zero suc List [] ◌∷◌ map All Option None Some String Box",
-        "std.specs.Char": "IsScalar",
-        "std.specs.Cmp.Lexicographic": "slice_cmp",
-        "std.specs.Int": "w8 w16 w32 w64 w128",
-        "std.specs.List": "AllByRecursion",
-        "std.specs.Cmp": "bool_cmp_total",
-        "std.specs.Ordering": "nat_cmp bool_cmp",
-        "std.specs.String": "string_cmp string_cmp_total",
-        "std.proofs.lemmas.Cmp": "nat_cmp_total",
-        "std.proofs.lemmas.Map.Lookups": "exact_unsigned exact_bytes",
-        "std.specs.declared.collections.BTreeMap": "BTreeMap",
-        "std.specs.Prelude": "◌≢◌ ◌<◌ ◌^◌ ⊤ codes Vec Bool ℤ pos negsuc FitsSigned IsUtf8 IsSome IfSome string_bytes",
-        "std.specs.declared.alloc.Global": "Global",
-        "rmp_wire.specs.Msg": "Msg nil",
-        "rmp_wire.specs.Types": "buffer_bytes",
-        **{f"rmp_wire.specs.declared.types.{kind}": kind for kind in ("ByteBuf", "F32Bits", "F64Bits")},
-        "rmp_decode.specs.Buffers": "IsBuffer",
-        "rmp_decode.specs.Wide": "IsUnsigned128 IsSigned128",
-        "rmp_decode.specs.Fields": "OfFields Field Absent NoField",
-        "rmp_decode.specs.Law": "Readable",
-        "rmp_decode.specs.Maps": "ReadsEntries",
-        "rmp_decode.specs.Options": "IsOption",
-        "rmp_decode.specs.Read": "IsUnsigned IsSigned IsRaw IsChar",
-        "rmp_decode.specs.Rows": "ReadsEach AndThen NoMore",
-        "rmp_decode.specs.Seq": "OfRow",
-        "rmp_decode.specs.Variants": "OfVariant Case NoCase Bare Content",
-        "rmp_encode.specs.Data": "Data byte whole unsigned128 signed128 truth float32 float64 char text bytes unit_variant",
-        "rmp_encode.specs.Trees": "tree_of slice_of option_of mapping_of in_turn newtype_variant_of tuple_variant_of struct_variant_of structure_of",
-        "rmp_encode.specs.declared.settings.Settings": "Settings",
-        "rmp_round_trip.specs.LeafRounds": " ".join(LEAF_ROWS),
-        "rmp_round_trip.specs.MapRounds": "map_row pairs_row",
-        "rmp_round_trip.specs.OnlyFields": "AtPlace AnyContent content_only content_row content_fields variant_both fields_both field_only last_field",
-        "rmp_round_trip.specs.OnlyLeaves": "truth_only byte_only unsigned_only signed_only unsigned128_only signed128_only float32_only float64_only"
-        " char_only string_only buffer_only",
-        "rmp_round_trip.specs.OnlyMaps": "map_only",
-        "rmp_round_trip.specs.OnlyRows": "inside_only item_only last_only list_only option_only lowers_then",
-        "rmp_round_trip.specs.RoundTrip": "Alike AlikeEntries AlikeOption LowersTo Only",
-        "rmp_round_trip.specs.Rounds": "slice_some each_row slice_row option_row rows_none rows_cons",
-        "rmp_round_trip.specs.StructRounds": "tuple_variant_all struct_variant_all structure_all structure_row structure_other fields_none fields_cons",
-        "rmp_round_trip.specs.VariantRounds": "newtype_variant_some bare_row newtype_variant_row tuple_variant_row struct_variant_row bare_other"
-        " newtype_variant_other tuple_variant_other struct_variant_other",
-        "rmp_round_trip.specs.WideRounds": "unsigned128_row signed128_row",
+        **LIBRARY,
+        "std.proofs.Common": LIBRARY["std.proofs.Common"] + " true false" * has_truth(level.of),
         declared: f"{name} out-{name}",
+        f"{declared.rpartition('.')[0]}.TheConstants": " ".join(sorted(level.of.constants())),
         f"{declared}.TheFolds": f"ind-{name} fold-{name} rec-{name} map-{name} rec-roll-{name} fold_out-{name}",
         f"{declared}.TheOpen": f"{name}-F",
         f"{declared}.TheViews": f"roll-{name} out-roll-{name} roll-out-{name}",
@@ -610,8 +542,11 @@ def tables(level: Level) -> dict[str, str]:
         f"{crate}.specs.RecursionFields": "fields_as fields_in field_as field_in",
         f"{crate}.specs.RecursionMaps": "EntriesFit map_as map_in entries_hold entries_through entries_from turns_mapped",
         f"{crate}.specs.RecursionMapRounds": "mapping_data maps_alike exact_truth",
+        f"{crate}.specs.RecursionLeaves": "maps_alike_by option_alike_by",
         f"{crate}.specs.RecursionRounds": "each_data option_data lowers_as map_alike option_alike",
         f"{crate}.specs.{name}Levels": " ".join([*words, *(f"{low}_{word}" for word in levels)]),
+        **{f"{crate}.specs.{part.kind}Leaf": part.leaf_words() for part in level.own_leaves()},
+        **{part.declared[1]: part.kind for part in level.own_leaves()},
     }
 
 

@@ -7,9 +7,9 @@ from typing import Optional
 from declarations import Field, Shape
 from derived_terms import chained
 from recursive_enums import content_data, row_reads
-from recursive_fields import absent_of, pairs_of
-from recursive_levels import Again, Level, Part, at_value, cases, data_from, each, file_of, held_in, inside, is_apart, named_in, places_of, put_in
-from recursive_levels import reading, same_of
+from recursive_fields import pairs_of
+from recursive_leaves import Part, put_in
+from recursive_levels import Again, Level, at_value, cases, data_from, each, file_of, held_in, inside, is_apart, named_in, places_of, reading, same_of
 from shared import bracketed
 
 
@@ -80,7 +80,7 @@ def back_some(shape: Shape, part: Optional[Part], values: list[str]) -> str:
     """That a variant of these values isn't refused."""
     held = held_in(part)
     data = [data_from(one, value) for one, value in zip(held, values)]
-    facts = [put_in(one.is_some.format(a=value), h) if h else "refl" for one, value, h in zip(held, values, known_parts(part))]
+    facts = [put_in(one.is_some.format(a=value), h) for one, value, h in zip(held, values, known_parts(part))]
     if part is None:
         return "refl"
     terms = terms_of(shape, part, data)
@@ -102,7 +102,7 @@ def back_row(level: Level, at: int, shape: Shape, part: Optional[Part], values: 
     if part.named:
         of = part.named
         reads = [f"(λ k. {one.reads.format(reads=level.reads, k='k', a=value)})" for one, value in zip(held, values)]
-        absent = [f"(Absent {absent_of(one)} {value})" for one, value in zip(held, values)]
+        absent = [f"(Absent {one.absent} {value})" for one, value in zip(held, values)]
         fields = f"{of.low}_names _ (λ fs. {of.said('Fields', level.reads)} fs {whole}) refl"
         return f"struct_variant_row {place} {fields} (λ m p. ({whole}, e, p))\n      ({field_rows(shape.fields, reads, absent, proofs)})"
     reads = [one.reads.format(reads=f"Is{name}", k="m", a=value) for one, value in zip(held, values)]
@@ -184,13 +184,6 @@ module _ (s : Settings) where
 """
 
 
-def alike(part: Part, value: str, other: str, fact: str, fit: str) -> str:
-    """That two values of the same content are written alike."""
-    if isinstance(part, Again):
-        return part.alike.format(v=value, w=other, e=fact, fit=fit)
-    return f"ap (λ n. {part.of_key.format(a='n')}) {fact}"
-
-
 def only_variant(level: Level, at: int, shape: Shape, part: Optional[Part], values: list[str]) -> str:
     """The same of one variant."""
     name, low = level.name, level.low
@@ -228,7 +221,7 @@ def only_value(level: Level, at: int, shape: Shape, part: Part, values: list[str
     of, data = f"(codes \"{shape.key}\")", data_from(part, values[0])
     [(fact, reads, proof)] = only_parts(level, part, values)
     row = f"newtype_variant_row s {level.low}_names {of} {at} refl (AtPlace {at} (Content {reads})) ({data})\n      {reads} (λ m p. (refl, p)) ({proof})"
-    same = alike(part, values[0], "j.0", f"(content_only {fact} {values[0]} j.0 c i j.2)", "fit")
+    same = part.alike_by(values[0], "j.0", f"(content_only {fact} {values[0]} j.0 c i j.2)", "fit")
     return row, f"ap (λ d. newtype_variant_of {of} d) ({same})"
 
 
@@ -264,7 +257,7 @@ def both_fields(facts: list[str], values: list[str], others: list[str]) -> str:
 def alike_data(level: Level, shape: Shape, part: Part, values: list[str], others: list[str]) -> str:
     """That the variant of such values is written alike, by what x says of each."""
     told = zip(part.held, values, others, places_in("x", len(values)), places_of("fit", len(values)))
-    terms = [f"({alike(*it)}) t" for it in told]
+    terms = [f"({one.alike_by(*it)}) t" for one, *it in told]
     data, other = (content_data(shape, [data_from(held, value) for held, value in zip(part.held, them)]) for them in (values, others))
     return f"let same : {data} ≡ {other} = λ t. {content_data(shape, terms)} in same"
 

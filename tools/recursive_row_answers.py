@@ -5,7 +5,8 @@ from collections.abc import Iterable
 
 from recursive_holders import holder
 from recursive_enums import row_reads
-from recursive_levels import Again, Level, Part, after_held, inside
+from recursive_leaves import Part
+from recursive_levels import Again, Level, after_held, inside
 from shared import numbered
 
 # What an element's call is named in goals.

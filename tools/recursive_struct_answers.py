@@ -4,7 +4,8 @@ from __future__ import annotations
 from declarations import quoted
 from derived_terms import nested, place_of
 from recursive_holder_answers import answer, answers_file, goals_of, held_answers, left_under, loop_measures, measures_file
-from recursive_levels import Again, Content, Level, after_held, brought_in, each, is_option
+from recursive_leaves import put_in
+from recursive_levels import Again, Content, Level, after_held, brought_in, each
 from recursive_struct_proofs import slots_of
 from shared import numbered
 
@@ -122,7 +123,7 @@ def missing_answer(level: Level, at: int) -> str:
     before = f"c.{numbered('given_or', at - 1)}.new.self" if at else "c.next_field_by.new.self"
     all_slots = slots(level)
     lacks = f"{level.low}_lacks{at} {all_slots} e.0 fs v h q"
-    if is_option(level.fields[at][1]):
+    if level.fields[at][1].absent != "None":
         lacks = "not_missing (e.2 (ap (λ a. a.is_map) same ∙ d.run.same.is_map ∙ m))"
     left = left_as(level, [f"c.in-Err-{call}.ensures.same_reference", "ap (λ a. a.de.ghost_name) same", "k.same_reference"])
     fact = (f"{read_law(level, 'struct_missing')} c.next_field_by.new.self d _\n          (via c.{call}.new.self.de.now {left}\n          (ap (λ a. a.de.now) e.3 ∙ ap (λ a. a.de.now) same))"
@@ -219,9 +220,9 @@ def known(level: Level, at: int) -> str:
     """What is known of a field from that it was written."""
     field, part = level.fields[at]
     fact = f"c.in_ok-{numbered('serialize_field', at)}.ensures.value"
-    if isinstance(part, Again) and part.word == "list":
-        return f"(all_by _ (out-{level.name} c.args.self.now).{field.name}.items {fact})"
-    return fact
+    if not isinstance(part, Again) or part.known == "h":
+        return fact
+    return f"({put_in(part.known, {'a': f'(out-{level.name} c.args.self.now).{field.name}', 'h': fact})})"
 
 
 def stops(level: Level) -> tuple[str, str]:

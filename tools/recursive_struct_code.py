@@ -3,7 +3,7 @@ from __future__ import annotations
 
 import recursive_holders
 from recursive_holders import read_by
-from recursive_levels import Content, Level, is_option
+from recursive_levels import Content, Level
 from shared import texts, tuple_of
 
 
@@ -30,8 +30,7 @@ def body(level: Level) -> list[str]:
     arms = [line for at in range(len(level.fields)) for line in arm(level, at)]
     lines += ["loop {", "match fields.next_field_by::<P>() {", *arms, "Ok(None) => break,", "Err(e) => return Err(e),", "}", "}"]
     for at, (_, part) in enumerate(level.fields):
-        absent = "Some(None)" if is_option(part) else "None"
-        lines += [f"let value{at} = match fields.given_or(slot{at}, {absent}) {{", "Ok(value) => value,", "Err(e) => return Err(e),", "};"]
+        lines += [f"let value{at} = match fields.given_or(slot{at}, {part.made_absent}) {{", "Ok(value) => value,", "Err(e) => return Err(e),", "};"]
     return [*lines, "match fields.end() {", f"Ok(()) => Ok({value_of(level)}),", "Err(e) => Err(e),", "}"]
 
 

@@ -1,8 +1,8 @@
 """The lemmas that derive.py writes for the read of a recursive struct: what its slots hold, and what follows for its fields."""
 from __future__ import annotations
 
-from recursive_fields import absent_of, missing, there
-from recursive_levels import Level, brought_in, is_option, tables
+from recursive_fields import missing, there
+from recursive_levels import Level, brought_in, tables
 
 
 def slot(at: int, of: str = "s") -> str:
@@ -119,13 +119,13 @@ def whole_line(level: Level) -> str:
     name, count, given = level.name, len(level.fields), []
     for at, (_, part) in enumerate(level.fields):
         value = level.place(at, "x")
-        given.append(f"({slot(at)} ≡ Some {value}) ⊎ (({slot(at)} ≡ None) × ({absent_of(part)} ≡ Some {value}))")
+        given.append(f"({slot(at)} ≡ Some {value}) ⊎ (({slot(at)} ≡ None) × ({part.absent} ≡ Some {value}))")
 
     def term(place: int, fs: str, h: str) -> str:
         if place == count:
             return h
         rest = f"({name}From{place + 1} {level.reads} x)"
-        start = f"{name}Slot{place} {name}Held{place + 1} {absent_of(level.fields[place][1])} {rest} {slot(place)} {later(place)} {level.place(place, 'x')}"
+        start = f"{name}Slot{place} {name}Held{place + 1} {level.fields[place][1].absent} {rest} {slot(place)} {later(place)} {level.place(place, 'x')}"
         return f"slot_field {start} {fs} {h} c{place} (λ g{place} h{place}. {term(place + 1, f'g{place}', f'h{place}')})"
 
     of = f"{level.low}_whole"
@@ -139,7 +139,7 @@ def fields_proofs(level: Level) -> str:
     """What was read so far of the fields, and what follows."""
     text = held_lines(level)
     for at, (_, part) in enumerate(level.fields):
-        text += tree_line(level, at) + step_line(level, at) + gap_line(level, at) + ("" if is_option(part) else lacks_line(level, at))
+        text += tree_line(level, at) + step_line(level, at) + gap_line(level, at) + lacks_line(level, at) * (part.absent == "None")
     return text + whole_line(level)
 
 

@@ -2,7 +2,8 @@
 from __future__ import annotations
 
 from derived_terms import chained
-from recursive_levels import Again, Level, file_of, put_in, reading, same_of
+from recursive_leaves import put_in
+from recursive_levels import Again, Level, file_of, reading, same_of
 from recursive_fields import missing, there
 from recursive_structs import own_fields, own_pairs
 
@@ -41,7 +42,7 @@ def back_of(level: Level) -> str:
     for at, (field, part) in enumerate(level.fields):
         value = value_of(level, at, own)
         words = {"h": held(level, at)} if isinstance(part, Again) else {}
-        some.append(put_in(part.is_some.format(a=value), words) if words else "refl")
+        some.append(put_in(part.is_some.format(a=value), words))
         row = put_in(part.row.format(a=value, fit=fit(level, at)), words)
         rows.append(f'fields_cons s (codes "{field.key}") _ _ _ {there(level, at, f"Is{name}", own)} {missing(level, at, own)} _ ({row})')
     facts = "".join(f"({term}, " for term in some) + "tt" + ")" * len(some)
@@ -79,9 +80,7 @@ def alike(level: Level, at: int, fact: str) -> str:
     """That they are written alike."""
     part = level.fields[at][1]
     value, other = (value_of(level, at, f"(out-{level.name} {of})") for of in "vw")
-    if isinstance(part, Again):
-        return f"({part.alike.format(v=value, w=other, e=fact)}) i"
-    return f"(ap (λ n. {part.of_key.format(a='n')}) {fact}) i"
+    return f"({part.alike_by(value, other, fact, fit(level, at))}) i"
 
 
 def collected(level: Level) -> str:

@@ -3,7 +3,7 @@ from __future__ import annotations
 
 from declarations import Field, quoted
 from recursive_fields import counted_lines, from_lines, names_lines, pairs_of, wider_lines
-from recursive_levels import Again, Level, data_from, file_of, inductive, is_option
+from recursive_levels import Again, Level, called, data_from, file_of, inductive, is_map, is_option
 
 
 def shape_of(level: Level) -> str:
@@ -121,7 +121,7 @@ def induction_of(level: Level) -> str:
     name, low = level.name, level.low
     again = again_of(level)
     kids = " × ".join(f"({part.parts.format(a=f'x.{field.name}')})" for field, part in again)
-    holds = [f"{low}_hold_{field.name} P first h y y.{field.name}" if is_option(part) else f"each_holds P first h y.{field.name}.items" for field, part in again]
+    holds = [f"{low}_hold_{field.name} P first h y y.{field.name}" if is_option(part) else called(part.patterns[0][1], f"y.{field.name}") for field, part in again]
     through = []
     for field, part in level.fields:
         if not isinstance(part, Again):
@@ -129,7 +129,7 @@ def induction_of(level: Level) -> str:
         elif is_option(part):
             through.append(f"({low}_through_{field.name} X at k x x.{field.name} i)")
         else:
-            through.append(f"(through at k x.{field.name}.items i)")
+            through.append(f"({called(part.patterns[0][2], f'x.{field.name}')})")
     hold = holds[0] if len(holds) == 1 else f"({', '.join(holds)})"
     return option_lines(level) + inductive(
         level, f"{name}Parts P x = {kids}\n", f"{low}_parts_hold P first h y = {hold}\n", f"{low}_through X at k x = λ i. {' × '.join(through)}\n"
@@ -155,7 +155,9 @@ def own_of(level: Level) -> str:
 {at} y (Some a) = refl
 """
             data[-1] = f"{at} {own} {own}.{field.name} i"
-    is_ = f"{low}_is v ∙ (λ i. structure_of ({own_fields(level, data)}))" if lines else f"{low}_is v"
+        elif is_map(part):
+            data[-1] = part.mapped.format(a=f"{own}.{field.name}")
+    is_ = f"{low}_is v ∙ (λ i. structure_of ({own_fields(level, data)}))" if lines or any(is_map(part) for _, part in level.fields) else f"{low}_is v"
     return f"""{lines}
 -- ---- what it is written as, by what its parts are
 

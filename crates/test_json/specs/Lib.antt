@@ -4,3 +4,8 @@ pub mod RecursionMaps
 pub mod RecursionMapRounds
 pub mod JsonLevels
 pub mod JsonRounds
+pub mod RecursionFields
+pub mod DirLevels
+pub mod DirRounds
+pub mod MenuLevels
+pub mod MenuRounds

@@ -6,11 +6,15 @@ mod cache;
 #[cfg(test)]
 mod derived;
 #[cfg(test)]
+mod dirs;
+#[cfg(test)]
 mod frames;
 #[cfg(test)]
 mod lines;
 #[cfg(test)]
 mod notes;
+#[cfg(test)]
+mod posts;
 #[cfg(test)]
 mod reads;
 #[cfg(test)]

@@ -23,7 +23,7 @@ const NAMED: &[u8] = b"\x81\xa4kids\x91\x81\xa4kids\x90";
 
 const TOO_DEEP: &str = "depth limit exceeded";
 
-fn read<'de, T: Deserialize<'de, ReadRefReader<'de>>>(
+pub(crate) fn read<'de, T: Deserialize<'de, ReadRefReader<'de>>>(
     alloc: Global,
     limit: usize,
     input: &'de [u8],
@@ -34,7 +34,13 @@ fn read<'de, T: Deserialize<'de, ReadRefReader<'de>>>(
 }
 
 // The value is written as these bytes, with its fields' names or without them.
-fn writes<T: Serialize>(rt: &impl Abort, alloc: Global, value: &T, is_named: bool, want: &[u8]) {
+pub(crate) fn writes<T: Serialize>(
+    rt: &impl Abort,
+    alloc: Global,
+    value: &T,
+    is_named: bool,
+    want: &[u8],
+) {
     let written = if is_named {
         to_vec_named(alloc, value)
     } else {
@@ -47,7 +53,7 @@ fn writes<T: Serialize>(rt: &impl Abort, alloc: Global, value: &T, is_named: boo
 }
 
 // The input is read under a limit, as the value that is written as these bytes.
-fn reads<'de, T: Deserialize<'de, ReadRefReader<'de>> + Serialize + Drop>(
+pub(crate) fn reads<'de, T: Deserialize<'de, ReadRefReader<'de>> + Serialize + Drop>(
     rt: &impl Abort,
     alloc: Global,
     limit: usize,
@@ -62,7 +68,7 @@ fn reads<'de, T: Deserialize<'de, ReadRefReader<'de>> + Serialize + Drop>(
 }
 
 // A read was refused, in these words.
-fn refused<T: Drop>(rt: &impl Abort, alloc: Global, read: Result<T, Error>, why: &str) {
+pub(crate) fn refused<T: Drop>(rt: &impl Abort, alloc: Global, read: Result<T, Error>, why: &str) {
     match read {
         Ok(_) => panic!(rt; "a value, and not: {why}"),
         Err(e) => {
@@ -72,7 +78,24 @@ fn refused<T: Drop>(rt: &impl Abort, alloc: Global, read: Result<T, Error>, why:
     }
 }
 
-fn strictly<'de, T: Deserialize<'de, ReadRefReader<'de>>>(
+// Both forms are read, strictly too, as the value that is written as these bytes, and no beginning of them is.
+pub(crate) fn reads_both<'de, T: Deserialize<'de, ReadRefReader<'de>> + Serialize + Drop>(
+    rt: &impl Abort,
+    alloc: Global,
+    listed: &'de [u8],
+    named: &'de [u8],
+) {
+    for input in [listed, named] {
+        reads::<T>(rt, alloc, 1024, input, false, listed);
+        reads::<T>(rt, alloc, 1024, input, true, named);
+        assert!(rt; strictly::<T>(alloc, input).is_ok());
+        for len in 0..input.len() {
+            assert!(rt; read::<T>(alloc, 1024, &input[..len]).is_err());
+        }
+    }
+}
+
+pub(crate) fn strictly<'de, T: Deserialize<'de, ReadRefReader<'de>>>(
     alloc: Global,
     input: &'de [u8],
 ) -> Result<T, Error> {
@@ -508,14 +531,10 @@ fn pages_written(rt: HostRuntime) -> Result<(), Fail> {
 
 #[test]
 fn pages_read(rt: HostRuntime) {
+    reads_both::<Page>(&rt, rt.alloc(), PAGES, PAGES_NAMED);
     for input in [PAGES, PAGES_NAMED] {
         reads::<Page>(&rt, rt.alloc(), 5, input, false, PAGES);
-        reads::<Page>(&rt, rt.alloc(), 5, input, true, PAGES_NAMED);
         refused::<Page>(&rt, rt.alloc(), read(rt.alloc(), 4, input), TOO_DEEP);
-        assert!(rt; strictly::<Page>(rt.alloc(), input).is_ok());
-        for len in 0..input.len() {
-            assert!(rt; read::<Page>(rt.alloc(), 1024, &input[..len]).is_err());
-        }
     }
     let turned =
         b"\x88\xa5parts\x90\x05\xcb\x80\x00\x00\x00\x00\x00\x00\x00\xc4\x05cover\xc5\x00\x00\xa4more\xc0\

@@ -48,7 +48,7 @@ read_json-returns-in-Ok-unit_variant g t c =
     (record {
       law = variant_done g.R.Source json_names (JsonCase IsJson) IsJson _ _ _ (λ (u : Unit {0}) c. Bare c) 0 _ _ (json_made _)
           (λ k h. (ap out-Json (sym rolls-Null) ∙ out-roll-Json _, h))
-          (c.in-Ok-unit_variant.ensures.ok _ 0 _ (rw k.field-0-0-test at k.ensures.opened)) (search rules);
+          (c.in-Ok-unit_variant.ensures.ok _ 0 _ (rw k.field-0-0-test at k.ensures.opened)) (grind (arith, sym k.ensures.same_reference));
     })
 
 pub read_json-returns-in-Err-unit_variant : goal.read_json-returns-in-Err-unit_variant
@@ -56,7 +56,7 @@ read_json-returns-in-Err-unit_variant g t c =
     let k = c.in-Ok-eq0-default in
     record {
       law = lawful_err _ (λ m v. OfVariant json_names (JsonCase IsJson v) m) _ _ _ _ json_variant
-          (variant_err _ _ (JsonCase IsJson) _ _ _ (search rules) _ 0 _ (λ v k h. h.1)
+          (variant_err _ _ (JsonCase IsJson) _ _ _ (grind (arith, sym k.ensures.same_reference)) _ 0 _ (λ v k h. h.1)
           (c.in-Err-unit_variant.ensures.err _ 0 _ (rw k.field-0-0-test at k.ensures.opened)));
     }
 
@@ -68,7 +68,7 @@ read_json-returns-in-Ok-newtype_variant_with g t c =
           (λ k h. (_, ap out-Json (sym (rolls-Bool _)) ∙ out-roll-Json _, h))
           (given_read g.R.Source _ _ (λ k (a : Bool). k ≡ msg.truth a) json_names 1 _ _ (rw k.field-0-0-test at k.ensures.opened) _ _
           (λ rest gave s. lent_law g.R.Source _ _ (λ k (a : Bool). k ≡ msg.truth a) (λ p q r h. h) _ rest gave s) _
-          c.in-Ok-newtype_variant_with.ensures.bare c.in-Ok-newtype_variant_with.ensures.part refl) (search rules);
+          c.in-Ok-newtype_variant_with.ensures.bare c.in-Ok-newtype_variant_with.ensures.part refl) (grind (arith, sym k.ensures.same_reference));
     })
 
 pub read_json-returns-in-Err-newtype_variant_with : goal.read_json-returns-in-Err-newtype_variant_with
@@ -76,7 +76,7 @@ read_json-returns-in-Err-newtype_variant_with g t c =
     let k = c.in-Ok-eq1-default in
     record {
       law = lawful_err _ (λ m v. OfVariant json_names (JsonCase IsJson v) m) _ _ _ _ json_variant
-          (variant_err _ _ (JsonCase IsJson) _ _ _ (search rules) _ 1 _ (λ v k h. readable _ k h.0 h.2)
+          (variant_err _ _ (JsonCase IsJson) _ _ _ (grind (arith, sym k.ensures.same_reference)) _ 1 _ (λ v k h. readable _ k h.0 h.2)
           (given_refused g.R.Source _ _ (λ k (a : Bool). k ≡ msg.truth a) json_names 1 _ _ (rw k.field-0-0-test at k.ensures.opened) _ _
           (λ rest gave s. lent_law g.R.Source _ _ (λ k (a : Bool). k ≡ msg.truth a) (λ p q r h. h) _ rest gave s) _
           c.in-Err-newtype_variant_with.ensures.bare c.in-Err-newtype_variant_with.ensures.part refl));
@@ -92,7 +92,8 @@ read_json-returns-in-Ok-newtype_variant_with-2 g t c =
           (given_read g.R.Source _ _ (λ k (a : ℤ). IsSigned (negsuc 9223372036854775807) (pos 9223372036854775807) k a) json_names 2 _ _
           (rw k.field-0-0-test at k.ensures.opened) _ _
           (λ rest gave s. lent_law g.R.Source _ _ (λ k (a : ℤ). IsSigned (negsuc 9223372036854775807) (pos 9223372036854775807) k a) (λ p q r h. h) _ rest
-          gave s) _ c.in-Ok-newtype_variant_with-2.ensures.bare c.in-Ok-newtype_variant_with-2.ensures.part refl) (search rules);
+          gave s) _ c.in-Ok-newtype_variant_with-2.ensures.bare c.in-Ok-newtype_variant_with-2.ensures.part refl)
+          (grind (arith, sym k.ensures.same_reference));
     })
 
 pub read_json-returns-in-Err-newtype_variant_with-2 : goal.read_json-returns-in-Err-newtype_variant_with-2
@@ -100,7 +101,7 @@ read_json-returns-in-Err-newtype_variant_with-2 g t c =
     let k = c.in-Ok-eq2-default in
     record {
       law = lawful_err _ (λ m v. OfVariant json_names (JsonCase IsJson v) m) _ _ _ _ json_variant
-          (variant_err _ _ (JsonCase IsJson) _ _ _ (search rules) _ 2 _ (λ v k h. readable _ k h.0 h.2)
+          (variant_err _ _ (JsonCase IsJson) _ _ _ (grind (arith, sym k.ensures.same_reference)) _ 2 _ (λ v k h. readable _ k h.0 h.2)
           (given_refused g.R.Source _ _ (λ k (a : ℤ). IsSigned (negsuc 9223372036854775807) (pos 9223372036854775807) k a) json_names 2 _ _
           (rw k.field-0-0-test at k.ensures.opened) _ _
           (λ rest gave s. lent_law g.R.Source _ _ (λ k (a : ℤ). IsSigned (negsuc 9223372036854775807) (pos 9223372036854775807) k a) (λ p q r h. h) _ rest
@@ -116,7 +117,7 @@ read_json-returns-in-Ok-newtype_variant_with-3 g t c =
           (λ k h. (_, ap out-Json (sym (rolls-Text _)) ∙ out-roll-Json _, h))
           (given_read g.R.Source _ _ (λ k (a : String Global). IsRaw k (string_bytes a)) json_names 3 _ _ (rw k.field-0-0-test at k.ensures.opened) _ _
           (λ rest gave s. lent_law g.R.Source _ _ (λ k (a : String Global). IsRaw k (string_bytes a)) (λ p q r h. h) _ rest gave s) _
-          c.in-Ok-newtype_variant_with-3.ensures.bare c.in-Ok-newtype_variant_with-3.ensures.part refl) (search rules);
+          c.in-Ok-newtype_variant_with-3.ensures.bare c.in-Ok-newtype_variant_with-3.ensures.part refl) (grind (arith, sym k.ensures.same_reference));
     })
 
 pub read_json-returns-in-Err-newtype_variant_with-3 : goal.read_json-returns-in-Err-newtype_variant_with-3
@@ -124,7 +125,7 @@ read_json-returns-in-Err-newtype_variant_with-3 g t c =
     let k = c.in-Ok-eq3-default in
     record {
       law = lawful_err _ (λ m v. OfVariant json_names (JsonCase IsJson v) m) _ _ _ _ json_variant
-          (variant_err _ _ (JsonCase IsJson) _ _ _ (search rules) _ 3 _ (λ v k h. readable _ k h.0 h.2)
+          (variant_err _ _ (JsonCase IsJson) _ _ _ (grind (arith, sym k.ensures.same_reference)) _ 3 _ (λ v k h. readable _ k h.0 h.2)
           (given_refused g.R.Source _ _ (λ k (a : String Global). IsRaw k (string_bytes a)) json_names 3 _ _ (rw k.field-0-0-test at k.ensures.opened) _ _
           (λ rest gave s. lent_law g.R.Source _ _ (λ k (a : String Global). IsRaw k (string_bytes a)) (λ p q r h. h) _ rest gave s) _
           c.in-Err-newtype_variant_with-3.ensures.bare c.in-Err-newtype_variant_with-3.ensures.part refl));
@@ -145,7 +146,7 @@ read_json-returns-in-Ok-newtype_variant_with-4 g t c =
           (λ k h. (_, ap out-Json (sym (rolls-List _)) ∙ out-roll-Json _, h))
           (given_read g.R.Source _ _ (λ k (a : Vec Json Global). Row IsJson k a.items) json_names 4 _ _ (rw k.field-0-0-test at k.ensures.opened) _ _
           (λ rest gave s. lent_law g.R.Source _ _ (λ k (a : Vec Json Global). Row IsJson k a.items) (λ p q r h. h) _ rest gave s) _
-          c.in-Ok-newtype_variant_with-4.ensures.bare c.in-Ok-newtype_variant_with-4.ensures.part refl) (search rules);
+          c.in-Ok-newtype_variant_with-4.ensures.bare c.in-Ok-newtype_variant_with-4.ensures.part refl) (grind (arith, sym k.ensures.same_reference));
     })
 
 pub read_json-returns-in-Err-newtype_variant_with-4 : goal.read_json-returns-in-Err-newtype_variant_with-4
@@ -153,7 +154,7 @@ read_json-returns-in-Err-newtype_variant_with-4 g t c =
     let k = c.in-Ok-eq4-default in
     record {
       law = lawful_err _ (λ m v. OfVariant json_names (JsonCase IsJson v) m) _ _ _ _ json_variant
-          (variant_err _ _ (JsonCase IsJson) _ _ _ (search rules) _ 4 _ (λ v k h. readable _ k h.0 h.2)
+          (variant_err _ _ (JsonCase IsJson) _ _ _ (grind (arith, sym k.ensures.same_reference)) _ 4 _ (λ v k h. readable _ k h.0 h.2)
           (given_refused g.R.Source _ _ (λ k (a : Vec Json Global). Row IsJson k a.items) json_names 4 _ _ (rw k.field-0-0-test at k.ensures.opened) _ _
           (λ rest gave s. lent_law g.R.Source _ _ (λ k (a : Vec Json Global). Row IsJson k a.items) (λ p q r h. h) _ rest gave s) _
           c.in-Err-newtype_variant_with-4.ensures.bare c.in-Err-newtype_variant_with-4.ensures.part refl));
@@ -178,7 +179,7 @@ read_json-returns-in-Ok-newtype_variant_with-5 g t c =
           a.entries k) json_names 5 _ _ (rw at at k.ensures.opened) _ _
           (λ rest gave s. lent_law g.R.Source _ _ (λ k (a : BTreeMap (String Global) Json Global). ReadsEntries string_cmp (λ j q. IsRaw j (string_bytes q))
           IsJson a.entries k) (λ p q r h. h) _ rest gave s) _ c.in-Ok-newtype_variant_with-5.ensures.bare c.in-Ok-newtype_variant_with-5.ensures.part
-          refl) (search rules);
+          refl) (grind (arith, sym k.ensures.same_reference));
     })
 
 pub read_json-returns-in-Err-newtype_variant_with-5 : goal.read_json-returns-in-Err-newtype_variant_with-5
@@ -187,7 +188,7 @@ read_json-returns-in-Err-newtype_variant_with-5 g t c =
     let at : k.field-0-0 ≡ 5 = omega (arith, k.field-0-0-test, k.ensures.below) in
     record {
       law = lawful_err _ (λ m v. OfVariant json_names (JsonCase IsJson v) m) _ _ _ _ json_variant
-          (variant_err _ _ (JsonCase IsJson) _ _ _ (search rules) _ 5 _ (λ v k h. readable _ k h.0 h.2)
+          (variant_err _ _ (JsonCase IsJson) _ _ _ (grind (arith, sym k.ensures.same_reference)) _ 5 _ (λ v k h. readable _ k h.0 h.2)
           (given_refused g.R.Source _ _ (λ k (a : BTreeMap (String Global) Json Global). ReadsEntries string_cmp (λ j q. IsRaw j (string_bytes q)) IsJson
           a.entries k) json_names 5 _ _ (rw at at k.ensures.opened) _ _
           (λ rest gave s. lent_law g.R.Source _ _ (λ k (a : BTreeMap (String Global) Json Global). ReadsEntries string_cmp (λ j q. IsRaw j (string_bytes q))

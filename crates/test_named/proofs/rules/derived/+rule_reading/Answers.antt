@@ -79,7 +79,7 @@ read_rule-returns-in-Err-unit_variant g t c =
     let k = c.in-Ok-eq0-default in
     record {
       law = lawful_err _ (λ m v. OfVariant rule_names (RuleCase IsRule v) m) _ _ _ _ rule_variant
-          (variant_err _ _ (RuleCase IsRule) _ _ _ (search rules) _ 0 _ (λ v k h. h.1)
+          (variant_err _ _ (RuleCase IsRule) _ _ _ (grind (arith, sym k.ensures.same_reference)) _ 0 _ (λ v k h. h.1)
           (c.in-Err-unit_variant.ensures.err _ 0 _ (rw k.field-0-0-test at k.ensures.opened)));
     }
 
@@ -100,7 +100,7 @@ read_rule-returns-in-Err-newtype_variant_with g t c =
     let k = c.in-Ok-eq1-default in
     record {
       law = lawful_err _ (λ m v. OfVariant rule_names (RuleCase IsRule v) m) _ _ _ _ rule_variant
-          (variant_err _ _ (RuleCase IsRule) _ _ _ (search rules) _ 1 _ (λ v k h. readable _ k h.0 h.2)
+          (variant_err _ _ (RuleCase IsRule) _ _ _ (grind (arith, sym k.ensures.same_reference)) _ 1 _ (λ v k h. readable _ k h.0 h.2)
           (given_refused g.R.Source _ _ (λ k (a : ℕ). IsUnsigned 18446744073709551615 k a) rule_names 1 _ _ (rw k.field-0-0-test at k.ensures.opened) _ _
           (λ rest gave s. lent_law g.R.Source _ _ (λ k (a : ℕ). IsUnsigned 18446744073709551615 k a) (λ p q r h. h) _ rest gave s) _
           c.in-Err-newtype_variant_with.ensures.bare c.in-Err-newtype_variant_with.ensures.part refl));
@@ -131,7 +131,7 @@ read_rule-returns-in-Err-newtype_variant_with-2 g t c =
     let k = c.in-Ok-eq2-default in
     record {
       law = lawful_err _ (λ m v. OfVariant rule_names (RuleCase IsRule v) m) _ _ _ _ rule_variant
-          (variant_err _ _ (RuleCase IsRule) _ _ _ (search rules) _ 2 _ (λ v k h. readable _ k h.0 h.2)
+          (variant_err _ _ (RuleCase IsRule) _ _ _ (grind (arith, sym k.ensures.same_reference)) _ 2 _ (λ v k h. readable _ k h.0 h.2)
           (given_refused g.R.Source _ _ (λ k (a : String Global × Box Rule Global × Box Rule Global). RuleCompareRead IsRule k a) rule_names 2 _ _
           (rw k.field-0-0-test at k.ensures.opened) _ _
           (λ rest gave s. lent_law g.R.Source _ _ (λ k (a : String Global × Box Rule Global × Box Rule Global). RuleCompareRead IsRule k a) (λ p q r h. h) _
@@ -163,7 +163,7 @@ read_rule-returns-in-Err-newtype_variant_with-3 g t c =
     let k = c.in-Ok-eq3-default in
     record {
       law = lawful_err _ (λ m v. OfVariant rule_names (RuleCase IsRule v) m) _ _ _ _ rule_variant
-          (variant_err _ _ (RuleCase IsRule) _ _ _ (search rules) _ 3 _ (λ v k h. readable _ k h.0 h.2)
+          (variant_err _ _ (RuleCase IsRule) _ _ _ (grind (arith, sym k.ensures.same_reference)) _ 3 _ (λ v k h. readable _ k h.0 h.2)
           (given_refused g.R.Source _ _ (λ k (a : Box Rule Global × Option (Box Rule Global)). RuleCondRead IsRule k a) rule_names 3 _ _
           (rw k.field-0-0-test at k.ensures.opened) _ _
           (λ rest gave s. lent_law g.R.Source _ _ (λ k (a : Box Rule Global × Option (Box Rule Global)). RuleCondRead IsRule k a) (λ p q r h. h) _ rest gave
@@ -188,7 +188,7 @@ read_rule-returns-in-Err-newtype_variant_with-4 g t c =
     let at : k.field-0-0 ≡ 4 = omega (arith, k.field-0-0-test, k.ensures.below) in
     record {
       law = lawful_err _ (λ m v. OfVariant rule_names (RuleCase IsRule v) m) _ _ _ _ rule_variant
-          (variant_err _ _ (RuleCase IsRule) _ _ _ (search rules) _ 4 _ (λ v k h. readable _ k h.0 h.2)
+          (variant_err _ _ (RuleCase IsRule) _ _ _ (grind (arith, sym k.ensures.same_reference)) _ 4 _ (λ v k h. readable _ k h.0 h.2)
           (given_refused g.R.Source _ _ (λ k (a : ℤ × ℤ). RuleRangeRead k a) rule_names 4 _ _ (rw at at k.ensures.opened) _ _
           (λ rest gave s. lent_law g.R.Source _ _ (λ k (a : ℤ × ℤ). RuleRangeRead k a) (λ p q r h. h) _ rest gave s) _
           c.in-Err-newtype_variant_with-4.ensures.bare c.in-Err-newtype_variant_with-4.ensures.part refl));

@@ -46,7 +46,7 @@ read_stack-returns-in-Err-unit_variant g t c =
     let k = c.in-Ok-eq0-default in
     record {
       law = lawful_err _ (λ m v. OfVariant stack_names (StackCase IsStack v) m) _ _ _ _ stack_variant
-          (variant_err _ _ (StackCase IsStack) _ _ _ (search rules) _ 0 _ (λ v k h. h.1)
+          (variant_err _ _ (StackCase IsStack) _ _ _ (grind (arith, sym k.ensures.same_reference)) _ 0 _ (λ v k h. h.1)
           (c.in-Err-unit_variant.ensures.err _ 0 _ (rw k.field-0-0-test at k.ensures.opened)));
     }
 
@@ -75,7 +75,7 @@ read_stack-returns-in-Err-newtype_variant_with g t c =
     let at : k.field-0-0 ≡ 1 = omega (arith, k.field-0-0-test, k.ensures.below) in
     record {
       law = lawful_err _ (λ m v. OfVariant stack_names (StackCase IsStack v) m) _ _ _ _ stack_variant
-          (variant_err _ _ (StackCase IsStack) _ _ _ (search rules) _ 1 _ (λ v k h. readable _ k h.0 h.2)
+          (variant_err _ _ (StackCase IsStack) _ _ _ (grind (arith, sym k.ensures.same_reference)) _ 1 _ (λ v k h. readable _ k h.0 h.2)
           (given_refused g.R.Source _ _ (λ k (a : ℕ × Box Stack Global). StackPushedRead IsStack k a) stack_names 1 _ _ (rw at at k.ensures.opened) _ _
           (λ rest gave s. lent_law g.R.Source _ _ (λ k (a : ℕ × Box Stack Global). StackPushedRead IsStack k a) (λ p q r h. h) _ rest gave s) _
           c.in-Err-newtype_variant_with.ensures.bare c.in-Err-newtype_variant_with.ensures.part refl));

@@ -112,7 +112,7 @@ read_step-returns-in-Err-unit_variant g t c =
     let k = c.in-Ok-eq0-default in
     record {
       law = lawful_err _ (λ m v. OfVariant step_names (StepCase IsStep v) m) _ _ _ _ step_variant
-          (variant_err _ _ (StepCase IsStep) _ _ _ (search rules) _ 0 _ (λ v k h. h.1)
+          (variant_err _ _ (StepCase IsStep) _ _ _ (grind (arith, sym k.ensures.same_reference)) _ 0 _ (λ v k h. h.1)
           (c.in-Err-unit_variant.ensures.err _ 0 _ (rw k.field-0-0-test at k.ensures.opened)));
     }
 
@@ -140,7 +140,7 @@ read_step-returns-in-Err-newtype_variant_with g t c =
     let k = c.in-Ok-eq1-default in
     record {
       law = lawful_err _ (λ m v. OfVariant step_names (StepCase IsStep v) m) _ _ _ _ step_variant
-          (variant_err _ _ (StepCase IsStep) _ _ _ (search rules) _ 1 _ (λ v k h. readable _ k h.0 h.2)
+          (variant_err _ _ (StepCase IsStep) _ _ _ (grind (arith, sym k.ensures.same_reference)) _ 1 _ (λ v k h. readable _ k h.0 h.2)
           (given_refused g.R.Source _ _ (λ k (a : String Global × Vec Step Global). StepCallRead IsStep k a) step_names 1 _ _
           (rw k.field-0-0-test at k.ensures.opened) _ _
           (λ rest gave s. lent_law g.R.Source _ _ (λ k (a : String Global × Vec Step Global). StepCallRead IsStep k a) (λ p q r h. h) _ rest gave s) _
@@ -171,7 +171,7 @@ read_step-returns-in-Err-newtype_variant_with-2 g t c =
     let k = c.in-Ok-eq2-default in
     record {
       law = lawful_err _ (λ m v. OfVariant step_names (StepCase IsStep v) m) _ _ _ _ step_variant
-          (variant_err _ _ (StepCase IsStep) _ _ _ (search rules) _ 2 _ (λ v k h. readable _ k h.0 h.2)
+          (variant_err _ _ (StepCase IsStep) _ _ _ (grind (arith, sym k.ensures.same_reference)) _ 2 _ (λ v k h. readable _ k h.0 h.2)
           (given_refused g.R.Source _ _ (λ k (a : ℤ × ℕ × Bool × Box Step Global). StepShiftRead IsStep k a) step_names 2 _ _
           (rw k.field-0-0-test at k.ensures.opened) _ _
           (λ rest gave s. lent_law g.R.Source _ _ (λ k (a : ℤ × ℕ × Bool × Box Step Global). StepShiftRead IsStep k a) (λ p q r h. h) _ rest gave s) _
@@ -203,7 +203,7 @@ read_step-returns-in-Err-newtype_variant_with-3 g t c =
     let at : k.field-0-0 ≡ 3 = omega (arith, k.field-0-0-test, k.ensures.below) in
     record {
       law = lawful_err _ (λ m v. OfVariant step_names (StepCase IsStep v) m) _ _ _ _ step_variant
-          (variant_err _ _ (StepCase IsStep) _ _ _ (search rules) _ 3 _ (λ v k h. readable _ k h.0 h.2)
+          (variant_err _ _ (StepCase IsStep) _ _ _ (grind (arith, sym k.ensures.same_reference)) _ 3 _ (λ v k h. readable _ k h.0 h.2)
           (given_refused g.R.Source _ _ (λ k (a : Box Step Global). StepNotRead IsStep k a) step_names 3 _ _ (rw at at k.ensures.opened) _ _
           (λ rest gave s. lent_law g.R.Source _ _ (λ k (a : Box Step Global). StepNotRead IsStep k a) (λ p q r h. h) _ rest gave s) _
           c.in-Err-newtype_variant_with-3.ensures.bare c.in-Err-newtype_variant_with-3.ensures.part refl));

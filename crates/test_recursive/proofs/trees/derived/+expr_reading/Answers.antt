@@ -41,7 +41,7 @@ read_expr-returns-in-Ok-unit_variant g t c =
     (record {
       law = variant_done g.R.Source expr_names (ExprCase IsExpr) IsExpr _ _ _ (λ (u : Unit {0}) c. Bare c) 0 _ _ (expr_made _)
           (λ k h. (ap out-Expr (sym rolls-Nothing) ∙ out-roll-Expr _, h))
-          (c.in-Ok-unit_variant.ensures.ok _ 0 _ (rw k.field-0-0-test at k.ensures.opened)) (search rules);
+          (c.in-Ok-unit_variant.ensures.ok _ 0 _ (rw k.field-0-0-test at k.ensures.opened)) (grind (arith, sym k.ensures.same_reference));
     })
 
 pub read_expr-returns-in-Err-unit_variant : goal.read_expr-returns-in-Err-unit_variant
@@ -49,7 +49,7 @@ read_expr-returns-in-Err-unit_variant g t c =
     let k = c.in-Ok-eq0-default in
     record {
       law = lawful_err _ (λ m v. OfVariant expr_names (ExprCase IsExpr v) m) _ _ _ _ expr_variant
-          (variant_err _ _ (ExprCase IsExpr) _ _ _ (search rules) _ 0 _ (λ v k h. h.1)
+          (variant_err _ _ (ExprCase IsExpr) _ _ _ (grind (arith, sym k.ensures.same_reference)) _ 0 _ (λ v k h. h.1)
           (c.in-Err-unit_variant.ensures.err _ 0 _ (rw k.field-0-0-test at k.ensures.opened)));
     }
 
@@ -63,7 +63,8 @@ read_expr-returns-in-Ok-newtype_variant_with g t c =
           (given_read g.R.Source _ _ (λ k (a : ℤ). IsSigned (negsuc 9223372036854775807) (pos 9223372036854775807) k a) expr_names 1 _ _
           (rw k.field-0-0-test at k.ensures.opened) _ _
           (λ rest gave s. lent_law g.R.Source _ _ (λ k (a : ℤ). IsSigned (negsuc 9223372036854775807) (pos 9223372036854775807) k a) (λ p q r h. h) _ rest
-          gave s) _ c.in-Ok-newtype_variant_with.ensures.bare c.in-Ok-newtype_variant_with.ensures.part refl) (search rules);
+          gave s) _ c.in-Ok-newtype_variant_with.ensures.bare c.in-Ok-newtype_variant_with.ensures.part refl)
+          (grind (arith, sym k.ensures.same_reference));
     })
 
 pub read_expr-returns-in-Err-newtype_variant_with : goal.read_expr-returns-in-Err-newtype_variant_with
@@ -71,7 +72,7 @@ read_expr-returns-in-Err-newtype_variant_with g t c =
     let k = c.in-Ok-eq1-default in
     record {
       law = lawful_err _ (λ m v. OfVariant expr_names (ExprCase IsExpr v) m) _ _ _ _ expr_variant
-          (variant_err _ _ (ExprCase IsExpr) _ _ _ (search rules) _ 1 _ (λ v k h. readable _ k h.0 h.2)
+          (variant_err _ _ (ExprCase IsExpr) _ _ _ (grind (arith, sym k.ensures.same_reference)) _ 1 _ (λ v k h. readable _ k h.0 h.2)
           (given_refused g.R.Source _ _ (λ k (a : ℤ). IsSigned (negsuc 9223372036854775807) (pos 9223372036854775807) k a) expr_names 1 _ _
           (rw k.field-0-0-test at k.ensures.opened) _ _
           (λ rest gave s. lent_law g.R.Source _ _ (λ k (a : ℤ). IsSigned (negsuc 9223372036854775807) (pos 9223372036854775807) k a) (λ p q r h. h) _ rest
@@ -87,7 +88,7 @@ read_expr-returns-in-Ok-newtype_variant_with-2 g t c =
           (λ k h. (_, ap out-Expr (sym (rolls-Name _)) ∙ out-roll-Expr _, h))
           (given_read g.R.Source _ _ (λ k (a : String Global). IsRaw k (string_bytes a)) expr_names 2 _ _ (rw k.field-0-0-test at k.ensures.opened) _ _
           (λ rest gave s. lent_law g.R.Source _ _ (λ k (a : String Global). IsRaw k (string_bytes a)) (λ p q r h. h) _ rest gave s) _
-          c.in-Ok-newtype_variant_with-2.ensures.bare c.in-Ok-newtype_variant_with-2.ensures.part refl) (search rules);
+          c.in-Ok-newtype_variant_with-2.ensures.bare c.in-Ok-newtype_variant_with-2.ensures.part refl) (grind (arith, sym k.ensures.same_reference));
     })
 
 pub read_expr-returns-in-Err-newtype_variant_with-2 : goal.read_expr-returns-in-Err-newtype_variant_with-2
@@ -95,7 +96,7 @@ read_expr-returns-in-Err-newtype_variant_with-2 g t c =
     let k = c.in-Ok-eq2-default in
     record {
       law = lawful_err _ (λ m v. OfVariant expr_names (ExprCase IsExpr v) m) _ _ _ _ expr_variant
-          (variant_err _ _ (ExprCase IsExpr) _ _ _ (search rules) _ 2 _ (λ v k h. readable _ k h.0 h.2)
+          (variant_err _ _ (ExprCase IsExpr) _ _ _ (grind (arith, sym k.ensures.same_reference)) _ 2 _ (λ v k h. readable _ k h.0 h.2)
           (given_refused g.R.Source _ _ (λ k (a : String Global). IsRaw k (string_bytes a)) expr_names 2 _ _ (rw k.field-0-0-test at k.ensures.opened) _ _
           (λ rest gave s. lent_law g.R.Source _ _ (λ k (a : String Global). IsRaw k (string_bytes a)) (λ p q r h. h) _ rest gave s) _
           c.in-Err-newtype_variant_with-2.ensures.bare c.in-Err-newtype_variant_with-2.ensures.part refl));
@@ -109,7 +110,7 @@ read_expr-returns-in-Ok-newtype_variant_with-3 g t c =
           (λ k h. (_, ap out-Expr (sym (rolls-Truth _)) ∙ out-roll-Expr _, h))
           (given_read g.R.Source _ _ (λ k (a : Bool). k ≡ msg.truth a) expr_names 3 _ _ (rw k.field-0-0-test at k.ensures.opened) _ _
           (λ rest gave s. lent_law g.R.Source _ _ (λ k (a : Bool). k ≡ msg.truth a) (λ p q r h. h) _ rest gave s) _
-          c.in-Ok-newtype_variant_with-3.ensures.bare c.in-Ok-newtype_variant_with-3.ensures.part refl) (search rules);
+          c.in-Ok-newtype_variant_with-3.ensures.bare c.in-Ok-newtype_variant_with-3.ensures.part refl) (grind (arith, sym k.ensures.same_reference));
     })
 
 pub read_expr-returns-in-Err-newtype_variant_with-3 : goal.read_expr-returns-in-Err-newtype_variant_with-3
@@ -117,7 +118,7 @@ read_expr-returns-in-Err-newtype_variant_with-3 g t c =
     let k = c.in-Ok-eq3-default in
     record {
       law = lawful_err _ (λ m v. OfVariant expr_names (ExprCase IsExpr v) m) _ _ _ _ expr_variant
-          (variant_err _ _ (ExprCase IsExpr) _ _ _ (search rules) _ 3 _ (λ v k h. readable _ k h.0 h.2)
+          (variant_err _ _ (ExprCase IsExpr) _ _ _ (grind (arith, sym k.ensures.same_reference)) _ 3 _ (λ v k h. readable _ k h.0 h.2)
           (given_refused g.R.Source _ _ (λ k (a : Bool). k ≡ msg.truth a) expr_names 3 _ _ (rw k.field-0-0-test at k.ensures.opened) _ _
           (λ rest gave s. lent_law g.R.Source _ _ (λ k (a : Bool). k ≡ msg.truth a) (λ p q r h. h) _ rest gave s) _
           c.in-Err-newtype_variant_with-3.ensures.bare c.in-Err-newtype_variant_with-3.ensures.part refl));
@@ -137,7 +138,7 @@ read_expr-returns-in-Ok-newtype_variant_with-4 g t c =
           (λ k h. (_, ap out-Expr (sym (rolls-Not _)) ∙ out-roll-Expr _, h))
           (given_read g.R.Source _ _ (λ k (a : Box Expr Global). IsExpr k a.value) expr_names 4 _ _ (rw k.field-0-0-test at k.ensures.opened) _ _
           (λ rest gave s. lent_law g.R.Source _ _ (λ k (a : Box Expr Global). IsExpr k a.value) (λ p q r h. h) _ rest gave s) _
-          c.in-Ok-newtype_variant_with-4.ensures.bare c.in-Ok-newtype_variant_with-4.ensures.part refl) (search rules);
+          c.in-Ok-newtype_variant_with-4.ensures.bare c.in-Ok-newtype_variant_with-4.ensures.part refl) (grind (arith, sym k.ensures.same_reference));
     })
 
 pub read_expr-returns-in-Err-newtype_variant_with-4 : goal.read_expr-returns-in-Err-newtype_variant_with-4
@@ -145,7 +146,7 @@ read_expr-returns-in-Err-newtype_variant_with-4 g t c =
     let k = c.in-Ok-eq4-default in
     record {
       law = lawful_err _ (λ m v. OfVariant expr_names (ExprCase IsExpr v) m) _ _ _ _ expr_variant
-          (variant_err _ _ (ExprCase IsExpr) _ _ _ (search rules) _ 4 _ (λ v k h. readable _ k h.0 h.2)
+          (variant_err _ _ (ExprCase IsExpr) _ _ _ (grind (arith, sym k.ensures.same_reference)) _ 4 _ (λ v k h. readable _ k h.0 h.2)
           (given_refused g.R.Source _ _ (λ k (a : Box Expr Global). IsExpr k a.value) expr_names 4 _ _ (rw k.field-0-0-test at k.ensures.opened) _ _
           (λ rest gave s. lent_law g.R.Source _ _ (λ k (a : Box Expr Global). IsExpr k a.value) (λ p q r h. h) _ rest gave s) _
           c.in-Err-newtype_variant_with-4.ensures.bare c.in-Err-newtype_variant_with-4.ensures.part refl));
@@ -166,7 +167,7 @@ read_expr-returns-in-Ok-newtype_variant_with-5 g t c =
           (λ k h. (_, ap out-Expr (sym (rolls-Sum _)) ∙ out-roll-Expr _, h))
           (given_read g.R.Source _ _ (λ k (a : Vec Expr Global). Row IsExpr k a.items) expr_names 5 _ _ (rw k.field-0-0-test at k.ensures.opened) _ _
           (λ rest gave s. lent_law g.R.Source _ _ (λ k (a : Vec Expr Global). Row IsExpr k a.items) (λ p q r h. h) _ rest gave s) _
-          c.in-Ok-newtype_variant_with-5.ensures.bare c.in-Ok-newtype_variant_with-5.ensures.part refl) (search rules);
+          c.in-Ok-newtype_variant_with-5.ensures.bare c.in-Ok-newtype_variant_with-5.ensures.part refl) (grind (arith, sym k.ensures.same_reference));
     })
 
 pub read_expr-returns-in-Err-newtype_variant_with-5 : goal.read_expr-returns-in-Err-newtype_variant_with-5
@@ -174,7 +175,7 @@ read_expr-returns-in-Err-newtype_variant_with-5 g t c =
     let k = c.in-Ok-eq5-default in
     record {
       law = lawful_err _ (λ m v. OfVariant expr_names (ExprCase IsExpr v) m) _ _ _ _ expr_variant
-          (variant_err _ _ (ExprCase IsExpr) _ _ _ (search rules) _ 5 _ (λ v k h. readable _ k h.0 h.2)
+          (variant_err _ _ (ExprCase IsExpr) _ _ _ (grind (arith, sym k.ensures.same_reference)) _ 5 _ (λ v k h. readable _ k h.0 h.2)
           (given_refused g.R.Source _ _ (λ k (a : Vec Expr Global). Row IsExpr k a.items) expr_names 5 _ _ (rw k.field-0-0-test at k.ensures.opened) _ _
           (λ rest gave s. lent_law g.R.Source _ _ (λ k (a : Vec Expr Global). Row IsExpr k a.items) (λ p q r h. h) _ rest gave s) _
           c.in-Err-newtype_variant_with-5.ensures.bare c.in-Err-newtype_variant_with-5.ensures.part refl));
@@ -196,7 +197,7 @@ read_expr-returns-in-Ok-newtype_variant_with-6 g t c =
           (λ k h. (_, ap out-Expr (sym (rolls-Product _)) ∙ out-roll-Expr _, h))
           (given_read g.R.Source _ _ (λ k (a : Vec Expr Global). Row IsExpr k a.items) expr_names 6 _ _ (rw at at k.ensures.opened) _ _
           (λ rest gave s. lent_law g.R.Source _ _ (λ k (a : Vec Expr Global). Row IsExpr k a.items) (λ p q r h. h) _ rest gave s) _
-          c.in-Ok-newtype_variant_with-6.ensures.bare c.in-Ok-newtype_variant_with-6.ensures.part refl) (search rules);
+          c.in-Ok-newtype_variant_with-6.ensures.bare c.in-Ok-newtype_variant_with-6.ensures.part refl) (grind (arith, sym k.ensures.same_reference));
     })
 
 pub read_expr-returns-in-Err-newtype_variant_with-6 : goal.read_expr-returns-in-Err-newtype_variant_with-6
@@ -205,7 +206,7 @@ read_expr-returns-in-Err-newtype_variant_with-6 g t c =
     let at : k.field-0-0 ≡ 6 = omega (arith, k.field-0-0-test, k.ensures.below) in
     record {
       law = lawful_err _ (λ m v. OfVariant expr_names (ExprCase IsExpr v) m) _ _ _ _ expr_variant
-          (variant_err _ _ (ExprCase IsExpr) _ _ _ (search rules) _ 6 _ (λ v k h. readable _ k h.0 h.2)
+          (variant_err _ _ (ExprCase IsExpr) _ _ _ (grind (arith, sym k.ensures.same_reference)) _ 6 _ (λ v k h. readable _ k h.0 h.2)
           (given_refused g.R.Source _ _ (λ k (a : Vec Expr Global). Row IsExpr k a.items) expr_names 6 _ _ (rw at at k.ensures.opened) _ _
           (λ rest gave s. lent_law g.R.Source _ _ (λ k (a : Vec Expr Global). Row IsExpr k a.items) (λ p q r h. h) _ rest gave s) _
           c.in-Err-newtype_variant_with-6.ensures.bare c.in-Err-newtype_variant_with-6.ensures.part refl));

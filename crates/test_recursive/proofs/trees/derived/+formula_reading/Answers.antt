@@ -73,7 +73,8 @@ read_formula-returns-in-Ok-newtype_variant_with g t c =
           (given_read g.R.Source _ _ (λ k (a : ℤ). IsSigned (negsuc 9223372036854775807) (pos 9223372036854775807) k a) formula_names 0 _ _
           (rw k.field-0-0-test at k.ensures.opened) _ _
           (λ rest gave s. lent_law g.R.Source _ _ (λ k (a : ℤ). IsSigned (negsuc 9223372036854775807) (pos 9223372036854775807) k a) (λ p q r h. h) _ rest
-          gave s) _ c.in-Ok-newtype_variant_with.ensures.bare c.in-Ok-newtype_variant_with.ensures.part refl) (search rules);
+          gave s) _ c.in-Ok-newtype_variant_with.ensures.bare c.in-Ok-newtype_variant_with.ensures.part refl)
+          (grind (arith, sym k.ensures.same_reference));
     })
 
 pub read_formula-returns-in-Err-newtype_variant_with : goal.read_formula-returns-in-Err-newtype_variant_with
@@ -81,7 +82,7 @@ read_formula-returns-in-Err-newtype_variant_with g t c =
     let k = c.in-Ok-eq0-default in
     record {
       law = lawful_err _ (λ m v. OfVariant formula_names (FormulaCase IsFormula v) m) _ _ _ _ formula_variant
-          (variant_err _ _ (FormulaCase IsFormula) _ _ _ (search rules) _ 0 _ (λ v k h. readable _ k h.0 h.2)
+          (variant_err _ _ (FormulaCase IsFormula) _ _ _ (grind (arith, sym k.ensures.same_reference)) _ 0 _ (λ v k h. readable _ k h.0 h.2)
           (given_refused g.R.Source _ _ (λ k (a : ℤ). IsSigned (negsuc 9223372036854775807) (pos 9223372036854775807) k a) formula_names 0 _ _
           (rw k.field-0-0-test at k.ensures.opened) _ _
           (λ rest gave s. lent_law g.R.Source _ _ (λ k (a : ℤ). IsSigned (negsuc 9223372036854775807) (pos 9223372036854775807) k a) (λ p q r h. h) _ rest
@@ -97,7 +98,7 @@ read_formula-returns-in-Ok-newtype_variant_with-2 g t c =
           (λ k h. (_, ap out-Formula (sym (rolls-Cell _ _)) ∙ out-roll-Formula _, h))
           (given_read g.R.Source _ _ (λ k (a : ℕ × ℕ). FormulaRowCell k a) formula_names 1 _ _ (rw k.field-0-0-test at k.ensures.opened) _ _
           (λ rest gave s. lent_law g.R.Source _ _ (λ k (a : ℕ × ℕ). FormulaRowCell k a) (λ p q r h. h) _ rest gave s) _
-          c.in-Ok-newtype_variant_with-2.ensures.bare c.in-Ok-newtype_variant_with-2.ensures.part refl) (search rules);
+          c.in-Ok-newtype_variant_with-2.ensures.bare c.in-Ok-newtype_variant_with-2.ensures.part refl) (grind (arith, sym k.ensures.same_reference));
     })
 
 pub read_formula-returns-in-Err-newtype_variant_with-2 : goal.read_formula-returns-in-Err-newtype_variant_with-2
@@ -105,7 +106,7 @@ read_formula-returns-in-Err-newtype_variant_with-2 g t c =
     let k = c.in-Ok-eq1-default in
     record {
       law = lawful_err _ (λ m v. OfVariant formula_names (FormulaCase IsFormula v) m) _ _ _ _ formula_variant
-          (variant_err _ _ (FormulaCase IsFormula) _ _ _ (search rules) _ 1 _ (λ v k h. readable _ k h.0 h.2)
+          (variant_err _ _ (FormulaCase IsFormula) _ _ _ (grind (arith, sym k.ensures.same_reference)) _ 1 _ (λ v k h. readable _ k h.0 h.2)
           (given_refused g.R.Source _ _ (λ k (a : ℕ × ℕ). FormulaRowCell k a) formula_names 1 _ _ (rw k.field-0-0-test at k.ensures.opened) _ _
           (λ rest gave s. lent_law g.R.Source _ _ (λ k (a : ℕ × ℕ). FormulaRowCell k a) (λ p q r h. h) _ rest gave s) _
           c.in-Err-newtype_variant_with-2.ensures.bare c.in-Err-newtype_variant_with-2.ensures.part refl));
@@ -127,7 +128,8 @@ read_formula-returns-in-Ok-newtype_variant_with-3 g t c =
           (given_read g.R.Source _ _ (λ k (a : Box Formula Global × Box Formula Global). FormulaRowAdd IsFormula k a) formula_names 2 _ _
           (rw k.field-0-0-test at k.ensures.opened) _ _
           (λ rest gave s. lent_law g.R.Source _ _ (λ k (a : Box Formula Global × Box Formula Global). FormulaRowAdd IsFormula k a) (λ p q r h. h) _ rest
-          gave s) _ c.in-Ok-newtype_variant_with-3.ensures.bare c.in-Ok-newtype_variant_with-3.ensures.part refl) (search rules);
+          gave s) _ c.in-Ok-newtype_variant_with-3.ensures.bare c.in-Ok-newtype_variant_with-3.ensures.part refl)
+          (grind (arith, sym k.ensures.same_reference));
     })
 
 pub read_formula-returns-in-Err-newtype_variant_with-3 : goal.read_formula-returns-in-Err-newtype_variant_with-3
@@ -135,7 +137,7 @@ read_formula-returns-in-Err-newtype_variant_with-3 g t c =
     let k = c.in-Ok-eq2-default in
     record {
       law = lawful_err _ (λ m v. OfVariant formula_names (FormulaCase IsFormula v) m) _ _ _ _ formula_variant
-          (variant_err _ _ (FormulaCase IsFormula) _ _ _ (search rules) _ 2 _ (λ v k h. readable _ k h.0 h.2)
+          (variant_err _ _ (FormulaCase IsFormula) _ _ _ (grind (arith, sym k.ensures.same_reference)) _ 2 _ (λ v k h. readable _ k h.0 h.2)
           (given_refused g.R.Source _ _ (λ k (a : Box Formula Global × Box Formula Global). FormulaRowAdd IsFormula k a) formula_names 2 _ _
           (rw k.field-0-0-test at k.ensures.opened) _ _
           (λ rest gave s. lent_law g.R.Source _ _ (λ k (a : Box Formula Global × Box Formula Global). FormulaRowAdd IsFormula k a) (λ p q r h. h) _ rest
@@ -158,7 +160,7 @@ read_formula-returns-in-Ok-newtype_variant_with-4 g t c =
           (given_read g.R.Source _ _ (λ k (a : ℤ × Box Formula Global). FormulaRowShift IsFormula k a) formula_names 3 _ _
           (rw k.field-0-0-test at k.ensures.opened) _ _
           (λ rest gave s. lent_law g.R.Source _ _ (λ k (a : ℤ × Box Formula Global). FormulaRowShift IsFormula k a) (λ p q r h. h) _ rest gave s) _
-          c.in-Ok-newtype_variant_with-4.ensures.bare c.in-Ok-newtype_variant_with-4.ensures.part refl) (search rules);
+          c.in-Ok-newtype_variant_with-4.ensures.bare c.in-Ok-newtype_variant_with-4.ensures.part refl) (grind (arith, sym k.ensures.same_reference));
     })
 
 pub read_formula-returns-in-Err-newtype_variant_with-4 : goal.read_formula-returns-in-Err-newtype_variant_with-4
@@ -166,7 +168,7 @@ read_formula-returns-in-Err-newtype_variant_with-4 g t c =
     let k = c.in-Ok-eq3-default in
     record {
       law = lawful_err _ (λ m v. OfVariant formula_names (FormulaCase IsFormula v) m) _ _ _ _ formula_variant
-          (variant_err _ _ (FormulaCase IsFormula) _ _ _ (search rules) _ 3 _ (λ v k h. readable _ k h.0 h.2)
+          (variant_err _ _ (FormulaCase IsFormula) _ _ _ (grind (arith, sym k.ensures.same_reference)) _ 3 _ (λ v k h. readable _ k h.0 h.2)
           (given_refused g.R.Source _ _ (λ k (a : ℤ × Box Formula Global). FormulaRowShift IsFormula k a) formula_names 3 _ _
           (rw k.field-0-0-test at k.ensures.opened) _ _
           (λ rest gave s. lent_law g.R.Source _ _ (λ k (a : ℤ × Box Formula Global). FormulaRowShift IsFormula k a) (λ p q r h. h) _ rest gave s) _
@@ -189,7 +191,7 @@ read_formula-returns-in-Ok-newtype_variant_with-5 g t c =
           (given_read g.R.Source _ _ (λ k (a : String Global × Vec Formula Global). FormulaRowCall IsFormula k a) formula_names 4 _ _
           (rw k.field-0-0-test at k.ensures.opened) _ _
           (λ rest gave s. lent_law g.R.Source _ _ (λ k (a : String Global × Vec Formula Global). FormulaRowCall IsFormula k a) (λ p q r h. h) _ rest gave s)
-          _ c.in-Ok-newtype_variant_with-5.ensures.bare c.in-Ok-newtype_variant_with-5.ensures.part refl) (search rules);
+          _ c.in-Ok-newtype_variant_with-5.ensures.bare c.in-Ok-newtype_variant_with-5.ensures.part refl) (grind (arith, sym k.ensures.same_reference));
     })
 
 pub read_formula-returns-in-Err-newtype_variant_with-5 : goal.read_formula-returns-in-Err-newtype_variant_with-5
@@ -197,7 +199,7 @@ read_formula-returns-in-Err-newtype_variant_with-5 g t c =
     let k = c.in-Ok-eq4-default in
     record {
       law = lawful_err _ (λ m v. OfVariant formula_names (FormulaCase IsFormula v) m) _ _ _ _ formula_variant
-          (variant_err _ _ (FormulaCase IsFormula) _ _ _ (search rules) _ 4 _ (λ v k h. readable _ k h.0 h.2)
+          (variant_err _ _ (FormulaCase IsFormula) _ _ _ (grind (arith, sym k.ensures.same_reference)) _ 4 _ (λ v k h. readable _ k h.0 h.2)
           (given_refused g.R.Source _ _ (λ k (a : String Global × Vec Formula Global). FormulaRowCall IsFormula k a) formula_names 4 _ _
           (rw k.field-0-0-test at k.ensures.opened) _ _
           (λ rest gave s. lent_law g.R.Source _ _ (λ k (a : String Global × Vec Formula Global). FormulaRowCall IsFormula k a) (λ p q r h. h) _ rest gave s)
@@ -223,7 +225,7 @@ read_formula-returns-in-Ok-newtype_variant_with-6 g t c =
           formula_names 5 _ _ (rw at at k.ensures.opened) _ _
           (λ rest gave s. lent_law g.R.Source _ _ (λ k (a : Box Formula Global × Box Formula Global × Option (Box Formula Global)). FormulaRowIf IsFormula k
           a) (λ p q r h. h) _ rest gave s) _ c.in-Ok-newtype_variant_with-6.ensures.bare c.in-Ok-newtype_variant_with-6.ensures.part refl)
-          (search rules);
+          (grind (arith, sym k.ensures.same_reference));
     })
 
 pub read_formula-returns-in-Err-newtype_variant_with-6 : goal.read_formula-returns-in-Err-newtype_variant_with-6
@@ -232,7 +234,7 @@ read_formula-returns-in-Err-newtype_variant_with-6 g t c =
     let at : k.field-0-0 ≡ 5 = omega (arith, k.field-0-0-test, k.ensures.below) in
     record {
       law = lawful_err _ (λ m v. OfVariant formula_names (FormulaCase IsFormula v) m) _ _ _ _ formula_variant
-          (variant_err _ _ (FormulaCase IsFormula) _ _ _ (search rules) _ 5 _ (λ v k h. readable _ k h.0 h.2)
+          (variant_err _ _ (FormulaCase IsFormula) _ _ _ (grind (arith, sym k.ensures.same_reference)) _ 5 _ (λ v k h. readable _ k h.0 h.2)
           (given_refused g.R.Source _ _ (λ k (a : Box Formula Global × Box Formula Global × Option (Box Formula Global)). FormulaRowIf IsFormula k a)
           formula_names 5 _ _ (rw at at k.ensures.opened) _ _
           (λ rest gave s. lent_law g.R.Source _ _ (λ k (a : Box Formula Global × Box Formula Global × Option (Box Formula Global)). FormulaRowIf IsFormula k

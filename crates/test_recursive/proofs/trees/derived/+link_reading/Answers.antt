@@ -42,7 +42,7 @@ read_link-returns-in-Ok-newtype_variant_with g t c =
           (λ k h. (_, ap out-Link (sym (rolls-Last _)) ∙ out-roll-Link _, h))
           (given_read g.R.Source _ _ (λ k (a : ℕ). IsUnsigned 65535 k a) link_names 0 _ _ (rw k.field-0-0-test at k.ensures.opened) _ _
           (λ rest gave s. lent_law g.R.Source _ _ (λ k (a : ℕ). IsUnsigned 65535 k a) (λ p q r h. h) _ rest gave s) _
-          c.in-Ok-newtype_variant_with.ensures.bare c.in-Ok-newtype_variant_with.ensures.part refl) (search rules);
+          c.in-Ok-newtype_variant_with.ensures.bare c.in-Ok-newtype_variant_with.ensures.part refl) (grind (arith, sym k.ensures.same_reference));
     })
 
 pub read_link-returns-in-Err-newtype_variant_with : goal.read_link-returns-in-Err-newtype_variant_with
@@ -50,7 +50,7 @@ read_link-returns-in-Err-newtype_variant_with g t c =
     let k = c.in-Ok-eq0-default in
     record {
       law = lawful_err _ (λ m v. OfVariant link_names (LinkCase IsLink v) m) _ _ _ _ link_variant
-          (variant_err _ _ (LinkCase IsLink) _ _ _ (search rules) _ 0 _ (λ v k h. readable _ k h.0 h.2)
+          (variant_err _ _ (LinkCase IsLink) _ _ _ (grind (arith, sym k.ensures.same_reference)) _ 0 _ (λ v k h. readable _ k h.0 h.2)
           (given_refused g.R.Source _ _ (λ k (a : ℕ). IsUnsigned 65535 k a) link_names 0 _ _ (rw k.field-0-0-test at k.ensures.opened) _ _
           (λ rest gave s. lent_law g.R.Source _ _ (λ k (a : ℕ). IsUnsigned 65535 k a) (λ p q r h. h) _ rest gave s) _
           c.in-Err-newtype_variant_with.ensures.bare c.in-Err-newtype_variant_with.ensures.part refl));
@@ -72,7 +72,7 @@ read_link-returns-in-Ok-newtype_variant_with-2 g t c =
           (given_read g.R.Source _ _ (λ k (a : Option (Box Link Global)). IsOption (Boxed IsLink) k a) link_names 1 _ _
           (rw k.field-0-0-test at k.ensures.opened) _ _
           (λ rest gave s. lent_law g.R.Source _ _ (λ k (a : Option (Box Link Global)). IsOption (Boxed IsLink) k a) (λ p q r h. h) _ rest gave s) _
-          c.in-Ok-newtype_variant_with-2.ensures.bare c.in-Ok-newtype_variant_with-2.ensures.part refl) (search rules);
+          c.in-Ok-newtype_variant_with-2.ensures.bare c.in-Ok-newtype_variant_with-2.ensures.part refl) (grind (arith, sym k.ensures.same_reference));
     })
 
 pub read_link-returns-in-Err-newtype_variant_with-2 : goal.read_link-returns-in-Err-newtype_variant_with-2
@@ -80,7 +80,7 @@ read_link-returns-in-Err-newtype_variant_with-2 g t c =
     let k = c.in-Ok-eq1-default in
     record {
       law = lawful_err _ (λ m v. OfVariant link_names (LinkCase IsLink v) m) _ _ _ _ link_variant
-          (variant_err _ _ (LinkCase IsLink) _ _ _ (search rules) _ 1 _ (λ v k h. readable _ k h.0 h.2)
+          (variant_err _ _ (LinkCase IsLink) _ _ _ (grind (arith, sym k.ensures.same_reference)) _ 1 _ (λ v k h. readable _ k h.0 h.2)
           (given_refused g.R.Source _ _ (λ k (a : Option (Box Link Global)). IsOption (Boxed IsLink) k a) link_names 1 _ _
           (rw k.field-0-0-test at k.ensures.opened) _ _
           (λ rest gave s. lent_law g.R.Source _ _ (λ k (a : Option (Box Link Global)). IsOption (Boxed IsLink) k a) (λ p q r h. h) _ rest gave s) _
@@ -96,7 +96,7 @@ read_link-returns-in-Ok-newtype_variant_with-3 g t c =
           (λ k h. (_, ap out-Link (sym (rolls-Named _)) ∙ out-roll-Link _, h))
           (given_read g.R.Source _ _ (λ k (a : String Global). IsRaw k (string_bytes a)) link_names 2 _ _ (rw k.field-0-0-test at k.ensures.opened) _ _
           (λ rest gave s. lent_law g.R.Source _ _ (λ k (a : String Global). IsRaw k (string_bytes a)) (λ p q r h. h) _ rest gave s) _
-          c.in-Ok-newtype_variant_with-3.ensures.bare c.in-Ok-newtype_variant_with-3.ensures.part refl) (search rules);
+          c.in-Ok-newtype_variant_with-3.ensures.bare c.in-Ok-newtype_variant_with-3.ensures.part refl) (grind (arith, sym k.ensures.same_reference));
     })
 
 pub read_link-returns-in-Err-newtype_variant_with-3 : goal.read_link-returns-in-Err-newtype_variant_with-3
@@ -104,7 +104,7 @@ read_link-returns-in-Err-newtype_variant_with-3 g t c =
     let k = c.in-Ok-eq2-default in
     record {
       law = lawful_err _ (λ m v. OfVariant link_names (LinkCase IsLink v) m) _ _ _ _ link_variant
-          (variant_err _ _ (LinkCase IsLink) _ _ _ (search rules) _ 2 _ (λ v k h. readable _ k h.0 h.2)
+          (variant_err _ _ (LinkCase IsLink) _ _ _ (grind (arith, sym k.ensures.same_reference)) _ 2 _ (λ v k h. readable _ k h.0 h.2)
           (given_refused g.R.Source _ _ (λ k (a : String Global). IsRaw k (string_bytes a)) link_names 2 _ _ (rw k.field-0-0-test at k.ensures.opened) _ _
           (λ rest gave s. lent_law g.R.Source _ _ (λ k (a : String Global). IsRaw k (string_bytes a)) (λ p q r h. h) _ rest gave s) _
           c.in-Err-newtype_variant_with-3.ensures.bare c.in-Err-newtype_variant_with-3.ensures.part refl));
@@ -125,7 +125,7 @@ read_link-returns-in-Ok-newtype_variant_with-4 g t c =
           (λ k h. (_, ap out-Link (sym (rolls-Fork _)) ∙ out-roll-Link _, h))
           (given_read g.R.Source _ _ (λ k (a : Vec Link Global). Row IsLink k a.items) link_names 3 _ _ (rw k.field-0-0-test at k.ensures.opened) _ _
           (λ rest gave s. lent_law g.R.Source _ _ (λ k (a : Vec Link Global). Row IsLink k a.items) (λ p q r h. h) _ rest gave s) _
-          c.in-Ok-newtype_variant_with-4.ensures.bare c.in-Ok-newtype_variant_with-4.ensures.part refl) (search rules);
+          c.in-Ok-newtype_variant_with-4.ensures.bare c.in-Ok-newtype_variant_with-4.ensures.part refl) (grind (arith, sym k.ensures.same_reference));
     })
 
 pub read_link-returns-in-Err-newtype_variant_with-4 : goal.read_link-returns-in-Err-newtype_variant_with-4
@@ -133,7 +133,7 @@ read_link-returns-in-Err-newtype_variant_with-4 g t c =
     let k = c.in-Ok-eq3-default in
     record {
       law = lawful_err _ (λ m v. OfVariant link_names (LinkCase IsLink v) m) _ _ _ _ link_variant
-          (variant_err _ _ (LinkCase IsLink) _ _ _ (search rules) _ 3 _ (λ v k h. readable _ k h.0 h.2)
+          (variant_err _ _ (LinkCase IsLink) _ _ _ (grind (arith, sym k.ensures.same_reference)) _ 3 _ (λ v k h. readable _ k h.0 h.2)
           (given_refused g.R.Source _ _ (λ k (a : Vec Link Global). Row IsLink k a.items) link_names 3 _ _ (rw k.field-0-0-test at k.ensures.opened) _ _
           (λ rest gave s. lent_law g.R.Source _ _ (λ k (a : Vec Link Global). Row IsLink k a.items) (λ p q r h. h) _ rest gave s) _
           c.in-Err-newtype_variant_with-4.ensures.bare c.in-Err-newtype_variant_with-4.ensures.part refl));
@@ -155,7 +155,7 @@ read_link-returns-in-Ok-newtype_variant_with-5 g t c =
           (λ k h. (_, ap out-Link (sym (rolls-Other _)) ∙ out-roll-Link _, h))
           (given_read g.R.Source _ _ (λ k (a : Option (Box Link Global)). IsOption (Boxed IsLink) k a) link_names 4 _ _ (rw at at k.ensures.opened) _ _
           (λ rest gave s. lent_law g.R.Source _ _ (λ k (a : Option (Box Link Global)). IsOption (Boxed IsLink) k a) (λ p q r h. h) _ rest gave s) _
-          c.in-Ok-newtype_variant_with-5.ensures.bare c.in-Ok-newtype_variant_with-5.ensures.part refl) (search rules);
+          c.in-Ok-newtype_variant_with-5.ensures.bare c.in-Ok-newtype_variant_with-5.ensures.part refl) (grind (arith, sym k.ensures.same_reference));
     })
 
 pub read_link-returns-in-Err-newtype_variant_with-5 : goal.read_link-returns-in-Err-newtype_variant_with-5
@@ -164,7 +164,7 @@ read_link-returns-in-Err-newtype_variant_with-5 g t c =
     let at : k.field-0-0 ≡ 4 = omega (arith, k.field-0-0-test, k.ensures.below) in
     record {
       law = lawful_err _ (λ m v. OfVariant link_names (LinkCase IsLink v) m) _ _ _ _ link_variant
-          (variant_err _ _ (LinkCase IsLink) _ _ _ (search rules) _ 4 _ (λ v k h. readable _ k h.0 h.2)
+          (variant_err _ _ (LinkCase IsLink) _ _ _ (grind (arith, sym k.ensures.same_reference)) _ 4 _ (λ v k h. readable _ k h.0 h.2)
           (given_refused g.R.Source _ _ (λ k (a : Option (Box Link Global)). IsOption (Boxed IsLink) k a) link_names 4 _ _ (rw at at k.ensures.opened) _ _
           (λ rest gave s. lent_law g.R.Source _ _ (λ k (a : Option (Box Link Global)). IsOption (Boxed IsLink) k a) (λ p q r h. h) _ rest gave s) _
           c.in-Err-newtype_variant_with-5.ensures.bare c.in-Err-newtype_variant_with-5.ensures.part refl));

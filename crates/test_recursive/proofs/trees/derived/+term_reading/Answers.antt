@@ -40,7 +40,7 @@ read_term-returns-in-Ok-newtype_variant_with g t c =
           (λ k h. (_, ap out-Term (sym (rolls-Letter _)) ∙ out-roll-Term _, h))
           (given_read g.R.Source _ _ (λ k (a : ℕ). IsChar k a) term_names 0 _ _ (rw k.field-0-0-test at k.ensures.opened) _ _
           (λ rest gave s. lent_law g.R.Source _ _ (λ k (a : ℕ). IsChar k a) (λ p q r h. h) _ rest gave s) _ c.in-Ok-newtype_variant_with.ensures.bare
-          c.in-Ok-newtype_variant_with.ensures.part refl) (search rules);
+          c.in-Ok-newtype_variant_with.ensures.part refl) (grind (arith, sym k.ensures.same_reference));
     })
 
 pub read_term-returns-in-Err-newtype_variant_with : goal.read_term-returns-in-Err-newtype_variant_with
@@ -48,7 +48,7 @@ read_term-returns-in-Err-newtype_variant_with g t c =
     let k = c.in-Ok-eq0-default in
     record {
       law = lawful_err _ (λ m v. OfVariant term_names (TermCase IsTerm v) m) _ _ _ _ term_variant
-          (variant_err _ _ (TermCase IsTerm) _ _ _ (search rules) _ 0 _ (λ v k h. readable _ k h.0 h.2)
+          (variant_err _ _ (TermCase IsTerm) _ _ _ (grind (arith, sym k.ensures.same_reference)) _ 0 _ (λ v k h. readable _ k h.0 h.2)
           (given_refused g.R.Source _ _ (λ k (a : ℕ). IsChar k a) term_names 0 _ _ (rw k.field-0-0-test at k.ensures.opened) _ _
           (λ rest gave s. lent_law g.R.Source _ _ (λ k (a : ℕ). IsChar k a) (λ p q r h. h) _ rest gave s) _ c.in-Err-newtype_variant_with.ensures.bare
           c.in-Err-newtype_variant_with.ensures.part refl));
@@ -62,7 +62,7 @@ read_term-returns-in-Ok-newtype_variant_with-2 g t c =
           (λ k h. (_, ap out-Term (sym (rolls-Half _)) ∙ out-roll-Term _, h))
           (given_read g.R.Source _ _ (λ k (a : F32Bits). k ≡ msg.float32 a.0) term_names 1 _ _ (rw k.field-0-0-test at k.ensures.opened) _ _
           (λ rest gave s. lent_law g.R.Source _ _ (λ k (a : F32Bits). k ≡ msg.float32 a.0) (λ p q r h. h) _ rest gave s) _
-          c.in-Ok-newtype_variant_with-2.ensures.bare c.in-Ok-newtype_variant_with-2.ensures.part refl) (search rules);
+          c.in-Ok-newtype_variant_with-2.ensures.bare c.in-Ok-newtype_variant_with-2.ensures.part refl) (grind (arith, sym k.ensures.same_reference));
     })
 
 pub read_term-returns-in-Err-newtype_variant_with-2 : goal.read_term-returns-in-Err-newtype_variant_with-2
@@ -70,7 +70,7 @@ read_term-returns-in-Err-newtype_variant_with-2 g t c =
     let k = c.in-Ok-eq1-default in
     record {
       law = lawful_err _ (λ m v. OfVariant term_names (TermCase IsTerm v) m) _ _ _ _ term_variant
-          (variant_err _ _ (TermCase IsTerm) _ _ _ (search rules) _ 1 _ (λ v k h. readable _ k h.0 h.2)
+          (variant_err _ _ (TermCase IsTerm) _ _ _ (grind (arith, sym k.ensures.same_reference)) _ 1 _ (λ v k h. readable _ k h.0 h.2)
           (given_refused g.R.Source _ _ (λ k (a : F32Bits). k ≡ msg.float32 a.0) term_names 1 _ _ (rw k.field-0-0-test at k.ensures.opened) _ _
           (λ rest gave s. lent_law g.R.Source _ _ (λ k (a : F32Bits). k ≡ msg.float32 a.0) (λ p q r h. h) _ rest gave s) _
           c.in-Err-newtype_variant_with-2.ensures.bare c.in-Err-newtype_variant_with-2.ensures.part refl));
@@ -84,7 +84,7 @@ read_term-returns-in-Ok-newtype_variant_with-3 g t c =
           (λ k h. (_, ap out-Term (sym (rolls-Whole _)) ∙ out-roll-Term _, h))
           (given_read g.R.Source _ _ (λ k (a : F64Bits). k ≡ msg.float64 a.0) term_names 2 _ _ (rw k.field-0-0-test at k.ensures.opened) _ _
           (λ rest gave s. lent_law g.R.Source _ _ (λ k (a : F64Bits). k ≡ msg.float64 a.0) (λ p q r h. h) _ rest gave s) _
-          c.in-Ok-newtype_variant_with-3.ensures.bare c.in-Ok-newtype_variant_with-3.ensures.part refl) (search rules);
+          c.in-Ok-newtype_variant_with-3.ensures.bare c.in-Ok-newtype_variant_with-3.ensures.part refl) (grind (arith, sym k.ensures.same_reference));
     })
 
 pub read_term-returns-in-Err-newtype_variant_with-3 : goal.read_term-returns-in-Err-newtype_variant_with-3
@@ -92,7 +92,7 @@ read_term-returns-in-Err-newtype_variant_with-3 g t c =
     let k = c.in-Ok-eq2-default in
     record {
       law = lawful_err _ (λ m v. OfVariant term_names (TermCase IsTerm v) m) _ _ _ _ term_variant
-          (variant_err _ _ (TermCase IsTerm) _ _ _ (search rules) _ 2 _ (λ v k h. readable _ k h.0 h.2)
+          (variant_err _ _ (TermCase IsTerm) _ _ _ (grind (arith, sym k.ensures.same_reference)) _ 2 _ (λ v k h. readable _ k h.0 h.2)
           (given_refused g.R.Source _ _ (λ k (a : F64Bits). k ≡ msg.float64 a.0) term_names 2 _ _ (rw k.field-0-0-test at k.ensures.opened) _ _
           (λ rest gave s. lent_law g.R.Source _ _ (λ k (a : F64Bits). k ≡ msg.float64 a.0) (λ p q r h. h) _ rest gave s) _
           c.in-Err-newtype_variant_with-3.ensures.bare c.in-Err-newtype_variant_with-3.ensures.part refl));
@@ -107,7 +107,7 @@ read_term-returns-in-Ok-newtype_variant_with-4 g t c =
           (λ k h. (_, ap out-Term (sym (rolls-Bytes _)) ∙ out-roll-Term _, h))
           (given_read g.R.Source _ _ (λ k (a : ByteBuf). IsBuffer k (buffer_bytes a)) term_names 3 _ _ (rw k.field-0-0-test at k.ensures.opened) _ _
           (λ rest gave s. lent_law g.R.Source _ _ (λ k (a : ByteBuf). IsBuffer k (buffer_bytes a)) (λ p q r h. h) _ rest gave s) _
-          c.in-Ok-newtype_variant_with-4.ensures.bare c.in-Ok-newtype_variant_with-4.ensures.part refl) (search rules);
+          c.in-Ok-newtype_variant_with-4.ensures.bare c.in-Ok-newtype_variant_with-4.ensures.part refl) (grind (arith, sym k.ensures.same_reference));
     })
 
 pub read_term-returns-in-Err-newtype_variant_with-4 : goal.read_term-returns-in-Err-newtype_variant_with-4
@@ -115,7 +115,7 @@ read_term-returns-in-Err-newtype_variant_with-4 g t c =
     let k = c.in-Ok-eq3-default in
     record {
       law = lawful_err _ (λ m v. OfVariant term_names (TermCase IsTerm v) m) _ _ _ _ term_variant
-          (variant_err _ _ (TermCase IsTerm) _ _ _ (search rules) _ 3 _ (λ v k h. readable _ k h.0 h.2)
+          (variant_err _ _ (TermCase IsTerm) _ _ _ (grind (arith, sym k.ensures.same_reference)) _ 3 _ (λ v k h. readable _ k h.0 h.2)
           (given_refused g.R.Source _ _ (λ k (a : ByteBuf). IsBuffer k (buffer_bytes a)) term_names 3 _ _ (rw k.field-0-0-test at k.ensures.opened) _ _
           (λ rest gave s. lent_law g.R.Source _ _ (λ k (a : ByteBuf). IsBuffer k (buffer_bytes a)) (λ p q r h. h) _ rest gave s) _
           c.in-Err-newtype_variant_with-4.ensures.bare c.in-Err-newtype_variant_with-4.ensures.part refl));
@@ -130,7 +130,7 @@ read_term-returns-in-Ok-newtype_variant_with-5 g t c =
           (λ k h. (_, ap out-Term (sym (rolls-Size _)) ∙ out-roll-Term _, h))
           (given_read g.R.Source _ _ (λ k (a : ℕ). IsUnsigned 18446744073709551615 k a) term_names 4 _ _ (rw k.field-0-0-test at k.ensures.opened) _ _
           (λ rest gave s. lent_law g.R.Source _ _ (λ k (a : ℕ). IsUnsigned 18446744073709551615 k a) (λ p q r h. h) _ rest gave s) _
-          c.in-Ok-newtype_variant_with-5.ensures.bare c.in-Ok-newtype_variant_with-5.ensures.part refl) (search rules);
+          c.in-Ok-newtype_variant_with-5.ensures.bare c.in-Ok-newtype_variant_with-5.ensures.part refl) (grind (arith, sym k.ensures.same_reference));
     })
 
 pub read_term-returns-in-Err-newtype_variant_with-5 : goal.read_term-returns-in-Err-newtype_variant_with-5
@@ -138,7 +138,7 @@ read_term-returns-in-Err-newtype_variant_with-5 g t c =
     let k = c.in-Ok-eq4-default in
     record {
       law = lawful_err _ (λ m v. OfVariant term_names (TermCase IsTerm v) m) _ _ _ _ term_variant
-          (variant_err _ _ (TermCase IsTerm) _ _ _ (search rules) _ 4 _ (λ v k h. readable _ k h.0 h.2)
+          (variant_err _ _ (TermCase IsTerm) _ _ _ (grind (arith, sym k.ensures.same_reference)) _ 4 _ (λ v k h. readable _ k h.0 h.2)
           (given_refused g.R.Source _ _ (λ k (a : ℕ). IsUnsigned 18446744073709551615 k a) term_names 4 _ _ (rw k.field-0-0-test at k.ensures.opened) _ _
           (λ rest gave s. lent_law g.R.Source _ _ (λ k (a : ℕ). IsUnsigned 18446744073709551615 k a) (λ p q r h. h) _ rest gave s) _
           c.in-Err-newtype_variant_with-5.ensures.bare c.in-Err-newtype_variant_with-5.ensures.part refl));
@@ -154,7 +154,8 @@ read_term-returns-in-Ok-newtype_variant_with-6 g t c =
           (given_read g.R.Source _ _ (λ k (a : ℤ). IsSigned (negsuc 9223372036854775807) (pos 9223372036854775807) k a) term_names 5 _ _
           (rw k.field-0-0-test at k.ensures.opened) _ _
           (λ rest gave s. lent_law g.R.Source _ _ (λ k (a : ℤ). IsSigned (negsuc 9223372036854775807) (pos 9223372036854775807) k a) (λ p q r h. h) _ rest
-          gave s) _ c.in-Ok-newtype_variant_with-6.ensures.bare c.in-Ok-newtype_variant_with-6.ensures.part refl) (search rules);
+          gave s) _ c.in-Ok-newtype_variant_with-6.ensures.bare c.in-Ok-newtype_variant_with-6.ensures.part refl)
+          (grind (arith, sym k.ensures.same_reference));
     })
 
 pub read_term-returns-in-Err-newtype_variant_with-6 : goal.read_term-returns-in-Err-newtype_variant_with-6
@@ -162,7 +163,7 @@ read_term-returns-in-Err-newtype_variant_with-6 g t c =
     let k = c.in-Ok-eq5-default in
     record {
       law = lawful_err _ (λ m v. OfVariant term_names (TermCase IsTerm v) m) _ _ _ _ term_variant
-          (variant_err _ _ (TermCase IsTerm) _ _ _ (search rules) _ 5 _ (λ v k h. readable _ k h.0 h.2)
+          (variant_err _ _ (TermCase IsTerm) _ _ _ (grind (arith, sym k.ensures.same_reference)) _ 5 _ (λ v k h. readable _ k h.0 h.2)
           (given_refused g.R.Source _ _ (λ k (a : ℤ). IsSigned (negsuc 9223372036854775807) (pos 9223372036854775807) k a) term_names 5 _ _
           (rw k.field-0-0-test at k.ensures.opened) _ _
           (λ rest gave s. lent_law g.R.Source _ _ (λ k (a : ℤ). IsSigned (negsuc 9223372036854775807) (pos 9223372036854775807) k a) (λ p q r h. h) _ rest
@@ -177,7 +178,7 @@ read_term-returns-in-Ok-newtype_variant_with-7 g t c =
           (λ k h. (_, ap out-Term (sym (rolls-Big _)) ∙ out-roll-Term _, h))
           (given_read g.R.Source _ _ (λ k (a : ℕ). IsUnsigned128 k a) term_names 6 _ _ (rw k.field-0-0-test at k.ensures.opened) _ _
           (λ rest gave s. lent_law g.R.Source _ _ (λ k (a : ℕ). IsUnsigned128 k a) (λ p q r h. h) _ rest gave s) _
-          c.in-Ok-newtype_variant_with-7.ensures.bare c.in-Ok-newtype_variant_with-7.ensures.part refl) (search rules);
+          c.in-Ok-newtype_variant_with-7.ensures.bare c.in-Ok-newtype_variant_with-7.ensures.part refl) (grind (arith, sym k.ensures.same_reference));
     })
 
 pub read_term-returns-in-Err-newtype_variant_with-7 : goal.read_term-returns-in-Err-newtype_variant_with-7
@@ -185,7 +186,7 @@ read_term-returns-in-Err-newtype_variant_with-7 g t c =
     let k = c.in-Ok-eq6-default in
     record {
       law = lawful_err _ (λ m v. OfVariant term_names (TermCase IsTerm v) m) _ _ _ _ term_variant
-          (variant_err _ _ (TermCase IsTerm) _ _ _ (search rules) _ 6 _ (λ v k h. readable _ k h.0 h.2)
+          (variant_err _ _ (TermCase IsTerm) _ _ _ (grind (arith, sym k.ensures.same_reference)) _ 6 _ (λ v k h. readable _ k h.0 h.2)
           (given_refused g.R.Source _ _ (λ k (a : ℕ). IsUnsigned128 k a) term_names 6 _ _ (rw k.field-0-0-test at k.ensures.opened) _ _
           (λ rest gave s. lent_law g.R.Source _ _ (λ k (a : ℕ). IsUnsigned128 k a) (λ p q r h. h) _ rest gave s) _
           c.in-Err-newtype_variant_with-7.ensures.bare c.in-Err-newtype_variant_with-7.ensures.part refl));
@@ -199,7 +200,7 @@ read_term-returns-in-Ok-newtype_variant_with-8 g t c =
           (λ k h. (_, ap out-Term (sym (rolls-Wide _)) ∙ out-roll-Term _, h))
           (given_read g.R.Source _ _ (λ k (a : ℤ). IsSigned128 k a) term_names 7 _ _ (rw k.field-0-0-test at k.ensures.opened) _ _
           (λ rest gave s. lent_law g.R.Source _ _ (λ k (a : ℤ). IsSigned128 k a) (λ p q r h. h) _ rest gave s) _ c.in-Ok-newtype_variant_with-8.ensures.bare
-          c.in-Ok-newtype_variant_with-8.ensures.part refl) (search rules);
+          c.in-Ok-newtype_variant_with-8.ensures.part refl) (grind (arith, sym k.ensures.same_reference));
     })
 
 pub read_term-returns-in-Err-newtype_variant_with-8 : goal.read_term-returns-in-Err-newtype_variant_with-8
@@ -207,7 +208,7 @@ read_term-returns-in-Err-newtype_variant_with-8 g t c =
     let k = c.in-Ok-eq7-default in
     record {
       law = lawful_err _ (λ m v. OfVariant term_names (TermCase IsTerm v) m) _ _ _ _ term_variant
-          (variant_err _ _ (TermCase IsTerm) _ _ _ (search rules) _ 7 _ (λ v k h. readable _ k h.0 h.2)
+          (variant_err _ _ (TermCase IsTerm) _ _ _ (grind (arith, sym k.ensures.same_reference)) _ 7 _ (λ v k h. readable _ k h.0 h.2)
           (given_refused g.R.Source _ _ (λ k (a : ℤ). IsSigned128 k a) term_names 7 _ _ (rw k.field-0-0-test at k.ensures.opened) _ _
           (λ rest gave s. lent_law g.R.Source _ _ (λ k (a : ℤ). IsSigned128 k a) (λ p q r h. h) _ rest gave s) _
           c.in-Err-newtype_variant_with-8.ensures.bare c.in-Err-newtype_variant_with-8.ensures.part refl));
@@ -221,7 +222,7 @@ read_term-returns-in-Ok-newtype_variant_with-9 g t c =
           (λ k h. (_, ap out-Term (sym (rolls-Short _)) ∙ out-roll-Term _, h))
           (given_read g.R.Source _ _ (λ k (a : ℕ). IsUnsigned 65535 k a) term_names 8 _ _ (rw k.field-0-0-test at k.ensures.opened) _ _
           (λ rest gave s. lent_law g.R.Source _ _ (λ k (a : ℕ). IsUnsigned 65535 k a) (λ p q r h. h) _ rest gave s) _
-          c.in-Ok-newtype_variant_with-9.ensures.bare c.in-Ok-newtype_variant_with-9.ensures.part refl) (search rules);
+          c.in-Ok-newtype_variant_with-9.ensures.bare c.in-Ok-newtype_variant_with-9.ensures.part refl) (grind (arith, sym k.ensures.same_reference));
     })
 
 pub read_term-returns-in-Err-newtype_variant_with-9 : goal.read_term-returns-in-Err-newtype_variant_with-9
@@ -229,7 +230,7 @@ read_term-returns-in-Err-newtype_variant_with-9 g t c =
     let k = c.in-Ok-eq8-default in
     record {
       law = lawful_err _ (λ m v. OfVariant term_names (TermCase IsTerm v) m) _ _ _ _ term_variant
-          (variant_err _ _ (TermCase IsTerm) _ _ _ (search rules) _ 8 _ (λ v k h. readable _ k h.0 h.2)
+          (variant_err _ _ (TermCase IsTerm) _ _ _ (grind (arith, sym k.ensures.same_reference)) _ 8 _ (λ v k h. readable _ k h.0 h.2)
           (given_refused g.R.Source _ _ (λ k (a : ℕ). IsUnsigned 65535 k a) term_names 8 _ _ (rw k.field-0-0-test at k.ensures.opened) _ _
           (λ rest gave s. lent_law g.R.Source _ _ (λ k (a : ℕ). IsUnsigned 65535 k a) (λ p q r h. h) _ rest gave s) _
           c.in-Err-newtype_variant_with-9.ensures.bare c.in-Err-newtype_variant_with-9.ensures.part refl));
@@ -250,7 +251,7 @@ read_term-returns-in-Ok-newtype_variant_with-10 g t c =
           (λ k h. (_, ap out-Term (sym (rolls-Quoted _)) ∙ out-roll-Term _, h))
           (given_read g.R.Source _ _ (λ k (a : Box Term Global). IsTerm k a.value) term_names 9 _ _ (rw at at k.ensures.opened) _ _
           (λ rest gave s. lent_law g.R.Source _ _ (λ k (a : Box Term Global). IsTerm k a.value) (λ p q r h. h) _ rest gave s) _
-          c.in-Ok-newtype_variant_with-10.ensures.bare c.in-Ok-newtype_variant_with-10.ensures.part refl) (search rules);
+          c.in-Ok-newtype_variant_with-10.ensures.bare c.in-Ok-newtype_variant_with-10.ensures.part refl) (grind (arith, sym k.ensures.same_reference));
     })
 
 pub read_term-returns-in-Err-newtype_variant_with-10 : goal.read_term-returns-in-Err-newtype_variant_with-10
@@ -259,7 +260,7 @@ read_term-returns-in-Err-newtype_variant_with-10 g t c =
     let at : k.field-0-0 ≡ 9 = omega (arith, k.field-0-0-test, k.ensures.below) in
     record {
       law = lawful_err _ (λ m v. OfVariant term_names (TermCase IsTerm v) m) _ _ _ _ term_variant
-          (variant_err _ _ (TermCase IsTerm) _ _ _ (search rules) _ 9 _ (λ v k h. readable _ k h.0 h.2)
+          (variant_err _ _ (TermCase IsTerm) _ _ _ (grind (arith, sym k.ensures.same_reference)) _ 9 _ (λ v k h. readable _ k h.0 h.2)
           (given_refused g.R.Source _ _ (λ k (a : Box Term Global). IsTerm k a.value) term_names 9 _ _ (rw at at k.ensures.opened) _ _
           (λ rest gave s. lent_law g.R.Source _ _ (λ k (a : Box Term Global). IsTerm k a.value) (λ p q r h. h) _ rest gave s) _
           c.in-Err-newtype_variant_with-10.ensures.bare c.in-Err-newtype_variant_with-10.ensures.part refl));

@@ -40,7 +40,7 @@ read_tree-returns-in-Ok-newtype_variant_with g t c =
           (λ k h. (_, ap out-Tree (sym (rolls-Leaf _)) ∙ out-roll-Tree _, h))
           (given_read g.R.Source _ _ (λ k (a : ℕ). IsUnsigned 255 k a) tree_names 0 _ _ (rw k.field-0-0-test at k.ensures.opened) _ _
           (λ rest gave s. lent_law g.R.Source _ _ (λ k (a : ℕ). IsUnsigned 255 k a) (λ p q r h. h) _ rest gave s) _
-          c.in-Ok-newtype_variant_with.ensures.bare c.in-Ok-newtype_variant_with.ensures.part refl) (search rules);
+          c.in-Ok-newtype_variant_with.ensures.bare c.in-Ok-newtype_variant_with.ensures.part refl) (grind (arith, sym k.ensures.same_reference));
     })
 
 pub read_tree-returns-in-Err-newtype_variant_with : goal.read_tree-returns-in-Err-newtype_variant_with
@@ -48,7 +48,7 @@ read_tree-returns-in-Err-newtype_variant_with g t c =
     let k = c.in-Ok-eq0-default in
     record {
       law = lawful_err _ (λ m v. OfVariant tree_names (TreeCase IsTree v) m) _ _ _ _ tree_variant
-          (variant_err _ _ (TreeCase IsTree) _ _ _ (search rules) _ 0 _ (λ v k h. readable _ k h.0 h.2)
+          (variant_err _ _ (TreeCase IsTree) _ _ _ (grind (arith, sym k.ensures.same_reference)) _ 0 _ (λ v k h. readable _ k h.0 h.2)
           (given_refused g.R.Source _ _ (λ k (a : ℕ). IsUnsigned 255 k a) tree_names 0 _ _ (rw k.field-0-0-test at k.ensures.opened) _ _
           (λ rest gave s. lent_law g.R.Source _ _ (λ k (a : ℕ). IsUnsigned 255 k a) (λ p q r h. h) _ rest gave s) _
           c.in-Err-newtype_variant_with.ensures.bare c.in-Err-newtype_variant_with.ensures.part refl));
@@ -70,7 +70,7 @@ read_tree-returns-in-Ok-newtype_variant_with-2 g t c =
           (λ k h. (_, ap out-Tree (sym (rolls-Node _)) ∙ out-roll-Tree _, h))
           (given_read g.R.Source _ _ (λ k (a : Vec Tree Global). Row IsTree k a.items) tree_names 1 _ _ (rw at at k.ensures.opened) _ _
           (λ rest gave s. lent_law g.R.Source _ _ (λ k (a : Vec Tree Global). Row IsTree k a.items) (λ p q r h. h) _ rest gave s) _
-          c.in-Ok-newtype_variant_with-2.ensures.bare c.in-Ok-newtype_variant_with-2.ensures.part refl) (search rules);
+          c.in-Ok-newtype_variant_with-2.ensures.bare c.in-Ok-newtype_variant_with-2.ensures.part refl) (grind (arith, sym k.ensures.same_reference));
     })
 
 pub read_tree-returns-in-Err-newtype_variant_with-2 : goal.read_tree-returns-in-Err-newtype_variant_with-2
@@ -79,7 +79,7 @@ read_tree-returns-in-Err-newtype_variant_with-2 g t c =
     let at : k.field-0-0 ≡ 1 = omega (arith, k.field-0-0-test, k.ensures.below) in
     record {
       law = lawful_err _ (λ m v. OfVariant tree_names (TreeCase IsTree v) m) _ _ _ _ tree_variant
-          (variant_err _ _ (TreeCase IsTree) _ _ _ (search rules) _ 1 _ (λ v k h. readable _ k h.0 h.2)
+          (variant_err _ _ (TreeCase IsTree) _ _ _ (grind (arith, sym k.ensures.same_reference)) _ 1 _ (λ v k h. readable _ k h.0 h.2)
           (given_refused g.R.Source _ _ (λ k (a : Vec Tree Global). Row IsTree k a.items) tree_names 1 _ _ (rw at at k.ensures.opened) _ _
           (λ rest gave s. lent_law g.R.Source _ _ (λ k (a : Vec Tree Global). Row IsTree k a.items) (λ p q r h. h) _ rest gave s) _
           c.in-Err-newtype_variant_with-2.ensures.bare c.in-Err-newtype_variant_with-2.ensures.part refl));

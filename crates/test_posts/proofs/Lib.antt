@@ -1,0 +1,4 @@
+pub mod Recursion
+pub mod RecursionFields
+pub mod PostLevels
+pub mod TaskLevels

@@ -1,0 +1,11 @@
+pub mod Recursion
+pub mod RecursionRounds
+pub mod RecursionFields
+pub mod RecursionLeaves
+pub mod MoodLeaf
+pub mod SpanLeaf
+pub mod PostLevels
+pub mod PostRounds
+pub mod OrderLeaf
+pub mod TaskLevels
+pub mod TaskRounds
