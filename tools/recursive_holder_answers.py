@@ -32,7 +32,7 @@ def answers_file(level: Level, place: str, text: str) -> str:
         "rmp_encode.proofs.Going": "unopened",
         "rmp_encode.proofs.Parts": "rests_at part_memory",
         "rmp_decode.specs.Maps": f"{table['rmp_decode.specs.Maps']} ReadsPairs Collects IsMapOpen",
-        "rmp_decode.specs.Seq": "IsOpen",
+        "rmp_decode.specs.Seq": "OfRow IsOpen",
         "rmp_decode.proofs.Laws": "lawful_ok lawful_err",
         "rmp_decode.proofs.Maps": "flat map_unopened map_done map_unkept map_take map_key key_next value_next entries_step gathers_start gathers_step",
         "rmp_decode.proofs.Rows": "push",

@@ -3,4 +3,3 @@ pub mod RecursionFields
 pub mod NodeLevels
 pub mod CellLevels
 pub mod FolderLevels
-pub mod PageLevels

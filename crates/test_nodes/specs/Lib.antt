@@ -7,5 +7,3 @@ pub mod CellLevels
 pub mod CellRounds
 pub mod FolderLevels
 pub mod FolderRounds
-pub mod PageLevels
-pub mod PageRounds

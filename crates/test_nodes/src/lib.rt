@@ -2,7 +2,5 @@
 #![tactic(auto)]
 
 mod nodes;
-mod pages;
 
 pub use nodes::{Cell, Folder, Node};
-pub use pages::Page;

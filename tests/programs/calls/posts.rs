@@ -72,6 +72,13 @@ fn posts_written(rt: HostRuntime) -> Result<(), Fail> {
 #[test]
 fn posts_read(rt: HostRuntime) {
     reads_both::<Post>(&rt, rt.alloc(), POST, POST_NAMED);
+    reads::<Post>(&rt, rt.alloc(), 5, POST, false, POST);
+    refused::<Post>(
+        &rt,
+        rt.alloc(),
+        read(rt.alloc(), 4, POST),
+        "depth limit exceeded",
+    );
     reads::<Post>(&rt, rt.alloc(), 1024, SHORT, false, SHORT_LISTED);
     reads::<Post>(&rt, rt.alloc(), 1024, SHORT_LISTED, false, SHORT_LISTED);
 }

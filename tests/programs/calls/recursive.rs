@@ -1,14 +1,14 @@
 //! What types that lead back to themselves are written as and read from.
 use rmp_decode::{Deserialize, Deserializer, Error, from_slice_strict};
 use rmp_encode::{Serialize, to_vec, to_vec_named};
-use rmp_wire::{ByteBuf, F64Bits, ReadRefReader};
+use rmp_wire::ReadRefReader;
 use std::alloc::Global;
 use std::collections::BTreeMap;
 use std::process::Abort;
 use std::test::Fail;
 use test_json::Json;
 use test_named::{Rule, Stack, Step};
-use test_nodes::{Cell, Folder, Node, Page};
+use test_nodes::{Cell, Folder, Node};
 use test_recursive::{Expr, Formula, Link, Nested, Rose, Tree};
 
 const TREE: &[u8] = b"\x81\xa4Node\x92\x81\xa4Leaf\x01\x81\xa4Node\x90";
@@ -467,103 +467,6 @@ fn folders_refused(rt: HostRuntime) {
         for len in 0..input.len() {
             assert!(rt; read::<Folder>(rt.alloc(), 1024, &input[..len]).is_err());
         }
-    }
-}
-
-const PAGE: &[u8] = b"\x98\xa1n\xff\xa1k\xc2\xc4\x00\xcb\x80\x00\x00\x00\x00\x00\x00\x00\xc0\x90";
-
-const PAGES: &[u8] =
-    b"\x98\xa4home\xd1\xfe\xd4\xa1d\xc3\xc4\x02\x01\xff\xcb\x3f\xf0\x00\x00\x00\x00\x00\x00\
-    \x98\xa1n\xff\xa1k\xc2\xc4\x00\xcb\x80\x00\x00\x00\x00\x00\x00\x00\xc0\x90\
-    \x91\x98\xa0\xcd\x01\x2c\xa2\xc3\xa9\xc3\xc4\x00\xcb\x00\x00\x00\x00\x00\x00\x00\x01\xc0\x90";
-
-const PAGES_NAMED: &[u8] =
-    b"\x88\xa5title\xa4home\xa6number\xd1\xfe\xd4\xa4kind\xa1d\xa6hidden\xc3\xa5cover\xc4\x02\x01\xff\
-    \xa6weight\xcb\x3f\xf0\x00\x00\x00\x00\x00\x00\xa4next\
-    \x88\xa5title\xa1n\xa6number\xff\xa4kind\xa1k\xa6hidden\xc2\xa5cover\xc4\x00\
-    \xa6weight\xcb\x80\x00\x00\x00\x00\x00\x00\x00\xa4next\xc0\xa5parts\x90\
-    \xa5parts\x91\
-    \x88\xa5title\xa0\xa6number\xcd\x01\x2c\xa4kind\xa2\xc3\xa9\xa6hidden\xc3\xa5cover\xc4\x00\
-    \xa6weight\xcb\x00\x00\x00\x00\x00\x00\x00\x01\xa4next\xc0\xa5parts\x90";
-
-#[test]
-fn pages_written(rt: HostRuntime) -> Result<(), Fail> {
-    let next = Page {
-        title: String::from_str(rt.alloc(), "n")?,
-        number: -1,
-        kind: 'k',
-        hidden: false,
-        cover: ByteBuf::new(Vec::new(rt.alloc())),
-        weight: F64Bits(0x8000_0000_0000_0000),
-        next: None,
-        parts: Vec::new(rt.alloc()),
-    };
-    writes(&rt, rt.alloc(), &next, false, PAGE);
-    let Ok(next) = Box::new(rt.alloc(), next) else {
-        return Err(Fail::from("no memory"));
-    };
-    let parts = vec![in rt.alloc();
-        Page {
-            title: String::new(rt.alloc()),
-            number: 300,
-            kind: 'é',
-            hidden: true,
-            cover: ByteBuf::new(Vec::new(rt.alloc())),
-            weight: F64Bits(1),
-            next: None,
-            parts: Vec::new(rt.alloc()),
-        },
-    ]?;
-    let page = Page {
-        title: String::from_str(rt.alloc(), "home")?,
-        number: -300,
-        kind: 'd',
-        hidden: true,
-        cover: ByteBuf::new(vec![in rt.alloc(); 1u8, 255]?),
-        weight: F64Bits(0x3ff0_0000_0000_0000),
-        next: Some(next),
-        parts,
-    };
-    writes(&rt, rt.alloc(), &page, false, PAGES);
-    writes(&rt, rt.alloc(), &page, true, PAGES_NAMED);
-    Ok(())
-}
-
-#[test]
-fn pages_read(rt: HostRuntime) {
-    reads_both::<Page>(&rt, rt.alloc(), PAGES, PAGES_NAMED);
-    for input in [PAGES, PAGES_NAMED] {
-        reads::<Page>(&rt, rt.alloc(), 5, input, false, PAGES);
-        refused::<Page>(&rt, rt.alloc(), read(rt.alloc(), 4, input), TOO_DEEP);
-    }
-    let turned =
-        b"\x88\xa5parts\x90\x05\xcb\x80\x00\x00\x00\x00\x00\x00\x00\xc4\x05cover\xc5\x00\x00\xa4more\xc0\
-        \xa6hidden\xc2\x02\xd9\x01k\xa5title\xc4\x01n\x01\xd0\xff";
-    reads::<Page>(&rt, rt.alloc(), 3, turned, false, PAGE);
-    refused::<Page>(
-        &rt,
-        rt.alloc(),
-        strictly(rt.alloc(), turned),
-        "not canonical",
-    );
-}
-
-#[test]
-fn pages_refused(rt: HostRuntime) {
-    for (input, why) in [
-        (b"\x81\xa5title\xa1n".as_slice(), "missing field"),
-        (b"\x82\xa4next\xc0\x06\xc0", "duplicate field"),
-        (b"\x82\xa4next\xc0\xa6hidden\x00", "invalid type"),
-        (b"\x81\xa6number\xa1n", "wrong msgpack marker FixStr(1)"),
-        (b"\x81\xa4kind\xa2de", "invalid value"),
-        (b"\x81\xa6weight\xca\x00\x00\x00\x00", "invalid type"),
-        (b"\x81\xa5parts\xc0", "invalid type"),
-        (
-            &PAGE[..PAGE.len() - 1],
-            "IO error while reading marker: unexpected end of file",
-        ),
-    ] {
-        refused::<Page>(&rt, rt.alloc(), read(rt.alloc(), 1024, input), why);
     }
 }
 
