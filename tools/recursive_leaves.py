@@ -3,7 +3,7 @@ from __future__ import annotations
 
 import dataclasses
 import re
-from collections.abc import Iterator
+from collections.abc import Iterable, Iterator
 from typing import TYPE_CHECKING, Optional
 
 from declarations import Declared, split
@@ -182,6 +182,11 @@ def option_of_leaf(of: Part) -> Part:
     )
 
 
+def terms_of(parts: Iterable[Part]) -> str:
+    """The type of their tuple, in terms."""
+    return " × ".join(f"({part.term})" if part.kind[0] == "(" else part.term for part in parts)
+
+
 def tuple_of_leaves(of: list[Part]) -> Part:
     """A tuple of leaves."""
     places = [(it, f"{{a}}.{at}") for at, it in enumerate(of)]
@@ -195,7 +200,7 @@ def tuple_of_leaves(of: list[Part]) -> Part:
     both = chained([f"item_only {fact} {value} {other} _ _ _" for fact, value, other in facts[:-1]], f"(last_only {' '.join(facts[-1])})")
     row = f"OfRow ({chained([f'AndThen {read}' for read in reads], 'NoMore')})"
     same = " × ".join(f"({it.same_as(f'x.{at}', f'y.{at}')})" for at, it in enumerate(of))
-    term = " × ".join(it.term for it in of)
+    term = terms_of(of)
     found = [f"x{'.1' * at}{'.0' * (at < len(of) - 1)}" for at in range(len(of))]
     alike = list_of([f"({it.alike_by(f'{{v}}.{at}', f'{{w}}.{at}', f'{{e}}.{at}')}) t" for at, it in enumerate(of)])
     ends = [f"tuple_of ({list_of([it.data.format(a=f'{{{word}}}.{at}') for at, it in enumerate(of)])})" for word in "vw"]

@@ -11,7 +11,7 @@ from declarations import Declared, Field, Shape
 from derived_proofs import SIGNED
 from derived_rounds import Own
 from derived_terms import codes, underscored
-from recursive_leaves import LEAVES, Part, Values, leaf_of, put_in
+from recursive_leaves import LEAVES, Part, Values, leaf_of, put_in, terms_of
 from shared import tuple_of
 
 
@@ -209,7 +209,7 @@ class Level:
 
     def row_of(self, shape: Shape, held: list[Part]) -> Part:
         """Several values, as a tuple, which are read from a list. If each is a leaf, the tuple is one, too."""
-        kind, term, word = tuple_of([part.kind for part in held]), " × ".join(part.term for part in held), f"{underscored(shape.name)}_values"
+        kind, term, word = tuple_of([part.kind for part in held]), terms_of(held), f"{underscored(shape.name)}_values"
         reads = f"{self.name}Row{shape.name} {{reads}} {{k}} {{a}}"
         if all(part.is_leaf for part in held):
             return Part(kind, term, reads.replace(" {reads}", ""), "", "", is_lent=True, word=f"{self.low}_{word}", held=tuple(held))
@@ -265,7 +265,7 @@ class Content(Level):
         self.name, self.low = whole.name + shape.name, f"{whole.low}_{underscored(shape.name)}"
         self.fields: list[tuple[Field, Part]] = list(zip(shape.fields, held))
         self.variants = []
-        self.reader, self.term = f"read_{self.low}_fields", " × ".join(part.term for part in held)
+        self.reader, self.term = f"read_{self.low}_fields", terms_of(held)
         self.opened = self.term
 
     def own(self, value: str = "v") -> str:
