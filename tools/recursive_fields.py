@@ -51,8 +51,8 @@ def wider_lines(level: Level) -> str:
     count, lines = len(level.fields), ""
     for at in range(count, -1, -1):
         head = f"{low}_as{at}"
-        lines += f"""{head} : (P Q : Msg → {whole} → Type 0) → ((m : Msg) (v : {whole}) → P m v → Q m v) → (v : {level.term}) (fs : List (Option Msg)) → {name}From{at} P {own} fs → {name}From{at} Q {own} fs
-"""
+        given = f"(P Q : Msg → {whole} → Type 0) → ((m : Msg) (v : {whole}) → P m v → Q m v) → (v : {level.term}) (fs : List (Option Msg))"
+        lines += f"{head} : {given} → {name}From{at} P {own} fs → {name}From{at} Q {own} fs\n"
         if at == count:
             lines += f"{head} P Q f v fs h = h\n\n"
             continue
