@@ -42,6 +42,12 @@ def count_tests():
     }
 
 
+def count_unsafe():
+    """How many blocks of the crates are `unsafe`."""
+    sources = [it for crate in os.listdir(CRATES) for it in files_below("crates", crate, "src") if it.endswith(".rt")]
+    return sum(len(re.findall(r"\bunsafe \{", read(it))) for it in sources)
+
+
 def ratios(heading, which=0):
     """The ratios of a table of bench/README.md, in its first column of that name, or a later one."""
     part = read("bench/README.md").partition(f"## {heading}\n")[2].partition("\n## ")[0]
@@ -71,8 +77,10 @@ def sentences():
         ("bench/README.md", "{} of these {} loads take at most what the original takes; the median is {}", reads),
         ("bench/README.md", "{} of {} reads take at most what the original takes, and the median is {}", read_many),
         ("bench/README.md", "{} of {} writes do, and the median is {}", written_many),
-        ("docs/PROVED.md", "What {} types are written as, {} rows", [types[0], len(written)]),
+        ("docs/PROVED.md", "What {} types are written as, {} rows in {} settings", [types[0], len(written), len({row[2] for row in written})]),
         ("docs/PROVED.md", "What {} inputs are read as, of {} types", [len(inputs), types[1]]),
+        ("README.md", "`unsafe` is written {} times", [count_unsafe()]),
+        ("docs/PROVED.md", "`unsafe` is written {} times", [count_unsafe()]),
     ]
 
 
