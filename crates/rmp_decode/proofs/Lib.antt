@@ -35,6 +35,7 @@ pub mod MapRefusals
 pub mod MapWiths
 pub mod Maps
 pub mod Meeting
+pub mod Missing
 pub mod Names
 pub mod NamesAhead
 pub mod NextMessage
