@@ -22,12 +22,12 @@ missing_named (s ∷ names) (b ∷ needed) [] n d e l = absurd (cc)
 missing_named (s ∷ names) (true ∷ needed) (None ∷ fs) n d e l = let z : 0 ≡ n = cc in subst (λ k. Some s.now ≡ Some (get_or (s ∷ names) k d).now) z refl
 missing_named (s ∷ names) (false ∷ needed) (None ∷ fs) n d e l =
     let p = later (missing_place needed fs) n e in
-    subst (λ k. missing_name (bytes_of names) needed fs ≡ Some (get_or (s ∷ names) k d).now) (sym p.1.0)
-    (missing_named names needed fs p.0 d p.1.1 (let z = p.1.0 in omega (arith, l, z)))
+    subst (λ k. missing_name (bytes_of names) needed fs ≡ Some (get_or (s ∷ names) k d).now) (sym p.1)
+    (missing_named names needed fs p.0 d p.2 (let z = p.1 in omega (arith, l, z)))
 missing_named (s ∷ names) (b ∷ needed) (Some m ∷ fs) n d e l =
     let p = later (missing_place needed fs) n e in
-    subst (λ k. missing_name (bytes_of names) needed fs ≡ Some (get_or (s ∷ names) k d).now) (sym p.1.0)
-    (missing_named names needed fs p.0 d p.1.1 (let z = p.1.0 in omega (arith, l, z)))
+    subst (λ k. missing_name (bytes_of names) needed fs ≡ Some (get_or (s ∷ names) k d).now) (sym p.1)
+    (missing_named names needed fs p.0 d p.2 (let z = p.1 in omega (arith, l, z)))
 
 pub tells_name : (o : Option (List ℕ)) (name : List ℕ) (e : Error) → o ≡ Some name → field_of e ≡ Some (fitting name)
     → MatchOption o ⊥ (λ s. field_of e ≡ Some (fitting s))
