@@ -27,6 +27,7 @@ pub mod BufferedHeads
 pub mod HeadTaken
 pub mod HeadKinds
 pub mod Laws
+pub mod LeftParts
 pub mod LeafTable
 pub mod Leaves
 pub mod ListRefusals
@@ -34,6 +35,7 @@ pub mod MapRefusals
 pub mod MapWiths
 pub mod Maps
 pub mod Meeting
+pub mod Missing
 pub mod Names
 pub mod NamesAhead
 pub mod NextMessage

@@ -26,6 +26,7 @@ ghost use Rattle.rmp_decode.specs.With.{part_reader};
 
 use crate::access::fields::Fields;
 use crate::access::names::{place_below, place_of};
+use crate::access::parts::levels_outside;
 use crate::access::seq::{SeqAccess, inner_room};
 use crate::content::ReadContent;
 use crate::content::pieces::error_of;
@@ -319,6 +320,7 @@ impl<R: Source, C: SerializerConfig> Deserializer<R, C> {
             }
             Err(e) => {
                 self.room = outer;
+                self.levels = levels_outside(self.levels, outer, inner);
                 Err(e)
             }
         }
@@ -365,14 +367,18 @@ impl<'x, R: Source, C: SerializerConfig> Variant<'x, R, C> {
             self.entry self.exit.0.now) }
         ensures memory { IfErr result (λ e. e ≢ Error.OutOfMemory) }
     {
-        let Variant { de, bare, inner: _ } = self;
+        let Variant { de, bare, inner } = self;
         de.failed = false;
         if bare {
             return Ok(());
         }
+        let outer = de.room;
         match de.unit_content() {
             Ok(()) => {}
-            Err(e) => return Err(e),
+            Err(e) => {
+                de.levels = levels_outside(de.levels, outer, inner);
+                return Err(e);
+            }
         }
         Ok(())
     }
@@ -476,7 +482,7 @@ impl<'x, R: Source, C: SerializerConfig> Variant<'x, R, C> {
             (λ human. Readable (λ m v. OfFields (bytes_of names.now) (λ fs. F.reads human R.lends fs v) m)) self.entry self.exit.0.now) }
         ensures bare { is_bare self.entry ≡ true → (result ≡ Err (Error.Syntax Text.InvalidType)) × (self.exit.0.now ≡ variant_lender self.entry) }
         ensures refused { is_bare self.entry ≡ false → IfErr result (PartRefused R.Source (C.human (config_of (variant_lender self.entry)))
-            R.lends (RefusesFields (bytes_of names.now) F.reads F.parts) (max 1 (content_room self.entry)) (variant_lender self.entry) self.exit.0.now) }
+            R.lends (RefusesFields (bytes_of names.now) F.needed F.parts) (max 1 (content_room self.entry)) (variant_lender self.entry) self.exit.0.now) }
         // As the clause of `deserialize_fields`.
         ensures memory { R.lends ≡ true → F.takes_memory R.lends ≡ false → IfErr result (λ e. e ≡ Error.OutOfMemory
             → PassesSome (bytes_of names.now) (setting_of (C.human (config_of (variant_lender self.entry))) R.lends
@@ -493,7 +499,10 @@ impl<'x, R: Source, C: SerializerConfig> Variant<'x, R, C> {
         de.room = outer;
         let fields = match content {
             Ok(fields) => fields,
-            Err(e) => return Err(e),
+            Err(e) => {
+                de.levels = levels_outside(de.levels, outer, inner);
+                return Err(e);
+            }
         };
         Ok(fields)
     }
