@@ -56,9 +56,9 @@ returns-in-Err-deserialize-clause-err g c =
     let w = c.wanted.ensures.most in
     let i = c.wanted.ensures.within in
     row_refused g.R.Source g.C.SerializerConfig.human g.R.ReadSlice.lends g.T.Deserialize.reads c.args.de.now c.loop-left.de c.offer_part.new.self
-    (record c.deserialize.new.de { levels = c.levels_outside.result }) c.args.bytes c.args.count c.loop-left.left r.0 r.1 (omega arith) c.in-Ok.ensures.stays
+    (record c.deserialize.new.de { levels = c.levels_outside-de.result }) c.args.bytes c.args.count c.loop-left.left r.0 r.1 (omega arith) c.in-Ok.ensures.stays
     g.T.Deserialize.refuses _ _ (omega arith) c.in-Err-deserialize.e c.in-Ok.ensures.ok (search rules)
-    (lawful_levels g.R.Source c.offer_part.new.self c.deserialize.new.de c.in-Err-deserialize.e c.levels_outside.result _ (search rules)
+    (lawful_levels g.R.Source c.offer_part.new.self c.deserialize.new.de c.in-Err-deserialize.e c.levels_outside-de.result _ (search rules)
     c.in-Err-deserialize.ensures.law) (c.in-Err-deserialize.ensures.refused (search rules))
 
 pub loop-left-preserved : goal.loop-left-preserved

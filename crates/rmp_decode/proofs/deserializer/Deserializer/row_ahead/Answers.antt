@@ -28,10 +28,10 @@ returns-in-Some-clause-err g c =
     let fewer : c.saturating_sub-inner.result ≡ c.args.self.now.room - 1 = omega (arith, c.saturating_sub-inner.ensures) in
     let f = rw c.in-Some.is at c.row.ensures.err c.if-row.false in
     record {
-      last = record c.row.new.de { levels = c.levels_outside.result };
+      last = record c.row.new.de { levels = c.levels_outside-self.result };
       row = subst (λ z. FailsRow g.R.Source (λ ms. (v : g.row.F.Denot) × g.F.Fields.reads (g.C.SerializerConfig.human c.args.self.now.config)
           g.R.ReadSlice.lends (given_all ms) v) g.F.Fields.count (record c.args.self.now { room = z; failed = false })
-          (record c.row.new.de { levels = c.levels_outside.result }) c.in-Some.e)
-          fewer (fails_levels g.R.Source _ c.row.new.de _ c.levels_outside.result _ _ f);
+          (record c.row.new.de { levels = c.levels_outside-self.result }) c.in-Some.e)
+          fewer (fails_levels g.R.Source _ c.row.new.de _ c.levels_outside-self.result _ _ f);
       is = refl;
     }

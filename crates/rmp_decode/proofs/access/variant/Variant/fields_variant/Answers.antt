@@ -15,8 +15,8 @@ returns-in-Err-clause-err g c = λ names n old o.
     let l = subst (λ z. Lawful g.R.Source (λ m (v : g.row.F.Denot). OfFields (bytes_of c.args.names.now)
     (λ fs. g.F.Fields.reads (g.C.SerializerConfig.human z) g.R.ReadSlice.lends fs v) m) (part_reader c.args.self.de.now c.args.self.inner)
     c.deserialize_fields-content.new.self (Err c.in-Err.e)) o.stays.config c.in-Err.ensures.law in
-    content_not_by g.R.Source names n old c.args.self o _ _ (record c.deserialize_fields-content.new.self { levels = c.levels_outside.result }) _
-    c.if-bare.false (lawful_levels g.R.Source _ c.deserialize_fields-content.new.self c.in-Err.e c.levels_outside.result _ refl l) (search rules)
+    content_not_by g.R.Source names n old c.args.self o _ _ (record c.deserialize_fields-content.new.self { levels = c.levels_outside-de.result }) _
+    c.if-bare.false (lawful_levels g.R.Source _ c.deserialize_fields-content.new.self c.in-Err.e c.levels_outside-de.result _ refl l) (search rules)
 
 pub returns-clause-ok : goal.returns-clause-ok
 returns-clause-ok g c = λ names n old o.
