@@ -63,7 +63,7 @@ impl<'de, R: ReadSlice<'de>> Deserialize<'de, R> for Light {
 
     ghost absent = { None };
 
-    ghost refuses = { RefusesFields (codes "name" ∷ (codes "height" ∷ [])) ⟦<(String, (u16, ())) as ReadFields<'de, R>>⟧.reads
+    ghost refuses = { RefusesFields (codes "name" ∷ (codes "height" ∷ [])) ⟦<(String, (u16, ())) as ReadFields<'de, R>>⟧.needed
         ⟦<(String, (u16, ())) as ReadFields<'de, R>>⟧.parts };
 
     fn deserialize<C: SerializerConfig>(

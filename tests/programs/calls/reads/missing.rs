@@ -7,7 +7,7 @@ use std::test::Fail;
 use test_derived::{Mixed, Server};
 use test_named::Rule;
 use test_posts::Post;
-use test_types::by_hand::Pup;
+use test_types::Pup;
 use test_types::structs::Dog;
 use test_wide::Manifest;
 
@@ -62,7 +62,8 @@ fn fields<'de, F: ReadFields<'de, ReadRefReader<'de>>>(
     input: &'de [u8],
     names: &[&str],
 ) -> Result<F, Error> {
-    reader(rt, input).deserialize_fields(names)
+    let mut de = reader(rt, input);
+    de.deserialize_fields(names)
 }
 
 #[test]
