@@ -15,6 +15,6 @@ pub fn take(
         return Ok(None);
     };
     let reading = from_slice(alloc, arrived.as_slice())?;
-    arrived.drain(..end);
+    arrived.drain(..end.min(arrived.len()));
     Ok(Some(reading))
 }

@@ -3,7 +3,6 @@
 //! Sum of Reading: 850320fe.
 ghost use Rattle.rmp_decode.specs.FieldRefusing.{RefusesFields};
 ghost use Rattle.rmp_decode.specs.Fields.{OfFields, Field, Absent, NoField};
-ghost use Rattle.rmp_decode.specs.ReadFields.{reads_3};
 ghost use Rattle.rmp_decode.specs.Refusing.{part_of};
 ghost use Rattle.rmp_encode.specs.Refusals.{OfParts};
 ghost use Rattle.rmp_encode.specs.Sizes.{one_of};
@@ -17,6 +16,7 @@ ghost use Rattle.rmp_serde.specs.OnlyRows.{lowers_then};
 ghost use Rattle.rmp_serde.specs.RoundTrip.{Only};
 ghost use Rattle.rmp_serde.specs.StructRounds.{structure_all, structure_row, structure_other, fields_none, fields_cons};
 ghost use Rattle.std.proofs.Common.{refl};
+ghost use Rattle.std.specs.Option.{is_none};
 ghost use Rattle.std.specs.Prelude.{◌∷◌, [], None, codes, string_bytes, pos, negsuc};
 
 use super::Reading;
@@ -65,8 +65,8 @@ impl<'de, R: ReadSlice<'de>> Deserialize<'de, R> for Reading {
     ghost absent = { None };
 
     ghost refuses = { RefusesFields (codes "second" ∷ (codes "sensor" ∷ (codes "celsius" ∷ [])))
-        (reads_3 ⟦<u32 as Deserialize<'de, R>>⟧.reads ⟦<u32 as Deserialize<'de, R>>⟧.absent ⟦<String as Deserialize<'de, R>>⟧.reads
-        ⟦<String as Deserialize<'de, R>>⟧.absent ⟦<i16 as Deserialize<'de, R>>⟧.reads ⟦<i16 as Deserialize<'de, R>>⟧.absent)
+        (is_none ⟦<u32 as Deserialize<'de, R>>⟧.absent ∷ (is_none ⟦<String as Deserialize<'de, R>>⟧.absent
+        ∷ (is_none ⟦<i16 as Deserialize<'de, R>>⟧.absent ∷ [])))
         (part_of ⟦<u32 as Deserialize<'de, R>>⟧.reads ⟦<u32 as Deserialize<'de, R>>⟧.refuses
         ∷ (part_of ⟦<String as Deserialize<'de, R>>⟧.reads ⟦<String as Deserialize<'de, R>>⟧.refuses
         ∷ (part_of ⟦<i16 as Deserialize<'de, R>>⟧.reads ⟦<i16 as Deserialize<'de, R>>⟧.refuses ∷ []))) };
