@@ -109,9 +109,12 @@ def open_goals(said):
 
 
 def apply(edits, folder):
-    """Makes edits in a crate, of those that leave alone what others changed, and answers these."""
+    """Makes edits in a crate, of those that leave alone what others changed or change the same, and answers these."""
     texts, functions, made = {}, set(), []
     for edit in edits:
+        if any(edit.pairs == it.pairs for it in made):
+            made.append(edit)
+            continue
         is_differ = len(made) < MOST and not functions & set(edit.refusals)
         changed = edit.made_in(texts, folder) if is_differ else None
         if changed is not None:
