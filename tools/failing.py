@@ -92,12 +92,11 @@ def say_failing(names, jobs):
     """Runs the tests with the body of each of these edits, and says which fail. The status is 1 where one that an edit names doesn't."""
     edits = {edit: crate for crate in sorted(os.listdir(CRATES)) for edit in every_edit(crate)}
     wanted = {edit: crate for edit, crate in edits.items() if (name_of(edit) in names if names else tests(edit))}
+    is_wrong = not wanted
     with concurrent.futures.ThreadPoolExecutor(jobs) as pool:
-        found = list(pool.map(failing, wanted.values(), wanted))
-    is_wrong = not found
-    for edit, (fail, wrong) in zip(wanted, found):
-        passing = sorted(set(tests(edit)) - set(fail))
-        wrong += [f"{it} DOESN'T FAIL with it" for it in passing]
-        print(f"{wanted[edit]}/{name_of(edit)}: {'; '.join([*wrong, 'these fail: ' + ' '.join(fail)])}", flush=True)
-        is_wrong |= bool(wrong)
+        for edit, (fail, wrong) in zip(wanted, pool.map(failing, wanted.values(), wanted)):
+            passing = sorted(set(tests(edit)) - set(fail))
+            wrong += [f"{it} DOESN'T FAIL with it" for it in passing]
+            print(f"{wanted[edit]}/{name_of(edit)}: {'; '.join([*wrong, 'these fail: ' + ' '.join(fail)])}", flush=True)
+            is_wrong |= bool(wrong)
     return 1 if is_wrong else 0

@@ -35,8 +35,6 @@ fn other_heads_are_faults(rt: HostRuntime) {
     is(&rt, b"\x92\x05\xd9\x01a", Canon::Fault(2));
     // The key of a map.
     is(&rt, b"\x81\xcc\x7f", Canon::Fault(1));
-    // The first of two.
-    is(&rt, b"\x92\xcc\x05\xcc\x06", Canon::Fault(1));
 }
 
 #[test]
