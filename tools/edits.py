@@ -2,8 +2,10 @@
 """Looks at the edits that the prover must refuse: tests/edits/CRATE/FUNCTION__WHAT.edit, which tools/refused.py tries, and
 crates/CRATE/must-fail/FUNCTION__WHAT.edit, which the gate tries.
 
-Says which edit can't be applied, since a text that it replaces isn't exactly once in its file, which has no such name, which of
-tests/edits doesn't say where it is refused, and which public function of the libraries has none. The status is 0 where nothing is said.
+Says which edit or twin can't be applied, since a text that it replaces isn't exactly once in its file, which edit has no such name, which
+doesn't say where it is refused, and which public function of the libraries has none. The status is 0 where nothing is said.
+
+The gate reads no other lines than 'file:', 'old:' and 'new:', so the rest of an edit of must-fail/ has a '# ' in front.
 
 An edit counts for the functions of its name, or, with the name of a type in front, as Type_function__what, for that type's.
 A function needs none that has no body, as a law, that answers a field or makes a struct of one, or whose body is that of
@@ -70,23 +72,38 @@ def files(folder, ending):
                 yield os.path.join(at, name)
 
 
-def pairs(edit):
-    """The file, the text and its replacement, of each pair of an edit."""
-    path = old = None
+def lines_of(edit):
+    """Each line of an edit, as its word and what is after it."""
     for line in read(edit).split("\n"):
-        word, _, rest = line.partition(": ")
+        word, _, rest = line.removeprefix("# ").partition(":")
+        yield word, rest.removeprefix(" ")
+
+
+def pairs(edit, wanted="new"):
+    """The file, the text and its replacement, of each pair of an edit, or of its twin."""
+    path = old = None
+    for word, rest in lines_of(edit):
         if word == "file":
             path = rest.strip()
         elif word == "old":
             old = rest
-        elif word.startswith("new"):
+        elif word == wanted:
             yield path, old, rest
+
+
+def twin(edit):
+    """The pairs of an edit's twin, a body of the right meaning: those that have a line 'twin:' after their 'new:'."""
+    return pairs(edit, "twin")
+
+
+def tests(edit):
+    """The names of the tests that fail with an edit's body."""
+    return [rest.strip() for word, rest in lines_of(edit) if word == "test"]
 
 
 def refusals(edit):
     """Each function that an edit says to be refused, and the goals that are open there."""
-    for line in read(edit).split("\n"):
-        word, _, rest = line.partition(": ")
+    for word, rest in lines_of(edit):
         if word == "refused":
             function, *goals = rest.split()
             yield function, goals
@@ -102,16 +119,18 @@ def edits_of(crate):
     return [*files(os.path.join(EDITS, crate), ".edit")], [*files(os.path.join(CRATES, crate, "must-fail"), ".edit")]
 
 
-def misapplied(crate, edit):
-    """Which texts of an edit aren't there exactly once, each in what the earlier pairs made."""
+def misapplied(crate, replaced):
+    """Which texts of an edit or a twin aren't there exactly once, each in what the earlier pairs made."""
     texts = {}
-    for path, old, new in pairs(edit):
+    for path, old, new in replaced:
         whole = os.path.join(CRATES, crate, path)
         if path not in texts:
             texts[path] = read(whole) if os.path.isfile(whole) else ""
         found = texts[path].count(old)
         if found != 1:
             yield f"{path} has this {found} times: {old}"
+        if old.split() == new.split():
+            yield f"{path} has the same before and after: {old}"
         texts[path] = texts[path].replace(old, new)
 
 
@@ -161,8 +180,10 @@ def main():
             names.add(name.partition("__")[0])
             if not re.fullmatch(r"\w+?__\w+", name):
                 said.append(f"{crate}/{name}: its name isn't FUNCTION__WHAT")
-            said += [f"{crate}/{name}: {why}" for why in misapplied(crate, edit)]
-        said += [f"{os.path.relpath(edit, TOP)}: no line says where it is refused" for edit in of_tests if not says_where(edit)]
+            said += [f"{crate}/{name}: {why}" for why in misapplied(crate, pairs(edit))]
+            said += [f"{crate}/{name}, its twin: {why}" for why in misapplied(crate, twin(edit))]
+            said += [f"{crate}/{name}: its twin is itself" for it in [[*pairs(edit)]] if it == [*twin(edit)]]
+            said += [] if says_where(edit) or edit in of_gate else [f"{crate}/{name}: no line says where it is refused"]
         if crate in LIBRARIES:
             said += [f"{crate}: {name} has no edit" for name in without_edit(crate, names)]
     print("\n".join(said) or "each edit can be applied, and each public function has one")

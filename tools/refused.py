@@ -1,10 +1,17 @@
 #!/usr/bin/env python3
 """Tries the edits of tests/edits, many in one check: `tools/refused.py [--gate LOG] [--jobs N] [--write] [CRATE..]`.
 
+    tools/refused.py --count [CRATE..]      says only what the edits rest on
+    tools/refused.py --tests EDIT..         runs the tests with the body of each of these edits, and says which fail
+
 A copy of a crate is made, with as many of its edits as leave each other's lines and functions alone, and the functions that they name are
 proved there, with those that these call, from nothing. An edit is refused where the prover leaves the goals of its lines `refused:` open,
 each in the function that is named before them. A function waits for the proofs of those that it calls: what wasn't seen for that is tried in
 the next check, without the edits that were. A function that no edit names and that is open by itself is told, and counts as a failure.
+
+Where an edit has a twin, a body of the right meaning, that is made in a copy without the edits, and has to be accepted: then the proof files
+don't refuse the edit for being written otherwise. At the end comes what the edits of each crate rest on (tools/evidence.py), with the names of
+those that docs/PROVED.md names and that rest on nothing yet. One that doesn't say where it is refused is a failure.
 
 Crates are tried side by side, at most N. The libraries below a crate are taken as the gate built them. With --gate LOG, the gate is
 running, LOG has what it said so far, each line after a number, and a crate's edits are tried as soon as its libraries are proved. With
@@ -25,7 +32,9 @@ import time
 sys.dont_write_bytecode = True
 from archive import CRATES, copied, every_crate, kit_folder, not_new, words
 from crates import below
-from edits import EDITS, edits_of, pairs, refusals
+from edits import edits_of, pairs, refusals, twin
+from evidence import counted, every_edit, in_words, name_of
+from failing import say_failing
 
 # An error at a goal of a function's proof file, and the goals that are open where there is no file or it doesn't have them.
 AT_GOAL = re.compile(r"\./proofs/(\S+)/(?:Answers|Invariants|Proof)\.antt:\d+:\d+: error: `([^`]+)`(.*)")
@@ -39,7 +48,7 @@ FAULT = re.compile(r"\S+:\d+:\d+: error\[[\w-]+\]|rattle: .*")
 
 @dataclasses.dataclass(frozen=True)
 class Edit:
-    """An edit of a crate: its file, the texts that it replaces in which file, and the goals that refuse it by their functions."""
+    """An edit of a crate, or its twin: its file, the texts that it replaces in which file, and the goals that refuse it by their functions."""
 
     path: str
     pairs: tuple
@@ -47,7 +56,7 @@ class Edit:
 
     @property
     def name(self):
-        return os.path.basename(self.path)[: -len(".edit")]
+        return name_of(self.path)
 
     def made_in(self, texts, folder):
         """The files that it changes, as they are then, or None where a text that it replaces isn't there once."""
@@ -63,13 +72,21 @@ class Edit:
         return made
 
     def is_refused(self, opened):
-        """Whether all its goals are among those that are open."""
-        return all(opened[function] and goals <= opened[function] for function, goals in self.refusals.items())
+        """Whether it names goals, and all of them are among those that are open."""
+        named = self.refusals.items()
+        return bool(named) and all(opened[function] and goals <= opened[function] for function, goals in named)
 
 
 def read_edits(crate):
     for path in edits_of(crate)[0]:
         yield Edit(path, tuple(pairs(path)), {function: set(goals) for function, goals in refusals(path)})
+
+
+def read_twins(crate):
+    """The twins of a crate's edits, those that the gate tries among them."""
+    for path in every_edit(crate):
+        if any(twin(path)):
+            yield Edit(path, tuple(twin(path)), dict(refusals(path)))
 
 
 def write_goals(edit, opened):
@@ -92,9 +109,12 @@ def open_goals(said):
 
 
 def apply(edits, folder):
-    """Makes edits in a crate, of those that leave alone what others changed, and answers these."""
+    """Makes edits in a crate, of those that leave alone what others changed or change the same, and answers these."""
     texts, functions, made = {}, set(), []
     for edit in edits:
+        if any(edit.pairs == it.pairs for it in made):
+            made.append(edit)
+            continue
         is_differ = len(made) < MOST and not functions & set(edit.refusals)
         changed = edit.made_in(texts, folder) if is_differ else None
         if changed is not None:
@@ -113,7 +133,8 @@ def check(crate, edits, kept):
     with tempfile.TemporaryDirectory() as folder:
         place = copied(crate, folder)
         made = apply(edits, place)
-        command = [f"{kit}/bin/rattle", "check", *words(crate, every_crate(), kit), "--incremental", kept]
+        root = next(it for it in ("src/lib.rt", "src/main.rt") if os.path.isfile(os.path.join(place, it)))
+        command = [f"{kit}/bin/rattle", "check", *words(crate, every_crate(), kit, root), "--incremental", kept]
         # (functions that call one another have one proof, PATH::+CYCLE, and are asked for by their path)
         for path in sorted({it.partition("::+")[0] for edit in made for it in edit.refusals}):
             command += ["--only", path]
@@ -124,28 +145,47 @@ def check(crate, edits, kept):
     return made, open_goals(ran.stdout), faults
 
 
-def try_edits(crate, is_written):
+def at_goals(functions, opened):
+    return "; ".join(f"{function} at {', '.join(sorted(opened[function]))}" for function in functions if opened[function])
+
+
+def try_edits(crate, kept, is_written):
     """Tries each edit of a crate, and answers what is said of it, by its name, and what else was wrong."""
     left, said, wrong = list(read_edits(crate)), {}, []
     if is_written:
         left = [dataclasses.replace(edit, refusals=dict.fromkeys(edit.refusals, set())) for edit in left]
-    with tempfile.TemporaryDirectory() as kept:
-        while left:
-            made, opened, faults = check(crate, left, kept)
-            named = {function for edit in made for function in edit.refusals}
-            strays = sorted(set(opened) - named)
-            wrong += [*faults, *(f"{it} is open by itself, at {', '.join(sorted(opened[it]))}, and no edit names it" for it in strays)]
-            seen = [] if faults else [edit for edit in made if edit.is_refused(opened)]
-            for edit in seen:
-                at = (f"{function} at {', '.join(sorted(opened[function]))}" for function in edit.refusals)
-                said[edit.name] = "refused: " + "; ".join(at)
-                if is_written:
-                    write_goals(edit, opened)
-            if not seen:
-                wrong += [f"{edit.name} IS NOT REFUSED at what it names: {dict(edit.refusals)}" for edit in left]
-                break
-            left = [edit for edit in left if edit not in seen]
+    while left:
+        made, opened, faults = check(crate, left, kept)
+        named = {function for edit in made for function in edit.refusals}
+        strays = sorted(set(opened) - named)
+        wrong += [*faults, *(f"{it} is open by itself, at {', '.join(sorted(opened[it]))}, and no edit names it" for it in strays)]
+        seen = [] if faults else [edit for edit in made if edit.is_refused(opened)]
+        for edit in seen:
+            said[edit.name] = "refused: " + at_goals(edit.refusals, opened)
+            if is_written:
+                write_goals(edit, opened)
+        if not seen:
+            wrong += [f"{edit.name} IS NOT REFUSED at what it names: {dict(edit.refusals)}" for edit in left]
+            break
+        left = [edit for edit in left if edit not in seen]
     return said, wrong
+
+
+def try_twins(crate, kept):
+    """Tries the twin of each edit of a crate that has one, and answers the names of those that are accepted, and what was wrong."""
+    left, accepted, wrong = list(read_twins(crate)), [], []
+    while left:
+        made, opened, faults = check(crate, left, kept)
+        refused = [it for it in made if any(opened[function] for function in it.refusals)]
+        wrong += [*faults, *(f"the twin of {it.name} IS REFUSED, {at_goals(it.refusals, opened)}" for it in refused)]
+        if not faults and not any(opened.values()):
+            accepted += [it.name for it in made]
+            refused = made
+        if not refused:
+            wrong += [f"{function} is open by a twin's change, and no edit names it" for function in opened if opened[function]]
+            break
+        left = [it for it in left if it not in refused]
+    return accepted, wrong
 
 
 def wait_for(libraries, log):
@@ -167,11 +207,22 @@ def tried(crate, log, is_written):
         print(f"{crate}: its libraries aren't proved", flush=True)
         return 0, len(list(read_edits(crate)))
     waited = time.monotonic() - began
-    said, wrong = try_edits(crate, is_written)
+    with tempfile.TemporaryDirectory() as kept:
+        said, wrong = try_edits(crate, kept, is_written)
+        accepted, of_twins = try_twins(crate, kept)
+    wrong += of_twins
     lines = [f"edit {crate}/{name}: {what}" for name, what in sorted(said.items())] + [f"{crate}: {it}" for it in wrong]
-    lines.append(f"{crate}: {len(said)} edits are refused, {len(wrong)} failures, {time.monotonic() - began - waited:.0f} s")
+    counts = f"{len(said)} edits are refused, {len(accepted)} twins are accepted, {len(wrong)} failures"
+    lines.append(f"{crate}: {counts}, {time.monotonic() - began - waited:.0f} s")
     print("\n".join(lines), flush=True)
-    return len(said), len(wrong)
+    return len(said) + len(accepted), len(wrong)
+
+
+def say_counts(crates):
+    """Says what the edits of these crates rest on, and answers how many failures there are."""
+    total, wrong = counted(crates)
+    print("\n".join([*wrong, f"edits: {in_words(total)}"]), flush=True)
+    return len(wrong)
 
 
 def main():
@@ -179,16 +230,24 @@ def main():
     parser.add_argument("--gate", metavar="LOG")
     parser.add_argument("--jobs", metavar="N", type=int, default=4)
     parser.add_argument("--write", action="store_true")
-    parser.add_argument("crates", nargs="*", default=sorted(os.listdir(EDITS)))
+    parser.add_argument("--count", action="store_true")
+    parser.add_argument("--tests", action="store_true")
+    parser.add_argument("crates", nargs="*")
     given = parser.parse_args()
     crates = every_crate()
-    names = sorted(given.crates, key=lambda it: len(below([it], crates)))
+    if given.tests:
+        return say_failing(given.crates, given.jobs)
+    asked = given.crates or sorted(os.listdir(CRATES))
+    if given.count:
+        return 1 if say_counts(asked) else 0
+    tries = [it for it in asked if [*read_edits(it), *read_twins(it)]]
+    names = sorted(tries, key=lambda it: len(below([it], crates)))
     if not given.gate:
         for library in dict.fromkeys(it for name in names for it in not_new(name, crates)):
             subprocess.run(["rt", "lib"], cwd=os.path.join(CRATES, library), check=True)
     with concurrent.futures.ThreadPoolExecutor(given.jobs) as pool:
         counts = list(pool.map(lambda it: tried(it, given.gate, given.write), names))
-    failed = sum(count for _, count in counts)
+    failed = sum(count for _, count in counts) + say_counts(asked)
     print(f"{sum(count for count, _ in counts)} passed, {failed} failed")
     return 1 if failed else 0
 

@@ -1,0 +1,75 @@
+"""What each edit that the prover must refuse rests on, as its file and the proof files say: it shows something of a contract only where a
+body of the right meaning would have been accepted. An edit rests on
+
+- the search, where it alone decides a goal that refuses the edit: no proof file answers that one;
+- a twin, a body of the right meaning that differs at the same place, and that the same proof files prove;
+- a test, which fails with the edit's body;
+- nothing yet, where each of its goals has an answer by hand, which might fit no other body either.
+"""
+import collections
+import os
+import re
+import sys
+
+sys.dont_write_bytecode = True
+from edits import CRATES, edits_of, read, refusals, says_where, tests, twin
+from promises import ROW, TOP
+
+KINDS = ("on the search", "on a twin", "on a test", "on nothing yet")
+SEARCH, TWIN, TEST, NOTHING = KINDS
+PROOF_FILES = ("Answers", "Invariants", "Proof")
+ANSWER = re.compile(r"^(?:pub )?(\S+) : goal\.\1$", re.M)
+
+
+def name_of(edit):
+    return os.path.basename(edit)[: -len(".edit")]
+
+
+def every_edit(crate):
+    """The edits of a crate that tools/refused.py tries, and those that the gate does."""
+    of_tests, of_gate = edits_of(crate)
+    return of_tests + of_gate
+
+
+def answered(crate, function):
+    """The goals of a function that its proof files answer."""
+    folder = os.path.join(CRATES, crate, "proofs", *function.split("::"))
+    files = [os.path.join(folder, f"{name}.antt") for name in PROOF_FILES]
+    return {goal for file in files if os.path.isfile(file) for goal in ANSWER.findall(read(file))}
+
+
+def is_by_search(crate, edit):
+    """Whether the search alone decides a goal that refuses an edit."""
+    return any(set(goals) - answered(crate, function) for function, goals in refusals(edit))
+
+
+def rests(crate, edit):
+    """What an edit rests on."""
+    if is_by_search(crate, edit):
+        return SEARCH
+    if any(twin(edit)):
+        return TWIN
+    return TEST if tests(edit) else NOTHING
+
+
+def in_words(counts):
+    return ", ".join(f"{counts[kind]} {kind}" for kind in KINDS)
+
+
+def counted(crates):
+    """Says what the edits of each crate rest on, and which that docs/PROVED.md names rest on nothing; answers the counts of all, and what is wrong."""
+    named = {edit for *_, edit in ROW.findall(read(os.path.join(TOP, "docs", "PROVED.md")))}
+    total, wrong = collections.Counter(), []
+    for crate in crates:
+        edits = every_edit(crate)
+        kinds = {edit: rests(crate, edit) for edit in edits}
+        wrong += [f"{crate}: {name_of(edit)} doesn't say where it is refused" for edit in edits_of(crate)[0] if not says_where(edit)]
+        bare = [name_of(edit) for edit, kind in kinds.items() if kind == NOTHING]
+        counts = collections.Counter(kinds.values())
+        if edits:
+            print(f"{crate}: {in_words(counts)}")
+        for name in bare:
+            if name in named:
+                print(f"{crate}: {name} rests on nothing yet, and docs/PROVED.md names it")
+        total += counts
+    return total, wrong
