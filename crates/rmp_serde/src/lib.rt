@@ -19,4 +19,4 @@ pub use rmp_round_trip::{NeverNil, RoundTrip};
 pub use rmp_scan::{Scan, Scanner, message_len};
 pub use rmp_wire as wire;
 pub use rmp_wire::{MSGPACK_EXT_STRUCT_NAME, Marker, config};
-pub use value::{Kind, Pairs, Parts, Value, ValueRef};
+pub use value::{Kind, Pairs, Parts, Readable, Value, ValueRef};
