@@ -34,14 +34,17 @@ pub mod Equal
 pub mod EqualLaws
 pub mod Flat
 pub mod OpenParts
+pub mod OpenReadable
 pub mod PairsLeft
 pub mod Parts
 pub mod PartsLeft
 pub mod Places
 pub mod RawRounds
+pub mod Quoted
 pub mod Raws
 pub mod Read
 pub mod ReadParts
+pub mod Readable
 pub mod Refuse
 pub mod Short
 pub mod Tokens

@@ -19,6 +19,7 @@ pub use read::read_value;
 pub use reference::{Pairs, Parts, ValueRef};
 use rmp_wire::Head;
 use std::marker::Model;
+pub use text::Readable;
 
 /// A message of any kind, as a tree.
 ///

@@ -1,4 +1,7 @@
 //! A message as text.
+mod quoted;
+mod readable;
+
 ghost use Rattle.std.specs.Prelude.{◌≡◌, ◌≤◌, ◌++◌, ◌∷◌, [], length, IfOk, IfSome, OnOk};
 ghost use Rattle.std.specs.Fmt.{IsPlainFormatter, WritesOnOk};
 ghost use Rattle.hex.specs.Hex.{encode_lower};
@@ -10,6 +13,7 @@ ghost use Rattle.rmp_serde.specs.TreeText.{tree_text};
 
 use crate::value::flat::Node;
 use crate::value::{Kind, Parts, Value, ValueRef};
+pub use readable::Readable;
 use std::alloc::AllocError;
 use std::{fmt, mem, str};
 
