@@ -17,6 +17,7 @@ pub use raw::{Raw, RawRef};
 pub use rmp_ends::EndsInside;
 pub use rmp_round_trip::{NeverNil, RoundTrip};
 pub use rmp_scan::{Scan, Scanner, message_len};
+pub use rmp_types::{Float64, Timestamp};
 pub use rmp_wire as wire;
 pub use rmp_wire::{MSGPACK_EXT_STRUCT_NAME, Marker, config};
 pub use value::{Kind, Pairs, Parts, Value, ValueRef};
