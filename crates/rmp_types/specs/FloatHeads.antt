@@ -1,7 +1,7 @@
 -- The double of a message that is a head alone.
 use Rattle.std.specs.Prelude.{◌≡◌, ℕ}
 use Rattle.rmp_wire.specs.declared.head.Head.{Head}
-use Rattle.rmp_wire.specs.declared.head.Head.TheVariants.{Nil, Truth, Whole, F32Bits, F64Bits, Text, Bin, Array, Map, Ext}
+use Rattle.rmp_wire.specs.declared.head.Head.TheVariants.{Whole, F32Bits, F64Bits}
 use Rattle.rmp_decode.specs.declared.error.Error.{Error}
 use Rattle.rmp_decode.specs.declared.error.Error.TheVariants.{Syntax}
 use Rattle.rmp_decode.specs.declared.text.Text.TheVariants.{InvalidType, InvalidValue}

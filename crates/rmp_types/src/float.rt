@@ -1,4 +1,6 @@
 //! Doubles, from floats of either size and from whole numbers.
+#![tactic(auto, unfolding(rmp_encode::specs::Data::lower), using(rmp_encode::proofs::Parts::part_memory))]
+
 ghost use Rattle.std.proofs.Common.{refl};
 ghost use Rattle.std.specs.Prelude.{◌≡◌, ◌<◌, ◌^◌, None, Some, false, IfErr, IfOk, from_bits, to_bits};
 ghost use Rattle.std.specs.Float.{binary64};

@@ -14,6 +14,9 @@ pub struct Reading {
 /// What is wrong there.
 #[derive(Drop)]
 pub enum Alarm {
-    Silent { since: Timestamp, last: Option<Float64> },
+    Silent {
+        since: Timestamp,
+        last: Option<Float64>,
+    },
     Above(Vec<Float64>),
 }

@@ -49,8 +49,12 @@ fn told(alloc: Global, kind: &str, message: &[u8]) -> io::Result<String> {
         _ => match from_slice::<Reading>(alloc, message) {
             Ok(it) => {
                 let (at, bits) = (it.at, it.load.bits);
-                write!(said, "{} {bits:016x} {} {}", it.name, at.seconds, at.nanoseconds)
-                    .map_err(invalid)?;
+                write!(
+                    said,
+                    "{} {bits:016x} {} {}",
+                    it.name, at.seconds, at.nanoseconds
+                )
+                .map_err(invalid)?;
                 tell(alloc, &it, &mut said)?;
             }
             Err(_) => write!(said, "refused").map_err(invalid)?,

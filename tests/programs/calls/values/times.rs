@@ -31,15 +31,50 @@ fn the_shortest_payload_is_written(rt: HostRuntime) {
     assert!(rt; is_written(&rt, 4_294_967_295, 0, b"\xd6\xff\xff\xff\xff\xff"));
     assert!(rt; is_written(&rt, 1_514_862_245, 0, b"\xd6\xff\x5a\x4a\xf6\xa5"));
     // 8 bytes
-    assert!(rt; is_written(&rt, 1_514_862_245, 678_901_234, b"\xd7\xff\xa1\xdc\xd7\xc8\x5a\x4a\xf6\xa5"));
+    assert!(rt;
+        is_written(
+            &rt,
+            1_514_862_245,
+            678_901_234,
+            b"\xd7\xff\xa1\xdc\xd7\xc8\x5a\x4a\xf6\xa5"
+        )
+    );
     assert!(rt; is_written(&rt, 0, 1, b"\xd7\xff\0\0\0\x04\0\0\0\0"));
     assert!(rt; is_written(&rt, 4_294_967_296, 0, b"\xd7\xff\0\0\0\x01\0\0\0\0"));
-    assert!(rt; is_written(&rt, 17_179_869_183, 999_999_999, b"\xd7\xff\xee\x6b\x27\xff\xff\xff\xff\xff"));
+    assert!(rt;
+        is_written(
+            &rt,
+            17_179_869_183,
+            999_999_999,
+            b"\xd7\xff\xee\x6b\x27\xff\xff\xff\xff\xff"
+        )
+    );
     // 12 bytes
-    assert!(rt; is_written(&rt, 17_179_869_184, 0, b"\xc7\x0c\xff\0\0\0\0\0\0\0\x04\0\0\0\0"));
-    assert!(rt; is_written(&rt, -1, 999_999_999, b"\xc7\x0c\xff\x3b\x9a\xc9\xff\xff\xff\xff\xff\xff\xff\xff\xff"));
+    assert!(rt;
+        is_written(
+            &rt,
+            17_179_869_184,
+            0,
+            b"\xc7\x0c\xff\0\0\0\0\0\0\0\x04\0\0\0\0"
+        )
+    );
+    assert!(rt;
+        is_written(
+            &rt,
+            -1,
+            999_999_999,
+            b"\xc7\x0c\xff\x3b\x9a\xc9\xff\xff\xff\xff\xff\xff\xff\xff\xff"
+        )
+    );
     assert!(rt; is_written(&rt, i64::MIN, 0, b"\xc7\x0c\xff\0\0\0\0\x80\0\0\0\0\0\0\0"));
-    assert!(rt; is_written(&rt, i64::MAX, 0, b"\xc7\x0c\xff\0\0\0\0\x7f\xff\xff\xff\xff\xff\xff\xff"));
+    assert!(rt;
+        is_written(
+            &rt,
+            i64::MAX,
+            0,
+            b"\xc7\x0c\xff\0\0\0\0\x7f\xff\xff\xff\xff\xff\xff\xff"
+        )
+    );
 }
 
 #[test]
@@ -63,7 +98,10 @@ fn a_second_of_nanoseconds_is_refused_by_name(rt: HostRuntime) {
     ];
     for message in &messages {
         match time_of(&rt, *message) {
-            Err(Error::Syntax(text)) => assert_eq!(rt; text.as_str(), "nanoseconds above 999999999"),
+            Err(Error::Syntax(text)) => assert_eq!(rt;
+                text.as_str(),
+                "nanoseconds above 999999999"
+            ),
             _ => assert!(rt; false),
         }
     }
@@ -72,13 +110,34 @@ fn a_second_of_nanoseconds_is_refused_by_name(rt: HostRuntime) {
 #[test]
 fn other_messages_are_no_points_in_time(rt: HostRuntime) {
     // other lengths, and other kinds
-    let lengths = [b"\xd5\xff\0\0".as_slice(), b"\xc7\0\xff", b"\xd8\xff\0\0\0\0\0\0\0\0\0\0\0\0\0\0\0\0", b"\xc7\x05\xff\0\0\0\0\0"];
+    let lengths = [
+        b"\xd5\xff\0\0".as_slice(),
+        b"\xc7\0\xff",
+        b"\xd8\xff\0\0\0\0\0\0\0\0\0\0\0\0\0\0\0\0",
+        b"\xc7\x05\xff\0\0\0\0\0",
+    ];
     for message in &lengths {
-        assert!(rt; matches!(time_of(&rt, *message), Err(Error::Syntax(Text::InvalidLength))));
+        assert!(rt;
+            matches!(
+                time_of(&rt, *message),
+                Err(Error::Syntax(Text::InvalidLength))
+            )
+        );
     }
-    let kinds = [b"\xd6\x01\0\0\0\x01".as_slice(), b"\x01", b"\xc0", b"\xa4\0\0\0\x01", b"\x92\x01\0"];
+    let kinds = [
+        b"\xd6\x01\0\0\0\x01".as_slice(),
+        b"\x01",
+        b"\xc0",
+        b"\xa4\0\0\0\x01",
+        b"\x92\x01\0",
+    ];
     for message in &kinds {
-        assert!(rt; matches!(time_of(&rt, *message), Err(Error::Syntax(Text::InvalidType))));
+        assert!(rt;
+            matches!(
+                time_of(&rt, *message),
+                Err(Error::Syntax(Text::InvalidType))
+            )
+        );
     }
     assert!(rt; matches!(time_of(&rt, b"\xd6\xff\0\0\0"), Err(e) if e.is_incomplete()));
     assert!(rt; matches!(time_of(&rt, b"\xd6"), Err(e) if e.is_incomplete()));
