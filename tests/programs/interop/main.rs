@@ -65,8 +65,11 @@ fn told(alloc: Global, kind: &str, message: &[u8]) -> io::Result<String> {
 
 fn main(rt: HostRuntime) -> io::Result<()> {
     let alloc = rt.alloc();
-    let mut rows = String::new(alloc);
-    io::stdin(&rt).read_to_string(&mut rows)?;
+    let mut input = Vec::new(alloc);
+    rt.reader().read_to_end(&mut input)?;
+    let Ok(rows) = str::from_utf8(input.as_slice()) else {
+        return Err(ErrorKind::InvalidData.into());
+    };
     for row in rows.lines() {
         let Some((kind, digits)) = row.split_once(' ') else {
             return Err(ErrorKind::InvalidData.into());

@@ -6,6 +6,7 @@ ghost use Rattle.rmp_types.specs.Payloads.{IsTimeLen, Says, long_payload, payloa
 const SECONDS: u64 = 1 << 34;
 
 // A payload, of one of its three lengths.
+#[derive(Drop)]
 pub(crate) enum Payload {
     Short([u8; 4]),
     Middle([u8; 8]),
