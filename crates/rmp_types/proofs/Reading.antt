@@ -21,7 +21,7 @@ use Rattle.rmp_decode.proofs.Laws.{lawful_refuse, refused_head, refused_none}
 use Rattle.rmp_types.specs.Payloads.{IsTimeLen, Says}
 use Rattle.rmp_types.specs.Timestamps.{IsTime, IsTimeHead, IsTimestamp, SaysTooMany, not_time, time_tag, too_many}
 use Rattle.rmp_types.specs.declared.timestamp.Timestamp.{Timestamp}
-use Rattle.rmp_types.proofs.Says.{says_once}
+use Rattle.rmp_types.specs.Says.{says_once}
 
 -- what is read as a point in time
 abbrev pub reads_time : Msg → Timestamp → Type 0
@@ -75,6 +75,9 @@ module _ {R C : Type 0} (g : Ghosts R) (old at : Deserializer R C) where
         → RefusesContent old.strict IsTimeHead not_time too_many (faults_of g old) (faults_of g new) (left g old) e
     other_refuses new e f is q = rw q (content_other old.strict IsTimeHead not_time too_many (faults_of g old) (faults_of g begun) (left g old) c.marker h e
         c.begun.sound c.begun.marked f (is c.marker))
+
+  pub wanted : (h : Head) (len : ℕ) → h ≡ Ext len time_tag → ConsumesHead g h old begun → ConsumesHead g (Ext len time_tag) old begun
+  wanted h len q c = subst (λ y. ConsumesHead g y old begun) q c
 
   -- ---- its payload
 

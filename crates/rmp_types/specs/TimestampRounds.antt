@@ -15,7 +15,7 @@ use Rattle.rmp_round_trip.specs.RoundTrip.{LowersTo}
 use Rattle.rmp_types.specs.Payloads.{Says, time_payload}
 use Rattle.rmp_types.specs.Timestamps.{IsTimeHead, IsTimestamp, not_time, time_tag, too_many}
 use Rattle.rmp_types.specs.declared.timestamp.Timestamp.{Timestamp}
-use Rattle.rmp_types.proofs.Says.{payload_says, says_once}
+use Rattle.rmp_types.specs.Says.{payload_says, says_once}
 
 module _ (s : Settings) where
   pub time_row : (seconds : ℤ) (nanoseconds : ℕ) → FitsSigned w64 seconds → nanoseconds ≤ 999999999

@@ -45,7 +45,7 @@ pub(crate) fn parts(payload: &[u8]) -> (i64, u32)
 }
 
 // The payload that is written.
-#[tactic(auto, using(crate::proofs::Payloads::low_seconds, crate::proofs::Payloads::high_seconds, crate::proofs::Payloads::below_0))]
+#[tactic(auto, using(crate::specs::PayloadCases::low_seconds, crate::specs::PayloadCases::high_seconds, crate::specs::PayloadCases::below_0))]
 pub(crate) fn written(seconds: i64, nanoseconds: u32) -> Payload
     requires { nanoseconds ≤ 999999999 }
     ensures { payload_bytes result ≡ time_payload seconds nanoseconds }

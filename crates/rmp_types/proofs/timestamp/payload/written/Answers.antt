@@ -2,7 +2,7 @@ use Rattle.std.proofs.Common.{rules, ◌≡◌, ◌∙◌, sym, ap, arith, pos}
 use Rattle.std.specs.Int.{w64}
 use Rattle.std.proofs.lemmas.Int.{to_z-of_z}
 use Rattle.rmp_types.specs.Payloads.{long_payload}
-use Rattle.rmp_types.proofs.Payloads.{high_seconds}
+use Rattle.rmp_types.specs.PayloadCases.{high_seconds}
 use Rattle.rmp_types.proofs.timestamp.payload.written.Goals as goal
 
 pub returns-else-low-lt-SECONDS : goal.returns-else-low-lt-SECONDS

@@ -7,7 +7,7 @@ use Rattle.std.proofs.lemmas.Nat.{from_be_bytes-to_be_bytes_4, from_be_bytes-to_
 use Rattle.std.proofs.lemmas.Int.{to_z-of_z}
 use Rattle.std.proofs.Math.Facts.{Fits-of_z}
 use Rattle.rmp_types.specs.Payloads.{Says, Short, Middle, Long, time_payload, short_or_middle, long_payload}
-use Rattle.rmp_types.proofs.Payloads.{low_seconds, high_seconds, below_0}
+use Rattle.rmp_types.specs.PayloadCases.{low_seconds, high_seconds, below_0}
 
 fits_unsigned : (z : ℤ) → FitsSigned w64 z → cast_unsigned w64 z < 2 ^ 64
 fits_unsigned z h = (Fits-of_z h).fits
