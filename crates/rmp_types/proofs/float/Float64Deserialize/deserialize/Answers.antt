@@ -11,9 +11,9 @@ pub returns-in-Ok-from_head-clause-law : goal.returns-in-Ok-from_head-clause-law
 returns-in-Ok-from_head-clause-law g c = float_read g.R.Source c.args.de.now c.deserialize_head.new.self c.in-Ok.head _ c.in-Ok.ensures.ok c.in-Ok.ensures.ready c.in-Ok-from_head.ensures.ok
 
 pub returns-in-Err-from_head-clause-law : goal.returns-in-Err-from_head-clause-law
-returns-in-Err-from_head-clause-law g c = float_refused g.R.Source c.args.de.now c.deserialize_head.new.self c.in-Ok.head c.in-Ok.ensures.ok _ _ c.in-Err-from_head.ensures.err
-    c.refuse.ensures.failed
+returns-in-Err-from_head-clause-law g c = rw c.refuse.ensures.same (float_refused g.R.Source c.args.de.now c.deserialize_head.new.self c.in-Ok.head c.in-Ok.ensures.ok _ _ c.in-Err-from_head.ensures.err
+    c.refuse.ensures.failed)
 
 pub returns-in-Err-from_head-clause-refused : goal.returns-in-Err-from_head-clause-refused
-returns-in-Err-from_head-clause-refused g c = λ _. float_refuses g.R.Source c.args.de.now c.deserialize_head.new.self c.in-Ok.head c.in-Ok.ensures.ok _ _ c.in-Err-from_head.ensures.err
-    c.refuse.ensures.failed
+returns-in-Err-from_head-clause-refused g c = λ _. rw c.refuse.ensures.same (float_refuses g.R.Source c.args.de.now c.deserialize_head.new.self c.in-Ok.head c.in-Ok.ensures.ok _ _ c.in-Err-from_head.ensures.err
+    c.refuse.ensures.failed)

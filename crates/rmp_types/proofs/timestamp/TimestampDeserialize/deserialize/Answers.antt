@@ -15,8 +15,8 @@ returns-in-Err-payload_len-clause-law g c = other_head g.R.Source c.args.de.now 
     c.in-Err-payload_len.ensures.other c.refuse.ensures.failed
 
 pub returns-in-Err-payload_len-clause-refused : goal.returns-in-Err-payload_len-clause-refused
-returns-in-Err-payload_len-clause-refused g c = λ _. other_refuses g.R.Source c.args.de.now c.deserialize_head.new.self c.in-Ok.head c.in-Ok.ensures.ok _ _
-    c.in-Err-payload_len.ensures.other c.in-Err-payload_len.ensures.err c.refuse.ensures.failed
+returns-in-Err-payload_len-clause-refused g c = λ _. rw c.refuse.ensures.same (other_refuses g.R.Source c.args.de.now c.deserialize_head.new.self c.in-Ok.head c.in-Ok.ensures.ok _ _
+    c.in-Err-payload_len.ensures.other c.in-Err-payload_len.ensures.err c.refuse.ensures.failed)
 
 pub returns-in-Err-append_content-clause-law : goal.returns-in-Err-append_content-clause-law
 returns-in-Err-append_content-clause-law g c =
@@ -54,5 +54,5 @@ returns-clause-refused g c = λ _.
     let t = wanted g.R.Source c.args.de.now c.deserialize_head.new.self c.in-Ok.head c.in-Ok-payload_len.len w.0 c.in-Ok.ensures.ok in
     let a = c.in-Ok-append_content.ensures.ok in
     let same : c.deref.result.now ≡ a.content = c.deref.ensures.value ∙ a.whole ∙ ap (λ y. y ++ a.content) c.new-payload.ensures.items in
-    too_many_refuses g.R.Source c.args.de.now c.deserialize_head.new.self c.in-Ok-payload_len.len w.1 t c.append_content.new.self a.content _ _ a.taken
-    (subst SaysTooMany same c.in-Err-from_payload.ensures.err.0, c.in-Err-from_payload.ensures.err.1) c.refuse-in-Err-from_payload.ensures.failed
+    rw c.refuse-in-Err-from_payload.ensures.same (too_many_refuses g.R.Source c.args.de.now c.deserialize_head.new.self c.in-Ok-payload_len.len w.1 t c.append_content.new.self a.content _ _ a.taken
+    (subst SaysTooMany same c.in-Err-from_payload.ensures.err.0, c.in-Err-from_payload.ensures.err.1) c.refuse-in-Err-from_payload.ensures.failed)
