@@ -381,8 +381,8 @@ def named_types(types):
 
 
 def through(module, table):
-    """The same names, those of rmp_round_trip and rmp_ends through the library that re-exports them, if there is one."""
-    libraries, found = {"rmp_round_trip": module.rounds(), "rmp_ends": module.ends()}, {}
+    """The same names, those of rmp_round_trip, rmp_ends and rmp_types through the library that re-exports them, if there is one."""
+    libraries, found = {"rmp_round_trip": module.rounds(), "rmp_ends": module.ends(), "rmp_types": module.sent()}, {}
     for path, names in table.items():
         path = re.sub(r"^\w+", lambda name: libraries.get(name[0]) or name[0], path)
         found[path] = f"{found.get(path, '')} {names}"

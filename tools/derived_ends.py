@@ -19,6 +19,8 @@ LEAVES = {
     "i128": "signed128_inside",
     "F32Bits": "kind_inside",
     "F64Bits": "kind_inside",
+    "Float64": "float_inside",
+    "Timestamp": "time_inside",
     "char": "char_inside",
     "String": "string_inside",
     "ByteBuf": "buffer_inside",
@@ -34,7 +36,7 @@ LEAVES |= {kind: "number_inside" for kind in "u8 u16 u32 u64 usize i8 i16 i32 i6
 # Of types with one part: the lemma, and whether it takes what the part is read from.
 PARTED = {"Option": ("option_inside", False), "Box": ("box_inside", True)}
 PARTED |= {kind: ("each_inside", True) for kind in ("Vec", "VecDeque", "BTreeSet")}
-# Where the lemmas stand. Those of rmp_ends can be named through rmp_serde too.
+# Where the lemmas stand. Those of rmp_ends and rmp_types can be named through rmp_serde too.
 LEMMAS = {
     "rmp_decode.specs.Refusing": "part_of",
     "rmp_ends.specs.BufferEnds": "buffer_inside",
@@ -45,6 +47,8 @@ LEMMAS = {
     "rmp_ends.specs.MapEnds": "map_inside",
     "rmp_ends.specs.RowEnds": "array_inside box_inside each_inside option_inside tuple_inside",
     "rmp_serde.specs.ValueEnds": "value_inside",
+    "rmp_types.specs.FloatRounds": "float_inside",
+    "rmp_types.specs.TimestampRounds": "time_inside",
 }
 
 

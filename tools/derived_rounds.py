@@ -23,6 +23,11 @@ LEAVES = {
     "i128": ("signed128_row s {v} {fits}", "signed128_other s {v}"),
     "F32Bits": ("float32_row s {v}.0", "float32_other s {v}.0"),
     "F64Bits": ("float64_row s {v}.0", "float64_other s {v}.0"),
+    "Float64": ("float_row s {v}.bits", "float64_other s {v}.bits"),
+    "Timestamp": (
+        "time_row s {v}.seconds {v}.nanoseconds {fits}.0 {fits}.1",
+        "extension_other s time_tag (time_payload {v}.seconds {v}.nanoseconds)",
+    ),
     "char": ("char_row s {v} {fits}", "char_other s {v}"),
     "String": ("string_row s (string_bytes {v})", "text_other s (string_bytes {v})"),
     "ByteBuf": ("buffer_row s (buffer_bytes {v})", "bytes_other s (buffer_bytes {v})"),
@@ -45,6 +50,8 @@ ONLY = {
     "i128": "signed128_only s {v} {fits}",
     "F32Bits": "float32_only s (λ w. w.0) {v}.0",
     "F64Bits": "float64_only s (λ w. w.0) {v}.0",
+    "Float64": "float_only s {v}.bits",
+    "Timestamp": "time_only s {v}.seconds {v}.nanoseconds {fits}.0 {fits}.1",
     "char": "char_only s {v} {fits}",
     "String": "string_only s (λ w. string_bytes w) (string_bytes {v})",
     "ByteBuf": "buffer_only s (λ w. buffer_bytes w) (buffer_bytes {v})",
@@ -69,7 +76,7 @@ ORDERS |= {kind: "(Prim.search (comparing, rules))" for kind in "u8 u16 u32 u64 
 # What a law of another type takes before its own arguments: the reader's type with what its traits say, and where their methods
 # are, which no law depends on.
 READER = "R.row R.ReadSlice.own (given 0) R.Source (given 0)"
-# Where the lemmas are. Those of rmp_round_trip can be named through rmp_serde too.
+# Where the lemmas are. Those of rmp_round_trip and rmp_types can be named through rmp_serde too.
 LEMMAS = {
     "std.proofs.Common": "refl rules",
     "std.proofs.lemmas.Cmp": "on_total nat_list_cmp_total",
@@ -94,6 +101,10 @@ LEMMAS = {
     " slice_other tuple_some tuple_row tuple_other sequence_some sequence_row sequence_other rows_none rows_cons",
     "rmp_round_trip.specs.StructRounds": "sequence_all tuple_all tuple_variant_all structure_all struct_variant_all structure_row structure_other fields_none fields_cons",
     "rmp_serde.specs.ValueLowers": "value_only value_row",
+    "rmp_types.specs.FloatRounds": "float_only float_row",
+    "rmp_types.specs.Payloads": "time_payload",
+    "rmp_types.specs.TimestampRounds": "time_only time_row",
+    "rmp_types.specs.Timestamps": "time_tag",
     "rmp_round_trip.specs.VariantRounds": "newtype_some newtype_variant_some nothing_row newtype_row bare_row"
     " newtype_variant_row tuple_variant_row struct_variant_row nothing_other newtype_other bare_other newtype_variant_other"
     " tuple_variant_other struct_variant_other",

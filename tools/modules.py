@@ -64,6 +64,10 @@ class Module:
         """The library through which the crate names `EndsInside`, if it has any."""
         return next((name for name in ("rmp_serde", "rmp_ends") if name in self.libraries()), None)
 
+    def sent(self) -> Optional[str]:
+        """The library through which the crate names what is said of doubles from any sender and of points in time, if it has any."""
+        return next((name for name in ("rmp_serde", "rmp_types") if name in self.libraries()), None)
+
     def source(self) -> str:
         if self.path.startswith("src/"):
             raise Refused(f"a file is named by its path below src/: write {self.path[4:]}")

@@ -30,6 +30,11 @@ pub use Rattle.rmp_round_trip.specs.Rounds
 pub use Rattle.rmp_round_trip.specs.StructRounds
 pub use Rattle.rmp_round_trip.specs.VariantRounds
 pub use Rattle.rmp_round_trip.specs.WideRounds
+pub use Rattle.rmp_types.specs.FloatRounds
+pub use Rattle.rmp_types.specs.Floats
+pub use Rattle.rmp_types.specs.Payloads
+pub use Rattle.rmp_types.specs.TimestampRounds
+pub use Rattle.rmp_types.specs.Timestamps
 pub mod Equal
 pub mod EqualLaws
 pub mod Flat

@@ -19,6 +19,7 @@ pub use rmp_encode::Serialize;
 pub use rmp_ends::EndsInside;
 pub use rmp_round_trip::{NeverNil, RoundTrip};
 pub use rmp_scan::{Scan, Scanner, message_len};
+pub use rmp_types::{Float64, Timestamp};
 pub use rmp_wire as wire;
 pub use rmp_wire::{
     AheadSource, BufSource, ByteBuf, Bytes, Ext, F32Bits, F64Bits, IoSink, IoSource,

@@ -2,6 +2,7 @@
 mod canonical;
 mod check;
 mod example;
+mod floats;
 mod messages;
 mod own_types;
 mod parts;
@@ -9,3 +10,4 @@ mod raw;
 mod reads;
 mod scan;
 mod text;
+mod times;

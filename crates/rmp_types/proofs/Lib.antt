@@ -1,0 +1,5 @@
+pub mod FloatReading
+pub mod Placing
+pub mod Reading
+pub mod Sizes
+pub mod Widening

@@ -1,0 +1,9 @@
+pub mod FloatBits
+pub mod FloatHeads
+pub mod FloatRounds
+pub mod Floats
+pub mod PayloadCases
+pub mod Payloads
+pub mod Says
+pub mod TimestampRounds
+pub mod Timestamps
