@@ -27,6 +27,7 @@ pub mod BufferedHeads
 pub mod HeadTaken
 pub mod HeadKinds
 pub mod Laws
+pub mod LeftParts
 pub mod LeafTable
 pub mod Leaves
 pub mod ListRefusals

@@ -1,5 +1,5 @@
 -- What contracts see of a `Deserializer`.
-use Rattle.std.specs.Prelude.{◌≡◌, ◌-◌, ℕ, max, min, Bool, true, false, List, [], ◌∷◌, Option, pos}
+use Rattle.std.specs.Prelude.{◌≡◌, ◌+◌, ◌-◌, ℕ, max, min, Bool, true, false, List, [], ◌∷◌, Option, pos}
 use Rattle.std.specs.declared.alloc.Global.{Global}
 use Rattle.std.specs.Io.KnownBytes.{prepend_known}
 use Rattle.rmp_wire.specs.declared.head.Head.TheVariants.{Whole}
@@ -53,6 +53,14 @@ faults_of g d = g.faults d.reader
 abbrev pub room_of : {R C : Type 0} → Deserializer R C → ℕ
 room_of d = max 1 d.room
 
+-- how many levels inside of the message that was asked for the part was that the failed read refused
+abbrev pub refused_levels : {R C : Type 0} → Deserializer R C → ℕ
+refused_levels d = d.levels
+
+-- so many levels, and those between the room outside of a part and the room in it, up to 2^32 - 1
+abbrev pub levels_outside : ℕ → ℕ → ℕ → ℕ
+levels_outside levels outer inner = min (levels + (outer - inner)) 4294967295
+
 -- the settings, the room, the limit, the strictness and the source's own place stay
 pub record Stays {R C : Type 0} (g : Ghosts R) (old new : Deserializer R C) : Type 0 where
   pub config : new.config ≡ old.config
@@ -69,6 +77,7 @@ pub record IsNew {R C : Type 0} (memory : Global) (d : Deserializer R C) : Type 
   pub limit : d.limit ≡ 1024
   pub ready : d.failed ≡ false
   pub lenient : d.strict ≡ false
+  pub levels : d.levels ≡ 0
 
 -- all but the config is that of another reader
 pub record IsSameBut {R C D : Type 0} (old : Deserializer R C) (new : Deserializer R D) : Type 0 where
@@ -79,6 +88,7 @@ pub record IsSameBut {R C D : Type 0} (old : Deserializer R C) (new : Deserializ
   pub room : new.room ≡ old.room
   pub limit : new.limit ≡ old.limit
   pub strict : new.strict ≡ old.strict
+  pub levels : new.levels ≡ old.levels
 
 -- the same, strict or not
 abbrev pub strict_of : {R C : Type 0} → Deserializer R C → Bool → Deserializer R C

@@ -7,7 +7,7 @@ use Rattle.rmp_wire.specs.declared.source.Source.{Ghosts}
 use Rattle.rmp_decode.specs.Exact.{IsDataEnd}
 use Rattle.rmp_decode.specs.Law.{Explains}
 use Rattle.rmp_decode.specs.Seq.{KeepsByte}
-use Rattle.rmp_decode.specs.State.{faults_of, Stays}
+use Rattle.rmp_decode.specs.State.{faults_of, Stays, levels_outside}
 use Rattle.rmp_decode.specs.declared.deserializer.Deserializer.{Deserializer}
 use Rattle.rmp_decode.specs.declared.access.map.MapAccess.{MapAccess}
 use Rattle.rmp_decode.specs.declared.access.seq.SeqAccess.{SeqAccess}
@@ -23,13 +23,18 @@ Reading F R C X = Once F (MutBor (Deserializer R C) × Unit {0}) (Result X Error
 abbrev pub part_reader : {R C : Type 0} → Deserializer R C → ℕ → Deserializer R C
 part_reader d inner = record d { room = inner; failed = false }
 
+-- what a part's failure adds to the levels
+abbrev pub levels_after : {X : Type 0} → Result X Error → ℕ → ℕ → ℕ → ℕ
+levels_after (Ok x) levels outer inner = levels
+levels_after (Err e) levels outer inner = levels_outside levels outer inner
+
 -- The part was offered to f, once. An answer of f that leaves the reader failed counts as a failure.
 pub record PartGiven {F R C X : Type 0} (once : Reading F R C X) (f : F) (inner : ℕ) (old new : Deserializer R C) (result : Result X Error) : Type 0 where
   pub gave : Result X Error
   pub rest : Deserializer R C
   pub called : FnOnceReturnsAtMut once f (part_reader old inner) gave rest
   pub answers : MatchResult gave (λ x. result ≡ (if rest.failed then Err (Uncategorized FailedBefore) else Ok x)) (λ e. result ≡ Err e)
-  pub keeps : new ≡ record rest { room = old.room; limit = old.limit; failed = true }
+  pub keeps : new ≡ record rest { room = old.room; limit = old.limit; failed = true; levels = levels_after result rest.levels old.room inner }
 
 -- ---- elements
 

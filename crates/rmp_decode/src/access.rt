@@ -5,7 +5,7 @@ pub(crate) mod fields;
 pub(crate) mod map;
 pub(crate) mod names;
 mod open;
-mod parts;
+pub(crate) mod parts;
 pub(crate) mod read_fields;
 pub(crate) mod seq;
 pub(crate) mod variant;

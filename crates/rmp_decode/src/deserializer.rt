@@ -1,6 +1,6 @@
 //! The reader of messages: its source, its settings, its state, and the next message.
 ghost use Rattle.std.specs.Prelude.{◌≡◌, false, ◌≢◌, IfErr};
-ghost use Rattle.rmp_decode.specs.State.{reader_of, alloc_of, config_of, is_failed, kept_of, limit_at, limited, failed_of, strict_of, faults_of};
+ghost use Rattle.rmp_decode.specs.State.{reader_of, alloc_of, config_of, is_failed, kept_of, limit_at, limited, failed_of, strict_of, faults_of, refused_levels};
 ghost use Rattle.rmp_decode.specs.State.{left, IsNew, IsSameBut};
 ghost use Rattle.rmp_decode.specs.declared.deserializer.Kept.TheVariants.{Nothing};
 ghost use Rattle.rmp_decode.specs.Messages.{messages_lender, messages_reference, is_done};
@@ -61,6 +61,7 @@ pub struct Deserializer<R, C = DefaultConfig> {
     pub(crate) limit: u32,
     pub(crate) failed: bool,
     pub(crate) strict: bool,
+    pub(crate) levels: u32,
 }
 
 impl<R> Deserializer<R, DefaultConfig> {
@@ -78,6 +79,7 @@ impl<R> Deserializer<R, DefaultConfig> {
             limit: DEFAULT_DEPTH,
             failed: false,
             strict: false,
+            levels: 0,
         }
     }
 }
@@ -214,6 +216,17 @@ impl<R, C> Deserializer<R, C> {
         error
     }
 
+    /// Returns how many levels inside of the message the part was that a read refused: 0 if it refused the message itself,
+    /// and 1 for an element of its list or a key or a value of its map. It is 0 as long as no read has failed.
+    ///
+    /// So the refused part is that many steps down from the message, on the way to the last byte that was consumed. `explain`
+    /// finds those steps.
+    pub fn refused_levels(&self) -> u32
+        ensures { result ≡ refused_levels self.now }
+    {
+        self.levels
+    }
+
     /// Returns an iterator over the messages up to the end of the source, or up to and with the first error.
     ///
     /// # Examples
@@ -275,6 +288,7 @@ impl<R, C: SerializerConfig> Deserializer<R, C> {
             limit: self.limit,
             failed: self.failed,
             strict: self.strict,
+            levels: self.levels,
         }
     }
 }

@@ -24,6 +24,7 @@ ghost use Rattle.rmp_decode.specs.Parts.{FailsPart};
 pub(crate) mod recursive;
 
 use crate::access::fields::Passed;
+use crate::access::parts::levels_outside;
 use crate::access::seq::inner_room;
 use crate::access::variant::Variant;
 use crate::de::Deserialize;
@@ -84,6 +85,7 @@ impl<R: Source, C: SerializerConfig> Deserializer<R, C> {
             }
             Err(e) => {
                 self.room = outer;
+                self.levels = levels_outside(self.levels, outer, inner);
                 Err(e)
             }
         }

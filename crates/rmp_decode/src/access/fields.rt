@@ -24,6 +24,7 @@ ghost use Rattle.rmp_decode.specs.State.{left, config_of, faults_of, kept_of, is
 ghost use Rattle.rmp_decode.specs.declared.deserializer.Kept.TheVariants.{Nothing};
 
 use crate::access::map::MapAccess;
+use crate::access::parts::levels_outside;
 use crate::access::seq::{SeqAccess, inner_room};
 use crate::de::Deserialize;
 use crate::deserializer::Deserializer;
@@ -386,6 +387,7 @@ impl<R: Source, C: SerializerConfig> Deserializer<R, C> {
             }
             Err(e) => {
                 self.room = outer;
+                self.levels = levels_outside(self.levels, outer, inner);
                 Err(e)
             }
         }
@@ -464,7 +466,8 @@ impl<R: Source, C: SerializerConfig> Deserializer<R, C> {
         ensures memory { F.takes_memory R.lends ≡ false → IfErr result (λ e. e ≢ Error.OutOfMemory) }
     {
         let outer = self.room;
-        self.room = outer.saturating_sub(1);
+        let inner = outer.saturating_sub(1);
+        self.room = inner;
         self.failed = false;
         let mut slots = F::empty();
         let mut refusal = None;
@@ -476,6 +479,7 @@ impl<R: Source, C: SerializerConfig> Deserializer<R, C> {
             }
         } else {
             self.room = outer;
+            self.levels = levels_outside(self.levels, outer, inner);
             match refusal {
                 Some(e) => Err(e),
                 None => unreachable!(),

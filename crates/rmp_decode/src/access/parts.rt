@@ -4,7 +4,7 @@ ghost use Rattle.std.specs.Fn.{FnOnceTakesAtMut};
 ghost use Rattle.rmp_decode.specs.Law.{IsFailedBefore};
 ghost use Rattle.rmp_decode.specs.MapRefusing.{PartRefused};
 ghost use Rattle.rmp_decode.specs.Parts.{TakesPart, FailsPart};
-ghost use Rattle.rmp_decode.specs.State.{config_of};
+ghost use Rattle.rmp_decode.specs.State.{config_of, levels_outside};
 ghost use Rattle.rmp_decode.specs.With.{part_reader, PartGiven};
 
 use crate::de::Deserialize;
@@ -13,6 +13,14 @@ use crate::error::Error;
 use crate::text::Text;
 use rmp_wire::config::SerializerConfig;
 use rmp_wire::{ReadSlice, Source};
+
+// Adds the levels between the room outside of a part that was refused and the room in it.
+#[inline(always)]
+pub(crate) fn levels_outside(levels: u32, outer: u32, inner: u32) -> u32
+    ensures { result ≡ levels_outside levels outer inner }
+{
+    levels.saturating_add(outer.saturating_sub(inner))
+}
 
 impl<R: Source, C: SerializerConfig> Deserializer<R, C> {
     // Reads a part that may nest as deep as `inner`. The reader counts as failed until the access to the parts ends.
@@ -37,6 +45,7 @@ impl<R: Source, C: SerializerConfig> Deserializer<R, C> {
             }
             Err(e) => {
                 self.room = outer;
+                self.levels = levels_outside(self.levels, outer, inner);
                 Err(e)
             }
         }
@@ -61,9 +70,13 @@ impl<R: Source, C: SerializerConfig> Deserializer<R, C> {
         self.failed = true;
         let part = match given {
             Ok(part) => part,
-            Err(e) => return Err(e),
+            Err(e) => {
+                self.levels = levels_outside(self.levels, outer, inner);
+                return Err(e);
+            }
         };
         if failed {
+            self.levels = levels_outside(self.levels, outer, inner);
             return Err(Error::Uncategorized(Text::FailedBefore));
         }
         Ok(part)

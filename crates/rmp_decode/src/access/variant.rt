@@ -26,6 +26,7 @@ ghost use Rattle.rmp_decode.specs.With.{part_reader};
 
 use crate::access::fields::Fields;
 use crate::access::names::{place_below, place_of};
+use crate::access::parts::levels_outside;
 use crate::access::seq::{SeqAccess, inner_room};
 use crate::content::ReadContent;
 use crate::content::pieces::error_of;
@@ -319,6 +320,7 @@ impl<R: Source, C: SerializerConfig> Deserializer<R, C> {
             }
             Err(e) => {
                 self.room = outer;
+                self.levels = levels_outside(self.levels, outer, inner);
                 Err(e)
             }
         }
@@ -365,14 +367,18 @@ impl<'x, R: Source, C: SerializerConfig> Variant<'x, R, C> {
             self.entry self.exit.0.now) }
         ensures memory { IfErr result (λ e. e ≢ Error.OutOfMemory) }
     {
-        let Variant { de, bare, inner: _ } = self;
+        let Variant { de, bare, inner } = self;
         de.failed = false;
         if bare {
             return Ok(());
         }
+        let outer = de.room;
         match de.unit_content() {
             Ok(()) => {}
-            Err(e) => return Err(e),
+            Err(e) => {
+                de.levels = levels_outside(de.levels, outer, inner);
+                return Err(e);
+            }
         }
         Ok(())
     }
@@ -493,7 +499,10 @@ impl<'x, R: Source, C: SerializerConfig> Variant<'x, R, C> {
         de.room = outer;
         let fields = match content {
             Ok(fields) => fields,
-            Err(e) => return Err(e),
+            Err(e) => {
+                de.levels = levels_outside(de.levels, outer, inner);
+                return Err(e);
+            }
         };
         Ok(fields)
     }

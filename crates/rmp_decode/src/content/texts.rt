@@ -17,6 +17,7 @@ ghost use Rattle.rmp_decode.specs.declared.deserializer.Kept.TheVariants.{Nothin
 ghost use Rattle.rmp_decode.specs.Names.{bytes_of, IsName, IsNameHead};
 
 use crate::access::names::{next_place, place_below};
+use crate::access::parts::levels_outside;
 use crate::access::seq::SeqAccess;
 use crate::content::Slices;
 use crate::content::chars::char_taken;
@@ -625,7 +626,10 @@ impl<'x, R: Source, C: SerializerConfig> SeqAccess<'x, R, C> {
                 self.left -= 1;
                 Ok(Some(n))
             }
-            Err(e) => Err(e),
+            Err(e) => {
+                self.de.levels = levels_outside(self.de.levels, outer, self.inner);
+                Err(e)
+            }
         }
     }
 }

@@ -5,6 +5,7 @@ ghost use Rattle.rmp_decode.specs.Seq.{TakesSeqHead};
 ghost use Rattle.rmp_decode.specs.State.{config_of, kept_of};
 ghost use Rattle.rmp_decode.specs.declared.deserializer.Kept.TheVariants.{Nothing};
 
+use crate::access::parts::levels_outside;
 use crate::access::seq::{data_fault, inner_room};
 use crate::de::Deserialize;
 use crate::deserializer::peek::{BinHead, ListHead};
@@ -88,7 +89,8 @@ pub(crate) fn read_row<
     ensures err { IfErr result (StopsRow R.Source C.human R.lends T.reads T.refuses W.grows de.old bytes count (W.most count) de.new) }
 {
     let outer = de.room;
-    de.room = inner_room(outer, bytes);
+    let inner = inner_room(outer, bytes);
+    de.room = inner;
     de.failed = false;
     de.kept = Kept::Nothing;
     let rest = count - W::wanted(count);
@@ -116,6 +118,7 @@ pub(crate) fn read_row<
             }
             Err(e) => {
                 de.room = outer;
+                de.levels = levels_outside(de.levels, outer, inner);
                 return Err(e);
             }
         }

@@ -1,6 +1,7 @@
 use Rattle.std.proofs.Common.{◌≡◌, ◌-◌, refl, rules, arith, true, false, Bool, ℕ, []}
 use Rattle.rmp_decode.specs.Seq.{levels}
 use Rattle.rmp_decode.specs.declared.error.Error.TheVariants.{InvalidDataRead}
+use Rattle.rmp_decode.proofs.LeftParts.{lawful_levels}
 use Rattle.rmp_decode.proofs.RowReads.{row_start, row_step, row_short, row_refused, row_ended, row_many, row_whole}
 use Rattle.rmp_decode.proofs.de.elements.read_row.Goals as goal
 
@@ -11,8 +12,8 @@ room_inside false room inner p q = q refl
 pub loop-left-init : goal.loop-left-init
 loop-left-init g c = (
   [],
-  row_start g.R.Source _ c.args.de.now c.args.bytes c.args.count c.inner_room-de.result c.requires.clean
-      (room_inside c.args.bytes _ _ c.inner_room-de.ensures.bytes c.inner_room-de.ensures.list),
+  row_start g.R.Source _ c.args.de.now c.args.bytes c.args.count c.inner_room-inner.result c.requires.clean
+      (room_inside c.args.bytes _ _ c.inner_room-inner.ensures.bytes c.inner_room-inner.ensures.list),
   c.requires.empty,
   omega arith,
   omega arith,
@@ -55,9 +56,10 @@ returns-in-Err-deserialize-clause-err g c =
     let w = c.wanted.ensures.most in
     let i = c.wanted.ensures.within in
     row_refused g.R.Source g.C.SerializerConfig.human g.R.ReadSlice.lends g.T.Deserialize.reads c.args.de.now c.loop-left.de c.offer_part.new.self
-    c.deserialize.new.de c.args.bytes c.args.count c.loop-left.left r.0 r.1 (omega arith) c.in-Ok.ensures.stays
+    (record c.deserialize.new.de { levels = c.levels_outside-de.result }) c.args.bytes c.args.count c.loop-left.left r.0 r.1 (omega arith) c.in-Ok.ensures.stays
     g.T.Deserialize.refuses _ _ (omega arith) c.in-Err-deserialize.e c.in-Ok.ensures.ok (search rules)
-    c.in-Err-deserialize.ensures.law (c.in-Err-deserialize.ensures.refused (search rules))
+    (lawful_levels g.R.Source c.offer_part.new.self c.deserialize.new.de c.in-Err-deserialize.e c.levels_outside-de.result _ (search rules)
+    c.in-Err-deserialize.ensures.law) (c.in-Err-deserialize.ensures.refused (search rules))
 
 pub loop-left-preserved : goal.loop-left-preserved
 loop-left-preserved g c =

@@ -7,7 +7,7 @@ returns-in-Err g c = record {
   rest = c.f-given.new.arg2;
   called = record { shown = _; shows = refl; left = _; met = c.f-given.ensures; leaves = refl };
   answers = rw c.in-Err.is refl;
-  keeps = refl;
+  keeps = rw c.levels_outside-self.ensures refl;
 }
 
 pub returns-then-failed : goal.returns-then-failed
@@ -16,7 +16,7 @@ returns-then-failed g c = record {
   rest = c.f-given.new.arg2;
   called = record { shown = _; shows = refl; left = _; met = c.f-given.ensures; leaves = refl };
   answers = rw c.in-Ok.is (rw c.if-failed.true refl);
-  keeps = refl;
+  keeps = rw c.levels_outside-self-then-failed.ensures refl;
 }
 
 pub returns : goal.returns

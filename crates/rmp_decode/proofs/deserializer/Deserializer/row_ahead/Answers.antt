@@ -2,6 +2,7 @@ use Rattle.std.proofs.Common.{◌≡◌, ◌-◌, subst, refl, arith, false}
 use Rattle.rmp_decode.specs.FieldRows.{TakesRow, FailsRow}
 use Rattle.rmp_decode.specs.Fields.{given_all}
 use Rattle.rmp_decode.proofs.FieldRows.{takes_as}
+use Rattle.rmp_decode.proofs.LeftParts.{fails_levels}
 use Rattle.rmp_decode.proofs.deserializer.Deserializer.row_ahead.Goals as goal
 
 pub unreachable-requires : goal.unreachable-requires
@@ -12,7 +13,7 @@ unreachable-requires g c =
 
 pub returns-in-Some-clause-ok : goal.returns-in-Some-clause-ok
 returns-in-Some-clause-ok g c =
-    let fewer : c.saturating_sub-self.result ≡ c.args.self.now.room - 1 = omega (arith, c.saturating_sub-self.ensures) in
+    let fewer : c.saturating_sub-inner.result ≡ c.args.self.now.room - 1 = omega (arith, c.saturating_sub-inner.ensures) in
     let t = subst (λ z. TakesRow g.R.Source (λ ms. g.F.Fields.holds (g.C.SerializerConfig.human c.args.self.now.config) g.R.ReadSlice.lends (given_all ms)
     c.row.new.slots) g.F.Fields.count (record c.args.self.now { room = z; failed = false }) c.row.new.de) fewer (c.row.ensures.ok c.if-row.true) in
     record {
@@ -24,12 +25,13 @@ returns-in-Some-clause-ok g c =
 
 pub returns-in-Some-refusal-clause-err : goal.returns-in-Some-refusal-clause-err
 returns-in-Some-refusal-clause-err g c =
-    let fewer : c.saturating_sub-self.result ≡ c.args.self.now.room - 1 = omega (arith, c.saturating_sub-self.ensures) in
+    let fewer : c.saturating_sub-inner.result ≡ c.args.self.now.room - 1 = omega (arith, c.saturating_sub-inner.ensures) in
     let f = rw c.in-Some-refusal.is at c.row.ensures.err c.if-row.false in
     record {
-      last = c.row.new.de;
+      last = record c.row.new.de { levels = c.levels_outside-self.result };
       row = subst (λ z. FailsRow g.R.Source (λ ms. (v : g.row.F.Denot) × g.F.Fields.reads (g.C.SerializerConfig.human c.args.self.now.config)
-          g.R.ReadSlice.lends (given_all ms) v) g.F.Fields.count (record c.args.self.now { room = z; failed = false }) c.row.new.de c.in-Some-refusal.e)
-          fewer f;
+          g.R.ReadSlice.lends (given_all ms) v) g.F.Fields.count (record c.args.self.now { room = z; failed = false })
+          (record c.row.new.de { levels = c.levels_outside-self.result }) c.in-Some-refusal.e)
+          fewer (fails_levels g.R.Source _ c.row.new.de _ c.levels_outside-self.result _ _ f);
       is = refl;
     }
