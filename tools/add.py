@@ -4,7 +4,7 @@
     tools/add.py REPOSITORY
 
 To REPOSITORY/crates go rmp_serde and the crates below it, without their edits and what was built, and to REPOSITORY/tools goes derive.py
-with what it imports. crates.txt gets the lines of these crates, and .gitignore the line `out/`. The file rmp_serde.lock has the commit and
+with what it imports. CHANGELOG.md goes to crates/rmp_serde; where a newer one takes its place, its new entries are printed. crates.txt gets the lines of these crates, and .gitignore the line `out/`. The file rmp_serde.lock has the commit and
 the checksum of each file that was copied. No file is replaced that isn't in it, or that was changed since.
 """
 from __future__ import annotations
@@ -23,6 +23,7 @@ from crates import TOP, below, listed, sources
 
 TOOLS = os.path.join(TOP, "tools")
 LOCK = "rmp_serde.lock"
+CHANGES = "crates/rmp_serde/CHANGELOG.md"
 HEAD = "# tools/add.py of rmp_serde for Rattle copied these files, and brings them up to date: their checksums, and the commit.\n"
 
 
@@ -63,7 +64,17 @@ def files_of(libraries: list[str]) -> dict[str, str]:
     files = [*(file for name in libraries for file in sources(name)), *modules("derive")]
     found = {os.path.relpath(file, TOP): file for file in files}
     found["crates/rmp_serde/LICENSE"] = os.path.join(TOP, "LICENSE")
+    found[CHANGES] = os.path.join(TOP, "CHANGELOG.md")
     return found
+
+
+def entries(file: str) -> dict[str, str]:
+    """The entries of a list of changes, the newest first: each version, and its text with the heading."""
+    if not os.path.isfile(file):
+        return {}
+    with open(file, encoding="utf-8") as it:
+        parts = re.split(r"^(?=## )", it.read(), flags=re.M)[1:]
+    return {part.split("\n", 1)[0].removeprefix("## "): part.strip() for part in parts}
 
 
 def commit() -> str:
@@ -163,18 +174,21 @@ def add(repository: str) -> None:
     if others := copies.others(wanted):
         more = f" (and {count(len(others) - 1, 'other file')})" if others[1:] else ""
         stop(f"{copies.place(others[0])}{more} wasn't copied by this tool, or was changed since: move it away first")
+    before, after = entries(copies.place(CHANGES)), entries(files[CHANGES])
     said = copies.update(files, wanted)
     said += copies.set_lines("crates.txt", {rf"^{name}\b[^:#\n]*:.*$": f"{every[name][0]}: {' '.join(every[name][1])}" for name in libraries})
     said += copies.set_lines(".gitignore", {"^/?out/?$": "out/"})
     at = commit()
     copies.write_lock(at, wanted)
     if not copies.commit:
-        print(f"added {', '.join(libraries)} and tools/derive.py to {repository}: {count(len(wanted), 'file')} of commit {at}")
+        version = next(iter(after))
+        print(f"added {', '.join(libraries)} {version} and tools/derive.py to {repository}: {count(len(wanted), 'file')} of commit {at}")
         print("".join(f"{line}\n" for line in said if line.startswith("changed")), end="")
         print("A crate that depends on them has a line in crates.txt: NAME: rmp_serde rmp_encode rmp_decode rmp_wire")
     elif said:
         print("\n".join(said))
         print(f"{count(len(said), 'change')}: from commit {copies.commit} to {at}")
+        print("".join(f"\n{text}\n" for version, text in after.items() if version not in before), end="")
     else:
         print(f"up to date: commit {at}")
 

@@ -1,21 +1,17 @@
 #!/usr/bin/env python3
-"""Writes docs/API.md: the public items of `rmp_serde`, each under its path, as the sources have them.
+"""Prints the public items of `rmp_serde`, each under its path, as the sources have them.
 
-`api.py` writes the page. `api.py --check` prints how the page differs from what would be written, and ends with 1 where it does.
 `api.py --bare` prints the public items that have no doc comment.
 """
 from __future__ import annotations
 
-import difflib
 import itertools
-import os
 import re
 import sys
 
 sys.dont_write_bytecode = True
-from sources import RANK, TOP, Entry, Item, Library, close_of, impl_parts, page_of, read, split
+from sources import RANK, Entry, Item, Library, close_of, impl_parts, page_of, split
 
-PAGE = os.path.join("docs", "API.md")
 # The pages, in order.
 PAGES = ("", "encode", "decode", "config", "laws", "wire")
 KINDS = (("fn", "Functions"), ("struct", "Types"), ("trait", "Traits"), ("const", "Constants"))
@@ -23,12 +19,12 @@ KINDS = (("fn", "Functions"), ("struct", "Types"), ("trait", "Traits"), ("const"
 WIDE = 100
 INTRO = """# The public items
 
-Written by `tools/api.py` from the sources: run it again after a change, and `tests/run/generated` sees that it was run. Each item
-is under its path in `rmp_serde`, with its signature, the first sentence of its doc comment and its errors. The doc comments
+Printed by `tools/api.py` from the sources. Each item is
+under its path in `rmp_serde`, with its signature, the first sentence of its doc comment and its errors. The doc comments
 say more, and have examples.
 
 *Promises* are the names of the clauses of its contract (`ensures`), and *asks* those of what a caller must show (`requires`). The
-clauses themselves are in the sources, and [PROVED.md](PROVED.md) says what they mean. A clause that is alone may have no name.
+clauses themselves are in the sources, and docs/PROVED.md says what they mean. A clause that is alone may have no name.
 """
 
 
@@ -198,13 +194,7 @@ def main() -> int:
     if "--bare" in sys.argv[1:]:
         print("\n".join(bare(library)))
         return 0
-    text = written(library)
-    if "--check" in sys.argv[1:]:
-        old = read(PAGE) if os.path.exists(os.path.join(TOP, PAGE)) else ""
-        print("".join(difflib.unified_diff(old.splitlines(True), text.splitlines(True), PAGE, "as tools/api.py writes it")), end="")
-        return int(old != text)
-    with open(os.path.join(TOP, PAGE), "w", encoding="utf-8") as file:
-        file.write(text)
+    print(written(library), end="")
     return 0
 
 

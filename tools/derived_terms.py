@@ -6,13 +6,14 @@ import re
 from collections.abc import Iterable
 from typing import Optional
 
-from declarations import LEAST_FLAT, MOST_FLAT, Declared, Field, Shape, identifiers, is_flat, is_long
+from declarations import Declared, Field, Shape, identifiers, is_flat, is_long
 from halves import FIELDS
 from shared import list_of
 
 # Where the words of the ghost members come from.
 GHOST = {
     "rmp_wire.specs.Msg": "nil",
+    "std.specs.Option": "is_none",
     "std.specs.Prelude": "◌≡◌ ◌≢◌ ◌∷◌ [] None Some codes false ⊤ IsSome OnOk IfErr",
     "rmp_encode.specs.Data": "unit_struct unit_variant",
     "rmp_encode.specs.Refusals": "OfParts OfSink",
@@ -25,14 +26,11 @@ GHOST = {
     "rmp_decode.specs.Exact": "RefusesExactly",
     "rmp_decode.specs.FieldRefusing": "RefusesFields",
     "rmp_decode.specs.Fields": "OfFields Field Absent NoField",
-    "rmp_decode.specs.ReadFields": " ".join(f"reads_{count}" for count in range(LEAST_FLAT, MOST_FLAT + 1)),
     "rmp_decode.specs.Refusing": "RefusesTuple part_of",
     "rmp_decode.specs.Rows": "AndThen NoMore",
     "rmp_decode.specs.Seq": "OfRow",
     "rmp_decode.specs.Units": "IsNothing not_nothing",
     "rmp_decode.specs.Variants": "OfVariant Case NoCase Bare Content",
-    "rmp_decode.specs.declared.access.fields.eight.EightThen": "EightThen",
-    "rmp_decode.specs.declared.access.fields.sixteen.SixteenThen": "SixteenThen",
 }
 
 
@@ -240,35 +238,18 @@ def refusal_of(words: Words, shape: Shape, flat: bool = False) -> str:
     if shape.kind == "tuple":
         parts = [f"part_of {words.reads(kind, 'reads')} {words.reads(kind, 'refuses')}" for kind in kinds]
         return f"RefusesTuple ({list_of(parts)})"
-    if flat:
-        given = " ".join(f"{words.reads(kind, 'reads')} {words.reads(kind, 'absent')}" for kind in kinds)
-        parts = [f"part_of {words.reads(kind, 'reads')} {words.reads(kind, 'refuses')}" for kind in kinds]
-        return f"RefusesFields ({codes(field.key for field in shape.fields)}) (reads_{len(kinds)} {given}) ({list_of(parts)})"
-    if len(kinds) > MOST_IN_TUPLES:
-        return refusal_in_structs(words, shape, kinds)
+    if flat or len(kinds) > MOST_IN_TUPLES:
+        return refusal_in_a_list(words, shape, kinds)
     fields = f"⟦<{nested(kinds)} as ReadFields<'de, R>>⟧"
-    return f"RefusesFields ({codes(field.key for field in shape.fields)}) {fields}.reads\n        {fields}.parts"
+    return f"RefusesFields ({codes(field.key for field in shape.fields)}) {fields}.needed\n        {fields}.parts"
 
 
-def refusal_in_structs(words: Words, shape: Shape, kinds: list[str]) -> str:
-    """The same of more fields than are read as tuples: each field's part in one list, as what is known of all of them costs more to compare."""
-    values = [f"v{place_of(at, len(kinds))}" for at in range(len(kinds))]
-    line = "\n            "
-    heads = [f"{line}Field (λ j. {words.reads(kind, 'reads')} human lends j {of}) (Absent {words.reads(kind, 'absent')} {of})" for kind, of in zip(kinds, values)]
+def refusal_in_a_list(words: Words, shape: Shape, kinds: list[str]) -> str:
+    """The same with each field's part in one list, as what is known of all of them costs more to compare."""
+    line = "\n            " if len(kinds) > MOST_IN_TUPLES else ""
+    needed = [f"{line}is_none {words.reads(kind, 'absent')}" for kind in kinds]
     parts = [f"{line}part_of {words.reads(kind, 'reads')} {words.reads(kind, 'refuses')}" for kind in kinds]
-    reads = f"λ human lends fs v. ({chained(heads, 'NoField')}) fs"
-    return f"RefusesFields {{V = {structs_of(len(kinds))}}} ({codes(field.key for field in shape.fields)})\n        ({reads})\n        ({list_of(parts)})"
-
-
-def structs_of(count: int) -> str:
-    """The type that so many values are read as, in a term."""
-    size = then_of(count)
-    if size:
-        return f"{THEN[size]} {'_ ' * size}({structs_of(count - size)})"
-    if not count:
-        return "Unit {0}"
-    size = GROUP if count >= GROUP else 1
-    return f"{'_ × ' * size}({structs_of(count - size)})"
+    return f"RefusesFields ({codes(field.key for field in shape.fields)})\n        ({list_of(needed)})\n        ({list_of(parts)})"
 
 
 def member_of_refusing(of: Declared, words: Words) -> str:

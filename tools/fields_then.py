@@ -105,10 +105,10 @@ def ghosts(group: Group) -> str:
     value = group.value("v")
     by_value = {"reads": "human lends fs", "taken": "human lends fs", "given": "s fs", "counted": "human lends fs"}
     terms = {word: f"λ {words} v. {on}.{word} {words} {value}" for word, words in by_value.items()}
-    terms |= {word: f"{on}.{word}" for word in ("count", "takes", "parts", "takes_memory", "many")}
+    terms |= {word: f"{on}.{word}" for word in ("count", "takes", "parts", "needed", "takes_memory", "many")}
     terms |= {"holds": f"λ human lends fs s. {on}.holds human lends fs s.read", "held": f"λ s fs t. {on}.held s fs t.read"}
     terms["full"] = f"λ human lends ms t h. let w = {on}.full human lends ms t.read h in ({group.back('w.0')}, w.1)"
-    words = "count reads holds takes taken parts takes_memory many held given counted full".split()
+    words = "count reads holds takes taken parts needed takes_memory many held given counted full".split()
     lines = [f"type Slots = {group.slots()};\n", *(f"ghost {word} = {{ {terms[word]} }};\n" for word in words)]
     return "\n".join(f"    {line}" for line in lines)
 
@@ -140,10 +140,10 @@ def code(group: Group) -> str:
     }}
 
     #[inline(always)]
-    fn finish(slots: {group.slots()}) -> Option<{group.of()}> {{
+    fn finish(slots: {group.slots()}) -> Result<{group.of()}, usize> {{
         let {group.word}Slots {{ read }} = slots;
         match {on}::finish(read) {{
-            {made(group, "Some", "None => None")}
+            {made(group, "Ok", "Err(place) => Err(place)")}
         }}
     }}
 
@@ -204,7 +204,10 @@ def answers(group: Group) -> dict[str, Answers]:
         "row": Answers({"rmp_decode.proofs.FieldRows": "if_some"} | tuples, {
             "returns-clause-err": f"λ n. if_some c.row.new.refusal (λ e f. {narrower}) (c.row.ensures.err n)",
         }),
-        "finish": Answers({}, {"returns-in-None": f"λ human lends fs h v. c.in-None.ensures human lends fs h {group.value('v')}"}),
+        "finish": Answers({}, {
+            "returns-in-Err-clause-all": f"λ human lends fs h v. c.in-Err.ensures.all human lends fs h {group.value('v')}",
+            "returns-in-Err-clause-first": "c.in-Err.ensures.first",
+        }),
         "listed": Answers(tuples, {"returns-in-Err-clause-err": f"let f = c.in-Err.ensures.err in {narrower}"}),
     }
     return {f"{group.name}Fields/{method}": of for method, of in methods.items()}

@@ -18,6 +18,7 @@ def uses() -> str:
 
 
 HEAD = f"""//! Reads of 2 to 12 fields, whose contracts name each field's part in one list. Written by tools/tuples.py.
+ghost use Rattle.std.specs.Option.{{is_none}};
 ghost use Rattle.std.specs.Prelude.{{◌≡◌, ◌∷◌, [], length, IfErr}};
 ghost use Rattle.rmp_decode.specs.FieldRefusing.{{RefusesFields}};
 ghost use Rattle.rmp_decode.specs.Fields.{{OfFields}};
@@ -64,6 +65,7 @@ def function(count: int) -> str:
     kinds = [f"P{at}" for at in range(count)]
     given = " ".join(f"{kind}.reads {kind}.absent" for kind in kinds)
     parts = list_of([f"part_of {kind}.reads {kind}.refuses" for kind in kinds])
+    needed = list_of([f"is_none {kind}.absent" for kind in kinds])
     human = "(C.human (config_of de.old))"
     return f"""
 /// Reads {count} fields by their names, as `Deserializer::deserialize_fields` does.
@@ -77,7 +79,7 @@ pub fn read_fields_{count}<'de, R: ReadSlice<'de>, C: SerializerConfig, {bounded
 ) -> Result<{nested(kinds)}, Error>
     requires count {{ length names.now ≡ {count} }}
     ensures law {{ Lawful R.Source (λ m v. OfFields (bytes_of names.now) (λ fs. reads_{count} {given} {human} R.lends fs v) m) de.old de.new result }}
-    ensures refused {{ RefusesAs R.Source {human} R.lends (RefusesFields (bytes_of names.now) (reads_{count} {given}) ({parts})) de.old de.new result }}
+    ensures refused {{ RefusesAs R.Source {human} R.lends (RefusesFields (bytes_of names.now) ({needed}) ({parts})) de.old de.new result }}
 {{
     de.deserialize_fields::<{nested(kinds)}>(names)
 }}

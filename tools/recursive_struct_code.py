@@ -29,8 +29,9 @@ def body(level: Level) -> list[str]:
     lines += [f"let mut slot{at}: Option<{part.kind}> = None;" for at, (_, part) in enumerate(level.fields)]
     arms = [line for at in range(len(level.fields)) for line in arm(level, at)]
     lines += ["loop {", "match fields.next_field_by::<P>() {", *arms, "Ok(None) => break,", "Err(e) => return Err(e),", "}", "}"]
-    for at, (_, part) in enumerate(level.fields):
-        lines += [f"let value{at} = match fields.given_or(slot{at}, {part.made_absent}) {{", "Ok(value) => value,", "Err(e) => return Err(e),", "};"]
+    for at, (field, part) in enumerate(level.fields):
+        given = f'"{field.key}", slot{at}, {part.made_absent}'
+        lines += [f"let value{at} = match fields.given_or({given}) {{", "Ok(value) => value,", "Err(e) => return Err(e),", "};"]
     return [*lines, "match fields.end() {", f"Ok(()) => Ok({value_of(level)}),", "Err(e) => Err(e),", "}"]
 
 

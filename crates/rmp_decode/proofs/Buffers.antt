@@ -1,5 +1,5 @@
 -- Bytes from a text, from bytes, or from a list of numbers.
-use Rattle.std.proofs.Common.{◌≡◌, ◌∙◌, sym, ap, refl, ℕ, pos, arith, List, [], ◌∷◌, Option, None, Some, Bool, true, false, Ok, Err, Vec, Global}
+use Rattle.std.proofs.Common.{◌≡◌, ◌∙◌, sym, ap, refl, ℕ, pos, arith, List, [], ◌∷◌, Option, None, Some, Bool, true, false, Result, Ok, Err, Vec, Global}
 use Rattle.std.specs.Io.KnownBytes.{Consumes}
 use Rattle.rmp_wire.specs.declared.head.Head.{Head}
 use Rattle.rmp_wire.specs.declared.head.Head.TheVariants.{Array}
@@ -8,9 +8,11 @@ use Rattle.rmp_wire.specs.declared.source.Source.{Ghosts}
 use Rattle.rmp_wire.specs.Canonical.{heads_of, SpellsAs}
 use Rattle.rmp_wire.specs.Msg.{Msg, nil, truth, whole, float32, float64, text, bin, list, map, extension, Msgs}
 use Rattle.rmp_wire.specs.Spelling.{head_of}
-use Rattle.rmp_decode.specs.Buffers.{IsBuffer, ListAfterHead}
+use Rattle.rmp_decode.specs.Buffers.{a_buffer, IsBuffer, ListAfterHead, ReadsBuffer, ReadsByteList}
+use Rattle.rmp_decode.specs.Content.{IsBufferHead, not_raw, not_buffer}
 use Rattle.rmp_decode.specs.Kinds.{raw_head, raw_msg}
 use Rattle.rmp_decode.specs.Law.{Refuses, Readable, Lawful, ReadsHead}
+use Rattle.rmp_decode.specs.Payloads.{ReadsMessage}
 use Rattle.rmp_decode.specs.Read.{IsUnsigned}
 use Rattle.rmp_decode.specs.Rows.{ReadsEach}
 use Rattle.rmp_decode.specs.Seq.{numbers, OfRow, Opens, Run}
@@ -18,7 +20,14 @@ use Rattle.rmp_decode.specs.State.{left}
 use Rattle.rmp_decode.specs.declared.deserializer.Deserializer.{Deserializer}
 use Rattle.rmp_decode.specs.declared.access.seq.SeqAccess.{SeqAccess}
 use Rattle.rmp_decode.specs.declared.error.Error.{Error}
+use Rattle.rmp_decode.specs.declared.error.Error.TheVariants.{Syntax}
+use Rattle.rmp_decode.specs.declared.text.Text.TheVariants.{InvalidType}
+use Rattle.rmp_decode.proofs.BufferErrors.{list_none, list_other, list_after, raw_no_list, buffer_none, buffer_other, buffer_after}
+use Rattle.rmp_decode.proofs.ContentErrors.{content_differ, no_buffer_head, no_raw_head}
+use Rattle.rmp_decode.proofs.Faults.{tells_after}
+use Rattle.rmp_decode.proofs.FieldRows.{if_err}
 use Rattle.rmp_decode.proofs.Laws.{lawful_ok}
+use Rattle.rmp_decode.proofs.Payloads.{message_none, message_other, syntax_memory}
 use Rattle.rmp_decode.proofs.Seqs.{seq_done}
 use Rattle.rmp_decode.proofs.NothingAccepted.{same_head}
 
@@ -83,17 +92,17 @@ row_of_buffer (map ps) b n r e = r
 row_of_buffer (extension tag s) b n r e = r
 
 -- a buffer is a text or bytes, or a list
-pub no_buffer : (m : Msg) (b : List ℕ) (h : Head) → IsBuffer m b → head_of m ≡ h → ((p : Bool × ℕ) → h ≡ raw_head p.0 p.1 → ⊥) → ((n : ℕ) → h ≡ Array n → ⊥) → ⊥
-no_buffer nil b h r e f g = r
-no_buffer (truth t) b h r e f g = r
-no_buffer (whole z) b h r e f g = r
-no_buffer (float32 k) b h r e f g = r
-no_buffer (float64 k) b h r e f g = r
-no_buffer (text s) b h r e f g = f (true, _) (sym e)
-no_buffer (bin s) b h r e f g = f (false, _) (sym e)
-no_buffer (list ms) b h r e f g = g _ (sym e)
-no_buffer (map ps) b h r e f g = r
-no_buffer (extension tag s) b h r e f g = r
+pub buffer_only : (m : Msg) (b : List ℕ) → IsBuffer m b → IsBufferHead (head_of m)
+buffer_only nil b r = r
+buffer_only (truth t) b r = r
+buffer_only (whole z) b r = r
+buffer_only (float32 k) b r = r
+buffer_only (float64 k) b r = r
+buffer_only (text s) b r = tt
+buffer_only (bin s) b r = tt
+buffer_only (list ms) b r = tt
+buffer_only (map ps) b r = r
+buffer_only (extension tag s) b r = r
 
 -- the access to a list whose head was taken
 pub opened_after : {R C : Type 0} (g : Ghosts R) (old mid : Deserializer R C) (m : Marker) (len : ℕ) (s : SeqAccess R C)
@@ -128,3 +137,50 @@ buffer_done g old start mid ms o r last v q z e =
 pub raw_buffer : (t : Bool) (b : List ℕ) → IsBuffer (raw_msg t b) b
 raw_buffer true b = refl
 raw_buffer false b = refl
+
+-- ---- what happened at a read of bytes of its own, each once
+
+module _ {R C : Type 0} (g : Ghosts R) (old mid new : Deserializer R C) where
+  -- a text or bytes were there
+  pub buffer_raw : (t : Bool) (n : ℕ) (m : Marker) (result : Result (Vec ℕ Global) Error) → ReadsHead g old mid (Ok (m, raw_head t n))
+      → ReadsMessage g a_buffer old new result → ReadsBuffer g old new result
+  buffer_raw t n m result h r = record {
+    law = r.law;
+    exact = r.exact;
+    list = λ o. if_err result (λ e _. list_other g old e _ m (raw_head t n) h.marked (raw_no_list t n)) (r.exact o);
+    taken = λ o. if_err result (λ e l. buffer_other g old new e m (raw_head t n) h.marked (raw_no_list t n) l) (r.taken o);
+  }
+
+  -- a list was there
+  pub buffer_listed : (n : ℕ) (m : Marker) (result : Result (Vec ℕ Global) Error) → ReadsHead g old mid (Ok (m, Array n)) → ReadsByteList g n mid new result
+      → ReadsBuffer g old new result
+  buffer_listed n m result h r = record {
+    law = r.law old m h;
+    exact = λ _. if_err result (λ e f. content_differ _ IsBufferHead not_raw not_buffer _ _ _ m (Array n) (Array n) e h.marked refl refl tt (λ s. tt)
+        (tells_after _ _ _ e h.sound f)) r.fault;
+    list = λ _. list_after g old mid new m (Array n) n result h refl r.deep r.items;
+    taken = λ _. buffer_after g old mid new m (Array n) n result h refl r.taken;
+  }
+
+module _ {R C : Type 0} (g : Ghosts R) (old mid : Deserializer R C) where
+  -- no head was there, or a read had failed before
+  pub buffer_unopened : (e : Error) → ReadsHead g old mid (Err e) → ReadsBuffer g old mid (Err e)
+  buffer_unopened e h = let r = message_none g a_buffer old mid e h in record {
+    law = r.law;
+    exact = r.exact;
+    list = λ o. list_none g old e _ (h.ends o);
+    taken = λ o. buffer_none g old mid e (h.ends o) (r.taken o);
+  }
+
+  -- another kind was there
+  pub buffer_of_other : (p : Marker × Head) → ReadsHead g old mid (Ok p) → ((q : Bool × ℕ) → p.1 ≡ raw_head q.0 q.1 → ⊥) → ((n : ℕ) → p.1 ≡ Array n → ⊥)
+      → ReadsBuffer g old mid (Err (Syntax InvalidType))
+  buffer_of_other p h f none =
+      let r = message_other g a_buffer old mid p (Syntax InvalidType) h (no_buffer_head p.1 f none) (no_raw_head p.1 f) (λ m v q. buffer_only m v.items q) refl
+          (syntax_memory InvalidType) in
+      record {
+        law = r.law;
+        exact = r.exact;
+        list = λ o. list_other g old (Syntax InvalidType) _ p.0 p.1 h.marked none;
+        taken = λ o. buffer_other g old mid (Syntax InvalidType) p.0 p.1 h.marked none (r.taken o);
+      }

@@ -1,26 +1,24 @@
 -- What a refused read of a leaf leaves.
-use Rattle.std.proofs.Common.{◌≡◌, ◌∙◌, sym, ap, subst, refl, ℕ, ◌<◌, arith, Bool, List, [], ◌∷◌, ◌++◌, length, Option, None, Some, Ok, append_assoc}
+use Rattle.std.proofs.Common.{◌≡◌, ◌∙◌, sym, ap, subst, refl, ℕ, arith, Bool, List, [], ◌∷◌, ◌++◌, length, Option, None, Some, Ok}
 use Rattle.std.proofs.lemmas.List.{length-append}
-use Rattle.std.specs.Io.KnownBytes.{Consumes, prepend_known}
+use Rattle.std.specs.Io.KnownBytes.{Consumes}
 use Rattle.std.specs.Prelude.{IfSome}
 use Rattle.rmp_wire.specs.declared.head.Head.{Head}
 use Rattle.rmp_wire.specs.declared.marker.Marker.{Marker}
 use Rattle.rmp_wire.specs.declared.source.Source.{Ghosts}
-use Rattle.rmp_wire.specs.Canonical.{heads_of, SpellsAs}
-use Rattle.rmp_wire.specs.Msg.{Msg}
+use Rattle.rmp_wire.specs.Canonical.{heads_of}
 use Rattle.rmp_wire.specs.Sources.{IsShort}
 use Rattle.rmp_wire.specs.Taking.{marker_of}
 use Rattle.rmp_wire.proofs.Strict.{heads_differ_as}
 use Rattle.rmp_decode.specs.Consumed.{LeavesRest, LeavesAfter, LeavesPiece, PieceLeaves}
 use Rattle.rmp_decode.specs.Exact.{BeginsWithNone, EndsExactly}
-use Rattle.rmp_decode.specs.Kinds.{content_len, raw_head, raw_msg}
-use Rattle.rmp_decode.specs.Law.{Explains, LeavesNone, Reads, ReadsHead}
+use Rattle.rmp_decode.specs.Kinds.{content_len}
+use Rattle.rmp_decode.specs.Law.{Explains, LeavesNone, ReadsHead}
 use Rattle.rmp_decode.specs.State.{left, faults_of}
 use Rattle.rmp_decode.specs.declared.deserializer.Deserializer.{Deserializer}
 use Rattle.rmp_decode.specs.declared.error.Error.{Error}
 use Rattle.rmp_decode.specs.declared.error.Error.TheVariants.{OutOfMemory}
-use Rattle.rmp_decode.proofs.ContentErrors.{raw_len}
-use Rattle.rmp_decode.proofs.Contents.{bare, raw_content}
+use Rattle.rmp_decode.proofs.Contents.{bare}
 use Rattle.rmp_decode.proofs.FirstFault.{Front, front_of, starts}
 
 -- ---- a piece
@@ -55,14 +53,14 @@ pub piece_short : (n : ℕ) (known new : Option (List ℕ)) (before after : ℕ)
 unfolding PieceLeaves
 piece_short n known new before after e h = λ o k. never_whole n known new (h o k)
 
+-- memory was short
+pub piece_unsaid : (n : ℕ) (known new : Option (List ℕ)) (before after : ℕ) → PieceLeaves n known new before after OutOfMemory
+unfolding PieceLeaves
+piece_unsaid n known new before after = λ o _. absurd (o refl)
+
 -- ---- heads
 
 module _ (strict : Bool) (wanted : Head → Type 0) where
-  -- memory was short
-  pub leaves_unsaid : (known new : Option (List ℕ)) (before after : ℕ) → LeavesAfter strict wanted known new before after OutOfMemory
-  unfolding LeavesAfter
-  leaves_unsaid known new before after = λ o _. absurd (o refl)
-
   -- the bytes begin with no head
   pub leaves_none : (known new : Option (List ℕ)) (before after : ℕ) (e : Error) → EndsExactly strict before after known e
       → (after ≡ before → IfSome known (LeavesNone new)) → LeavesAfter strict wanted known new before after e
@@ -108,15 +106,6 @@ module _ (strict : Bool) (wanted : Head → Type 0) where
     none = λ n. absurd (head_there xs ys b h c i n);
   }
 
-split_known : (known k : Option (List ℕ)) (a s : List ℕ) → Consumes known k (a ++ s) → Consumes known (prepend_known s k) a
-split_known None k a s c = tt
-split_known (Some xs) None a s c = absurd c
-split_known (Some xs) (Some ys) a s c = c ∙ append_assoc a s ys
-
-front_known : (k : Option (List ℕ)) (s : List ℕ) → Consumes (prepend_known s k) k s
-front_known None s = tt
-front_known (Some xs) s = refl
-
 module _ {R C : Type 0} (g : Ghosts R) (wanted : Head → Type 0) (old mid : Deserializer R C) where
   -- a head was consumed that isn't wanted
   pub leaves_head : (p : Marker × Head) (e : Error) → ReadsHead g old mid (Ok p) → (wanted p.1 → ⊥)
@@ -137,13 +126,3 @@ module _ {R C : Type 0} (g : Ghosts R) (wanted : Head → Type 0) (old mid : Des
       (piece_rest old.strict wanted (left g old) (g.ahead mid.reader) (g.ahead last) r.ok.bytes h first
       (subst (λ z. heads_of old.strict z r.ok.bytes) i r.ok.is_head) w rest)
 
-  -- a text or bytes were consumed whole, and then refused
-  pub leaves_refused : {V : Type 0} (reads : Msg → V → Type 0) (v : V) (t : Bool) (s : List ℕ) (e : Error) (before after : ℕ) (r : Reads g reads old mid v)
-      → r.tree ≡ raw_msg t s → wanted (raw_head t (length s)) → LeavesAfter old.strict wanted (left g old) (left g mid) before after e
-  unfolding LeavesAfter
-  leaves_refused reads v t s e before after r q w = λ _ _.
-      let j = (raw_content t).opens old.strict s r.bytes (subst (SpellsAs old.strict r.bytes) q r.spelled) in
-      let same : r.bytes ≡ j.first ++ s = j.is_whole ∙ ap (λ z. j.first ++ z) j.is_second.0 in
-      let taken = split_known (left g old) (left g mid) j.first s (subst (Consumes (left g old) (left g mid)) same r.takes) in
-      piece_rest old.strict wanted (left g old) (prepend_known s (left g mid)) (left g mid) j.first (raw_head t (length s)) taken j.is_first w
-      (piece_of (content_len (raw_head t (length s))) (prepend_known s (left g mid)) (left g mid) s (front_known (left g mid) s) (sym (raw_len t (length s))))

@@ -1,59 +1,32 @@
 -- Which error comes where a head and the content after it are wanted.
-use Rattle.std.proofs.Common.{
-  ◌≡◌,
-  ◌∙◌,
-  sym,
-  ap,
-  subst,
-  refl,
-  ℕ,
-  ℤ,
-  ◌<◌,
-  arith,
-  List,
-  [],
-  ◌∷◌,
-  ◌++◌,
-  length,
-  Option,
-  None,
-  Some,
-  IfSome,
-  Bool,
-  true,
-  false,
-  Ok,
-  append_assoc,
-}
+use Rattle.std.proofs.Common.{◌≡◌, ◌∙◌, sym, ap, subst, refl, ℕ, ℤ, ◌<◌, arith, List, [], ◌∷◌, ◌++◌, length, Option, None, Some, IfSome, Bool, true, false, Ok}
 use Rattle.std.proofs.lemmas.List.{length-append}
-use Rattle.std.specs.Io.KnownBytes.{Consumes, prepend_known}
-use Rattle.std.specs.Prelude.{encode_utf8, IsUtf8}
+use Rattle.std.specs.Io.KnownBytes.{Consumes}
+use Rattle.std.specs.Prelude.{IsUtf8}
 use Rattle.rmp_wire.specs.declared.head.Head.{Head}
 use Rattle.rmp_wire.specs.declared.head.Head.TheVariants as head
 use Rattle.rmp_wire.specs.declared.marker.Marker.{Marker}
 use Rattle.rmp_wire.specs.declared.source.Source.{Ghosts}
 use Rattle.rmp_wire.specs.declared.slice.SourceFault.{SourceFault}
 use Rattle.rmp_wire.specs.declared.slice.SourceFault.TheVariants.{Io, Memory}
-use Rattle.rmp_wire.specs.Canonical.{heads_of, SpellsAs}
-use Rattle.rmp_wire.specs.Msg.{Msg}
+use Rattle.rmp_wire.specs.Canonical.{heads_of}
 use Rattle.rmp_wire.specs.Slices.{Blames}
 use Rattle.rmp_wire.specs.Sources.{IsShort}
-use Rattle.rmp_wire.specs.Taking.{marker_of}
 use Rattle.rmp_wire.proofs.Canon.{canon_head_least}
 use Rattle.rmp_wire.proofs.Strict.{any_width, heads_differ_as}
 use Rattle.rmp_wire.proofs.Writing.{head_some}
 use Rattle.rmp_decode.specs.Content.{RefusesContent, IsTextHead, IsRawHead, IsBufferHead, IsExtHead, not_lent, not_bytes, not_string, not_str}
 use Rattle.rmp_decode.specs.Exact.{BeginsWith, EndsExactly, IsDataEnd, TellsFault, IsUtf8Error}
-use Rattle.rmp_decode.specs.Kinds.{raw_head, raw_msg, content_len}
-use Rattle.rmp_decode.specs.Law.{Explains, ReadsHead, Reads}
-use Rattle.rmp_decode.specs.Pieces.{Blamed, StartsWithNoChar, RefusesPiece}
+use Rattle.rmp_decode.specs.Kinds.{raw_head, content_len}
+use Rattle.rmp_decode.specs.Law.{Explains, ReadsHead}
+use Rattle.rmp_decode.specs.Pieces.{Blamed, RefusesPiece}
 use Rattle.rmp_decode.specs.State.{left, faults_of}
 use Rattle.rmp_decode.specs.declared.deserializer.Deserializer.{Deserializer}
 use Rattle.rmp_decode.specs.declared.error.Error.{Error}
 use Rattle.rmp_decode.specs.declared.error.Error.TheVariants.{Syntax}
 use Rattle.rmp_decode.specs.declared.text.Text.TheVariants.{InvalidValue}
-use Rattle.rmp_decode.proofs.Contents.{bare, raw_content}
-use Rattle.rmp_decode.proofs.Exactness.{start_once, starts_known, no_fault, none_told}
+use Rattle.rmp_decode.proofs.Contents.{bare}
+use Rattle.rmp_decode.proofs.Exactness.{start_once, no_fault, none_told}
 use Rattle.rmp_decode.proofs.Faults.{tells_after}
 
 -- ---- pieces
@@ -113,15 +86,6 @@ pub blamed_tells : (n : ℕ) (fault : SourceFault) (before after : ℕ) (known :
     → Blamed fault e → TellsFault before after e
 blamed_tells n Memory before after known e s b = none_told before after e s
 blamed_tells n (Io cause) before after known e s b = record { counts = s.0; told = λ _. b.2 }
-
-short_char : (n : ℕ) (known : Option (List ℕ)) → IsShort n known → StartsWithNoChar n known
-short_char n None h = tt
-short_char n (Some xs) h = λ c r _ m q. absurd (let long = ap length q ∙ length-append (encode_utf8 c) r in omega (arith, long, m, h))
-
-pub char_blamed : (n : ℕ) (fault : SourceFault) (before after : ℕ) (known : Option (List ℕ)) (e : Error) → Blames fault before after known n
-    → Blamed fault e → Explains e before after (StartsWithNoChar n known)
-char_blamed n Memory before after known e s b = λ m _. absurd (m b)
-char_blamed n (Io cause) before after known e s b = λ _ k. short_char n known (s.1 k).0
 
 -- a source that doesn't lend
 pub unlent : (lends t : Bool) (n m : ℕ) (s : List ℕ) (e : Error) → lends ≡ false → not_lent (raw_head t n) s e → not_bytes lends (raw_head t m) s e
@@ -200,17 +164,6 @@ module _ (strict : Bool) (wanted : Head → Type 0) (other : Marker → Head →
     tells,
   )
 
--- a wider way to refuse whole content
-pub content_wider : (strict : Bool) (wanted : Head → Type 0) (other : Marker → Head → Error) (refused wider : Head → List ℕ → Error
-    → Type 0) (before after : ℕ) (known : Option (List ℕ)) (e : Error) → ((h : Head) (s : List ℕ) → wanted h → refused h s e → wider h s e)
-    → RefusesContent strict wanted other refused before after known e → RefusesContent strict wanted other wider before after known e
-unfolding RefusesContent
-content_wider strict wanted other refused wider before after None e f r = (λ _. tt, r.1)
-content_wider strict wanted other refused wider before after (Some xs) e f r = (
-  λ k. let x = r.0 k in record { others = x.others; cut = x.cut; whole = λ h s w t n. f h s w (x.whole h s w t n); ends = x.ends },
-  r.1,
-)
-
 -- a head's first byte
 some_byte : (b : List ℕ) → 0 < length b → (x : ℕ) × (y : List ℕ) × (b ≡ x ∷ y)
 some_byte [] l = absurd (omega arith)
@@ -218,22 +171,6 @@ some_byte (x ∷ y) l = (x, y, refl)
 
 pub head_byte : (strict : Bool) (h : Head) (b : List ℕ) → heads_of strict h b → (x : ℕ) × (y : List ℕ) × (b ≡ x ∷ y)
 head_byte strict h b i = some_byte b (omega (arith, canon_head_least h b (any_width strict h b i), head_some h))
-
-starts_some : (strict : Bool) (h : Head) (b : List ℕ) (known k : Option (List ℕ)) → heads_of strict h b → Consumes known k b
-    → (m : Marker) × IfSome known (BeginsWith strict m h)
-starts_some strict h b known k i c =
-    let t = head_byte strict h b i in
-    let front = t.2 in
-    (marker_of t.0, starts_known _ (marker_of t.0) h t.0 t.1 known k (subst (Consumes known k) front c) refl (subst (heads_of strict h) front i))
-
-split_known : (known k : Option (List ℕ)) (a s : List ℕ) → Consumes known k (a ++ s) → Consumes known (prepend_known s k) a
-split_known None k a s c = tt
-split_known (Some xs) None a s c = absurd c
-split_known (Some xs) (Some ys) a s c = c ∙ append_assoc a s ys
-
-front_known : (k : Option (List ℕ)) (s : List ℕ) → Consumes (prepend_known s k) k s
-front_known None s = tt
-front_known (Some xs) s = refl
 
 pub raw_len : (t : Bool) (n : ℕ) → content_len (raw_head t n) ≡ n
 raw_len true n = refl
@@ -309,21 +246,6 @@ module _ {R C : Type 0} (g : Ghosts R) (wanted : Head → Type 0) (other : Marke
       content_after old.strict wanted other refused (faults_of g old) after (left g old) (left g mid) r.ok.bytes p.0 p.1 e r.ok.takes r.ok.is_head r.marked
       (subst wanted (sym i) w) (λ o k.
       rw (bare g mid r.clean, i, l) (x o (k ∙ sym r.sound))) (tells_after _ _ _ e r.sound f)
-
-  -- a text or bytes were taken whole, and then refused
-  pub content_refused_after : {V : Type 0} (reads : Msg → V → Type 0) (v : V) (t : Bool) (s : List ℕ) (e : Error) (r : Reads g reads old mid v)
-      → r.tree ≡ raw_msg t s → wanted (raw_head t (length s)) → refused (raw_head t (length s)) s e → after ≡ faults_of g old
-      → RefusesContent old.strict wanted other refused (faults_of g old) after (left g old) e
-  content_refused_after reads v t s e r q w f sound =
-      let j = (raw_content t).opens old.strict s r.bytes (subst (SpellsAs old.strict r.bytes) q r.spelled) in
-      let h = raw_head t (length s) in
-      let same : r.bytes ≡ j.first ++ s = j.is_whole ∙ ap (λ z. j.first ++ z) j.is_second.0 in
-      let taken = split_known (left g old) (left g mid) j.first s (subst (Consumes (left g old) (left g mid)) same r.takes) in
-      let m = starts_some old.strict h j.first (left g old) (prepend_known s (left g mid)) j.is_first taken in
-      content_after old.strict wanted other refused (faults_of g old) after (left g old) (prepend_known s (left g mid)) j.first m.0 h e taken j.is_first
-      m.1 w (λ _ _.
-      piece_whole (content_len h) (refused h) (prepend_known s (left g mid)) (left g mid) s e (front_known (left g mid) s) (sym (raw_len t (length s))) f)
-      (none_told _ _ e sound)
 
 -- ---- whole content that isn't UTF-8
 

@@ -17,9 +17,9 @@ use Rattle.rmp_decode.specs.State.{left, faults_of, Stays, kept_bytes}
 use Rattle.rmp_decode.specs.declared.deserializer.Deserializer.{Deserializer}
 use Rattle.rmp_decode.specs.declared.deserializer.Kept.TheVariants.{Nothing}
 use Rattle.rmp_decode.specs.declared.error.Error.{Error}
-use Rattle.rmp_decode.proofs.Laws.{refused, refused_head, stays_then}
+use Rattle.rmp_decode.proofs.Laws.{refused, stays_then}
 use Rattle.rmp_wire.proofs.Strict.{heads_differ_as}
-use Rattle.rmp_decode.proofs.NothingAccepted.{content_of, refuses_short, refuses_by, refuses_all}
+use Rattle.rmp_decode.proofs.NothingAccepted.{content_of, refuses_short, refuses_by}
 
 -- with nothing kept back, what is left is what the source has ahead
 bare_known : (known : Option (List ℕ)) → prepend_known [] known ≡ known
@@ -132,19 +132,6 @@ module _ {R C V : Type 0} {make : List ℕ → Msg} {heads : ℕ → Head} (cont
   content_short n e i x f st = refused g reads old new e h.fresh f (stays_then g old mid new h.stays st) (λ o k.
       let s : IsShort n (left g mid) = rw (bare g mid h.clean) (x o (k ∙ sym h.sound)) in
       refuses_short _ (Readable reads) _ n (left g old) (left g mid) h.ok.bytes p.1 h.ok.takes h.ok.is_head s (λ m r q. content.fills m n (q ∙ i)))
-
-  -- too few bytes are after the head, or the source doesn't lend, and only what is lent is read
-  pub content_lent : (lends : Bool) (n : ℕ) (e : Error) → p.1 ≡ heads n → ((m : Msg) → Readable reads m → lends ≡ true)
-      → (lends ≡ true → Explains e (g.faults mid.reader) (g.faults new.reader) (IsShort n (g.ahead mid.reader))) → new.failed ≡ true → Stays g mid new
-      → Lawful g reads old new (Err e)
-  content_lent true n e i l x f st = content_short n e i (x refl) f st
-  content_lent false n e i l x f st = refused g reads old new e h.fresh f (stays_then g old mid new h.stays st)
-      (λ _ _. refuses_all (SpellsAs old.strict) (Readable reads) _ _ (λ m r. absurd (let no = l m r in cc)))
-
-  -- another kind was there
-  pub content_missed : (e : Error) → ((n : ℕ) → p.1 ≡ heads n → ⊥) → ((m : Msg) → Readable reads m → (s : List ℕ) × (m ≡ make s)) → new ≡ mid
-      → Lawful g reads old new (Err e)
-  content_missed e n f q = rw q (refused_head g reads old mid p e h (λ m r i. let a = f m r in n (length a.0) (sym i ∙ ap head_of a.1 ∙ content.is a.0)))
 
   -- it was there, and no such content is read
   pub content_refused : (n : ℕ) (e : Error) → p.1 ≡ heads n → ((m : Msg) → Readable reads m → (s : List ℕ) × (m ≡ make s))

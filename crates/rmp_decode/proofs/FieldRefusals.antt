@@ -1,9 +1,10 @@
 -- Where fields are refused, by where their opening, their keys and their values are.
 use Rattle.std.proofs.Common.{◌≡◌, ◌∙◌, sym, ap, subst, inl, inr, ◌⊎◌, ℕ, suc, ◌-◌, ◌<◌, max, arith, length, Bool, true, List, [], ◌∷◌, Option, None, Some}
+use Rattle.std.specs.Prelude.{MatchOption}
 use Rattle.rmp_wire.specs.declared.source.Source.{Ghosts}
 use Rattle.rmp_wire.specs.Canonical.{SpellsAs}
 use Rattle.rmp_wire.specs.Msg.{Msg, Msgs, no_items, item, count, Pairs}
-use Rattle.rmp_decode.specs.FieldRefusing.{PartsHold, FieldRefused, FillRefused, PairFails, Lacks, RefusesFields, PassesSome}
+use Rattle.rmp_decode.specs.FieldRefusing.{PartsHold, FieldRefused, FillRefused, PairFails, Lacks, RefusesFields, PassesSome, missing_name}
 use Rattle.rmp_decode.specs.Fields.{Slot, given_all, name_refusal, pass_refusal}
 use Rattle.rmp_decode.specs.MapRefusing.{OpenedMap, AfterPairs, EntryRefused, KeyRefused}
 use Rattle.rmp_decode.specs.Maps.{map_inner, OpensMap, TakesKey}
@@ -16,8 +17,8 @@ use Rattle.rmp_decode.specs.declared.deserializer.Deserializer.{Deserializer}
 use Rattle.rmp_decode.specs.declared.access.map.MapAccess.{MapAccess}
 use Rattle.rmp_decode.specs.declared.access.seq.SeqAccess.{SeqAccess}
 use Rattle.rmp_decode.specs.declared.error.Error.{Error}
-use Rattle.rmp_decode.specs.declared.error.Error.TheVariants.{LengthMismatch, OutOfMemory, Syntax}
-use Rattle.rmp_decode.specs.declared.text.Text.TheVariants.{MissingField}
+use Rattle.rmp_decode.specs.declared.error.Error.TheVariants.{LengthMismatch, OutOfMemory}
+use Rattle.rmp_decode.specs.Words.{field_of, fitting}
 use Rattle.rmp_decode.proofs.Fields.{later_full}
 use Rattle.rmp_decode.proofs.Maps.{flat, in_pairs, count-flat, depth-flat, settled}
 use Rattle.rmp_decode.proofs.ListRefusals.{Held, parts_wrong, parts_excess}
@@ -89,12 +90,11 @@ module _ {R C : Type 0} (g : Ghosts R) (human : C → Bool) (lends : Bool) (old 
   tuple_excess mid ms r h c l q = inr (parts_excess g human lends old start o after e ps mid ms r
       (given_held (inside (setting_of (human old.config) lends old) (inner_of start)) ps ms h) c l q)
 
-module _ {R C V : Type 0} (g : Ghosts R) (human : C → Bool) (lends : Bool) (names : List (List ℕ)) (reads : Bool → Bool → List (Option Msg) → V
-    → Type 0) (ps : List Part) (old : Deserializer R C) (after : ℕ) (e : Error) where
+module _ {R C : Type 0} (g : Ghosts R) (human : C → Bool) (lends : Bool) (names : List (List ℕ)) (needed : List Bool) (ps : List Part) (old : Deserializer R C) (after : ℕ) (e : Error) where
   module _ (start : SeqAccess R C) (o : Opens g old start) where
     -- one of them was refused
     pub listed_wrong : (now : SeqAccess R C) → after ≡ faults_of g now.de.now → PartsRefused g (human start.de.now.config) lends ps start now e
-        → RefusesFields names reads ps (setting_of (human old.config) lends old) (faults_of g old) after (left g old) e
+        → RefusesFields names needed ps (setting_of (human old.config) lends old) (faults_of g old) after (left g old) e
     unfolding RefusesFields
     listed_wrong now q h = inr (inl (parts_wrong g human lends old start o after e ps now q h))
 
@@ -102,7 +102,7 @@ module _ {R C V : Type 0} (g : Ghosts R) (human : C → Bool) (lends : Bool) (na
     pub listed_excess : (mid : SeqAccess R C) (ms : Msgs) → Run g start mid ms
         → PartsHold (inside (setting_of (human old.config) lends old) (inner_of start)) ps (given_all ms) → count ms ≡ length ps → 0 < mid.left
         → e ≡ LengthMismatch (mid.count - mid.left)
-        → RefusesFields names reads ps (setting_of (human old.config) lends old) (faults_of g old) after (left g old) e
+        → RefusesFields names needed ps (setting_of (human old.config) lends old) (faults_of g old) after (left g old) e
     unfolding RefusesFields
     listed_excess mid ms r h c l q =
         inr (inl (parts_excess g human lends old start o after e ps mid ms r
@@ -147,8 +147,8 @@ module _ {R C V : Type 0} (g : Ghosts R) (human : C → Bool) (lends : Bool) (na
       refused = w;
     }
 
-    after_met : PairFails names ps r.met_trees Inner (faults_of g old) after mid.left (left g mid.de.now) e ⊎ Lacks reads r.met_trees Inner mid.left e
-        → RefusesFields names reads ps (setting_of (human old.config) lends old) (faults_of g old) after (left g old) e
+    after_met : PairFails names ps r.met_trees Inner (faults_of g old) after mid.left (left g mid.de.now) e ⊎ Lacks names needed r.met_trees mid.left e
+        → RefusesFields names needed ps (setting_of (human old.config) lends old) (faults_of g old) after (left g old) e
     unfolding RefusesFields
     after_met w = inr (inr (map_after _ (r.met_trees, pairs_after _ _ (r.is_met, held r.met_trees slots r.held) w)))
 
@@ -157,7 +157,7 @@ module _ {R C V : Type 0} (g : Ghosts R) (human : C → Bool) (lends : Bool) (na
 
     -- the next key was refused
     pub name_wrong : (now : MapAccess R C) → after ≡ faults_of g now.de.now → KeyRefused g (human mid.de.now.config) lends name_refusal mid now e
-        → RefusesFields names reads ps (setting_of (human old.config) lends old) (faults_of g old) after (left g old) e
+        → RefusesFields names needed ps (setting_of (human old.config) lends old) (faults_of g old) after (left g old) e
     unfolding RefusesFields
     name_wrong now q h =
         let s = setting_same human lends mid.de.now old (map_inner mid) (map_inner start) (r.run.stays.config ∙ o.stays.config)
@@ -167,10 +167,10 @@ module _ {R C V : Type 0} (g : Ghosts R) (human : C → Bool) (lends : Bool) (na
         after_met (inl (h.0, inl (subst (λ z. name_refusal Inner (faults_of g old) z (left g mid.de.now) e) (sym q) w2)))
 
     -- a field is missing
-    pub field_lacks : mid.left ≡ 0 → e ≡ Syntax MissingField → ((v : V) → reads (human old.config) lends r.met_trees v → ⊥)
-        → RefusesFields names reads ps (setting_of (human old.config) lends old) (faults_of g old) after (left g old) e
+    pub field_lacks : mid.left ≡ 0 → MatchOption (missing_name names needed r.met_trees) ⊥ (λ name. field_of e ≡ Some (fitting name))
+        → RefusesFields names needed ps (setting_of (human old.config) lends old) (faults_of g old) after (left g old) e
     unfolding RefusesFields
-    field_lacks z q f = after_met (inr (z, q, f))
+    field_lacks z f = after_met (inr (z, f))
 
     module _ (key now : MapAccess R C) (k : Option ℕ) (t : TakesKey g (IsName names) mid key k) (q : after ≡ faults_of g now.de.now) where
       -- how the value of the key that was read last is
@@ -202,7 +202,7 @@ module _ {R C V : Type 0} (g : Ghosts R) (human : C → Bool) (lends : Bool) (na
 
       -- it couldn't be passed over
       pub pass_wrong : k ≡ None → EntryRefused g (human key.de.now.config) lends pass_refusal key now e
-          → RefusesFields names reads ps (setting_of (human old.config) lends old) (faults_of g old) after (left g old) e
+          → RefusesFields names needed ps (setting_of (human old.config) lends old) (faults_of g old) after (left g old) e
       unfolding RefusesFields
       pass_wrong n h = after_met (inl (
         some_left,
@@ -217,7 +217,7 @@ module _ {R C V : Type 0} (g : Ghosts R) (human : C → Bool) (lends : Bool) (na
 
       -- it is of a field that was met before, or was refused
       pub field_wrong : (n : ℕ) → k ≡ Some n → FillRefused g (human key.de.now.config) lends holds ps n key now slots e
-          → RefusesFields names reads ps (setting_of (human old.config) lends old) (faults_of g old) after (left g old) e
+          → RefusesFields names needed ps (setting_of (human old.config) lends old) (faults_of g old) after (left g old) e
       unfolding RefusesFields
       field_wrong n i h = after_met (inl (
         some_left,

@@ -220,9 +220,9 @@ module _ {R C V : Type 0} (g : Ghosts R) (human : C → Bool) (lends : Bool) (re
   -- why
   module _ (e : Error) (w : RefusesParts false (setting_of (human mid.config) lends (in_row mid)) (faults_of g mid) (faults_of g new) ps no_refusal n
       (left g mid) e) where
-    pub row_refused : (names : List (List ℕ))
-        → RefusesFields names reads ps (setting_of (human old.config) lends old) (faults_of g old) (faults_of g new) (left g old) e
-    row_refused names = listed_wrong g human lends names reads ps old (faults_of g new) e (in_list mid (mid.room - 1) n n) opened
+    pub row_refused : (names : List (List ℕ)) (needed : List Bool)
+        → RefusesFields names needed ps (setting_of (human old.config) lends old) (faults_of g old) (faults_of g new) (left g old) e
+    row_refused names needed = listed_wrong g human lends names needed ps old (faults_of g new) e (in_list mid (mid.room - 1) n n) opened
         (in_list new (mid.room - 1) 0 n) refl w
 
     pub tuple_refused : RefusesTuple ps (setting_of (human old.config) lends old) (faults_of g old) (faults_of g new) (left g old) e

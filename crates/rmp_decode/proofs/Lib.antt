@@ -35,6 +35,7 @@ pub mod MapRefusals
 pub mod MapWiths
 pub mod Maps
 pub mod Meeting
+pub mod Missing
 pub mod Names
 pub mod NamesAhead
 pub mod NextMessage
@@ -46,6 +47,7 @@ pub mod Opening
 pub mod Options
 pub mod Orders
 pub mod PartErrors
+pub mod Payloads
 pub mod Places
 pub mod RowEnds
 pub mod RowReads
@@ -57,12 +59,10 @@ pub mod SkipLaws
 pub mod SkipLoop
 pub mod SourceReads
 pub mod Steps
-pub mod Strings
 pub mod StructRuns
 pub mod StructVariantRuns
 pub mod StructVariants
 pub mod Structs
-pub mod Texts
 pub mod Tuples
 pub mod Units
 pub mod VariantNames

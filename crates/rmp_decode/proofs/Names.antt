@@ -107,9 +107,6 @@ pub below_past : (n : ℕ) (z : ℤ) → lt_z z (pos 0) ≡ false → lt_z z (po
 below_past n (pos k) e l = let h : nat_lt k n ≡ false = l in ap (λ b. Some (cond b (Some k) None)) (sym h)
 below_past n (negsuc k) e l = absurd (let h : true ≡ false = e in cc)
 
-pub not_below : {o : Option ℕ} → None ≡ Some o → ⊥
-not_below e = absurd (cc)
-
 -- ---- heads that aren't wanted
 
 pub name_wanted : (t : Bool) (n : ℕ) → IsNameHead (raw_head t n)
@@ -131,3 +128,17 @@ no_name_head (head.Ext n tag) f g w = w
 pub no_negative_head : (many : ℕ) (z : ℤ) → None ≡ place_below many z → IsNameHead (Whole z) → ⊥
 no_negative_head many (pos n) e w = absurd (cc)
 no_negative_head many (negsuc n) e w = w
+
+-- what says a name has a head that is wanted
+pub name_only : (names : List (List ℕ)) (m : Msg) (o : Option ℕ) → name_of names m ≡ Some o → IsNameHead (head_of m)
+name_only names nil o e = absurd (cc)
+name_only names (truth t) o e = absurd (cc)
+name_only names (whole (pos n)) o e = tt
+name_only names (whole (negsuc n)) o e = absurd (cc)
+name_only names (float32 n) o e = absurd (cc)
+name_only names (float64 n) o e = absurd (cc)
+name_only names (text s) o e = tt
+name_only names (bin s) o e = tt
+name_only names (list ms) o e = absurd (cc)
+name_only names (map ps) o e = absurd (cc)
+name_only names (extension tag s) o e = absurd (cc)

@@ -1,35 +1,15 @@
 -- Numbers of 128 bits.
-use Rattle.std.proofs.Common.{◌≡◌, ◌∙◌, sym, ap, subst, refl, ℕ, ℤ, pos, negsuc, ◌≤ℤ◌, ◌≤◌, List, [], ◌∷◌, length, slice_index_or, inl, inr, arith, Option}
+use Rattle.std.proofs.Common.{◌≡◌, ◌∙◌, sym, ap, subst, refl, ℕ, ℤ, pos, negsuc, ◌≤ℤ◌, ◌≤◌, List, [], ◌∷◌, length, slice_index_or, inl, inr, arith, Option, Ok, Err}
 use Rattle.std.proofs.lemmas.Int.{ints}
 use Rattle.rmp_wire.specs.declared.head.Head.{Head}
 use Rattle.rmp_wire.specs.declared.head.Head.TheVariants as head
+use Rattle.rmp_wire.specs.declared.source.Source.{Ghosts}
 use Rattle.rmp_wire.specs.Msg.{Msg, bin, whole}
 use Rattle.rmp_wire.specs.Spelling.{head_of}
-use Rattle.rmp_decode.specs.Law.{Readable}
-use Rattle.rmp_decode.specs.Wide.{IsSixteen, IsUnsigned128, IsSigned128, IsSigned128Head, IsUnsigned128Head, TakesSixteen}
-
--- no other head opens a number of 128 bits
-sixteen_head : (m : Msg) (n : ℕ) (h : Head) → IsSixteen m n → head_of m ≡ h → h ≡ head.Bin 16
-sixteen_head m n h s i = sym i ∙ ap head_of s.is ∙ ap head.Bin s.long
-
-pub no_unsigned : (h : Head) → ((z : ℤ) → h ≡ head.Whole z → ⊥) × (h ≡ head.Bin 16 → ⊥) → (m : Msg) → Readable IsUnsigned128 m → head_of m ≡ h → ⊥
-no_unsigned h f m r i = elim r.1 [
-  | inl w ↦ f.0 (pos r.0) (sym i ∙ ap head_of w)
-  | inr s ↦ f.1 (sixteen_head m r.0 h s i)
-]
-
-pub no_signed : (h : Head) → ((z : ℤ) → h ≡ head.Whole z → ⊥) × (h ≡ head.Bin 16 → ⊥) → (m : Msg) → Readable IsSigned128 m → head_of m ≡ h → ⊥
-no_signed h f m r i = elim r.1 [
-  | inl w ↦ f.0 r.0 (sym i ∙ ap head_of w)
-  | inr s ↦ f.1 (sixteen_head m s.0 h s.1 i)
-]
-
--- a number that is read without a sign isn't negative
-pub not_negative : (z : ℤ) → Readable IsUnsigned128 (whole z) → pos 0 ≤ℤ z
-not_negative z r = elim r.1 [
-  | inl w ↦ let e : z ≡ pos r.0 = cc in rw e (omega (arith, ints))
-  | inr s ↦ absurd (let i = s.is in cc)
-]
+use Rattle.rmp_decode.specs.Payloads.{Kind, TakesPayload}
+use Rattle.rmp_decode.specs.Wide.{IsSixteen, IsUnsigned128, IsSigned128, IsSigned128Head, IsUnsigned128Head, TakesSixteen, ReadsSixteen}
+use Rattle.rmp_decode.specs.declared.error.Error.{Error}
+use Rattle.rmp_decode.proofs.Payloads.{payload_short}
 
 -- a number from 0 on is read without a sign
 pub unsigned_as : (z : ℤ) (n : ℕ) → z ≡ pos n → IsUnsigned128 (whole z) n
@@ -71,6 +51,38 @@ not_negative_head h (negsuc n) i f w = subst IsUnsigned128Head i w
 -- 16 bytes that were taken are the number
 pub taken_sixteen : {old new : Option (List ℕ)} {n : ℕ} (t : TakesSixteen old new n) → IsSixteen (bin t.bytes) n
 taken_sixteen t = record { bytes = t.bytes; is = refl; long = t.long; number = t.number }
+
+-- only messages with a head that is wanted are read
+pub signed_only : (m : Msg) (z : ℤ) → IsSigned128 m z → IsSigned128Head (head_of m)
+signed_only m z r = elim r [
+  | inl w ↦ subst (λ k. IsSigned128Head (head_of k)) (sym w) tt
+  | inr s ↦ subst (λ k. IsSigned128Head (head_of k)) (sym s.1.is) s.1.long
+]
+
+pub unsigned_only : (m : Msg) (n : ℕ) → IsUnsigned128 m n → IsUnsigned128Head (head_of m)
+unsigned_only m n r = elim r [
+  | inl w ↦ subst (λ k. IsUnsigned128Head (head_of k)) (sym w) tt
+  | inr s ↦ subst (λ k. IsUnsigned128Head (head_of k)) (sym s.is) s.long
+]
+
+module _ {S V : Type 0} (g : Ghosts S) (k : Kind V) (old new : S) where
+  -- 16 bytes were there
+  pub sixteen_read : (n : ℕ) (v : V) (r : ReadsSixteen g old new (Ok n)) → ((m : Msg) → IsSixteen m n → k.reads m v)
+      → TakesPayload g k (head.Bin 16) old new (Ok v)
+  sixteen_read n v r f = let t = r.ok in record {
+    ok = record { bytes = t.bytes; long = t.long; small = t.small; taken = t.takes; value = f (bin t.bytes) (taken_sixteen t) };
+    sound = r.sound;
+    err = tt;
+    exact = tt;
+    taken = tt;
+    fault = tt;
+    memory = λ _. tt;
+    place = r.place;
+  }
+
+  -- they were short
+  pub sixteen_short : (e : Error) → ReadsSixteen g old new (Err e) → TakesPayload g k (head.Bin 16) old new (Err e)
+  sixteen_short e r = payload_short g k (head.Bin 16) old new 16 refl e r.err r.end r.fault (λ _. r.memory) r.place
 
 -- the first 16 bytes of some come before the others
 pub sixteen_first : (xs : List ℕ) → 16 ≤ length xs

@@ -1,11 +1,12 @@
 -- The words of a refusal are what is UTF-8 of its bytes.
 use Rattle.std.proofs.Common.{arith, ap, refl, subst, sym, ◌∙◌}
-use Rattle.std.specs.Prelude.{◌≡◌, ℕ, zero, suc, ◌+◌, ◌-◌, ◌<◌, true, false, List, [], ◌++◌, length, take, drop}
+use Rattle.std.specs.Prelude.{◌≡◌, ℕ, zero, suc, ◌+◌, ◌-◌, ◌<◌, ◌≤◌, true, false, List, [], ◌++◌, length, take, drop}
 use Rattle.std.specs.Str.{IsUtf8, is_utf8, chars}
 use Rattle.std.specs.Str.Lossy.{utf8_valid_len}
+use Rattle.rmp_decode.specs.Words.{fitting}
 use Rattle.std.proofs.Math.ListN.{replicate}
 use Rattle.std.proofs.Math.Seq.{take-append_seam, take-append-add, take-length, drop-append_seam}
-use Rattle.std.proofs.lemmas.List.{length-replicate, drop-replicate, length-append}
+use Rattle.std.proofs.lemmas.List.{length-replicate, drop-replicate, length-append, take_all}
 use Rattle.std.proofs.lemmas.Str.{
   IsUtf8-nil,
   IsUtf8-append,
@@ -66,3 +67,7 @@ front_words t s e u =
 -- bytes that are UTF-8 are words as a whole
 pub all_words : (bs : List ℕ) → IsUtf8 bs → take (utf8_valid_len bs) bs ≡ bs
 all_words bs u = ap (λ n. take n bs) (utf8_valid_len-IsUtf8 bs u) ∙ take-length bs
+
+-- a text that fits is there whole
+pub all_fits : (s : List ℕ) → IsUtf8 s → length s ≤ 30 → fitting s ≡ s
+all_fits s u l = ap (λ t. take (utf8_valid_len t) t) (take_all 30 s l) ∙ all_words s u

@@ -1,5 +1,6 @@
 -- Bytes from a text, from bytes, or from a list of numbers.
-use Rattle.std.specs.Prelude.{◌≡◌, ◌⊎◌, ℕ, ◌+◌, ◌<◌, ◌≤◌, Bool, List, Option, Some, IfSome, Result, Ok, true, false}
+use Rattle.std.specs.Prelude.{◌≡◌, ◌⊎◌, ℕ, ◌+◌, ◌<◌, ◌≤◌, Bool, List, Option, Some, IfSome, IfErr, Result, Ok, Vec, true, false}
+use Rattle.std.specs.declared.alloc.Global.{Global}
 use Rattle.rmp_wire.specs.declared.head.Head.{Head}
 use Rattle.rmp_wire.specs.declared.marker.Marker.{Marker}
 use Rattle.rmp_wire.specs.declared.source.Source.{Ghosts}
@@ -7,10 +8,11 @@ use Rattle.rmp_wire.specs.declared.head.Head.TheVariants.{Array}
 use Rattle.rmp_wire.specs.Msg.{Msg, Msgs, nil, truth, whole, float32, float64, text, bin, list, map, extension}
 use Rattle.rmp_wire.specs.Canonical.{SpellsAs}
 use Rattle.rmp_decode.specs.Consumed.{LeavesRest, no_payload}
-use Rattle.rmp_decode.specs.Content.{IsRawHead}
-use Rattle.rmp_decode.specs.Exact.{BeginsWith, Exact}
+use Rattle.rmp_decode.specs.Content.{IsRawHead, IsBufferHead, RefusesLeaf, not_raw, not_buffer}
+use Rattle.rmp_decode.specs.Exact.{BeginsWith, Exact, TellsFault}
 use Rattle.rmp_decode.specs.Kinds.{other_number}
 use Rattle.rmp_decode.specs.Law.{Begins, Explains, Readable, Lawful, ReadsHead}
+use Rattle.rmp_decode.specs.Payloads.{Kind}
 use Rattle.rmp_decode.specs.Read.{IsUnsigned}
 use Rattle.rmp_decode.specs.Rows.{ReadsEach}
 use Rattle.rmp_decode.specs.Seq.{BeginsRow}
@@ -109,3 +111,31 @@ pub record LeavesBuffer (strict : Bool) (room : ℕ) (new : Option (List ℕ)) (
 -- the same of a ready reader that was in one state and is in another then
 unfoldable pub BufferLeaves : {R C : Type 0} → Ghosts R → Deserializer R C → Deserializer R C → Error → Type 0
 BufferLeaves g old new e = Explains e (faults_of g old) (faults_of g new) (IfSome (left g old) (LeavesBuffer old.strict (room_of old) (left g new)))
+
+-- ---- all that a read promises
+
+-- bytes of its own, from a text, from bytes, or from a list of numbers
+abbrev pub a_buffer : Kind (Vec ℕ Global)
+a_buffer = record {
+  reads = λ m v. IsBuffer m v.items;
+  wanted = IsBufferHead;
+  payload = IsRawHead;
+  other = not_raw;
+  refused = not_buffer;
+  lends = false;
+}
+
+-- of one from its head on
+pub record ReadsBuffer {R C : Type 0} (g : Ghosts R) (old new : Deserializer R C) (result : Result (Vec ℕ Global) Error) : Type 0 where
+  pub law : Lawful g a_buffer.reads old new result
+  pub exact : RefusesLeaf g IsBufferHead not_raw not_buffer old new result
+  pub list : old.failed ≡ false → IfErr result (RefusesList g old new)
+  pub taken : old.failed ≡ false → IfErr result (BufferLeaves g old new)
+
+-- of a list whose head was taken
+pub record ReadsByteList {R C : Type 0} (g : Ghosts R) (n : ℕ) (mid new : Deserializer R C) (result : Result (Vec ℕ Global) Error) : Type 0 where
+  pub law : AfterHead g a_buffer.reads (Array n) mid new result
+  pub deep : IfErr result (λ e. mid.room ≤ 1 → e ≡ DepthLimitExceeded)
+  pub items : IfErr result (λ e. 1 < mid.room → RefusesItems g n mid new e)
+  pub taken : IfErr result (ListLeaves g n mid new)
+  pub fault : IfErr result (TellsFault (faults_of g mid) (faults_of g new))

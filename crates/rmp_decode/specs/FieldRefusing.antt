@@ -1,5 +1,6 @@
 -- Which error the read of fields answers, by those of their types.
-use Rattle.std.specs.Prelude.{◌≡◌, ◌⊎◌, ℕ, zero, suc, ◌<◌, Bool, List, [], ◌∷◌, length, Option, Some, None}
+use Rattle.std.specs.Option.{option_map}
+use Rattle.std.specs.Prelude.{◌≡◌, ◌⊎◌, ℕ, zero, suc, ◌<◌, Bool, List, [], ◌∷◌, length, Option, Some, None, MatchOption, cond}
 use Rattle.rmp_wire.specs.Msg.{Msg, Pairs}
 use Rattle.rmp_decode.specs.Exact.{RefusesBy}
 use Rattle.rmp_wire.specs.declared.source.Source.{Ghosts}
@@ -10,7 +11,8 @@ use Rattle.rmp_decode.specs.Refusing.{Setting, Refusals, Part, part_of, AfterMes
 use Rattle.rmp_decode.specs.declared.access.map.MapAccess.{MapAccess}
 use Rattle.rmp_decode.specs.declared.error.Error.{Error}
 use Rattle.rmp_decode.specs.declared.error.Error.TheVariants.{Syntax}
-use Rattle.rmp_decode.specs.declared.text.Text.TheVariants.{DuplicateField, MissingField}
+use Rattle.rmp_decode.specs.declared.text.Text.TheVariants.{DuplicateField}
+use Rattle.rmp_decode.specs.Words.{field_of, fitting}
 
 -- each tree that is there is one that its field wants
 abbrev pub PartsHold : Setting → List Part → List (Option Msg) → Type 0
@@ -41,22 +43,37 @@ PairFails names ps fs s before after left known e =
     ⊎ AfterMessage s (λ k. IsName names k None) (pass_refusal s before after) known e
     ⊎ ((n : ℕ) × AfterMessage s (λ k. IsName names k (Some n)) (NamedRefused ps fs n s before after) known e))
 
--- No pair is to come, and a field is missing that has no default.
-abbrev pub Lacks : {V : Type 0} → (Bool → Bool → List (Option Msg) → V → Type 0) → List (Option Msg) → Setting → ℕ → Error → Type 0
-Lacks {V} reads fs s left e = (left ≡ 0) × (e ≡ Syntax MissingField) × ((v : V) → reads s.human s.lends fs v → ⊥)
+-- the place of the first field that isn't there and is needed, since it has no default
+abbrev pub missing_place : List Bool → List (Option Msg) → Option ℕ
+missing_place [] fs = None
+missing_place (b ∷ needed) [] = None
+missing_place (b ∷ needed) (None ∷ fs) = cond b (Some 0) (option_map suc (missing_place needed fs))
+missing_place (b ∷ needed) (Some m ∷ fs) = option_map suc (missing_place needed fs)
+
+-- its name
+abbrev pub missing_name : List (List ℕ) → List Bool → List (Option Msg) → Option (List ℕ)
+missing_name [] needed fs = None
+missing_name (name ∷ names) [] fs = None
+missing_name (name ∷ names) (b ∷ needed) [] = None
+missing_name (name ∷ names) (b ∷ needed) (None ∷ fs) = cond b (Some name) (missing_name names needed fs)
+missing_name (name ∷ names) (b ∷ needed) (Some m ∷ fs) = missing_name names needed fs
+
+-- No pair is to come, and a field is missing that has no default: the error has the name of the first one, or as much of it as fits.
+abbrev pub Lacks : List (List ℕ) → List Bool → List (Option Msg) → ℕ → Error → Type 0
+Lacks names needed fs left e = (left ≡ 0) × MatchOption (missing_name names needed fs) ⊥ (λ name. field_of e ≡ Some (fitting name))
 
 -- pairs whose fields are these, each of them one that is wanted
 abbrev pub AreMet : List (List ℕ) → List Part → List (Option Msg) → Setting → Pairs → Type 0
 AreMet names ps fs s pairs = (met names (blank names) pairs ≡ Some fs) × PartsHold s ps fs
 
--- How fields are refused: they can't be opened, an element of a list is refused or there are more or fewer, or after some pairs of a
--- map the next one is refused, or a field is missing.
-unfoldable pub RefusesFields : {V : Type 0} → List (List ℕ) → (Bool → Bool → List (Option Msg) → V → Type 0) → List Part → Setting → Refusals
-RefusesFields names reads ps s before after known e =
+-- How fields of these names are refused, by which of them have no default: they can't be opened, an element of a list is refused or there are
+-- more or fewer, or after some pairs of a map the next one is refused, or a field is missing.
+unfoldable pub RefusesFields : List (List ℕ) → List Bool → List Part → Setting → Refusals
+RefusesFields names needed ps s before after known e =
     RefusesBy s.strict (not_fields s.room) before after known e
     ⊎ Opened s (λ b i. RefusesParts b i before after ps (Excess (length ps))) known e
     ⊎ OpenedMap s (λ i n known e. (fs : List (Option Msg))
-    × AfterPairs i (AreMet names ps fs i) n (λ left known e. PairFails names ps fs i before after left known e ⊎ Lacks reads fs i left e) known e)
+    × AfterPairs i (AreMet names ps fs i) n (λ left known e. PairFails names ps fs i before after left known e ⊎ Lacks names needed fs left e) known e)
     known e
 
 -- after pairs of a map, and a key of no name, a list or a map begins that isn't empty

@@ -28,6 +28,7 @@ pub mod Open
 pub mod Opening
 pub mod Options
 pub mod Parts
+pub mod Payloads
 pub mod Pieces
 pub mod Read
 pub mod Readers

@@ -23,7 +23,7 @@ reading_with d source = record d { reader = copying_with d.reader source }
 abbrev pub source_setting : Setting
 source_setting = record { human = false; lends = false; strict = false; room = 1024 }
 
--- Exactly a spelling of a tree was consumed from a source that tells its bytes or doesn't; the tree is read as v.
+-- A tree is read as v, and of a source that tells its bytes exactly a spelling of it was consumed.
 pub record ReadFrom {R V : Type 0} (g : Ghosts R) (reads : Msg → V → Type 0) (old new : R) (v : V) : Type 0 where
   pub bytes : List ℕ
   pub tree : Msg

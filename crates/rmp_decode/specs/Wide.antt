@@ -1,5 +1,5 @@
 -- Numbers of 128 bits: what is read as one, and how what isn't is refused.
-use Rattle.std.specs.Prelude.{◌≡◌, ◌≢◌, ◌⊎◌, ℕ, ℤ, pos, negsuc, List, Option, Result, IfOk, IfErr, OnOk, length}
+use Rattle.std.specs.Prelude.{◌≡◌, ◌≢◌, ◌⊎◌, true, ℕ, ℤ, pos, negsuc, List, Option, Result, IfOk, IfErr, OnOk, length}
 use Rattle.std.specs.Int.{w128, from_be_bytes, cast_signed}
 use Rattle.std.specs.Io.KnownBytes.{Consumes}
 use Rattle.rmp_wire.specs.Msg.{Msg, whole, bin}
@@ -10,8 +10,10 @@ use Rattle.rmp_wire.specs.declared.head.Head.TheVariants.{Whole, Bin, Array}
 use Rattle.rmp_wire.specs.declared.marker.Marker.{Marker}
 use Rattle.rmp_wire.specs.declared.marker.Marker.TheVariants.{FixArray}
 use Rattle.rmp_wire.specs.declared.source.Source.{Ghosts}
+use Rattle.rmp_decode.specs.Content.{never_refused}
 use Rattle.rmp_decode.specs.Exact.{IsDataEnd, TellsFault}
 use Rattle.rmp_decode.specs.Law.{Explains}
+use Rattle.rmp_decode.specs.Payloads.{Kind}
 use Rattle.rmp_decode.specs.declared.error.Error.{Error}
 use Rattle.rmp_decode.specs.declared.error.Error.TheVariants.{LengthMismatch, OutOfMemory, OutOfRange, TypeMismatch}
 
@@ -71,3 +73,27 @@ pub record ReadsSixteen {S : Type 0} (g : Ghosts S) (old new : S) (result : Resu
   pub fault : IfErr result (TellsFault (g.faults old) (g.faults new))
   pub memory : IfErr result (λ e. e ≢ OutOfMemory)
   pub place : g.place new ≡ g.place old
+
+-- ---- the kinds
+
+-- a number
+abbrev pub a_signed128 : Kind ℤ
+a_signed128 = record {
+  reads = IsSigned128;
+  wanted = IsSigned128Head;
+  payload = IsSigned128Head;
+  other = not_wide;
+  refused = never_refused;
+  lends = true;
+}
+
+-- a number from 0 on
+abbrev pub an_unsigned128 : Kind ℕ
+an_unsigned128 = record {
+  reads = IsUnsigned128;
+  wanted = IsUnsigned128Head;
+  payload = IsUnsigned128Head;
+  other = not_wide;
+  refused = never_refused;
+  lends = true;
+}

@@ -234,7 +234,8 @@ pub fn read<'de, R: Source + Drop, T: Deserialize<'de, ReadReader<R>>>(
     read_moved::<R, T, ByType<'de>>(alloc, rd)
 }
 
-/// Reads a value from the beginning of what a source gives. What follows the value stays in the source.
+/// Reads a value from the beginning of what a source gives. Of a source that is used again, `read` promises what is
+/// left.
 ///
 /// # Errors
 /// Unless the source failed, any error but `OutOfMemory` means that what it gives doesn't begin with the encoding of a
@@ -257,8 +258,8 @@ pub fn from_read<'de, R: Source + Drop, T: Deserialize<'de, ReadReader<R>>>(
 ) -> Result<T, Error>
     // The value is the reading of a tree that a prefix of the source's bytes encodes.
     ensures ok { IfOk result (λ v. IfSome (R.ahead rd) (Begins Spells (λ m. T.reads false false m v) 1024)) }
-    // Also if the source doesn't tell its bytes, it is the reading of a tree, whose encoding was consumed and nothing
-    // else.
+    // It is the reading of a tree, also if the source doesn't tell its bytes. In some state of the source that tree's
+    // encoding alone is consumed, if the source tells its bytes.
     ensures taken { IfOk result (TakenFrom R.Source (T.reads false false) rd) }
     // An error that is neither for memory nor for a fault means that no prefix encodes a tree that the type reads.
     ensures err { IfErr result (RefusedFrom R.Source (T.reads false false) (T.refuses source_setting) rd) }

@@ -344,8 +344,8 @@ impl<R: Source, C: SerializerConfig> Deserializer<R, C> {
 
     /// Reads the next message, or returns `None` if the source ends before its first byte.
     ///
-    /// So one loop reads a source to its end, and an end inside a message is an error. `None` consumes nothing and
-    /// leaves the reader ready: if more bytes arrive, a later call reads them.
+    /// An end inside a message is an error. `None` consumes nothing and leaves the reader ready: if more bytes arrive,
+    /// a later call reads them. For a loop over all messages take `messages`.
     ///
     /// # Errors
     /// Those of the type, and `InvalidMarkerRead` with the source's fault if it fails before the first byte.
@@ -355,11 +355,12 @@ impl<R: Source, C: SerializerConfig> Deserializer<R, C> {
     /// use rmp_serde::Deserializer;
     ///
     /// let mut de = Deserializer::from_read_ref(alloc, &[0x2a, 0xcd, 0x01, 0x00]);
-    /// let mut sum = 0;
-    /// while let Some(number) = de.next::<u64>()? {
-    ///     sum += number;
+    /// let first = de.next::<u64>()?;
+    /// assert_eq!(rt; first, Some(42));
+    /// for number in de.messages::<u64>() {
+    ///     assert_eq!(rt; number?, 256);
     /// }
-    /// assert_eq!(rt; sum, 298);
+    /// assert_eq!(rt; de.next::<u64>()?, None);
     /// ```
     #[inline(always)]
     pub fn next<'de, T: Deserialize<'de, R>>(&mut self) -> Result<Option<T>, Error>

@@ -1,8 +1,8 @@
 //! Why a read failed.
-ghost use Rattle.std.specs.Prelude.{◌≡◌, ◌↔◌, true};
+ghost use Rattle.std.specs.Prelude.{◌≡◌, ◌↔◌, None, Some, true, MatchOption};
 ghost use Rattle.rmp_decode.specs.declared.error.Error.TheVariants as errors;
 
-use crate::text::Text;
+use crate::text::{OwnText, Text};
 use rmp_wire::{IoFault, Marker, MarkerReadError, ValueReadError};
 use std::alloc::{AllocError, AllocFailed};
 use std::io::ErrorKind;
@@ -49,6 +49,39 @@ pub enum Error {
 
 impl Error {
     ghost use Rattle.rmp_decode.specs.Exact.{IsEnd};
+    ghost use Rattle.rmp_decode.specs.Words.{field_of, fitting};
+
+    /// Makes `Syntax("missing field")` for a field of this name. It holds the name, or as much of it as fits: its longest
+    /// prefix of at most 30 bytes that is UTF-8.
+    #[inline(never)]
+    pub fn missing_field(name: &str) -> Error
+        ensures { field_of result ≡ Some (fitting name.now) }
+    {
+        Error::Syntax(Text::MissingField(OwnText::cut(name)))
+    }
+
+    /// Returns the name of the field that is missing, or as much of it as fits (see `missing_field`), and `None` for
+    /// another error.
+    ///
+    /// A struct that is read from a map names the first of its fields that isn't there and has no default.
+    ///
+    /// # Examples
+    /// ```
+    /// use rmp_serde::decode::{Deserializer, Error};
+    ///
+    /// // a map of one pair: "width" is 5
+    /// let mut de = Deserializer::from_read_ref(alloc, b"\x81\xa5width\x05");
+    /// let read: Result<(u8, (u8, ())), Error> = de.deserialize_fields(&["width", "height"]);
+    /// assert!(rt; matches!(read, Err(e) if e.field() == Some("height")));
+    /// ```
+    pub fn field(&self) -> Option<&str>
+        ensures { MatchOption result (field_of self.now ≡ None) (λ name. field_of self.now ≡ Some name.now) }
+    {
+        match self {
+            Error::Syntax(Text::MissingField(name)) => Some(name.as_str()),
+            _ => None,
+        }
+    }
 
     /// Returns whether the input ended before the message did: the error is `InvalidMarkerRead` or `InvalidDataRead`
     /// with the kind `UnexpectedEof`. More bytes may then complete the message. Any other error means that something

@@ -6,7 +6,8 @@ use std::{fmt, str};
 
 /// Why something was refused, in words: one of the reader's texts, or a type's own.
 ///
-/// A type's own text has at most 30 bytes, which are part of the value, so that no error allocates memory.
+/// A type's own text, and the name of a missing field, have at most 30 bytes, which are part of the value, so that no error
+/// allocates memory.
 #[derive(Clone, Copy)]
 pub enum Text {
     /// An earlier read from this reader failed.
@@ -21,8 +22,8 @@ pub enum Text {
     UnknownVariant,
     /// A field is there twice.
     DuplicateField,
-    /// A field is missing that has no value for that.
-    MissingField,
+    /// A field is missing that has no value for that. It has this name, or a longer one that begins so.
+    MissingField(OwnText),
     /// The name is that of extensions, which `deserialize_ext` reads.
     ReadByExt,
     /// A type's own text.
@@ -32,7 +33,7 @@ pub enum Text {
 // A byte that no UTF-8 text has. It follows a text of fewer than 30 bytes.
 const NO_TEXT: u8 = 0xff;
 
-/// A type's own text: the longest prefix of its bytes that is UTF-8.
+/// A short text in an error: the longest prefix of its bytes that is UTF-8.
 ///
 /// The length isn't stored: each result of a read has room for an error, and one of 32 bytes is copied in fewer
 /// instructions than one of 33.
@@ -42,7 +43,7 @@ pub struct OwnText {
 }
 
 impl OwnText {
-    ghost use Rattle.rmp_decode.specs.Words.{own_words};
+    ghost use Rattle.rmp_decode.specs.Words.{own_words, fitting};
 
     fn new(text: &str) -> OwnText
         requires { length text.now ≤ 30 }
@@ -53,7 +54,19 @@ impl OwnText {
         OwnText { bytes }
     }
 
-    fn as_str(&self) -> &str
+    // As much of a text as fits: its longest prefix of at most 30 bytes that is UTF-8.
+    pub(crate) fn cut(text: &str) -> OwnText
+        ensures { own_words result ≡ fitting text.now }
+    {
+        if text.len() <= 30 {
+            return OwnText::new(text);
+        }
+        let mut bytes = [NO_TEXT; 30];
+        bytes.copy_from_slice(&text.as_bytes()[..30]);
+        OwnText { bytes }
+    }
+
+    pub(crate) fn as_str(&self) -> &str
         ensures { result.now ≡ own_words self.now }
     {
         match str::from_utf8(&self.bytes) {
@@ -85,7 +98,7 @@ impl Text {
             Text::InvalidLength => "invalid length",
             Text::UnknownVariant => "unknown variant",
             Text::DuplicateField => "duplicate field",
-            Text::MissingField => "missing field",
+            Text::MissingField(_) => "missing field",
             Text::ReadByExt => "extensions are read by deserialize_ext",
             Text::Own(own) => own.as_str(),
         }

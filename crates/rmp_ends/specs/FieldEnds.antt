@@ -1,6 +1,6 @@
 -- A read of a struct meets an end only inside of a message, where those of its fields do.
 use Rattle.std.proofs.Common.{ℕ, zero, suc, ◌*◌, inl, inr, arith, List, [], ◌∷◌, length}
-use Rattle.std.specs.Prelude.{Bool, Option}
+use Rattle.std.specs.Prelude.{◌≡◌, Bool, Option, None, Some, MatchOption}
 use Rattle.rmp_wire.specs.Msg.{Msg}
 use Rattle.rmp_wire.specs.declared.head.Head.TheVariants.{Nil, Truth, Whole, F32Bits, F64Bits, Text, Bin, Array, Map, Ext}
 use Rattle.rmp_decode.specs.Content.{not_raw, never_refused}
@@ -8,8 +8,10 @@ use Rattle.rmp_decode.specs.FieldRefusing.{FieldRefused, NamedRefused, PairFails
 use Rattle.rmp_decode.specs.Fields.{not_fields, name_refusal, pass_refusal}
 use Rattle.rmp_decode.specs.Names.{IsNameHead}
 use Rattle.rmp_decode.specs.Refusing.{Setting, Part, Excess}
-use Rattle.rmp_ends.specs.EndsInside.{AlwaysInside}
-use Rattle.rmp_ends.specs.LeafEnds.{NoEnds, heads_inside, contents_inside, neither, syntax_no_end, depth_no_end}
+use Rattle.rmp_decode.specs.Words.{field_of, fitting}
+use Rattle.rmp_decode.specs.declared.error.Error.{Error}
+use Rattle.rmp_ends.specs.EndsInside.{AlwaysInside, IsNoEnd}
+use Rattle.rmp_ends.specs.LeafEnds.{NoEnds, heads_inside, contents_inside, neither, syntax_no_end, depth_no_end, named_no_end}
 use Rattle.rmp_ends.specs.MapEnds.{PairsInside, message_inside, entries_inside, opened_map_inside}
 use Rattle.rmp_ends.specs.RefusalEnds.{passed_inside}
 use Rattle.rmp_ends.specs.RowEnds.{PartsInside, parts_inside, excess_inside, opened_inside}
@@ -51,14 +53,18 @@ pair_inside names ps laws fs s faults n xs e own (some, inr (inl r)) end =
 pair_inside names ps laws fs s faults n xs e own (some, inr (inr r)) end =
     message_inside s _ (NamedRefused ps fs r.0 s faults faults) (2 * n) xs e own r.1 end (omega (arith, some)) (named_inside ps laws fs r.0 s faults)
 
-pub fields_inside : {V : Type 0} (names : List (List ℕ)) (reads : Bool → Bool → List (Option Msg) → V → Type 0) (ps : List Part) → PartsInside ps
-    → AlwaysInside (RefusesFields names reads ps)
+-- a field that is missing
+lacks_none : (o : Option (List ℕ)) (e : Error) → MatchOption o ⊥ (λ name. field_of e ≡ Some (fitting name)) → IsNoEnd e
+lacks_none None e f = absurd f
+lacks_none (Some name) e f = named_no_end e (fitting name) f
+
+pub fields_inside : (names : List (List ℕ)) (needed : List Bool) (ps : List Part) → PartsInside ps → AlwaysInside (RefusesFields names needed ps)
 unfolding RefusesFields
-fields_inside names reads ps laws s n xs e own (inl r) end = heads_inside s.strict (not_fields s.room) (not_fields_none s.room) n xs e own r end
-fields_inside names reads ps laws s n xs e own (inr (inl r)) end =
+fields_inside names needed ps laws s n xs e own (inl r) end = heads_inside s.strict (not_fields s.room) (not_fields_none s.room) n xs e own r end
+fields_inside names needed ps laws s n xs e own (inr (inl r)) end =
     opened_inside s _ xs e own r end (λ b i. parts_inside b i n ps (Excess (length ps)) laws (excess_inside b (length ps)))
-fields_inside names reads ps laws s n xs e own (inr (inr r)) end = opened_map_inside s _ xs e own r end (λ i many ys f b q is.
+fields_inside names needed ps laws s n xs e own (inr (inr r)) end = opened_map_inside s _ xs e own r end (λ i many ys f b q is.
     entries_inside i _ many _ ys f b q.1 is (λ left zs g h t at. elim t [
       | inl u ↦ pair_inside names ps laws q.0 i n left zs g h u at
-      | inr u ↦ absurd (syntax_no_end g _ u.1 at)
+      | inr u ↦ absurd (lacks_none _ g u.1 at)
     ]))

@@ -21,6 +21,7 @@ use Rattle.rmp_decode.specs.declared.error.Error.{Error}
 use Rattle.rmp_decode.specs.declared.error.Error.TheVariants as errors
 use Rattle.rmp_decode.specs.declared.text.Text.{Text as Why}
 use Rattle.rmp_decode.specs.Wide.{IsSigned128Head, IsUnsigned128Head, not_wide, not_wide_list}
+use Rattle.rmp_decode.specs.Words.{field_of}
 use Rattle.rmp_scan.specs.Scans.{IsBeginning}
 use Rattle.rmp_scan.proofs.Cutting.{head_cut, content_cut, nothing_begins}
 use Rattle.rmp_scan.proofs.Rows.{head_byte}
@@ -38,6 +39,20 @@ not_this e k none is end = none (subst IsEnd is end)
 
 pub syntax_no_end : (e : Error) (t : Why) → e ≡ errors.Syntax t → IsNoEnd e
 syntax_no_end e t is = not_this e (errors.Syntax t) neither is
+
+-- a field that is missing
+pub named_no_end : (e : Error) (name : List ℕ) → field_of e ≡ Some name → IsNoEnd e
+named_no_end (errors.InvalidMarkerRead fault) name h = absurd (cc)
+named_no_end (errors.InvalidDataRead fault) name h = absurd (cc)
+named_no_end (errors.TypeMismatch m) name h = neither
+named_no_end errors.OutOfRange name h = neither
+named_no_end (errors.LengthMismatch n) name h = neither
+named_no_end (errors.Uncategorized t) name h = neither
+named_no_end (errors.Syntax t) name h = neither
+named_no_end (errors.Utf8Error u) name h = neither
+named_no_end errors.DepthLimitExceeded name h = neither
+named_no_end errors.OutOfMemory name h = neither
+named_no_end errors.NotCanonical name h = neither
 
 pub mismatch_no_end : (e : Error) (m : Marker) → e ≡ errors.TypeMismatch m → IsNoEnd e
 mismatch_no_end e m is = not_this e (errors.TypeMismatch m) neither is

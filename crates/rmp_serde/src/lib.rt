@@ -14,9 +14,14 @@ pub use check::{Canon, check_canonical};
 pub use decode::{Deserializer, from_read, from_read_ref, from_slice, from_slice_strict};
 pub use encode::{Serializer, to_vec, to_vec_named};
 pub use raw::{Raw, RawRef};
+pub use rmp_decode::Deserialize;
+pub use rmp_encode::Serialize;
 pub use rmp_ends::EndsInside;
 pub use rmp_round_trip::{NeverNil, RoundTrip};
 pub use rmp_scan::{Scan, Scanner, message_len};
 pub use rmp_wire as wire;
-pub use rmp_wire::{MSGPACK_EXT_STRUCT_NAME, Marker, config};
+pub use rmp_wire::{
+    AheadSource, BufSource, ByteBuf, Bytes, Ext, F32Bits, F64Bits, IoSink, IoSource,
+    MSGPACK_EXT_STRUCT_NAME, Marker, Sink, SliceSink, Source, config,
+};
 pub use value::{Kind, Pairs, Parts, Value, ValueRef};

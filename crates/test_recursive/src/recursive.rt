@@ -121,7 +121,7 @@ fn read_rose<R: Source, C: SerializerConfig, P: ReadPlaces<R>>(
     }
     let kids = match kids {
         Some(kids) => kids,
-        None => match fields.missing_field_or(None) {
+        None => match fields.missing_field_or("kids", None) {
             Ok(kids) => kids,
             Err(e) => return Err(e),
         },

@@ -46,14 +46,14 @@ impl<'de, R: ReadSlice<'de>> Deserialize<'de, R> for Pup {
         }
         let name = match name {
             Some(name) => name,
-            None => match fields.missing_field() {
+            None => match fields.missing_field("name") {
                 Ok(name) => name,
                 Err(e) => return Err(e),
             },
         };
         let weight = match weight {
             Some(weight) => weight,
-            None => match fields.missing_field() {
+            None => match fields.missing_field("weight") {
                 Ok(weight) => weight,
                 Err(e) => return Err(e),
             },

@@ -55,7 +55,7 @@ fn no_dog(rt: HostRuntime) {
     let read: Result<Dog, Error> = from_slice(rt.alloc(), b"\x82\xa3age\x08\xa3age\x08");
     assert!(rt; matches!(&read, Err(Error::Syntax(Text::DuplicateField))));
     let read: Result<Dog, Error> = from_slice(rt.alloc(), b"\x81\xa4name\xa1A");
-    assert!(rt; matches!(&read, Err(Error::Syntax(Text::MissingField))));
+    assert!(rt; matches!(&read, Err(Error::Syntax(Text::MissingField(_)))));
     let read: Result<Dog, Error> = from_slice(rt.alloc(), b"\x92\xa5a");
     assert!(rt; matches!(&read, Err(Error::InvalidDataRead(_))));
     let read: Result<Dog, Error> = from_slice_strict(
@@ -117,7 +117,7 @@ fn many_fields(rt: HostRuntime) -> Result<(), Fail> {
         )
     );
     let read: Result<Papers, Error> = from_slice(rt.alloc(), b"\x81\xa6number\x07");
-    assert!(rt; matches!(&read, Err(Error::Syntax(Text::MissingField))));
+    assert!(rt; matches!(&read, Err(Error::Syntax(Text::MissingField(_)))));
     Ok(())
 }
 
@@ -166,7 +166,7 @@ fn as_many_fields_as_may_be(rt: HostRuntime) -> Result<(), Fail> {
     let read: Result<Chart, Error> = from_slice(rt.alloc(), b"\x82\xa4last\xa1D\xa4last\xa1D");
     assert!(rt; matches!(&read, Err(Error::Syntax(Text::DuplicateField))));
     let read: Result<Chart, Error> = from_slice(rt.alloc(), b"\x81\xa4last\xa1D");
-    assert!(rt; matches!(&read, Err(Error::Syntax(Text::MissingField))));
+    assert!(rt; matches!(&read, Err(Error::Syntax(Text::MissingField(_)))));
     let read: Result<Chart, Error> = from_slice(rt.alloc(), b"\x94\x07\xa1A\xcd\x01\x2c\x09");
     assert!(rt; matches!(&read, Err(Error::Syntax(Text::InvalidLength))));
     Ok(())
@@ -418,7 +418,7 @@ fn twenty_fields_of_many_kinds(rt: HostRuntime) -> Result<(), Fail> {
     let read: Result<Manifest, Error> = from_slice(rt.alloc(), b"\x82\xa4done\xc3\xa4done\xc3");
     assert!(rt; matches!(&read, Err(Error::Syntax(Text::DuplicateField))));
     let read: Result<Manifest, Error> = from_slice(rt.alloc(), b"\x81\xa4done\xc3");
-    assert!(rt; matches!(&read, Err(Error::Syntax(Text::MissingField))));
+    assert!(rt; matches!(&read, Err(Error::Syntax(Text::MissingField(_)))));
     Ok(())
 }
 
@@ -473,6 +473,6 @@ fn thirty_two_fields_of_many_kinds(rt: HostRuntime) -> Result<(), Fail> {
     );
     assert!(rt; matches!(&read, Err(Error::Syntax(Text::DuplicateField))));
     let read: Result<Survey, Error> = from_slice(rt.alloc(), b"\x81\xa8surveyor\xa1M");
-    assert!(rt; matches!(&read, Err(Error::Syntax(Text::MissingField))));
+    assert!(rt; matches!(&read, Err(Error::Syntax(Text::MissingField(_)))));
     Ok(())
 }

@@ -8,6 +8,7 @@ mod failing;
 mod fields;
 mod interrupted;
 mod leaves;
+mod missing;
 mod names;
 mod one_by_one;
 mod readers;

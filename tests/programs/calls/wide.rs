@@ -139,7 +139,7 @@ fn no_signals(rt: HostRuntime) {
         rt.alloc(),
         b"\x81\xa5Towed\x81\xa2by\x92\x05\xc0",
     );
-    assert!(rt; matches!(&read, Err(Error::Syntax(Text::MissingField))));
+    assert!(rt; matches!(&read, Err(Error::Syntax(Text::MissingField(_)))));
 }
 
 // The names of the variants of `Flag`, in the order of the declaration: each fourth has content.
@@ -251,7 +251,7 @@ fn defaults_in_variants(rt: HostRuntime) -> Result<(), Fail> {
         b"\x81\xa5Canal\x93\xc2\x05\x07".as_slice()
     );
     let read: Result<Entry, Error> = from_slice(rt.alloc(), b"\x81\xa7Harbour\x80");
-    assert!(rt; matches!(&read, Err(Error::Syntax(Text::MissingField))));
+    assert!(rt; matches!(&read, Err(Error::Syntax(Text::MissingField(_)))));
     let read: Result<Entry, Error> = from_slice(rt.alloc(), b"\x81\xa5Canal\x92\xc2\x05");
     assert!(rt; matches!(&read, Err(Error::Syntax(Text::InvalidLength))));
     Ok(())

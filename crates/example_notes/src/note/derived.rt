@@ -3,7 +3,6 @@
 //! Sum of Note: 1395c1ba.
 ghost use Rattle.rmp_decode.specs.FieldRefusing.{RefusesFields};
 ghost use Rattle.rmp_decode.specs.Fields.{OfFields, Field, Absent, NoField};
-ghost use Rattle.rmp_decode.specs.ReadFields.{reads_2};
 ghost use Rattle.rmp_decode.specs.Refusing.{part_of};
 ghost use Rattle.rmp_encode.specs.Refusals.{OfParts};
 ghost use Rattle.rmp_encode.specs.Sizes.{one_of};
@@ -17,6 +16,7 @@ ghost use Rattle.rmp_serde.specs.OnlyRows.{lowers_then};
 ghost use Rattle.rmp_serde.specs.RoundTrip.{Only};
 ghost use Rattle.rmp_serde.specs.StructRounds.{structure_all, structure_row, structure_other, fields_none, fields_cons};
 ghost use Rattle.std.proofs.Common.{refl};
+ghost use Rattle.std.specs.Option.{is_none};
 ghost use Rattle.std.specs.Prelude.{◌∷◌, [], None, codes, string_bytes};
 
 use super::Note;
@@ -61,8 +61,8 @@ impl<'de, R: ReadSlice<'de>> Deserialize<'de, R> for Note {
     ghost absent = { None };
 
     ghost refuses = { RefusesFields (codes "title" ∷ (codes "text" ∷ []))
-        (reads_2 ⟦<String as Deserialize<'de, R>>⟧.reads ⟦<String as Deserialize<'de, R>>⟧.absent ⟦<String as Deserialize<'de, R>>⟧.reads
-        ⟦<String as Deserialize<'de, R>>⟧.absent) (part_of ⟦<String as Deserialize<'de, R>>⟧.reads ⟦<String as Deserialize<'de, R>>⟧.refuses
+        (is_none ⟦<String as Deserialize<'de, R>>⟧.absent ∷ (is_none ⟦<String as Deserialize<'de, R>>⟧.absent ∷ []))
+        (part_of ⟦<String as Deserialize<'de, R>>⟧.reads ⟦<String as Deserialize<'de, R>>⟧.refuses
         ∷ (part_of ⟦<String as Deserialize<'de, R>>⟧.reads ⟦<String as Deserialize<'de, R>>⟧.refuses ∷ [])) };
 
     #[inline(always)]

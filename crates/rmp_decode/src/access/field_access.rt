@@ -20,6 +20,7 @@ ghost use Rattle.rmp_decode.specs.Skip.{any_tree};
 ghost use Rattle.rmp_decode.specs.State.{left, config_of, faults_of, is_failed, is_strict, kept_of, Stays};
 ghost use Rattle.rmp_decode.specs.declared.deserializer.Kept.TheVariants.{Nothing};
 ghost use Rattle.rmp_decode.specs.Parts.{FailsPart};
+ghost use Rattle.rmp_decode.specs.Words.{field_of, fitting};
 
 pub(crate) mod recursive;
 
@@ -379,22 +380,23 @@ impl<'x, R: Source, C: SerializerConfig> FieldAccess<'x, R, C> {
         }
     }
 
-    /// Returns the value of a field that is missing: in a map the one that its type has for it, and in a list none.
+    /// Returns the value of the field of this name, which is missing: in a map the one that its type has for it, and in a
+    /// list none.
     ///
     /// # Errors
-    /// `Syntax("missing field")` if there is none.
+    /// `Syntax("missing field")`, with the name, if there is none.
     #[inline(always)]
-    pub fn missing_field<'de, T: Deserialize<'de, R>>(&mut self) -> Result<T, Error>
+    pub fn missing_field<'de, T: Deserialize<'de, R>>(&mut self, name: &str) -> Result<T, Error>
     where
         R: ReadSlice<'de>,
         ensures same_reference { struct_reference self.new ≡ struct_reference self.old }
         ensures ok { IfOk result (λ v. (is_of_map self.old ≡ true) × (T.absent ≡ Some v) × (self.new ≡ self.old)) }
-        ensures err { is_struct_sound self.old ≡ true → IfErr result (λ e. (e ≡ Error.Syntax Text.MissingField)
+        ensures err { is_struct_sound self.old ≡ true → IfErr result (λ e. (field_of e ≡ Some (fitting name.now))
             × (is_of_map self.old ≡ true → T.absent ≡ None) × (self.new ≡ unsound self.old)) }
         ensures failed { OnErr result (is_struct_sound self.new ≡ false) }
         ensures before { is_struct_sound self.old ≡ false → MatchResult result (λ _. ⊥) IsFailedBefore × (self.new ≡ self.old) }
     {
-        self.missing_field_or(T::missing())
+        self.missing_field_or(name, T::missing())
     }
 
     /// Ends the struct. The reader is ready again.

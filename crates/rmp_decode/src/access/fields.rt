@@ -4,13 +4,13 @@ pub(crate) mod sixteen;
 mod wide;
 
 ghost use Rattle.std.specs.Prelude.{◌≡◌, ◌≢◌, ◌⊎◌, ◌<◌, ◌≤◌, ◌||◌, ℕ, Bool, List, Option, None, Some, true};
-ghost use Rattle.std.specs.Prelude.{false, length, IfErr, IfOk, IfSome, IfNone, MatchOption, max};
+ghost use Rattle.std.specs.Prelude.{false, length, IfErr, IfOk, IfSome, IfNone, MatchResult, max, ◌^◌};
 ghost use Rattle.std.specs.Borrow.{sem, RestsIfErr};
 ghost use Rattle.rmp_wire.specs.Msg.{Msg, Msgs};
 ghost use Rattle.rmp_decode.specs.contracts.deserializer.Deserializer.{the_row};
 ghost use Rattle.rmp_decode.specs.Fields.{OfFields, Field, Absent, NoField, Slot, AreBlank, parts_name};
 ghost use Rattle.rmp_decode.specs.Fields.{OpensFields, FailsToOpenFields, at, given_all, Fills, IsFull, name_refusal, pass_refusal};
-ghost use Rattle.rmp_decode.specs.FieldRefusing.{PartsHold, FillRefused, RefusesFields, PassesSome};
+ghost use Rattle.rmp_decode.specs.FieldRefusing.{PartsHold, FillRefused, RefusesFields, PassesSome, missing_place};
 ghost use Rattle.rmp_decode.specs.FieldRows.{TakesRow, FailsRow, ReadsRow, MissesRow, in_row};
 ghost use Rattle.rmp_decode.specs.Law.{Lawful};
 ghost use Rattle.rmp_decode.specs.MapRefusing.{PartRefused, KeyRefused};
@@ -59,6 +59,9 @@ pub trait Fields<'de, R: ReadSlice<'de>>: Sized + Drop {
     // What each field wants, in order.
     ghost parts: { List Part };
 
+    // Whether each of them, in order, has no default, so that it may not be missing.
+    ghost needed: { List Bool };
+
     // Whether reading them may return `OutOfMemory`, by whether the source lends its bytes.
     ghost takes_memory: { Bool → Bool };
 
@@ -103,10 +106,16 @@ pub trait Fields<'de, R: ReadSlice<'de>>: Sized + Drop {
             (holds (C.human (config_of (map_lender map.old))) R.lends) parts place map.old map.new slots.old) }
         ensures memory { takes_memory R.lends ≡ false → result ≡ false → IfSome refusal.new (λ e. e ≢ Error.OutOfMemory) };
 
-    /// Returns the values, or `None` if one is missing.
-    fn finish(slots: Self::Slots) -> Option<Self>
-        ensures { (human lends : Bool) (fs : List (Option Msg)) → holds human lends fs slots
-            → MatchOption result ((v : Self) → reads human lends fs v → ⊥) (reads human lends fs) };
+    /// Returns the values.
+    ///
+    /// # Errors
+    /// The place of the first field that is missing and has no default.
+    fn finish(slots: Self::Slots) -> Result<Self, usize>
+        ensures all { (human lends : Bool) (fs : List (Option Msg)) → holds human lends fs slots
+            → MatchResult result (reads human lends fs) (λ _. (v : Self) → reads human lends fs v → ⊥) }
+        ensures first { count ≤ 2 ^ 64 → (human lends : Bool) (fs : List (Option Msg)) → holds human lends fs slots
+            → IfErr result (λ place. missing_place needed fs ≡ Some place) }
+        ensures within { count ≤ 2 ^ 64 → IfErr result (λ place. place < count) };
 
     /// Reads as many messages as there are fields, in order, each into the place of its field, and returns whether it
     /// succeeded. Otherwise the error is put into `refusal`, so that no read has room for an error in its result.
@@ -160,6 +169,8 @@ impl<'de, R: ReadSlice<'de>> Fields<'de, R> for () {
 
     ghost parts = { [] };
 
+    ghost needed = { [] };
+
     ghost takes_memory = { λ _. false };
 
     ghost many = { refl };
@@ -186,8 +197,8 @@ impl<'de, R: ReadSlice<'de>> Fields<'de, R> for () {
     }
 
     #[inline(always)]
-    fn finish(_slots: ()) -> Option<()> {
-        Some(())
+    fn finish(_slots: ()) -> Result<(), usize> {
+        Ok(())
     }
 
     #[inline(always)]
@@ -212,6 +223,7 @@ impl<'de, R: ReadSlice<'de>, A: Deserialize<'de, R>, B: Fields<'de, R>> Fields<'
     ghost use Rattle.rmp_decode.specs.FieldRefusing.{slot_held, field_held};
     ghost use Rattle.rmp_decode.specs.Fields.{FieldTakes, field_taken, field_counted, slot_full};
     ghost use Rattle.rmp_decode.specs.Refusing.{part_of};
+    ghost use Rattle.std.specs.Option.{is_none};
 
     type Slots = (Option<A>, B::Slots);
 
@@ -227,6 +239,8 @@ impl<'de, R: ReadSlice<'de>, A: Deserialize<'de, R>, B: Fields<'de, R>> Fields<'
         v.0 v.1 };
 
     ghost parts = { part_of A.reads A.refuses ∷ B.parts };
+
+    ghost needed = { is_none A.absent ∷ B.needed };
 
     ghost takes_memory = { λ lends. A.takes_memory lends || B.takes_memory lends };
 
@@ -272,18 +286,18 @@ impl<'de, R: ReadSlice<'de>, A: Deserialize<'de, R>, B: Fields<'de, R>> Fields<'
     }
 
     #[inline(always)]
-    fn finish(slots: (Option<A>, B::Slots)) -> Option<(A, B)> {
+    fn finish(slots: (Option<A>, B::Slots)) -> Result<(A, B), usize> {
         let (first, others) = slots;
         let first = match first {
             Some(first) => first,
             None => match A::missing() {
                 Some(first) => first,
-                None => return None,
+                None => return Err(0),
             },
         };
         match B::finish(others) {
-            Some(others) => Some((first, others)),
-            None => None,
+            Ok(others) => Ok((first, others)),
+            Err(place) => Err(place.saturating_add(1)),
         }
     }
 
@@ -474,8 +488,8 @@ impl<R: Source, C: SerializerConfig> Deserializer<R, C> {
         if F::row(&mut slots, &mut refusal, self) {
             self.room = outer;
             match F::finish(slots) {
-                Some(values) => Ok(values),
-                None => unreachable!(),
+                Ok(values) => Ok(values),
+                Err(_) => unreachable!(),
             }
         } else {
             self.room = outer;
@@ -541,7 +555,8 @@ impl<R: Source, C: SerializerConfig> Deserializer<R, C> {
     /// Those of the fields' types; `Syntax("invalid type")` for another kind, and for a key that is no text, bytes or
     /// number from 0 on; `DepthLimitExceeded` for a list or a map that nests too deep; `Syntax("invalid length")` and
     /// `LengthMismatch` for a list of fewer or more elements; `Syntax("duplicate field")` for a second field of one
-    /// name; and `Syntax("missing field")` for a field that is missing and has no value for that.
+    /// name; and `Syntax("missing field")`, with the name of the first such field, for one that is missing and has no
+    /// value for that.
     #[inline(always)]
     pub fn deserialize_fields<'de, F: Fields<'de, R>>(&mut self, names: &[&str]) -> Result<F, Error>
     where
@@ -549,7 +564,7 @@ impl<R: Source, C: SerializerConfig> Deserializer<R, C> {
         requires count { length names.now ≡ F.count }
         ensures law { Lawful R.Source (λ m v. OfFields (bytes_of names.now) (λ fs. F.reads (C.human (config_of self.old)) R.lends fs v) m) self.old self.new
             result }
-        ensures refused { RefusesAs R.Source (C.human (config_of self.old)) R.lends (RefusesFields (bytes_of names.now) F.reads F.parts) self.old self.new
+        ensures refused { RefusesAs R.Source (C.human (config_of self.old)) R.lends (RefusesFields (bytes_of names.now) F.needed F.parts) self.old self.new
             result }
         // If the source lends its bytes, and no field's read allocates, memory can run out only at a skipped list or
         // map that isn't empty.
@@ -573,7 +588,7 @@ impl<R: Source, C: SerializerConfig> Deserializer<R, C> {
         requires count { length names.now ≡ F.count }
         ensures law { Lawful R.Source (λ m v. OfFields (bytes_of names.now) (λ fs. F.reads (C.human (config_of self.old)) R.lends fs v) m) self.old self.new
             result }
-        ensures refused { RefusesAs R.Source (C.human (config_of self.old)) R.lends (RefusesFields (bytes_of names.now) F.reads F.parts) self.old self.new
+        ensures refused { RefusesAs R.Source (C.human (config_of self.old)) R.lends (RefusesFields (bytes_of names.now) F.needed F.parts) self.old self.new
             result }
         ensures memory { R.lends ≡ true → F.takes_memory R.lends ≡ false → IfErr result (λ e. e ≡ Error.OutOfMemory
             → PassesSome (bytes_of names.now) (setting_of (C.human (config_of self.old)) R.lends self.old) (left R.Source self.old) e) }
@@ -607,8 +622,9 @@ impl<R: Source, C: SerializerConfig> Deserializer<R, C> {
                         return Err(refusal_in(refusal));
                     }
                 }
-                let Some(values) = F::finish(slots) else {
-                    return Err(Error::Syntax(Text::MissingField));
+                let values = match F::finish(slots) {
+                    Ok(values) => values,
+                    Err(place) => return Err(Error::missing_field(names[place])),
                 };
                 match map.end() {
                     Ok(()) => Ok(values),

@@ -1,13 +1,10 @@
 //! Reads the names of fields.
-ghost use Rattle.std.specs.Prelude.{◌≡◌, ◌≢◌, ◌<◌, ◌≤◌, ℕ, List, true, length, IfErr, IfOk, IfSome, IfNone, OnOk};
-ghost use Rattle.std.specs.Io.KnownBytes.{Consumes};
-ghost use Rattle.rmp_wire.specs.Sources.{IsShort};
-ghost use Rattle.rmp_wire.specs.Spelling.{IsBytes};
-ghost use Rattle.rmp_decode.specs.Exact.{IsDataEnd, TellsFault};
-ghost use Rattle.rmp_decode.specs.Law.{Explains};
+ghost use Rattle.std.specs.Prelude.{◌≡◌, ◌<◌, ◌≤◌, ℕ, Bool, true, length, IfSome, IfNone};
+ghost use Rattle.rmp_decode.specs.Kinds.{raw_head};
 ghost use Rattle.rmp_decode.specs.Names.{bytes_of, place_of, place_below};
 ghost use Rattle.rmp_decode.specs.NamesAhead.{below, IsBelow, TextIn};
 ghost use Rattle.rmp_decode.specs.Parts.{TakesPart};
+ghost use Rattle.rmp_decode.specs.Payloads.{TakesPayload, a_name};
 ghost use Rattle.rmp_decode.specs.State.{is_failed, kept_of};
 ghost use Rattle.rmp_decode.specs.declared.deserializer.Kept.TheVariants.{Nothing};
 
@@ -77,23 +74,16 @@ pub(crate) fn place_below(count: usize, z: i128) -> Option<Option<usize>>
     }
 }
 
-// The place of the first name that equals the next bytes.
+// Reads the payload of a text or of bytes as a name: the place of the first that it equals.
 #[inline(always)]
 pub(crate) fn next_place<'de, R: ReadSlice<'de>>(
     reader: &mut R,
     names: &[&str],
-    len: usize,
+    len: u32,
 ) -> Result<Option<usize>, Error>
-    ensures ok { IfOk result (λ p. (s : List ℕ) × (length s ≡ len) × IsBytes s × Consumes (R.ahead reader.old) (R.ahead reader.new) s
-        × (p ≡ place_of (bytes_of names.now) s)) }
-    ensures sound { OnOk result (R.faults reader.new ≡ R.faults reader.old) }
-    ensures err { IfErr result (λ e. Explains e (R.faults reader.old) (R.faults reader.new) (IsShort len (R.ahead reader.old))) }
-    ensures end { IfErr result (λ e. Explains e (R.faults reader.old) (R.faults reader.new) (IsDataEnd e)) }
-    ensures fault { IfErr result (TellsFault (R.faults reader.old) (R.faults reader.new)) }
-    ensures memory { R.lends ≡ true → IfErr result (λ e. e ≢ Error.OutOfMemory) }
-    ensures place { R.place reader.new ≡ R.place reader.old }
+    ensures { (is_text : Bool) → TakesPayload R.Source (a_name (bytes_of names.now) R.lends) (raw_head is_text len) reader.old reader.new result }
 {
-    match reader.read_slice(len) {
+    match reader.read_slice(len as usize) {
         Ok(piece) => Ok(place_of(names, piece.as_bytes())),
         Err(e) => Err(error_of(e)),
     }

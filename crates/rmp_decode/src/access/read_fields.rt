@@ -1,4 +1,5 @@
 //! Reads of 2 to 12 fields, whose contracts name each field's part in one list. Written by tools/tuples.py.
+ghost use Rattle.std.specs.Option.{is_none};
 ghost use Rattle.std.specs.Prelude.{◌≡◌, ◌∷◌, [], length, IfErr};
 ghost use Rattle.rmp_decode.specs.FieldRefusing.{RefusesFields};
 ghost use Rattle.rmp_decode.specs.Fields.{OfFields};
@@ -31,7 +32,7 @@ pub fn read_fields_2<
     ensures law { Lawful R.Source (λ m v. OfFields (bytes_of names.now)
         (λ fs. reads_2 P0.reads P0.absent P1.reads P1.absent (C.human (config_of de.old)) R.lends fs v) m) de.old de.new result }
     ensures refused { RefusesAs R.Source (C.human (config_of de.old)) R.lends
-        (RefusesFields (bytes_of names.now) (reads_2 P0.reads P0.absent P1.reads P1.absent)
+        (RefusesFields (bytes_of names.now) (is_none P0.absent ∷ (is_none P1.absent ∷ []))
         (part_of P0.reads P0.refuses ∷ (part_of P1.reads P1.refuses ∷ []))) de.old de.new result }
 {
     de.deserialize_fields::<(P0, (P1, ()))>(names)
@@ -54,7 +55,7 @@ pub fn read_fields_3<
     ensures law { Lawful R.Source (λ m v. OfFields (bytes_of names.now)
         (λ fs. reads_3 P0.reads P0.absent P1.reads P1.absent P2.reads P2.absent (C.human (config_of de.old)) R.lends fs v) m) de.old de.new result }
     ensures refused { RefusesAs R.Source (C.human (config_of de.old)) R.lends
-        (RefusesFields (bytes_of names.now) (reads_3 P0.reads P0.absent P1.reads P1.absent P2.reads P2.absent)
+        (RefusesFields (bytes_of names.now) (is_none P0.absent ∷ (is_none P1.absent ∷ (is_none P2.absent ∷ [])))
         (part_of P0.reads P0.refuses ∷ (part_of P1.reads P1.refuses ∷ (part_of P2.reads P2.refuses ∷ [])))) de.old de.new result }
 {
     de.deserialize_fields::<(P0, (P1, (P2, ())))>(names)
@@ -79,7 +80,7 @@ pub fn read_fields_4<
         (λ fs. reads_4 P0.reads P0.absent P1.reads P1.absent P2.reads P2.absent P3.reads P3.absent (C.human (config_of de.old)) R.lends fs v) m) de.old
         de.new result }
     ensures refused { RefusesAs R.Source (C.human (config_of de.old)) R.lends
-        (RefusesFields (bytes_of names.now) (reads_4 P0.reads P0.absent P1.reads P1.absent P2.reads P2.absent P3.reads P3.absent)
+        (RefusesFields (bytes_of names.now) (is_none P0.absent ∷ (is_none P1.absent ∷ (is_none P2.absent ∷ (is_none P3.absent ∷ []))))
         (part_of P0.reads P0.refuses ∷ (part_of P1.reads P1.refuses ∷ (part_of P2.reads P2.refuses ∷ (part_of P3.reads P3.refuses ∷ []))))) de.old de.new
         result }
 {
@@ -106,7 +107,7 @@ pub fn read_fields_5<
         (λ fs. reads_5 P0.reads P0.absent P1.reads P1.absent P2.reads P2.absent P3.reads P3.absent P4.reads P4.absent (C.human (config_of de.old)) R.lends
         fs v) m) de.old de.new result }
     ensures refused { RefusesAs R.Source (C.human (config_of de.old)) R.lends
-        (RefusesFields (bytes_of names.now) (reads_5 P0.reads P0.absent P1.reads P1.absent P2.reads P2.absent P3.reads P3.absent P4.reads P4.absent)
+        (RefusesFields (bytes_of names.now) (is_none P0.absent ∷ (is_none P1.absent ∷ (is_none P2.absent ∷ (is_none P3.absent ∷ (is_none P4.absent ∷ [])))))
         (part_of P0.reads P0.refuses ∷ (part_of P1.reads P1.refuses
         ∷ (part_of P2.reads P2.refuses ∷ (part_of P3.reads P3.refuses ∷ (part_of P4.reads P4.refuses ∷ [])))))) de.old de.new result }
 {
@@ -134,8 +135,9 @@ pub fn read_fields_6<
         (λ fs. reads_6 P0.reads P0.absent P1.reads P1.absent P2.reads P2.absent P3.reads P3.absent P4.reads P4.absent P5.reads P5.absent
         (C.human (config_of de.old)) R.lends fs v) m) de.old de.new result }
     ensures refused { RefusesAs R.Source (C.human (config_of de.old)) R.lends
-        (RefusesFields (bytes_of names.now) (reads_6 P0.reads P0.absent P1.reads P1.absent P2.reads P2.absent P3.reads P3.absent P4.reads P4.absent P5.reads
-        P5.absent) (part_of P0.reads P0.refuses ∷ (part_of P1.reads P1.refuses
+        (RefusesFields (bytes_of names.now) (is_none P0.absent
+        ∷ (is_none P1.absent ∷ (is_none P2.absent ∷ (is_none P3.absent ∷ (is_none P4.absent ∷ (is_none P5.absent ∷ []))))))
+        (part_of P0.reads P0.refuses ∷ (part_of P1.reads P1.refuses
         ∷ (part_of P2.reads P2.refuses ∷ (part_of P3.reads P3.refuses ∷ (part_of P4.reads P4.refuses ∷ (part_of P5.reads P5.refuses ∷ []))))))) de.old
         de.new result }
 {
@@ -167,11 +169,11 @@ pub fn read_fields_7<
         (λ fs. reads_7 P0.reads P0.absent P1.reads P1.absent P2.reads P2.absent P3.reads P3.absent P4.reads P4.absent P5.reads P5.absent P6.reads P6.absent
         (C.human (config_of de.old)) R.lends fs v) m) de.old de.new result }
     ensures refused { RefusesAs R.Source (C.human (config_of de.old)) R.lends
-        (RefusesFields (bytes_of names.now) (reads_7 P0.reads P0.absent P1.reads P1.absent P2.reads P2.absent P3.reads P3.absent P4.reads P4.absent P5.reads
-        P5.absent P6.reads P6.absent) (part_of P0.reads P0.refuses
-        ∷ (part_of P1.reads P1.refuses ∷ (part_of P2.reads P2.refuses
-        ∷ (part_of P3.reads P3.refuses ∷ (part_of P4.reads P4.refuses ∷ (part_of P5.reads P5.refuses ∷ (part_of P6.reads P6.refuses ∷ [])))))))) de.old
-        de.new result }
+        (RefusesFields (bytes_of names.now) (is_none P0.absent
+        ∷ (is_none P1.absent ∷ (is_none P2.absent ∷ (is_none P3.absent ∷ (is_none P4.absent ∷ (is_none P5.absent ∷ (is_none P6.absent ∷ [])))))))
+        (part_of P0.reads P0.refuses ∷ (part_of P1.reads P1.refuses
+        ∷ (part_of P2.reads P2.refuses ∷ (part_of P3.reads P3.refuses
+        ∷ (part_of P4.reads P4.refuses ∷ (part_of P5.reads P5.refuses ∷ (part_of P6.reads P6.refuses ∷ [])))))))) de.old de.new result }
 {
     de.deserialize_fields::<(P0, P1, P2, P3, (P4, (P5, (P6, ()))))>(names)
 }
@@ -202,11 +204,13 @@ pub fn read_fields_8<
         (λ fs. reads_8 P0.reads P0.absent P1.reads P1.absent P2.reads P2.absent P3.reads P3.absent P4.reads P4.absent P5.reads P5.absent P6.reads P6.absent
         P7.reads P7.absent (C.human (config_of de.old)) R.lends fs v) m) de.old de.new result }
     ensures refused { RefusesAs R.Source (C.human (config_of de.old)) R.lends
-        (RefusesFields (bytes_of names.now) (reads_8 P0.reads P0.absent P1.reads P1.absent P2.reads P2.absent P3.reads P3.absent P4.reads P4.absent P5.reads
-        P5.absent P6.reads P6.absent P7.reads P7.absent) (part_of P0.reads P0.refuses
-        ∷ (part_of P1.reads P1.refuses ∷ (part_of P2.reads P2.refuses
-        ∷ (part_of P3.reads P3.refuses ∷ (part_of P4.reads P4.refuses
-        ∷ (part_of P5.reads P5.refuses ∷ (part_of P6.reads P6.refuses ∷ (part_of P7.reads P7.refuses ∷ []))))))))) de.old de.new result }
+        (RefusesFields (bytes_of names.now) (is_none P0.absent
+        ∷ (is_none P1.absent ∷ (is_none P2.absent ∷ (is_none P3.absent
+        ∷ (is_none P4.absent ∷ (is_none P5.absent ∷ (is_none P6.absent ∷ (is_none P7.absent ∷ []))))))))
+        (part_of P0.reads P0.refuses ∷ (part_of P1.reads P1.refuses
+        ∷ (part_of P2.reads P2.refuses ∷ (part_of P3.reads P3.refuses
+        ∷ (part_of P4.reads P4.refuses ∷ (part_of P5.reads P5.refuses ∷ (part_of P6.reads P6.refuses ∷ (part_of P7.reads P7.refuses ∷ []))))))))) de.old
+        de.new result }
 {
     de.deserialize_fields::<(P0, P1, P2, P3, (P4, P5, P6, P7, ()))>(names)
 }
@@ -238,8 +242,9 @@ pub fn read_fields_9<
         (λ fs. reads_9 P0.reads P0.absent P1.reads P1.absent P2.reads P2.absent P3.reads P3.absent P4.reads P4.absent P5.reads P5.absent P6.reads P6.absent
         P7.reads P7.absent P8.reads P8.absent (C.human (config_of de.old)) R.lends fs v) m) de.old de.new result }
     ensures refused { RefusesAs R.Source (C.human (config_of de.old)) R.lends
-        (RefusesFields (bytes_of names.now) (reads_9 P0.reads P0.absent P1.reads P1.absent P2.reads P2.absent P3.reads P3.absent P4.reads P4.absent P5.reads
-        P5.absent P6.reads P6.absent P7.reads P7.absent P8.reads P8.absent)
+        (RefusesFields (bytes_of names.now) (is_none P0.absent
+        ∷ (is_none P1.absent ∷ (is_none P2.absent ∷ (is_none P3.absent
+        ∷ (is_none P4.absent ∷ (is_none P5.absent ∷ (is_none P6.absent ∷ (is_none P7.absent ∷ (is_none P8.absent ∷ [])))))))))
         (part_of P0.reads P0.refuses ∷ (part_of P1.reads P1.refuses
         ∷ (part_of P2.reads P2.refuses ∷ (part_of P3.reads P3.refuses
         ∷ (part_of P4.reads P4.refuses ∷ (part_of P5.reads P5.refuses
@@ -276,8 +281,9 @@ pub fn read_fields_10<
         (λ fs. reads_10 P0.reads P0.absent P1.reads P1.absent P2.reads P2.absent P3.reads P3.absent P4.reads P4.absent P5.reads P5.absent P6.reads P6.absent
         P7.reads P7.absent P8.reads P8.absent P9.reads P9.absent (C.human (config_of de.old)) R.lends fs v) m) de.old de.new result }
     ensures refused { RefusesAs R.Source (C.human (config_of de.old)) R.lends
-        (RefusesFields (bytes_of names.now) (reads_10 P0.reads P0.absent P1.reads P1.absent P2.reads P2.absent P3.reads P3.absent P4.reads P4.absent
-        P5.reads P5.absent P6.reads P6.absent P7.reads P7.absent P8.reads P8.absent P9.reads P9.absent)
+        (RefusesFields (bytes_of names.now) (is_none P0.absent
+        ∷ (is_none P1.absent ∷ (is_none P2.absent ∷ (is_none P3.absent
+        ∷ (is_none P4.absent ∷ (is_none P5.absent ∷ (is_none P6.absent ∷ (is_none P7.absent ∷ (is_none P8.absent ∷ (is_none P9.absent ∷ []))))))))))
         (part_of P0.reads P0.refuses ∷ (part_of P1.reads P1.refuses
         ∷ (part_of P2.reads P2.refuses ∷ (part_of P3.reads P3.refuses
         ∷ (part_of P4.reads P4.refuses ∷ (part_of P5.reads P5.refuses
@@ -316,8 +322,10 @@ pub fn read_fields_11<
         (λ fs. reads_11 P0.reads P0.absent P1.reads P1.absent P2.reads P2.absent P3.reads P3.absent P4.reads P4.absent P5.reads P5.absent P6.reads P6.absent
         P7.reads P7.absent P8.reads P8.absent P9.reads P9.absent P10.reads P10.absent (C.human (config_of de.old)) R.lends fs v) m) de.old de.new result }
     ensures refused { RefusesAs R.Source (C.human (config_of de.old)) R.lends
-        (RefusesFields (bytes_of names.now) (reads_11 P0.reads P0.absent P1.reads P1.absent P2.reads P2.absent P3.reads P3.absent P4.reads P4.absent
-        P5.reads P5.absent P6.reads P6.absent P7.reads P7.absent P8.reads P8.absent P9.reads P9.absent P10.reads P10.absent)
+        (RefusesFields (bytes_of names.now) (is_none P0.absent
+        ∷ (is_none P1.absent ∷ (is_none P2.absent ∷ (is_none P3.absent
+        ∷ (is_none P4.absent ∷ (is_none P5.absent ∷ (is_none P6.absent
+        ∷ (is_none P7.absent ∷ (is_none P8.absent ∷ (is_none P9.absent ∷ (is_none P10.absent ∷ [])))))))))))
         (part_of P0.reads P0.refuses ∷ (part_of P1.reads P1.refuses
         ∷ (part_of P2.reads P2.refuses ∷ (part_of P3.reads P3.refuses
         ∷ (part_of P4.reads P4.refuses ∷ (part_of P5.reads P5.refuses
@@ -358,8 +366,10 @@ pub fn read_fields_12<
         P7.reads P7.absent P8.reads P8.absent P9.reads P9.absent P10.reads P10.absent P11.reads P11.absent (C.human (config_of de.old)) R.lends fs v) m)
         de.old de.new result }
     ensures refused { RefusesAs R.Source (C.human (config_of de.old)) R.lends
-        (RefusesFields (bytes_of names.now) (reads_12 P0.reads P0.absent P1.reads P1.absent P2.reads P2.absent P3.reads P3.absent P4.reads P4.absent
-        P5.reads P5.absent P6.reads P6.absent P7.reads P7.absent P8.reads P8.absent P9.reads P9.absent P10.reads P10.absent P11.reads P11.absent)
+        (RefusesFields (bytes_of names.now) (is_none P0.absent
+        ∷ (is_none P1.absent ∷ (is_none P2.absent ∷ (is_none P3.absent
+        ∷ (is_none P4.absent ∷ (is_none P5.absent ∷ (is_none P6.absent
+        ∷ (is_none P7.absent ∷ (is_none P8.absent ∷ (is_none P9.absent ∷ (is_none P10.absent ∷ (is_none P11.absent ∷ []))))))))))))
         (part_of P0.reads P0.refuses ∷ (part_of P1.reads P1.refuses
         ∷ (part_of P2.reads P2.refuses ∷ (part_of P3.reads P3.refuses
         ∷ (part_of P4.reads P4.refuses ∷ (part_of P5.reads P5.refuses

@@ -482,7 +482,7 @@ impl<'x, R: Source, C: SerializerConfig> Variant<'x, R, C> {
             (λ human. Readable (λ m v. OfFields (bytes_of names.now) (λ fs. F.reads human R.lends fs v) m)) self.entry self.exit.0.now) }
         ensures bare { is_bare self.entry ≡ true → (result ≡ Err (Error.Syntax Text.InvalidType)) × (self.exit.0.now ≡ variant_lender self.entry) }
         ensures refused { is_bare self.entry ≡ false → IfErr result (PartRefused R.Source (C.human (config_of (variant_lender self.entry)))
-            R.lends (RefusesFields (bytes_of names.now) F.reads F.parts) (max 1 (content_room self.entry)) (variant_lender self.entry) self.exit.0.now) }
+            R.lends (RefusesFields (bytes_of names.now) F.needed F.parts) (max 1 (content_room self.entry)) (variant_lender self.entry) self.exit.0.now) }
         // As the clause of `deserialize_fields`.
         ensures memory { R.lends ≡ true → F.takes_memory R.lends ≡ false → IfErr result (λ e. e ≡ Error.OutOfMemory
             → PassesSome (bytes_of names.now) (setting_of (C.human (config_of (variant_lender self.entry))) R.lends

@@ -4,7 +4,8 @@ ghost use Rattle.std.specs.Char.{IsScalar};
 ghost use Rattle.std.specs.Io.KnownBytes.{Consumes};
 ghost use Rattle.rmp_wire.specs.Spelling.{IsBytes};
 ghost use Rattle.rmp_decode.specs.Ahead.{CharIn, SpellsChar};
-ghost use Rattle.rmp_decode.specs.Pieces.{ReadsChar};
+ghost use Rattle.rmp_wire.specs.declared.head.Head.TheVariants.{Text};
+ghost use Rattle.rmp_decode.specs.Payloads.{TakesPayload, a_char};
 
 use crate::content::Slices;
 use crate::content::pieces::next_char;
@@ -144,29 +145,29 @@ pub(crate) trait ReadChar<R: Source> {
     ghost lends: { Bool };
 
     // The next bytes, as one character.
-    fn payload(reader: &mut R, len: usize) -> Result<char, Error>
-        ensures { ReadsChar R.Source lends len reader.old reader.new result };
+    fn payload(reader: &mut R, len: u32) -> Result<char, Error>
+        ensures { TakesPayload R.Source (a_char lends) (Text len) reader.old reader.new result };
 }
 
 impl<'de, R: ReadSlice<'de>> ReadChar<R> for Slices<'de> {
     ghost lends = { R.lends };
 
     #[inline(always)]
-    fn payload(reader: &mut R, len: usize) -> Result<char, Error> {
+    fn payload(reader: &mut R, len: u32) -> Result<char, Error> {
         next_char(reader, len)
     }
 }
 
 // Reads the next `len` bytes as one character, out of line and on a moved reader.
 #[inline(always)]
-fn cold_char_payload<R: Source, P: ReadChar<R>>(reader: &mut R, len: usize) -> Result<char, Error>
-    ensures { ReadsChar R.Source P.lends len reader.old reader.new result }
+fn cold_char_payload<R: Source, P: ReadChar<R>>(reader: &mut R, len: u32) -> Result<char, Error>
+    ensures { TakesPayload R.Source (a_char P.lends) (Text len) reader.old reader.new result }
 {
     replace_with(
         reader,
         len,
-        |mut reader: R, len: usize|
-            ensures { ReadsChar R.Source P.lends len reader result.0 result.1 }
+        |mut reader: R, len: u32|
+            ensures { TakesPayload R.Source (a_char P.lends) (Text len) reader result.0 result.1 }
         {
             let read = P::payload(&mut reader, len);
             (reader, read)
@@ -177,10 +178,10 @@ fn cold_char_payload<R: Source, P: ReadChar<R>>(reader: &mut R, len: usize) -> R
 // Reads the next `len` bytes as one character: by the fast path where they are buffered, and out of line otherwise.
 #[inline(always)]
 pub(crate) fn char_taken<R: Source, P: ReadChar<R>>(reader: &mut R, len: u32) -> Result<char, Error>
-    ensures { ReadsChar R.Source P.lends len reader.old reader.new result }
+    ensures { TakesPayload R.Source (a_char P.lends) (Text len) reader.old reader.new result }
 {
     match char_ahead(reader, len) {
         Some(c) => Ok(c),
-        None => cold_char_payload::<R, P>(reader, len as usize),
+        None => cold_char_payload::<R, P>(reader, len),
     }
 }

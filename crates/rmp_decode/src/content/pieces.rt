@@ -4,23 +4,24 @@ ghost use Rattle.std.specs.Char.{IsScalar};
 ghost use Rattle.std.specs.Io.KnownBytes.{Consumes};
 ghost use Rattle.rmp_wire.specs.Sources.{IsShort, Skips};
 ghost use Rattle.rmp_wire.specs.Spelling.{IsBytes};
-ghost use Rattle.rmp_decode.specs.Consumed.{PieceLeaves};
-ghost use Rattle.rmp_decode.specs.Content.{not_bytes, not_char, not_lent};
-ghost use Rattle.rmp_decode.specs.Exact.{IsDataEnd, TellsFault};
+ghost use Rattle.rmp_decode.specs.Content.{not_char, not_lent};
+ghost use Rattle.rmp_decode.specs.Exact.{IsDataEnd, IsUtf8Error, TellsFault};
 ghost use Rattle.rmp_decode.specs.Kinds.{raw_head};
 ghost use Rattle.rmp_decode.specs.Law.{Explains};
-ghost use Rattle.rmp_decode.specs.Pieces.{StartsWithNoChar, RefusesPiece};
+ghost use Rattle.rmp_decode.specs.Pieces.{Blamed};
+ghost use Rattle.rmp_decode.specs.Payloads.{TakesPayload, a_raw, some_bytes, a_str, a_string, a_char, an_ext};
 
 use crate::error::Error;
 use crate::text::Text;
-use rmp_wire::{Head, IoFault, ReadSlice, Reference, SourceFault};
+use rmp_wire::{Ext, Head, IoFault, ReadSlice, Reference, SourceFault};
 use std::alloc::Global;
 use std::str;
+use std::str::Utf8Error;
 
 // The error of a source's fault after a message's first byte.
 #[inline(always)]
 pub(crate) fn error_of(fault: SourceFault) -> Error
-    ensures { Rattle.rmp_decode.specs.Pieces.Blamed fault result }
+    ensures { Blamed fault result }
 {
     match fault {
         SourceFault::Io(e) => Error::InvalidDataRead(IoFault::from(e)),
@@ -66,29 +67,109 @@ fn not_lent(is_text: bool, bytes: &[u8]) -> Error
     }
 }
 
-// The payload of a text or of bytes, borrowed for the lifetime of the input, or an error if the source doesn't lend its
-// bytes.
+// The error of bytes that aren't UTF-8.
+fn not_utf8(is_text: bool, e: Utf8Error) -> Error
+    ensures text { is_text ≡ true → IsUtf8Error result }
+    ensures bytes { is_text ≡ false → result ≡ Error.Syntax Text.InvalidValue }
+{
+    if is_text {
+        Error::Utf8Error(e)
+    } else {
+        Error::Syntax(Text::InvalidValue)
+    }
+}
+
+// Reads the payload of a text or of bytes, borrowed for the lifetime of the input, or an error if the source doesn't lend its bytes.
 #[inline(always)]
-pub(crate) fn lent_content<'de, R: ReadSlice<'de>>(
+pub(crate) fn next_bytes<'de, R: ReadSlice<'de>>(
     reader: &mut R,
     is_text: bool,
-    len: usize,
+    len: u32,
 ) -> Result<&'de [u8], Error>
-    ensures lends { OnOk result (R.lends ≡ true) }
-    ensures ok { IfOk result (λ s. (length s.now ≡ len) × IsBytes s.now × Consumes (R.ahead reader.old) (R.ahead reader.new) s.now) }
-    ensures sound { OnOk result (R.faults reader.new ≡ R.faults reader.old) }
-    ensures err { R.lends ≡ true → IfErr result (λ e. Explains e (R.faults reader.old) (R.faults reader.new) (IsShort len (R.ahead reader.old))) }
-    ensures exact { IfErr result (λ e. Explains e (R.faults reader.old) (R.faults reader.new)
-        (RefusesPiece len (not_bytes R.lends (raw_head is_text len)) (R.ahead reader.old) e)) }
-    ensures taken { IfErr result (PieceLeaves len (R.ahead reader.old) (R.ahead reader.new) (R.faults reader.old) (R.faults reader.new)) }
-    ensures fault { IfErr result (TellsFault (R.faults reader.old) (R.faults reader.new)) }
-    ensures memory { R.lends ≡ true → IfErr result (λ e. e ≢ Error.OutOfMemory) }
-    ensures place { R.place reader.new ≡ R.place reader.old }
+    ensures { TakesPayload R.Source (some_bytes R.lends) (raw_head is_text len) reader.old reader.new result }
 {
-    match reader.read_slice(len) {
+    match reader.read_slice(len as usize) {
         Ok(Reference::Borrowed(s)) => Ok(s),
         Ok(Reference::Copied(s)) => Err(not_lent(is_text, s)),
         Err(e) => Err(error_of(e)),
+    }
+}
+
+// The same of a payload that has to be UTF-8.
+#[inline(always)]
+pub(crate) fn next_str<'de, R: ReadSlice<'de>>(
+    reader: &mut R,
+    is_text: bool,
+    len: u32,
+) -> Result<&'de str, Error>
+    ensures { TakesPayload R.Source (a_str R.lends) (raw_head is_text len) reader.old reader.new result }
+{
+    match reader.read_slice(len as usize) {
+        Ok(Reference::Borrowed(s)) => match str::from_utf8(s) {
+            Ok(s) => Ok(s),
+            Err(e) => Err(not_utf8(is_text, e)),
+        },
+        Ok(Reference::Copied(s)) => Err(not_lent(is_text, s)),
+        Err(e) => Err(error_of(e)),
+    }
+}
+
+// Copies the payload of a text or of bytes that has to be UTF-8. Buffered bytes are checked in place, and copied once.
+#[inline(always)]
+pub(crate) fn next_string<'de, R: ReadSlice<'de>>(
+    alloc: Global,
+    reader: &mut R,
+    is_text: bool,
+    len: u32,
+) -> Result<String, Error>
+    ensures { TakesPayload R.Source a_string (raw_head is_text len) reader.old reader.new result }
+{
+    if len == 0 {
+        return Ok(String::new(alloc));
+    }
+    let piece = match reader.read_slice(len as usize) {
+        Ok(piece) => piece,
+        Err(e) => return Err(error_of(e)),
+    };
+    let s = match str::from_utf8(piece.as_bytes()) {
+        Ok(s) => s,
+        Err(e) => return Err(not_utf8(is_text, e)),
+    };
+    match String::from_str(alloc, s) {
+        Ok(text) => Ok(text),
+        Err(_) => Err(Error::OutOfMemory),
+    }
+}
+
+// Copies the payload of a text or of bytes, and returns whether it was a text.
+#[inline(always)]
+pub(crate) fn next_raw<'de, R: ReadSlice<'de>>(
+    alloc: Global,
+    reader: &mut R,
+    is_text: bool,
+    len: u32,
+) -> Result<(bool, Vec<u8>), Error>
+    ensures { TakesPayload R.Source a_raw (raw_head is_text len) reader.old reader.new result }
+{
+    match owned(alloc, reader, len as usize) {
+        Ok(bytes) => Ok((is_text, bytes)),
+        Err(e) => Err(e),
+    }
+}
+
+// Copies the payload of an extension.
+#[inline(always)]
+pub(crate) fn next_ext<'de, R: ReadSlice<'de>>(
+    alloc: Global,
+    reader: &mut R,
+    len: u32,
+    tag: i8,
+) -> Result<Ext, Error>
+    ensures { TakesPayload R.Source an_ext (Head.Ext len tag) reader.old reader.new result }
+{
+    match owned(alloc, reader, len as usize) {
+        Ok(bytes) => Ok(Ext::new(tag, bytes)),
+        Err(e) => Err(e),
     }
 }
 
@@ -130,21 +211,12 @@ fn char_of(bytes: &[u8]) -> Result<char, Error>
     }
 }
 
-// Reads the next bytes as one character, out of line.
+// Reads the payload of a text as one character, out of line.
 #[inline(never)]
-pub(crate) fn next_char<'de, R: ReadSlice<'de>>(reader: &mut R, len: usize) -> Result<char, Error>
-    ensures ok { IfOk result (λ c. IsScalar c × (length (encode_utf8 c) ≡ len) × IsBytes (encode_utf8 c)
-        × Consumes (R.ahead reader.old) (R.ahead reader.new) (encode_utf8 c)) }
-    ensures sound { OnOk result (R.faults reader.new ≡ R.faults reader.old) }
-    ensures err { IfErr result (λ e. Explains e (R.faults reader.old) (R.faults reader.new) (StartsWithNoChar len (R.ahead reader.old))) }
-    ensures exact { IfErr result (λ e. Explains e (R.faults reader.old) (R.faults reader.new)
-        (RefusesPiece len (not_char (Head.Text len)) (R.ahead reader.old) e)) }
-    ensures taken { IfErr result (PieceLeaves len (R.ahead reader.old) (R.ahead reader.new) (R.faults reader.old) (R.faults reader.new)) }
-    ensures fault { IfErr result (TellsFault (R.faults reader.old) (R.faults reader.new)) }
-    ensures memory { R.lends ≡ true → IfErr result (λ e. e ≢ Error.OutOfMemory) }
-    ensures place { R.place reader.new ≡ R.place reader.old }
+pub(crate) fn next_char<'de, R: ReadSlice<'de>>(reader: &mut R, len: u32) -> Result<char, Error>
+    ensures { TakesPayload R.Source (a_char R.lends) (Head.Text len) reader.old reader.new result }
 {
-    match reader.read_slice(len) {
+    match reader.read_slice(len as usize) {
         Ok(r) => match char_of(r.as_bytes()) {
             Ok(c) => Ok(c),
             Err(e) => Err(e),

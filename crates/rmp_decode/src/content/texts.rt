@@ -1,11 +1,11 @@
 //! Messages with a payload: texts, characters, bytes, extensions, and names.
 ghost use Rattle.std.specs.Prelude.{◌≡◌, ◌≢◌, Bool, true, false, IfErr, ◌≤◌, ◌<◌, IfOk, IfSome, IfNone};
 ghost use Rattle.std.specs.String.{string_bytes};
-ghost use Rattle.rmp_decode.specs.Buffers.{AfterHead, BufferLeaves, IsBuffer, ListAfterHead, ListLeaves, RefusesItems, RefusesList};
-ghost use Rattle.rmp_decode.specs.Consumed.{LeavesAfter, RefusalLeaves, RestLeaves, no_payload};
-ghost use Rattle.rmp_decode.specs.Content.{IsTextHead, IsRawHead, RefusesLeaf, RefusesAfterHead, not_raw, never_refused, not_char, not_string};
+ghost use Rattle.rmp_decode.specs.Buffers.{a_buffer, BufferLeaves, IsBuffer, ListAfterHead, ReadsBuffer, ReadsByteList, RefusesList};
+ghost use Rattle.rmp_decode.specs.Consumed.{LeavesAfter, RefusalLeaves, no_payload};
+ghost use Rattle.rmp_decode.specs.Content.{IsTextHead, IsRawHead, RefusesLeaf, not_raw, never_refused, not_char, not_string};
 ghost use Rattle.rmp_decode.specs.Content.{not_str, not_bytes, IsBufferHead, not_buffer, IsExtHead, not_ext};
-ghost use Rattle.rmp_decode.specs.Exact.{IsUtf8Error, RefusesExactly, TellsFault};
+ghost use Rattle.rmp_decode.specs.Exact.{RefusesExactly};
 ghost use Rattle.rmp_decode.specs.Law.{Lawful};
 ghost use Rattle.rmp_decode.specs.Kinds.{raw_head, raw_msg, other_number};
 ghost use Rattle.rmp_decode.specs.Read.{IsRaw, IsString, IsChar, IsUnsigned, IsExt};
@@ -15,6 +15,7 @@ ghost use Rattle.rmp_decode.specs.Seq.{IsOpen, TakesElement, FailsToTake, left_i
 ghost use Rattle.rmp_decode.specs.State.{left, faults_of, is_failed, kept_of, is_strict};
 ghost use Rattle.rmp_decode.specs.declared.deserializer.Kept.TheVariants.{Nothing};
 ghost use Rattle.rmp_decode.specs.Names.{bytes_of, IsName, IsNameHead};
+ghost use Rattle.rmp_decode.specs.Payloads.{ReadsMessage, ReadsRest, a_raw, some_bytes, a_str, a_string, a_char, an_ext, a_name};
 
 use crate::access::names::{next_place, place_below};
 use crate::access::parts::levels_outside;
@@ -22,92 +23,15 @@ use crate::access::seq::SeqAccess;
 use crate::content::Slices;
 use crate::content::chars::char_taken;
 use crate::content::cold::read_cold;
-use crate::content::pieces::{error_of, lent_content, next_char, owned};
+use crate::content::pieces::{next_bytes, next_ext, next_raw, next_str, next_string, owned};
 use crate::deserializer::Deserializer;
 use crate::deserializer::peek::{BinHead, ExtHead, RawHead, TextHead};
 use crate::error::Error;
 use crate::text::Text;
 use rmp_wire::config::SerializerConfig;
 use rmp_wire::{Ext, Head, ReadSlice, Source};
-use std::str;
-use std::str::Utf8Error;
-
-// The error of bytes that aren't UTF-8.
-fn not_utf8(is_text: bool, e: Utf8Error) -> Error
-    ensures text { is_text ≡ true → IsUtf8Error result }
-    ensures bytes { is_text ≡ false → result ≡ Error.Syntax Text.InvalidValue }
-{
-    if is_text {
-        Error::Utf8Error(e)
-    } else {
-        Error::Syntax(Text::InvalidValue)
-    }
-}
 
 impl<R: Source, C: SerializerConfig> Deserializer<R, C> {
-    // Borrows a text or bytes, and returns whether it was a text.
-    #[inline(always)]
-    fn lent_raw<'de>(&mut self) -> Result<(bool, &'de [u8]), Error>
-    where
-        R: ReadSlice<'de>,
-        ensures law { Lawful R.Source (λ m p. (R.lends ≡ true) × (m ≡ raw_msg p.0 p.1.now)) self.old self.new result }
-        ensures exact { RefusesLeaf R.Source IsRawHead not_raw (not_bytes R.lends) self.old self.new result }
-        ensures taken { RefusalLeaves R.Source IsRawHead self.old self.new result }
-        ensures memory { R.lends ≡ true → IfErr result (λ e. e ≢ Error.OutOfMemory) }
-    {
-        match self.head() {
-            Ok((_, head)) => match head.as_raw() {
-                Some((is_text, len)) => {
-                    match lent_content(&mut self.reader, is_text, len as usize) {
-                        Ok(bytes) => {
-                            self.failed = false;
-                            Ok((is_text, bytes))
-                        }
-                        Err(e) => Err(e),
-                    }
-                }
-                None => Err(Error::Syntax(Text::InvalidType)),
-            },
-            Err(e) => Err(e),
-        }
-    }
-
-    // Copies a text or bytes into a vector, and returns whether it was a text: the slow path, out of line.
-    #[inline(never)]
-    fn owned_raw<'de>(&mut self) -> Result<(bool, Vec<u8>), Error>
-    where
-        R: ReadSlice<'de>,
-        ensures law { Lawful R.Source (λ m p. m ≡ raw_msg p.0 p.1.items) self.old self.new result }
-        ensures exact { RefusesLeaf R.Source IsRawHead not_raw never_refused self.old self.new result }
-        ensures taken { RefusalLeaves R.Source IsRawHead self.old self.new result }
-    {
-        match self.head() {
-            Ok((_, head)) => match head.as_raw() {
-                Some((is_text, len)) => self.owned_payload(is_text, len),
-                None => Err(Error::Syntax(Text::InvalidType)),
-            },
-            Err(e) => Err(e),
-        }
-    }
-
-    // Copies the payload of a text or of bytes, `len` bytes, into a vector.
-    #[inline(always)]
-    fn owned_payload<'de>(&mut self, is_text: bool, len: u32) -> Result<(bool, Vec<u8>), Error>
-    where
-        R: ReadSlice<'de>,
-        ensures law { AfterHead R.Source (λ m p. m ≡ raw_msg p.0 p.1.items) (raw_head is_text len) self.old self.new result }
-        ensures exact { IfErr result (RefusesAfterHead R.Source IsRawHead not_raw never_refused (raw_head is_text len) self.old self.new) }
-        ensures taken { IfErr result (RestLeaves R.Source IsRawHead (raw_head is_text len) self.old self.new) }
-    {
-        match owned(self.alloc, &mut self.reader, len as usize) {
-            Ok(payload) => {
-                self.failed = false;
-                return Ok((is_text, payload));
-            }
-            Err(e) => return Err(e),
-        }
-    }
-
     /// Reads a text, which needn't be UTF-8, or bytes, into a vector, and returns whether it was a text.
     ///
     /// # Errors
@@ -120,8 +44,40 @@ impl<R: Source, C: SerializerConfig> Deserializer<R, C> {
         ensures taken { RefusalLeaves R.Source IsRawHead self.old self.new result }
     {
         match self.take(RawHead) {
-            Some((is_text, len)) => return self.owned_payload(is_text, len),
-            None => return self.owned_raw(),
+            Some((is_text, len)) => self.raw_payload(is_text, len),
+            None => self.slow_raw(),
+        }
+    }
+
+    // Copies the payload of a text or of bytes, `len` bytes, into a vector.
+    #[inline(always)]
+    fn raw_payload<'de>(&mut self, is_text: bool, len: u32) -> Result<(bool, Vec<u8>), Error>
+    where
+        R: ReadSlice<'de>,
+        ensures { ReadsRest R.Source a_raw (raw_head is_text len) self.old self.new result }
+    {
+        match next_raw(self.alloc, &mut self.reader, is_text, len) {
+            Ok(raw) => {
+                self.failed = false;
+                Ok(raw)
+            }
+            Err(e) => Err(e),
+        }
+    }
+
+    // The slow path of `deserialize_raw`.
+    #[inline(never)]
+    fn slow_raw<'de>(&mut self) -> Result<(bool, Vec<u8>), Error>
+    where
+        R: ReadSlice<'de>,
+        ensures { ReadsMessage R.Source a_raw self.old self.new result }
+    {
+        match self.head() {
+            Ok((_, head)) => match head.as_raw() {
+                Some((is_text, len)) => self.raw_payload(is_text, len),
+                None => Err(Error::Syntax(Text::InvalidType)),
+            },
+            Err(e) => Err(e),
         }
     }
 
@@ -150,10 +106,7 @@ impl<R: Source, C: SerializerConfig> Deserializer<R, C> {
     fn char_payload<'de>(&mut self, len: u32) -> Result<char, Error>
     where
         R: ReadSlice<'de>,
-        ensures law { AfterHead R.Source IsChar (Head.Text len) self.old self.new result }
-        ensures exact { IfErr result (RefusesAfterHead R.Source IsTextHead not_raw not_char (Head.Text len) self.old self.new) }
-        ensures taken { IfErr result (RestLeaves R.Source IsTextHead (Head.Text len) self.old self.new) }
-        ensures memory { R.lends ≡ true → IfErr result (λ e. e ≢ Error.OutOfMemory) }
+        ensures { ReadsRest R.Source (a_char R.lends) (Head.Text len) self.old self.new result }
     {
         match char_taken::<R, Slices<'de>>(&mut self.reader, len) {
             Ok(c) => {
@@ -169,20 +122,11 @@ impl<R: Source, C: SerializerConfig> Deserializer<R, C> {
     pub(crate) fn slow_char<'de>(&mut self) -> Result<char, Error>
     where
         R: ReadSlice<'de>,
-        ensures law { Lawful R.Source IsChar self.old self.new result }
-        ensures exact { RefusesLeaf R.Source IsTextHead not_raw not_char self.old self.new result }
-        ensures taken { RefusalLeaves R.Source IsTextHead self.old self.new result }
-        ensures memory { R.lends ≡ true → IfErr result (λ e. e ≢ Error.OutOfMemory) }
+        ensures { ReadsMessage R.Source (a_char R.lends) self.old self.new result }
     {
         match self.head() {
             Ok((_, head)) => match head.as_text() {
-                Some(len) => match next_char(&mut self.reader, len as usize) {
-                    Ok(c) => {
-                        self.failed = false;
-                        Ok(c)
-                    }
-                    Err(e) => Err(e),
-                },
+                Some(len) => self.char_payload(len),
                 None => Err(Error::Syntax(Text::InvalidType)),
             },
             Err(e) => Err(e),
@@ -214,12 +158,9 @@ impl<R: Source, C: SerializerConfig> Deserializer<R, C> {
     fn bytes_payload<'de>(&mut self, is_text: bool, len: u32) -> Result<&'de [u8], Error>
     where
         R: ReadSlice<'de>,
-        ensures law { AfterHead R.Source (λ m s. (R.lends ≡ true) × IsRaw m s.now) (raw_head is_text len) self.old self.new result }
-        ensures exact { IfErr result (RefusesAfterHead R.Source IsRawHead not_raw (not_bytes R.lends) (raw_head is_text len) self.old self.new) }
-        ensures taken { IfErr result (RestLeaves R.Source IsRawHead (raw_head is_text len) self.old self.new) }
-        ensures memory { R.lends ≡ true → IfErr result (λ e. e ≢ Error.OutOfMemory) }
+        ensures { ReadsRest R.Source (some_bytes R.lends) (raw_head is_text len) self.old self.new result }
     {
-        match lent_content(&mut self.reader, is_text, len as usize) {
+        match next_bytes(&mut self.reader, is_text, len) {
             Ok(bytes) => {
                 self.failed = false;
                 Ok(bytes)
@@ -233,13 +174,13 @@ impl<R: Source, C: SerializerConfig> Deserializer<R, C> {
     pub(crate) fn slow_bytes<'de>(&mut self) -> Result<&'de [u8], Error>
     where
         R: ReadSlice<'de>,
-        ensures law { Lawful R.Source (λ m s. (R.lends ≡ true) × IsRaw m s.now) self.old self.new result }
-        ensures exact { RefusesLeaf R.Source IsRawHead not_raw (not_bytes R.lends) self.old self.new result }
-        ensures taken { RefusalLeaves R.Source IsRawHead self.old self.new result }
-        ensures memory { R.lends ≡ true → IfErr result (λ e. e ≢ Error.OutOfMemory) }
+        ensures { ReadsMessage R.Source (some_bytes R.lends) self.old self.new result }
     {
-        match self.lent_raw() {
-            Ok((_, bytes)) => Ok(bytes),
+        match self.head() {
+            Ok((_, head)) => match head.as_raw() {
+                Some((is_text, len)) => self.bytes_payload(is_text, len),
+                None => Err(Error::Syntax(Text::InvalidType)),
+            },
             Err(e) => Err(e),
         }
     }
@@ -259,31 +200,24 @@ impl<R: Source, C: SerializerConfig> Deserializer<R, C> {
         ensures memory { R.lends ≡ true → IfErr result (λ e. e ≢ Error.OutOfMemory) }
     {
         match self.take(TextHead) {
-            Some(len) => self.str_payload(len),
+            Some(len) => self.str_payload(true, len),
             None => read_cold::<R, C, &'de str, Slices<'de>>(self),
         }
     }
 
-    // Borrows the payload of a text, `len` bytes.
+    // Borrows the payload of a text or of bytes, `len` bytes, as UTF-8.
     #[inline(always)]
-    fn str_payload<'de>(&mut self, len: u32) -> Result<&'de str, Error>
+    fn str_payload<'de>(&mut self, is_text: bool, len: u32) -> Result<&'de str, Error>
     where
         R: ReadSlice<'de>,
-        ensures law { AfterHead R.Source (λ m s. (R.lends ≡ true) × IsString m s.now) (Head.Text len) self.old self.new result }
-        ensures exact { IfErr result (RefusesAfterHead R.Source IsRawHead not_raw (not_str R.lends) (Head.Text len) self.old self.new) }
-        ensures taken { IfErr result (RestLeaves R.Source IsRawHead (Head.Text len) self.old self.new) }
-        ensures memory { R.lends ≡ true → IfErr result (λ e. e ≢ Error.OutOfMemory) }
+        ensures { ReadsRest R.Source (a_str R.lends) (raw_head is_text len) self.old self.new result }
     {
-        let bytes = match lent_content(&mut self.reader, true, len as usize) {
-            Ok(bytes) => bytes,
-            Err(e) => return Err(e),
-        };
-        match str::from_utf8(bytes) {
+        match next_str(&mut self.reader, is_text, len) {
             Ok(s) => {
                 self.failed = false;
                 Ok(s)
             }
-            Err(e) => Err(Error::Utf8Error(e)),
+            Err(e) => Err(e),
         }
     }
 
@@ -292,15 +226,12 @@ impl<R: Source, C: SerializerConfig> Deserializer<R, C> {
     pub(crate) fn slow_str<'de>(&mut self) -> Result<&'de str, Error>
     where
         R: ReadSlice<'de>,
-        ensures law { Lawful R.Source (λ m s. (R.lends ≡ true) × IsString m s.now) self.old self.new result }
-        ensures exact { RefusesLeaf R.Source IsRawHead not_raw (not_str R.lends) self.old self.new result }
-        ensures taken { RefusalLeaves R.Source IsRawHead self.old self.new result }
-        ensures memory { R.lends ≡ true → IfErr result (λ e. e ≢ Error.OutOfMemory) }
+        ensures { ReadsMessage R.Source (a_str R.lends) self.old self.new result }
     {
-        match self.lent_raw() {
-            Ok((is_text, bytes)) => match str::from_utf8(bytes) {
-                Ok(s) => Ok(s),
-                Err(e) => Err(self.refuse(not_utf8(is_text, e))),
+        match self.head() {
+            Ok((_, head)) => match head.as_raw() {
+                Some((is_text, len)) => self.str_payload(is_text, len),
+                None => Err(Error::Syntax(Text::InvalidType)),
             },
             Err(e) => Err(e),
         }
@@ -319,38 +250,25 @@ impl<R: Source, C: SerializerConfig> Deserializer<R, C> {
         ensures taken { RefusalLeaves R.Source IsRawHead self.old self.new result }
     {
         match self.take(TextHead) {
-            Some(len) => self.string_payload(len),
+            Some(len) => self.string_payload(true, len),
             None => self.slow_string(),
         }
     }
 
-    // Reads the payload of a text, `len` bytes. Buffered bytes are checked in place, and copied once.
+    // Copies the payload of a text or of bytes, `len` bytes, as UTF-8.
     #[inline(never)]
-    pub(crate) fn string_payload<'de>(&mut self, len: u32) -> Result<String, Error>
+    pub(crate) fn string_payload<'de>(&mut self, is_text: bool, len: u32) -> Result<String, Error>
     where
         R: ReadSlice<'de>,
-        ensures law { AfterHead R.Source (λ m s. IsRaw m (string_bytes s)) (Head.Text len) self.old self.new result }
-        ensures exact { IfErr result (RefusesAfterHead R.Source IsRawHead not_raw not_string (Head.Text len) self.old self.new) }
-        ensures taken { IfErr result (RestLeaves R.Source IsRawHead (Head.Text len) self.old self.new) }
+        ensures { ReadsRest R.Source a_string (raw_head is_text len) self.old self.new result }
     {
-        if len == 0 {
-            self.failed = false;
-            return Ok(String::new(self.alloc));
+        match next_string(self.alloc, &mut self.reader, is_text, len) {
+            Ok(s) => {
+                self.failed = false;
+                Ok(s)
+            }
+            Err(e) => Err(e),
         }
-        let piece = match self.reader.read_slice(len as usize) {
-            Ok(piece) => piece,
-            Err(e) => return Err(error_of(e)),
-        };
-        let s = match str::from_utf8(piece.as_bytes()) {
-            Ok(s) => s,
-            Err(e) => return Err(Error::Utf8Error(e)),
-        };
-        let text = match String::from_str(self.alloc, s) {
-            Ok(text) => text,
-            Err(_) => return Err(Error::OutOfMemory),
-        };
-        self.failed = false;
-        Ok(text)
     }
 
     // The slow path of `deserialize_string`.
@@ -358,14 +276,12 @@ impl<R: Source, C: SerializerConfig> Deserializer<R, C> {
     fn slow_string<'de>(&mut self) -> Result<String, Error>
     where
         R: ReadSlice<'de>,
-        ensures law { Lawful R.Source (λ m s. IsRaw m (string_bytes s)) self.old self.new result }
-        ensures exact { RefusesLeaf R.Source IsRawHead not_raw not_string self.old self.new result }
-        ensures taken { RefusalLeaves R.Source IsRawHead self.old self.new result }
+        ensures { ReadsMessage R.Source a_string self.old self.new result }
     {
-        match self.owned_raw() {
-            Ok((is_text, bytes)) => match String::from_utf8(bytes) {
-                Ok(s) => Ok(s),
-                Err(e) => Err(self.refuse(not_utf8(is_text, e.utf8_error()))),
+        match self.head() {
+            Ok((_, head)) => match head.as_raw() {
+                Some((is_text, len)) => self.string_payload(is_text, len),
+                None => Err(Error::Syntax(Text::InvalidType)),
             },
             Err(e) => Err(e),
         }
@@ -397,9 +313,7 @@ impl<R: Source, C: SerializerConfig> Deserializer<R, C> {
     fn byte_buf_payload<'de>(&mut self, len: u32) -> Result<Vec<u8>, Error>
     where
         R: ReadSlice<'de>,
-        ensures law { (is_text : Bool) → AfterHead R.Source (λ m v. IsBuffer m v.items) (raw_head is_text len) self.old self.new result }
-        ensures exact { (is_text : Bool) → IfErr result (RefusesAfterHead R.Source IsBufferHead not_raw not_buffer (raw_head is_text len) self.old self.new) }
-        ensures taken { (is_text : Bool) → IfErr result (RestLeaves R.Source IsRawHead (raw_head is_text len) self.old self.new) }
+        ensures { (is_text : Bool) → ReadsRest R.Source a_buffer (raw_head is_text len) self.old self.new result }
     {
         match owned(self.alloc, &mut self.reader, len as usize) {
             Ok(bytes) => {
@@ -415,10 +329,7 @@ impl<R: Source, C: SerializerConfig> Deserializer<R, C> {
     fn slow_byte_buf<'de>(&mut self) -> Result<Vec<u8>, Error>
     where
         R: ReadSlice<'de>,
-        ensures law { Lawful R.Source (λ m v. IsBuffer m v.items) self.old self.new result }
-        ensures exact { RefusesLeaf R.Source IsBufferHead not_raw not_buffer self.old self.new result }
-        ensures list { is_failed self.old ≡ false → IfErr result (RefusesList R.Source self.old self.new) }
-        ensures taken { is_failed self.old ≡ false → IfErr result (BufferLeaves R.Source self.old self.new) }
+        ensures { ReadsBuffer R.Source self.old self.new result }
     {
         match self.head() {
             Ok((_, head)) => match head.as_raw() {
@@ -458,11 +369,7 @@ impl<R: Source, C: SerializerConfig> Deserializer<R, C> {
     fn byte_list(&mut self, len: u32) -> Result<Vec<u8>, Error>
         requires marked { is_failed self.old ≡ true }
         requires clean { kept_of self.old ≡ Nothing }
-        ensures law { AfterHead R.Source (λ m v. IsBuffer m v.items) (Head.Array len) self.old self.new result }
-        ensures deep { IfErr result (λ e. self.old.room ≤ 1 → e ≡ Error.DepthLimitExceeded) }
-        ensures items { IfErr result (λ e. 1 < self.old.room → RefusesItems R.Source len self.old self.new e) }
-        ensures taken { IfErr result (ListLeaves R.Source len self.old self.new) }
-        ensures fault { IfErr result (TellsFault (faults_of R.Source self.old) (faults_of R.Source self.new)) }
+        ensures { ReadsByteList R.Source len self.old self.new result }
     {
         let mut items = Vec::new(self.alloc);
         let mut seq = self.open_list(len)?;
@@ -496,14 +403,12 @@ impl<R: Source, C: SerializerConfig> Deserializer<R, C> {
     fn ext_payload<'de>(&mut self, len: u32, tag: i8) -> Result<Ext, Error>
     where
         R: ReadSlice<'de>,
-        ensures law { AfterHead R.Source IsExt (Head.Ext len tag) self.old self.new result }
-        ensures exact { IfErr result (RefusesAfterHead R.Source IsExtHead not_ext never_refused (Head.Ext len tag) self.old self.new) }
-        ensures taken { IfErr result (RestLeaves R.Source IsExtHead (Head.Ext len tag) self.old self.new) }
+        ensures { ReadsRest R.Source an_ext (Head.Ext len tag) self.old self.new result }
     {
-        match owned(self.alloc, &mut self.reader, len as usize) {
-            Ok(bytes) => {
+        match next_ext(self.alloc, &mut self.reader, len, tag) {
+            Ok(ext) => {
                 self.failed = false;
-                Ok(Ext::new(tag, bytes))
+                Ok(ext)
             }
             Err(e) => Err(e),
         }
@@ -514,9 +419,7 @@ impl<R: Source, C: SerializerConfig> Deserializer<R, C> {
     fn slow_ext<'de>(&mut self) -> Result<Ext, Error>
     where
         R: ReadSlice<'de>,
-        ensures law { Lawful R.Source IsExt self.old self.new result }
-        ensures exact { RefusesLeaf R.Source IsExtHead not_ext never_refused self.old self.new result }
-        ensures taken { RefusalLeaves R.Source IsExtHead self.old self.new result }
+        ensures { ReadsMessage R.Source an_ext self.old self.new result }
     {
         match self.head() {
             Ok((marker, head)) => match head.as_ext() {
@@ -552,12 +455,9 @@ impl<R: Source, C: SerializerConfig> Deserializer<R, C> {
     fn identifier_payload<'de>(&mut self, len: u32, names: &[&str]) -> Result<Option<usize>, Error>
     where
         R: ReadSlice<'de>,
-        ensures law { (is_text : Bool) → AfterHead R.Source (IsName (bytes_of names.now)) (raw_head is_text len) self.old self.new result }
-        ensures exact { (is_text : Bool) → IfErr result (RefusesAfterHead R.Source IsNameHead not_raw never_refused (raw_head is_text len) self.old self.new) }
-        ensures taken { (is_text : Bool) → IfErr result (RestLeaves R.Source IsRawHead (raw_head is_text len) self.old self.new) }
-        ensures memory { R.lends ≡ true → IfErr result (λ e. e ≢ Error.OutOfMemory) }
+        ensures { (is_text : Bool) → ReadsRest R.Source (a_name (bytes_of names.now) R.lends) (raw_head is_text len) self.old self.new result }
     {
-        match next_place(&mut self.reader, names, len as usize) {
+        match next_place(&mut self.reader, names, len) {
             Ok(place) => {
                 self.failed = false;
                 Ok(place)
@@ -571,10 +471,7 @@ impl<R: Source, C: SerializerConfig> Deserializer<R, C> {
     fn slow_identifier<'de>(&mut self, names: &[&str]) -> Result<Option<usize>, Error>
     where
         R: ReadSlice<'de>,
-        ensures law { Lawful R.Source (IsName (bytes_of names.now)) self.old self.new result }
-        ensures exact { RefusesLeaf R.Source IsNameHead not_raw never_refused self.old self.new result }
-        ensures taken { RefusalLeaves R.Source IsRawHead self.old self.new result }
-        ensures memory { R.lends ≡ true → IfErr result (λ e. e ≢ Error.OutOfMemory) }
+        ensures { ReadsMessage R.Source (a_name (bytes_of names.now) R.lends) self.old self.new result }
     {
         let head = match self.head() {
             Ok((_, head)) => head,

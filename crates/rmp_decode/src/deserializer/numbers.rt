@@ -9,7 +9,8 @@ ghost use Rattle.std.specs.Io.KnownBytes.{Consumes};
 ghost use Rattle.rmp_wire.specs.Sources.{IsShort, Takes};
 ghost use Rattle.rmp_decode.specs.Consumed.{RefusalLeaves, no_payload};
 ghost use Rattle.rmp_decode.specs.Content.{RefusesLeaf, never_refused};
-ghost use Rattle.rmp_decode.specs.Wide.{IsSigned128, IsUnsigned128, IsSigned128Head, IsUnsigned128Head, TakesSixteen, ReadsSixteen, not_wide};
+ghost use Rattle.rmp_decode.specs.Payloads.{ReadsMessage, ReadsRest};
+ghost use Rattle.rmp_decode.specs.Wide.{a_signed128, an_unsigned128, IsSigned128, IsUnsigned128, IsSigned128Head, IsUnsigned128Head, TakesSixteen, ReadsSixteen, not_wide};
 
 use crate::content::cold::{Cold, read_cold};
 use crate::deserializer::Deserializer;
@@ -345,9 +346,16 @@ impl<R: Source, C: SerializerConfig> Deserializer<R, C> {
         ensures memory { IfErr result (λ e. e ≢ Error.OutOfMemory) }
     {
         match self.take(SixteenHead) {
-            Some(()) => {}
-            None => return self.peek_i128(),
+            Some(()) => self.signed_payload(),
+            None => self.peek_i128(),
         }
+    }
+
+    // Reads 16 bytes, whose head was consumed, as a number in two's complement.
+    #[inline(always)]
+    fn signed_payload(&mut self) -> Result<i128, Error>
+        ensures { ReadsRest R.Source a_signed128 (Head.Bin 16) self.old self.new result }
+    {
         match next_sixteen(&mut self.reader) {
             Ok(n) => {
                 self.failed = false;
@@ -360,10 +368,7 @@ impl<R: Source, C: SerializerConfig> Deserializer<R, C> {
     // Reads a number that isn't in 16 bytes: an unsigned one by the fast path.
     #[inline(always)]
     fn peek_i128(&mut self) -> Result<i128, Error>
-        ensures law { Lawful R.Source IsSigned128 self.old self.new result }
-        ensures exact { RefusesLeaf R.Source IsSigned128Head not_wide never_refused self.old self.new result }
-        ensures taken { RefusalLeaves R.Source IsSigned128Head self.old self.new result }
-        ensures memory { IfErr result (λ e. e ≢ Error.OutOfMemory) }
+        ensures { ReadsMessage R.Source a_signed128 self.old self.new result }
     {
         match self.take(Unsigned { most: u64::MAX }) {
             Some(n) => {
@@ -377,10 +382,7 @@ impl<R: Source, C: SerializerConfig> Deserializer<R, C> {
     // Reads a signed number by the fast path, and any other out of line.
     #[inline(always)]
     fn peek_negative_i128(&mut self) -> Result<i128, Error>
-        ensures law { Lawful R.Source IsSigned128 self.old self.new result }
-        ensures exact { RefusesLeaf R.Source IsSigned128Head not_wide never_refused self.old self.new result }
-        ensures taken { RefusalLeaves R.Source IsSigned128Head self.old self.new result }
-        ensures memory { IfErr result (λ e. e ≢ Error.OutOfMemory) }
+        ensures { ReadsMessage R.Source a_signed128 self.old self.new result }
     {
         match self.take(WithSign {
             least: i64::MIN,
@@ -397,10 +399,7 @@ impl<R: Source, C: SerializerConfig> Deserializer<R, C> {
     // The slow path of `deserialize_i128`.
     #[inline(never)]
     fn slow_i128(&mut self) -> Result<i128, Error>
-        ensures law { Lawful R.Source IsSigned128 self.old self.new result }
-        ensures exact { RefusesLeaf R.Source IsSigned128Head not_wide never_refused self.old self.new result }
-        ensures taken { RefusalLeaves R.Source IsSigned128Head self.old self.new result }
-        ensures memory { IfErr result (λ e. e ≢ Error.OutOfMemory) }
+        ensures { ReadsMessage R.Source a_signed128 self.old self.new result }
     {
         let (marker, head) = match self.head() {
             Ok(next) => next,
@@ -413,13 +412,7 @@ impl<R: Source, C: SerializerConfig> Deserializer<R, C> {
         if !is_sixteen(head) {
             return Err(not_wide(marker, head));
         }
-        match next_sixteen(&mut self.reader) {
-            Ok(n) => {
-                self.failed = false;
-                Ok(n.cast_signed())
-            }
-            Err(e) => Err(e),
-        }
+        self.signed_payload()
     }
 
     /// Reads a number from 0 on, in a format of any width, or 16 bytes as a big-endian number.
@@ -435,9 +428,16 @@ impl<R: Source, C: SerializerConfig> Deserializer<R, C> {
         ensures memory { IfErr result (λ e. e ≢ Error.OutOfMemory) }
     {
         match self.take(SixteenHead) {
-            Some(()) => {}
-            None => return self.peek_u128(),
+            Some(()) => self.unsigned_payload(),
+            None => self.peek_u128(),
         }
+    }
+
+    // Reads 16 bytes, whose head was consumed, as a number without a sign.
+    #[inline(always)]
+    fn unsigned_payload(&mut self) -> Result<u128, Error>
+        ensures { ReadsRest R.Source an_unsigned128 (Head.Bin 16) self.old self.new result }
+    {
         match next_sixteen(&mut self.reader) {
             Ok(n) => {
                 self.failed = false;
@@ -450,10 +450,7 @@ impl<R: Source, C: SerializerConfig> Deserializer<R, C> {
     // Reads a number that isn't in 16 bytes: an unsigned one by the fast path, and any other out of line.
     #[inline(always)]
     fn peek_u128(&mut self) -> Result<u128, Error>
-        ensures law { Lawful R.Source IsUnsigned128 self.old self.new result }
-        ensures exact { RefusesLeaf R.Source IsUnsigned128Head not_wide never_refused self.old self.new result }
-        ensures taken { RefusalLeaves R.Source IsUnsigned128Head self.old self.new result }
-        ensures memory { IfErr result (λ e. e ≢ Error.OutOfMemory) }
+        ensures { ReadsMessage R.Source an_unsigned128 self.old self.new result }
     {
         match self.take(Unsigned { most: u64::MAX }) {
             Some(n) => {
@@ -467,10 +464,7 @@ impl<R: Source, C: SerializerConfig> Deserializer<R, C> {
     // The slow path of `deserialize_u128`.
     #[inline(never)]
     fn slow_u128(&mut self) -> Result<u128, Error>
-        ensures law { Lawful R.Source IsUnsigned128 self.old self.new result }
-        ensures exact { RefusesLeaf R.Source IsUnsigned128Head not_wide never_refused self.old self.new result }
-        ensures taken { RefusalLeaves R.Source IsUnsigned128Head self.old self.new result }
-        ensures memory { IfErr result (λ e. e ≢ Error.OutOfMemory) }
+        ensures { ReadsMessage R.Source an_unsigned128 self.old self.new result }
     {
         let (marker, head) = match self.head() {
             Ok(next) => next,
@@ -486,13 +480,7 @@ impl<R: Source, C: SerializerConfig> Deserializer<R, C> {
         if !is_sixteen(head) {
             return Err(not_wide(marker, head));
         }
-        match next_sixteen(&mut self.reader) {
-            Ok(n) => {
-                self.failed = false;
-                Ok(n)
-            }
-            Err(e) => Err(e),
-        }
+        self.unsigned_payload()
     }
 }
 
@@ -500,15 +488,7 @@ impl<R: Source, C: SerializerConfig> Deserializer<R, C> {
 pub(crate) struct WideNumber;
 
 impl<R: Source> Cold<R, i128> for WideNumber {
-    ghost lends = { true };
-
-    ghost reads = { IsSigned128 };
-
-    ghost wanted = { IsSigned128Head };
-
-    ghost other = { not_wide };
-
-    ghost refused = { never_refused };
+    ghost kind = { a_signed128 };
 
     #[inline(always)]
     fn slow<C: SerializerConfig>(de: &mut Deserializer<R, C>) -> Result<i128, Error> {
@@ -517,15 +497,7 @@ impl<R: Source> Cold<R, i128> for WideNumber {
 }
 
 impl<R: Source> Cold<R, u128> for WideNumber {
-    ghost lends = { true };
-
-    ghost reads = { IsUnsigned128 };
-
-    ghost wanted = { IsUnsigned128Head };
-
-    ghost other = { not_wide };
-
-    ghost refused = { never_refused };
+    ghost kind = { an_unsigned128 };
 
     #[inline(always)]
     fn slow<C: SerializerConfig>(de: &mut Deserializer<R, C>) -> Result<u128, Error> {

@@ -7,7 +7,6 @@
 ghost use Rattle.rmp_decode.specs.EnumRefusing.{RefusesEnum, no_content};
 ghost use Rattle.rmp_decode.specs.FieldRefusing.{RefusesFields};
 ghost use Rattle.rmp_decode.specs.Fields.{OfFields, Field, Absent, NoField};
-ghost use Rattle.rmp_decode.specs.ReadFields.{reads_5, reads_9};
 ghost use Rattle.rmp_decode.specs.Refusing.{part_of};
 ghost use Rattle.rmp_decode.specs.Rows.{ReadsEach};
 ghost use Rattle.rmp_decode.specs.Variants.{OfVariant, Case, NoCase, Bare};
@@ -37,6 +36,7 @@ ghost use Rattle.rmp_round_trip.specs.VariantRounds.{bare_row, bare_other};
 ghost use Rattle.rmp_wire.specs.Types.{buffer_bytes};
 ghost use Rattle.std.proofs.Common.{refl};
 ghost use Rattle.std.proofs.lemmas.Cmp.{on_total, nat_list_cmp_total};
+ghost use Rattle.std.specs.Option.{is_none};
 ghost use Rattle.std.specs.Prelude.{◌≡◌, ◌∷◌, [], None, Some, codes, false, ⊤, string_bytes, true, pos, negsuc};
 ghost use Rattle.test_derived.specs.declared.defaults.Level.TheVariants as the_level;
 ghost use Rattle.test_derived.specs.declared.defaults.TheConstants.{CORNER, PLAIN, TRIES};
@@ -210,13 +210,14 @@ impl<'de, R: ReadSlice<'de>> Deserialize<'de, R> for Server {
 
     ghost refuses = { RefusesFields (codes "host" ∷ (codes "port"
         ∷ (codes "tries" ∷ (codes "shift" ∷ (codes "note" ∷ (codes "open" ∷ (codes "sign" ∷ (codes "corner" ∷ (codes "level" ∷ [])))))))))
-        (reads_9 ⟦<String as Deserialize<'de, R>>⟧.reads ⟦<String as Deserialize<'de, R>>⟧.absent ⟦<Defaulted<u16> as Deserialize<'de, R>>⟧.reads
-        ⟦<Defaulted<u16> as Deserialize<'de, R>>⟧.absent ⟦<Defaulted<i32> as Deserialize<'de, R>>⟧.reads ⟦<Defaulted<i32> as Deserialize<'de, R>>⟧.absent
-        ⟦<Defaulted<i8> as Deserialize<'de, R>>⟧.reads ⟦<Defaulted<i8> as Deserialize<'de, R>>⟧.absent ⟦<Option<String> as Deserialize<'de, R>>⟧.reads
-        ⟦<Option<String> as Deserialize<'de, R>>⟧.absent ⟦<Defaulted<bool> as Deserialize<'de, R>>⟧.reads ⟦<Defaulted<bool> as Deserialize<'de, R>>⟧.absent
-        ⟦<Defaulted<char> as Deserialize<'de, R>>⟧.reads ⟦<Defaulted<char> as Deserialize<'de, R>>⟧.absent
-        ⟦<Defaulted<(u16, u16)> as Deserialize<'de, R>>⟧.reads ⟦<Defaulted<(u16, u16)> as Deserialize<'de, R>>⟧.absent
-        ⟦<Defaulted<Level> as Deserialize<'de, R>>⟧.reads ⟦<Defaulted<Level> as Deserialize<'de, R>>⟧.absent)
+        (is_none ⟦<String as Deserialize<'de, R>>⟧.absent ∷
+        (is_none ⟦<Defaulted<u16> as Deserialize<'de, R>>⟧.absent
+        ∷ (is_none ⟦<Defaulted<i32> as Deserialize<'de, R>>⟧.absent
+        ∷ (is_none ⟦<Defaulted<i8> as Deserialize<'de, R>>⟧.absent
+        ∷ (is_none ⟦<Option<String> as Deserialize<'de, R>>⟧.absent
+        ∷ (is_none ⟦<Defaulted<bool> as Deserialize<'de, R>>⟧.absent
+        ∷ (is_none ⟦<Defaulted<char> as Deserialize<'de, R>>⟧.absent
+        ∷ (is_none ⟦<Defaulted<(u16, u16)> as Deserialize<'de, R>>⟧.absent ∷ (is_none ⟦<Defaulted<Level> as Deserialize<'de, R>>⟧.absent ∷ [])))))))))
         (part_of ⟦<String as Deserialize<'de, R>>⟧.reads ⟦<String as Deserialize<'de, R>>⟧.refuses
         ∷ (part_of ⟦<Defaulted<u16> as Deserialize<'de, R>>⟧.reads ⟦<Defaulted<u16> as Deserialize<'de, R>>⟧.refuses
         ∷ (part_of ⟦<Defaulted<i32> as Deserialize<'de, R>>⟧.reads ⟦<Defaulted<i32> as Deserialize<'de, R>>⟧.refuses
@@ -482,11 +483,10 @@ impl<'de, R: ReadSlice<'de>> Deserialize<'de, R> for Lists {
     ghost absent = { None };
 
     ghost refuses = { RefusesFields (codes "name" ∷ (codes "all" ∷ (codes "counts" ∷ (codes "seen" ∷ (codes "raw" ∷ [])))))
-        (reads_5 ⟦<Defaulted<String> as Deserialize<'de, R>>⟧.reads ⟦<Defaulted<String> as Deserialize<'de, R>>⟧.absent
-        ⟦<Defaulted<Vec<u16>> as Deserialize<'de, R>>⟧.reads ⟦<Defaulted<Vec<u16>> as Deserialize<'de, R>>⟧.absent
-        ⟦<Defaulted<BTreeMap<String, u64>> as Deserialize<'de, R>>⟧.reads ⟦<Defaulted<BTreeMap<String, u64>> as Deserialize<'de, R>>⟧.absent
-        ⟦<Defaulted<BTreeSet<u32>> as Deserialize<'de, R>>⟧.reads ⟦<Defaulted<BTreeSet<u32>> as Deserialize<'de, R>>⟧.absent
-        ⟦<Defaulted<ByteBuf> as Deserialize<'de, R>>⟧.reads ⟦<Defaulted<ByteBuf> as Deserialize<'de, R>>⟧.absent)
+        (is_none ⟦<Defaulted<String> as Deserialize<'de, R>>⟧.absent
+        ∷ (is_none ⟦<Defaulted<Vec<u16>> as Deserialize<'de, R>>⟧.absent
+        ∷ (is_none ⟦<Defaulted<BTreeMap<String, u64>> as Deserialize<'de, R>>⟧.absent
+        ∷ (is_none ⟦<Defaulted<BTreeSet<u32>> as Deserialize<'de, R>>⟧.absent ∷ (is_none ⟦<Defaulted<ByteBuf> as Deserialize<'de, R>>⟧.absent ∷ [])))))
         (part_of ⟦<Defaulted<String> as Deserialize<'de, R>>⟧.reads ⟦<Defaulted<String> as Deserialize<'de, R>>⟧.refuses
         ∷ (part_of ⟦<Defaulted<Vec<u16>> as Deserialize<'de, R>>⟧.reads ⟦<Defaulted<Vec<u16>> as Deserialize<'de, R>>⟧.refuses
         ∷ (part_of ⟦<Defaulted<BTreeMap<String, u64>> as Deserialize<'de, R>>⟧.reads ⟦<Defaulted<BTreeMap<String, u64>> as Deserialize<'de, R>>⟧.refuses
@@ -653,7 +653,7 @@ impl<'de, R: ReadSlice<'de>> Deserialize<'de, R> for Once {
 
     ghost absent = { None };
 
-    ghost refuses = { RefusesFields (codes "times" ∷ []) ⟦<(Defaulted<u8>, ()) as ReadFields<'de, R>>⟧.reads
+    ghost refuses = { RefusesFields (codes "times" ∷ []) ⟦<(Defaulted<u8>, ()) as ReadFields<'de, R>>⟧.needed
         ⟦<(Defaulted<u8>, ()) as ReadFields<'de, R>>⟧.parts };
 
     #[inline(always)]

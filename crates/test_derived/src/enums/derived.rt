@@ -348,7 +348,7 @@ impl<'de, R: ReadSlice<'de>> Deserialize<'de, R> for Four {
         (no_content ∷ (with_content (⟦<u8 as Deserialize<'de, R>>⟧.refuses)
         ∷ (with_content (RefusesTuple (part_of ⟦<u8 as Deserialize<'de, R>>⟧.reads ⟦<u8 as Deserialize<'de, R>>⟧.refuses
         ∷ (part_of ⟦<u16 as Deserialize<'de, R>>⟧.reads ⟦<u16 as Deserialize<'de, R>>⟧.refuses ∷ [])))
-        ∷ (with_content (RefusesFields (codes "a" ∷ (codes "b" ∷ [])) ⟦<(u8, (String, ())) as ReadFields<'de, R>>⟧.reads
+        ∷ (with_content (RefusesFields (codes "a" ∷ (codes "b" ∷ [])) ⟦<(u8, (String, ())) as ReadFields<'de, R>>⟧.needed
         ⟦<(u8, (String, ())) as ReadFields<'de, R>>⟧.parts) ∷ [])))) };
 
     fn deserialize<C: SerializerConfig>(
@@ -551,7 +551,7 @@ impl<'de, R: ReadSlice<'de>, T: Deserialize<'de, R>> Deserialize<'de, R> for Mix
 
     ghost refuses = { RefusesEnum (codes "Other" ∷ (codes "Kept" ∷ []))
         (with_content (T.refuses) ∷ (with_content (RefusesFields (codes "four" ∷ (codes "dog" ∷ []))
-        ⟦<(Option<Four>, (Dog, ())) as ReadFields<'de, R>>⟧.reads
+        ⟦<(Option<Four>, (Dog, ())) as ReadFields<'de, R>>⟧.needed
         ⟦<(Option<Four>, (Dog, ())) as ReadFields<'de, R>>⟧.parts) ∷ [])) };
 
     fn deserialize<C: SerializerConfig>(

@@ -11,7 +11,6 @@ ghost use Rattle.rmp_decode.specs.Arrays.{Exactly};
 ghost use Rattle.rmp_decode.specs.EnumRefusing.{RefusesEnum, with_content};
 ghost use Rattle.rmp_decode.specs.FieldRefusing.{RefusesFields};
 ghost use Rattle.rmp_decode.specs.Fields.{OfFields, Field, Absent, NoField};
-ghost use Rattle.rmp_decode.specs.ReadFields.{reads_2, reads_3, reads_4};
 ghost use Rattle.rmp_decode.specs.Refusing.{RefusesTuple, part_of};
 ghost use Rattle.rmp_decode.specs.Rows.{AndThen, NoMore, ReadsEach};
 ghost use Rattle.rmp_decode.specs.Seq.{OfRow};
@@ -41,6 +40,7 @@ ghost use Rattle.rmp_round_trip.specs.VariantRounds.{struct_variant_row, newtype
 ghost use Rattle.rmp_wire.specs.Msg.{nil};
 ghost use Rattle.std.proofs.Common.{refl};
 ghost use Rattle.std.proofs.lemmas.Cmp.{on_total, nat_list_cmp_total};
+ghost use Rattle.std.specs.Option.{is_none};
 ghost use Rattle.std.specs.Prelude.{◌≡◌, ◌≢◌, ◌∷◌, [], None, Some, codes, IsSome, string_bytes, pos, negsuc};
 ghost use Rattle.test_derived.specs.declared.enums.Mixed.TheVariants as the_mixed;
 ghost use Rattle.test_derived.specs.declared.kinds.Either.TheVariants as the_either;
@@ -194,7 +194,7 @@ impl<'de, R: ReadSlice<'de>, T: Deserialize<'de, R>> Deserialize<'de, R> for Eit
 
     ghost refuses = { RefusesEnum (codes "Left" ∷ (codes "Right" ∷ []))
         (with_content (T.refuses) ∷ (with_content (RefusesFields (codes "by" ∷ (codes "pair" ∷ []))
-        ⟦<(i32, (Option<Pair<T>>, ())) as ReadFields<'de, R>>⟧.reads
+        ⟦<(i32, (Option<Pair<T>>, ())) as ReadFields<'de, R>>⟧.needed
         ⟦<(i32, (Option<Pair<T>>, ())) as ReadFields<'de, R>>⟧.parts) ∷ [])) };
 
     fn deserialize<C: SerializerConfig>(
@@ -363,10 +363,9 @@ impl<'de, R: ReadSlice<'de>, K: Deserialize<'de, R> + Ord> Deserialize<'de, R> f
     ghost absent = { None };
 
     ghost refuses = { RefusesFields (codes "dogs" ∷ (codes "counts" ∷ (codes "numbers" ∷ [])))
-        (reads_3 ⟦<BTreeMap<String, Dog> as Deserialize<'de, R>>⟧.reads ⟦<BTreeMap<String, Dog> as Deserialize<'de, R>>⟧.absent
-        ⟦<BTreeMap<K, u64> as Deserialize<'de, R>>⟧.reads ⟦<BTreeMap<K, u64> as Deserialize<'de, R>>⟧.absent ⟦<BTreeSet<i16> as Deserialize<'de, R>>⟧.reads
-        ⟦<BTreeSet<i16> as Deserialize<'de, R>>⟧.absent) (part_of ⟦<BTreeMap<String, Dog> as Deserialize<'de, R>>⟧.reads
-        ⟦<BTreeMap<String, Dog> as Deserialize<'de, R>>⟧.refuses
+        (is_none ⟦<BTreeMap<String, Dog> as Deserialize<'de, R>>⟧.absent
+        ∷ (is_none ⟦<BTreeMap<K, u64> as Deserialize<'de, R>>⟧.absent ∷ (is_none ⟦<BTreeSet<i16> as Deserialize<'de, R>>⟧.absent ∷ [])))
+        (part_of ⟦<BTreeMap<String, Dog> as Deserialize<'de, R>>⟧.reads ⟦<BTreeMap<String, Dog> as Deserialize<'de, R>>⟧.refuses
         ∷ (part_of ⟦<BTreeMap<K, u64> as Deserialize<'de, R>>⟧.reads ⟦<BTreeMap<K, u64> as Deserialize<'de, R>>⟧.refuses
         ∷ (part_of ⟦<BTreeSet<i16> as Deserialize<'de, R>>⟧.reads ⟦<BTreeSet<i16> as Deserialize<'de, R>>⟧.refuses ∷ []))) };
 
@@ -537,9 +536,9 @@ impl<'de, R: ReadSlice<'de>> Deserialize<'de, R> for Kennel {
     ghost absent = { None };
 
     ghost refuses = { RefusesFields (codes "dogs" ∷ (codes "four" ∷ (codes "pair" ∷ (codes "either" ∷ []))))
-        (reads_4 ⟦<Vec<Dog> as Deserialize<'de, R>>⟧.reads ⟦<Vec<Dog> as Deserialize<'de, R>>⟧.absent ⟦<Box<Four> as Deserialize<'de, R>>⟧.reads
-        ⟦<Box<Four> as Deserialize<'de, R>>⟧.absent ⟦<Pair<Opt> as Deserialize<'de, R>>⟧.reads ⟦<Pair<Opt> as Deserialize<'de, R>>⟧.absent
-        ⟦<Option<Either<bool>> as Deserialize<'de, R>>⟧.reads ⟦<Option<Either<bool>> as Deserialize<'de, R>>⟧.absent)
+        (is_none ⟦<Vec<Dog> as Deserialize<'de, R>>⟧.absent
+        ∷ (is_none ⟦<Box<Four> as Deserialize<'de, R>>⟧.absent
+        ∷ (is_none ⟦<Pair<Opt> as Deserialize<'de, R>>⟧.absent ∷ (is_none ⟦<Option<Either<bool>> as Deserialize<'de, R>>⟧.absent ∷ []))))
         (part_of ⟦<Vec<Dog> as Deserialize<'de, R>>⟧.reads ⟦<Vec<Dog> as Deserialize<'de, R>>⟧.refuses
         ∷ (part_of ⟦<Box<Four> as Deserialize<'de, R>>⟧.reads ⟦<Box<Four> as Deserialize<'de, R>>⟧.refuses
         ∷ (part_of ⟦<Pair<Opt> as Deserialize<'de, R>>⟧.reads ⟦<Pair<Opt> as Deserialize<'de, R>>⟧.refuses
@@ -820,10 +819,9 @@ impl<'de, R: ReadSlice<'de>> Deserialize<'de, R> for Row {
     ghost absent = { None };
 
     ghost refuses = { RefusesFields (codes "left" ∷ (codes "far" ∷ (codes "kennel" ∷ [])))
-        (reads_3 ⟦<VecDeque<(char, i8)> as Deserialize<'de, R>>⟧.reads ⟦<VecDeque<(char, i8)> as Deserialize<'de, R>>⟧.absent
-        ⟦<[u16; 3] as Deserialize<'de, R>>⟧.reads ⟦<[u16; 3] as Deserialize<'de, R>>⟧.absent ⟦<Kennel as Deserialize<'de, R>>⟧.reads
-        ⟦<Kennel as Deserialize<'de, R>>⟧.absent) (part_of ⟦<VecDeque<(char, i8)> as Deserialize<'de, R>>⟧.reads
-        ⟦<VecDeque<(char, i8)> as Deserialize<'de, R>>⟧.refuses
+        (is_none ⟦<VecDeque<(char, i8)> as Deserialize<'de, R>>⟧.absent
+        ∷ (is_none ⟦<[u16; 3] as Deserialize<'de, R>>⟧.absent ∷ (is_none ⟦<Kennel as Deserialize<'de, R>>⟧.absent ∷ [])))
+        (part_of ⟦<VecDeque<(char, i8)> as Deserialize<'de, R>>⟧.reads ⟦<VecDeque<(char, i8)> as Deserialize<'de, R>>⟧.refuses
         ∷ (part_of ⟦<[u16; 3] as Deserialize<'de, R>>⟧.reads ⟦<[u16; 3] as Deserialize<'de, R>>⟧.refuses
         ∷ (part_of ⟦<Kennel as Deserialize<'de, R>>⟧.reads ⟦<Kennel as Deserialize<'de, R>>⟧.refuses ∷ []))) };
 
@@ -1120,10 +1118,9 @@ impl<'de, R: ReadSlice<'de>> Deserialize<'de, R> for Guests {
     ghost absent = { None };
 
     ghost refuses = { RefusesFields (codes "counted" ∷ (codes "mixed" ∷ []))
-        (reads_2 ⟦<Counted<Opt> as Deserialize<'de, R>>⟧.reads ⟦<Counted<Opt> as Deserialize<'de, R>>⟧.absent ⟦<Mixed<bool> as Deserialize<'de, R>>⟧.reads
-        ⟦<Mixed<bool> as Deserialize<'de, R>>⟧.absent) (part_of ⟦<Counted<Opt> as Deserialize<'de, R>>⟧.reads
-        ⟦<Counted<Opt> as Deserialize<'de, R>>⟧.refuses ∷ (part_of ⟦<Mixed<bool> as Deserialize<'de, R>>⟧.reads
-        ⟦<Mixed<bool> as Deserialize<'de, R>>⟧.refuses ∷ [])) };
+        (is_none ⟦<Counted<Opt> as Deserialize<'de, R>>⟧.absent ∷ (is_none ⟦<Mixed<bool> as Deserialize<'de, R>>⟧.absent ∷ []))
+        (part_of ⟦<Counted<Opt> as Deserialize<'de, R>>⟧.reads ⟦<Counted<Opt> as Deserialize<'de, R>>⟧.refuses
+        ∷ (part_of ⟦<Mixed<bool> as Deserialize<'de, R>>⟧.reads ⟦<Mixed<bool> as Deserialize<'de, R>>⟧.refuses ∷ [])) };
 
     #[inline(always)]
     fn deserialize<C: SerializerConfig>(

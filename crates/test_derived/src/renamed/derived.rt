@@ -5,7 +5,6 @@
 ghost use Rattle.rmp_decode.specs.EnumRefusing.{RefusesEnum, no_content, with_content};
 ghost use Rattle.rmp_decode.specs.FieldRefusing.{RefusesFields};
 ghost use Rattle.rmp_decode.specs.Fields.{OfFields, Field, Absent, NoField};
-ghost use Rattle.rmp_decode.specs.ReadFields.{reads_3};
 ghost use Rattle.rmp_decode.specs.Refusing.{part_of};
 ghost use Rattle.rmp_decode.specs.Variants.{OfVariant, Case, NoCase, Bare, Content};
 ghost use Rattle.rmp_encode.specs.Data.{unit_variant};
@@ -26,6 +25,7 @@ ghost use Rattle.rmp_round_trip.specs.StructRounds.{structure_all, struct_varian
 ghost use Rattle.rmp_round_trip.specs.VariantRounds.{bare_other, newtype_variant_other, struct_variant_other};
 ghost use Rattle.rmp_round_trip.specs.VariantRounds.{newtype_variant_some, bare_row, newtype_variant_row, struct_variant_row};
 ghost use Rattle.std.proofs.Common.{refl};
+ghost use Rattle.std.specs.Option.{is_none};
 ghost use Rattle.std.specs.Prelude.{◌≡◌, ◌∷◌, [], None, Some, codes, false, ⊤, string_bytes};
 ghost use Rattle.test_derived.specs.declared.renamed.Way.TheVariants as the_way;
 
@@ -78,8 +78,8 @@ impl<'de, R: ReadSlice<'de>> Deserialize<'de, R> for Parcel {
     ghost absent = { None };
 
     ghost refuses = { RefusesFields (codes "sentBy" ∷ (codes "type" ∷ (codes "paidAt" ∷ [])))
-        (reads_3 ⟦<String as Deserialize<'de, R>>⟧.reads ⟦<String as Deserialize<'de, R>>⟧.absent ⟦<u8 as Deserialize<'de, R>>⟧.reads
-        ⟦<u8 as Deserialize<'de, R>>⟧.absent ⟦<Option<u64> as Deserialize<'de, R>>⟧.reads ⟦<Option<u64> as Deserialize<'de, R>>⟧.absent)
+        (is_none ⟦<String as Deserialize<'de, R>>⟧.absent ∷
+        (is_none ⟦<u8 as Deserialize<'de, R>>⟧.absent ∷ (is_none ⟦<Option<u64> as Deserialize<'de, R>>⟧.absent ∷ [])))
         (part_of ⟦<String as Deserialize<'de, R>>⟧.reads ⟦<String as Deserialize<'de, R>>⟧.refuses
         ∷ (part_of ⟦<u8 as Deserialize<'de, R>>⟧.reads ⟦<u8 as Deserialize<'de, R>>⟧.refuses
         ∷ (part_of ⟦<Option<u64> as Deserialize<'de, R>>⟧.reads ⟦<Option<u64> as Deserialize<'de, R>>⟧.refuses ∷ []))) };
@@ -218,7 +218,7 @@ impl<'de, R: ReadSlice<'de>> Deserialize<'de, R> for Way {
     ghost absent = { None };
 
     ghost refuses = { RefusesEnum (codes "by-air" ∷ (codes "over-land" ∷ (codes "sea" ∷ [])))
-        (no_content ∷ (with_content (RefusesFields (codes "daysLeft" ∷ (codes "by" ∷ [])) ⟦<(u8, (String, ())) as ReadFields<'de, R>>⟧.reads
+        (no_content ∷ (with_content (RefusesFields (codes "daysLeft" ∷ (codes "by" ∷ [])) ⟦<(u8, (String, ())) as ReadFields<'de, R>>⟧.needed
         ⟦<(u8, (String, ())) as ReadFields<'de, R>>⟧.parts) ∷ (with_content (⟦<u16 as Deserialize<'de, R>>⟧.refuses) ∷ []))) };
 
     fn deserialize<C: SerializerConfig>(

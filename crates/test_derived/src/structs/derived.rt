@@ -9,7 +9,6 @@
 ghost use Rattle.rmp_decode.specs.Exact.{RefusesExactly};
 ghost use Rattle.rmp_decode.specs.FieldRefusing.{RefusesFields};
 ghost use Rattle.rmp_decode.specs.Fields.{OfFields, Field, Absent, NoField};
-ghost use Rattle.rmp_decode.specs.ReadFields.{reads_2};
 ghost use Rattle.rmp_decode.specs.Refusing.{RefusesTuple, part_of};
 ghost use Rattle.rmp_decode.specs.Rows.{AndThen, NoMore};
 ghost use Rattle.rmp_decode.specs.Seq.{OfRow};
@@ -31,6 +30,7 @@ ghost use Rattle.rmp_round_trip.specs.Rounds.{option_some, option_row, sequence_
 ghost use Rattle.rmp_round_trip.specs.StructRounds.{sequence_all, structure_all, structure_row, structure_other, fields_none, fields_cons};
 ghost use Rattle.rmp_round_trip.specs.VariantRounds.{newtype_some, nothing_row, newtype_row, nothing_other, newtype_other};
 ghost use Rattle.std.proofs.Common.{refl};
+ghost use Rattle.std.specs.Option.{is_none};
 ghost use Rattle.std.specs.Prelude.{◌∷◌, [], None, Some, codes, false, ⊤, string_bytes};
 
 use super::{Counted, Dog, Newtype, Opt, Point, Unit};
@@ -76,8 +76,8 @@ impl<'de, R: ReadSlice<'de>> Deserialize<'de, R> for Dog {
     ghost absent = { None };
 
     ghost refuses = { RefusesFields (codes "name" ∷ (codes "age" ∷ []))
-        (reads_2 ⟦<String as Deserialize<'de, R>>⟧.reads ⟦<String as Deserialize<'de, R>>⟧.absent ⟦<u16 as Deserialize<'de, R>>⟧.reads
-        ⟦<u16 as Deserialize<'de, R>>⟧.absent) (part_of ⟦<String as Deserialize<'de, R>>⟧.reads ⟦<String as Deserialize<'de, R>>⟧.refuses
+        (is_none ⟦<String as Deserialize<'de, R>>⟧.absent ∷ (is_none ⟦<u16 as Deserialize<'de, R>>⟧.absent ∷ []))
+        (part_of ⟦<String as Deserialize<'de, R>>⟧.reads ⟦<String as Deserialize<'de, R>>⟧.refuses
         ∷ (part_of ⟦<u16 as Deserialize<'de, R>>⟧.reads ⟦<u16 as Deserialize<'de, R>>⟧.refuses ∷ [])) };
 
     #[inline(always)]
@@ -162,7 +162,7 @@ impl<'de, R: ReadSlice<'de>> Deserialize<'de, R> for Opt {
 
     ghost absent = { None };
 
-    ghost refuses = { RefusesFields (codes "v" ∷ []) ⟦<(Option<u8>, ()) as ReadFields<'de, R>>⟧.reads
+    ghost refuses = { RefusesFields (codes "v" ∷ []) ⟦<(Option<u8>, ()) as ReadFields<'de, R>>⟧.needed
         ⟦<(Option<u8>, ()) as ReadFields<'de, R>>⟧.parts };
 
     #[inline(always)]
@@ -461,7 +461,7 @@ impl<'de, R: ReadSlice<'de>, T: Deserialize<'de, R>> Deserialize<'de, R> for Cou
     ghost absent = { None };
 
     ghost refuses = { RefusesFields (codes "value" ∷ (codes "count" ∷ []))
-        (reads_2 T.reads T.absent ⟦<u64 as Deserialize<'de, R>>⟧.reads ⟦<u64 as Deserialize<'de, R>>⟧.absent)
+        (is_none T.absent ∷ (is_none ⟦<u64 as Deserialize<'de, R>>⟧.absent ∷ []))
         (part_of T.reads T.refuses ∷ (part_of ⟦<u64 as Deserialize<'de, R>>⟧.reads ⟦<u64 as Deserialize<'de, R>>⟧.refuses ∷ [])) };
 
     #[inline(always)]

@@ -4,7 +4,6 @@
 //! Sum of Second: 1068687b.
 ghost use Rattle.rmp_decode.specs.FieldRefusing.{RefusesFields};
 ghost use Rattle.rmp_decode.specs.Fields.{OfFields, Field, Absent, NoField};
-ghost use Rattle.rmp_decode.specs.ReadFields.{reads_2, reads_3};
 ghost use Rattle.rmp_decode.specs.Refusing.{part_of};
 ghost use Rattle.rmp_encode.specs.Refusals.{OfParts};
 ghost use Rattle.rmp_encode.specs.Sizes.{one_of};
@@ -20,6 +19,7 @@ ghost use Rattle.rmp_round_trip.specs.RoundTrip.{Only};
 ghost use Rattle.rmp_round_trip.specs.Rounds.{option_some, option_row};
 ghost use Rattle.rmp_round_trip.specs.StructRounds.{structure_all, structure_row, structure_other, fields_none, fields_cons};
 ghost use Rattle.std.proofs.Common.{refl};
+ghost use Rattle.std.specs.Option.{is_none};
 ghost use Rattle.std.specs.Prelude.{◌∷◌, [], None, codes, string_bytes};
 
 use super::{First, Second};
@@ -65,8 +65,8 @@ impl<'de, R: ReadSlice<'de>> Deserialize<'de, R> for First {
     ghost absent = { None };
 
     ghost refuses = { RefusesFields (codes "place" ∷ (codes "level" ∷ []))
-        (reads_2 ⟦<String as Deserialize<'de, R>>⟧.reads ⟦<String as Deserialize<'de, R>>⟧.absent ⟦<u16 as Deserialize<'de, R>>⟧.reads
-        ⟦<u16 as Deserialize<'de, R>>⟧.absent) (part_of ⟦<String as Deserialize<'de, R>>⟧.reads ⟦<String as Deserialize<'de, R>>⟧.refuses
+        (is_none ⟦<String as Deserialize<'de, R>>⟧.absent ∷ (is_none ⟦<u16 as Deserialize<'de, R>>⟧.absent ∷ []))
+        (part_of ⟦<String as Deserialize<'de, R>>⟧.reads ⟦<String as Deserialize<'de, R>>⟧.refuses
         ∷ (part_of ⟦<u16 as Deserialize<'de, R>>⟧.reads ⟦<u16 as Deserialize<'de, R>>⟧.refuses ∷ [])) };
 
     #[inline(always)]
@@ -163,8 +163,8 @@ impl<'de, R: ReadSlice<'de>> Deserialize<'de, R> for Second {
     ghost absent = { None };
 
     ghost refuses = { RefusesFields (codes "level" ∷ (codes "note" ∷ (codes "place" ∷ [])))
-        (reads_3 ⟦<u16 as Deserialize<'de, R>>⟧.reads ⟦<u16 as Deserialize<'de, R>>⟧.absent ⟦<Option<String> as Deserialize<'de, R>>⟧.reads
-        ⟦<Option<String> as Deserialize<'de, R>>⟧.absent ⟦<String as Deserialize<'de, R>>⟧.reads ⟦<String as Deserialize<'de, R>>⟧.absent)
+        (is_none ⟦<u16 as Deserialize<'de, R>>⟧.absent ∷ (is_none ⟦<Option<String> as Deserialize<'de, R>>⟧.absent
+        ∷ (is_none ⟦<String as Deserialize<'de, R>>⟧.absent ∷ [])))
         (part_of ⟦<u16 as Deserialize<'de, R>>⟧.reads ⟦<u16 as Deserialize<'de, R>>⟧.refuses
         ∷ (part_of ⟦<Option<String> as Deserialize<'de, R>>⟧.reads ⟦<Option<String> as Deserialize<'de, R>>⟧.refuses
         ∷ (part_of ⟦<String as Deserialize<'de, R>>⟧.reads ⟦<String as Deserialize<'de, R>>⟧.refuses ∷ []))) };

@@ -219,11 +219,11 @@ impl<'de, R: ReadSlice<'de>> Deserialize<'de, R> for Entry {
     ghost refuses = { RefusesEnum (codes "Closed" ∷ (codes "Harbour"
         ∷ (codes "Queue" ∷ (codes "Convoy" ∷ (codes "Tally" ∷ (codes "Shift" ∷ (codes "Canal" ∷ [])))))))
         (no_content ∷ (with_content (RefusesFields (codes "name" ∷ (codes "berths" ∷ (codes "depth" ∷ (codes "notes" ∷ []))))
-        ⟦<(String, Defaulted<u16>, Defaulted<i32>, Defaulted<Vec<String>>, ()) as ReadFields<'de, R>>⟧.reads
+        ⟦<(String, Defaulted<u16>, Defaulted<i32>, Defaulted<Vec<String>>, ()) as ReadFields<'de, R>>⟧.needed
         ⟦<(String, Defaulted<u16>, Defaulted<i32>, Defaulted<Vec<String>>, ()) as ReadFields<'de, R>>⟧.parts)
         ∷ (with_content (RefusesTuple (part_of ⟦<Vec<u16> as Deserialize<'de, R>>⟧.reads ⟦<Vec<u16> as Deserialize<'de, R>>⟧.refuses
         ∷ (part_of ⟦<u8 as Deserialize<'de, R>>⟧.reads ⟦<u8 as Deserialize<'de, R>>⟧.refuses ∷ [])))
-        ∷ (with_content (RefusesFields (codes "ships" ∷ (codes "led" ∷ [])) ⟦<(Vec<String>, (bool, ())) as ReadFields<'de, R>>⟧.reads
+        ∷ (with_content (RefusesFields (codes "ships" ∷ (codes "led" ∷ [])) ⟦<(Vec<String>, (bool, ())) as ReadFields<'de, R>>⟧.needed
         ⟦<(Vec<String>, (bool, ())) as ReadFields<'de, R>>⟧.parts)
         ∷ (with_content (RefusesTuple (part_of ⟦<BTreeMap<String, u64> as Deserialize<'de, R>>⟧.reads
         ⟦<BTreeMap<String, u64> as Deserialize<'de, R>>⟧.refuses
@@ -231,7 +231,7 @@ impl<'de, R: ReadSlice<'de>> Deserialize<'de, R> for Entry {
         ∷ (with_content (RefusesTuple (part_of ⟦<Vec<u8> as Deserialize<'de, R>>⟧.reads ⟦<Vec<u8> as Deserialize<'de, R>>⟧.refuses
         ∷ (part_of ⟦<Vec<(u8, char)> as Deserialize<'de, R>>⟧.reads ⟦<Vec<(u8, char)> as Deserialize<'de, R>>⟧.refuses ∷ [])))
         ∷ (with_content (RefusesFields (codes "locked" ∷ (codes "width" ∷ (codes "berths" ∷ [])))
-        ⟦<(Defaulted<bool>, (Option<u16>, (Defaulted<u16>, ()))) as ReadFields<'de, R>>⟧.reads
+        ⟦<(Defaulted<bool>, (Option<u16>, (Defaulted<u16>, ()))) as ReadFields<'de, R>>⟧.needed
         ⟦<(Defaulted<bool>, (Option<u16>, (Defaulted<u16>, ()))) as ReadFields<'de, R>>⟧.parts) ∷ []))))))) };
 
     fn deserialize<C: SerializerConfig>(

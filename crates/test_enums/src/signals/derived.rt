@@ -469,14 +469,14 @@ impl<'de, R: ReadSlice<'de>> Deserialize<'de, R> for Signal {
         (no_content ∷ (with_content (⟦<String as Deserialize<'de, R>>⟧.refuses)
         ∷ (with_content (RefusesTuple (part_of ⟦<i32 as Deserialize<'de, R>>⟧.reads ⟦<i32 as Deserialize<'de, R>>⟧.refuses
         ∷ (part_of ⟦<i32 as Deserialize<'de, R>>⟧.reads ⟦<i32 as Deserialize<'de, R>>⟧.refuses ∷ [])))
-        ∷ (with_content (RefusesFields (codes "course" ∷ (codes "reef" ∷ [])) ⟦<(Course, (u8, ())) as ReadFields<'de, R>>⟧.reads
+        ∷ (with_content (RefusesFields (codes "course" ∷ (codes "reef" ∷ [])) ⟦<(Course, (u8, ())) as ReadFields<'de, R>>⟧.needed
         ⟦<(Course, (u8, ())) as ReadFields<'de, R>>⟧.parts)
         ∷ (no_content ∷ (with_content (⟦<u16 as Deserialize<'de, R>>⟧.refuses)
         ∷ (with_content (⟦<[u16; 4] as Deserialize<'de, R>>⟧.refuses)
         ∷ (with_content (⟦<Spot as Deserialize<'de, R>>⟧.refuses)
         ∷ (with_content (⟦<Vec<String> as Deserialize<'de, R>>⟧.refuses)
         ∷ (with_content (RefusesFields (codes "spot" ∷ (codes "hour" ∷ (codes "name" ∷ [])))
-        ⟦<(Spot, (u8, (Option<String>, ()))) as ReadFields<'de, R>>⟧.reads
+        ⟦<(Spot, (u8, (Option<String>, ()))) as ReadFields<'de, R>>⟧.needed
         ⟦<(Spot, (u8, (Option<String>, ()))) as ReadFields<'de, R>>⟧.parts)
         ∷ (no_content ∷ (with_content (⟦<i16 as Deserialize<'de, R>>⟧.refuses)
         ∷ (with_content (RefusesTuple (part_of ⟦<F64Bits as Deserialize<'de, R>>⟧.reads ⟦<F64Bits as Deserialize<'de, R>>⟧.refuses
@@ -484,13 +484,13 @@ impl<'de, R: ReadSlice<'de>> Deserialize<'de, R> for Signal {
         ∷ (with_content (⟦<BTreeMap<String, u64> as Deserialize<'de, R>>⟧.refuses)
         ∷ (with_content (⟦<BTreeSet<u16> as Deserialize<'de, R>>⟧.refuses)
         ∷ (with_content (RefusesFields (codes "name" ∷ (codes "seal" ∷ (codes "chart" ∷ [])))
-        ⟦<(String, (u128, (ByteBuf, ()))) as ReadFields<'de, R>>⟧.reads
+        ⟦<(String, (u128, (ByteBuf, ()))) as ReadFields<'de, R>>⟧.needed
         ⟦<(String, (u128, (ByteBuf, ()))) as ReadFields<'de, R>>⟧.parts)
         ∷ (with_content (⟦<bool as Deserialize<'de, R>>⟧.refuses)
         ∷ (with_content (⟦<Course as Deserialize<'de, R>>⟧.refuses)
         ∷ (with_content (⟦<(u8, String) as Deserialize<'de, R>>⟧.refuses)
         ∷ (with_content (⟦<Option<u32> as Deserialize<'de, R>>⟧.refuses)
-        ∷ (with_content (RefusesFields (codes "name" ∷ []) ⟦<(String, ()) as ReadFields<'de, R>>⟧.reads
+        ∷ (with_content (RefusesFields (codes "name" ∷ []) ⟦<(String, ()) as ReadFields<'de, R>>⟧.needed
         ⟦<(String, ()) as ReadFields<'de, R>>⟧.parts) ∷ (no_content
         ∷ (with_content (RefusesTuple (part_of ⟦<u8 as Deserialize<'de, R>>⟧.reads ⟦<u8 as Deserialize<'de, R>>⟧.refuses
         ∷ (part_of ⟦<u16 as Deserialize<'de, R>>⟧.reads ⟦<u16 as Deserialize<'de, R>>⟧.refuses
@@ -499,10 +499,10 @@ impl<'de, R: ReadSlice<'de>> Deserialize<'de, R> for Signal {
         ∷ (with_content (⟦<i128 as Deserialize<'de, R>>⟧.refuses)
         ∷ (with_content (⟦<() as Deserialize<'de, R>>⟧.refuses)
         ∷ (with_content (RefusesFields (codes "left" ∷ (codes "right" ∷ (codes "top" ∷ (codes "lit" ∷ []))))
-        ⟦<(u8, u8, [u8; 2], bool, ()) as ReadFields<'de, R>>⟧.reads
+        ⟦<(u8, u8, [u8; 2], bool, ()) as ReadFields<'de, R>>⟧.needed
         ⟦<(u8, u8, [u8; 2], bool, ()) as ReadFields<'de, R>>⟧.parts)
         ∷ (with_content (⟦<Vec<(u8, char)> as Deserialize<'de, R>>⟧.refuses)
-        ∷ (with_content (RefusesFields (codes "by" ∷ (codes "since" ∷ [])) ⟦<(Box<Spot>, (i64, ())) as ReadFields<'de, R>>⟧.reads
+        ∷ (with_content (RefusesFields (codes "by" ∷ (codes "since" ∷ [])) ⟦<(Box<Spot>, (i64, ())) as ReadFields<'de, R>>⟧.needed
         ⟦<(Box<Spot>, (i64, ())) as ReadFields<'de, R>>⟧.parts)
         ∷ (with_content (RefusesTuple (part_of ⟦<Option<(u16, u16)> as Deserialize<'de, R>>⟧.reads ⟦<Option<(u16, u16)> as Deserialize<'de, R>>⟧.refuses
         ∷ (part_of ⟦<bool as Deserialize<'de, R>>⟧.reads ⟦<bool as Deserialize<'de, R>>⟧.refuses ∷ [])))

@@ -116,11 +116,11 @@ fn read_dir<R: Source, C: SerializerConfig, P: ReadPlaces<R> + ReadLeaves<R>>(
             Err(e) => return Err(e),
         }
     }
-    let value0 = match fields.given_or(slot0, None) {
+    let value0 = match fields.given_or("size", slot0, None) {
         Ok(value) => value,
         Err(e) => return Err(e),
     };
-    let value1 = match fields.given_or(slot1, None) {
+    let value1 = match fields.given_or("dirs", slot1, None) {
         Ok(value) => value,
         Err(e) => return Err(e),
     };
@@ -282,11 +282,11 @@ fn read_menu_part_fields<
             Err(e) => return Err(e),
         }
     }
-    let value0 = match fields.given_or(slot0, None) {
+    let value0 = match fields.given_or("name", slot0, None) {
         Ok(value) => value,
         Err(e) => return Err(e),
     };
-    let value1 = match fields.given_or(slot1, None) {
+    let value1 = match fields.given_or("menus", slot1, None) {
         Ok(value) => value,
         Err(e) => return Err(e),
     };

@@ -7,7 +7,6 @@
 ghost use Rattle.rmp_decode.specs.EnumRefusing.{RefusesEnum, no_content, with_content};
 ghost use Rattle.rmp_decode.specs.FieldRefusing.{RefusesFields};
 ghost use Rattle.rmp_decode.specs.Fields.{OfFields, Field, Absent, NoField};
-ghost use Rattle.rmp_decode.specs.ReadFields.{reads_4};
 ghost use Rattle.rmp_decode.specs.Refusing.{RefusesTuple, part_of};
 ghost use Rattle.rmp_decode.specs.Rows.{AndThen, NoMore, ReadsEach};
 ghost use Rattle.rmp_decode.specs.Seq.{OfRow};
@@ -37,6 +36,7 @@ ghost use Rattle.rmp_round_trip.specs.VariantRounds.{newtype_some, newtype_varia
 ghost use Rattle.rmp_round_trip.specs.VariantRounds.{newtype_variant_row, tuple_variant_row, struct_variant_row, newtype_other};
 ghost use Rattle.rmp_wire.specs.Types.{bytes_of};
 ghost use Rattle.std.proofs.Common.{refl};
+ghost use Rattle.std.specs.Option.{is_none};
 ghost use Rattle.std.specs.Prelude.{◌≡◌, ◌∷◌, [], None, Some, codes, false, ⊤, OnOk, IfErr, ◌||◌, true, pos, negsuc};
 ghost use Rattle.test_lent.specs.declared.lent.Event.TheVariants as the_event;
 
@@ -124,9 +124,8 @@ impl<'de, R: ReadSlice<'de>> Deserialize<'de, R> for Line<'de> {
     ghost absent = { None };
 
     ghost refuses = { RefusesFields (codes "level" ∷ (codes "text" ∷ (codes "tags" ∷ (codes "source" ∷ []))))
-        (reads_4 ⟦<u8 as Deserialize<'de, R>>⟧.reads ⟦<u8 as Deserialize<'de, R>>⟧.absent ⟦<&'de str as Deserialize<'de, R>>⟧.reads
-        ⟦<&'de str as Deserialize<'de, R>>⟧.absent ⟦<Vec<&'de str> as Deserialize<'de, R>>⟧.reads ⟦<Vec<&'de str> as Deserialize<'de, R>>⟧.absent
-        ⟦<Option<&'de str> as Deserialize<'de, R>>⟧.reads ⟦<Option<&'de str> as Deserialize<'de, R>>⟧.absent)
+        (is_none ⟦<u8 as Deserialize<'de, R>>⟧.absent ∷ (is_none ⟦<&'de str as Deserialize<'de, R>>⟧.absent
+        ∷ (is_none ⟦<Vec<&'de str> as Deserialize<'de, R>>⟧.absent ∷ (is_none ⟦<Option<&'de str> as Deserialize<'de, R>>⟧.absent ∷ []))))
         (part_of ⟦<u8 as Deserialize<'de, R>>⟧.reads ⟦<u8 as Deserialize<'de, R>>⟧.refuses
         ∷ (part_of ⟦<&'de str as Deserialize<'de, R>>⟧.reads ⟦<&'de str as Deserialize<'de, R>>⟧.refuses
         ∷ (part_of ⟦<Vec<&'de str> as Deserialize<'de, R>>⟧.reads ⟦<Vec<&'de str> as Deserialize<'de, R>>⟧.refuses
@@ -526,7 +525,7 @@ impl<'de, R: ReadSlice<'de>, T: Deserialize<'de, R>> Deserialize<'de, R> for Eve
         (no_content ∷ (with_content (⟦<&'de str as Deserialize<'de, R>>⟧.refuses)
         ∷ (with_content (RefusesTuple (part_of ⟦<i16 as Deserialize<'de, R>>⟧.reads ⟦<i16 as Deserialize<'de, R>>⟧.refuses
         ∷ (part_of ⟦<Label<'de> as Deserialize<'de, R>>⟧.reads ⟦<Label<'de> as Deserialize<'de, R>>⟧.refuses ∷ [])))
-        ∷ (with_content (RefusesFields (codes "key" ∷ (codes "size" ∷ [])) ⟦<(&'de str, (u32, ())) as ReadFields<'de, R>>⟧.reads
+        ∷ (with_content (RefusesFields (codes "key" ∷ (codes "size" ∷ [])) ⟦<(&'de str, (u32, ())) as ReadFields<'de, R>>⟧.needed
         ⟦<(&'de str, (u32, ())) as ReadFields<'de, R>>⟧.parts) ∷ (with_content (T.refuses) ∷ []))))) };
 
     fn deserialize<C: SerializerConfig>(

@@ -5,7 +5,6 @@
 //! Sum of Coast: 29815599.
 ghost use Rattle.rmp_decode.specs.FieldRefusing.{RefusesFields};
 ghost use Rattle.rmp_decode.specs.Fields.{OfFields, Field, Absent, NoField};
-ghost use Rattle.rmp_decode.specs.ReadFields.{reads_2};
 ghost use Rattle.rmp_decode.specs.Refusing.{part_of};
 ghost use Rattle.rmp_decode.specs.Rows.{ReadsEach};
 ghost use Rattle.rmp_encode.specs.Refusals.{OfParts};
@@ -22,6 +21,7 @@ ghost use Rattle.rmp_round_trip.specs.RoundTrip.{Only};
 ghost use Rattle.rmp_round_trip.specs.Rounds.{each_some, each_row, option_some, option_row, slice_some, slice_row};
 ghost use Rattle.rmp_round_trip.specs.StructRounds.{structure_all, structure_row, structure_other, fields_none, fields_cons};
 ghost use Rattle.std.proofs.Common.{refl};
+ghost use Rattle.std.specs.Option.{is_none};
 ghost use Rattle.std.specs.Prelude.{◌∷◌, [], None, codes, string_bytes};
 
 use super::{Buoy, Coast, Light};
@@ -40,8 +40,8 @@ impl<'de, R: ReadSlice<'de>> Deserialize<'de, R> for Buoy {
     ghost absent = { None };
 
     ghost refuses = { RefusesFields (codes "name" ∷ (codes "depth" ∷ []))
-        (reads_2 ⟦<String as Deserialize<'de, R>>⟧.reads ⟦<String as Deserialize<'de, R>>⟧.absent ⟦<u16 as Deserialize<'de, R>>⟧.reads
-        ⟦<u16 as Deserialize<'de, R>>⟧.absent) (part_of ⟦<String as Deserialize<'de, R>>⟧.reads ⟦<String as Deserialize<'de, R>>⟧.refuses
+        (is_none ⟦<String as Deserialize<'de, R>>⟧.absent ∷ (is_none ⟦<u16 as Deserialize<'de, R>>⟧.absent ∷ []))
+        (part_of ⟦<String as Deserialize<'de, R>>⟧.reads ⟦<String as Deserialize<'de, R>>⟧.refuses
         ∷ (part_of ⟦<u16 as Deserialize<'de, R>>⟧.reads ⟦<u16 as Deserialize<'de, R>>⟧.refuses ∷ [])) };
 
     #[inline(always)]
@@ -189,8 +189,8 @@ impl<'de, R: ReadSlice<'de>> Deserialize<'de, R> for Coast {
     ghost absent = { None };
 
     ghost refuses = { RefusesFields (codes "buoys" ∷ (codes "light" ∷ []))
-        (reads_2 ⟦<Vec<Buoy> as Deserialize<'de, R>>⟧.reads ⟦<Vec<Buoy> as Deserialize<'de, R>>⟧.absent ⟦<Option<Light> as Deserialize<'de, R>>⟧.reads
-        ⟦<Option<Light> as Deserialize<'de, R>>⟧.absent) (part_of ⟦<Vec<Buoy> as Deserialize<'de, R>>⟧.reads ⟦<Vec<Buoy> as Deserialize<'de, R>>⟧.refuses
+        (is_none ⟦<Vec<Buoy> as Deserialize<'de, R>>⟧.absent ∷ (is_none ⟦<Option<Light> as Deserialize<'de, R>>⟧.absent ∷ []))
+        (part_of ⟦<Vec<Buoy> as Deserialize<'de, R>>⟧.reads ⟦<Vec<Buoy> as Deserialize<'de, R>>⟧.refuses
         ∷ (part_of ⟦<Option<Light> as Deserialize<'de, R>>⟧.reads ⟦<Option<Light> as Deserialize<'de, R>>⟧.refuses ∷ [])) };
 
     #[inline(always)]

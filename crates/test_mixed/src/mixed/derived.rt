@@ -7,7 +7,6 @@ ghost use Rattle.rmp_decode.specs.Arrays.{Exactly};
 ghost use Rattle.rmp_decode.specs.EnumRefusing.{RefusesEnum, no_content, with_content};
 ghost use Rattle.rmp_decode.specs.FieldRefusing.{RefusesFields};
 ghost use Rattle.rmp_decode.specs.Fields.{OfFields, Field, Absent, NoField};
-ghost use Rattle.rmp_decode.specs.ReadFields.{reads_2, reads_12};
 ghost use Rattle.rmp_decode.specs.Refusing.{RefusesTuple, part_of};
 ghost use Rattle.rmp_decode.specs.Rows.{AndThen, NoMore, ReadsEach};
 ghost use Rattle.rmp_decode.specs.Seq.{OfRow};
@@ -43,6 +42,7 @@ ghost use Rattle.rmp_round_trip.specs.WideRounds.{unsigned128_row};
 ghost use Rattle.rmp_wire.specs.Types.{buffer_bytes};
 ghost use Rattle.std.proofs.Common.{refl};
 ghost use Rattle.std.proofs.lemmas.Cmp.{on_total, nat_list_cmp_total};
+ghost use Rattle.std.specs.Option.{is_none};
 ghost use Rattle.std.specs.Prelude.{◌≡◌, ◌∷◌, [], None, Some, codes, false, ⊤, string_bytes, pos, negsuc};
 ghost use Rattle.test_mixed.specs.declared.mixed.Course.TheVariants as the_course;
 
@@ -137,7 +137,7 @@ impl<'de, R: ReadSlice<'de>> Deserialize<'de, R> for Course {
         (no_content ∷ (with_content (⟦<String as Deserialize<'de, R>>⟧.refuses)
         ∷ (with_content (RefusesTuple (part_of ⟦<u16 as Deserialize<'de, R>>⟧.reads ⟦<u16 as Deserialize<'de, R>>⟧.refuses
         ∷ (part_of ⟦<i32 as Deserialize<'de, R>>⟧.reads ⟦<i32 as Deserialize<'de, R>>⟧.refuses ∷ [])))
-        ∷ (with_content (RefusesFields (codes "wind" ∷ (codes "sails" ∷ [])) ⟦<(F64Bits, ([u8; 2], ())) as ReadFields<'de, R>>⟧.reads
+        ∷ (with_content (RefusesFields (codes "wind" ∷ (codes "sails" ∷ [])) ⟦<(F64Bits, ([u8; 2], ())) as ReadFields<'de, R>>⟧.needed
         ⟦<(F64Bits, ([u8; 2], ())) as ReadFields<'de, R>>⟧.parts) ∷ [])))) };
 
     fn deserialize<C: SerializerConfig>(
@@ -331,8 +331,8 @@ impl<'de, R: ReadSlice<'de>> Deserialize<'de, R> for Spot {
     ghost absent = { None };
 
     ghost refuses = { RefusesFields (codes "north" ∷ (codes "name" ∷ []))
-        (reads_2 ⟦<i32 as Deserialize<'de, R>>⟧.reads ⟦<i32 as Deserialize<'de, R>>⟧.absent ⟦<Option<char> as Deserialize<'de, R>>⟧.reads
-        ⟦<Option<char> as Deserialize<'de, R>>⟧.absent) (part_of ⟦<i32 as Deserialize<'de, R>>⟧.reads ⟦<i32 as Deserialize<'de, R>>⟧.refuses
+        (is_none ⟦<i32 as Deserialize<'de, R>>⟧.absent ∷ (is_none ⟦<Option<char> as Deserialize<'de, R>>⟧.absent ∷ []))
+        (part_of ⟦<i32 as Deserialize<'de, R>>⟧.reads ⟦<i32 as Deserialize<'de, R>>⟧.refuses
         ∷ (part_of ⟦<Option<char> as Deserialize<'de, R>>⟧.reads ⟦<Option<char> as Deserialize<'de, R>>⟧.refuses ∷ [])) };
 
     #[inline(always)]
@@ -492,15 +492,16 @@ impl<'de, R: ReadSlice<'de>> Deserialize<'de, R> for Voyage {
     ghost refuses = { RefusesFields (codes "ship" ∷ (codes "course"
         ∷ (codes "crew" ∷ (codes "seal" ∷ (codes "nothing"
         ∷ (codes "flag" ∷ (codes "spot" ∷ (codes "cargo" ∷ (codes "depths" ∷ (codes "last" ∷ (codes "chart" ∷ (codes "pair" ∷ []))))))))))))
-        (reads_12 ⟦<String as Deserialize<'de, R>>⟧.reads ⟦<String as Deserialize<'de, R>>⟧.absent ⟦<Course as Deserialize<'de, R>>⟧.reads
-        ⟦<Course as Deserialize<'de, R>>⟧.absent ⟦<Vec<(u8, String)> as Deserialize<'de, R>>⟧.reads ⟦<Vec<(u8, String)> as Deserialize<'de, R>>⟧.absent
-        ⟦<u128 as Deserialize<'de, R>>⟧.reads ⟦<u128 as Deserialize<'de, R>>⟧.absent ⟦<() as Deserialize<'de, R>>⟧.reads
-        ⟦<() as Deserialize<'de, R>>⟧.absent ⟦<char as Deserialize<'de, R>>⟧.reads ⟦<char as Deserialize<'de, R>>⟧.absent
-        ⟦<Spot as Deserialize<'de, R>>⟧.reads ⟦<Spot as Deserialize<'de, R>>⟧.absent ⟦<BTreeMap<String, u64> as Deserialize<'de, R>>⟧.reads
-        ⟦<BTreeMap<String, u64> as Deserialize<'de, R>>⟧.absent ⟦<[u16; 3] as Deserialize<'de, R>>⟧.reads ⟦<[u16; 3] as Deserialize<'de, R>>⟧.absent
-        ⟦<Option<Spot> as Deserialize<'de, R>>⟧.reads ⟦<Option<Spot> as Deserialize<'de, R>>⟧.absent ⟦<ByteBuf as Deserialize<'de, R>>⟧.reads
-        ⟦<ByteBuf as Deserialize<'de, R>>⟧.absent ⟦<(i64, Option<bool>) as Deserialize<'de, R>>⟧.reads
-        ⟦<(i64, Option<bool>) as Deserialize<'de, R>>⟧.absent)
+        (is_none ⟦<String as Deserialize<'de, R>>⟧.absent ∷
+        (is_none ⟦<Course as Deserialize<'de, R>>⟧.absent ∷
+        (is_none ⟦<Vec<(u8, String)> as Deserialize<'de, R>>⟧.absent
+        ∷ (is_none ⟦<u128 as Deserialize<'de, R>>⟧.absent ∷
+        (is_none ⟦<() as Deserialize<'de, R>>⟧.absent ∷ (is_none ⟦<char as Deserialize<'de, R>>⟧.absent
+        ∷ (is_none ⟦<Spot as Deserialize<'de, R>>⟧.absent ∷
+        (is_none ⟦<BTreeMap<String, u64> as Deserialize<'de, R>>⟧.absent
+        ∷ (is_none ⟦<[u16; 3] as Deserialize<'de, R>>⟧.absent
+        ∷ (is_none ⟦<Option<Spot> as Deserialize<'de, R>>⟧.absent
+        ∷ (is_none ⟦<ByteBuf as Deserialize<'de, R>>⟧.absent ∷ (is_none ⟦<(i64, Option<bool>) as Deserialize<'de, R>>⟧.absent ∷ []))))))))))))
         (part_of ⟦<String as Deserialize<'de, R>>⟧.reads ⟦<String as Deserialize<'de, R>>⟧.refuses
         ∷ (part_of ⟦<Course as Deserialize<'de, R>>⟧.reads ⟦<Course as Deserialize<'de, R>>⟧.refuses
         ∷ (part_of ⟦<Vec<(u8, String)> as Deserialize<'de, R>>⟧.reads ⟦<Vec<(u8, String)> as Deserialize<'de, R>>⟧.refuses

@@ -4,7 +4,6 @@
 //! Sum of Chart: fd7cb7a1.
 ghost use Rattle.rmp_decode.specs.FieldRefusing.{RefusesFields};
 ghost use Rattle.rmp_decode.specs.Fields.{OfFields, Field, Absent, NoField};
-ghost use Rattle.rmp_decode.specs.ReadFields.{reads_9};
 ghost use Rattle.rmp_decode.specs.Refusing.{part_of};
 ghost use Rattle.rmp_decode.specs.Rows.{ReadsEach};
 ghost use Rattle.rmp_encode.specs.Markers.{value_of};
@@ -23,6 +22,7 @@ ghost use Rattle.rmp_round_trip.specs.RoundTrip.{Only};
 ghost use Rattle.rmp_round_trip.specs.Rounds.{each_some, each_row, option_some, option_row, slice_some, slice_row};
 ghost use Rattle.rmp_round_trip.specs.StructRounds.{structure_all, structure_row, structure_other, fields_none, fields_cons};
 ghost use Rattle.std.proofs.Common.{refl};
+ghost use Rattle.std.specs.Option.{is_none};
 ghost use Rattle.std.specs.Prelude.{◌∷◌, [], None, codes, string_bytes, pos, negsuc};
 
 use super::{Chart, Papers};
@@ -117,12 +117,13 @@ impl<'de, R: ReadSlice<'de>> Deserialize<'de, R> for Papers {
 
     ghost refuses = { RefusesFields (codes "number" ∷ (codes "name"
         ∷ (codes "born" ∷ (codes "chip" ∷ (codes "mother" ∷ (codes "father" ∷ (codes "weight" ∷ (codes "height" ∷ (codes "vaccinated" ∷ [])))))))))
-        (reads_9 ⟦<u64 as Deserialize<'de, R>>⟧.reads ⟦<u64 as Deserialize<'de, R>>⟧.absent ⟦<String as Deserialize<'de, R>>⟧.reads
-        ⟦<String as Deserialize<'de, R>>⟧.absent ⟦<u16 as Deserialize<'de, R>>⟧.reads ⟦<u16 as Deserialize<'de, R>>⟧.absent
-        ⟦<Option<u64> as Deserialize<'de, R>>⟧.reads ⟦<Option<u64> as Deserialize<'de, R>>⟧.absent ⟦<Option<u64> as Deserialize<'de, R>>⟧.reads
-        ⟦<Option<u64> as Deserialize<'de, R>>⟧.absent ⟦<Option<u64> as Deserialize<'de, R>>⟧.reads ⟦<Option<u64> as Deserialize<'de, R>>⟧.absent
-        ⟦<u8 as Deserialize<'de, R>>⟧.reads ⟦<u8 as Deserialize<'de, R>>⟧.absent ⟦<i8 as Deserialize<'de, R>>⟧.reads ⟦<i8 as Deserialize<'de, R>>⟧.absent
-        ⟦<bool as Deserialize<'de, R>>⟧.reads ⟦<bool as Deserialize<'de, R>>⟧.absent)
+        (is_none ⟦<u64 as Deserialize<'de, R>>⟧.absent ∷ (is_none ⟦<String as Deserialize<'de, R>>⟧.absent
+        ∷ (is_none ⟦<u16 as Deserialize<'de, R>>⟧.absent ∷
+        (is_none ⟦<Option<u64> as Deserialize<'de, R>>⟧.absent
+        ∷ (is_none ⟦<Option<u64> as Deserialize<'de, R>>⟧.absent
+        ∷ (is_none ⟦<Option<u64> as Deserialize<'de, R>>⟧.absent
+        ∷ (is_none ⟦<u8 as Deserialize<'de, R>>⟧.absent ∷ (is_none ⟦<i8 as Deserialize<'de, R>>⟧.absent
+        ∷ (is_none ⟦<bool as Deserialize<'de, R>>⟧.absent ∷ [])))))))))
         (part_of ⟦<u64 as Deserialize<'de, R>>⟧.reads ⟦<u64 as Deserialize<'de, R>>⟧.refuses
         ∷ (part_of ⟦<String as Deserialize<'de, R>>⟧.reads ⟦<String as Deserialize<'de, R>>⟧.refuses
         ∷ (part_of ⟦<u16 as Deserialize<'de, R>>⟧.reads ⟦<u16 as Deserialize<'de, R>>⟧.refuses
@@ -430,7 +431,7 @@ impl<'de, R: ReadSlice<'de>> Deserialize<'de, R> for Chart {
         ∷ (codes "fever" ∷ (codes "offset" ∷ (codes "balance"
         ∷ (codes "neutered" ∷ (codes "chip" ∷ (codes "owner"
         ∷ (codes "shots" ∷ (codes "notes" ∷ (codes "heart" ∷ (codes "lungs" ∷ (codes "last" ∷ []))))))))))))))))
-        ⟦<(u64, String, u16, u8, (i8, i16, i32, i64, (bool, Option<u64>, Option<String>, Vec<u16>, (Vec<String>, u32, u32, String, ())))) as ReadFields<'de, R>>⟧.reads
+        ⟦<(u64, String, u16, u8, (i8, i16, i32, i64, (bool, Option<u64>, Option<String>, Vec<u16>, (Vec<String>, u32, u32, String, ())))) as ReadFields<'de, R>>⟧.needed
         ⟦<(u64, String, u16, u8, (i8, i16, i32, i64, (bool, Option<u64>, Option<String>, Vec<u16>, (Vec<String>, u32, u32, String, ())))) as ReadFields<'de, R>>⟧.parts };
 
     fn deserialize<C: SerializerConfig>(

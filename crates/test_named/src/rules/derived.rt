@@ -188,11 +188,11 @@ fn read_stack_pushed_fields<R: Source, C: SerializerConfig, P: ReadContent<R> + 
             Err(e) => return Err(e),
         }
     }
-    let value0 = match fields.given_or(slot0, None) {
+    let value0 = match fields.given_or("top", slot0, None) {
         Ok(value) => value,
         Err(e) => return Err(e),
     };
-    let value1 = match fields.given_or(slot1, None) {
+    let value1 = match fields.given_or("below", slot1, None) {
         Ok(value) => value,
         Err(e) => return Err(e),
     };
@@ -401,15 +401,15 @@ fn read_rule_compare_fields<
             Err(e) => return Err(e),
         }
     }
-    let value0 = match fields.given_or(slot0, None) {
+    let value0 = match fields.given_or("op", slot0, None) {
         Ok(value) => value,
         Err(e) => return Err(e),
     };
-    let value1 = match fields.given_or(slot1, None) {
+    let value1 = match fields.given_or("leftSide", slot1, None) {
         Ok(value) => value,
         Err(e) => return Err(e),
     };
-    let value2 = match fields.given_or(slot2, None) {
+    let value2 = match fields.given_or("rightSide", slot2, None) {
         Ok(value) => value,
         Err(e) => return Err(e),
     };
@@ -473,11 +473,11 @@ fn read_rule_cond_fields<
             Err(e) => return Err(e),
         }
     }
-    let value0 = match fields.given_or(slot0, None) {
+    let value0 = match fields.given_or("test", slot0, None) {
         Ok(value) => value,
         Err(e) => return Err(e),
     };
-    let value1 = match fields.given_or(slot1, Some(None)) {
+    let value1 = match fields.given_or("otherwise", slot1, Some(None)) {
         Ok(value) => value,
         Err(e) => return Err(e),
     };
@@ -666,11 +666,11 @@ fn read_step_call_fields<
             Err(e) => return Err(e),
         }
     }
-    let value0 = match fields.given_or(slot0, None) {
+    let value0 = match fields.given_or("name", slot0, None) {
         Ok(value) => value,
         Err(e) => return Err(e),
     };
-    let value1 = match fields.given_or(slot1, None) {
+    let value1 = match fields.given_or("args", slot1, None) {
         Ok(value) => value,
         Err(e) => return Err(e),
     };
@@ -749,19 +749,19 @@ fn read_step_shift_fields<
             Err(e) => return Err(e),
         }
     }
-    let value0 = match fields.given_or(slot0, None) {
+    let value0 = match fields.given_or("by", slot0, None) {
         Ok(value) => value,
         Err(e) => return Err(e),
     };
-    let value1 = match fields.given_or(slot1, None) {
+    let value1 = match fields.given_or("kind", slot1, None) {
         Ok(value) => value,
         Err(e) => return Err(e),
     };
-    let value2 = match fields.given_or(slot2, None) {
+    let value2 = match fields.given_or("flag", slot2, None) {
         Ok(value) => value,
         Err(e) => return Err(e),
     };
-    let value3 = match fields.given_or(slot3, None) {
+    let value3 = match fields.given_or("step", slot3, None) {
         Ok(value) => value,
         Err(e) => return Err(e),
     };
@@ -816,7 +816,7 @@ fn read_step_not_fields<
             Err(e) => return Err(e),
         }
     }
-    let value0 = match fields.given_or(slot0, None) {
+    let value0 = match fields.given_or("step", slot0, None) {
         Ok(value) => value,
         Err(e) => return Err(e),
     };

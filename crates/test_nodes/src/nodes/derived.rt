@@ -127,11 +127,11 @@ fn read_node<R: Source, C: SerializerConfig, P: ReadPlaces<R>>(
             Err(e) => return Err(e),
         }
     }
-    let value0 = match fields.given_or(slot0, None) {
+    let value0 = match fields.given_or("value", slot0, None) {
         Ok(value) => value,
         Err(e) => return Err(e),
     };
-    let value1 = match fields.given_or(slot1, None) {
+    let value1 = match fields.given_or("children", slot1, None) {
         Ok(value) => value,
         Err(e) => return Err(e),
     };
@@ -247,11 +247,11 @@ fn read_cell<R: Source, C: SerializerConfig, P: ReadPlaces<R>>(
             Err(e) => return Err(e),
         }
     }
-    let value0 = match fields.given_or(slot0, None) {
+    let value0 = match fields.given_or("head", slot0, None) {
         Ok(value) => value,
         Err(e) => return Err(e),
     };
-    let value1 = match fields.given_or(slot1, Some(None)) {
+    let value1 = match fields.given_or("tail", slot1, Some(None)) {
         Ok(value) => value,
         Err(e) => return Err(e),
     };
@@ -398,19 +398,19 @@ fn read_folder<R: Source, C: SerializerConfig, P: ReadPlaces<R> + ReadLeaves<R>>
             Err(e) => return Err(e),
         }
     }
-    let value0 = match fields.given_or(slot0, None) {
+    let value0 = match fields.given_or("name", slot0, None) {
         Ok(value) => value,
         Err(e) => return Err(e),
     };
-    let value1 = match fields.given_or(slot1, None) {
+    let value1 = match fields.given_or("size", slot1, None) {
         Ok(value) => value,
         Err(e) => return Err(e),
     };
-    let value2 = match fields.given_or(slot2, None) {
+    let value2 = match fields.given_or("kind", slot2, None) {
         Ok(value) => value,
         Err(e) => return Err(e),
     };
-    let value3 = match fields.given_or(slot3, None) {
+    let value3 = match fields.given_or("folders", slot3, None) {
         Ok(value) => value,
         Err(e) => return Err(e),
     };

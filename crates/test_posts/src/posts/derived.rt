@@ -9,7 +9,6 @@ ghost use Rattle.rmp_decode.specs.Fields.{OfFields, Field, Absent, NoField};
 ghost use Rattle.rmp_decode.specs.Law.{Lawful};
 ghost use Rattle.rmp_decode.specs.Options.{IsOption};
 ghost use Rattle.rmp_decode.specs.Read.{IsUnsigned, IsSigned, IsRaw};
-ghost use Rattle.rmp_decode.specs.ReadFields.{reads_2};
 ghost use Rattle.rmp_decode.specs.Refusing.{part_of};
 ghost use Rattle.rmp_decode.specs.Rows.{AndThen, NoMore};
 ghost use Rattle.rmp_decode.specs.Seq.{OfRow};
@@ -28,6 +27,7 @@ ghost use Rattle.rmp_round_trip.specs.StructRounds.{structure_all, structure_row
 ghost use Rattle.rmp_round_trip.specs.VariantRounds.{bare_row, bare_other};
 ghost use Rattle.rmp_wire.specs.Msg.{nil, truth};
 ghost use Rattle.std.proofs.Common.{refl};
+ghost use Rattle.std.specs.Option.{is_none};
 ghost use Rattle.std.specs.Prelude.{◌≡◌, ◌∷◌, [], None, Some, codes, false, ⊤, string_bytes, pos, negsuc};
 ghost use Rattle.test_posts.specs.MoodLeaf.{IsMood};
 ghost use Rattle.test_posts.specs.PostLevels.{IsPost, post_data, post_fits};
@@ -231,35 +231,35 @@ fn read_post<R: Source, C: SerializerConfig, P: ReadPlaces<R> + ReadLeaves<R>>(
             Err(e) => return Err(e),
         }
     }
-    let value0 = match fields.given_or(slot0, Some(None)) {
+    let value0 = match fields.given_or("author", slot0, Some(None)) {
         Ok(value) => value,
         Err(e) => return Err(e),
     };
-    let value1 = match fields.given_or(slot1, None) {
+    let value1 = match fields.given_or("data", slot1, None) {
         Ok(value) => value,
         Err(e) => return Err(e),
     };
-    let value2 = match fields.given_or(slot2, None) {
+    let value2 = match fields.given_or("mood", slot2, None) {
         Ok(value) => value,
         Err(e) => return Err(e),
     };
-    let value3 = match fields.given_or(slot3, None) {
+    let value3 = match fields.given_or("span", slot3, None) {
         Ok(value) => value,
         Err(e) => return Err(e),
     };
-    let value4 = match fields.given_or(slot4, None) {
+    let value4 = match fields.given_or("place", slot4, None) {
         Ok(value) => value,
         Err(e) => return Err(e),
     };
-    let value5 = match fields.given_or(slot5, Some(1)) {
+    let value5 = match fields.given_or("votes", slot5, Some(1)) {
         Ok(value) => value,
         Err(e) => return Err(e),
     };
-    let value6 = match fields.given_or(slot6, Some(None)) {
+    let value6 = match fields.given_or("record", slot6, Some(None)) {
         Ok(value) => value,
         Err(e) => return Err(e),
     };
-    let value7 = match fields.given_or(slot7, None) {
+    let value7 = match fields.given_or("answers", slot7, None) {
         Ok(value) => value,
         Err(e) => return Err(e),
     };
@@ -498,8 +498,8 @@ impl<'de, R: ReadSlice<'de>> Deserialize<'de, R> for Span {
     ghost absent = { None };
 
     ghost refuses = { RefusesFields (codes "open" ∷ (codes "close" ∷ []))
-        (reads_2 ⟦<u32 as Deserialize<'de, R>>⟧.reads ⟦<u32 as Deserialize<'de, R>>⟧.absent ⟦<Option<u32> as Deserialize<'de, R>>⟧.reads
-        ⟦<Option<u32> as Deserialize<'de, R>>⟧.absent) (part_of ⟦<u32 as Deserialize<'de, R>>⟧.reads ⟦<u32 as Deserialize<'de, R>>⟧.refuses
+        (is_none ⟦<u32 as Deserialize<'de, R>>⟧.absent ∷ (is_none ⟦<Option<u32> as Deserialize<'de, R>>⟧.absent ∷ []))
+        (part_of ⟦<u32 as Deserialize<'de, R>>⟧.reads ⟦<u32 as Deserialize<'de, R>>⟧.refuses
         ∷ (part_of ⟦<Option<u32> as Deserialize<'de, R>>⟧.reads ⟦<Option<u32> as Deserialize<'de, R>>⟧.refuses ∷ [])) };
 
     #[inline(always)]

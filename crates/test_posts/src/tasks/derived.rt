@@ -267,15 +267,15 @@ fn read_task_both_fields<
             Err(e) => return Err(e),
         }
     }
-    let value0 = match fields.given_or(slot0, None) {
+    let value0 = match fields.given_or("order", slot0, None) {
         Ok(value) => value,
         Err(e) => return Err(e),
     };
-    let value1 = match fields.given_or(slot1, None) {
+    let value1 = match fields.given_or("first", slot1, None) {
         Ok(value) => value,
         Err(e) => return Err(e),
     };
-    let value2 = match fields.given_or(slot2, None) {
+    let value2 = match fields.given_or("second", slot2, None) {
         Ok(value) => value,
         Err(e) => return Err(e),
     };
@@ -356,19 +356,19 @@ fn read_task_run_fields<
             Err(e) => return Err(e),
         }
     }
-    let value0 = match fields.given_or(slot0, None) {
+    let value0 = match fields.given_or("name", slot0, None) {
         Ok(value) => value,
         Err(e) => return Err(e),
     };
-    let value1 = match fields.given_or(slot1, Some(None)) {
+    let value1 = match fields.given_or("at", slot1, Some(None)) {
         Ok(value) => value,
         Err(e) => return Err(e),
     };
-    let value2 = match fields.given_or(slot2, Some(LEAST)) {
+    let value2 = match fields.given_or("least", slot2, Some(LEAST)) {
         Ok(value) => value,
         Err(e) => return Err(e),
     };
-    let value3 = match fields.given_or(slot3, None) {
+    let value3 = match fields.given_or("steps", slot3, None) {
         Ok(value) => value,
         Err(e) => return Err(e),
     };

@@ -6,7 +6,6 @@ ghost use Rattle.rmp_decode.specs.FieldRefusing.{RefusesFields};
 ghost use Rattle.rmp_decode.specs.Fields.{OfFields, Field, Absent, NoField};
 ghost use Rattle.rmp_decode.specs.Refusing.{part_of};
 ghost use Rattle.rmp_decode.specs.Rows.{ReadsEach};
-ghost use Rattle.rmp_decode.specs.declared.access.fields.sixteen.SixteenThen.{SixteenThen};
 ghost use Rattle.rmp_encode.specs.Markers.{value_of};
 ghost use Rattle.rmp_encode.specs.Refusals.{OfParts};
 ghost use Rattle.rmp_encode.specs.Sizes.{one_of};
@@ -32,6 +31,7 @@ ghost use Rattle.rmp_round_trip.specs.WideRounds.{unsigned128_row, signed128_row
 ghost use Rattle.rmp_wire.specs.Types.{buffer_bytes};
 ghost use Rattle.std.proofs.Common.{refl};
 ghost use Rattle.std.proofs.lemmas.Cmp.{on_total, nat_list_cmp_total};
+ghost use Rattle.std.specs.Option.{is_none};
 ghost use Rattle.std.specs.Prelude.{◌∷◌, [], None, codes, string_bytes, pos, negsuc};
 
 use super::{BTreeMap, BTreeSet, ByteBuf, Course, F64Bits, Manifest, Spot};
@@ -177,40 +177,33 @@ impl<'de, R: ReadSlice<'de>> Deserialize<'de, R> for Manifest {
 
     ghost absent = { None };
 
-    ghost refuses = { RefusesFields {V = SixteenThen _ _ _ _ _ _ _ _ _ _ _ _ _ _ _ _ (_ × _ × _ × _ × (Unit {0}))}
-        (codes "ship" ∷ (codes "course" ∷ (codes "crew" ∷ (codes "seal"
-        ∷ (codes "nothing" ∷ (codes "flag" ∷ (codes "spot"
-        ∷ (codes "cargo" ∷ (codes "depths" ∷ (codes "last"
-        ∷ (codes "chart" ∷ (codes "pair" ∷ (codes "owner" ∷
-        (codes "tonnage" ∷ (codes "draught" ∷ (codes "ports" ∷ (codes "heading" ∷ (codes "debt" ∷ (codes "berths" ∷ (codes "done" ∷ []))))))))))))))))))))
-        (λ human lends fs v. (
-        Field (λ j. ⟦<String as Deserialize<'de, R>>⟧.reads human lends j v.first) (Absent ⟦<String as Deserialize<'de, R>>⟧.absent v.first) (
-        Field (λ j. ⟦<Course as Deserialize<'de, R>>⟧.reads human lends j v.second) (Absent ⟦<Course as Deserialize<'de, R>>⟧.absent v.second) (
-        Field (λ j. ⟦<Vec<(u8, String)> as Deserialize<'de, R>>⟧.reads human lends j v.third)
-        (Absent ⟦<Vec<(u8, String)> as Deserialize<'de, R>>⟧.absent v.third) (
-        Field (λ j. ⟦<u128 as Deserialize<'de, R>>⟧.reads human lends j v.fourth) (Absent ⟦<u128 as Deserialize<'de, R>>⟧.absent v.fourth) (
-        Field (λ j. ⟦<() as Deserialize<'de, R>>⟧.reads human lends j v.fifth) (Absent ⟦<() as Deserialize<'de, R>>⟧.absent v.fifth) (
-        Field (λ j. ⟦<char as Deserialize<'de, R>>⟧.reads human lends j v.sixth) (Absent ⟦<char as Deserialize<'de, R>>⟧.absent v.sixth) (
-        Field (λ j. ⟦<Spot as Deserialize<'de, R>>⟧.reads human lends j v.seventh) (Absent ⟦<Spot as Deserialize<'de, R>>⟧.absent v.seventh) (
-        Field (λ j. ⟦<BTreeMap<String, u64> as Deserialize<'de, R>>⟧.reads human lends j v.eighth)
-        (Absent ⟦<BTreeMap<String, u64> as Deserialize<'de, R>>⟧.absent v.eighth) (
-        Field (λ j. ⟦<[u16; 3] as Deserialize<'de, R>>⟧.reads human lends j v.ninth) (Absent ⟦<[u16; 3] as Deserialize<'de, R>>⟧.absent v.ninth) (
-        Field (λ j. ⟦<Option<Spot> as Deserialize<'de, R>>⟧.reads human lends j v.tenth) (Absent ⟦<Option<Spot> as Deserialize<'de, R>>⟧.absent v.tenth) (
-        Field (λ j. ⟦<ByteBuf as Deserialize<'de, R>>⟧.reads human lends j v.eleventh) (Absent ⟦<ByteBuf as Deserialize<'de, R>>⟧.absent v.eleventh) (
-        Field (λ j. ⟦<(i64, Option<bool>) as Deserialize<'de, R>>⟧.reads human lends j v.twelfth)
-        (Absent ⟦<(i64, Option<bool>) as Deserialize<'de, R>>⟧.absent v.twelfth) (
-        Field (λ j. ⟦<Option<String> as Deserialize<'de, R>>⟧.reads human lends j v.thirteenth)
-        (Absent ⟦<Option<String> as Deserialize<'de, R>>⟧.absent v.thirteenth) (
-        Field (λ j. ⟦<u32 as Deserialize<'de, R>>⟧.reads human lends j v.fourteenth) (Absent ⟦<u32 as Deserialize<'de, R>>⟧.absent v.fourteenth) (
-        Field (λ j. ⟦<F64Bits as Deserialize<'de, R>>⟧.reads human lends j v.fifteenth) (Absent ⟦<F64Bits as Deserialize<'de, R>>⟧.absent v.fifteenth) (
-        Field (λ j. ⟦<Vec<String> as Deserialize<'de, R>>⟧.reads human lends j v.sixteenth)
-        (Absent ⟦<Vec<String> as Deserialize<'de, R>>⟧.absent v.sixteenth) (
-        Field (λ j. ⟦<i16 as Deserialize<'de, R>>⟧.reads human lends j v.rest.0) (Absent ⟦<i16 as Deserialize<'de, R>>⟧.absent v.rest.0) (
-        Field (λ j. ⟦<i128 as Deserialize<'de, R>>⟧.reads human lends j v.rest.1) (Absent ⟦<i128 as Deserialize<'de, R>>⟧.absent v.rest.1) (
-        Field (λ j. ⟦<BTreeSet<u16> as Deserialize<'de, R>>⟧.reads human lends j v.rest.2)
-        (Absent ⟦<BTreeSet<u16> as Deserialize<'de, R>>⟧.absent v.rest.2) (
-        Field (λ j. ⟦<bool as Deserialize<'de, R>>⟧.reads human lends j v.rest.3) (Absent ⟦<bool as Deserialize<'de, R>>⟧.absent v.rest.3)
-        NoField)))))))))))))))))))) fs)
+    ghost refuses = { RefusesFields (codes "ship" ∷ (codes "course"
+        ∷ (codes "crew" ∷ (codes "seal" ∷ (codes "nothing"
+        ∷ (codes "flag" ∷ (codes "spot" ∷ (codes "cargo" ∷
+        (codes "depths" ∷ (codes "last" ∷ (codes "chart" ∷
+        (codes "pair" ∷ (codes "owner" ∷ (codes "tonnage" ∷
+        (codes "draught" ∷ (codes "ports" ∷ (codes "heading" ∷ (codes "debt" ∷ (codes "berths" ∷ (codes "done" ∷ []))))))))))))))))))))
+        (
+        is_none ⟦<String as Deserialize<'de, R>>⟧.absent ∷ (
+        is_none ⟦<Course as Deserialize<'de, R>>⟧.absent ∷ (
+        is_none ⟦<Vec<(u8, String)> as Deserialize<'de, R>>⟧.absent ∷ (
+        is_none ⟦<u128 as Deserialize<'de, R>>⟧.absent ∷ (
+        is_none ⟦<() as Deserialize<'de, R>>⟧.absent ∷ (
+        is_none ⟦<char as Deserialize<'de, R>>⟧.absent ∷ (
+        is_none ⟦<Spot as Deserialize<'de, R>>⟧.absent ∷ (
+        is_none ⟦<BTreeMap<String, u64> as Deserialize<'de, R>>⟧.absent ∷ (
+        is_none ⟦<[u16; 3] as Deserialize<'de, R>>⟧.absent ∷ (
+        is_none ⟦<Option<Spot> as Deserialize<'de, R>>⟧.absent ∷ (
+        is_none ⟦<ByteBuf as Deserialize<'de, R>>⟧.absent ∷ (
+        is_none ⟦<(i64, Option<bool>) as Deserialize<'de, R>>⟧.absent ∷ (
+        is_none ⟦<Option<String> as Deserialize<'de, R>>⟧.absent ∷ (
+        is_none ⟦<u32 as Deserialize<'de, R>>⟧.absent ∷ (
+        is_none ⟦<F64Bits as Deserialize<'de, R>>⟧.absent ∷ (
+        is_none ⟦<Vec<String> as Deserialize<'de, R>>⟧.absent ∷ (
+        is_none ⟦<i16 as Deserialize<'de, R>>⟧.absent ∷ (
+        is_none ⟦<i128 as Deserialize<'de, R>>⟧.absent ∷ (
+        is_none ⟦<BTreeSet<u16> as Deserialize<'de, R>>⟧.absent ∷ (
+        is_none ⟦<bool as Deserialize<'de, R>>⟧.absent ∷ []))))))))))))))))))))
         (
         part_of ⟦<String as Deserialize<'de, R>>⟧.reads ⟦<String as Deserialize<'de, R>>⟧.refuses ∷ (
         part_of ⟦<Course as Deserialize<'de, R>>⟧.reads ⟦<Course as Deserialize<'de, R>>⟧.refuses ∷ (

@@ -6,7 +6,6 @@ ghost use Rattle.rmp_decode.specs.FieldRefusing.{RefusesFields};
 ghost use Rattle.rmp_decode.specs.Fields.{OfFields, Field, Absent, NoField};
 ghost use Rattle.rmp_decode.specs.Refusing.{part_of};
 ghost use Rattle.rmp_decode.specs.Rows.{ReadsEach};
-ghost use Rattle.rmp_decode.specs.declared.access.fields.sixteen.SixteenThen.{SixteenThen};
 ghost use Rattle.rmp_encode.specs.Markers.{value_of};
 ghost use Rattle.rmp_encode.specs.Refusals.{OfParts};
 ghost use Rattle.rmp_encode.specs.Sizes.{one_of};
@@ -34,6 +33,7 @@ ghost use Rattle.rmp_wire.specs.Types.{buffer_bytes};
 ghost use Rattle.std.proofs.Common.{refl, rules};
 ghost use Rattle.std.proofs.lemmas.Cmp.{on_total, nat_list_cmp_total};
 ghost use Rattle.std.specs.Cmp.Rules.{comparing};
+ghost use Rattle.std.specs.Option.{is_none};
 ghost use Rattle.std.specs.Prelude.{◌∷◌, [], None, codes, string_bytes, pos, negsuc};
 
 use super::{BTreeMap, BTreeSet, ByteBuf, Course, F64Bits, Spot, Survey};
@@ -238,66 +238,49 @@ impl<'de, R: ReadSlice<'de>> Deserialize<'de, R> for Survey {
 
     ghost absent = { None };
 
-    ghost refuses = { RefusesFields {V = SixteenThen _ _ _ _ _ _ _ _ _ _ _ _ _ _ _ _ (SixteenThen _ _ _ _ _ _ _ _ _ _ _ _ _ _ _ _ (Unit {0}))}
-        (codes "ship" ∷ (codes "course" ∷ (codes "crew" ∷ (codes "seal"
-        ∷ (codes "nothing" ∷ (codes "flag" ∷ (codes "spot"
-        ∷ (codes "cargo" ∷ (codes "depths" ∷ (codes "last"
-        ∷ (codes "chart" ∷ (codes "pair" ∷ (codes "owner" ∷
-        (codes "tonnage" ∷ (codes "draught" ∷ (codes "ports"
-        ∷ (codes "heading" ∷ (codes "debt" ∷ (codes "berths"
-        ∷ (codes "done" ∷ (codes "next" ∷ (codes "marks" ∷
-        (codes "length" ∷ (codes "beam" ∷ (codes "stores" ∷
-        (codes "sounding" ∷ (codes "hatches" ∷ (codes "legs"
-        ∷ (codes "port" ∷ (codes "log" ∷ (codes "crane" ∷ (codes "surveyor" ∷ []))))))))))))))))))))))))))))))))
-        (λ human lends fs v. (
-        Field (λ j. ⟦<String as Deserialize<'de, R>>⟧.reads human lends j v.first) (Absent ⟦<String as Deserialize<'de, R>>⟧.absent v.first) (
-        Field (λ j. ⟦<Course as Deserialize<'de, R>>⟧.reads human lends j v.second) (Absent ⟦<Course as Deserialize<'de, R>>⟧.absent v.second) (
-        Field (λ j. ⟦<Vec<(u8, String)> as Deserialize<'de, R>>⟧.reads human lends j v.third)
-        (Absent ⟦<Vec<(u8, String)> as Deserialize<'de, R>>⟧.absent v.third) (
-        Field (λ j. ⟦<u128 as Deserialize<'de, R>>⟧.reads human lends j v.fourth) (Absent ⟦<u128 as Deserialize<'de, R>>⟧.absent v.fourth) (
-        Field (λ j. ⟦<() as Deserialize<'de, R>>⟧.reads human lends j v.fifth) (Absent ⟦<() as Deserialize<'de, R>>⟧.absent v.fifth) (
-        Field (λ j. ⟦<char as Deserialize<'de, R>>⟧.reads human lends j v.sixth) (Absent ⟦<char as Deserialize<'de, R>>⟧.absent v.sixth) (
-        Field (λ j. ⟦<Spot as Deserialize<'de, R>>⟧.reads human lends j v.seventh) (Absent ⟦<Spot as Deserialize<'de, R>>⟧.absent v.seventh) (
-        Field (λ j. ⟦<BTreeMap<String, u64> as Deserialize<'de, R>>⟧.reads human lends j v.eighth)
-        (Absent ⟦<BTreeMap<String, u64> as Deserialize<'de, R>>⟧.absent v.eighth) (
-        Field (λ j. ⟦<[u16; 3] as Deserialize<'de, R>>⟧.reads human lends j v.ninth) (Absent ⟦<[u16; 3] as Deserialize<'de, R>>⟧.absent v.ninth) (
-        Field (λ j. ⟦<Option<Spot> as Deserialize<'de, R>>⟧.reads human lends j v.tenth) (Absent ⟦<Option<Spot> as Deserialize<'de, R>>⟧.absent v.tenth) (
-        Field (λ j. ⟦<ByteBuf as Deserialize<'de, R>>⟧.reads human lends j v.eleventh) (Absent ⟦<ByteBuf as Deserialize<'de, R>>⟧.absent v.eleventh) (
-        Field (λ j. ⟦<(i64, Option<bool>) as Deserialize<'de, R>>⟧.reads human lends j v.twelfth)
-        (Absent ⟦<(i64, Option<bool>) as Deserialize<'de, R>>⟧.absent v.twelfth) (
-        Field (λ j. ⟦<Option<String> as Deserialize<'de, R>>⟧.reads human lends j v.thirteenth)
-        (Absent ⟦<Option<String> as Deserialize<'de, R>>⟧.absent v.thirteenth) (
-        Field (λ j. ⟦<u32 as Deserialize<'de, R>>⟧.reads human lends j v.fourteenth) (Absent ⟦<u32 as Deserialize<'de, R>>⟧.absent v.fourteenth) (
-        Field (λ j. ⟦<F64Bits as Deserialize<'de, R>>⟧.reads human lends j v.fifteenth) (Absent ⟦<F64Bits as Deserialize<'de, R>>⟧.absent v.fifteenth) (
-        Field (λ j. ⟦<Vec<String> as Deserialize<'de, R>>⟧.reads human lends j v.sixteenth)
-        (Absent ⟦<Vec<String> as Deserialize<'de, R>>⟧.absent v.sixteenth) (
-        Field (λ j. ⟦<i16 as Deserialize<'de, R>>⟧.reads human lends j v.rest.first) (Absent ⟦<i16 as Deserialize<'de, R>>⟧.absent v.rest.first) (
-        Field (λ j. ⟦<i128 as Deserialize<'de, R>>⟧.reads human lends j v.rest.second) (Absent ⟦<i128 as Deserialize<'de, R>>⟧.absent v.rest.second) (
-        Field (λ j. ⟦<BTreeSet<u16> as Deserialize<'de, R>>⟧.reads human lends j v.rest.third)
-        (Absent ⟦<BTreeSet<u16> as Deserialize<'de, R>>⟧.absent v.rest.third) (
-        Field (λ j. ⟦<bool as Deserialize<'de, R>>⟧.reads human lends j v.rest.fourth) (Absent ⟦<bool as Deserialize<'de, R>>⟧.absent v.rest.fourth) (
-        Field (λ j. ⟦<Option<Course> as Deserialize<'de, R>>⟧.reads human lends j v.rest.fifth)
-        (Absent ⟦<Option<Course> as Deserialize<'de, R>>⟧.absent v.rest.fifth) (
-        Field (λ j. ⟦<Vec<Spot> as Deserialize<'de, R>>⟧.reads human lends j v.rest.sixth)
-        (Absent ⟦<Vec<Spot> as Deserialize<'de, R>>⟧.absent v.rest.sixth) (
-        Field (λ j. ⟦<u64 as Deserialize<'de, R>>⟧.reads human lends j v.rest.seventh) (Absent ⟦<u64 as Deserialize<'de, R>>⟧.absent v.rest.seventh) (
-        Field (λ j. ⟦<u8 as Deserialize<'de, R>>⟧.reads human lends j v.rest.eighth) (Absent ⟦<u8 as Deserialize<'de, R>>⟧.absent v.rest.eighth) (
-        Field (λ j. ⟦<BTreeMap<u16, String> as Deserialize<'de, R>>⟧.reads human lends j v.rest.ninth)
-        (Absent ⟦<BTreeMap<u16, String> as Deserialize<'de, R>>⟧.absent v.rest.ninth) (
-        Field (λ j. ⟦<Option<i64> as Deserialize<'de, R>>⟧.reads human lends j v.rest.tenth)
-        (Absent ⟦<Option<i64> as Deserialize<'de, R>>⟧.absent v.rest.tenth) (
-        Field (λ j. ⟦<[bool; 2] as Deserialize<'de, R>>⟧.reads human lends j v.rest.eleventh)
-        (Absent ⟦<[bool; 2] as Deserialize<'de, R>>⟧.absent v.rest.eleventh) (
-        Field (λ j. ⟦<Vec<Course> as Deserialize<'de, R>>⟧.reads human lends j v.rest.twelfth)
-        (Absent ⟦<Vec<Course> as Deserialize<'de, R>>⟧.absent v.rest.twelfth) (
-        Field (λ j. ⟦<(u8, String) as Deserialize<'de, R>>⟧.reads human lends j v.rest.thirteenth)
-        (Absent ⟦<(u8, String) as Deserialize<'de, R>>⟧.absent v.rest.thirteenth) (
-        Field (λ j. ⟦<Vec<ByteBuf> as Deserialize<'de, R>>⟧.reads human lends j v.rest.fourteenth)
-        (Absent ⟦<Vec<ByteBuf> as Deserialize<'de, R>>⟧.absent v.rest.fourteenth) (
-        Field (λ j. ⟦<Option<char> as Deserialize<'de, R>>⟧.reads human lends j v.rest.fifteenth)
-        (Absent ⟦<Option<char> as Deserialize<'de, R>>⟧.absent v.rest.fifteenth) (
-        Field (λ j. ⟦<String as Deserialize<'de, R>>⟧.reads human lends j v.rest.sixteenth)
-        (Absent ⟦<String as Deserialize<'de, R>>⟧.absent v.rest.sixteenth) NoField)))))))))))))))))))))))))))))))) fs)
+    ghost refuses = { RefusesFields (codes "ship" ∷ (codes "course"
+        ∷ (codes "crew" ∷ (codes "seal" ∷ (codes "nothing"
+        ∷ (codes "flag" ∷ (codes "spot" ∷ (codes "cargo" ∷
+        (codes "depths" ∷ (codes "last" ∷ (codes "chart" ∷
+        (codes "pair" ∷ (codes "owner" ∷ (codes "tonnage" ∷
+        (codes "draught" ∷ (codes "ports" ∷ (codes "heading"
+        ∷ (codes "debt" ∷ (codes "berths" ∷ (codes "done" ∷
+        (codes "next" ∷ (codes "marks" ∷ (codes "length" ∷
+        (codes "beam" ∷ (codes "stores" ∷ (codes "sounding"
+        ∷ (codes "hatches" ∷ (codes "legs" ∷ (codes "port" ∷ (codes "log" ∷ (codes "crane" ∷ (codes "surveyor" ∷ []))))))))))))))))))))))))))))))))
+        (
+        is_none ⟦<String as Deserialize<'de, R>>⟧.absent ∷ (
+        is_none ⟦<Course as Deserialize<'de, R>>⟧.absent ∷ (
+        is_none ⟦<Vec<(u8, String)> as Deserialize<'de, R>>⟧.absent ∷ (
+        is_none ⟦<u128 as Deserialize<'de, R>>⟧.absent ∷ (
+        is_none ⟦<() as Deserialize<'de, R>>⟧.absent ∷ (
+        is_none ⟦<char as Deserialize<'de, R>>⟧.absent ∷ (
+        is_none ⟦<Spot as Deserialize<'de, R>>⟧.absent ∷ (
+        is_none ⟦<BTreeMap<String, u64> as Deserialize<'de, R>>⟧.absent ∷ (
+        is_none ⟦<[u16; 3] as Deserialize<'de, R>>⟧.absent ∷ (
+        is_none ⟦<Option<Spot> as Deserialize<'de, R>>⟧.absent ∷ (
+        is_none ⟦<ByteBuf as Deserialize<'de, R>>⟧.absent ∷ (
+        is_none ⟦<(i64, Option<bool>) as Deserialize<'de, R>>⟧.absent ∷ (
+        is_none ⟦<Option<String> as Deserialize<'de, R>>⟧.absent ∷ (
+        is_none ⟦<u32 as Deserialize<'de, R>>⟧.absent ∷ (
+        is_none ⟦<F64Bits as Deserialize<'de, R>>⟧.absent ∷ (
+        is_none ⟦<Vec<String> as Deserialize<'de, R>>⟧.absent ∷ (
+        is_none ⟦<i16 as Deserialize<'de, R>>⟧.absent ∷ (
+        is_none ⟦<i128 as Deserialize<'de, R>>⟧.absent ∷ (
+        is_none ⟦<BTreeSet<u16> as Deserialize<'de, R>>⟧.absent ∷ (
+        is_none ⟦<bool as Deserialize<'de, R>>⟧.absent ∷ (
+        is_none ⟦<Option<Course> as Deserialize<'de, R>>⟧.absent ∷ (
+        is_none ⟦<Vec<Spot> as Deserialize<'de, R>>⟧.absent ∷ (
+        is_none ⟦<u64 as Deserialize<'de, R>>⟧.absent ∷ (
+        is_none ⟦<u8 as Deserialize<'de, R>>⟧.absent ∷ (
+        is_none ⟦<BTreeMap<u16, String> as Deserialize<'de, R>>⟧.absent ∷ (
+        is_none ⟦<Option<i64> as Deserialize<'de, R>>⟧.absent ∷ (
+        is_none ⟦<[bool; 2] as Deserialize<'de, R>>⟧.absent ∷ (
+        is_none ⟦<Vec<Course> as Deserialize<'de, R>>⟧.absent ∷ (
+        is_none ⟦<(u8, String) as Deserialize<'de, R>>⟧.absent ∷ (
+        is_none ⟦<Vec<ByteBuf> as Deserialize<'de, R>>⟧.absent ∷ (
+        is_none ⟦<Option<char> as Deserialize<'de, R>>⟧.absent ∷ (
+        is_none ⟦<String as Deserialize<'de, R>>⟧.absent ∷ []))))))))))))))))))))))))))))))))
         (
         part_of ⟦<String as Deserialize<'de, R>>⟧.reads ⟦<String as Deserialize<'de, R>>⟧.refuses ∷ (
         part_of ⟦<Course as Deserialize<'de, R>>⟧.reads ⟦<Course as Deserialize<'de, R>>⟧.refuses ∷ (

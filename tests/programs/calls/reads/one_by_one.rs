@@ -88,8 +88,8 @@ fn bytes_are_numbers(rt: HostRuntime) {
             let value: Result<u8, Error> = fields.next_value();
             assert!(rt; matches!(value, Ok(200)));
             assert!(rt; matches!(fields.next_field(), Ok(None)));
-            let missing: Result<Option<u8>, Error> = fields.missing_field();
-            assert!(rt; matches!(missing, Err(Error::Syntax(Text::MissingField))));
+            let missing: Result<Option<u8>, Error> = fields.missing_field("x");
+            assert!(rt; matches!(missing, Err(Error::Syntax(Text::MissingField(_)))));
             refused(&rt, fields.end(), FAILED_BEFORE);
         }
         Err(_) => assert!(rt; false),
@@ -117,7 +117,7 @@ fn as_the_content_of_a_variant(rt: HostRuntime) {
                 let value: Result<u8, Error> = fields.next_value();
                 assert!(rt; matches!(value, Ok(5)));
                 assert!(rt; matches!(fields.next_field(), Ok(None)));
-                let missing: Result<Option<u8>, Error> = fields.missing_field();
+                let missing: Result<Option<u8>, Error> = fields.missing_field("x");
                 assert!(rt; matches!(missing, Ok(None)));
                 gives(&rt, fields.end(), ());
             }

@@ -46,6 +46,20 @@ fn over_drip(rt: &impl AllocGlobal, input: &[u8], until_fault: usize) -> (usize,
     records(Deserializer::new(rt.alloc(), Drip::new(input, until_fault)))
 }
 
+// The same by the iterator.
+fn over_messages(rt: &impl AllocGlobal, input: &[u8]) -> (usize, Ended) {
+    let mut de = Deserializer::from_read_ref(rt.alloc(), input);
+    let mut count = 0;
+    for record in de.messages::<Value>() {
+        match record {
+            Ok(_) => count += 1,
+            Err(e) if e.is_incomplete() => return (count, Ended::Incomplete),
+            Err(_) => return (count, Ended::Wrong),
+        }
+    }
+    (count, Ended::Clean)
+}
+
 // Two records, of which the second is cut to so many bytes.
 fn cut_log(rt: &(impl AllocGlobal + Abort), cut: usize) -> Vec<u8> {
     let mut log = Vec::from_slice(rt.alloc(), RECORD).expect(rt, "memory");
@@ -63,11 +77,13 @@ fn each_cut_is_told_from_the_end(rt: HostRuntime) {
             (1, Ended::Incomplete)
         };
         assert_eq!(rt; over_slice(&rt, log.as_slice()), ended);
+        assert_eq!(rt; over_messages(&rt, log.as_slice()), ended);
         assert_eq!(rt; over_cursor(&rt, log.as_slice()), ended);
         assert_eq!(rt; over_drip(&rt, log.as_slice(), 1000), ended);
     }
     let log = cut_log(&rt, RECORD.len());
     assert_eq!(rt; over_slice(&rt, log.as_slice()), (2, Ended::Clean));
+    assert_eq!(rt; over_messages(&rt, log.as_slice()), (2, Ended::Clean));
     assert_eq!(rt; over_cursor(&rt, log.as_slice()), (2, Ended::Clean));
     assert_eq!(rt; over_drip(&rt, log.as_slice(), 1000), (2, Ended::Clean));
 }

@@ -4,6 +4,7 @@ ghost use Rattle.rmp_decode.specs.FieldAccess.{IsStructOpen, SameStruct, AtField
 ghost use Rattle.rmp_decode.specs.FieldAccess.{fields_left, is_of_map, is_struct_sound, struct_lender, struct_reference, unsound};
 ghost use Rattle.rmp_decode.specs.Law.{IsFailedBefore};
 ghost use Rattle.rmp_decode.specs.State.{config_of};
+ghost use Rattle.rmp_decode.specs.Words.{field_of, fitting};
 
 use super::FieldAccess;
 use crate::content::Slices;
@@ -70,15 +71,15 @@ impl<'x, R: Source, C: SerializerConfig> FieldAccess<'x, R, C> {
         P::next_field(self)
     }
 
-    /// Returns the value of a field that is missing, as `missing_field` does. In a map it is `absent`.
+    /// Returns the value of the field of this name, which is missing, as `missing_field` does. In a map it is `absent`.
     ///
     /// # Errors
-    /// `Syntax("missing field")` if there is none.
+    /// `Syntax("missing field")`, with the name, if there is none.
     #[inline(always)]
-    pub fn missing_field_or<T: Drop>(&mut self, absent: Option<T>) -> Result<T, Error>
+    pub fn missing_field_or<T: Drop>(&mut self, name: &str, absent: Option<T>) -> Result<T, Error>
         ensures same_reference { struct_reference self.new ≡ struct_reference self.old }
         ensures ok { IfOk result (λ v. (is_of_map self.old ≡ true) × (absent ≡ Some v) × (self.new ≡ self.old)) }
-        ensures err { is_struct_sound self.old ≡ true → IfErr result (λ e. (e ≡ Error.Syntax Text.MissingField)
+        ensures err { is_struct_sound self.old ≡ true → IfErr result (λ e. (field_of e ≡ Some (fitting name.now))
             × (is_of_map self.old ≡ true → absent ≡ None) × (self.new ≡ unsound self.old)) }
         ensures failed { OnErr result (is_struct_sound self.new ≡ false) }
         ensures before { is_struct_sound self.old ≡ false → MatchResult result (λ _. ⊥) IsFailedBefore × (self.new ≡ self.old) }
@@ -93,24 +94,29 @@ impl<'x, R: Source, C: SerializerConfig> FieldAccess<'x, R, C> {
             }
         }
         self.sound = false;
-        Err(Error::Syntax(Text::MissingField))
+        Err(Error::missing_field(name))
     }
 
-    /// The value of a field: what was read of it, or, where nothing was, that of `missing_field_or`.
+    /// The value of the field of this name: what was read of it, or, where nothing was, that of `missing_field_or`.
     ///
     /// # Errors
     /// Those of `missing_field_or`, where nothing was read.
     #[inline(always)]
-    pub fn given_or<T: Drop>(&mut self, given: Option<T>, absent: Option<T>) -> Result<T, Error>
+    pub fn given_or<T: Drop>(
+        &mut self,
+        name: &str,
+        given: Option<T>,
+        absent: Option<T>,
+    ) -> Result<T, Error>
         ensures same_reference { struct_reference self.new ≡ struct_reference self.old }
         ensures ok { IfOk result (λ v. ((given ≡ Some v) ⊎ ((given ≡ None) × (absent ≡ Some v))) × (self.new ≡ self.old)) }
-        ensures err { is_struct_sound self.old ≡ true → IfErr result (λ e. (given ≡ None) × (e ≡ Error.Syntax Text.MissingField)
+        ensures err { is_struct_sound self.old ≡ true → IfErr result (λ e. (given ≡ None) × (field_of e ≡ Some (fitting name.now))
             × (is_of_map self.old ≡ true → absent ≡ None) × (self.new ≡ unsound self.old)) }
         ensures failed { OnErr result (is_struct_sound self.new ≡ false) }
     {
         match given {
             Some(value) => Ok(value),
-            None => self.missing_field_or(absent),
+            None => self.missing_field_or(name, absent),
         }
     }
 }

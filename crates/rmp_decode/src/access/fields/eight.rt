@@ -72,6 +72,8 @@ impl<
 
     ghost parts = { ⟦<(A, B, D, E, (G, H, I, J, F)) as Fields<'de, R>>⟧.parts };
 
+    ghost needed = { ⟦<(A, B, D, E, (G, H, I, J, F)) as Fields<'de, R>>⟧.needed };
+
     ghost takes_memory = { ⟦<(A, B, D, E, (G, H, I, J, F)) as Fields<'de, R>>⟧.takes_memory };
 
     ghost many = { ⟦<(A, B, D, E, (G, H, I, J, F)) as Fields<'de, R>>⟧.many };
@@ -124,10 +126,10 @@ impl<
     #[inline(always)]
     fn finish(
         slots: EightSlots<A, B, D, E, G, H, I, J, F::Slots>,
-    ) -> Option<EightThen<A, B, D, E, G, H, I, J, F>> {
+    ) -> Result<EightThen<A, B, D, E, G, H, I, J, F>, usize> {
         let EightSlots { read } = slots;
         match <(A, B, D, E, (G, H, I, J, F)) as Fields<'de, R>>::finish(read) {
-            Some((first, second, third, fourth, (fifth, sixth, seventh, eighth, rest))) => Some(
+            Ok((first, second, third, fourth, (fifth, sixth, seventh, eighth, rest))) => Ok(
                 EightThen {
                     first,
                     second,
@@ -140,7 +142,7 @@ impl<
                     rest,
                 },
             ),
-            None => None,
+            Err(place) => Err(place),
         }
     }
 

@@ -118,6 +118,8 @@ impl<
 
     ghost parts = { ⟦<EightThen<A, B, D, E, G, H, I, J, EightThen<K, L, M, N, O, P, Q, T, F>> as Fields<'de, R>>⟧.parts };
 
+    ghost needed = { ⟦<EightThen<A, B, D, E, G, H, I, J, EightThen<K, L, M, N, O, P, Q, T, F>> as Fields<'de, R>>⟧.needed };
+
     ghost takes_memory = { ⟦<EightThen<A, B, D, E, G, H, I, J, EightThen<K, L, M, N, O, P, Q, T, F>> as Fields<'de, R>>⟧.takes_memory };
 
     ghost many = { ⟦<EightThen<A, B, D, E, G, H, I, J, EightThen<K, L, M, N, O, P, Q, T, F>> as Fields<'de, R>>⟧.many };
@@ -226,14 +228,14 @@ impl<
     #[inline(always)]
     fn finish(
         slots: SixteenSlots<A, B, D, E, G, H, I, J, K, L, M, N, O, P, Q, T, F::Slots>,
-    ) -> Option<SixteenThen<A, B, D, E, G, H, I, J, K, L, M, N, O, P, Q, T, F>> {
+    ) -> Result<SixteenThen<A, B, D, E, G, H, I, J, K, L, M, N, O, P, Q, T, F>, usize> {
         let SixteenSlots { read } = slots;
         match <EightThen<A, B, D, E, G, H, I, J, EightThen<K, L, M, N, O, P, Q, T, F>> as Fields<
             'de,
             R,
         >>::finish(read)
         {
-            Some(parts) => {
+            Ok(parts) => {
                 let EightThen {
                     first,
                     second,
@@ -256,7 +258,7 @@ impl<
                     eighth: sixteenth,
                     rest,
                 } = others;
-                Some(SixteenThen {
+                Ok(SixteenThen {
                     first,
                     second,
                     third,
@@ -276,7 +278,7 @@ impl<
                     rest,
                 })
             }
-            None => None,
+            Err(place) => Err(place),
         }
     }
 

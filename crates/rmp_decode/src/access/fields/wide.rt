@@ -34,6 +34,8 @@ impl<
 
     ghost parts = { ⟦<(A, (B, (D, (E, F)))) as Fields<'de, R>>⟧.parts };
 
+    ghost needed = { ⟦<(A, (B, (D, (E, F)))) as Fields<'de, R>>⟧.needed };
+
     ghost takes_memory = { ⟦<(A, (B, (D, (E, F)))) as Fields<'de, R>>⟧.takes_memory };
 
     ghost many = { ⟦<(A, (B, (D, (E, F)))) as Fields<'de, R>>⟧.many };
@@ -64,10 +66,10 @@ impl<
     #[inline(always)]
     fn finish(
         slots: (Option<A>, (Option<B>, (Option<D>, (Option<E>, F::Slots)))),
-    ) -> Option<(A, B, D, E, F)> {
+    ) -> Result<(A, B, D, E, F), usize> {
         match <(A, (B, (D, (E, F)))) as Fields<'de, R>>::finish(slots) {
-            Some((a, (b, (d, (e, others))))) => Some((a, b, d, e, others)),
-            None => None,
+            Ok((a, (b, (d, (e, others))))) => Ok((a, b, d, e, others)),
+            Err(place) => Err(place),
         }
     }
 

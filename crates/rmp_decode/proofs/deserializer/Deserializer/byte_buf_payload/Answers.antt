@@ -1,30 +1,31 @@
-use Rattle.std.proofs.Common.{refl}
-use Rattle.rmp_decode.specs.Content.{IsBufferHead, IsRawHead, not_raw, not_buffer}
-use Rattle.rmp_decode.specs.Kinds.{raw_head}
+use Rattle.std.proofs.Common.{refl, rules}
 use Rattle.rmp_decode.proofs.Buffers.{raw_buffer}
-use Rattle.rmp_decode.proofs.ContentErrors.{content_error, piece_ended, raw_len, raw_wanted, buffer_wanted}
-use Rattle.rmp_decode.proofs.Contents.{raw_content, content_read, content_short}
-use Rattle.rmp_decode.proofs.Consumed.{leaves_payload, piece_short}
+use Rattle.rmp_decode.proofs.ContentErrors.{raw_len, raw_wanted, buffer_wanted}
+use Rattle.rmp_decode.proofs.Payloads.{payload_short, raw_has, raw_message, clash, message_read, message_refused}
 use Rattle.rmp_decode.proofs.deserializer.Deserializer.byte_buf_payload.Goals as goal
 
-pub returns-in-Ok-clause-law : goal.returns-in-Ok-clause-law
-returns-in-Ok-clause-law g c = λ t old m h.
+pub returns-in-Ok : goal.returns-in-Ok
+returns-in-Ok g c = λ t.
     let o = c.in-Ok.ensures.ok in
-    content_read (raw_content t) g.R.Source _ old c.args.self.now _ (m, _) h c.in-Ok.bytes.items c.args.len _ refl o.0 o.1 o.2 refl refl
-    c.in-Ok.ensures.sound (record { config = refl; room = refl; limit = refl; strict = refl; place = c.in-Ok.ensures.place })
-    (raw_buffer t c.in-Ok.bytes.items)
+    message_read g.R.Source _ c.args.self.now _ (raw_has t c.args.len) _ _ (record {
+      ok = record {
+        bytes = c.in-Ok.bytes.items;
+        long = rw (raw_len t c.args.len) o.0;
+        small = o.1;
+        taken = o.2;
+        value = rw (raw_message t c.args.len c.in-Ok.bytes.items) (raw_buffer t c.in-Ok.bytes.items);
+      };
+      sound = c.in-Ok.ensures.sound;
+      err = tt;
+      exact = tt;
+      taken = tt;
+      fault = tt;
+      memory = λ _. tt;
+      place = c.in-Ok.ensures.place;
+    })
 
-pub returns-in-Err-clause-law : goal.returns-in-Err-clause-law
-returns-in-Err-clause-law g c = λ t old m h.
-    content_short (raw_content t) g.R.Source _ old c.args.self.now _ (m, raw_head t c.args.len) h c.args.len _ refl c.in-Err.ensures.err h.failed
-    (record { config = refl; room = refl; limit = refl; strict = refl; place = c.in-Err.ensures.place })
-
-pub returns-in-Err-clause-exact : goal.returns-in-Err-clause-exact
-returns-in-Err-clause-exact g c = λ t old m h.
-    content_error g.R.Source IsBufferHead not_raw not_buffer old c.args.self.now _ (m, raw_head t c.args.len) (raw_head t c.args.len) c.args.len _ h refl
-    (raw_len t c.args.len) (buffer_wanted t c.args.len) (piece_ended _ _ _ _ _ _ c.in-Err.ensures.err c.in-Err.ensures.end) c.in-Err.ensures.fault
-
-pub returns-in-Err-clause-taken : goal.returns-in-Err-clause-taken
-returns-in-Err-clause-taken g c = λ t old m h.
-    leaves_payload g.R.Source IsRawHead old c.args.self.now _ (m, raw_head t c.args.len) (raw_head t c.args.len) c.args.len _ h refl
-    (raw_len t c.args.len) (raw_wanted t c.args.len) (piece_short c.args.len _ _ _ _ _ c.in-Err.ensures.err)
+pub returns-in-Err : goal.returns-in-Err
+returns-in-Err g c = λ t.
+    let e = c.in-Err.ensures in
+    message_refused g.R.Source _ c.args.self.now _ (raw_has t c.args.len) _ (buffer_wanted t c.args.len) (raw_wanted t c.args.len) _
+    (payload_short g.R.Source _ _ _ _ _ (raw_len t c.args.len) _ e.err e.end e.fault (clash refl) e.place)

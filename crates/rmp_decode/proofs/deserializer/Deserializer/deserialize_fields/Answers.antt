@@ -25,7 +25,7 @@ returns-in-Some-clause-refused g c = λ _.
     c.in-Some.ensures.taken in
     if_err c.row_ahead.result (λ e w. row_refused g.R.Source g.C.SerializerConfig.human g.R.ReadSlice.lends g.F.Fields.reads g.F.Fields.parts
     c.args.self.now c.take_nested.new.self
-    c.row_ahead.new.self g.F.Fields.count c.in-Some.ensures.deep front e w (bytes_of c.args.names.now)) c.row_ahead.ensures.refused
+    c.row_ahead.new.self g.F.Fields.count c.in-Some.ensures.deep front e w (bytes_of c.args.names.now) g.F.Fields.needed) c.row_ahead.ensures.refused
 
 pub returns-in-Ok-clause-law : goal.returns-in-Ok-clause-law
 returns-in-Ok-clause-law g c =

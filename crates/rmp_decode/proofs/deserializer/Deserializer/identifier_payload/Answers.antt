@@ -1,31 +1,11 @@
-use Rattle.std.proofs.Common.{◌∙◌, ap, sym, refl, Some, Option, ℕ}
-use Rattle.rmp_decode.specs.Content.{IsRawHead, not_raw, never_refused}
-use Rattle.rmp_decode.specs.Kinds.{raw_head}
-use Rattle.rmp_decode.specs.Names.{bytes_of, IsNameHead}
-use Rattle.rmp_decode.proofs.ContentErrors.{content_error, piece_ended, raw_len, raw_wanted}
-use Rattle.rmp_decode.proofs.Contents.{raw_content, content_read, content_short}
-use Rattle.rmp_decode.proofs.Names.{name_of_raw, name_wanted}
-use Rattle.rmp_decode.proofs.Consumed.{leaves_payload, piece_short}
+use Rattle.rmp_decode.proofs.ContentErrors.{raw_wanted}
+use Rattle.rmp_decode.proofs.Names.{name_wanted}
+use Rattle.rmp_decode.proofs.Payloads.{raw_has, message_read, message_refused}
 use Rattle.rmp_decode.proofs.deserializer.Deserializer.identifier_payload.Goals as goal
 
-pub returns-in-Ok-clause-law : goal.returns-in-Ok-clause-law
-returns-in-Ok-clause-law g c = λ t old m h.
-    let o = c.in-Ok.ensures.ok in
-    content_read (raw_content t) g.R.Source _ old c.args.self.now _ (m, raw_head t c.args.len) h o.0 c.args.len _ refl o.1 o.2 o.3 refl refl
-    c.in-Ok.ensures.sound (record { config = refl; room = refl; limit = refl; strict = refl; place = c.in-Ok.ensures.place })
-    (name_of_raw (bytes_of c.args.names.now) t o.0 ∙ ap (λ (z : Option ℕ). Some z) (sym o.4))
+pub returns-in-Ok : goal.returns-in-Ok
+returns-in-Ok g c = λ t. message_read g.R.Source _ c.args.self.now _ (raw_has t c.args.len) _ _ (c.in-Ok.ensures t)
 
-pub returns-in-Err-clause-law : goal.returns-in-Err-clause-law
-returns-in-Err-clause-law g c = λ t old m h.
-    content_short (raw_content t) g.R.Source _ old c.args.self.now _ (m, raw_head t c.args.len) h c.args.len _ refl c.in-Err.ensures.err h.failed
-    (record { config = refl; room = refl; limit = refl; strict = refl; place = c.in-Err.ensures.place })
-
-pub returns-in-Err-clause-exact : goal.returns-in-Err-clause-exact
-returns-in-Err-clause-exact g c = λ t old m h.
-    content_error g.R.Source IsNameHead not_raw never_refused old c.args.self.now _ (m, raw_head t c.args.len) (raw_head t c.args.len) c.args.len _ h refl
-    (raw_len t c.args.len) (name_wanted t c.args.len) (piece_ended _ _ _ _ _ _ c.in-Err.ensures.err c.in-Err.ensures.end) c.in-Err.ensures.fault
-
-pub returns-in-Err-clause-taken : goal.returns-in-Err-clause-taken
-returns-in-Err-clause-taken g c = λ t old m h.
-    leaves_payload g.R.Source IsRawHead old c.args.self.now _ (m, raw_head t c.args.len) (raw_head t c.args.len) c.args.len _ h refl
-    (raw_len t c.args.len) (raw_wanted t c.args.len) (piece_short c.args.len _ _ _ _ _ c.in-Err.ensures.err)
+pub returns-in-Err : goal.returns-in-Err
+returns-in-Err g c = λ t. message_refused g.R.Source _ c.args.self.now _ (raw_has t c.args.len) _ (name_wanted t c.args.len) (raw_wanted t c.args.len) _
+    (c.in-Err.ensures t)

@@ -1,4 +1,5 @@
-use Rattle.std.proofs.Common.{arith, ◌≡◌, ◌∙◌, sym, subst, refl, rules, Option, None, Some, MatchOption, false, ◌⊎◌, inl}
+use Rattle.std.proofs.Common.{arith, ◌≡◌, ◌∙◌, sym, subst, refl, rules, None, Some, false, ◌⊎◌, inl, length, ◌≤◌}
+use Rattle.std.specs.Prelude.{◌^◌}
 use Rattle.rmp_decode.specs.Fields.{Fills, IsFull}
 use Rattle.rmp_decode.specs.Maps.{map_inner}
 use Rattle.rmp_decode.specs.Names.{bytes_of}
@@ -10,6 +11,7 @@ use Rattle.rmp_decode.specs.Refusing.{setting_of, inside}
 use Rattle.rmp_decode.specs.declared.access.fields.Passed.{Passed}
 use Rattle.rmp_decode.proofs.FieldRefusals.{listed_wrong, listed_excess, name_wrong, pass_wrong, pass_memory, field_wrong, field_lacks}
 use Rattle.rmp_decode.proofs.Meeting.{blank_blank}
+use Rattle.rmp_decode.proofs.Missing.{missing_named, tells_name}
 use Rattle.rmp_decode.proofs.Names.{length_bytes}
 use Rattle.rmp_decode.proofs.NamesAhead.{below_named, below_unnamed, key_named_by}
 use Rattle.rmp_decode.proofs.Seqs.{via}
@@ -30,10 +32,6 @@ use Rattle.rmp_decode.proofs.Structs.{
   listed_over,
 }
 use Rattle.rmp_decode.proofs.deserializer.Deserializer.opened_fields.Goals as goal
-
-none_reads : {V : Type 0} {P : Type 0} (Q : V → Type 0) (o : Option V) → ((x : V) → o ≡ Some x → ⊥) → MatchOption o P Q → P
-none_reads Q None n p = p
-none_reads Q (Some x) n p = absurd (n x refl)
 
 pub returns-in-Err-clause-law : goal.returns-in-Err-clause-law
 returns-in-Err-clause-law g c =
@@ -142,16 +140,15 @@ loop-map-preserved-in-Ok-next_value g c =
     c.in-Ok-Map.map c.loop-map.map c.next_place.new.self c.next_value.new.self c.loop-map.slots r _ _ key c.next_place.ensures.same_reference
     c.in-Ok-next_value.ensures.ok c.next_value.ensures.same_reference
 
-pub returns-in_default-clause-law : goal.returns-in_default-clause-law
-returns-in_default-clause-law g c =
+pub returns-in-Err-finish-clause-law : goal.returns-in-Err-finish-clause-law
+returns-in-Err-finish-clause-law g c =
     let z : c.loop-map.map.left ≡ 0 = omega (arith, c.loop-map-test.false) in
     let r = c.loop-map.invariant in
     let same = sym (rw c.in-Ok-Map.field-0-is at c.in-Ok-Map.ensures.same_reference) ∙ sym r.run.same_reference in
     let o = rw c.in-Ok-Map.field-0-is at c.in-Ok-Map.ensures.opened in
-    let f = none_reads _ c.finish.result c.in_default.not-Some (c.finish.ensures _ _ r.met_trees r.held) in
     fields_missing g.R.Source (bytes_of c.args.names.now) (g.F.Fields.holds (g.C.SerializerConfig.human c.args.self.now.config) g.R.ReadSlice.lends)
     (g.F.Fields.reads (g.C.SerializerConfig.human c.args.self.now.config) g.R.ReadSlice.lends) _ c.in-Ok-Map.map c.loop-map.map o c.loop-map.slots r
-    _ _ z (search rules) f
+    _ _ z (search rules) (c.in-Err-finish.ensures.all _ _ r.met_trees r.held)
 
 pub returns-in-Ok-end-2-clause-law : goal.returns-in-Ok-end-2-clause-law
 returns-in-Ok-end-2-clause-law g c =
@@ -160,7 +157,7 @@ returns-in-Ok-end-2-clause-law g c =
     let same = sym (rw c.in-Ok-Map.field-0-is at c.in-Ok-Map.ensures.same_reference) ∙ sym r.run.same_reference in
     let o = rw c.in-Ok-Map.field-0-is at c.in-Ok-Map.ensures.opened in
     let e = c.in-Ok-end-2.ensures.ok r.run.still in
-    let f = rw c.in-Some-finish.is at c.finish.ensures (g.C.SerializerConfig.human c.args.self.now.config) g.R.ReadSlice.lends r.met_trees r.held in
+    let f = c.in-Ok-finish.ensures.all (g.C.SerializerConfig.human c.args.self.now.config) g.R.ReadSlice.lends r.met_trees r.held in
     fields_done g.R.Source (bytes_of c.args.names.now) (g.F.Fields.holds (g.C.SerializerConfig.human c.args.self.now.config) g.R.ReadSlice.lends)
     (g.F.Fields.reads (g.C.SerializerConfig.human c.args.self.now.config) g.R.ReadSlice.lends) _ c.in-Ok-Map.map c.loop-map.map o c.loop-map.slots r
     _ _ f z (via c.end-in-Ok-Map.new.self.0 (search rules) e.1)
@@ -182,7 +179,7 @@ pub returns-in-Err-listed-clause-refused : goal.returns-in-Err-listed-clause-ref
 returns-in-Err-listed-clause-refused g c = λ u.
     let same = sym (rw c.in-Ok-Seq.field-0-is at c.in-Ok-Seq.ensures.same_reference) ∙ sym c.listed.ensures.same_reference in
     let o = rw c.in-Ok-Seq.field-0-is at c.in-Ok-Seq.ensures.opened in
-    listed_wrong g.R.Source g.C.SerializerConfig.human g.R.ReadSlice.lends (bytes_of c.args.names.now) g.F.Fields.reads g.F.Fields.parts c.args.self.now _
+    listed_wrong g.R.Source g.C.SerializerConfig.human g.R.ReadSlice.lends (bytes_of c.args.names.now) g.F.Fields.needed g.F.Fields.parts c.args.self.now _
     c.in-Err-listed.e c.in-Ok-Seq.seq o c.listed.new.seq (search rules) c.in-Err-listed.ensures.refused
 
 pub returns-in-Err-end-clause-refused : goal.returns-in-Err-end-clause-refused
@@ -191,7 +188,7 @@ returns-in-Err-end-clause-refused g c = λ u.
     let t = subst (λ z. TakesParts {V = g.row.F.Denot} g.R.Source (Gives (g.F.Fields.reads (g.C.SerializerConfig.human z) g.R.ReadSlice.lends))
     c.in-Ok-Seq.seq c.listed.new.seq c.in-Ok.values) o.stays.config c.in-Ok.ensures.ok in
     let e = c.in-Err-end.ensures.err t.run.still in
-    listed_excess g.R.Source g.C.SerializerConfig.human g.R.ReadSlice.lends (bytes_of c.args.names.now) g.F.Fields.reads g.F.Fields.parts c.args.self.now _
+    listed_excess g.R.Source g.C.SerializerConfig.human g.R.ReadSlice.lends (bytes_of c.args.names.now) g.F.Fields.needed g.F.Fields.parts c.args.self.now _
     c.in-Err-end.e c.in-Ok-Seq.seq o c.listed.new.seq t.trees t.run
     (g.F.Fields.given (inside (setting_of (g.C.SerializerConfig.human c.args.self.now.config) g.R.ReadSlice.lends c.args.self.now)
     (inner_of c.in-Ok-Seq.seq)) _ c.in-Ok.values t.value)
@@ -204,7 +201,7 @@ returns-in-None-clause-refused g c = λ u.
     let r = c.loop-map.invariant in
     let same = sym (rw c.in-Ok-Map.field-0-is at c.in-Ok-Map.ensures.same_reference) ∙ sym r.run.same_reference ∙ sym c.next_place.ensures.same_reference in
     let o = rw c.in-Ok-Map.field-0-is at c.in-Ok-Map.ensures.opened in
-    name_wrong g.R.Source g.C.SerializerConfig.human g.R.ReadSlice.lends (bytes_of c.args.names.now) g.F.Fields.reads g.F.Fields.parts c.args.self.now _
+    name_wrong g.R.Source g.C.SerializerConfig.human g.R.ReadSlice.lends (bytes_of c.args.names.now) g.F.Fields.needed g.F.Fields.parts c.args.self.now _
     c.refusal_in.result c.in-Ok-Map.map c.loop-map.map o (g.F.Fields.holds (g.C.SerializerConfig.human c.args.self.now.config) g.R.ReadSlice.lends)
     (λ fs t. g.F.Fields.held (inside (setting_of (g.C.SerializerConfig.human c.args.self.now.config) g.R.ReadSlice.lends c.args.self.now)
     (map_inner c.in-Ok-Map.map)) fs t) c.loop-map.slots r c.next_place.new.self (search rules) (rw c.refusal_in.ensures at c.in-None.ensures.refused)
@@ -222,7 +219,7 @@ returns-then-not-fill-clause-refused g c = λ u.
     (g.F.Fields.holds (g.C.SerializerConfig.human z) g.R.ReadSlice.lends) g.F.Fields.parts c.in-Some.place c.next_place.new.self c.fill.new.map
     c.loop-map.slots c.refusal_in-then-not-fill.result) (key.part.stays.config ∙ r.run.stays.config ∙ o.stays.config)
     (rw c.refusal_in-then-not-fill.ensures at c.fill.ensures.refused no) in
-    field_wrong g.R.Source g.C.SerializerConfig.human g.R.ReadSlice.lends (bytes_of c.args.names.now) g.F.Fields.reads g.F.Fields.parts c.args.self.now _
+    field_wrong g.R.Source g.C.SerializerConfig.human g.R.ReadSlice.lends (bytes_of c.args.names.now) g.F.Fields.needed g.F.Fields.parts c.args.self.now _
     c.refusal_in-then-not-fill.result c.in-Ok-Map.map c.loop-map.map o (g.F.Fields.holds (g.C.SerializerConfig.human c.args.self.now.config) g.R.ReadSlice.lends)
     (λ fs t. g.F.Fields.held (inside (setting_of (g.C.SerializerConfig.human c.args.self.now.config) g.R.ReadSlice.lends c.args.self.now)
     (map_inner c.in-Ok-Map.map)) fs t) c.loop-map.slots r c.next_place.new.self c.fill.new.map _ key (search rules) c.in-Some.place refl f
@@ -235,22 +232,26 @@ returns-in-Err-next_value-clause-refused g c = λ u.
     let o = rw c.in-Ok-Map.field-0-is at c.in-Ok-Map.ensures.opened in
     let key = key_named_by g.R.Source c.args.names.now c.loop-map.map c.next_place.new.self c.in-Some.place None
     (below_unnamed _ _ c.if-place-names.true) c.in-Some.ensures.ok in
-    pass_wrong g.R.Source g.C.SerializerConfig.human g.R.ReadSlice.lends (bytes_of c.args.names.now) g.F.Fields.reads g.F.Fields.parts c.args.self.now _
+    pass_wrong g.R.Source g.C.SerializerConfig.human g.R.ReadSlice.lends (bytes_of c.args.names.now) g.F.Fields.needed g.F.Fields.parts c.args.self.now _
     c.in-Err-next_value.e c.in-Ok-Map.map c.loop-map.map o (g.F.Fields.holds (g.C.SerializerConfig.human c.args.self.now.config) g.R.ReadSlice.lends)
     (λ fs t. g.F.Fields.held (inside (setting_of (g.C.SerializerConfig.human c.args.self.now.config) g.R.ReadSlice.lends c.args.self.now)
     (map_inner c.in-Ok-Map.map)) fs t) c.loop-map.slots r c.next_place.new.self c.next_value.new.self _ key (search rules) refl
     (c.in-Err-next_value.ensures.refused key.still.sound)
 
-pub returns-in_default-clause-refused : goal.returns-in_default-clause-refused
-returns-in_default-clause-refused g c = λ u.
+pub returns-in-Err-finish-clause-refused : goal.returns-in-Err-finish-clause-refused
+returns-in-Err-finish-clause-refused g c = λ u.
     let z : c.loop-map.map.left ≡ 0 = omega (arith, c.loop-map-test.false) in
     let r = c.loop-map.invariant in
     let o = rw c.in-Ok-Map.field-0-is at c.in-Ok-Map.ensures.opened in
-    let f = none_reads _ c.finish.result c.in_default.not-Some (c.finish.ensures _ _ r.met_trees r.held) in
-    field_lacks g.R.Source g.C.SerializerConfig.human g.R.ReadSlice.lends (bytes_of c.args.names.now) g.F.Fields.reads g.F.Fields.parts c.args.self.now _ _
+    let short : length c.args.names.now ≤ 2 ^ 64 = omega arith in
+    let few : g.F.Fields.count ≤ 2 ^ 64 = omega (arith, short, c.requires.count) in
+    let within = c.in-Err-finish.ensures.within few in
+    let name = missing_named c.args.names.now g.F.Fields.needed r.met_trees c.in-Err-finish.place _
+    (c.in-Err-finish.ensures.first few _ _ r.met_trees r.held) (omega (arith, within, c.requires.count)) in
+    field_lacks g.R.Source g.C.SerializerConfig.human g.R.ReadSlice.lends (bytes_of c.args.names.now) g.F.Fields.needed g.F.Fields.parts c.args.self.now _ _
     c.in-Ok-Map.map c.loop-map.map o (g.F.Fields.holds (g.C.SerializerConfig.human c.args.self.now.config) g.R.ReadSlice.lends)
     (λ fs t. g.F.Fields.held (inside (setting_of (g.C.SerializerConfig.human c.args.self.now.config) g.R.ReadSlice.lends c.args.self.now)
-    (map_inner c.in-Ok-Map.map)) fs t) c.loop-map.slots r z refl f
+    (map_inner c.in-Ok-Map.map)) fs t) c.loop-map.slots r z (tells_name _ _ _ name c.missing_field.ensures)
 
 -- ---- want of memory
 
@@ -276,7 +277,7 @@ returns-in-Err-next_value-clause-memory g c = λ y t m.
     let o = rw c.in-Ok-Map.field-0-is at c.in-Ok-Map.ensures.opened in
     let key = key_named_by g.R.Source c.args.names.now c.loop-map.map c.next_place.new.self c.in-Some.place None
     (below_unnamed _ _ c.if-place-names.true) c.in-Some.ensures.ok in
-    pass_memory g.R.Source g.C.SerializerConfig.human g.R.ReadSlice.lends (bytes_of c.args.names.now) g.F.Fields.reads g.F.Fields.parts c.args.self.now
+    pass_memory g.R.Source g.C.SerializerConfig.human g.R.ReadSlice.lends (bytes_of c.args.names.now) g.F.Fields.needed g.F.Fields.parts c.args.self.now
     (faults_of g.R.Source c.next_value.new.self.de.now) c.in-Err-next_value.e c.in-Ok-Map.map c.loop-map.map o
     (g.F.Fields.holds (g.C.SerializerConfig.human c.args.self.now.config) g.R.ReadSlice.lends)
     (λ fs t. g.F.Fields.held (inside (setting_of (g.C.SerializerConfig.human c.args.self.now.config) g.R.ReadSlice.lends c.args.self.now)

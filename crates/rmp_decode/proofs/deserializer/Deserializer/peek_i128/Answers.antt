@@ -1,10 +1,9 @@
 use Rattle.std.proofs.Common.{refl, rules, inl}
-use Rattle.std.proofs.lemmas.Int.{to_z-of_z}
 use Rattle.std.specs.Int.{w128}
-use Rattle.rmp_decode.proofs.Leaves.{whole_leaf, leaf_read}
+use Rattle.std.proofs.lemmas.Int.{to_z-of_z}
+use Rattle.rmp_decode.proofs.Payloads.{message_alone, whole_alone}
 use Rattle.rmp_decode.proofs.deserializer.Deserializer.peek_i128.Goals as goal
 
-pub returns-in-Some-clause-law : goal.returns-in-Some-clause-law
-returns-in-Some-clause-law g c =
-    leaf_read whole_leaf _ _ _ _ (_, _) c.in-Some.ensures.taken.begun _ _ _ refl refl
-    (rw (to_z-of_z w128 c.from.result (search rules)) (inl (rw c.from.ensures refl)))
+pub returns-in-Some : goal.returns-in-Some
+returns-in-Some g c = rw (to_z-of_z w128 c.from.result (search rules))
+    (message_alone _ _ _ _ (_, _) _ c.in-Some.ensures.taken.begun (whole_alone _ _ _ _ refl (inl (rw c.from.ensures refl))))

@@ -1,5 +1,12 @@
-use Rattle.rmp_decode.proofs.Laws.{lawful_err}
+use Rattle.std.proofs.Common.{refl}
+use Rattle.rmp_decode.proofs.ContentErrors.{no_raw_head}
+use Rattle.rmp_decode.proofs.Payloads.{message_none, message_other, raw_only, syntax_memory}
 use Rattle.rmp_decode.proofs.deserializer.Deserializer.slow_bytes.Goals as goal
 
-pub returns-in-Err-clause-law : goal.returns-in-Err-clause-law
-returns-in-Err-clause-law g c = lawful_err _ _ _ _ _ _ (λ m r. ((r.1.1.0, r.0), (r.1.0, r.1.1.1))) c.in-Err.ensures.law
+pub returns-in-None : goal.returns-in-None
+returns-in-None g c =
+    let no = no_raw_head c.in-Ok.head c.in-None.ensures in
+    message_other g.R.Source _ _ _ (_, c.in-Ok.head) _ c.in-Ok.ensures no no (λ m s r. raw_only r.1.0 s.now m r.1.1) refl (syntax_memory _)
+
+pub returns-in-Err : goal.returns-in-Err
+returns-in-Err g c = message_none g.R.Source _ _ _ _ c.in-Err.ensures

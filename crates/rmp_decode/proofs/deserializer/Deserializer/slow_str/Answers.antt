@@ -1,36 +1,12 @@
-use Rattle.std.proofs.Common.{◌∙◌, sym, subst, length, rules}
-use Rattle.std.specs.Prelude.{IsUtf8}
-use Rattle.rmp_decode.specs.Content.{IsRawHead, not_raw, not_bytes, not_str}
-use Rattle.rmp_decode.proofs.ContentErrors.{content_refused_after, content_wider, raw_wanted, not_utf8_str, str_wider}
-use Rattle.rmp_decode.proofs.Laws.{lawful_err, lawful_refuse}
-use Rattle.rmp_decode.proofs.Numbers.{raw_same}
-use Rattle.rmp_decode.proofs.Consumed.{leaves_refused}
+use Rattle.std.proofs.Common.{refl}
+use Rattle.rmp_decode.proofs.ContentErrors.{no_raw_head}
+use Rattle.rmp_decode.proofs.Payloads.{message_none, message_other, raw_only, syntax_memory}
 use Rattle.rmp_decode.proofs.deserializer.Deserializer.slow_str.Goals as goal
 
-pub returns-in-Err-from_utf8-clause-law : goal.returns-in-Err-from_utf8-clause-law
-returns-in-Err-from_utf8-clause-law g c =
-    lawful_refuse _ _ _ _ _ _ (c.in-Ok.is_text, c.in-Ok.bytes) _
-    (λ m p r. c.in-Err-from_utf8.ensures.cases.0 (subst IsUtf8 (raw_same r.1.1.1.0 c.in-Ok.is_text r.0.now c.in-Ok.bytes.now (sym r.1.1.1.1 ∙ p.1))
-    r.1.1.0)) c.refuse.ensures.failed c.in-Ok.ensures.law
+pub returns-in-None : goal.returns-in-None
+returns-in-None g c =
+    let no = no_raw_head c.in-Ok.head c.in-None.ensures in
+    message_other g.R.Source _ _ _ (_, c.in-Ok.head) _ c.in-Ok.ensures no no (λ m s r. raw_only r.1.1.0 s.now m r.1.1.1) refl (syntax_memory _)
 
-pub returns-in-Err-clause-law : goal.returns-in-Err-clause-law
-returns-in-Err-clause-law g c = lawful_err _ _ _ _ _ _ (λ m r. ((r.1.1.1.0, r.0), (r.1.0, r.1.1.1.1))) c.in-Err.ensures.law
-
-pub returns-in-Err-from_utf8-clause-exact : goal.returns-in-Err-from_utf8-clause-exact
-returns-in-Err-from_utf8-clause-exact g c = λ _.
-    let r = c.in-Ok.ensures.law.ok in
-    content_refused_after g.R.Source IsRawHead not_raw (not_str g.R.ReadSlice.lends) c.args.self.now c.lent_raw.new.self _ _
-    (c.in-Ok.is_text, c.in-Ok.bytes) c.in-Ok.is_text c.in-Ok.bytes.now _ r r.value.1 (raw_wanted c.in-Ok.is_text (length c.in-Ok.bytes.now))
-    (rw c.refuse.ensures.same (not_utf8_str g.R.ReadSlice.lends c.in-Ok.is_text (length c.in-Ok.bytes.now) c.in-Ok.bytes.now _ r.value.0
-    c.in-Err-from_utf8.ensures.cases.0 c.not_utf8.ensures.text c.not_utf8.ensures.bytes)) (search rules)
-
-pub returns-in-Err-clause-exact : goal.returns-in-Err-clause-exact
-returns-in-Err-clause-exact g c = λ o. content_wider _ IsRawHead not_raw (not_bytes g.R.ReadSlice.lends) (not_str g.R.ReadSlice.lends) _ _ _ _
-    (λ h s _ q. str_wider g.R.ReadSlice.lends h s _ q) (c.in-Err.ensures.exact o)
-
-pub returns-in-Err-from_utf8-clause-taken : goal.returns-in-Err-from_utf8-clause-taken
-returns-in-Err-from_utf8-clause-taken g c = λ _.
-    let r = c.in-Ok.ensures.law.ok in
-    rw c.refuse.ensures.failed
-    (leaves_refused g.R.Source IsRawHead c.args.self.now c.lent_raw.new.self _ (c.in-Ok.is_text, c.in-Ok.bytes) c.in-Ok.is_text c.in-Ok.bytes.now _ _ _ r
-    r.value.1 (raw_wanted c.in-Ok.is_text (length c.in-Ok.bytes.now)))
+pub returns-in-Err : goal.returns-in-Err
+returns-in-Err g c = message_none g.R.Source _ _ _ _ c.in-Err.ensures
