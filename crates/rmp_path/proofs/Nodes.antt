@@ -1,5 +1,5 @@
 -- A head that was read, and its content.
-use Rattle.std.proofs.Common.{◌≡◌, ◌∙◌, sym, ap, subst, refl, ℕ, ◌+◌, ◌-◌, ◌<◌, arith, List, [], ◌∷◌, ◌++◌, length, append_assoc, Bool, Some}
+use Rattle.std.proofs.Common.{◌≡◌, ◌∙◌, sym, ap, subst, ℕ, ◌+◌, ◌-◌, ◌<◌, arith, List, ◌∷◌, ◌++◌, length, Bool, Some}
 use Rattle.std.proofs.lemmas.List.{length-append}
 use Rattle.rmp_wire.specs.declared.head.Head.{Head}
 use Rattle.rmp_wire.specs.declared.marker.Marker.{Marker}
@@ -10,8 +10,7 @@ use Rattle.rmp_wire.specs.Spelling.{IsBytes}
 use Rattle.rmp_wire.specs.Taking.{byte_of}
 use Rattle.rmp_wire.proofs.Heads.{heads_differ}
 use Rattle.rmp_wire.proofs.Taken.{bytes_parts}
-use Rattle.rmp_path.specs.Places.{OwnBytes, IsNode, IsNoNode, parts_of_head}
-use Rattle.rmp_path.specs.declared.node.Node.{Node}
+use Rattle.rmp_path.specs.Places.{IsNode, IsNoNode, parts_of_head}
 
 -- no head is there
 pub none_read : (xs : List ℕ) → ((h : Head) (x rest : List ℕ) → xs ≡ x ++ rest → IsHead h x → ⊥) → IsNoNode xs

@@ -1,5 +1,5 @@
 -- What a head with its content, and the end of a part, come to on the way to an offset.
-use Rattle.std.proofs.Common.{◌≡◌, ◌∙◌, sym, ap, subst, refl, ℕ, zero, suc, ◌+◌, ◌*◌, ◌-◌, ◌<◌, ◌≤◌, ◌⊎◌, inl, inr, arith, List, [], ◌∷◌, ◌++◌, length, drop, append_assoc, Bool, true, false}
+use Rattle.std.proofs.Common.{◌≡◌, ◌∙◌, sym, ap, subst, refl, ℕ, ◌+◌, ◌-◌, ◌<◌, ◌≤◌, arith, List, [], ◌∷◌, ◌++◌, length, drop, append_assoc, Bool, true, false}
 use Rattle.std.proofs.lemmas.List.{append-nil, length-append, drop_at}
 use Rattle.rmp_wire.specs.declared.head.Head.{Head}
 use Rattle.rmp_wire.specs.declared.head.Head.TheVariants.{Nil, Truth, Whole, F32Bits, F64Bits, Text, Bin, Array, Map, Ext}
@@ -11,7 +11,7 @@ use Rattle.rmp_scan.specs.Openings.{SpellsSome}
 use Rattle.rmp_scan.specs.Scans.{IsMessage}
 use Rattle.rmp_scan.proofs.Rows.{Node, node_some, none_of, some-append}
 use Rattle.rmp_scan.proofs.Scanning.{one_message, first_message}
-use Rattle.rmp_path.specs.Places.{OwnBytes, IsNode, IsNoNode, parts_of_head, LastBegins, TurnsInto, Leads, Holds, Locates, PartEnds, PassesTo, turn_first, turn_next}
+use Rattle.rmp_path.specs.Places.{OwnBytes, IsNode, parts_of_head, TurnsInto, Leads, Holds, Locates, PartEnds, PassesTo, turn_first, turn_next}
 use Rattle.rmp_path.specs.declared.node.Node as code
 use Rattle.rmp_path.specs.declared.location.Location.{Location}
 use Rattle.rmp_path.specs.declared.turn.Turn.{Turn}
@@ -310,8 +310,15 @@ module _ (input : List ℕ) (offset : ℕ) where
         let f = o.front in
         let l = o.len_is in
         let i = w.inside in
-        omega (arith, l, i, ap length f, length-append o.bytes (o.content ++ o.rest), length-append o.content o.rest,
-        Rattle.std.proofs.lemmas.List.length-drop place input)
+        omega (
+          arith,
+          l,
+          i,
+          ap length f,
+          length-append o.bytes (o.content ++ o.rest),
+          length-append o.content o.rest,
+          Rattle.std.proofs.lemmas.List.length-drop place input,
+        )
 
     -- less of the input is ahead then
     pub walk_smaller : length input - (place + node.len) < length input - place

@@ -1,4 +1,4 @@
-use Rattle.std.proofs.Common.{refl, sym, subst, arith, inl, inr, ◌+◌, ◌-◌, ◌<◌, ◌≤◌, ◌≡◌, ◌∷◌, ◌++◌, []}
+use Rattle.std.proofs.Common.{refl, sym, subst, arith, inl, inr, ◌+◌, ◌∷◌, ◌++◌, []}
 use Rattle.std.proofs.lemmas.List.{take_rest}
 use Rattle.rmp_path.specs.Places.{OwnBytes, IsNode, IsNoNode}
 use Rattle.rmp_path.proofs.Turning.{Walks, walk_start, walk_smaller, walk_in, walk_on, walk_over, walk_found}

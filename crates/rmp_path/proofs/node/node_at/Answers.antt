@@ -1,7 +1,7 @@
-use Rattle.std.proofs.Common.{rules, arith, sym, subst, refl, ◌<◌, ◌+◌, ◌≡◌, length, ◌∷◌}
+use Rattle.std.proofs.Common.{rules, arith, subst, refl, ◌<◌, length, ◌∷◌}
 use Rattle.rmp_wire.specs.Taking.{byte_of}
 use Rattle.rmp_wire.proofs.Taken.{bytes_from}
-use Rattle.rmp_path.proofs.Nodes.{none_read, node_cut, node_taken, taken_length}
+use Rattle.rmp_path.proofs.Nodes.{node_cut, node_taken, taken_length}
 use Rattle.rmp_path.proofs.node.node_at.Goals as goal
 
 pub returns-then-not-skip-clause-none : goal.returns-then-not-skip-clause-none
