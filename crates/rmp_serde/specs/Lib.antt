@@ -32,11 +32,13 @@ pub use Rattle.rmp_round_trip.specs.VariantRounds
 pub use Rattle.rmp_round_trip.specs.WideRounds
 pub mod Equal
 pub mod EqualLaws
+pub mod Explaining
 pub mod Flat
 pub mod OpenParts
 pub mod PairsLeft
 pub mod Parts
 pub mod PartsLeft
+pub mod Paths
 pub mod Places
 pub mod RawRounds
 pub mod Raws
